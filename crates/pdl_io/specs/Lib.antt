@@ -1,0 +1,5 @@
+pub mod Counts
+pub mod Told
+pub mod SourceState
+pub mod SinkState
+pub mod Adapters

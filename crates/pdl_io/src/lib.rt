@@ -1,0 +1,18 @@
+//! Where a run's bytes come from and where they go: the traits `Source` and `Sink`, both of them in
+//! memory with failures at given calls, and over the readers and writers of std.
+#![tactic(auto)]
+
+mod adapters;
+mod counts;
+mod mem_sink;
+mod mem_source;
+mod traits;
+
+pub use adapters::{ReadSource, WriteSink};
+pub use mem_sink::MemSink;
+pub use mem_source::MemSource;
+pub use std::alloc::AllocError as NoMemory;
+pub use traits::{Failed, Sink, Source, write_all};
+
+#[cfg(test)]
+mod tests;

@@ -1,0 +1,7 @@
+pub mod Cuts
+pub mod Bytes
+pub mod Spelled
+pub mod Sound
+pub mod Moves
+pub mod Endings
+pub mod Outcomes
