@@ -1,0 +1,4 @@
+pub mod Cutting
+pub mod Longest
+pub mod Walking
+pub mod Spans

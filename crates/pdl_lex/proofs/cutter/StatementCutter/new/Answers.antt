@@ -1,0 +1,9 @@
+use Rattle.std.proofs.Common.{true, false}
+use Rattle.pdl_lex.proofs.Cutting.{start-pieces}
+use Rattle.pdl_lex.proofs.cutter.StatementCutter.new.Goals as goal
+
+pub returns-clause-whole : goal.returns-clause-whole
+returns-clause-whole c = rw c.new.ensures.items (start-pieces true)
+
+pub returns-clause-certain : goal.returns-clause-certain
+returns-clause-certain c = rw c.new.ensures.items (start-pieces false)

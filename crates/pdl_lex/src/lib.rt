@@ -1,0 +1,117 @@
+//! Cuts the bytes of a script into statements, and the text of a statement into tokens.
+#![tactic(auto)]
+
+mod cutter;
+mod lexer;
+mod parts;
+#[cfg(test)]
+mod tests;
+
+pub use cutter::{Mode, StatementCutter};
+pub use lexer::tokens;
+pub use parts::cut_parts;
+use std::alloc::{AllocError, AllocFailed};
+use std::marker::Model;
+
+/// Memory was wanting.
+pub type NoMemory = AllocError;
+
+/// What a token is.
+#[derive(Clone, Copy, Debug, PartialEq, Eq)]
+pub enum TokenKind {
+    /// `$`, then a letter or `_`, then letters, digits and `_`.
+    Name,
+    /// A letter or `_`, then letters, digits and `_`.
+    Word,
+    /// `0`, or a digit 1 to 9 followed by digits.
+    Number,
+    /// The bytes from a quote to the next same one, with both.
+    Str,
+    /// An operator, a bracket, a comma or an arrow.
+    Sign,
+}
+
+/// A token and its span: the bytes of the text from `from` up to `to`, without the one at `to`.
+#[derive(Clone, Copy, Debug, PartialEq, Eq)]
+pub struct Token {
+    pub kind: TokenKind,
+    pub from: u32,
+    pub to: u32,
+}
+
+/// Why a text has no tokens.
+#[derive(Clone, Copy, Debug, PartialEq, Eq)]
+pub enum LexFault {
+    /// The byte at this place begins no token.
+    BadByte { at: u32 },
+    /// The string that begins at this place has no end.
+    OpenString { at: u32 },
+    /// Memory was wanting.
+    NoMemory,
+}
+
+impl<T: Drop> From<AllocFailed<T>> for LexFault {
+    ghost use Rattle.std.specs.Prelude.{◌≡◌};
+    ghost use Rattle.pdl_lex.specs.declared.LexFault.TheVariants.{NoMemory};
+
+    ghost from_gives = { λ _ fault. fault ≡ NoMemory };
+
+    fn from(_refused: AllocFailed<T>) -> LexFault {
+        LexFault::NoMemory
+    }
+}
+
+/// The bytes of a statement's text, as they stand in the script.
+#[derive(Drop)]
+pub struct StatementText {
+    bytes: Vec<u8>,
+}
+
+impl Model for StatementText {
+    ghost use Rattle.std.specs.Prelude.{ℕ, List};
+
+    ghost Value = { List ℕ };
+
+    ghost view = { λ t. t.bytes.items };
+}
+
+impl StatementText {
+    ghost use Rattle.std.specs.Prelude.{◌≡◌};
+
+    /// The text of these bytes.
+    pub fn new(bytes: Vec<u8>) -> StatementText
+        ensures { result ≡ bytes.items }
+    {
+        StatementText { bytes }
+    }
+
+    /// The bytes in order.
+    pub fn bytes(&self) -> &[u8]
+        ensures { result.now ≡ self.now }
+    {
+        &self.bytes
+    }
+}
+
+/// A statement: its text, and the line of its first byte, counted from 1.
+#[derive(Drop)]
+pub struct Cut {
+    pub text: StatementText,
+    pub line: u64,
+}
+
+/// What a cutter answers.
+#[derive(Drop)]
+pub enum Piece {
+    /// A whole statement.
+    Whole(Cut),
+    /// A statement that begins on this line has more than 65,536 bytes.
+    TooLong { line: u64 },
+}
+
+/// What `feed` did: how many bytes it took, and the piece that the last of them completed, if any.
+#[derive(Drop)]
+pub struct Fed {
+    pub used: usize,
+    pub cut: Option<Piece>,
+}
