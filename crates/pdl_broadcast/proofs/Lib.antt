@@ -1,0 +1,4 @@
+pub mod Jumping
+pub mod Standing
+pub mod Stepping
+pub mod Walking

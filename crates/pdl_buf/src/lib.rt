@@ -1,0 +1,24 @@
+//! Kept buffers of numbers, windows on them, and the count of the elements that were moved.
+//!
+//! A buffer comes into being by `buf_of` alone and is changed by `buf_set`, `gather` and `scatter`
+//! alone, and each of these counts the elements that it moves in a `Steps` of the caller. So each
+//! element that isn't 0 came in by a counted step.
+#![tactic(auto)]
+
+mod buffer;
+mod lending;
+mod made;
+mod moves;
+mod steps;
+mod window;
+
+pub use buffer::{Buf, buf_get, buf_of, buf_set};
+pub use lending::strided;
+pub use made::{Elements, Made};
+pub use moves::{gather, scatter};
+pub use std::alloc::AllocError as NoMemory;
+pub use steps::{Steps, new_steps, tick};
+pub use window::{Strided, strided_dims, strided_get, strided_type};
+
+#[cfg(test)]
+mod tests;

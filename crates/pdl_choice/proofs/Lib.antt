@@ -1,0 +1,10 @@
+pub mod Bounds
+pub mod Limits
+pub mod Listed
+pub mod Placed
+pub mod Positions
+pub mod Reached
+pub mod Cornered
+pub mod Joins
+pub mod Ranged
+pub mod Inside

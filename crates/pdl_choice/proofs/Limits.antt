@@ -1,0 +1,131 @@
+-- Sizes that stand within the limits of an array.
+use Rattle.std.proofs.Common.{◌≡◌, ◌≢◌, ◌⊎◌, inl, inr, ℕ, ◌*◌, ◌<◌, ◌≤◌, max, min, true, false, nat_lt, List, [], ◌∷◌, ◌++◌, length, length-append, length-drop, take, drop, map, refl, ap, sym, ◌∙◌, arith, Result, Ok, Err, IfOk, IfErr}
+use Rattle.std.proofs.Math.Nat.{mul-le-mul, mul_assoc}
+use Rattle.std.proofs.lemmas.Bool.{cases_lt}
+use Rattle.std.proofs.lemmas.Bool.Decides.{nat_tests}
+use Rattle.std.proofs.lemmas.List.{take-append-drop, length-map}
+use Rattle.pdl_shape.specs.Shape.{IsDims, dims_limit, extent, extent_limit, size_of}
+use Rattle.pdl_shape.specs.Limits.{checked_dims}
+use Rattle.pdl_shape.proofs.Extents.{extent_positive, size_le-extent}
+use Rattle.pdl_choice.specs.declared.answers.ChoiceFault.{ChoiceFault}
+use Rattle.pdl_choice.specs.declared.answers.ChoiceFault.TheVariants.{TooLarge, NoMemory}
+use Rattle.pdl_choice.specs.Choice.{within_limits}
+use Rattle.pdl_choice.specs.Range.{capped}
+
+pub extent-append : (xs ys : List ℕ) → extent (xs ++ ys) ≡ extent xs * extent ys
+extent-append [] ys = omega arith
+extent-append (x ∷ xs) ys = ap (λ n. max x 1 * n) (extent-append xs ys) ∙ sym (mul_assoc (max x 1) (extent xs) (extent ys))
+
+self : (a : ℕ) → a ≤ a
+self a = omega arith
+
+one_factor : (a b : ℕ) → 0 < b → a ≤ a * b
+one_factor a b h = omega (arith, mul-le-mul {n₁ = a} {m₁ = 1} {n₂ = a} {m₂ = b} (self a) h)
+
+other_factor : (a b : ℕ) → 0 < a → b ≤ a * b
+other_factor a b h = omega (arith, mul-le-mul {n₁ = 1} {m₁ = b} {n₂ = a} {m₂ = b} h (omega arith))
+
+-- a front of the sizes has no larger extent
+pub extent-take : (n : ℕ) (ds : List ℕ) → extent (take n ds) ≤ extent ds
+extent-take n ds =
+    let split : extent (take n ds) * extent (drop n ds) ≡ extent ds = sym (extent-append (take n ds) (drop n ds)) ∙ ap extent (take-append-drop n ds) in
+    omega (arith, one_factor (extent (take n ds)) (extent (drop n ds)) (extent_positive (drop n ds)))
+
+pub size_bounded : (ds : List ℕ) → IsDims ds → size_of ds ≤ extent_limit
+size_bounded ds limits = omega (arith, size_le-extent ds, limits.within)
+
+positive_product : (n m : ℕ) → n ≤ m → 0 < m → max n 1 ≤ m
+positive_product n m h p = omega arith
+
+-- the sizes with the first of them as one stay within the limits
+pub clumped_limits : (ds : List ℕ) (n : ℕ) → IsDims ds → (0 < n) ⊎ (ds ≡ []) → n ≤ length ds → IsDims (size_of (take n ds) ∷ drop n ds)
+clumped_limits ds n limits some enough = record {
+  count = clumped_count ds n limits.count some enough;
+  within =
+      let split : extent (take n ds) * extent (drop n ds) ≡ extent ds = sym (extent-append (take n ds) (drop n ds)) ∙ ap extent (take-append-drop n ds) in
+      let one : max (size_of (take n ds)) 1 ≤ extent (take n ds) = positive_product _ _ (size_le-extent (take n ds)) (extent_positive (take n ds)) in
+      let times : max (size_of (take n ds)) 1 * extent (drop n ds) ≤ extent (take n ds) * extent (drop n ds) =
+      mul-le-mul {n₁ = max (size_of (take n ds)) 1} {m₁ = extent (drop n ds)} {n₂ = extent (take n ds)} {m₂ = extent (drop n ds)} one (omega arith) in
+      omega (arith, limits.within);
+}
+  where
+    clumped_count : (ds : List ℕ) (n : ℕ) → length ds ≤ dims_limit → (0 < n) ⊎ (ds ≡ []) → n ≤ length ds → length (size_of (take n ds) ∷ drop n ds) ≤ dims_limit
+    clumped_count ds n few (inl some) enough = omega (arith, length-drop n ds)
+    clumped_count ds n few (inr none) enough = omega (arith, length-drop n ds, ap length none)
+
+-- sizes within the limits are dimensions
+pub checked_dims-fits : (ds : List ℕ) → IsDims ds → checked_dims ds ≡ Ok ds
+checked_dims-fits ds limits =
+    let few : nat_lt dims_limit (length ds) ≡ false = grind (arith, nat_tests, limits.count) in
+    let small : nat_lt extent_limit (extent ds) ≡ false = grind (arith, nat_tests, limits.within) in
+    rw few (rw small refl)
+
+pub within_limits-fits : (ds : List ℕ) → IsDims ds → within_limits ds ≡ Ok ds
+within_limits-fits ds limits =
+    let few : nat_lt dims_limit (length ds) ≡ false = grind (arith, nat_tests, limits.count) in
+    let small : nat_lt extent_limit (extent ds) ≡ false = grind (arith, nat_tests, limits.within) in
+    rw few (rw small refl)
+
+pub within_limits-large : (ds : List ℕ) → length ds ≤ dims_limit → extent_limit < extent ds → within_limits ds ≡ Err TooLarge
+within_limits-large ds count past =
+    let few : nat_lt dims_limit (length ds) ≡ false = grind (arith, nat_tests) in
+    let large : nat_lt extent_limit (extent ds) ≡ true = grind (arith, nat_tests) in
+    rw few (rw large refl)
+
+-- sizes that stand at the largest number are the same, or both lists are too large
+abbrev CappedCases : List ℕ → Type 0
+CappedCases ws = (map capped ws ≡ ws) ⊎ ((extent_limit < extent ws) × (extent_limit < extent (map capped ws)))
+
+capped_first : (w : ℕ) (ws : List ℕ) → 4294967295 < w → CappedCases (w ∷ ws)
+capped_first w ws past = inr (
+  omega (arith, one_factor (max w 1) (extent ws) (extent_positive ws)),
+  omega (arith, one_factor (max (min w 4294967295) 1) (extent (map capped ws)) (extent_positive (map capped ws))),
+)
+
+capped_more : (w : ℕ) (ws : List ℕ) → w ≤ 4294967295 → CappedCases ws → CappedCases (w ∷ ws)
+capped_more w ws fits (inl same) =
+    let stays : capped w ≡ w = omega arith in
+    inl (ap (λ n. n ∷ map capped ws) stays ∙ ap (λ us. w ∷ us) same)
+capped_more w ws fits (inr both) = inr (
+  omega (arith, both.0, other_factor (max w 1) (extent ws) (at_least_one w)),
+  omega (arith, both.1, other_factor (max (min w 4294967295) 1) (extent (map capped ws)) (at_least_one (min w 4294967295))),
+)
+  where
+    at_least_one : (n : ℕ) → 0 < max n 1
+    at_least_one n = omega arith
+
+capped_cases : (ws : List ℕ) → CappedCases ws
+capped_cases [] = inl refl
+capped_cases (w ∷ ws) =
+    elim (cases_lt 4294967295 w) [
+      | inl past ↦ capped_first w ws past
+      | inr fits ↦ capped_more w ws fits (capped_cases ws)
+    ]
+
+same_refusal : (xs ys : List ℕ) → length xs ≡ length ys → extent_limit < extent xs → extent_limit < extent ys → within_limits xs ≡ within_limits ys
+same_refusal xs ys same past_xs past_ys =
+    let large_xs : nat_lt extent_limit (extent xs) ≡ true = grind (arith, nat_tests) in
+    let large_ys : nat_lt extent_limit (extent ys) ≡ true = grind (arith, nat_tests) in
+    rw same (rw large_xs (rw large_ys refl))
+
+past_middle : (xs ys zs : List ℕ) → extent_limit < extent ys → extent_limit < extent (xs ++ (ys ++ zs))
+past_middle xs ys zs past =
+    let whole : extent (xs ++ (ys ++ zs)) ≡ extent xs * (extent ys * extent zs) = extent-append xs (ys ++ zs) ∙ ap (λ n. extent xs * n) (extent-append ys zs) in
+    omega (arith, whole, one_factor (extent ys) (extent zs) (extent_positive zs), other_factor (extent xs) (extent ys * extent zs) (extent_positive xs))
+
+-- the limits refuse sizes alike where some stand at the largest number
+pub within_limits-capped : (xs ws zs : List ℕ) → within_limits (xs ++ (map capped ws ++ zs)) ≡ within_limits (xs ++ (ws ++ zs))
+within_limits-capped xs ws zs = elim (capped_cases ws) [
+  | inl same ↦ ap (λ (us : List ℕ). within_limits (xs ++ (us ++ zs))) same
+  | inr both ↦ same_refusal (xs ++ (map capped ws ++ zs)) (xs ++ (ws ++ zs))
+      (omega (arith, length-append xs (map capped ws ++ zs), length-append (map capped ws) zs, length-append xs (ws ++ zs), length-append ws zs, length-map ws capped))
+      (past_middle xs (map capped ws) zs both.1) (past_middle xs ws zs both.0)
+]
+
+pub ok_of : (r w : Result (List ℕ) ChoiceFault) → r ≡ w → IfOk r (λ ds. w ≡ Ok ds)
+ok_of (Ok ds) w is = sym is
+ok_of (Err f) w is = tt
+
+pub err_of : (r w : Result (List ℕ) ChoiceFault) → r ≡ w → IfErr r (λ f. f ≢ NoMemory → w ≡ Err f)
+err_of (Ok ds) w is = tt
+err_of (Err f) w is = λ _. sym is

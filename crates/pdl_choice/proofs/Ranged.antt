@@ -1,0 +1,43 @@
+-- The dimensions of a view of windows.
+use Rattle.std.proofs.Common.{◌≡◌, ℕ, inl, inr, true, false, nat_lt, List, length, refl, ap, sym, ◌∙◌, arith, Option, None, Ok, Err, ℤ}
+use Rattle.std.specs.Option.{option_map_or}
+use Rattle.std.proofs.lemmas.Bool.{cases_lt}
+use Rattle.std.proofs.lemmas.Bool.Decides.{nat_tests}
+use Rattle.pdl_shape.specs.Shape.{dims_limit, extent, extent_limit}
+use Rattle.pdl_choice.specs.declared.answers.ChoiceFault.{ChoiceFault}
+use Rattle.pdl_choice.specs.declared.answers.ChoiceFault.TheVariants.{TooManyDims, TooLarge}
+use Rattle.pdl_choice.specs.declared.edges.Edge.{Edge}
+use Rattle.pdl_choice.specs.Choice.{within_limits, unless_outside}
+use Rattle.pdl_choice.specs.Range.{corner_len, windowed_dims, window_sizes, window_refusal, first_refused, range_dims}
+
+-- where the sizes fit, the index values decide and then the limits
+pub range_dims-fit : (parent ind_dims : List ℕ) (ind sizes : List ℤ) (edge : Edge) (windows : List ℕ) (outside : Option ℕ)
+    → window_refusal (length parent) (corner_len ind_dims) sizes ≡ None → windows ≡ window_sizes (corner_len ind_dims) sizes → outside ≡ first_refused edge parent windows ind
+    → range_dims parent ind_dims ind sizes edge ≡ unless_outside outside (within_limits (windowed_dims parent ind_dims windows))
+range_dims-fit parent ind_dims ind sizes edge windows outside fit is first =
+    ap (λ (o : Option ChoiceFault). option_map_or (λ refusal. Err refusal) o
+    (unless_outside (first_refused edge parent (window_sizes (corner_len ind_dims) sizes) ind) (within_limits (windowed_dims parent ind_dims (window_sizes (corner_len ind_dims) sizes))))) fit
+    ∙ ap (λ (us : List ℕ). unless_outside (first_refused edge parent us ind) (within_limits (windowed_dims parent ind_dims us))) (sym is)
+    ∙ ap (λ (o : Option ℕ). unless_outside o (within_limits (windowed_dims parent ind_dims windows))) (sym first)
+
+-- limits that don't refuse leave the sizes as they are
+pub within_limits-ok : (ds es : List ℕ) → within_limits ds ≡ Ok es → ds ≡ es
+within_limits-ok ds es is =
+    elim (cases_lt dims_limit (length ds)) [
+      | inl past ↦
+          let many : nat_lt dims_limit (length ds) ≡ true = grind (arith, nat_tests) in
+          let same : within_limits ds ≡ Err TooManyDims = rw many refl in
+          cc
+      | inr few ↦ elim (cases_lt extent_limit (extent ds)) [
+        | inl past ↦
+            let right : nat_lt dims_limit (length ds) ≡ false = grind (arith, nat_tests) in
+            let big : nat_lt extent_limit (extent ds) ≡ true = grind (arith, nat_tests) in
+            let same : within_limits ds ≡ Err TooLarge = rw right (rw big refl) in
+            cc
+        | inr fits ↦
+            let right : nat_lt dims_limit (length ds) ≡ false = grind (arith, nat_tests) in
+            let small : nat_lt extent_limit (extent ds) ≡ false = grind (arith, nat_tests) in
+            let same : within_limits ds ≡ Ok ds = rw right (rw small refl) in
+            cc
+      ]
+    ]

@@ -1,0 +1,67 @@
+use Rattle.std.proofs.Common.{◌≡◌, ◌∙◌, ◌++◌, ◌*◌, ap, sym, List, ℕ, length, drop, arith, Some, None}
+use Rattle.pdl_shape.specs.Shape.{size_of}
+use Rattle.pdl_shape.proofs.Extents.{size_le-extent}
+use Rattle.pdl_choice.specs.Choice.{places_of, within_limits}
+use Rattle.pdl_choice.specs.Range.{corner_len, inner_dims, windowed_dims, window_sizes, window_refusal, range_source}
+use Rattle.pdl_choice.proofs.Cornered.{window_places_are, corner_size}
+use Rattle.pdl_choice.proofs.Positions.{size_of-append}
+use Rattle.pdl_choice.proofs.Ranged.{range_dims-fit, within_limits-ok}
+use Rattle.pdl_choice.proofs.windows.ranged.Goals as goal
+
+pub overflow_cast-result : goal.overflow_cast-result
+overflow_cast-result c =
+    omega (arith, c.in-Some.ensures.within, c.requires.whole, size_le-extent c.args.ind_dims.now, c.requires.ind_limits.within)
+
+pub returns-in-Some-clause-refusal : goal.returns-in-Some-clause-refusal
+returns-in-Some-clause-refusal c =
+    let count = c.corner_dims-count.ensures.count in
+    λ _. range_dims-fit c.args.parent.now c.args.ind_dims.now c.args.ind.now c.args.sizes.now c.args.edge c.as_slice-windows.result.now (Some c.in-Some.at)
+    (ap (λ (n : ℕ). window_refusal (length c.args.parent.now) n c.args.sizes.now) (sym count) ∙ c.in-Ok.ensures.fit)
+    (c.as_slice-windows.ensures.value ∙ c.in-Ok.ensures.windows ∙ ap (λ (n : ℕ). window_sizes n c.args.sizes.now) count)
+    c.in-Some.ensures.first
+
+pub returns-in-Err-windowed-clause-refusal : goal.returns-in-Err-windowed-clause-refusal
+returns-in-Err-windowed-clause-refusal c =
+    let count = c.corner_dims-count.ensures.count in
+    λ other. range_dims-fit c.args.parent.now c.args.ind_dims.now c.args.ind.now c.args.sizes.now c.args.edge c.as_slice-windows.result.now None
+    (ap (λ (n : ℕ). window_refusal (length c.args.parent.now) n c.args.sizes.now) (sym count) ∙ c.in-Ok.ensures.fit)
+    (c.as_slice-windows.ensures.value ∙ c.in-Ok.ensures.windows ∙ ap (λ (n : ℕ). window_sizes n c.args.sizes.now) count)
+    c.in_default.ensures.first
+    ∙ ap (λ (ds : List ℕ). within_limits (ds ++ inner_dims c.args.parent.now c.as_slice-windows.result.now)) (sym c.corner_dims-count.ensures.outer)
+    ∙ c.in-Err-windowed.ensures.refusal other
+
+pub window_places-requires-clause-counts : goal.window_places-requires-clause-counts
+window_places-requires-clause-counts c =
+    let outer = c.corner_dims-count.result.1.now in
+    let inner = inner_dims c.args.parent.now c.as_slice-windows.result.now in
+    c.elements_of-count.ensures.count
+    ∙ ap size_of (sym (within_limits-ok (outer ++ inner) c.in-Ok-windowed.dims c.in-Ok-windowed.ensures.dims))
+    ∙ size_of-append outer inner
+    ∙ ap (λ (n : ℕ). n * size_of inner) (sym c.count_of-corners.ensures)
+
+pub returns-clause-dims : goal.returns-clause-dims
+returns-clause-dims c =
+    let count = c.corner_dims-count.ensures.count in
+    range_dims-fit c.args.parent.now c.args.ind_dims.now c.args.ind.now c.args.sizes.now c.args.edge c.as_slice-windows.result.now None
+    (ap (λ (n : ℕ). window_refusal (length c.args.parent.now) n c.args.sizes.now) (sym count) ∙ c.in-Ok.ensures.fit)
+    (c.as_slice-windows.ensures.value ∙ c.in-Ok.ensures.windows ∙ ap (λ (n : ℕ). window_sizes n c.args.sizes.now) count)
+    c.in_default.ensures.first
+    ∙ ap (λ (ds : List ℕ). within_limits (ds ++ inner_dims c.args.parent.now c.as_slice-windows.result.now)) (sym c.corner_dims-count.ensures.outer)
+    ∙ c.in-Ok-windowed.ensures.dims
+
+pub returns-clause-places : goal.returns-clause-places
+returns-clause-places c =
+    let count = c.corner_dims-count.ensures.count in
+    let windows = c.as_slice-windows.result.now in
+    let len : length windows ≡ corner_len c.args.ind_dims.now = c.as_slice-windows.ensures.len ∙ c.in-Ok.ensures.len ∙ count in
+    let corners : c.count_of-corners.result ≡ size_of (drop 1 c.args.ind_dims.now) = c.count_of-corners.ensures ∙ ap size_of c.corner_dims-count.ensures.outer in
+    let dims : windowed_dims c.args.parent.now c.args.ind_dims.now windows ≡ c.in-Ok-windowed.dims =
+    ap (λ (ds : List ℕ). ds ++ inner_dims c.args.parent.now windows) (sym c.corner_dims-count.ensures.outer)
+    ∙ within_limits-ok (c.corner_dims-count.result.1.now ++ inner_dims c.args.parent.now windows) c.in-Ok-windowed.dims c.in-Ok-windowed.ensures.dims in
+    c.in_ok-places.ensures.places
+    ∙ window_places_are c.args.edge c.args.parent.now c.args.ind_dims.now c.args.ind.now c.args.sizes.now windows c.count_of-corners.result c.elements_of-count.result
+    (c.as_slice-windows.ensures.value ∙ c.in-Ok.ensures.windows ∙ ap (λ (n : ℕ). window_sizes n c.args.sizes.now) count)
+    len corners
+    (c.elements_of-count.ensures.count ∙ ap size_of (sym dims))
+    (c.requires.whole ∙ corner_size c.args.ind_dims.now ∙ ap (λ (n : ℕ). n * size_of (drop 1 c.args.ind_dims.now)) (sym len) ∙ ap (λ (n : ℕ). length windows * n) (sym corners))
+    ∙ ap (λ (ds : List ℕ). places_of ds c.args.parent.now (range_source c.args.parent.now c.args.ind_dims.now c.args.ind.now c.args.sizes.now c.args.edge)) dims

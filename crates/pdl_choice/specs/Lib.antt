@@ -1,0 +1,6 @@
+pub mod Choice
+pub mod Edges
+pub mod Index
+pub mod Where
+pub mod Range
+pub mod Clump

@@ -1,0 +1,24 @@
+//! Choices: views that pick places of their parent one by one.
+//!
+//! `index`, `where`, `range` and the list of a clump that is no window each answer the dimensions
+//! of the view and, for each of its positions in order (dimension 0 fastest), the position in the
+//! parent, or nothing where a range reaches beyond an edge that reads 0. Refusals that hang on
+//! sizes alone come before any list is made.
+#![tactic(auto)]
+
+mod answers;
+mod clumps;
+mod edges;
+mod indices;
+mod masks;
+mod reach;
+#[cfg(test)]
+mod tests;
+mod windows;
+
+pub use answers::{Choice, ChoiceFault, NoMemory};
+pub use clumps::clump_list;
+pub use edges::Edge;
+pub use indices::index;
+pub use masks::{where_places, which_places};
+pub use windows::range;

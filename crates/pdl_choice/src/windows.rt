@@ -1,0 +1,286 @@
+//! range: a window of the parent at each corner that an index lists.
+ghost use Rattle.std.specs.Prelude.{◌≡◌, ◌≢◌, ◌<◌, ◌≤◌, ◌≤ℤ◌, ◌⊎◌, ◌*◌, ◌+◌, ◌/◌, ◌%◌, ℕ, false, pos, slice_index, slice_index_or, ◌++◌, length, take, drop, map, filter, All, Ok, Err, IfOk, IfErr, IfSome, IfNone, OnOk, Some, None, vec_len};
+ghost use Rattle.std.specs.Bool.{OnFalse};
+ghost use Rattle.std.specs.List.{list_any, range_with_len};
+ghost use Rattle.std.specs.Option.{option_map};
+ghost use Rattle.pdl_shape.specs.Shape.{IsDims, dims_limit, extent, extent_limit, size_of, position_of, coordinates_of};
+ghost use Rattle.pdl_choice.specs.Choice.{AreInside, places_of, within_limits};
+ghost use Rattle.pdl_choice.specs.Edges.{edge_refuses, from_zero};
+ghost use Rattle.pdl_choice.specs.Range.{capped, corner_len, is_negative, is_positive, window_refusal, window_sizes, first_refused, inner_dims, range_dims, window_source, range_source, AllAllowed, AreAllowed};
+
+use crate::answers::{count_of, limited};
+use crate::reach::{coordinate, refuses};
+use crate::{Choice, ChoiceFault, Edge, NoMemory};
+use pdl_shape::{Dims, dims_list, elements_of};
+use std::alloc::Global;
+
+/// A window of the parent at each corner that `ind` lists (PDL::Slices, range). `ind` is an array
+/// of the dimensions `ind_dims`, with the numbers of a corner along its dimension 0; without
+/// dimensions it is one corner of one number. `sizes` are the window's sizes, one for each number
+/// of a corner, or a single one for all; a size of 0 picks one coordinate and leaves no dimension.
+/// The view's dimensions are the index's from 1 on, the window's, then the parent's that are left.
+///
+/// `BadDimension` where a corner has more numbers than the parent has dimensions or a size is
+/// below 0, then `Mismatch` for another number of sizes, then `OutOfRange` at the first index
+/// value that the edge refuses, then `TooManyDims`, then `TooLarge`.
+pub fn range(
+    alloc: Global,
+    source: &Dims,
+    ind_dims: &Dims,
+    ind: &[i64],
+    sizes: &[i64],
+    edge: Edge,
+) -> Result<Choice, ChoiceFault>
+    requires { length ind.now ≡ size_of ind_dims.now }
+    ensures dims { IfOk result (λ c. range_dims source.now ind_dims.now ind.now sizes.now edge ≡ Ok c.dims) }
+    ensures places { IfOk result (λ c. c.places.items ≡ places_of c.dims source.now (range_source source.now ind_dims.now ind.now sizes.now edge)) }
+    ensures inside { IfOk result (λ c. AreInside (size_of source.now) c.places.items) }
+    ensures refusal { IfErr result (λ f. f ≢ ChoiceFault.NoMemory → range_dims source.now ind_dims.now ind.now sizes.now edge ≡ Err f) }
+{
+    ranged(
+        alloc,
+        dims_list(source),
+        dims_list(ind_dims),
+        ind,
+        sizes,
+        edge,
+    )
+}
+
+/// The same, of lists of sizes.
+fn ranged(
+    alloc: Global,
+    parent: &[u32],
+    ind_dims: &[u32],
+    ind: &[i64],
+    sizes: &[i64],
+    edge: Edge,
+) -> Result<Choice, ChoiceFault>
+    requires parent_limits { IsDims parent.now }
+    requires ind_limits { IsDims ind_dims.now }
+    requires whole { length ind.now ≡ size_of ind_dims.now }
+    ensures dims { IfOk result (λ c. range_dims parent.now ind_dims.now ind.now sizes.now edge ≡ Ok c.dims) }
+    ensures places { IfOk result (λ c. c.places.items ≡ places_of c.dims parent.now (range_source parent.now ind_dims.now ind.now sizes.now edge)) }
+    ensures inside { IfOk result (λ c. AreInside (size_of parent.now) c.places.items) }
+    ensures refusal { IfErr result (λ f. f ≢ ChoiceFault.NoMemory → range_dims parent.now ind_dims.now ind.now sizes.now edge ≡ Err f) }
+{
+    let (count, outer) = corner_dims(ind_dims);
+    let listed = match window_list(alloc, parent.len(), count, sizes) {
+        Ok(listed) => listed,
+        Err(fault) => return Err(fault),
+    };
+    let windows = listed.as_slice();
+    if let Some(at) = first_beyond(edge, parent, windows, ind) {
+        return Err(ChoiceFault::OutOfRange { at: at as u32 });
+    }
+    let dims = match windowed(alloc, outer, parent, windows) {
+        Ok(dims) => dims,
+        Err(fault) => return Err(fault),
+    };
+    let corners = count_of(outer);
+    let count = elements_of(&dims);
+    let places = window_places(alloc, edge, parent, windows, ind, corners, count)?;
+    Ok(Choice { dims, places })
+}
+
+/// How many numbers a corner has, and the dimensions of the array of corners.
+fn corner_dims(ind_dims: &[u32]) -> (usize, &[u32])
+    ensures count { result.0 ≡ corner_len ind_dims.now }
+    ensures outer { result.1.now ≡ drop 1 ind_dims.now }
+{
+    match ind_dims.split_first() {
+        Some((count, outer)) => (*count as usize, outer),
+        None => (1, ind_dims),
+    }
+}
+
+/// The sizes of windows that aren't 0. Sizes past the largest number stand at it.
+fn shown(alloc: Global, windows: &[u64]) -> Result<Vec<u32>, NoMemory>
+    ensures { IfOk result (λ sizes. sizes.items ≡ map capped (filter is_positive windows.now)) }
+{
+    windows
+        .iter()
+        .filter(|window| **window > 0)
+        .map(|window| capped_size(*window))
+        .collect(alloc)
+}
+
+/// The size, or the largest number.
+fn capped_size(size: u64) -> u32
+    ensures { result ≡ capped size }
+{
+    size.min(u64::from(u32::MAX)) as u32
+}
+
+/// The dimensions of the view: the corners', the windows', and those of the parent that are left.
+fn windowed(
+    alloc: Global,
+    outer: &[u32],
+    parent: &[u32],
+    windows: &[u64],
+) -> Result<Dims, ChoiceFault>
+    requires outer_few { length outer.now ≤ dims_limit }
+    requires parent_few { length parent.now ≤ dims_limit }
+    requires fit { length windows.now ≤ length parent.now }
+    ensures dims { IfOk result (λ dims. within_limits (outer.now ++ inner_dims parent.now windows.now) ≡ Ok dims) }
+    ensures refusal { IfErr result (λ f. f ≢ ChoiceFault.NoMemory → within_limits (outer.now ++ inner_dims parent.now windows.now) ≡ Err f) }
+{
+    let sizes = windowed_sizes(alloc, outer, parent, windows)?;
+    limited(alloc, &sizes)
+}
+
+/// The sizes of the view, with windows past the largest number standing at it.
+fn windowed_sizes(
+    alloc: Global,
+    outer: &[u32],
+    parent: &[u32],
+    windows: &[u64],
+) -> Result<Vec<u32>, NoMemory>
+    requires outer_few { length outer.now ≤ dims_limit }
+    requires parent_few { length parent.now ≤ dims_limit }
+    requires fit { length windows.now ≤ length parent.now }
+    ensures { IfOk result (λ sizes. sizes.items ≡ outer.now ++ (map capped (filter is_positive windows.now) ++ drop (length windows.now) parent.now)) }
+{
+    let rest = &parent[windows.len()..];
+    let shown = shown(alloc, windows)?;
+    let mut sizes = Vec::with_capacity(alloc, outer.len() + shown.len() + rest.len())?;
+    sizes.extend_from_slice(outer)?;
+    sizes.extend_from_slice(&shown)?;
+    sizes.extend_from_slice(rest)?;
+    Ok(sizes)
+}
+
+/// One size of a window for each of the `count` numbers of a corner in `dims` dimensions; a lone
+/// size counts for all.
+fn window_list(
+    alloc: Global,
+    dims: usize,
+    count: usize,
+    sizes: &[i64],
+) -> Result<Vec<u64>, ChoiceFault>
+    ensures few { OnOk result (count ≤ dims) }
+    ensures len { IfOk result (λ windows. vec_len windows ≡ count) }
+    ensures fit { OnOk result (window_refusal dims count sizes.now ≡ None) }
+    ensures windows { IfOk result (λ windows. windows.items ≡ window_sizes count sizes.now) }
+    ensures refusal { IfErr result (λ f. f ≢ ChoiceFault.NoMemory → window_refusal dims count sizes.now ≡ Some f) }
+{
+    if count > dims || has_negative(sizes) {
+        return Err(ChoiceFault::BadDimension);
+    }
+    if sizes.len() == 1 {
+        Ok(vec![in alloc; whole(sizes[0]); count]?)
+    } else if sizes.len() == count {
+        Ok(whole_sizes(alloc, sizes)?)
+    } else {
+        Err(ChoiceFault::Mismatch)
+    }
+}
+
+/// Whether a size is below 0.
+fn has_negative(sizes: &[i64]) -> bool
+    ensures some { result ≡ list_any is_negative sizes.now }
+    ensures none { OnFalse result (All (λ size. pos 0 ≤ℤ size) sizes.now) }
+{
+    sizes.iter().any(|size| *size < 0)
+}
+
+/// Sizes that aren't below 0, without their signs.
+fn whole_sizes(alloc: Global, sizes: &[i64]) -> Result<Vec<u64>, NoMemory>
+    requires { All (λ size. pos 0 ≤ℤ size) sizes.now }
+    ensures { IfOk result (λ windows. windows.items ≡ map from_zero sizes.now) }
+{
+    sizes.iter().map(|size| whole(*size)).collect(alloc)
+}
+
+/// A size that isn't below 0, without its sign.
+fn whole(size: i64) -> u64
+    requires { pos 0 ≤ℤ size }
+    ensures { result ≡ from_zero size }
+{
+    size as u64
+}
+
+/// The first index value at which the edge refuses its window.
+fn first_beyond(edge: Edge, parent: &[u32], windows: &[u64], ind: &[i64]) -> Option<usize>
+    requires fit { length windows.now ≤ length parent.now }
+    requires cornered { length windows.now ≡ 0 → length ind.now ≡ 0 }
+    ensures within { IfSome result (λ at. at < length ind.now) }
+    ensures none { IfNone result (AllAllowed edge parent.now windows.now ind.now) }
+    ensures first { result ≡ first_refused edge parent.now windows.now ind.now }
+{
+    for (place, value) in ind.iter().enumerate() {
+        let number = place % windows.len();
+        if refuses(edge, parent[number], windows[number], *value) {
+            return Some(place);
+        }
+    }
+    None
+}
+
+/// The place in a parent of dimensions `parent` of one position of the window at `corner`.
+fn window_place(
+    edge: Edge,
+    parent: &[u32],
+    windows: &[u64],
+    corner: &[i64],
+    position: u64,
+) -> Option<u32>
+    requires paired { length corner.now ≡ length windows.now }
+    requires fit { length windows.now ≤ length parent.now }
+    requires bounded { extent parent.now ≤ extent_limit }
+    requires allowed { AreAllowed edge parent.now windows.now corner.now }
+    requires within { position < size_of (inner_dims parent.now windows.now) }
+    ensures bound { IfSome result (λ place. place < size_of parent.now) }
+    ensures place { result ≡ option_map (position_of parent.now) (window_source edge parent.now windows.now corner.now (coordinates_of (inner_dims parent.now windows.now) position)) }
+{
+    let Some((window, windows)) = windows.split_first() else {
+        return Some(position as u32);
+    };
+    let Some((size, parent)) = parent.split_first() else {
+        unreachable!()
+    };
+    let Some((value, corner)) = corner.split_first() else {
+        unreachable!()
+    };
+    let step = (*window).max(1);
+    let first = coordinate(edge, *size, *value, position % step)?;
+    let rest = window_place(edge, parent, windows, corner, position / step)?;
+    Some(first + *size * rest)
+}
+
+/// The `len` numbers of the corner that has `at` corners before it.
+fn corner_of(ind: &[i64], len: usize, at: u32) -> &[i64]
+    requires { len * at + len ≤ length ind.now }
+    ensures { result.now ≡ take len (drop (len * at) ind.now) }
+{
+    let (_, from_here) = ind.split_at(len * at as usize);
+    let (corner, _) = from_here.split_at(len);
+    corner
+}
+
+/// The places in a parent of dimensions `parent` of all `count` positions of the windows at
+/// `corners` corners.
+fn window_places(
+    alloc: Global,
+    edge: Edge,
+    parent: &[u32],
+    windows: &[u64],
+    ind: &[i64],
+    corners: u32,
+    count: u32,
+) -> Result<Vec<Option<u32>>, NoMemory>
+    requires fit { length windows.now ≤ length parent.now }
+    requires whole { length ind.now ≡ length windows.now * corners }
+    requires counts { count ≡ corners * size_of (inner_dims parent.now windows.now) }
+    requires bounded { extent parent.now ≤ extent_limit }
+    requires allowed { AllAllowed edge parent.now windows.now ind.now }
+    ensures inside { IfOk result (λ places. AreInside (size_of parent.now) places.items) }
+    ensures places { IfOk result (λ places. places.items ≡ map (λ p. option_map (position_of parent.now) (window_source edge parent.now windows.now (take (length windows.now) (drop (length windows.now * (p % corners)) ind.now)) (coordinates_of (inner_dims parent.now windows.now) (p / corners)))) (range_with_len 0 count)) }
+{
+    let mut places = Vec::with_capacity(alloc, count as usize)?;
+    for position in 0..count {
+        let corner = corner_of(ind, windows.len(), position % corners);
+        places.push(window_place(edge, parent, windows, corner, u64::from(position / corners)))?;
+    }
+    Ok(places)
+}

@@ -1,0 +1,236 @@
+//! The pieces of the printed text, each appended to a text of its own.
+ghost use Rattle.std.specs.Prelude.{◌≡◌, ◌<◌, ◌≤◌, ◌+◌, ◌*◌, ◌++◌, length, take, drop, get_or, decimal, OnOk, IfOk, ◌^◌};
+ghost use Rattle.pdl_shape.specs.Shape.{size_of};
+ghost use Rattle.pdl_print.specs.Printed.{spaces, aligned, widest, line, joined, block, bracketed, elements_text, lines, array_text, info};
+
+use itoa::Buffer;
+use pdl_buf::{Strided, strided_dims, strided_get};
+use pdl_elem::{Ty, type_name};
+use pdl_shape::{Dims, dims_list, elements_of};
+use std::alloc::{AllocError, Global};
+
+/// Above so many elements an array isn't printed.
+const MOST_PRINTED: u32 = 10_000;
+
+/// Appends so many spaces.
+fn push_spaces(into: &mut Vec<u8>, count: usize) -> Result<(), AllocError>
+    ensures { OnOk result (into.new.items ≡ into.old.items ++ spaces count) }
+{
+    for _ in 0..count {
+        into.push(b' ')?;
+    }
+    Ok(())
+}
+
+/// Appends a number, with spaces before it up to the width.
+fn push_number(into: &mut Vec<u8>, number: i64, width: usize) -> Result<(), AllocError>
+    ensures { OnOk result (into.new.items ≡ into.old.items ++ aligned width number) }
+{
+    let mut buffer = Buffer::new();
+    let text = buffer.format(number);
+    push_spaces(into, width.saturating_sub(text.len()))?;
+    into.extend_from_slice(text.as_bytes())
+}
+
+/// The width of the widest of so many elements from a position on.
+fn widest_of(elems: &Strided<'_>, first: u32, count: u32) -> usize
+    requires within { first + count ≤ length elems.now.elems }
+    requires small { first + count < 2 ^ 32 }
+    ensures { result ≡ widest (take count (drop first elems.now.elems)) }
+{
+    let mut widest = 0;
+    for i in 0..count {
+        let mut buffer = Buffer::new();
+        widest = widest.max(buffer.format(strided_get(elems, first + i)).len());
+    }
+    widest
+}
+
+/// Appends the row of so many elements, at least one, from a position on.
+fn push_line(
+    into: &mut Vec<u8>,
+    elems: &Strided<'_>,
+    first: u32,
+    count: u32,
+    indent: usize,
+    width: usize,
+) -> Result<(), AllocError>
+    requires some { 0 < count }
+    requires within { first + count ≤ length elems.now.elems }
+    requires small { first + count < 2 ^ 32 }
+    ensures { OnOk result (into.new.items ≡ into.old.items ++ line indent width (take count (drop first elems.now.elems))) }
+{
+    push_bracket(into, indent, b"[")?;
+    push_number(into, strided_get(elems, first), width)?;
+    for i in 1..count {
+        into.push(b' ')?;
+        push_number(into, strided_get(elems, first + i), width)?;
+    }
+    push_bracket(into, 0, b"]\n")
+}
+
+/// Appends an indent and a bracket.
+fn push_bracket(into: &mut Vec<u8>, indent: usize, bracket: &[u8]) -> Result<(), AllocError>
+    ensures { OnOk result (into.new.items ≡ into.old.items ++ (spaces indent ++ bracket.now)) }
+{
+    push_spaces(into, indent)?;
+    into.extend_from_slice(bracket)
+}
+
+/// Appends so many rows of `size` elements each from a position on.
+fn push_rows(
+    into: &mut Vec<u8>,
+    elems: &Strided<'_>,
+    first: u32,
+    rows: u32,
+    size: u32,
+    indent: usize,
+) -> Result<(), AllocError>
+    requires some { 0 < size }
+    requires within { first + rows * size ≤ length elems.now.elems }
+    requires small { first + rows * size < 2 ^ 32 }
+    ensures { OnOk result (into.new.items ≡ into.old.items ++ lines indent rows size (take (rows * size) (drop first elems.now.elems))) }
+{
+    let width = widest_of(elems, first, rows * size);
+    for row in 0..rows {
+        push_line(into, elems, first + row * size, size, indent, width)?;
+    }
+    Ok(())
+}
+
+/// Appends the plane of so many rows of `size` elements each from a position on.
+fn push_plane(
+    into: &mut Vec<u8>,
+    elems: &Strided<'_>,
+    first: u32,
+    rows: u32,
+    size: u32,
+    indent: usize,
+) -> Result<(), AllocError>
+    requires some { 0 < size }
+    requires within { first + rows * size ≤ length elems.now.elems }
+    requires small { first + rows * size < 2 ^ 32 }
+    ensures { OnOk result (into.new.items ≡ into.old.items ++ bracketed indent (lines (indent + 1) rows size (take (rows * size) (drop first elems.now.elems)))) }
+{
+    push_bracket(into, indent, b"[\n")?;
+    push_rows(into, elems, first, rows, size, indent + 1)?;
+    push_bracket(into, indent, b"]\n")
+}
+
+/// The size of the outermost dimension of so many around the first two, or of the second one.
+fn members_of(elems: &Strided<'_>, around: usize) -> u32
+    requires { around + 2 ≤ length elems.now.dims }
+    ensures { result ≡ get_or elems.now.dims (around + 1) 0 }
+{
+    dims_list(strided_dims(elems))[around + 1]
+}
+
+/// Appends the block of so many elements from a position on: of the first two dimensions and so
+/// many dimensions around them.
+fn push_block(
+    into: &mut Vec<u8>,
+    elems: &Strided<'_>,
+    first: u32,
+    count: u32,
+    around: usize,
+    indent: usize,
+) -> Result<(), AllocError>
+    requires dims { around + 2 ≤ length elems.now.dims }
+    requires count { count ≡ size_of (take (around + 2) elems.now.dims) }
+    requires some { 0 < count }
+    requires within { first + count ≤ length elems.now.elems }
+    requires small { first + count < 2 ^ 32 }
+    requires shallow { around + indent < 2 ^ 32 }
+    ensures { OnOk result (into.new.items ≡ into.old.items ++ block elems.now.dims around indent (take count (drop first elems.now.elems))) }
+{
+    let members = members_of(elems, around);
+    let size = count / members;
+    if around == 0 {
+        return push_plane(into, elems, first, members, size, indent);
+    }
+    push_bracket(into, indent, b"[\n")?;
+    for member in 0..members {
+        push_block(
+            into,
+            elems,
+            first + member * size,
+            size,
+            around - 1,
+            indent + 1,
+        )?;
+    }
+    push_bracket(into, indent, b"]\n")
+}
+
+/// Appends a number in decimal.
+fn push_size(into: &mut Vec<u8>, size: u32) -> Result<(), AllocError>
+    ensures { OnOk result (into.new.items ≡ into.old.items ++ decimal size) }
+{
+    let mut buffer = Buffer::new();
+    into.extend_from_slice(buffer.format(size).as_bytes())
+}
+
+/// Appends sizes in decimal with a byte between them.
+fn push_sizes(into: &mut Vec<u8>, sizes: &[u32], byte: u8) -> Result<(), AllocError>
+    ensures { OnOk result (into.new.items ≡ into.old.items ++ joined byte sizes.now) }
+{
+    let [first, rest @ ..] = sizes else {
+        return Ok(());
+    };
+    push_size(into, *first)?;
+    for size in rest {
+        into.push(byte)?;
+        push_size(into, *size)?;
+    }
+    Ok(())
+}
+
+/// An array's text, with its last newline.
+pub fn array(alloc: Global, elems: &Strided<'_>) -> Result<Vec<u8>, AllocError>
+    ensures { IfOk result (λ text. text.items ≡ array_text elems.now.dims elems.now.elems) }
+{
+    let dims = strided_dims(elems);
+    let sizes = dims_list(dims);
+    let count = elements_of(dims);
+    let mut text = Vec::new(alloc);
+    if count == 0 {
+        text.extend_from_slice(b"Empty[")?;
+        push_sizes(&mut text, sizes, b'x')?;
+        text.extend_from_slice(b"]\n")?;
+    } else if count > MOST_PRINTED {
+        text.extend_from_slice(b"TOO LONG TO PRINT\n")?;
+    } else {
+        push_elements(&mut text, elems, count)?;
+    }
+    Ok(text)
+}
+
+/// Appends the text of an array with elements, and not too many of them.
+fn push_elements(into: &mut Vec<u8>, elems: &Strided<'_>, count: u32) -> Result<(), AllocError>
+    requires count { count ≡ size_of elems.now.dims }
+    requires some { 0 < count }
+    ensures { OnOk result (into.new.items ≡ into.old.items ++ elements_text elems.now.dims elems.now.elems) }
+{
+    let sizes = dims_list(strided_dims(elems));
+    if sizes.is_empty() {
+        push_number(into, strided_get(elems, 0), 0)?;
+        return push_bracket(into, 0, b"\n");
+    }
+    if sizes.len() == 1 {
+        return push_line(into, elems, 0, count, 0, 0);
+    }
+    push_bracket(into, 0, b"\n")?;
+    push_block(into, elems, 0, count, sizes.len() - 2, 0)
+}
+
+/// What `info` tells of an array.
+pub fn info(alloc: Global, ty: Ty, dims: &Dims) -> Result<Vec<u8>, AllocError>
+    ensures { IfOk result (λ text. text.items ≡ info ty dims.now) }
+{
+    let mut text = Vec::from_slice(alloc, b"PDL: ")?;
+    text.extend_from_slice(type_name(ty).as_bytes())?;
+    text.extend_from_slice(b" D [")?;
+    push_sizes(&mut text, dims_list(dims), b',')?;
+    text.push(b']')?;
+    Ok(text)
+}
