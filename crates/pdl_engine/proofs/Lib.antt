@@ -1,0 +1,7 @@
+pub mod Onto
+pub mod Pushed
+pub mod Spans
+pub mod Assigned
+pub mod Live
+pub mod Assigning
+pub mod Made

@@ -1,0 +1,5 @@
+pub mod ListTurns
+pub mod Options
+pub mod ListSound
+pub mod ListComplete
+pub mod Ragged

@@ -1,0 +1,124 @@
+-- What the reader of list literals takes is spelled.
+use Rattle.std.proofs.Common.{◌≡◌, ℕ, ℤ, zero, suc, neg_ℤ, List, [], ◌∷◌, ◌++◌, length, Option, Some, None, option_map, option_and_then, refl, ap, sym, ◌∙◌, subst}
+use Rattle.pdl_elem.specs.declared.BinaryOp.TheVariants.{Sub, Add, Mul, Div, Rem, Shl, Shr, Lt, Le, Gt, Ge, Eq, Ne, And, Or, Xor}
+use Rattle.pdl_lexemes.specs.declared.Lexeme.{Lexeme}
+use Rattle.pdl_lexemes.specs.declared.Lexeme.TheVariants.{Number, OpenSquare, CloseSquare, Comma, Operator}
+use Rattle.pdl_lexemes.specs.Lists.{signed, shared, with_length, SpellsList, an_item, some_items, a_list, number, minus, nested, first, more, empty, filled}
+use Rattle.pdl_lexemes.specs.ListReading.{Part, part, choose, closed, number_item, after_comma, after_open_square, after_close_square, after_minus, number_at, signed_number_at, minus_step, item_at, items_at, filled_at, inside_at, list_at, list_reader, list_read}
+use Rattle.pdl_lexemes.proofs.Options.{some_inj, none_some, then_elim, map_elim, choose_elim}
+
+pub comma_is : (ts : List Lexeme) {us : List Lexeme} → after_comma ts ≡ Some us → ts ≡ Comma ∷ us
+comma_is [] e = absurd (none_some e)
+comma_is (Comma ∷ ts) e = ap (λ x. Comma ∷ x) (some_inj e)
+comma_is (_ ∷ ts) e = absurd (none_some e)
+
+pub open_square_is : (ts : List Lexeme) {us : List Lexeme} → after_open_square ts ≡ Some us → ts ≡ OpenSquare ∷ us
+open_square_is [] e = absurd (none_some e)
+open_square_is (OpenSquare ∷ ts) e = ap (λ x. OpenSquare ∷ x) (some_inj e)
+open_square_is (_ ∷ ts) e = absurd (none_some e)
+
+pub close_square_is : (ts : List Lexeme) {us : List Lexeme} → after_close_square ts ≡ Some us → ts ≡ CloseSquare ∷ us
+close_square_is [] e = absurd (none_some e)
+close_square_is (CloseSquare ∷ ts) e = ap (λ x. CloseSquare ∷ x) (some_inj e)
+close_square_is (_ ∷ ts) e = absurd (none_some e)
+
+minus_is : (ts : List Lexeme) {us : List Lexeme} → after_minus ts ≡ Some us → ts ≡ Operator Sub ∷ us
+minus_is [] e = absurd (none_some e)
+minus_is (Operator Sub ∷ ts) e = ap (λ x. Operator Sub ∷ x) (some_inj e)
+minus_is (Operator _ ∷ ts) e = absurd (none_some e)
+minus_is (_ ∷ ts) e = absurd (none_some e)
+
+-- a number token stands at the front
+record NumberAt (ts : List Lexeme) (x : ℤ × List Lexeme) : Type 0 where
+  n : ℕ
+  value : signed n ≡ Some x.0
+  is : ts ≡ Number n ∷ x.1
+
+number_is : (ts : List Lexeme) {x : ℤ × List Lexeme} → number_at ts ≡ Some x → NumberAt ts x
+number_is [] e = absurd (none_some e)
+number_is (Number n ∷ ts) {x = x} e =
+    map_elim (NumberAt (Number n ∷ ts) x) (λ z. (z, ts)) (signed n) e
+    (λ z h k. record { n = n; value = h ∙ ap (λ y. Some y.0) k; is = ap (λ y. Number n ∷ y.1) k })
+number_is (_ ∷ ts) e = absurd (none_some e)
+
+abbrev Item : List ℤ → List Lexeme → Part → Type 0
+Item front ts x = SpellsList (an_item x.shape front x.elems) ts x.rest
+
+number_sound : (front : List ℤ) (ts : List Lexeme) (x : ℤ × List Lexeme) → number_at ts ≡ Some x → Item front ts (number_item front x)
+number_sound front ts x e =
+    let at = number_is ts e in
+    subst (λ us. Item front us (number_item front x)) (sym at.is) (number at.value)
+
+signed_sound : (front : List ℤ) (ts : List Lexeme) (x : ℤ × List Lexeme) → signed_number_at ts ≡ Some x → Item front ts (number_item front x)
+signed_sound front ts x e = of_step (after_minus ts) refl e
+  where
+    of_step : (o : Option (List Lexeme)) → after_minus ts ≡ o → minus_step ts o ≡ Some x → Item front ts (number_item front x)
+    of_step None h k = number_sound front ts x k
+    of_step (Some us) h k =
+        map_elim (Item front ts (number_item front x)) (λ y. (neg_ℤ y.0, y.1)) (number_at us) k (λ y m same.
+        let at = number_is us m in
+        subst (λ z. Item front ts (number_item front z)) same
+        (subst (λ vs. Item front vs (number_item front (neg_ℤ y.0, y.1)))
+        (sym (minus_is ts h ∙ ap (λ v. Operator Sub ∷ v) at.is)) (minus at.value)))
+
+module _ (list_of : List ℤ → List Lexeme → Option Part)
+    (sound : (front : List ℤ) (ts : List Lexeme) (x : Part) → list_of front ts ≡ Some x → SpellsList (a_list x.shape front x.elems) ts x.rest) where
+  item_sound : (front : List ℤ) (ts : List Lexeme) (x : Part) → item_at list_of front ts ≡ Some x → Item front ts x
+  unfolding item_at
+  item_sound front ts x e =
+      choose_elim (Item front ts x) (option_map (number_item front) (signed_number_at ts)) (λ us. list_of front ts) (after_open_square ts) e
+      (λ h k. map_elim (Item front ts x) (number_item front) (signed_number_at ts) k
+      (λ y m same. subst (Item front ts) same (signed_sound front ts y m)))
+      (λ us h k. nested (sound front ts x k))
+
+  abbrev Items : List ℤ → List Lexeme → ℕ × Part → Type 0
+  Items front ts x = SpellsList (some_items x.0 x.1.shape front x.1.elems) ts x.1.rest
+
+  items_sound : (k n : ℕ) (so_far : Part) (x : ℕ × Part) (front : List ℤ) (ts : List Lexeme) →
+      items_at list_of k n so_far ≡ Some x → Items front ts (n, so_far) → Items front ts x
+  unfolding items_at
+  items_sound zero n so_far x front ts e h = subst (Items front ts) (some_inj e) h
+  items_sound (suc k) n so_far x front ts e h =
+      choose_elim (Items front ts x) (Some (n, so_far))
+      (λ us. option_and_then (λ y. items_at list_of k (suc n) (part (shared so_far.shape y.shape) y.elems y.rest)) (item_at list_of so_far.elems us))
+      (after_comma so_far.rest) e
+      (λ c d. subst (Items front ts) (some_inj d) h)
+      (λ us c d. then_elim (Items front ts x)
+      (λ y. items_at list_of k (suc n) (part (shared so_far.shape y.shape) y.elems y.rest)) (item_at list_of so_far.elems us) d
+      (λ y m r. items_sound k (suc n) (part (shared so_far.shape y.shape) y.elems y.rest) x front ts r
+      (more (subst (λ vs. SpellsList (some_items n so_far.shape front so_far.elems) ts vs) (comma_is so_far.rest c) h)
+      (item_sound so_far.elems us y m))))
+
+  abbrev Listed : List ℤ → List Lexeme → Part → Type 0
+  Listed front ts x = SpellsList (a_list x.shape front x.elems) ts x.rest
+
+  closed_sound : (front : List ℤ) (ts : List Lexeme) (p : ℕ × Part) (x : Part) → closed p ≡ Some x → Items front ts p → Listed front (OpenSquare ∷ ts) x
+  closed_sound front ts p x e h =
+      map_elim (Listed front (OpenSquare ∷ ts) x) (part (with_length p.0 p.1.shape) p.1.elems) (after_close_square p.1.rest) e
+      (λ us c same. subst (Listed front (OpenSquare ∷ ts)) same
+      (filled (subst (λ vs. SpellsList (some_items p.0 p.1.shape front p.1.elems) ts vs) (close_square_is p.1.rest c) h)))
+
+  filled_sound : (front : List ℤ) (ts : List Lexeme) (x : Part) → filled_at list_of front ts ≡ Some x → Listed front (OpenSquare ∷ ts) x
+  filled_sound front ts x e =
+      then_elim (Listed front (OpenSquare ∷ ts) x) (λ y. option_and_then closed (items_at list_of (length y.rest) 1 y)) (item_at list_of front ts) e
+      (λ y m r. then_elim (Listed front (OpenSquare ∷ ts) x) closed (items_at list_of (length y.rest) 1 y) r
+      (λ p c d. closed_sound front ts p x d (items_sound (length y.rest) 1 y p front ts c (first (item_sound front ts y m)))))
+
+  inside_sound : (front : List ℤ) (ts : List Lexeme) (x : Part) → inside_at list_of front ts ≡ Some x → Listed front (OpenSquare ∷ ts) x
+  unfolding inside_at
+  inside_sound front ts x e =
+      choose_elim (Listed front (OpenSquare ∷ ts) x) (filled_at list_of front ts) (λ rest. Some (part (Some (0 ∷ [])) front rest)) (after_close_square ts) e
+      (λ h k. filled_sound front ts x k)
+      (λ us h k. subst (Listed front (OpenSquare ∷ ts)) (some_inj k)
+      (subst (λ vs. Listed front (OpenSquare ∷ vs) (part (Some (0 ∷ [])) front us)) (sym (close_square_is ts h)) empty))
+
+  list_sound : (front : List ℤ) (ts : List Lexeme) (x : Part) → list_at list_of front ts ≡ Some x → Listed front ts x
+  list_sound front ts x e =
+      then_elim (Listed front ts x) (inside_at list_of front) (after_open_square ts) e
+      (λ us h k. subst (λ vs. Listed front vs x) (sym (open_square_is ts h)) (inside_sound front us x k))
+
+-- a list that is read is spelled
+pub reader_sound : (n : ℕ) (front : List ℤ) (ts : List Lexeme) (x : Part) → list_reader n front ts ≡ Some x → SpellsList (a_list x.shape front x.elems) ts x.rest
+unfolding list_reader
+reader_sound zero front ts x e = absurd (none_some e)
+reader_sound (suc n) front ts x e = list_sound (list_reader n) (reader_sound n) front ts x e

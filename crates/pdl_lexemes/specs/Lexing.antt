@@ -1,0 +1,89 @@
+-- The lexeme that a token is.
+use Rattle.std.specs.Prelude.{ℕ, ◌+◌, ◌-◌, ◌*◌, nat_lt, min, List, [], ◌∷◌, ◌++◌, length, map, fold, Bool, true, false, ◌&&◌, ◌||◌, not, Option, Some, None, if◌then◌else◌, codes, bytes_eq}
+use Rattle.std.specs.List.{list_any}
+use Rattle.pdl_elem.specs.declared.BinaryOp.TheVariants.{Add, Sub, Mul, Div, Rem, Shl, Shr, Lt, Le, Gt, Ge, Eq, Ne, And, Or, Xor}
+use Rattle.pdl_elem.specs.declared.UnaryOp.TheVariants.{Not, Complement}
+use Rattle.pdl_elem.specs.declared.Ty.TheVariants.{Byte, Short, Ushort, Long, Longlong}
+use Rattle.pdl_lex.specs.declared.Token.{Token}
+use Rattle.pdl_lex.specs.declared.TokenKind.{TokenKind}
+use Rattle.pdl_lex.specs.declared.TokenKind.TheVariants.{Name as IsName, Word as IsWord, Number as IsNumber, Str as IsStr, Sign as IsSign}
+use Rattle.pdl_lexemes.specs.declared.AssignOp.TheVariants.{Set, With}
+use Rattle.pdl_lexemes.specs.declared.Span.{Span}
+use Rattle.pdl_lexemes.specs.declared.Keyword.{Keyword as Key}
+use Rattle.pdl_lexemes.specs.declared.Keyword.TheVariants.{My, Print, Undef, Vars, PpDef, Watch, Unwatch, Pdl, Info, Sever, Reshape}
+use Rattle.pdl_lexemes.specs.declared.WordKind.{WordKind}
+use Rattle.pdl_lexemes.specs.declared.WordKind.TheVariants.{OfType, View, Pars, Code, Plain}
+use Rattle.pdl_lexemes.specs.declared.Lexeme.{Lexeme}
+use Rattle.pdl_lexemes.specs.declared.Lexeme.TheVariants.{Name, Keyword, Word, Number, Quoted, Open, Close, OpenSquare, CloseSquare, Comma, Equals, Arrow, FatArrow, Assign, Operator, Prefix}
+use Rattle.pdl_lexemes.specs.Bytes.{bytes_at}
+use Rattle.pdl_lexemes.specs.ListReading.{choose}
+
+-- what a table has for a text
+abbrev pub found_in : {A : Type 0} → List (List ℕ × A) → List ℕ → Option A
+found_in [] text = None
+found_in (entry ∷ rest) text = if bytes_eq text entry.0 then Some entry.1 else found_in rest text
+
+-- the words that name no call
+abbrev pub keywords : List (List ℕ × Key)
+keywords =
+    (codes "my", My) ∷ (codes "p", Print) ∷ (codes "print", Print) ∷ (codes "undef", Undef) ∷ (codes "vars", Vars) ∷ (codes "pp_def", PpDef)
+    ∷ (codes "watch", Watch) ∷ (codes "unwatch", Unwatch) ∷ (codes "pdl", Pdl) ∷ (codes "info", Info) ∷ (codes "sever", Sever)
+    ∷ (codes "reshape", Reshape) ∷ []
+
+-- the words that are something beside the name of a call
+abbrev pub word_kinds : List (List ℕ × WordKind)
+word_kinds =
+    (codes "byte", OfType Byte) ∷ (codes "short", OfType Short) ∷ (codes "ushort", OfType Ushort) ∷ (codes "long", OfType Long)
+    ∷ (codes "longlong", OfType Longlong) ∷ (codes "slice", View) ∷ (codes "xchg", View) ∷ (codes "mv", View) ∷ (codes "reorder", View)
+    ∷ (codes "dummy", View) ∷ (codes "diagonal", View) ∷ (codes "clump", View) ∷ (codes "flat", View) ∷ (codes "squeeze", View)
+    ∷ (codes "index", View) ∷ (codes "where", View) ∷ (codes "range", View) ∷ (codes "Pars", Pars) ∷ (codes "Code", Code) ∷ []
+
+-- the signs
+abbrev pub signs : List (List ℕ × Lexeme)
+signs =
+    (codes "(", Open) ∷ (codes ")", Close) ∷ (codes "[", OpenSquare) ∷ (codes "]", CloseSquare) ∷ (codes ",", Comma) ∷ (codes "=", Equals)
+    ∷ (codes "->", Arrow) ∷ (codes "=>", FatArrow) ∷ (codes ".=", Assign Set) ∷ (codes "+=", Assign (With Add)) ∷ (codes "-=", Assign (With Sub))
+    ∷ (codes "*=", Assign (With Mul)) ∷ (codes "/=", Assign (With Div)) ∷ (codes "%=", Assign (With Rem)) ∷ (codes "<<=", Assign (With Shl))
+    ∷ (codes ">>=", Assign (With Shr)) ∷ (codes "&=", Assign (With And)) ∷ (codes "|=", Assign (With Or)) ∷ (codes "^=", Assign (With Xor))
+    ∷ (codes "+", Operator Add) ∷ (codes "-", Operator Sub) ∷ (codes "*", Operator Mul) ∷ (codes "/", Operator Div) ∷ (codes "%", Operator Rem)
+    ∷ (codes "<<", Operator Shl) ∷ (codes ">>", Operator Shr) ∷ (codes "<", Operator Lt) ∷ (codes ">", Operator Gt) ∷ (codes "<=", Operator Le)
+    ∷ (codes ">=", Operator Ge) ∷ (codes "==", Operator Eq) ∷ (codes "!=", Operator Ne) ∷ (codes "&", Operator And) ∷ (codes "|", Operator Or)
+    ∷ (codes "^", Operator Xor) ∷ (codes "!", Prefix Not) ∷ (codes "~", Prefix Complement) ∷ []
+
+-- the value of decimal digits, or 2 ^ 63 where it is above 9223372036854775807
+abbrev pub with_digit : ℕ → ℕ → ℕ
+with_digit n digit = min (10 * n + (digit - 48)) 9223372036854775808
+
+abbrev pub number_of : List ℕ → ℕ
+number_of digits = fold with_digit 0 digits
+
+-- a word as a keyword, or as the name of a call
+abbrev pub word_of : List ℕ → Span → Lexeme
+word_of text span =
+    choose (Word (choose Plain (λ k. k) (found_in word_kinds text)) span) (λ k. Keyword k) (found_in keywords text)
+
+-- a sign; a text that is none, which no token has, counts as a comma
+abbrev pub sign_of : List ℕ → Lexeme
+sign_of text = choose Comma (λ s. s) (found_in signs text)
+
+abbrev pub span_of : Token → Span
+span_of t = record { from = t.from; to = t.to }
+
+-- the bytes of a string without its quotes
+abbrev pub inside_of : Token → Span
+inside_of t = record { from = t.from + 1; to = t.to - 1 }
+
+abbrev pub of_kind : List ℕ → Token → TokenKind → Lexeme
+of_kind source t IsName = Name (span_of t)
+of_kind source t IsWord = word_of (bytes_at source (span_of t)) (span_of t)
+of_kind source t IsNumber = Number (number_of (bytes_at source (span_of t)))
+of_kind source t IsStr = Quoted (inside_of t)
+of_kind source t IsSign = sign_of (bytes_at source (span_of t))
+
+-- a token's lexeme
+abbrev pub lexeme_of : List ℕ → Token → Lexeme
+lexeme_of source t = of_kind source t t.kind
+
+-- the lexemes of the tokens of a text
+abbrev pub lexemes_of : List ℕ → List Token → List Lexeme
+lexemes_of source tokens = map (lexeme_of source) tokens

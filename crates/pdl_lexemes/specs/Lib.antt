@@ -1,0 +1,6 @@
+pub mod Answers
+pub mod Bytes
+pub mod Lists
+pub mod ListReading
+pub mod Lexing
+pub mod Depth

@@ -1,0 +1,143 @@
+//! The checks on the lexemes that look at no grammar, and the one for ragged lists.
+
+ghost use Rattle.std.specs.Prelude.{◌≡◌, ◌≤◌, ◌+◌, ◌<◌, length, ℕ, IfOk, IfErr};
+ghost use Rattle.pdl_lexemes.specs.Depth.{with_operator, counted_to, is_beyond, is_too_deep, is_large, has_large, ragged_in, reads_ragged};
+ghost use Rattle.pdl_lexemes.specs.ListReading.{list_read};
+
+use crate::{Lexeme, Refusal, list};
+use std::alloc::Global;
+
+/// How many brackets of each kind are open, and how many operators stand outside square ones so far.
+#[derive(Clone, Copy, Debug)]
+pub struct Counts {
+    pub round: u32,
+    pub square: u32,
+    pub operators: u32,
+}
+
+fn with_operator(counts: Counts) -> Counts
+    requires { counts.operators < 65536 }
+    ensures { result ≡ with_operator counts }
+{
+    if counts.square == 0 {
+        Counts {
+            operators: counts.operators + 1,
+            ..counts
+        }
+    } else {
+        counts
+    }
+}
+
+fn counted_to(counts: Counts, lexeme: Lexeme) -> Counts
+    requires round { counts.round < 65536 }
+    requires square { counts.square < 65536 }
+    requires operators { counts.operators < 65536 }
+    ensures exact { result ≡ counted_to counts lexeme }
+    ensures round { result.round ≤ counts.round + 1 }
+    ensures square { result.square ≤ counts.square + 1 }
+    ensures operators { result.operators ≤ counts.operators + 1 }
+{
+    match lexeme {
+        Lexeme::Open => Counts {
+            round: counts.round + 1,
+            ..counts
+        },
+        Lexeme::Close => Counts {
+            round: counts.round.saturating_sub(1),
+            ..counts
+        },
+        Lexeme::OpenSquare => Counts {
+            square: counts.square + 1,
+            ..counts
+        },
+        Lexeme::CloseSquare => Counts {
+            square: counts.square.saturating_sub(1),
+            ..counts
+        },
+        Lexeme::Arrow | Lexeme::Operator(_) | Lexeme::Prefix(_) => with_operator(counts),
+        _ => counts,
+    }
+}
+
+fn is_beyond(counts: Counts) -> bool
+    requires round { counts.round ≤ 65536 }
+    requires square { counts.square ≤ 65536 }
+    ensures { result ≡ is_beyond counts }
+{
+    if counts.round + counts.square > 64 {
+        return true;
+    }
+    if counts.square > 16 {
+        return true;
+    }
+    counts.operators > 256
+}
+
+/// Whether more than 64 brackets are open at once, more than 16 square ones, or more than 256
+/// operators stand outside square brackets.
+pub fn is_too_deep(tokens: &[Lexeme]) -> bool
+    requires small { length tokens.now ≤ 65536 }
+    ensures { result ≡ is_too_deep tokens.now }
+{
+    let mut counts = Counts {
+        round: 0,
+        square: 0,
+        operators: 0,
+    };
+    for lexeme in tokens {
+        counts = counted_to(counts, *lexeme);
+        if is_beyond(counts) {
+            return true;
+        }
+    }
+    false
+}
+
+fn is_large(lexeme: Lexeme) -> bool
+    ensures { result ≡ is_large lexeme }
+{
+    match lexeme {
+        Lexeme::Number(n) => n > 9223372036854775807,
+        _ => false,
+    }
+}
+
+/// Whether a number is above 9223372036854775807.
+pub fn has_large(tokens: &[Lexeme]) -> bool
+    ensures { result ≡ has_large tokens.now }
+{
+    for lexeme in tokens {
+        if is_large(*lexeme) {
+            return true;
+        }
+    }
+    false
+}
+
+fn reads_ragged(alloc: Global, tokens: &[Lexeme]) -> Result<bool, Refusal>
+    requires small { length tokens.now ≤ 65536 }
+    ensures ok { IfOk result (λ b. b ≡ reads_ragged (list_read tokens.now)) }
+    ensures err { IfErr result (λ r. r ≡ Refusal.NoMemory) }
+{
+    match list::read(alloc, tokens) {
+        Err(Refusal::NoMemory) => Err(Refusal::NoMemory),
+        Err(Refusal::Refused) => Ok(false),
+        Ok((row, _)) => Ok(row.shape.is_none()),
+    }
+}
+
+/// Whether some list literal among the lexemes is ragged.
+#[tactic(auto, using(crate::proofs::Ragged::ragged_step, crate::proofs::Ragged::ragged_here, crate::proofs::Ragged::ragged_end))]
+pub fn holds_ragged(alloc: Global, tokens: &[Lexeme]) -> Result<bool, Refusal>
+    requires small { length tokens.now ≤ 65536 }
+    ensures ok { IfOk result (λ b. b ≡ ragged_in tokens.now) }
+    ensures err { IfErr result (λ r. r ≡ Refusal.NoMemory) }
+{
+    for i in 0..tokens.len() {
+        if reads_ragged(alloc, &tokens[i..])? {
+            return Ok(true);
+        }
+    }
+    Ok(false)
+}

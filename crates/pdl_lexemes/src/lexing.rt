@@ -1,0 +1,194 @@
+//! Tokens as lexemes.
+
+ghost use Rattle.std.specs.Prelude.{◌≡◌, ◌≤◌, length, IfOk, ℕ, take, fold, Some, if◌then◌else◌, bytes_eq};
+ghost use Rattle.pdl_lexemes.specs.Bytes.{bytes_at};
+ghost use Rattle.pdl_lexemes.specs.Lexing.{found_in, keywords, word_kinds, signs, word_of, sign_of, number_of, with_digit, lexeme_of, lexemes_of};
+
+use crate::{AssignOp, Keyword, Lexeme, Span, WordKind};
+use pdl_elem::{BinaryOp, Ty, UnaryOp};
+use pdl_lex::{Token, TokenKind};
+use std::alloc::{AllocError, Global};
+
+/// The bytes that a span names; of a span that goes past the text, those there are.
+pub fn bytes(source: &[u8], span: Span) -> &[u8]
+    ensures { result.now ≡ bytes_at source.now span }
+{
+    let from = span.from.min(source.len());
+    let to = span.to.min(source.len()).max(from);
+    &source[from..to]
+}
+
+fn or_keyword(
+    text: &[u8],
+    word: &[u8],
+    keyword: Keyword,
+    others: Option<Keyword>,
+) -> Option<Keyword>
+    ensures { result ≡ (if bytes_eq text.now word.now then Some keyword else others) }
+{
+    if text == word { Some(keyword) } else { others }
+}
+
+fn keyword(text: &[u8]) -> Option<Keyword>
+    ensures { result ≡ found_in keywords text.now }
+{
+    let found = None;
+    let found = or_keyword(text, b"reshape", Keyword::Reshape, found);
+    let found = or_keyword(text, b"sever", Keyword::Sever, found);
+    let found = or_keyword(text, b"info", Keyword::Info, found);
+    let found = or_keyword(text, b"pdl", Keyword::Pdl, found);
+    let found = or_keyword(text, b"unwatch", Keyword::Unwatch, found);
+    let found = or_keyword(text, b"watch", Keyword::Watch, found);
+    let found = or_keyword(text, b"pp_def", Keyword::PpDef, found);
+    let found = or_keyword(text, b"vars", Keyword::Vars, found);
+    let found = or_keyword(text, b"undef", Keyword::Undef, found);
+    let found = or_keyword(text, b"print", Keyword::Print, found);
+    let found = or_keyword(text, b"p", Keyword::Print, found);
+    or_keyword(text, b"my", Keyword::My, found)
+}
+
+fn or_kind(text: &[u8], word: &[u8], kind: WordKind, others: Option<WordKind>) -> Option<WordKind>
+    ensures { result ≡ (if bytes_eq text.now word.now then Some kind else others) }
+{
+    if text == word { Some(kind) } else { others }
+}
+
+fn word_kind(text: &[u8]) -> Option<WordKind>
+    ensures { result ≡ found_in word_kinds text.now }
+{
+    let found = None;
+    let found = or_kind(text, b"Code", WordKind::Code, found);
+    let found = or_kind(text, b"Pars", WordKind::Pars, found);
+    let found = or_kind(text, b"range", WordKind::View, found);
+    let found = or_kind(text, b"where", WordKind::View, found);
+    let found = or_kind(text, b"index", WordKind::View, found);
+    let found = or_kind(text, b"squeeze", WordKind::View, found);
+    let found = or_kind(text, b"flat", WordKind::View, found);
+    let found = or_kind(text, b"clump", WordKind::View, found);
+    let found = or_kind(text, b"diagonal", WordKind::View, found);
+    let found = or_kind(text, b"dummy", WordKind::View, found);
+    let found = or_kind(text, b"reorder", WordKind::View, found);
+    let found = or_kind(text, b"mv", WordKind::View, found);
+    let found = or_kind(text, b"xchg", WordKind::View, found);
+    let found = or_kind(text, b"slice", WordKind::View, found);
+    let found = or_kind(text, b"longlong", WordKind::OfType(Ty::Longlong), found);
+    let found = or_kind(text, b"long", WordKind::OfType(Ty::Long), found);
+    let found = or_kind(text, b"ushort", WordKind::OfType(Ty::Ushort), found);
+    let found = or_kind(text, b"short", WordKind::OfType(Ty::Short), found);
+    or_kind(text, b"byte", WordKind::OfType(Ty::Byte), found)
+}
+
+fn word(text: &[u8], span: Span) -> Lexeme
+    ensures { result ≡ word_of text.now span }
+{
+    match keyword(text) {
+        Some(keyword) => Lexeme::Keyword(keyword),
+        None => match word_kind(text) {
+            Some(kind) => Lexeme::Word(kind, span),
+            None => Lexeme::Word(WordKind::Plain, span),
+        },
+    }
+}
+
+fn sign(text: &[u8]) -> Option<Lexeme>
+    ensures { result ≡ found_in signs text.now }
+{
+    match text {
+        b"(" => Some(Lexeme::Open),
+        b")" => Some(Lexeme::Close),
+        b"[" => Some(Lexeme::OpenSquare),
+        b"]" => Some(Lexeme::CloseSquare),
+        b"," => Some(Lexeme::Comma),
+        b"=" => Some(Lexeme::Equals),
+        b"->" => Some(Lexeme::Arrow),
+        b"=>" => Some(Lexeme::FatArrow),
+        b".=" => Some(Lexeme::Assign(AssignOp::Set)),
+        b"+=" => Some(Lexeme::Assign(AssignOp::With(BinaryOp::Add))),
+        b"-=" => Some(Lexeme::Assign(AssignOp::With(BinaryOp::Sub))),
+        b"*=" => Some(Lexeme::Assign(AssignOp::With(BinaryOp::Mul))),
+        b"/=" => Some(Lexeme::Assign(AssignOp::With(BinaryOp::Div))),
+        b"%=" => Some(Lexeme::Assign(AssignOp::With(BinaryOp::Rem))),
+        b"<<=" => Some(Lexeme::Assign(AssignOp::With(BinaryOp::Shl))),
+        b">>=" => Some(Lexeme::Assign(AssignOp::With(BinaryOp::Shr))),
+        b"&=" => Some(Lexeme::Assign(AssignOp::With(BinaryOp::And))),
+        b"|=" => Some(Lexeme::Assign(AssignOp::With(BinaryOp::Or))),
+        b"^=" => Some(Lexeme::Assign(AssignOp::With(BinaryOp::Xor))),
+        b"!" => Some(Lexeme::Prefix(UnaryOp::Not)),
+        b"~" => Some(Lexeme::Prefix(UnaryOp::Complement)),
+        b"+" => Some(Lexeme::Operator(BinaryOp::Add)),
+        b"-" => Some(Lexeme::Operator(BinaryOp::Sub)),
+        b"*" => Some(Lexeme::Operator(BinaryOp::Mul)),
+        b"/" => Some(Lexeme::Operator(BinaryOp::Div)),
+        b"%" => Some(Lexeme::Operator(BinaryOp::Rem)),
+        b"<<" => Some(Lexeme::Operator(BinaryOp::Shl)),
+        b">>" => Some(Lexeme::Operator(BinaryOp::Shr)),
+        b"<" => Some(Lexeme::Operator(BinaryOp::Lt)),
+        b">" => Some(Lexeme::Operator(BinaryOp::Gt)),
+        b"<=" => Some(Lexeme::Operator(BinaryOp::Le)),
+        b">=" => Some(Lexeme::Operator(BinaryOp::Ge)),
+        b"==" => Some(Lexeme::Operator(BinaryOp::Eq)),
+        b"!=" => Some(Lexeme::Operator(BinaryOp::Ne)),
+        b"&" => Some(Lexeme::Operator(BinaryOp::And)),
+        b"|" => Some(Lexeme::Operator(BinaryOp::Or)),
+        b"^" => Some(Lexeme::Operator(BinaryOp::Xor)),
+        _ => None,
+    }
+}
+
+fn sign_lexeme(text: &[u8]) -> Lexeme
+    ensures { result ≡ sign_of text.now }
+{
+    match sign(text) {
+        Some(sign) => sign,
+        None => Lexeme::Comma,
+    }
+}
+
+fn with_digit(n: u64, digit: u8) -> u64
+    requires { n ≤ 9223372036854775808 }
+    ensures value { result ≡ with_digit n digit }
+    ensures most { result ≤ 9223372036854775808 }
+{
+    let value = n as u128 * 10 + digit.saturating_sub(48) as u128;
+    value.min(9223372036854775808) as u64
+}
+
+fn number(digits: &[u8]) -> u64
+    ensures { result ≡ number_of digits.now }
+{
+    let mut n = 0;
+    for digit in digits {
+        n = with_digit(n, *digit);
+    }
+    n
+}
+
+fn lexeme(source: &[u8], token: Token) -> Lexeme
+    ensures { result ≡ lexeme_of source.now token }
+{
+    let span = Span {
+        from: token.from as usize,
+        to: token.to as usize,
+    };
+    match token.kind {
+        TokenKind::Name => Lexeme::Name(span),
+        TokenKind::Word => word(bytes(source, span), span),
+        TokenKind::Number => Lexeme::Number(number(bytes(source, span))),
+        TokenKind::Str => Lexeme::Quoted(Span {
+            from: span.from + 1,
+            to: span.to.saturating_sub(1),
+        }),
+        TokenKind::Sign => sign_lexeme(bytes(source, span)),
+    }
+}
+
+/// The lexemes of the tokens of a text.
+pub fn lexemes(alloc: Global, source: &[u8], tokens: &[Token]) -> Result<Vec<Lexeme>, AllocError>
+    ensures { IfOk result (λ all. all.items ≡ lexemes_of source.now tokens.now) }
+{
+    let mut all = Vec::with_capacity(alloc, tokens.len())?;
+    for token in tokens {
+        all.push(lexeme(source, *token)).map_err(AllocError::from)?;
+    }
+    Ok(all)
+}

@@ -1,0 +1,98 @@
+//! The lexemes of a statement: its tokens with their words, signs and numbers told apart once, so
+//! that the grammar is read over a small `Copy` enum.
+#![tactic(auto)]
+
+ghost use Rattle.std.specs.Prelude.{◌≡◌, ◌≤ℤ◌, pos, IfSome};
+ghost use Rattle.pdl_lexemes.specs.Lists.{signed};
+
+mod checks;
+mod lexing;
+pub mod list;
+pub mod peek;
+mod refusal;
+pub mod sizes;
+
+pub use checks::{has_large, holds_ragged, is_too_deep};
+pub use lexing::{bytes, lexemes};
+use pdl_elem::{BinaryOp, Ty, UnaryOp};
+pub use refusal::Refusal;
+
+/// The sign of an assignment: `.=`, or an operator followed by `=`.
+#[derive(Clone, Copy, PartialEq, Eq, Debug)]
+pub enum AssignOp {
+    Set,
+    With(BinaryOp),
+}
+
+/// The bytes of a statement's text from `from` on and before `to`.
+#[derive(Clone, Copy, PartialEq, Eq, Debug)]
+pub struct Span {
+    pub from: usize,
+    pub to: usize,
+}
+
+/// A word that begins or ends a form of statement, and is no name of a call.
+#[derive(Clone, Copy, PartialEq, Eq, Debug)]
+pub enum Keyword {
+    My,
+    Print,
+    Undef,
+    Vars,
+    PpDef,
+    Watch,
+    Unwatch,
+    Pdl,
+    Info,
+    Sever,
+    Reshape,
+}
+
+/// What a word that may name a call is besides.
+#[derive(Clone, Copy, PartialEq, Eq, Debug)]
+pub enum WordKind {
+    /// `byte`, `short`, `ushort`, `long` or `longlong`.
+    OfType(Ty),
+    /// A word that makes a view: `slice`, `xchg`, `mv` and so on.
+    View,
+    Pars,
+    Code,
+    Plain,
+}
+
+/// A token as the grammar reads it.
+#[derive(Clone, Copy, PartialEq, Eq, Debug)]
+pub enum Lexeme {
+    /// `$` and a word, the `$` among the bytes.
+    Name(Span),
+    Keyword(Keyword),
+    Word(WordKind, Span),
+    /// The number, or 2 ^ 63 where it is above 9223372036854775807.
+    Number(u64),
+    /// A string without its quotes.
+    Quoted(Span),
+    Open,
+    Close,
+    OpenSquare,
+    CloseSquare,
+    Comma,
+    Equals,
+    Arrow,
+    FatArrow,
+    Assign(AssignOp),
+    /// An operator on two values; `-` is `Sub`.
+    Operator(BinaryOp),
+    /// `!` or `~`.
+    Prefix(UnaryOp),
+}
+
+/// The number, where it is at most 9223372036854775807.
+pub fn signed(n: u64) -> Option<i64>
+    ensures value { result ≡ signed n }
+    ensures positive { IfSome result (λ z. pos 0 ≤ℤ z) }
+{
+    if n <= 9223372036854775807 {
+        Some(n as i64)
+    } else {
+        None
+    }
+}

@@ -1,0 +1,179 @@
+//! The reader of list literals.
+
+ghost use Rattle.std.specs.Prelude.{◌≡◌, ◌≤◌, ◌<◌, ◌+◌, ◌-◌, ◌∷◌, ◌++◌, [], suc, length, IfOk, option_map, ℤ, Some};
+ghost use Rattle.pdl_lexemes.specs.Lists.{shared, with_length};
+ghost use Rattle.pdl_lexemes.specs.Answers.{Gives};
+ghost use Rattle.pdl_lexemes.specs.ListReading.{list_reader, list_read, inside_at, filled_at, items_at, item_at, part, counted};
+
+use crate::sizes::Sizes;
+use crate::{Lexeme, Refusal, peek, sizes};
+use std::alloc::{AllocError, Global};
+
+/// A list's dimensions, which are none where it is ragged, and all numbers up to its end.
+#[derive(Debug, Drop)]
+pub struct Row {
+    pub shape: Option<Sizes>,
+    pub elems: Vec<i64>,
+}
+
+/// The list literal at the front, and what follows it.
+pub fn read(alloc: Global, tokens: &[Lexeme]) -> Result<(Row, &[Lexeme]), Refusal>
+    requires small { length tokens.now ≤ 65536 }
+    ensures read { Gives (λ x. part x.0.shape x.0.elems.items x.1.now) result (list_read tokens.now) }
+    ensures shorter { IfOk result (λ x. length x.1.now ≤ length tokens.now) }
+{
+    list(alloc, tokens.len() + 1, Vec::new(alloc), tokens)
+}
+
+#[cycle(lists)]
+#[tactic(auto, unfolding(crate::specs::ListReading::list_reader))]
+fn list(
+    alloc: Global,
+    fuel: usize,
+    front: Vec<i64>,
+    tokens: &[Lexeme],
+) -> Result<(Row, &[Lexeme]), Refusal>
+    requires small { length tokens.now ≤ 65536 }
+    ensures read { Gives (λ x. part x.0.shape x.0.elems.items x.1.now) result (list_reader fuel front.items tokens.now) }
+    ensures shorter { IfOk result (λ x. length x.1.now ≤ length tokens.now) }
+{
+    if fuel == 0 {
+        return Err(Refusal::Refused);
+    }
+    match peek::after_open_square(tokens) {
+        None => Err(Refusal::Refused),
+        Some(rest) => inside(alloc, fuel - 1, front, rest),
+    }
+}
+
+#[cycle(lists)]
+#[tactic(auto, unfolding(crate::specs::ListReading::inside_at))]
+fn inside(
+    alloc: Global,
+    fuel: usize,
+    front: Vec<i64>,
+    tokens: &[Lexeme],
+) -> Result<(Row, &[Lexeme]), Refusal>
+    requires small { length tokens.now ≤ 65536 }
+    ensures read { Gives (λ x. part x.0.shape x.0.elems.items x.1.now) result (inside_at (list_reader fuel) front.items tokens.now) }
+    ensures shorter { IfOk result (λ x. length x.1.now ≤ length tokens.now) }
+{
+    match peek::after_close_square(tokens) {
+        None => filled(alloc, fuel, front, tokens),
+        Some(rest) => Ok((empty(alloc, front)?, rest)),
+    }
+}
+
+fn empty(alloc: Global, front: Vec<i64>) -> Result<Row, AllocError>
+    ensures { IfOk result (λ r. r ≡ record { shape = Some (0 ∷ []); elems = front }) }
+{
+    let sizes = Sizes::new(alloc).with(0)?;
+    Ok(Row {
+        shape: Some(sizes),
+        elems: front,
+    })
+}
+
+#[cycle(lists)]
+fn filled(
+    alloc: Global,
+    fuel: usize,
+    front: Vec<i64>,
+    tokens: &[Lexeme],
+) -> Result<(Row, &[Lexeme]), Refusal>
+    requires small { length tokens.now ≤ 65536 }
+    ensures read { Gives (λ x. part x.0.shape x.0.elems.items x.1.now) result (filled_at (list_reader fuel) front.items tokens.now) }
+    ensures shorter { IfOk result (λ x. length x.1.now ≤ length tokens.now) }
+{
+    let (first, rest) = item(alloc, fuel, front, tokens)?;
+    let (count, row, rest) = items(alloc, fuel, first, rest)?;
+    match peek::after_close_square(rest) {
+        None => Err(Refusal::Refused),
+        Some(rest) => Ok((closed(count, row)?, rest)),
+    }
+}
+
+fn closed(count: u32, row: Row) -> Result<Row, AllocError>
+    ensures { IfOk result (λ r. (r.shape ≡ with_length count row.shape) × (r.elems.items ≡ row.elems.items)) }
+{
+    let Row { shape, elems } = row;
+    Ok(Row {
+        shape: sizes::with_length(count, shape)?,
+        elems,
+    })
+}
+
+#[cycle(lists)]
+#[tactic(auto, unfolding(crate::specs::ListReading::items_at))]
+fn items<'a>(
+    alloc: Global,
+    fuel: usize,
+    first: Row,
+    tokens: &'a [Lexeme],
+) -> Result<(u32, Row, &'a [Lexeme]), Refusal>
+    requires small { length tokens.now ≤ 65536 }
+    ensures read { Gives (λ x. counted x.0 (part x.1.shape x.1.elems.items x.2.now)) result (items_at (list_reader fuel) (length tokens.now) 1 (part first.shape first.elems.items tokens.now)) }
+    ensures shorter { IfOk result (λ x. length x.2.now ≤ length tokens.now) }
+{
+    let mut count = 1;
+    let mut row = first;
+    let mut rest = tokens;
+    for _ in 0..tokens.len() {
+        match peek::after_comma(rest) {
+            None => return Ok((count, row, rest)),
+            Some(after) => {
+                let Row { shape, elems } = row;
+                let (next, after) = item(alloc, fuel, elems, after)?;
+                row = joined(shape, next);
+                count += 1;
+                rest = after;
+            }
+        }
+    }
+    Ok((count, row, rest))
+}
+
+fn joined(shape: Option<Sizes>, next: Row) -> Row
+    ensures shape { result.shape ≡ shared shape next.shape }
+    ensures elems { result.elems.items ≡ next.elems.items }
+{
+    let Row {
+        shape: other,
+        elems,
+    } = next;
+    Row {
+        shape: sizes::shared(shape, other),
+        elems,
+    }
+}
+
+#[cycle(lists)]
+#[tactic(auto, unfolding(crate::specs::ListReading::item_at))]
+fn item(
+    alloc: Global,
+    fuel: usize,
+    front: Vec<i64>,
+    tokens: &[Lexeme],
+) -> Result<(Row, &[Lexeme]), Refusal>
+    requires small { length tokens.now ≤ 65536 }
+    ensures read { Gives (λ x. part x.0.shape x.0.elems.items x.1.now) result (item_at (list_reader fuel) front.items tokens.now) }
+    ensures shorter { IfOk result (λ x. length x.1.now ≤ length tokens.now) }
+{
+    if let Some(_) = peek::after_open_square(tokens) {
+        return list(alloc, fuel, front, tokens);
+    }
+    match peek::signed_number(tokens) {
+        None => Err(Refusal::Refused),
+        Some((z, rest)) => Ok((number(alloc, front, z)?, rest)),
+    }
+}
+
+fn number(alloc: Global, mut front: Vec<i64>, z: i64) -> Result<Row, AllocError>
+    ensures { IfOk result (λ r. (r.shape ≡ Some []) × (r.elems.items ≡ front.items ++ z ∷ [])) }
+{
+    front.push(z).map_err(AllocError::from)?;
+    Ok(Row {
+        shape: Some(Sizes::new(alloc)),
+        elems: front,
+    })
+}

@@ -1,0 +1,11 @@
+pub mod Fault
+pub mod Builtin
+pub mod Names
+pub mod SpanText
+pub mod Calls
+pub mod Value
+pub mod Tidy
+pub mod Text
+pub mod Step
+pub mod Parsed
+pub mod Run

@@ -1,0 +1,11 @@
+pub mod Bindings
+pub mod Calls
+pub mod Clamps
+pub mod Digits
+pub mod Effects
+pub mod Elements
+pub mod Engines
+pub mod Evals
+pub mod Gathered
+pub mod Printing
+pub mod Sessions

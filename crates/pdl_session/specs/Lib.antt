@@ -1,0 +1,5 @@
+pub mod Answers
+pub mod Arguments
+pub mod Fit
+pub mod Sizes
+pub mod Session

@@ -1,0 +1,36 @@
+//! Why a statement wasn't run.
+use pdl_engine::ViewFault;
+use pdl_machine::Fault;
+use pdl_shape::ShapeFault;
+use std::alloc::{AllocError, AllocFailed};
+
+/// Why a statement wasn't run.
+#[derive(Clone, Copy, PartialEq, Eq, Debug)]
+pub enum StepFault {
+    /// The statement has this fault, and the session is as it was.
+    Script(Fault),
+    /// There was no memory. The session may only be dropped.
+    NoMemory,
+}
+
+impl From<AllocError> for StepFault {
+    ghost use Rattle.std.specs.Prelude.{◌≡◌};
+    ghost use Rattle.pdl_session.specs.declared.fault.StepFault.TheVariants.{NoMemory};
+
+    ghost from_gives = { λ _ fault. fault ≡ NoMemory };
+
+    fn from(_: AllocError) -> StepFault {
+        StepFault::NoMemory
+    }
+}
+
+impl From<Fault> for StepFault {
+    ghost use Rattle.std.specs.Prelude.{◌≡◌};
+    ghost use Rattle.pdl_session.specs.declared.fault.StepFault.TheVariants.{Script};
+
+    ghost from_gives = { λ e fault. fault ≡ Script e };
+
+    fn from(e: Fault) -> StepFault {
+        StepFault::Script(e)
+    }
+}

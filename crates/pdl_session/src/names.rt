@@ -1,0 +1,87 @@
+//! The names that are bound.
+ghost use Rattle.std.specs.Prelude.{◌≡◌, ◌<◌, [], length, nat_lt, not, ◌&&◌, is_none, slice_get, Some, IfErr, OnOk, IsErr};
+ghost use Rattle.pdl_machine.specs.Names.{number_of, bind, names_limit};
+ghost use Rattle.pdl_session.specs.Answers.{IsFault};
+
+use crate::fault::StepFault;
+use indexmap::IndexMap;
+use pdl_elem::Name;
+use pdl_engine::ArrayId;
+use pdl_machine::Fault;
+use std::alloc::Global;
+use std::marker::Model;
+
+/// At most so many names are bound at once.
+const MOST_NAMES: usize = 512;
+
+/// The bound names with their arrays, in the order of their first bindings.
+#[derive(Drop)]
+pub struct Names {
+    arrays: IndexMap<Name, ArrayId>,
+}
+
+impl Model for Names {
+    ghost use Rattle.pdl_machine.specs.Names.{Names as Bound};
+
+    ghost Value = { Bound };
+
+    ghost view = { λ n. n.arrays.entries };
+}
+
+impl Names {
+    /// No names.
+    pub fn new(alloc: Global) -> Names
+        ensures { result ≡ [] }
+    {
+        Names {
+            arrays: IndexMap::new(alloc),
+        }
+    }
+
+    /// The array of a name.
+    pub fn get(&self, name: &Name) -> Option<ArrayId>
+        ensures { result ≡ number_of self.now name.now }
+    {
+        self.arrays.get(name).copied()
+    }
+
+    /// Binds a name to an array, with `TooManyNames` where it is new and 512 are bound.
+    pub fn bind(&mut self, name: &Name, id: ArrayId) -> Result<(), StepFault>
+        ensures ok { OnOk result (bind self.old name.now id ≡ Ok self.new) }
+        ensures fault { IfErr result (IsFault (bind self.old name.now id)) }
+        ensures err { IsErr result → self.new ≡ self.old }
+    {
+        if self.is_full_for(name) {
+            return Err(StepFault::Script(Fault::TooManyNames));
+        }
+        match self.arrays.insert(name.clone()?, id) {
+            Ok(_) => Ok(()),
+            Err(_) => Err(StepFault::NoMemory),
+        }
+    }
+
+    /// Whether there is no room for the name: it isn't bound, and 512 are.
+    fn is_full_for(&self, name: &Name) -> bool
+        ensures { result ≡ (is_none (number_of self.now name.now) && not (nat_lt (length self.now) names_limit)) }
+    {
+        self.arrays.len() >= MOST_NAMES && self.arrays.get(name).is_none()
+    }
+
+    /// How many names are bound.
+    pub fn len(&self) -> usize
+        ensures { result ≡ length self.now }
+    {
+        self.arrays.len()
+    }
+
+    /// The name at a place in the order of the first bindings, with its array.
+    pub fn entry(&self, index: usize) -> (&Name, ArrayId)
+        requires { index < length self.now }
+        ensures { slice_get self.now index ≡ Some (result.0.now, result.1) }
+    {
+        match self.arrays.get_index(index) {
+            Some((name, id)) => (name, *id),
+            None => unreachable!(),
+        }
+    }
+}

@@ -1,0 +1,28 @@
+use Rattle.std.proofs.Common.{◌≡◌, ℕ, List, Some, subst, sym, ◌∙◌, ap}
+use Rattle.pdl_machine.specs.Run.{Progress, run}
+use Rattle.pdl_shell.specs.declared.status.Status.{Status}
+use Rattle.pdl_shell.specs.Stops.{Writes}
+use Rattle.pdl_shell.specs.Answers.{Gives}
+use Rattle.pdl_shell.proofs.Whole.{IsRead, run_seen, rest_read, gives_after, done_at_end}
+use Rattle.pdl_shell.proofs.run.run_script.Goals as goal
+
+pub returns-in-Ok-clause-model : goal.returns-in-Ok-clause-model
+returns-in-Ok-clause-model g c script is =
+    let read : IsRead (g.S.Source.left c.args.source.now) (g.S.Source.left c.read_script.new.source) c.in-Ok.script.items =
+    record { all = c.in-Ok.ensures.all; within = c.in-Ok.ensures.within; end = c.in-Ok.ensures.end } in
+    let same : run script ≡ run c.deref.result.now =
+    run_seen _ _ c.in-Ok.script.items script read is ∙ ap run (sym c.deref.ensures.value) in
+    subst (λ (status : Status). Gives status (run script) (g.K.Sink.taken c.args.sink.now) (g.K.Sink.taken c.run_bytes.new.sink)) (sym c.status_after.ensures)
+    (gives_after c.run_bytes.result (run script) (run c.deref.result.now) (g.K.Sink.taken c.args.sink.now) (g.K.Sink.taken c.run_bytes.new.sink) c.run_bytes.ensures.writes same)
+
+pub returns-in-Ok-clause-read : goal.returns-in-Ok-clause-read
+returns-in-Ok-clause-read g c script is answered =
+    rest_read (g.S.Source.left c.args.source.now) (g.S.Source.left c.read_script.new.source) c.in-Ok.script.items script
+    (record { all = c.in-Ok.ensures.all; within = c.in-Ok.ensures.within; end = c.in-Ok.ensures.end }) is
+
+pub returns-in-Ok-clause-end : goal.returns-in-Ok-clause-end
+returns-in-Ok-clause-end g c done =
+    let read : IsRead (g.S.Source.left c.args.source.now) (g.S.Source.left c.read_script.new.source) c.deref.result.now =
+    rw c.deref.ensures.value (record { all = c.in-Ok.ensures.all; within = c.in-Ok.ensures.within; end = c.in-Ok.ensures.end }) in
+    done_at_end c.run_bytes.result _ _ (g.K.Sink.taken c.args.sink.now) (g.K.Sink.taken c.run_bytes.new.sink) c.deref.result.now read
+    c.run_bytes.ensures.writes (sym c.status_after.ensures ∙ done)

@@ -1,0 +1,17 @@
+//! Runs a script: the words of the command line, the reading of the source, the statements in order, and
+//! the status at the end.
+#![tactic(auto)]
+
+mod output;
+mod reading;
+mod run;
+mod runner;
+mod statement;
+mod status;
+mod stop;
+
+pub use run::run_shell;
+pub use status::Status;
+
+#[cfg(test)]
+mod tests;

@@ -1,0 +1,36 @@
+//! Why a run stops short.
+ghost use Rattle.std.specs.Prelude.{◌≡◌};
+ghost use Rattle.pdl_shell.specs.declared.stop.Stop.TheVariants.{NoMemory};
+ghost use Rattle.pdl_shell.specs.Answers.{status_after};
+
+use crate::status::Status;
+use std::alloc::AllocError;
+
+// Why a run stops short.
+#[derive(Clone, Copy, PartialEq, Eq, Debug)]
+pub(crate) enum Stop {
+    Source,
+    Sink,
+    NoMemory,
+}
+
+impl From<AllocError> for Stop {
+    ghost from_gives = { λ _ e. e ≡ NoMemory };
+
+    fn from(_error: AllocError) -> Stop {
+        Stop::NoMemory
+    }
+}
+
+// The status of a run that came to its end, faulted or not, or stopped short.
+pub(crate) fn status_after(ran: Result<bool, Stop>) -> Status
+    ensures { result ≡ status_after ran }
+{
+    match ran {
+        Ok(false) => Status::Done,
+        Ok(true) => Status::ScriptFault,
+        Err(Stop::Source) => Status::SourceFault,
+        Err(Stop::Sink) => Status::SinkFault,
+        Err(Stop::NoMemory) => Status::NoMemory,
+    }
+}

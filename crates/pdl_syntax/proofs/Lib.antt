@@ -1,0 +1,10 @@
+pub mod Trees
+pub mod Turns
+pub mod Peeks
+pub mod Sound
+pub mod Complete
+pub mod StatementSound
+pub mod StatementComplete
+pub mod Parsing
+pub mod StatementTurns
+pub mod Arrays

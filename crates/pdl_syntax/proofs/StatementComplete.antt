@@ -1,0 +1,340 @@
+-- Each spelled statement is read, so that lexemes are spelled by at most one.
+use Rattle.std.proofs.Common.{◌≡◌, ℕ, ℤ, zero, suc, ◌+◌, ◌<◌, ◌≤◌, List, [], ◌∷◌, ◌++◌, length, Bool, true, false, ◌||◌, nat_lt, Option, Some, None, option_map, option_and_then, if◌then◌else◌, refl, ap, sym, ◌∙◌, subst, arith, lt-ltb}
+use Rattle.pdl_lexemes.specs.declared.AssignOp.{AssignOp}
+use Rattle.pdl_lexemes.specs.declared.Span.{Span}
+use Rattle.pdl_lexemes.specs.declared.WordKind.{WordKind}
+use Rattle.pdl_lexemes.specs.declared.WordKind.TheVariants.{View as IsView, Pars, Code}
+use Rattle.pdl_lexemes.specs.declared.Keyword.TheVariants.{My, Print, Undef, Vars, PpDef, Watch, Unwatch, Info, Sever, Reshape}
+use Rattle.pdl_lexemes.specs.declared.Lexeme.{Lexeme}
+use Rattle.pdl_lexemes.specs.declared.Lexeme.TheVariants.{Name, Keyword, Word, Number, Quoted, Open, Close, Comma, Equals, Arrow, FatArrow, Assign}
+use Rattle.pdl_lexemes.specs.Bytes.{bytes_at}
+use Rattle.pdl_lexemes.specs.Lists.{signed}
+use Rattle.pdl_lexemes.specs.ListReading.{choose, after_comma}
+use Rattle.pdl_lexemes.proofs.Options.{some_inj, none_some}
+use Rattle.pdl_syntax.specs.Tree.{Tree, Args, call, none, value}
+use Rattle.pdl_syntax.specs.Grammar.{Spells, an_expr, a_postfix, closed_args, maybe_args, same, plain, called}
+use Rattle.pdl_syntax.specs.Reading.{Read, Kind, whole, operand, after_open, after_close, after_arrow, quoted_at, method_at, maybe_at, closed_at, primary_at, methods_at, postfix_at, reader}
+use Rattle.pdl_syntax.specs.StatementTree.{StatementTree, View, bind, bind_list, assign, show, show_text, sever, reshape, undef, vars, pp_def, watch, unwatch}
+use Rattle.pdl_syntax.specs.Statements.{SpellsBrackets, no_brackets, brackets, SpellsNames, one_name, more_names, SpellsViews, no_views, one_view, SpellsText, plain_text, labelled, SpellsCalled, by_word, by_method, SpellsBinding, binds_value, binds_severed, binds_names, SpellsStatement, binds, my_binds, assigns, shows_text, shows, shows_info, severs, reshapes, undefs, lists_names, defines, watches, unwatches}
+use Rattle.pdl_syntax.specs.StatementReading.{after_equals, after_sever, after_info, after_reshape, name_at, view_at, assign_at, slot_at, at_end, is_brackets, begins_word, after_pars, after_code, texts_at, code_at, signature_at, define_at, undef_at, watch_at, names_at, all_names_at, ended_at, severed_at, info_at, called_step, called_at, bind_at, bind_names, bind_list_at, views_at, assign_value, assignment_at, reshape_at, sever_at, named_at, bind_name, binding_at, value_at, show_at, statement_at, read_statement}
+use Rattle.pdl_syntax.proofs.Turns.{methods_stop, methods_turn}
+use Rattle.pdl_syntax.proofs.Complete.{Ends, ends_nothing, Methods, complete, read_whole, read_postfix, begins, shorter, finished}
+use Rattle.pdl_syntax.proofs.StatementSound.{severed_sound, info_sound, statement_sound}
+
+names_stop : (source : List ℕ) (k : ℕ) (names : List (List ℕ)) (ts : List Lexeme) → after_comma ts ≡ None → names_at source k names ts ≡ Some (names, ts)
+unfolding names_at
+names_stop source zero names ts e = refl
+names_stop source (suc k) names ts e = rw e
+
+names_turn : (source : List ℕ) (k : ℕ) (names : List (List ℕ)) (w : Span) (rest : List Lexeme) →
+    names_at source (suc k) names (Comma ∷ Name w ∷ rest) ≡ names_at source k (names ++ bytes_at source w ∷ []) rest
+unfolding names_at
+names_turn source k names w rest = refl
+
+brackets_read : {ts : List Lexeme} → SpellsBrackets ts → is_brackets ts ≡ true
+brackets_read no_brackets = refl
+brackets_read brackets = refl
+
+module _ (source : List ℕ) where
+  record Names (names : List (List ℕ)) (ts rest : List Lexeme) : Type 0 where
+    turns : ℕ
+    same : all_names_at source ts ≡ names_at source turns names rest
+    enough : length rest ≤ turns
+
+  next_name : (names : List (List ℕ)) (w : Span) (ts rest : List Lexeme) → Names names ts (Comma ∷ Name w ∷ rest) → Names (names ++ bytes_at source w ∷ []) ts rest
+  next_name names w ts rest c = of_turns c.turns refl
+    where
+      of_turns : (k : ℕ) → c.turns ≡ k → Names (names ++ bytes_at source w ∷ []) ts rest
+      of_turns zero z = absurd (omega (arith, c.enough, z))
+      of_turns (suc k) z = record {
+        turns = k;
+        same = c.same ∙ (ap (λ j. names_at source j names (Comma ∷ Name w ∷ rest)) z ∙ names_turn source k names w rest);
+        enough = omega (arith, c.enough, z);
+      }
+
+  names_complete : {names : List (List ℕ)} {ts rest : List Lexeme} → SpellsNames source [] names ts rest → Names names ts rest
+  names_complete (one_name {rest = rest}) = record { turns = length rest; same = refl; enough = omega arith }
+  names_complete (more_names {names = names} {w = w} {ts = ts} {rest = rest} h) = next_name names w ts rest (names_complete h)
+
+  names_read : (names : List (List ℕ)) (ts us : List Lexeme) → SpellsNames source [] names ts (Close ∷ us) → all_names_at source ts ≡ Some (names, Close ∷ us)
+  names_read names ts us h = let c = names_complete h in c.same ∙ names_stop source c.turns names (Close ∷ us) refl
+
+  text_pars : {text : List ℕ} {ts rest : List Lexeme} → SpellsText source Pars text ts rest → (w : Span) × (quoted_at (after_pars ts) ≡ Some (w, rest)) × (text ≡ bytes_at source w)
+  text_pars (plain_text {w = w}) = (w, refl, refl)
+  text_pars (labelled {w = w}) = (w, refl, refl)
+
+  text_code : {text : List ℕ} {ts rest : List Lexeme} → SpellsText source Code text ts rest → (w : Span) × (quoted_at (after_code ts) ≡ Some (w, rest)) × (text ≡ bytes_at source w)
+  text_code (plain_text {w = w}) = (w, refl, refl)
+  text_code (labelled {w = w}) = (w, refl, refl)
+
+  define_complete : (w : Span) (signature code : List ℕ) (ts us : List Lexeme) → SpellsText source Pars signature ts (Comma ∷ us) → SpellsText source Code code us (Close ∷ []) →
+      define_at source (Open ∷ Quoted w ∷ Comma ∷ ts) ≡ Some (pp_def (bytes_at source w) signature code)
+  define_complete w signature code ts us h k =
+      let a = text_pars h in
+      let b = text_code k in
+      let last : code_at source w a.0 us ≡ Some (texts_at source w a.0 b.0) = rw b.1 in
+      let whole' : define_at source (Open ∷ Quoted w ∷ Comma ∷ ts) ≡ Some (texts_at source w a.0 b.0) = rw a.1 last in
+      whole' ∙ ap (λ s. Some (pp_def (bytes_at source w) s (bytes_at source b.0))) (sym a.2) ∙ ap (λ c. Some (pp_def (bytes_at source w) signature c)) (sym b.2)
+
+  watch_complete : (w : Span) (m : ℕ) (z : ℤ) → signed m ≡ Some z → watch_at source (Name w ∷ Comma ∷ Number m ∷ []) ≡ Some (watch (bytes_at source w) m)
+  watch_complete w m z e = rw e
+
+unwatch_complete : (m : ℕ) (z : ℤ) → signed m ≡ Some z → option_map unwatch (slot_at (Number m ∷ [])) ≡ Some (unwatch m)
+unwatch_complete m z e = rw e
+
+-- a postfix form is an expression
+as_expr : {source : List ℕ} {t : Tree} {ts rest : List Lexeme} → Spells source (a_postfix t) ts rest → Spells source (an_expr 7 t) ts rest
+as_expr h = same (same (same (same (same (same (same (plain h)))))))
+
+ends_sever : (l : ℕ) (us : List Lexeme) → Ends l (Arrow ∷ Keyword Sever ∷ us)
+ends_sever l us = record { no_open = refl; no_method = refl; no_operator = λ j le. refl }
+
+ends_info : (l : ℕ) (us : List Lexeme) → Ends l (Arrow ∷ Keyword Info ∷ us)
+ends_info l us = record { no_open = refl; no_method = refl; no_operator = λ j le. refl }
+
+module _ (source : List ℕ) (n : ℕ) where
+  abbrev f : Kind → List Lexeme → Read Tree
+  f = reader source n
+
+  ended_complete : (t : Tree) (ts : List Lexeme) → length ts < n → Spells source (an_expr 7 t) ts [] → ended_at source f ts ≡ Some t
+  unfolding ended_at
+  ended_complete t ts lt h = rw (read_whole source n t ts [] (complete source h) lt (ends_nothing 7))
+
+  not_empty : (a b : Tree) (t : Lexeme) (us : List Lexeme) → ◌≡◌ {A = Read Tree} (Some (a, [])) (Some (b, t ∷ us)) → ⊥
+  not_empty a b t us e = let same' : ◌≡◌ {A = List Lexeme} [] (t ∷ us) = ap (λ x. x.1) (some_inj e) in absurd (omega (arith, ap length same'))
+
+  not_severed : (t : Tree) (ts : List Lexeme) → length ts < n → Spells source (an_expr 7 t) ts [] → severed_at source f ts ≡ None
+  not_severed t ts lt h = of_read (severed_at source f ts) refl
+    where
+      of_read : (o : Option Tree) → severed_at source f ts ≡ o → o ≡ None
+      of_read None e = refl
+      of_read (Some u) e =
+          let sev = severed_sound source n ts u e in
+          absurd (not_empty t u Arrow (Keyword Sever ∷ sev.left)
+          (sym (read_whole source n t ts [] (complete source h) lt (ends_nothing 7))
+          ∙ read_whole source n u ts (Arrow ∷ Keyword Sever ∷ sev.left) (complete source (as_expr sev.spelled)) lt (ends_sever 7 sev.left)))
+
+  not_informed : (t : Tree) (ts : List Lexeme) → length ts < n → Spells source (an_expr 7 t) ts [] → info_at source f ts ≡ None
+  not_informed t ts lt h = of_read (info_at source f ts) refl
+    where
+      of_read : (o : Option Tree) → info_at source f ts ≡ o → o ≡ None
+      of_read None e = refl
+      of_read (Some u) e =
+          let inf = info_sound source n ts u e in
+          absurd (not_empty t u Arrow (Keyword Info ∷ inf.left)
+          (sym (read_whole source n t ts [] (complete source h) lt (ends_nothing 7))
+          ∙ read_whole source n u ts (Arrow ∷ Keyword Info ∷ inf.left) (complete source (as_expr inf.spelled)) lt (ends_info 7 inf.left)))
+
+  severed_complete : (t : Tree) (ts us : List Lexeme) → length ts < n → Spells source (a_postfix t) ts (Arrow ∷ Keyword Sever ∷ us) → SpellsBrackets us →
+      severed_at source f ts ≡ Some t
+  unfolding severed_at
+  severed_complete t ts us lt h b =
+      rw (read_postfix source n t ts (Arrow ∷ Keyword Sever ∷ us) (complete source h n (omega arith) refl) refl) (rw (brackets_read b))
+
+  informed_complete : (t : Tree) (ts us : List Lexeme) → length ts < n → Spells source (a_postfix t) ts (Arrow ∷ Keyword Info ∷ us) → SpellsBrackets us →
+      info_at source f ts ≡ Some t
+  unfolding info_at
+  informed_complete t ts us lt h b =
+      rw (read_postfix source n t ts (Arrow ∷ Keyword Info ∷ us) (complete source h n (omega arith) refl) refl) (rw (brackets_read b))
+
+  word_step : (t : Tree) → called_step source f true (t, []) ≡ Some t
+  unfolding methods_at
+  word_step t = refl
+
+  called_by_word : (t : Tree) (kind : WordKind) (w : Span) (ts : List Lexeme) → primary_at source f (Word kind w ∷ ts) ≡ Some (t, []) →
+      called_at source f (Word kind w ∷ ts) ≡ Some t
+  unfolding called_at
+  called_by_word t kind w ts h = rw h (word_step t)
+
+  or_less : (b : Bool) (x y : ℕ) → x < y → (b || nat_lt x y) ≡ true
+  or_less true x y lt = refl
+  or_less false x y lt = lt-ltb x y lt
+
+  called_by_method : (start t : Tree) (ts left : List Lexeme) → primary_at source f ts ≡ Some (start, left) →
+      methods_at source f (length left) start left ≡ Some (t, []) → 0 < length left → called_at source f ts ≡ Some t
+  unfolding called_at
+  called_by_method start t ts left h k lt = rw h (rw k (rw (or_less (begins_word ts) 0 (length left) lt)))
+
+  called_complete : {t : Tree} {ts : List Lexeme} → SpellsCalled source t ts → length ts < n → called_at source f ts ≡ Some t
+  called_complete (by_word {kind = kind} {w = w} {args = args} {ts = ts} h) lt =
+      called_by_word (call (bytes_at source w) args) kind w (Open ∷ ts) (complete source (called h) n (omega arith))
+  called_complete (by_method {t = t} {kind = kind} {w = w} {args = args} {ts = ts} {us = us} h k) lt =
+      let m = complete source h n (omega arith) refl in
+      let le = shorter h in
+      let args_read : maybe_at source f (value none t) us ≡ Some (args, []) = complete source k n (omega arith) refl in
+      of_turns m args_read m.turns refl
+    where
+      of_turns : (m : Methods source n t ts (Arrow ∷ Word kind w ∷ us)) → maybe_at source f (value none t) us ≡ Some (args, []) →
+          (j : ℕ) → m.turns ≡ j → called_at source f ts ≡ Some (call (bytes_at source w) args)
+      of_turns m a zero z = absurd (omega (arith, m.enough, z))
+      of_turns m a (suc j) z =
+          called_by_method m.start (call (bytes_at source w) args) ts m.left m.begun
+          (m.same ∙ (ap (λ i. methods_at source f i t (Arrow ∷ Word kind w ∷ us)) z
+          ∙ (methods_turn source f j t (Arrow ∷ Word kind w ∷ us) us [] w args refl a ∙ methods_stop source f j (call (bytes_at source w) args) [] refl)))
+          (omega (arith, m.within_left))
+
+  bind_value_read : (name : List ℕ) (t : Tree) (ts : List Lexeme) → severed_at source f ts ≡ None → ended_at source f ts ≡ Some t →
+      bind_at source f name ts ≡ Some (bind name t false)
+  bind_value_read name t ts h k = rw h (rw k)
+
+  bind_severed_read : (name : List ℕ) (t : Tree) (ts : List Lexeme) → severed_at source f ts ≡ Some t → bind_at source f name ts ≡ Some (bind name t true)
+  bind_severed_read name t ts h = rw h
+
+  bind_list_read : (names : List (List ℕ)) (t : Tree) (ts us : List Lexeme) → all_names_at source ts ≡ Some (names, Close ∷ Equals ∷ us) →
+      called_at source f us ≡ Some t → bind_list_at source f ts ≡ Some (bind_list names t)
+  unfolding bind_list_at
+  bind_list_read names t ts us h k = rw h (rw k)
+
+  -- what a binding is read as, behind `my` and without
+  record Bound (s : StatementTree) (ts : List Lexeme) : Type 0 where
+    behind_my : binding_at source f ts ≡ Some s
+    alone : statement_at source f ts ≡ Some s
+
+  bound_name : (w : Span) (ts : List Lexeme) (s : StatementTree) → bind_at source f (bytes_at source w) ts ≡ Some s → Bound s (Name w ∷ Equals ∷ ts)
+  unfolding binding_at statement_at named_at
+  bound_name w ts s h = record { behind_my = h; alone = h }
+
+  bound_list : (ts : List Lexeme) (s : StatementTree) → bind_list_at source f ts ≡ Some s → Bound s (Open ∷ ts)
+  unfolding binding_at statement_at
+  bound_list ts s h = record { behind_my = h; alone = h }
+
+  names_shorter : {front names : List (List ℕ)} {ts rest : List Lexeme} → SpellsNames source front names ts rest → length rest ≤ length ts
+  names_shorter one_name = omega arith
+  names_shorter (more_names h) = let a = names_shorter h in omega arith
+
+  binding_complete : {s : StatementTree} {ts : List Lexeme} → SpellsBinding source s ts → length ts ≤ n → Bound s ts
+  binding_complete (binds_value {w = w} {t = t} {ts = ts} h) le =
+      bound_name w ts (bind (bytes_at source w) t false)
+      (bind_value_read (bytes_at source w) t ts (not_severed t ts (omega arith) h) (ended_complete t ts (omega arith) h))
+  binding_complete (binds_severed {w = w} {t = t} {ts = ts} {us = us} h b) le =
+      bound_name w ts (bind (bytes_at source w) t true)
+      (bind_severed_read (bytes_at source w) t ts (severed_complete t ts us (omega arith) h b))
+  binding_complete (binds_names {names = names} {t = t} {ts = ts} {us = us} h c) le =
+      let a = names_shorter h in
+      bound_list ts (bind_list names t) (bind_list_read names t ts us (names_read source names ts (Equals ∷ us) h) (called_complete c (omega arith)))
+
+  -- what no view begins with
+  record Viewing (ts : List Lexeme) : Type 0 where
+    equals : after_equals ts ≡ None
+    severs' : after_sever ts ≡ None
+    reshapes' : after_reshape ts ≡ None
+
+  views_begin : {front views : List View} {ts rest : List Lexeme} → SpellsViews source front views ts rest → Viewing rest → Viewing ts
+  views_begin no_views v = v
+  views_begin (one_view h k) v = views_begin h (record { equals = refl; severs' = refl; reshapes' = refl })
+
+  views_shorter : {front views : List View} {ts rest : List Lexeme} → SpellsViews source front views ts rest → length rest ≤ length ts
+  views_shorter no_views = omega arith
+  views_shorter (one_view h k) = let a = views_shorter h in let b = shorter k in omega arith
+
+  views_stop : (k : ℕ) (views : List View) (ts : List Lexeme) → view_at ts ≡ None → views_at source f k views ts ≡ Some (views, ts)
+  unfolding views_at
+  views_stop zero views ts e = refl
+  views_stop (suc k) views ts e = rw e
+
+  views_turn : (k : ℕ) (views : List View) (w : Span) (args : Args) (us rest : List Lexeme) → maybe_at source f none us ≡ Some (args, rest) →
+      views_at source f (suc k) views (Arrow ∷ Word IsView w ∷ us) ≡ views_at source f k (views ++ (bytes_at source w, args) ∷ []) rest
+  unfolding views_at
+  views_turn k views w args us rest h = rw h
+
+  record Views (front views : List View) (ts rest : List Lexeme) : Type 0 where
+    turns : ℕ
+    same : views_at source f (length ts) front ts ≡ views_at source f turns views rest
+    enough : length rest ≤ turns
+
+  next_view : (front views : List View) (w : Span) (args : Args) (ts us rest : List Lexeme) → Views front views ts (Arrow ∷ Word IsView w ∷ us) →
+      maybe_at source f none us ≡ Some (args, rest) → length rest ≤ length us → Views front (views ++ (bytes_at source w, args) ∷ []) ts rest
+  next_view front views w args ts us rest c h le = of_turns c.turns refl
+    where
+      of_turns : (k : ℕ) → c.turns ≡ k → Views front (views ++ (bytes_at source w, args) ∷ []) ts rest
+      of_turns zero z = absurd (omega (arith, c.enough, z))
+      of_turns (suc k) z = record {
+        turns = k;
+        same = c.same ∙ (ap (λ j. views_at source f j views (Arrow ∷ Word IsView w ∷ us)) z ∙ views_turn k views w args us rest h);
+        enough = omega (arith, c.enough, z);
+      }
+
+  views_complete : {front views : List View} {ts rest : List Lexeme} → SpellsViews source front views ts rest → length ts ≤ n → after_open rest ≡ None →
+      Views front views ts rest
+  views_complete (no_views {rest = rest}) le e = record { turns = length rest; same = refl; enough = omega arith }
+  views_complete (one_view {front = front} {views = views} {w = w} {args = args} {ts = ts} {us = us} {rest = rest} h k) le e =
+      let a = views_shorter h in
+      next_view front views w args ts us rest (views_complete h le refl) (complete source k n (omega arith) e) (shorter k)
+
+  assignment_read : (name : List ℕ) (views : List View) (op : AssignOp) (t : Tree) (ts us : List Lexeme) →
+      views_at source f (length ts) [] ts ≡ Some (views, Assign op ∷ us) → ended_at source f us ≡ Some t → assignment_at source f name ts ≡ Some (assign name views op t)
+  unfolding assignment_at
+  assignment_read name views op t ts us h k = rw h (rw k)
+
+  named_assignment : (w : Span) (ts : List Lexeme) (s : StatementTree) → Viewing ts → assignment_at source f (bytes_at source w) ts ≡ Some s →
+      statement_at source f (Name w ∷ ts) ≡ Some s
+  unfolding statement_at named_at
+  named_assignment w ts s v h = rw v.equals (rw v.severs' (rw v.reshapes' h))
+
+  named_sever : (w : Span) (us : List Lexeme) → is_brackets us ≡ true → statement_at source f (Name w ∷ Arrow ∷ Keyword Sever ∷ us) ≡ Some (sever (bytes_at source w))
+  unfolding statement_at named_at
+  named_sever w us b = rw b
+
+  named_reshape : (w : Span) (args : Args) (ts : List Lexeme) → closed_at source f none ts ≡ Some (args, []) →
+      statement_at source f (Name w ∷ Arrow ∷ Keyword Reshape ∷ Open ∷ ts) ≡ Some (reshape (bytes_at source w) args)
+  unfolding statement_at named_at
+  named_reshape w args ts h = rw h
+
+  my_read : (ts : List Lexeme) (s : StatementTree) → binding_at source f ts ≡ Some s → statement_at source f (Keyword My ∷ ts) ≡ Some s
+  unfolding statement_at
+  my_read ts s h = h
+
+  show_text_read : (w : Span) → statement_at source f (Keyword Print ∷ Quoted w ∷ []) ≡ Some (show_text (bytes_at source w))
+  unfolding statement_at show_at
+  show_text_read w = refl
+
+  show_read : (t : Tree) (ts : List Lexeme) → quoted_at ts ≡ None → info_at source f ts ≡ None → ended_at source f ts ≡ Some t →
+      statement_at source f (Keyword Print ∷ ts) ≡ Some (show t false)
+  unfolding statement_at show_at
+  show_read t ts q i e = rw q (rw i (rw e))
+
+  show_info_read : (t : Tree) (ts : List Lexeme) → quoted_at ts ≡ None → info_at source f ts ≡ Some t → statement_at source f (Keyword Print ∷ ts) ≡ Some (show t true)
+  unfolding statement_at show_at
+  show_info_read t ts q i = rw q (rw i)
+
+  keyword_reads : (ts : List Lexeme) → (statement_at source f (Keyword Undef ∷ ts) ≡ undef_at source ts)
+      × (statement_at source f (Keyword Vars ∷ ts) ≡ at_end vars ts)
+      × (statement_at source f (Keyword PpDef ∷ ts) ≡ define_at source ts)
+      × (statement_at source f (Keyword Watch ∷ ts) ≡ watch_at source ts)
+      × (statement_at source f (Keyword Unwatch ∷ ts) ≡ option_map unwatch (slot_at ts))
+  unfolding statement_at
+  keyword_reads ts = (refl, refl, refl, refl, refl)
+
+  -- a spelled statement is read
+  pub statement_complete : {s : StatementTree} {ts : List Lexeme} → SpellsStatement source s ts → length ts ≤ n → statement_at source f ts ≡ Some s
+  statement_complete (binds h) le = (binding_complete h le).alone
+  statement_complete (my_binds {s = s} {ts = ts} h) le = my_read ts s (binding_complete h (omega arith)).behind_my
+  statement_complete (assigns {w = w} {views = views} {op = op} {t = t} {ts = ts} {us = us} v h) le =
+      let a = views_shorter v in
+      let c = views_complete v (omega arith) refl in
+      named_assignment w ts (assign (bytes_at source w) views op t) (views_begin v (record { equals = refl; severs' = refl; reshapes' = refl }))
+      (assignment_read (bytes_at source w) views op t ts us (c.same ∙ views_stop c.turns views (Assign op ∷ us) refl) (ended_complete t us (omega arith) h))
+  statement_complete (shows_text {w = w}) le = show_text_read w
+  statement_complete (shows {t = t} {ts = ts} h) le =
+      show_read t ts (begins h).quoted (not_informed t ts (omega arith) h) (ended_complete t ts (omega arith) h)
+  statement_complete (shows_info {t = t} {ts = ts} {us = us} h b) le =
+      show_info_read t ts (begins h).opening.quoted (informed_complete t ts us (omega arith) h b)
+  statement_complete (severs {w = w} {us = us} b) le = named_sever w us (brackets_read b)
+  statement_complete (reshapes {w = w} {args = args} {ts = ts} h) le = named_reshape w args ts (complete source h n (omega arith))
+  statement_complete (undefs {w = w}) le = (keyword_reads (Name w ∷ [])).0
+  statement_complete lists_names le = (keyword_reads []).1
+  statement_complete (defines {w = w} {signature = signature} {code = code} {ts = ts} {us = us} h k) le =
+      (keyword_reads (Open ∷ Quoted w ∷ Comma ∷ ts)).2 ∙ define_complete source w signature code ts us h k
+  statement_complete (watches {w = w} {n = m} {z = z} e) le = (keyword_reads (Name w ∷ Comma ∷ Number m ∷ [])).3 ∙ watch_complete source w m z e
+  statement_complete (unwatches {n = m} {z = z} e) le = (keyword_reads (Number m ∷ [])).4 ∙ unwatch_complete m z e
+
+-- a statement is spelled exactly where it is read
+pub statement_found : (source : List ℕ) (ts : List Lexeme) (s : StatementTree) → SpellsStatement source s ts → read_statement source ts ≡ Some s
+statement_found source ts s h = statement_complete source (suc (length ts)) h (omega arith)
+
+pub statement_spelled : (source : List ℕ) (ts : List Lexeme) (s : StatementTree) → read_statement source ts ≡ Some s → SpellsStatement source s ts
+statement_spelled source ts s h = statement_sound source (suc (length ts)) ts s (omega arith) h
+
+-- lexemes are spelled by at most one statement
+pub one_statement_lem : (source : List ℕ) (ts : List Lexeme) (a b : StatementTree) → SpellsStatement source a ts → SpellsStatement source b ts → a ≡ b
+one_statement_lem source ts a b h k = some_inj (sym (statement_found source ts a h) ∙ statement_found source ts b k)

@@ -1,0 +1,413 @@
+-- What the reader of statements takes is spelled.
+use Rattle.std.proofs.Common.{◌≡◌, ℕ, ℤ, zero, suc, ◌<◌, ◌≤◌, List, [], ◌∷◌, ◌++◌, length, Bool, true, false, ◌||◌, nat_lt, Option, Some, None, option_map, option_and_then, if◌then◌else◌, refl, ap, sym, ◌∙◌, subst, arith, true≢false, ltb-true}
+use Rattle.pdl_lexemes.specs.declared.AssignOp.{AssignOp}
+use Rattle.pdl_lexemes.specs.declared.Span.{Span}
+use Rattle.pdl_lexemes.specs.declared.WordKind.{WordKind}
+use Rattle.pdl_lexemes.specs.declared.WordKind.TheVariants.{View as IsView, Pars, Code}
+use Rattle.pdl_lexemes.specs.declared.Keyword.TheVariants.{My, Print, Undef, Vars, PpDef, Watch, Unwatch, Info, Sever, Reshape}
+use Rattle.pdl_lexemes.specs.declared.Lexeme.{Lexeme}
+use Rattle.pdl_lexemes.specs.declared.Lexeme.TheVariants.{Name, Keyword, Word, Number, Quoted, Open, Close, Comma, Equals, Arrow, FatArrow, Assign}
+use Rattle.pdl_lexemes.specs.Bytes.{bytes_at}
+use Rattle.pdl_lexemes.specs.Lists.{signed}
+use Rattle.pdl_lexemes.specs.ListReading.{choose, after_comma}
+use Rattle.pdl_lexemes.proofs.Options.{some_inj, none_some, then_elim, map_elim, choose_elim}
+use Rattle.pdl_lexemes.proofs.ListSound.{comma_is}
+use Rattle.pdl_syntax.specs.Tree.{Tree, Args, call, none, value}
+use Rattle.pdl_syntax.specs.Grammar.{Spells, Part, an_expr, a_postfix, a_primary, closed_args, maybe_args, bare, method, a_number, a_name, list, round_list, called, round}
+use Rattle.pdl_syntax.specs.Reading.{Read, Kind, whole, operand, after_open, after_close, after_arrow, quoted_at, maybe_at, closed_at, primary_at, methods_at, postfix_at, reader}
+use Rattle.pdl_syntax.specs.StatementTree.{StatementTree, View, bind, bind_list, assign, show, show_text, sever, reshape, undef, vars, pp_def, watch, unwatch}
+use Rattle.pdl_syntax.specs.Statements.{SpellsBrackets, no_brackets, brackets, SpellsNames, one_name, more_names, SpellsViews, no_views, one_view, SpellsText, plain_text, labelled, SpellsCalled, by_word, by_method, SpellsBinding, binds_value, binds_severed, binds_names, SpellsStatement, binds, my_binds, assigns, shows_text, shows, shows_info, severs, reshapes, undefs, lists_names, defines, watches, unwatches}
+use Rattle.pdl_syntax.specs.StatementReading.{after_equals, word_sever, after_sever, word_info, after_info, word_reshape, after_reshape, name_at, view_word, view_at, assign_at, slot_at, at_end, is_brackets, begins_word, after_pars, after_code, texts_at, code_at, signature_at, define_at, undef_at, watch_at, names_at, all_names_at, ended_at, severed_at, info_at, called_step, called_at, bind_at, bind_names, bind_list_at, views_at, assign_value, assignment_at, reshape_at, sever_at, named_at, bind_name, binding_at, value_at, show_at, statement_at}
+use Rattle.pdl_syntax.proofs.Peeks.{open_is, close_is, arrow_is, quoted_is}
+use Rattle.pdl_syntax.proofs.Sound.{part_of, closed_sound, maybe_sound, primary_sound, methods_sound, postfix_sound, reader_sound_expr}
+use Rattle.pdl_syntax.proofs.Complete.{complete}
+
+equals_is : (ts : List Lexeme) {us : List Lexeme} → after_equals ts ≡ Some us → ts ≡ Equals ∷ us
+equals_is [] e = absurd (none_some e)
+equals_is (Equals ∷ ts) e = ap (λ x. Equals ∷ x) (some_inj e)
+equals_is (_ ∷ ts) e = absurd (none_some e)
+
+word_sever_is : (ts : List Lexeme) {us : List Lexeme} → word_sever ts ≡ Some us → ts ≡ Keyword Sever ∷ us
+word_sever_is [] e = absurd (none_some e)
+word_sever_is (Keyword Sever ∷ ts) e = ap (λ x. Keyword Sever ∷ x) (some_inj e)
+word_sever_is (Keyword _ ∷ ts) e = absurd (none_some e)
+word_sever_is (_ ∷ ts) e = absurd (none_some e)
+
+word_info_is : (ts : List Lexeme) {us : List Lexeme} → word_info ts ≡ Some us → ts ≡ Keyword Info ∷ us
+word_info_is [] e = absurd (none_some e)
+word_info_is (Keyword Info ∷ ts) e = ap (λ x. Keyword Info ∷ x) (some_inj e)
+word_info_is (Keyword _ ∷ ts) e = absurd (none_some e)
+word_info_is (_ ∷ ts) e = absurd (none_some e)
+
+word_reshape_is : (ts : List Lexeme) {us : List Lexeme} → word_reshape ts ≡ Some us → ts ≡ Keyword Reshape ∷ us
+word_reshape_is [] e = absurd (none_some e)
+word_reshape_is (Keyword Reshape ∷ ts) e = ap (λ x. Keyword Reshape ∷ x) (some_inj e)
+word_reshape_is (Keyword _ ∷ ts) e = absurd (none_some e)
+word_reshape_is (_ ∷ ts) e = absurd (none_some e)
+
+sever_is : (ts : List Lexeme) {us : List Lexeme} → after_sever ts ≡ Some us → ts ≡ Arrow ∷ Keyword Sever ∷ us
+sever_is ts {us = us} e =
+    then_elim (ts ≡ Arrow ∷ Keyword Sever ∷ us) word_sever (after_arrow ts) e
+    (λ vs h k. arrow_is ts h ∙ ap (λ x. Arrow ∷ x) (word_sever_is vs k))
+
+info_is : (ts : List Lexeme) {us : List Lexeme} → after_info ts ≡ Some us → ts ≡ Arrow ∷ Keyword Info ∷ us
+info_is ts {us = us} e =
+    then_elim (ts ≡ Arrow ∷ Keyword Info ∷ us) word_info (after_arrow ts) e
+    (λ vs h k. arrow_is ts h ∙ ap (λ x. Arrow ∷ x) (word_info_is vs k))
+
+reshape_is : (ts : List Lexeme) {us : List Lexeme} → after_reshape ts ≡ Some us → ts ≡ Arrow ∷ Keyword Reshape ∷ Open ∷ us
+reshape_is ts {us = us} e =
+    then_elim (ts ≡ Arrow ∷ Keyword Reshape ∷ Open ∷ us) after_open (option_and_then word_reshape (after_arrow ts)) e
+    (λ ws g k. then_elim (ts ≡ Arrow ∷ Keyword Reshape ∷ Open ∷ us) word_reshape (after_arrow ts) g
+    (λ vs h l. arrow_is ts h ∙ ap (λ x. Arrow ∷ x) (word_reshape_is vs l ∙ ap (λ x. Keyword Reshape ∷ x) (open_is ws k))))
+
+name_is : (ts : List Lexeme) (x : Span × List Lexeme) → name_at ts ≡ Some x → ts ≡ Name x.0 ∷ x.1
+name_is [] x e = absurd (none_some e)
+name_is (Name w ∷ ts) x e = ap (λ y. Name y.0 ∷ y.1) (some_inj e)
+name_is (_ ∷ ts) x e = absurd (none_some e)
+
+view_word_is : (ts : List Lexeme) (x : Span × List Lexeme) → view_word ts ≡ Some x → ts ≡ Word IsView x.0 ∷ x.1
+view_word_is [] x e = absurd (none_some e)
+view_word_is (Word IsView w ∷ ts) x e = ap (λ y. Word IsView y.0 ∷ y.1) (some_inj e)
+view_word_is (Word _ w ∷ ts) x e = absurd (none_some e)
+view_word_is (_ ∷ ts) x e = absurd (none_some e)
+
+view_is : (ts : List Lexeme) (x : Span × List Lexeme) → view_at ts ≡ Some x → ts ≡ Arrow ∷ Word IsView x.0 ∷ x.1
+view_is ts x e =
+    then_elim (ts ≡ Arrow ∷ Word IsView x.0 ∷ x.1) view_word (after_arrow ts) e
+    (λ vs h k. arrow_is ts h ∙ ap (λ y. Arrow ∷ y) (view_word_is vs x k))
+
+assign_is : (ts : List Lexeme) (x : AssignOp × List Lexeme) → assign_at ts ≡ Some x → ts ≡ Assign x.0 ∷ x.1
+assign_is [] x e = absurd (none_some e)
+assign_is (Assign op ∷ ts) x e = ap (λ y. Assign y.0 ∷ y.1) (some_inj e)
+assign_is (_ ∷ ts) x e = absurd (none_some e)
+
+-- a number stands at the end
+record SlotAt (ts : List Lexeme) (n : ℕ) : Type 0 where
+  number : ℤ
+  fits : signed n ≡ Some number
+  is : ts ≡ Number n ∷ []
+
+slot_is : (ts : List Lexeme) {n : ℕ} → slot_at ts ≡ Some n → SlotAt ts n
+slot_is [] e = absurd (none_some e)
+slot_is (Number m ∷ []) {n = n} e =
+    map_elim (SlotAt (Number m ∷ []) n) (λ z. m) (signed m) e
+    (λ z h same. subst (SlotAt (Number m ∷ [])) same (record { number = z; fits = h; is = refl }))
+slot_is (Number m ∷ t ∷ ts) e = absurd (none_some e)
+slot_is (_ ∷ ts) e = absurd (none_some e)
+
+record EndIs (A : Type 0) (x : A) (ts : List Lexeme) (y : A) : Type 0 where
+  empty : ts ≡ []
+  same : x ≡ y
+
+end_is : {A : Type 0} (x : A) (ts : List Lexeme) {y : A} → at_end x ts ≡ Some y → EndIs A x ts y
+end_is x [] e = record { empty = refl; same = some_inj e }
+end_is x (t ∷ ts) e = absurd (none_some e)
+
+test_elim : {A : Type 0} (P : Type 0) (b : Bool) (o : Option A) {y : A} → (if b then o else None) ≡ Some y → (b ≡ true → o ≡ Some y → P) → P
+test_elim P true o e h = h refl e
+test_elim P false o e h = absurd (none_some e)
+
+brackets_are : (ts : List Lexeme) → is_brackets ts ≡ true → SpellsBrackets ts
+brackets_are [] e = no_brackets
+brackets_are (Open ∷ []) e = absurd (true≢false (sym e))
+brackets_are (Open ∷ Close ∷ []) e = brackets
+brackets_are (Open ∷ Close ∷ t ∷ ts) e = absurd (true≢false (sym e))
+brackets_are (Open ∷ _ ∷ ts) e = absurd (true≢false (sym e))
+brackets_are (_ ∷ ts) e = absurd (true≢false (sym e))
+
+-- a string is read behind its label, if one stands there
+pars_text : (source : List ℕ) (ts : List Lexeme) (x : Span × List Lexeme) → quoted_at (after_pars ts) ≡ Some x → SpellsText source Pars (bytes_at source x.0) ts x.1
+pars_text source ts x e = of_front ts (quoted_is (after_pars ts) x e)
+  where
+    of_front : (us : List Lexeme) → after_pars us ≡ Quoted x.0 ∷ x.1 → SpellsText source Pars (bytes_at source x.0) us x.1
+    of_front (Word Pars v ∷ FatArrow ∷ us) h = subst (λ vs. SpellsText source Pars (bytes_at source x.0) (Word Pars v ∷ FatArrow ∷ vs) x.1) (sym h) labelled
+    of_front us h = subst (λ vs. SpellsText source Pars (bytes_at source x.0) vs x.1) (sym h) plain_text
+
+code_text : (source : List ℕ) (ts : List Lexeme) (x : Span × List Lexeme) → quoted_at (after_code ts) ≡ Some x → SpellsText source Code (bytes_at source x.0) ts x.1
+code_text source ts x e = of_front ts (quoted_is (after_code ts) x e)
+  where
+    of_front : (us : List Lexeme) → after_code us ≡ Quoted x.0 ∷ x.1 → SpellsText source Code (bytes_at source x.0) us x.1
+    of_front (Word Code v ∷ FatArrow ∷ us) h = subst (λ vs. SpellsText source Code (bytes_at source x.0) (Word Code v ∷ FatArrow ∷ vs) x.1) (sym h) labelled
+    of_front us h = subst (λ vs. SpellsText source Code (bytes_at source x.0) vs x.1) (sym h) plain_text
+
+module _ (source : List ℕ) where
+  abbrev Stated : List Lexeme → StatementTree → Type 0
+  Stated ts s = SpellsStatement source s ts
+
+  code_sound : (name signature : Span) (ts front : List Lexeme) (s : StatementTree) → code_at source name signature ts ≡ Some s →
+      SpellsText source Pars (bytes_at source signature) front (Comma ∷ ts) →
+      Stated (Keyword PpDef ∷ Open ∷ Quoted name ∷ Comma ∷ front) s
+  code_sound name signature ts front s e sig =
+      then_elim (Stated (Keyword PpDef ∷ Open ∷ Quoted name ∷ Comma ∷ front) s)
+      (λ c. option_and_then (at_end (texts_at source name signature c.0)) (after_close c.1)) (quoted_at (after_code ts)) e
+      (λ c h k. then_elim (Stated (Keyword PpDef ∷ Open ∷ Quoted name ∷ Comma ∷ front) s) (at_end (texts_at source name signature c.0)) (after_close c.1) k
+      (λ us l m. let end = end_is (texts_at source name signature c.0) us m in
+      subst (Stated (Keyword PpDef ∷ Open ∷ Quoted name ∷ Comma ∷ front)) end.same
+      (defines sig (subst (SpellsText source Code (bytes_at source c.0) ts) (close_is c.1 l ∙ ap (λ x. Close ∷ x) end.empty) (code_text source ts c h)))))
+
+  signature_sound : (name : Span) (ts : List Lexeme) (s : StatementTree) → signature_at source name ts ≡ Some s →
+      Stated (Keyword PpDef ∷ Open ∷ Quoted name ∷ Comma ∷ ts) s
+  signature_sound name ts s e =
+      then_elim (Stated (Keyword PpDef ∷ Open ∷ Quoted name ∷ Comma ∷ ts) s)
+      (λ c. option_and_then (code_at source name c.0) (after_comma c.1)) (quoted_at (after_pars ts)) e
+      (λ c h k. then_elim (Stated (Keyword PpDef ∷ Open ∷ Quoted name ∷ Comma ∷ ts) s) (code_at source name c.0) (after_comma c.1) k
+      (λ us l m. code_sound name c.0 us ts s m (subst (SpellsText source Pars (bytes_at source c.0) ts) (comma_is c.1 l) (pars_text source ts c h))))
+
+  define_sound : (ts : List Lexeme) (s : StatementTree) → define_at source ts ≡ Some s → Stated (Keyword PpDef ∷ ts) s
+  define_sound ts s e =
+      then_elim (Stated (Keyword PpDef ∷ ts) s)
+      (λ us. option_and_then (λ n. option_and_then (signature_at source n.0) (after_comma n.1)) (quoted_at us)) (after_open ts) e
+      (λ us h k. then_elim (Stated (Keyword PpDef ∷ ts) s) (λ n. option_and_then (signature_at source n.0) (after_comma n.1)) (quoted_at us) k
+      (λ n l m. then_elim (Stated (Keyword PpDef ∷ ts) s) (signature_at source n.0) (after_comma n.1) m
+      (λ vs c d. subst (λ xs. Stated (Keyword PpDef ∷ xs) s)
+      (sym (open_is ts h ∙ ap (λ x. Open ∷ x) (quoted_is us n l ∙ ap (λ x. Quoted n.0 ∷ x) (comma_is n.1 c))))
+      (signature_sound n.0 vs s d))))
+
+  undef_sound : (ts : List Lexeme) (s : StatementTree) → undef_at source ts ≡ Some s → Stated (Keyword Undef ∷ ts) s
+  undef_sound ts s e =
+      then_elim (Stated (Keyword Undef ∷ ts) s) (λ x. at_end (undef (bytes_at source x.0)) x.1) (name_at ts) e
+      (λ x h k. let end = end_is (undef (bytes_at source x.0)) x.1 k in
+      subst (Stated (Keyword Undef ∷ ts)) end.same
+      (subst (λ vs. Stated (Keyword Undef ∷ vs) (undef (bytes_at source x.0))) (sym (name_is ts x h ∙ ap (λ v. Name x.0 ∷ v) end.empty)) undefs))
+
+  watch_sound : (ts : List Lexeme) (s : StatementTree) → watch_at source ts ≡ Some s → Stated (Keyword Watch ∷ ts) s
+  watch_sound ts s e =
+      then_elim (Stated (Keyword Watch ∷ ts) s)
+      (λ x. option_and_then (λ us. option_map (watch (bytes_at source x.0)) (slot_at us)) (after_comma x.1)) (name_at ts) e
+      (λ x h k. then_elim (Stated (Keyword Watch ∷ ts) s) (λ us. option_map (watch (bytes_at source x.0)) (slot_at us)) (after_comma x.1) k
+      (λ us l m. map_elim (Stated (Keyword Watch ∷ ts) s) (watch (bytes_at source x.0)) (slot_at us) m
+      (λ n c same. let slot = slot_is us c in
+      subst (Stated (Keyword Watch ∷ ts)) same
+      (subst (λ vs. Stated (Keyword Watch ∷ vs) (watch (bytes_at source x.0) n))
+      (sym (name_is ts x h ∙ ap (λ v. Name x.0 ∷ v) (comma_is x.1 l ∙ ap (λ v. Comma ∷ v) slot.is))) (watches slot.fits)))))
+
+  unwatch_sound : (ts : List Lexeme) (s : StatementTree) → option_map unwatch (slot_at ts) ≡ Some s → Stated (Keyword Unwatch ∷ ts) s
+  unwatch_sound ts s e =
+      map_elim (Stated (Keyword Unwatch ∷ ts) s) unwatch (slot_at ts) e
+      (λ n c same. let slot = slot_is ts c in
+      subst (Stated (Keyword Unwatch ∷ ts)) same (subst (λ vs. Stated (Keyword Unwatch ∷ vs) (unwatch n)) (sym slot.is) (unwatches slot.fits)))
+
+  abbrev Named : List Lexeme → List (List ℕ) × List Lexeme → Type 0
+  Named ts x = SpellsNames source [] x.0 ts x.1
+
+  names_sound : (k : ℕ) (names : List (List ℕ)) (us ts : List Lexeme) (x : List (List ℕ) × List Lexeme) →
+      names_at source k names us ≡ Some x → Named ts (names, us) → Named ts x
+  unfolding names_at
+  names_sound zero names us ts x e h = subst (Named ts) (some_inj e) h
+  names_sound (suc k) names us ts x e h =
+      choose_elim (Named ts x) (Some (names, us))
+      (λ vs. option_and_then (λ y. names_at source k (names ++ bytes_at source y.0 ∷ []) y.1) (name_at vs)) (after_comma us) e
+      (λ c d. subst (Named ts) (some_inj d) h)
+      (λ vs c d. then_elim (Named ts x) (λ y. names_at source k (names ++ bytes_at source y.0 ∷ []) y.1) (name_at vs) d
+      (λ y m r. names_sound k (names ++ bytes_at source y.0 ∷ []) y.1 ts x r
+      (more_names (subst (SpellsNames source [] names ts) (comma_is us c ∙ ap (λ v. Comma ∷ v) (name_is vs y m)) h))))
+
+  all_names_sound : (ts : List Lexeme) (x : List (List ℕ) × List Lexeme) → all_names_at source ts ≡ Some x → Named ts x
+  all_names_sound ts x e =
+      then_elim (Named ts x) (λ y. names_at source (length y.1) (bytes_at source y.0 ∷ []) y.1) (name_at ts) e
+      (λ y h k. names_sound (length y.1) (bytes_at source y.0 ∷ []) y.1 ts x k
+      (subst (λ vs. SpellsNames source [] (bytes_at source y.0 ∷ []) vs y.1) (sym (name_is ts y h)) one_name))
+
+module _ (source : List ℕ) (n : ℕ) where
+  abbrev f : Kind → List Lexeme → Read Tree
+  f = reader source n
+
+  ended_sound : (ts : List Lexeme) (t : Tree) → ended_at source f ts ≡ Some t → Spells source (an_expr 7 t) ts []
+  unfolding ended_at
+  ended_sound ts t e =
+      then_elim (Spells source (an_expr 7 t) ts []) (λ x. at_end x.0 x.1) (f whole ts) e
+      (λ x h k. let end = end_is x.0 x.1 k in
+      subst (λ u. Spells source (an_expr 7 u) ts []) end.same (subst (Spells source (an_expr 7 x.0) ts) end.empty (reader_sound_expr source n whole ts x h)))
+
+  pub record Severed (ts : List Lexeme) (t : Tree) : Type 0 where
+    pub left : List Lexeme
+    pub spelled : Spells source (a_postfix t) ts (Arrow ∷ Keyword Sever ∷ left)
+    pub brackets_left : SpellsBrackets left
+
+  pub severed_sound : (ts : List Lexeme) (t : Tree) → severed_at source f ts ≡ Some t → Severed ts t
+  unfolding severed_at
+  severed_sound ts t e =
+      then_elim (Severed ts t) (λ x. option_and_then (λ us. if is_brackets us then Some x.0 else None) (after_sever x.1)) (postfix_at source f ts) e
+      (λ x h k. then_elim (Severed ts t) (λ us. if is_brackets us then Some x.0 else None) (after_sever x.1) k
+      (λ us l m. test_elim (Severed ts t) (is_brackets us) (Some x.0) m
+      (λ yes' same. subst (Severed ts) (some_inj same) (record {
+        left = us;
+        spelled = subst (Spells source (a_postfix x.0) ts) (sever_is x.1 l) (postfix_sound source f (reader_sound_expr source n) ts x h);
+        brackets_left = brackets_are us yes';
+      }))))
+
+  pub record Informed (ts : List Lexeme) (t : Tree) : Type 0 where
+    pub left : List Lexeme
+    pub spelled : Spells source (a_postfix t) ts (Arrow ∷ Keyword Info ∷ left)
+    pub brackets_left : SpellsBrackets left
+
+  pub info_sound : (ts : List Lexeme) (t : Tree) → info_at source f ts ≡ Some t → Informed ts t
+  unfolding info_at
+  info_sound ts t e =
+      then_elim (Informed ts t) (λ x. option_and_then (λ us. if is_brackets us then Some x.0 else None) (after_info x.1)) (postfix_at source f ts) e
+      (λ x h k. then_elim (Informed ts t) (λ us. if is_brackets us then Some x.0 else None) (after_info x.1) k
+      (λ us l m. test_elim (Informed ts t) (is_brackets us) (Some x.0) m
+      (λ yes' same. subst (Informed ts) (some_inj same) (record {
+        left = us;
+        spelled = subst (Spells source (a_postfix x.0) ts) (info_is x.1 l) (postfix_sound source f (reader_sound_expr source n) ts x h);
+        brackets_left = brackets_are us yes';
+      }))))
+
+  called_primary : {t : Tree} {ts rest : List Lexeme} → Spells source (a_primary t) ts rest → begins_word ts ≡ true → rest ≡ [] → SpellsCalled source t ts
+  called_primary (a_number h) b e = absurd (true≢false (sym b))
+  called_primary a_name b e = absurd (true≢false (sym b))
+  called_primary (list h) b e = absurd (true≢false (sym b))
+  called_primary (round_list h) b e = absurd (true≢false (sym b))
+  called_primary (called {args = args} {ts = ts} h) b e = by_word (subst (Spells source (closed_args none args) ts) e h)
+  called_primary (round h) b e = absurd (true≢false (sym b))
+
+  -- a call by a word, or behind its first part
+  called_postfix : {t : Tree} {ts rest : List Lexeme} → Spells source (a_postfix t) ts rest → rest ≡ [] →
+      ((u : Tree) → Spells source (a_primary u) ts rest → begins_word ts ≡ true) → SpellsCalled source t ts
+  called_postfix (bare {t = t} h) e word = called_primary h (word t h) e
+  called_postfix (method {t = t} {args = args} {us = us} h k) e word = by_method h (subst (Spells source (maybe_args (value none t) args) us) e k)
+
+  or_true : (a b : Bool) → (a || b) ≡ true → (a ≡ false → b ≡ true)
+  or_true true b e f' = absurd (true≢false f')
+  or_true false b e f' = e
+
+  called_sound : (ts : List Lexeme) (t : Tree) → length ts ≤ n → called_at source f ts ≡ Some t → SpellsCalled source t ts
+  unfolding called_at
+  called_sound ts t le e =
+      then_elim (SpellsCalled source t ts) (called_step source f (begins_word ts)) (primary_at source f ts) e
+      (λ x h k. then_elim (SpellsCalled source t ts)
+      (λ y. if begins_word ts || nat_lt (length y.1) (length x.1) then at_end y.0 y.1 else None) (methods_at source f (length x.1) x.0 x.1) k
+      (λ y m r. test_elim (SpellsCalled source t ts) (begins_word ts || nat_lt (length y.1) (length x.1)) (at_end y.0 y.1) r
+      (λ test same. let end = end_is y.0 y.1 same in
+      let spelled = methods_sound source f (reader_sound_expr source n) (length x.1) x.0 x.1 y ts m (bare (primary_sound source f (reader_sound_expr source n) ts x h)) in
+      subst (λ u. SpellsCalled source u ts) end.same
+      (called_postfix spelled end.empty (λ u p. of_word (begins_word ts) refl x y test h u p)))))
+    where
+      of_word : (b : Bool) → begins_word ts ≡ b → (x y : Tree × List Lexeme) → (begins_word ts || nat_lt (length y.1) (length x.1)) ≡ true →
+          primary_at source f ts ≡ Some x → (u : Tree) → Spells source (a_primary u) ts y.1 → begins_word ts ≡ true
+      of_word true b x y test h u p = b
+      of_word false b x y test h u p =
+          let read : primary_at source f ts ≡ Some (u, y.1) = complete source p n le in
+          let same : x.1 ≡ y.1 = ap (λ z. z.1) (some_inj (sym h ∙ read)) in
+          let less : length y.1 < length x.1 = ltb-true (length y.1) (length x.1) (or_true (begins_word ts) (nat_lt (length y.1) (length x.1)) test b) in
+          absurd (omega (arith, less, ap length same))
+
+  bind_sound : (w : Span) (ts : List Lexeme) (s : StatementTree) → bind_at source f (bytes_at source w) ts ≡ Some s → SpellsBinding source s (Name w ∷ Equals ∷ ts)
+  bind_sound w ts s e =
+      choose_elim (SpellsBinding source s (Name w ∷ Equals ∷ ts)) (option_map (λ t. bind (bytes_at source w) t false) (ended_at source f ts))
+      (λ t. Some (bind (bytes_at source w) t true)) (severed_at source f ts) e
+      (λ h k. map_elim (SpellsBinding source s (Name w ∷ Equals ∷ ts)) (λ t. bind (bytes_at source w) t false) (ended_at source f ts) k
+      (λ t l same. subst (λ u. SpellsBinding source u (Name w ∷ Equals ∷ ts)) same (binds_value (ended_sound ts t l))))
+      (λ t h k. let sev = severed_sound ts t h in
+      subst (λ u. SpellsBinding source u (Name w ∷ Equals ∷ ts)) (some_inj k) (binds_severed sev.spelled sev.brackets_left))
+
+  bind_list_sound : (ts : List Lexeme) (s : StatementTree) → length ts ≤ n → bind_list_at source f ts ≡ Some s → SpellsBinding source s (Open ∷ ts)
+  unfolding bind_list_at
+  bind_list_sound ts s le e =
+      then_elim (SpellsBinding source s (Open ∷ ts)) (bind_names source f) (all_names_at source ts) e
+      (λ x h k. then_elim (SpellsBinding source s (Open ∷ ts)) (λ us. option_map (bind_list x.0) (called_at source f us)) (option_and_then after_equals (after_close x.1)) k
+      (λ us l m. then_elim (SpellsBinding source s (Open ∷ ts)) after_equals (after_close x.1) l
+      (λ vs c d. map_elim (SpellsBinding source s (Open ∷ ts)) (bind_list x.0) (called_at source f us) m
+      (λ t g same. subst (λ u. SpellsBinding source u (Open ∷ ts)) same
+      (let is : x.1 ≡ Close ∷ Equals ∷ us = close_is x.1 c ∙ ap (λ v. Close ∷ v) (equals_is vs d) in
+      let spelled = subst (SpellsNames source [] x.0 ts) is (all_names_sound source ts x h) in
+      binds_names spelled (called_sound us t (omega (arith, names_shorter spelled)) g))))))
+    where
+      names_shorter : {front names : List (List ℕ)} {ts rest : List Lexeme} → SpellsNames source front names ts rest → length rest ≤ length ts
+      names_shorter one_name = omega arith
+      names_shorter (more_names h) = let a = names_shorter h in omega arith
+
+  abbrev Viewed : List Lexeme → List View × List Lexeme → Type 0
+  Viewed ts x = SpellsViews source [] x.0 ts x.1
+
+  views_sound : (k : ℕ) (views : List View) (us ts : List Lexeme) (x : List View × List Lexeme) →
+      views_at source f k views us ≡ Some x → Viewed ts (views, us) → Viewed ts x
+  unfolding views_at
+  views_sound zero views us ts x e h = subst (Viewed ts) (some_inj e) h
+  views_sound (suc k) views us ts x e h =
+      choose_elim (Viewed ts x) (Some (views, us))
+      (λ v. option_and_then (λ y. views_at source f k (views ++ (bytes_at source v.0, y.0) ∷ []) y.1) (maybe_at source f none v.1)) (view_at us) e
+      (λ c d. subst (Viewed ts) (some_inj d) h)
+      (λ v c d. then_elim (Viewed ts x) (λ y. views_at source f k (views ++ (bytes_at source v.0, y.0) ∷ []) y.1) (maybe_at source f none v.1) d
+      (λ y m r. views_sound k (views ++ (bytes_at source v.0, y.0) ∷ []) y.1 ts x r
+      (one_view (subst (SpellsViews source [] views ts) (view_is us v c) h) (maybe_sound source f (reader_sound_expr source n) none v.1 y m))))
+
+  assignment_sound : (w : Span) (ts : List Lexeme) (s : StatementTree) → assignment_at source f (bytes_at source w) ts ≡ Some s → Stated source (Name w ∷ ts) s
+  unfolding assignment_at
+  assignment_sound w ts s e =
+      then_elim (Stated source (Name w ∷ ts) s) (assign_value source f (bytes_at source w)) (views_at source f (length ts) [] ts) e
+      (λ x h k. then_elim (Stated source (Name w ∷ ts) s) (λ a. option_map (assign (bytes_at source w) x.0 a.0) (ended_at source f a.1)) (assign_at x.1) k
+      (λ a l m. map_elim (Stated source (Name w ∷ ts) s) (assign (bytes_at source w) x.0 a.0) (ended_at source f a.1) m
+      (λ t g same. subst (Stated source (Name w ∷ ts)) same
+      (assigns (subst (SpellsViews source [] x.0 ts) (assign_is x.1 a l) (views_sound (length ts) [] ts ts x h no_views)) (ended_sound a.1 t g)))))
+
+  reshape_sound : (w : Span) (ts : List Lexeme) (s : StatementTree) → reshape_at source f (bytes_at source w) ts ≡ Some s →
+      Stated source (Name w ∷ Arrow ∷ Keyword Reshape ∷ Open ∷ ts) s
+  reshape_sound w ts s e =
+      then_elim (Stated source (Name w ∷ Arrow ∷ Keyword Reshape ∷ Open ∷ ts) s) (λ x. at_end (reshape (bytes_at source w) x.0) x.1) (closed_at source f none ts) e
+      (λ x h k. let end = end_is (reshape (bytes_at source w) x.0) x.1 k in
+      subst (Stated source (Name w ∷ Arrow ∷ Keyword Reshape ∷ Open ∷ ts)) end.same
+      (reshapes (subst (Spells source (closed_args none x.0) ts) end.empty (closed_sound source f (reader_sound_expr source n) none ts x h))))
+
+  named_sound : (w : Span) (ts : List Lexeme) (s : StatementTree) → named_at source f (bytes_at source w) ts ≡ Some s → Stated source (Name w ∷ ts) s
+  unfolding named_at
+  named_sound w ts s e =
+      let name = bytes_at source w in
+      choose_elim (Stated source (Name w ∷ ts) s)
+      (choose (choose (assignment_at source f name ts) (reshape_at source f name) (after_reshape ts)) (sever_at name) (after_sever ts))
+      (bind_at source f name) (after_equals ts) e
+      (λ no' h. choose_elim (Stated source (Name w ∷ ts) s) (choose (assignment_at source f name ts) (reshape_at source f name) (after_reshape ts)) (sever_at name) (after_sever ts) h
+      (λ no'' k. choose_elim (Stated source (Name w ∷ ts) s) (assignment_at source f name ts) (reshape_at source f name) (after_reshape ts) k
+      (λ no''' l. assignment_sound w ts s l)
+      (λ us l m. subst (λ vs. Stated source (Name w ∷ vs) s) (sym (reshape_is ts l)) (reshape_sound w us s m)))
+      (λ us k l. test_elim (Stated source (Name w ∷ ts) s) (is_brackets us) (Some (sever name)) l
+      (λ test same. subst (λ vs. Stated source (Name w ∷ vs) s) (sym (sever_is ts k))
+      (subst (Stated source (Name w ∷ Arrow ∷ Keyword Sever ∷ us)) (some_inj same) (severs (brackets_are us test))))))
+      (λ us h k. subst (λ vs. Stated source (Name w ∷ vs) s) (sym (equals_is ts h)) (binds (bind_sound w us s k)))
+
+  binding_sound : (ts : List Lexeme) (s : StatementTree) → length ts ≤ n → binding_at source f ts ≡ Some s → SpellsBinding source s ts
+  unfolding binding_at
+  binding_sound ts s le e =
+      choose_elim (SpellsBinding source s ts) (option_and_then (bind_name source f) (name_at ts)) (bind_list_at source f) (after_open ts) e
+      (λ no' h. then_elim (SpellsBinding source s ts) (bind_name source f) (name_at ts) h
+      (λ x k l. then_elim (SpellsBinding source s ts) (bind_at source f (bytes_at source x.0)) (after_equals x.1) l
+      (λ us c d. subst (SpellsBinding source s) (sym (name_is ts x k ∙ ap (λ v. Name x.0 ∷ v) (equals_is x.1 c))) (bind_sound x.0 us s d))))
+      (λ us h k. subst (SpellsBinding source s) (sym (open_is ts h)) (bind_list_sound us s (omega (arith, ap length (open_is ts h))) k))
+
+  value_sound : (ts : List Lexeme) (s : StatementTree) → value_at source f ts ≡ Some s → Stated source (Keyword Print ∷ ts) s
+  value_sound ts s e =
+      choose_elim (Stated source (Keyword Print ∷ ts) s) (option_map (λ t. show t false) (ended_at source f ts)) (λ t. Some (show t true)) (info_at source f ts) e
+      (λ no' h. map_elim (Stated source (Keyword Print ∷ ts) s) (λ t. show t false) (ended_at source f ts) h
+      (λ t k same. subst (Stated source (Keyword Print ∷ ts)) same (shows (ended_sound ts t k))))
+      (λ t h k. let inf = info_sound ts t h in subst (Stated source (Keyword Print ∷ ts)) (some_inj k) (shows_info inf.spelled inf.brackets_left))
+
+  show_sound : (ts : List Lexeme) (s : StatementTree) → show_at source f ts ≡ Some s → Stated source (Keyword Print ∷ ts) s
+  unfolding show_at
+  show_sound ts s e =
+      choose_elim (Stated source (Keyword Print ∷ ts) s) (value_at source f ts) (λ x. at_end (show_text (bytes_at source x.0)) x.1) (quoted_at ts) e
+      (λ no' h. value_sound ts s h)
+      (λ x h k. let end = end_is (show_text (bytes_at source x.0)) x.1 k in
+      subst (Stated source (Keyword Print ∷ ts)) end.same
+      (subst (λ vs. Stated source (Keyword Print ∷ vs) (show_text (bytes_at source x.0))) (sym (quoted_is ts x h ∙ ap (λ v. Quoted x.0 ∷ v) end.empty)) shows_text))
+
+  vars_sound : (ts : List Lexeme) (s : StatementTree) → at_end vars ts ≡ Some s → Stated source (Keyword Vars ∷ ts) s
+  vars_sound ts s e =
+      let end = end_is vars ts e in
+      subst (Stated source (Keyword Vars ∷ ts)) end.same (subst (λ vs. Stated source (Keyword Vars ∷ vs) vars) (sym end.empty) lists_names)
+
+  -- a statement that is read is spelled
+  pub statement_sound : (ts : List Lexeme) (s : StatementTree) → length ts ≤ n → statement_at source f ts ≡ Some s → SpellsStatement source s ts
+  unfolding statement_at
+  statement_sound [] s le e = absurd (none_some e)
+  statement_sound (Keyword My ∷ ts) s le e = my_binds (binding_sound ts s (omega arith) e)
+  statement_sound (Keyword Print ∷ ts) s le e = show_sound ts s e
+  statement_sound (Keyword Undef ∷ ts) s le e = undef_sound source ts s e
+  statement_sound (Keyword Vars ∷ ts) s le e = vars_sound ts s e
+  statement_sound (Keyword PpDef ∷ ts) s le e = define_sound source ts s e
+  statement_sound (Keyword Watch ∷ ts) s le e = watch_sound source ts s e
+  statement_sound (Keyword Unwatch ∷ ts) s le e = unwatch_sound source ts s e
+  statement_sound (Keyword _ ∷ ts) s le e = absurd (none_some e)
+  statement_sound (Open ∷ ts) s le e = binds (bind_list_sound ts s (omega arith) e)
+  statement_sound (Name w ∷ ts) s le e = named_sound w ts s e
+  statement_sound (_ ∷ ts) s le e = absurd (none_some e)

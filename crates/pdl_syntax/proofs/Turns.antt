@@ -1,0 +1,65 @@
+-- One turn of each chain.
+use Rattle.std.proofs.Common.{◌≡◌, ℕ, zero, suc, ◌+◌, ◌-◌, ◌<◌, List, Option, Some, None, option_and_then, refl, ap, sym, ◌∙◌, arith, add-one}
+use Rattle.pdl_elem.specs.declared.BinaryOp.{BinaryOp}
+use Rattle.pdl_lexemes.specs.declared.Lexeme.{Lexeme}
+use Rattle.pdl_lexemes.specs.declared.Span.{Span}
+use Rattle.pdl_lexemes.specs.Bytes.{bytes_at}
+use Rattle.pdl_lexemes.specs.ListReading.{choose, after_comma}
+use Rattle.pdl_syntax.specs.Tree.{Tree, Args, binary, call, value, none}
+use Rattle.pdl_syntax.specs.Reading.{Read, Kind, operator_at, method_at, chain_at, methods_at, more_at, maybe_at, arg_at, level_at, limit_of}
+
+pub one_less : (e c : ℕ) → c < e → e - c ≡ suc (e - (c + 1))
+one_less e c h = omega arith
+
+module _ (inner : List Lexeme → Read Tree) (l : ℕ) where
+  pub chain_stop_at : (k : ℕ) (t : Tree) (ts : List Lexeme) → operator_at l ts ≡ None → chain_at inner l k t ts ≡ Some (t, ts)
+  unfolding chain_at
+  chain_stop_at zero t ts e = refl
+  chain_stop_at (suc k) t ts e = rw e
+
+  pub chain_turn_at : (k : ℕ) (t : Tree) (ts us rest : List Lexeme) (op : BinaryOp) (x : Tree) →
+      operator_at l ts ≡ Some (op, us) → inner us ≡ Some (x, rest) →
+      chain_at inner l (suc k) t ts ≡ chain_at inner l k (binary op t x) rest
+  unfolding chain_at
+  chain_turn_at k t ts us rest op x e h = rw e (rw h)
+
+module _ (inner : List Lexeme → Read Tree) (b : ℕ) where
+  pub chain_stop : (k : ℕ) (t : Tree) (ts : List Lexeme) → operator_at (b + 1) ts ≡ None → chain_at inner (suc b) k t ts ≡ Some (t, ts)
+  chain_stop k t ts e = chain_stop_at inner (suc b) k t ts (rw add-one at e)
+
+  pub chain_turn : (k : ℕ) (t : Tree) (ts us rest : List Lexeme) (op : BinaryOp) (x : Tree) →
+      operator_at (b + 1) ts ≡ Some (op, us) → inner us ≡ Some (x, rest) →
+      chain_at inner (suc b) (suc k) t ts ≡ chain_at inner (suc b) k (binary op t x) rest
+  chain_turn k t ts us rest op x e h = chain_turn_at inner (suc b) k t ts us rest op x (rw add-one at e) h
+
+module _ (source : List ℕ) (f : Kind → List Lexeme → Read Tree) where
+  pub methods_stop : (k : ℕ) (t : Tree) (ts : List Lexeme) → method_at ts ≡ None → methods_at source f k t ts ≡ Some (t, ts)
+  unfolding methods_at
+  methods_stop zero t ts e = refl
+  methods_stop (suc k) t ts e = rw e
+
+  pub methods_turn : (k : ℕ) (t : Tree) (ts us rest : List Lexeme) (w : Span) (args : Args) →
+      method_at ts ≡ Some (w, us) → maybe_at source f (value none t) us ≡ Some (args, rest) →
+      methods_at source f (suc k) t ts ≡ methods_at source f k (call (bytes_at source w) args) rest
+  unfolding methods_at
+  methods_turn k t ts us rest w args e h = rw e (rw h)
+
+  pub more_stop : (k : ℕ) (args : Args) (ts : List Lexeme) → after_comma ts ≡ None → more_at source f k args ts ≡ Some (args, ts)
+  unfolding more_at
+  more_stop zero args ts e = refl
+  more_stop (suc k) args ts e = rw e
+
+  pub more_turn : (k : ℕ) (args args' : Args) (ts us rest : List Lexeme) →
+      after_comma ts ≡ Some us → arg_at source f args us ≡ Some (args', rest) →
+      more_at source f (suc k) args ts ≡ more_at source f k args' rest
+  unfolding more_at
+  more_turn k args args' ts us rest e h = rw e (rw h)
+
+  level_up : (n m : ℕ) (ts rest : List Lexeme) (t : Tree) → n ≡ suc m → level_at source f m ts ≡ Some (t, rest) →
+      level_at source f n ts ≡ chain_at (level_at source f m) (suc m) (limit_of (suc m) rest) t rest
+  unfolding level_at
+  level_up n m ts rest t same e = rw same (rw e)
+
+  pub level_above : (n : ℕ) (ts rest : List Lexeme) (t : Tree) → (n ≡ 0 → ⊥) → level_at source f (n - 1) ts ≡ Some (t, rest) →
+      level_at source f n ts ≡ chain_at (level_at source f (n - 1)) (suc (n - 1)) (limit_of (suc (n - 1)) rest) t rest
+  level_above n ts rest t ne e = level_up n (n - 1) ts rest t (omega arith) e

@@ -1,0 +1,9 @@
+pub mod Tree
+pub mod TreeOf
+pub mod Grammar
+pub mod Reading
+pub mod StatementTree
+pub mod Statements
+pub mod StatementReading
+pub mod Refusals
+pub mod WellMade

@@ -1,0 +1,57 @@
+-- Which statement the tokens of a text spell, or which check refuses them first.
+use Rattle.std.specs.Prelude.{◌≡◌, List, ℕ, Bool, true, false, Result, Ok, Err}
+use Rattle.pdl_lex.specs.declared.Token.{Token}
+use Rattle.pdl_lexemes.specs.declared.Lexeme.{Lexeme}
+use Rattle.pdl_lexemes.specs.Depth.{is_too_deep, has_large, ragged_in}
+use Rattle.pdl_lexemes.specs.Lists.{HoldsRagged}
+use Rattle.pdl_syntax.specs.declared.parser.ParseFault.{ParseFault}
+use Rattle.pdl_syntax.specs.declared.parser.ParseFault.TheVariants.{TooDeep, NumberTooLarge, Syntax, Ragged, NoMemory}
+use Rattle.pdl_syntax.specs.declared.tree.Statement.{Statement}
+use Rattle.pdl_syntax.specs.StatementTree.{StatementTree, statement_of}
+use Rattle.pdl_syntax.specs.Statements.{SpellsStatement}
+
+-- no check on the tokens alone refuses them
+pub record Passes (lexemes : List Lexeme) : Type 0 where
+  pub not_deep : is_too_deep lexemes ≡ false
+  pub not_large : has_large lexemes ≡ false
+
+-- the statement that they spell
+pub record Found (source : List ℕ) (lexemes : List Lexeme) (s : StatementTree) : Type 0 where
+  pub passes : Passes lexemes
+  pub spells : SpellsStatement source s lexemes
+  pub not_ragged : HoldsRagged lexemes → ⊥
+
+-- a number is above 9223372036854775807, and nothing is too deep
+pub record Large (lexemes : List Lexeme) : Type 0 where
+  pub not_deep : is_too_deep lexemes ≡ false
+  pub large : has_large lexemes ≡ true
+
+-- no statement spells them
+pub record Unspelled (source : List ℕ) (lexemes : List Lexeme) : Type 0 where
+  pub passes : Passes lexemes
+  pub unspelled : (s : StatementTree) → SpellsStatement source s lexemes → ⊥
+
+-- a statement spells them, with a ragged list
+pub record IsRagged (source : List ℕ) (lexemes : List Lexeme) : Type 0 where
+  pub passes : Passes lexemes
+  pub statement : StatementTree
+  pub spells : SpellsStatement source statement lexemes
+  pub ragged : HoldsRagged lexemes
+
+-- the answer is the statement, or the first check that fails; want of memory says nothing
+abbrev pub Answers : List ℕ → List Lexeme → Result Statement ParseFault → Type 0
+Answers source lexemes (Ok s) = Found source lexemes (statement_of s)
+Answers source lexemes (Err TooDeep) = is_too_deep lexemes ≡ true
+Answers source lexemes (Err NumberTooLarge) = Large lexemes
+Answers source lexemes (Err Syntax) = Unspelled source lexemes
+Answers source lexemes (Err Ragged) = IsRagged source lexemes
+Answers source lexemes (Err NoMemory) = Unit {0}
+
+-- the statement itself where no list among the lexemes is ragged, else that it is
+abbrev pub Checked : List Lexeme → Statement → Result Statement ParseFault → Type 0
+Checked lexemes s (Ok t) = (t ≡ s) × (ragged_in lexemes ≡ false)
+Checked lexemes s (Err TooDeep) = ⊥
+Checked lexemes s (Err NumberTooLarge) = ⊥
+Checked lexemes s (Err Syntax) = ⊥
+Checked lexemes s (Err Ragged) = ragged_in lexemes ≡ true
+Checked lexemes s (Err NoMemory) = Unit {0}

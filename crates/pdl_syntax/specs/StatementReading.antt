@@ -1,0 +1,224 @@
+-- How a statement is read: the one way in which its lexemes spell it, if there is one.
+use Rattle.std.specs.Prelude.{◌≡◌, ℕ, zero, suc, nat_lt, List, [], ◌∷◌, ◌++◌, length, Bool, true, false, ◌||◌, Option, Some, None, option_map, option_and_then, if◌then◌else◌}
+use Rattle.pdl_lexemes.specs.declared.AssignOp.{AssignOp}
+use Rattle.pdl_lexemes.specs.declared.Span.{Span}
+use Rattle.pdl_lexemes.specs.declared.WordKind.TheVariants.{View as IsView, Pars, Code}
+use Rattle.pdl_lexemes.specs.declared.Keyword.TheVariants.{My, Print, Undef, Vars, PpDef, Watch, Unwatch, Info, Sever, Reshape}
+use Rattle.pdl_lexemes.specs.declared.Lexeme.{Lexeme}
+use Rattle.pdl_lexemes.specs.declared.Lexeme.TheVariants.{Name, Keyword, Word, Number, Quoted, Open, Close, Comma, Equals, Arrow, FatArrow, Assign}
+use Rattle.pdl_lexemes.specs.Bytes.{bytes_at}
+use Rattle.pdl_lexemes.specs.Lists.{signed}
+use Rattle.pdl_lexemes.specs.ListReading.{choose, after_comma}
+use Rattle.pdl_syntax.specs.Tree.{Tree, Args, none}
+use Rattle.pdl_syntax.specs.Reading.{Read, Kind, whole, after_open, after_close, after_arrow, quoted_at, maybe_at, closed_at, primary_at, methods_at, postfix_at, reader}
+use Rattle.pdl_syntax.specs.StatementTree.{StatementTree, View, bind, bind_list, assign, show, show_text, sever, reshape, undef, vars, pp_def, watch, unwatch}
+
+-- what follows a sign or a word
+abbrev pub after_equals : List Lexeme → Option (List Lexeme)
+after_equals (Equals ∷ ts) = Some ts
+after_equals _ = None
+
+abbrev pub after_my : List Lexeme → Option (List Lexeme)
+after_my (Keyword My ∷ ts) = Some ts
+after_my _ = None
+
+abbrev pub word_sever : List Lexeme → Option (List Lexeme)
+word_sever (Keyword Sever ∷ ts) = Some ts
+word_sever _ = None
+
+abbrev pub after_sever : List Lexeme → Option (List Lexeme)
+after_sever ts = option_and_then word_sever (after_arrow ts)
+
+abbrev pub word_info : List Lexeme → Option (List Lexeme)
+word_info (Keyword Info ∷ ts) = Some ts
+word_info _ = None
+
+abbrev pub after_info : List Lexeme → Option (List Lexeme)
+after_info ts = option_and_then word_info (after_arrow ts)
+
+abbrev pub word_reshape : List Lexeme → Option (List Lexeme)
+word_reshape (Keyword Reshape ∷ ts) = Some ts
+word_reshape _ = None
+
+abbrev pub after_reshape : List Lexeme → Option (List Lexeme)
+after_reshape ts = option_and_then after_open (option_and_then word_reshape (after_arrow ts))
+
+abbrev pub name_at : List Lexeme → Read Span
+name_at (Name w ∷ ts) = Some (w, ts)
+name_at _ = None
+
+abbrev pub view_word : List Lexeme → Read Span
+view_word (Word IsView w ∷ ts) = Some (w, ts)
+view_word _ = None
+
+abbrev pub view_at : List Lexeme → Read Span
+view_at ts = option_and_then view_word (after_arrow ts)
+
+abbrev pub assign_at : List Lexeme → Read AssignOp
+assign_at (Assign op ∷ ts) = Some (op, ts)
+assign_at _ = None
+
+-- a number at the end
+abbrev pub slot_at : List Lexeme → Option ℕ
+slot_at (Number n ∷ []) = option_map (λ z. n) (signed n)
+slot_at _ = None
+
+-- what there is where nothing follows
+abbrev pub at_end : {A : Type 0} → A → List Lexeme → Option A
+at_end x [] = Some x
+at_end x (t ∷ ts) = None
+
+-- whether what is left is `["(" ")"]`
+abbrev pub is_brackets : List Lexeme → Bool
+is_brackets [] = true
+is_brackets (Open ∷ Close ∷ []) = true
+is_brackets _ = false
+
+-- whether a word that may name a call comes first
+abbrev pub begins_word : List Lexeme → Bool
+begins_word (Word kind w ∷ ts) = true
+begins_word _ = false
+
+-- the sever of a name
+abbrev pub sever_at : List ℕ → List Lexeme → Option StatementTree
+sever_at name ts = if is_brackets ts then Some (sever name) else None
+
+-- a string, maybe behind `Pars =>` or `Code =>`
+abbrev pub after_pars : List Lexeme → List Lexeme
+after_pars (Word Pars v ∷ FatArrow ∷ ts) = ts
+after_pars ts = ts
+
+abbrev pub after_code : List Lexeme → List Lexeme
+after_code (Word Code v ∷ FatArrow ∷ ts) = ts
+after_code ts = ts
+
+module _ (source : List ℕ) where
+  abbrev pub texts_at : Span → Span → Span → StatementTree
+  texts_at name signature code = pp_def (bytes_at source name) (bytes_at source signature) (bytes_at source code)
+
+  -- the three strings of a definition
+  abbrev pub code_at : Span → Span → List Lexeme → Option StatementTree
+  code_at name signature ts =
+      option_and_then (λ c. option_and_then (at_end (texts_at name signature c.0)) (after_close c.1)) (quoted_at (after_code ts))
+
+  abbrev pub signature_at : Span → List Lexeme → Option StatementTree
+  signature_at name ts =
+      option_and_then (λ s. option_and_then (code_at name s.0) (after_comma s.1)) (quoted_at (after_pars ts))
+
+  abbrev pub define_at : List Lexeme → Option StatementTree
+  define_at ts =
+      option_and_then (λ us. option_and_then (λ n. option_and_then (signature_at n.0) (after_comma n.1)) (quoted_at us)) (after_open ts)
+
+  abbrev pub undef_at : List Lexeme → Option StatementTree
+  undef_at ts = option_and_then (λ x. at_end (undef (bytes_at source x.0)) x.1) (name_at ts)
+
+  abbrev pub watch_at : List Lexeme → Option StatementTree
+  watch_at ts =
+      option_and_then (λ x. option_and_then (λ us. option_map (watch (bytes_at source x.0)) (slot_at us)) (after_comma x.1)) (name_at ts)
+
+  -- the further names, at most k of them
+  unfoldable pub names_at : ℕ → List (List ℕ) → List Lexeme → Read (List (List ℕ))
+  names_at zero names ts = Some (names, ts)
+  names_at (suc k) names ts =
+      choose (Some (names, ts))
+      (λ us. option_and_then (λ x. names_at k (names ++ bytes_at source x.0 ∷ []) x.1) (name_at us))
+      (after_comma ts)
+
+  abbrev pub all_names_at : List Lexeme → Read (List (List ℕ))
+  all_names_at ts = option_and_then (λ x. names_at (length x.1) (bytes_at source x.0 ∷ []) x.1) (name_at ts)
+
+module _ (source : List ℕ) (f : Kind → List Lexeme → Read Tree) where
+  -- an expression up to the end
+  unfoldable pub ended_at : List Lexeme → Option Tree
+  ended_at ts = option_and_then (λ x. at_end x.0 x.1) (f whole ts)
+
+  -- a postfix form before `-> sever` or `-> info` and the end
+  unfoldable pub severed_at : List Lexeme → Option Tree
+  severed_at ts =
+      option_and_then (λ x. option_and_then (λ us. if is_brackets us then Some x.0 else None) (after_sever x.1)) (postfix_at source f ts)
+
+  unfoldable pub info_at : List Lexeme → Option Tree
+  info_at ts =
+      option_and_then (λ x. option_and_then (λ us. if is_brackets us then Some x.0 else None) (after_info x.1)) (postfix_at source f ts)
+
+  -- a call up to the end, by a word or by a method
+  abbrev pub called_step : Bool → Tree × List Lexeme → Option Tree
+  called_step by_word x =
+      option_and_then (λ y. if by_word || nat_lt (length y.1) (length x.1) then at_end y.0 y.1 else None)
+      (methods_at source f (length x.1) x.0 x.1)
+
+  unfoldable pub called_at : List Lexeme → Option Tree
+  called_at ts = option_and_then (called_step (begins_word ts)) (primary_at source f ts)
+
+  abbrev pub bind_at : List ℕ → List Lexeme → Option StatementTree
+  bind_at name ts =
+      choose (option_map (λ t. bind name t false) (ended_at ts)) (λ t. Some (bind name t true)) (severed_at ts)
+
+  abbrev pub bind_names : List (List ℕ) × List Lexeme → Option StatementTree
+  bind_names x =
+      option_and_then (λ us. option_map (bind_list x.0) (called_at us)) (option_and_then after_equals (after_close x.1))
+
+  unfoldable pub bind_list_at : List Lexeme → Option StatementTree
+  bind_list_at ts = option_and_then bind_names (all_names_at source ts)
+
+  -- the further views of a target, at most k of them
+  unfoldable pub views_at : ℕ → List View → List Lexeme → Read (List View)
+  views_at zero views ts = Some (views, ts)
+  views_at (suc k) views ts =
+      choose (Some (views, ts))
+      (λ v. option_and_then (λ x. views_at k (views ++ (bytes_at source v.0, x.0) ∷ []) x.1) (maybe_at source f none v.1))
+      (view_at ts)
+
+  abbrev pub assign_value : List ℕ → List View × List Lexeme → Option StatementTree
+  assign_value name x =
+      option_and_then (λ a. option_map (assign name x.0 a.0) (ended_at a.1)) (assign_at x.1)
+
+  unfoldable pub assignment_at : List ℕ → List Lexeme → Option StatementTree
+  assignment_at name ts = option_and_then (assign_value name) (views_at (length ts) [] ts)
+
+  abbrev pub reshape_at : List ℕ → List Lexeme → Option StatementTree
+  reshape_at name ts = option_and_then (λ x. at_end (reshape name x.0) x.1) (closed_at source f none ts)
+
+  -- a statement that begins with a name
+  unfoldable pub named_at : List ℕ → List Lexeme → Option StatementTree
+  named_at name ts =
+      choose
+      (choose
+      (choose (assignment_at name ts) (reshape_at name) (after_reshape ts))
+      (sever_at name)
+      (after_sever ts))
+      (bind_at name)
+      (after_equals ts)
+
+  -- a binding behind `my`
+  abbrev pub bind_name : Span × List Lexeme → Option StatementTree
+  bind_name x = option_and_then (bind_at (bytes_at source x.0)) (after_equals x.1)
+
+  unfoldable pub binding_at : List Lexeme → Option StatementTree
+  binding_at ts = choose (option_and_then bind_name (name_at ts)) bind_list_at (after_open ts)
+
+  -- what `p` shows
+  abbrev pub value_at : List Lexeme → Option StatementTree
+  value_at ts = choose (option_map (λ t. show t false) (ended_at ts)) (λ t. Some (show t true)) (info_at ts)
+
+  unfoldable pub show_at : List Lexeme → Option StatementTree
+  show_at ts =
+      choose (value_at ts) (λ x. at_end (show_text (bytes_at source x.0)) x.1) (quoted_at ts)
+
+  -- all lexemes as a statement
+  unfoldable pub statement_at : List Lexeme → Option StatementTree
+  statement_at [] = None
+  statement_at (Keyword My ∷ ts) = binding_at ts
+  statement_at (Keyword Print ∷ ts) = show_at ts
+  statement_at (Keyword Undef ∷ ts) = undef_at source ts
+  statement_at (Keyword Vars ∷ ts) = at_end vars ts
+  statement_at (Keyword PpDef ∷ ts) = define_at source ts
+  statement_at (Keyword Watch ∷ ts) = watch_at source ts
+  statement_at (Keyword Unwatch ∷ ts) = option_map unwatch (slot_at ts)
+  statement_at (Open ∷ ts) = bind_list_at ts
+  statement_at (Name w ∷ ts) = named_at (bytes_at source w) ts
+  statement_at _ = None
+
+-- the statement that the lexemes of a text spell
+abbrev pub read_statement : List ℕ → List Lexeme → Option StatementTree
+read_statement source ts = statement_at source (reader source (suc (length ts))) ts

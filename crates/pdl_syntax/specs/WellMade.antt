@@ -1,0 +1,48 @@
+-- The list literals of a statement are arrays: as many numbers as their dimensions say, all of their type.
+use Rattle.std.specs.Prelude.{◌≡◌, ◌≤ℤ◌, ℕ, ℤ, pos, List, length, All, Bool}
+use Rattle.pdl_elem.specs.declared.Ty.{Ty}
+use Rattle.pdl_elem.specs.Types.{InRange}
+use Rattle.pdl_shape.specs.Shape.{size_of}
+use Rattle.pdl_syntax.specs.Tree.{Tree, Args, number, named, literal, unary, binary, call, none, value, text, of_type}
+use Rattle.pdl_syntax.specs.StatementTree.{StatementTree, View, bind, bind_list, assign, show, show_text, sever, reshape, undef, vars, pp_def, watch, unwatch}
+
+-- an array of this type, these dimensions and these elements
+pub record IsArray (ty : Ty) (dims : List ℕ) (elems : List ℤ) : Type 0 where
+  pub count : length elems ≡ size_of dims
+  pub in_range : All (InRange ty) elems
+
+-- a number from 0 to 9223372036854775807
+pub record IsCount (z : ℤ) : Type 0 where
+  pub least : pos 0 ≤ℤ z
+  pub most : z ≤ℤ pos 9223372036854775807
+
+abbrev mutual
+  -- each literal in an expression is an array
+  pub AreArrays : Tree → Type 0
+  AreArrays (number z) = IsCount z
+  AreArrays (named n) = Unit {0}
+  AreArrays (literal ty dims elems) = IsArray ty dims elems
+  AreArrays (unary op t) = AreArrays t
+  AreArrays (binary op a b) = AreArrays a × AreArrays b
+  AreArrays (call name args) = AreArgArrays args
+
+  pub AreArgArrays : Args → Type 0
+  AreArgArrays none = Unit {0}
+  AreArgArrays (value front t) = AreArgArrays front × AreArrays t
+  AreArgArrays (text front s) = AreArgArrays front
+  AreArgArrays (of_type front ty) = AreArgArrays front
+
+-- each literal in a statement is an array
+abbrev pub IsWellMade : StatementTree → Type 0
+IsWellMade (bind name t severs) = AreArrays t
+IsWellMade (bind_list names t) = AreArrays t
+IsWellMade (assign name views op t) = All (λ v. AreArgArrays v.1) views × AreArrays t
+IsWellMade (show t info) = AreArrays t
+IsWellMade (show_text s) = Unit {0}
+IsWellMade (sever name) = Unit {0}
+IsWellMade (reshape name args) = AreArgArrays args
+IsWellMade (undef name) = Unit {0}
+IsWellMade vars = Unit {0}
+IsWellMade (pp_def name signature code) = Unit {0}
+IsWellMade (watch name slot) = Unit {0}
+IsWellMade (unwatch slot) = Unit {0}

@@ -1,0 +1,90 @@
+//! The checks on a statement's tokens in their order, and its tree.
+
+ghost use Rattle.std.specs.Prelude.{◌≡◌, ◌≤◌, length, IfOk, Ok};
+ghost use Rattle.pdl_lex.specs.Tokens.{toks};
+ghost use Rattle.pdl_lexemes.specs.Lexing.{lexemes_of};
+ghost use Rattle.pdl_syntax.specs.Refusals.{Answers, Checked};
+ghost use Rattle.pdl_syntax.specs.StatementTree.{statement_of};
+ghost use Rattle.pdl_syntax.specs.Statements.{SpellsStatement};
+ghost use Rattle.pdl_syntax.specs.WellMade.{IsWellMade};
+
+use crate::statement;
+use crate::tree::Statement;
+use pdl_lex::Token;
+use pdl_lexemes::{Lexeme, Refusal, has_large, holds_ragged, is_too_deep, lexemes};
+use std::alloc::{AllocError, Global};
+
+/// Why the tokens of a text are no statement. Where several hold, the first one is answered.
+#[derive(Clone, Copy, PartialEq, Eq, Debug)]
+pub enum ParseFault {
+    /// More than 64 brackets are open at once, more than 16 square ones, or more than 256 operators
+    /// stand outside square brackets.
+    TooDeep,
+    /// A number is above 9223372036854775807.
+    NumberTooLarge,
+    /// The tokens don't follow the grammar.
+    Syntax,
+    /// A list holds numbers beside lists, or lists of different dimensions.
+    Ragged,
+    NoMemory,
+}
+
+impl From<AllocError> for ParseFault {
+    ghost use Rattle.std.specs.Prelude.{◌≡◌};
+    ghost use Rattle.pdl_syntax.specs.declared.parser.ParseFault.TheVariants.{NoMemory};
+
+    ghost from_gives = { λ _ r. r ≡ NoMemory };
+
+    fn from(_error: AllocError) -> ParseFault {
+        ParseFault::NoMemory
+    }
+}
+
+/// The statement that the tokens of a text spell, or the first check that they fail. The tokens are
+/// those that `tokens` answers for this text.
+#[tactic(auto, using(crate::proofs::Parsing::few_tokens, crate::proofs::Parsing::spelled_of, crate::proofs::Parsing::made_of))]
+pub fn parse(alloc: Global, text: &[u8], tokens: &[Token]) -> Result<Statement, ParseFault>
+    requires tokens { toks text.now ≡ Ok tokens.now }
+    requires small { length text.now ≤ 65536 }
+    ensures found { IfOk result (λ s. SpellsStatement text.now (statement_of s) (lexemes_of text.now tokens.now)) }
+    ensures well_made { IfOk result (λ s. IsWellMade (statement_of s)) }
+    ensures exact { Answers text.now (lexemes_of text.now tokens.now) result }
+{
+    let lexemes = lexemes(alloc, text, tokens)?;
+    read(alloc, text, lexemes.as_slice())
+}
+
+#[tactic(auto, using(crate::proofs::Parsing::refused, crate::proofs::Parsing::answered))]
+fn read(alloc: Global, text: &[u8], lexemes: &[Lexeme]) -> Result<Statement, ParseFault>
+    requires { length lexemes.now ≤ 65536 }
+    ensures { Answers text.now lexemes.now result }
+{
+    if is_too_deep(lexemes) {
+        return Err(ParseFault::TooDeep);
+    }
+    if has_large(lexemes) {
+        return Err(ParseFault::NumberTooLarge);
+    }
+    match statement::statement(alloc, text, lexemes.len() + 1, lexemes) {
+        Err(Refusal::NoMemory) => Err(ParseFault::NoMemory),
+        Err(Refusal::Refused) => Err(ParseFault::Syntax),
+        Ok(statement) => checked(alloc, lexemes, statement),
+    }
+}
+
+// The statement, unless a list in it is ragged.
+fn checked(alloc: Global, lexemes: &[Lexeme], statement: Statement) -> Result<Statement, ParseFault>
+    requires { length lexemes.now ≤ 65536 }
+    ensures { Checked lexemes.now statement result }
+{
+    match holds_ragged(alloc, lexemes) {
+        Err(_) => Err(ParseFault::NoMemory),
+        Ok(ragged) => {
+            if ragged {
+                Err(ParseFault::Ragged)
+            } else {
+                Ok(statement)
+            }
+        }
+    }
+}

@@ -1,0 +1,100 @@
+//! Statements and expressions.
+
+use pdl_buf::Made;
+use pdl_elem::{BinaryOp, Name, Text, Ty, UnaryOp};
+use pdl_lexemes::AssignOp;
+
+/// An argument of a call.
+#[cycle(expr)]
+#[derive(Debug, Drop)]
+pub enum Arg {
+    Value(Expr),
+    Str(Text),
+    OfType(Ty),
+}
+
+/// A value's expression. A method call `e->f(a)` is `Call(f, [e, a])`.
+#[cycle(expr)]
+#[derive(Debug, Drop)]
+pub enum Expr {
+    Number(i64),
+    Named(Name),
+    List(Made),
+    Unary(UnaryOp, Box<Expr>),
+    Binary(BinaryOp, Box<Expr>, Box<Expr>),
+    Call(Name, Vec<Arg>),
+}
+
+/// A view word of a target, with its arguments.
+#[derive(Debug, Drop)]
+pub struct ViewCall {
+    pub method: Name,
+    pub args: Vec<Arg>,
+}
+
+/// What an assignment writes to: a name, and the views on it in order.
+#[derive(Debug, Drop)]
+pub struct Target {
+    pub name: Name,
+    pub views: Vec<ViewCall>,
+}
+
+/// A statement. Names have their `$`.
+#[derive(Debug, Drop)]
+pub enum Statement {
+    /// `$x = e`, or `$x = e->sever`.
+    Bind {
+        name: Name,
+        value: Expr,
+        sever: bool,
+    },
+    /// `($a, $b) = f(..)`
+    BindList {
+        names: Vec<Name>,
+        value: Expr,
+    },
+    /// `$x->slice("..") .= e`
+    Assign {
+        target: Target,
+        op: AssignOp,
+        value: Expr,
+    },
+    /// `p e`, or `p e->info`.
+    Show {
+        value: Expr,
+        info: bool,
+    },
+    /// `p "text"`
+    ShowText {
+        text: Text,
+    },
+    /// `$x->sever`
+    Sever {
+        name: Name,
+    },
+    /// `$x->reshape(..)`
+    Reshape {
+        name: Name,
+        sizes: Vec<Arg>,
+    },
+    /// `undef $x`
+    Undef {
+        name: Name,
+    },
+    Vars,
+    /// `pp_def("name", Pars => "signature", Code => "code")`
+    PpDef {
+        name: Text,
+        signature: Text,
+        code: Text,
+    },
+    /// `watch $x, 3`
+    Watch {
+        name: Name,
+        slot: u64,
+    },
+    /// `unwatch 3`
+    Unwatch {
+        slot: u64,
+    },
+}

@@ -1,0 +1,4 @@
+pub mod Formula
+pub mod World
+pub mod Sound
+pub mod Laws

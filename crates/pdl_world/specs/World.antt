@@ -1,0 +1,109 @@
+-- Worlds: what is seen through an array, its elements, and assignment (PDL::Indexing, PDL::Dataflow).
+use Rattle.std.specs.Prelude.{ℕ, ℤ, pos, ◌==◌, if◌then◌else◌, List, [], ◌∷◌, map, Option, Some, None, option_map, option_and_then, Result, Ok, Err, slice_set}
+use Rattle.std.specs.Option.{option_map_or}
+use Rattle.std.specs.List.{range_with_len}
+use Rattle.std.proofs.Common.{get_or}
+use Rattle.pdl_elem.specs.declared.Ty.{Ty}
+use Rattle.pdl_elem.specs.declared.Ty.TheVariants.{Byte}
+use Rattle.pdl_shape.specs.Shape.{size_of, position_of, coordinates_of}
+use Rattle.pdl_world.specs.declared.Trans.{Trans}
+use Rattle.pdl_world.specs.Formula.{Refusal, child_dims, source}
+
+-- An array: a root with its elements in the order of positions, or a view of another array.
+pub data ArrayDef : Type 0 where
+  root : (ty : Ty) (dims : List ℕ) (elems : List ℤ) → ArrayDef
+  view : (parent : ℕ) (trans : Trans) → ArrayDef
+
+-- The arrays by their numbers, newest first. A view's parent is older, so it stands behind the view.
+abbrev pub World : Type 0
+World = List (ℕ × ArrayDef)
+
+-- What is seen through an array: its root, the root's type, its own dimensions, and for each of its
+-- positions the root's position there, or nothing.
+pub record Look : Type 0 where
+  pub root : ℕ
+  pub ty : Ty
+  pub dims : List ℕ
+  pub places : List (Option ℕ)
+
+-- a root sees each of its positions
+abbrev pub whole : ℕ → Ty → List ℕ → Look
+whole k ty ds = record { root = k; ty = ty; dims = ds; places = map Some (range_with_len 0 (size_of ds)) }
+
+-- the parent's position for a position of the child, or nothing
+abbrev pub parent_place : Trans → List ℕ → List ℕ → ℕ → Option ℕ
+parent_place t parent_dims dims p = option_map (position_of parent_dims) (source t parent_dims (coordinates_of dims p))
+
+-- the root's place at a position of the parent
+abbrev pub entry : List (Option ℕ) → ℕ → Option ℕ
+entry ps i = get_or ps i None
+
+-- the child's places, which it takes through its parent
+abbrev pub places_through : Trans → Look → List ℕ → List (Option ℕ)
+places_through t l dims =
+    map (λ p. option_and_then (entry l.places) (parent_place t l.dims dims p)) (range_with_len 0 (size_of dims))
+
+abbrev pub seen_through : Trans → Look → Result (List ℕ) Refusal → Option Look
+seen_through t l (Ok dims) = Some (record { root = l.root; ty = l.ty; dims = dims; places = places_through t l dims })
+seen_through t l (Err e) = None
+
+-- what is seen through a view of what is seen
+abbrev pub through : Trans → Look → Option Look
+through t l = seen_through t l (child_dims t l.dims)
+
+-- what is seen through the array v, or nothing where there is no such array
+abbrev pub look : World → ℕ → Option Look
+look [] v = None
+look ((k, root ty ds es) ∷ w) v = if k == v then Some (whole k ty ds) else look w v
+look ((k, view p t) ∷ w) v =
+    let below = look w (if k == v then p else v) in
+    if k == v then option_and_then (through t) below else below
+
+-- the elements of a root
+abbrev pub root_elements : World → ℕ → List ℤ
+root_elements [] r = []
+root_elements ((k, root ty ds es) ∷ w) r = if k == r then es else root_elements w r
+root_elements ((k, view p t) ∷ w) r = root_elements w r
+
+-- the world with other elements of a root
+abbrev pub set_elements : World → ℕ → List ℤ → World
+set_elements [] r new = []
+set_elements ((k, root ty ds es) ∷ w) r new = (k, root ty ds (if k == r then new else es)) ∷ set_elements w r new
+set_elements ((k, view p t) ∷ w) r new = (k, view p t) ∷ set_elements w r new
+
+-- the element at a place of the root, and 0 where there is none
+abbrev pub element_at : List ℤ → Option ℕ → ℤ
+element_at es None = pos 0
+element_at es (Some i) = get_or es i (pos 0)
+
+-- the elements at places of the root
+abbrev pub read : List (Option ℕ) → List ℤ → List ℤ
+read ps es = map (element_at es) ps
+
+-- the root's elements after each value was put at its place, in order: the last value of a repeated
+-- place stays, and a value without a place is dropped
+abbrev pub write : List (Option ℕ) → List ℤ → List ℤ → List ℤ
+write [] vs es = es
+write (p ∷ ps) [] es = es
+write (None ∷ ps) (x ∷ vs) es = write ps vs es
+write (Some i ∷ ps) (x ∷ vs) es = write ps vs (slice_set es i x)
+
+-- the dimensions of an array
+abbrev pub dims_in : World → ℕ → List ℕ
+dims_in w v = option_map_or (λ l. l.dims) (look w v) []
+
+-- the type of an array's elements, which is its root's
+abbrev pub ty_in : World → ℕ → Ty
+ty_in w v = option_map_or (λ l. l.ty) (look w v) Byte
+
+-- the elements of an array, in the order of its positions
+abbrev pub elements : World → ℕ → List ℤ
+elements w v = option_map_or (λ l. read l.places (root_elements w l.root)) (look w v) []
+
+abbrev pub assign_through : World → Option Look → List ℤ → World
+assign_through w None vs = w
+assign_through w (Some l) vs = set_elements w l.root (write l.places vs (root_elements w l.root))
+
+-- the world after the values were assigned to the positions of an array, in rising order
+abbrev pub assign : World → ℕ → List ℤ → World
+assign w v vs = assign_through w (look w v) vs
