@@ -1,20 +1,19 @@
 -- The places of a view of windows, corner by corner.
-use Rattle.std.proofs.Common.{◌≡◌, ℕ, zero, suc, ◌+◌, ◌*◌, ◌/◌, ◌%◌, ◌<◌, ◌≤◌, false, List, [], ◌∷◌, ◌++◌, length, take, drop, get_or, map, refl, ap, sym, ◌∙◌, arith, None, ℤ, pos}
+use Rattle.std.proofs.Common.{◌≡◌, ℕ, zero, suc, ◌+◌, ◌*◌, ◌/◌, ◌%◌, ◌<◌, ◌≤◌, List, [], ◌∷◌, ◌++◌, length, take, drop, get_or, map, refl, ap, sym, ◌∙◌, arith, None, ℤ, pos}
 use Rattle.std.specs.Option.{option_map}
 use Rattle.std.specs.List.{range_with_len}
-use Rattle.std.proofs.Math.Nat.{mod-eq_of_lt, mul-add-mod_self_left}
 use Rattle.std.proofs.Math.Seq.{take-append_seam, drop-append_seam}
 use Rattle.std.proofs.lemmas.List.{get_or-take, get_or-drop}
 use Rattle.std.proofs.lemmas.List.FromFn.{fill_by_all}
 use Rattle.std.proofs.lemmas.Nat.{mod_below, div-add-mod'}
 use Rattle.pdl_shape.specs.Shape.{size_of, position_of, coordinates_of}
+use Rattle.pdl_shape.proofs.Positions.{position-coordinates}
 use Rattle.pdl_choice.specs.declared.edges.Edge.{Edge}
 use Rattle.pdl_choice.specs.Choice.{places_of}
-use Rattle.pdl_choice.specs.Edges.{edge_refuses}
-use Rattle.pdl_choice.specs.Range.{corner_len, corner_at, inner_dims, windowed_dims, window_sizes, window_source, range_source, AreAllowed, AllAllowed}
+use Rattle.pdl_choice.specs.Range.{corner_len, corner_at, inner_dims, windowed_dims, window_sizes, window_source, range_source}
 use Rattle.pdl_choice.proofs.Bounds.{corner_fits}
 use Rattle.pdl_choice.proofs.Placed.{map-range_same}
-use Rattle.pdl_choice.proofs.Positions.{position_of-coordinates_of, coordinates_of-append, size_of-append, length-coordinates_of}
+use Rattle.pdl_choice.proofs.Positions.{coordinates_of-append, size_of-append, length-coordinates_of}
 use Rattle.pdl_choice.proofs.Reached.{length-corner}
 
 -- the numbers of a corner stand together in the index values
@@ -22,7 +21,7 @@ corner_at-list : (ind_dims : List ℕ) (ind : List ℤ) (len q : ℕ) → len �
     → corner_at ind_dims ind (coordinates_of (drop 1 ind_dims) q) ≡ take len (drop (len * q) ind)
 corner_at-list ind_dims ind len q is below fits =
     let place : (j : ℕ) → j + corner_len ind_dims * position_of (drop 1 ind_dims) (coordinates_of (drop 1 ind_dims) q) ≡ len * q + j =
-    λ (j : ℕ). ap (λ n. j + corner_len ind_dims * n) (position_of-coordinates_of (drop 1 ind_dims) q below) ∙ ap (λ n. j + n * q) (sym is) ∙ omega arith in
+    λ (j : ℕ). ap (λ n. j + corner_len ind_dims * n) (position-coordinates (drop 1 ind_dims) q below) ∙ ap (λ n. j + n * q) (sym is) ∙ omega arith in
     sym (ap (λ n. take n (drop (len * q) ind)) is
     ∙ fill_by_all (λ j. get_or ind (j + corner_len ind_dims * position_of (drop 1 ind_dims) (coordinates_of (drop 1 ind_dims) q)) (pos 0))
     (take (corner_len ind_dims) (drop (len * q) ind)) (corner_len ind_dims) (pos 0)
@@ -79,30 +78,12 @@ window_places_are edge parent ind_dims ind sizes windows corners count is len ou
     ∙ map-range_same _ _ (size_of (windowed_dims parent ind_dims windows)) None
     (λ p h. ap (option_map (position_of parent)) (position_at edge parent ind_dims ind sizes windows corners p is len outer cornered (omega (arith, all, ap (λ n. n * size_of (inner_dims parent windows)) outer, h))))
 
--- what no edge refuses anywhere, it doesn't refuse at one corner
-allowed_corner : (edge : Edge) (parent windows : List ℕ) (corner : List ℤ)
-    → ((j : ℕ) → j < length windows → j < length corner → edge_refuses edge (get_or parent j 0) (get_or windows j 0) (get_or corner j (pos 0)) ≡ false)
-    → AreAllowed edge parent windows corner
-allowed_corner edge [] windows corner h = tt
-allowed_corner edge (n ∷ parent) [] corner h = tt
-allowed_corner edge (n ∷ parent) (w ∷ windows) [] h = tt
-allowed_corner edge (n ∷ parent) (w ∷ windows) (v ∷ corner) h =
-    (h 0 (omega arith) (omega arith), allowed_corner edge parent windows corner (λ j below inside. h (suc j) (omega arith) (omega arith)))
-
-pub allowed_at : (edge : Edge) (parent windows : List ℕ) (ind : List ℤ) (len q : ℕ) → len ≡ length windows
-    → AllAllowed edge parent windows ind → len * q + len ≤ length ind → AreAllowed edge parent windows (take len (drop (len * q) ind))
-allowed_at edge parent windows ind len q is allowed fits =
-    allowed_corner edge parent windows (take len (drop (len * q) ind))
-    (λ j below inside.
-    let here : (len * q + j) % length windows ≡ j =
-    ap (λ n. (n * q + j) % length windows) is ∙ mul-add-mod_self_left (length windows) q j ∙ mod-eq_of_lt below in
-    let value : get_or (take len (drop (len * q) ind)) j (pos 0) ≡ get_or ind (len * q + j) (pos 0) =
-    get_or-take len (drop (len * q) ind) j (pos 0) (omega arith) ∙ get_or-drop (len * q) ind j (pos 0) in
-    ap (λ v. edge_refuses edge (get_or parent j 0) (get_or windows j 0) v) value
-    ∙ ap (λ i. edge_refuses edge (get_or parent i 0) (get_or windows i 0) (get_or ind (len * q + j) (pos 0))) (sym here)
-    ∙ allowed (len * q + j) (omega arith))
-
 -- an index has the numbers of a corner for each corner
 pub corner_size : (ind_dims : List ℕ) → size_of ind_dims ≡ corner_len ind_dims * size_of (drop 1 ind_dims)
 corner_size [] = omega arith
 corner_size (n ∷ outer) = refl
+
+-- how many that is, by the sizes
+pub first_corner : (ind_dims : List ℕ) → corner_len ind_dims ≡ get_or ind_dims 0 1
+first_corner [] = refl
+first_corner (n ∷ outer) = refl

@@ -4,7 +4,12 @@ pub mod Listed
 pub mod Placed
 pub mod Positions
 pub mod Reached
+pub mod Rowed
+pub mod Striding
+pub mod Windowed
 pub mod Cornered
 pub mod Joins
 pub mod Ranged
+pub mod Edged
 pub mod Inside
+pub mod MovingOn

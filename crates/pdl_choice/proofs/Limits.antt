@@ -19,10 +19,10 @@ extent-append (x ∷ xs) ys = ap (λ n. max x 1 * n) (extent-append xs ys) ∙ s
 self : (a : ℕ) → a ≤ a
 self a = omega arith
 
-one_factor : (a b : ℕ) → 0 < b → a ≤ a * b
+pub one_factor : (a b : ℕ) → 0 < b → a ≤ a * b
 one_factor a b h = omega (arith, mul-le-mul {n₁ = a} {m₁ = 1} {n₂ = a} {m₂ = b} (self a) h)
 
-other_factor : (a b : ℕ) → 0 < a → b ≤ a * b
+pub other_factor : (a b : ℕ) → 0 < a → b ≤ a * b
 other_factor a b h = omega (arith, mul-le-mul {n₁ = 1} {m₁ = b} {n₂ = a} {m₂ = b} h (omega arith))
 
 -- a front of the sizes has no larger extent

@@ -1,8 +1,9 @@
 -- Lists of places that grow by one position at a time.
-use Rattle.std.proofs.Common.{◌≡◌, ◌≢◌, ℕ, ◌+◌, ◌<◌, Bool, cond, length-append, List, [], ◌∷◌, ◌++◌, length, get_or, map, refl, zero-add, ap, sym, ◌∙◌, arith, true, false, ℤ, pos, negsuc, zero, suc, Some, None, position, nat_lt}
+use Rattle.std.proofs.Common.{◌-◌, ◌*◌, ◌≤◌, inl, inr, append_assoc, ◌≡◌, ◌≢◌, ℕ, ◌+◌, ◌<◌, Bool, cond, length-append, List, [], ◌∷◌, ◌++◌, length, get_or, map, refl, zero-add, ap, sym, ◌∙◌, arith, true, false, ℤ, pos, negsuc, zero, suc, Some, None, position, nat_lt}
 use Rattle.std.specs.List.{range_with_len, filter, position_or_len}
-use Rattle.std.proofs.lemmas.List.{map-id, map-append, append-nil}
-use Rattle.std.proofs.lemmas.List.FromFn.{filter_of_map_range_with_len_more, map-range_with_len_more, length-range_with_len, get_or-range_with_len}
+use Rattle.std.proofs.lemmas.List.{get_or_append_left, get_or-append_right, map-id, map-append, append-nil}
+use Rattle.std.proofs.lemmas.List.FromFn.{filter_of_map_range_with_len_more, map-range_with_len_more, length-range_with_len, get_or-range_with_len, fill_by_all, length-map-range_with_len, get_or-map-range_with_len}
+use Rattle.std.proofs.lemmas.Bool.{cases_lt}
 use Rattle.std.proofs.lemmas.Bool.Decides.{nat_tests}
 use Rattle.std.proofs.lemmas.List.Sums.{position_or_len_is}
 use Rattle.pdl_choice.specs.Where.{is_set}
@@ -52,6 +53,36 @@ pub places_grow : {X : Type 0} (f : ℕ → X) (xs ys : List X) (i : ℕ) (x : X
 places_grow f xs ys i x before pushed here =
     pushed ∙ ap (λ v. v ++ x ∷ []) before ∙ ap (λ v. map f (range_with_len 0 i) ++ v ∷ []) here
     ∙ sym (map-range_with_len_more f 0 i i (omega arith))
+
+-- places added one by one
+pub places_added : {X : Type 0} (f : ℕ → X) (before xs ys : List X) (i : ℕ) (x : X) → xs ≡ before ++ map f (range_with_len 0 i) → ys ≡ xs ++ x ∷ [] → x ≡ f i → ys ≡ before ++ map f (range_with_len 0 (i + 1))
+places_added f before xs ys i x is pushed here =
+    pushed ∙ ap (λ v. v ++ x ∷ []) is ∙ append_assoc before (map f (range_with_len 0 i)) (x ∷ [])
+    ∙ ap (λ v. before ++ v) (places_grow f (map f (range_with_len 0 i)) (map f (range_with_len 0 i) ++ x ∷ []) i x refl refl here)
+
+-- before the first round there are none
+pub rounds_none : {X : Type 0} (f : ℕ → X) (xs : List X) (m : ℕ) → xs ≡ [] → xs ≡ map f (range_with_len 0 (m * 0))
+rounds_none f xs m is = is ∙ ap (λ n. map f (range_with_len 0 n)) (none m)
+  where
+    none : (m : ℕ) → 0 ≡ m * 0
+    none m = omega arith
+
+-- places added round by round, m of them in each
+pub rounds_grow : {X : Type 0} (f g : ℕ → X) (xs ys : List X) (m r : ℕ) (d : X) → xs ≡ map f (range_with_len 0 (m * r)) → ys ≡ xs ++ map g (range_with_len 0 m) → ((q : ℕ) → q < m → g q ≡ f (q + m * r)) → ys ≡ map f (range_with_len 0 (m * (r + 1)))
+rounds_grow {X} f g xs ys m r d before added same =
+    let long : length xs ≡ m * r = ap length before ∙ length-map-range_with_len f 0 (m * r) in
+    let more : length (map g (range_with_len 0 m)) ≡ m = length-map-range_with_len g 0 m in
+    let whole : m * (r + 1) ≡ m * r + m = omega arith in
+    added ∙ fill_by_all f (xs ++ map g (range_with_len 0 m)) (m * (r + 1)) d (length-append xs (map g (range_with_len 0 m)) ∙ omega (arith, long, more, whole))
+    (λ k h. by_lt k (m * r)
+    (λ below. get_or_append_left xs (map g (range_with_len 0 m)) d k (omega arith) ∙ ap (λ (zs : List X). get_or zs k d) before ∙ get_or-map-range_with_len f 0 (m * r) k k d below (omega arith))
+    (λ past. get_or-append_right xs (map g (range_with_len 0 m)) (m * r) k d long past
+    ∙ get_or-map-range_with_len g 0 m (k - m * r) (k - m * r) d (omega (arith, whole)) (omega arith)
+    ∙ same (k - m * r) (omega (arith, whole))
+    ∙ ap f (omega arith)))
+  where
+    by_lt : {P : Type 0} (a b : ℕ) → (a < b → P) → (b ≤ a → P) → P
+    by_lt a b left right = elim (cases_lt a b) [ inl below ↦ left below | inr past ↦ right past ]
 
 -- the first of n numbers that passes a test, where none before it does
 pub position-range : (p : ℕ → Bool) (n i : ℕ) → i < n → ((k : ℕ) → k < i → p k ≡ false) → p i ≡ true → position p (range_with_len 0 n) ≡ Some i

@@ -7,10 +7,11 @@ use Rattle.std.proofs.lemmas.List.{take-append-drop, length-map, get_or-map}
 use Rattle.std.proofs.lemmas.List.FromFn.{fill_by_all, get_or-map-range_with_len, length-map-range_with_len}
 use Rattle.std.proofs.lemmas.Nat.{div_below, mod_below, div-add-mod'}
 use Rattle.pdl_shape.specs.Shape.{size_of, position_of, coordinates_of}
+use Rattle.pdl_shape.proofs.Positions.{position-coordinates}
 use Rattle.pdl_choice.specs.Choice.{places_of}
 use Rattle.pdl_choice.specs.Clump.{clump_len, clump_source}
 use Rattle.pdl_choice.specs.Where.{is_set, which, where_source}
-use Rattle.pdl_choice.proofs.Positions.{position_of-coordinates_of, position_of-append, size_of-append, length-coordinates_of}
+use Rattle.pdl_choice.proofs.Positions.{position_of-append, size_of-append, length-coordinates_of}
 
 -- lists of the same places
 pub map-range_same : {X : Type 0} (f g : ℕ → X) (n : ℕ) (d : X) → ((k : ℕ) → k < n → f k ≡ g k) → map f (range_with_len 0 n) ≡ map g (range_with_len 0 n)
@@ -24,8 +25,8 @@ clump_place : (front back : List ℕ) (p : ℕ) → p < size_of front * size_of 
 clump_place front back p within =
     let some : 0 < size_of front = positive_left (size_of front) (size_of back) p within in
     position_of-append front back (coordinates_of front (p % size_of front)) (coordinates_of back (p / size_of front)) (length-coordinates_of front (p % size_of front))
-    ∙ ap (λ n. n + size_of front * position_of back (coordinates_of back (p / size_of front))) (position_of-coordinates_of front (p % size_of front) (mod_below p (size_of front) some))
-    ∙ ap (λ n. p % size_of front + size_of front * n) (position_of-coordinates_of back (p / size_of front) (div_below p (size_of front) (size_of back) some (omega arith)))
+    ∙ ap (λ n. n + size_of front * position_of back (coordinates_of back (p / size_of front))) (position-coordinates front (p % size_of front) (mod_below p (size_of front) some))
+    ∙ ap (λ n. p % size_of front + size_of front * n) (position-coordinates back (p / size_of front) (div_below p (size_of front) (size_of back) some (omega arith)))
     ∙ omega (arith, div-add-mod' p (size_of front))
   where
     positive_left : (n m p : ℕ) → p < n * m → 0 < n
@@ -66,7 +67,7 @@ listed_places parent places below =
     (map (λ (p : ℕ). Some p) places) (length places * 1) None (length-map places (λ (p : ℕ). Some p) ∙ omega arith)
     (λ k h. let inside : k < length places = omega arith in
     get_or-map (λ (p : ℕ). Some p) places k 0 None inside
-    ∙ ap Some (sym (position_of-coordinates_of parent (get_or places k 0) (below k inside)))
+    ∙ ap Some (sym (position-coordinates parent (get_or places k 0) (below k inside)))
     ∙ ap (λ j. Some (position_of parent (coordinates_of parent (get_or places j 0)))) (sym (mod-eq_of_lt inside)))
 
 pub mask_places : (parent : List ℕ) (mask : List ℤ) → length mask ≡ size_of parent

@@ -1,9 +1,11 @@
 -- The dimensions of a view of windows.
-use Rattle.std.proofs.Common.{◌≡◌, ℕ, inl, inr, true, false, nat_lt, List, length, refl, ap, sym, ◌∙◌, arith, Option, None, Ok, Err, ℤ}
+use Rattle.std.proofs.Common.{◌≡◌, ℕ, ◌≤◌, ◌++◌, inl, inr, true, false, nat_lt, List, length, refl, ap, sym, ◌∙◌, arith, Option, None, Ok, Err, ℤ}
 use Rattle.std.specs.Option.{option_map_or}
 use Rattle.std.proofs.lemmas.Bool.{cases_lt}
 use Rattle.std.proofs.lemmas.Bool.Decides.{nat_tests}
 use Rattle.pdl_shape.specs.Shape.{dims_limit, extent, extent_limit}
+use Rattle.pdl_shape.proofs.Extents.{extent_positive}
+use Rattle.pdl_choice.proofs.Limits.{extent-append, other_factor}
 use Rattle.pdl_choice.specs.declared.answers.ChoiceFault.{ChoiceFault}
 use Rattle.pdl_choice.specs.declared.answers.ChoiceFault.TheVariants.{TooManyDims, TooLarge}
 use Rattle.pdl_choice.specs.declared.edges.Edge.{Edge}
@@ -40,4 +42,22 @@ within_limits-ok ds es is =
             let same : within_limits ds ≡ Ok ds = rw right (rw small refl) in
             cc
       ]
+    ]
+
+-- what the limits don't refuse lies within them, and so does its back
+pub within_limits-back : (front back es : List ℕ) → within_limits (front ++ back) ≡ Ok es → extent back ≤ extent_limit
+within_limits-back front back es is =
+    elim (cases_lt extent_limit (extent (front ++ back))) [
+      | inl past ↦ elim (cases_lt dims_limit (length (front ++ back))) [
+        | inl many ↦
+            let right : nat_lt dims_limit (length (front ++ back)) ≡ true = grind (arith, nat_tests) in
+            let same : within_limits (front ++ back) ≡ Err TooManyDims = rw right refl in
+            cc
+        | inr few ↦
+            let right : nat_lt dims_limit (length (front ++ back)) ≡ false = grind (arith, nat_tests) in
+            let big : nat_lt extent_limit (extent (front ++ back)) ≡ true = grind (arith, nat_tests) in
+            let same : within_limits (front ++ back) ≡ Err TooLarge = rw right (rw big refl) in
+            cc
+      ]
+      | inr fits ↦ omega (arith, extent-append front back, other_factor (extent front) (extent back) (extent_positive front))
     ]

@@ -1,19 +1,28 @@
--- The place of a position of a window, one number of the corner after another.
-use Rattle.std.proofs.Common.{◌≡◌, ℕ, zero, suc, ◌+◌, ◌*◌, ◌/◌, ◌%◌, ◌<◌, ◌≤◌, max, List, [], ◌∷◌, length, length-take, length-drop, take, drop, refl, ap, sym, subst, arith, Option, Some, ℤ}
+-- The place of a position of a window, and the positions of a window in order.
+use Rattle.std.proofs.Common.{◌≡◌, ℕ, zero, suc, ◌+◌, ◌*◌, ◌/◌, ◌%◌, ◌<◌, ◌≤◌, max, min, List, [], ◌∷◌, ◌++◌, length, length-take, length-drop, length-append, take, drop, map, filter, refl, ap, sym, ◌∙◌, arith, Option, Some, None, ℤ, pos, ◌+ℤ◌}
 use Rattle.std.specs.Option.{option_map}
-use Rattle.pdl_shape.specs.Shape.{size_of, position_of, coordinates_of}
+use Rattle.std.proofs.Math.Nat.{mod-eq_of_lt}
+use Rattle.std.proofs.lemmas.Int.{ints}
+use Rattle.std.proofs.lemmas.List.{length-map}
+use Rattle.std.proofs.lemmas.Nat.{div_below}
+use Rattle.pdl_shape.specs.Shape.{extent, extent_limit, size_of, position_of, coordinates_of}
+use Rattle.pdl_shape.proofs.Extents.{extent_positive}
+use Rattle.pdl_shape.proofs.Positions.{position-coordinates}
 use Rattle.pdl_choice.specs.declared.edges.Edge.{Edge}
-use Rattle.pdl_choice.specs.Range.{inner_dims, window_source, AreAllowed}
-use Rattle.std.proofs.lemmas.Nat.{div_below, mod_below}
-use Rattle.pdl_choice.proofs.Positions.{position_of-coordinates_of}
+use Rattle.pdl_choice.specs.Edges.{edge_coordinate}
+use Rattle.pdl_choice.specs.Range.{capped, inner_dims, is_positive, put_first, window_source}
+use Rattle.pdl_choice.specs.Rounds.{place_first, placed}
+use Rattle.pdl_choice.proofs.Limits.{extent-append, one_factor, other_factor}
+use Rattle.pdl_choice.proofs.Striding.{placed-nil}
 
 -- the place that a window's position has
 abbrev pub window_position : Edge → List ℕ → List ℕ → List ℤ → ℕ → Option ℕ
 window_position edge parent windows corner p =
     option_map (position_of parent) (window_source edge parent windows corner (coordinates_of (inner_dims parent windows) p))
 
-pub window_position-nil : (edge : Edge) (parent : List ℕ) (corner : List ℤ) (p : ℕ) → p < size_of parent → window_position edge parent [] corner p ≡ Some p
-window_position-nil edge parent corner p h = ap Some (position_of-coordinates_of parent p h)
+-- the sizes that a window's positions go through: a size of 0 as 1, and what is left as one size
+abbrev pub rounds : List ℕ → List ℕ → List ℕ
+rounds parent windows = map (λ w. max w 1) windows ++ size_of (drop (length windows) parent) ∷ []
 
 pub size_of-inner_dims-cons : (n : ℕ) (parent : List ℕ) (w : ℕ) (windows : List ℕ) → size_of (inner_dims (n ∷ parent) (w ∷ windows)) ≡ max w 1 * size_of (inner_dims parent windows)
 size_of-inner_dims-cons n parent zero windows = omega arith
@@ -22,37 +31,70 @@ size_of-inner_dims-cons n parent (suc w) windows = rw (at_least w) refl
     at_least : (w : ℕ) → max (suc w) 1 ≡ suc w
     at_least w = omega arith
 
--- what one number of a corner leaves to the others
-pub record Step (edge : Edge) (p : ℕ) (ps : List ℕ) (w : ℕ) (ws : List ℕ) (vs : List ℤ) : Type 0 where
-  pub allowed : AreAllowed edge ps ws vs
-  pub within : p / max w 1 < size_of (inner_dims ps ws)
+-- there are as many of these as positions
+pub size_of-rounds : (parent windows : List ℕ) → length windows ≤ length parent → size_of (rounds parent windows) ≡ size_of (inner_dims parent windows)
+size_of-rounds parent [] fit = omega arith
+size_of-rounds [] (w ∷ windows) fit = absurd (omega arith)
+size_of-rounds (n ∷ parent) (w ∷ windows) fit =
+    ap (λ s. max w 1 * s) (size_of-rounds parent windows (omega arith)) ∙ sym (size_of-inner_dims-cons n parent w windows)
 
-pub step_of : (edge : Edge) (parent windows : List ℕ) (corner : List ℤ) (p n : ℕ) (ps : List ℕ) (w : ℕ) (ws : List ℕ) (v : ℤ) (vs : List ℤ)
-    → parent ≡ n ∷ ps → windows ≡ w ∷ ws → corner ≡ v ∷ vs
-    → AreAllowed edge parent windows corner → p < size_of (inner_dims parent windows) → Step edge p ps w ws vs
-step_of edge parent windows corner p n ps w ws v vs is_parent is_windows is_corner =
-    subst (λ (ds : List ℕ). AreAllowed edge ds windows corner → p < size_of (inner_dims ds windows) → Step edge p ps w ws vs) (sym is_parent)
-    (subst (λ (us : List ℕ). AreAllowed edge (n ∷ ps) us corner → p < size_of (inner_dims (n ∷ ps) us) → Step edge p ps w ws vs) (sym is_windows)
-    (subst (λ (zs : List ℤ). AreAllowed edge (n ∷ ps) (w ∷ ws) zs → p < size_of (inner_dims (n ∷ ps) (w ∷ ws)) → Step edge p ps w ws vs) (sym is_corner)
-    (λ allowed within. record {
-      allowed = allowed.1;
-      within = div_below p (max w 1) (size_of (inner_dims ps ws)) (omega arith) (omega (arith, size_of-inner_dims-cons n ps w ws));
-    })))
+pub length-rounds : (parent windows : List ℕ) → length (rounds parent windows) ≡ length windows + 1
+length-rounds parent windows = length-append (map (λ w. max w 1) windows) (size_of (drop (length windows) parent) ∷ []) ∙ omega (arith, length-map windows (λ w. max w 1))
 
--- a window of no numbers leaves the position as it is
-pub none_left : (parent windows : List ℕ) (p : ℕ) → length windows ≡ 0 → p < size_of (inner_dims parent windows) → p < size_of parent
-none_left parent [] p h within = within
-none_left parent (w ∷ windows) p h within = absurd (omega arith)
+put-place : (n : ℕ) (parent : List ℕ) (c : Option ℕ) (rest : Option (List ℕ)) → option_map (position_of (n ∷ parent)) (put_first c rest) ≡ place_first n c (option_map (position_of parent) rest)
+put-place n parent None rest = refl
+put-place n parent (Some c) None = refl
+put-place n parent (Some c) (Some cs) = refl
 
-pub none_left-place : (edge : Edge) (parent windows : List ℕ) (corner : List ℤ) (p : ℕ) → length windows ≡ 0 → p < size_of (inner_dims parent windows) → Some p ≡ window_position edge parent windows corner p
-none_left-place edge parent [] corner p h within = sym (window_position-nil edge parent corner p within)
-none_left-place edge parent (w ∷ windows) corner p h within = absurd (omega arith)
+plus_none : (v : ℤ) (p : ℕ) → p ≡ 0 → v ≡ v +ℤ pos p
+plus_none v p is = omega (arith, ints)
+
+at_least_one : (w : ℕ) → max (suc w) 1 ≡ suc w
+at_least_one w = omega arith
+
+one_row : (p : ℕ) → p / 1 ≡ p
+one_row p = omega arith
+
+in_one : (p : ℕ) → p % 1 ≡ 0
+in_one p = omega arith
+
+some_below : (w s p : ℕ) → p < suc w * s → p / suc w < s
+some_below w s p h = div_below p (suc w) s (omega arith) (omega arith)
+
+-- the place of a position is that of the coordinates that lie so far past the corner
+pub window_position-placed : (edge : Edge) (parent windows : List ℕ) (corner : List ℤ) (p : ℕ) → length windows ≤ length parent → length corner ≡ length windows → p < size_of (inner_dims parent windows)
+    → window_position edge parent windows corner p ≡ placed edge parent corner (coordinates_of (rounds parent windows) p)
+window_position-placed edge parent [] [] p fit paired h =
+    ap Some (position-coordinates parent p h ∙ sym (mod-eq_of_lt h)) ∙ sym (placed-nil edge parent (p % size_of parent) [])
+window_position-placed edge parent [] (v ∷ corner) p fit paired h = absurd (omega arith)
+window_position-placed edge parent (w ∷ windows) [] p fit paired h = absurd (omega arith)
+window_position-placed edge [] (w ∷ windows) (v ∷ corner) p fit paired h = absurd (omega arith)
+window_position-placed edge (n ∷ parent) (zero ∷ windows) (v ∷ corner) p fit paired h =
+    put-place n parent (edge_coordinate edge n v) (window_source edge parent windows corner (coordinates_of (inner_dims parent windows) p))
+    ∙ ap (place_first n (edge_coordinate edge n v)) (window_position-placed edge parent windows corner p (omega arith) (omega arith) h)
+    ∙ ap (λ z. place_first n (edge_coordinate edge n z) (placed edge parent corner (coordinates_of (rounds parent windows) p))) (plus_none v (p % 1) (in_one p))
+    ∙ ap (λ q. place_first n (edge_coordinate edge n (v +ℤ pos (p % 1))) (placed edge parent corner (coordinates_of (rounds parent windows) q))) (sym (one_row p))
+window_position-placed edge (n ∷ parent) (suc w ∷ windows) (v ∷ corner) p fit paired h =
+    put-place n parent (edge_coordinate edge n (v +ℤ pos (p % suc w))) (window_source edge parent windows corner (coordinates_of (inner_dims parent windows) (p / suc w)))
+    ∙ ap (place_first n (edge_coordinate edge n (v +ℤ pos (p % suc w)))) (window_position-placed edge parent windows corner (p / suc w) (omega arith) (omega arith) (some_below w (size_of (inner_dims parent windows)) p h))
+    ∙ ap (λ m. place_first n (edge_coordinate edge n (v +ℤ pos (p % m))) (placed edge parent corner (coordinates_of (rounds parent windows) (p / m)))) (sym (at_least_one w))
+
+-- sizes within the limits are no larger where they stand at the largest number
+pub rounds-capped : (windows : List ℕ) → extent (filter is_positive windows) ≤ extent_limit → map (λ w. max (capped w) 1) windows ≡ map (λ w. max w 1) windows
+rounds-capped [] h = refl
+rounds-capped (zero ∷ windows) h = ap (λ ws. 1 ∷ ws) (rounds-capped windows h)
+rounds-capped (suc w ∷ windows) h =
+    let first : max (suc w) 1 ≤ extent_limit = omega (arith, one_factor (max (suc w) 1) (extent (filter is_positive windows)) (extent_positive (filter is_positive windows))) in
+    let rest : extent (filter is_positive windows) ≤ extent_limit = omega (arith, other_factor (max (suc w) 1) (extent (filter is_positive windows)) (omega arith)) in
+    ap (λ n. n ∷ map (λ w. max (capped w) 1) windows) (stays (suc w) first) ∙ ap (λ ws. max (suc w) 1 ∷ ws) (rounds-capped windows rest)
+  where
+    stays : (w : ℕ) → max w 1 ≤ extent_limit → max (min w 4294967295) 1 ≡ max w 1
+    stays w h = omega arith
+
+pub inner_front : (parent windows : List ℕ) → extent (inner_dims parent windows) ≤ extent_limit → extent (filter is_positive windows) ≤ extent_limit
+inner_front parent windows h =
+    omega (arith, extent-append (filter is_positive windows) (drop (length windows) parent), one_factor (extent (filter is_positive windows)) (extent (drop (length windows) parent)) (extent_positive (drop (length windows) parent)))
 
 -- a corner that stands whole in the list has as many numbers as the window
 pub length-corner : (ind : List ℤ) (len at : ℕ) → len * at + len ≤ length ind → length (take len (drop (len * at) ind)) ≡ len
 length-corner ind len at fits = omega (arith, length-take {A = ℤ}, length-drop {A = ℤ})
-
--- a place that stands in no corner
-pub corners_positive : (p count corners s : ℕ) → p < count → count ≡ corners * s → p % corners < corners
-corners_positive p count zero s below is = absurd (omega arith)
-corners_positive p count (suc n) s below is = mod_below p (suc n) (omega arith)

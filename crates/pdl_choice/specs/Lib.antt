@@ -3,4 +3,5 @@ pub mod Edges
 pub mod Index
 pub mod Where
 pub mod Range
+pub mod Rounds
 pub mod Clump

@@ -85,14 +85,6 @@ range_source parent ind_dims ind sizes edge at =
     let outer = length (drop 1 ind_dims) in
     window_source edge parent (window_sizes (corner_len ind_dims) sizes) (corner_at ind_dims ind (take outer at)) (drop outer at)
 
--- no edge refuses the window of these sizes at this corner
-abbrev pub AreAllowed : Edge → List ℕ → List ℕ → List ℤ → Type 0
-AreAllowed edge [] windows corner = Unit {0}
-AreAllowed edge (n ∷ parent) [] corner = Unit {0}
-AreAllowed edge (n ∷ parent) (w ∷ windows) [] = Unit {0}
-AreAllowed edge (n ∷ parent) (w ∷ windows) (v ∷ corner) =
-    (edge_refuses edge n w v ≡ false) × AreAllowed edge parent windows corner
-
 -- a size that a u32 has: the size, or the largest of these
 abbrev pub capped : ℕ → ℕ
 capped n = min n 4294967295

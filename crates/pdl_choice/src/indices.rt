@@ -1,13 +1,16 @@
 //! index: the parent's first dimension looked up by an array of coordinates.
-ghost use Rattle.std.specs.Prelude.{◌≡◌, ◌≢◌, ◌<◌, ◌≤◌, ◌^◌, OnOk, if◌then◌else◌, length, drop, slice_index, All, IsTrue, Some, None, Ok, Err, IfOk, IfErr, IfSome, IfNone};
+ghost use Rattle.std.specs.Prelude.{◌≡◌, ℕ, ◌+◌, ◌*◌, ◌∷◌, ◌++◌, map, slice_index_or, ◌≢◌, ◌<◌, ◌≤◌, ◌^◌, OnOk, if◌then◌else◌, length, drop, slice_index, All, IsTrue, Some, None, Ok, Err, IfOk, IfErr, IfSome, IfNone};
 ghost use Rattle.pdl_shape.specs.Joined.{joined_dims};
-ghost use Rattle.pdl_shape.specs.Shape.{IsDims, extent, extent_limit, size_of, position_of, coordinates_of};
+ghost use Rattle.std.specs.List.{range_with_len};
+ghost use Rattle.pdl_shape.specs.Shape.{IsDims, IsWithin, extent, extent_limit, size_of, position_of, coordinates_of};
 ghost use Rattle.std.specs.Option.{option_map_or};
 ghost use Rattle.pdl_shape.specs.Broadcast.{BroadcastsTo, cut_to};
 ghost use Rattle.pdl_choice.specs.Choice.{AreInside, places_of};
 ghost use Rattle.pdl_choice.specs.Edges.{from_zero, is_within};
+ghost use Rattle.pdl_choice.specs.Rounds.{line_at, row_place};
 ghost use Rattle.pdl_choice.specs.Index.{from_end, first_outside, index_dims, index_source};
 
+use crate::rounds::{first_size, move_on, rounds_of};
 use crate::{Choice, ChoiceFault, NoMemory};
 use pdl_shape::{Dims, ShapeFault, dims_list, dims_of, elements_of, join_dims};
 use std::alloc::Global;
@@ -57,7 +60,6 @@ fn looked_up(
     ensures some { OnOk result (0 < length parent.now) }
     ensures stretched { IfOk result (λ dims. BroadcastsTo ind_dims.now dims × BroadcastsTo (drop 1 parent.now) dims) }
     ensures counted { OnOk result (All (λ value. IsTrue (is_within (slice_index parent.now 0) (from_end (slice_index parent.now 0) value))) ind.now) }
-    ensures bounded { size_of ind_dims.now ≤ extent_limit }
 {
     let _count = elements_of(ind_dims);
     let Some((size, rest)) = parent.split_first() else {
@@ -137,53 +139,76 @@ fn counted(size: u32, value: i64) -> Option<u32>
     }
 }
 
-/// The position in an array of dimensions `dims` that a position of an array of dimensions
-/// `joined` uses.
-fn used_position(dims: &[u32], joined: &[u32], position: u32) -> u32
-    requires fits { BroadcastsTo dims.now joined.now }
-    requires within { position < size_of joined.now }
+/// The position in an array of dimensions `dims` that coordinates of a broadcast use.
+fn used_position(dims: &[u32], at: &[u32]) -> u32
+    requires within { IsWithin dims.now (cut_to dims.now at.now) }
     requires bounded { size_of dims.now ≤ extent_limit }
-    ensures place { result ≡ position_of dims.now (cut_to dims.now (coordinates_of joined.now position)) }
+    ensures place { result ≡ position_of dims.now (cut_to dims.now at.now) }
     ensures bound { result < size_of dims.now }
 {
-    match (dims.split_first(), joined.split_first()) {
-        (Some((size, dims)), Some((joined_size, joined))) => {
-            let coordinate = if *size == 1 {
-                0
-            } else {
-                position % *joined_size
-            };
-            coordinate + *size * used_position(dims, joined, position / *joined_size)
+    match (dims.split_first(), at.split_first()) {
+        (Some((size, dims)), Some((first, at))) => {
+            let coordinate = if *size == 1 { 0 } else { *first };
+            coordinate + *size * used_position(dims, at)
         }
         _ => 0,
     }
 }
 
-/// The place in a parent of dimensions `parent` of one position of the view.
-fn index_place(parent: &[u32], ind_dims: &[u32], ind: &[i64], joined: &[u32], position: u32) -> u32
-    requires some { 0 < length parent.now }
-    requires whole { length ind.now ≡ size_of ind_dims.now }
-    requires ind_fits { BroadcastsTo ind_dims.now joined.now }
-    requires parent_fits { BroadcastsTo (drop 1 parent.now) joined.now }
-    requires within { position < size_of joined.now }
-    requires ind_bounded { size_of ind_dims.now ≤ extent_limit }
-    requires parent_bounded { extent parent.now ≤ extent_limit }
-    requires counted { All (λ value. IsTrue (is_within (slice_index parent.now 0) (from_end (slice_index parent.now 0) value))) ind.now }
-    ensures { result ≡ position_of parent.now (index_source parent.now ind_dims.now ind.now (coordinates_of joined.now position)) }
+/// Positions along a row, evenly apart.
+#[derive(Clone, Copy)]
+struct Line {
+    from: u32,
+    step: u32,
+}
+
+/// The positions in an array of dimensions `dims` along the row of a broadcast at the coordinates
+/// `at` of its dimensions past the first.
+fn line_of(dims: &[u32], at: &[u32]) -> Line
+    requires within { IsWithin (drop 1 dims.now) (cut_to (drop 1 dims.now) at.now) }
+    requires bounded { extent dims.now ≤ extent_limit }
+    ensures { (c : ℕ) → line_at result c ≡ position_of dims.now (cut_to dims.now (c ∷ at.now)) }
 {
-    match parent.split_first() {
-        Some((size, rest)) => {
-            let value = ind[used_position(ind_dims, joined, position) as usize];
-            match counted(*size, value) {
-                Some(first) => first + *size * used_position(rest, joined, position),
-                None => unreachable!(),
-            }
-        }
-        None => unreachable!(),
+    match dims.split_first() {
+        Some((size, dims)) => Line {
+            from: *size * used_position(dims, at),
+            step: if *size == 1 { 0 } else { 1 },
+        },
+        None => Line { from: 0, step: 0 },
     }
 }
 
-/// The places in a parent of dimensions `parent` of all `count` positions of the view.
+/// Adds the places of a row of the view, where the index array and the parent's dimensions past
+/// its first, whose size is `size`, are used along these lines.
+fn push_row(
+    places: &mut Vec<Option<u32>>,
+    size: u32,
+    ind: &[i64],
+    ind_line: Line,
+    rest_line: Line,
+    row: u32,
+) -> Result<(), NoMemory>
+    requires inside { (c : ℕ) → c < row → line_at ind_line c < length ind.now }
+    requires bounded { (c : ℕ) → c < row → size * line_at rest_line c + size ≤ extent_limit }
+    requires small { (c : ℕ) → c < row → line_at rest_line c < extent_limit }
+    requires ind_small { length ind.now ≤ extent_limit }
+    requires counted { All (λ value. IsTrue (is_within size (from_end size value))) ind.now }
+    ensures { OnOk result (places.new.items ≡ places.old.items ++ map (λ c. Some (row_place size ind.now ind_line rest_line c)) (range_with_len 0 row)) }
+{
+    for column in 0..row {
+        let value = ind[(ind_line.from + ind_line.step * column) as usize];
+        match counted(size, value) {
+            Some(first) => {
+                places.push(Some(first + size * (rest_line.from + rest_line.step * column)))?;
+            }
+            None => unreachable!(),
+        }
+    }
+    Ok(())
+}
+
+/// The places in a parent of dimensions `parent` of all `count` positions of the view, whose
+/// dimensions are `joined`.
 fn index_places(
     alloc: Global,
     parent: &[u32],
@@ -197,15 +222,21 @@ fn index_places(
     requires ind_fits { BroadcastsTo ind_dims.now joined.now }
     requires parent_fits { BroadcastsTo (drop 1 parent.now) joined.now }
     requires counts { count ≡ size_of joined.now }
-    requires ind_bounded { size_of ind_dims.now ≤ extent_limit }
+    requires ind_bounded { extent ind_dims.now ≤ extent_limit }
     requires parent_bounded { extent parent.now ≤ extent_limit }
     requires counted { All (λ value. IsTrue (is_within (slice_index parent.now 0) (from_end (slice_index parent.now 0) value))) ind.now }
     ensures inside { IfOk result (λ places. AreInside (size_of parent.now) places.items) }
     ensures places { IfOk result (λ places. places.items ≡ places_of joined.now parent.now (λ at. Some (index_source parent.now ind_dims.now ind.now at))) }
 {
+    let (size, rest) = first_size(parent);
+    let (row, outer) = first_size(joined);
+    let mut at = vec![in alloc; 0; outer.len()]?;
     let mut places = Vec::with_capacity(alloc, count as usize)?;
-    for position in 0..count {
-        places.push(Some(index_place(parent, ind_dims, ind, joined, position)))?;
+    for _round in 0..rounds_of(count, row) {
+        let ind_line = line_of(ind_dims, &at);
+        let rest_line = line_of(rest, &at);
+        push_row(&mut places, size, ind, ind_line, rest_line, row)?;
+        move_on(outer, &mut at);
     }
     Ok(places)
 }

@@ -12,6 +12,7 @@ mod edges;
 mod indices;
 mod masks;
 mod reach;
+mod rounds;
 #[cfg(test)]
 mod tests;
 mod windows;

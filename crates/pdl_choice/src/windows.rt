@@ -1,15 +1,17 @@
 //! range: a window of the parent at each corner that an index lists.
-ghost use Rattle.std.specs.Prelude.{◌≡◌, ◌≢◌, ◌<◌, ◌≤◌, ◌≤ℤ◌, ◌⊎◌, ◌*◌, ◌+◌, ◌/◌, ◌%◌, ℕ, false, pos, slice_index, slice_index_or, ◌++◌, length, take, drop, map, filter, All, Ok, Err, IfOk, IfErr, IfSome, IfNone, OnOk, Some, None, vec_len};
+ghost use Rattle.std.specs.Prelude.{◌≡◌, ◌≢◌, ◌<◌, ◌≤◌, ◌≤ℤ◌, ◌⊎◌, ◌*◌, ◌+◌, ◌-◌, max, [], ◌∷◌, ◌/◌, ◌%◌, ℕ, false, pos, slice_index, slice_index_or, ◌++◌, length, take, drop, map, filter, All, Ok, Err, IfOk, IfErr, IfSome, IfNone, OnOk, Some, None, vec_len};
 ghost use Rattle.std.specs.Bool.{OnFalse};
 ghost use Rattle.std.specs.List.{list_any, range_with_len};
 ghost use Rattle.std.specs.Option.{option_map};
 ghost use Rattle.pdl_shape.specs.Shape.{IsDims, dims_limit, extent, extent_limit, size_of, position_of, coordinates_of};
 ghost use Rattle.pdl_choice.specs.Choice.{AreInside, places_of, within_limits};
 ghost use Rattle.pdl_choice.specs.Edges.{edge_refuses, from_zero};
-ghost use Rattle.pdl_choice.specs.Range.{capped, corner_len, is_negative, is_positive, window_refusal, window_sizes, first_refused, inner_dims, range_dims, window_source, range_source, AllAllowed, AreAllowed};
+ghost use Rattle.pdl_choice.specs.Rounds.{CanPlaceAll, CanPlaceEach, numbers_at, placed};
+ghost use Rattle.pdl_choice.specs.Range.{capped, corner_len, is_negative, is_positive, window_refusal, window_sizes, first_refused, inner_dims, range_dims, window_source, range_source, AllAllowed};
 
 use crate::answers::{count_of, limited};
 use crate::reach::{coordinate, refuses};
+use crate::rounds::{first_size, move_on, rounds_of};
 use crate::{Choice, ChoiceFault, Edge, NoMemory};
 use pdl_shape::{Dims, dims_list, elements_of};
 use std::alloc::Global;
@@ -84,14 +86,13 @@ fn ranged(
 }
 
 /// How many numbers a corner has, and the dimensions of the array of corners.
+#[tactic(auto, using(crate::proofs::Cornered::first_corner))]
 fn corner_dims(ind_dims: &[u32]) -> (usize, &[u32])
     ensures count { result.0 ≡ corner_len ind_dims.now }
     ensures outer { result.1.now ≡ drop 1 ind_dims.now }
 {
-    match ind_dims.split_first() {
-        Some((count, outer)) => (*count as usize, outer),
-        None => (1, ind_dims),
-    }
+    let (count, outer) = first_size(ind_dims);
+    (count as usize, outer)
 }
 
 /// The sizes of windows that aren't 0. Sizes past the largest number stand at it.
@@ -208,44 +209,44 @@ fn first_beyond(edge: Edge, parent: &[u32], windows: &[u64], ind: &[i64]) -> Opt
     ensures none { IfNone result (AllAllowed edge parent.now windows.now ind.now) }
     ensures first { result ≡ first_refused edge parent.now windows.now ind.now }
 {
+    let mut number = 0;
     for (place, value) in ind.iter().enumerate() {
-        let number = place % windows.len();
         if refuses(edge, parent[number], windows[number], *value) {
             return Some(place);
         }
+        number = next_number(number, windows.len());
     }
     None
 }
 
-/// The place in a parent of dimensions `parent` of one position of the window at `corner`.
-fn window_place(
-    edge: Edge,
-    parent: &[u32],
-    windows: &[u64],
-    corner: &[i64],
-    position: u64,
-) -> Option<u32>
-    requires paired { length corner.now ≡ length windows.now }
-    requires fit { length windows.now ≤ length parent.now }
-    requires bounded { extent parent.now ≤ extent_limit }
-    requires allowed { AreAllowed edge parent.now windows.now corner.now }
-    requires within { position < size_of (inner_dims parent.now windows.now) }
-    ensures bound { IfSome result (λ place. place < size_of parent.now) }
-    ensures place { result ≡ option_map (position_of parent.now) (window_source edge parent.now windows.now corner.now (coordinates_of (inner_dims parent.now windows.now) position)) }
+/// The number of a corner after `number`, where a corner has `count` numbers.
+fn next_number(number: usize, count: usize) -> usize
+    requires { number < count }
+    ensures { result ≡ (number + 1) % count }
 {
-    let Some((window, windows)) = windows.split_first() else {
-        return Some(position as u32);
-    };
-    let Some((size, parent)) = parent.split_first() else {
-        unreachable!()
-    };
-    let Some((value, corner)) = corner.split_first() else {
-        unreachable!()
-    };
-    let step = (*window).max(1);
-    let first = coordinate(edge, *size, *value, position % step)?;
-    let rest = window_place(edge, parent, windows, corner, position / step)?;
-    Some(first + *size * rest)
+    if number + 1 < count { number + 1 } else { 0 }
+}
+
+/// The place in a parent of dimensions `parent` of one position of the window at `corner`: that
+/// of the coordinates that lie `at` past the corner. The last number of `at` is the place in the
+/// dimensions that are left.
+fn corner_place(edge: Edge, parent: &[u32], corner: &[i64], at: &[u32]) -> Option<u32>
+    requires paired { length at.now ≡ length corner.now + 1 }
+    requires fit { length corner.now ≤ length parent.now }
+    requires bounded { extent parent.now ≤ extent_limit }
+    requires allowed { CanPlaceEach edge parent.now corner.now at.now }
+    requires within { slice_index at.now (length corner.now) < size_of (drop (length corner.now) parent.now) }
+    ensures bound { IfSome result (λ place. place < size_of parent.now) }
+    ensures place { result ≡ placed edge parent.now corner.now at.now }
+{
+    let mut place = 0;
+    let mut stride = 1;
+    for (number, value) in corner.iter().enumerate() {
+        let size = parent[number];
+        place += stride * coordinate(edge, size, *value, at[number])?;
+        stride *= size;
+    }
+    Some(place + stride * at[corner.len()])
 }
 
 /// The `len` numbers of the corner that has `at` corners before it.
@@ -256,6 +257,48 @@ fn corner_of(ind: &[i64], len: usize, at: u32) -> &[i64]
     let (_, from_here) = ind.split_at(len * at as usize);
     let (corner, _) = from_here.split_at(len);
     corner
+}
+
+/// Adds the places of one position of the window at each corner.
+fn push_corners(
+    places: &mut Vec<Option<u32>>,
+    edge: Edge,
+    parent: &[u32],
+    ind: &[i64],
+    corners: u32,
+    at: &[u32],
+) -> Result<(), NoMemory>
+    requires some { 0 < length at.now }
+    requires fit { length at.now ≤ length parent.now + 1 }
+    requires whole { length ind.now ≡ (length at.now - 1) * corners }
+    requires bounded { extent parent.now ≤ extent_limit }
+    requires allowed { CanPlaceAll edge parent.now ind.now (length at.now - 1) at.now }
+    requires within { slice_index at.now (length at.now - 1) < size_of (drop (length at.now - 1) parent.now) }
+    ensures inside { OnOk result (AreInside (size_of parent.now) places.old.items → AreInside (size_of parent.now) places.new.items) }
+    ensures added { OnOk result (places.new.items ≡ places.old.items ++ map (λ q. placed edge parent.now (numbers_at ind.now (length at.now - 1) q) at.now) (range_with_len 0 corners)) }
+{
+    let len = at.len() - 1;
+    for number in 0..corners {
+        let corner = corner_of(ind, len, number);
+        places.push(corner_place(edge, parent, corner, at))?;
+    }
+    Ok(())
+}
+
+/// The sizes that a window's positions go through: the window's, of which 0 picks one coordinate
+/// as 1 does, and the number of elements of the parent's dimensions that are left.
+fn window_rounds(alloc: Global, parent: &[u32], windows: &[u64]) -> Result<Vec<u32>, NoMemory>
+    requires fit { length windows.now ≤ length parent.now }
+    requires bounded { extent parent.now ≤ extent_limit }
+    ensures { IfOk result (λ sizes. sizes.items ≡ map (λ w. max (capped w) 1) windows.now ++ size_of (drop (length windows.now) parent.now) ∷ []) }
+{
+    let rest = count_of(&parent[windows.len()..]);
+    let mut sizes = Vec::with_capacity(alloc, windows.len() + 1)?;
+    for window in windows {
+        sizes.push(capped_size(*window).max(1))?;
+    }
+    sizes.push(rest)?;
+    Ok(sizes)
 }
 
 /// The places in a parent of dimensions `parent` of all `count` positions of the windows at
@@ -273,14 +316,17 @@ fn window_places(
     requires whole { length ind.now ≡ length windows.now * corners }
     requires counts { count ≡ corners * size_of (inner_dims parent.now windows.now) }
     requires bounded { extent parent.now ≤ extent_limit }
+    requires inner_bounded { extent (inner_dims parent.now windows.now) ≤ extent_limit }
     requires allowed { AllAllowed edge parent.now windows.now ind.now }
     ensures inside { IfOk result (λ places. AreInside (size_of parent.now) places.items) }
     ensures places { IfOk result (λ places. places.items ≡ map (λ p. option_map (position_of parent.now) (window_source edge parent.now windows.now (take (length windows.now) (drop (length windows.now * (p % corners)) ind.now)) (coordinates_of (inner_dims parent.now windows.now) (p / corners)))) (range_with_len 0 count)) }
 {
+    let sizes = window_rounds(alloc, parent, windows)?;
+    let mut at = vec![in alloc; 0; sizes.len()]?;
     let mut places = Vec::with_capacity(alloc, count as usize)?;
-    for position in 0..count {
-        let corner = corner_of(ind, windows.len(), position % corners);
-        places.push(window_place(edge, parent, windows, corner, u64::from(position / corners)))?;
+    for _round in 0..rounds_of(count, corners) {
+        push_corners(&mut places, edge, parent, ind, corners, &at)?;
+        move_on(&sizes, &mut at);
     }
     Ok(places)
 }

@@ -4,4 +4,5 @@ use Rattle.pdl_choice.proofs.windows.first_beyond.Given as goal
 
 abbrev pub invariant-loop-place : goal.invariant-loop-place
 invariant-loop-place l =
-    (k : ℕ) → k < l.place → edge_refuses l.edge (get_or l.parent (k % length l.windows) 0) (get_or l.windows (k % length l.windows) 0) (get_or l.ind k (pos 0)) ≡ false
+    (l.number ≡ l.place % length l.windows)
+    × ((k : ℕ) → k < l.place → edge_refuses l.edge (get_or l.parent (k % length l.windows) 0) (get_or l.windows (k % length l.windows) 0) (get_or l.ind k (pos 0)) ≡ false)

@@ -5,7 +5,7 @@ use Rattle.pdl_choice.specs.Choice.{places_of, within_limits}
 use Rattle.pdl_choice.specs.Range.{corner_len, inner_dims, windowed_dims, window_sizes, window_refusal, range_source}
 use Rattle.pdl_choice.proofs.Cornered.{window_places_are, corner_size}
 use Rattle.pdl_choice.proofs.Positions.{size_of-append}
-use Rattle.pdl_choice.proofs.Ranged.{range_dims-fit, within_limits-ok}
+use Rattle.pdl_choice.proofs.Ranged.{range_dims-fit, within_limits-back, within_limits-ok}
 use Rattle.pdl_choice.proofs.windows.ranged.Goals as goal
 
 pub overflow_cast-result : goal.overflow_cast-result
@@ -38,6 +38,10 @@ window_places-requires-clause-counts c =
     ∙ ap size_of (sym (within_limits-ok (outer ++ inner) c.in-Ok-windowed.dims c.in-Ok-windowed.ensures.dims))
     ∙ size_of-append outer inner
     ∙ ap (λ (n : ℕ). n * size_of inner) (sym c.count_of-corners.ensures)
+
+pub window_places-requires-clause-inner_bounded : goal.window_places-requires-clause-inner_bounded
+window_places-requires-clause-inner_bounded c =
+    within_limits-back c.corner_dims-count.result.1.now (inner_dims c.args.parent.now c.as_slice-windows.result.now) c.in-Ok-windowed.dims c.in-Ok-windowed.ensures.dims
 
 pub returns-clause-dims : goal.returns-clause-dims
 returns-clause-dims c =

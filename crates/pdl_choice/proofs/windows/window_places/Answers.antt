@@ -1,37 +1,56 @@
-use Rattle.std.proofs.Common.{refl, sym, length, ◌∙◌, ◌/◌, ◌%◌, ap, subst, ℕ, ℤ, List}
-use Rattle.pdl_choice.specs.Range.{AreAllowed}
-use Rattle.pdl_choice.proofs.Cornered.{allowed_at}
-use Rattle.pdl_choice.proofs.Bounds.{corner_fits}
+use Rattle.std.proofs.Common.{◌∙◌, ◌-◌, ◌/◌, ◌%◌, ap, arith, length, map, None}
+use Rattle.std.specs.List.{range_with_len}
+use Rattle.std.proofs.lemmas.List.{with_items_is}
 use Rattle.pdl_shape.specs.Shape.{size_of}
-use Rattle.pdl_choice.proofs.Inside.{none_inside, inside_push}
-use Rattle.pdl_choice.proofs.Listed.{places_grow}
-use Rattle.pdl_choice.proofs.Reached.{window_position, length-corner, corners_positive}
+use Rattle.pdl_choice.specs.Range.{inner_dims}
+use Rattle.pdl_choice.specs.Rounds.{numbers_at, placed}
+use Rattle.pdl_choice.proofs.Inside.{none_inside}
+use Rattle.pdl_choice.proofs.Listed.{rounds_grow, rounds_none}
+use Rattle.pdl_choice.proofs.MovingOn.{rounds_all, rounds_below}
+use Rattle.pdl_choice.proofs.Reached.{window_position}
+use Rattle.pdl_choice.proofs.Windowed.{all_placed, at_round, first_round, round_moved, round_places, round_within, rounds_are}
 use Rattle.pdl_choice.proofs.windows.window_places.Goals as goal
 
-pub corner_of-corner-requires : goal.corner_of-corner-requires
-corner_of-corner-requires c =
-    corner_fits (length c.args.windows.now) _ c.args.corners _ (corners_positive c.loop-position.position c.args.count c.args.corners _ c.loop-position-test.true c.requires.counts) c.requires.whole
-
-pub window_place-requires-clause-paired : goal.window_place-requires-clause-paired
-window_place-requires-clause-paired c =
-    ap length c.corner_of-corner.ensures
-    ∙ length-corner _ (length c.args.windows.now) _
-    (corner_fits (length c.args.windows.now) _ c.args.corners _ (corners_positive c.loop-position.position c.args.count c.args.corners _ c.loop-position-test.true c.requires.counts) c.requires.whole)
-
-pub loop-position-init : goal.loop-position-init
-loop-position-init c = (c.in_ok-places.ensures.items, none_inside (size_of c.args.parent.now) c.in_ok-places.places.items c.in_ok-places.ensures.items)
-
-pub loop-position-preserved : goal.loop-position-preserved
-loop-position-preserved c = (
-  places_grow _ _ _ _ _ c.loop-position.invariant.0 c.in_ok-push.ensures.items
-      (c.window_place.ensures.place
-      ∙ ap (λ (p : ℕ). window_position c.args.edge c.args.parent.now c.args.windows.now c.corner_of-corner.result.now p) c.from.ensures
-      ∙ ap (λ (corner : List ℤ). window_position c.args.edge c.args.parent.now c.args.windows.now corner (c.loop-position.position / c.args.corners)) c.corner_of-corner.ensures),
-  inside_push (size_of c.args.parent.now) _ _ _ c.loop-position.invariant.1 c.window_place.ensures.bound c.in_ok-push.ensures.items,
+pub loop-round-init : goal.loop-round-init
+loop-round-init c = (
+  first_round c.args.parent.now c.args.windows.now c.in_ok-sizes.sizes.items c.in_ok-at.at.items _ (rounds_are c.args.parent.now c.args.windows.now _ c.requires.inner_bounded c.in_ok-sizes.ensures) (omega (arith, c.len.ensures, c.in_ok-sizes.sizes.ok)) (c.in_ok-at.ensures.items_if_clones_equal (λ y e. e)),
+  rounds_none _ c.in_ok-places.places.items c.args.corners c.in_ok-places.ensures.items,
+  none_inside (size_of c.args.parent.now) c.in_ok-places.places.items c.in_ok-places.ensures.items,
 )
 
-pub window_place-requires-clause-allowed : goal.window_place-requires-clause-allowed
-window_place-requires-clause-allowed c =
-    subst (λ (corner : List ℤ). AreAllowed c.args.edge c.args.parent.now c.args.windows.now corner) (sym c.corner_of-corner.ensures)
-    (allowed_at c.args.edge c.args.parent.now c.args.windows.now c.args.ind.now (length c.args.windows.now) (c.loop-position.position % c.args.corners) refl c.requires.allowed
-    (corner_fits (length c.args.windows.now) _ c.args.corners _ (corners_positive c.loop-position.position c.args.count c.args.corners _ c.loop-position-test.true c.requires.counts) c.requires.whole))
+pub push_corners-requires-clause-allowed : goal.push_corners-requires-clause-allowed
+push_corners-requires-clause-allowed c =
+    let progress = rounds_below c.args.count c.args.corners (size_of (inner_dims c.args.parent.now c.args.windows.now)) _ c.loop-round._round c.requires.counts c.rounds_of-round-end.ensures.none c.rounds_of-round-end.ensures.some c.loop-round-test.true in
+    all_placed c.args.edge c.args.parent.now c.args.windows.now c.args.ind.now c.deref.result.now _
+    (at_round c.args.parent.now c.args.windows.now c.deref.result.now c.loop-round._round (length c.deref.result.now - 1) c.requires.fit progress.1 (c.deref.ensures.value ∙ c.loop-round.invariant.0) (omega arith))
+    c.requires.allowed
+
+pub push_corners-requires-clause-within : goal.push_corners-requires-clause-within
+push_corners-requires-clause-within c =
+    let progress = rounds_below c.args.count c.args.corners (size_of (inner_dims c.args.parent.now c.args.windows.now)) _ c.loop-round._round c.requires.counts c.rounds_of-round-end.ensures.none c.rounds_of-round-end.ensures.some c.loop-round-test.true in
+    (at_round c.args.parent.now c.args.windows.now c.deref.result.now c.loop-round._round (length c.deref.result.now - 1) c.requires.fit progress.1 (c.deref.ensures.value ∙ c.loop-round.invariant.0) (omega arith)).left
+
+pub move_on-requires : goal.move_on-requires
+move_on-requires c =
+    let progress = rounds_below c.args.count c.args.corners (size_of (inner_dims c.args.parent.now c.args.windows.now)) _ c.loop-round._round c.requires.counts c.rounds_of-round-end.ensures.none c.rounds_of-round-end.ensures.some c.loop-round-test.true in
+    round_within c.args.parent.now c.args.windows.now _ _ c.loop-round._round c.requires.fit
+    (c.deref-in-loop-round.ensures.value ∙ rounds_are c.args.parent.now c.args.windows.now _ c.requires.inner_bounded c.in_ok-sizes.ensures) progress.1 (c.deref_mut.ensures.value ∙ c.loop-round.invariant.0)
+
+pub loop-round-preserved : goal.loop-round-preserved
+loop-round-preserved c =
+    let progress = rounds_below c.args.count c.args.corners (size_of (inner_dims c.args.parent.now c.args.windows.now)) _ c.loop-round._round c.requires.counts c.rounds_of-round-end.ensures.none c.rounds_of-round-end.ensures.some c.loop-round-test.true in
+    let here = at_round c.args.parent.now c.args.windows.now c.deref.result.now c.loop-round._round (length c.deref.result.now - 1) c.requires.fit progress.1 (c.deref.ensures.value ∙ c.loop-round.invariant.0) (omega arith) in (
+      with_items_is c.loop-round.at c.move_on.new.coordinates (c.move_on.auto.coordinates ∙ c.deref_mut.ensures.len)
+          ∙ round_moved c.args.parent.now c.args.windows.now c.deref-in-loop-round.result.now c.deref_mut.result.now c.move_on.new.coordinates c.loop-round._round c.requires.fit
+          (c.deref-in-loop-round.ensures.value ∙ rounds_are c.args.parent.now c.args.windows.now _ c.requires.inner_bounded c.in_ok-sizes.ensures) progress.1 (c.deref_mut.ensures.value ∙ c.loop-round.invariant.0) c.move_on.ensures,
+      rounds_grow (λ p. window_position c.args.edge c.args.parent.now c.args.windows.now (numbers_at c.args.ind.now (length c.args.windows.now) (p % c.args.corners)) (p / c.args.corners))
+          (λ q. placed c.args.edge c.args.parent.now (numbers_at c.args.ind.now (length c.deref.result.now - 1) q) c.deref.result.now)
+          c.loop-round.places.items c.push_corners.new.places.items c.args.corners c.loop-round._round None c.loop-round.invariant.1 c.in_ok-push_corners.ensures.added
+          (round_places c.args.edge c.args.parent.now c.args.windows.now c.args.ind.now c.deref.result.now (length c.deref.result.now - 1) c.args.corners c.loop-round._round c.requires.fit c.requires.whole progress.1 (c.deref.ensures.value ∙ c.loop-round.invariant.0) here.len_is),
+      c.in_ok-push_corners.ensures.inside c.loop-round.invariant.2,
+    )
+
+pub returns-clause-places : goal.returns-clause-places
+returns-clause-places c =
+    let all = rounds_all c.args.count c.args.corners (size_of (inner_dims c.args.parent.now c.args.windows.now)) _ c.loop-round._round c.requires.counts c.rounds_of-round-end.ensures.none c.rounds_of-round-end.ensures.some c.loop-round-test.false c.loop-round.auto._round-end in
+    c.loop-round.invariant.1 ∙ ap (λ n. map (λ p. window_position c.args.edge c.args.parent.now c.args.windows.now (numbers_at c.args.ind.now (length c.args.windows.now) (p % c.args.corners)) (p / c.args.corners)) (range_with_len 0 n)) all

@@ -1,0 +1,10 @@
+pub mod SliceLines
+pub mod Places
+pub mod SizeLists
+pub mod Moved
+pub mod Shown
+pub mod Sourced
+pub mod Picks
+pub mod SliceCourses
+pub mod Sounds
+pub mod Clumps

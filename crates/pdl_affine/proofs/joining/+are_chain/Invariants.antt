@@ -1,0 +1,5 @@
+use Rattle.std.proofs.Common.{length}
+use Rattle.pdl_affine.proofs.joining.+are_chain.Given as goal
+
+abbrev pub decreases-are_chain : goal.decreases-are_chain
+decreases-are_chain l = length l.incs.now

@@ -1,0 +1,5 @@
+pub mod Slicing
+pub mod Views
+pub mod Windows
+pub mod Courses
+pub mod Plan

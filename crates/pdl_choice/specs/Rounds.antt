@@ -1,0 +1,45 @@
+-- How the places of a view are found one from another, without a division.
+use Rattle.std.specs.Prelude.{ℕ, ◌+◌, ◌*◌, ◌<◌, List, [], ◌∷◌, length, take, drop, slice_index, slice_index_or, Option, Some, None, ℤ, pos, ◌+ℤ◌}
+use Rattle.std.specs.Option.{option_map}
+use Rattle.pdl_choice.specs.declared.edges.Edge.{Edge}
+use Rattle.pdl_choice.specs.declared.indices.Line.{Line}
+use Rattle.pdl_choice.specs.Edges.{CanPlace, edge_coordinate, from_zero}
+use Rattle.pdl_choice.specs.Index.{from_end}
+
+-- the position at place c of a row
+abbrev pub line_at : Line → ℕ → ℕ
+line_at line c = line.from + line.step * c
+
+-- the place at column c of a row of an index view: the index value's coordinate along the first dimension, of size n
+abbrev pub row_place : ℕ → List ℤ → Line → Line → ℕ → ℕ
+row_place n ind ind_line rest_line c =
+    from_zero (from_end n (slice_index_or ind (line_at ind_line c) (pos 0))) + n * line_at rest_line c
+
+-- the numbers of a corner that has q corners before it
+abbrev pub numbers_at : List ℤ → ℕ → ℕ → List ℤ
+numbers_at ind len q = take len (drop (len * q) ind)
+
+-- a coordinate before the place of the others, in a dimension of size n
+abbrev pub place_first : ℕ → Option ℕ → Option ℕ → Option ℕ
+place_first n None rest = None
+place_first n (Some c) rest = option_map (λ p. c + n * p) rest
+
+-- the place of the coordinates that lie so far past a corner; the last number is the place in the dimensions past the corner's
+abbrev pub placed : Edge → List ℕ → List ℤ → List ℕ → Option ℕ
+placed edge parent corner [] = Some 0
+placed edge parent [] (q ∷ at) = Some q
+placed edge [] (v ∷ corner) (c ∷ at) = Some 0
+placed edge (n ∷ parent) (v ∷ corner) (c ∷ at) =
+    place_first n (edge_coordinate edge n (v +ℤ pos c)) (placed edge parent corner at)
+
+-- the edges place the numbers that lie so far past a corner
+abbrev pub CanPlaceEach : Edge → List ℕ → List ℤ → List ℕ → Type 0
+CanPlaceEach edge parent corner at =
+    (j : ℕ) → j < length corner
+    → CanPlace edge (slice_index parent j) (slice_index_or corner j (pos 0) +ℤ pos (slice_index at j))
+
+-- the edges place the numbers that lie so far past each corner of so many numbers
+abbrev pub CanPlaceAll : Edge → List ℕ → List ℤ → ℕ → List ℕ → Type 0
+CanPlaceAll edge parent ind len at =
+    (q j : ℕ) → j < len → len * q + j < length ind
+    → CanPlace edge (slice_index parent j) (slice_index_or ind (len * q + j) (pos 0) +ℤ pos (slice_index at j))
