@@ -10,7 +10,8 @@ use Rattle.pdl_lex.specs.declared.cutter.Mode.{Mode}
 use Rattle.pdl_lex.specs.declared.cutter.Mode.TheVariants.{Code, Comment, Double, Single}
 use Rattle.pdl_lex.specs.declared.Piece.{Piece}
 use Rattle.pdl_lex.specs.declared.Piece.TheVariants.{Whole, TooLong}
-use Rattle.pdl_lex.specs.Pieces.{State, mode_after, is_end, is_between, chunks, onto_first, text_piece, certain, has_ended, numbered, begun_piece, from_chunks, settled_from, start_state, statement_limit}
+use Rattle.pdl_lex.specs.Pieces.{State, mode_after, is_end, is_between, chunks, onto_first, text_piece, certain, has_ended, numbered, begun_piece, from_chunks, settled_from, start_state}
+use Rattle.pdl_lex.specs.Limits.{statement_limit}
 use Rattle.pdl_lex.specs.Steps.{next, cut_at, begun, ended, is_idle, is_full, IsQuiet, Reaches, Fits, is_plain, extended}
 
 -- there is always a chunk that has no end yet

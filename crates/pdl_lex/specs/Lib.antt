@@ -1,4 +1,5 @@
 pub mod Bytes
+pub mod Limits
 pub mod Pieces
 pub mod Tokens
 pub mod Steps

@@ -2,18 +2,11 @@
 -- statement, and know nothing of the way in which the bytes come.
 use Rattle.std.specs.Prelude.{ℕ, ◌+◌, ◌==◌, nat_lt, Bool, true, false, ◌||◌, if◌then◌else◌, List, [], ◌∷◌, ◌++◌, length, take, map, Option, Some, None}
 use Rattle.pdl_lex.specs.Bytes.{is_blank, is_hash, is_semicolon, newlines}
+use Rattle.pdl_lex.specs.Limits.{statement_limit, script_limit}
 use Rattle.pdl_lex.specs.declared.cutter.Mode.{Mode}
 use Rattle.pdl_lex.specs.declared.cutter.Mode.TheVariants.{Code, Comment, Double, Single}
 use Rattle.pdl_lex.specs.declared.Piece.{Piece}
 use Rattle.pdl_lex.specs.declared.Piece.TheVariants.{Whole, TooLong}
-
--- the most bytes of a statement's text
-abbrev pub statement_limit : ℕ
-statement_limit = 65536
-
--- the most bytes of a script
-abbrev pub script_limit : ℕ
-script_limit = 16777216
 
 -- where the byte after byte b stands: in code, in a comment, or in a string of either quote
 abbrev pub mode_after : Mode → ℕ → Mode

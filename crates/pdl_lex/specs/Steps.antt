@@ -1,7 +1,8 @@
 -- What a cutter does at one byte. Only its private functions speak of this.
 use Rattle.std.specs.Prelude.{ℕ, ◌+◌, ◌==◌, Bool, true, false, not, ◌||◌, List, [], ◌∷◌, ◌++◌, length, Option, Some, None, if◌then◌else◌, ◌≡◌, ◌<◌, ◌≤◌, take, slice_index}
 use Rattle.pdl_lex.specs.Bytes.{newlines}
-use Rattle.pdl_lex.specs.Pieces.{State, mode_after, is_end, is_between, statement_limit}
+use Rattle.pdl_lex.specs.Pieces.{State, mode_after, is_end, is_between}
+use Rattle.pdl_lex.specs.Limits.{statement_limit}
 use Rattle.pdl_lex.specs.declared.cutter.Mode.{Mode}
 use Rattle.pdl_lex.specs.declared.cutter.Mode.TheVariants.{Code, Comment, Double, Single}
 use Rattle.pdl_lex.specs.declared.Piece.{Piece}

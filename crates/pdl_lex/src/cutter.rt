@@ -94,7 +94,8 @@ pub struct StatementCutter {
 
 impl Model for StatementCutter {
     ghost use Rattle.std.specs.Prelude.{◌+◌, ◌^◌, ◌<◌, ◌≤◌, length};
-    ghost use Rattle.pdl_lex.specs.Pieces.{State, statement_limit};
+    ghost use Rattle.pdl_lex.specs.Limits.{statement_limit};
+    ghost use Rattle.pdl_lex.specs.Pieces.{State};
 
     ghost Value = { State };
 

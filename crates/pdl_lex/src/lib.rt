@@ -61,33 +61,39 @@ impl<T: Drop> From<AllocFailed<T>> for LexFault {
     }
 }
 
-/// The bytes of a statement's text, as they stand in the script.
+/// The bytes of a statement's text, as they stand in the script: at most 65,536 of them.
 #[derive(Drop)]
 pub struct StatementText {
     bytes: Vec<u8>,
 }
 
 impl Model for StatementText {
-    ghost use Rattle.std.specs.Prelude.{ℕ, List};
+    ghost use Rattle.std.specs.Prelude.{ℕ, ◌≤◌, List, length};
+    ghost use Rattle.pdl_lex.specs.Limits.{statement_limit};
 
     ghost Value = { List ℕ };
 
     ghost view = { λ t. t.bytes.items };
+
+    ghost invariant = { λ t. length t.bytes.items ≤ statement_limit };
 }
 
 impl StatementText {
-    ghost use Rattle.std.specs.Prelude.{◌≡◌};
+    ghost use Rattle.std.specs.Prelude.{◌≡◌, ◌≤◌, length};
+    ghost use Rattle.pdl_lex.specs.Limits.{statement_limit};
 
-    /// The text of these bytes.
+    /// The text of these bytes, of which there are no more than a statement may have.
     pub fn new(bytes: Vec<u8>) -> StatementText
-        ensures { result ≡ bytes.items }
+        requires within { length bytes.items ≤ statement_limit }
+        ensures same { result ≡ bytes.items }
     {
         StatementText { bytes }
     }
 
     /// The bytes in order.
     pub fn bytes(&self) -> &[u8]
-        ensures { result.now ≡ self.now }
+        ensures same { result.now ≡ self.now }
+        ensures within { length result.now ≤ statement_limit }
     {
         &self.bytes
     }

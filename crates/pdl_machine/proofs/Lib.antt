@@ -1,3 +1,4 @@
 pub mod Fits
 pub mod Swept
 pub mod Same
+pub mod Reaching

@@ -55,7 +55,7 @@ pub has_grows : (r r' : Renaming) → Grows r r' → (names : Names) → HasName
 has_grows r r' g [] h = tt
 has_grows r r' g (n ∷ names) h = (g.still n.1 h.0, has_grows r r' g names h.1)
 
-has_inside : {r : Renaming} {w c : World} → Fits r w c → (v : ℕ) → has r v ≡ true → in_world w v ≡ true
+pub has_inside : {r : Renaming} {w c : World} → Fits r w c → (v : ℕ) → has r v ≡ true → in_world w v ≡ true
 has_inside empty v h = h
 has_inside (left_out k d fresh below f) v h = by_test (k == v) (λ same. rw same refl) (λ other. rw other (has_inside f v h))
 has_inside (kept {r} k d d' fresh below has_parents e f) v h = by_test (k == v) (λ same. rw same refl) (λ other. rw other (has_inside f v (let t : has r v ≡ true = rw other at h in t)))
@@ -220,7 +220,7 @@ and_value_same {r} names e h values (same_given {w} {c} r' given grows f n has_g
     let P : Names → Type 0 = λ x. SameTaken r (and_array given (value_of names w e)) (and_array (moved_all r' given) (value_of x c e)) in
     subst P (moved_grows r r' grows names h) (and_array_same r r' given grows has_given s)
 
-number_of_same : (r : Renaming) (names : Names) (x : List ℕ) → number_of (moved r names) x ≡ option_map (to r) (number_of names x)
+pub number_of_same : (r : Renaming) (names : Names) (x : List ℕ) → number_of (moved r names) x ≡ option_map (to r) (number_of names x)
 number_of_same r [] x = refl
 number_of_same r (n ∷ names) x = by_test (pointwise nat_eq x n.0) (λ same. rw same refl) (λ other. rw other (number_of_same r names x))
 
@@ -228,7 +228,7 @@ pub data HasNumber (r : Renaming) : Option ℕ → Type 0 where
   no_number : HasNumber r None
   a_number : (v : ℕ) → has r v ≡ true → HasNumber r (Some v)
 
-has_number : (r : Renaming) (names : Names) → HasNames r names → (x : List ℕ) → HasNumber r (number_of names x)
+pub has_number : (r : Renaming) (names : Names) → HasNames r names → (x : List ℕ) → HasNumber r (number_of names x)
 has_number r [] h x = no_number
 has_number r (n ∷ names) h x = by_test (pointwise nat_eq x n.0)
     (λ same. let P : Bool → Type 0 = λ b. HasNumber r (if b then Some n.1 else number_of names x) in subst P (sym same) (a_number n.1 h.0))

@@ -74,7 +74,7 @@ older-absent : (w : World) (n : ℕ) → AllBelow n w → older w n ≡ 0
 older-absent [] n below = refl
 older-absent ((k, d) ∷ w) n below = let o : (k == n) ≡ false = apart_below k n below.0 in rw o (older-absent w n below.1)
 
-AllBelow-sweep : (n : ℕ) (w : World) (held : List ℕ) → AllBelow n w → AllBelow n (sweep w held)
+pub AllBelow-sweep : (n : ℕ) (w : World) (held : List ℕ) → AllBelow n w → AllBelow n (sweep w held)
 AllBelow-sweep n [] held below = tt
 AllBelow-sweep n ((k, d) ∷ w) held below = by_keeps (λ h. AllBelow-sweep n w h below.1) (holds held k)
   where
@@ -83,10 +83,10 @@ AllBelow-sweep n ((k, d) ∷ w) held below = by_keeps (λ h. AllBelow-sweep n w 
     by_keeps rest false = rest held
 
 -- the parents of a kept array are held too, on both sides
-alike-parents : {r : Renaming} {w c : World} (f : Fits r w c) (d : ArrayDef) (held held' : List ℕ) → HasAll r (parents d) → HeldAlike r w held held'
+pub alike_parents : {r : Renaming} {w c : World} (f : Fits r w c) (d : ArrayDef) (held held' : List ℕ) → HasAll r (parents d) → HeldAlike r w held held'
     → HeldAlike r w (parents d ++ held) (parents (with_parent (to r) d) ++ held')
-alike-parents f (root ty ds es) held held' has_parents h = h
-alike-parents {r} {w} {c} f (view p t) held held' has_parents h = record {
+alike_parents f (root ty ds es) held held' has_parents h = h
+alike_parents {r} {w} {c} f (view p t) held held' has_parents h = record {
   alike = λ v there. ap (λ b. b || holds held v) (to_apart f p v has_parents.0 there) ∙ ap (λ b. (to r p == to r v) || b) (h.alike v there);
   others = λ v inside left. (let o : (p == v) ≡ false = by_test (p == v)
       (λ same. let e : p ≡ v = eqb-true p v same in let t' : has r v ≡ true = (let P : ℕ → Type 0 = λ x. has r x ≡ true in subst P e has_parents.0) in cc)
@@ -94,9 +94,9 @@ alike-parents {r} {w} {c} f (view p t) held held' has_parents h = record {
 }
 
 -- below the newest array, which is held or isn't
-alike-below : {r : Renaming} {w : World} (n k : ℕ) (d : ArrayDef) (held held' : List ℕ) → AllBelow k w → has r k ≡ false
+pub alike_below : {r : Renaming} {w : World} (n k : ℕ) (d : ArrayDef) (held held' : List ℕ) → AllBelow k w → has r k ≡ false
     → HeldAlike ((k, n) ∷ r) ((k, d) ∷ w) held held' → HeldAlike r w held held'
-alike-below {r} {w} n k d held held' below fresh h = record {
+alike_below {r} {w} n k d held held' below fresh h = record {
   alike = λ v there. (let o : (k == v) ≡ false = apart r k v fresh there in
       let t : has ((k, n) ∷ r) v ≡ true = rw o there in
       let e : to ((k, n) ∷ r) v ≡ to r v = rw o refl in
@@ -125,9 +125,9 @@ swept_same (kept {r} {w} {c} k d d' fresh below has_parents e f) held held' h =
     let n_is : to ((k, length c) ∷ r) k ≡ length c = rw self refl in
     let there : has ((k, length c) ∷ r) k ≡ true = rw self refl in
     let same : holds held k ≡ holds held' (length c) = h.alike k there ∙ ap (holds held') n_is in
-    let tail : HeldAlike r w held held' = alike-below (length c) k d held held' below fresh h in
+    let tail : HeldAlike r w held held' = alike_below (length c) k d held held' below fresh h in
     let P : ArrayDef → Type 0 = λ x. SameSwept ((k, length c) ∷ r) (sweep ((k, d) ∷ w) held) (sweep ((length c, x) ∷ c) held') in
-    subst P (sym e) (by_keeps (swept_same f (parents d ++ held) (parents (with_parent (to r) d) ++ held') (alike-parents f d held held' has_parents tail)) (swept_same f held held' tail) (holds held k) (holds held' (length c)) same)
+    subst P (sym e) (by_keeps (swept_same f (parents d ++ held) (parents (with_parent (to r) d) ++ held') (alike_parents f d held held' has_parents tail)) (swept_same f held held' tail) (holds held k) (holds held' (length c)) same)
   where
     -- one more is kept on both sides
     with_newest : (u u' : World) → SameSwept r u u' → SameSwept ((k, length c) ∷ r) ((k, d) ∷ u) ((length c, with_parent (to r) d) ∷ u')
@@ -188,6 +188,10 @@ others-names r (n ∷ names) has_names v left =
     (λ other. other) in
     rw o (others-names r names has_names.1 v left)
 
+-- names and the same names with the new numbers hold alike
+pub alike_held : {r : Renaming} {w c : World} (f : Fits r w c) (names : Names) → HasNames r names → HeldAlike r w (held_by names) (held_by (moved r names))
+alike_held {r} f names h = record { alike = alike-names f names h; others = λ v inside left. others-names r names h v left }
+
 moved_same : (r : Renaming) (u u' : World) → SameSwept r u u' → (names : Names) → HasNames r names
     → with_numbers (older u) names ≡ with_numbers (older u') (moved r names)
 moved_same r u u' s [] has_names = refl
@@ -201,7 +205,7 @@ pub tidy_same : {r : Renaming} {w c : World} → Fits r w c → (names : Names) 
     → tidy (record { names = names; world = w }) ≡ tidy (record { names = moved r names; world = c })
 tidy_same {r} {w} {c} f names has_names =
     let s : SameSwept r (sweep w (held_by names)) (sweep c (held_by (moved r names))) =
-    swept_same f (held_by names) (held_by (moved r names)) (record { alike = alike-names f names has_names; others = λ v inside left. others-names r names has_names v left }) in
+    swept_same f (held_by names) (held_by (moved r names)) (alike_held f names has_names) in
     let a : with_numbers (older (sweep w (held_by names))) names ≡ with_numbers (older (sweep c (held_by (moved r names)))) (moved r names) =
     moved_same r (sweep w (held_by names)) (sweep c (held_by (moved r names))) s names has_names in
     state-eq a s.numbered
@@ -225,7 +229,7 @@ pub length-renumber : (u : World) → length (renumber u) ≡ length u
 length-renumber [] = refl
 length-renumber ((k, d) ∷ u) = ap suc (length-renumber u)
 
-fresh_number : (u : World) (k : ℕ) → AllBelow k u → has (numbers_of u) k ≡ false
+pub fresh_number : (u : World) (k : ℕ) → AllBelow k u → has (numbers_of u) k ≡ false
 fresh_number [] k below = refl
 fresh_number ((j, d) ∷ u) k below = let o : (j == k) ≡ false = apart_below j k below.0 in rw o (fresh_number u k below.1)
 

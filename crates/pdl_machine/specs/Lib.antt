@@ -7,5 +7,6 @@ pub mod Value
 pub mod Tidy
 pub mod Text
 pub mod Step
+pub mod Reached
 pub mod Parsed
 pub mod Run

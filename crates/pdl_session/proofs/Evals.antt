@@ -1,22 +1,21 @@
 -- Arguments are evaluated one after another.
-use Rattle.std.proofs.Common.{◌≡◌, ℕ, zero, suc, ◌+◌, ◌<◌, ◌≤◌, List, [], ◌∷◌, ◌++◌, length, take, drop, Option, Some, None, Result, Ok, Err, refl, sym, ap, subst, ◌∙◌, arith, Vec, Global}
+use Rattle.std.proofs.Common.{◌≡◌, ℕ, zero, suc, ◌+◌, ◌<◌, ◌≤◌, List, [], ◌∷◌, ◌++◌, length, take, drop, Some, Ok, Err, refl, sym, ap, subst, ◌∙◌, arith, Vec, Global}
 use Rattle.std.specs.Prelude.{slice_index_or, Bool, true, false, ◌&&◌, nat_eq}
 use Rattle.std.specs.Cmp.Lexicographic.{pointwise}
 use Rattle.std.proofs.lemmas.List.{take_more, take-append-drop}
-use Rattle.pdl_elem.specs.declared.Ty.{Ty}
 use Rattle.pdl_world.specs.World.{World}
 use Rattle.pdl_world.specs.Sound.{IsLive}
 use Rattle.pdl_syntax.specs.declared.tree.Arg.{Arg, Value, Str, OfType}
 use Rattle.pdl_syntax.specs.Tree.{Tree, Args, number, named, literal, unary, binary, call, none, value, text, of_type}
 use Rattle.pdl_syntax.specs.TreeOf.{tree_of, args_of, argument_of}
-use Rattle.pdl_syntax.specs.WellMade.{AreArrays, AreArgArrays}
+use Rattle.pdl_syntax.specs.WellMade.{AreArgArrays}
 use Rattle.pdl_syntax.specs.declared.tree.Expr.{Expr, Call}
 use Rattle.pdl_syntax.proofs.Trees.{tree_of_call}
 use Rattle.pdl_machine.specs.Step.{are_built}
 use Rattle.pdl_machine.specs.declared.fault.Fault.{Fault}
 use Rattle.pdl_machine.specs.Names.{Names, number_of}
 use Rattle.pdl_machine.specs.Calls.{Given as Argument, array, string, type_word, Valued}
-use Rattle.pdl_machine.specs.Value.{Taken, and_argument, and_array, and_value, value_of, taken, called}
+use Rattle.pdl_machine.specs.Value.{Taken, and_array, value_of, taken, called}
 use Rattle.pdl_machine.specs.Tidy.{AreLive}
 use Rattle.pdl_session.specs.declared.fault.StepFault.{StepFault}
 use Rattle.pdl_session.specs.declared.fault.StepFault.TheVariants.{Script, NoMemory}

@@ -1,11 +1,10 @@
 -- A step of the session, from the step of its names and its engine.
-use Rattle.std.proofs.Common.{◌≡◌, ℕ, List, ◌++◌, Bool, true, false, Result, Ok, Err, refl, sym, ap, subst, ◌∙◌}
+use Rattle.std.proofs.Common.{◌≡◌, ℕ, List, ◌++◌, Bool, true, Result, Ok, Err, refl, sym, ap, subst, ◌∙◌}
 use Rattle.std.specs.Prelude.{if◌then◌else◌, OnOk, IfErr, IsErr}
 use Rattle.pdl_world.specs.World.{World}
 use Rattle.pdl_world.specs.Sound.{IsSound}
 use Rattle.pdl_engine.specs.State.{State as Engine}
 use Rattle.pdl_syntax.specs.StatementTree.{StatementTree}
-use Rattle.pdl_machine.specs.declared.fault.Fault.{Fault}
 use Rattle.pdl_machine.specs.declared.fault.Fault.TheVariants.{Syntax}
 use Rattle.pdl_machine.specs.Names.{Names}
 use Rattle.pdl_machine.specs.Tidy.{State, tidy, AreLive}
@@ -14,7 +13,7 @@ use Rattle.pdl_machine.proofs.Same.{step_tidied, tidy_more}
 use Rattle.pdl_session.specs.declared.fault.StepFault.{StepFault}
 use Rattle.pdl_session.specs.declared.fault.StepFault.TheVariants.{Script, NoMemory}
 use Rattle.pdl_session.specs.Answers.{IsFault, IfScript, Prints, state}
-use Rattle.pdl_session.specs.Fit.{IsFit, GoesOn}
+use Rattle.pdl_session.specs.Fit.{GoesOn}
 use Rattle.pdl_session.specs.Session.{state_in, IsKept}
 
 -- the machine's step, in the words of what the session keeps

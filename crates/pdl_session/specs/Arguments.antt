@@ -1,5 +1,5 @@
 -- The arguments that code holds, as the machine's.
-use Rattle.std.specs.Prelude.{ℕ, ℤ, List, [], ◌∷◌, Option, Some, None}
+use Rattle.std.specs.Prelude.{ℤ, List, [], ◌∷◌, Option, None}
 use Rattle.pdl_world.specs.World.{World, elements}
 use Rattle.pdl_world.specs.Sound.{IsLive}
 use Rattle.pdl_machine.specs.Calls.{Given as Argument, array, string, type_word, only}

@@ -1,5 +1,5 @@
 -- What holds of the engine between any two calls of a statement.
-use Rattle.std.specs.Prelude.{◌≡◌, ℕ, List, length, ◌++◌}
+use Rattle.std.specs.Prelude.{◌≡◌, length, ◌++◌}
 use Rattle.pdl_world.specs.World.{World}
 use Rattle.pdl_world.specs.Sound.{IsSound}
 use Rattle.pdl_engine.specs.State.{State}

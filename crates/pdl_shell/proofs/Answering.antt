@@ -1,5 +1,5 @@
 -- What a text reads as, from the answers of the tokens and of the parser; and what a step adds to a run.
-use Rattle.std.proofs.Common.{◌≡◌, ℕ, List, ◌++◌, Bool, true, false, Option, Some, None, Result, Ok, Err, refl, sym, ap, subst, ◌∙◌}
+use Rattle.std.proofs.Common.{◌≡◌, ℕ, List, ◌++◌, Bool, true, false, Option, Some, None, Ok, Err, refl, sym, ap, ◌∙◌}
 use Rattle.pdl_lex.specs.declared.Token.{Token}
 use Rattle.pdl_lex.specs.declared.LexFault.{LexFault}
 use Rattle.pdl_lex.specs.Tokens.{toks}
@@ -8,19 +8,17 @@ use Rattle.pdl_lexemes.specs.Lexing.{lexemes_of}
 use Rattle.pdl_lexemes.specs.Depth.{is_too_deep, has_large, ragged_in}
 use Rattle.pdl_lexemes.specs.Lists.{HoldsRagged}
 use Rattle.pdl_lexemes.proofs.Ragged.{ragged_sound, ragged_complete}
-use Rattle.pdl_syntax.specs.declared.parser.ParseFault.{ParseFault}
-use Rattle.pdl_syntax.specs.declared.parser.ParseFault.TheVariants.{TooDeep, NumberTooLarge, Syntax, Ragged, NoMemory}
 use Rattle.pdl_syntax.specs.declared.tree.Statement.{Statement}
 use Rattle.pdl_syntax.specs.StatementTree.{StatementTree, statement_of}
 use Rattle.pdl_syntax.specs.StatementReading.{read_statement}
-use Rattle.pdl_syntax.specs.Refusals.{Answers, Passes, Found, Large, Unspelled, IsRagged}
+use Rattle.pdl_syntax.specs.Refusals.{Found, Large, Unspelled, IsRagged}
 use Rattle.pdl_syntax.proofs.StatementComplete.{statement_found, statement_spelled}
 use Rattle.pdl_machine.specs.declared.fault.Fault.{Fault}
 use Rattle.pdl_machine.specs.declared.fault.Fault.TheVariants.{Syntax as SyntaxFault, TooDeep as DeepFault, NumberTooLarge as LargeFault, Ragged as RaggedFault}
-use Rattle.pdl_machine.specs.Parsed.{checked_lexemes, unless_ragged, parsed}
+use Rattle.pdl_machine.specs.Parsed.{parsed}
 use Rattle.pdl_machine.specs.Tidy.{State}
 use Rattle.pdl_machine.specs.Step.{Stepped}
-use Rattle.pdl_machine.specs.Run.{reads, reads_tokens, Progress, after_step, after_reading, refused, fault_line}
+use Rattle.pdl_machine.specs.Run.{reads, reads_tokens, Progress, after_step, fault_line}
 use Rattle.pdl_session.specs.Answers.{Prints}
 
 by_bool : {G : Type 0} (b : Bool) → (b ≡ true → G) → (b ≡ false → G) → G

@@ -1,14 +1,14 @@
 -- The run of a whole script, and what its first bytes say of it.
-use Rattle.std.proofs.Common.{◌≡◌, ℕ, ◌+◌, ◌<◌, ◌≤◌, min, List, [], ◌∷◌, ◌++◌, map, length, take, drop, Bool, true, false, cond, Option, Some, None, Result, Ok, Err, refl, sym, ◌∙◌, ap, subst, arith, append_assoc, append-nil, length-append}
+use Rattle.std.proofs.Common.{◌≡◌, ℕ, ◌+◌, ◌<◌, ◌≤◌, min, List, [], ◌∷◌, ◌++◌, map, length, take, drop, Bool, true, false, cond, Option, Some, None, Result, Ok, Err, refl, sym, ◌∙◌, ap, arith, append_assoc, append-nil, length-append}
 use Rattle.std.proofs.lemmas.Bool.{ltb-true, ltb-false, lt-ltb}
 use Rattle.std.proofs.Math.Dec.{ltb}
-use Rattle.std.specs.Prelude.{nat_lt, IfSome, IfOk, OnErr, IsErr}
+use Rattle.std.specs.Prelude.{nat_lt, IfOk, OnErr, IsErr}
 use Rattle.std.proofs.Math.Seq.{take-length, drop-append_seam}
 use Rattle.std.proofs.lemmas.List.{take-append-le, length-drop, nil_from_length}
 use Rattle.std.specs.Io.KnownBytes.{Appends, Consumes, Keeps, IsAtEnd}
-use Rattle.pdl_io.specs.Told.{IsPrefix, AppendsPrefix}
 use Rattle.pdl_lex.specs.Bytes.{newlines}
-use Rattle.pdl_lex.specs.Pieces.{Mark, statement, script_too_long, script_limit, script_marks, pieces, settled}
+use Rattle.pdl_lex.specs.Limits.{script_limit}
+use Rattle.pdl_lex.specs.Pieces.{Mark, statement, script_too_long, pieces, settled}
 use Rattle.pdl_machine.specs.Run.{Progress, start, run, after_marks, after_mark, refused}
 use Rattle.pdl_machine.specs.declared.fault.Fault.TheVariants.{ScriptTooLong}
 use Rattle.pdl_shell.specs.declared.runner.Runner.{Runner}

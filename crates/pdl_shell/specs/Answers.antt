@@ -1,5 +1,5 @@
 -- What each status of a call says of the run, of what was written, and of the counts of faults.
-use Rattle.std.specs.Prelude.{◌≡◌, ℕ, ◌≤◌, ⊤, List, drop, Option, Some, IfSome, Bool, true, false, Result, Ok, Err, if◌then◌else◌}
+use Rattle.std.specs.Prelude.{◌≡◌, ℕ, ◌≤◌, ⊤, List, drop, Option, Some, IfSome, Bool, Result, Ok, Err, if◌then◌else◌}
 use Rattle.std.specs.Io.KnownBytes.{Appends}
 use Rattle.pdl_io.specs.Counts.{Rose}
 use Rattle.pdl_io.specs.Told.{AppendsPrefix}

@@ -4,7 +4,7 @@ use Rattle.pdl_lex.specs.Bytes.{newlines}
 use Rattle.pdl_lex.specs.Pieces.{State, Mark, statement, script_too_long, to_come, settled_from}
 use Rattle.pdl_lex.specs.declared.Piece.{Piece}
 use Rattle.pdl_machine.specs.Tidy.{State as Names}
-use Rattle.pdl_machine.specs.Run.{Progress, after_piece, after_marks}
+use Rattle.pdl_machine.specs.Run.{after_piece}
 
 -- the statements that a cutter has still to answer, where these bytes are all that is left of the script,
 -- or all that is left of it up to its limit

@@ -1,7 +1,7 @@
 //! Reads a script whole, up to the byte past its limit.
 ghost use Rattle.std.specs.Prelude.{◌≡◌, ◌+◌, ◌<◌, ◌≤◌, length, take, IfOk};
 ghost use Rattle.std.specs.Io.KnownBytes.{Consumes, IsAtEnd};
-ghost use Rattle.pdl_lex.specs.Pieces.{script_limit};
+ghost use Rattle.pdl_lex.specs.Limits.{script_limit};
 ghost use Rattle.pdl_shell.specs.Stops.{HasSourceCause};
 ghost use Rattle.pdl_shell.specs.Answers.{TakesAtMost};
 

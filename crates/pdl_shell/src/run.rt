@@ -3,7 +3,7 @@ ghost use Rattle.std.specs.Prelude.{◌≡◌, ◌≢◌, ℕ, ◌+◌, List, dr
 ghost use Rattle.std.specs.Io.KnownBytes.{Appends, IsAtEnd};
 ghost use Rattle.pdl_io.specs.Counts.{HasCause};
 ghost use Rattle.pdl_io.specs.Told.{Says, KeepsTelling, AppendsPrefix};
-ghost use Rattle.pdl_lex.specs.Pieces.{script_limit};
+ghost use Rattle.pdl_lex.specs.Limits.{script_limit};
 ghost use Rattle.pdl_machine.specs.Run.{run};
 ghost use Rattle.pdl_shell.specs.Command.{is_spelling, usage_line};
 ghost use Rattle.pdl_shell.specs.Stops.{HasSinkCause, Writes};

@@ -1,5 +1,6 @@
 //! One statement of a script: what it prints, or the line of its fault.
 ghost use Rattle.std.specs.Prelude.{◌≡◌, ◌≤◌, ◌++◌, length, false, IfOk, IfErr, OnOk};
+ghost use Rattle.pdl_lex.specs.Limits.{statement_limit};
 ghost use Rattle.pdl_syntax.specs.StatementTree.{statement_of};
 ghost use Rattle.pdl_syntax.specs.WellMade.{IsWellMade};
 ghost use Rattle.pdl_machine.specs.Step.{step};
@@ -12,12 +13,9 @@ use pdl_session::{Session, StepFault};
 use pdl_syntax::{ParseFault, Statement, parse};
 use std::alloc::{AllocError, Global};
 
-/// The most bytes of a statement's text.
-const MOST_BYTES: usize = 65_536;
-
 // The statement that a text is, or why it is none.
 fn read(alloc: Global, text: &[u8]) -> Result<Statement, StepFault>
-    requires { length text.now ≤ 65536 }
+    requires { length text.now ≤ statement_limit }
     ensures ok { IfOk result (λ s. reads text.now ≡ Ok (statement_of s)) }
     ensures well_made { IfOk result (λ s. IsWellMade (statement_of s)) }
     ensures fault { IfErr result (IsFault (reads text.now)) }
@@ -62,7 +60,7 @@ fn run_statement(
 }
 
 // Runs a statement's text, appends to `out` what it prints, or the line of its fault, and answers
-// whether it faulted. The cutter hands out no text of more bytes, so the test never holds.
+// whether it faulted.
 fn run_text(
     alloc: Global,
     session: &mut Session,
@@ -70,13 +68,11 @@ fn run_text(
     line: u64,
     out: &mut Vec<u8>,
 ) -> Result<bool, AllocError>
+    requires { length text.now ≤ statement_limit }
     ensures { IfOk result (λ faulted.
         after_reading (record { state = session.old; printed = out.old.items; faulted = false }) line (reads text.now)
         ≡ record { state = session.new; printed = out.new.items; faulted = faulted }) }
 {
-    if text.len() > MOST_BYTES {
-        return Err(AllocError);
-    }
     match read(alloc, text) {
         Ok(statement) => run_statement(alloc, session, &statement, line, out),
         Err(StepFault::Script(fault)) => {

@@ -1,7 +1,7 @@
-use Rattle.std.proofs.Common.{rules, ◌≡◌, ℕ, ◌<◌, length, true, false, refl, sym, ap, ◌∙◌, arith, take}
+use Rattle.std.proofs.Common.{◌≡◌, sym, ap, ◌∙◌, arith, take}
 use Rattle.std.proofs.lemmas.List.{take_all}
 use Rattle.pdl_syntax.specs.Tree.{none}
-use Rattle.pdl_syntax.specs.TreeOf.{tree_of, args_of, argument_of}
+use Rattle.pdl_syntax.specs.TreeOf.{args_of}
 use Rattle.pdl_machine.specs.Step.{is_built, are_built}
 use Rattle.pdl_session.proofs.Evals.{tree_is, unbuilt_at, built_more}
 use Rattle.pdl_session.proofs.built.+built.Goals as goal

@@ -1,26 +1,19 @@
-use Rattle.std.proofs.Common.{rules, ◌≡◌, [], ◌∷◌, ◌++◌, IfOk, IfErr, ℕ, ◌+◌, ◌<◌, ◌≤◌, List, Result, Ok, Err, Some, length, Vec, Global, refl, sym, ap, subst, ◌∙◌, arith, take, drop}
+use Rattle.std.proofs.Common.{rules, ◌≡◌, [], ◌∷◌, ◌++◌, IfOk, IfErr, ℕ, ◌+◌, ◌<◌, ◌≤◌, List, Ok, length, refl, sym, ap, subst, ◌∙◌, arith, take}
 use Rattle.std.proofs.lemmas.List.{take_all}
-use Rattle.std.specs.Prelude.{slice_index_or}
 use Rattle.pdl_world.specs.World.{World}
-use Rattle.pdl_world.specs.Sound.{IsLive}
-use Rattle.pdl_syntax.specs.declared.tree.Expr.{Expr, Call}
-use Rattle.pdl_syntax.specs.declared.tree.Arg.{Arg, OfType}
+use Rattle.pdl_syntax.specs.declared.tree.Expr.{Expr}
+use Rattle.pdl_syntax.specs.declared.tree.Arg.{Arg}
 use Rattle.pdl_syntax.specs.Tree.{Tree, none, call}
 use Rattle.pdl_syntax.specs.TreeOf.{tree_of, args_of, argument_of}
 use Rattle.pdl_syntax.specs.WellMade.{AreArrays, AreArgArrays}
-use Rattle.pdl_syntax.proofs.Trees.{tree_of_call}
-use Rattle.pdl_machine.specs.Tidy.{AreLive}
 use Rattle.pdl_machine.specs.Value.{value_of, taken, called}
 use Rattle.pdl_machine.specs.Calls.{call_value, Valued}
 use Rattle.pdl_machine.specs.Names.{Names}
 use Rattle.pdl_session.specs.declared.given.Given.{Given}
 use Rattle.pdl_session.specs.Answers.{IsFault}
-use Rattle.pdl_session.specs.Arguments.{argument, arguments, IsGivenLive, AreGivenLive}
-use Rattle.pdl_session.specs.Fit.{IsFit, GoesOn}
-use Rattle.pdl_session.specs.declared.fault.StepFault.{StepFault}
-use Rattle.pdl_session.specs.declared.fault.StepFault.TheVariants.{Script, NoMemory}
+use Rattle.pdl_session.specs.Arguments.{argument, arguments}
 use Rattle.pdl_session.proofs.Engines.{goes_on_refl, goes_on_trans, are_live_grown, are_given_live_grown}
-use Rattle.pdl_session.proofs.Evals.{one_more, fault_at, called_fault, arrays_at, taken_ok, weight, weights, weights_at, tree_is, live_named, arguments_snoc, live_snoc, args_more, args_rest}
+use Rattle.pdl_session.proofs.Evals.{one_more, fault_at, called_fault, arrays_at, taken_ok, weight, weights, weights_at, tree_is, live_named, arguments_snoc, live_snoc, args_more}
 use Rattle.pdl_session.proofs.eval.+eval.Goals as goal
 
 -- the value of a call whose arguments are taken

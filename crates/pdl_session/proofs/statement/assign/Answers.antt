@@ -1,4 +1,4 @@
-use Rattle.std.proofs.Common.{◌≡◌, ◌∙◌, sym}
+use Rattle.std.proofs.Common.{◌∙◌, sym}
 use Rattle.pdl_session.proofs.Evals.{live_named}
 use Rattle.pdl_session.proofs.Effects.{live_filled}
 use Rattle.pdl_session.proofs.statement.assign.Goals as goal

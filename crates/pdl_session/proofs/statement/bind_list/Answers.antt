@@ -1,5 +1,5 @@
-use Rattle.std.proofs.Common.{◌≡◌, ap, subst}
-use Rattle.pdl_syntax.specs.Tree.{Tree, none, call}
+use Rattle.std.proofs.Common.{ap, subst}
+use Rattle.pdl_syntax.specs.Tree.{none}
 use Rattle.pdl_syntax.specs.TreeOf.{tree_of, args_of}
 use Rattle.pdl_syntax.specs.WellMade.{AreArrays}
 use Rattle.pdl_session.specs.Answers.{state}

@@ -1,4 +1,4 @@
-use Rattle.std.proofs.Common.{◌≤◌, ◌+◌, ◌++◌, ℕ, List, length, take, arith, length-append}
+use Rattle.std.proofs.Common.{◌≤◌, ◌++◌, ℕ, List, length, take, arith, length-append}
 use Rattle.std.proofs.lemmas.List.{length-take}
 use Rattle.std.proofs.lemmas.Grind.{common_steps}
 use Rattle.pdl_shell.proofs.Whole.{takes_at_most, consumes_then}

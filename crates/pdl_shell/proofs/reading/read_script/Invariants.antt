@@ -1,6 +1,6 @@
 use Rattle.std.proofs.Common.{◌≡◌, ◌+◌, ◌-◌, ◌≤◌, length}
 use Rattle.std.specs.Io.KnownBytes.{Consumes}
-use Rattle.pdl_lex.specs.Pieces.{script_limit}
+use Rattle.pdl_lex.specs.Limits.{script_limit}
 use Rattle.pdl_shell.proofs.reading.read_script.Given as goal
 
 abbrev pub invariant-reading : goal.invariant-reading

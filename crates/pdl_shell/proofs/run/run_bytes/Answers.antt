@@ -1,6 +1,6 @@
-use Rattle.std.proofs.Common.{◌≡◌, ℕ, List, Bool, min, length, take, refl, []}
+use Rattle.std.proofs.Common.{◌≡◌, ℕ, List, Bool, length, take, refl, []}
 use Rattle.std.specs.Prelude.{nat_lt}
-use Rattle.pdl_lex.specs.Pieces.{script_limit}
+use Rattle.pdl_lex.specs.Limits.{script_limit}
 use Rattle.pdl_machine.specs.Run.{run}
 use Rattle.pdl_shell.specs.Course.{outcome}
 use Rattle.pdl_shell.proofs.Whole.{IsFresh, run_at, writes_at_end, writes_short}

@@ -1,7 +1,6 @@
-use Rattle.std.proofs.Common.{◌≡◌, ℕ, List, Some, subst, sym, ◌∙◌, ap}
-use Rattle.pdl_machine.specs.Run.{Progress, run}
+use Rattle.std.proofs.Common.{◌≡◌, subst, sym, ◌∙◌, ap}
+use Rattle.pdl_machine.specs.Run.{run}
 use Rattle.pdl_shell.specs.declared.status.Status.{Status}
-use Rattle.pdl_shell.specs.Stops.{Writes}
 use Rattle.pdl_shell.specs.Answers.{Gives}
 use Rattle.pdl_shell.proofs.Whole.{IsRead, run_seen, rest_read, gives_after, done_at_end}
 use Rattle.pdl_shell.proofs.run.run_script.Goals as goal

@@ -1,7 +1,7 @@
 use Rattle.std.proofs.Common.{◌≡◌, ◌∙◌, sym, true}
 use Rattle.pdl_syntax.specs.StatementTree.{statement_of}
-use Rattle.pdl_machine.specs.Step.{Stepped, built, step, effect, tidied_after}
-use Rattle.pdl_session.specs.Session.{state_in, IsKept}
+use Rattle.pdl_machine.specs.Step.{built, step, effect, tidied_after}
+use Rattle.pdl_session.specs.Session.{state_in}
 use Rattle.pdl_session.proofs.Sessions.{step_is, session_ok, session_fault, session_kept}
 use Rattle.pdl_session.proofs.session.Session.step.Goals as goal
 

@@ -1,4 +1,4 @@
-use Rattle.std.proofs.Common.{◌≡◌, ℕ, List, [], ◌++◌, true, refl, subst}
+use Rattle.std.proofs.Common.{◌≡◌, [], true, refl, subst}
 use Rattle.std.proofs.lemmas.Result.{on_err_weaker}
 use Rattle.pdl_io.specs.Told.{AppendsPrefix}
 use Rattle.pdl_lex.specs.Pieces.{settled_from}

@@ -1,8 +1,8 @@
-use Rattle.std.proofs.Common.{Bool, sym, subst, ◌≡◌, List, [], ◌∷◌, ap, ◌∙◌, option_to_list}
+use Rattle.std.proofs.Common.{Bool, sym, subst, ◌≡◌, [], ◌∷◌}
 use Rattle.std.proofs.lemmas.Result.{on_err_weaker}
 use Rattle.pdl_lex.specs.Pieces.{to_come}
 use Rattle.pdl_shell.specs.Course.{FinishesShort}
-use Rattle.pdl_shell.proofs.Carrying.{on_err, short_in_piece}
+use Rattle.pdl_shell.proofs.Carrying.{short_in_piece}
 use Rattle.pdl_shell.proofs.runner.Runner.run_last.Goals as goal
 
 pub returns-then-is_cut-clause-stops : goal.returns-then-is_cut-clause-stops

@@ -1,8 +1,7 @@
-use Rattle.std.proofs.Common.{List, ℕ, ◌≡◌, [], drop, subst, sym}
-use Rattle.std.proofs.lemmas.List.{take_rest, drop-drop}
-use Rattle.pdl_shell.specs.declared.runner.Runner.{Runner}
-use Rattle.pdl_shell.specs.Course.{Carries, StopsShort}
-use Rattle.pdl_shell.proofs.Carrying.{on_err, carries_then, carries_ended, stops_then}
+use Rattle.std.proofs.Common.{List, ℕ, drop}
+use Rattle.std.proofs.lemmas.List.{take_rest}
+use Rattle.pdl_shell.specs.Course.{StopsShort}
+use Rattle.pdl_shell.proofs.Carrying.{on_err, carries_ended, stops_then}
 use Rattle.pdl_shell.proofs.runner.Runner.take.Goals as goal
 
 pub returns-in_err-used-clause-stops : goal.returns-in_err-used-clause-stops
