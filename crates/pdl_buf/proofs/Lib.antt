@@ -1,2 +1,4 @@
 pub mod Walking
 pub mod Lists
+pub mod Ordered
+pub mod Wholes

@@ -3,7 +3,7 @@ ghost use Rattle.std.specs.Prelude.{◌≡◌, ◌<◌, ◌≤◌, ◌+ℤ◌, �
 ghost use Rattle.pdl_elem.specs.Types.{InRange};
 ghost use Rattle.pdl_shape.specs.Shape.{IsDims, coordinates_of, size_of};
 ghost use Rattle.pdl_shape.specs.Triple.{moved};
-ghost use Rattle.pdl_buf.specs.Window.{Reaches, place_at};
+ghost use Rattle.pdl_buf.specs.Window.{IsInOrder, Reaches, place_at};
 
 use crate::buffer::{Buf, buf_get};
 use pdl_elem::Ty;
@@ -17,17 +17,20 @@ use std::marker::Model;
 pub struct Strided<'a> {
     pub(crate) buf: &'a Buf,
     pub(crate) triple: Triple,
+    /// Marks a window whose elements are neighbours in the buffer, in order: such a one is read
+    /// without a division.
+    pub(crate) is_in_order: bool,
 }
 
 impl<'a> Model for Strided<'a> {
     ghost use Rattle.std.specs.Prelude.{length};
-    ghost use Rattle.pdl_buf.specs.Window.{Window, Reaches, shown};
+    ghost use Rattle.pdl_buf.specs.Window.{Window, IsWindow, shown};
 
     ghost Value = { Window };
 
     ghost view = { λ s. record { ty = s.buf.now.ty; dims = s.triple.dims; elems = shown s.triple s.buf.now.elems } };
 
-    ghost invariant = { λ s. Reaches s.triple (length s.buf.now.elems) };
+    ghost invariant = { λ s. IsWindow s.triple (length s.buf.now.elems) s.is_in_order };
 }
 
 /// The window's dimensions.
@@ -76,11 +79,26 @@ fn element_of(buf: &Buf, triple: &Triple, position: u32) -> i64
     buf_get(buf, place as u32)
 }
 
+/// The buffer's element at a position of a triple that shows neighbours in order.
+fn element_in_order(buf: &Buf, triple: &Triple, position: u32) -> i64
+    requires within { position < size_of triple.now.dims }
+    requires reaches { Reaches triple.now (length buf.now.elems) }
+    requires ordered { IsInOrder 1 triple.now.incs triple.now.dims }
+    ensures value { result ≡ get_or buf.now.elems (place_at triple.now position) (pos 0) }
+    ensures in_range { InRange buf.now.ty result }
+{
+    buf_get(buf, triple.offset + position)
+}
+
 /// The window's element at a position, which is below the number of elements.
 pub fn strided_get(from: &Strided<'_>, position: u32) -> i64
     requires { position < length from.now.elems }
     ensures value { result ≡ get_or from.now.elems position (pos 0) }
     ensures in_range { InRange from.now.ty result }
 {
-    element_of(from.buf, &from.triple, position)
+    if from.is_in_order {
+        element_in_order(from.buf, &from.triple, position)
+    } else {
+        element_of(from.buf, &from.triple, position)
+    }
 }

@@ -8,7 +8,8 @@ use Rattle.pdl_elem.specs.declared.Ty.TheVariants.{Longlong}
 use Rattle.pdl_elem.specs.Types.{InRange}
 use Rattle.pdl_shape.specs.Shape.{size_of}
 use Rattle.pdl_buf.specs.Buffer.{Kept}
-use Rattle.pdl_print.proofs.TestArrays.{whole_reaches, word_in_range}
+use Rattle.pdl_buf.proofs.Wholes.{whole_reaches}
+use Rattle.pdl_print.proofs.TestArrays.{word_in_range}
 use Rattle.pdl_print.proofs.tests.printed.Goals as goal
 
 pub strided-requires : goal.strided-requires

@@ -1,0 +1,94 @@
+//! The places of views that pick elements one by one.
+ghost use Rattle.std.specs.Prelude.{◌≡◌, length, IfOk};
+
+use crate::arrays::shape;
+use crate::stopwatch::{RUNS, Stopwatch};
+use pdl_choice::{Choice, ChoiceFault, Edge, index, range};
+use pdl_shape::elements_of;
+use std::alloc::{AllocError, Global};
+use std::io::{self, ErrorKind};
+use std::rt::Clock;
+use std::time::Instant;
+
+/// How many places a run of `index` looks up.
+const LOOKED_UP: u32 = 524_288;
+
+/// The corners of the windows along each dimension: a window of 3 from each on stays inside.
+const CORNERS: u32 = 338;
+
+/// How many places a run of `range` has: a window of 3 by 3 at each corner.
+const IN_WINDOWS: u32 = CORNERS * CORNERS * 9;
+
+/// The sum of the places of a choice.
+fn sum_of(choice: Result<Choice, ChoiceFault>) -> io::Result<u64> {
+    match choice {
+        Ok(choice) => {
+            let mut sum: u64 = 0;
+            for place in &choice.places {
+                sum = sum.wrapping_add(u64::from(place.unwrap_or(0)));
+            }
+            Ok(sum)
+        }
+        Err(_) => Err(ErrorKind::OutOfMemory.into()),
+    }
+}
+
+/// So many values, each the position beside its own.
+fn values(alloc: Global, count: u32) -> Result<Vec<i64>, AllocError>
+    ensures { IfOk result (λ values. length values.items ≡ count) }
+{
+    let mut values = Vec::with_capacity(alloc, count as usize)?;
+    for i in 0..count {
+        values.push(i64::from(i ^ 1))?;
+    }
+    Ok(values)
+}
+
+/// Times `index` with as many values as the parent has elements.
+pub fn time_index(rt: &(impl Print + Clock), alloc: Global) -> io::Result<()> {
+    let dims = shape(alloc, &[LOOKED_UP])?;
+    let values = values(alloc, elements_of(&dims))?;
+    let mut watch = Stopwatch::new(alloc);
+    let mut sum = 0;
+    for _run in 0..RUNS {
+        let start = Instant::now(rt)?;
+        let choice = index(alloc, &dims, &dims, &values);
+        watch.stop(rt, start)?;
+        sum ^= sum_of(choice)?;
+    }
+    watch.report(rt, "index", LOOKED_UP, sum)
+}
+
+/// The first so many numbers of the corners of all windows, two for each: that along dimension 0
+/// runs fastest.
+fn corners(alloc: Global, count: u32) -> Result<Vec<i64>, AllocError>
+    ensures { IfOk result (λ corners. length corners.items ≡ count) }
+{
+    let mut corners = Vec::with_capacity(alloc, count as usize)?;
+    for i in 0..count {
+        let corner = i / 2;
+        let coordinate = if i % 2 == 0 {
+            corner % CORNERS
+        } else {
+            corner / CORNERS
+        };
+        corners.push(i64::from(coordinate))?;
+    }
+    Ok(corners)
+}
+
+/// Times `range` with windows of 3 by 3.
+pub fn time_ranges(rt: &(impl Print + Clock), alloc: Global) -> io::Result<()> {
+    let dims = shape(alloc, &[CORNERS + 2, CORNERS + 2])?;
+    let listed = shape(alloc, &[2, CORNERS, CORNERS])?;
+    let corners = corners(alloc, elements_of(&listed))?;
+    let mut watch = Stopwatch::new(alloc);
+    let mut sum = 0;
+    for _run in 0..RUNS {
+        let start = Instant::now(rt)?;
+        let choice = range(alloc, &dims, &listed, &corners, &[3, 3], Edge::Refuse);
+        watch.stop(rt, start)?;
+        sum ^= sum_of(choice)?;
+    }
+    watch.report(rt, "range, 3 by 3", IN_WINDOWS, sum)
+}

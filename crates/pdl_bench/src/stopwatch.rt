@@ -1,0 +1,40 @@
+//! Times of several runs of one piece of work.
+use std::alloc::Global;
+use std::io;
+use std::rt::Clock;
+use std::time::Instant;
+
+/// How many runs are timed.
+pub const RUNS: u32 = 9;
+
+/// The times of the runs so far, in nanoseconds.
+#[derive(Drop)]
+pub struct Stopwatch {
+    times: Vec<u64>,
+}
+
+impl Stopwatch {
+    pub fn new(alloc: Global) -> Stopwatch {
+        Stopwatch {
+            times: Vec::new(alloc),
+        }
+    }
+
+    /// Takes the time of the run that began then.
+    pub fn stop(&mut self, clock: &impl Clock, start: Instant) -> io::Result<()> {
+        let nanos = start.elapsed(clock)?.as_nanos();
+        self.times.push(u64::try_from(nanos).unwrap_or(u64::MAX))?;
+        Ok(())
+    }
+
+    /// Prints the name, how many things each run did, the median time of one of them in
+    /// nanoseconds, and what came out of the work.
+    pub fn report(&mut self, rt: &impl Print, name: &str, count: u32, sum: u64) -> io::Result<()> {
+        self.times.sort_unstable();
+        let median = self.times.get(self.times.len() / 2).copied().unwrap_or(0);
+        let hundredths = u128::from(median) * 100 / u128::from(count.max(1));
+        let whole = hundredths / 100;
+        let part = hundredths % 100;
+        println!(rt; "{name:<28} {count:>8} {whole:>6}.{part:02} ns  {sum:016x}")
+    }
+}

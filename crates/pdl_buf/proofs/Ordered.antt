@@ -1,0 +1,79 @@
+-- Windows whose elements are neighbours in the buffer, in order.
+use Rattle.std.proofs.Common.{◌≡◌, ℕ, zero, suc, ◌+◌, ◌*◌, ◌<◌, ◌≤◌, ℤ, pos, ◌+ℤ◌, ◌*ℤ◌, List, [], ◌∷◌, length, drop, get_or, max, arith, ap, sym, ◌∙◌, subst, mul-zero}
+use Rattle.std.proofs.lemmas.Int.{ints}
+use Rattle.std.proofs.lemmas.List.{at_drop_more, drop_all}
+use Rattle.std.proofs.Math.Nat.{mul-le-mul, mul-le-mul_left, mul_assoc}
+use Rattle.std.specs.Int.RustNames.{unsigned_abs}
+use Rattle.pdl_shape.specs.Shape.{extent, size_of, coordinates_of, position_of}
+use Rattle.pdl_shape.specs.Triple.{Triple, IsTriple, moved}
+use Rattle.pdl_shape.proofs.Extents.{extent_positive}
+use Rattle.pdl_shape.proofs.Positions.{coordinates_within, position-coordinates}
+use Rattle.pdl_buf.specs.Window.{IsInOrder, Reaches, place_at}
+use Rattle.pdl_buf.proofs.Walking.{IsShown, shown_at}
+
+-- the place of an element in order is the offset and its position, and lies in the buffer
+pub record IsRead (t : Triple) (offset length p : ℕ) : Type 0 where
+  pub is : place_at t p ≡ offset + p
+  pub below : offset + p < length
+  pub small : offset + p < 1048576
+
+in_order_at : (t : Triple) (p : ℕ) → IsInOrder 1 t.incs t.dims → p < size_of t.dims → place_at t p ≡ t.offset + p
+in_order_at t p o h =
+    let e : moved t.incs (coordinates_of t.dims p) ≡ pos (1 * position_of t.dims (coordinates_of t.dims p)) = o (coordinates_of t.dims p) (coordinates_within t.dims p h) in
+    ap (λ m. unsigned_abs (pos t.offset +ℤ m)) e ∙ ap (λ k. t.offset + 1 * k) (position-coordinates t.dims p h) ∙ omega arith
+
+pub read_at : (t : Triple) (offset n p : ℕ) → IsTriple t → Reaches t n → IsInOrder 1 t.incs t.dims → p < size_of t.dims → t.offset ≡ offset → IsRead t offset n p
+read_at t offset n p ok reach o h e =
+    let s : IsShown t n p = shown_at t n p ok reach h in
+    let is : place_at t p ≡ offset + p = in_order_at t p o h ∙ ap (λ k. k + p) e in
+    record { is = is; below = omega (arith, is, s.below); small = omega (arith, is, s.small) }
+
+-- a coordinate along a dimension where one step goes n elements far, before q rows of them
+step_moved : (n d c q : ℕ) (z : ℤ) → c < d → (1 < d → z ≡ pos n) → (z *ℤ pos c) +ℤ pos (n * d * q) ≡ pos (n * (c + d * q))
+step_moved n d zero q z h f = grind (arith, ints)
+step_moved n d (suc c) q z h f =
+    let e : z ≡ pos n = f (omega arith) in
+    subst (λ (y : ℤ). (y *ℤ pos (suc c)) +ℤ pos (n * d * q) ≡ pos (n * (suc c + d * q))) (sym e) (grind (arith, ints))
+
+-- the dimensions from one on lie in order where the rest does
+ordered_cons : (n d : ℕ) (z : ℤ) (is : List ℤ) (ds : List ℕ) → (1 < d → z ≡ pos n) → IsInOrder (n * d) is ds → IsInOrder n (z ∷ is) (d ∷ ds)
+ordered_cons n d z is ds f o [] w = absurd w
+ordered_cons n d z is ds f o (c ∷ cs) w =
+    ap (λ m. (z *ℤ pos c) +ℤ m) (o cs w.1) ∙ step_moved n d c (position_of ds cs) z w.0 f
+
+-- the dimensions before k lie in order: n elements lie in them, and all lie in order where the rest does
+pub record Ordering (is : List ℤ) (ds : List ℕ) (k n : ℕ) : Type 0 where
+  pub small : n * extent (drop k ds) ≤ 1048576
+  pub rest : IsInOrder n (drop k is) (drop k ds) → IsInOrder 1 is ds
+
+pub ordering_start : (is : List ℤ) (ds : List ℕ) → extent ds ≤ 1048576 → Ordering is ds 0 1
+ordering_start is ds h = record { small = omega (arith, h); rest = λ o. o }
+
+small_next : (n d e m : ℕ) → n * (max d 1 * e) ≤ m → n * d * e ≤ m
+small_next n d e m h = omega (arith, mul_assoc n d e, mul-le-mul_left n (mul-le-mul {n₁ = d} {m₁ = e} {n₂ = max d 1} {m₂ = e} (omega arith) (omega arith)))
+
+-- one dimension more
+pub ordering_next : (is : List ℤ) (ds : List ℕ) (k n : ℕ) → k < length is → k < length ds → (1 < get_or ds k 0 → get_or is k (pos 0) ≡ pos n)
+    → Ordering is ds k n → Ordering is ds (k + 1) (n * get_or ds k 0)
+ordering_next is ds k n hi hd f w =
+    let d : ℕ = get_or ds k 0 in
+    let z : ℤ = get_or is k (pos 0) in
+    record {
+      small = small_next n d (extent (drop (k + 1) ds)) 1048576 (subst (λ (e : ℕ). n * e ≤ 1048576) (at_drop_more extent ds k 0 hd) w.small);
+      rest = λ o. w.rest
+          (subst (λ (js : List ℤ). IsInOrder n js (drop k ds)) (sym (at_drop_more (λ xs. xs) is k (pos 0) hi))
+          (subst (λ (es : List ℕ). IsInOrder n (z ∷ drop (k + 1) is) es) (sym (at_drop_more (λ xs. xs) ds k 0 hd))
+          (ordered_cons n d z (drop (k + 1) is) (drop (k + 1) ds) f o)));
+    }
+
+pub step_small : (is : List ℤ) (ds : List ℕ) (k n : ℕ) → Ordering is ds k n → n ≤ 1048576
+step_small is ds k n w = omega (arith, w.small, mul-le-mul {n₁ = n} {m₁ = 1} {n₂ = n} {m₂ = extent (drop k ds)} (omega arith) (extent_positive (drop k ds)))
+
+none_in_order : (n : ℕ) → IsInOrder n [] []
+none_in_order n cs w = ap pos (sym (mul-zero n))
+
+-- after all dimensions
+pub ordering_end : (is : List ℤ) (ds : List ℕ) (k n : ℕ) → length is ≤ k → length ds ≤ k → Ordering is ds k n → IsInOrder 1 is ds
+ordering_end is ds k n hi hd w =
+    w.rest (subst (λ (js : List ℤ). IsInOrder n js (drop k ds)) (sym (drop_all k is hi))
+    (subst (λ (es : List ℕ). IsInOrder n [] es) (sym (drop_all k ds hd)) (none_in_order n)))
