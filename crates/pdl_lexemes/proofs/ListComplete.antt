@@ -1,10 +1,10 @@
 -- Each spelled list literal is read.
-use Rattle.std.proofs.Common.{◌≡◌, ℕ, ℤ, zero, suc, ◌+◌, ◌≤◌, ◌<◌, neg_ℤ, List, [], ◌∷◌, ◌++◌, length, Option, Some, None, option_map, option_and_then, refl, ap, sym, ◌∙◌, subst, arith}
+use Rattle.std.proofs.Common.{◌≡◌, ℕ, ℤ, zero, suc, ◌≤◌, neg_ℤ, List, [], ◌∷◌, ◌++◌, length, Option, Some, None, option_map, refl, ap, sym, ◌∙◌, subst, arith}
 use Rattle.pdl_elem.specs.declared.BinaryOp.TheVariants.{Sub}
 use Rattle.pdl_lexemes.specs.declared.Lexeme.{Lexeme}
 use Rattle.pdl_lexemes.specs.declared.Lexeme.TheVariants.{Number, OpenSquare, CloseSquare, Comma, Operator}
 use Rattle.pdl_lexemes.specs.Lists.{signed, shared, with_length, ListPart, SpellsList, an_item, some_items, a_list, number, minus, nested, first, more, empty, filled}
-use Rattle.pdl_lexemes.specs.ListReading.{Part, part, choose, closed, number_item, after_comma, after_open_square, after_close_square, item_at, items_at, filled_at, inside_at, list_at, list_reader, list_read}
+use Rattle.pdl_lexemes.specs.ListReading.{Part, part, closed, after_comma, after_close_square, item_at, items_at, inside_at, list_reader, list_read}
 use Rattle.pdl_lexemes.proofs.ListTurns.{items_stop, items_turn}
 
 pub list_shorter : {p : ListPart} {ts rest : List Lexeme} → SpellsList p ts rest → length rest ≤ length ts

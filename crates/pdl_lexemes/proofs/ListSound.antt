@@ -1,10 +1,10 @@
 -- What the reader of list literals takes is spelled.
-use Rattle.std.proofs.Common.{◌≡◌, ℕ, ℤ, zero, suc, neg_ℤ, List, [], ◌∷◌, ◌++◌, length, Option, Some, None, option_map, option_and_then, refl, ap, sym, ◌∙◌, subst}
-use Rattle.pdl_elem.specs.declared.BinaryOp.TheVariants.{Sub, Add, Mul, Div, Rem, Shl, Shr, Lt, Le, Gt, Ge, Eq, Ne, And, Or, Xor}
+use Rattle.std.proofs.Common.{◌≡◌, ℕ, ℤ, zero, suc, neg_ℤ, List, [], ◌∷◌, length, Option, Some, None, option_map, option_and_then, refl, ap, sym, ◌∙◌, subst}
+use Rattle.pdl_elem.specs.declared.BinaryOp.TheVariants.{Sub}
 use Rattle.pdl_lexemes.specs.declared.Lexeme.{Lexeme}
 use Rattle.pdl_lexemes.specs.declared.Lexeme.TheVariants.{Number, OpenSquare, CloseSquare, Comma, Operator}
 use Rattle.pdl_lexemes.specs.Lists.{signed, shared, with_length, SpellsList, an_item, some_items, a_list, number, minus, nested, first, more, empty, filled}
-use Rattle.pdl_lexemes.specs.ListReading.{Part, part, choose, closed, number_item, after_comma, after_open_square, after_close_square, after_minus, number_at, signed_number_at, minus_step, item_at, items_at, filled_at, inside_at, list_at, list_reader, list_read}
+use Rattle.pdl_lexemes.specs.ListReading.{Part, part, closed, number_item, after_comma, after_open_square, after_close_square, after_minus, number_at, signed_number_at, minus_step, item_at, items_at, filled_at, inside_at, list_at, list_reader}
 use Rattle.pdl_lexemes.proofs.Options.{some_inj, none_some, then_elim, map_elim, choose_elim}
 
 pub comma_is : (ts : List Lexeme) {us : List Lexeme} → after_comma ts ≡ Some us → ts ≡ Comma ∷ us

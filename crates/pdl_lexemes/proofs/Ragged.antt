@@ -1,5 +1,5 @@
 -- The scan for ragged lists finds those that are spelled.
-use Rattle.std.proofs.Common.{◌≡◌, ◌<◌, ◌≤◌, ◌+◌, ℕ, ℤ, zero, suc, List, [], ◌∷◌, length, drop, Bool, true, false, Option, Some, None, if◌then◌else◌, refl, ap, sym, ◌∙◌, subst, arith, true≢false, add-one}
+use Rattle.std.proofs.Common.{◌≡◌, ◌<◌, ◌≤◌, ◌+◌, ℕ, ℤ, zero, suc, List, [], ◌∷◌, length, drop, Bool, true, false, Option, Some, None, if◌then◌else◌, refl, sym, subst, arith, true≢false, add-one}
 use Rattle.pdl_lexemes.specs.declared.Lexeme.{Lexeme}
 use Rattle.pdl_lexemes.specs.Lists.{SpellsList, a_list, HoldsRagged, here, later}
 use Rattle.pdl_lexemes.specs.ListReading.{Part, part, list_read}

@@ -1,6 +1,5 @@
 -- The lexeme that a token is.
-use Rattle.std.specs.Prelude.{ℕ, ◌+◌, ◌-◌, ◌*◌, nat_lt, min, List, [], ◌∷◌, ◌++◌, length, map, fold, Bool, true, false, ◌&&◌, ◌||◌, not, Option, Some, None, if◌then◌else◌, codes, bytes_eq}
-use Rattle.std.specs.List.{list_any}
+use Rattle.std.specs.Prelude.{ℕ, ◌+◌, ◌-◌, ◌*◌, min, List, [], ◌∷◌, map, fold, Option, Some, None, if◌then◌else◌, codes, bytes_eq}
 use Rattle.pdl_elem.specs.declared.BinaryOp.TheVariants.{Add, Sub, Mul, Div, Rem, Shl, Shr, Lt, Le, Gt, Ge, Eq, Ne, And, Or, Xor}
 use Rattle.pdl_elem.specs.declared.UnaryOp.TheVariants.{Not, Complement}
 use Rattle.pdl_elem.specs.declared.Ty.TheVariants.{Byte, Short, Ushort, Long, Longlong}

@@ -1,6 +1,6 @@
 //! The checks on the lexemes that look at no grammar, and the one for ragged lists.
 
-ghost use Rattle.std.specs.Prelude.{◌≡◌, ◌≤◌, ◌+◌, ◌<◌, length, ℕ, IfOk, IfErr};
+ghost use Rattle.std.specs.Prelude.{◌≡◌, ◌≤◌, ◌+◌, ◌<◌, length, IfOk, IfErr};
 ghost use Rattle.pdl_lexemes.specs.Depth.{with_operator, counted_to, is_beyond, is_too_deep, is_large, has_large, ragged_in, reads_ragged};
 ghost use Rattle.pdl_lexemes.specs.ListReading.{list_read};
 

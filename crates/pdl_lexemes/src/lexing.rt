@@ -1,6 +1,6 @@
 //! Tokens as lexemes.
 
-ghost use Rattle.std.specs.Prelude.{◌≡◌, ◌≤◌, length, IfOk, ℕ, take, fold, Some, if◌then◌else◌, bytes_eq};
+ghost use Rattle.std.specs.Prelude.{◌≡◌, ◌≤◌, IfOk, Some, if◌then◌else◌, bytes_eq};
 ghost use Rattle.pdl_lexemes.specs.Bytes.{bytes_at};
 ghost use Rattle.pdl_lexemes.specs.Lexing.{found_in, keywords, word_kinds, signs, word_of, sign_of, number_of, with_digit, lexeme_of, lexemes_of};
 

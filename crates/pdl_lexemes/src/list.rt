@@ -1,6 +1,6 @@
 //! The reader of list literals.
 
-ghost use Rattle.std.specs.Prelude.{◌≡◌, ◌≤◌, ◌<◌, ◌+◌, ◌-◌, ◌∷◌, ◌++◌, [], suc, length, IfOk, option_map, ℤ, Some};
+ghost use Rattle.std.specs.Prelude.{◌≡◌, ◌≤◌, ◌+◌, ◌-◌, ◌∷◌, ◌++◌, [], length, IfOk, Some};
 ghost use Rattle.pdl_lexemes.specs.Lists.{shared, with_length};
 ghost use Rattle.pdl_lexemes.specs.Answers.{Gives};
 ghost use Rattle.pdl_lexemes.specs.ListReading.{list_reader, list_read, inside_at, filled_at, items_at, item_at, part, counted};

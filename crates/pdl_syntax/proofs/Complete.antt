@@ -1,23 +1,23 @@
 -- Each spelled expression is read.
-use Rattle.std.proofs.Common.{◌≡◌, ℕ, ℤ, zero, suc, ◌+◌, ◌-◌, ◌≤◌, ◌<◌, List, [], ◌∷◌, length, Bool, true, false, if◌then◌else◌, Option, Some, None, option_map, option_and_then, refl, ap, sym, ◌∙◌, subst, arith, true≢false}
+use Rattle.std.proofs.Common.{◌≡◌, ℕ, ℤ, zero, suc, ◌≤◌, ◌<◌, List, [], ◌∷◌, length, true, false, Option, Some, None, refl, ap, sym, ◌∙◌, subst, arith, true≢false}
 use Rattle.pdl_elem.specs.declared.BinaryOp.{BinaryOp}
-use Rattle.pdl_elem.specs.declared.BinaryOp.TheVariants.{Add, Sub, Mul, Div, Rem, Shl, Shr, Lt, Le, Gt, Ge, Eq, Ne, And, Or, Xor}
+use Rattle.pdl_elem.specs.declared.BinaryOp.TheVariants.{Sub}
 use Rattle.pdl_elem.specs.declared.UnaryOp.{UnaryOp}
 use Rattle.pdl_elem.specs.declared.UnaryOp.TheVariants.{Neg}
 use Rattle.pdl_elem.specs.declared.Ty.{Ty}
 use Rattle.pdl_lexemes.specs.declared.Span.{Span}
 use Rattle.pdl_lexemes.specs.declared.WordKind.{WordKind}
-use Rattle.pdl_lexemes.specs.declared.WordKind.TheVariants.{OfType, View, Pars, Code, Plain}
+use Rattle.pdl_lexemes.specs.declared.WordKind.TheVariants.{OfType}
 use Rattle.pdl_lexemes.specs.declared.Keyword.TheVariants.{Pdl}
 use Rattle.pdl_lexemes.specs.declared.Lexeme.{Lexeme}
 use Rattle.pdl_lexemes.specs.declared.Lexeme.TheVariants.{Name, Keyword, Word, Number, Quoted, Open, Close, OpenSquare, Comma, Arrow, Operator, Prefix}
 use Rattle.pdl_lexemes.specs.Bytes.{bytes_at}
-use Rattle.pdl_lexemes.specs.Lists.{signed, SpellsList, a_list}
-use Rattle.pdl_lexemes.specs.ListReading.{choose, after_comma, list_read, part as list_part, Part as ListPart}
+use Rattle.pdl_lexemes.specs.Lists.{signed}
+use Rattle.pdl_lexemes.specs.ListReading.{list_read, part as list_part}
 use Rattle.pdl_lexemes.proofs.ListComplete.{list_found, list_shorter, list_opens}
 use Rattle.pdl_syntax.specs.Tree.{Tree, Args, number, named, unary, binary, call, none, value, text, of_type}
 use Rattle.pdl_syntax.specs.Grammar.{Spells, Part, an_expr, a_postfix, a_primary, an_arg, some_args, closed_args, maybe_args, level_of, many, literal_of, same, joined, once, negated, prefixed, plain, bare, method, a_number, a_name, list, round_list, called, round, a_value, a_text, a_type, one, more, no_args, all_args, without, within}
-use Rattle.pdl_syntax.specs.Reading.{Read, Kind, whole, operand, after_open, after_close, after_arrow, prefix_at, operator_at, limit_of, method_at, type_at, type_step, quoted_at, tree_of_list, round_list_at, literal_at, number_before, chain_at, value_at, typed_at, arg_at, more_at, close_at, filled_at, closed_at, maybe_at, round_at, call_at, primary_at, methods_at, postfix_at, unary_at, level_at, reader}
+use Rattle.pdl_syntax.specs.Reading.{whole, after_open, after_close, prefix_at, operator_at, limit_of, method_at, type_at, quoted_at, literal_at, chain_at, arg_at, more_at, closed_at, maybe_at, primary_at, methods_at, postfix_at, unary_at, level_at, reader}
 use Rattle.pdl_syntax.proofs.Peeks.{operator_here, operator_other}
 use Rattle.pdl_syntax.proofs.Turns.{chain_stop_at, chain_turn_at, methods_stop, methods_turn, more_stop, more_turn}
 

@@ -1,20 +1,19 @@
 -- The answers of the parser, from its steps.
-use Rattle.std.proofs.Common.{◌≡◌, ℕ, suc, ◌+◌, ◌≤◌, List, [], ◌∷◌, length, arith, Bool, true, false, Option, Some, None, Result, Ok, Err, refl, ap, sym, ◌∙◌, subst, true≢false, add-one}
+use Rattle.std.proofs.Common.{◌≡◌, ℕ, suc, ◌+◌, ◌≤◌, List, [], ◌∷◌, length, arith, true, false, Some, None, Result, Ok, Err, refl, ap, sym, ◌∙◌, subst, true≢false, add-one}
 use Rattle.pdl_lex.specs.Tokens.{toks, AreSpans}
 use Rattle.pdl_lex.specs.declared.Token.{Token}
 use Rattle.pdl_lex.proofs.Spans.{toks-spans}
 use Rattle.pdl_lexemes.specs.declared.Lexeme.{Lexeme}
 use Rattle.pdl_lexemes.specs.Lexing.{lexemes_of}
-use Rattle.pdl_lexemes.specs.Depth.{is_too_deep, has_large, ragged_in}
-use Rattle.pdl_lexemes.specs.Lists.{HoldsRagged}
+use Rattle.pdl_lexemes.specs.Depth.{is_too_deep, has_large}
 use Rattle.pdl_lexemes.proofs.Options.{none_some}
 use Rattle.pdl_lexemes.proofs.Ragged.{ragged_sound, ragged_complete}
 use Rattle.pdl_syntax.specs.declared.parser.ParseFault.{ParseFault}
 use Rattle.pdl_syntax.specs.declared.parser.ParseFault.TheVariants.{TooDeep, NumberTooLarge, Syntax, Ragged, NoMemory}
 use Rattle.pdl_syntax.specs.declared.tree.Statement.{Statement}
 use Rattle.pdl_syntax.specs.Reading.{reader}
-use Rattle.pdl_syntax.specs.Refusals.{Answers, Checked, Passes, Unspelled}
-use Rattle.pdl_syntax.specs.StatementTree.{StatementTree, statement_of}
+use Rattle.pdl_syntax.specs.Refusals.{Answers, Checked}
+use Rattle.pdl_syntax.specs.StatementTree.{statement_of}
 use Rattle.pdl_syntax.specs.StatementReading.{statement_at}
 use Rattle.pdl_syntax.specs.Statements.{SpellsStatement}
 use Rattle.pdl_syntax.specs.WellMade.{IsWellMade}

@@ -1,16 +1,14 @@
 -- What a look at the front says of it.
-use Rattle.std.proofs.Common.{◌≡◌, ◌≤◌, ◌<◌, ℕ, zero, suc, List, [], ◌∷◌, length, Option, Some, None, Bool, true, false, nat_eq, if◌then◌else◌, refl, ap, sym, ◌∙◌, subst, eqb-true, eq-eqb}
+use Rattle.std.proofs.Common.{◌≡◌, ℕ, List, [], ◌∷◌, Option, Some, None, Bool, true, false, nat_eq, if◌then◌else◌, refl, ap, ◌∙◌, subst, eqb-true, eq-eqb}
 use Rattle.pdl_elem.specs.declared.BinaryOp.{BinaryOp}
-use Rattle.pdl_elem.specs.declared.BinaryOp.TheVariants.{Sub}
-use Rattle.pdl_elem.specs.declared.UnaryOp.{UnaryOp}
 use Rattle.pdl_elem.specs.declared.Ty.{Ty}
 use Rattle.pdl_lexemes.specs.declared.Span.{Span}
 use Rattle.pdl_lexemes.specs.declared.WordKind.{WordKind}
 use Rattle.pdl_lexemes.specs.declared.WordKind.TheVariants.{OfType}
 use Rattle.pdl_lexemes.specs.declared.Lexeme.{Lexeme}
-use Rattle.pdl_lexemes.specs.declared.Lexeme.TheVariants.{Name, Keyword, Word, Number, Quoted, Open, Close, Comma, Arrow, Operator, Prefix}
+use Rattle.pdl_lexemes.specs.declared.Lexeme.TheVariants.{Word, Quoted, Open, Close, Arrow, Operator}
 use Rattle.pdl_lexemes.proofs.Options.{some_inj, none_some, then_elim}
-use Rattle.pdl_syntax.specs.Reading.{Read, after_open, after_close, after_arrow, prefix_at, operator_at, word_at, method_at, type_at, type_step, quoted_at}
+use Rattle.pdl_syntax.specs.Reading.{Read, after_open, after_close, after_arrow, operator_at, word_at, method_at, type_at, type_step, quoted_at}
 use Rattle.pdl_syntax.specs.Grammar.{level_of}
 
 pub open_is : (ts : List Lexeme) {us : List Lexeme} → after_open ts ≡ Some us → ts ≡ Open ∷ us

@@ -1,6 +1,5 @@
 -- What the reader of expressions takes is spelled.
-use Rattle.std.proofs.Common.{◌≡◌, ℕ, ℤ, zero, suc, List, [], ◌∷◌, length, Bool, true, false, Option, Some, None, option_map, option_and_then, if◌then◌else◌, refl, ap, sym, ◌∙◌, subst}
-use Rattle.pdl_elem.specs.declared.BinaryOp.{BinaryOp}
+use Rattle.std.proofs.Common.{◌≡◌, ℕ, zero, suc, List, [], ◌∷◌, length, Bool, true, false, Some, option_map, option_and_then, if◌then◌else◌, refl, ap, sym, ◌∙◌, subst}
 use Rattle.pdl_elem.specs.declared.BinaryOp.TheVariants.{Sub}
 use Rattle.pdl_elem.specs.declared.UnaryOp.{UnaryOp}
 use Rattle.pdl_elem.specs.declared.UnaryOp.TheVariants.{Neg}
@@ -8,15 +7,15 @@ use Rattle.pdl_lexemes.specs.declared.Span.{Span}
 use Rattle.pdl_lexemes.specs.declared.WordKind.{WordKind}
 use Rattle.pdl_lexemes.specs.declared.Keyword.TheVariants.{Pdl}
 use Rattle.pdl_lexemes.specs.declared.Lexeme.{Lexeme}
-use Rattle.pdl_lexemes.specs.declared.Lexeme.TheVariants.{Name, Keyword, Word, Number, Quoted, Open, Close, Comma, Arrow, Operator, Prefix}
+use Rattle.pdl_lexemes.specs.declared.Lexeme.TheVariants.{Name, Keyword, Word, Number, Open, Operator, Prefix}
 use Rattle.pdl_lexemes.specs.Bytes.{bytes_at}
 use Rattle.pdl_lexemes.specs.Lists.{signed}
-use Rattle.pdl_lexemes.specs.ListReading.{choose, after_comma, list_read, Part as ListPart}
+use Rattle.pdl_lexemes.specs.ListReading.{after_comma, list_read}
 use Rattle.pdl_lexemes.proofs.Options.{some_inj, none_some, then_elim, map_elim, choose_elim}
 use Rattle.pdl_lexemes.proofs.ListSound.{comma_is, reader_sound}
-use Rattle.pdl_syntax.specs.Tree.{Tree, Args, number, named, unary, binary, call, none, value, text, of_type}
-use Rattle.pdl_syntax.specs.Grammar.{Spells, Part, an_expr, a_postfix, a_primary, an_arg, some_args, closed_args, maybe_args, level_of, many, literal_of, same, joined, once, negated, prefixed, plain, bare, method, a_number, a_name, list, round_list, called, round, a_value, a_text, a_type, one, more, no_args, all_args, without, within}
-use Rattle.pdl_syntax.specs.Reading.{Read, Kind, whole, operand, after_open, after_close, after_arrow, prefix_at, operator_at, limit_of, method_at, type_at, quoted_at, tree_of_list, round_list_at, literal_at, number_before, chain_at, value_at, typed_at, arg_at, more_at, close_at, filled_at, closed_at, maybe_at, round_at, call_at, primary_at, methods_at, postfix_at, unary_at, level_at, reader}
+use Rattle.pdl_syntax.specs.Tree.{Tree, Args, unary, binary, call, none, value, text, of_type}
+use Rattle.pdl_syntax.specs.Grammar.{Spells, Part, an_expr, a_postfix, a_primary, an_arg, some_args, closed_args, maybe_args, many, same, joined, once, negated, prefixed, plain, bare, method, a_number, a_name, list, round_list, called, round, a_value, a_text, a_type, one, more, no_args, all_args, without, within}
+use Rattle.pdl_syntax.specs.Reading.{Read, Kind, whole, operand, after_open, after_close, prefix_at, operator_at, limit_of, method_at, type_at, quoted_at, tree_of_list, round_list_at, literal_at, number_before, chain_at, value_at, typed_at, arg_at, more_at, close_at, filled_at, closed_at, maybe_at, round_at, call_at, primary_at, methods_at, postfix_at, unary_at, level_at, reader}
 use Rattle.pdl_syntax.proofs.Peeks.{open_is, close_is, quoted_is, operator_is, method_is, type_is}
 
 -- what each kind of reading spells

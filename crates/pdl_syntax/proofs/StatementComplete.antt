@@ -1,24 +1,24 @@
 -- Each spelled statement is read, so that lexemes are spelled by at most one.
-use Rattle.std.proofs.Common.{◌≡◌, ℕ, ℤ, zero, suc, ◌+◌, ◌<◌, ◌≤◌, List, [], ◌∷◌, ◌++◌, length, Bool, true, false, ◌||◌, nat_lt, Option, Some, None, option_map, option_and_then, if◌then◌else◌, refl, ap, sym, ◌∙◌, subst, arith, lt-ltb}
+use Rattle.std.proofs.Common.{◌≡◌, ℕ, ℤ, zero, suc, ◌<◌, ◌≤◌, List, [], ◌∷◌, ◌++◌, length, Bool, true, false, ◌||◌, nat_lt, Option, Some, None, option_map, refl, ap, sym, ◌∙◌, arith, lt-ltb}
 use Rattle.pdl_lexemes.specs.declared.AssignOp.{AssignOp}
 use Rattle.pdl_lexemes.specs.declared.Span.{Span}
 use Rattle.pdl_lexemes.specs.declared.WordKind.{WordKind}
 use Rattle.pdl_lexemes.specs.declared.WordKind.TheVariants.{View as IsView, Pars, Code}
 use Rattle.pdl_lexemes.specs.declared.Keyword.TheVariants.{My, Print, Undef, Vars, PpDef, Watch, Unwatch, Info, Sever, Reshape}
 use Rattle.pdl_lexemes.specs.declared.Lexeme.{Lexeme}
-use Rattle.pdl_lexemes.specs.declared.Lexeme.TheVariants.{Name, Keyword, Word, Number, Quoted, Open, Close, Comma, Equals, Arrow, FatArrow, Assign}
+use Rattle.pdl_lexemes.specs.declared.Lexeme.TheVariants.{Name, Keyword, Word, Number, Quoted, Open, Close, Comma, Equals, Arrow, Assign}
 use Rattle.pdl_lexemes.specs.Bytes.{bytes_at}
 use Rattle.pdl_lexemes.specs.Lists.{signed}
-use Rattle.pdl_lexemes.specs.ListReading.{choose, after_comma}
-use Rattle.pdl_lexemes.proofs.Options.{some_inj, none_some}
+use Rattle.pdl_lexemes.specs.ListReading.{after_comma}
+use Rattle.pdl_lexemes.proofs.Options.{some_inj}
 use Rattle.pdl_syntax.specs.Tree.{Tree, Args, call, none, value}
-use Rattle.pdl_syntax.specs.Grammar.{Spells, an_expr, a_postfix, closed_args, maybe_args, same, plain, called}
-use Rattle.pdl_syntax.specs.Reading.{Read, Kind, whole, operand, after_open, after_close, after_arrow, quoted_at, method_at, maybe_at, closed_at, primary_at, methods_at, postfix_at, reader}
-use Rattle.pdl_syntax.specs.StatementTree.{StatementTree, View, bind, bind_list, assign, show, show_text, sever, reshape, undef, vars, pp_def, watch, unwatch}
+use Rattle.pdl_syntax.specs.Grammar.{Spells, an_expr, a_postfix, same, plain, called}
+use Rattle.pdl_syntax.specs.Reading.{Read, Kind, after_open, quoted_at, maybe_at, closed_at, primary_at, methods_at, reader}
+use Rattle.pdl_syntax.specs.StatementTree.{StatementTree, View, bind, bind_list, assign, show, show_text, sever, reshape, vars, pp_def, watch, unwatch}
 use Rattle.pdl_syntax.specs.Statements.{SpellsBrackets, no_brackets, brackets, SpellsNames, one_name, more_names, SpellsViews, no_views, one_view, SpellsText, plain_text, labelled, SpellsCalled, by_word, by_method, SpellsBinding, binds_value, binds_severed, binds_names, SpellsStatement, binds, my_binds, assigns, shows_text, shows, shows_info, severs, reshapes, undefs, lists_names, defines, watches, unwatches}
-use Rattle.pdl_syntax.specs.StatementReading.{after_equals, after_sever, after_info, after_reshape, name_at, view_at, assign_at, slot_at, at_end, is_brackets, begins_word, after_pars, after_code, texts_at, code_at, signature_at, define_at, undef_at, watch_at, names_at, all_names_at, ended_at, severed_at, info_at, called_step, called_at, bind_at, bind_names, bind_list_at, views_at, assign_value, assignment_at, reshape_at, sever_at, named_at, bind_name, binding_at, value_at, show_at, statement_at, read_statement}
+use Rattle.pdl_syntax.specs.StatementReading.{after_equals, after_sever, after_reshape, view_at, slot_at, at_end, is_brackets, begins_word, after_pars, after_code, texts_at, code_at, define_at, undef_at, watch_at, names_at, all_names_at, ended_at, severed_at, info_at, called_step, called_at, bind_at, bind_list_at, views_at, assignment_at, named_at, binding_at, show_at, statement_at, read_statement}
 use Rattle.pdl_syntax.proofs.Turns.{methods_stop, methods_turn}
-use Rattle.pdl_syntax.proofs.Complete.{Ends, ends_nothing, Methods, complete, read_whole, read_postfix, begins, shorter, finished}
+use Rattle.pdl_syntax.proofs.Complete.{Ends, ends_nothing, Methods, complete, read_whole, read_postfix, begins, shorter}
 use Rattle.pdl_syntax.proofs.StatementSound.{severed_sound, info_sound, statement_sound}
 
 names_stop : (source : List ℕ) (k : ℕ) (names : List (List ℕ)) (ts : List Lexeme) → after_comma ts ≡ None → names_at source k names ts ≡ Some (names, ts)

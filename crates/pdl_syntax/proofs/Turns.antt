@@ -1,10 +1,10 @@
 -- One turn of each chain.
-use Rattle.std.proofs.Common.{◌≡◌, ℕ, zero, suc, ◌+◌, ◌-◌, ◌<◌, List, Option, Some, None, option_and_then, refl, ap, sym, ◌∙◌, arith, add-one}
+use Rattle.std.proofs.Common.{◌≡◌, ℕ, zero, suc, ◌+◌, ◌-◌, ◌<◌, List, Some, None, refl, arith, add-one}
 use Rattle.pdl_elem.specs.declared.BinaryOp.{BinaryOp}
 use Rattle.pdl_lexemes.specs.declared.Lexeme.{Lexeme}
 use Rattle.pdl_lexemes.specs.declared.Span.{Span}
 use Rattle.pdl_lexemes.specs.Bytes.{bytes_at}
-use Rattle.pdl_lexemes.specs.ListReading.{choose, after_comma}
+use Rattle.pdl_lexemes.specs.ListReading.{after_comma}
 use Rattle.pdl_syntax.specs.Tree.{Tree, Args, binary, call, value, none}
 use Rattle.pdl_syntax.specs.Reading.{Read, Kind, operator_at, method_at, chain_at, methods_at, more_at, maybe_at, arg_at, level_at, limit_of}
 

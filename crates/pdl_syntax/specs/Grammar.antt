@@ -1,5 +1,5 @@
 -- The grammar of expressions, one case a rule.
-use Rattle.std.specs.Prelude.{◌≡◌, ◌≢◌, ℕ, zero, suc, ℤ, List, [], ◌∷◌, Bool, true, false, Option, Some, None, unwrap_or, length}
+use Rattle.std.specs.Prelude.{◌≡◌, ℕ, zero, suc, ℤ, List, [], ◌∷◌, Bool, true, false, Option, Some, unwrap_or, length}
 use Rattle.pdl_elem.specs.declared.BinaryOp.{BinaryOp}
 use Rattle.pdl_elem.specs.declared.BinaryOp.TheVariants.{Add, Sub, Mul, Div, Rem, Shl, Shr, Lt, Le, Gt, Ge, Eq, Ne, And, Or, Xor}
 use Rattle.pdl_elem.specs.declared.UnaryOp.{UnaryOp}

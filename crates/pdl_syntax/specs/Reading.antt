@@ -1,5 +1,5 @@
 -- How an expression is read: the one way in which its lexemes spell it, if there is one.
-use Rattle.std.specs.Prelude.{◌≡◌, ℕ, zero, suc, ℤ, nat_eq, List, [], ◌∷◌, length, Bool, Option, Some, None, option_map, option_and_then, if◌then◌else◌}
+use Rattle.std.specs.Prelude.{ℕ, zero, suc, ℤ, nat_eq, List, [], ◌∷◌, length, Option, Some, None, option_map, option_and_then, if◌then◌else◌}
 use Rattle.pdl_elem.specs.declared.BinaryOp.{BinaryOp}
 use Rattle.pdl_elem.specs.declared.BinaryOp.TheVariants.{Sub}
 use Rattle.pdl_elem.specs.declared.UnaryOp.{UnaryOp}
@@ -9,11 +9,11 @@ use Rattle.pdl_lexemes.specs.declared.Span.{Span}
 use Rattle.pdl_lexemes.specs.declared.WordKind.TheVariants.{OfType}
 use Rattle.pdl_lexemes.specs.declared.Keyword.TheVariants.{Pdl}
 use Rattle.pdl_lexemes.specs.declared.Lexeme.{Lexeme}
-use Rattle.pdl_lexemes.specs.declared.Lexeme.TheVariants.{Name, Keyword, Word, Number, Quoted, Open, Close, Comma, Arrow, Operator, Prefix}
+use Rattle.pdl_lexemes.specs.declared.Lexeme.TheVariants.{Name, Keyword, Word, Number, Quoted, Open, Close, Arrow, Operator, Prefix}
 use Rattle.pdl_lexemes.specs.Bytes.{bytes_at}
 use Rattle.pdl_lexemes.specs.Lists.{signed}
-use Rattle.pdl_lexemes.specs.ListReading.{choose, list_read, after_comma, part as list_part, Part as ListPart}
-use Rattle.pdl_syntax.specs.Tree.{Tree, Args, number, named, literal, unary, binary, call, none, value, text, of_type}
+use Rattle.pdl_lexemes.specs.ListReading.{choose, list_read, after_comma, Part as ListPart}
+use Rattle.pdl_syntax.specs.Tree.{Tree, Args, number, named, unary, binary, call, none, value, text, of_type}
 use Rattle.pdl_syntax.specs.Grammar.{level_of, many, literal_of}
 
 -- what is read from the front, and what follows it

@@ -1,6 +1,5 @@
 -- Which statement the tokens of a text spell, or which check refuses them first.
-use Rattle.std.specs.Prelude.{◌≡◌, List, ℕ, Bool, true, false, Result, Ok, Err}
-use Rattle.pdl_lex.specs.declared.Token.{Token}
+use Rattle.std.specs.Prelude.{◌≡◌, List, ℕ, true, false, Result, Ok, Err}
 use Rattle.pdl_lexemes.specs.declared.Lexeme.{Lexeme}
 use Rattle.pdl_lexemes.specs.Depth.{is_too_deep, has_large, ragged_in}
 use Rattle.pdl_lexemes.specs.Lists.{HoldsRagged}

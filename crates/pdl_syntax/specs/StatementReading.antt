@@ -1,15 +1,15 @@
 -- How a statement is read: the one way in which its lexemes spell it, if there is one.
-use Rattle.std.specs.Prelude.{◌≡◌, ℕ, zero, suc, nat_lt, List, [], ◌∷◌, ◌++◌, length, Bool, true, false, ◌||◌, Option, Some, None, option_map, option_and_then, if◌then◌else◌}
+use Rattle.std.specs.Prelude.{ℕ, zero, suc, nat_lt, List, [], ◌∷◌, ◌++◌, length, Bool, true, false, ◌||◌, Option, Some, None, option_map, option_and_then, if◌then◌else◌}
 use Rattle.pdl_lexemes.specs.declared.AssignOp.{AssignOp}
 use Rattle.pdl_lexemes.specs.declared.Span.{Span}
 use Rattle.pdl_lexemes.specs.declared.WordKind.TheVariants.{View as IsView, Pars, Code}
 use Rattle.pdl_lexemes.specs.declared.Keyword.TheVariants.{My, Print, Undef, Vars, PpDef, Watch, Unwatch, Info, Sever, Reshape}
 use Rattle.pdl_lexemes.specs.declared.Lexeme.{Lexeme}
-use Rattle.pdl_lexemes.specs.declared.Lexeme.TheVariants.{Name, Keyword, Word, Number, Quoted, Open, Close, Comma, Equals, Arrow, FatArrow, Assign}
+use Rattle.pdl_lexemes.specs.declared.Lexeme.TheVariants.{Name, Keyword, Word, Number, Open, Close, Equals, FatArrow, Assign}
 use Rattle.pdl_lexemes.specs.Bytes.{bytes_at}
 use Rattle.pdl_lexemes.specs.Lists.{signed}
 use Rattle.pdl_lexemes.specs.ListReading.{choose, after_comma}
-use Rattle.pdl_syntax.specs.Tree.{Tree, Args, none}
+use Rattle.pdl_syntax.specs.Tree.{Tree, none}
 use Rattle.pdl_syntax.specs.Reading.{Read, Kind, whole, after_open, after_close, after_arrow, quoted_at, maybe_at, closed_at, primary_at, methods_at, postfix_at, reader}
 use Rattle.pdl_syntax.specs.StatementTree.{StatementTree, View, bind, bind_list, assign, show, show_text, sever, reshape, undef, vars, pp_def, watch, unwatch}
 
@@ -17,10 +17,6 @@ use Rattle.pdl_syntax.specs.StatementTree.{StatementTree, View, bind, bind_list,
 abbrev pub after_equals : List Lexeme → Option (List Lexeme)
 after_equals (Equals ∷ ts) = Some ts
 after_equals _ = None
-
-abbrev pub after_my : List Lexeme → Option (List Lexeme)
-after_my (Keyword My ∷ ts) = Some ts
-after_my _ = None
 
 abbrev pub word_sever : List Lexeme → Option (List Lexeme)
 word_sever (Keyword Sever ∷ ts) = Some ts

@@ -1,5 +1,5 @@
 -- The tree of an expression that code walks.
-use Rattle.std.specs.Prelude.{ℕ, List, [], ◌∷◌}
+use Rattle.std.specs.Prelude.{List, [], ◌∷◌}
 use Rattle.pdl_syntax.specs.declared.tree.Expr.{Expr, Number, Named, List as Listed, Unary', Binary', Call', Row_of-Arg, end_of-Arg, more_of-Arg}
 use Rattle.pdl_syntax.specs.declared.tree.Arg.{Arg, Value, Str, OfType}
 use Rattle.pdl_syntax.specs.Tree.{Tree, Args, number, named, literal, unary, binary, call, none, value, text, of_type}

@@ -1,6 +1,6 @@
 //! The parts of a tree that take memory.
 
-ghost use Rattle.std.specs.Prelude.{◌≡◌, ◌∷◌, [], IfOk, IfErr, List};
+ghost use Rattle.std.specs.Prelude.{◌≡◌, IfOk, IfErr};
 ghost use Rattle.pdl_lexemes.specs.Bytes.{bytes_at};
 ghost use Rattle.pdl_syntax.specs.Tree.{named, unary, binary, call, value, text as text_after, of_type, none};
 ghost use Rattle.pdl_syntax.specs.TreeOf.{tree_of, args_of};

@@ -4,7 +4,7 @@ ghost use Rattle.std.specs.Prelude.{◌≡◌, ◌≤◌, ◌<◌, ◌-◌, suc,
 ghost use Rattle.pdl_syntax.specs.Tree.{none, value, number};
 ghost use Rattle.pdl_syntax.specs.TreeOf.{tree_of, args_of};
 ghost use Rattle.pdl_lexemes.specs.Answers.{Gives};
-ghost use Rattle.pdl_syntax.specs.Reading.{whole, operand, reader, number_before, level_at, chain_at, limit_of, unary_at, postfix_at, methods_at, primary_at, call_at, round_at, arg_at, more_at, filled_at, closed_at, maybe_at, literal_at};
+ghost use Rattle.pdl_syntax.specs.Reading.{whole, operand, reader, number_before, level_at, chain_at, limit_of, unary_at, postfix_at, methods_at, primary_at, call_at, round_at, arg_at, more_at, closed_at, maybe_at};
 ghost use Rattle.pdl_lexemes.specs.Lists.{signed};
 
 use crate::tree::{Arg, Expr};

@@ -26,6 +26,7 @@ pub enum ParseFault {
     Syntax,
     /// A list holds numbers beside lists, or lists of different dimensions.
     Ragged,
+    /// Memory is short. No clause ties this answer to a cause.
     NoMemory,
 }
 

@@ -1,13 +1,12 @@
 //! The reader of statements.
 
-ghost use Rattle.std.specs.Prelude.{◌≡◌, ◌≤◌, ◌<◌, ◌∷◌, [], length, IfOk, IfErr, option_map};
+ghost use Rattle.std.specs.Prelude.{◌≡◌, ◌≤◌, ◌∷◌, [], length, IfOk, IfErr, option_map};
 ghost use Rattle.pdl_lexemes.specs.Answers.{Gives};
 ghost use Rattle.pdl_lexemes.specs.Bytes.{bytes_at};
 ghost use Rattle.pdl_syntax.specs.Reading.{reader};
 ghost use Rattle.pdl_syntax.specs.StatementReading.{ended_at, severed_at, info_at, called_at, bind_at, bind_list_at, binding_at, assignment_at, reshape_at, sever_at, named_at, value_at, show_at, undef_at, watch_at, code_at, signature_at, define_at, statement_at, slot_at, at_end};
 ghost use Rattle.pdl_syntax.specs.StatementTree.{statement_of, vars, unwatch};
-ghost use Rattle.pdl_syntax.specs.Tree.{none};
-ghost use Rattle.pdl_syntax.specs.TreeOf.{tree_of, args_of};
+ghost use Rattle.pdl_syntax.specs.TreeOf.{tree_of};
 
 use crate::tree::{Expr, Statement};
 use crate::{expr, make, parts, peek};

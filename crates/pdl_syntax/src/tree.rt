@@ -9,7 +9,9 @@ use pdl_lexemes::AssignOp;
 #[derive(Debug, Drop)]
 pub enum Arg {
     Value(Expr),
+    /// A string, without its quotes.
     Str(Text),
+    /// A type word that calls nothing, as in `zeroes(byte, 2)`.
     OfType(Ty),
 }
 
@@ -17,8 +19,11 @@ pub enum Arg {
 #[cycle(expr)]
 #[derive(Debug, Drop)]
 pub enum Expr {
+    /// From 0 to 9223372036854775807.
     Number(i64),
+    /// A name, with its `$`.
     Named(Name),
+    /// A list literal. The dimensions of a list of lists are those of its members, then its length.
     List(Made),
     Unary(UnaryOp, Box<Expr>),
     Binary(BinaryOp, Box<Expr>, Box<Expr>),
@@ -48,7 +53,7 @@ pub enum Statement {
         value: Expr,
         sever: bool,
     },
-    /// `($a, $b) = f(..)`
+    /// `($a, $b) = f(..)`. The value is a call.
     BindList {
         names: Vec<Name>,
         value: Expr,
@@ -81,6 +86,7 @@ pub enum Statement {
     Undef {
         name: Name,
     },
+    /// `vars`
     Vars,
     /// `pp_def("name", Pars => "signature", Code => "code")`
     PpDef {

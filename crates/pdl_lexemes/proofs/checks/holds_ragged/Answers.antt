@@ -1,4 +1,4 @@
-use Rattle.std.proofs.Common.{◌≡◌, ◌∙◌, ◌-◌, sym, ap, length, drop, take, arith, length-drop}
+use Rattle.std.proofs.Common.{◌∙◌, ◌-◌, sym, ap, length, drop, arith, length-drop}
 use Rattle.std.proofs.lemmas.List.{take_all}
 use Rattle.pdl_lexemes.specs.Depth.{reads_ragged}
 use Rattle.pdl_lexemes.specs.ListReading.{list_read}

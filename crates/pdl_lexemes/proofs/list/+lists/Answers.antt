@@ -1,5 +1,5 @@
-use Rattle.std.proofs.Common.{◌≡◌, ◌∙◌, ◌-◌, ◌+◌, suc, length, ℕ, sym, ap, arith, add-one}
-use Rattle.pdl_lexemes.specs.ListReading.{Part, part, list_reader, items_at}
+use Rattle.std.proofs.Common.{◌∙◌, ◌-◌, ◌+◌, length, sym, ap, arith, add-one}
+use Rattle.pdl_lexemes.specs.ListReading.{part, list_reader, items_at}
 use Rattle.pdl_lexemes.specs.Lists.{shared}
 use Rattle.pdl_lexemes.proofs.ListTurns.{one_less, items_turn}
 use Rattle.pdl_lexemes.proofs.list.+lists.Goals as goal

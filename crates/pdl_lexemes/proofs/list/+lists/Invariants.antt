@@ -1,5 +1,5 @@
 -- Each call goes down in the fuel, or with the same fuel in the rank of its part.
-use Rattle.std.proofs.Common.{◌≡◌, ℕ, suc, ◌+◌, ◌-◌, ◌*◌, ◌≤◌, ◌<◌, length, Option}
+use Rattle.std.proofs.Common.{◌≡◌, ℕ, ◌+◌, ◌-◌, ◌*◌, ◌≤◌, length, Option}
 use Rattle.pdl_lexemes.specs.ListReading.{Part, part, list_reader, items_at}
 use Rattle.pdl_lexemes.proofs.list.+lists.Given as goal
 

@@ -1,4 +1,4 @@
-use Rattle.std.proofs.Common.{◌≡◌, ◌∙◌, ap}
+use Rattle.std.proofs.Common.{◌∙◌, ap}
 use Rattle.pdl_syntax.specs.Tree.{call, none}
 use Rattle.pdl_syntax.specs.TreeOf.{args_of}
 use Rattle.pdl_syntax.proofs.Trees.{tree_of_call}

@@ -1,8 +1,7 @@
-use Rattle.std.proofs.Common.{◌≡◌, ◌∙◌, ◌-◌, ◌+◌, suc, zero, length, ℕ, Some, sym, ap, subst, arith, option_map}
-use Rattle.pdl_syntax.specs.Tree.{Tree, Args, none, value, binary}
+use Rattle.std.proofs.Common.{◌≡◌, ◌∙◌, ◌-◌, ◌+◌, suc, length, sym, ap, arith}
+use Rattle.pdl_syntax.specs.Tree.{none, value}
 use Rattle.pdl_syntax.specs.TreeOf.{tree_of, args_of}
-use Rattle.pdl_lexemes.specs.Answers.{Gives}
-use Rattle.pdl_syntax.specs.Reading.{reader, level_at, chain_at, limit_of, methods_at, more_at, maybe_at}
+use Rattle.pdl_syntax.specs.Reading.{reader, level_at, chain_at, methods_at, more_at, maybe_at}
 use Rattle.pdl_syntax.proofs.Turns.{one_less, chain_stop, chain_turn, methods_stop, methods_turn, more_turn, level_above}
 use Rattle.pdl_syntax.proofs.expr.+parser.Goals as goal
 

@@ -1,4 +1,4 @@
-use Rattle.std.proofs.Common.{◌≡◌, ◌∙◌, ◌-◌, ◌+◌, suc, length, sym, ap, arith}
+use Rattle.std.proofs.Common.{◌∙◌, ◌-◌, ◌+◌, length, sym, ap, arith}
 use Rattle.pdl_syntax.specs.StatementReading.{names_at}
 use Rattle.pdl_syntax.proofs.Turns.{one_less}
 use Rattle.pdl_syntax.proofs.StatementTurns.{names_stop_at, names_next, names_fail}
