@@ -3,3 +3,5 @@ pub mod Options
 pub mod ListSound
 pub mod ListComplete
 pub mod Ragged
+pub mod Squares
+pub mod ListDims

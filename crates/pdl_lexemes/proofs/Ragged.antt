@@ -1,5 +1,5 @@
 -- The scan for ragged lists finds those that are spelled.
-use Rattle.std.proofs.Common.{◌≡◌, ◌<◌, ◌≤◌, ◌+◌, ℕ, ℤ, zero, suc, List, [], ◌∷◌, length, drop, Bool, true, false, Option, Some, None, if◌then◌else◌, refl, sym, subst, arith, true≢false, add-one}
+use Rattle.std.proofs.Common.{◌≡◌, ℕ, ℤ, suc, List, [], ◌∷◌, length, Bool, true, false, Option, Some, None, if◌then◌else◌, refl, sym, subst, true≢false}
 use Rattle.pdl_lexemes.specs.declared.Lexeme.{Lexeme}
 use Rattle.pdl_lexemes.specs.Lists.{SpellsList, a_list, HoldsRagged, here, later}
 use Rattle.pdl_lexemes.specs.ListReading.{Part, part, list_read}
@@ -7,25 +7,12 @@ use Rattle.pdl_lexemes.specs.Depth.{ragged_in, reads_ragged, without_shape}
 use Rattle.pdl_lexemes.proofs.ListSound.{reader_sound}
 use Rattle.pdl_lexemes.proofs.ListComplete.{list_found, list_opens}
 
-step_suc : (ts : List Lexeme) (i : ℕ) → i < length ts → reads_ragged (list_read (drop i ts)) ≡ false → ragged_in (drop i ts) ≡ ragged_in (drop (suc i) ts)
-step_suc [] i lt e = absurd (omega arith)
-step_suc (t ∷ ts) zero lt e = rw e
-step_suc (t ∷ ts) (suc i) lt e = step_suc ts i (omega arith) e
+-- the scan ends where a list is ragged, and goes on behind a place where none is
+pub scan_here : (t : Lexeme) (ts : List Lexeme) → reads_ragged (list_read (t ∷ ts)) ≡ true → ragged_in (t ∷ ts) ≡ true
+scan_here t ts e = rw e
 
--- the scan goes on behind a place whose list isn't ragged
-pub ragged_step : (ts : List Lexeme) (i : ℕ) → i < length ts → reads_ragged (list_read (drop i ts)) ≡ false → ragged_in (drop i ts) ≡ ragged_in (drop (i + 1) ts)
-ragged_step ts i lt e = rw add-one (step_suc ts i lt e)
-
-pub ragged_here : (ts : List Lexeme) (i : ℕ) → i < length ts → reads_ragged (list_read (drop i ts)) ≡ true → ragged_in (drop i ts) ≡ true
-ragged_here [] i lt e = absurd (omega arith)
-ragged_here (t ∷ ts) zero lt e = rw e
-ragged_here (t ∷ ts) (suc i) lt e = ragged_here ts i (omega arith) e
-
-pub ragged_end : (ts : List Lexeme) (i : ℕ) → length ts ≤ i → ragged_in (drop i ts) ≡ false
-ragged_end [] zero le = refl
-ragged_end [] (suc i) le = refl
-ragged_end (t ∷ ts) zero le = absurd (omega arith)
-ragged_end (t ∷ ts) (suc i) le = ragged_end ts i (omega arith)
+pub scan_on : (t : Lexeme) (ts : List Lexeme) → reads_ragged (list_read (t ∷ ts)) ≡ false → ragged_in (t ∷ ts) ≡ ragged_in ts
+scan_on t ts e = rw e
 
 ragged_part : (ts : List Lexeme) (o : Option Part) → list_read ts ≡ o → reads_ragged o ≡ true → HoldsRagged ts
 ragged_part ts None e h = absurd (true≢false (sym h))

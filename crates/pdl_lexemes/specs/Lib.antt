@@ -4,3 +4,4 @@ pub mod Lists
 pub mod ListReading
 pub mod Lexing
 pub mod Depth
+pub mod Squares

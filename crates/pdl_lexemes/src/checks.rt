@@ -4,7 +4,7 @@ ghost use Rattle.std.specs.Prelude.{◌≡◌, ◌≤◌, ◌+◌, ◌<◌, leng
 ghost use Rattle.pdl_lexemes.specs.Depth.{with_operator, counted_to, is_beyond, is_too_deep, is_large, has_large, ragged_in, reads_ragged};
 ghost use Rattle.pdl_lexemes.specs.ListReading.{list_read};
 
-use crate::{Lexeme, Refusal, list};
+use crate::{Lexeme, Lexemes, Refusal, list};
 use std::alloc::Global;
 
 /// How many brackets of each kind are open, and how many operators stand outside square ones so far.
@@ -115,8 +115,7 @@ pub fn has_large(tokens: &[Lexeme]) -> bool
     false
 }
 
-fn reads_ragged(alloc: Global, tokens: &[Lexeme]) -> Result<bool, Refusal>
-    requires small { length tokens.now ≤ 65536 }
+fn reads_ragged(alloc: Global, tokens: &Lexemes<'_>) -> Result<bool, Refusal>
     ensures ok { IfOk result (λ b. b ≡ reads_ragged (list_read tokens.now)) }
     ensures err { IfErr result (λ r. r ≡ Refusal.NoMemory) }
 {
@@ -128,16 +127,17 @@ fn reads_ragged(alloc: Global, tokens: &[Lexeme]) -> Result<bool, Refusal>
 }
 
 /// Whether some list literal among the lexemes is ragged.
-#[tactic(auto, using(crate::proofs::Ragged::ragged_step, crate::proofs::Ragged::ragged_here, crate::proofs::Ragged::ragged_end))]
-pub fn holds_ragged(alloc: Global, tokens: &[Lexeme]) -> Result<bool, Refusal>
-    requires small { length tokens.now ≤ 65536 }
+#[tactic(auto, using(crate::proofs::Ragged::scan_here, crate::proofs::Ragged::scan_on))]
+pub fn holds_ragged(alloc: Global, tokens: &Lexemes<'_>) -> Result<bool, Refusal>
     ensures ok { IfOk result (λ b. b ≡ ragged_in tokens.now) }
     ensures err { IfErr result (λ r. r ≡ Refusal.NoMemory) }
 {
-    for i in 0..tokens.len() {
-        if reads_ragged(alloc, &tokens[i..])? {
+    let mut left = tokens.copy();
+    while let Some((_, rest)) = left.split_first() {
+        if reads_ragged(alloc, &left)? {
             return Ok(true);
         }
+        left = rest;
     }
     Ok(false)
 }

@@ -18,64 +18,54 @@ pub fn bytes(source: &[u8], span: Span) -> &[u8]
     &source[from..to]
 }
 
-fn or_keyword(
-    text: &[u8],
-    word: &[u8],
-    keyword: Keyword,
-    others: Option<Keyword>,
-) -> Option<Keyword>
-    ensures { result ≡ (if bytes_eq text.now word.now then Some keyword else others) }
+// The value for this word, where the text is the word.
+fn or_found<T: Copy>(text: &[u8], word: &[u8], value: T, others: Option<T>) -> Option<T>
+    ensures { result ≡ (if bytes_eq text.now word.now then Some value else others) }
 {
-    if text == word { Some(keyword) } else { others }
+    if text == word { Some(value) } else { others }
 }
 
 fn keyword(text: &[u8]) -> Option<Keyword>
     ensures { result ≡ found_in keywords text.now }
 {
     let found = None;
-    let found = or_keyword(text, b"reshape", Keyword::Reshape, found);
-    let found = or_keyword(text, b"sever", Keyword::Sever, found);
-    let found = or_keyword(text, b"info", Keyword::Info, found);
-    let found = or_keyword(text, b"pdl", Keyword::Pdl, found);
-    let found = or_keyword(text, b"unwatch", Keyword::Unwatch, found);
-    let found = or_keyword(text, b"watch", Keyword::Watch, found);
-    let found = or_keyword(text, b"pp_def", Keyword::PpDef, found);
-    let found = or_keyword(text, b"vars", Keyword::Vars, found);
-    let found = or_keyword(text, b"undef", Keyword::Undef, found);
-    let found = or_keyword(text, b"print", Keyword::Print, found);
-    let found = or_keyword(text, b"p", Keyword::Print, found);
-    or_keyword(text, b"my", Keyword::My, found)
-}
-
-fn or_kind(text: &[u8], word: &[u8], kind: WordKind, others: Option<WordKind>) -> Option<WordKind>
-    ensures { result ≡ (if bytes_eq text.now word.now then Some kind else others) }
-{
-    if text == word { Some(kind) } else { others }
+    let found = or_found(text, b"reshape", Keyword::Reshape, found);
+    let found = or_found(text, b"sever", Keyword::Sever, found);
+    let found = or_found(text, b"info", Keyword::Info, found);
+    let found = or_found(text, b"pdl", Keyword::Pdl, found);
+    let found = or_found(text, b"unwatch", Keyword::Unwatch, found);
+    let found = or_found(text, b"watch", Keyword::Watch, found);
+    let found = or_found(text, b"pp_def", Keyword::PpDef, found);
+    let found = or_found(text, b"vars", Keyword::Vars, found);
+    let found = or_found(text, b"undef", Keyword::Undef, found);
+    let found = or_found(text, b"print", Keyword::Print, found);
+    let found = or_found(text, b"p", Keyword::Print, found);
+    or_found(text, b"my", Keyword::My, found)
 }
 
 fn word_kind(text: &[u8]) -> Option<WordKind>
     ensures { result ≡ found_in word_kinds text.now }
 {
     let found = None;
-    let found = or_kind(text, b"Code", WordKind::Code, found);
-    let found = or_kind(text, b"Pars", WordKind::Pars, found);
-    let found = or_kind(text, b"range", WordKind::View, found);
-    let found = or_kind(text, b"where", WordKind::View, found);
-    let found = or_kind(text, b"index", WordKind::View, found);
-    let found = or_kind(text, b"squeeze", WordKind::View, found);
-    let found = or_kind(text, b"flat", WordKind::View, found);
-    let found = or_kind(text, b"clump", WordKind::View, found);
-    let found = or_kind(text, b"diagonal", WordKind::View, found);
-    let found = or_kind(text, b"dummy", WordKind::View, found);
-    let found = or_kind(text, b"reorder", WordKind::View, found);
-    let found = or_kind(text, b"mv", WordKind::View, found);
-    let found = or_kind(text, b"xchg", WordKind::View, found);
-    let found = or_kind(text, b"slice", WordKind::View, found);
-    let found = or_kind(text, b"longlong", WordKind::OfType(Ty::Longlong), found);
-    let found = or_kind(text, b"long", WordKind::OfType(Ty::Long), found);
-    let found = or_kind(text, b"ushort", WordKind::OfType(Ty::Ushort), found);
-    let found = or_kind(text, b"short", WordKind::OfType(Ty::Short), found);
-    or_kind(text, b"byte", WordKind::OfType(Ty::Byte), found)
+    let found = or_found(text, b"Code", WordKind::Code, found);
+    let found = or_found(text, b"Pars", WordKind::Pars, found);
+    let found = or_found(text, b"range", WordKind::View, found);
+    let found = or_found(text, b"where", WordKind::View, found);
+    let found = or_found(text, b"index", WordKind::View, found);
+    let found = or_found(text, b"squeeze", WordKind::View, found);
+    let found = or_found(text, b"flat", WordKind::View, found);
+    let found = or_found(text, b"clump", WordKind::View, found);
+    let found = or_found(text, b"diagonal", WordKind::View, found);
+    let found = or_found(text, b"dummy", WordKind::View, found);
+    let found = or_found(text, b"reorder", WordKind::View, found);
+    let found = or_found(text, b"mv", WordKind::View, found);
+    let found = or_found(text, b"xchg", WordKind::View, found);
+    let found = or_found(text, b"slice", WordKind::View, found);
+    let found = or_found(text, b"longlong", WordKind::OfType(Ty::Longlong), found);
+    let found = or_found(text, b"long", WordKind::OfType(Ty::Long), found);
+    let found = or_found(text, b"ushort", WordKind::OfType(Ty::Ushort), found);
+    let found = or_found(text, b"short", WordKind::OfType(Ty::Short), found);
+    or_found(text, b"byte", WordKind::OfType(Ty::Byte), found)
 }
 
 fn word(text: &[u8], span: Span) -> Lexeme

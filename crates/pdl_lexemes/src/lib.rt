@@ -6,13 +6,17 @@ ghost use Rattle.std.specs.Prelude.{◌≡◌, ◌≤ℤ◌, pos, IfSome};
 ghost use Rattle.pdl_lexemes.specs.Lists.{signed};
 
 mod checks;
+mod left;
 mod lexing;
 pub mod list;
 pub mod peek;
 mod refusal;
 pub mod sizes;
+#[cfg(test)]
+mod tests;
 
-pub use checks::{has_large, holds_ragged, is_too_deep};
+pub use checks::{has_large, holds_ragged};
+pub use left::Lexemes;
 pub use lexing::{bytes, lexemes};
 use pdl_elem::{BinaryOp, Ty, UnaryOp};
 pub use refusal::Refusal;

@@ -1,12 +1,13 @@
 //! The reader of list literals.
 
-ghost use Rattle.std.specs.Prelude.{◌≡◌, ◌≤◌, ◌+◌, ◌-◌, ◌∷◌, ◌++◌, [], length, IfOk, Some};
+ghost use Rattle.std.specs.Prelude.{◌≡◌, ◌+◌, ◌∷◌, ◌++◌, [], length, IfOk, Some, unwrap_or};
+ghost use Rattle.pdl_shape.specs.Shape.{IsDims};
 ghost use Rattle.pdl_lexemes.specs.Lists.{shared, with_length};
 ghost use Rattle.pdl_lexemes.specs.Answers.{Gives};
 ghost use Rattle.pdl_lexemes.specs.ListReading.{list_reader, list_read, inside_at, filled_at, items_at, item_at, part, counted};
 
 use crate::sizes::Sizes;
-use crate::{Lexeme, Refusal, peek, sizes};
+use crate::{Lexemes, Refusal, peek, sizes};
 use std::alloc::{AllocError, Global};
 
 /// A list's dimensions, which are none where it is ragged, and all numbers up to its end.
@@ -16,47 +17,41 @@ pub struct Row {
     pub elems: Vec<i64>,
 }
 
-/// The list literal at the front, and what follows it.
-pub fn read(alloc: Global, tokens: &[Lexeme]) -> Result<(Row, &[Lexeme]), Refusal>
-    requires small { length tokens.now ≤ 65536 }
-    ensures read { Gives (λ x. part x.0.shape x.0.elems.items x.1.now) result (list_read tokens.now) }
-    ensures shorter { IfOk result (λ x. length x.1.now ≤ length tokens.now) }
+/// The list literal at the front, and what follows it. Its dimensions, or its numbers as one dimension
+/// where it is ragged, are within the limits of an array.
+pub fn read<'a>(alloc: Global, tokens: &Lexemes<'a>) -> Result<(Row, Lexemes<'a>), Refusal>
+    ensures dims { IfOk result (λ x. IsDims (unwrap_or x.0.shape (length x.0.elems.items ∷ []))) }
+    ensures read { Gives (λ x. part x.0.shape x.0.elems.items x.1) result (list_read tokens.now) }
 {
     list(alloc, tokens.len() + 1, Vec::new(alloc), tokens)
 }
 
 #[cycle(lists)]
 #[tactic(auto, unfolding(crate::specs::ListReading::list_reader))]
-fn list(
+fn list<'a>(
     alloc: Global,
     fuel: usize,
     front: Vec<i64>,
-    tokens: &[Lexeme],
-) -> Result<(Row, &[Lexeme]), Refusal>
-    requires small { length tokens.now ≤ 65536 }
-    ensures read { Gives (λ x. part x.0.shape x.0.elems.items x.1.now) result (list_reader fuel front.items tokens.now) }
-    ensures shorter { IfOk result (λ x. length x.1.now ≤ length tokens.now) }
+    tokens: &Lexemes<'a>,
+) -> Result<(Row, Lexemes<'a>), Refusal>
+    ensures read { Gives (λ x. part x.0.shape x.0.elems.items x.1) result (list_reader fuel front.items tokens.now) }
 {
     if fuel == 0 {
         return Err(Refusal::Refused);
     }
-    match peek::after_open_square(tokens) {
-        None => Err(Refusal::Refused),
-        Some(rest) => inside(alloc, fuel - 1, front, rest),
-    }
+    let rest = peek::after_open_square(tokens).ok_or(Refusal::Refused)?;
+    inside(alloc, fuel - 1, front, &rest)
 }
 
 #[cycle(lists)]
 #[tactic(auto, unfolding(crate::specs::ListReading::inside_at))]
-fn inside(
+fn inside<'a>(
     alloc: Global,
     fuel: usize,
     front: Vec<i64>,
-    tokens: &[Lexeme],
-) -> Result<(Row, &[Lexeme]), Refusal>
-    requires small { length tokens.now ≤ 65536 }
-    ensures read { Gives (λ x. part x.0.shape x.0.elems.items x.1.now) result (inside_at (list_reader fuel) front.items tokens.now) }
-    ensures shorter { IfOk result (λ x. length x.1.now ≤ length tokens.now) }
+    tokens: &Lexemes<'a>,
+) -> Result<(Row, Lexemes<'a>), Refusal>
+    ensures read { Gives (λ x. part x.0.shape x.0.elems.items x.1) result (inside_at (list_reader fuel) front.items tokens.now) }
 {
     match peek::after_close_square(tokens) {
         None => filled(alloc, fuel, front, tokens),
@@ -75,22 +70,18 @@ fn empty(alloc: Global, front: Vec<i64>) -> Result<Row, AllocError>
 }
 
 #[cycle(lists)]
-fn filled(
+fn filled<'a>(
     alloc: Global,
     fuel: usize,
     front: Vec<i64>,
-    tokens: &[Lexeme],
-) -> Result<(Row, &[Lexeme]), Refusal>
-    requires small { length tokens.now ≤ 65536 }
-    ensures read { Gives (λ x. part x.0.shape x.0.elems.items x.1.now) result (filled_at (list_reader fuel) front.items tokens.now) }
-    ensures shorter { IfOk result (λ x. length x.1.now ≤ length tokens.now) }
+    tokens: &Lexemes<'a>,
+) -> Result<(Row, Lexemes<'a>), Refusal>
+    ensures read { Gives (λ x. part x.0.shape x.0.elems.items x.1) result (filled_at (list_reader fuel) front.items tokens.now) }
 {
     let (first, rest) = item(alloc, fuel, front, tokens)?;
-    let (count, row, rest) = items(alloc, fuel, first, rest)?;
-    match peek::after_close_square(rest) {
-        None => Err(Refusal::Refused),
-        Some(rest) => Ok((closed(count, row)?, rest)),
-    }
+    let (count, row, rest) = items(alloc, fuel, first, &rest)?;
+    let rest = peek::after_close_square(&rest).ok_or(Refusal::Refused)?;
+    Ok((closed(count, row)?, rest))
 }
 
 fn closed(count: u32, row: Row) -> Result<Row, AllocError>
@@ -109,21 +100,19 @@ fn items<'a>(
     alloc: Global,
     fuel: usize,
     first: Row,
-    tokens: &'a [Lexeme],
-) -> Result<(u32, Row, &'a [Lexeme]), Refusal>
-    requires small { length tokens.now ≤ 65536 }
-    ensures read { Gives (λ x. counted x.0 (part x.1.shape x.1.elems.items x.2.now)) result (items_at (list_reader fuel) (length tokens.now) 1 (part first.shape first.elems.items tokens.now)) }
-    ensures shorter { IfOk result (λ x. length x.2.now ≤ length tokens.now) }
+    tokens: &Lexemes<'a>,
+) -> Result<(u32, Row, Lexemes<'a>), Refusal>
+    ensures read { Gives (λ x. counted x.0 (part x.1.shape x.1.elems.items x.2)) result (items_at (list_reader fuel) (length tokens.now) 1 (part first.shape first.elems.items tokens.now)) }
 {
     let mut count = 1;
     let mut row = first;
-    let mut rest = tokens;
+    let mut rest = tokens.copy();
     for _ in 0..tokens.len() {
-        match peek::after_comma(rest) {
+        match peek::after_comma(&rest) {
             None => return Ok((count, row, rest)),
             Some(after) => {
                 let Row { shape, elems } = row;
-                let (next, after) = item(alloc, fuel, elems, after)?;
+                let (next, after) = item(alloc, fuel, elems, &after)?;
                 row = joined(shape, next);
                 count += 1;
                 rest = after;
@@ -149,23 +138,19 @@ fn joined(shape: Option<Sizes>, next: Row) -> Row
 
 #[cycle(lists)]
 #[tactic(auto, unfolding(crate::specs::ListReading::item_at))]
-fn item(
+fn item<'a>(
     alloc: Global,
     fuel: usize,
     front: Vec<i64>,
-    tokens: &[Lexeme],
-) -> Result<(Row, &[Lexeme]), Refusal>
-    requires small { length tokens.now ≤ 65536 }
-    ensures read { Gives (λ x. part x.0.shape x.0.elems.items x.1.now) result (item_at (list_reader fuel) front.items tokens.now) }
-    ensures shorter { IfOk result (λ x. length x.1.now ≤ length tokens.now) }
+    tokens: &Lexemes<'a>,
+) -> Result<(Row, Lexemes<'a>), Refusal>
+    ensures read { Gives (λ x. part x.0.shape x.0.elems.items x.1) result (item_at (list_reader fuel) front.items tokens.now) }
 {
     if let Some(_) = peek::after_open_square(tokens) {
         return list(alloc, fuel, front, tokens);
     }
-    match peek::signed_number(tokens) {
-        None => Err(Refusal::Refused),
-        Some((z, rest)) => Ok((number(alloc, front, z)?, rest)),
-    }
+    let (z, rest) = peek::signed_number(tokens).ok_or(Refusal::Refused)?;
+    Ok((number(alloc, front, z)?, rest))
 }
 
 fn number(alloc: Global, mut front: Vec<i64>, z: i64) -> Result<Row, AllocError>

@@ -1,6 +1,6 @@
 //! The dimensions of a list while it is read.
 
-ghost use Rattle.std.specs.Prelude.{◌≡◌, ◌∷◌, ◌++◌, [], ℕ, List, IfOk, Some};
+ghost use Rattle.std.specs.Prelude.{◌≡◌, ◌∷◌, ◌++◌, [], ℕ, List, IfOk};
 ghost use Rattle.pdl_lexemes.specs.Lists.{shared, with_length};
 
 use std::alloc::{AllocError, Global};

@@ -1,9 +1,8 @@
 -- Spelled literals are arrays.
-use Rattle.std.proofs.Common.{◌≡◌, ◌≤◌, ◌+◌, ◌*◌, ℕ, zero, suc, ℤ, pos, negsuc, neg_ℤ, nat_abs, nat_le, nat_lt, List, [], ◌∷◌, ◌++◌, length, length-append, All, Bool, true, false, ◌||◌, if◌then◌else◌, Option, Some, None, unwrap_or, bytes_eq, refl, ap, sym, ◌∙◌, subst, arith, true≢false}
+use Rattle.std.proofs.Common.{◌≡◌, ◌≤◌, ◌+◌, ◌*◌, ℕ, zero, suc, ℤ, pos, negsuc, neg_ℤ, nat_abs, nat_le, nat_lt, List, [], ◌∷◌, ◌++◌, length, length-append, All, Bool, true, false, ◌||◌, if◌then◌else◌, Option, Some, None, unwrap_or, refl, sym, subst, arith, true≢false}
 use Rattle.std.proofs.lemmas.Int.{ints}
 use Rattle.std.specs.List.{list_any}
 use Rattle.std.proofs.lemmas.List.Elements.{All-nil, All-cons, All-push, All-weaker}
-use Rattle.std.proofs.lemmas.Slice.Eq.{bytes_eq-Decides}
 use Rattle.std.proofs.lemmas.Bool.Decides.{nat_tests}
 use Rattle.pdl_elem.specs.declared.Ty.TheVariants.{Long, Longlong}
 use Rattle.pdl_elem.specs.Types.{InRange}
@@ -11,7 +10,8 @@ use Rattle.pdl_shape.specs.Shape.{size_of}
 use Rattle.pdl_lexemes.specs.declared.Lexeme.{Lexeme}
 use Rattle.pdl_lexemes.specs.Lists.{signed, shared, with_length, type_of, ListPart, SpellsList, an_item, some_items, a_list, number, minus, nested, first, more, empty, filled}
 use Rattle.pdl_lexemes.proofs.Options.{none_some, some_inj, map_elim}
-use Rattle.pdl_syntax.specs.Tree.{Tree, value}
+use Rattle.pdl_lexemes.proofs.ListDims.{shared_is}
+use Rattle.pdl_syntax.specs.Tree.{Tree}
 use Rattle.pdl_syntax.specs.Grammar.{Spells, Part, an_expr, a_postfix, a_primary, an_arg, some_args, closed_args, maybe_args, same, joined, once, negated, prefixed, plain, bare, method, a_number, a_name, list, round_list, called, round, a_value, a_text, a_type, one, more as more_args, no_args, all_args, without, within}
 use Rattle.pdl_syntax.specs.StatementTree.{StatementTree, View}
 use Rattle.pdl_syntax.specs.Statements.{SpellsViews, no_views, one_view, SpellsCalled, by_word, by_method, SpellsBinding, binds_value, binds_severed, binds_names, SpellsStatement, binds, my_binds, assigns, shows_text, shows, shows_info, severs, reshapes, undefs, lists_names, defines, watches, unwatches}
@@ -67,15 +67,6 @@ one_more front z h = record {
   counts = λ d e. subst (λ c. length (front ++ z ∷ []) ≡ length front + 1 * size_of c) (some_inj e) (simp length-append (omega arith));
   fits = λ all. All-push Fits63 front z all h;
 }
-
-shared_is : (a b : Option (List ℕ)) (d : List ℕ) → shared a b ≡ Some d → (a ≡ Some d) × (b ≡ Some d)
-shared_is None b d e = absurd (none_some e)
-shared_is (Some a) None d e = absurd (none_some e)
-shared_is (Some a) (Some b) d e = of_test (bytes_eq a b) refl e
-  where
-    of_test : (t : Bool) → bytes_eq a b ≡ t → (if t then Some a else None) ≡ Some d → (Some a ≡ Some d) × (Some b ≡ Some d)
-    of_test true t k = (k, ap Some (sym ((bytes_eq-Decides a b).0 t)) ∙ k)
-    of_test false t k = absurd (none_some k)
 
 and_more : (n : ℕ) (a b : Option (List ℕ)) (front so_far all : List ℤ) → Sized n a front so_far → Sized 1 b so_far all → Sized (suc n) (shared a b) front all
 and_more n a b front so_far all x y = record {

@@ -1,5 +1,5 @@
 -- The answers of the parser, from its steps.
-use Rattle.std.proofs.Common.{◌≡◌, ℕ, suc, ◌+◌, ◌≤◌, List, [], ◌∷◌, length, arith, true, false, Some, None, Result, Ok, Err, refl, ap, sym, ◌∙◌, subst, true≢false, add-one}
+use Rattle.std.proofs.Common.{◌≡◌, ℕ, suc, ◌+◌, ◌≤◌, List, [], ◌∷◌, length, arith, false, Some, None, Result, Ok, Err, refl, ap, sym, ◌∙◌, subst, true≢false, add-one}
 use Rattle.pdl_lex.specs.Tokens.{toks, AreSpans}
 use Rattle.pdl_lex.specs.declared.Token.{Token}
 use Rattle.pdl_lex.proofs.Spans.{toks-spans}

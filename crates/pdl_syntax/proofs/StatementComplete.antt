@@ -4,6 +4,7 @@ use Rattle.pdl_lexemes.specs.declared.AssignOp.{AssignOp}
 use Rattle.pdl_lexemes.specs.declared.Span.{Span}
 use Rattle.pdl_lexemes.specs.declared.WordKind.{WordKind}
 use Rattle.pdl_lexemes.specs.declared.WordKind.TheVariants.{View as IsView, Pars, Code}
+use Rattle.pdl_lexemes.specs.declared.Keyword.{Keyword as AnyKeyword}
 use Rattle.pdl_lexemes.specs.declared.Keyword.TheVariants.{My, Print, Undef, Vars, PpDef, Watch, Unwatch, Info, Sever, Reshape}
 use Rattle.pdl_lexemes.specs.declared.Lexeme.{Lexeme}
 use Rattle.pdl_lexemes.specs.declared.Lexeme.TheVariants.{Name, Keyword, Word, Number, Quoted, Open, Close, Comma, Equals, Arrow, Assign}
@@ -16,10 +17,10 @@ use Rattle.pdl_syntax.specs.Grammar.{Spells, an_expr, a_postfix, same, plain, ca
 use Rattle.pdl_syntax.specs.Reading.{Read, Kind, after_open, quoted_at, maybe_at, closed_at, primary_at, methods_at, reader}
 use Rattle.pdl_syntax.specs.StatementTree.{StatementTree, View, bind, bind_list, assign, show, show_text, sever, reshape, vars, pp_def, watch, unwatch}
 use Rattle.pdl_syntax.specs.Statements.{SpellsBrackets, no_brackets, brackets, SpellsNames, one_name, more_names, SpellsViews, no_views, one_view, SpellsText, plain_text, labelled, SpellsCalled, by_word, by_method, SpellsBinding, binds_value, binds_severed, binds_names, SpellsStatement, binds, my_binds, assigns, shows_text, shows, shows_info, severs, reshapes, undefs, lists_names, defines, watches, unwatches}
-use Rattle.pdl_syntax.specs.StatementReading.{after_equals, after_sever, after_reshape, view_at, slot_at, at_end, is_brackets, begins_word, after_pars, after_code, texts_at, code_at, define_at, undef_at, watch_at, names_at, all_names_at, ended_at, severed_at, info_at, called_step, called_at, bind_at, bind_list_at, views_at, assignment_at, named_at, binding_at, show_at, statement_at, read_statement}
+use Rattle.pdl_syntax.specs.StatementReading.{after_equals, keyword_at, after_keyword, after_reshape, view_at, slot_at, at_end, is_brackets, begins_word, after_pars, after_code, texts_at, code_at, define_at, undef_at, watch_at, names_at, all_names_at, ended_at, before_at, called_step, called_at, bind_at, bind_list_at, views_at, assignment_at, named_at, binding_at, show_at, statement_at, read_statement}
 use Rattle.pdl_syntax.proofs.Turns.{methods_stop, methods_turn}
 use Rattle.pdl_syntax.proofs.Complete.{Ends, ends_nothing, Methods, complete, read_whole, read_postfix, begins, shorter}
-use Rattle.pdl_syntax.proofs.StatementSound.{severed_sound, info_sound, statement_sound}
+use Rattle.pdl_syntax.proofs.StatementSound.{before_sound, statement_sound}
 
 names_stop : (source : List ℕ) (k : ℕ) (names : List (List ℕ)) (ts : List Lexeme) → after_comma ts ≡ None → names_at source k names ts ≡ Some (names, ts)
 unfolding names_at
@@ -86,11 +87,8 @@ unwatch_complete m z e = rw e
 as_expr : {source : List ℕ} {t : Tree} {ts rest : List Lexeme} → Spells source (a_postfix t) ts rest → Spells source (an_expr 7 t) ts rest
 as_expr h = same (same (same (same (same (same (same (plain h)))))))
 
-ends_sever : (l : ℕ) (us : List Lexeme) → Ends l (Arrow ∷ Keyword Sever ∷ us)
-ends_sever l us = record { no_open = refl; no_method = refl; no_operator = λ j le. refl }
-
-ends_info : (l : ℕ) (us : List Lexeme) → Ends l (Arrow ∷ Keyword Info ∷ us)
-ends_info l us = record { no_open = refl; no_method = refl; no_operator = λ j le. refl }
+ends_word : (l : ℕ) (word : AnyKeyword) (us : List Lexeme) → Ends l (Arrow ∷ Keyword word ∷ us)
+ends_word l word us = record { no_open = refl; no_method = refl; no_operator = λ j le. refl }
 
 module _ (source : List ℕ) (n : ℕ) where
   abbrev f : Kind → List Lexeme → Read Tree
@@ -103,39 +101,22 @@ module _ (source : List ℕ) (n : ℕ) where
   not_empty : (a b : Tree) (t : Lexeme) (us : List Lexeme) → ◌≡◌ {A = Read Tree} (Some (a, [])) (Some (b, t ∷ us)) → ⊥
   not_empty a b t us e = let same' : ◌≡◌ {A = List Lexeme} [] (t ∷ us) = ap (λ x. x.1) (some_inj e) in absurd (omega (arith, ap length same'))
 
-  not_severed : (t : Tree) (ts : List Lexeme) → length ts < n → Spells source (an_expr 7 t) ts [] → severed_at source f ts ≡ None
-  not_severed t ts lt h = of_read (severed_at source f ts) refl
+  not_before : (word : AnyKeyword) (t : Tree) (ts : List Lexeme) → length ts < n → Spells source (an_expr 7 t) ts [] → before_at source f word ts ≡ None
+  not_before word t ts lt h = of_read (before_at source f word ts) refl
     where
-      of_read : (o : Option Tree) → severed_at source f ts ≡ o → o ≡ None
+      of_read : (o : Option Tree) → before_at source f word ts ≡ o → o ≡ None
       of_read None e = refl
       of_read (Some u) e =
-          let sev = severed_sound source n ts u e in
-          absurd (not_empty t u Arrow (Keyword Sever ∷ sev.left)
+          let b = before_sound source n word ts u e in
+          absurd (not_empty t u Arrow (Keyword word ∷ b.left)
           (sym (read_whole source n t ts [] (complete source h) lt (ends_nothing 7))
-          ∙ read_whole source n u ts (Arrow ∷ Keyword Sever ∷ sev.left) (complete source (as_expr sev.spelled)) lt (ends_sever 7 sev.left)))
+          ∙ read_whole source n u ts (Arrow ∷ Keyword word ∷ b.left) (complete source (as_expr b.spelled)) lt (ends_word 7 word b.left)))
 
-  not_informed : (t : Tree) (ts : List Lexeme) → length ts < n → Spells source (an_expr 7 t) ts [] → info_at source f ts ≡ None
-  not_informed t ts lt h = of_read (info_at source f ts) refl
-    where
-      of_read : (o : Option Tree) → info_at source f ts ≡ o → o ≡ None
-      of_read None e = refl
-      of_read (Some u) e =
-          let inf = info_sound source n ts u e in
-          absurd (not_empty t u Arrow (Keyword Info ∷ inf.left)
-          (sym (read_whole source n t ts [] (complete source h) lt (ends_nothing 7))
-          ∙ read_whole source n u ts (Arrow ∷ Keyword Info ∷ inf.left) (complete source (as_expr inf.spelled)) lt (ends_info 7 inf.left)))
-
-  severed_complete : (t : Tree) (ts us : List Lexeme) → length ts < n → Spells source (a_postfix t) ts (Arrow ∷ Keyword Sever ∷ us) → SpellsBrackets us →
-      severed_at source f ts ≡ Some t
-  unfolding severed_at
-  severed_complete t ts us lt h b =
-      rw (read_postfix source n t ts (Arrow ∷ Keyword Sever ∷ us) (complete source h n (omega arith) refl) refl) (rw (brackets_read b))
-
-  informed_complete : (t : Tree) (ts us : List Lexeme) → length ts < n → Spells source (a_postfix t) ts (Arrow ∷ Keyword Info ∷ us) → SpellsBrackets us →
-      info_at source f ts ≡ Some t
-  unfolding info_at
-  informed_complete t ts us lt h b =
-      rw (read_postfix source n t ts (Arrow ∷ Keyword Info ∷ us) (complete source h n (omega arith) refl) refl) (rw (brackets_read b))
+  before_complete : (word : AnyKeyword) (t : Tree) (ts us : List Lexeme) → keyword_at word (Keyword word ∷ us) ≡ Some us → length ts < n →
+      Spells source (a_postfix t) ts (Arrow ∷ Keyword word ∷ us) → SpellsBrackets us → before_at source f word ts ≡ Some t
+  unfolding before_at
+  before_complete word t ts us found lt h b =
+      rw (read_postfix source n t ts (Arrow ∷ Keyword word ∷ us) (complete source h n (omega arith) refl) refl) (rw found (rw (brackets_read b)))
 
   word_step : (t : Tree) → called_step source f true (t, []) ≡ Some t
   unfolding methods_at
@@ -173,11 +154,11 @@ module _ (source : List ℕ) (n : ℕ) where
           ∙ (methods_turn source f j t (Arrow ∷ Word kind w ∷ us) us [] w args refl a ∙ methods_stop source f j (call (bytes_at source w) args) [] refl)))
           (omega (arith, m.within_left))
 
-  bind_value_read : (name : List ℕ) (t : Tree) (ts : List Lexeme) → severed_at source f ts ≡ None → ended_at source f ts ≡ Some t →
+  bind_value_read : (name : List ℕ) (t : Tree) (ts : List Lexeme) → before_at source f Sever ts ≡ None → ended_at source f ts ≡ Some t →
       bind_at source f name ts ≡ Some (bind name t false)
   bind_value_read name t ts h k = rw h (rw k)
 
-  bind_severed_read : (name : List ℕ) (t : Tree) (ts : List Lexeme) → severed_at source f ts ≡ Some t → bind_at source f name ts ≡ Some (bind name t true)
+  bind_severed_read : (name : List ℕ) (t : Tree) (ts : List Lexeme) → before_at source f Sever ts ≡ Some t → bind_at source f name ts ≡ Some (bind name t true)
   bind_severed_read name t ts h = rw h
 
   bind_list_read : (names : List (List ℕ)) (t : Tree) (ts us : List Lexeme) → all_names_at source ts ≡ Some (names, Close ∷ Equals ∷ us) →
@@ -205,10 +186,10 @@ module _ (source : List ℕ) (n : ℕ) where
   binding_complete : {s : StatementTree} {ts : List Lexeme} → SpellsBinding source s ts → length ts ≤ n → Bound s ts
   binding_complete (binds_value {w = w} {t = t} {ts = ts} h) le =
       bound_name w ts (bind (bytes_at source w) t false)
-      (bind_value_read (bytes_at source w) t ts (not_severed t ts (omega arith) h) (ended_complete t ts (omega arith) h))
+      (bind_value_read (bytes_at source w) t ts (not_before Sever t ts (omega arith) h) (ended_complete t ts (omega arith) h))
   binding_complete (binds_severed {w = w} {t = t} {ts = ts} {us = us} h b) le =
       bound_name w ts (bind (bytes_at source w) t true)
-      (bind_severed_read (bytes_at source w) t ts (severed_complete t ts us (omega arith) h b))
+      (bind_severed_read (bytes_at source w) t ts (before_complete Sever t ts us refl (omega arith) h b))
   binding_complete (binds_names {names = names} {t = t} {ts = ts} {us = us} h c) le =
       let a = names_shorter h in
       bound_list ts (bind_list names t) (bind_list_read names t ts us (names_read source names ts (Equals ∷ us) h) (called_complete c (omega arith)))
@@ -216,7 +197,7 @@ module _ (source : List ℕ) (n : ℕ) where
   -- what no view begins with
   record Viewing (ts : List Lexeme) : Type 0 where
     equals : after_equals ts ≡ None
-    severs' : after_sever ts ≡ None
+    severs' : after_keyword Sever ts ≡ None
     reshapes' : after_reshape ts ≡ None
 
   views_begin : {front views : List View} {ts rest : List Lexeme} → SpellsViews source front views ts rest → Viewing rest → Viewing ts
@@ -288,12 +269,12 @@ module _ (source : List ℕ) (n : ℕ) where
   unfolding statement_at show_at
   show_text_read w = refl
 
-  show_read : (t : Tree) (ts : List Lexeme) → quoted_at ts ≡ None → info_at source f ts ≡ None → ended_at source f ts ≡ Some t →
+  show_read : (t : Tree) (ts : List Lexeme) → quoted_at ts ≡ None → before_at source f Info ts ≡ None → ended_at source f ts ≡ Some t →
       statement_at source f (Keyword Print ∷ ts) ≡ Some (show t false)
   unfolding statement_at show_at
   show_read t ts q i e = rw q (rw i (rw e))
 
-  show_info_read : (t : Tree) (ts : List Lexeme) → quoted_at ts ≡ None → info_at source f ts ≡ Some t → statement_at source f (Keyword Print ∷ ts) ≡ Some (show t true)
+  show_info_read : (t : Tree) (ts : List Lexeme) → quoted_at ts ≡ None → before_at source f Info ts ≡ Some t → statement_at source f (Keyword Print ∷ ts) ≡ Some (show t true)
   unfolding statement_at show_at
   show_info_read t ts q i = rw q (rw i)
 
@@ -316,9 +297,9 @@ module _ (source : List ℕ) (n : ℕ) where
       (assignment_read (bytes_at source w) views op t ts us (c.same ∙ views_stop c.turns views (Assign op ∷ us) refl) (ended_complete t us (omega arith) h))
   statement_complete (shows_text {w = w}) le = show_text_read w
   statement_complete (shows {t = t} {ts = ts} h) le =
-      show_read t ts (begins h).quoted (not_informed t ts (omega arith) h) (ended_complete t ts (omega arith) h)
+      show_read t ts (begins h).quoted (not_before Info t ts (omega arith) h) (ended_complete t ts (omega arith) h)
   statement_complete (shows_info {t = t} {ts = ts} {us = us} h b) le =
-      show_info_read t ts (begins h).opening.quoted (informed_complete t ts us (omega arith) h b)
+      show_info_read t ts (begins h).opening.quoted (before_complete Info t ts us refl (omega arith) h b)
   statement_complete (severs {w = w} {us = us} b) le = named_sever w us (brackets_read b)
   statement_complete (reshapes {w = w} {args = args} {ts = ts} h) le = named_reshape w args ts (complete source h n (omega arith))
   statement_complete (undefs {w = w}) le = (keyword_reads (Name w ∷ [])).0

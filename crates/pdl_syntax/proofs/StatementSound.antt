@@ -3,6 +3,7 @@ use Rattle.std.proofs.Common.{◌≡◌, ℕ, ℤ, zero, suc, ◌<◌, ◌≤◌
 use Rattle.pdl_lexemes.specs.declared.AssignOp.{AssignOp}
 use Rattle.pdl_lexemes.specs.declared.Span.{Span}
 use Rattle.pdl_lexemes.specs.declared.WordKind.TheVariants.{View as IsView, Pars, Code}
+use Rattle.pdl_lexemes.specs.declared.Keyword.{Keyword as AnyKeyword}
 use Rattle.pdl_lexemes.specs.declared.Keyword.TheVariants.{My, Print, Undef, Vars, PpDef, Watch, Unwatch, Info, Sever, Reshape}
 use Rattle.pdl_lexemes.specs.declared.Lexeme.{Lexeme}
 use Rattle.pdl_lexemes.specs.declared.Lexeme.TheVariants.{Name, Keyword, Word, Number, Quoted, Open, Close, Comma, Equals, Arrow, FatArrow, Assign}
@@ -16,7 +17,7 @@ use Rattle.pdl_syntax.specs.Grammar.{Spells, an_expr, a_postfix, a_primary, clos
 use Rattle.pdl_syntax.specs.Reading.{Read, Kind, whole, after_open, after_close, after_arrow, quoted_at, maybe_at, closed_at, primary_at, methods_at, postfix_at, reader}
 use Rattle.pdl_syntax.specs.StatementTree.{StatementTree, View, bind, bind_list, assign, show, show_text, sever, reshape, undef, vars, watch, unwatch}
 use Rattle.pdl_syntax.specs.Statements.{SpellsBrackets, no_brackets, brackets, SpellsNames, one_name, more_names, SpellsViews, no_views, one_view, SpellsText, plain_text, labelled, SpellsCalled, by_word, by_method, SpellsBinding, binds_value, binds_severed, binds_names, SpellsStatement, binds, my_binds, assigns, shows_text, shows, shows_info, severs, reshapes, undefs, lists_names, defines, watches, unwatches}
-use Rattle.pdl_syntax.specs.StatementReading.{after_equals, word_sever, after_sever, word_info, after_info, word_reshape, after_reshape, name_at, view_word, view_at, assign_at, slot_at, at_end, is_brackets, begins_word, after_pars, after_code, texts_at, code_at, signature_at, define_at, undef_at, watch_at, names_at, all_names_at, ended_at, severed_at, info_at, called_step, called_at, bind_at, bind_names, bind_list_at, views_at, assign_value, assignment_at, reshape_at, sever_at, named_at, bind_name, binding_at, value_at, show_at, statement_at}
+use Rattle.pdl_syntax.specs.StatementReading.{after_equals, keyword_at, after_keyword, after_reshape, name_at, view_word, view_at, assign_at, slot_at, at_end, is_brackets, begins_word, after_pars, after_code, texts_at, code_at, signature_at, define_at, undef_at, watch_at, names_at, all_names_at, ended_at, before_at, called_step, called_at, bind_at, bind_names, bind_list_at, views_at, assign_value, assignment_at, reshape_at, sever_at, named_at, bind_name, binding_at, value_at, show_at, statement_at}
 use Rattle.pdl_syntax.proofs.Peeks.{open_is, close_is, arrow_is, quoted_is}
 use Rattle.pdl_syntax.proofs.Sound.{closed_sound, maybe_sound, primary_sound, methods_sound, postfix_sound, reader_sound_expr}
 use Rattle.pdl_syntax.proofs.Complete.{complete}
@@ -26,39 +27,30 @@ equals_is [] e = absurd (none_some e)
 equals_is (Equals ∷ ts) e = ap (λ x. Equals ∷ x) (some_inj e)
 equals_is (_ ∷ ts) e = absurd (none_some e)
 
-word_sever_is : (ts : List Lexeme) {us : List Lexeme} → word_sever ts ≡ Some us → ts ≡ Keyword Sever ∷ us
-word_sever_is [] e = absurd (none_some e)
-word_sever_is (Keyword Sever ∷ ts) e = ap (λ x. Keyword Sever ∷ x) (some_inj e)
-word_sever_is (Keyword _ ∷ ts) e = absurd (none_some e)
-word_sever_is (_ ∷ ts) e = absurd (none_some e)
+keyword_is : (word : AnyKeyword) (ts : List Lexeme) {us : List Lexeme} → keyword_at word ts ≡ Some us → ts ≡ Keyword word ∷ us
+keyword_is Sever [] e = absurd (none_some e)
+keyword_is Sever (Keyword Sever ∷ ts) e = ap (λ x. Keyword Sever ∷ x) (some_inj e)
+keyword_is Sever (Keyword _ ∷ ts) e = absurd (none_some e)
+keyword_is Sever (_ ∷ ts) e = absurd (none_some e)
+keyword_is Info [] e = absurd (none_some e)
+keyword_is Info (Keyword Info ∷ ts) e = ap (λ x. Keyword Info ∷ x) (some_inj e)
+keyword_is Info (Keyword _ ∷ ts) e = absurd (none_some e)
+keyword_is Info (_ ∷ ts) e = absurd (none_some e)
+keyword_is Reshape [] e = absurd (none_some e)
+keyword_is Reshape (Keyword Reshape ∷ ts) e = ap (λ x. Keyword Reshape ∷ x) (some_inj e)
+keyword_is Reshape (Keyword _ ∷ ts) e = absurd (none_some e)
+keyword_is Reshape (_ ∷ ts) e = absurd (none_some e)
+keyword_is _ ts e = absurd (none_some e)
 
-word_info_is : (ts : List Lexeme) {us : List Lexeme} → word_info ts ≡ Some us → ts ≡ Keyword Info ∷ us
-word_info_is [] e = absurd (none_some e)
-word_info_is (Keyword Info ∷ ts) e = ap (λ x. Keyword Info ∷ x) (some_inj e)
-word_info_is (Keyword _ ∷ ts) e = absurd (none_some e)
-word_info_is (_ ∷ ts) e = absurd (none_some e)
-
-word_reshape_is : (ts : List Lexeme) {us : List Lexeme} → word_reshape ts ≡ Some us → ts ≡ Keyword Reshape ∷ us
-word_reshape_is [] e = absurd (none_some e)
-word_reshape_is (Keyword Reshape ∷ ts) e = ap (λ x. Keyword Reshape ∷ x) (some_inj e)
-word_reshape_is (Keyword _ ∷ ts) e = absurd (none_some e)
-word_reshape_is (_ ∷ ts) e = absurd (none_some e)
-
-sever_is : (ts : List Lexeme) {us : List Lexeme} → after_sever ts ≡ Some us → ts ≡ Arrow ∷ Keyword Sever ∷ us
-sever_is ts {us = us} e =
-    then_elim (ts ≡ Arrow ∷ Keyword Sever ∷ us) word_sever (after_arrow ts) e
-    (λ vs h k. arrow_is ts h ∙ ap (λ x. Arrow ∷ x) (word_sever_is vs k))
-
-info_is : (ts : List Lexeme) {us : List Lexeme} → after_info ts ≡ Some us → ts ≡ Arrow ∷ Keyword Info ∷ us
-info_is ts {us = us} e =
-    then_elim (ts ≡ Arrow ∷ Keyword Info ∷ us) word_info (after_arrow ts) e
-    (λ vs h k. arrow_is ts h ∙ ap (λ x. Arrow ∷ x) (word_info_is vs k))
+after_keyword_is : (word : AnyKeyword) (ts : List Lexeme) {us : List Lexeme} → after_keyword word ts ≡ Some us → ts ≡ Arrow ∷ Keyword word ∷ us
+after_keyword_is word ts {us = us} e =
+    then_elim (ts ≡ Arrow ∷ Keyword word ∷ us) (keyword_at word) (after_arrow ts) e
+    (λ vs h k. arrow_is ts h ∙ ap (λ x. Arrow ∷ x) (keyword_is word vs k))
 
 reshape_is : (ts : List Lexeme) {us : List Lexeme} → after_reshape ts ≡ Some us → ts ≡ Arrow ∷ Keyword Reshape ∷ Open ∷ us
 reshape_is ts {us = us} e =
-    then_elim (ts ≡ Arrow ∷ Keyword Reshape ∷ Open ∷ us) after_open (option_and_then word_reshape (after_arrow ts)) e
-    (λ ws g k. then_elim (ts ≡ Arrow ∷ Keyword Reshape ∷ Open ∷ us) word_reshape (after_arrow ts) g
-    (λ vs h l. arrow_is ts h ∙ ap (λ x. Arrow ∷ x) (word_reshape_is vs l ∙ ap (λ x. Keyword Reshape ∷ x) (open_is ws k))))
+    then_elim (ts ≡ Arrow ∷ Keyword Reshape ∷ Open ∷ us) after_open (after_keyword Reshape ts) e
+    (λ ws g k. after_keyword_is Reshape ts g ∙ ap (λ x. Arrow ∷ Keyword Reshape ∷ x) (open_is ws k))
 
 name_is : (ts : List Lexeme) (x : Span × List Lexeme) → name_at ts ≡ Some x → ts ≡ Name x.0 ∷ x.1
 name_is [] x e = absurd (none_some e)
@@ -219,37 +211,21 @@ module _ (source : List ℕ) (n : ℕ) where
       (λ x h k. let end = end_is x.0 x.1 k in
       subst (λ u. Spells source (an_expr 7 u) ts []) end.same (subst (Spells source (an_expr 7 x.0) ts) end.empty (reader_sound_expr source n whole ts x h)))
 
-  pub record Severed (ts : List Lexeme) (t : Tree) : Type 0 where
+  -- a postfix form stands before an arrow, this word and the end
+  pub record Before (word : AnyKeyword) (ts : List Lexeme) (t : Tree) : Type 0 where
     pub left : List Lexeme
-    pub spelled : Spells source (a_postfix t) ts (Arrow ∷ Keyword Sever ∷ left)
+    pub spelled : Spells source (a_postfix t) ts (Arrow ∷ Keyword word ∷ left)
     pub brackets_left : SpellsBrackets left
 
-  pub severed_sound : (ts : List Lexeme) (t : Tree) → severed_at source f ts ≡ Some t → Severed ts t
-  unfolding severed_at
-  severed_sound ts t e =
-      then_elim (Severed ts t) (λ x. option_and_then (λ us. if is_brackets us then Some x.0 else None) (after_sever x.1)) (postfix_at source f ts) e
-      (λ x h k. then_elim (Severed ts t) (λ us. if is_brackets us then Some x.0 else None) (after_sever x.1) k
-      (λ us l m. test_elim (Severed ts t) (is_brackets us) (Some x.0) m
-      (λ yes' same. subst (Severed ts) (some_inj same) (record {
+  pub before_sound : (word : AnyKeyword) (ts : List Lexeme) (t : Tree) → before_at source f word ts ≡ Some t → Before word ts t
+  unfolding before_at
+  before_sound word ts t e =
+      then_elim (Before word ts t) (λ x. option_and_then (λ us. if is_brackets us then Some x.0 else None) (after_keyword word x.1)) (postfix_at source f ts) e
+      (λ x h k. then_elim (Before word ts t) (λ us. if is_brackets us then Some x.0 else None) (after_keyword word x.1) k
+      (λ us l m. test_elim (Before word ts t) (is_brackets us) (Some x.0) m
+      (λ yes' same. subst (Before word ts) (some_inj same) (record {
         left = us;
-        spelled = subst (Spells source (a_postfix x.0) ts) (sever_is x.1 l) (postfix_sound source f (reader_sound_expr source n) ts x h);
-        brackets_left = brackets_are us yes';
-      }))))
-
-  pub record Informed (ts : List Lexeme) (t : Tree) : Type 0 where
-    pub left : List Lexeme
-    pub spelled : Spells source (a_postfix t) ts (Arrow ∷ Keyword Info ∷ left)
-    pub brackets_left : SpellsBrackets left
-
-  pub info_sound : (ts : List Lexeme) (t : Tree) → info_at source f ts ≡ Some t → Informed ts t
-  unfolding info_at
-  info_sound ts t e =
-      then_elim (Informed ts t) (λ x. option_and_then (λ us. if is_brackets us then Some x.0 else None) (after_info x.1)) (postfix_at source f ts) e
-      (λ x h k. then_elim (Informed ts t) (λ us. if is_brackets us then Some x.0 else None) (after_info x.1) k
-      (λ us l m. test_elim (Informed ts t) (is_brackets us) (Some x.0) m
-      (λ yes' same. subst (Informed ts) (some_inj same) (record {
-        left = us;
-        spelled = subst (Spells source (a_postfix x.0) ts) (info_is x.1 l) (postfix_sound source f (reader_sound_expr source n) ts x h);
+        spelled = subst (Spells source (a_postfix x.0) ts) (after_keyword_is word x.1 l) (postfix_sound source f (reader_sound_expr source n) ts x h);
         brackets_left = brackets_are us yes';
       }))))
 
@@ -295,10 +271,10 @@ module _ (source : List ℕ) (n : ℕ) where
   bind_sound : (w : Span) (ts : List Lexeme) (s : StatementTree) → bind_at source f (bytes_at source w) ts ≡ Some s → SpellsBinding source s (Name w ∷ Equals ∷ ts)
   bind_sound w ts s e =
       choose_elim (SpellsBinding source s (Name w ∷ Equals ∷ ts)) (option_map (λ t. bind (bytes_at source w) t false) (ended_at source f ts))
-      (λ t. Some (bind (bytes_at source w) t true)) (severed_at source f ts) e
+      (λ t. Some (bind (bytes_at source w) t true)) (before_at source f Sever ts) e
       (λ h k. map_elim (SpellsBinding source s (Name w ∷ Equals ∷ ts)) (λ t. bind (bytes_at source w) t false) (ended_at source f ts) k
       (λ t l same. subst (λ u. SpellsBinding source u (Name w ∷ Equals ∷ ts)) same (binds_value (ended_sound ts t l))))
-      (λ t h k. let sev = severed_sound ts t h in
+      (λ t h k. let sev = before_sound Sever ts t h in
       subst (λ u. SpellsBinding source u (Name w ∷ Equals ∷ ts)) (some_inj k) (binds_severed sev.spelled sev.brackets_left))
 
   bind_list_sound : (ts : List Lexeme) (s : StatementTree) → length ts ≤ n → bind_list_at source f ts ≡ Some s → SpellsBinding source s (Open ∷ ts)
@@ -354,14 +330,14 @@ module _ (source : List ℕ) (n : ℕ) where
   named_sound w ts s e =
       let name = bytes_at source w in
       choose_elim (Stated source (Name w ∷ ts) s)
-      (choose (choose (assignment_at source f name ts) (reshape_at source f name) (after_reshape ts)) (sever_at name) (after_sever ts))
+      (choose (choose (assignment_at source f name ts) (reshape_at source f name) (after_reshape ts)) (sever_at name) (after_keyword Sever ts))
       (bind_at source f name) (after_equals ts) e
-      (λ no' h. choose_elim (Stated source (Name w ∷ ts) s) (choose (assignment_at source f name ts) (reshape_at source f name) (after_reshape ts)) (sever_at name) (after_sever ts) h
+      (λ no' h. choose_elim (Stated source (Name w ∷ ts) s) (choose (assignment_at source f name ts) (reshape_at source f name) (after_reshape ts)) (sever_at name) (after_keyword Sever ts) h
       (λ no'' k. choose_elim (Stated source (Name w ∷ ts) s) (assignment_at source f name ts) (reshape_at source f name) (after_reshape ts) k
       (λ no''' l. assignment_sound w ts s l)
       (λ us l m. subst (λ vs. Stated source (Name w ∷ vs) s) (sym (reshape_is ts l)) (reshape_sound w us s m)))
       (λ us k l. test_elim (Stated source (Name w ∷ ts) s) (is_brackets us) (Some (sever name)) l
-      (λ test same. subst (λ vs. Stated source (Name w ∷ vs) s) (sym (sever_is ts k))
+      (λ test same. subst (λ vs. Stated source (Name w ∷ vs) s) (sym (after_keyword_is Sever ts k))
       (subst (Stated source (Name w ∷ Arrow ∷ Keyword Sever ∷ us)) (some_inj same) (severs (brackets_are us test))))))
       (λ us h k. subst (λ vs. Stated source (Name w ∷ vs) s) (sym (equals_is ts h)) (binds (bind_sound w us s k)))
 
@@ -376,10 +352,10 @@ module _ (source : List ℕ) (n : ℕ) where
 
   value_sound : (ts : List Lexeme) (s : StatementTree) → value_at source f ts ≡ Some s → Stated source (Keyword Print ∷ ts) s
   value_sound ts s e =
-      choose_elim (Stated source (Keyword Print ∷ ts) s) (option_map (λ t. show t false) (ended_at source f ts)) (λ t. Some (show t true)) (info_at source f ts) e
+      choose_elim (Stated source (Keyword Print ∷ ts) s) (option_map (λ t. show t false) (ended_at source f ts)) (λ t. Some (show t true)) (before_at source f Info ts) e
       (λ no' h. map_elim (Stated source (Keyword Print ∷ ts) s) (λ t. show t false) (ended_at source f ts) h
       (λ t k same. subst (Stated source (Keyword Print ∷ ts)) same (shows (ended_sound ts t k))))
-      (λ t h k. let inf = info_sound ts t h in subst (Stated source (Keyword Print ∷ ts)) (some_inj k) (shows_info inf.spelled inf.brackets_left))
+      (λ t h k. let inf = before_sound Info ts t h in subst (Stated source (Keyword Print ∷ ts)) (some_inj k) (shows_info inf.spelled inf.brackets_left))
 
   show_sound : (ts : List Lexeme) (s : StatementTree) → show_at source f ts ≡ Some s → Stated source (Keyword Print ∷ ts) s
   unfolding show_at

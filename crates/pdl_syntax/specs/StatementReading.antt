@@ -3,6 +3,7 @@ use Rattle.std.specs.Prelude.{ℕ, zero, suc, nat_lt, List, [], ◌∷◌, ◌++
 use Rattle.pdl_lexemes.specs.declared.AssignOp.{AssignOp}
 use Rattle.pdl_lexemes.specs.declared.Span.{Span}
 use Rattle.pdl_lexemes.specs.declared.WordKind.TheVariants.{View as IsView, Pars, Code}
+use Rattle.pdl_lexemes.specs.declared.Keyword.{Keyword as AnyKeyword}
 use Rattle.pdl_lexemes.specs.declared.Keyword.TheVariants.{My, Print, Undef, Vars, PpDef, Watch, Unwatch, Info, Sever, Reshape}
 use Rattle.pdl_lexemes.specs.declared.Lexeme.{Lexeme}
 use Rattle.pdl_lexemes.specs.declared.Lexeme.TheVariants.{Name, Keyword, Word, Number, Open, Close, Equals, FatArrow, Assign}
@@ -18,26 +19,18 @@ abbrev pub after_equals : List Lexeme → Option (List Lexeme)
 after_equals (Equals ∷ ts) = Some ts
 after_equals _ = None
 
-abbrev pub word_sever : List Lexeme → Option (List Lexeme)
-word_sever (Keyword Sever ∷ ts) = Some ts
-word_sever _ = None
+-- what follows an arrow and a word that no call has
+abbrev pub keyword_at : AnyKeyword → List Lexeme → Option (List Lexeme)
+keyword_at Sever (Keyword Sever ∷ ts) = Some ts
+keyword_at Info (Keyword Info ∷ ts) = Some ts
+keyword_at Reshape (Keyword Reshape ∷ ts) = Some ts
+keyword_at _ _ = None
 
-abbrev pub after_sever : List Lexeme → Option (List Lexeme)
-after_sever ts = option_and_then word_sever (after_arrow ts)
-
-abbrev pub word_info : List Lexeme → Option (List Lexeme)
-word_info (Keyword Info ∷ ts) = Some ts
-word_info _ = None
-
-abbrev pub after_info : List Lexeme → Option (List Lexeme)
-after_info ts = option_and_then word_info (after_arrow ts)
-
-abbrev pub word_reshape : List Lexeme → Option (List Lexeme)
-word_reshape (Keyword Reshape ∷ ts) = Some ts
-word_reshape _ = None
+abbrev pub after_keyword : AnyKeyword → List Lexeme → Option (List Lexeme)
+after_keyword word ts = option_and_then (keyword_at word) (after_arrow ts)
 
 abbrev pub after_reshape : List Lexeme → Option (List Lexeme)
-after_reshape ts = option_and_then after_open (option_and_then word_reshape (after_arrow ts))
+after_reshape ts = option_and_then after_open (after_keyword Reshape ts)
 
 abbrev pub name_at : List Lexeme → Read Span
 name_at (Name w ∷ ts) = Some (w, ts)
@@ -128,14 +121,10 @@ module _ (source : List ℕ) (f : Kind → List Lexeme → Read Tree) where
   unfoldable pub ended_at : List Lexeme → Option Tree
   ended_at ts = option_and_then (λ x. at_end x.0 x.1) (f whole ts)
 
-  -- a postfix form before `-> sever` or `-> info` and the end
-  unfoldable pub severed_at : List Lexeme → Option Tree
-  severed_at ts =
-      option_and_then (λ x. option_and_then (λ us. if is_brackets us then Some x.0 else None) (after_sever x.1)) (postfix_at source f ts)
-
-  unfoldable pub info_at : List Lexeme → Option Tree
-  info_at ts =
-      option_and_then (λ x. option_and_then (λ us. if is_brackets us then Some x.0 else None) (after_info x.1)) (postfix_at source f ts)
+  -- a postfix form before an arrow, this word and the end
+  unfoldable pub before_at : AnyKeyword → List Lexeme → Option Tree
+  before_at word ts =
+      option_and_then (λ x. option_and_then (λ us. if is_brackets us then Some x.0 else None) (after_keyword word x.1)) (postfix_at source f ts)
 
   -- a call up to the end, by a word or by a method
   abbrev pub called_step : Bool → Tree × List Lexeme → Option Tree
@@ -148,7 +137,7 @@ module _ (source : List ℕ) (f : Kind → List Lexeme → Read Tree) where
 
   abbrev pub bind_at : List ℕ → List Lexeme → Option StatementTree
   bind_at name ts =
-      choose (option_map (λ t. bind name t false) (ended_at ts)) (λ t. Some (bind name t true)) (severed_at ts)
+      choose (option_map (λ t. bind name t false) (ended_at ts)) (λ t. Some (bind name t true)) (before_at Sever ts)
 
   abbrev pub bind_names : List (List ℕ) × List Lexeme → Option StatementTree
   bind_names x =
@@ -182,7 +171,7 @@ module _ (source : List ℕ) (f : Kind → List Lexeme → Read Tree) where
       (choose
       (choose (assignment_at name ts) (reshape_at name) (after_reshape ts))
       (sever_at name)
-      (after_sever ts))
+      (after_keyword Sever ts))
       (bind_at name)
       (after_equals ts)
 
@@ -195,7 +184,7 @@ module _ (source : List ℕ) (f : Kind → List Lexeme → Read Tree) where
 
   -- what `p` shows
   abbrev pub value_at : List Lexeme → Option StatementTree
-  value_at ts = choose (option_map (λ t. show t false) (ended_at ts)) (λ t. Some (show t true)) (info_at ts)
+  value_at ts = choose (option_map (λ t. show t false) (ended_at ts)) (λ t. Some (show t true)) (before_at Info ts)
 
   unfoldable pub show_at : List Lexeme → Option StatementTree
   show_at ts =

@@ -1,7 +1,7 @@
 //! The reader of expressions: a recursive descent over the lexemes.
 
-ghost use Rattle.std.specs.Prelude.{◌≡◌, ◌≤◌, ◌<◌, ◌-◌, suc, length, IfOk, option_map};
-ghost use Rattle.pdl_syntax.specs.Tree.{none, value, number};
+ghost use Rattle.std.specs.Prelude.{◌≡◌, ◌≤◌, ◌<◌, suc, length, option_map};
+ghost use Rattle.pdl_syntax.specs.Tree.{none};
 ghost use Rattle.pdl_syntax.specs.TreeOf.{tree_of, args_of};
 ghost use Rattle.pdl_lexemes.specs.Answers.{Gives};
 ghost use Rattle.pdl_syntax.specs.Reading.{whole, operand, reader, number_before, level_at, chain_at, limit_of, unary_at, postfix_at, methods_at, primary_at, call_at, round_at, arg_at, more_at, closed_at, maybe_at};
@@ -10,19 +10,17 @@ ghost use Rattle.pdl_lexemes.specs.Lists.{signed};
 use crate::tree::{Arg, Expr};
 use crate::{build, literal, peek};
 use pdl_lexemes::peek::after_comma;
-use pdl_lexemes::{Keyword, Lexeme, Refusal, Span};
+use pdl_lexemes::{Keyword, Lexeme, Lexemes, Refusal, Span};
 use std::alloc::Global;
 
 /// What is read, and what follows it.
-type Read<'a, T> = Result<(T, &'a [Lexeme]), Refusal>;
+type Read<'a, T> = Result<(T, Lexemes<'a>), Refusal>;
 
 /// A whole expression in which at most `fuel` parts are open at once.
 #[cycle(parser)]
 #[tactic(auto, unfolding(crate::specs::Reading::reader))]
-pub fn whole<'a>(alloc: Global, source: &[u8], fuel: usize, tokens: &'a [Lexeme]) -> Read<'a, Expr>
-    requires small { length tokens.now ≤ 65536 }
-    ensures read { Gives (λ x. (tree_of x.0, x.1.now)) result (reader source.now fuel whole tokens.now) }
-    ensures shorter { IfOk result (λ x. length x.1.now ≤ length tokens.now) }
+pub fn whole<'a>(alloc: Global, source: &[u8], fuel: usize, tokens: &Lexemes<'a>) -> Read<'a, Expr>
+    ensures read { Gives (λ x. (tree_of x.0, x.1)) result (reader source.now fuel whole tokens.now) }
 {
     if fuel == 0 {
         return Err(Refusal::Refused);
@@ -32,10 +30,8 @@ pub fn whole<'a>(alloc: Global, source: &[u8], fuel: usize, tokens: &'a [Lexeme]
 
 #[cycle(parser)]
 #[tactic(auto, unfolding(crate::specs::Reading::reader))]
-fn operand<'a>(alloc: Global, source: &[u8], fuel: usize, tokens: &'a [Lexeme]) -> Read<'a, Expr>
-    requires small { length tokens.now ≤ 65536 }
-    ensures read { Gives (λ x. (tree_of x.0, x.1.now)) result (reader source.now fuel operand tokens.now) }
-    ensures shorter { IfOk result (λ x. length x.1.now ≤ length tokens.now) }
+fn operand<'a>(alloc: Global, source: &[u8], fuel: usize, tokens: &Lexemes<'a>) -> Read<'a, Expr>
+    ensures read { Gives (λ x. (tree_of x.0, x.1)) result (reader source.now fuel operand tokens.now) }
 {
     if fuel == 0 {
         return Err(Refusal::Refused);
@@ -50,18 +46,16 @@ fn level_expr<'a>(
     source: &[u8],
     fuel: usize,
     level: u8,
-    tokens: &'a [Lexeme],
+    tokens: &Lexemes<'a>,
 ) -> Read<'a, Expr>
-    requires small { length tokens.now ≤ 65536 }
     requires level { level ≤ 7 }
-    ensures read { Gives (λ x. (tree_of x.0, x.1.now)) result (level_at source.now (reader source.now fuel) level tokens.now) }
-    ensures shorter { IfOk result (λ x. length x.1.now ≤ length tokens.now) }
+    ensures read { Gives (λ x. (tree_of x.0, x.1)) result (level_at source.now (reader source.now fuel) level tokens.now) }
 {
     if level == 0 {
         return unary(alloc, source, fuel, tokens);
     }
     let (first, rest) = level_expr(alloc, source, fuel, level - 1, tokens)?;
-    chain(alloc, source, fuel, level - 1, first, rest)
+    chain(alloc, source, fuel, level - 1, first, &rest)
 }
 
 #[cycle(parser)]
@@ -72,20 +66,18 @@ fn chain<'a>(
     fuel: usize,
     below: u8,
     first: Expr,
-    tokens: &'a [Lexeme],
+    tokens: &Lexemes<'a>,
 ) -> Read<'a, Expr>
-    requires small { length tokens.now ≤ 65536 }
     requires level { below < 7 }
-    ensures read { Gives (λ x. (tree_of x.0, x.1.now)) result (chain_at (level_at source.now (reader source.now fuel) below) (suc below) (limit_of (suc below) tokens.now) (tree_of first) tokens.now) }
-    ensures shorter { IfOk result (λ x. length x.1.now ≤ length tokens.now) }
+    ensures read { Gives (λ x. (tree_of x.0, x.1)) result (chain_at (level_at source.now (reader source.now fuel) below) (suc below) (limit_of (suc below) tokens.now) (tree_of first) tokens.now) }
 {
     let mut left = first;
-    let mut rest = tokens;
+    let mut rest = tokens.copy();
     for _ in 0..limit(below + 1, tokens) {
-        match peek::operator(below + 1, rest) {
+        match peek::operator(below + 1, &rest) {
             None => return Ok((left, rest)),
             Some((op, after)) => {
-                let (right, after) = level_expr(alloc, source, fuel, below, after)?;
+                let (right, after) = level_expr(alloc, source, fuel, below, &after)?;
                 left = build::binary_expr(alloc, op, left, right)?;
                 rest = after;
             }
@@ -94,7 +86,7 @@ fn chain<'a>(
     Ok((left, rest))
 }
 
-fn limit(level: u8, tokens: &[Lexeme]) -> usize
+fn limit(level: u8, tokens: &Lexemes<'_>) -> usize
     requires { level < 8 }
     ensures { result ≡ limit_of level tokens.now }
 {
@@ -107,15 +99,13 @@ fn limit(level: u8, tokens: &[Lexeme]) -> usize
 
 #[cycle(parser)]
 #[tactic(auto, unfolding(crate::specs::Reading::unary_at))]
-fn unary<'a>(alloc: Global, source: &[u8], fuel: usize, tokens: &'a [Lexeme]) -> Read<'a, Expr>
-    requires small { length tokens.now ≤ 65536 }
-    ensures read { Gives (λ x. (tree_of x.0, x.1.now)) result (unary_at source.now (reader source.now fuel) tokens.now) }
-    ensures shorter { IfOk result (λ x. length x.1.now ≤ length tokens.now) }
+fn unary<'a>(alloc: Global, source: &[u8], fuel: usize, tokens: &Lexemes<'a>) -> Read<'a, Expr>
+    ensures read { Gives (λ x. (tree_of x.0, x.1)) result (unary_at source.now (reader source.now fuel) tokens.now) }
 {
     match peek::prefix(tokens) {
         None => postfix(alloc, source, fuel, tokens),
         Some((op, rest)) => {
-            let (a, rest) = operand(alloc, source, fuel, rest)?;
+            let (a, rest) = operand(alloc, source, fuel, &rest)?;
             Ok((build::unary_expr(alloc, op, a)?, rest))
         }
     }
@@ -127,14 +117,12 @@ pub fn postfix<'a>(
     alloc: Global,
     source: &[u8],
     fuel: usize,
-    tokens: &'a [Lexeme],
+    tokens: &Lexemes<'a>,
 ) -> Read<'a, Expr>
-    requires small { length tokens.now ≤ 65536 }
-    ensures read { Gives (λ x. (tree_of x.0, x.1.now)) result (postfix_at source.now (reader source.now fuel) tokens.now) }
-    ensures shorter { IfOk result (λ x. length x.1.now ≤ length tokens.now) }
+    ensures read { Gives (λ x. (tree_of x.0, x.1)) result (postfix_at source.now (reader source.now fuel) tokens.now) }
 {
     let (first, rest) = primary(alloc, source, fuel, tokens)?;
-    methods(alloc, source, fuel, first, rest)
+    methods(alloc, source, fuel, first, &rest)
 }
 
 #[cycle(parser)]
@@ -144,20 +132,18 @@ pub fn methods<'a>(
     source: &[u8],
     fuel: usize,
     first: Expr,
-    tokens: &'a [Lexeme],
+    tokens: &Lexemes<'a>,
 ) -> Read<'a, Expr>
-    requires small { length tokens.now ≤ 65536 }
-    ensures read { Gives (λ x. (tree_of x.0, x.1.now)) result (methods_at source.now (reader source.now fuel) (length tokens.now) (tree_of first) tokens.now) }
-    ensures shorter { IfOk result (λ x. length x.1.now ≤ length tokens.now) }
+    ensures read { Gives (λ x. (tree_of x.0, x.1)) result (methods_at source.now (reader source.now fuel) (length tokens.now) (tree_of first) tokens.now) }
 {
     let mut value = first;
-    let mut rest = tokens;
+    let mut rest = tokens.copy();
     for _ in 0..tokens.len() {
-        match peek::method(rest) {
+        match peek::method(&rest) {
             None => return Ok((value, rest)),
             Some((word, after)) => {
                 let front = build::with_value(Vec::new(alloc), value)?;
-                let (args, after) = maybe_args(alloc, source, fuel, front, after)?;
+                let (args, after) = maybe_args(alloc, source, fuel, front, &after)?;
                 value = build::call_expr(alloc, source, word, args)?;
                 rest = after;
             }
@@ -172,25 +158,22 @@ pub fn primary<'a>(
     alloc: Global,
     source: &[u8],
     fuel: usize,
-    tokens: &'a [Lexeme],
+    tokens: &Lexemes<'a>,
 ) -> Read<'a, Expr>
-    requires small { length tokens.now ≤ 65536 }
-    ensures read { Gives (λ x. (tree_of x.0, x.1.now)) result (primary_at source.now (reader source.now fuel) tokens.now) }
-    ensures shorter { IfOk result (λ x. length x.1.now ≤ length tokens.now) }
+    ensures read { Gives (λ x. (tree_of x.0, x.1)) result (primary_at source.now (reader source.now fuel) tokens.now) }
 {
-    match tokens {
-        [Lexeme::Number(n), rest @ ..] => number(*n, rest),
-        [Lexeme::Name(span), rest @ ..] => { Ok((build::named_expr(alloc, source, *span)?, rest)) }
-        [Lexeme::Keyword(Keyword::Pdl), rest @ ..] => literal::literal(alloc, rest),
-        [Lexeme::Word(_, span), rest @ ..] => call(alloc, source, fuel, *span, rest),
-        [Lexeme::Open, rest @ ..] => round(alloc, source, fuel, rest),
+    match tokens.split_first() {
+        Some((Lexeme::Number(n), rest)) => number(n, rest),
+        Some((Lexeme::Name(span), rest)) => Ok((build::named_expr(alloc, source, span)?, rest)),
+        Some((Lexeme::Keyword(Keyword::Pdl), rest)) => literal::literal(alloc, &rest),
+        Some((Lexeme::Word(_, span), rest)) => call(alloc, source, fuel, span, &rest),
+        Some((Lexeme::Open, rest)) => round(alloc, source, fuel, &rest),
         _ => Err(Refusal::Refused),
     }
 }
 
-fn number(n: u64, rest: &[Lexeme]) -> Read<'_, Expr>
-    ensures read { Gives (λ x. (tree_of x.0, x.1.now)) result (option_map (number_before rest.now) (signed n)) }
-    ensures shorter { IfOk result (λ x. length x.1.now ≤ length rest.now) }
+fn number<'a>(n: u64, rest: Lexemes<'a>) -> Read<'a, Expr>
+    ensures read { Gives (λ x. (tree_of x.0, x.1)) result (option_map (number_before rest.entry) (signed n)) }
 {
     match pdl_lexemes::signed(n) {
         Some(z) => Ok((Expr::Number(z), rest)),
@@ -204,32 +187,22 @@ fn call<'a>(
     source: &[u8],
     fuel: usize,
     word: Span,
-    tokens: &'a [Lexeme],
+    tokens: &Lexemes<'a>,
 ) -> Read<'a, Expr>
-    requires small { length tokens.now ≤ 65536 }
-    ensures read { Gives (λ x. (tree_of x.0, x.1.now)) result (call_at source.now (reader source.now fuel) word tokens.now) }
-    ensures shorter { IfOk result (λ x. length x.1.now ≤ length tokens.now) }
+    ensures read { Gives (λ x. (tree_of x.0, x.1)) result (call_at source.now (reader source.now fuel) word tokens.now) }
 {
-    match peek::after_open(tokens) {
-        None => Err(Refusal::Refused),
-        Some(rest) => {
-            let (args, rest) = closed_args(alloc, source, fuel, Vec::new(alloc), rest)?;
-            Ok((build::call_expr(alloc, source, word, args)?, rest))
-        }
-    }
+    let rest = peek::after_open(tokens).ok_or(Refusal::Refused)?;
+    let (args, rest) = closed_args(alloc, source, fuel, Vec::new(alloc), &rest)?;
+    Ok((build::call_expr(alloc, source, word, args)?, rest))
 }
 
 #[cycle(parser)]
-fn round<'a>(alloc: Global, source: &[u8], fuel: usize, tokens: &'a [Lexeme]) -> Read<'a, Expr>
-    requires small { length tokens.now ≤ 65536 }
-    ensures read { Gives (λ x. (tree_of x.0, x.1.now)) result (round_at source.now (reader source.now fuel) tokens.now) }
-    ensures shorter { IfOk result (λ x. length x.1.now ≤ length tokens.now) }
+fn round<'a>(alloc: Global, source: &[u8], fuel: usize, tokens: &Lexemes<'a>) -> Read<'a, Expr>
+    ensures read { Gives (λ x. (tree_of x.0, x.1)) result (round_at source.now (reader source.now fuel) tokens.now) }
 {
     let (inner, rest) = whole(alloc, source, fuel, tokens)?;
-    match peek::after_close(rest) {
-        None => Err(Refusal::Refused),
-        Some(rest) => Ok((inner, rest)),
-    }
+    let rest = peek::after_close(&rest).ok_or(Refusal::Refused)?;
+    Ok((inner, rest))
 }
 
 #[cycle(parser)]
@@ -239,15 +212,13 @@ pub fn maybe_args<'a>(
     source: &[u8],
     fuel: usize,
     front: Vec<Arg>,
-    tokens: &'a [Lexeme],
+    tokens: &Lexemes<'a>,
 ) -> Read<'a, Vec<Arg>>
-    requires small { length tokens.now ≤ 65536 }
-    ensures read { Gives (λ x. (args_of x.0.items none, x.1.now)) result (maybe_at source.now (reader source.now fuel) (args_of front.items none) tokens.now) }
-    ensures shorter { IfOk result (λ x. length x.1.now ≤ length tokens.now) }
+    ensures read { Gives (λ x. (args_of x.0.items none, x.1)) result (maybe_at source.now (reader source.now fuel) (args_of front.items none) tokens.now) }
 {
     match peek::after_open(tokens) {
-        None => Ok((front, tokens)),
-        Some(rest) => closed_args(alloc, source, fuel, front, rest),
+        None => Ok((front, tokens.copy())),
+        Some(rest) => closed_args(alloc, source, fuel, front, &rest),
     }
 }
 
@@ -258,21 +229,17 @@ pub fn closed_args<'a>(
     source: &[u8],
     fuel: usize,
     front: Vec<Arg>,
-    tokens: &'a [Lexeme],
+    tokens: &Lexemes<'a>,
 ) -> Read<'a, Vec<Arg>>
-    requires small { length tokens.now ≤ 65536 }
-    ensures read { Gives (λ x. (args_of x.0.items none, x.1.now)) result (closed_at source.now (reader source.now fuel) (args_of front.items none) tokens.now) }
-    ensures shorter { IfOk result (λ x. length x.1.now ≤ length tokens.now) }
+    ensures read { Gives (λ x. (args_of x.0.items none, x.1)) result (closed_at source.now (reader source.now fuel) (args_of front.items none) tokens.now) }
 {
     if let Some(rest) = peek::after_close(tokens) {
         return Ok((front, rest));
     }
     let (args, rest) = arg(alloc, source, fuel, front, tokens)?;
-    let (args, rest) = more_args(alloc, source, fuel, args, rest)?;
-    match peek::after_close(rest) {
-        None => Err(Refusal::Refused),
-        Some(rest) => Ok((args, rest)),
-    }
+    let (args, rest) = more_args(alloc, source, fuel, args, &rest)?;
+    let rest = peek::after_close(&rest).ok_or(Refusal::Refused)?;
+    Ok((args, rest))
 }
 
 #[cycle(parser)]
@@ -282,19 +249,17 @@ fn more_args<'a>(
     source: &[u8],
     fuel: usize,
     front: Vec<Arg>,
-    tokens: &'a [Lexeme],
+    tokens: &Lexemes<'a>,
 ) -> Read<'a, Vec<Arg>>
-    requires small { length tokens.now ≤ 65536 }
-    ensures read { Gives (λ x. (args_of x.0.items none, x.1.now)) result (more_at source.now (reader source.now fuel) (length tokens.now) (args_of front.items none) tokens.now) }
-    ensures shorter { IfOk result (λ x. length x.1.now ≤ length tokens.now) }
+    ensures read { Gives (λ x. (args_of x.0.items none, x.1)) result (more_at source.now (reader source.now fuel) (length tokens.now) (args_of front.items none) tokens.now) }
 {
     let mut args = front;
-    let mut rest = tokens;
+    let mut rest = tokens.copy();
     for _ in 0..tokens.len() {
-        match after_comma(rest) {
+        match after_comma(&rest) {
             None => return Ok((args, rest)),
             Some(after) => {
-                let (all, after) = arg(alloc, source, fuel, args, after)?;
+                let (all, after) = arg(alloc, source, fuel, args, &after)?;
                 args = all;
                 rest = after;
             }
@@ -310,11 +275,9 @@ fn arg<'a>(
     source: &[u8],
     fuel: usize,
     front: Vec<Arg>,
-    tokens: &'a [Lexeme],
+    tokens: &Lexemes<'a>,
 ) -> Read<'a, Vec<Arg>>
-    requires small { length tokens.now ≤ 65536 }
-    ensures read { Gives (λ x. (args_of x.0.items none, x.1.now)) result (arg_at source.now (reader source.now fuel) (args_of front.items none) tokens.now) }
-    ensures shorter { IfOk result (λ x. length x.1.now ≤ length tokens.now) }
+    ensures read { Gives (λ x. (args_of x.0.items none, x.1)) result (arg_at source.now (reader source.now fuel) (args_of front.items none) tokens.now) }
 {
     if let Some((span, rest)) = peek::quoted(tokens) {
         return Ok((build::with_text(alloc, source, span, front)?, rest));

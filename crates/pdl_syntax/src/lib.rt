@@ -6,7 +6,6 @@ mod build;
 mod expr;
 mod laws;
 mod literal;
-mod make;
 mod parser;
 mod parts;
 mod peek;

@@ -11,7 +11,7 @@ ghost use Rattle.pdl_syntax.specs.WellMade.{IsWellMade};
 use crate::statement;
 use crate::tree::Statement;
 use pdl_lex::Token;
-use pdl_lexemes::{Lexeme, Refusal, has_large, holds_ragged, is_too_deep, lexemes};
+use pdl_lexemes::{Lexeme, Lexemes, Refusal, has_large, holds_ragged, lexemes};
 use std::alloc::{AllocError, Global};
 
 /// Why the tokens of a text are no statement. Where several hold, the first one is answered.
@@ -60,25 +60,30 @@ fn read(alloc: Global, text: &[u8], lexemes: &[Lexeme]) -> Result<Statement, Par
     requires { length lexemes.now ≤ 65536 }
     ensures { Answers text.now lexemes.now result }
 {
-    if is_too_deep(lexemes) {
-        return Err(ParseFault::TooDeep);
-    }
-    if has_large(lexemes) {
-        return Err(ParseFault::NumberTooLarge);
-    }
-    match statement::statement(alloc, text, lexemes.len() + 1, lexemes) {
-        Err(Refusal::NoMemory) => Err(ParseFault::NoMemory),
-        Err(Refusal::Refused) => Err(ParseFault::Syntax),
-        Ok(statement) => checked(alloc, lexemes, statement),
+    match Lexemes::of(lexemes) {
+        None => Err(ParseFault::TooDeep),
+        Some(tokens) => {
+            if has_large(lexemes) {
+                return Err(ParseFault::NumberTooLarge);
+            }
+            match statement::statement(alloc, text, tokens.len() + 1, &tokens) {
+                Err(Refusal::NoMemory) => Err(ParseFault::NoMemory),
+                Err(Refusal::Refused) => Err(ParseFault::Syntax),
+                Ok(statement) => checked(alloc, &tokens, statement),
+            }
+        }
     }
 }
 
 // The statement, unless a list in it is ragged.
-fn checked(alloc: Global, lexemes: &[Lexeme], statement: Statement) -> Result<Statement, ParseFault>
-    requires { length lexemes.now ≤ 65536 }
-    ensures { Checked lexemes.now statement result }
+fn checked(
+    alloc: Global,
+    tokens: &Lexemes<'_>,
+    statement: Statement,
+) -> Result<Statement, ParseFault>
+    ensures { Checked tokens.now statement result }
 {
-    match holds_ragged(alloc, lexemes) {
+    match holds_ragged(alloc, tokens) {
         Err(_) => Err(ParseFault::NoMemory),
         Ok(ragged) => {
             if ragged {

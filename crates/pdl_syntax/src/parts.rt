@@ -1,6 +1,6 @@
 //! The parts of statements that are lists: names, and the views of a target.
 
-ghost use Rattle.std.specs.Prelude.{◌≡◌, ◌≤◌, ◌∷◌, ◌++◌, [], length, IfOk, IfErr, map, option_map, if◌then◌else◌, Some, None};
+ghost use Rattle.std.specs.Prelude.{◌≡◌, ◌∷◌, ◌++◌, [], length, IfOk, IfErr, map, option_map, if◌then◌else◌, Some, None};
 ghost use Rattle.pdl_lexemes.specs.Answers.{Gives};
 ghost use Rattle.pdl_lexemes.specs.Bytes.{bytes_at};
 ghost use Rattle.pdl_syntax.specs.Reading.{reader, maybe_at};
@@ -14,11 +14,11 @@ use crate::tree::{Arg, Expr, ViewCall};
 use crate::{expr, peek};
 use pdl_elem::Name;
 use pdl_lexemes::peek::after_comma;
-use pdl_lexemes::{Lexeme, Refusal, Span};
+use pdl_lexemes::{Lexemes, Refusal, Span};
 use std::alloc::{AllocError, Global};
 
 /// The value, where brackets or nothing are left.
-pub fn before_brackets(value: Expr, rest: &[Lexeme]) -> Option<Expr>
+pub fn before_brackets(value: Expr, rest: &Lexemes<'_>) -> Option<Expr>
     ensures { option_map tree_of result ≡ (if is_brackets rest.now then Some (tree_of value) else None) }
 {
     if peek::is_brackets(rest) {
@@ -46,18 +46,13 @@ fn with_name(
 pub fn names<'a>(
     alloc: Global,
     source: &[u8],
-    tokens: &'a [Lexeme],
-) -> Result<(Vec<Name>, &'a [Lexeme]), Refusal>
-    ensures read { Gives (λ x. (x.0.items, x.1.now)) result (all_names_at source.now tokens.now) }
-    ensures shorter { IfOk result (λ x. length x.1.now ≤ length tokens.now) }
+    tokens: &Lexemes<'a>,
+) -> Result<(Vec<Name>, Lexemes<'a>), Refusal>
+    ensures read { Gives (λ x. (x.0.items, x.1)) result (all_names_at source.now tokens.now) }
 {
-    match peek::name(tokens) {
-        None => Err(Refusal::Refused),
-        Some((first, rest)) => {
-            let names = with_name(alloc, source, Vec::new(alloc), first)?;
-            more_names(alloc, source, names, rest)
-        }
-    }
+    let (first, rest) = peek::name(tokens).ok_or(Refusal::Refused)?;
+    let names = with_name(alloc, source, Vec::new(alloc), first)?;
+    more_names(alloc, source, names, &rest)
 }
 
 #[tactic(auto, unfolding(crate::specs::StatementReading::names_at))]
@@ -65,17 +60,16 @@ fn more_names<'a>(
     alloc: Global,
     source: &[u8],
     first: Vec<Name>,
-    tokens: &'a [Lexeme],
-) -> Result<(Vec<Name>, &'a [Lexeme]), Refusal>
-    ensures read { Gives (λ x. (x.0.items, x.1.now)) result (names_at source.now (length tokens.now) first.items tokens.now) }
-    ensures shorter { IfOk result (λ x. length x.1.now ≤ length tokens.now) }
+    tokens: &Lexemes<'a>,
+) -> Result<(Vec<Name>, Lexemes<'a>), Refusal>
+    ensures read { Gives (λ x. (x.0.items, x.1)) result (names_at source.now (length tokens.now) first.items tokens.now) }
 {
     let mut names = first;
-    let mut rest = tokens;
+    let mut rest = tokens.copy();
     for _ in 0..tokens.len() {
-        match after_comma(rest) {
+        match after_comma(&rest) {
             None => return Ok((names, rest)),
-            Some(after) => match peek::name(after) {
+            Some(after) => match peek::name(&after) {
                 None => return Err(Refusal::Refused),
                 Some((name, after)) => {
                     names = with_name(alloc, source, names, name)?;
@@ -108,11 +102,9 @@ fn view_args<'a>(
     alloc: Global,
     source: &[u8],
     fuel: usize,
-    tokens: &'a [Lexeme],
-) -> Result<(Vec<Arg>, &'a [Lexeme]), Refusal>
-    requires small { length tokens.now ≤ 65536 }
-    ensures read { Gives (λ x. (args_of x.0.items none, x.1.now)) result (maybe_at source.now (reader source.now fuel) none tokens.now) }
-    ensures shorter { IfOk result (λ x. length x.1.now ≤ length tokens.now) }
+    tokens: &Lexemes<'a>,
+) -> Result<(Vec<Arg>, Lexemes<'a>), Refusal>
+    ensures read { Gives (λ x. (args_of x.0.items none, x.1)) result (maybe_at source.now (reader source.now fuel) none tokens.now) }
 {
     expr::maybe_args(alloc, source, fuel, Vec::new(alloc), tokens)
 }
@@ -123,19 +115,17 @@ pub fn views<'a>(
     alloc: Global,
     source: &[u8],
     fuel: usize,
-    tokens: &'a [Lexeme],
-) -> Result<(Vec<ViewCall>, &'a [Lexeme]), Refusal>
-    requires small { length tokens.now ≤ 65536 }
-    ensures read { Gives (λ x. (map view_of x.0.items, x.1.now)) result (views_at source.now (reader source.now fuel) (length tokens.now) [] tokens.now) }
-    ensures shorter { IfOk result (λ x. length x.1.now ≤ length tokens.now) }
+    tokens: &Lexemes<'a>,
+) -> Result<(Vec<ViewCall>, Lexemes<'a>), Refusal>
+    ensures read { Gives (λ x. (map view_of x.0.items, x.1)) result (views_at source.now (reader source.now fuel) (length tokens.now) [] tokens.now) }
 {
     let mut views = Vec::new(alloc);
-    let mut rest = tokens;
+    let mut rest = tokens.copy();
     for _ in 0..tokens.len() {
-        match peek::view(rest) {
+        match peek::view(&rest) {
             None => return Ok((views, rest)),
             Some((method, after)) => {
-                let (args, after) = view_args(alloc, source, fuel, after)?;
+                let (args, after) = view_args(alloc, source, fuel, &after)?;
                 views = with_view(alloc, source, views, method, args)?;
                 rest = after;
             }

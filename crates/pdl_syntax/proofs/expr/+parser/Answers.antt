@@ -1,13 +1,16 @@
-use Rattle.std.proofs.Common.{◌≡◌, ◌∙◌, ◌-◌, ◌+◌, suc, length, sym, ap, arith}
+use Rattle.std.proofs.Common.{◌≡◌, ◌∙◌, ◌-◌, ◌+◌, suc, sym, ap}
 use Rattle.pdl_syntax.specs.Tree.{none, value}
 use Rattle.pdl_syntax.specs.TreeOf.{tree_of, args_of}
 use Rattle.pdl_syntax.specs.Reading.{reader, level_at, chain_at, methods_at, more_at, maybe_at}
 use Rattle.pdl_syntax.proofs.Turns.{one_less, chain_stop, chain_turn, methods_stop, methods_turn, more_turn, level_above}
 use Rattle.pdl_syntax.proofs.expr.+parser.Goals as goal
 
-pub chain-returns-in-None-clause-read : goal.chain-returns-in-None-clause-read
-chain-returns-in-None-clause-read t c =
-    sym c.loop.invariant.same ∙ chain_stop _ c.args.below _ _ _ (sym c.in-None.ensures.read)
+pub chain-returns-in-None : goal.chain-returns-in-None
+chain-returns-in-None t c =
+    record {
+      read =
+          sym c.loop.invariant.same ∙ chain_stop _ c.args.below _ _ _ (sym c.in-None.ensures.read);
+    }
 
 pub chain-loop-preserved : goal.chain-loop-preserved
 chain-loop-preserved t c =
@@ -15,47 +18,50 @@ chain-loop-preserved t c =
     let k = c.limit-end.result - (c.loop.counter + 1) in
     record {
       same =
-          ap (λ x. chain_at inner (suc c.args.below) k x c.in_ok-right-in-Some.after.now) c.in_ok-left-in-Some.ensures.ok
+          ap (λ x. chain_at inner (suc c.args.below) k x c.in_ok-right-in-Some.after) c.in_ok-left-in-Some.ensures.ok
           ∙ (sym (chain_turn inner c.args.below k _ _ _ _ _ _ (sym c.in-Some.ensures.read) c.in_ok-right-in-Some.ensures.read)
-          ∙ (ap (λ n. chain_at inner (suc c.args.below) n (tree_of c.loop.left) c.loop.rest.now)
+          ∙ (ap (λ n. chain_at inner (suc c.args.below) n (tree_of c.loop.left) c.loop.rest)
           (sym (one_less c.limit-end.result c.loop.counter c.loop-test.true)) ∙ c.loop.invariant.same));
-      shorter = omega (arith, c.in_ok-right-in-Some.ensures.shorter, c.in-Some.ensures.shorter, c.loop.invariant.shorter);
     }
 
-pub level_expr-returns-clause-read : goal.level_expr-returns-clause-read
-level_expr-returns-clause-read t c =
+pub level_expr-returns : goal.level_expr-returns
+level_expr-returns t c =
     let f = reader c.args.source.now c.args.fuel in
-    let same = level_above c.args.source.now f c.args.level c.args.tokens.now c.in_ok-first.rest.now (tree_of c.in_ok-first.first) c.if-level-eq0.false c.in_ok-first.ensures.read in
-    rw same c.chain.ensures.read
+    let same = level_above c.args.source.now f c.args.level c.args.tokens.now c.in_ok-first.rest (tree_of c.in_ok-first.first) c.if-level-eq0.false c.in_ok-first.ensures.read in
+    record {
+      read =
+          rw same c.chain.ensures.read;
+    }
 
-pub methods-returns-in-None-clause-read : goal.methods-returns-in-None-clause-read
-methods-returns-in-None-clause-read t c =
-    sym c.loop.invariant.same ∙ methods_stop _ _ _ _ _ (sym c.in-None.ensures.read)
+pub methods-returns-in-None : goal.methods-returns-in-None
+methods-returns-in-None t c =
+    record {
+      read =
+          sym c.loop.invariant.same ∙ methods_stop _ _ _ _ _ (sym c.in-None.ensures.read);
+    }
 
 pub methods-loop-preserved : goal.methods-loop-preserved
 methods-loop-preserved t c =
     let f = reader c.args.source.now c.args.fuel in
     let front : args_of c.in_ok-front-in-Some.front.items none ≡ value none (tree_of c.loop.value) =
     c.in_ok-front-in-Some.ensures.ok ∙ ap (λ xs. value (args_of xs none) (tree_of c.loop.value)) c.new.ensures.items in
-    let k = length c.args.tokens.now - (c.loop.counter + 1) in
+    let k = c.len-end.result - (c.loop.counter + 1) in
     record {
       same =
-          ap (λ x. methods_at c.args.source.now f k x c.in_ok-args-in-Some.after.now) c.in_ok-value-in-Some.ensures.ok
-          ∙ (sym (methods_turn c.args.source.now f k (tree_of c.loop.value) c.loop.rest.now c.in-Some.after.now c.in_ok-args-in-Some.after.now c.in-Some.word (args_of c.in_ok-args-in-Some.args.items none) (sym c.in-Some.ensures.read)
-          (ap (λ a. maybe_at c.args.source.now f a c.in-Some.after.now) (sym front) ∙ c.in_ok-args-in-Some.ensures.read))
-          ∙ (ap (λ n. methods_at c.args.source.now f n (tree_of c.loop.value) c.loop.rest.now)
-          (sym (one_less (length c.args.tokens.now) c.loop.counter c.loop-test.true)) ∙ c.loop.invariant.same));
-      shorter = omega (arith, c.in_ok-args-in-Some.ensures.shorter, c.in-Some.ensures.shorter, c.loop.invariant.shorter);
+          ap (λ x. methods_at c.args.source.now f k x c.in_ok-args-in-Some.after) c.in_ok-value-in-Some.ensures.ok
+          ∙ (sym (methods_turn c.args.source.now f k (tree_of c.loop.value) c.loop.rest c.in-Some.after c.in_ok-args-in-Some.after c.in-Some.word (args_of c.in_ok-args-in-Some.args.items none) (sym c.in-Some.ensures.read)
+          (ap (λ a. maybe_at c.args.source.now f a c.in-Some.after) (sym front) ∙ c.in_ok-args-in-Some.ensures.read))
+          ∙ (ap (λ n. methods_at c.args.source.now f n (tree_of c.loop.value) c.loop.rest)
+          (sym (one_less c.len-end.result c.loop.counter c.loop-test.true)) ∙ c.loop.invariant.same));
     }
 
 pub more_args-loop-preserved : goal.more_args-loop-preserved
 more_args-loop-preserved t c =
     let f = reader c.args.source.now c.args.fuel in
-    let k = length c.args.tokens.now - (c.loop.counter + 1) in
+    let k = c.len-end.result - (c.loop.counter + 1) in
     record {
       same =
           sym (more_turn c.args.source.now f k _ _ _ _ _ (sym c.in-Some.ensures.rest) c.in_ok-all-in-Some.ensures.read)
-          ∙ (ap (λ n. more_at c.args.source.now f n (args_of c.loop.args.items none) c.loop.rest.now)
-          (sym (one_less (length c.args.tokens.now) c.loop.counter c.loop-test.true)) ∙ c.loop.invariant.same);
-      shorter = omega (arith, c.in_ok-all-in-Some.ensures.shorter, c.in-Some.ensures.shorter, c.loop.invariant.shorter);
+          ∙ (ap (λ n. more_at c.args.source.now f n (args_of c.loop.args.items none) c.loop.rest)
+          (sym (one_less c.len-end.result c.loop.counter c.loop-test.true)) ∙ c.loop.invariant.same);
     }

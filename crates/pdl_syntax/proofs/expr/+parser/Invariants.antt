@@ -1,14 +1,13 @@
 -- Each call goes down in the fuel, or with the same fuel in the rank of its part.
-use Rattle.std.proofs.Common.{◌≡◌, ℕ, suc, ◌+◌, ◌-◌, ◌*◌, ◌≤◌, length}
+use Rattle.std.proofs.Common.{◌≡◌, suc, ◌+◌, ◌-◌, ◌*◌, length}
 use Rattle.pdl_syntax.specs.Tree.{Tree, Args, none}
 use Rattle.pdl_syntax.specs.TreeOf.{tree_of, args_of}
 use Rattle.pdl_syntax.specs.Reading.{Read, reader, level_at, chain_at, limit_of, methods_at, more_at}
 use Rattle.pdl_syntax.proofs.expr.+parser.Given as goal
 
 -- what is left to read gives the same as what stood there at the start
-pub record Turns (A : Type 0) (now start : Read A) (left all : ℕ) : Type 0 where
+pub record Turns (A : Type 0) (now start : Read A) : Type 0 where
   pub same : now ≡ start
-  pub shorter : left ≤ all
 
 abbrev pub decreases-whole : goal.decreases-whole
 decreases-whole l = 32 * l.fuel
@@ -57,18 +56,15 @@ invariant-chain-loop l =
     let inner = level_at l.source (reader l.source l.fuel) l.below in
     Turns Tree (chain_at inner (suc l.below) (l.end - l.counter) (tree_of l.left) l.rest)
     (chain_at inner (suc l.below) (limit_of (suc l.below) l.tokens) (tree_of l.fn.first) l.tokens)
-    (length l.rest) (length l.tokens)
 
 abbrev pub invariant-methods-loop : goal.invariant-methods-loop
 invariant-methods-loop l =
     let f = reader l.source l.fuel in
     Turns Tree (methods_at l.source f (l.end - l.counter) (tree_of l.value) l.rest)
     (methods_at l.source f (length l.tokens) (tree_of l.fn.first) l.tokens)
-    (length l.rest) (length l.tokens)
 
 abbrev pub invariant-more_args-loop : goal.invariant-more_args-loop
 invariant-more_args-loop l =
     let f = reader l.source l.fuel in
     Turns Args (more_at l.source f (l.end - l.counter) (args_of l.args.items none) l.rest)
     (more_at l.source f (length l.tokens) (args_of l.fn.front.items none) l.tokens)
-    (length l.rest) (length l.tokens)

@@ -1,15 +1,13 @@
-use Rattle.std.proofs.Common.{◌≡◌, ℕ, ◌-◌, ◌≤◌, List, [], length, map}
+use Rattle.std.proofs.Common.{◌≡◌, ◌-◌, List, [], length, map}
 use Rattle.pdl_syntax.specs.Reading.{Read, reader}
 use Rattle.pdl_syntax.specs.StatementReading.{views_at}
 use Rattle.pdl_syntax.specs.StatementTree.{View, view_of}
 use Rattle.pdl_syntax.proofs.parts.views.Given as goal
 
-pub record Turns (now start : Read (List View)) (left all : ℕ) : Type 0 where
+pub record Turns (now start : Read (List View)) : Type 0 where
   pub same : now ≡ start
-  pub shorter : left ≤ all
 
 abbrev pub invariant-loop : goal.invariant-loop
 invariant-loop l =
     Turns (views_at l.source (reader l.source l.fuel) (l.end - l.counter) (map view_of l.views.items) l.rest)
     (views_at l.source (reader l.source l.fuel) (length l.tokens) [] l.tokens)
-    (length l.rest) (length l.tokens)
