@@ -41,7 +41,15 @@ fn run(rt: &HostRuntime, script: Vec<u8>) -> io::Result<(Vec<u8>, Status)> {
 // Runs the example of this name, says how it went, and answers whether it printed its text.
 fn check(rt: &HostRuntime, name: &str) -> io::Result<bool> {
     let script = fs::read(rt, format!(in rt.alloc(); "{name}.pdl")?.as_str())?;
-    let wanted = fs::read(rt, format!(in rt.alloc(); "{name}.out")?.as_str())?;
+    let wanted = match fs::read(rt, format!(in rt.alloc(); "{name}.out")?.as_str()) {
+        Ok(wanted) => wanted,
+        Err(fault) => {
+            println!(rt;
+                "{name}: NO TEXT to compare with, since {name}.out can't be read: {fault}"
+            )?;
+            return Ok(false);
+        }
+    };
     let (printed, status) = run(rt, script)?;
     let number = status.number();
     let is_same = printed == wanted;
@@ -56,6 +64,9 @@ fn check(rt: &HostRuntime, name: &str) -> io::Result<bool> {
 // Runs all the examples, and answers whether there are any and each printed its text.
 fn check_all(rt: &HostRuntime) -> io::Result<bool> {
     let names = names(rt)?;
+    if names.is_empty() {
+        println!(rt; "NO EXAMPLE in this folder: none of its files is a script NAME.pdl")?;
+    }
     let mut are_same = !names.is_empty();
     for name in &names {
         are_same &= check(rt, name)?;
@@ -66,6 +77,10 @@ fn check_all(rt: &HostRuntime) -> io::Result<bool> {
 fn main(rt: HostRuntime) -> ExitCode {
     match check_all(&rt) {
         Ok(true) => ExitCode::SUCCESS,
-        _ => ExitCode::FAILURE,
+        Ok(false) => ExitCode::FAILURE,
+        Err(fault) => {
+            let _ = eprintln!(rt; "pdl_examples: {fault}");
+            ExitCode::FAILURE
+        }
     }
 }
