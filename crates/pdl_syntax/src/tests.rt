@@ -1,6 +1,7 @@
 use super::*;
 use pdl_lex::{LexFault, tokens};
 use std::alloc::{AllocError, Global};
+use std::process::Abort;
 use std::test::Fail;
 
 mod write;
@@ -44,8 +45,17 @@ fn form(read: &Result<Statement, ParseFault>) -> &'static str {
     }
 }
 
+// Texts, and the form or the fault of each.
+type Forms = &'static [(&'static [u8], &'static str)];
+
+fn assert_forms(rt: &impl Abort, alloc: Global, forms: Forms) {
+    for (text, expected) in forms {
+        assert_eq!(rt; form(&read(alloc, text)), *expected, "of {text:?}");
+    }
+}
+
 // Bindings of one name, and texts near them that are none.
-const BINDINGS: [(&[u8], &str); 28] = [
+const BINDINGS: Forms = &[
     (b"", "syntax"),
     (b"1", "syntax"),
     (b"$x", "syntax"),
@@ -77,15 +87,12 @@ const BINDINGS: [(&[u8], &str); 28] = [
 ];
 
 #[test]
-fn bindings_have_their_form(rt: HostRuntime) -> Result<(), Fail> {
-    for (text, expected) in BINDINGS {
-        assert_eq!(rt; form(&read(rt.alloc(), text)), expected, "of {text:?}");
-    }
-    Ok(())
+fn bindings_have_their_form(rt: HostRuntime) {
+    assert_forms(&rt, rt.alloc(), BINDINGS);
 }
 
 // List bindings and assignments, and texts near them that are none.
-const LISTS_AND_ASSIGNMENTS: [(&[u8], &str); 26] = [
+const LISTS_AND_ASSIGNMENTS: Forms = &[
     (b"($a) = f(1)", "bind list"),
     (b"my ($a, $b) = $x->f", "bind list"),
     (b"($a, $b) = f()->g(1)", "bind list"),
@@ -115,15 +122,12 @@ const LISTS_AND_ASSIGNMENTS: [(&[u8], &str); 26] = [
 ];
 
 #[test]
-fn lists_and_assignments_have_their_form(rt: HostRuntime) -> Result<(), Fail> {
-    for (text, expected) in LISTS_AND_ASSIGNMENTS {
-        assert_eq!(rt; form(&read(rt.alloc(), text)), expected, "of {text:?}");
-    }
-    Ok(())
+fn lists_and_assignments_have_their_form(rt: HostRuntime) {
+    assert_forms(&rt, rt.alloc(), LISTS_AND_ASSIGNMENTS);
 }
 
 // Statements that print, and texts near them that are none.
-const SHOWN: [(&[u8], &str); 18] = [
+const SHOWN: Forms = &[
     (b"p 1", "show"),
     (b"print $x", "show"),
     (b"p (1)", "show"),
@@ -145,15 +149,12 @@ const SHOWN: [(&[u8], &str); 18] = [
 ];
 
 #[test]
-fn statements_that_print_have_their_form(rt: HostRuntime) -> Result<(), Fail> {
-    for (text, expected) in SHOWN {
-        assert_eq!(rt; form(&read(rt.alloc(), text)), expected, "of {text:?}");
-    }
-    Ok(())
+fn statements_that_print_have_their_form(rt: HostRuntime) {
+    assert_forms(&rt, rt.alloc(), SHOWN);
 }
 
 // The other forms of statement, and texts near them that are none.
-const OTHERS: [(&[u8], &str); 37] = [
+const OTHERS: Forms = &[
     (b"$x->sever", "sever"),
     (b"$x->sever()", "sever"),
     (b"$x->sever(1)", "syntax"),
@@ -194,15 +195,12 @@ const OTHERS: [(&[u8], &str); 37] = [
 ];
 
 #[test]
-fn other_statements_have_their_form(rt: HostRuntime) -> Result<(), Fail> {
-    for (text, expected) in OTHERS {
-        assert_eq!(rt; form(&read(rt.alloc(), text)), expected, "of {text:?}");
-    }
-    Ok(())
+fn other_statements_have_their_form(rt: HostRuntime) {
+    assert_forms(&rt, rt.alloc(), OTHERS);
 }
 
 // Each form of statement with a token after its end, none of which is a statement.
-const ENDS: [&[u8]; 23] = [
+const ENDS: &[&[u8]] = &[
     b"$x = 1 2",
     b"$x = $y $z",
     b"$x = f(1) )",
@@ -228,47 +226,46 @@ const ENDS: [&[u8]; 23] = [
     b"unwatch 3 4",
 ];
 
-#[test]
-fn nothing_follows_a_statement(rt: HostRuntime) -> Result<(), Fail> {
-    for text in ENDS {
-        assert_eq!(rt; form(&read(rt.alloc(), text)), "syntax", "of {text:?}");
+fn assert_refused(rt: &impl Abort, alloc: Global, texts: &[&[u8]]) {
+    for text in texts {
+        assert_eq!(rt; form(&read(alloc, text)), "syntax", "of {text:?}");
     }
-    Ok(())
+}
+
+#[test]
+fn nothing_follows_a_statement(rt: HostRuntime) {
+    assert_refused(&rt, rt.alloc(), ENDS);
 }
 
 // The words that name no call.
-const KEPT: [&[u8]; 12] = [
+const KEPT: &[&[u8]] = &[
     b"my", b"p", b"print", b"undef", b"vars", b"pp_def", b"watch", b"unwatch", b"pdl", b"info",
     b"sever", b"reshape",
 ];
 
+fn assert_kept(rt: &impl Abort, alloc: Global, word: &[u8]) -> Result<(), AllocError> {
+    let called = joined(alloc, &[b"$x = ", word, b"(1)"])?;
+    let method = joined(alloc, &[b"$x = $y->", word, b"->f"])?;
+    assert_refused(rt, alloc, &[called.as_slice(), method.as_slice()]);
+    let longer = joined(alloc, &[b"$x = $y->", word, b"_1->", word, b"s(1)"])?;
+    assert_eq!(rt;
+        form(&read(alloc, longer.as_slice())),
+        "bind",
+        "of {word:?}"
+    );
+    Ok(())
+}
+
 #[test]
 fn kept_words_call_nothing(rt: HostRuntime) -> Result<(), Fail> {
     for word in KEPT {
-        let called = joined(rt.alloc(), &[b"$x = ", word, b"(1)"])?;
-        assert_eq!(rt;
-            form(&read(rt.alloc(), called.as_slice())),
-            "syntax",
-            "of {word:?}"
-        );
-        let method = joined(rt.alloc(), &[b"$x = $y->", word, b"->f"])?;
-        assert_eq!(rt;
-            form(&read(rt.alloc(), method.as_slice())),
-            "syntax",
-            "of {word:?}"
-        );
-        let longer = joined(rt.alloc(), &[b"$x = $y->", word, b"_1->", word, b"s(1)"])?;
-        assert_eq!(rt;
-            form(&read(rt.alloc(), longer.as_slice())),
-            "bind",
-            "of {word:?}"
-        );
+        assert_kept(&rt, rt.alloc(), word)?;
     }
     Ok(())
 }
 
 // Texts that several checks refuse, and the first of them.
-const FAULTS: [(&[u8], &str); 35] = [
+const FAULTS: Forms = &[
     (b"$x = 9223372036854775807", "bind"),
     (b"$x = 9223372036854775808", "number too large"),
     (b"$x = 9223372036854775808 9", "number too large"),
@@ -307,15 +304,12 @@ const FAULTS: [(&[u8], &str); 35] = [
 ];
 
 #[test]
-fn the_first_fault_is_answered(rt: HostRuntime) -> Result<(), Fail> {
-    for (text, expected) in FAULTS {
-        assert_eq!(rt; form(&read(rt.alloc(), text)), expected, "of {text:?}");
-    }
-    Ok(())
+fn the_first_fault_is_answered(rt: HostRuntime) {
+    assert_forms(&rt, rt.alloc(), FAULTS);
 }
 
 // Texts near list literals.
-const LISTS: [(&[u8], &str); 17] = [
+const LISTS: Forms = &[
     (b"$x = pdl(1,2)", "syntax"),
     (b"$x = pdl(1)", "syntax"),
     (b"$x = pdl()", "syntax"),
@@ -336,15 +330,12 @@ const LISTS: [(&[u8], &str); 17] = [
 ];
 
 #[test]
-fn list_literals_have_their_form(rt: HostRuntime) -> Result<(), Fail> {
-    for (text, expected) in LISTS {
-        assert_eq!(rt; form(&read(rt.alloc(), text)), expected, "of {text:?}");
-    }
-    Ok(())
+fn list_literals_have_their_form(rt: HostRuntime) {
+    assert_forms(&rt, rt.alloc(), LISTS);
 }
 
 // Texts near expressions, and signs beside longer ones.
-const EXPRESSIONS: [(&[u8], &str); 34] = [
+const EXPRESSIONS: Forms = &[
     (b"$x = 1 < 2 < 3", "syntax"),
     (b"$x = 1 <= 2 > 3", "syntax"),
     (b"$x = 1 == 2 == 3", "syntax"),
@@ -382,15 +373,15 @@ const EXPRESSIONS: [(&[u8], &str); 34] = [
 ];
 
 #[test]
-fn expressions_have_their_form(rt: HostRuntime) -> Result<(), Fail> {
-    for (text, expected) in EXPRESSIONS {
-        assert_eq!(rt; form(&read(rt.alloc(), text)), expected, "of {text:?}");
-    }
-    Ok(())
+fn expressions_have_their_form(rt: HostRuntime) {
+    assert_forms(&rt, rt.alloc(), EXPRESSIONS);
 }
 
+// Texts, and the trees of what they say, as text.
+type Trees = &'static [(&'static [u8], &'static [u8])];
+
 // What statements hold.
-const STATEMENTS: [(&[u8], &[u8]); 32] = [
+const STATEMENTS: Trees = &[
     (b"$x = 1", b"$x bound 1"),
     (b"my $_a1 = $b", b"$_a1 bound $b"),
     (b"$x = $y->f(2)->sever()", b"$x severed f($y;2;)"),
@@ -440,20 +431,36 @@ const STATEMENTS: [(&[u8], &[u8]); 32] = [
     (b"unwatch 0", b"unwatch 0"),
 ];
 
-#[test]
-fn statements_hold_their_parts(rt: HostRuntime) -> Result<(), Fail> {
-    for (text, expected) in STATEMENTS {
-        let mut out = Vec::new(rt.alloc());
-        if let Ok(statement) = read(rt.alloc(), text) {
-            write_statement(rt.alloc(), &mut out, &statement)?;
+fn assert_parts(rt: &impl Abort, alloc: Global, statements: Trees) -> Result<(), AllocError> {
+    for (text, expected) in statements {
+        let mut out = Vec::new(alloc);
+        if let Ok(statement) = read(alloc, text) {
+            write_statement(alloc, &mut out, &statement)?;
         }
-        assert_eq!(rt; out.as_slice(), expected, "of {text:?}");
+        assert_eq!(rt; out.as_slice(), *expected, "of {text:?}");
     }
     Ok(())
 }
 
-// How operators, calls and lists group.
-const TREES: [(&[u8], &[u8]); 54] = [
+#[test]
+fn statements_hold_their_parts(rt: HostRuntime) -> Result<(), Fail> {
+    assert_parts(&rt, rt.alloc(), STATEMENTS)?;
+    Ok(())
+}
+
+fn assert_trees(rt: &impl Abort, alloc: Global, trees: Trees) -> Result<(), AllocError> {
+    for (text, expected) in trees {
+        let mut out = Vec::new(alloc);
+        if let Ok(Statement::Show { value, .. }) = read(alloc, text) {
+            write_expr(alloc, &mut out, &value)?;
+        }
+        assert_eq!(rt; out.as_slice(), *expected, "of {text:?}");
+    }
+    Ok(())
+}
+
+// How operators of each level group.
+const LEVELS: Trees = &[
     (b"p 7 - 2 * 3 << 1", b"(Shl (Sub 7 (Mul 2 3)) 1)"),
     (b"p 7 << 2 - 3 * 1", b"(Shl 7 (Sub 2 (Mul 3 1)))"),
     (b"p 7 - 2 - 3", b"(Sub (Sub 7 2) 3)"),
@@ -478,6 +485,16 @@ const TREES: [(&[u8], &[u8]); 54] = [
         b"p -8 * 7 + 6 << 5 < 4 == 3 & 2 | 1",
         b"(Or (And (Eq (Lt (Shl (Add (Mul (Neg 8) 7) 6) 5) 4) 3) 2) 1)",
     ),
+];
+
+#[test]
+fn operators_group_by_level(rt: HostRuntime) -> Result<(), Fail> {
+    assert_trees(&rt, rt.alloc(), LEVELS)?;
+    Ok(())
+}
+
+// Signs before and between values, and longer ones beside shorter ones.
+const SIGNS: Trees = &[
     (b"p - - 1", b"(Neg (Neg 1))"),
     (b"p 1 - -1", b"(Sub 1 (Neg 1))"),
     (b"p ~-!$x", b"(Complement (Neg (Not $x)))"),
@@ -496,6 +513,16 @@ const TREES: [(&[u8], &[u8]); 54] = [
     (b"p 1<<2<=3", b"(Le (Shl 1 2) 3)"),
     (b"p 1<=2<<3", b"(Le 1 (Shl 2 3))"),
     (b"p 1>=2>>3", b"(Ge 1 (Shr 2 3))"),
+];
+
+#[test]
+fn signs_group_as_written(rt: HostRuntime) -> Result<(), Fail> {
+    assert_trees(&rt, rt.alloc(), SIGNS)?;
+    Ok(())
+}
+
+// How calls group.
+const CALLS: Trees = &[
     (b"p f()", b"f()"),
     (b"p f(1, 'a', byte, byte(2))", b"f(1;a;Byte;byte(2;);)"),
     (b"p zeroes(longlong, 2)", b"zeroes(LongLong;2;)"),
@@ -504,6 +531,16 @@ const TREES: [(&[u8], &[u8]); 54] = [
     (b"p (1 + 2)->f", b"f((Add 1 2);)"),
     (b"p 1 + 2->f", b"(Add 1 f(2;))"),
     (b"p f(g(1), -2)", b"f(g(1;);(Neg 2);)"),
+];
+
+#[test]
+fn calls_group_as_written(rt: HostRuntime) -> Result<(), Fail> {
+    assert_trees(&rt, rt.alloc(), CALLS)?;
+    Ok(())
+}
+
+// Lists with their types, dimensions and numbers.
+const LITERALS: Trees = &[
     (b"p pdl []", b"Long 0:"),
     (b"p pdl [[],[]]", b"Long 0 2:"),
     (b"p pdl [[[]]]", b"Long 0 1 1:"),
@@ -526,14 +563,8 @@ const TREES: [(&[u8], &[u8]); 54] = [
 ];
 
 #[test]
-fn values_group_as_written(rt: HostRuntime) -> Result<(), Fail> {
-    for (text, expected) in TREES {
-        let mut out = Vec::new(rt.alloc());
-        if let Ok(Statement::Show { value, .. }) = read(rt.alloc(), text) {
-            write_expr(rt.alloc(), &mut out, &value)?;
-        }
-        assert_eq!(rt; out.as_slice(), expected, "of {text:?}");
-    }
+fn lists_are_read(rt: HostRuntime) -> Result<(), Fail> {
+    assert_trees(&rt, rt.alloc(), LITERALS)?;
     Ok(())
 }
 
@@ -567,7 +598,7 @@ type Nested = (
     &'static [u8],
 );
 
-const DEPTHS: [(Nested, &str); 27] = [
+const DEPTHS: &[(Nested, &str)] = &[
     ((b"$x = ", 64, b"(", b"1", b")"), "bind"),
     ((b"$x = ", 65, b"(", b"1", b")"), "too deep"),
     ((b"$x = ", 64, b"f(", b"", b")"), "bind"),
@@ -624,15 +655,24 @@ const DEPTHS: [(Nested, &str); 27] = [
     ((b"p ", 65534, b"1", b"", b""), "number too large"),
 ];
 
-#[test]
-fn depth_has_its_limits(rt: HostRuntime) -> Result<(), Fail> {
-    for (nested, expected) in DEPTHS {
-        let text = around(rt.alloc(), nested)?;
+fn assert_depths(
+    rt: &impl Abort,
+    alloc: Global,
+    depths: &[(Nested, &str)],
+) -> Result<(), AllocError> {
+    for (nested, expected) in depths {
+        let text = around(alloc, *nested)?;
         assert_eq!(rt;
-            form(&read(rt.alloc(), text.as_slice())),
-            expected,
+            form(&read(alloc, text.as_slice())),
+            *expected,
             "of {nested:?}"
         );
     }
+    Ok(())
+}
+
+#[test]
+fn depth_has_its_limits(rt: HostRuntime) -> Result<(), Fail> {
+    assert_depths(&rt, rt.alloc(), DEPTHS)?;
     Ok(())
 }
