@@ -7,6 +7,10 @@ use pdl_shape::{Dims, dims_list, dims_of, elements_of};
 use std::alloc::Global;
 use std::process::Abort;
 
+mod tables;
+
+use tables::{INDEXED, Indexed, REFUSED, RefusedWindow, WINDOWED, Windowed};
+
 fn shape(rt: &impl Abort, alloc: Global, sizes: &[u32]) -> Dims
     ensures { result ≡ sizes.now }
 {
@@ -79,88 +83,15 @@ fn pick(
     where_places(alloc, &shape(rt, alloc, parent), &mask_dims, mask)
 }
 
+fn assert_indexed(rt: &impl Abort, alloc: Global, rows: &[Indexed]) {
+    for (parent, ind_dims, ind, dims, places) in rows {
+        is_view(rt, &look_up(rt, alloc, parent, ind_dims, ind), dims, places);
+    }
+}
+
 #[test]
 fn index_places(rt: HostRuntime) {
-    let alloc = rt.alloc();
-    for (parent, ind_dims, ind, dims, places) in [
-        (
-            [4].as_slice(),
-            [3].as_slice(),
-            [1, 1, 2].as_slice(),
-            [3].as_slice(),
-            [1, 1, 2].as_slice(),
-        ),
-        (
-            [5].as_slice(),
-            [].as_slice(),
-            [-1].as_slice(),
-            [].as_slice(),
-            [4].as_slice(),
-        ),
-        (
-            [5].as_slice(),
-            [2, 2].as_slice(),
-            [0, -1, 4, -5].as_slice(),
-            [2, 2].as_slice(),
-            [0, 4, 4, 0].as_slice(),
-        ),
-        (
-            [3, 2].as_slice(),
-            [2].as_slice(),
-            [0, 1].as_slice(),
-            [2].as_slice(),
-            [0, 4].as_slice(),
-        ),
-        (
-            [3, 2].as_slice(),
-            [1, 2].as_slice(),
-            [2, 0].as_slice(),
-            [2, 2].as_slice(),
-            [2, 5, 0, 3].as_slice(),
-        ),
-        (
-            [3, 2, 2].as_slice(),
-            [2, 1].as_slice(),
-            [2, -3].as_slice(),
-            [2, 2].as_slice(),
-            [2, 3, 8, 9].as_slice(),
-        ),
-        (
-            [3, 2, 2].as_slice(),
-            [1, 1, 2].as_slice(),
-            [2, -3].as_slice(),
-            [2, 2, 2].as_slice(),
-            [2, 5, 8, 11, 0, 3, 6, 9].as_slice(),
-        ),
-        (
-            [2, 1, 3].as_slice(),
-            [2, 3, 1].as_slice(),
-            [0, 1, 1, 1, -2, 0].as_slice(),
-            [2, 3, 1].as_slice(),
-            [0, 1, 3, 3, 4, 4].as_slice(),
-        ),
-        (
-            [4].as_slice(),
-            [0].as_slice(),
-            [].as_slice(),
-            [0].as_slice(),
-            [].as_slice(),
-        ),
-        (
-            [3, 0].as_slice(),
-            [1].as_slice(),
-            [2].as_slice(),
-            [0].as_slice(),
-            [].as_slice(),
-        ),
-    ] {
-        is_view(
-            &rt,
-            &look_up(&rt, alloc, parent, ind_dims, ind),
-            dims,
-            places,
-        );
-    }
+    assert_indexed(&rt, rt.alloc(), INDEXED);
 }
 
 #[test]
@@ -222,256 +153,28 @@ fn mask_places(rt: HostRuntime) {
     assert_eq!(rt; places.as_slice(), [1, 2].as_slice());
 }
 
+fn assert_windowed(rt: &impl Abort, alloc: Global, rows: &[Windowed]) {
+    for (parent, ind_dims, ind, sizes, edge, dims, places) in rows {
+        let answer = cut_out(rt, alloc, parent, ind_dims, ind, sizes, *edge);
+        is_view(rt, &answer, dims, places);
+    }
+}
+
 #[test]
 fn window_places(rt: HostRuntime) {
-    let alloc = rt.alloc();
-    for (parent, ind_dims, ind, sizes, edge, dims, places) in [
-        (
-            [3].as_slice(),
-            [1].as_slice(),
-            [-1].as_slice(),
-            [5].as_slice(),
-            Edge::Zero,
-            [5].as_slice(),
-            [-1, 0, 1, 2, -1].as_slice(),
-        ),
-        (
-            [3].as_slice(),
-            [1].as_slice(),
-            [-1].as_slice(),
-            [5].as_slice(),
-            Edge::Nearest,
-            [5].as_slice(),
-            [0, 0, 1, 2, 2].as_slice(),
-        ),
-        (
-            [3].as_slice(),
-            [1].as_slice(),
-            [-4].as_slice(),
-            [5].as_slice(),
-            Edge::Periodic,
-            [5].as_slice(),
-            [2, 0, 1, 2, 0].as_slice(),
-        ),
-        (
-            [4].as_slice(),
-            [].as_slice(),
-            [1].as_slice(),
-            [2].as_slice(),
-            Edge::Refuse,
-            [2].as_slice(),
-            [1, 2].as_slice(),
-        ),
-        (
-            [3, 2].as_slice(),
-            [2].as_slice(),
-            [1, 0].as_slice(),
-            [2].as_slice(),
-            Edge::Refuse,
-            [2, 2].as_slice(),
-            [1, 2, 4, 5].as_slice(),
-        ),
-        (
-            [3, 2].as_slice(),
-            [1, 2].as_slice(),
-            [0, 2].as_slice(),
-            [0].as_slice(),
-            Edge::Refuse,
-            [2, 2].as_slice(),
-            [0, 2, 3, 5].as_slice(),
-        ),
-        (
-            [3, 2].as_slice(),
-            [2, 2].as_slice(),
-            [0, 0, 2, 1].as_slice(),
-            [2, 1].as_slice(),
-            Edge::Zero,
-            [2, 2, 1].as_slice(),
-            [0, 5, 1, -1].as_slice(),
-        ),
-        (
-            [3, 2].as_slice(),
-            [0].as_slice(),
-            [].as_slice(),
-            [].as_slice(),
-            Edge::Refuse,
-            [3, 2].as_slice(),
-            [0, 1, 2, 3, 4, 5].as_slice(),
-        ),
-        (
-            [3].as_slice(),
-            [1, 0].as_slice(),
-            [].as_slice(),
-            [2].as_slice(),
-            Edge::Refuse,
-            [0, 2].as_slice(),
-            [].as_slice(),
-        ),
-        (
-            [3].as_slice(),
-            [1].as_slice(),
-            [i64::MAX].as_slice(),
-            [3].as_slice(),
-            Edge::Periodic,
-            [3].as_slice(),
-            [1, 2, 0].as_slice(),
-        ),
-        (
-            [3].as_slice(),
-            [1].as_slice(),
-            [i64::MIN].as_slice(),
-            [2].as_slice(),
-            Edge::Periodic,
-            [2].as_slice(),
-            [1, 2].as_slice(),
-        ),
-        (
-            [3].as_slice(),
-            [1, 2].as_slice(),
-            [i64::MAX, i64::MIN].as_slice(),
-            [2].as_slice(),
-            Edge::Nearest,
-            [2, 2].as_slice(),
-            [2, 0, 2, 0].as_slice(),
-        ),
-        (
-            [3].as_slice(),
-            [1, 2].as_slice(),
-            [i64::MAX, i64::MIN].as_slice(),
-            [2].as_slice(),
-            Edge::Zero,
-            [2, 2].as_slice(),
-            [-1, -1, -1, -1].as_slice(),
-        ),
-        (
-            [2].as_slice(),
-            [0, 2].as_slice(),
-            [].as_slice(),
-            [].as_slice(),
-            Edge::Refuse,
-            [2, 2].as_slice(),
-            [0, 0, 1, 1].as_slice(),
-        ),
-        (
-            [4, 2].as_slice(),
-            [1, 2].as_slice(),
-            [0, 2].as_slice(),
-            [2].as_slice(),
-            Edge::Refuse,
-            [2, 2, 2].as_slice(),
-            [0, 2, 1, 3, 4, 6, 5, 7].as_slice(),
-        ),
-        (
-            [3, 2, 2].as_slice(),
-            [2, 2].as_slice(),
-            [-1, 0, 2, 1].as_slice(),
-            [2, 0].as_slice(),
-            Edge::Periodic,
-            [2, 2, 2].as_slice(),
-            [2, 5, 0, 3, 8, 11, 6, 9].as_slice(),
-        ),
-        (
-            [2, 2].as_slice(),
-            [2].as_slice(),
-            [1, -1].as_slice(),
-            [2, 2].as_slice(),
-            Edge::Periodic,
-            [2, 2].as_slice(),
-            [3, 2, 1, 0].as_slice(),
-        ),
-    ] {
-        is_view(
-            &rt,
-            &cut_out(&rt, alloc, parent, ind_dims, ind, sizes, edge),
-            dims,
-            places,
-        );
+    assert_windowed(&rt, rt.alloc(), WINDOWED);
+}
+
+fn assert_refused(rt: &impl Abort, alloc: Global, rows: &[RefusedWindow]) {
+    for (parent, ind_dims, ind, sizes, edge, fault) in rows {
+        let answer = cut_out(rt, alloc, parent, ind_dims, ind, sizes, *edge);
+        is_refused(rt, &answer, *fault);
     }
 }
 
 #[test]
 fn window_refusals(rt: HostRuntime) {
-    let alloc = rt.alloc();
-    for (parent, ind_dims, ind, sizes, edge, fault) in [
-        (
-            [3].as_slice(),
-            [2].as_slice(),
-            [0, 0].as_slice(),
-            [1, 1, 1].as_slice(),
-            Edge::Refuse,
-            ChoiceFault::BadDimension,
-        ),
-        (
-            [3].as_slice(),
-            [1].as_slice(),
-            [9].as_slice(),
-            [-1, 2].as_slice(),
-            Edge::Refuse,
-            ChoiceFault::BadDimension,
-        ),
-        (
-            [3].as_slice(),
-            [1].as_slice(),
-            [9].as_slice(),
-            [1, 2].as_slice(),
-            Edge::Refuse,
-            ChoiceFault::Mismatch,
-        ),
-        (
-            [3].as_slice(),
-            [1, 2].as_slice(),
-            [0, 2].as_slice(),
-            [2].as_slice(),
-            Edge::Refuse,
-            ChoiceFault::OutOfRange { at: 1 },
-        ),
-        (
-            [3].as_slice(),
-            [1].as_slice(),
-            [3].as_slice(),
-            [0].as_slice(),
-            Edge::Refuse,
-            ChoiceFault::OutOfRange { at: 0 },
-        ),
-        (
-            [2, 0].as_slice(),
-            [2].as_slice(),
-            [0, 0].as_slice(),
-            [1].as_slice(),
-            Edge::Nearest,
-            ChoiceFault::OutOfRange { at: 1 },
-        ),
-        (
-            [2, 1].as_slice(),
-            [1; 16].as_slice(),
-            [0].as_slice(),
-            [1].as_slice(),
-            Edge::Zero,
-            ChoiceFault::TooManyDims,
-        ),
-        (
-            [2].as_slice(),
-            [1].as_slice(),
-            [0].as_slice(),
-            [1_000_000_000].as_slice(),
-            Edge::Zero,
-            ChoiceFault::TooLarge,
-        ),
-        (
-            [2].as_slice(),
-            [1].as_slice(),
-            [0].as_slice(),
-            [i64::MAX].as_slice(),
-            Edge::Periodic,
-            ChoiceFault::TooLarge,
-        ),
-    ] {
-        is_refused(
-            &rt,
-            &cut_out(&rt, alloc, parent, ind_dims, ind, sizes, edge),
-            fault,
-        );
-    }
+    assert_refused(&rt, rt.alloc(), REFUSED);
 }
 
 #[test]

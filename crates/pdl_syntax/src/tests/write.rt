@@ -111,6 +111,27 @@ fn write_slot(alloc: Global, out: &mut Vec<u8>, slot: u64) -> Written {
     out.extend_from_slice(text.as_bytes())
 }
 
+fn write_definition(out: &mut Vec<u8>, name: &[u8], signature: &[u8], code: &[u8]) -> Written {
+    write_word(out, b"define ", name)?;
+    write_word(out, b"|", signature)?;
+    write_word(out, b"|", code)
+}
+
+// Statements of a word and at most one part; the others are written by `write_statement`.
+fn write_short(alloc: Global, out: &mut Vec<u8>, statement: &Statement) -> Written {
+    match statement {
+        Statement::ShowText { text } => write_word(out, b"text ", text.bytes()),
+        Statement::Sever { name } => write_word(out, b"sever ", name.bytes()),
+        Statement::Undef { name } => write_word(out, b"undef ", name.bytes()),
+        Statement::Vars => write_text(out, b"vars"),
+        Statement::Unwatch { slot } => {
+            write_text(out, b"unwatch")?;
+            write_slot(alloc, out, *slot)
+        }
+        _ => write_text(out, b"another"),
+    }
+}
+
 pub fn write_statement(alloc: Global, out: &mut Vec<u8>, statement: &Statement) -> Written {
     match statement {
         Statement::Bind { name, value, sever } => {
@@ -132,31 +153,20 @@ pub fn write_statement(alloc: Global, out: &mut Vec<u8>, statement: &Statement) 
             write_text(out, if *info { b"info " } else { b"show " })?;
             write_expr(alloc, out, value)
         }
-        Statement::ShowText { text } => write_word(out, b"text ", text.bytes()),
-        Statement::Sever { name } => write_word(out, b"sever ", name.bytes()),
         Statement::Reshape { name, sizes } => {
             write_word(out, b"reshape ", name.bytes())?;
             write_text(out, b" ")?;
             write_args(alloc, out, sizes.as_slice())
         }
-        Statement::Undef { name } => write_word(out, b"undef ", name.bytes()),
-        Statement::Vars => write_text(out, b"vars"),
         Statement::PpDef {
             name,
             signature,
             code,
-        } => {
-            write_word(out, b"define ", name.bytes())?;
-            write_word(out, b"|", signature.bytes())?;
-            write_word(out, b"|", code.bytes())
-        }
+        } => write_definition(out, name.bytes(), signature.bytes(), code.bytes()),
         Statement::Watch { name, slot } => {
             write_word(out, b"watch ", name.bytes())?;
             write_slot(alloc, out, *slot)
         }
-        Statement::Unwatch { slot } => {
-            write_text(out, b"unwatch")?;
-            write_slot(alloc, out, *slot)
-        }
+        _ => write_short(alloc, out, statement),
     }
 }
