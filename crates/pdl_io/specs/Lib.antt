@@ -3,3 +3,4 @@ pub mod Told
 pub mod SourceState
 pub mod SinkState
 pub mod Adapters
+pub mod Causes

@@ -4,11 +4,13 @@
 
 mod adapters;
 mod counts;
+mod laws;
 mod mem_sink;
 mod mem_source;
 mod traits;
 
 pub use adapters::{ReadSource, WriteSink};
+pub use laws::cause_laws;
 pub use mem_sink::MemSink;
 pub use mem_source::MemSource;
 pub use std::alloc::AllocError as NoMemory;

@@ -63,16 +63,41 @@ fn a_text_is_written_whole_or_in_part(rt: HostRuntime) -> Result<(), Fail> {
     Ok(())
 }
 
-// A reader that gives one `x` at each read, and fails at its second one.
+// What was asked of a reader or a writer: how many reads or writes, how long the piece of the last one
+// was, and how many flushes.
 #[derive(Drop)]
-struct Stumbling {
-    reads: u8,
+struct Asked {
+    calls: Cell<u32>,
+    length: Cell<usize>,
+    flushes: Cell<u32>,
 }
 
-impl Read for Stumbling {
+impl Asked {
+    fn nothing() -> Asked {
+        Asked {
+            calls: Cell::new(0),
+            length: Cell::new(0),
+            flushes: Cell::new(0),
+        }
+    }
+
+    // Counts a call with a piece of this length, and returns its number from 1.
+    fn call(&self, length: usize) -> u32 {
+        self.calls.set(self.calls.get().saturating_add(1));
+        self.length.set(length);
+        self.calls.get()
+    }
+}
+
+// A reader that gives one `x` at each read, and fails at its second one.
+#[derive(Drop)]
+struct Stumbling<'a> {
+    asked: &'a Asked,
+}
+
+impl Read for Stumbling<'_> {
     fn read(&mut self, buf: &mut [u8]) -> io::Result<usize> {
-        self.reads = self.reads.saturating_add(1);
-        if self.reads == 2 {
+        if self.asked.call(buf.len()) == 2 {
             return Err(io::Error::from(ErrorKind::Other));
         }
         if buf.is_empty() {
@@ -83,18 +108,16 @@ impl Read for Stumbling {
     }
 }
 
-// A writer that counts its calls, takes nothing at its second write, and fails at the third one and at
-// its second flush.
+// A writer that takes at most four bytes, takes nothing at its second write, and fails at the third one
+// and at its second flush.
 #[derive(Drop)]
-struct Counted<'a> {
-    writes: &'a Cell<u32>,
-    flushes: &'a Cell<u32>,
+struct Slow<'a> {
+    asked: &'a Asked,
 }
 
-impl Write for Counted<'_> {
+impl Write for Slow<'_> {
     fn write(&mut self, buf: &[u8]) -> io::Result<usize> {
-        self.writes.set(self.writes.get().saturating_add(1));
-        match self.writes.get() {
+        match self.asked.call(buf.len()) {
             2 => Ok(0),
             3 => Err(io::Error::from(ErrorKind::Other)),
             _ => Ok(buf.len().min(4)),
@@ -102,8 +125,9 @@ impl Write for Counted<'_> {
     }
 
     fn flush(&mut self) -> io::Result<()> {
-        self.flushes.set(self.flushes.get().saturating_add(1));
-        if self.flushes.get() == 2 {
+        let flushes = self.asked.flushes.get().saturating_add(1);
+        self.asked.flushes.set(flushes);
+        if flushes == 2 {
             return Err(io::Error::from(ErrorKind::Other));
         }
         Ok(())
@@ -113,9 +137,17 @@ impl Write for Counted<'_> {
 #[test]
 fn a_reader_is_a_source(rt: HostRuntime) -> Result<(), Fail> {
     let mut piece = [b'.'; 4];
-    let mut source = ReadSource::new(Stumbling { reads: 0 });
+    let asked = Asked::nothing();
+    let mut source = ReadSource::new(Stumbling { asked: &asked });
     assert_eq!(rt; source.read(&mut piece), Ok(1));
+    assert_eq!(rt; asked.calls.get(), 1, "one read is one of the reader");
+    assert_eq!(rt; asked.length.get(), 4, "the whole piece is passed on");
     assert_eq!(rt; source.read(&mut piece), Err(Failed));
+    assert_eq!(rt;
+        asked.calls.get(),
+        2,
+        "a read that failed isn't tried again"
+    );
     assert_eq!(rt; source.read(&mut piece), Ok(1));
     assert_eq!(rt; piece.as_slice(), b"x...".as_slice());
     let mut source = ReadSource::new(b"ab".as_slice());
@@ -127,20 +159,38 @@ fn a_reader_is_a_source(rt: HostRuntime) -> Result<(), Fail> {
 
 #[test]
 fn a_writer_is_a_sink(rt: HostRuntime) -> Result<(), Fail> {
-    let writes = Cell::new(0);
-    let flushes = Cell::new(0);
-    let mut sink = WriteSink::new(Counted {
-        writes: &writes,
-        flushes: &flushes,
-    });
+    let asked = Asked::nothing();
+    let mut sink = WriteSink::new(Slow { asked: &asked });
     assert_eq!(rt; sink.write(b"hello"), Ok(4));
+    assert_eq!(rt; asked.calls.get(), 1, "one write is one of the writer");
+    assert_eq!(rt; asked.length.get(), 5, "the whole piece is passed on");
     assert_eq!(rt; sink.write(b"hello"), Err(Failed), "nothing was taken");
     assert_eq!(rt; sink.write(b"hello"), Err(Failed));
     assert_eq!(rt; sink.write(b""), Ok(0));
-    assert_eq!(rt; writes.get(), 4);
+    assert_eq!(rt;
+        asked.calls.get(),
+        4,
+        "a write that failed isn't tried again"
+    );
+    assert_eq!(rt; asked.flushes.get(), 0);
     assert_eq!(rt; sink.flush(), Ok(()));
-    assert_eq!(rt; flushes.get(), 1, "the flush is passed on");
+    assert_eq!(rt; asked.flushes.get(), 1, "the flush is passed on");
     assert_eq!(rt; sink.flush(), Err(Failed));
-    assert_eq!(rt; flushes.get(), 2);
+    assert_eq!(rt;
+        asked.flushes.get(),
+        2,
+        "a flush that failed isn't tried again"
+    );
+    Ok(())
+}
+
+#[test]
+fn a_text_ends_at_a_failed_write(rt: HostRuntime) -> Result<(), Fail> {
+    let asked = Asked::nothing();
+    let mut sink = WriteSink::new(Slow { asked: &asked });
+    assert_eq!(rt; write_all(&mut sink, b"hello, world"), Err(Failed));
+    assert_eq!(rt; asked.calls.get(), 2, "no write follows the failed one");
+    assert_eq!(rt; asked.length.get(), 8, "all that is left is passed on");
+    assert_eq!(rt; asked.flushes.get(), 0);
     Ok(())
 }
