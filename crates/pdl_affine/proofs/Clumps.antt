@@ -144,7 +144,7 @@ clump_filled n ds (c ∷ cs) w =
     let parts : filled (take n ds) ++ filled (drop n ds) ≡ filled ds = sym (map-append (λ d. max d 1) (take n ds) (drop n ds)) ∙ ap filled (take-append-drop n ds) in
     subst (λ es. IsWithin es (coordinates_of (take n ds) c ++ cs)) parts (within-append (filled (take n ds)) (filled (drop n ds)) (coordinates_of (take n ds) c) cs (joined_filled (take n ds) c w.0) w.1)
 
-clump_within : (n : ℕ) (ds cs : List ℕ) → IsWithin (sizes (clumped n) ds) cs → IsWithin ds (form_source (clumped n) ds cs)
+pub clump_within : (n : ℕ) (ds cs : List ℕ) → IsWithin (sizes (clumped n) ds) cs → IsWithin ds (form_source (clumped n) ds cs)
 clump_within n ds [] w = absurd w
 clump_within n ds (c ∷ cs) w =
     subst (λ es. IsWithin es (coordinates_of (take n ds) c ++ cs)) (take-append-drop n ds) (within-append (take n ds) (drop n ds) (coordinates_of (take n ds) c) cs (coordinates_within (take n ds) c w.0) w.1)

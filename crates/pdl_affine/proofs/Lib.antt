@@ -8,3 +8,4 @@ pub mod Picks
 pub mod SliceCourses
 pub mod Sounds
 pub mod Clumps
+pub mod Inside

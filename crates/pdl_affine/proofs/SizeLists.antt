@@ -6,11 +6,12 @@ use Rattle.std.proofs.lemmas.List.Edits.{length-insert, get_or-insert_at}
 use Rattle.std.proofs.lemmas.List.{length-replicate}
 use Rattle.std.specs.List.{range_with_len}
 use Rattle.pdl_shape.specs.Shape.{extent, extent_limit, dims_limit, IsDims}
-use Rattle.pdl_affine.specs.declared.PlanFault.TheVariants.{TooLarge}
+use Rattle.pdl_shape.specs.Limits.{checked_dims}
+use Rattle.pdl_shape.specs.Refusals.{too_large}
 use Rattle.pdl_affine.specs.declared.forms.Taken.{Taken}
 use Rattle.pdl_affine.specs.Slicing as slicing
 use Rattle.pdl_affine.specs.Slicing.{line_sizes}
-use Rattle.pdl_affine.specs.Views.{lists, lowest_of, kept_dims, limited}
+use Rattle.pdl_affine.specs.Views.{lists, lowest_of, kept_dims}
 use Rattle.pdl_affine.specs.Courses.{seen_all, AreSmall}
 
 pub line_sizes-append : (xs ys : List slicing.Line) → line_sizes (xs ++ ys) ≡ line_sizes xs ++ line_sizes ys
@@ -65,7 +66,7 @@ no_size e l n h k = contradicts (k ∙ ap (λ t. if t then Some n else None) (le
   contradicts : None ≡ Some n → ⊥
   contradicts r = cc
 
-limited_large : (ds : List ℕ) → length ds ≤ 16 → 1048576 < extent ds → limited ds ≡ Err TooLarge
+limited_large : (ds : List ℕ) → length ds ≤ 16 → 1048576 < extent ds → checked_dims ds ≡ Err too_large
 limited_large ds short large = rw (few, wide) refl where
   few : nat_lt dims_limit (length ds) ≡ false
   few = grind arith
@@ -74,9 +75,9 @@ limited_large ds short large = rw (few, wide) refl where
   wide = grind arith
 
 -- a new dimension above the limit is too large
-pub too_large : (ds : List ℕ) (place size : ℕ) → length ds < 16 → place < 16 → 1048576 < size
-    → limited (insert (ds ++ replicate (place - length ds) 1) place size) ≡ Err TooLarge
-too_large ds place size few near large =
+pub insert_large : (ds : List ℕ) (place size : ℕ) → length ds < 16 → place < 16 → 1048576 < size
+    → checked_dims (insert (ds ++ replicate (place - length ds) 1) place size) ≡ Err too_large
+insert_large ds place size few near large =
     let xs : List ℕ = ds ++ replicate (place - length ds) 1 in
     let count : length xs ≡ length ds + (place - length ds) = length-append ds (replicate (place - length ds) 1) ∙ ap (λ n. length ds + n) (length-replicate (place - length ds) 1) in
     let fits : place ≤ length xs = omega (arith, count) in

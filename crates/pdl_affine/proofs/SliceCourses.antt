@@ -8,7 +8,8 @@ use Rattle.pdl_shape.specs.Shape.{IsWithin}
 use Rattle.pdl_slices.specs.declared.SliceArg.{SliceArg}
 use Rattle.pdl_slices.specs.declared.SliceArg.TheVariants.{Whole, One, Dropped, Dummy, Span}
 use Rattle.pdl_affine.specs.declared.forms.Course.{Course}
-use Rattle.pdl_affine.specs.Slicing.{counted, Line, kept, lost, added, falls, distance, span_line, end_of, spanned, line_of, line_cons, lines_of, line_sizes, line_sources, stepped}
+use Rattle.pdl_shape.specs.Counting.{from_end}
+use Rattle.pdl_affine.specs.Slicing.{Line, kept, lost, added, falls, distance, span_line, end_of, spanned, line_of, line_cons, lines_of, line_sizes, line_sources, stepped}
 use Rattle.pdl_affine.specs.Views.{sliced, form_source}
 use Rattle.pdl_affine.specs.Courses.{filled, Fits, FitAll, IsCourse, course_at, still, size_for, sizes_after}
 use Rattle.pdl_affine.proofs.SliceLines.{lines_of-step}
@@ -74,7 +75,7 @@ span_fits a b (Some (negsuc s)) d h k = by_order (nat_le b a) refl where
   by_order false e = falling a 0 s d h (λ c l. let z : c ≡ 0 = omega (arith, l) in subst (λ n. suc s * n ≤ a) (sym z) (omega arith))
 
 -- a place by its number is there
-pub counted_inside : (k : ℤ) (n i : ℕ) → counted k n ≡ Some i → i < n
+pub counted_inside : (k : ℤ) (n i : ℕ) → from_end k n ≡ Some i → i < n
 counted_inside (pos k) n i h = inside k n i h where
   inside : (k n i : ℕ) → (if nat_lt k n then Some k else None) ≡ Some i → i < n
   inside k n i h = grind (arith, nat_tests)
@@ -139,8 +140,8 @@ Takes (Span from to step) = Unit {0}
 
 line_fits : (arg : SliceArg) (n : ℕ) (l : Line) → Takes arg → line_of arg n ≡ Some l → LineFits l n
 line_fits Whole n l t h = let same : kept 0 (pos 1) n ≡ l = cc in subst (λ k. LineFits k n) same (whole_fits n)
-line_fits (One k) n l t h = let m = mapped (counted k n) (λ f. kept f (pos 1) 1) l h in subst (λ k. LineFits k n) m.2 (one_fits m.0 n (counted_inside k n m.0 m.1))
-line_fits (Dropped k) n l t h = let m = mapped (counted k n) lost l h in subst (λ k. LineFits k n) m.2 (counted_inside k n m.0 m.1)
+line_fits (One k) n l t h = let m = mapped (from_end k n) (λ f. kept f (pos 1) 1) l h in subst (λ k. LineFits k n) m.2 (one_fits m.0 n (counted_inside k n m.0 m.1))
+line_fits (Dropped k) n l t h = let m = mapped (from_end k n) lost l h in subst (λ k. LineFits k n) m.2 (counted_inside k n m.0 m.1)
 line_fits (Dummy m) n l t h = absurd t
 line_fits (Span from to step) n l t h = spanned_fits from to step n l h
 

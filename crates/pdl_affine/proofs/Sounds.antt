@@ -4,15 +4,16 @@ use Rattle.std.specs.List.{All}
 use Rattle.std.proofs.lemmas.Bool.Decides.{nat_tests}
 use Rattle.pdl_affine.specs.declared.Affine.{Affine}
 use Rattle.pdl_affine.specs.declared.Affine.TheVariants as affine
-use Rattle.pdl_affine.specs.declared.PlanFault.{PlanFault}
-use Rattle.pdl_affine.specs.declared.PlanFault.TheVariants.{BadDimension, OutOfRange}
-use Rattle.pdl_affine.specs.Slicing.{counted, Line, lines_of}
-use Rattle.pdl_affine.specs.Views.{Form, sliced, exchanged, shifted, arranged, inserted, joined, squeezed, clumped, resolved, or_fault, when, inserted_at, new_place, clump_count, all_counted, is_arrangement, is_distinct, are_same_size}
+use Rattle.pdl_shape.specs.Clump.{clump_count}
+use Rattle.pdl_shape.specs.Counting.{from_end}
+use Rattle.pdl_shape.specs.Refusals.{Refusal, bad_dimension, out_of_range}
+use Rattle.pdl_affine.specs.Slicing.{Line, lines_of}
+use Rattle.pdl_affine.specs.Views.{Form, sliced, exchanged, shifted, arranged, inserted, joined, squeezed, clumped, resolved, or_refusal, when, inserted_at, new_place, all_counted, is_arrangement, is_distinct, are_same_size}
 use Rattle.pdl_affine.specs.Courses.{IsSound}
 use Rattle.pdl_affine.proofs.SliceCourses.{counted_inside, lines_fit}
 
 -- what is no refusal
-form_is : (fault : PlanFault) (o : Option Form) (form : Form) → or_fault fault o ≡ Ok form → o ≡ Some form
+form_is : (fault : Refusal) (o : Option Form) (form : Form) → or_refusal fault o ≡ Ok form → o ≡ Some form
 form_is fault None form h = absurd (cc)
 form_is fault (Some other) form h = let same : other ≡ form = cc in ap Some same
 
@@ -32,7 +33,7 @@ listed ds make test (Some is) form sound h = tested (test is) refl h where
 
 all_inside : (ks : List ℤ) (n : ℕ) (is : List ℕ) → all_counted ks n ≡ Some is → All (λ i. i < n) is
 all_inside [] n is h = let same : [] ≡ is = cc in subst (λ xs. All (λ i. i < n) xs) same (λ k d l. absurd (omega arith))
-all_inside (k ∷ ks) n is h = more (counted k n) (all_counted ks n) (λ i e. counted_inside k n i e) (λ js e. all_inside ks n js e) h where
+all_inside (k ∷ ks) n is h = more (from_end k n) (all_counted ks n) (λ i e. counted_inside k n i e) (λ js e. all_inside ks n js e) h where
   more : (o : Option ℕ) (p : Option (List ℕ)) → ((i : ℕ) → o ≡ Some i → i < n) → ((js : List ℕ) → p ≡ Some js → All (λ i. i < n) js)
       → option_and_then (λ i. option_map (λ js. i ∷ js) p) o ≡ Some is → All (λ i. i < n) is
   more None p a b e = absurd (cc)
@@ -74,14 +75,14 @@ pub true_is : (b : Bool) → IsTrue b → b ≡ true
 true_is b h = grind arith
 
 pub resolved_sound : (trans : Affine) (ds : List ℕ) (form : Form) → resolved trans ds ≡ Ok form → IsSound form ds
-resolved_sound (affine.Slice args) ds form h = sliced_sound ds (lines_of args ds) form (λ ls e. lines_fit args ds ls e) (form_is OutOfRange _ form h)
-resolved_sound (affine.Xchg a b) ds form h = two ds exchanged (counted a (length ds)) (counted b (length ds)) form (λ i j e f. (counted_inside a (length ds) i e, counted_inside b (length ds) j f)) (form_is BadDimension _ form h)
-resolved_sound (affine.Mv a b) ds form h = two ds shifted (counted a (length ds)) (counted b (length ds)) form (λ i j e f. (counted_inside a (length ds) i e, counted_inside b (length ds) j f)) (form_is BadDimension _ form h)
+resolved_sound (affine.Slice args) ds form h = sliced_sound ds (lines_of args ds) form (λ ls e. lines_fit args ds ls e) (form_is out_of_range _ form h)
+resolved_sound (affine.Xchg a b) ds form h = two ds exchanged (from_end a (length ds)) (from_end b (length ds)) form (λ i j e f. (counted_inside a (length ds) i e, counted_inside b (length ds) j f)) (form_is bad_dimension _ form h)
+resolved_sound (affine.Mv a b) ds form h = two ds shifted (from_end a (length ds)) (from_end b (length ds)) form (λ i j e f. (counted_inside a (length ds) i e, counted_inside b (length ds) j f)) (form_is bad_dimension _ form h)
 resolved_sound (affine.Reorder order) ds form h =
-    listed ds arranged (λ is. is_arrangement is (length ds)) (all_counted order (length ds)) form (λ is e t. holds (is_arrangement is (length ds)) t) (form_is BadDimension _ form h)
-resolved_sound (affine.Dummy place size) ds form h = inserted_sound ds (new_place place (length ds)) size form (form_is BadDimension _ form h)
+    listed ds arranged (λ is. is_arrangement is (length ds)) (all_counted order (length ds)) form (λ is e t. holds (is_arrangement is (length ds)) t) (form_is bad_dimension _ form h)
+resolved_sound (affine.Dummy place size) ds form h = inserted_sound ds (new_place place (length ds)) size form (form_is bad_dimension _ form h)
 resolved_sound (affine.Diagonal ks) ds form h =
     listed ds joined (λ is. is_distinct is && are_same_size is ds) (all_counted ks (length ds)) form
-    (λ is e t. (all_inside ks (length ds) is e, holds (are_same_size is ds) (right (is_distinct is) (are_same_size is ds) t))) (form_is BadDimension _ form h)
+    (λ is e t. (all_inside ks (length ds) is e, holds (are_same_size is ds) (right (is_distinct is) (are_same_size is ds) t))) (form_is bad_dimension _ form h)
 resolved_sound affine.Squeeze ds form h = let same : squeezed ≡ form = cc in subst (λ f. IsSound f ds) same tt
-resolved_sound (affine.Clump count) ds form h = clumped_sound ds (clump_count count (length ds)) form (λ n e. count_inside count (length ds) n e) (form_is BadDimension _ form h)
+resolved_sound (affine.Clump count) ds form h = clumped_sound ds (clump_count count (length ds)) form (λ n e. count_inside count (length ds) n e) (form_is bad_dimension _ form h)

@@ -1,17 +1,19 @@
 -- The forms of the code, as those of the definition. It is a step of the proof: what is promised stands in Views
 -- and Windows.
-use Rattle.std.specs.Prelude.{◌≡◌, ◌≢◌, ◌<◌, ◌≤◌, ◌==◌, nat_le, nat_lt, not, filter, zip, if◌then◌else◌, IsTrue, ℕ, zero, suc, ◌+◌, ◌-◌, max, List, [], ◌∷◌, map, take, length, get_or, ◌++◌, option_map, ℤ, pos, All, ◌+ℤ◌, ◌*ℤ◌, Option, Result, Ok, Err}
+use Rattle.std.specs.Prelude.{◌≡◌, ◌<◌, ◌≤◌, ◌==◌, nat_le, nat_lt, not, filter, zip, if◌then◌else◌, IsTrue, ℕ, zero, suc, ◌+◌, ◌-◌, max, List, [], ◌∷◌, map, take, length, get_or, ◌++◌, option_map, ℤ, pos, All, ◌+ℤ◌, ◌*ℤ◌, Option, Result, Ok, Err}
 use Rattle.pdl_affine.specs.declared.Affine.{Affine}
 use Rattle.pdl_affine.specs.declared.PlanFault.{PlanFault}
 use Rattle.pdl_slices.specs.declared.SliceArg.{SliceArg}
 use Rattle.pdl_slices.specs.declared.SliceArg.TheVariants.{Dummy}
 use Rattle.pdl_affine.specs.declared.forms.Taken.{Taken}
 use Rattle.pdl_affine.specs.declared.forms.Taken.TheVariants.{Kept, Lost, Added}
+use Rattle.pdl_shape.specs.Limits.{checked_dims}
+use Rattle.pdl_shape.specs.Refusals.{Refusal, Refuses}
 use Rattle.pdl_shape.specs.Shape.{IsWithin, extent_limit}
 use Rattle.pdl_affine.specs.Slicing as slicing
 use Rattle.pdl_affine.specs.declared.forms.Form.TheVariants as forms
 use Rattle.pdl_affine.specs.declared.forms.Course.{Course}
-use Rattle.pdl_affine.specs.Views.{Form, sliced, exchanged, shifted, arranged, inserted, joined, squeezed, clumped, lists, lowest_of, kept_dims, is_arrangement, are_same_size, resolved, sizes, form_source, limited, dims}
+use Rattle.pdl_affine.specs.Views.{Form, sliced, exchanged, shifted, arranged, inserted, joined, squeezed, clumped, lists, lowest_of, kept_dims, is_arrangement, are_same_size, resolved, sizes, form_source, refusal_of, dims}
 
 -- what an argument takes, as a line of the definition
 abbrev pub seen : Taken → slicing.Line
@@ -35,14 +37,14 @@ seen_form forms.Squeezed = squeezed
 seen_form (forms.Clumped count) = clumped count
 
 -- what the numbers of a transformation resolve to; want of memory may come at any
-abbrev pub Resolves : Result Form PlanFault → Result forms.the_data PlanFault → Type 0
+abbrev pub Resolves : Result Form Refusal → Result forms.the_data PlanFault → Type 0
 Resolves wanted (Ok form) = wanted ≡ Ok (seen_form form)
-Resolves wanted (Err fault) = fault ≢ PlanFault.NoMemory → wanted ≡ Err fault
+Resolves wanted (Err fault) = Refuses wanted (refusal_of fault)
 
 -- dimensions within the limits, or the refusal; want of memory may come at any
-abbrev pub Limits : Result (List ℕ) PlanFault → Result (List ℕ) PlanFault → Type 0
+abbrev pub Limits : Result (List ℕ) Refusal → Result (List ℕ) PlanFault → Type 0
 Limits wanted (Ok ms) = wanted ≡ Ok ms
-Limits wanted (Err fault) = fault ≢ PlanFault.NoMemory → wanted ≡ Err fault
+Limits wanted (Err fault) = Refuses wanted (refusal_of fault)
 
 -- a plan's form and dimensions are those of its transformation
 pub record IsPlanned (trans : Affine) (ds ms : List ℕ) (form : forms.the_data) : Type 0 where
@@ -90,7 +92,7 @@ Stands (forms.Clumped count) n = count ≤ n
 
 -- the limit that refuses the sizes of a form; want of memory may come at any
 abbrev pub IsLimit : Form → List ℕ → PlanFault → Type 0
-IsLimit form ds fault = fault ≢ PlanFault.NoMemory → limited (sizes form ds) ≡ Err fault
+IsLimit form ds fault = Refuses (checked_dims (sizes form ds)) (refusal_of fault)
 
 -- the sizes with 1 in place of 0
 abbrev pub filled : List ℕ → List ℕ

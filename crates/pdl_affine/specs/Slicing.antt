@@ -1,12 +1,8 @@
 -- What each argument of a slice takes of one dimension of the parent (PDL::Slices).
-use Rattle.std.specs.Prelude.{ℕ, suc, ◌+◌, ◌-◌, ◌*◌, ◌/◌, Bool, true, false, not, ◌&&◌, ◌==◌, nat_lt, nat_le, if◌then◌else◌, List, [], ◌∷◌, map, get_or, drop, ℤ, pos, negsuc, nat_abs, Option, Some, None, is_none, option_map, option_and_then}
+use Rattle.std.specs.Prelude.{ℕ, suc, ◌+◌, ◌-◌, ◌*◌, ◌/◌, Bool, true, false, not, ◌&&◌, ◌==◌, nat_le, if◌then◌else◌, List, [], ◌∷◌, map, get_or, drop, ℤ, pos, negsuc, nat_abs, Option, Some, None, is_none, option_map, option_and_then}
+use Rattle.pdl_shape.specs.Counting.{from_end}
 use Rattle.pdl_slices.specs.declared.SliceArg.{SliceArg}
 use Rattle.pdl_slices.specs.declared.SliceArg.TheVariants.{Whole, One, Dropped, Dummy, Span}
-
--- one of n places by its number: a negative number counts from the end, and there may be no such place
-abbrev pub counted : ℤ → ℕ → Option ℕ
-counted (pos k) n = if nat_lt k n then Some k else None
-counted (negsuc k) n = if nat_lt k n then Some (n - suc k) else None
 
 -- The coordinate along one dimension of the parent: the first one and so many steps, in a dimension of that
 -- size; or always this one, without a dimension; or a new dimension of that size, without a coordinate.
@@ -43,7 +39,7 @@ is_step (Some s) = not (nat_abs s == 0)
 -- an end of a span, or the end that a missing one stands for
 abbrev pub end_of : Option ℤ → ℕ → ℕ → Option ℕ
 end_of None missing n = Some missing
-end_of (Some k) missing n = counted k n
+end_of (Some k) missing n = from_end k n
 
 -- a span in a dimension of size n: missing ends are the first and the last place in the direction of the step,
 -- and without both a dimension of size 0 has none
@@ -56,8 +52,8 @@ spanned from to step n =
 -- what an argument takes of a dimension of size n, or nothing where a number is out of range
 abbrev pub line_of : SliceArg → ℕ → Option Line
 line_of Whole n = Some (kept 0 (pos 1) n)
-line_of (One k) n = option_map (λ f. kept f (pos 1) 1) (counted k n)
-line_of (Dropped k) n = option_map lost (counted k n)
+line_of (One k) n = option_map (λ f. kept f (pos 1) 1) (from_end k n)
+line_of (Dropped k) n = option_map lost (from_end k n)
 line_of (Dummy m) n = Some (added m)
 line_of (Span from to step) n = spanned from to step n
 

@@ -2,14 +2,17 @@
 -- the parent's coordinates for the view's. No line has an offset or an increment.
 use Rattle.std.specs.Prelude.{ℕ, ◌-◌, Bool, true, false, not, ◌&&◌, ◌||◌, ◌==◌, nat_lt, nat_le, if◌then◌else◌, List, [], ◌∷◌, ◌++◌, map, length, get_or, take, drop, replicate, filter, swap, insert, remove, position, ℤ, pos, negsuc, Option, Some, None, option_map, option_and_then, unwrap_or, Result, Ok, Err}
 use Rattle.std.specs.List.{list_any, list_all, range_with_len}
-use Rattle.pdl_shape.specs.Shape.{dims_limit, extent_limit, extent, size_of, coordinates_of}
+use Rattle.pdl_shape.specs.Clump.{clump_count, clump_sizes, clump_source}
+use Rattle.pdl_shape.specs.Counting.{from_end}
+use Rattle.pdl_shape.specs.Limits.{checked_dims}
+use Rattle.pdl_shape.specs.Refusals.{Refusal, bad_dimension, out_of_range, too_many_dims, too_large}
 use Rattle.pdl_affine.specs.declared.Affine.{Affine}
 use Rattle.pdl_affine.specs.declared.Affine.TheVariants as affine
 use Rattle.pdl_affine.specs.declared.PlanFault.{PlanFault}
-use Rattle.pdl_affine.specs.declared.PlanFault.TheVariants.{BadDimension, OutOfRange, TooManyDims, TooLarge}
+use Rattle.pdl_affine.specs.declared.PlanFault.TheVariants.{BadDimension, OutOfRange, TooManyDims, TooLarge, NoMemory}
 use Rattle.pdl_slices.specs.declared.SliceArg.{SliceArg}
 use Rattle.pdl_slices.specs.declared.SliceArg.TheVariants.{Whole, One, Dropped, Dummy, Span}
-use Rattle.pdl_affine.specs.Slicing.{counted, Line, is_step, lines_of, line_sizes, line_sources}
+use Rattle.pdl_affine.specs.Slicing.{Line, is_step, lines_of, line_sizes, line_sources}
 
 -- a transformation whose numbers are resolved against the parent's dimensions
 pub data Form : Type 0 where
@@ -25,7 +28,7 @@ pub data Form : Type 0 where
 -- the dimensions of these numbers, or nothing where there is no such dimension
 abbrev pub all_counted : List ℤ → ℕ → Option (List ℕ)
 all_counted [] n = Some []
-all_counted (k ∷ ks) n = option_and_then (λ i. option_map (λ is. i ∷ is) (all_counted ks n)) (counted k n)
+all_counted (k ∷ ks) n = option_and_then (λ i. option_map (λ is. i ∷ is) (all_counted ks n)) (from_end k n)
 
 -- the number is in the list
 abbrev pub lists : List ℕ → ℕ → Bool
@@ -50,14 +53,10 @@ abbrev pub new_place : ℤ → ℕ → Option ℕ
 new_place (pos p) n = Some p
 new_place (negsuc k) n = if nat_le k n then Some (n - k) else None
 
--- how many dimensions a clump joins: 1 to all of n, or all by -1
-abbrev pub clump_count : ℤ → ℕ → Option ℕ
-clump_count (pos k) n = if nat_le 1 k && nat_le k n then Some k else None
-clump_count (negsuc k) n = if k == 0 then Some n else None
-
-abbrev pub or_fault : PlanFault → Option Form → Result Form PlanFault
-or_fault fault None = Err fault
-or_fault fault (Some form) = Ok form
+-- the form, or this refusal where there is none
+abbrev pub or_refusal : Refusal → Option Form → Result Form Refusal
+or_refusal refusal None = Err refusal
+or_refusal refusal (Some form) = Ok form
 
 -- the form, if the test holds
 abbrev pub when : Bool → Form → Option Form
@@ -70,19 +69,19 @@ inserted_at (Some p) (pos m) = Some (inserted p m)
 inserted_at (Some p) (negsuc m) = None
 
 -- the transformation on a parent of these dimensions, or the refusal of its numbers
-abbrev pub resolved : Affine → List ℕ → Result Form PlanFault
-resolved (affine.Slice args) ds = or_fault OutOfRange (option_map sliced (lines_of args ds))
+abbrev pub resolved : Affine → List ℕ → Result Form Refusal
+resolved (affine.Slice args) ds = or_refusal out_of_range (option_map sliced (lines_of args ds))
 resolved (affine.Xchg a b) ds =
-    or_fault BadDimension (option_and_then (λ i. option_map (λ j. exchanged i j) (counted b (length ds))) (counted a (length ds)))
+    or_refusal bad_dimension (option_and_then (λ i. option_map (λ j. exchanged i j) (from_end b (length ds))) (from_end a (length ds)))
 resolved (affine.Mv a b) ds =
-    or_fault BadDimension (option_and_then (λ i. option_map (λ j. shifted i j) (counted b (length ds))) (counted a (length ds)))
+    or_refusal bad_dimension (option_and_then (λ i. option_map (λ j. shifted i j) (from_end b (length ds))) (from_end a (length ds)))
 resolved (affine.Reorder order) ds =
-    or_fault BadDimension (option_and_then (λ is. when (is_arrangement is (length ds)) (arranged is)) (all_counted order (length ds)))
-resolved (affine.Dummy place size) ds = or_fault BadDimension (inserted_at (new_place place (length ds)) size)
+    or_refusal bad_dimension (option_and_then (λ is. when (is_arrangement is (length ds)) (arranged is)) (all_counted order (length ds)))
+resolved (affine.Dummy place size) ds = or_refusal bad_dimension (inserted_at (new_place place (length ds)) size)
 resolved (affine.Diagonal listed) ds =
-    or_fault BadDimension (option_and_then (λ is. when (is_distinct is && are_same_size is ds) (joined is)) (all_counted listed (length ds)))
+    or_refusal bad_dimension (option_and_then (λ is. when (is_distinct is && are_same_size is ds) (joined is)) (all_counted listed (length ds)))
 resolved affine.Squeeze ds = Ok squeezed
-resolved (affine.Clump count) ds = or_fault BadDimension (option_map clumped (clump_count count (length ds)))
+resolved (affine.Clump count) ds = or_refusal bad_dimension (option_map clumped (clump_count count (length ds)))
 
 -- the dimension of a diagonal that stands for this one: the lowest listed one for each listed one
 abbrev pub lowest_of : List ℕ → ℕ
@@ -110,7 +109,7 @@ sizes (arranged order) ds = map (λ i. get_or ds i 0) order
 sizes (inserted p m) ds = insert (ds ++ replicate (p - length ds) 1) p m
 sizes (joined is) ds = map (λ i. get_or ds i 0) (kept_dims is (length ds))
 sizes squeezed ds = filter (λ d. not (d == 1)) ds
-sizes (clumped n) ds = size_of (take n ds) ∷ drop n ds
+sizes (clumped n) ds = clump_sizes n ds
 
 -- the parent's coordinates for coordinates of the view
 abbrev pub form_source : Form → List ℕ → List ℕ → List ℕ
@@ -122,26 +121,30 @@ form_source (inserted p m) ds cs = take (length ds) (remove cs p)
 form_source (joined is) ds cs =
     map (λ i. get_or cs (length (kept_dims is (if lists is i then lowest_of is else i))) 0) (range_with_len 0 (length ds))
 form_source squeezed ds cs = unsqueezed ds cs
-form_source (clumped n) ds cs = coordinates_of (take n ds) (get_or cs 0 0) ++ drop 1 cs
+form_source (clumped n) ds cs = clump_source n ds cs
 
--- sizes within the limits: not too many, and then of no too large extent
-abbrev pub limited : List ℕ → Result (List ℕ) PlanFault
-limited ds = if nat_lt dims_limit (length ds) then Err TooManyDims else (if nat_lt extent_limit (extent ds) then Err TooLarge else Ok ds)
-
-abbrev pub form_dims : Result Form PlanFault → List ℕ → Result (List ℕ) PlanFault
-form_dims (Err fault) ds = Err fault
-form_dims (Ok form) ds = limited (sizes form ds)
+abbrev pub form_dims : Result Form Refusal → List ℕ → Result (List ℕ) Refusal
+form_dims (Err refusal) ds = Err refusal
+form_dims (Ok form) ds = checked_dims (sizes form ds)
 
 -- the dimensions of the view that a transformation makes on a parent of these dimensions, or the first refusal
-abbrev pub dims : Affine → List ℕ → Result (List ℕ) PlanFault
+abbrev pub dims : Affine → List ℕ → Result (List ℕ) Refusal
 dims trans ds = form_dims (resolved trans ds) ds
 
 -- the parent's coordinates for coordinates of the view
 abbrev pub source : Affine → List ℕ → List ℕ → List ℕ
 source trans ds cs = source_by (resolved trans ds) where
-  source_by : Result Form PlanFault → List ℕ
-  source_by (Err fault) = []
+  source_by : Result Form Refusal → List ℕ
+  source_by (Err refusal) = []
   source_by (Ok form) = form_source form ds cs
+
+-- the refusal that a fault names, if it names one
+abbrev pub refusal_of : PlanFault → Option Refusal
+refusal_of BadDimension = Some bad_dimension
+refusal_of OutOfRange = Some out_of_range
+refusal_of TooManyDims = Some too_many_dims
+refusal_of TooLarge = Some too_large
+refusal_of NoMemory = None
 
 -- the span's step isn't 0
 abbrev pub steps_on : SliceArg → Bool

@@ -5,7 +5,7 @@ use Rattle.std.specs.Ordering.{int_eq}
 use Rattle.pdl_shape.specs.Shape.{size_of, IsWithin}
 use Rattle.pdl_shape.specs.Triple.{Triple, place_of}
 use Rattle.pdl_affine.specs.declared.Affine.{Affine}
-use Rattle.pdl_affine.specs.declared.PlanFault.{PlanFault}
+use Rattle.pdl_shape.specs.Refusals.{Refusal}
 use Rattle.pdl_affine.specs.Views.{Form, sliced, exchanged, shifted, arranged, inserted, joined, squeezed, clumped, resolved, sizes, form_source, source}
 
 -- each next increment is the one before times its size
@@ -59,8 +59,8 @@ windowed form over = if is_window form over then Some (shown (form_place form ov
 
 abbrev pub composed : Affine → Triple → Option Triple
 composed trans over = window (resolved trans over.dims) where
-  window : Result Form PlanFault → Option Triple
-  window (Err fault) = None
+  window : Result Form Refusal → Option Triple
+  window (Err refusal) = None
   window (Ok form) = windowed form over
 
 -- the place over the base of the parent's coordinates that a view's coordinates stand for

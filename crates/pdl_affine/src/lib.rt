@@ -6,7 +6,7 @@ mod composing;
 mod courses;
 mod forms;
 mod joining;
-mod numbers;
+mod laws;
 mod planning;
 mod resolving;
 mod sizing;
@@ -16,10 +16,15 @@ mod tests;
 
 ghost use Rattle.std.specs.Prelude.{◌≡◌};
 
-pub use numbers::Numbers;
+pub use laws::view_laws;
+use pdl_elem::Items;
 use pdl_slices::SliceArgs;
 pub use planning::{AffinePlan, compose, copy_affine, plan, plan_dims};
 use std::alloc::AllocError;
+
+/// Numbers of a transformation, in order: dimensions, of which a negative one counts from the end, or
+/// index values and sizes. Contracts see the list.
+pub type Numbers = Items<i64>;
 
 /// How a view shows its parent. A number of a dimension that is negative counts from the end.
 #[derive(Debug, Drop)]

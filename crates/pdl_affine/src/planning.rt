@@ -1,11 +1,12 @@
 //! Plans of views.
 ghost use Rattle.std.specs.Prelude.{◌≡◌, ◌≢◌, IfOk, IfErr, OnOk, IsOk, IsTrue, Ok, Err, length, IfSome, IsSome};
-ghost use Rattle.pdl_affine.specs.Views.{dims, is_well_formed, limited, sizes};
+ghost use Rattle.pdl_affine.specs.Views.{dims, is_well_formed, refusal_of, sizes};
 ghost use Rattle.pdl_shape.specs.Triple.{whole};
 ghost use Rattle.pdl_affine.specs.Windows.{composed, base_place, Shows, LiesIn};
 ghost use Rattle.pdl_affine.specs.Courses.{seen_form, Stands, Limits};
 ghost use Rattle.pdl_shape.specs.Shape.{IsDims};
-ghost use Rattle.pdl_affine.specs.declared.PlanFault.{PlanFault};
+ghost use Rattle.pdl_shape.specs.Limits.{checked_dims};
+ghost use Rattle.pdl_shape.specs.Refusals.{Refuses};
 
 use crate::composing::window;
 use crate::forms::Form;
@@ -64,7 +65,7 @@ pub fn copy_affine(alloc: Global, trans: &Affine) -> Result<Affine, AllocError>
         Affine::Xchg(a, b) => Ok(Affine::Xchg(*a, *b)),
         Affine::Mv(a, b) => Ok(Affine::Mv(*a, *b)),
         Affine::Reorder(order) => {
-            let copy = Numbers::from_slice(alloc, order.as_slice())?;
+            let copy = Numbers::new(Vec::from_slice(alloc, order.as_slice())?);
             Ok(Affine::Reorder(copy))
         }
         Affine::Dummy { place, size } => Ok(Affine::Dummy {
@@ -72,7 +73,7 @@ pub fn copy_affine(alloc: Global, trans: &Affine) -> Result<Affine, AllocError>
             size: *size,
         }),
         Affine::Diagonal(listed) => {
-            let copy = Numbers::from_slice(alloc, listed.as_slice())?;
+            let copy = Numbers::new(Vec::from_slice(alloc, listed.as_slice())?);
             Ok(Affine::Diagonal(copy))
         }
         Affine::Squeeze => Ok(Affine::Squeeze),
@@ -87,7 +88,7 @@ pub fn plan(alloc: Global, trans: &Affine, parent: &Dims) -> Result<AffinePlan, 
 
     ensures planned { IfOk result (λ plan. plan ≡ record { trans = trans.now; parent = parent.now }) }
     ensures fits { OnOk result (IsOk (dims trans.now parent.now)) }
-    ensures refused { IfErr result (λ fault. fault ≢ PlanFault.NoMemory → dims trans.now parent.now ≡ Err fault) }
+    ensures refused { IfErr result (λ fault. Refuses (dims trans.now parent.now) (refusal_of fault)) }
 {
     let sizes = dims_list(parent);
     let form = resolve(alloc, trans, sizes)?;
@@ -105,7 +106,7 @@ pub fn plan(alloc: Global, trans: &Affine, parent: &Dims) -> Result<AffinePlan, 
 fn sized(alloc: Global, form: &Form, parent: &[u32]) -> Result<Dims, PlanFault>
     requires stands { Stands form.now (length parent.now) }
     requires limits { IsDims parent.now }
-    ensures { Limits (limited (sizes (seen_form form.now) parent.now)) result }
+    ensures { Limits (checked_dims (sizes (seen_form form.now) parent.now)) result }
 {
     let sizes = sizes_of(alloc, form, parent)?;
     limited(alloc, &sizes)

@@ -2,13 +2,14 @@
 ghost use Rattle.std.specs.Prelude.{◌≡◌, ◌≢◌, ◌<◌, ◌^◌, length, get_or, ◌==◌, ◌≤◌, IsTrue, IfSome, IfOk, IfErr, OnOk, List, None, Some, [], ◌∷◌, ◌++◌};
 ghost use Rattle.std.specs.List.{list_all, range_with_len};
 ghost use Rattle.pdl_affine.specs.Courses.{AreSmall, Resolves, Stands};
-ghost use Rattle.pdl_affine.specs.Views.{all_counted, lists, is_distinct, is_arrangement, are_same_size, new_place, clump_count, resolved, steps_on, is_well_formed};
+ghost use Rattle.pdl_affine.specs.Views.{all_counted, lists, is_distinct, is_arrangement, are_same_size, new_place, refusal_of, resolved, steps_on, is_well_formed};
 ghost use Rattle.pdl_affine.specs.declared.Affine.{Affine};
-ghost use Rattle.pdl_affine.specs.declared.PlanFault.{PlanFault};
+ghost use Rattle.pdl_shape.specs.Refusals.{bad_dimension};
 
 use crate::forms::Form;
-use crate::slicing::{counted, taken_of};
+use crate::slicing::taken_of;
 use crate::{Affine, PlanFault};
+use pdl_shape::{clump_count, from_end};
 use pdl_slices::SliceArg;
 use std::alloc::{AllocError, Global};
 
@@ -25,7 +26,7 @@ fn xchg(a: i64, b: i64, parent: &[u32]) -> Result<Form, PlanFault>
     ensures form { Resolves (resolved (Affine.Xchg a b) parent.now) result }
     ensures stands { IfOk result (λ form. Stands form (length parent.now)) }
 {
-    match (counted(a, parent.len()), counted(b, parent.len())) {
+    match (from_end(a, parent.len()), from_end(b, parent.len())) {
         (Some(a), Some(b)) => Ok(Form::Exchanged(a, b)),
         _ => Err(PlanFault::BadDimension),
     }
@@ -35,7 +36,7 @@ fn mv(a: i64, b: i64, parent: &[u32]) -> Result<Form, PlanFault>
     ensures form { Resolves (resolved (Affine.Mv a b) parent.now) result }
     ensures stands { IfOk result (λ form. Stands form (length parent.now)) }
 {
-    match (counted(a, parent.len()), counted(b, parent.len())) {
+    match (from_end(a, parent.len()), from_end(b, parent.len())) {
         (Some(a), Some(b)) => Ok(Form::Shifted(a, b)),
         _ => Err(PlanFault::BadDimension),
     }
@@ -51,11 +52,11 @@ fn put(places: &mut Vec<usize>, place: usize) -> Result<(), AllocError>
 /// The places of these numbers among so many dimensions.
 fn all_counted(alloc: Global, numbers: &[i64], count: usize) -> Result<Vec<usize>, PlanFault>
     ensures ok { IfOk result (λ places. all_counted numbers.now count ≡ Some places.items) }
-    ensures err { IfErr result (λ fault. fault ≢ PlanFault.NoMemory → (fault ≡ PlanFault.BadDimension) × (all_counted numbers.now count ≡ None)) }
+    ensures err { IfErr result (λ fault. IfSome (refusal_of fault) (λ refusal. (refusal ≡ bad_dimension) × (all_counted numbers.now count ≡ None))) }
 {
     let mut places = Vec::new(alloc);
     for number in numbers {
-        match counted(*number, count) {
+        match from_end(*number, count) {
             Some(place) => put(&mut places, place)?,
             None => return Err(PlanFault::BadDimension),
         }
@@ -173,24 +174,6 @@ fn dummy(place: i64, size: i64, parent: &[u32]) -> Result<Form, PlanFault>
             size: size as u64,
         }),
         _ => Err(PlanFault::BadDimension),
-    }
-}
-
-fn clump_count(count: i64, dims: usize) -> Option<usize>
-    ensures count { result ≡ clump_count count dims }
-    ensures within { IfSome result (λ joined. joined ≤ dims) }
-{
-    if count >= 0 {
-        let count = count as usize;
-        if 1 <= count && count <= dims {
-            Some(count)
-        } else {
-            None
-        }
-    } else if count == -1 {
-        Some(dims)
-    } else {
-        None
     }
 }
 

@@ -1,8 +1,9 @@
 //! The sizes of a view's dimensions.
 ghost use Rattle.std.specs.Prelude.{◌≡◌, ◌<◌, ◌≤◌, ◌||◌, ◌==◌, ◌-◌, not, length, map, filter, get_or, replicate, insert, IfErr, IfOk, OnOk, [], ◌∷◌, ◌++◌};
 ghost use Rattle.pdl_affine.specs.Slicing.{line_sizes};
-ghost use Rattle.pdl_affine.specs.Courses.{seen_all, seen_form, Stands, IsLimit};
-ghost use Rattle.pdl_affine.specs.Views.{exchanged, shifted, inserted, joined, squeezed, clumped, lists, lowest_of, kept_dims, sizes, limited};
+ghost use Rattle.pdl_affine.specs.Courses.{seen_all, seen_form, Stands, IsLimit, Limits};
+ghost use Rattle.pdl_affine.specs.Views.{exchanged, shifted, inserted, joined, squeezed, clumped, lists, lowest_of, kept_dims, sizes};
+ghost use Rattle.pdl_shape.specs.Limits.{checked_dims};
 ghost use Rattle.pdl_shape.specs.Shape.{IsDims};
 
 use crate::PlanFault;
@@ -201,11 +202,12 @@ pub fn sizes_of(alloc: Global, form: &Form, parent: &[u32]) -> Result<Vec<u32>, 
 
 /// The dimensions of these sizes, if they are within the limits.
 pub fn limited(alloc: Global, sizes: &[u32]) -> Result<Dims, PlanFault>
-    ensures { result ≡ limited sizes.now }
+    ensures { Limits (checked_dims sizes.now) result }
 {
     match dims_of(alloc, sizes) {
         Ok(dims) => Ok(dims),
         Err(ShapeFault::TooManyDims) => Err(PlanFault::TooManyDims),
-        Err(ShapeFault::TooLarge | ShapeFault::Mismatch) => Err(PlanFault::TooLarge),
+        Err(ShapeFault::TooLarge) => Err(PlanFault::TooLarge),
+        Err(ShapeFault::Mismatch) => unreachable!(),
     }
 }

@@ -1,47 +1,25 @@
 //! What slice arguments take of each dimension (PDL::Slices).
 ghost use Rattle.std.specs.Prelude.{◌≡◌, ◌<◌, ◌≤◌, ◌^◌, length, map, option_map, Some, IfOk, IfErr, IfSome, OnOk, ◌++◌, ◌∷◌, [], IsTrue, None, ◌≢◌, take, drop, ℕ, List};
-ghost use Rattle.pdl_affine.specs.Slicing.{counted, end_of, span_line, falls, is_step, spanned, line_of, lines_of};
+ghost use Rattle.pdl_shape.specs.Counting.{from_end};
+ghost use Rattle.pdl_shape.specs.Refusals.{out_of_range};
+ghost use Rattle.pdl_affine.specs.Slicing.{end_of, span_line, falls, is_step, spanned, line_of, lines_of};
 ghost use Rattle.pdl_affine.specs.Courses.{seen, seen_all, size_for, sizes_after, AreSmall, wholes};
-ghost use Rattle.pdl_affine.specs.Views.{steps_on};
-ghost use Rattle.pdl_affine.specs.declared.PlanFault.{PlanFault};
+ghost use Rattle.pdl_affine.specs.Views.{refusal_of, steps_on};
 ghost use Rattle.std.specs.List.{list_all};
 
 use crate::PlanFault;
 use crate::forms::Taken;
+use pdl_shape::from_end;
 use pdl_slices::SliceArg;
 use std::alloc::{AllocError, Global};
 
-/// One of `count` places by its number; a negative number counts from the end.
-pub fn counted(number: i64, count: usize) -> Option<usize>
-    ensures place { result ≡ counted number count }
-    ensures within { IfSome result (λ place. place < count) }
-{
-    if number >= 0 {
-        let place = number as usize;
-        if place < count { Some(place) } else { None }
-    } else {
-        let back = number.unsigned_abs() as usize;
-        if back <= count {
-            Some(count - back)
-        } else {
-            None
-        }
-    }
-}
-
+/// The one of `size` places that `number` stands for.
 fn place_of(number: i32, size: u32) -> Option<u32>
-    ensures { result ≡ counted number size }
+    ensures { result ≡ from_end number size }
 {
-    if number >= 0 {
-        let place = number as u32;
-        if place < size { Some(place) } else { None }
-    } else {
-        let back = number.unsigned_abs();
-        if back <= size {
-            Some(size - back)
-        } else {
-            None
-        }
+    match from_end(i64::from(number), size as usize) {
+        Some(place) => Some(place as u32),
+        None => None,
     }
 }
 
@@ -157,7 +135,7 @@ pub fn taken_of(alloc: Global, args: &[SliceArg], parent: &[u32]) -> Result<Vec<
     requires small { AreSmall parent.now }
     requires moves { IsTrue (list_all steps_on args.now) }
     ensures ok { IfOk result (λ ts. lines_of args.now parent.now ≡ Some (seen_all ts.items)) }
-    ensures err { IfErr result (λ fault. fault ≢ PlanFault.NoMemory → (fault ≡ PlanFault.OutOfRange) × (lines_of args.now parent.now ≡ None)) }
+    ensures err { IfErr result (λ fault. IfSome (refusal_of fault) (λ refusal. (refusal ≡ out_of_range) × (lines_of args.now parent.now ≡ None))) }
 {
     let mut taken = Vec::new(alloc);
     let mut rest = parent;

@@ -130,7 +130,7 @@ fn new_and_joined_dimensions(rt: HostRuntime) {
 }
 
 fn reorder(rt: &impl Abort, alloc: Global, order: &[i64], row: Row<'_>) -> Result<(), Fail> {
-    let order = Numbers::from_slice(alloc, order)?;
+    let order = Numbers::new(Vec::from_slice(alloc, order)?);
     check(rt, alloc, &Affine::Reorder(order), row);
     Ok(())
 }
@@ -160,9 +160,9 @@ fn diagonal(
     rest: &[i64],
     row: Row<'_>,
 ) -> Result<(), Fail> {
-    let mut listed = Numbers::from_slice(alloc, rest)?;
+    let mut listed = Vec::from_slice(alloc, rest)?;
     listed.push(first)?;
-    check(rt, alloc, &Affine::Diagonal(listed), row);
+    check(rt, alloc, &Affine::Diagonal(Numbers::new(listed)), row);
     Ok(())
 }
 
@@ -533,7 +533,7 @@ fn listed_windows(rt: HostRuntime) -> Result<(), Fail> {
             (0, [].as_slice(), [].as_slice()),
         ),
     ] {
-        let order = Numbers::from_slice(alloc, order)?;
+        let order = Numbers::new(Vec::from_slice(alloc, order)?);
         shown(&rt, first(&rt, alloc, sizes, &Affine::Reorder(order)), want);
     }
     for (sizes, listed, want) in [
@@ -553,8 +553,9 @@ fn listed_windows(rt: HostRuntime) -> Result<(), Fail> {
             (0, [13, 3].as_slice(), [3, 4].as_slice()),
         ),
     ] {
-        let mut listed = Numbers::from_slice(alloc, listed)?;
+        let mut listed = Vec::from_slice(alloc, listed)?;
         listed.push(0)?;
+        let listed = Numbers::new(listed);
         shown(
             &rt,
             first(&rt, alloc, sizes, &Affine::Diagonal(listed)),

@@ -24,7 +24,7 @@ fn sum_of(choice: Result<Choice, ChoiceFault>) -> io::Result<u64> {
     match choice {
         Ok(choice) => {
             let mut sum: u64 = 0;
-            for place in &choice.places {
+            for place in choice.places.as_slice() {
                 sum = sum.wrapping_add(u64::from(place.unwrap_or(0)));
             }
             Ok(sum)

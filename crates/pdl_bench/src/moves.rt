@@ -1,6 +1,6 @@
 //! Moving elements between buffers.
 ghost use Rattle.std.specs.Prelude.{◌≡◌, ◌≤◌, length, IfOk, All};
-ghost use Rattle.pdl_elem.specs.Places.{AllBelow};
+ghost use Rattle.pdl_shape.specs.Places.{AllBelow};
 ghost use Rattle.pdl_elem.specs.Types.{InRange};
 
 use crate::arrays::{filled, numbers, shape, window};

@@ -2,3 +2,5 @@ pub mod Walking
 pub mod Lists
 pub mod Ordered
 pub mod Wholes
+pub mod Runs
+pub mod Stretches

@@ -5,10 +5,10 @@ use Rattle.std.proofs.lemmas.List.{at_drop_more, drop_all}
 use Rattle.std.proofs.Math.Nat.{mul-le-mul, mul-le-mul_left, mul_assoc}
 use Rattle.std.specs.Int.RustNames.{unsigned_abs}
 use Rattle.pdl_shape.specs.Shape.{extent, size_of, coordinates_of, position_of}
-use Rattle.pdl_shape.specs.Triple.{Triple, IsTriple, moved}
+use Rattle.pdl_shape.specs.Triple.{Triple, IsTriple, moved, Reaches}
 use Rattle.pdl_shape.proofs.Extents.{extent_positive}
 use Rattle.pdl_shape.proofs.Positions.{coordinates_within, position-coordinates}
-use Rattle.pdl_buf.specs.Window.{IsInOrder, Reaches, place_at}
+use Rattle.pdl_buf.specs.Window.{IsInOrder, place_at}
 use Rattle.pdl_buf.proofs.Walking.{IsShown, shown_at}
 
 -- the place of an element in order is the offset and its position, and lies in the buffer
@@ -17,7 +17,7 @@ pub record IsRead (t : Triple) (offset length p : ℕ) : Type 0 where
   pub below : offset + p < length
   pub small : offset + p < 1048576
 
-in_order_at : (t : Triple) (p : ℕ) → IsInOrder 1 t.incs t.dims → p < size_of t.dims → place_at t p ≡ t.offset + p
+pub in_order_at : (t : Triple) (p : ℕ) → IsInOrder 1 t.incs t.dims → p < size_of t.dims → place_at t p ≡ t.offset + p
 in_order_at t p o h =
     let e : moved t.incs (coordinates_of t.dims p) ≡ pos (1 * position_of t.dims (coordinates_of t.dims p)) = o (coordinates_of t.dims p) (coordinates_within t.dims p h) in
     ap (λ m. unsigned_abs (pos t.offset +ℤ m)) e ∙ ap (λ k. t.offset + 1 * k) (position-coordinates t.dims p h) ∙ omega arith

@@ -9,15 +9,19 @@ mod buffer;
 mod lending;
 mod made;
 mod moves;
+mod reads;
 mod steps;
+mod stretching;
 mod window;
 
 pub use buffer::{Buf, buf_get, buf_of, buf_set};
 pub use lending::strided;
 pub use made::{Elements, Made};
 pub use moves::{gather, scatter};
+pub use reads::strided_read;
 pub use std::alloc::AllocError as NoMemory;
 pub use steps::{Steps, new_steps, tick};
+pub use stretching::stretched;
 pub use window::{Strided, strided_dims, strided_get, strided_type};
 
 #[cfg(test)]

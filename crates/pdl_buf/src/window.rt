@@ -1,9 +1,9 @@
 //! Windows on a buffer: the elements that a triple shows.
-ghost use Rattle.std.specs.Prelude.{◌≡◌, ◌<◌, ◌≤◌, ◌+ℤ◌, ℤ, pos, length, get_or, unsigned_abs};
+ghost use Rattle.std.specs.Prelude.{◌≡◌, ◌<◌, ◌≤◌, ◌%◌, ◌/◌, ◌+ℤ◌, ℤ, pos, length, get_or, unsigned_abs};
 ghost use Rattle.pdl_elem.specs.Types.{InRange};
 ghost use Rattle.pdl_shape.specs.Shape.{IsDims, coordinates_of, size_of};
-ghost use Rattle.pdl_shape.specs.Triple.{moved};
-ghost use Rattle.pdl_buf.specs.Window.{IsInOrder, Reaches, place_at};
+ghost use Rattle.pdl_shape.specs.Triple.{IsTriple, Reaches, moved};
+ghost use Rattle.pdl_buf.specs.Window.{IsInOrder, place_at};
 
 use crate::buffer::{Buf, buf_get};
 use pdl_elem::Ty;
@@ -49,6 +49,26 @@ pub fn strided_type(from: &Strided<'_>) -> Ty
     buf.ty
 }
 
+/// The coordinate along a dimension of this size. Below the size it takes no division.
+fn coordinate_at(position: u32, size: u32) -> u32
+    requires { 0 < size }
+    ensures { result ≡ position % size }
+{
+    if position < size {
+        position
+    } else {
+        position % size
+    }
+}
+
+/// The position in the dimensions after one of this size.
+fn left_after(position: u32, size: u32) -> u32
+    requires { 0 < size }
+    ensures { result ≡ position / size }
+{
+    if position < size { 0 } else { position / size }
+}
+
 /// The buffer's place at a position of the dimensions, from an offset on.
 fn place_of_position(offset: u32, sizes: &[u32], incs: &[i32], position: u32) -> i64
     requires paired { length incs.now ≡ length sizes.now }
@@ -59,11 +79,24 @@ fn place_of_position(offset: u32, sizes: &[u32], incs: &[i32], position: u32) ->
     let mut place = i64::from(offset);
     let mut rest = position;
     for (i, size) in sizes.iter().enumerate() {
-        let step = i64::from(incs[i]) * i64::from(rest % *size);
+        let coordinate = coordinate_at(rest, *size);
+        rest = left_after(rest, *size);
+        let step = i64::from(incs[i]) * i64::from(coordinate);
         place += step;
-        rest /= *size;
     }
     place
+}
+
+/// The buffer's place at a position of the triple's dimensions.
+pub(crate) fn place_of(triple: &Triple, position: u32) -> u32
+    requires { position < size_of triple.now.dims }
+    ensures place { result ≡ place_at triple.now position }
+    ensures sound { IsTriple triple.now }
+{
+    let sizes = dims_list(&triple.dims);
+    let incs = incs_list(&triple.incs);
+    let place = place_of_position(triple.offset, sizes, incs, position);
+    place as u32
 }
 
 /// The buffer's element at a position of the triple's dimensions.
@@ -73,10 +106,7 @@ fn element_of(buf: &Buf, triple: &Triple, position: u32) -> i64
     ensures value { result ≡ get_or buf.now.elems (place_at triple.now position) (pos 0) }
     ensures in_range { InRange buf.now.ty result }
 {
-    let sizes = dims_list(&triple.dims);
-    let incs = incs_list(&triple.incs);
-    let place = place_of_position(triple.offset, sizes, incs, position);
-    buf_get(buf, place as u32)
+    buf_get(buf, place_of(triple, position))
 }
 
 /// The buffer's element at a position of a triple that shows neighbours in order.

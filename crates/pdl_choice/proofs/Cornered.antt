@@ -9,7 +9,7 @@ use Rattle.std.proofs.lemmas.Nat.{mod_below, div-add-mod'}
 use Rattle.pdl_shape.specs.Shape.{size_of, position_of, coordinates_of}
 use Rattle.pdl_shape.proofs.Positions.{position-coordinates}
 use Rattle.pdl_choice.specs.declared.edges.Edge.{Edge}
-use Rattle.pdl_choice.specs.Choice.{places_of}
+use Rattle.pdl_shape.specs.Places.{places_of}
 use Rattle.pdl_choice.specs.Range.{corner_len, corner_at, inner_dims, windowed_dims, window_sizes, window_source, range_source}
 use Rattle.pdl_choice.proofs.Bounds.{corner_fits}
 use Rattle.pdl_choice.proofs.Placed.{map-range_same}

@@ -13,3 +13,4 @@ pub mod Ranged
 pub mod Edged
 pub mod Inside
 pub mod MovingOn
+pub mod Rising

@@ -1,5 +1,5 @@
 -- Sizes that stand within the limits of an array.
-use Rattle.std.proofs.Common.{◌≡◌, ◌≢◌, ◌⊎◌, inl, inr, ℕ, ◌*◌, ◌<◌, ◌≤◌, max, min, true, false, nat_lt, List, [], ◌∷◌, ◌++◌, length, length-append, length-drop, take, drop, map, refl, ap, sym, ◌∙◌, arith, Result, Ok, Err, IfOk, IfErr}
+use Rattle.std.proofs.Common.{subst, ◌≡◌, ◌⊎◌, inl, inr, ℕ, ◌*◌, ◌<◌, ◌≤◌, max, min, true, false, nat_lt, List, [], ◌∷◌, ◌++◌, length, length-append, length-drop, take, drop, map, refl, ap, sym, ◌∙◌, arith, Result, Ok, Err, IfOk, IfErr}
 use Rattle.std.proofs.Math.Nat.{mul-le-mul, mul_assoc}
 use Rattle.std.proofs.lemmas.Bool.{cases_lt}
 use Rattle.std.proofs.lemmas.Bool.Decides.{nat_tests}
@@ -7,9 +7,10 @@ use Rattle.std.proofs.lemmas.List.{take-append-drop, length-map}
 use Rattle.pdl_shape.specs.Shape.{IsDims, dims_limit, extent, extent_limit, size_of}
 use Rattle.pdl_shape.specs.Limits.{checked_dims}
 use Rattle.pdl_shape.proofs.Extents.{extent_positive, size_le-extent}
+use Rattle.pdl_shape.specs.Refusals.{Refusal, Refuses, too_large}
 use Rattle.pdl_choice.specs.declared.answers.ChoiceFault.{ChoiceFault}
-use Rattle.pdl_choice.specs.declared.answers.ChoiceFault.TheVariants.{TooLarge, NoMemory}
-use Rattle.pdl_choice.specs.Choice.{within_limits}
+use Rattle.pdl_choice.specs.Choice.{Makes, refusal_of}
+use Rattle.pdl_shape.specs.Limits.{checked_dims}
 use Rattle.pdl_choice.specs.Range.{capped}
 
 pub extent-append : (xs ys : List ℕ) → extent (xs ++ ys) ≡ extent xs * extent ys
@@ -60,14 +61,8 @@ checked_dims-fits ds limits =
     let small : nat_lt extent_limit (extent ds) ≡ false = grind (arith, nat_tests, limits.within) in
     rw few (rw small refl)
 
-pub within_limits-fits : (ds : List ℕ) → IsDims ds → within_limits ds ≡ Ok ds
-within_limits-fits ds limits =
-    let few : nat_lt dims_limit (length ds) ≡ false = grind (arith, nat_tests, limits.count) in
-    let small : nat_lt extent_limit (extent ds) ≡ false = grind (arith, nat_tests, limits.within) in
-    rw few (rw small refl)
-
-pub within_limits-large : (ds : List ℕ) → length ds ≤ dims_limit → extent_limit < extent ds → within_limits ds ≡ Err TooLarge
-within_limits-large ds count past =
+pub checked_dims-large : (ds : List ℕ) → length ds ≤ dims_limit → extent_limit < extent ds → checked_dims ds ≡ Err too_large
+checked_dims-large ds count past =
     let few : nat_lt dims_limit (length ds) ≡ false = grind (arith, nat_tests) in
     let large : nat_lt extent_limit (extent ds) ≡ true = grind (arith, nat_tests) in
     rw few (rw large refl)
@@ -102,7 +97,7 @@ capped_cases (w ∷ ws) =
       | inr fits ↦ capped_more w ws fits (capped_cases ws)
     ]
 
-same_refusal : (xs ys : List ℕ) → length xs ≡ length ys → extent_limit < extent xs → extent_limit < extent ys → within_limits xs ≡ within_limits ys
+same_refusal : (xs ys : List ℕ) → length xs ≡ length ys → extent_limit < extent xs → extent_limit < extent ys → checked_dims xs ≡ checked_dims ys
 same_refusal xs ys same past_xs past_ys =
     let large_xs : nat_lt extent_limit (extent xs) ≡ true = grind (arith, nat_tests) in
     let large_ys : nat_lt extent_limit (extent ys) ≡ true = grind (arith, nat_tests) in
@@ -114,18 +109,18 @@ past_middle xs ys zs past =
     omega (arith, whole, one_factor (extent ys) (extent zs) (extent_positive zs), other_factor (extent xs) (extent ys * extent zs) (extent_positive xs))
 
 -- the limits refuse sizes alike where some stand at the largest number
-pub within_limits-capped : (xs ws zs : List ℕ) → within_limits (xs ++ (map capped ws ++ zs)) ≡ within_limits (xs ++ (ws ++ zs))
-within_limits-capped xs ws zs = elim (capped_cases ws) [
-  | inl same ↦ ap (λ (us : List ℕ). within_limits (xs ++ (us ++ zs))) same
+pub checked_dims-capped : (xs ws zs : List ℕ) → checked_dims (xs ++ (map capped ws ++ zs)) ≡ checked_dims (xs ++ (ws ++ zs))
+checked_dims-capped xs ws zs = elim (capped_cases ws) [
+  | inl same ↦ ap (λ (us : List ℕ). checked_dims (xs ++ (us ++ zs))) same
   | inr both ↦ same_refusal (xs ++ (map capped ws ++ zs)) (xs ++ (ws ++ zs))
       (omega (arith, length-append xs (map capped ws ++ zs), length-append (map capped ws) zs, length-append xs (ws ++ zs), length-append ws zs, length-map ws capped))
       (past_middle xs (map capped ws) zs both.1) (past_middle xs ws zs both.0)
 ]
 
-pub ok_of : (r w : Result (List ℕ) ChoiceFault) → r ≡ w → IfOk r (λ ds. w ≡ Ok ds)
-ok_of (Ok ds) w is = sym is
-ok_of (Err f) w is = tt
+pub ok_of : (w v : Result (List ℕ) Refusal) (r : Result (List ℕ) ChoiceFault) → Makes w r → w ≡ v → IfOk r (λ ds. v ≡ Ok ds)
+ok_of w v (Ok ds) is same = sym same ∙ is
+ok_of w v (Err f) is same = tt
 
-pub err_of : (r w : Result (List ℕ) ChoiceFault) → r ≡ w → IfErr r (λ f. f ≢ NoMemory → w ≡ Err f)
-err_of (Ok ds) w is = tt
-err_of (Err f) w is = λ _. sym is
+pub err_of : (w v : Result (List ℕ) Refusal) (r : Result (List ℕ) ChoiceFault) → Makes w r → w ≡ v → IfErr r (λ f. Refuses v (refusal_of f))
+err_of w v (Ok ds) is same = tt
+err_of w v (Err f) is same = subst (λ u. Refuses u (refusal_of f)) same is

@@ -8,8 +8,9 @@ use Rattle.std.proofs.lemmas.List.FromFn.{fill_by_all, get_or-map-range_with_len
 use Rattle.std.proofs.lemmas.Nat.{div_below, mod_below, div-add-mod'}
 use Rattle.pdl_shape.specs.Shape.{size_of, position_of, coordinates_of}
 use Rattle.pdl_shape.proofs.Positions.{position-coordinates}
-use Rattle.pdl_choice.specs.Choice.{places_of}
-use Rattle.pdl_choice.specs.Clump.{clump_len, clump_source}
+use Rattle.pdl_shape.specs.Places.{places_of}
+use Rattle.pdl_shape.specs.Clump.{clump_count}
+use Rattle.pdl_choice.specs.Clump.{clumped_source}
 use Rattle.pdl_choice.specs.Where.{is_set, which, where_source}
 use Rattle.pdl_choice.proofs.Positions.{position_of-append, size_of-append, length-coordinates_of}
 
@@ -34,11 +35,11 @@ clump_place front back p within =
     positive_left (suc n) m p h = omega arith
 
 -- a clump has each place of its parent once, in order
-pub clump_places : (parent : List ℕ) (count : ℤ) (n total : ℕ) → Some n ≡ clump_len (length parent) count → total ≡ size_of parent
-    → map (λ (p : ℕ). Some p) (range_with_len 0 total) ≡ places_of (size_of (take n parent) ∷ drop n parent) parent (λ at. Some (clump_source parent count at))
+pub clump_places : (parent : List ℕ) (count : ℤ) (n total : ℕ) → Some n ≡ clump_count count (length parent) → total ≡ size_of parent
+    → map (λ (p : ℕ). Some p) (range_with_len 0 total) ≡ places_of (size_of (take n parent) ∷ drop n parent) parent (λ at. Some (clumped_source parent count at))
 clump_places parent count n total is whole =
     let split : size_of (take n parent) * size_of (drop n parent) ≡ size_of parent = sym (size_of-append (take n parent) (drop n parent)) ∙ ap size_of (take-append-drop n parent) in
-    let joined : unwrap_or (clump_len (length parent) count) 0 ≡ n = sym (ap (λ (o : Option ℕ). unwrap_or o 0) is) in
+    let joined : unwrap_or (clump_count count (length parent)) 0 ≡ n = sym (ap (λ (o : Option ℕ). unwrap_or o 0) is) in
     let place : ℕ → ℕ → Option ℕ = λ m p. Some (position_of parent (coordinates_of (take m parent) (p % size_of (take n parent)) ++ coordinates_of (drop n parent) (p / size_of (take n parent)))) in
     ap (λ m. map (λ (p : ℕ). Some p) (range_with_len 0 m)) (whole ∙ sym split)
     ∙ map-range_same (λ (p : ℕ). Some p) (place n) (size_of (take n parent) * size_of (drop n parent)) None
@@ -60,7 +61,7 @@ pub which_below_length : (mask : List ℤ) (k : ℕ) → k < length (which mask)
 which_below_length mask k h = filtered_below (λ p. is_set (get_or mask p (pos 0))) 0 (length mask) (length mask) (omega arith) k h
 
 -- a view of places has each of them, in order
-listed_places : (parent places : List ℕ) → ((k : ℕ) → k < length places → get_or places k 0 < size_of parent)
+pub listed_places : (parent places : List ℕ) → ((k : ℕ) → k < length places → get_or places k 0 < size_of parent)
     → map (λ (p : ℕ). Some p) places ≡ places_of (length places ∷ []) parent (λ at. Some (where_source parent places at))
 listed_places parent places below =
     fill_by_all (λ p. Some (position_of parent (coordinates_of parent (get_or places (p % length places) 0))))

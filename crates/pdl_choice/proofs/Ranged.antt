@@ -1,63 +1,80 @@
 -- The dimensions of a view of windows.
-use Rattle.std.proofs.Common.{◌≡◌, ℕ, ◌≤◌, ◌++◌, inl, inr, true, false, nat_lt, List, length, refl, ap, sym, ◌∙◌, arith, Option, None, Ok, Err, ℤ}
+use Rattle.std.proofs.Common.{◌≡◌, ℕ, ◌≤◌, ◌++◌, inl, inr, true, false, nat_lt, List, length, refl, ap, sym, ◌∙◌, arith, Option, None, Ok, Err, ℤ, subst, IfSome, Some, Result}
 use Rattle.std.specs.Option.{option_map_or}
 use Rattle.std.proofs.lemmas.Bool.{cases_lt}
 use Rattle.std.proofs.lemmas.Bool.Decides.{nat_tests}
 use Rattle.pdl_shape.specs.Shape.{dims_limit, extent, extent_limit}
 use Rattle.pdl_shape.proofs.Extents.{extent_positive}
 use Rattle.pdl_choice.proofs.Limits.{extent-append, other_factor}
-use Rattle.pdl_choice.specs.declared.answers.ChoiceFault.{ChoiceFault}
-use Rattle.pdl_choice.specs.declared.answers.ChoiceFault.TheVariants.{TooManyDims, TooLarge}
+use Rattle.pdl_shape.specs.Refusals.{Refusal, Refuses, too_many_dims, too_large}
 use Rattle.pdl_choice.specs.declared.edges.Edge.{Edge}
-use Rattle.pdl_choice.specs.Choice.{within_limits, unless_outside}
+use Rattle.pdl_shape.specs.Limits.{checked_dims}
+use Rattle.pdl_choice.specs.Choice.{unless_outside}
 use Rattle.pdl_choice.specs.Range.{corner_len, windowed_dims, window_sizes, window_refusal, first_refused, range_dims}
 
 -- where the sizes fit, the index values decide and then the limits
 pub range_dims-fit : (parent ind_dims : List ℕ) (ind sizes : List ℤ) (edge : Edge) (windows : List ℕ) (outside : Option ℕ)
     → window_refusal (length parent) (corner_len ind_dims) sizes ≡ None → windows ≡ window_sizes (corner_len ind_dims) sizes → outside ≡ first_refused edge parent windows ind
-    → range_dims parent ind_dims ind sizes edge ≡ unless_outside outside (within_limits (windowed_dims parent ind_dims windows))
+    → range_dims parent ind_dims ind sizes edge ≡ unless_outside outside (checked_dims (windowed_dims parent ind_dims windows))
 range_dims-fit parent ind_dims ind sizes edge windows outside fit is first =
-    ap (λ (o : Option ChoiceFault). option_map_or (λ refusal. Err refusal) o
-    (unless_outside (first_refused edge parent (window_sizes (corner_len ind_dims) sizes) ind) (within_limits (windowed_dims parent ind_dims (window_sizes (corner_len ind_dims) sizes))))) fit
-    ∙ ap (λ (us : List ℕ). unless_outside (first_refused edge parent us ind) (within_limits (windowed_dims parent ind_dims us))) (sym is)
-    ∙ ap (λ (o : Option ℕ). unless_outside o (within_limits (windowed_dims parent ind_dims windows))) (sym first)
+    ap (λ (o : Option Refusal). option_map_or (λ refusal. Err refusal) o
+    (unless_outside (first_refused edge parent (window_sizes (corner_len ind_dims) sizes) ind) (checked_dims (windowed_dims parent ind_dims (window_sizes (corner_len ind_dims) sizes))))) fit
+    ∙ ap (λ (us : List ℕ). unless_outside (first_refused edge parent us ind) (checked_dims (windowed_dims parent ind_dims us))) (sym is)
+    ∙ ap (λ (o : Option ℕ). unless_outside o (checked_dims (windowed_dims parent ind_dims windows))) (sym first)
 
 -- limits that don't refuse leave the sizes as they are
-pub within_limits-ok : (ds es : List ℕ) → within_limits ds ≡ Ok es → ds ≡ es
-within_limits-ok ds es is =
+pub checked_dims-ok : (ds es : List ℕ) → checked_dims ds ≡ Ok es → ds ≡ es
+checked_dims-ok ds es is =
     elim (cases_lt dims_limit (length ds)) [
       | inl past ↦
           let many : nat_lt dims_limit (length ds) ≡ true = grind (arith, nat_tests) in
-          let same : within_limits ds ≡ Err TooManyDims = rw many refl in
+          let same : checked_dims ds ≡ Err too_many_dims = rw many refl in
           cc
       | inr few ↦ elim (cases_lt extent_limit (extent ds)) [
         | inl past ↦
             let right : nat_lt dims_limit (length ds) ≡ false = grind (arith, nat_tests) in
             let big : nat_lt extent_limit (extent ds) ≡ true = grind (arith, nat_tests) in
-            let same : within_limits ds ≡ Err TooLarge = rw right (rw big refl) in
+            let same : checked_dims ds ≡ Err too_large = rw right (rw big refl) in
             cc
         | inr fits ↦
             let right : nat_lt dims_limit (length ds) ≡ false = grind (arith, nat_tests) in
             let small : nat_lt extent_limit (extent ds) ≡ false = grind (arith, nat_tests) in
-            let same : within_limits ds ≡ Ok ds = rw right (rw small refl) in
+            let same : checked_dims ds ≡ Ok ds = rw right (rw small refl) in
             cc
       ]
     ]
 
 -- what the limits don't refuse lies within them, and so does its back
-pub within_limits-back : (front back es : List ℕ) → within_limits (front ++ back) ≡ Ok es → extent back ≤ extent_limit
-within_limits-back front back es is =
+pub checked_dims-back : (front back es : List ℕ) → checked_dims (front ++ back) ≡ Ok es → extent back ≤ extent_limit
+checked_dims-back front back es is =
     elim (cases_lt extent_limit (extent (front ++ back))) [
       | inl past ↦ elim (cases_lt dims_limit (length (front ++ back))) [
         | inl many ↦
             let right : nat_lt dims_limit (length (front ++ back)) ≡ true = grind (arith, nat_tests) in
-            let same : within_limits (front ++ back) ≡ Err TooManyDims = rw right refl in
+            let same : checked_dims (front ++ back) ≡ Err too_many_dims = rw right refl in
             cc
         | inr few ↦
             let right : nat_lt dims_limit (length (front ++ back)) ≡ false = grind (arith, nat_tests) in
             let big : nat_lt extent_limit (extent (front ++ back)) ≡ true = grind (arith, nat_tests) in
-            let same : within_limits (front ++ back) ≡ Err TooLarge = rw right (rw big refl) in
+            let same : checked_dims (front ++ back) ≡ Err too_large = rw right (rw big refl) in
             cc
       ]
       | inr fits ↦ omega (arith, extent-append front back, other_factor (extent front) (extent back) (extent_positive front))
     ]
+
+-- what is the same is refused so as well
+pub refused_as_well : (v w : Result (List ℕ) Refusal) (named : Option Refusal) → v ≡ w → Refuses w named → Refuses v named
+refused_as_well v w named e h = subst (λ u. Refuses u named) (sym e) h
+
+-- sizes that don't fit are refused first
+pub misfit_refuses : (parent ind_dims : List ℕ) (ind sizes : List ℤ) (edge : Edge) (named : Option Refusal) (n : ℕ) → n ≡ corner_len ind_dims
+    → IfSome named (λ refusal. window_refusal (length parent) n sizes ≡ Some refusal) → Refuses (range_dims parent ind_dims ind sizes edge) named
+misfit_refuses parent ind_dims ind sizes edge None n e h = tt
+misfit_refuses parent ind_dims ind sizes edge (Some refusal) n e h =
+    let here : window_refusal (length parent) (corner_len ind_dims) sizes ≡ Some refusal = ap (λ m. window_refusal (length parent) m sizes) (sym e) ∙ h in
+    rw here refl
+
+-- a fault that tells no position tells none that is wrong
+pub nowhere_said : (o : Option ℕ) (P : ℕ → Type 0) → o ≡ None → IfSome o P
+nowhere_said None P e = tt
+nowhere_said (Some i) P e = cc

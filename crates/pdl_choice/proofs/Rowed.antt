@@ -1,5 +1,5 @@
 -- The places of an index view, row by row.
-use Rattle.std.proofs.Common.{◌≡◌, ℕ, ◌+◌, ◌*◌, ◌/◌, ◌<◌, ◌≤◌, eqb, true, false, if◌then◌else◌, List, [], ◌∷◌, Bool, length, get_or, drop, refl, ap, sym, ◌∙◌, subst, arith, None, Some, ℤ, pos}
+use Rattle.std.proofs.Common.{Option, ◌≡◌, ℕ, ◌+◌, ◌*◌, ◌/◌, ◌<◌, ◌≤◌, eqb, true, false, if◌then◌else◌, List, [], ◌∷◌, Bool, length, get_or, drop, refl, ap, sym, ◌∙◌, subst, arith, Some, ℤ, pos}
 use Rattle.std.proofs.Math.Nat.{mul-le-mul_left}
 use Rattle.pdl_shape.specs.Broadcast.{BroadcastsTo, cut_to}
 use Rattle.pdl_shape.specs.Shape.{IsWithin, extent, extent_limit, size_of, position_of, coordinates_of}
@@ -7,8 +7,9 @@ use Rattle.pdl_shape.proofs.Broadcasts.{cut_within}
 use Rattle.pdl_shape.proofs.Extents.{size_le-extent}
 use Rattle.pdl_shape.proofs.Positions.{coordinates_within, position_below, position-coordinates}
 use Rattle.pdl_choice.specs.declared.indices.Line.{Line}
-use Rattle.pdl_choice.specs.Edges.{from_zero}
-use Rattle.pdl_choice.specs.Index.{from_end, index_source}
+use Rattle.std.specs.Option.{unwrap_or}
+use Rattle.pdl_shape.specs.Counting.{from_end}
+use Rattle.pdl_choice.specs.Index.{index_source}
 use Rattle.pdl_choice.specs.Rounds.{line_at, row_place}
 use Rattle.pdl_choice.proofs.MovingOn.{quotient, remainder, rounds_all, rounds_below}
 
@@ -79,21 +80,20 @@ pub row_place-source : (parent ind_dims at : List ℕ) (ind : List ℤ) (ind_lin
     → row_place (get_or parent 0 1) ind ind_line rest_line c ≡ position_of parent (index_source parent ind_dims ind (c ∷ at))
 row_place-source [] ind_dims at ind ind_line rest_line c some ind_is rest_is = absurd (omega arith)
 row_place-source (n ∷ rest) ind_dims at ind ind_line rest_line c some ind_is rest_is =
-    ap (λ p. from_zero (from_end n (get_or ind p (pos 0))) + n * line_at rest_line c) (ind_is c)
-    ∙ ap (λ q. from_zero (from_end n (get_or ind (position_of ind_dims (cut_to ind_dims (c ∷ at))) (pos 0))) + n * q) (rest_is c)
+    ap (λ p. unwrap_or (from_end (get_or ind p (pos 0)) n) 0 + n * line_at rest_line c) (ind_is c)
+    ∙ ap (λ q. unwrap_or (from_end (get_or ind (position_of ind_dims (cut_to ind_dims (c ∷ at))) (pos 0)) n) 0 + n * q) (rest_is c)
 
 -- the coordinates by rows have the same source
 pub source-by_rows : (parent ind_dims joined : List ℕ) (ind : List ℤ) (p : ℕ) → BroadcastsTo ind_dims joined → BroadcastsTo (drop 1 parent) joined
     → index_source parent ind_dims ind (coordinates_of joined p) ≡ index_source parent ind_dims ind (coordinates_of (by_rows joined) p)
 source-by_rows [] ind_dims joined ind p ind_fits rest_fits = refl
 source-by_rows (n ∷ rest) ind_dims joined ind p ind_fits rest_fits =
-    ap (λ cs. from_zero (from_end n (get_or ind (position_of ind_dims cs) (pos 0))) ∷ cut_to rest (coordinates_of joined p)) (cut-by_rows ind_dims joined p ind_fits)
-    ∙ ap (λ cs. from_zero (from_end n (get_or ind (position_of ind_dims (cut_to ind_dims (coordinates_of (by_rows joined) p))) (pos 0))) ∷ cs) (cut-by_rows rest joined p rest_fits)
+    ap (λ cs. unwrap_or (from_end (get_or ind (position_of ind_dims cs) (pos 0)) n) 0 ∷ cut_to rest (coordinates_of joined p)) (cut-by_rows ind_dims joined p ind_fits)
+    ∙ ap (λ cs. unwrap_or (from_end (get_or ind (position_of ind_dims (cut_to ind_dims (coordinates_of (by_rows joined) p))) (pos 0)) n) 0 ∷ cs) (cut-by_rows rest joined p rest_fits)
 
 -- a value that stands for a coordinate stands for this one
-pub counted_is : (b : Bool) (x n : ℕ) → Some n ≡ (if b then Some x else None) → n ≡ x
-counted_is true x n is = cc
-counted_is false x n is = cc
+pub counted_is : (o : Option ℕ) (n : ℕ) → Some n ≡ o → n ≡ unwrap_or o 0
+counted_is o n is = ap (λ p. unwrap_or p 0) is
 
 -- a line that lies at the row's coordinates lies in the array
 pub line_inside : (dims joined at : List ℕ) (line : Line) → AtRow dims joined at → ((c : ℕ) → line_at line c ≡ position_of dims (cut_to dims (c ∷ at))) → (c : ℕ) → c < get_or joined 0 1 → line_at line c < size_of dims

@@ -1,27 +1,38 @@
--- What every choice answers: dimensions or a refusal, and for each position a place of the parent.
-use Rattle.std.specs.Prelude.{◌<◌, All, IfSome, ℕ, nat_lt, if◌then◌else◌, List, length, map, Option, Some, None, Result, Ok, Err}
-use Rattle.std.specs.List.{range_with_len}
-use Rattle.std.specs.Option.{option_map}
-use Rattle.pdl_shape.specs.Shape.{dims_limit, extent_limit, extent, size_of, position_of, coordinates_of}
+-- What every choice answers: dimensions, or the first refusal.
+use Rattle.std.specs.Prelude.{◌≡◌, ℕ, List, Option, Some, None, Result, Ok, Err}
+use Rattle.pdl_shape.specs.Refusals.{Refusal, Refuses, bad_dimension, mismatch, out_of_range, too_many_dims, too_large}
 use Rattle.pdl_choice.specs.declared.answers.ChoiceFault.{ChoiceFault}
-use Rattle.pdl_choice.specs.declared.answers.ChoiceFault.TheVariants.{OutOfRange, TooManyDims, TooLarge}
+use Rattle.pdl_choice.specs.declared.answers.ChoiceFault.TheVariants.{BadDimension, Mismatch, OutOfRange, TooManyDims, TooLarge, NoMemory}
 
--- the place in the parent of each position of the child: the position of its coordinates' source, or nothing
-abbrev pub places_of : List ℕ → List ℕ → (List ℕ → Option (List ℕ)) → List (Option ℕ)
-places_of child parent source =
-    map (λ p. option_map (position_of parent) (source (coordinates_of child p))) (range_with_len 0 (size_of child))
+-- the refusal that a fault names, if it names one
+abbrev pub refusal_of : ChoiceFault → Option Refusal
+refusal_of BadDimension = Some bad_dimension
+refusal_of Mismatch = Some mismatch
+refusal_of (OutOfRange at) = Some out_of_range
+refusal_of TooManyDims = Some too_many_dims
+refusal_of TooLarge = Some too_large
+refusal_of NoMemory = None
 
--- sizes as dimensions, or which limit refuses them: too many before too large
-abbrev pub within_limits : List ℕ → Result (List ℕ) ChoiceFault
-within_limits ds =
-    (if nat_lt dims_limit (length ds) then Err TooManyDims
-    else (if nat_lt extent_limit (extent ds) then Err TooLarge else Ok ds))
+-- the refused position that a fault tells, if it tells one
+abbrev pub position_in : ChoiceFault → Option ℕ
+position_in BadDimension = None
+position_in Mismatch = None
+position_in (OutOfRange at) = Some at
+position_in TooManyDims = None
+position_in TooLarge = None
+position_in NoMemory = None
 
--- a refusal at this position of the index values, or else what follows
-abbrev pub unless_outside : Option ℕ → Result (List ℕ) ChoiceFault → Result (List ℕ) ChoiceFault
-unless_outside (Some at) dims = Err (OutOfRange at)
+-- the dimensions that are wanted, or a fault that names why there are none
+abbrev pub Makes : (wanted : Result (List ℕ) Refusal) → Result (List ℕ) ChoiceFault → Type 0
+Makes wanted (Ok ds) = wanted ≡ Ok ds
+Makes wanted (Err fault) = Refuses wanted (refusal_of fault)
+
+-- a refusal of some index value, or else what follows
+abbrev pub unless_outside : Option ℕ → Result (List ℕ) Refusal → Result (List ℕ) Refusal
+unless_outside (Some at) dims = Err out_of_range
 unless_outside None dims = dims
 
--- each place lies in an array of so many elements
-abbrev pub AreInside : ℕ → List (Option ℕ) → Type 0
-AreInside elements places = All (λ place. IfSome place (λ p. p < elements)) places
+-- what refuses a view whose dimensions are too large: an index value, or else the limit
+abbrev pub refusal_past : Option ℕ → Refusal
+refusal_past (Some at) = out_of_range
+refusal_past None = too_large

@@ -3,10 +3,10 @@ use Rattle.std.specs.Prelude.{◌≡◌, ◌<◌, ℕ, min, zero, suc, ◌%◌, 
 use Rattle.std.specs.Option.{option_map, option_map_or}
 use Rattle.std.specs.List.{range_with_len, list_any}
 use Rattle.pdl_shape.specs.Shape.{position_of}
-use Rattle.pdl_choice.specs.declared.answers.ChoiceFault.{ChoiceFault}
-use Rattle.pdl_choice.specs.declared.answers.ChoiceFault.TheVariants.{BadDimension, Mismatch}
+use Rattle.pdl_shape.specs.Limits.{checked_dims}
+use Rattle.pdl_shape.specs.Refusals.{Refusal, bad_dimension, mismatch}
 use Rattle.pdl_choice.specs.declared.edges.Edge.{Edge}
-use Rattle.pdl_choice.specs.Choice.{within_limits, unless_outside}
+use Rattle.pdl_choice.specs.Choice.{unless_outside}
 use Rattle.pdl_choice.specs.Edges.{from_zero, edge_coordinate, edge_refuses}
 
 -- how many numbers a corner has: the index's first size, and 1 for an index without dimensions
@@ -45,18 +45,22 @@ abbrev pub windowed_dims : List ℕ → List ℕ → List ℕ → List ℕ
 windowed_dims parent ind_dims windows = drop 1 ind_dims ++ inner_dims parent windows
 
 -- why sizes are no window's in so many dimensions at corners of so many numbers
-abbrev pub window_refusal : ℕ → ℕ → List ℤ → Option ChoiceFault
+abbrev pub window_refusal : ℕ → ℕ → List ℤ → Option Refusal
 window_refusal dims count sizes =
-    (if nat_lt dims count || list_any is_negative sizes then Some BadDimension
-    else (if length sizes == 1 || length sizes == count then None else Some Mismatch))
+    (if nat_lt dims count || list_any is_negative sizes then Some bad_dimension
+    else (if length sizes == 1 || length sizes == count then None else Some mismatch))
 
 -- the dimensions of a view of windows, or the first refusal
-abbrev pub range_dims : List ℕ → List ℕ → List ℤ → List ℤ → Edge → Result (List ℕ) ChoiceFault
+abbrev pub range_dims : List ℕ → List ℕ → List ℤ → List ℤ → Edge → Result (List ℕ) Refusal
 range_dims parent ind_dims ind sizes edge =
     let windows = window_sizes (corner_len ind_dims) sizes in
     option_map_or (λ refusal. Err refusal)
     (window_refusal (length parent) (corner_len ind_dims) sizes)
-    (unless_outside (first_refused edge parent windows ind) (within_limits (windowed_dims parent ind_dims windows)))
+    (unless_outside (first_refused edge parent windows ind) (checked_dims (windowed_dims parent ind_dims windows)))
+
+-- the first index value that the edge refuses
+abbrev pub range_outside : List ℕ → List ℕ → List ℤ → List ℤ → Edge → Option ℕ
+range_outside parent ind_dims ind sizes edge = first_refused edge parent (window_sizes (corner_len ind_dims) sizes) ind
 
 -- the index values at these coordinates past the index's first dimension
 abbrev pub corner_at : List ℕ → List ℤ → List ℕ → List ℤ

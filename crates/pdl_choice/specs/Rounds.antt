@@ -1,10 +1,10 @@
 -- How the places of a view are found one from another, without a division.
 use Rattle.std.specs.Prelude.{ℕ, ◌+◌, ◌*◌, ◌<◌, List, [], ◌∷◌, length, take, drop, slice_index, slice_index_or, Option, Some, None, ℤ, pos, ◌+ℤ◌}
-use Rattle.std.specs.Option.{option_map}
+use Rattle.std.specs.Option.{option_map, unwrap_or}
 use Rattle.pdl_choice.specs.declared.edges.Edge.{Edge}
 use Rattle.pdl_choice.specs.declared.indices.Line.{Line}
-use Rattle.pdl_choice.specs.Edges.{CanPlace, edge_coordinate, from_zero}
-use Rattle.pdl_choice.specs.Index.{from_end}
+use Rattle.pdl_choice.specs.Edges.{CanPlace, edge_coordinate}
+use Rattle.pdl_shape.specs.Counting.{from_end}
 
 -- the position at place c of a row
 abbrev pub line_at : Line → ℕ → ℕ
@@ -13,7 +13,7 @@ line_at line c = line.from + line.step * c
 -- the place at column c of a row of an index view: the index value's coordinate along the first dimension, of size n
 abbrev pub row_place : ℕ → List ℤ → Line → Line → ℕ → ℕ
 row_place n ind ind_line rest_line c =
-    from_zero (from_end n (slice_index_or ind (line_at ind_line c) (pos 0))) + n * line_at rest_line c
+    unwrap_or (from_end (slice_index_or ind (line_at ind_line c) (pos 0)) n) 0 + n * line_at rest_line c
 
 -- the numbers of a corner that has q corners before it
 abbrev pub numbers_at : List ℤ → ℕ → ℕ → List ℤ

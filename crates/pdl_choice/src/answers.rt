@@ -1,22 +1,27 @@
 //! What the calls of this crate answer.
-ghost use Rattle.std.specs.Prelude.{◌≡◌, ◌≤◌};
+ghost use Rattle.std.specs.Prelude.{◌≡◌, ◌≤◌, IfErr, None};
 ghost use Rattle.pdl_shape.specs.Shape.{extent, extent_limit, size_of};
-ghost use Rattle.pdl_choice.specs.Choice.{within_limits};
+ghost use Rattle.pdl_shape.specs.Limits.{checked_dims};
+ghost use Rattle.pdl_choice.specs.Choice.{Makes, position_in};
 
+use pdl_elem::Items;
 use pdl_shape::{Dims, ShapeFault, dims_of, size};
 use std::alloc::{AllocError, Global};
 
 /// Want of memory.
 pub use std::alloc::AllocError as NoMemory;
 
+/// The position in the parent for each position of a view, in order; `None` beyond an edge that
+/// reads 0. Contracts see the list.
+pub type Places = Items<Option<u32>>;
+
 /// A view that picks places of its parent.
 #[derive(Drop, Debug)]
 pub struct Choice {
     /// The dimensions of the view.
     pub dims: Dims,
-    /// For each position of the view, in order, the position in the parent; `None` beyond an edge
-    /// that reads 0.
-    pub places: Vec<Option<u32>>,
+    /// For each position of the view, in order, the position in the parent.
+    pub places: Places,
 }
 
 /// Why there is no such view, in the order in which a call answers these.
@@ -52,7 +57,8 @@ impl From<AllocError> for ChoiceFault {
 
 /// Sizes as dimensions, or which limit refuses them.
 pub(crate) fn limited(alloc: Global, sizes: &[u32]) -> Result<Dims, ChoiceFault>
-    ensures { result ≡ within_limits sizes.now }
+    ensures dims { Makes (checked_dims sizes.now) result }
+    ensures nowhere { IfErr result (λ f. position_in f ≡ None) }
 {
     match dims_of(alloc, sizes) {
         Ok(dims) => Ok(dims),

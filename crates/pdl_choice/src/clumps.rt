@@ -2,29 +2,34 @@
 ghost use Rattle.std.specs.Prelude.{◌≡◌, ◌≢◌, ◌⊎◌, ◌<◌, ◌≤◌, [], ◌∷◌, length, take, drop, map, Some, Ok, Err, IfOk, IfErr};
 ghost use Rattle.std.specs.List.{range_with_len};
 ghost use Rattle.pdl_shape.specs.Shape.{IsDims, size_of};
-ghost use Rattle.pdl_choice.specs.Choice.{AreInside, places_of};
-ghost use Rattle.pdl_choice.specs.Clump.{clump_len, clump_dims, clump_source};
+ghost use Rattle.pdl_shape.specs.Places.{AllBelow, places_of};
+ghost use Rattle.pdl_shape.specs.Refusals.{Refuses};
+ghost use Rattle.pdl_choice.specs.Choice.{refusal_of};
+ghost use Rattle.pdl_choice.specs.Clump.{clump_dims, clumped_source};
 
 use crate::answers::count_of;
-use crate::{Choice, ChoiceFault, NoMemory};
-use pdl_shape::{Dims, dims_list, dims_of, elements_of};
+use crate::{Choice, ChoiceFault, NoMemory, Places};
+use pdl_shape::{Dims, clump_count, dims_list, dims_of, elements_of};
 use std::alloc::Global;
 
 /// The first `count` dimensions joined to one, or all for -1, as a list of places (PDL::Core,
 /// clump). `BadDimension` where `count` isn't 1 to the number of dimensions or -1.
 pub fn clump_list(alloc: Global, source: &Dims, count: i64) -> Result<Choice, ChoiceFault>
     ensures dims { IfOk result (λ c. clump_dims source.now count ≡ Ok c.dims) }
-    ensures places { IfOk result (λ c. c.places.items ≡ places_of c.dims source.now (λ at. Some (clump_source source.now count at))) }
-    ensures inside { IfOk result (λ c. AreInside (size_of source.now) c.places.items) }
-    ensures refusal { IfErr result (λ f. f ≢ ChoiceFault.NoMemory → clump_dims source.now count ≡ Err f) }
+    ensures places { IfOk result (λ c. c.places ≡ places_of c.dims source.now (λ at. Some (clumped_source source.now count at))) }
+    ensures inside { IfOk result (λ c. AllBelow (size_of source.now) c.places) }
+    ensures refusal { IfErr result (λ f. Refuses (clump_dims source.now count) (refusal_of f)) }
 {
     let parent = dims_list(source);
-    let Some(joined) = joined_count(parent.len(), count) else {
+    let Some(joined) = clump_count(count, parent.len()) else {
         return Err(ChoiceFault::BadDimension);
     };
     let dims = clumped(alloc, parent, joined)?;
     let places = all_places(alloc, elements_of(source))?;
-    Ok(Choice { dims, places })
+    Ok(Choice {
+        dims,
+        places: Places::new(places),
+    })
 }
 
 /// The dimensions with the first `joined` of them as one.
@@ -53,19 +58,6 @@ fn clumped_sizes(alloc: Global, parent: &[u32], joined: usize) -> Result<Vec<u32
     sizes.push(product)?;
     sizes.extend_from_slice(rest)?;
     Ok(sizes)
-}
-
-/// How many of `dims` dimensions `count` joins.
-fn joined_count(dims: usize, count: i64) -> Option<usize>
-    ensures { result ≡ clump_len dims count }
-{
-    if count == -1 {
-        Some(dims)
-    } else if count < 1 {
-        None
-    } else {
-        usize::try_from(count).ok().filter(|count| *count <= dims)
-    }
 }
 
 /// The places 0 to `count` - 1.

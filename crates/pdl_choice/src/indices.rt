@@ -1,18 +1,20 @@
 //! index: the parent's first dimension looked up by an array of coordinates.
-ghost use Rattle.std.specs.Prelude.{◌≡◌, ℕ, ◌+◌, ◌*◌, ◌∷◌, ◌++◌, map, slice_index_or, ◌≢◌, ◌<◌, ◌≤◌, ◌^◌, OnOk, if◌then◌else◌, length, drop, slice_index, All, IsTrue, Some, None, Ok, Err, IfOk, IfErr, IfSome, IfNone};
+ghost use Rattle.std.specs.Prelude.{◌≡◌, ℕ, ◌+◌, ◌*◌, ◌∷◌, ◌++◌, map, slice_index_or, ◌≢◌, ◌<◌, ◌≤◌, ◌^◌, OnOk, length, drop, slice_index, All, IsSome, Some, None, Ok, Err, IfOk, IfErr, IfSome, IfNone};
 ghost use Rattle.pdl_shape.specs.Joined.{joined_dims};
 ghost use Rattle.std.specs.List.{range_with_len};
 ghost use Rattle.pdl_shape.specs.Shape.{IsDims, IsWithin, extent, extent_limit, size_of, position_of, coordinates_of};
-ghost use Rattle.std.specs.Option.{option_map_or};
 ghost use Rattle.pdl_shape.specs.Broadcast.{BroadcastsTo, cut_to};
-ghost use Rattle.pdl_choice.specs.Choice.{AreInside, places_of};
-ghost use Rattle.pdl_choice.specs.Edges.{from_zero, is_within};
+ghost use Rattle.pdl_shape.specs.Counting.{from_end};
+ghost use Rattle.pdl_shape.specs.Places.{AllBelow, places_of};
+ghost use Rattle.pdl_shape.specs.Refusals.{Refuses, named};
+ghost use Rattle.pdl_shape.specs.Refusals.{refusal_of as shape_refusal};
+ghost use Rattle.pdl_choice.specs.Choice.{Makes, position_in, refusal_of, refusal_past};
 ghost use Rattle.pdl_choice.specs.Rounds.{line_at, row_place};
-ghost use Rattle.pdl_choice.specs.Index.{from_end, first_outside, index_dims, index_source};
+ghost use Rattle.pdl_choice.specs.Index.{first_outside, index_dims, index_outside, index_source};
 
 use crate::rounds::{first_size, move_on, rounds_of};
-use crate::{Choice, ChoiceFault, NoMemory};
-use pdl_shape::{Dims, ShapeFault, dims_list, dims_of, elements_of, join_dims};
+use crate::{Choice, ChoiceFault, NoMemory, Places};
+use pdl_shape::{Dims, ShapeFault, dims_list, dims_of, elements_of, from_end, join_dims};
 use std::alloc::Global;
 
 /// The parent's first dimension looked up by `ind`, an array of the dimensions `ind_dims`, whose
@@ -30,9 +32,10 @@ pub fn index(
 ) -> Result<Choice, ChoiceFault>
     requires { length ind.now ≡ size_of ind_dims.now }
     ensures dims { IfOk result (λ c. index_dims source.now ind_dims.now ind.now ≡ Ok c.dims) }
-    ensures places { IfOk result (λ c. c.places.items ≡ places_of c.dims source.now (λ at. Some (index_source source.now ind_dims.now ind.now at))) }
-    ensures inside { IfOk result (λ c. AreInside (size_of source.now) c.places.items) }
-    ensures refusal { IfErr result (λ f. f ≢ ChoiceFault.NoMemory → index_dims source.now ind_dims.now ind.now ≡ Err f) }
+    ensures places { IfOk result (λ c. c.places ≡ places_of c.dims source.now (λ at. Some (index_source source.now ind_dims.now ind.now at))) }
+    ensures inside { IfOk result (λ c. AllBelow (size_of source.now) c.places) }
+    ensures refusal { IfErr result (λ f. Refuses (index_dims source.now ind_dims.now ind.now) (refusal_of f)) }
+    ensures at { IfErr result (λ f. IfSome (position_in f) (λ at. index_outside source.now ind.now ≡ Some at)) }
 {
     let parent = dims_list(source);
     let dims = looked_up(alloc, parent, ind_dims, ind)?;
@@ -44,7 +47,10 @@ pub fn index(
         dims_list(&dims),
         elements_of(&dims),
     )?;
-    Ok(Choice { dims, places })
+    Ok(Choice {
+        dims,
+        places: Places::new(places),
+    })
 }
 
 /// The dimensions of the view, or the first refusal.
@@ -56,10 +62,11 @@ fn looked_up(
 ) -> Result<Dims, ChoiceFault>
     requires limits { IsDims parent.now }
     requires whole { length ind.now ≡ size_of ind_dims.now }
-    ensures dims { result ≡ index_dims parent.now ind_dims.now ind.now }
+    ensures dims { Makes (index_dims parent.now ind_dims.now ind.now) result }
+    ensures at { IfErr result (λ f. IfSome (position_in f) (λ at. index_outside parent.now ind.now ≡ Some at)) }
     ensures some { OnOk result (0 < length parent.now) }
     ensures stretched { IfOk result (λ dims. BroadcastsTo ind_dims.now dims × BroadcastsTo (drop 1 parent.now) dims) }
-    ensures counted { OnOk result (All (λ value. IsTrue (is_within (slice_index parent.now 0) (from_end (slice_index parent.now 0) value))) ind.now) }
+    ensures counted { OnOk result (All (λ value. IsSome (from_end value (slice_index parent.now 0))) ind.now) }
 {
     let _count = elements_of(ind_dims);
     let Some((size, rest)) = parent.split_first() else {
@@ -69,7 +76,7 @@ fn looked_up(
     let dims = match joined(alloc, ind_dims, rest) {
         Ok(dims) => dims,
         Err(ShapeFault::Mismatch) => return Err(ChoiceFault::Mismatch),
-        Err(ShapeFault::TooLarge) => return Err(refused(outside, ChoiceFault::TooLarge)),
+        Err(ShapeFault::TooLarge) => return Err(too_large(outside)),
         Err(ShapeFault::TooManyDims) => unreachable!(),
     };
     match outside {
@@ -78,20 +85,22 @@ fn looked_up(
     }
 }
 
-/// The refusal at the first refused position of the index values, or else the other one.
-fn refused(outside: Option<usize>, other: ChoiceFault) -> ChoiceFault
+/// Why a view whose dimensions are too large is refused: by the first refused index value, or else
+/// by its size.
+fn too_large(outside: Option<usize>) -> ChoiceFault
     requires { IfSome outside (λ at. at < 2 ^ 32) }
-    ensures { result ≡ option_map_or (λ at. ChoiceFault.OutOfRange at) outside other }
+    ensures refusal { refusal_of result ≡ Some (refusal_past outside) }
+    ensures at { position_in result ≡ outside }
 {
     match outside {
         Some(at) => ChoiceFault::OutOfRange { at: at as u32 },
-        None => other,
+        None => ChoiceFault::TooLarge,
     }
 }
 
 /// The broadcast dimensions of two arrays.
 fn join_limited(alloc: Global, first: &Dims, second: &Dims) -> Result<Dims, ShapeFault>
-    ensures joined { result ≡ joined_dims first.now second.now }
+    ensures joined { named shape_refusal result ≡ joined_dims first.now second.now }
     ensures stretched { IfOk result (λ dims. BroadcastsTo first.now dims × BroadcastsTo second.now dims) }
     ensures few { IfOk result (λ dims. IsDims dims) }
 {
@@ -103,7 +112,7 @@ fn join_limited(alloc: Global, first: &Dims, second: &Dims) -> Result<Dims, Shap
 /// The broadcast dimensions of the index array and the parent's dimensions past its first.
 fn joined(alloc: Global, ind_dims: &Dims, rest: &[u32]) -> Result<Dims, ShapeFault>
     requires { IsDims rest.now }
-    ensures joined { result ≡ joined_dims ind_dims.now rest.now }
+    ensures joined { named shape_refusal result ≡ joined_dims ind_dims.now rest.now }
     ensures few { IfOk result (λ dims. IsDims dims) }
     ensures index_few { IsDims ind_dims.now }
     ensures stretched { IfOk result (λ dims. BroadcastsTo ind_dims.now dims × BroadcastsTo rest.now dims) }
@@ -118,25 +127,11 @@ fn joined(alloc: Global, ind_dims: &Dims, rest: &[u32]) -> Result<Dims, ShapeFau
 /// The first value that stands for no coordinate of a dimension of size `size`.
 fn first_uncounted(size: u32, ind: &[i64]) -> Option<usize>
     ensures within { IfSome result (λ at. at < length ind.now) }
-    ensures none { IfNone result (All (λ value. IsTrue (is_within size (from_end size value))) ind.now) }
+    ensures none { IfNone result (All (λ value. IsSome (from_end value size)) ind.now) }
     ensures first { result ≡ first_outside size ind.now }
 {
-    ind.iter().position(|value| counted(size, *value).is_none())
-}
-
-/// The coordinate of a dimension of size `size` that `value` stands for, counted from the end
-/// where it is below 0.
-fn counted(size: u32, value: i64) -> Option<u32>
-    ensures bound { IfSome result (λ coordinate. coordinate < size) }
-    ensures value { result ≡ (if is_within size (from_end size value) then Some (from_zero (from_end size value)) else None) }
-{
-    let size = i64::from(size);
-    let from_start = if value < 0 { value + size } else { value };
-    if from_start >= 0 && from_start < size {
-        Some(from_start as u32)
-    } else {
-        None
-    }
+    ind.iter()
+        .position(|value| from_end(*value, size as usize).is_none())
 }
 
 /// The position in an array of dimensions `dims` that coordinates of a broadcast use.
@@ -192,14 +187,15 @@ fn push_row(
     requires bounded { (c : ℕ) → c < row → size * line_at rest_line c + size ≤ extent_limit }
     requires small { (c : ℕ) → c < row → line_at rest_line c < extent_limit }
     requires ind_small { length ind.now ≤ extent_limit }
-    requires counted { All (λ value. IsTrue (is_within size (from_end size value))) ind.now }
+    requires counted { All (λ value. IsSome (from_end value size)) ind.now }
     ensures { OnOk result (places.new.items ≡ places.old.items ++ map (λ c. Some (row_place size ind.now ind_line rest_line c)) (range_with_len 0 row)) }
 {
     for column in 0..row {
         let value = ind[(ind_line.from + ind_line.step * column) as usize];
-        match counted(size, value) {
+        match from_end(value, size as usize) {
             Some(first) => {
-                places.push(Some(first + size * (rest_line.from + rest_line.step * column)))?;
+                let rest = size * (rest_line.from + rest_line.step * column);
+                places.push(Some(first as u32 + rest))?;
             }
             None => unreachable!(),
         }
@@ -224,8 +220,8 @@ fn index_places(
     requires counts { count ≡ size_of joined.now }
     requires ind_bounded { extent ind_dims.now ≤ extent_limit }
     requires parent_bounded { extent parent.now ≤ extent_limit }
-    requires counted { All (λ value. IsTrue (is_within (slice_index parent.now 0) (from_end (slice_index parent.now 0) value))) ind.now }
-    ensures inside { IfOk result (λ places. AreInside (size_of parent.now) places.items) }
+    requires counted { All (λ value. IsSome (from_end value (slice_index parent.now 0))) ind.now }
+    ensures inside { IfOk result (λ places. AllBelow (size_of parent.now) places.items) }
     ensures places { IfOk result (λ places. places.items ≡ places_of joined.now parent.now (λ at. Some (index_source parent.now ind_dims.now ind.now at))) }
 {
     let (size, rest) = first_size(parent);

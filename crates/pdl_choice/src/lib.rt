@@ -17,9 +17,9 @@ mod rounds;
 mod tests;
 mod windows;
 
-pub use answers::{Choice, ChoiceFault, NoMemory};
+pub use answers::{Choice, ChoiceFault, NoMemory, Places};
 pub use clumps::clump_list;
 pub use edges::Edge;
 pub use indices::index;
-pub use masks::{where_places, which_places};
+pub use masks::{Positions, listed_places, where_places, which_places};
 pub use windows::range;

@@ -1,17 +1,30 @@
 //! where and which: the places at which a mask isn't 0.
-ghost use Rattle.std.specs.Prelude.{◌≡◌, ◌≢◌, ◌<◌, ◌≤◌, ◌^◌, ◌↔◌, IsTrue, [], ◌∷◌, length, map, Some, Ok, Err, IfOk, IfErr};
-ghost use Rattle.std.specs.Str.{bytes_eq};
+ghost use Rattle.std.specs.Prelude.{◌≡◌, ◌≢◌, ◌<◌, ◌≤◌, ◌^◌, ◌↔◌, IsTrue, [], ◌∷◌, length, map, Some, Ok, Err, IfOk, IfErr, nat_eq};
+ghost use Rattle.std.specs.Cmp.Lexicographic.{pointwise};
 ghost use Rattle.pdl_shape.specs.Shape.{extent_limit, size_of};
-ghost use Rattle.pdl_choice.specs.Choice.{AreInside, places_of};
-ghost use Rattle.pdl_choice.specs.Where.{which, where_dims, where_source};
+ghost use Rattle.pdl_shape.specs.Places.{AllBelow, places_of};
+ghost use Rattle.pdl_shape.specs.Refusals.{Refuses};
+ghost use Rattle.pdl_choice.specs.Choice.{refusal_of};
+ghost use Rattle.pdl_choice.specs.Where.{rises, which, where_dims, where_source};
 
-use crate::{Choice, ChoiceFault, NoMemory};
+use crate::{Choice, ChoiceFault, NoMemory, Places};
+use pdl_elem::Items;
 use pdl_shape::{Dims, dims_list, dims_of, elements_of};
 use std::alloc::Global;
 
+/// Positions in an array, in order. Contracts see the list.
+pub type Positions = Items<u32>;
+
 /// The positions at which `mask` isn't 0, rising (PDL::Primitive, which).
+pub fn which_places(alloc: Global, mask: &[i64]) -> Result<Positions, NoMemory>
+    requires { length mask.now < 2 ^ 32 }
+    ensures { IfOk result (λ places. places ≡ which mask.now) }
+{
+    Ok(Positions::new(set_positions(alloc, mask)?))
+}
+
 #[tactic(auto, using(crate::proofs::Listed::which_steps))]
-pub fn which_places(alloc: Global, mask: &[i64]) -> Result<Vec<u32>, NoMemory>
+fn set_positions(alloc: Global, mask: &[i64]) -> Result<Vec<u32>, NoMemory>
     requires { length mask.now < 2 ^ 32 }
     ensures { IfOk result (λ places. places.items ≡ which mask.now) }
 {
@@ -39,19 +52,38 @@ fn set_count(mask: &[i64]) -> usize
     count
 }
 
-/// The same positions, as places.
-#[tactic(auto, using(crate::proofs::Listed::which_steps))]
-fn set_places(alloc: Global, mask: &[i64], count: usize) -> Result<Vec<Option<u32>>, NoMemory>
-    requires { length mask.now < 2 ^ 32 }
-    ensures { IfOk result (λ places. places.items ≡ map (λ p. Some p) (which mask.now)) }
+/// The listed elements of the parent, in one dimension (PDL::Primitive, where). `dims` are those of
+/// the mask that listed them; the places rise and lie below its size. `Mismatch` where the dimensions
+/// aren't the parent's.
+pub fn listed_places(
+    alloc: Global,
+    source: &Dims,
+    dims: &Dims,
+    places: &[u32],
+) -> Result<Choice, ChoiceFault>
+    requires { IsTrue (rises 0 (size_of dims.now) places.now) }
+    ensures dims { IfOk result (λ c. where_dims source.now dims.now places.now ≡ Ok c.dims) }
+    ensures places { IfOk result (λ c. c.places ≡ places_of c.dims source.now (λ at. Some (where_source source.now places.now at))) }
+    ensures inside { IfOk result (λ c. AllBelow (size_of source.now) c.places) }
+    ensures refusal { IfErr result (λ f. Refuses (where_dims source.now dims.now places.now) (refusal_of f)) }
 {
-    let mut places = Vec::with_capacity(alloc, count)?;
-    for (place, number) in mask.iter().enumerate() {
-        if *number != 0 {
-            places.push(Some(place as u32))?;
-        }
+    let _count = elements_of(dims);
+    if !is_same(source, dims) {
+        return Err(ChoiceFault::Mismatch);
     }
-    Ok(places)
+    let dims = line(alloc, places.len() as u32);
+    let places = as_places(alloc, places)?;
+    Ok(Choice {
+        dims,
+        places: Places::new(places),
+    })
+}
+
+/// The same positions, as places.
+fn as_places(alloc: Global, positions: &[u32]) -> Result<Vec<Option<u32>>, NoMemory>
+    ensures { IfOk result (λ places. places.items ≡ map (λ p. Some p) positions.now) }
+{
+    positions.iter().map(|place| Some(*place)).collect(alloc)
 }
 
 /// The parent's elements at which `mask` isn't 0, in one dimension (PDL::Primitive, where).
@@ -64,22 +96,18 @@ pub fn where_places(
 ) -> Result<Choice, ChoiceFault>
     requires { length mask.now ≡ size_of mask_dims.now }
     ensures dims { IfOk result (λ c. where_dims source.now mask_dims.now (which mask.now) ≡ Ok c.dims) }
-    ensures places { IfOk result (λ c. c.places.items ≡ places_of c.dims source.now (λ at. Some (where_source source.now (which mask.now) at))) }
-    ensures inside { IfOk result (λ c. AreInside (size_of source.now) c.places.items) }
-    ensures refusal { IfErr result (λ f. f ≢ ChoiceFault.NoMemory → where_dims source.now mask_dims.now (which mask.now) ≡ Err f) }
+    ensures places { IfOk result (λ c. c.places ≡ places_of c.dims source.now (λ at. Some (where_source source.now (which mask.now) at))) }
+    ensures inside { IfOk result (λ c. AllBelow (size_of source.now) c.places) }
+    ensures refusal { IfErr result (λ f. Refuses (where_dims source.now mask_dims.now (which mask.now)) (refusal_of f)) }
 {
-    if !is_same(source, mask_dims) {
-        return Err(ChoiceFault::Mismatch);
-    }
-    let count = set_count(mask);
-    let dims = line(alloc, count as u32);
-    let places = set_places(alloc, mask, count)?;
-    Ok(Choice { dims, places })
+    let _count = elements_of(mask_dims);
+    let places = which_places(alloc, mask)?;
+    listed_places(alloc, source, mask_dims, places.as_slice())
 }
 
 /// Whether two arrays have the same dimensions.
 fn is_same(first: &Dims, second: &Dims) -> bool
-    ensures value { result ≡ bytes_eq first.now second.now }
+    ensures value { result ≡ pointwise nat_eq first.now second.now }
     ensures same { IsTrue result ↔ (first.now ≡ second.now) }
     ensures limits { size_of first.now ≤ extent_limit }
 {

@@ -22,8 +22,9 @@ fn is_view(rt: &impl Abort, answer: &Result<Choice, ChoiceFault>, dims: &[u32], 
     match answer {
         Ok(choice) => {
             assert_eq!(rt; dims_list(&choice.dims), dims);
-            assert_eq!(rt; choice.places.len(), places.len());
-            for (place, want) in choice.places.iter().zip(places) {
+            let found = choice.places.as_slice();
+            assert_eq!(rt; found.len(), places.len());
+            for (place, want) in found.iter().zip(places) {
                 assert_eq!(rt; place.map_or(-1, i64::from), *want);
             }
         }

@@ -4,15 +4,18 @@ ghost use Rattle.std.specs.Bool.{OnFalse};
 ghost use Rattle.std.specs.List.{list_any, range_with_len};
 ghost use Rattle.std.specs.Option.{option_map};
 ghost use Rattle.pdl_shape.specs.Shape.{IsDims, dims_limit, extent, extent_limit, size_of, position_of, coordinates_of};
-ghost use Rattle.pdl_choice.specs.Choice.{AreInside, places_of, within_limits};
+ghost use Rattle.pdl_shape.specs.Limits.{checked_dims};
+ghost use Rattle.pdl_shape.specs.Places.{AllBelow, places_of};
+ghost use Rattle.pdl_shape.specs.Refusals.{Refuses};
+ghost use Rattle.pdl_choice.specs.Choice.{position_in, refusal_of};
 ghost use Rattle.pdl_choice.specs.Edges.{edge_refuses, from_zero};
 ghost use Rattle.pdl_choice.specs.Rounds.{CanPlaceAll, CanPlaceEach, numbers_at, placed};
-ghost use Rattle.pdl_choice.specs.Range.{capped, corner_len, is_negative, is_positive, window_refusal, window_sizes, first_refused, inner_dims, range_dims, window_source, range_source, AllAllowed};
+ghost use Rattle.pdl_choice.specs.Range.{capped, corner_len, is_negative, is_positive, window_refusal, window_sizes, first_refused, inner_dims, range_dims, range_outside, window_source, range_source, AllAllowed};
 
 use crate::answers::{count_of, limited};
 use crate::reach::{coordinate, refuses};
 use crate::rounds::{first_size, move_on, rounds_of};
-use crate::{Choice, ChoiceFault, Edge, NoMemory};
+use crate::{Choice, ChoiceFault, Edge, NoMemory, Places};
 use pdl_shape::{Dims, dims_list, elements_of};
 use std::alloc::Global;
 
@@ -35,9 +38,10 @@ pub fn range(
 ) -> Result<Choice, ChoiceFault>
     requires { length ind.now ≡ size_of ind_dims.now }
     ensures dims { IfOk result (λ c. range_dims source.now ind_dims.now ind.now sizes.now edge ≡ Ok c.dims) }
-    ensures places { IfOk result (λ c. c.places.items ≡ places_of c.dims source.now (range_source source.now ind_dims.now ind.now sizes.now edge)) }
-    ensures inside { IfOk result (λ c. AreInside (size_of source.now) c.places.items) }
-    ensures refusal { IfErr result (λ f. f ≢ ChoiceFault.NoMemory → range_dims source.now ind_dims.now ind.now sizes.now edge ≡ Err f) }
+    ensures places { IfOk result (λ c. c.places ≡ places_of c.dims source.now (range_source source.now ind_dims.now ind.now sizes.now edge)) }
+    ensures inside { IfOk result (λ c. AllBelow (size_of source.now) c.places) }
+    ensures refusal { IfErr result (λ f. Refuses (range_dims source.now ind_dims.now ind.now sizes.now edge) (refusal_of f)) }
+    ensures at { IfErr result (λ f. IfSome (position_in f) (λ at. range_outside source.now ind_dims.now ind.now sizes.now edge ≡ Some at)) }
 {
     ranged(
         alloc,
@@ -62,9 +66,10 @@ fn ranged(
     requires ind_limits { IsDims ind_dims.now }
     requires whole { length ind.now ≡ size_of ind_dims.now }
     ensures dims { IfOk result (λ c. range_dims parent.now ind_dims.now ind.now sizes.now edge ≡ Ok c.dims) }
-    ensures places { IfOk result (λ c. c.places.items ≡ places_of c.dims parent.now (range_source parent.now ind_dims.now ind.now sizes.now edge)) }
-    ensures inside { IfOk result (λ c. AreInside (size_of parent.now) c.places.items) }
-    ensures refusal { IfErr result (λ f. f ≢ ChoiceFault.NoMemory → range_dims parent.now ind_dims.now ind.now sizes.now edge ≡ Err f) }
+    ensures places { IfOk result (λ c. c.places ≡ places_of c.dims parent.now (range_source parent.now ind_dims.now ind.now sizes.now edge)) }
+    ensures inside { IfOk result (λ c. AllBelow (size_of parent.now) c.places) }
+    ensures refusal { IfErr result (λ f. Refuses (range_dims parent.now ind_dims.now ind.now sizes.now edge) (refusal_of f)) }
+    ensures at { IfErr result (λ f. IfSome (position_in f) (λ at. range_outside parent.now ind_dims.now ind.now sizes.now edge ≡ Some at)) }
 {
     let (count, outer) = corner_dims(ind_dims);
     let listed = match window_list(alloc, parent.len(), count, sizes) {
@@ -82,7 +87,10 @@ fn ranged(
     let corners = count_of(outer);
     let count = elements_of(&dims);
     let places = window_places(alloc, edge, parent, windows, ind, corners, count)?;
-    Ok(Choice { dims, places })
+    Ok(Choice {
+        dims,
+        places: Places::new(places),
+    })
 }
 
 /// How many numbers a corner has, and the dimensions of the array of corners.
@@ -123,8 +131,9 @@ fn windowed(
     requires outer_few { length outer.now ≤ dims_limit }
     requires parent_few { length parent.now ≤ dims_limit }
     requires fit { length windows.now ≤ length parent.now }
-    ensures dims { IfOk result (λ dims. within_limits (outer.now ++ inner_dims parent.now windows.now) ≡ Ok dims) }
-    ensures refusal { IfErr result (λ f. f ≢ ChoiceFault.NoMemory → within_limits (outer.now ++ inner_dims parent.now windows.now) ≡ Err f) }
+    ensures dims { IfOk result (λ dims. checked_dims (outer.now ++ inner_dims parent.now windows.now) ≡ Ok dims) }
+    ensures refusal { IfErr result (λ f. Refuses (checked_dims (outer.now ++ inner_dims parent.now windows.now)) (refusal_of f)) }
+    ensures nowhere { IfErr result (λ f. position_in f ≡ None) }
 {
     let sizes = windowed_sizes(alloc, outer, parent, windows)?;
     limited(alloc, &sizes)
@@ -163,7 +172,8 @@ fn window_list(
     ensures len { IfOk result (λ windows. vec_len windows ≡ count) }
     ensures fit { OnOk result (window_refusal dims count sizes.now ≡ None) }
     ensures windows { IfOk result (λ windows. windows.items ≡ window_sizes count sizes.now) }
-    ensures refusal { IfErr result (λ f. f ≢ ChoiceFault.NoMemory → window_refusal dims count sizes.now ≡ Some f) }
+    ensures refusal { IfErr result (λ f. IfSome (refusal_of f) (λ refusal. window_refusal dims count sizes.now ≡ Some refusal)) }
+    ensures nowhere { IfErr result (λ f. position_in f ≡ None) }
 {
     if count > dims || has_negative(sizes) {
         return Err(ChoiceFault::BadDimension);
@@ -274,7 +284,7 @@ fn push_corners(
     requires bounded { extent parent.now ≤ extent_limit }
     requires allowed { CanPlaceAll edge parent.now ind.now (length at.now - 1) at.now }
     requires within { slice_index at.now (length at.now - 1) < size_of (drop (length at.now - 1) parent.now) }
-    ensures inside { OnOk result (AreInside (size_of parent.now) places.old.items → AreInside (size_of parent.now) places.new.items) }
+    ensures inside { OnOk result (AllBelow (size_of parent.now) places.old.items → AllBelow (size_of parent.now) places.new.items) }
     ensures added { OnOk result (places.new.items ≡ places.old.items ++ map (λ q. placed edge parent.now (numbers_at ind.now (length at.now - 1) q) at.now) (range_with_len 0 corners)) }
 {
     let len = at.len() - 1;
@@ -318,7 +328,7 @@ fn window_places(
     requires bounded { extent parent.now ≤ extent_limit }
     requires inner_bounded { extent (inner_dims parent.now windows.now) ≤ extent_limit }
     requires allowed { AllAllowed edge parent.now windows.now ind.now }
-    ensures inside { IfOk result (λ places. AreInside (size_of parent.now) places.items) }
+    ensures inside { IfOk result (λ places. AllBelow (size_of parent.now) places.items) }
     ensures places { IfOk result (λ places. places.items ≡ map (λ p. option_map (position_of parent.now) (window_source edge parent.now windows.now (take (length windows.now) (drop (length windows.now * (p % corners)) ind.now)) (coordinates_of (inner_dims parent.now windows.now) (p / corners)))) (range_with_len 0 count)) }
 {
     let sizes = window_rounds(alloc, parent, windows)?;

@@ -1,5 +1,5 @@
 pub mod Types
 pub mod Numbers
 pub mod Operators
-pub mod Places
+pub mod Blocks
 pub mod Hashes

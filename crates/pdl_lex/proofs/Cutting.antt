@@ -1,6 +1,6 @@
 -- The pieces still to come, byte by byte.
-use Rattle.std.proofs.Common.{◌≡◌, ℕ, zero, suc, ◌+◌, ◌<◌, ◌≤◌, Bool, true, false, cond, List, [], ◌∷◌, ◌++◌, length, refl, sym, ◌∙◌, ap, subst, arith, append_assoc, length-append, eqb-true, append-nil, add-zero, take, drop, take-take, take_all, drop-cons, get_or, add-one, take-append-drop, take-add, length-take-le}
-use Rattle.std.specs.Prelude.{◌↔◌, Option, Some, None, option_to_list, if◌then◌else◌, ◌==◌}
+use Rattle.std.proofs.Common.{◌≡◌, ℕ, zero, suc, ◌+◌, ◌-◌, ◌<◌, ◌≤◌, Bool, true, false, cond, List, [], ◌∷◌, ◌++◌, length, refl, sym, ◌∙◌, ap, subst, arith, append_assoc, length-append, eqb-true, append-nil, add-zero, take, drop, take-take, take_all, drop-cons, get_or, add-one, take-append-drop, take-add, length-take-le}
+use Rattle.std.specs.Prelude.{Result, Ok, Err, OnErr, Option, Some, None, option_to_list, if◌then◌else◌, ◌==◌}
 use Rattle.std.proofs.lemmas.List.{drop_all, take_more}
 use Rattle.std.specs.List.{list_all, prefix_len}
 use Rattle.std.proofs.lemmas.List.Sums.{sum_by-append, prefix_len-le-length}
@@ -308,8 +308,33 @@ reached-answered s bs used (Some piece) t r =
     let run = r.1 in
     settled-nothing t (subst Fits (sym run.6) (next-fits run.1 (get_or bs run.0 0) (quiet-fits s (take run.0 bs) run.1 r.0 run.4)))
 
-pub reached-none : (s : State) (bs : List ℕ) (used : ℕ) (cut : Option Piece) (t : State) → Reached s bs used cut t → (cut ≡ None) ↔ (settled_from s bs ≡ [])
-reached-none s bs used None t r = (λ same. quiet-settled s bs t r.0 r.1.1, λ nothing. refl)
-reached-none s bs used (Some piece) t r =
-    let found : settled_from s bs ≡ piece ∷ settled_from t (drop used bs ++ []) = ap (settled_from s) (sym (append-nil bs)) ∙ reached-stream false s bs used (Some piece) t r [] in
-    (λ same. absurd (cc), λ nothing. absurd (cc))
+-- the bytes taken complete the piece that is answered, and no other
+pub reached-completed : (s : State) (bs : List ℕ) (used : ℕ) (cut : Option Piece) (t : State) → Reached s bs used cut t → settled_from s (take used bs) ≡ option_to_list cut
+reached-completed s bs used None t r =
+    let all : take used bs ≡ bs = take_all used bs (omega arith) in
+    rw all (quiet-settled s bs t r.0 r.1.1)
+reached-completed s bs used (Some piece) t r =
+    let run = r.1 in
+    let byte = get_or bs run.0 0 in
+    let front : take used bs ≡ take run.0 bs ++ byte ∷ [] = rw run.3 (take_more bs run.0 0 run.2) in
+    let fits : Fits run.1 = quiet-fits s (take run.0 bs) run.1 r.0 run.4 in
+    ap (settled_from s) front
+    ∙ quiet-stream false s (take run.0 bs) run.1 (byte ∷ []) r.0 run.4
+    ∙ from_chunks-step false run.1 byte [] fits
+    ∙ ap (λ c. option_to_list c ++ from_chunks false (next run.1 byte) (chunks (next run.1 byte).mode [])) run.5
+    ∙ ap (λ ps. piece ∷ ps) (settled-nothing (next run.1 byte) (next-fits run.1 byte fits))
+
+-- the line where memory was wanting: at a byte, or before the plain bytes behind it
+pub failed-at : (s : State) (bs : List ℕ) (used : ℕ) (t : State) (line taken : ℕ) → used < length bs → IsQuiet s (take used bs) t → t.taken ≡ s.taken + used
+    → line ≡ t.line + newlines (get_or bs used 0 ∷ []) → taken ≡ t.taken + 1 → line ≡ s.line + newlines (take (taken - s.taken) bs)
+failed-at s bs used t line taken below quiet count is_line is_taken =
+    let more : taken - s.taken ≡ used + 1 = omega arith in
+    let front : take (used + 1) bs ≡ take used bs ++ get_or bs used 0 ∷ [] = take_more bs used 0 below in
+    let before : t.line ≡ s.line + newlines (take used bs) = quiet-line s (take used bs) t quiet in
+    let sum : newlines (take (used + 1) bs) ≡ newlines (take used bs) + newlines (get_or bs used 0 ∷ []) = ap newlines front ∙ newlines-append (take used bs) (get_or bs used 0 ∷ []) in
+    rw more (omega (arith, before, sum, is_line))
+
+-- what holds, holds after an error
+pub on_err : {T E : Type 0} (r : Result T E) {P : Type 0} → P → OnErr r P
+on_err (Ok x) p = tt
+on_err (Err e) p = p

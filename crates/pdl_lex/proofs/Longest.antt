@@ -46,10 +46,10 @@ one_add : (n : ℕ) → 1 + n ≡ suc n
 one_add n = omega arith
 
 module _ (p : ℕ → Bool) where
-  prefix-yes : (x : ℕ) (xs : List ℕ) → p x ≡ true → prefix_len p (x ∷ xs) ≡ suc (prefix_len p xs)
+  pub prefix-yes : (x : ℕ) (xs : List ℕ) → p x ≡ true → prefix_len p (x ∷ xs) ≡ suc (prefix_len p xs)
   prefix-yes x xs passes = rw passes (omega arith)
 
-  prefix-no : (x : ℕ) (xs : List ℕ) → p x ≡ false → prefix_len p (x ∷ xs) ≡ 0
+  pub prefix-no : (x : ℕ) (xs : List ℕ) → p x ≡ false → prefix_len p (x ∷ xs) ≡ 0
   prefix-no x xs fails = rw fails
 
   pub list_all-front : (xs : List ℕ) → list_all p (take (prefix_len p xs) xs) ≡ true

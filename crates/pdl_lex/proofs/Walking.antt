@@ -26,20 +26,20 @@ toks_from-passed (b ∷ bs) at (suc passed) =
     toks_from-passed bs (suc at) passed ∙ ap (λ p. toks_from p 0 (drop passed bs)) place
 
 -- a blank, a comment, a token or none at the front of what is left
-gap-first : (b : ℕ) (bs : List ℕ) (at n : ℕ) → gap_at (b ∷ bs) ≡ suc n → toks_from at 0 (b ∷ bs) ≡ toks_from (at + suc n) 0 (drop (suc n) (b ∷ bs))
+pub gap-first : (b : ℕ) (bs : List ℕ) (at n : ℕ) → gap_at (b ∷ bs) ≡ suc n → toks_from at 0 (b ∷ bs) ≡ toks_from (at + suc n) 0 (drop (suc n) (b ∷ bs))
 unfolding toks_from
 gap-first b bs at n gap =
     let some : nat_lt 0 (suc n) ≡ true = lt-ltb 0 (suc n) (omega arith) in
     let place : suc at + n ≡ at + suc n = omega arith in
     rw (gap, some) (toks_from-passed bs (suc at) n ∙ ap (λ p. toks_from p 0 (drop n bs)) place)
 
-token-first : (b : ℕ) (bs : List ℕ) (at : ℕ) (kind : TokenKind) (n : ℕ) → gap_at (b ∷ bs) ≡ 0 → token_at (b ∷ bs) ≡ Some (kind, suc n) → toks_from at 0 (b ∷ bs) ≡ after_tokens (record { kind = kind; from = at; to = at + suc n } ∷ []) (toks_from (at + suc n) 0 (drop (suc n) (b ∷ bs)))
+pub token-first : (b : ℕ) (bs : List ℕ) (at : ℕ) (kind : TokenKind) (n : ℕ) → gap_at (b ∷ bs) ≡ 0 → token_at (b ∷ bs) ≡ Some (kind, suc n) → toks_from at 0 (b ∷ bs) ≡ after_tokens (record { kind = kind; from = at; to = at + suc n } ∷ []) (toks_from (at + suc n) 0 (drop (suc n) (b ∷ bs)))
 unfolding toks_from
 token-first b bs at kind n gap token =
     let place : suc at + n ≡ at + suc n = omega arith in
     rw (gap, token) (ap (after_tokens (record { kind = kind; from = at; to = at + suc n } ∷ [])) (toks_from-passed bs (suc at) n ∙ ap (λ p. toks_from p 0 (drop n bs)) place))
 
-none-first : (b : ℕ) (bs : List ℕ) (at : ℕ) → gap_at (b ∷ bs) ≡ 0 → token_at (b ∷ bs) ≡ None → toks_from at 0 (b ∷ bs) ≡ Err (fault_of at b)
+pub none-first : (b : ℕ) (bs : List ℕ) (at : ℕ) → gap_at (b ∷ bs) ≡ 0 → token_at (b ∷ bs) ≡ None → toks_from at 0 (b ∷ bs) ≡ Err (fault_of at b)
 unfolding toks_from
 none-first b bs at gap token = rw (gap, token)
 

@@ -1,5 +1,5 @@
 -- The tokens of a statement's text: at each place the longest one, with blanks and comments between them.
-use Rattle.std.specs.Prelude.{ℕ, zero, suc, pred, ◌+◌, ◌-◌, ◌<◌, ◌≤◌, ◌==◌, nat_lt, Bool, false, not, ◌&&◌, if◌then◌else◌, List, [], ◌∷◌, ◌++◌, length, take, drop, Option, Some, None, Result, Ok, Err, codes, bytes_eq}
+use Rattle.std.specs.Prelude.{◌≡◌, ℕ, zero, suc, pred, ◌+◌, ◌<◌, ◌≤◌, ◌==◌, nat_lt, Bool, true, false, not, ◌&&◌, if◌then◌else◌, List, [], ◌∷◌, ◌++◌, length, take, Option, Some, None, Result, Ok, Err, codes, bytes_eq}
 use Rattle.std.specs.List.{list_any, list_all, prefix_len}
 use Rattle.std.specs.Char.{is_ascii_digit}
 use Rattle.pdl_lex.specs.Bytes.{is_blank, is_hash, is_newline, is_quote, is_letter, is_word_byte}
@@ -95,11 +95,34 @@ toks_from at zero (b ∷ bs) =
 unfoldable pub toks : List ℕ → Result (List Token) LexFault
 toks text = toks_from 0 0 text
 
--- the bytes of a token
-abbrev pub bytes_of : List ℕ → Token → List ℕ
-bytes_of text t = take (t.to - t.from) (drop t.from text)
+-- whether no byte is left, or the next one is a newline
+abbrev pub is_line_end : List ℕ → Bool
+is_line_end [] = true
+is_line_end (b ∷ bs) = is_newline b
 
--- from a place on the spans rise, don't overlap and end within the text
-abbrev pub AreSpans : ℕ → ℕ → List Token → Type 0
-AreSpans at end [] = at ≤ end
-AreSpans at end (t ∷ ts) = (at ≤ t.from) × (t.from < t.to) × AreSpans t.to end ts
+-- bytes without a newline
+abbrev pub is_one_line : List ℕ → Bool
+is_one_line bytes = list_all (λ b. not (is_newline b)) bytes
+
+-- more than n bytes at the front are no token
+abbrev pub IsLongest : ℕ → List ℕ → Type 0
+IsLongest n text = (k : ℕ) → n < k → k ≤ length text → kind_of (take k text) ≡ None
+
+-- The bytes from a place on are tokens with these spans, one behind the other, and beside them blanks and comments alone.
+-- A comment goes up to a newline, or to the end. A token is the longest one where it begins.
+pub data AreSpans : ℕ → List ℕ → List Token → Type 0 where
+  at_end : {at : ℕ} → AreSpans at [] []
+  a_blank : {at b : ℕ} {bs : List ℕ} {ts : List Token} → is_blank b ≡ true
+      → AreSpans (at + 1) bs ts → AreSpans at (b ∷ bs) ts
+  a_comment : {at b : ℕ} (line : List ℕ) {bs : List ℕ} {ts : List Token}
+      → is_hash b ≡ true → is_one_line line ≡ true → is_line_end bs ≡ true
+      → AreSpans (at + length (b ∷ line)) bs ts → AreSpans at (b ∷ line ++ bs) ts
+  a_token : {at : ℕ} {kind : TokenKind} (bytes : List ℕ) {bs : List ℕ} {ts : List Token}
+      → kind_of bytes ≡ Some kind → IsLongest (length bytes) (bytes ++ bs)
+      → AreSpans (at + length bytes) bs ts
+      → AreSpans at (bytes ++ bs) (record { kind = kind; from = at; to = at + length bytes } ∷ ts)
+
+-- the tokens of a text are its longest ones, with blanks and comments alone beside them, and no more than its bytes
+pub record Spans (text : List ℕ) (ts : List Token) : Type 0 where
+  pub spans : AreSpans 0 text ts
+  pub few : length ts ≤ length text

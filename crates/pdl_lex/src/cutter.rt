@@ -1,4 +1,4 @@
-ghost use Rattle.std.specs.Prelude.{◌≡◌, ◌↔◌, ℕ, ◌+◌, ◌^◌, ◌<◌, ◌≤◌, true, false, if◌then◌else◌, List, [], ◌++◌, length, take, drop, Some, None, option_to_list, IfOk, OnOk, OnErr};
+ghost use Rattle.std.specs.Prelude.{◌≡◌, ℕ, ◌+◌, ◌-◌, ◌^◌, ◌<◌, ◌≤◌, true, false, if◌then◌else◌, List, [], ◌∷◌, ◌++◌, length, take, drop, Some, None, option_to_list, IfOk, OnOk, OnErr};
 ghost use Rattle.std.specs.List.{prefix_len};
 ghost use Rattle.pdl_lex.specs.Bytes.{newlines};
 ghost use Rattle.pdl_lex.specs.Pieces.{start_state, mode_after, is_end, is_between, pieces, settled, to_come, settled_from};
@@ -126,7 +126,8 @@ impl StatementCutter {
     /// Takes bytes up to and with the one that completes a piece, or all of them. A statement with too long a text
     /// is answered at the byte past the limit, and the rest of it is taken without an answer.
     ///
-    /// Once memory was wanting, it answers `NoMemory` from then on, and only `feed` and `line` may be called.
+    /// Once memory was wanting, it answers `NoMemory` from then on, and only `feed` and `line` may be called. `line` then
+    /// counts the newlines up to and with the byte for which there was no memory.
     pub fn feed(&mut self, piece: &[u8]) -> Result<Fed, NoMemory>
         requires room { self.old.taken + length piece.now < 2 ^ 63 }
 
@@ -134,16 +135,19 @@ impl StatementCutter {
         ensures stream { IfOk result (λ fed. (more : List ℕ) → to_come self.old (piece.now ++ more) ≡ option_to_list fed.cut ++ to_come self.new (drop fed.used piece.now ++ more)) }
         ensures certain { IfOk result (λ fed. (more : List ℕ) → settled_from self.old (piece.now ++ more) ≡ option_to_list fed.cut ++ settled_from self.new (drop fed.used piece.now ++ more)) }
 
-        // It comes at the first byte that makes it certain, and there is none exactly where no piece is certain.
+        // The bytes taken complete it and no other piece, and fewer complete none. So it comes at the first byte that makes
+        // it certain, and there is none exactly where no piece is certain.
+        ensures completed { IfOk result (λ fed. settled_from self.old (take fed.used piece.now) ≡ option_to_list fed.cut) }
         ensures earliest { IfOk result (λ fed. (k : ℕ) → k < fed.used → settled_from self.old (take k piece.now) ≡ []) }
         ensures answered { OnOk result (settled_from self.new [] ≡ []) }
-        ensures none { IfOk result (λ fed. (fed.cut ≡ None) ↔ (settled_from self.old piece.now ≡ [])) }
         ensures all_used { IfOk result (λ fed. fed.cut ≡ None → fed.used ≡ length piece.now) }
         ensures within { IfOk result (λ fed. fed.used ≤ length piece.now) }
         ensures some { IfOk result (λ fed. 0 < length piece.now → 0 < fed.used) }
 
         ensures lines { IfOk result (λ fed. self.new.line ≡ self.old.line + newlines (take fed.used piece.now)) }
+        ensures failed_line { OnErr result (self.new.line ≡ self.old.line + newlines (take (self.new.taken - self.old.taken) piece.now)) }
         ensures count { IfOk result (λ fed. self.new.taken ≡ self.old.taken + fed.used) }
+        ensures at_least { self.old.taken ≤ self.new.taken }
         ensures at_most { self.new.taken ≤ self.old.taken + length piece.now }
 
         ensures works { OnOk result ((self.old.failed ≡ false) × (self.new.failed ≡ false)) }
@@ -162,7 +166,9 @@ impl StatementCutter {
         ensures reaches { IfOk result (λ fed. Reaches self.old piece.now fed.used fed.cut self.new) }
         ensures works { OnOk result (self.new.failed ≡ false) }
         ensures failed { OnErr result (self.new.failed ≡ true) }
+        ensures failed_line { OnErr result (self.new.line ≡ self.old.line + newlines (take (self.new.taken - self.old.taken) piece.now)) }
         ensures count { IfOk result (λ fed. self.new.taken ≡ self.old.taken + fed.used) }
+        ensures at_least { self.old.taken ≤ self.new.taken }
         ensures at_most { self.new.taken ≤ self.old.taken + length piece.now }
     {
         let mut used = 0;
@@ -179,7 +185,7 @@ impl StatementCutter {
         Ok(Fed { used, cut: None })
     }
 
-    /// The line on which the next byte stands: 1 plus the number of newlines taken.
+    /// The line on which the next byte stands: 1 plus the number of newlines taken, whether memory was wanting or not.
     pub fn line(&self) -> u64
         ensures { result ≡ self.now.line }
     {
@@ -216,6 +222,7 @@ impl StatementCutter {
         ensures works { OnOk result (self.new.failed ≡ false) }
         ensures failed { OnErr result (self.new.failed ≡ true) }
         ensures taken { self.new.taken ≡ self.old.taken + 1 }
+        ensures line { self.new.line ≡ self.old.line + newlines (byte ∷ []) }
     {
         self.taken += 1;
         if is_end(self.mode, byte) {
@@ -243,7 +250,8 @@ impl StatementCutter {
         ensures works { OnOk result (self.new.failed ≡ false) }
         ensures failed { OnErr result (self.new.failed ≡ true) }
         ensures count { IfOk result (λ len. self.new.taken ≡ self.old.taken + len) }
-        ensures at_most { self.new.taken ≤ self.old.taken + length part.now }
+        ensures none_taken { OnErr result (self.new.taken ≡ self.old.taken) }
+        ensures line { self.new.line ≡ self.old.line }
     {
         if self.over || self.text.is_empty() {
             return Ok(0);
@@ -265,6 +273,7 @@ impl StatementCutter {
         ensures after { OnOk result (self.new ≡ grown_on self.old byte line) }
         ensures failed { OnErr result (self.new.failed ≡ true) }
         ensures taken { self.new.taken ≡ self.old.taken }
+        ensures line { self.new.line ≡ self.old.line }
     {
         if self.text.is_empty() {
             self.start = line;

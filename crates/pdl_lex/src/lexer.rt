@@ -1,6 +1,7 @@
-ghost use Rattle.std.specs.Prelude.{◌≡◌, ◌+◌, ◌^◌, ◌<◌, ◌≤◌, length, drop, Some, None, Ok, Err, ◌≢◌, IfOk, IfErr, IfSome};
+ghost use Rattle.std.specs.Prelude.{◌≡◌, ℕ, List, ◌+◌, ◌^◌, ◌<◌, ◌≤◌, length, drop, Some, None, Ok, Err, ◌≢◌, IfOk, IfErr, IfSome};
 ghost use Rattle.pdl_lex.specs.Bytes.{is_letter, is_word_byte};
-ghost use Rattle.pdl_lex.specs.Tokens.{is_sign, gap_at, token_at, fault_of, after_tokens, toks_from, toks, AreSpans};
+ghost use Rattle.pdl_lex.specs.Tokens.{is_sign, gap_at, token_at, fault_of, after_tokens, toks_from, toks, Spans};
+ghost use Rattle.pdl_lex.specs.declared.Token.{Token};
 ghost use Rattle.pdl_lex.specs.Reading.{word_len, digits_len, other_len, name_after, string_after, begins_sign, sign_at, read_at};
 
 use crate::{LexFault, Token, TokenKind};
@@ -219,7 +220,8 @@ fn take_token(found: &mut Vec<Token>, text: &[u8], at: usize) -> Result<usize, L
     }
 }
 
-/// The tokens of a statement's text, in order: at each place the longest one, with blanks and comments passed.
+/// The tokens of a statement's text, in order: at each place the longest one, with blanks and comments passed. Their
+/// spans rise, don't overlap and leave only blanks and comments between them.
 ///
 /// It answers `BadByte` at the first byte that begins no token, or `OpenString` at the quote of a string without an
 /// end, whichever stands first.
@@ -227,7 +229,7 @@ pub fn tokens(alloc: Global, text: &[u8]) -> Result<Vec<Token>, LexFault>
     requires { length text.now ≤ 65536 }
     ensures exact { IfOk result (λ found. toks text.now ≡ Ok found.items) }
     ensures fault { IfErr result (λ fault. fault ≢ LexFault.NoMemory → toks text.now ≡ Err fault) }
-    ensures spans { IfOk result (λ found. AreSpans 0 (length text.now) found.items) }
+    ensures spans { IfOk result (λ found. Spans text.now found.items) }
 {
     let mut found = Vec::new(alloc);
     let mut at = 0;
@@ -236,3 +238,9 @@ pub fn tokens(alloc: Global, text: &[u8]) -> Result<Vec<Token>, LexFault>
     }
     Ok(found)
 }
+
+/// What the tokens of any text are: spans that rise, don't overlap and leave only blanks and comments between them,
+/// each of them the longest token where it begins; and no more of them than bytes.
+pub fn tokens_are_spans()
+    ensures { (text : List ℕ) (found : List Token) → toks text ≡ Ok found → Spans text found }
+{}

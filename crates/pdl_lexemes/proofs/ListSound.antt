@@ -5,7 +5,7 @@ use Rattle.pdl_lexemes.specs.declared.Lexeme.{Lexeme}
 use Rattle.pdl_lexemes.specs.declared.Lexeme.TheVariants.{Number, OpenSquare, CloseSquare, Comma, Operator}
 use Rattle.pdl_lexemes.specs.Lists.{signed, shared, with_length, SpellsList, an_item, some_items, a_list, number, minus, nested, first, more, empty, filled}
 use Rattle.pdl_lexemes.specs.ListReading.{Part, part, closed, number_item, after_comma, after_open_square, after_close_square, after_minus, number_at, signed_number_at, minus_step, item_at, items_at, filled_at, inside_at, list_at, list_reader}
-use Rattle.pdl_lexemes.proofs.Options.{some_inj, none_some, then_elim, map_elim, choose_elim}
+use Rattle.pdl_lexemes.specs.Options.{some_inj, none_some, then_elim, map_elim, choose_elim}
 
 pub comma_is : (ts : List Lexeme) {us : List Lexeme} → after_comma ts ≡ Some us → ts ≡ Comma ∷ us
 comma_is [] e = absurd (none_some e)

@@ -1,5 +1,5 @@
 -- The checks on lexemes that look at no grammar: how deep brackets are, how many operators there are, how large numbers are.
-use Rattle.std.specs.Prelude.{ℕ, pred, ◌+◌, nat_lt, nat_eq, List, [], ◌∷◌, Bool, true, false, Option, Some, None, if◌then◌else◌}
+use Rattle.std.specs.Prelude.{◌≡◌, ℕ, pred, ◌+◌, ◌<◌, length, nat_lt, nat_eq, List, [], ◌∷◌, Bool, true, false, Option, Some, None, if◌then◌else◌}
 use Rattle.std.specs.List.{list_any}
 use Rattle.pdl_lexemes.specs.declared.checks.Counts.{Counts}
 use Rattle.pdl_lexemes.specs.declared.Lexeme.{Lexeme}
@@ -57,3 +57,8 @@ reads_ragged (Some p) = without_shape p.shape
 abbrev pub ragged_in : List Lexeme → Bool
 ragged_in [] = false
 ragged_in (t ∷ ts) = if reads_ragged (list_read (t ∷ ts)) then true else ragged_in ts
+
+-- what a look at the place where lexemes begin says: a ragged list stands there, or no other than stand in the rest
+abbrev pub GoesOn : List Lexeme → Option (List Lexeme) → Type 0
+GoesOn ts None = ragged_in ts ≡ true
+GoesOn ts (Some us) = (ragged_in ts ≡ ragged_in us) × (length us < length ts)

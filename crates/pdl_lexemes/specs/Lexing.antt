@@ -13,7 +13,7 @@ use Rattle.pdl_lexemes.specs.declared.Keyword.TheVariants.{My, Print, Undef, Var
 use Rattle.pdl_lexemes.specs.declared.WordKind.{WordKind}
 use Rattle.pdl_lexemes.specs.declared.WordKind.TheVariants.{OfType, View, Pars, Code, Plain}
 use Rattle.pdl_lexemes.specs.declared.Lexeme.{Lexeme}
-use Rattle.pdl_lexemes.specs.declared.Lexeme.TheVariants.{Name, Keyword, Word, Number, Quoted, Open, Close, OpenSquare, CloseSquare, Comma, Equals, Arrow, FatArrow, Assign, Operator, Prefix}
+use Rattle.pdl_lexemes.specs.declared.Lexeme.TheVariants.{Name, Keyword, Word, Number, Quoted, Open, Close, OpenSquare, CloseSquare, Comma, Equals, Arrow, FatArrow, Assign, Operator, Prefix, Unknown}
 use Rattle.pdl_lexemes.specs.Bytes.{bytes_at}
 use Rattle.pdl_lexemes.specs.ListReading.{choose}
 
@@ -61,9 +61,9 @@ abbrev pub word_of : List ℕ → Span → Lexeme
 word_of text span =
     choose (Word (choose Plain (λ k. k) (found_in word_kinds text)) span) (λ k. Keyword k) (found_in keywords text)
 
--- a sign; a text that is none, which no token has, counts as a comma
+-- a sign; a text that is none, which no token has, is a lexeme that no rule of the grammar has
 abbrev pub sign_of : List ℕ → Lexeme
-sign_of text = choose Comma (λ s. s) (found_in signs text)
+sign_of text = choose Unknown (λ s. s) (found_in signs text)
 
 abbrev pub span_of : Token → Span
 span_of t = record { from = t.from; to = t.to }

@@ -5,3 +5,5 @@ pub mod ListReading
 pub mod Lexing
 pub mod Depth
 pub mod Squares
+pub mod Options
+pub mod Laws

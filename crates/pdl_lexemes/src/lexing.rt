@@ -130,7 +130,7 @@ fn sign_lexeme(text: &[u8]) -> Lexeme
 {
     match sign(text) {
         Some(sign) => sign,
-        None => Lexeme::Comma,
+        None => Lexeme::Unknown,
     }
 }
 

@@ -6,6 +6,7 @@ ghost use Rattle.std.specs.Prelude.{◌≡◌, ◌≤ℤ◌, pos, IfSome};
 ghost use Rattle.pdl_lexemes.specs.Lists.{signed};
 
 mod checks;
+mod laws;
 mod left;
 mod lexing;
 pub mod list;
@@ -16,6 +17,7 @@ pub mod sizes;
 mod tests;
 
 pub use checks::{has_large, holds_ragged};
+pub use laws::{every_sign_is_known, lists_are_arrays, lists_are_their_grammar, ragged_is_held};
 pub use left::Lexemes;
 pub use lexing::{bytes, lexemes};
 use pdl_elem::{BinaryOp, Ty, UnaryOp};
@@ -87,6 +89,8 @@ pub enum Lexeme {
     Operator(BinaryOp),
     /// `!` or `~`.
     Prefix(UnaryOp),
+    /// A sign that the grammar doesn't know.
+    Unknown,
 }
 
 /// The number, where it is at most 9223372036854775807.

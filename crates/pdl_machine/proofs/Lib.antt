@@ -1,4 +1,9 @@
-pub mod Fits
-pub mod Swept
-pub mod Same
-pub mod Reaching
+pub mod Renamed
+pub mod Both
+pub mod Stepping
+pub mod Tidying
+pub mod Numbering
+pub mod Orderly
+pub mod Steps
+pub mod MeaningLemmas
+pub mod RunLemmas

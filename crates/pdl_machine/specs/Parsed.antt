@@ -1,24 +1,20 @@
--- The statement that the tokens of a text spell, or the first check that they fail.
-use Rattle.std.specs.Prelude.{ℕ, List, if◌then◌else◌, Option, Some, None, Result, Ok, Err}
-use Rattle.pdl_lex.specs.declared.Token.{Token}
-use Rattle.pdl_lexemes.specs.declared.Lexeme.{Lexeme}
-use Rattle.pdl_lexemes.specs.Lexing.{lexemes_of}
-use Rattle.pdl_lexemes.specs.Depth.{is_too_deep, has_large, ragged_in}
+-- What the parser finds of a text's tokens, as the machine names it.
+use Rattle.std.specs.Prelude.{Result, Ok, Err}
+use Rattle.pdl_syntax.specs.declared.parser.ParseFault.{ParseFault}
+use Rattle.pdl_syntax.specs.declared.parser.ParseFault.TheVariants.{TooDeep as ParsedTooDeep, NumberTooLarge as ParsedTooLarge, Syntax as Unparsed, Ragged as ParsedRagged, NoMemory}
 use Rattle.pdl_syntax.specs.StatementTree.{StatementTree}
-use Rattle.pdl_syntax.specs.StatementReading.{read_statement}
 use Rattle.pdl_machine.specs.declared.fault.Fault.{Fault}
 use Rattle.pdl_machine.specs.declared.fault.Fault.TheVariants.{Syntax, TooDeep, NumberTooLarge, Ragged}
 
-abbrev pub unless_ragged : List Lexeme → Option StatementTree → Result StatementTree Fault
-unless_ragged lexemes None = Err Syntax
-unless_ragged lexemes (Some s) = if ragged_in lexemes then Err Ragged else Ok s
+-- the fault of the first check that the tokens fail; no tokens mean want of memory, so that one is never named
+abbrev pub fault_of : ParseFault → Fault
+fault_of ParsedTooDeep = TooDeep
+fault_of ParsedTooLarge = NumberTooLarge
+fault_of Unparsed = Syntax
+fault_of ParsedRagged = Ragged
+fault_of NoMemory = Syntax
 
-abbrev pub checked_lexemes : List ℕ → List Lexeme → Result StatementTree Fault
-checked_lexemes text lexemes =
-    if is_too_deep lexemes then Err TooDeep
-    else (if has_large lexemes then Err NumberTooLarge
-    else unless_ragged lexemes (read_statement text lexemes))
-
--- the one statement that spells the tokens; else the first check that fails: too deep, a number too large, no statement, a ragged list
-abbrev pub parsed : List ℕ → List Token → Result StatementTree Fault
-parsed text tokens = checked_lexemes text (lexemes_of text tokens)
+-- the statement, or the fault of the check
+abbrev pub as_read : Result StatementTree ParseFault → Result StatementTree Fault
+as_read (Ok s) = Ok s
+as_read (Err e) = Err (fault_of e)

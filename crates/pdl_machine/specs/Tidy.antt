@@ -1,14 +1,9 @@
--- What is left of a world after a statement: the arrays that names reach, numbered anew.
-use Rattle.std.specs.Prelude.{ℕ, ◌==◌, List, [], ◌∷◌, ◌++◌, map, length, Bool, if◌then◌else◌}
+-- What is left of a state after a statement: the arrays that it reaches, numbered anew.
+use Rattle.std.specs.Prelude.{ℕ, ◌==◌, List, [], ◌∷◌, ◌++◌, length, Bool, if◌then◌else◌}
 use Rattle.std.specs.List.{list_any}
 use Rattle.pdl_world.specs.World.{World, ArrayDef, root, view}
-use Rattle.pdl_world.specs.Sound.{AllBelow, IsLive}
 use Rattle.pdl_machine.specs.Names.{Names}
-
--- Names and the world that they look into.
-pub record State : Type 0 where
-  pub names : Names
-  pub world : World
+use Rattle.pdl_machine.specs.State.{State, held}
 
 abbrev pub holds : List ℕ → ℕ → Bool
 holds held k = list_any (λ v. v == k) held
@@ -42,27 +37,15 @@ abbrev pub renumber : World → World
 renumber [] = []
 renumber ((k, d) ∷ w) = (length w, with_parent (older w) d) ∷ renumber w
 
--- the arrays that names have
-abbrev pub held_by : Names → List ℕ
-held_by names = map (λ n. n.1) names
-
 -- names with other numbers of their arrays
 abbrev pub with_numbers : (ℕ → ℕ) → Names → Names
 with_numbers f [] = []
 with_numbers f (n ∷ names) = (n.0, f n.1) ∷ with_numbers f names
 
-abbrev pub tidied : World → Names → State
-tidied w names = record { names = with_numbers (older w) names; world = renumber w }
+-- a state whose arrays are these, numbered anew
+abbrev pub numbered : State → World → State
+numbered s w = record s { names = with_numbers (older w) s.names; arrays = record { world = renumber w; next = length w } }
 
--- each number is below the number of arrays, as where none was let go
-abbrev pub IsNumbered : World → Type 0
-IsNumbered w = AllBelow (length w) w
-
--- each name's array can be looked at
-abbrev pub AreLive : World → Names → Type 0
-AreLive w [] = Unit {0}
-AreLive w (n ∷ names) = IsLive w n.1 × AreLive w names
-
--- the state without the arrays that no name reaches, numbered anew
+-- the state without the arrays that it doesn't reach, numbered anew
 abbrev pub tidy : State → State
-tidy s = tidied (sweep s.world (held_by s.names)) s.names
+tidy s = numbered s (sweep s.arrays.world (held s))

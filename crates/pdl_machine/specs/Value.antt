@@ -1,50 +1,47 @@
 -- The value of an expression, by recursion on it: from left to right, arguments before the call.
-use Rattle.std.specs.Prelude.{ℕ, List, [], ◌∷◌, ◌++◌, Option, Some, None, Result, Ok, Err}
-use Rattle.pdl_world.specs.World.{World, root}
-use Rattle.pdl_syntax.specs.Tree.{Tree, Args, number, named, literal, unary, binary, call, none, value, text, of_type}
+use Rattle.std.specs.Prelude.{ℕ, ℤ, List, [], ◌∷◌, ◌++◌, Option, Result, Ok}
 use Rattle.pdl_lexemes.specs.Lists.{type_of}
+use Rattle.pdl_buf.specs.declared.made.Made.{Made}
+use Rattle.pdl_syntax.specs.Tree.{Tree, Args, number, named, literal, unary, binary, call, none, value, text, of_type}
 use Rattle.pdl_machine.specs.declared.fault.Fault.{Fault}
-use Rattle.pdl_machine.specs.declared.fault.Fault.TheVariants.{Syntax, UnknownName}
+use Rattle.pdl_machine.specs.declared.fault.Fault.TheVariants.{UnknownName}
+use Rattle.pdl_machine.specs.Then.{and_then, or_fault}
+use Rattle.pdl_machine.specs.Arrays.{Arrays, array_in}
 use Rattle.pdl_machine.specs.Names.{Names, number_of}
-use Rattle.pdl_machine.specs.Calls.{Given, array, string, type_word, Valued, with_new, call_value}
+use Rattle.pdl_machine.specs.Outcome.{array, string, type_word, Given, Valued, new_root}
+use Rattle.pdl_machine.specs.Operators.{unary_each, binary_each}
+use Rattle.pdl_machine.specs.Calls.{call_value}
 
--- a world with new arrays, and the arguments that were evaluated; or the first fault
+-- the arguments that were evaluated, with the arrays that are there then; or the first fault
 abbrev pub Taken : Type 0
-Taken = Result (World × List Given) Fault
+Taken = Result (Arrays × List Given) Fault
 
-abbrev pub known : World → Option ℕ → Valued
-known w None = Err UnknownName
-known w (Some v) = Ok (w, v)
+-- a number as an array without dimensions: long where it is at most 2147483647, else longlong
+abbrev pub number_made : ℤ → Made
+number_made n = record { ty = type_of (n ∷ []); dims = []; elems = n ∷ [] }
 
-abbrev pub called : List ℕ → Taken → Valued
-called f (Err e) = Err e
-called f (Ok (w, given)) = call_value f w given
-
-abbrev pub and_argument : Taken → Given → Taken
-and_argument (Err e) g = Err e
-and_argument (Ok (w, given)) g = Ok (w, given ++ g ∷ [])
-
-abbrev pub and_array : List Given → Valued → Taken
-and_array given (Err e) = Err e
-and_array given (Ok (w, v)) = Ok (w, given ++ array v ∷ [])
-
-abbrev pub and_value : Taken → (World → Valued) → Taken
-and_value (Err e) f = Err e
-and_value (Ok (w, given)) f = and_array given (f w)
+-- the array of a name
+abbrev pub known : Arrays → Option ℕ → Valued
+known a bound = and_then (or_fault UnknownName bound) (λ v. Ok (a, v))
 
 abbrev mutual
   -- the value of an expression
-  pub value_of : Names → World → Tree → Valued
-  value_of names w (number n) = Ok (with_new w (root (type_of (n ∷ [])) [] (n ∷ [])))
-  value_of names w (named x) = known w (number_of names x)
-  value_of names w (literal ty ds es) = Ok (with_new w (root ty ds es))
-  value_of names w (unary op a) = Err Syntax
-  value_of names w (binary op a b) = Err Syntax
-  value_of names w (call f args) = called f (taken names w args)
+  pub value_of : Names → Arrays → Tree → Valued
+  value_of names a (number n) = new_root a (number_made n)
+  value_of names a (named x) = known a (number_of names x)
+  value_of names a (literal ty ds es) = new_root a (record { ty = ty; dims = ds; elems = es })
+  value_of names a (unary op e) =
+      and_then (value_of names a e) (λ v. new_root v.0 (unary_each op (array_in v.0 v.1)))
+  value_of names a (binary op e f) =
+      and_then (value_of names a e) (λ v.
+      and_then (value_of names v.0 f) (λ u.
+      and_then (binary_each op (array_in u.0 v.1) (array_in u.0 u.1)) (new_root u.0)))
+  value_of names a (call f args) = and_then (taken names a args) (λ t. call_value f t.0 t.1)
 
   -- the arguments of a call
-  pub taken : Names → World → Args → Taken
-  taken names w none = Ok (w, [])
-  taken names w (value front a) = and_value (taken names w front) (λ w'. value_of names w' a)
-  taken names w (text front t) = and_argument (taken names w front) (string t)
-  taken names w (of_type front ty) = and_argument (taken names w front) (type_word ty)
+  pub taken : Names → Arrays → Args → Taken
+  taken names a none = Ok (a, [])
+  taken names a (value front e) =
+      and_then (taken names a front) (λ t. and_then (value_of names t.0 e) (λ v. Ok (v.0, t.1 ++ array v.1 ∷ [])))
+  taken names a (text front t) = and_then (taken names a front) (λ g. Ok (g.0, g.1 ++ string t ∷ []))
+  taken names a (of_type front ty) = and_then (taken names a front) (λ g. Ok (g.0, g.1 ++ type_word ty ∷ []))

@@ -3,13 +3,15 @@
 //! The machine keeps a world of arrays and the names that are bound to them. `specs/` says what the
 //! value of an expression is, what one step by a statement does and prints, and what a whole run
 //! gives. The crates above run scripts with this meaning. Here are only the faults that a statement
-//! can have, the names of the built-in calls, and a call that states laws of the machine.
+//! can have, the names of the built-in calls, and calls that state laws of the machine.
 #![tactic(auto)]
 
 mod builtin;
 mod fault;
 mod laws;
+mod reading;
 
-pub use builtin::{Builtin, builtin_named};
+pub use builtin::{Builtin, Fill, Inquiry, builtin_named};
 pub use fault::{Fault, fault_text};
-pub use laws::reaching_laws;
+pub use laws::{numbering_laws, reaching_laws, worked_scripts};
+pub use reading::{reads_law, run_laws};

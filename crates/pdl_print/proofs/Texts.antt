@@ -5,7 +5,7 @@ use Rattle.std.specs.List.{join_with_byte}
 use Rattle.std.specs.Ordering.{ord_max, nat_cmp}
 use Rattle.std.proofs.Common.{max}
 use Rattle.std.proofs.lemmas.Grind.{flat_map-append}
-use Rattle.std.proofs.lemmas.List.{take_more, map-append, drop-drop, drop-take, take-take, get_or-take, get_or-drop, length-take-le, length-drop, append-nil}
+use Rattle.std.proofs.lemmas.List.{take_more, map-append, drop-drop, drop-take, take-take, get_or-take, length-take-le, length-drop, append-nil}
 use Rattle.std.proofs.Math.Nat.{mul_assoc, mul_comm, add-zero}
 use Rattle.std.proofs.lemmas.Nat.{div-mul-add}
 use Rattle.pdl_shape.specs.Shape.{size_of}
@@ -33,9 +33,6 @@ pub grown : (old text sep more : List ℕ) → ((old ++ text) ++ sep) ++ more �
 grown old text sep more = append_assoc (old ++ text) sep more ∙ append_assoc old text (sep ++ more)
 
 -- ---- elements from a position on
-
-pub element_from : (es : List ℤ) (first count i : ℕ) (d : ℤ) → i < count → get_or (take count (drop first es)) i d ≡ get_or es (first + i) d
-element_from es first count i d h = get_or-take count (drop first es) i d h ∙ get_or-drop first es i d
 
 pub length_from : (es : List ℤ) (first count : ℕ) → first + count ≤ length es → length (take count (drop first es)) ≡ count
 length_from es first count h = length-take-le count (drop first es) (omega (arith, length-drop first es))

@@ -4,7 +4,7 @@ ghost use Rattle.pdl_shape.specs.Shape.{size_of};
 ghost use Rattle.pdl_print.specs.Printed.{spaces, aligned, widest, line, joined, block, bracketed, elements_text, lines, array_text, info};
 
 use itoa::Buffer;
-use pdl_buf::{Strided, strided_dims, strided_get};
+use pdl_buf::{Strided, strided_dims, strided_get, strided_read};
 use pdl_elem::{Ty, type_name};
 use pdl_shape::{Dims, dims_list, elements_of};
 use std::alloc::{AllocError, Global};
@@ -32,39 +32,48 @@ fn push_number(into: &mut Vec<u8>, number: i64, width: usize) -> Result<(), Allo
     into.extend_from_slice(text.as_bytes())
 }
 
-/// The width of the widest of so many elements from a position on.
-fn widest_of(elems: &Strided<'_>, first: u32, count: u32) -> usize
-    requires within { first + count ≤ length elems.now.elems }
-    requires small { first + count < 2 ^ 32 }
-    ensures { result ≡ widest (take count (drop first elems.now.elems)) }
+/// So many elements from a position on.
+fn block_of(
+    alloc: Global,
+    elems: &Strided<'_>,
+    first: u32,
+    count: u32,
+) -> Result<Vec<i64>, AllocError>
+    requires { first + count ≤ length elems.now.elems }
+    ensures { IfOk result (λ block. block.items ≡ take count (drop first elems.now.elems)) }
+{
+    let mut block = vec![in alloc; 0; count as usize]?;
+    strided_read(elems, first, &mut block);
+    Ok(block)
+}
+
+/// The width of the widest number.
+fn widest_of(numbers: &[i64]) -> usize
+    ensures { result ≡ widest numbers.now }
 {
     let mut widest = 0;
-    for i in 0..count {
+    for number in numbers {
         let mut buffer = Buffer::new();
-        widest = widest.max(buffer.format(strided_get(elems, first + i)).len());
+        widest = widest.max(buffer.format(*number).len());
     }
     widest
 }
 
-/// Appends the row of so many elements, at least one, from a position on.
+/// Appends the row of these numbers, at least one.
 fn push_line(
     into: &mut Vec<u8>,
-    elems: &Strided<'_>,
-    first: u32,
-    count: u32,
+    numbers: &[i64],
     indent: usize,
     width: usize,
 ) -> Result<(), AllocError>
-    requires some { 0 < count }
-    requires within { first + count ≤ length elems.now.elems }
-    requires small { first + count < 2 ^ 32 }
-    ensures { OnOk result (into.new.items ≡ into.old.items ++ line indent width (take count (drop first elems.now.elems))) }
+    requires { 0 < length numbers.now }
+    ensures { OnOk result (into.new.items ≡ into.old.items ++ line indent width numbers.now) }
 {
     push_bracket(into, indent, b"[")?;
-    push_number(into, strided_get(elems, first), width)?;
-    for i in 1..count {
+    push_number(into, numbers[0], width)?;
+    for i in 1..numbers.len() {
         into.push(b' ')?;
-        push_number(into, strided_get(elems, first + i), width)?;
+        push_number(into, numbers[i], width)?;
     }
     push_bracket(into, 0, b"]\n")
 }
@@ -91,9 +100,12 @@ fn push_rows(
     requires small { first + rows * size < 2 ^ 32 }
     ensures { OnOk result (into.new.items ≡ into.old.items ++ lines indent rows size (take (rows * size) (drop first elems.now.elems))) }
 {
-    let width = widest_of(elems, first, rows * size);
+    let block = block_of(*into.allocator(), elems, first, rows * size)?;
+    let numbers = block.as_slice();
+    let width = widest_of(numbers);
     for row in 0..rows {
-        push_line(into, elems, first + row * size, size, indent, width)?;
+        let (start, end) = (row * size, row * size + size);
+        push_line(into, &numbers[start as usize..end as usize], indent, width)?;
     }
     Ok(())
 }
@@ -217,7 +229,8 @@ fn push_elements(into: &mut Vec<u8>, elems: &Strided<'_>, count: u32) -> Result<
         return push_bracket(into, 0, b"\n");
     }
     if sizes.len() == 1 {
-        return push_line(into, elems, 0, count, 0, 0);
+        let row = block_of(*into.allocator(), elems, 0, count)?;
+        return push_line(into, &row, 0, 0);
     }
     push_bracket(into, 0, b"\n")?;
     push_block(into, elems, 0, count, sizes.len() - 2, 0)

@@ -1,6 +1,6 @@
 -- The names' map as the list of names.
-use Rattle.std.proofs.Common.{◌≡◌, ℕ, ◌≤◌, Bool, true, false, List, [], ◌∷◌, length, nat_eq, Option, Some, None, Ok, Err, Bor, refl, sym, ap, subst, ◌∙◌, arith}
-use Rattle.std.specs.Prelude.{nat_lt, not, ◌&&◌, is_some, is_none, if◌then◌else◌}
+use Rattle.std.proofs.Common.{◌≡◌, ℕ, zero, suc, ◌≤◌, Bool, true, false, List, [], ◌∷◌, length, nat_eq, Option, Some, None, Ok, Err, Bor, refl, sym, ap, subst, ◌∙◌, arith}
+use Rattle.std.specs.Prelude.{map, IfSome, slice_get, Result, OnOk, OnErr, nat_lt, not, ◌&&◌, is_some, is_none, if◌then◌else◌}
 use Rattle.std.specs.Option.{option_copied}
 use Rattle.std.specs.Cmp.Lexicographic.{pointwise}
 use Rattle.std.proofs.lemmas.Bool.Decides.{nat_tests}
@@ -9,7 +9,9 @@ use Rattle.indexmap.specs.IndexMap.{insert_entry}
 use Rattle.pdl_machine.specs.declared.fault.Fault.TheVariants.{TooManyNames}
 use Rattle.pdl_world.specs.World.{World}
 use Rattle.pdl_world.specs.Sound.{IsLive}
-use Rattle.pdl_machine.specs.Tidy.{AreLive}
+use Rattle.pdl_engine.specs.State.{State as Engine}
+use Rattle.pdl_machine.specs.State.{AreLive, IsWhole}
+use Rattle.pdl_session.specs.Scope.{state_in}
 use Rattle.pdl_machine.specs.Names.{Names, number_of, with_name, bind}
 
 pub number_found : (names : Names) (x : List ℕ) → lookup (pointwise nat_eq x) names ≡ number_of names x
@@ -52,6 +54,36 @@ full_told names x count o none c found told many =
     right true = refl
     right false = refl
 
+-- each name's array can be looked at after a binding to one that can
+pub live_bound : (w : World) (names : Names) (x : List ℕ) (v : ℕ) → AreLive w (map (λ n. n.1) names) → IsLive w v → AreLive w (map (λ n. n.1) (with_name names x v))
+live_bound w [] x v live l = (l, tt)
+live_bound w (n ∷ names) x v live l = by_name (pointwise nat_eq x n.0) (live_bound w names x v live.1 l)
+  where
+    by_name : (same : Bool) → AreLive w (map (λ n. n.1) (with_name names x v)) → AreLive w (map (λ n. n.1) (if same then (n.0, v) ∷ names else n ∷ with_name names x v))
+    by_name true rest = (l, live.1)
+    by_name false rest = (live.0, rest)
+
+-- and so can the array of a name
+pub live_found : (w : World) (names : Names) (x : List ℕ) → AreLive w (map (λ n. n.1) names) → IfSome (number_of names x) (IsLive w)
+live_found w [] x live = tt
+live_found w (n ∷ names) x live = by_name (pointwise nat_eq x n.0) (live_found w names x live.1)
+  where
+    by_name : (same : Bool) → IfSome (number_of names x) (IsLive w) → IfSome (if same then Some n.1 else number_of names x) (IsLive w)
+    by_name true rest = live.0
+    by_name false rest = rest
+
+-- and that of the name at a place
+pub live_entry : (w : World) (names : Names) (i : ℕ) (x : List ℕ) (v : ℕ) → AreLive w (map (λ n. n.1) names) → slice_get names i ≡ Some (x, v) → IsLive w v
+live_entry w [] i x v live h = cc
+live_entry w (n ∷ names) zero x v live h =
+    let e : n ≡ (x, v) = entry_is n (x, v) h in
+    let P : List ℕ × ℕ → Type 0 = λ m. IsLive w m.1 in
+    subst P e live.0
+  where
+    entry_is : (a b : List ℕ × ℕ) → Some a ≡ Some b → a ≡ b
+    entry_is a b h = cc
+live_entry w (n ∷ names) (suc i) x v live h = live_entry w names i x v live.1 h
+
 -- names that were bound are the names with the binding
 pub bound_is : (names new : Names) (x : List ℕ) (v : ℕ) → bind names x v ≡ Ok new → new ≡ with_name names x v
 bound_is names new x v h = by_full (is_full names x) h
@@ -60,20 +92,10 @@ bound_is names new x v h = by_full (is_full names x) h
     by_full true g = cc
     by_full false g = cc
 
--- each name's array can be looked at after a binding to one that can
-pub live_bound : (w : World) (names : Names) (x : List ℕ) (v : ℕ) → AreLive w names → IsLive w v → AreLive w (with_name names x v)
-live_bound w [] x v live l = (l, tt)
-live_bound w (n ∷ names) x v live l = by_name (pointwise nat_eq x n.0) (live_bound w names x v live.1 l)
-  where
-    by_name : (same : Bool) → AreLive w (with_name names x v) → AreLive w (if same then (n.0, v) ∷ names else n ∷ with_name names x v)
-    by_name true rest = (l, live.1)
-    by_name false rest = (live.0, rest)
-
--- and so can the array of a name
-pub live_found : (w : World) (names : Names) (x : List ℕ) (v : ℕ) → AreLive w names → number_of names x ≡ Some v → IsLive w v
-live_found w [] x v live h = cc
-live_found w (n ∷ names) x v live h = by_name (pointwise nat_eq x n.0) h (λ g. live_found w names x v live.1 g)
-  where
-    by_name : (same : Bool) → (if same then Some n.1 else number_of names x) ≡ Some v → (number_of names x ≡ Some v → IsLive w v) → IsLive w v
-    by_name true g rest = let e : n.1 ≡ v = cc in let P : ℕ → Type 0 = λ m. IsLive w m in subst P e live.0
-    by_name false g rest = rest g
+-- a state is whole after a binding that was tried
+pub whole_bound : {T E : Type 0} (r : Result T E) (names after : Names) (e : Engine) (x : List ℕ) (v : ℕ) → IsWhole (state_in names e) → IsLive e.world v
+    → OnOk r (bind names x v ≡ Ok after) → OnErr r (after ≡ names) → IsWhole (state_in after e)
+whole_bound (Ok u) names after e x v whole live ok err =
+    let P : Names → Type 0 = λ ns. IsWhole (state_in ns e) in
+    subst P (sym (bound_is names after x v ok)) (record { sound = whole.sound; below = whole.below; live = live_bound e.world names x v whole.live live })
+whole_bound (Err f) names after e x v whole live ok err = let P : Names → Type 0 = λ ns. IsWhole (state_in ns e) in subst P (sym err) whole

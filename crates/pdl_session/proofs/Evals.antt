@@ -1,7 +1,6 @@
 -- Arguments are evaluated one after another.
-use Rattle.std.proofs.Common.{◌≡◌, ℕ, zero, suc, ◌+◌, ◌<◌, ◌≤◌, List, [], ◌∷◌, ◌++◌, length, take, drop, Some, Ok, Err, refl, sym, ap, subst, ◌∙◌, arith, Vec, Global}
-use Rattle.std.specs.Prelude.{slice_index_or, Bool, true, false, ◌&&◌, nat_eq}
-use Rattle.std.specs.Cmp.Lexicographic.{pointwise}
+use Rattle.std.proofs.Common.{◌≡◌, ℕ, zero, suc, ◌+◌, ◌<◌, ◌≤◌, List, [], ◌∷◌, ◌++◌, length, take, drop, Ok, Err, refl, sym, ap, ◌∙◌, arith, Vec, Global}
+use Rattle.std.specs.Prelude.{slice_index_or, Bool, true, false, ◌&&◌}
 use Rattle.std.proofs.lemmas.List.{take_more, take-append-drop}
 use Rattle.pdl_world.specs.World.{World}
 use Rattle.pdl_world.specs.Sound.{IsLive}
@@ -13,43 +12,49 @@ use Rattle.pdl_syntax.specs.declared.tree.Expr.{Expr, Call}
 use Rattle.pdl_syntax.proofs.Trees.{tree_of_call}
 use Rattle.pdl_machine.specs.Step.{are_built}
 use Rattle.pdl_machine.specs.declared.fault.Fault.{Fault}
-use Rattle.pdl_machine.specs.Names.{Names, number_of}
-use Rattle.pdl_machine.specs.Calls.{Given as Argument, array, string, type_word, Valued}
-use Rattle.pdl_machine.specs.Value.{Taken, and_array, value_of, taken, called}
-use Rattle.pdl_machine.specs.Tidy.{AreLive}
+use Rattle.pdl_machine.specs.Names.{Names}
+use Rattle.pdl_machine.specs.Arrays.{Arrays}
+use Rattle.pdl_machine.specs.Then.{and_then}
+use Rattle.pdl_machine.specs.Outcome.{Given as Argument, array, string, type_word, Valued}
+use Rattle.pdl_machine.specs.Value.{Taken, value_of, taken}
 use Rattle.pdl_session.specs.declared.fault.StepFault.{StepFault}
 use Rattle.pdl_session.specs.declared.fault.StepFault.TheVariants.{Script, NoMemory}
 use Rattle.pdl_session.specs.Answers.{IsFault}
 use Rattle.pdl_session.specs.declared.given.Given.{Given}
+use Rattle.pdl_session.specs.declared.given.Given.TheVariants.{Array, Text, OfType as OfType'}
 use Rattle.pdl_session.specs.Arguments.{argument, arguments, IsGivenLive, AreGivenLive}
 
-abbrev pub taken_ok : World → List Argument → Taken
+-- one argument more after a value
+abbrev and_array : List Argument → Valued → Taken
+and_array given x = and_then x (λ v. Ok (v.0, given ++ array v.1 ∷ []))
+
+abbrev pub taken_ok : Arrays → List Argument → Taken
 taken_ok w given = Ok (w, given)
 
-abbrev taken_of : World × List Argument → Taken
+abbrev taken_of : Arrays × List Argument → Taken
 taken_of p = Ok p
 
-abbrev given_back : World × List Argument → Taken → World × List Argument
+abbrev given_back : Arrays × List Argument → Taken → Arrays × List Argument
 given_back d (Ok p) = p
 given_back d (Err f) = d
 
-pair_of : (a b : World × List Argument) → taken_of a ≡ taken_of b → a ≡ b
+pair_of : (a b : Arrays × List Argument) → taken_of a ≡ taken_of b → a ≡ b
 pair_of a b e = ap (given_back a) e
 
 head_of : (a b : Argument) → a ∷ [] ≡ b ∷ [] → a ≡ b
 head_of a b e = cc
 
 -- the same world and one more argument
-behind : (w w' : World) (given : List Argument) (a b : Argument) → taken_ok w (a ∷ []) ≡ taken_ok w' (b ∷ []) → taken_ok w (given ++ a ∷ []) ≡ taken_ok w' (given ++ b ∷ [])
+behind : (w w' : Arrays) (given : List Argument) (a b : Argument) → taken_ok w (a ∷ []) ≡ taken_ok w' (b ∷ []) → taken_ok w (given ++ a ∷ []) ≡ taken_ok w' (given ++ b ∷ [])
 behind w w' given a b e =
     let p : (w, a ∷ []) ≡ (w', b ∷ []) = pair_of (w, a ∷ []) (w', b ∷ []) e in
-    ap (λ x. taken_ok x (given ++ a ∷ [])) (ap (λ (x : World × List Argument). x.0) p) ∙ ap (λ x. taken_ok w' (given ++ x ∷ [])) (head_of a b (ap (λ (x : World × List Argument). x.1) p))
+    ap (λ x. taken_ok x (given ++ a ∷ [])) (ap (λ (x : Arrays × List Argument). x.0) p) ∙ ap (λ x. taken_ok w' (given ++ x ∷ [])) (head_of a b (ap (λ (x : Arrays × List Argument). x.1) p))
 
 -- an argument alone tells what it is behind others
-differs : (f : Fault) (x : World × List Argument) → Err f ≡ taken_of x → ⊥
+differs : (f : Fault) (x : Arrays × List Argument) → Err f ≡ taken_of x → ⊥
 differs f x e = cc
 
-value_behind : (x : Valued) (given : List Argument) (w : World) (g : Argument) → and_array [] x ≡ Ok (w, g ∷ []) → and_array given x ≡ Ok (w, given ++ g ∷ [])
+value_behind : (x : Valued) (given : List Argument) (w : Arrays) (g : Argument) → and_array [] x ≡ Ok (w, g ∷ []) → and_array given x ≡ Ok (w, given ++ g ∷ [])
 value_behind (Ok (w', v)) given w g e = behind w' w given (array v) g e
 value_behind (Err f) given w g e = absurd (differs f (w, g ∷ []) e)
 
@@ -57,25 +62,25 @@ value_behind_err : (x : Valued) (given : List Argument) (f : Fault) → and_arra
 value_behind_err (Ok (w', v)) given f e = cc
 value_behind_err (Err g) given f e = cc
 
-pub one_more : (names : Names) (w0 w w' : World) (a : Arg) (front : Args) (given : List Argument) (g : Argument)
+pub one_more : (names : Names) (w0 w w' : Arrays) (a : Arg) (front : Args) (given : List Argument) (g : Argument)
     → taken names w0 front ≡ Ok (w, given) → taken names w (argument_of a none) ≡ Ok (w', g ∷ []) → taken names w0 (argument_of a front) ≡ Ok (w', given ++ g ∷ [])
 one_more names w0 w w' (Value e) front given g before here = rw before (value_behind (value_of names w (tree_of e)) given w' g here)
 one_more names w0 w w' (Str t) front given g before here = rw before (behind w w' given (string t) g here)
 one_more names w0 w w' (OfType ty) front given g before here = rw before (behind w w' given (type_word ty) g here)
 
-pub one_fault : (names : Names) (w0 w : World) (a : Arg) (front : Args) (given : List Argument) (f : Fault)
+pub one_fault : (names : Names) (w0 w : Arrays) (a : Arg) (front : Args) (given : List Argument) (f : Fault)
     → taken names w0 front ≡ Ok (w, given) → taken names w (argument_of a none) ≡ Err f → taken names w0 (argument_of a front) ≡ Err f
 one_fault names w0 w (Value e) front given f before here = rw before (value_behind_err (value_of names w (tree_of e)) given f here)
 one_fault names w0 w (Str t) front given f before here = cc
 one_fault names w0 w (OfType ty) front given f before here = cc
 
-err_behind : (names : Names) (w : World) (a : Arg) (front : Args) (f : Fault) → taken names w front ≡ Err f → taken names w (argument_of a front) ≡ Err f
+err_behind : (names : Names) (w : Arrays) (a : Arg) (front : Args) (f : Fault) → taken names w front ≡ Err f → taken names w (argument_of a front) ≡ Err f
 err_behind names w (Value e) front f before = rw before refl
 err_behind names w (Str t) front f before = rw before refl
 err_behind names w (OfType ty) front f before = rw before refl
 
 -- after a fault the rest isn't looked at
-pub fault_stays : (names : Names) (w : World) (rest : List Arg) (front : Args) (f : Fault) → taken names w front ≡ Err f → taken names w (args_of rest front) ≡ Err f
+pub fault_stays : (names : Names) (w : Arrays) (rest : List Arg) (front : Args) (f : Fault) → taken names w front ≡ Err f → taken names w (args_of rest front) ≡ Err f
 fault_stays names w [] front f before = before
 fault_stays names w (a ∷ rest) front f before = fault_stays names w rest (argument_of a front) f (err_behind names w a front f before)
 
@@ -100,15 +105,6 @@ arrays_at [] front i a lt h = absurd (omega arith)
 arrays_at (x ∷ args) front zero a lt h = alone x front (front_arrays args (argument_of x front) h)
 arrays_at (x ∷ args) front (suc i) a lt h = arrays_at args (argument_of x front) i a (omega arith) h
 
--- the array of a bound name can be looked at
-pub live_named : (w : World) (names : Names) (x : List ℕ) (v : ℕ) → AreLive w names → number_of names x ≡ Some v → IsLive w v
-live_named w [] x v live e = cc
-live_named w (n ∷ names) x v live e = by_test (live_named w names x v live.1) (pointwise nat_eq x n.0) refl
-  where
-    by_test : (number_of names x ≡ Some v → IsLive w v) → (b : Bool) → pointwise nat_eq x n.0 ≡ b → IsLive w v
-    by_test rest true same = let f : number_of (n ∷ names) x ≡ Some n.1 = rw same refl in let g : Some n.1 ≡ Some v = sym f ∙ e in let h : n.1 ≡ v = cc in let P : ℕ → Type 0 = λ k. IsLive w k in subst P h live.0
-    by_test rest false other = rest (let f : number_of (n ∷ names) x ≡ number_of names x = rw other refl in sym f ∙ e)
-
 pub arguments_snoc : (given : List Given) (g : Given) → arguments (given ++ g ∷ []) ≡ arguments given ++ argument g ∷ []
 arguments_snoc [] g = refl
 arguments_snoc (x ∷ given) g = ap (λ y. argument x ∷ y) (arguments_snoc given g)
@@ -116,6 +112,13 @@ arguments_snoc (x ∷ given) g = ap (λ y. argument x ∷ y) (arguments_snoc giv
 pub live_snoc : (w : World) (given : List Given) (g : Given) → AreGivenLive w given → IsGivenLive w g → AreGivenLive w (given ++ g ∷ [])
 live_snoc w [] g live here = (here, tt)
 live_snoc w (x ∷ given) g live here = (live.0, live_snoc w given g live.1 here)
+
+-- arguments that could be looked at still can be
+pub given_still : (w u : World) → ((v : ℕ) → IsLive w v → IsLive u v) → (given : List Given) → AreGivenLive w given → AreGivenLive u given
+given_still w u still [] live = tt
+given_still w u still (Array v ∷ given) live = (still v live.0, given_still w u still given live.1)
+given_still w u still (Text t ∷ given) live = (tt, given_still w u still given live.1)
+given_still w u still (OfType' ty ∷ given) live = (tt, given_still w u still given live.1)
 
 -- the arguments up to the next one
 pub args_more : (args : List Arg) (i : ℕ) (a : Arg) → i < length args → args_of (take (i + 1) args) none ≡ argument_of (slice_index_or args i a) (args_of (take i args) none)
@@ -155,12 +158,8 @@ weights_at [] front i a lt = absurd (omega arith)
 weights_at (x ∷ args) front zero a lt = omega (arith, weights_one x front, weights_rest args (argument_of x front))
 weights_at (x ∷ args) front (suc i) a lt = weights_at args (argument_of x front) i a (omega arith)
 
-pub called_fault : (g : List ℕ) (x : Taken) (e : StepFault) → IsFault x e → IsFault (called g x) e
-called_fault g x (Script f) h = ap (called g) h
-called_fault g x NoMemory h = tt
-
 -- the fault of one argument is that of all
-pub fault_at : (names : Names) (w0 w : World) (args : List Arg) (i : ℕ) (a : Arg) (given : List Argument) (e : StepFault)
+pub fault_at : (names : Names) (w0 w : Arrays) (args : List Arg) (i : ℕ) (a : Arg) (given : List Argument) (e : StepFault)
     → taken names w0 (args_of (take i args) none) ≡ Ok (w, given) → i < length args → a ≡ slice_index_or args i a
     → IsFault (taken names w (argument_of a none)) e → IsFault (taken names w0 (args_of args none)) e
 fault_at names w0 w args i a given NoMemory before lt at h = tt
@@ -201,3 +200,21 @@ built_more args i a lt at before h =
 -- the tree of a call
 pub tree_is : (e : Expr) (name : List ℕ) (args : Vec Arg Global) (xs : List Arg) → e ≡ Call name args → xs ≡ args.items → tree_of e ≡ call name (args_of xs none)
 tree_is e name args xs is items = ap tree_of is ∙ tree_of_call name args ∙ ap (λ ys. call name (args_of ys none)) (sym items)
+
+built_front : (rest : List Arg) (front : Args) → are_built (args_of rest front) ≡ true → are_built front ≡ true
+built_front [] front h = h
+built_front (a ∷ rest) front h = left (are_built front) (are_built (argument_of a none)) (sym (built_argument a front) ∙ built_front rest (argument_of a front) h)
+  where
+    left : (b d : Bool) → (b && d) ≡ true → b ≡ true
+    left true d e = refl
+    left false d e = e
+
+-- the argument at a place is built
+pub built_at : (args : List Arg) (front : Args) (i : ℕ) (a : Arg) → i < length args → are_built (args_of args front) ≡ true → are_built (argument_of (slice_index_or args i a) none) ≡ true
+built_at [] front i a lt h = absurd (omega arith)
+built_at (x ∷ args) front zero a lt h = right (are_built front) (are_built (argument_of x none)) (sym (built_argument x front) ∙ built_front args (argument_of x front) h)
+  where
+    right : (b d : Bool) → (b && d) ≡ true → d ≡ true
+    right true d e = e
+    right false d e = cc
+built_at (x ∷ args) front (suc i) a lt h = built_at args (argument_of x front) i a (omega arith) h

@@ -1,30 +1,24 @@
 -- Lists that are gathered one item at a time, up to the first item that gives nothing.
-use Rattle.std.proofs.Common.{◌≡◌, ℕ, ℤ, suc, ◌+◌, ◌<◌, ◌≤◌, List, [], ◌∷◌, ◌++◌, length, get_or, drop, Option, Some, None, refl, sym, ap, subst, ◌∙◌, arith, append_assoc}
+use Rattle.std.proofs.Common.{◌≡◌, ℕ, suc, ◌+◌, ◌<◌, ◌≤◌, List, [], ◌∷◌, ◌++◌, length, get_or, drop, Option, Some, None, refl, sym, ap, subst, ◌∙◌, arith, append_assoc}
+use Rattle.std.proofs.Math.Seq.{drop-cons}
 use Rattle.std.specs.Prelude.{option_map}
 use Rattle.std.proofs.lemmas.List.{append-nil, drop_all}
-use Rattle.std.proofs.Math.Seq.{drop-cons}
-use Rattle.pdl_world.specs.World.{World, elements}
-use Rattle.pdl_machine.specs.Calls.{only, joined, numbers}
+use Rattle.pdl_world.specs.World.{World}
+use Rattle.pdl_machine.specs.Arrays.{Arrays}
+use Rattle.pdl_machine.specs.Fills.{number_in}
+use Rattle.pdl_machine.specs.Then.{and_more, all_of}
 use Rattle.pdl_session.specs.declared.given.Given.{Given}
-use Rattle.pdl_session.specs.declared.given.Given.TheVariants.{Array, Text, OfType}
-use Rattle.pdl_session.specs.Arguments.{argument, arguments, number_in, IsGivenLive, AreGivenLive}
-use Rattle.pdl_session.specs.Sizes.{with_size, clamped_size, clamped_sizes}
+use Rattle.pdl_session.specs.Arguments.{seen_of, all_seen_of, IsGivenLive, AreGivenLive}
 
--- an item before the others, where there are both
-abbrev pub put_front : {Y : Type 0} → Option Y → Option (List Y) → Option (List Y)
-put_front None ys = None
-put_front (Some y) ys = option_map (λ zs. y ∷ zs) ys
-
--- what F gives for a list is what f gives for each item
-pub record IsGathered {X Y : Type 0} (F : List X → Option (List Y)) (f : X → Option Y) : Type 0 where
-  pub none : F [] ≡ Some []
-  pub each : (x : X) (xs : List X) → F (x ∷ xs) ≡ put_front (f x) (F xs)
+-- what was found is the front of all values
+abbrev pub IsFront : {X Y : Type 0} → (X → Option Y) → List X → ℕ → List Y → Type 0
+IsFront f xs i found = all_of f xs ≡ option_map (λ ms. found ++ ms) (all_of f (drop i xs))
 
 same_front : {Y : Type 0} (o : Option (List Y)) → o ≡ option_map (λ ms. [] ++ ms) o
 same_front None = refl
 same_front (Some ys) = refl
 
-moved_front : {Y : Type 0} (found : List Y) (y : Y) (o : Option (List Y)) → option_map (λ ms. found ++ ms) (put_front (Some y) o) ≡ option_map (λ ms. (found ++ y ∷ []) ++ ms) o
+moved_front : {Y : Type 0} (found : List Y) (y : Y) (o : Option (List Y)) → option_map (λ ms. found ++ ms) (and_more (Some y) o) ≡ option_map (λ ms. (found ++ y ∷ []) ++ ms) o
 moved_front found y None = refl
 moved_front found y (Some ms) =
     let e : (found ++ y ∷ []) ++ ms ≡ found ++ (y ∷ ms) = rw append_assoc refl in
@@ -36,56 +30,38 @@ drop_at xs i d h =
     drop-cons xs i d h ∙ ap (λ n. get_or xs i d ∷ drop n xs) s
 
 -- before the first item
-pub gathered_none : {X Y : Type 0} (F : List X → Option (List Y)) (xs : List X) (found : List Y) → found ≡ [] → F xs ≡ option_map (λ ms. found ++ ms) (F xs)
-gathered_none {X} {Y} F xs found e =
-    let P : List Y → Type 0 = λ l. F xs ≡ option_map (λ ms. l ++ ms) (F xs) in
-    subst P (sym e) (same_front (F xs))
+pub front_none : {X Y : Type 0} (f : X → Option Y) (xs : List X) (found : List Y) → found ≡ [] → IsFront f xs 0 found
+front_none {X} {Y} f xs found e =
+    let P : List Y → Type 0 = λ l. all_of f xs ≡ option_map (λ ms. l ++ ms) (all_of f xs) in
+    subst P (sym e) (same_front (all_of f xs))
 
-gathered_at : {X Y : Type 0} (F : List X → Option (List Y)) (f : X → Option Y) → IsGathered F f → (xs : List X) (i : ℕ) (d : X) → i < length xs → F (drop i xs) ≡ put_front (f (get_or xs i d)) (F (drop (i + 1) xs))
-gathered_at F f g xs i d h = ap F (drop_at xs i d h) ∙ g.each (get_or xs i d) (drop (i + 1) xs)
+front_at : {X Y : Type 0} (f : X → Option Y) (xs : List X) (i : ℕ) (d : X) → i < length xs → all_of f (drop i xs) ≡ and_more (f (get_or xs i d)) (all_of f (drop (i + 1) xs))
+front_at f xs i d h = ap (all_of f) (drop_at xs i d h)
 
 -- one more item
-pub gathered_more : {X Y : Type 0} (F : List X → Option (List Y)) (f : X → Option Y) → IsGathered F f → (xs : List X) (found found' : List Y) (i : ℕ) (d : X) (y : Y)
-    → i < length xs → f (get_or xs i d) ≡ Some y → found' ≡ found ++ y ∷ [] → F xs ≡ option_map (λ ms. found ++ ms) (F (drop i xs)) → F xs ≡ option_map (λ ms. found' ++ ms) (F (drop (i + 1) xs))
-gathered_more {X} {Y} F f g xs found found' i d y h e e' inv =
-    let a : F (drop i xs) ≡ put_front (Some y) (F (drop (i + 1) xs)) = gathered_at F f g xs i d h ∙ ap (λ o. put_front o (F (drop (i + 1) xs))) e in
-    let P : List Y → Type 0 = λ l. F xs ≡ option_map (λ ms. l ++ ms) (F (drop (i + 1) xs)) in
-    subst P (sym e') (inv ∙ ap (λ o. option_map (λ ms. found ++ ms) o) a ∙ moved_front found y (F (drop (i + 1) xs)))
+pub front_more : {X Y : Type 0} (f : X → Option Y) (xs : List X) (found more : List Y) (i : ℕ) (d : X) (y : Y)
+    → i < length xs → f (get_or xs i d) ≡ Some y → more ≡ found ++ y ∷ [] → IsFront f xs i found → IsFront f xs (i + 1) more
+front_more {X} {Y} f xs found more i d y h e e' front =
+    let a : all_of f (drop i xs) ≡ and_more (Some y) (all_of f (drop (i + 1) xs)) = front_at f xs i d h ∙ ap (λ o. and_more o (all_of f (drop (i + 1) xs))) e in
+    let P : List Y → Type 0 = λ l. IsFront f xs (i + 1) l in
+    subst P (sym e') (front ∙ ap (option_map (λ ms. found ++ ms)) a ∙ moved_front found y (all_of f (drop (i + 1) xs)))
 
 -- an item that gives nothing
-pub gathered_stop : {X Y : Type 0} (F : List X → Option (List Y)) (f : X → Option Y) → IsGathered F f → (xs : List X) (found : List Y) (i : ℕ) (d : X)
-    → i < length xs → f (get_or xs i d) ≡ None → F xs ≡ option_map (λ ms. found ++ ms) (F (drop i xs)) → F xs ≡ None
-gathered_stop {X} {Y} F f g xs found i d h e inv =
-    let a : F (drop i xs) ≡ put_front None (F (drop (i + 1) xs)) = gathered_at F f g xs i d h ∙ ap (λ o. put_front o (F (drop (i + 1) xs))) e in
-    inv ∙ ap (λ o. option_map (λ ms. found ++ ms) o) a
+pub front_stops : {X Y : Type 0} (f : X → Option Y) (xs : List X) (found : List Y) (i : ℕ) (d : X) → i < length xs → f (get_or xs i d) ≡ None → IsFront f xs i found → all_of f xs ≡ None
+front_stops {X} {Y} f xs found i d h e front =
+    let a : all_of f (drop i xs) ≡ and_more None (all_of f (drop (i + 1) xs)) = front_at f xs i d h ∙ ap (λ o. and_more o (all_of f (drop (i + 1) xs))) e in
+    front ∙ ap (option_map (λ ms. found ++ ms)) a
 
 -- after the last item
-pub gathered_all : {X Y : Type 0} (F : List X → Option (List Y)) (f : X → Option Y) → IsGathered F f → (xs : List X) (found : List Y) (i : ℕ)
-    → length xs ≤ i → F xs ≡ option_map (λ ms. found ++ ms) (F (drop i xs)) → F xs ≡ Some found
-gathered_all {X} {Y} F f g xs found i h inv =
-    let a : F (drop i xs) ≡ Some [] = ap F (drop_all i xs h) ∙ g.none in
-    inv ∙ ap (λ o. option_map (λ ms. found ++ ms) o) a ∙ ap Some (append-nil found)
+pub front_all : {X Y : Type 0} (f : X → Option Y) (xs : List X) (found : List Y) (i : ℕ) → length xs ≤ i → IsFront f xs i found → all_of f xs ≡ Some found
+front_all {X} {Y} f xs found i h front =
+    let a : all_of f (drop i xs) ≡ Some [] = ap (all_of f) (drop_all i xs h) in
+    front ∙ ap (option_map (λ ms. found ++ ms)) a ∙ ap Some (append-nil found)
 
--- the numbers of arguments
-pub numbers_gathered : (w : World) → IsGathered (λ given. numbers w (arguments given)) (λ x. number_in w (argument x))
-numbers_gathered w = record { none = refl; each = by_given }
-  where
-    by_number : (o : Option ℤ) (ns : Option (List ℤ)) → joined o ns ≡ put_front o ns
-    by_number None ns = refl
-    by_number (Some n) ns = refl
-
-    by_given : (x : Given) (xs : List Given) → numbers w (arguments (x ∷ xs)) ≡ put_front (number_in w (argument x)) (numbers w (arguments xs))
-    by_given (Array v) xs = by_number (only (elements w v)) (numbers w (arguments xs))
-    by_given (Text t) xs = refl
-    by_given (OfType ty) xs = refl
-
--- the sizes
-pub clamped_gathered : IsGathered clamped_sizes clamped_size
-clamped_gathered = record { none = refl; each = λ n ns. by_size (clamped_size n) (clamped_sizes ns) }
-  where
-    by_size : (o : Option ℕ) (ds : Option (List ℕ)) → with_size o ds ≡ put_front o ds
-    by_size None ds = refl
-    by_size (Some d) ds = refl
+-- the numbers of arguments, one by one
+pub numbers_seen : (a : Arrays) (given : List Given) → all_of number_in (all_seen_of a given) ≡ all_of (λ g. number_in (seen_of a g)) given
+numbers_seen a [] = refl
+numbers_seen a (g ∷ given) = ap (and_more (number_in (seen_of a g))) (numbers_seen a given)
 
 -- each argument can be looked at, and so can those after it
 pub live_at : (w : World) (given : List Given) (i : ℕ) (d : Given) → i < length given → AreGivenLive w (drop i given) → IsGivenLive w (get_or given i d) × AreGivenLive w (drop (i + 1) given)

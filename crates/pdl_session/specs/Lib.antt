@@ -1,5 +1,5 @@
+pub mod Scope
 pub mod Answers
 pub mod Arguments
-pub mod Fit
 pub mod Sizes
-pub mod Session
+pub mod Numbers

@@ -3,7 +3,7 @@ ghost use Rattle.std.specs.Prelude.{◌≡◌};
 ghost use Rattle.pdl_syntax.specs.Tree.{none};
 ghost use Rattle.pdl_syntax.specs.TreeOf.{tree_of, args_of, argument_of};
 ghost use Rattle.pdl_syntax.specs.StatementTree.{statement_of};
-ghost use Rattle.pdl_machine.specs.Step.{built, is_built, are_built, is_number};
+ghost use Rattle.pdl_machine.specs.Step.{built, is_built, are_built, is_call, is_number};
 
 use pdl_lexemes::AssignOp;
 use pdl_syntax::{Arg, Expr, Statement};
@@ -14,7 +14,7 @@ pub fn is_statement_built(statement: &Statement) -> bool
 {
     match statement {
         Statement::Bind { value, sever, .. } => !*sever && is_built(value),
-        Statement::BindList { value, .. } => is_built(value),
+        Statement::BindList { value, .. } => is_call(value) && is_built(value),
         Statement::Assign { target, op, value } => {
             target.views.is_empty() && *op == AssignOp::Set && is_number(value)
         }
@@ -35,7 +35,13 @@ fn is_number(value: &Expr) -> bool
     matches!(value, Expr::Number(_))
 }
 
-/// Whether each operator of an expression is built.
+fn is_call(value: &Expr) -> bool
+    ensures { result ≡ is_call (tree_of value.now) }
+{
+    matches!(value, Expr::Call(_, _))
+}
+
+/// Whether each form of an expression is built.
 #[cycle(built)]
 fn is_built(value: &Expr) -> bool
     ensures { result ≡ is_built (tree_of value.now) }

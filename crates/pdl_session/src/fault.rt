@@ -1,7 +1,5 @@
 //! Why a statement wasn't run.
-use pdl_engine::ViewFault;
 use pdl_machine::Fault;
-use pdl_shape::ShapeFault;
 use std::alloc::{AllocError, AllocFailed};
 
 /// Why a statement wasn't run.
@@ -24,13 +22,13 @@ impl From<AllocError> for StepFault {
     }
 }
 
-impl From<Fault> for StepFault {
+impl<T: Drop> From<AllocFailed<T>> for StepFault {
     ghost use Rattle.std.specs.Prelude.{◌≡◌};
-    ghost use Rattle.pdl_session.specs.declared.fault.StepFault.TheVariants.{Script};
+    ghost use Rattle.pdl_session.specs.declared.fault.StepFault.TheVariants.{NoMemory};
 
-    ghost from_gives = { λ e fault. fault ≡ Script e };
+    ghost from_gives = { λ _ fault. fault ≡ NoMemory };
 
-    fn from(e: Fault) -> StepFault {
-        StepFault::Script(e)
+    fn from(_: AllocFailed<T>) -> StepFault {
+        StepFault::NoMemory
     }
 }

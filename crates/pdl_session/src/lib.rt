@@ -6,15 +6,20 @@
 
 mod built;
 mod call;
+mod dims;
 mod eval;
 mod fault;
+mod fill;
 mod given;
-mod list;
+mod inquiry;
 mod names;
+mod outcome;
 mod print;
+mod scope;
 mod session;
 mod span_text;
 mod statement;
+mod view;
 
 pub use fault::StepFault;
 pub use session::Session;

@@ -1,5 +1,5 @@
 //! The names that are bound.
-ghost use Rattle.std.specs.Prelude.{◌≡◌, ◌<◌, [], length, nat_lt, not, ◌&&◌, is_none, slice_get, Some, IfErr, OnOk, IsErr};
+ghost use Rattle.std.specs.Prelude.{◌≡◌, ◌<◌, [], length, nat_lt, not, ◌&&◌, is_none, slice_get, Some, IfErr, OnOk, OnErr};
 ghost use Rattle.pdl_machine.specs.Names.{number_of, bind, names_limit};
 ghost use Rattle.pdl_session.specs.Answers.{IsFault};
 
@@ -49,7 +49,7 @@ impl Names {
     pub fn bind(&mut self, name: &Name, id: ArrayId) -> Result<(), StepFault>
         ensures ok { OnOk result (bind self.old name.now id ≡ Ok self.new) }
         ensures fault { IfErr result (IsFault (bind self.old name.now id)) }
-        ensures err { IsErr result → self.new ≡ self.old }
+        ensures err { OnErr result (self.new ≡ self.old) }
     {
         if self.is_full_for(name) {
             return Err(StepFault::Script(Fault::TooManyNames));
@@ -62,7 +62,8 @@ impl Names {
 
     /// Whether there is no room for the name: it isn't bound, and 512 are.
     fn is_full_for(&self, name: &Name) -> bool
-        ensures { result ≡ (is_none (number_of self.now name.now) && not (nat_lt (length self.now) names_limit)) }
+        ensures { let is_new = is_none (number_of self.now name.now) in
+            result ≡ (is_new && not (nat_lt (length self.now) names_limit)) }
     {
         self.arrays.len() >= MOST_NAMES && self.arrays.get(name).is_none()
     }

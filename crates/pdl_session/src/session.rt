@@ -1,68 +1,68 @@
 //! A session.
-ghost use Rattle.std.specs.Prelude.{◌≡◌, [], OnOk, IfErr};
+ghost use Rattle.std.specs.Prelude.{◌≡◌, ◌+◌, min, OnOk, IfErr};
 ghost use Rattle.pdl_syntax.specs.StatementTree.{statement_of};
 ghost use Rattle.pdl_syntax.specs.WellMade.{IsWellMade};
 ghost use Rattle.pdl_machine.specs.Step.{step};
-ghost use Rattle.pdl_session.specs.Answers.{IsFault, IfScript, Prints, state};
+ghost use Rattle.pdl_session.specs.Scope.{no_steps};
+ghost use Rattle.pdl_session.specs.Answers.{IsFault, IfScript, Prints};
 
 use crate::built::is_statement_built;
 use crate::fault::StepFault;
-use crate::names::Names;
-use crate::statement::run;
-use pdl_engine::Engine;
-use pdl_machine::Fault;
+use crate::scope::Scope;
+use pdl_machine::{Fault, numbering_laws};
 use pdl_syntax::Statement;
 use std::alloc::Global;
 use std::marker::Model;
 
 /// The names and arrays of a script, between two statements. It is seen as the state of the eager
-/// machine: the names with the arrays that they reach, numbered anew.
+/// machine, which is the names with the arrays that they reach, numbered anew; and as how many calls
+/// of `step` there were.
 #[derive(Drop)]
 pub struct Session {
-    names: Names,
-    engine: Engine,
+    scope: Scope,
+    steps: u64,
 }
 
 impl Model for Session {
-    ghost use Rattle.pdl_machine.specs.Tidy.{State, tidy};
-    ghost use Rattle.pdl_session.specs.Session.{IsKept, state_in};
+    ghost use Rattle.pdl_machine.specs.Tidy.{tidy};
+    ghost use Rattle.pdl_session.specs.Scope.{Session as Seen};
 
-    ghost Value = { State };
+    ghost Value = { Seen };
 
-    ghost view = { λ s. tidy (state_in s.names s.engine) };
-
-    ghost invariant = { λ s. IsKept s.names s.engine };
+    ghost view = { λ s. record { state = tidy s.scope; done = s.steps } };
 }
 
 impl Session {
     /// No names and no arrays.
     pub fn new(alloc: Global) -> Session
-        ensures { result ≡ state [] [] }
+        ensures { result ≡ no_steps }
     {
         Session {
-            names: Names::new(alloc),
-            engine: Engine::new(alloc),
+            scope: Scope::new(alloc),
+            steps: 0,
         }
     }
 
-    /// Runs one statement, and adds the text that it prints to `out`. `Script` names the statement's
-    /// fault, and leaves the session and `out` as they were. After `NoMemory` the session may only be
-    /// dropped.
-    pub fn step(
-        &mut self,
-        alloc: Global,
-        statement: &Statement,
-        out: &mut Vec<u8>,
-    ) -> Result<(), StepFault>
+    /// Runs one statement, and adds the text that it prints to `out`. `Script` names the fault of the
+    /// statement, and leaves the state and `out` as they were. After `NoMemory` the session may only
+    /// be dropped. Each call is counted, a refused one too.
+    pub fn step(&mut self, statement: &Statement, out: &mut Vec<u8>) -> Result<(), StepFault>
         requires { IsWellMade (statement_of statement.now) }
-        ensures ok { OnOk result (Prints (step self.old (statement_of statement.now)) self.new out.old.items out.new.items) }
-        ensures fault { IfErr result (IsFault (step self.old (statement_of statement.now))) }
-        ensures kept { IfErr result (λ e. IfScript e (self.new ≡ self.old)) }
+        ensures ok { let wanted = step self.old.state (statement_of statement.now) in
+            OnOk result (Prints wanted self.new.state out.old.items out.new.items) }
+        ensures fault { IfErr result (IsFault (step self.old.state (statement_of statement.now))) }
+        ensures kept { IfErr result (λ e. IfScript e (self.new.state ≡ self.old.state)) }
         ensures unprinted { IfErr result (λ e. IfScript e (out.new.items ≡ out.old.items)) }
+        ensures counted { self.new.done ≡ min (self.old.done + 1) 18446744073709551615 }
     {
+        numbering_laws();
+        self.steps = self.steps.saturating_add(1);
+        self.scope.whole();
         if !is_statement_built(statement) {
             return Err(StepFault::Script(Fault::Syntax));
         }
-        run(alloc, &mut self.names, &mut self.engine, statement, out)
+        let ran = self.scope.run(statement, out);
+        self.scope.whole();
+        ran
     }
 }

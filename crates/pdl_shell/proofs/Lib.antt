@@ -1,3 +1,3 @@
 pub mod Carrying
 pub mod Whole
-pub mod Answering
+pub mod WordLemmas

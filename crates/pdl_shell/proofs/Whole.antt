@@ -1,22 +1,24 @@
 -- The run of a whole script, and what its first bytes say of it.
-use Rattle.std.proofs.Common.{◌≡◌, ℕ, ◌+◌, ◌<◌, ◌≤◌, min, List, [], ◌∷◌, ◌++◌, map, length, take, drop, Bool, true, false, cond, Option, Some, None, Result, Ok, Err, refl, sym, ◌∙◌, ap, arith, append_assoc, append-nil, length-append}
-use Rattle.std.proofs.lemmas.Bool.{ltb-true, ltb-false, lt-ltb}
+use Rattle.std.proofs.Common.{◌≡◌, ℕ, ◌+◌, ◌<◌, ◌≤◌, min, List, [], ◌∷◌, ◌++◌, map, length, take, drop, Bool, true, false, Option, Some, None, Result, Ok, Err, refl, sym, ◌∙◌, ap, arith, append_assoc, append-nil}
+use Rattle.std.proofs.lemmas.Bool.{ltb-true, ltb-false}
 use Rattle.std.proofs.Math.Dec.{ltb}
 use Rattle.std.specs.Prelude.{nat_lt, IfOk, OnErr, IsErr}
 use Rattle.std.proofs.Math.Seq.{take-length, drop-append_seam}
-use Rattle.std.proofs.lemmas.List.{take-append-le, length-drop, nil_from_length}
+use Rattle.std.proofs.lemmas.List.{length-drop, nil_from_length}
 use Rattle.std.specs.Io.KnownBytes.{Appends, Consumes, Keeps, IsAtEnd}
 use Rattle.pdl_lex.specs.Bytes.{newlines}
 use Rattle.pdl_lex.specs.Limits.{script_limit}
-use Rattle.pdl_lex.specs.Pieces.{Mark, statement, script_too_long, pieces, settled}
-use Rattle.pdl_machine.specs.Run.{Progress, start, run, after_marks, after_mark, refused}
-use Rattle.pdl_machine.specs.declared.fault.Fault.TheVariants.{ScriptTooLong}
+use Rattle.pdl_lex.specs.Pieces.{statement, script_too_long, pieces, settled}
+use Rattle.pdl_machine.specs.Run.{Progress, start, run, after_marks}
+use Rattle.pdl_machine.specs.RunLaws.{TooLongFaults, LimitEnds}
 use Rattle.pdl_shell.specs.declared.runner.Runner.{Runner}
 use Rattle.pdl_shell.specs.declared.stop.Stop.{Stop}
 use Rattle.pdl_shell.specs.Stops.{Writes}
-use Rattle.pdl_shell.specs.declared.stop.Stop.TheVariants.{Source, Sink, NoMemory}
-use Rattle.pdl_shell.specs.declared.status.Status.TheVariants.{Done}
-use Rattle.pdl_shell.specs.Answers.{TakesAtMost, Gives, status_after}
+use Rattle.pdl_shell.specs.declared.stop.Stop.TheVariants.{Source, Sink, NoMemory as NoRoom}
+use Rattle.pdl_shell.specs.declared.words.Command.{Command}
+use Rattle.pdl_shell.specs.declared.status.Status.{Status}
+use Rattle.pdl_shell.specs.declared.status.Status.TheVariants.{Done, ScriptFault, Usage, SourceFault, SinkFault, WatcherFault, NoMemory}
+use Rattle.pdl_shell.specs.Answers.{IsAnswer, TakesAtMost, Gives, GivesLine, HasReason, IsUndisturbed, status_after}
 use Rattle.pdl_shell.specs.Course.{outcome, Carries, StopsShort, Finishes, FinishesShort}
 
 -- nothing taken yet
@@ -25,45 +27,45 @@ appends_nothing None = tt
 appends_nothing (Some xs) = sym (append-nil xs)
 
 -- a runner before the first byte of a script
-pub record IsFresh (runner : Runner) : Type 0 where
-  pub whole : (bytes : List ℕ) → outcome false runner [] bytes ≡ after_marks start (map statement (pieces bytes))
+pub record IsFresh (keep : Bool) (runner : Runner) : Type 0 where
+  pub whole : (bytes : List ℕ) → outcome false runner [] bytes ≡ after_marks keep start (map statement (pieces bytes))
   pub limited : (bytes : List ℕ) → outcome true runner [] bytes
-      ≡ after_marks start (map statement (settled bytes) ++ script_too_long (1 + newlines bytes) ∷ [])
+      ≡ after_marks keep start (map statement (settled bytes) ++ script_too_long (1 + newlines bytes) ∷ [])
 
 -- the run of a script is what such a runner comes to
-pub run_at : (is_cut : Bool) (script : List ℕ) (runner : Runner) (within : ℕ) → IsFresh runner → nat_lt script_limit (length script) ≡ is_cut
+pub run_at : (keep is_cut : Bool) (script : List ℕ) (runner : Runner) (within : ℕ) → IsFresh keep runner → nat_lt script_limit (length script) ≡ is_cut
     → within ≡ min (length script) script_limit
-    → run script ≡ outcome is_cut runner [] (take within script)
-run_at true script runner within fresh long is =
+    → run keep script ≡ outcome is_cut runner [] (take within script)
+run_at keep true script runner within fresh long is =
     let far : script_limit < length script = ltb-true _ _ long in
     let all : within ≡ script_limit = omega arith in
     rw (all, long) (sym (fresh.limited (take script_limit script)))
-run_at false script runner within fresh short is =
+run_at keep false script runner within fresh short is =
     let near : length script ≤ script_limit = ltb-false _ _ short in
     let all : within ≡ length script = omega arith in
     rw (all, short, take-length) (sym (fresh.whole script))
 
 -- a run that came to its end
-pub writes_at_end : (script bytes : List ℕ) (is_cut : Bool) (first last : Runner) (before mid now : Option (List ℕ)) (result : Result Bool Stop)
-    → run script ≡ outcome is_cut first [] bytes → Carries bytes first before [] last mid
+pub writes_at_end : (keep : Bool) (script bytes : List ℕ) (is_cut : Bool) (first last : Runner) (before mid now : Option (List ℕ)) (result : Result Bool Stop)
+    → run keep script ≡ outcome is_cut first [] bytes → Carries bytes first before [] last mid
     → IfOk result (λ faulted. Finishes is_cut last mid faulted now) → OnErr result (FinishesShort is_cut last mid now)
-    → Writes result (run script) before now
-writes_at_end script bytes is_cut first last before mid now (Ok faulted) is carried done short =
+    → Writes result (run keep script) before now
+writes_at_end keep script bytes is_cut first last before mid now (Ok faulted) is carried done short =
     let p = carried before [] (appends_nothing before) in
-    let comes : run script ≡ outcome is_cut last p.0 [] = is ∙ ap (outcome is_cut first []) (sym (append-nil bytes)) ∙ p.2 is_cut [] in
+    let comes : run keep script ≡ outcome is_cut last p.0 [] = is ∙ ap (outcome is_cut first []) (sym (append-nil bytes)) ∙ p.2 is_cut [] in
     let f = done before p.0 p.1 in
     (rw comes f.1, rw comes f.0)
-writes_at_end script bytes is_cut first last before mid now (Err stop) is carried done short =
+writes_at_end keep script bytes is_cut first last before mid now (Err stop) is carried done short =
     let p = carried before [] (appends_nothing before) in
-    let comes : run script ≡ outcome is_cut last p.0 [] = is ∙ ap (outcome is_cut first []) (sym (append-nil bytes)) ∙ p.2 is_cut [] in
+    let comes : run keep script ≡ outcome is_cut last p.0 [] = is ∙ ap (outcome is_cut first []) (sym (append-nil bytes)) ∙ p.2 is_cut [] in
     rw comes (short before p.0 p.1)
 
 -- a run that stopped short before
-pub writes_short : (script bytes : List ℕ) (is_cut : Bool) (first : Runner) (before now : Option (List ℕ)) (result : Result Bool Stop)
-    → run script ≡ outcome is_cut first [] bytes → StopsShort bytes first before now → IsErr result
-    → Writes result (run script) before now
-writes_short script bytes is_cut first before now (Ok faulted) is short failed = cc
-writes_short script bytes is_cut first before now (Err stop) is short failed =
+pub writes_short : (keep : Bool) (script bytes : List ℕ) (is_cut : Bool) (first : Runner) (before now : Option (List ℕ)) (result : Result Bool Stop)
+    → run keep script ≡ outcome is_cut first [] bytes → StopsShort bytes first before now → IsErr result
+    → Writes result (run keep script) before now
+writes_short keep script bytes is_cut first before now (Ok faulted) is short failed = cc
+writes_short keep script bytes is_cut first before now (Err stop) is short failed =
     rw (is ∙ ap (outcome is_cut first []) (sym (append-nil bytes))) (short before [] (appends_nothing before) is_cut [])
 
 -- bytes consumed, and then more of them
@@ -94,19 +96,6 @@ rest_after (Some bs) (Some cs) seen bytes taken is =
 pub takes_at_most : (most : ℕ) (old new : Option (List ℕ)) (seen : List ℕ) → Consumes old new seen → length seen ≤ most → TakesAtMost most old new
 takes_at_most most old new seen taken within = record { count = length seen; within = within; rest = λ bytes is. rest_after old new seen bytes taken is }
 
--- a script that is too long faults in the end
-ends_too_long : (p : Progress) (ms : List Mark) (line : ℕ) → (after_marks p (ms ++ script_too_long line ∷ [])).faulted ≡ true
-ends_too_long p [] line = elim p.faulted as (λ b. p.faulted ≡ b → (cond b p (refused p line ScriptTooLong)).faulted ≡ true) [ true ↦ λ e. e | false ↦ λ e. refl ] refl
-ends_too_long p (m ∷ ms) line =
-    elim p.faulted as (λ b. p.faulted ≡ b → (cond b p (after_marks (after_mark p m) (ms ++ script_too_long line ∷ []))).faulted ≡ true) [
-      | true ↦ λ e. e
-      | false ↦ λ e. ends_too_long (after_mark p m) ms line
-    ] refl
-
-pub run_too_long : (script : List ℕ) → script_limit < length script → (run script).faulted ≡ true
-run_too_long script far =
-    rw (lt-ltb script_limit (length script) far) (ends_too_long start (map statement (settled (take script_limit script))) (1 + newlines (take script_limit script)))
-
 -- the bytes that were read of a script are all of it, or all up to and with the one past the limit
 pub record IsRead (old new : Option (List ℕ)) (seen : List ℕ) : Type 0 where
   pub all : Consumes old new seen
@@ -120,22 +109,16 @@ by_order a b near far = by_bool (ltb b a) (λ e. far (ltb-true b a e)) (λ e. ne
     by_bool true yes' no' = yes' refl
     by_bool false yes' no' = no' refl
 
-run_long : (seen rest : List ℕ) → script_limit < length seen → run (seen ++ rest) ≡ run seen
-run_long seen rest far =
-    let longer : script_limit < length (seen ++ rest) = grind (arith, length-append {A = ℕ}) in
-    let near : script_limit ≤ length seen = omega arith in
-    rw (lt-ltb script_limit (length seen) far, lt-ltb script_limit (length (seen ++ rest)) longer, take-append-le script_limit seen rest near) refl
-
 -- so they say what the run is
-pub run_seen : (old new : Option (List ℕ)) (seen script : List ℕ) → IsRead old new seen → old ≡ Some script → run script ≡ run seen
-run_seen None new seen script read is = cc
-run_seen (Some bs) None seen script read is = absurd read.all
-run_seen (Some bs) (Some rest) seen script read is =
+pub run_seen : (limit : LimitEnds) (keep : Bool) (old new : Option (List ℕ)) (seen script : List ℕ) → IsRead old new seen → old ≡ Some script → run keep script ≡ run keep seen
+run_seen limit keep None new seen script read is = cc
+run_seen limit keep (Some bs) None seen script read is = absurd read.all
+run_seen limit keep (Some bs) (Some rest) seen script read is =
     let same : bs ≡ script = cc in
     let split : script ≡ seen ++ rest = sym same ∙ read.all in
     by_order (length seen) script_limit
-    (λ near. ap run (split ∙ ap (λ u. seen ++ u) (read.end near) ∙ append-nil seen))
-    (λ far. ap run split ∙ run_long seen rest far)
+    (λ near. ap (run keep) (split ∙ ap (λ u. seen ++ u) (read.end near) ∙ append-nil seen))
+    (λ far. ap (run keep) split ∙ limit keep seen rest far)
 
 drop_past : (n : ℕ) (xs : List ℕ) → length xs ≤ n → drop n xs ≡ []
 drop_past n xs short = nil_from_length (drop n xs) (length-drop n xs ∙ omega arith)
@@ -166,23 +149,40 @@ gives_after (Ok true) whole seen before now wrote same = rw same (rw (← wrote.
 gives_after (Ok false) whole seen before now wrote same = rw same (rw (← wrote.0) refl, wrote.1)
 gives_after (Err Source) whole seen before now wrote same = rw same wrote
 gives_after (Err Sink) whole seen before now wrote same = rw same wrote
-gives_after (Err NoMemory) whole seen before now wrote same = rw same wrote
+gives_after (Err NoRoom) whole seen before now wrote same = rw same wrote
 
 -- a run whose script couldn't be read
 pub gives_nothing : (stop : Stop) (whole : Progress) (taken : Option (List ℕ)) → Gives (status_after (Err stop)) whole taken taken
 gives_nothing Source whole taken = ([], (whole.printed, refl), appends_nothing taken)
 gives_nothing Sink whole taken = ([], (whole.printed, refl), appends_nothing taken)
-gives_nothing NoMemory whole taken = ([], (whole.printed, refl), appends_nothing taken)
+gives_nothing NoRoom whole taken = ([], (whole.printed, refl), appends_nothing taken)
 
 -- a run that is done has read the source to its end
-pub done_at_end : (result : Result Bool Stop) (old new before now : Option (List ℕ)) (seen : List ℕ)
-    → IsRead old new seen → Writes result (run seen) before now → status_after result ≡ Done → IsAtEnd new
-done_at_end (Ok true) old new before now seen read wrote done = cc
-done_at_end (Ok false) old new before now seen read wrote done =
-    by_order (length seen) script_limit read.end (λ far. absurd (contrary (wrote.0 ∙ run_too_long seen far)))
+pub done_at_end : (too_long : TooLongFaults) (keep : Bool) (result : Result Bool Stop) (old new before now : Option (List ℕ)) (seen : List ℕ)
+    → IsRead old new seen → Writes result (run keep seen) before now → status_after result ≡ Done → IsAtEnd new
+done_at_end too_long keep (Ok true) old new before now seen read wrote done = cc
+done_at_end too_long keep (Ok false) old new before now seen read wrote done =
+    by_order (length seen) script_limit read.end (λ far. absurd (contrary (wrote.0 ∙ too_long keep seen far)))
   where
     contrary : false ≡ true → ⊥
     contrary e = cc
-done_at_end (Err Source) old new before now seen read wrote done = cc
-done_at_end (Err Sink) old new before now seen read wrote done = cc
-done_at_end (Err NoMemory) old new before now seen read wrote done = cc
+done_at_end too_long keep (Err Source) old new before now seen read wrote done = cc
+done_at_end too_long keep (Err Sink) old new before now seen read wrote done = cc
+done_at_end too_long keep (Err NoRoom) old new before now seen read wrote done = cc
+
+pub no_command : (found : Option Command) (command : Command) → None ≡ found → found ≡ Some command → ⊥
+no_command found command none some = cc
+
+-- words that are no spelling are answered where the sink's count didn't rise
+pub usage_complete : (status : Status) (line : List ℕ) (source before now : ℕ) (taken written : Option (List ℕ))
+    → GivesLine status line taken written
+    → HasReason status (record { source = source; sink = before }) (record { source = source; sink = now })
+    → IsUndisturbed (record { source = source; sink = before }) (record { source = source; sink = now })
+    → IsAnswer status
+usage_complete Done line source before now taken written gives reason quiet = absurd gives
+usage_complete ScriptFault line source before now taken written gives reason quiet = absurd gives
+usage_complete Usage line source before now taken written gives reason quiet = tt
+usage_complete SourceFault line source before now taken written gives reason quiet = absurd gives
+usage_complete SinkFault line source before now taken written gives reason quiet = quiet.sink reason.0
+usage_complete WatcherFault line source before now taken written gives reason quiet = absurd gives
+usage_complete NoMemory line source before now taken written gives reason quiet = absurd gives

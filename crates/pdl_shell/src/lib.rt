@@ -2,6 +2,7 @@
 //! the status at the end.
 #![tactic(auto)]
 
+mod mark;
 mod output;
 mod reading;
 mod run;
@@ -9,6 +10,7 @@ mod runner;
 mod statement;
 mod status;
 mod stop;
+mod words;
 
 pub use run::run_shell;
 pub use status::Status;

@@ -1,11 +1,12 @@
 //! The call that runs a script.
-ghost use Rattle.std.specs.Prelude.{◌≡◌, ◌≢◌, ℕ, ◌+◌, List, drop, true, false, Some, IfSome, OnOk, OnErr};
+ghost use Rattle.std.specs.Prelude.{◌≡◌, ◌≢◌, ℕ, ◌+◌, List, drop, map, Bool, true, Some, None, IfSome, OnOk, OnErr};
 ghost use Rattle.std.specs.Io.KnownBytes.{Appends, IsAtEnd};
+ghost use Rattle.std.specs.String.{string_bytes};
 ghost use Rattle.pdl_io.specs.Counts.{HasCause};
 ghost use Rattle.pdl_io.specs.Told.{Says, KeepsTelling, AppendsPrefix};
 ghost use Rattle.pdl_lex.specs.Limits.{script_limit};
 ghost use Rattle.pdl_machine.specs.Run.{run};
-ghost use Rattle.pdl_shell.specs.Command.{is_spelling, usage_line};
+ghost use Rattle.pdl_shell.specs.Command.{command_of, usage_line};
 ghost use Rattle.pdl_shell.specs.Stops.{HasSinkCause, Writes};
 ghost use Rattle.pdl_shell.specs.Answers.{IsAnswer, Gives, GivesLine, HasReason, TakesAtMost, ReadsUpTo, IsUndisturbed};
 
@@ -13,29 +14,41 @@ use crate::reading::{SCRIPT_LIMIT, read_script};
 use crate::runner::Runner;
 use crate::status::Status;
 use crate::stop::{Stop, status_after};
+use crate::words::{Command, read_words};
 use pdl_io::{Failed, Sink, Source, write_all};
+use pdl_machine::run_laws;
 use std::alloc::Global;
 
 // What is written where the words are no spelling of the command.
 const USAGE_LINE: &[u8] = b"usage: pdl [--keep-going] [--generate N]\n";
 
 // Runs a script of which these are all the bytes, or all up to and with the one past the limit.
-fn run_bytes<K: Sink>(alloc: Global, script: &[u8], sink: &mut K) -> Result<bool, Stop>
-    ensures writes { Writes result (run script.now) (K.taken sink.old) (K.taken sink.new) }
+fn run_bytes<K: Sink>(
+    alloc: Global,
+    keep_going: bool,
+    script: &[u8],
+    sink: &mut K,
+) -> Result<bool, Stop>
+    ensures writes { Writes result (run keep_going script.now) (K.taken sink.old) (K.taken sink.new) }
     ensures flushed { OnOk result (Says (K.is_flushed sink.new) true) }
     ensures tells { KeepsTelling (K.is_flushed sink.old) (K.is_flushed sink.new) }
     ensures cause { HasSinkCause (K.faults sink.old) (K.faults sink.new) result }
 {
     let within = script.len().min(SCRIPT_LIMIT);
-    let mut runner = Runner::new(alloc);
+    let mut runner = Runner::new(alloc, keep_going);
     runner.take(&script[..within], sink)?;
     runner.finish(script.len() > SCRIPT_LIMIT, sink)
 }
 
 // Reads the source's script, and runs it.
-fn run_script<S: Source, K: Sink>(alloc: Global, source: &mut S, sink: &mut K) -> Status
+fn run_script<S: Source, K: Sink>(
+    alloc: Global,
+    keep_going: bool,
+    source: &mut S,
+    sink: &mut K,
+) -> Status
     ensures model { (script : List ℕ) → S.left source.old ≡ Some script →
-        Gives result (run script) (K.taken sink.old) (K.taken sink.new) }
+        Gives result (run keep_going script) (K.taken sink.old) (K.taken sink.new) }
     ensures read { (script : List ℕ) → S.left source.old ≡ Some script → IsAnswer result →
         S.left source.new ≡ Some (drop (script_limit + 1) script) }
     ensures end { result ≡ Status.Done → IsAtEnd (S.left source.new) }
@@ -47,8 +60,9 @@ fn run_script<S: Source, K: Sink>(alloc: Global, source: &mut S, sink: &mut K) -
     ensures tells { KeepsTelling (K.is_flushed sink.old) (K.is_flushed sink.new) }
     ensures spelled { result ≢ Status.Usage }
 {
+    run_laws();
     match read_script(alloc, source) {
-        Ok(script) => status_after(run_bytes(alloc, &script, sink)),
+        Ok(script) => status_after(run_bytes(alloc, keep_going, &script, sink)),
         Err(stop) => status_after(Err(stop)),
     }
 }
@@ -65,12 +79,28 @@ fn write_usage<K: Sink>(sink: &mut K) -> Result<(), Failed>
     sink.flush()
 }
 
+// Answers words that are no spelling of the command.
+fn usage<K: Sink>(sink: &mut K) -> Status
+    ensures line { GivesLine result usage_line (K.taken sink.old) (K.taken sink.new) }
+    ensures reason { (faults : ℕ) → HasReason result
+        (record { source = faults; sink = K.faults sink.old })
+        (record { source = faults; sink = K.faults sink.new }) }
+    ensures flushed { IsAnswer result → Says (K.is_flushed sink.new) true }
+    ensures tells { KeepsTelling (K.is_flushed sink.old) (K.is_flushed sink.new) }
+{
+    match write_usage(sink) {
+        Ok(()) => Status::Usage,
+        Err(_) => Status::SinkFault,
+    }
+}
+
 /// Runs the script that the source gives, and writes what it prints to the sink.
 ///
-/// `words` are the words of the command line without the program's name. Where they are no spelling of
-/// the command, the usage line is written, and the source isn't touched. Else the script is read to its
-/// end, and its statements are run in order. After each of them its text is written, or the line of its
-/// fault, and the first fault ends the run. At the end the sink is flushed.
+/// `words` are the words of the command line without the program's name: none, or `--keep-going`. Where
+/// they are no spelling of the command, the usage line is written, and the source isn't touched. Else the
+/// script is read to its end, and its statements are run in order. After each of them its text is
+/// written, or the line of its fault. The first fault ends the run, unless it is to keep going; that the
+/// script is too long always ends it. At the end the sink is flushed.
 ///
 /// After a fault of the source or the sink, or where memory is wanting, the call ends at once. It takes
 /// no memory where the words are no spelling.
@@ -81,18 +111,19 @@ pub fn run_shell<S: Source, K: Sink>(
     sink: &mut K,
 ) -> Status
     // With words that are no spelling the answer is Usage or SinkFault, and the source stays.
-    ensures usage { is_spelling words.now ≡ false → source.new ≡ source.old }
-    ensures usage_line { is_spelling words.now ≡ false →
+    ensures usage { command_of (map string_bytes words.now) ≡ None → source.new ≡ source.old }
+    ensures usage_line { command_of (map string_bytes words.now) ≡ None →
         GivesLine result usage_line (K.taken sink.old) (K.taken sink.new) }
-    ensures usage_only { result ≡ Status.Usage → is_spelling words.now ≡ false }
+    ensures usage_only { result ≡ Status.Usage → command_of (map string_bytes words.now) ≡ None }
 
     // What is written and the status are the run's; where it stops short, a prefix is written.
-    ensures model { is_spelling words.now ≡ true → IfSome (S.left source.old) (λ script.
-        Gives result (run script) (K.taken sink.old) (K.taken sink.new)) }
+    ensures model { (keep : Bool) → command_of (map string_bytes words.now) ≡ Some (Command.Run keep) →
+        IfSome (S.left source.old) (λ script.
+        Gives result (run keep script) (K.taken sink.old) (K.taken sink.new)) }
 
     // How far the source is read.
-    ensures read { is_spelling words.now ≡ true → IsAnswer result →
-        ReadsUpTo (script_limit + 1) (S.left source.old) (S.left source.new) }
+    ensures read { (keep : Bool) → command_of (map string_bytes words.now) ≡ Some (Command.Run keep) →
+        IsAnswer result → ReadsUpTo (script_limit + 1) (S.left source.old) (S.left source.new) }
     ensures end { result ≡ Status.Done → IsAtEnd (S.left source.new) }
     ensures at_most { TakesAtMost (script_limit + 1) (S.left source.old) (S.left source.new) }
 
@@ -109,11 +140,8 @@ pub fn run_shell<S: Source, K: Sink>(
     ensures flushed { IsAnswer result → Says (K.is_flushed sink.new) true }
     ensures tells { KeepsTelling (K.is_flushed sink.old) (K.is_flushed sink.new) }
 {
-    if words.is_empty() {
-        return run_script(alloc, source, sink);
-    }
-    match write_usage(sink) {
-        Ok(()) => Status::Usage,
-        Err(_) => Status::SinkFault,
+    match read_words(words) {
+        Some(Command::Run { keep_going }) => run_script(alloc, keep_going, source, sink),
+        None => usage(sink),
     }
 }

@@ -1,10 +1,11 @@
 //! Carries a run on over bytes of the script.
+use crate::mark::Mark;
 use crate::output::{flush, write_text};
-use crate::statement::{push_fault_line, run_piece};
-use crate::stop::Stop;
+use crate::statement::{push_fault_line, run_mark};
+use crate::stop::{Stop, Unrun};
 use pdl_io::Sink;
-use pdl_lex::{Piece, StatementCutter};
-use pdl_machine::Fault;
+use pdl_lex::StatementCutter;
+use pdl_machine::run_laws;
 use pdl_session::Session;
 use std::alloc::Global;
 
@@ -14,57 +15,89 @@ pub(crate) struct Runner {
     alloc: Global,
     cutter: StatementCutter,
     session: Session,
-    // What the statement printed that was run last.
+    // What the statement printed that was run last, or the line of its fault.
     text: Vec<u8>,
+    keep_going: bool,
     faulted: bool,
+    // Whether a fault has ended the run.
+    ended: bool,
 }
 
 impl Runner {
-    ghost use Rattle.std.specs.Prelude.{◌≡◌, ℕ, ◌+◌, ◌<◌, ◌≤◌, ◌^◌, ◌++◌, ◌∷◌, [], List, Bool, true, false, length, drop, map, OnOk, OnErr, IfOk};
+    ghost use Rattle.std.specs.Prelude.{◌≡◌, ℕ, ◌+◌, ◌<◌, ◌≤◌, ◌^◌, ◌++◌, ◌∷◌, [], List, Bool, true, false, length, drop, map, option_to_list, Err, OnOk, OnErr, IfOk};
     ghost use Rattle.std.specs.Io.KnownBytes.{Appends};
     ghost use Rattle.pdl_io.specs.Told.{Says, KeepsTelling, AppendsPrefix};
     ghost use Rattle.pdl_lex.specs.Bytes.{newlines};
     ghost use Rattle.pdl_lex.specs.Pieces.{pieces, settled, statement, script_too_long};
-    ghost use Rattle.pdl_machine.specs.Run.{start, after_piece, after_marks};
+    ghost use Rattle.pdl_machine.specs.Run.{start, after_mark, after_marks};
     ghost use Rattle.pdl_shell.specs.Stops.{HasSinkCause};
-    ghost use Rattle.pdl_shell.specs.Pace.{text_of_piece};
+    ghost use Rattle.pdl_shell.specs.Marks.{mark_of};
+    ghost use Rattle.pdl_shell.specs.Pace.{marks_left, mark_text};
     ghost use Rattle.pdl_shell.specs.Course.{progress, outcome, Carries, StopsShort, Finishes, FinishesShort};
 
     // A run before its first statement.
-    pub(crate) fn new(alloc: Global) -> Runner
-        ensures ready { (result.cutter.failed ≡ false) × (result.cutter.taken ≡ 0) × (result.faulted ≡ false) }
-        ensures whole { (bytes : List ℕ) → outcome false result [] bytes ≡ after_marks start (map statement (pieces bytes)) }
+    pub(crate) fn new(alloc: Global, keep_going: bool) -> Runner
+        ensures ready { (result.cutter.failed ≡ false) × (result.cutter.taken ≡ 0) }
+        ensures whole { (bytes : List ℕ) → outcome false result [] bytes
+            ≡ after_marks keep_going start (map statement (pieces bytes)) }
         ensures limited { (bytes : List ℕ) → outcome true result [] bytes
-            ≡ after_marks start (map statement (settled bytes) ++ script_too_long (1 + newlines bytes) ∷ []) }
+            ≡ after_marks keep_going start (map statement (settled bytes) ++ script_too_long (1 + newlines bytes) ∷ []) }
     {
         Runner {
             alloc,
             cutter: StatementCutter::new(alloc),
             session: Session::new(alloc),
             text: Vec::new(alloc),
+            keep_going,
             faulted: false,
+            ended: false,
         }
     }
 
-    // Runs a piece, and writes what it prints.
-    fn run<K: Sink>(&mut self, piece: &Piece, sink: &mut K) -> Result<(), Stop>
+    // Runs a statement, and leaves in `text` what it prints, or the line of its fault.
+    fn answer(&mut self, mark: &Mark) -> Result<(), Stop>
         ensures cutter { self.new.cutter ≡ self.old.cutter }
-        ensures step { OnOk result ((printed : List ℕ) → after_piece (progress self.old printed) piece.now
-            ≡ progress self.new (printed ++ text_of_piece self.old.session piece.now)) }
-        ensures whole { OnOk result (Appends (K.taken sink.old) (K.taken sink.new) (text_of_piece self.old.session piece.now)) }
-        ensures prefix { OnErr result (AppendsPrefix (K.taken sink.old) (K.taken sink.new) (text_of_piece self.old.session piece.now)) }
+        ensures step { OnOk result ((printed : List ℕ) →
+            after_mark self.old.keep_going (progress self.old printed) (mark_of mark.now)
+            ≡ progress self.new (printed ++ mark_text self.old.session.state (mark_of mark.now))) }
+        ensures keep { self.new.keep_going ≡ self.old.keep_going }
+        ensures text { OnOk result (self.new.text.items ≡ mark_text self.old.session.state (mark_of mark.now)) }
+        ensures stop { OnErr result (result ≡ Err Stop.NoMemory) }
+    {
+        match run_mark(self.alloc, &mut self.session, mark, &mut self.text) {
+            Ok(()) => Ok(()),
+            Err(Unrun::Faulted(fault)) => {
+                push_fault_line(self.alloc, &mut self.text, mark.line(), fault)?;
+                self.faulted = true;
+                self.ended = mark.fault_ends(self.keep_going);
+                Ok(())
+            }
+            Err(Unrun::Stopped(stop)) => Err(stop),
+        }
+    }
+
+    // Runs a statement, and writes what it prints, or the line of its fault.
+    fn run<K: Sink>(&mut self, mark: &Mark, sink: &mut K) -> Result<(), Stop>
+        ensures cutter { self.new.cutter ≡ self.old.cutter }
+        ensures keep { self.new.keep_going ≡ self.old.keep_going }
+        ensures step { OnOk result ((printed : List ℕ) →
+            after_mark self.old.keep_going (progress self.old printed) (mark_of mark.now)
+            ≡ progress self.new (printed ++ mark_text self.old.session.state (mark_of mark.now))) }
+        ensures whole { OnOk result (Appends (K.taken sink.old) (K.taken sink.new)
+            (mark_text self.old.session.state (mark_of mark.now))) }
+        ensures prefix { OnErr result (AppendsPrefix (K.taken sink.old) (K.taken sink.new)
+            (mark_text self.old.session.state (mark_of mark.now))) }
         ensures tells { KeepsTelling (K.is_flushed sink.old) (K.is_flushed sink.new) }
         ensures cause { HasSinkCause (K.faults sink.old) (K.faults sink.new) result }
     {
-        self.text.clear();
-        self.faulted = run_piece(self.alloc, &mut self.session, piece, &mut self.text)?;
+        self.answer(mark)?;
         write_text(sink, &self.text)
     }
 
     // Feeds bytes to the cutter once, runs the piece that they complete, if any, and answers how many
     // bytes were taken.
     fn round<K: Sink>(&mut self, bytes: &[u8], sink: &mut K) -> Result<usize, Stop>
-        requires running { self.old.faulted ≡ false }
+        requires running { self.old.ended ≡ false }
         requires room { self.old.cutter.taken + length bytes.now < 2 ^ 63 }
         requires some { 0 < length bytes.now }
         ensures used { IfOk result (λ used. (0 < used) × (used ≤ length bytes.now)) }
@@ -75,12 +108,13 @@ impl Runner {
         ensures tells { KeepsTelling (K.is_flushed sink.old) (K.is_flushed sink.new) }
         ensures cause { HasSinkCause (K.faults sink.old) (K.faults sink.new) result }
     {
+        run_laws();
         let fed = self.cutter.feed(bytes)?;
         let used = fed.used;
         match fed.cut {
             None => Ok(used),
             Some(piece) => {
-                self.run(&piece, sink)?;
+                self.run(&Mark::Statement(piece), sink)?;
                 Ok(used)
             }
         }
@@ -97,14 +131,32 @@ impl Runner {
         ensures cause { HasSinkCause (K.faults sink.old) (K.faults sink.new) result }
     {
         let mut used = 0;
-        'taking: while used < bytes.len() && !self.faulted {
+        'taking: while used < bytes.len() && !self.ended {
             used += self.round(&bytes[used..], sink)?;
         }
+        run_laws();
         Ok(())
     }
 
-    // Runs what is left where no bytes are: the last statement, or where the script goes on past its
-    // limit, the fault of that.
+    // What is left to run where no bytes are: the last statement, or where the script goes on past its
+    // limit, that it is too long. An unfinished statement isn't run then.
+    fn last(&mut self, is_cut: bool) -> Option<Mark>
+        requires { self.old.cutter.failed ≡ false }
+        ensures mark { map mark_of (option_to_list result) ≡ marks_left is_cut self.old.cutter [] }
+        ensures rest { self.new ≡ record self.old { cutter = self.new.cutter } }
+    {
+        let line = self.cutter.line();
+        let last = self.cutter.end();
+        if is_cut {
+            return Some(Mark::ScriptTooLong(line));
+        }
+        match last {
+            None => None,
+            Some(piece) => Some(Mark::Statement(piece)),
+        }
+    }
+
+    // Runs what is left where no bytes are.
     fn run_last<K: Sink>(&mut self, is_cut: bool, sink: &mut K) -> Result<(), Stop>
         requires { self.old.cutter.failed ≡ false }
         ensures finishes { OnOk result (Finishes is_cut self.old (K.taken sink.old) self.new.faulted (K.taken sink.new)) }
@@ -112,33 +164,14 @@ impl Runner {
         ensures tells { KeepsTelling (K.is_flushed sink.old) (K.is_flushed sink.new) }
         ensures cause { HasSinkCause (K.faults sink.old) (K.faults sink.new) result }
     {
-        if self.faulted {
+        run_laws();
+        if self.ended {
             return Ok(());
         }
-        if is_cut {
-            return self.refuse_rest(sink);
-        }
-        match self.cutter.end() {
+        match self.last(is_cut) {
             None => Ok(()),
-            Some(piece) => self.run(&piece, sink),
+            Some(mark) => self.run(&mark, sink),
         }
-    }
-
-    // Ends the run since the script is too long. Its unfinished statement isn't run.
-    fn refuse_rest<K: Sink>(&mut self, sink: &mut K) -> Result<(), Stop>
-        requires works { self.old.cutter.failed ≡ false }
-        requires running { self.old.faulted ≡ false }
-        ensures finishes { OnOk result (Finishes true self.old (K.taken sink.old) self.new.faulted (K.taken sink.new)) }
-        ensures stops { OnErr result (FinishesShort true self.old (K.taken sink.old) (K.taken sink.new)) }
-        ensures tells { KeepsTelling (K.is_flushed sink.old) (K.is_flushed sink.new) }
-        ensures cause { HasSinkCause (K.faults sink.old) (K.faults sink.new) result }
-    {
-        let line = self.cutter.line();
-        let _unfinished = self.cutter.end();
-        self.text.clear();
-        push_fault_line(self.alloc, &mut self.text, line, Fault::ScriptTooLong)?;
-        self.faulted = true;
-        write_text(sink, &self.text)
     }
 
     // Ends the run: runs what is left, flushes the sink, and answers whether a statement faulted.

@@ -1,85 +1,69 @@
-//! One statement of a script: what it prints, or the line of its fault.
-ghost use Rattle.std.specs.Prelude.{◌≡◌, ◌≤◌, ◌++◌, length, false, IfOk, IfErr, OnOk};
+//! One statement of a script: what it does to the session and prints, or why it wasn't run.
+ghost use Rattle.std.specs.Prelude.{◌≡◌, ◌≤◌, ◌++◌, [], length, Ok, IfOk, IfErr, OnOk};
 ghost use Rattle.pdl_lex.specs.Limits.{statement_limit};
 ghost use Rattle.pdl_syntax.specs.StatementTree.{statement_of};
 ghost use Rattle.pdl_syntax.specs.WellMade.{IsWellMade};
-ghost use Rattle.pdl_machine.specs.Step.{step};
-ghost use Rattle.pdl_machine.specs.Run.{reads, after_reading, after_step, after_piece, fault_line};
-ghost use Rattle.pdl_session.specs.Answers.{IsFault};
+ghost use Rattle.pdl_machine.specs.Run.{reads, step_read, mark_step, fault_line};
+ghost use Rattle.pdl_shell.specs.Marks.{mark_of};
+ghost use Rattle.pdl_shell.specs.Unrun.{IsFaultOf, IfFaulted};
 
-use pdl_lex::{LexFault, Piece, tokens};
-use pdl_machine::{Fault, fault_text};
-use pdl_session::{Session, StepFault};
-use pdl_syntax::{ParseFault, Statement, parse};
+use crate::mark::Mark;
+use crate::stop::Unrun;
+use pdl_lex::{Piece, tokens};
+use pdl_machine::{Fault, fault_text, reads_law};
+use pdl_session::Session;
+use pdl_syntax::{Statement, parse};
 use std::alloc::{AllocError, Global};
 
 // The statement that a text is, or why it is none.
-fn read(alloc: Global, text: &[u8]) -> Result<Statement, StepFault>
+fn read(alloc: Global, text: &[u8]) -> Result<Statement, Unrun>
     requires { length text.now ≤ statement_limit }
     ensures ok { IfOk result (λ s. reads text.now ≡ Ok (statement_of s)) }
     ensures well_made { IfOk result (λ s. IsWellMade (statement_of s)) }
-    ensures fault { IfErr result (IsFault (reads text.now)) }
+    ensures fault { IfErr result (IsFaultOf (reads text.now)) }
 {
-    let tokens = match tokens(alloc, text) {
-        Ok(tokens) => tokens,
-        Err(LexFault::NoMemory) => return Err(StepFault::NoMemory),
-        Err(_) => return Err(StepFault::Script(Fault::Syntax)),
-    };
-    match parse(alloc, text, &tokens) {
-        Ok(statement) => Ok(statement),
-        Err(ParseFault::TooDeep) => Err(StepFault::Script(Fault::TooDeep)),
-        Err(ParseFault::NumberTooLarge) => Err(StepFault::Script(Fault::NumberTooLarge)),
-        Err(ParseFault::Syntax) => Err(StepFault::Script(Fault::Syntax)),
-        Err(ParseFault::Ragged) => Err(StepFault::Script(Fault::Ragged)),
-        Err(ParseFault::NoMemory) => Err(StepFault::NoMemory),
-    }
+    reads_law();
+    let tokens = tokens(alloc, text)?;
+    let statement = parse(alloc, text, &tokens)?;
+    Ok(statement)
 }
 
-// Steps the session by a statement, appends to `out` what it prints, or the line of its fault, and
-// answers whether it faulted.
-fn run_statement(
-    alloc: Global,
-    session: &mut Session,
-    statement: &Statement,
-    line: u64,
-    out: &mut Vec<u8>,
-) -> Result<bool, AllocError>
-    requires { IsWellMade (statement_of statement.now) }
-    ensures { IfOk result (λ faulted.
-        after_step (record { state = session.old; printed = out.old.items; faulted = false }) line (step session.old (statement_of statement.now))
-        ≡ record { state = session.new; printed = out.new.items; faulted = faulted }) }
-{
-    match session.step(alloc, statement, out) {
-        Ok(()) => Ok(false),
-        Err(StepFault::Script(fault)) => {
-            push_fault_line(alloc, out, line, fault)?;
-            Ok(true)
-        }
-        Err(StepFault::NoMemory) => Err(AllocError),
-    }
-}
-
-// Runs a statement's text, appends to `out` what it prints, or the line of its fault, and answers
-// whether it faulted.
+// Runs the statement of a text, and puts what it prints into `out`.
 fn run_text(
     alloc: Global,
     session: &mut Session,
     text: &[u8],
-    line: u64,
     out: &mut Vec<u8>,
-) -> Result<bool, AllocError>
-    requires { length text.now ≤ statement_limit }
-    ensures { IfOk result (λ faulted.
-        after_reading (record { state = session.old; printed = out.old.items; faulted = false }) line (reads text.now)
-        ≡ record { state = session.new; printed = out.new.items; faulted = faulted }) }
+) -> Result<(), Unrun>
+    requires within { length text.now ≤ statement_limit }
+    requires empty { out.old.items ≡ [] }
+    ensures ok { OnOk result (step_read session.old.state (reads text.now) ≡ Ok (session.new.state, out.new.items)) }
+    ensures fault { IfErr result (IsFaultOf (step_read session.old.state (reads text.now))) }
+    ensures kept { IfErr result (λ e. IfFaulted e (session.new.state ≡ session.old.state)) }
+    ensures unprinted { IfErr result (λ e. IfFaulted e (out.new.items ≡ [])) }
 {
-    match read(alloc, text) {
-        Ok(statement) => run_statement(alloc, session, &statement, line, out),
-        Err(StepFault::Script(fault)) => {
-            push_fault_line(alloc, out, line, fault)?;
-            Ok(true)
-        }
-        Err(StepFault::NoMemory) => Err(AllocError),
+    let statement = read(alloc, text)?;
+    session.step(&statement, out)?;
+    Ok(())
+}
+
+// Runs a statement of the script, and leaves in `out` what it prints: nothing where it wasn't run.
+pub(crate) fn run_mark(
+    alloc: Global,
+    session: &mut Session,
+    mark: &Mark,
+    out: &mut Vec<u8>,
+) -> Result<(), Unrun>
+    ensures ok { OnOk result (mark_step session.old.state (mark_of mark.now) ≡ Ok (session.new.state, out.new.items)) }
+    ensures fault { IfErr result (IsFaultOf (mark_step session.old.state (mark_of mark.now))) }
+    ensures kept { IfErr result (λ e. IfFaulted e (session.new.state ≡ session.old.state)) }
+    ensures unprinted { IfErr result (λ e. IfFaulted e (out.new.items ≡ [])) }
+{
+    out.clear();
+    match mark {
+        Mark::Statement(Piece::Whole(cut)) => run_text(alloc, session, cut.text.bytes(), out),
+        Mark::Statement(Piece::TooLong { .. }) => Err(Unrun::Faulted(Fault::StatementTooLong)),
+        Mark::ScriptTooLong(_) => Err(Unrun::Faulted(Fault::ScriptTooLong)),
     }
 }
 
@@ -95,24 +79,4 @@ pub(crate) fn push_fault_line(
     let text = fault_text(fault);
     let shown = format!(in alloc; "pdl: line {line}: {text}\n")?;
     out.extend_from_slice(shown.as_bytes())
-}
-
-// Runs a piece of the script, appends to `out` what it prints, and answers whether it faulted.
-pub(crate) fn run_piece(
-    alloc: Global,
-    session: &mut Session,
-    piece: &Piece,
-    out: &mut Vec<u8>,
-) -> Result<bool, AllocError>
-    ensures { IfOk result (λ faulted.
-        after_piece (record { state = session.old; printed = out.old.items; faulted = false }) piece.now
-        ≡ record { state = session.new; printed = out.new.items; faulted = faulted }) }
-{
-    match piece {
-        Piece::Whole(cut) => run_text(alloc, session, cut.text.bytes(), cut.line, out),
-        Piece::TooLong { line } => {
-            push_fault_line(alloc, out, *line, Fault::StatementTooLong)?;
-            Ok(true)
-        }
-    }
 }

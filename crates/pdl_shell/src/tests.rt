@@ -60,23 +60,23 @@ fn check_script(
     check(rt, alloc, &call, text, status)
 }
 
-// Runs a script with no words where reads or writes fail.
+// Runs three prints with no words where reads or writes fail.
 fn check_failing(
     rt: &impl Abort,
     alloc: Global,
-    script: &[u8],
     failing_reads: &[u64],
     failing_writes: &[u64],
+    text: &[u8],
     status: Status,
 ) -> Result<(), Fail> {
     let call = Call {
         words: &[],
-        script,
+        script: b"p 1; p 2; p 3;",
         most: 1,
         failing_reads,
         failing_writes,
     };
-    check(rt, alloc, &call, b"", status)
+    check(rt, alloc, &call, text, status)
 }
 
 #[test]
@@ -92,10 +92,11 @@ fn scripts_without_statements(rt: HostRuntime) -> Result<(), Fail> {
 fn words_that_are_no_spelling(rt: HostRuntime) -> Result<(), Fail> {
     let line = b"usage: pdl [--keep-going] [--generate N]\n";
     // The words, the write or flush that fails, what was written, and the status. Every read fails.
-    let calls: [(&[&str], &[u64], &[u8], Status); 5] = [
+    let calls: [(&[&str], &[u64], &[u8], Status); 6] = [
         (&["--help"], &[], line, Status::Usage),
         (&[""], &[], line, Status::Usage),
         (&["--", "x"], &[], line, Status::Usage),
+        (&["--keep-going", "--keep-going"], &[], line, Status::Usage),
         (&["x"], &[0], b"", Status::SinkFault),
         (&["x"], &[1], line, Status::SinkFault),
     ];
@@ -112,11 +113,30 @@ fn words_that_are_no_spelling(rt: HostRuntime) -> Result<(), Fail> {
     Ok(())
 }
 
+// The call ends at once: nothing is read or written again, though the calls behind the failing one would
+// succeed.
 #[test]
 fn a_source_or_a_sink_fails(rt: HostRuntime) -> Result<(), Fail> {
-    check_failing(&rt, rt.alloc(), b";;;;;", &[0], &[], Status::SourceFault)?;
-    check_failing(&rt, rt.alloc(), b";;;;;", &[4], &[], Status::SourceFault)?;
-    check_failing(&rt, rt.alloc(), b";;;;;", &[], &[0], Status::SinkFault)
+    check_failing(&rt, rt.alloc(), &[0], &[], b"", Status::SourceFault)?;
+    check_failing(&rt, rt.alloc(), &[9], &[], b"", Status::SourceFault)?;
+    check_failing(&rt, rt.alloc(), &[], &[0], b"", Status::SinkFault)?;
+    check_failing(&rt, rt.alloc(), &[], &[1], b"1\n", Status::SinkFault)?;
+    // The flush at the end.
+    check_failing(&rt, rt.alloc(), &[], &[3], b"1\n2\n3\n", Status::SinkFault)
+}
+
+// A statement's fault doesn't end a run that keeps going, nor does the fault leave anything behind.
+#[test]
+fn a_run_keeps_going(rt: HostRuntime) -> Result<(), Fail> {
+    let call = Call {
+        words: &["--keep-going"],
+        script: b"$x = 1;\n$x = frob(2);\np $x;\np $y",
+        most: 3,
+        failing_reads: &[],
+        failing_writes: &[],
+    };
+    let text = b"pdl: line 2: unknown function\n1\npdl: line 4: unknown name\n";
+    check(&rt, rt.alloc(), &call, text, Status::ScriptFault)
 }
 
 #[test]
@@ -129,9 +149,11 @@ fn a_text_that_is_too_long(rt: HostRuntime) -> Result<(), Fail> {
     check_script(&rt, rt.alloc(), &long, 4096, text, Status::ScriptFault)
 }
 
-// One byte past the limit of a script.
+// As many bytes as a script may have, and one more.
 #[test]
 fn a_script_that_is_too_long(rt: HostRuntime) -> Result<(), Fail> {
+    let spaces = Vec::from_elem(rt.alloc(), b' ', 16_777_216)?;
+    check_script(&rt, rt.alloc(), &spaces, 65_536, b"", Status::Done)?;
     let blanks = Vec::from_elem(rt.alloc(), b'\n', 16_777_217)?;
     let text = b"pdl: line 16777217: script too long\n";
     check_script(&rt, rt.alloc(), &blanks, 65_536, text, Status::ScriptFault)

@@ -11,8 +11,7 @@ use Rattle.pdl_slices.specs.declared.reading.Part.TheVariants as part
 use Rattle.pdl_slices.specs.declared.reading.Place.{Place}
 use Rattle.pdl_slices.specs.Grammar.{Blanks, Args, one_arg, arg_after, Spells, blanks_alone, listed, CanBegin}
 use Rattle.pdl_slices.specs.Refusals.{IsBadText}
-use Rattle.pdl_slices.specs.Reading.{kind_of, number_in, takes_number, takes_sign, ended, Stage, first_place, stage_after, run, is_first, finished}
-use Rattle.pdl_slices.specs.Collected.{first_stage}
+use Rattle.pdl_slices.specs.Reading.{kind_of, number_in, takes_number, takes_sign, ended, Stage, first_place, stage_after, run, is_first, finished, first_stage}
 use Rattle.pdl_slices.proofs.Cuts.{cut_arg}
 use Rattle.pdl_slices.proofs.Spelled.{at, run-None, run-append, run-blanks_before, sign_takes, Has, Closes, closes_has, run-sign, run-args}
 use Rattle.pdl_slices.proofs.Sound.{some_is, map_is, PartReads, waits, signs, counts, counts_down, after, after_sign, SlotReads, single, bracket, bracketed, size, to, by}

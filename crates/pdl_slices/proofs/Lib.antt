@@ -5,3 +5,4 @@ pub mod Sound
 pub mod Moves
 pub mod Endings
 pub mod Outcomes
+pub mod Meanings

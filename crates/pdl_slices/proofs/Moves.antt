@@ -10,8 +10,7 @@ use Rattle.pdl_slices.specs.declared.reading.Part.{Part}
 use Rattle.pdl_slices.specs.declared.reading.Part.TheVariants as part
 use Rattle.pdl_slices.specs.declared.reading.Place.{Place}
 use Rattle.pdl_slices.specs.Grammar.{Blanks, no_blank, Field, Args, one_arg, arg_after}
-use Rattle.pdl_slices.specs.Reading.{kind_of, number_in, part_after_blank, part_after_digit, part_after_minus, takes_number, takes_sign, slot_after, arg_of, in_slot, moved, ended, Stage, first_place, stage_after, run}
-use Rattle.pdl_slices.specs.Collected.{first_stage}
+use Rattle.pdl_slices.specs.Reading.{kind_of, number_in, part_after_blank, part_after_digit, part_after_minus, takes_number, takes_sign, slot_after, arg_of, in_slot, moved, ended, Stage, first_place, stage_after, run, first_stage}
 use Rattle.pdl_slices.proofs.Cuts.{cut, cut_end, cut_arg}
 use Rattle.pdl_slices.proofs.Bytes.{Fact, fact}
 use Rattle.pdl_slices.proofs.Spelled.{run-None, single_colon, to_colon}

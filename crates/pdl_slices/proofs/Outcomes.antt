@@ -6,8 +6,9 @@ use Rattle.pdl_slices.specs.declared.SliceFault.TheVariants.{BadText, TooManyArg
 use Rattle.pdl_slices.specs.declared.reader.Reader.{Reader}
 use Rattle.pdl_slices.specs.Grammar.{Spells}
 use Rattle.pdl_slices.specs.Refusals.{refusal, IsRead, IsFaultOf}
-use Rattle.pdl_slices.specs.Reading.{kind_of, Stage, stage_after, run, finished}
-use Rattle.pdl_slices.specs.Collected.{first_stage, Holds, Collects, Takes, Ends, judged, verdict_on}
+use Rattle.pdl_slices.specs.Reading.{kind_of, Stage, stage_after, run, finished, first_stage}
+use Rattle.pdl_slices.specs.Collected.{Holds, Collects, Takes, Ends}
+use Rattle.pdl_slices.specs.Meaning.{judged, verdict_on}
 use Rattle.pdl_slices.proofs.Cuts.{cut_arg, refusal-cut, cut-allowed_list}
 use Rattle.pdl_slices.proofs.Spelled.{run-append}
 use Rattle.pdl_slices.proofs.Endings.{finished_reads}
@@ -54,12 +55,18 @@ no_bad_text false true d at h = cc
 no_bad_text false false true at h = cc
 no_bad_text false false false at h = cc
 
+no_memory : (b c d : Bool) → (if b then Some TooManyArgs else (if c then Some NumberTooLarge else (if d then Some ZeroStep else None))) ≡ Some NoMemory → ⊥
+no_memory true c d h = cc
+no_memory false true d h = cc
+no_memory false false true h = cc
+no_memory false false false h = cc
+
 refused_fault : (text : List ℕ) (all : List SliceArg) (f : SliceFault) → Spells all text → refusal all ≡ Some f → IsFaultOf text f
 refused_fault text all (BadText at) x h = absurd (no_bad_text _ _ _ at h)
 refused_fault text all TooManyArgs x h = (all, (x, h))
 refused_fault text all NumberTooLarge x h = (all, (x, h))
 refused_fault text all ZeroStep x h = (all, (x, h))
-refused_fault text all NoMemory x h = tt
+refused_fault text all NoMemory x h = absurd (no_memory _ _ _ h)
 
 -- a verdict on what a text spells is right
 judged_read : (text : List ℕ) (all cs : List SliceArg) (o : Option SliceFault) → Spells all text → map cut_arg all ≡ cs → refusal all ≡ o

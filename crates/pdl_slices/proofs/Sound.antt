@@ -6,7 +6,8 @@ use Rattle.pdl_slices.specs.declared.reading.Slot.{Slot}
 use Rattle.pdl_slices.specs.declared.reading.Slot.TheVariants.{Single, Bracket, Bracketed, Size, To, By}
 use Rattle.pdl_slices.specs.declared.reading.Part.{Part}
 use Rattle.pdl_slices.specs.declared.reading.Part.TheVariants as part
-use Rattle.pdl_slices.specs.Grammar.{is_blank, is_digit, Blanks, no_blank, blank_after, Digits, one_digit, digit_after, plain, minus, Field, left_out, given, Arg, nothing, one, dropped, colon, span, stepped, sized, star}
+use Rattle.std.specs.Char.{is_ascii_digit}
+use Rattle.pdl_slices.specs.Grammar.{is_blank, Blanks, no_blank, blank_after, Digits, one_digit, digit_after, plain, minus, Field, left_out, given, Arg, nothing, one, dropped, colon, span, stepped, sized, star}
 use Rattle.pdl_slices.specs.Reading.{signed, number_in, part_after_blank, part_after_digit, part_after_minus, takes_number, takes_sign, arg_of}
 use Rattle.pdl_slices.proofs.Cuts.{cut_size, cut, cut_end, cut_arg, cut-neg, more_digits-cut, more_digits-zero}
 
@@ -54,7 +55,7 @@ part_blank s p q w b k (after_sign n v u r t bs ds es) h =
     subst (λ o. PartReads s o (v ++ 45 ∷ u ++ r ++ b ∷ [])) (some_is _ _ h)
     (subst (PartReads s (part.After (signed true (cut_size n)))) (sym (append_assoc (v ++ 45 ∷ u) r (b ∷ []))) (after_sign n v u (r ++ b ∷ []) t bs ds (blank_after r b es k)))
 
-pub part_digit : (s : Slot) (p q : Part) (w : List ℕ) (b : ℕ) → IsTrue (takes_number s) → IsTrue (is_digit b) → PartReads s p w → part_after_digit p (b - 48) ≡ Some q → PartReads s q (w ++ b ∷ [])
+pub part_digit : (s : Slot) (p q : Part) (w : List ℕ) (b : ℕ) → IsTrue (takes_number s) → IsTrue (is_ascii_digit b) → PartReads s p w → part_after_digit p (b - 48) ≡ Some q → PartReads s q (w ++ b ∷ [])
 part_digit s p q w b t k (waits v bs) h =
     subst (λ r. PartReads s r (v ++ b ∷ [])) (ap (part.Digits false) (sym (more_digits-zero (b - 48))) ∙ some_is _ _ h) (counts (b - 48) v (b ∷ []) t bs (one_digit b k))
 part_digit s p q w b t k (signs v g bs) h =

@@ -11,8 +11,7 @@ use Rattle.pdl_slices.specs.declared.reading.Part.{Part}
 use Rattle.pdl_slices.specs.declared.reading.Part.TheVariants as part
 use Rattle.pdl_slices.specs.declared.reading.Place.{Place}
 use Rattle.pdl_slices.specs.Grammar.{Blanks, no_blank, blank_after, Digits, one_digit, digit_after, Number, plain, minus, Field, left_out, given, Arg, nothing, one, dropped, colon, span, stepped, sized, star, Args, one_arg, arg_after}
-use Rattle.pdl_slices.specs.Reading.{kind_of, more_digits, signed, number_in, part_after_digit, takes_number, takes_sign, slot_after, arg_of, ended, Stage, first_place, stage_after, run}
-use Rattle.pdl_slices.specs.Collected.{first_stage}
+use Rattle.pdl_slices.specs.Reading.{kind_of, more_digits, signed, number_in, part_after_digit, takes_number, takes_sign, slot_after, arg_of, ended, Stage, first_place, stage_after, run, first_stage}
 use Rattle.pdl_slices.proofs.Cuts.{cut_size, cut, cut_end, cut_arg, cut-neg, more_digits-cut, more_digits-zero}
 use Rattle.pdl_slices.proofs.Bytes.{kind_of-blank, kind_of-digit}
 

@@ -1,16 +1,11 @@
 -- What the reader holds of the arguments so far. It keeps the list only as long as no argument is too large
 -- and they aren't too many, since the list isn't answered otherwise.
-use Rattle.std.specs.Prelude.{◌≡◌, ◌≤◌, min, Bool, true, false, List, [], length, Option, Some, None, Result, Ok, Err}
+use Rattle.std.specs.Prelude.{◌≡◌, ◌≤◌, min, Bool, true, false, List, length, Option, Some, None}
 use Rattle.std.specs.List.{list_any}
 use Rattle.pdl_slices.specs.declared.SliceArg.{SliceArg}
-use Rattle.pdl_slices.specs.declared.SliceFault.{SliceFault}
 use Rattle.pdl_slices.specs.declared.reader.Reader.{Reader}
-use Rattle.pdl_slices.specs.Refusals.{has_large_number, has_zero_step, refusal}
-use Rattle.pdl_slices.specs.Reading.{Stage, first_place}
-
--- nothing is read yet
-abbrev pub first_stage : Stage
-first_stage = record { done = []; place = first_place }
+use Rattle.pdl_slices.specs.Refusals.{has_large_number, has_zero_step}
+use Rattle.pdl_slices.specs.Reading.{Stage}
 
 -- the reader has taken these arguments
 pub record Collects (done : List SliceArg) (r : Reader) : Type 0 where
@@ -35,12 +30,3 @@ abbrev pub Ends : Bool → Option (List SliceArg) → Reader → Type 0
 Ends true (Some args) r = Collects args r
 Ends false None r = Unit {0}
 Ends _ _ r = ⊥
-
--- the first refusal, or else the arguments
-abbrev pub judged : Option SliceFault → List SliceArg → Result (List SliceArg) SliceFault
-judged None args = Ok args
-judged (Some fault) args = Err fault
-
--- the arguments, or their first refusal
-abbrev pub verdict_on : List SliceArg → Result (List SliceArg) SliceFault
-verdict_on args = judged (refusal args) args

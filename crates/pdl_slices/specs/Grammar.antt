@@ -1,16 +1,13 @@
 -- The grammar of slice texts (PDL::Slices): which bytes spell which arguments.
 -- It says nothing of sizes and counts: numbers and lists have no limit here.
-use Rattle.std.specs.Prelude.{ℕ, ◌+◌, ◌-◌, ◌*◌, Bool, ◌&&◌, ◌||◌, ◌==◌, nat_le, List, [], ◌∷◌, ◌++◌, ℤ, pos, neg_ℤ, Option, Some, None, is_some, IsTrue}
+use Rattle.std.specs.Prelude.{ℕ, ◌+◌, ◌-◌, ◌*◌, Bool, ◌||◌, ◌==◌, List, [], ◌∷◌, ◌++◌, ℤ, pos, neg_ℤ, Option, Some, None, is_some, IsTrue}
+use Rattle.std.specs.Char.{is_ascii_digit}
 use Rattle.pdl_slices.specs.declared.SliceArg.{SliceArg}
 use Rattle.pdl_slices.specs.declared.SliceArg.TheVariants.{Whole, One, Dropped, Dummy, Span}
 
 -- a blank is a space or a tab
 abbrev pub is_blank : ℕ → Bool
 is_blank b = (b == 32) || (b == 9)
-
--- a digit is one of `0` to `9`
-abbrev pub is_digit : ℕ → Bool
-is_digit b = nat_le 48 b && nat_le b 57
 
 -- any number of blanks, or none
 pub data Blanks : List ℕ → Type 0 where
@@ -19,8 +16,8 @@ pub data Blanks : List ℕ → Type 0 where
 
 -- one or more digits, and the number that they spell; leading zeros are digits
 pub data Digits : ℕ → List ℕ → Type 0 where
-  one_digit : (d : ℕ) → IsTrue (is_digit d) → Digits (d - 48) (d ∷ [])
-  digit_after : (n : ℕ) (s : List ℕ) (d : ℕ) → Digits n s → IsTrue (is_digit d) → Digits (10 * n + (d - 48)) (s ++ d ∷ [])
+  one_digit : (d : ℕ) → IsTrue (is_ascii_digit d) → Digits (d - 48) (d ∷ [])
+  digit_after : (n : ℕ) (s : List ℕ) (d : ℕ) → Digits n s → IsTrue (is_ascii_digit d) → Digits (10 * n + (d - 48)) (s ++ d ∷ [])
 
 -- a number is an optional `-` and digits, with nothing between
 pub data Number : ℤ → List ℕ → Type 0 where

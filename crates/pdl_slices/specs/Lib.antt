@@ -2,3 +2,4 @@ pub mod Grammar
 pub mod Refusals
 pub mod Reading
 pub mod Collected
+pub mod Meaning

@@ -11,14 +11,15 @@ use Rattle.pdl_slices.specs.declared.reading.Part.{Part}
 use Rattle.pdl_slices.specs.declared.reading.Part.TheVariants as part
 use Rattle.pdl_slices.specs.declared.reading.Place.{Place}
 use Rattle.pdl_slices.specs.declared.reading.TooLarge.{TooLarge}
-use Rattle.pdl_slices.specs.Grammar.{is_blank, is_digit}
+use Rattle.std.specs.Char.{is_ascii_digit}
+use Rattle.pdl_slices.specs.Grammar.{is_blank}
 use Rattle.pdl_slices.specs.Refusals.{is_large, has_large_number}
 
 -- what a byte can be
 abbrev pub kind_of : ℕ → Kind
 kind_of b =
     if is_blank b then Blank
-    else (if is_digit b then Digit (b - 48)
+    else (if is_ascii_digit b then Digit (b - 48)
     else (if b == 45 then Minus
     else (if b == 40 then Open
     else (if b == 41 then Close
@@ -172,3 +173,7 @@ finished s =
     is_empty : List SliceArg → Bool
     is_empty [] = true
     is_empty (a ∷ args) = false
+
+-- nothing is read yet
+abbrev pub first_stage : Stage
+first_stage = record { done = []; place = first_place }

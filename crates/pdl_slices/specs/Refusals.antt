@@ -1,5 +1,5 @@
 -- What `read_slice` answers for a text: its arguments, or the first refusal that holds.
-use Rattle.std.specs.Prelude.{◌≡◌, ℕ, ◌<◌, ◌≤◌, Bool, false, ◌||◌, ◌==◌, nat_lt, List, length, take, ℤ, nat_abs, Option, Some, None, if◌then◌else◌}
+use Rattle.std.specs.Prelude.{◌≡◌, ℕ, ◌<◌, ◌≤◌, Bool, false, ◌||◌, ◌==◌, nat_lt, List, length, take, ℤ, nat_abs, Option, Some, None, Result, Ok, Err, if◌then◌else◌}
 use Rattle.std.specs.List.{list_any}
 use Rattle.pdl_slices.specs.declared.SliceArg.{SliceArg}
 use Rattle.pdl_slices.specs.declared.SliceArg.TheVariants.{Whole, One, Dropped, Dummy, Span}
@@ -65,10 +65,15 @@ pub record IsBadText (text : List ℕ) (at : ℕ) : Type 0 where
 abbrev pub IsRefused : List ℕ → SliceFault → Type 0
 IsRefused text fault = (args : List SliceArg) × (Spells args text × (refusal args ≡ Some fault))
 
--- why a fault comes; want of memory may come at any text
+-- why a fault comes
 abbrev pub IsFaultOf : List ℕ → SliceFault → Type 0
 IsFaultOf text (BadText at) = IsBadText text at
 IsFaultOf text TooManyArgs = IsRefused text TooManyArgs
 IsFaultOf text NumberTooLarge = IsRefused text NumberTooLarge
 IsFaultOf text ZeroStep = IsRefused text ZeroStep
-IsFaultOf text NoMemory = Unit {0}
+IsFaultOf text NoMemory = ⊥
+
+-- what a text means: its arguments, or why it has none
+abbrev pub Means : List ℕ → Result (List SliceArg) SliceFault → Type 0
+Means text (Ok args) = IsRead text args
+Means text (Err fault) = IsFaultOf text fault

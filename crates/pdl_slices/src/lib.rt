@@ -1,8 +1,10 @@
 //! Reads slice texts, as `0:4,(2),*3`, into lists of slice arguments.
 #![tactic(auto)]
 
-ghost use Rattle.std.specs.Prelude.{◌≡◌, ◌<◌, ◌^◌, ◌++◌, ◌∷◌, [], length, IfOk, IfErr, OnOk, OnErr, MatchResult};
+ghost use Rattle.std.specs.Prelude.{◌≡◌, ◌≢◌, ◌<◌, ◌^◌, ◌++◌, ◌∷◌, [], length, IfOk, IfErr, OnOk, OnErr, MatchResult};
 ghost use Rattle.pdl_slices.specs.Refusals.{IsRead, IsFaultOf};
+ghost use Rattle.pdl_slices.specs.Meaning.{TextsHaveOneMeaning};
+ghost use Rattle.pdl_slices.specs.declared.SliceFault.{SliceFault};
 
 mod reader;
 mod reading;
@@ -106,7 +108,7 @@ pub fn read_slice(alloc: Global, text: &[u8]) -> Result<SliceArgs, SliceFault>
     requires { length text.now < 2 ^ 32 }
 
     ensures read { IfOk result (IsRead text.now) }
-    ensures refused { IfErr result (IsFaultOf text.now) }
+    ensures refused { IfErr result (λ fault. fault ≢ SliceFault.NoMemory → IsFaultOf text.now fault) }
 {
     let mut reader = Reader::new(alloc);
     for (at, byte) in text.iter().enumerate() {
@@ -120,3 +122,9 @@ pub fn read_slice(alloc: Global, text: &[u8]) -> Result<SliceArgs, SliceFault>
     }
     reader.verdict()
 }
+
+/// A text has one meaning: its arguments where it spells some and none of them is refused, else the first refusal, with
+/// the place of a bad text. `slice_of` is that meaning as a function.
+pub fn slice_meaning()
+    ensures { TextsHaveOneMeaning }
+{}

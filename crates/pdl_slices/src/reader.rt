@@ -1,8 +1,9 @@
 //! The reader of slice texts: the arguments so far, and the place in the next one.
 
 ghost use Rattle.std.specs.Prelude.{◌≡◌, [], ◌∷◌, ◌++◌, List, IfOk, OnOk};
-ghost use Rattle.pdl_slices.specs.Collected.{first_stage, Holds, Collects, Takes, Ends, verdict_on};
-ghost use Rattle.pdl_slices.specs.Reading.{Stage, stage_after, kind_of, finished, fitted, is_first};
+ghost use Rattle.pdl_slices.specs.Collected.{Holds, Collects, Takes, Ends};
+ghost use Rattle.pdl_slices.specs.Meaning.{verdict_on};
+ghost use Rattle.pdl_slices.specs.Reading.{Stage, stage_after, kind_of, finished, fitted, is_first, first_stage};
 ghost use Rattle.pdl_slices.specs.Refusals.{has_zero_step};
 ghost use Rattle.pdl_slices.specs.declared.SliceArg.{SliceArg};
 

@@ -1,25 +1,18 @@
 -- Spelled literals are arrays.
-use Rattle.std.proofs.Common.{◌≡◌, ◌≤◌, ◌+◌, ◌*◌, ℕ, zero, suc, ℤ, pos, negsuc, neg_ℤ, nat_abs, nat_le, nat_lt, List, [], ◌∷◌, ◌++◌, length, length-append, All, Bool, true, false, ◌||◌, if◌then◌else◌, Option, Some, None, unwrap_or, refl, sym, subst, arith, true≢false}
+use Rattle.std.proofs.Common.{◌≡◌, ◌≤◌, ℕ, ℤ, pos, nat_le, List, [], ◌∷◌, length, All, Bool, true, false, if◌then◌else◌, Option, Some, None, unwrap_or, refl, sym, subst, arith}
 use Rattle.std.proofs.lemmas.Int.{ints}
-use Rattle.std.specs.List.{list_any}
-use Rattle.std.proofs.lemmas.List.Elements.{All-nil, All-cons, All-push, All-weaker}
+use Rattle.std.proofs.lemmas.List.Elements.{All-nil, All-push}
 use Rattle.std.proofs.lemmas.Bool.Decides.{nat_tests}
-use Rattle.pdl_elem.specs.declared.Ty.TheVariants.{Long, Longlong}
-use Rattle.pdl_elem.specs.Types.{InRange}
-use Rattle.pdl_shape.specs.Shape.{size_of}
 use Rattle.pdl_lexemes.specs.declared.Lexeme.{Lexeme}
-use Rattle.pdl_lexemes.specs.Lists.{signed, shared, with_length, type_of, ListPart, SpellsList, an_item, some_items, a_list, number, minus, nested, first, more, empty, filled}
-use Rattle.pdl_lexemes.proofs.Options.{none_some, some_inj, map_elim}
-use Rattle.pdl_lexemes.proofs.ListDims.{shared_is}
+use Rattle.pdl_lexemes.specs.Lists.{signed, type_of}
+use Rattle.pdl_lexemes.specs.Laws.{FillsArray, ListsAreArrays}
+use Rattle.pdl_lexemes.specs.Options.{none_some, some_inj}
 use Rattle.pdl_syntax.specs.Tree.{Tree}
 use Rattle.pdl_syntax.specs.Grammar.{Spells, Part, an_expr, a_postfix, a_primary, an_arg, some_args, closed_args, maybe_args, same, joined, once, negated, prefixed, plain, bare, method, a_number, a_name, list, round_list, called, round, a_value, a_text, a_type, one, more as more_args, no_args, all_args, without, within}
 use Rattle.pdl_syntax.specs.StatementTree.{StatementTree, View}
 use Rattle.pdl_syntax.specs.Statements.{SpellsViews, no_views, one_view, SpellsCalled, by_word, by_method, SpellsBinding, binds_value, binds_severed, binds_names, SpellsStatement, binds, my_binds, assigns, shows_text, shows, shows_info, severs, reshapes, undefs, lists_names, defines, watches, unwatches}
-use Rattle.pdl_syntax.specs.WellMade.{IsArray, IsCount, AreArrays, AreArgArrays, IsWellMade}
-
--- a number of 63 bits and a sign
-abbrev Fits63 : ℤ → Type 0
-Fits63 z = nat_abs z ≤ 9223372036854775807
+use Rattle.pdl_buf.specs.Made.{IsMade}
+use Rattle.pdl_syntax.specs.WellMade.{IsCount, AreArrays, AreArgArrays, IsWellMade}
 
 record SignedIs (n : ℕ) (z : ℤ) : Type 0 where
   small : n ≤ 9223372036854775807
@@ -35,108 +28,14 @@ signed_is n z e = of_test (nat_le n 9223372036854775807) refl e
     of_test true t k = record { small = small_test n t; value = sym (some_inj k) }
     of_test false t k = absurd (none_some k)
 
-fits_signed : (n : ℕ) (z : ℤ) → signed n ≡ Some z → Fits63 z
-fits_signed n z e = let s = signed_is n z e in subst Fits63 (sym s.value) s.small
-
-abs_neg : (n : ℕ) → nat_abs (neg_ℤ (pos n)) ≡ n
-abs_neg zero = refl
-abs_neg (suc n) = refl
-
-fits_negated : (n : ℕ) (z : ℤ) → signed n ≡ Some z → Fits63 (neg_ℤ z)
-fits_negated n z e = let s = signed_is n z e in subst (λ y. Fits63 (neg_ℤ y)) (sym s.value) (omega (arith, abs_neg n, s.small))
-
-size_snoc : (d : List ℕ) (n : ℕ) → size_of (d ++ n ∷ []) ≡ n * size_of d
-size_snoc [] n = omega arith
-size_snoc (x ∷ d) n = rw (size_snoc d n) (omega arith)
-
--- as many numbers as these dimensions say, n times, behind those before
-abbrev Counts : ℕ → Option (List ℕ) → List ℤ → List ℤ → Type 0
-Counts n shape front all = (d : List ℕ) → shape ≡ Some d → length all ≡ length front + n * size_of d
-
-pub record Sized (n : ℕ) (shape : Option (List ℕ)) (front all : List ℤ) : Type 0 where
-  pub counts : Counts n shape front all
-  pub fits : All Fits63 front → All Fits63 all
-
-abbrev SizedPart : ListPart → Type 0
-SizedPart (an_item shape front all) = Sized 1 shape front all
-SizedPart (some_items n shape front all) = Sized n shape front all
-SizedPart (a_list shape front all) = Sized 1 shape front all
-
-one_more : (front : List ℤ) (z : ℤ) → Fits63 z → Sized 1 (Some []) front (front ++ z ∷ [])
-one_more front z h = record {
-  counts = λ d e. subst (λ c. length (front ++ z ∷ []) ≡ length front + 1 * size_of c) (some_inj e) (simp length-append (omega arith));
-  fits = λ all. All-push Fits63 front z all h;
-}
-
-and_more : (n : ℕ) (a b : Option (List ℕ)) (front so_far all : List ℤ) → Sized n a front so_far → Sized 1 b so_far all → Sized (suc n) (shared a b) front all
-and_more n a b front so_far all x y = record {
-  counts = λ d e. let s = shared_is a b d e in omega (arith, x.counts d s.0, y.counts d s.1);
-  fits = λ h. y.fits (x.fits h);
-}
-
-closed_list : (n : ℕ) (shape : Option (List ℕ)) (front all : List ℤ) → Sized n shape front all → Sized 1 (with_length n shape) front all
-closed_list n shape front all x = record {
-  counts = λ d e. map_elim (length all ≡ length front + 1 * size_of d) (λ c. c ++ n ∷ []) shape e
-      (λ c h k. subst (λ c'. length all ≡ length front + 1 * size_of c') k (omega (arith, x.counts c h, size_snoc c n)));
-  fits = x.fits;
-}
-
-empty_list : (front : List ℤ) → Sized 1 (Some (0 ∷ [])) front front
-empty_list front = record {
-  counts = λ d e. subst (λ c. length front ≡ length front + 1 * size_of c) (some_inj e) (omega arith);
-  fits = λ h. h;
-}
-
-sized : {p : ListPart} {ts rest : List Lexeme} → SpellsList p ts rest → SizedPart p
-sized (number {n = n} {z = z} {front = front} e) = one_more front z (fits_signed n z e)
-sized (minus {n = n} {z = z} {front = front} e) = one_more front (neg_ℤ z) (fits_negated n z e)
-sized (nested h) = sized h
-sized (first h) = sized h
-sized (more {n = n} {shape = a} {shape' = b} {front = front} {so_far = so_far} {all = all} h k) = and_more n a b front so_far all (sized h) (sized k)
-sized (empty {front = front}) = empty_list front
-sized (filled {n = n} {shape = shape} {front = front} {all = all} h) = closed_list n shape front all (sized h)
-
-in_longlong : (z : ℤ) → Fits63 z → InRange Longlong z
-in_longlong (pos n) h = (omega (arith, ints), omega (arith, ints))
-in_longlong (negsuc n) h = (omega (arith, ints), omega (arith, ints))
-
-in_long : (z : ℤ) → nat_abs z ≤ 2147483647 → InRange Long z
-in_long (pos n) h = (omega (arith, ints), omega (arith, ints))
-in_long (negsuc n) h = (omega (arith, ints), omega (arith, ints))
-
-abbrev is_wide : ℤ → Bool
-is_wide z = nat_lt 2147483647 (nat_abs z)
-
-not_wide : (n : ℕ) → nat_lt 2147483647 n ≡ false → n ≤ 2147483647
-not_wide n t = grind (arith, nat_tests)
-
-or_false : (a b : Bool) → (a || b) ≡ false → (a ≡ false) × (b ≡ false)
-or_false true b e = absurd (true≢false e)
-or_false false b e = (refl, e)
-
-none_wide : (es : List ℤ) → list_any is_wide es ≡ false → All (InRange Long) es
-none_wide [] e = All-nil (InRange Long)
-none_wide (z ∷ es) e =
-    let parts = or_false (is_wide z) (list_any is_wide es) e in
-    All-cons (InRange Long) z es (in_long z (not_wide (nat_abs z) parts.0)) (none_wide es parts.1)
-
-typed : (es : List ℤ) → All Fits63 es → All (InRange (type_of es)) es
-typed es h = of_test (list_any is_wide es) refl
-  where
-    of_test : (b : Bool) → list_any is_wide es ≡ b → All (InRange (if b then Longlong else Long)) es
-    of_test true t = All-weaker Fits63 (InRange Longlong) in_longlong es h
-    of_test false t = none_wide es t
-
--- a spelled list literal is an array; a ragged one counts as a list of its numbers
-literal_array : (shape : Option (List ℕ)) (es : List ℤ) → Sized 1 shape [] es → IsArray (type_of es) (unwrap_or shape (length es ∷ [])) es
-literal_array None es s = record { count = omega arith; in_range = typed es (s.fits (All-nil Fits63)) }
-literal_array (Some d) es s = record { count = omega (arith, s.counts d refl); in_range = typed es (s.fits (All-nil Fits63)) }
-
 is_count : (n : ℕ) (z : ℤ) → signed n ≡ Some z → IsCount z
 is_count n z e =
     let s = signed_is n z e in
     let small = s.small in
     subst IsCount (sym s.value) (record { least = omega (arith, ints); most = omega (arith, ints) })
+
+literal_array : (shape : Option (List ℕ)) (es : List ℤ) → FillsArray shape es → IsMade (type_of es) (unwrap_or shape (length es ∷ [])) es
+literal_array shape es fills = record { count = fills.count; in_range = fills.in_range }
 
 -- what is spelled behind arguments that hold arrays alone holds arrays alone
 abbrev Holds : Part → Type 0
@@ -148,59 +47,59 @@ Holds (some_args front all) = AreArgArrays front → AreArgArrays all
 Holds (closed_args front all) = AreArgArrays front → AreArgArrays all
 Holds (maybe_args front all) = AreArgArrays front → AreArgArrays all
 
-pub arrays : {source : List ℕ} {p : Part} {ts rest : List Lexeme} → Spells source p ts rest → Holds p
-arrays (same h) = arrays h
-arrays (joined h e m k) = (arrays h, arrays k)
-arrays (once h e m k) = (arrays h, arrays k)
-arrays (negated h) = arrays h
-arrays (prefixed h) = arrays h
-arrays (plain h) = arrays h
-arrays (bare h) = arrays h
-arrays (method h k) = let t = arrays h in arrays k (tt, t)
-arrays (a_number {n = n} {z = z} e) = is_count n z e
-arrays a_name = tt
-arrays (list {shape = shape} {elems = elems} h) = literal_array shape elems (sized h)
-arrays (round_list {shape = shape} {elems = elems} h) = literal_array shape elems (sized h)
-arrays (called h) = arrays h tt
-arrays (round h) = arrays h
-arrays (a_value h) = let t = arrays h in λ front. (front, t)
-arrays a_text = λ front. front
-arrays a_type = λ front. front
-arrays (one h) = arrays h
-arrays (more_args h k) = let a = arrays h in let b = arrays k in λ front. b (a front)
-arrays no_args = λ front. front
-arrays (all_args h) = arrays h
-arrays without = λ front. front
-arrays (within h) = arrays h
+pub arrays : ListsAreArrays → {source : List ℕ} {p : Part} {ts rest : List Lexeme} → Spells source p ts rest → Holds p
+arrays lists (same h) = arrays lists h
+arrays lists (joined h e m k) = (arrays lists h, arrays lists k)
+arrays lists (once h e m k) = (arrays lists h, arrays lists k)
+arrays lists (negated h) = arrays lists h
+arrays lists (prefixed h) = arrays lists h
+arrays lists (plain h) = arrays lists h
+arrays lists (bare h) = arrays lists h
+arrays lists (method h k) = let t = arrays lists h in arrays lists k (tt, t)
+arrays lists (a_number {n = n} {z = z} e) = is_count n z e
+arrays lists a_name = tt
+arrays lists (list {shape = shape} {elems = elems} h) = literal_array shape elems (lists _ _ shape elems h)
+arrays lists (round_list {shape = shape} {elems = elems} h) = literal_array shape elems (lists _ _ shape elems h)
+arrays lists (called h) = arrays lists h tt
+arrays lists (round h) = arrays lists h
+arrays lists (a_value h) = let t = arrays lists h in λ front. (front, t)
+arrays lists a_text = λ front. front
+arrays lists a_type = λ front. front
+arrays lists (one h) = arrays lists h
+arrays lists (more_args h k) = let a = arrays lists h in let b = arrays lists k in λ front. b (a front)
+arrays lists no_args = λ front. front
+arrays lists (all_args h) = arrays lists h
+arrays lists without = λ front. front
+arrays lists (within h) = arrays lists h
 
 abbrev ViewArrays : View → Type 0
 ViewArrays v = AreArgArrays v.1
 
-views_arrays : {source : List ℕ} {front views : List View} {ts rest : List Lexeme} → SpellsViews source front views ts rest → All ViewArrays front → All ViewArrays views
-views_arrays no_views all = all
-views_arrays (one_view {views = views} {w = w} {args = args} h k) all = All-push ViewArrays views _ (views_arrays h all) (arrays k tt)
+views_arrays : ListsAreArrays → {source : List ℕ} {front views : List View} {ts rest : List Lexeme} → SpellsViews source front views ts rest → All ViewArrays front → All ViewArrays views
+views_arrays lists no_views all = all
+views_arrays lists (one_view {views = views} {w = w} {args = args} h k) all = All-push ViewArrays views _ (views_arrays lists h all) (arrays lists k tt)
 
-called_arrays : {source : List ℕ} {t : Tree} {ts : List Lexeme} → SpellsCalled source t ts → AreArrays t
-called_arrays (by_word h) = arrays h tt
-called_arrays (by_method h k) = let t = arrays h in arrays k (tt, t)
+called_arrays : ListsAreArrays → {source : List ℕ} {t : Tree} {ts : List Lexeme} → SpellsCalled source t ts → AreArrays t
+called_arrays lists (by_word h) = arrays lists h tt
+called_arrays lists (by_method h k) = let t = arrays lists h in arrays lists k (tt, t)
 
-binding_arrays : {source : List ℕ} {s : StatementTree} {ts : List Lexeme} → SpellsBinding source s ts → IsWellMade s
-binding_arrays (binds_value h) = arrays h
-binding_arrays (binds_severed h b) = arrays h
-binding_arrays (binds_names h c) = called_arrays c
+binding_arrays : ListsAreArrays → {source : List ℕ} {s : StatementTree} {ts : List Lexeme} → SpellsBinding source s ts → IsWellMade s
+binding_arrays lists (binds_value h) = arrays lists h
+binding_arrays lists (binds_severed h b) = arrays lists h
+binding_arrays lists (binds_names h c) = called_arrays lists c
 
 -- the literals of a spelled statement are arrays
-pub statement_arrays : {source : List ℕ} {s : StatementTree} {ts : List Lexeme} → SpellsStatement source s ts → IsWellMade s
-statement_arrays (binds h) = binding_arrays h
-statement_arrays (my_binds h) = binding_arrays h
-statement_arrays (assigns v h) = (views_arrays v (All-nil ViewArrays), arrays h)
-statement_arrays shows_text = tt
-statement_arrays (shows h) = arrays h
-statement_arrays (shows_info h b) = arrays h
-statement_arrays (severs b) = tt
-statement_arrays (reshapes h) = arrays h tt
-statement_arrays undefs = tt
-statement_arrays lists_names = tt
-statement_arrays (defines h k) = tt
-statement_arrays (watches e) = tt
-statement_arrays (unwatches e) = tt
+pub statement_arrays : ListsAreArrays → {source : List ℕ} {s : StatementTree} {ts : List Lexeme} → SpellsStatement source s ts → IsWellMade s
+statement_arrays lists (binds h) = binding_arrays lists h
+statement_arrays lists (my_binds h) = binding_arrays lists h
+statement_arrays lists (assigns v h) = (views_arrays lists v (All-nil ViewArrays), arrays lists h)
+statement_arrays lists shows_text = tt
+statement_arrays lists (shows h) = arrays lists h
+statement_arrays lists (shows_info h b) = arrays lists h
+statement_arrays lists (severs b) = tt
+statement_arrays lists (reshapes h) = arrays lists h tt
+statement_arrays lists undefs = tt
+statement_arrays lists lists_names = tt
+statement_arrays lists (defines h k) = tt
+statement_arrays lists (watches e) = tt
+statement_arrays lists (unwatches e) = tt

@@ -14,7 +14,7 @@ use Rattle.pdl_lexemes.specs.declared.Lexeme.TheVariants.{Name, Keyword, Word, N
 use Rattle.pdl_lexemes.specs.Bytes.{bytes_at}
 use Rattle.pdl_lexemes.specs.Lists.{signed}
 use Rattle.pdl_lexemes.specs.ListReading.{list_read, part as list_part}
-use Rattle.pdl_lexemes.proofs.ListComplete.{list_found, list_shorter, list_opens}
+use Rattle.pdl_lexemes.specs.Laws.{ListsAreRead}
 use Rattle.pdl_syntax.specs.Tree.{Tree, Args, number, named, unary, binary, call, none, value, text, of_type}
 use Rattle.pdl_syntax.specs.Grammar.{Spells, Part, an_expr, a_postfix, a_primary, an_arg, some_args, closed_args, maybe_args, level_of, many, literal_of, same, joined, once, negated, prefixed, plain, bare, method, a_number, a_name, list, round_list, called, round, a_value, a_text, a_type, one, more, no_args, all_args, without, within}
 use Rattle.pdl_syntax.specs.Reading.{whole, after_open, after_close, prefix_at, operator_at, limit_of, method_at, type_at, quoted_at, literal_at, chain_at, arg_at, more_at, closed_at, maybe_at, primary_at, methods_at, postfix_at, unary_at, level_at, reader}
@@ -43,30 +43,30 @@ ends_operator : (l : ℕ) (op : BinaryOp) (rest : List Lexeme) → level_of op �
 ends_operator l op rest e =
     record { no_open = refl; no_method = refl; no_operator = λ j le. operator_other j op rest (λ same. omega (arith, e, same, le)) }
 
-pub shorter : {source : List ℕ} {p : Part} {ts rest : List Lexeme} → Spells source p ts rest → length rest ≤ length ts
-shorter (same h) = shorter h
-shorter (joined h e m k) = let a = shorter h in let b = shorter k in omega arith
-shorter (once h e m k) = let a = shorter h in let b = shorter k in omega arith
-shorter (negated h) = let a = shorter h in omega arith
-shorter (prefixed h) = let a = shorter h in omega arith
-shorter (plain h) = shorter h
-shorter (bare h) = shorter h
-shorter (method h k) = let a = shorter h in let b = shorter k in omega arith
-shorter (a_number e) = omega arith
-shorter a_name = omega arith
-shorter (list h) = let a = list_shorter h in omega arith
-shorter (round_list h) = let a = list_shorter h in omega arith
-shorter (called h) = let a = shorter h in omega arith
-shorter (round h) = let a = shorter h in omega arith
-shorter (a_value h) = shorter h
-shorter a_text = omega arith
-shorter a_type = omega arith
-shorter (one h) = shorter h
-shorter (more h k) = let a = shorter h in let b = shorter k in omega arith
-shorter no_args = omega arith
-shorter (all_args h) = let a = shorter h in omega arith
-shorter without = omega arith
-shorter (within h) = let a = shorter h in omega arith
+pub shorter : ListsAreRead → {source : List ℕ} {p : Part} {ts rest : List Lexeme} → Spells source p ts rest → length rest ≤ length ts
+shorter lists (same h) = shorter lists h
+shorter lists (joined h e m k) = let a = shorter lists h in let b = shorter lists k in omega arith
+shorter lists (once h e m k) = let a = shorter lists h in let b = shorter lists k in omega arith
+shorter lists (negated h) = let a = shorter lists h in omega arith
+shorter lists (prefixed h) = let a = shorter lists h in omega arith
+shorter lists (plain h) = shorter lists h
+shorter lists (bare h) = shorter lists h
+shorter lists (method h k) = let a = shorter lists h in let b = shorter lists k in omega arith
+shorter lists (a_number e) = omega arith
+shorter lists a_name = omega arith
+shorter lists (list h) = let a = lists.shortens _ _ _ _ h in omega arith
+shorter lists (round_list h) = let a = lists.shortens _ _ _ _ h in omega arith
+shorter lists (called h) = let a = shorter lists h in omega arith
+shorter lists (round h) = let a = shorter lists h in omega arith
+shorter lists (a_value h) = shorter lists h
+shorter lists a_text = omega arith
+shorter lists a_type = omega arith
+shorter lists (one h) = shorter lists h
+shorter lists (more h k) = let a = shorter lists h in let b = shorter lists k in omega arith
+shorter lists no_args = omega arith
+shorter lists (all_args h) = let a = shorter lists h in omega arith
+shorter lists without = omega arith
+shorter lists (within h) = let a = shorter lists h in omega arith
 
 -- what no expression begins with
 pub record Opening (ts : List Lexeme) : Type 0 where
@@ -117,7 +117,7 @@ begins (all_args h) = tt
 begins without = tt
 begins (within h) = tt
 
-module _ (source : List ℕ) where
+module _ (lists : ListsAreRead) (source : List ℕ) where
   -- the part of an expression that is read so far, with what is left of its chain
   pub record Chain (n l : ℕ) (t : Tree) (ts rest : List Lexeme) : Type 0 where
     pub turns : ℕ
@@ -340,13 +340,13 @@ module _ (source : List ℕ) where
   complete (joined {l = l} {a = a} {b = b} {op = op} {ts = ts} {us = us} {rest = rest} h lev m k) =
       let ih = complete h in
       let ik = complete k in
-      let x = shorter h in
-      let y = shorter k in
+      let x = shorter lists h in
+      let y = shorter lists k in
       λ n le e. next_operator l n a b op ts us rest lev m y (ih n le (ends_operator l op us lev)) (finished l b us rest ik n (omega arith) e)
   complete (once {l = l} {a = a} {b = b} {op = op} {ts = ts} {us = us} {rest = rest} h lev m k) =
       let ih = complete h in
       let ik = complete k in
-      let x = shorter h in
+      let x = shorter lists h in
       λ n le e. only_operator l n a b op ts us rest lev m (finished l a ts (Operator op ∷ us) ih n le (ends_operator l op us lev)) (finished l b us rest ik n (omega arith) e)
   complete (negated {t = t} {ts = ts} {rest = rest} h) = let ih = complete h in λ n le e. read_negated n t ts rest ih le e
   complete (prefixed {op = op} {t = t} {ts = ts} {rest = rest} h) = let ih = complete h in λ n le e. read_prefixed n op t ts rest ih le e
@@ -360,17 +360,17 @@ module _ (source : List ℕ) where
   complete (method {t = t} {kind = kind} {w = w} {args = args} {ts = ts} {us = us} {rest = rest} h k) =
       let ih = complete h in
       let ik = complete k in
-      let x = shorter h in
-      let y = shorter k in
+      let x = shorter lists h in
+      let y = shorter lists k in
       λ n le e. next_method n t kind w args ts us rest (ih n le refl) (ik n (omega arith) e) y
   complete (a_number {n = m} {z = z} {rest = rest} e) = λ n le. read_number n m z rest e
   complete (a_name {w = w} {rest = rest}) = λ n le. read_name n w rest
   complete (list {shape = shape} {elems = elems} {ts = ts} {rest = rest} h) =
-      let o = list_opens h in
-      let found = list_found h in
+      let o = lists.opens _ _ _ _ h in
+      let found = (lists.reads _ _ _ _).1 h in
       λ n le. read_list n ts (Some (literal_of shape elems, rest)) (literal_read shape elems ts o.0 rest o.1 found)
   complete (round_list {shape = shape} {elems = elems} {ts = ts} {rest = rest} h) =
-      let found = list_found h in
+      let found = (lists.reads _ _ _ _).1 h in
       λ n le. read_list n (Open ∷ ts) (Some (literal_of shape elems, rest)) (round_literal_read shape elems ts rest found)
   complete (called {kind = kind} {w = w} {args = args} {ts = ts} {rest = rest} h) =
       let ih = complete h in
@@ -388,8 +388,8 @@ module _ (source : List ℕ) where
   complete (more {front = front} {args = args} {args' = args'} {ts = ts} {us = us} {rest = rest} h k) =
       let ih = complete h in
       let ik = complete k in
-      let x = shorter h in
-      let y = shorter k in
+      let x = shorter lists h in
+      let y = shorter lists k in
       λ n le e. next_argument n front args args' ts us rest (ih n le (ends_comma 7 us)) (ik n (omega arith) e) y
   complete (no_args {front = front} {rest = rest}) = λ n le. read_no_args n front rest
   complete (all_args {front = front} {args = args} {ts = ts} {rest = rest} h) =

@@ -8,3 +8,4 @@ pub mod StatementComplete
 pub mod Parsing
 pub mod StatementTurns
 pub mod Arrays
+pub mod Growing

@@ -1,65 +1,125 @@
--- The answers of the parser, from its steps.
-use Rattle.std.proofs.Common.{◌≡◌, ℕ, suc, ◌+◌, ◌≤◌, List, [], ◌∷◌, length, arith, false, Some, None, Result, Ok, Err, refl, ap, sym, ◌∙◌, subst, true≢false, add-one}
-use Rattle.pdl_lex.specs.Tokens.{toks, AreSpans}
+-- The answers of the parser, from its steps, and what they mean.
+use Rattle.std.proofs.Common.{◌≡◌, ℕ, suc, ◌+◌, List, [], ◌∷◌, length, Bool, true, false, Option, Some, None, Result, Ok, Err, IfOk, refl, ap, sym, ◌∙◌, subst, true≢false, add-one}
 use Rattle.pdl_lex.specs.declared.Token.{Token}
-use Rattle.pdl_lex.proofs.Spans.{toks-spans}
 use Rattle.pdl_lexemes.specs.declared.Lexeme.{Lexeme}
+use Rattle.pdl_lexemes.specs.Laws.{ListsAreRead, RaggedIsHeld}
 use Rattle.pdl_lexemes.specs.Lexing.{lexemes_of}
-use Rattle.pdl_lexemes.specs.Depth.{is_too_deep, has_large}
-use Rattle.pdl_lexemes.proofs.Options.{none_some}
-use Rattle.pdl_lexemes.proofs.Ragged.{ragged_sound, ragged_complete}
+use Rattle.pdl_lexemes.specs.Lists.{HoldsRagged}
+use Rattle.pdl_lexemes.specs.Depth.{is_too_deep, has_large, ragged_in}
 use Rattle.pdl_syntax.specs.declared.parser.ParseFault.{ParseFault}
 use Rattle.pdl_syntax.specs.declared.parser.ParseFault.TheVariants.{TooDeep, NumberTooLarge, Syntax, Ragged, NoMemory}
 use Rattle.pdl_syntax.specs.declared.tree.Statement.{Statement}
+use Rattle.pdl_syntax.specs.Laws.{TokensAreParsed, LiteralsAreArrays}
+use Rattle.pdl_syntax.specs.Parsed.{unless_ragged, checked_lexemes, parsed, IsParsed}
 use Rattle.pdl_syntax.specs.Reading.{reader}
-use Rattle.pdl_syntax.specs.Refusals.{Answers, Checked}
-use Rattle.pdl_syntax.specs.StatementTree.{statement_of}
-use Rattle.pdl_syntax.specs.StatementReading.{statement_at}
-use Rattle.pdl_syntax.specs.Statements.{SpellsStatement}
+use Rattle.pdl_syntax.specs.Refusals.{Means, Answers}
+use Rattle.pdl_syntax.specs.StatementTree.{StatementTree, statement_of}
+use Rattle.pdl_syntax.specs.StatementReading.{statement_at, read_statement}
 use Rattle.pdl_syntax.specs.WellMade.{IsWellMade}
-use Rattle.pdl_syntax.proofs.Arrays.{statement_arrays}
 use Rattle.pdl_syntax.proofs.StatementComplete.{statement_found, statement_spelled}
 
--- what is refused is no statement
-pub refused : (source : List ℕ) (ts : List Lexeme) → is_too_deep ts ≡ false → has_large ts ≡ false →
-    statement_at source (reader source (length ts + 1)) ts ≡ None → Answers source ts (Err Syntax)
-refused source ts d l e = record {
-  passes = record { not_deep = d; not_large = l };
-  unspelled = λ s h. none_some (sym (rw add-one at e) ∙ statement_found source ts s h);
-}
+by_bool : {G : Type 0} (b : Bool) → (b ≡ true → G) → (b ≡ false → G) → G
+by_bool true yes' no' = yes' refl
+by_bool false yes' no' = no' refl
 
--- what is read is the statement, unless a list is ragged
-pub answered : (source : List ℕ) (ts : List Lexeme) (s : Statement) (r : Result Statement ParseFault) → is_too_deep ts ≡ false → has_large ts ≡ false →
-    statement_at source (reader source (length ts + 1)) ts ≡ Some (statement_of s) → Checked ts s r → Answers source ts r
-answered source ts s (Ok t) d l e c = record {
-  passes = record { not_deep = d; not_large = l };
-  spells = subst (λ x. SpellsStatement source (statement_of x) ts) (sym c.0) (statement_spelled source ts (statement_of s) (rw add-one at e));
-  not_ragged = λ h. true≢false (sym (ragged_complete h) ∙ c.1);
-}
-answered source ts s (Err TooDeep) d l e c = absurd c
-answered source ts s (Err NumberTooLarge) d l e c = absurd c
-answered source ts s (Err Syntax) d l e c = absurd c
-answered source ts s (Err Ragged) d l e c = record {
-  passes = record { not_deep = d; not_large = l };
-  statement = statement_of s;
-  spells = statement_spelled source ts (statement_of s) (rw add-one at e);
-  ragged = ragged_sound ts c;
-}
-answered source ts s (Err NoMemory) d l e c = tt
+-- behind the checks of depth and of numbers, what is read decides
+after_checks : (source : List ℕ) (ts : List Lexeme) (o : Option StatementTree) → is_too_deep ts ≡ false → has_large ts ≡ false →
+    statement_at source (reader source (length ts + 1)) ts ≡ o → checked_lexemes source ts ≡ unless_ragged ts o
+after_checks source ts o d l e =
+    let read : read_statement source ts ≡ o = rw add-one at e in
+    rw (d, l, read) refl
 
-pub spelled_of : (source : List ℕ) (ts : List Lexeme) (s : Statement) → Answers source ts (Ok s) → SpellsStatement source (statement_of s) ts
-spelled_of source ts s a = a.spells
+pub unread : (source : List ℕ) (ts : List Lexeme) → is_too_deep ts ≡ false → has_large ts ≡ false →
+    statement_at source (reader source (length ts + 1)) ts ≡ None → IsParsed (checked_lexemes source ts) (Err Syntax)
+unread source ts d l e = after_checks source ts None d l e
 
-pub made_of : (source : List ℕ) (ts : List Lexeme) (s : Statement) → Answers source ts (Ok s) → IsWellMade (statement_of s)
-made_of source ts s a = statement_arrays a.spells
+pub read_as : (source : List ℕ) (ts : List Lexeme) (s : Statement) (r : Result Statement ParseFault) → is_too_deep ts ≡ false → has_large ts ≡ false →
+    statement_at source (reader source (length ts + 1)) ts ≡ Some (statement_of s) → IsParsed (unless_ragged ts (Some (statement_of s))) r → IsParsed (checked_lexemes source ts) r
+read_as source ts s r d l e h = subst (λ x. IsParsed x r) (sym (after_checks source ts (Some (statement_of s)) d l e)) h
 
-spans_few : (at end : ℕ) (tokens : List Token) → AreSpans at end tokens → at + length tokens ≤ end
-spans_few at end [] h = omega (arith, h)
-spans_few at end (t ∷ tokens) h = let a = spans_few t.to end tokens h.2 in omega (arith, h.0, h.1)
+module _ (lists : ListsAreRead) (ragged : RaggedIsHeld) where
+  not_ragged : (ts : List Lexeme) → (HoldsRagged ts → ⊥) → ragged_in ts ≡ false
+  not_ragged ts h = by_bool (ragged_in ts) (λ e. absurd (h ((ragged ts).0 e))) (λ e. e)
 
--- there are no more tokens than bytes
-pub few_tokens : (text : List ℕ) (tokens : List Token) → toks text ≡ Ok tokens → length tokens ≤ length text
-few_tokens text tokens e = omega (arith, spans_few 0 (length text) tokens (toks-spans text tokens e))
+  unread_none : (source : List ℕ) (ts : List Lexeme) → ((s : StatementTree) → read_statement source ts ≡ Some s → ⊥) → (o : Option StatementTree) → read_statement source ts ≡ o → o ≡ None
+  unread_none source ts h None e = refl
+  unread_none source ts h (Some s) e = absurd (h s e)
+
+  -- what is meant is what the checks say
+  checked_as : (source : List ℕ) (ts : List Lexeme) (answer : Result StatementTree ParseFault) → Means source ts answer → checked_lexemes source ts ≡ answer
+  checked_as source ts (Ok s) f =
+      let d : is_too_deep ts ≡ false = f.passes.not_deep in
+      let l : has_large ts ≡ false = f.passes.not_large in
+      let r : read_statement source ts ≡ Some s = statement_found lists source ts s f.spells in
+      let g : ragged_in ts ≡ false = not_ragged ts f.not_ragged in
+      rw (d, l, r, g) refl
+  checked_as source ts (Err TooDeep) f = rw f refl
+  checked_as source ts (Err NumberTooLarge) f =
+      let d : is_too_deep ts ≡ false = f.not_deep in
+      let l : has_large ts ≡ true = f.large in
+      rw (d, l) refl
+  checked_as source ts (Err Syntax) f =
+      let d : is_too_deep ts ≡ false = f.passes.not_deep in
+      let l : has_large ts ≡ false = f.passes.not_large in
+      let r : read_statement source ts ≡ None = unread_none source ts (λ s h. f.unspelled s (statement_spelled lists source ts s h)) (read_statement source ts) refl in
+      rw (d, l, r) refl
+  checked_as source ts (Err Ragged) f =
+      let d : is_too_deep ts ≡ false = f.passes.not_deep in
+      let l : has_large ts ≡ false = f.passes.not_large in
+      let r : read_statement source ts ≡ Some f.statement = statement_found lists source ts f.statement f.spells in
+      let g : ragged_in ts ≡ true = (ragged ts).1 f.ragged in
+      rw (d, l, r, g) refl
+  checked_as source ts (Err NoMemory) f = absurd f
+
+  ragged_or_found : (source : List ℕ) (ts : List Lexeme) (o : Option StatementTree) → is_too_deep ts ≡ false → has_large ts ≡ false → read_statement source ts ≡ o → Means source ts (unless_ragged ts o)
+  ragged_or_found source ts None d l e = record {
+    passes = record { not_deep = d; not_large = l };
+    unspelled = λ s h. never (sym e ∙ statement_found lists source ts s h);
+  }
+    where
+      never : {s : StatementTree} → None ≡ Some s → ⊥
+      never e = cc
+  ragged_or_found source ts (Some s) d l e =
+      by_bool (ragged_in ts)
+      (λ g. rw g (record {
+        passes = record { not_deep = d; not_large = l };
+        statement = s;
+        spells = statement_spelled lists source ts s e;
+        ragged = (ragged ts).0 g;
+      }))
+      (λ g. rw g (record {
+        passes = record { not_deep = d; not_large = l };
+        spells = statement_spelled lists source ts s e;
+        not_ragged = λ h. true≢false (sym ((ragged ts).1 h) ∙ g);
+      }))
+
+  -- what the checks say is meant
+  checked_means : (source : List ℕ) (ts : List Lexeme) → Means source ts (checked_lexemes source ts)
+  checked_means source ts =
+      by_bool (is_too_deep ts) (λ d. rw d d) (λ d.
+      by_bool (has_large ts) (λ l. rw (d, l) (record { not_deep = d; large = l })) (λ l.
+      rw (d, l) (ragged_or_found source ts (read_statement source ts) d l refl)))
+
+  pub parsed_means : TokensAreParsed
+  unfolding parsed
+  parsed_means text tokens answer =
+      let ls = lexemes_of text tokens in
+      (λ e. subst (Means text ls) e (checked_means text ls), λ h. checked_as text ls answer h)
+
+-- the answer of the parser means what it says
+module _ (law : TokensAreParsed) (text : List ℕ) (tokens : List Token) where
+  pub answers_of : (r : Result Statement ParseFault) → IsParsed (checked_lexemes text (lexemes_of text tokens)) r → Answers text (lexemes_of text tokens) r
+  unfolding parsed
+  answers_of (Ok s) e = (law text tokens (Ok (statement_of s))).0 e
+  answers_of (Err TooDeep) e = (law text tokens (Err TooDeep)).0 e
+  answers_of (Err NumberTooLarge) e = (law text tokens (Err NumberTooLarge)).0 e
+  answers_of (Err Syntax) e = (law text tokens (Err Syntax)).0 e
+  answers_of (Err Ragged) e = (law text tokens (Err Ragged)).0 e
+  answers_of (Err NoMemory) e = tt
+
+  pub well_made_of : LiteralsAreArrays → (r : Result Statement ParseFault) → Answers text (lexemes_of text tokens) r → IfOk r (λ s. IsWellMade (statement_of s))
+  well_made_of arrays (Ok s) a = arrays text (lexemes_of text tokens) (statement_of s) a.spells
+  well_made_of arrays (Err fault) a = tt
 
 pub lexemes_length : (source : List ℕ) (tokens : List Token) → length (lexemes_of source tokens) ≡ length tokens
 lexemes_length source [] = refl

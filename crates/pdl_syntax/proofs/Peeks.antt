@@ -6,10 +6,16 @@ use Rattle.pdl_lexemes.specs.declared.Span.{Span}
 use Rattle.pdl_lexemes.specs.declared.WordKind.{WordKind}
 use Rattle.pdl_lexemes.specs.declared.WordKind.TheVariants.{OfType}
 use Rattle.pdl_lexemes.specs.declared.Lexeme.{Lexeme}
-use Rattle.pdl_lexemes.specs.declared.Lexeme.TheVariants.{Word, Quoted, Open, Close, Arrow, Operator}
-use Rattle.pdl_lexemes.proofs.Options.{some_inj, none_some, then_elim}
+use Rattle.pdl_lexemes.specs.declared.Lexeme.TheVariants.{Word, Quoted, Open, Close, Comma, Arrow, Operator}
+use Rattle.pdl_lexemes.specs.ListReading.{after_comma}
+use Rattle.pdl_lexemes.specs.Options.{some_inj, none_some, then_elim}
 use Rattle.pdl_syntax.specs.Reading.{Read, after_open, after_close, after_arrow, operator_at, word_at, method_at, type_at, type_step, quoted_at}
 use Rattle.pdl_syntax.specs.Grammar.{level_of}
+
+pub comma_is : (ts : List Lexeme) {us : List Lexeme} → after_comma ts ≡ Some us → ts ≡ Comma ∷ us
+comma_is [] e = absurd (none_some e)
+comma_is (Comma ∷ ts) e = ap (λ x. Comma ∷ x) (some_inj e)
+comma_is (_ ∷ ts) e = absurd (none_some e)
 
 pub open_is : (ts : List Lexeme) {us : List Lexeme} → after_open ts ≡ Some us → ts ≡ Open ∷ us
 open_is [] e = absurd (none_some e)

@@ -11,19 +11,19 @@ use Rattle.pdl_lexemes.specs.declared.Lexeme.TheVariants.{Name, Keyword, Word, N
 use Rattle.pdl_lexemes.specs.Bytes.{bytes_at}
 use Rattle.pdl_lexemes.specs.Lists.{signed}
 use Rattle.pdl_lexemes.specs.ListReading.{after_comma, list_read}
-use Rattle.pdl_lexemes.proofs.Options.{some_inj, none_some, then_elim, map_elim, choose_elim}
-use Rattle.pdl_lexemes.proofs.ListSound.{comma_is, reader_sound}
+use Rattle.pdl_lexemes.specs.Options.{some_inj, none_some, then_elim, map_elim, choose_elim}
+use Rattle.pdl_lexemes.specs.Laws.{ListsAreRead}
 use Rattle.pdl_syntax.specs.Tree.{Tree, Args, unary, binary, call, none, value, text, of_type}
 use Rattle.pdl_syntax.specs.Grammar.{Spells, Part, an_expr, a_postfix, a_primary, an_arg, some_args, closed_args, maybe_args, many, same, joined, once, negated, prefixed, plain, bare, method, a_number, a_name, list, round_list, called, round, a_value, a_text, a_type, one, more, no_args, all_args, without, within}
 use Rattle.pdl_syntax.specs.Reading.{Read, Kind, whole, operand, after_open, after_close, prefix_at, operator_at, limit_of, method_at, type_at, quoted_at, tree_of_list, round_list_at, literal_at, number_before, chain_at, value_at, typed_at, arg_at, more_at, close_at, filled_at, closed_at, maybe_at, round_at, call_at, primary_at, methods_at, postfix_at, unary_at, level_at, reader}
-use Rattle.pdl_syntax.proofs.Peeks.{open_is, close_is, quoted_is, operator_is, method_is, type_is}
+use Rattle.pdl_syntax.proofs.Peeks.{comma_is, open_is, close_is, quoted_is, operator_is, method_is, type_is}
 
 -- what each kind of reading spells
 abbrev pub part_of : Kind → Tree → Part
 part_of whole t = an_expr 7 t
 part_of operand t = an_expr 0 t
 
-module _ (source : List ℕ) where
+module _ (lists : ListsAreRead) (source : List ℕ) where
   -- a part that is read from these lexemes
   abbrev Taken : (Tree → Part) → List Lexeme → Tree × List Lexeme → Type 0
   Taken p ts x = Spells source (p x.0) ts x.1
@@ -36,13 +36,13 @@ module _ (source : List ℕ) where
       then_elim (Taken a_primary (Keyword Pdl ∷ Open ∷ ts) x) (λ p. option_map (λ us. (tree_of_list p, us)) (after_close p.rest)) (list_read ts) e
       (λ p h k. map_elim (Taken a_primary (Keyword Pdl ∷ Open ∷ ts) x) (λ us. (tree_of_list p, us)) (after_close p.rest) k
       (λ us c is. subst (Taken a_primary (Keyword Pdl ∷ Open ∷ ts)) is
-      (round_list (rw (close_is p.rest c) at (reader_sound (suc (length ts)) [] ts p h)))))
+      (round_list (rw (close_is p.rest c) at ((lists.reads ts p.rest p.shape p.elems).0 h)))))
 
   literal_sound : (ts : List Lexeme) (x : Tree × List Lexeme) → literal_at ts ≡ Some x → Taken a_primary (Keyword Pdl ∷ ts) x
   literal_sound ts x e =
       choose_elim (Taken a_primary (Keyword Pdl ∷ ts) x) (option_map (λ p. (tree_of_list p, p.rest)) (list_read ts)) round_list_at (after_open ts) e
       (λ h k. map_elim (Taken a_primary (Keyword Pdl ∷ ts) x) (λ p. (tree_of_list p, p.rest)) (list_read ts) k
-      (λ p c is. subst (Taken a_primary (Keyword Pdl ∷ ts)) is (list (reader_sound (suc (length ts)) [] ts p c))))
+      (λ p c is. subst (Taken a_primary (Keyword Pdl ∷ ts)) is (list ((lists.reads ts p.rest p.shape p.elems).0 c))))
       (λ us h k. subst (λ vs. Taken a_primary (Keyword Pdl ∷ vs) x) (sym (open_is ts h)) (round_list_sound us x k))
 
   module _ (f : Kind → List Lexeme → Read Tree)
@@ -207,7 +207,7 @@ module _ (source : List ℕ) where
 
   module _ (f : Kind → List Lexeme → Read Tree)
       (sound : (kind : Kind) (ts : List Lexeme) (x : Tree × List Lexeme) → f kind ts ≡ Some x → Taken (part_of kind) ts x) where
-    level_sound : (l : ℕ) (ts : List Lexeme) (x : Tree × List Lexeme) → level_at source f l ts ≡ Some x → Taken (an_expr l) ts x
+    pub level_sound : (l : ℕ) (ts : List Lexeme) (x : Tree × List Lexeme) → level_at source f l ts ≡ Some x → Taken (an_expr l) ts x
     unfolding level_at
     level_sound zero ts x e = unary_sound f sound ts x e
     level_sound (suc l) ts x e =

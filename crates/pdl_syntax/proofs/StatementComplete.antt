@@ -1,5 +1,6 @@
 -- Each spelled statement is read, so that lexemes are spelled by at most one.
-use Rattle.std.proofs.Common.{◌≡◌, ℕ, ℤ, zero, suc, ◌<◌, ◌≤◌, List, [], ◌∷◌, ◌++◌, length, Bool, true, false, ◌||◌, nat_lt, Option, Some, None, option_map, refl, ap, sym, ◌∙◌, arith, lt-ltb}
+use Rattle.std.proofs.Common.{◌≡◌, ℕ, ℤ, zero, suc, ◌<◌, ◌≤◌, List, [], ◌∷◌, ◌++◌, length, Bool, true, false, ◌||◌, nat_lt, Option, Some, None, option_map, option_and_then, if◌then◌else◌, refl, ap, sym, ◌∙◌, arith, lt-ltb}
+use Rattle.pdl_elem.specs.declared.UnaryOp.{UnaryOp}
 use Rattle.pdl_lexemes.specs.declared.AssignOp.{AssignOp}
 use Rattle.pdl_lexemes.specs.declared.Span.{Span}
 use Rattle.pdl_lexemes.specs.declared.WordKind.{WordKind}
@@ -10,17 +11,19 @@ use Rattle.pdl_lexemes.specs.declared.Lexeme.{Lexeme}
 use Rattle.pdl_lexemes.specs.declared.Lexeme.TheVariants.{Name, Keyword, Word, Number, Quoted, Open, Close, Comma, Equals, Arrow, Assign}
 use Rattle.pdl_lexemes.specs.Bytes.{bytes_at}
 use Rattle.pdl_lexemes.specs.Lists.{signed}
-use Rattle.pdl_lexemes.specs.ListReading.{after_comma}
-use Rattle.pdl_lexemes.proofs.Options.{some_inj}
+use Rattle.pdl_lexemes.specs.ListReading.{choose, after_comma}
+use Rattle.pdl_lexemes.specs.Laws.{ListsAreRead}
+use Rattle.pdl_lexemes.specs.Options.{some_inj, then_elim}
 use Rattle.pdl_syntax.specs.Tree.{Tree, Args, call, none, value}
-use Rattle.pdl_syntax.specs.Grammar.{Spells, an_expr, a_postfix, same, plain, called}
-use Rattle.pdl_syntax.specs.Reading.{Read, Kind, after_open, quoted_at, maybe_at, closed_at, primary_at, methods_at, reader}
+use Rattle.pdl_syntax.specs.Grammar.{Spells, an_expr, a_postfix, called}
+use Rattle.pdl_syntax.specs.Reading.{Read, Kind, after_open, prefix_at, quoted_at, maybe_at, closed_at, primary_at, methods_at, postfix_at, grown_at, reader}
 use Rattle.pdl_syntax.specs.StatementTree.{StatementTree, View, bind, bind_list, assign, show, show_text, sever, reshape, vars, pp_def, watch, unwatch}
 use Rattle.pdl_syntax.specs.Statements.{SpellsBrackets, no_brackets, brackets, SpellsNames, one_name, more_names, SpellsViews, no_views, one_view, SpellsText, plain_text, labelled, SpellsCalled, by_word, by_method, SpellsBinding, binds_value, binds_severed, binds_names, SpellsStatement, binds, my_binds, assigns, shows_text, shows, shows_info, severs, reshapes, undefs, lists_names, defines, watches, unwatches}
-use Rattle.pdl_syntax.specs.StatementReading.{after_equals, keyword_at, after_keyword, after_reshape, view_at, slot_at, at_end, is_brackets, begins_word, after_pars, after_code, texts_at, code_at, define_at, undef_at, watch_at, names_at, all_names_at, ended_at, before_at, called_step, called_at, bind_at, bind_list_at, views_at, assignment_at, named_at, binding_at, show_at, statement_at, read_statement}
+use Rattle.pdl_syntax.specs.StatementReading.{after_equals, keyword_at, after_keyword, after_reshape, view_at, slot_at, at_end, is_brackets, begins_word, after_pars, after_code, texts_at, code_at, define_at, undef_at, watch_at, names_at, all_names_at, ended_at, behind_at, valued_at, called_step, called_at, bind_at, bind_list_at, views_at, assignment_at, named_at, binding_at, show_at, statement_at, read_statement}
 use Rattle.pdl_syntax.proofs.Turns.{methods_stop, methods_turn}
-use Rattle.pdl_syntax.proofs.Complete.{Ends, ends_nothing, Methods, complete, read_whole, read_postfix, begins, shorter}
-use Rattle.pdl_syntax.proofs.StatementSound.{before_sound, statement_sound}
+use Rattle.pdl_syntax.proofs.Complete.{Ends, ends_nothing, Methods, complete, finished, read_whole, read_postfix, begins, shorter}
+use Rattle.pdl_syntax.proofs.StatementSound.{after_keyword_is, statement_sound}
+use Rattle.pdl_syntax.proofs.Growing.{level_grown, grown_stop}
 
 names_stop : (source : List ℕ) (k : ℕ) (names : List (List ℕ)) (ts : List Lexeme) → after_comma ts ≡ None → names_at source k names ts ≡ Some (names, ts)
 unfolding names_at
@@ -83,40 +86,49 @@ module _ (source : List ℕ) where
 unwatch_complete : (m : ℕ) (z : ℤ) → signed m ≡ Some z → option_map unwatch (slot_at (Number m ∷ [])) ≡ Some (unwatch m)
 unwatch_complete m z e = rw e
 
--- a postfix form is an expression
-as_expr : {source : List ℕ} {t : Tree} {ts rest : List Lexeme} → Spells source (a_postfix t) ts rest → Spells source (an_expr 7 t) ts rest
-as_expr h = same (same (same (same (same (same (same (plain h)))))))
-
 ends_word : (l : ℕ) (word : AnyKeyword) (us : List Lexeme) → Ends l (Arrow ∷ Keyword word ∷ us)
 ends_word l word us = record { no_open = refl; no_method = refl; no_operator = λ j le. refl }
 
-module _ (source : List ℕ) (n : ℕ) where
+module _ (lists : ListsAreRead) (source : List ℕ) (n : ℕ) where
   abbrev f : Kind → List Lexeme → Read Tree
   f = reader source n
 
   ended_complete : (t : Tree) (ts : List Lexeme) → length ts < n → Spells source (an_expr 7 t) ts [] → ended_at source f ts ≡ Some t
   unfolding ended_at
-  ended_complete t ts lt h = rw (read_whole source n t ts [] (complete source h) lt (ends_nothing 7))
+  ended_complete t ts lt h = rw (read_whole lists source n t ts [] (complete lists source h) lt (ends_nothing 7))
 
   not_empty : (a b : Tree) (t : Lexeme) (us : List Lexeme) → ◌≡◌ {A = Read Tree} (Some (a, [])) (Some (b, t ∷ us)) → ⊥
   not_empty a b t us e = let same' : ◌≡◌ {A = List Lexeme} [] (t ∷ us) = ap (λ x. x.1) (some_inj e) in absurd (omega (arith, ap length same'))
 
-  not_before : (word : AnyKeyword) (t : Tree) (ts : List Lexeme) → length ts < n → Spells source (an_expr 7 t) ts [] → before_at source f word ts ≡ None
-  not_before word t ts lt h = of_read (before_at source f word ts) refl
+  -- behind a whole expression's first postfix form stands no arrow with this word
+  behind_complete : (word : AnyKeyword) (t : Tree) (y : Tree × List Lexeme) → grown_at source f 7 y.0 y.1 ≡ Some (t, []) → behind_at source f word y ≡ Some (t, false)
+  behind_complete word t y g = of_word (after_keyword word y.1) refl
     where
-      of_read : (o : Option Tree) → before_at source f word ts ≡ o → o ≡ None
-      of_read None e = refl
-      of_read (Some u) e =
-          let b = before_sound source n word ts u e in
-          absurd (not_empty t u Arrow (Keyword word ∷ b.left)
-          (sym (read_whole source n t ts [] (complete source h) lt (ends_nothing 7))
-          ∙ read_whole source n u ts (Arrow ∷ Keyword word ∷ b.left) (complete source (as_expr b.spelled)) lt (ends_word 7 word b.left)))
+      of_word : (o : Option (List Lexeme)) → after_keyword word y.1 ≡ o →
+          choose (option_map {U = Tree × Bool} (λ u. (u, false)) (option_and_then (λ z. at_end z.0 z.1) (grown_at source f 7 y.0 y.1))) (λ us. if is_brackets us then Some (y.0, true) else None) o ≡ Some (t, false)
+      of_word None e = rw g
+      of_word (Some us) e =
+          let is : y.1 ≡ Arrow ∷ Keyword word ∷ us = after_keyword_is word y.1 e in
+          let stop : grown_at source f 7 y.0 (Arrow ∷ Keyword word ∷ us) ≡ Some (y.0, Arrow ∷ Keyword word ∷ us) = grown_stop source f 7 y.0 (Arrow ∷ Keyword word ∷ us) (ends_word 7 word us).no_operator in
+          absurd (not_empty t y.0 Arrow (Keyword word ∷ us) (sym g ∙ ap (grown_at source f 7 y.0) is ∙ stop))
+
+  value_complete : (word : AnyKeyword) (t : Tree) (ts : List Lexeme) → length ts < n → Spells source (an_expr 7 t) ts [] → valued_at source f word ts ≡ Some (t, false)
+  unfolding valued_at
+  value_complete word t ts lt h = of_prefix (prefix_at ts) refl
+    where
+      of_prefix : (o : Option (UnaryOp × List Lexeme)) → prefix_at ts ≡ o →
+          choose (option_and_then (behind_at source f word) (postfix_at source f ts)) (λ p. option_map {U = Tree × Bool} (λ u. (u, false)) (ended_at source f ts)) o ≡ Some (t, false)
+      of_prefix (Some p) e = ap (option_map {U = Tree × Bool} (λ u. (u, false))) (ended_complete t ts lt h)
+      of_prefix None e =
+          then_elim (option_and_then (behind_at source f word) (postfix_at source f ts) ≡ Some (t, false)) (λ x. grown_at source f 7 x.0 x.1) (postfix_at source f ts)
+          (sym (level_grown source f 7 ts e) ∙ finished lists source 7 t ts [] (complete lists source h) n (omega arith) (ends_nothing 7))
+          (λ y g k. ap (option_and_then (behind_at source f word)) g ∙ behind_complete word t y k)
 
   before_complete : (word : AnyKeyword) (t : Tree) (ts us : List Lexeme) → keyword_at word (Keyword word ∷ us) ≡ Some us → length ts < n →
-      Spells source (a_postfix t) ts (Arrow ∷ Keyword word ∷ us) → SpellsBrackets us → before_at source f word ts ≡ Some t
-  unfolding before_at
+      Spells source (a_postfix t) ts (Arrow ∷ Keyword word ∷ us) → SpellsBrackets us → valued_at source f word ts ≡ Some (t, true)
+  unfolding valued_at
   before_complete word t ts us found lt h b =
-      rw (read_postfix source n t ts (Arrow ∷ Keyword word ∷ us) (complete source h n (omega arith) refl) refl) (rw found (rw (brackets_read b)))
+      rw (begins h).prefix (rw (read_postfix lists source n t ts (Arrow ∷ Keyword word ∷ us) (complete lists source h n (omega arith) refl) refl) (rw found (rw (brackets_read b))))
 
   word_step : (t : Tree) → called_step source f true (t, []) ≡ Some t
   unfolding methods_at
@@ -138,14 +150,14 @@ module _ (source : List ℕ) (n : ℕ) where
 
   called_complete : {t : Tree} {ts : List Lexeme} → SpellsCalled source t ts → length ts < n → called_at source f ts ≡ Some t
   called_complete (by_word {kind = kind} {w = w} {args = args} {ts = ts} h) lt =
-      called_by_word (call (bytes_at source w) args) kind w (Open ∷ ts) (complete source (called h) n (omega arith))
+      called_by_word (call (bytes_at source w) args) kind w (Open ∷ ts) (complete lists source (called h) n (omega arith))
   called_complete (by_method {t = t} {kind = kind} {w = w} {args = args} {ts = ts} {us = us} h k) lt =
-      let m = complete source h n (omega arith) refl in
-      let le = shorter h in
-      let args_read : maybe_at source f (value none t) us ≡ Some (args, []) = complete source k n (omega arith) refl in
+      let m = complete lists source h n (omega arith) refl in
+      let le = shorter lists h in
+      let args_read : maybe_at source f (value none t) us ≡ Some (args, []) = complete lists source k n (omega arith) refl in
       of_turns m args_read m.turns refl
     where
-      of_turns : (m : Methods source n t ts (Arrow ∷ Word kind w ∷ us)) → maybe_at source f (value none t) us ≡ Some (args, []) →
+      of_turns : (m : Methods lists source n t ts (Arrow ∷ Word kind w ∷ us)) → maybe_at source f (value none t) us ≡ Some (args, []) →
           (j : ℕ) → m.turns ≡ j → called_at source f ts ≡ Some (call (bytes_at source w) args)
       of_turns m a zero z = absurd (omega (arith, m.enough, z))
       of_turns m a (suc j) z =
@@ -154,12 +166,8 @@ module _ (source : List ℕ) (n : ℕ) where
           ∙ (methods_turn source f j t (Arrow ∷ Word kind w ∷ us) us [] w args refl a ∙ methods_stop source f j (call (bytes_at source w) args) [] refl)))
           (omega (arith, m.within_left))
 
-  bind_value_read : (name : List ℕ) (t : Tree) (ts : List Lexeme) → before_at source f Sever ts ≡ None → ended_at source f ts ≡ Some t →
-      bind_at source f name ts ≡ Some (bind name t false)
-  bind_value_read name t ts h k = rw h (rw k)
-
-  bind_severed_read : (name : List ℕ) (t : Tree) (ts : List Lexeme) → before_at source f Sever ts ≡ Some t → bind_at source f name ts ≡ Some (bind name t true)
-  bind_severed_read name t ts h = rw h
+  bind_read : (name : List ℕ) (t : Tree) (severed : Bool) (ts : List Lexeme) → valued_at source f Sever ts ≡ Some (t, severed) → bind_at source f name ts ≡ Some (bind name t severed)
+  bind_read name t severed ts h = rw h
 
   bind_list_read : (names : List (List ℕ)) (t : Tree) (ts us : List Lexeme) → all_names_at source ts ≡ Some (names, Close ∷ Equals ∷ us) →
       called_at source f us ≡ Some t → bind_list_at source f ts ≡ Some (bind_list names t)
@@ -186,10 +194,10 @@ module _ (source : List ℕ) (n : ℕ) where
   binding_complete : {s : StatementTree} {ts : List Lexeme} → SpellsBinding source s ts → length ts ≤ n → Bound s ts
   binding_complete (binds_value {w = w} {t = t} {ts = ts} h) le =
       bound_name w ts (bind (bytes_at source w) t false)
-      (bind_value_read (bytes_at source w) t ts (not_before Sever t ts (omega arith) h) (ended_complete t ts (omega arith) h))
+      (bind_read (bytes_at source w) t false ts (value_complete Sever t ts (omega arith) h))
   binding_complete (binds_severed {w = w} {t = t} {ts = ts} {us = us} h b) le =
       bound_name w ts (bind (bytes_at source w) t true)
-      (bind_severed_read (bytes_at source w) t ts (before_complete Sever t ts us refl (omega arith) h b))
+      (bind_read (bytes_at source w) t true ts (before_complete Sever t ts us refl (omega arith) h b))
   binding_complete (binds_names {names = names} {t = t} {ts = ts} {us = us} h c) le =
       let a = names_shorter h in
       bound_list ts (bind_list names t) (bind_list_read names t ts us (names_read source names ts (Equals ∷ us) h) (called_complete c (omega arith)))
@@ -206,7 +214,7 @@ module _ (source : List ℕ) (n : ℕ) where
 
   views_shorter : {front views : List View} {ts rest : List Lexeme} → SpellsViews source front views ts rest → length rest ≤ length ts
   views_shorter no_views = omega arith
-  views_shorter (one_view h k) = let a = views_shorter h in let b = shorter k in omega arith
+  views_shorter (one_view h k) = let a = views_shorter h in let b = shorter lists k in omega arith
 
   views_stop : (k : ℕ) (views : List View) (ts : List Lexeme) → view_at ts ≡ None → views_at source f k views ts ≡ Some (views, ts)
   unfolding views_at
@@ -240,7 +248,7 @@ module _ (source : List ℕ) (n : ℕ) where
   views_complete (no_views {rest = rest}) le e = record { turns = length rest; same = refl; enough = omega arith }
   views_complete (one_view {front = front} {views = views} {w = w} {args = args} {ts = ts} {us = us} {rest = rest} h k) le e =
       let a = views_shorter h in
-      next_view front views w args ts us rest (views_complete h le refl) (complete source k n (omega arith) e) (shorter k)
+      next_view front views w args ts us rest (views_complete h le refl) (complete lists source k n (omega arith) e) (shorter lists k)
 
   assignment_read : (name : List ℕ) (views : List View) (op : AssignOp) (t : Tree) (ts us : List Lexeme) →
       views_at source f (length ts) [] ts ≡ Some (views, Assign op ∷ us) → ended_at source f us ≡ Some t → assignment_at source f name ts ≡ Some (assign name views op t)
@@ -269,14 +277,9 @@ module _ (source : List ℕ) (n : ℕ) where
   unfolding statement_at show_at
   show_text_read w = refl
 
-  show_read : (t : Tree) (ts : List Lexeme) → quoted_at ts ≡ None → before_at source f Info ts ≡ None → ended_at source f ts ≡ Some t →
-      statement_at source f (Keyword Print ∷ ts) ≡ Some (show t false)
+  show_read : (t : Tree) (info : Bool) (ts : List Lexeme) → quoted_at ts ≡ None → valued_at source f Info ts ≡ Some (t, info) → statement_at source f (Keyword Print ∷ ts) ≡ Some (show t info)
   unfolding statement_at show_at
-  show_read t ts q i e = rw q (rw i (rw e))
-
-  show_info_read : (t : Tree) (ts : List Lexeme) → quoted_at ts ≡ None → before_at source f Info ts ≡ Some t → statement_at source f (Keyword Print ∷ ts) ≡ Some (show t true)
-  unfolding statement_at show_at
-  show_info_read t ts q i = rw q (rw i)
+  show_read t info ts q i = rw q (rw i)
 
   keyword_reads : (ts : List Lexeme) → (statement_at source f (Keyword Undef ∷ ts) ≡ undef_at source ts)
       × (statement_at source f (Keyword Vars ∷ ts) ≡ at_end vars ts)
@@ -297,11 +300,11 @@ module _ (source : List ℕ) (n : ℕ) where
       (assignment_read (bytes_at source w) views op t ts us (c.same ∙ views_stop c.turns views (Assign op ∷ us) refl) (ended_complete t us (omega arith) h))
   statement_complete (shows_text {w = w}) le = show_text_read w
   statement_complete (shows {t = t} {ts = ts} h) le =
-      show_read t ts (begins h).quoted (not_before Info t ts (omega arith) h) (ended_complete t ts (omega arith) h)
+      show_read t false ts (begins h).quoted (value_complete Info t ts (omega arith) h)
   statement_complete (shows_info {t = t} {ts = ts} {us = us} h b) le =
-      show_info_read t ts (begins h).opening.quoted (before_complete Info t ts us refl (omega arith) h b)
+      show_read t true ts (begins h).opening.quoted (before_complete Info t ts us refl (omega arith) h b)
   statement_complete (severs {w = w} {us = us} b) le = named_sever w us (brackets_read b)
-  statement_complete (reshapes {w = w} {args = args} {ts = ts} h) le = named_reshape w args ts (complete source h n (omega arith))
+  statement_complete (reshapes {w = w} {args = args} {ts = ts} h) le = named_reshape w args ts (complete lists source h n (omega arith))
   statement_complete (undefs {w = w}) le = (keyword_reads (Name w ∷ [])).0
   statement_complete lists_names le = (keyword_reads []).1
   statement_complete (defines {w = w} {signature = signature} {code = code} {ts = ts} {us = us} h k) le =
@@ -310,12 +313,13 @@ module _ (source : List ℕ) (n : ℕ) where
   statement_complete (unwatches {n = m} {z = z} e) le = (keyword_reads (Number m ∷ [])).4 ∙ unwatch_complete m z e
 
 -- a statement is spelled exactly where it is read
-pub statement_found : (source : List ℕ) (ts : List Lexeme) (s : StatementTree) → SpellsStatement source s ts → read_statement source ts ≡ Some s
-statement_found source ts s h = statement_complete source (suc (length ts)) h (omega arith)
+module _ (lists : ListsAreRead) where
+  pub statement_found : (source : List ℕ) (ts : List Lexeme) (s : StatementTree) → SpellsStatement source s ts → read_statement source ts ≡ Some s
+  statement_found source ts s h = statement_complete lists source (suc (length ts)) h (omega arith)
 
-pub statement_spelled : (source : List ℕ) (ts : List Lexeme) (s : StatementTree) → read_statement source ts ≡ Some s → SpellsStatement source s ts
-statement_spelled source ts s h = statement_sound source (suc (length ts)) ts s (omega arith) h
+  pub statement_spelled : (source : List ℕ) (ts : List Lexeme) (s : StatementTree) → read_statement source ts ≡ Some s → SpellsStatement source s ts
+  statement_spelled source ts s h = statement_sound lists source (suc (length ts)) ts s (omega arith) h
 
--- lexemes are spelled by at most one statement
-pub one_statement_lem : (source : List ℕ) (ts : List Lexeme) (a b : StatementTree) → SpellsStatement source a ts → SpellsStatement source b ts → a ≡ b
-one_statement_lem source ts a b h k = some_inj (sym (statement_found source ts a h) ∙ statement_found source ts b k)
+  -- lexemes are spelled by at most one statement
+  pub one_statement_lem : (source : List ℕ) (ts : List Lexeme) (a b : StatementTree) → SpellsStatement source a ts → SpellsStatement source b ts → a ≡ b
+  one_statement_lem source ts a b h k = some_inj (sym (statement_found source ts a h) ∙ statement_found source ts b k)

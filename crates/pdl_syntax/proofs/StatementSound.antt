@@ -10,16 +10,17 @@ use Rattle.pdl_lexemes.specs.declared.Lexeme.TheVariants.{Name, Keyword, Word, N
 use Rattle.pdl_lexemes.specs.Bytes.{bytes_at}
 use Rattle.pdl_lexemes.specs.Lists.{signed}
 use Rattle.pdl_lexemes.specs.ListReading.{choose, after_comma}
-use Rattle.pdl_lexemes.proofs.Options.{some_inj, none_some, then_elim, map_elim, choose_elim}
-use Rattle.pdl_lexemes.proofs.ListSound.{comma_is}
+use Rattle.pdl_lexemes.specs.Options.{some_inj, none_some, then_elim, map_elim, choose_elim}
+use Rattle.pdl_lexemes.specs.Laws.{ListsAreRead}
 use Rattle.pdl_syntax.specs.Tree.{Tree, none, value}
 use Rattle.pdl_syntax.specs.Grammar.{Spells, an_expr, a_postfix, a_primary, closed_args, maybe_args, bare, method, a_number, a_name, list, round_list, called, round}
-use Rattle.pdl_syntax.specs.Reading.{Read, Kind, whole, after_open, after_close, after_arrow, quoted_at, maybe_at, closed_at, primary_at, methods_at, postfix_at, reader}
+use Rattle.pdl_syntax.specs.Reading.{Read, Kind, whole, after_open, after_close, after_arrow, quoted_at, prefix_at, maybe_at, closed_at, primary_at, methods_at, postfix_at, level_at, grown_at, reader}
 use Rattle.pdl_syntax.specs.StatementTree.{StatementTree, View, bind, bind_list, assign, show, show_text, sever, reshape, undef, vars, watch, unwatch}
 use Rattle.pdl_syntax.specs.Statements.{SpellsBrackets, no_brackets, brackets, SpellsNames, one_name, more_names, SpellsViews, no_views, one_view, SpellsText, plain_text, labelled, SpellsCalled, by_word, by_method, SpellsBinding, binds_value, binds_severed, binds_names, SpellsStatement, binds, my_binds, assigns, shows_text, shows, shows_info, severs, reshapes, undefs, lists_names, defines, watches, unwatches}
-use Rattle.pdl_syntax.specs.StatementReading.{after_equals, keyword_at, after_keyword, after_reshape, name_at, view_word, view_at, assign_at, slot_at, at_end, is_brackets, begins_word, after_pars, after_code, texts_at, code_at, signature_at, define_at, undef_at, watch_at, names_at, all_names_at, ended_at, before_at, called_step, called_at, bind_at, bind_names, bind_list_at, views_at, assign_value, assignment_at, reshape_at, sever_at, named_at, bind_name, binding_at, value_at, show_at, statement_at}
-use Rattle.pdl_syntax.proofs.Peeks.{open_is, close_is, arrow_is, quoted_is}
-use Rattle.pdl_syntax.proofs.Sound.{closed_sound, maybe_sound, primary_sound, methods_sound, postfix_sound, reader_sound_expr}
+use Rattle.pdl_syntax.specs.StatementReading.{after_equals, keyword_at, after_keyword, after_reshape, name_at, view_word, view_at, assign_at, slot_at, at_end, is_brackets, begins_word, after_pars, after_code, texts_at, code_at, signature_at, define_at, undef_at, watch_at, names_at, all_names_at, ended_at, behind_at, valued_at, called_step, called_at, bind_at, bind_names, bind_list_at, views_at, assign_value, assignment_at, reshape_at, sever_at, named_at, bind_name, binding_at, value_at, show_at, statement_at}
+use Rattle.pdl_syntax.proofs.Peeks.{comma_is, open_is, close_is, arrow_is, quoted_is}
+use Rattle.pdl_syntax.proofs.Sound.{closed_sound, maybe_sound, primary_sound, methods_sound, postfix_sound, level_sound, reader_sound_expr}
+use Rattle.pdl_syntax.proofs.Growing.{level_grown}
 use Rattle.pdl_syntax.proofs.Complete.{complete}
 
 equals_is : (ts : List Lexeme) {us : List Lexeme} → after_equals ts ≡ Some us → ts ≡ Equals ∷ us
@@ -42,7 +43,7 @@ keyword_is Reshape (Keyword _ ∷ ts) e = absurd (none_some e)
 keyword_is Reshape (_ ∷ ts) e = absurd (none_some e)
 keyword_is _ ts e = absurd (none_some e)
 
-after_keyword_is : (word : AnyKeyword) (ts : List Lexeme) {us : List Lexeme} → after_keyword word ts ≡ Some us → ts ≡ Arrow ∷ Keyword word ∷ us
+pub after_keyword_is : (word : AnyKeyword) (ts : List Lexeme) {us : List Lexeme} → after_keyword word ts ≡ Some us → ts ≡ Arrow ∷ Keyword word ∷ us
 after_keyword_is word ts {us = us} e =
     then_elim (ts ≡ Arrow ∷ Keyword word ∷ us) (keyword_at word) (after_arrow ts) e
     (λ vs h k. arrow_is ts h ∙ ap (λ x. Arrow ∷ x) (keyword_is word vs k))
@@ -200,7 +201,7 @@ module _ (source : List ℕ) where
       (λ y h k. names_sound (length y.1) (bytes_at source y.0 ∷ []) y.1 ts x k
       (subst (λ vs. SpellsNames source [] (bytes_at source y.0 ∷ []) vs y.1) (sym (name_is ts y h)) one_name))
 
-module _ (source : List ℕ) (n : ℕ) where
+module _ (lists : ListsAreRead) (source : List ℕ) (n : ℕ) where
   abbrev f : Kind → List Lexeme → Read Tree
   f = reader source n
 
@@ -209,7 +210,7 @@ module _ (source : List ℕ) (n : ℕ) where
   ended_sound ts t e =
       then_elim (Spells source (an_expr 7 t) ts []) (λ x. at_end x.0 x.1) (f whole ts) e
       (λ x h k. let end = end_is x.0 x.1 k in
-      subst (λ u. Spells source (an_expr 7 u) ts []) end.same (subst (Spells source (an_expr 7 x.0) ts) end.empty (reader_sound_expr source n whole ts x h)))
+      subst (λ u. Spells source (an_expr 7 u) ts []) end.same (subst (Spells source (an_expr 7 x.0) ts) end.empty (reader_sound_expr lists source n whole ts x h)))
 
   -- a postfix form stands before an arrow, this word and the end
   pub record Before (word : AnyKeyword) (ts : List Lexeme) (t : Tree) : Type 0 where
@@ -217,17 +218,41 @@ module _ (source : List ℕ) (n : ℕ) where
     pub spelled : Spells source (a_postfix t) ts (Arrow ∷ Keyword word ∷ left)
     pub brackets_left : SpellsBrackets left
 
-  pub before_sound : (word : AnyKeyword) (ts : List Lexeme) (t : Tree) → before_at source f word ts ≡ Some t → Before word ts t
-  unfolding before_at
-  before_sound word ts t e =
-      then_elim (Before word ts t) (λ x. option_and_then (λ us. if is_brackets us then Some x.0 else None) (after_keyword word x.1)) (postfix_at source f ts) e
-      (λ x h k. then_elim (Before word ts t) (λ us. if is_brackets us then Some x.0 else None) (after_keyword word x.1) k
-      (λ us l m. test_elim (Before word ts t) (is_brackets us) (Some x.0) m
-      (λ yes' same. subst (Before word ts) (some_inj same) (record {
+  -- an expression up to the end, or such a postfix form
+  abbrev Valued : AnyKeyword → List Lexeme → Tree → Bool → Type 0
+  Valued word ts t false = Spells source (an_expr 7 t) ts []
+  Valued word ts t true = Before word ts t
+
+  grown_sound : (ts : List Lexeme) (y : Tree × List Lexeme) (t : Tree) → prefix_at ts ≡ None → postfix_at source f ts ≡ Some y
+      → option_and_then (λ z. at_end z.0 z.1) (grown_at source f 7 y.0 y.1) ≡ Some t → Spells source (an_expr 7 t) ts []
+  grown_sound ts y t plain' g e =
+      then_elim (Spells source (an_expr 7 t) ts []) (λ z. at_end z.0 z.1) (grown_at source f 7 y.0 y.1) e
+      (λ z w m. let end = end_is z.0 z.1 m in
+      let read : level_at source f 7 ts ≡ Some z = level_grown source f 7 ts plain' ∙ ap (option_and_then (λ x. grown_at source f 7 x.0 x.1)) g ∙ w in
+      subst (λ u. Spells source (an_expr 7 u) ts []) end.same
+      (subst (Spells source (an_expr 7 z.0) ts) end.empty (level_sound lists source f (reader_sound_expr lists source n) 7 ts z read)))
+
+  behind_sound : (word : AnyKeyword) (ts : List Lexeme) (y : Tree × List Lexeme) (x : Tree × Bool) → prefix_at ts ≡ None → postfix_at source f ts ≡ Some y
+      → behind_at source f word y ≡ Some x → Valued word ts x.0 x.1
+  behind_sound word ts y x plain' g e =
+      choose_elim (Valued word ts x.0 x.1) (option_map (λ t. (t, false)) (option_and_then (λ z. at_end z.0 z.1) (grown_at source f 7 y.0 y.1)))
+      (λ us. if is_brackets us then Some (y.0, true) else None) (after_keyword word y.1) e
+      (λ no' h. map_elim (Valued word ts x.0 x.1) (λ t. (t, false)) (option_and_then (λ z. at_end z.0 z.1) (grown_at source f 7 y.0 y.1)) h
+      (λ t k same. subst (λ z. Valued word ts z.0 z.1) same (grown_sound ts y t plain' g k)))
+      (λ us l h. test_elim (Valued word ts x.0 x.1) (is_brackets us) (Some (y.0, true)) h
+      (λ yes' same. subst (λ z. Valued word ts z.0 z.1) (some_inj same) (record {
         left = us;
-        spelled = subst (Spells source (a_postfix x.0) ts) (after_keyword_is word x.1 l) (postfix_sound source f (reader_sound_expr source n) ts x h);
+        spelled = subst (Spells source (a_postfix y.0) ts) (after_keyword_is word y.1 l) (postfix_sound lists source f (reader_sound_expr lists source n) ts y g);
         brackets_left = brackets_are us yes';
-      }))))
+      })))
+
+  valued_sound : (word : AnyKeyword) (ts : List Lexeme) (x : Tree × Bool) → valued_at source f word ts ≡ Some x → Valued word ts x.0 x.1
+  unfolding valued_at
+  valued_sound word ts x e =
+      choose_elim (Valued word ts x.0 x.1) (option_and_then (behind_at source f word) (postfix_at source f ts)) (λ p. option_map (λ t. (t, false)) (ended_at source f ts)) (prefix_at ts) e
+      (λ plain' h. then_elim (Valued word ts x.0 x.1) (behind_at source f word) (postfix_at source f ts) h (λ y g k. behind_sound word ts y x plain' g k))
+      (λ p some h. map_elim (Valued word ts x.0 x.1) (λ t. (t, false)) (ended_at source f ts) h
+      (λ t g same. subst (λ z. Valued word ts z.0 z.1) same (ended_sound ts t g)))
 
   called_primary : {t : Tree} {ts rest : List Lexeme} → Spells source (a_primary t) ts rest → begins_word ts ≡ true → rest ≡ [] → SpellsCalled source t ts
   called_primary (a_number h) b e = absurd (true≢false (sym b))
@@ -255,7 +280,7 @@ module _ (source : List ℕ) (n : ℕ) where
       (λ y. if begins_word ts || nat_lt (length y.1) (length x.1) then at_end y.0 y.1 else None) (methods_at source f (length x.1) x.0 x.1) k
       (λ y m r. test_elim (SpellsCalled source t ts) (begins_word ts || nat_lt (length y.1) (length x.1)) (at_end y.0 y.1) r
       (λ test same. let end = end_is y.0 y.1 same in
-      let spelled = methods_sound source f (reader_sound_expr source n) (length x.1) x.0 x.1 y ts m (bare (primary_sound source f (reader_sound_expr source n) ts x h)) in
+      let spelled = methods_sound lists source f (reader_sound_expr lists source n) (length x.1) x.0 x.1 y ts m (bare (primary_sound lists source f (reader_sound_expr lists source n) ts x h)) in
       subst (λ u. SpellsCalled source u ts) end.same
       (called_postfix spelled end.empty (λ u p. of_word (begins_word ts) refl x y test h u p)))))
     where
@@ -263,19 +288,19 @@ module _ (source : List ℕ) (n : ℕ) where
           primary_at source f ts ≡ Some x → (u : Tree) → Spells source (a_primary u) ts y.1 → begins_word ts ≡ true
       of_word true b x y test h u p = b
       of_word false b x y test h u p =
-          let read : primary_at source f ts ≡ Some (u, y.1) = complete source p n le in
+          let read : primary_at source f ts ≡ Some (u, y.1) = complete lists source p n le in
           let same : x.1 ≡ y.1 = ap (λ z. z.1) (some_inj (sym h ∙ read)) in
           let less : length y.1 < length x.1 = ltb-true (length y.1) (length x.1) (or_true (begins_word ts) (nat_lt (length y.1) (length x.1)) test b) in
           absurd (omega (arith, less, ap length same))
 
+  bound_as : (w : Span) (ts : List Lexeme) (t : Tree) (severed : Bool) → Valued Sever ts t severed → SpellsBinding source (bind (bytes_at source w) t severed) (Name w ∷ Equals ∷ ts)
+  bound_as w ts t false h = binds_value h
+  bound_as w ts t true h = binds_severed h.spelled h.brackets_left
+
   bind_sound : (w : Span) (ts : List Lexeme) (s : StatementTree) → bind_at source f (bytes_at source w) ts ≡ Some s → SpellsBinding source s (Name w ∷ Equals ∷ ts)
   bind_sound w ts s e =
-      choose_elim (SpellsBinding source s (Name w ∷ Equals ∷ ts)) (option_map (λ t. bind (bytes_at source w) t false) (ended_at source f ts))
-      (λ t. Some (bind (bytes_at source w) t true)) (before_at source f Sever ts) e
-      (λ h k. map_elim (SpellsBinding source s (Name w ∷ Equals ∷ ts)) (λ t. bind (bytes_at source w) t false) (ended_at source f ts) k
-      (λ t l same. subst (λ u. SpellsBinding source u (Name w ∷ Equals ∷ ts)) same (binds_value (ended_sound ts t l))))
-      (λ t h k. let sev = before_sound Sever ts t h in
-      subst (λ u. SpellsBinding source u (Name w ∷ Equals ∷ ts)) (some_inj k) (binds_severed sev.spelled sev.brackets_left))
+      map_elim (SpellsBinding source s (Name w ∷ Equals ∷ ts)) (λ x. bind (bytes_at source w) x.0 x.1) (valued_at source f Sever ts) e
+      (λ x h same. subst (λ u. SpellsBinding source u (Name w ∷ Equals ∷ ts)) same (bound_as w ts x.0 x.1 (valued_sound Sever ts x h)))
 
   bind_list_sound : (ts : List Lexeme) (s : StatementTree) → length ts ≤ n → bind_list_at source f ts ≡ Some s → SpellsBinding source s (Open ∷ ts)
   unfolding bind_list_at
@@ -306,7 +331,7 @@ module _ (source : List ℕ) (n : ℕ) where
       (λ c d. subst (Viewed ts) (some_inj d) h)
       (λ v c d. then_elim (Viewed ts x) (λ y. views_at source f k (views ++ (bytes_at source v.0, y.0) ∷ []) y.1) (maybe_at source f none v.1) d
       (λ y m r. views_sound k (views ++ (bytes_at source v.0, y.0) ∷ []) y.1 ts x r
-      (one_view (subst (SpellsViews source [] views ts) (view_is us v c) h) (maybe_sound source f (reader_sound_expr source n) none v.1 y m))))
+      (one_view (subst (SpellsViews source [] views ts) (view_is us v c) h) (maybe_sound lists source f (reader_sound_expr lists source n) none v.1 y m))))
 
   assignment_sound : (w : Span) (ts : List Lexeme) (s : StatementTree) → assignment_at source f (bytes_at source w) ts ≡ Some s → Stated source (Name w ∷ ts) s
   unfolding assignment_at
@@ -323,7 +348,7 @@ module _ (source : List ℕ) (n : ℕ) where
       then_elim (Stated source (Name w ∷ Arrow ∷ Keyword Reshape ∷ Open ∷ ts) s) (λ x. at_end (reshape (bytes_at source w) x.0) x.1) (closed_at source f none ts) e
       (λ x h k. let end = end_is (reshape (bytes_at source w) x.0) x.1 k in
       subst (Stated source (Name w ∷ Arrow ∷ Keyword Reshape ∷ Open ∷ ts)) end.same
-      (reshapes (subst (Spells source (closed_args none x.0) ts) end.empty (closed_sound source f (reader_sound_expr source n) none ts x h))))
+      (reshapes (subst (Spells source (closed_args none x.0) ts) end.empty (closed_sound lists source f (reader_sound_expr lists source n) none ts x h))))
 
   named_sound : (w : Span) (ts : List Lexeme) (s : StatementTree) → named_at source f (bytes_at source w) ts ≡ Some s → Stated source (Name w ∷ ts) s
   unfolding named_at
@@ -350,12 +375,14 @@ module _ (source : List ℕ) (n : ℕ) where
       (λ us c d. subst (SpellsBinding source s) (sym (name_is ts x k ∙ ap (λ v. Name x.0 ∷ v) (equals_is x.1 c))) (bind_sound x.0 us s d))))
       (λ us h k. subst (SpellsBinding source s) (sym (open_is ts h)) (bind_list_sound us s (omega (arith, ap length (open_is ts h))) k))
 
+  shown_as : (ts : List Lexeme) (t : Tree) (info : Bool) → Valued Info ts t info → Stated source (Keyword Print ∷ ts) (show t info)
+  shown_as ts t false h = shows h
+  shown_as ts t true h = shows_info h.spelled h.brackets_left
+
   value_sound : (ts : List Lexeme) (s : StatementTree) → value_at source f ts ≡ Some s → Stated source (Keyword Print ∷ ts) s
   value_sound ts s e =
-      choose_elim (Stated source (Keyword Print ∷ ts) s) (option_map (λ t. show t false) (ended_at source f ts)) (λ t. Some (show t true)) (before_at source f Info ts) e
-      (λ no' h. map_elim (Stated source (Keyword Print ∷ ts) s) (λ t. show t false) (ended_at source f ts) h
-      (λ t k same. subst (Stated source (Keyword Print ∷ ts)) same (shows (ended_sound ts t k))))
-      (λ t h k. let inf = before_sound Info ts t h in subst (Stated source (Keyword Print ∷ ts)) (some_inj k) (shows_info inf.spelled inf.brackets_left))
+      map_elim (Stated source (Keyword Print ∷ ts) s) (λ x. show x.0 x.1) (valued_at source f Info ts) e
+      (λ x h same. subst (Stated source (Keyword Print ∷ ts)) same (shown_as ts x.0 x.1 (valued_sound Info ts x h)))
 
   show_sound : (ts : List Lexeme) (s : StatementTree) → show_at source f ts ≡ Some s → Stated source (Keyword Print ∷ ts) s
   unfolding show_at

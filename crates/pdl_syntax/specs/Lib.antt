@@ -7,3 +7,5 @@ pub mod Statements
 pub mod StatementReading
 pub mod Refusals
 pub mod WellMade
+pub mod Parsed
+pub mod Laws

@@ -162,6 +162,12 @@ module _ (source : List ℕ) (f : Kind → List Lexeme → Read Tree) where
   level_at (suc l) ts =
       option_and_then (λ x. chain_at (level_at l) (suc l) (limit_of (suc l) x.1) x.0 x.1) (level_at l ts)
 
+  -- an expression of a level whose first operand is read
+  unfoldable pub grown_at : ℕ → Tree → List Lexeme → Read Tree
+  grown_at zero t ts = Some (t, ts)
+  grown_at (suc l) t ts =
+      option_and_then (λ x. chain_at (level_at l) (suc l) (limit_of (suc l) x.1) x.0 x.1) (grown_at l t ts)
+
 -- an expression in which at most n parts are open at once
 unfoldable pub reader : List ℕ → ℕ → Kind → List Lexeme → Read Tree
 reader source zero kind ts = None

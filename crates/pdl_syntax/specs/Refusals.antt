@@ -1,7 +1,7 @@
 -- Which statement the tokens of a text spell, or which check refuses them first.
 use Rattle.std.specs.Prelude.{◌≡◌, List, ℕ, true, false, Result, Ok, Err}
 use Rattle.pdl_lexemes.specs.declared.Lexeme.{Lexeme}
-use Rattle.pdl_lexemes.specs.Depth.{is_too_deep, has_large, ragged_in}
+use Rattle.pdl_lexemes.specs.Depth.{is_too_deep, has_large}
 use Rattle.pdl_lexemes.specs.Lists.{HoldsRagged}
 use Rattle.pdl_syntax.specs.declared.parser.ParseFault.{ParseFault}
 use Rattle.pdl_syntax.specs.declared.parser.ParseFault.TheVariants.{TooDeep, NumberTooLarge, Syntax, Ragged, NoMemory}
@@ -37,20 +37,17 @@ pub record IsRagged (source : List ℕ) (lexemes : List Lexeme) : Type 0 where
   pub spells : SpellsStatement source statement lexemes
   pub ragged : HoldsRagged lexemes
 
--- the answer is the statement, or the first check that fails; want of memory says nothing
-abbrev pub Answers : List ℕ → List Lexeme → Result Statement ParseFault → Type 0
-Answers source lexemes (Ok s) = Found source lexemes (statement_of s)
-Answers source lexemes (Err TooDeep) = is_too_deep lexemes ≡ true
-Answers source lexemes (Err NumberTooLarge) = Large lexemes
-Answers source lexemes (Err Syntax) = Unspelled source lexemes
-Answers source lexemes (Err Ragged) = IsRagged source lexemes
-Answers source lexemes (Err NoMemory) = Unit {0}
+-- what the lexemes of a text mean: the statement that they spell, or the first check that they fail
+abbrev pub Means : List ℕ → List Lexeme → Result StatementTree ParseFault → Type 0
+Means source lexemes (Ok s) = Found source lexemes s
+Means source lexemes (Err TooDeep) = is_too_deep lexemes ≡ true
+Means source lexemes (Err NumberTooLarge) = Large lexemes
+Means source lexemes (Err Syntax) = Unspelled source lexemes
+Means source lexemes (Err Ragged) = IsRagged source lexemes
+Means source lexemes (Err NoMemory) = ⊥
 
--- the statement itself where no list among the lexemes is ragged, else that it is
-abbrev pub Checked : List Lexeme → Statement → Result Statement ParseFault → Type 0
-Checked lexemes s (Ok t) = (t ≡ s) × (ragged_in lexemes ≡ false)
-Checked lexemes s (Err TooDeep) = ⊥
-Checked lexemes s (Err NumberTooLarge) = ⊥
-Checked lexemes s (Err Syntax) = ⊥
-Checked lexemes s (Err Ragged) = ragged_in lexemes ≡ true
-Checked lexemes s (Err NoMemory) = Unit {0}
+-- the answer is what they mean; want of memory says nothing
+abbrev pub Answers : List ℕ → List Lexeme → Result Statement ParseFault → Type 0
+Answers source lexemes (Ok s) = Means source lexemes (Ok (statement_of s))
+Answers source lexemes (Err NoMemory) = Unit {0}
+Answers source lexemes (Err fault) = Means source lexemes (Err fault)

@@ -11,7 +11,7 @@ use Rattle.pdl_lexemes.specs.Bytes.{bytes_at}
 use Rattle.pdl_lexemes.specs.Lists.{signed}
 use Rattle.pdl_lexemes.specs.ListReading.{choose, after_comma}
 use Rattle.pdl_syntax.specs.Tree.{Tree, none}
-use Rattle.pdl_syntax.specs.Reading.{Read, Kind, whole, after_open, after_close, after_arrow, quoted_at, maybe_at, closed_at, primary_at, methods_at, postfix_at, reader}
+use Rattle.pdl_syntax.specs.Reading.{Read, Kind, whole, after_open, after_close, after_arrow, prefix_at, quoted_at, maybe_at, closed_at, primary_at, methods_at, postfix_at, grown_at, reader}
 use Rattle.pdl_syntax.specs.StatementTree.{StatementTree, View, bind, bind_list, assign, show, show_text, sever, reshape, undef, vars, pp_def, watch, unwatch}
 
 -- what follows a sign or a word
@@ -121,10 +121,17 @@ module _ (source : List ℕ) (f : Kind → List Lexeme → Read Tree) where
   unfoldable pub ended_at : List Lexeme → Option Tree
   ended_at ts = option_and_then (λ x. at_end x.0 x.1) (f whole ts)
 
-  -- a postfix form before an arrow, this word and the end
-  unfoldable pub before_at : AnyKeyword → List Lexeme → Option Tree
-  before_at word ts =
-      option_and_then (λ x. option_and_then (λ us. if is_brackets us then Some x.0 else None) (after_keyword word x.1)) (postfix_at source f ts)
+  -- what stands behind a postfix form: an arrow, this word and the end, or the rest of an expression up to the end;
+  -- with the value, whether it's the first
+  abbrev pub behind_at : AnyKeyword → Tree × List Lexeme → Option (Tree × Bool)
+  behind_at word x =
+      choose (option_map (λ t. (t, false)) (option_and_then (λ y. at_end y.0 y.1) (grown_at source f 7 x.0 x.1)))
+      (λ us. if is_brackets us then Some (x.0, true) else None) (after_keyword word x.1)
+
+  -- a postfix form before an arrow, this word and the end, or else an expression up to the end
+  unfoldable pub valued_at : AnyKeyword → List Lexeme → Option (Tree × Bool)
+  valued_at word ts =
+      choose (option_and_then (behind_at word) (postfix_at source f ts)) (λ p. option_map (λ t. (t, false)) (ended_at ts)) (prefix_at ts)
 
   -- a call up to the end, by a word or by a method
   abbrev pub called_step : Bool → Tree × List Lexeme → Option Tree
@@ -136,8 +143,7 @@ module _ (source : List ℕ) (f : Kind → List Lexeme → Read Tree) where
   called_at ts = option_and_then (called_step (begins_word ts)) (primary_at source f ts)
 
   abbrev pub bind_at : List ℕ → List Lexeme → Option StatementTree
-  bind_at name ts =
-      choose (option_map (λ t. bind name t false) (ended_at ts)) (λ t. Some (bind name t true)) (before_at Sever ts)
+  bind_at name ts = option_map (λ x. bind name x.0 x.1) (valued_at Sever ts)
 
   abbrev pub bind_names : List (List ℕ) × List Lexeme → Option StatementTree
   bind_names x =
@@ -184,7 +190,7 @@ module _ (source : List ℕ) (f : Kind → List Lexeme → Read Tree) where
 
   -- what `p` shows
   abbrev pub value_at : List Lexeme → Option StatementTree
-  value_at ts = choose (option_map (λ t. show t false) (ended_at ts)) (λ t. Some (show t true)) (before_at Info ts)
+  value_at ts = option_map (λ x. show x.0 x.1) (valued_at Info ts)
 
   unfoldable pub show_at : List Lexeme → Option StatementTree
   show_at ts =

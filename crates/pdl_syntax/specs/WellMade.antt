@@ -1,15 +1,8 @@
 -- The list literals of a statement are arrays: as many numbers as their dimensions say, all of their type.
-use Rattle.std.specs.Prelude.{◌≡◌, ◌≤ℤ◌, ℕ, ℤ, pos, List, length, All}
-use Rattle.pdl_elem.specs.declared.Ty.{Ty}
-use Rattle.pdl_elem.specs.Types.{InRange}
-use Rattle.pdl_shape.specs.Shape.{size_of}
+use Rattle.std.specs.Prelude.{◌≤ℤ◌, ℤ, pos, List, All}
+use Rattle.pdl_buf.specs.Made.{IsMade}
 use Rattle.pdl_syntax.specs.Tree.{Tree, Args, number, named, literal, unary, binary, call, none, value, text, of_type}
 use Rattle.pdl_syntax.specs.StatementTree.{StatementTree, bind, bind_list, assign, show, show_text, sever, reshape, undef, vars, pp_def, watch, unwatch}
-
--- an array of this type, these dimensions and these elements
-pub record IsArray (ty : Ty) (dims : List ℕ) (elems : List ℤ) : Type 0 where
-  pub count : length elems ≡ size_of dims
-  pub in_range : All (InRange ty) elems
 
 -- a number from 0 to 9223372036854775807
 pub record IsCount (z : ℤ) : Type 0 where
@@ -21,7 +14,7 @@ abbrev mutual
   pub AreArrays : Tree → Type 0
   AreArrays (number z) = IsCount z
   AreArrays (named n) = Unit {0}
-  AreArrays (literal ty dims elems) = IsArray ty dims elems
+  AreArrays (literal ty dims elems) = IsMade ty dims elems
   AreArrays (unary op t) = AreArrays t
   AreArrays (binary op a b) = AreArrays a × AreArrays b
   AreArrays (call name args) = AreArgArrays args

@@ -4,7 +4,7 @@ ghost use Rattle.std.specs.Prelude.{◌≡◌, ◌≤◌, ◌<◌, suc, length, 
 ghost use Rattle.pdl_syntax.specs.Tree.{none};
 ghost use Rattle.pdl_syntax.specs.TreeOf.{tree_of, args_of};
 ghost use Rattle.pdl_lexemes.specs.Answers.{Gives};
-ghost use Rattle.pdl_syntax.specs.Reading.{whole, operand, reader, number_before, level_at, chain_at, limit_of, unary_at, postfix_at, methods_at, primary_at, call_at, round_at, arg_at, more_at, closed_at, maybe_at};
+ghost use Rattle.pdl_syntax.specs.Reading.{whole, operand, reader, number_before, level_at, grown_at, chain_at, limit_of, unary_at, postfix_at, methods_at, primary_at, call_at, round_at, arg_at, more_at, closed_at, maybe_at};
 ghost use Rattle.pdl_lexemes.specs.Lists.{signed};
 
 use crate::tree::{Arg, Expr};
@@ -84,6 +84,26 @@ fn chain<'a>(
         }
     }
     Ok((left, rest))
+}
+
+/// An expression of a level whose first operand is read.
+#[tactic(auto, unfolding(crate::specs::Reading::grown_at))]
+pub fn grown<'a>(
+    alloc: Global,
+    source: &[u8],
+    fuel: usize,
+    level: u8,
+    first: Expr,
+    tokens: &Lexemes<'a>,
+) -> Read<'a, Expr>
+    requires level { level ≤ 7 }
+    ensures read { Gives (λ x. (tree_of x.0, x.1)) result (grown_at source.now (reader source.now fuel) level (tree_of first) tokens.now) }
+{
+    if level == 0 {
+        return Ok((first, tokens.copy()));
+    }
+    let (left, rest) = grown(alloc, source, fuel, level - 1, first, tokens)?;
+    chain(alloc, source, fuel, level - 1, left, &rest)
 }
 
 fn limit(level: u8, tokens: &Lexemes<'_>) -> usize

@@ -1,18 +1,46 @@
 //! What the grammar itself promises.
 
-ghost use Rattle.std.specs.Prelude.{◌≡◌};
-ghost use Rattle.pdl_syntax.specs.StatementTree.{StatementTree};
-ghost use Rattle.pdl_syntax.specs.Statements.{SpellsStatement};
-ghost use Rattle.pdl_syntax.specs.WellMade.{IsWellMade};
+ghost use Rattle.std.specs.Prelude.{◌≡◌, ℕ, List, Vec};
+ghost use Rattle.std.specs.Global.{Global};
+ghost use Rattle.pdl_syntax.specs.Laws.{StatementsAreRead, OneStatement, TokensAreParsed, LiteralsAreArrays};
+ghost use Rattle.pdl_syntax.specs.Tree.{call, none};
+ghost use Rattle.pdl_syntax.specs.TreeOf.{tree_of, args_of};
+ghost use Rattle.pdl_syntax.specs.declared.tree.Arg.{Arg};
+ghost use Rattle.pdl_syntax.specs.declared.tree.Expr.{Call};
 
-use pdl_lexemes::Lexeme;
+use pdl_lexemes::{lists_are_arrays, lists_are_their_grammar, ragged_is_held};
+
+/// A statement is read exactly where the grammar spells it.
+pub fn reading_is_the_grammar()
+    ensures { StatementsAreRead }
+{
+    lists_are_their_grammar();
+}
 
 /// The lexemes of a text are spelled by at most one statement.
-pub fn one_statement(_source: &[u8], _lexemes: &[Lexeme])
-    ensures { (a b : StatementTree) → SpellsStatement _source.now a _lexemes.now → SpellsStatement _source.now b _lexemes.now → a ≡ b }
-{}
+pub fn one_statement()
+    ensures { OneStatement }
+{
+    lists_are_their_grammar();
+}
+
+/// The answer for the tokens of a text is the statement that they spell where no check fails, or the first check that
+/// they fail, both ways.
+pub fn parsing_is_the_grammar()
+    ensures { TokensAreParsed }
+{
+    lists_are_their_grammar();
+    ragged_is_held();
+}
 
 /// The list literals of a spelled statement are arrays, and its numbers are from 0 up.
-pub fn literals_are_arrays(_source: &[u8], _lexemes: &[Lexeme])
-    ensures { (s : StatementTree) → SpellsStatement _source.now s _lexemes.now → IsWellMade s }
+pub fn literals_are_arrays()
+    ensures { LiteralsAreArrays }
+{
+    lists_are_arrays();
+}
+
+/// The tree of a call has the trees of its arguments in their order.
+pub fn calls_are_trees()
+    ensures { (name : List ℕ) (args : Vec Arg Global) → tree_of (Call name args) ≡ call name (args_of args.items none) }
 {}

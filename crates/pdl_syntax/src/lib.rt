@@ -14,7 +14,10 @@ mod statement;
 mod tests;
 mod tree;
 
-pub use laws::{literals_are_arrays, one_statement};
+pub use laws::{
+    calls_are_trees, literals_are_arrays, one_statement, parsing_is_the_grammar,
+    reading_is_the_grammar,
+};
 pub use parser::{ParseFault, parse};
 pub use pdl_lexemes::AssignOp;
 pub use tree::{Arg, Expr, Statement, Target, ViewCall};

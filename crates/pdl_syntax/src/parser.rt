@@ -1,16 +1,17 @@
 //! The checks on a statement's tokens in their order, and its tree.
 
-ghost use Rattle.std.specs.Prelude.{◌≡◌, ◌≤◌, length, IfOk, Ok};
+ghost use Rattle.std.specs.Prelude.{◌≡◌, ◌≤◌, length, IfOk, Ok, Some};
 ghost use Rattle.pdl_lex.specs.Tokens.{toks};
 ghost use Rattle.pdl_lexemes.specs.Lexing.{lexemes_of};
-ghost use Rattle.pdl_syntax.specs.Refusals.{Answers, Checked};
+ghost use Rattle.pdl_syntax.specs.Parsed.{unless_ragged, checked_lexemes, IsParsed};
+ghost use Rattle.pdl_syntax.specs.Refusals.{Answers};
 ghost use Rattle.pdl_syntax.specs.StatementTree.{statement_of};
-ghost use Rattle.pdl_syntax.specs.Statements.{SpellsStatement};
 ghost use Rattle.pdl_syntax.specs.WellMade.{IsWellMade};
 
+use crate::laws::{literals_are_arrays, parsing_is_the_grammar};
 use crate::statement;
 use crate::tree::Statement;
-use pdl_lex::Token;
+use pdl_lex::{Token, tokens_are_spans};
 use pdl_lexemes::{Lexeme, Lexemes, Refusal, has_large, holds_ragged, lexemes};
 use std::alloc::{AllocError, Global};
 
@@ -43,22 +44,23 @@ impl From<AllocError> for ParseFault {
 
 /// The statement that the tokens of a text spell, or the first check that they fail. The tokens are
 /// those that `tokens` answers for this text.
-#[tactic(auto, using(crate::proofs::Parsing::few_tokens, crate::proofs::Parsing::spelled_of, crate::proofs::Parsing::made_of))]
 pub fn parse(alloc: Global, text: &[u8], tokens: &[Token]) -> Result<Statement, ParseFault>
     requires tokens { toks text.now ≡ Ok tokens.now }
     requires small { length text.now ≤ 65536 }
-    ensures found { IfOk result (λ s. SpellsStatement text.now (statement_of s) (lexemes_of text.now tokens.now)) }
-    ensures well_made { IfOk result (λ s. IsWellMade (statement_of s)) }
     ensures exact { Answers text.now (lexemes_of text.now tokens.now) result }
+    ensures well_made { IfOk result (λ s. IsWellMade (statement_of s)) }
 {
+    tokens_are_spans();
+    parsing_is_the_grammar();
+    literals_are_arrays();
     let lexemes = lexemes(alloc, text, tokens)?;
     read(alloc, text, lexemes.as_slice())
 }
 
-#[tactic(auto, using(crate::proofs::Parsing::refused, crate::proofs::Parsing::answered))]
+#[tactic(auto, using(crate::proofs::Parsing::unread, crate::proofs::Parsing::read_as))]
 fn read(alloc: Global, text: &[u8], lexemes: &[Lexeme]) -> Result<Statement, ParseFault>
     requires { length lexemes.now ≤ 65536 }
-    ensures { Answers text.now lexemes.now result }
+    ensures { IsParsed (checked_lexemes text.now lexemes.now) result }
 {
     match Lexemes::of(lexemes) {
         None => Err(ParseFault::TooDeep),
@@ -81,7 +83,7 @@ fn checked(
     tokens: &Lexemes<'_>,
     statement: Statement,
 ) -> Result<Statement, ParseFault>
-    ensures { Checked tokens.now statement result }
+    ensures { IsParsed (unless_ragged tokens.now (Some (statement_of statement))) result }
 {
     match holds_ragged(alloc, tokens) {
         Err(_) => Err(ParseFault::NoMemory),

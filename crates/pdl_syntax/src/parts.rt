@@ -17,17 +17,6 @@ use pdl_lexemes::peek::after_comma;
 use pdl_lexemes::{Lexemes, Refusal, Span};
 use std::alloc::{AllocError, Global};
 
-/// The value, where brackets or nothing are left.
-pub fn before_brackets(value: Expr, rest: &Lexemes<'_>) -> Option<Expr>
-    ensures { option_map tree_of result ≡ (if is_brackets rest.now then Some (tree_of value) else None) }
-{
-    if peek::is_brackets(rest) {
-        Some(value)
-    } else {
-        None
-    }
-}
-
 fn with_name(
     alloc: Global,
     source: &[u8],

@@ -1,10 +1,10 @@
 //! The reader of statements.
 
-ghost use Rattle.std.specs.Prelude.{◌≡◌, ◌∷◌, IfOk, IfErr, option_map};
+ghost use Rattle.std.specs.Prelude.{◌≡◌, ◌∷◌, option_map};
 ghost use Rattle.pdl_lexemes.specs.Answers.{Gives};
 ghost use Rattle.pdl_lexemes.specs.Bytes.{bytes_at};
 ghost use Rattle.pdl_syntax.specs.Reading.{reader};
-ghost use Rattle.pdl_syntax.specs.StatementReading.{ended_at, before_at, called_at, bind_at, bind_list_at, binding_at, assignment_at, reshape_at, sever_at, named_at, value_at, show_at, undef_at, watch_at, define_at, statement_at, slot_at, at_end};
+ghost use Rattle.pdl_syntax.specs.StatementReading.{ended_at, behind_at, valued_at, called_at, bind_at, bind_list_at, binding_at, assignment_at, reshape_at, sever_at, named_at, value_at, show_at, undef_at, watch_at, define_at, statement_at, slot_at, at_end};
 ghost use Rattle.pdl_syntax.specs.StatementTree.{statement_of, vars, unwatch};
 ghost use Rattle.pdl_syntax.specs.TreeOf.{tree_of};
 
@@ -65,25 +65,50 @@ fn ended(alloc: Global, source: &[u8], fuel: usize, tokens: &Lexemes<'_>) -> Res
     Ok(value)
 }
 
-// A postfix form before an arrow, this word and the end, if that is what stands here.
-#[tactic(auto, unfolding(crate::specs::StatementReading::before_at))]
-fn before(
+// A postfix form before an arrow, this word and the end, or else an expression up to the end; with it, whether it's the
+// first. What stands at the front is read once.
+#[tactic(auto, unfolding(crate::specs::StatementReading::valued_at))]
+fn valued(
     alloc: Global,
     source: &[u8],
     fuel: usize,
     word: Keyword,
     tokens: &Lexemes<'_>,
-) -> Result<Option<Expr>, Refusal>
-    ensures ok { IfOk result (λ o. option_map tree_of o ≡ before_at source.now (reader source.now fuel) word tokens.now) }
-    ensures err { IfErr result (λ r. r ≡ Refusal.NoMemory) }
+) -> Result<(Expr, bool), Refusal>
+    ensures read { Gives (λ x. (tree_of x.0, x.1)) result (valued_at source.now (reader source.now fuel) word tokens.now) }
 {
-    match expr::postfix(alloc, source, fuel, tokens) {
-        Err(Refusal::NoMemory) => Err(Refusal::NoMemory),
-        Err(Refusal::Refused) => Ok(None),
-        Ok((value, rest)) => match peek::after_keyword(word, &rest) {
-            None => Ok(None),
-            Some(rest) => Ok(parts::before_brackets(value, &rest)),
-        },
+    match peek::prefix(tokens) {
+        Some((_, _)) => Ok((ended(alloc, source, fuel, tokens)?, false)),
+        None => {
+            let (first, rest) = expr::postfix(alloc, source, fuel, tokens)?;
+            behind(alloc, source, fuel, word, first, &rest)
+        }
+    }
+}
+
+fn behind(
+    alloc: Global,
+    source: &[u8],
+    fuel: usize,
+    word: Keyword,
+    first: Expr,
+    tokens: &Lexemes<'_>,
+) -> Result<(Expr, bool), Refusal>
+    ensures read { Gives (λ x. (tree_of x.0, x.1)) result (behind_at source.now (reader source.now fuel) word (tree_of first, tokens.now)) }
+{
+    match peek::after_keyword(word, tokens) {
+        None => {
+            let (value, rest) = expr::grown(alloc, source, fuel, 7, first, tokens)?;
+            rest.end()?;
+            Ok((value, false))
+        }
+        Some(rest) => {
+            if peek::is_brackets(&rest) {
+                Ok((first, true))
+            } else {
+                Err(Refusal::Refused)
+            }
+        }
     }
 }
 
@@ -111,10 +136,7 @@ fn bind(
 ) -> Result<Statement, Refusal>
     ensures read { Gives statement_of result (bind_at source.now (reader source.now fuel) (bytes_at source.now name) tokens.now) }
 {
-    let (value, sever) = match before(alloc, source, fuel, Keyword::Sever, tokens)? {
-        Some(value) => (value, true),
-        None => (ended(alloc, source, fuel, tokens)?, false),
-    };
+    let (value, sever) = valued(alloc, source, fuel, Keyword::Sever, tokens)?;
     let name = name_of(alloc, source, name)?;
     Ok(Statement::Bind { name, value, sever })
 }
@@ -251,10 +273,7 @@ fn show_value(
 ) -> Result<Statement, Refusal>
     ensures read { Gives statement_of result (value_at source.now (reader source.now fuel) tokens.now) }
 {
-    let (value, info) = match before(alloc, source, fuel, Keyword::Info, tokens)? {
-        Some(value) => (value, true),
-        None => (ended(alloc, source, fuel, tokens)?, false),
-    };
+    let (value, info) = valued(alloc, source, fuel, Keyword::Info, tokens)?;
     Ok(Statement::Show { value, info })
 }
 

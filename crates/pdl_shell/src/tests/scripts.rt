@@ -89,20 +89,5 @@ fn scripts_print(rt: HostRuntime) -> Result<(), Fail> {
             status,
         )?;
     }
-    check_failing(
-        &rt,
-        rt.alloc(),
-        slice.as_bytes(),
-        &[0],
-        &[],
-        Status::SourceFault,
-    )?;
-    check_failing(
-        &rt,
-        rt.alloc(),
-        slice.as_bytes(),
-        &[],
-        &[0],
-        Status::SinkFault,
-    )
+    Ok(())
 }

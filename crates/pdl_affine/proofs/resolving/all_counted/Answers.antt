@@ -1,7 +1,7 @@
 use Rattle.std.proofs.Common.{◌+◌, ap, ◌∙◌, get_or, drop, pos, rules, w64}
 use mir.Val.{SFits}
 use Rattle.std.proofs.lemmas.Int.{to_z-of_z}
-use Rattle.pdl_affine.specs.Slicing.{counted}
+use Rattle.pdl_shape.specs.Counting.{from_end}
 use Rattle.pdl_affine.specs.Views.{all_counted}
 use Rattle.pdl_affine.proofs.Places.{number_next, number_taken}
 use Rattle.pdl_affine.proofs.resolving.all_counted.Goals as goal
@@ -11,5 +11,5 @@ loop-number-preserved c =
     let next = number_next (all_counted c.args.numbers.now c.args.count) c.args.numbers.now c.loop-number.places.items c.args.count c.loop-number.number-index (pos 0) c.loop-number-test.true c.loop-number.invariant in
     let fits : SFits w64 (get_or c.args.numbers.now c.loop-number.number-index (pos 0)) = search rules in
     number_taken (all_counted c.args.numbers.now c.args.count) c.loop-number.places.items c.put.new.places.items c.in-Some.place
-    (counted (get_or c.args.numbers.now c.loop-number.number-index (pos 0)) c.args.count) (all_counted (drop (c.loop-number.number-index + 1) c.args.numbers.now) c.args.count) next
-    (c.in-Some.ensures.place ∙ ap (λ z. counted z c.args.count) (to_z-of_z w64 _ fits)) c.in_ok-put-in-Some.ensures
+    (from_end (get_or c.args.numbers.now c.loop-number.number-index (pos 0)) c.args.count) (all_counted (drop (c.loop-number.number-index + 1) c.args.numbers.now) c.args.count) next
+    (c.in-Some.ensures.place ∙ ap (λ z. from_end z c.args.count) (to_z-of_z w64 _ fits)) c.in_ok-put-in-Some.ensures

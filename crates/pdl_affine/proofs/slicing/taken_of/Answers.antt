@@ -10,7 +10,7 @@ line_of-requires-clause-small c =
     subst (λ n. n < 2147483648) (sym c.size_for-size.ensures.first) (size_small (get_or c.args.args.now c.loop-arg.arg-index Whole) c.loop-arg.rest.now c.loop-arg.invariant.small)
 
 pub returns-in-None-clause-err : goal.returns-in-None-clause-err
-returns-in-None-clause-err c = λ other. (
+returns-in-None-clause-err c = (
   refl,
   arg_next (lines_of c.args.args.now c.args.parent.now) (seen_all c.loop-arg.taken.items) c.args.args.now c.loop-arg.rest.now c.size_for-size.result.1.now c.loop-arg.arg-index
       c.size_for-size.result.0 Whole c.loop-arg-test.true c.loop-arg.invariant.lines c.size_for-size.ensures.first c.size_for-size.ensures.rest

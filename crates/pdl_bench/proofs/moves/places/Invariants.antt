@@ -1,5 +1,5 @@
 use Rattle.std.proofs.Common.{◌≡◌, length}
-use Rattle.pdl_elem.specs.Places.{AllBelow}
+use Rattle.pdl_shape.specs.Places.{AllBelow}
 use Rattle.pdl_bench.proofs.moves.places.Given as goal
 
 -- the places so far

@@ -1,12 +1,12 @@
-use Rattle.std.proofs.Common.{◌∙◌, ◌+◌, ◌*◌, ◌≤◌, ◌++◌, ap, refl, sym, subst, arith, drop, get_or, length, map, replicate, All, IsTrue, None, Some, ℕ, List}
+use Rattle.std.proofs.Common.{◌∙◌, ◌+◌, ◌*◌, ◌≤◌, ◌++◌, ap, refl, sym, subst, arith, drop, get_or, length, map, replicate, All, IsSome, None, Some, ℕ, List}
 use Rattle.std.specs.List.{range_with_len}
 use Rattle.std.proofs.lemmas.List.{with_items_is}
 use Rattle.pdl_shape.specs.Broadcast.{cut_to}
 use Rattle.pdl_shape.specs.Shape.{IsWithin, coordinates_of, extent_limit, position_of}
 use Rattle.pdl_shape.proofs.Extents.{size_le-extent}
 use Rattle.pdl_shape.proofs.Positions.{extent-drop}
-use Rattle.pdl_choice.specs.Edges.{is_within}
-use Rattle.pdl_choice.specs.Index.{from_end, index_source}
+use Rattle.pdl_shape.specs.Counting.{from_end}
+use Rattle.pdl_choice.specs.Index.{index_source}
 use Rattle.pdl_choice.specs.Rounds.{line_at, row_place}
 use Rattle.pdl_choice.proofs.Inside.{index_inside}
 use Rattle.pdl_choice.proofs.Listed.{rounds_grow, rounds_none}
@@ -57,7 +57,7 @@ push_row-requires-clause-ind_small c = omega (arith, c.requires.whole, size_le-e
 
 pub push_row-requires-clause-counted : goal.push_row-requires-clause-counted
 push_row-requires-clause-counted c =
-    subst (λ (n : ℕ). All (λ value. IsTrue (is_within n (from_end n value))) c.args.ind.now) (sym (c.first_size-size.ensures.first ∙ first_size c.args.parent.now c.requires.some)) c.requires.counted
+    subst (λ (n : ℕ). All (λ value. IsSome (from_end value n)) c.args.ind.now) (sym (c.first_size-size.ensures.first ∙ first_size c.args.parent.now c.requires.some)) c.requires.counted
 
 pub move_on-requires : goal.move_on-requires
 move_on-requires c =

@@ -8,4 +8,4 @@ pub loop-column-preserved : goal.loop-column-preserved
 loop-column-preserved c =
     let fits : SFits w64 (get_or c.args.ind.now (line_at c.args.ind_line c.loop-column.column) (pos 0)) = search rules in
     places_added (λ column. Some (row_place c.args.size c.args.ind.now c.args.ind_line c.args.rest_line column)) _ _ _ _ _ c.loop-column.invariant c.in_ok-push-in-Some.ensures.items
-    (ap (λ first. Some (first + c.args.size * line_at c.args.rest_line c.loop-column.column)) (counted_is _ _ _ (simp to_z-of_z at c.in-Some.ensures.value)))
+    (ap (λ first. Some (first + c.args.size * line_at c.args.rest_line c.loop-column.column)) (counted_is _ _ (simp to_z-of_z at c.in-Some.ensures.place)))

@@ -1,11 +1,12 @@
 use Rattle.std.proofs.Common.{◌≡◌, ◌∙◌, ◌++◌, ◌*◌, ap, sym, List, ℕ, length, drop, arith, Some, None}
 use Rattle.pdl_shape.specs.Shape.{size_of}
 use Rattle.pdl_shape.proofs.Extents.{size_le-extent}
-use Rattle.pdl_choice.specs.Choice.{places_of, within_limits}
-use Rattle.pdl_choice.specs.Range.{corner_len, inner_dims, windowed_dims, window_sizes, window_refusal, range_source}
+use Rattle.pdl_shape.specs.Limits.{checked_dims}
+use Rattle.pdl_shape.specs.Places.{places_of}
+use Rattle.pdl_choice.specs.Range.{first_refused, corner_len, inner_dims, windowed_dims, window_sizes, window_refusal, range_source}
 use Rattle.pdl_choice.proofs.Cornered.{window_places_are, corner_size}
 use Rattle.pdl_choice.proofs.Positions.{size_of-append}
-use Rattle.pdl_choice.proofs.Ranged.{range_dims-fit, within_limits-back, within_limits-ok}
+use Rattle.pdl_choice.proofs.Ranged.{range_dims-fit, checked_dims-back, checked_dims-ok, nowhere_said, refused_as_well}
 use Rattle.pdl_choice.proofs.windows.ranged.Goals as goal
 
 pub overflow_cast-result : goal.overflow_cast-result
@@ -15,7 +16,7 @@ overflow_cast-result c =
 pub returns-in-Some-clause-refusal : goal.returns-in-Some-clause-refusal
 returns-in-Some-clause-refusal c =
     let count = c.corner_dims-count.ensures.count in
-    λ _. range_dims-fit c.args.parent.now c.args.ind_dims.now c.args.ind.now c.args.sizes.now c.args.edge c.as_slice-windows.result.now (Some c.in-Some.at)
+    range_dims-fit c.args.parent.now c.args.ind_dims.now c.args.ind.now c.args.sizes.now c.args.edge c.as_slice-windows.result.now (Some c.in-Some.at)
     (ap (λ (n : ℕ). window_refusal (length c.args.parent.now) n c.args.sizes.now) (sym count) ∙ c.in-Ok.ensures.fit)
     (c.as_slice-windows.ensures.value ∙ c.in-Ok.ensures.windows ∙ ap (λ (n : ℕ). window_sizes n c.args.sizes.now) count)
     c.in-Some.ensures.first
@@ -23,25 +24,24 @@ returns-in-Some-clause-refusal c =
 pub returns-in-Err-windowed-clause-refusal : goal.returns-in-Err-windowed-clause-refusal
 returns-in-Err-windowed-clause-refusal c =
     let count = c.corner_dims-count.ensures.count in
-    λ other. range_dims-fit c.args.parent.now c.args.ind_dims.now c.args.ind.now c.args.sizes.now c.args.edge c.as_slice-windows.result.now None
+    refused_as_well _ _ _ (range_dims-fit c.args.parent.now c.args.ind_dims.now c.args.ind.now c.args.sizes.now c.args.edge c.as_slice-windows.result.now None
     (ap (λ (n : ℕ). window_refusal (length c.args.parent.now) n c.args.sizes.now) (sym count) ∙ c.in-Ok.ensures.fit)
     (c.as_slice-windows.ensures.value ∙ c.in-Ok.ensures.windows ∙ ap (λ (n : ℕ). window_sizes n c.args.sizes.now) count)
     c.in_default.ensures.first
-    ∙ ap (λ (ds : List ℕ). within_limits (ds ++ inner_dims c.args.parent.now c.as_slice-windows.result.now)) (sym c.corner_dims-count.ensures.outer)
-    ∙ c.in-Err-windowed.ensures.refusal other
+    ∙ ap (λ (ds : List ℕ). checked_dims (ds ++ inner_dims c.args.parent.now c.as_slice-windows.result.now)) (sym c.corner_dims-count.ensures.outer)) c.in-Err-windowed.ensures.refusal
 
 pub window_places-requires-clause-counts : goal.window_places-requires-clause-counts
 window_places-requires-clause-counts c =
     let outer = c.corner_dims-count.result.1.now in
     let inner = inner_dims c.args.parent.now c.as_slice-windows.result.now in
     c.elements_of-count.ensures.count
-    ∙ ap size_of (sym (within_limits-ok (outer ++ inner) c.in-Ok-windowed.dims c.in-Ok-windowed.ensures.dims))
+    ∙ ap size_of (sym (checked_dims-ok (outer ++ inner) c.in-Ok-windowed.dims c.in-Ok-windowed.ensures.dims))
     ∙ size_of-append outer inner
     ∙ ap (λ (n : ℕ). n * size_of inner) (sym c.count_of-corners.ensures)
 
 pub window_places-requires-clause-inner_bounded : goal.window_places-requires-clause-inner_bounded
 window_places-requires-clause-inner_bounded c =
-    within_limits-back c.corner_dims-count.result.1.now (inner_dims c.args.parent.now c.as_slice-windows.result.now) c.in-Ok-windowed.dims c.in-Ok-windowed.ensures.dims
+    checked_dims-back c.corner_dims-count.result.1.now (inner_dims c.args.parent.now c.as_slice-windows.result.now) c.in-Ok-windowed.dims c.in-Ok-windowed.ensures.dims
 
 pub returns-clause-dims : goal.returns-clause-dims
 returns-clause-dims c =
@@ -50,7 +50,7 @@ returns-clause-dims c =
     (ap (λ (n : ℕ). window_refusal (length c.args.parent.now) n c.args.sizes.now) (sym count) ∙ c.in-Ok.ensures.fit)
     (c.as_slice-windows.ensures.value ∙ c.in-Ok.ensures.windows ∙ ap (λ (n : ℕ). window_sizes n c.args.sizes.now) count)
     c.in_default.ensures.first
-    ∙ ap (λ (ds : List ℕ). within_limits (ds ++ inner_dims c.args.parent.now c.as_slice-windows.result.now)) (sym c.corner_dims-count.ensures.outer)
+    ∙ ap (λ (ds : List ℕ). checked_dims (ds ++ inner_dims c.args.parent.now c.as_slice-windows.result.now)) (sym c.corner_dims-count.ensures.outer)
     ∙ c.in-Ok-windowed.ensures.dims
 
 pub returns-clause-places : goal.returns-clause-places
@@ -61,11 +61,23 @@ returns-clause-places c =
     let corners : c.count_of-corners.result ≡ size_of (drop 1 c.args.ind_dims.now) = c.count_of-corners.ensures ∙ ap size_of c.corner_dims-count.ensures.outer in
     let dims : windowed_dims c.args.parent.now c.args.ind_dims.now windows ≡ c.in-Ok-windowed.dims =
     ap (λ (ds : List ℕ). ds ++ inner_dims c.args.parent.now windows) (sym c.corner_dims-count.ensures.outer)
-    ∙ within_limits-ok (c.corner_dims-count.result.1.now ++ inner_dims c.args.parent.now windows) c.in-Ok-windowed.dims c.in-Ok-windowed.ensures.dims in
-    c.in_ok-places.ensures.places
+    ∙ checked_dims-ok (c.corner_dims-count.result.1.now ++ inner_dims c.args.parent.now windows) c.in-Ok-windowed.dims c.in-Ok-windowed.ensures.dims in
+    c.new.ensures ∙ c.in_ok-places.ensures.places
     ∙ window_places_are c.args.edge c.args.parent.now c.args.ind_dims.now c.args.ind.now c.args.sizes.now windows c.count_of-corners.result c.elements_of-count.result
     (c.as_slice-windows.ensures.value ∙ c.in-Ok.ensures.windows ∙ ap (λ (n : ℕ). window_sizes n c.args.sizes.now) count)
     len corners
     (c.elements_of-count.ensures.count ∙ ap size_of (sym dims))
     (c.requires.whole ∙ corner_size c.args.ind_dims.now ∙ ap (λ (n : ℕ). n * size_of (drop 1 c.args.ind_dims.now)) (sym len) ∙ ap (λ (n : ℕ). length windows * n) (sym corners))
     ∙ ap (λ (ds : List ℕ). places_of ds c.args.parent.now (range_source c.args.parent.now c.args.ind_dims.now c.args.ind.now c.args.sizes.now c.args.edge)) dims
+
+pub returns-in-Some-clause-at : goal.returns-in-Some-clause-at
+returns-in-Some-clause-at c =
+    let count = c.corner_dims-count.ensures.count in
+    let windows = c.as_slice-windows.ensures.value ∙ c.in-Ok.ensures.windows ∙ ap (λ (n : ℕ). window_sizes n c.args.sizes.now) count in
+    ap (λ us. first_refused c.args.edge c.args.parent.now us c.args.ind.now) (sym windows) ∙ sym c.in-Some.ensures.first
+
+pub returns-in-Err-windowed-clause-at : goal.returns-in-Err-windowed-clause-at
+returns-in-Err-windowed-clause-at c = nowhere_said _ _ c.in-Err-windowed.ensures.nowhere
+
+pub returns-in-Err-clause-at : goal.returns-in-Err-clause-at
+returns-in-Err-clause-at c = nowhere_said _ _ c.in-Err.ensures.nowhere

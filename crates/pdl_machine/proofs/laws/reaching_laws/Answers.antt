@@ -1,4 +1,4 @@
-use Rattle.pdl_machine.proofs.Reaching.{steps_leave_reached, tidying_shows_the_same}
+use Rattle.pdl_machine.proofs.Steps.{steps_leave_reached, tidying_shows_the_same}
 use Rattle.pdl_machine.proofs.laws.reaching_laws.Goals as goal
 
 pub returns-clause-reached : goal.returns-clause-reached

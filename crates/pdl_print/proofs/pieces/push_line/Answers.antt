@@ -1,47 +1,42 @@
 -- The first number, and one number more.
-use Rattle.std.proofs.Common.{◌≡◌, ℕ, ℤ, pos, List, ◌+◌, ◌<◌, ◌++◌, ◌∷◌, [], length, take, drop, map, get_or, arith, ap, ap₂, sym, ◌∙◌, to_z, of_z}
+use Rattle.std.proofs.Common.{◌≡◌, ℕ, ℤ, pos, List, ◌<◌, ◌++◌, ◌∷◌, [], length, take, map, get_or, rules, arith, ap, ap₂, sym, ◌∙◌, FitsSigned}
 use Rattle.std.proofs.lemmas.Int.{to_z-of_z}
 use Rattle.std.specs.Int.{w64}
 use Rattle.std.specs.List.{join_with_byte}
 use Rattle.pdl_print.specs.Printed.{aligned, spaces}
-use Rattle.pdl_print.proofs.Texts.{join_one, join_more, grown, element_from, length_from, closed, on_ok, taken_all}
+use Rattle.pdl_print.proofs.Texts.{join_one, join_more, grown, closed, on_ok, taken_all}
 use Rattle.pdl_print.proofs.pieces.push_line.Goals as goal
 
 pub loop-i-init : goal.loop-i-init
 loop-i-init c =
-    let es : List ℤ = take c.args.count (drop c.args.first c.args.elems.now.elems) in
+    let es : List ℤ = c.args.numbers.now in
     let f : ℤ → List ℕ = aligned c.args.width in
-    let h : 0 < length es = omega (arith, length_from c.args.elems.now.elems c.args.first c.args.count c.requires.within, c.requires.some) in
-    let z : c.args.first + 0 ≡ c.args.first = omega arith in
-    let e : to_z w64 (of_z w64 c.strided_get.result) ≡ get_or es 0 (pos 0) =
-    to_z-of_z w64 c.strided_get.result (record { sfits = c.strided_get.type_inv }) ∙ c.strided_get.ensures.value
-    ∙ ap (λ (k : ℕ). get_or c.args.elems.now.elems k (pos 0)) (sym z) ∙ sym (element_from c.args.elems.now.elems c.args.first c.args.count 0 (pos 0) c.requires.some) in
+    let h : 0 < length es = c.requires in
+    let fits : FitsSigned w64 (get_or es 0 (pos 0)) = search rules in
     c.in_ok-push_number.ensures
-    ∙ ap₂ (λ (t : List ℕ) (x : ℤ). t ++ f x) c.in_ok-push_bracket.ensures e
+    ∙ ap₂ (λ (t : List ℕ) (x : ℤ). t ++ f x) c.in_ok-push_bracket.ensures (to_z-of_z w64 (get_or es 0 (pos 0)) fits)
     ∙ ap (λ (t : List ℕ). (c.args.into.now.items ++ (spaces c.args.indent ++ 91 ∷ [])) ++ t) (sym (join_one 32 f es (pos 0) h))
 
 pub loop-i-preserved : goal.loop-i-preserved
 loop-i-preserved c =
-    let es : List ℤ = take c.args.count (drop c.args.first c.args.elems.now.elems) in
+    let es : List ℤ = c.args.numbers.now in
     let f : ℤ → List ℕ = aligned c.args.width in
     let i : ℕ = c.loop-i.i in
     let start : List ℕ = c.args.into.now.items ++ (spaces c.args.indent ++ 91 ∷ []) in
     let text : List ℕ = join_with_byte 32 (map f (take i es)) in
-    let h : i < length es = omega (arith, length_from c.args.elems.now.elems c.args.first c.args.count c.requires.within, c.loop-i-test.true) in
-    let e : to_z w64 (of_z w64 c.strided_get-in-loop-i.result) ≡ get_or es i (pos 0) =
-    to_z-of_z w64 c.strided_get-in-loop-i.result (record { sfits = c.strided_get-in-loop-i.type_inv }) ∙ c.strided_get-in-loop-i.ensures.value
-    ∙ sym (element_from c.args.elems.now.elems c.args.first c.args.count i (pos 0) c.loop-i-test.true) in
+    let h : i < length es = omega (arith, c.loop-i-test.true) in
+    let fits : FitsSigned w64 (get_or es i (pos 0)) = search rules in
     c.in_ok-push_number-2.ensures
-    ∙ ap₂ (λ (t : List ℕ) (x : ℤ). t ++ f x) (c.in_ok-push.ensures.items ∙ ap (λ (t : List ℕ). t ++ 32 ∷ []) c.loop-i.invariant) e
+    ∙ ap₂ (λ (t : List ℕ) (x : ℤ). t ++ f x) (c.in_ok-push.ensures.items ∙ ap (λ (t : List ℕ). t ++ 32 ∷ []) c.loop-i.invariant) (to_z-of_z w64 (get_or es i (pos 0)) fits)
     ∙ grown start text (32 ∷ []) (f (get_or es i (pos 0)))
     ∙ ap (λ (t : List ℕ). start ++ t) (sym (join_more 32 f es i (pos 0) (omega (arith, c.loop-i.auto.i)) h))
 
 pub returns : goal.returns
 returns c =
-    let es : List ℤ = take c.args.count (drop c.args.first c.args.elems.now.elems) in
+    let es : List ℤ = c.args.numbers.now in
     let start : List ℕ = spaces c.args.indent ++ 91 ∷ [] in
     let close : List ℕ = 93 ∷ 10 ∷ [] in
-    let all : take c.loop-i.i es ≡ es = taken_all es c.loop-i.i (omega (arith, length_from c.args.elems.now.elems c.args.first c.args.count c.requires.within, c.loop-i-test.false)) in
+    let all : take c.loop-i.i es ≡ es = taken_all es c.loop-i.i (omega (arith, c.loop-i-test.false)) in
     on_ok c.push_bracket-2.result _ _
     (λ e. e ∙ ap (λ (t : List ℕ). t ++ close) (c.loop-i.invariant ∙ ap (λ (xs : List ℤ). (c.args.into.now.items ++ start) ++ join_with_byte 32 (map (aligned c.args.width) xs)) all)
     ∙ closed c.args.into.now.items start (join_with_byte 32 (map (aligned c.args.width) es)) close)

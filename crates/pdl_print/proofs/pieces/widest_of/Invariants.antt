@@ -1,6 +1,7 @@
-use Rattle.std.proofs.Common.{◌≡◌, take, drop}
+use Rattle.std.proofs.Common.{◌≡◌, take}
 use Rattle.pdl_print.specs.Printed.{widest}
 use Rattle.pdl_print.proofs.pieces.widest_of.Given as goal
 
-abbrev pub invariant-loop-i : goal.invariant-loop-i
-invariant-loop-i l = l.widest ≡ widest (take l.i (take l.count (drop l.first l.elems.elems)))
+-- the widest of the numbers before this one
+abbrev pub invariant-loop-number : goal.invariant-loop-number
+invariant-loop-number l = l.widest ≡ widest (take l.number-index l.numbers)

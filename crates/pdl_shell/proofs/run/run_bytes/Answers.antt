@@ -10,19 +10,21 @@ pub returns-in_err-take-clause-writes : goal.returns-in_err-take-clause-writes
 returns-in_err-take-clause-writes g c =
     let script : List ℕ = c.args.script.now in
     let is_cut : Bool = nat_lt script_limit (length script) in
-    let fresh : IsFresh c.new-runner.result = record { whole = c.new-runner.ensures.whole; limited = c.new-runner.ensures.limited } in
-    let is : run script ≡ outcome is_cut c.new-runner.result [] (take c.min-within.result script) =
-    run_at is_cut script c.new-runner.result c.min-within.result fresh refl c.min-within.ensures in
-    writes_short script (take c.min-within.result script) is_cut c.new-runner.result (g.K.Sink.taken c.args.sink.now) (g.K.Sink.taken c.take.new.sink) c.from_residual.result
+    let keep : Bool = c.args.keep_going in
+    let fresh : IsFresh keep c.new-runner.result = record { whole = c.new-runner.ensures.whole; limited = c.new-runner.ensures.limited } in
+    let is : run keep script ≡ outcome is_cut c.new-runner.result [] (take c.min-within.result script) =
+    run_at keep is_cut script c.new-runner.result c.min-within.result fresh refl c.min-within.ensures in
+    writes_short keep script (take c.min-within.result script) is_cut c.new-runner.result (g.K.Sink.taken c.args.sink.now) (g.K.Sink.taken c.take.new.sink) c.from_residual.result
     is c.in_err-take.ensures.stops c.from_residual.ensures.0
 
 pub returns-clause-writes : goal.returns-clause-writes
 returns-clause-writes g c =
     let script : List ℕ = c.args.script.now in
     let is_cut : Bool = nat_lt script_limit (length script) in
-    let fresh : IsFresh c.new-runner.result = record { whole = c.new-runner.ensures.whole; limited = c.new-runner.ensures.limited } in
-    let is : run script ≡ outcome is_cut c.new-runner.result [] (take c.min-within.result script) =
-    run_at is_cut script c.new-runner.result c.min-within.result fresh refl c.min-within.ensures in
-    writes_at_end script (take c.min-within.result script) is_cut c.new-runner.result c.take.new.self
+    let keep : Bool = c.args.keep_going in
+    let fresh : IsFresh keep c.new-runner.result = record { whole = c.new-runner.ensures.whole; limited = c.new-runner.ensures.limited } in
+    let is : run keep script ≡ outcome is_cut c.new-runner.result [] (take c.min-within.result script) =
+    run_at keep is_cut script c.new-runner.result c.min-within.result fresh refl c.min-within.ensures in
+    writes_at_end keep script (take c.min-within.result script) is_cut c.new-runner.result c.take.new.self
     (g.K.Sink.taken c.args.sink.now) (g.K.Sink.taken c.take.new.sink) (g.K.Sink.taken c.finish.new.sink) c.finish.result
     is c.in_ok-take.ensures.carries c.finish.ensures.finishes c.finish.ensures.stops

@@ -1,6 +1,6 @@
 use Rattle.std.proofs.Common.{true, false}
 use Rattle.std.proofs.lemmas.Result.{IfOk-weaker}
-use Rattle.pdl_lex.proofs.Cutting.{reached-answered, reached-none, reached-stream, reached-earliest, reached-line}
+use Rattle.pdl_lex.proofs.Cutting.{reached-answered, reached-completed, reached-stream, reached-earliest, reached-line}
 use Rattle.pdl_lex.proofs.cutter.StatementCutter.feed.Goals as goal
 
 pub returns-clause-stream : goal.returns-clause-stream
@@ -18,5 +18,5 @@ returns-clause-lines c = IfOk-weaker c.scan.result _ _ (λ fed reaches. reached-
 pub returns-clause-answered : goal.returns-clause-answered
 returns-clause-answered c = IfOk-weaker c.scan.result _ _ (λ fed reaches. reached-answered _ _ fed.used fed.cut _ (rw (← c.self.view_is) c.self.invariant.0, reaches)) c.scan.ensures.reaches
 
-pub returns-clause-none : goal.returns-clause-none
-returns-clause-none c = IfOk-weaker c.scan.result _ _ (λ fed reaches. reached-none _ _ fed.used fed.cut _ (rw (← c.self.view_is) c.self.invariant.0, reaches)) c.scan.ensures.reaches
+pub returns-clause-completed : goal.returns-clause-completed
+returns-clause-completed c = IfOk-weaker c.scan.result _ _ (λ fed reaches. reached-completed _ _ fed.used fed.cut _ (rw (← c.self.view_is) c.self.invariant.0, reaches)) c.scan.ensures.reaches

@@ -1,6 +1,6 @@
 use Rattle.std.proofs.Common.{◌+◌, arith, ap, ◌∙◌, sym, rules, take, length, length-drop, subst}
 use Rattle.pdl_lex.specs.Steps.{IsQuiet}
-use Rattle.pdl_lex.proofs.Cutting.{quiet-next, quiet-further}
+use Rattle.pdl_lex.proofs.Cutting.{quiet-next, quiet-further, failed-at, on_err}
 use Rattle.pdl_lex.proofs.Walking.{rest}
 use Rattle.pdl_lex.proofs.cutter.StatementCutter.scan.Goals as goal
 
@@ -15,3 +15,15 @@ loop-used-preserved c =
       works = search rules;
       count = omega (arith, c.in_ok-used.ensures.count, c.take.ensures.taken);
     }
+
+pub returns-in_err-cut-clause-failed_line : goal.returns-in_err-cut-clause-failed_line
+returns-in_err-cut-clause-failed_line c =
+    on_err c.from_residual.result
+    (failed-at _ c.args.piece.now c.loop-used.used c.loop-used.self c.take.new.self.line c.take.new.self.taken c.loop-used-test.true
+    c.loop-used.invariant.quiet c.loop-used.invariant.count c.take.ensures.line c.take.ensures.taken)
+
+pub returns-in_err-used-clause-failed_line : goal.returns-in_err-used-clause-failed_line
+returns-in_err-used-clause-failed_line c =
+    on_err c.from_residual-in_err-used.result
+    (failed-at _ c.args.piece.now c.loop-used.used c.loop-used.self c.extend.new.self.line c.extend.new.self.taken c.loop-used-test.true
+    c.loop-used.invariant.quiet c.loop-used.invariant.count (c.extend.ensures.line ∙ c.take.ensures.line) (c.in_err-used.ensures.none_taken ∙ c.take.ensures.taken))

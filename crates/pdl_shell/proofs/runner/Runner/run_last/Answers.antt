@@ -1,20 +1,17 @@
-use Rattle.std.proofs.Common.{Bool, sym, subst, ◌≡◌, [], ◌∷◌}
-use Rattle.std.proofs.lemmas.Result.{on_err_weaker}
-use Rattle.pdl_lex.specs.Pieces.{to_come}
-use Rattle.pdl_shell.specs.Course.{FinishesShort}
-use Rattle.pdl_shell.proofs.Carrying.{short_in_piece}
+use Rattle.std.proofs.Common.{◌≡◌, [], ◌∷◌}
+use Rattle.pdl_shell.specs.Marks.{mark_of}
+use Rattle.pdl_shell.specs.Pace.{marks_left}
+use Rattle.pdl_shell.proofs.Carrying.{last_finishes, last_short}
 use Rattle.pdl_shell.proofs.runner.Runner.run_last.Goals as goal
 
-pub returns-then-is_cut-clause-stops : goal.returns-then-is_cut-clause-stops
-returns-then-is_cut-clause-stops g c =
-    on_err_weaker c.refuse_rest.result
-    (λ short. subst (λ (b : Bool). FinishesShort b c.args.self.now (g.K.Sink.taken c.args.sink.now) (g.K.Sink.taken c.refuse_rest.new.sink)) (sym c.if-is_cut.true) short)
-    c.refuse_rest.ensures.stops
+pub returns-in-Some-clause-finishes : goal.returns-in-Some-clause-finishes
+returns-in-Some-clause-finishes g c =
+    let last : mark_of c.in-Some.mark ∷ [] ≡ marks_left c.args.is_cut c.args.self.now.cutter [] = c.in-Some.ensures.mark in
+    last_finishes c.run.result c.args.is_cut c.args.self.now c.last.new.self c.run.new.self (mark_of c.in-Some.mark)
+    (g.K.Sink.taken c.args.sink.now) (g.K.Sink.taken c.run.new.sink) c.if-self.false last c.in-Some.ensures.rest c.run.ensures.step c.run.ensures.whole
 
 pub returns-in-Some-clause-stops : goal.returns-in-Some-clause-stops
 returns-in-Some-clause-stops g c =
-    let last : c.in-Some.piece ∷ [] ≡ to_come c.args.self.now.cutter [] = c.in-Some.ensures.last in
-    on_err_weaker c.run.result
-    (λ wrote. subst (λ (b : Bool). FinishesShort b c.args.self.now (g.K.Sink.taken c.args.sink.now) (g.K.Sink.taken c.run.new.sink)) (sym c.if-is_cut.false)
-    (short_in_piece c.args.self.now c.in-Some.piece (g.K.Sink.taken c.args.sink.now) (g.K.Sink.taken c.run.new.sink) c.if-self.false last wrote))
-    c.run.ensures.prefix
+    let last : mark_of c.in-Some.mark ∷ [] ≡ marks_left c.args.is_cut c.args.self.now.cutter [] = c.in-Some.ensures.mark in
+    last_short c.run_laws.ensures.printed c.run.result c.args.is_cut c.args.self.now c.last.new.self (mark_of c.in-Some.mark)
+    (g.K.Sink.taken c.args.sink.now) (g.K.Sink.taken c.run.new.sink) c.if-self.false last c.in-Some.ensures.rest c.run.ensures.prefix

@@ -1,7 +1,7 @@
 use Rattle.std.proofs.Common.{List, ℕ, drop}
 use Rattle.std.proofs.lemmas.List.{take_rest}
 use Rattle.pdl_shell.specs.Course.{StopsShort}
-use Rattle.pdl_shell.proofs.Carrying.{on_err, carries_ended, stops_then}
+use Rattle.pdl_shell.proofs.Carrying.{on_err, stops_then}
 use Rattle.pdl_shell.proofs.runner.Runner.take.Goals as goal
 
 pub returns-in_err-used-clause-stops : goal.returns-in_err-used-clause-stops
@@ -12,8 +12,3 @@ returns-in_err-used-clause-stops g c =
     on_err c.from_residual.result
     (stops_then c.args.self.now c.taking.self c.args.bytes.now rest (g.K.Sink.taken c.args.sink.now) (g.K.Sink.taken c.taking.sink) (g.K.Sink.taken c.round.new.sink)
     c.taking.invariant.carried stops)
-
-pub returns-else-not-self-clause-carries : goal.returns-else-not-self-clause-carries
-returns-else-not-self-clause-carries g c =
-    carries_ended c.args.self.now c.taking.self c.args.bytes.now (drop c.taking.used c.args.bytes.now) (g.K.Sink.taken c.args.sink.now) (g.K.Sink.taken c.taking.sink)
-    c.taking.invariant.carried c.if-not-self.false

@@ -1,0 +1,162 @@
+-- Runs along dimension 0, and blocks made of them.
+use Rattle.std.proofs.Common.{◌≡◌, ℕ, ◌+◌, ◌-◌, ◌*◌, ◌/◌, ◌%◌, ◌<◌, ◌≤◌, ℤ, pos, negsuc, ◌+ℤ◌, ◌*ℤ◌, ◌≤ℤ◌, ◌<ℤ◌, List, [], ◌∷◌, ◌++◌, length, take, drop, get_or, ap, ap₂, sym, ◌∙◌, subst, arith, to_z, of_z, FitsSigned, div-add-mod', inl, inr, All}
+use Rattle.std.proofs.lemmas.Int.{ints, to_z-of_z, to_z_pos}
+use Rattle.std.proofs.Math.IntN.{negsuc-*ℤ-pos}
+use Rattle.std.proofs.lemmas.Bool.{cases_lt}
+use Rattle.std.proofs.lemmas.List.{ext_get_or, get_or-take, get_or-drop, length-take-le, length-drop, get_or_append_left, get_or-append_right}
+use Rattle.std.proofs.lemmas.Nat.{div-mul-add, mod-mul-add}
+use Rattle.std.proofs.lemmas.List.FromFn.{length-map-range_with_len}
+use Rattle.std.proofs.lemmas.Slice.{take-put_mid}
+use Rattle.std.proofs.lemmas.List.Elements.{All-get_or, All-from_get_or}
+use Rattle.std.specs.Int.{w32, w64}
+use Rattle.std.specs.Int.RustNames.{unsigned_abs}
+use Rattle.pdl_elem.specs.declared.Ty.{Ty}
+use Rattle.pdl_elem.specs.Types.{InRange}
+use Rattle.pdl_shape.specs.Shape.{size_of, coordinates_of}
+use Rattle.pdl_shape.specs.Triple.{Triple, IsTriple, Reaches, moved}
+use Rattle.pdl_buf.specs.Reads.{IsInside, HasRead}
+use Rattle.pdl_buf.specs.Window.{IsInOrder, place_at, shown}
+use Rattle.pdl_buf.proofs.Ordered.{in_order_at}
+use Rattle.pdl_buf.proofs.Walking.{step_bound, step_fits, IsShown, shown_at, shown_within, shown_element}
+use borrow.Rule.Slice.PartMut.{put_mid}
+
+-- ---- what the words of one step hold
+
+small_fits : (z : ℤ) → pos 0 ≤ℤ z → z <ℤ pos 1048576 → FitsSigned w64 z
+small_fits (pos n) h k = record { sfits = omega (arith, ints) }
+small_fits (negsuc n) h k = absurd h.le
+
+pub product_word : (z from : ℤ) (j : ℕ) → FitsSigned w32 z → FitsSigned w64 from → from ≡ z → j < 1048576
+    → to_z w64 (of_z w64 from) *ℤ to_z w64 j ≡ z *ℤ pos j
+product_word z from j f g e h = ap₂ (λ x y. x *ℤ y) (to_z-of_z w64 from g ∙ e) (to_z_pos w64 j (omega arith))
+
+pub step_word : (z from : ℤ) (j : ℕ) → FitsSigned w32 z → FitsSigned w64 from → from ≡ z → j < 1048576
+    → to_z w64 (of_z w64 (to_z w64 (of_z w64 from) *ℤ to_z w64 j)) ≡ z *ℤ pos j
+step_word z from j f g e h =
+    ap (λ s. to_z w64 (of_z w64 s)) (product_word z from j f g e h) ∙ to_z-of_z w64 (z *ℤ pos j) (step_fits (z *ℤ pos j) (step_bound z j f h))
+
+-- the number that the run reads
+pub run_read : (numbers : List ℤ) (f g z : ℤ) (place j : ℕ) → FitsSigned w32 z → FitsSigned w64 f → FitsSigned w64 g → f ≡ z → g ≡ pos place → j < 1048576
+    → IsInside (length numbers) (pos place +ℤ z *ℤ pos j)
+    → to_z w64 (of_z w64 (to_z w64 (of_z w64 g) +ℤ to_z w64 (of_z w64 (to_z w64 (of_z w64 f) *ℤ to_z w64 j)))) ≡ pos place +ℤ z *ℤ pos j
+run_read numbers f g z place j fz ff fg e h small inside =
+    ap₂ (λ x y. to_z w64 (of_z w64 (x +ℤ y))) (to_z-of_z w64 g fg ∙ h) (step_word z f j fz ff e small)
+    ∙ to_z-of_z w64 (pos place +ℤ z *ℤ pos j) (small_fits _ inside.low inside.small)
+
+-- ---- one row
+
+-- so many places on in the same row
+row_kept : (p d j : ℕ) → p % d + j < d → ((p + j) / d ≡ p / d) × ((p + j) % d ≡ p % d + j)
+row_kept p d j h =
+    let e : p + j ≡ p / d * d + (p % d + j) = omega (arith, div-add-mod' p d) in
+    (ap (λ x. x / d) e ∙ div-mul-add (p / d) d (p % d + j) h, ap (λ x. x % d) e ∙ mod-mul-add (p / d) d (p % d + j) h)
+
+parts_of : (z : ℤ) (c j : ℕ) → z *ℤ pos (c + j) ≡ (z *ℤ pos c) +ℤ (z *ℤ pos j)
+parts_of (pos n) c j = omega (arith, ints)
+parts_of (negsuc n) c j = omega (arith, ints, negsuc-*ℤ-pos n (c + j), negsuc-*ℤ-pos n c, negsuc-*ℤ-pos n j)
+
+spread_out : (z m : ℤ) (c j : ℕ) → (z *ℤ pos (c + j)) +ℤ m ≡ ((z *ℤ pos c) +ℤ m) +ℤ z *ℤ pos j
+spread_out z m c j = omega (arith, ints, parts_of z c j)
+
+pub row_moved : (is : List ℤ) (ds : List ℕ) (p j : ℕ) → length is ≡ length ds → p % get_or ds 0 1 + j < get_or ds 0 1
+    → moved is (coordinates_of ds (p + j)) ≡ moved is (coordinates_of ds p) +ℤ get_or is 0 (pos 0) *ℤ pos j
+row_moved [] [] p j e h = grind (arith, ints)
+row_moved [] (d ∷ ds) p j e h = absurd (omega arith)
+row_moved (i ∷ is) [] p j e h = absurd (omega arith)
+row_moved (i ∷ is) (d ∷ ds) p j e h =
+    let k = row_kept p d j h in
+    ap₂ (λ q c. (i *ℤ pos c) +ℤ moved is (coordinates_of ds q)) k.0 k.1
+    ∙ spread_out i (moved is (coordinates_of ds (p / d))) (p % d) j
+
+-- the place so many on in the row of a position is that of the position so many on
+pub record Runs (t : Triple) (n p j : ℕ) : Type 0 where
+  pub is : pos (place_at t p) +ℤ get_or t.incs 0 (pos 0) *ℤ pos j ≡ pos (place_at t (p + j))
+  pub below : place_at t (p + j) < n
+  pub small : place_at t (p + j) < 1048576
+
+pub run_at : (t : Triple) (n p j : ℕ) → IsTriple t → Reaches t n → p + j < size_of t.dims → p % get_or t.dims 0 1 + j < get_or t.dims 0 1 → Runs t n p j
+run_at t n p j ok reach h row =
+    let s : IsShown t n (p + j) = shown_at t n (p + j) ok reach h in
+    let b : IsShown t n p = shown_at t n p ok reach (omega arith) in
+    let e : moved t.incs (coordinates_of t.dims (p + j)) ≡ moved t.incs (coordinates_of t.dims p) +ℤ get_or t.incs 0 (pos 0) *ℤ pos j = row_moved t.incs t.dims p j ok.paired row in
+    record {
+      is = omega (arith, ints, e, s.is, b.is);
+      below = s.below;
+      small = s.small;
+    }
+
+pub run_inside : (t : Triple) (n p j : ℕ) → Runs t n p j → IsInside n (pos (place_at t p) +ℤ get_or t.incs 0 (pos 0) *ℤ pos j)
+run_inside t n p j r = subst (λ z. IsInside n z) (sym r.is) (record { low = omega (arith, ints); high = omega (arith, ints, r.below); small = omega (arith, ints, r.small) })
+
+-- ---- blocks of runs
+
+-- a run put behind what was read
+pub read_more : (t : Triple) (es into part : List ℤ) (first done run n : ℕ) → n ≡ run → done + run ≤ length into → length part ≡ run
+    → HasRead t es first done into
+    → ((j : ℕ) → j < run → get_or part j (pos 0) ≡ get_or es (place_at t (first + done + j)) (pos 0))
+    → HasRead t es first (done + run) (put_mid done n into part)
+read_more t es into part first done run n same fits long before here k h =
+    let all : take (done + run) (put_mid done n into part) ≡ take done into ++ part = take-put_mid done n into part (done + run) (omega arith) (omega arith) in
+    let l : length (take done into) ≡ done = length-take-le done into (omega arith) in
+    sym (get_or-take (done + run) (put_mid done n into part) k (pos 0) h)
+    ∙ ap (λ xs. get_or xs k (pos 0)) all
+    ∙ elim (cases_lt k done) [
+      | inl low ↦ get_or_append_left (take done into) part (pos 0) k (omega arith) ∙ get_or-take done into k (pos 0) low ∙ before k low
+      | inr high ↦
+          let back : first + done + (k - done) ≡ first + k = omega arith in
+          get_or-append_right (take done into) part done k (pos 0) l high ∙ here (k - done) (omega arith) ∙ ap (λ p. get_or es (place_at t p) (pos 0)) back
+    ]
+
+-- all of a window's block
+pub block_is : (t : Triple) (es elems rs : List ℤ) (first count : ℕ) → shown t es ≡ elems → length rs ≡ count → first + count ≤ length elems
+    → HasRead t es first count rs → rs ≡ take count (drop first elems)
+block_is t es elems rs first count e long inside read =
+    let l : length (take count (drop first elems)) ≡ count = length-take-le count (drop first elems) (omega (arith, length-drop first elems)) in
+    ext_get_or (pos 0) rs (take count (drop first elems)) (omega arith)
+    (λ k h. read k (omega arith)
+    ∙ shown_element t es elems (first + k) e (shown_within t es elems (first + k) e (omega arith))
+    ∙ sym (get_or-take count (drop first elems) k (pos 0) (omega arith) ∙ get_or-drop first elems k (pos 0)))
+
+pub block_in_range : (ty : Ty) (t : Triple) (es rs : List ℤ) (first count : ℕ) → IsTriple t → Reaches t (length es) → first + count ≤ size_of t.dims → length rs ≡ count
+    → All (InRange ty) es → HasRead t es first count rs → All (InRange ty) rs
+block_in_range ty t es rs first count ok reach fits long all read =
+    All-from_get_or (InRange ty) rs (pos 0)
+    (λ k h. subst (λ z. InRange ty z) (sym (read k (omega arith)))
+    (All-get_or (InRange ty) es (place_at t (first + k)) (pos 0) (shown_at t (length es) (first + k) ok reach (omega arith)).below all))
+
+-- a block of neighbours
+pub record Neighbours (t : Triple) (es : List ℤ) (first start n : ℕ) : Type 0 where
+  pub inside : start + n ≤ length es
+  pub read : HasRead t es first n (take n (drop start es))
+
+pub neighbours : (t : Triple) (es : List ℤ) (first start n : ℕ) → IsTriple t → Reaches t (length es) → IsInOrder 1 t.incs t.dims → first + n ≤ size_of t.dims → 0 < n → start ≡ place_at t first → Neighbours t es first start n
+neighbours t es first start n ok reach o fits some e =
+    let first_is : place_at t first ≡ t.offset + first = in_order_at t first o (omega arith) in
+    let last_is : place_at t (first + (n - 1)) ≡ t.offset + (first + (n - 1)) = in_order_at t (first + (n - 1)) o (omega arith) in
+    let last : IsShown t (length es) (first + (n - 1)) = shown_at t (length es) (first + (n - 1)) ok reach (omega arith) in
+    record {
+      inside = omega (arith, last.below);
+      read = λ k h.
+          let is : place_at t (first + k) ≡ t.offset + (first + k) = in_order_at t (first + k) o (omega arith) in
+          let same : start + k ≡ place_at t (first + k) = omega arith in
+          get_or-take n (drop start es) k (pos 0) h ∙ get_or-drop start es k (pos 0) ∙ ap (λ p. get_or es p (pos 0)) same;
+    }
+
+pub block_fits : (t : Triple) (es elems : List ℤ) (first count : ℕ) → shown t es ≡ elems → first + count ≤ length elems → first + count ≤ size_of t.dims
+block_fits t es elems first count e h =
+    omega (arith, ap (λ (xs : List ℤ). length xs) e, length-map-range_with_len (λ k. get_or es (place_at t k) (pos 0)) 0 (size_of t.dims))
+
+-- a place of a run, and the number there
+pub run_fits : (t : Triple) (es numbers : List ℤ) (place : ℕ) (inc : ℤ) (p j width : ℕ) → IsTriple t → Reaches t (length es) → numbers ≡ es → place ≡ place_at t p → inc ≡ get_or t.incs 0 (pos 0) → width ≡ get_or t.dims 0 1
+    → p + j < size_of t.dims → p % width + j < width → IsInside (length numbers) (pos place +ℤ inc *ℤ pos j)
+run_fits t es numbers place inc p j width ok reach same at along across h row =
+    let r : Runs t (length es) p j = run_at t (length es) p j ok reach h (subst (λ w. p % w + j < w) across row) in
+    subst (λ (xs : List ℤ). IsInside (length xs) (pos place +ℤ inc *ℤ pos j)) (sym same)
+    (subst (λ n. IsInside (length es) (pos n +ℤ inc *ℤ pos j)) (sym at) (subst (λ z. IsInside (length es) (pos (place_at t p) +ℤ z *ℤ pos j)) (sym along) (run_inside t (length es) p j r)))
+
+pub run_element : (t : Triple) (es numbers : List ℤ) (place : ℕ) (inc : ℤ) (p j width : ℕ) → IsTriple t → Reaches t (length es) → numbers ≡ es → place ≡ place_at t p → inc ≡ get_or t.incs 0 (pos 0) → width ≡ get_or t.dims 0 1
+    → p + j < size_of t.dims → p % width + j < width → get_or numbers (unsigned_abs (pos place +ℤ inc *ℤ pos j)) (pos 0) ≡ get_or es (place_at t (p + j)) (pos 0)
+run_element t es numbers place inc p j width ok reach same at along across h row =
+    let r : Runs t (length es) p j = run_at t (length es) p j ok reach h (subst (λ w. p % w + j < w) across row) in
+    ap (λ (xs : List ℤ). get_or xs (unsigned_abs (pos place +ℤ inc *ℤ pos j)) (pos 0)) same
+    ∙ ap (λ (z : ℤ). get_or es (unsigned_abs z) (pos 0)) (ap₂ (λ n z. pos n +ℤ z *ℤ pos j) at along ∙ r.is)

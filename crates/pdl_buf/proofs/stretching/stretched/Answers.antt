@@ -1,0 +1,29 @@
+-- The stretched window's reach and elements.
+use Rattle.std.proofs.Common.{◌≡◌, List, ℕ, ℤ, length, sym, subst, ap, ap₂, ◌∙◌}
+use Rattle.pdl_elem.specs.declared.Ty.{Ty}
+use Rattle.pdl_shape.specs.Broadcast.{BroadcastsTo}
+use Rattle.pdl_shape.specs.Stretched as meant
+use Rattle.pdl_shape.specs.Triple.{Triple}
+use Rattle.pdl_buf.specs.Window.{Window, shown}
+use Rattle.pdl_buf.proofs.Stretches.{shown_stretched}
+use Rattle.pdl_buf.proofs.stretching.stretched.Goals as goal
+
+pub strided-requires : goal.strided-requires
+strided-requires c = c.stretched_triple.ensures.reaches (length c.from.inside.buf.now.elems) c.from.invariant.reaches
+
+window : Ty → List ℕ → List ℤ → Window
+window ty ds es = record { ty = ty; dims = ds; elems = es }
+
+pub returns : goal.returns
+unfolding window
+returns c =
+    let ty : Ty = c.from.inside.buf.now.ty in
+    let t : Triple = c.from.inside.triple in
+    let es : List ℤ = c.from.inside.buf.now.elems in
+    let js : List ℕ = c.args.dims.now in
+    let fits : BroadcastsTo t.dims js = subst (λ (w : Window). BroadcastsTo w.dims js) (sym c.from.view_is) c.requires in
+    let elems : shown c.stretched_triple.result es ≡ meant.stretched t.dims js (shown t es) =
+    shown_stretched c.shape_laws.ensures.positions c.shape_laws.ensures.cuts t c.stretched_triple.result js es c.stretched_triple.ensures.dims fits c.stretched_triple.ensures.shows in
+    c.strided-2.ensures.window
+    ∙ ap₂ (λ (ds : List ℕ) (xs : List ℤ). window ty ds xs) c.stretched_triple.ensures.dims elems
+    ∙ ap (λ (w : Window). window w.ty js (meant.stretched w.dims js w.elems)) c.from.view_is

@@ -1,0 +1,38 @@
+-- What the definitions promise to the crates above. Each is the contract of a public function.
+use Rattle.std.specs.Prelude.{◌≡◌, ◌↔◌, ◌≤◌, ℕ, ℤ, List, [], ◌∷◌, length, true, Option, Some, unwrap_or, All, is_some}
+use Rattle.pdl_elem.specs.Types.{InRange}
+use Rattle.pdl_shape.specs.Shape.{size_of}
+use Rattle.pdl_lex.specs.Tokens.{is_sign}
+use Rattle.pdl_lexemes.specs.declared.Lexeme.{Lexeme}
+use Rattle.pdl_lexemes.specs.declared.Lexeme.TheVariants.{OpenSquare}
+use Rattle.pdl_lexemes.specs.Lists.{SpellsList, a_list, type_of, HoldsRagged}
+use Rattle.pdl_lexemes.specs.ListReading.{part, list_read}
+use Rattle.pdl_lexemes.specs.Depth.{ragged_in}
+use Rattle.pdl_lexemes.specs.Lexing.{found_in, signs}
+
+-- a list literal is read exactly where the grammar spells it; it begins with `[`, and what follows it is no longer
+pub record ListsAreRead : Type 0 where
+  pub reads : (ts rest : List Lexeme) (shape : Option (List ℕ)) (elems : List ℤ)
+      → (list_read ts ≡ Some (part shape elems rest)) ↔ SpellsList (a_list shape [] elems) ts rest
+  pub opens : (ts rest : List Lexeme) (shape : Option (List ℕ)) (elems : List ℤ)
+      → SpellsList (a_list shape [] elems) ts rest → (us : List Lexeme) × (ts ≡ OpenSquare ∷ us)
+  pub shortens : (ts rest : List Lexeme) (shape : Option (List ℕ)) (elems : List ℤ)
+      → SpellsList (a_list shape [] elems) ts rest → length rest ≤ length ts
+
+-- the scan finds a ragged list exactly where the lexemes hold one
+abbrev pub RaggedIsHeld : Type 0
+RaggedIsHeld = (ts : List Lexeme) → (ragged_in ts ≡ true) ↔ HoldsRagged ts
+
+-- as many numbers as the dimensions say, each of them in the type's range
+pub record FillsArray (shape : Option (List ℕ)) (elems : List ℤ) : Type 0 where
+  pub count : length elems ≡ size_of (unwrap_or shape (length elems ∷ []))
+  pub in_range : All (InRange (type_of elems)) elems
+
+-- a list literal is an array; a ragged one counts as a list of its numbers
+abbrev pub ListsAreArrays : Type 0
+ListsAreArrays =
+    (ts rest : List Lexeme) (shape : Option (List ℕ)) (elems : List ℤ) → SpellsList (a_list shape [] elems) ts rest → FillsArray shape elems
+
+-- each sign that a text may have is a lexeme of the grammar
+abbrev pub SignsAreKnown : Type 0
+SignsAreKnown = (text : List ℕ) → is_sign text ≡ true → is_some (found_in signs text) ≡ true

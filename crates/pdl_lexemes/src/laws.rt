@@ -1,0 +1,23 @@
+//! What the definitions promise to the crates above.
+
+ghost use Rattle.pdl_lexemes.specs.Laws.{ListsAreRead, RaggedIsHeld, ListsAreArrays, SignsAreKnown};
+
+/// A list literal is read exactly where the grammar spells it.
+pub fn lists_are_their_grammar()
+    ensures { ListsAreRead }
+{}
+
+/// The scan finds a ragged list exactly where the lexemes hold one.
+pub fn ragged_is_held()
+    ensures { RaggedIsHeld }
+{}
+
+/// A list literal has as many numbers as its dimensions say, each of them in its type's range.
+pub fn lists_are_arrays()
+    ensures { ListsAreArrays }
+{}
+
+/// Each sign that a text may have is a lexeme of the grammar.
+pub fn every_sign_is_known()
+    ensures { SignsAreKnown }
+{}

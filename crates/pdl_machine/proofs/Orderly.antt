@@ -1,0 +1,281 @@
+-- A statement leaves numbers in order, and all that names reach in the world.
+use Rattle.std.proofs.Common.{◌≡◌, ℕ, ℤ, ◌+◌, ◌≤◌, List, [], ◌∷◌, ◌++◌, length, map, Bool, true, false, Option, Some, None, Result, Ok, Err, refl, sym, ap, subst, ◌∙◌, arith, eq-eqb, nat_eq}
+use Rattle.std.specs.Prelude.{◌==◌, if◌then◌else◌, is_none, not, ◌&&◌, nat_lt, IfOk, IfSome}
+use Rattle.std.specs.Cmp.Lexicographic.{pointwise}
+use Rattle.pdl_buf.specs.declared.made.Made.{Made}
+use Rattle.pdl_world.specs.declared.Trans.{Trans}
+use Rattle.pdl_world.specs.Formula.{Refusal, child_dims}
+use Rattle.pdl_world.specs.World.{World, ArrayDef, root, view, Look, look, dims_in, set_elements, root_elements, write, assign as assign_in, assign_through}
+use Rattle.pdl_world.specs.Sound.{AllBelow}
+use Rattle.pdl_lexemes.specs.declared.AssignOp.{AssignOp}
+use Rattle.pdl_syntax.specs.Tree.{Tree, Args, number, named, literal, unary, binary, call, none, value, text, of_type}
+use Rattle.pdl_syntax.specs.StatementTree.{StatementTree, bind, bind_list, assign, show, show_text, sever, reshape, undef, vars, pp_def, watch, unwatch}
+use Rattle.pdl_machine.specs.declared.fault.Fault.{Fault}
+use Rattle.pdl_machine.specs.declared.fault.Fault.TheVariants.{TooManyNames}
+use Rattle.pdl_machine.specs.Then.{and_then}
+use Rattle.pdl_machine.specs.Names.{Names, number_of, with_name, bind as bind_name, names_limit}
+use Rattle.pdl_machine.specs.Arrays.{Arrays, array_in, with_new}
+use Rattle.pdl_machine.specs.State.{State, with_arrays, held}
+use Rattle.pdl_machine.specs.Outcome.{array, string, type_word, Given, all_seen, Outcome, made, viewed, Valued, new_root, new_view, view_placed, placed}
+use Rattle.pdl_machine.specs.Operators.{unary_each, binary_each, values_for}
+use Rattle.pdl_machine.specs.Calls.{outcome, builtin_value, known_call, call_value}
+use Rattle.pdl_machine.specs.Value.{Taken, known, number_made, value_of, taken}
+use Rattle.pdl_machine.specs.Tidy.{parents}
+use Rattle.pdl_machine.specs.Step.{Stepped, bind_value, bound, outputs_bound, list_bound, target, assigned, assigning, shown, effect}
+use Rattle.pdl_machine.specs.Laws.{NumbersStay}
+use Rattle.pdl_machine.proofs.Renamed.{by_test}
+use Rattle.pdl_machine.proofs.Numbering.{in_world, AreIn, IsOrderly, IsInOrder}
+
+ok_then : {A B : Type 0} (P : A → Type 0) (Q : B → Type 0) (x : Result A Fault) (f : A → Result B Fault) → IfOk x P → ((a : A) → P a → IfOk (f a) Q) → IfOk (and_then x f) Q
+ok_then P Q (Ok a) f h next = next a h
+ok_then P Q (Err e) f h next = tt
+
+ok_always : {A B : Type 0} (Q : B → Type 0) (x : Result A Fault) (f : A → Result B Fault) → ((a : A) → IfOk (f a) Q) → IfOk (and_then x f) Q
+ok_always Q (Ok a) f next = next a
+ok_always Q (Err e) f next = tt
+
+-- b is in order, and has what a had
+record Grows (a b : Arrays) : Type 0 where
+  orderly : IsOrderly b.world
+  below : AllBelow b.next b.world
+  still : (v : ℕ) → in_world a.world v ≡ true → in_world b.world v ≡ true
+
+grows_trans : (a b c : Arrays) → Grows a b → Grows b c → Grows a c
+grows_trans a b c g h = record { orderly = h.orderly; below = h.below; still = λ v there. h.still v (g.still v there) }
+
+still_in : (a b : Arrays) → Grows a b → (vs : List ℕ) → AreIn a.world vs → AreIn b.world vs
+still_in a b g [] h = tt
+still_in a b g (v ∷ vs) h = (g.still v h.0, still_in a b g vs h.1)
+
+-- a value that is there
+abbrev FineValue : Arrays → Arrays × ℕ → Type 0
+FineValue a (b, v) = Grows a b × (in_world b.world v ≡ true)
+
+abbrev IsGivenIn : World → Given → Type 0
+IsGivenIn w (array v) = in_world w v ≡ true
+IsGivenIn w (string t) = Unit {0}
+IsGivenIn w (type_word ty) = Unit {0}
+
+abbrev AreGivenIn : World → List Given → Type 0
+AreGivenIn w [] = Unit {0}
+AreGivenIn w (g ∷ given) = IsGivenIn w g × AreGivenIn w given
+
+-- arguments that are there
+abbrev FineTaken : Arrays → Arrays × List Given → Type 0
+FineTaken a (b, given) = Grows a b × AreGivenIn b.world given
+
+below_more : (w : World) (m n : ℕ) → m ≤ n → AllBelow m w → AllBelow n w
+below_more [] m n h b = tt
+below_more (a ∷ w) m n h b = (omega arith, below_more w m n h b.1)
+
+new_fine : (a : Arrays) (d : ArrayDef) → Grows a a → AreIn a.world (parents d) → FineValue a (with_new a d)
+new_fine a d g inside = (
+  record {
+    orderly = (g.below, inside, g.orderly);
+    below = (omega arith, below_more a.world a.next (a.next + 1) (omega arith) g.below);
+    still = λ v there. by_test (a.next == v) (λ same. rw same refl) (λ other. rw other there);
+  },
+  (let self : (a.next == a.next) ≡ true = eq-eqb a.next a.next refl in rw self refl),
+)
+
+-- in order as it is
+self : (a b : Arrays) → Grows a b → Grows b b
+self a b g = record { orderly = g.orderly; below = g.below; still = λ v there. there }
+
+root_fine : (a : Arrays) (m : Made) → Grows a a → IfOk (new_root a m) (FineValue a)
+root_fine a m g = new_fine a (root m.ty m.dims m.elems) g tt
+
+view_fine : (a : Arrays) (given : List Given) (t : Trans) → Grows a a → AreGivenIn a.world given → IfOk (view_placed a given t) (FineValue a)
+view_fine a [] t g h = tt
+view_fine a (array v ∷ given) t g h = by_dims (child_dims t (dims_in a.world v))
+  where
+    by_dims : (x : Result (List ℕ) Refusal) → IfOk (new_view a v t x) (FineValue a)
+    by_dims (Ok ds) = new_fine a (view v t) g (h.0, tt)
+    by_dims (Err e) = tt
+view_fine a (string s ∷ given) t g h = tt
+view_fine a (type_word ty ∷ given) t g h = tt
+
+placed_fine : (a : Arrays) (given : List Given) (x : Result Outcome Fault) → Grows a a → AreGivenIn a.world given → IfOk (placed a given x) (FineValue a)
+placed_fine a given (Err e) g h = tt
+placed_fine a given (Ok (made m)) g h = root_fine a m g
+placed_fine a given (Ok (viewed t)) g h = view_fine a given t g h
+
+-- a value from other arrays on, which came from a
+later : (a b : Arrays) → Grows a b → (x : Valued) → IfOk x (FineValue b) → IfOk x (FineValue a)
+later a b g (Ok (c, v)) h = (grows_trans a b c g h.0, h.1)
+later a b g (Err e) h = tt
+
+call_fine : (f : List ℕ) (a : Arrays) (t : Arrays × List Given) → FineTaken a t → IfOk (call_value f t.0 t.1) (FineValue a)
+call_fine f a (b, given) h =
+    later a b h.0 (call_value f b given)
+    (ok_always (FineValue b) (known_call f) (λ c. builtin_value c b given) (λ c. placed_fine b given (outcome c (all_seen b given)) (self a b h.0) h.1))
+
+given_still : (a b : Arrays) → Grows a b → (given : List Given) → AreGivenIn a.world given → AreGivenIn b.world given
+given_still a b g [] h = tt
+given_still a b g (array v ∷ given) h = (g.still v h.0, given_still a b g given h.1)
+given_still a b g (string t ∷ given) h = (tt, given_still a b g given h.1)
+given_still a b g (type_word ty ∷ given) h = (tt, given_still a b g given h.1)
+
+given_more : (w : World) (given : List Given) (x : Given) → AreGivenIn w given → IsGivenIn w x → AreGivenIn w (given ++ x ∷ [])
+given_more w [] x h here = (here, tt)
+given_more w (y ∷ given) x h here = (h.0, given_more w given x h.1 here)
+
+named_in : (w : World) (names : Names) (x : List ℕ) → AreIn w (map (λ n. n.1) names) → IfSome (number_of names x) (λ v. in_world w v ≡ true)
+named_in w [] x h = tt
+named_in w (n ∷ names) x h =
+    let P : Bool → Type 0 = λ b. IfSome (if b then Some n.1 else number_of names x) (λ v. in_world w v ≡ true) in
+    by_test (pointwise nat_eq x n.0) (λ same. subst P (sym same) h.0) (λ other. subst P (sym other) (named_in w names x h.1))
+
+known_fine : (a : Arrays) (o : Option ℕ) → Grows a a → IfSome o (λ v. in_world a.world v ≡ true) → IfOk (known a o) (FineValue a)
+known_fine a None g h = tt
+known_fine a (Some v) g h = (g, h)
+
+with_argument : Arrays → List Given → Given → Taken
+with_argument a given x = Ok (a, given ++ x ∷ [])
+
+mutual
+  value_fine : (names : Names) (e : Tree) (a : Arrays) → Grows a a → AreIn a.world (map (λ n. n.1) names) → IfOk (value_of names a e) (FineValue a)
+  value_fine names (number n) a g h = root_fine a (number_made n) g
+  value_fine names (named x) a g h = known_fine a (number_of names x) g (named_in a.world names x h)
+  value_fine names (literal ty ds es) a g h = root_fine a (record { ty = ty; dims = ds; elems = es }) g
+  value_fine names (unary op e) a g h =
+      ok_then (FineValue a) (FineValue a) (value_of names a e) (λ v. new_root v.0 (unary_each op (array_in v.0 v.1)))
+      (value_fine names e a g h) (λ v fine. later a v.0 fine.0 (new_root v.0 (unary_each op (array_in v.0 v.1))) (root_fine v.0 (unary_each op (array_in v.0 v.1)) (self a v.0 fine.0)))
+  value_fine names (binary op e f) a g h =
+      ok_then (FineValue a) (FineValue a) (value_of names a e) (λ v. and_then (value_of names v.0 f) (λ u. and_then (binary_each op (array_in u.0 v.1) (array_in u.0 u.1)) (new_root u.0)))
+      (value_fine names e a g h) (λ v fine.
+      later a v.0 fine.0 (and_then (value_of names v.0 f) (λ u. and_then (binary_each op (array_in u.0 v.1) (array_in u.0 u.1)) (new_root u.0)))
+      (ok_then (FineValue v.0) (FineValue v.0) (value_of names v.0 f) (λ u. and_then (binary_each op (array_in u.0 v.1) (array_in u.0 u.1)) (new_root u.0))
+      (value_fine names f v.0 (self a v.0 fine.0) (still_in a v.0 fine.0 (map (λ n. n.1) names) h)) (λ u right.
+      later v.0 u.0 right.0 (and_then (binary_each op (array_in u.0 v.1) (array_in u.0 u.1)) (new_root u.0))
+      (ok_always (FineValue u.0) (binary_each op (array_in u.0 v.1) (array_in u.0 u.1)) (new_root u.0) (λ m. root_fine u.0 m (self v.0 u.0 right.0))))))
+  value_fine names (call f args) a g h =
+      ok_then (FineTaken a) (FineValue a) (taken names a args) (λ t. call_value f t.0 t.1) (taken_fine names args a g h) (call_fine f a)
+
+  taken_fine : (names : Names) (args : Args) (a : Arrays) → Grows a a → AreIn a.world (map (λ n. n.1) names) → IfOk (taken names a args) (FineTaken a)
+  taken_fine names none a g h = (g, tt)
+  taken_fine names (value front e) a g h =
+      ok_then (FineTaken a) (FineTaken a) (taken names a front) (λ t. and_then (value_of names t.0 e) (λ v. Ok (v.0, t.1 ++ array v.1 ∷ [])))
+      (taken_fine names front a g h) (λ t fine.
+      ok_then (FineValue t.0) (FineTaken a) (value_of names t.0 e) (λ v. Ok (v.0, t.1 ++ array v.1 ∷ []))
+      (value_fine names e t.0 (self a t.0 fine.0) (still_in a t.0 fine.0 (map (λ n. n.1) names) h)) (λ v here.
+      (grows_trans a t.0 v.0 fine.0 here.0, given_more v.0.world t.1 (array v.1) (given_still t.0 v.0 here.0 t.1 fine.1) here.1)))
+  taken_fine names (text front t) a g h =
+      ok_then (FineTaken a) (FineTaken a) (taken names a front) (λ x. Ok (x.0, x.1 ++ string t ∷ [])) (taken_fine names front a g h) (λ x fine. (fine.0, given_more x.0.world x.1 (string t) fine.1 tt))
+  taken_fine names (of_type front ty) a g h =
+      ok_then (FineTaken a) (FineTaken a) (taken names a front) (λ x. Ok (x.0, x.1 ++ type_word ty ∷ [])) (taken_fine names front a g h) (λ x fine. (fine.0, given_more x.0.world x.1 (type_word ty) fine.1 tt))
+
+-- a state in order, with what is printed
+abbrev FineStep : State × List ℕ → Type 0
+FineStep p = IsInOrder p.0
+
+state_fine : (s : State) (a : Arrays) → IsInOrder s → Grows s.arrays a → IsInOrder (with_arrays s a)
+state_fine s a order g = record { orderly = g.orderly; below = g.below; inside = still_in s.arrays a g (held s) order.inside }
+
+grows_self : (s : State) → IsInOrder s → Grows s.arrays s.arrays
+grows_self s order = record { orderly = order.orderly; below = order.below; still = λ v there. there }
+
+state_value_fine : (s : State) → IsInOrder s → (e : Tree) → IfOk (value_of s.names s.arrays e) (FineValue s.arrays)
+state_value_fine s order e = value_fine s.names e s.arrays (grows_self s order) order.inside
+
+with_name_in : (w : World) (names : Names) (x : List ℕ) (v : ℕ) → AreIn w (map (λ n. n.1) names) → in_world w v ≡ true → AreIn w (map (λ n. n.1) (with_name names x v))
+with_name_in w [] x v h here = (here, tt)
+with_name_in w (n ∷ names) x v h here =
+    let P : Bool → Type 0 = λ b. AreIn w (map (λ n. n.1) (if b then (n.0, v) ∷ names else n ∷ with_name names x v)) in
+    by_test (pointwise nat_eq x n.0) (λ same. subst P (sym same) (here, h.1)) (λ other. subst P (sym other) (h.0, with_name_in w names x v h.1 here))
+
+bind_fine : (w : World) (names : Names) (x : List ℕ) (v : ℕ) → AreIn w (map (λ n. n.1) names) → in_world w v ≡ true → IfOk (bind_name names x v) (λ after. AreIn w (map (λ n. n.1) after))
+bind_fine w names x v h here = by_room (is_none (number_of names x) && not (nat_lt (length names) names_limit))
+  where
+    by_room : (b : Bool) → IfOk (if b then Err TooManyNames else Ok (with_name names x v)) (λ after. AreIn w (map (λ n. n.1) after))
+    by_room true = tt
+    by_room false = with_name_in w names x v h here
+
+bound_fine : (s : State) (x : List ℕ) → IsInOrder s → (valued : Valued) → IfOk valued (FineValue s.arrays) → IfOk (bound s x valued) FineStep
+bound_fine s x order valued fine =
+    ok_then (FineValue s.arrays) FineStep valued (bind_value s x) fine (λ v here.
+    ok_then (λ after. AreIn v.0.world (map (λ n. n.1) after)) FineStep (bind_name s.names x v.1) (λ names. Ok (record s { names = names; arrays = v.0 }, []))
+    (bind_fine v.0.world s.names x v.1 (still_in s.arrays v.0 here.0 (held s) order.inside) here.1)
+    (λ names inside. record { orderly = here.0.orderly; below = here.0.below; inside = inside }))
+
+outputs_fine : (s : State) (xs : List (List ℕ)) → IsInOrder s → (valued : Valued) → IfOk valued (FineValue s.arrays) → IfOk (outputs_bound s xs valued) FineStep
+outputs_fine s [] order valued fine = tt
+outputs_fine s (x ∷ []) order valued fine = bound_fine s x order valued fine
+outputs_fine s (x ∷ y ∷ xs) order valued fine = tt
+
+list_fine : (s : State) (xs : List (List ℕ)) (f : List ℕ) → IsInOrder s → (t : Arrays × List Given) → FineTaken s.arrays t → IfOk (list_bound s xs f t) FineStep
+list_fine s xs f order (b, given) fine =
+    ok_always FineStep (known_call f) (λ c. outputs_bound s xs (builtin_value c b given)) (λ c.
+    outputs_fine s xs order (builtin_value c b given)
+    (later s.arrays b fine.0 (builtin_value c b given) (placed_fine b given (outcome c (all_seen b given)) (self s.arrays b fine.0) fine.1)))
+
+below_set : (n : ℕ) (w : World) (r : ℕ) (es : List ℤ) → AllBelow n w → AllBelow n (set_elements w r es)
+below_set n [] r new below = tt
+below_set n ((k, root ty ds es) ∷ w) r new below = (below.0, below_set n w r new below.1)
+below_set n ((k, view p t) ∷ w) r new below = (below.0, below_set n w r new below.1)
+
+pub numbers_stay : NumbersStay
+numbers_stay w n v vs below = by_look (look w v)
+  where
+    by_look : (o : Option Look) → AllBelow n (assign_through w o vs)
+    by_look None = below
+    by_look (Some l) = below_set n w l.root (write l.places vs (root_elements w l.root)) below
+
+in_world-set : (w : World) (r v : ℕ) (es : List ℤ) → in_world (set_elements w r es) v ≡ in_world w v
+in_world-set [] r v new = refl
+in_world-set ((k, root ty ds es) ∷ w) r v new = ap (λ b. if k == v then true else b) (in_world-set w r v new)
+in_world-set ((k, view p t) ∷ w) r v new = ap (λ b. if k == v then true else b) (in_world-set w r v new)
+
+orderly_set : (w : World) (r : ℕ) (es : List ℤ) → IsOrderly w → IsOrderly (set_elements w r es)
+orderly_set [] r new order = tt
+orderly_set ((k, root ty ds es) ∷ w) r new order = (below_set k w r new order.0, tt, orderly_set w r new order.2)
+orderly_set ((k, view p t) ∷ w) r new order = (below_set k w r new order.0, (in_world-set w r p new ∙ order.1.0, tt), orderly_set w r new order.2)
+
+assign_fine : (a : Arrays) (v : ℕ) (vs : List ℤ) → Grows a a → Grows a (record a { world = assign_in a.world v vs })
+assign_fine a v vs g = by_look (look a.world v)
+  where
+    by_look : (o : Option Look) → Grows a (record a { world = assign_through a.world o vs })
+    by_look None = g
+    by_look (Some l) =
+        let es = write l.places vs (root_elements a.world l.root) in
+        record {
+          orderly = orderly_set a.world l.root es g.orderly;
+          below = below_set a.next a.world l.root es g.below;
+          still = λ u there. in_world-set a.world l.root u es ∙ there;
+        }
+
+assigning_fine : (s : State) (to : Tree) (sign : AssignOp) (e : Tree) → IsInOrder s → IfOk (assigning s to sign e) FineStep
+assigning_fine s to sign e order =
+    ok_then (FineValue s.arrays) FineStep (value_of s.names s.arrays to) (λ v. and_then (value_of s.names v.0 e) (λ u. last u.0 (assigned sign u.0 v.1 u.1)))
+    (state_value_fine s order to) (λ v fine.
+    ok_then (FineValue v.0) FineStep (value_of s.names v.0 e) (λ u. last u.0 (assigned sign u.0 v.1 u.1))
+    (value_fine s.names e v.0 (self s.arrays v.0 fine.0) (still_in s.arrays v.0 fine.0 (held s) order.inside)) (λ u right.
+    ok_then (Grows s.arrays) FineStep (assigned sign u.0 v.1 u.1) (λ a. Ok (with_arrays s a, []))
+    (ok_always (Grows s.arrays) (values_for sign (array_in u.0 v.1) (array_in u.0 u.1)) (λ values. Ok (record u.0 { world = assign_in u.0.world v.1 values })) (λ values.
+    grows_trans s.arrays u.0 (record u.0 { world = assign_in u.0.world v.1 values }) (grows_trans s.arrays v.0 u.0 fine.0 right.0) (assign_fine u.0 v.1 values (self v.0 u.0 right.0))))
+    (λ a g. state_fine s a order g)))
+  where
+    last : Arrays → Result Arrays Fault → Stepped
+    last a x = and_then x (λ b. Ok (with_arrays s b, []))
+
+-- a statement leaves a state in order
+pub effect_in_order : (s : State) → IsInOrder s → (statement : StatementTree) → IfOk (effect s statement) (λ x. IsInOrder x.0)
+effect_in_order s order (bind x e severs) = bound_fine s x order (value_of s.names s.arrays e) (state_value_fine s order e)
+effect_in_order s order (bind_list xs (call f args)) =
+    ok_then (FineTaken s.arrays) FineStep (taken s.names s.arrays args) (list_bound s xs f) (taken_fine s.names args s.arrays (grows_self s order) order.inside) (list_fine s xs f order)
+effect_in_order s order (bind_list xs (number n)) = tt
+effect_in_order s order (bind_list xs (named x)) = tt
+effect_in_order s order (bind_list xs (literal ty ds es)) = tt
+effect_in_order s order (bind_list xs (unary op e)) = tt
+effect_in_order s order (bind_list xs (binary op e f)) = tt
+effect_in_order s order (assign x views sign e) = assigning_fine s (target x views) sign e order
+effect_in_order s order (show e is_info) =
+    ok_then (FineValue s.arrays) FineStep (value_of s.names s.arrays e) (λ v. Ok (shown s is_info v)) (state_value_fine s order e) (λ v fine. state_fine s v.0 order fine.0)
+effect_in_order s order (show_text t) = order
+effect_in_order s order vars = order
+effect_in_order s order (sever x) = tt
+effect_in_order s order (reshape x args) = tt
+effect_in_order s order (undef x) = tt
+effect_in_order s order (pp_def a b d) = tt
+effect_in_order s order (watch x k) = tt
+effect_in_order s order (unwatch k) = tt

@@ -1,0 +1,161 @@
+-- Two worlds that differ in the numbers of their arrays, and in arrays that only one of them has,
+-- show the same.
+use Rattle.std.proofs.Common.{◌≡◌, ◌≢◌, ℕ, ℤ, ◌+◌, ◌≤◌, List, [], ◌∷◌, Bool, true, false, Option, Some, None, Result, Ok, Err, refl, sym, ap, subst, ◌∙◌, arith, eqb-true, eq-eqb}
+use Rattle.std.specs.Prelude.{◌==◌, if◌then◌else◌, option_map, option_and_then}
+use Rattle.std.specs.Option.{option_map_or}
+use Rattle.pdl_elem.specs.declared.Ty.{Ty}
+use Rattle.pdl_elem.specs.declared.Ty.TheVariants.{Byte}
+use Rattle.pdl_buf.specs.declared.made.Made.{Made}
+use Rattle.pdl_world.specs.declared.Trans.{Trans}
+use Rattle.pdl_world.specs.Formula.{Refusal, child_dims}
+use Rattle.pdl_world.specs.World.{World, ArrayDef, root, view, Look, look, through, seen_through, root_elements, set_elements, read, write, elements, dims_in, ty_in, assign, assign_through}
+use Rattle.pdl_machine.specs.Arrays.{Arrays, array_in, with_new}
+use Rattle.pdl_machine.specs.State.{State}
+use Rattle.pdl_machine.specs.Tidy.{with_parent, with_numbers}
+
+pub by_test : {G : Type 0} (b : Bool) → (b ≡ true → G) → (b ≡ false → G) → G
+by_test true holds fails = holds refl
+by_test false holds fails = fails refl
+
+-- other numbers for the same arrays: different ones stay different
+abbrev pub IsApart : (ℕ → ℕ) → Type 0
+IsApart g = (i j : ℕ) → g i ≡ g j → i ≡ j
+
+pub same_test : (g : ℕ → ℕ) → IsApart g → (i j : ℕ) → (g i == g j) ≡ (i == j)
+same_test g apart i j =
+    by_test (i == j)
+    (λ same. eq-eqb (g i) (g j) (ap g (eqb-true i j same)) ∙ sym same)
+    (λ other. by_test (g i == g j)
+    (λ same. let e : (i == j) ≡ true = eq-eqb i j (apart i j (eqb-true (g i) (g j) same)) in cc)
+    (λ apart. apart ∙ sym other))
+
+-- u has the arrays of w under other numbers, and maybe more arrays
+pub data Renames (g : ℕ → ℕ) : World → World → Type 0 where
+  empty : Renames g [] []
+  more : {w u : World} (k : ℕ) (d : ArrayDef) → ((i : ℕ) → g i ≢ k) → Renames g w u → Renames g w ((k, d) ∷ u)
+  same : {w u : World} (i : ℕ) (d : ArrayDef) → Renames g w u → Renames g ((i, d) ∷ w) ((g i, with_parent g d) ∷ u)
+
+-- what is seen, with another number of its root
+abbrev pub with_root : (ℕ → ℕ) → Look → Look
+with_root g l = record l { root = g l.root }
+
+pub never : (g : ℕ → ℕ) (k v : ℕ) → ((i : ℕ) → g i ≢ k) → (k == g v) ≡ false
+never g k v left = by_test (k == g v) (λ same. absurd (left v (sym (eqb-true k (g v) same)))) (λ other. other)
+
+-- the newest array isn't looked at for another one
+pub look-other : (k v : ℕ) (d : ArrayDef) (w : World) → (k == v) ≡ false → look ((k, d) ∷ w) v ≡ look w v
+look-other k v (root ty ds es) w other = rw other refl
+look-other k v (view p t) w other = rw other refl
+
+through_renamed : (g : ℕ → ℕ) (t : Trans) (o : Option Look) → option_and_then (through t) (option_map (with_root g) o) ≡ option_map (with_root g) (option_and_then (through t) o)
+through_renamed g t None = refl
+through_renamed g t (Some l) = by_dims (child_dims t l.dims)
+  where
+    by_dims : (x : Result (List ℕ) Refusal) → seen_through t (with_root g l) x ≡ option_map (with_root g) (seen_through t l x)
+    by_dims (Ok ds) = refl
+    by_dims (Err e) = refl
+
+-- the same is seen through each array
+pub look_renamed : (g : ℕ → ℕ) → IsApart g → {w u : World} → Renames g w u → (v : ℕ) → look u (g v) ≡ option_map (with_root g) (look w v)
+look_renamed g apart empty v = refl
+look_renamed g apart (more {w} {u} k d left r) v = look-other k (g v) d u (never g k v left) ∙ look_renamed g apart r v
+look_renamed g apart (same {w} {u} i (root ty ds es) r) v =
+    by_test (i == v)
+    (λ is. let e : (g i == g v) ≡ true = same_test g apart i v ∙ is in rw (e, is) refl)
+    (λ other. let e : (g i == g v) ≡ false = same_test g apart i v ∙ other in rw (e, other) (look_renamed g apart r v))
+look_renamed g apart (same {w} {u} i (view p t) r) v =
+    by_test (i == v)
+    (λ is. let e : (g i == g v) ≡ true = same_test g apart i v ∙ is in
+    rw (e, is) (ap (option_and_then (through t)) (look_renamed g apart r p) ∙ through_renamed g t (look w p)))
+    (λ other. let e : (g i == g v) ≡ false = same_test g apart i v ∙ other in rw (e, other) (look_renamed g apart r v))
+
+-- each root has the same elements
+pub root_renamed : (g : ℕ → ℕ) → IsApart g → {w u : World} → Renames g w u → (v : ℕ) → root_elements u (g v) ≡ root_elements w v
+root_renamed g apart empty v = refl
+root_renamed g apart (more k (root ty ds es) left r) v =
+    let e : (k == g v) ≡ false = never g k v left in rw e (root_renamed g apart r v)
+root_renamed g apart (more k (view p t) left r) v = root_renamed g apart r v
+root_renamed g apart (same {w} {u} i (root ty ds es) r) v =
+    let P : Bool → Type 0 = λ b. (if b then es else root_elements u (g v)) ≡ (if i == v then es else root_elements w v) in
+    subst P (sym (same_test g apart i v)) (ap (λ x. if i == v then es else x) (root_renamed g apart r v))
+root_renamed g apart (same i (view p t) r) v = root_renamed g apart r v
+
+-- and so has each array
+pub elements_renamed : (g : ℕ → ℕ) → IsApart g → {w u : World} → Renames g w u → (v : ℕ) → elements u (g v) ≡ elements w v
+elements_renamed g apart {w} {u} r v =
+    ap (λ o. option_map_or (λ l. read l.places (root_elements u l.root)) o []) (look_renamed g apart r v) ∙ by_look (look w v)
+  where
+    by_look : (o : Option Look) → option_map_or (λ l. read l.places (root_elements u l.root)) (option_map (with_root g) o) [] ≡ option_map_or (λ l. read l.places (root_elements w l.root)) o []
+    by_look None = refl
+    by_look (Some l) = ap (read l.places) (root_renamed g apart r l.root)
+
+pub dims_renamed : (g : ℕ → ℕ) → IsApart g → {w u : World} → Renames g w u → (v : ℕ) → dims_in u (g v) ≡ dims_in w v
+dims_renamed g apart {w} {u} r v = ap (λ o. option_map_or (λ l. l.dims) o []) (look_renamed g apart r v) ∙ by_look (look w v)
+  where
+    by_look : (o : Option Look) → option_map_or (λ l. l.dims) (option_map (with_root g) o) [] ≡ option_map_or (λ l. l.dims) o []
+    by_look None = refl
+    by_look (Some l) = refl
+
+pub ty_renamed : (g : ℕ → ℕ) → IsApart g → {w u : World} → Renames g w u → (v : ℕ) → ty_in u (g v) ≡ ty_in w v
+ty_renamed g apart {w} {u} r v = ap (λ o. option_map_or (λ l. l.ty) o Byte) (look_renamed g apart r v) ∙ by_look (look w v)
+  where
+    by_look : (o : Option Look) → option_map_or (λ l. l.ty) (option_map (with_root g) o) Byte ≡ option_map_or (λ l. l.ty) o Byte
+    by_look None = refl
+    by_look (Some l) = refl
+
+-- the elements of a root are set on both sides
+set_renamed : (g : ℕ → ℕ) → IsApart g → {w u : World} → Renames g w u → (v : ℕ) (es : List ℤ) → Renames g (set_elements w v es) (set_elements u (g v) es)
+set_renamed g apart empty v es = empty
+set_renamed g apart (more k (root ty ds old) left r) v es = more k (root ty ds (if k == g v then es else old)) left (set_renamed g apart r v es)
+set_renamed g apart (more k (view p t) left r) v es = more k (view p t) left (set_renamed g apart r v es)
+set_renamed g apart (same {w} {u} i (root ty ds old) r) v es =
+    let P : Bool → Type 0 = λ b. Renames g ((i, root ty ds (if i == v then es else old)) ∷ set_elements w v es) ((g i, root ty ds (if b then es else old)) ∷ set_elements u (g v) es) in
+    subst P (sym (same_test g apart i v)) (same i (root ty ds (if i == v then es else old)) (set_renamed g apart r v es))
+set_renamed g apart (same i (view p t) r) v es = same i (view p t) (set_renamed g apart r v es)
+
+-- an assignment of the same values on both sides
+pub assign_renamed : (g : ℕ → ℕ) → IsApart g → {w u : World} → Renames g w u → (v : ℕ) (vs : List ℤ) → Renames g (assign w v vs) (assign u (g v) vs)
+assign_renamed g apart {w} {u} r v vs =
+    let P : Option Look → Type 0 = λ o. Renames g (assign w v vs) (assign_through u o vs) in
+    subst P (sym (look_renamed g apart r v)) (by_look (look w v))
+  where
+    by_look : (o : Option Look) → Renames g (assign_through w o vs) (assign_through u (option_map (with_root g) o) vs)
+    by_look None = r
+    by_look (Some l) =
+        let P : List ℤ → Type 0 = λ es. Renames g (set_elements w l.root (write l.places vs (root_elements w l.root))) (set_elements u (g l.root) (write l.places vs es)) in
+        subst P (sym (root_renamed g apart r l.root)) (set_renamed g apart r l.root (write l.places vs (root_elements w l.root)))
+
+-- b has the arrays of a under other numbers, and new arrays get the next numbers in both
+pub record AreAlike (g : ℕ → ℕ) (a b : Arrays) : Type 0 where
+  pub apart : IsApart g
+  pub world : Renames g a.world b.world
+  pub next : b.next ≡ g a.next
+  pub on : (i : ℕ) → a.next ≤ i → g (i + 1) ≡ g i + 1
+
+abbrev made_of : Ty → List ℕ → List ℤ → Made
+made_of ty ds es = record { ty = ty; dims = ds; elems = es }
+
+-- the same is seen of each array
+pub array_alike : (g : ℕ → ℕ) (a b : Arrays) → AreAlike g a b → (v : ℕ) → array_in b (g v) ≡ array_in a v
+array_alike g a b h v =
+    let t : ty_in b.world (g v) ≡ ty_in a.world v = ty_renamed g h.apart h.world v in
+    let d : dims_in b.world (g v) ≡ dims_in a.world v = dims_renamed g h.apart h.world v in
+    let e : elements b.world (g v) ≡ elements a.world v = elements_renamed g h.apart h.world v in
+    all_same t d e
+  where
+    all_same : {t t' : Ty} {ds ds' : List ℕ} {es es' : List ℤ} → t ≡ t' → ds ≡ ds' → es ≡ es' → made_of t ds es ≡ made_of t' ds' es'
+    all_same p q s = cc
+
+-- a new array on both sides
+pub new_alike : (g : ℕ → ℕ) (a b : Arrays) → AreAlike g a b → (d : ArrayDef) → AreAlike g (with_new a d).0 (with_new b (with_parent g d)).0
+new_alike g a b h d = record {
+  apart = h.apart;
+  world = (let P : ℕ → Type 0 = λ k. Renames g ((a.next, d) ∷ a.world) ((k, with_parent g d) ∷ b.world) in subst P (sym h.next) (same a.next d h.world));
+  next = ap (λ n. n + 1) h.next ∙ sym (h.on a.next (omega arith));
+  on = λ i le. h.on i (omega arith);
+}
+
+-- and names have their arrays under the other numbers
+pub record StateAlike (g : ℕ → ℕ) (s t : State) : Type 0 where
+  pub arrays : AreAlike g s.arrays t.arrays
+  pub names : t.names ≡ with_numbers g s.names

@@ -1,0 +1,156 @@
+-- The laws of steps.
+use Rattle.std.proofs.Common.{◌≡◌, ℕ, List, [], ◌∷◌, ◌++◌, map, Bool, true, false, Option, Some, None, Ok, Err, inl, inr, refl, sym, ap, subst, ◌∙◌, arith, eqb-true}
+use Rattle.std.specs.Prelude.{◌==◌, if◌then◌else◌, option_map, IfOk}
+use Rattle.pdl_world.specs.declared.Trans.{Trans}
+use Rattle.pdl_world.specs.World.{World, ArrayDef, root, view}
+use Rattle.pdl_world.specs.Sound.{AllBelow, IsSound}
+use Rattle.pdl_machine.specs.declared.fault.Fault.{Fault}
+use Rattle.pdl_machine.specs.declared.fault.Fault.TheVariants.{Syntax}
+use Rattle.pdl_machine.specs.Names.{number_of}
+use Rattle.pdl_machine.specs.Arrays.{array_in}
+use Rattle.pdl_machine.specs.State.{State, held, AreLive}
+use Rattle.pdl_machine.specs.Tidy.{holds, parents, kept_onto, sweep, with_parent, numbered, tidy}
+use Rattle.pdl_machine.specs.Step.{Stepped, built, effect, tidied}
+use Rattle.pdl_machine.specs.Laws.{StepsAlike, NewArraysUnseen, Has, IsReached, held_itself, parent_of, AreAllReached, StepsLeaveReached, TidyingShowsTheSame}
+use Rattle.pdl_machine.proofs.Renamed.{by_test, IsApart, StateAlike, array_alike}
+use Rattle.pdl_machine.proofs.Both.{Both}
+use Rattle.pdl_machine.proofs.Stepping.{StepAlike, effect_alike, number_of_alike}
+use Rattle.pdl_machine.proofs.Tidying.{renamed, holds_renamed, held_renamed, tidy_alike}
+use Rattle.pdl_machine.proofs.Numbering.{in_world, live_inside, IsInOrder, in_order, former_numbers, former_apart, swept_is, tidied_alike}
+use Rattle.pdl_machine.proofs.Orderly.{effect_in_order}
+
+-- steps that are alike are the same once they are tidied
+steps_alike : (g : ℕ → ℕ) (x y : Stepped) → Both (StepAlike g) x y → tidied y ≡ tidied x
+steps_alike g (Ok (s, text)) (Ok (t, other)) h = ap (λ z. pair z other) (tidy_alike g s t h.0) ∙ ap (pair (tidy s)) (sym h.1)
+  where
+    pair : State → List ℕ → Stepped
+    pair s t = Ok (s, t)
+steps_alike g (Ok (s, text)) (Err f) h = absurd h
+steps_alike g (Err e) (Ok (t, other)) h = absurd h
+steps_alike g (Err e) (Err f) h = ap fault (sym h)
+  where
+    fault : Fault → Stepped
+    fault e = Err e
+
+pub steps_are_alike : StepsAlike
+steps_are_alike s statement whole =
+    let same : tidied (effect s statement) ≡ tidied (effect (tidy s) statement) =
+    steps_alike (former_numbers s) (effect (tidy s) statement) (effect s statement) (effect_alike (former_numbers s) (tidy s) s (tidied_alike s (in_order s whole)) statement) in
+    ap (λ x. if built statement then x else Err Syntax) (sym same)
+
+-- what is seen through the tidied state is what was seen
+pub tidying_shows_the_same : TidyingShowsTheSame
+tidying_shows_the_same s x whole =
+    let g = former_numbers s in
+    let h : StateAlike g (tidy s) s = tidied_alike s (in_order s whole) in
+    let name : number_of s.names x ≡ option_map g (number_of (tidy s).names x) = ap (λ names. number_of names x) h.names ∙ number_of_alike g (tidy s).names x in
+    sym (ap (option_map (array_in s.arrays)) name ∙ by_number g h (number_of (tidy s).names x))
+  where
+    by_number : (g : ℕ → ℕ) → StateAlike g (tidy s) s → (o : Option ℕ) → option_map (array_in s.arrays) (option_map g o) ≡ option_map (array_in (tidy s).arrays) o
+    by_number g h None = refl
+    by_number g h (Some v) = ap Some (array_alike g (tidy s).arrays s.arrays h.arrays v)
+
+-- a number above a world isn't in it
+absent : (w : World) (n v : ℕ) → AllBelow n w → in_world w v ≡ true → (v == n) ≡ false
+absent [] n v below there = cc
+absent ((k, d) ∷ w) n v below there =
+    by_test (k == v)
+    (λ is. by_test (v == n) (λ is_n. let a : k ≡ v = eqb-true k v is in let b : v ≡ n = eqb-true v n is_n in absurd (omega arith)) (λ other. other))
+    (λ other. let t : in_world w v ≡ true = rw other at there in absent w n v below.1 t)
+
+unheld : (w : World) (hs : List ℕ) (k : ℕ) → AllBelow k w → AreLive w hs → holds hs k ≡ false
+unheld w [] k below live = refl
+unheld w (v ∷ hs) k below live = let other : (v == k) ≡ false = absent w k v below (live_inside w v live.0) in rw other (unheld w hs k below live.1)
+
+below_rest : (more w : World) (k : ℕ) → AllBelow k (more ++ w) → AllBelow k w
+below_rest [] w k b = b
+below_rest (a ∷ more) w k b = below_rest more w k b.1
+
+-- new arrays that aren't held are swept
+sweep_more : (more w : World) (hs : List ℕ) → IsSound (more ++ w) → AreLive w hs → sweep (more ++ w) hs ≡ sweep w hs
+sweep_more [] w hs sound live = refl
+sweep_more ((k, d) ∷ more) w hs sound live =
+    let P : Bool → Type 0 = λ keeps. kept_onto keeps (k, d) (sweep (more ++ w) (if keeps then parents d ++ hs else hs)) ≡ sweep w hs in
+    subst P (sym (unheld w hs k (below_rest more w k sound.0) live)) (sweep_more more w hs sound.2 live)
+
+pub new_arrays_are_unseen : NewArraysUnseen
+new_arrays_are_unseen s a grown sound live =
+    let S : World → Type 0 = λ w. IsSound w in
+    ap (λ w. numbered s (sweep w (held s))) grown.is ∙ ap (numbered s) (sweep_more grown.more s.arrays.world (held s) (subst S grown.is sound) live)
+
+-- what is reached from the parents of a newest array that is held is reached with it
+below_newest : (u : World) (hs : List ℕ) (j : ℕ) (e : ArrayDef) → holds hs j ≡ true → (k : ℕ) → IsReached u (parents e ++ hs) k → IsReached ((j, e) ∷ u) hs k
+below_newest u hs j e held_j k (held_itself k' h) = by_parents e h
+  where
+    by_parents : (e : ArrayDef) → holds (parents e ++ hs) k' ≡ true → IsReached ((j, e) ∷ u) hs k'
+    by_parents (root ty ds es) h = held_itself k' h
+    by_parents (view p t) h = by_test (p == k')
+        (λ same. let P : ℕ → Type 0 = λ x. IsReached ((j, view p t) ∷ u) hs x in
+        subst P (eqb-true p k' same) (parent_of j p t (inl (refl, refl)) (held_itself j held_j)))
+        (λ other. held_itself k' (let h' : holds hs k' ≡ true = rw other at h in h'))
+below_newest u hs j e held_j k (parent_of v p t there r) = parent_of v p t (inr there) (below_newest u hs j e held_j v r)
+
+-- each array that is kept is reached
+swept_reached : (w : World) (hs : List ℕ) (k : ℕ) (d : ArrayDef) → Has (sweep w hs) k d → IsReached (sweep w hs) hs k
+swept_reached [] hs k d there = absurd there
+swept_reached ((j, e) ∷ w) hs k d there = by_keeps (λ h. swept_reached w h k d) (holds hs j) refl there
+  where
+    by_keeps : ((h : List ℕ) → Has (sweep w h) k d → IsReached (sweep w h) h k) → (keeps : Bool) → holds hs j ≡ keeps
+        → Has (kept_onto keeps (j, e) (sweep w (if keeps then parents e ++ hs else hs))) k d
+        → IsReached (kept_onto keeps (j, e) (sweep w (if keeps then parents e ++ hs else hs))) hs k
+    by_keeps rest false is there = rest hs there
+    by_keeps rest true is (inl same) =
+        let P : ℕ → Type 0 = λ x. IsReached ((j, e) ∷ sweep w (parents e ++ hs)) hs x in subst P same.0 (held_itself j is)
+    by_keeps rest true is (inr there) = below_newest (sweep w (parents e ++ hs)) hs j e is k (rest (parents e ++ hs) there)
+
+has_renamed : (g : ℕ → ℕ) (w : World) (k : ℕ) (d : ArrayDef) → Has w k d → Has (renamed g w) (g k) (with_parent g d)
+has_renamed g [] k d there = absurd there
+has_renamed g ((j, e) ∷ w) k d (inl same) = inl (ap g same.0, ap (with_parent g) same.1)
+has_renamed g ((j, e) ∷ w) k d (inr there) = inr (has_renamed g w k d there)
+
+-- a view under other numbers is a view of the world
+view_there : (g : ℕ → ℕ) (w : World) (k p : ℕ) (t : Trans) → Has (renamed g w) k (view p t) → (j : ℕ) × (i : ℕ) × (g j ≡ k) × (g i ≡ p) × Has w j (view i t)
+view_there g [] k p t there = absurd there
+view_there g ((j, root ty ds es) ∷ w) k p t (inl same) = cc
+view_there g ((j, view i s) ∷ w) k p t (inl same) = (j, i, same.0, parent same.1, inl (refl, ap (view i) (trans same.1)))
+  where
+    parent : view (g i) s ≡ view p t → g i ≡ p
+    parent e = cc
+
+    trans : view (g i) s ≡ view p t → s ≡ t
+    trans e = cc
+view_there g ((j, e) ∷ w) k p t (inr there) = let h = view_there g w k p t there in (h.0, h.1, h.2, h.3, inr h.4)
+
+-- what is reached under other numbers is reached
+reached_back : (g : ℕ → ℕ) → IsApart g → (w : World) (hs : List ℕ) (k : ℕ) → IsReached (renamed g w) (map g hs) k → (i : ℕ) → k ≡ g i → IsReached w hs i
+reached_back g apart w hs k (held_itself k' h) i same =
+    held_itself i (sym (holds_renamed g apart hs i) ∙ ap (holds (map g hs)) (sym same) ∙ h)
+reached_back g apart w hs k (parent_of v p t there r) i same =
+    let h = view_there g w v p t there in
+    let P : ℕ → Type 0 = λ n. IsReached w hs n in
+    subst P (apart h.1 i (h.3 ∙ same)) (parent_of h.0 h.1 t h.4 (reached_back g apart w hs v r h.0 (sym h.2)))
+
+-- each array of a tidied state is reached
+tidied_reached : (s : State) → IsInOrder s → AreAllReached (tidy s)
+tidied_reached s order k d there =
+    let g = former_numbers s in
+    let held_is : held s ≡ map g (held (tidy s)) = ap (map (λ n. n.1)) (tidied_alike s order).names ∙ held_renamed g (tidy s).names in
+    let P : World → Type 0 = λ u. Has u (g k) (with_parent g d) → IsReached u (held s) (g k) in
+    let Q : List ℕ → Type 0 = λ hs. IsReached (renamed g (tidy s).arrays.world) hs (g k) in
+    let in_renamed = subst P (swept_is s order) (swept_reached s.arrays.world (held s) (g k) (with_parent g d)) (has_renamed g (tidy s).arrays.world k d there) in
+    reached_back g (former_apart s order) (tidy s).arrays.world (held (tidy s)) (g k) (subst Q held_is in_renamed) k refl
+
+pub steps_leave_reached : StepsLeaveReached
+steps_leave_reached s after statement printed whole = by_built (built statement)
+  where
+    state_in : State → Stepped → State
+    state_in other (Ok p) = p.0
+    state_in other (Err e) = other
+
+    by_effect : (x : Stepped) → IfOk x (λ t. IsInOrder t.0) → tidied x ≡ Ok (after, printed) → AreAllReached after
+    by_effect (Ok (t, text)) order is = let e : tidy t ≡ after = ap (state_in after) is in subst AreAllReached e (tidied_reached t order)
+    by_effect (Err f) order is = cc
+
+    by_built : (is : Bool) → (if is then tidied (effect s statement) else Err Syntax) ≡ Ok (after, printed) → AreAllReached after
+    by_built true is = by_effect (effect s statement) (effect_in_order s (in_order s whole) statement) is
+    by_built false is = cc

@@ -1,0 +1,96 @@
+-- States that differ in numbers, and in arrays that only one has, are the same once they are tidied.
+use Rattle.std.proofs.Common.{◌≡◌, ◌≢◌, ℕ, suc, List, [], ◌∷◌, ◌++◌, length, map, Bool, true, false, refl, sym, ap, subst, ◌∙◌, eqb-true}
+use Rattle.std.specs.Prelude.{◌==◌, ◌||◌, if◌then◌else◌}
+use Rattle.pdl_world.specs.World.{World, ArrayDef, root, view}
+use Rattle.pdl_machine.specs.Names.{Names}
+use Rattle.pdl_machine.specs.State.{State, held}
+use Rattle.pdl_machine.specs.Tidy.{holds, parents, kept_onto, sweep, older, with_parent, renumber, with_numbers, tidy}
+use Rattle.pdl_machine.proofs.Renamed.{by_test, IsApart, same_test, Renames, empty, more, same, StateAlike}
+
+-- a world under other numbers
+abbrev pub renamed : (ℕ → ℕ) → World → World
+renamed g [] = []
+renamed g ((i, d) ∷ w) = (g i, with_parent g d) ∷ renamed g w
+
+pub holds_renamed : (g : ℕ → ℕ) → IsApart g → (hs : List ℕ) (i : ℕ) → holds (map g hs) (g i) ≡ holds hs i
+holds_renamed g apart [] i = refl
+holds_renamed g apart (h ∷ hs) i = ap (λ b. b || holds (map g hs) (g i)) (same_test g apart h i) ∙ ap (λ b. (h == i) || b) (holds_renamed g apart hs i)
+
+holds_never : (g : ℕ → ℕ) (hs : List ℕ) (k : ℕ) → ((i : ℕ) → g i ≢ k) → holds (map g hs) k ≡ false
+holds_never g [] k left = refl
+holds_never g (h ∷ hs) k left =
+    let other : (g h == k) ≡ false = by_test (g h == k) (λ same. absurd (left h (eqb-true (g h) k same))) (λ o. o) in
+    rw other (holds_never g hs k left)
+
+parents_renamed : (g : ℕ → ℕ) (d : ArrayDef) (hs : List ℕ) → parents (with_parent g d) ++ map g hs ≡ map g (parents d ++ hs)
+parents_renamed g (root ty ds es) hs = refl
+parents_renamed g (view p t) hs = refl
+
+-- both are swept alike, and arrays that only one has go
+pub sweep_renamed : (g : ℕ → ℕ) → IsApart g → {w u : World} → Renames g w u → (hs : List ℕ) → sweep u (map g hs) ≡ renamed g (sweep w hs)
+sweep_renamed g apart empty hs = refl
+sweep_renamed g apart (more {w} {u} k d left r) hs =
+    let P : Bool → Type 0 = λ keeps. kept_onto keeps (k, d) (sweep u (if keeps then parents d ++ map g hs else map g hs)) ≡ renamed g (sweep w hs) in
+    subst P (sym (holds_never g hs k left)) (sweep_renamed g apart r hs)
+sweep_renamed g apart (same {w} {u} i d r) hs =
+    let P : Bool → Type 0 = λ keeps. kept_onto keeps (g i, with_parent g d) (sweep u (if keeps then parents (with_parent g d) ++ map g hs else map g hs)) ≡ renamed g (sweep ((i, d) ∷ w) hs) in
+    subst P (sym (holds_renamed g apart hs i)) (by_keeps (sweep_renamed g apart r) (holds hs i))
+  where
+    by_keeps : ((hs : List ℕ) → sweep u (map g hs) ≡ renamed g (sweep w hs)) → (keeps : Bool)
+        → kept_onto keeps (g i, with_parent g d) (sweep u (if keeps then parents (with_parent g d) ++ map g hs else map g hs)) ≡ renamed g (kept_onto keeps (i, d) (sweep w (if keeps then parents d ++ hs else hs)))
+    by_keeps rest true = ap (λ x. (g i, with_parent g d) ∷ sweep u x) (parents_renamed g d hs) ∙ ap (λ x. (g i, with_parent g d) ∷ x) (rest (parents d ++ hs))
+    by_keeps rest false = rest hs
+
+length-renamed : (g : ℕ → ℕ) (w : World) → length (renamed g w) ≡ length w
+length-renamed g [] = refl
+length-renamed g ((i, d) ∷ w) = ap suc (length-renamed g w)
+
+older_renamed : (g : ℕ → ℕ) → IsApart g → (w : World) (v : ℕ) → older (renamed g w) (g v) ≡ older w v
+older_renamed g apart [] v = refl
+older_renamed g apart ((i, d) ∷ w) v =
+    ap (λ b. if b then length (renamed g w) else older (renamed g w) (g v)) (same_test g apart i v)
+    ∙ ap (λ n. if i == v then n else older (renamed g w) (g v)) (length-renamed g w)
+    ∙ ap (λ n. if i == v then length w else n) (older_renamed g apart w v)
+
+parent_renamed : (g : ℕ → ℕ) → IsApart g → (w : World) (d : ArrayDef) → with_parent (older (renamed g w)) (with_parent g d) ≡ with_parent (older w) d
+parent_renamed g apart w (root ty ds es) = refl
+parent_renamed g apart w (view p t) = ap (λ n. view n t) (older_renamed g apart w p)
+
+abbrev entry : ℕ → ArrayDef → World → World
+entry n d w = (n, d) ∷ w
+
+-- numbered anew both are the same
+renumber_renamed : (g : ℕ → ℕ) → IsApart g → (w : World) → renumber (renamed g w) ≡ renumber w
+renumber_renamed g apart [] = refl
+renumber_renamed g apart ((i, d) ∷ w) = three (length-renamed g w) (parent_renamed g apart w d) (renumber_renamed g apart w)
+  where
+    three : {n m : ℕ} {x y : ArrayDef} {u v : World} → n ≡ m → x ≡ y → u ≡ v → entry n x u ≡ entry m y v
+    three p q s = cc
+
+names_renamed : (g : ℕ → ℕ) → IsApart g → (w : World) (names : Names) → with_numbers (older (renamed g w)) (with_numbers g names) ≡ with_numbers (older w) names
+names_renamed g apart w [] = refl
+names_renamed g apart w (n ∷ names) =
+    ap (λ v. (n.0, v) ∷ with_numbers (older (renamed g w)) (with_numbers g names)) (older_renamed g apart w n.1) ∙ ap (λ rest. (n.0, older w n.1) ∷ rest) (names_renamed g apart w names)
+
+pub held_renamed : (g : ℕ → ℕ) (names : Names) → map (λ n. n.1) (with_numbers g names) ≡ map g (map (λ n. n.1) names)
+held_renamed g [] = refl
+held_renamed g (n ∷ names) = ap (λ rest. g n.1 ∷ rest) (held_renamed g names)
+
+abbrev pub state_of : Names → World → ℕ → State
+state_of names w n = record { names = names; arrays = record { world = w; next = n } }
+
+-- states that are alike are the same once they are tidied
+pub tidy_alike : (g : ℕ → ℕ) (s t : State) → StateAlike g s t → tidy t ≡ tidy s
+tidy_alike g s t h =
+    let apart : IsApart g = h.arrays.apart in
+    let u : World = sweep s.arrays.world (held s) in
+    let held_same : held t ≡ map g (held s) = ap (map (λ n. n.1)) h.names ∙ held_renamed g s.names in
+    let swept : sweep t.arrays.world (held t) ≡ renamed g u = ap (sweep t.arrays.world) held_same ∙ sweep_renamed g apart h.arrays.world (held s) in
+    let names : with_numbers (older (sweep t.arrays.world (held t))) t.names ≡ with_numbers (older u) s.names =
+    ap (λ w. with_numbers (older w) t.names) swept ∙ ap (with_numbers (older (renamed g u))) h.names ∙ names_renamed g apart u s.names in
+    let world : renumber (sweep t.arrays.world (held t)) ≡ renumber u = ap renumber swept ∙ renumber_renamed g apart u in
+    let next : length (sweep t.arrays.world (held t)) ≡ length u = ap length swept ∙ length-renamed g u in
+    all_same names world next
+  where
+    all_same : {n m : Names} {w x : World} {k l : ℕ} → n ≡ m → w ≡ x → k ≡ l → state_of n w k ≡ state_of m x l
+    all_same p q r = cc

@@ -1,0 +1,20 @@
+use Rattle.pdl_machine.proofs.RunLemmas.{ended_stays, printed_stays, goes_on, first_fault, too_long_faults, limit_ends}
+use Rattle.pdl_machine.proofs.reading.run_laws.Goals as goal
+
+pub returns-clause-ended : goal.returns-clause-ended
+returns-clause-ended c = ended_stays
+
+pub returns-clause-printed : goal.returns-clause-printed
+returns-clause-printed c = printed_stays
+
+pub returns-clause-goes_on : goal.returns-clause-goes_on
+returns-clause-goes_on c = goes_on
+
+pub returns-clause-first_fault : goal.returns-clause-first_fault
+returns-clause-first_fault c = first_fault
+
+pub returns-clause-too_long : goal.returns-clause-too_long
+returns-clause-too_long c = too_long_faults
+
+pub returns-clause-limit : goal.returns-clause-limit
+returns-clause-limit c = limit_ends

@@ -1,0 +1,66 @@
+-- What a call sees and what it gives, without numbers of arrays; and how that joins the arrays.
+use Rattle.std.specs.Prelude.{ℕ, List, [], ◌∷◌, Result, Ok, Err}
+use Rattle.pdl_elem.specs.declared.Ty.{Ty}
+use Rattle.pdl_buf.specs.declared.made.Made.{Made}
+use Rattle.pdl_world.specs.declared.Trans.{Trans}
+use Rattle.pdl_world.specs.Formula.{Refusal, bad_dimension, out_of_range, child_dims}
+use Rattle.pdl_world.specs.World.{root, view, dims_in}
+use Rattle.pdl_machine.specs.declared.fault.Fault.{Fault}
+use Rattle.pdl_machine.specs.declared.fault.Fault.TheVariants.{WrongArguments, BadDimension, OutOfRange}
+use Rattle.pdl_machine.specs.Arrays.{Arrays, with_new, array_in}
+
+-- An argument that was evaluated: an array, a string, or a type word.
+pub data Argument (A : Type 0) : Type 0 where
+  array : A → Argument A
+  string : List ℕ → Argument A
+  type_word : Ty → Argument A
+
+-- an argument by its array's number
+abbrev pub Given : Type 0
+Given = Argument ℕ
+
+-- an argument by what its array holds
+abbrev pub Seen : Type 0
+Seen = Argument Made
+
+abbrev pub seen : Arrays → Given → Seen
+seen a (array v) = array (array_in a v)
+seen a (string t) = string t
+seen a (type_word ty) = type_word ty
+
+-- what a call sees of its arguments
+abbrev pub all_seen : Arrays → List Given → List Seen
+all_seen a [] = []
+all_seen a (g ∷ given) = seen a g ∷ all_seen a given
+
+-- What a call gives: a new array, or a view of its first argument.
+pub data Outcome : Type 0 where
+  made : Made → Outcome
+  viewed : Trans → Outcome
+
+-- a value with the arrays that are there then; or the first fault
+abbrev pub Valued : Type 0
+Valued = Result (Arrays × ℕ) Fault
+
+-- the fault that names why there is no such view
+abbrev pub view_fault : Refusal → Fault
+view_fault bad_dimension = BadDimension
+view_fault out_of_range = OutOfRange
+
+abbrev pub new_view : Arrays → ℕ → Trans → Result (List ℕ) Refusal → Valued
+new_view a v t (Err e) = Err (view_fault e)
+new_view a v t (Ok ds) = Ok (with_new a (view v t))
+
+-- a new view of the array that stands first, unless a rule of views refuses it
+abbrev pub view_placed : Arrays → List Given → Trans → Valued
+view_placed a (array v ∷ given) t = new_view a v t (child_dims t (dims_in a.world v))
+view_placed a _ t = Err WrongArguments
+
+abbrev pub new_root : Arrays → Made → Valued
+new_root a m = Ok (with_new a (root m.ty m.dims m.elems))
+
+-- what a call gives for these arguments, put among the arrays
+abbrev pub placed : Arrays → List Given → Result Outcome Fault → Valued
+placed a given (Err e) = Err e
+placed a given (Ok (made m)) = new_root a m
+placed a given (Ok (viewed t)) = view_placed a given t

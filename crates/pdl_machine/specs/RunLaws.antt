@@ -1,0 +1,33 @@
+-- What holds of every run.
+use Rattle.std.specs.Prelude.{◌≡◌, ℕ, ◌<◌, List, ◌++◌, length, Bool, true, false}
+use Rattle.pdl_lex.specs.Limits.{script_limit}
+use Rattle.pdl_lex.specs.Pieces.{Mark}
+use Rattle.pdl_machine.specs.Run.{Progress, after_marks, run}
+
+-- a run that a fault has ended prints and changes nothing more
+abbrev pub EndedStays : Type 0
+EndedStays = (keep : Bool) (p : Progress) (ms : List Mark) → p.ended ≡ true → after_marks keep p ms ≡ p
+
+-- what was printed stays at the front of what is printed
+abbrev pub PrintedStays : Type 0
+PrintedStays = (keep : Bool) (p : Progress) (ms : List Mark) →
+    (text : List ℕ) × ((after_marks keep p ms).printed ≡ p.printed ++ text)
+
+-- statements after others go on from what these come to
+abbrev pub GoesOn : Type 0
+GoesOn = (keep : Bool) (p : Progress) (ms more : List Mark) →
+    after_marks keep p (ms ++ more) ≡ after_marks keep (after_marks keep p ms) more
+
+-- without going on, a run is ended exactly where a fault came
+abbrev pub FirstFaultEnds : Type 0
+FirstFaultEnds = (script : List ℕ) → (run false script).ended ≡ (run false script).faulted
+
+-- a script that is too long faults, however it goes on after faults
+abbrev pub TooLongFaults : Type 0
+TooLongFaults = (keep : Bool) (script : List ℕ) → script_limit < length script →
+    (run keep script).faulted ≡ true
+
+-- what stands past the byte past the limit doesn't count
+abbrev pub LimitEnds : Type 0
+LimitEnds = (keep : Bool) (script more : List ℕ) → script_limit < length script →
+    run keep (script ++ more) ≡ run keep script

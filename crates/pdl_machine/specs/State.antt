@@ -1,0 +1,34 @@
+-- The state of a machine between two statements.
+use Rattle.std.specs.Prelude.{ℕ, List, [], ◌∷◌, map}
+use Rattle.pdl_world.specs.World.{World}
+use Rattle.pdl_world.specs.Sound.{AllBelow, IsSound, IsLive}
+use Rattle.pdl_machine.specs.Names.{Names}
+use Rattle.pdl_machine.specs.Arrays.{Arrays, no_arrays}
+
+-- Names, and the arrays that they are bound to.
+pub record State : Type 0 where
+  pub names : Names
+  pub arrays : Arrays
+
+-- no names and no arrays
+abbrev pub no_names : State
+no_names = record { names = []; arrays = no_arrays }
+
+-- with other arrays
+abbrev pub with_arrays : State → Arrays → State
+with_arrays s a = record s { arrays = a }
+
+-- the arrays that the state holds by itself: those that names are bound to
+abbrev pub held : State → List ℕ
+held s = map (λ n. n.1) s.names
+
+-- each of these arrays can be looked at
+abbrev pub AreLive : World → List ℕ → Type 0
+AreLive w [] = Unit {0}
+AreLive w (v ∷ vs) = IsLive w v × AreLive w vs
+
+-- the world is sound, its numbers are below the next one, and each array that is held is in it
+pub record IsWhole (s : State) : Type 0 where
+  pub sound : IsSound s.arrays.world
+  pub below : AllBelow s.arrays.next s.arrays.world
+  pub live : AreLive s.arrays.world (held s)

@@ -1,0 +1,25 @@
+//! Laws of what a text is read as, and of runs.
+ghost use Rattle.pdl_machine.specs.Reading.{ReadsItsMeaning, MeansOneThing};
+ghost use Rattle.pdl_machine.specs.RunLaws.{EndedStays, PrintedStays, GoesOn, FirstFaultEnds, TooLongFaults, LimitEnds};
+
+use pdl_syntax::parsing_is_the_grammar;
+
+/// What a run reads a text as is what the grammar says: the one statement that its tokens spell, or the
+/// first check that refuses them. The call does nothing when it runs.
+pub fn reads_law()
+    ensures means { ReadsItsMeaning }
+    ensures one { MeansOneThing }
+{
+    parsing_is_the_grammar();
+}
+
+/// The laws of runs: a fault that ends a run ends it, what was printed stays, and only the bytes up to
+/// the one past the limit of a script count. The call does nothing when it runs.
+pub fn run_laws()
+    ensures ended { EndedStays }
+    ensures printed { PrintedStays }
+    ensures goes_on { GoesOn }
+    ensures first_fault { FirstFaultEnds }
+    ensures too_long { TooLongFaults }
+    ensures limit { LimitEnds }
+{}

@@ -1,0 +1,26 @@
+use Rattle.std.proofs.Common.{◌≡◌, ◌+◌, Ok}
+use Rattle.std.specs.Prelude.{take}
+use Rattle.pdl_syntax.specs.Tree.{none}
+use Rattle.pdl_syntax.specs.TreeOf.{tree_of, args_of, argument_of}
+use Rattle.pdl_machine.specs.Value.{taken}
+use Rattle.pdl_session.specs.Arguments.{arguments, AreGivenLive}
+use Rattle.pdl_session.specs.Scope.{Grows}
+use Rattle.pdl_session.proofs.Evals.{weight, weights}
+use Rattle.pdl_session.proofs.scope.Scope.+eval.Given as goal
+
+-- the arguments so far are evaluated
+abbrev pub invariant-take-loop-arg : goal.invariant-take-loop-arg
+invariant-take-loop-arg l = record {
+  so_far : taken l.fn.self.names l.fn.self.arrays (args_of (take l.arg-index l.args) none) ≡ Ok (l.self.arrays, arguments l.given.items);
+  grown : Grows l.fn.self l.self;
+  live : AreGivenLive l.self.arrays.world l.given.items;
+}
+
+abbrev pub decreases-eval : goal.decreases-eval
+decreases-eval l = weight (tree_of l.value.now)
+
+abbrev pub decreases-take : goal.decreases-take
+decreases-take l = weights (args_of l.args.now none) + 1
+
+abbrev pub decreases-take_one : goal.decreases-take_one
+decreases-take_one l = weights (argument_of l.arg.now none)

@@ -1,0 +1,38 @@
+-- What a session keeps, and how it is seen.
+use Rattle.std.specs.Prelude.{◌≡◌, ℕ, ℤ, List}
+use Rattle.pdl_elem.specs.declared.Ty.{Ty}
+use Rattle.pdl_buf.specs.declared.made.Made.{Made}
+use Rattle.pdl_world.specs.Sound.{IsLive}
+use Rattle.pdl_engine.specs.State.{State as Engine}
+use Rattle.pdl_machine.specs.Names.{Names}
+use Rattle.pdl_machine.specs.Arrays.{Arrays}
+use Rattle.pdl_machine.specs.State.{State, no_names}
+use Rattle.pdl_machine.specs.Laws.{AreGrown}
+
+-- the engine's arrays as the machine's
+abbrev pub arrays_of : Engine → Arrays
+arrays_of e = record { world = e.world; next = e.next }
+
+-- names with the engine's arrays as a state of the machine
+abbrev pub state_in : Names → Engine → State
+state_in names e = record { names = names; arrays = arrays_of e }
+
+-- an array of this type, these dimensions and these elements
+abbrev pub array_of : Ty → List ℕ → List ℤ → Made
+array_of ty ds es = record { ty = ty; dims = ds; elems = es }
+
+-- The names are the same, nothing but new arrays came, and each array that was there is there.
+pub record Grows (old new : State) : Type 0 where
+  pub names : new.names ≡ old.names
+  pub arrays : AreGrown old.arrays new.arrays
+  pub still : (v : ℕ) → IsLive old.arrays.world v → IsLive new.arrays.world v
+
+-- What is seen of a session: the machine's state, and how many calls of `step` there were. The count
+-- stands still at 2^64 - 1.
+pub record Session : Type 0 where
+  pub state : State
+  pub done : ℕ
+
+-- a session before its first step
+abbrev pub no_steps : Session
+no_steps = record { state = no_names; done = 0 }

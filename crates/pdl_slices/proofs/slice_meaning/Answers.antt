@@ -1,0 +1,5 @@
+use Rattle.pdl_slices.proofs.Meanings.{slice_meaning_lem}
+use Rattle.pdl_slices.proofs.slice_meaning.Goals as goal
+
+pub returns : goal.returns
+returns c = slice_meaning_lem

@@ -1,0 +1,5 @@
+use Rattle.pdl_syntax.proofs.Trees.{tree_of_call}
+use Rattle.pdl_syntax.proofs.laws.calls_are_trees.Goals as goal
+
+pub returns : goal.returns
+returns c = tree_of_call

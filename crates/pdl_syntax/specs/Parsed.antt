@@ -1,0 +1,32 @@
+-- The meaning of a text's tokens as a function. The law `parsing_is_the_grammar` says that it is the grammar with its checks.
+use Rattle.std.specs.Prelude.{◌≡◌, ℕ, List, if◌then◌else◌, Option, Some, None, Result, Ok, Err}
+use Rattle.pdl_lex.specs.declared.Token.{Token}
+use Rattle.pdl_lexemes.specs.declared.Lexeme.{Lexeme}
+use Rattle.pdl_lexemes.specs.Lexing.{lexemes_of}
+use Rattle.pdl_lexemes.specs.Depth.{is_too_deep, has_large, ragged_in}
+use Rattle.pdl_syntax.specs.declared.parser.ParseFault.{ParseFault}
+use Rattle.pdl_syntax.specs.declared.parser.ParseFault.TheVariants.{TooDeep, NumberTooLarge, Syntax, Ragged, NoMemory}
+use Rattle.pdl_syntax.specs.declared.tree.Statement.{Statement}
+use Rattle.pdl_syntax.specs.StatementTree.{StatementTree, statement_of}
+use Rattle.pdl_syntax.specs.StatementReading.{read_statement}
+
+abbrev pub unless_ragged : List Lexeme → Option StatementTree → Result StatementTree ParseFault
+unless_ragged lexemes None = Err Syntax
+unless_ragged lexemes (Some s) = if ragged_in lexemes then Err Ragged else Ok s
+
+-- the checks in their order: too deep, a number too large, no statement, a ragged list
+abbrev pub checked_lexemes : List ℕ → List Lexeme → Result StatementTree ParseFault
+checked_lexemes source lexemes =
+    if is_too_deep lexemes then Err TooDeep
+    else (if has_large lexemes then Err NumberTooLarge
+    else unless_ragged lexemes (read_statement source lexemes))
+
+-- the statement that the tokens of a text spell, or the first check that they fail
+unfoldable pub parsed : List ℕ → List Token → Result StatementTree ParseFault
+parsed text tokens = checked_lexemes text (lexemes_of text tokens)
+
+-- the answer is this one; want of memory says nothing
+abbrev pub IsParsed : Result StatementTree ParseFault → Result Statement ParseFault → Type 0
+IsParsed wanted (Ok s) = wanted ≡ Ok (statement_of s)
+IsParsed wanted (Err NoMemory) = Unit {0}
+IsParsed wanted (Err fault) = wanted ≡ Err fault
