@@ -1,0 +1,5 @@
+pub mod JoinedSizes
+pub mod Outcomes
+pub mod Solving
+pub mod Steps
+pub mod Work

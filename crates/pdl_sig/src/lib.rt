@@ -1,0 +1,118 @@
+//! Signatures of operations on broadcast arrays, and what the arguments of a call resolve to
+//! (PDL::PP, Signatures).
+#![tactic(auto)]
+
+mod cores;
+mod inputs;
+mod joins;
+pub mod laws;
+mod resolving;
+mod shapes;
+#[cfg(test)]
+mod tests;
+
+use pdl_elem::{Items, Name, Ty};
+use pdl_shape::Dims;
+pub use resolving::resolve;
+use std::alloc::AllocError;
+
+/// What an argument is to a call.
+#[derive(Clone, Copy, PartialEq, Eq, Debug)]
+pub enum Role {
+    /// The caller hands it in.
+    Input,
+    /// `[o]`: the call makes it.
+    Output,
+    /// `[io]`: the caller hands in how it starts, and the call makes it.
+    Both,
+    /// `[t]`: the call makes it for itself, at each place of the broadcast.
+    Temp,
+}
+
+/// Of which type an argument is.
+#[derive(Clone, Copy, PartialEq, Eq, Debug)]
+pub enum ArgType {
+    /// No type word: the call's generic type.
+    Generic,
+    /// A type word: that type.
+    Fixed(Ty),
+    /// A type word and `+`: the higher one of that type and the generic type.
+    AtLeast(Ty),
+}
+
+/// One argument of a signature.
+#[derive(Debug, Drop)]
+pub struct SigArg {
+    pub name: Name,
+    pub role: Role,
+    pub ty: ArgType,
+    /// The core dimensions, dimension 0 first, by their numbers among the signature's names.
+    pub dims: Items<u8>,
+}
+
+/// A signature, as `a(n); b(n); [o]c()`.
+#[derive(Debug, Drop)]
+pub struct Signature {
+    /// The arguments in the order of the text.
+    pub args: Items<SigArg>,
+    /// The names of the dimensions, in the order in which they first stand in the text.
+    pub names: Items<Name>,
+    /// For each name the size that the text fixes it to, if any.
+    pub fixed: Items<Option<u32>>,
+}
+
+/// The type and the dimensions of an array that is given to a call.
+#[derive(Debug, Drop)]
+pub struct ArgShape {
+    pub ty: Ty,
+    pub dims: Dims,
+}
+
+/// What the arguments of a call resolve to.
+#[derive(Debug, Drop)]
+pub struct Resolved {
+    /// The generic type.
+    pub generic: Ty,
+    /// The type of each argument of the signature, temporaries too.
+    pub types: Items<Ty>,
+    /// The size of each named dimension.
+    pub sizes: Items<u32>,
+    /// The dimensions over which the call is broadcast.
+    pub broadcast: Dims,
+    /// The shape of each argument of the signature: of an output the whole shape, core sizes and
+    /// then the broadcast dimensions; of a temporary the core sizes; of an input the given shape.
+    pub shapes: Items<Dims>,
+}
+
+/// Why the arguments of a call don't resolve. Where several hold, the first one of this list is
+/// answered; only want of memory may be answered at any call.
+#[derive(Clone, Copy, PartialEq, Eq, Debug)]
+pub enum ResolveFault {
+    /// The number of given arguments isn't that of the inputs and `[io]` arguments.
+    ArgCount,
+    /// A core size is neither 1 nor the size of its dimension.
+    CoreMismatch,
+    /// The dimensions after the core ones don't join.
+    BroadcastMismatch,
+    /// An `[io]` argument isn't of its core sizes and then the broadcast dimensions.
+    StretchedInOut,
+    /// An output would have more than 16 dimensions.
+    TooManyDims,
+    /// The extent of the broadcast dimensions, of an output or of a temporary is above 1,048,576.
+    TooLarge,
+    /// The broadcast size times all named sizes, of which 0 counts as 1, is above 16,777,216.
+    TooMuchWork,
+    /// Memory has run out.
+    NoMemory,
+}
+
+impl From<AllocError> for ResolveFault {
+    ghost use Rattle.std.specs.Prelude.{◌≡◌};
+    ghost use Rattle.pdl_sig.specs.declared.ResolveFault.{ResolveFault};
+
+    ghost from_gives = { λ _ e. e ≡ ResolveFault.NoMemory };
+
+    fn from(_e: AllocError) -> ResolveFault {
+        ResolveFault::NoMemory
+    }
+}
