@@ -1,5 +1,15 @@
+pub mod Complete
+pub mod Digits
+pub mod Fronts
 pub mod JoinedSizes
+pub mod Names
 pub mod Outcomes
+pub mod Readings
+pub mod Signatures
 pub mod Solving
+pub mod Sound
 pub mod Steps
+pub mod Tokens
+pub mod Turns
+pub mod WellFormed
 pub mod Work

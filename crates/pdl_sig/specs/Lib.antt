@@ -1,3 +1,6 @@
+pub mod Grammar
 pub mod Known
+pub mod Reading
+pub mod Refusals
 pub mod Resolution
 pub mod Solutions

@@ -6,14 +6,21 @@ mod cores;
 mod inputs;
 mod joins;
 pub mod laws;
+mod lexing;
+mod naming;
+mod reading;
+mod refusing;
 mod resolving;
 mod shapes;
+mod signing;
 #[cfg(test)]
 mod tests;
+pub mod written;
 
 use pdl_elem::{Items, Name, Ty};
 use pdl_shape::Dims;
 pub use resolving::resolve;
+pub use signing::read_signature;
 use std::alloc::AllocError;
 
 /// What an argument is to a call.
@@ -59,6 +66,36 @@ pub struct Signature {
     pub names: Items<Name>,
     /// For each name the size that the text fixes it to, if any.
     pub fixed: Items<Option<u32>>,
+}
+
+/// Why a text gives no signature. Where several hold, the first one of this list is answered; only
+/// want of memory may be answered at any text.
+#[derive(Clone, Copy, PartialEq, Eq, Debug)]
+pub enum SigFault {
+    /// The text isn't of the form of a signature, or has a word or a number that isn't allowed there.
+    BadText,
+    /// More than 16 arguments, or more than 8 names of dimensions.
+    TooManyNames,
+    /// An argument's name stands twice, or within one argument a dimension, or a dimension is fixed to
+    /// two numbers.
+    TwiceNamed,
+    /// No argument is `[o]` or `[io]`.
+    NoOutput,
+    /// A dimension stands in no input or `[io]` argument, and isn't fixed.
+    OpenSize,
+    /// Memory has run out.
+    NoMemory,
+}
+
+impl From<AllocError> for SigFault {
+    ghost use Rattle.std.specs.Prelude.{◌≡◌};
+    ghost use Rattle.pdl_sig.specs.declared.SigFault.{SigFault};
+
+    ghost from_gives = { λ _ e. e ≡ SigFault.NoMemory };
+
+    fn from(_e: AllocError) -> SigFault {
+        SigFault::NoMemory
+    }
 }
 
 /// The type and the dimensions of an array that is given to a call.

@@ -1,0 +1,196 @@
+//! The tokens of signatures. Each function takes a text, and answers what stands at its front with
+//! the text after it.
+ghost use Rattle.std.specs.Prelude.{◌≡◌, ◌≤◌, ◌||◌, if◌then◌else◌, bytes_eq, Some, length, min, option_map, IsTrue};
+ghost use Rattle.std.specs.List.{list_all, prefix_len};
+ghost use Rattle.std.specs.Char.{is_ascii_digit};
+ghost use Rattle.pdl_lex.specs.Bytes.{is_blank, is_letter, is_word_byte};
+ghost use Rattle.pdl_sig.specs.Grammar.{past_blanks, begins, value_after, is_number, type_of, role_of, is_arg_word, is_dim_word};
+ghost use Rattle.pdl_sig.specs.Reading.{is_end, sign_at, word_at, number_at};
+
+use crate::Role;
+use pdl_elem::Ty;
+
+/// The largest number that a dimension is fixed to.
+const MOST_SIZE: u32 = 1_048_576;
+
+fn is_blank(byte: u8) -> bool
+    ensures { result ≡ is_blank byte }
+{
+    matches!(byte, b' ' | b'\t' | b'\n' | b'\r')
+}
+
+fn is_letter(byte: u8) -> bool
+    ensures { result ≡ is_letter byte }
+{
+    byte.is_ascii_alphabetic() || byte == b'_'
+}
+
+fn is_word_byte(byte: u8) -> bool
+    ensures { result ≡ is_word_byte byte }
+{
+    byte.is_ascii_alphanumeric() || byte == b'_'
+}
+
+/// The text past its blanks.
+fn past_blanks(text: &[u8]) -> &[u8]
+    ensures past { result.now ≡ past_blanks text.now }
+    ensures shorter { length result.now ≤ length text.now }
+{
+    for (at, byte) in text.iter().enumerate() {
+        if !is_blank(*byte) {
+            return &text[at..];
+        }
+    }
+    &[]
+}
+
+/// Whether nothing but blanks is left.
+pub fn is_end(text: &[u8]) -> bool
+    ensures { result ≡ is_end text.now }
+{
+    past_blanks(text).is_empty()
+}
+
+/// The text after a sign.
+#[tactic(auto, unfolding(crate::specs::Reading::sign_at))]
+pub fn sign(sign: u8, text: &[u8]) -> Option<&[u8]>
+    ensures read { option_map (λ rest. rest.now) result ≡ sign_at sign text.now }
+{
+    match past_blanks(text) {
+        [first, rest @ ..] if *first == sign => Some(rest),
+        _ => None,
+    }
+}
+
+fn begins_word(text: &[u8]) -> bool
+    ensures { result ≡ begins is_letter text.now }
+{
+    match text {
+        [first, ..] => is_letter(*first),
+        [] => false,
+    }
+}
+
+/// How many bytes at the front a word goes on with.
+fn word_len(text: &[u8]) -> usize
+    ensures passed { result ≡ prefix_len is_word_byte text.now }
+    ensures within { result ≤ length text.now }
+{
+    text.iter().take_while(|byte| is_word_byte(**byte)).count()
+}
+
+/// How many digits stand at the front.
+fn digits_len(text: &[u8]) -> usize
+    ensures passed { result ≡ prefix_len is_ascii_digit text.now }
+    ensures within { result ≤ length text.now }
+{
+    text.iter().take_while(|byte| byte.is_ascii_digit()).count()
+}
+
+/// The word at the front, and the text after it.
+#[tactic(auto, unfolding(crate::specs::Reading::word_at))]
+pub fn word(text: &[u8]) -> Option<(&[u8], &[u8])>
+    ensures { option_map (λ x. (x.0.now, x.1.now)) result ≡ word_at text.now }
+{
+    let text = past_blanks(text);
+    if !begins_word(text) {
+        return None;
+    }
+    Some(text.split_at(word_len(text)))
+}
+
+fn is_number(digits: &[u8]) -> bool
+    ensures { result ≡ is_number digits.now }
+{
+    match digits {
+        [] => false,
+        [first, rest @ ..] => *first != b'0' || rest.is_empty(),
+    }
+}
+
+/// The number that digits spell, or one above the largest for all that are larger.
+fn value(digits: &[u8]) -> u32
+    requires { IsTrue (list_all is_ascii_digit digits.now) }
+    ensures { result ≡ min (value_after 0 digits.now) 1048577 }
+{
+    let mut value = 0;
+    for digit in digits {
+        value = (10 * value + u32::from(*digit - b'0')).min(MOST_SIZE + 1);
+    }
+    value
+}
+
+/// The number at the front, and the text after it; none above the largest.
+#[tactic(auto, unfolding(crate::specs::Reading::number_at))]
+pub fn number(text: &[u8]) -> Option<(u32, &[u8])>
+    ensures { option_map (λ x. (x.0, x.1.now)) result ≡ number_at text.now }
+{
+    let text = past_blanks(text);
+    let (digits, rest) = text.split_at(digits_len(text));
+    if !is_number(digits) {
+        return None;
+    }
+    let value = value(digits);
+    if value > MOST_SIZE {
+        return None;
+    }
+    Some((value, rest))
+}
+
+/// The value for this word, where the text is the word, and else the other one.
+fn or_found<T: Copy>(text: &[u8], word: &[u8], value: T, other: Option<T>) -> Option<T>
+    ensures { result ≡ (if bytes_eq text.now word.now then Some value else other) }
+{
+    if text == word { Some(value) } else { other }
+}
+
+/// Whether the text is the word, or some word before it.
+fn or_is(text: &[u8], word: &[u8], other: bool) -> bool
+    ensures { result ≡ (bytes_eq text.now word.now || other) }
+{
+    text == word || other
+}
+
+/// The type of a type word.
+pub fn type_of(word: &[u8]) -> Option<Ty>
+    ensures { result ≡ type_of word.now }
+{
+    let found = None;
+    let found = or_found(word, b"longlong", Ty::Longlong, found);
+    let found = or_found(word, b"long", Ty::Long, found);
+    let found = or_found(word, b"int", Ty::Long, found);
+    let found = or_found(word, b"ushort", Ty::Ushort, found);
+    let found = or_found(word, b"short", Ty::Short, found);
+    or_found(word, b"byte", Ty::Byte, found)
+}
+
+/// The role of a word in square brackets.
+pub fn role_of(word: &[u8]) -> Option<Role>
+    ensures { result ≡ role_of word.now }
+{
+    let found = None;
+    let found = or_found(word, b"io", Role::Both, found);
+    let found = or_found(word, b"t", Role::Temp, found);
+    or_found(word, b"o", Role::Output, found)
+}
+
+/// Whether the word may name an argument.
+pub fn is_arg_word(word: &[u8]) -> bool
+    ensures { result ≡ is_arg_word word.now }
+{
+    let found = or_is(word, b"GENERIC", false);
+    type_of(word).is_none() && !or_is(word, b"SIZE", found)
+}
+
+/// Whether the word may name a dimension: it isn't reserved in kernel code.
+pub fn is_dim_word(word: &[u8]) -> bool
+    ensures { result ≡ is_dim_word word.now }
+{
+    let found = false;
+    let found = or_is(word, b"longlong", found);
+    let found = or_is(word, b"long", found);
+    let found = or_is(word, b"int", found);
+    let found = or_is(word, b"else", found);
+    let found = or_is(word, b"if", found);
+    !or_is(word, b"loop", found)
+}
