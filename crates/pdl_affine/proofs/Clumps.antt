@@ -6,9 +6,9 @@ use Rattle.std.proofs.lemmas.Bool.{cases_eq}
 use Rattle.std.proofs.lemmas.Bool.Decides.{nat_tests}
 use Rattle.std.proofs.lemmas.Int.{ints}
 use Rattle.std.proofs.lemmas.List.{map-append, take-append-drop, length-take-le, length-drop}
+use Rattle.pdl_shape.specs.Laws.{PositionLaws}
 use Rattle.pdl_shape.specs.Shape.{IsWithin, size_of, coordinates_of}
 use Rattle.pdl_shape.specs.Triple.{Triple, IsTriple, moved, spread, whole_incs, whole}
-use Rattle.pdl_shape.proofs.Positions.{coordinates_within, quotient_below}
 use Rattle.pdl_affine.specs.Views.{Form, sliced, exchanged, shifted, arranged, inserted, joined, squeezed, clumped, sizes, form_source}
 use Rattle.pdl_affine.specs.Windows.{is_chain, do_join, is_window, form_place, shown, windowed}
 use Rattle.pdl_affine.specs.Courses.{filled, first_inc, others}
@@ -85,44 +85,44 @@ row x p d m h e =
     let split : pos (p % d) +ℤ (pos d *ℤ pos (p / d)) ≡ pos p = let q : d * (p / d) + p % d ≡ p = omega arith in omega (arith, ints, q) in
     ap (λ z. (x *ℤ pos (p % d)) +ℤ z) (e ∙ sym (mul_swap x (pos d) (pos (p / d)))) ∙ sym (mul-sum x (pos (p % d)) (pos d *ℤ pos (p / d))) ∙ ap (λ z. x *ℤ z) split
 
-chain_after : (xs : List ℤ) (ds : List ℕ) (y : ℤ) (e p : ℕ) → length xs ≡ length ds → p < size_of ds → is_chain ((y, e) ∷ others xs ds) ≡ true
+chain_after : PositionLaws → (xs : List ℤ) (ds : List ℕ) (y : ℤ) (e p : ℕ) → length xs ≡ length ds → p < size_of ds → is_chain ((y, e) ∷ others xs ds) ≡ true
     → moved xs (coordinates_of ds p) ≡ (y *ℤ pos e) *ℤ pos p
-chain_after [] [] y e p n h c = let none : p ≡ 0 = omega (arith, h) in rw none (nothing (y *ℤ pos e)) where
+chain_after laws [] [] y e p n h c = let none : p ≡ 0 = omega (arith, h) in rw none (nothing (y *ℤ pos e)) where
   nothing : (z : ℤ) → pos 0 ≡ z *ℤ pos 0
   nothing z = omega (arith, ints)
-chain_after [] (d ∷ ds) y e p n h c = absurd (omega arith)
-chain_after (x ∷ xs) [] y e p n h c = absurd (omega arith)
-chain_after (x ∷ xs) (d ∷ ds) y e p n h c = elim (cases_eq d 1) [
+chain_after laws [] (d ∷ ds) y e p n h c = absurd (omega arith)
+chain_after laws (x ∷ xs) [] y e p n h c = absurd (omega arith)
+chain_after laws (x ∷ xs) (d ∷ ds) y e p n h c = elim (cases_eq d 1) [
   | inl one ↦ subst (λ k. moved (x ∷ xs) (coordinates_of (k ∷ ds) p) ≡ (y *ℤ pos e) *ℤ pos p) (sym one)
-      (skip_one xs ds x p _ (chain_after xs ds y e p (omega arith) (omega (arith, h, ap (λ k. k * size_of ds) one))
+      (skip_one xs ds x p _ (chain_after laws xs ds y e p (omega arith) (omega (arith, h, ap (λ k. k * size_of ds) one))
       (ap (λ b. is_chain ((y, e) ∷ (if not b then (x, d) ∷ others xs ds else others xs ds))) (sym (is_one d one)) ∙ c)))
   | inr o ↦
-      let q = quotient_below d ds p h in
+      let q = laws.quotient_below d ds p h in
       let parts = both x (y *ℤ pos e) (is_chain ((x, d) ∷ others xs ds)) (ap (λ b. is_chain ((y, e) ∷ (if not b then (x, d) ∷ others xs ds else others xs ds))) (sym (not_one d o)) ∙ c) in
-      row x p d (moved xs (coordinates_of ds (p / d))) q.0 (chain_after xs ds x d (p / d) (omega arith) q.1 parts.1) ∙ ap (λ z. z *ℤ pos p) parts.0
+      row x p d (moved xs (coordinates_of ds (p / d))) q.0 (chain_after laws xs ds x d (p / d) (omega arith) q.1 parts.1) ∙ ap (λ z. z *ℤ pos p) parts.0
 ]
 
-chain_moved : (xs : List ℤ) (ds : List ℕ) (p : ℕ) → length xs ≡ length ds → p < size_of ds → is_chain (others xs ds) ≡ true → moved xs (coordinates_of ds p) ≡ first_inc xs ds *ℤ pos p
-chain_moved [] [] p n h c = let none : p ≡ 0 = omega (arith, h) in rw none refl
-chain_moved [] (d ∷ ds) p n h c = absurd (omega arith)
-chain_moved (x ∷ xs) [] p n h c = absurd (omega arith)
-chain_moved (x ∷ xs) (d ∷ ds) p n h c = elim (cases_eq d 1) [
+chain_moved : PositionLaws → (xs : List ℤ) (ds : List ℕ) (p : ℕ) → length xs ≡ length ds → p < size_of ds → is_chain (others xs ds) ≡ true → moved xs (coordinates_of ds p) ≡ first_inc xs ds *ℤ pos p
+chain_moved laws [] [] p n h c = let none : p ≡ 0 = omega (arith, h) in rw none refl
+chain_moved laws [] (d ∷ ds) p n h c = absurd (omega arith)
+chain_moved laws (x ∷ xs) [] p n h c = absurd (omega arith)
+chain_moved laws (x ∷ xs) (d ∷ ds) p n h c = elim (cases_eq d 1) [
   | inl one ↦ subst (λ k. moved (x ∷ xs) (coordinates_of (k ∷ ds) p) ≡ first_inc xs ds *ℤ pos p) (sym one)
-      (skip_one xs ds x p _ (chain_moved xs ds p (omega arith) (omega (arith, h, ap (λ k. k * size_of ds) one))
+      (skip_one xs ds x p _ (chain_moved laws xs ds p (omega arith) (omega (arith, h, ap (λ k. k * size_of ds) one))
       (ap (λ b. is_chain (if not b then (x, d) ∷ others xs ds else others xs ds)) (sym (is_one d one)) ∙ c)))
       ∙ ap (λ b. (if b then first_inc xs ds else x) *ℤ pos p) (sym (is_one d one))
   | inr o ↦
-      let q = quotient_below d ds p h in
+      let q = laws.quotient_below d ds p h in
       row x p d (moved xs (coordinates_of ds (p / d))) q.0
-      (chain_after xs ds x d (p / d) (omega arith) q.1 (ap (λ b. is_chain (if not b then (x, d) ∷ others xs ds else others xs ds)) (sym (not_one d o)) ∙ c))
+      (chain_after laws xs ds x d (p / d) (omega arith) q.1 (ap (λ b. is_chain (if not b then (x, d) ∷ others xs ds else others xs ds)) (sym (not_one d o)) ∙ c))
       ∙ ap (λ b. (if b then first_inc xs ds else x) *ℤ pos p) (sym (not_one d o))
 ]
 
 -- joined dimensions are one with the first increment
-joined_moved : (xs : List ℤ) (ds : List ℕ) (c : ℕ) → length xs ≡ length ds → c < max (size_of ds) 1 → do_join xs ds ≡ true → moved xs (coordinates_of ds c) ≡ first_inc xs ds *ℤ pos c
-joined_moved xs ds c n h j = elim (cases_eq (size_of ds) 0) [
+joined_moved : PositionLaws → (xs : List ℤ) (ds : List ℕ) (c : ℕ) → length xs ≡ length ds → c < max (size_of ds) 1 → do_join xs ds ≡ true → moved xs (coordinates_of ds c) ≡ first_inc xs ds *ℤ pos c
+joined_moved laws xs ds c n h j = elim (cases_eq (size_of ds) 0) [
   | inl e ↦ let none : c ≡ 0 = omega (arith, h, e) in subst (λ k. moved xs (coordinates_of ds k) ≡ first_inc xs ds *ℤ pos k) (sym none) (first_moved xs ds ∙ nothing (first_inc xs ds))
-  | inr o ↦ chain_moved xs ds c n (omega (arith, h, o)) (chain (list_any (λ d. d == 0) ds) (is_chain (others xs ds)) (λ z. o (empty_size ds z)) j)
+  | inr o ↦ chain_moved laws xs ds c n (omega (arith, h, o)) (chain (list_any (λ d. d == 0) ds) (is_chain (others xs ds)) (λ z. o (empty_size ds z)) j)
 ] where
   nothing : (z : ℤ) → pos 0 ≡ z *ℤ pos 0
   nothing z = omega (arith, ints)
@@ -131,53 +131,53 @@ joined_moved xs ds c n h j = elim (cases_eq (size_of ds) 0) [
   chain true b h j = absurd (h refl)
   chain false b h j = j
 
-joined_filled : (ds : List ℕ) (c : ℕ) → c < max (size_of ds) 1 → IsWithin (filled ds) (coordinates_of ds c)
-joined_filled ds c h = elim (cases_eq (size_of ds) 0) [
+joined_filled : PositionLaws → (ds : List ℕ) (c : ℕ) → c < max (size_of ds) 1 → IsWithin (filled ds) (coordinates_of ds c)
+joined_filled laws ds c h = elim (cases_eq (size_of ds) 0) [
   | inl e ↦ let none : c ≡ 0 = omega (arith, h, e) in subst (λ k. IsWithin (filled ds) (coordinates_of ds k)) (sym none) (first_filled ds)
-  | inr o ↦ filled_within ds (coordinates_of ds c) (coordinates_within ds c (omega (arith, h, o)))
+  | inr o ↦ filled_within ds (coordinates_of ds c) (laws.coordinates_within ds c (omega (arith, h, o)))
 ]
 
 -- the coordinates of a clump, in its parent
-clump_filled : (n : ℕ) (ds cs : List ℕ) → IsWithin (filled (sizes (clumped n) ds)) cs → IsWithin (filled ds) (form_source (clumped n) ds cs)
-clump_filled n ds [] w = absurd w
-clump_filled n ds (c ∷ cs) w =
+clump_filled : PositionLaws → (n : ℕ) (ds cs : List ℕ) → IsWithin (filled (sizes (clumped n) ds)) cs → IsWithin (filled ds) (form_source (clumped n) ds cs)
+clump_filled laws n ds [] w = absurd w
+clump_filled laws n ds (c ∷ cs) w =
     let parts : filled (take n ds) ++ filled (drop n ds) ≡ filled ds = sym (map-append (λ d. max d 1) (take n ds) (drop n ds)) ∙ ap filled (take-append-drop n ds) in
-    subst (λ es. IsWithin es (coordinates_of (take n ds) c ++ cs)) parts (within-append (filled (take n ds)) (filled (drop n ds)) (coordinates_of (take n ds) c) cs (joined_filled (take n ds) c w.0) w.1)
+    subst (λ es. IsWithin es (coordinates_of (take n ds) c ++ cs)) parts (within-append (filled (take n ds)) (filled (drop n ds)) (coordinates_of (take n ds) c) cs (joined_filled laws (take n ds) c w.0) w.1)
 
-pub clump_within : (n : ℕ) (ds cs : List ℕ) → IsWithin (sizes (clumped n) ds) cs → IsWithin ds (form_source (clumped n) ds cs)
-clump_within n ds [] w = absurd w
-clump_within n ds (c ∷ cs) w =
-    subst (λ es. IsWithin es (coordinates_of (take n ds) c ++ cs)) (take-append-drop n ds) (within-append (take n ds) (drop n ds) (coordinates_of (take n ds) c) cs (coordinates_within (take n ds) c w.0) w.1)
+pub clump_within : PositionLaws → (n : ℕ) (ds cs : List ℕ) → IsWithin (sizes (clumped n) ds) cs → IsWithin ds (form_source (clumped n) ds cs)
+clump_within laws n ds [] w = absurd w
+clump_within laws n ds (c ∷ cs) w =
+    subst (λ es. IsWithin es (coordinates_of (take n ds) c ++ cs)) (take-append-drop n ds) (within-append (take n ds) (drop n ds) (coordinates_of (take n ds) c) cs (laws.coordinates_within (take n ds) c w.0) w.1)
 
-clump_moved : (n : ℕ) (xs : List ℤ) (ds cs : List ℕ) → length xs ≡ length ds → n ≤ length ds → do_join (take n xs) (take n ds) ≡ true → IsWithin (filled (sizes (clumped n) ds)) cs
+clump_moved : PositionLaws → (n : ℕ) (xs : List ℤ) (ds cs : List ℕ) → length xs ≡ length ds → n ≤ length ds → do_join (take n xs) (take n ds) ≡ true → IsWithin (filled (sizes (clumped n) ds)) cs
     → moved xs (form_source (clumped n) ds cs) ≡ moved (first_inc (take n xs) (take n ds) ∷ drop n xs) cs
-clump_moved n xs ds [] l h j w = absurd w
-clump_moved n xs ds (c ∷ cs) l h j w =
+clump_moved laws n xs ds [] l h j w = absurd w
+clump_moved laws n xs ds (c ∷ cs) l h j w =
     let left : length (take n xs) ≡ n = length-take-le n xs (omega (arith, l, h)) in
     let right : length (take n ds) ≡ n = length-take-le n ds h in
     ap (λ ys. moved ys (coordinates_of (take n ds) c ++ cs)) (sym (take-append-drop n xs))
     ∙ moved-append (take n xs) (drop n xs) (coordinates_of (take n ds) c) cs (length-coordinates (take n ds) c ∙ right ∙ sym left)
-    ∙ ap (λ z. z +ℤ moved (drop n xs) cs) (joined_moved (take n xs) (take n ds) c (left ∙ sym right) w.0 j)
+    ∙ ap (λ z. z +ℤ moved (drop n xs) cs) (joined_moved laws (take n xs) (take n ds) c (left ∙ sym right) w.0 j)
 
 -- its places run with the first joined increment and those that are left
-pub clump_run : (n : ℕ) (over : Triple) → IsTriple over → n ≤ length over.dims → do_join (take n over.incs) (take n over.dims) ≡ true
+pub clump_run : PositionLaws → (n : ℕ) (over : Triple) → IsTriple over → n ≤ length over.dims → do_join (take n over.incs) (take n over.dims) ≡ true
     → Runs over (form_place (clumped n) over) (sizes (clumped n) over.dims) (pos over.offset) (first_inc (take n over.incs) (take n over.dims) ∷ drop n over.incs)
-clump_run n over o h j = record {
+clump_run laws n over o h j = record {
   paired = ap suc (length-drop n over.incs ∙ ap (λ k. k - n) o.paired ∙ sym (length-drop n over.dims));
-  line = λ cs w. ap (λ z. pos over.offset +ℤ z) (clump_moved n over.incs over.dims cs o.paired h j w);
-  near = λ cs es v w. apart (pos over.offset) _ _ (spread over.incs over.dims) (moved_apart over.incs over.dims (form_source (clumped n) over.dims cs) (form_source (clumped n) over.dims es) (clump_filled n over.dims cs v) (clump_filled n over.dims es w));
-  inside = λ cs w. (form_source (clumped n) over.dims cs, clump_within n over.dims cs w, refl);
+  line = λ cs w. ap (λ z. pos over.offset +ℤ z) (clump_moved laws n over.incs over.dims cs o.paired h j w);
+  near = λ cs es v w. apart (pos over.offset) _ _ (spread over.incs over.dims) (moved_apart over.incs over.dims (form_source (clumped n) over.dims cs) (form_source (clumped n) over.dims es) (clump_filled laws n over.dims cs v) (clump_filled laws n over.dims es w));
+  inside = λ cs w. (form_source (clumped n) over.dims cs, clump_within laws n over.dims cs w, refl);
   triple = o;
 } where
   apart : (o p q : ℤ) (n : ℕ) → p ≤ℤ (q +ℤ pos n) → (o +ℤ p) ≤ℤ ((o +ℤ q) +ℤ pos n)
   apart o p q n l = omega (arith, ints)
 
 -- the same over the view's own dimensions
-pub clump_run_at : (n : ℕ) (over : Triple) (ds : List ℕ) → IsTriple over → n ≤ length over.dims → true ≡ do_join (take n over.incs) (take n over.dims) → ds ≡ sizes (clumped n) over.dims
+pub clump_run_at : PositionLaws → (n : ℕ) (over : Triple) (ds : List ℕ) → IsTriple over → n ≤ length over.dims → true ≡ do_join (take n over.incs) (take n over.dims) → ds ≡ sizes (clumped n) over.dims
     → Runs over (form_place (clumped n) over) ds (pos over.offset) (first_inc (take n over.incs) (take n over.dims) ∷ drop n over.incs)
-clump_run_at n over ds o h j e =
+clump_run_at laws n over ds o h j e =
     let P : List ℕ → Type 0 = λ es. Runs over (form_place (clumped n) over) es (pos over.offset) (first_inc (take n over.incs) (take n over.dims) ∷ drop n over.incs) in
-    subst P (sym e) (clump_run n over o h (sym j))
+    subst P (sym e) (clump_run laws n over o h (sym j))
 
 -- a clump that joins is a window
 pub clump_window : (n : ℕ) (over t : Triple) (ds : List ℕ) → true ≡ do_join (take n over.incs) (take n over.dims) → ds ≡ sizes (clumped n) over.dims → t ≡ shown (form_place (clumped n) over) ds → Some t ≡ windowed (clumped n) over

@@ -1,5 +1,5 @@
 -- The coordinates that a view's own come from lie within its parent.
-use Rattle.std.proofs.Common.{◌≡◌, ℕ, suc, ◌+◌, ◌-◌, ◌<◌, ◌≤◌, List, [], ◌∷◌, ◌++◌, length, drop, get_or, replicate, insert, remove, Result, Ok, Err, refl, sym, ap, ◌∙◌, subst, arith, length-append, length-take-le}
+use Rattle.std.proofs.Common.{◌≡◌, ℕ, ◌+◌, ◌-◌, ◌<◌, ◌≤◌, List, [], ◌∷◌, ◌++◌, length, drop, get_or, replicate, insert, remove, Result, Ok, Err, refl, sym, ap, ◌∙◌, subst, arith, length-append, length-take-le}
 use Rattle.std.proofs.lemmas.List.{length-replicate}
 use Rattle.std.proofs.lemmas.List.FromFn.{length-map-range_with_len}
 use Rattle.std.proofs.lemmas.List.Edits.{length-swap, length-insert, length-remove}
@@ -18,14 +18,7 @@ use Rattle.pdl_affine.proofs.Picks.{exchanged_course, shifted_course, arranged_c
 use Rattle.pdl_affine.proofs.SliceCourses.{sliced_course}
 use Rattle.pdl_affine.proofs.Sounds.{resolved_sound, true_is}
 use Rattle.pdl_affine.proofs.Shown.{filled_within}
-use Rattle.pdl_affine.proofs.Sourced.{at_within}
-
--- as many coordinates as sizes, each below its size
-within_by : (ds xs : List ℕ) → length xs ≡ length ds → ((i : ℕ) → i < length ds → get_or xs i 0 < get_or ds i 0) → IsWithin ds xs
-within_by [] [] n h = tt
-within_by [] (x ∷ xs) n h = absurd (omega arith)
-within_by (d ∷ ds) [] n h = absurd (omega arith)
-within_by (d ∷ ds) (x ∷ xs) n h = (h 0 (omega arith), within_by ds xs (omega arith) (λ i l. h (suc i) (omega arith)))
+use Rattle.pdl_affine.proofs.Sourced.{at_within, within_each}
 
 -- the coordinate along a course lies in its dimension
 course_within : (form : Form) (ds cs : List ℕ) (i : ℕ) (t : _) → IsCourse form ds i t → IsWithin (sizes form ds) cs → get_or (form_source form ds cs) i 0 < get_or ds i 0
@@ -61,19 +54,19 @@ length_source laws (inserted p m) ds cs s n w =
     length-take-le (length ds) (remove cs p) (omega (arith, length-remove cs p (omega (arith, n, long, count)), n, long, count))
 length_source laws (joined is) ds cs s n w = length-map-range_with_len _ 0 (length ds)
 length_source laws squeezed ds cs s n w = length_unsqueezed ds cs
-length_source laws (clumped k) ds cs s n w = laws.as_many ds (form_source (clumped k) ds cs) (clump_within k ds cs w)
+length_source laws (clumped k) ds cs s n w = laws.as_many ds (form_source (clumped k) ds cs) (clump_within laws k ds cs w)
 
 form_within : PositionLaws → (form : Form) (ds cs : List ℕ) → IsSound form ds → IsWithin (sizes form ds) cs → IsWithin ds (form_source form ds cs)
-form_within laws form ds cs s w = within_by ds (form_source form ds cs) (length_source laws form ds cs s (laws.as_many (sizes form ds) cs w) w) (λ i h. each form i s w h) where
+form_within laws form ds cs s w = within_each ds (form_source form ds cs) (length_source laws form ds cs s (laws.as_many (sizes form ds) cs w) w) (λ i h. each form i s w h) where
   each : (form : Form) (i : ℕ) → IsSound form ds → IsWithin (sizes form ds) cs → i < length ds → get_or (form_source form ds cs) i 0 < get_or ds i 0
-  each (sliced ls) i s w h = course_within (sliced ls) ds cs i _ (sliced_course ls ds i s h) w
-  each (exchanged a b) i s w h = course_within (exchanged a b) ds cs i _ (exchanged_course ds a b i s.0 s.1 h) w
-  each (shifted a b) i s w h = course_within (shifted a b) ds cs i _ (shifted_course ds a b i s.0 s.1 h) w
-  each (arranged order) i s w h = course_within (arranged order) ds cs i _ (arranged_course ds order i s h) w
-  each (inserted p m) i s w h = course_within (inserted p m) ds cs i _ (inserted_course ds p m i h) w
-  each (joined is) i s w h = course_within (joined is) ds cs i _ (joined_course ds is i s.0 (true_is _ s.1) h) w
-  each squeezed i s w h = course_within squeezed ds cs i _ (squeezed_course ds i h) w
-  each (clumped k) i s w h = at_within ds (form_source (clumped k) ds cs) i (clump_within k ds cs w) h
+  each (sliced ls) i s w h = course_within (sliced ls) ds cs i _ (sliced_course laws ls ds i s h) w
+  each (exchanged a b) i s w h = course_within (exchanged a b) ds cs i _ (exchanged_course laws ds a b i s.0 s.1 h) w
+  each (shifted a b) i s w h = course_within (shifted a b) ds cs i _ (shifted_course laws ds a b i s.0 s.1 h) w
+  each (arranged order) i s w h = course_within (arranged order) ds cs i _ (arranged_course laws ds order i s h) w
+  each (inserted p m) i s w h = course_within (inserted p m) ds cs i _ (inserted_course laws ds p m i h) w
+  each (joined is) i s w h = course_within (joined is) ds cs i _ (joined_course laws ds is i s.0 (true_is _ s.1) h) w
+  each squeezed i s w h = course_within squeezed ds cs i _ (squeezed_course laws ds i h) w
+  each (clumped k) i s w h = at_within ds (form_source (clumped k) ds cs) i (clump_within laws k ds cs w) h
 
 checked_is : (ms ds : List ℕ) → checked_dims ms ≡ Ok ds → ms ≡ ds
 checked_is ms ds h = grind (arith, nat_tests, h)

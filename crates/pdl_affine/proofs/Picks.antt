@@ -9,23 +9,23 @@ use Rattle.std.proofs.lemmas.List.FromFn.{get_or-map-range_with_len, get_or-rang
 use Rattle.std.proofs.lemmas.List.Edits.{swapped_from_swap, length-swap, length-insert, length-remove, get_or-insert_below, get_or-insert_at, get_or-insert_above, get_or-remove_below, get_or-remove_above}
 use Rattle.std.proofs.lemmas.List.Folds.{Any-from_list_any, list_any_at}
 use Rattle.std.proofs.lemmas.List.Sums.{prefix_len_passes, prefix_len_stops, prefix_len-le-length, AllPass-from_list_all}
+use Rattle.pdl_shape.specs.Laws.{PositionLaws}
 use Rattle.pdl_shape.specs.Shape.{IsWithin}
-use Rattle.pdl_shape.proofs.Positions.{within-length}
 use Rattle.pdl_affine.specs.Views.{Form, exchanged, shifted, arranged, inserted, joined, squeezed, lists, lowest_of, kept_dims, is_arrangement, are_same_size, unsqueezed, sizes, form_source}
 use Rattle.pdl_affine.specs.Courses.{filled, IsCourse, whole, still, exchanged_to, past, before, shifted_to, joined_to, squeezed_to}
 use Rattle.pdl_affine.proofs.SizeLists.{kept_next}
 use Rattle.pdl_affine.proofs.Sourced.{at_within}
 
 -- a dimension whose coordinate is that of one dimension of the view, of the same size
-pub picked : (form : Form) (ds : List ℕ) (i a : ℕ) → a < length (sizes form ds) → get_or (sizes form ds) a 0 ≡ get_or ds i 0
+pub picked : PositionLaws → (form : Form) (ds : List ℕ) (i a : ℕ) → a < length (sizes form ds) → get_or (sizes form ds) a 0 ≡ get_or ds i 0
     → ((cs : List ℕ) → length cs ≡ length (sizes form ds) → get_or (form_source form ds cs) i 0 ≡ get_or cs a 0) → IsCourse form ds i (whole a)
-picked form ds i a inside size_is source_is = record {
+picked laws form ds i a inside size_is source_is = record {
   line = λ cs w. ap pos (source_is cs (long cs w)) ∙ once (get_or cs a 0);
   small = λ cs w. subst (λ n. n < max (get_or ds i 0) 1) (sym (source_is cs (long cs w))) (subst (λ m. get_or cs a 0 < max m 1) size_is (below cs w));
   empty = λ cs w. omega (arith, at_within (sizes form ds) cs a w inside, size_is);
 } where
   long : (cs : List ℕ) → IsWithin (filled (sizes form ds)) cs → length cs ≡ length (sizes form ds)
-  long cs w = within-length (filled (sizes form ds)) cs w ∙ length-map (sizes form ds) (λ d. max d 1)
+  long cs w = laws.as_many (filled (sizes form ds)) cs w ∙ length-map (sizes form ds) (λ d. max d 1)
 
   once : (c : ℕ) → pos c ≡ pos 0 +ℤ (pos 1 *ℤ pos c)
   once c = omega (arith, ints)
@@ -34,14 +34,14 @@ picked form ds i a inside size_is source_is = record {
   below cs w = subst (λ m. get_or cs a 0 < m) (get_or-map (λ d. max d 1) (sizes form ds) a 0 0 inside) (at_within (filled (sizes form ds)) cs a w (omega (arith, inside, length-map (sizes form ds) (λ d. max d 1))))
 
 -- a dimension whose coordinate is always the same
-pub fixed : (form : Form) (ds : List ℕ) (i f : ℕ) → f < get_or ds i 0 → ((cs : List ℕ) → length cs ≡ length (sizes form ds) → get_or (form_source form ds cs) i 0 ≡ f) → IsCourse form ds i (still f)
-fixed form ds i f inside source_is = record {
+pub fixed : PositionLaws → (form : Form) (ds : List ℕ) (i f : ℕ) → f < get_or ds i 0 → ((cs : List ℕ) → length cs ≡ length (sizes form ds) → get_or (form_source form ds cs) i 0 ≡ f) → IsCourse form ds i (still f)
+fixed laws form ds i f inside source_is = record {
   line = λ cs w. ap pos (source_is cs (long cs w)) ∙ never (get_or cs 0 0);
   small = λ cs w. subst (λ n. n < max (get_or ds i 0) 1) (sym (source_is cs (long cs w))) (omega (arith, inside));
   empty = λ cs w. omega (arith, inside);
 } where
   long : (cs : List ℕ) → IsWithin (filled (sizes form ds)) cs → length cs ≡ length (sizes form ds)
-  long cs w = within-length (filled (sizes form ds)) cs w ∙ length-map (sizes form ds) (λ d. max d 1)
+  long cs w = laws.as_many (filled (sizes form ds)) cs w ∙ length-map (sizes form ds) (λ d. max d 1)
 
   never : (c : ℕ) → pos f ≡ pos f +ℤ (pos 0 *ℤ pos c)
   never c = omega (arith, ints)
@@ -73,10 +73,10 @@ exchange_twice a b i = grind (arith, nat_tests)
 exchange_inside : (a b i n : ℕ) → a < n → b < n → i < n → exchanged_to a b i < n
 exchange_inside a b i n h k l = grind (arith, nat_tests)
 
-pub exchanged_course : (ds : List ℕ) (a b i : ℕ) → a < length ds → b < length ds → i < length ds → IsCourse (exchanged a b) ds i (whole (exchanged_to a b i))
-exchanged_course ds a b i h k l =
+pub exchanged_course : PositionLaws → (ds : List ℕ) (a b i : ℕ) → a < length ds → b < length ds → i < length ds → IsCourse (exchanged a b) ds i (whole (exchanged_to a b i))
+exchanged_course laws ds a b i h k l =
     let long : length (swap ds a b) ≡ length ds = length-swap ds a b in
-    picked (exchanged a b) ds i (exchanged_to a b i)
+    picked laws (exchanged a b) ds i (exchanged_to a b i)
     (omega (arith, long, exchange_inside a b i (length ds) h k l))
     (exchange_at ds a b (exchanged_to a b i) h k ∙ ap (λ j. get_or ds j 0) (exchange_twice a b i))
     (λ cs e. exchange_at cs a b i (omega (arith, e, long, h)) (omega (arith, e, long, k)))
@@ -119,20 +119,20 @@ shifted_here a b i e = grind (arith, nat_tests)
 shifted_there : (a b i : ℕ) → (i ≡ a → ⊥) → shifted_to a b i ≡ past b (before a i)
 shifted_there a b i e = grind (arith, nat_tests)
 
-pub shifted_course : (ds : List ℕ) (a b i : ℕ) → a < length ds → b < length ds → i < length ds → IsCourse (shifted a b) ds i (whole (shifted_to a b i))
-shifted_course ds a b i h k l =
+pub shifted_course : PositionLaws → (ds : List ℕ) (a b i : ℕ) → a < length ds → b < length ds → i < length ds → IsCourse (shifted a b) ds i (whole (shifted_to a b i))
+shifted_course laws ds a b i h k l =
     let x : ℕ = get_or ds a 0 in
     let less : length (remove ds a) + 1 ≡ length ds = length-remove ds a h in
     let fits : b ≤ length (remove ds a) = omega (arith, less, k) in
     let long : length (insert (remove ds a) b x) ≡ length ds = length-insert (remove ds a) b x fits ∙ less in
     elim (cases_eq i a) [
       | inl e ↦ subst (λ j. IsCourse (shifted a b) ds i (whole j)) (sym (shifted_here a b i e))
-          (picked (shifted a b) ds i b (omega (arith, long, k)) (get_or-insert_at (remove ds a) b x 0 fits ∙ ap (λ j. get_or ds j 0) (sym e))
+          (picked laws (shifted a b) ds i b (omega (arith, long, k)) (get_or-insert_at (remove ds a) b x 0 fits ∙ ap (λ j. get_or ds j 0) (sym e))
           (λ cs n.
           let shorter : length (remove cs b) + 1 ≡ length cs = length-remove cs b (omega (arith, n, long, k)) in
           ap (λ j. get_or (insert (remove cs b) a (get_or cs b 0)) j 0) e ∙ get_or-insert_at (remove cs b) a (get_or cs b 0) 0 (omega (arith, n, long, h, shorter))))
       | inr o ↦ subst (λ j. IsCourse (shifted a b) ds i (whole j)) (sym (shifted_there a b i o))
-          (picked (shifted a b) ds i (past b (before a i))
+          (picked laws (shifted a b) ds i (past b (before a i))
           (omega (arith, long, less, past_inside b (before a i) (length ds - 1) (before_inside a i (length ds) o h l)))
           (insert_past (remove ds a) b (before a i) x fits ∙ remove_past ds a (before a i) h ∙ ap (λ j. get_or ds j 0) (past-before a i o))
           (λ cs n.
@@ -142,13 +142,13 @@ shifted_course ds a b i h k l =
           ∙ remove_past cs b (before a i) (omega (arith, n, long, k))))
     ]
 
-pub inserted_course : (ds : List ℕ) (p m i : ℕ) → i < length ds → IsCourse (inserted p m) ds i (whole (past p i))
-inserted_course ds p m i l =
+pub inserted_course : PositionLaws → (ds : List ℕ) (p m i : ℕ) → i < length ds → IsCourse (inserted p m) ds i (whole (past p i))
+inserted_course laws ds p m i l =
     let xs : List ℕ = ds ++ replicate (p - length ds) 1 in
     let count : length xs ≡ length ds + (p - length ds) = length-append ds (replicate (p - length ds) 1) ∙ ap (λ n. length ds + n) (length-replicate (p - length ds) 1) in
     let fits : p ≤ length xs = omega (arith, count) in
     let long : length (insert xs p m) ≡ length xs + 1 = length-insert xs p m fits in
-    picked (inserted p m) ds i (past p i)
+    picked laws (inserted p m) ds i (past p i)
     (omega (arith, long, past_inside p i (length xs) (omega (arith, l, count))))
     (insert_past xs p i m fits ∙ get_or_append_left ds (replicate (p - length ds) 1) 0 i l)
     (λ cs n. get_or-take (length ds) (remove cs p) i 0 l ∙ remove_past cs p i (omega (arith, n, long, fits)))
@@ -182,13 +182,13 @@ all_listed is n i h l =
       both : (m n : ℕ) (b : Bool) → IsTrue ((m == n) && b) → (m ≡ n) × (b ≡ true)
       both m n b h = grind (arith, nat_tests)
 
-pub arranged_course : (ds order : List ℕ) (i : ℕ) → IsTrue (is_arrangement order (length ds)) → i < length ds → IsCourse (arranged order) ds i (whole (unwrap_or (position (λ j. j == i) order) 0))
-arranged_course ds order i h l =
+pub arranged_course : PositionLaws → (ds order : List ℕ) (i : ℕ) → IsTrue (is_arrangement order (length ds)) → i < length ds → IsCourse (arranged order) ds i (whole (unwrap_or (position (λ j. j == i) order) 0))
+arranged_course laws ds order i h l =
     let all = all_listed order (length ds) i h l in
     let place = listed_place order i all.1 in
     let a : ℕ = position_or_len (λ j. j == i) order in
     subst (λ j. IsCourse (arranged order) ds i (whole j)) (sym (place_is order i place.0))
-    (picked (arranged order) ds i a (omega (arith, place.0, length-map order (λ j. get_or ds j 0)))
+    (picked laws (arranged order) ds i a (omega (arith, place.0, length-map order (λ j. get_or ds j 0)))
     (get_or-map (λ j. get_or ds j 0) order a 0 0 place.0 ∙ ap (λ j. get_or ds j 0) place.1)
     (λ cs n.
     get_or-map-range_with_len (λ k. get_or cs (unwrap_or (position (λ j. j == k) order) 0) 0) 0 (length ds) i i 0 l (zero-add i)
@@ -262,13 +262,13 @@ listed_below is i n all h =
       equal : (x i : ℕ) → (x == i) ≡ true → x ≡ i
       equal x i h = grind (arith, nat_tests)
 
-pub joined_course : (ds is : List ℕ) (i : ℕ) → All (λ k. k < length ds) is → are_same_size is ds ≡ true → i < length ds → IsCourse (joined is) ds i (whole (joined_to is i))
-joined_course ds is i all same l = choose (lists is i) refl where
+pub joined_course : PositionLaws → (ds is : List ℕ) (i : ℕ) → All (λ k. k < length ds) is → are_same_size is ds ≡ true → i < length ds → IsCourse (joined is) ds i (whole (joined_to is i))
+joined_course laws ds is i all same l = choose (lists is i) refl where
   course : (k : ℕ) → (if lists is i then lowest_of is else i) ≡ k → k < length ds → (not (lists is k) || (k == lowest_of is)) ≡ true → get_or ds k 0 ≡ get_or ds i 0 → IsCourse (joined is) ds i (whole (joined_to is i))
   course k e below kept size =
       let at = kept_at is (length ds) k below kept in
       subst (λ a. IsCourse (joined is) ds i (whole a)) (ap (λ j. length (kept_dims is j)) (sym e))
-      (picked (joined is) ds i (length (kept_dims is k)) (omega (arith, at.0, length-map (kept_dims is (length ds)) (λ j. get_or ds j 0)))
+      (picked laws (joined is) ds i (length (kept_dims is k)) (omega (arith, at.0, length-map (kept_dims is (length ds)) (λ j. get_or ds j 0)))
       (get_or-map (λ j. get_or ds j 0) (kept_dims is (length ds)) (length (kept_dims is k)) 0 0 at.0 ∙ ap (λ j. get_or ds j 0) at.1 ∙ size)
       (λ cs n.
       get_or-map-range_with_len (λ j. get_or cs (length (kept_dims is (if lists is j then lowest_of is else j))) 0) 0 (length ds) i i 0 l (zero-add i)
@@ -315,10 +315,10 @@ squeezed-size (d ∷ ds) (suc i) h o = rest (squeezed-size ds i (omega arith) o)
   rest r true = r
   rest r false = (suc-le-suc r.0, r.1)
 
-pub squeezed_course : (ds : List ℕ) (i : ℕ) → i < length ds → IsCourse squeezed ds i (if get_or ds i 0 == 1 then still 0 else whole (squeezed_to ds i))
-squeezed_course ds i l = elim (cases_eq (get_or ds i 0) 1) [
+pub squeezed_course : PositionLaws → (ds : List ℕ) (i : ℕ) → i < length ds → IsCourse squeezed ds i (if get_or ds i 0 == 1 then still 0 else whole (squeezed_to ds i))
+squeezed_course laws ds i l = elim (cases_eq (get_or ds i 0) 1) [
   | inl e ↦ subst (λ b. IsCourse squeezed ds i (if b then still 0 else whole (squeezed_to ds i))) (sym (eq-eqb (get_or ds i 0) 1 e))
-      (fixed squeezed ds i 0 (omega (arith, e)) (λ cs n. squeezed-one ds cs i e))
+      (fixed laws squeezed ds i 0 (omega (arith, e)) (λ cs n. squeezed-one ds cs i e))
   | inr o ↦ let s = squeezed-size ds i l o in subst (λ b. IsCourse squeezed ds i (if b then still 0 else whole (squeezed_to ds i))) (sym (not_one (get_or ds i 0) o))
-      (picked squeezed ds i (squeezed_to ds i) s.0 s.1 (λ cs n. squeezed-other ds cs i l o))
+      (picked laws squeezed ds i (squeezed_to ds i) s.0 s.1 (λ cs n. squeezed-other ds cs i l o))
 ]

@@ -6,9 +6,9 @@ use Rattle.std.proofs.lemmas.Bool.Decides.{nat_tests}
 use Rattle.std.proofs.lemmas.Int.{ints}
 use Rattle.std.proofs.lemmas.List.{take_more, length-take-le}
 use Rattle.std.proofs.lemmas.List.FromFn.{fill_by_all, map-range_with_len_more, length-map-range_with_len}
+use Rattle.pdl_shape.specs.Laws.{PositionLaws}
 use Rattle.pdl_shape.specs.Shape.{IsWithin, size_of, extent_limit}
 use Rattle.pdl_shape.specs.Triple.{Triple, IsTriple, IsPlace, place_of, moved, spread}
-use Rattle.pdl_shape.proofs.Positions.{position_below}
 use Rattle.pdl_affine.specs.Windows.{origin, neighbour, increment, shown, Shows, LiesIn}
 use Rattle.pdl_affine.specs.Courses.{filled, counting, counted_incs}
 use Rattle.pdl_affine.proofs.Moved.{moved-counted, furthest, nearest, furthest_within, nearest_within, spread-ends, spread-counted, inc_spread}
@@ -20,8 +20,8 @@ filled_within (d ∷ ds) [] w = absurd w
 filled_within (d ∷ ds) (c ∷ cs) w = (omega (arith, w.0), filled_within ds cs w.1)
 
 -- sizes that coordinates lie within have elements
-pub some_element : (ds cs : List ℕ) → IsWithin ds cs → size_of ds ≡ 0 → ⊥
-some_element ds cs w none = omega (arith, position_below ds cs w, none)
+pub some_element : PositionLaws → (ds cs : List ℕ) → IsWithin ds cs → size_of ds ≡ 0 → ⊥
+some_element laws ds cs w none = omega (arith, laws.position_below ds cs w, none)
 
 -- the first coordinates
 pub origin_filled : (ds : List ℕ) → IsWithin (filled ds) (origin (length ds))
@@ -112,9 +112,9 @@ natural z low = omega (arith, ints)
 begins : (n : ℕ) (z : ℤ) → (n ≡ 0 → ⊥) → IsPlace z → pos (if n == 0 then 0 else nat_abs z) ≡ z
 begins n z some p = ap pos (elements n (nat_abs z) some) ∙ natural z p.low
 
-pub shows : (over : Triple) (place : List ℕ → ℤ) (ds : List ℕ) (start : ℤ) (xs : List ℤ) → Runs over place ds start xs → Shows (triple_at start xs ds) place
-shows over place ds start xs r cs w =
-    let some = some_element ds cs w in
+pub shows : PositionLaws → (over : Triple) (place : List ℕ → ℤ) (ds : List ℕ) (start : ℤ) (xs : List ℤ) → Runs over place ds start xs → Shows (triple_at start xs ds) place
+shows laws over place ds start xs r cs w =
+    let some = some_element laws ds cs w in
     let first : IsPlace start = subst IsPlace (place_origin over place ds start xs r) (place_inside over place ds start xs r (origin (length ds)) (origin_within ds some)) in
     ap (λ z. z +ℤ moved (counted_incs xs ds) cs) (begins (size_of ds) start some first)
     ∙ ap (λ z. start +ℤ z) (moved-counted xs ds cs r.paired (filled_within ds cs w)) ∙ sym (r.line cs (filled_within ds cs w))
@@ -129,10 +129,10 @@ narrow over place ds start xs r =
       ends : (p q s a b : ℤ) (m n : ℕ) → p ≡ s +ℤ a → q ≡ s +ℤ b → a ≡ b +ℤ pos m → p ≤ℤ (q +ℤ pos n) → m ≤ n
       ends p q s a b m n h k e l = omega (arith, ints)
 
-pub is_triple : (over : Triple) (place : List ℕ → ℤ) (ds : List ℕ) (start : ℤ) (xs : List ℤ) → Runs over place ds start xs → IsTriple (triple_at start xs ds)
-is_triple over place ds start xs r = record {
+pub is_triple : PositionLaws → (over : Triple) (place : List ℕ → ℤ) (ds : List ℕ) (start : ℤ) (xs : List ℤ) → Runs over place ds start xs → IsTriple (triple_at start xs ds)
+is_triple laws over place ds start xs r = record {
   paired = length-counted xs ds r.paired;
-  reachable = λ cs w. subst IsPlace (sym (shows over place ds start xs r cs w)) (place_inside over place ds start xs r cs w);
+  reachable = λ cs w. subst IsPlace (sym (shows laws over place ds start xs r cs w)) (place_inside over place ds start xs r cs w);
   narrow = omega (arith, spread-counted xs ds, narrow over place ds start xs r, r.triple.narrow);
 }
 
@@ -176,21 +176,21 @@ made offset incs ds = record { offset = offset; incs = incs; dims = ds }
 made-is : (offset : ℕ) (incs xs : List ℤ) (ds : List ℕ) (start : ℤ) → offset ≡ (if size_of ds == 0 then 0 else nat_abs start) → incs ≡ counted_incs xs ds → made offset incs ds ≡ triple_at start xs ds
 made-is offset incs xs ds start h k = ap (λ n. made n incs ds) h ∙ ap (λ r. made (if size_of ds == 0 then 0 else nat_abs start) r ds) k
 
-pub made_triple : (over : Triple) (place : List ℕ → ℤ) (ds : List ℕ) (start : ℤ) (xs : List ℤ) (offset : ℕ) (incs : List ℤ) → Runs over place ds start xs
+pub made_triple : PositionLaws → (over : Triple) (place : List ℕ → ℤ) (ds : List ℕ) (start : ℤ) (xs : List ℤ) (offset : ℕ) (incs : List ℤ) → Runs over place ds start xs
     → offset ≡ (if size_of ds == 0 then 0 else nat_abs start) → incs ≡ counted_incs xs ds → IsTriple (made offset incs ds)
-made_triple over place ds start xs offset incs r h k = subst IsTriple (sym (made-is offset incs xs ds start h k)) (is_triple over place ds start xs r)
+made_triple laws over place ds start xs offset incs r h k = subst IsTriple (sym (made-is offset incs xs ds start h k)) (is_triple laws over place ds start xs r)
 
 pub made_shown : (over : Triple) (place : List ℕ → ℤ) (ds : List ℕ) (start : ℤ) (xs : List ℤ) (offset : ℕ) (incs : List ℤ) → Runs over place ds start xs
     → offset ≡ (if size_of ds == 0 then 0 else nat_abs start) → incs ≡ counted_incs xs ds → made offset incs ds ≡ shown place ds
 made_shown over place ds start xs offset incs r h k = made-is offset incs xs ds start h k ∙ sym (shown-is over place ds start xs r)
 
-pub made_shows : (over : Triple) (place : List ℕ → ℤ) (ds : List ℕ) (start : ℤ) (xs : List ℤ) (offset : ℕ) (incs : List ℤ) → Runs over place ds start xs
+pub made_shows : PositionLaws → (over : Triple) (place : List ℕ → ℤ) (ds : List ℕ) (start : ℤ) (xs : List ℤ) (offset : ℕ) (incs : List ℤ) → Runs over place ds start xs
     → offset ≡ (if size_of ds == 0 then 0 else nat_abs start) → incs ≡ counted_incs xs ds → Shows (made offset incs ds) place
-made_shows over place ds start xs offset incs r h k =
+made_shows laws over place ds start xs offset incs r h k =
     let P : Triple → Type 0 = λ t. Shows t place in
-    subst P (sym (made-is offset incs xs ds start h k)) (shows over place ds start xs r)
+    subst P (sym (made-is offset incs xs ds start h k)) (shows laws over place ds start xs r)
 
-pub made_lies : (over : Triple) (place : List ℕ → ℤ) (ds : List ℕ) (start : ℤ) (xs : List ℤ) (offset : ℕ) (incs : List ℤ) → Runs over place ds start xs
+pub made_lies : PositionLaws → (over : Triple) (place : List ℕ → ℤ) (ds : List ℕ) (start : ℤ) (xs : List ℤ) (offset : ℕ) (incs : List ℤ) → Runs over place ds start xs
     → offset ≡ (if size_of ds == 0 then 0 else nat_abs start) → incs ≡ counted_incs xs ds → LiesIn (made offset incs ds) over
-made_lies over place ds start xs offset incs r h k =
-    λ cs w. let b = r.inside cs w in (b.0, b.1, made_shows over place ds start xs offset incs r h k cs w ∙ b.2)
+made_lies laws over place ds start xs offset incs r h k =
+    λ cs w. let b = r.inside cs w in (b.0, b.1, made_shows laws over place ds start xs offset incs r h k cs w ∙ b.2)

@@ -4,6 +4,7 @@ use Rattle.std.proofs.Math.Nat.{mul-le-mul_left}
 use Rattle.std.proofs.lemmas.Bool.Decides.{nat_tests}
 use Rattle.std.proofs.lemmas.Int.{ints}
 use Rattle.std.proofs.lemmas.List.{length-map, get_or-map, get_or-drop}
+use Rattle.pdl_shape.specs.Laws.{PositionLaws}
 use Rattle.pdl_shape.specs.Shape.{IsWithin}
 use Rattle.pdl_slices.specs.declared.SliceArg.{SliceArg}
 use Rattle.pdl_slices.specs.declared.SliceArg.TheVariants.{Whole, One, Dropped, Dummy, Span}
@@ -238,8 +239,8 @@ stepping ls ds i f s a l inside fits from = record {
   some zero m c h e = absurd (omega (arith, h, e refl))
   some (suc d) m c h e = omega arith
 
-pub sliced_course : (ls : List Line) (ds : List ℕ) (i : ℕ) → FitAll ls ds → i < length ds → IsCourse (sliced ls) ds i (course_at ls i 0)
-sliced_course ls ds i h l = of (find ls ds i 0 h l) where
+pub sliced_course : PositionLaws → (ls : List Line) (ds : List ℕ) (i : ℕ) → FitAll ls ds → i < length ds → IsCourse (sliced ls) ds i (course_at ls i 0)
+sliced_course laws ls ds i h l = of (find ls ds i 0 h l) where
   of : Found ls ds i 0 → IsCourse (sliced ls) ds i (course_at ls i 0)
   of (takes f s a e inside fits from) = subst (IsCourse (sliced ls) ds i) (sym (e ∙ ap (going f s) (let z : 0 + a ≡ a = omega arith in z))) (stepping ls ds i f s a l inside fits from)
-  of (stays f e below from) = subst (IsCourse (sliced ls) ds i) (sym e) (fixed (sliced ls) ds i f below (λ cs n. get_or-take (length ds) (line_sources ls cs) i 0 l ∙ from cs))
+  of (stays f e below from) = subst (IsCourse (sliced ls) ds i) (sym e) (fixed laws (sliced ls) ds i f below (λ cs n. get_or-take (length ds) (line_sources ls cs) i 0 l ∙ from cs))

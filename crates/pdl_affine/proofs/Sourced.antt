@@ -4,9 +4,9 @@ use Rattle.std.specs.List.{range_with_len}
 use Rattle.std.proofs.lemmas.Int.{ints}
 use Rattle.std.proofs.lemmas.List.{length-map, get_or-map}
 use Rattle.std.proofs.lemmas.List.FromFn.{length-map-range_with_len, get_or-map-range_with_len}
+use Rattle.pdl_shape.specs.Laws.{PositionLaws}
 use Rattle.pdl_shape.specs.Shape.{IsWithin, extent_limit}
 use Rattle.pdl_shape.specs.Triple.{Triple, IsTriple, moved, spread}
-use Rattle.pdl_shape.proofs.Positions.{within-length}
 use Rattle.pdl_affine.specs.declared.forms.Course.{Course}
 use Rattle.pdl_affine.specs.Views.{Form, sizes, form_source}
 use Rattle.pdl_affine.specs.Windows.{form_place}
@@ -74,14 +74,14 @@ source_within form ds ts cs a w =
     omega (arith, small, some))
 
 -- a form's places run along its courses
-pub courses_run : (form : Form) (over : Triple) (ts : List Course) → IsTriple over → AreCourses form over.dims ts
+pub courses_run : PositionLaws → (form : Form) (over : Triple) (ts : List Course) → IsTriple over → AreCourses form over.dims ts
     → Runs over (form_place form over) (sizes form over.dims) (pos over.offset +ℤ begun over.incs ts) (map (gathered over.incs ts) (range_with_len 0 (length (sizes form over.dims))))
-courses_run form over ts o a = record {
+courses_run laws form over ts o a = record {
   paired = length-map-range_with_len (gathered over.incs ts) 0 (length (sizes form over.dims));
   line = λ cs w.
       ap (λ z. pos over.offset +ℤ z)
       (moved-led over.incs ts (form_source form over.dims cs) cs (a.count ∙ sym o.paired) (λ i t lt. (a.each i t (omega (arith, o.paired))).line cs w)
-      ∙ led-parts over.incs ts cs (length (sizes form over.dims)) (within-length _ cs w ∙ length_filled (sizes form over.dims)))
+      ∙ led-parts over.incs ts cs (length (sizes form over.dims)) (laws.as_many _ cs w ∙ length_filled (sizes form over.dims)))
       ∙ joins (pos over.offset) (begun over.incs ts) _;
   near = λ cs es v w.
       let n = moved_apart over.incs over.dims (each_of (length over.dims) (form_source form over.dims cs)) (each_of (length over.dims) (form_source form over.dims es)) (source_filled form over.dims ts cs a v) (source_filled form over.dims ts es a w) in
@@ -112,18 +112,18 @@ composing form over ds parent place ts us triple courses parent_is same place_is
 }
 
 -- its places run from there by the gathered increments
-pub composing_run : (form : Form) (over : Triple) (ds : List ℕ) (place : ℤ) (ts us : List Course) → Composing form over ds place ts → us ≡ ts
+pub composing_run : PositionLaws → (form : Form) (over : Triple) (ds : List ℕ) (place : ℤ) (ts us : List Course) → Composing form over ds place ts → us ≡ ts
     → Runs over (form_place form over) ds place (map (gathered over.incs us) (range_with_len 0 (length ds)))
-composing_run form over ds place ts us c same =
-    let run = courses_run form over ts c.triple c.courses in
+composing_run laws form over ds place ts us c same =
+    let run = courses_run laws form over ts c.triple c.courses in
     let P : List Course → Type 0 = λ vs. Runs over (form_place form over) ds place (map (gathered over.incs vs) (range_with_len 0 (length ds))) in
     let Q : List ℕ → Type 0 = λ es. Runs over (form_place form over) es (pos over.offset +ℤ begun over.incs ts) (map (gathered over.incs ts) (range_with_len 0 (length es))) in
     let R : ℤ → Type 0 = λ z. Runs over (form_place form over) ds z (map (gathered over.incs ts) (range_with_len 0 (length ds))) in
     subst P (sym same) (subst R (sym c.place_is) (subst Q (sym c.sized) run))
 
 -- the gathered increments that count are small
-pub gathered_small : (form : Form) (over : Triple) (ds : List ℕ) (place : ℤ) (ts us : List Course) → Composing form over ds place ts → us ≡ ts
+pub gathered_small : PositionLaws → (form : Form) (over : Triple) (ds : List ℕ) (place : ℤ) (ts us : List Course) → Composing form over ds place ts → us ≡ ts
     → (i : ℕ) → i < length ds → 1 < get_or ds i 0 → unsigned_abs (gathered over.incs us i) < extent_limit
-gathered_small form over ds place ts us c same i h big =
+gathered_small laws form over ds place ts us c same i h big =
     subst (λ z. unsigned_abs z < extent_limit) (get_or-map-range_with_len (gathered over.incs us) 0 (length ds) i i (pos 0) h (zero-add i))
-    (inc_small over (form_place form over) ds place (map (gathered over.incs us) (range_with_len 0 (length ds))) (composing_run form over ds place ts us c same) i h big)
+    (inc_small over (form_place form over) ds place (map (gathered over.incs us) (range_with_len 0 (length ds))) (composing_run laws form over ds place ts us c same) i h big)

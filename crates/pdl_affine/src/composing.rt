@@ -10,7 +10,7 @@ ghost use Rattle.pdl_affine.specs.Courses.{seen_form, IsSound, IsStraight, begun
 use crate::courses::courses_of;
 use crate::forms::{Course, Form};
 use crate::joining::clump;
-use pdl_shape::{Dims, Triple, dims_list, elements_of, incs_list, triple_of};
+use pdl_shape::{Dims, Triple, dims_list, elements_of, incs_list, shape_laws, triple_of};
 use smallvec::SmallVec;
 use std::alloc::Global;
 
@@ -141,6 +141,7 @@ fn straight(alloc: Global, form: &Form, dims: &Dims, over: &Triple) -> Triple
     ensures shows { Shows result (form_place (seen_form form.now) over.now) }
     ensures inside { LiesIn result over.now }
 {
+    shape_laws();
     let courses = courses_of(alloc, form, &over.dims);
     let place = first_place(over, courses.as_slice());
     let incs = counted_incs(alloc, over, courses.as_slice(), dims);

@@ -6,7 +6,7 @@ ghost use Rattle.pdl_affine.specs.Views.{kept_dims, lists, lowest_of};
 use crate::forms::{Course, Form, Taken};
 use crate::resolving::lists;
 use crate::sizing::{is_kept, lowest_of};
-use pdl_shape::{Dims, dims_list};
+use pdl_shape::{Dims, dims_list, shape_laws};
 use smallvec::SmallVec;
 use std::alloc::Global;
 
@@ -32,6 +32,7 @@ fn course(form: &Form, parent: &[u32], dimension: usize) -> Course
     requires straight { IsStraight (seen_form form.now) }
     ensures { IsCourse (seen_form form.now) parent.now dimension result }
 {
+    shape_laws();
     match form {
         Form::Sliced(taken) => sliced(taken, dimension, 0),
         Form::Exchanged(a, b) => whole(exchanged(*a, *b, dimension)),

@@ -9,7 +9,7 @@ ghost use Rattle.pdl_affine.specs.Windows.{is_chain, do_join, windowed, Shows, L
 ghost use Rattle.pdl_affine.specs.Courses.{counting, counted_incs, first_inc, others};
 
 use crate::composing::incs_of;
-use pdl_shape::{Dims, Triple, dims_list, elements_of, triple_of};
+use pdl_shape::{Dims, Triple, dims_list, elements_of, shape_laws, triple_of};
 use smallvec::SmallVec;
 use std::alloc::Global;
 
@@ -150,6 +150,7 @@ pub fn clump(alloc: Global, count: usize, dims: &Dims, over: &Triple) -> Option<
     ensures shows { IfSome result (λ triple. Shows triple (form_place (clumped count) over.now)) }
     ensures inside { IfSome result (λ triple. LiesIn triple over.now) }
 {
+    shape_laws();
     if !joins(count, over) {
         return None;
     }

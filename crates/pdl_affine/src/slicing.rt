@@ -1,8 +1,8 @@
 //! What slice arguments take of each dimension (PDL::Slices).
-ghost use Rattle.std.specs.Prelude.{◌≡◌, ◌<◌, ◌≤◌, ◌^◌, length, map, option_map, Some, IfOk, IfErr, IfSome, OnOk, ◌++◌, ◌∷◌, [], IsTrue, None, ◌≢◌, take, drop, ℕ, List};
+ghost use Rattle.std.specs.Prelude.{◌≡◌, ◌<◌, ◌≤◌, ◌^◌, length, map, option_map, Some, IfOk, IfErr, IfSome, OnOk, pos, ◌++◌, ◌∷◌, [], IsTrue, None, ◌≢◌, take, drop, ℕ, List};
 ghost use Rattle.pdl_shape.specs.Counting.{from_end};
 ghost use Rattle.pdl_shape.specs.Refusals.{out_of_range};
-ghost use Rattle.pdl_affine.specs.Slicing.{end_of, span_line, falls, is_step, spanned, line_of, lines_of};
+ghost use Rattle.pdl_affine.specs.Slicing.{end_of, kept, span_line, falls, is_step, spanned, line_of, lines_of};
 ghost use Rattle.pdl_affine.specs.Courses.{seen, seen_all, size_for, sizes_after, AreSmall, wholes};
 ghost use Rattle.pdl_affine.specs.Views.{refusal_of, steps_on};
 ghost use Rattle.std.specs.List.{list_all};
@@ -13,8 +13,8 @@ use pdl_shape::from_end;
 use pdl_slices::SliceArg;
 use std::alloc::{AllocError, Global};
 
-/// The one of `size` places that `number` stands for.
-fn place_of(number: i32, size: u32) -> Option<u32>
+/// The coordinate along a dimension of this size that a number stands for.
+fn coordinate_of(number: i32, size: u32) -> Option<u32>
     ensures { result ≡ from_end number size }
 {
     match from_end(i64::from(number), size as usize) {
@@ -28,7 +28,18 @@ fn end_of(number: Option<i32>, missing: u32, size: u32) -> Option<u32>
 {
     match number {
         None => Some(missing),
-        Some(number) => place_of(number, size),
+        Some(number) => coordinate_of(number, size),
+    }
+}
+
+/// The whole of a dimension of this size.
+fn all_of(size: u32) -> Taken
+    ensures { seen result ≡ kept 0 (pos 1) size }
+{
+    Taken::Kept {
+        first: 0,
+        step: 1,
+        size,
     }
 }
 
@@ -77,11 +88,7 @@ fn spanned(from: Option<i32>, to: Option<i32>, step: Option<i32>, size: u32) -> 
     ensures { option_map seen result ≡ spanned from to step size }
 {
     if from.is_none() && to.is_none() && size == 0 {
-        return Some(Taken::Kept {
-            first: 0,
-            step: 1,
-            size: 0,
-        });
+        return Some(all_of(0));
     }
     let last = size.saturating_sub(1);
     let (low, high) = if falls(step) { (last, 0) } else { (0, last) };
@@ -97,13 +104,9 @@ fn line_of(arg: SliceArg, size: u32) -> Option<Taken>
     ensures { option_map seen result ≡ line_of arg size }
 {
     match arg {
-        SliceArg::Whole => Some(Taken::Kept {
-            first: 0,
-            step: 1,
-            size,
-        }),
+        SliceArg::Whole => Some(all_of(size)),
         SliceArg::One(number) => {
-            let first = place_of(number, size)?;
+            let first = coordinate_of(number, size)?;
             Some(Taken::Kept {
                 first,
                 step: 1,
@@ -111,7 +114,7 @@ fn line_of(arg: SliceArg, size: u32) -> Option<Taken>
             })
         }
         SliceArg::Dropped(number) => {
-            let first = place_of(number, size)?;
+            let first = coordinate_of(number, size)?;
             Some(Taken::Lost { first })
         }
         SliceArg::Dummy(size) => Some(Taken::Added { size }),
@@ -164,11 +167,7 @@ fn whole(taken: &mut Vec<Taken>, sizes: &[u32]) -> Result<(), AllocError>
     ensures { OnOk result (seen_all taken.new.items ≡ seen_all taken.old.items ++ wholes sizes.now) }
 {
     for size in sizes {
-        taken.push(Taken::Kept {
-            first: 0,
-            step: 1,
-            size: *size,
-        })?;
+        taken.push(all_of(*size))?;
     }
     Ok(())
 }

@@ -15,12 +15,12 @@ use pdl_buf::{Steps, new_steps};
 use std::alloc::Global;
 use std::marker::Brand;
 use std::process::ExitCode;
-use std::rt::{Clock, Env};
+use std::rt::Clock;
 use std::sync::ledger::{Blank, Ledger};
 use std::{env, io};
 
 /// What a word asks to be timed.
-#[derive(Clone, Copy, PartialEq, Eq, Debug)]
+#[derive(Clone, Copy)]
 enum Subject {
     Elements,
     Gather,
@@ -102,9 +102,10 @@ fn time_each<L: Ledger>(
 }
 
 // The subjects that the words of the command line name, or nothing where one of them names none.
-fn subjects(rt: &(impl Env + Alloc), alloc: Global) -> io::Result<Option<Vec<Subject>>> {
-    let mut subjects = Vec::new(alloc);
-    for word in env::args(rt)?.skip(1) {
+fn subjects(rt: &HostRuntime) -> io::Result<Option<Vec<Subject>>> {
+    let words: Vec<String> = env::args(rt)?.skip(1).collect(rt.alloc())?;
+    let mut subjects = Vec::new(rt.alloc());
+    for word in &words {
         match subject_named(word.as_str()) {
             Some(subject) => subjects.push(subject)?,
             None => return Ok(None),
@@ -114,7 +115,7 @@ fn subjects(rt: &(impl Env + Alloc), alloc: Global) -> io::Result<Option<Vec<Sub
 }
 
 fn main(rt: HostRuntime) -> io::Result<ExitCode> {
-    let Some(subjects) = subjects(&rt, rt.alloc())? else {
+    let Some(subjects) = subjects(&rt)? else {
         println!(rt; "{USAGE}")?;
         return Ok(ExitCode::from(2));
     };

@@ -30,11 +30,26 @@ impl Stopwatch {
     /// Prints the name, how many things each run did, the median time of one of them in
     /// nanoseconds, and what came out of the work.
     pub fn report(&mut self, rt: &impl Print, name: &str, count: u32, sum: u64) -> io::Result<()> {
-        self.times.sort_unstable();
-        let median = self.times.get(self.times.len() / 2).copied().unwrap_or(0);
-        let hundredths = u128::from(median) * 100 / u128::from(count.max(1));
-        let whole = hundredths / 100;
-        let part = hundredths % 100;
-        println!(rt; "{name:<28} {count:>8} {whole:>6}.{part:02} ns  {sum:016x}")
+        let hundredths = self.median().saturating_mul(100) / u64::from(count.max(1));
+        print_line(rt, name, count, hundredths, sum)
     }
+
+    // The median of the times so far.
+    fn median(&mut self) -> u64 {
+        self.times.sort_unstable();
+        self.times.get(self.times.len() / 2).copied().unwrap_or(0)
+    }
+}
+
+// Prints a line, with the time in hundredths of a nanosecond.
+fn print_line(
+    rt: &impl Print,
+    name: &str,
+    count: u32,
+    hundredths: u64,
+    sum: u64,
+) -> io::Result<()> {
+    let whole = hundredths / 100;
+    let part = hundredths % 100;
+    println!(rt; "{name:<28} {count:>8} {whole:>6}.{part:02} ns  {sum:016x}")
 }

@@ -7,9 +7,9 @@ use Rattle.std.proofs.Math.IntN.{+ℤ_assoc, +ℤ_comm, *ℤ_comm, *ℤ-zero, su
 use Rattle.std.proofs.Math.Nat.{mul-le-mul, mul-le-mul_left}
 use Rattle.pdl_broadcast.specs.Cursor.{Jumps, next_of, rolled_of}
 use Rattle.pdl_shape.specs.Broadcast.{BroadcastsTo, cut_to}
+use Rattle.pdl_shape.specs.Laws.{SizeLaws}
 use Rattle.pdl_shape.specs.Shape.{IsWithin, extent}
 use Rattle.pdl_shape.specs.Triple.{moved, spread}
-use Rattle.pdl_shape.proofs.Extents.{extent_positive}
 
 -- how far one step along dimension k goes, and all of them
 abbrev pub step_at : List ℤ → List ℕ → ℕ → ℤ
@@ -157,10 +157,10 @@ turn_small (i ∷ is) (d ∷ ds) (suc k) l =
     omega (arith, turn_small is ds k short)
 
 -- one size is at most the extent
-pub size_small : (ds : List ℕ) (k : ℕ) → get_or ds k 1 ≤ extent ds
-size_small [] k = lit≤ tt
-size_small (d ∷ ds) zero = omega (arith, mul-le-mul {n₁ = d} {m₁ = 1} {n₂ = max d 1} {m₂ = extent ds} (omega arith) (extent_positive ds))
-size_small (d ∷ ds) (suc k) = omega (arith, size_small ds k, mul-le-mul {n₁ = 1} {m₁ = extent ds} {n₂ = max d 1} {m₂ = extent ds} (omega arith) (omega arith))
+pub size_small : SizeLaws → (ds : List ℕ) (k : ℕ) → get_or ds k 1 ≤ extent ds
+size_small laws [] k = lit≤ tt
+size_small laws (d ∷ ds) zero = omega (arith, mul-le-mul {n₁ = d} {m₁ = 1} {n₂ = max d 1} {m₂ = extent ds} (omega arith) (laws.extent_above ds))
+size_small laws (d ∷ ds) (suc k) = omega (arith, size_small laws ds k, mul-le-mul {n₁ = 1} {m₁ = extent ds} {n₂ = max d 1} {m₂ = extent ds} (omega arith) (omega arith))
 
 -- the jumps along the dimensions below k are found
 pub record Jumped (k : ℕ) (jumps : List ℤ) (turned : ℤ) (is : List ℤ) (ds : List ℕ) : Type 0 where
@@ -194,8 +194,8 @@ pub record Fitting (turned step last : ℤ) : Type 0 where
   pub turn_fits : FitsSigned w32 (step *ℤ last)
   pub sum_fits : FitsSigned w32 (turned +ℤ (step *ℤ last))
 
-last_fits : (ds : List ℕ) (k : ℕ) → extent ds ≤ 1048576 → FitsSigned w32 (pos (get_or ds k 1 - 1))
-last_fits ds k small = fits_signed_from_abs w32 (pos (get_or ds k 1 - 1)) (omega (arith, size_small ds k))
+last_fits : SizeLaws → (ds : List ℕ) (k : ℕ) → extent ds ≤ 1048576 → FitsSigned w32 (pos (get_or ds k 1 - 1))
+last_fits laws ds k small = fits_signed_from_abs w32 (pos (get_or ds k 1 - 1)) (omega (arith, size_small laws ds k))
 
 difference : (s t : ℤ) → unsigned_abs t + unsigned_abs s < 1048576 → FitsSigned w32 (s -ℤ t)
 difference s t h = fits_signed_from_abs w32 (s -ℤ t) (omega (arith, ints))
@@ -203,13 +203,13 @@ difference s t h = fits_signed_from_abs w32 (s -ℤ t) (omega (arith, ints))
 small_fits : (z : ℤ) (n : ℕ) → unsigned_abs z ≤ n → n < 1048576 → FitsSigned w32 z
 small_fits z n h k = fits_signed_from_abs w32 z (omega arith)
 
-pub fitting : (k : ℕ) (jumps : List ℤ) (turned step last : ℤ) (is : List ℤ) (ds : List ℕ) → length is ≡ length ds → extent ds ≤ 1048576 → spread is ds < 1048576 → step ≡ step_at is ds k → last ≡ pos (get_or ds k 1 - 1) → Jumped k jumps turned is ds → Fitting turned step last
-fitting k jumps turned step last is ds l small narrow s e j =
+pub fitting : SizeLaws → (k : ℕ) (jumps : List ℤ) (turned step last : ℤ) (is : List ℤ) (ds : List ℕ) → length is ≡ length ds → extent ds ≤ 1048576 → spread is ds < 1048576 → step ≡ step_at is ds k → last ≡ pos (get_or ds k 1 - 1) → Jumped k jumps turned is ds → Fitting turned step last
+fitting laws k jumps turned step last is ds l small narrow s e j =
     let here = turned_small is ds k l in
     let next = turned_small is ds (k + 1) l in
     rw (s, e, j.turned_is) (record {
       step_fits = small_fits (step_at is ds k) (spread is ds) (omega (arith, here)) narrow;
-      last_fits = last_fits ds k small;
+      last_fits = last_fits laws ds k small;
       jump_fits = difference (step_at is ds k) (turned_at is ds k) (omega (arith, here));
       turn_fits = small_fits (turn_at is ds k) (spread is ds) (turn_small is ds k l) narrow;
       sum_fits = rw (← turned_more is ds k) (small_fits (turned_at is ds (k + 1)) (spread is ds) (omega (arith, next)) narrow);

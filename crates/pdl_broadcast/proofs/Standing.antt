@@ -9,10 +9,9 @@ use Rattle.std.proofs.lemmas.Int.{ints}
 use Rattle.pdl_broadcast.specs.Cursor.{CanJump, Follows, Stands, jumped, landing, next_of, rolled_of}
 use Rattle.pdl_broadcast.specs.declared.cursors.Cursor.{Cursor}
 use Rattle.pdl_shape.specs.Broadcast.{cut_to}
+use Rattle.pdl_shape.specs.Laws.{CutsWithin, PositionLaws}
 use Rattle.pdl_shape.specs.Shape.{IsWithin, position_of, size_of}
 use Rattle.pdl_shape.specs.Triple.{IsPlace, Triple, moved, place_of}
-use Rattle.pdl_shape.proofs.Broadcasts.{cut_within}
-use Rattle.pdl_shape.proofs.Positions.{within-length}
 use Rattle.pdl_broadcast.proofs.Jumping.{below_false, below_true, left_over}
 
 -- the next coordinates lie within the sizes, one position further, where some dimension moves on
@@ -55,10 +54,10 @@ last_left [] (c ∷ cs) w r = absurd w
 last_left (d ∷ ds) [] w r = absurd w
 last_left (d ∷ ds) (c ∷ cs) w r = ⊎_elim (λ less. absurd (not_all (rolled_of ds cs) (length ds) (nat_lt (c + 1) d) (below_true (c + 1) d less) r)) (λ more. last_over c d (position_of ds cs) (size_of ds) w.0 more (last_left ds cs w.1 (all_left (rolled_of ds cs) (length ds) (nat_lt (c + 1) d) (below_false (c + 1) d more) r))) (cases_lt (c + 1) d)
 
-pub next_length : (ds cs : List ℕ) → IsWithin ds cs → length (next_of ds cs) ≡ length ds
-next_length [] cs w = refl
-next_length (d ∷ ds) [] w = absurd w
-next_length (d ∷ ds) (c ∷ cs) w = ⊎_elim (λ less. rw (below_true (c + 1) d less) (ap suc (within-length ds cs w.1))) (λ more. rw (below_false (c + 1) d more) (ap suc (next_length ds cs w.1))) (cases_lt (c + 1) d)
+pub next_length : PositionLaws → (ds cs : List ℕ) → IsWithin ds cs → length (next_of ds cs) ≡ length ds
+next_length laws [] cs w = refl
+next_length laws (d ∷ ds) [] w = absurd w
+next_length laws (d ∷ ds) (c ∷ cs) w = ⊎_elim (λ less. rw (below_true (c + 1) d less) (ap suc (laws.as_many ds cs w.1))) (λ more. rw (below_false (c + 1) d more) (ap suc (next_length laws ds cs w.1))) (cases_lt (c + 1) d)
 
 -- as many zeros as sizes are the first coordinates
 pub zeros_within : (ds : List ℕ) → size_of ds ≢ 0 → IsWithin ds (replicate (length ds) 0)
@@ -97,38 +96,38 @@ lands walk cs t cursor w r f s =
     ∙ +ℤ_assoc (pos t.offset) (moved t.incs (cut_to t.dims cs)) (get_or cursor.jumps (rolled_of walk cs) (pos 0))
     ∙ ap (λ z. pos t.offset +ℤ z) (sym (f.jumping cs w r))
 
-lands_inside : (walk cs : List ℕ) (t : Triple) (cursor : Cursor) → IsWithin walk cs → rolled_of walk cs < length walk → Follows walk t cursor → Stands cs t cursor → IsPlace (landing (rolled_of walk cs) cursor)
-lands_inside walk cs t cursor w r f s =
-    subst IsPlace (sym (lands walk cs t cursor w r f s)) (f.sound.reachable _ (cut_within t.dims walk (next_of walk cs) f.stretched (further walk cs w r).within))
+lands_inside : CutsWithin → (walk cs : List ℕ) (t : Triple) (cursor : Cursor) → IsWithin walk cs → rolled_of walk cs < length walk → Follows walk t cursor → Stands cs t cursor → IsPlace (landing (rolled_of walk cs) cursor)
+lands_inside cuts walk cs t cursor w r f s =
+    subst IsPlace (sym (lands walk cs t cursor w r f s)) (f.sound.reachable _ (cuts t.dims walk (next_of walk cs) f.stretched (further walk cs w r).within))
 
 place_below : (n : ℕ) (z : ℤ) → pos n ≡ z → IsPlace z → n < 1048576
 place_below n z e p = let q : IsPlace (pos n) = subst IsPlace (sym e) p in omega (arith, ints, q.high)
 
-pub stands_below : (walk cs : List ℕ) (t : Triple) (cursor : Cursor) → IsWithin walk cs → Follows walk t cursor → Stands cs t cursor → cursor.place < 1048576
-stands_below walk cs t cursor w f s = place_below cursor.place _ s (f.sound.reachable _ (cut_within t.dims walk cs f.stretched w))
+pub stands_below : CutsWithin → (walk cs : List ℕ) (t : Triple) (cursor : Cursor) → IsWithin walk cs → Follows walk t cursor → Stands cs t cursor → cursor.place < 1048576
+stands_below cuts walk cs t cursor w f s = place_below cursor.place _ s (f.sound.reachable _ (cuts t.dims walk cs f.stretched w))
 
-pub follows_can : (walk cs : List ℕ) (t : Triple) (cursor : Cursor) → IsWithin walk cs → rolled_of walk cs < length walk → Follows walk t cursor → Stands cs t cursor → CanJump (rolled_of walk cs) cursor
-follows_can walk cs t cursor w r f s = (stands_below walk cs t cursor w f s, lands_inside walk cs t cursor w r f s)
+pub follows_can : CutsWithin → (walk cs : List ℕ) (t : Triple) (cursor : Cursor) → IsWithin walk cs → rolled_of walk cs < length walk → Follows walk t cursor → Stands cs t cursor → CanJump (rolled_of walk cs) cursor
+follows_can cuts walk cs t cursor w r f s = (stands_below cuts walk cs t cursor w f s, lands_inside cuts walk cs t cursor w r f s)
 
 abs_pos : (z : ℤ) → pos 0 ≤ℤ z → pos (unsigned_abs z) ≡ z
 abs_pos z h = omega (arith, ints)
 
-pub follows_stands : (walk cs : List ℕ) (t : Triple) (cursor : Cursor) → IsWithin walk cs → rolled_of walk cs < length walk → Follows walk t cursor → Stands cs t cursor → Stands (next_of walk cs) t (jumped (rolled_of walk cs) cursor)
-follows_stands walk cs t cursor w r f s = abs_pos _ (lands_inside walk cs t cursor w r f s).low ∙ lands walk cs t cursor w r f s
+pub follows_stands : CutsWithin → (walk cs : List ℕ) (t : Triple) (cursor : Cursor) → IsWithin walk cs → rolled_of walk cs < length walk → Follows walk t cursor → Stands cs t cursor → Stands (next_of walk cs) t (jumped (rolled_of walk cs) cursor)
+follows_stands cuts walk cs t cursor w r f s = abs_pos _ (lands_inside cuts walk cs t cursor w r f s).low ∙ lands walk cs t cursor w r f s
 
 -- the same for all arguments
-pub all_can : (walk cs : List ℕ) (ts : List Triple) (cursors : List Cursor) → IsWithin walk cs → rolled_of walk cs < length walk → AllZip (Follows walk) ts cursors → AllZip (Stands cs) ts cursors → (k : ℕ) (d : Cursor) → k < length cursors → CanJump (rolled_of walk cs) (get_or cursors k d)
-all_can walk cs [] [] w r f s k d h = absurd (omega arith)
-all_can walk cs [] (y ∷ ys) w r f s k d h = absurd f
-all_can walk cs (t ∷ ts) [] w r f s k d h = absurd f
-all_can walk cs (t ∷ ts) (y ∷ ys) w r f s zero d h = follows_can walk cs t y w r f.0 s.0
-all_can walk cs (t ∷ ts) (y ∷ ys) w r f s (suc k) d h = all_can walk cs ts ys w r f.1 s.1 k d (omega arith)
+pub all_can : CutsWithin → (walk cs : List ℕ) (ts : List Triple) (cursors : List Cursor) → IsWithin walk cs → rolled_of walk cs < length walk → AllZip (Follows walk) ts cursors → AllZip (Stands cs) ts cursors → (k : ℕ) (d : Cursor) → k < length cursors → CanJump (rolled_of walk cs) (get_or cursors k d)
+all_can cuts walk cs [] [] w r f s k d h = absurd (omega arith)
+all_can cuts walk cs [] (y ∷ ys) w r f s k d h = absurd f
+all_can cuts walk cs (t ∷ ts) [] w r f s k d h = absurd f
+all_can cuts walk cs (t ∷ ts) (y ∷ ys) w r f s zero d h = follows_can cuts walk cs t y w r f.0 s.0
+all_can cuts walk cs (t ∷ ts) (y ∷ ys) w r f s (suc k) d h = all_can cuts walk cs ts ys w r f.1 s.1 k d (omega arith)
 
-pub all_stand : (walk cs : List ℕ) (ts : List Triple) (cursors : List Cursor) → IsWithin walk cs → rolled_of walk cs < length walk → AllZip (Follows walk) ts cursors → AllZip (Stands cs) ts cursors → AllZip (Stands (next_of walk cs)) ts (map (jumped (rolled_of walk cs)) cursors)
-all_stand walk cs [] [] w r f s = tt
-all_stand walk cs [] (y ∷ ys) w r f s = absurd f
-all_stand walk cs (t ∷ ts) [] w r f s = absurd f
-all_stand walk cs (t ∷ ts) (y ∷ ys) w r f s = (follows_stands walk cs t y w r f.0 s.0, all_stand walk cs ts ys w r f.1 s.1)
+pub all_stand : CutsWithin → (walk cs : List ℕ) (ts : List Triple) (cursors : List Cursor) → IsWithin walk cs → rolled_of walk cs < length walk → AllZip (Follows walk) ts cursors → AllZip (Stands cs) ts cursors → AllZip (Stands (next_of walk cs)) ts (map (jumped (rolled_of walk cs)) cursors)
+all_stand cuts walk cs [] [] w r f s = tt
+all_stand cuts walk cs [] (y ∷ ys) w r f s = absurd f
+all_stand cuts walk cs (t ∷ ts) [] w r f s = absurd f
+all_stand cuts walk cs (t ∷ ts) (y ∷ ys) w r f s = (follows_stands cuts walk cs t y w r f.0 s.0, all_stand cuts walk cs ts ys w r f.1 s.1)
 
 pub all_follow : (walk : List ℕ) (k : ℕ) (ts : List Triple) (cursors : List Cursor) → AllZip (Follows walk) ts cursors → AllZip (Follows walk) ts (map (jumped k) cursors)
 all_follow walk k [] [] f = tt

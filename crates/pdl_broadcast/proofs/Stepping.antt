@@ -3,8 +3,8 @@ use Rattle.std.proofs.Common.{◌≡◌, ℕ, zero, suc, ◌+◌, ◌<◌, ◌�
 use Rattle.std.proofs.lemmas.Bool.Decides.{nat_tests}
 use Rattle.std.proofs.lemmas.List.{at_drop_all, at_drop_more, drop-set-lt, take_all, take_more_set, take-append-drop}
 use Rattle.pdl_broadcast.specs.Cursor.{next_of, rolled_of}
+use Rattle.pdl_shape.specs.Laws.{PositionLaws}
 use Rattle.pdl_shape.specs.Shape.{IsWithin}
-use Rattle.pdl_shape.proofs.Positions.{within-length}
 
 -- the dimensions below i have rolled over
 pub record Rolled (i : ℕ) (now old ds : List ℕ) : Type 0 where
@@ -33,9 +33,9 @@ abbrev first_or : List ℕ → ℕ
 first_or [] = 0
 first_or (c ∷ cs) = c
 
-pub seen : (i : ℕ) (now old ds : List ℕ) → IsWithin ds old → i < length ds → Rolled i now old ds → Seen i now old ds
-seen i now old ds w h r =
-    let short : i < length old = omega (arith, within-length ds old w) in
+pub seen : PositionLaws → (i : ℕ) (now old ds : List ℕ) → IsWithin ds old → i < length ds → Rolled i now old ds → Seen i now old ds
+seen laws i now old ds w h r =
+    let short : i < length old = omega (arith, laws.as_many ds old w) in
     let short' : i < length now = omega (arith, r.long) in
     let a = at_drop_more first_or now i 0 short' in
     let b = at_drop_more first_or old i 0 short in
@@ -67,10 +67,10 @@ drop_one : (i : ℕ) (xs ys : List ℕ) → drop i xs ≡ drop i ys → drop (i 
 drop_one i xs ys e = sym (drop-drop 1 i xs) ∙ ap (drop 1) e ∙ drop-drop 1 i ys
 
 -- dimension i rolls over too
-pub rolled_more : (i : ℕ) (now old ds : List ℕ) → IsWithin ds old → i < length ds → get_or ds i 0 ≤ get_or now i 0 + 1 → Rolled i now old ds → Rolled (i + 1) (set now i 0) old ds
-rolled_more i now old ds w h past r =
-    let s = seen i now old ds w h r in
-    let short : i < length old = omega (arith, within-length ds old w) in
+pub rolled_more : PositionLaws → (i : ℕ) (now old ds : List ℕ) → IsWithin ds old → i < length ds → get_or ds i 0 ≤ get_or now i 0 + 1 → Rolled i now old ds → Rolled (i + 1) (set now i 0) old ds
+rolled_more laws i now old ds w h past r =
+    let s = seen laws i now old ds w h r in
+    let short : i < length old = omega (arith, laws.as_many ds old w) in
     let past' : get_or ds i 0 ≤ get_or old i 0 + 1 = omega (arith, s.same) in
     let next : next_of (drop i ds) (drop i old) ≡ 0 ∷ next_of (drop (i + 1) ds) (drop (i + 1) old) = next_at i old ds h short ∙ grind (arith, nat_tests, past') in
     let number : rolled_of (drop i ds) (drop i old) ≡ suc (rolled_of (drop (i + 1) ds) (drop (i + 1) old)) = rolled_at i old ds h short ∙ grind (arith, nat_tests, past') in
@@ -86,10 +86,10 @@ pub record Moved (i : ℕ) (new old ds : List ℕ) : Type 0 where
   pub moved : new ≡ next_of ds old
   pub rolled : i ≡ rolled_of ds old
 
-pub moved_on : (i : ℕ) (now old ds : List ℕ) → IsWithin ds old → i < length ds → get_or now i 0 + 1 < get_or ds i 0 → Rolled i now old ds → Moved i (set now i (get_or now i 0 + 1)) old ds
-moved_on i now old ds w h below r =
-    let s = seen i now old ds w h r in
-    let short : i < length old = omega (arith, within-length ds old w) in
+pub moved_on : PositionLaws → (i : ℕ) (now old ds : List ℕ) → IsWithin ds old → i < length ds → get_or now i 0 + 1 < get_or ds i 0 → Rolled i now old ds → Moved i (set now i (get_or now i 0 + 1)) old ds
+moved_on laws i now old ds w h below r =
+    let s = seen laws i now old ds w h r in
+    let short : i < length old = omega (arith, laws.as_many ds old w) in
     let below' : get_or old i 0 + 1 < get_or ds i 0 = omega (arith, s.same) in
     let next : next_of (drop i ds) (drop i old) ≡ (get_or old i 0 + 1) ∷ drop (i + 1) old = next_at i old ds h short ∙ grind (arith, nat_tests, below') in
     let number : rolled_of (drop i ds) (drop i old) ≡ 0 = rolled_at i old ds h short ∙ grind (arith, nat_tests, below') in
@@ -103,9 +103,9 @@ moved_on i now old ds w h below r =
     }
 
 -- all dimensions roll over
-pub rolled_all : (i : ℕ) (now old ds : List ℕ) → IsWithin ds old → length ds ≤ i → i ≤ length ds → Rolled i now old ds → Moved (length ds) now old ds
-rolled_all i now old ds w end inside r =
-    let long : length now ≤ i = omega (arith, r.long, within-length ds old w) in
+pub rolled_all : PositionLaws → (i : ℕ) (now old ds : List ℕ) → IsWithin ds old → length ds ≤ i → i ≤ length ds → Rolled i now old ds → Moved (length ds) now old ds
+rolled_all laws i now old ds w end inside r =
+    let long : length now ≤ i = omega (arith, r.long, laws.as_many ds old w) in
     let none = at_drop_all (λ rest. rolled_of rest (drop i old)) ds i end in
     record {
       moved = sym (take_all i now long) ∙ sym (append-nil (take i now)) ∙ ap (λ back. take i now ++ back) (sym (at_drop_all (λ rest. next_of rest (drop i old)) ds i end)) ∙ sym r.moved;

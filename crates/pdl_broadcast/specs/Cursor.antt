@@ -2,7 +2,7 @@
 use Rattle.std.specs.Prelude.{◌≡◌, ℕ, suc, ◌+◌, ◌<◌, nat_lt, if◌then◌else◌, ℤ, pos, unsigned_abs, ◌+ℤ◌, List, [], ◌∷◌, length, slice_index_or}
 use Rattle.pdl_broadcast.specs.declared.cursors.Cursor.{Cursor}
 use Rattle.pdl_shape.specs.Broadcast.{BroadcastsTo, cut_to}
-use Rattle.pdl_shape.specs.Shape.{IsWithin}
+use Rattle.pdl_shape.specs.Shape.{IsWithin, extent_limit}
 use Rattle.pdl_shape.specs.Triple.{Triple, IsPlace, IsTriple, moved, place_of}
 
 -- the coordinates after some, dimension 0 fastest: a dimension at its end rolls over to 0
@@ -34,7 +34,7 @@ landing k cursor = pos cursor.place +ℤ slice_index_or cursor.jumps k (pos 0)
 
 -- a jump stays within the largest buffer
 abbrev pub CanJump : ℕ → Cursor → Type 0
-CanJump k cursor = (cursor.place < 1048576) × IsPlace (landing k cursor)
+CanJump k cursor = (cursor.place < extent_limit) × IsPlace (landing k cursor)
 
 -- the cursor after a jump
 abbrev pub jumped : ℕ → Cursor → Cursor

@@ -4,6 +4,10 @@ use Rattle.pdl_shape.specs.Broadcast.{cut_to}
 use Rattle.pdl_shape.specs.Shape.{coordinates_of}
 use Rattle.pdl_shape.specs.Triple.{Triple, place_of}
 
+-- a new walk has room for so many arguments
+abbrev pub arguments_room : ℕ
+arguments_room = 16
+
 -- the broadcast's dimensions, the arguments' triples in the order in which they were added, and how many
 -- coordinates are behind
 pub record Walk : Type 0 where

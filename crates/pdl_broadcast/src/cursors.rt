@@ -2,8 +2,10 @@
 ghost use Rattle.std.specs.Prelude.{◌≡◌, ◌-◌, ◌<◌, ◌≤◌, pos, unsigned_abs, length, map, All, slice_index_or};
 ghost use Rattle.pdl_broadcast.specs.Cursor.{CanJump, Jumps, jumped, landing, next_of, rolled_of, step_of};
 ghost use Rattle.pdl_shape.specs.Broadcast.{BroadcastsTo};
-ghost use Rattle.pdl_shape.specs.Shape.{IsWithin, extent, extent_limit};
+ghost use Rattle.pdl_shape.specs.Shape.{IsWithin, dims_limit, extent, extent_limit};
 ghost use Rattle.pdl_shape.specs.Triple.{spread};
+
+use pdl_shape::shape_laws;
 
 /// The most dimensions of a walk.
 pub(crate) const MOST_DIMS: usize = 16;
@@ -34,6 +36,7 @@ fn last_along(sizes: &[u32], dimension: usize) -> i32
     requires { extent sizes.now ≤ extent_limit }
     ensures { result ≡ pos (slice_index_or sizes.now dimension 1 - 1) }
 {
+    shape_laws();
     let size = if dimension < sizes.len() {
         sizes[dimension]
     } else {
@@ -44,13 +47,14 @@ fn last_along(sizes: &[u32], dimension: usize) -> i32
 
 /// The jumps of an argument of these increments and sizes, which stretches to the sizes of a walk.
 pub(crate) fn jumps_of(incs: &[i32], sizes: &[u32], walk: &[u32]) -> [i32; MOST_DIMS]
-    requires count { length walk.now ≤ 16 }
+    requires count { length walk.now ≤ dims_limit }
     requires paired { length incs.now ≡ length sizes.now }
     requires small { extent sizes.now ≤ extent_limit }
     requires narrow { spread incs.now sizes.now < extent_limit }
     requires stretched { BroadcastsTo sizes.now walk.now }
     ensures { Jumps walk.now incs.now sizes.now result }
 {
+    shape_laws();
     let mut jumps = [0; MOST_DIMS];
     let mut turned = 0;
     for dimension in 0..walk.len() {
@@ -68,6 +72,7 @@ pub(crate) fn step(sizes: &[u32], coordinates: &mut [u32]) -> usize
     ensures moved { coordinates.new ≡ next_of sizes.now coordinates.old }
     ensures rolled { result ≡ rolled_of sizes.now coordinates.old }
 {
+    shape_laws();
     for (dimension, &size) in sizes.iter().enumerate() {
         let next = coordinates[dimension] + 1;
         if next < size {
@@ -81,7 +86,7 @@ pub(crate) fn step(sizes: &[u32], coordinates: &mut [u32]) -> usize
 
 /// The place where a cursor lands when this dimension moves on.
 fn landed(cursor: &Cursor, dimension: usize) -> u32
-    requires dimension { dimension < 16 }
+    requires dimension { dimension < dims_limit }
     requires inside { CanJump dimension cursor.now }
     ensures { result ≡ unsigned_abs (landing dimension cursor.now) }
 {
@@ -90,7 +95,7 @@ fn landed(cursor: &Cursor, dimension: usize) -> u32
 
 /// Takes each argument's place to the next coordinates, where this dimension moves on.
 pub(crate) fn jump(cursors: &mut [Cursor], dimension: usize)
-    requires dimension { dimension < 16 }
+    requires dimension { dimension < dims_limit }
     requires inside { All (λ cursor. CanJump dimension cursor) cursors.old }
     ensures { cursors.new ≡ map (λ cursor. jumped dimension cursor) cursors.old }
 {

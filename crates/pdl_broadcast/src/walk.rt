@@ -1,11 +1,13 @@
 //! The walk through a broadcast.
-ghost use Rattle.std.specs.Prelude.{◌≡◌, ◌+◌, ◌<◌, ◌≤◌, ◌==◌, [], ◌∷◌, ◌++◌, IfOk, IfSome, OnErr, OnOk, length, pos, slice_get};
-ghost use Rattle.pdl_broadcast.specs.Walk.{Walk, argument_coordinates, argument_place};
+ghost use Rattle.std.specs.Prelude.{◌≡◌, ◌+◌, ◌<◌, ◌≤◌, ◌==◌, [], ◌∷◌, ◌++◌, IfOk, IfSome, IsOk, OnErr, OnOk, length, pos, slice_get};
+ghost use Rattle.pdl_broadcast.specs.Walk.{Walk, argument_coordinates, argument_place, arguments_room};
 ghost use Rattle.pdl_shape.specs.Broadcast.{BroadcastsTo};
 ghost use Rattle.pdl_shape.specs.Shape.{IsDims, IsWithin, extent_limit, size_of};
 
 use crate::cursors::{Cursor, jump, jumps_of, step};
-use pdl_shape::{Dims, Triple, copy_dims, copy_triple, dims_list, elements_of, incs_list};
+use pdl_shape::{
+    Dims, Triple, copy_dims, copy_triple, dims_list, elements_of, incs_list, shape_laws,
+};
 use std::alloc::{AllocError, Global};
 use std::marker::Model;
 
@@ -51,13 +53,14 @@ impl BroadcastWalk {
     }
 
     /// Adds an argument to a walk that hasn't moved, and answers its number, from 0. The triple's
-    /// dimensions must stretch to the walk's.
+    /// dimensions must stretch to the walk's. The first sixteen take no memory.
     pub fn add(&mut self, triple: &Triple) -> Result<usize, AllocError>
         requires start { self.old.index ≡ 0 }
         requires stretched { BroadcastsTo triple.now.dims self.old.dims }
         ensures number { IfOk result (λ argument. argument ≡ length self.old.triples) }
         ensures added { OnOk result (self.new ≡ record self.old { triples = self.old.triples ++ triple.now ∷ [] }) }
         ensures refused { OnErr result (self.new ≡ self.old) }
+        ensures room { length self.old.triples < arguments_room → IsOk result }
     {
         let number = self.triples.len();
         let jumps = jumps_of(
@@ -83,6 +86,7 @@ impl BroadcastWalk {
         ensures reachable { IfSome (slice_get self.now.triples argument) (λ triple. IsWithin triple.dims (argument_coordinates self.now triple)) }
         ensures bound { result < extent_limit }
     {
+        shape_laws();
         self.cursors[argument].place
     }
 
@@ -92,6 +96,7 @@ impl BroadcastWalk {
         ensures bound { self.now.index ≤ size_of self.now.dims }
         ensures limits { IsDims self.now.dims }
     {
+        shape_laws();
         self.is_at_end
     }
 
@@ -100,6 +105,7 @@ impl BroadcastWalk {
         requires { self.old.index < size_of self.old.dims }
         ensures { self.new ≡ record self.old { index = self.old.index + 1 } }
     {
+        shape_laws();
         let dimension = step(dims_list(&self.dims), &mut self.coordinates);
         if dimension < self.coordinates.len() {
             jump(&mut self.cursors, dimension);

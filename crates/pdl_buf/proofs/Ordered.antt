@@ -6,8 +6,7 @@ use Rattle.std.proofs.Math.Nat.{mul-le-mul, mul-le-mul_left, mul_assoc}
 use Rattle.std.specs.Int.RustNames.{unsigned_abs}
 use Rattle.pdl_shape.specs.Shape.{extent, size_of, coordinates_of, position_of}
 use Rattle.pdl_shape.specs.Triple.{Triple, IsTriple, moved, Reaches}
-use Rattle.pdl_shape.proofs.Extents.{extent_positive}
-use Rattle.pdl_shape.proofs.Positions.{coordinates_within, position-coordinates}
+use Rattle.pdl_shape.specs.Laws.{PositionLaws, SizeLaws}
 use Rattle.pdl_buf.specs.Window.{IsInOrder, place_at}
 use Rattle.pdl_buf.proofs.Walking.{IsShown, shown_at}
 
@@ -17,15 +16,15 @@ pub record IsRead (t : Triple) (offset length p : ℕ) : Type 0 where
   pub below : offset + p < length
   pub small : offset + p < 1048576
 
-pub in_order_at : (t : Triple) (p : ℕ) → IsInOrder 1 t.incs t.dims → p < size_of t.dims → place_at t p ≡ t.offset + p
-in_order_at t p o h =
-    let e : moved t.incs (coordinates_of t.dims p) ≡ pos (1 * position_of t.dims (coordinates_of t.dims p)) = o (coordinates_of t.dims p) (coordinates_within t.dims p h) in
-    ap (λ m. unsigned_abs (pos t.offset +ℤ m)) e ∙ ap (λ k. t.offset + 1 * k) (position-coordinates t.dims p h) ∙ omega arith
+pub in_order_at : PositionLaws → (t : Triple) (p : ℕ) → IsInOrder 1 t.incs t.dims → p < size_of t.dims → place_at t p ≡ t.offset + p
+in_order_at laws t p o h =
+    let e : moved t.incs (coordinates_of t.dims p) ≡ pos (1 * position_of t.dims (coordinates_of t.dims p)) = o (coordinates_of t.dims p) (laws.coordinates_within t.dims p h) in
+    ap (λ m. unsigned_abs (pos t.offset +ℤ m)) e ∙ ap (λ k. t.offset + 1 * k) (laws.position_again t.dims p h) ∙ omega arith
 
-pub read_at : (t : Triple) (offset n p : ℕ) → IsTriple t → Reaches t n → IsInOrder 1 t.incs t.dims → p < size_of t.dims → t.offset ≡ offset → IsRead t offset n p
-read_at t offset n p ok reach o h e =
-    let s : IsShown t n p = shown_at t n p ok reach h in
-    let is : place_at t p ≡ offset + p = in_order_at t p o h ∙ ap (λ k. k + p) e in
+pub read_at : PositionLaws → (t : Triple) (offset n p : ℕ) → IsTriple t → Reaches t n → IsInOrder 1 t.incs t.dims → p < size_of t.dims → t.offset ≡ offset → IsRead t offset n p
+read_at laws t offset n p ok reach o h e =
+    let s : IsShown t n p = shown_at laws t n p ok reach h in
+    let is : place_at t p ≡ offset + p = in_order_at laws t p o h ∙ ap (λ k. k + p) e in
     record { is = is; below = omega (arith, is, s.below); small = omega (arith, is, s.small) }
 
 -- a coordinate along a dimension where one step goes n elements far, before q rows of them
@@ -66,8 +65,8 @@ ordering_next is ds k n hi hd f w =
           (ordered_cons n d z (drop (k + 1) is) (drop (k + 1) ds) f o)));
     }
 
-pub step_small : (is : List ℤ) (ds : List ℕ) (k n : ℕ) → Ordering is ds k n → n ≤ 1048576
-step_small is ds k n w = omega (arith, w.small, mul-le-mul {n₁ = n} {m₁ = 1} {n₂ = n} {m₂ = extent (drop k ds)} (omega arith) (extent_positive (drop k ds)))
+pub step_small : SizeLaws → (is : List ℤ) (ds : List ℕ) (k n : ℕ) → Ordering is ds k n → n ≤ 1048576
+step_small laws is ds k n w = omega (arith, w.small, mul-le-mul {n₁ = n} {m₁ = 1} {n₂ = n} {m₂ = extent (drop k ds)} (omega arith) (laws.extent_above (drop k ds)))
 
 none_in_order : (n : ℕ) → IsInOrder n [] []
 none_in_order n cs w = ap pos (sym (mul-zero n))

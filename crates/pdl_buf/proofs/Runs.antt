@@ -12,6 +12,7 @@ use Rattle.std.specs.Int.{w32, w64}
 use Rattle.std.specs.Int.RustNames.{unsigned_abs}
 use Rattle.pdl_elem.specs.declared.Ty.{Ty}
 use Rattle.pdl_elem.specs.Types.{InRange}
+use Rattle.pdl_shape.specs.Laws.{PositionLaws}
 use Rattle.pdl_shape.specs.Shape.{size_of, coordinates_of}
 use Rattle.pdl_shape.specs.Triple.{Triple, IsTriple, Reaches, moved}
 use Rattle.pdl_buf.specs.Reads.{IsInside, HasRead}
@@ -74,10 +75,10 @@ pub record Runs (t : Triple) (n p j : ℕ) : Type 0 where
   pub below : place_at t (p + j) < n
   pub small : place_at t (p + j) < 1048576
 
-pub run_at : (t : Triple) (n p j : ℕ) → IsTriple t → Reaches t n → p + j < size_of t.dims → p % get_or t.dims 0 1 + j < get_or t.dims 0 1 → Runs t n p j
-run_at t n p j ok reach h row =
-    let s : IsShown t n (p + j) = shown_at t n (p + j) ok reach h in
-    let b : IsShown t n p = shown_at t n p ok reach (omega arith) in
+pub run_at : PositionLaws → (t : Triple) (n p j : ℕ) → IsTriple t → Reaches t n → p + j < size_of t.dims → p % get_or t.dims 0 1 + j < get_or t.dims 0 1 → Runs t n p j
+run_at laws t n p j ok reach h row =
+    let s : IsShown t n (p + j) = shown_at laws t n (p + j) ok reach h in
+    let b : IsShown t n p = shown_at laws t n p ok reach (omega arith) in
     let e : moved t.incs (coordinates_of t.dims (p + j)) ≡ moved t.incs (coordinates_of t.dims p) +ℤ get_or t.incs 0 (pos 0) *ℤ pos j = row_moved t.incs t.dims p j ok.paired row in
     record {
       is = omega (arith, ints, e, s.is, b.is);
@@ -117,27 +118,27 @@ block_is t es elems rs first count e long inside read =
     ∙ shown_element t es elems (first + k) e (shown_within t es elems (first + k) e (omega arith))
     ∙ sym (get_or-take count (drop first elems) k (pos 0) (omega arith) ∙ get_or-drop first elems k (pos 0)))
 
-pub block_in_range : (ty : Ty) (t : Triple) (es rs : List ℤ) (first count : ℕ) → IsTriple t → Reaches t (length es) → first + count ≤ size_of t.dims → length rs ≡ count
+pub block_in_range : PositionLaws → (ty : Ty) (t : Triple) (es rs : List ℤ) (first count : ℕ) → IsTriple t → Reaches t (length es) → first + count ≤ size_of t.dims → length rs ≡ count
     → All (InRange ty) es → HasRead t es first count rs → All (InRange ty) rs
-block_in_range ty t es rs first count ok reach fits long all read =
+block_in_range laws ty t es rs first count ok reach fits long all read =
     All-from_get_or (InRange ty) rs (pos 0)
     (λ k h. subst (λ z. InRange ty z) (sym (read k (omega arith)))
-    (All-get_or (InRange ty) es (place_at t (first + k)) (pos 0) (shown_at t (length es) (first + k) ok reach (omega arith)).below all))
+    (All-get_or (InRange ty) es (place_at t (first + k)) (pos 0) (shown_at laws t (length es) (first + k) ok reach (omega arith)).below all))
 
 -- a block of neighbours
 pub record Neighbours (t : Triple) (es : List ℤ) (first start n : ℕ) : Type 0 where
   pub inside : start + n ≤ length es
   pub read : HasRead t es first n (take n (drop start es))
 
-pub neighbours : (t : Triple) (es : List ℤ) (first start n : ℕ) → IsTriple t → Reaches t (length es) → IsInOrder 1 t.incs t.dims → first + n ≤ size_of t.dims → 0 < n → start ≡ place_at t first → Neighbours t es first start n
-neighbours t es first start n ok reach o fits some e =
-    let first_is : place_at t first ≡ t.offset + first = in_order_at t first o (omega arith) in
-    let last_is : place_at t (first + (n - 1)) ≡ t.offset + (first + (n - 1)) = in_order_at t (first + (n - 1)) o (omega arith) in
-    let last : IsShown t (length es) (first + (n - 1)) = shown_at t (length es) (first + (n - 1)) ok reach (omega arith) in
+pub neighbours : PositionLaws → (t : Triple) (es : List ℤ) (first start n : ℕ) → IsTriple t → Reaches t (length es) → IsInOrder 1 t.incs t.dims → first + n ≤ size_of t.dims → 0 < n → start ≡ place_at t first → Neighbours t es first start n
+neighbours laws t es first start n ok reach o fits some e =
+    let first_is : place_at t first ≡ t.offset + first = in_order_at laws t first o (omega arith) in
+    let last_is : place_at t (first + (n - 1)) ≡ t.offset + (first + (n - 1)) = in_order_at laws t (first + (n - 1)) o (omega arith) in
+    let last : IsShown t (length es) (first + (n - 1)) = shown_at laws t (length es) (first + (n - 1)) ok reach (omega arith) in
     record {
       inside = omega (arith, last.below);
       read = λ k h.
-          let is : place_at t (first + k) ≡ t.offset + (first + k) = in_order_at t (first + k) o (omega arith) in
+          let is : place_at t (first + k) ≡ t.offset + (first + k) = in_order_at laws t (first + k) o (omega arith) in
           let same : start + k ≡ place_at t (first + k) = omega arith in
           get_or-take n (drop start es) k (pos 0) h ∙ get_or-drop start es k (pos 0) ∙ ap (λ p. get_or es p (pos 0)) same;
     }
@@ -147,16 +148,16 @@ block_fits t es elems first count e h =
     omega (arith, ap (λ (xs : List ℤ). length xs) e, length-map-range_with_len (λ k. get_or es (place_at t k) (pos 0)) 0 (size_of t.dims))
 
 -- a place of a run, and the number there
-pub run_fits : (t : Triple) (es numbers : List ℤ) (place : ℕ) (inc : ℤ) (p j width : ℕ) → IsTriple t → Reaches t (length es) → numbers ≡ es → place ≡ place_at t p → inc ≡ get_or t.incs 0 (pos 0) → width ≡ get_or t.dims 0 1
+pub run_fits : PositionLaws → (t : Triple) (es numbers : List ℤ) (place : ℕ) (inc : ℤ) (p j width : ℕ) → IsTriple t → Reaches t (length es) → numbers ≡ es → place ≡ place_at t p → inc ≡ get_or t.incs 0 (pos 0) → width ≡ get_or t.dims 0 1
     → p + j < size_of t.dims → p % width + j < width → IsInside (length numbers) (pos place +ℤ inc *ℤ pos j)
-run_fits t es numbers place inc p j width ok reach same at along across h row =
-    let r : Runs t (length es) p j = run_at t (length es) p j ok reach h (subst (λ w. p % w + j < w) across row) in
+run_fits laws t es numbers place inc p j width ok reach same at along across h row =
+    let r : Runs t (length es) p j = run_at laws t (length es) p j ok reach h (subst (λ w. p % w + j < w) across row) in
     subst (λ (xs : List ℤ). IsInside (length xs) (pos place +ℤ inc *ℤ pos j)) (sym same)
     (subst (λ n. IsInside (length es) (pos n +ℤ inc *ℤ pos j)) (sym at) (subst (λ z. IsInside (length es) (pos (place_at t p) +ℤ z *ℤ pos j)) (sym along) (run_inside t (length es) p j r)))
 
-pub run_element : (t : Triple) (es numbers : List ℤ) (place : ℕ) (inc : ℤ) (p j width : ℕ) → IsTriple t → Reaches t (length es) → numbers ≡ es → place ≡ place_at t p → inc ≡ get_or t.incs 0 (pos 0) → width ≡ get_or t.dims 0 1
+pub run_element : PositionLaws → (t : Triple) (es numbers : List ℤ) (place : ℕ) (inc : ℤ) (p j width : ℕ) → IsTriple t → Reaches t (length es) → numbers ≡ es → place ≡ place_at t p → inc ≡ get_or t.incs 0 (pos 0) → width ≡ get_or t.dims 0 1
     → p + j < size_of t.dims → p % width + j < width → get_or numbers (unsigned_abs (pos place +ℤ inc *ℤ pos j)) (pos 0) ≡ get_or es (place_at t (p + j)) (pos 0)
-run_element t es numbers place inc p j width ok reach same at along across h row =
-    let r : Runs t (length es) p j = run_at t (length es) p j ok reach h (subst (λ w. p % w + j < w) across row) in
+run_element laws t es numbers place inc p j width ok reach same at along across h row =
+    let r : Runs t (length es) p j = run_at laws t (length es) p j ok reach h (subst (λ w. p % w + j < w) across row) in
     ap (λ (xs : List ℤ). get_or xs (unsigned_abs (pos place +ℤ inc *ℤ pos j)) (pos 0)) same
     ∙ ap (λ (z : ℤ). get_or es (unsigned_abs z) (pos 0)) (ap₂ (λ n z. pos n +ℤ z *ℤ pos j) at along ∙ r.is)

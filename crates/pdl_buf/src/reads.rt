@@ -1,18 +1,18 @@
 //! Reading a window in blocks.
 ghost use Rattle.std.specs.Prelude.{◌≡◌, ◌<◌, ◌≤◌, ◌+◌, ◌%◌, ◌+ℤ◌, ◌*ℤ◌, ℕ, pos, length, take, drop, get_or, All, unsigned_abs};
 ghost use Rattle.pdl_elem.specs.Types.{InRange};
-ghost use Rattle.pdl_shape.specs.Shape.{size_of};
+ghost use Rattle.pdl_shape.specs.Shape.{extent_limit, size_of};
 ghost use Rattle.pdl_shape.specs.Triple.{IsTriple, Reaches};
 ghost use Rattle.pdl_buf.specs.Reads.{IsInside, HasRead};
 ghost use Rattle.pdl_buf.specs.Window.{IsInOrder, place_at};
 
 use crate::buffer::Buf;
 use crate::window::{Strided, place_of};
-use pdl_shape::{Triple, dims_list, incs_list};
+use pdl_shape::{Triple, dims_list, incs_list, shape_laws};
 
 /// The numbers from a place on, each so far after the one before.
 fn read_steps(numbers: &[i64], place: u32, inc: i32, into: &mut [i64])
-    requires small { length into.old ≤ 1048576 }
+    requires small { length into.old ≤ extent_limit }
     requires inside { (j : ℕ) → j < length into.old → IsInside (length numbers.now) (pos place +ℤ inc *ℤ pos j) }
     ensures { (j : ℕ) → j < length into.old → get_or into.new j (pos 0) ≡ get_or numbers.now (unsigned_abs (pos place +ℤ inc *ℤ pos j)) (pos 0) }
 {
@@ -35,7 +35,7 @@ fn repeat_number(number: i64, into: &mut [i64])
 /// The numbers from a place on, each so far after the one before: one number again and again where
 /// that is nowhere.
 fn read_run(numbers: &[i64], place: u32, inc: i32, into: &mut [i64])
-    requires small { length into.old ≤ 1048576 }
+    requires small { length into.old ≤ extent_limit }
     requires inside { (j : ℕ) → j < length into.old → IsInside (length numbers.now) (pos place +ℤ inc *ℤ pos j) }
     ensures { (j : ℕ) → j < length into.old → get_or into.new j (pos 0) ≡ get_or numbers.now (unsigned_abs (pos place +ℤ inc *ℤ pos j)) (pos 0) }
 {
@@ -57,9 +57,10 @@ fn first_inc(triple: &Triple) -> i32
 /// The size of dimension 0, and 1 where there is none.
 fn first_size(triple: &Triple) -> u32
     ensures size { result ≡ get_or triple.now.dims 0 1 }
-    ensures small { size_of triple.now.dims ≤ 1048576 }
+    ensures small { size_of triple.now.dims ≤ extent_limit }
     ensures sound { IsTriple triple.now }
 {
+    shape_laws();
     let sizes = dims_list(&triple.dims);
     if sizes.is_empty() { 1 } else { sizes[0] }
 }
@@ -82,6 +83,7 @@ fn read_runs(buf: &Buf, triple: &Triple, first: u32, into: &mut [i64])
     ensures value { HasRead triple.now buf.now.elems first (length into.old) into.new }
     ensures in_range { All (InRange buf.now.ty) into.new }
 {
+    shape_laws();
     let width = first_size(triple);
     let inc = first_inc(triple);
     let mut done = 0;
@@ -112,6 +114,7 @@ fn read_in_order(buf: &Buf, triple: &Triple, first: u32, into: &mut [i64])
     ensures value { HasRead triple.now buf.now.elems first (length into.old) into.new }
     ensures in_range { All (InRange buf.now.ty) into.new }
 {
+    shape_laws();
     if 0 < into.len() {
         let start = place_of(triple, first);
         copy_part(buf.numbers.as_slice(), start as usize, into);

@@ -7,7 +7,7 @@ ghost use Rattle.pdl_buf.specs.Window.{IsInOrder, place_at};
 
 use crate::buffer::{Buf, buf_get};
 use pdl_elem::Ty;
-use pdl_shape::{Dims, Triple, dims_list, incs_list};
+use pdl_shape::{Dims, Triple, dims_list, incs_list, shape_laws};
 use std::marker::Model;
 
 /// A borrowed buffer as a triple shows it: the element at coordinates is the buffer's at the
@@ -76,6 +76,7 @@ fn place_of_position(offset: u32, sizes: &[u32], incs: &[i32], position: u32) ->
     requires within { position < size_of sizes.now }
     ensures { result ≡ pos offset +ℤ moved incs.now (coordinates_of sizes.now position) }
 {
+    shape_laws();
     let mut place = i64::from(offset);
     let mut rest = position;
     for (i, size) in sizes.iter().enumerate() {
@@ -93,6 +94,7 @@ pub(crate) fn place_of(triple: &Triple, position: u32) -> u32
     ensures place { result ≡ place_at triple.now position }
     ensures sound { IsTriple triple.now }
 {
+    shape_laws();
     let sizes = dims_list(&triple.dims);
     let incs = incs_list(&triple.incs);
     let place = place_of_position(triple.offset, sizes, incs, position);
@@ -106,6 +108,7 @@ fn element_of(buf: &Buf, triple: &Triple, position: u32) -> i64
     ensures value { result ≡ get_or buf.now.elems (place_at triple.now position) (pos 0) }
     ensures in_range { InRange buf.now.ty result }
 {
+    shape_laws();
     buf_get(buf, place_of(triple, position))
 }
 
@@ -117,6 +120,7 @@ fn element_in_order(buf: &Buf, triple: &Triple, position: u32) -> i64
     ensures value { result ≡ get_or buf.now.elems (place_at triple.now position) (pos 0) }
     ensures in_range { InRange buf.now.ty result }
 {
+    shape_laws();
     buf_get(buf, triple.offset + position)
 }
 

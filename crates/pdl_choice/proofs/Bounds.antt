@@ -1,8 +1,8 @@
 -- Places within the limits of an array.
 use Rattle.std.proofs.Common.{◌≡◌, ℕ, ◌+◌, ◌*◌, ◌<◌, ◌≤◌, List, ◌∷◌, max, arith, subst}
 use Rattle.std.proofs.Math.Nat.{mul-le-mul, mul-le-mul_left}
+use Rattle.pdl_shape.specs.Laws.{SizeLaws}
 use Rattle.pdl_shape.specs.Shape.{extent, extent_limit, size_of}
-use Rattle.pdl_shape.proofs.Extents.{size_le-extent}
 
 -- the dimensions past the first are within the limits too, and so are the elements
 pub record Rest (n : ℕ) (rest : List ℕ) : Type 0 where
@@ -10,14 +10,14 @@ pub record Rest (n : ℕ) (rest : List ℕ) : Type 0 where
   pub size_fits : size_of rest ≤ extent_limit
   pub all_fits : n * size_of rest ≤ extent_limit
 
-pub rest_of : (parent : List ℕ) (n : ℕ) (rest : List ℕ) → parent ≡ n ∷ rest → extent parent ≤ extent_limit → Rest n rest
-rest_of parent n rest is fits =
+pub rest_of : SizeLaws → (parent : List ℕ) (n : ℕ) (rest : List ℕ) → parent ≡ n ∷ rest → extent parent ≤ extent_limit → Rest n rest
+rest_of extents parent n rest is fits =
     let whole : extent (n ∷ rest) ≤ extent_limit = subst (λ (ds : List ℕ). extent ds ≤ extent_limit) is fits in
     let one : 1 * extent rest ≤ max n 1 * extent rest = mul-le-mul {n₁ = 1} {m₁ = extent rest} {n₂ = max n 1} {m₂ = extent rest} (omega arith) (omega arith) in
-    let times : n * size_of rest ≤ max n 1 * extent rest = mul-le-mul {n₁ = n} {m₁ = size_of rest} {n₂ = max n 1} {m₂ = extent rest} (omega arith) (size_le-extent rest) in
+    let times : n * size_of rest ≤ max n 1 * extent rest = mul-le-mul {n₁ = n} {m₁ = size_of rest} {n₂ = max n 1} {m₂ = extent rest} (omega arith) (extents.size_within rest) in
     record {
       extent_fits = omega arith;
-      size_fits = omega (arith, size_le-extent rest);
+      size_fits = omega (arith, extents.size_within rest);
       all_fits = omega arith;
     }
 

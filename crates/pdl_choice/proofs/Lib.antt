@@ -14,3 +14,4 @@ pub mod Edged
 pub mod Inside
 pub mod MovingOn
 pub mod Rising
+pub mod Sources

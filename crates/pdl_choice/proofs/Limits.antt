@@ -4,9 +4,9 @@ use Rattle.std.proofs.Math.Nat.{mul-le-mul, mul_assoc}
 use Rattle.std.proofs.lemmas.Bool.{cases_lt}
 use Rattle.std.proofs.lemmas.Bool.Decides.{nat_tests}
 use Rattle.std.proofs.lemmas.List.{take-append-drop, length-map}
+use Rattle.pdl_shape.specs.Laws.{SizeLaws}
 use Rattle.pdl_shape.specs.Shape.{IsDims, dims_limit, extent, extent_limit, size_of}
 use Rattle.pdl_shape.specs.Limits.{checked_dims}
-use Rattle.pdl_shape.proofs.Extents.{extent_positive, size_le-extent}
 use Rattle.pdl_shape.specs.Refusals.{Refusal, Refuses, too_large}
 use Rattle.pdl_choice.specs.declared.answers.ChoiceFault.{ChoiceFault}
 use Rattle.pdl_choice.specs.Choice.{Makes, refusal_of}
@@ -27,24 +27,21 @@ pub other_factor : (a b : ℕ) → 0 < a → b ≤ a * b
 other_factor a b h = omega (arith, mul-le-mul {n₁ = 1} {m₁ = b} {n₂ = a} {m₂ = b} h (omega arith))
 
 -- a front of the sizes has no larger extent
-pub extent-take : (n : ℕ) (ds : List ℕ) → extent (take n ds) ≤ extent ds
-extent-take n ds =
+pub extent-take : SizeLaws → (n : ℕ) (ds : List ℕ) → extent (take n ds) ≤ extent ds
+extent-take extents n ds =
     let split : extent (take n ds) * extent (drop n ds) ≡ extent ds = sym (extent-append (take n ds) (drop n ds)) ∙ ap extent (take-append-drop n ds) in
-    omega (arith, one_factor (extent (take n ds)) (extent (drop n ds)) (extent_positive (drop n ds)))
-
-pub size_bounded : (ds : List ℕ) → IsDims ds → size_of ds ≤ extent_limit
-size_bounded ds limits = omega (arith, size_le-extent ds, limits.within)
+    omega (arith, one_factor (extent (take n ds)) (extent (drop n ds)) (extents.extent_above (drop n ds)))
 
 positive_product : (n m : ℕ) → n ≤ m → 0 < m → max n 1 ≤ m
 positive_product n m h p = omega arith
 
 -- the sizes with the first of them as one stay within the limits
-pub clumped_limits : (ds : List ℕ) (n : ℕ) → IsDims ds → (0 < n) ⊎ (ds ≡ []) → n ≤ length ds → IsDims (size_of (take n ds) ∷ drop n ds)
-clumped_limits ds n limits some enough = record {
+pub clumped_limits : SizeLaws → (ds : List ℕ) (n : ℕ) → IsDims ds → (0 < n) ⊎ (ds ≡ []) → n ≤ length ds → IsDims (size_of (take n ds) ∷ drop n ds)
+clumped_limits extents ds n limits some enough = record {
   count = clumped_count ds n limits.count some enough;
   within =
       let split : extent (take n ds) * extent (drop n ds) ≡ extent ds = sym (extent-append (take n ds) (drop n ds)) ∙ ap extent (take-append-drop n ds) in
-      let one : max (size_of (take n ds)) 1 ≤ extent (take n ds) = positive_product _ _ (size_le-extent (take n ds)) (extent_positive (take n ds)) in
+      let one : max (size_of (take n ds)) 1 ≤ extent (take n ds) = positive_product _ _ (extents.size_within (take n ds)) (extents.extent_above (take n ds)) in
       let times : max (size_of (take n ds)) 1 * extent (drop n ds) ≤ extent (take n ds) * extent (drop n ds) =
       mul-le-mul {n₁ = max (size_of (take n ds)) 1} {m₁ = extent (drop n ds)} {n₂ = extent (take n ds)} {m₂ = extent (drop n ds)} one (omega arith) in
       omega (arith, limits.within);
@@ -71,10 +68,10 @@ checked_dims-large ds count past =
 abbrev CappedCases : List ℕ → Type 0
 CappedCases ws = (map capped ws ≡ ws) ⊎ ((extent_limit < extent ws) × (extent_limit < extent (map capped ws)))
 
-capped_first : (w : ℕ) (ws : List ℕ) → 4294967295 < w → CappedCases (w ∷ ws)
-capped_first w ws past = inr (
-  omega (arith, one_factor (max w 1) (extent ws) (extent_positive ws)),
-  omega (arith, one_factor (max (min w 4294967295) 1) (extent (map capped ws)) (extent_positive (map capped ws))),
+capped_first : SizeLaws → (w : ℕ) (ws : List ℕ) → 4294967295 < w → CappedCases (w ∷ ws)
+capped_first extents w ws past = inr (
+  omega (arith, one_factor (max w 1) (extent ws) (extents.extent_above ws)),
+  omega (arith, one_factor (max (min w 4294967295) 1) (extent (map capped ws)) (extents.extent_above (map capped ws))),
 )
 
 capped_more : (w : ℕ) (ws : List ℕ) → w ≤ 4294967295 → CappedCases ws → CappedCases (w ∷ ws)
@@ -89,12 +86,12 @@ capped_more w ws fits (inr both) = inr (
     at_least_one : (n : ℕ) → 0 < max n 1
     at_least_one n = omega arith
 
-capped_cases : (ws : List ℕ) → CappedCases ws
-capped_cases [] = inl refl
-capped_cases (w ∷ ws) =
+capped_cases : SizeLaws → (ws : List ℕ) → CappedCases ws
+capped_cases extents [] = inl refl
+capped_cases extents (w ∷ ws) =
     elim (cases_lt 4294967295 w) [
-      | inl past ↦ capped_first w ws past
-      | inr fits ↦ capped_more w ws fits (capped_cases ws)
+      | inl past ↦ capped_first extents w ws past
+      | inr fits ↦ capped_more w ws fits (capped_cases extents ws)
     ]
 
 same_refusal : (xs ys : List ℕ) → length xs ≡ length ys → extent_limit < extent xs → extent_limit < extent ys → checked_dims xs ≡ checked_dims ys
@@ -103,18 +100,18 @@ same_refusal xs ys same past_xs past_ys =
     let large_ys : nat_lt extent_limit (extent ys) ≡ true = grind (arith, nat_tests) in
     rw same (rw large_xs (rw large_ys refl))
 
-past_middle : (xs ys zs : List ℕ) → extent_limit < extent ys → extent_limit < extent (xs ++ (ys ++ zs))
-past_middle xs ys zs past =
+past_middle : SizeLaws → (xs ys zs : List ℕ) → extent_limit < extent ys → extent_limit < extent (xs ++ (ys ++ zs))
+past_middle extents xs ys zs past =
     let whole : extent (xs ++ (ys ++ zs)) ≡ extent xs * (extent ys * extent zs) = extent-append xs (ys ++ zs) ∙ ap (λ n. extent xs * n) (extent-append ys zs) in
-    omega (arith, whole, one_factor (extent ys) (extent zs) (extent_positive zs), other_factor (extent xs) (extent ys * extent zs) (extent_positive xs))
+    omega (arith, whole, one_factor (extent ys) (extent zs) (extents.extent_above zs), other_factor (extent xs) (extent ys * extent zs) (extents.extent_above xs))
 
 -- the limits refuse sizes alike where some stand at the largest number
-pub checked_dims-capped : (xs ws zs : List ℕ) → checked_dims (xs ++ (map capped ws ++ zs)) ≡ checked_dims (xs ++ (ws ++ zs))
-checked_dims-capped xs ws zs = elim (capped_cases ws) [
+pub checked_dims-capped : SizeLaws → (xs ws zs : List ℕ) → checked_dims (xs ++ (map capped ws ++ zs)) ≡ checked_dims (xs ++ (ws ++ zs))
+checked_dims-capped extents xs ws zs = elim (capped_cases extents ws) [
   | inl same ↦ ap (λ (us : List ℕ). checked_dims (xs ++ (us ++ zs))) same
   | inr both ↦ same_refusal (xs ++ (map capped ws ++ zs)) (xs ++ (ws ++ zs))
       (omega (arith, length-append xs (map capped ws ++ zs), length-append (map capped ws) zs, length-append xs (ws ++ zs), length-append ws zs, length-map ws capped))
-      (past_middle xs (map capped ws) zs both.1) (past_middle xs ws zs both.0)
+      (past_middle extents xs (map capped ws) zs both.1) (past_middle extents xs ws zs both.0)
 ]
 
 pub ok_of : (w v : Result (List ℕ) Refusal) (r : Result (List ℕ) ChoiceFault) → Makes w r → w ≡ v → IfOk r (λ ds. v ≡ Ok ds)

@@ -2,8 +2,8 @@
 use Rattle.std.proofs.Common.{◌≡◌, ℕ, zero, suc, ◌+◌, ◌*◌, ◌/◌, ◌%◌, ◌<◌, ◌≤◌, List, [], ◌∷◌, ◌++◌, length, get_or, set, take, drop, refl, ap, sym, ◌∙◌, arith, append_assoc, append-nil, length-set, mod-lt}
 use Rattle.std.proofs.Math.Nat.{add-mul-div_left, add-mul-mod_self_left, div-eq_of_lt, mod-eq_of_lt, mod-add-div}
 use Rattle.std.proofs.lemmas.List.{at_drop_all, at_drop_more, drop-set-lt, take_all, take_more_set, take-append-drop}
+use Rattle.pdl_shape.specs.Laws.{PositionLaws}
 use Rattle.pdl_shape.specs.Shape.{IsWithin, coordinates_of, position_of}
-use Rattle.pdl_shape.proofs.Positions.{coordinates-position, within-length}
 
 -- a row and a place in it
 pub quotient : (c d q n : ℕ) → c < d → n ≡ c + d * q → n / d ≡ q
@@ -44,11 +44,11 @@ pub record Carried (i : ℕ) (now ds : List ℕ) (p : ℕ) : Type 0 where
   pub rest : drop i now ≡ coordinates_of (drop i ds) number
   pub goal : coordinates_of ds (p + 1) ≡ take i now ++ coordinates_of (drop i ds) (number + 1)
 
-pub carried_none : (old ds : List ℕ) → IsWithin ds old → Carried 0 old ds (position_of ds old)
-carried_none old ds w = record {
+pub carried_none : PositionLaws → (old ds : List ℕ) → IsWithin ds old → Carried 0 old ds (position_of ds old)
+carried_none positions old ds w = record {
   number = position_of ds old;
-  long = omega (arith, within-length ds old w);
-  rest = sym (coordinates-position ds old w);
+  long = omega (arith, positions.as_many ds old w);
+  rest = sym (positions.coordinates_again ds old w);
   goal = refl;
 }
 

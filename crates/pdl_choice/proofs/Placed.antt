@@ -1,17 +1,17 @@
 -- The places of whole views.
-use Rattle.std.proofs.Common.{◌≡◌, ℕ, zero, suc, ◌+◌, ◌*◌, ◌/◌, ◌%◌, ◌<◌, ◌≤◌, Bool, true, false, cond, List, [], ◌∷◌, ◌++◌, length, take, drop, get_or, map, ap, sym, ◌∙◌, arith, Option, Some, None, ℤ, pos}
+use Rattle.std.proofs.Common.{◌≡◌, ℕ, zero, suc, ◌+◌, ◌*◌, ◌/◌, ◌%◌, ◌<◌, List, [], ◌∷◌, ◌++◌, length, take, drop, get_or, map, ap, sym, ◌∙◌, arith, Option, Some, None, ℤ}
 use Rattle.std.specs.Option.{unwrap_or}
-use Rattle.std.specs.List.{filter, range_with_len}
+use Rattle.std.specs.List.{range_with_len}
 use Rattle.std.proofs.Math.Nat.{mod-eq_of_lt}
 use Rattle.std.proofs.lemmas.List.{take-append-drop, length-map, get_or-map}
 use Rattle.std.proofs.lemmas.List.FromFn.{fill_by_all, get_or-map-range_with_len, length-map-range_with_len}
 use Rattle.std.proofs.lemmas.Nat.{div_below, mod_below, div-add-mod'}
+use Rattle.pdl_shape.specs.Laws.{PositionLaws}
 use Rattle.pdl_shape.specs.Shape.{size_of, position_of, coordinates_of}
-use Rattle.pdl_shape.proofs.Positions.{position-coordinates}
 use Rattle.pdl_shape.specs.Places.{places_of}
 use Rattle.pdl_shape.specs.Clump.{clump_count}
 use Rattle.pdl_choice.specs.Clump.{clumped_source}
-use Rattle.pdl_choice.specs.Where.{is_set, which, where_source}
+use Rattle.pdl_choice.specs.Where.{where_source}
 use Rattle.pdl_choice.proofs.Positions.{position_of-append, size_of-append, length-coordinates_of}
 
 -- lists of the same places
@@ -21,13 +21,13 @@ map-range_same f g n d same =
     (λ k below. get_or-map-range_with_len f 0 n k k d below (omega arith) ∙ same k below)
 
 -- a position within the joined dimensions and one within the others
-clump_place : (front back : List ℕ) (p : ℕ) → p < size_of front * size_of back
+clump_place : PositionLaws → (front back : List ℕ) (p : ℕ) → p < size_of front * size_of back
     → position_of (front ++ back) (coordinates_of front (p % size_of front) ++ coordinates_of back (p / size_of front)) ≡ p
-clump_place front back p within =
+clump_place positions front back p within =
     let some : 0 < size_of front = positive_left (size_of front) (size_of back) p within in
     position_of-append front back (coordinates_of front (p % size_of front)) (coordinates_of back (p / size_of front)) (length-coordinates_of front (p % size_of front))
-    ∙ ap (λ n. n + size_of front * position_of back (coordinates_of back (p / size_of front))) (position-coordinates front (p % size_of front) (mod_below p (size_of front) some))
-    ∙ ap (λ n. p % size_of front + size_of front * n) (position-coordinates back (p / size_of front) (div_below p (size_of front) (size_of back) some (omega arith)))
+    ∙ ap (λ n. n + size_of front * position_of back (coordinates_of back (p / size_of front))) (positions.position_again front (p % size_of front) (mod_below p (size_of front) some))
+    ∙ ap (λ n. p % size_of front + size_of front * n) (positions.position_again back (p / size_of front) (div_below p (size_of front) (size_of back) some (omega arith)))
     ∙ omega (arith, div-add-mod' p (size_of front))
   where
     positive_left : (n m p : ℕ) → p < n * m → 0 < n
@@ -35,42 +35,24 @@ clump_place front back p within =
     positive_left (suc n) m p h = omega arith
 
 -- a clump has each place of its parent once, in order
-pub clump_places : (parent : List ℕ) (count : ℤ) (n total : ℕ) → Some n ≡ clump_count count (length parent) → total ≡ size_of parent
+pub clump_places : PositionLaws → (parent : List ℕ) (count : ℤ) (n total : ℕ) → Some n ≡ clump_count count (length parent) → total ≡ size_of parent
     → map (λ (p : ℕ). Some p) (range_with_len 0 total) ≡ places_of (size_of (take n parent) ∷ drop n parent) parent (λ at. Some (clumped_source parent count at))
-clump_places parent count n total is whole =
+clump_places positions parent count n total is whole =
     let split : size_of (take n parent) * size_of (drop n parent) ≡ size_of parent = sym (size_of-append (take n parent) (drop n parent)) ∙ ap size_of (take-append-drop n parent) in
     let joined : unwrap_or (clump_count count (length parent)) 0 ≡ n = sym (ap (λ (o : Option ℕ). unwrap_or o 0) is) in
     let place : ℕ → ℕ → Option ℕ = λ m p. Some (position_of parent (coordinates_of (take m parent) (p % size_of (take n parent)) ++ coordinates_of (drop n parent) (p / size_of (take n parent)))) in
     ap (λ m. map (λ (p : ℕ). Some p) (range_with_len 0 m)) (whole ∙ sym split)
     ∙ map-range_same (λ (p : ℕ). Some p) (place n) (size_of (take n parent) * size_of (drop n parent)) None
-    (λ p below. ap Some (sym (clump_place (take n parent) (drop n parent) p below) ∙ ap (λ (ds : List ℕ). position_of ds (coordinates_of (take n parent) (p % size_of (take n parent)) ++ coordinates_of (drop n parent) (p / size_of (take n parent)))) (take-append-drop n parent)))
+    (λ p below. ap Some (sym (clump_place positions (take n parent) (drop n parent) p below) ∙ ap (λ (ds : List ℕ). position_of ds (coordinates_of (take n parent) (p % size_of (take n parent)) ++ coordinates_of (drop n parent) (p / size_of (take n parent)))) (take-append-drop n parent)))
     ∙ ap (λ m. map (place m) (range_with_len 0 (size_of (take n parent) * size_of (drop n parent)))) (sym joined)
 
-picked_below : (b : Bool) (a m : ℕ) (xs : List ℕ) → a < m → ((k : ℕ) → k < length xs → get_or xs k 0 < m) → (k : ℕ) → k < length (cond b (a ∷ xs) xs) → get_or (cond b (a ∷ xs) xs) k 0 < m
-picked_below true a m xs first rest zero h = first
-picked_below true a m xs first rest (suc k) h = rest k (omega arith)
-picked_below false a m xs first rest k h = rest k h
-
-filtered_below : (p : ℕ → Bool) (a n m : ℕ) → a + n ≤ m → (k : ℕ) → k < length (filter p (range_with_len a n)) → get_or (filter p (range_with_len a n)) k 0 < m
-filtered_below p a zero m fits k h = absurd (omega arith)
-filtered_below p a (suc n) m fits k h =
-    picked_below (p a) a m (filter p (range_with_len (a + 1) n)) (omega arith) (filtered_below p (a + 1) n m (omega arith)) k h
-
--- the places of a mask lie in the array
-pub which_below_length : (mask : List ℤ) (k : ℕ) → k < length (which mask) → get_or (which mask) k 0 < length mask
-which_below_length mask k h = filtered_below (λ p. is_set (get_or mask p (pos 0))) 0 (length mask) (length mask) (omega arith) k h
-
 -- a view of places has each of them, in order
-pub listed_places : (parent places : List ℕ) → ((k : ℕ) → k < length places → get_or places k 0 < size_of parent)
+pub listed_places : PositionLaws → (parent places : List ℕ) → ((k : ℕ) → k < length places → get_or places k 0 < size_of parent)
     → map (λ (p : ℕ). Some p) places ≡ places_of (length places ∷ []) parent (λ at. Some (where_source parent places at))
-listed_places parent places below =
+listed_places positions parent places below =
     fill_by_all (λ p. Some (position_of parent (coordinates_of parent (get_or places (p % length places) 0))))
     (map (λ (p : ℕ). Some p) places) (length places * 1) None (length-map places (λ (p : ℕ). Some p) ∙ omega arith)
     (λ k h. let inside : k < length places = omega arith in
     get_or-map (λ (p : ℕ). Some p) places k 0 None inside
-    ∙ ap Some (sym (position-coordinates parent (get_or places k 0) (below k inside)))
+    ∙ ap Some (sym (positions.position_again parent (get_or places k 0) (below k inside)))
     ∙ ap (λ j. Some (position_of parent (coordinates_of parent (get_or places j 0)))) (sym (mod-eq_of_lt inside)))
-
-pub mask_places : (parent : List ℕ) (mask : List ℤ) → length mask ≡ size_of parent
-    → map (λ (p : ℕ). Some p) (which mask) ≡ places_of (length (which mask) ∷ []) parent (λ at. Some (where_source parent (which mask) at))
-mask_places parent mask whole = listed_places parent (which mask) (λ k h. omega (arith, which_below_length mask k h, whole))

@@ -1,8 +1,8 @@
 -- Positions and coordinates of dimensions that stand one after another.
 use Rattle.std.proofs.Common.{◌≡◌, ℕ, suc, ◌+◌, ◌*◌, ◌/◌, ◌%◌, ◌<◌, List, [], ◌∷◌, ◌++◌, length, refl, ap, sym, ◌∙◌, arith}
 use Rattle.std.proofs.Math.Nat.{add-mul-div_left, add-mul-mod_self_left, mul_assoc}
+use Rattle.pdl_shape.specs.Laws.{PositionLaws}
 use Rattle.pdl_shape.specs.Shape.{size_of, position_of, coordinates_of}
-use Rattle.pdl_shape.proofs.Positions.{quotient_below}
 
 -- there is a coordinate for each size
 pub length-coordinates_of : (ds : List ℕ) (p : ℕ) → length (coordinates_of ds p) ≡ length ds
@@ -25,13 +25,13 @@ position_of-append (x ∷ xs) ys (c ∷ cs) es h =
     regroup c x p s q = grind arith
 
 -- a position in the first dimensions and one in the others
-pub coordinates_of-append : (xs ys : List ℕ) (q r : ℕ) → q < size_of xs → coordinates_of (xs ++ ys) (q + size_of xs * r) ≡ coordinates_of xs q ++ coordinates_of ys r
-coordinates_of-append [] ys q r h = ap (coordinates_of ys) (omega arith)
-coordinates_of-append (x ∷ xs) ys q r h =
+pub coordinates_of-append : PositionLaws → (xs ys : List ℕ) (q r : ℕ) → q < size_of xs → coordinates_of (xs ++ ys) (q + size_of xs * r) ≡ coordinates_of xs q ++ coordinates_of ys r
+coordinates_of-append positions [] ys q r h = ap (coordinates_of ys) (omega arith)
+coordinates_of-append positions (x ∷ xs) ys q r h =
     let here : (q + x * size_of xs * r) % x ≡ q % x =
     ap (λ n. (q + n) % x) (mul_assoc x (size_of xs) r) ∙ add-mul-mod_self_left q x (size_of xs * r) in
     let there : (q + x * size_of xs * r) / x ≡ q / x + size_of xs * r =
-    ap (λ n. (q + n) / x) (mul_assoc x (size_of xs) r) ∙ add-mul-div_left q (size_of xs * r) {y = x} (quotient_below x xs q h).0 in
+    ap (λ n. (q + n) / x) (mul_assoc x (size_of xs) r) ∙ add-mul-div_left q (size_of xs * r) {y = x} (positions.quotient_below x xs q h).0 in
     ap (λ n. n ∷ coordinates_of (xs ++ ys) ((q + x * size_of xs * r) / x)) here
     ∙ ap (λ n. q % x ∷ coordinates_of (xs ++ ys) n) there
-    ∙ ap (λ cs. q % x ∷ cs) (coordinates_of-append xs ys (q / x) r (quotient_below x xs q h).1)
+    ∙ ap (λ cs. q % x ∷ cs) (coordinates_of-append positions xs ys (q / x) r (positions.quotient_below x xs q h).1)

@@ -3,8 +3,8 @@ use Rattle.std.proofs.Common.{◌≡◌, ℕ, ◌≤◌, ◌++◌, inl, inr, tru
 use Rattle.std.specs.Option.{option_map_or}
 use Rattle.std.proofs.lemmas.Bool.{cases_lt}
 use Rattle.std.proofs.lemmas.Bool.Decides.{nat_tests}
+use Rattle.pdl_shape.specs.Laws.{SizeLaws}
 use Rattle.pdl_shape.specs.Shape.{dims_limit, extent, extent_limit}
-use Rattle.pdl_shape.proofs.Extents.{extent_positive}
 use Rattle.pdl_choice.proofs.Limits.{extent-append, other_factor}
 use Rattle.pdl_shape.specs.Refusals.{Refusal, Refuses, too_many_dims, too_large}
 use Rattle.pdl_choice.specs.declared.edges.Edge.{Edge}
@@ -45,8 +45,8 @@ checked_dims-ok ds es is =
     ]
 
 -- what the limits don't refuse lies within them, and so does its back
-pub checked_dims-back : (front back es : List ℕ) → checked_dims (front ++ back) ≡ Ok es → extent back ≤ extent_limit
-checked_dims-back front back es is =
+pub checked_dims-back : SizeLaws → (front back es : List ℕ) → checked_dims (front ++ back) ≡ Ok es → extent back ≤ extent_limit
+checked_dims-back extents front back es is =
     elim (cases_lt extent_limit (extent (front ++ back))) [
       | inl past ↦ elim (cases_lt dims_limit (length (front ++ back))) [
         | inl many ↦
@@ -59,7 +59,7 @@ checked_dims-back front back es is =
             let same : checked_dims (front ++ back) ≡ Err too_large = rw right (rw big refl) in
             cc
       ]
-      | inr fits ↦ omega (arith, extent-append front back, other_factor (extent front) (extent back) (extent_positive front))
+      | inr fits ↦ omega (arith, extent-append front back, other_factor (extent front) (extent back) (extents.extent_above front))
     ]
 
 -- what is the same is refused so as well

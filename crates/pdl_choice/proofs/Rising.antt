@@ -1,5 +1,5 @@
 -- Places that rise.
-use Rattle.std.proofs.Common.{◌≡◌, ℕ, zero, suc, ◌+◌, ◌<◌, ◌≤◌, Bool, true, false, cond, IsTrue, List, [], ◌∷◌, length, get_or, map, Option, Some, ℤ, pos, refl, sym, ap, ◌∙◌, subst, arith}
+use Rattle.std.proofs.Common.{◌≡◌, ℕ, zero, suc, ◌+◌, ◌<◌, ◌≤◌, Bool, true, false, cond, All, IsTrue, List, [], ◌∷◌, length, get_or, map, Option, Some, ℤ, pos, refl, sym, ap, ◌∙◌, subst, arith}
 use Rattle.std.specs.List.{filter, range_with_len}
 use Rattle.std.proofs.lemmas.Bool.Decides.{nat_tests}
 use Rattle.std.proofs.lemmas.List.{length-map, get_or-map}
@@ -19,6 +19,15 @@ pub rising_below : (a n : ℕ) (ps : List ℕ) → IsTrue (rises a n ps) → (k 
 rising_below a n [] h k l = absurd (omega arith)
 rising_below a n (p ∷ ps) h zero l = (parts a n p ps h).1
 rising_below a n (p ∷ ps) h (suc k) l = rising_below (p + 1) n ps (parts a n p ps h).2 k (omega arith)
+
+-- each of them lies below n
+pub rising_all : (a n : ℕ) (ps : List ℕ) → IsTrue (rises a n ps) → All (λ p. p < n) ps
+rising_all a n [] h = λ k d l. absurd (omega arith)
+rising_all a n (p ∷ ps) h = by_place (parts a n p ps h).1 (rising_all (p + 1) n ps (parts a n p ps h).2)
+  where
+    by_place : p < n → All (λ q. q < n) ps → (k d : ℕ) → k < length (p ∷ ps) → get_or (p ∷ ps) k d < n
+    by_place first rest zero d l = first
+    by_place first rest (suc k) d l = rest k d (omega arith)
 
 pub rising_inside : (n : ℕ) (ps : List ℕ) (places : List (Option ℕ)) → IsTrue (rises 0 n ps) → places ≡ map (λ p. Some p) ps → AllBelow n places
 rising_inside n ps places h is = λ k d l.

@@ -1,11 +1,9 @@
 -- The places of an index view, row by row.
 use Rattle.std.proofs.Common.{Option, ◌≡◌, ℕ, ◌+◌, ◌*◌, ◌/◌, ◌<◌, ◌≤◌, eqb, true, false, if◌then◌else◌, List, [], ◌∷◌, Bool, length, get_or, drop, refl, ap, sym, ◌∙◌, subst, arith, Some, ℤ, pos}
 use Rattle.std.proofs.Math.Nat.{mul-le-mul_left}
+use Rattle.pdl_shape.specs.Laws.{CutsWithin, PositionLaws, SizeLaws}
 use Rattle.pdl_shape.specs.Broadcast.{BroadcastsTo, cut_to}
 use Rattle.pdl_shape.specs.Shape.{IsWithin, extent, extent_limit, size_of, position_of, coordinates_of}
-use Rattle.pdl_shape.proofs.Broadcasts.{cut_within}
-use Rattle.pdl_shape.proofs.Extents.{size_le-extent}
-use Rattle.pdl_shape.proofs.Positions.{coordinates_within, position_below, position-coordinates}
 use Rattle.pdl_choice.specs.declared.indices.Line.{Line}
 use Rattle.std.specs.Option.{unwrap_or}
 use Rattle.pdl_shape.specs.Counting.{from_end}
@@ -42,22 +40,22 @@ row-coordinates joined c r h =
     ∙ ap (λ n. c ∷ coordinates_of (drop 1 joined) n) (quotient c (get_or joined 0 1) r (c + get_or joined 0 1 * r) h refl)
 
 -- the others of the sizes that stretch are used within them
-rest_within : (dims joined at : List ℕ) → BroadcastsTo dims (by_rows joined) → IsWithin (drop 1 joined) at → IsWithin (drop 1 dims) (cut_to (drop 1 dims) at)
-rest_within [] joined at b w = tt
-rest_within (d ∷ ds) joined at b w = cut_within ds (drop 1 joined) at b.1 w
+rest_within : CutsWithin → (dims joined at : List ℕ) → BroadcastsTo dims (by_rows joined) → IsWithin (drop 1 joined) at → IsWithin (drop 1 dims) (cut_to (drop 1 dims) at)
+rest_within cuts [] joined at b w = tt
+rest_within cuts (d ∷ ds) joined at b w = cuts ds (drop 1 joined) at b.1 w
 
 -- where a round of the walk through the rows stands
 pub record AtRow (dims joined at : List ℕ) : Type 0 where
   pub rest : IsWithin (drop 1 dims) (cut_to (drop 1 dims) at)
   pub inside : (c : ℕ) → c < get_or joined 0 1 → position_of dims (cut_to dims (c ∷ at)) < size_of dims
 
-pub at_row : (dims joined at : List ℕ) (r : ℕ) → BroadcastsTo dims joined → r < size_of (drop 1 joined) → at ≡ coordinates_of (drop 1 joined) r → AtRow dims joined at
-at_row dims joined at r b h is =
-    let w : IsWithin (drop 1 joined) at = subst (λ (cs : List ℕ). IsWithin (drop 1 joined) cs) (sym is) (coordinates_within (drop 1 joined) r h) in
+pub at_row : PositionLaws → CutsWithin → (dims joined at : List ℕ) (r : ℕ) → BroadcastsTo dims joined → r < size_of (drop 1 joined) → at ≡ coordinates_of (drop 1 joined) r → AtRow dims joined at
+at_row positions cuts dims joined at r b h is =
+    let w : IsWithin (drop 1 joined) at = subst (λ (cs : List ℕ). IsWithin (drop 1 joined) cs) (sym is) (positions.coordinates_within (drop 1 joined) r h) in
     let rows : BroadcastsTo dims (by_rows joined) = stretches-by_rows dims joined b in
     record {
-      rest = rest_within dims joined at rows w;
-      inside = λ c below. position_below dims _ (cut_within dims (by_rows joined) (c ∷ at) rows (below, w));
+      rest = rest_within cuts dims joined at rows w;
+      inside = λ c below. positions.position_below dims _ (cuts dims (by_rows joined) (c ∷ at) rows (below, w));
     }
 
 -- the positions along a row lie evenly apart
@@ -108,9 +106,9 @@ place_fits n s p h fits =
     next p s h = omega arith
 
 -- the places of a row stay within the limits
-pub rows_fit : (parent : List ℕ) (p : ℕ) → extent parent ≤ extent_limit → p < size_of (drop 1 parent) → get_or parent 0 1 * p + get_or parent 0 1 ≤ extent_limit
-rows_fit parent p fits h =
-    place_fits (get_or parent 0 1) (size_of (drop 1 parent)) p h (omega (arith, size_of-by_rows parent, size_le-extent parent))
+pub rows_fit : SizeLaws → (parent : List ℕ) (p : ℕ) → extent parent ≤ extent_limit → p < size_of (drop 1 parent) → get_or parent 0 1 * p + get_or parent 0 1 ≤ extent_limit
+rows_fit extents parent p fits h =
+    place_fits (get_or parent 0 1) (size_of (drop 1 parent)) p h (omega (arith, size_of-by_rows parent, extents.size_within parent))
 
 -- the first size, whatever stands for a missing one
 pub first_size : (parent : List ℕ) → 0 < length parent → get_or parent 0 1 ≡ get_or parent 0 0
@@ -144,13 +142,13 @@ pub rows_all : (joined : List ℕ) (count row total r : ℕ) → row ≡ get_or 
 rows_all joined count row total r row_is is none some end long =
     ap (λ n. n * r) (sym row_is) ∙ rounds_all count row (size_of (drop 1 joined)) total r (is ∙ size_of-by_rows joined ∙ ap (λ n. n * size_of (drop 1 joined)) (sym row_is)) none some end long ∙ is
 
-pub moved_row : (joined outer old new : List ℕ) (r : ℕ) → outer ≡ drop 1 joined → r < size_of (drop 1 joined) → old ≡ coordinates_of (drop 1 joined) r → new ≡ coordinates_of outer (position_of outer old + 1) → new ≡ coordinates_of (drop 1 joined) (r + 1)
-moved_row joined outer old new r outer_is h is moved =
+pub moved_row : PositionLaws → (joined outer old new : List ℕ) (r : ℕ) → outer ≡ drop 1 joined → r < size_of (drop 1 joined) → old ≡ coordinates_of (drop 1 joined) r → new ≡ coordinates_of outer (position_of outer old + 1) → new ≡ coordinates_of (drop 1 joined) (r + 1)
+moved_row positions joined outer old new r outer_is h is moved =
     moved
     ∙ ap (λ (ds : List ℕ). coordinates_of ds (position_of ds old + 1)) outer_is
     ∙ ap (λ (cs : List ℕ). coordinates_of (drop 1 joined) (position_of (drop 1 joined) cs + 1)) is
-    ∙ ap (λ n. coordinates_of (drop 1 joined) (n + 1)) (position-coordinates (drop 1 joined) r h)
+    ∙ ap (λ n. coordinates_of (drop 1 joined) (n + 1)) (positions.position_again (drop 1 joined) r h)
 
-pub row_within : (joined outer at : List ℕ) (r : ℕ) → outer ≡ drop 1 joined → r < size_of (drop 1 joined) → at ≡ coordinates_of (drop 1 joined) r → IsWithin outer at
-row_within joined outer at r outer_is h is =
-    subst (λ (cs : List ℕ). IsWithin outer cs) (sym is) (subst (λ (ds : List ℕ). IsWithin ds (coordinates_of (drop 1 joined) r)) (sym outer_is) (coordinates_within (drop 1 joined) r h))
+pub row_within : PositionLaws → (joined outer at : List ℕ) (r : ℕ) → outer ≡ drop 1 joined → r < size_of (drop 1 joined) → at ≡ coordinates_of (drop 1 joined) r → IsWithin outer at
+row_within positions joined outer at r outer_is h is =
+    subst (λ (cs : List ℕ). IsWithin outer cs) (sym is) (subst (λ (ds : List ℕ). IsWithin ds (coordinates_of (drop 1 joined) r)) (sym outer_is) (positions.coordinates_within (drop 1 joined) r h))

@@ -3,8 +3,8 @@ use Rattle.std.proofs.Common.{◌≡◌, ℕ, ◌+◌, ◌*◌, ◌<◌, ◌≤�
 use Rattle.std.specs.Option.{option_map}
 use Rattle.std.proofs.Math.Nat.{mul-le-mul_left}
 use Rattle.std.proofs.lemmas.List.{at_drop_all, at_drop_more, take_more, take-append-drop}
+use Rattle.pdl_shape.specs.Laws.{SizeLaws}
 use Rattle.pdl_shape.specs.Shape.{extent, extent_limit, size_of}
-use Rattle.pdl_shape.proofs.Extents.{size_le-extent}
 use Rattle.pdl_choice.specs.declared.edges.Edge.{Edge}
 use Rattle.pdl_choice.specs.Edges.{edge_coordinate}
 use Rattle.pdl_choice.specs.Rounds.{placed, place_first}
@@ -42,8 +42,8 @@ stride_more j stride parent h is =
     one : (s n : ℕ) → s * n ≡ s * (n * 1)
     one s n = grind arith
 
-pub stride_fits : (j stride : ℕ) (parent : List ℕ) → extent parent ≤ extent_limit → stride ≡ size_of (take j parent) → stride ≤ extent_limit
-stride_fits j stride parent fits is = omega (arith, is, size_le-extent (take j parent), extent-take j parent)
+pub stride_fits : SizeLaws → (j stride : ℕ) (parent : List ℕ) → extent parent ≤ extent_limit → stride ≡ size_of (take j parent) → stride ≤ extent_limit
+stride_fits extents j stride parent fits is = omega (arith, is, extents.size_within (take j parent), extent-take extents j parent)
 
 next_below : (x n : ℕ) → x < n → x + 1 ≤ n
 next_below x n h = omega arith

@@ -4,8 +4,8 @@ use Rattle.std.proofs.Math.Nat.{div-eq_of_lt, mod-add-div, mod-eq_of_lt, mul-add
 use Rattle.std.proofs.Math.Seq.{get_or-append_seam}
 use Rattle.std.proofs.lemmas.Bool.Decides.{nat_tests}
 use Rattle.std.proofs.lemmas.List.{get_or_append_left, get_or-map, length-map}
+use Rattle.pdl_shape.specs.Laws.{PositionLaws, SizeLaws}
 use Rattle.pdl_shape.specs.Shape.{IsWithin, coordinates_of, extent, extent_limit, position_of, size_of}
-use Rattle.pdl_shape.proofs.Positions.{coordinates_within, position-coordinates}
 use Rattle.pdl_choice.specs.declared.edges.Edge.{Edge}
 use Rattle.pdl_choice.specs.declared.edges.Edge.TheVariants.{Refuse, Zero, Nearest, Periodic}
 use Rattle.pdl_choice.specs.Edges.{CanPlace, edge_refuses}
@@ -17,7 +17,7 @@ use Rattle.pdl_choice.proofs.Positions.{length-coordinates_of}
 use Rattle.pdl_choice.proofs.Reached.{inner_front, rounds-capped, length-corner, length-rounds, rounds, size_of-rounds, window_position, window_position-placed}
 
 -- what an edge doesn't refuse, it can place
-can_place : (edge : Edge) (n w : ℕ) (v : ℤ) (c : ℕ) → edge_refuses edge n w v ≡ false → c < max w 1 → CanPlace edge n (v +ℤ pos c)
+pub can_place : (edge : Edge) (n w : ℕ) (v : ℤ) (c : ℕ) → edge_refuses edge n w v ≡ false → c < max w 1 → CanPlace edge n (v +ℤ pos c)
 can_place Refuse n w (pos a) c allowed below = within n (a + max w 1) (a + c) allowed (omega arith)
   where
     within : (n m k : ℕ) → not (nat_le m n) ≡ false → k < m → IsTrue (nat_lt k n)
@@ -45,10 +45,10 @@ at_window parent windows at len w long is = record {
     sizes : List ℕ
     sizes = map (λ w. max w 1) windows
 
-pub at_round : (parent windows at : List ℕ) (r len : ℕ) → length windows ≤ length parent → r < size_of (inner_dims parent windows) → at ≡ coordinates_of (rounds parent windows) r → len ≡ length at - 1 → AtWindow parent windows at len
-at_round parent windows at r len fit h is same =
+pub at_round : PositionLaws → (parent windows at : List ℕ) (r len : ℕ) → length windows ≤ length parent → r < size_of (inner_dims parent windows) → at ≡ coordinates_of (rounds parent windows) r → len ≡ length at - 1 → AtWindow parent windows at len
+at_round positions parent windows at r len fit h is same =
     let long : length at ≡ length windows + 1 = ap length is ∙ length-coordinates_of (rounds parent windows) r ∙ length-rounds parent windows in
-    at_window parent windows at len (subst (λ (cs : List ℕ). IsWithin (rounds parent windows) cs) (sym is) (coordinates_within (rounds parent windows) r (omega (arith, size_of-rounds parent windows fit)))) long (omega arith)
+    at_window parent windows at len (subst (λ (cs : List ℕ). IsWithin (rounds parent windows) cs) (sym is) (positions.coordinates_within (rounds parent windows) r (omega (arith, size_of-rounds parent windows fit)))) long (omega arith)
 
 -- the edges place all corners' numbers there
 pub all_placed : (edge : Edge) (parent windows : List ℕ) (ind : List ℤ) (at : List ℕ) (len : ℕ) → AtWindow parent windows at len → AllAllowed edge parent windows ind → CanPlaceAll edge parent ind len at
@@ -61,34 +61,34 @@ all_placed edge parent windows ind at len a allowed q j h inside =
     (a.below j below)
 
 -- the places of a round are those of its positions
-pub round_places : (edge : Edge) (parent windows : List ℕ) (ind : List ℤ) (at : List ℕ) (len corners r : ℕ)
+pub round_places : PositionLaws → (edge : Edge) (parent windows : List ℕ) (ind : List ℤ) (at : List ℕ) (len corners r : ℕ)
     → length windows ≤ length parent → length ind ≡ length windows * corners → r < size_of (inner_dims parent windows) → at ≡ coordinates_of (rounds parent windows) r → len ≡ length windows
     → (q : ℕ) → q < corners
     → placed edge parent (numbers_at ind len q) at ≡ window_position edge parent windows (numbers_at ind (length windows) ((q + corners * r) % corners)) ((q + corners * r) / corners)
-round_places edge parent windows ind at len corners r fit whole h is same q below =
+round_places positions edge parent windows ind at len corners r fit whole h is same q below =
     ap (placed edge parent (numbers_at ind len q)) is
     ∙ ap (λ n. placed edge parent (numbers_at ind n q) (coordinates_of (rounds parent windows) r)) same
-    ∙ sym (window_position-placed edge parent windows (numbers_at ind (length windows) q) r fit (length-corner ind (length windows) q (corner_fits (length windows) q corners (length ind) below whole)) h)
+    ∙ sym (window_position-placed positions edge parent windows (numbers_at ind (length windows) q) r fit (length-corner ind (length windows) q (corner_fits (length windows) q corners (length ind) below whole)) h)
     ∙ ap (window_position edge parent windows (numbers_at ind (length windows) q)) (sym (quotient q corners r (q + corners * r) below refl))
     ∙ ap (λ n. window_position edge parent windows (numbers_at ind (length windows) n) ((q + corners * r) / corners)) (sym (remainder q corners r (q + corners * r) below refl))
 
 -- the sizes that the positions go through, where none stands at the largest number
-pub rounds_are : (parent windows sizes : List ℕ) → extent (inner_dims parent windows) ≤ extent_limit
+pub rounds_are : SizeLaws → (parent windows sizes : List ℕ) → extent (inner_dims parent windows) ≤ extent_limit
     → sizes ≡ map (λ w. max (capped w) 1) windows ++ size_of (drop (length windows) parent) ∷ [] → sizes ≡ rounds parent windows
-rounds_are parent windows sizes fits is =
-    is ∙ ap (λ (us : List ℕ). us ++ size_of (drop (length windows) parent) ∷ []) (rounds-capped windows (inner_front parent windows fits))
+rounds_are extents parent windows sizes fits is =
+    is ∙ ap (λ (us : List ℕ). us ++ size_of (drop (length windows) parent) ∷ []) (rounds-capped extents windows (inner_front extents parent windows fits))
 
-pub round_within : (parent windows sizes at : List ℕ) (r : ℕ) → length windows ≤ length parent → sizes ≡ rounds parent windows → r < size_of (inner_dims parent windows) → at ≡ coordinates_of (rounds parent windows) r → IsWithin sizes at
-round_within parent windows sizes at r fit sizes_are h is =
-    subst (λ (cs : List ℕ). IsWithin sizes cs) (sym is) (subst (λ (ds : List ℕ). IsWithin ds (coordinates_of (rounds parent windows) r)) (sym sizes_are) (coordinates_within (rounds parent windows) r (omega (arith, size_of-rounds parent windows fit))))
+pub round_within : PositionLaws → (parent windows sizes at : List ℕ) (r : ℕ) → length windows ≤ length parent → sizes ≡ rounds parent windows → r < size_of (inner_dims parent windows) → at ≡ coordinates_of (rounds parent windows) r → IsWithin sizes at
+round_within positions parent windows sizes at r fit sizes_are h is =
+    subst (λ (cs : List ℕ). IsWithin sizes cs) (sym is) (subst (λ (ds : List ℕ). IsWithin ds (coordinates_of (rounds parent windows) r)) (sym sizes_are) (positions.coordinates_within (rounds parent windows) r (omega (arith, size_of-rounds parent windows fit))))
 
-pub round_moved : (parent windows sizes old new : List ℕ) (r : ℕ) → length windows ≤ length parent → sizes ≡ rounds parent windows → r < size_of (inner_dims parent windows) → old ≡ coordinates_of (rounds parent windows) r
+pub round_moved : PositionLaws → (parent windows sizes old new : List ℕ) (r : ℕ) → length windows ≤ length parent → sizes ≡ rounds parent windows → r < size_of (inner_dims parent windows) → old ≡ coordinates_of (rounds parent windows) r
     → new ≡ coordinates_of sizes (position_of sizes old + 1) → new ≡ coordinates_of (rounds parent windows) (r + 1)
-round_moved parent windows sizes old new r fit sizes_are h is moved =
+round_moved positions parent windows sizes old new r fit sizes_are h is moved =
     moved
     ∙ ap (λ (ds : List ℕ). coordinates_of ds (position_of ds old + 1)) sizes_are
     ∙ ap (λ (cs : List ℕ). coordinates_of (rounds parent windows) (position_of (rounds parent windows) cs + 1)) is
-    ∙ ap (λ n. coordinates_of (rounds parent windows) (n + 1)) (position-coordinates (rounds parent windows) r (omega (arith, size_of-rounds parent windows fit)))
+    ∙ ap (λ n. coordinates_of (rounds parent windows) (n + 1)) (positions.position_again (rounds parent windows) r (omega (arith, size_of-rounds parent windows fit)))
 
 zero-mod : (d : ℕ) → 0 % d ≡ 0
 zero-mod d = omega (arith, mod-add-div 0 d)

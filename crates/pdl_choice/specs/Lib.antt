@@ -5,3 +5,4 @@ pub mod Where
 pub mod Range
 pub mod Rounds
 pub mod Clump
+pub mod Laws

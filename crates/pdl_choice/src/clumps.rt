@@ -9,7 +9,7 @@ ghost use Rattle.pdl_choice.specs.Clump.{clump_dims, clumped_source};
 
 use crate::answers::count_of;
 use crate::{Choice, ChoiceFault, NoMemory, Places};
-use pdl_shape::{Dims, clump_count, dims_list, dims_of, elements_of};
+use pdl_shape::{Dims, clump_count, dims_list, dims_of, elements_of, shape_laws};
 use std::alloc::Global;
 
 /// The first `count` dimensions joined to one, or all for -1, as a list of places (PDL::Core,
@@ -20,6 +20,7 @@ pub fn clump_list(alloc: Global, source: &Dims, count: i64) -> Result<Choice, Ch
     ensures inside { IfOk result (λ c. AllBelow (size_of source.now) c.places) }
     ensures refusal { IfErr result (λ f. Refuses (clump_dims source.now count) (refusal_of f)) }
 {
+    shape_laws();
     let parent = dims_list(source);
     let Some(joined) = clump_count(count, parent.len()) else {
         return Err(ChoiceFault::BadDimension);
@@ -39,6 +40,7 @@ fn clumped(alloc: Global, parent: &[u32], joined: usize) -> Result<Dims, NoMemor
     requires enough { joined ≤ length parent.now }
     ensures { IfOk result (λ dims. dims ≡ size_of (take joined parent.now) ∷ drop joined parent.now) }
 {
+    shape_laws();
     let sizes = clumped_sizes(alloc, parent, joined)?;
     match dims_of(alloc, &sizes) {
         Ok(dims) => Ok(dims),
@@ -52,6 +54,7 @@ fn clumped_sizes(alloc: Global, parent: &[u32], joined: usize) -> Result<Vec<u32
     requires enough { joined ≤ length parent.now }
     ensures { IfOk result (λ sizes. sizes.items ≡ size_of (take joined parent.now) ∷ drop joined parent.now) }
 {
+    shape_laws();
     let (first, rest) = parent.split_at(joined);
     let product = count_of(first);
     let mut sizes = Vec::with_capacity(alloc, rest.len() + 1)?;

@@ -14,7 +14,9 @@ ghost use Rattle.pdl_choice.specs.Index.{first_outside, index_dims, index_outsid
 
 use crate::rounds::{first_size, move_on, rounds_of};
 use crate::{Choice, ChoiceFault, NoMemory, Places};
-use pdl_shape::{Dims, ShapeFault, dims_list, dims_of, elements_of, from_end, join_dims};
+use pdl_shape::{
+    Dims, ShapeFault, dims_list, dims_of, elements_of, from_end, join_dims, shape_laws,
+};
 use std::alloc::Global;
 
 /// The parent's first dimension looked up by `ind`, an array of the dimensions `ind_dims`, whose
@@ -164,6 +166,7 @@ fn line_of(dims: &[u32], at: &[u32]) -> Line
     requires bounded { extent dims.now ≤ extent_limit }
     ensures { (c : ℕ) → line_at result c ≡ position_of dims.now (cut_to dims.now (c ∷ at.now)) }
 {
+    shape_laws();
     match dims.split_first() {
         Some((size, dims)) => Line {
             from: *size * used_position(dims, at),
@@ -224,6 +227,7 @@ fn index_places(
     ensures inside { IfOk result (λ places. AllBelow (size_of parent.now) places.items) }
     ensures places { IfOk result (λ places. places.items ≡ places_of joined.now parent.now (λ at. Some (index_source parent.now ind_dims.now ind.now at))) }
 {
+    shape_laws();
     let (size, rest) = first_size(parent);
     let (row, outer) = first_size(joined);
     let mut at = vec![in alloc; 0; outer.len()]?;

@@ -1,5 +1,5 @@
 //! where and which: the places at which a mask isn't 0.
-ghost use Rattle.std.specs.Prelude.{◌≡◌, ◌≢◌, ◌<◌, ◌≤◌, ◌^◌, ◌↔◌, IsTrue, [], ◌∷◌, length, map, Some, Ok, Err, IfOk, IfErr, nat_eq};
+ghost use Rattle.std.specs.Prelude.{◌≡◌, ◌≢◌, ◌<◌, ◌≤◌, ◌^◌, ◌↔◌, All, IsTrue, [], ◌∷◌, length, map, Some, Ok, Err, IfOk, IfErr, nat_eq};
 ghost use Rattle.std.specs.Cmp.Lexicographic.{pointwise};
 ghost use Rattle.pdl_shape.specs.Shape.{extent_limit, size_of};
 ghost use Rattle.pdl_shape.specs.Places.{AllBelow, places_of};
@@ -9,7 +9,7 @@ ghost use Rattle.pdl_choice.specs.Where.{rises, which, where_dims, where_source}
 
 use crate::{Choice, ChoiceFault, NoMemory, Places};
 use pdl_elem::Items;
-use pdl_shape::{Dims, dims_list, dims_of, elements_of};
+use pdl_shape::{Dims, dims_list, dims_of, elements_of, shape_laws};
 use std::alloc::Global;
 
 /// Positions in an array, in order. Contracts see the list.
@@ -18,7 +18,10 @@ pub type Positions = Items<u32>;
 /// The positions at which `mask` isn't 0, rising (PDL::Primitive, which).
 pub fn which_places(alloc: Global, mask: &[i64]) -> Result<Positions, NoMemory>
     requires { length mask.now < 2 ^ 32 }
-    ensures { IfOk result (λ places. places ≡ which mask.now) }
+    ensures places { IfOk result (λ places. places ≡ which mask.now) }
+    ensures rises { IfOk result (λ places. IsTrue (rises 0 (length mask.now) places)) }
+    ensures few { IfOk result (λ places. length places ≤ length mask.now) }
+    ensures below { IfOk result (λ places. All (λ p. p < length mask.now) places) }
 {
     Ok(Positions::new(set_positions(alloc, mask)?))
 }
@@ -67,6 +70,7 @@ pub fn listed_places(
     ensures inside { IfOk result (λ c. AllBelow (size_of source.now) c.places) }
     ensures refusal { IfErr result (λ f. Refuses (where_dims source.now dims.now places.now) (refusal_of f)) }
 {
+    shape_laws();
     let _count = elements_of(dims);
     if !is_same(source, dims) {
         return Err(ChoiceFault::Mismatch);

@@ -2,12 +2,15 @@
 ghost use Rattle.std.specs.Prelude.{◌≡◌, ◌<◌, ◌+◌, ◌/◌, drop, slice_index_or};
 ghost use Rattle.pdl_shape.specs.Shape.{IsWithin, coordinates_of, position_of};
 
+use pdl_shape::shape_laws;
+
 /// Moves coordinates on to those of the next position, dimension 0 fastest. Those of the last
 /// position go back to the first.
 pub(crate) fn move_on(sizes: &[u32], coordinates: &mut [u32])
     requires { IsWithin sizes.now coordinates.old }
     ensures { coordinates.new ≡ coordinates_of sizes.now (position_of sizes.now coordinates.old + 1) }
 {
+    shape_laws();
     for (dimension, &size) in sizes.iter().enumerate() {
         let next = coordinates[dimension] + 1;
         if next < size {

@@ -16,7 +16,7 @@ use crate::answers::{count_of, limited};
 use crate::reach::{coordinate, refuses};
 use crate::rounds::{first_size, move_on, rounds_of};
 use crate::{Choice, ChoiceFault, Edge, NoMemory, Places};
-use pdl_shape::{Dims, dims_list, elements_of};
+use pdl_shape::{Dims, dims_list, elements_of, shape_laws};
 use std::alloc::Global;
 
 /// A window of the parent at each corner that `ind` lists (PDL::Slices, range). `ind` is an array
@@ -71,6 +71,7 @@ fn ranged(
     ensures refusal { IfErr result (λ f. Refuses (range_dims parent.now ind_dims.now ind.now sizes.now edge) (refusal_of f)) }
     ensures at { IfErr result (λ f. IfSome (position_in f) (λ at. range_outside parent.now ind_dims.now ind.now sizes.now edge ≡ Some at)) }
 {
+    shape_laws();
     let (count, outer) = corner_dims(ind_dims);
     let listed = match window_list(alloc, parent.len(), count, sizes) {
         Ok(listed) => listed,
@@ -135,6 +136,7 @@ fn windowed(
     ensures refusal { IfErr result (λ f. Refuses (checked_dims (outer.now ++ inner_dims parent.now windows.now)) (refusal_of f)) }
     ensures nowhere { IfErr result (λ f. position_in f ≡ None) }
 {
+    shape_laws();
     let sizes = windowed_sizes(alloc, outer, parent, windows)?;
     limited(alloc, &sizes)
 }
@@ -249,6 +251,7 @@ fn corner_place(edge: Edge, parent: &[u32], corner: &[i64], at: &[u32]) -> Optio
     ensures bound { IfSome result (λ place. place < size_of parent.now) }
     ensures place { result ≡ placed edge parent.now corner.now at.now }
 {
+    shape_laws();
     let mut place = 0;
     let mut stride = 1;
     for (number, value) in corner.iter().enumerate() {
@@ -302,6 +305,7 @@ fn window_rounds(alloc: Global, parent: &[u32], windows: &[u64]) -> Result<Vec<u
     requires bounded { extent parent.now ≤ extent_limit }
     ensures { IfOk result (λ sizes. sizes.items ≡ map (λ w. max (capped w) 1) windows.now ++ size_of (drop (length windows.now) parent.now) ∷ []) }
 {
+    shape_laws();
     let rest = count_of(&parent[windows.len()..]);
     let mut sizes = Vec::with_capacity(alloc, windows.len() + 1)?;
     for window in windows {
@@ -331,6 +335,7 @@ fn window_places(
     ensures inside { IfOk result (λ places. AllBelow (size_of parent.now) places.items) }
     ensures places { IfOk result (λ places. places.items ≡ map (λ p. option_map (position_of parent.now) (window_source edge parent.now windows.now (take (length windows.now) (drop (length windows.now * (p % corners)) ind.now)) (coordinates_of (inner_dims parent.now windows.now) (p / corners)))) (range_with_len 0 count)) }
 {
+    shape_laws();
     let sizes = window_rounds(alloc, parent, windows)?;
     let mut at = vec![in alloc; 0; sizes.len()]?;
     let mut places = Vec::with_capacity(alloc, count as usize)?;

@@ -3,3 +3,4 @@ pub mod Numbers
 pub mod Operators
 pub mod Blocks
 pub mod Hashes
+pub mod Laws

@@ -5,12 +5,14 @@
 mod blocks;
 mod items;
 mod known;
+mod laws;
 mod operators;
 mod strings;
 mod words;
 
 pub use blocks::{binary_all, unary_all, wrap_all};
 pub use items::Items;
+pub use laws::wrapping_laws;
 pub use operators::{binary, binary_type, promote, type_name, unary, unary_type, wrap};
 pub use strings::{Name, Text};
 

@@ -1,7 +1,8 @@
+pub mod Listed
+pub mod Behind
 pub mod Onto
-pub mod Pushed
-pub mod Spans
-pub mod Assigned
+pub mod Kepts
+pub mod Bufs
 pub mod Live
-pub mod Assigning
-pub mod Made
+pub mod Buffers
+pub mod Calls

@@ -1,35 +1,34 @@
 -- What is kept of a live array.
-use Rattle.std.proofs.Common.{◌≡◌, ℕ, ℤ, pos, ◌<◌, List, [], ◌∷◌, ◌++◌, length, map, get_or, All, Some, None, sym, ◌∙◌, ap, subst, arith}
+use Rattle.std.proofs.Common.{◌≡◌, ℕ, zero, suc, ◌+◌, ◌<◌, Bool, true, false, if◌then◌else◌, List, [], ◌∷◌, length, get_or, Some, is_some, refl, sym, ◌∙◌, ap, subst, arith, zero-add}
 use Rattle.std.specs.Option.{option_map_or}
-use Rattle.std.proofs.lemmas.List.{length-map, get_or-map, get_or_default, length_push}
-use Rattle.pdl_elem.specs.declared.Ty.{Ty}
+use Rattle.std.proofs.lemmas.Bool.{eq-eqb, ne_eqb}
 use Rattle.pdl_elem.specs.declared.Ty.TheVariants.{Byte}
-use Rattle.pdl_elem.specs.Types.{InRange}
-use Rattle.pdl_shape.specs.Shape.{size_of}
-use Rattle.pdl_world.specs.World.{ArrayDef, look, read, element_at, elements, root_elements, dims_in, ty_in}
-use Rattle.pdl_world.specs.Sound.{IsLive, IsSound}
-use Rattle.pdl_world.proofs.Roots.{seen_in_range}
-use Rattle.pdl_engine.specs.State.{State, with_array}
-use Rattle.pdl_engine.specs.Kept.{Kept, def_of, look_of, IsRootOf, IsKept, AreKept, world_of, state_of}
-use Rattle.pdl_engine.proofs.Onto.{live_kept, elements_kept, world_push}
+use Rattle.pdl_world.specs.Swept.{holds}
+use Rattle.pdl_world.specs.World.{World, look, dims_in, ty_in}
+use Rattle.pdl_world.specs.Sound.{IsLive}
+use Rattle.pdl_engine.specs.State.{State, is_fresh}
+use Rattle.pdl_engine.specs.Kept.{Kept, look_of, IsKept, AreKept, at, def_of, world_onto, world_of, fresh_from, state_of}
+use Rattle.pdl_engine.proofs.Bufs.{at_is}
+use Rattle.pdl_engine.proofs.Onto.{live_kept}
 
--- an engine that is seen as s
+-- x is what is kept of the live array v of an engine that is seen as s
+pub record IsAt (ks : List Kept) (s : State) (v : ℕ) (x : Kept) : Type 0 where
+  pub there : v < length ks
+  pub is : x ≡ at ks v
+  pub kept : IsKept ks v x
+  pub looks : look s.world v ≡ Some (look_of x)
+  pub world_is : world_of ks ≡ s.world
+
 pub live_at : (ks : List Kept) (s : State) (v : ℕ) → state_of ks ≡ s → IsLive s.world v → v < length ks
 live_at ks s v e h = let P : State → Type 0 = λ t. IsLive t.world v in live_kept ks v (subst P (sym e) h)
 
--- x is what is kept of the live array v
-pub record IsAt (ks : List Kept) (s : State) (v : ℕ) (x : Kept) : Type 0 where
-  pub kept : IsKept ks v x
-  pub looks : look s.world v ≡ Some (look_of x)
-  pub sound : IsSound (world_of ks)
-  pub world_is : world_of ks ≡ s.world
-
 pub is_at : (ks : List Kept) (s : State) (v : ℕ) (x : Kept) → AreKept ks → state_of ks ≡ s → IsLive s.world v → x ≡ get_or ks v x → IsAt ks s v x
 is_at ks s v x a e h i =
-    let P : Kept → Type 0 = λ k. IsKept ks v k in
-    let k : IsKept ks v x = subst P (sym i) (a.each v x (live_at ks s v e h)) in
+    let low : v < length ks = live_at ks s v e h in
+    let same : x ≡ at ks v = at_is ks v x low i in
+    let k : IsKept ks v x = subst (IsKept ks v) (sym same) (a.each v low) in
     let w : world_of ks ≡ s.world = ap (λ t. t.world) e in
-    record { kept = k; looks = ap (λ v'. look v' v) (sym w) ∙ k.looks; sound = a.sound; world_is = w }
+    record { there = low; is = same; kept = k; looks = ap (λ u. look u v) (sym w) ∙ k.looks; world_is = w }
 
 pub dims_at : (ks : List Kept) (s : State) (v : ℕ) (x : Kept) → IsAt ks s v x → x.dims ≡ dims_in s.world v
 dims_at ks s v x a = ap (λ o. option_map_or (λ l. l.dims) o []) (sym a.looks)
@@ -37,35 +36,36 @@ dims_at ks s v x a = ap (λ o. option_map_or (λ l. l.dims) o []) (sym a.looks)
 pub ty_at : (ks : List Kept) (s : State) (v : ℕ) (x : Kept) → IsAt ks s v x → x.ty ≡ ty_in s.world v
 ty_at ks s v x a = ap (λ o. option_map_or (λ l. l.ty) o Byte) (sym a.looks)
 
-pub count_at : (ks : List Kept) (s : State) (v : ℕ) (x : Kept) → IsAt ks s v x → length x.places ≡ size_of (dims_in s.world v)
-count_at ks s v x a = a.kept.count ∙ ap size_of (dims_at ks s v x a)
+later_at : (b x : Bool) (n v : ℕ) (rest : List ℕ) → (n ≡ v → ⊥) → holds rest v ≡ x → holds (if b then n ∷ rest else rest) v ≡ x
+later_at true x n v rest h e = rw (ne_eqb n v h) e
+later_at false x n v rest h e = e
 
-pub root_at : (ks : List Kept) (s : State) (v : ℕ) (x y : Kept) → IsAt ks s v x → y ≡ get_or ks x.root y → IsRootOf y x
-root_at ks s v x y a i = let P : Kept → Type 0 = λ k. IsRootOf k x in subst P (get_or_default ks x.root x y a.kept.older ∙ sym i) a.kept.rooted
+first_at : (b : Bool) (n v : ℕ) (rest : List ℕ) → n ≡ v → holds rest v ≡ false → holds (if b then n ∷ rest else rest) v ≡ b
+first_at true n v rest h e = rw (eq-eqb n v h) refl
+first_at false n v rest h e = e
 
--- the root's elements
-pub elements_at : (ks : List Kept) (s : State) (v : ℕ) (x y : Kept) → IsAt ks s v x → y ≡ get_or ks x.root y → root_elements s.world x.root ≡ y.elems
-elements_at ks s v x y a i =
-    ap (λ w. root_elements w x.root) (sym a.world_is) ∙ elements_kept ks x.root y a.kept.older (ap (λ k. k.origin) (sym i) ∙ (root_at ks s v x y a i).no_origin) ∙ ap (λ k. k.elems) (sym i)
+-- no number below m is among those from m on
+none_below : (m v : ℕ) (ks : List Kept) → v < m → holds (fresh_from m ks) v ≡ false
+none_below m v [] h = refl
+none_below m v (k ∷ ks) h = later_at (is_some k.buf) false m v (fresh_from (m + 1) ks) (omega arith) (none_below (m + 1) v ks (omega arith))
 
-read_at : (ps : List ℕ) (es : List ℤ) (p : ℕ) → p < length ps → get_or (read (map Some ps) es) p (pos 0) ≡ get_or es (get_or ps p 0) (pos 0)
-read_at ps es p h = get_or-map (element_at es) (map Some ps) p None (pos 0) (omega (arith, length-map ps Some)) ∙ ap (λ o. element_at es o) (get_or-map Some ps p 0 None h)
+fresh_onto : (n j : ℕ) (ks : List Kept) → holds (fresh_from n ks) (n + j) ≡ is_some (at ks j).buf
+fresh_onto n j [] = refl
+fresh_onto n zero (k ∷ ks) = first_at (is_some k.buf) n (n + 0) (fresh_from (n + 1) ks) (omega arith) (none_below (n + 1) (n + 0) ks (omega arith))
+fresh_onto n (suc j) (k ∷ ks) =
+    let e : n + suc j ≡ n + 1 + j = omega arith in
+    later_at (is_some k.buf) (is_some (at ks j).buf) n (n + suc j) (fresh_from (n + 1) ks) (omega arith) (ap (holds (fresh_from (n + 1) ks)) e ∙ fresh_onto (n + 1) j ks)
 
--- the element at a position of a live array
-pub element_is : (ks : List Kept) (s : State) (v : ℕ) (x y : Kept) (p : ℕ) → IsAt ks s v x → y ≡ get_or ks x.root y → p < size_of (dims_in s.world v) → get_or (elements s.world v) p (pos 0) ≡ get_or y.elems (get_or x.places p 0) (pos 0)
-element_is ks s v x y p a i h =
-    ap (λ o. get_or (option_map_or (λ l. read l.places (root_elements s.world l.root)) o []) p (pos 0)) a.looks ∙ ap (λ es. get_or (read (map Some x.places) es) p (pos 0)) (elements_at ks s v x y a i) ∙ read_at x.places y.elems p (omega (arith, count_at ks s v x a))
+length_onto : (w : World) (ks : List Kept) → length (world_onto w ks) ≡ length w + length ks
+length_onto w [] = omega arith
+length_onto w (k ∷ ks) = omega (arith, length_onto ((length w, def_of k) ∷ w) ks)
 
-pub range_at : (ks : List Kept) (s : State) (v : ℕ) (x y : Kept) (p : ℕ) → IsAt ks s v x → y ≡ get_or ks x.root y → p < size_of (dims_in s.world v) → InRange (ty_in s.world v) (get_or y.elems (get_or x.places p 0) (pos 0))
-range_at ks s v x y p a i h =
-    let all : All (InRange x.ty) (root_elements (world_of ks) x.root) = seen_in_range (world_of ks) v (look_of x) a.sound a.kept.looks in
-    let es : root_elements (world_of ks) x.root ≡ y.elems = ap (λ w. root_elements w x.root) a.world_is ∙ elements_at ks s v x y a i in
-    let P : List ℤ → Type 0 = λ l. All (InRange x.ty) l in
-    let Q : Ty → Type 0 = λ ty. InRange ty (get_or y.elems (get_or x.places p 0) (pos 0)) in
-    subst Q (ty_at ks s v x a) (subst P es all (get_or x.places p 0) (pos 0) ((root_at ks s v x y a i).within p (omega (arith, count_at ks s v x a))))
+pub live_count : (ks : List Kept) (s : State) → state_of ks ≡ s → length ks ≡ length s.world
+live_count ks s e = sym (length_onto [] ks ∙ zero-add (length ks)) ∙ ap (λ t. length t.world) e
 
--- one more array
-pub state_push : (ks : List Kept) (s : State) (k : Kept) (d : ArrayDef) → state_of ks ≡ s → def_of k ≡ d → state_of (ks ++ k ∷ []) ≡ with_array s d
-state_push ks s k d e f =
-    let w : world_of (ks ++ k ∷ []) ≡ (length ks, d) ∷ world_of ks = world_push ks k ∙ ap (λ x. (length ks, x) ∷ world_of ks) f in
-    ap (λ x. record { world = x; next = length (ks ++ k ∷ []) }) w ∙ ap (λ n. record { world = (length ks, d) ∷ world_of ks; next = n }) (length_push ks k) ∙ ap (λ t. with_array t d) e
+-- an array can be lent exactly where it has a buffer
+pub fresh_is : (ks : List Kept) (v : ℕ) → is_fresh (state_of ks) v ≡ is_some (at ks v).buf
+fresh_is ks v = let e : v ≡ 0 + v = omega arith in ap (holds (fresh_from 0 ks)) e ∙ fresh_onto 0 v ks
+
+pub fresh_at : (ks : List Kept) (s : State) (v : ℕ) (x : Kept) → state_of ks ≡ s → IsAt ks s v x → is_some x.buf ≡ is_fresh s v
+fresh_at ks s v x e a = ap (λ k. is_some k.buf) a.is ∙ sym (fresh_is ks v) ∙ ap (λ t. is_fresh t v) e

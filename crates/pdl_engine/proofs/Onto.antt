@@ -1,20 +1,20 @@
 -- Worlds that are made of what is kept: their numbers, and one more array or other elements of one.
-use Rattle.std.proofs.Common.{◌≡◌, ℕ, suc, zero, ℤ, ◌+◌, ◌<◌, ◌≤◌, List, [], ◌∷◌, ◌++◌, length, get_or, slice_set, Option, Some, None, IsSomeAnd, refl, sym, ◌∙◌, ap, subst, arith, zero-add, add-zero}
+use Rattle.std.proofs.Common.{◌≡◌, ℕ, suc, zero, ℤ, ◌+◌, ◌<◌, List, [], ◌∷◌, ◌++◌, length, get_or, slice_set, Option, Some, None, refl, sym, ◌∙◌, ap, arith, zero-add, add-zero}
+use Rattle.std.proofs.lemmas.Bool.{eq-eqb, ne_eqb}
 use Rattle.pdl_world.specs.World.{World, root_elements, set_elements}
-use Rattle.pdl_world.specs.Sound.{AllBelow, IsLive}
-use Rattle.pdl_world.proofs.Looks.{same, differ, look_past, below_more, set_past, length_set_elements}
-use Rattle.pdl_world.proofs.Roots.{elements_older}
+use Rattle.pdl_world.specs.Sound.{NumbersBelow, IsLive}
 use Rattle.pdl_engine.specs.declared.node.Origin.{Origin}
 use Rattle.pdl_engine.specs.Kept.{Kept, def_of, def_from, with_elems, world_onto, world_of}
+use Rattle.pdl_engine.proofs.Behind.{below_more, live_below, set_past, count_set, elements_behind}
 
-pub below_onto : (w : World) (ks : List Kept) → AllBelow (length w) w → AllBelow (length w + length ks) (world_onto w ks)
+pub below_onto : (w : World) (ks : List Kept) → NumbersBelow (length w) w → NumbersBelow (length w + length ks) (world_onto w ks)
 below_onto w [] b = below_more w (length w) (length w + 0) (omega arith) b
 below_onto w (k ∷ ks) b =
-    let more : AllBelow (suc (length w) + length ks) (world_onto ((length w, def_of k) ∷ w) ks) = below_onto ((length w, def_of k) ∷ w) ks (omega arith, below_more w (length w) (suc (length w)) (omega arith) b) in
+    let more : NumbersBelow (suc (length w) + length ks) (world_onto ((length w, def_of k) ∷ w) ks) = below_onto ((length w, def_of k) ∷ w) ks (omega arith, below_more w (length w) (suc (length w)) (omega arith) b) in
     below_more _ (suc (length w) + length ks) (length w + suc (length ks)) (omega arith) more
 
 -- each number is below the count
-pub below_count : (ks : List Kept) → AllBelow (length ks) (world_of ks)
+pub below_count : (ks : List Kept) → NumbersBelow (length ks) (world_of ks)
 below_count ks = below_more (world_of ks) (0 + length ks) (length ks) (omega arith) (below_onto [] ks tt)
 
 onto_push : (w : World) (ks : List Kept) (k : Kept) → world_onto w (ks ++ k ∷ []) ≡ (length w + length ks, def_of k) ∷ world_onto w ks
@@ -25,17 +25,12 @@ onto_push w (j ∷ ks) k = let e : suc (length w) + length ks ≡ length w + suc
 pub world_push : (ks : List Kept) (k : Kept) → world_of (ks ++ k ∷ []) ≡ (length ks, def_of k) ∷ world_of ks
 world_push ks k = onto_push [] ks k ∙ ap (λ n. (n, def_of k) ∷ world_of ks) (zero-add (length ks))
 
-live_below : (w : World) (n v : ℕ) → AllBelow n w → (n ≤ v → ⊥) → v < n
-live_below w n v b h = omega arith
-
 -- a live array is kept
 pub live_kept : (ks : List Kept) (v : ℕ) → IsLive (world_of ks) v → v < length ks
-live_kept ks v h = live_below (world_of ks) (length ks) v (below_count ks) (λ past.
-    let P : Option _ → Type 0 = λ o. IsSomeAnd o (λ l. Unit {0}) in
-    subst P (look_past (world_of ks) (length ks) v (below_count ks) past) h)
+live_kept ks v h = live_below (world_of ks) (length ks) v (below_count ks) h
 
 set_head : (o : Option Origin) (k : Kept) (n : ℕ) (w : World) (r : ℕ) (es : List ℤ) → (n ≡ r → ⊥) → set_elements ((n, def_from o k) ∷ w) r es ≡ (n, def_from o k) ∷ set_elements w r es
-set_head None k n w r es h = rw (differ n r h) refl
+set_head None k n w r es h = rw (ne_eqb n r h) refl
 set_head (Some o) k n w r es h = refl
 
 -- elements that were set before more arrays came
@@ -43,13 +38,13 @@ set_onto_past : (w : World) (ks : List Kept) (r : ℕ) (es : List ℤ) → r < l
 set_onto_past w [] r es h = refl
 set_onto_past w (k ∷ ks) r es h =
     set_onto_past ((length w, def_of k) ∷ w) ks r es (omega arith)
-    ∙ ap (λ v. world_onto v ks) (set_head k.origin k (length w) w r es (omega arith) ∙ ap (λ n. (n, def_of k) ∷ set_elements w r es) (sym (length_set_elements w r es)))
+    ∙ ap (λ v. world_onto v ks) (set_head k.origin k (length w) w r es (omega arith) ∙ ap (λ n. (n, def_of k) ∷ set_elements w r es) (sym (count_set w r es)))
 
-set_root : (o : Option Origin) (k : Kept) (n : ℕ) (w : World) (es : List ℤ) → AllBelow n w → o ≡ None → set_elements ((n, def_from o k) ∷ w) n es ≡ (n, def_from o (with_elems k es)) ∷ w
-set_root None k n w es b h = rw (same n n refl, set_past w n n es b (omega arith)) refl
+set_root : (o : Option Origin) (k : Kept) (n : ℕ) (w : World) (es : List ℤ) → NumbersBelow n w → o ≡ None → set_elements ((n, def_from o k) ∷ w) n es ≡ (n, def_from o (with_elems k es)) ∷ w
+set_root None k n w es b h = rw (eq-eqb n n refl, set_past w n n es b (omega arith)) refl
 set_root (Some o) k n w es b h = cc
 
-set_onto : (w : World) (ks : List Kept) (j : ℕ) (d : Kept) (es : List ℤ) → AllBelow (length w) w → j < length ks → (get_or ks j d).origin ≡ None → set_elements (world_onto w ks) (length w + j) es ≡ world_onto w (slice_set ks j (with_elems (get_or ks j d) es))
+set_onto : (w : World) (ks : List Kept) (j : ℕ) (d : Kept) (es : List ℤ) → NumbersBelow (length w) w → j < length ks → (get_or ks j d).origin ≡ None → set_elements (world_onto w ks) (length w + j) es ≡ world_onto w (slice_set ks j (with_elems (get_or ks j d) es))
 set_onto w [] j d es b h o = absurd (omega arith)
 set_onto w (k ∷ ks) zero d es b h o =
     rw (add-zero) (set_onto_past ((length w, def_of k) ∷ w) ks (length w) es (omega arith)) ∙ ap (λ v. world_onto v ks) (set_root k.origin k (length w) w es b o)
@@ -63,10 +58,10 @@ world_set ks j d es h o = sym (ap (λ r. set_elements (world_of ks) r es) (sym (
 
 elements_onto_past : (w : World) (ks : List Kept) (r : ℕ) → r < length w → root_elements (world_onto w ks) r ≡ root_elements w r
 elements_onto_past w [] r h = refl
-elements_onto_past w (k ∷ ks) r h = elements_onto_past ((length w, def_of k) ∷ w) ks r (omega arith) ∙ elements_older (length w) (def_of k) w r h
+elements_onto_past w (k ∷ ks) r h = elements_onto_past ((length w, def_of k) ∷ w) ks r (omega arith) ∙ elements_behind (length w) (def_of k) w r h
 
 elements_root : (o : Option Origin) (k : Kept) (n : ℕ) (w : World) → o ≡ None → root_elements ((n, def_from o k) ∷ w) n ≡ k.elems
-elements_root None k n w h = rw (same n n refl) refl
+elements_root None k n w h = rw (eq-eqb n n refl) refl
 elements_root (Some o) k n w h = cc
 
 elements_onto : (w : World) (ks : List Kept) (j : ℕ) (d : Kept) → j < length ks → (get_or ks j d).origin ≡ None → root_elements (world_onto w ks) (length w + j) ≡ (get_or ks j d).elems

@@ -2,13 +2,14 @@
 //!
 //! An engine is seen as a world of arrays (`pdl_world`): each call says what the world is after it.
 //! This first engine is the plain one. It keeps the elements of each root and, for each array, the
-//! list of its places in its root; an assignment changes the root at once.
+//! list of its places in its root; an assignment changes the root at once. An array can be lent
+//! while it has a buffer of its own elements, which `ready` makes and an assignment takes away.
 #![tactic(auto)]
 
 mod engine;
+mod layouts;
 mod node;
-
-pub use engine::{ArrayId, Engine, ViewFault};
-
 #[cfg(test)]
 mod tests;
+
+pub use engine::{ArrayId, Engine, ViewFault};

@@ -1,22 +1,25 @@
 //! What an engine keeps of one array, and how it is made.
-ghost use Rattle.std.specs.Prelude.{◌≡◌, ℕ, ◌<◌, ◌≤◌, ◌^◌, ◌⊎◌, [], ◌∷◌, length, IfOk, IfErr, slice_set, pos, map, max, ◌+◌};
+ghost use Rattle.std.specs.Prelude.{true, ◌≡◌, ℕ, ◌+◌, ◌<◌, ◌≤◌, [], is_some, length, All, IfOk, IfErr, IsTrue, OnOk, OnErr, Some, None, map, get_or, pos};
 ghost use Rattle.std.specs.List.{range_with_len};
-ghost use Rattle.std.proofs.Common.{get_or};
-ghost use Rattle.pdl_shape.specs.Shape.{IsDims, size_of, extent_limit};
-ghost use Rattle.pdl_world.specs.Formula.{child_dims, span_length, span_element};
-ghost use Rattle.pdl_world.specs.Formula.{counted as counted_element};
-ghost use Rattle.pdl_engine.specs.State.{refusal, checked_ends};
-ghost use Rattle.pdl_engine.specs.Kept.{root_kept, with_elems, IsViewOf};
+ghost use Rattle.pdl_buf.specs.Buffer.{count_moved};
+ghost use Rattle.pdl_elem.specs.Types.{InRange};
+ghost use Rattle.pdl_shape.specs.Shape.{IsDims, size_of};
+ghost use Rattle.pdl_world.specs.Formula.{is_well_formed};
+ghost use Rattle.pdl_world.specs.Paths.{depth_limit};
+ghost use Rattle.pdl_engine.specs.Kept.{root_kept, with_elems, with_buf, IsRefused, IsViewOf};
 
 use crate::engine::ViewFault;
+use crate::layouts::{layout, through_places};
+use pdl_buf::{Buf, Steps, buf_of};
 use pdl_elem::Ty;
-use pdl_shape::{Dims, copy_dims, dims_list, dims_of, elements_of};
+use pdl_shape::{Dims, copy_dims, dims_list, elements_of};
 use pdl_world::Trans;
 use std::alloc::{AllocError, Global};
 use std::marker::Model;
+use std::sync::ledger::Ledger;
 
 /// Of which array a view is one, and how it shows it.
-#[derive(Clone, Copy, Debug)]
+#[derive(Debug, Drop)]
 pub struct Origin {
     pub parent: u64,
     pub trans: Trans,
@@ -31,9 +34,13 @@ pub struct Node {
     ty: Ty,
     dims: Dims,
     /// The root's place of each element.
-    places: Vec<u32>,
+    places: Vec<Option<u32>>,
+    /// How many arrays are on the path to the root.
+    depth: usize,
     /// The elements of a root; none of a view.
     elems: Vec<i64>,
+    /// The array's own elements, where it can be lent.
+    buf: Option<Buf>,
 }
 
 impl Model for Node {
@@ -41,7 +48,7 @@ impl Model for Node {
 
     ghost Value = { Kept };
 
-    ghost view = { λ n. record { origin = n.origin; root = n.root; ty = n.ty; dims = n.dims; places = n.places.items; elems = n.elems.items } };
+    ghost view = { λ n. record { origin = n.origin; root = n.root; ty = n.ty; dims = n.dims; places = n.places.items; depth = n.depth; elems = n.elems.items; buf = n.buf } };
 }
 
 impl Node {
@@ -66,38 +73,83 @@ impl Node {
         &self.dims
     }
 
-    /// The root's place at a position.
-    pub fn place(&self, position: usize) -> u32
-        requires { position < length self.now.places }
-        ensures { result ≡ get_or self.now.places position 0 }
+    /// How many arrays are on the path to the root.
+    pub fn depth(&self) -> usize
+        ensures { result ≡ self.now.depth }
     {
-        self.places[position]
+        self.depth
     }
 
-    /// The root's element at a place.
-    pub fn element(&self, place: u32) -> i64
-        requires { place < length self.now.elems }
-        ensures { result ≡ get_or self.now.elems place (pos 0) }
+    /// The root's places.
+    pub fn places(&self) -> &[Option<u32>]
+        ensures { result.now ≡ self.now.places }
     {
-        self.elems[place as usize]
+        self.places.as_slice()
     }
 
-    /// Puts a value at a place of the root.
-    pub fn put(&mut self, place: u32, value: i64)
-        requires { place < length self.old.elems }
-        ensures { self.new ≡ with_elems self.old (slice_set self.old.elems place value) }
+    /// The elements of a root.
+    pub fn elems(&self) -> &[i64]
+        ensures { result.now ≡ self.now.elems }
     {
-        self.elems[place as usize] = value;
+        self.elems.as_slice()
+    }
+
+    /// The array's own elements. The array can be lent.
+    pub fn buf(&self) -> &Buf
+        requires { is_some self.now.buf ≡ true }
+        ensures { Some result.now ≡ self.now.buf }
+    {
+        match &self.buf {
+            Some(buf) => buf,
+            None => unreachable!(),
+        }
+    }
+
+    /// Whether the array can be lent.
+    pub fn is_fresh(&self) -> bool
+        ensures { result ≡ is_some self.now.buf }
+    {
+        self.buf.is_some()
+    }
+
+    /// Takes the elements of a root out.
+    pub fn take_elems(&mut self, alloc: Global) -> Vec<i64>
+        ensures taken { result.items ≡ self.old.elems }
+        ensures left { self.new ≡ with_elems self.old [] }
+    {
+        std::mem::replace(&mut self.elems, Vec::new(alloc))
+    }
+
+    /// Gives a root other elements.
+    pub fn set_elems(&mut self, elems: Vec<i64>)
+        ensures { self.new ≡ with_elems self.old elems.items }
+    {
+        self.elems = elems;
+    }
+
+    /// Keeps a buffer of the array's own elements.
+    pub fn keep(&mut self, buf: Buf)
+        ensures { self.new ≡ with_buf self.old (Some buf) }
+    {
+        self.buf = Some(buf);
+    }
+
+    /// Lets the buffer go.
+    pub fn forget(&mut self)
+        ensures { self.new ≡ with_buf self.old None }
+    {
+        self.buf = None;
     }
 }
 
-/// The numbers below `count`.
-fn whole_places(alloc: Global, count: u32) -> Result<Vec<u32>, AllocError>
-    ensures { IfOk result (λ v. v.items ≡ range_with_len 0 count) }
+/// Each of the places below `count`.
+#[tactic(auto, using(crate::proofs::Listed::range_steps))]
+fn whole_places(alloc: Global, count: u32) -> Result<Vec<Option<u32>>, AllocError>
+    ensures { IfOk result (λ v. v.items ≡ map Some (range_with_len 0 count)) }
 {
     let mut places = Vec::with_capacity(alloc, count as usize)?;
     for place in 0..count {
-        places.push(place)?;
+        places.push(Some(place))?;
     }
     Ok(places)
 }
@@ -111,147 +163,57 @@ fn count_of(dims: &Dims) -> u32
     elements_of(dims)
 }
 
-/// A root of this number.
-pub fn root_node(
+/// A root of this number. It takes a step for each number that isn't 0.
+pub fn root_node<L: Ledger>(
     alloc: Global,
     id: u64,
     ty: Ty,
     dims: &Dims,
     elems: &[i64],
+    steps: &mut Steps<L>,
 ) -> Result<Node, AllocError>
+    requires { All (InRange ty) elems.now }
     ensures made { IfOk result (λ n. n ≡ root_kept id ty dims.now elems.now) }
-    ensures limits { IfOk result (λ n. IsDims dims.now) }
+    ensures limits { OnOk result (IsDims dims.now) }
+    ensures counted { OnOk result (steps.new ≡ steps.old + count_moved elems.now) }
+    ensures err { OnErr result (steps.new ≡ steps.old) }
 {
+    let places = whole_places(alloc, count_of(dims))?;
+    let kept = Vec::from_slice(alloc, elems)?;
+    let buf = buf_of(alloc, ty, elems, steps)?;
     Ok(Node {
         origin: None,
         root: id,
         ty,
         dims: copy_dims(dims),
-        places: whole_places(alloc, count_of(dims))?,
-        elems: Vec::from_slice(alloc, elems)?,
+        places,
+        depth: 1,
+        elems: kept,
+        buf: Some(buf),
     })
 }
 
-/// The element that a number names in a dimension of size `size`: one below 0 counts from the end.
-fn counted(size: u32, number: i32) -> Option<u32>
-    ensures { result ≡ counted_element size number }
+/// A view of the array `parent`, of which `above` is kept. At most 64 views are on a path.
+pub fn view_node(alloc: Global, parent: u64, trans: Trans, above: &Node) -> Result<Node, ViewFault>
+    requires well_formed { IsTrue (is_well_formed trans) }
+    ensures made { IfOk result (λ n. IsViewOf parent trans above.now n) }
+    ensures shallow { OnOk result (above.now.depth ≤ depth_limit) }
+    ensures refused { IfErr result (λ e. IsRefused e trans above.now) }
 {
-    let element = if number < 0 {
-        i64::from(size) + i64::from(number)
-    } else {
-        i64::from(number)
-    };
-    if 0 <= element && element < i64::from(size) {
-        Some(element as u32)
-    } else {
-        None
+    let choice = layout(alloc, &trans, &above.dims)?;
+    if above.depth > 64 {
+        return Err(ViewFault::TooDeep);
     }
-}
-
-/// The first and the last element of a span of an array's one dimension.
-fn ends(dims: &[u32], from: i32, to: i32) -> Result<(u32, u32), ViewFault>
-    ensures { result ≡ checked_ends dims.now from to }
-{
-    if dims.len() != 1 {
-        return Err(ViewFault::BadDimension);
-    }
-    match (counted(dims[0], from), counted(dims[0], to)) {
-        (Some(first), Some(last)) => Ok((first, last)),
-        _ => Err(ViewFault::OutOfRange),
-    }
-}
-
-/// How many elements there are from `first` to `last`, both included.
-fn length_between(first: u32, last: u32) -> u32
-    requires a { first < 2 ^ 31 }
-    requires b { last < 2 ^ 31 }
-    ensures { result ≡ span_length first last }
-{
-    if first <= last {
-        last - first + 1
-    } else {
-        first - last + 1
-    }
-}
-
-/// The element that is `step` steps on the way from `first` to `last`.
-fn element_between(first: u32, last: u32, step: u32) -> u32
-    requires a { first < 2 ^ 31 }
-    requires b { last < 2 ^ 31 }
-    requires c { step < span_length first last }
-    ensures value { result ≡ span_element first last step }
-    ensures within { result < max first last + 1 }
-{
-    if first <= last {
-        first + step
-    } else {
-        first - step
-    }
-}
-
-/// The places on the way from `first` to `last`, both included.
-fn span_places(alloc: Global, above: &[u32], first: u32, last: u32) -> Result<Vec<u32>, AllocError>
-    requires a { first < length above.now }
-    requires b { last < length above.now }
-    requires room { length above.now < 2 ^ 31 }
-    ensures { IfOk result (λ v. v.items ≡ map (λ c. get_or above.now (span_element first last c) 0) (range_with_len 0 (span_length first last))) }
-{
-    let count = length_between(first, last);
-    let mut places = Vec::with_capacity(alloc, count as usize)?;
-    for step in 0..count {
-        places.push(above[element_between(first, last, step) as usize])?;
-    }
-    Ok(places)
-}
-
-/// Dimensions of one size.
-fn one_dimension(alloc: Global, size: u32) -> Dims
-    requires { size ≤ extent_limit }
-    ensures made { result ≡ size ∷ [] }
-    ensures limits { IsDims result }
-{
-    match dims_of(alloc, &[size]) {
-        Ok(dims) => dims,
-        Err(_) => unreachable!(),
-    }
-}
-
-/// The span of the array `parent`, of which `above` is kept.
-fn span_node(
-    alloc: Global,
-    parent: u64,
-    from: i32,
-    to: i32,
-    above: &Node,
-) -> Result<Node, ViewFault>
-    requires dims_ok { IsDims above.now.dims }
-    requires count { length above.now.places ≡ size_of above.now.dims }
-    ensures made { IfOk result (λ n. IsViewOf parent (Trans.Span from to) above.now n) }
-    ensures refused { IfErr result (λ e. (e ≡ ViewFault.NoMemory) ⊎ (refusal (child_dims (Trans.Span from to) above.now.dims) ≡ Some e)) }
-{
-    let (first, last) = ends(dims_list(&above.dims), from, to)?;
-    let places = span_places(alloc, &above.places, first, last)?;
+    let places = through_places(alloc, choice.places.as_slice(), &above.places)?;
+    let _sizes = dims_list(&choice.dims);
     Ok(Node {
-        origin: Some(Origin {
-            parent,
-            trans: Trans::Span { from, to },
-        }),
+        origin: Some(Origin { parent, trans }),
         root: above.root,
         ty: above.ty,
-        dims: one_dimension(alloc, length_between(first, last)),
+        dims: choice.dims,
         places,
+        depth: above.depth + 1,
         elems: Vec::new(alloc),
+        buf: None,
     })
-}
-
-/// A view of the array `parent`, of which `above` is kept.
-pub fn view_node(alloc: Global, parent: u64, trans: Trans, above: &Node) -> Result<Node, ViewFault>
-    requires dims_ok { IsDims above.now.dims }
-    requires count { length above.now.places ≡ size_of above.now.dims }
-    ensures made { IfOk result (λ n. IsViewOf parent trans above.now n) }
-    ensures refused { IfErr result (λ e. (e ≡ ViewFault.NoMemory) ⊎ (refusal (child_dims trans above.now.dims) ≡ Some e)) }
-{
-    match trans {
-        Trans::Span { from, to } => span_node(alloc, parent, from, to, above),
-    }
 }

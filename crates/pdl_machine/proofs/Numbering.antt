@@ -1,12 +1,13 @@
 -- Each whole state is alike to its tidied one, by the number that each array had before.
-use Rattle.std.proofs.Common.{◌≡◌, ◌≢◌, ℕ, ◌+◌, ◌-◌, ◌<◌, ◌≤◌, List, [], ◌∷◌, ◌++◌, length, map, Bool, true, false, Option, Some, None, inl, inr, refl, sym, ap, subst, ◌∙◌, arith, eqb-true, eq-eqb}
+use Rattle.std.proofs.Common.{◌≡◌, ◌≢◌, ℕ, ◌+◌, ◌-◌, ◌<◌, ◌≤◌, List, [], ◌∷◌, ◌++◌, length, map, Bool, true, false, Option, inl, inr, refl, sym, ap, subst, ◌∙◌, arith, eqb-true, eq-eqb}
 use Rattle.std.specs.Prelude.{◌==◌, if◌then◌else◌, IsSomeAnd}
 use Rattle.std.proofs.lemmas.Bool.{cases_lt}
-use Rattle.pdl_world.specs.World.{World, ArrayDef, root, view, look, Look}
-use Rattle.pdl_world.specs.Sound.{AllBelow, IsSound, IsLive, IsAllowed}
+use Rattle.pdl_world.specs.World.{World, ArrayDef, root, view, Look}
+use Rattle.pdl_world.specs.Sound.{NumbersBelow, IsSound, IsLive, IsAllowed}
+use Rattle.pdl_world.specs.Swept.{holds, parents, kept_onto, sweep}
 use Rattle.pdl_machine.specs.Names.{Names}
 use Rattle.pdl_machine.specs.State.{State, held, AreLive, IsWhole}
-use Rattle.pdl_machine.specs.Tidy.{holds, parents, kept_onto, sweep, older, with_parent, renumber, with_numbers, tidy}
+use Rattle.pdl_machine.specs.Tidy.{older, with_parent, renumber, with_numbers, tidy}
 use Rattle.pdl_machine.proofs.Renamed.{by_test, IsApart, Renames, empty, more, same, look-other, StateAlike}
 use Rattle.pdl_machine.proofs.Tidying.{renamed}
 
@@ -23,12 +24,12 @@ AreIn w (v ∷ vs) = (in_world w v ≡ true) × AreIn w vs
 -- numbers fall from each array to the older ones, and each parent is older
 abbrev pub IsOrderly : World → Type 0
 IsOrderly [] = Unit {0}
-IsOrderly ((k, d) ∷ w) = AllBelow k w × AreIn w (parents d) × IsOrderly w
+IsOrderly ((k, d) ∷ w) = NumbersBelow k w × AreIn w (parents d) × IsOrderly w
 
 -- numbers fall from each array to the older ones
 abbrev InOrder : World → Type 0
 InOrder [] = Unit {0}
-InOrder ((k, d) ∷ w) = AllBelow k w × InOrder w
+InOrder ((k, d) ∷ w) = NumbersBelow k w × InOrder w
 
 -- the number of the array that has i older ones, and f i where there is none
 abbrev pub former : World → (ℕ → ℕ) → ℕ → ℕ
@@ -49,7 +50,7 @@ apart_lt a b h = by_test (a == b) (λ same. let e : a ≡ b = eqb-true a b same 
 apart_gt : (a b : ℕ) → b < a → (a == b) ≡ false
 apart_gt a b h = by_test (a == b) (λ same. let e : a ≡ b = eqb-true a b same in absurd (omega arith)) (λ other. other)
 
-former_below : (w : World) (f : ℕ → ℕ) (m i : ℕ) → AllBelow m w → i < length w → former w f i < m
+former_below : (w : World) (f : ℕ → ℕ) (m i : ℕ) → NumbersBelow m w → i < length w → former w f i < m
 former_below [] f m i below lt = absurd (omega arith)
 former_below ((k, d) ∷ w) f m i below lt =
     by_test (i == length w)
@@ -76,7 +77,7 @@ former_rises ((k, d) ∷ w) f i j order lt within =
       | inr le ↦ (let second : (j == length w) ≡ true = eq-eqb j (length w) (omega arith) in rw (first, second) (former_below w f k i order.0 (omega arith)))
     ]
 
-before_rises : (u : World) (next i j : ℕ) → InOrder u → AllBelow next u → i < j → before u next i < before u next j
+before_rises : (u : World) (next i j : ℕ) → InOrder u → NumbersBelow next u → i < j → before u next i < before u next j
 before_rises u next i j order below lt =
     elim (cases_lt j (length u)) as (λ x. before u next i < before u next j) [
       | inl inside ↦ former_rises u (past u next) i j order lt inside
@@ -87,7 +88,7 @@ before_rises u next i j order below lt =
     ]
 
 -- different arrays had different numbers
-before_apart : (u : World) (next : ℕ) → InOrder u → AllBelow next u → IsApart (before u next)
+before_apart : (u : World) (next : ℕ) → InOrder u → NumbersBelow next u → IsApart (before u next)
 before_apart u next order below i j e =
     elim (cases_lt i j) as (λ x. i ≡ j) [
       | inl lt ↦ (let h : before u next i < before u next j = before_rises u next i j order below lt in absurd (omega arith))
@@ -112,11 +113,11 @@ former_older ((k, d) ∷ u) f v there =
     let o : (older u v == length u) ≡ false = apart_lt (older u v) (length u) (older_within u v t) in
     rw (other, o) (former_older u f v t))
 
-pub AllBelow-sweep : (m : ℕ) (w : World) (hs : List ℕ) → AllBelow m w → AllBelow m (sweep w hs)
-AllBelow-sweep m [] hs below = tt
-AllBelow-sweep m ((k, d) ∷ w) hs below = by_keeps (λ h. AllBelow-sweep m w h below.1) (holds hs k)
+pub NumbersBelow-sweep : (m : ℕ) (w : World) (hs : List ℕ) → NumbersBelow m w → NumbersBelow m (sweep w hs)
+NumbersBelow-sweep m [] hs below = tt
+NumbersBelow-sweep m ((k, d) ∷ w) hs below = by_keeps (λ h. NumbersBelow-sweep m w h below.1) (holds hs k)
   where
-    by_keeps : ((h : List ℕ) → AllBelow m (sweep w h)) → (keeps : Bool) → AllBelow m (kept_onto keeps (k, d) (sweep w (if keeps then parents d ++ hs else hs)))
+    by_keeps : ((h : List ℕ) → NumbersBelow m (sweep w h)) → (keeps : Bool) → NumbersBelow m (kept_onto keeps (k, d) (sweep w (if keeps then parents d ++ hs else hs)))
     by_keeps rest true = (below.0, rest (parents d ++ hs))
     by_keeps rest false = rest hs
 
@@ -125,7 +126,7 @@ InOrder-sweep [] hs sound = tt
 InOrder-sweep ((k, d) ∷ w) hs sound = by_keeps (λ h. InOrder-sweep w h sound.2) (holds hs k)
   where
     by_keeps : ((h : List ℕ) → InOrder (sweep w h)) → (keeps : Bool) → InOrder (kept_onto keeps (k, d) (sweep w (if keeps then parents d ++ hs else hs)))
-    by_keeps rest true = (AllBelow-sweep k w (parents d ++ hs) sound.0, rest (parents d ++ hs))
+    by_keeps rest true = (NumbersBelow-sweep k w (parents d ++ hs) sound.0, rest (parents d ++ hs))
     by_keeps rest false = rest hs
 
 -- an array that is looked at is in the world
@@ -151,10 +152,6 @@ held_kept ((k, d) ∷ w) hs v inside held_v = by_keeps (λ h i t. held_kept w h 
         (λ same. let e' : k ≡ v = eqb-true k v same in let t : holds hs k ≡ true = ap (holds hs) e' ∙ held_v in cc)
         (λ other. let i : in_world w v ≡ true = rw other at inside in rest hs i held_v)
 
-is_live : (o : Option Look) (P : Look → Type 0) → IsSomeAnd o P → IsSomeAnd o (λ l. Unit {0})
-is_live None P h = absurd h
-is_live (Some l) P h = tt
-
 -- a sound world is orderly
 pub orderly_sound : (w : World) → IsSound w → IsOrderly w
 orderly_sound [] sound = tt
@@ -162,7 +159,7 @@ orderly_sound ((k, d) ∷ w) sound = (sound.0, parents_in d sound.1, orderly_sou
   where
     parents_in : (d : ArrayDef) → IsAllowed w d → AreIn w (parents d)
     parents_in (root ty ds es) allowed = tt
-    parents_in (view p t) allowed = (live_inside w p (is_live (look w p) _ allowed), tt)
+    parents_in (view p t) allowed = (live_inside w p allowed.live, tt)
 
 pub live_in : (w : World) (vs : List ℕ) → AreLive w vs → AreIn w vs
 live_in w [] live = tt
@@ -178,7 +175,7 @@ parent_kept w hs p inside =
 -- g has the former numbers of these arrays, and from there on only higher ones than those of w
 record Restores (g : ℕ → ℕ) (f : ℕ → ℕ) (w u : World) : Type 0 where
   bound : ℕ
-  below : AllBelow bound w
+  below : NumbersBelow bound w
   inside : (i : ℕ) → i < length u → g i ≡ former u f i
   above : (i : ℕ) → length u ≤ i → bound ≤ g i
 
@@ -239,7 +236,7 @@ restored g f ((k, d) ∷ w) hs sound h = by_keeps (λ hs' h'. restored g f w hs'
         let u = sweep w hs in
         let r : IsRestored g w u = rest hs (record { bound = h.bound; below = h.below.1; inside = h.inside; above = h.above }) in
         let left : (i : ℕ) → g i ≢ k = λ i e. elim (cases_lt i (length u)) as (λ x. ⊥) [
-          | inl lt ↦ (let b : former u f i < k = former_below u f k i (AllBelow-sweep k w hs sound.0) lt in let s : g i ≡ former u f i = h.inside i lt in omega arith)
+          | inl lt ↦ (let b : former u f i < k = former_below u f k i (NumbersBelow-sweep k w hs sound.0) lt in let s : g i ≡ former u f i = h.inside i lt in omega arith)
           | inr le ↦ (let b : h.bound ≤ g i = h.above i le in let b' : k < h.bound = h.below.0 in omega arith)
         ] in
         record { all = more k d left r.all; kept = r.kept }
@@ -258,7 +255,7 @@ names_restored g f w hs (n ∷ names) inside live all_held =
 -- numbers are in order, and all that names reach is there
 pub record IsInOrder (s : State) : Type 0 where
   pub orderly : IsOrderly s.arrays.world
-  pub below : AllBelow s.arrays.next s.arrays.world
+  pub below : NumbersBelow s.arrays.next s.arrays.world
   pub inside : AreIn s.arrays.world (held s)
 
 pub in_order : (s : State) → IsWhole s → IsInOrder s
@@ -281,7 +278,7 @@ pub swept_is : (s : State) → IsInOrder s → sweep s.arrays.world (held s) ≡
 swept_is s order = (restored (former_numbers s) (past (sweep s.arrays.world (held s)) s.arrays.next) s.arrays.world (held s) order.orderly (restores s order)).kept
 
 pub former_apart : (s : State) → IsInOrder s → IsApart (former_numbers s)
-former_apart s order = before_apart (sweep s.arrays.world (held s)) s.arrays.next (InOrder-sweep s.arrays.world (held s) order.orderly) (AllBelow-sweep s.arrays.next s.arrays.world (held s) order.below)
+former_apart s order = before_apart (sweep s.arrays.world (held s)) s.arrays.next (InOrder-sweep s.arrays.world (held s) order.orderly) (NumbersBelow-sweep s.arrays.next s.arrays.world (held s) order.below)
 
 -- a state and the tidied one are alike
 pub tidied_alike : (s : State) → IsInOrder s → StateAlike (former_numbers s) (tidy s) s

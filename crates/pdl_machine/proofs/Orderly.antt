@@ -4,9 +4,10 @@ use Rattle.std.specs.Prelude.{◌==◌, if◌then◌else◌, is_none, not, ◌&&
 use Rattle.std.specs.Cmp.Lexicographic.{pointwise}
 use Rattle.pdl_buf.specs.declared.made.Made.{Made}
 use Rattle.pdl_world.specs.declared.Trans.{Trans}
-use Rattle.pdl_world.specs.Formula.{Refusal, child_dims}
-use Rattle.pdl_world.specs.World.{World, ArrayDef, root, view, Look, look, dims_in, set_elements, root_elements, write, assign as assign_in, assign_through}
-use Rattle.pdl_world.specs.Sound.{AllBelow}
+use Rattle.pdl_shape.specs.Places.{write}
+use Rattle.pdl_world.specs.Refused.{NoView, view_refusal}
+use Rattle.pdl_world.specs.World.{World, ArrayDef, root, view, Look, look, set_elements, root_elements, assign as assign_in, assign_through}
+use Rattle.pdl_world.specs.Sound.{NumbersBelow}
 use Rattle.pdl_lexemes.specs.declared.AssignOp.{AssignOp}
 use Rattle.pdl_syntax.specs.Tree.{Tree, Args, number, named, literal, unary, binary, call, none, value, text, of_type}
 use Rattle.pdl_syntax.specs.StatementTree.{StatementTree, bind, bind_list, assign, show, show_text, sever, reshape, undef, vars, pp_def, watch, unwatch}
@@ -17,12 +18,12 @@ use Rattle.pdl_machine.specs.Names.{Names, number_of, with_name, bind as bind_na
 use Rattle.pdl_machine.specs.Arrays.{Arrays, array_in, with_new}
 use Rattle.pdl_machine.specs.State.{State, with_arrays, held}
 use Rattle.pdl_machine.specs.Outcome.{array, string, type_word, Given, all_seen, Outcome, made, viewed, Valued, new_root, new_view, view_placed, placed}
-use Rattle.pdl_machine.specs.Operators.{unary_each, binary_each, values_for}
+use Rattle.pdl_ops.specs.Elementwise.{unary_each}
+use Rattle.pdl_machine.specs.Operators.{binary_each, values_for}
 use Rattle.pdl_machine.specs.Calls.{outcome, builtin_value, known_call, call_value}
 use Rattle.pdl_machine.specs.Value.{Taken, known, number_made, value_of, taken}
-use Rattle.pdl_machine.specs.Tidy.{parents}
+use Rattle.pdl_world.specs.Swept.{parents}
 use Rattle.pdl_machine.specs.Step.{Stepped, bind_value, bound, outputs_bound, list_bound, target, assigned, assigning, shown, effect}
-use Rattle.pdl_machine.specs.Laws.{NumbersStay}
 use Rattle.pdl_machine.proofs.Renamed.{by_test}
 use Rattle.pdl_machine.proofs.Numbering.{in_world, AreIn, IsOrderly, IsInOrder}
 
@@ -37,7 +38,7 @@ ok_always Q (Err e) f next = tt
 -- b is in order, and has what a had
 record Grows (a b : Arrays) : Type 0 where
   orderly : IsOrderly b.world
-  below : AllBelow b.next b.world
+  below : NumbersBelow b.next b.world
   still : (v : ℕ) → in_world a.world v ≡ true → in_world b.world v ≡ true
 
 grows_trans : (a b c : Arrays) → Grows a b → Grows b c → Grows a c
@@ -64,7 +65,7 @@ AreGivenIn w (g ∷ given) = IsGivenIn w g × AreGivenIn w given
 abbrev FineTaken : Arrays → Arrays × List Given → Type 0
 FineTaken a (b, given) = Grows a b × AreGivenIn b.world given
 
-below_more : (w : World) (m n : ℕ) → m ≤ n → AllBelow m w → AllBelow n w
+below_more : (w : World) (m n : ℕ) → m ≤ n → NumbersBelow m w → NumbersBelow n w
 below_more [] m n h b = tt
 below_more (a ∷ w) m n h b = (omega arith, below_more w m n h b.1)
 
@@ -87,11 +88,11 @@ root_fine a m g = new_fine a (root m.ty m.dims m.elems) g tt
 
 view_fine : (a : Arrays) (given : List Given) (t : Trans) → Grows a a → AreGivenIn a.world given → IfOk (view_placed a given t) (FineValue a)
 view_fine a [] t g h = tt
-view_fine a (array v ∷ given) t g h = by_dims (child_dims t (dims_in a.world v))
+view_fine a (array v ∷ given) t g h = by_refusal (view_refusal a.world v t)
   where
-    by_dims : (x : Result (List ℕ) Refusal) → IfOk (new_view a v t x) (FineValue a)
-    by_dims (Ok ds) = new_fine a (view v t) g (h.0, tt)
-    by_dims (Err e) = tt
+    by_refusal : (x : Option NoView) → IfOk (new_view a v t x) (FineValue a)
+    by_refusal None = new_fine a (view v t) g (h.0, tt)
+    by_refusal (Some reason) = tt
 view_fine a (string s ∷ given) t g h = tt
 view_fine a (type_word ty ∷ given) t g h = tt
 
@@ -209,17 +210,10 @@ list_fine s xs f order (b, given) fine =
     outputs_fine s xs order (builtin_value c b given)
     (later s.arrays b fine.0 (builtin_value c b given) (placed_fine b given (outcome c (all_seen b given)) (self s.arrays b fine.0) fine.1)))
 
-below_set : (n : ℕ) (w : World) (r : ℕ) (es : List ℤ) → AllBelow n w → AllBelow n (set_elements w r es)
+below_set : (n : ℕ) (w : World) (r : ℕ) (es : List ℤ) → NumbersBelow n w → NumbersBelow n (set_elements w r es)
 below_set n [] r new below = tt
 below_set n ((k, root ty ds es) ∷ w) r new below = (below.0, below_set n w r new below.1)
 below_set n ((k, view p t) ∷ w) r new below = (below.0, below_set n w r new below.1)
-
-pub numbers_stay : NumbersStay
-numbers_stay w n v vs below = by_look (look w v)
-  where
-    by_look : (o : Option Look) → AllBelow n (assign_through w o vs)
-    by_look None = below
-    by_look (Some l) = below_set n w l.root (write l.places vs (root_elements w l.root)) below
 
 in_world-set : (w : World) (r v : ℕ) (es : List ℤ) → in_world (set_elements w r es) v ≡ in_world w v
 in_world-set [] r v new = refl
@@ -260,7 +254,8 @@ assigning_fine s to sign e order =
 
 -- a statement leaves a state in order
 pub effect_in_order : (s : State) → IsInOrder s → (statement : StatementTree) → IfOk (effect s statement) (λ x. IsInOrder x.0)
-effect_in_order s order (bind x e severs) = bound_fine s x order (value_of s.names s.arrays e) (state_value_fine s order e)
+effect_in_order s order (bind x e false) = bound_fine s x order (value_of s.names s.arrays e) (state_value_fine s order e)
+effect_in_order s order (bind x e true) = tt
 effect_in_order s order (bind_list xs (call f args)) =
     ok_then (FineTaken s.arrays) FineStep (taken s.names s.arrays args) (list_bound s xs f) (taken_fine s.names args s.arrays (grows_self s order) order.inside) (list_fine s xs f order)
 effect_in_order s order (bind_list xs (number n)) = tt

@@ -1,14 +1,18 @@
 -- Two worlds that differ in the numbers of their arrays, and in arrays that only one of them has,
 -- show the same.
-use Rattle.std.proofs.Common.{◌≡◌, ◌≢◌, ℕ, ℤ, ◌+◌, ◌≤◌, List, [], ◌∷◌, Bool, true, false, Option, Some, None, Result, Ok, Err, refl, sym, ap, subst, ◌∙◌, arith, eqb-true, eq-eqb}
+use Rattle.std.proofs.Common.{◌≡◌, ◌≢◌, ℕ, ℤ, ◌+◌, ◌≤◌, suc, List, [], ◌∷◌, length, Bool, true, false, Option, Some, None, Result, Ok, Err, refl, sym, ap, subst, ◌∙◌, arith, eqb-true, eq-eqb}
 use Rattle.std.specs.Prelude.{◌==◌, if◌then◌else◌, option_map, option_and_then}
 use Rattle.std.specs.Option.{option_map_or}
 use Rattle.pdl_elem.specs.declared.Ty.{Ty}
 use Rattle.pdl_elem.specs.declared.Ty.TheVariants.{Byte}
 use Rattle.pdl_buf.specs.declared.made.Made.{Made}
 use Rattle.pdl_world.specs.declared.Trans.{Trans}
-use Rattle.pdl_world.specs.Formula.{Refusal, child_dims}
-use Rattle.pdl_world.specs.World.{World, ArrayDef, root, view, Look, look, through, seen_through, root_elements, set_elements, read, write, elements, dims_in, ty_in, assign, assign_through}
+use Rattle.pdl_shape.specs.Places.{read, write}
+use Rattle.pdl_shape.specs.Refusals.{Refusal}
+use Rattle.pdl_world.specs.Formula.{child_dims}
+use Rattle.pdl_world.specs.Paths.{path}
+use Rattle.pdl_world.specs.Refused.{refusal_at, view_refusal}
+use Rattle.pdl_world.specs.World.{World, ArrayDef, root, view, Look, look, through, seen_through, root_elements, set_elements, elements, dims_in, ty_in, assign, assign_through}
 use Rattle.pdl_machine.specs.Arrays.{Arrays, array_in, with_new}
 use Rattle.pdl_machine.specs.State.{State}
 use Rattle.pdl_machine.specs.Tidy.{with_parent, with_numbers}
@@ -102,6 +106,33 @@ ty_renamed g apart {w} {u} r v = ap (λ o. option_map_or (λ l. l.ty) o Byte) (l
     by_look : (o : Option Look) → option_map_or (λ l. l.ty) (option_map (with_root g) o) Byte ≡ option_map_or (λ l. l.ty) o Byte
     by_look None = refl
     by_look (Some l) = refl
+
+-- paths to the root are as long
+path_renamed : (g : ℕ → ℕ) → IsApart g → {w u : World} → Renames g w u → (v : ℕ) → length (path u (g v)) ≡ length (path w v)
+path_renamed g apart empty v = refl
+path_renamed g apart (more {w} {u} k (root ty ds es) left r) v =
+    let e : (k == g v) ≡ false = never g k v left in rw e (path_renamed g apart r v)
+path_renamed g apart (more {w} {u} k (view p t) left r) v =
+    let e : (k == g v) ≡ false = never g k v left in rw e (path_renamed g apart r v)
+path_renamed g apart (same {w} {u} i (root ty ds es) r) v =
+    by_test (i == v)
+    (λ is. let e : (g i == g v) ≡ true = same_test g apart i v ∙ is in rw (e, is) refl)
+    (λ other. let e : (g i == g v) ≡ false = same_test g apart i v ∙ other in rw (e, other) (path_renamed g apart r v))
+path_renamed g apart (same {w} {u} i (view p t) r) v =
+    by_test (i == v)
+    (λ is. let e : (g i == g v) ≡ true = same_test g apart i v ∙ is in rw (e, is) (ap suc (path_renamed g apart r p)))
+    (λ other. let e : (g i == g v) ≡ false = same_test g apart i v ∙ other in rw (e, other) (path_renamed g apart r v))
+
+-- a view is refused alike on a path that is as long
+refusal_at_alike : (ps qs : List ℕ) (x : Result (List ℕ) Refusal) → length ps ≡ length qs → refusal_at ps x ≡ refusal_at qs x
+refusal_at_alike ps qs (Err refusal) even = refl
+refusal_at_alike ps qs (Ok dims) even = rw even refl
+
+-- the same view is refused on both sides, and for the same reason
+pub view_refusal_renamed : (g : ℕ → ℕ) → IsApart g → {w u : World} → Renames g w u → (v : ℕ) (t : Trans) → view_refusal u (g v) t ≡ view_refusal w v t
+view_refusal_renamed g apart {w} {u} r v t =
+    ap (λ ds. refusal_at (path u (g v)) (child_dims t ds)) (dims_renamed g apart r v)
+    ∙ refusal_at_alike (path u (g v)) (path w v) (child_dims t (dims_in w v)) (path_renamed g apart r v)
 
 -- the elements of a root are set on both sides
 set_renamed : (g : ℕ → ℕ) → IsApart g → {w u : World} → Renames g w u → (v : ℕ) (es : List ℤ) → Renames g (set_elements w v es) (set_elements u (g v) es)

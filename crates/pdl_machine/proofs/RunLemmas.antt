@@ -32,6 +32,19 @@ printed_stays keep p (m ∷ ms) =
       )
     ]
 
+after-faulted : (ends : Bool) (p : Progress) (line : ℕ) (r : Stepped) → p.faulted ≡ true → (after ends p line r).faulted ≡ true
+after-faulted ends p line (Ok (s, text)) came = came
+after-faulted ends p line (Err e) came = refl
+
+pub fault_stays : (keep : Bool) (p : Progress) (ms : List Mark) → p.faulted ≡ true → (after_marks keep p ms).faulted ≡ true
+fault_stays keep p [] came = came
+fault_stays keep p (m ∷ ms) came =
+    let next = fault_stays keep (after_mark keep p m) ms (after-faulted (fault_ends keep m) p (line_of m) (mark_step p.state m) came) in
+    elim p.ended as (λ b. (cond b p (after_marks keep (after_mark keep p m) ms)).faulted ≡ true) [
+      | true ↦ came
+      | false ↦ next
+    ]
+
 pub goes_on : (keep : Bool) (p : Progress) (ms more : List Mark) → after_marks keep p (ms ++ more) ≡ after_marks keep (after_marks keep p ms) more
 goes_on keep p [] more = refl
 goes_on keep p (m ∷ ms) more =

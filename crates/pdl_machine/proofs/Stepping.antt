@@ -6,8 +6,8 @@ use Rattle.std.specs.List.{flat_map}
 use Rattle.std.specs.Cmp.Lexicographic.{pointwise}
 use Rattle.pdl_buf.specs.declared.made.Made.{Made}
 use Rattle.pdl_world.specs.declared.Trans.{Trans}
-use Rattle.pdl_world.specs.Formula.{Refusal, child_dims}
-use Rattle.pdl_world.specs.World.{root, view, dims_in, assign as assign_in}
+use Rattle.pdl_world.specs.Refused.{NoView, view_refusal}
+use Rattle.pdl_world.specs.World.{root, view, assign as assign_in}
 use Rattle.pdl_lexemes.specs.declared.AssignOp.{AssignOp}
 use Rattle.pdl_syntax.specs.Tree.{Tree, Args, number, named, literal, unary, binary, call, none, value, text, of_type}
 use Rattle.pdl_syntax.specs.StatementTree.{StatementTree, bind, bind_list, assign, show, show_text, sever, reshape, undef, vars, pp_def, watch, unwatch}
@@ -19,12 +19,13 @@ use Rattle.pdl_machine.specs.Names.{Names, number_of, with_name, bind as bind_na
 use Rattle.pdl_machine.specs.Arrays.{Arrays, array_in}
 use Rattle.pdl_machine.specs.State.{State, with_arrays}
 use Rattle.pdl_machine.specs.Outcome.{array, string, type_word, Given, Seen, seen, all_seen, Outcome, made, viewed, Valued, new_root, new_view, view_placed, placed}
-use Rattle.pdl_machine.specs.Operators.{unary_each, binary_each, values_for}
+use Rattle.pdl_ops.specs.Elementwise.{unary_each}
+use Rattle.pdl_machine.specs.Operators.{binary_each, values_for}
 use Rattle.pdl_machine.specs.Calls.{outcome, builtin_value, known_call, call_value}
 use Rattle.pdl_machine.specs.Value.{Taken, known, number_made, value_of, taken}
 use Rattle.pdl_machine.specs.Tidy.{with_numbers}
 use Rattle.pdl_machine.specs.Step.{Stepped, bind_value, bound, outputs_bound, list_bound, target, assigned, assigning, info_line, printed, shown, name_line, effect}
-use Rattle.pdl_machine.proofs.Renamed.{by_test, AreAlike, StateAlike, dims_renamed, assign_renamed, array_alike, new_alike}
+use Rattle.pdl_machine.proofs.Renamed.{by_test, AreAlike, StateAlike, view_refusal_renamed, assign_renamed, array_alike, new_alike}
 use Rattle.pdl_machine.proofs.Both.{Both, both_then, both_same}
 
 -- a value on both sides
@@ -58,15 +59,15 @@ all_seen_alike g a b h (x ∷ given) =
 root_alike : (g : ℕ → ℕ) (a b : Arrays) → AreAlike g a b → (m : Made) → Both (ValueAlike g) (new_root a m) (new_root b m)
 root_alike g a b h m = (new_alike g a b h (root m.ty m.dims m.elems), h.next)
 
-view_alike : (g : ℕ → ℕ) (a b : Arrays) → AreAlike g a b → (v : ℕ) (t : Trans) (x : Result (List ℕ) Refusal) → Both (ValueAlike g) (new_view a v t x) (new_view b (g v) t x)
-view_alike g a b h v t (Ok ds) = (new_alike g a b h (view v t), h.next)
-view_alike g a b h v t (Err e) = refl
+view_alike : (g : ℕ → ℕ) (a b : Arrays) → AreAlike g a b → (v : ℕ) (t : Trans) (x : Option NoView) → Both (ValueAlike g) (new_view a v t x) (new_view b (g v) t x)
+view_alike g a b h v t None = (new_alike g a b h (view v t), h.next)
+view_alike g a b h v t (Some reason) = refl
 
 viewed_alike : (g : ℕ → ℕ) (a b : Arrays) → AreAlike g a b → (given : List Given) (t : Trans) → Both (ValueAlike g) (view_placed a given t) (view_placed b (all_given_by g given) t)
 viewed_alike g a b h [] t = refl
 viewed_alike g a b h (array v ∷ given) t =
-    let P : List ℕ → Type 0 = λ ds. Both (ValueAlike g) (view_placed a (array v ∷ given) t) (new_view b (g v) t (child_dims t ds)) in
-    subst P (sym (dims_renamed g h.apart h.world v)) (view_alike g a b h v t (child_dims t (dims_in a.world v)))
+    let P : Option NoView → Type 0 = λ reason. Both (ValueAlike g) (view_placed a (array v ∷ given) t) (new_view b (g v) t reason) in
+    subst P (sym (view_refusal_renamed g h.apart h.world v t)) (view_alike g a b h v t (view_refusal a.world v t))
 viewed_alike g a b h (string s ∷ given) t = refl
 viewed_alike g a b h (type_word ty ∷ given) t = refl
 
@@ -262,7 +263,8 @@ lines_alike g a b h (n ∷ names) =
 
 -- a statement does the same on both sides
 pub effect_alike : (g : ℕ → ℕ) (s t : State) → StateAlike g s t → (statement : StatementTree) → Both (StepAlike g) (effect s statement) (effect t statement)
-effect_alike g s t h (bind x e severs) = bound_alike g s t h x (value_of s.names s.arrays e) (value_of t.names t.arrays e) (state_value_alike g s t h e)
+effect_alike g s t h (bind x e false) = bound_alike g s t h x (value_of s.names s.arrays e) (value_of t.names t.arrays e) (state_value_alike g s t h e)
+effect_alike g s t h (bind x e true) = refl
 effect_alike g s t h (bind_list xs (call f args)) =
     let P : Names → Type 0 = λ n. Both (TakenAlike g) (taken s.names s.arrays args) (taken n t.arrays args) in
     both_then (TakenAlike g) (StepAlike g) (taken s.names s.arrays args) (taken t.names t.arrays args) (list_bound s xs f) (list_bound t xs f)

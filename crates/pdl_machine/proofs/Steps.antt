@@ -3,15 +3,15 @@ use Rattle.std.proofs.Common.{◌≡◌, ℕ, List, [], ◌∷◌, ◌++◌, map
 use Rattle.std.specs.Prelude.{◌==◌, if◌then◌else◌, option_map, IfOk}
 use Rattle.pdl_world.specs.declared.Trans.{Trans}
 use Rattle.pdl_world.specs.World.{World, ArrayDef, root, view}
-use Rattle.pdl_world.specs.Sound.{AllBelow, IsSound}
+use Rattle.pdl_world.specs.Sound.{NumbersBelow, IsSound}
+use Rattle.pdl_world.specs.Swept.{holds, parents, kept_onto, sweep, Has, IsReached, held_itself, parent_of}
 use Rattle.pdl_machine.specs.declared.fault.Fault.{Fault}
-use Rattle.pdl_machine.specs.declared.fault.Fault.TheVariants.{Syntax}
 use Rattle.pdl_machine.specs.Names.{number_of}
 use Rattle.pdl_machine.specs.Arrays.{array_in}
 use Rattle.pdl_machine.specs.State.{State, held, AreLive}
-use Rattle.pdl_machine.specs.Tidy.{holds, parents, kept_onto, sweep, with_parent, numbered, tidy}
-use Rattle.pdl_machine.specs.Step.{Stepped, built, effect, tidied}
-use Rattle.pdl_machine.specs.Laws.{StepsAlike, NewArraysUnseen, Has, IsReached, held_itself, parent_of, AreAllReached, StepsLeaveReached, TidyingShowsTheSame}
+use Rattle.pdl_machine.specs.Tidy.{with_parent, numbered, tidy}
+use Rattle.pdl_machine.specs.Step.{Stepped, effect, tidied}
+use Rattle.pdl_machine.specs.Laws.{StepsAlike, NewArraysUnseen, AreAllReached, StepsLeaveReached, TidyingShowsTheSame}
 use Rattle.pdl_machine.proofs.Renamed.{by_test, IsApart, StateAlike, array_alike}
 use Rattle.pdl_machine.proofs.Both.{Both}
 use Rattle.pdl_machine.proofs.Stepping.{StepAlike, effect_alike, number_of_alike}
@@ -36,7 +36,7 @@ pub steps_are_alike : StepsAlike
 steps_are_alike s statement whole =
     let same : tidied (effect s statement) ≡ tidied (effect (tidy s) statement) =
     steps_alike (former_numbers s) (effect (tidy s) statement) (effect s statement) (effect_alike (former_numbers s) (tidy s) s (tidied_alike s (in_order s whole)) statement) in
-    ap (λ x. if built statement then x else Err Syntax) (sym same)
+    sym same
 
 -- what is seen through the tidied state is what was seen
 pub tidying_shows_the_same : TidyingShowsTheSame
@@ -51,18 +51,18 @@ tidying_shows_the_same s x whole =
     by_number g h (Some v) = ap Some (array_alike g (tidy s).arrays s.arrays h.arrays v)
 
 -- a number above a world isn't in it
-absent : (w : World) (n v : ℕ) → AllBelow n w → in_world w v ≡ true → (v == n) ≡ false
+absent : (w : World) (n v : ℕ) → NumbersBelow n w → in_world w v ≡ true → (v == n) ≡ false
 absent [] n v below there = cc
 absent ((k, d) ∷ w) n v below there =
     by_test (k == v)
     (λ is. by_test (v == n) (λ is_n. let a : k ≡ v = eqb-true k v is in let b : v ≡ n = eqb-true v n is_n in absurd (omega arith)) (λ other. other))
     (λ other. let t : in_world w v ≡ true = rw other at there in absent w n v below.1 t)
 
-unheld : (w : World) (hs : List ℕ) (k : ℕ) → AllBelow k w → AreLive w hs → holds hs k ≡ false
+unheld : (w : World) (hs : List ℕ) (k : ℕ) → NumbersBelow k w → AreLive w hs → holds hs k ≡ false
 unheld w [] k below live = refl
 unheld w (v ∷ hs) k below live = let other : (v == k) ≡ false = absent w k v below (live_inside w v live.0) in rw other (unheld w hs k below live.1)
 
-below_rest : (more w : World) (k : ℕ) → AllBelow k (more ++ w) → AllBelow k w
+below_rest : (more w : World) (k : ℕ) → NumbersBelow k (more ++ w) → NumbersBelow k w
 below_rest [] w k b = b
 below_rest (a ∷ more) w k b = below_rest more w k b.1
 
@@ -141,7 +141,7 @@ tidied_reached s order k d there =
     reached_back g (former_apart s order) (tidy s).arrays.world (held (tidy s)) (g k) (subst Q held_is in_renamed) k refl
 
 pub steps_leave_reached : StepsLeaveReached
-steps_leave_reached s after statement printed whole = by_built (built statement)
+steps_leave_reached s after statement printed whole is = by_effect (effect s statement) (effect_in_order s (in_order s whole) statement) is
   where
     state_in : State → Stepped → State
     state_in other (Ok p) = p.0
@@ -150,7 +150,3 @@ steps_leave_reached s after statement printed whole = by_built (built statement)
     by_effect : (x : Stepped) → IfOk x (λ t. IsInOrder t.0) → tidied x ≡ Ok (after, printed) → AreAllReached after
     by_effect (Ok (t, text)) order is = let e : tidy t ≡ after = ap (state_in after) is in subst AreAllReached e (tidied_reached t order)
     by_effect (Err f) order is = cc
-
-    by_built : (is : Bool) → (if is then tidied (effect s statement) else Err Syntax) ≡ Ok (after, printed) → AreAllReached after
-    by_built true is = by_effect (effect s statement) (effect_in_order s (in_order s whole) statement) is
-    by_built false is = cc

@@ -4,7 +4,8 @@ use Rattle.std.specs.Prelude.{◌==◌, ◌||◌, if◌then◌else◌}
 use Rattle.pdl_world.specs.World.{World, ArrayDef, root, view}
 use Rattle.pdl_machine.specs.Names.{Names}
 use Rattle.pdl_machine.specs.State.{State, held}
-use Rattle.pdl_machine.specs.Tidy.{holds, parents, kept_onto, sweep, older, with_parent, renumber, with_numbers, tidy}
+use Rattle.pdl_world.specs.Swept.{holds, parents, kept_onto, sweep}
+use Rattle.pdl_machine.specs.Tidy.{older, with_parent, renumber, with_numbers, tidy}
 use Rattle.pdl_machine.proofs.Renamed.{by_test, IsApart, same_test, Renames, empty, more, same, StateAlike}
 
 -- a world under other numbers

@@ -3,19 +3,24 @@ use Rattle.std.specs.Prelude.{ℕ, List, Result}
 use Rattle.pdl_machine.specs.declared.fault.Fault.{Fault}
 use Rattle.pdl_machine.specs.declared.fault.Fault.TheVariants.{UnknownFunction}
 use Rattle.pdl_machine.specs.declared.builtin.Builtin.{Builtin}
-use Rattle.pdl_machine.specs.declared.builtin.Builtin.TheVariants.{Filled, Told, Slice}
+use Rattle.pdl_machine.specs.declared.builtin.Builtin.TheVariants.{Filled, Told, Dim, Slice, Arranged, Index, Where, Range}
 use Rattle.pdl_machine.specs.Builtin.{builtin_of}
 use Rattle.pdl_machine.specs.Then.{and_then, or_fault}
 use Rattle.pdl_machine.specs.Arrays.{Arrays}
 use Rattle.pdl_machine.specs.Outcome.{Given, Seen, Outcome, Valued, all_seen, placed}
 use Rattle.pdl_machine.specs.Fills.{fill_outcome}
-use Rattle.pdl_machine.specs.Inquiries.{inquiry_outcome}
-use Rattle.pdl_machine.specs.Views.{slice_outcome}
+use Rattle.pdl_machine.specs.Inquiries.{inquiry_outcome, dim_outcome}
+use Rattle.pdl_machine.specs.Views.{slice_outcome, arrangement_outcome, index_outcome, where_outcome, range_outcome}
 
 abbrev pub outcome : Builtin → List Seen → Result Outcome Fault
 outcome (Filled fill) given = fill_outcome fill given
 outcome (Told inquiry) given = inquiry_outcome inquiry given
+outcome Dim given = dim_outcome given
 outcome Slice given = slice_outcome given
+outcome (Arranged word) given = arrangement_outcome word given
+outcome Index given = index_outcome given
+outcome Where given = where_outcome given
+outcome Range given = range_outcome given
 
 -- a built-in call's value
 abbrev pub builtin_value : Builtin → Arrays → List Given → Valued

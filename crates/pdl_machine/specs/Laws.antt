@@ -1,14 +1,14 @@
 -- What holds of every step, whatever numbers its arrays have.
-use Rattle.std.specs.Prelude.{◌≡◌, ◌⊎◌, ℕ, ℤ, true, List, [], ◌∷◌, ◌++◌, Option, option_map, Ok}
+use Rattle.std.specs.Prelude.{◌≡◌, ℕ, List, ◌++◌, Option, option_map, Ok}
 use Rattle.pdl_buf.specs.declared.made.Made.{Made}
-use Rattle.pdl_world.specs.declared.Trans.{Trans}
-use Rattle.pdl_world.specs.World.{World, ArrayDef, view, assign}
-use Rattle.pdl_world.specs.Sound.{AllBelow, IsSound}
+use Rattle.pdl_world.specs.World.{World, ArrayDef}
+use Rattle.pdl_world.specs.Sound.{IsSound}
+use Rattle.pdl_world.specs.Swept.{Has, IsReached}
 use Rattle.pdl_syntax.specs.StatementTree.{StatementTree}
 use Rattle.pdl_machine.specs.Names.{number_of}
 use Rattle.pdl_machine.specs.Arrays.{Arrays, array_in}
 use Rattle.pdl_machine.specs.State.{State, with_arrays, held, AreLive, IsWhole}
-use Rattle.pdl_machine.specs.Tidy.{holds, tidy}
+use Rattle.pdl_machine.specs.Tidy.{tidy}
 use Rattle.pdl_machine.specs.Step.{step}
 
 -- a step from the swept and renumbered state is the step
@@ -23,20 +23,6 @@ pub record AreGrown (old new : Arrays) : Type 0 where
 -- new arrays that nothing reaches are unseen
 abbrev pub NewArraysUnseen : Type 0
 NewArraysUnseen = (s : State) (a : Arrays) → AreGrown s.arrays a → IsSound a.world → AreLive s.arrays.world (held s) → tidy (with_arrays s a) ≡ tidy s
-
--- an assignment changes no number
-abbrev pub NumbersStay : Type 0
-NumbersStay = (w : World) (n v : ℕ) (values : List ℤ) → AllBelow n w → AllBelow n (assign w v values)
-
--- the world has this array under this number
-abbrev pub Has : World → ℕ → ArrayDef → Type 0
-Has [] k d = ⊥
-Has ((j, e) ∷ w) k d = ((j ≡ k) × (e ≡ d)) ⊎ Has w k d
-
--- an array is reached where it is held, or is the parent of a view that is reached
-pub data IsReached (w : World) (held : List ℕ) : ℕ → Type 0 where
-  held_itself : (k : ℕ) → holds held k ≡ true → IsReached w held k
-  parent_of : (k p : ℕ) (t : Trans) → Has w k (view p t) → IsReached w held k → IsReached w held p
 
 -- each array of the state is reached
 abbrev pub AreAllReached : State → Type 0

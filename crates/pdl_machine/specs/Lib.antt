@@ -1,5 +1,6 @@
 pub mod Fault
 pub mod Then
+pub mod Refused
 pub mod Builtin
 pub mod Names
 pub mod Arrays
@@ -7,7 +8,6 @@ pub mod State
 pub mod Outcome
 pub mod Fills
 pub mod Inquiries
-pub mod SpanText
 pub mod Views
 pub mod Operators
 pub mod Calls

@@ -1,12 +1,13 @@
 -- What a call sees and what it gives, without numbers of arrays; and how that joins the arrays.
-use Rattle.std.specs.Prelude.{ℕ, List, [], ◌∷◌, Result, Ok, Err}
+use Rattle.std.specs.Prelude.{ℕ, List, [], ◌∷◌, Option, Some, None, Result, Ok, Err}
 use Rattle.pdl_elem.specs.declared.Ty.{Ty}
 use Rattle.pdl_buf.specs.declared.made.Made.{Made}
 use Rattle.pdl_world.specs.declared.Trans.{Trans}
-use Rattle.pdl_world.specs.Formula.{Refusal, bad_dimension, out_of_range, child_dims}
-use Rattle.pdl_world.specs.World.{root, view, dims_in}
+use Rattle.pdl_world.specs.Refused.{NoView, view_refusal}
+use Rattle.pdl_world.specs.World.{root, view}
 use Rattle.pdl_machine.specs.declared.fault.Fault.{Fault}
-use Rattle.pdl_machine.specs.declared.fault.Fault.TheVariants.{WrongArguments, BadDimension, OutOfRange}
+use Rattle.pdl_machine.specs.declared.fault.Fault.TheVariants.{WrongArguments}
+use Rattle.pdl_machine.specs.Refused.{view_fault}
 use Rattle.pdl_machine.specs.Arrays.{Arrays, with_new, array_in}
 
 -- An argument that was evaluated: an array, a string, or a type word.
@@ -42,18 +43,13 @@ pub data Outcome : Type 0 where
 abbrev pub Valued : Type 0
 Valued = Result (Arrays × ℕ) Fault
 
--- the fault that names why there is no such view
-abbrev pub view_fault : Refusal → Fault
-view_fault bad_dimension = BadDimension
-view_fault out_of_range = OutOfRange
-
-abbrev pub new_view : Arrays → ℕ → Trans → Result (List ℕ) Refusal → Valued
-new_view a v t (Err e) = Err (view_fault e)
-new_view a v t (Ok ds) = Ok (with_new a (view v t))
+abbrev pub new_view : Arrays → ℕ → Trans → Option NoView → Valued
+new_view a v t (Some reason) = Err (view_fault reason)
+new_view a v t None = Ok (with_new a (view v t))
 
 -- a new view of the array that stands first, unless a rule of views refuses it
 abbrev pub view_placed : Arrays → List Given → Trans → Valued
-view_placed a (array v ∷ given) t = new_view a v t (child_dims t (dims_in a.world v))
+view_placed a (array v ∷ given) t = new_view a v t (view_refusal a.world v t)
 view_placed a _ t = Err WrongArguments
 
 abbrev pub new_root : Arrays → Made → Valued

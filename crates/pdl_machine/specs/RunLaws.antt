@@ -13,6 +13,10 @@ abbrev pub PrintedStays : Type 0
 PrintedStays = (keep : Bool) (p : Progress) (ms : List Mark) →
     (text : List ℕ) × ((after_marks keep p ms).printed ≡ p.printed ++ text)
 
+-- a fault that came is remembered, whatever runs after it
+abbrev pub FaultStays : Type 0
+FaultStays = (keep : Bool) (p : Progress) (ms : List Mark) → p.faulted ≡ true → (after_marks keep p ms).faulted ≡ true
+
 -- statements after others go on from what these come to
 abbrev pub GoesOn : Type 0
 GoesOn = (keep : Bool) (p : Progress) (ms more : List Mark) →

@@ -1,7 +1,7 @@
 -- The state of a machine between two statements.
 use Rattle.std.specs.Prelude.{ℕ, List, [], ◌∷◌, map}
 use Rattle.pdl_world.specs.World.{World}
-use Rattle.pdl_world.specs.Sound.{AllBelow, IsSound, IsLive}
+use Rattle.pdl_world.specs.Sound.{NumbersBelow, IsSound, IsLive}
 use Rattle.pdl_machine.specs.Names.{Names}
 use Rattle.pdl_machine.specs.Arrays.{Arrays, no_arrays}
 
@@ -30,5 +30,5 @@ AreLive w (v ∷ vs) = IsLive w v × AreLive w vs
 -- the world is sound, its numbers are below the next one, and each array that is held is in it
 pub record IsWhole (s : State) : Type 0 where
   pub sound : IsSound s.arrays.world
-  pub below : AllBelow s.arrays.next s.arrays.world
+  pub below : NumbersBelow s.arrays.next s.arrays.world
   pub live : AreLive s.arrays.world (held s)

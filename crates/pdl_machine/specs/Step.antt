@@ -1,12 +1,11 @@
 -- One step: what a statement does to a state, and what it prints.
-use Rattle.std.specs.Prelude.{ℕ, List, [], ◌∷◌, ◌++◌, fold, Bool, true, false, not, ◌&&◌, Result, Ok, Err, codes, if◌then◌else◌}
+use Rattle.std.specs.Prelude.{ℕ, List, [], ◌∷◌, ◌++◌, fold, Bool, true, false, Result, Ok, Err, codes}
 use Rattle.std.specs.List.{flat_map}
 use Rattle.pdl_buf.specs.declared.made.Made.{Made}
 use Rattle.pdl_world.specs.World.{assign as assign_in}
 use Rattle.pdl_print.specs.Printed.{array_text, info}
 use Rattle.pdl_lexemes.specs.declared.AssignOp.{AssignOp}
-use Rattle.pdl_lexemes.specs.declared.AssignOp.TheVariants.{Set}
-use Rattle.pdl_syntax.specs.Tree.{Tree, Args, number, named, literal, unary, binary, call, none, value, text, of_type}
+use Rattle.pdl_syntax.specs.Tree.{Tree, Args, named, call, none, value, text, of_type}
 use Rattle.pdl_syntax.specs.StatementTree.{StatementTree, View, bind, bind_list, assign, show, show_text, vars}
 use Rattle.pdl_machine.specs.declared.fault.Fault.{Fault}
 use Rattle.pdl_machine.specs.declared.fault.Fault.TheVariants.{Syntax, WrongArguments}
@@ -26,45 +25,6 @@ Stepped = Result (State × List ℕ) Fault
 
 abbrev pub newline : List ℕ
 newline = 10 ∷ []
-
-abbrev mutual
-  -- whether each form of an expression is built: operators aren't yet
-  pub is_built : Tree → Bool
-  is_built (number n) = true
-  is_built (named x) = true
-  is_built (literal ty ds es) = true
-  is_built (unary op e) = false
-  is_built (binary op e f) = false
-  is_built (call f args) = are_built args
-
-  pub are_built : Args → Bool
-  are_built none = true
-  are_built (value front e) = are_built front && is_built e
-  are_built (text front t) = are_built front
-  are_built (of_type front ty) = are_built front
-
-abbrev pub is_number : Tree → Bool
-is_number (number n) = true
-is_number _ = false
-
-abbrev pub is_call : Tree → Bool
-is_call (call f args) = true
-is_call _ = false
-
-abbrev pub is_plain : List View → AssignOp → Bool
-is_plain [] Set = true
-is_plain _ _ = false
-
--- Which statements are built: every other one is a syntax error. An assignment is built where it
--- writes a number to a name by `.=`.
-abbrev pub built : StatementTree → Bool
-built (bind x e severs) = not severs && is_built e
-built (bind_list xs e) = is_call e && is_built e
-built (assign x views sign e) = is_plain views sign && is_number e
-built (show e is_info) = is_built e
-built (show_text t) = true
-built vars = true
-built _ = false
 
 abbrev pub bind_value : State → List ℕ → Arrays × ℕ → Stepped
 bind_value s x v = and_then (bind_name s.names x v.1) (λ names. Ok (record s { names = names; arrays = v.0 }, []))
@@ -121,9 +81,9 @@ shown s is_info v = (with_arrays s v.0, printed is_info (array_in v.0 v.1))
 abbrev pub name_line : Arrays → List ℕ × ℕ → List ℕ
 name_line a n = n.0 ++ codes " " ++ info_line (array_in a n.1)
 
--- what a built statement does before the arrays that nothing reaches are let go
+-- what a statement does before the arrays that nothing reaches are let go; a form that isn't built is a syntax error
 abbrev pub effect : State → StatementTree → Stepped
-effect s (bind x e severs) = bound s x (value_of s.names s.arrays e)
+effect s (bind x e false) = bound s x (value_of s.names s.arrays e)
 effect s (bind_list xs (call f args)) = and_then (taken s.names s.arrays args) (list_bound s xs f)
 effect s (assign x views sign e) = assigning s (target x views) sign e
 effect s (show e is_info) = and_then (value_of s.names s.arrays e) (λ v. Ok (shown s is_info v))
@@ -136,4 +96,4 @@ tidied stepped = and_then stepped (λ after. Ok (tidy after.0, after.1))
 
 -- one step: the state after the statement and what it prints, or the fault that leaves the state as it was
 abbrev pub step : State → StatementTree → Stepped
-step s statement = if built statement then tidied (effect s statement) else Err Syntax
+step s statement = tidied (effect s statement)

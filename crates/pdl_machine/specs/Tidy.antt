@@ -1,27 +1,9 @@
 -- What is left of a state after a statement: the arrays that it reaches, numbered anew.
-use Rattle.std.specs.Prelude.{ℕ, ◌==◌, List, [], ◌∷◌, ◌++◌, length, Bool, if◌then◌else◌}
-use Rattle.std.specs.List.{list_any}
+use Rattle.std.specs.Prelude.{ℕ, ◌==◌, [], ◌∷◌, length, if◌then◌else◌}
 use Rattle.pdl_world.specs.World.{World, ArrayDef, root, view}
+use Rattle.pdl_world.specs.Swept.{sweep}
 use Rattle.pdl_machine.specs.Names.{Names}
 use Rattle.pdl_machine.specs.State.{State, held}
-
-abbrev pub holds : List ℕ → ℕ → Bool
-holds held k = list_any (λ v. v == k) held
-
--- the parent of a view
-abbrev pub parents : ArrayDef → List ℕ
-parents (root ty ds es) = []
-parents (view p t) = p ∷ []
-
-abbrev pub kept_onto : Bool → ℕ × ArrayDef → World → World
-kept_onto keeps a w = if keeps then a ∷ w else w
-
--- the arrays that the held ones reach by parents, themselves counted
-abbrev pub sweep : World → List ℕ → World
-sweep [] held = []
-sweep ((k, d) ∷ w) held =
-    let keeps = holds held k in
-    kept_onto keeps (k, d) (sweep w (if keeps then parents d ++ held else held))
 
 -- how many arrays of the world are older than this one
 abbrev pub older : World → ℕ → ℕ

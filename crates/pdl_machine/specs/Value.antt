@@ -9,7 +9,8 @@ use Rattle.pdl_machine.specs.Then.{and_then, or_fault}
 use Rattle.pdl_machine.specs.Arrays.{Arrays, array_in}
 use Rattle.pdl_machine.specs.Names.{Names, number_of}
 use Rattle.pdl_machine.specs.Outcome.{array, string, type_word, Given, Valued, new_root}
-use Rattle.pdl_machine.specs.Operators.{unary_each, binary_each}
+use Rattle.pdl_ops.specs.Elementwise.{unary_each}
+use Rattle.pdl_machine.specs.Operators.{binary_each}
 use Rattle.pdl_machine.specs.Calls.{call_value}
 
 -- the arguments that were evaluated, with the arrays that are there then; or the first fault

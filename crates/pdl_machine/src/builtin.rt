@@ -3,21 +3,7 @@ ghost use Rattle.std.specs.Prelude.{◌≡◌, bytes_eq, if◌then◌else◌};
 ghost use Rattle.pdl_machine.specs.Builtin.{builtin_of};
 
 use pdl_elem::Ty;
-
-/// What a new array of given sizes is filled with.
-#[derive(Clone, Copy, PartialEq, Eq, Debug)]
-pub enum Fill {
-    /// `zeroes`: 0.
-    Zeroes,
-    /// `ones`: 1.
-    Ones,
-    /// `sequence`: the position.
-    Sequence,
-    /// `xvals`: the coordinate along dimension 0, and 0 where there is none.
-    Xvals,
-    /// `yvals`: the coordinate along dimension 1, and 0 where there is none.
-    Yvals,
-}
+use pdl_ops::Fill;
 
 /// What a new array tells of an array.
 #[derive(Clone, Copy, PartialEq, Eq, Debug)]
@@ -30,6 +16,31 @@ pub enum Inquiry {
     Nelem,
     /// `ndims`: how many dimensions it has.
     Ndims,
+    /// `shape`: its sizes, in one dimension.
+    Shape,
+    /// `which`: the positions of its elements that aren't 0, rising, in one dimension.
+    Which,
+}
+
+/// How a view arranges the dimensions of its parent by numbers (PDL::Slices).
+#[derive(Clone, Copy, PartialEq, Eq, Debug)]
+pub enum Arrangement {
+    /// `xchg`: two dimensions in each other's place.
+    Xchg,
+    /// `mv`: a dimension put in another place.
+    Mv,
+    /// `reorder`: all dimensions in a new order.
+    Reorder,
+    /// `dummy`: a new dimension, of size 1 unless a size is given.
+    Dummy,
+    /// `diagonal`: dimensions of one size run through together.
+    Diagonal,
+    /// `clump`: the first dimensions joined.
+    Clump,
+    /// `flat`: all dimensions joined.
+    Flat,
+    /// `squeeze`: without the dimensions of size 1.
+    Squeeze,
 }
 
 /// A call that is built in.
@@ -39,8 +50,18 @@ pub enum Builtin {
     Filled(Fill),
     /// A new array of one array.
     Told(Inquiry),
-    /// A view by a text.
+    /// `dim`: a new array of the size of one dimension.
+    Dim,
+    /// `slice`: a view by a text.
     Slice,
+    /// A view by numbers.
+    Arranged(Arrangement),
+    /// `index`: a view by another array's values.
+    Index,
+    /// `where`: a view by a mask.
+    Where,
+    /// `range`: a view of windows.
+    Range,
 }
 
 /// The built-in call of this name, if there is one.
@@ -48,7 +69,36 @@ pub fn builtin_named(name: &[u8]) -> Option<Builtin>
     ensures { result ≡ builtin_of name.now }
 {
     let found = None;
+    let found = or_found(name, b"range", Builtin::Range, found);
+    let found = or_found(name, b"where", Builtin::Where, found);
+    let found = or_found(name, b"index", Builtin::Index, found);
+    let found = or_found(
+        name,
+        b"squeeze",
+        Builtin::Arranged(Arrangement::Squeeze),
+        found,
+    );
+    let found = or_found(name, b"flat", Builtin::Arranged(Arrangement::Flat), found);
+    let found = or_found(name, b"clump", Builtin::Arranged(Arrangement::Clump), found);
+    let found = or_found(
+        name,
+        b"diagonal",
+        Builtin::Arranged(Arrangement::Diagonal),
+        found,
+    );
+    let found = or_found(name, b"dummy", Builtin::Arranged(Arrangement::Dummy), found);
+    let found = or_found(
+        name,
+        b"reorder",
+        Builtin::Arranged(Arrangement::Reorder),
+        found,
+    );
+    let found = or_found(name, b"mv", Builtin::Arranged(Arrangement::Mv), found);
+    let found = or_found(name, b"xchg", Builtin::Arranged(Arrangement::Xchg), found);
     let found = or_found(name, b"slice", Builtin::Slice, found);
+    let found = or_found(name, b"dim", Builtin::Dim, found);
+    let found = or_found(name, b"which", Builtin::Told(Inquiry::Which), found);
+    let found = or_found(name, b"shape", Builtin::Told(Inquiry::Shape), found);
     let found = or_found(name, b"ndims", Builtin::Told(Inquiry::Ndims), found);
     let found = or_found(name, b"nelem", Builtin::Told(Inquiry::Nelem), found);
     let found = or_found(name, b"copy", Builtin::Told(Inquiry::Copy), found);

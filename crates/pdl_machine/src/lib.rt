@@ -11,7 +11,7 @@ mod fault;
 mod laws;
 mod reading;
 
-pub use builtin::{Builtin, Fill, Inquiry, builtin_named};
+pub use builtin::{Arrangement, Builtin, Inquiry, builtin_named};
 pub use fault::{Fault, fault_text};
 pub use laws::{numbering_laws, reaching_laws, worked_scripts};
 pub use reading::{reads_law, run_laws};

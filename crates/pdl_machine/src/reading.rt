@@ -1,6 +1,6 @@
 //! Laws of what a text is read as, and of runs.
 ghost use Rattle.pdl_machine.specs.Reading.{ReadsItsMeaning, MeansOneThing};
-ghost use Rattle.pdl_machine.specs.RunLaws.{EndedStays, PrintedStays, GoesOn, FirstFaultEnds, TooLongFaults, LimitEnds};
+ghost use Rattle.pdl_machine.specs.RunLaws.{EndedStays, PrintedStays, FaultStays, GoesOn, FirstFaultEnds, TooLongFaults, LimitEnds};
 
 use pdl_syntax::parsing_is_the_grammar;
 
@@ -13,11 +13,12 @@ pub fn reads_law()
     parsing_is_the_grammar();
 }
 
-/// The laws of runs: a fault that ends a run ends it, what was printed stays, and only the bytes up to
+/// The laws of runs: a fault that ends a run ends it, what was printed stays, a fault that came is remembered, and only the bytes up to
 /// the one past the limit of a script count. The call does nothing when it runs.
 pub fn run_laws()
     ensures ended { EndedStays }
     ensures printed { PrintedStays }
+    ensures faulted { FaultStays }
     ensures goes_on { GoesOn }
     ensures first_fault { FirstFaultEnds }
     ensures too_long { TooLongFaults }

@@ -1,7 +1,7 @@
 //! The printed text of arrays.
 #![tactic(auto)]
 
-ghost use Rattle.std.specs.Prelude.{◌≡◌, ◌++◌, OnOk, OnErr};
+ghost use Rattle.std.specs.Prelude.{◌≡◌, ◌++◌, take, OnOk, OnErr};
 ghost use Rattle.pdl_print.specs.Printed.{array_text, info};
 
 mod pieces;
@@ -15,8 +15,9 @@ pub fn write_array(elems: &Strided<'_>, into: &mut Vec<u8>) -> Result<(), NoMemo
     ensures ok { OnOk result (into.new.items ≡ into.old.items ++ array_text elems.now.dims elems.now.elems) }
     ensures err { OnErr result (into.new.items ≡ into.old.items) }
 {
-    let text = pieces::array(*into.allocator(), elems)?;
-    into.extend_from_slice(&text)
+    let mark = into.len();
+    let done = pieces::push_array(into, elems);
+    settled(done, into, mark)
 }
 
 /// Appends what `info` tells of an array: its type and its sizes. There is no newline. After
@@ -25,8 +26,24 @@ pub fn info_text(ty: Ty, dims: &Dims, into: &mut Vec<u8>) -> Result<(), NoMemory
     ensures ok { OnOk result (into.new.items ≡ into.old.items ++ info ty dims.now) }
     ensures err { OnErr result (into.new.items ≡ into.old.items) }
 {
-    let text = pieces::info(*into.allocator(), ty, dims)?;
-    into.extend_from_slice(&text)
+    let mark = into.len();
+    let done = pieces::push_info(into, ty, dims);
+    settled(done, into, mark)
+}
+
+/// Takes back what stands past the mark where memory was wanting.
+fn settled(done: Result<(), NoMemory>, into: &mut Vec<u8>, mark: usize) -> Result<(), NoMemory>
+    ensures result { result ≡ done }
+    ensures ok { OnOk done (into.new.items ≡ into.old.items) }
+    ensures err { OnErr done (into.new.items ≡ take mark into.old.items) }
+{
+    match done {
+        Ok(()) => Ok(()),
+        Err(fault) => {
+            into.truncate(mark);
+            Err(fault)
+        }
+    }
 }
 
 #[cfg(test)]

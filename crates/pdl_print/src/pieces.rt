@@ -1,6 +1,7 @@
-//! The pieces of the printed text, each appended to a text of its own.
+//! The pieces of the printed text, each appended to what was there before.
 ghost use Rattle.std.specs.Prelude.{◌≡◌, ◌<◌, ◌≤◌, ◌+◌, ◌*◌, ◌++◌, length, take, drop, get_or, decimal, OnOk, IfOk, ◌^◌};
 ghost use Rattle.pdl_shape.specs.Shape.{size_of};
+ghost use Rattle.pdl_print.specs.Pieces.{Begins};
 ghost use Rattle.pdl_print.specs.Printed.{spaces, aligned, widest, line, joined, block, bracketed, elements_text, lines, array_text, info};
 
 use itoa::Buffer;
@@ -14,7 +15,8 @@ const MOST_PRINTED: u32 = 10_000;
 
 /// Appends so many spaces.
 fn push_spaces(into: &mut Vec<u8>, count: usize) -> Result<(), AllocError>
-    ensures { OnOk result (into.new.items ≡ into.old.items ++ spaces count) }
+    ensures ok { OnOk result (into.new.items ≡ into.old.items ++ spaces count) }
+    ensures front { Begins into.old.items into.new.items }
 {
     for _ in 0..count {
         into.push(b' ')?;
@@ -24,7 +26,8 @@ fn push_spaces(into: &mut Vec<u8>, count: usize) -> Result<(), AllocError>
 
 /// Appends a number, with spaces before it up to the width.
 fn push_number(into: &mut Vec<u8>, number: i64, width: usize) -> Result<(), AllocError>
-    ensures { OnOk result (into.new.items ≡ into.old.items ++ aligned width number) }
+    ensures ok { OnOk result (into.new.items ≡ into.old.items ++ aligned width number) }
+    ensures front { Begins into.old.items into.new.items }
 {
     let mut buffer = Buffer::new();
     let text = buffer.format(number);
@@ -67,7 +70,8 @@ fn push_line(
     width: usize,
 ) -> Result<(), AllocError>
     requires { 0 < length numbers.now }
-    ensures { OnOk result (into.new.items ≡ into.old.items ++ line indent width numbers.now) }
+    ensures ok { OnOk result (into.new.items ≡ into.old.items ++ line indent width numbers.now) }
+    ensures front { Begins into.old.items into.new.items }
 {
     push_bracket(into, indent, b"[")?;
     push_number(into, numbers[0], width)?;
@@ -80,7 +84,8 @@ fn push_line(
 
 /// Appends an indent and a bracket.
 fn push_bracket(into: &mut Vec<u8>, indent: usize, bracket: &[u8]) -> Result<(), AllocError>
-    ensures { OnOk result (into.new.items ≡ into.old.items ++ (spaces indent ++ bracket.now)) }
+    ensures ok { OnOk result (into.new.items ≡ into.old.items ++ (spaces indent ++ bracket.now)) }
+    ensures front { Begins into.old.items into.new.items }
 {
     push_spaces(into, indent)?;
     into.extend_from_slice(bracket)
@@ -98,7 +103,8 @@ fn push_rows(
     requires some { 0 < size }
     requires within { first + rows * size ≤ length elems.now.elems }
     requires small { first + rows * size < 2 ^ 32 }
-    ensures { OnOk result (into.new.items ≡ into.old.items ++ lines indent rows size (take (rows * size) (drop first elems.now.elems))) }
+    ensures ok { OnOk result (into.new.items ≡ into.old.items ++ lines indent rows size (take (rows * size) (drop first elems.now.elems))) }
+    ensures front { Begins into.old.items into.new.items }
 {
     let block = block_of(*into.allocator(), elems, first, rows * size)?;
     let numbers = block.as_slice();
@@ -122,7 +128,8 @@ fn push_plane(
     requires some { 0 < size }
     requires within { first + rows * size ≤ length elems.now.elems }
     requires small { first + rows * size < 2 ^ 32 }
-    ensures { OnOk result (into.new.items ≡ into.old.items ++ bracketed indent (lines (indent + 1) rows size (take (rows * size) (drop first elems.now.elems)))) }
+    ensures ok { OnOk result (into.new.items ≡ into.old.items ++ bracketed indent (lines (indent + 1) rows size (take (rows * size) (drop first elems.now.elems)))) }
+    ensures front { Begins into.old.items into.new.items }
 {
     push_bracket(into, indent, b"[\n")?;
     push_rows(into, elems, first, rows, size, indent + 1)?;
@@ -153,7 +160,8 @@ fn push_block(
     requires within { first + count ≤ length elems.now.elems }
     requires small { first + count < 2 ^ 32 }
     requires shallow { around + indent < 2 ^ 32 }
-    ensures { OnOk result (into.new.items ≡ into.old.items ++ block elems.now.dims around indent (take count (drop first elems.now.elems))) }
+    ensures ok { OnOk result (into.new.items ≡ into.old.items ++ block elems.now.dims around indent (take count (drop first elems.now.elems))) }
+    ensures front { Begins into.old.items into.new.items }
 {
     let members = members_of(elems, around);
     let size = count / members;
@@ -176,7 +184,8 @@ fn push_block(
 
 /// Appends a number in decimal.
 fn push_size(into: &mut Vec<u8>, size: u32) -> Result<(), AllocError>
-    ensures { OnOk result (into.new.items ≡ into.old.items ++ decimal size) }
+    ensures ok { OnOk result (into.new.items ≡ into.old.items ++ decimal size) }
+    ensures front { Begins into.old.items into.new.items }
 {
     let mut buffer = Buffer::new();
     into.extend_from_slice(buffer.format(size).as_bytes())
@@ -184,7 +193,8 @@ fn push_size(into: &mut Vec<u8>, size: u32) -> Result<(), AllocError>
 
 /// Appends sizes in decimal with a byte between them.
 fn push_sizes(into: &mut Vec<u8>, sizes: &[u32], byte: u8) -> Result<(), AllocError>
-    ensures { OnOk result (into.new.items ≡ into.old.items ++ joined byte sizes.now) }
+    ensures ok { OnOk result (into.new.items ≡ into.old.items ++ joined byte sizes.now) }
+    ensures front { Begins into.old.items into.new.items }
 {
     let [first, rest @ ..] = sizes else {
         return Ok(());
@@ -197,31 +207,31 @@ fn push_sizes(into: &mut Vec<u8>, sizes: &[u32], byte: u8) -> Result<(), AllocEr
     Ok(())
 }
 
-/// An array's text, with its last newline.
-pub fn array(alloc: Global, elems: &Strided<'_>) -> Result<Vec<u8>, AllocError>
-    ensures { IfOk result (λ text. text.items ≡ array_text elems.now.dims elems.now.elems) }
+/// Appends an array's text, with its last newline.
+pub fn push_array(into: &mut Vec<u8>, elems: &Strided<'_>) -> Result<(), AllocError>
+    ensures ok { OnOk result (into.new.items ≡ into.old.items ++ array_text elems.now.dims elems.now.elems) }
+    ensures front { Begins into.old.items into.new.items }
 {
     let dims = strided_dims(elems);
     let sizes = dims_list(dims);
     let count = elements_of(dims);
-    let mut text = Vec::new(alloc);
     if count == 0 {
-        text.extend_from_slice(b"Empty[")?;
-        push_sizes(&mut text, sizes, b'x')?;
-        text.extend_from_slice(b"]\n")?;
+        into.extend_from_slice(b"Empty[")?;
+        push_sizes(into, sizes, b'x')?;
+        into.extend_from_slice(b"]\n")
     } else if count > MOST_PRINTED {
-        text.extend_from_slice(b"TOO LONG TO PRINT\n")?;
+        into.extend_from_slice(b"TOO LONG TO PRINT\n")
     } else {
-        push_elements(&mut text, elems, count)?;
+        push_elements(into, elems, count)
     }
-    Ok(text)
 }
 
 /// Appends the text of an array with elements, and not too many of them.
 fn push_elements(into: &mut Vec<u8>, elems: &Strided<'_>, count: u32) -> Result<(), AllocError>
     requires count { count ≡ size_of elems.now.dims }
     requires some { 0 < count }
-    ensures { OnOk result (into.new.items ≡ into.old.items ++ elements_text elems.now.dims elems.now.elems) }
+    ensures ok { OnOk result (into.new.items ≡ into.old.items ++ elements_text elems.now.dims elems.now.elems) }
+    ensures front { Begins into.old.items into.new.items }
 {
     let sizes = dims_list(strided_dims(elems));
     if sizes.is_empty() {
@@ -236,14 +246,15 @@ fn push_elements(into: &mut Vec<u8>, elems: &Strided<'_>, count: u32) -> Result<
     push_block(into, elems, 0, count, sizes.len() - 2, 0)
 }
 
-/// What `info` tells of an array.
-pub fn info(alloc: Global, ty: Ty, dims: &Dims) -> Result<Vec<u8>, AllocError>
-    ensures { IfOk result (λ text. text.items ≡ info ty dims.now) }
+/// Appends what `info` tells of an array.
+pub fn push_info(into: &mut Vec<u8>, ty: Ty, dims: &Dims) -> Result<(), AllocError>
+    ensures ok { OnOk result (into.new.items ≡ into.old.items ++ info ty dims.now) }
+    ensures front { Begins into.old.items into.new.items }
 {
-    let mut text = Vec::from_slice(alloc, b"PDL: ")?;
-    text.extend_from_slice(type_name(ty).as_bytes())?;
-    text.extend_from_slice(b" D [")?;
-    push_sizes(&mut text, dims_list(dims), b',')?;
-    text.push(b']')?;
-    Ok(text)
+    into.extend_from_slice(b"PDL: ")?;
+    into.extend_from_slice(type_name(ty).as_bytes())?;
+    into.extend_from_slice(b" D [")?;
+    push_sizes(into, dims_list(dims), b',')?;
+    into.push(b']')?;
+    Ok(())
 }

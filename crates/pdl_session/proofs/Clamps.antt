@@ -1,5 +1,5 @@
 -- Sizes that are cut to 32 bits are dimensions where the sizes are, and are refused for the same reason.
-use Rattle.std.proofs.Common.{◌≡◌, ℕ, ℤ, pos, negsuc, ◌*◌, ◌<◌, ◌≤◌, Bool, true, max, List, [], ◌∷◌, map, length, Option, Some, None, Result, Ok, Err, ◌⊎◌, inl, inr, refl, sym, ap, ◌∙◌, arith}
+use Rattle.std.proofs.Common.{◌≡◌, ℕ, ℤ, pos, negsuc, ◌*◌, ◌<◌, ◌≤◌, Bool, true, false, max, List, [], ◌∷◌, map, length, Option, Some, None, Result, Ok, Err, ◌⊎◌, inl, inr, refl, sym, ap, ◌∙◌, arith}
 use Rattle.std.specs.Prelude.{option_map, nat_lt, if◌then◌else◌}
 use Rattle.std.proofs.Math.Nat.{mul-le-mul}
 use Rattle.std.proofs.lemmas.Bool.Decides.{nat_tests}
@@ -10,12 +10,16 @@ use Rattle.pdl_shape.specs.Limits.{checked_dims}
 use Rattle.pdl_machine.specs.declared.fault.Fault.{Fault}
 use Rattle.pdl_machine.specs.declared.fault.Fault.TheVariants.{BadDimension}
 use Rattle.pdl_machine.specs.Then.{and_then, or_fault, all_of}
-use Rattle.pdl_machine.specs.Fills.{size, with_shape_fault, dims_for}
+use Rattle.pdl_machine.specs.Fills.{size, dims_for}
+use Rattle.pdl_machine.specs.Refused.{shape_fault, or_named}
 use Rattle.pdl_session.specs.declared.fault.StepFault.{StepFault}
 use Rattle.pdl_session.specs.declared.fault.StepFault.TheVariants.{Script, NoMemory}
 use Rattle.pdl_session.specs.Answers.{IsFault}
 use Rattle.pdl_session.specs.Sizes.{clamped_size}
-use Rattle.pdl_session.proofs.Elements.{by_test}
+
+by_test : {G : Type 0} (b : Bool) → (b ≡ true → G) → (b ≡ false → G) → G
+by_test true holds fails = holds refl
+by_test false holds fails = fails refl
 
 abbrev cut : ℕ → ℕ
 cut n = if nat_lt 4294967295 n then 4294967295 else n
@@ -78,21 +82,21 @@ checked_alike ds = elim (alike ds) [
 ]
 
 abbrev dims_by : Option (List ℕ) → Result (List ℕ) Fault
-dims_by o = and_then (or_fault BadDimension o) (λ ds. with_shape_fault (checked_dims ds))
+dims_by o = and_then (or_fault BadDimension o) (λ ds. or_named shape_fault (checked_dims ds))
 
 dims_alike : (ns : List ℤ) → dims_for ns ≡ dims_by (all_of clamped_size ns)
 dims_alike ns = by_sizes (all_of size ns) ∙ ap dims_by (sym (clamped_is ns))
   where
     by_sizes : (o : Option (List ℕ)) → dims_by o ≡ dims_by (option_map (map cut) o)
     by_sizes None = refl
-    by_sizes (Some ds) = ap with_shape_fault (sym (checked_alike ds))
+    by_sizes (Some ds) = ap (or_named shape_fault) (sym (checked_alike ds))
 
 abbrev checked_after : Result (List ℕ) Fault → Result (List ℕ) Fault
-checked_after x = and_then x (λ ds. with_shape_fault (checked_dims ds))
+checked_after x = and_then x (λ ds. or_named shape_fault (checked_dims ds))
 
 -- what the check of the cut sizes gives is what the sizes are as dimensions
-pub dims_found : (ns : List ℤ) (ds list : List ℕ) (r : Result (List ℕ) Refusal) → or_fault BadDimension (all_of clamped_size ns) ≡ Ok ds → list ≡ ds → r ≡ checked_dims list → dims_for ns ≡ with_shape_fault r
-dims_found ns ds list r e same h = dims_alike ns ∙ ap checked_after e ∙ ap (λ l. with_shape_fault (checked_dims l)) (sym same) ∙ ap with_shape_fault (sym h)
+pub dims_found : (ns : List ℤ) (ds list : List ℕ) (r : Result (List ℕ) Refusal) → or_fault BadDimension (all_of clamped_size ns) ≡ Ok ds → list ≡ ds → r ≡ checked_dims list → dims_for ns ≡ or_named shape_fault r
+dims_found ns ds list r e same h = dims_alike ns ∙ ap checked_after e ∙ ap (λ l. or_named shape_fault (checked_dims l)) (sym same) ∙ ap (or_named shape_fault) (sym h)
 
 -- a size below 0 is the fault
 pub dims_refused : (ns : List ℤ) (e : StepFault) → IsFault (or_fault BadDimension (all_of clamped_size ns)) e → IsFault (dims_for ns) e

@@ -2,14 +2,18 @@
 use Rattle.std.proofs.Common.{◌≡◌, ℕ, ℤ, ◌+◌, ◌≤◌, List, [], ◌∷◌, ◌++◌, append_assoc, Option, Result, Ok, Err, refl, sym, ap, subst, ◌∙◌, arith}
 use Rattle.std.specs.Prelude.{IsSomeAnd, IfOk, OnErr}
 use Rattle.pdl_world.specs.World.{World, ArrayDef, Look, assign}
-use Rattle.pdl_world.specs.Sound.{AllBelow, IsSound, IsLive}
-use Rattle.pdl_world.specs.Laws.{OlderStay, NewIsLive, LooksStay}
-use Rattle.pdl_engine.specs.State.{State as Engine, with_array, with_world}
+use Rattle.pdl_world.specs.Sound.{NumbersBelow, IsSound, IsLive}
+use Rattle.pdl_world.specs.Laws.{OlderStay, LooksStay, NumbersStay}
+use Rattle.pdl_engine.specs.State.{State as Engine, Joins, SameArrays}
 use Rattle.pdl_machine.specs.Names.{Names}
-use Rattle.pdl_machine.specs.Arrays.{Arrays, with_new}
+use Rattle.pdl_lexemes.specs.declared.AssignOp.{AssignOp}
+use Rattle.pdl_machine.specs.declared.fault.Fault.{Fault}
+use Rattle.pdl_machine.specs.Arrays.{Arrays, with_new, array_in}
+use Rattle.pdl_machine.specs.Operators.{values_for}
+use Rattle.pdl_machine.specs.Step.{assigned}
+use Rattle.pdl_machine.specs.Then.{and_then}
 use Rattle.pdl_machine.specs.State.{State, with_arrays, held, AreLive, IsWhole}
-use Rattle.pdl_machine.specs.Outcome.{Valued}
-use Rattle.pdl_machine.specs.Laws.{NumbersStay}
+use Rattle.pdl_session.specs.Answers.{Prints}
 use Rattle.pdl_session.specs.Scope.{arrays_of, state_in, Grows}
 
 pub grows_refl : (s : State) → Grows s s
@@ -27,82 +31,89 @@ grows_trans a b c g h = record {
   still = λ v live. h.still v (g.still v live);
 }
 
-below_more : (w : World) (m n : ℕ) → m ≤ n → AllBelow m w → AllBelow n w
+abbrev state_of : Names → Arrays → State
+state_of names a = record { names = names; arrays = a }
+
+-- the names are the same
+pub state_is : (old new : State) → Grows old new → new ≡ with_arrays old new.arrays
+state_is old new g = ap (λ names. state_of names new.arrays) g.names
+
+below_more : (w : World) (m n : ℕ) → m ≤ n → NumbersBelow m w → NumbersBelow n w
 below_more [] m n h b = tt
 below_more (a ∷ w) m n h b = (omega arith, below_more w m n h b.1)
 
-still_live : OlderStay → (w : World) (k v : ℕ) (d : ArrayDef) → AllBelow k w → IsLive w v → IsLive ((k, d) ∷ w) v
-still_live older w k v d below live =
-    let P : Option Look → Type 0 = λ o. IsSomeAnd o (λ l. Unit {0}) in subst P (sym (older w k v d below live)) live
-
-still_all : (w u : World) → ((v : ℕ) → IsLive w v → IsLive u v) → (vs : List ℕ) → AreLive w vs → AreLive u vs
-still_all w u still [] live = tt
-still_all w u still (v ∷ vs) live = (still v live.0, still_all w u still vs live.1)
+still_live : (w u : World) → ((v : ℕ) → IsLive w v → IsLive u v) → (vs : List ℕ) → AreLive w vs → AreLive u vs
+still_live w u still [] live = tt
+still_live w u still (v ∷ vs) live = (still v live.0, still_live w u still vs live.1)
 
 -- what comes of a new array
-pub record IsJoined (names : Names) (e t : Engine) (d : ArrayDef) (id : ℕ) : Type 0 where
-  pub whole : IsWhole (state_in names t)
-  pub grown : Grows (state_in names e) (state_in names t)
-  pub live : IsLive t.world id
+pub record IsJoined (names : Names) (a : Arrays) (p : Arrays × ℕ) : Type 0 where
+  pub whole : IsWhole (state_of names p.0)
+  pub grown : Grows (state_of names a) (state_of names p.0)
 
-abbrev pub valued : Arrays → ℕ → Valued
-valued a v = Ok (a, v)
+joined : OlderStay → (names : Names) (a : Arrays) (d : ArrayDef) → IsWhole (state_of names a) → IsSound ((a.next, d) ∷ a.world) → IsJoined names a (with_new a d)
+joined older names a d whole sound =
+    let P : Option Look → Type 0 = λ o. IsSomeAnd o (λ l. Unit {0}) in
+    let still : (v : ℕ) → IsLive a.world v → IsLive ((a.next, d) ∷ a.world) v = λ v live. subst P (sym (older a.world a.next v d whole.below live)) live in
+    record {
+      whole = record {
+        sound = sound;
+        below = (omega arith, below_more a.world a.next (a.next + 1) (omega arith) whole.below);
+        live = still_live a.world ((a.next, d) ∷ a.world) still (held (state_of names a)) whole.live;
+      };
+      grown = record { names = refl; arrays = record { more = (a.next, d) ∷ []; is = refl }; still = still };
+    }
 
-joined_new : OlderStay → NewIsLive → (names : Names) (e : Engine) (d : ArrayDef) → IsWhole (state_in names e) → IsSound (with_array e d).world → IsJoined names e (with_array e d) d e.next
-joined_new older new names e d whole sound = record {
-  whole = record {
-    sound = sound;
-    below = (omega arith, below_more e.world e.next (e.next + 1) (omega arith) whole.below);
-    live = still_all e.world (with_array e d).world (λ v live. still_live older e.world e.next v d whole.below live) (held (state_in names e)) whole.live;
-  };
-  grown = record {
-    names = refl;
-    arrays = record { more = (e.next, d) ∷ []; is = refl };
-    still = λ v live. still_live older e.world e.next v d whole.below live;
-  };
-  live = new e.world e.next d sound.1;
-}
+abbrev numbered : World → ℕ → ℕ → Arrays × ℕ
+numbered w next id = (record { world = w; next = next }, id)
 
--- the engine with a new array
-pub joined : OlderStay → NewIsLive → (names : Names) (e t : Engine) (d : ArrayDef) (id : ℕ) → IsWhole (state_in names e) → t ≡ with_array e d → id ≡ e.next → IsSound t.world → IsJoined names e t d id
-joined older new names e t d id whole is at sound =
-    let S : Engine → Type 0 = λ x. IsSound x.world in
-    let P : Engine → Type 0 = λ x. IsJoined names e x d id in
-    let Q : ℕ → Type 0 = λ n. IsJoined names e (with_array e d) d n in
-    subst P (sym is) (subst Q (sym at) (joined_new older new names e d whole (subst S is sound)))
-
-pub valued_is : (e t : Engine) (d : ArrayDef) (id : ℕ) → t ≡ with_array e d → id ≡ e.next → Ok (with_new (arrays_of e) d) ≡ valued (arrays_of t) id
-valued_is e t d id is at = ap (λ x. valued (arrays_of x) e.next) (sym is) ∙ ap (valued (arrays_of t)) (sym at)
-
--- the engine after an assignment
-pub whole_assigned : LooksStay → NumbersStay → (names : Names) (e t : Engine) (v : ℕ) (vs : List ℤ) → IsWhole (state_in names e) → t ≡ with_world e (assign e.world v vs) → IsSound t.world → IsWhole (state_in names t)
-whole_assigned looks stay names e t v vs whole is sound =
-    let S : Engine → Type 0 = λ x. IsSound x.world in
-    let P : Engine → Type 0 = λ x. IsWhole (state_in names x) in
-    let L : Option Look → Type 0 = λ o. IsSomeAnd o (λ l. Unit {0}) in
-    subst P (sym is) (record {
-      sound = subst S is sound;
-      below = stay e.world e.next v vs whole.below;
-      live = still_all e.world (assign e.world v vs) (λ u live. subst L (sym (looks e.world v u vs)) live) (held (state_in names e)) whole.live;
-    })
-
--- names that were bound, with the same arrays
-pub state_is : (old new : State) → Grows old new → new ≡ with_arrays old new.arrays
-state_is old new g = ap (λ names. state_of names new.arrays) g.names
-  where
-    state_of : Names → Arrays → State
-    state_of names a = record { names = names; arrays = a }
+pub joins : (e t : Engine) (d : ArrayDef) (id : ℕ) → Joins e id d t → with_new (arrays_of e) d ≡ (arrays_of t, id)
+joins e t d id j =
+    ap (λ w. numbered w (e.next + 1) e.next) (sym (j.world ∙ ap (λ k. (k, d) ∷ e.world) j.number)) ∙ ap (λ n. numbered t.world n e.next) (sym j.next)
+    ∙ ap (numbered t.world t.next) (sym j.number)
 
 -- what is left of a call that makes an array, or makes none
 pub record IsTried (names : Names) (e t : Engine) : Type 0 where
   pub whole : IsWhole (state_in names t)
   pub grown : Grows (state_in names e) (state_in names t)
 
-pub tried : {E : Type 0} (r : Result ℕ E) → OlderStay → NewIsLive → (names : Names) (e t : Engine) (d : ArrayDef) → IsWhole (state_in names e)
-    → IfOk r (λ id. id ≡ e.next) → IfOk r (λ id. t ≡ with_array e d) → OnErr r (t ≡ e) → IsSound t.world → IsTried names e t
-tried (Ok id) older new names e t d whole at is err sound =
-    let j : IsJoined names e t d id = joined older new names e t d id whole is at sound in
-    record { whole = j.whole; grown = j.grown }
-tried (Err f) older new names e t d whole at is err sound =
+pub tried : {E : Type 0} (r : Result ℕ E) → OlderStay → (names : Names) (e t : Engine) (d : ArrayDef) → IsWhole (state_in names e)
+    → IfOk r (λ id. Joins e id d t) → OnErr r (t ≡ e) → IsSound t.world → IsTried names e t
+tried (Ok id) older names e t d whole is err sound =
+    let S : Arrays × ℕ → Type 0 = λ p. IsSound p.0.world in
+    let j : with_new (arrays_of e) d ≡ (arrays_of t, id) = joins e t d id is in
+    let h : IsJoined names (arrays_of e) (arrays_of t, id) =
+    subst (λ (p : Arrays × ℕ). IsJoined names (arrays_of e) p) j (joined older names (arrays_of e) d whole (subst S (sym j) sound)) in
+    record { whole = h.whole; grown = h.grown }
+tried (Err f) older names e t d whole is err sound =
     let P : Engine → Type 0 = λ x. IsTried names e x in
     subst P (sym err) (record { whole = whole; grown = grows_refl (state_in names e) })
+
+-- arrays that may be lent now are the same arrays
+pub readied : (names : Names) (e t : Engine) → SameArrays e t → state_in names t ≡ state_in names e
+readied names e t s =
+    ap (λ w. state_of names (record { world = w; next = t.next })) s.world ∙ ap (λ n. state_of names (record { world = e.world; next = n })) s.next
+
+pub both_readied : (names : Names) (e f t : Engine) → SameArrays e f → SameArrays f t → state_in names t ≡ state_in names e
+both_readied names e f t s u = readied names f t u ∙ readied names e f s
+
+-- the arrays after an assignment
+pub whole_assigned : LooksStay → NumbersStay → (names : Names) (e t : Engine) (v : ℕ) (vs : List ℤ) → IsWhole (state_in names e) → t.world ≡ assign e.world v vs → t.next ≡ e.next → IsSound t.world → IsWhole (state_in names t)
+whole_assigned looks stay names e t v vs whole world next sound =
+    let B : World → Type 0 = NumbersBelow e.next in
+    let L : Option Look → Type 0 = λ o. IsSomeAnd o (λ l. Unit {0}) in
+    let still : (u : ℕ) → IsLive e.world u → IsLive t.world u =
+    λ u live. let W : World → Type 0 = λ w. IsLive w u in subst W (sym world) (subst L (sym (looks e.world v u vs)) live) in
+    record {
+      sound = sound;
+      below = subst (λ n. NumbersBelow n t.world) (sym next) (subst B (sym world) (stay e.world e.next v vs whole.below));
+      live = still_live e.world t.world still (held (state_in names e)) whole.live;
+    }
+
+-- the values are written, and nothing is printed
+pub values_written : (sign : AssignOp) (names : Names) (e t : Engine) (v u : ℕ) (vs : List ℤ) → values_for sign (array_in (arrays_of e) v) (array_in (arrays_of e) u) ≡ Ok vs
+    → t.world ≡ assign e.world v vs → t.next ≡ e.next → Prints (and_then (assigned sign (arrays_of e) v u) (λ a. Ok (with_arrays (state_in names e) a, []))) (state_in names t) [] []
+values_written sign names e t v u vs h world next =
+    let P : Result (List ℤ) Fault → Type 0 =
+    λ x. Prints (and_then (and_then x (λ ws. Ok (record { world = assign e.world v ws; next = e.next }))) (λ a. Ok (state_of names a, []))) (state_in names t) [] [] in
+    subst P (sym h) (ap (λ w. state_of names (record { world = w; next = t.next })) world ∙ ap (λ n. state_of names (record { world = assign e.world v vs; next = n })) next, refl)

@@ -1,17 +1,13 @@
 -- Elements and lines, one after another.
-use Rattle.std.proofs.Common.{◌≡◌, ℕ, ℤ, zero, suc, pos, ◌+◌, ◌<◌, ◌<ℤ◌, List, [], ◌∷◌, ◌++◌, length, get_or, take, Some, sym, ap, subst, ◌∙◌, arith}
+use Rattle.std.proofs.Common.{◌≡◌, ℕ, zero, suc, ◌+◌, List, [], ◌∷◌, ◌++◌, take, Some, sym, ap, ◌∙◌, arith}
 use Rattle.std.specs.Prelude.{slice_get}
 use Rattle.std.specs.List.{flat_map}
-use Rattle.std.proofs.lemmas.List.{take_more, flat_map_more}
+use Rattle.std.proofs.lemmas.List.{flat_map_more}
 use Rattle.pdl_machine.specs.Names.{Names}
 use Rattle.pdl_machine.specs.Arrays.{Arrays}
 use Rattle.pdl_machine.specs.Step.{name_line}
 
 -- the elements so far, and the next one
-pub taken_more : (es items items' : List ℤ) (i : ℕ) (y z : ℤ) → i < length es → items ≡ take i es → items' ≡ items ++ y ∷ [] → y ≡ z → z ≡ get_or es i (pos 0) → items' ≡ take (i + 1) es
-taken_more es items items' i y z h e e' same z_is =
-    e' ∙ ap (λ xs. xs ++ y ∷ []) e ∙ ap (λ x. take i es ++ x ∷ []) (same ∙ z_is) ∙ sym (take_more es i (pos 0) h)
-
 -- the entries before a place, and the one there
 take_entry : {X : Type 0} (xs : List X) (i : ℕ) (x : X) → slice_get xs i ≡ Some x → take (suc i) xs ≡ take i xs ++ x ∷ []
 take_entry [] i x h = cc

@@ -1,47 +1,30 @@
 -- What a statement does, from what its parts do.
-use Rattle.std.proofs.Common.{◌≡◌, ℕ, ℤ, ◌+◌, ◌<◌, ◌≤◌, length, get_or, true, Option, Some, arith, eq-eqb, replicate, Bool, List, [], ◌∷◌, ◌++◌, Result, Ok, Err, refl, sym, ap, subst, ◌∙◌}
-use Rattle.std.specs.Prelude.{◌==◌, OnOk, IfErr}
-use Rattle.std.specs.List.{range_with_len}
+use Rattle.std.proofs.Common.{◌≡◌, ℕ, ◌<◌, ◌≤◌, length, get_or, Option, Some, arith, Bool, List, [], ◌∷◌, ◌++◌, Result, Ok, Err, refl, sym, ap, subst, ◌∙◌}
+use Rattle.std.specs.Prelude.{IfErr}
 use Rattle.std.proofs.lemmas.List.{append-nil}
-use Rattle.std.proofs.lemmas.List.FromFn.{length-range_with_len}
-use Rattle.pdl_elem.specs.Numbers.{wrapped}
-use Rattle.pdl_shape.specs.Shape.{size_of}
-use Rattle.pdl_buf.specs.declared.made.Made.{Made}
-use Rattle.std.specs.Option.{option_map_or}
-use Rattle.pdl_elem.specs.declared.Ty.{Ty}
-use Rattle.pdl_elem.specs.declared.Ty.TheVariants.{Byte}
-use Rattle.pdl_world.specs.World.{World, root, look, whole, read, root_elements, assign}
-use Rattle.pdl_lexemes.specs.Lists.{type_of}
 use Rattle.pdl_lexemes.specs.declared.AssignOp.{AssignOp}
-use Rattle.pdl_lexemes.specs.declared.AssignOp.TheVariants.{Set, With}
-use Rattle.pdl_syntax.specs.Tree.{Tree, Args, number, named, call}
-use Rattle.pdl_syntax.specs.StatementTree.{StatementTree, View, bind_list, assign as assign'}
+use Rattle.pdl_syntax.specs.Tree.{Tree, Args, call}
+use Rattle.pdl_syntax.specs.StatementTree.{bind_list}
 use Rattle.pdl_machine.specs.declared.fault.Fault.{Fault}
-use Rattle.pdl_machine.specs.declared.fault.Fault.TheVariants.{UnknownFunction, DivideByZero}
+use Rattle.pdl_machine.specs.declared.fault.Fault.TheVariants.{UnknownFunction}
 use Rattle.pdl_machine.specs.declared.builtin.Builtin.{Builtin}
 use Rattle.pdl_machine.specs.Builtin.{builtin_of}
-use Rattle.pdl_machine.specs.Names.{Names, number_of, bind}
-use Rattle.pdl_machine.specs.Arrays.{Arrays, array_in, with_new}
-use Rattle.pdl_machine.specs.Then.{and_then, and_more, or_fault, all_of}
+use Rattle.pdl_machine.specs.Names.{Names, bind}
+use Rattle.pdl_machine.specs.Arrays.{Arrays, array_in}
+use Rattle.pdl_machine.specs.Then.{and_then, or_fault}
 use Rattle.pdl_machine.specs.State.{State, with_arrays, IsWhole}
-use Rattle.pdl_machine.specs.Outcome.{Given as Argument, Valued, new_root}
-use Rattle.pdl_machine.specs.Operators.{values_for}
+use Rattle.pdl_machine.specs.Outcome.{Given as Argument, Valued}
 use Rattle.pdl_machine.specs.Calls.{builtin_value, known_call}
-use Rattle.pdl_machine.specs.Value.{known, number_made, value_of, taken}
+use Rattle.pdl_machine.specs.Value.{value_of, taken}
 use Rattle.pdl_machine.specs.Tidy.{tidy}
 use Rattle.pdl_machine.specs.Laws.{NewArraysUnseen}
-use Rattle.pdl_machine.specs.Step.{Stepped, built, bind_value, bound, outputs_bound, list_bound, target, assigned, assigning, printed, shown, effect}
+use Rattle.pdl_machine.specs.Step.{Stepped, bind_value, bound, outputs_bound, list_bound, assigned, assigning, printed, shown, effect}
 use Rattle.pdl_session.specs.declared.fault.StepFault.{StepFault}
 use Rattle.pdl_session.specs.declared.fault.StepFault.TheVariants.{Script, NoMemory}
-use Rattle.pdl_session.specs.Scope.{array_of, Grows}
-use Rattle.pdl_session.specs.Numbers.{number_assigned, with_number}
+use Rattle.pdl_session.specs.Scope.{Grows}
 use Rattle.pdl_session.specs.Answers.{IsFault, IfScript, Prints, IsKept, Runs}
+use Rattle.pdl_session.proofs.Faults.{first_fault}
 use Rattle.pdl_session.proofs.Growing.{grows_trans, state_is}
-
--- the fault of a first step is that of all
-pub first_fault : {A B : Type 0} (x : Result A Fault) (f : A → Result B Fault) (e : StepFault) → IsFault x e → IsFault (and_then x f) e
-first_fault x f (Script e) h = ap (λ y. and_then y f) h
-first_fault x f NoMemory h = tt
 
 pub kept_at : (e : StepFault) (old new : State) (out : List ℕ) → Grows old new → IfScript e (IsKept old new out out)
 kept_at (Script e) old new out g = record { grown = g; printed = refl }
@@ -123,85 +106,27 @@ list_refused old new xs tree f args e is h g =
     let P : Tree → Type 0 = λ x. IsFault (effect old (bind_list xs x)) e in
     (subst P (sym is) (first_fault (taken old.names old.arrays args) (list_bound old xs f) e h), kept_at e old new [] g)
 
--- a number as an array, which is the newest one
-newest_is : (k : ℕ) (n : ℤ) (w : World) (next : ℕ) → array_in (record { world = (k, root (type_of (n ∷ [])) [] (n ∷ [])) ∷ w; next = next }) k ≡ number_made n
-newest_is k n w next = all_equal (ap (λ o. option_map_or (λ l. l.ty) o Byte) seen) (ap (λ o. option_map_or (λ l. l.dims) o []) seen)
-    (ap (λ o. option_map_or (λ l. read l.places (root_elements u l.root)) o []) seen ∙ ap (read (Some 0 ∷ [])) own)
-  where
-    u : World
-    u = (k, root (type_of (n ∷ [])) [] (n ∷ [])) ∷ w
+-- an assignment, after its target and its right side came
+pub runs_assigned : {T : Type 0} (r : Result T StepFault) (old mid late new : State) (to e : Tree) (sign : AssignOp) (v u : ℕ) → value_of old.names old.arrays to ≡ Ok (mid.arrays, v) → value_of mid.names mid.arrays e ≡ Ok (late.arrays, u)
+    → Grows old mid → Grows mid late → Runs (and_then (assigned sign late.arrays v u) (λ a. Ok (with_arrays late a, []))) late new [] [] r → Runs (assigning old to sign e) old new [] [] r
+runs_assigned r old mid late new to e sign v u target_is value_is g h ran =
+    let value : Names → Valued = λ names. value_of names mid.arrays e in
+    let from_value : Valued → Stepped = λ x. and_then x (λ u. and_then (assigned sign u.0 v u.1) (λ a. Ok (with_arrays old a, []))) in
+    let from_target : Valued → Stepped = λ x. and_then x (λ w. and_then (value_of old.names w.0 e) (λ u. and_then (assigned sign u.0 w.1 u.1) (λ a. Ok (with_arrays old a, [])))) in
+    let written : Names → Stepped = λ names. and_then (assigned sign late.arrays v u) (λ a. Ok (record { names = names; arrays = a }, [])) in
+    let is : assigning old to sign e ≡ and_then (assigned sign late.arrays v u) (λ a. Ok (with_arrays late a, [])) =
+    ap from_target target_is ∙ ap from_value (ap value (sym g.names) ∙ value_is) ∙ ap written (sym (h.names ∙ g.names)) in
+    runs_from r (and_then (assigned sign late.arrays v u) (λ a. Ok (with_arrays late a, []))) (assigning old to sign e) old late new [] [] is (grows_trans old mid late g h) ran
 
-    self : (k == k) ≡ true
-    self = eq-eqb k k refl
-
-    seen : look u k ≡ Some (whole k (type_of (n ∷ [])) [])
-    seen = rw self refl
-
-    own : root_elements u k ≡ n ∷ []
-    own = rw self refl
-
-    all_equal : {t v : Ty} {ds es : List ℕ} {xs ys : List ℤ} → t ≡ v → ds ≡ es → xs ≡ ys → array_of t ds xs ≡ array_of v es ys
-    all_equal p q r = cc
-
-all_same : {A B : Type 0} (x : B) (xs : List A) → all_of (λ a. Some x) xs ≡ Some (replicate (length xs) x)
-all_same x [] = refl
-all_same x (a ∷ xs) = ap (and_more (Some x)) (all_same x xs)
-
--- a number that is assigned is put at each position
-number_values : (t : Made) (n : ℤ) → values_for Set t (number_made n) ≡ Ok (replicate (size_of t.dims) (wrapped t.ty n))
-number_values t n =
-    ap (or_fault DivideByZero) (all_same (wrapped t.ty n) (range_with_len 0 (size_of t.dims)) ∙ ap (λ m. Some (replicate m (wrapped t.ty n))) (length-range_with_len 0 (size_of t.dims)))
-
-abbrev put : State → Arrays → ℕ → Result (List ℤ) Fault → Stepped
-put s a v values = and_then (and_then values (λ vs. Ok (record a { world = assign a.world v vs }))) (λ b. Ok (with_arrays s b, []))
-
-number_is : (s : State) (v : ℕ) (n : ℤ) → number_assigned s v n ≡ Ok (with_number (with_arrays s (with_new s.arrays (root (type_of (n ∷ [])) [] (n ∷ []))).0) v n, [])
-number_is s v n =
-    let a : Arrays = (with_new s.arrays (root (type_of (n ∷ [])) [] (n ∷ []))).0 in
-    ap (λ m. put s a v (values_for Set (array_in a v) m)) (newest_is s.arrays.next n s.arrays.world (s.arrays.next + 1))
-    ∙ ap (put s a v) (number_values (array_in a v) n)
-
-abbrev arrays_back : Arrays → Valued → Arrays
-arrays_back a (Ok p) = p.0
-arrays_back a (Err e) = a
-
--- a number assigned, after it became an array
-pub runs_number : {T : Type 0} (r : Result T StepFault) (old mid new : State) (v u : ℕ) (n : ℤ) → new_root old.arrays (number_made n) ≡ Ok (mid.arrays, u) → Grows old mid
-    → OnOk r (new ≡ with_number mid v n) → IfErr r (λ e. e ≡ NoMemory) → Runs (number_assigned old v n) old new [] [] r
-runs_number (Ok x) old mid new v u n is g ok fault =
-    let a : Arrays = (with_new old.arrays (root (type_of (n ∷ [])) [] (n ∷ []))).0 in
-    let same : a ≡ mid.arrays = ap (arrays_back mid.arrays) is in
-    let mid_is : with_arrays old a ≡ mid = ap (with_arrays old) same ∙ sym (state_is old mid g) in
-    let e : number_assigned old v n ≡ Ok (new, []) = number_is old v n ∙ ap (λ s. stepped (with_number s v n)) mid_is ∙ ap stepped (sym ok) in
-    let P : Stepped → Type 0 = λ y. Prints y new [] [] in
-    subst P (sym e) (refl, refl)
-  where
-    stepped : State → Stepped
-    stepped s = Ok (s, [])
-runs_number (Err e) old mid new v u n is g ok fault = let P : StepFault → Type 0 = λ f. IsFault (number_assigned old v n) f × IfScript f (IsKept old new [] []) in subst P (sym fault) (tt, tt)
-
--- an assignment of a number to a bound name
-pub runs_assigning : {T : Type 0} (r : Result T StepFault) (old new : State) (x : List ℕ) (v : ℕ) (n : ℤ) (tree : Tree) (bound : Option ℕ) → bound ≡ number_of old.names x → bound ≡ Some v → tree ≡ number n
-    → Runs (number_assigned old v n) old new [] [] r → Runs (assigning old (named x) Set tree) old new [] [] r
-runs_assigning r old new x v n tree bound found is tree_is h =
-    let P : Stepped → Type 0 = λ y. Runs y old new [] [] r in
-    let e : assigning old (named x) Set tree ≡ number_assigned old v n =
-    ap (assigning old (named x) Set) tree_is
-    ∙ ap (λ o. and_then (known old.arrays o) (λ w. and_then (value_of old.names w.0 (number n)) (λ u. and_then (assigned Set u.0 w.1 u.1) (λ a. Ok (with_arrays old a, []))))) (sym found ∙ is) in
-    subst P (sym e) h
-
--- an assignment that is built has no views, and the sign `.=`
-pub runs_plain : {T : Type 0} (r : Result T StepFault) (old new : State) (o : List ℕ) (x : List ℕ) (views : List View) (sign : AssignOp) (tree : Tree) (statement : StatementTree) → statement ≡ assign' x views sign tree → built statement ≡ true
-    → Runs (assigning old (named x) Set tree) old new [] [] r → Runs (effect old statement) old new o o r
-runs_plain r old new o x views sign tree statement is is_built h =
-    let P : StatementTree → Type 0 = λ s. Runs (effect old s) old new o o r in
-    subst P (sym is) (by_form views sign (sym (ap built is) ∙ is_built))
-  where
-    by_form : (views : List View) (sign : AssignOp) → built (assign' x views sign tree) ≡ true → Runs (assigning old (target x views) sign tree) old new o o r
-    by_form [] Set b = quiet r (assigning old (named x) Set tree) old new o h
-    by_form [] (With op) b = cc
-    by_form (v ∷ vs) Set b = cc
-    by_form (v ∷ vs) (With op) b = cc
+pub assigned_refused : (old mid new : State) (to e : Tree) (sign : AssignOp) (v : ℕ) (f : StepFault) → value_of old.names old.arrays to ≡ Ok (mid.arrays, v) → IsFault (value_of mid.names mid.arrays e) f → Grows old mid → Grows mid new
+    → IsFault (assigning old to sign e) f × IfScript f (IsKept old new [] [])
+assigned_refused old mid new to e sign v f target_is refused g h =
+    let from_target : Valued → Stepped = λ x. and_then x (λ w. and_then (value_of old.names w.0 e) (λ u. and_then (assigned sign u.0 w.1 u.1) (λ a. Ok (with_arrays old a, [])))) in
+    let P : Stepped → Type 0 = λ x. IsFault x f in
+    let Q : Names → Type 0 = λ names. IsFault (value_of names mid.arrays e) f in (
+      subst P (sym (ap from_target target_is)) (first_fault (value_of old.names mid.arrays e) (λ u. and_then (assigned sign u.0 v u.1) (λ a. Ok (with_arrays old a, []))) f (subst Q g.names refused)),
+      kept_at f old new [] (grows_trans old mid new g h),
+    )
 
 -- what a session is seen as stays after a script's fault
 pub kept_seen : {T : Type 0} (r : Result T StepFault) (x : Stepped) (old new seen : State) (o n : List ℕ) → NewArraysUnseen → IsWhole old → IsWhole new → tidy old ≡ seen → Runs x old new o n r

@@ -1,15 +1,14 @@
 -- The arguments and the outcomes that code holds, as the machine's.
-use Rattle.std.specs.Prelude.{ℕ, List, [], ◌∷◌, Option, Some, None, Result, Ok, Err}
+use Rattle.std.specs.Prelude.{ℕ, ℤ, List, [], ◌∷◌, Option, Some, None, IsTrue}
 use Rattle.std.proofs.Common.{Bor}
+use Rattle.pdl_choice.specs.declared.edges.Edge.{Edge}
+use Rattle.pdl_world.specs.declared.Trans.TheVariants.{Range}
+use Rattle.pdl_world.specs.Formula.{is_well_formed}
 use Rattle.pdl_world.specs.World.{World}
 use Rattle.pdl_world.specs.Sound.{IsLive}
 use Rattle.pdl_buf.specs.Made.{IsMade}
-use Rattle.pdl_machine.specs.declared.fault.Fault.{Fault}
-use Rattle.pdl_machine.specs.declared.fault.Fault.TheVariants.{WrongArguments}
-use Rattle.pdl_machine.specs.declared.builtin.Inquiry.{Inquiry}
-use Rattle.pdl_machine.specs.Inquiries.{told}
-use Rattle.pdl_machine.specs.Arrays.{Arrays, array_in}
-use Rattle.pdl_machine.specs.Views.{slice_by}
+use Rattle.pdl_buf.specs.declared.made.Made.{Made}
+use Rattle.pdl_machine.specs.Arrays.{Arrays}
 use Rattle.pdl_machine.specs.Outcome.{Given as Argument, array, string, type_word, Seen, seen, Outcome as Placed, made, viewed}
 use Rattle.pdl_session.specs.declared.given.Given.{Given}
 use Rattle.pdl_session.specs.declared.given.Given.TheVariants.{Array, Text, OfType}
@@ -47,17 +46,43 @@ abbrev pub outcome_of : Outcome → Placed
 outcome_of (New m) = made m
 outcome_of (View t) = viewed t
 
--- a new array has the elements that its dimensions say
+-- a new array has the elements that its dimensions say, and a view's transformation is well formed
 abbrev pub IsOutcomeMade : Outcome → Type 0
 IsOutcomeMade (New m) = IsMade m.ty m.dims m.elems
-IsOutcomeMade (View t) = Unit {0}
+IsOutcomeMade (View t) = IsTrue (is_well_formed t)
 
--- what a call that takes one array gives for it
-abbrev pub told_by : Arrays → Inquiry → Option ℕ → Result Placed Fault
-told_by a inquiry None = Err WrongArguments
-told_by a inquiry (Some v) = Ok (made (told inquiry (array_in a v)))
+-- windows at an index's corners
+abbrev pub windows : (corners : Made) → (sizes : List ℤ) → Edge → Placed
+windows corners sizes edge = viewed (Range corners.dims corners.elems sizes edge)
 
--- what `slice` gives for a text, where its arguments are an array and a text
-abbrev pub sliced_by : Option (Bor (List ℕ)) → Result Placed Fault
-sliced_by None = Err WrongArguments
-sliced_by (Some t) = slice_by t.now
+-- the array that stands alone
+abbrev pub one_array : List Given → Option ℕ
+one_array (Array v ∷ []) = Some v
+one_array _ = None
+
+-- the text of an array and a text
+abbrev pub array_and_text : List Given → Option (Bor (List ℕ))
+array_and_text (Array v ∷ Text t ∷ []) = Some t
+array_and_text _ = None
+
+-- the second of two arrays
+abbrev pub second_array : List Given → Option ℕ
+second_array (Array v ∷ Array u ∷ []) = Some u
+second_array _ = None
+
+-- an array, and the one argument behind it
+abbrev pub array_and_one : List Given → Option (ℕ × Given)
+array_and_one (Array v ∷ g ∷ []) = Some (v, g)
+array_and_one _ = None
+
+-- the second of the two arrays that stand first, and what stands behind them
+abbrev pub two_and_more : List Given → Option (ℕ × List Given)
+two_and_more (Array v ∷ Array u ∷ rest) = Some (u, rest)
+two_and_more _ = None
+
+-- no argument, or one or two arrays
+abbrev pub few_arrays : List Given → Option (Option ℕ × Option ℕ)
+few_arrays [] = Some (None, None)
+few_arrays (Array v ∷ []) = Some (Some v, None)
+few_arrays (Array v ∷ Array u ∷ []) = Some (Some v, Some u)
+few_arrays _ = None

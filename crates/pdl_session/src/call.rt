@@ -2,61 +2,76 @@
 ghost use Rattle.std.specs.Prelude.{◌≡◌, [], ◌∷◌, IfOk};
 ghost use Rattle.pdl_elem.specs.Types.{InRange};
 ghost use Rattle.pdl_lexemes.specs.Lists.{type_of};
-ghost use Rattle.pdl_world.specs.Sound.{IsLive};
-ghost use Rattle.pdl_buf.specs.Made.{IsMade};
 ghost use Rattle.pdl_machine.specs.Calls.{outcome, builtin_value, call_value};
-ghost use Rattle.pdl_machine.specs.Outcome.{new_root, view_placed, all_seen};
+ghost use Rattle.pdl_machine.specs.Outcome.{new_root, view_placed};
 ghost use Rattle.pdl_machine.specs.Value.{number_made};
-ghost use Rattle.pdl_machine.specs.Views.{slice_outcome};
+ghost use Rattle.pdl_world.specs.Formula.{is_well_formed};
 ghost use Rattle.pdl_session.specs.Answers.{AnswersAs, Evaluates};
 ghost use Rattle.pdl_session.specs.Arguments.{arguments, AreGivenLive, all_seen_of, outcome_of, IsOutcomeMade};
 ghost use Rattle.pdl_session.specs.Scope.{Grows};
+ghost use Rattle.std.specs.Prelude.{IsTrue};
 
 use crate::fault::StepFault;
 use crate::given::Given;
 use crate::outcome::Outcome;
 use crate::scope::Scope;
-use crate::view::slice;
+use crate::views::slice::slice;
+use pdl_buf::Steps;
 use pdl_elem::{Name, Ty};
 use pdl_engine::ArrayId;
 use pdl_machine::{Builtin, Fault, builtin_named};
 use pdl_shape::dims_of;
 use pdl_world::Trans;
+use std::sync::ledger::Ledger;
 
 impl Scope {
     /// The array of a number: no dimensions, long where it is at most 2147483647, else longlong.
-    pub fn number(&mut self, number: i64) -> Result<ArrayId, StepFault>
+    pub fn number<L: Ledger>(
+        &mut self,
+        number: i64,
+        steps: &mut Steps<L>,
+    ) -> Result<ArrayId, StepFault>
         ensures value { Evaluates (new_root self.old.arrays (number_made number)) self.new result }
         ensures grown { Grows self.old self.new }
     {
         match dims_of(self.alloc(), &[]) {
-            Ok(dims) => self.make(number_type(number), &dims, &[number]),
+            Ok(dims) => self.make(number_type(number), &dims, &[number], steps),
             Err(_) => unreachable!(),
         }
     }
 
     /// The call of a name with its arguments.
-    pub fn call(&mut self, name: &Name, given: &[Given]) -> Result<ArrayId, StepFault>
+    pub fn call<L: Ledger>(
+        &mut self,
+        name: &Name,
+        given: &[Given],
+        steps: &mut Steps<L>,
+    ) -> Result<ArrayId, StepFault>
         requires { AreGivenLive self.old.arrays.world given.now }
         ensures value { let wanted = call_value name.now self.old.arrays (arguments given.now) in
             Evaluates wanted self.new result }
         ensures grown { Grows self.old self.new }
     {
         match builtin_named(name.bytes()) {
-            Some(builtin) => self.builtin_call(builtin, given),
+            Some(builtin) => self.builtin_call(builtin, given, steps),
             None => Err(StepFault::Script(Fault::UnknownFunction)),
         }
     }
 
     /// A built-in call.
-    pub fn builtin_call(&mut self, builtin: Builtin, given: &[Given]) -> Result<ArrayId, StepFault>
+    pub fn builtin_call<L: Ledger>(
+        &mut self,
+        builtin: Builtin,
+        given: &[Given],
+        steps: &mut Steps<L>,
+    ) -> Result<ArrayId, StepFault>
         requires { AreGivenLive self.old.arrays.world given.now }
         ensures value { let wanted = builtin_value builtin self.old.arrays (arguments given.now) in
             Evaluates wanted self.new result }
         ensures grown { Grows self.old self.new }
     {
-        match self.outcome(builtin, given) {
-            Ok(Outcome::New(made)) => self.make(made.ty, &made.dims, made.elems.as_slice()),
+        match self.outcome(builtin, given, steps) {
+            Ok(Outcome::New(made)) => self.make(made.ty, &made.dims, made.elems.as_slice(), steps),
             Ok(Outcome::View(trans)) => self.view_first(given, trans),
             Err(fault) => Err(fault),
         }
@@ -64,7 +79,8 @@ impl Scope {
 
     /// A view of the array that stands first.
     fn view_first(&mut self, given: &[Given], trans: Trans) -> Result<ArrayId, StepFault>
-        requires { AreGivenLive self.old.arrays.world given.now }
+        requires live { AreGivenLive self.old.arrays.world given.now }
+        requires well_formed { IsTrue (is_well_formed trans) }
         ensures value { let wanted = view_placed self.old.arrays (arguments given.now) trans in
             Evaluates wanted self.new result }
         ensures grown { Grows self.old self.new }
@@ -75,17 +91,28 @@ impl Scope {
         }
     }
 
-    /// What a built-in call gives for its arguments.
-    fn outcome(&self, builtin: Builtin, given: &[Given]) -> Result<Outcome, StepFault>
-        requires { AreGivenLive self.now.arrays.world given.now }
-        ensures value { let wanted = outcome builtin (all_seen_of self.now.arrays given.now) in
+    /// What a built-in call gives for its arguments. Only what it reads of them is made ready.
+    fn outcome<L: Ledger>(
+        &mut self,
+        builtin: Builtin,
+        given: &[Given],
+        steps: &mut Steps<L>,
+    ) -> Result<Outcome, StepFault>
+        requires { AreGivenLive self.old.arrays.world given.now }
+        ensures value { let wanted = outcome builtin (all_seen_of self.old.arrays given.now) in
             AnswersAs outcome_of wanted result }
         ensures made { IfOk result IsOutcomeMade }
+        ensures same { self.new ≡ self.old }
     {
         match builtin {
-            Builtin::Filled(fill) => self.filled(fill, given),
-            Builtin::Told(inquiry) => self.inquiry(inquiry, given),
-            Builtin::Slice => slice(given),
+            Builtin::Filled(fill) => self.filled(fill, given, steps),
+            Builtin::Told(inquiry) => self.inquiry(inquiry, given, steps),
+            Builtin::Dim => self.dim(given, steps),
+            Builtin::Slice => slice(self.alloc(), given),
+            Builtin::Arranged(word) => self.arrangement(word, given, steps),
+            Builtin::Index => self.index(given, steps),
+            Builtin::Where => self.masked(given, steps),
+            Builtin::Range => self.range(given, steps),
         }
     }
 }

@@ -1,6 +1,6 @@
 //! Numbers that are arguments, and the dimensions that they are.
-ghost use Rattle.std.specs.Prelude.{◌≡◌};
-ghost use Rattle.pdl_machine.specs.Fills.{number_in, numbers_in, dims_for, size};
+ghost use Rattle.std.specs.Prelude.{◌≡◌, IfOk};
+ghost use Rattle.pdl_machine.specs.Fills.{number_in, numbers_in, dims_for};
 ghost use Rattle.pdl_machine.specs.Then.{all_of, or_fault};
 ghost use Rattle.pdl_machine.specs.declared.fault.Fault.TheVariants.{BadDimension};
 ghost use Rattle.pdl_session.specs.Answers.{Answers, AnswersAs};
@@ -10,37 +10,43 @@ ghost use Rattle.pdl_session.specs.Sizes.{clamped_size};
 use crate::fault::StepFault;
 use crate::given::Given;
 use crate::scope::Scope;
+use pdl_buf::Steps;
 use pdl_machine::Fault;
-use pdl_shape::{Dims, ShapeFault, dims_of, elements_of};
-use std::alloc::Global;
+use pdl_shape::{Dims, ShapeFault, dims_of};
+use std::alloc::{AllocError, Global};
+use std::sync::ledger::Ledger;
 
 impl Scope {
     /// The number that an argument is: an array of exactly one element.
-    pub fn number_in(&self, given: &Given) -> Option<i64>
-        requires { IsGivenLive self.now.arrays.world given.now }
-        ensures { result ≡ number_in (seen_of self.now.arrays given.now) }
+    pub fn number_in<L: Ledger>(
+        &mut self,
+        given: &Given,
+        steps: &mut Steps<L>,
+    ) -> Result<Option<i64>, AllocError>
+        requires { IsGivenLive self.old.arrays.world given.now }
+        ensures number { IfOk result (λ n. n ≡ number_in (seen_of self.old.arrays given.now)) }
+        ensures same { self.new ≡ self.old }
     {
         match given {
-            Given::Array(id) => {
-                if elements_of(self.dims(*id)) == 1 {
-                    Some(self.element(*id, 0))
-                } else {
-                    None
-                }
-            }
-            Given::Text(_) | Given::OfType(_) => None,
+            Given::Array(id) => self.only_number(*id, steps),
+            Given::Text(_) | Given::OfType(_) => Ok(None),
         }
     }
 
     /// The numbers that arguments are.
-    pub fn numbers_in(&self, given: &[Given]) -> Result<Vec<i64>, StepFault>
-        requires { AreGivenLive self.now.arrays.world given.now }
-        ensures { let wanted = numbers_in (all_seen_of self.now.arrays given.now) in
+    pub fn numbers_in<L: Ledger>(
+        &mut self,
+        given: &[Given],
+        steps: &mut Steps<L>,
+    ) -> Result<Vec<i64>, StepFault>
+        requires { AreGivenLive self.old.arrays.world given.now }
+        ensures value { let wanted = numbers_in (all_seen_of self.old.arrays given.now) in
             AnswersAs (λ ns. ns.items) wanted result }
+        ensures same { self.new ≡ self.old }
     {
         let mut found = Vec::new(self.alloc());
         for one in given {
-            match self.number_in(one) {
+            match self.number_in(one, steps)? {
                 Some(number) => found.push(number)?,
                 None => return Err(StepFault::Script(Fault::WrongArguments)),
             }
@@ -48,7 +54,6 @@ impl Scope {
         Ok(found)
     }
 }
-
 /// Dimensions of these sizes: `BadDimension` for one below 0, then `TooManyDims`, then `TooLarge`.
 pub fn dims_for(alloc: Global, numbers: &[i64]) -> Result<Dims, StepFault>
     ensures { Answers (dims_for numbers.now) result }

@@ -1,5 +1,8 @@
 //! Why a statement wasn't run.
+use pdl_engine::ViewFault;
 use pdl_machine::Fault;
+use pdl_ops::OpFault;
+use pdl_slices::SliceFault;
 use std::alloc::{AllocError, AllocFailed};
 
 /// Why a statement wasn't run.
@@ -30,5 +33,57 @@ impl<T: Drop> From<AllocFailed<T>> for StepFault {
 
     fn from(_: AllocFailed<T>) -> StepFault {
         StepFault::NoMemory
+    }
+}
+
+impl From<ViewFault> for StepFault {
+    ghost use Rattle.std.specs.Prelude.{◌≡◌};
+    ghost use Rattle.pdl_session.specs.Faults.{of_view};
+
+    ghost from_gives = { λ refused fault. fault ≡ of_view refused };
+
+    fn from(refused: ViewFault) -> StepFault {
+        match refused {
+            ViewFault::BadDimension => StepFault::Script(Fault::BadDimension),
+            ViewFault::Mismatch => StepFault::Script(Fault::Mismatch),
+            ViewFault::OutOfRange => StepFault::Script(Fault::OutOfRange),
+            ViewFault::TooManyDims => StepFault::Script(Fault::TooManyDims),
+            ViewFault::TooLarge => StepFault::Script(Fault::TooLarge),
+            ViewFault::TooDeep => StepFault::Script(Fault::TooDeep),
+            ViewFault::NoMemory => StepFault::NoMemory,
+        }
+    }
+}
+
+impl From<OpFault> for StepFault {
+    ghost use Rattle.std.specs.Prelude.{◌≡◌};
+    ghost use Rattle.pdl_session.specs.Faults.{of_operator};
+
+    ghost from_gives = { λ refused fault. fault ≡ of_operator refused };
+
+    fn from(refused: OpFault) -> StepFault {
+        match refused {
+            OpFault::Mismatch => StepFault::Script(Fault::Mismatch),
+            OpFault::TooLarge => StepFault::Script(Fault::TooLarge),
+            OpFault::DivideByZero { .. } => StepFault::Script(Fault::DivideByZero),
+            OpFault::NoMemory => StepFault::NoMemory,
+        }
+    }
+}
+
+impl From<SliceFault> for StepFault {
+    ghost use Rattle.std.specs.Prelude.{◌≡◌};
+    ghost use Rattle.pdl_session.specs.Faults.{of_slice};
+
+    ghost from_gives = { λ refused fault. fault ≡ of_slice refused };
+
+    fn from(refused: SliceFault) -> StepFault {
+        match refused {
+            SliceFault::BadText { .. } => StepFault::Script(Fault::BadSlice),
+            SliceFault::TooManyArgs => StepFault::Script(Fault::BadSlice),
+            SliceFault::NumberTooLarge => StepFault::Script(Fault::BadSlice),
+            SliceFault::ZeroStep => StepFault::Script(Fault::BadSlice),
+            SliceFault::NoMemory => StepFault::NoMemory,
+        }
     }
 }

@@ -1,37 +1,43 @@
 //! New arrays of one array.
-ghost use Rattle.std.specs.Prelude.{◌≡◌, [], ◌∷◌, ◌≤◌, All, IfOk, IfSome, map};
-ghost use Rattle.pdl_elem.specs.Types.{InRange};
-ghost use Rattle.pdl_elem.specs.Numbers.{wrapped};
-ghost use Rattle.pdl_machine.specs.declared.builtin.Inquiry.{Inquiry};
+ghost use Rattle.std.specs.Prelude.{◌≡◌, ◌≤◌, length, map, pos, All, IfOk, Ok};
 ghost use Rattle.pdl_buf.specs.Made.{IsMade};
-ghost use Rattle.pdl_world.specs.World.{World};
 ghost use Rattle.pdl_world.specs.Sound.{IsLive};
-ghost use Rattle.pdl_machine.specs.Arrays.{Arrays, array_in};
-ghost use Rattle.pdl_machine.specs.Inquiries.{long_number, converted, told, inquiry_outcome};
+ghost use Rattle.pdl_machine.specs.Arrays.{array_in};
+ghost use Rattle.pdl_machine.specs.Inquiries.{long_number, long_numbers, told, inquiry_outcome, dim_outcome, size_at};
+ghost use Rattle.pdl_machine.specs.Outcome.{made};
+ghost use Rattle.pdl_machine.specs.Then.{and_then};
 ghost use Rattle.pdl_session.specs.Answers.{AnswersAs};
-ghost use Rattle.pdl_session.specs.Arguments.{seen_of, all_seen_of, told_by, AreGivenLive, outcome_of, IsGivenLive, IsOutcomeMade};
+ghost use Rattle.pdl_session.specs.Arguments.{all_seen_of, AreGivenLive, outcome_of, IsOutcomeMade};
 
 use crate::fault::StepFault;
 use crate::given::Given;
 use crate::outcome::Outcome;
 use crate::scope::Scope;
-use pdl_buf::{Elements, Made};
-use pdl_elem::{Ty, wrap};
+use crate::shapes::{array_and_one, one_array};
+use pdl_buf::{Elements, Made, Steps};
+use pdl_elem::Ty;
 use pdl_engine::ArrayId;
 use pdl_machine::{Fault, Inquiry};
-use pdl_shape::{copy_dims, dims_list, dims_of, elements_of};
+use pdl_shape::{dims_list, dims_of, elements_of, from_end, shape_laws};
 use std::alloc::{AllocError, Global};
+use std::sync::ledger::Ledger;
 
 impl Scope {
     /// A call that takes one array.
-    pub fn inquiry(&self, inquiry: Inquiry, given: &[Given]) -> Result<Outcome, StepFault>
-        requires { AreGivenLive self.now.arrays.world given.now }
-        ensures value { let seen = all_seen_of self.now.arrays given.now in
+    pub fn inquiry<L: Ledger>(
+        &mut self,
+        inquiry: Inquiry,
+        given: &[Given],
+        steps: &mut Steps<L>,
+    ) -> Result<Outcome, StepFault>
+        requires { AreGivenLive self.old.arrays.world given.now }
+        ensures value { let seen = all_seen_of self.old.arrays given.now in
             AnswersAs outcome_of (inquiry_outcome inquiry seen) result }
         ensures made { IfOk result IsOutcomeMade }
+        ensures same { self.new ≡ self.old }
     {
         match one_array(given) {
-            Some(id) => match self.told(inquiry, id) {
+            Some(id) => match self.told(inquiry, id, steps) {
                 Ok(made) => Ok(Outcome::New(made)),
                 Err(_) => Err(StepFault::NoMemory),
             },
@@ -40,46 +46,69 @@ impl Scope {
     }
 
     /// The new array of an array.
-    fn told(&self, inquiry: Inquiry, id: ArrayId) -> Result<Made, AllocError>
-        requires { IsLive self.now.arrays.world id }
-        ensures value { IfOk result (λ m. m ≡ told inquiry (array_in self.now.arrays id)) }
+    fn told<L: Ledger>(
+        &mut self,
+        inquiry: Inquiry,
+        id: ArrayId,
+        steps: &mut Steps<L>,
+    ) -> Result<Made, AllocError>
+        requires { IsLive self.old.arrays.world id }
+        ensures value { IfOk result (λ m. m ≡ told inquiry (array_in self.old.arrays id)) }
         ensures made { IfOk result (λ m. IsMade m.ty m.dims m.elems) }
+        ensures same { self.new ≡ self.old }
     {
+        shape_laws();
+        let count = elements_of(self.dims(id));
         match inquiry {
-            Inquiry::Copy => self.copied(id),
-            Inquiry::Convert(ty) => self.converted(ty, id),
-            Inquiry::Nelem => long_number(self.alloc(), elements_of(self.dims(id))),
+            Inquiry::Copy => self.copied(id, steps),
+            Inquiry::Convert(ty) => self.converted(ty, id, steps),
+            Inquiry::Nelem => long_number(self.alloc(), count),
             Inquiry::Ndims => { long_number(self.alloc(), dims_list(self.dims(id)).len() as u32) }
+            Inquiry::Shape => long_numbers(self.alloc(), dims_list(self.dims(id))),
+            Inquiry::Which => {
+                let places = self.set_positions(id, steps)?;
+                long_numbers(self.alloc(), places.as_slice())
+            }
         }
     }
 
-    /// A new array like an array.
-    fn copied(&self, id: ArrayId) -> Result<Made, AllocError>
-        requires { IsLive self.now.arrays.world id }
-        ensures value { IfOk result (λ m. m ≡ array_in self.now.arrays id) }
-        ensures made { IfOk result (λ m. IsMade m.ty m.dims m.elems) }
+    /// The size of one dimension of an array.
+    pub fn dim<L: Ledger>(
+        &mut self,
+        given: &[Given],
+        steps: &mut Steps<L>,
+    ) -> Result<Outcome, StepFault>
+        requires { AreGivenLive self.old.arrays.world given.now }
+        ensures value { let seen = all_seen_of self.old.arrays given.now in
+            AnswersAs outcome_of (dim_outcome seen) result }
+        ensures made { IfOk result IsOutcomeMade }
+        ensures same { self.new ≡ self.old }
     {
-        let elems = self.elements(id)?;
-        Ok(Made {
-            ty: self.ty(id),
-            dims: copy_dims(self.dims(id)),
-            elems: Elements::new(elems),
-        })
+        match array_and_one(given) {
+            Some((id, place)) => match self.number_in(&place, steps)? {
+                Some(number) => self.size_at(id, number),
+                None => Err(StepFault::Script(Fault::WrongArguments)),
+            },
+            None => Err(StepFault::Script(Fault::WrongArguments)),
+        }
     }
 
-    /// A new array of another type.
-    fn converted(&self, ty: Ty, id: ArrayId) -> Result<Made, AllocError>
+    /// The size of the dimension of this number, which counts from the end where it is below 0.
+    fn size_at(&self, id: ArrayId, number: i64) -> Result<Outcome, StepFault>
         requires { IsLive self.now.arrays.world id }
-        ensures value { IfOk result (λ m. m ≡ converted ty (array_in self.now.arrays id)) }
-        ensures made { IfOk result (λ m. IsMade m.ty m.dims m.elems) }
+        ensures value { let dims = (array_in self.now.arrays id).dims in
+            AnswersAs outcome_of (and_then (size_at dims number) (λ n. Ok (made (long_number n)))) result }
+        ensures made { IfOk result IsOutcomeMade }
     {
-        let elems = self.elements(id)?;
-        let elems = all_wrapped(self.alloc(), ty, &elems)?;
-        Ok(Made {
-            ty,
-            dims: copy_dims(self.dims(id)),
-            elems,
-        })
+        shape_laws();
+        let sizes = dims_list(self.dims(id));
+        match from_end(number, sizes.len()) {
+            Some(place) => match long_number(self.alloc(), sizes[place]) {
+                Ok(made) => Ok(Outcome::New(made)),
+                Err(_) => Err(StepFault::NoMemory),
+            },
+            None => Err(StepFault::Script(Fault::BadDimension)),
+        }
     }
 }
 
@@ -101,44 +130,30 @@ fn long_number(alloc: Global, number: u32) -> Result<Made, AllocError>
     }
 }
 
-/// The numbers, each wrapped to the type.
-fn all_wrapped(alloc: Global, ty: Ty, numbers: &[i64]) -> Result<Elements, AllocError>
-    ensures elems { IfOk result (λ es. es ≡ map (wrapped ty) numbers.now) }
-    ensures in_range { IfOk result (λ es. All (InRange ty) es) }
+/// Long numbers as an array of one dimension.
+fn long_numbers(alloc: Global, numbers: &[u32]) -> Result<Made, AllocError>
+    requires few { length numbers.now ≤ 1048576 }
+    requires small { All (λ n. n ≤ 1048576) numbers.now }
+    ensures value { IfOk result (λ m. m ≡ long_numbers numbers.now) }
+    ensures made { IfOk result (λ m. IsMade m.ty m.dims m.elems) }
 {
-    let mut elems = Vec::with_capacity(alloc, numbers.len())?;
-    for &number in numbers {
-        elems.push(wrap(ty, i128::from(number)))?;
-    }
-    Ok(Elements::new(elems))
-}
-
-/// The array that is the only argument.
-fn one_array(given: &[Given]) -> Option<ArrayId>
-    ensures value { (a : Arrays) (inquiry : Inquiry) →
-        inquiry_outcome inquiry (all_seen_of a given.now) ≡ told_by a inquiry result }
-    ensures live { (w : World) → AreGivenLive w given.now → IfSome result (IsLive w) }
-{
-    match given.split_first() {
-        None => None,
-        Some((first, rest)) => {
-            if rest.is_empty() {
-                array_of(first)
-            } else {
-                None
-            }
-        }
+    let elems = widened(alloc, numbers)?;
+    match dims_of(alloc, &[numbers.len() as u32]) {
+        Ok(dims) => Ok(Made {
+            ty: Ty::Long,
+            dims,
+            elems: Elements::new(elems),
+        }),
+        Err(_) => unreachable!(),
     }
 }
 
-/// The array that an argument is.
-fn array_of(given: &Given) -> Option<ArrayId>
-    ensures value { (a : Arrays) (inquiry : Inquiry) →
-        inquiry_outcome inquiry (seen_of a given.now ∷ []) ≡ told_by a inquiry result }
-    ensures live { (w : World) → IsGivenLive w given.now → IfSome result (IsLive w) }
+/// The same numbers, each in 64 bits.
+fn widened(alloc: Global, numbers: &[u32]) -> Result<Vec<i64>, AllocError>
+    ensures { IfOk result (λ wide. wide.items ≡ map pos numbers.now) }
 {
-    match given {
-        Given::Array(id) => Some(*id),
-        Given::Text(_) | Given::OfType(_) => None,
-    }
+    numbers
+        .iter()
+        .map(|number| i64::from(*number))
+        .collect(alloc)
 }

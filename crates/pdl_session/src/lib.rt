@@ -4,7 +4,6 @@
 //! machine's step: the same state afterwards, the same text, the same fault.
 #![tactic(auto)]
 
-mod built;
 mod call;
 mod dims;
 mod eval;
@@ -13,13 +12,19 @@ mod fill;
 mod given;
 mod inquiry;
 mod names;
+mod operating;
 mod outcome;
 mod print;
+mod reading;
 mod scope;
 mod session;
-mod span_text;
+mod shapes;
 mod statement;
-mod view;
+mod target;
+mod views;
 
 pub use fault::StepFault;
 pub use session::Session;
+
+#[cfg(test)]
+mod tests;

@@ -1,11 +1,10 @@
 //! Names and the arrays that they are bound to.
-ghost use Rattle.std.specs.Prelude.{◌≡◌, ◌<◌, [], length, All, IfSome, slice_get, Some, pos};
-ghost use Rattle.std.proofs.Common.{get_or};
-ghost use Rattle.pdl_elem.specs.Types.{InRange};
-ghost use Rattle.pdl_shape.specs.Shape.{IsDims, size_of};
+ghost use Rattle.std.specs.Prelude.{◌≡◌, ◌<◌, [], length, IfSome, IsTrue, slice_get, Some};
+ghost use Rattle.pdl_shape.specs.Shape.{IsDims};
 ghost use Rattle.pdl_buf.specs.Made.{IsMade};
-ghost use Rattle.pdl_world.specs.Formula.{child_dims};
-ghost use Rattle.pdl_world.specs.World.{dims_in, ty_in, elements, assign};
+ghost use Rattle.pdl_world.specs.Formula.{is_well_formed};
+ghost use Rattle.pdl_world.specs.Refused.{view_refusal};
+ghost use Rattle.pdl_world.specs.World.{dims_in, ty_in};
 ghost use Rattle.pdl_world.specs.Sound.{IsLive};
 ghost use Rattle.pdl_machine.specs.Names.{number_of};
 ghost use Rattle.pdl_machine.specs.State.{no_names, IsWhole};
@@ -16,20 +15,21 @@ ghost use Rattle.pdl_session.specs.Answers.{Evaluates, Runs};
 
 use crate::fault::StepFault;
 use crate::names::Names;
+use pdl_buf::Steps;
 use pdl_elem::{Name, Ty};
-use pdl_engine::{ArrayId, Engine, ViewFault};
-use pdl_machine::{Fault, numbering_laws};
+use pdl_engine::{ArrayId, Engine};
 use pdl_shape::Dims;
-use pdl_world::{Trans, assignment_laws, growth_laws};
+use pdl_world::{Trans, growth_laws};
 use std::alloc::Global;
 use std::marker::Model;
+use std::sync::ledger::Ledger;
 
 /// Names, and an engine that keeps every array so far. It is seen as a state of the eager machine.
 #[derive(Drop)]
 pub struct Scope {
-    alloc: Global,
+    pub(crate) alloc: Global,
     names: Names,
-    engine: Engine,
+    pub(crate) engine: Engine,
 }
 
 impl Model for Scope {
@@ -108,58 +108,33 @@ impl Scope {
         self.engine.ty(id)
     }
 
-    /// The element at a position of an array.
-    pub fn element(&self, id: ArrayId, position: u32) -> i64
-        requires live { IsLive self.now.arrays.world id }
-        requires within { position < size_of (dims_in self.now.arrays.world id) }
-        ensures value { result ≡ get_or (elements self.now.arrays.world id) position (pos 0) }
-        ensures in_range { InRange (ty_in self.now.arrays.world id) result }
-    {
-        self.engine.element(id, position)
-    }
-
     /// A new array of these dimensions and elements.
-    pub fn make(&mut self, ty: Ty, dims: &Dims, elems: &[i64]) -> Result<ArrayId, StepFault>
+    pub fn make<L: Ledger>(
+        &mut self,
+        ty: Ty,
+        dims: &Dims,
+        elems: &[i64],
+        steps: &mut Steps<L>,
+    ) -> Result<ArrayId, StepFault>
         requires { IsMade ty dims.now elems.now }
         ensures value { let wanted = new_root self.old.arrays (array_of ty dims.now elems.now) in
             Evaluates wanted self.new result }
         ensures grown { Grows self.old self.new }
     {
         growth_laws();
-        match self.engine.make(self.alloc, ty, dims, elems) {
-            Ok(id) => Ok(id),
-            Err(_) => Err(StepFault::NoMemory),
-        }
+        Ok(self.engine.make(ty, dims, elems, steps)?)
     }
 
-    /// A new view of an array.
+    /// A new view of an array, whose transformation is well formed.
     pub fn view(&mut self, parent: ArrayId, trans: Trans) -> Result<ArrayId, StepFault>
-        requires { IsLive self.old.arrays.world parent }
-        ensures value { let dims = child_dims trans (dims_in self.old.arrays.world parent) in
-            Evaluates (new_view self.old.arrays parent trans dims) self.new result }
+        requires live { IsLive self.old.arrays.world parent }
+        requires well_formed { IsTrue (is_well_formed trans) }
+        ensures value { let refusal = view_refusal self.old.arrays.world parent trans in
+            Evaluates (new_view self.old.arrays parent trans refusal) self.new result }
         ensures grown { Grows self.old self.new }
     {
         growth_laws();
-        match self.engine.view(self.alloc, parent, trans) {
-            Ok(id) => Ok(id),
-            Err(ViewFault::BadDimension) => Err(StepFault::Script(Fault::BadDimension)),
-            Err(ViewFault::OutOfRange) => Err(StepFault::Script(Fault::OutOfRange)),
-            Err(ViewFault::NoMemory) => Err(StepFault::NoMemory),
-        }
-    }
-
-    /// Puts the values at an array's positions, in rising order.
-    pub fn assign(&mut self, id: ArrayId, values: &[i64])
-        requires live { IsLive self.old.arrays.world id }
-        requires count { length values.now ≡ size_of (dims_in self.old.arrays.world id) }
-        requires in_range { All (InRange (ty_in self.old.arrays.world id)) values.now }
-        ensures names { self.new.names ≡ self.old.names }
-        ensures world { self.new.arrays.world ≡ assign self.old.arrays.world id values.now }
-        ensures next { self.new.arrays.next ≡ self.old.arrays.next }
-    {
-        assignment_laws();
-        numbering_laws();
-        self.engine.assign(id, values);
+        Ok(self.engine.view(parent, trans)?)
     }
 
     /// Binds a name to an array, with `TooManyNames` where it is new and 512 are bound.

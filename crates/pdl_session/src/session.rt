@@ -6,13 +6,14 @@ ghost use Rattle.pdl_machine.specs.Step.{step};
 ghost use Rattle.pdl_session.specs.Scope.{no_steps};
 ghost use Rattle.pdl_session.specs.Answers.{IsFault, IfScript, Prints};
 
-use crate::built::is_statement_built;
 use crate::fault::StepFault;
 use crate::scope::Scope;
-use pdl_machine::{Fault, numbering_laws};
+use pdl_buf::Steps;
+use pdl_machine::numbering_laws;
 use pdl_syntax::Statement;
 use std::alloc::Global;
 use std::marker::Model;
+use std::sync::ledger::Ledger;
 
 /// The names and arrays of a script, between two statements. It is seen as the state of the eager
 /// machine, which is the names with the arrays that they reach, numbered anew; and as how many calls
@@ -45,8 +46,13 @@ impl Session {
 
     /// Runs one statement, and adds the text that it prints to `out`. `Script` names the fault of the
     /// statement, and leaves the state and `out` as they were. After `NoMemory` the session may only
-    /// be dropped. Each call is counted, a refused one too.
-    pub fn step(&mut self, statement: &Statement, out: &mut Vec<u8>) -> Result<(), StepFault>
+    /// be dropped. Each call is counted, a refused one too. `steps` counts the elements that are moved.
+    pub fn step<L: Ledger>(
+        &mut self,
+        statement: &Statement,
+        out: &mut Vec<u8>,
+        steps: &mut Steps<L>,
+    ) -> Result<(), StepFault>
         requires { IsWellMade (statement_of statement.now) }
         ensures ok { let wanted = step self.old.state (statement_of statement.now) in
             OnOk result (Prints wanted self.new.state out.old.items out.new.items) }
@@ -58,10 +64,7 @@ impl Session {
         numbering_laws();
         self.steps = self.steps.saturating_add(1);
         self.scope.whole();
-        if !is_statement_built(statement) {
-            return Err(StepFault::Script(Fault::Syntax));
-        }
-        let ran = self.scope.run(statement, out);
+        let ran = self.scope.run(statement, out, steps);
         self.scope.whole();
         ran
     }

@@ -1,23 +1,26 @@
 -- What holds of all sizes, positions and places.
-use Rattle.std.specs.Prelude.{◌≡◌, ◌⊎◌, ℕ, ℤ, pos, ◌<◌, ◌≤◌, List, length, get_or, All, Option, Some, None, IfSome}
+use Rattle.std.specs.Prelude.{◌≡◌, ◌⊎◌, ℕ, ℤ, pos, ◌/◌, ◌<◌, ◌≤◌, List, ◌∷◌, length, get_or, drop, All, Option, Some, None, IfSome}
 use Rattle.std.specs.List.{Contains}
 use Rattle.pdl_shape.specs.Broadcast.{BroadcastsTo, cut_to}
 use Rattle.pdl_shape.specs.Shape.{extent, size_of, IsWithin, position_of, coordinates_of}
 use Rattle.pdl_shape.specs.Triple.{place_of, whole}
 use Rattle.pdl_shape.specs.Places.{AllBelow, places_of, write}
 
--- Coordinates and positions are inverse to each other, and both stay within the sizes.
+-- Coordinates and positions are inverse to each other, and both stay within the sizes. What is left of a position
+-- past the first dimension is a position of the rest.
 pub record PositionLaws : Type 0 where
   pub coordinates_within : (ds : List ℕ) (p : ℕ) → p < size_of ds → IsWithin ds (coordinates_of ds p)
   pub position_below : (ds cs : List ℕ) → IsWithin ds cs → position_of ds cs < size_of ds
   pub position_again : (ds : List ℕ) (p : ℕ) → p < size_of ds → position_of ds (coordinates_of ds p) ≡ p
   pub coordinates_again : (ds cs : List ℕ) → IsWithin ds cs → coordinates_of ds (position_of ds cs) ≡ cs
   pub as_many : (ds cs : List ℕ) → IsWithin ds cs → length cs ≡ length ds
+  pub quotient_below : (d : ℕ) (ds : List ℕ) (p : ℕ) → p < size_of (d ∷ ds) → (0 < d) × (p / d < size_of ds)
 
--- There are at most as many elements as the extent, which isn't 0.
+-- There are at most as many elements as the extent, which isn't 0; the dimensions from one on have no greater extent.
 pub record SizeLaws : Type 0 where
   pub size_within : (ds : List ℕ) → size_of ds ≤ extent ds
   pub extent_above : (ds : List ℕ) → 0 < extent ds
+  pub rest_within : (ds : List ℕ) (i : ℕ) → extent (drop i ds) ≤ extent ds
 
 -- What a stretched argument uses of coordinates lies within it.
 abbrev pub CutsWithin : Type 0

@@ -1,5 +1,5 @@
 //! The call that runs a script.
-ghost use Rattle.std.specs.Prelude.{◌≡◌, ◌≢◌, ℕ, ◌+◌, List, drop, map, Bool, true, Some, None, IfSome, OnOk, OnErr};
+ghost use Rattle.std.specs.Prelude.{◌≡◌, ◌≢◌, ℕ, ◌+◌, ◌<◌, List, drop, map, Bool, true, Some, None, IfSome, OnOk, OnErr};
 ghost use Rattle.std.specs.Io.KnownBytes.{Appends, IsAtEnd};
 ghost use Rattle.std.specs.String.{string_bytes};
 ghost use Rattle.pdl_io.specs.Counts.{HasCause};
@@ -15,20 +15,27 @@ use crate::runner::Runner;
 use crate::status::Status;
 use crate::stop::{Stop, status_after};
 use crate::words::{Command, read_words};
+use pdl_buf::new_steps;
 use pdl_io::{Failed, Sink, Source, write_all};
 use pdl_machine::run_laws;
 use std::alloc::Global;
+use std::marker::Brand;
+use std::sync::ledger::{Blank, Ledger};
 
 // What is written where the words are no spelling of the command.
 const USAGE_LINE: &[u8] = b"usage: pdl [--keep-going] [--generate N]\n";
 
 // Runs a script of which these are all the bytes, or all up to and with the one past the limit.
-fn run_bytes<K: Sink>(
+fn run_bytes<K: Sink, L: Ledger>(
     alloc: Global,
     keep_going: bool,
     script: &[u8],
     sink: &mut K,
+    blank: Blank,
 ) -> Result<bool, Stop>
+    requires name { blank.name ≡ L.name }
+    requires parts { blank.parts ≡ L.parts }
+    requires some { 0 < blank.parts }
     ensures writes { Writes result (run keep_going script.now) (K.taken sink.old) (K.taken sink.new) }
     ensures flushed { OnOk result (Says (K.is_flushed sink.new) true) }
     ensures tells { KeepsTelling (K.is_flushed sink.old) (K.is_flushed sink.new) }
@@ -36,8 +43,9 @@ fn run_bytes<K: Sink>(
 {
     let within = script.len().min(SCRIPT_LIMIT);
     let mut runner = Runner::new(alloc, keep_going);
-    runner.take(&script[..within], sink)?;
-    runner.finish(script.len() > SCRIPT_LIMIT, sink)
+    let mut steps = new_steps::<L>(blank);
+    runner.take(&script[..within], sink, &mut steps)?;
+    runner.finish(script.len() > SCRIPT_LIMIT, sink, &mut steps)
 }
 
 // Reads the source's script, and runs it.
@@ -62,7 +70,10 @@ fn run_script<S: Source, K: Sink>(
 {
     run_laws();
     match read_script(alloc, source) {
-        Ok(script) => status_after(run_bytes(alloc, keep_going, &script, sink)),
+        Ok(script) => {
+            let ran = run_bytes::<K, Brand>(alloc, keep_going, &script, sink, Blank::new(1));
+            status_after(ran)
+        }
         Err(stop) => status_after(Err(stop)),
     }
 }

@@ -3,11 +3,13 @@ use crate::mark::Mark;
 use crate::output::{flush, write_text};
 use crate::statement::{push_fault_line, run_mark};
 use crate::stop::{Stop, Unrun};
+use pdl_buf::Steps;
 use pdl_io::Sink;
 use pdl_lex::StatementCutter;
 use pdl_machine::run_laws;
 use pdl_session::Session;
 use std::alloc::Global;
+use std::sync::ledger::Ledger;
 
 // A run on its way.
 #[derive(Drop)]
@@ -55,7 +57,7 @@ impl Runner {
     }
 
     // Runs a statement, and leaves in `text` what it prints, or the line of its fault.
-    fn answer(&mut self, mark: &Mark) -> Result<(), Stop>
+    fn answer<L: Ledger>(&mut self, mark: &Mark, steps: &mut Steps<L>) -> Result<(), Stop>
         ensures cutter { self.new.cutter ≡ self.old.cutter }
         ensures step { OnOk result ((printed : List ℕ) →
             after_mark self.old.keep_going (progress self.old printed) (mark_of mark.now)
@@ -64,7 +66,7 @@ impl Runner {
         ensures text { OnOk result (self.new.text.items ≡ mark_text self.old.session.state (mark_of mark.now)) }
         ensures stop { OnErr result (result ≡ Err Stop.NoMemory) }
     {
-        match run_mark(self.alloc, &mut self.session, mark, &mut self.text) {
+        match run_mark(self.alloc, &mut self.session, mark, &mut self.text, steps) {
             Ok(()) => Ok(()),
             Err(Unrun::Faulted(fault)) => {
                 push_fault_line(self.alloc, &mut self.text, mark.line(), fault)?;
@@ -77,7 +79,12 @@ impl Runner {
     }
 
     // Runs a statement, and writes what it prints, or the line of its fault.
-    fn run<K: Sink>(&mut self, mark: &Mark, sink: &mut K) -> Result<(), Stop>
+    fn run<K: Sink, L: Ledger>(
+        &mut self,
+        mark: &Mark,
+        sink: &mut K,
+        steps: &mut Steps<L>,
+    ) -> Result<(), Stop>
         ensures cutter { self.new.cutter ≡ self.old.cutter }
         ensures keep { self.new.keep_going ≡ self.old.keep_going }
         ensures step { OnOk result ((printed : List ℕ) →
@@ -90,13 +97,18 @@ impl Runner {
         ensures tells { KeepsTelling (K.is_flushed sink.old) (K.is_flushed sink.new) }
         ensures cause { HasSinkCause (K.faults sink.old) (K.faults sink.new) result }
     {
-        self.answer(mark)?;
+        self.answer(mark, steps)?;
         write_text(sink, &self.text)
     }
 
     // Feeds bytes to the cutter once, runs the piece that they complete, if any, and answers how many
     // bytes were taken.
-    fn round<K: Sink>(&mut self, bytes: &[u8], sink: &mut K) -> Result<usize, Stop>
+    fn round<K: Sink, L: Ledger>(
+        &mut self,
+        bytes: &[u8],
+        sink: &mut K,
+        steps: &mut Steps<L>,
+    ) -> Result<usize, Stop>
         requires running { self.old.ended ≡ false }
         requires room { self.old.cutter.taken + length bytes.now < 2 ^ 63 }
         requires some { 0 < length bytes.now }
@@ -114,14 +126,19 @@ impl Runner {
         match fed.cut {
             None => Ok(used),
             Some(piece) => {
-                self.run(&Mark::Statement(piece), sink)?;
+                self.run(&Mark::Statement(piece), sink, steps)?;
                 Ok(used)
             }
         }
     }
 
     // Takes bytes of the script, and runs each statement that they complete, until a fault ends the run.
-    pub(crate) fn take<K: Sink>(&mut self, bytes: &[u8], sink: &mut K) -> Result<(), Stop>
+    pub(crate) fn take<K: Sink, L: Ledger>(
+        &mut self,
+        bytes: &[u8],
+        sink: &mut K,
+        steps: &mut Steps<L>,
+    ) -> Result<(), Stop>
         requires works { self.old.cutter.failed ≡ false }
         requires room { self.old.cutter.taken + length bytes.now < 2 ^ 63 }
         ensures carries { OnOk result (Carries bytes.now self.old (K.taken sink.old) [] self.new (K.taken sink.new)) }
@@ -132,7 +149,7 @@ impl Runner {
     {
         let mut used = 0;
         'taking: while used < bytes.len() && !self.ended {
-            used += self.round(&bytes[used..], sink)?;
+            used += self.round(&bytes[used..], sink, steps)?;
         }
         run_laws();
         Ok(())
@@ -157,7 +174,12 @@ impl Runner {
     }
 
     // Runs what is left where no bytes are.
-    fn run_last<K: Sink>(&mut self, is_cut: bool, sink: &mut K) -> Result<(), Stop>
+    fn run_last<K: Sink, L: Ledger>(
+        &mut self,
+        is_cut: bool,
+        sink: &mut K,
+        steps: &mut Steps<L>,
+    ) -> Result<(), Stop>
         requires { self.old.cutter.failed ≡ false }
         ensures finishes { OnOk result (Finishes is_cut self.old (K.taken sink.old) self.new.faulted (K.taken sink.new)) }
         ensures stops { OnErr result (FinishesShort is_cut self.old (K.taken sink.old) (K.taken sink.new)) }
@@ -170,12 +192,17 @@ impl Runner {
         }
         match self.last(is_cut) {
             None => Ok(()),
-            Some(mark) => self.run(&mark, sink),
+            Some(mark) => self.run(&mark, sink, steps),
         }
     }
 
     // Ends the run: runs what is left, flushes the sink, and answers whether a statement faulted.
-    pub(crate) fn finish<K: Sink>(mut self, is_cut: bool, sink: &mut K) -> Result<bool, Stop>
+    pub(crate) fn finish<K: Sink, L: Ledger>(
+        mut self,
+        is_cut: bool,
+        sink: &mut K,
+        steps: &mut Steps<L>,
+    ) -> Result<bool, Stop>
         requires { self.cutter.failed ≡ false }
         ensures finishes { IfOk result (λ faulted. Finishes is_cut self (K.taken sink.old) faulted (K.taken sink.new)) }
         ensures stops { OnErr result (FinishesShort is_cut self (K.taken sink.old) (K.taken sink.new)) }
@@ -183,7 +210,7 @@ impl Runner {
         ensures tells { KeepsTelling (K.is_flushed sink.old) (K.is_flushed sink.new) }
         ensures cause { HasSinkCause (K.faults sink.old) (K.faults sink.new) result }
     {
-        self.run_last(is_cut, sink)?;
+        self.run_last(is_cut, sink, steps)?;
         flush(sink)?;
         Ok(self.faulted)
     }

@@ -9,11 +9,13 @@ ghost use Rattle.pdl_shell.specs.Unrun.{IsFaultOf, IfFaulted};
 
 use crate::mark::Mark;
 use crate::stop::Unrun;
+use pdl_buf::Steps;
 use pdl_lex::{Piece, tokens};
 use pdl_machine::{Fault, fault_text, reads_law};
 use pdl_session::Session;
 use pdl_syntax::{Statement, parse};
 use std::alloc::{AllocError, Global};
+use std::sync::ledger::Ledger;
 
 // The statement that a text is, or why it is none.
 fn read(alloc: Global, text: &[u8]) -> Result<Statement, Unrun>
@@ -29,11 +31,12 @@ fn read(alloc: Global, text: &[u8]) -> Result<Statement, Unrun>
 }
 
 // Runs the statement of a text, and puts what it prints into `out`.
-fn run_text(
+fn run_text<L: Ledger>(
     alloc: Global,
     session: &mut Session,
     text: &[u8],
     out: &mut Vec<u8>,
+    steps: &mut Steps<L>,
 ) -> Result<(), Unrun>
     requires within { length text.now ≤ statement_limit }
     requires empty { out.old.items ≡ [] }
@@ -43,16 +46,17 @@ fn run_text(
     ensures unprinted { IfErr result (λ e. IfFaulted e (out.new.items ≡ [])) }
 {
     let statement = read(alloc, text)?;
-    session.step(&statement, out)?;
+    session.step(&statement, out, steps)?;
     Ok(())
 }
 
 // Runs a statement of the script, and leaves in `out` what it prints: nothing where it wasn't run.
-pub(crate) fn run_mark(
+pub(crate) fn run_mark<L: Ledger>(
     alloc: Global,
     session: &mut Session,
     mark: &Mark,
     out: &mut Vec<u8>,
+    steps: &mut Steps<L>,
 ) -> Result<(), Unrun>
     ensures ok { OnOk result (mark_step session.old.state (mark_of mark.now) ≡ Ok (session.new.state, out.new.items)) }
     ensures fault { IfErr result (IsFaultOf (mark_step session.old.state (mark_of mark.now))) }
@@ -61,7 +65,13 @@ pub(crate) fn run_mark(
 {
     out.clear();
     match mark {
-        Mark::Statement(Piece::Whole(cut)) => run_text(alloc, session, cut.text.bytes(), out),
+        Mark::Statement(Piece::Whole(cut)) => run_text(
+            alloc,
+            session,
+            cut.text.bytes(),
+            out,
+            steps,
+        ),
         Mark::Statement(Piece::TooLong { .. }) => Err(Unrun::Faulted(Fault::StatementTooLong)),
         Mark::ScriptTooLong(_) => Err(Unrun::Faulted(Fault::ScriptTooLong)),
     }

@@ -1,4 +1,5 @@
 pub mod Looks
 pub mod Roots
-pub mod Writes
 pub mod Proved
+pub mod Newest
+pub mod Sweeps

@@ -1,17 +1,14 @@
 -- What is seen in a world: by its newest array, and by the older ones.
-use Rattle.std.proofs.Common.{◌≡◌, ℕ, suc, ℤ, ◌<◌, ◌≤◌, true, false, eqb, cond, List, [], ◌∷◌, length, Option, Some, None, option_and_then, Result, Ok, Err, ◌⊎◌, inl, inr, refl, ap, subst, arith}
+use Rattle.std.proofs.Common.{◌≡◌, ℕ, ℤ, ◌<◌, ◌≤◌, eqb, cond, List, [], ◌∷◌, Option, Some, None, option_and_then, IsSomeAnd, Result, Ok, Err, ◌⊎◌, inl, inr, refl, ap, ◌∙◌, subst, arith}
+use Rattle.std.proofs.lemmas.Bool.{cases_lt, ne_eqb}
 use Rattle.std.proofs.lemmas.Bool.Decides.{eqb_tells}
 use Rattle.pdl_elem.specs.declared.Ty.{Ty}
 use Rattle.pdl_world.specs.declared.Trans.{Trans}
-use Rattle.pdl_world.specs.Formula.{Refusal, child_dims}
+use Rattle.pdl_shape.specs.Refusals.{Refusal}
+use Rattle.pdl_world.specs.Formula.{child_dims}
 use Rattle.pdl_world.specs.World.{World, ArrayDef, root, view, Look, whole, look, through, seen_through, set_elements}
-use Rattle.pdl_world.specs.Sound.{AllBelow}
-
-pub same : (k v : ℕ) → k ≡ v → eqb k v ≡ true
-same k v h = elim (eqb_tells k v) [ inl t ↦ t.0 | inr t ↦ absurd (t.1 h) ]
-
-pub differ : (k v : ℕ) → (k ≡ v → ⊥) → eqb k v ≡ false
-differ k v h = elim (eqb_tells k v) [ inl t ↦ absurd (h t.1) | inr t ↦ t.0 ]
+use Rattle.pdl_world.specs.Sound.{NumbersBelow, IsLive}
+use Rattle.pdl_world.specs.Paths.{path}
 
 -- the parent's look, through which a view is seen
 pub record IsShown (w : World) (p : ℕ) (t : Trans) (l : Look) : Type 0 where
@@ -50,22 +47,34 @@ look_view k p t w v l h = elim (eqb_tells k v) [
 ]
 
 -- nothing is seen through a number that no array has
-pub look_past : (w : World) (n v : ℕ) → AllBelow n w → n ≤ v → look w v ≡ None
+pub look_past : (w : World) (n v : ℕ) → NumbersBelow n w → n ≤ v → look w v ≡ None
 look_past [] n v b h = refl
-look_past ((k, root ty ds es) ∷ w) n v b h = rw (differ k v (omega arith)) (look_past w n v b.1 h)
-look_past ((k, view p t) ∷ w) n v b h = rw (differ k v (omega arith)) (look_past w n v b.1 h)
+look_past ((k, root ty ds es) ∷ w) n v b h = rw (ne_eqb k v (omega arith)) (look_past w n v b.1 h)
+look_past ((k, view p t) ∷ w) n v b h = rw (ne_eqb k v (omega arith)) (look_past w n v b.1 h)
 
 -- an older array is seen as before a newer one came
 pub look_older : (k : ℕ) (d : ArrayDef) (w : World) (v : ℕ) → (k ≡ v → ⊥) → look ((k, d) ∷ w) v ≡ look w v
-look_older k (root ty ds es) w v h = rw (differ k v h) refl
-look_older k (view p t) w v h = rw (differ k v h) refl
+look_older k (root ty ds es) w v h = rw (ne_eqb k v h) refl
+look_older k (view p t) w v h = rw (ne_eqb k v h) refl
 
-pub below_more : (w : World) (m n : ℕ) → m ≤ n → AllBelow m w → AllBelow n w
+-- and so is its path
+pub path_older : (k : ℕ) (d : ArrayDef) (w : World) (v : ℕ) → (k ≡ v → ⊥) → path ((k, d) ∷ w) v ≡ path w v
+path_older k (root ty ds es) w v h = rw (ne_eqb k v h) refl
+path_older k (view p t) w v h = rw (ne_eqb k v h) refl
+
+-- a live array's number is below one that is above all
+pub live_below : (w : World) (n v : ℕ) → NumbersBelow n w → IsLive w v → v < n
+live_below w n v b l = elim (cases_lt v n) [
+  | inl low ↦ low
+  | inr past ↦ (let P : Option Look → Type 0 = λ o. IsSomeAnd o (λ m. Unit {0}) in absurd (subst P (look_past w n v b past) l))
+]
+
+pub below_more : (w : World) (m n : ℕ) → m ≤ n → NumbersBelow m w → NumbersBelow n w
 below_more [] m n h b = tt
 below_more ((k, d) ∷ w) m n h b = (omega arith, below_more w m n h b.1)
 
 -- the root of what is seen is in the world
-pub root_below : (w : World) (n v : ℕ) (l : Look) → AllBelow n w → look w v ≡ Some l → l.root < n
+pub root_below : (w : World) (n v : ℕ) (l : Look) → NumbersBelow n w → look w v ≡ Some l → l.root < n
 root_below [] n v l b h = cc
 root_below ((k, root ty ds es) ∷ w) n v l b h = elim (look_root k ty ds es w v l h) [
   | inl e ↦ (let P : Look → Type 0 = λ m. m.root < n in subst P e.1 b.0)
@@ -83,18 +92,19 @@ look_set [] r new v = refl
 look_set ((k, root ty ds es) ∷ w) r new v = ap (λ o. cond (eqb k v) (Some (whole k ty ds)) o) (look_set w r new v)
 look_set ((k, view p t) ∷ w) r new v = ap (λ o. cond (eqb k v) (option_and_then (through t) o) o) (look_set w r new (cond (eqb k v) p v))
 
-pub length_set_elements : (w : World) (r : ℕ) (new : List ℤ) → length (set_elements w r new) ≡ length w
-length_set_elements [] r new = refl
-length_set_elements ((k, root ty ds es) ∷ w) r new = ap (λ n. suc n) (length_set_elements w r new)
-length_set_elements ((k, view p t) ∷ w) r new = ap (λ n. suc n) (length_set_elements w r new)
-
-pub below_set : (w : World) (n r : ℕ) (new : List ℤ) → AllBelow n w → AllBelow n (set_elements w r new)
+pub below_set : (w : World) (n r : ℕ) (new : List ℤ) → NumbersBelow n w → NumbersBelow n (set_elements w r new)
 below_set [] n r new b = tt
 below_set ((k, root ty ds es) ∷ w) n r new b = (b.0, below_set w n r new b.1)
 below_set ((k, view p t) ∷ w) n r new b = (b.0, below_set w n r new b.1)
 
 -- elements of a number that no array has change nothing
-pub set_past : (w : World) (n r : ℕ) (new : List ℤ) → AllBelow n w → n ≤ r → set_elements w r new ≡ w
+pub set_past : (w : World) (n r : ℕ) (new : List ℤ) → NumbersBelow n w → n ≤ r → set_elements w r new ≡ w
 set_past [] n r new b h = refl
-set_past ((k, root ty ds es) ∷ w) n r new b h = rw (differ k r (omega arith), set_past w n r new b.1 h) refl
+set_past ((k, root ty ds es) ∷ w) n r new b h = rw (ne_eqb k r (omega arith), set_past w n r new b.1 h) refl
 set_past ((k, view p t) ∷ w) n r new b h = rw (set_past w n r new b.1 h) refl
+
+-- they change no path
+pub path_set : (w : World) (r : ℕ) (new : List ℤ) (v : ℕ) → path (set_elements w r new) v ≡ path w v
+path_set [] r new v = refl
+path_set ((k, root ty ds es) ∷ w) r new v = ap (λ o. cond (eqb k v) (k ∷ []) o) (path_set w r new v)
+path_set ((k, view p t) ∷ w) r new v = ap (λ o. cond (eqb k v) (k ∷ o) (path (set_elements w r new) v)) (path_set w r new p) ∙ ap (λ o. cond (eqb k v) (k ∷ path w p) o) (path_set w r new v)

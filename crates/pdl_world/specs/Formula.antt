@@ -1,47 +1,33 @@
--- The view formulas: for each transformation the child's dimensions, or why there is no such view,
--- and the parent's coordinates for the child's. No line has an offset or an increment.
-use Rattle.std.specs.Prelude.{ℕ, ℤ, pos, negsuc, suc, ◌+◌, ◌-◌, nat_lt, nat_le, if◌then◌else◌, List, [], ◌∷◌, slice_index, Option, Some, None, option_map, Result, Ok, Err}
+-- The view formulas, one case for each transformation: the child's dimensions over a parent's, or the first
+-- refusal, and the parent's coordinates for the child's (PDL::Slices).
+use Rattle.std.specs.Prelude.{ℕ, Bool, ◌==◌, List, length, Option, Some, Result}
+use Rattle.pdl_shape.specs.Refusals.{Refusal}
+use Rattle.pdl_shape.specs.Shape.{size_of}
+use Rattle.pdl_affine.specs.Views as affine
+use Rattle.pdl_choice.specs.Index.{index_dims, index_source}
+use Rattle.pdl_choice.specs.Range.{range_dims, range_source}
+use Rattle.pdl_choice.specs.Where.{rises, where_dims, where_source}
 use Rattle.pdl_world.specs.declared.Trans.{Trans}
-use Rattle.pdl_world.specs.declared.Trans.TheVariants.{Span}
+use Rattle.pdl_world.specs.declared.Trans.TheVariants.{Affine, Index, Where, Range}
 
--- Why a view is refused. Where several hold, it is the one that stands first here.
-pub data Refusal : Type 0 where
-  bad_dimension : Refusal
-  out_of_range : Refusal
+-- the child's dimensions over a parent of these dimensions, or the first refusal
+abbrev pub child_dims : Trans → (parent : List ℕ) → Result (List ℕ) Refusal
+child_dims (Affine t) parent = affine.dims t parent
+child_dims (Index dims ind) parent = index_dims parent dims ind
+child_dims (Where dims places) parent = where_dims parent dims places
+child_dims (Range dims ind sizes edge) parent = range_dims parent dims ind sizes edge
 
--- the element that a number names in a dimension of size n: one below 0 counts from the end (PDL::Slices)
-abbrev pub counted : ℕ → ℤ → Option ℕ
-counted n (pos k) = if nat_lt k n then Some k else None
-counted n (negsuc k) = if nat_lt k n then Some (n - suc k) else None
+-- the parent's coordinates for the child's, or nothing beyond an edge that reads 0
+abbrev pub source : Trans → (parent at : List ℕ) → Option (List ℕ)
+source (Affine t) parent at = Some (affine.source t parent at)
+source (Index dims ind) parent at = Some (index_source parent dims ind at)
+source (Where dims places) parent at = Some (where_source parent places at)
+source (Range dims ind sizes edge) parent at = range_source parent dims ind sizes edge at
 
-abbrev pub both : Option ℕ → Option ℕ → Option (ℕ × ℕ)
-both (Some a) (Some b) = Some (a, b)
-both (Some a) None = None
-both None b = None
-
--- the first and the last element of a span in a dimension of size n, or nothing where one is outside
-abbrev pub ends : ℕ → ℤ → ℤ → Option (ℕ × ℕ)
-ends n from to = both (counted n from) (counted n to)
-
--- how many elements there are from a to b, both included
-abbrev pub span_length : ℕ → ℕ → ℕ
-span_length a b = (if nat_le a b then b - a else a - b) + 1
-
--- the element that is c steps on the way from a to b
-abbrev pub span_element : ℕ → ℕ → ℕ → ℕ
-span_element a b c = if nat_le a b then a + c else a - c
-
-abbrev pub span_dims : Option (ℕ × ℕ) → Result (List ℕ) Refusal
-span_dims None = Err out_of_range
-span_dims (Some (a, b)) = Ok (span_length a b ∷ [])
-
--- the child's dimensions over a parent of these dimensions, or the refusal
-abbrev pub child_dims : Trans → List ℕ → Result (List ℕ) Refusal
-child_dims (Span from to) [] = Err bad_dimension
-child_dims (Span from to) (n ∷ []) = span_dims (ends n from to)
-child_dims (Span from to) (n ∷ m ∷ ds) = Err bad_dimension
-
--- the parent's coordinates for the child's, or nothing where the parent has no such place
-abbrev pub source : Trans → List ℕ → List ℕ → Option (List ℕ)
-source (Span from to) ds cs =
-    option_map (λ (a, b). span_element a b (slice_index cs 0) ∷ []) (ends (slice_index ds 0) from to)
+-- a slice has no step 0 and a diagonal lists a dimension; there are as many index values as their dimensions say;
+-- listed places rise and lie below the size of their dimensions
+abbrev pub is_well_formed : Trans → Bool
+is_well_formed (Affine t) = affine.is_well_formed t
+is_well_formed (Index dims ind) = length ind == size_of dims
+is_well_formed (Where dims places) = rises 0 (size_of dims) places
+is_well_formed (Range dims ind sizes edge) = length ind == size_of dims

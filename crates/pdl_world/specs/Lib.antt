@@ -1,4 +1,9 @@
 pub mod Formula
 pub mod World
+pub mod Paths
+pub mod Refused
 pub mod Sound
+pub mod Swept
 pub mod Laws
+pub mod SweepLaws
+pub mod Windows

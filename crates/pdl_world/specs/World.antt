@@ -1,13 +1,14 @@
 -- Worlds: what is seen through an array, its elements, and assignment (PDL::Indexing, PDL::Dataflow).
-use Rattle.std.specs.Prelude.{ℕ, ℤ, pos, ◌==◌, if◌then◌else◌, List, [], ◌∷◌, map, Option, Some, None, option_map, option_and_then, Result, Ok, Err, slice_set}
+use Rattle.std.specs.Prelude.{ℕ, ℤ, ◌==◌, if◌then◌else◌, List, [], ◌∷◌, map, Option, Some, None, option_and_then, get_or, Result, Ok, Err}
 use Rattle.std.specs.Option.{option_map_or}
 use Rattle.std.specs.List.{range_with_len}
-use Rattle.std.proofs.Common.{get_or}
 use Rattle.pdl_elem.specs.declared.Ty.{Ty}
 use Rattle.pdl_elem.specs.declared.Ty.TheVariants.{Byte}
-use Rattle.pdl_shape.specs.Shape.{size_of, position_of, coordinates_of}
+use Rattle.pdl_shape.specs.Places.{places_of, read, write}
+use Rattle.pdl_shape.specs.Refusals.{Refusal}
+use Rattle.pdl_shape.specs.Shape.{size_of}
 use Rattle.pdl_world.specs.declared.Trans.{Trans}
-use Rattle.pdl_world.specs.Formula.{Refusal, child_dims, source}
+use Rattle.pdl_world.specs.Formula.{child_dims, source}
 
 -- An array: a root with its elements in the order of positions, or a view of another array.
 pub data ArrayDef : Type 0 where
@@ -30,21 +31,18 @@ pub record Look : Type 0 where
 abbrev pub whole : ℕ → Ty → List ℕ → Look
 whole k ty ds = record { root = k; ty = ty; dims = ds; places = map Some (range_with_len 0 (size_of ds)) }
 
--- the parent's position for a position of the child, or nothing
-abbrev pub parent_place : Trans → List ℕ → List ℕ → ℕ → Option ℕ
-parent_place t parent_dims dims p = option_map (position_of parent_dims) (source t parent_dims (coordinates_of dims p))
-
--- the root's place at a position of the parent
+-- the root's place at a position of the parent, or nothing
 abbrev pub entry : List (Option ℕ) → ℕ → Option ℕ
 entry ps i = get_or ps i None
 
--- the child's places, which it takes through its parent
-abbrev pub places_through : Trans → Look → List ℕ → List (Option ℕ)
-places_through t l dims =
-    map (λ p. option_and_then (entry l.places) (parent_place t l.dims dims p)) (range_with_len 0 (size_of dims))
+-- the root's places of a child that has these positions of its parent
+abbrev pub through_places : (positions parent_places : List (Option ℕ)) → List (Option ℕ)
+through_places is ps = map (option_and_then (entry ps)) is
 
 abbrev pub seen_through : Trans → Look → Result (List ℕ) Refusal → Option Look
-seen_through t l (Ok dims) = Some (record { root = l.root; ty = l.ty; dims = dims; places = places_through t l dims })
+seen_through t l (Ok dims) =
+    let places = through_places (places_of dims l.dims (source t l.dims)) l.places in
+    Some (record { root = l.root; ty = l.ty; dims = dims; places = places })
 seen_through t l (Err e) = None
 
 -- what is seen through a view of what is seen
@@ -70,23 +68,6 @@ abbrev pub set_elements : World → ℕ → List ℤ → World
 set_elements [] r new = []
 set_elements ((k, root ty ds es) ∷ w) r new = (k, root ty ds (if k == r then new else es)) ∷ set_elements w r new
 set_elements ((k, view p t) ∷ w) r new = (k, view p t) ∷ set_elements w r new
-
--- the element at a place of the root, and 0 where there is none
-abbrev pub element_at : List ℤ → Option ℕ → ℤ
-element_at es None = pos 0
-element_at es (Some i) = get_or es i (pos 0)
-
--- the elements at places of the root
-abbrev pub read : List (Option ℕ) → List ℤ → List ℤ
-read ps es = map (element_at es) ps
-
--- the root's elements after each value was put at its place, in order: the last value of a repeated
--- place stays, and a value without a place is dropped
-abbrev pub write : List (Option ℕ) → List ℤ → List ℤ → List ℤ
-write [] vs es = es
-write (p ∷ ps) [] es = es
-write (None ∷ ps) (x ∷ vs) es = write ps vs es
-write (Some i ∷ ps) (x ∷ vs) es = write ps vs (slice_set es i x)
 
 -- the dimensions of an array
 abbrev pub dims_in : World → ℕ → List ℕ

@@ -6,33 +6,89 @@
 //! changes. The calls do nothing when they run: their contracts are laws of every world.
 #![tactic(auto)]
 
-ghost use Rattle.pdl_world.specs.Laws.{LooksStay, LastStays, OthersStay, ReadsBack, PlacesLieWithin, AssignsSoundly, JoinsSoundly, OlderStay, NewIsLive};
+ghost use Rattle.pdl_world.specs.Laws.{LooksStay, PathsStay, NumbersStay, Reads, ReadsBack, AssignsSoundly};
+ghost use Rattle.pdl_world.specs.Laws.{PlacesLieWithin, RootsAreInRange, LiveLieBelow, OlderStay, OlderElementsStay, OlderPathsStay, JoinsSoundly};
+ghost use Rattle.pdl_world.specs.Laws.{NewIsLive, NewRootIsSeen, NewRootIsWhole, NewRootHasPath, NewViewIsSeen, NewViewHasPath};
+ghost use Rattle.pdl_world.specs.SweepLaws.{KeptWereReached, ReachedAreKept, HeldAreKept, ReachedAreSeenAsBefore, SweepsSoundly, NoNumberComes, NewGoesUnheld};
+
+use pdl_affine::{Affine, Numbers};
+use pdl_choice::{Edge, Positions};
+use pdl_shape::{Dims, shape_laws};
 
 /// How a view shows its parent.
-#[derive(Clone, Copy, PartialEq, Eq, Debug)]
+#[derive(Debug, Drop)]
 pub enum Trans {
-    /// The elements from `from` to `to` of the one dimension, both included. A number below 0 counts
-    /// from the end. Where `to` stands before `from` the elements come in falling order
-    /// (PDL::Slices).
-    Span { from: i32, to: i32 },
+    /// By an affine view.
+    Affine(Affine),
+    /// The parent's first dimension looked up by index values of these dimensions.
+    Index {
+        dims: Dims,
+        ind: Numbers,
+    },
+    /// The listed positions of a parent of these dimensions, rising.
+    Where {
+        dims: Dims,
+        places: Positions,
+    },
+    /// A window of these sizes at each corner that the index values of these dimensions list.
+    Range {
+        dims: Dims,
+        ind: Numbers,
+        sizes: Numbers,
+        edge: Edge,
+    },
 }
 
-/// The laws of assignment (PDL::Dataflow). It changes no look, the last value of a repeated place
-/// stays, elements that are not written stay, and an array without repeats reads back what was
+/// The laws of assignment (PDL::Dataflow). It changes no look, no path and no number. The elements
+/// of any array afterwards are read from its root, with the values put at the places of the array
+/// that was assigned where the two have one root; so an array without repeats reads back what was
 /// assigned. The world stays sound where the values are numbers of the array's type.
 pub fn assignment_laws()
     ensures looks { LooksStay }
-    ensures last { LastStays }
-    ensures others { OthersStay }
+    ensures paths { PathsStay }
+    ensures numbers { NumbersStay }
+    ensures reads { Reads }
     ensures back { ReadsBack }
     ensures sound { AssignsSoundly }
-{}
+{
+    shape_laws()
+}
 
-/// The laws of a sound world that grows: each place is one of an element of the root, a new array
-/// that is allowed is live, older ones are seen as before, and the world stays sound.
+/// The laws of a world that grows. In a sound world each place is one of an element of the root,
+/// and these are numbers of its type. A new array that is allowed is live and leaves the world
+/// sound; older ones have the look, the elements and the path that they had, and lower numbers.
 pub fn growth_laws()
     ensures within { PlacesLieWithin }
+    ensures in_range { RootsAreInRange }
+    ensures below { LiveLieBelow }
     ensures live { NewIsLive }
     ensures older { OlderStay }
+    ensures older_elements { OlderElementsStay }
+    ensures older_paths { OlderPathsStay }
     ensures sound { JoinsSoundly }
+{}
+
+/// What new arrays show. A root shows its own elements, and each of its positions is its own place;
+/// a view has at each position its parent's element at the source of the position, or 0 where the
+/// source is nothing. The path of a new array is the array itself, and then its parent's path.
+pub fn newest_laws()
+    ensures root_seen { NewRootIsSeen }
+    ensures root_whole { NewRootIsWhole }
+    ensures root_path { NewRootHasPath }
+    ensures view_seen { NewViewIsSeen }
+    ensures view_path { NewViewHasPath }
+{}
+
+/// The laws of a sweep. What it keeps was there and is reached from the held arrays; in a sound
+/// world it keeps all that is reached, and this has the look, the elements and the path that it
+/// had. What is held is kept, no number comes, a sound world stays sound, and a new array goes
+/// where only older ones are held.
+pub fn sweep_laws()
+    ensures kept { KeptWereReached }
+    ensures reached { ReachedAreKept }
+    ensures held { HeldAreKept }
+    ensures seen { ReachedAreSeenAsBefore }
+    ensures sound { SweepsSoundly }
+    ensures numbers { NoNumberComes }
+    ensures new { NewGoesUnheld }
 {}

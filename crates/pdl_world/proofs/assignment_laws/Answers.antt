@@ -1,18 +1,21 @@
-use Rattle.pdl_world.proofs.Writes.{write_last, write_other}
-use Rattle.pdl_world.proofs.Proved.{looks_stay, reads_back, assigns_soundly}
+use Rattle.pdl_world.proofs.Newest.{paths_stay, numbers_stay}
+use Rattle.pdl_world.proofs.Proved.{looks_stay, reads, reads_back, assigns_soundly}
 use Rattle.pdl_world.proofs.assignment_laws.Goals as goal
 
 pub returns-clause-looks : goal.returns-clause-looks
 returns-clause-looks c = looks_stay
 
-pub returns-clause-last : goal.returns-clause-last
-returns-clause-last c = write_last
+pub returns-clause-paths : goal.returns-clause-paths
+returns-clause-paths c = paths_stay
 
-pub returns-clause-others : goal.returns-clause-others
-returns-clause-others c = write_other
+pub returns-clause-numbers : goal.returns-clause-numbers
+returns-clause-numbers c = numbers_stay
+
+pub returns-clause-reads : goal.returns-clause-reads
+returns-clause-reads c = reads
 
 pub returns-clause-back : goal.returns-clause-back
-returns-clause-back c = reads_back
+returns-clause-back c = reads_back c.shape_laws.ensures.writes
 
 pub returns-clause-sound : goal.returns-clause-sound
-returns-clause-sound c = assigns_soundly
+returns-clause-sound c = assigns_soundly c.shape_laws.ensures.writes

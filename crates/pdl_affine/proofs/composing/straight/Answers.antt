@@ -14,7 +14,7 @@ pub counted_incs-incs-requires : goal.counted_incs-incs-requires
 counted_incs-incs-requires c =
     let made = composing (seen_form c.args.form.now) c.args.over.now c.args.dims.now c.over.inside.dims c.first_place-place.result c.courses_of-courses.result.items c.as_slice.result.now
     c.first_place-place.ensures.triple c.courses_of-courses.ensures (ap (λ t. t.dims) c.over.view_is) c.as_slice.ensures c.first_place-place.ensures.value c.requires.sized in
-    record { narrow = gathered_small _ _ _ _ _ c.as_slice-2.result.now made c.as_slice-2.ensures }
+    record { narrow = gathered_small c.shape_laws.ensures.positions _ _ _ _ _ c.as_slice-2.result.now made c.as_slice-2.ensures }
 
 pub offset-requires : goal.offset-requires
 offset-requires c =
@@ -22,14 +22,14 @@ offset-requires c =
     c.first_place-place.ensures.triple c.courses_of-courses.ensures (ap (λ t. t.dims) c.over.view_is) c.as_slice.ensures c.first_place-place.ensures.value c.requires.sized in
     let fits : SFits w128 c.first_place-place.result = search rules in
     λ some. subst IsPlace (sym (to_z-of_z w128 c.first_place-place.result fits))
-    (start_place _ _ c.args.dims.now c.first_place-place.result _ (composing_run _ _ _ _ _ c.as_slice-2.result.now made c.as_slice-2.ensures) some)
+    (start_place _ _ c.args.dims.now c.first_place-place.result _ (composing_run c.shape_laws.ensures.positions _ _ _ _ _ c.as_slice-2.result.now made c.as_slice-2.ensures) some)
 
 pub triple_of-requires : goal.triple_of-requires
 triple_of-requires c =
     let made = composing (seen_form c.args.form.now) c.args.over.now c.args.dims.now c.over.inside.dims c.first_place-place.result c.courses_of-courses.result.items c.as_slice.result.now
     c.first_place-place.ensures.triple c.courses_of-courses.ensures (ap (λ t. t.dims) c.over.view_is) c.as_slice.ensures c.first_place-place.ensures.value c.requires.sized in
     let fits : SFits w128 c.first_place-place.result = search rules in
-    made_triple _ _ c.args.dims.now c.first_place-place.result _ c.offset.result c.as_slice-3.result.now (composing_run _ _ _ _ _ c.as_slice-2.result.now made c.as_slice-2.ensures)
+    made_triple c.shape_laws.ensures.positions _ _ c.args.dims.now c.first_place-place.result _ c.offset.result c.as_slice-3.result.now (composing_run c.shape_laws.ensures.positions _ _ _ _ _ c.as_slice-2.result.now made c.as_slice-2.ensures)
     (c.offset.ensures ∙ ap (λ z. if size_of c.args.dims.now == 0 then 0 else nat_abs z) (to_z-of_z w128 c.first_place-place.result fits)) (c.as_slice-3.ensures ∙ c.counted_incs-incs.ensures)
 
 pub returns-clause-shown : goal.returns-clause-shown
@@ -38,7 +38,7 @@ returns-clause-shown c =
     c.first_place-place.ensures.triple c.courses_of-courses.ensures (ap (λ t. t.dims) c.over.view_is) c.as_slice.ensures c.first_place-place.ensures.value c.requires.sized in
     let fits : SFits w128 c.first_place-place.result = search rules in
     c.triple_of.ensures
-    ∙ made_shown _ _ c.args.dims.now c.first_place-place.result _ c.offset.result c.as_slice-3.result.now (composing_run _ _ _ _ _ c.as_slice-2.result.now made c.as_slice-2.ensures)
+    ∙ made_shown _ _ c.args.dims.now c.first_place-place.result _ c.offset.result c.as_slice-3.result.now (composing_run c.shape_laws.ensures.positions _ _ _ _ _ c.as_slice-2.result.now made c.as_slice-2.ensures)
     (c.offset.ensures ∙ ap (λ z. if size_of c.args.dims.now == 0 then 0 else nat_abs z) (to_z-of_z w128 c.first_place-place.result fits)) (c.as_slice-3.ensures ∙ c.counted_incs-incs.ensures)
 
 pub returns-clause-shows : goal.returns-clause-shows
@@ -48,7 +48,7 @@ returns-clause-shows c =
     let fits : SFits w128 c.first_place-place.result = search rules in
     let P : Triple → Type 0 = λ t. Shows t (form_place (seen_form c.args.form.now) c.args.over.now) in
     subst P (sym c.triple_of.ensures)
-    (made_shows _ _ c.args.dims.now c.first_place-place.result _ c.offset.result c.as_slice-3.result.now (composing_run _ _ _ _ _ c.as_slice-2.result.now made c.as_slice-2.ensures)
+    (made_shows c.shape_laws.ensures.positions _ _ c.args.dims.now c.first_place-place.result _ c.offset.result c.as_slice-3.result.now (composing_run c.shape_laws.ensures.positions _ _ _ _ _ c.as_slice-2.result.now made c.as_slice-2.ensures)
     (c.offset.ensures ∙ ap (λ z. if size_of c.args.dims.now == 0 then 0 else nat_abs z) (to_z-of_z w128 c.first_place-place.result fits)) (c.as_slice-3.ensures ∙ c.counted_incs-incs.ensures))
 
 pub returns-clause-inside : goal.returns-clause-inside
@@ -58,5 +58,5 @@ returns-clause-inside c =
     let fits : SFits w128 c.first_place-place.result = search rules in
     let P : Triple → Type 0 = λ t. LiesIn t c.args.over.now in
     subst P (sym c.triple_of.ensures)
-    (made_lies _ _ c.args.dims.now c.first_place-place.result _ c.offset.result c.as_slice-3.result.now (composing_run _ _ _ _ _ c.as_slice-2.result.now made c.as_slice-2.ensures)
+    (made_lies c.shape_laws.ensures.positions _ _ c.args.dims.now c.first_place-place.result _ c.offset.result c.as_slice-3.result.now (composing_run c.shape_laws.ensures.positions _ _ _ _ _ c.as_slice-2.result.now made c.as_slice-2.ensures)
     (c.offset.ensures ∙ ap (λ z. if size_of c.args.dims.now == 0 then 0 else nat_abs z) (to_z-of_z w128 c.first_place-place.result fits)) (c.as_slice-3.ensures ∙ c.counted_incs-incs.ensures))

@@ -12,21 +12,21 @@ returns-in-Sliced c =
     let P : forms.the_data → Type 0 = λ f. IsSound (seen_form f) c.args.parent.now → IsCourse (seen_form f) c.args.parent.now c.args.dimension c.sliced.result in
     subst P (sym c.in-Sliced.is) (λ sound.
     subst (IsCourse (sliced (seen_all c.in-Sliced.taken.items)) c.args.parent.now c.args.dimension) (sym (c.sliced.ensures ∙ ap (λ ts. course_at (seen_all ts) c.args.dimension 0) c.deref.ensures.value))
-    (sliced_course (seen_all c.in-Sliced.taken.items) c.args.parent.now c.args.dimension sound c.requires.inside)) c.requires.sound
+    (sliced_course c.shape_laws.ensures.positions (seen_all c.in-Sliced.taken.items) c.args.parent.now c.args.dimension sound c.requires.inside)) c.requires.sound
 
 pub returns-in-Exchanged : goal.returns-in-Exchanged
 returns-in-Exchanged c =
     let P : forms.the_data → Type 0 = λ f. IsSound (seen_form f) c.args.parent.now → IsCourse (seen_form f) c.args.parent.now c.args.dimension c.whole.result in
     subst P (sym c.in-Exchanged.is) (λ sound.
     subst (IsCourse (exchanged c.in-Exchanged.a c.in-Exchanged.b) c.args.parent.now c.args.dimension) (sym (c.whole.ensures ∙ ap whole c.exchanged.ensures))
-    (exchanged_course c.args.parent.now c.in-Exchanged.a c.in-Exchanged.b c.args.dimension sound.0 sound.1 c.requires.inside)) c.requires.sound
+    (exchanged_course c.shape_laws.ensures.positions c.args.parent.now c.in-Exchanged.a c.in-Exchanged.b c.args.dimension sound.0 sound.1 c.requires.inside)) c.requires.sound
 
 pub returns-in-Shifted : goal.returns-in-Shifted
 returns-in-Shifted c =
     let P : forms.the_data → Type 0 = λ f. IsSound (seen_form f) c.args.parent.now → IsCourse (seen_form f) c.args.parent.now c.args.dimension c.whole-in-Shifted.result in
     subst P (sym c.in-Shifted.is) (λ sound.
     subst (IsCourse (shifted c.in-Shifted.a c.in-Shifted.b) c.args.parent.now c.args.dimension) (sym (c.whole-in-Shifted.ensures ∙ ap whole c.shifted.ensures))
-    (shifted_course c.args.parent.now c.in-Shifted.a c.in-Shifted.b c.args.dimension sound.0 sound.1 c.requires.inside)) c.requires.sound
+    (shifted_course c.shape_laws.ensures.positions c.args.parent.now c.in-Shifted.a c.in-Shifted.b c.args.dimension sound.0 sound.1 c.requires.inside)) c.requires.sound
 
 pub returns-in-Arranged : goal.returns-in-Arranged
 returns-in-Arranged c =
@@ -34,14 +34,14 @@ returns-in-Arranged c =
     subst P (sym c.in-Arranged.is) (λ sound.
     subst (IsCourse (arranged c.in-Arranged.order.items) c.args.parent.now c.args.dimension)
     (sym (c.whole-in-Arranged.ensures ∙ ap whole (c.arranged.ensures ∙ ap (λ is. unwrap_or (position (λ j. j == c.args.dimension) is) 0) c.deref-in-Arranged.ensures.value)))
-    (arranged_course c.args.parent.now c.in-Arranged.order.items c.args.dimension sound c.requires.inside)) c.requires.sound
+    (arranged_course c.shape_laws.ensures.positions c.args.parent.now c.in-Arranged.order.items c.args.dimension sound c.requires.inside)) c.requires.sound
 
 pub returns-in-Inserted : goal.returns-in-Inserted
 returns-in-Inserted c =
     let P : forms.the_data → Type 0 = λ f. IsCourse (seen_form f) c.args.parent.now c.args.dimension c.whole-in-Inserted.result in
     subst P (sym c.in-Inserted.is)
     (subst (IsCourse (inserted c.in-Inserted.place c.in-Inserted.size) c.args.parent.now c.args.dimension) (sym (c.whole-in-Inserted.ensures ∙ ap whole c.past.ensures))
-    (inserted_course c.args.parent.now c.in-Inserted.place c.in-Inserted.size c.args.dimension c.requires.inside))
+    (inserted_course c.shape_laws.ensures.positions c.args.parent.now c.in-Inserted.place c.in-Inserted.size c.args.dimension c.requires.inside))
 
 pub returns-in-Diagonal : goal.returns-in-Diagonal
 returns-in-Diagonal c =
@@ -49,9 +49,9 @@ returns-in-Diagonal c =
     subst P (sym c.in-Diagonal.is) (λ sound.
     subst (IsCourse (joined c.in-Diagonal.listed.items) c.args.parent.now c.args.dimension)
     (sym (c.whole-in-Diagonal.ensures ∙ ap whole (c.joined.ensures ∙ ap (λ is. joined_to is c.args.dimension) c.deref-in-Diagonal.ensures.value)))
-    (joined_course c.args.parent.now c.in-Diagonal.listed.items c.args.dimension sound.0 (true_is _ sound.1) c.requires.inside)) c.requires.sound
+    (joined_course c.shape_laws.ensures.positions c.args.parent.now c.in-Diagonal.listed.items c.args.dimension sound.0 (true_is _ sound.1) c.requires.inside)) c.requires.sound
 
 pub returns-in-Squeezed : goal.returns-in-Squeezed
 returns-in-Squeezed c =
     let P : forms.the_data → Type 0 = λ f. IsCourse (seen_form f) c.args.parent.now c.args.dimension c.squeezed.result in
-    subst P (sym c.in-Squeezed.is) (subst (IsCourse squeezed c.args.parent.now c.args.dimension) (sym c.squeezed.ensures) (squeezed_course c.args.parent.now c.args.dimension c.requires.inside))
+    subst P (sym c.in-Squeezed.is) (subst (IsCourse squeezed c.args.parent.now c.args.dimension) (sym c.squeezed.ensures) (squeezed_course c.shape_laws.ensures.positions c.args.parent.now c.args.dimension c.requires.inside))

@@ -14,7 +14,7 @@ size_is c = elim c.if-dimension-sizes.branch [
 ]
 
 pub overflow_cast-result : goal.overflow_cast-result
-overflow_cast-result c = fits_signed_from_abs w32 (pos c.saturating_sub.result) (omega (arith, c.saturating_sub.ensures, size_is c, size_small c.args.sizes.now c.args.dimension, c.requires))
+overflow_cast-result c = fits_signed_from_abs w32 (pos c.saturating_sub.result) (omega (arith, c.saturating_sub.ensures, size_is c, size_small c.shape_laws.ensures.sizes c.args.sizes.now c.args.dimension, c.requires))
 
 pub returns : goal.returns
-returns c = to_z_pos w32 c.saturating_sub.result (omega (arith, c.saturating_sub.ensures, size_is c, size_small c.args.sizes.now c.args.dimension, c.requires)) ∙ ap pos (c.saturating_sub.ensures ∙ ap (λ n. n - 1) (size_is c))
+returns c = to_z_pos w32 c.saturating_sub.result (omega (arith, c.saturating_sub.ensures, size_is c, size_small c.shape_laws.ensures.sizes c.args.sizes.now c.args.dimension, c.requires)) ∙ ap pos (c.saturating_sub.ensures ∙ ap (λ n. n - 1) (size_is c))

@@ -11,13 +11,13 @@ copy_part-requires c =
     let ok : IsTriple c.args.triple.now = c.place_of-start.ensures.sound in
     let same : c.as_slice.result.now ≡ c.args.buf.now.elems = c.as_slice.ensures.value ∙ ap (λ (b : Kept). b.elems) c.buf.view_is in
     let n : Neighbours c.args.triple.now c.args.buf.now.elems c.args.first c.place_of-start.result (length c.args.into.now) =
-    neighbours _ _ _ _ _ ok c.requires.reaches c.requires.ordered c.requires.within (omega arith) c.place_of-start.ensures.place in
+    neighbours c.shape_laws.ensures.positions _ _ _ _ _ ok c.requires.reaches c.requires.ordered c.requires.within (omega arith) c.place_of-start.ensures.place in
     subst (λ (xs : List ℤ). c.place_of-start.result + length c.args.into.now ≤ length xs) (sym same) n.inside
 
 pub returns-then-into-gt0-clause-value : goal.returns-then-into-gt0-clause-value
 returns-then-into-gt0-clause-value c =
     let same : c.as_slice.result.now ≡ c.args.buf.now.elems = c.as_slice.ensures.value ∙ ap (λ (b : Kept). b.elems) c.buf.view_is in
     let n : Neighbours c.args.triple.now c.args.buf.now.elems c.args.first c.place_of-start.result (length c.args.into.now) =
-    neighbours _ _ _ _ _ c.place_of-start.ensures.sound c.requires.reaches c.requires.ordered c.requires.within (omega arith) c.place_of-start.ensures.place in
+    neighbours c.shape_laws.ensures.positions _ _ _ _ _ c.place_of-start.ensures.sound c.requires.reaches c.requires.ordered c.requires.within (omega arith) c.place_of-start.ensures.place in
     subst (λ (xs : List ℤ). HasRead c.args.triple.now c.args.buf.now.elems c.args.first (length c.args.into.now) xs)
     (sym (c.copy_part.ensures ∙ ap (λ (xs : List ℤ). take (length c.args.into.now) (drop c.place_of-start.result xs)) same)) n.read

@@ -23,7 +23,7 @@ read_run-requires-clause-inside c =
     let inc : to_z w32 (of_z w32 c.first_inc-inc.result) ≡ get_or c.args.triple.now.incs 0 (pos 0) = to_z-of_z w32 c.first_inc-inc.result (record { sfits = c.first_inc-inc.type_inv }) ∙ c.first_inc-inc.ensures in
     λ j h.
     let few : j < c.run_length-run.result = omega (arith, length-take {A = ℤ}, length-drop {A = ℤ}) in
-    run_fits c.args.triple.now c.args.buf.now.elems c.as_slice.result.now c.place_of-place.result (to_z w32 (of_z w32 c.first_inc-inc.result)) (c.args.first + c.loop-done.done) j c.first_size-width.result ok c.requires.reaches same c.place_of-place.ensures.place inc c.first_size-width.ensures.size (omega arith) (omega (arith, c.run_length-run.ensures.row))
+    run_fits c.shape_laws.ensures.positions c.args.triple.now c.args.buf.now.elems c.as_slice.result.now c.place_of-place.result (to_z w32 (of_z w32 c.first_inc-inc.result)) (c.args.first + c.loop-done.done) j c.first_size-width.result ok c.requires.reaches same c.place_of-place.ensures.place inc c.first_size-width.ensures.size (omega arith) (omega (arith, c.run_length-run.ensures.row))
 
 pub loop-done-preserved : goal.loop-done-preserved
 loop-done-preserved c =
@@ -34,10 +34,10 @@ loop-done-preserved c =
       inside = omega arith;
       read = read_more c.args.triple.now c.args.buf.now.elems c.loop-done.into c.read_run.new.into c.args.first c.loop-done.done c.run_length-run.result _ (omega arith) (omega arith) (omega (arith, length-take {A = ℤ}, length-drop {A = ℤ})) c.loop-done.invariant.read
           (λ j h. c.read_run.ensures j (omega (arith, length-take {A = ℤ}, length-drop {A = ℤ}))
-          ∙ run_element c.args.triple.now c.args.buf.now.elems c.as_slice.result.now c.place_of-place.result (to_z w32 (of_z w32 c.first_inc-inc.result)) (c.args.first + c.loop-done.done) j c.first_size-width.result ok c.requires.reaches same c.place_of-place.ensures.place inc c.first_size-width.ensures.size (omega arith) (omega (arith, c.run_length-run.ensures.row)));
+          ∙ run_element c.shape_laws.ensures.positions c.args.triple.now c.args.buf.now.elems c.as_slice.result.now c.place_of-place.result (to_z w32 (of_z w32 c.first_inc-inc.result)) (c.args.first + c.loop-done.done) j c.first_size-width.result ok c.requires.reaches same c.place_of-place.ensures.place inc c.first_size-width.ensures.size (omega arith) (omega (arith, c.run_length-run.ensures.row)));
     }
 
 pub returns-clause-in_range : goal.returns-clause-in_range
 returns-clause-in_range c =
     let all : IsKept c.args.buf.now = subst (λ (b : Kept). IsKept b) c.buf.view_is c.buf.invariant in
-    block_in_range c.args.buf.now.ty c.args.triple.now c.args.buf.now.elems c.loop-done.into c.args.first (length c.args.into.now) c.first_size-width.ensures.sound c.requires.reaches c.requires.within (omega arith) all (λ k h. c.loop-done.invariant.read k (omega arith))
+    block_in_range c.shape_laws.ensures.positions c.args.buf.now.ty c.args.triple.now c.args.buf.now.elems c.loop-done.into c.args.first (length c.args.into.now) c.first_size-width.ensures.sound c.requires.reaches c.requires.within (omega arith) all (λ k h. c.loop-done.invariant.read k (omega arith))

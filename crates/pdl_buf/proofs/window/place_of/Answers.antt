@@ -12,7 +12,7 @@ use Rattle.pdl_buf.proofs.Walking.{Shows, shows_at}
 use Rattle.pdl_buf.proofs.window.place_of.Goals as goal
 
 shows : (c : goal.After-place_of_position-place) → Shows c.args.triple.now c.args.position
-shows c = shows_at c.args.triple.now c.args.position (subst (λ (t : Triple). IsTriple t) c.triple.view_is c.triple.invariant) c.requires
+shows c = shows_at c.shape_laws.ensures.positions c.args.triple.now c.args.position (subst (λ (t : Triple). IsTriple t) c.triple.view_is c.triple.invariant) c.requires
 
 word : (c : goal.After-place_of_position-place) → to_z w64 (of_z w64 c.place_of_position-place.result) ≡ pos (place_at c.args.triple.now c.args.position)
 word c =

@@ -11,7 +11,7 @@ pub returns-clause-places : goal.returns-clause-places
 returns-clause-places c =
     let fits : SFits w64 c.args.count = search rules in
     c.new.ensures ∙ c.in_ok-places.ensures
-    ∙ clump_places c.args.source.now c.args.count c.in-Some.joined c.elements_of.result
+    ∙ clump_places c.shape_laws.ensures.positions c.args.source.now c.args.count c.in-Some.joined c.elements_of.result
     (simp to_z-of_z at c.in-Some.ensures.count ∙ ap (λ (ds : List ℕ). clump_count c.args.count (length ds)) c.dims_list-parent.ensures.list) c.elements_of.ensures.count
     ∙ ap (λ (ds : List ℕ). places_of ds c.args.source.now (λ at. Some (clumped_source c.args.source.now c.args.count at)))
     (sym (c.in_ok-dims.ensures ∙ ap (λ (ds : List ℕ). size_of (take c.in-Some.joined ds) ∷ drop c.in-Some.joined ds) c.dims_list-parent.ensures.list))

@@ -5,6 +5,6 @@ use Rattle.pdl_choice.proofs.clumps.clumped.Goals as goal
 
 pub unreachable-requires : goal.unreachable-requires
 unreachable-requires c =
-    let fits = checked_dims-fits _ (clumped_limits c.args.parent.now c.args.joined c.requires.limits c.requires.some c.requires.enough) in
+    let fits = checked_dims-fits _ (clumped_limits c.shape_laws.ensures.sizes c.args.parent.now c.args.joined c.requires.limits c.requires.some c.requires.enough) in
     let same = ap checked_dims (c.deref.ensures.value ∙ c.in_ok-sizes.ensures) in
     cc (c.in-Err.ensures, same, fits)

@@ -3,8 +3,6 @@ use Rattle.std.specs.List.{range_with_len}
 use Rattle.std.proofs.lemmas.List.{with_items_is}
 use Rattle.pdl_shape.specs.Broadcast.{cut_to}
 use Rattle.pdl_shape.specs.Shape.{IsWithin, coordinates_of, extent_limit, position_of}
-use Rattle.pdl_shape.proofs.Extents.{size_le-extent}
-use Rattle.pdl_shape.proofs.Positions.{extent-drop}
 use Rattle.pdl_shape.specs.Counting.{from_end}
 use Rattle.pdl_choice.specs.Index.{index_source}
 use Rattle.pdl_choice.specs.Rounds.{line_at, row_place}
@@ -23,37 +21,37 @@ loop-round-init c = (
 pub line_of-ind_line-requires-clause-within : goal.line_of-ind_line-requires-clause-within
 line_of-ind_line-requires-clause-within c =
     let below = row_below c.args.joined.now c.args.count _ _ c.loop-round._round c.first_size-row.ensures.first c.requires.counts c.rounds_of-round-end.ensures.none c.rounds_of-round-end.ensures.some c.loop-round-test.true in
-    (at_row c.args.ind_dims.now c.args.joined.now _ c.loop-round._round c.requires.ind_fits below (c.deref.ensures.value ∙ c.loop-round.invariant.0)).rest
+    (at_row c.shape_laws.ensures.positions c.shape_laws.ensures.cuts c.args.ind_dims.now c.args.joined.now _ c.loop-round._round c.requires.ind_fits below (c.deref.ensures.value ∙ c.loop-round.invariant.0)).rest
 
 pub line_of-rest_line-requires-clause-within : goal.line_of-rest_line-requires-clause-within
 line_of-rest_line-requires-clause-within c =
     let below = row_below c.args.joined.now c.args.count _ _ c.loop-round._round c.first_size-row.ensures.first c.requires.counts c.rounds_of-round-end.ensures.none c.rounds_of-round-end.ensures.some c.loop-round-test.true in
     subst (λ (dims : List ℕ). IsWithin (drop 1 dims) (cut_to (drop 1 dims) c.deref-in-loop-round.result.now)) (sym c.first_size-size.ensures.rest)
-    (at_row (drop 1 c.args.parent.now) c.args.joined.now _ c.loop-round._round c.requires.parent_fits below (c.deref-in-loop-round.ensures.value ∙ c.loop-round.invariant.0)).rest
+    (at_row c.shape_laws.ensures.positions c.shape_laws.ensures.cuts (drop 1 c.args.parent.now) c.args.joined.now _ c.loop-round._round c.requires.parent_fits below (c.deref-in-loop-round.ensures.value ∙ c.loop-round.invariant.0)).rest
 
 pub push_row-requires-clause-inside : goal.push_row-requires-clause-inside
 push_row-requires-clause-inside c column h =
     let below = row_below c.args.joined.now c.args.count _ _ c.loop-round._round c.first_size-row.ensures.first c.requires.counts c.rounds_of-round-end.ensures.none c.rounds_of-round-end.ensures.some c.loop-round-test.true in
-    let row = at_row c.args.ind_dims.now c.args.joined.now c.deref.result.now c.loop-round._round c.requires.ind_fits below (c.deref.ensures.value ∙ c.loop-round.invariant.0) in
+    let row = at_row c.shape_laws.ensures.positions c.shape_laws.ensures.cuts c.args.ind_dims.now c.args.joined.now c.deref.result.now c.loop-round._round c.requires.ind_fits below (c.deref.ensures.value ∙ c.loop-round.invariant.0) in
     omega (arith, c.requires.whole, line_inside c.args.ind_dims.now c.args.joined.now c.deref.result.now c.line_of-ind_line.result row c.line_of-ind_line.ensures column (omega (arith, c.first_size-row.ensures.first)))
 
 pub push_row-requires-clause-bounded : goal.push_row-requires-clause-bounded
 push_row-requires-clause-bounded c column h =
     let below = row_below c.args.joined.now c.args.count _ _ c.loop-round._round c.first_size-row.ensures.first c.requires.counts c.rounds_of-round-end.ensures.none c.rounds_of-round-end.ensures.some c.loop-round-test.true in
-    let row = at_row (drop 1 c.args.parent.now) c.args.joined.now c.deref-in-loop-round.result.now c.loop-round._round c.requires.parent_fits below (c.deref-in-loop-round.ensures.value ∙ c.loop-round.invariant.0) in
+    let row = at_row c.shape_laws.ensures.positions c.shape_laws.ensures.cuts (drop 1 c.args.parent.now) c.args.joined.now c.deref-in-loop-round.result.now c.loop-round._round c.requires.parent_fits below (c.deref-in-loop-round.ensures.value ∙ c.loop-round.invariant.0) in
     let line = same_line c.first_size-size.result.1.now (drop 1 c.args.parent.now) c.deref-in-loop-round.result.now c.deref-in-loop-round.result.now c.line_of-rest_line.result c.first_size-size.ensures.rest refl c.line_of-rest_line.ensures in
     subst (λ (n : ℕ). n * line_at c.line_of-rest_line.result column + n ≤ extent_limit) (sym c.first_size-size.ensures.first)
-    (rows_fit c.args.parent.now (line_at c.line_of-rest_line.result column) c.requires.parent_bounded (line_inside (drop 1 c.args.parent.now) c.args.joined.now c.deref-in-loop-round.result.now c.line_of-rest_line.result row line column (omega (arith, c.first_size-row.ensures.first))))
+    (rows_fit c.shape_laws.ensures.sizes c.args.parent.now (line_at c.line_of-rest_line.result column) c.requires.parent_bounded (line_inside (drop 1 c.args.parent.now) c.args.joined.now c.deref-in-loop-round.result.now c.line_of-rest_line.result row line column (omega (arith, c.first_size-row.ensures.first))))
 
 pub push_row-requires-clause-small : goal.push_row-requires-clause-small
 push_row-requires-clause-small c column h =
     let below = row_below c.args.joined.now c.args.count _ _ c.loop-round._round c.first_size-row.ensures.first c.requires.counts c.rounds_of-round-end.ensures.none c.rounds_of-round-end.ensures.some c.loop-round-test.true in
-    let row = at_row (drop 1 c.args.parent.now) c.args.joined.now c.deref-in-loop-round.result.now c.loop-round._round c.requires.parent_fits below (c.deref-in-loop-round.ensures.value ∙ c.loop-round.invariant.0) in
+    let row = at_row c.shape_laws.ensures.positions c.shape_laws.ensures.cuts (drop 1 c.args.parent.now) c.args.joined.now c.deref-in-loop-round.result.now c.loop-round._round c.requires.parent_fits below (c.deref-in-loop-round.ensures.value ∙ c.loop-round.invariant.0) in
     let line = same_line c.first_size-size.result.1.now (drop 1 c.args.parent.now) c.deref-in-loop-round.result.now c.deref-in-loop-round.result.now c.line_of-rest_line.result c.first_size-size.ensures.rest refl c.line_of-rest_line.ensures in
-    omega (arith, line_inside (drop 1 c.args.parent.now) c.args.joined.now c.deref-in-loop-round.result.now c.line_of-rest_line.result row line column (omega (arith, c.first_size-row.ensures.first)), size_le-extent (drop 1 c.args.parent.now), extent-drop c.args.parent.now 1, c.requires.parent_bounded)
+    omega (arith, line_inside (drop 1 c.args.parent.now) c.args.joined.now c.deref-in-loop-round.result.now c.line_of-rest_line.result row line column (omega (arith, c.first_size-row.ensures.first)), c.shape_laws.ensures.sizes.size_within (drop 1 c.args.parent.now), c.shape_laws.ensures.sizes.rest_within c.args.parent.now 1, c.requires.parent_bounded)
 
 pub push_row-requires-clause-ind_small : goal.push_row-requires-clause-ind_small
-push_row-requires-clause-ind_small c = omega (arith, c.requires.whole, size_le-extent c.args.ind_dims.now, c.requires.ind_bounded)
+push_row-requires-clause-ind_small c = omega (arith, c.requires.whole, c.shape_laws.ensures.sizes.size_within c.args.ind_dims.now, c.requires.ind_bounded)
 
 pub push_row-requires-clause-counted : goal.push_row-requires-clause-counted
 push_row-requires-clause-counted c =
@@ -62,7 +60,7 @@ push_row-requires-clause-counted c =
 pub move_on-requires : goal.move_on-requires
 move_on-requires c =
     let below = row_below c.args.joined.now c.args.count _ _ c.loop-round._round c.first_size-row.ensures.first c.requires.counts c.rounds_of-round-end.ensures.none c.rounds_of-round-end.ensures.some c.loop-round-test.true in
-    row_within c.args.joined.now _ _ c.loop-round._round c.first_size-row.ensures.rest below (c.deref_mut.ensures.value ∙ c.loop-round.invariant.0)
+    row_within c.shape_laws.ensures.positions c.args.joined.now _ _ c.loop-round._round c.first_size-row.ensures.rest below (c.deref_mut.ensures.value ∙ c.loop-round.invariant.0)
 
 pub loop-round-preserved : goal.loop-round-preserved
 loop-round-preserved c =
@@ -70,7 +68,7 @@ loop-round-preserved c =
     let rest_line = same_line c.first_size-size.result.1.now (drop 1 c.args.parent.now) c.deref-in-loop-round.result.now c.loop-round.at.items c.line_of-rest_line.result c.first_size-size.ensures.rest c.deref-in-loop-round.ensures.value c.line_of-rest_line.ensures in
     let ind_line = same_line c.args.ind_dims.now c.args.ind_dims.now c.deref.result.now c.loop-round.at.items c.line_of-ind_line.result refl c.deref.ensures.value c.line_of-ind_line.ensures in (
       with_items_is c.loop-round.at c.move_on.new.coordinates (c.move_on.auto.coordinates ∙ c.deref_mut.ensures.len)
-          ∙ moved_row c.args.joined.now c.first_size-row.result.1.now c.deref_mut.result.now c.move_on.new.coordinates c.loop-round._round c.first_size-row.ensures.rest below (c.deref_mut.ensures.value ∙ c.loop-round.invariant.0) c.move_on.ensures,
+          ∙ moved_row c.shape_laws.ensures.positions c.args.joined.now c.first_size-row.result.1.now c.deref_mut.result.now c.move_on.new.coordinates c.loop-round._round c.first_size-row.ensures.rest below (c.deref_mut.ensures.value ∙ c.loop-round.invariant.0) c.move_on.ensures,
       rounds_grow (λ p. Some (position_of c.args.parent.now (index_source c.args.parent.now c.args.ind_dims.now c.args.ind.now (coordinates_of c.args.joined.now p))))
           (λ column. Some (row_place (get_or c.args.parent.now 0 1) c.args.ind.now c.line_of-ind_line.result c.line_of-rest_line.result column))
           c.loop-round.places.items c.push_row.new.places.items (get_or c.args.joined.now 0 1) c.loop-round._round None c.loop-round.invariant.1
@@ -87,5 +85,5 @@ returns-clause-places c =
 
 pub returns-clause-inside : goal.returns-clause-inside
 returns-clause-inside c =
-    index_inside c.args.parent.now c.args.ind_dims.now c.args.joined.now c.args.ind.now c.loop-round.places.items
+    index_inside c.shape_laws.ensures.positions c.shape_laws.ensures.cuts c.args.parent.now c.args.ind_dims.now c.args.joined.now c.args.ind.now c.loop-round.places.items
     c.requires.some c.requires.whole c.requires.ind_fits c.requires.parent_fits c.requires.counted (returns-clause-places c)

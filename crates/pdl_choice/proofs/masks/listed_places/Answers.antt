@@ -10,7 +10,7 @@ pub returns-clause-places : goal.returns-clause-places
 returns-clause-places c =
     let same : c.args.source.now ≡ c.args.dims.now = search rules in
     c.new.ensures ∙ c.in_ok-places.ensures
-    ∙ listed_places c.args.source.now c.args.places.now (λ k h. subst (λ n. get_or c.args.places.now k 0 < n) (ap size_of (sym same)) (rising_below 0 (size_of c.args.dims.now) c.args.places.now c.requires k h))
+    ∙ listed_places c.shape_laws.ensures.positions c.args.source.now c.args.places.now (λ k h. subst (λ n. get_or c.args.places.now k 0 < n) (ap size_of (sym same)) (rising_below 0 (size_of c.args.dims.now) c.args.places.now c.requires k h))
     ∙ ap (λ (ds : List ℕ). places_of ds c.args.source.now (λ at. Some (where_source c.args.source.now c.args.places.now at))) (sym c.line-dims.ensures)
 
 pub returns-clause-inside : goal.returns-clause-inside

@@ -3,7 +3,7 @@ use Rattle.pdl_choice.proofs.MovingOn.{shown, carried_none, carried_more, moved_
 use Rattle.pdl_choice.proofs.rounds.move_on.Goals as goal
 
 pub loop-dimension-init : goal.loop-dimension-init
-loop-dimension-init c = carried_none _ _ c.requires
+loop-dimension-init c = carried_none c.shape_laws.ensures.positions _ _ c.requires
 
 pub bounds-coordinates-dimension : goal.bounds-coordinates-dimension
 bounds-coordinates-dimension c = (shown _ _ _ _ _ c.requires c.loop-dimension-test.true c.loop-dimension.invariant).inside

@@ -1,6 +1,5 @@
 use Rattle.std.proofs.Common.{◌≡◌, ◌∙◌, ◌++◌, ◌*◌, ap, sym, List, ℕ, length, drop, arith, Some, None}
 use Rattle.pdl_shape.specs.Shape.{size_of}
-use Rattle.pdl_shape.proofs.Extents.{size_le-extent}
 use Rattle.pdl_shape.specs.Limits.{checked_dims}
 use Rattle.pdl_shape.specs.Places.{places_of}
 use Rattle.pdl_choice.specs.Range.{first_refused, corner_len, inner_dims, windowed_dims, window_sizes, window_refusal, range_source}
@@ -11,7 +10,7 @@ use Rattle.pdl_choice.proofs.windows.ranged.Goals as goal
 
 pub overflow_cast-result : goal.overflow_cast-result
 overflow_cast-result c =
-    omega (arith, c.in-Some.ensures.within, c.requires.whole, size_le-extent c.args.ind_dims.now, c.requires.ind_limits.within)
+    omega (arith, c.in-Some.ensures.within, c.requires.whole, c.shape_laws.ensures.sizes.size_within c.args.ind_dims.now, c.requires.ind_limits.within)
 
 pub returns-in-Some-clause-refusal : goal.returns-in-Some-clause-refusal
 returns-in-Some-clause-refusal c =
@@ -41,7 +40,7 @@ window_places-requires-clause-counts c =
 
 pub window_places-requires-clause-inner_bounded : goal.window_places-requires-clause-inner_bounded
 window_places-requires-clause-inner_bounded c =
-    checked_dims-back c.corner_dims-count.result.1.now (inner_dims c.args.parent.now c.as_slice-windows.result.now) c.in-Ok-windowed.dims c.in-Ok-windowed.ensures.dims
+    checked_dims-back c.shape_laws.ensures.sizes c.corner_dims-count.result.1.now (inner_dims c.args.parent.now c.as_slice-windows.result.now) c.in-Ok-windowed.dims c.in-Ok-windowed.ensures.dims
 
 pub returns-clause-dims : goal.returns-clause-dims
 returns-clause-dims c =
@@ -63,7 +62,7 @@ returns-clause-places c =
     ap (λ (ds : List ℕ). ds ++ inner_dims c.args.parent.now windows) (sym c.corner_dims-count.ensures.outer)
     ∙ checked_dims-ok (c.corner_dims-count.result.1.now ++ inner_dims c.args.parent.now windows) c.in-Ok-windowed.dims c.in-Ok-windowed.ensures.dims in
     c.new.ensures ∙ c.in_ok-places.ensures.places
-    ∙ window_places_are c.args.edge c.args.parent.now c.args.ind_dims.now c.args.ind.now c.args.sizes.now windows c.count_of-corners.result c.elements_of-count.result
+    ∙ window_places_are c.shape_laws.ensures.positions c.args.edge c.args.parent.now c.args.ind_dims.now c.args.ind.now c.args.sizes.now windows c.count_of-corners.result c.elements_of-count.result
     (c.as_slice-windows.ensures.value ∙ c.in-Ok.ensures.windows ∙ ap (λ (n : ℕ). window_sizes n c.args.sizes.now) count)
     len corners
     (c.elements_of-count.ensures.count ∙ ap size_of (sym dims))

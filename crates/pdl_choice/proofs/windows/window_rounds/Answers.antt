@@ -1,8 +1,7 @@
 use Rattle.std.proofs.Common.{◌-◌, arith, drop, length}
-use Rattle.pdl_shape.proofs.Positions.{extent-drop}
 use Rattle.pdl_choice.proofs.Limits.{extent-take}
 use Rattle.pdl_choice.proofs.windows.window_rounds.Goals as goal
 
 pub count_of-rest-requires : goal.count_of-rest-requires
 count_of-rest-requires c =
-    omega (arith, extent-take (length c.args.parent.now - length c.args.windows.now) (drop (length c.args.windows.now) c.args.parent.now), extent-drop c.args.parent.now (length c.args.windows.now), c.requires.bounded)
+    omega (arith, extent-take c.shape_laws.ensures.sizes (length c.args.parent.now - length c.args.windows.now) (drop (length c.args.windows.now) c.args.parent.now), c.shape_laws.ensures.sizes.rest_within c.args.parent.now (length c.args.windows.now), c.requires.bounded)

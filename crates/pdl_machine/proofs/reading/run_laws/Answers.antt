@@ -1,4 +1,4 @@
-use Rattle.pdl_machine.proofs.RunLemmas.{ended_stays, printed_stays, goes_on, first_fault, too_long_faults, limit_ends}
+use Rattle.pdl_machine.proofs.RunLemmas.{ended_stays, printed_stays, fault_stays, goes_on, first_fault, too_long_faults, limit_ends}
 use Rattle.pdl_machine.proofs.reading.run_laws.Goals as goal
 
 pub returns-clause-ended : goal.returns-clause-ended
@@ -6,6 +6,9 @@ returns-clause-ended c = ended_stays
 
 pub returns-clause-printed : goal.returns-clause-printed
 returns-clause-printed c = printed_stays
+
+pub returns-clause-faulted : goal.returns-clause-faulted
+returns-clause-faulted c = fault_stays
 
 pub returns-clause-goes_on : goal.returns-clause-goes_on
 returns-clause-goes_on c = goes_on

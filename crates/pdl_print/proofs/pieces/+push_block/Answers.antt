@@ -21,14 +21,14 @@ nonzero_div-size t c = (members_at c.args.elems.now.dims c.args.around c.args.co
 pub push_plane-requires-clause-some : goal.push_plane-requires-clause-some
 push_plane-requires-clause-some t c = (members_at c.args.elems.now.dims c.args.around c.args.count c.members_of-members.result c.members_of-members.ensures c.requires.dims c.requires.count c.requires.some).some_size
 
-pub returns-then-around-eq0 : goal.returns-then-around-eq0
-returns-then-around-eq0 t c =
+pub returns-then-around-eq0-clause-ok : goal.returns-then-around-eq0-clause-ok
+returns-then-around-eq0-clause-ok t c =
     let m = members_at c.args.elems.now.dims c.args.around c.args.count c.members_of-members.result c.members_of-members.ensures c.requires.dims c.requires.count c.requires.some in
     on_ok c.push_plane.result _ _
     (λ e. e ∙ ap (λ (x : List ℕ). c.args.into.now.items ++ x)
     (block_plane c.args.elems.now.dims c.args.around c.args.indent c.args.first c.args.count c.members_of-members.result (c.args.count / c.members_of-members.result) c.args.elems.now.elems
     c.if-around-eq0.true c.members_of-members.ensures refl m.whole c.requires.within))
-    c.push_plane.ensures
+    c.push_plane.ensures.ok
 
 pub push_block-requires : goal.push_block-requires
 push_block-requires t c =
@@ -54,12 +54,12 @@ loop-member-preserved t c =
     let k : ℕ = c.loop-member.member in
     let f : List ℤ → List ℕ = block c.args.elems.now.dims (c.args.around - 1) (c.args.indent + 1) in
     let h : k * size + size ≤ c.args.count = member_within k c.members_of-members.result size c.args.count c.loop-member-test.true m.whole in
-    c.in_ok-push_block.ensures
+    c.in_ok-push_block.ensures.ok
     ∙ ap (λ (x : List ℕ). x ++ f (take size (drop (c.args.first + k * size) c.args.elems.now.elems))) c.loop-member.invariant
     ∙ member_more f (c.args.into.now.items ++ (spaces c.args.indent ++ 91 ∷ 10 ∷ [])) k size c.args.first c.args.count c.args.elems.now.elems h
 
-pub returns : goal.returns
-returns t c =
+pub returns-clause-ok : goal.returns-clause-ok
+returns-clause-ok t c =
     let ds : List ℕ = c.args.elems.now.dims in
     let part : List ℤ = take c.args.count (drop c.args.first c.args.elems.now.elems) in
     let size : ℕ = c.args.count / c.members_of-members.result in
@@ -76,4 +76,4 @@ returns t c =
     ∙ ap (λ (x : List ℕ). old ++ x) (sym (append_assoc (start ++ inner) (spaces c.args.indent) close)
     ∙ block_around ds c.args.around c.args.indent c.members_of-members.result size part (omega arith) c.members_of-members.ensures
     (ap (λ (k : ℕ). k / c.members_of-members.result) (sym (length_from c.args.elems.now.elems c.args.first c.args.count c.requires.within)))))
-    c.push_bracket-2.ensures
+    c.push_bracket-2.ensures.ok

@@ -16,7 +16,7 @@ loop-row-preserved c =
     let same : numbers ≡ part = c.as_slice-numbers.ensures.value ∙ c.in_ok-block.ensures in
     let width : c.widest_of-width.result ≡ widest part = c.widest_of-width.ensures ∙ ap widest same in
     let long : row * size + size - row * size ≡ size = omega arith in
-    c.in_ok-push_line.ensures
+    c.in_ok-push_line.ensures.ok
     ∙ ap₂ (λ (t : List ℕ) (w : ℕ). t ++ line c.args.indent w (take (row * size + size - row * size) (drop (row * size) numbers))) c.loop-row.invariant width
     ∙ ap₂ (λ (n : ℕ) (xs : List ℤ). (old ++ flat_map f (pieces row size part)) ++ f (take n (drop (row * size) xs))) long same
     ∙ append_assoc old (flat_map f (pieces row size part)) (f (take size (drop (row * size) part)))

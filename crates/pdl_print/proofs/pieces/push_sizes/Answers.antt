@@ -11,7 +11,7 @@ loop-size-preserved c =
     let xs : List ℕ = c.args.sizes.now in
     let h : k + 1 < length xs = omega (arith, c.loop-size-test.true) in
     let step = join_more c.args.byte decimal xs (k + 1) 0 (omega arith) h in
-    c.in_ok-push_size-2.ensures
+    c.in_ok-push_size-2.ensures.ok
     ∙ ap (λ (t : List ℕ). t ++ decimal (get_or (take (length xs - 1) (drop 1 xs)) k 0)) (c.in_ok-push.ensures.items ∙ ap (λ (t : List ℕ). t ++ c.args.byte ∷ []) c.loop-size.invariant)
     ∙ grown c.args.into.now.items (joined c.args.byte (take (k + 1) xs)) (c.args.byte ∷ []) (decimal (get_or (take (length xs - 1) (drop 1 xs)) k 0))
     ∙ ap (λ (n : ℕ). c.args.into.now.items ++ (joined c.args.byte (take (k + 1) xs) ++ c.args.byte ∷ decimal n)) (rest_at xs k h)

@@ -3,12 +3,12 @@ use Rattle.std.specs.Prelude.{List, ℕ, Result}
 use Rattle.pdl_shape.specs.declared.sizes.ShapeFault.{ShapeFault}
 use Rattle.pdl_shape.specs.Refusals.{named, refusal_of}
 use Rattle.pdl_machine.specs.declared.fault.Fault.{Fault}
-use Rattle.pdl_machine.specs.Fills.{with_shape_fault}
+use Rattle.pdl_machine.specs.Refused.{shape_fault, or_named}
 use Rattle.pdl_session.proofs.Clamps.{dims_found, dims_refused}
 use Rattle.pdl_session.proofs.dims.dims_for.Goals as goal
 
 abbrev seen : Result (List ℕ) ShapeFault → Result (List ℕ) Fault
-seen r = with_shape_fault (named refusal_of r)
+seen r = or_named shape_fault (named refusal_of r)
 
 pub returns-in-Err : goal.returns-in-Err
 returns-in-Err c = dims_refused c.args.numbers.now c.in-Err.fault c.in-Err.ensures

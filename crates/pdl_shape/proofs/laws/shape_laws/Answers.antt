@@ -1,7 +1,7 @@
 use Rattle.pdl_shape.proofs.Broadcasts.{cut_within}
 use Rattle.pdl_shape.proofs.Extents.{extent_positive, size_le-extent}
 use Rattle.pdl_shape.proofs.Inside.{places_lie_in_parent}
-use Rattle.pdl_shape.proofs.Positions.{coordinates_within, position_below, position-coordinates, coordinates-position, within-length}
+use Rattle.pdl_shape.proofs.Positions.{coordinates_within, position_below, position-coordinates, coordinates-position, within-length, quotient_below, extent-drop}
 use Rattle.pdl_shape.proofs.Wholes.{place-whole}
 use Rattle.pdl_shape.proofs.Writes.{length_write, write_given, write_last, write_other}
 use Rattle.pdl_shape.proofs.laws.shape_laws.Goals as goal
@@ -13,10 +13,11 @@ returns-clause-positions c = record {
   position_again = position-coordinates;
   coordinates_again = coordinates-position;
   as_many = within-length;
+  quotient_below = quotient_below;
 }
 
 pub returns-clause-sizes : goal.returns-clause-sizes
-returns-clause-sizes c = record { size_within = size_le-extent; extent_above = extent_positive }
+returns-clause-sizes c = record { size_within = size_le-extent; extent_above = extent_positive; rest_within = extent-drop }
 
 pub returns-clause-wholes : goal.returns-clause-wholes
 returns-clause-wholes c = place-whole

@@ -12,8 +12,8 @@ returns-in-Ok-clause-model g c script is =
     let keep = c.args.keep_going in
     let same : run keep script ≡ run keep c.deref.result.now =
     run_seen c.run_laws.ensures.limit keep _ _ c.in-Ok.script.items script read is ∙ ap (run keep) (sym c.deref.ensures.value) in
-    subst (λ (status : Status). Gives status (run keep script) (g.K.Sink.taken c.args.sink.now) (g.K.Sink.taken c.run_bytes.new.sink)) (sym c.status_after.ensures)
-    (gives_after c.run_bytes.result (run keep script) (run keep c.deref.result.now) (g.K.Sink.taken c.args.sink.now) (g.K.Sink.taken c.run_bytes.new.sink) c.run_bytes.ensures.writes same)
+    subst (λ (status : Status). Gives status (run keep script) (g.K.Sink.taken c.args.sink.now) (g.K.Sink.taken c.run_bytes-ran.new.sink)) (sym c.status_after.ensures)
+    (gives_after c.run_bytes-ran.result (run keep script) (run keep c.deref.result.now) (g.K.Sink.taken c.args.sink.now) (g.K.Sink.taken c.run_bytes-ran.new.sink) c.run_bytes-ran.ensures.writes same)
 
 pub returns-in-Ok-clause-read : goal.returns-in-Ok-clause-read
 returns-in-Ok-clause-read g c script is answered =
@@ -24,5 +24,5 @@ pub returns-in-Ok-clause-end : goal.returns-in-Ok-clause-end
 returns-in-Ok-clause-end g c done =
     let read : IsRead (g.S.Source.left c.args.source.now) (g.S.Source.left c.read_script.new.source) c.deref.result.now =
     rw c.deref.ensures.value (record { all = c.in-Ok.ensures.all; within = c.in-Ok.ensures.within; end = c.in-Ok.ensures.end }) in
-    done_at_end c.run_laws.ensures.too_long c.args.keep_going c.run_bytes.result _ _ (g.K.Sink.taken c.args.sink.now) (g.K.Sink.taken c.run_bytes.new.sink) c.deref.result.now read
-    c.run_bytes.ensures.writes (sym c.status_after.ensures ∙ done)
+    done_at_end c.run_laws.ensures.too_long c.args.keep_going c.run_bytes-ran.result _ _ (g.K.Sink.taken c.args.sink.now) (g.K.Sink.taken c.run_bytes-ran.new.sink) c.deref.result.now read
+    c.run_bytes-ran.ensures.writes (sym c.status_after.ensures ∙ done)

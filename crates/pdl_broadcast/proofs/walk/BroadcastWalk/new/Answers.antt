@@ -10,6 +10,8 @@ invariant_of-result c = sound_new _ c.args.dims.now (record {
   no_cursors = c.in_ok-with_capacity-2.ensures.items;
   zeros = c.in_ok-vec.ensures.items_if_clones_equal (λ y e. e) ∙ ap (λ n. replicate n 0) (ap length c.dims_list.ensures.list);
   ending = ap (λ n. n == 0) c.elements_of.ensures.count;
+  triples_room = c.in_ok-with_capacity.ensures.capacity;
+  cursors_room = c.in_ok-with_capacity-2.ensures.capacity;
 })
 
 pub returns : goal.returns
@@ -20,4 +22,6 @@ returns c = walk_new (record { dims = c.copy_dims.result; triples = c.in_ok-with
   no_cursors = c.in_ok-with_capacity-2.ensures.items;
   zeros = c.in_ok-vec.ensures.items_if_clones_equal (λ y e. e) ∙ ap (λ n. replicate n 0) (ap length c.dims_list.ensures.list);
   ending = ap (λ n. n == 0) c.elements_of.ensures.count;
+  triples_room = c.in_ok-with_capacity.ensures.capacity;
+  cursors_room = c.in_ok-with_capacity-2.ensures.capacity;
 })

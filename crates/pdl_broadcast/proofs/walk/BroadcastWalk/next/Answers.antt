@@ -11,7 +11,7 @@ pub jump-requires-clause-inside : goal.jump-requires-clause-inside
 jump-requires-clause-inside c =
     let e = going_on c.self.inside _ c.self.view_is c.requires in
     let rolled = step_rolled c.self.inside _ _ _ _ (record { sizes_are = c.dims_list.ensures.list; coordinates_are = c.deref_mut.ensures.value; next_is = c.step-dimension.ensures.moved; rolled_is = c.step-dimension.ensures.rolled }) in
-    jump_all c.self.inside _ _ c.self.invariant e rolled (omega (arith, c.if-dimension-len.true, c.len.ensures, c.self.inside.coordinates.ok, c.self.invariant.count)) c.deref_mut-then-dimension-len.ensures.value
+    jump_all c.shape_laws.ensures.cuts c.self.inside _ _ c.self.invariant e rolled (omega (arith, c.if-dimension-len.true, c.len.ensures, c.self.inside.coordinates.ok, c.self.invariant.count)) c.deref_mut-then-dimension-len.ensures.value
 
 -- the fields after a jump
 after : After-self-then-dimension-len-1 → Inside
@@ -34,12 +34,14 @@ went c =
       coordinates_are = with_items_is c.self.inside.coordinates c.step-dimension.new.coordinates (c.step-dimension.auto.coordinates ∙ c.deref_mut.ensures.len) ∙ step_next c.self.inside _ _ _ _ found;
       cursors_are = with_items_is c.self.inside.cursors c.jump.new.cursors (c.jump.auto.cursors ∙ c.deref_mut-then-dimension-len.ensures.len) ∙ c.jump.ensures ∙ ap (map (jumped c.step-dimension.result)) c.deref_mut-then-dimension-len.ensures.value;
       rolled = step_rolled c.self.inside _ _ _ _ found;
+      triples_room = refl;
+      cursors_room = refl;
       on = omega (arith, c.if-dimension-len.true, c.len.ensures, c.self.inside.coordinates.ok, c.self.invariant.count);
     }
 
 pub invariant_of-self : goal.invariant_of-self
 unfolding after
-invariant_of-self c = sound_jump (after c) c.self.inside c.step-dimension.result c.self.invariant (going_on c.self.inside _ c.self.view_is c.requires) (went c)
+invariant_of-self c = sound_jump c.shape_laws.ensures.positions c.shape_laws.ensures.cuts (after c) c.self.inside c.step-dimension.result c.self.invariant (going_on c.self.inside _ c.self.view_is c.requires) (went c)
 
 pub returns-then-dimension-len : goal.returns-then-dimension-len
 unfolding after

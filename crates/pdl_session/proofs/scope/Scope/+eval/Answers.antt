@@ -1,103 +1,91 @@
-use Rattle.std.proofs.Common.{rules, ◌≡◌, [], ◌∷◌, ◌++◌, ℕ, ◌+◌, ◌<◌, ◌≤◌, List, Ok, length, sym, ap, subst, ◌∙◌, arith, take}
-use Rattle.std.specs.Prelude.{true}
-use Rattle.std.proofs.lemmas.List.{take_all}
-use Rattle.pdl_syntax.specs.declared.tree.Expr.{Expr}
+use Rattle.std.proofs.Common.{rules, ◌≡◌, [], ◌∷◌, ◌++◌, ℕ, ◌+◌, ◌<◌, ◌≤◌, List, Result, Ok, length, sym, ap, subst, ◌∙◌, arith, take}
 use Rattle.pdl_syntax.specs.declared.tree.Arg.{Arg}
 use Rattle.pdl_syntax.specs.Tree.{Tree, none, call}
 use Rattle.pdl_syntax.specs.TreeOf.{tree_of, args_of, argument_of}
 use Rattle.pdl_syntax.specs.WellMade.{AreArrays, AreArgArrays}
 use Rattle.pdl_machine.specs.Names.{Names}
-use Rattle.pdl_machine.specs.Arrays.{Arrays}
 use Rattle.pdl_machine.specs.Outcome.{Valued}
-use Rattle.pdl_machine.specs.Then.{and_then}
 use Rattle.pdl_machine.specs.Calls.{call_value}
-use Rattle.pdl_machine.specs.Step.{is_built, are_built}
-use Rattle.pdl_machine.specs.Value.{Taken, value_of, taken}
+use Rattle.pdl_machine.specs.Value.{value_of, taken}
 use Rattle.pdl_session.specs.declared.given.Given.{Given}
+use Rattle.pdl_session.specs.declared.fault.StepFault.{StepFault}
 use Rattle.pdl_session.specs.Answers.{IsFault, Evaluates}
-use Rattle.pdl_session.specs.Arguments.{argument, arguments}
+use Rattle.pdl_session.specs.Arguments.{argument, arguments, AreGivenLive}
+use Rattle.pdl_session.proofs.Faults.{is_fault, handed_on, first_fault}
 use Rattle.pdl_session.proofs.Growing.{grows_trans}
-use Rattle.pdl_session.proofs.Statements.{first_fault}
-use Rattle.pdl_session.proofs.Evals.{one_more, fault_at, arrays_at, built_at, taken_ok, weight, weights, weights_at, tree_is, arguments_snoc, live_snoc, given_still, args_more}
+use Rattle.pdl_session.proofs.Evals.{fault_at, arrays_at, weight, weights, weights_at, tree_is, with_given, call_is, arguments_snoc, live_snoc, given_still, args_more}
 use Rattle.pdl_session.proofs.scope.Scope.+eval.Goals as goal
 
-abbrev called : List ℕ → Taken → Valued
-called name t = and_then t (λ x. call_value name x.0 x.1)
+pub eval-take-requires : goal.eval-take-requires
+eval-take-requires g t c =
+    let xs = c.deref-in-Call.result.now in
+    let e : tree_of c.args.value.now ≡ call c.in-Call.name (args_of xs none) = tree_is c.args.value.now c.in-Call.name c.in-Call.args xs (c.calls_are_trees.ensures c.in-Call.name c.in-Call.args) c.in-Call.is c.deref-in-Call.ensures.value in
+    let w : weight (tree_of c.args.value.now) ≡ weights (args_of xs none) + 2 = ap weight e in
+    let P : List Given → Type 0 = AreGivenLive c.args.self.now.arrays.world in
+    λ κs within. (search (rules, w), (within, (subst AreArrays e c.requires, subst P (sym c.new.ensures.items) tt)))
 
--- the value of a call whose arguments are taken
-value_is : (names : Names) (a b : Arrays) (value : Expr) (name : List ℕ) (xs : List Arg) (given : List Given) (ys : List Given)
-    → tree_of value ≡ call name (args_of xs none) → taken names a (args_of xs none) ≡ Ok (b, arguments given) → ys ≡ given → value_of names a (tree_of value) ≡ call_value name b (arguments ys)
-value_is names a b value name xs given ys e taken_so items =
-    ap (value_of names a) e ∙ ap (called name) taken_so ∙ ap (λ g. call_value name b (arguments g)) (sym items)
-
-pub eval-take-taken-requires : goal.eval-take-taken-requires
-eval-take-taken-requires t c =
-    let e : tree_of c.args.value.now ≡ call c.in-Call.name (args_of c.deref.result.now none) = tree_is c.args.value.now c.in-Call.name c.in-Call.args c.deref.result.now c.in-Call.is c.deref.ensures.value in
-    let w : weight (tree_of c.args.value.now) ≡ weights (args_of c.deref.result.now none) + 2 = ap weight e in
-    let P : Tree → Type 0 = λ x. is_built x ≡ true in
-    (search (rules, w), (subst AreArrays e c.requires.made, subst P e c.requires.built))
-
-pub eval-returns-in-Ok-clause-value : goal.eval-returns-in-Ok-clause-value
-eval-returns-in-Ok-clause-value t c =
-    let e : tree_of c.args.value.now ≡ call c.in-Call.name (args_of c.deref.result.now none) = tree_is c.args.value.now c.in-Call.name c.in-Call.args c.deref.result.now c.in-Call.is c.deref.ensures.value in
-    let v : value_of c.args.self.now.names c.args.self.now.arrays (tree_of c.args.value.now) ≡ call_value c.in-Call.name c.take-taken.new.self.arrays (arguments c.deref-in-Ok.result.now) =
-    value_is c.args.self.now.names c.args.self.now.arrays c.take-taken.new.self.arrays c.args.value.now c.in-Call.name c.deref.result.now c.in-Ok.given.items c.deref-in-Ok.result.now e c.in-Ok.ensures.value c.deref-in-Ok.ensures.value in
+pub eval-returns-in_ok-given-in-Call-clause-value : goal.eval-returns-in_ok-given-in-Call-clause-value
+eval-returns-in_ok-given-in-Call-clause-value g t c =
+    let xs = c.deref-in-Call.result.now in
+    let names = c.args.self.now.names in
+    let a = c.args.self.now.arrays in
+    let e : tree_of c.args.value.now ≡ call c.in-Call.name (args_of xs none) = tree_is c.args.value.now c.in-Call.name c.in-Call.args xs (c.calls_are_trees.ensures c.in-Call.name c.in-Call.args) c.in-Call.is c.deref-in-Call.ensures.value in
+    let all : taken names a (args_of xs none) ≡ Ok (c.take.new.self.arrays, arguments c.in_ok-given-in-Call.given.items) =
+    c.in_ok-given-in-Call.ensures.value a none (ap (λ gs. with_given a (arguments gs)) (sym c.new.ensures.items)) in
+    let v : value_of names a (tree_of c.args.value.now) ≡ call_value c.in-Call.name c.take.new.self.arrays (arguments c.deref-in-Call-2.result.now) =
+    ap (value_of names a) e
+    ∙ call_is names a c.take.new.self.arrays c.in-Call.name (args_of xs none) (arguments c.in_ok-given-in-Call.given.items) (arguments c.deref-in-Call-2.result.now) all (ap arguments c.deref-in-Call-2.ensures.value) in
     let P : Valued → Type 0 = λ x. Evaluates x c.call.new.self c.call.result in
     subst P (sym v) c.call.ensures.value
 
-pub eval-returns-in-Ok-clause-grown : goal.eval-returns-in-Ok-clause-grown
-eval-returns-in-Ok-clause-grown t c = grows_trans c.args.self.now c.take-taken.new.self c.call.new.self c.take-taken.ensures.grown c.call.ensures.grown
-
-pub eval-returns-in-Err-clause-value : goal.eval-returns-in-Err-clause-value
-eval-returns-in-Err-clause-value t c =
-    let e : tree_of c.args.value.now ≡ call c.in-Call.name (args_of c.deref.result.now none) = tree_is c.args.value.now c.in-Call.name c.in-Call.args c.deref.result.now c.in-Call.is c.deref.ensures.value in
-    let P : Tree → Type 0 = λ x. IsFault (value_of c.args.self.now.names c.args.self.now.arrays x) c.in-Err.fault in
-    subst P (sym e) (first_fault (taken c.args.self.now.names c.args.self.now.arrays (args_of c.deref.result.now none)) (λ x. call_value c.in-Call.name x.0 x.1) c.in-Err.fault c.in-Err.ensures.value)
+pub eval-returns-in_err-given-in-Call-clause-value : goal.eval-returns-in_err-given-in-Call-clause-value
+eval-returns-in_err-given-in-Call-clause-value g t c =
+    let xs = c.deref-in-Call.result.now in
+    let names = c.args.self.now.names in
+    let a = c.args.self.now.arrays in
+    let f = c.in_err-given-in-Call.field-0.0 in
+    let e : tree_of c.args.value.now ≡ call c.in-Call.name (args_of xs none) = tree_is c.args.value.now c.in-Call.name c.in-Call.args xs (c.calls_are_trees.ensures c.in-Call.name c.in-Call.args) c.in-Call.is c.deref-in-Call.ensures.value in
+    let all : IsFault (taken names a (args_of xs none)) f = c.in_err-given-in-Call.ensures.value a none (ap (λ gs. with_given a (arguments gs)) (sym c.new.ensures.items)) in
+    let P : Tree → Type 0 = λ x. IsFault (value_of names a x) f in
+    let h : IsFault (value_of names a (tree_of c.args.value.now)) f = subst P (sym e) (first_fault (taken names a (args_of xs none)) (λ x. call_value c.in-Call.name x.0 x.1) f all) in
+    let R : Result ℕ StepFault → Type 0 = Evaluates (value_of names a (tree_of c.args.value.now)) c.take.new.self in
+    subst R (sym (is_fault c.from_residual-in_err-given-in-Call.result f c.from_residual-in_err-given-in-Call.ensures.1)) h
 
 pub take-take_one-requires : goal.take-take_one-requires
-take-take_one-requires t c =
+take-take_one-requires g t c =
     let lt : c.loop-arg.arg-index < length c.args.args.now = omega arith in
     let P : Arg → Type 0 = λ a. AreArgArrays (argument_of a none) in
-    let B : Arg → Type 0 = λ a. are_built (argument_of a none) ≡ true in
     let Q : Arg → Type 0 = λ a. weights (argument_of a none) ≤ weights (args_of c.args.args.now none) in
-    let w : weights (argument_of c.arg-item.result none) ≤ weights (args_of c.args.args.now none) = subst Q (sym c.arg-item.is) (weights_at c.args.args.now none c.loop-arg.arg-index c.arg-item.result lt) in (
-      search (rules, w),
-      (
-        subst P (sym c.arg-item.is) (arrays_at c.args.args.now none c.loop-arg.arg-index c.arg-item.result lt c.requires.made),
-        subst B (sym c.arg-item.is) (built_at c.args.args.now none c.loop-arg.arg-index c.arg-item.result lt c.requires.built),
-      ),
-    )
+    let w : weights (argument_of c.arg-item.result none) ≤ weights (args_of c.args.args.now none) = subst Q (sym c.arg-item.is) (weights_at c.args.args.now none c.loop-arg.arg-index c.arg-item.result lt) in
+    λ κs within. (search (rules, w), (within, subst P (sym c.arg-item.is) (arrays_at c.args.args.now none c.loop-arg.arg-index c.arg-item.result lt c.requires.made)))
 
-pub take-returns-in_err-push-in-Ok-clause-grown : goal.take-returns-in_err-push-in-Ok-clause-grown
-take-returns-in_err-push-in-Ok-clause-grown t c = grows_trans c.args.self.now c.loop-arg.self c.take_one.new.self c.loop-arg.invariant.grown c.take_one.ensures.grown
-
-pub take-returns-in-Err-clause-value : goal.take-returns-in-Err-clause-value
-take-returns-in-Err-clause-value t c =
-    let P : Names → Type 0 = λ n. IsFault (taken n c.loop-arg.self.arrays (argument_of c.arg-item.result none)) c.in-Err.fault in
-    fault_at c.args.self.now.names c.args.self.now.arrays c.loop-arg.self.arrays c.args.args.now c.loop-arg.arg-index c.arg-item.result (arguments c.loop-arg.given.items) c.in-Err.fault
-    c.loop-arg.invariant.so_far (omega arith) c.arg-item.is (subst P c.loop-arg.invariant.grown.names c.in-Err.ensures.value)
-
-pub take-returns-in-Err-clause-grown : goal.take-returns-in-Err-clause-grown
-take-returns-in-Err-clause-grown t c = grows_trans c.args.self.now c.loop-arg.self c.take_one.new.self c.loop-arg.invariant.grown c.take_one.ensures.grown
+pub take-returns-in_err-one-clause-value : goal.take-returns-in_err-one-clause-value
+take-returns-in_err-one-clause-value g t c = λ a front before.
+    let names = c.args.self.now.names in
+    let so_far = args_of (take c.loop-arg.arg-index c.args.args.now) front in
+    let f = c.in_err-one.field-0.0 in
+    let P : Names → Type 0 = λ n. taken n a so_far ≡ Ok (c.loop-arg.self.arrays, arguments c.loop-arg.given.items) in
+    let Q : Names → Type 0 = λ n. IsFault (taken n a (argument_of c.arg-item.result so_far)) f in
+    let here : IsFault (taken names a (argument_of c.arg-item.result so_far)) f = subst Q c.loop-arg.invariant.grown.names
+    (c.in_err-one.ensures.value a so_far (arguments c.loop-arg.given.items) (subst P (sym c.loop-arg.invariant.grown.names) (c.loop-arg.invariant.so_far a front before))) in
+    handed_on _ _ f c.from_residual.result c.from_residual.ensures.1 (fault_at names a c.args.args.now front c.loop-arg.arg-index c.arg-item.result f (omega arith) c.arg-item.is here)
 
 pub take-loop-arg-preserved : goal.take-loop-arg-preserved
-take-loop-arg-preserved t c =
+take-loop-arg-preserved g t c =
     let lt : c.loop-arg.arg-index < length c.args.args.now = omega arith in
-    let items : c.push.new.self.items ≡ c.loop-arg.given.items ++ c.in-Ok.one ∷ [] = c.in_ok-push-in-Ok.ensures.items in
+    let items : c.push.new.self.items ≡ c.loop-arg.given.items ++ c.in_ok-one.one ∷ [] = c.in_ok-push.ensures.items in
     let names = c.args.self.now.names in
-    let P : Names → Type 0 = λ n. taken n c.loop-arg.self.arrays (argument_of c.arg-item.result none) ≡ Ok (c.take_one.new.self.arrays, argument c.in-Ok.one ∷ []) in
-    let here = subst P c.loop-arg.invariant.grown.names c.in-Ok.ensures.value in
-    let step = one_more names c.args.self.now.arrays c.loop-arg.self.arrays c.take_one.new.self.arrays c.arg-item.result (args_of (take c.loop-arg.arg-index c.args.args.now) none) (arguments c.loop-arg.given.items) (argument c.in-Ok.one) c.loop-arg.invariant.so_far here in
     record {
-      so_far = ap (taken names c.args.self.now.arrays) (args_more c.args.args.now c.loop-arg.arg-index c.arg-item.result lt ∙ ap (λ a. argument_of a (args_of (take c.loop-arg.arg-index c.args.args.now) none)) (sym c.arg-item.is))
-          ∙ step ∙ ap (λ gs. taken_ok c.take_one.new.self.arrays gs) (sym (ap arguments items ∙ arguments_snoc c.loop-arg.given.items c.in-Ok.one));
+      so_far = λ a front before.
+          let so_far = args_of (take c.loop-arg.arg-index c.args.args.now) front in
+          let P : Names → Type 0 = λ n. taken n a so_far ≡ Ok (c.loop-arg.self.arrays, arguments c.loop-arg.given.items) in
+          let Q : Names → Type 0 = λ n. taken n a (argument_of c.arg-item.result so_far) ≡ Ok (c.take_one.new.self.arrays, arguments c.loop-arg.given.items ++ argument c.in_ok-one.one ∷ []) in
+          let here : taken names a (argument_of c.arg-item.result so_far) ≡ Ok (c.take_one.new.self.arrays, arguments c.loop-arg.given.items ++ argument c.in_ok-one.one ∷ []) = subst Q c.loop-arg.invariant.grown.names
+          (c.in_ok-one.ensures.value a so_far (arguments c.loop-arg.given.items) (subst P (sym c.loop-arg.invariant.grown.names) (c.loop-arg.invariant.so_far a front before))) in
+          ap (taken names a) (args_more c.args.args.now front c.loop-arg.arg-index c.arg-item.result lt c.arg-item.is) ∙ here
+          ∙ ap (with_given c.take_one.new.self.arrays) (sym (ap arguments items ∙ arguments_snoc c.loop-arg.given.items c.in_ok-one.one));
       grown = grows_trans c.args.self.now c.loop-arg.self c.take_one.new.self c.loop-arg.invariant.grown c.take_one.ensures.grown;
-      live = rw items (live_snoc c.take_one.new.self.arrays.world c.loop-arg.given.items c.in-Ok.one
+      live = rw items (live_snoc c.take_one.new.self.arrays.world c.loop-arg.given.items c.in_ok-one.one
           (given_still c.loop-arg.self.arrays.world c.take_one.new.self.arrays.world c.take_one.ensures.grown.still c.loop-arg.given.items c.loop-arg.invariant.live)
-          c.in-Ok.ensures.live);
+          c.in_ok-one.ensures.live);
     }
-
-pub take-returns-clause-value : goal.take-returns-clause-value
-take-returns-clause-value t c =
-    let all : take c.loop-arg.arg-index c.args.args.now ≡ c.args.args.now = take_all c.loop-arg.arg-index c.args.args.now (omega arith) in
-    ap (λ xs. taken c.args.self.now.names c.args.self.now.arrays (args_of xs none)) (sym all) ∙ c.loop-arg.invariant.so_far

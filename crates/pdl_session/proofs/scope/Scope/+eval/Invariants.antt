@@ -1,7 +1,8 @@
 use Rattle.std.proofs.Common.{◌≡◌, ◌+◌, Ok}
 use Rattle.std.specs.Prelude.{take}
-use Rattle.pdl_syntax.specs.Tree.{none}
+use Rattle.pdl_syntax.specs.Tree.{Args, none}
 use Rattle.pdl_syntax.specs.TreeOf.{tree_of, args_of, argument_of}
+use Rattle.pdl_machine.specs.Arrays.{Arrays}
 use Rattle.pdl_machine.specs.Value.{taken}
 use Rattle.pdl_session.specs.Arguments.{arguments, AreGivenLive}
 use Rattle.pdl_session.specs.Scope.{Grows}
@@ -10,17 +11,18 @@ use Rattle.pdl_session.proofs.scope.Scope.+eval.Given as goal
 
 -- the arguments so far are evaluated
 abbrev pub invariant-take-loop-arg : goal.invariant-take-loop-arg
-invariant-take-loop-arg l = record {
-  so_far : taken l.fn.self.names l.fn.self.arrays (args_of (take l.arg-index l.args) none) ≡ Ok (l.self.arrays, arguments l.given.items);
+invariant-take-loop-arg g l = record {
+  so_far : (a : Arrays) (front : Args) → taken l.fn.self.names a front ≡ Ok (l.fn.self.arrays, arguments l.fn.given.items)
+      → taken l.fn.self.names a (args_of (take l.arg-index l.args) front) ≡ Ok (l.self.arrays, arguments l.given.items);
   grown : Grows l.fn.self l.self;
   live : AreGivenLive l.self.arrays.world l.given.items;
 }
 
 abbrev pub decreases-eval : goal.decreases-eval
-decreases-eval l = weight (tree_of l.value.now)
+decreases-eval g l = weight (tree_of l.value.now)
 
 abbrev pub decreases-take : goal.decreases-take
-decreases-take l = weights (args_of l.args.now none) + 1
+decreases-take g l = weights (args_of l.args.now none) + 1
 
 abbrev pub decreases-take_one : goal.decreases-take_one
-decreases-take_one l = weights (argument_of l.arg.now none)
+decreases-take_one g l = weights (argument_of l.arg.now none)

@@ -6,6 +6,6 @@ use Rattle.pdl_session.specs.Arguments.{all_seen_of, outcome_of}
 use Rattle.pdl_session.proofs.scope.Scope.outcome.Goals as goal
 
 pub returns-in-Slice-clause-value : goal.returns-in-Slice-clause-value
-returns-in-Slice-clause-value c =
+returns-in-Slice-clause-value g c =
     let P : Builtin → Type 0 = λ b. AnswersAs outcome_of (outcome b (all_seen_of c.args.self.now.arrays c.args.given.now)) c.slice.result in
     subst P (sym c.in-Slice.is) (c.slice.ensures.value c.args.self.now.arrays)

@@ -5,12 +5,12 @@ use Rattle.pdl_session.specs.Scope.{state_in, Grows}
 use Rattle.pdl_session.proofs.Growing.{tried}
 use Rattle.pdl_session.proofs.scope.Scope.view.Goals as goal
 
-pub invariant_of-self : goal.invariant_of-self
-invariant_of-self c =
-    (tried c.view.result c.growth_laws.ensures.older c.growth_laws.ensures.live c.self.inside.names c.self.inside.engine c.view.new.self (view c.args.parent c.args.trans) c.self.invariant c.view.ensures.id c.view.ensures.ok c.view.ensures.err c.view.ensures.sound).whole
+pub invariant_of-self-2 : goal.invariant_of-self-2
+invariant_of-self-2 c =
+    (tried c.view.result c.growth_laws.ensures.older c.self.inside.names c.self.inside.engine c.view.new.self (view c.args.parent c.args.trans) c.self.invariant c.view.ensures.made c.view.ensures.err c.view.ensures.sound).whole
 
 pub returns-clause-grown : goal.returns-clause-grown
 returns-clause-grown c =
     let P : State → Type 0 = λ s. Grows s (state_in c.self.inside.names c.view.new.self) in
     subst P c.self.view_is
-    (tried c.view.result c.growth_laws.ensures.older c.growth_laws.ensures.live c.self.inside.names c.self.inside.engine c.view.new.self (view c.args.parent c.args.trans) c.self.invariant c.view.ensures.id c.view.ensures.ok c.view.ensures.err c.view.ensures.sound).grown
+    (tried c.view.result c.growth_laws.ensures.older c.self.inside.names c.self.inside.engine c.view.new.self (view c.args.parent c.args.trans) c.self.invariant c.view.ensures.made c.view.ensures.err c.view.ensures.sound).grown

@@ -1,0 +1,6 @@
+use Rattle.pdl_elem.proofs.Unwrapped.{wrapped_same}
+use Rattle.pdl_elem.proofs.Wrapping.{wraps}
+use Rattle.pdl_elem.proofs.laws.wrapping_laws.Goals as goal
+
+pub returns : goal.returns
+returns c = record { in_range = λ t n. (wraps t n).in_range; same = wrapped_same }

@@ -1,0 +1,6 @@
+pub mod Lists
+pub mod Zeros
+pub mod Parts
+pub mod Results
+pub mod Fitting
+pub mod Coordinates

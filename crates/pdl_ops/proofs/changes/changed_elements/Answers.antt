@@ -1,0 +1,32 @@
+-- One block more is changed.
+use Rattle.std.proofs.Common.{◌≡◌, ℕ, ◌<◌, ℤ, List, length, length-append, take, drop, map, All, arith, ap, ap₂, sym, subst, ◌∙◌}
+use Rattle.pdl_elem.specs.declared.Ty.{Ty}
+use Rattle.pdl_elem.specs.Types.{InRange}
+use Rattle.pdl_ops.specs.Changes.{changed, changed_type}
+use Rattle.pdl_ops.proofs.Parts.{changed_more, written}
+use Rattle.pdl_ops.proofs.changes.changed_elements.Goals as goal
+
+pub loop-done-preserved : goal.loop-done-preserved
+loop-done-preserved c =
+    let k : ℕ = c.loop-done.done in
+    let b : ℕ = c.truncate.new.self.len in
+    let n : ℕ = c.len-done.result in
+    let es : List ℤ = c.args.a.now.elems in
+    let read_length : length c.strided_read.new.into ≡ b = omega arith in
+    let read : c.deref_mut-in-loop-done.result.now ≡ c.strided_read.new.into = c.deref_mut-in-loop-done.ensures.value ∙ written _ _ _ read_length in
+    let changed_length : length c.change_block.new.numbers ≡ b = omega arith in
+    let block : c.deref.result.now ≡ c.change_block.new.numbers = c.deref.ensures.value ∙ written _ _ _ changed_length in
+    let size : length c.deref_mut.result.now ≡ n = omega arith in
+    let numbers : c.deref_mut-in-loop-done.result.now ≡ take n (drop k es) = read ∙ c.strided_read.ensures.value ∙ ap (λ (m : ℕ). take m (drop k es)) size in
+    let e : c.deref.result.now ≡ map (changed c.args.change c.args.a.now.ty) (take n (drop k es)) =
+    block ∙ c.change_block.ensures.value ∙ ap₂ (λ (ty : Ty) (xs : List ℤ). map (changed c.args.change ty) xs) c.strided_type.ensures numbers in
+    let h : All (InRange (changed_type c.args.change c.args.a.now.ty)) c.deref.result.now =
+    subst (All (InRange (changed_type c.args.change c.args.a.now.ty))) (sym block)
+    (subst (λ (ty : Ty). All (InRange (changed_type c.args.change ty)) c.change_block.new.numbers) c.strided_type.ensures c.change_block.ensures.in_range) in
+    let some : 0 < b = omega (arith, c.loop-done.invariant.some c.loop-done-test.true) in
+    record {
+      inside = omega arith;
+      some = λ more. omega (arith, some, ap (λ (xs : List ℤ). length xs) c.deref.ensures.value);
+      count = omega (arith, ap (λ (zs : List ℤ). length zs) c.deref.ensures.value, ap (λ (zs : List ℤ). length zs) c.in_ok-extend_from_slice.ensures.items, length-append c.loop-done.made.items c.deref.result.now);
+      made = changed_more (changed c.args.change c.args.a.now.ty) (InRange (changed_type c.args.change c.args.a.now.ty)) es _ _ _ k n c.loop-done.invariant.made e h c.in_ok-extend_from_slice.ensures.items;
+    }

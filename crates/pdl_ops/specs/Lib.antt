@@ -1,0 +1,5 @@
+pub mod Answers
+pub mod Changes
+pub mod Elementwise
+pub mod Fills
+pub mod Values

@@ -1,0 +1,83 @@
+//! Operators and conversions of whole arrays (PDL::Ops, PDL::Core).
+ghost use Rattle.std.specs.Prelude.{◌≡◌, IfOk};
+ghost use Rattle.pdl_buf.specs.Made.{IsMade};
+ghost use Rattle.pdl_shape.specs.Broadcast.{BroadcastsTo};
+ghost use Rattle.pdl_shape.specs.Joined.{joined_dims};
+ghost use Rattle.pdl_ops.specs.Answers.{Answers, array_of, or_refused};
+ghost use Rattle.pdl_ops.specs.Elementwise.{converted, elementwise, unary_each};
+
+use crate::OpFault;
+use crate::blocks::values;
+use crate::changes::{Change, changed_elements};
+use pdl_buf::{Elements, Made, Strided, stretched, strided_dims, strided_type};
+use pdl_elem::{BinaryOp, Ty, UnaryOp, binary_type, promote, unary_type};
+use pdl_shape::{Dims, ShapeFault, copy_dims, join_dims};
+use std::alloc::{AllocError, Global};
+
+/// The dimensions that two arrays join to. It answers `Mismatch` and `TooLarge` alone.
+fn joined(alloc: Global, a: &Dims, b: &Dims) -> Result<Dims, OpFault>
+    ensures value { Answers (λ dims. dims) (or_refused (joined_dims a.now b.now)) result }
+    ensures stretched { IfOk result (λ dims. BroadcastsTo a.now dims × BroadcastsTo b.now dims) }
+{
+    match join_dims(alloc, a, b) {
+        Ok(dims) => Ok(dims),
+        Err(ShapeFault::Mismatch) => Err(OpFault::Mismatch),
+        Err(ShapeFault::TooLarge) => Err(OpFault::TooLarge),
+        Err(ShapeFault::TooManyDims) => unreachable!(),
+    }
+}
+
+/// An operator of two operands at each position of the joined dimensions, at the type of higher
+/// rank (PDL::Ops, PDL::Broadcasting). `Mismatch` where the dimensions don't join, then `TooLarge`,
+/// then `DivideByZero` with the position of the first divisor 0.
+pub fn elementwise(
+    alloc: Global,
+    op: BinaryOp,
+    a: &Strided<'_>,
+    b: &Strided<'_>,
+) -> Result<Made, OpFault>
+    ensures value { let wanted = elementwise op (array_of a.now) (array_of b.now) in
+        Answers (λ made. made) wanted result }
+    ensures made { IfOk result (λ made. IsMade made.ty made.dims made.elems) }
+{
+    let dims = joined(alloc, strided_dims(a), strided_dims(b))?;
+    let (left, right) = (strided_type(a), strided_type(b));
+    let elems = values(
+        alloc,
+        op,
+        promote(left, right),
+        &stretched(a, &dims),
+        &stretched(b, &dims),
+    )?;
+    Ok(Made {
+        ty: binary_type(op, left, right),
+        dims,
+        elems: Elements::new(elems),
+    })
+}
+
+/// An operator of one operand at each element (PDL::Ops).
+pub fn unary_each(alloc: Global, op: UnaryOp, a: &Strided<'_>) -> Result<Made, AllocError>
+    ensures value { IfOk result (λ made. made ≡ unary_each op (array_of a.now)) }
+    ensures made { IfOk result (λ made. IsMade made.ty made.dims made.elems) }
+{
+    let elems = changed_elements(alloc, Change::Operator(op), a)?;
+    Ok(Made {
+        ty: unary_type(op, strided_type(a)),
+        dims: copy_dims(strided_dims(a)),
+        elems: Elements::new(elems),
+    })
+}
+
+/// Each element wrapped to a type (PDL::Core on conversions).
+pub fn convert(alloc: Global, ty: Ty, a: &Strided<'_>) -> Result<Made, AllocError>
+    ensures value { IfOk result (λ made. made ≡ converted ty (array_of a.now)) }
+    ensures made { IfOk result (λ made. IsMade made.ty made.dims made.elems) }
+{
+    let elems = changed_elements(alloc, Change::Convert(ty), a)?;
+    Ok(Made {
+        ty,
+        dims: copy_dims(strided_dims(a)),
+        elems: Elements::new(elems),
+    })
+}

@@ -1,0 +1,83 @@
+//! An operator on two windows of as many elements, in blocks.
+ghost use Rattle.std.specs.Prelude.{◌≡◌, ◌+◌, ◌≤◌, length, map, All, IfOk, OnOk};
+ghost use Rattle.std.specs.Result.{result_err};
+ghost use Rattle.pdl_elem.specs.Blocks.{pairwise, zero_at};
+ghost use Rattle.pdl_elem.specs.Numbers.{wrapped};
+ghost use Rattle.pdl_elem.specs.Operators.{value_of};
+ghost use Rattle.pdl_elem.specs.Types.{InRange, binary_result};
+ghost use Rattle.pdl_ops.specs.Answers.{Answers};
+ghost use Rattle.pdl_ops.specs.Elementwise.{operands_from, values_of};
+
+use crate::OpFault;
+use crate::operands::{BLOCK, read_operand};
+use pdl_buf::{Strided, strided_dims};
+use pdl_elem::{BinaryOp, Ty, binary_all};
+use pdl_shape::elements_of;
+use std::alloc::Global;
+
+/// Sets `into` to the operator's values at the type on the elements of two windows from a position
+/// on, of which there are enough. `left` and `right` are as long, and become the operands. Where
+/// the operator divides and some divisor is 0, it answers the place of the first one in the block.
+fn values_block(
+    op: BinaryOp,
+    ty: Ty,
+    a: &Strided<'_>,
+    b: &Strided<'_>,
+    first: u32,
+    left: &mut [i64],
+    right: &mut [i64],
+    into: &mut [i64],
+) -> Result<(), usize>
+    requires left { length left.old ≡ length into.old }
+    requires right { length right.old ≡ length into.old }
+    requires a_within { first + length into.old ≤ length a.now.elems }
+    requires b_within { first + length into.old ≤ length b.now.elems }
+    ensures value { let xs = operands_from ty first (length into.old) a.now.elems in
+        let ys = operands_from ty first (length into.old) b.now.elems in
+        OnOk result (into.new ≡ pairwise (value_of op ty) xs ys) }
+    ensures in_range { OnOk result (All (InRange (binary_result op ty ty)) into.new) }
+    ensures refused { let ys = operands_from ty first (length into.old) b.now.elems in
+        result_err result ≡ zero_at op ys }
+{
+    read_operand(a, ty, first, left);
+    read_operand(b, ty, first, right);
+    binary_all(op, ty, left, right, into)
+}
+
+/// The operator's values at the type on the elements of two windows of as many elements, each
+/// wrapped to the type. It answers `DivideByZero` and `NoMemory` alone.
+pub(crate) fn values(
+    alloc: Global,
+    op: BinaryOp,
+    ty: Ty,
+    a: &Strided<'_>,
+    b: &Strided<'_>,
+) -> Result<Vec<i64>, OpFault>
+    requires { length a.now.elems ≡ length b.now.elems }
+    ensures value { let xs = map (wrapped ty) a.now.elems in
+        let ys = map (wrapped ty) b.now.elems in
+        Answers (λ made. made.items) (values_of op ty xs ys) result }
+    ensures in_range { IfOk result (λ made. All (InRange (binary_result op ty ty)) made.items) }
+    ensures count { IfOk result (λ made. length made.items ≡ length b.now.elems) }
+{
+    let count = elements_of(strided_dims(b)) as usize;
+    let mut left = vec![in alloc; 0; count.min(BLOCK)]?;
+    let mut right = vec![in alloc; 0; count.min(BLOCK)]?;
+    let mut block = vec![in alloc; 0; count.min(BLOCK)]?;
+    let mut made = Vec::with_capacity(alloc, count)?;
+    let mut done = 0;
+    while done < count {
+        left.truncate(count - done);
+        right.truncate(count - done);
+        block.truncate(count - done);
+        let found = values_block(op, ty, a, b, done as u32, &mut left, &mut right, &mut block);
+        if let Err(place) = found {
+            return Err(OpFault::DivideByZero {
+                place: (done + place) as u32,
+            });
+        }
+        made.extend_from_slice(&block)?;
+        done += block.len();
+    }
+    Ok(made)
+}

@@ -1,0 +1,49 @@
+-- What operators give, with the faults of statements.
+use Rattle.std.proofs.Common.{◌≡◌, Result, Ok, Err, sym, ap, subst, ◌∙◌}
+use Rattle.std.specs.Result.{IsErrAnd}
+use Rattle.pdl_elem.specs.declared.BinaryOp.{BinaryOp}
+use Rattle.pdl_buf.specs.Window.{Window}
+use Rattle.pdl_buf.specs.declared.made.Made.{Made}
+use Rattle.pdl_ops.specs.Answers.{IsRefused, array_of, refusal_named}
+use Rattle.pdl_ops.specs.Elementwise.{OpRefusal, elementwise}
+use Rattle.pdl_ops.specs.declared.OpFault.{OpFault}
+use Rattle.pdl_ops.specs.declared.OpFault.TheVariants.{Mismatch, TooLarge, DivideByZero, NoMemory}
+use Rattle.pdl_machine.specs.Operators.{binary_each}
+use Rattle.pdl_machine.specs.Refused.{operator_fault, or_named}
+use Rattle.pdl_machine.specs.declared.fault.Fault.{Fault}
+use Rattle.pdl_session.specs.declared.fault.StepFault.{StepFault}
+use Rattle.pdl_machine.specs.Then.{and_then}
+use Rattle.pdl_session.specs.declared.fault.StepFault.TheVariants as step
+use Rattle.pdl_session.specs.Answers.{IsFault, AnswersAs}
+use Rattle.pdl_session.specs.Faults.{of_operator}
+
+refused : {A : Type 0} (wanted same : Result A OpRefusal) (f : OpFault) → same ≡ wanted → IsRefused wanted (refusal_named f) → IsFault (or_named operator_fault same) (of_operator f)
+refused wanted same Mismatch e h = ap (or_named operator_fault) (e ∙ h)
+refused wanted same TooLarge e h = ap (or_named operator_fault) (e ∙ h)
+refused wanted same (DivideByZero place) e h = ap (or_named operator_fault) (e ∙ h)
+refused wanted same NoMemory e h = tt
+
+-- an operator on what two windows show
+shown_same : (op : BinaryOp) (a b c d : Window) → a ≡ c → b ≡ d → elementwise op (array_of c) (array_of d) ≡ elementwise op (array_of a) (array_of b)
+shown_same op a b c d e f = ap (λ w. elementwise op (array_of w) (array_of d)) (sym e) ∙ ap (λ w. elementwise op (array_of a) (array_of w)) (sym f)
+
+pub operated_is : (op : BinaryOp) (a b c d : Window) (m : Made) → a ≡ c → b ≡ d → elementwise op (array_of a) (array_of b) ≡ Ok m → binary_each op (array_of c) (array_of d) ≡ Ok m
+operated_is op a b c d m e f h = ap (or_named operator_fault) (shown_same op a b c d e f ∙ h)
+
+pub operator_refused : (op : BinaryOp) (a b c d : Window) (f : OpFault) → a ≡ c → b ≡ d → IsRefused (elementwise op (array_of a) (array_of b)) (refusal_named f)
+    → IsFault (binary_each op (array_of c) (array_of d)) (of_operator f)
+operator_refused op a b c d f e g h = refused (elementwise op (array_of a) (array_of b)) (elementwise op (array_of c) (array_of d)) f (shown_same op a b c d e g) h
+
+-- a fault that was handed on
+pub is_fault : {T : Type 0} (r : Result T StepFault) (f : StepFault) → IsErrAnd r (λ e. e ≡ f) → r ≡ Err f
+is_fault (Ok x) f h = absurd h
+is_fault (Err e) f h = ap Err h
+
+pub handed_on : {T U : Type 0} (seen : T → U) (wanted : Result U Fault) (f : StepFault) (r : Result T StepFault) → IsErrAnd r (λ e. e ≡ f) → IsFault wanted f → AnswersAs seen wanted r
+handed_on seen wanted f (Ok x) e h = absurd e
+handed_on seen wanted f (Err g) e h = let P : StepFault → Type 0 = IsFault wanted in subst P (sym e) h
+
+-- the fault of a first step is that of all
+pub first_fault : {A B : Type 0} (x : Result A Fault) (f : A → Result B Fault) (e : StepFault) → IsFault x e → IsFault (and_then x f) e
+first_fault x f (step.Script e) h = ap (λ y. and_then y f) h
+first_fault x f step.NoMemory h = tt

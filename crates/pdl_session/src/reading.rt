@@ -1,0 +1,126 @@
+//! Reading the elements of arrays.
+ghost use Rattle.std.specs.Prelude.{◌≡◌, IsTrue, ◌≤◌, ◌<◌, length, All, IfOk};
+ghost use Rattle.pdl_elem.specs.Types.{InRange};
+ghost use Rattle.pdl_shape.specs.Shape.{size_of};
+ghost use Rattle.pdl_buf.specs.Made.{IsMade};
+ghost use Rattle.pdl_choice.specs.Where.{rises, which};
+ghost use Rattle.pdl_ops.specs.Elementwise.{converted};
+ghost use Rattle.pdl_world.specs.World.{dims_in, ty_in, elements};
+ghost use Rattle.pdl_world.specs.Sound.{IsLive};
+ghost use Rattle.pdl_machine.specs.Arrays.{array_in};
+ghost use Rattle.pdl_machine.specs.Fills.{only};
+
+use crate::scope::Scope;
+use pdl_buf::{Elements, Made, Steps, Strided, strided_dims, strided_get, strided_read};
+use pdl_choice::{Positions, which_places};
+use pdl_elem::Ty;
+use pdl_engine::ArrayId;
+use pdl_ops::convert;
+use pdl_shape::{copy_dims, elements_of};
+use std::alloc::{AllocError, Global};
+use std::sync::ledger::Ledger;
+
+impl Scope {
+    /// The elements of an array, copied.
+    pub fn numbers<L: Ledger>(
+        &mut self,
+        id: ArrayId,
+        steps: &mut Steps<L>,
+    ) -> Result<Vec<i64>, AllocError>
+        requires { IsLive self.old.arrays.world id }
+        ensures items { IfOk result (λ ns. ns.items ≡ elements self.old.arrays.world id) }
+        ensures in_range { let ty = ty_in self.old.arrays.world id in
+            IfOk result (λ ns. All (InRange ty) ns.items) }
+        ensures count { let dims = dims_in self.old.arrays.world id in
+            IfOk result (λ ns. length ns.items ≡ size_of dims) }
+        ensures same { self.new ≡ self.old }
+    {
+        self.engine.ready(id, steps)?;
+        all_shown(self.alloc, &self.engine.lend(id))
+    }
+
+    /// The number of an array of exactly one element. Nothing is read of any other.
+    pub fn only_number<L: Ledger>(
+        &mut self,
+        id: ArrayId,
+        steps: &mut Steps<L>,
+    ) -> Result<Option<i64>, AllocError>
+        requires { IsLive self.old.arrays.world id }
+        ensures number { IfOk result (λ n. n ≡ only (elements self.old.arrays.world id)) }
+        ensures same { self.new ≡ self.old }
+    {
+        if elements_of(self.engine.dims(id)) != 1 {
+            return Ok(None);
+        }
+        self.engine.ready(id, steps)?;
+        Ok(Some(strided_get(&self.engine.lend(id), 0)))
+    }
+
+    /// A new array like an array.
+    pub fn copied<L: Ledger>(
+        &mut self,
+        id: ArrayId,
+        steps: &mut Steps<L>,
+    ) -> Result<Made, AllocError>
+        requires { IsLive self.old.arrays.world id }
+        ensures value { IfOk result (λ m. m ≡ array_in self.old.arrays id) }
+        ensures made { IfOk result (λ m. IsMade m.ty m.dims m.elems) }
+        ensures same { self.new ≡ self.old }
+    {
+        let elems = self.numbers(id, steps)?;
+        Ok(Made {
+            ty: self.ty(id),
+            dims: copy_dims(self.dims(id)),
+            elems: Elements::new(elems),
+        })
+    }
+
+    /// A new array of an array's elements, each wrapped to a type.
+    pub fn converted<L: Ledger>(
+        &mut self,
+        ty: Ty,
+        id: ArrayId,
+        steps: &mut Steps<L>,
+    ) -> Result<Made, AllocError>
+        requires { IsLive self.old.arrays.world id }
+        ensures value { IfOk result (λ m. m ≡ converted ty (array_in self.old.arrays id)) }
+        ensures made { IfOk result (λ m. IsMade m.ty m.dims m.elems) }
+        ensures same { self.new ≡ self.old }
+    {
+        self.engine.ready(id, steps)?;
+        convert(self.alloc, ty, &self.engine.lend(id))
+    }
+
+    /// The positions at which an array isn't 0, rising.
+    pub fn set_positions<L: Ledger>(
+        &mut self,
+        id: ArrayId,
+        steps: &mut Steps<L>,
+    ) -> Result<Positions, AllocError>
+        requires { IsLive self.old.arrays.world id }
+        ensures places { IfOk result (λ ps. ps ≡ which (elements self.old.arrays.world id)) }
+        ensures rises { let count = size_of (dims_in self.old.arrays.world id) in
+            IfOk result (λ ps. IsTrue (rises 0 count ps)) }
+        ensures few { let count = size_of (dims_in self.old.arrays.world id) in
+            IfOk result (λ ps. length ps ≤ count) }
+        ensures below { let count = size_of (dims_in self.old.arrays.world id) in
+            IfOk result (λ ps. All (λ p. p < count) ps) }
+        ensures same { self.new ≡ self.old }
+    {
+        let _count = elements_of(self.dims(id));
+        let numbers = self.numbers(id, steps)?;
+        which_places(self.alloc, &numbers)
+    }
+}
+
+/// The elements that are shown.
+fn all_shown(alloc: Global, window: &Strided<'_>) -> Result<Vec<i64>, AllocError>
+    ensures items { IfOk result (λ ns. ns.items ≡ window.now.elems) }
+    ensures in_range { IfOk result (λ ns. All (InRange window.now.ty) ns.items) }
+    ensures count { IfOk result (λ ns. length ns.items ≡ size_of window.now.dims) }
+{
+    let count = elements_of(strided_dims(window)) as usize;
+    let mut numbers = vec![in alloc; 0; count]?;
+    strided_read(window, 0, &mut numbers);
+    Ok(numbers)
+}

@@ -1,0 +1,91 @@
+//! Views by numbers: exchanged, moved, reordered, new, joined and squeezed dimensions (PDL::Slices).
+ghost use Rattle.std.specs.Prelude.{◌≡◌, IfOk, IfSome, IsTrue};
+ghost use Rattle.pdl_affine.specs.Views.{is_well_formed};
+ghost use Rattle.pdl_machine.specs.Views.{arranged, arrangement_outcome};
+ghost use Rattle.pdl_session.specs.Answers.{AnswersAs};
+ghost use Rattle.pdl_session.specs.Arguments.{all_seen_of, AreGivenLive, outcome_of, IsOutcomeMade};
+
+use crate::fault::StepFault;
+use crate::given::Given;
+use crate::outcome::Outcome;
+use crate::scope::Scope;
+use pdl_affine::{Affine, Numbers};
+use pdl_buf::Steps;
+use pdl_machine::{Arrangement, Fault};
+use pdl_world::Trans;
+use std::sync::ledger::Ledger;
+
+impl Scope {
+    /// A view word that takes an array and numbers.
+    pub fn arrangement<L: Ledger>(
+        &mut self,
+        word: Arrangement,
+        given: &[Given],
+        steps: &mut Steps<L>,
+    ) -> Result<Outcome, StepFault>
+        requires { AreGivenLive self.old.arrays.world given.now }
+        ensures value { let seen = all_seen_of self.old.arrays given.now in
+            AnswersAs outcome_of (arrangement_outcome word seen) result }
+        ensures made { IfOk result IsOutcomeMade }
+        ensures same { self.new ≡ self.old }
+    {
+        match given.split_first() {
+            Some((Given::Array(_), rest)) => match self.numbers_in(rest, steps) {
+                Ok(numbers) => match arranged(word, numbers) {
+                    Some(affine) => Ok(Outcome::View(Trans::Affine(affine))),
+                    None => Err(StepFault::Script(Fault::WrongArguments)),
+                },
+                Err(fault) => Err(fault),
+            },
+            _ => Err(StepFault::Script(Fault::WrongArguments)),
+        }
+    }
+}
+
+/// The arrangement that a word names with these numbers, if they are as many as it takes.
+fn arranged(word: Arrangement, numbers: Vec<i64>) -> Option<Affine>
+    ensures value { result ≡ arranged word numbers.items }
+    ensures well_formed { IfSome result (λ t. IsTrue (is_well_formed t)) }
+{
+    match word {
+        Arrangement::Reorder => Some(Affine::Reorder(Numbers::new(numbers))),
+        Arrangement::Diagonal => {
+            if numbers.is_empty() {
+                None
+            } else {
+                Some(Affine::Diagonal(Numbers::new(numbers)))
+            }
+        }
+        Arrangement::Xchg => match numbers.as_slice() {
+            [a, b] => Some(Affine::Xchg(*a, *b)),
+            _ => None,
+        },
+        Arrangement::Mv => match numbers.as_slice() {
+            [a, b] => Some(Affine::Mv(*a, *b)),
+            _ => None,
+        },
+        Arrangement::Dummy => match numbers.as_slice() {
+            [place] => Some(Affine::Dummy {
+                place: *place,
+                size: 1,
+            }),
+            [place, size] => Some(Affine::Dummy {
+                place: *place,
+                size: *size,
+            }),
+            _ => None,
+        },
+        Arrangement::Clump => match numbers.as_slice() {
+            [count] => Some(Affine::Clump(*count)),
+            _ => None,
+        },
+        Arrangement::Flat => match numbers.as_slice() {
+            [] => Some(Affine::Clump(-1)),
+            _ => None,
+        },
+        Arrangement::Squeeze => match numbers.as_slice() {
+            [] => Some(Affine::Squeeze),
+            _ => None,
+        },
+    }
+}

@@ -1,0 +1,249 @@
+-- What a sweep keeps, and how that is seen.
+use Rattle.std.proofs.Common.{◌≡◌, ℕ, ◌<◌, ◌+◌, Bool, true, false, if◌then◌else◌, inl, inr, List, [], ◌∷◌, ◌++◌, Option, Some, None, option_and_then, refl, sym, ◌∙◌, ap, subst, arith}
+use Rattle.std.specs.Option.{option_map_or}
+use Rattle.std.proofs.lemmas.Bool.{cases_eq, eq-eqb}
+use Rattle.std.proofs.lemmas.Bool.Decides.{eqb_tells}
+use Rattle.pdl_shape.specs.Places.{read}
+use Rattle.pdl_world.specs.declared.Trans.{Trans}
+use Rattle.pdl_world.specs.Paths.{path}
+use Rattle.pdl_world.specs.Sound.{NumbersBelow, IsAllowed, IsSound, IsLive}
+use Rattle.pdl_world.specs.Swept.{holds, parents, kept_onto, sweep, Has, IsReached, held_itself, parent_of}
+use Rattle.pdl_world.specs.SweepLaws.{KeptWereReached, ReachedAreSeenAsBefore, NewGoesUnheld}
+use Rattle.pdl_world.specs.World.{World, ArrayDef, root, view, Look, whole, look, through, root_elements}
+use Rattle.pdl_world.proofs.Looks.{through_root, look_view, look_older, path_older, live_below, below_more, root_below}
+use Rattle.pdl_world.proofs.Roots.{elements_older, showable}
+
+-- what the arrays behind one are held by, where it is kept or not
+abbrev held_behind : Bool → ArrayDef → List ℕ → List ℕ
+held_behind keeps d held = if keeps then parents d ++ held else held
+
+clash : (b : Bool) → b ≡ true → b ≡ false → ⊥
+clash b t f = cc
+
+more_held : (d : ArrayDef) (held : List ℕ) (k : ℕ) → holds held k ≡ true → holds (parents d ++ held) k ≡ true
+more_held (root ty ds es) held k h = h
+more_held (view p t) held k h = elim (eqb_tells p k) [
+  | inl e ↦ rw e.0 refl
+  | inr e ↦ rw e.0 h
+]
+
+-- the parent of a view is held first
+parent_held : (d : ArrayDef) (p : ℕ) (t : Trans) (held : List ℕ) → d ≡ view p t → holds (parents d ++ held) p ≡ true
+parent_held d p t held e =
+    let P : ArrayDef → Type 0 = λ x. holds (parents x ++ held) p ≡ true in
+    let here : P (view p t) = rw (eq-eqb p p refl) refl in
+    subst P (sym e) here
+
+-- what is kept was there
+has_kept : (w : World) (held : List ℕ) (k : ℕ) (d : ArrayDef) → Has (sweep w held) k d → Has w k d
+has_kept [] held k d h = absurd h
+has_kept ((j, e) ∷ w) held k d h = by_keeps (λ hs i. has_kept w hs k d i) (holds held j) h
+  where
+    by_keeps : ((hs : List ℕ) → Has (sweep w hs) k d → Has w k d) → (keeps : Bool) → Has (kept_onto keeps (j, e) (sweep w (held_behind keeps e held))) k d → Has ((j, e) ∷ w) k d
+    by_keeps rest true (inl is) = inl is
+    by_keeps rest true (inr i) = inr (rest (parents e ++ held) i)
+    by_keeps rest false i = inr (rest held i)
+
+reached_more : (u w : World) (held : List ℕ) → ((k : ℕ) (d : ArrayDef) → Has u k d → Has w k d) → (k : ℕ) → IsReached u held k → IsReached w held k
+reached_more u w held f k (held_itself k' h) = held_itself k' h
+reached_more u w held f k (parent_of v p t there r) = parent_of v p t (f v (view p t) there) (reached_more u w held f v r)
+
+-- what is reached from the parents of a newest array that is held is reached with it
+below_newest : (u : World) (held : List ℕ) (j : ℕ) (e : ArrayDef) → holds held j ≡ true → (k : ℕ) → IsReached u (parents e ++ held) k → IsReached ((j, e) ∷ u) held k
+below_newest u held j e is k (held_itself k' h) = by_parents e h
+  where
+    by_parents : (e : ArrayDef) → holds (parents e ++ held) k' ≡ true → IsReached ((j, e) ∷ u) held k'
+    by_parents (root ty ds es) h = held_itself k' h
+    by_parents (view p t) h = elim (eqb_tells p k') [
+      | inl same ↦ (let P : ℕ → Type 0 = λ x. IsReached ((j, view p t) ∷ u) held x in
+          subst P same.1 (parent_of j p t (inl (refl, refl)) (held_itself j is)))
+      | inr other ↦ held_itself k' (rw other.0 at h)
+    ]
+below_newest u held j e is k (parent_of v p t there r) = parent_of v p t (inr there) (below_newest u held j e is v r)
+
+-- each array that is kept is reached by what is kept
+still_reached : (w : World) (held : List ℕ) (k : ℕ) (d : ArrayDef) → Has (sweep w held) k d → IsReached (sweep w held) held k
+still_reached [] held k d h = absurd h
+still_reached ((j, e) ∷ w) held k d h = by_keeps (λ hs i. still_reached w hs k d i) (holds held j) refl h
+  where
+    by_keeps : ((hs : List ℕ) → Has (sweep w hs) k d → IsReached (sweep w hs) hs k) → (keeps : Bool) → holds held j ≡ keeps
+        → Has (kept_onto keeps (j, e) (sweep w (held_behind keeps e held))) k d → IsReached (kept_onto keeps (j, e) (sweep w (held_behind keeps e held))) held k
+    by_keeps rest false is i = rest held i
+    by_keeps rest true is (inl same) =
+        let P : ℕ → Type 0 = λ x. IsReached ((j, e) ∷ sweep w (parents e ++ held)) held x in subst P same.0 (held_itself j is)
+    by_keeps rest true is (inr i) = below_newest (sweep w (parents e ++ held)) held j e is k (rest (parents e ++ held) i)
+
+pub kept_were_reached : KeptWereReached
+kept_were_reached = λ w held k d h.
+    let still : IsReached (sweep w held) held k = still_reached w held k d h in
+    record { there = has_kept w held k d h; reached = reached_more (sweep w held) w held (λ v x i. has_kept w held v x i) k still; still = still }
+
+-- what is held is kept
+pub held_are_kept : (w : World) (held : List ℕ) (k : ℕ) (d : ArrayDef) → Has w k d → holds held k ≡ true → Has (sweep w held) k d
+held_are_kept [] held k d there h = absurd there
+held_are_kept ((j, e) ∷ w) held k d there h = by_keeps (λ hs i q. held_are_kept w hs k d i q) (holds held j) refl there
+  where
+    by_keeps : ((hs : List ℕ) → Has w k d → holds hs k ≡ true → Has (sweep w hs) k d) → (keeps : Bool) → holds held j ≡ keeps → Has ((j, e) ∷ w) k d
+        → Has (kept_onto keeps (j, e) (sweep w (held_behind keeps e held))) k d
+    by_keeps rest true is (inl same) = inl same
+    by_keeps rest true is (inr i) = inr (rest (parents e ++ held) i (more_held e held k h))
+    by_keeps rest false is (inl same) = absurd (clash (holds held j) (ap (holds held) same.0 ∙ h) is)
+    by_keeps rest false is (inr i) = rest held i h
+
+has_below : (w : World) (n k : ℕ) (d : ArrayDef) → NumbersBelow n w → Has w k d → k < n
+has_below [] n k d b h = absurd h
+has_below ((j, e) ∷ w) n k d b (inl same) = let low : j < n = b.0 in omega (arith, same.0)
+has_below ((j, e) ∷ w) n k d b (inr i) = has_below w n k d b.1 i
+
+-- a view's parent is older
+parent_older : (w : World) (k p : ℕ) (t : Trans) → IsSound w → Has w k (view p t) → p < k
+parent_older [] k p t s h = absurd h
+parent_older ((j, e) ∷ w) k p t s (inl same) =
+    let P : ArrayDef → Type 0 = λ x. IsAllowed w x in
+    let a : P (view p t) = subst P same.1 s.1 in
+    let low : p < j = live_below w j p s.0 a.live in
+    omega (arith, same.0)
+parent_older ((j, e) ∷ w) k p t s (inr i) = parent_older w k p t s.2 i
+
+-- the newest array of a sound world is reached by itself alone
+newest_held : (w : World) (held : List ℕ) (j : ℕ) (e : ArrayDef) → IsSound ((j, e) ∷ w) → (v : ℕ) → IsReached ((j, e) ∷ w) held v → j ≡ v → holds held j ≡ true
+newest_held w held j e s v (held_itself v' h) same = ap (holds held) same ∙ h
+newest_held w held j e s v (parent_of k v' t there r) same =
+    let older : v' < k = parent_older ((j, e) ∷ w) k v' t s there in
+    let below : NumbersBelow (j + 1) ((j, e) ∷ w) = (omega arith, below_more w j (j + 1) (omega arith) s.0) in
+    let low : k < j + 1 = has_below ((j, e) ∷ w) (j + 1) k (view v' t) below there in
+    absurd (omega arith)
+
+-- and any other is reached by the older ones
+reached_behind : (w : World) (held : List ℕ) (j : ℕ) (e : ArrayDef) → IsSound ((j, e) ∷ w) → (keeps : Bool) → holds held j ≡ keeps → (v : ℕ) → IsReached ((j, e) ∷ w) held v → (j ≡ v → ⊥)
+    → IsReached w (held_behind keeps e held) v
+reached_behind w held j e s true is v (held_itself v' h) n = held_itself v' (more_held e held v' h)
+reached_behind w held j e s false is v (held_itself v' h) n = held_itself v' h
+reached_behind w held j e s true is v (parent_of k v' t (inl same) r) n = held_itself v' (parent_held e v' t held same.1)
+reached_behind w held j e s false is v (parent_of k v' t (inl same) r) n = absurd (clash (holds held j) (newest_held w held j e s k r same.0) is)
+reached_behind w held j e s keeps is v (parent_of k v' t (inr i) r) n =
+    let low : k < j = has_below w j k (view v' t) s.0 i in
+    parent_of k v' t i (reached_behind w held j e s keeps is k r (omega arith))
+
+pub reached_are_kept : (w : World) (held : List ℕ) (k : ℕ) (d : ArrayDef) → IsSound w → Has w k d → IsReached w held k → Has (sweep w held) k d
+reached_are_kept [] held k d s there r = absurd there
+reached_are_kept ((j, e) ∷ w) held k d s there r = by_keeps (λ hs i q. reached_are_kept w hs k d s.2 i q) (holds held j) refl there
+  where
+    by_keeps : ((hs : List ℕ) → Has w k d → IsReached w hs k → Has (sweep w hs) k d) → (keeps : Bool) → holds held j ≡ keeps → Has ((j, e) ∷ w) k d
+        → Has (kept_onto keeps (j, e) (sweep w (held_behind keeps e held))) k d
+    by_keeps rest true is (inl same) = inl same
+    by_keeps rest true is (inr i) =
+        let low : k < j = has_below w j k d s.0 i in
+        inr (rest (parents e ++ held) i (reached_behind w held j e s true is k r (omega arith)))
+    by_keeps rest false is (inl same) = absurd (clash (holds held j) (newest_held w held j e s k r same.0) is)
+    by_keeps rest false is (inr i) =
+        let low : k < j = has_below w j k d s.0 i in
+        rest held i (reached_behind w held j e s false is k r (omega arith))
+
+pub below_sweep : (w : World) (n : ℕ) (held : List ℕ) → NumbersBelow n w → NumbersBelow n (sweep w held)
+below_sweep [] n held b = tt
+below_sweep ((j, e) ∷ w) n held b = by_keeps (λ hs. below_sweep w n hs b.1) (holds held j)
+  where
+    by_keeps : ((hs : List ℕ) → NumbersBelow n (sweep w hs)) → (keeps : Bool) → NumbersBelow n (kept_onto keeps (j, e) (sweep w (held_behind keeps e held)))
+    by_keeps rest true = (b.0, rest (parents e ++ held))
+    by_keeps rest false = rest held
+
+-- the array is seen as before, and its root has the elements that it had
+record Stays (w new : World) (v : ℕ) : Type 0 where
+  look_is : look new v ≡ look w v
+  path_is : path new v ≡ path w v
+  root_is : (l : Look) → look w v ≡ Some l → root_elements new l.root ≡ root_elements w l.root
+
+-- an older array, under a newest one that is kept
+stays_under : (w u : World) (j : ℕ) (e : ArrayDef) (v : ℕ) → NumbersBelow j w → (j ≡ v → ⊥) → Stays w u v → Stays ((j, e) ∷ w) ((j, e) ∷ u) v
+stays_under w u j e v b n h = record {
+  look_is = look_older j e u v n ∙ h.look_is ∙ sym (look_older j e w v n);
+  path_is = path_older j e u v n ∙ h.path_is ∙ sym (path_older j e w v n);
+  root_is = λ l q. (let there : look w v ≡ Some l = sym (look_older j e w v n) ∙ q in
+      let low = root_below w j v l b there in
+      elements_older j e u l.root low ∙ h.root_is l there ∙ sym (elements_older j e w l.root low));
+}
+
+-- and under one that goes
+stays_without : (w u : World) (j : ℕ) (e : ArrayDef) (v : ℕ) → NumbersBelow j w → (j ≡ v → ⊥) → Stays w u v → Stays ((j, e) ∷ w) u v
+stays_without w u j e v b n h = record {
+  look_is = h.look_is ∙ sym (look_older j e w v n);
+  path_is = h.path_is ∙ sym (path_older j e w v n);
+  root_is = λ l q. (let there : look w v ≡ Some l = sym (look_older j e w v n) ∙ q in
+      h.root_is l there ∙ sym (elements_older j e w l.root (root_below w j v l b there)));
+}
+
+-- the newest array itself, whose parent stays
+newest_stays : (w u : World) (j : ℕ) (e : ArrayDef) → ((p : ℕ) (t : Trans) → e ≡ view p t → Stays w u p) → Stays ((j, e) ∷ w) ((j, e) ∷ u) j
+newest_stays w u j (root ty ds es) h = record {
+  look_is = rw (eq-eqb j j refl) refl;
+  path_is = rw (eq-eqb j j refl) refl;
+  root_is = λ l q. (let P : Look → Type 0 = λ m. root_elements ((j, root ty ds es) ∷ u) m.root ≡ root_elements ((j, root ty ds es) ∷ w) m.root in
+      let is : Some _ ≡ Some l = rw (eq-eqb j j refl) at q in
+      let here : P (whole j ty ds) = rw (eq-eqb j j refl) refl in
+      subst P (let k : whole j ty ds ≡ l = cc in k) here);
+}
+newest_stays w u j (view p t) h =
+    let a : Stays w u p = h p t refl in
+    record {
+      look_is = rw (eq-eqb j j refl) (ap (option_and_then (through t)) a.look_is);
+      path_is = rw (eq-eqb j j refl) (ap (λ ps. j ∷ ps) a.path_is);
+      root_is = λ l q. elim (look_view j p t w j l q) [
+        | inl e ↦ (let P : ℕ → Type 0 = λ r. root_elements u r ≡ root_elements w r in
+            subst P (through_root t e.1.above l e.1.shows).root_is (a.root_is e.1.above e.1.parent))
+        | inr e ↦ absurd (e.0 refl)
+      ];
+    }
+
+stays : (w : World) (held : List ℕ) (v : ℕ) → IsSound w → IsReached w held v → Stays w (sweep w held) v
+stays [] held v s r = record { look_is = refl; path_is = refl; root_is = λ l h. refl }
+stays ((j, e) ∷ w) held v s r = by_keeps (λ hs u q. stays w hs u s.2 q) (holds held j) refl
+  where
+    by_keeps : ((hs : List ℕ) (u : ℕ) → IsReached w hs u → Stays w (sweep w hs) u) → (keeps : Bool) → holds held j ≡ keeps
+        → Stays ((j, e) ∷ w) (kept_onto keeps (j, e) (sweep w (held_behind keeps e held))) v
+    by_keeps rest true is = elim (cases_eq j v) [
+      | inl same ↦ (let P : ℕ → Type 0 = λ x. Stays ((j, e) ∷ w) ((j, e) ∷ sweep w (parents e ++ held)) x in
+          subst P same (newest_stays w (sweep w (parents e ++ held)) j e (λ p t q. rest (parents e ++ held) p (held_itself p (parent_held e p t held q)))))
+      | inr n ↦ stays_under w (sweep w (parents e ++ held)) j e v s.0 n (rest (parents e ++ held) v (reached_behind w held j e s true is v r n))
+    ]
+    by_keeps rest false is = elim (cases_eq j v) [
+      | inl same ↦ absurd (clash (holds held j) (newest_held w held j e s v r same) is)
+      | inr n ↦ stays_without w (sweep w held) j e v s.0 n (rest held v (reached_behind w held j e s false is v r n))
+    ]
+
+read_stays : (w new : World) (o : Option Look) → ((l : Look) → o ≡ Some l → root_elements new l.root ≡ root_elements w l.root)
+    → option_map_or (λ l. read l.places (root_elements new l.root)) o [] ≡ option_map_or (λ l. read l.places (root_elements w l.root)) o []
+read_stays w new None h = refl
+read_stays w new (Some l) h = ap (read l.places) (h l refl)
+
+pub reached_are_seen_as_before : ReachedAreSeenAsBefore
+reached_are_seen_as_before = λ w held v s r.
+    let h : Stays w (sweep w held) v = stays w held v s r in
+    let new : World = sweep w held in
+    record {
+      look_is = h.look_is;
+      elems_are = ap (λ o. option_map_or (λ l. read l.places (root_elements new l.root)) o []) h.look_is ∙ read_stays w new (look w v) h.root_is;
+      path_is = h.path_is;
+    }
+
+pub sweeps_soundly : (w : World) (held : List ℕ) → IsSound w → IsSound (sweep w held)
+sweeps_soundly [] held s = tt
+sweeps_soundly ((j, e) ∷ w) held s = by_keeps (λ hs. sweeps_soundly w hs s.2) (holds held j)
+  where
+    allowed : (e : ArrayDef) → IsAllowed w e → IsAllowed (sweep w (parents e ++ held)) e
+    allowed (root ty ds es) a = a
+    allowed (view p t) a =
+        let h : Stays w (sweep w (p ∷ held)) p = stays w (p ∷ held) p s.2 (held_itself p (parent_held (view p t) p t held refl)) in
+        showable w (sweep w (p ∷ held)) p t h.look_is h.path_is a
+
+    by_keeps : ((hs : List ℕ) → IsSound (sweep w hs)) → (keeps : Bool) → IsSound (kept_onto keeps (j, e) (sweep w (held_behind keeps e held)))
+    by_keeps rest true = (below_sweep w j (parents e ++ held) s.0, allowed e s.1, rest (parents e ++ held))
+    by_keeps rest false = rest held
+
+pub new_goes_unheld : NewGoesUnheld
+new_goes_unheld = λ w k d held b live. by_keeps w k d held b live (holds held k) refl
+  where
+    by_keeps : (w : World) (k : ℕ) (d : ArrayDef) (held : List ℕ) → NumbersBelow k w → ((v : ℕ) → holds held v ≡ true → IsLive w v) → (keeps : Bool) → holds held k ≡ keeps
+        → kept_onto keeps (k, d) (sweep w (held_behind keeps d held)) ≡ sweep w held
+    by_keeps w k d held b live true is = let low : k < k = live_below w k k b (live k is) in absurd (omega arith)
+    by_keeps w k d held b live false is = refl

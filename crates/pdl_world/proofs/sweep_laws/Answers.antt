@@ -1,0 +1,23 @@
+use Rattle.pdl_world.proofs.Sweeps.{kept_were_reached, reached_are_kept, held_are_kept, reached_are_seen_as_before, sweeps_soundly, below_sweep, new_goes_unheld}
+use Rattle.pdl_world.proofs.sweep_laws.Goals as goal
+
+pub returns-clause-kept : goal.returns-clause-kept
+returns-clause-kept c = kept_were_reached
+
+pub returns-clause-reached : goal.returns-clause-reached
+returns-clause-reached c = reached_are_kept
+
+pub returns-clause-held : goal.returns-clause-held
+returns-clause-held c = held_are_kept
+
+pub returns-clause-seen : goal.returns-clause-seen
+returns-clause-seen c = reached_are_seen_as_before
+
+pub returns-clause-sound : goal.returns-clause-sound
+returns-clause-sound c = sweeps_soundly
+
+pub returns-clause-numbers : goal.returns-clause-numbers
+returns-clause-numbers c = below_sweep
+
+pub returns-clause-new : goal.returns-clause-new
+returns-clause-new c = new_goes_unheld
