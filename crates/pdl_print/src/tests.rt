@@ -1,8 +1,8 @@
-ghost use Rattle.std.specs.Prelude.{◌≡◌, ◌<◌};
+ghost use Rattle.std.specs.Prelude.{◌≡◌, ◌<◌, [], ◌∷◌, length};
 
 use super::*;
-use pdl_buf::{Steps, buf_of, new_steps, strided};
-use pdl_shape::{dims_of, elements_of, whole_triple};
+use pdl_buf::{Buf, Steps, buf_of, new_steps, strided};
+use pdl_shape::{dims_of, elements_of, triple_of, whole_triple};
 use std::alloc::Global;
 use std::marker::Brand;
 use std::process::Abort;
@@ -28,6 +28,39 @@ fn printed<L: Ledger>(
         }
     }
     Ok(text)
+}
+
+// A plane of two columns and three rows, with its columns as rows.
+fn turned<'a>(alloc: Global, buf: &'a Buf, dims: &Dims) -> Strided<'a>
+    requires count { length buf.now.elems ≡ 6 }
+    requires sizes { dims.now ≡ 3 ∷ 2 ∷ [] }
+{
+    strided(buf, &triple_of(alloc, 0, &[2, 1], dims))
+}
+
+// The text of the numbers from 1 to 6, turned, after a `>`.
+fn printed_turned<L: Ledger>(alloc: Global, blank: Blank) -> Result<Vec<u8>, NoMemory>
+    requires name { blank.name ≡ L.name }
+    requires parts { blank.parts ≡ L.parts }
+    requires some { 0 < blank.parts }
+{
+    let mut steps = new_steps::<L>(blank);
+    let mut text = Vec::from_slice(alloc, b">")?;
+    let buf = buf_of(alloc, Ty::Byte, &[1, 2, 3, 4, 5, 6], &mut steps)?;
+    if let Ok(dims) = dims_of(alloc, &[3, 2]) {
+        write_array(&turned(alloc, &buf, &dims), &mut text)?;
+    }
+    Ok(text)
+}
+
+#[test]
+fn turned_texts(rt: HostRuntime) -> Result<(), Fail> {
+    let text = printed_turned::<Brand>(rt.alloc(), Blank::new(1))?;
+    assert_eq!(rt;
+        text.as_slice(),
+        b">\n[\n [1 3 5]\n [2 4 6]\n]\n".as_slice()
+    );
+    Ok(())
 }
 
 fn texts<L: Ledger>(rt: &impl Abort, alloc: Global, blank: Blank) -> Result<(), NoMemory>

@@ -1,7 +1,7 @@
 //! Statements as texts: each part is written, operators first, and each argument ends with `;`.
 
-use crate::{Arg, AssignOp, Expr, Statement, ViewCall};
 use pdl_elem::Name;
+use pdl_syntax::{Arg, AssignOp, Expr, Statement, ViewCall};
 use std::alloc::{AllocError, Global};
 
 type Written = Result<(), AllocError>;
