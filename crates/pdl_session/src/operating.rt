@@ -15,6 +15,7 @@ ghost use Rattle.pdl_session.specs.Answers.{Answers, AnswersAs, Evaluates, Runs}
 ghost use Rattle.pdl_session.specs.Scope.{Grows, arrays_of};
 
 use crate::fault::StepFault;
+use crate::reading::ready;
 use crate::scope::Scope;
 use pdl_buf::{Made, Steps};
 use pdl_elem::{BinaryOp, UnaryOp};
@@ -38,7 +39,7 @@ impl Scope {
             Evaluates (new_root self.old.arrays wanted) self.new result }
         ensures grown { Grows self.old self.new }
     {
-        self.engine.ready(id, steps)?;
+        ready(&mut self.engine, id, steps)?;
         let made = unary_each(self.alloc, op, &self.engine.lend(id))?;
         self.make(made.ty, &made.dims, made.elems.as_slice(), steps)
     }
@@ -58,8 +59,8 @@ impl Scope {
             Evaluates (and_then wanted (new_root a)) self.new result }
         ensures grown { Grows self.old self.new }
     {
-        self.engine.ready(left, steps)?;
-        self.engine.ready(right, steps)?;
+        ready(&mut self.engine, left, steps)?;
+        ready(&mut self.engine, right, steps)?;
         match operated(self.alloc, &self.engine, op, left, right) {
             Ok(made) => self.make(made.ty, &made.dims, made.elems.as_slice(), steps),
             Err(fault) => Err(fault),
@@ -81,8 +82,8 @@ impl Scope {
             Runs wanted self.old self.new [] [] result }
     {
         assignment_laws();
-        self.engine.ready(target, steps)?;
-        self.engine.ready(value, steps)?;
+        ready(&mut self.engine, target, steps)?;
+        ready(&mut self.engine, value, steps)?;
         match written(self.alloc, &self.engine, sign, target, value) {
             Ok(values) => {
                 self.engine.assign(target, &values, steps);

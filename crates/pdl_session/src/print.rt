@@ -5,6 +5,7 @@ ghost use Rattle.pdl_world.specs.Sound.{IsLive};
 ghost use Rattle.pdl_machine.specs.Arrays.{array_in};
 ghost use Rattle.pdl_machine.specs.Step.{printed, info_line, name_line, newline};
 
+use crate::reading::ready;
 use crate::scope::Scope;
 use pdl_buf::Steps;
 use pdl_elem::Name;
@@ -30,7 +31,7 @@ impl Scope {
         if info {
             return self.print_info(id, out);
         }
-        self.engine.ready(id, steps)?;
+        ready(&mut self.engine, id, steps)?;
         write_array(&self.engine.lend(id), out)
     }
 

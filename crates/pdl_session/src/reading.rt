@@ -1,5 +1,5 @@
 //! Reading the elements of arrays.
-ghost use Rattle.std.specs.Prelude.{◌≡◌, IsTrue, ◌≤◌, ◌<◌, length, All, IfOk};
+ghost use Rattle.std.specs.Prelude.{◌≡◌, IsTrue, ◌≤◌, ◌<◌, length, All, IfOk, true, OnOk};
 ghost use Rattle.pdl_elem.specs.Types.{InRange};
 ghost use Rattle.pdl_shape.specs.Shape.{size_of};
 ghost use Rattle.pdl_buf.specs.Made.{IsMade};
@@ -9,12 +9,13 @@ ghost use Rattle.pdl_world.specs.World.{dims_in, ty_in, elements};
 ghost use Rattle.pdl_world.specs.Sound.{IsLive};
 ghost use Rattle.pdl_machine.specs.Arrays.{array_in};
 ghost use Rattle.pdl_machine.specs.Fills.{only};
+ghost use Rattle.pdl_engine.specs.State.{is_fresh, SameArrays, StayFresh};
 
 use crate::scope::Scope;
 use pdl_buf::{Elements, Made, Steps, Strided, strided_dims, strided_get, strided_read};
 use pdl_choice::{Positions, which_places};
 use pdl_elem::Ty;
-use pdl_engine::ArrayId;
+use pdl_engine::{ArrayId, Engine};
 use pdl_ops::convert;
 use pdl_shape::{copy_dims, elements_of};
 use std::alloc::{AllocError, Global};
@@ -35,7 +36,7 @@ impl Scope {
             IfOk result (λ ns. length ns.items ≡ size_of dims) }
         ensures same { self.new ≡ self.old }
     {
-        self.engine.ready(id, steps)?;
+        ready(&mut self.engine, id, steps)?;
         all_shown(self.alloc, &self.engine.lend(id))
     }
 
@@ -52,7 +53,7 @@ impl Scope {
         if elements_of(self.engine.dims(id)) != 1 {
             return Ok(None);
         }
-        self.engine.ready(id, steps)?;
+        ready(&mut self.engine, id, steps)?;
         Ok(Some(strided_get(&self.engine.lend(id), 0)))
     }
 
@@ -87,7 +88,7 @@ impl Scope {
         ensures made { IfOk result (λ m. IsMade m.ty m.dims m.elems) }
         ensures same { self.new ≡ self.old }
     {
-        self.engine.ready(id, steps)?;
+        ready(&mut self.engine, id, steps)?;
         convert(self.alloc, ty, &self.engine.lend(id))
     }
 
@@ -111,6 +112,23 @@ impl Scope {
         let numbers = self.numbers(id, steps)?;
         which_places(self.alloc, &numbers)
     }
+}
+
+/// Makes an array one that can be lent. Where it is one already, nothing else is looked at.
+pub(crate) fn ready<L: Ledger>(
+    engine: &mut Engine,
+    id: ArrayId,
+    steps: &mut Steps<L>,
+) -> Result<(), AllocError>
+    requires { IsLive engine.old.world id }
+    ensures same { SameArrays engine.old engine.new }
+    ensures stay { StayFresh engine.old engine.new }
+    ensures itself { OnOk result (is_fresh engine.new id ≡ true) }
+{
+    if engine.is_fresh(id) {
+        return Ok(());
+    }
+    engine.ready(id, steps)
 }
 
 /// The elements that are shown.
