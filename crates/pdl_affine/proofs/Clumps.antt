@@ -33,7 +33,7 @@ moved-append (x ∷ xs) ys (c ∷ cs) bs h = rw (moved-append xs ys cs bs (omega
   joins : (a b c : ℤ) → a +ℤ (b +ℤ c) ≡ (a +ℤ b) +ℤ c
   joins a b c = omega (arith, ints)
 
-length-coordinates : (ds : List ℕ) (p : ℕ) → length (coordinates_of ds p) ≡ length ds
+pub length-coordinates : (ds : List ℕ) (p : ℕ) → length (coordinates_of ds p) ≡ length ds
 length-coordinates [] p = refl
 length-coordinates (d ∷ ds) p = ap suc (length-coordinates ds (p / d))
 

@@ -68,7 +68,7 @@ form_within laws form ds cs s w = within_each ds (form_source form ds cs) (lengt
   each squeezed i s w h = course_within squeezed ds cs i _ (squeezed_course laws ds i h) w
   each (clumped k) i s w h = at_within ds (form_source (clumped k) ds cs) i (clump_within laws k ds cs w) h
 
-checked_is : (ms ds : List ℕ) → checked_dims ms ≡ Ok ds → ms ≡ ds
+pub checked_is : (ms ds : List ℕ) → checked_dims ms ≡ Ok ds → ms ≡ ds
 checked_is ms ds h = grind (arith, nat_tests, h)
 
 sources_by : PositionLaws → (trans : Affine) (parent ds cs : List ℕ) (r : Result Form Refusal) → resolved trans parent ≡ r → form_dims r parent ≡ Ok ds → IsWithin ds cs → IsWithin parent (source trans parent cs)

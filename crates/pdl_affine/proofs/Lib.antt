@@ -9,3 +9,4 @@ pub mod SliceCourses
 pub mod Sounds
 pub mod Clumps
 pub mod Inside
+pub mod Composed

@@ -16,7 +16,7 @@ mod tests;
 
 ghost use Rattle.std.specs.Prelude.{◌≡◌};
 
-pub use laws::view_laws;
+pub use laws::{view_laws, window_laws};
 use pdl_elem::Items;
 use pdl_slices::SliceArgs;
 pub use planning::{AffinePlan, compose, copy_affine, plan, plan_dims};

@@ -8,9 +8,9 @@ use Rattle.std.proofs.lemmas.Bool.Decides.{nat_tests}
 use Rattle.std.proofs.lemmas.List.{length-map, length-replicate}
 use Rattle.std.proofs.lemmas.List.FromFn.{get_or-map-range_with_len, get_or-range_with_len, length-range_with_len, length-map-range_with_len}
 use Rattle.std.proofs.lemmas.List.Sums.{prefix_len_passes}
-use Rattle.pdl_shape.specs.Broadcast.{cut_to, join, join_cons, join_size}
+use Rattle.pdl_shape.specs.Broadcast.{cut_to, join}
 use Rattle.pdl_shape.specs.Counting.{from_end}
-use Rattle.pdl_shape.specs.Laws.{PositionLaws}
+use Rattle.pdl_shape.specs.Laws.{CutsWithin, JoinsStretch, PositionLaws}
 use Rattle.pdl_shape.specs.Limits.{checked_dims}
 use Rattle.pdl_shape.specs.Refusals.{Refusal, bad_dimension, mismatch}
 use Rattle.pdl_shape.specs.Shape.{IsWithin, position_of, size_of}
@@ -44,41 +44,6 @@ none_passes test xs e k d h = elim (cases_lt (position_or_len test xs) (length x
 
 -- ---- index
 
--- what joins lies within what it joins to, and coordinates of that are cut to coordinates of each
-cut_self : (ds cs : List ℕ) → IsWithin ds cs → IsWithin ds (cut_to ds cs)
-cut_self [] [] w = tt
-cut_self [] (c ∷ cs) w = absurd w
-cut_self (d ∷ ds) [] w = absurd w
-cut_self (d ∷ ds) (c ∷ cs) w = (cut d c w.0, cut_self ds cs w.1) where
-  cut : (d c : ℕ) → c < d → (if d == 1 then 0 else c) < d
-  cut d c h = grind (arith, nat_tests)
-
-join_parts : (o : Option ℕ) (p : Option (List ℕ)) (ds : List ℕ) → join_cons o p ≡ Some ds → (d : ℕ) × (rest : List ℕ) × (o ≡ Some d) × (p ≡ Some rest) × (d ∷ rest ≡ ds)
-join_parts (Some d) (Some rest) ds e = (d, rest, refl, refl, cc)
-join_parts (Some d) None ds e = absurd (cc)
-join_parts None p ds e = absurd (cc)
-
-size_joined : (x y d c : ℕ) → join_size x y ≡ Some d → c < d → ((if x == 1 then 0 else c) < x) × ((if y == 1 then 0 else c) < y)
-size_joined x y d c e h = grind (arith, nat_tests, e)
-
-joined_within : (xs ys ds cs : List ℕ) → join xs ys ≡ Some ds → IsWithin ds cs → IsWithin xs (cut_to xs cs) × IsWithin ys (cut_to ys cs)
-joined_within [] ys ds cs e w =
-    let same : ds ≡ ys = cc in
-    (tt, cut_self ys cs (subst (λ (es : List ℕ). IsWithin es cs) same w))
-joined_within (x ∷ xs) [] ds cs e w =
-    let same : ds ≡ x ∷ xs = cc in
-    (cut_self (x ∷ xs) cs (subst (λ (es : List ℕ). IsWithin es cs) same w), tt)
-joined_within (x ∷ xs) (y ∷ ys) ds cs e w =
-    let p = join_parts (join_size x y) (join xs ys) ds e in
-    along p.0 p.1 cs p.2 (subst (λ (es : List ℕ). IsWithin es cs) (sym p.4) w) (λ bs v. joined_within xs ys p.1 bs p.3 v) where
-      along : (d : ℕ) (rest cs : List ℕ) → join_size x y ≡ Some d → IsWithin (d ∷ rest) cs → ((bs : List ℕ) → IsWithin rest bs → IsWithin xs (cut_to xs bs) × IsWithin ys (cut_to ys bs))
-          → IsWithin (x ∷ xs) (cut_to (x ∷ xs) cs) × IsWithin (y ∷ ys) (cut_to (y ∷ ys) cs)
-      along d rest [] s v more = absurd v
-      along d rest (c ∷ bs) s v more =
-          let here = size_joined x y d c s v.0 in
-          let others = more bs v.1 in
-          ((here.0, others.0), (here.1, others.1))
-
 index_parts : (o : Option (List ℕ)) (w : Option ℕ) (ds : List ℕ) → option_map_or (λ met. unless_outside w (checked_dims met)) o (Err mismatch) ≡ Ok ds → (o ≡ Some ds) × (w ≡ None)
 index_parts None w ds h = absurd (cc)
 index_parts (Some met) (Some at) ds h = absurd (cc)
@@ -88,17 +53,18 @@ stands_for : (o : Option ℕ) → is_none o ≡ false → IsSome o
 stands_for None h = absurd (cc)
 stands_for (Some p) h = refl
 
-index_sources : PositionLaws → (parent ind_dims ds cs : List ℕ) (ind : List ℤ) → length ind ≡ size_of ind_dims → index_dims parent ind_dims ind ≡ Ok ds → IsWithin ds cs → IsWithin parent (index_source parent ind_dims ind cs)
-index_sources positions [] ind_dims ds cs ind whole e w = absurd (cc)
-index_sources positions (n ∷ rest) ind_dims ds cs ind whole e w =
+index_sources : PositionLaws → CutsWithin → JoinsStretch → (parent ind_dims ds cs : List ℕ) (ind : List ℤ) → length ind ≡ size_of ind_dims → index_dims parent ind_dims ind ≡ Ok ds → IsWithin ds cs → IsWithin parent (index_source parent ind_dims ind cs)
+index_sources positions cuts joins [] ind_dims ds cs ind whole e w = absurd (cc)
+index_sources positions cuts joins (n ∷ rest) ind_dims ds cs ind whole e w =
     let p = index_parts (join ind_dims rest) (first_outside n ind) ds e in
-    let lie = joined_within ind_dims rest ds cs p.0 w in
+    let stretch = joins ind_dims rest ds p.0 in
+    let inside : IsWithin ind_dims (cut_to ind_dims cs) = cuts ind_dims ds cs stretch.0 w in
     let at : ℕ = position_of ind_dims (cut_to ind_dims cs) in
-    let below : at < length ind = omega (arith, positions.position_below ind_dims (cut_to ind_dims cs) lie.0, whole) in
-    (counted_below n (get_or ind at (pos 0)) (stands_for (from_end (get_or ind at (pos 0)) n) (none_passes (λ v. is_none (from_end v n)) ind p.1 at (pos 0) below)), lie.1)
+    let below : at < length ind = omega (arith, positions.position_below ind_dims (cut_to ind_dims cs) inside, whole) in
+    (counted_below n (get_or ind at (pos 0)) (stands_for (from_end (get_or ind at (pos 0)) n) (none_passes (λ v. is_none (from_end v n)) ind p.1 at (pos 0) below)), cuts rest ds cs stretch.1 w)
 
-pub index_sources_lie : PositionLaws → IndexSourcesLieWithin
-index_sources_lie positions = λ parent ind_dims ds cs ind whole e w. index_sources positions parent ind_dims ds cs ind whole e w
+pub index_sources_lie : PositionLaws → CutsWithin → JoinsStretch → IndexSourcesLieWithin
+index_sources_lie positions cuts joins = λ parent ind_dims ds cs ind whole e w. index_sources positions cuts joins parent ind_dims ds cs ind whole e w
 
 -- ---- where
 

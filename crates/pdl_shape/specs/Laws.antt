@@ -1,9 +1,9 @@
 -- What holds of all sizes, positions and places.
 use Rattle.std.specs.Prelude.{◌≡◌, ◌⊎◌, ℕ, ℤ, pos, ◌/◌, ◌<◌, ◌≤◌, List, ◌∷◌, length, get_or, drop, All, Option, Some, None, IfSome}
 use Rattle.std.specs.List.{Contains}
-use Rattle.pdl_shape.specs.Broadcast.{BroadcastsTo, cut_to}
-use Rattle.pdl_shape.specs.Shape.{extent, size_of, IsWithin, position_of, coordinates_of}
-use Rattle.pdl_shape.specs.Triple.{place_of, whole}
+use Rattle.pdl_shape.specs.Broadcast.{BroadcastsTo, cut_to, join}
+use Rattle.pdl_shape.specs.Shape.{IsDims, extent, size_of, IsWithin, position_of, coordinates_of}
+use Rattle.pdl_shape.specs.Triple.{IsTriple, place_of, whole}
 use Rattle.pdl_shape.specs.Places.{AllBelow, places_of, write}
 
 -- Coordinates and positions are inverse to each other, and both stay within the sizes. What is left of a position
@@ -26,9 +26,17 @@ pub record SizeLaws : Type 0 where
 abbrev pub CutsWithin : Type 0
 CutsWithin = (ds joined cs : List ℕ) → BroadcastsTo ds joined → IsWithin joined cs → IsWithin ds (cut_to ds cs)
 
+-- Sizes stretch to what they join to.
+abbrev pub JoinsStretch : Type 0
+JoinsStretch = (a b joined : List ℕ) → join a b ≡ Some joined → BroadcastsTo a joined × BroadcastsTo b joined
+
 -- A whole array's places are its positions.
 abbrev pub WholesAreInOrder : Type 0
 WholesAreInOrder = (ds cs : List ℕ) → IsWithin ds cs → place_of (whole ds) cs ≡ pos (position_of ds cs)
+
+-- The triple of a whole array is one that shows places of a buffer.
+abbrev pub WholesAreTriples : Type 0
+WholesAreTriples = (ds : List ℕ) → IsDims ds → IsTriple (whole ds)
 
 -- A child's places lie in its parent where the coordinates that its own come from do.
 abbrev pub PlacesLieInParent : Type 0

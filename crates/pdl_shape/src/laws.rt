@@ -1,5 +1,5 @@
 //! Laws of the definitions, for the proofs of the crates above.
-ghost use Rattle.pdl_shape.specs.Laws.{CutsWithin, PlacesLieInParent, PositionLaws, SizeLaws, WholesAreInOrder, WriteLaws};
+ghost use Rattle.pdl_shape.specs.Laws.{CutsWithin, JoinsStretch, PlacesLieInParent, PositionLaws, SizeLaws, WholesAreInOrder, WholesAreTriples, WriteLaws};
 
 /// The laws of sizes, positions and places. It does nothing: who calls it has them.
 pub fn shape_laws()
@@ -7,6 +7,12 @@ pub fn shape_laws()
     ensures sizes { SizeLaws }
     ensures wholes { WholesAreInOrder }
     ensures cuts { CutsWithin }
+    ensures joins { JoinsStretch }
     ensures places { PlacesLieInParent }
     ensures writes { WriteLaws }
+{}
+
+/// The triple of a whole array is a triple. It does nothing: who calls it has the law.
+pub fn triple_laws()
+    ensures wholes { WholesAreTriples }
 {}

@@ -2,4 +2,9 @@ pub mod Looks
 pub mod Roots
 pub mod Proved
 pub mod Newest
+pub mod Stays
 pub mod Sweeps
+pub mod Replaces
+pub mod Dimensions
+pub mod Cuts
+pub mod Severs

@@ -1,17 +1,15 @@
 -- What a sweep keeps, and how that is seen.
-use Rattle.std.proofs.Common.{◌≡◌, ℕ, ◌<◌, ◌+◌, Bool, true, false, if◌then◌else◌, inl, inr, List, [], ◌∷◌, ◌++◌, Option, Some, None, option_and_then, refl, sym, ◌∙◌, ap, subst, arith}
-use Rattle.std.specs.Option.{option_map_or}
+use Rattle.std.proofs.Common.{◌≡◌, ℕ, ◌<◌, ◌+◌, Bool, true, false, if◌then◌else◌, inl, inr, List, [], ◌∷◌, ◌++◌, refl, sym, ◌∙◌, ap, subst, arith}
 use Rattle.std.proofs.lemmas.Bool.{cases_eq, eq-eqb}
 use Rattle.std.proofs.lemmas.Bool.Decides.{eqb_tells}
-use Rattle.pdl_shape.specs.Places.{read}
 use Rattle.pdl_world.specs.declared.Trans.{Trans}
-use Rattle.pdl_world.specs.Paths.{path}
 use Rattle.pdl_world.specs.Sound.{NumbersBelow, IsAllowed, IsSound, IsLive}
 use Rattle.pdl_world.specs.Swept.{holds, parents, kept_onto, sweep, Has, IsReached, held_itself, parent_of}
 use Rattle.pdl_world.specs.SweepLaws.{KeptWereReached, ReachedAreSeenAsBefore, NewGoesUnheld}
-use Rattle.pdl_world.specs.World.{World, ArrayDef, root, view, Look, whole, look, through, root_elements}
-use Rattle.pdl_world.proofs.Looks.{through_root, look_view, look_older, path_older, live_below, below_more, root_below}
-use Rattle.pdl_world.proofs.Roots.{elements_older, showable}
+use Rattle.pdl_world.specs.World.{World, ArrayDef, root, view}
+use Rattle.pdl_world.proofs.Looks.{live_below, below_more}
+use Rattle.pdl_world.proofs.Roots.{showable}
+use Rattle.pdl_world.proofs.Stays.{Stays, stays_under, stays_without, newest_stays, seen_as_before}
 
 -- what the arrays behind one are held by, where it is kept or not
 abbrev held_behind : Bool → ArrayDef → List ℕ → List ℕ
@@ -148,53 +146,6 @@ below_sweep ((j, e) ∷ w) n held b = by_keeps (λ hs. below_sweep w n hs b.1) (
     by_keeps rest true = (b.0, rest (parents e ++ held))
     by_keeps rest false = rest held
 
--- the array is seen as before, and its root has the elements that it had
-record Stays (w new : World) (v : ℕ) : Type 0 where
-  look_is : look new v ≡ look w v
-  path_is : path new v ≡ path w v
-  root_is : (l : Look) → look w v ≡ Some l → root_elements new l.root ≡ root_elements w l.root
-
--- an older array, under a newest one that is kept
-stays_under : (w u : World) (j : ℕ) (e : ArrayDef) (v : ℕ) → NumbersBelow j w → (j ≡ v → ⊥) → Stays w u v → Stays ((j, e) ∷ w) ((j, e) ∷ u) v
-stays_under w u j e v b n h = record {
-  look_is = look_older j e u v n ∙ h.look_is ∙ sym (look_older j e w v n);
-  path_is = path_older j e u v n ∙ h.path_is ∙ sym (path_older j e w v n);
-  root_is = λ l q. (let there : look w v ≡ Some l = sym (look_older j e w v n) ∙ q in
-      let low = root_below w j v l b there in
-      elements_older j e u l.root low ∙ h.root_is l there ∙ sym (elements_older j e w l.root low));
-}
-
--- and under one that goes
-stays_without : (w u : World) (j : ℕ) (e : ArrayDef) (v : ℕ) → NumbersBelow j w → (j ≡ v → ⊥) → Stays w u v → Stays ((j, e) ∷ w) u v
-stays_without w u j e v b n h = record {
-  look_is = h.look_is ∙ sym (look_older j e w v n);
-  path_is = h.path_is ∙ sym (path_older j e w v n);
-  root_is = λ l q. (let there : look w v ≡ Some l = sym (look_older j e w v n) ∙ q in
-      h.root_is l there ∙ sym (elements_older j e w l.root (root_below w j v l b there)));
-}
-
--- the newest array itself, whose parent stays
-newest_stays : (w u : World) (j : ℕ) (e : ArrayDef) → ((p : ℕ) (t : Trans) → e ≡ view p t → Stays w u p) → Stays ((j, e) ∷ w) ((j, e) ∷ u) j
-newest_stays w u j (root ty ds es) h = record {
-  look_is = rw (eq-eqb j j refl) refl;
-  path_is = rw (eq-eqb j j refl) refl;
-  root_is = λ l q. (let P : Look → Type 0 = λ m. root_elements ((j, root ty ds es) ∷ u) m.root ≡ root_elements ((j, root ty ds es) ∷ w) m.root in
-      let is : Some _ ≡ Some l = rw (eq-eqb j j refl) at q in
-      let here : P (whole j ty ds) = rw (eq-eqb j j refl) refl in
-      subst P (let k : whole j ty ds ≡ l = cc in k) here);
-}
-newest_stays w u j (view p t) h =
-    let a : Stays w u p = h p t refl in
-    record {
-      look_is = rw (eq-eqb j j refl) (ap (option_and_then (through t)) a.look_is);
-      path_is = rw (eq-eqb j j refl) (ap (λ ps. j ∷ ps) a.path_is);
-      root_is = λ l q. elim (look_view j p t w j l q) [
-        | inl e ↦ (let P : ℕ → Type 0 = λ r. root_elements u r ≡ root_elements w r in
-            subst P (through_root t e.1.above l e.1.shows).root_is (a.root_is e.1.above e.1.parent))
-        | inr e ↦ absurd (e.0 refl)
-      ];
-    }
-
 stays : (w : World) (held : List ℕ) (v : ℕ) → IsSound w → IsReached w held v → Stays w (sweep w held) v
 stays [] held v s r = record { look_is = refl; path_is = refl; root_is = λ l h. refl }
 stays ((j, e) ∷ w) held v s r = by_keeps (λ hs u q. stays w hs u s.2 q) (holds held j) refl
@@ -211,20 +162,8 @@ stays ((j, e) ∷ w) held v s r = by_keeps (λ hs u q. stays w hs u s.2 q) (hold
       | inr n ↦ stays_without w (sweep w held) j e v s.0 n (rest held v (reached_behind w held j e s false is v r n))
     ]
 
-read_stays : (w new : World) (o : Option Look) → ((l : Look) → o ≡ Some l → root_elements new l.root ≡ root_elements w l.root)
-    → option_map_or (λ l. read l.places (root_elements new l.root)) o [] ≡ option_map_or (λ l. read l.places (root_elements w l.root)) o []
-read_stays w new None h = refl
-read_stays w new (Some l) h = ap (read l.places) (h l refl)
-
 pub reached_are_seen_as_before : ReachedAreSeenAsBefore
-reached_are_seen_as_before = λ w held v s r.
-    let h : Stays w (sweep w held) v = stays w held v s r in
-    let new : World = sweep w held in
-    record {
-      look_is = h.look_is;
-      elems_are = ap (λ o. option_map_or (λ l. read l.places (root_elements new l.root)) o []) h.look_is ∙ read_stays w new (look w v) h.root_is;
-      path_is = h.path_is;
-    }
+reached_are_seen_as_before = λ w held v s r. seen_as_before w (sweep w held) v (stays w held v s r)
 
 pub sweeps_soundly : (w : World) (held : List ℕ) → IsSound w → IsSound (sweep w held)
 sweeps_soundly [] held s = tt

@@ -4,6 +4,8 @@ pub mod Paths
 pub mod Refused
 pub mod Sound
 pub mod Swept
+pub mod Cut
 pub mod Laws
 pub mod SweepLaws
+pub mod CutLaws
 pub mod Windows

@@ -9,6 +9,8 @@
 ghost use Rattle.pdl_world.specs.Laws.{LooksStay, PathsStay, NumbersStay, Reads, ReadsBack, AssignsSoundly};
 ghost use Rattle.pdl_world.specs.Laws.{PlacesLieWithin, RootsAreInRange, LiveLieBelow, OlderStay, OlderElementsStay, OlderPathsStay, JoinsSoundly};
 ghost use Rattle.pdl_world.specs.Laws.{NewIsLive, NewRootIsSeen, NewRootIsWhole, NewRootHasPath, NewViewIsSeen, NewViewHasPath};
+ghost use Rattle.pdl_world.specs.CutLaws.{CutsLeaveElements, CutsAreRoots, RootsAreUncut, CutsLeaveOthers, CutsLeaveFamilies, CutsTakeTheirViews, CutsSoundly, CutsLeaveNumbers};
+ghost use Rattle.pdl_world.specs.CutLaws.{ViewsAreFound, FittedIsFitted, ReshapedIsSeen, ReshapesLeaveOthers, ReshapesSoundly, ReshapesLeaveNumbers};
 ghost use Rattle.pdl_world.specs.SweepLaws.{KeptWereReached, ReachedAreKept, HeldAreKept, ReachedAreSeenAsBefore, SweepsSoundly, NoNumberComes, NewGoesUnheld};
 
 use pdl_affine::{Affine, Numbers};
@@ -91,4 +93,34 @@ pub fn sweep_laws()
     ensures sound { SweepsSoundly }
     ensures numbers { NoNumberComes }
     ensures new { NewGoesUnheld }
+{}
+
+/// The laws of a cut (PDL::Core, sever). Each array shows the type, the dimensions and the elements
+/// that it showed. The array is a root afterwards, and what was shown through it stays with it; any
+/// other array is seen as before, so each one of another family. To cut a root is nothing. The same
+/// arrays are there, and a sound world stays sound.
+pub fn cut_laws()
+    ensures elements { CutsLeaveElements }
+    ensures rooted { CutsAreRoots }
+    ensures uncut { RootsAreUncut }
+    ensures others { CutsLeaveOthers }
+    ensures families { CutsLeaveFamilies }
+    ensures views { CutsTakeTheirViews }
+    ensures sound { CutsSoundly }
+    ensures numbers { CutsLeaveNumbers }
+{
+    shape_laws()
+}
+
+/// The laws of other dimensions (PDL::Core, reshape), for an array that is no view's parent. It is a
+/// root of these dimensions afterwards, with the first elements that it had, in order, and zeros
+/// where there were fewer; the others are seen as before. The same arrays are there, and a sound
+/// world stays sound.
+pub fn reshape_laws()
+    ensures views { ViewsAreFound }
+    ensures fitted { FittedIsFitted }
+    ensures seen { ReshapedIsSeen }
+    ensures others { ReshapesLeaveOthers }
+    ensures sound { ReshapesSoundly }
+    ensures numbers { ReshapesLeaveNumbers }
 {}

@@ -2,7 +2,7 @@ use Rattle.pdl_choice.proofs.Sources.{index_sources_lie, range_sources_lie, wher
 use Rattle.pdl_choice.proofs.laws.choice_laws.Goals as goal
 
 pub returns-clause-index : goal.returns-clause-index
-returns-clause-index c = index_sources_lie c.shape_laws.ensures.positions
+returns-clause-index c = index_sources_lie c.shape_laws.ensures.positions c.shape_laws.ensures.cuts c.shape_laws.ensures.joins
 
 pub returns-clause-listed : goal.returns-clause-listed
 returns-clause-listed c = where_sources_lie c.shape_laws.ensures.positions

@@ -1,4 +1,4 @@
-use Rattle.pdl_shape.proofs.Broadcasts.{cut_within}
+use Rattle.pdl_shape.proofs.Broadcasts.{cut_within, broadcasts_join}
 use Rattle.pdl_shape.proofs.Extents.{extent_positive, size_le-extent}
 use Rattle.pdl_shape.proofs.Inside.{places_lie_in_parent}
 use Rattle.pdl_shape.proofs.Positions.{coordinates_within, position_below, position-coordinates, coordinates-position, within-length, quotient_below, extent-drop}
@@ -24,6 +24,9 @@ returns-clause-wholes c = place-whole
 
 pub returns-clause-cuts : goal.returns-clause-cuts
 returns-clause-cuts c = cut_within
+
+pub returns-clause-joins : goal.returns-clause-joins
+returns-clause-joins c = broadcasts_join
 
 pub returns-clause-places : goal.returns-clause-places
 returns-clause-places c = places_lie_in_parent
