@@ -1,3 +1,4 @@
+pub mod Bytes
 pub mod Walking
 pub mod Lists
 pub mod Ordered

@@ -5,27 +5,14 @@ use Rattle.std.proofs.lemmas.List.{at_drop_more, drop_all}
 use Rattle.std.proofs.Math.Nat.{mul-le-mul, mul-le-mul_left, mul_assoc}
 use Rattle.std.specs.Int.RustNames.{unsigned_abs}
 use Rattle.pdl_shape.specs.Shape.{extent, size_of, coordinates_of, position_of}
-use Rattle.pdl_shape.specs.Triple.{Triple, IsTriple, moved, Reaches}
+use Rattle.pdl_shape.specs.Triple.{Triple, moved}
 use Rattle.pdl_shape.specs.Laws.{PositionLaws, SizeLaws}
 use Rattle.pdl_buf.specs.Window.{IsInOrder, place_at}
-use Rattle.pdl_buf.proofs.Walking.{IsShown, shown_at}
-
--- the place of an element in order is the offset and its position, and lies in the buffer
-pub record IsRead (t : Triple) (offset length p : ℕ) : Type 0 where
-  pub is : place_at t p ≡ offset + p
-  pub below : offset + p < length
-  pub small : offset + p < 1048576
 
 pub in_order_at : PositionLaws → (t : Triple) (p : ℕ) → IsInOrder 1 t.incs t.dims → p < size_of t.dims → place_at t p ≡ t.offset + p
 in_order_at laws t p o h =
     let e : moved t.incs (coordinates_of t.dims p) ≡ pos (1 * position_of t.dims (coordinates_of t.dims p)) = o (coordinates_of t.dims p) (laws.coordinates_within t.dims p h) in
     ap (λ m. unsigned_abs (pos t.offset +ℤ m)) e ∙ ap (λ k. t.offset + 1 * k) (laws.position_again t.dims p h) ∙ omega arith
-
-pub read_at : PositionLaws → (t : Triple) (offset n p : ℕ) → IsTriple t → Reaches t n → IsInOrder 1 t.incs t.dims → p < size_of t.dims → t.offset ≡ offset → IsRead t offset n p
-read_at laws t offset n p ok reach o h e =
-    let s : IsShown t n p = shown_at laws t n p ok reach h in
-    let is : place_at t p ≡ offset + p = in_order_at laws t p o h ∙ ap (λ k. k + p) e in
-    record { is = is; below = omega (arith, is, s.below); small = omega (arith, is, s.small) }
 
 -- a coordinate along a dimension where one step goes n elements far, before q rows of them
 step_moved : (n d c q : ℕ) (z : ℤ) → c < d → (1 < d → z ≡ pos n) → (z *ℤ pos c) +ℤ pos (n * d * q) ≡ pos (n * (c + d * q))

@@ -1,14 +1,12 @@
 -- Reading the elements of a window in blocks.
-use Rattle.std.specs.Prelude.{◌≡◌, ◌<◌, ◌+◌, ℕ, ℤ, pos, ◌≤ℤ◌, ◌<ℤ◌, List, get_or}
-use Rattle.pdl_shape.specs.Shape.{extent_limit}
-use Rattle.pdl_shape.specs.Triple.{Triple}
+use Rattle.std.specs.Prelude.{◌≡◌, ◌<◌, ◌+◌, ℕ, ℤ, pos, ◌<ℤ◌, List, get_or}
+use Rattle.pdl_shape.specs.Triple.{IsPlace, Triple}
 use Rattle.pdl_buf.specs.Window.{place_at}
 
 -- a place in a list of n numbers, and in a buffer of the largest size
 pub record IsInside (n : ℕ) (z : ℤ) : Type 0 where
-  pub low : pos 0 ≤ℤ z
+  pub place : IsPlace z
   pub high : z <ℤ pos n
-  pub small : z <ℤ pos extent_limit
 
 -- the first count of these numbers are what the triple shows from a position on
 abbrev pub HasRead : Triple → List ℤ → ℕ → ℕ → List ℤ → Type 0

@@ -6,15 +6,18 @@
 #![tactic(auto)]
 
 mod buffer;
+mod layout;
 mod lending;
 mod made;
 mod moves;
+mod numbers;
+mod packed;
 mod reads;
 mod steps;
 mod stretching;
 mod window;
 
-pub use buffer::{Buf, buf_get, buf_of, buf_set};
+pub use buffer::{Buf, buf_bytes, buf_get, buf_of, buf_set};
 pub use lending::strided;
 pub use made::{Elements, Made};
 pub use moves::{gather, scatter};

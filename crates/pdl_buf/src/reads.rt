@@ -1,25 +1,54 @@
 //! Reading a window in blocks.
-ghost use Rattle.std.specs.Prelude.{◌≡◌, ◌<◌, ◌≤◌, ◌+◌, ◌%◌, ◌+ℤ◌, ◌*ℤ◌, ℕ, pos, length, take, drop, get_or, All, unsigned_abs};
+ghost use Rattle.std.specs.Prelude.{◌≡◌, ◌<◌, ◌≤◌, ◌+◌, ◌%◌, ◌/◌, ◌*◌, ◌+ℤ◌, ◌*ℤ◌, ℕ, pos, length, take, drop, get_or, All, unsigned_abs};
 ghost use Rattle.pdl_elem.specs.Types.{InRange};
 ghost use Rattle.pdl_shape.specs.Shape.{extent_limit, size_of};
-ghost use Rattle.pdl_shape.specs.Triple.{IsTriple, Reaches};
+ghost use Rattle.pdl_shape.specs.Triple.{IsPlace, IsTriple, Reaches};
 ghost use Rattle.pdl_buf.specs.Reads.{IsInside, HasRead};
 ghost use Rattle.pdl_buf.specs.Window.{IsInOrder, place_at};
 
-use crate::buffer::Buf;
-use crate::window::{Strided, place_of};
+use crate::layout::{Layout, place_of};
+use crate::packed::{Packed, PackedType};
+use crate::window::Strided;
 use pdl_shape::{Triple, dims_list, incs_list, shape_laws};
 
+/// The place so many steps after another.
+fn place_after(place: u32, inc: i32, steps: usize) -> usize
+    requires steps { steps < extent_limit }
+    requires place { IsPlace (pos place +ℤ inc *ℤ pos steps) }
+    ensures { result ≡ unsigned_abs (pos place +ℤ inc *ℤ pos steps) }
+{
+    let moved = i64::from(inc) * steps as i64;
+    let at = i64::from(place) + moved;
+    at as usize
+}
+
 /// The numbers from a place on, each so far after the one before.
-fn read_steps(numbers: &[i64], place: u32, inc: i32, into: &mut [i64])
+fn read_steps<T: PackedType<N>, const N: usize>(
+    numbers: &Packed<T, N>,
+    place: u32,
+    inc: i32,
+    into: &mut [i64],
+)
     requires small { length into.old ≤ extent_limit }
     requires inside { (j : ℕ) → j < length into.old → IsInside (length numbers.now) (pos place +ℤ inc *ℤ pos j) }
     ensures { (j : ℕ) → j < length into.old → get_or into.new j (pos 0) ≡ get_or numbers.now (unsigned_abs (pos place +ℤ inc *ℤ pos j)) (pos 0) }
 {
     for (j, x) in into.iter_mut().enumerate() {
-        let step = i64::from(inc) * j as i64;
-        let at = i64::from(place) + step;
-        *x = numbers[at as usize];
+        *x = numbers.get(place_after(place, inc, j));
+    }
+}
+
+/// The numbers from a place on, one after another.
+fn read_neighbours<T: PackedType<N>, const N: usize>(
+    numbers: &Packed<T, N>,
+    start: u32,
+    into: &mut [i64],
+)
+    requires { start + length into.old ≤ length numbers.now }
+    ensures { (j : ℕ) → j < length into.old → get_or into.new j (pos 0) ≡ get_or numbers.now (start + j) (pos 0) }
+{
+    for (j, x) in into.iter_mut().enumerate() {
+        *x = numbers.get(start as usize + j);
     }
 }
 
@@ -34,7 +63,12 @@ fn repeat_number(number: i64, into: &mut [i64])
 
 /// The numbers from a place on, each so far after the one before: one number again and again where
 /// that is nowhere.
-fn read_run(numbers: &[i64], place: u32, inc: i32, into: &mut [i64])
+fn read_run<T: PackedType<N>, const N: usize>(
+    numbers: &Packed<T, N>,
+    place: u32,
+    inc: i32,
+    into: &mut [i64],
+)
     requires small { length into.old ≤ extent_limit }
     requires inside { (j : ℕ) → j < length into.old → IsInside (length numbers.now) (pos place +ℤ inc *ℤ pos j) }
     ensures { (j : ℕ) → j < length into.old → get_or into.new j (pos 0) ≡ get_or numbers.now (unsigned_abs (pos place +ℤ inc *ℤ pos j)) (pos 0) }
@@ -42,27 +76,35 @@ fn read_run(numbers: &[i64], place: u32, inc: i32, into: &mut [i64])
     if inc != 0 {
         read_steps(numbers, place, inc, into);
     } else if 0 < into.len() {
-        repeat_number(numbers[place as usize], into);
+        repeat_number(numbers.get(place as usize), into);
     }
 }
 
-/// The increment along dimension 0, and 0 where there is none.
-fn first_inc(triple: &Triple) -> i32
-    ensures { result ≡ get_or triple.now.incs 0 (pos 0) }
+/// The increment along a dimension, and 0 where there is none.
+fn inc_along(triple: &Triple, dimension: usize) -> i32
+    ensures { result ≡ get_or triple.now.incs dimension (pos 0) }
 {
     let incs = incs_list(&triple.incs);
-    if incs.is_empty() { 0 } else { incs[0] }
+    if dimension < incs.len() {
+        incs[dimension]
+    } else {
+        0
+    }
 }
 
-/// The size of dimension 0, and 1 where there is none.
-fn first_size(triple: &Triple) -> u32
-    ensures size { result ≡ get_or triple.now.dims 0 1 }
+/// The size of a dimension, and 1 where there is none.
+fn size_along(triple: &Triple, dimension: usize) -> u32
+    ensures size { result ≡ get_or triple.now.dims dimension 1 }
     ensures small { size_of triple.now.dims ≤ extent_limit }
     ensures sound { IsTriple triple.now }
 {
     shape_laws();
     let sizes = dims_list(&triple.dims);
-    if sizes.is_empty() { 1 } else { sizes[0] }
+    if dimension < sizes.len() {
+        sizes[dimension]
+    } else {
+        1
+    }
 }
 
 /// How many elements lie in one row from a position on, and no more than are left.
@@ -76,48 +118,163 @@ fn run_length(width: u32, position: u32, left: usize) -> usize
     left.min((width - position % width) as usize)
 }
 
-/// The window's elements from a position on: runs along dimension 0.
-fn read_runs(buf: &Buf, triple: &Triple, first: u32, into: &mut [i64])
-    requires within { first + length into.old ≤ size_of triple.now.dims }
-    requires reaches { Reaches triple.now (length buf.now.elems) }
-    ensures value { HasRead triple.now buf.now.elems first (length into.old) into.new }
-    ensures in_range { All (InRange buf.now.ty) into.new }
+/// The window's elements from a position on that lie in its row.
+fn read_row<T: PackedType<N>, const N: usize>(
+    numbers: &Packed<T, N>,
+    triple: &Triple,
+    position: u32,
+    into: &mut [i64],
+)
+    requires row { position % get_or triple.now.dims 0 1 + length into.old ≤ get_or triple.now.dims 0 1 }
+    requires within { position + length into.old ≤ size_of triple.now.dims }
+    requires some { position < size_of triple.now.dims }
+    requires small { size_of triple.now.dims ≤ extent_limit }
+    requires reaches { Reaches triple.now (length numbers.now) }
+    ensures { HasRead triple.now numbers.now position (length into.old) into.new }
 {
     shape_laws();
-    let width = first_size(triple);
-    let inc = first_inc(triple);
-    let mut done = 0;
-    while done < into.len() {
-        let position = first + done as u32;
-        let place = place_of(triple, position);
-        let run = run_length(width, position, into.len() - done);
-        let end = done + run;
-        read_run(buf.numbers.as_slice(), place, inc, &mut into[done..end]);
-        done = end;
+    let place = place_of(triple, position);
+    read_run(numbers, place, inc_along(triple, 0), into);
+}
+
+/// How many whole rows lie side by side from a position on, and no more elements than are left: 0
+/// where a row has begun.
+fn rows_from(width: u32, height: u32, position: u32, left: usize) -> u32
+    requires width { 0 < width }
+    requires height { 0 < height }
+    requires small { left ≤ extent_limit }
+    ensures few { result * width ≤ left }
+    ensures start { 0 < result → position % width ≡ 0 }
+    ensures plane { (position / width) % height + result ≤ height }
+{
+    if position % width == 0 {
+        let rows = (left / width as usize) as u32;
+        rows.min(height - position / width % height)
+    } else {
+        0
     }
 }
 
-/// Copies the numbers from a place on.
-fn copy_part(numbers: &[i64], start: usize, into: &mut [i64])
-    requires { start + length into.old ≤ length numbers.now }
-    ensures { into.new ≡ take (length into.old) (drop start numbers.now) }
+/// The window's elements in so many whole rows from a position on: one place search, and a step
+/// along dimension 1 for each row.
+fn read_rows<T: PackedType<N>, const N: usize>(
+    numbers: &Packed<T, N>,
+    triple: &Triple,
+    position: u32,
+    rows: u32,
+    into: &mut [i64],
+)
+    requires count { length into.old ≡ rows * get_or triple.now.dims 0 1 }
+    requires start { position % get_or triple.now.dims 0 1 ≡ 0 }
+    requires plane { (position / get_or triple.now.dims 0 1) % get_or triple.now.dims 1 1 + rows ≤ get_or triple.now.dims 1 1 }
+    requires within { position + length into.old ≤ size_of triple.now.dims }
+    requires some { position < size_of triple.now.dims }
+    requires small { size_of triple.now.dims ≤ extent_limit }
+    requires reaches { Reaches triple.now (length numbers.now) }
+    ensures { HasRead triple.now numbers.now position (length into.old) into.new }
 {
-    let end = start + into.len();
-    into.copy_from_slice(&numbers[start..end]);
+    shape_laws();
+    let width = size_along(triple, 0) as usize;
+    let inc = inc_along(triple, 0);
+    let step = inc_along(triple, 1);
+    let place = place_of(triple, position);
+    for row in 0..rows as usize {
+        let at = place_after(place, step, row);
+        let begin = row * width;
+        let end = begin + width;
+        read_run(numbers, at as u32, inc, &mut into[begin..end]);
+    }
+}
+
+/// The first of the window's elements from a position on, and how many: whole rows, or what is left
+/// of a row.
+fn read_part<T: PackedType<N>, const N: usize>(
+    numbers: &Packed<T, N>,
+    triple: &Triple,
+    position: u32,
+    into: &mut [i64],
+) -> usize
+    requires some { 0 < length into.old }
+    requires within { position + length into.old ≤ size_of triple.now.dims }
+    requires reaches { Reaches triple.now (length numbers.now) }
+    ensures some { 0 < result }
+    ensures few { result ≤ length into.old }
+    ensures value { HasRead triple.now numbers.now position result into.new }
+    ensures sound { IsTriple triple.now }
+{
+    shape_laws();
+    let width = size_along(triple, 0);
+    let rows = rows_from(width, size_along(triple, 1), position, into.len());
+    if rows == 0 {
+        let run = run_length(width, position, into.len());
+        read_row(numbers, triple, position, &mut into[..run]);
+        run
+    } else {
+        let run = rows as usize * width as usize;
+        read_rows(numbers, triple, position, rows, &mut into[..run]);
+        run
+    }
+}
+
+/// The window's elements from a position on, row by row.
+fn read_runs<T: PackedType<N>, const N: usize>(
+    numbers: &Packed<T, N>,
+    triple: &Triple,
+    first: u32,
+    into: &mut [i64],
+)
+    requires within { first + length into.old ≤ size_of triple.now.dims }
+    requires reaches { Reaches triple.now (length numbers.now) }
+    ensures value { HasRead triple.now numbers.now first (length into.old) into.new }
+    ensures in_range { All (InRange T.ty) into.new }
+{
+    shape_laws();
+    numbers.are_in_range();
+    let _ = size_along(triple, 0);
+    let mut done = 0;
+    while done < into.len() {
+        let position = first + done as u32;
+        done += read_part(numbers, triple, position, &mut into[done..]);
+    }
 }
 
 /// The window's elements from a position on, where they are neighbours in the buffer.
-fn read_in_order(buf: &Buf, triple: &Triple, first: u32, into: &mut [i64])
+fn read_in_order<T: PackedType<N>, const N: usize>(
+    numbers: &Packed<T, N>,
+    triple: &Triple,
+    first: u32,
+    into: &mut [i64],
+)
     requires within { first + length into.old ≤ size_of triple.now.dims }
-    requires reaches { Reaches triple.now (length buf.now.elems) }
+    requires reaches { Reaches triple.now (length numbers.now) }
     requires ordered { IsInOrder 1 triple.now.incs triple.now.dims }
-    ensures value { HasRead triple.now buf.now.elems first (length into.old) into.new }
-    ensures in_range { All (InRange buf.now.ty) into.new }
+    ensures value { HasRead triple.now numbers.now first (length into.old) into.new }
+    ensures in_range { All (InRange T.ty) into.new }
 {
     shape_laws();
+    numbers.are_in_range();
     if 0 < into.len() {
         let start = place_of(triple, first);
-        copy_part(buf.numbers.as_slice(), start as usize, into);
+        read_neighbours(numbers, start, into);
+    }
+}
+
+/// The elements that a layout shows of these numbers, from a position on.
+pub(crate) fn read_block<T: PackedType<N>, const N: usize>(
+    numbers: &Packed<T, N>,
+    layout: &Layout,
+    first: u32,
+    into: &mut [i64],
+)
+    requires within { first + length into.old ≤ size_of layout.now.triple.dims }
+    requires reaches { Reaches layout.now.triple (length numbers.now) }
+    ensures value { HasRead layout.now.triple numbers.now first (length into.old) into.new }
+    ensures in_range { All (InRange T.ty) into.new }
+{
+    if layout.is_in_order {
+        read_in_order(numbers, &layout.triple, first, into);
+    } else {
+        read_runs(numbers, &layout.triple, first, into);
     }
 }
 
@@ -128,9 +285,6 @@ pub fn strided_read(from: &Strided<'_>, first: u32, into: &mut [i64])
     ensures value { into.new ≡ take (length into.old) (drop first from.now.elems) }
     ensures in_range { All (InRange from.now.ty) into.new }
 {
-    if from.is_in_order {
-        read_in_order(from.buf, &from.triple, first, into)
-    } else {
-        read_runs(from.buf, &from.triple, first, into)
-    }
+    let buf = from.buf;
+    buf.numbers.read(&from.layout, first, into)
 }

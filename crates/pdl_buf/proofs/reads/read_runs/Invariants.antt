@@ -4,7 +4,7 @@ use Rattle.pdl_buf.specs.Reads.{HasRead}
 use Rattle.pdl_buf.proofs.reads.read_runs.Given as goal
 
 abbrev pub invariant-loop-done : goal.invariant-loop-done
-invariant-loop-done l = record { inside : l.done ≤ length l.initial.into; read : HasRead l.triple l.buf.elems l.first l.done l.into }
+invariant-loop-done g l = record { inside : l.done ≤ length l.initial.into; read : HasRead l.triple l.numbers l.first l.done l.into }
 
 abbrev pub decreases-loop-done : goal.decreases-loop-done
-decreases-loop-done l = length l.initial.into - l.done
+decreases-loop-done g l = length l.initial.into - l.done

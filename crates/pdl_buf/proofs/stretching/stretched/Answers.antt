@@ -9,7 +9,7 @@ use Rattle.pdl_buf.proofs.Stretches.{shown_stretched}
 use Rattle.pdl_buf.proofs.stretching.stretched.Goals as goal
 
 pub strided-requires : goal.strided-requires
-strided-requires c = c.stretched_triple.ensures.reaches (length c.from.inside.buf.now.elems) c.from.invariant.reaches
+strided-requires c = c.stretched_triple.ensures.reaches (length c.from.inside.buf.now.elems) c.from.invariant
 
 window : Ty → List ℕ → List ℤ → Window
 window ty ds es = record { ty = ty; dims = ds; elems = es }
@@ -18,7 +18,7 @@ pub returns : goal.returns
 unfolding window
 returns c =
     let ty : Ty = c.from.inside.buf.now.ty in
-    let t : Triple = c.from.inside.triple in
+    let t : Triple = c.from.inside.layout.triple in
     let es : List ℤ = c.from.inside.buf.now.elems in
     let js : List ℕ = c.args.dims.now in
     let fits : BroadcastsTo t.dims js = subst (λ (w : Window). BroadcastsTo w.dims js) (sym c.from.view_is) c.requires in

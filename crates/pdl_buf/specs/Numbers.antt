@@ -1,0 +1,12 @@
+-- What is kept of a buffer: its type, and the numbers that are packed in its width.
+use Rattle.pdl_elem.specs.declared.Ty.TheVariants.{Byte, Short, Ushort, Long, Longlong}
+use Rattle.pdl_buf.specs.declared.numbers.Numbers.{Numbers}
+use Rattle.pdl_buf.specs.declared.numbers.Numbers.TheVariants as packed
+use Rattle.pdl_buf.specs.Buffer.{Kept}
+
+abbrev pub kept_in : Numbers → Kept
+kept_in (packed.Bytes es) = record { ty = Byte; elems = es }
+kept_in (packed.Shorts es) = record { ty = Short; elems = es }
+kept_in (packed.Ushorts es) = record { ty = Ushort; elems = es }
+kept_in (packed.Longs es) = record { ty = Long; elems = es }
+kept_in (packed.Longlongs es) = record { ty = Longlong; elems = es }

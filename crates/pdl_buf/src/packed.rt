@@ -1,0 +1,241 @@
+//! Lists of numbers of one type, each kept as the bytes of its type.
+ghost use Rattle.std.specs.Prelude.{◌≡◌, ◌<◌, ◌≤◌, ℤ, List, pos, length, map, get_or, slice_set, All, IfOk};
+ghost use Rattle.std.specs.List.{flat_map};
+ghost use Rattle.std.proofs.Common.{rules};
+ghost use Rattle.pdl_elem.specs.declared.Ty.{Ty};
+ghost use Rattle.pdl_elem.specs.declared.Ty.TheVariants.{Byte, Short, Ushort, Long, Longlong};
+ghost use Rattle.pdl_elem.specs.Types.{InRange};
+ghost use Rattle.pdl_shape.specs.Places.{AllBelow, IsBelow, element_at, put, read, write};
+ghost use Rattle.pdl_shape.specs.Shape.{size_of};
+ghost use Rattle.pdl_shape.specs.Triple.{Reaches};
+ghost use Rattle.pdl_buf.specs.Window.{shown};
+ghost use Rattle.pdl_buf.specs.Bytes.{ArePacked, bytes_of, number_of};
+
+use crate::layout::Layout;
+use pdl_elem::{Ty, wrap, wrapping_laws};
+use pdl_shape::shape_laws;
+use std::alloc::{AllocError, Global};
+use std::marker::{Model, PhantomData};
+
+/// A type whose numbers are kept in `N` bytes each.
+pub(crate) trait PackedType<const N: usize> {
+    ghost ty: { Ty };
+
+    /// The bytes of a number of the type: two's complement, lowest byte first.
+    fn pack(number: i64) -> [u8; N]
+        requires { InRange ty number }
+        ensures { result ≡ bytes_of ty number };
+
+    /// The number of the type that has these bytes.
+    fn unpack(bytes: &[u8; N]) -> i64
+        ensures { result ≡ number_of ty bytes.now };
+
+    ghost narrow: { N ≤ 8 };
+}
+
+#[derive(Debug)]
+pub(crate) struct AtByte;
+
+impl PackedType<1> for AtByte {
+    ghost ty = { Byte };
+
+    ghost narrow = { Prim.search rules };
+
+    fn pack(number: i64) -> [u8; 1] {
+        (number as u8).to_le_bytes()
+    }
+
+    fn unpack(bytes: &[u8; 1]) -> i64 {
+        wrap(Ty::Byte, i128::from(u8::from_le_bytes(*bytes)))
+    }
+}
+
+#[derive(Debug)]
+pub(crate) struct AtShort;
+
+impl PackedType<2> for AtShort {
+    ghost ty = { Short };
+
+    ghost narrow = { Prim.search rules };
+
+    fn pack(number: i64) -> [u8; 2] {
+        (number as i16).to_le_bytes()
+    }
+
+    fn unpack(bytes: &[u8; 2]) -> i64 {
+        wrap(Ty::Short, i128::from(u16::from_le_bytes(*bytes)))
+    }
+}
+
+#[derive(Debug)]
+pub(crate) struct AtUshort;
+
+impl PackedType<2> for AtUshort {
+    ghost ty = { Ushort };
+
+    ghost narrow = { Prim.search rules };
+
+    fn pack(number: i64) -> [u8; 2] {
+        (number as u16).to_le_bytes()
+    }
+
+    fn unpack(bytes: &[u8; 2]) -> i64 {
+        wrap(Ty::Ushort, i128::from(u16::from_le_bytes(*bytes)))
+    }
+}
+
+#[derive(Debug)]
+pub(crate) struct AtLong;
+
+impl PackedType<4> for AtLong {
+    ghost ty = { Long };
+
+    ghost narrow = { Prim.search rules };
+
+    fn pack(number: i64) -> [u8; 4] {
+        (number as i32).to_le_bytes()
+    }
+
+    fn unpack(bytes: &[u8; 4]) -> i64 {
+        wrap(Ty::Long, i128::from(u32::from_le_bytes(*bytes)))
+    }
+}
+
+#[derive(Debug)]
+pub(crate) struct AtLonglong;
+
+impl PackedType<8> for AtLonglong {
+    ghost ty = { Longlong };
+
+    ghost narrow = { Prim.search rules };
+
+    fn pack(number: i64) -> [u8; 8] {
+        number.to_le_bytes()
+    }
+
+    fn unpack(bytes: &[u8; 8]) -> i64 {
+        wrap(Ty::Longlong, i128::from(u64::from_le_bytes(*bytes)))
+    }
+}
+
+/// A list of numbers of the type `T`, each kept as its bytes.
+#[derive(Debug, Drop)]
+pub(crate) struct Packed<T: PackedType<N>, const N: usize> {
+    cells: Vec<[u8; N]>,
+    ty: PhantomData<T>,
+}
+
+impl<T: PackedType<N>, const N: usize> Model for Packed<T, N> {
+    ghost use Rattle.std.specs.Prelude.{ℤ, List, map};
+    ghost use Rattle.std.specs.Coded.{coded_list, coded_ℤ};
+    ghost use Rattle.pdl_buf.specs.Bytes.{ArePacked, number_of};
+
+    ghost Value = { List ℤ };
+
+    ghost coded = { coded_list coded_ℤ };
+
+    ghost view = { λ p. map (number_of T.ty) p.cells.items };
+
+    ghost invariant = { λ p. ArePacked T.ty p.cells.items };
+}
+
+impl<T: PackedType<N>, const N: usize> Packed<T, N> {
+    /// These numbers, which are in the type's range.
+    pub(crate) fn of(alloc: Global, numbers: &[i64]) -> Result<Packed<T, N>, AllocError>
+        requires { All (InRange T.ty) numbers.now }
+        ensures { IfOk result (λ packed. packed ≡ numbers.now) }
+    {
+        let mut cells = Vec::from_elem(alloc, [0; N], numbers.len())?;
+        for (i, number) in numbers.iter().enumerate() {
+            cells[i] = T::pack(*number);
+        }
+        Ok(Packed {
+            cells,
+            ty: PhantomData,
+        })
+    }
+
+    /// The number at a place, which is below how many there are.
+    pub(crate) fn get(&self, place: usize) -> i64
+        requires { place < length self.now }
+        ensures value { result ≡ get_or self.now place (pos 0) }
+        ensures in_range { InRange T.ty result }
+    {
+        T::unpack(&self.cells[place])
+    }
+
+    /// Sets the number at a place, which is below how many there are, to one of the type's range.
+    pub(crate) fn set(&mut self, place: usize, number: i64)
+        requires place { place < length self.old }
+        requires in_range { InRange T.ty number }
+        ensures { self.new ≡ slice_set self.old place number }
+    {
+        self.cells[place] = T::pack(number);
+    }
+
+    /// All of them are in the type's range. It does nothing: who calls it knows that.
+    pub(crate) fn are_in_range(&self)
+        ensures { All (InRange T.ty) self.now }
+    {
+        wrapping_laws();
+        let _cells = &self.cells;
+    }
+
+    /// The number that a layout shows at a position, or 0 where there is none.
+    fn shown_at(&self, layout: &Layout, position: Option<u32>) -> i64
+        requires within { IsBelow (size_of layout.now.triple.dims) position }
+        requires reaches { Reaches layout.now.triple (length self.now) }
+        ensures value { result ≡ element_at (shown layout.now.triple self.now) position }
+        ensures in_range { InRange T.ty result }
+    {
+        shape_laws();
+        match position {
+            Some(position) => self.get(layout.place(position) as usize),
+            None => 0,
+        }
+    }
+
+    /// Sets each of these numbers to the one that a layout shows of others of the type at the
+    /// position that stands for it, or to 0 where there is none.
+    pub(crate) fn gather(&mut self, from: &Packed<T, N>, layout: &Layout, positions: &[Option<u32>])
+        requires paired { length positions.now ≡ length self.old }
+        requires within { AllBelow (size_of layout.now.triple.dims) positions.now }
+        requires reaches { Reaches layout.now.triple (length from.now) }
+        ensures { self.new ≡ read positions.now (shown layout.now.triple from.now) }
+    {
+        for (i, position) in positions.iter().enumerate() {
+            self.set(i, from.shown_at(layout, *position));
+        }
+    }
+
+    /// Sets the number at the place to one of the type's range, where there is a place.
+    fn put(&mut self, place: Option<u32>, number: i64)
+        requires place { IsBelow (length self.old) place }
+        requires in_range { InRange T.ty number }
+        ensures { self.new ≡ put place number self.old }
+    {
+        if let Some(place) = place {
+            self.set(place as usize, number);
+        }
+    }
+
+    /// Sets the numbers at the places to the values, in order, which are in the type's range. A
+    /// value without a place is dropped.
+    pub(crate) fn scatter(&mut self, places: &[Option<u32>], values: &[i64])
+        requires paired { length values.now ≡ length places.now }
+        requires within { AllBelow (length self.old) places.now }
+        requires in_range { All (InRange T.ty) values.now }
+        ensures { self.new ≡ write places.now values.now self.old }
+    {
+        for (i, place) in places.iter().enumerate() {
+            self.put(*place, values[i]);
+        }
+    }
+
+    /// The bytes of each number in turn.
+    pub(crate) fn bytes(&self) -> &[u8]
+        ensures { result.now ≡ flat_map (bytes_of T.ty) self.now }
+    {
+        self.cells.as_flattened()
+    }
+}
