@@ -1,0 +1,127 @@
+-- Steps and what waits, in the words of the world.
+use Rattle.std.proofs.Common.{◌≡◌, ℕ, suc, ℤ, ◌+◌, ◌<◌, ◌≤◌, ◌&&◌, not, Bool, true, false, eqb, cond, List, [], ◌∷◌, length, get_or, All, Option, Some, None, option_and_then, inl, inr, refl, sym, ◌∙◌, ap, subst, arith}
+use Rattle.std.specs.Prelude.{sum_by}
+use Rattle.std.specs.Option.{option_map_or}
+use Rattle.std.proofs.lemmas.Bool.{cases_Bool}
+use Rattle.std.proofs.lemmas.Bool.Decides.{eqb_tells}
+use Rattle.std.proofs.lemmas.List.Sums.{sum_by-cons}
+use Rattle.pdl_shape.specs.Shape.{size_of}
+use Rattle.pdl_shape.specs.Triple.{whole}
+use Rattle.pdl_world.specs.Paths.{path, root_of}
+use Rattle.pdl_world.specs.Sound.{IsLive}
+use Rattle.pdl_world.specs.Swept.{holds}
+use Rattle.pdl_world.specs.Windows.{Window, window, narrowed}
+use Rattle.pdl_world.specs.World.{World, root, view, dims_in, look}
+use Rattle.pdl_nodes.specs.Row.{Row}
+use Rattle.pdl_nodes.specs.Rows.{Rows, row_at, has, NumbersBelow, Falls}
+use Rattle.pdl_nodes.specs.Alike.{IsAlike, MarksTarget, is_fresh_in}
+use Rattle.pdl_nodes.specs.Alike.{target as rows_target}
+use Rattle.pdl_nodes.specs.Families.{has_repeats}
+use Rattle.pdl_nodes.specs.Holds.{Counts}
+use Rattle.pdl_nodes.specs.Nodes.{fresh_among, pending_in, pending_onto, state_of}
+use Rattle.pdl_nodes.specs.Outcomes.{waiting_of}
+use Rattle.pdl_nodes.specs.Outcomes.{outdated_at as rows_outdated_at}
+use Rattle.pdl_nodes.specs.Outcomes.{outdated as rows_outdated}
+use Rattle.pdl_nodes.specs.Outcomes.{waiting_size as rows_waiting_size}
+use Rattle.pdl_nodes.specs.State.{State, base_in, outdated_at, outdated, waiting_at, waiting, waiting_size, target, TargetIsFresh}
+use Rattle.pdl_nodes.specs.Still.{IsStill}
+use Rattle.pdl_nodes.specs.Worlds.{shape, places_in, places_of, latest, world_of, with_elements}
+use Rattle.pdl_nodes.proofs.Alikes.{base_live}
+use Rattle.pdl_nodes.proofs.Finds.{same, differ, not_newest}
+use Rattle.pdl_nodes.proofs.Growing.{path_live}
+use Rattle.pdl_nodes.proofs.Lowered.{falls_still}
+use Rattle.pdl_nodes.proofs.Seens.{IsSeen, is_seen}
+use Rattle.pdl_nodes.proofs.Stating.{path_with, live_has, dims_are, root_are, fresh_is}
+use Rattle.pdl_nodes.proofs.WorldLemmas.{look_with}
+
+window_with : (f : ℕ → List ℤ) (w : World) (v : ℕ) → window (with_elements f w) v ≡ window w v
+window_with f [] v = refl
+window_with f ((k, root ty ds es) ∷ w) v = ap (λ o. cond (eqb k v) (Some (record { base = k; triple = whole ds })) o) (window_with f w v)
+window_with f ((k, view p t) ∷ w) v = ap (λ o. cond (eqb k v) (option_and_then (narrowed k t) o) o) (window_with f w (cond (eqb k v) p v))
+
+pub base_are : (rs : Rows) (v : ℕ) → IsStill rs → has rs v ≡ true → base_in (world_of rs) v ≡ (row_at rs v).base
+base_are rs v s h = ap (λ o. option_map_or (λ (x : Window). x.base) o v) (window_with (latest rs) (shape rs) v ∙ (is_seen rs s v h).windows)
+
+places_are : (rs : Rows) (v : ℕ) → places_in (world_of rs) v ≡ places_of rs v
+places_are rs v = ap (λ o. option_map_or (λ l. l.places) o []) (look_with (latest rs) (shape rs) v)
+
+all_tail : (P : ℕ → Type 0) (x : ℕ) (xs : List ℕ) → All P (x ∷ xs) → All P xs
+all_tail P x xs h = λ k d l. h (suc k) d (omega arith)
+
+sum_same : (f g : ℕ → ℕ) (xs : List ℕ) → All (λ x. f x ≡ g x) xs → sum_by f xs ≡ sum_by g xs
+sum_same f g [] h = refl
+sum_same f g (x ∷ xs) h =
+    let a : f x ≡ g x = h 0 0 (omega arith) in
+    let b : sum_by f xs ≡ sum_by g xs = sum_same f g xs (all_tail (λ y. f y ≡ g y) x xs h) in
+    sum_by-cons f x xs ∙ ap (λ n. n + sum_by f xs) a ∙ ap (λ n. g x + n) b ∙ sym (sum_by-cons g x xs)
+
+cost_same : (b n : ℕ) (u : ℕ) (x m k : Bool) → (b ≡ u → m ≡ k) → cond (eqb b u && x) (cond m 0 n) 0 ≡ cond (eqb b u && x) (cond k 0 n) 0
+cost_same b n u x m k h = elim (eqb_tells b u) [
+  | inl t ↦ rw (h t.1) refl
+  | inr t ↦ rw t.0 refl
+]
+
+outdated_here : (rs : Rows) (hs : Counts) (n u : ℕ) → IsStill rs → has rs u ≡ true → outdated_at (state_of rs hs n) u ≡ rows_outdated_at rs u
+outdated_here rs hs n u s h =
+    ap (λ b. cond (eqb b u && not (eqb (root_of (world_of rs) u) u)) (cond (holds (fresh_among rs rs) u) 0 (size_of (dims_in (world_of rs) u))) 0) (base_are rs u s h)
+    ∙ ap (λ r. cond (eqb (row_at rs u).base u && not (eqb r u)) (cond (holds (fresh_among rs rs) u) 0 (size_of (dims_in (world_of rs) u))) 0) (root_are rs u s h)
+    ∙ ap (λ ds. cond (eqb (row_at rs u).base u && not (eqb (row_at rs u).root u)) (cond (holds (fresh_among rs rs) u) 0 (size_of ds)) 0) (dims_are rs u s h)
+    ∙ cost_same (row_at rs u).base (size_of (row_at rs u).triple.dims) u (not (eqb (row_at rs u).root u)) (holds (fresh_among rs rs) u) (row_at rs u).mark (λ e. fresh_is rs u s h ∙ ap (λ b. (row_at rs b).mark) e)
+
+-- what is outdated on a path is so in the rows
+pub outdated_is : (rs : Rows) (hs : Counts) (n v : ℕ) → IsStill rs → has rs v ≡ true → outdated (state_of rs hs n) v ≡ rows_outdated rs v
+outdated_is rs hs n v s h =
+    ap (λ (xs : List ℕ). sum_by (outdated_at (state_of rs hs n)) xs) (path_with (latest rs) (shape rs) v)
+    ∙ sum_same (outdated_at (state_of rs hs n)) (rows_outdated_at rs) (path (shape rs) v) (λ k d l. outdated_here rs hs n (get_or (path (shape rs) v) k d) s (path_live rs s v h k d l))
+
+none_waits : (rs : Rows) (v : ℕ) → has rs v ≡ false → waiting_at (pending_in rs) v ≡ None
+none_waits [] v h = refl
+none_waits ((k, r) ∷ rs) v h = elim (eqb_tells k v) [
+  | inl t ↦ (let x : true ≡ false = rw t.0 at h in absurd (cc))
+  | inr t ↦ past r.waiting (none_waits rs v (rw t.0 at h)) t.0
+] where
+  past : (o : Option ℕ) → waiting_at (pending_in rs) v ≡ None → eqb k v ≡ false → waiting_at (pending_onto k o (pending_in rs)) v ≡ None
+  past None i e = i
+  past (Some w) i e = rw e i
+
+waits_is : (rs : Rows) (v : ℕ) → Falls rs → has rs v ≡ true → waiting_at (pending_in rs) v ≡ (row_at rs v).waiting
+waits_is [] v f h = let x : false ≡ true = h in absurd (cc)
+waits_is ((k, r) ∷ rs) v f h = elim (eqb_tells k v) [
+  | inl t ↦ rw t.0 (here r.waiting t.0 (none_waits rs v (gone rs t.1 f.0)))
+  | inr t ↦ rw t.0 (past r.waiting t.0 (waits_is rs v f.1 (rw t.0 at h)))
+] where
+  here : (o : Option ℕ) → eqb k v ≡ true → waiting_at (pending_in rs) v ≡ None → waiting_at (pending_onto k o (pending_in rs)) v ≡ o
+  here None e i = i
+  here (Some w) e i = rw e refl
+
+  past : (o : Option ℕ) → eqb k v ≡ false → waiting_at (pending_in rs) v ≡ (row_at rs v).waiting → waiting_at (pending_onto k o (pending_in rs)) v ≡ (row_at rs v).waiting
+  past None e i = i
+  past (Some w) e i = rw e i
+
+  gone : (rs : Rows) → k ≡ v → NumbersBelow k rs → has rs v ≡ false
+  gone rs e b = elim (cases_Bool (has rs v)) [ inl g ↦ absurd (not_newest rs k v b g e) | inr g ↦ g ]
+
+-- so is what waits
+pub waiting_is : (rs : Rows) (hs : Counts) (n v : ℕ) → IsStill rs → has rs v ≡ true → waiting (state_of rs hs n) v ≡ waiting_of rs v
+waiting_is rs hs n v s h =
+    ap (waiting_at (pending_in rs)) (root_are rs v s h) ∙ waits_is rs (row_at rs v).root (falls_still rs s) (is_seen rs s v h).root_has
+
+pub size_is : (rs : Rows) (hs : Counts) (n : ℕ) (o : Option ℕ) → IsStill rs → ((u : ℕ) → o ≡ Some u → has rs u ≡ true) → waiting_size (state_of rs hs n) o ≡ rows_waiting_size rs o
+size_is rs hs n None s h = refl
+size_is rs hs n (Some u) s h = ap size_of (dims_are rs u s (h u refl))
+
+target_is : (rs : Rows) (v : ℕ) → IsStill rs → has rs v ≡ true → target (world_of rs) v ≡ rows_target rs v
+target_is rs v s h =
+    ap (λ b. cond (has_repeats (places_in (world_of rs) b)) (root_of (world_of rs) v) b) (base_are rs v s h)
+    ∙ ap (λ ps. cond (has_repeats ps) (root_of (world_of rs) v) (row_at rs v).base) (places_are rs (row_at rs v).base)
+    ∙ ap (λ r. cond (has_repeats (places_of rs (row_at rs v).base)) r (row_at rs v).base) (root_are rs v s h)
+
+-- what is shown by the target can be lent
+pub target_fresh : (old new : Rows) (hs gs : Counts) (n m v : ℕ) → IsStill old → IsStill new → has old v ≡ true → IsAlike old new → MarksTarget old v new → TargetIsFresh (state_of old hs n) v (state_of new gs m)
+target_fresh old new hs gs n m v s t h a k u l r b =
+    let g : has old u ≡ true = live_has old u l in
+    let q : IsSeen old u = is_seen old s u g in
+    let root : (row_at old u).root ≡ (row_at old v).root = sym (root_are old u s g) ∙ r ∙ root_are old v s h in
+    let base : (row_at old u).base ≡ rows_target old v = sym (base_are old u s g) ∙ b ∙ target_is old v s h in
+    fresh_is new u t (a.has_is u ∙ g) ∙ ap (λ x. (row_at new x).mark) (a.base_is u)
+    ∙ k (row_at old u).base q.base_has ∙ rw (same (row_at old (row_at old u).base).root (row_at old v).root (q.base_root ∙ root), same (row_at old u).base (rows_target old v) base) refl

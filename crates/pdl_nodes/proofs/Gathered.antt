@@ -1,0 +1,71 @@
+-- Elements and places that are gathered, one after the other.
+use Rattle.std.proofs.Common.{◌≡◌, ℕ, suc, zero, ℤ, pos, ◌+◌, ◌<◌, ◌≤◌, Bool, true, false, cond, List, [], ◌∷◌, ◌++◌, length, map, get_or, take, drop, All, Option, Some, None, option_and_then, inl, inr, refl, sym, ◌∙◌, ap, subst, arith, add-one, drop-cons}
+use Rattle.std.specs.List.{range_with_len}
+use Rattle.std.specs.Prelude.{Result, Ok, Err, IfOk}
+use Rattle.std.proofs.lemmas.Bool.{cases_lt}
+use Rattle.std.proofs.lemmas.List.{map_more, get_or_default, get_or_past}
+use Rattle.std.proofs.lemmas.List.Elements.{All-append, All-cons, All-nil}
+use Rattle.std.proofs.lemmas.List.FromFn.{map-range_with_len_more}
+use Rattle.pdl_elem.specs.declared.Ty.{Ty}
+use Rattle.pdl_elem.specs.Types.{InRange}
+use Rattle.pdl_shape.specs.Shape.{size_of}
+use Rattle.pdl_shape.specs.Places.{AllBelow, IsBelow, element_at, read}
+use Rattle.pdl_shape.specs.Triple.{Triple}
+use Rattle.pdl_buf.specs.Window.{place_at}
+use Rattle.pdl_nodes.specs.Assigned.{entry}
+use Rattle.pdl_nodes.specs.Families.{is_among, has_repeats}
+use Rattle.pdl_nodes.specs.Placed.{placed, placed_by}
+use Rattle.pdl_nodes.proofs.Lists.{IsIn, AllIn}
+use Rattle.pdl_nodes.proofs.Moving.{length_placed, placed_entry}
+use Rattle.pdl_nodes.proofs.Spotted.{entry_in}
+
+-- one more element
+pub read_more : (ps : List (Option ℕ)) (es xs new : List ℤ) (i : ℕ) (x : ℤ) → i < length ps → xs ≡ read (take i ps) es → x ≡ element_at es (get_or ps i None) → new ≡ xs ++ x ∷ [] → new ≡ read (take (i + 1) ps) es
+read_more ps es xs new i x h e d n =
+    n ∙ ap (λ l. l ++ x ∷ []) e ∙ ap (λ y. read (take i ps) es ++ y ∷ []) d ∙ sym (map_more (element_at es) ps i None h)
+
+pub range_more : (t : Ty) (xs new : List ℤ) (x : ℤ) → All (InRange t) xs → InRange t x → new ≡ xs ++ x ∷ [] → All (InRange t) new
+range_more t xs new x h p n =
+    subst (λ (l : List ℤ). All (InRange t) l) (sym n) (All-append (InRange t) xs (x ∷ []) h (All-cons (InRange t) x [] p (All-nil (InRange t))))
+
+among_repeats : (b x : Bool) → x ≡ true → cond b true x ≡ true
+among_repeats true x h = refl
+among_repeats false x h = h
+
+repeats_drop : (ps : List (Option ℕ)) (i : ℕ) → has_repeats (drop i ps) ≡ true → has_repeats ps ≡ true
+repeats_drop ps zero h = h
+repeats_drop [] (suc i) h = h
+repeats_drop (None ∷ ps) (suc i) h = repeats_drop ps i h
+repeats_drop (Some q ∷ ps) (suc i) h = among_repeats (is_among q ps) (has_repeats ps) (repeats_drop ps i h)
+
+-- a place that comes again later
+pub twice_here : (ps : List (Option ℕ)) (i j at : ℕ) → j ≡ i + 1 → i < length ps → get_or ps i None ≡ Some at → is_among at (drop j ps) ≡ true → true ≡ has_repeats ps
+twice_here ps i j at e h g a =
+    let d : drop i ps ≡ Some at ∷ drop (suc i) ps = drop-cons ps i None h ∙ ap (λ o. o ∷ drop (suc i) ps) g in
+    let b : is_among at (drop (suc i) ps) ≡ true = ap (λ k. is_among at (drop k ps)) (sym (e ∙ add-one i)) ∙ a in
+    let r : has_repeats (Some at ∷ drop (suc i) ps) ≡ true = rw b refl in
+    sym (repeats_drop ps i (ap has_repeats d ∙ r))
+
+-- the place that is seen through a position
+pub through_is : (known : Option (List (Option ℕ))) (t : Triple) (o r : Option ℕ) (at q : ℕ) → o ≡ Some at → at < size_of t.dims → q ≡ place_at t at → r ≡ placed known q → r ≡ option_and_then (entry (placed_by known t)) o
+through_is known t o r at q e h s p =
+    p ∙ ap (placed known) s ∙ sym (placed_entry known t at h) ∙ ap (option_and_then (entry (placed_by known t))) (sym e)
+
+pub through_past : (known : Option (List (Option ℕ))) (t : Triple) (o : Option ℕ) (at : ℕ) → o ≡ Some at → size_of t.dims ≤ at → None ≡ option_and_then (entry (placed_by known t)) o
+through_past known t o at e h =
+    sym (get_or_past (placed_by known t) at None (omega (arith, length_placed known t))) ∙ ap (option_and_then (entry (placed_by known t))) (sym e)
+
+pub through_more : (f : ℕ → Option ℕ) (ps new : List (Option ℕ)) (i : ℕ) (q : Option ℕ) → ps ≡ map f (range_with_len 0 i) → new ≡ ps ++ q ∷ [] → q ≡ f i → new ≡ map f (range_with_len 0 (i + 1))
+through_more f ps new i q h e d =
+    e ∙ ap (λ l. l ++ q ∷ []) h ∙ ap (λ y. map f (range_with_len 0 i) ++ y ∷ []) d ∙ sym (map-range_with_len_more f 0 i i (omega arith))
+
+in_below : (n : ℕ) (o : Option ℕ) → IsIn n o → IsBelow n o
+in_below n None h = tt
+in_below n (Some i) h = h
+
+pub all_below : (n : ℕ) (ps : List (Option ℕ)) → AllIn n ps → AllBelow n ps
+all_below n ps a = λ k d l. subst (λ (o : Option ℕ). IsBelow n o) (sym (get_or_default ps k d None l)) (in_below n (entry ps k) (entry_in n ps k a))
+
+pub if_ok : {A E : Type 0} (r : Result A E) {P Q : A → Type 0} → ((x : A) → P x → Q x) → IfOk r P → IfOk r Q
+if_ok (Ok x) f p = f x p
+if_ok (Err e) f p = tt

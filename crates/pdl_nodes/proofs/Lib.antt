@@ -1,0 +1,37 @@
+pub mod Finds
+pub mod Slots
+pub mod Calls
+pub mod Lasts
+pub mod Rests
+pub mod Reaches
+pub mod Removes
+pub mod Marks
+pub mod Shapes
+pub mod Lists
+pub mod Spotted
+pub mod WorldLemmas
+pub mod Seens
+pub mod FamilyLemmas
+pub mod Settles
+pub mod Waits
+pub mod Sames
+pub mod Stayings
+pub mod Sweeps
+pub mod Joins
+pub mod Ups
+mod Moving
+mod Counting
+mod Lowered
+mod Origins
+mod Liftings
+mod Assigning
+mod Alikes
+mod Filling
+mod Paths
+mod Gathered
+mod Readied
+mod Shown
+mod Viewed
+mod Stating
+mod Growing
+mod Bounds

@@ -1,0 +1,41 @@
+use Rattle.std.proofs.Common.{◌≡◌, ◌≢◌, ℕ, ℤ, ◌+◌, ◌<◌, ◌≤◌, List, length, All, Option, Some, None, true, false, refl, sym, ◌∙◌, ap, subst, arith}
+use Rattle.std.specs.Prelude.{nat_lt}
+use Rattle.pdl_elem.specs.declared.Ty.{Ty}
+use Rattle.pdl_elem.specs.Types.{InRange}
+use Rattle.pdl_buf.specs.Buffer.{Kept}
+use Rattle.pdl_shape.specs.Shape.{size_of}
+use Rattle.pdl_shape.specs.Triple.{Triple, Reaches}
+use Rattle.pdl_buf.specs.Window.{shown, Window}
+use Rattle.pdl_world.specs.Paths.{path, root_of}
+use Rattle.pdl_world.specs.Sound.{IsLive, IsSound}
+use Rattle.pdl_world.specs.Swept.{holds}
+use Rattle.pdl_world.specs.World.{World, dims_in, ty_in, elements}
+use Rattle.pdl_nodes.specs.Row.{Row}
+use Rattle.pdl_nodes.specs.Rows.{Rows, row_at, has}
+use Rattle.pdl_nodes.specs.Alike.{is_fresh_in}
+use Rattle.pdl_nodes.specs.Nodes.{state_of, IsNodes}
+use Rattle.pdl_nodes.specs.State.{State}
+use Rattle.pdl_nodes.specs.Worlds.{world_of, shape, latest}
+use Rattle.pdl_nodes.proofs.Stating.{live_has, dims_are, ty_are, root_are, length_world, fresh_is, fresh_live, path_with, holds_alike, lent_elements}
+use Rattle.pdl_nodes.proofs.Alikes.{base_live}
+use Rattle.pdl_nodes.proofs.Origins.{mark_buffered}
+use Rattle.pdl_nodes.proofs.Growing.{reaches}
+use Rattle.pdl_nodes.proofs.Seens.{IsSeen, is_seen}
+use Rattle.pdl_nodes.specs.State.{shown_in}
+use Rattle.pdl_nodes.proofs.Growing.{lent_reaches, lent_window}
+use Rattle.pdl_nodes.proofs.nodes.Nodes.lend.Goals as goal
+
+pub node-node-requires : goal.node-node-requires
+node-node-requires c = record { live = (live_has c.self.inside.table c.args.id (subst (λ (w : World). IsLive w c.args.id) (sym (ap (λ (s : State). s.world) c.self.view_is)) c.requires.live)) }
+
+pub node-requires : goal.node-requires
+node-requires c = record { live = base_live c.self.inside.table c.base.result c.args.id c.self.invariant.order.still (live_has c.self.inside.table c.args.id (subst (λ (w : World). IsLive w c.args.id) (sym (ap (λ (s : State). s.world) c.self.view_is)) c.requires.live)) (sym (c.base.ensures ∙ ap (λ (r : Row). r.base) c.node-node.ensures)) }
+
+pub kept-requires : goal.kept-requires
+kept-requires c = mark_buffered c.node.result.now (ap (λ (r : Row). r.mark) c.node.ensures ∙ ap (λ x. (row_at c.self.inside.table x).mark) (c.base.ensures ∙ ap (λ (r : Row). r.base) c.node-node.ensures) ∙ (sym (fresh_is c.self.inside.table c.args.id c.self.invariant.order.still (live_has c.self.inside.table c.args.id (subst (λ (w : World). IsLive w c.args.id) (sym (ap (λ (s : State). s.world) c.self.view_is)) c.requires.live))) ∙ ap (λ (s : State). holds s.fresh c.args.id) c.self.view_is ∙ c.requires.fresh))
+
+pub strided-requires : goal.strided-requires
+strided-requires c = lent_reaches c.shape_laws.ensures.positions c.self.inside.table c.args.id c.triple.result.now c.kept.result.now.elems c.self.invariant.order (live_has c.self.inside.table c.args.id (subst (λ (w : World). IsLive w c.args.id) (sym (ap (λ (s : State). s.world) c.self.view_is)) c.requires.live)) (sym (fresh_is c.self.inside.table c.args.id c.self.invariant.order.still (live_has c.self.inside.table c.args.id (subst (λ (w : World). IsLive w c.args.id) (sym (ap (λ (s : State). s.world) c.self.view_is)) c.requires.live))) ∙ ap (λ (s : State). holds s.fresh c.args.id) c.self.view_is ∙ c.requires.fresh) (c.triple.ensures ∙ ap (λ (r : Row). r.triple) c.node-node.ensures) (ap (λ (k : Kept). k.elems) c.kept.ensures ∙ ap (λ (r : Row). r.kept) c.node.ensures ∙ ap (λ x. (row_at c.self.inside.table x).kept) (c.base.ensures ∙ ap (λ (r : Row). r.base) c.node-node.ensures))
+
+pub returns : goal.returns
+returns c = c.strided.ensures.window ∙ lent_window c.self.inside.table c.args.id c.triple.result.now c.kept.result.now c.self.invariant.order (live_has c.self.inside.table c.args.id (subst (λ (w : World). IsLive w c.args.id) (sym (ap (λ (s : State). s.world) c.self.view_is)) c.requires.live)) (sym (fresh_is c.self.inside.table c.args.id c.self.invariant.order.still (live_has c.self.inside.table c.args.id (subst (λ (w : World). IsLive w c.args.id) (sym (ap (λ (s : State). s.world) c.self.view_is)) c.requires.live))) ∙ ap (λ (s : State). holds s.fresh c.args.id) c.self.view_is ∙ c.requires.fresh) (c.triple.ensures ∙ ap (λ (r : Row). r.triple) c.node-node.ensures) (ap (λ (k : Kept). k.ty) c.kept.ensures ∙ ap (λ (r : Row). r.ty) c.node.ensures ∙ ap (λ x. (row_at c.self.inside.table x).ty) (c.base.ensures ∙ ap (λ (r : Row). r.base) c.node-node.ensures)) (ap (λ (k : Kept). k.elems) c.kept.ensures ∙ ap (λ (r : Row). r.kept) c.node.ensures ∙ ap (λ x. (row_at c.self.inside.table x).kept) (c.base.ensures ∙ ap (λ (r : Row). r.base) c.node-node.ensures)) ∙ ap (λ (s : State). shown_in s c.args.id) c.self.view_is

@@ -1,0 +1,37 @@
+use Rattle.std.proofs.Common.{◌≡◌, ℕ, true, List, Option, Some, ◌∙◌, sym, ap, arith}
+use Rattle.pdl_shape.specs.Shape.{size_of}
+use Rattle.pdl_shape.specs.Triple.{Triple}
+use Rattle.pdl_nodes.specs.Row.{Row, parent_from, parent_of}
+use Rattle.pdl_nodes.specs.Rows.{row_at, has}
+use Rattle.pdl_nodes.specs.Placed.{placed_by}
+use Rattle.pdl_nodes.specs.Worlds.{places_of}
+use Rattle.pdl_nodes.proofs.Alikes.{base_live}
+use Rattle.pdl_nodes.proofs.Assigning.{in_order_if}
+use Rattle.pdl_nodes.proofs.Filling.{found_places, over_known}
+use Rattle.pdl_nodes.proofs.Gathered.{if_ok}
+use Rattle.pdl_nodes.proofs.Paths.{root_of_origin}
+use Rattle.pdl_nodes.proofs.Ups.{IsViewAt, view_at}
+use Rattle.pdl_nodes.proofs.pull.find_places.Goals as goal
+
+pub unreachable-requires : goal.unreachable-requires
+unreachable-requires c = c.requires.view (root_of_origin c.args.table.now c.requires.order.still c.args.id c.requires.live (sym (c.origin.ensures ∙ ap (λ (r : Row). r.origin) c.node-node.ensures) ∙ c.in-Root.is))
+
+pub node-above-requires : goal.node-above-requires
+node-above-requires c = record { live = (view_at c.args.table.now c.requires.order.still c.args.id c.in-View.parent c.in-View.trans c.in-View.layout c.requires.live (sym (c.origin.ensures ∙ ap (λ (r : Row). r.origin) c.node-node.ensures) ∙ c.in-View.is)).live }
+
+pub node-base-requires : goal.node-base-requires
+node-base-requires c = record { live = base_live c.args.table.now c.base.result c.in-View.parent c.requires.order.still (view_at c.args.table.now c.requires.order.still c.args.id c.in-View.parent c.in-View.trans c.in-View.layout c.requires.live (sym (c.origin.ensures ∙ ap (λ (r : Row). r.origin) c.node-node.ensures) ∙ c.in-View.is)).live (sym (c.base.ensures ∙ ap (λ (r : Row). r.base) c.node-above.ensures)) }
+
+pub places_through-requires-clause-in_order : goal.places_through-requires-clause-in_order
+places_through-requires-clause-in_order c = in_order_if c.args.table.now c.in-View.parent c.base-in-View.result c.triple-in-View-2.result.now c.requires.order.still (view_at c.args.table.now c.requires.order.still c.args.id c.in-View.parent c.in-View.trans c.in-View.layout c.requires.live (sym (c.origin.ensures ∙ ap (λ (r : Row). r.origin) c.node-node.ensures) ∙ c.in-View.is)).live (sym (c.base-in-View.ensures ∙ ap (λ (r : Row). r.base) c.node-above.ensures)) (c.triple-in-View-2.ensures ∙ ap (λ (r : Row). r.triple) c.node-above.ensures)
+
+pub returns : goal.returns
+returns c =
+    let b : (row_at c.args.table.now c.in-View.parent).base ≡ c.base.result = sym (c.base.ensures ∙ ap (λ (r : Row). r.base) c.node-above.ensures) in
+    let m : (row_at c.args.table.now c.base.result).mark ≡ true = ap (λ x. (row_at c.args.table.now x).mark) (sym b) ∙ c.requires.parent c.in-View.parent (ap parent_from (sym (c.origin.ensures ∙ ap (λ (r : Row). r.origin) c.node-node.ensures) ∙ c.in-View.is)) in
+    let k : placed_by c.places.result.now c.triple-in-View-2.result.now ≡ places_of c.args.table.now c.in-View.parent =
+    ap (λ (u : Triple). placed_by c.places.result.now u) (c.triple-in-View-2.ensures ∙ ap (λ (r : Row). r.triple) c.node-above.ensures)
+    ∙ ap (λ (o : Option (List (Option ℕ))). placed_by o (row_at c.args.table.now c.in-View.parent).triple) (c.places.ensures ∙ ap (λ (r : Row). r.places) c.node-base.ensures)
+    ∙ over_known c.args.table.now c.base.result c.in-View.parent c.requires.order c.requires.known (view_at c.args.table.now c.requires.order.still c.args.id c.in-View.parent c.in-View.trans c.in-View.layout c.requires.live (sym (c.origin.ensures ∙ ap (λ (r : Row). r.origin) c.node-node.ensures) ∙ c.in-View.is)).live b m in
+    let n : c.elements_of-count.result ≡ size_of (row_at c.args.table.now c.args.id).triple.dims = c.elements_of-count.ensures.count ∙ ap (λ (t : Triple). size_of t.dims) (c.behind-node.view_is ∙ c.triple.ensures ∙ ap (λ (r : Row). r.triple) c.node-node.ensures) in
+    if_ok c.places_through.result (λ v e. e ∙ found_places c.args.table.now c.args.id c.in-View.parent c.elements_of-count.result c.in-View.trans c.in-View.layout c.places.result.now c.triple-in-View-2.result.now c.requires.order.still c.requires.live c.requires.own (sym (c.origin.ensures ∙ ap (λ (r : Row). r.origin) c.node-node.ensures) ∙ c.in-View.is) n k) c.places_through.ensures

@@ -1,0 +1,19 @@
+use Rattle.std.proofs.Common.{◌≡◌, ◌+◌, ◌≤◌, ◌∙◌, ap, sym, true, false, arith}
+use Rattle.pdl_shape.specs.Shape.{size_of}
+use Rattle.pdl_nodes.specs.Outcomes.{IsFilled, outdated_at}
+use Rattle.pdl_nodes.specs.Alike.{is_fresh_in}
+use Rattle.pdl_nodes.specs.Rows.{row_at}
+use Rattle.pdl_nodes.proofs.Filling.{is_filled}
+use Rattle.pdl_nodes.proofs.Paths.{IsStale, is_stale, is_outdated, stale_cost, on_ok, filled_fresh}
+use Rattle.pdl_nodes.proofs.pull.freshen.Goals as goal
+
+pub fill-requires-clause-outdated : goal.fill-requires-clause-outdated
+fill-requires-clause-outdated g c = is_outdated c.args.table.now c.args.id c.requires.order c.requires.live c.requires.settled (is_stale c.args.table.now c.args.id c.requires.order c.requires.live c.requires.parent c.requires.settled (sym c.is_fresh.ensures ∙ c.if-is_fresh.false))
+
+pub returns-clause-fresh : goal.returns-clause-fresh
+returns-clause-fresh g c = on_ok c.fill.result (filled_fresh c.args.table.now c.fill.new.table c.args.id (is_stale c.args.table.now c.args.id c.requires.order c.requires.live c.requires.parent c.requires.settled (sym c.is_fresh.ensures ∙ c.if-is_fresh.false))) c.fill.ensures.ok
+
+pub returns-clause-counted : goal.returns-clause-counted
+returns-clause-counted g c =
+    let s : outdated_at c.args.table.now c.args.id ≡ size_of (row_at c.args.table.now c.args.id).triple.dims = stale_cost c.args.table.now c.args.id (is_stale c.args.table.now c.args.id c.requires.order c.requires.live c.requires.parent c.requires.settled (sym c.is_fresh.ensures ∙ c.if-is_fresh.false)) in
+    omega (arith, s, c.fill.ensures.counted)

@@ -1,0 +1,74 @@
+use Rattle.std.proofs.Common.{◌≡◌, ℕ, ℤ, ◌+◌, ◌<◌, Bool, List, Option, Some, None, length, true, false, All, is_some, refl, sym, ◌∙◌, ap, subst, arith}
+use Rattle.pdl_elem.specs.declared.Ty.{Ty}
+use Rattle.pdl_elem.specs.Types.{InRange}
+use Rattle.pdl_buf.specs.Buffer.{Kept}
+use Rattle.pdl_shape.specs.Shape.{size_of}
+use Rattle.pdl_shape.specs.Places.{write}
+use Rattle.pdl_shape.specs.Triple.{Triple}
+use Rattle.pdl_nodes.specs.Row.{Row, is_buffered, places_or}
+use Rattle.pdl_nodes.specs.Rows.{Rows, row_at, has, each}
+use Rattle.pdl_nodes.specs.Assigned.{put_all}
+use Rattle.pdl_nodes.specs.Changes.{kept_in, mark_in, wait_in}
+use Rattle.pdl_nodes.specs.Families.{IsMarked, IsWaiting, has_repeats}
+use Rattle.pdl_nodes.specs.Late.{settle, await, IsThrough, put_through}
+use Rattle.pdl_nodes.specs.Placed.{placed_by}
+use Rattle.pdl_nodes.specs.Spots.{spots}
+use Rattle.pdl_nodes.specs.Worlds.{places_of, latest, IsRoot}
+use Rattle.pdl_nodes.specs.Rows.{Falls}
+use Rattle.pdl_nodes.proofs.Assigning.{in_order_if, based_all, again_all, through_known}
+use Rattle.pdl_nodes.proofs.Finds.{each_has, each_at, falls_each}
+use Rattle.pdl_nodes.proofs.Liftings.{IsLiftable, liftable}
+use Rattle.pdl_nodes.proofs.Lowered.{falls_still}
+use Rattle.pdl_nodes.proofs.Origins.{mark_buffered}
+use Rattle.pdl_nodes.proofs.Seens.{IsSeen, is_seen}
+use Rattle.pdl_nodes.proofs.Waits.{BaseFacts, base_facts}
+use Rattle.std.specs.Prelude.{not}
+use Rattle.pdl_nodes.proofs.push.assign_at_base.Goals as goal
+
+none_not : (o : Option ℕ) (b : Bool) → is_some o ≡ not b → b ≡ false → o ≡ None → ⊥
+none_not o b e f n = let c : false ≡ true = sym (ap is_some n) ∙ e ∙ ap not f in cc
+
+pub put_through-requires-clause-live : goal.put_through-requires-clause-live
+put_through-requires-clause-live g c = (liftable c.args.table.now c.args.root c.args.base c.requires.through.order c.requires.known c.requires.through.root c.requires.view (base_facts c.args.table.now c.args.root c.args.base c.args.id c.requires.through.order c.requires.through.root c.requires.through.live c.requires.through.base_is c.requires.through.root_is c.requires.through.marked).root_is c.requires.through.marked).live
+
+pub put_through-requires-clause-found : goal.put_through-requires-clause-found
+put_through-requires-clause-found g c = (liftable c.args.table.now c.args.root c.args.base c.requires.through.order c.requires.known c.requires.through.root c.requires.view (base_facts c.args.table.now c.args.root c.args.base c.args.id c.requires.through.order c.requires.through.root c.requires.through.live c.requires.through.base_is c.requires.through.root_is c.requires.through.marked).root_is c.requires.through.marked).found
+
+pub put_through-requires-clause-buffered : goal.put_through-requires-clause-buffered
+put_through-requires-clause-buffered g c = mark_buffered (row_at c.args.table.now c.args.base) c.requires.through.marked
+
+pub put_through-requires-clause-count : goal.put_through-requires-clause-count
+put_through-requires-clause-count g c = (liftable c.args.table.now c.args.root c.args.base c.requires.through.order c.requires.known c.requires.through.root c.requires.view (base_facts c.args.table.now c.args.root c.args.base c.args.id c.requires.through.order c.requires.through.root c.requires.through.live c.requires.through.base_is c.requires.through.root_is c.requires.through.marked).root_is c.requires.through.marked).size
+
+pub put_through-requires-clause-in_order : goal.put_through-requires-clause-in_order
+put_through-requires-clause-in_order g c = in_order_if c.args.table.now c.args.id c.args.base c.copy_triple-triple.result c.requires.through.order.still c.requires.through.live c.requires.through.base_is (c.copy_triple-triple.ensures ∙ c.triple.ensures ∙ ap (λ (r : Row). r.triple) c.node.ensures)
+
+pub put_through-requires-clause-in_range : goal.put_through-requires-clause-in_range
+put_through-requires-clause-in_range g c =
+    let s : IsSeen c.args.table.now c.args.id = is_seen c.args.table.now c.requires.through.order.still c.args.id c.requires.through.live in
+    let y : (row_at c.args.table.now c.args.id).ty ≡ (row_at c.args.table.now c.args.base).ty = sym s.base_ty ∙ ap (λ b. (row_at c.args.table.now b).ty) c.requires.through.base_is in
+    subst (λ (y : Ty). All (InRange y) c.args.values.now) y c.requires.in_range
+
+pub node-requires-2 : goal.node-requires-2
+node-requires-2 g c = record { live = ap (λ t. has t c.args.root) c.put_through.ensures.value ∙ each_has _ c.args.table.now c.args.root ∙ c.requires.through.root.0 }
+
+pub mark-requires-clause-falls : goal.mark-requires-clause-falls
+mark-requires-clause-falls g c = subst (λ (t : Rows). Falls t) (sym c.put_through.ensures.value) (falls_each _ c.args.table.now (falls_still c.args.table.now c.requires.through.order.still))
+
+pub mark-requires-clause-buffered : goal.mark-requires-clause-buffered
+mark-requires-clause-buffered g c = ap (λ t. is_buffered (row_at t c.args.base)) c.put_through.ensures.value ∙ ap is_buffered (each_at _ c.args.table.now c.args.base (base_facts c.args.table.now c.args.root c.args.base c.args.id c.requires.through.order c.requires.through.root c.requires.through.live c.requires.through.base_is c.requires.through.root_is c.requires.through.marked).live) ∙ mark_buffered (row_at c.args.table.now c.args.base) c.requires.through.marked
+
+pub set_waiting-requires : goal.set_waiting-requires
+set_waiting-requires g c = record { live = ap (λ t. has t c.args.root) (c.mark.ensures ∙ ap (each _) c.put_through.ensures.value) ∙ each_has _ _ c.args.root ∙ each_has _ c.args.table.now c.args.root ∙ c.requires.through.root.0 }
+
+pub returns-then-is_none-clause-awaits : goal.returns-then-is_none-clause-awaits
+returns-then-is_none-clause-awaits g c =
+    c.set_waiting.ensures ∙ ap (each (wait_in c.args.root (Some c.args.base))) (c.mark.ensures ∙ ap (each (mark_in c.args.root c.args.base true)) c.put_through.ensures.value)
+    ∙ based_all c.args.table.now c.args.root c.args.base _ c.requires.through.order.still (base_facts c.args.table.now c.args.root c.args.base c.args.id c.requires.through.order c.requires.through.root c.requires.through.live c.requires.through.base_is c.requires.through.root_is c.requires.through.marked).root_is
+    ∙ ap (λ ks. each (await c.args.root c.args.base ks) c.args.table.now) (through_known c.args.table.now c.args.root c.args.base c.args.id c.copy_triple-triple.result c.args.values.now (liftable c.args.table.now c.args.root c.args.base c.requires.through.order c.requires.known c.requires.through.root c.requires.view (base_facts c.args.table.now c.args.root c.args.base c.args.id c.requires.through.order c.requires.through.root c.requires.through.live c.requires.through.base_is c.requires.through.root_is c.requires.through.marked).root_is c.requires.through.marked) c.requires.through.base_is (c.copy_triple-triple.ensures ∙ c.triple.ensures ∙ ap (λ (r : Row). r.triple) c.node.ensures))
+
+pub returns-clause-awaits : goal.returns-clause-awaits
+returns-clause-awaits g c =
+    c.put_through.ensures.value
+    ∙ again_all c.args.table.now c.args.root c.args.base _ c.requires.through.order c.requires.through.root c.requires.through.marked (base_facts c.args.table.now c.args.root c.args.base c.args.id c.requires.through.order c.requires.through.root c.requires.through.live c.requires.through.base_is c.requires.through.root_is c.requires.through.marked).root_is (λ e. none_not c.waiting.result c.is_none.result c.is_none.ensures c.if-is_none.false (c.waiting.ensures ∙ ap (λ (r : Row). r.waiting) c.node-2.ensures ∙ ap (λ t. (row_at t c.args.root).waiting) c.put_through.ensures.value ∙ ap (λ (r : Row). r.waiting) (each_at _ c.args.table.now c.args.root c.requires.through.root.0) ∙ e))
+    ∙ ap (λ ks. each (await c.args.root c.args.base ks) c.args.table.now) (through_known c.args.table.now c.args.root c.args.base c.args.id c.copy_triple-triple.result c.args.values.now (liftable c.args.table.now c.args.root c.args.base c.requires.through.order c.requires.known c.requires.through.root c.requires.view (base_facts c.args.table.now c.args.root c.args.base c.args.id c.requires.through.order c.requires.through.root c.requires.through.live c.requires.through.base_is c.requires.through.root_is c.requires.through.marked).root_is c.requires.through.marked) c.requires.through.base_is (c.copy_triple-triple.ensures ∙ c.triple.ensures ∙ ap (λ (r : Row). r.triple) c.node.ensures))

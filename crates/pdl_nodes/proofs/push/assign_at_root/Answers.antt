@@ -1,0 +1,35 @@
+use Rattle.std.proofs.Common.{◌≡◌, ℕ, ℤ, ◌+◌, ◌<◌, Bool, List, Option, Some, None, length, true, false, All, is_some, refl, sym, ◌∙◌, ap, subst, arith}
+use Rattle.pdl_elem.specs.declared.Ty.{Ty}
+use Rattle.pdl_elem.specs.Types.{InRange}
+use Rattle.pdl_buf.specs.Buffer.{Kept}
+use Rattle.pdl_shape.specs.Shape.{size_of}
+use Rattle.pdl_shape.specs.Places.{write}
+use Rattle.pdl_shape.specs.Triple.{Triple}
+use Rattle.pdl_nodes.specs.Row.{Row, is_buffered, places_or}
+use Rattle.pdl_nodes.specs.Rows.{Rows, row_at, has, each}
+use Rattle.pdl_nodes.specs.Assigned.{put_all}
+use Rattle.pdl_nodes.specs.Changes.{kept_in, mark_in, wait_in}
+use Rattle.pdl_nodes.specs.Families.{IsMarked, IsWaiting, has_repeats}
+use Rattle.pdl_nodes.specs.Late.{settle, await, IsThrough, put_through}
+use Rattle.pdl_nodes.specs.Placed.{placed_by}
+use Rattle.pdl_nodes.specs.Spots.{spots}
+use Rattle.pdl_nodes.specs.Worlds.{places_of, latest, IsRoot}
+use Rattle.pdl_nodes.proofs.Assigning.{rooted_all}
+use Rattle.pdl_nodes.proofs.FamilyLemmas.{latest_none}
+use Rattle.pdl_nodes.proofs.Finds.{each_has, each_at, falls_each}
+use Rattle.pdl_nodes.proofs.Lowered.{falls_still}
+use Rattle.pdl_nodes.proofs.Origins.{root_buffered}
+use Rattle.pdl_nodes.specs.Rows.{Falls}
+use Rattle.pdl_nodes.proofs.push.assign_at_root.Goals as goal
+
+pub mark-requires-clause-falls : goal.mark-requires-clause-falls
+mark-requires-clause-falls g c = subst (λ (t : Rows). Falls t) (sym c.put_at_root.ensures.put) (falls_each _ c.args.table.now (falls_still c.args.table.now c.requires.order.still))
+
+pub mark-requires-clause-buffered : goal.mark-requires-clause-buffered
+mark-requires-clause-buffered g c = ap (λ t. is_buffered (row_at t c.args.root)) c.put_at_root.ensures.put ∙ ap is_buffered (each_at _ c.args.table.now c.args.root c.requires.root.0) ∙ root_buffered c.args.table.now c.requires.order.still c.args.root c.requires.root.0 c.requires.root.1
+
+pub returns-clause-settled : goal.returns-clause-settled
+returns-clause-settled g c =
+    c.mark.ensures ∙ ap (each (mark_in c.args.root c.args.root true)) c.put_at_root.ensures.put
+    ∙ rooted_all c.args.table.now c.args.root _ c.requires.order.still c.requires.root c.requires.nothing
+    ∙ ap (λ es. each (settle c.args.root (write (places_of c.args.table.now c.args.id) c.args.values.now es) c.args.root false) c.args.table.now) (sym (latest_none c.args.table.now c.args.root c.requires.nothing))

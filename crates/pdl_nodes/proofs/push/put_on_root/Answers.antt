@@ -1,0 +1,37 @@
+use Rattle.std.proofs.Common.{◌≡◌, ℕ, ℤ, ◌+◌, ◌<◌, Bool, List, Option, Some, None, length, true, false, All, is_some, refl, sym, ◌∙◌, ap, subst, arith}
+use Rattle.pdl_elem.specs.declared.Ty.{Ty}
+use Rattle.pdl_elem.specs.Types.{InRange}
+use Rattle.pdl_buf.specs.Buffer.{Kept}
+use Rattle.pdl_shape.specs.Shape.{size_of}
+use Rattle.pdl_shape.specs.Places.{write}
+use Rattle.pdl_shape.specs.Triple.{Triple}
+use Rattle.pdl_nodes.specs.Row.{Row, is_buffered, places_or}
+use Rattle.pdl_nodes.specs.Rows.{Rows, row_at, has, each}
+use Rattle.pdl_nodes.specs.Assigned.{put_all}
+use Rattle.pdl_nodes.specs.Changes.{kept_in, mark_in, wait_in}
+use Rattle.pdl_nodes.specs.Families.{IsMarked, IsWaiting, has_repeats}
+use Rattle.pdl_nodes.specs.Late.{settle, await, IsThrough, put_through}
+use Rattle.pdl_nodes.specs.Placed.{placed_by}
+use Rattle.pdl_nodes.specs.Spots.{spots}
+use Rattle.pdl_nodes.specs.Worlds.{places_of, latest, IsRoot}
+use Rattle.pdl_nodes.proofs.Assigning.{in_order_if, over_root}
+use Rattle.pdl_nodes.proofs.Origins.{root_buffered}
+use Rattle.pdl_nodes.proofs.Seens.{IsSeen, is_seen}
+use Rattle.pdl_nodes.proofs.push.put_on_root.Goals as goal
+
+pub put_over-requires-clause-buffered : goal.put_over-requires-clause-buffered
+put_over-requires-clause-buffered g c = root_buffered c.args.table.now c.requires.order.still c.args.root c.requires.root.0 c.requires.root.1
+
+pub put_over-requires-clause-in_order : goal.put_over-requires-clause-in_order
+put_over-requires-clause-in_order g c = in_order_if c.args.table.now c.args.id c.args.root c.copy_triple-triple.result c.requires.order.still c.requires.live c.requires.over (c.copy_triple-triple.ensures ∙ c.triple.ensures ∙ ap (λ (r : Row). r.triple) c.node.ensures)
+
+pub put_over-requires-clause-in_range : goal.put_over-requires-clause-in_range
+put_over-requires-clause-in_range g c =
+    let s : IsSeen c.args.table.now c.args.id = is_seen c.args.table.now c.requires.order.still c.args.id c.requires.live in
+    let y : (row_at c.args.table.now c.args.id).ty ≡ (row_at c.args.table.now c.args.root).ty = sym s.base_ty ∙ ap (λ b. (row_at c.args.table.now b).ty) c.requires.over in
+    subst (λ (y : Ty). All (InRange y) c.args.values.now) y c.requires.in_range
+
+pub returns-clause-put : goal.returns-clause-put
+returns-clause-put g c =
+    c.put_over.ensures.value ∙ ap (λ (ps : List (Option ℕ)). each (kept_in c.args.root (write ps c.args.values.now (row_at c.args.table.now c.args.root).kept)) c.args.table.now)
+    (ap (placed_by None) (c.copy_triple-triple.ensures ∙ c.triple.ensures ∙ ap (λ (r : Row). r.triple) c.node.ensures) ∙ sym (over_root c.args.table.now c.args.root c.args.id c.requires.order.still c.requires.live c.requires.root c.requires.over))

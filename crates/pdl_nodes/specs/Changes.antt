@@ -1,0 +1,52 @@
+-- What the calls do to each row. The choice stands in the field, so that all else of a row is seen to stay.
+use Rattle.std.specs.Prelude.{ℕ, ℤ, ◌==◌, ◌||◌, ◌&&◌, nat_lt, if◌then◌else◌, Bool, true, false, List, [], Option, Some, None}
+use Rattle.pdl_nodes.specs.Row.{Row}
+
+-- b keeps these elements
+abbrev pub kept_in : ℕ → List ℤ → ℕ → Row → Row
+kept_in b ks k r = record r { kept = (if k == b then ks else r.kept) }
+
+-- in the family of the root rt this waits
+abbrev pub wait_in : ℕ → Option ℕ → ℕ → Row → Row
+wait_in rt o k r = record r { waiting = (if k == rt then o else r.waiting) }
+
+-- the places that were found, or else those that were known
+abbrev pub or_known : Option (List (Option ℕ)) → Option (List (Option ℕ)) → Option (List (Option ℕ))
+or_known None known = known
+or_known (Some ps) known = Some ps
+
+-- b keeps these elements, is marked, and has repeats or not; its places are known, if they were found now
+abbrev pub fill_in : ℕ → List ℤ → Bool → Option (List (Option ℕ)) → ℕ → Row → Row
+fill_in b ks f o k r = record r {
+  kept = (if k == b then ks else r.kept);
+  mark = (if k == b then true else r.mark);
+  repeats = (if k == b then f else r.repeats);
+  places = (if k == b then or_known o r.places else r.places);
+}
+
+-- b keeps nothing, is not marked, and its places aren't known
+abbrev pub lift_in : ℕ → ℕ → Row → Row
+lift_in b k r = record r {
+  kept = (if k == b then [] else r.kept);
+  mark = (if k == b then false else r.mark);
+  places = (if k == b then None else r.places);
+}
+
+-- b is marked
+abbrev pub marked_in : ℕ → ℕ → Row → Row
+marked_in b k r = record r { mark = (if k == b then true else r.mark) }
+
+-- b is marked; of the other bases of the family of rt none is marked afterwards, if b is to be alone
+abbrev pub mark_in : (rt b : ℕ) → (alone : Bool) → ℕ → Row → Row
+mark_in rt b alone k r = record r {
+  mark = (if k == b then true else (if alone && (r.root == rt) then false else r.mark));
+}
+
+-- only the rows above a number are changed
+abbrev pub above : Option ℕ → (ℕ → Row → Row) → ℕ → Row → Row
+above None f k r = f k r
+above (Some n) f k r = if nat_lt n k then f k r else r
+
+-- only the row v is changed
+abbrev pub at_only : ℕ → (ℕ → Row → Row) → ℕ → Row → Row
+at_only v f k r = if k == v then f k r else r

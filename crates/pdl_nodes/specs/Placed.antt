@@ -1,0 +1,21 @@
+-- The root's places over a base.
+use Rattle.std.specs.Prelude.{ℕ, List, Option, Some, None, map}
+use Rattle.pdl_shape.specs.Triple.{Triple}
+use Rattle.pdl_nodes.specs.Assigned.{entry}
+use Rattle.pdl_nodes.specs.declared.origin.Layout.{Layout}
+use Rattle.pdl_nodes.specs.declared.origin.Layout.TheVariants.{Plan, Choice}
+use Rattle.pdl_nodes.specs.Spots.{spots}
+
+-- the root's place at a base's place: of a root the place itself, else what is known
+abbrev pub placed : Option (List (Option ℕ)) → ℕ → Option ℕ
+placed None q = Some q
+placed (Some ps) q = entry ps q
+
+-- the root's places that a triple shows over a base, in the order of positions
+abbrev pub placed_by : Option (List (Option ℕ)) → Triple → List (Option ℕ)
+placed_by known t = map (placed known) (spots t)
+
+-- the parent's position at a position of a view that is its own base: a plan's is the position itself
+abbrev pub own_at : Layout → ℕ → Option ℕ
+own_at (Plan p) i = Some i
+own_at (Choice c) i = entry c.places i

@@ -1,0 +1,94 @@
+-- What kept arrays are seen as, and how calls change that.
+use Rattle.std.specs.Prelude.{◌≡◌, ℕ, ◌+◌, ◌==◌, ◌&&◌, not, if◌then◌else◌, Bool, true, List, [], ◌∷◌, sum_by, All, Option, Some, None}
+use Rattle.std.specs.Option.{option_map_or}
+use Rattle.pdl_buf.specs.Window.{Window}
+use Rattle.pdl_shape.specs.Shape.{size_of}
+use Rattle.pdl_world.specs.Paths.{path, root_of}
+use Rattle.pdl_world.specs.Sound.{IsLive}
+use Rattle.pdl_world.specs.Swept.{holds}
+use Rattle.pdl_world.specs.World.{World, ArrayDef, dims_in, ty_in, elements}
+use Rattle.pdl_world.specs.Windows.{window}
+use Rattle.pdl_nodes.specs.Families.{has_repeats}
+use Rattle.pdl_nodes.specs.Worlds.{places_in}
+
+-- The world of arrays; those that can be lent; per root the view whose buffer waits to be written back; how often
+-- each array is held; and the number of the next array.
+pub record State : Type 0 where
+  pub world : World
+  pub fresh : List ℕ
+  pub pending : List (ℕ × ℕ)
+  pub holds : List (ℕ × ℕ)
+  pub next : ℕ
+
+-- no arrays
+abbrev pub no_arrays : State
+no_arrays = record { world = []; fresh = []; pending = []; holds = []; next = 0 }
+
+-- the array can be lent
+abbrev pub is_fresh : State → ℕ → Bool
+is_fresh s v = holds s.fresh v
+
+-- each array that can be lent can be lent still
+abbrev pub StayFresh : (old new : State) → Type 0
+StayFresh old new = (v : ℕ) → is_fresh old v ≡ true → is_fresh new v ≡ true
+
+-- one more array, which has the next number and is held once
+pub record Joins (old : State) (id : ℕ) (d : ArrayDef) (new : State) : Type 0 where
+  pub number : id ≡ old.next
+  pub world : new.world ≡ (id, d) ∷ old.world
+  pub holds : new.holds ≡ (id, 1) ∷ old.holds
+  pub pending : new.pending ≡ old.pending
+  pub next : new.next ≡ old.next + 1
+  pub stay : StayFresh old new
+
+-- the same arrays, held as often
+pub record SameArrays (old new : State) : Type 0 where
+  pub world : new.world ≡ old.world
+  pub holds : new.holds ≡ old.holds
+  pub next : new.next ≡ old.next
+
+-- each array from this one to its root can be lent
+abbrev pub PathIsFresh : State → ℕ → Type 0
+PathIsFresh s v = All (λ u. is_fresh s u ≡ true) (path s.world v)
+
+-- what is shown of an array
+abbrev pub shown_in : State → ℕ → Window
+shown_in s v = record { ty = ty_in s.world v; dims = dims_in s.world v; elems = elements s.world v }
+
+-- the array whose kept elements show this one
+abbrev pub base_in : World → ℕ → ℕ
+base_in w v = option_map_or (λ x. x.base) (window w v) v
+
+-- how many elements a view has that keeps its own and can't be lent
+abbrev pub outdated_at : State → ℕ → ℕ
+outdated_at s u =
+    if (base_in s.world u == u) && not (root_of s.world u == u)
+    then (if is_fresh s u then 0 else size_of (dims_in s.world u))
+    else 0
+
+-- of all views on the path of v
+abbrev pub outdated : State → ℕ → ℕ
+outdated s v = sum_by (outdated_at s) (path s.world v)
+
+abbrev pub waiting_at : List (ℕ × ℕ) → ℕ → Option ℕ
+waiting_at [] r = None
+waiting_at ((k, v) ∷ ps) r = if k == r then Some v else waiting_at ps r
+
+-- the view of v's family whose elements wait
+abbrev pub waiting : State → ℕ → Option ℕ
+waiting s v = waiting_at s.pending (root_of s.world v)
+
+-- how many elements wait
+abbrev pub waiting_size : State → Option ℕ → ℕ
+waiting_size s None = 0
+waiting_size s (Some u) = size_of (dims_in s.world u)
+
+-- where values are put that are assigned to v: in its base, or in its root where the base has repeats
+abbrev pub target : World → ℕ → ℕ
+target w v = if has_repeats (places_in w (base_in w v)) then root_of w v else base_in w v
+
+-- after an assignment to v each array that is shown by what was written can be lent
+abbrev pub TargetIsFresh : (old : State) (v : ℕ) (new : State) → Type 0
+TargetIsFresh old v new =
+    (u : ℕ) → IsLive old.world u → root_of old.world u ≡ root_of old.world v
+    → base_in old.world u ≡ target old.world v → is_fresh new u ≡ true

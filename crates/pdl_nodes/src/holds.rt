@@ -1,0 +1,142 @@
+//! How often each number is held.
+ghost use Rattle.std.specs.Prelude.{◌≡◌, ◌≢◌, ℕ, ◌<◌, ◌^◌, [], ◌∷◌, Some, None, OnOk, OnErr};
+ghost use Rattle.pdl_nodes.specs.Rows.{NumbersBelow};
+ghost use Rattle.pdl_nodes.specs.Holds.{hold_at, is_held, count, with_reached, less_one, one_more, held_once, Beside};
+
+use crate::node::Node;
+use crate::table::Table;
+use std::alloc::{AllocError, Global};
+use std::collections::BTreeMap;
+use std::marker::Model;
+
+/// How often a number is held, and whether a kept view of it was passed in a sweep.
+#[derive(Clone, Copy, Drop)]
+pub struct Hold {
+    pub count: u64,
+    pub reached: bool,
+}
+
+/// The holds by number.
+#[derive(Drop)]
+pub struct Holds {
+    by_number: BTreeMap<u64, Hold>,
+}
+
+impl Model for Holds {
+    ghost use Rattle.std.specs.Ordering.{nat_cmp};
+    ghost use Rattle.std.specs.BTreeMap.{IsOrdered};
+    ghost use Rattle.pdl_nodes.specs.Holds.{Counts};
+
+    ghost Value = { Counts };
+
+    ghost view = { λ h. h.by_number.entries };
+
+    ghost invariant = { λ h. IsOrdered nat_cmp h.by_number };
+}
+
+impl Holds {
+    /// No holds.
+    pub fn new(alloc: Global) -> Holds
+        ensures { result ≡ [] }
+    {
+        Holds {
+            by_number: BTreeMap::new(alloc),
+        }
+    }
+
+    /// Whether the number is held, or a kept view of it was passed.
+    pub fn is_held(&self, id: u64) -> bool
+        ensures { result ≡ is_held self.now id }
+    {
+        match self.by_number.get(&id) {
+            Some(hold) => hold.reached || hold.count > 0,
+            None => false,
+        }
+    }
+
+    /// Notes that a kept view of the number was passed, or that it was passed itself.
+    pub fn set_reached(&mut self, id: u64, reached: bool)
+        ensures here { hold_at self.new id ≡ with_reached reached (hold_at self.old id) }
+        ensures others { (v : ℕ) → v ≢ id → hold_at self.new v ≡ hold_at self.old v }
+    {
+        match self.by_number.get_mut(&id) {
+            Some(hold) => {
+                hold.reached = reached;
+            }
+            None => {}
+        }
+    }
+
+    /// Holds a new number once.
+    pub fn insert(&mut self, id: u64) -> Result<(), AllocError>
+        requires new { hold_at self.old id ≡ None }
+        ensures here { OnOk result (hold_at self.new id ≡ Some (held_once)) }
+        ensures others { (v : ℕ) → v ≢ id → hold_at self.new v ≡ hold_at self.old v }
+        ensures err { OnErr result (hold_at self.new id ≡ None) }
+    {
+        self.by_number.insert(
+            id,
+            Hold {
+                count: 1,
+                reached: false,
+            },
+        )?;
+        Ok(())
+    }
+
+    /// Holds a number once more.
+    pub fn hold(&mut self, id: u64)
+        requires { count self.old id < 2 ^ 63 }
+        ensures here { hold_at self.new id ≡ one_more (hold_at self.old id) }
+        ensures others { (v : ℕ) → v ≢ id → hold_at self.new v ≡ hold_at self.old v }
+    {
+        match self.by_number.get_mut(&id) {
+            Some(hold) => {
+                hold.count += 1;
+            }
+            None => {}
+        }
+    }
+
+    /// Takes one hold back.
+    pub fn take(&mut self, id: u64)
+        requires { 0 < count self.old id }
+        ensures here { hold_at self.new id ≡ less_one (hold_at self.old id) }
+        ensures others { (v : ℕ) → v ≢ id → hold_at self.new v ≡ hold_at self.old v }
+    {
+        match self.by_number.get_mut(&id) {
+            Some(hold) => {
+                hold.count -= 1;
+            }
+            None => {}
+        }
+    }
+
+    /// Forgets a number.
+    pub fn remove(&mut self, id: u64)
+        ensures here { hold_at self.new id ≡ None }
+        ensures others { (v : ℕ) → v ≢ id → hold_at self.new v ≡ hold_at self.old v }
+    {
+        self.by_number.remove(&id);
+    }
+}
+
+/// Keeps one more node, held once.
+pub fn insert(table: &mut Table, holds: &mut Holds, id: u64, node: Node) -> Result<(), AllocError>
+    requires below { NumbersBelow id table.old }
+    requires beside { Beside table.old holds.old }
+    ensures ok { OnOk result (table.new ≡ (id, node) ∷ table.old) }
+    ensures held { OnOk result (hold_at holds.new id ≡ Some held_once) }
+    ensures beside { Beside table.new holds.new }
+    ensures others { (v : ℕ) → v ≢ id → hold_at holds.new v ≡ hold_at holds.old v }
+    ensures err { OnErr result (table.new ≡ table.old) }
+{
+    holds.insert(id)?;
+    match table.insert(id, node) {
+        Ok(()) => Ok(()),
+        Err(refused) => {
+            holds.remove(id);
+            Err(refused)
+        }
+    }
+}

@@ -1,0 +1,28 @@
+//! The node table: the arrays that an engine keeps, with how each is shown over its base, what is
+//! kept of it, and how often it is held.
+#![tactic(auto)]
+
+mod gathering;
+mod holds;
+mod laws;
+mod moves;
+mod node;
+mod nodes;
+mod origin;
+mod passes;
+mod pull;
+mod push;
+mod readying;
+mod table;
+mod views;
+
+pub use holds::{Hold, Holds, insert};
+pub use laws::{order_laws, row_laws};
+pub use node::{Lifted, Node};
+pub use nodes::Nodes;
+pub use origin::{Layout, Origin};
+pub use passes::{reach, release, remove_unreached};
+pub use pull::{is_fresh, refresh};
+pub use push::{assign, write_back};
+pub use readying::{ready, settle};
+pub use table::Table;

@@ -1,0 +1,292 @@
+//! What is kept of one array.
+ghost use Rattle.std.specs.Prelude.{◌≡◌, ℕ, ◌+◌, ◌<◌, ◌^◌, ◌==◌, ◌&&◌, if◌then◌else◌, [], length, All, is_some, true, false, Some, None};
+ghost use Rattle.pdl_buf.specs.Window.{place_at};
+ghost use Rattle.pdl_elem.specs.Types.{InRange};
+ghost use Rattle.pdl_shape.specs.Places.{write};
+ghost use Rattle.pdl_shape.specs.Shape.{size_of};
+ghost use Rattle.pdl_nodes.specs.Assigned.{put_all};
+ghost use Rattle.pdl_nodes.specs.Row.{parent_of, is_buffered, places_or};
+ghost use Rattle.pdl_nodes.specs.Changes.{mark_in, or_known};
+ghost use Rattle.pdl_nodes.specs.Placed.{placed_by};
+ghost use Rattle.pdl_nodes.specs.Spots.{spots};
+
+use crate::moves;
+use crate::origin::Origin;
+use pdl_buf::{Buf, Steps};
+use pdl_choice::Places;
+use pdl_elem::Ty;
+use pdl_shape::{Triple, elements_of};
+use std::alloc::Global;
+use std::marker::Model;
+use std::sync::ledger::Ledger;
+
+/// What was kept of a view, and its places.
+#[derive(Drop)]
+pub struct Lifted {
+    pub kept: Buf,
+    pub places: Places,
+}
+
+/// One array.
+#[derive(Drop)]
+pub struct Node {
+    pub(crate) origin: Origin,
+    pub(crate) root: u64,
+    pub(crate) ty: Ty,
+    /// The array whose elements show this one.
+    pub(crate) base: u64,
+    /// How they show it.
+    pub(crate) triple: Triple,
+    /// The elements of a base. A marked array and a root have a buffer.
+    pub(crate) kept: Option<Buf>,
+    /// Whether the kept elements are those of the array.
+    pub(crate) mark: bool,
+    /// Whether two positions of a marked base have one place.
+    pub(crate) repeats: bool,
+    /// The root's place of each position of a view that is its own base, once they were found.
+    pub(crate) places: Option<Places>,
+    /// Of a root: the view whose elements wait to be written back.
+    pub(crate) waiting: Option<u64>,
+}
+
+impl Model for Node {
+    ghost use Rattle.pdl_nodes.specs.Row.{Row, IsNode, elements_or};
+
+    ghost Value = { Row };
+
+    ghost invariant = { λ n. IsNode n.origin n.ty n.mark n.kept };
+
+    ghost view = { λ n. record {
+      origin = n.origin;
+      ty = n.ty;
+      root = n.root;
+      base = n.base;
+      triple = n.triple;
+      kept = elements_or n.kept;
+      mark = n.mark;
+      repeats = n.repeats;
+      places = n.places;
+      waiting = n.waiting;
+    } };
+}
+
+impl Node {
+    /// The number of the parent, or nothing for a root.
+    pub fn parent(&self) -> Option<u64>
+        ensures { result ≡ parent_of self.now }
+    {
+        self.origin.parent()
+    }
+
+    /// Where the array comes from.
+    pub fn origin(&self) -> &Origin
+        ensures { result.now ≡ self.now.origin }
+    {
+        &self.origin
+    }
+
+    /// The type of the elements.
+    pub fn ty(&self) -> Ty
+        ensures { result ≡ self.now.ty }
+    {
+        self.ty
+    }
+
+    /// The number of the root.
+    pub fn root(&self) -> u64
+        ensures { result ≡ self.now.root }
+    {
+        self.root
+    }
+
+    /// The number of the base.
+    pub fn base(&self) -> u64
+        ensures { result ≡ self.now.base }
+    {
+        self.base
+    }
+
+    /// The triple over the base's elements.
+    pub fn triple(&self) -> &Triple
+        ensures { result.now ≡ self.now.triple }
+    {
+        &self.triple
+    }
+
+    /// What is kept of a base.
+    pub fn kept(&self) -> &Buf
+        requires { is_buffered self.now ≡ true }
+        ensures { result.now ≡ record { ty = self.now.ty; elems = self.now.kept } }
+    {
+        match &self.kept {
+            Some(kept) => kept,
+            None => unreachable!(),
+        }
+    }
+
+    /// Whether what is kept are the elements.
+    pub fn mark(&self) -> bool
+        ensures { result ≡ self.now.mark }
+    {
+        self.mark
+    }
+
+    /// Whether a marked base has repeats.
+    pub fn repeats(&self) -> bool
+        ensures { result ≡ self.now.repeats }
+    {
+        self.repeats
+    }
+
+    /// Of a root: the view that waits.
+    pub fn waiting(&self) -> Option<u64>
+        ensures { result ≡ self.now.waiting }
+    {
+        self.waiting
+    }
+
+    /// The root's places of a view that is its own base, once they were found.
+    pub fn places(&self) -> &Option<Places>
+        ensures { result.now ≡ self.now.places }
+    {
+        &self.places
+    }
+
+    /// Takes what is kept of a view, and its places, out. It isn't marked then.
+    pub fn lift(&mut self) -> Lifted
+        requires view { is_some (parent_of self.old) ≡ true }
+        requires buffered { self.old.mark ≡ true }
+        requires found { is_some self.old.places ≡ true }
+        ensures kept { result.kept ≡ record { ty = self.old.ty; elems = self.old.kept } }
+        ensures places { self.old.places ≡ Some result.places }
+        ensures left { self.new ≡ record self.old { kept = []; mark = false; places = None } }
+    {
+        self.mark = false;
+        match (self.kept.take(), self.places.take()) {
+            (Some(kept), Some(places)) => Lifted { kept, places },
+            _ => unreachable!(),
+        }
+    }
+
+    /// Keeps these elements of the same type, and is marked. Places that were found now are known
+    /// from now on.
+    pub fn fill(&mut self, kept: Buf, repeats: bool, places: Option<Places>)
+        requires same_type { kept.ty ≡ self.old.ty }
+        ensures { self.new ≡ record self.old { kept = kept.elems; mark = true; repeats = repeats; places = or_known places self.old.places } }
+    {
+        self.kept = Some(kept);
+        self.mark = true;
+        self.repeats = repeats;
+        if places.is_some() {
+            self.places = places;
+        }
+    }
+
+    /// Puts the elements of a buffer at places of what is kept, in order. It takes a step for each.
+    pub fn write<L: Ledger>(&mut self, places: &[Option<u32>], from: &Buf, steps: &mut Steps<L>)
+        requires buffered { is_buffered self.old ≡ true }
+        requires count { length self.old.kept ≡ size_of self.old.triple.dims }
+        requires same_type { from.now.ty ≡ self.old.ty }
+        requires paired { length places.now ≡ length from.now.elems }
+        requires few { length places.now < 2 ^ 32 }
+        ensures value { self.new ≡ record self.old { kept = write places.now from.now.elems self.old.kept } }
+        ensures counted { steps.new ≡ steps.old + length places.now }
+    {
+        let count = elements_of(&self.triple.dims);
+        match &mut self.kept {
+            Some(kept) => moves::write(kept, count, places, from, steps),
+            None => unreachable!(),
+        }
+    }
+
+    /// Puts values at places of what is kept that a triple shows over a base, in order. It takes a
+    /// step for each value.
+    pub fn put_over<L: Ledger>(
+        &mut self,
+        alloc: Global,
+        known: &Option<Places>,
+        triple: &Triple,
+        in_order: bool,
+        values: &[i64],
+        steps: &mut Steps<L>,
+    )
+        requires buffered { is_buffered self.old ≡ true }
+        requires count { length self.old.kept ≡ size_of self.old.triple.dims }
+        requires in_order { in_order ≡ true → (p : ℕ) → p < size_of triple.now.dims → place_at triple.now p ≡ p }
+        requires paired { length values.now ≡ size_of triple.now.dims }
+        requires in_range { All (InRange self.old.ty) values.now }
+        ensures value { self.new ≡ record self.old { kept = write (placed_by known.now triple.now) values.now self.old.kept } }
+        ensures counted { steps.new ≡ steps.old + length values.now }
+    {
+        let count = elements_of(&self.triple.dims);
+        match &mut self.kept {
+            Some(kept) => moves::put_over(
+                alloc, kept, count, known, triple, in_order, values, steps,
+            ),
+            None => unreachable!(),
+        }
+    }
+
+    /// Puts values at the positions that a triple shows and that have a place, in order. It takes a
+    /// step for each value.
+    pub fn put_through<L: Ledger>(
+        &mut self,
+        alloc: Global,
+        triple: &Triple,
+        in_order: bool,
+        values: &[i64],
+        steps: &mut Steps<L>,
+    )
+        requires buffered { is_buffered self.old ≡ true }
+        requires found { is_some self.old.places ≡ true }
+        requires count { length self.old.kept ≡ size_of self.old.triple.dims }
+        requires in_order { in_order ≡ true → (p : ℕ) → p < size_of triple.now.dims → place_at triple.now p ≡ p }
+        requires paired { length values.now ≡ size_of triple.now.dims }
+        requires in_range { All (InRange self.old.ty) values.now }
+        ensures value { self.new ≡ record self.old { kept = put_all (places_or self.old.places) (spots triple.now) values.now self.old.kept } }
+        ensures counted { steps.new ≡ steps.old + length values.now }
+    {
+        let count = elements_of(&self.triple.dims);
+        match (&mut self.kept, &self.places) {
+            (Some(kept), Some(places)) => moves::put_through(
+                alloc,
+                kept,
+                count,
+                places.as_slice(),
+                triple,
+                in_order,
+                values,
+                steps,
+            ),
+            _ => unreachable!(),
+        }
+    }
+
+    /// Is marked. A base has a buffer.
+    pub fn set_mark(&mut self)
+        requires { is_buffered self.old ≡ true }
+        ensures { self.new ≡ record self.old { mark = true } }
+    {
+        self.mark = true;
+    }
+
+    /// Notes what waits in the family of this root.
+    pub fn set_waiting(&mut self, waiting: Option<u64>)
+        ensures { self.new ≡ record self.old { waiting = waiting } }
+    {
+        self.waiting = waiting;
+    }
+
+    /// Marks the node `id` where it is the base. Else, where the base is to be alone, it loses its
+    /// mark if it is of the base's family.
+    pub fn mark_as(&mut self, id: u64, root: u64, base: u64, alone: bool)
+        requires { id ≡ base → is_buffered self.old ≡ true }
+        ensures { self.new ≡ mark_in root base alone id self.old }
+    {
+        if id == base {
+            self.mark = true;
+        } else if alone && self.root == root {
+            self.mark = false;
+        }
+    }
+}

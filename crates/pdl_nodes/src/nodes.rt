@@ -1,0 +1,201 @@
+//! Kept arrays and their calls.
+ghost use Rattle.std.specs.Prelude.{◌≡◌, ℕ, ◌+◌, ◌≤◌, nat_lt, true, length, All, IfOk, IsTrue, OnOk, OnErr, None};
+ghost use Rattle.pdl_buf.specs.Buffer.{count_moved};
+ghost use Rattle.pdl_buf.specs.Made.{IsMade};
+ghost use Rattle.pdl_elem.specs.Types.{InRange};
+ghost use Rattle.pdl_shape.specs.Shape.{IsDims, size_of};
+ghost use Rattle.pdl_world.specs.Formula.{is_well_formed};
+ghost use Rattle.pdl_world.specs.Paths.{depth_limit, path, root_of};
+ghost use Rattle.pdl_world.specs.Refused.{view_refusal};
+ghost use Rattle.pdl_world.specs.Sound.{IsLive, IsSound};
+ghost use Rattle.pdl_world.specs.World.{assign, dims_in, root, ty_in, view};
+ghost use Rattle.pdl_nodes.specs.Nodes.{IsLayout};
+ghost use Rattle.pdl_nodes.specs.State.{Joins, PathIsFresh, SameArrays, StayFresh, TargetIsFresh, is_fresh, no_arrays, outdated, shown_in, waiting, waiting_size};
+
+use crate::holds::{Holds, insert};
+use crate::origin::Layout;
+use crate::table::Table;
+use crate::views::{root_node, view_node};
+use crate::{pull, push, readying};
+use pdl_buf::{NoMemory, Steps, Strided, buf_of, strided};
+use pdl_elem::Ty;
+use pdl_shape::{Dims, dims_list, shape_laws};
+use pdl_world::{Trans, assignment_laws, growth_laws};
+use std::alloc::{AllocError, Global};
+use std::marker::Model;
+use std::sync::ledger::Ledger;
+
+/// Kept arrays, each a root or a view of an older one.
+#[derive(Drop)]
+pub struct Nodes {
+    alloc: Global,
+    table: Table,
+    holds: Holds,
+    next: u64,
+}
+
+impl Model for Nodes {
+    ghost use Rattle.pdl_nodes.specs.State.{State};
+    ghost use Rattle.pdl_nodes.specs.Nodes.{IsNodes, state_of};
+
+    ghost Value = { State };
+
+    ghost view = { λ n. state_of n.table n.holds n.next };
+
+    ghost invariant = { λ n. IsNodes n.table n.holds n.next };
+}
+
+impl Nodes {
+    /// No arrays.
+    pub fn new(alloc: Global) -> Nodes
+        ensures { result ≡ no_arrays }
+    {
+        Nodes {
+            alloc,
+            table: Table::new(alloc),
+            holds: Holds::new(alloc),
+            next: 0,
+        }
+    }
+
+    /// The sizes of an array.
+    pub fn dims(&self, id: u64) -> &Dims
+        requires { IsLive self.now.world id }
+        ensures now { result.now ≡ dims_in self.now.world id }
+        ensures limits { IsDims result.now }
+    {
+        let dims = &self.table.node(id).triple().dims;
+        let _sizes = dims_list(dims);
+        dims
+    }
+
+    /// The type of an array's elements, which is its root's.
+    pub fn ty(&self, id: u64) -> Ty
+        requires { IsLive self.now.world id }
+        ensures { result ≡ ty_in self.now.world id }
+    {
+        self.table.node(id).ty()
+    }
+
+    /// How many arrays there are.
+    pub fn live(&self) -> u64
+        ensures { result ≡ length self.now.world }
+    {
+        self.table.count() as u64
+    }
+
+    /// Whether an array has as many views on its path to the root as there may be, and one more
+    /// array: then no view of it may be.
+    pub fn is_deep(&self, id: u64) -> bool
+        requires { IsLive self.now.world id }
+        ensures { result ≡ nat_lt depth_limit (length (path self.now.world id)) }
+    {
+        pull::is_deeper(&self.table, id, 64)
+    }
+
+    /// Whether an array can be lent.
+    pub fn is_fresh(&self, id: u64) -> bool
+        requires { IsLive self.now.world id }
+        ensures { result ≡ is_fresh self.now id }
+    {
+        pull::is_fresh(&self.table, id)
+    }
+
+    /// An array's type, dimensions and elements. The array is one that can be lent.
+    pub fn lend(&self, id: u64) -> Strided<'_>
+        requires live { IsLive self.now.world id }
+        requires fresh { is_fresh self.now id ≡ true }
+        ensures { result ≡ shown_in self.now id }
+    {
+        shape_laws();
+        let node = self.table.node(id);
+        strided(self.table.node(node.base()).kept(), node.triple())
+    }
+
+    /// A new root of these dimensions and elements, which can be lent. It takes a step for each
+    /// number that isn't 0.
+    pub fn make<L: Ledger>(
+        &mut self,
+        ty: Ty,
+        dims: &Dims,
+        elems: &[i64],
+        steps: &mut Steps<L>,
+    ) -> Result<u64, NoMemory>
+        requires { IsMade ty dims.now elems.now }
+        ensures made { IfOk result (λ id. Joins self.old id (root ty dims.now elems.now) self.new) }
+        ensures fresh { IfOk result (λ id. is_fresh self.new id ≡ true) }
+        ensures counted { OnOk result (steps.new ≡ steps.old + count_moved elems.now) }
+        ensures err { OnErr result (self.new ≡ self.old) }
+        ensures bounded { steps.new ≤ steps.old + count_moved elems.now }
+        ensures sound { IsSound self.new.world }
+    {
+        growth_laws();
+        shape_laws();
+        let id = self.next;
+        let Some(next) = id.checked_add(1) else {
+            return Err(AllocError);
+        };
+        let _limits = dims_list(dims);
+        let kept = buf_of(self.alloc, ty, elems, steps)?;
+        let node = root_node(self.alloc, id, ty, dims, kept);
+        insert(&mut self.table, &mut self.holds, id, node)?;
+        self.next = next;
+        Ok(id)
+    }
+
+    /// A new view of an array, of the layout that its transformation has on the parent.
+    pub fn view(&mut self, parent: u64, trans: Trans, layout: Layout) -> Result<u64, NoMemory>
+        requires live { IsLive self.old.world parent }
+        requires well_formed { IsTrue (is_well_formed trans) }
+        requires allowed { view_refusal self.old.world parent trans ≡ None }
+        requires layout { IsLayout trans (dims_in self.old.world parent) layout }
+        ensures made { IfOk result (λ id. Joins self.old id (view parent trans) self.new) }
+        ensures err { OnErr result (self.new ≡ self.old) }
+        ensures sound { IsSound self.new.world }
+    {
+        growth_laws();
+        let id = self.next;
+        let Some(next) = id.checked_add(1) else {
+            return Err(AllocError);
+        };
+        let above = self.table.node(parent);
+        let node = view_node(self.alloc, id, parent, trans, layout, above)?;
+        insert(&mut self.table, &mut self.holds, id, node)?;
+        self.next = next;
+        Ok(id)
+    }
+
+    /// Makes an array and each array on its path to the root such that they can be lent. What waits
+    /// in the family is written back first. Want of memory may leave some of them so.
+    pub fn ready<L: Ledger>(&mut self, id: u64, steps: &mut Steps<L>) -> Result<(), NoMemory>
+        requires { IsLive self.old.world id }
+        ensures same { SameArrays self.old self.new }
+        ensures stay { StayFresh self.old self.new }
+        ensures fresh { OnOk result (PathIsFresh self.new id) }
+        ensures itself { OnOk result (is_fresh self.new id ≡ true) }
+        ensures settled { waiting self.new id ≡ None }
+        ensures counted { steps.new ≤ steps.old + (outdated self.old id + waiting_size self.old (waiting self.old id)) }
+    {
+        readying::ready(&mut self.table, self.alloc, id, steps)
+    }
+
+    /// Puts the values at the array's positions, in rising order. The array is one that can be
+    /// lent. Arrays of other families can be lent afterwards as before. It takes a step for each
+    /// value, and no memory.
+    pub fn assign<L: Ledger>(&mut self, id: u64, values: &[i64], steps: &mut Steps<L>)
+        requires live { IsLive self.old.world id }
+        requires fresh { is_fresh self.old id ≡ true }
+        requires count { length values.now ≡ size_of (dims_in self.old.world id) }
+        requires in_range { All (InRange (ty_in self.old.world id)) values.now }
+        ensures world { self.new.world ≡ assign self.old.world id values.now }
+        ensures holds { self.new.holds ≡ self.old.holds }
+        ensures next { self.new.next ≡ self.old.next }
+        ensures others { (u : ℕ) → (root_of self.old.world u ≡ root_of self.old.world id → ⊥) → is_fresh self.old u ≡ true → is_fresh self.new u ≡ true }
+        ensures sound { IsSound self.new.world }
+        ensures target { TargetIsFresh self.old id self.new }
+        ensures counted { steps.new ≡ steps.old + length values.now }
+    {
+        assignment_laws();
+        push::assign(&mut self.table, self.alloc, id, values, steps)
+    }
+}

@@ -1,0 +1,38 @@
+//! Where an array comes from.
+ghost use Rattle.std.specs.Prelude.{◌≡◌};
+ghost use Rattle.pdl_nodes.specs.Row.{parent_from};
+
+use pdl_affine::AffinePlan;
+use pdl_choice::Choice;
+use pdl_world::Trans;
+
+/// How a view's positions lie in its parent: by a plan over the parent's dimensions, or by a list
+/// of places.
+#[derive(Drop)]
+pub enum Layout {
+    Plan(AffinePlan),
+    Choice(Choice),
+}
+
+/// A root, or a view of an older array.
+#[derive(Drop)]
+pub enum Origin {
+    Root,
+    View {
+        parent: u64,
+        trans: Trans,
+        layout: Layout,
+    },
+}
+
+impl Origin {
+    /// The number of the parent, or nothing for a root.
+    pub fn parent(&self) -> Option<u64>
+        ensures { result ≡ parent_from self.now }
+    {
+        match self {
+            Origin::Root => None,
+            Origin::View { parent, .. } => Some(*parent),
+        }
+    }
+}
