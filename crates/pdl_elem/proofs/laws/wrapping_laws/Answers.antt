@@ -1,6 +1,6 @@
 use Rattle.pdl_elem.proofs.Unwrapped.{wrapped_same}
-use Rattle.pdl_elem.proofs.Wrapping.{wraps}
+use Rattle.pdl_elem.proofs.Wrapping.{wraps, wrapped_int_wrap}
 use Rattle.pdl_elem.proofs.laws.wrapping_laws.Goals as goal
 
 pub returns : goal.returns
-returns c = record { in_range = λ t n. (wraps t n).in_range; same = wrapped_same }
+returns c = record { in_range = λ t n. (wraps t n).in_range; same = wrapped_same; late = wrapped_int_wrap }

@@ -1,0 +1,11 @@
+pub mod Examples
+pub mod Running
+pub mod Blocks
+pub mod Numbers
+pub mod Results
+pub mod Matrix
+pub mod Meets
+pub mod Paired
+pub mod Resolved
+pub mod Pairs
+pub mod Readiness

@@ -1,0 +1,10 @@
+-- What the numbers before this one come to; they are written over, and the others still stand.
+use Rattle.std.proofs.Common.{◌≡◌, fold, take, drop, ◌++◌}
+use Rattle.pdl_reduce.proofs.Running.{running}
+use Rattle.pdl_reduce.proofs.folds.run_block.Given as goal
+
+abbrev pub invariant-loop-number : goal.invariant-loop-number
+invariant-loop-number g l = record {
+  so_far : l.so_far ≡ fold g.F.Folding.taken l.start (take l.number-index l.initial.number-items);
+  written : l.number-items ≡ running g.F.Folding.taken l.start (take l.number-index l.initial.number-items) ++ drop l.number-index l.initial.number-items;
+}

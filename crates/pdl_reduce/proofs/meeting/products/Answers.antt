@@ -1,0 +1,71 @@
+-- One place of the broadcast more.
+use Rattle.std.proofs.Common.{◌≡◌, ◌<◌, ◌+◌, ◌*◌, ◌++◌, ℕ, ℤ, List, Some, length, map, arith, ap, sym, ◌∙◌}
+use Rattle.std.specs.Prelude.{slice_get}
+use Rattle.std.specs.List.{range_with_len}
+use Rattle.pdl_broadcast.specs.Walk.{Walk}
+use Rattle.pdl_shape.specs.Shape.{size_of}
+use Rattle.pdl_shape.specs.Stretched.{stretched_position}
+use Rattle.pdl_shape.specs.Triple.{whole}
+use Rattle.pdl_reduce.specs.Blocks.{block_at, product_at, products_at}
+use Rattle.pdl_reduce.proofs.Meets.{products_more, block_read}
+use Rattle.pdl_reduce.proofs.Results.{row_inside}
+use Rattle.pdl_reduce.proofs.meeting.products.Goals as goal
+
+pub loop-q-init : goal.loop-q-init
+loop-q-init c =
+    let P : ℕ → ℤ = products_at c.args.ty c.args.sizes c.args.left.now.elems c.args.right.now.elems c.args.left_sizes.now c.args.right_sizes.now c.args.joined.now in
+    let none : 0 ≡ 0 * (c.args.sizes.height * c.args.sizes.width) = omega arith in
+    record {
+      walk = c.in_ok-walk.ensures;
+      left = omega (arith, c.as_mut_slice-left_block.ensures.len, c.in_ok-left_room.ensures.len);
+      right = omega (arith, c.as_mut_slice-right_block.ensures.len, c.in_ok-right_room.ensures.len);
+      row = omega (arith, c.as_mut_slice-row.ensures.len, c.in_ok-row_room.ensures.len);
+      made = c.new-made.ensures.items ∙ ap (λ (m : ℕ). map P (range_with_len 0 m)) none;
+    }
+
+pub read_block-requires-clause-within : goal.read_block-requires-clause-within
+read_block-requires-clause-within c =
+    let n : ℕ = length c.loop-q.left_block in
+    let ds : List ℕ = c.args.left_sizes.now in
+    let there : slice_get c.loop-q.walk.triples 0 ≡ Some (whole ds) = ap (λ (w : Walk). slice_get w.triples 0) c.loop-q.invariant.walk in
+    let below : c.position_at.result < size_of ds = c.position_at.ensures.within ds there in
+    let all : length c.args.left.now.elems ≡ size_of ds * n = c.requires.ready.left_count ∙ ap (λ (m : ℕ). size_of ds * m) (sym c.loop-q.invariant.left) in
+    omega (arith, row_inside c.position_at.result (size_of ds) n below, all)
+
+pub read_block-requires-in-loop-q-clause-within : goal.read_block-requires-in-loop-q-clause-within
+read_block-requires-in-loop-q-clause-within c =
+    let n : ℕ = length c.loop-q.right_block in
+    let ds : List ℕ = c.args.right_sizes.now in
+    let there : slice_get c.loop-q.walk.triples 1 ≡ Some (whole ds) = ap (λ (w : Walk). slice_get w.triples 1) c.loop-q.invariant.walk in
+    let below : c.position_at-in-loop-q.result < size_of ds = c.position_at-in-loop-q.ensures.within ds there in
+    let all : length c.args.right.now.elems ≡ size_of ds * n = c.requires.ready.right_count ∙ ap (λ (m : ℕ). size_of ds * m) (sym c.loop-q.invariant.right) in
+    omega (arith, row_inside c.position_at-in-loop-q.result (size_of ds) n below, all)
+
+pub loop-q-preserved : goal.loop-q-preserved
+loop-q-preserved c =
+    let s = c.args.sizes in
+    let q : ℕ = c.loop-q._q in
+    let ls : List ℕ = c.args.left_sizes.now in
+    let rs : List ℕ = c.args.right_sizes.now in
+    let joined : List ℕ = c.args.joined.now in
+    let les : List ℤ = c.args.left.now.elems in
+    let res : List ℤ = c.args.right.now.elems in
+    let left_there : slice_get c.loop-q.walk.triples 0 ≡ Some (whole ls) = ap (λ (w : Walk). slice_get w.triples 0) c.loop-q.invariant.walk in
+    let right_there : slice_get c.loop-q.walk.triples 1 ≡ Some (whole rs) = ap (λ (w : Walk). slice_get w.triples 1) c.loop-q.invariant.walk in
+    let left_at : c.position_at.result ≡ stretched_position ls joined q =
+    c.position_at.ensures.position ls left_there ∙ ap (λ (w : Walk). stretched_position ls w.dims w.index) c.loop-q.invariant.walk in
+    let right_at : c.position_at-in-loop-q.result ≡ stretched_position rs joined q =
+    c.position_at-in-loop-q.ensures.position rs right_there ∙ ap (λ (w : Walk). stretched_position rs w.dims w.index) c.loop-q.invariant.walk in
+    let lb : c.read_block.new.into ≡ block_at c.args.ty (s.left_depth * s.height) les ls joined q =
+    block_read c.args.ty les ls joined q (s.left_depth * s.height) (length c.loop-q.left_block) c.position_at.result c.read_block.new.into c.loop-q.invariant.left left_at c.read_block.ensures in
+    let rb : c.read_block-in-loop-q.new.into ≡ block_at c.args.ty (s.width * s.right_depth) res rs joined q =
+    block_read c.args.ty res rs joined q (s.width * s.right_depth) (length c.loop-q.right_block) c.position_at-in-loop-q.result c.read_block-in-loop-q.new.into c.loop-q.invariant.right right_at c.read_block-in-loop-q.ensures in
+    record {
+      walk = c.next.ensures ∙ ap (λ (w : Walk). record w { index = w.index + 1 }) c.loop-q.invariant.walk;
+      left = omega (arith, c.loop-q.invariant.left);
+      right = omega (arith, c.loop-q.invariant.right);
+      row = omega (arith, c.loop-q.invariant.row);
+      made = c.in_ok-add_product.ensures
+          ∙ ap (λ (zs : List ℤ). zs ++ map (product_at c.args.ty s c.read_block.new.into c.read_block-in-loop-q.new.into) (range_with_len 0 (s.height * s.width))) c.loop-q.invariant.made
+          ∙ sym (products_more c.args.ty s les res ls rs joined q c.read_block.new.into c.read_block-in-loop-q.new.into lb rb);
+    }

@@ -1,0 +1,15 @@
+-- The products at the places before this one are made.
+use Rattle.std.proofs.Common.{◌≡◌, ◌*◌, [], ◌∷◌, map, length}
+use Rattle.std.specs.List.{range_with_len}
+use Rattle.pdl_shape.specs.Triple.{whole}
+use Rattle.pdl_reduce.specs.Blocks.{products_at}
+use Rattle.pdl_reduce.proofs.meeting.products.Given as goal
+
+abbrev pub invariant-loop-q : goal.invariant-loop-q
+invariant-loop-q l = record {
+  walk : l.walk ≡ record { dims = l.joined; triples = whole l.left_sizes ∷ whole l.right_sizes ∷ []; index = l._q };
+  left : length l.left_block ≡ l.sizes.left_depth * l.sizes.height;
+  right : length l.right_block ≡ l.sizes.width * l.sizes.right_depth;
+  row : length l.row ≡ l.sizes.width;
+  made : l.made.items ≡ map (products_at l.ty l.sizes l.left.elems l.right.elems l.left_sizes l.right_sizes l.joined) (range_with_len 0 (l._q * (l.sizes.height * l.sizes.width)));
+}

@@ -1,0 +1,15 @@
+-- What the elements before the next block come to, and the list with what they come to at each place.
+use Rattle.std.proofs.Common.{◌≡◌, ◌≤◌, ◌-◌, ◌++◌, fold, map, take, drop}
+use Rattle.pdl_elem.specs.Numbers.{wrapped}
+use Rattle.pdl_reduce.proofs.Running.{running}
+use Rattle.pdl_reduce.proofs.windows.run_window.Given as goal
+
+abbrev pub invariant-loop-done : goal.invariant-loop-done
+invariant-loop-done g l = record {
+  inside : l.done ≤ l.count;
+  so_far : l.so_far ≡ fold g.F.Folding.taken l.start (take l.done (drop l.first l.a.elems));
+  made : l.made.items ≡ l.initial.made.items ++ map (wrapped l.ty) (running g.F.Folding.taken l.start (take l.done (drop l.first l.a.elems)));
+}
+
+abbrev pub decreases-loop-done : goal.decreases-loop-done
+decreases-loop-done g l = l.count - l.done

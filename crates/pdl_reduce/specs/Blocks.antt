@@ -1,0 +1,70 @@
+-- Products of two blocks of elements as matrices, which the pairings are made of.
+use Rattle.std.specs.Prelude.{◌≡◌, ◌<◌, ◌≤◌, ℕ, ◌+◌, ◌*◌, ◌/◌, ◌%◌, ◌==◌, ℤ, pos, ◌*ℤ◌, if◌then◌else◌, List, length, get_or, map, take, drop}
+use Rattle.pdl_elem.specs.declared.Ty.{Ty}
+use Rattle.pdl_elem.specs.Numbers.{wrapped}
+use Rattle.pdl_shape.specs.Broadcast.{BroadcastsTo}
+use Rattle.pdl_shape.specs.Shape.{extent_limit, size_of}
+use Rattle.pdl_shape.specs.Stretched.{stretched_position}
+use Rattle.pdl_reduce.specs.Pairings.{sum_below}
+use Rattle.pdl_reduce.specs.declared.Pairing.{Pairing}
+use Rattle.pdl_reduce.specs.declared.Pairing.TheVariants.{Inner, Outer, Matmult}
+use Rattle.pdl_reduce.specs.declared.matrices.Sizes.{Sizes}
+
+-- the coordinate that is used along a size: 0 along a size of 1, which is stretched
+abbrev pub cut : (size coordinate : ℕ) → ℕ
+cut size c = if size == 1 then 0 else c
+
+-- the left block's number in row i and at depth k
+abbrev pub left_at : Sizes → List ℤ → (i k : ℕ) → ℤ
+left_at s left i k = get_or left (cut s.left_depth k + s.left_depth * i) (pos 0)
+
+-- the right block's number at depth k and in column j
+abbrev pub right_at : Sizes → List ℤ → (k j : ℕ) → ℤ
+right_at s right k j = get_or right (j + s.width * cut s.right_depth k) (pos 0)
+
+-- the sum of their products over the first depths
+abbrev pub sum_at : Sizes → (left right : List ℤ) → (depth i j : ℕ) → ℤ
+sum_at s left right depth i j = sum_below depth (λ k. left_at s left i k *ℤ right_at s right k j)
+
+-- the number at a place of the product, row by row, wrapped to a type
+abbrev pub product_at : Ty → Sizes → (left right : List ℤ) → ℕ → ℤ
+product_at ty s left right p = wrapped ty (sum_at s left right s.depth (p / s.width) (p % s.width))
+
+-- the blocks have as many numbers as the sizes say, and each depth is one of theirs
+pub record Fit (s : Sizes) (left right : List ℤ) : Type 0 where
+  pub left_count : length left ≡ s.left_depth * s.height
+  pub right_count : length right ≡ s.width * s.right_depth
+  pub left_deep : (k : ℕ) → k < s.depth → cut s.left_depth k < s.left_depth
+  pub right_deep : (k : ℕ) → k < s.depth → cut s.right_depth k < s.right_depth
+
+-- the block of so many numbers that an array gives at a position of a broadcast, by its sizes after the core ones,
+-- wrapped to a type
+abbrev pub block_at : Ty → (count : ℕ) → List ℤ → (sizes joined : List ℕ) → (position : ℕ) → List ℤ
+block_at ty count es sizes joined q = map (wrapped ty) (take count (drop (stretched_position sizes joined q * count) es))
+
+-- the number at a place of the products of two arrays' blocks, one product after the other
+abbrev pub products_at : Ty → Sizes → (left right : List ℤ) → (left_sizes right_sizes joined : List ℕ) → ℕ → ℤ
+products_at ty s left right ls rs joined p =
+    let count = s.height * s.width in
+    let q = p / count in
+    product_at ty s (block_at ty (s.left_depth * s.height) left ls joined q) (block_at ty (s.width * s.right_depth) right rs joined q) (p % count)
+
+-- the sizes of the blocks that a pairing works on, at its arrays' dimensions: `outer` has the second array's
+-- block on the left
+abbrev pub sizes_of : Pairing → (depth : ℕ) → (a b : List ℕ) → Sizes
+sizes_of Inner n a b = record { depth = n; height = 1; width = 1; left_depth = get_or a 0 1; right_depth = get_or b 0 1 }
+sizes_of Outer n a b = record { depth = 1; height = get_or b 0 1; width = get_or a 0 1; left_depth = 1; right_depth = 1 }
+sizes_of Matmult n a b = record { depth = n; height = get_or a 1 1; width = get_or b 0 1; left_depth = get_or a 0 1; right_depth = get_or b 1 1 }
+
+-- two arrays' elements are blocks of these sizes, which fit, and their sizes after the blocks' own stretch to the joined ones
+pub record Ready (s : Sizes) (left right : List ℤ) (left_sizes right_sizes joined : List ℕ) : Type 0 where
+  pub left_count : length left ≡ size_of left_sizes * (s.left_depth * s.height)
+  pub right_count : length right ≡ size_of right_sizes * (s.width * s.right_depth)
+  pub left_small : s.left_depth * s.height ≤ extent_limit
+  pub right_small : s.width * s.right_depth ≤ extent_limit
+  pub left_deep : (k : ℕ) → k < s.depth → cut s.left_depth k < s.left_depth
+  pub right_deep : (k : ℕ) → k < s.depth → cut s.right_depth k < s.right_depth
+  pub left_few : length left ≤ extent_limit
+  pub right_few : length right ≤ extent_limit
+  pub left_stretched : BroadcastsTo left_sizes joined
+  pub right_stretched : BroadcastsTo right_sizes joined

@@ -1,0 +1,24 @@
+-- Why a reduction or a pairing has no result.
+use Rattle.pdl_sig.specs.declared.ResolveFault.{ResolveFault}
+use Rattle.pdl_sig.specs.declared.ResolveFault.TheVariants.{TooManyDims, TooLarge, TooMuchWork, NoMemory}
+use Rattle.std.specs.Prelude.{Bool, true, false}
+
+-- Why there is no result. Where several hold, it is the one that stands first here.
+pub data ReduceRefusal : Type 0 where
+  mismatch : ReduceRefusal
+  too_many_dims : ReduceRefusal
+  too_large : ReduceRefusal
+  too_much_work : ReduceRefusal
+  empty_reduce : ReduceRefusal
+
+-- the refusal that one of a call by its signature is: sizes that don't fit together are a mismatch
+abbrev pub refusal_of : ResolveFault → ReduceRefusal
+refusal_of TooManyDims = too_many_dims
+refusal_of TooLarge = too_large
+refusal_of TooMuchWork = too_much_work
+refusal_of _ = mismatch
+
+-- whether a fault says nothing of its call
+abbrev pub is_want_of_memory : ResolveFault → Bool
+is_want_of_memory NoMemory = true
+is_want_of_memory _ = false

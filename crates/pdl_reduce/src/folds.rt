@@ -1,0 +1,81 @@
+//! Folds of numbers in machine words: a sum or product may wrap at 64 bits on the way, since it is
+//! wrapped to its type in the end.
+ghost use Rattle.std.specs.Prelude.{◌≡◌, ◌+ℤ◌, ◌*ℤ◌, ℤ, fold};
+ghost use Rattle.std.specs.Int.{int_max, int_min, int_wrap, w64};
+ghost use Rattle.pdl_reduce.specs.Folds.{at_prefixes};
+
+/// How a number is taken into what those before it come to.
+pub(crate) trait Folding {
+    ghost taken: { ℤ → ℤ → ℤ };
+
+    fn take(so_far: i64, number: i64) -> i64
+        ensures { result ≡ taken so_far number };
+}
+
+/// Sums.
+pub(crate) struct Adding;
+
+impl Folding for Adding {
+    ghost taken = { λ so_far number. int_wrap w64 (so_far +ℤ number) };
+
+    fn take(so_far: i64, number: i64) -> i64 {
+        so_far.wrapping_add(number)
+    }
+}
+
+/// Products.
+pub(crate) struct Multiplying;
+
+impl Folding for Multiplying {
+    ghost taken = { λ so_far number. int_wrap w64 (so_far *ℤ number) };
+
+    fn take(so_far: i64, number: i64) -> i64 {
+        so_far.wrapping_mul(number)
+    }
+}
+
+/// The greatest.
+pub(crate) struct Rising;
+
+impl Folding for Rising {
+    ghost taken = { int_max };
+
+    fn take(so_far: i64, number: i64) -> i64 {
+        so_far.max(number)
+    }
+}
+
+/// The least.
+pub(crate) struct Falling;
+
+impl Folding for Falling {
+    ghost taken = { int_min };
+
+    fn take(so_far: i64, number: i64) -> i64 {
+        so_far.min(number)
+    }
+}
+
+/// What numbers after those before them come to.
+pub(crate) fn fold_block<F: Folding>(start: i64, numbers: &[i64]) -> i64
+    ensures { result ≡ fold F.taken start numbers.now }
+{
+    let mut so_far = start;
+    for number in numbers {
+        so_far = F::take(so_far, *number);
+    }
+    so_far
+}
+
+/// Sets each number to what those up to it come to, and answers what all come to.
+pub(crate) fn run_block<F: Folding>(start: i64, numbers: &mut [i64]) -> i64
+    ensures value { result ≡ fold F.taken start numbers.old }
+    ensures prefixes { numbers.new ≡ at_prefixes (λ xs. fold F.taken start xs) numbers.old }
+{
+    let mut so_far = start;
+    for number in numbers {
+        so_far = F::take(so_far, *number);
+        *number = so_far;
+    }
+    so_far
+}

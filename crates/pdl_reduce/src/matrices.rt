@@ -1,0 +1,88 @@
+//! Products of two blocks of elements as matrices.
+ghost use Rattle.std.specs.Prelude.{◌≡◌, ◌<◌, ◌≤◌, ◌+◌, ◌*◌, ◌++◌, ◌+ℤ◌, ◌*ℤ◌, ℕ, pos, length, get_or, map, OnOk};
+ghost use Rattle.std.specs.Int.{int_wrap, w64};
+ghost use Rattle.std.specs.List.{range_with_len};
+ghost use Rattle.pdl_elem.specs.Numbers.{wrapped};
+ghost use Rattle.pdl_shape.specs.Shape.{extent_limit};
+ghost use Rattle.pdl_reduce.specs.Blocks.{Fit, cut, product_at, sum_at};
+
+use pdl_elem::{Ty, wrap_all, wrapping_laws};
+use std::alloc::AllocError;
+
+/// The sizes of two blocks as matrices: the left one has `height` rows and the right one `width`
+/// columns. Both go over the depth, along which a block of depth 1 is stretched. A row of the left
+/// block stands in order, and so do the numbers of the right block at one depth.
+#[derive(Clone, Copy)]
+pub(crate) struct Sizes {
+    pub depth: usize,
+    pub height: usize,
+    pub width: usize,
+    pub left_depth: usize,
+    pub right_depth: usize,
+}
+
+/// The coordinate that is used along a size.
+fn cut(size: usize, coordinate: usize) -> usize
+    ensures { result ≡ cut size coordinate }
+{
+    if size == 1 { 0 } else { coordinate }
+}
+
+/// A sum and one product more, in words that wrap.
+fn add_scaled_to(sum: i64, factor: i64, number: i64) -> i64
+    ensures { result ≡ int_wrap w64 (sum +ℤ factor *ℤ number) }
+{
+    sum.wrapping_add(factor.wrapping_mul(number))
+}
+
+/// Adds to each number of a row another number times a factor.
+fn add_scaled(factor: i64, numbers: &[i64], row: &mut [i64])
+    requires { length numbers.now ≡ length row.old }
+    ensures { (j : ℕ) → j < length row.old → get_or row.new j (pos 0) ≡ int_wrap w64 (get_or row.old j (pos 0) +ℤ factor *ℤ get_or numbers.now j (pos 0)) }
+{
+    for (j, sum) in row.iter_mut().enumerate() {
+        *sum = add_scaled_to(*sum, factor, numbers[j]);
+    }
+}
+
+/// Sets a row to row `i` of the product, in words that wrap. It goes through both blocks in order.
+fn set_row(sizes: Sizes, i: usize, left: &[i64], right: &[i64], row: &mut [i64])
+    requires fit { Fit sizes left.now right.now }
+    requires inside { i < sizes.height }
+    requires width { length row.old ≡ sizes.width }
+    requires small_left { length left.now ≤ extent_limit }
+    requires small_right { length right.now ≤ extent_limit }
+    ensures { (j : ℕ) → j < sizes.width → get_or row.new j (pos 0) ≡ int_wrap w64 (sum_at sizes left.now right.now sizes.depth i j) }
+{
+    row.fill(0);
+    for k in 0..sizes.depth {
+        let factor = left[cut(sizes.left_depth, k) + sizes.left_depth * i];
+        let start = sizes.width * cut(sizes.right_depth, k);
+        add_scaled(factor, &right[start..start + sizes.width], row);
+    }
+}
+
+/// Adds the product of two blocks to a list, row by row, wrapped to a type.
+pub(crate) fn add_product(
+    ty: Ty,
+    sizes: Sizes,
+    left: &[i64],
+    right: &[i64],
+    row: &mut [i64],
+    made: &mut Vec<i64>,
+) -> Result<(), AllocError>
+    requires fit { Fit sizes left.now right.now }
+    requires width { length row.old ≡ sizes.width }
+    requires small_left { length left.now ≤ extent_limit }
+    requires small_right { length right.now ≤ extent_limit }
+    ensures { let new = map (product_at ty sizes left.now right.now) (range_with_len 0 (sizes.height * sizes.width)) in
+        OnOk result (made.new.items ≡ made.old.items ++ new) }
+{
+    wrapping_laws();
+    for i in 0..sizes.height {
+        set_row(sizes, i, left, right, row);
+        wrap_all(ty, row);
+        made.extend_from_slice(row)?;
+    }
+    Ok(())
+}

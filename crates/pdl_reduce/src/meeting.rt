@@ -1,0 +1,90 @@
+//! The products of two arrays' blocks at each place of a broadcast.
+ghost use Rattle.std.specs.Prelude.{◌≡◌, ◌<◌, ◌≤◌, ◌+◌, ◌*◌, ℕ, List, [], ◌∷◌, Some, slice_get, length, map, take, drop, IfOk};
+ghost use Rattle.std.specs.List.{range_with_len};
+ghost use Rattle.pdl_elem.specs.Numbers.{wrapped};
+ghost use Rattle.pdl_shape.specs.Broadcast.{BroadcastsTo};
+ghost use Rattle.pdl_shape.specs.Shape.{extent_limit, size_of};
+ghost use Rattle.pdl_shape.specs.Stretched.{stretched_position};
+ghost use Rattle.pdl_shape.specs.Triple.{whole};
+ghost use Rattle.pdl_reduce.specs.Blocks.{Ready, products_at};
+
+use crate::matrices::{Sizes, add_product};
+use pdl_broadcast::BroadcastWalk;
+use pdl_buf::{Strided, strided_read};
+use pdl_elem::{Ty, wrap_all};
+use pdl_shape::{Dims, elements_of, shape_laws, whole_triple};
+use std::alloc::{AllocError, Global};
+
+/// Reads a window's block at a position, in blocks as long as this one, wrapped to a type.
+fn read_block(ty: Ty, from: &Strided<'_>, position: u32, into: &mut [i64])
+    requires within { position * length into.old + length into.old ≤ length from.now.elems }
+    requires small { length from.now.elems ≤ extent_limit }
+    ensures { into.new ≡ map (wrapped ty) (take (length into.old) (drop (position * length into.old) from.now.elems)) }
+{
+    strided_read(from, position * into.len() as u32, into);
+    wrap_all(ty, into);
+}
+
+/// A walk over a broadcast of two arrays of these sizes, in order.
+fn walk_over(
+    alloc: Global,
+    left: &Dims,
+    right: &Dims,
+    joined: &Dims,
+) -> Result<BroadcastWalk, AllocError>
+    requires left { BroadcastsTo left.now joined.now }
+    requires right { BroadcastsTo right.now joined.now }
+    ensures { IfOk result (λ walk. walk ≡ record { dims = joined.now; triples = whole left.now ∷ whole right.now ∷ []; index = 0 }) }
+{
+    let mut walk = BroadcastWalk::new(alloc, joined)?;
+    walk.add(&whole_triple(alloc, left))?;
+    walk.add(&whole_triple(alloc, right))?;
+    Ok(walk)
+}
+
+/// The position that an argument of a walk uses, whose elements lie in order.
+fn position_at(walk: &BroadcastWalk, argument: usize) -> u32
+    requires known { argument < length walk.now.triples }
+    requires inside { walk.now.index < size_of walk.now.dims }
+    ensures position { (ds : List ℕ) → slice_get walk.now.triples argument ≡ Some (whole ds) →
+        result ≡ stretched_position ds walk.now.dims walk.now.index }
+    ensures within { (ds : List ℕ) → slice_get walk.now.triples argument ≡ Some (whole ds) →
+        result < size_of ds }
+{
+    shape_laws();
+    walk.offset(argument)
+}
+
+/// The products of two windows' blocks at each place of a broadcast, one after the other. The sizes
+/// after the blocks' own ones stretch to the joined ones.
+pub(crate) fn products(
+    alloc: Global,
+    ty: Ty,
+    sizes: Sizes,
+    left: &Strided<'_>,
+    right: &Strided<'_>,
+    left_sizes: &Dims,
+    right_sizes: &Dims,
+    joined: &Dims,
+) -> Result<Vec<i64>, AllocError>
+    requires ready { Ready sizes left.now.elems right.now.elems left_sizes.now right_sizes.now joined.now }
+    ensures { let at = products_at ty sizes left.now.elems right.now.elems left_sizes.now right_sizes.now joined.now in
+        IfOk result (λ made. made.items ≡ map at (range_with_len 0 (size_of joined.now * (sizes.height * sizes.width)))) }
+{
+    shape_laws();
+    let mut walk = walk_over(alloc, left_sizes, right_sizes, joined)?;
+    let mut left_room = vec![in alloc; 0; sizes.left_depth * sizes.height]?;
+    let mut right_room = vec![in alloc; 0; sizes.width * sizes.right_depth]?;
+    let mut row_room = vec![in alloc; 0; sizes.width]?;
+    let left_block = left_room.as_mut_slice();
+    let right_block = right_room.as_mut_slice();
+    let row = row_room.as_mut_slice();
+    let mut made = Vec::new(alloc);
+    for _q in 0..elements_of(joined) {
+        read_block(ty, left, position_at(&walk, 0), left_block);
+        read_block(ty, right, position_at(&walk, 1), right_block);
+        add_product(ty, sizes, left_block, right_block, row, &mut made)?;
+        walk.next();
+    }
+    Ok(made)
+}

@@ -1,0 +1,128 @@
+//! One list of a window's elements, reduced (PDL::Ufunc).
+ghost use Rattle.std.specs.Prelude.{◌≡◌, ◌<◌, ◌≤◌, ◌+◌, ◌++◌, [], ◌∷◌, length, take, drop, All, IsTrue, OnOk};
+ghost use Rattle.pdl_shape.specs.Shape.{extent_limit};
+ghost use Rattle.pdl_elem.specs.Numbers.{wrapped};
+ghost use Rattle.pdl_elem.specs.Types.{InRange};
+ghost use Rattle.pdl_reduce.specs.Folds.{total, product, greatest, least};
+ghost use Rattle.pdl_reduce.specs.Reductions.{is_extreme, reduced_row, reduced_type, sum_type};
+
+use crate::Reduction;
+use crate::folds::{Adding, Falling, Multiplying, Rising};
+use crate::windows::{find_in_window, fold_window, run_window};
+use pdl_buf::{Strided, strided_get, strided_type};
+use pdl_elem::{Ty, promote, wrap, wrapping_laws};
+use std::alloc::AllocError;
+
+/// The type of a sum or a product.
+pub(crate) fn sum_type(ty: Ty) -> Ty
+    ensures { result ≡ sum_type ty }
+{
+    promote(ty, Ty::Long)
+}
+
+/// The sum of so many elements from a position on.
+fn sum_of(a: &Strided<'_>, first: u32, count: u32, block: &mut [i64]) -> i64
+    requires within { first + count ≤ length a.now.elems }
+    requires small { length a.now.elems ≤ extent_limit }
+    requires room { 0 < count → 0 < length block.old }
+    ensures value { let xs = take count (drop first a.now.elems) in
+        result ≡ wrapped (sum_type a.now.ty) (total xs) }
+    ensures in_range { InRange (sum_type a.now.ty) result }
+{
+    wrapping_laws();
+    let sum = fold_window::<Adding>(a, first, count, 0, block);
+    wrap(sum_type(strided_type(a)), i128::from(sum))
+}
+
+/// The product of so many elements from a position on.
+fn product_of(a: &Strided<'_>, first: u32, count: u32, block: &mut [i64]) -> i64
+    requires within { first + count ≤ length a.now.elems }
+    requires small { length a.now.elems ≤ extent_limit }
+    requires room { 0 < count → 0 < length block.old }
+    ensures value { let xs = take count (drop first a.now.elems) in
+        result ≡ wrapped (sum_type a.now.ty) (product xs) }
+    ensures in_range { InRange (sum_type a.now.ty) result }
+{
+    wrapping_laws();
+    let product = fold_window::<Multiplying>(a, first, count, 1, block);
+    wrap(sum_type(strided_type(a)), i128::from(product))
+}
+
+/// The greatest of so many elements from a position on.
+fn greatest_of(a: &Strided<'_>, first: u32, count: u32, block: &mut [i64]) -> i64
+    requires within { first + count ≤ length a.now.elems }
+    requires small { length a.now.elems ≤ extent_limit }
+    requires some { 0 < count }
+    requires room { 0 < length block.old }
+    ensures value { result ≡ greatest (take count (drop first a.now.elems)) }
+    ensures in_range { InRange a.now.ty result }
+{
+    let start = strided_get(a, first);
+    fold_window::<Rising>(a, first, count, start, block)
+}
+
+/// The least of so many elements from a position on.
+fn least_of(a: &Strided<'_>, first: u32, count: u32, block: &mut [i64]) -> i64
+    requires within { first + count ≤ length a.now.elems }
+    requires small { length a.now.elems ≤ extent_limit }
+    requires some { 0 < count }
+    requires room { 0 < length block.old }
+    ensures value { result ≡ least (take count (drop first a.now.elems)) }
+    ensures in_range { InRange a.now.ty result }
+{
+    let start = strided_get(a, first);
+    fold_window::<Falling>(a, first, count, start, block)
+}
+
+/// Adds a number to a list.
+fn push(made: &mut Vec<i64>, number: i64) -> Result<(), AllocError>
+    ensures { OnOk result (made.new.items ≡ made.old.items ++ number ∷ []) }
+{
+    made.push(number)?;
+    Ok(())
+}
+
+/// Adds to a list what a reduction makes of so many elements from a position on. An extreme needs
+/// some.
+pub(crate) fn add_row(
+    kind: Reduction,
+    a: &Strided<'_>,
+    first: u32,
+    count: u32,
+    block: &mut [i64],
+    made: &mut Vec<i64>,
+) -> Result<(), AllocError>
+    requires within { first + count ≤ length a.now.elems }
+    requires small { length a.now.elems ≤ extent_limit }
+    requires room { 0 < count → 0 < length block.old }
+    requires some { IsTrue (is_extreme kind) → 0 < count }
+    requires in_range { All (InRange (reduced_type kind a.now.ty)) made.old.items }
+    ensures value { let xs = take count (drop first a.now.elems) in
+        OnOk result (made.new.items ≡ made.old.items ++ reduced_row kind a.now.ty xs) }
+    ensures in_range { OnOk result (All (InRange (reduced_type kind a.now.ty)) made.new.items) }
+{
+    wrapping_laws();
+    let ty = sum_type(strided_type(a));
+    match kind {
+        Reduction::Sumover => push(made, sum_of(a, first, count, block)),
+        Reduction::Prodover => push(made, product_of(a, first, count, block)),
+        Reduction::Maximum => push(made, greatest_of(a, first, count, block)),
+        Reduction::Minimum => push(made, least_of(a, first, count, block)),
+        Reduction::MaximumInd => {
+            let greatest = greatest_of(a, first, count, block);
+            push(
+                made,
+                i64::from(find_in_window(a, first, count, greatest, block)),
+            )
+        }
+        Reduction::MinimumInd => {
+            let least = least_of(a, first, count, block);
+            push(
+                made,
+                i64::from(find_in_window(a, first, count, least, block)),
+            )
+        }
+        Reduction::Cumusumover => run_window::<Adding>(a, ty, first, count, 0, block, made),
+        Reduction::Cumuprodover => run_window::<Multiplying>(a, ty, first, count, 1, block, made),
+    }
+}

@@ -1,0 +1,203 @@
+//! Folds of a window's elements, read in blocks.
+ghost use Rattle.std.specs.Prelude.{◌≡◌, ◌<◌, ◌≤◌, ◌+◌, ◌++◌, length, fold, map, All, take, drop, position, IfOk, OnOk};
+ghost use Rattle.std.specs.List.{list_all, list_any};
+ghost use Rattle.std.specs.Ordering.{int_eq};
+ghost use Rattle.pdl_elem.specs.Numbers.{wrapped};
+ghost use Rattle.pdl_elem.specs.Types.{InRange};
+ghost use Rattle.pdl_shape.specs.Shape.{extent_limit};
+ghost use Rattle.pdl_reduce.specs.Folds.{at_prefixes, first_place};
+ghost use Rattle.pdl_reduce.specs.Reductions.{is_set};
+
+use crate::folds::{Folding, fold_block, run_block};
+use pdl_buf::{Strided, strided_read};
+use pdl_elem::{Ty, wrap_all};
+use std::alloc::AllocError;
+
+/// At most so many elements are worked on at once, which stay in the cache.
+pub(crate) const BLOCK: usize = 512;
+
+/// What the window's elements from a position on, as many as the part has room for, come to after
+/// those before them.
+fn fold_part<F: Folding>(a: &Strided<'_>, first: u32, start: i64, part: &mut [i64]) -> i64
+    requires { first + length part.old ≤ length a.now.elems }
+    ensures value { result ≡ fold F.taken start (take (length part.old) (drop first a.now.elems)) }
+    ensures in_range { All (InRange a.now.ty) (take (length part.old) (drop first a.now.elems)) }
+{
+    strided_read(a, first, part);
+    fold_block::<F>(start, part)
+}
+
+/// What so many elements of the window from a position on come to, from a start on. They are numbers
+/// of the window's type.
+pub(crate) fn fold_window<F: Folding>(
+    a: &Strided<'_>,
+    first: u32,
+    count: u32,
+    start: i64,
+    block: &mut [i64],
+) -> i64
+    requires within { first + count ≤ length a.now.elems }
+    requires small { length a.now.elems ≤ extent_limit }
+    requires room { 0 < count → 0 < length block.old }
+    ensures value { result ≡ fold F.taken start (take count (drop first a.now.elems)) }
+    ensures in_range { All (InRange a.now.ty) (take count (drop first a.now.elems)) }
+{
+    let count = count as usize;
+    let mut so_far = start;
+    let mut done = 0;
+    while done < count {
+        let run = block.len().min(count - done);
+        so_far = fold_part::<F>(a, first + done as u32, so_far, &mut block[..run]);
+        done += run;
+    }
+    so_far
+}
+
+/// The first place of a number among the window's elements from a position on, as many as the part
+/// has room for.
+fn find_part(a: &Strided<'_>, first: u32, number: i64, part: &mut [i64]) -> Option<usize>
+    requires { first + length part.old ≤ length a.now.elems }
+    ensures { let xs = take (length part.old) (drop first a.now.elems) in
+        result ≡ position (λ x. int_eq x number) xs }
+{
+    strided_read(a, first, part);
+    part.iter().position(|x| *x == number)
+}
+
+/// The first place of a number among so many elements of the window from a position on, and 0 where
+/// it isn't among them.
+pub(crate) fn find_in_window(
+    a: &Strided<'_>,
+    first: u32,
+    count: u32,
+    number: i64,
+    block: &mut [i64],
+) -> u32
+    requires within { first + count ≤ length a.now.elems }
+    requires small { length a.now.elems ≤ extent_limit }
+    requires room { 0 < count → 0 < length block.old }
+    ensures place { result ≡ first_place number (take count (drop first a.now.elems)) }
+    ensures bound { result ≤ count }
+{
+    let count = count as usize;
+    let mut done = 0;
+    while done < count {
+        let run = block.len().min(count - done);
+        let found = find_part(a, first + done as u32, number, &mut block[..run]);
+        if let Some(place) = found {
+            return (done + place) as u32;
+        }
+        done += run;
+    }
+    0
+}
+
+/// Adds to a list what the window's elements from a position on, as many as the part has room for,
+/// come to up to each of them, after those before them, wrapped to a type. It answers what all come
+/// to.
+fn run_part<F: Folding>(
+    a: &Strided<'_>,
+    ty: Ty,
+    first: u32,
+    start: i64,
+    part: &mut [i64],
+    made: &mut Vec<i64>,
+) -> Result<i64, AllocError>
+    requires { first + length part.old ≤ length a.now.elems }
+    ensures value { let xs = take (length part.old) (drop first a.now.elems) in
+        IfOk result (λ end. end ≡ fold F.taken start xs) }
+    ensures prefixes { let xs = take (length part.old) (drop first a.now.elems) in
+        let new = map (wrapped ty) (at_prefixes (λ ys. fold F.taken start ys) xs) in
+        OnOk result (made.new.items ≡ made.old.items ++ new) }
+{
+    strided_read(a, first, part);
+    let end = run_block::<F>(start, part);
+    wrap_all(ty, part);
+    made.extend_from_slice(part)?;
+    Ok(end)
+}
+
+/// Adds to a list what the elements up to each place come to, wrapped to a type: those of so many
+/// elements of the window from a position on.
+pub(crate) fn run_window<F: Folding>(
+    a: &Strided<'_>,
+    ty: Ty,
+    first: u32,
+    count: u32,
+    start: i64,
+    block: &mut [i64],
+    made: &mut Vec<i64>,
+) -> Result<(), AllocError>
+    requires within { first + count ≤ length a.now.elems }
+    requires small { length a.now.elems ≤ extent_limit }
+    requires room { 0 < count → 0 < length block.old }
+    ensures { let xs = take count (drop first a.now.elems) in
+        let new = map (wrapped ty) (at_prefixes (λ ys. fold F.taken start ys) xs) in
+        OnOk result (made.new.items ≡ made.old.items ++ new) }
+{
+    let count = count as usize;
+    let mut so_far = start;
+    let mut done = 0;
+    while done < count {
+        let run = block.len().min(count - done);
+        let position = first + done as u32;
+        so_far = run_part::<F>(a, ty, position, so_far, &mut block[..run], made)?;
+        done += run;
+    }
+    Ok(())
+}
+
+/// Whether none of the window's elements from a position on is 0, as many as the part has room for.
+fn all_in_part(a: &Strided<'_>, first: u32, part: &mut [i64]) -> bool
+    requires { first + length part.old ≤ length a.now.elems }
+    ensures { result ≡ list_all is_set (take (length part.old) (drop first a.now.elems)) }
+{
+    strided_read(a, first, part);
+    part.iter().all(|x| *x != 0)
+}
+
+/// Whether none of the window's elements, of which there are so many, is 0.
+pub(crate) fn all_set(a: &Strided<'_>, count: u32, block: &mut [i64]) -> bool
+    requires count { count ≡ length a.now.elems }
+    requires room { 0 < count → 0 < length block.old }
+    ensures { result ≡ list_all is_set a.now.elems }
+{
+    let count = count as usize;
+    let mut done = 0;
+    while done < count {
+        let run = block.len().min(count - done);
+        if !all_in_part(a, done as u32, &mut block[..run]) {
+            return false;
+        }
+        done += run;
+    }
+    true
+}
+
+/// Whether some of the window's elements from a position on isn't 0, as many as the part has room
+/// for.
+fn any_in_part(a: &Strided<'_>, first: u32, part: &mut [i64]) -> bool
+    requires { first + length part.old ≤ length a.now.elems }
+    ensures { result ≡ list_any is_set (take (length part.old) (drop first a.now.elems)) }
+{
+    strided_read(a, first, part);
+    part.iter().any(|x| *x != 0)
+}
+
+/// Whether some of the window's elements, of which there are so many, isn't 0.
+pub(crate) fn any_set(a: &Strided<'_>, count: u32, block: &mut [i64]) -> bool
+    requires count { count ≡ length a.now.elems }
+    requires room { 0 < count → 0 < length block.old }
+    ensures { result ≡ list_any is_set a.now.elems }
+{
+    let count = count as usize;
+    let mut done = 0;
+    while done < count {
+        let run = block.len().min(count - done);
+        if any_in_part(a, done as u32, &mut block[..run]) {
+            return true;
+        }
+        done += run;
+    }
+    false
+}
