@@ -1,6 +1,7 @@
 ghost use Rattle.std.specs.Prelude.{◌≡◌, ℕ, List, ◌+◌, ◌^◌, ◌<◌, ◌≤◌, length, drop, Some, None, Ok, Err, ◌≢◌, IfOk, IfErr, IfSome};
+ghost use Rattle.std.specs.List.{list_all};
 ghost use Rattle.pdl_lex.specs.Bytes.{is_letter, is_word_byte};
-ghost use Rattle.pdl_lex.specs.Tokens.{is_sign, gap_at, token_at, fault_of, after_tokens, toks_from, toks, Spans};
+ghost use Rattle.pdl_lex.specs.Tokens.{is_word, is_sign, gap_at, token_at, fault_of, after_tokens, toks_from, toks, Spans};
 ghost use Rattle.pdl_lex.specs.declared.Token.{Token};
 ghost use Rattle.pdl_lex.specs.Reading.{word_len, digits_len, other_len, name_after, string_after, begins_sign, sign_at, read_at};
 
@@ -19,6 +20,28 @@ fn is_word_byte(byte: u8) -> bool
     ensures { result ≡ is_word_byte byte }
 {
     byte.is_ascii_alphanumeric() || byte == b'_'
+}
+
+/// Whether a text is a word: a letter or `_`, and then letters, digits and `_`.
+pub fn is_word(text: &[u8]) -> bool
+    ensures { result ≡ is_word text.now }
+{
+    match text {
+        [first, rest @ ..] => is_letter(*first) && are_word_bytes(rest),
+        [] => false,
+    }
+}
+
+// Whether each byte is one with which a word goes on.
+fn are_word_bytes(text: &[u8]) -> bool
+    ensures { result ≡ list_all is_word_byte text.now }
+{
+    for byte in text {
+        if !is_word_byte(*byte) {
+            return false;
+        }
+    }
+    true
 }
 
 // How many bytes at the front a name or a word goes on with.

@@ -8,7 +8,7 @@ mod parts;
 mod tests;
 
 pub use cutter::{Mode, StatementCutter};
-pub use lexer::{tokens, tokens_are_spans};
+pub use lexer::{is_word, tokens, tokens_are_spans};
 pub use parts::cut_parts;
 use std::alloc::{AllocError, AllocFailed};
 use std::marker::Model;

@@ -25,7 +25,8 @@ fn or_found<T: Copy>(text: &[u8], word: &[u8], value: T, others: Option<T>) -> O
     if text == word { Some(value) } else { others }
 }
 
-fn keyword(text: &[u8]) -> Option<Keyword>
+/// The keyword that a text is, if any: a word of the language that names no call.
+pub fn keyword_named(text: &[u8]) -> Option<Keyword>
     ensures { result ≡ found_in keywords text.now }
 {
     let found = None;
@@ -71,7 +72,7 @@ fn word_kind(text: &[u8]) -> Option<WordKind>
 fn word(text: &[u8], span: Span) -> Lexeme
     ensures { result ≡ word_of text.now span }
 {
-    match keyword(text) {
+    match keyword_named(text) {
         Some(keyword) => Lexeme::Keyword(keyword),
         None => match word_kind(text) {
             Some(kind) => Lexeme::Word(kind, span),

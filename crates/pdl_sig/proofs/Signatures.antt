@@ -13,7 +13,7 @@ use Rattle.pdl_sig.specs.Resolution.{is_output}
 use Rattle.pdl_sig.proofs.Sound.{args_spelled}
 use Rattle.pdl_sig.proofs.Complete.{args_read}
 
-all_read : (args : List WrittenArg) (text : List ℕ) → Args args text → read_args text ≡ Some args
+pub all_read : (args : List WrittenArg) (text : List ℕ) → Args args text → read_args text ≡ Some args
 all_read args text k = args_read args text k (length text) (omega arith)
 
 pub bad_text : (text : List ℕ) → None ≡ read_args text → (args : List WrittenArg) → Args args text → ⊥
@@ -43,7 +43,21 @@ never_bad false false true d e = cc
 never_bad false false false true e = cc
 never_bad false false false false e = cc
 
-fault_of : (text : List ℕ) (args : List WrittenArg) (fault : SigFault) → Some args ≡ read_args text → refusal_of args ≡ Some fault → IsFaultOf text fault
+-- a refusal is none of want of memory
+never_memory : (a b c d : Bool) → (if a then Some TooManyNames else (if b then Some TwiceNamed else (if c then Some NoOutput else (if d then Some OpenSize else None)))) ≡ Some NoMemory → ⊥
+never_memory true b c d e = cc
+never_memory false true c d e = cc
+never_memory false false true d e = cc
+never_memory false false false true e = cc
+never_memory false false false false e = cc
+
+pub refuses_memory : (args : List WrittenArg) → refusal_of args ≡ Some NoMemory → ⊥
+refuses_memory args h =
+    let signature = signature_of args in
+    never_memory (nat_lt 16 (length signature.args) || nat_lt 8 (length signature.names)) (is_twice_named signature.args || is_fixed_again args)
+    (not (list_any (λ a. is_output a.role) signature.args)) (has_open signature.args 0 signature.fixed) h
+
+pub fault_of : (text : List ℕ) (args : List WrittenArg) (fault : SigFault) → Some args ≡ read_args text → refusal_of args ≡ Some fault → IsFaultOf text fault
 fault_of text args BadText e h =
     let signature = signature_of args in
     absurd (never_bad (nat_lt 16 (length signature.args) || nat_lt 8 (length signature.names)) (is_twice_named signature.args || is_fixed_again args)

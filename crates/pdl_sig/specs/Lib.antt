@@ -1,5 +1,6 @@
 pub mod Grammar
 pub mod Known
+pub mod Meaning
 pub mod Reading
 pub mod Refusals
 pub mod Resolution

@@ -2,6 +2,7 @@
 //! body.
 ghost use Rattle.std.specs.Prelude.{◌≡◌, ℕ, List, Ok, codes};
 ghost use Rattle.pdl_sig.specs.Known.{inner, outer_product, matmult};
+ghost use Rattle.pdl_sig.specs.Meaning.{TextsHaveOneMeaning};
 ghost use Rattle.pdl_sig.specs.Refusals.{Signs, IsWellFormed};
 ghost use Rattle.pdl_sig.specs.Resolution.{resolution};
 ghost use Rattle.pdl_sig.specs.Solutions.{Solves};
@@ -17,6 +18,12 @@ pub fn one_signature()
 /// The signature that a text spells is well formed.
 pub fn signatures_are_well_formed()
     ensures { (signature : Signature) (text : List ℕ) → Signs signature text → IsWellFormed signature }
+{}
+
+/// A text has one meaning: its signature where it spells one and no refusal holds, else the first
+/// refusal. `signature_in` is that meaning as a function.
+pub fn signature_meaning()
+    ensures { TextsHaveOneMeaning }
 {}
 
 /// What a call resolves to solves the equations on sizes, shapes and types.

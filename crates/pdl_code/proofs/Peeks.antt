@@ -1,0 +1,301 @@
+-- What a look at the front says of it.
+use Rattle.std.proofs.Common.{◌≡◌, ℕ, List, [], ◌∷◌, Option, Some, None, Bool, true, false, nat_eq, if◌then◌else◌, refl, sym, ap, ◌∙◌, subst, eqb-true, eq-eqb}
+use Rattle.std.specs.Prelude.{option_map, option_and_then}
+use Rattle.pdl_elem.specs.declared.BinaryOp.{BinaryOp}
+use Rattle.pdl_lexemes.specs.Options.{some_inj, none_some, then_elim, map_elim, choose_elim}
+use Rattle.pdl_syntax.specs.Grammar.{level_of}
+use Rattle.pdl_code.specs.declared.lexeme.Span.{Span}
+use Rattle.pdl_code.specs.declared.lexeme.WordKind.{WordKind}
+use Rattle.pdl_code.specs.declared.lexeme.WordKind.TheVariants.{Loop, If, Else, OfType, Plain}
+use Rattle.pdl_code.specs.declared.lexeme.NameKind.{NameKind}
+use Rattle.pdl_code.specs.declared.lexeme.NameKind.TheVariants.{Size, Generic}
+use Rattle.pdl_code.specs.declared.lexeme.Lexeme.{Lexeme}
+use Rattle.pdl_code.specs.declared.lexeme.Lexeme.TheVariants.{Name, Word, Open, Close, BlockOpen, BlockClose, Semicolon, Comma, Equals, FatArrow, Operator}
+use Rattle.pdl_code.specs.declared.tree.LocalType.{LocalType}
+use Rattle.pdl_code.specs.declared.tree.LocalType.TheVariants.{Generic as OfGeneric}
+use Rattle.pdl_code.specs.Grammar.{SpellsType, type_word, generic_type, assigned}
+use Rattle.pdl_code.specs.Reading.{Read, Declared, after_open, after_close, after_block_open, after_block_close, after_semicolon, after_comma, after_equals, after_fat_arrow, after_loop_word, after_if_word, after_else_word, after_size_name, after_generic_name, close_at, word_at, plain_at, name_at, type_word_at, generic_at, type_at, operator_at, sign_at, closed_word, bracketed_word, size_at, index_word, access_name, declared_word, declared_at, loop_word, loop_at, after_if, after_else, after_condition}
+
+pub open_is : (ts : List Lexeme) {us : List Lexeme} → after_open ts ≡ Some us → ts ≡ Open ∷ us
+open_is [] e = absurd (none_some e)
+open_is (Open ∷ ts) e = ap (λ x. Open ∷ x) (some_inj e)
+open_is (_ ∷ ts) e = absurd (none_some e)
+
+pub block_open_is : (ts : List Lexeme) {us : List Lexeme} → after_block_open ts ≡ Some us → ts ≡ BlockOpen ∷ us
+block_open_is [] e = absurd (none_some e)
+block_open_is (BlockOpen ∷ ts) e = ap (λ x. BlockOpen ∷ x) (some_inj e)
+block_open_is (_ ∷ ts) e = absurd (none_some e)
+
+pub block_close_is : (ts : List Lexeme) {us : List Lexeme} → after_block_close ts ≡ Some us → ts ≡ BlockClose ∷ us
+block_close_is [] e = absurd (none_some e)
+block_close_is (BlockClose ∷ ts) e = ap (λ x. BlockClose ∷ x) (some_inj e)
+block_close_is (_ ∷ ts) e = absurd (none_some e)
+
+pub semicolon_is : (ts : List Lexeme) {us : List Lexeme} → after_semicolon ts ≡ Some us → ts ≡ Semicolon ∷ us
+semicolon_is [] e = absurd (none_some e)
+semicolon_is (Semicolon ∷ ts) e = ap (λ x. Semicolon ∷ x) (some_inj e)
+semicolon_is (_ ∷ ts) e = absurd (none_some e)
+
+pub comma_is : (ts : List Lexeme) {us : List Lexeme} → after_comma ts ≡ Some us → ts ≡ Comma ∷ us
+comma_is [] e = absurd (none_some e)
+comma_is (Comma ∷ ts) e = ap (λ x. Comma ∷ x) (some_inj e)
+comma_is (_ ∷ ts) e = absurd (none_some e)
+
+pub equals_is : (ts : List Lexeme) {us : List Lexeme} → after_equals ts ≡ Some us → ts ≡ Equals ∷ us
+equals_is [] e = absurd (none_some e)
+equals_is (Equals ∷ ts) e = ap (λ x. Equals ∷ x) (some_inj e)
+equals_is (_ ∷ ts) e = absurd (none_some e)
+
+pub fat_arrow_is : (ts : List Lexeme) {us : List Lexeme} → after_fat_arrow ts ≡ Some us → ts ≡ FatArrow ∷ us
+fat_arrow_is [] e = absurd (none_some e)
+fat_arrow_is (FatArrow ∷ ts) e = ap (λ x. FatArrow ∷ x) (some_inj e)
+fat_arrow_is (_ ∷ ts) e = absurd (none_some e)
+
+pub close_is : (ts : List Lexeme) (x : ℕ × List Lexeme) → close_at ts ≡ Some x → ts ≡ Close x.0 ∷ x.1
+close_is [] x e = absurd (none_some e)
+close_is (Close at ∷ ts) x e = ap (λ y. Close y.0 ∷ y.1) (some_inj e)
+close_is (_ ∷ ts) x e = absurd (none_some e)
+
+-- a closing bracket, and its place
+pub record ClosedAt (ts us : List Lexeme) : Type 0 where
+  pub place : ℕ
+  pub is : ts ≡ Close place ∷ us
+
+pub closed_is : (ts : List Lexeme) (us : List Lexeme) → after_close ts ≡ Some us → ClosedAt ts us
+closed_is ts us e =
+    map_elim (ClosedAt ts us) (λ x. x.1) (close_at ts) e
+    (λ x h is. record { place = x.0; is = close_is ts x h ∙ ap (λ vs. Close x.0 ∷ vs) is })
+
+-- a word or a name of a kind
+pub record Here (first : Span → Lexeme) (ts us : List Lexeme) : Type 0 where
+  pub span : Span
+  pub is : ts ≡ first span ∷ us
+
+pub loop_word_is : (ts : List Lexeme) {us : List Lexeme} → after_loop_word ts ≡ Some us → Here (Word Loop) ts us
+loop_word_is [] e = absurd (none_some e)
+loop_word_is (Word Loop v ∷ ts) e = record { span = v; is = ap (λ x. Word Loop v ∷ x) (some_inj e) }
+loop_word_is (Word _ v ∷ ts) e = absurd (none_some e)
+loop_word_is (_ ∷ ts) e = absurd (none_some e)
+
+pub if_word_is : (ts : List Lexeme) {us : List Lexeme} → after_if_word ts ≡ Some us → Here (Word If) ts us
+if_word_is [] e = absurd (none_some e)
+if_word_is (Word If v ∷ ts) e = record { span = v; is = ap (λ x. Word If v ∷ x) (some_inj e) }
+if_word_is (Word _ v ∷ ts) e = absurd (none_some e)
+if_word_is (_ ∷ ts) e = absurd (none_some e)
+
+pub else_word_is : (ts : List Lexeme) {us : List Lexeme} → after_else_word ts ≡ Some us → Here (Word Else) ts us
+else_word_is [] e = absurd (none_some e)
+else_word_is (Word Else v ∷ ts) e = record { span = v; is = ap (λ x. Word Else v ∷ x) (some_inj e) }
+else_word_is (Word _ v ∷ ts) e = absurd (none_some e)
+else_word_is (_ ∷ ts) e = absurd (none_some e)
+
+pub size_name_is : (ts : List Lexeme) {us : List Lexeme} → after_size_name ts ≡ Some us → Here (Name Size) ts us
+size_name_is [] e = absurd (none_some e)
+size_name_is (Name Size v ∷ ts) e = record { span = v; is = ap (λ x. Name Size v ∷ x) (some_inj e) }
+size_name_is (Name _ v ∷ ts) e = absurd (none_some e)
+size_name_is (_ ∷ ts) e = absurd (none_some e)
+
+pub generic_name_is : (ts : List Lexeme) {us : List Lexeme} → after_generic_name ts ≡ Some us → Here (Name Generic) ts us
+generic_name_is [] e = absurd (none_some e)
+generic_name_is (Name Generic v ∷ ts) e = record { span = v; is = ap (λ x. Name Generic v ∷ x) (some_inj e) }
+generic_name_is (Name _ v ∷ ts) e = absurd (none_some e)
+generic_name_is (_ ∷ ts) e = absurd (none_some e)
+
+-- a word of some kind
+pub record WordHere (ts : List Lexeme) (x : Span × List Lexeme) : Type 0 where
+  pub kind : WordKind
+  pub is : ts ≡ Word kind x.0 ∷ x.1
+
+pub word_is : (ts : List Lexeme) (x : Span × List Lexeme) → word_at ts ≡ Some x → WordHere ts x
+word_is [] x e = absurd (none_some e)
+word_is (Word kind w ∷ ts) x e = record { kind = kind; is = ap (λ y. Word kind y.0 ∷ y.1) (some_inj e) }
+word_is (_ ∷ ts) x e = absurd (none_some e)
+
+pub record NameHere (ts : List Lexeme) (x : Span × List Lexeme) : Type 0 where
+  pub kind : NameKind
+  pub is : ts ≡ Name kind x.0 ∷ x.1
+
+pub name_is : (ts : List Lexeme) (x : Span × List Lexeme) → name_at ts ≡ Some x → NameHere ts x
+name_is [] x e = absurd (none_some e)
+name_is (Name kind w ∷ ts) x e = record { kind = kind; is = ap (λ y. Name kind y.0 ∷ y.1) (some_inj e) }
+name_is (_ ∷ ts) x e = absurd (none_some e)
+
+pub plain_is : (ts : List Lexeme) (x : Span × List Lexeme) → plain_at ts ≡ Some x → ts ≡ Word Plain x.0 ∷ x.1
+plain_is [] x e = absurd (none_some e)
+plain_is (Word Plain w ∷ ts) x e = ap (λ y. Word Plain y.0 ∷ y.1) (some_inj e)
+plain_is (Word _ w ∷ ts) x e = absurd (none_some e)
+plain_is (_ ∷ ts) x e = absurd (none_some e)
+
+-- the type of a declaration
+type_word_is : (ts : List Lexeme) (x : LocalType × List Lexeme) → type_word_at ts ≡ Some x → SpellsType x.0 ts x.1
+type_word_is [] x e = absurd (none_some e)
+type_word_is (Word (OfType ty) v ∷ ts) x e = subst (λ y. SpellsType y.0 (Word (OfType ty) v ∷ ts) y.1) (some_inj e) type_word
+type_word_is (Word _ w ∷ ts) x e = absurd (none_some e)
+type_word_is (_ ∷ ts) x e = absurd (none_some e)
+
+generic_is : (ts : List Lexeme) (x : LocalType × List Lexeme) → generic_at ts ≡ Some x → SpellsType x.0 ts x.1
+generic_is ts x e =
+    map_elim (SpellsType x.0 ts x.1) (λ us. (OfGeneric, us)) _ e
+    (λ us h is. then_elim (SpellsType x.0 ts x.1) after_close _ h
+    (λ vs k c. then_elim (SpellsType x.0 ts x.1) after_open _ k
+    (λ ws g o.
+    let n = generic_name_is ts g in
+    let b = closed_is vs us c in
+    subst (λ y. SpellsType y.0 ts y.1) is
+    (subst (λ zs. SpellsType OfGeneric zs us) (sym (n.is ∙ ap (λ zs. Name Generic n.span ∷ zs) (open_is ws o ∙ ap (λ zs. Open ∷ zs) b.is))) generic_type))))
+
+pub type_is : (ts : List Lexeme) (x : LocalType × List Lexeme) → type_at ts ≡ Some x → SpellsType x.0 ts x.1
+type_is ts x e =
+    choose_elim (SpellsType x.0 ts x.1) (generic_at ts) (λ y. Some y) (type_word_at ts) e
+    (λ h k. generic_is ts x k)
+    (λ y h k. type_word_is ts x (h ∙ k))
+
+-- the head of a declaration
+pub record DeclaredHere (ts : List Lexeme) (d : Declared) : Type 0 where
+  pub left : List Lexeme
+  pub spelled : SpellsType d.ty ts left
+  pub is : left ≡ Word Plain d.word ∷ d.rest
+
+pub declared_is : (ts : List Lexeme) (d : Declared) → declared_at ts ≡ Some d → DeclaredHere ts d
+declared_is ts d e =
+    then_elim (DeclaredHere ts d) declared_word (type_at ts) e
+    (λ x h k. map_elim (DeclaredHere ts d) (λ y. record { ty = x.0; word = y.0; rest = y.1 }) (plain_at x.1) k
+    (λ y p is. subst (DeclaredHere ts) is (record { left = x.1; spelled = type_is ts x h; is = plain_is x.1 y p })))
+
+-- an operator of a level
+pub record OperatorAt (l : ℕ) (ts : List Lexeme) (x : BinaryOp × List Lexeme) : Type 0 where
+  pub level : level_of x.0 ≡ l
+  pub is : ts ≡ Operator x.0 ∷ x.1
+
+pub operator_is : (l : ℕ) (ts : List Lexeme) (x : BinaryOp × List Lexeme) → operator_at l ts ≡ Some x → OperatorAt l ts x
+operator_is l [] x e = absurd (none_some e)
+operator_is l (Operator op ∷ ts) x e = of_test (nat_eq (level_of op) l) refl e
+  where
+    of_test : (b : Bool) → nat_eq (level_of op) l ≡ b → (if b then Some (op, ts) else None) ≡ Some x → OperatorAt l (Operator op ∷ ts) x
+    of_test true t k = subst (OperatorAt l (Operator op ∷ ts)) (some_inj k) (record { level = eqb-true (level_of op) l t; is = refl })
+    of_test false t k = absurd (none_some k)
+operator_is l (_ ∷ ts) x e = absurd (none_some e)
+
+pub operator_here : (l : ℕ) (op : BinaryOp) (ts : List Lexeme) → level_of op ≡ l → operator_at l (Operator op ∷ ts) ≡ Some (op, ts)
+operator_here l op ts e = rw (eq-eqb (level_of op) l e)
+
+pub operator_other : (l : ℕ) (op : BinaryOp) (ts : List Lexeme) → (level_of op ≡ l → ⊥) → operator_at l (Operator op ∷ ts) ≡ None
+operator_other l op ts ne = of_test (nat_eq (level_of op) l) refl
+  where
+    of_test : (b : Bool) → nat_eq (level_of op) l ≡ b → ◌≡◌ {A = Read BinaryOp} (if b then Some (op, ts) else None) None
+    of_test true t = absurd (ne (eqb-true (level_of op) l t))
+    of_test false t = refl
+
+-- the sign of an assignment
+pub record SignHere (ts : List Lexeme) (x : Option BinaryOp × List Lexeme) : Type 0 where
+  pub sign : Lexeme
+  pub assigns : assigned sign ≡ Some x.0
+  pub is : ts ≡ sign ∷ x.1
+
+pub sign_is : (ts : List Lexeme) (x : Option BinaryOp × List Lexeme) → sign_at ts ≡ Some x → SignHere ts x
+sign_is [] x e = absurd (none_some e)
+sign_is (s ∷ ts) x e =
+    map_elim (SignHere (s ∷ ts) x) (λ op. (op, ts)) (assigned s) e
+    (λ op h is. subst (SignHere (s ∷ ts)) is (record { sign = s; assigns = h; is = refl }))
+
+-- a word in brackets
+pub record BracketedHere (ts : List Lexeme) (x : Span × List Lexeme) : Type 0 where
+  pub kind : WordKind
+  pub place : ℕ
+  pub is : ts ≡ Open ∷ Word kind x.0 ∷ Close place ∷ x.1
+
+pub bracketed_is : (ts : List Lexeme) (x : Span × List Lexeme) → bracketed_word ts ≡ Some x → BracketedHere ts x
+bracketed_is ts x e =
+    then_elim (BracketedHere ts x) (λ us. option_and_then closed_word (word_at us)) (after_open ts) e
+    (λ us o h. then_elim (BracketedHere ts x) closed_word (word_at us) h
+    (λ y w k. map_elim (BracketedHere ts x) (λ vs. (y.0, vs)) (after_close y.1) k
+    (λ vs c is.
+    let v = word_is us y w in
+    let b = closed_is y.1 vs c in
+    subst (BracketedHere ts) is
+    (record { kind = v.kind; place = b.place; is = open_is ts o ∙ ap (λ zs. Open ∷ zs) (v.is ∙ ap (λ zs. Word v.kind y.0 ∷ zs) b.is) }))))
+
+pub record SizeHere (ts : List Lexeme) (x : Span × List Lexeme) : Type 0 where
+  pub name : Span
+  pub kind : WordKind
+  pub place : ℕ
+  pub is : ts ≡ Name Size name ∷ Open ∷ Word kind x.0 ∷ Close place ∷ x.1
+
+pub size_is : (ts : List Lexeme) (x : Span × List Lexeme) → size_at ts ≡ Some x → SizeHere ts x
+size_is ts x e =
+    then_elim (SizeHere ts x) bracketed_word (after_size_name ts) e
+    (λ us n h. let v = size_name_is ts n in let b = bracketed_is us x h in
+    record { name = v.span; kind = b.kind; place = b.place; is = v.is ∙ ap (λ zs. Name Size v.span ∷ zs) b.is })
+
+pub record IndexHere (ts : List Lexeme) (x : Span × List Lexeme) : Type 0 where
+  pub kind : WordKind
+  pub is : ts ≡ Word kind x.0 ∷ FatArrow ∷ x.1
+
+pub index_is : (ts : List Lexeme) (x : Span × List Lexeme) → index_word ts ≡ Some x → IndexHere ts x
+index_is ts x e =
+    then_elim (IndexHere ts x) (λ y. option_map (λ us. (y.0, us)) (after_fat_arrow y.1)) (word_at ts) e
+    (λ y w h. map_elim (IndexHere ts x) (λ us. (y.0, us)) (after_fat_arrow y.1) h
+    (λ us a is. let v = word_is ts y w in
+    subst (IndexHere ts) is (record { kind = v.kind; is = v.is ∙ ap (λ zs. Word v.kind y.0 ∷ zs) (fat_arrow_is y.1 a) })))
+
+pub record AccessHere (ts : List Lexeme) (x : Span × List Lexeme) : Type 0 where
+  pub kind : NameKind
+  pub is : ts ≡ Name kind x.0 ∷ Open ∷ x.1
+
+pub access_is : (ts : List Lexeme) (x : Span × List Lexeme) → access_name ts ≡ Some x → AccessHere ts x
+access_is ts x e =
+    then_elim (AccessHere ts x) (λ y. option_map (λ us. (y.0, us)) (after_open y.1)) (name_at ts) e
+    (λ y w h. map_elim (AccessHere ts x) (λ us. (y.0, us)) (after_open y.1) h
+    (λ us a is. let v = name_is ts y w in
+    subst (AccessHere ts) is (record { kind = v.kind; is = v.is ∙ ap (λ zs. Name v.kind y.0 ∷ zs) (open_is y.1 a) })))
+
+-- the head of a loop
+pub record LoopHere (ts : List Lexeme) (x : Span × List Lexeme) : Type 0 where
+  pub first : Span
+  pub kind : WordKind
+  pub place : ℕ
+  pub is : ts ≡ Word Loop first ∷ Open ∷ Word kind x.0 ∷ Close place ∷ BlockOpen ∷ x.1
+
+pub loop_is : (ts : List Lexeme) (x : Span × List Lexeme) → loop_at ts ≡ Some x → LoopHere ts x
+loop_is ts x e =
+    then_elim (LoopHere ts x) (λ us. option_and_then loop_word (bracketed_word us)) (after_loop_word ts) e
+    (λ us l h. then_elim (LoopHere ts x) loop_word (bracketed_word us) h
+    (λ y b k. map_elim (LoopHere ts x) (λ vs. (y.0, vs)) (after_block_open y.1) k
+    (λ vs o is.
+    let v = loop_word_is ts l in
+    let w = bracketed_is us y b in
+    subst (LoopHere ts) is
+    (record {
+      first = v.span;
+      kind = w.kind;
+      place = w.place;
+      is = v.is ∙ ap (λ zs. Word Loop v.span ∷ zs) (w.is ∙ ap (λ zs. Open ∷ Word w.kind y.0 ∷ Close w.place ∷ zs) (block_open_is y.1 o));
+    }))))
+
+-- `if (`, `else %{` and `) %{`
+pub record IfHere (ts us : List Lexeme) : Type 0 where
+  pub first : Span
+  pub is : ts ≡ Word If first ∷ Open ∷ us
+
+pub if_is : (ts us : List Lexeme) → after_if ts ≡ Some us → IfHere ts us
+if_is ts us e =
+    then_elim (IfHere ts us) after_open (after_if_word ts) e
+    (λ vs w o. let v = if_word_is ts w in record { first = v.span; is = v.is ∙ ap (λ zs. Word If v.span ∷ zs) (open_is vs o) })
+
+pub record ElseHere (ts us : List Lexeme) : Type 0 where
+  pub first : Span
+  pub is : ts ≡ Word Else first ∷ BlockOpen ∷ us
+
+pub else_is : (ts us : List Lexeme) → after_else ts ≡ Some us → ElseHere ts us
+else_is ts us e =
+    then_elim (ElseHere ts us) after_block_open (after_else_word ts) e
+    (λ vs w o. let v = else_word_is ts w in record { first = v.span; is = v.is ∙ ap (λ zs. Word Else v.span ∷ zs) (block_open_is vs o) })
+
+pub record ConditionHere (ts us : List Lexeme) : Type 0 where
+  pub place : ℕ
+  pub is : ts ≡ Close place ∷ BlockOpen ∷ us
+
+pub condition_is : (ts us : List Lexeme) → after_condition ts ≡ Some us → ConditionHere ts us
+condition_is ts us e =
+    then_elim (ConditionHere ts us) after_block_open (after_close ts) e
+    (λ vs c o. let b = closed_is ts vs c in record { place = b.place; is = b.is ∙ ap (λ zs. Close b.place ∷ zs) (block_open_is vs o) })

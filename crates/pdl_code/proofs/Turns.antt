@@ -1,0 +1,102 @@
+-- One index, or one part of an expression, more.
+use Rattle.std.proofs.Common.{◌≡◌, ℕ, ◌+◌, ◌<◌, ◌≤◌, List, ◌∷◌, length, drop, get_or, Some, Ok, Err, refl, sym, ap, ◌∙◌, add-one, drop-cons}
+use Rattle.std.specs.Prelude.{Result, Option, Bool, true, false, if◌then◌else◌, slice_set}
+use Rattle.std.proofs.lemmas.List.{drop_all}
+use Rattle.pdl_sig.specs.declared.Signature.{Signature}
+use Rattle.pdl_code.specs.declared.fault.KernelFault.{KernelFault}
+use Rattle.pdl_code.specs.declared.fault.KernelFault.TheVariants.{TooDeep, BadText, UnknownArgument, WriteToInput, UnknownDim, NestedSame, NoMemory}
+use Rattle.pdl_code.specs.declared.lexeme.Span.{Span}
+use Rattle.pdl_code.specs.declared.raw.RawEntry.{RawEntry, Along, Blank}
+use Rattle.pdl_code.specs.declared.raw.RawExpr.{RawExpr}
+use Rattle.pdl_code.specs.Fit.{argument_of}
+use Rattle.pdl_code.specs.Join.{join, one_loop}
+use Rattle.pdl_code.specs.Raw.{RawTree, RawIndices, access, along}
+use Rattle.pdl_code.specs.RawOf.{raw_indices, raw_of}
+use Rattle.pdl_code.specs.Refused.{answer, argument_at, axis_wrong, looped, mark, named_argument, or_zero}
+use Rattle.pdl_code.specs.Resolving.{◌>>=◌, Gives, known, resolve_tree, resolve_indices}
+use Rattle.pdl_code.specs.Scope.{Scope, axis_of, bytes_of, no_flags}
+use Rattle.pdl_code.specs.Tree.{Tree, Indices, index, access as access_tree, none as nil, along as cons}
+use Rattle.pdl_code.proofs.Joins.{join_join, join_none}
+
+looped_next : (ds : List ℕ) (k d : ℕ) (given : List Bool) → looped (d ∷ ds) k given ≡ join (one_loop given k d) (looped ds (k + 1) given)
+looped_next ds k d given = by (get_or given k false)
+  where
+    by : (b : Bool) → (if b then looped ds (k + 1) given else cons k (index d) (looped ds (k + 1) given)) ≡ join (if b then nil else cons k (index d) nil) (looped ds (k + 1) given)
+    by true = refl
+    by false = refl
+
+abbrev pub okay : {A : Type 0} → A → Result A KernelFault
+okay x = Ok x
+
+pub same_ok : {A : Type 0} (a b : A) → okay a ≡ okay b → b ≡ a
+same_ok a b e = cc
+
+pub marked_loop : (f : Indices) (given : List Bool) (k d : ℕ) → get_or given k false ≡ true → join f (one_loop given k d) ≡ f
+marked_loop f given k d e = ap (λ (b : Bool). join f (if b then nil else cons k (index d) nil)) e ∙ join_none f
+
+pub loops_turn : (found more : Indices) (ds : List ℕ) (k d : ℕ) (given : List Bool) → k < length ds → more ≡ join found (one_loop given k (get_or ds k d))
+    → join more (looped (drop (k + 1) ds) (k + 1) given) ≡ join found (looped (drop k ds) k given)
+loops_turn found more ds k d given lt e =
+    let cut : drop k ds ≡ get_or ds k d ∷ drop (k + 1) ds = rw add-one (drop-cons ds k d lt) in
+    ap (λ m. join m (looped (drop (k + 1) ds) (k + 1) given)) e ∙ join_join found _ _
+    ∙ sym (ap (λ xs. join found (looped xs k given)) cut ∙ ap (join found) (looped_next (drop (k + 1) ds) k (get_or ds k d) given))
+
+pub loops_end : (found : Indices) (ds : List ℕ) (k : ℕ) (given : List Bool) → length ds ≤ k → join found (looped (drop k ds) k given) ≡ found
+loops_end found ds k given le = ap (λ xs. join found (looped xs k given)) (drop_all k ds le) ∙ join_none found
+
+joined : (f : Indices) (k : ℕ) (a : Tree) (r : Result Indices KernelFault) → (r >>= λ rest. Ok (join (join f (cons k a nil)) rest)) ≡ ((r >>= λ found. Ok (cons k a found)) >>= λ rest. Ok (join f rest))
+joined f k a (Ok rest) = ap Ok (join_join f (cons k a nil) rest)
+joined f k a (Err e) = refl
+
+abbrev pub and_join : Indices → Result Indices KernelFault → Result Indices KernelFault
+and_join f r = r >>= λ rest. Ok (join f rest)
+
+module _ (source : List ℕ) (s : Signature) where
+  -- an index that is found
+  pub index_turn : (c : Scope) (ds : List ℕ) (flags : List Bool) (at : ℕ) (w : Span) (e : RawTree) (rest : RawIndices) (f more : Indices) (k : ℕ) (a : Tree)
+      → axis_of s ds (bytes_of source w) ≡ Some k → answer (axis_wrong w flags (axis_of s ds (bytes_of source w))) (or_zero (axis_of s ds (bytes_of source w))) ≡ Ok k
+      → resolve_tree source s c e ≡ Ok a → more ≡ join f (cons k a nil)
+      → and_join more (resolve_indices source s c ds (slice_set flags k true) at rest) ≡ and_join f (resolve_indices source s c ds flags at (along w e rest))
+  index_turn c ds flags at w e rest f more k a placed fine tree is =
+      let R : List Bool → Result Indices KernelFault = λ fl. resolve_indices source s c ds fl at rest in
+      let one : resolve_indices source s c ds flags at (along w e rest) ≡ (R (mark flags (axis_of s ds (bytes_of source w))) >>= λ found. Ok (cons k a found)) =
+      ap (λ r. r >>= λ k. resolve_tree source s c e >>= λ a. R (mark flags (axis_of s ds (bytes_of source w))) >>= λ found. Ok (cons k a found)) fine
+      ∙ ap (λ r. r >>= λ a. R (mark flags (axis_of s ds (bytes_of source w))) >>= λ found. Ok (cons k a found)) tree in
+      let two : mark flags (axis_of s ds (bytes_of source w)) ≡ slice_set flags k true = ap (mark flags) placed in
+      ap (λ m. and_join m (R (slice_set flags k true))) is ∙ joined f k a (R (slice_set flags k true))
+      ∙ sym (ap (and_join f) (one ∙ ap (λ fl. R fl >>= λ found. Ok (cons k a found)) two))
+
+  access_is : (c : Scope) (t : RawTree) (w : Span) (is : RawIndices) (at number : ℕ) (ds : List ℕ) → t ≡ access w is at → named_argument source s w ≡ Some number → ds ≡ (argument_of s number).dims
+      → resolve_tree source s c t ≡ (resolve_indices source s c ds no_flags at is >>= λ found. Ok (access_tree number found))
+  access_is c t w is at number ds e placed dims =
+      let P : Option ℕ → Result Tree KernelFault = λ p. known w p (resolve_indices source s c (argument_at s p).dims no_flags at is >>= λ found. Ok (access_tree (or_zero p) found)) in
+      ap (resolve_tree source s c) e ∙ ap P placed ∙ ap (λ xs. resolve_indices source s c xs no_flags at is >>= λ found. Ok (access_tree number found)) (sym dims)
+
+  pub access_ok : (c : Scope) (t : RawTree) (w : Span) (is : RawIndices) (at number : ℕ) (ds : List ℕ) (found : Indices) → t ≡ access w is at → named_argument source s w ≡ Some number → ds ≡ (argument_of s number).dims
+      → resolve_indices source s c ds no_flags at is ≡ Ok found → resolve_tree source s c t ≡ Ok (access_tree number found)
+  access_ok c t w is at number ds found e placed dims ok = access_is c t w is at number ds e placed dims ∙ ap (λ r. r >>= λ found. Ok (access_tree number found)) ok
+
+  pub access_err : {X Y : Type 0} (v : X → Indices) (view : Y → Tree) (r : KernelFault) (c : Scope) (t : RawTree) (w : Span) (is : RawIndices) (at number : ℕ) (ds : List ℕ) → t ≡ access w is at → named_argument source s w ≡ Some number → ds ≡ (argument_of s number).dims
+      → Gives v (Err r) (resolve_indices source s c ds no_flags at is) → Gives view (Err r) (resolve_tree source s c t)
+  access_err v view NoMemory c t w is at number ds e placed dims err = tt
+  access_err v view TooDeep c t w is at number ds e placed dims err = access_is c t w is at number ds e placed dims ∙ ap (λ r. r >>= λ found. Ok (access_tree number found)) err
+  access_err v view BadText c t w is at number ds e placed dims err = access_is c t w is at number ds e placed dims ∙ ap (λ r. r >>= λ found. Ok (access_tree number found)) err
+  access_err v view (UnknownArgument x) c t w is at number ds e placed dims err = access_is c t w is at number ds e placed dims ∙ ap (λ r. r >>= λ found. Ok (access_tree number found)) err
+  access_err v view (WriteToInput x) c t w is at number ds e placed dims err = access_is c t w is at number ds e placed dims ∙ ap (λ r. r >>= λ found. Ok (access_tree number found)) err
+  access_err v view (UnknownDim x) c t w is at number ds e placed dims err = access_is c t w is at number ds e placed dims ∙ ap (λ r. r >>= λ found. Ok (access_tree number found)) err
+  access_err v view (NestedSame x) c t w is at number ds e placed dims err = access_is c t w is at number ds e placed dims ∙ ap (λ r. r >>= λ found. Ok (access_tree number found)) err
+
+  -- the same flags and the same indices
+  pub turned_to : (c : Scope) (ds : List ℕ) (at : ℕ) (rest : RawIndices) (flags flags' : List Bool) (more more' : Indices) (x : Result Indices KernelFault) → flags' ≡ flags → more' ≡ more
+      → and_join more (resolve_indices source s c ds flags at rest) ≡ x → and_join more' (resolve_indices source s c ds flags' at rest) ≡ x
+  turned_to c ds at rest flags flags' more more' x e h turn = ap (λ m. and_join m (resolve_indices source s c ds flags' at rest)) h ∙ ap (λ fl. and_join more (resolve_indices source s c ds fl at rest)) e ∙ turn
+
+pub given_next : (gs : List RawEntry) (i : ℕ) (g : RawEntry) (w : Span) (e : RawExpr) → i < length gs → g ≡ get_or gs i g → g ≡ Along w e → raw_indices (drop i gs) ≡ along w (raw_of e) (raw_indices (drop (i + 1) gs))
+given_next gs i g w e lt at is =
+    let cut : drop i gs ≡ get_or gs i g ∷ drop (i + 1) gs = rw add-one (drop-cons gs i g lt) in
+    ap raw_indices (cut ∙ ap (λ x. x ∷ drop (i + 1) gs) (sym at ∙ is))
+
+pub blank_next : (gs : List RawEntry) (i : ℕ) (g : RawEntry) → i < length gs → g ≡ get_or gs i g → g ≡ Blank → raw_indices (drop i gs) ≡ raw_indices (drop (i + 1) gs)
+blank_next gs i g lt at is =
+    let cut : drop i gs ≡ get_or gs i g ∷ drop (i + 1) gs = rw add-one (drop-cons gs i g lt) in
+    ap raw_indices (cut ∙ ap (λ x. x ∷ drop (i + 1) gs) (sym at ∙ is))

@@ -1,0 +1,5 @@
+use Rattle.pdl_code.proofs.Spellings.{one_reading}
+use Rattle.pdl_code.proofs.laws.one_reading.Goals as goal
+
+pub returns : goal.returns
+returns c = one_reading

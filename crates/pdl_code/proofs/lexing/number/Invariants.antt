@@ -1,0 +1,10 @@
+use Rattle.std.proofs.Common.{◌≡◌, ◌≤◌, take, fold, ℕ}
+use Rattle.pdl_lexemes.specs.Lexing.{with_digit}
+use Rattle.pdl_code.proofs.lexing.number.Given as goal
+
+pub record Read (n value : ℕ) : Type 0 where
+  pub same : n ≡ value
+  pub most : n ≤ 9223372036854775808
+
+abbrev pub invariant-loop-digit : goal.invariant-loop-digit
+invariant-loop-digit l = Read l.n (fold with_digit 0 (take l.digit-index l.digits))

@@ -1,0 +1,17 @@
+pub mod Tree
+pub mod TreeOf
+pub mod Raw
+pub mod RawOf
+pub mod Lexing
+pub mod Depth
+pub mod Left
+pub mod Grammar
+pub mod Join
+pub mod Reading
+pub mod Fit
+pub mod Scope
+pub mod Refused
+pub mod Resolving
+pub mod Declaring
+pub mod Meaning
+pub mod Spelled

@@ -1,0 +1,155 @@
+//! Resolving the names of statements. A declared word is visible to the end of its block.
+ghost use Rattle.std.specs.Prelude.{◌≡◌, ◌≤◌, ◌++◌, ◌∷◌, [], take, length, get_or, OnOk, IfErr, max};
+ghost use Rattle.pdl_code.specs.RawOf.{raw_code, raw_step};
+ghost use Rattle.pdl_code.specs.Refused.{answer, code_code, code_declares, code_wrongs, scope_after, step_declares, type_at};
+ghost use Rattle.pdl_code.specs.Resolving.{Gives, resolve_code, resolve_step};
+ghost use Rattle.pdl_code.specs.Scope.{top};
+ghost use Rattle.pdl_code.specs.TreeOf.{code_of, step_of};
+
+use crate::build::{if_stmt, loop_stmt, with_stmt};
+use crate::fault::KernelFault;
+use crate::lexeme::Span;
+use crate::raw::RawStmt;
+use crate::resolve::{MOST, indices, is_marked, mark, tree};
+use crate::scope::{Local, Meant, argument, cut, declare, dim, dims_of, is_input, meaning};
+use crate::tree::{LocalType, Stmt};
+use pdl_sig::Signature;
+use std::alloc::Global;
+
+// The declared type of a local.
+fn type_at(locals: &[Local], k: usize) -> LocalType
+    ensures { result ≡ type_at locals.now k }
+{
+    match locals.get(k) {
+        Some(local) => local.ty,
+        None => LocalType::Longlong,
+    }
+}
+
+/// One statement.
+#[cycle(block)]
+fn stmt(
+    alloc: Global,
+    source: &[u8],
+    signature: &Signature,
+    locals: &mut Vec<Local>,
+    loops: &[bool; MOST],
+    raw: &RawStmt,
+) -> Result<Stmt, KernelFault>
+    ensures gives { Gives step_of result (resolve_step source.now signature.now (record { locals = locals.old.items; loops = loops.now }) (raw_step raw.now)) }
+    ensures after { OnOk result (record { locals = locals.new.items; loops = loops.now } ≡ scope_after (record { locals = locals.old.items; loops = loops.now }) (raw_step raw.now)) }
+{
+    match raw {
+        RawStmt::Loop(word, body) => match dim(source, signature, *word) {
+            None => Err(KernelFault::UnknownDim { at: word.from }),
+            Some(d) => {
+                if is_marked(loops, d) {
+                    Err(KernelFault::NestedSame { at: word.from })
+                } else {
+                    let mut inner = *loops;
+                    mark(&mut inner, d);
+                    match block(alloc, source, signature, locals, &inner, body) {
+                        Ok(code) => Ok(loop_stmt(d, code)),
+                        Err(fault) => Err(fault),
+                    }
+                }
+            }
+        },
+        RawStmt::If(expr, whole, other) => {
+            match tree(alloc, source, signature, locals.as_slice(), loops, expr) {
+                Ok(e) => match block(alloc, source, signature, locals, loops, whole) {
+                    Ok(yes) => match block(alloc, source, signature, locals, loops, other) {
+                        Ok(no) => Ok(if_stmt(e, yes, no)),
+                        Err(fault) => Err(fault),
+                    },
+                    Err(fault) => Err(fault),
+                },
+                Err(fault) => Err(fault),
+            }
+        }
+        RawStmt::Declare(ty, word, expr) => {
+            match tree(alloc, source, signature, locals.as_slice(), loops, expr) {
+                Ok(e) => {
+                    let slot = locals.len();
+                    match declare(locals, *word, *ty) {
+                        Ok(()) => Ok(Stmt::Keep(slot, *ty, None, e)),
+                        Err(fault) => Err(fault),
+                    }
+                }
+                Err(fault) => Err(fault),
+            }
+        }
+        RawStmt::Set(word, op, expr) => {
+            match meaning(source, signature, locals.as_slice(), *word) {
+                Meant::InSlot(k) => {
+                    match tree(alloc, source, signature, locals.as_slice(), loops, expr) {
+                        Ok(e) => Ok(Stmt::Keep(k, type_at(locals.as_slice(), k), *op, e)),
+                        Err(fault) => Err(fault),
+                    }
+                }
+                Meant::Dim(_) => Err(KernelFault::WriteToInput { at: word.from }),
+                Meant::Unknown => Err(KernelFault::UnknownArgument { at: word.from }),
+            }
+        }
+        RawStmt::Put(name, given, close, op, expr) => match argument(source, signature, *name) {
+            None => Err(KernelFault::UnknownArgument { at: name.from }),
+            Some(number) => {
+                if is_input(signature, number) {
+                    Err(KernelFault::WriteToInput { at: name.from })
+                } else {
+                    let dims = dims_of(signature, number);
+                    let seen = locals.as_slice();
+                    match indices(alloc, source, signature, seen, loops, dims, given, *close) {
+                        Ok(found) => match tree(alloc, source, signature, seen, loops, expr) {
+                            Ok(e) => Ok(Stmt::Put(number, found, *op, e)),
+                            Err(fault) => Err(fault),
+                        },
+                        Err(fault) => Err(fault),
+                    }
+                }
+            }
+        },
+    }
+}
+
+/// The statements of a block. What it declares isn't visible behind it.
+#[cycle(block)]
+fn block(
+    alloc: Global,
+    source: &[u8],
+    signature: &Signature,
+    locals: &mut Vec<Local>,
+    loops: &[bool; MOST],
+    raw: &[RawStmt],
+) -> Result<Vec<Stmt>, KernelFault>
+    ensures gives { Gives (λ v. code_of v.items) result (resolve_code source.now signature.now (record { locals = locals.old.items; loops = loops.now }) (raw_code raw.now)) }
+    ensures same { OnOk result (locals.new.items ≡ locals.old.items) }
+{
+    let count = locals.len();
+    let mut code = Vec::new(alloc);
+    for one in raw {
+        match stmt(alloc, source, signature, locals, loops, one) {
+            Ok(s) => match with_stmt(code, s) {
+                Ok(more) => code = more,
+                Err(fault) => return Err(fault),
+            },
+            Err(fault) => return Err(fault),
+        }
+    }
+    cut(locals, count);
+    Ok(code)
+}
+
+/// The code of a text's tree, or its first refusal in the order of the text.
+#[tactic(auto, using(crate::proofs::Refusing::code_law))]
+pub fn resolved(
+    alloc: Global,
+    source: &[u8],
+    signature: &Signature,
+    raw: &[RawStmt],
+) -> Result<Vec<Stmt>, KernelFault>
+    ensures { Gives (λ v. code_of v.items) result (answer (code_wrongs source.now signature.now top (raw_code raw.now)) (code_code source.now signature.now top (raw_code raw.now))) }
+{
+    let mut locals = Vec::new(alloc);
+    block(alloc, source, signature, &mut locals, &[false; MOST], raw)
+}

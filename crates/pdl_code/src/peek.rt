@@ -1,0 +1,331 @@
+//! Looks at the front of what is left, each with what follows.
+ghost use Rattle.std.specs.Prelude.{◌≡◌, option_map};
+ghost use Rattle.pdl_syntax.specs.Grammar.{level_of};
+ghost use Rattle.pdl_code.specs.Reading.{access_name, after_block_close, after_block_open, after_close, after_comma, after_condition, after_else, after_else_word, after_equals, after_fat_arrow, after_generic_name, after_if, after_if_word, after_loop_word, after_open, after_semicolon, after_size_name, bracketed_word, close_at, declared_at, ends, generic_at, index_word, loop_at, name_at, operator_at, plain_at, prefix_at, sign_at, size_at, type_at, type_word_at, word_at};
+
+use crate::left::Lexemes;
+use crate::lexeme::{Lexeme, NameKind, Span, WordKind};
+use crate::tree::LocalType;
+use pdl_elem::{BinaryOp, UnaryOp};
+
+pub fn after_open<'a>(tokens: &Lexemes<'a>) -> Option<Lexemes<'a>>
+    ensures rest { result ≡ after_open tokens.now }
+{
+    match tokens.split_first() {
+        Some((Lexeme::Open, rest)) => Some(rest),
+        _ => None,
+    }
+}
+
+pub fn close<'a>(tokens: &Lexemes<'a>) -> Option<(u32, Lexemes<'a>)>
+    ensures read { result ≡ close_at tokens.now }
+{
+    match tokens.split_first() {
+        Some((Lexeme::Close(at), rest)) => Some((at, rest)),
+        _ => None,
+    }
+}
+
+pub fn after_close<'a>(tokens: &Lexemes<'a>) -> Option<Lexemes<'a>>
+    ensures rest { result ≡ after_close tokens.now }
+{
+    match close(tokens) {
+        Some((_, rest)) => Some(rest),
+        None => None,
+    }
+}
+
+pub fn after_block_open<'a>(tokens: &Lexemes<'a>) -> Option<Lexemes<'a>>
+    ensures rest { result ≡ after_block_open tokens.now }
+{
+    match tokens.split_first() {
+        Some((Lexeme::BlockOpen, rest)) => Some(rest),
+        _ => None,
+    }
+}
+
+pub fn after_block_close<'a>(tokens: &Lexemes<'a>) -> Option<Lexemes<'a>>
+    ensures rest { result ≡ after_block_close tokens.now }
+{
+    match tokens.split_first() {
+        Some((Lexeme::BlockClose, rest)) => Some(rest),
+        _ => None,
+    }
+}
+
+pub fn after_semicolon<'a>(tokens: &Lexemes<'a>) -> Option<Lexemes<'a>>
+    ensures rest { result ≡ after_semicolon tokens.now }
+{
+    match tokens.split_first() {
+        Some((Lexeme::Semicolon, rest)) => Some(rest),
+        _ => None,
+    }
+}
+
+pub fn after_comma<'a>(tokens: &Lexemes<'a>) -> Option<Lexemes<'a>>
+    ensures rest { result ≡ after_comma tokens.now }
+{
+    match tokens.split_first() {
+        Some((Lexeme::Comma, rest)) => Some(rest),
+        _ => None,
+    }
+}
+
+pub fn after_equals<'a>(tokens: &Lexemes<'a>) -> Option<Lexemes<'a>>
+    ensures rest { result ≡ after_equals tokens.now }
+{
+    match tokens.split_first() {
+        Some((Lexeme::Equals, rest)) => Some(rest),
+        _ => None,
+    }
+}
+
+pub fn after_fat_arrow<'a>(tokens: &Lexemes<'a>) -> Option<Lexemes<'a>>
+    ensures rest { result ≡ after_fat_arrow tokens.now }
+{
+    match tokens.split_first() {
+        Some((Lexeme::FatArrow, rest)) => Some(rest),
+        _ => None,
+    }
+}
+
+pub fn after_loop_word<'a>(tokens: &Lexemes<'a>) -> Option<Lexemes<'a>>
+    ensures rest { result ≡ after_loop_word tokens.now }
+{
+    match tokens.split_first() {
+        Some((Lexeme::Word(WordKind::Loop, _), rest)) => Some(rest),
+        _ => None,
+    }
+}
+
+pub fn after_if_word<'a>(tokens: &Lexemes<'a>) -> Option<Lexemes<'a>>
+    ensures rest { result ≡ after_if_word tokens.now }
+{
+    match tokens.split_first() {
+        Some((Lexeme::Word(WordKind::If, _), rest)) => Some(rest),
+        _ => None,
+    }
+}
+
+pub fn after_else_word<'a>(tokens: &Lexemes<'a>) -> Option<Lexemes<'a>>
+    ensures rest { result ≡ after_else_word tokens.now }
+{
+    match tokens.split_first() {
+        Some((Lexeme::Word(WordKind::Else, _), rest)) => Some(rest),
+        _ => None,
+    }
+}
+
+pub fn after_size_name<'a>(tokens: &Lexemes<'a>) -> Option<Lexemes<'a>>
+    ensures rest { result ≡ after_size_name tokens.now }
+{
+    match tokens.split_first() {
+        Some((Lexeme::Name(NameKind::Size, _), rest)) => Some(rest),
+        _ => None,
+    }
+}
+
+pub fn after_generic_name<'a>(tokens: &Lexemes<'a>) -> Option<Lexemes<'a>>
+    ensures rest { result ≡ after_generic_name tokens.now }
+{
+    match tokens.split_first() {
+        Some((Lexeme::Name(NameKind::Generic, _), rest)) => Some(rest),
+        _ => None,
+    }
+}
+
+pub fn word<'a>(tokens: &Lexemes<'a>) -> Option<(Span, Lexemes<'a>)>
+    ensures read { result ≡ word_at tokens.now }
+{
+    match tokens.split_first() {
+        Some((Lexeme::Word(_, span), rest)) => Some((span, rest)),
+        _ => None,
+    }
+}
+
+pub fn plain_word<'a>(tokens: &Lexemes<'a>) -> Option<(Span, Lexemes<'a>)>
+    ensures read { result ≡ plain_at tokens.now }
+{
+    match tokens.split_first() {
+        Some((Lexeme::Word(WordKind::Plain, span), rest)) => Some((span, rest)),
+        _ => None,
+    }
+}
+
+pub fn name<'a>(tokens: &Lexemes<'a>) -> Option<(Span, Lexemes<'a>)>
+    ensures read { result ≡ name_at tokens.now }
+{
+    match tokens.split_first() {
+        Some((Lexeme::Name(_, span), rest)) => Some((span, rest)),
+        _ => None,
+    }
+}
+
+pub fn type_word<'a>(tokens: &Lexemes<'a>) -> Option<(LocalType, Lexemes<'a>)>
+    ensures read { result ≡ type_word_at tokens.now }
+{
+    match tokens.split_first() {
+        Some((Lexeme::Word(WordKind::OfType(ty), _), rest)) => Some((ty, rest)),
+        _ => None,
+    }
+}
+
+pub fn prefix<'a>(tokens: &Lexemes<'a>) -> Option<(UnaryOp, Lexemes<'a>)>
+    ensures read { result ≡ prefix_at tokens.now }
+{
+    match tokens.split_first() {
+        Some((Lexeme::Prefix(op), rest)) => Some((op, rest)),
+        Some((Lexeme::Operator(BinaryOp::Sub), rest)) => Some((UnaryOp::Neg, rest)),
+        _ => None,
+    }
+}
+
+fn level_of(op: BinaryOp) -> u8
+    ensures { result ≡ level_of op }
+{
+    match op {
+        BinaryOp::Mul | BinaryOp::Div | BinaryOp::Rem => 1,
+        BinaryOp::Add | BinaryOp::Sub => 2,
+        BinaryOp::Shl | BinaryOp::Shr => 3,
+        BinaryOp::Lt | BinaryOp::Gt | BinaryOp::Le | BinaryOp::Ge => 4,
+        BinaryOp::Eq | BinaryOp::Ne => 5,
+        BinaryOp::And => 6,
+        BinaryOp::Or | BinaryOp::Xor => 7,
+    }
+}
+
+/// An operator of a level.
+pub fn operator<'a>(level: u8, tokens: &Lexemes<'a>) -> Option<(BinaryOp, Lexemes<'a>)>
+    ensures read { result ≡ operator_at level tokens.now }
+{
+    match tokens.split_first() {
+        Some((Lexeme::Operator(op), rest)) => {
+            if level_of(op) == level {
+                Some((op, rest))
+            } else {
+                None
+            }
+        }
+        _ => None,
+    }
+}
+
+/// The sign of an assignment: the operator before its `=`, if any.
+pub fn sign<'a>(tokens: &Lexemes<'a>) -> Option<(Option<BinaryOp>, Lexemes<'a>)>
+    ensures read { result ≡ sign_at tokens.now }
+{
+    match tokens.split_first() {
+        Some((Lexeme::Equals, rest)) => Some((None, rest)),
+        Some((Lexeme::Assign(op), rest)) => Some((Some(op), rest)),
+        _ => None,
+    }
+}
+
+// A word in brackets.
+fn bracketed_word<'a>(tokens: &Lexemes<'a>) -> Option<(Span, Lexemes<'a>)>
+    ensures read { result ≡ bracketed_word tokens.now }
+{
+    let rest = after_open(tokens)?;
+    let (span, rest) = word(&rest)?;
+    let rest = after_close(&rest)?;
+    Some((span, rest))
+}
+
+/// `$SIZE(word)`
+pub fn size<'a>(tokens: &Lexemes<'a>) -> Option<(Span, Lexemes<'a>)>
+    ensures read { result ≡ size_at tokens.now }
+{
+    let rest = after_size_name(tokens)?;
+    bracketed_word(&rest)
+}
+
+/// The word of an index, before its `=>`.
+pub fn index_word<'a>(tokens: &Lexemes<'a>) -> Option<(Span, Lexemes<'a>)>
+    ensures read { result ≡ index_word tokens.now }
+{
+    let (span, rest) = word(tokens)?;
+    let rest = after_fat_arrow(&rest)?;
+    Some((span, rest))
+}
+
+/// An argument's name, before what its brackets hold.
+pub fn access_name<'a>(tokens: &Lexemes<'a>) -> Option<(Span, Lexemes<'a>)>
+    ensures read { result ≡ access_name tokens.now }
+{
+    let (span, rest) = name(tokens)?;
+    let rest = after_open(&rest)?;
+    Some((span, rest))
+}
+
+// `$GENERIC()` as a type.
+fn generic<'a>(tokens: &Lexemes<'a>) -> Option<(LocalType, Lexemes<'a>)>
+    ensures read { result ≡ generic_at tokens.now }
+{
+    let rest = after_generic_name(tokens)?;
+    let rest = after_open(&rest)?;
+    let rest = after_close(&rest)?;
+    Some((LocalType::Generic, rest))
+}
+
+fn type_head<'a>(tokens: &Lexemes<'a>) -> Option<(LocalType, Lexemes<'a>)>
+    ensures read { result ≡ type_at tokens.now }
+{
+    match type_word(tokens) {
+        Some((ty, rest)) => Some((ty, rest)),
+        None => generic(tokens),
+    }
+}
+
+/// The type and the word of a declaration.
+pub fn declared<'a>(tokens: &Lexemes<'a>) -> Option<(LocalType, Span, Lexemes<'a>)>
+    ensures read { option_map (λ x. record { ty = x.0; word = x.1; rest = x.2 }) result ≡ declared_at tokens.now }
+{
+    let (ty, rest) = type_head(tokens)?;
+    let (span, rest) = plain_word(&rest)?;
+    Some((ty, span, rest))
+}
+
+/// The word of a loop, before its code.
+pub fn loop_head<'a>(tokens: &Lexemes<'a>) -> Option<(Span, Lexemes<'a>)>
+    ensures read { result ≡ loop_at tokens.now }
+{
+    let rest = after_loop_word(tokens)?;
+    let (span, rest) = bracketed_word(&rest)?;
+    let rest = after_block_open(&rest)?;
+    Some((span, rest))
+}
+
+/// What follows `if (`.
+pub fn after_if<'a>(tokens: &Lexemes<'a>) -> Option<Lexemes<'a>>
+    ensures rest { result ≡ after_if tokens.now }
+{
+    let rest = after_if_word(tokens)?;
+    after_open(&rest)
+}
+
+/// What follows `else %{`.
+pub fn after_else<'a>(tokens: &Lexemes<'a>) -> Option<Lexemes<'a>>
+    ensures rest { result ≡ after_else tokens.now }
+{
+    let rest = after_else_word(tokens)?;
+    after_block_open(&rest)
+}
+
+/// What follows `) %{`.
+pub fn after_condition<'a>(tokens: &Lexemes<'a>) -> Option<Lexemes<'a>>
+    ensures rest { result ≡ after_condition tokens.now }
+{
+    let rest = after_close(tokens)?;
+    after_block_open(&rest)
+}
+
+/// The same tokens, where code ends: nothing is left, or `%}` comes.
+pub fn ends<'a>(tokens: &Lexemes<'a>) -> Option<Lexemes<'a>>
+    ensures rest { result ≡ ends tokens.now }
+{
+    match tokens.split_first() {
+        None => Some(tokens.copy()),
+        Some((Lexeme::BlockClose, _)) => Some(tokens.copy()),
+        _ => None,
+    }
+}

@@ -1,0 +1,217 @@
+//! Resolving the names of expressions, in the order of the text.
+ghost use Rattle.std.specs.Prelude.{◌≡◌, Ok, false, true, get_or, slice_set, IfOk, Some};
+ghost use Rattle.pdl_code.specs.Fit.{argument_of};
+ghost use Rattle.pdl_code.specs.Join.{join, one_loop};
+ghost use Rattle.pdl_code.specs.RawOf.{raw_indices, raw_of};
+ghost use Rattle.pdl_code.specs.Refused.{answer, axis_wrong, lacks, looped, meant_tree, or_zero, primary_wrong};
+ghost use Rattle.pdl_code.specs.Resolving.{Gives, resolve_indices, resolve_tree};
+ghost use Rattle.pdl_code.specs.Scope.{axis_of, bytes_of, meant, no_flags};
+ghost use Rattle.pdl_code.specs.TreeOf.{indices_of, tree_of};
+
+use crate::build::{binary_expr, unary_expr, with_given, with_looped};
+use crate::fault::KernelFault;
+use crate::lexeme::Span;
+use crate::raw::{RawEntry, RawExpr};
+use crate::scope::{Local, Meant, argument, axis, dim, dims_of, meaning};
+use crate::tree::{Entry, Expr};
+use pdl_sig::Signature;
+use std::alloc::Global;
+
+/// A signature has at most so many names of dimensions.
+pub const MOST: usize = 8;
+
+/// Whether a dimension is marked.
+pub fn is_marked(flags: &[bool; MOST], k: usize) -> bool
+    ensures { result ≡ get_or flags.now k false }
+{
+    if k < MOST { flags[k] } else { false }
+}
+
+/// Marks a dimension.
+pub fn mark(flags: &mut [bool; MOST], k: usize)
+    ensures { flags.new ≡ slice_set flags.old k true }
+{
+    if k < MOST {
+        flags[k] = true;
+    }
+}
+
+// A word as a primary.
+fn named(
+    source: &[u8],
+    signature: &Signature,
+    locals: &[Local],
+    loops: &[bool; MOST],
+    word: Span,
+) -> Result<Expr, KernelFault>
+    ensures { Gives tree_of result (answer (primary_wrong loops.now word (meant source.now signature.now locals.now word)) (meant_tree (meant source.now signature.now locals.now word))) }
+{
+    match meaning(source, signature, locals, word) {
+        Meant::InSlot(k) => Ok(Expr::Local(k)),
+        Meant::Dim(d) => {
+            if is_marked(loops, d) {
+                Ok(Expr::Index(d))
+            } else {
+                Err(KernelFault::UnknownDim { at: word.from })
+            }
+        }
+        Meant::Unknown => Err(KernelFault::UnknownArgument { at: word.from }),
+    }
+}
+
+// The place of an index's word in an argument of these dimensions.
+fn place(
+    source: &[u8],
+    signature: &Signature,
+    dims: &[u8],
+    given: &[bool; MOST],
+    word: Span,
+) -> Result<usize, KernelFault>
+    ensures given { Gives (λ k. k) result (answer (axis_wrong word given.now (axis_of signature.now dims.now (bytes_of source.now word))) (or_zero (axis_of signature.now dims.now (bytes_of source.now word)))) }
+    ensures known { IfOk result (λ k. axis_of signature.now dims.now (bytes_of source.now word) ≡ Some k) }
+{
+    match axis(source, signature, dims, word) {
+        None => Err(KernelFault::UnknownDim { at: word.from }),
+        Some(k) => {
+            if is_marked(given, k) {
+                Err(KernelFault::UnknownDim { at: word.from })
+            } else {
+                Ok(k)
+            }
+        }
+    }
+}
+
+// Whether some dimension is neither given nor looped.
+fn lacks_one(dims: &[u8], given: &[bool; MOST], loops: &[bool; MOST]) -> bool
+    ensures { result ≡ lacks loops.now dims.now 0 given.now }
+{
+    for (k, d) in dims.iter().enumerate() {
+        if !is_marked(given, k) && !is_marked(loops, *d as usize) {
+            return true;
+        }
+    }
+    false
+}
+
+// A dimension that isn't given, at the index of its loop.
+fn with_loop(
+    found: Vec<Entry>,
+    k: usize,
+    d: usize,
+    given: &[bool; MOST],
+) -> Result<Vec<Entry>, KernelFault>
+    ensures { Gives (λ v. indices_of v.items) result (Ok (join (indices_of found.items) (one_loop given.now k d))) }
+{
+    if is_marked(given, k) {
+        Ok(found)
+    } else {
+        with_looped(found, k, d)
+    }
+}
+
+// The dimensions that aren't given, at the indices of their loops.
+fn with_loops(
+    mut found: Vec<Entry>,
+    dims: &[u8],
+    given: &[bool; MOST],
+) -> Result<Vec<Entry>, KernelFault>
+    ensures { Gives (λ v. indices_of v.items) result (Ok (join (indices_of found.items) (looped dims.now 0 given.now))) }
+{
+    for (k, d) in dims.iter().enumerate() {
+        match with_loop(found, k, *d as usize, given) {
+            Ok(more) => found = more,
+            Err(fault) => return Err(fault),
+        }
+    }
+    Ok(found)
+}
+
+/// An expression.
+#[cycle(resolve)]
+pub fn tree(
+    alloc: Global,
+    source: &[u8],
+    signature: &Signature,
+    locals: &[Local],
+    loops: &[bool; MOST],
+    raw: &RawExpr,
+) -> Result<Expr, KernelFault>
+    ensures { Gives tree_of result (resolve_tree source.now signature.now (record { locals = locals.now; loops = loops.now }) (raw_of raw.now)) }
+{
+    match raw {
+        RawExpr::Number(n) => Ok(Expr::Number(*n)),
+        RawExpr::Size(word) => match dim(source, signature, *word) {
+            Some(d) => Ok(Expr::Size(d)),
+            None => Err(KernelFault::UnknownDim { at: word.from }),
+        },
+        RawExpr::Named(word) => named(source, signature, locals, loops, *word),
+        RawExpr::Access(name, given, close) => match argument(source, signature, *name) {
+            None => Err(KernelFault::UnknownArgument { at: name.from }),
+            Some(number) => {
+                let dims = dims_of(signature, number);
+                match indices(alloc, source, signature, locals, loops, dims, given, *close) {
+                    Ok(found) => Ok(Expr::Access(number, found)),
+                    Err(fault) => Err(fault),
+                }
+            }
+        },
+        RawExpr::Unary(op, inner) => {
+            match tree(alloc, source, signature, locals, loops, inner) {
+                Ok(a) => unary_expr(alloc, *op, a),
+                Err(fault) => Err(fault),
+            }
+        }
+        RawExpr::Binary(op, left, right) => {
+            match tree(alloc, source, signature, locals, loops, left) {
+                Ok(a) => match tree(alloc, source, signature, locals, loops, right) {
+                    Ok(b) => binary_expr(alloc, *op, a, b),
+                    Err(fault) => Err(fault),
+                },
+                Err(fault) => Err(fault),
+            }
+        }
+    }
+}
+
+/// The indices of an access: those given, and the loops'.
+#[cycle(resolve)]
+pub fn indices(
+    alloc: Global,
+    source: &[u8],
+    signature: &Signature,
+    locals: &[Local],
+    loops: &[bool; MOST],
+    dims: &[u8],
+    given: &[RawEntry],
+    close: u32,
+) -> Result<Vec<Entry>, KernelFault>
+    ensures { Gives (λ v. indices_of v.items) result (resolve_indices source.now signature.now (record { locals = locals.now; loops = loops.now }) dims.now no_flags close (raw_indices given.now)) }
+{
+    let mut flags = [false; MOST];
+    let mut found = Vec::new(alloc);
+    for one in given {
+        match one {
+            RawEntry::Along(word, expr) => {
+                match place(source, signature, dims, &flags, *word) {
+                    Ok(k) => match tree(alloc, source, signature, locals, loops, expr) {
+                        Ok(e) => match with_given(found, k, e) {
+                            Ok(more) => {
+                                found = more;
+                                mark(&mut flags, k);
+                            }
+                            Err(fault) => return Err(fault),
+                        },
+                        Err(fault) => return Err(fault),
+                    },
+                    Err(fault) => return Err(fault),
+                }
+            }
+            RawEntry::Blank => {}
+        }
+    }
+    if lacks_one(dims, &flags, loops) {
+        return Err(KernelFault::UnknownDim { at: close });
+    }
+    with_loops(found, dims, &flags)
+}

@@ -1,0 +1,17 @@
+mod Answering
+mod Calling
+mod Examples
+mod Finding
+mod Gathering
+mod Kept
+mod Laying
+mod Mapping
+mod Places
+mod Rows
+mod Seen
+mod Shaping
+mod Starting
+mod Stores
+mod Turning
+mod Weights
+mod Zips

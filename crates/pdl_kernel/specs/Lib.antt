@@ -1,0 +1,10 @@
+pub mod Answers
+pub mod Arrays
+pub mod Call
+pub mod Coding
+pub mod Kernels
+pub mod Meaning
+pub mod Parts
+pub mod Runs
+pub mod Setup
+pub mod Sources

@@ -1,0 +1,24 @@
+//! Kernels: operations whose inner loop a user writes in a few lines (PDL::PP). What the code means,
+//! and calls over broadcast arguments.
+#![tactic(auto)]
+
+mod axes;
+mod call;
+mod eval;
+mod faults;
+mod frame;
+mod given;
+mod kernel;
+mod memory;
+mod operations;
+mod part;
+mod run;
+mod setup;
+mod source;
+mod steps;
+mod walk;
+
+pub use faults::{Fault, RunFault};
+pub use kernel::{Kernel, kernel_signature, read_kernel};
+pub use pdl_code::KernelFault;
+pub use run::KernelRun;

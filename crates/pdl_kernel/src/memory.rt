@@ -1,0 +1,47 @@
+//! The arguments as code sees them at one broadcast place.
+ghost use Rattle.std.specs.Prelude.{◌≡◌};
+ghost use Rattle.pdl_kernel.specs.Answers.{Becomes};
+ghost use Rattle.pdl_kernel.specs.Meaning.{and_then, argument, assigned, element_at, with_argument};
+ghost use Rattle.pdl_kernel.specs.Sources.{IsFree, roles_of, store_of};
+
+use crate::axes::MOST;
+use crate::faults::Fault;
+use crate::frame::Frames;
+use crate::source::Source;
+use pdl_elem::BinaryOp;
+use pdl_sig::Role;
+
+/// The element of an argument at indices.
+pub fn read(
+    sources: &[Source],
+    frames: &Frames,
+    number: usize,
+    at: &[i64; MOST],
+) -> Result<i64, Fault>
+    ensures { result ≡ element_at (argument (store_of sources.now frames.now) number) at.now }
+{
+    if number >= sources.len() || number >= frames.len() {
+        return Ok(0);
+    }
+    let source = &sources[number];
+    match source.role() {
+        Role::Input => source.get(at),
+        _ => frames.get(number, at),
+    }
+}
+
+/// An assignment to an element of an argument that isn't an input, at indices.
+pub fn assign(
+    sources: &[Source],
+    frames: &mut Frames,
+    number: usize,
+    op: Option<BinaryOp>,
+    x: i64,
+    at: &[i64; MOST],
+) -> Result<(), Fault>
+    requires { IsFree (roles_of sources.now) number }
+    ensures { Becomes result (store_of sources.now frames.new) (and_then (assigned (argument (store_of sources.now frames.old) number) op x at.now) (with_argument (store_of sources.now frames.old) number)) }
+{
+    let _inputs = sources.len();
+    frames.assign(number, op, x, at)
+}

@@ -1,0 +1,145 @@
+//! Statements, run in order. It takes no memory.
+ghost use Rattle.std.specs.Prelude.{◌≡◌, slice_set, get_or, pos, Ok};
+ghost use Rattle.pdl_sig.specs.Resolution.{size_in};
+ghost use Rattle.pdl_code.specs.TreeOf.{code_of, step_of};
+ghost use Rattle.pdl_kernel.specs.Answers.{Becomes};
+ghost use Rattle.pdl_kernel.specs.Meaning.{and_then, changed, kept, local_type, run, step, turns};
+ghost use Rattle.pdl_kernel.specs.Sources.{IsCodeFree, IsStepFree, roles_of, store_of};
+
+use crate::axes::MOST;
+use crate::eval::{indices, size_in, value};
+use crate::faults::Fault;
+use crate::frame::Frames;
+use crate::memory::assign;
+use crate::operations::change;
+use crate::source::Source;
+use pdl_code::{LocalType, Stmt};
+use pdl_elem::{BinaryOp, Ty};
+use pdl_sig::Resolved;
+
+/// Sets the index of the loop over a dimension.
+fn set_index(at: &mut [u32; MOST], dimension: usize, i: u32)
+    ensures { at.new ≡ slice_set at.old dimension i }
+{
+    if dimension < MOST {
+        at[dimension] = i;
+    }
+}
+
+/// The type of a local.
+fn local_type(generic: Ty, ty: LocalType) -> Ty
+    ensures { result ≡ local_type generic ty }
+{
+    match ty {
+        LocalType::Long => Ty::Long,
+        LocalType::Longlong => Ty::Longlong,
+        LocalType::Generic => generic,
+    }
+}
+
+/// One statement.
+#[cycle(run)]
+fn step(
+    resolved: &Resolved,
+    sources: &[Source],
+    frames: &mut Frames,
+    at: &[u32; MOST],
+    stmt: &Stmt,
+) -> Result<(), Fault>
+    requires { IsStepFree (roles_of sources.now) (step_of stmt.now) }
+    ensures { Becomes result (store_of sources.now frames.new) (step resolved.now at.now (step_of stmt.now) (store_of sources.now frames.old)) }
+{
+    match stmt {
+        Stmt::Loop(dimension, body) => repeat(resolved, sources, frames, at, *dimension, body),
+        Stmt::If(expr, whole, other) => match value(resolved, sources, frames, at, expr) {
+            Ok(x) => {
+                if x == 0 {
+                    run(resolved, sources, frames, at, other)
+                } else {
+                    run(resolved, sources, frames, at, whole)
+                }
+            }
+            Err(fault) => Err(fault),
+        },
+        Stmt::Keep(slot, ty, op, expr) => match value(resolved, sources, frames, at, expr) {
+            Ok(x) => keep(resolved, sources, frames, *slot, *ty, *op, x),
+            Err(fault) => Err(fault),
+        },
+        Stmt::Put(number, entries, op, expr) => {
+            match value(resolved, sources, frames, at, expr) {
+                Ok(x) => match indices(resolved, sources, frames, at, entries) {
+                    Ok(found) => assign(sources, frames, *number, *op, x, &found),
+                    Err(fault) => Err(fault),
+                },
+                Err(fault) => Err(fault),
+            }
+        }
+    }
+}
+
+/// A store to a local.
+fn keep(
+    resolved: &Resolved,
+    sources: &[Source],
+    frames: &mut Frames,
+    slot: usize,
+    ty: LocalType,
+    op: Option<BinaryOp>,
+    x: i64,
+) -> Result<(), Fault>
+    ensures { Becomes result (store_of sources.now frames.new) (and_then (changed op (get_or (store_of sources.now frames.old).locals slot (pos 0)) x) (λ y. Ok (kept (local_type resolved.now.generic ty) slot (store_of sources.now frames.old) y))) }
+{
+    let _inputs = sources.len();
+    match change(op, frames.local(slot), x) {
+        Ok(y) => {
+            frames.keep(local_type(resolved.generic, ty), slot, y);
+            Ok(())
+        }
+        Err(fault) => Err(fault),
+    }
+}
+
+/// The body for each index of a dimension, in order.
+#[cycle(run)]
+fn repeat(
+    resolved: &Resolved,
+    sources: &[Source],
+    frames: &mut Frames,
+    at: &[u32; MOST],
+    dimension: usize,
+    body: &[Stmt],
+) -> Result<(), Fault>
+    requires { IsCodeFree (roles_of sources.now) (code_of body.now) }
+    ensures { Becomes result (store_of sources.now frames.new) (turns (λ i now. run resolved.now (slice_set at.now dimension i) (code_of body.now) now) 0 (size_in resolved.now.sizes dimension) (store_of sources.now frames.old)) }
+{
+    let mut here = *at;
+    for i in 0..size_in(resolved, dimension) {
+        set_index(&mut here, dimension, i);
+        match run(resolved, sources, frames, &here, body) {
+            Ok(()) => {}
+            Err(fault) => return Err(fault),
+        }
+    }
+    Ok(())
+}
+
+/// Statements in order, until a fault.
+#[cycle(run)]
+pub fn run(
+    resolved: &Resolved,
+    sources: &[Source],
+    frames: &mut Frames,
+    at: &[u32; MOST],
+    code: &[Stmt],
+) -> Result<(), Fault>
+    requires { IsCodeFree (roles_of sources.now) (code_of code.now) }
+    ensures { Becomes result (store_of sources.now frames.new) (run resolved.now at.now (code_of code.now) (store_of sources.now frames.old)) }
+{
+    for stmt in code {
+        match step(resolved, sources, frames, at, stmt) {
+            Ok(()) => {}
+            Err(fault) => return Err(fault),
+        }
+    }
+    Ok(())
+}
