@@ -5,9 +5,10 @@ use Rattle.std.proofs.lemmas.Bool.{cases_lt}
 use Rattle.pdl_world.specs.World.{World, ArrayDef, root, view, Look}
 use Rattle.pdl_world.specs.Sound.{NumbersBelow, IsSound, IsLive, IsAllowed}
 use Rattle.pdl_world.specs.Swept.{holds, parents, kept_onto, sweep}
-use Rattle.pdl_machine.specs.Names.{Names}
+use Rattle.pdl_kernel.specs.Kernels.{Kernel}
+use Rattle.pdl_machine.specs.Names.{Named, Names}
 use Rattle.pdl_machine.specs.State.{State, held, AreLive, IsWhole}
-use Rattle.pdl_machine.specs.Tidy.{older, with_parent, renumber, with_numbers, tidy}
+use Rattle.pdl_machine.specs.Tidy.{older, with_parent, renumber, renumbered, tidy}
 use Rattle.pdl_machine.proofs.Renamed.{by_test, IsApart, Renames, empty, more, same, look-other, StateAlike}
 use Rattle.pdl_machine.proofs.Tidying.{renamed}
 
@@ -241,15 +242,19 @@ restored g f ((k, d) ∷ w) hs sound h = by_keeps (λ hs' h'. restored g f w hs'
         ] in
         record { all = more k d left r.all; kept = r.kept }
 
+-- arrays' names beside these kernels
+abbrev pub named : List (List ℕ × Kernel) → Named ℕ → Names
+named ks bound = record { arrays = bound; kernels = ks }
+
 -- names with the new numbers, and then with the former ones
-names_restored : (g f : ℕ → ℕ) (w : World) (hs : List ℕ) (names : Names) → ((i : ℕ) → i < length (sweep w hs) → g i ≡ former (sweep w hs) f i)
-    → AreIn w (map (λ n. n.1) names) → ((v : ℕ) → holds (map (λ n. n.1) names) v ≡ true → holds hs v ≡ true) → names ≡ with_numbers g (with_numbers (older (sweep w hs)) names)
+names_restored : (g f : ℕ → ℕ) (w : World) (hs : List ℕ) (names : Named ℕ) → ((i : ℕ) → i < length (sweep w hs) → g i ≡ former (sweep w hs) f i)
+    → AreIn w (map (λ n. n.1) names) → ((v : ℕ) → holds (map (λ n. n.1) names) v ≡ true → holds hs v ≡ true) → names ≡ renumbered g (renumbered (older (sweep w hs)) names)
 names_restored g f w hs [] inside live all_held = refl
 names_restored g f w hs (n ∷ names) inside live all_held =
     let self : (n.1 == n.1) ≡ true = eq-eqb n.1 n.1 refl in
     let t : holds (n.1 ∷ map (λ n. n.1) names) n.1 ≡ true = rw self refl in
     let there : in_world (sweep w hs) n.1 ≡ true = held_kept w hs n.1 live.0 (all_held n.1 t) in
-    let rest : names ≡ with_numbers g (with_numbers (older (sweep w hs)) names) = names_restored g f w hs names inside live.1 (λ v h. all_held v (by_test (n.1 == v) (λ same. rw same refl) (λ other. rw other h))) in
+    let rest : names ≡ renumbered g (renumbered (older (sweep w hs)) names) = names_restored g f w hs names inside live.1 (λ v h. all_held v (by_test (n.1 == v) (λ same. rw same refl) (λ other. rw other h))) in
     ap (λ v. (n.0, v) ∷ names) (sym (restored_parent g f (sweep w hs) n.1 inside there)) ∙ ap (λ r. (n.0, g (older (sweep w hs) n.1)) ∷ r) rest
 
 -- numbers are in order, and all that names reach is there
@@ -293,5 +298,5 @@ tidied_alike s order =
         next = (let e : before u s.arrays.next (length u) ≡ f (length u) = former_past u f (length u) (omega arith) in omega arith);
         on = λ i le. omega (arith, former_past u f i le, former_past u f (i + 1) (omega arith));
       };
-      names = names_restored (former_numbers s) f s.arrays.world (held s) s.names h.inside order.inside (λ v t. t);
+      names = ap (named s.names.kernels) (names_restored (former_numbers s) f s.arrays.world (held s) s.names.arrays h.inside order.inside (λ v t. t));
     }

@@ -12,18 +12,20 @@ use Rattle.pdl_lexemes.specs.declared.AssignOp.{AssignOp}
 use Rattle.pdl_syntax.specs.Tree.{Tree, Args, number, named, literal, unary, binary, call, none, value, text, of_type}
 use Rattle.pdl_syntax.specs.StatementTree.{StatementTree, bind, bind_list, assign, show, show_text, sever, reshape, undef, vars, pp_def, watch, unwatch}
 use Rattle.pdl_machine.specs.declared.fault.Fault.{Fault}
-use Rattle.pdl_machine.specs.declared.fault.Fault.TheVariants.{TooManyNames}
+use Rattle.pdl_machine.specs.declared.fault.Fault.TheVariants.{TooManyNames, TooManyKernels}
 use Rattle.pdl_machine.specs.Then.{and_then}
-use Rattle.pdl_machine.specs.Names.{Names, number_of, with_name, bind as bind_name, names_limit}
+use Rattle.pdl_machine.specs.Names.{Named, Names, found, number_of, with_name, is_full_for, bind as bind_name, define, names_limit, kernels_limit}
 use Rattle.pdl_machine.specs.Arrays.{Arrays, array_in, with_new}
 use Rattle.pdl_machine.specs.State.{State, with_arrays, held}
 use Rattle.pdl_machine.specs.Outcome.{array, string, type_word, Given, all_seen, Outcome, made, viewed, Valued, new_root, new_view, view_placed, placed}
 use Rattle.pdl_ops.specs.Elementwise.{unary_each}
 use Rattle.pdl_machine.specs.Operators.{binary_each, values_for}
-use Rattle.pdl_machine.specs.Calls.{outcome, builtin_value, known_call, call_value}
+use Rattle.pdl_kernel.specs.Kernels.{Kernel}
+use Rattle.pdl_machine.specs.Kernels.{kernel_outputs, defined}
+use Rattle.pdl_machine.specs.Calls.{outcome, Callee, builtin, kernel, callee_of, only_root, value_by, call_value}
 use Rattle.pdl_machine.specs.Value.{Taken, known, number_made, value_of, taken}
 use Rattle.pdl_world.specs.Swept.{parents}
-use Rattle.pdl_machine.specs.Step.{Stepped, bind_value, bound, outputs_bound, list_bound, target, assigned, assigning, shown, effect}
+use Rattle.pdl_machine.specs.Step.{Stepped, bind_value, bound, roots_bound, outputs_bound, kernel_named, list_bound, target, assigned, assigning, shown, effect}
 use Rattle.pdl_machine.proofs.Renamed.{by_test}
 use Rattle.pdl_machine.proofs.Numbering.{in_world, AreIn, IsOrderly, IsInOrder}
 
@@ -106,10 +108,19 @@ later : (a b : Arrays) → Grows a b → (x : Valued) → IfOk x (FineValue b) �
 later a b g (Ok (c, v)) h = (grows_trans a b c g h.0, h.1)
 later a b g (Err e) h = tt
 
-call_fine : (f : List ℕ) (a : Arrays) (t : Arrays × List Given) → FineTaken a t → IfOk (call_value f t.0 t.1) (FineValue a)
-call_fine f a (b, given) h =
-    later a b h.0 (call_value f b given)
-    (ok_always (FineValue b) (known_call f) (λ c. builtin_value c b given) (λ c. placed_fine b given (outcome c (all_seen b given)) (self a b h.0) h.1))
+only_fine : (a : Arrays) (ms : List Made) → Grows a a → IfOk (only_root a ms) (FineValue a)
+only_fine a [] g = tt
+only_fine a (m ∷ []) g = root_fine a m g
+only_fine a (m ∷ n ∷ ms) g = tt
+
+value_by_fine : (a : Arrays) (given : List Given) (c : Callee) → Grows a a → AreGivenIn a.world given → IfOk (value_by a given c) (FineValue a)
+value_by_fine a given (builtin b) g h = placed_fine a given (outcome b (all_seen a given)) g h
+value_by_fine a given (kernel k) g h = ok_always (FineValue a) (kernel_outputs k 1 (all_seen a given)) (only_root a) (λ ms. only_fine a ms g)
+
+call_fine : (names : Names) (f : List ℕ) (a : Arrays) (t : Arrays × List Given) → FineTaken a t → IfOk (call_value names f t.0 t.1) (FineValue a)
+call_fine names f a (b, given) h =
+    later a b h.0 (call_value names f b given)
+    (ok_always (FineValue b) (callee_of names f) (value_by b given) (λ c. value_by_fine b given c (self a b h.0) h.1))
 
 given_still : (a b : Arrays) → Grows a b → (given : List Given) → AreGivenIn a.world given → AreGivenIn b.world given
 given_still a b g [] h = tt
@@ -121,10 +132,10 @@ given_more : (w : World) (given : List Given) (x : Given) → AreGivenIn w given
 given_more w [] x h here = (here, tt)
 given_more w (y ∷ given) x h here = (h.0, given_more w given x h.1 here)
 
-named_in : (w : World) (names : Names) (x : List ℕ) → AreIn w (map (λ n. n.1) names) → IfSome (number_of names x) (λ v. in_world w v ≡ true)
+named_in : (w : World) (names : Named ℕ) (x : List ℕ) → AreIn w (map (λ n. n.1) names) → IfSome (found names x) (λ v. in_world w v ≡ true)
 named_in w [] x h = tt
 named_in w (n ∷ names) x h =
-    let P : Bool → Type 0 = λ b. IfSome (if b then Some n.1 else number_of names x) (λ v. in_world w v ≡ true) in
+    let P : Bool → Type 0 = λ b. IfSome (if b then Some n.1 else found names x) (λ v. in_world w v ≡ true) in
     by_test (pointwise nat_eq x n.0) (λ same. subst P (sym same) h.0) (λ other. subst P (sym other) (named_in w names x h.1))
 
 known_fine : (a : Arrays) (o : Option ℕ) → Grows a a → IfSome o (λ v. in_world a.world v ≡ true) → IfOk (known a o) (FineValue a)
@@ -135,9 +146,9 @@ with_argument : Arrays → List Given → Given → Taken
 with_argument a given x = Ok (a, given ++ x ∷ [])
 
 mutual
-  value_fine : (names : Names) (e : Tree) (a : Arrays) → Grows a a → AreIn a.world (map (λ n. n.1) names) → IfOk (value_of names a e) (FineValue a)
+  value_fine : (names : Names) (e : Tree) (a : Arrays) → Grows a a → AreIn a.world (map (λ n. n.1) names.arrays) → IfOk (value_of names a e) (FineValue a)
   value_fine names (number n) a g h = root_fine a (number_made n) g
-  value_fine names (named x) a g h = known_fine a (number_of names x) g (named_in a.world names x h)
+  value_fine names (named x) a g h = known_fine a (number_of names x) g (named_in a.world names.arrays x h)
   value_fine names (literal ty ds es) a g h = root_fine a (record { ty = ty; dims = ds; elems = es }) g
   value_fine names (unary op e) a g h =
       ok_then (FineValue a) (FineValue a) (value_of names a e) (λ v. new_root v.0 (unary_each op (array_in v.0 v.1)))
@@ -147,19 +158,19 @@ mutual
       (value_fine names e a g h) (λ v fine.
       later a v.0 fine.0 (and_then (value_of names v.0 f) (λ u. and_then (binary_each op (array_in u.0 v.1) (array_in u.0 u.1)) (new_root u.0)))
       (ok_then (FineValue v.0) (FineValue v.0) (value_of names v.0 f) (λ u. and_then (binary_each op (array_in u.0 v.1) (array_in u.0 u.1)) (new_root u.0))
-      (value_fine names f v.0 (self a v.0 fine.0) (still_in a v.0 fine.0 (map (λ n. n.1) names) h)) (λ u right.
+      (value_fine names f v.0 (self a v.0 fine.0) (still_in a v.0 fine.0 (map (λ n. n.1) names.arrays) h)) (λ u right.
       later v.0 u.0 right.0 (and_then (binary_each op (array_in u.0 v.1) (array_in u.0 u.1)) (new_root u.0))
       (ok_always (FineValue u.0) (binary_each op (array_in u.0 v.1) (array_in u.0 u.1)) (new_root u.0) (λ m. root_fine u.0 m (self v.0 u.0 right.0))))))
   value_fine names (call f args) a g h =
-      ok_then (FineTaken a) (FineValue a) (taken names a args) (λ t. call_value f t.0 t.1) (taken_fine names args a g h) (call_fine f a)
+      ok_then (FineTaken a) (FineValue a) (taken names a args) (λ t. call_value names f t.0 t.1) (taken_fine names args a g h) (call_fine names f a)
 
-  taken_fine : (names : Names) (args : Args) (a : Arrays) → Grows a a → AreIn a.world (map (λ n. n.1) names) → IfOk (taken names a args) (FineTaken a)
+  taken_fine : (names : Names) (args : Args) (a : Arrays) → Grows a a → AreIn a.world (map (λ n. n.1) names.arrays) → IfOk (taken names a args) (FineTaken a)
   taken_fine names none a g h = (g, tt)
   taken_fine names (value front e) a g h =
       ok_then (FineTaken a) (FineTaken a) (taken names a front) (λ t. and_then (value_of names t.0 e) (λ v. Ok (v.0, t.1 ++ array v.1 ∷ [])))
       (taken_fine names front a g h) (λ t fine.
       ok_then (FineValue t.0) (FineTaken a) (value_of names t.0 e) (λ v. Ok (v.0, t.1 ++ array v.1 ∷ []))
-      (value_fine names e t.0 (self a t.0 fine.0) (still_in a t.0 fine.0 (map (λ n. n.1) names) h)) (λ v here.
+      (value_fine names e t.0 (self a t.0 fine.0) (still_in a t.0 fine.0 (map (λ n. n.1) names.arrays) h)) (λ v here.
       (grows_trans a t.0 v.0 fine.0 here.0, given_more v.0.world t.1 (array v.1) (given_still t.0 v.0 here.0 t.1 fine.1) here.1)))
   taken_fine names (text front t) a g h =
       ok_then (FineTaken a) (FineTaken a) (taken names a front) (λ x. Ok (x.0, x.1 ++ string t ∷ [])) (taken_fine names front a g h) (λ x fine. (fine.0, given_more x.0.world x.1 (string t) fine.1 tt))
@@ -179,36 +190,56 @@ grows_self s order = record { orderly = order.orderly; below = order.below; stil
 state_value_fine : (s : State) → IsInOrder s → (e : Tree) → IfOk (value_of s.names s.arrays e) (FineValue s.arrays)
 state_value_fine s order e = value_fine s.names e s.arrays (grows_self s order) order.inside
 
-with_name_in : (w : World) (names : Names) (x : List ℕ) (v : ℕ) → AreIn w (map (λ n. n.1) names) → in_world w v ≡ true → AreIn w (map (λ n. n.1) (with_name names x v))
+with_name_in : (w : World) (names : Named ℕ) (x : List ℕ) (v : ℕ) → AreIn w (map (λ n. n.1) names) → in_world w v ≡ true → AreIn w (map (λ n. n.1) (with_name names x v))
 with_name_in w [] x v h here = (here, tt)
 with_name_in w (n ∷ names) x v h here =
     let P : Bool → Type 0 = λ b. AreIn w (map (λ n. n.1) (if b then (n.0, v) ∷ names else n ∷ with_name names x v)) in
     by_test (pointwise nat_eq x n.0) (λ same. subst P (sym same) (here, h.1)) (λ other. subst P (sym other) (h.0, with_name_in w names x v h.1 here))
 
-bind_fine : (w : World) (names : Names) (x : List ℕ) (v : ℕ) → AreIn w (map (λ n. n.1) names) → in_world w v ≡ true → IfOk (bind_name names x v) (λ after. AreIn w (map (λ n. n.1) after))
-bind_fine w names x v h here = by_room (is_none (number_of names x) && not (nat_lt (length names) names_limit))
+bind_fine : (w : World) (names : Names) (x : List ℕ) (v : ℕ) → AreIn w (map (λ n. n.1) names.arrays) → in_world w v ≡ true → IfOk (bind_name names x v) (λ after. AreIn w (map (λ n. n.1) after.arrays))
+bind_fine w names x v h here = by_room (is_full_for names_limit names.arrays x)
   where
-    by_room : (b : Bool) → IfOk (if b then Err TooManyNames else Ok (with_name names x v)) (λ after. AreIn w (map (λ n. n.1) after))
+    by_room : (b : Bool) → IfOk (and_then (if b then Err TooManyNames else Ok (with_name names.arrays x v)) (λ bound. Ok (record names { arrays = bound }))) (λ after. AreIn w (map (λ n. n.1) after.arrays))
     by_room true = tt
-    by_room false = with_name_in w names x v h here
+    by_room false = with_name_in w names.arrays x v h here
+
+-- a kernel leaves the names of arrays
+define_fine : (s : State) (f : List ℕ) (k : Kernel) → IsInOrder s → IfOk (kernel_named s f k) FineStep
+define_fine s f k order = by_room (is_full_for kernels_limit s.names.kernels f)
+  where
+    by_room : (b : Bool) → IfOk (and_then (and_then (if b then Err TooManyKernels else Ok (with_name s.names.kernels f k)) (λ kernels. Ok (record s.names { kernels = kernels }))) (λ names. Ok (record s { names = names }, []))) FineStep
+    by_room true = tt
+    by_room false = record { orderly = order.orderly; below = order.below; inside = order.inside }
 
 bound_fine : (s : State) (x : List ℕ) → IsInOrder s → (valued : Valued) → IfOk valued (FineValue s.arrays) → IfOk (bound s x valued) FineStep
 bound_fine s x order valued fine =
     ok_then (FineValue s.arrays) FineStep valued (bind_value s x) fine (λ v here.
-    ok_then (λ after. AreIn v.0.world (map (λ n. n.1) after)) FineStep (bind_name s.names x v.1) (λ names. Ok (record s { names = names; arrays = v.0 }, []))
+    ok_then (λ after. AreIn v.0.world (map (λ n. n.1) after.arrays)) FineStep (bind_name s.names x v.1) (λ names. Ok (record s { names = names; arrays = v.0 }, []))
     (bind_fine v.0.world s.names x v.1 (still_in s.arrays v.0 here.0 (held s) order.inside) here.1)
     (λ names inside. record { orderly = here.0.orderly; below = here.0.below; inside = inside }))
 
-outputs_fine : (s : State) (xs : List (List ℕ)) → IsInOrder s → (valued : Valued) → IfOk valued (FineValue s.arrays) → IfOk (outputs_bound s xs valued) FineStep
-outputs_fine s [] order valued fine = tt
-outputs_fine s (x ∷ []) order valued fine = bound_fine s x order valued fine
-outputs_fine s (x ∷ y ∷ xs) order valued fine = tt
+roots_fine : (s : State) (xs : List (List ℕ)) (ms : List Made) → IsInOrder s → IfOk (roots_bound s xs ms) FineStep
+roots_fine s [] ms order = order
+roots_fine s (x ∷ xs) [] order = order
+roots_fine s (x ∷ xs) (m ∷ ms) order =
+    ok_then FineStep FineStep (bound s x (new_root s.arrays m)) (λ after. roots_bound after.0 xs ms)
+    (bound_fine s x order (new_root s.arrays m) (root_fine s.arrays m (grows_self s order))) (λ p fine. roots_fine p.0 xs ms fine)
+
+many_fine : (s : State) (xs : List (List ℕ)) (t : Arrays × List Given) (k : Kernel) → IsInOrder s → FineTaken s.arrays t
+    → IfOk (and_then (kernel_outputs k (length xs) (all_seen t.0 t.1)) (roots_bound (with_arrays s t.0) xs)) FineStep
+many_fine s xs (b, given) k order fine =
+    ok_always FineStep (kernel_outputs k (length xs) (all_seen b given)) (roots_bound (with_arrays s b) xs) (λ ms. roots_fine (with_arrays s b) xs ms (state_fine s b order fine.0))
+
+outputs_fine : (s : State) (xs : List (List ℕ)) (t : Arrays × List Given) (c : Callee) → IsInOrder s → FineTaken s.arrays t → IfOk (outputs_bound s xs t c) FineStep
+outputs_fine s (x ∷ []) (b, given) c order fine =
+    bound_fine s x order (value_by b given c) (later s.arrays b fine.0 (value_by b given c) (value_by_fine b given c (self s.arrays b fine.0) fine.1))
+outputs_fine s [] t (builtin b) order fine = tt
+outputs_fine s (x ∷ y ∷ xs) t (builtin b) order fine = tt
+outputs_fine s [] t (kernel k) order fine = many_fine s [] t k order fine
+outputs_fine s (x ∷ y ∷ xs) t (kernel k) order fine = many_fine s (x ∷ y ∷ xs) t k order fine
 
 list_fine : (s : State) (xs : List (List ℕ)) (f : List ℕ) → IsInOrder s → (t : Arrays × List Given) → FineTaken s.arrays t → IfOk (list_bound s xs f t) FineStep
-list_fine s xs f order (b, given) fine =
-    ok_always FineStep (known_call f) (λ c. outputs_bound s xs (builtin_value c b given)) (λ c.
-    outputs_fine s xs order (builtin_value c b given)
-    (later s.arrays b fine.0 (builtin_value c b given) (placed_fine b given (outcome c (all_seen b given)) (self s.arrays b fine.0) fine.1)))
+list_fine s xs f order t fine = ok_always FineStep (callee_of s.names f) (outputs_bound s xs t) (λ c. outputs_fine s xs t c order fine)
 
 below_set : (n : ℕ) (w : World) (r : ℕ) (es : List ℤ) → NumbersBelow n w → NumbersBelow n (set_elements w r es)
 below_set n [] r new below = tt
@@ -271,6 +302,6 @@ effect_in_order s order vars = order
 effect_in_order s order (sever x) = tt
 effect_in_order s order (reshape x args) = tt
 effect_in_order s order (undef x) = tt
-effect_in_order s order (pp_def a b d) = tt
+effect_in_order s order (pp_def f a b) = ok_always FineStep (defined f a b) (kernel_named s f) (λ k. define_fine s f k order)
 effect_in_order s order (watch x k) = tt
 effect_in_order s order (unwatch k) = tt

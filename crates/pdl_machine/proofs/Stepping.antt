@@ -12,19 +12,21 @@ use Rattle.pdl_lexemes.specs.declared.AssignOp.{AssignOp}
 use Rattle.pdl_syntax.specs.Tree.{Tree, Args, number, named, literal, unary, binary, call, none, value, text, of_type}
 use Rattle.pdl_syntax.specs.StatementTree.{StatementTree, bind, bind_list, assign, show, show_text, sever, reshape, undef, vars, pp_def, watch, unwatch}
 use Rattle.pdl_machine.specs.declared.fault.Fault.{Fault}
-use Rattle.pdl_machine.specs.declared.fault.Fault.TheVariants.{TooManyNames}
+use Rattle.pdl_machine.specs.declared.fault.Fault.TheVariants.{TooManyNames, TooManyKernels}
 use Rattle.pdl_machine.specs.declared.builtin.Builtin.{Builtin}
 use Rattle.pdl_machine.specs.Then.{and_then}
-use Rattle.pdl_machine.specs.Names.{Names, number_of, with_name, bind as bind_name, names_limit}
+use Rattle.pdl_machine.specs.Names.{Named, Names, found, number_of, with_name, is_full_for, bind as bind_name, define, names_limit, kernels_limit}
 use Rattle.pdl_machine.specs.Arrays.{Arrays, array_in}
 use Rattle.pdl_machine.specs.State.{State, with_arrays}
 use Rattle.pdl_machine.specs.Outcome.{array, string, type_word, Given, Seen, seen, all_seen, Outcome, made, viewed, Valued, new_root, new_view, view_placed, placed}
 use Rattle.pdl_ops.specs.Elementwise.{unary_each}
 use Rattle.pdl_machine.specs.Operators.{binary_each, values_for}
-use Rattle.pdl_machine.specs.Calls.{outcome, builtin_value, known_call, call_value}
+use Rattle.pdl_kernel.specs.Kernels.{Kernel}
+use Rattle.pdl_machine.specs.Kernels.{kernel_outputs, defined}
+use Rattle.pdl_machine.specs.Calls.{outcome, builtin_value, Callee, builtin, kernel, callee_of, only_root, value_by, call_value}
 use Rattle.pdl_machine.specs.Value.{Taken, known, number_made, value_of, taken}
-use Rattle.pdl_machine.specs.Tidy.{with_numbers}
-use Rattle.pdl_machine.specs.Step.{Stepped, bind_value, bound, outputs_bound, list_bound, target, assigned, assigning, info_line, printed, shown, name_line, effect}
+use Rattle.pdl_machine.specs.Tidy.{renumbered, with_numbers}
+use Rattle.pdl_machine.specs.Step.{Stepped, bind_value, bound, roots_bound, outputs_bound, kernel_named, list_bound, target, assigned, assigning, info_line, printed, shown, name_line, effect}
 use Rattle.pdl_machine.proofs.Renamed.{by_test, AreAlike, StateAlike, view_refusal_renamed, assign_renamed, array_alike, new_alike}
 use Rattle.pdl_machine.proofs.Both.{Both, both_then, both_same}
 
@@ -83,8 +85,23 @@ builtin_alike g f (a, given) (b, others) h =
     let Q : List Seen → Type 0 = λ x. Both (ValueAlike g) (builtin_value f a given) (placed b (all_given_by g given) (outcome f x)) in
     subst P (sym h.1) (subst Q (sym (all_seen_alike g a b h.0 given)) (placed_alike g a b h.0 given (outcome f (all_seen a given))))
 
-call_alike : (g : ℕ → ℕ) (f : List ℕ) (t u : Arrays × List Given) → TakenAlike g t u → Both (ValueAlike g) (call_value f t.0 t.1) (call_value f u.0 u.1)
-call_alike g f t u h = both_same (ValueAlike g) (known_call f) (λ b. builtin_value b t.0 t.1) (λ b. builtin_value b u.0 u.1) (λ b. builtin_alike g b t u h)
+-- and so it does where they were evaluated
+taken_seen : (g : ℕ → ℕ) (t u : Arrays × List Given) → TakenAlike g t u → all_seen u.0 u.1 ≡ all_seen t.0 t.1
+taken_seen g (a, given) (b, others) h = ap (all_seen b) h.1 ∙ all_seen_alike g a b h.0 given
+
+only_alike : (g : ℕ → ℕ) (a b : Arrays) → AreAlike g a b → (ms : List Made) → Both (ValueAlike g) (only_root a ms) (only_root b ms)
+only_alike g a b h [] = refl
+only_alike g a b h (m ∷ []) = root_alike g a b h m
+only_alike g a b h (m ∷ n ∷ ms) = refl
+
+value_by_alike : (g : ℕ → ℕ) (t u : Arrays × List Given) → TakenAlike g t u → (c : Callee) → Both (ValueAlike g) (value_by t.0 t.1 c) (value_by u.0 u.1 c)
+value_by_alike g t u h (builtin f) = builtin_alike g f t u h
+value_by_alike g t u h (kernel k) =
+    let P : List Seen → Type 0 = λ x. Both (ValueAlike g) (value_by t.0 t.1 (kernel k)) (and_then (kernel_outputs k 1 x) (only_root u.0)) in
+    subst P (sym (taken_seen g t u h)) (both_same (ValueAlike g) (kernel_outputs k 1 (all_seen t.0 t.1)) (only_root t.0) (only_root u.0) (only_alike g t.0 u.0 h.0))
+
+call_alike : (g : ℕ → ℕ) (names : Names) (f : List ℕ) (t u : Arrays × List Given) → TakenAlike g t u → Both (ValueAlike g) (call_value names f t.0 t.1) (call_value (with_numbers g names) f u.0 u.1)
+call_alike g names f t u h = both_same (ValueAlike g) (callee_of names f) (value_by t.0 t.1) (value_by u.0 u.1) (value_by_alike g t u h)
 
 given_snoc : (g : ℕ → ℕ) (given : List Given) (x : Given) → all_given_by g (given ++ x ∷ []) ≡ all_given_by g given ++ given_by g x ∷ []
 given_snoc g [] x = refl
@@ -99,10 +116,13 @@ more_alike : (g : ℕ → ℕ) (a b : Arrays) (given others : List Given) (x y :
 more_alike g a b given others x y h same_front same =
     (h, ap (λ o. o ++ y ∷ []) same_front ∙ ap (λ z. all_given_by g given ++ z ∷ []) same ∙ sym (given_snoc g given x))
 
+found_alike : (g : ℕ → ℕ) (names : Named ℕ) (x : List ℕ) → found (renumbered g names) x ≡ option_map g (found names x)
+found_alike g [] x = refl
+found_alike g (n ∷ names) x =
+    by_test (pointwise nat_eq x n.0) (λ same. rw same refl) (λ other. rw other (found_alike g names x))
+
 pub number_of_alike : (g : ℕ → ℕ) (names : Names) (x : List ℕ) → number_of (with_numbers g names) x ≡ option_map g (number_of names x)
-number_of_alike g [] x = refl
-number_of_alike g (n ∷ names) x =
-    by_test (pointwise nat_eq x n.0) (λ same. rw same refl) (λ other. rw other (number_of_alike g names x))
+number_of_alike g names x = found_alike g names.arrays x
 
 known_alike : (g : ℕ → ℕ) (a b : Arrays) → AreAlike g a b → (o : Option ℕ) → Both (ValueAlike g) (known a o) (known b (option_map g o))
 known_alike g a b h None = refl
@@ -144,8 +164,8 @@ mutual
       (λ u. and_then (binary_each op (array_in u.0 v.1) (array_in u.0 u.1)) (new_root u.0)) (λ u. and_then (binary_each op (array_in u.0 w.1) (array_in u.0 u.1)) (new_root u.0))
       (value_alike g names f v.0 w.0 together.0) (λ x y. binary_alike g (binary_each op) v.1 w.1 x y together.1))
   value_alike g names (call f args) a b h =
-      both_then (TakenAlike g) (ValueAlike g) (taken names a args) (taken (with_numbers g names) b args) (λ t. call_value f t.0 t.1) (λ t. call_value f t.0 t.1)
-      (taken_alike g names args a b h) (call_alike g f)
+      both_then (TakenAlike g) (ValueAlike g) (taken names a args) (taken (with_numbers g names) b args) (λ t. call_value names f t.0 t.1) (λ t. call_value (with_numbers g names) f t.0 t.1)
+      (taken_alike g names args a b h) (call_alike g names f)
 
   -- and so are arguments
   pub taken_alike : (g : ℕ → ℕ) (names : Names) (args : Args) (a b : Arrays) → AreAlike g a b → Both (TakenAlike g) (taken names a args) (taken (with_numbers g names) b args)
@@ -167,7 +187,7 @@ mutual
 abbrev pub StepAlike : (ℕ → ℕ) → State × List ℕ → State × List ℕ → Type 0
 StepAlike g (s, printed) (t, other) = StateAlike g s t × (printed ≡ other)
 
-length-numbers : (g : ℕ → ℕ) (names : Names) → length (with_numbers g names) ≡ length names
+length-numbers : (g : ℕ → ℕ) (names : Named ℕ) → length (renumbered g names) ≡ length names
 length-numbers g [] = refl
 length-numbers g (n ∷ names) = ap suc (length-numbers g names)
 
@@ -175,25 +195,29 @@ is_none-map : (g : ℕ → ℕ) (o : Option ℕ) → is_none (option_map g o) �
 is_none-map g None = refl
 is_none-map g (Some v) = refl
 
-with_name_alike : (g : ℕ → ℕ) (names : Names) (x : List ℕ) (v : ℕ) → with_name (with_numbers g names) x (g v) ≡ with_numbers g (with_name names x v)
+with_name_alike : (g : ℕ → ℕ) (names : Named ℕ) (x : List ℕ) (v : ℕ) → with_name (renumbered g names) x (g v) ≡ renumbered g (with_name names x v)
 with_name_alike g [] x v = refl
 with_name_alike g (n ∷ names) x v =
     by_test (pointwise nat_eq x n.0) (λ same. rw same refl) (λ other. rw other (ap (λ y. (n.0, g n.1) ∷ y) (with_name_alike g names x v)))
 
+full_alike : (g : ℕ → ℕ) (limit : ℕ) (names : Named ℕ) (x : List ℕ) → is_full_for limit (renumbered g names) x ≡ is_full_for limit names x
+full_alike g limit names x =
+    ap (λ o. is_none o && not (nat_lt (length (renumbered g names)) limit)) (found_alike g names x)
+    ∙ ap (λ b. b && not (nat_lt (length (renumbered g names)) limit)) (is_none-map g (found names x))
+    ∙ ap (λ n. is_none (found names x) && not (nat_lt n limit)) (length-numbers g names)
+
 -- the same binding of a name on both sides
 bind_alike : (g : ℕ → ℕ) (names : Names) (x : List ℕ) (v : ℕ) → Both (λ n m. m ≡ with_numbers g n) (bind_name names x v) (bind_name (with_numbers g names) x (g v))
 bind_alike g names x v =
-    let P : Bool → Type 0 = λ b. Both (λ n m. m ≡ with_numbers g n) (bind_name names x v) (if b then Err TooManyNames else Ok (with_name (with_numbers g names) x (g v))) in
-    subst P (sym room) (by_room (is_none (number_of names x) && not (nat_lt (length names) names_limit)))
+    let P : Bool → Type 0 = λ b. Both (λ n m. m ≡ with_numbers g n) (bind_name names x v) (and_then (if b then Err TooManyNames else Ok (with_name (renumbered g names.arrays) x (g v))) (λ bound. Ok (other bound))) in
+    subst P (sym (full_alike g names_limit names.arrays x)) (by_room (is_full_for names_limit names.arrays x))
   where
-    room : (is_none (number_of (with_numbers g names) x) && not (nat_lt (length (with_numbers g names)) names_limit)) ≡ (is_none (number_of names x) && not (nat_lt (length names) names_limit))
-    room = ap (λ o. is_none o && not (nat_lt (length (with_numbers g names)) names_limit)) (number_of_alike g names x)
-        ∙ ap (λ b. b && not (nat_lt (length (with_numbers g names)) names_limit)) (is_none-map g (number_of names x))
-        ∙ ap (λ n. is_none (number_of names x) && not (nat_lt n names_limit)) (length-numbers g names)
+    other : Named ℕ → Names
+    other bound = record names { arrays = bound }
 
-    by_room : (b : Bool) → Both (λ n m. m ≡ with_numbers g n) (if b then Err TooManyNames else Ok (with_name names x v)) (if b then Err TooManyNames else Ok (with_name (with_numbers g names) x (g v)))
+    by_room : (b : Bool) → Both (λ n m. m ≡ with_numbers g n) (and_then (if b then Err TooManyNames else Ok (with_name names.arrays x v)) (λ bound. Ok (other bound))) (and_then (if b then Err TooManyNames else Ok (with_name (renumbered g names.arrays) x (g v))) (λ bound. Ok (other bound)))
     by_room true = refl
-    by_room false = with_name_alike g names x v
+    by_room false = ap other (with_name_alike g names.arrays x v)
 
 bind_value_alike : (g : ℕ → ℕ) (s t : State) → StateAlike g s t → (x : List ℕ) (v w : Arrays × ℕ) → ValueAlike g v w → Both (StepAlike g) (bind_value s x v) (bind_value t x w)
 bind_value_alike g s t h x (a, v) (b, w) together =
@@ -206,15 +230,33 @@ bind_value_alike g s t h x (a, v) (b, w) together =
 bound_alike : (g : ℕ → ℕ) (s t : State) → StateAlike g s t → (x : List ℕ) (v w : Valued) → Both (ValueAlike g) v w → Both (StepAlike g) (bound s x v) (bound t x w)
 bound_alike g s t h x v w together = both_then (ValueAlike g) (StepAlike g) v w (bind_value s x) (bind_value t x) together (bind_value_alike g s t h x)
 
-outputs_alike : (g : ℕ → ℕ) (s t : State) → StateAlike g s t → (xs : List (List ℕ)) (v w : Valued) → Both (ValueAlike g) v w → Both (StepAlike g) (outputs_bound s xs v) (outputs_bound t xs w)
-outputs_alike g s t h [] v w together = refl
-outputs_alike g s t h (x ∷ []) v w together = bound_alike g s t h x v w together
-outputs_alike g s t h (x ∷ y ∷ xs) v w together = refl
+roots_alike : (g : ℕ → ℕ) (s t : State) → StateAlike g s t → (xs : List (List ℕ)) (ms : List Made) → Both (StepAlike g) (roots_bound s xs ms) (roots_bound t xs ms)
+roots_alike g s t h [] ms = (h, refl)
+roots_alike g s t h (x ∷ xs) [] = (h, refl)
+roots_alike g s t h (x ∷ xs) (m ∷ ms) =
+    both_then (StepAlike g) (StepAlike g) (bound s x (new_root s.arrays m)) (bound t x (new_root t.arrays m)) (λ after. roots_bound after.0 xs ms) (λ after. roots_bound after.0 xs ms)
+    (bound_alike g s t h x (new_root s.arrays m) (new_root t.arrays m) (root_alike g s.arrays t.arrays h.arrays m)) (λ p q alike. roots_alike g p.0 q.0 alike.0 xs ms)
+
+-- the outputs of a kernel bound on both sides
+many_alike : (g : ℕ → ℕ) (s t : State) → StateAlike g s t → (xs : List (List ℕ)) (v w : Arrays × List Given) → TakenAlike g v w → (k : Kernel)
+    → Both (StepAlike g) (and_then (kernel_outputs k (length xs) (all_seen v.0 v.1)) (roots_bound (with_arrays s v.0) xs)) (and_then (kernel_outputs k (length xs) (all_seen w.0 w.1)) (roots_bound (with_arrays t w.0) xs))
+many_alike g s t h xs v w together k =
+    let given = kernel_outputs k (length xs) (all_seen v.0 v.1) in
+    let P : List Seen → Type 0 = λ x. Both (StepAlike g) (and_then given (roots_bound (with_arrays s v.0) xs)) (and_then (kernel_outputs k (length xs) x) (roots_bound (with_arrays t w.0) xs)) in
+    let alike : StateAlike g (with_arrays s v.0) (with_arrays t w.0) = record { arrays = together.0; names = h.names } in
+    subst P (sym (taken_seen g v w together)) (both_same (StepAlike g) given (roots_bound (with_arrays s v.0) xs) (roots_bound (with_arrays t w.0) xs) (roots_alike g (with_arrays s v.0) (with_arrays t w.0) alike xs))
+
+outputs_alike : (g : ℕ → ℕ) (s t : State) → StateAlike g s t → (xs : List (List ℕ)) (v w : Arrays × List Given) → TakenAlike g v w → (c : Callee) → Both (StepAlike g) (outputs_bound s xs v c) (outputs_bound t xs w c)
+outputs_alike g s t h (x ∷ []) v w together c = bound_alike g s t h x (value_by v.0 v.1 c) (value_by w.0 w.1 c) (value_by_alike g v w together c)
+outputs_alike g s t h [] v w together (builtin b) = refl
+outputs_alike g s t h (x ∷ y ∷ xs) v w together (builtin b) = refl
+outputs_alike g s t h [] v w together (kernel k) = many_alike g s t h [] v w together k
+outputs_alike g s t h (x ∷ y ∷ xs) v w together (kernel k) = many_alike g s t h (x ∷ y ∷ xs) v w together k
 
 list_alike : (g : ℕ → ℕ) (s t : State) → StateAlike g s t → (xs : List (List ℕ)) (f : List ℕ) (v w : Arrays × List Given) → TakenAlike g v w → Both (StepAlike g) (list_bound s xs f v) (list_bound t xs f w)
 list_alike g s t h xs f v w together =
-    both_same (StepAlike g) (known_call f) (λ b. outputs_bound s xs (builtin_value b v.0 v.1)) (λ b. outputs_bound t xs (builtin_value b w.0 w.1))
-    (λ b. outputs_alike g s t h xs (builtin_value b v.0 v.1) (builtin_value b w.0 w.1) (builtin_alike g b v w together))
+    let P : Names → Type 0 = λ names. Both (StepAlike g) (list_bound s xs f v) (and_then (callee_of names f) (outputs_bound t xs w)) in
+    subst P (sym h.names) (both_same (StepAlike g) (callee_of s.names f) (outputs_bound s xs v) (outputs_bound t xs w) (outputs_alike g s t h xs v w together))
 
 -- the state's value on both sides
 state_value_alike : (g : ℕ → ℕ) (s t : State) → StateAlike g s t → (e : Tree) → Both (ValueAlike g) (value_of s.names s.arrays e) (value_of t.names t.arrays e)
@@ -255,11 +297,26 @@ shown_alike : (g : ℕ → ℕ) (s t : State) → StateAlike g s t → (is_info 
 shown_alike g s t h is_info (a, v) (b, w) both =
     (record { arrays = both.0; names = h.names }, ap (printed is_info) (sym (ap (array_in b) both.1 ∙ array_alike g a b both.0 v)))
 
-lines_alike : (g : ℕ → ℕ) (a b : Arrays) → AreAlike g a b → (names : Names) → flat_map (name_line a) names ≡ flat_map (name_line b) (with_numbers g names)
+lines_alike : (g : ℕ → ℕ) (a b : Arrays) → AreAlike g a b → (names : Named ℕ) → flat_map (name_line a) names ≡ flat_map (name_line b) (renumbered g names)
 lines_alike g a b h [] = refl
 lines_alike g a b h (n ∷ names) =
     ap (λ m. (n.0 ++ codes " " ++ info_line m) ++ flat_map (name_line a) names) (sym (array_alike g a b h n.1))
     ∙ ap (λ t. name_line b (n.0, g n.1) ++ t) (lines_alike g a b h names)
+
+-- the definition of a kernel on both sides
+define_alike : (g : ℕ → ℕ) (s t : State) → StateAlike g s t → (f : List ℕ) (k : Kernel) → Both (StepAlike g) (kernel_named s f k) (kernel_named t f k)
+define_alike g s t h f k =
+    let P : Names → Type 0 = λ names. Both (StepAlike g) (kernel_named s f k) (and_then (define names f k) (λ after. Ok (record t { names = after }, []))) in
+    subst P (sym h.names) (by_room (is_full_for kernels_limit s.names.kernels f))
+  where
+    step_of : State → Names → Result (Named Kernel) Fault → Stepped
+    step_of u names x = and_then (and_then x (λ kernels. Ok (record names { kernels = kernels }))) (λ after. Ok (record u { names = after }, []))
+
+    by_room : (b : Bool) → Both (StepAlike g)
+        (step_of s s.names (if b then Err TooManyKernels else Ok (with_name s.names.kernels f k)))
+        (step_of t (with_numbers g s.names) (if b then Err TooManyKernels else Ok (with_name s.names.kernels f k)))
+    by_room true = refl
+    by_room false = (record { arrays = h.arrays; names = refl }, refl)
 
 -- a statement does the same on both sides
 pub effect_alike : (g : ℕ → ℕ) (s t : State) → StateAlike g s t → (statement : StatementTree) → Both (StepAlike g) (effect s statement) (effect t statement)
@@ -279,10 +336,10 @@ effect_alike g s t h (show e is_info) =
     both_then (ValueAlike g) (StepAlike g) (value_of s.names s.arrays e) (value_of t.names t.arrays e) (λ v. Ok (shown s is_info v)) (λ v. Ok (shown t is_info v))
     (state_value_alike g s t h e) (shown_alike g s t h is_info)
 effect_alike g s t h (show_text x) = (h, refl)
-effect_alike g s t h vars = (h, lines_alike g s.arrays t.arrays h.arrays s.names ∙ ap (flat_map (name_line t.arrays)) (sym h.names))
+effect_alike g s t h vars = (h, lines_alike g s.arrays t.arrays h.arrays s.names.arrays ∙ ap (λ names. flat_map (name_line t.arrays) names.arrays) (sym h.names))
 effect_alike g s t h (sever x) = refl
 effect_alike g s t h (reshape x args) = refl
 effect_alike g s t h (undef x) = refl
-effect_alike g s t h (pp_def a b d) = refl
+effect_alike g s t h (pp_def f a b) = both_same (StepAlike g) (defined f a b) (kernel_named s f) (kernel_named t f) (define_alike g s t h f)
 effect_alike g s t h (watch x k) = refl
 effect_alike g s t h (unwatch k) = refl

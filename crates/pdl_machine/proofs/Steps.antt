@@ -134,7 +134,7 @@ reached_back g apart w hs k (parent_of v p t there r) i same =
 tidied_reached : (s : State) → IsInOrder s → AreAllReached (tidy s)
 tidied_reached s order k d there =
     let g = former_numbers s in
-    let held_is : held s ≡ map g (held (tidy s)) = ap (map (λ n. n.1)) (tidied_alike s order).names ∙ held_renamed g (tidy s).names in
+    let held_is : held s ≡ map g (held (tidy s)) = ap (λ names. map (λ n. n.1) names.arrays) (tidied_alike s order).names ∙ held_renamed g (tidy s).names.arrays in
     let P : World → Type 0 = λ u. Has u (g k) (with_parent g d) → IsReached u (held s) (g k) in
     let Q : List ℕ → Type 0 = λ hs. IsReached (renamed g (tidy s).arrays.world) hs (g k) in
     let in_renamed = subst P (swept_is s order) (swept_reached s.arrays.world (held s) (g k) (with_parent g d)) (has_renamed g (tidy s).arrays.world k d there) in

@@ -2,10 +2,11 @@
 use Rattle.std.proofs.Common.{◌≡◌, ◌≢◌, ℕ, suc, List, [], ◌∷◌, ◌++◌, length, map, Bool, true, false, refl, sym, ap, subst, ◌∙◌, eqb-true}
 use Rattle.std.specs.Prelude.{◌==◌, ◌||◌, if◌then◌else◌}
 use Rattle.pdl_world.specs.World.{World, ArrayDef, root, view}
-use Rattle.pdl_machine.specs.Names.{Names}
+use Rattle.pdl_kernel.specs.Kernels.{Kernel}
+use Rattle.pdl_machine.specs.Names.{Named, Names}
 use Rattle.pdl_machine.specs.State.{State, held}
 use Rattle.pdl_world.specs.Swept.{holds, parents, kept_onto, sweep}
-use Rattle.pdl_machine.specs.Tidy.{older, with_parent, renumber, with_numbers, tidy}
+use Rattle.pdl_machine.specs.Tidy.{older, with_parent, renumber, renumbered, with_numbers, tidy}
 use Rattle.pdl_machine.proofs.Renamed.{by_test, IsApart, same_test, Renames, empty, more, same, StateAlike}
 
 -- a world under other numbers
@@ -68,27 +69,31 @@ renumber_renamed g apart ((i, d) ∷ w) = three (length-renamed g w) (parent_ren
     three : {n m : ℕ} {x y : ArrayDef} {u v : World} → n ≡ m → x ≡ y → u ≡ v → entry n x u ≡ entry m y v
     three p q s = cc
 
-names_renamed : (g : ℕ → ℕ) → IsApart g → (w : World) (names : Names) → with_numbers (older (renamed g w)) (with_numbers g names) ≡ with_numbers (older w) names
+names_renamed : (g : ℕ → ℕ) → IsApart g → (w : World) (names : Named ℕ) → renumbered (older (renamed g w)) (renumbered g names) ≡ renumbered (older w) names
 names_renamed g apart w [] = refl
 names_renamed g apart w (n ∷ names) =
-    ap (λ v. (n.0, v) ∷ with_numbers (older (renamed g w)) (with_numbers g names)) (older_renamed g apart w n.1) ∙ ap (λ rest. (n.0, older w n.1) ∷ rest) (names_renamed g apart w names)
+    ap (λ v. (n.0, v) ∷ renumbered (older (renamed g w)) (renumbered g names)) (older_renamed g apart w n.1) ∙ ap (λ rest. (n.0, older w n.1) ∷ rest) (names_renamed g apart w names)
 
-pub held_renamed : (g : ℕ → ℕ) (names : Names) → map (λ n. n.1) (with_numbers g names) ≡ map g (map (λ n. n.1) names)
+pub held_renamed : (g : ℕ → ℕ) (names : Named ℕ) → map (λ n. n.1) (renumbered g names) ≡ map g (map (λ n. n.1) names)
 held_renamed g [] = refl
 held_renamed g (n ∷ names) = ap (λ rest. g n.1 ∷ rest) (held_renamed g names)
 
 abbrev pub state_of : Names → World → ℕ → State
 state_of names w n = record { names = names; arrays = record { world = w; next = n } }
 
+-- arrays' names beside kernels
+abbrev beside : Named Kernel → Named ℕ → Names
+beside ks bound = record { arrays = bound; kernels = ks }
+
 -- states that are alike are the same once they are tidied
 pub tidy_alike : (g : ℕ → ℕ) (s t : State) → StateAlike g s t → tidy t ≡ tidy s
 tidy_alike g s t h =
     let apart : IsApart g = h.arrays.apart in
     let u : World = sweep s.arrays.world (held s) in
-    let held_same : held t ≡ map g (held s) = ap (map (λ n. n.1)) h.names ∙ held_renamed g s.names in
+    let held_same : held t ≡ map g (held s) = ap (λ names. map (λ n. n.1) names.arrays) h.names ∙ held_renamed g s.names.arrays in
     let swept : sweep t.arrays.world (held t) ≡ renamed g u = ap (sweep t.arrays.world) held_same ∙ sweep_renamed g apart h.arrays.world (held s) in
     let names : with_numbers (older (sweep t.arrays.world (held t))) t.names ≡ with_numbers (older u) s.names =
-    ap (λ w. with_numbers (older w) t.names) swept ∙ ap (with_numbers (older (renamed g u))) h.names ∙ names_renamed g apart u s.names in
+    ap (λ w. with_numbers (older w) t.names) swept ∙ ap (with_numbers (older (renamed g u))) h.names ∙ ap (beside s.names.kernels) (names_renamed g apart u s.names.arrays) in
     let world : renumber (sweep t.arrays.world (held t)) ≡ renumber u = ap renumber swept ∙ renumber_renamed g apart u in
     let next : length (sweep t.arrays.world (held t)) ≡ length u = ap length swept ∙ length-renamed g u in
     all_same names world next

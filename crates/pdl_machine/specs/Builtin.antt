@@ -3,10 +3,22 @@ use Rattle.std.specs.Prelude.{ℕ, List, [], ◌∷◌, codes, Option}
 use Rattle.pdl_elem.specs.declared.Ty.TheVariants.{Byte, Short, Ushort, Long, Longlong}
 use Rattle.pdl_lexemes.specs.Lexing.{found_in}
 use Rattle.pdl_ops.specs.declared.fills.Fill.TheVariants.{Zeroes, Ones, Sequence, Xvals, Yvals}
+use Rattle.pdl_reduce.specs.declared.Reduction.TheVariants.{Sumover, Prodover, Maximum, Minimum, MaximumInd, MinimumInd, Cumusumover, Cumuprodover}
+use Rattle.pdl_reduce.specs.declared.Whole.TheVariants.{Sum, Prod, Max, Min, All, Any}
+use Rattle.pdl_reduce.specs.declared.Pairing.TheVariants.{Inner, Outer, Matmult}
 use Rattle.pdl_machine.specs.declared.builtin.Builtin.{Builtin}
-use Rattle.pdl_machine.specs.declared.builtin.Builtin.TheVariants.{Filled, Told, Dim, Slice, Arranged, Index, Where, Range}
+use Rattle.pdl_machine.specs.declared.builtin.Builtin.TheVariants.{Filled, Told, Dim, Slice, Arranged, Index, Where, Range, Reduced, Whole, Paired}
 use Rattle.pdl_machine.specs.declared.builtin.Inquiry.TheVariants.{Copy, Convert, Nelem, Ndims, Shape, Which}
 use Rattle.pdl_machine.specs.declared.builtin.Arrangement.TheVariants.{Xchg, Mv, Reorder, Dummy, Diagonal, Clump, Flat, Squeeze}
+
+-- reductions and products by their names
+abbrev pub reductions : List (List ℕ × Builtin)
+reductions =
+    (codes "sumover", Reduced Sumover) ∷ (codes "prodover", Reduced Prodover) ∷ (codes "cumusumover", Reduced Cumusumover)
+    ∷ (codes "cumuprodover", Reduced Cumuprodover) ∷ (codes "maximum", Reduced Maximum) ∷ (codes "minimum", Reduced Minimum)
+    ∷ (codes "maximum_ind", Reduced MaximumInd) ∷ (codes "minimum_ind", Reduced MinimumInd) ∷ (codes "sum", Whole Sum)
+    ∷ (codes "prod", Whole Prod) ∷ (codes "max", Whole Max) ∷ (codes "min", Whole Min) ∷ (codes "all", Whole All)
+    ∷ (codes "any", Whole Any) ∷ (codes "inner", Paired Inner) ∷ (codes "outer", Paired Outer) ∷ (codes "matmult", Paired Matmult) ∷ []
 
 -- the built-in calls by their names
 abbrev pub builtins : List (List ℕ × Builtin)
@@ -18,7 +30,7 @@ builtins =
     ∷ (codes "which", Told Which) ∷ (codes "dim", Dim) ∷ (codes "slice", Slice) ∷ (codes "xchg", Arranged Xchg)
     ∷ (codes "mv", Arranged Mv) ∷ (codes "reorder", Arranged Reorder) ∷ (codes "dummy", Arranged Dummy)
     ∷ (codes "diagonal", Arranged Diagonal) ∷ (codes "clump", Arranged Clump) ∷ (codes "flat", Arranged Flat)
-    ∷ (codes "squeeze", Arranged Squeeze) ∷ (codes "index", Index) ∷ (codes "where", Where) ∷ (codes "range", Range) ∷ []
+    ∷ (codes "squeeze", Arranged Squeeze) ∷ (codes "index", Index) ∷ (codes "where", Where) ∷ (codes "range", Range) ∷ reductions
 
 -- the built-in call of this name, if there is one
 abbrev pub builtin_of : List ℕ → Option Builtin

@@ -2,13 +2,15 @@ pub mod Fault
 pub mod Then
 pub mod Refused
 pub mod Builtin
-pub mod Names
 pub mod Arrays
-pub mod State
 pub mod Outcome
+pub mod Kernels
+pub mod Names
+pub mod State
 pub mod Fills
 pub mod Inquiries
 pub mod Views
+pub mod Reductions
 pub mod Operators
 pub mod Calls
 pub mod Value

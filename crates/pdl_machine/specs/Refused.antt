@@ -2,9 +2,10 @@
 use Rattle.std.specs.Prelude.{Result, Ok, Err}
 use Rattle.pdl_shape.specs.Refusals.{Refusal, bad_dimension, mismatch, out_of_range, too_many_dims, too_large}
 use Rattle.pdl_ops.specs.Elementwise.{OpRefusal, no_dims, zero_divisor}
+use Rattle.pdl_reduce.specs.Refusals as reduce
 use Rattle.pdl_world.specs.Refused.{NoView, refused, too_deep}
 use Rattle.pdl_machine.specs.declared.fault.Fault.{Fault}
-use Rattle.pdl_machine.specs.declared.fault.Fault.TheVariants.{BadDimension, Mismatch, OutOfRange, TooManyDims, TooLarge, TooDeep, DivideByZero}
+use Rattle.pdl_machine.specs.declared.fault.Fault.TheVariants.{BadDimension, Mismatch, OutOfRange, TooManyDims, TooLarge, TooDeep, DivideByZero, TooMuchWork, EmptyReduce}
 
 -- the fault that names why there are no such dimensions
 abbrev pub shape_fault : Refusal → Fault
@@ -18,6 +19,14 @@ shape_fault too_large = TooLarge
 abbrev pub operator_fault : OpRefusal → Fault
 operator_fault (no_dims refusal) = shape_fault refusal
 operator_fault (zero_divisor place) = DivideByZero
+
+-- the fault that names why a reduction or a product of two arrays has no result
+abbrev pub reduce_fault : reduce.ReduceRefusal → Fault
+reduce_fault reduce.mismatch = Mismatch
+reduce_fault reduce.too_many_dims = TooManyDims
+reduce_fault reduce.too_large = TooLarge
+reduce_fault reduce.too_much_work = TooMuchWork
+reduce_fault reduce.empty_reduce = EmptyReduce
 
 -- the fault that names why there is no such view
 abbrev pub view_fault : NoView → Fault

@@ -2,7 +2,7 @@
 use Rattle.std.specs.Prelude.{ℕ, List, [], ◌∷◌, map}
 use Rattle.pdl_world.specs.World.{World}
 use Rattle.pdl_world.specs.Sound.{NumbersBelow, IsSound, IsLive}
-use Rattle.pdl_machine.specs.Names.{Names}
+use Rattle.pdl_machine.specs.Names.{Names, nothing_named}
 use Rattle.pdl_machine.specs.Arrays.{Arrays, no_arrays}
 
 -- Names, and the arrays that they are bound to.
@@ -12,7 +12,7 @@ pub record State : Type 0 where
 
 -- no names and no arrays
 abbrev pub no_names : State
-no_names = record { names = []; arrays = no_arrays }
+no_names = record { names = nothing_named; arrays = no_arrays }
 
 -- with other arrays
 abbrev pub with_arrays : State → Arrays → State
@@ -20,7 +20,7 @@ with_arrays s a = record s { arrays = a }
 
 -- the arrays that the state holds by itself: those that names are bound to
 abbrev pub held : State → List ℕ
-held s = map (λ n. n.1) s.names
+held s = map (λ n. n.1) s.names.arrays
 
 -- each of these arrays can be looked at
 abbrev pub AreLive : World → List ℕ → Type 0

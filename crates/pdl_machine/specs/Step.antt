@@ -1,22 +1,24 @@
 -- One step: what a statement does to a state, and what it prints.
-use Rattle.std.specs.Prelude.{ℕ, List, [], ◌∷◌, ◌++◌, fold, Bool, true, false, Result, Ok, Err, codes}
+use Rattle.std.specs.Prelude.{ℕ, List, [], ◌∷◌, ◌++◌, length, fold, Bool, true, false, Result, Ok, Err, codes}
 use Rattle.std.specs.List.{flat_map}
 use Rattle.pdl_buf.specs.declared.made.Made.{Made}
 use Rattle.pdl_world.specs.World.{assign as assign_in}
 use Rattle.pdl_print.specs.Printed.{array_text, info}
 use Rattle.pdl_lexemes.specs.declared.AssignOp.{AssignOp}
 use Rattle.pdl_syntax.specs.Tree.{Tree, Args, named, call, none, value, text, of_type}
-use Rattle.pdl_syntax.specs.StatementTree.{StatementTree, View, bind, bind_list, assign, show, show_text, vars}
+use Rattle.pdl_syntax.specs.StatementTree.{StatementTree, View, bind, bind_list, assign, show, show_text, vars, pp_def}
 use Rattle.pdl_machine.specs.declared.fault.Fault.{Fault}
 use Rattle.pdl_machine.specs.declared.fault.Fault.TheVariants.{Syntax, WrongArguments}
 use Rattle.pdl_machine.specs.Then.{and_then}
-use Rattle.pdl_machine.specs.Names.{bind as bind_name}
+use Rattle.pdl_machine.specs.Names.{bind as bind_name, define}
 use Rattle.pdl_machine.specs.Arrays.{Arrays, array_in}
 use Rattle.pdl_machine.specs.State.{State, with_arrays}
-use Rattle.pdl_machine.specs.Outcome.{Given, Valued}
+use Rattle.pdl_machine.specs.Outcome.{Given, Valued, all_seen, new_root}
 use Rattle.pdl_machine.specs.Operators.{values_for}
-use Rattle.pdl_machine.specs.Calls.{known_call, builtin_value}
-use Rattle.pdl_machine.specs.Value.{value_of, taken}
+use Rattle.pdl_kernel.specs.Kernels.{Kernel}
+use Rattle.pdl_machine.specs.Kernels.{kernel_outputs, defined}
+use Rattle.pdl_machine.specs.Calls.{Callee, builtin, kernel, callee_of, value_by}
+use Rattle.pdl_machine.specs.Value.{value_of, value_in, taken}
 use Rattle.pdl_machine.specs.Tidy.{tidy}
 
 -- a state and what was printed, or a fault
@@ -33,14 +35,21 @@ bind_value s x v = and_then (bind_name s.names x v.1) (λ names. Ok (record s { 
 abbrev pub bound : State → List ℕ → Valued → Stepped
 bound s x valued = and_then valued (bind_value s x)
 
--- the one output of a call bound to as many names
-abbrev pub outputs_bound : State → List (List ℕ) → Valued → Stepped
-outputs_bound s (x ∷ []) output = bound s x output
-outputs_bound s _ output = Err WrongArguments
+-- new arrays bound to names in order
+abbrev pub roots_bound : State → List (List ℕ) → List Made → Stepped
+roots_bound s (x ∷ xs) (m ∷ ms) = and_then (bound s x (new_root s.arrays m)) (λ after. roots_bound after.0 xs ms)
+roots_bound s _ _ = Ok (s, [])
+
+-- the outputs of a call bound to as many names; a built-in call has one
+abbrev pub outputs_bound : State → List (List ℕ) → Arrays × List Given → Callee → Stepped
+outputs_bound s (x ∷ []) t c = bound s x (value_by t.0 t.1 c)
+outputs_bound s xs t (builtin b) = Err WrongArguments
+outputs_bound s xs t (kernel k) =
+    and_then (kernel_outputs k (length xs) (all_seen t.0 t.1)) (roots_bound (with_arrays s t.0) xs)
 
 -- the outputs of the call of a name bound to names
 abbrev pub list_bound : State → List (List ℕ) → List ℕ → Arrays × List Given → Stepped
-list_bound s xs f t = and_then (known_call f) (λ b. outputs_bound s xs (builtin_value b t.0 t.1))
+list_bound s xs f t = and_then (callee_of s.names f) (outputs_bound s xs t)
 
 -- arguments behind a first one
 abbrev pub behind : Tree → Args → Args
@@ -61,7 +70,7 @@ assigned sign a v u =
 -- an assignment: its target, its right side, and then what is written
 abbrev pub assigning : State → Tree → AssignOp → Tree → Stepped
 assigning s to sign e =
-    and_then (value_of s.names s.arrays to) (λ v.
+    and_then (value_in s to) (λ v.
     and_then (value_of s.names v.0 e) (λ u.
     and_then (assigned sign u.0 v.1 u.1) (λ a. Ok (with_arrays s a, []))))
 
@@ -81,14 +90,19 @@ shown s is_info v = (with_arrays s v.0, printed is_info (array_in v.0 v.1))
 abbrev pub name_line : Arrays → List ℕ × ℕ → List ℕ
 name_line a n = n.0 ++ codes " " ++ info_line (array_in a n.1)
 
+-- a kernel defined by this name
+abbrev pub kernel_named : State → List ℕ → Kernel → Stepped
+kernel_named s f k = and_then (define s.names f k) (λ names. Ok (record s { names = names }, []))
+
 -- what a statement does before the arrays that nothing reaches are let go; a form that isn't built is a syntax error
 abbrev pub effect : State → StatementTree → Stepped
-effect s (bind x e false) = bound s x (value_of s.names s.arrays e)
+effect s (bind x e false) = bound s x (value_in s e)
 effect s (bind_list xs (call f args)) = and_then (taken s.names s.arrays args) (list_bound s xs f)
 effect s (assign x views sign e) = assigning s (target x views) sign e
-effect s (show e is_info) = and_then (value_of s.names s.arrays e) (λ v. Ok (shown s is_info v))
+effect s (show e is_info) = and_then (value_in s e) (λ v. Ok (shown s is_info v))
 effect s (show_text t) = Ok (s, t ++ newline)
-effect s vars = Ok (s, flat_map (name_line s.arrays) s.names)
+effect s vars = Ok (s, flat_map (name_line s.arrays) s.names.arrays)
+effect s (pp_def f signature code) = and_then (defined f signature code) (kernel_named s f)
 effect s _ = Err Syntax
 
 abbrev pub tidied : Stepped → Stepped

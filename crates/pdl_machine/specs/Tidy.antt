@@ -2,7 +2,7 @@
 use Rattle.std.specs.Prelude.{ℕ, ◌==◌, [], ◌∷◌, length, if◌then◌else◌}
 use Rattle.pdl_world.specs.World.{World, ArrayDef, root, view}
 use Rattle.pdl_world.specs.Swept.{sweep}
-use Rattle.pdl_machine.specs.Names.{Names}
+use Rattle.pdl_machine.specs.Names.{Named, Names}
 use Rattle.pdl_machine.specs.State.{State, held}
 
 -- how many arrays of the world are older than this one
@@ -19,10 +19,14 @@ abbrev pub renumber : World → World
 renumber [] = []
 renumber ((k, d) ∷ w) = (length w, with_parent (older w) d) ∷ renumber w
 
+-- other numbers by the same names
+abbrev pub renumbered : (ℕ → ℕ) → Named ℕ → Named ℕ
+renumbered f [] = []
+renumbered f (n ∷ names) = (n.0, f n.1) ∷ renumbered f names
+
 -- names with other numbers of their arrays
 abbrev pub with_numbers : (ℕ → ℕ) → Names → Names
-with_numbers f [] = []
-with_numbers f (n ∷ names) = (n.0, f n.1) ∷ with_numbers f names
+with_numbers f names = record names { arrays = renumbered f names.arrays }
 
 -- a state whose arrays are these, numbered anew
 abbrev pub numbered : State → World → State

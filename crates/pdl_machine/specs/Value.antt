@@ -11,6 +11,7 @@ use Rattle.pdl_machine.specs.Names.{Names, number_of}
 use Rattle.pdl_machine.specs.Outcome.{array, string, type_word, Given, Valued, new_root}
 use Rattle.pdl_ops.specs.Elementwise.{unary_each}
 use Rattle.pdl_machine.specs.Operators.{binary_each}
+use Rattle.pdl_machine.specs.State.{State}
 use Rattle.pdl_machine.specs.Calls.{call_value}
 
 -- the arguments that were evaluated, with the arrays that are there then; or the first fault
@@ -37,7 +38,7 @@ abbrev mutual
       and_then (value_of names a e) (λ v.
       and_then (value_of names v.0 f) (λ u.
       and_then (binary_each op (array_in u.0 v.1) (array_in u.0 u.1)) (new_root u.0)))
-  value_of names a (call f args) = and_then (taken names a args) (λ t. call_value f t.0 t.1)
+  value_of names a (call f args) = and_then (taken names a args) (λ t. call_value names f t.0 t.1)
 
   -- the arguments of a call
   pub taken : Names → Arrays → Args → Taken
@@ -46,3 +47,7 @@ abbrev mutual
       and_then (taken names a front) (λ t. and_then (value_of names t.0 e) (λ v. Ok (v.0, t.1 ++ array v.1 ∷ [])))
   taken names a (text front t) = and_then (taken names a front) (λ g. Ok (g.0, g.1 ++ string t ∷ []))
   taken names a (of_type front ty) = and_then (taken names a front) (λ g. Ok (g.0, g.1 ++ type_word ty ∷ []))
+
+-- the value of an expression in a state
+abbrev pub value_in : State → Tree → Valued
+value_in s e = value_of s.names s.arrays e

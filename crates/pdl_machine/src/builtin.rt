@@ -1,9 +1,11 @@
 //! The built-in calls.
 ghost use Rattle.std.specs.Prelude.{◌≡◌, bytes_eq, if◌then◌else◌};
-ghost use Rattle.pdl_machine.specs.Builtin.{builtin_of};
+ghost use Rattle.pdl_lexemes.specs.Lexing.{found_in};
+ghost use Rattle.pdl_machine.specs.Builtin.{reductions, builtin_of};
 
 use pdl_elem::Ty;
 use pdl_ops::Fill;
+use pdl_reduce::{Pairing, Reduction, Whole};
 
 /// What a new array tells of an array.
 #[derive(Clone, Copy, PartialEq, Eq, Debug)]
@@ -62,13 +64,19 @@ pub enum Builtin {
     Where,
     /// `range`: a view of windows.
     Range,
+    /// A new array of each list along dimension 0 of an array.
+    Reduced(Reduction),
+    /// A new array of all elements of an array.
+    Whole(Whole),
+    /// A new array of the products of two arrays.
+    Paired(Pairing),
 }
 
 /// The built-in call of this name, if there is one.
 pub fn builtin_named(name: &[u8]) -> Option<Builtin>
     ensures { result ≡ builtin_of name.now }
 {
-    let found = None;
+    let found = reduction_named(name);
     let found = or_found(name, b"range", Builtin::Range, found);
     let found = or_found(name, b"where", Builtin::Where, found);
     let found = or_found(name, b"index", Builtin::Index, found);
@@ -137,6 +145,70 @@ pub fn builtin_named(name: &[u8]) -> Option<Builtin>
     let found = or_found(name, b"sequence", Builtin::Filled(Fill::Sequence), found);
     let found = or_found(name, b"ones", Builtin::Filled(Fill::Ones), found);
     or_found(name, b"zeroes", Builtin::Filled(Fill::Zeroes), found)
+}
+
+/// The reduction or product of this name, if there is one.
+fn reduction_named(name: &[u8]) -> Option<Builtin>
+    ensures { result ≡ found_in reductions name.now }
+{
+    let found = None;
+    let found = or_found(name, b"matmult", Builtin::Paired(Pairing::Matmult), found);
+    let found = or_found(name, b"outer", Builtin::Paired(Pairing::Outer), found);
+    let found = or_found(name, b"inner", Builtin::Paired(Pairing::Inner), found);
+    let found = or_found(name, b"any", Builtin::Whole(Whole::Any), found);
+    let found = or_found(name, b"all", Builtin::Whole(Whole::All), found);
+    let found = or_found(name, b"min", Builtin::Whole(Whole::Min), found);
+    let found = or_found(name, b"max", Builtin::Whole(Whole::Max), found);
+    let found = or_found(name, b"prod", Builtin::Whole(Whole::Prod), found);
+    let found = or_found(name, b"sum", Builtin::Whole(Whole::Sum), found);
+    let found = or_found(
+        name,
+        b"minimum_ind",
+        Builtin::Reduced(Reduction::MinimumInd),
+        found,
+    );
+    let found = or_found(
+        name,
+        b"maximum_ind",
+        Builtin::Reduced(Reduction::MaximumInd),
+        found,
+    );
+    let found = or_found(
+        name,
+        b"minimum",
+        Builtin::Reduced(Reduction::Minimum),
+        found,
+    );
+    let found = or_found(
+        name,
+        b"maximum",
+        Builtin::Reduced(Reduction::Maximum),
+        found,
+    );
+    let found = or_found(
+        name,
+        b"cumuprodover",
+        Builtin::Reduced(Reduction::Cumuprodover),
+        found,
+    );
+    let found = or_found(
+        name,
+        b"cumusumover",
+        Builtin::Reduced(Reduction::Cumusumover),
+        found,
+    );
+    let found = or_found(
+        name,
+        b"prodover",
+        Builtin::Reduced(Reduction::Prodover),
+        found,
+    );
+    or_found(
+        name,
+        b"sumover",
+        Builtin::Reduced(Reduction::Sumover),
+        found,
+    )
 }
 
 /// The call where the name is the word, else what was found.

@@ -11,39 +11,41 @@ use Rattle.pdl_world.specs.World.{World}
 use Rattle.pdl_world.specs.Sound.{IsLive}
 use Rattle.pdl_engine.specs.State.{State as Engine}
 use Rattle.pdl_machine.specs.State.{AreLive, IsWhole}
-use Rattle.pdl_session.specs.Scope.{state_in}
-use Rattle.pdl_machine.specs.Names.{Names, number_of, with_name, bind}
+use Rattle.pdl_kernel.specs.Kernels.{Kernel}
+use Rattle.pdl_machine.specs.declared.fault.Fault.{Fault}
+use Rattle.pdl_session.specs.Scope.{names_in, state_in}
+use Rattle.pdl_machine.specs.Names.{Named, found, with_name, is_full_for, entered, names_limit}
 
-pub number_found : (names : Names) (x : List ℕ) → lookup (pointwise nat_eq x) names ≡ number_of names x
+pub number_found : {A : Type 0} (names : Named A) (x : List ℕ) → lookup (pointwise nat_eq x) names ≡ found names x
 number_found [] x = refl
 number_found (n ∷ names) x = ap (λ o. if pointwise nat_eq x n.0 then Some n.1 else o) (number_found names x)
 
-pub name_inserted : (names : Names) (x : List ℕ) (v : ℕ) → insert_entry (pointwise nat_eq) names x v ≡ with_name names x v
+pub name_inserted : {A : Type 0} (names : Named A) (x : List ℕ) (v : A) → insert_entry (pointwise nat_eq) names x v ≡ with_name names x v
 name_inserted [] x v = refl
 name_inserted (n ∷ names) x v = ap (λ r. if pointwise nat_eq x n.0 then (n.0, v) ∷ names else n ∷ r) (name_inserted names x v)
 
--- there is no room for the name
-abbrev pub is_full : Names → List ℕ → Bool
-is_full names x = is_none (number_of names x) && not (nat_lt (length names) 512)
-
-pub bind_free : (names new : Names) (x y : List ℕ) (v : ℕ) (full : Bool) → full ≡ is_full names x → full ≡ false → y ≡ x → new ≡ insert_entry (pointwise nat_eq) names y v → bind names x v ≡ Ok new
-bind_free names new x y v full e h same ok =
-    let t : is_full names x ≡ false = sym e ∙ h in
+pub bind_free : {A : Type 0} (limit : ℕ) (fault : Fault) (names new : Named A) (x y : List ℕ) (v : A) (full : Bool) → full ≡ is_full_for limit names x → full ≡ false → y ≡ x → new ≡ insert_entry (pointwise nat_eq) names y v → entered limit fault names x v ≡ Ok new
+bind_free limit fault names new x y v full e h same ok =
+    let t : is_full_for limit names x ≡ false = sym e ∙ h in
     let n : new ≡ with_name names x v = ok ∙ ap (λ z. insert_entry (pointwise nat_eq) names z v) same ∙ name_inserted names x v in
-    let b : bind names x v ≡ Ok (with_name names x v) = rw t refl in
+    let b : entered limit fault names x v ≡ Ok (with_name names x v) = rw t refl in
     b ∙ ap Ok (sym n)
 
-none_copied : (o : Option (Bor ℕ)) (r : Option ℕ) → option_copied o ≡ r → is_none r ≡ not (is_some o)
-none_copied None r h = ap is_none (sym h)
-none_copied (Some x) r h = ap is_none (sym h)
+none_is : {A : Type 0} (o : Option A) → is_none o ≡ not (is_some o)
+none_is None = refl
+none_is (Some x) = refl
+
+pub some_copied : {A : Type 0} (o : Option (Bor A)) → is_some (option_copied o) ≡ is_some o
+some_copied None = refl
+some_copied (Some x) = refl
 
 -- as the code tells it: so many names, and whether the name isn't among them
-pub full_told : (names : Names) (x : List ℕ) (count : ℕ) (o : Option (Bor ℕ)) (none : Bool) → count ≡ length names → option_copied o ≡ number_of names x → is_some o ≡ not none
-    → 512 ≤ count → none ≡ is_full names x
-full_told names x count o none c found told many =
-    let t : nat_lt (length names) 512 ≡ false = grind (arith, nat_tests) in
-    let n : is_none (number_of names x) ≡ none = none_copied o (number_of names x) found ∙ ap not told ∙ twice none in
-    let f : is_full names x ≡ none = rw t (right (is_none (number_of names x)) ∙ n) in
+pub full_told : {A : Type 0} (limit : ℕ) (names : Named A) (x : List ℕ) (count : ℕ) (o : Option A) (none : Bool) → count ≡ length names → o ≡ found names x → is_some o ≡ not none
+    → limit ≤ count → none ≡ is_full_for limit names x
+full_told limit names x count o none c here told many =
+    let t : nat_lt (length names) limit ≡ false = grind (arith, nat_tests) in
+    let n : is_none (found names x) ≡ none = ap is_none (sym here) ∙ none_is o ∙ ap not told ∙ twice none in
+    let f : is_full_for limit names x ≡ none = rw t (right (is_none (found names x)) ∙ n) in
     sym f
   where
     twice : (b : Bool) → not (not b) ≡ b
@@ -55,7 +57,7 @@ full_told names x count o none c found told many =
     right false = refl
 
 -- each name's array can be looked at after a binding to one that can
-pub live_bound : (w : World) (names : Names) (x : List ℕ) (v : ℕ) → AreLive w (map (λ n. n.1) names) → IsLive w v → AreLive w (map (λ n. n.1) (with_name names x v))
+pub live_bound : (w : World) (names : Named ℕ) (x : List ℕ) (v : ℕ) → AreLive w (map (λ n. n.1) names) → IsLive w v → AreLive w (map (λ n. n.1) (with_name names x v))
 live_bound w [] x v live l = (l, tt)
 live_bound w (n ∷ names) x v live l = by_name (pointwise nat_eq x n.0) (live_bound w names x v live.1 l)
   where
@@ -64,16 +66,16 @@ live_bound w (n ∷ names) x v live l = by_name (pointwise nat_eq x n.0) (live_b
     by_name false rest = (live.0, rest)
 
 -- and so can the array of a name
-pub live_found : (w : World) (names : Names) (x : List ℕ) → AreLive w (map (λ n. n.1) names) → IfSome (number_of names x) (IsLive w)
+pub live_found : (w : World) (names : Named ℕ) (x : List ℕ) → AreLive w (map (λ n. n.1) names) → IfSome (found names x) (IsLive w)
 live_found w [] x live = tt
 live_found w (n ∷ names) x live = by_name (pointwise nat_eq x n.0) (live_found w names x live.1)
   where
-    by_name : (same : Bool) → IfSome (number_of names x) (IsLive w) → IfSome (if same then Some n.1 else number_of names x) (IsLive w)
+    by_name : (same : Bool) → IfSome (found names x) (IsLive w) → IfSome (if same then Some n.1 else found names x) (IsLive w)
     by_name true rest = live.0
     by_name false rest = rest
 
 -- and that of the name at a place
-pub live_entry : (w : World) (names : Names) (i : ℕ) (x : List ℕ) (v : ℕ) → AreLive w (map (λ n. n.1) names) → slice_get names i ≡ Some (x, v) → IsLive w v
+pub live_entry : (w : World) (names : Named ℕ) (i : ℕ) (x : List ℕ) (v : ℕ) → AreLive w (map (λ n. n.1) names) → slice_get names i ≡ Some (x, v) → IsLive w v
 live_entry w [] i x v live h = cc
 live_entry w (n ∷ names) zero x v live h =
     let e : n ≡ (x, v) = entry_is n (x, v) h in
@@ -85,17 +87,21 @@ live_entry w (n ∷ names) zero x v live h =
 live_entry w (n ∷ names) (suc i) x v live h = live_entry w names i x v live.1 h
 
 -- names that were bound are the names with the binding
-pub bound_is : (names new : Names) (x : List ℕ) (v : ℕ) → bind names x v ≡ Ok new → new ≡ with_name names x v
-bound_is names new x v h = by_full (is_full names x) h
+pub bound_is : {A : Type 0} (limit : ℕ) (fault : Fault) (names new : Named A) (x : List ℕ) (v : A) → entered limit fault names x v ≡ Ok new → new ≡ with_name names x v
+bound_is limit fault names new x v h = by_full (is_full_for limit names x) h
   where
-    by_full : (full : Bool) → (if full then Err TooManyNames else Ok (with_name names x v)) ≡ Ok new → new ≡ with_name names x v
+    by_full : (full : Bool) → (if full then Err fault else Ok (with_name names x v)) ≡ Ok new → new ≡ with_name names x v
     by_full true g = cc
     by_full false g = cc
 
 -- a state is whole after a binding that was tried
-pub whole_bound : {T E : Type 0} (r : Result T E) (names after : Names) (e : Engine) (x : List ℕ) (v : ℕ) → IsWhole (state_in names e) → IsLive e.world v
-    → OnOk r (bind names x v ≡ Ok after) → OnErr r (after ≡ names) → IsWhole (state_in after e)
-whole_bound (Ok u) names after e x v whole live ok err =
-    let P : Names → Type 0 = λ ns. IsWhole (state_in ns e) in
-    subst P (sym (bound_is names after x v ok)) (record { sound = whole.sound; below = whole.below; live = live_bound e.world names x v whole.live live })
-whole_bound (Err f) names after e x v whole live ok err = let P : Names → Type 0 = λ ns. IsWhole (state_in ns e) in subst P (sym err) whole
+pub whole_bound : {T E : Type 0} (r : Result T E) (names after : Named ℕ) (kernels : Named Kernel) (e : Engine) (x : List ℕ) (v : ℕ) → IsWhole (state_in (names_in names kernels) e) → IsLive e.world v
+    → OnOk r (entered names_limit TooManyNames names x v ≡ Ok after) → OnErr r (after ≡ names) → IsWhole (state_in (names_in after kernels) e)
+whole_bound (Ok u) names after kernels e x v whole live ok err =
+    let P : Named ℕ → Type 0 = λ ns. IsWhole (state_in (names_in ns kernels) e) in
+    subst P (sym (bound_is names_limit TooManyNames names after x v ok)) (record { sound = whole.sound; below = whole.below; live = live_bound e.world names x v whole.live live })
+whole_bound (Err f) names after kernels e x v whole live ok err = let P : Named ℕ → Type 0 = λ ns. IsWhole (state_in (names_in ns kernels) e) in subst P (sym err) whole
+
+-- a state is whole with other kernels
+pub whole_defined : (names : Named ℕ) (kernels after : Named Kernel) (e : Engine) → IsWhole (state_in (names_in names kernels) e) → IsWhole (state_in (names_in names after) e)
+whole_defined names kernels after e whole = record { sound = whole.sound; below = whole.below; live = whole.live }

@@ -54,12 +54,13 @@ fault_at names w args front i a (Script f) lt at h =
     ap (taken names w) (ap (λ xs. args_of xs front) (sym (take-append-drop (i + 1) args)) ∙ args_of_append (take (i + 1) args) (drop (i + 1) args) front)
     ∙ fault_stays names w (drop (i + 1) args) (args_of (take (i + 1) args) front) f so_far
 
--- the value of a call, of its arguments, whose call is another one of the same ones
-pub call_is : (names : Names) (a b : Arrays) (f : List ℕ) (args : Args) (given same : List Argument) → taken names a args ≡ Ok (b, given) → same ≡ given → value_of names a (call f args) ≡ call_value f b same
-call_is names a b f args given same h e = ap (called f) h ∙ ap (call_value f b) (sym e)
+-- the value of a call, of its arguments, whose call is another one of the same ones by the same names
+pub call_is : (names mid : Names) (a b : Arrays) (f : List ℕ) (args : Args) (given same : List Argument) → taken names a args ≡ Ok (b, given) → same ≡ given → mid ≡ names
+    → value_of names a (call f args) ≡ call_value mid f b same
+call_is names mid a b f args given same h e k = ap called h ∙ ap (call_value names f b) (sym e) ∙ ap (λ ns. call_value ns f b same) (sym k)
   where
-    called : List ℕ → Taken → Valued
-    called f t = and_then t (λ x. call_value f x.0 x.1)
+    called : Taken → Valued
+    called t = and_then t (λ x. call_value names f x.0 x.1)
 
 -- the tree of a call, by the law of such trees
 pub tree_is : (e : Expr) (f : List ℕ) (args : Vec Arg Global) (xs : List Arg) → tree_of (Call f args) ≡ call f (args_of args.items none) → e ≡ Call f args → xs ≡ args.items → tree_of e ≡ call f (args_of xs none)

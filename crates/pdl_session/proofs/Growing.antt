@@ -42,7 +42,7 @@ below_more : (w : World) (m n : ℕ) → m ≤ n → NumbersBelow m w → Number
 below_more [] m n h b = tt
 below_more (a ∷ w) m n h b = (omega arith, below_more w m n h b.1)
 
-still_live : (w u : World) → ((v : ℕ) → IsLive w v → IsLive u v) → (vs : List ℕ) → AreLive w vs → AreLive u vs
+pub still_live : (w u : World) → ((v : ℕ) → IsLive w v → IsLive u v) → (vs : List ℕ) → AreLive w vs → AreLive u vs
 still_live w u still [] live = tt
 still_live w u still (v ∷ vs) live = (still v live.0, still_live w u still vs live.1)
 

@@ -5,10 +5,15 @@ pub mod Faults
 pub mod Evals
 pub mod Targets
 pub mod Gathered
+pub mod KernelCalls
 pub mod Clamps
 pub mod Seen
 pub mod Sizes
 pub mod Shaped
+pub mod Reduced
 pub mod Sliced
 pub mod Printing
+pub mod Roots
+pub mod Callees
 pub mod Statements
+pub mod Definitions

@@ -12,7 +12,8 @@ use Rattle.pdl_session.specs.declared.given.Given.{Given}
 use Rattle.pdl_session.specs.Answers.{IsFault, Evaluates}
 use Rattle.pdl_session.specs.Arguments.{arguments, seen_of, all_seen_of}
 
-seen_same : (a : Arrays) (given : List Given) → all_seen a (arguments given) ≡ all_seen_of a given
+-- what a call sees
+pub seen_same : (a : Arrays) (given : List Given) → all_seen a (arguments given) ≡ all_seen_of a given
 seen_same a [] = refl
 seen_same a (g ∷ given) = ap (λ rest. seen_of a g ∷ rest) (seen_same a given)
 

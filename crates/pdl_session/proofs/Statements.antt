@@ -1,30 +1,31 @@
 -- What a statement does, from what its parts do.
-use Rattle.std.proofs.Common.{◌≡◌, ℕ, ◌<◌, ◌≤◌, length, get_or, Option, Some, arith, Bool, List, [], ◌∷◌, ◌++◌, Result, Ok, Err, refl, sym, ap, subst, ◌∙◌}
+use Rattle.std.proofs.Common.{◌≡◌, ◌≢◌, ℕ, length, get_or, arith, Bool, List, [], ◌∷◌, ◌++◌, Result, Ok, Err, refl, sym, ap, subst, ◌∙◌}
 use Rattle.std.specs.Prelude.{IfErr}
 use Rattle.std.proofs.lemmas.List.{append-nil}
+use Rattle.pdl_buf.specs.declared.made.Made.{Made}
 use Rattle.pdl_lexemes.specs.declared.AssignOp.{AssignOp}
 use Rattle.pdl_syntax.specs.Tree.{Tree, Args, call}
 use Rattle.pdl_syntax.specs.StatementTree.{bind_list}
 use Rattle.pdl_machine.specs.declared.fault.Fault.{Fault}
-use Rattle.pdl_machine.specs.declared.fault.Fault.TheVariants.{UnknownFunction}
-use Rattle.pdl_machine.specs.declared.builtin.Builtin.{Builtin}
-use Rattle.pdl_machine.specs.Builtin.{builtin_of}
 use Rattle.pdl_machine.specs.Names.{Names, bind}
 use Rattle.pdl_machine.specs.Arrays.{Arrays, array_in}
-use Rattle.pdl_machine.specs.Then.{and_then, or_fault}
+use Rattle.pdl_machine.specs.Then.{and_then}
 use Rattle.pdl_machine.specs.State.{State, with_arrays, IsWhole}
-use Rattle.pdl_machine.specs.Outcome.{Given as Argument, Valued}
-use Rattle.pdl_machine.specs.Calls.{builtin_value, known_call}
+use Rattle.pdl_machine.specs.Outcome.{Given as Argument, Seen, Valued, all_seen}
+use Rattle.pdl_machine.specs.Calls.{Callee, builtin, kernel, callee_of, value_by, call_value}
 use Rattle.pdl_machine.specs.Value.{value_of, taken}
 use Rattle.pdl_machine.specs.Tidy.{tidy}
 use Rattle.pdl_machine.specs.Laws.{NewArraysUnseen}
-use Rattle.pdl_machine.specs.Step.{Stepped, bind_value, bound, outputs_bound, list_bound, assigned, assigning, printed, shown, effect}
+use Rattle.pdl_machine.specs.Step.{Stepped, bind_value, bound, roots_bound, outputs_bound, list_bound, assigned, assigning, printed, shown, effect}
 use Rattle.pdl_session.specs.declared.fault.StepFault.{StepFault}
 use Rattle.pdl_session.specs.declared.fault.StepFault.TheVariants.{Script, NoMemory}
+use Rattle.pdl_session.specs.declared.given.Given.{Given}
+use Rattle.pdl_session.specs.Arguments.{arguments, all_seen_of, several}
 use Rattle.pdl_session.specs.Scope.{Grows}
 use Rattle.pdl_session.specs.Answers.{IsFault, IfScript, Prints, IsKept, Runs}
 use Rattle.pdl_session.proofs.Faults.{first_fault}
-use Rattle.pdl_session.proofs.Growing.{grows_trans, state_is}
+use Rattle.pdl_session.proofs.Growing.{grows_refl, grows_trans, state_is}
+use Rattle.pdl_session.proofs.Seen.{seen_same}
 
 pub kept_at : (e : StepFault) (old new : State) (out : List ℕ) → Grows old new → IfScript e (IsKept old new out out)
 kept_at (Script e) old new out g = record { grown = g; printed = refl }
@@ -59,35 +60,85 @@ quiet (Ok u) (Err e) old new o h = absurd h
 quiet (Err (Script e)) x old new o h = (h.0, record { grown = h.1.grown; printed = refl })
 quiet (Err NoMemory) x old new o h = (tt, tt)
 
--- the only item of a list
-single : {X : Type 0} (xs : List X) (d : X) → 1 ≤ length xs → length xs < 2 → xs ≡ get_or xs 0 d ∷ []
-single [] d least below = absurd (omega arith)
-single (x ∷ []) d least below = refl
-single (x ∷ y ∷ xs) d least below = absurd (omega arith)
+-- the one output of a call, bound to one name
+one_output : (s : State) (x f : List ℕ) (t : Arrays × List Argument) → list_bound s (x ∷ []) f t ≡ bound s x (call_value s.names f t.0 t.1)
+one_output s x f t = by_callee (callee_of s.names f)
+  where
+    by_callee : (c : Result Callee Fault) → and_then c (outputs_bound s (x ∷ []) t) ≡ and_then (and_then c (value_by t.0 t.1)) (bind_value s x)
+    by_callee (Ok c) = refl
+    by_callee (Err e) = refl
 
-abbrev outputs : State → List (List ℕ) → Arrays × List Argument → Result Builtin Fault → Stepped
-outputs s xs t known = and_then known (λ b. outputs_bound s xs (builtin_value b t.0 t.1))
+pub runs_output : {T : Type 0} (r : Result T StepFault) (old mid new : State) (xs : List (List ℕ)) (x f : List ℕ) (given : List Argument) (id : ℕ) → length xs ≡ 1 → x ≡ get_or xs 0 x
+    → call_value old.names f old.arrays given ≡ Ok (mid.arrays, id) → Grows old mid → Runs (bind_value mid x (mid.arrays, id)) mid new [] [] r → Runs (list_bound old xs f (old.arrays, given)) old new [] [] r
+runs_output r old mid new [] x f given id one first output g h = absurd (omega arith)
+runs_output r old mid new (y ∷ z ∷ xs) x f given id one first output g h = absurd (omega arith)
+runs_output r old mid new (y ∷ []) x f given id one first output g h =
+    let P : Stepped → Type 0 = λ s. Runs s old new [] [] r in
+    let e : list_bound old (y ∷ []) f (old.arrays, given) ≡ bound old x (call_value old.names f old.arrays given) =
+    ap (λ n. list_bound old (n ∷ []) f (old.arrays, given)) (sym first) ∙ one_output old x f (old.arrays, given) in
+    subst P (sym e) (runs_bound r old mid new x (call_value old.names f old.arrays given) id output g h)
 
--- the one output of a call that is known, bound to one name
-pub runs_output : {T : Type 0} (r : Result T StepFault) (old mid new : State) (xs : List (List ℕ)) (x f name : List ℕ) (b : Builtin) (found : Option Builtin) (given : List Argument) (id : ℕ)
-    → 1 ≤ length xs → length xs < 2 → x ≡ get_or xs 0 x → name ≡ f → found ≡ builtin_of name → found ≡ Some b → builtin_value b old.arrays given ≡ Ok (mid.arrays, id) → Grows old mid
-    → Runs (bind_value mid x (mid.arrays, id)) mid new [] [] r → Runs (list_bound old xs f (old.arrays, given)) old new [] [] r
-runs_output r old mid new xs x f name b found given id least below first same known is output g h =
+pub output_refused : (old new : State) (xs : List (List ℕ)) (f : List ℕ) (given : List Argument) (e : StepFault) → length xs ≡ 1 → IsFault (call_value old.names f old.arrays given) e → Grows old new
+    → IsFault (list_bound old xs f (old.arrays, given)) e × IfScript e (IsKept old new [] [])
+output_refused old new [] f given e one h g = absurd (omega arith)
+output_refused old new (x ∷ y ∷ xs) f given e one h g = absurd (omega arith)
+output_refused old new (x ∷ []) f given e one h g =
+    let P : Stepped → Type 0 = λ s. IsFault s e in
+    (subst P (sym (one_output old x f (old.arrays, given))) (first_fault (call_value old.names f old.arrays given) (bind_value old x) e h), kept_at e old new [] g)
+
+-- the outputs of a call, bound to names that aren't one
+several_outputs : (s : State) (xs : List (List ℕ)) (f : List ℕ) (t : Arrays × List Argument) → length xs ≢ 1
+    → list_bound s xs f t ≡ and_then (and_then (callee_of s.names f) (several (length xs) (all_seen t.0 t.1))) (roots_bound (with_arrays s t.0) xs)
+several_outputs s xs f t many = by_callee (callee_of s.names f) xs many
+  where
+    by_callee : (c : Result Callee Fault) (xs : List (List ℕ)) → length xs ≢ 1
+        → and_then c (outputs_bound s xs t) ≡ and_then (and_then c (several (length xs) (all_seen t.0 t.1))) (roots_bound (with_arrays s t.0) xs)
+    by_callee (Err e) xs many = refl
+    by_callee (Ok c) (x ∷ []) many = absurd (many refl)
+    by_callee (Ok (builtin b)) [] many = refl
+    by_callee (Ok (builtin b)) (x ∷ y ∷ xs) many = refl
+    by_callee (Ok (kernel k)) [] many = refl
+    by_callee (Ok (kernel k)) (x ∷ y ∷ xs) many = refl
+
+-- the outputs that a name stands for
+abbrev outputs_for : State → List (List ℕ) → List ℕ → List Seen → Result (List Made) Fault
+outputs_for s xs f seen = and_then (callee_of s.names f) (several (length xs) seen)
+
+several_is : (s : State) (xs : List (List ℕ)) (f : List ℕ) (given : List Given) → length xs ≢ 1
+    → list_bound s xs f (s.arrays, arguments given) ≡ and_then (outputs_for s xs f (all_seen_of s.arrays given)) (roots_bound s xs)
+several_is s xs f given many =
+    several_outputs s xs f (s.arrays, arguments given) many ∙ ap (λ seen. and_then (outputs_for s xs f seen) (roots_bound s xs)) (seen_same s.arrays given)
+
+pub runs_several : {T : Type 0} (r : Result T StepFault) (old mid new : State) (xs : List (List ℕ)) (f : List ℕ) (given : List Given) (wanted : ℕ) (ms : List Made) → length xs ≢ 1 → wanted ≡ length xs
+    → and_then (callee_of old.names f) (several wanted (all_seen_of old.arrays given)) ≡ Ok ms → mid ≡ old → Runs (roots_bound mid xs ms) mid new [] [] r
+    → Runs (list_bound old xs f (old.arrays, arguments given)) old new [] [] r
+runs_several r old mid new xs f given wanted ms many count output same h =
     let P : Stepped → Type 0 = λ y. Runs y old new [] [] r in
-    let call : known_call f ≡ Ok b = ap (or_fault UnknownFunction) (ap builtin_of (sym same) ∙ sym known ∙ is) in
-    let names : xs ≡ x ∷ [] = single xs x least below ∙ ap (λ y. y ∷ []) (sym first) in
-    let e : list_bound old xs f (old.arrays, given) ≡ bound old x (builtin_value b old.arrays given) =
-    ap (outputs old xs (old.arrays, given)) call ∙ ap (λ ys. outputs_bound old ys (builtin_value b old.arrays given)) names in
-    subst P (sym e) (runs_bound r old mid new x (builtin_value b old.arrays given) id output g h)
+    let Q : State → Type 0 = λ s. Runs (roots_bound s xs ms) s new [] [] r in
+    let all : outputs_for old xs f (all_seen_of old.arrays given) ≡ Ok ms = ap (λ n. and_then (callee_of old.names f) (several n (all_seen_of old.arrays given))) (sym count) ∙ output in
+    subst P (sym (several_is old xs f given many ∙ ap (λ o. and_then o (roots_bound old xs)) all)) (subst Q same h)
+
+pub several_refused : (old new : State) (xs : List (List ℕ)) (f : List ℕ) (given : List Given) (wanted : ℕ) (e : StepFault) → length xs ≢ 1 → wanted ≡ length xs
+    → IsFault (and_then (callee_of old.names f) (several wanted (all_seen_of old.arrays given))) e → new ≡ old
+    → IsFault (list_bound old xs f (old.arrays, arguments given)) e × IfScript e (IsKept old new [] [])
+several_refused old new xs f given wanted e many count h same =
+    let P : Stepped → Type 0 = λ y. IsFault y e in
+    let W : ℕ → Type 0 = λ n. IsFault (and_then (callee_of old.names f) (several n (all_seen_of old.arrays given))) e in
+    let G : State → Type 0 = λ s. Grows old s in (
+      subst P (sym (several_is old xs f given many)) (first_fault (outputs_for old xs f (all_seen_of old.arrays given)) (roots_bound old xs) e (subst W count h)),
+      kept_at e old new [] (subst G (sym same) (grows_refl old)),
+    )
 
 list_same : (s : State) (a : Arrays) (xs : List (List ℕ)) (f : List ℕ) (t : Arrays × List Argument) → list_bound (with_arrays s a) xs f t ≡ list_bound s xs f t
-list_same s a xs f t = by_call (known_call f) xs
+list_same s a xs f t = by_call (callee_of s.names f) xs
   where
-    by_call : (x : Result Builtin Fault) (xs : List (List ℕ)) → outputs (with_arrays s a) xs t x ≡ outputs s xs t x
+    by_call : (x : Result Callee Fault) (xs : List (List ℕ)) → and_then x (outputs_bound (with_arrays s a) xs t) ≡ and_then x (outputs_bound s xs t)
     by_call (Err e) xs = refl
-    by_call (Ok b) [] = refl
-    by_call (Ok b) (x ∷ []) = refl
-    by_call (Ok b) (x ∷ y ∷ xs) = refl
+    by_call (Ok c) (x ∷ []) = refl
+    by_call (Ok (builtin b)) [] = refl
+    by_call (Ok (builtin b)) (x ∷ y ∷ xs) = refl
+    by_call (Ok (kernel k)) [] = refl
+    by_call (Ok (kernel k)) (x ∷ y ∷ xs) = refl
 
 -- a list binding, after its arguments came
 pub runs_list : {T : Type 0} (r : Result T StepFault) (old mid new : State) (xs : List (List ℕ)) (tree : Tree) (f : List ℕ) (args : Args) (given items : List Argument)

@@ -1,5 +1,5 @@
 -- The arguments and the outcomes that code holds, as the machine's.
-use Rattle.std.specs.Prelude.{ℕ, ℤ, List, [], ◌∷◌, Option, Some, None, IsTrue}
+use Rattle.std.specs.Prelude.{ℕ, ℤ, List, [], ◌∷◌, Option, Some, None, Result, Err, IsTrue}
 use Rattle.std.proofs.Common.{Bor}
 use Rattle.pdl_choice.specs.declared.edges.Edge.{Edge}
 use Rattle.pdl_world.specs.declared.Trans.TheVariants.{Range}
@@ -8,7 +8,11 @@ use Rattle.pdl_world.specs.World.{World}
 use Rattle.pdl_world.specs.Sound.{IsLive}
 use Rattle.pdl_buf.specs.Made.{IsMade}
 use Rattle.pdl_buf.specs.declared.made.Made.{Made}
+use Rattle.pdl_machine.specs.declared.fault.Fault.{Fault}
+use Rattle.pdl_machine.specs.declared.fault.Fault.TheVariants.{WrongArguments}
 use Rattle.pdl_machine.specs.Arrays.{Arrays}
+use Rattle.pdl_machine.specs.Calls.{Callee, builtin, kernel}
+use Rattle.pdl_machine.specs.Kernels.{kernel_outputs}
 use Rattle.pdl_machine.specs.Outcome.{Given as Argument, array, string, type_word, Seen, seen, Outcome as Placed, made, viewed}
 use Rattle.pdl_session.specs.declared.given.Given.{Given}
 use Rattle.pdl_session.specs.declared.given.Given.TheVariants.{Array, Text, OfType}
@@ -42,6 +46,11 @@ abbrev pub AreGivenLive : World → List Given → Type 0
 AreGivenLive w [] = Unit {0}
 AreGivenLive w (g ∷ given) = IsGivenLive w g × AreGivenLive w given
 
+-- the array that an argument is, by its number
+abbrev pub array_number : Given → Option ℕ
+array_number (Array v) = Some v
+array_number _ = None
+
 abbrev pub outcome_of : Outcome → Placed
 outcome_of (New m) = made m
 outcome_of (View t) = viewed t
@@ -50,6 +59,11 @@ outcome_of (View t) = viewed t
 abbrev pub IsOutcomeMade : Outcome → Type 0
 IsOutcomeMade (New m) = IsMade m.ty m.dims m.elems
 IsOutcomeMade (View t) = IsTrue (is_well_formed t)
+
+-- the outputs of what a name stands for, where not one is wanted: a built-in call has one
+abbrev pub several : (wanted : ℕ) → List Seen → Callee → Result (List Made) Fault
+several wanted given (builtin b) = Err WrongArguments
+several wanted given (kernel k) = kernel_outputs k wanted given
 
 -- windows at an index's corners
 abbrev pub windows : (corners : Made) → (sizes : List ℤ) → Edge → Placed
@@ -64,6 +78,11 @@ one_array _ = None
 abbrev pub array_and_text : List Given → Option (Bor (List ℕ))
 array_and_text (Array v ∷ Text t ∷ []) = Some t
 array_and_text _ = None
+
+-- the two arrays that stand alone
+abbrev pub two_arrays : List Given → Option (ℕ × ℕ)
+two_arrays (Array v ∷ Array u ∷ []) = Some (v, u)
+two_arrays _ = None
 
 -- the second of two arrays
 abbrev pub second_array : List Given → Option ℕ

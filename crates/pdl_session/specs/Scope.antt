@@ -4,8 +4,11 @@ use Rattle.pdl_elem.specs.declared.Ty.{Ty}
 use Rattle.pdl_buf.specs.declared.made.Made.{Made}
 use Rattle.pdl_world.specs.Sound.{IsLive}
 use Rattle.pdl_engine.specs.State.{State as Engine}
-use Rattle.pdl_machine.specs.Names.{Names}
-use Rattle.pdl_machine.specs.Arrays.{Arrays}
+use Rattle.pdl_kernel.specs.Kernels.{Kernel}
+use Rattle.pdl_machine.specs.Names.{Named, Names}
+use Rattle.pdl_sig.specs.declared.ArgShape.{ArgShape}
+use Rattle.pdl_machine.specs.Arrays.{Arrays, array_in}
+use Rattle.pdl_reduce.specs.Pairings.{shape_of}
 use Rattle.pdl_machine.specs.State.{State, no_names}
 use Rattle.pdl_machine.specs.Laws.{AreGrown}
 
@@ -13,9 +16,21 @@ use Rattle.pdl_machine.specs.Laws.{AreGrown}
 abbrev pub arrays_of : Engine → Arrays
 arrays_of e = record { world = e.world; next = e.next }
 
+-- arrays and kernels by their names
+abbrev pub names_in : Named ℕ → Named Kernel → Names
+names_in arrays kernels = record { arrays = arrays; kernels = kernels }
+
 -- names with the engine's arrays as a state of the machine
 abbrev pub state_in : Names → Engine → State
 state_in names e = record { names = names; arrays = arrays_of e }
+
+-- what is seen of an engine's array
+abbrev pub made_in : Engine → ℕ → Made
+made_in e v = array_in (arrays_of e) v
+
+-- its type and dimensions
+abbrev pub shape_in : Engine → ℕ → ArgShape
+shape_in e v = shape_of (made_in e v)
 
 -- an array of this type, these dimensions and these elements
 abbrev pub array_of : Ty → List ℕ → List ℤ → Made

@@ -1,13 +1,15 @@
 //! The built-in calls: what each gives, and how that joins the arrays.
-ghost use Rattle.std.specs.Prelude.{◌≡◌, [], ◌∷◌, IfOk};
+ghost use Rattle.std.specs.Prelude.{◌≡◌, [], ◌∷◌, All, IfOk};
 ghost use Rattle.pdl_elem.specs.Types.{InRange};
 ghost use Rattle.pdl_lexemes.specs.Lists.{type_of};
-ghost use Rattle.pdl_machine.specs.Calls.{outcome, builtin_value, call_value};
+ghost use Rattle.pdl_buf.specs.Made.{IsMade};
+ghost use Rattle.pdl_machine.specs.Calls.{outcome, builtin_value, callee_of, call_value, only_root};
 ghost use Rattle.pdl_machine.specs.Outcome.{new_root, view_placed};
+ghost use Rattle.pdl_machine.specs.Then.{and_then};
 ghost use Rattle.pdl_machine.specs.Value.{number_made};
 ghost use Rattle.pdl_world.specs.Formula.{is_well_formed};
 ghost use Rattle.pdl_session.specs.Answers.{AnswersAs, Evaluates};
-ghost use Rattle.pdl_session.specs.Arguments.{arguments, AreGivenLive, all_seen_of, outcome_of, IsOutcomeMade};
+ghost use Rattle.pdl_session.specs.Arguments.{arguments, AreGivenLive, all_seen_of, several, outcome_of, IsOutcomeMade};
 ghost use Rattle.pdl_session.specs.Scope.{Grows};
 ghost use Rattle.std.specs.Prelude.{IsTrue};
 
@@ -16,7 +18,7 @@ use crate::given::Given;
 use crate::outcome::Outcome;
 use crate::scope::Scope;
 use crate::views::slice::slice;
-use pdl_buf::Steps;
+use pdl_buf::{Made, Steps};
 use pdl_elem::{Name, Ty};
 use pdl_engine::ArrayId;
 use pdl_machine::{Builtin, Fault, builtin_named};
@@ -48,13 +50,53 @@ impl Scope {
         steps: &mut Steps<L>,
     ) -> Result<ArrayId, StepFault>
         requires { AreGivenLive self.old.arrays.world given.now }
-        ensures value { let wanted = call_value name.now self.old.arrays (arguments given.now) in
+        ensures value { let wanted = call_value self.old.names name.now self.old.arrays (arguments given.now) in
             Evaluates wanted self.new result }
         ensures grown { Grows self.old self.new }
     {
         match builtin_named(name.bytes()) {
             Some(builtin) => self.builtin_call(builtin, given, steps),
-            None => Err(StepFault::Script(Fault::UnknownFunction)),
+            None => {
+                let outputs = self.kernel_outputs(name, 1, given, steps)?;
+                self.only_root(&outputs, steps)
+            }
+        }
+    }
+
+    /// The outputs of the call of a name, where not one is wanted. A built-in call has one.
+    pub fn several<L: Ledger>(
+        &mut self,
+        name: &Name,
+        wanted: usize,
+        given: &[Given],
+        steps: &mut Steps<L>,
+    ) -> Result<Vec<Made>, StepFault>
+        requires { AreGivenLive self.old.arrays.world given.now }
+        ensures value { let seen = all_seen_of self.old.arrays given.now in
+            let outputs = and_then (callee_of self.old.names name.now) (several wanted seen) in
+            AnswersAs (λ ms. ms.items) outputs result }
+        ensures made { IfOk result (λ ms. All (λ m. IsMade m.ty m.dims m.elems) ms.items) }
+        ensures same { self.new ≡ self.old }
+    {
+        match builtin_named(name.bytes()) {
+            Some(_) => Err(StepFault::Script(Fault::WrongArguments)),
+            None => self.kernel_outputs(name, wanted, given, steps),
+        }
+    }
+
+    /// The only output, where one value is wanted.
+    fn only_root<L: Ledger>(
+        &mut self,
+        outputs: &[Made],
+        steps: &mut Steps<L>,
+    ) -> Result<ArrayId, StepFault>
+        requires { All (λ m. IsMade m.ty m.dims m.elems) outputs.now }
+        ensures value { Evaluates (only_root self.old.arrays outputs.now) self.new result }
+        ensures grown { Grows self.old self.new }
+    {
+        match outputs {
+            [made] => self.make(made.ty, &made.dims, made.elems.as_slice(), steps),
+            _ => Err(StepFault::Script(Fault::WrongArguments)),
         }
     }
 
@@ -113,6 +155,9 @@ impl Scope {
             Builtin::Index => self.index(given, steps),
             Builtin::Where => self.masked(given, steps),
             Builtin::Range => self.range(given, steps),
+            Builtin::Reduced(kind) => self.reduced(kind, given, steps),
+            Builtin::Whole(kind) => self.reduced_whole(kind, given, steps),
+            Builtin::Paired(kind) => self.paired(kind, given, steps),
         }
     }
 }

@@ -5,17 +5,21 @@
 #![tactic(auto)]
 
 mod call;
+mod calling;
+mod defining;
 mod dims;
 mod eval;
 mod fault;
 mod fill;
 mod given;
 mod inquiry;
+mod kernels;
 mod names;
 mod operating;
 mod outcome;
 mod print;
 mod reading;
+mod reducing;
 mod scope;
 mod session;
 mod shapes;

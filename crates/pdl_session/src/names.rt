@@ -1,6 +1,7 @@
-//! The names that are bound.
-ghost use Rattle.std.specs.Prelude.{◌≡◌, ◌<◌, [], length, nat_lt, not, ◌&&◌, is_none, slice_get, Some, IfErr, OnOk, OnErr};
-ghost use Rattle.pdl_machine.specs.Names.{number_of, bind, names_limit};
+//! The names that arrays are bound to.
+ghost use Rattle.std.specs.Prelude.{◌≡◌, ◌<◌, [], length, slice_get, Some, Ok, IfOk, IfErr, OnOk, OnErr};
+ghost use Rattle.pdl_machine.specs.declared.fault.Fault.TheVariants.{TooManyNames};
+ghost use Rattle.pdl_machine.specs.Names.{found, entered, is_full_for, names_limit};
 ghost use Rattle.pdl_session.specs.Answers.{IsFault};
 
 use crate::fault::StepFault;
@@ -8,7 +9,7 @@ use indexmap::IndexMap;
 use pdl_elem::Name;
 use pdl_engine::ArrayId;
 use pdl_machine::Fault;
-use std::alloc::Global;
+use std::alloc::{AllocError, Global};
 use std::marker::Model;
 
 /// At most so many names are bound at once.
@@ -21,9 +22,10 @@ pub struct Names {
 }
 
 impl Model for Names {
-    ghost use Rattle.pdl_machine.specs.Names.{Names as Bound};
+    ghost use Rattle.std.specs.Prelude.{ℕ};
+    ghost use Rattle.pdl_machine.specs.Names.{Named};
 
-    ghost Value = { Bound };
+    ghost Value = { Named ℕ };
 
     ghost view = { λ n. n.arrays.entries };
 }
@@ -38,17 +40,28 @@ impl Names {
         }
     }
 
+    /// The same names with the same arrays.
+    pub fn copied(&self) -> Result<Names, AllocError>
+        ensures { IfOk result (λ copy. copy ≡ self.now) }
+    {
+        Ok(Names {
+            arrays: self.arrays.clone()?,
+        })
+    }
+
     /// The array of a name.
     pub fn get(&self, name: &Name) -> Option<ArrayId>
-        ensures { result ≡ number_of self.now name.now }
+        ensures { result ≡ found self.now name.now }
     {
         self.arrays.get(name).copied()
     }
 
     /// Binds a name to an array, with `TooManyNames` where it is new and 512 are bound.
     pub fn bind(&mut self, name: &Name, id: ArrayId) -> Result<(), StepFault>
-        ensures ok { OnOk result (bind self.old name.now id ≡ Ok self.new) }
-        ensures fault { IfErr result (IsFault (bind self.old name.now id)) }
+        ensures ok { let wanted = entered names_limit TooManyNames self.old name.now id in
+            OnOk result (wanted ≡ Ok self.new) }
+        ensures fault { let wanted = entered names_limit TooManyNames self.old name.now id in
+            IfErr result (IsFault wanted) }
         ensures err { OnErr result (self.new ≡ self.old) }
     {
         if self.is_full_for(name) {
@@ -62,8 +75,7 @@ impl Names {
 
     /// Whether there is no room for the name: it isn't bound, and 512 are.
     fn is_full_for(&self, name: &Name) -> bool
-        ensures { let is_new = is_none (number_of self.now name.now) in
-            result ≡ (is_new && not (nat_lt (length self.now) names_limit)) }
+        ensures { result ≡ is_full_for names_limit self.now name.now }
     {
         self.arrays.len() >= MOST_NAMES && self.arrays.get(name).is_none()
     }

@@ -47,7 +47,7 @@ impl Scope {
 
     /// Prints a line with each name and the info of its array.
     pub fn print_names(&self, out: &mut Vec<u8>) -> Result<(), AllocError>
-        ensures { let text = flat_map (name_line self.now.arrays) self.now.names in
+        ensures { let text = flat_map (name_line self.now.arrays) self.now.names.arrays in
             OnOk result (out.new.items ≡ out.old.items ++ text) }
     {
         for index in 0..self.len() {

@@ -1,56 +1,71 @@
 //! Names and the arrays that they are bound to.
-ghost use Rattle.std.specs.Prelude.{◌≡◌, ◌<◌, [], length, IfSome, IsTrue, slice_get, Some};
+ghost use Rattle.std.specs.Prelude.{◌≡◌, ◌<◌, [], length, All, IfOk, IfSome, IsTrue, slice_get, Some};
 ghost use Rattle.pdl_shape.specs.Shape.{IsDims};
 ghost use Rattle.pdl_buf.specs.Made.{IsMade};
 ghost use Rattle.pdl_world.specs.Formula.{is_well_formed};
 ghost use Rattle.pdl_world.specs.Refused.{view_refusal};
 ghost use Rattle.pdl_world.specs.World.{dims_in, ty_in};
 ghost use Rattle.pdl_world.specs.Sound.{IsLive};
-ghost use Rattle.pdl_machine.specs.Names.{number_of};
+ghost use Rattle.pdl_machine.specs.declared.fault.Fault.TheVariants.{UnknownFunction};
+ghost use Rattle.pdl_machine.specs.Kernels.{kernel_outputs};
+ghost use Rattle.pdl_machine.specs.Names.{found, number_of};
+ghost use Rattle.pdl_machine.specs.Then.{and_then, or_fault};
 ghost use Rattle.pdl_machine.specs.State.{no_names, IsWhole};
 ghost use Rattle.pdl_machine.specs.Outcome.{new_root, new_view};
-ghost use Rattle.pdl_machine.specs.Step.{bind_value};
+ghost use Rattle.pdl_machine.specs.Step.{bind_value, roots_bound, kernel_named};
 ghost use Rattle.pdl_session.specs.Scope.{Grows, array_of};
-ghost use Rattle.pdl_session.specs.Answers.{Evaluates, Runs};
+ghost use Rattle.pdl_session.specs.Answers.{AnswersAs, Evaluates, Runs};
+ghost use Rattle.pdl_session.specs.Arguments.{all_seen_of, AreGivenLive};
 
+use crate::calling::kernel_outputs;
 use crate::fault::StepFault;
+use crate::given::Given;
+use crate::kernels::Kernels;
 use crate::names::Names;
-use pdl_buf::Steps;
+use pdl_buf::{Made, Steps};
 use pdl_elem::{Name, Ty};
 use pdl_engine::{ArrayId, Engine};
+use pdl_kernel::Kernel;
+use pdl_machine::Fault;
 use pdl_shape::Dims;
 use pdl_world::{Trans, growth_laws};
 use std::alloc::Global;
 use std::marker::Model;
 use std::sync::ledger::Ledger;
 
-/// Names, and an engine that keeps every array so far. It is seen as a state of the eager machine.
+/// Names, kernels, and an engine that keeps every array so far. It is seen as a state of the eager machine.
 #[derive(Drop)]
 pub struct Scope {
     pub(crate) alloc: Global,
     names: Names,
+    kernels: Kernels,
     pub(crate) engine: Engine,
 }
 
 impl Model for Scope {
     ghost use Rattle.pdl_machine.specs.State.{State, IsWhole};
-    ghost use Rattle.pdl_session.specs.Scope.{state_in};
+    ghost use Rattle.std.specs.Coded.{codes};
+    ghost use Rattle.pdl_kernel.specs.Coding.{coded_code};
+    ghost use Rattle.pdl_session.specs.Scope.{names_in, state_in};
 
     ghost Value = { State };
 
-    ghost view = { λ s. state_in s.names s.engine };
+    ghost coded = { Prim.hlevel (codes, coded_code) };
 
-    ghost invariant = { λ s. IsWhole (state_in s.names s.engine) };
+    ghost view = { λ s. state_in (names_in s.names s.kernels) s.engine };
+
+    ghost invariant = { λ s. IsWhole (state_in (names_in s.names s.kernels) s.engine) };
 }
 
 impl Scope {
-    /// No names and no arrays.
+    /// No names, no kernels and no arrays.
     pub fn new(alloc: Global) -> Scope
         ensures { result ≡ no_names }
     {
         Scope {
             alloc,
             names: Names::new(alloc),
+            kernels: Kernels::new(alloc),
             engine: Engine::new(alloc),
         }
     }
@@ -77,15 +92,15 @@ impl Scope {
 
     /// How many names are bound.
     pub fn len(&self) -> usize
-        ensures { result ≡ length self.now.names }
+        ensures { result ≡ length self.now.names.arrays }
     {
         self.names.len()
     }
 
     /// The name at a place in the order of the first bindings, with its array.
     pub fn entry(&self, index: usize) -> (&Name, ArrayId)
-        requires { index < length self.now.names }
-        ensures entry { slice_get self.now.names index ≡ Some (result.0.now, result.1) }
+        requires { index < length self.now.names.arrays }
+        ensures entry { slice_get self.now.names.arrays index ≡ Some (result.0.now, result.1) }
         ensures live { IsLive self.now.arrays.world result.1 }
     {
         self.names.entry(index)
@@ -144,5 +159,63 @@ impl Scope {
             Runs wanted self.old self.new [] [] result }
     {
         self.names.bind(name, id)
+    }
+
+    /// Binds names to new arrays in order. A fault binds none of them.
+    pub fn bind_roots<L: Ledger>(
+        &mut self,
+        bound: &[Name],
+        outputs: &[Made],
+        steps: &mut Steps<L>,
+    ) -> Result<(), StepFault>
+        requires { All (λ m. IsMade m.ty m.dims m.elems) outputs.now }
+        ensures { let wanted = roots_bound self.old bound.now outputs.now in
+            Runs wanted self.old self.new [] [] result }
+    {
+        let mut names = self.names.copied()?;
+        for i in 0..bound.len().min(outputs.len()) {
+            let made = &outputs[i];
+            let id = self.make(made.ty, &made.dims, made.elems.as_slice(), steps)?;
+            names.bind(&bound[i], id)?;
+        }
+        self.names = names;
+        Ok(())
+    }
+
+    /// Defines a kernel of a name, with `TooManyKernels` where it is new and 256 are there.
+    pub fn define(&mut self, name: Name, kernel: Kernel) -> Result<(), StepFault>
+        ensures { let wanted = kernel_named self.old name kernel in
+            Runs wanted self.old self.new [] [] result }
+    {
+        self.kernels.define(name, kernel)
+    }
+
+    /// What the call of a kernel's name gives, of which so many outputs are wanted.
+    pub fn kernel_outputs<L: Ledger>(
+        &mut self,
+        name: &Name,
+        wanted: usize,
+        given: &[Given],
+        steps: &mut Steps<L>,
+    ) -> Result<Vec<Made>, StepFault>
+        requires { AreGivenLive self.old.arrays.world given.now }
+        ensures value { let kernel = found self.old.names.kernels name.now in
+            let seen = all_seen_of self.old.arrays given.now in
+            let outputs = and_then (or_fault UnknownFunction kernel) (λ k. kernel_outputs k wanted seen) in
+            AnswersAs (λ ms. ms.items) outputs result }
+        ensures made { IfOk result (λ ms. All (λ m. IsMade m.ty m.dims m.elems) ms.items) }
+        ensures same { self.new ≡ self.old }
+    {
+        match self.kernels.get(name) {
+            Some(kernel) => kernel_outputs(
+                self.alloc,
+                kernel,
+                &mut self.engine,
+                wanted,
+                given,
+                steps,
+            ),
+            None => Err(StepFault::Script(Fault::UnknownFunction)),
+        }
     }
 }

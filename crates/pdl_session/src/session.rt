@@ -25,10 +25,14 @@ pub struct Session {
 }
 
 impl Model for Session {
+    ghost use Rattle.std.specs.Coded.{codes};
+    ghost use Rattle.pdl_kernel.specs.Coding.{coded_code};
     ghost use Rattle.pdl_machine.specs.Tidy.{tidy};
     ghost use Rattle.pdl_session.specs.Scope.{Session as Seen};
 
     ghost Value = { Seen };
+
+    ghost coded = { Prim.hlevel (codes, coded_code) };
 
     ghost view = { λ s. record { state = tidy s.scope; done = s.steps } };
 }

@@ -2,7 +2,7 @@
 ghost use Rattle.std.specs.Prelude.{◌≡◌, IfSome, option_map};
 ghost use Rattle.pdl_world.specs.World.{World};
 ghost use Rattle.pdl_world.specs.Sound.{IsLive};
-ghost use Rattle.pdl_session.specs.Arguments.{IsGivenLive, AreGivenLive, one_array, array_and_text, second_array, array_and_one, two_and_more, few_arrays};
+ghost use Rattle.pdl_session.specs.Arguments.{IsGivenLive, AreGivenLive, one_array, array_and_text, two_arrays, second_array, array_and_one, two_and_more, few_arrays};
 
 use crate::given::Given;
 use pdl_engine::ArrayId;
@@ -24,6 +24,18 @@ pub fn array_and_text<'a>(given: &[Given<'a>]) -> Option<&'a [u8]>
 {
     match given {
         [Given::Array(_), Given::Text(text)] => Some(*text),
+        _ => None,
+    }
+}
+
+/// The two arrays that stand alone.
+pub fn two_arrays(given: &[Given]) -> Option<(ArrayId, ArrayId)>
+    ensures shape { result ≡ two_arrays given.now }
+    ensures live { (w : World) → AreGivenLive w given.now →
+        IfSome result (λ r. IsLive w r.0 × IsLive w r.1) }
+{
+    match given {
+        [Given::Array(left), Given::Array(right)] => Some((*left, *right)),
         _ => None,
     }
 }

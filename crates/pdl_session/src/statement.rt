@@ -16,7 +16,7 @@ use crate::scope::Scope;
 use pdl_buf::Steps;
 use pdl_elem::Name;
 use pdl_lexemes::AssignOp;
-use pdl_machine::{Fault, builtin_named};
+use pdl_machine::Fault;
 use pdl_syntax::{Expr, Statement, Target, calls_are_trees};
 use std::sync::ledger::Ledger;
 
@@ -49,17 +49,12 @@ impl Scope {
             let wanted = list_bound self.old bound.now function.now (self.old.arrays, args) in
             Runs wanted self.old self.new [] [] result }
     {
-        let builtin = match builtin_named(function.bytes()) {
-            Some(builtin) => builtin,
-            None => return Err(StepFault::Script(Fault::UnknownFunction)),
-        };
-        match bound {
-            [name] => {
-                let id = self.builtin_call(builtin, given, steps)?;
-                self.bind(name, id)
-            }
-            _ => Err(StepFault::Script(Fault::WrongArguments)),
+        if bound.len() != 1 {
+            let outputs = self.several(function, bound.len(), given, steps)?;
+            return self.bind_roots(bound, &outputs, steps);
         }
+        let id = self.call(function, given, steps)?;
+        self.bind(&bound[0], id)
     }
 
     /// Binds the outputs of a call to a list of names.
@@ -141,6 +136,11 @@ impl Scope {
             Statement::Show { value, info } => self.show(value, *info, out, steps),
             Statement::ShowText { text } => Ok(print_text(text.bytes(), out)?),
             Statement::Vars => Ok(self.print_names(out)?),
+            Statement::PpDef {
+                name,
+                signature,
+                code,
+            } => self.define_kernel(name, signature, code),
             _ => Err(StepFault::Script(Fault::Syntax)),
         }
     }

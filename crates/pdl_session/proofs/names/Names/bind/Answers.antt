@@ -1,7 +1,8 @@
 use Rattle.std.proofs.Common.{◌≡◌, Result, Ok, OnOk, nat_eq, sym, ap, subst, ◌∙◌}
 use Rattle.std.specs.Cmp.Lexicographic.{pointwise}
 use Rattle.indexmap.specs.IndexMap.{insert_entry}
-use Rattle.pdl_machine.specs.Names.{bind}
+use Rattle.pdl_machine.specs.declared.fault.Fault.TheVariants.{TooManyNames}
+use Rattle.pdl_machine.specs.Names.{entered, names_limit}
 use Rattle.pdl_session.specs.declared.fault.StepFault.{StepFault}
 use Rattle.pdl_session.proofs.Bindings.{bind_free}
 use Rattle.pdl_session.proofs.names.Names.bind.Goals as goal
@@ -9,8 +10,8 @@ use Rattle.pdl_session.proofs.names.Names.bind.Goals.{in-Ok, in-Err}
 
 pub returns-clause-ok : goal.returns-clause-ok
 returns-clause-ok c =
-    let P : Result (Unit {0}) StepFault → Type 0 = λ r. OnOk r (bind c.args.self.now c.args.name.now c.args.id ≡ Ok c.insert.new.self.entries) in
+    let P : Result (Unit {0}) StepFault → Type 0 = λ r. OnOk r (entered names_limit TooManyNames c.args.self.now c.args.name.now c.args.id ≡ Ok c.insert.new.self.entries) in
     elim c.match-insert.branch [
-      | in-Ok w ↦ subst P (sym w.result-is) (bind_free c.args.self.now c.insert.new.self.entries c.args.name.now c.in_ok-clone.field-0 c.args.id c.is_full_for.result c.is_full_for.ensures c.if-is_full_for.false c.in_ok-clone.ensures.cases (w.in-Ok.ensures.entries ∙ ap (λ z. insert_entry (pointwise nat_eq) z c.in_ok-clone.field-0 c.args.id) c.self.view_is))
+      | in-Ok w ↦ subst P (sym w.result-is) (bind_free names_limit TooManyNames c.args.self.now c.insert.new.self.entries c.args.name.now c.in_ok-clone.field-0 c.args.id c.is_full_for.result c.is_full_for.ensures c.if-is_full_for.false c.in_ok-clone.ensures.cases (w.in-Ok.ensures.entries ∙ ap (λ z. insert_entry (pointwise nat_eq) z c.in_ok-clone.field-0 c.args.id) c.self.view_is))
       | in-Err w ↦ subst P (sym w.result-is) tt
     ]

@@ -1,11 +1,13 @@
-use Rattle.std.proofs.Common.{length, ap, ◌∙◌}
-use Rattle.pdl_machine.specs.Names.{number_of}
-use Rattle.pdl_session.proofs.Bindings.{number_found, full_told}
+use Rattle.std.proofs.Common.{length, ap, ◌∙◌, Option, ℕ}
+use Rattle.std.specs.Option.{option_copied}
+use Rattle.pdl_machine.specs.Names.{found, names_limit}
+use Rattle.pdl_session.proofs.Bindings.{number_found, full_told, some_copied}
 use Rattle.pdl_session.proofs.names.Names.is_full_for.Goals as goal
 
 pub returns-then-len-ge-MOST_NAMES : goal.returns-then-len-ge-MOST_NAMES
 returns-then-len-ge-MOST_NAMES c =
-    full_told c.args.self.now c.args.name.now c.len.result c.get.result c.is_none.result
+    let o : Option ℕ = option_copied c.get.result in
+    full_told names_limit c.args.self.now c.args.name.now c.len.result o c.is_none.result
     (c.len.ensures.len ∙ ap length c.self.view_is)
-    (c.get.ensures.value ∙ number_found c.self.inside.arrays.entries c.args.name.now ∙ ap (λ b. number_of b c.args.name.now) c.self.view_is)
-    c.is_none.ensures c.if-len-ge-MOST_NAMES.true
+    (c.get.ensures.value ∙ number_found c.self.inside.arrays.entries c.args.name.now ∙ ap (λ b. found b c.args.name.now) c.self.view_is)
+    (some_copied c.get.result ∙ c.is_none.ensures) c.if-len-ge-MOST_NAMES.true

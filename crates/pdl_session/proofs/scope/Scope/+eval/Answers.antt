@@ -32,9 +32,9 @@ eval-returns-in_ok-given-in-Call-clause-value g t c =
     let e : tree_of c.args.value.now ≡ call c.in-Call.name (args_of xs none) = tree_is c.args.value.now c.in-Call.name c.in-Call.args xs (c.calls_are_trees.ensures c.in-Call.name c.in-Call.args) c.in-Call.is c.deref-in-Call.ensures.value in
     let all : taken names a (args_of xs none) ≡ Ok (c.take.new.self.arrays, arguments c.in_ok-given-in-Call.given.items) =
     c.in_ok-given-in-Call.ensures.value a none (ap (λ gs. with_given a (arguments gs)) (sym c.new.ensures.items)) in
-    let v : value_of names a (tree_of c.args.value.now) ≡ call_value c.in-Call.name c.take.new.self.arrays (arguments c.deref-in-Call-2.result.now) =
+    let v : value_of names a (tree_of c.args.value.now) ≡ call_value c.take.new.self.names c.in-Call.name c.take.new.self.arrays (arguments c.deref-in-Call-2.result.now) =
     ap (value_of names a) e
-    ∙ call_is names a c.take.new.self.arrays c.in-Call.name (args_of xs none) (arguments c.in_ok-given-in-Call.given.items) (arguments c.deref-in-Call-2.result.now) all (ap arguments c.deref-in-Call-2.ensures.value) in
+    ∙ call_is names c.take.new.self.names a c.take.new.self.arrays c.in-Call.name (args_of xs none) (arguments c.in_ok-given-in-Call.given.items) (arguments c.deref-in-Call-2.result.now) all (ap arguments c.deref-in-Call-2.ensures.value) c.take.ensures.grown.names in
     let P : Valued → Type 0 = λ x. Evaluates x c.call.new.self c.call.result in
     subst P (sym v) c.call.ensures.value
 
@@ -47,7 +47,7 @@ eval-returns-in_err-given-in-Call-clause-value g t c =
     let e : tree_of c.args.value.now ≡ call c.in-Call.name (args_of xs none) = tree_is c.args.value.now c.in-Call.name c.in-Call.args xs (c.calls_are_trees.ensures c.in-Call.name c.in-Call.args) c.in-Call.is c.deref-in-Call.ensures.value in
     let all : IsFault (taken names a (args_of xs none)) f = c.in_err-given-in-Call.ensures.value a none (ap (λ gs. with_given a (arguments gs)) (sym c.new.ensures.items)) in
     let P : Tree → Type 0 = λ x. IsFault (value_of names a x) f in
-    let h : IsFault (value_of names a (tree_of c.args.value.now)) f = subst P (sym e) (first_fault (taken names a (args_of xs none)) (λ x. call_value c.in-Call.name x.0 x.1) f all) in
+    let h : IsFault (value_of names a (tree_of c.args.value.now)) f = subst P (sym e) (first_fault (taken names a (args_of xs none)) (λ x. call_value names c.in-Call.name x.0 x.1) f all) in
     let R : Result ℕ StepFault → Type 0 = Evaluates (value_of names a (tree_of c.args.value.now)) c.take.new.self in
     subst R (sym (is_fault c.from_residual-in_err-given-in-Call.result f c.from_residual-in_err-given-in-Call.ensures.1)) h
 

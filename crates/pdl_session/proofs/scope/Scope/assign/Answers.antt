@@ -3,19 +3,19 @@ use Rattle.pdl_machine.specs.State.{State, with_arrays, IsWhole}
 use Rattle.pdl_machine.specs.Step.{assigned}
 use Rattle.pdl_machine.specs.Then.{and_then}
 use Rattle.pdl_session.specs.Answers.{Prints}
-use Rattle.pdl_session.specs.Scope.{state_in}
+use Rattle.pdl_session.specs.Scope.{names_in, state_in}
 use Rattle.pdl_session.proofs.Growing.{both_readied, whole_assigned, values_written}
 use Rattle.pdl_session.proofs.scope.Scope.assign.Goals as goal
 
 pub invariant_of-self-in-Ok : goal.invariant_of-self-in-Ok
 invariant_of-self-in-Ok g c =
-    let whole : IsWhole (state_in c.self.inside.names c.ready-2.new.engine) =
-    subst IsWhole (sym (both_readied c.self.inside.names c.self.inside.engine c.ready.new.engine c.ready-2.new.engine c.ready.ensures.same c.ready-2.ensures.same)) c.self.invariant in
-    whole_assigned c.assignment_laws.ensures.looks c.assignment_laws.ensures.numbers c.self.inside.names c.ready-2.new.engine c.assign.new.self c.args.target c.deref.result.now whole c.assign.ensures.world c.assign.ensures.next c.assign.ensures.sound
+    let whole : IsWhole (state_in (names_in c.self.inside.names c.self.inside.kernels) c.ready-2.new.engine) =
+    subst IsWhole (sym (both_readied (names_in c.self.inside.names c.self.inside.kernels) c.self.inside.engine c.ready.new.engine c.ready-2.new.engine c.ready.ensures.same c.ready-2.ensures.same)) c.self.invariant in
+    whole_assigned c.assignment_laws.ensures.looks c.assignment_laws.ensures.numbers (names_in c.self.inside.names c.self.inside.kernels) c.ready-2.new.engine c.assign.new.self c.args.target c.deref.result.now whole c.assign.ensures.world c.assign.ensures.next c.assign.ensures.sound
 
 pub returns-in-Ok : goal.returns-in-Ok
 returns-in-Ok g c =
-    let same = both_readied c.self.inside.names c.self.inside.engine c.ready.new.engine c.ready-2.new.engine c.ready.ensures.same c.ready-2.ensures.same ∙ c.self.view_is in
-    let P : State → Type 0 = λ s. Prints (and_then (assigned c.args.sign s.arrays c.args.target c.args.value) (λ a. Ok (with_arrays s a, []))) (state_in c.self.inside.names c.assign.new.self) [] [] in
-    subst P same (values_written c.args.sign c.self.inside.names c.ready-2.new.engine c.assign.new.self c.args.target c.args.value c.in-Ok.values.items c.in-Ok.ensures.value
+    let same = both_readied (names_in c.self.inside.names c.self.inside.kernels) c.self.inside.engine c.ready.new.engine c.ready-2.new.engine c.ready.ensures.same c.ready-2.ensures.same ∙ c.self.view_is in
+    let P : State → Type 0 = λ s. Prints (and_then (assigned c.args.sign s.arrays c.args.target c.args.value) (λ a. Ok (with_arrays s a, []))) (state_in (names_in c.self.inside.names c.self.inside.kernels) c.assign.new.self) [] [] in
+    subst P same (values_written c.args.sign (names_in c.self.inside.names c.self.inside.kernels) c.ready-2.new.engine c.assign.new.self c.args.target c.args.value c.in-Ok.values.items c.in-Ok.ensures.value
     (rw (sym c.deref.ensures.value) c.assign.ensures.world) c.assign.ensures.next)

@@ -7,7 +7,7 @@ use Rattle.pdl_machine.specs.Outcome.{new_root}
 use Rattle.pdl_machine.specs.State.{State}
 use Rattle.pdl_machine.specs.Then.{and_then}
 use Rattle.pdl_session.specs.Answers.{IsFault, Evaluates}
-use Rattle.pdl_session.specs.Scope.{arrays_of, array_of}
+use Rattle.pdl_session.specs.Scope.{names_in, arrays_of, array_of}
 use Rattle.pdl_session.proofs.Faults.{first_fault}
 use Rattle.pdl_session.proofs.Growing.{both_readied}
 use Rattle.pdl_session.proofs.scope.Scope.binary.Goals as goal
@@ -15,7 +15,7 @@ use Rattle.pdl_session.proofs.scope.Scope.binary.Goals as goal
 pub returns-in-Ok-clause-value : goal.returns-in-Ok-clause-value
 returns-in-Ok-clause-value g c =
     let a = arrays_of c.ready-2.new.engine in
-    let same : a ≡ c.args.self.now.arrays = ap (λ (s : State). s.arrays) (both_readied c.self.inside.names c.self.inside.engine c.ready.new.engine c.ready-2.new.engine c.ready.ensures.same c.ready-2.ensures.same ∙ c.self.view_is) in
+    let same : a ≡ c.args.self.now.arrays = ap (λ (s : State). s.arrays) (both_readied (names_in c.self.inside.names c.self.inside.kernels) c.self.inside.engine c.ready.new.engine c.ready-2.new.engine c.ready.ensures.same c.ready-2.ensures.same ∙ c.self.view_is) in
     let P : Arrays → Type 0 = λ b. Evaluates (and_then (binary_each c.args.op (array_in b c.args.left) (array_in b c.args.right)) (new_root b)) c.make.new.self c.make.result in
     let Q : Result Made Fault → Type 0 = λ x. Evaluates (and_then x (new_root a)) c.make.new.self c.make.result in
     let R : List ℤ → Type 0 = λ es. Evaluates (new_root a (array_of c.in-Ok.made.ty c.in-Ok.made.dims es)) c.make.new.self c.make.result in
@@ -24,6 +24,6 @@ returns-in-Ok-clause-value g c =
 pub returns-in-Err-clause-value : goal.returns-in-Err-clause-value
 returns-in-Err-clause-value g c =
     let a = arrays_of c.ready-2.new.engine in
-    let same : a ≡ c.args.self.now.arrays = ap (λ (s : State). s.arrays) (both_readied c.self.inside.names c.self.inside.engine c.ready.new.engine c.ready-2.new.engine c.ready.ensures.same c.ready-2.ensures.same ∙ c.self.view_is) in
+    let same : a ≡ c.args.self.now.arrays = ap (λ (s : State). s.arrays) (both_readied (names_in c.self.inside.names c.self.inside.kernels) c.self.inside.engine c.ready.new.engine c.ready-2.new.engine c.ready.ensures.same c.ready-2.ensures.same ∙ c.self.view_is) in
     let P : Arrays → Type 0 = λ b. IsFault (and_then (binary_each c.args.op (array_in b c.args.left) (array_in b c.args.right)) (new_root b)) c.in-Err.fault in
     subst P same (first_fault (binary_each c.args.op (array_in a c.args.left) (array_in a c.args.right)) (new_root a) c.in-Err.fault c.in-Err.ensures.value)

@@ -25,7 +25,7 @@ returns-in_err-given-clause-value g c = λ a of h.
     (c.in_err-given.ensures.value a (value none of) (first_taken names a c.args.self.now.arrays of c.args.id c.in_ok-first.first.items h c.in_ok-first.ensures.items)) in
     let R : Result ℕ StepFault → Type 0 = Evaluates (value_of names a (call c.args.view.now.method (behind of (args_of xs none)))) c.take.new.self in
     subst R (sym (is_fault c.from_residual-in_err-given.result f c.from_residual-in_err-given.ensures.1))
-    (first_fault (taken names a (behind of (args_of xs none))) (λ t. call_value c.args.view.now.method t.0 t.1) f all)
+    (first_fault (taken names a (behind of (args_of xs none))) (λ t. call_value names c.args.view.now.method t.0 t.1) f all)
 
 pub returns-clause-value : goal.returns-clause-value
 returns-clause-value g c = λ a of h.
@@ -36,7 +36,7 @@ returns-clause-value g c = λ a of h.
     let P : Args → Type 0 = λ args. taken names a args ≡ Ok (c.take.new.self.arrays, given) in
     let all : taken names a (behind of (args_of xs none)) ≡ Ok (c.take.new.self.arrays, given) = subst P behind_is
     (c.in_ok-given.ensures.value a (value none of) (first_taken names a c.args.self.now.arrays of c.args.id c.in_ok-first.first.items h c.in_ok-first.ensures.items)) in
-    let v : value_of names a (call c.args.view.now.method (behind of (args_of xs none))) ≡ call_value c.args.view.now.method c.take.new.self.arrays (arguments c.deref-2.result.now) =
-    call_is names a c.take.new.self.arrays c.args.view.now.method (behind of (args_of xs none)) given (arguments c.deref-2.result.now) all (ap arguments c.deref-2.ensures.value) in
+    let v : value_of names a (call c.args.view.now.method (behind of (args_of xs none))) ≡ call_value c.take.new.self.names c.args.view.now.method c.take.new.self.arrays (arguments c.deref-2.result.now) =
+    call_is names c.take.new.self.names a c.take.new.self.arrays c.args.view.now.method (behind of (args_of xs none)) given (arguments c.deref-2.result.now) all (ap arguments c.deref-2.ensures.value) c.take.ensures.grown.names in
     let Q : Valued → Type 0 = λ x. Evaluates x c.call.new.self c.call.result in
     subst Q (sym v) c.call.ensures.value

@@ -1,0 +1,74 @@
+-- Kernels: operations that a script defines by a signature and code, and what a call of one gives (PDL::PP).
+use Rattle.std.specs.Prelude.{ℕ, ◌==◌, Bool, ◌&&◌, List, length, map, Option, Some, None, is_none, if◌then◌else◌, Result, Ok, Err}
+use Rattle.std.specs.List.{filter}
+use Rattle.pdl_buf.specs.declared.made.Made.{Made}
+use Rattle.pdl_code.specs.declared.fault.KernelFault.{KernelFault}
+use Rattle.pdl_kernel.specs.Call.{called}
+use Rattle.pdl_kernel.specs.Kernels.{Kernel, kernel_in}
+use Rattle.pdl_kernel.specs.declared.faults.RunFault.{RunFault}
+use Rattle.pdl_kernel.specs.declared.faults.RunFault.TheVariants as run
+use Rattle.pdl_lex.specs.Tokens.{is_word}
+use Rattle.pdl_lexemes.specs.Lexing.{found_in, keywords}
+use Rattle.pdl_reduce.specs.Pairings.{shape_of}
+use Rattle.pdl_sig.specs.declared.ResolveFault.{ResolveFault}
+use Rattle.pdl_sig.specs.declared.ResolveFault.TheVariants as resolve
+use Rattle.pdl_sig.specs.declared.SigFault.{SigFault}
+use Rattle.pdl_sig.specs.declared.Signature.{Signature}
+use Rattle.pdl_sig.specs.Meaning.{signature_in}
+use Rattle.pdl_sig.specs.Resolution.{is_output, resolution}
+use Rattle.pdl_machine.specs.declared.fault.Fault.{Fault}
+use Rattle.pdl_machine.specs.declared.fault.Fault.TheVariants.{WrongArguments, BadSignature, BadKernel, Mismatch, TooManyDims, TooLarge, TooMuchWork, OutOfRange, DivideByZero}
+use Rattle.pdl_machine.specs.Builtin.{builtin_of}
+use Rattle.pdl_machine.specs.Then.{and_then, or_fault, all_of}
+use Rattle.pdl_machine.specs.Refused.{or_named}
+use Rattle.pdl_machine.specs.Outcome.{array, string, type_word, Seen}
+
+-- the fault that names why arguments don't resolve: sizes that don't fit together are a mismatch
+abbrev pub resolve_fault : ResolveFault → Fault
+resolve_fault resolve.ArgCount = WrongArguments
+resolve_fault resolve.TooManyDims = TooManyDims
+resolve_fault resolve.TooLarge = TooLarge
+resolve_fault resolve.TooMuchWork = TooMuchWork
+resolve_fault _ = Mismatch
+
+-- the fault that names a fault of code
+abbrev pub run_fault : RunFault → Fault
+run_fault (run.DivideByZero place) = DivideByZero
+run_fault _ = OutOfRange
+
+-- the array that an argument is
+abbrev pub array_seen : Seen → Option Made
+array_seen (array m) = Some m
+array_seen (string t) = None
+array_seen (type_word ty) = None
+
+-- how many outputs a call has
+abbrev pub outputs_count : Signature → ℕ
+outputs_count signature = length (filter (λ a. is_output a.role) signature.args)
+
+-- what a kernel gives for arrays
+abbrev pub called_on : Kernel → List Made → Result (List Made) Fault
+called_on k given =
+    and_then (or_named resolve_fault (resolution k.signature (map shape_of given))) (λ resolved. or_named run_fault (called k resolved given))
+
+-- what the call of a kernel gives, of which so many outputs are wanted
+abbrev pub kernel_outputs : Kernel → (wanted : ℕ) → List Seen → Result (List Made) Fault
+kernel_outputs k wanted given =
+    if outputs_count k.signature == wanted then and_then (or_fault WrongArguments (all_of array_seen given)) (called_on k)
+    else Err WrongArguments
+
+-- whether a kernel may have this name: a word that is no built-in call and none of the words that name no call
+abbrev pub can_name : List ℕ → Bool
+can_name f = is_word f && is_none (found_in keywords f) && is_none (builtin_of f)
+
+abbrev pub signature_fault : SigFault → Fault
+signature_fault fault = BadSignature
+
+abbrev pub kernel_fault : KernelFault → Fault
+kernel_fault fault = BadKernel
+
+-- the kernel that a definition gives, or why it is refused
+abbrev pub defined : (name signature code : List ℕ) → Result Kernel Fault
+defined f signature code =
+    if can_name f then and_then (or_named signature_fault (signature_in signature)) (λ s. or_named kernel_fault (kernel_in s code))
+    else Err WrongArguments

@@ -1,0 +1,28 @@
+use Rattle.std.proofs.Common.{◌≡◌, true, sym, ◌∙◌}
+use Rattle.pdl_machine.specs.Kernels.{can_name, defined}
+use Rattle.pdl_session.specs.Faults.{of_signature, of_code}
+use Rattle.pdl_session.proofs.Definitions.{signature_refused, code_refused, kernel_read}
+use Rattle.pdl_session.proofs.Faults.{handed_on}
+use Rattle.pdl_session.proofs.defining.kernel_defined.Goals as goal
+
+pub returns-in_err-signature : goal.returns-in_err-signature
+returns-in_err-signature c =
+    let f = c.args.name.now in
+    let fault = c.in_err-signature.field-0.0 in
+    let named : can_name f ≡ true = sym c.can_name.ensures ∙ c.if-not-can_name.false in
+    handed_on (λ k. k) (defined f c.args.signature.now c.args.code.now) (of_signature fault) c.from_residual.result c.from_residual.ensures.1
+    (signature_refused f c.args.signature.now c.args.code.now fault named c.signature_meaning.ensures c.in_err-signature.ensures.refused)
+
+pub returns-in_err-read_kernel : goal.returns-in_err-read_kernel
+returns-in_err-read_kernel c =
+    let f = c.args.name.now in
+    let fault = c.in_err-read_kernel.field-0.0 in
+    let named : can_name f ≡ true = sym c.can_name.ensures ∙ c.if-not-can_name.false in
+    handed_on (λ k. k) (defined f c.args.signature.now c.args.code.now) (of_code fault) c.from_residual-in_err-read_kernel.result c.from_residual-in_err-read_kernel.ensures.1
+    (code_refused f c.args.signature.now c.args.code.now c.in_ok-signature.signature fault named c.signature_meaning.ensures c.in_ok-signature.ensures.read c.in_err-read_kernel.ensures.refused)
+
+pub returns : goal.returns
+returns c =
+    let f = c.args.name.now in
+    let named : can_name f ≡ true = sym c.can_name.ensures ∙ c.if-not-can_name.false in
+    kernel_read f c.args.signature.now c.args.code.now c.in_ok-signature.signature c.in_ok-read_kernel.field-0 named c.signature_meaning.ensures c.in_ok-signature.ensures.read c.in_ok-read_kernel.ensures.read

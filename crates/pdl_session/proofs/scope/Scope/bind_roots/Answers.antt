@@ -1,0 +1,55 @@
+use Rattle.std.proofs.Common.{◌≡◌, ◌<◌, ◌≤◌, ℤ, [], List, Result, Ok, length, refl, sym, ap, subst, ◌∙◌, arith}
+use Rattle.pdl_machine.specs.Outcome.{new_root}
+use Rattle.pdl_machine.specs.Step.{Stepped, roots_bound}
+use Rattle.pdl_session.specs.declared.fault.StepFault.{StepFault}
+use Rattle.pdl_session.specs.Answers.{Prints, Runs}
+use Rattle.pdl_session.specs.Scope.{array_of, names_in, state_in}
+use Rattle.pdl_session.proofs.Faults.{is_fault}
+use Rattle.pdl_session.proofs.Growing.{grows_trans}
+use Rattle.pdl_session.proofs.Roots.{naming, roots_more, roots_done, name_refused, live_more}
+use Rattle.pdl_session.proofs.Statements.{kept_at}
+use Rattle.pdl_session.proofs.scope.Scope.bind_roots.Goals as goal
+
+pub returns-in_err-bind : goal.returns-in_err-bind
+returns-in_err-bind g c =
+    let old = c.args.self.now in
+    let xs = c.args.bound.now in
+    let ms = c.args.outputs.now in
+    let m = c.index-outputs-i.result in
+    let id = c.in_ok-id.id in
+    let f = c.in_err-bind.field-0.0 in
+    let V : List ℤ → Type 0 = λ es. new_root c.loop-i.self.arrays (array_of m.ty m.dims es) ≡ Ok (c.make.new.self.arrays, id) in
+    let within : c.loop-i.i < length xs = omega arith in
+    let there : c.loop-i.i < length ms = omega arith in
+    let R : Result (Unit {0}) StepFault → Type 0 = Runs (roots_bound old xs ms) old c.make.new.self [] [] in
+    subst R (sym (is_fault c.from_residual-in_err-bind.result f c.from_residual-in_err-bind.ensures.1)) (
+      name_refused old c.loop-i.self c.make.new.self c.loop-i.names xs ms c.loop-i.i c.index-bound-i.result m id f within there c.index-bound-i.is c.index-outputs-i.is c.loop-i.invariant.so_far
+          (subst V c.as_slice.ensures c.in_ok-id.ensures.value.0) c.in_err-bind.ensures.fault,
+      kept_at f old c.make.new.self [] (grows_trans old c.loop-i.self c.make.new.self c.loop-i.invariant.grown c.make.ensures.grown),
+    )
+
+pub loop-i-preserved : goal.loop-i-preserved
+loop-i-preserved g c =
+    let old = c.args.self.now in
+    let xs = c.args.bound.now in
+    let ms = c.args.outputs.now in
+    let m = c.index-outputs-i.result in
+    let id = c.in_ok-id.id in
+    let V : List ℤ → Type 0 = λ es. new_root c.loop-i.self.arrays (array_of m.ty m.dims es) ≡ Ok (c.make.new.self.arrays, id) in
+    let within : c.loop-i.i < length xs = omega arith in
+    let there : c.loop-i.i < length ms = omega arith in
+    record {
+      so_far = roots_more old c.loop-i.self c.make.new.self c.loop-i.names c.bind.new.self xs ms c.loop-i.i c.index-bound-i.result m id within there c.index-bound-i.is c.index-outputs-i.is c.loop-i.invariant.so_far
+          (subst V c.as_slice.ensures c.in_ok-id.ensures.value.0) c.make.ensures.grown c.in_ok-bind.ensures.ok;
+      grown = grows_trans old c.loop-i.self c.make.new.self c.loop-i.invariant.grown c.make.ensures.grown;
+      live = live_more c.loop-i.self c.make.new.self c.loop-i.names c.bind.new.self c.index-bound-i.result id c.loop-i.invariant.live c.make.ensures.grown c.in_ok-id.ensures.value.1 c.in_ok-bind.ensures.ok;
+    }
+
+pub returns : goal.returns
+returns g c =
+    let names = c.loop-i.names in
+    let xs = c.args.bound.now in
+    let ms = c.args.outputs.now in
+    let P : Stepped → Type 0 = λ r. Prints r (state_in (names_in names c.self-2.inside.kernels) c.self-2.inside.engine) [] [] in
+    let end : c.loop-i.i < length xs → length ms ≤ c.loop-i.i = λ within. omega arith in
+    subst P (sym (c.loop-i.invariant.so_far ∙ roots_done (naming c.loop-i.self names) xs ms c.loop-i.i end)) (ap (λ s. naming s names) c.self-2.view_is, refl)

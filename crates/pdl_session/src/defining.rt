@@ -1,0 +1,61 @@
+//! `pp_def`: definitions of kernels (PDL::PP).
+ghost use Rattle.std.specs.Prelude.{◌≡◌, []};
+ghost use Rattle.pdl_syntax.specs.StatementTree.{pp_def};
+ghost use Rattle.pdl_machine.specs.Kernels.{can_name, defined};
+ghost use Rattle.pdl_machine.specs.Step.{effect};
+ghost use Rattle.pdl_session.specs.Answers.{AnswersAs, Runs};
+
+use crate::fault::StepFault;
+use crate::scope::Scope;
+use pdl_elem::{Name, Text};
+use pdl_kernel::{Kernel, read_kernel};
+use pdl_lex::is_word;
+use pdl_lexemes::keyword_named;
+use pdl_machine::{Fault, builtin_named};
+use pdl_sig::laws::signature_meaning;
+use pdl_sig::read_signature;
+use std::alloc::Global;
+
+impl Scope {
+    /// Defines a kernel by its signature and its code.
+    pub fn define_kernel(
+        &mut self,
+        name: &Text,
+        signature: &Text,
+        code: &Text,
+    ) -> Result<(), StepFault>
+        ensures { let wanted = effect self.old (pp_def name.now signature.now code.now) in
+            Runs wanted self.old self.new [] [] result }
+    {
+        let kernel = kernel_defined(self.alloc(), name.bytes(), signature.bytes(), code.bytes())?;
+        let name = Name::new(Vec::from_slice(self.alloc(), name.bytes())?);
+        self.define(name, kernel)
+    }
+}
+
+/// The kernel of a definition. Texts of statements are far shorter than 4 GiB.
+fn kernel_defined(
+    alloc: Global,
+    name: &[u8],
+    signature: &[u8],
+    code: &[u8],
+) -> Result<Kernel, StepFault>
+    ensures { AnswersAs (λ k. k) (defined name.now signature.now code.now) result }
+{
+    signature_meaning();
+    if !can_name(name) {
+        return Err(StepFault::Script(Fault::WrongArguments));
+    }
+    let signature = read_signature(alloc, signature)?;
+    if code.len() > u32::MAX as usize {
+        return Err(StepFault::NoMemory);
+    }
+    Ok(read_kernel(alloc, signature, code)?)
+}
+
+/// Whether a kernel may have this name: a word that names nothing of the language.
+fn can_name(name: &[u8]) -> bool
+    ensures { result ≡ can_name name.now }
+{
+    is_word(name) && keyword_named(name).is_none() && builtin_named(name).is_none()
+}
