@@ -44,6 +44,17 @@ fn a_sink_in_memory_takes_and_fails(rt: HostRuntime) -> Result<(), Fail> {
 }
 
 #[test]
+fn a_sink_counts(rt: HostRuntime) {
+    let mut sink = CountSink::new();
+    assert_eq!(rt; sink.write(b"[60 382 430 "), Ok(12));
+    assert_eq!(rt; sink.write(b""), Ok(0));
+    assert_eq!(rt; sink.write(b"478]\n"), Ok(5));
+    assert_eq!(rt; sink.flush(), Ok(()));
+    assert_eq!(rt; sink.count(), 17);
+    assert_eq!(rt; sink.sum(), 863);
+}
+
+#[test]
 fn a_text_is_written_whole_or_in_part(rt: HostRuntime) -> Result<(), Fail> {
     // How many bytes a write takes, the calls that fail, the answer, and what was taken.
     let texts: [(usize, &[u64], Result<(), Failed>, &[u8]); 4] = [

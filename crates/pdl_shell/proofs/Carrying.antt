@@ -27,7 +27,7 @@ newlines-append xs ys = sum_by-append (λ x. cond (is_newline x) 1 0) xs ys
 pub after_marks-cons : (keep : Bool) (p : Progress) (m : Mark) (ms : List Mark) → p.ended ≡ false → after_marks keep p (m ∷ ms) ≡ after_marks keep (after_mark keep p m) ms
 after_marks-cons keep p m ms running = rw running refl
 
-is_prefix-refl : (xs : List ℕ) → IsPrefix xs xs
+pub is_prefix-refl : (xs : List ℕ) → IsPrefix xs xs
 is_prefix-refl xs = ([], sym (append-nil xs))
 
 pub is_prefix-trans : (xs ys zs : List ℕ) → IsPrefix xs ys → IsPrefix ys zs → IsPrefix xs zs
@@ -202,6 +202,10 @@ feeds old new cut piece bytes used is stream certain lines = record {
 pub on_err : {T E P : Type 0} (r : Result T E) → P → OnErr r P
 on_err (Ok x) p = tt
 on_err (Err e) p = p
+
+pub on_ok : {T E P : Type 0} (r : Result T E) → P → OnOk r P
+on_ok (Ok x) p = p
+on_ok (Err e) p = tt
 
 -- no piece of the unfinished statement is certain: it would be answered at its end if it were whole
 pub unfinished : (s : State) (last : Option Piece) → last ≡ begun s → option_to_list last ≡ to_come s [] → settled_from s [] ≡ []

@@ -1,3 +1,5 @@
 pub mod Carrying
 pub mod Whole
 pub mod WordLemmas
+pub mod Texts
+pub mod StatementCount

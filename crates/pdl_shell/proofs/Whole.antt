@@ -2,7 +2,7 @@
 use Rattle.std.proofs.Common.{◌≡◌, ℕ, ◌+◌, ◌<◌, ◌≤◌, min, List, [], ◌∷◌, ◌++◌, map, length, take, drop, Bool, true, false, Option, Some, None, Result, Ok, Err, refl, sym, ◌∙◌, ap, arith, append_assoc, append-nil}
 use Rattle.std.proofs.lemmas.Bool.{ltb-true, ltb-false}
 use Rattle.std.proofs.Math.Dec.{ltb}
-use Rattle.std.specs.Prelude.{nat_lt, IfOk, OnErr, IsErr}
+use Rattle.std.specs.Prelude.{◌≢◌, nat_lt, IfOk, OnErr, IsErr}
 use Rattle.std.proofs.Math.Seq.{take-length, drop-append_seam}
 use Rattle.std.proofs.lemmas.List.{length-drop, nil_from_length}
 use Rattle.std.specs.Io.KnownBytes.{Appends, Consumes, Keeps, IsAtEnd}
@@ -15,10 +15,9 @@ use Rattle.pdl_shell.specs.declared.runner.Runner.{Runner}
 use Rattle.pdl_shell.specs.declared.stop.Stop.{Stop}
 use Rattle.pdl_shell.specs.Stops.{Writes}
 use Rattle.pdl_shell.specs.declared.stop.Stop.TheVariants.{Source, Sink, NoMemory as NoRoom}
-use Rattle.pdl_shell.specs.declared.words.Command.{Command}
 use Rattle.pdl_shell.specs.declared.status.Status.{Status}
 use Rattle.pdl_shell.specs.declared.status.Status.TheVariants.{Done, ScriptFault, Usage, SourceFault, SinkFault, WatcherFault, NoMemory}
-use Rattle.pdl_shell.specs.Answers.{IsAnswer, TakesAtMost, Gives, GivesLine, HasReason, IsUndisturbed, status_after}
+use Rattle.pdl_shell.specs.Answers.{IsAnswer, TakesAtMost, Ending, ending_of_run, Gives, HasReason, IsUndisturbed, status_after}
 use Rattle.pdl_shell.specs.Course.{outcome, Carries, StopsShort, Finishes, FinishesShort}
 
 -- nothing taken yet
@@ -144,18 +143,18 @@ rest_read (Some bs) (Some rest) seen script read is =
     ap Some (rest_at (script_limit + 1) rest seen script (sym same ∙ read.all) read.within (λ short. read.end (omega (arith, short))))
 
 -- what a status says of the run
-pub gives_after : (result : Result Bool Stop) (whole seen : Progress) (before now : Option (List ℕ)) → Writes result seen before now → whole ≡ seen → Gives (status_after result) whole before now
+pub gives_after : (result : Result Bool Stop) (whole seen : Progress) (before now : Option (List ℕ)) → Writes result seen before now → whole ≡ seen → Gives (status_after result) (ending_of_run whole) before now
 gives_after (Ok true) whole seen before now wrote same = rw same (rw (← wrote.0) refl, wrote.1)
 gives_after (Ok false) whole seen before now wrote same = rw same (rw (← wrote.0) refl, wrote.1)
 gives_after (Err Source) whole seen before now wrote same = rw same wrote
 gives_after (Err Sink) whole seen before now wrote same = rw same wrote
 gives_after (Err NoRoom) whole seen before now wrote same = rw same wrote
 
--- a run whose script couldn't be read
-pub gives_nothing : (stop : Stop) (whole : Progress) (taken : Option (List ℕ)) → Gives (status_after (Err stop)) whole taken taken
-gives_nothing Source whole taken = ([], (whole.printed, refl), appends_nothing taken)
-gives_nothing Sink whole taken = ([], (whole.printed, refl), appends_nothing taken)
-gives_nothing NoRoom whole taken = ([], (whole.printed, refl), appends_nothing taken)
+-- a call that stopped short before it wrote anything
+pub gives_nothing : (stop : Stop) (whole : Ending) (taken : Option (List ℕ)) → Gives (status_after (Err stop)) whole taken taken
+gives_nothing Source whole taken = ([], (whole.text, refl), appends_nothing taken)
+gives_nothing Sink whole taken = ([], (whole.text, refl), appends_nothing taken)
+gives_nothing NoRoom whole taken = ([], (whole.text, refl), appends_nothing taken)
 
 -- a run that is done has read the source to its end
 pub done_at_end : (too_long : TooLongFaults) (keep : Bool) (result : Result Bool Stop) (old new before now : Option (List ℕ)) (seen : List ℕ)
@@ -170,19 +169,15 @@ done_at_end too_long keep (Err Source) old new before now seen read wrote done =
 done_at_end too_long keep (Err Sink) old new before now seen read wrote done = cc
 done_at_end too_long keep (Err NoRoom) old new before now seen read wrote done = cc
 
-pub no_command : (found : Option Command) (command : Command) → None ≡ found → found ≡ Some command → ⊥
-no_command found command none some = cc
-
--- words that are no spelling are answered where the sink's count didn't rise
-pub usage_complete : (status : Status) (line : List ℕ) (source before now : ℕ) (taken written : Option (List ℕ))
-    → GivesLine status line taken written
+-- a call that doesn't read its source comes to its end where the sink's count didn't rise
+pub quiet_complete : (status : Status) (source before now : ℕ) → (status ≡ SourceFault → ⊥)
     → HasReason status (record { source = source; sink = before }) (record { source = source; sink = now })
     → IsUndisturbed (record { source = source; sink = before }) (record { source = source; sink = now })
-    → IsAnswer status
-usage_complete Done line source before now taken written gives reason quiet = absurd gives
-usage_complete ScriptFault line source before now taken written gives reason quiet = absurd gives
-usage_complete Usage line source before now taken written gives reason quiet = tt
-usage_complete SourceFault line source before now taken written gives reason quiet = absurd gives
-usage_complete SinkFault line source before now taken written gives reason quiet = quiet.sink reason.0
-usage_complete WatcherFault line source before now taken written gives reason quiet = absurd gives
-usage_complete NoMemory line source before now taken written gives reason quiet = absurd gives
+    → status ≢ NoMemory → IsAnswer status
+quiet_complete Done source before now unread reason quiet memory = tt
+quiet_complete ScriptFault source before now unread reason quiet memory = tt
+quiet_complete Usage source before now unread reason quiet memory = tt
+quiet_complete SourceFault source before now unread reason quiet memory = absurd (unread refl)
+quiet_complete SinkFault source before now unread reason quiet memory = quiet.sink reason.0
+quiet_complete WatcherFault source before now unread reason quiet memory = absurd reason
+quiet_complete NoMemory source before now unread reason quiet memory = absurd (memory refl)

@@ -1,9 +1,13 @@
 -- What each status of a call says of the run, of what was written, and of the counts of faults.
-use Rattle.std.specs.Prelude.{◌≡◌, ℕ, ◌≤◌, ⊤, List, drop, Option, Some, IfSome, Bool, Result, Ok, Err, if◌then◌else◌}
+use Rattle.std.specs.Prelude.{◌≡◌, ℕ, ◌≤◌, ⊤, List, drop, Option, Some, None, IfSome, Bool, Result, Ok, Err, if◌then◌else◌}
 use Rattle.std.specs.Io.KnownBytes.{Appends}
 use Rattle.pdl_io.specs.Counts.{Rose}
 use Rattle.pdl_io.specs.Told.{AppendsPrefix}
-use Rattle.pdl_machine.specs.Run.{Progress}
+use Rattle.pdl_machine.specs.Run.{Progress, run}
+use Rattle.pdl_shell.specs.Command.{usage_line}
+use Rattle.pdl_shell.specs.Summary.{summary}
+use Rattle.pdl_shell.specs.declared.words.Command.{Command}
+use Rattle.pdl_shell.specs.declared.words.Command.TheVariants.{Run, Generate}
 use Rattle.pdl_shell.specs.declared.stop.Stop.{Stop}
 use Rattle.pdl_shell.specs.declared.stop.Stop.TheVariants.{Source, Sink, NoMemory as NoRoom}
 use Rattle.pdl_shell.specs.declared.status.Status.{Status}
@@ -19,30 +23,43 @@ IsAnswer SinkFault = ⊥
 IsAnswer WatcherFault = ⊥
 IsAnswer NoMemory = ⊥
 
--- the status that a run ends with
-abbrev pub status_of : Progress → Status
-status_of run = if run.faulted then ScriptFault else Done
+-- what a call comes to, unless it stops short: how it ends, and all that it writes
+pub record Ending : Type 0 where
+  pub status : Status
+  pub text : List ℕ
 
--- what was written, from what the sink had taken before the call and has now: at the end of a run its
--- whole text, and the status is the run's; where the call stopped short, a prefix of that text
-abbrev pub Gives : Status → Progress → Option (List ℕ) → Option (List ℕ) → Type 0
-Gives Done run old new = (Done ≡ status_of run) × Appends old new run.printed
-Gives ScriptFault run old new = (ScriptFault ≡ status_of run) × Appends old new run.printed
-Gives Usage run old new = ⊥
-Gives SourceFault run old new = AppendsPrefix old new run.printed
-Gives SinkFault run old new = AppendsPrefix old new run.printed
-Gives WatcherFault run old new = ⊥
-Gives NoMemory run old new = AppendsPrefix old new run.printed
+abbrev pub ending_of_run : Progress → Ending
+ending_of_run run = record { status = if run.faulted then ScriptFault else Done; text = run.printed }
 
--- with words that are no spelling: the whole line was written, or a prefix of it where the sink failed
-abbrev pub GivesLine : Status → List ℕ → Option (List ℕ) → Option (List ℕ) → Type 0
-GivesLine Usage line old new = Appends old new line
-GivesLine SinkFault line old new = AppendsPrefix old new line
-GivesLine Done line old new = ⊥
-GivesLine ScriptFault line old new = ⊥
-GivesLine SourceFault line old new = ⊥
-GivesLine WatcherFault line old new = ⊥
-GivesLine NoMemory line old new = ⊥
+-- what a call comes to with what its words ask for, and with the script that the source has
+abbrev pub ending : Option Command → (script : List ℕ) → Ending
+ending None script = record { status = Usage; text = usage_line }
+ending (Some (Run keep)) script = ending_of_run (run keep script)
+ending (Some (Generate rounds)) script = record { status = Done; text = summary rounds }
+
+-- what was written, from what the sink had taken before the call and has now: at the end the ending's
+-- whole text, and the status is the ending's; where the call stopped short, a prefix of that text
+abbrev pub Gives : Status → Ending → Option (List ℕ) → Option (List ℕ) → Type 0
+Gives Done ending old new = (Done ≡ ending.status) × Appends old new ending.text
+Gives ScriptFault ending old new = (ScriptFault ≡ ending.status) × Appends old new ending.text
+Gives Usage ending old new = (Usage ≡ ending.status) × Appends old new ending.text
+Gives SourceFault ending old new = AppendsPrefix old new ending.text
+Gives SinkFault ending old new = AppendsPrefix old new ending.text
+Gives WatcherFault ending old new = ⊥
+Gives NoMemory ending old new = AppendsPrefix old new ending.text
+
+-- the statuses that words which ask for this can be answered by
+abbrev pub CanAnswer : Option Command → Status → Type 0
+CanAnswer None Usage = ⊤
+CanAnswer None SinkFault = ⊤
+CanAnswer None _ = ⊥
+CanAnswer (Some (Run keep)) Usage = ⊥
+CanAnswer (Some (Run keep)) WatcherFault = ⊥
+CanAnswer (Some (Run keep)) _ = ⊤
+CanAnswer (Some (Generate rounds)) Done = ⊤
+CanAnswer (Some (Generate rounds)) SinkFault = ⊤
+CanAnswer (Some (Generate rounds)) NoMemory = ⊤
+CanAnswer (Some (Generate rounds)) _ = ⊥
 
 -- the counts of faults of the source and of the sink
 pub record Counts : Type 0 where

@@ -1,5 +1,7 @@
 pub mod Number
 pub mod Command
+pub mod Generated
+pub mod Summary
 pub mod Unrun
 pub mod Marks
 pub mod Stops

@@ -2,6 +2,7 @@
 //! the status at the end.
 #![tactic(auto)]
 
+mod generated;
 mod mark;
 mod output;
 mod reading;
@@ -10,6 +11,7 @@ mod runner;
 mod statement;
 mod status;
 mod stop;
+mod summary;
 mod words;
 
 pub use run::run_shell;

@@ -1,19 +1,20 @@
 //! The call that runs a script.
-ghost use Rattle.std.specs.Prelude.{◌≡◌, ◌≢◌, ℕ, ◌+◌, ◌<◌, List, drop, map, Bool, true, Some, None, IfSome, OnOk, OnErr};
+ghost use Rattle.std.specs.Prelude.{◌≡◌, ◌≢◌, ℕ, ◌+◌, ◌<◌, List, drop, map, Bool, true, false, Some, None, OnOk, OnErr};
 ghost use Rattle.std.specs.Io.KnownBytes.{Appends, IsAtEnd};
 ghost use Rattle.std.specs.String.{string_bytes};
 ghost use Rattle.pdl_io.specs.Counts.{HasCause};
 ghost use Rattle.pdl_io.specs.Told.{Says, KeepsTelling, AppendsPrefix};
 ghost use Rattle.pdl_lex.specs.Limits.{script_limit};
 ghost use Rattle.pdl_machine.specs.Run.{run};
-ghost use Rattle.pdl_shell.specs.Command.{command_of, usage_line};
+ghost use Rattle.pdl_shell.specs.Command.{command_of, reads_source, usage_line};
 ghost use Rattle.pdl_shell.specs.Stops.{HasSinkCause, Writes};
-ghost use Rattle.pdl_shell.specs.Answers.{IsAnswer, Gives, GivesLine, HasReason, TakesAtMost, ReadsUpTo, IsUndisturbed};
+ghost use Rattle.pdl_shell.specs.Answers.{IsAnswer, ending, ending_of_run, Gives, CanAnswer, HasReason, TakesAtMost, ReadsUpTo, IsUndisturbed};
 
 use crate::reading::{SCRIPT_LIMIT, read_script};
 use crate::runner::Runner;
 use crate::status::Status;
 use crate::stop::{Stop, status_after};
+use crate::summary::summarize;
 use crate::words::{Command, read_words};
 use pdl_buf::new_steps;
 use pdl_io::{Failed, Sink, Source, write_all};
@@ -26,7 +27,7 @@ use std::sync::ledger::{Blank, Ledger};
 const USAGE_LINE: &[u8] = b"usage: pdl [--keep-going] [--generate N]\n";
 
 // Runs a script of which these are all the bytes, or all up to and with the one past the limit.
-fn run_bytes<K: Sink, L: Ledger>(
+pub(crate) fn run_bytes<K: Sink, L: Ledger>(
     alloc: Global,
     keep_going: bool,
     script: &[u8],
@@ -56,7 +57,8 @@ fn run_script<S: Source, K: Sink>(
     sink: &mut K,
 ) -> Status
     ensures model { (script : List ℕ) → S.left source.old ≡ Some script →
-        Gives result (run keep_going script) (K.taken sink.old) (K.taken sink.new) }
+        Gives result (ending_of_run (run keep_going script)) (K.taken sink.old) (K.taken sink.new) }
+    ensures answers { CanAnswer (Some (Command.Run keep_going)) result }
     ensures read { (script : List ℕ) → S.left source.old ≡ Some script → IsAnswer result →
         S.left source.new ≡ Some (drop (script_limit + 1) script) }
     ensures end { result ≡ Status.Done → IsAtEnd (S.left source.new) }
@@ -66,7 +68,6 @@ fn run_script<S: Source, K: Sink>(
         (record { source = S.faults source.new; sink = K.faults sink.new }) }
     ensures flushed { IsAnswer result → Says (K.is_flushed sink.new) true }
     ensures tells { KeepsTelling (K.is_flushed sink.old) (K.is_flushed sink.new) }
-    ensures spelled { result ≢ Status.Usage }
 {
     run_laws();
     match read_script(alloc, source) {
@@ -92,7 +93,8 @@ fn write_usage<K: Sink>(sink: &mut K) -> Result<(), Failed>
 
 // Answers words that are no spelling of the command.
 fn usage<K: Sink>(sink: &mut K) -> Status
-    ensures line { GivesLine result usage_line (K.taken sink.old) (K.taken sink.new) }
+    ensures model { (script : List ℕ) → Gives result (ending None script) (K.taken sink.old) (K.taken sink.new) }
+    ensures answers { CanAnswer None result }
     ensures reason { (faults : ℕ) → HasReason result
         (record { source = faults; sink = K.faults sink.old })
         (record { source = faults; sink = K.faults sink.new }) }
@@ -105,11 +107,16 @@ fn usage<K: Sink>(sink: &mut K) -> Status
     }
 }
 
-/// Runs the script that the source gives, and writes what it prints to the sink.
+/// Runs the script that the source gives, or the generated one, and writes what it prints to the sink.
 ///
-/// `words` are the words of the command line without the program's name: none, or `--keep-going`. Where
-/// they are no spelling of the command, the usage line is written, and the source isn't touched. Else the
-/// script is read to its end, and its statements are run in order. After each of them its text is
+/// `words` are the words of the command line without the program's name: none, `--keep-going`,
+/// `--generate N` or `--generate=N`, or both, in either order. N is one to four decimal digits, at most
+/// 2000. Where they are no spelling of the command, the usage line is written. With `--generate` the
+/// generated script of N rounds is run, what it prints is counted, and one line is written: how many
+/// statements it has, how many bytes they print, and what these sum to. In both cases the source isn't
+/// touched.
+///
+/// Else the script is read to its end, and its statements are run in order. After each of them its text is
 /// written, or the line of its fault. The first fault ends the run, unless it is to keep going; that the
 /// script is too long always ends it. At the end the sink is flushed.
 ///
@@ -121,21 +128,21 @@ pub fn run_shell<S: Source, K: Sink>(
     source: &mut S,
     sink: &mut K,
 ) -> Status
-    // With words that are no spelling the answer is Usage or SinkFault, and the source stays.
-    ensures usage { command_of (map string_bytes words.now) ≡ None → source.new ≡ source.old }
-    ensures usage_line { command_of (map string_bytes words.now) ≡ None →
-        GivesLine result usage_line (K.taken sink.old) (K.taken sink.new) }
-    ensures usage_only { result ≡ Status.Usage → command_of (map string_bytes words.now) ≡ None }
+    // What is written and the status are those of the ending that the words ask for; where the call stops
+    // short, a prefix is written. The script is the source's, where the source is read.
+    ensures model { (script : List ℕ) →
+        (reads_source (command_of (map string_bytes words.now)) ≡ true → S.left source.old ≡ Some script) →
+        Gives result (ending (command_of (map string_bytes words.now)) script)
+        (K.taken sink.old) (K.taken sink.new) }
+    ensures answers { CanAnswer (command_of (map string_bytes words.now)) result }
 
-    // What is written and the status are the run's; where it stops short, a prefix is written.
-    ensures model { (keep : Bool) → command_of (map string_bytes words.now) ≡ Some (Command.Run keep) →
-        IfSome (S.left source.old) (λ script.
-        Gives result (run keep script) (K.taken sink.old) (K.taken sink.new)) }
-
-    // How far the source is read.
-    ensures read { (keep : Bool) → command_of (map string_bytes words.now) ≡ Some (Command.Run keep) →
+    // How far the source is read: not at all, or to its end, or past the limit of a script.
+    ensures unread { reads_source (command_of (map string_bytes words.now)) ≡ false →
+        source.new ≡ source.old }
+    ensures read { reads_source (command_of (map string_bytes words.now)) ≡ true →
         IsAnswer result → ReadsUpTo (script_limit + 1) (S.left source.old) (S.left source.new) }
-    ensures end { result ≡ Status.Done → IsAtEnd (S.left source.new) }
+    ensures end { reads_source (command_of (map string_bytes words.now)) ≡ true →
+        result ≡ Status.Done → IsAtEnd (S.left source.new) }
     ensures at_most { TakesAtMost (script_limit + 1) (S.left source.old) (S.left source.new) }
 
     // A fault of the source or the sink is answered only where its count rose in this call.
@@ -153,6 +160,7 @@ pub fn run_shell<S: Source, K: Sink>(
 {
     match read_words(words) {
         Some(Command::Run { keep_going }) => run_script(alloc, keep_going, source, sink),
+        Some(Command::Generate { rounds }) => summarize(alloc, rounds, sink),
         None => usage(sink),
     }
 }

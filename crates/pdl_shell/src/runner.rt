@@ -8,7 +8,7 @@ use pdl_io::Sink;
 use pdl_lex::StatementCutter;
 use pdl_machine::run_laws;
 use pdl_session::Session;
-use std::alloc::Global;
+use std::alloc::{AllocError, Global};
 use std::sync::ledger::Ledger;
 
 // A run on its way.
@@ -57,14 +57,13 @@ impl Runner {
     }
 
     // Runs a statement, and leaves in `text` what it prints, or the line of its fault.
-    fn answer<L: Ledger>(&mut self, mark: &Mark, steps: &mut Steps<L>) -> Result<(), Stop>
+    fn answer<L: Ledger>(&mut self, mark: &Mark, steps: &mut Steps<L>) -> Result<(), AllocError>
         ensures cutter { self.new.cutter ≡ self.old.cutter }
         ensures step { OnOk result ((printed : List ℕ) →
             after_mark self.old.keep_going (progress self.old printed) (mark_of mark.now)
             ≡ progress self.new (printed ++ mark_text self.old.session.state (mark_of mark.now))) }
         ensures keep { self.new.keep_going ≡ self.old.keep_going }
         ensures text { OnOk result (self.new.text.items ≡ mark_text self.old.session.state (mark_of mark.now)) }
-        ensures stop { OnErr result (result ≡ Err Stop.NoMemory) }
     {
         match run_mark(self.alloc, &mut self.session, mark, &mut self.text, steps) {
             Ok(()) => Ok(()),
@@ -74,7 +73,7 @@ impl Runner {
                 self.ended = mark.fault_ends(self.keep_going);
                 Ok(())
             }
-            Err(Unrun::Stopped(stop)) => Err(stop),
+            Err(Unrun::NoMemory) => Err(AllocError),
         }
     }
 

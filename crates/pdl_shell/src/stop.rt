@@ -40,11 +40,11 @@ pub(crate) fn status_after(ran: Result<bool, Stop>) -> Status
     }
 }
 
-// Why a statement wasn't run: by a fault of its own, or since the whole run stops short.
+// Why a statement wasn't run: by a fault of its own, or for want of memory, which stops the run short.
 #[derive(Clone, Copy, PartialEq, Eq, Debug)]
 pub(crate) enum Unrun {
     Faulted(Fault),
-    Stopped(Stop),
+    NoMemory,
 }
 
 impl From<LexFault> for Unrun {
@@ -53,7 +53,7 @@ impl From<LexFault> for Unrun {
     fn from(fault: LexFault) -> Unrun {
         match fault {
             LexFault::BadByte { .. } | LexFault::OpenString { .. } => Unrun::Faulted(Fault::Syntax),
-            LexFault::NoMemory => Unrun::Stopped(Stop::NoMemory),
+            LexFault::NoMemory => Unrun::NoMemory,
         }
     }
 }
@@ -67,7 +67,7 @@ impl From<ParseFault> for Unrun {
             ParseFault::NumberTooLarge => Unrun::Faulted(Fault::NumberTooLarge),
             ParseFault::Syntax => Unrun::Faulted(Fault::Syntax),
             ParseFault::Ragged => Unrun::Faulted(Fault::Ragged),
-            ParseFault::NoMemory => Unrun::Stopped(Stop::NoMemory),
+            ParseFault::NoMemory => Unrun::NoMemory,
         }
     }
 }
@@ -78,7 +78,7 @@ impl From<StepFault> for Unrun {
     fn from(fault: StepFault) -> Unrun {
         match fault {
             StepFault::Script(fault) => Unrun::Faulted(fault),
-            StepFault::NoMemory => Unrun::Stopped(Stop::NoMemory),
+            StepFault::NoMemory => Unrun::NoMemory,
         }
     }
 }

@@ -1,24 +1,105 @@
 //! The words of the command line.
 ghost use Rattle.std.specs.Prelude.{◌≡◌, map};
 ghost use Rattle.std.specs.String.{string_bytes};
-ghost use Rattle.pdl_shell.specs.Command.{command_of, command_of_word};
+ghost use Rattle.pdl_shell.specs.Command.{is_keep_going, is_generate, value_of, is_number_of_rounds, generating, generating_joined, command_of_one, command_of_two, command_of_three, command_of};
 
 // What the words ask for.
 #[derive(Clone, Copy, PartialEq, Eq, Debug)]
 pub(crate) enum Command {
     // To run the source's script, which goes on after faults or doesn't.
     Run { keep_going: bool },
+    // To run the generated script of so many rounds up to its first fault, if there is one, and write its
+    // summary. To go on after faults asks for nothing more.
+    Generate { rounds: u16 },
 }
 
 // The word that asks to go on after faults.
 const KEEP_GOING: &[u8] = b"--keep-going";
 
-// What one word asks for.
-fn read_word(word: &[u8]) -> Option<Command>
-    ensures { result ≡ command_of_word word.now }
+// The word that stands before a number of rounds.
+const GENERATE: &[u8] = b"--generate";
+
+// What stands before a number of rounds in the same word.
+const GENERATE_EQUALS: &[u8] = b"--generate=";
+
+// The most rounds.
+const MOST_ROUNDS: u16 = 2000;
+
+fn is_keep_going(word: &[u8]) -> bool
+    ensures { result ≡ is_keep_going word.now }
 {
-    if word == KEEP_GOING {
+    word == KEEP_GOING
+}
+
+fn is_generate(word: &[u8]) -> bool
+    ensures { result ≡ is_generate word.now }
+{
+    word == GENERATE
+}
+
+// What a number of rounds asks for.
+fn generating(word: &[u8]) -> Option<Command>
+    ensures { result ≡ generating word.now }
+{
+    if word.is_empty() || word.len() > 4 {
+        return None;
+    }
+    let mut rounds = 0;
+    'reading: for digit in word {
+        if !digit.is_ascii_digit() {
+            return None;
+        }
+        rounds = rounds * 10 + u16::from(*digit - b'0');
+    }
+    if rounds <= MOST_ROUNDS {
+        Some(Command::Generate { rounds })
+    } else {
+        None
+    }
+}
+
+// What a number of rounds asks for in the same word.
+fn generating_joined(word: &[u8]) -> Option<Command>
+    ensures { result ≡ generating_joined word.now }
+{
+    if word.starts_with(GENERATE_EQUALS) {
+        generating(&word[GENERATE_EQUALS.len()..])
+    } else {
+        None
+    }
+}
+
+fn read_one(word: &[u8]) -> Option<Command>
+    ensures { result ≡ command_of_one word.now }
+{
+    if is_keep_going(word) {
         Some(Command::Run { keep_going: true })
+    } else {
+        generating_joined(word)
+    }
+}
+
+fn read_two(first: &[u8], second: &[u8]) -> Option<Command>
+    ensures { result ≡ command_of_two first.now second.now }
+{
+    if is_keep_going(first) {
+        generating_joined(second)
+    } else if is_keep_going(second) {
+        generating_joined(first)
+    } else if is_generate(first) {
+        generating(second)
+    } else {
+        None
+    }
+}
+
+fn read_three(first: &[u8], second: &[u8], third: &[u8]) -> Option<Command>
+    ensures { result ≡ command_of_three first.now second.now third.now }
+{
+    if is_keep_going(first) && is_generate(second) {
+        generating(third)
+    } else if is_generate(first) && is_keep_going(third) {
+        generating(second)
     } else {
         None
     }
@@ -30,7 +111,9 @@ pub(crate) fn read_words(words: &[String]) -> Option<Command>
 {
     match words {
         [] => Some(Command::Run { keep_going: false }),
-        [word] => read_word(word.as_bytes()),
+        [word] => read_one(word.as_bytes()),
+        [first, second] => read_two(first.as_bytes(), second.as_bytes()),
+        [first, second, third] => read_three(first.as_bytes(), second.as_bytes(), third.as_bytes()),
         _ => None,
     }
 }

@@ -1,7 +1,7 @@
 use Rattle.std.proofs.Common.{◌≡◌, subst, sym, ◌∙◌, ap}
 use Rattle.pdl_machine.specs.Run.{run}
 use Rattle.pdl_shell.specs.declared.status.Status.{Status}
-use Rattle.pdl_shell.specs.Answers.{Gives}
+use Rattle.pdl_shell.specs.Answers.{Gives, ending_of_run}
 use Rattle.pdl_shell.proofs.Whole.{IsRead, run_seen, rest_read, gives_after, done_at_end}
 use Rattle.pdl_shell.proofs.run.run_script.Goals as goal
 
@@ -12,7 +12,7 @@ returns-in-Ok-clause-model g c script is =
     let keep = c.args.keep_going in
     let same : run keep script ≡ run keep c.deref.result.now =
     run_seen c.run_laws.ensures.limit keep _ _ c.in-Ok.script.items script read is ∙ ap (run keep) (sym c.deref.ensures.value) in
-    subst (λ (status : Status). Gives status (run keep script) (g.K.Sink.taken c.args.sink.now) (g.K.Sink.taken c.run_bytes-ran.new.sink)) (sym c.status_after.ensures)
+    subst (λ (status : Status). Gives status (ending_of_run (run keep script)) (g.K.Sink.taken c.args.sink.now) (g.K.Sink.taken c.run_bytes-ran.new.sink)) (sym c.status_after.ensures)
     (gives_after c.run_bytes-ran.result (run keep script) (run keep c.deref.result.now) (g.K.Sink.taken c.args.sink.now) (g.K.Sink.taken c.run_bytes-ran.new.sink) c.run_bytes-ran.ensures.writes same)
 
 pub returns-in-Ok-clause-read : goal.returns-in-Ok-clause-read

@@ -1,4 +1,4 @@
-use Rattle.std.proofs.Common.{◌≡◌, List, ℕ, [], drop, subst}
+use Rattle.std.proofs.Common.{List, ℕ, drop, subst}
 use Rattle.std.proofs.lemmas.List.{take_rest, drop_all}
 use Rattle.pdl_shell.specs.Course.{StopsShort, Carries}
 use Rattle.pdl_shell.proofs.Carrying.{on_err, stops_then, carries_ended}

@@ -1,0 +1,88 @@
+//! The run of the generated script, of which one line is written.
+ghost use Rattle.std.specs.Prelude.{◌≡◌, ℕ, ◌==◌, ◌+◌, ◌≤◌, List, length, false, true, Some, IfOk, OnOk, OnErr, if◌then◌else◌};
+ghost use Rattle.std.specs.Io.KnownBytes.{Appends};
+ghost use Rattle.std.specs.String.{string_bytes};
+ghost use Rattle.pdl_io.specs.Told.{Says, KeepsTelling, AppendsPrefix};
+ghost use Rattle.pdl_lex.specs.Pieces.{pieces};
+ghost use Rattle.pdl_machine.specs.Run.{run};
+ghost use Rattle.pdl_shell.specs.declared.words.Command.TheVariants.{Generate};
+ghost use Rattle.pdl_shell.specs.Generated.{generated_script};
+ghost use Rattle.pdl_shell.specs.Summary.{summary};
+ghost use Rattle.pdl_shell.specs.Stops.{HasSinkCause};
+ghost use Rattle.pdl_shell.specs.Answers.{IsAnswer, ending, Gives, CanAnswer, HasReason};
+
+use crate::generated::generated_script;
+use crate::output::{flush, write_text};
+use crate::run::run_bytes;
+use crate::status::Status;
+use crate::stop::{Stop, status_after};
+use pdl_io::{CountSink, Sink};
+use std::alloc::{AllocError, Global};
+use std::marker::Brand;
+use std::sync::ledger::Blank;
+
+// How many statements the generated script of so many rounds has: one a line.
+fn statement_count(rounds: u16) -> u64
+    ensures { result ≡ length (pieces (generated_script rounds)) }
+{
+    if rounds == 0 {
+        0
+    } else {
+        u64::from(rounds) + 2
+    }
+}
+
+// Runs the generated script of so many rounds, and counts what it prints. A text that is too long to be
+// counted is answered as want of memory.
+fn count_printed(alloc: Global, rounds: u16) -> Result<CountSink, AllocError>
+    ensures { IfOk result (λ counted. counted.bytes ≡ (run false (generated_script rounds)).printed) }
+{
+    let script = generated_script(alloc, rounds)?;
+    let mut printed = CountSink::new();
+    match run_bytes::<CountSink, Brand>(alloc, false, &script, &mut printed, Blank::new(1)) {
+        Ok(_) => Ok(printed),
+        Err(_) => Err(AllocError),
+    }
+}
+
+// The line that sums up the run of the generated script of so many rounds.
+fn summary(alloc: Global, rounds: u16) -> Result<String, AllocError>
+    ensures { IfOk result (λ line. string_bytes line ≡ summary rounds) }
+{
+    let printed = count_printed(alloc, rounds)?;
+    let statements = statement_count(rounds);
+    let bytes = printed.count();
+    let sum = printed.sum();
+    let line = format!(in alloc; "statements {statements} bytes {bytes} sum {sum}\n")?;
+    Ok(line)
+}
+
+// Writes that line, and flushes it.
+fn write_summary<K: Sink>(alloc: Global, rounds: u16, sink: &mut K) -> Result<(), Stop>
+    ensures whole { OnOk result (Appends (K.taken sink.old) (K.taken sink.new) (summary rounds)) }
+    ensures prefix { OnErr result (AppendsPrefix (K.taken sink.old) (K.taken sink.new) (summary rounds)) }
+    ensures flushed { OnOk result (Says (K.is_flushed sink.new) true) }
+    ensures tells { KeepsTelling (K.is_flushed sink.old) (K.is_flushed sink.new) }
+    ensures cause { HasSinkCause (K.faults sink.old) (K.faults sink.new) result }
+{
+    let line = summary(alloc, rounds)?;
+    write_text(sink, line.as_bytes())?;
+    flush(sink)
+}
+
+// Runs the generated script of so many rounds, and writes the line that sums it up.
+pub(crate) fn summarize<K: Sink>(alloc: Global, rounds: u16, sink: &mut K) -> Status
+    ensures model { (script : List ℕ) →
+        Gives result (ending (Some (Generate rounds)) script) (K.taken sink.old) (K.taken sink.new) }
+    ensures answers { CanAnswer (Some (Generate rounds)) result }
+    ensures reason { (faults : ℕ) → HasReason result
+        (record { source = faults; sink = K.faults sink.old })
+        (record { source = faults; sink = K.faults sink.new }) }
+    ensures flushed { IsAnswer result → Says (K.is_flushed sink.new) true }
+    ensures tells { KeepsTelling (K.is_flushed sink.old) (K.is_flushed sink.new) }
+{
+    match write_summary(alloc, rounds, sink) {
+        Ok(()) => Status::Done,
+        Err(stop) => status_after(Err(stop)),
+    }
+}
