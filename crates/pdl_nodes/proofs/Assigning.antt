@@ -12,6 +12,7 @@ use Rattle.pdl_nodes.specs.Row.{Row}
 use Rattle.pdl_nodes.specs.Rows.{Rows, row_at, has, each}
 use Rattle.pdl_nodes.specs.Assigned.{entry}
 use Rattle.pdl_nodes.specs.Changes.{kept_in, mark_in, wait_in}
+use Rattle.pdl_nodes.specs.Known.{IsLiftable}
 use Rattle.pdl_nodes.specs.Late.{settle, await}
 use Rattle.pdl_nodes.specs.Placed.{placed, placed_by}
 use Rattle.pdl_nodes.specs.Spots.{spots, Below}
@@ -23,7 +24,6 @@ use Rattle.pdl_nodes.proofs.Marks.{each_live, each_each}
 use Rattle.pdl_nodes.proofs.Moving.{spot_entry}
 use Rattle.pdl_nodes.proofs.Lowered.{set_same, falls_still, only_mark}
 use Rattle.pdl_nodes.proofs.Seens.{IsSeen, is_seen}
-use Rattle.pdl_nodes.proofs.Liftings.{IsLiftable}
 use Rattle.pdl_nodes.specs.Assigned.{put_all}
 use Rattle.pdl_nodes.specs.Late.{put_through}
 use Rattle.pdl_nodes.specs.Row.{places_or}
@@ -64,6 +64,11 @@ pub over_base : (rs : Rows) (b v : ℕ) (ps : List (Option ℕ)) → IsStill rs 
 over_base rs b v ps s h e k =
     (is_seen rs s v h).over ∙ ap (λ x. map (entry (places_of rs x)) (spots (row_at rs v).triple)) e ∙ ap (λ (qs : List (Option ℕ)). map (entry qs) (spots (row_at rs v).triple)) (sym k)
 
+pub over_found : (rs : Rows) (b v : ℕ) (o : Option (List (Option ℕ))) → IsStill rs → has rs v ≡ true → (row_at rs v).base ≡ b → is_some o ≡ true → ((ps : List (Option ℕ)) → o ≡ Some ps → ps ≡ places_of rs b)
+    → placed_by o (row_at rs v).triple ≡ places_of rs v
+over_found rs b v None s h e y k = absurd (cc)
+over_found rs b v (Some ps) s h e y k = sym (over_base rs b v ps s h e (k ps refl))
+
 rooted_mark : (rs : Rows) (rt k : ℕ) → IsRoot rs rt → cond (eqb k rt) true (cond (eqb (row_at rs k).root rt) false (row_at rs k).mark) ≡ cond (eqb (row_at rs k).root rt) (cond (eqb k rt) true false) (row_at rs k).mark
 rooted_mark rs rt k i = elim (eqb_tells k rt) [
   | inl t ↦ rw (t.0, same (row_at rs k).root rt (ap (λ x. (row_at rs x).root) t.1 ∙ i.1)) refl
@@ -76,14 +81,14 @@ none_stays rs rt k w = elim (eqb_tells k rt) [
   | inr t ↦ rw t.0 refl
 ]
 
-rooted_row : (rs : Rows) (rt k : ℕ) (es : List ℤ) → IsRoot rs rt → (row_at rs rt).waiting ≡ None → mark_in rt rt true k (kept_in rt es k (row_at rs k)) ≡ settle rt es rt false k (row_at rs k)
+rooted_row : (rs : Rows) (rt k : ℕ) (es : List ℤ) → IsRoot rs rt → (row_at rs rt).waiting ≡ None → mark_in rt rt k (kept_in rt es k (row_at rs k)) ≡ settle rt es rt false k (row_at rs k)
 rooted_row rs rt k es i w = set_same (row_at rs k) _ _ _ _ _ _ _ _ _ _ refl (rooted_mark rs rt k i) refl refl (none_stays rs rt k w)
 
 -- the root was written where nothing waited, and is marked alone
-pub rooted_all : (rs : Rows) (rt : ℕ) (es : List ℤ) → IsStill rs → IsRoot rs rt → (row_at rs rt).waiting ≡ None → each (mark_in rt rt true) (each (kept_in rt es) rs) ≡ each (settle rt es rt false) rs
+pub rooted_all : (rs : Rows) (rt : ℕ) (es : List ℤ) → IsStill rs → IsRoot rs rt → (row_at rs rt).waiting ≡ None → each (mark_in rt rt) (each (kept_in rt es) rs) ≡ each (settle rt es rt false) rs
 rooted_all rs rt es s i w =
-    each_each (mark_in rt rt true) (kept_in rt es) rs
-    ∙ each_live (λ k r. mark_in rt rt true k (kept_in rt es k r)) (settle rt es rt false) rs (falls_still rs s) (λ k l. rooted_row rs rt k es i w)
+    each_each (mark_in rt rt) (kept_in rt es) rs
+    ∙ each_live (λ k r. mark_in rt rt k (kept_in rt es k r)) (settle rt es rt false) rs (falls_still rs s) (λ k l. rooted_row rs rt k es i w)
 
 based_mark : (rs : Rows) (rt b k : ℕ) → (row_at rs b).root ≡ rt → cond (eqb k b) true (cond (eqb (row_at rs k).root rt) false (row_at rs k).mark) ≡ cond (eqb (row_at rs k).root rt) (cond (eqb k b) true false) (row_at rs k).mark
 based_mark rs rt b k g = elim (eqb_tells k b) [
@@ -91,15 +96,15 @@ based_mark rs rt b k g = elim (eqb_tells k b) [
   | inr t ↦ elim (eqb_tells (row_at rs k).root rt) [ inl y ↦ rw (t.0, y.0) refl | inr y ↦ rw (t.0, y.0) refl ]
 ]
 
-based_row : (rs : Rows) (rt b k : ℕ) (ks : List ℤ) → (row_at rs b).root ≡ rt → wait_in rt (Some b) k (mark_in rt b true k (kept_in b ks k (row_at rs k))) ≡ await rt b ks k (row_at rs k)
+based_row : (rs : Rows) (rt b k : ℕ) (ks : List ℤ) → (row_at rs b).root ≡ rt → wait_in rt (Some b) k (mark_in rt b k (kept_in b ks k (row_at rs k))) ≡ await rt b ks k (row_at rs k)
 based_row rs rt b k ks g = set_same (row_at rs k) _ _ _ _ _ _ _ _ _ _ refl (based_mark rs rt b k g) refl refl refl
 
 -- the base was written, is marked alone, and waits
-pub based_all : (rs : Rows) (rt b : ℕ) (ks : List ℤ) → IsStill rs → (row_at rs b).root ≡ rt → each (wait_in rt (Some b)) (each (mark_in rt b true) (each (kept_in b ks) rs)) ≡ each (await rt b ks) rs
+pub based_all : (rs : Rows) (rt b : ℕ) (ks : List ℤ) → IsStill rs → (row_at rs b).root ≡ rt → each (wait_in rt (Some b)) (each (mark_in rt b) (each (kept_in b ks) rs)) ≡ each (await rt b ks) rs
 based_all rs rt b ks s g =
-    ap (each (wait_in rt (Some b))) (each_each (mark_in rt b true) (kept_in b ks) rs)
-    ∙ each_each (wait_in rt (Some b)) (λ k r. mark_in rt b true k (kept_in b ks k r)) rs
-    ∙ each_live (λ k r. wait_in rt (Some b) k (mark_in rt b true k (kept_in b ks k r))) (await rt b ks) rs (falls_still rs s) (λ k l. based_row rs rt b k ks g)
+    ap (each (wait_in rt (Some b))) (each_each (mark_in rt b) (kept_in b ks) rs)
+    ∙ each_each (wait_in rt (Some b)) (λ k r. mark_in rt b k (kept_in b ks k r)) rs
+    ∙ each_live (λ k r. wait_in rt (Some b) k (mark_in rt b k (kept_in b ks k r))) (await rt b ks) rs (falls_still rs s) (λ k l. based_row rs rt b k ks g)
 
 waits_still : (rs : Rows) (rt b k : ℕ) → (row_at rs rt).waiting ≡ Some b → (row_at rs k).waiting ≡ cond (eqb k rt) (Some b) (row_at rs k).waiting
 waits_still rs rt b k w = elim (eqb_tells k rt) [
@@ -135,7 +140,7 @@ again_all rs rt b ks o i m g n = again_of rs rt b ks (row_at rs rt).waiting refl
 pub base_root : (rs : Rows) (rt b v : ℕ) → InOrder rs → has rs v ≡ true → (row_at rs v).base ≡ b → (row_at rs v).root ≡ rt → (row_at rs b).root ≡ rt
 base_root rs rt b v o h e g = ap (λ x. (row_at rs x).root) (sym e) ∙ (is_seen rs o.still v h).base_root ∙ g
 
-known_or : (o : Option (List (Option ℕ))) (qs : List (Option ℕ)) → is_some o ≡ true → ((ps : List (Option ℕ)) → o ≡ Some ps → ps ≡ qs) → places_or o ≡ qs
+pub known_or : (o : Option (List (Option ℕ))) (qs : List (Option ℕ)) → is_some o ≡ true → ((ps : List (Option ℕ)) → o ≡ Some ps → ps ≡ qs) → places_or o ≡ qs
 known_or None qs h e = absurd (cc)
 known_or (Some ps) qs h e = e ps refl
 

@@ -284,3 +284,7 @@ deeper_next rs v p n x s h m e g =
       | inl t ↦ t.0 ∙ sym (lt_true n (length (path (shape rs) v)) (omega (arith, l, m, t.1)))
       | inr t ↦ t.0 ∙ sym (lt_false n (length (path (shape rs) v)) (omega (arith, l, m, t.1)))
     ]
+
+-- no array has a number above all as its root
+pub no_root : (rs : Rows) (n : ℕ) → IsStill rs → NumbersBelow n rs → (v : ℕ) → has rs v ≡ true → (row_at rs v).root ≡ n → ⊥
+no_root rs n s b v h e = not_newest rs n n b (root_live rs n v s h e).0 refl

@@ -6,6 +6,7 @@ pub mod Rests
 pub mod Reaches
 pub mod Removes
 pub mod Marks
+pub mod Listing
 pub mod Shapes
 pub mod Lists
 pub mod Spotted

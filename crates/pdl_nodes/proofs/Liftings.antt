@@ -1,37 +1,30 @@
 -- What is known when the kept elements of a marked view are taken out, while its root is written.
 use Rattle.std.proofs.Common.{◌≡◌, ℕ, ℤ, ◌<◌, ◌≤◌, Bool, true, false, List, [], ◌∷◌, length, Option, Some, None, is_some, inl, inr, refl, sym, ◌∙◌, ap, subst}
-use Rattle.pdl_elem.specs.declared.Ty.{Ty}
+use Rattle.std.specs.Ordering.{nat_cmp}
+use Rattle.std.specs.BTreeMap.{BTreeMap}
+use Rattle.std.specs.BTreeMap.{get as key_at}
+use Rattle.slab.specs.Slab.{Slab, get, ContainsKey, with_value}
 use Rattle.pdl_buf.specs.Buffer.{Kept}
 use Rattle.pdl_shape.specs.Shape.{size_of}
 use Rattle.pdl_shape.specs.Places.{read, write}
 use Rattle.pdl_nodes.specs.Row.{Row, parent_of, is_buffered}
 use Rattle.pdl_nodes.specs.Rows.{Rows, row_at, has, each}
-use Rattle.pdl_nodes.specs.Changes.{kept_in, lift_in, fill_in}
-use Rattle.pdl_nodes.specs.Known.{IsKnown, AreKnown}
+use Rattle.pdl_nodes.specs.declared.marked.Marked.{Marked}
+use Rattle.pdl_nodes.specs.Changes.{kept_in, lift_in, fill_in, or_known}
+use Rattle.pdl_nodes.specs.Marked.{AreListed}
+use Rattle.pdl_nodes.specs.Table.{rows_of, IsTable}
+use Rattle.pdl_nodes.specs.Known.{IsKnown, AreKnown, IsLiftable}
 use Rattle.pdl_nodes.specs.Worlds.{places_of, latest, IsRoot}
 use Rattle.pdl_nodes.specs.Families.{IsMarked, InFamily, InOrder}
-use Rattle.pdl_nodes.proofs.Finds.{same, differ, each_has, each_at}
+use Rattle.pdl_nodes.proofs.Calls.{changed_one, node_is, table_falls}
+use Rattle.pdl_nodes.proofs.Finds.{each_has, each_at}
+use Rattle.pdl_nodes.proofs.Listing.{table_one, listed_each}
 use Rattle.pdl_nodes.proofs.Shapes.{marked_live}
-use Rattle.pdl_nodes.proofs.Marks.{lift_others, kept_others}
+use Rattle.pdl_nodes.proofs.Marks.{lift_here, lift_others, kept_here, kept_others, fill_here, fill_others}
 use Rattle.pdl_nodes.proofs.Lists.{length_read}
 use Rattle.pdl_nodes.proofs.Lowered.{IsHeld, lowered}
 use Rattle.pdl_nodes.proofs.Origins.{root_buffered, view_parent}
 use Rattle.pdl_nodes.proofs.Seens.{IsSeen, is_seen}
-
--- b is a marked view in the family of rt, and its places are known
-pub record IsLiftable (rs : Rows) (rt b : ℕ) : Type 0 where
-  pub live : has rs b ≡ true
-  pub view : is_some (parent_of (row_at rs b)) ≡ true
-  pub found : is_some (row_at rs b).places ≡ true
-  pub mark : (row_at rs b).mark ≡ true
-  pub size : length (row_at rs b).kept ≡ size_of (row_at rs b).triple.dims
-  pub count : (ps : List (Option ℕ)) → (row_at rs b).places ≡ Some ps → length ps ≡ size_of (row_at rs b).triple.dims
-  pub places : (ps : List (Option ℕ)) → (row_at rs b).places ≡ Some ps → ps ≡ places_of rs b
-  pub same_type : (row_at rs b).ty ≡ (row_at rs rt).ty
-  pub root_live : has rs rt ≡ true
-  pub root_buffered : is_buffered (row_at rs rt) ≡ true
-  pub root_size : length (row_at rs rt).kept ≡ size_of (row_at rs rt).triple.dims
-  pub apart : rt ≡ b → ⊥
 
 pub liftable : (rs : Rows) (rt b : ℕ) → InOrder rs → AreKnown rs → IsRoot rs rt → (b ≡ rt → ⊥) → (row_at rs b).root ≡ rt → (row_at rs b).mark ≡ true → IsLiftable rs rt b
 liftable rs rt b o k i n g m =
@@ -55,35 +48,70 @@ liftable rs rt b o k i n g m =
       apart = λ e. n (sym e);
     }
 
--- the rows while it is out
-pub record IsLifted (rs t : Rows) (rt b : ℕ) : Type 0 where
-  pub root_live : has t rt ≡ true
-  pub root_row : row_at t rt ≡ row_at rs rt
-  pub live : has t b ≡ true
-  pub ty : (row_at t b).ty ≡ (row_at rs b).ty
+-- ---- while it is out of a table, and the root is written
 
-pub lifted : (rs t : Rows) (rt b : ℕ) → IsLiftable rs rt b → t ≡ each (lift_in b) rs → IsLifted rs t rt b
-lifted rs t rt b l e = record {
-  root_live = ap (λ x. has x rt) e ∙ each_has (lift_in b) rs rt ∙ l.root_live;
-  root_row = ap (λ x. row_at x rt) e ∙ each_at (lift_in b) rs rt l.root_live ∙ lift_others b rt (row_at rs rt) l.apart;
-  live = ap (λ x. has x b) e ∙ each_has (lift_in b) rs b ∙ l.live;
-  ty = ap (λ x. (row_at x b).ty) e ∙ ap (λ (r : Row). r.ty) (each_at (lift_in b) rs b l.live);
-}
+rows_lifted : (t : Rows) (keys : BTreeMap ℕ ℕ) (nodes : Slab Row) (b key : ℕ) (r q : Row) → rows_of nodes keys.entries ≡ t → IsTable keys nodes → key_at nat_cmp keys b ≡ Some key → get nodes key ≡ Some r
+    → q ≡ record r { kept = []; mark = false; places = None } → rows_of (with_value nodes key q) keys.entries ≡ each (lift_in b) t
+rows_lifted t keys nodes b key r q e i h g c = changed_one (lift_in b) t keys nodes b key r q e i h g (c ∙ lift_here b r) (lift_others b)
 
-pub record IsBack (rs t : Rows) (b : ℕ) : Type 0 where
-  pub live : has t b ≡ true
-  pub ty : (row_at t b).ty ≡ (row_at rs b).ty
+-- the root is as it was
+pub lifted_root : (t : Rows) (keys : BTreeMap ℕ ℕ) (nodes : Slab Row) (rt b key at : ℕ) (r q s : Row) → rows_of nodes keys.entries ≡ t → IsTable keys nodes → IsLiftable t rt b → key_at nat_cmp keys b ≡ Some key
+    → get nodes key ≡ Some r → q ≡ record r { kept = []; mark = false; places = None } → key_at nat_cmp keys rt ≡ Some at → get (with_value nodes key q) at ≡ Some s → s ≡ row_at t rt
+lifted_root t keys nodes rt b key at r q s e i l h g c k d =
+    node_is (each (lift_in b) t) keys (with_value nodes key q) rt at s (rows_lifted t keys nodes b key r q e i h g c) (table_one keys nodes b key q i h) k d
+    ∙ each_at (lift_in b) t rt l.root_live ∙ lift_others b rt (row_at t rt) l.apart
 
-pub written_live : (rs t u : Rows) (rt b : ℕ) (es : List ℤ) → IsLifted rs t rt b → u ≡ each (kept_in rt es) t → IsBack rs u b
-written_live rs t u rt b es l e = record {
-  live = ap (λ x. has x b) e ∙ each_has (kept_in rt es) t b ∙ l.live;
-  ty = ap (λ x. (row_at x b).ty) e ∙ ap (λ (r : Row). r.ty) (each_at (kept_in rt es) t b l.live) ∙ l.ty;
-}
+-- another row after the root was written
+pub record IsWritten (t : Rows) (keys : BTreeMap ℕ ℕ) (nodes : Slab Row) (rt b key at : ℕ) (q p : Row) (es : List ℤ) : Type 0 where
+  pub table : IsTable keys (with_value (with_value nodes key q) at p)
+  pub rows : rows_of (with_value (with_value nodes key q) at p) keys.entries ≡ each (kept_in rt es) (each (lift_in b) t)
+  pub there : ContainsKey (with_value (with_value nodes key q) at p) key
 
--- and when it was put back
-pub lowered_back : (rs t u new : Rows) (rt b : ℕ) (es : List ℤ) (kept : Kept) (f : Bool) (ps : List (Option ℕ)) → InOrder rs → IsLiftable rs rt b
-    → kept ≡ record { ty = (row_at rs b).ty; elems = (row_at rs b).kept } → f ≡ (row_at rs b).repeats → (row_at rs b).places ≡ Some ps
-    → t ≡ each (lift_in b) rs → u ≡ each (kept_in rt es) t → new ≡ each (fill_in b kept.elems f (Some ps)) u → new ≡ each (kept_in rt es) rs
-lowered_back rs t u new rt b es kept f ps o l ek ef ep et eu en =
-    en ∙ ap (each (fill_in b kept.elems f (Some ps))) (eu ∙ ap (each (kept_in rt es)) et)
-    ∙ lowered rs rt b es kept.elems f ps o.still (record { kept = ap (λ (x : Kept). x.elems) (sym ek); mark = l.mark; repeats = sym ef; places = ep }) l.apart
+pub root_written : (t : Rows) (keys : BTreeMap ℕ ℕ) (nodes : Slab Row) (rt b key at : ℕ) (r q s p : Row) (es : List ℤ) → rows_of nodes keys.entries ≡ t → IsTable keys nodes → key_at nat_cmp keys b ≡ Some key
+    → get nodes key ≡ Some r → q ≡ record r { kept = []; mark = false; places = None } → key_at nat_cmp keys rt ≡ Some at → get (with_value nodes key q) at ≡ Some s → p ≡ record s { kept = es }
+    → IsWritten t keys nodes rt b key at q p es
+root_written t keys nodes rt b key at r q s p es e i h g c k d f =
+    let i1 : IsTable keys (with_value nodes key q) = table_one keys nodes b key q i h in
+    let i2 : IsTable keys (with_value (with_value nodes key q) at p) = table_one keys (with_value nodes key q) rt at p i1 k in
+    record {
+      table = i2;
+      rows = changed_one (kept_in rt es) (each (lift_in b) t) keys (with_value nodes key q) rt at s p (rows_lifted t keys nodes b key r q e i h g c) i1 k d (f ∙ kept_here rt es s) (kept_others rt es);
+      there = i2.full b key h;
+    }
+
+-- the type of what comes back
+pub back_type : (t : Rows) (keys : BTreeMap ℕ ℕ) (nodes : Slab Row) (rt b key at : ℕ) (q p u : Row) (es : List ℤ) → IsLiftable t rt b → key_at nat_cmp keys b ≡ Some key → IsWritten t keys nodes rt b key at q p es
+    → get (with_value (with_value nodes key q) at p) key ≡ Some u → u.ty ≡ (row_at t b).ty
+back_type t keys nodes rt b key at q p u es l h w g =
+    ap (λ (r : Row). r.ty) (node_is (each (kept_in rt es) (each (lift_in b) t)) keys (with_value (with_value nodes key q) at p) b key u w.rows w.table h g
+    ∙ each_at (kept_in rt es) (each (lift_in b) t) b (each_has (lift_in b) t b ∙ l.live))
+    ∙ ap (λ (r : Row). r.ty) (each_at (lift_in b) t b l.live)
+
+-- what was taken out was put back
+pub record IsPutBack (t : Rows) (keys : BTreeMap ℕ ℕ) (nodes : Slab Row) (m : Marked) (rt : ℕ) (es : List ℤ) : Type 0 where
+  pub rows : rows_of nodes keys.entries ≡ each (kept_in rt es) t
+  pub table : IsTable keys nodes
+  pub listed : AreListed (rows_of nodes keys.entries) m
+
+pub put_back : (t : Rows) (keys : BTreeMap ℕ ℕ) (nodes : Slab Row) (m : Marked) (rt b key at : ℕ) (r q p u v : Row) (es : List ℤ) (kept : Kept) (f : Bool) (ps : List (Option ℕ))
+    → rows_of nodes keys.entries ≡ t → IsTable keys nodes × AreListed (rows_of nodes keys.entries) m → IsLiftable t rt b → key_at nat_cmp keys b ≡ Some key → get nodes key ≡ Some r
+    → kept ≡ record { ty = r.ty; elems = r.kept } → f ≡ r.repeats → r.places ≡ Some ps → IsWritten t keys nodes rt b key at q p es
+    → get (with_value (with_value nodes key q) at p) key ≡ Some u → v ≡ record u { kept = kept.elems; mark = true; repeats = f; places = or_known (Some ps) u.places }
+    → IsPutBack t keys (with_value (with_value (with_value nodes key q) at p) key v) m rt es
+put_back t keys nodes m rt b key at r q p u v es kept f ps e i l h g ek ef ep w d c =
+    let same : r ≡ row_at t b = node_is t keys nodes b key r e i.0 h g in
+    let out : Slab Row = with_value (with_value nodes key q) at p in
+    let rows : rows_of (with_value out key v) keys.entries ≡ each (kept_in rt es) t =
+    changed_one (fill_in b kept.elems f (Some ps)) (each (kept_in rt es) (each (lift_in b) t)) keys out b key u v w.rows w.table h d (c ∙ fill_here b kept.elems f (Some ps) u) (fill_others b kept.elems f (Some ps))
+    ∙ lowered t rt b es kept.elems f ps (table_falls t keys nodes e i.0) (record {
+      kept = ap (λ (x : Row). x.kept) (sym same) ∙ ap (λ (x : Kept). x.elems) (sym ek);
+      mark = l.mark;
+      repeats = ap (λ (x : Row). x.repeats) (sym same) ∙ sym ef;
+      places = ap (λ (x : Row). x.places) (sym same) ∙ ep;
+    }) l.apart in
+    let P : Rows → Type 0 = λ x. AreListed x m in
+    record {
+      rows = rows;
+      table = table_one keys out b key v w.table h;
+      listed = subst P (sym rows) (listed_each (kept_in rt es) t m (record { marks = λ v r h. h; roots = λ v r. refl }) (subst P e i.1));
+    }

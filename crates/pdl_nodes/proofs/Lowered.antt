@@ -49,11 +49,11 @@ lowered_row rs rt b k es ks f ps h n = elim (eqb_tells k b) [
 ]
 
 -- what was taken out and put back leaves what was kept of the root between
-pub lowered : (rs : Rows) (rt b : ℕ) (es ks : List ℤ) (f : Bool) (ps : List (Option ℕ)) → IsStill rs → IsHeld rs b ks f ps → (rt ≡ b → ⊥) → each (fill_in b ks f (Some ps)) (each (kept_in rt es) (each (lift_in b) rs)) ≡ each (kept_in rt es) rs
+pub lowered : (rs : Rows) (rt b : ℕ) (es ks : List ℤ) (f : Bool) (ps : List (Option ℕ)) → Falls rs → IsHeld rs b ks f ps → (rt ≡ b → ⊥) → each (fill_in b ks f (Some ps)) (each (kept_in rt es) (each (lift_in b) rs)) ≡ each (kept_in rt es) rs
 lowered rs rt b es ks f ps s h n =
     ap (each (fill_in b ks f (Some ps))) (each_each (kept_in rt es) (lift_in b) rs)
     ∙ each_each (fill_in b ks f (Some ps)) (λ k r. kept_in rt es k (lift_in b k r)) rs
-    ∙ each_live (lowers rt b es ks f ps) (kept_in rt es) rs (falls_still rs s) (λ k l. lowered_row rs rt b k es ks f ps h n)
+    ∙ each_live (lowers rt b es ks f ps) (kept_in rt es) rs s (λ k l. lowered_row rs rt b k es ks f ps h n)
 
 waiting_mark : (rs : Rows) (rt b k : ℕ) (m : Bool) → IsWaiting rs rt b → (row_at rs k).mark ≡ m → (row_at rs k).root ≡ rt → m ≡ eqb k b
 waiting_mark rs rt b k true w e g = sym (same k b (w.only k e g))

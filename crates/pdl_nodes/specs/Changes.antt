@@ -1,5 +1,6 @@
 -- What the calls do to each row. The choice stands in the field, so that all else of a row is seen to stay.
-use Rattle.std.specs.Prelude.{ℕ, ℤ, ◌==◌, ◌||◌, ◌&&◌, nat_lt, if◌then◌else◌, Bool, true, false, List, [], Option, Some, None}
+use Rattle.std.specs.Prelude.{ℕ, ℤ, ◌==◌, ◌&&◌, not, if◌then◌else◌, Bool, true, false, List, [], Option, Some, None}
+use Rattle.pdl_world.specs.Swept.{holds}
 use Rattle.pdl_nodes.specs.Row.{Row}
 
 -- b keeps these elements
@@ -36,17 +37,10 @@ lift_in b k r = record r {
 abbrev pub marked_in : ℕ → ℕ → Row → Row
 marked_in b k r = record r { mark = (if k == b then true else r.mark) }
 
--- b is marked; of the other bases of the family of rt none is marked afterwards, if b is to be alone
-abbrev pub mark_in : (rt b : ℕ) → (alone : Bool) → ℕ → Row → Row
-mark_in rt b alone k r = record r {
-  mark = (if k == b then true else (if alone && (r.root == rt) then false else r.mark));
-}
+-- b is marked, and of the other bases of the family of rt none
+abbrev pub mark_in : (rt b : ℕ) → ℕ → Row → Row
+mark_in rt b k r = record r { mark = (if k == b then true else (if r.root == rt then false else r.mark)) }
 
--- only the rows above a number are changed
-abbrev pub above : Option ℕ → (ℕ → Row → Row) → ℕ → Row → Row
-above None f k r = f k r
-above (Some n) f k r = if nat_lt n k then f k r else r
-
--- only the row v is changed
-abbrev pub at_only : ℕ → (ℕ → Row → Row) → ℕ → Row → Row
-at_only v f k r = if k == v then f k r else r
+-- of the family of rt none of these but b is marked
+abbrev pub unmark_in : List ℕ → (rt b : ℕ) → ℕ → Row → Row
+unmark_in vs rt b k r = record r { mark = (if not (k == b) && (holds vs k && (r.root == rt)) then false else r.mark) }

@@ -4,6 +4,7 @@ pub mod Rows
 pub mod Table
 pub mod Holds
 pub mod Changes
+pub mod Marked
 pub mod Assigned
 pub mod Spots
 pub mod Placed

@@ -1,6 +1,6 @@
 //! How often each number is held.
-ghost use Rattle.std.specs.Prelude.{◌≡◌, ◌≢◌, ℕ, ◌<◌, ◌^◌, [], ◌∷◌, Some, None, OnOk, OnErr};
-ghost use Rattle.pdl_nodes.specs.Rows.{NumbersBelow};
+ghost use Rattle.std.specs.Prelude.{◌≡◌, ◌≢◌, ℕ, ◌<◌, ◌^◌, [], ◌∷◌, true, false, Some, None, OnOk, OnErr};
+ghost use Rattle.pdl_nodes.specs.Rows.{NumbersBelow, has, row_at};
 ghost use Rattle.pdl_nodes.specs.Holds.{hold_at, is_held, count, with_reached, less_one, one_more, held_once, Beside};
 
 use crate::node::Node;
@@ -121,9 +121,12 @@ impl Holds {
     }
 }
 
-/// Keeps one more node, held once.
+/// Keeps one more node, held once, under a number that is above all others and that no node has as
+/// its root. A view isn't marked.
 pub fn insert(table: &mut Table, holds: &mut Holds, id: u64, node: Node) -> Result<(), AllocError>
     requires below { NumbersBelow id table.old }
+    requires new_root { (v : ℕ) → has table.old v ≡ true → (row_at table.old v).root ≢ id }
+    requires unmarked { node.root ≢ id → node.mark ≡ false }
     requires beside { Beside table.old holds.old }
     ensures ok { OnOk result (table.new ≡ (id, node) ∷ table.old) }
     ensures held { OnOk result (hold_at holds.new id ≡ Some held_once) }

@@ -5,6 +5,7 @@
 mod gathering;
 mod holds;
 mod laws;
+mod marked;
 mod moves;
 mod node;
 mod nodes;

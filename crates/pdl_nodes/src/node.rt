@@ -6,7 +6,7 @@ ghost use Rattle.pdl_shape.specs.Places.{write};
 ghost use Rattle.pdl_shape.specs.Shape.{size_of};
 ghost use Rattle.pdl_nodes.specs.Assigned.{put_all};
 ghost use Rattle.pdl_nodes.specs.Row.{parent_of, is_buffered, places_or};
-ghost use Rattle.pdl_nodes.specs.Changes.{mark_in, or_known};
+ghost use Rattle.pdl_nodes.specs.Changes.{or_known};
 ghost use Rattle.pdl_nodes.specs.Placed.{placed_by};
 ghost use Rattle.pdl_nodes.specs.Spots.{spots};
 
@@ -277,15 +277,11 @@ impl Node {
         self.waiting = waiting;
     }
 
-    /// Marks the node `id` where it is the base. Else, where the base is to be alone, it loses its
-    /// mark if it is of the base's family.
-    pub fn mark_as(&mut self, id: u64, root: u64, base: u64, alone: bool)
-        requires { id ≡ base → is_buffered self.old ≡ true }
-        ensures { self.new ≡ mark_in root base alone id self.old }
+    /// Loses its mark if it is of this root's family.
+    pub fn unmark(&mut self, root: u64)
+        ensures { self.new ≡ record self.old { mark = if self.old.root == root then false else self.old.mark } }
     {
-        if id == base {
-            self.mark = true;
-        } else if alone && self.root == root {
+        if self.root == root {
             self.mark = false;
         }
     }

@@ -104,8 +104,7 @@ fn fill_again<L: Ledger>(
                 places.as_slice(),
                 steps,
             )?;
-            table.fill(id, kept, repeats, None);
-            Ok(())
+            table.fill(alloc, id, kept, repeats, None)
         }
         None => unreachable!(),
     }
@@ -131,8 +130,7 @@ fn fill_first<L: Ledger>(
     let count = elements_of(&root.triple().dims);
     let repeats = has_twice(alloc, &places, count)?;
     let kept = gathered(alloc, node.ty(), root.kept(), count, &places, steps)?;
-    table.fill(id, kept, repeats, Some(Places::new(places)));
-    Ok(())
+    table.fill(alloc, id, kept, repeats, Some(Places::new(places)))
 }
 
 /// Fills an outdated view over its fresh parent.

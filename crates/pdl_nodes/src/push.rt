@@ -13,10 +13,9 @@ ghost use Rattle.pdl_nodes.specs.Late.{IsThrough, await, put_through, settle};
 ghost use Rattle.pdl_nodes.specs.Rows.{each, has, row_at};
 ghost use Rattle.pdl_nodes.specs.Worlds.{IsRoot, latest, places_of};
 
-use crate::node::Lifted;
 use crate::table::Table;
 use pdl_buf::Steps;
-use pdl_shape::{copy_triple, elements_of};
+use pdl_shape::copy_triple;
 use std::alloc::Global;
 use std::sync::ledger::Ledger;
 
@@ -31,12 +30,7 @@ fn put_back<L: Ledger>(table: &mut Table, root: u64, id: u64, steps: &mut Steps<
     ensures put { table.new ≡ each (kept_in root (write (places_of table.old id) (row_at table.old id).kept (row_at table.old root).kept)) table.old }
     ensures counted { steps.new ≡ steps.old + size_of (row_at table.old id).triple.dims }
 {
-    let node = table.node(id);
-    let repeats = node.repeats();
-    let _count = elements_of(&node.triple().dims);
-    let Lifted { kept, places } = table.lift(id);
-    table.write(root, places.as_slice(), &kept, steps);
-    table.fill(id, kept, repeats, Some(places));
+    table.put_back(root, id, steps);
 }
 
 /// Writes the elements that wait in the family of a root back into it. It takes a step for each.
@@ -49,7 +43,7 @@ pub fn write_back<L: Ledger>(table: &mut Table, root: u64, id: u64, steps: &mut 
     ensures counted { steps.new ≡ steps.old + size_of (row_at table.old id).triple.dims }
 {
     put_back(table, root, id, steps);
-    table.set_mark(root);
+    table.mark_root(root);
     table.set_waiting(root, None);
 }
 
@@ -73,8 +67,7 @@ fn put_on_root<L: Ledger>(
     ensures counted { steps.new ≡ steps.old + length values.now }
 {
     let triple = copy_triple(table.node(id).triple());
-    let known = None;
-    table.put_over(alloc, root, &known, &triple, id == root, values, steps);
+    table.put_over(alloc, root, &triple, id == root, values, steps);
 }
 
 /// Puts values into the root at the places of an array that is shown over a marked view. It takes a
@@ -102,11 +95,7 @@ fn put_past_base<L: Ledger>(
     ensures counted { steps.new ≡ steps.old + length values.now }
 {
     let triple = copy_triple(table.node(id).triple());
-    let repeats = table.node(base).repeats();
-    let Lifted { kept, places } = table.lift(base);
-    let known = Some(places);
-    table.put_over(alloc, root, &known, &triple, id == base, values, steps);
-    table.fill(base, kept, repeats, known);
+    table.put_past(alloc, root, base, &triple, id == base, values, steps);
 }
 
 /// Puts values into the root at the places of a fresh array. It takes a step for each value.
@@ -160,7 +149,7 @@ fn assign_at_root<L: Ledger>(
     ensures counted { steps.new ≡ steps.old + length values.now }
 {
     put_at_root(table, alloc, root, id, values, steps);
-    table.mark(root, root, true);
+    table.mark(root, root);
 }
 
 /// Assigns values to an array in its base, a marked view without repeats, where they wait. It takes
@@ -185,7 +174,7 @@ fn assign_at_base<L: Ledger>(
     let triple = copy_triple(table.node(id).triple());
     table.put_through(alloc, base, &triple, id == base, values, steps);
     if table.node(root).waiting().is_none() {
-        table.mark(root, base, true);
+        table.mark(root, base);
         table.set_waiting(root, Some(base));
     }
 }

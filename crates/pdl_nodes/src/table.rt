@@ -1,5 +1,5 @@
 //! Nodes by their numbers: a slab, and an ordered map that gives the slab's key of each number.
-ghost use Rattle.std.specs.Prelude.{◌≡◌, ℕ, ◌+◌, ◌<◌, ◌^◌, ◌∷◌, [], true, length, All, is_some, Some, OnOk, OnErr};
+ghost use Rattle.std.specs.Prelude.{◌≡◌, ◌≢◌, ℕ, ◌+◌, ◌<◌, ◌∷◌, [], true, false, length, All, is_some, Some, None, OnOk, OnErr};
 ghost use Rattle.pdl_buf.specs.Window.{place_at};
 ghost use Rattle.pdl_elem.specs.Types.{InRange};
 ghost use Rattle.pdl_shape.specs.Places.{write};
@@ -7,14 +7,16 @@ ghost use Rattle.pdl_shape.specs.Shape.{size_of};
 ghost use Rattle.pdl_nodes.specs.Assigned.{put_all};
 ghost use Rattle.pdl_nodes.specs.Placed.{placed_by};
 ghost use Rattle.pdl_nodes.specs.Spots.{spots};
-ghost use Rattle.pdl_nodes.specs.Rows.{NumbersBelow, Falls, row_at, has, each, without, below, newest};
-ghost use Rattle.pdl_nodes.specs.Row.{is_buffered, parent_of, places_or};
-ghost use Rattle.pdl_nodes.specs.Changes.{kept_in, wait_in, fill_in, lift_in, marked_in, mark_in, at_only};
+ghost use Rattle.pdl_nodes.specs.Rows.{NumbersBelow, row_at, has, each, without, below, newest};
+ghost use Rattle.pdl_nodes.specs.Row.{is_buffered, places_or};
+ghost use Rattle.pdl_nodes.specs.Changes.{kept_in, wait_in, fill_in, marked_in, mark_in};
+ghost use Rattle.pdl_nodes.specs.Known.{IsLiftable};
 
+use crate::marked::{Marked, unmark, unmark_one};
 use crate::node::{Lifted, Node};
 use pdl_buf::{Buf, Steps};
 use pdl_choice::Places;
-use pdl_shape::Triple;
+use pdl_shape::{Triple, elements_of};
 use slab::Slab;
 use std::alloc::{AllocError, Global};
 use std::collections::BTreeMap;
@@ -26,17 +28,19 @@ use std::sync::ledger::Ledger;
 pub struct Table {
     keys: BTreeMap<u64, usize>,
     nodes: Slab<Node>,
+    marked: Marked,
 }
 
 impl Model for Table {
     ghost use Rattle.pdl_nodes.specs.Rows.{Rows};
+    ghost use Rattle.pdl_nodes.specs.Marked.{AreListed};
     ghost use Rattle.pdl_nodes.specs.Table.{rows_of, IsTable};
 
     ghost Value = { Rows };
 
     ghost view = { λ t. rows_of t.nodes t.keys.entries };
 
-    ghost invariant = { λ t. IsTable t.keys t.nodes };
+    ghost invariant = { λ t. IsTable t.keys t.nodes × AreListed (rows_of t.nodes t.keys.entries) t.marked };
 }
 
 impl Table {
@@ -47,6 +51,7 @@ impl Table {
         Table {
             keys: BTreeMap::new(alloc),
             nodes: Slab::new(alloc),
+            marked: Marked::new(alloc),
         }
     }
 
@@ -58,9 +63,12 @@ impl Table {
         &self.nodes[self.keys[&id]]
     }
 
-    /// Keeps one more node, under a number that is above all others.
+    /// Keeps one more node, under a number that is above all others and that no node has as its
+    /// root. A view isn't marked.
     pub fn insert(&mut self, id: u64, node: Node) -> Result<(), AllocError>
         requires below { NumbersBelow id self.old }
+        requires new_root { (v : ℕ) → has self.old v ≡ true → (row_at self.old v).root ≢ id }
+        requires unmarked { node.root ≢ id → node.mark ≡ false }
         ensures ok { OnOk result (self.new ≡ (id, node) ∷ self.old) }
         ensures err { OnErr result (self.new ≡ self.old) }
     {
@@ -79,6 +87,7 @@ impl Table {
         let key = self.keys[&id];
         self.keys.remove(&id);
         self.nodes.remove(key);
+        self.marked.forget(id);
     }
 
     /// The newest live number.
@@ -101,51 +110,79 @@ impl Table {
         }
     }
 
-    /// Puts the elements of a buffer at places of what is kept of a node, in order. It takes a step
-    /// for each.
-    pub fn write<L: Ledger>(
-        &mut self,
-        id: u64,
-        places: &[Option<u32>],
-        from: &Buf,
-        steps: &mut Steps<L>,
-    )
-        requires live { has self.old id ≡ true }
-        requires buffered { is_buffered (row_at self.old id) ≡ true }
-        requires count { length (row_at self.old id).kept ≡ size_of (row_at self.old id).triple.dims }
-        requires same_type { from.now.ty ≡ (row_at self.old id).ty }
-        requires paired { length places.now ≡ length from.now.elems }
-        requires few { length places.now < 2 ^ 32 }
-        ensures value { self.new ≡ each (kept_in id (write places.now from.now.elems (row_at self.old id).kept)) self.old }
-        ensures counted { steps.new ≡ steps.old + length places.now }
+    /// Puts the elements that are kept of a marked view at its places in its root, in order. It
+    /// takes a step for each.
+    pub fn put_back<L: Ledger>(&mut self, root: u64, id: u64, steps: &mut Steps<L>)
+        requires view { IsLiftable self.old root id }
+        ensures put { self.new ≡ each (kept_in root (write
+            (places_or (row_at self.old id).places)
+            (row_at self.old id).kept
+            (row_at self.old root).kept)) self.old }
+        ensures counted { steps.new ≡ steps.old + size_of (row_at self.old id).triple.dims }
     {
         let key = self.keys[&id];
-        self.nodes[key].write(places, from, steps);
+        let node = &self.nodes[key];
+        let repeats = node.repeats();
+        let _count = elements_of(&node.triple().dims);
+        let Lifted { kept, places } = self.nodes[key].lift();
+        let at = self.keys[&root];
+        self.nodes[at].write(places.as_slice(), &kept, steps);
+        self.nodes[key].fill(kept, repeats, Some(places));
     }
 
-    /// Puts values at places of what is kept of a node that a triple shows over a base, in order.
-    /// It takes a step for each value.
+    /// Puts values at the places of a root that a triple shows over it, in order. It takes a step
+    /// for each value.
     pub fn put_over<L: Ledger>(
         &mut self,
         alloc: Global,
-        id: u64,
-        known: &Option<Places>,
+        root: u64,
         triple: &Triple,
         in_order: bool,
         values: &[i64],
         steps: &mut Steps<L>,
     )
-        requires live { has self.old id ≡ true }
-        requires buffered { is_buffered (row_at self.old id) ≡ true }
-        requires count { length (row_at self.old id).kept ≡ size_of (row_at self.old id).triple.dims }
+        requires live { has self.old root ≡ true }
+        requires buffered { is_buffered (row_at self.old root) ≡ true }
+        requires count { length (row_at self.old root).kept ≡ size_of (row_at self.old root).triple.dims }
         requires in_order { in_order ≡ true → (p : ℕ) → p < size_of triple.now.dims → place_at triple.now p ≡ p }
         requires paired { length values.now ≡ size_of triple.now.dims }
-        requires in_range { All (InRange (row_at self.old id).ty) values.now }
-        ensures value { self.new ≡ each (kept_in id (write (placed_by known.now triple.now) values.now (row_at self.old id).kept)) self.old }
+        requires in_range { All (InRange (row_at self.old root).ty) values.now }
+        ensures put { self.new ≡ each (kept_in root (write (placed_by None triple.now) values.now (row_at self.old root).kept)) self.old }
         ensures counted { steps.new ≡ steps.old + length values.now }
     {
-        let key = self.keys[&id];
-        self.nodes[key].put_over(alloc, known, triple, in_order, values, steps);
+        let key = self.keys[&root];
+        self.nodes[key].put_over(alloc, &None, triple, in_order, values, steps);
+    }
+
+    /// Puts values at the places of a root that a triple shows over a marked view of it, in order.
+    /// It takes a step for each value.
+    pub fn put_past<L: Ledger>(
+        &mut self,
+        alloc: Global,
+        root: u64,
+        base: u64,
+        triple: &Triple,
+        in_order: bool,
+        values: &[i64],
+        steps: &mut Steps<L>,
+    )
+        requires view { IsLiftable self.old root base }
+        requires in_order { in_order ≡ true → (p : ℕ) → p < size_of triple.now.dims → place_at triple.now p ≡ p }
+        requires paired { length values.now ≡ size_of triple.now.dims }
+        requires in_range { All (InRange (row_at self.old root).ty) values.now }
+        ensures put { self.new ≡ each (kept_in root (write
+            (placed_by (row_at self.old base).places triple.now)
+            values.now
+            (row_at self.old root).kept)) self.old }
+        ensures counted { steps.new ≡ steps.old + length values.now }
+    {
+        let key = self.keys[&base];
+        let repeats = self.nodes[key].repeats();
+        let Lifted { kept, places } = self.nodes[key].lift();
+        let known = Some(places);
+        let at = self.keys[&root];
+        self.nodes[at].put_over(alloc, &known, triple, in_order, values, steps);
+        self.nodes[key].fill(kept, repeats, known);
     }
 
     /// Puts values at the positions of a node that a triple shows and that have a place, in order.
@@ -173,20 +210,6 @@ impl Table {
         self.nodes[key].put_through(alloc, triple, in_order, values, steps);
     }
 
-    /// Takes what is kept of a marked view, and its places, out. It isn't marked then.
-    pub fn lift(&mut self, id: u64) -> Lifted
-        requires live { has self.old id ≡ true }
-        requires view { is_some (parent_of (row_at self.old id)) ≡ true }
-        requires buffered { (row_at self.old id).mark ≡ true }
-        requires found { is_some (row_at self.old id).places ≡ true }
-        ensures kept { result.kept ≡ record { ty = (row_at self.old id).ty; elems = (row_at self.old id).kept } }
-        ensures places { (row_at self.old id).places ≡ Some result.places }
-        ensures left { self.new ≡ each (lift_in id) self.old }
-    {
-        let key = self.keys[&id];
-        self.nodes[key].lift()
-    }
-
     /// Notes what waits in the family of a root.
     pub fn set_waiting(&mut self, id: u64, waiting: Option<u64>)
         requires live { has self.old id ≡ true }
@@ -198,18 +221,30 @@ impl Table {
 
     /// Keeps these elements in a node, which is marked. Places that were found now are known from
     /// now on.
-    pub fn fill(&mut self, id: u64, kept: Buf, repeats: bool, places: Option<Places>)
+    pub fn fill(
+        &mut self,
+        alloc: Global,
+        id: u64,
+        kept: Buf,
+        repeats: bool,
+        places: Option<Places>,
+    ) -> Result<(), AllocError>
         requires live { has self.old id ≡ true }
         requires same_type { kept.ty ≡ (row_at self.old id).ty }
-        ensures { self.new ≡ each (fill_in id kept.elems repeats places) self.old }
+        ensures ok { OnOk result (self.new ≡ each (fill_in id kept.elems repeats places) self.old) }
+        ensures err { OnErr result (self.new ≡ self.old) }
     {
         let key = self.keys[&id];
+        let root = self.nodes[key].root();
+        self.marked.insert(alloc, root, id)?;
         self.nodes[key].fill(kept, repeats, places);
+        Ok(())
     }
 
-    /// Marks a base, which has a buffer.
-    pub fn set_mark(&mut self, id: u64)
+    /// Marks a root.
+    pub fn mark_root(&mut self, id: u64)
         requires live { has self.old id ≡ true }
+        requires root { (row_at self.old id).root ≡ id }
         requires buffered { is_buffered (row_at self.old id) ≡ true }
         ensures { self.new ≡ each (marked_in id) self.old }
     {
@@ -224,27 +259,27 @@ impl Table {
         self.keys.len()
     }
 
-    /// Marks a node as the base says.
-    fn mark_one(&mut self, id: u64, root: u64, base: u64, alone: bool)
-        requires live { has self.old id ≡ true }
-        requires buffered { id ≡ base → is_buffered (row_at self.old id) ≡ true }
-        ensures { self.new ≡ each (at_only id (mark_in root base alone)) self.old }
-    {
-        let key = self.keys[&id];
-        self.nodes[key].mark_as(id, root, base, alone);
-    }
-
-    /// Marks a base of the family of a root, and takes the mark from the others of this family, if
-    /// it is to be alone.
-    pub fn mark(&mut self, root: u64, base: u64, alone: bool)
-        requires falls { Falls self.old }
+    /// Marks a base of the family of a root, the root itself or a view that is marked already, and
+    /// takes the mark from the others of this family. It goes over those views of the family that
+    /// were marked since the last such call.
+    pub fn mark(&mut self, root: u64, base: u64)
+        requires root { has self.old root ≡ true }
+        requires live { has self.old base ≡ true }
+        requires family { (row_at self.old base).root ≡ root }
         requires buffered { is_buffered (row_at self.old base) ≡ true }
-        ensures { self.new ≡ each (mark_in root base alone) self.old }
+        requires marked { base ≢ root → (row_at self.old base).mark ≡ true }
+        ensures { self.new ≡ each (mark_in root base) self.old }
     {
-        let mut next = self.newest();
-        while let Some(id) = next {
-            next = self.older(id);
-            self.mark_one(id, root, base, alone);
-        }
+        let key = self.keys[&base];
+        unmark(
+            &self.keys,
+            &mut self.nodes,
+            self.marked.views(root),
+            root,
+            base,
+        );
+        unmark_one(&self.keys, &mut self.nodes, root, root, base);
+        self.nodes[key].set_mark();
+        self.marked.keep(root, base);
     }
 }

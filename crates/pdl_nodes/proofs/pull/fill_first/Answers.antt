@@ -9,6 +9,7 @@ use Rattle.pdl_nodes.specs.Families.{has_repeats}
 use Rattle.pdl_nodes.specs.Worlds.{places_of}
 use Rattle.pdl_nodes.proofs.Filling.{IsFound, is_filled, not_root}
 use Rattle.pdl_nodes.proofs.Gathered.{all_below}
+use Rattle.pdl_nodes.proofs.Paths.{on_ok}
 use Rattle.pdl_nodes.proofs.Seens.{IsSeen, is_seen}
 use Rattle.pdl_nodes.proofs.pull.fill_first.Goals as goal
 
@@ -37,10 +38,10 @@ returns-clause-ok g c =
     let p : c.deref-2.result.now ≡ places_of c.args.table.now c.args.id = c.deref-2.ensures.value ∙ c.in_ok-places.ensures in
     let q : c.new.result ≡ places_of c.args.table.now c.args.id = c.new.ensures ∙ c.in_ok-places.ensures in
     let k : c.kept.result.now.elems ≡ (row_at c.args.table.now (row_at c.args.table.now c.args.id).root).kept = (ap (λ (k : Kept). k.elems) c.kept.ensures ∙ ap (λ (r : Row). r.kept) c.node-root.ensures ∙ ap (λ x. (row_at c.args.table.now x).kept) (c.root.ensures ∙ ap (λ (r : Row). r.root) c.node-node.ensures)) in
-    is_filled c.args.table.now c.fill.new.self (row_at c.args.table.now c.args.id).root c.args.id c.in_ok-kept.kept.elems c.in_ok-repeats.repeats (Some c.new.result) c.requires.outdated c.requires.known
+    on_ok c.fill.result (λ e. is_filled c.args.table.now c.fill.new.self (row_at c.args.table.now c.args.id).root c.args.id c.in_ok-kept.kept.elems c.in_ok-repeats.repeats (Some c.new.result) c.requires.outdated c.requires.known
     (ap (λ (x : Kept). x.elems) c.in_ok-kept.ensures.value ∙ ap (λ (ps : List (Option ℕ)). read ps c.kept.result.now.elems) p ∙ ap (read (places_of c.args.table.now c.args.id)) k)
     (c.in_ok-repeats.ensures ∙ ap has_repeats (c.deref.ensures.value ∙ c.in_ok-places.ensures))
     (record { some = refl; is = λ ps e. some_is c.new.result ps e ∙ q })
-    c.fill.ensures where
+    e) c.fill.ensures.ok where
       some_is : (a b : List (Option ℕ)) → Some a ≡ Some b → b ≡ a
       some_is a b e = cc

@@ -17,7 +17,7 @@ use Rattle.pdl_nodes.specs.Worlds.{places_of, latest, IsRoot}
 use Rattle.pdl_nodes.specs.Rows.{Falls}
 use Rattle.pdl_nodes.proofs.Assigning.{in_order_if, based_all, again_all, through_known}
 use Rattle.pdl_nodes.proofs.Finds.{each_has, each_at, falls_each}
-use Rattle.pdl_nodes.proofs.Liftings.{IsLiftable, liftable}
+use Rattle.pdl_nodes.proofs.Liftings.{liftable}
 use Rattle.pdl_nodes.proofs.Lowered.{falls_still}
 use Rattle.pdl_nodes.proofs.Origins.{mark_buffered}
 use Rattle.pdl_nodes.proofs.Seens.{IsSeen, is_seen}
@@ -52,8 +52,17 @@ put_through-requires-clause-in_range g c =
 pub node-requires-2 : goal.node-requires-2
 node-requires-2 g c = record { live = ap (λ t. has t c.args.root) c.put_through.ensures.value ∙ each_has _ c.args.table.now c.args.root ∙ c.requires.through.root.0 }
 
-pub mark-requires-clause-falls : goal.mark-requires-clause-falls
-mark-requires-clause-falls g c = subst (λ (t : Rows). Falls t) (sym c.put_through.ensures.value) (falls_each _ c.args.table.now (falls_still c.args.table.now c.requires.through.order.still))
+pub mark-requires-clause-root : goal.mark-requires-clause-root
+mark-requires-clause-root g c = ap (λ t. has t c.args.root) c.put_through.ensures.value ∙ each_has _ c.args.table.now c.args.root ∙ c.requires.through.root.0
+
+pub mark-requires-clause-live : goal.mark-requires-clause-live
+mark-requires-clause-live g c = ap (λ t. has t c.args.base) c.put_through.ensures.value ∙ each_has _ c.args.table.now c.args.base ∙ (base_facts c.args.table.now c.args.root c.args.base c.args.id c.requires.through.order c.requires.through.root c.requires.through.live c.requires.through.base_is c.requires.through.root_is c.requires.through.marked).live
+
+pub mark-requires-clause-family : goal.mark-requires-clause-family
+mark-requires-clause-family g c = ap (λ t. (row_at t c.args.base).root) c.put_through.ensures.value ∙ ap (λ (r : Row). r.root) (each_at _ c.args.table.now c.args.base (base_facts c.args.table.now c.args.root c.args.base c.args.id c.requires.through.order c.requires.through.root c.requires.through.live c.requires.through.base_is c.requires.through.root_is c.requires.through.marked).live) ∙ (base_facts c.args.table.now c.args.root c.args.base c.args.id c.requires.through.order c.requires.through.root c.requires.through.live c.requires.through.base_is c.requires.through.root_is c.requires.through.marked).root_is
+
+pub mark-requires-clause-marked : goal.mark-requires-clause-marked
+mark-requires-clause-marked g c = λ n. ap (λ t. (row_at t c.args.base).mark) c.put_through.ensures.value ∙ ap (λ (r : Row). r.mark) (each_at _ c.args.table.now c.args.base (base_facts c.args.table.now c.args.root c.args.base c.args.id c.requires.through.order c.requires.through.root c.requires.through.live c.requires.through.base_is c.requires.through.root_is c.requires.through.marked).live) ∙ c.requires.through.marked
 
 pub mark-requires-clause-buffered : goal.mark-requires-clause-buffered
 mark-requires-clause-buffered g c = ap (λ t. is_buffered (row_at t c.args.base)) c.put_through.ensures.value ∙ ap is_buffered (each_at _ c.args.table.now c.args.base (base_facts c.args.table.now c.args.root c.args.base c.args.id c.requires.through.order c.requires.through.root c.requires.through.live c.requires.through.base_is c.requires.through.root_is c.requires.through.marked).live) ∙ mark_buffered (row_at c.args.table.now c.args.base) c.requires.through.marked
@@ -63,7 +72,7 @@ set_waiting-requires g c = record { live = ap (λ t. has t c.args.root) (c.mark.
 
 pub returns-then-is_none-clause-awaits : goal.returns-then-is_none-clause-awaits
 returns-then-is_none-clause-awaits g c =
-    c.set_waiting.ensures ∙ ap (each (wait_in c.args.root (Some c.args.base))) (c.mark.ensures ∙ ap (each (mark_in c.args.root c.args.base true)) c.put_through.ensures.value)
+    c.set_waiting.ensures ∙ ap (each (wait_in c.args.root (Some c.args.base))) (c.mark.ensures ∙ ap (each (mark_in c.args.root c.args.base)) c.put_through.ensures.value)
     ∙ based_all c.args.table.now c.args.root c.args.base _ c.requires.through.order.still (base_facts c.args.table.now c.args.root c.args.base c.args.id c.requires.through.order c.requires.through.root c.requires.through.live c.requires.through.base_is c.requires.through.root_is c.requires.through.marked).root_is
     ∙ ap (λ ks. each (await c.args.root c.args.base ks) c.args.table.now) (through_known c.args.table.now c.args.root c.args.base c.args.id c.copy_triple-triple.result c.args.values.now (liftable c.args.table.now c.args.root c.args.base c.requires.through.order c.requires.known c.requires.through.root c.requires.view (base_facts c.args.table.now c.args.root c.args.base c.args.id c.requires.through.order c.requires.through.root c.requires.through.live c.requires.through.base_is c.requires.through.root_is c.requires.through.marked).root_is c.requires.through.marked) c.requires.through.base_is (c.copy_triple-triple.ensures ∙ c.triple.ensures ∙ ap (λ (r : Row). r.triple) c.node.ensures))
 

@@ -22,14 +22,20 @@ use Rattle.pdl_nodes.proofs.Origins.{root_buffered}
 use Rattle.pdl_nodes.specs.Rows.{Falls}
 use Rattle.pdl_nodes.proofs.push.assign_at_root.Goals as goal
 
-pub mark-requires-clause-falls : goal.mark-requires-clause-falls
-mark-requires-clause-falls g c = subst (λ (t : Rows). Falls t) (sym c.put_at_root.ensures.put) (falls_each _ c.args.table.now (falls_still c.args.table.now c.requires.order.still))
+pub mark-requires-clause-root : goal.mark-requires-clause-root
+mark-requires-clause-root g c = ap (λ t. has t c.args.root) c.put_at_root.ensures.put ∙ each_has _ c.args.table.now c.args.root ∙ c.requires.root.0
+
+pub mark-requires-clause-live : goal.mark-requires-clause-live
+mark-requires-clause-live g c = ap (λ t. has t c.args.root) c.put_at_root.ensures.put ∙ each_has _ c.args.table.now c.args.root ∙ c.requires.root.0
+
+pub mark-requires-clause-family : goal.mark-requires-clause-family
+mark-requires-clause-family g c = ap (λ t. (row_at t c.args.root).root) c.put_at_root.ensures.put ∙ ap (λ (r : Row). r.root) (each_at _ c.args.table.now c.args.root c.requires.root.0) ∙ c.requires.root.1
 
 pub mark-requires-clause-buffered : goal.mark-requires-clause-buffered
 mark-requires-clause-buffered g c = ap (λ t. is_buffered (row_at t c.args.root)) c.put_at_root.ensures.put ∙ ap is_buffered (each_at _ c.args.table.now c.args.root c.requires.root.0) ∙ root_buffered c.args.table.now c.requires.order.still c.args.root c.requires.root.0 c.requires.root.1
 
 pub returns-clause-settled : goal.returns-clause-settled
 returns-clause-settled g c =
-    c.mark.ensures ∙ ap (each (mark_in c.args.root c.args.root true)) c.put_at_root.ensures.put
+    c.mark.ensures ∙ ap (each (mark_in c.args.root c.args.root)) c.put_at_root.ensures.put
     ∙ rooted_all c.args.table.now c.args.root _ c.requires.order.still c.requires.root c.requires.nothing
     ∙ ap (λ es. each (settle c.args.root (write (places_of c.args.table.now c.args.id) c.args.values.now es) c.args.root false) c.args.table.now) (sym (latest_none c.args.table.now c.args.root c.requires.nothing))

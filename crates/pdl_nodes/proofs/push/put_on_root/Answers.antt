@@ -33,5 +33,5 @@ put_over-requires-clause-in_range g c =
 
 pub returns-clause-put : goal.returns-clause-put
 returns-clause-put g c =
-    c.put_over.ensures.value ∙ ap (λ (ps : List (Option ℕ)). each (kept_in c.args.root (write ps c.args.values.now (row_at c.args.table.now c.args.root).kept)) c.args.table.now)
+    c.put_over.ensures.put ∙ ap (λ (ps : List (Option ℕ)). each (kept_in c.args.root (write ps c.args.values.now (row_at c.args.table.now c.args.root).kept)) c.args.table.now)
     (ap (placed_by None) (c.copy_triple-triple.ensures ∙ c.triple.ensures ∙ ap (λ (r : Row). r.triple) c.node.ensures) ∙ sym (over_root c.args.table.now c.args.root c.args.id c.requires.order.still c.requires.live c.requires.root c.requires.over))

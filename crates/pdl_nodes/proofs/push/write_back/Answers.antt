@@ -21,18 +21,21 @@ put_back-requires-clause-family g c = ((c.requires.order.family c.args.root c.re
 pub put_back-requires-clause-marked : goal.put_back-requires-clause-marked
 put_back-requires-clause-marked g c = ((c.requires.order.family c.args.root c.requires.root).waits c.args.id c.requires.waits).marked
 
-pub set_mark-requires-clause-live : goal.set_mark-requires-clause-live
-set_mark-requires-clause-live g c = ap (λ t. has t c.args.root) c.put_back.ensures.put ∙ each_has _ c.args.table.now c.args.root ∙ c.requires.root.0
+pub mark_root-requires-clause-live : goal.mark_root-requires-clause-live
+mark_root-requires-clause-live g c = ap (λ t. has t c.args.root) c.put_back.ensures.put ∙ each_has _ c.args.table.now c.args.root ∙ c.requires.root.0
 
-pub set_mark-requires-clause-buffered : goal.set_mark-requires-clause-buffered
-set_mark-requires-clause-buffered g c = ap (λ t. is_buffered (row_at t c.args.root)) c.put_back.ensures.put ∙ ap is_buffered (each_at _ c.args.table.now c.args.root c.requires.root.0) ∙ root_buffered c.args.table.now c.requires.order.still c.args.root c.requires.root.0 c.requires.root.1
+pub mark_root-requires-clause-root : goal.mark_root-requires-clause-root
+mark_root-requires-clause-root g c = ap (λ t. (row_at t c.args.root).root) c.put_back.ensures.put ∙ ap (λ (r : Row). r.root) (each_at _ c.args.table.now c.args.root c.requires.root.0) ∙ c.requires.root.1
+
+pub mark_root-requires-clause-buffered : goal.mark_root-requires-clause-buffered
+mark_root-requires-clause-buffered g c = ap (λ t. is_buffered (row_at t c.args.root)) c.put_back.ensures.put ∙ ap is_buffered (each_at _ c.args.table.now c.args.root c.requires.root.0) ∙ root_buffered c.args.table.now c.requires.order.still c.args.root c.requires.root.0 c.requires.root.1
 
 pub set_waiting-requires : goal.set_waiting-requires
-set_waiting-requires g c = record { live = ap (λ t. has t c.args.root) (c.set_mark.ensures ∙ ap (each (marked_in c.args.root)) c.put_back.ensures.put) ∙ each_has _ _ c.args.root ∙ each_has _ c.args.table.now c.args.root ∙ c.requires.root.0 }
+set_waiting-requires g c = record { live = ap (λ t. has t c.args.root) (c.mark_root.ensures ∙ ap (each (marked_in c.args.root)) c.put_back.ensures.put) ∙ each_has _ _ c.args.root ∙ each_has _ c.args.table.now c.args.root ∙ c.requires.root.0 }
 
 pub returns-clause-settled : goal.returns-clause-settled
 returns-clause-settled g c =
     let w : IsWaiting c.args.table.now c.args.root c.args.id = (c.requires.order.family c.args.root c.requires.root).waits c.args.id c.requires.waits in
-    c.set_waiting.ensures ∙ ap (each (wait_in c.args.root _)) (c.set_mark.ensures ∙ ap (each (marked_in c.args.root)) c.put_back.ensures.put)
+    c.set_waiting.ensures ∙ ap (each (wait_in c.args.root _)) (c.mark_root.ensures ∙ ap (each (marked_in c.args.root)) c.put_back.ensures.put)
     ∙ written c.args.table.now c.args.root c.args.id _ c.requires.order.still c.requires.root w
     ∙ ap (λ es. each (settle c.args.root es c.args.id true) c.args.table.now) (sym (latest_some c.args.table.now c.args.root c.args.id c.requires.waits))

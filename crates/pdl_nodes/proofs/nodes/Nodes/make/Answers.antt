@@ -23,8 +23,14 @@ use Rattle.pdl_nodes.specs.Joined.{joined_def}
 use Rattle.pdl_nodes.specs.Nodes.{root_row, IsLayout, IsNewView}
 use Rattle.pdl_nodes.specs.State.{Joins}
 use Rattle.pdl_nodes.proofs.Calls.{on_err}
-use Rattle.pdl_nodes.proofs.Growing.{IsGrown, grown_nodes, grown_state, new_root, new_view, view_def, err_state, below_world}
+use Rattle.pdl_nodes.proofs.Growing.{IsGrown, grown_nodes, grown_state, new_root, new_view, view_def, err_state, below_world, no_root}
 use Rattle.pdl_nodes.proofs.nodes.Nodes.make.Goals as goal
+
+pub insert-requires-clause-new_root : goal.insert-requires-clause-new_root
+insert-requires-clause-new_root g c = no_root c.self.inside.table c.self.inside.next c.self.invariant.order.still c.self.invariant.below
+
+pub insert-requires-clause-unmarked : goal.insert-requires-clause-unmarked
+insert-requires-clause-unmarked g c = λ n. absurd (n (ap (λ (r : Row). r.root) c.root_node-node.ensures))
 
 pub returns-in_err-insert-clause-err : goal.returns-in_err-insert-clause-err
 returns-in_err-insert-clause-err g c = on_err c.from_residual-in_err-insert.result _ (err_state c.self.inside.table c.insert.new.table c.self.inside.holds c.insert.new.holds c.self.inside.next c.self.invariant.below c.in_err-insert.ensures.err c.insert.ensures.others ∙ c.self.view_is)

@@ -23,7 +23,7 @@ use Rattle.pdl_nodes.specs.Joined.{joined_def}
 use Rattle.pdl_nodes.specs.Nodes.{root_row, IsLayout, IsNewView}
 use Rattle.pdl_nodes.specs.State.{Joins}
 use Rattle.pdl_nodes.proofs.Calls.{on_err}
-use Rattle.pdl_nodes.proofs.Growing.{IsGrown, grown_nodes, grown_state, new_root, new_view, view_def, err_state, below_world}
+use Rattle.pdl_nodes.proofs.Growing.{IsGrown, grown_nodes, grown_state, new_root, new_view, view_def, err_state, below_world, no_root}
 use Rattle.pdl_world.specs.Refused.{view_refusal}
 use Rattle.pdl_nodes.proofs.nodes.Nodes.view.Goals as goal
 
@@ -32,6 +32,12 @@ node-above-requires c = record { live = (live_has c.self.inside.table c.args.par
 
 pub view_node-requires : goal.view_node-requires
 view_node-requires c = subst (λ (ds : List ℕ). IsLayout c.args.trans ds c.args.layout) (ap (λ w. dims_in w c.args.parent) (sym (ap (λ (s : State). s.world) c.self.view_is)) ∙ dims_are c.self.inside.table c.args.parent c.self.invariant.order.still (live_has c.self.inside.table c.args.parent (subst (λ (w : World). IsLive w c.args.parent) (sym (ap (λ (s : State). s.world) c.self.view_is)) c.requires.live)) ∙ ap (λ (r : Row). r.triple.dims) (sym c.node-above.ensures)) c.requires.layout
+
+pub insert-requires-clause-new_root : goal.insert-requires-clause-new_root
+insert-requires-clause-new_root c = no_root c.self.inside.table c.self.inside.next c.self.invariant.order.still c.self.invariant.below
+
+pub insert-requires-clause-unmarked : goal.insert-requires-clause-unmarked
+insert-requires-clause-unmarked c = λ n. c.in_ok-node.ensures.unmarked
 
 pub returns-in_err-insert-clause-err : goal.returns-in_err-insert-clause-err
 returns-in_err-insert-clause-err c = on_err c.from_residual-in_err-insert.result _ (err_state c.self.inside.table c.insert.new.table c.self.inside.holds c.insert.new.holds c.self.inside.next c.self.invariant.below c.in_err-insert.ensures.err c.insert.ensures.others ∙ c.self.view_is)

@@ -1,21 +1,23 @@
-use Rattle.std.proofs.Common.{◌≡◌, true, sym, ◌∙◌, ap}
+use Rattle.std.proofs.Common.{◌≡◌, true, sym, ◌∙◌, ap, subst}
 use Rattle.pdl_nodes.specs.Row.{is_buffered}
-use Rattle.pdl_nodes.specs.Rows.{row_at}
-use Rattle.pdl_nodes.specs.Changes.{mark_in}
-use Rattle.pdl_nodes.proofs.Marks.{marking_none, marking_more, marking_live, marking_row, marking_smaller, marking_all}
+use Rattle.pdl_nodes.specs.Rows.{Rows}
+use Rattle.pdl_nodes.specs.Marked.{AreListed}
+use Rattle.pdl_nodes.proofs.Calls.{has_key, table_falls}
+use Rattle.pdl_nodes.proofs.Listing.{table_one, unmarked, unmarked_base, marked_rows, listed_alone}
 use Rattle.pdl_nodes.proofs.table.Table.mark.Goals as goal
 
-pub loop-next-init : goal.loop-next-init
-loop-next-init c = marking_none (mark_in c.args.root c.args.base c.args.alone) c.args.self.now c.newest-next.result c.requires.falls c.newest-next.ensures
+pub index-key-requires : goal.index-key-requires
+index-key-requires c = has_key c.args.self.now c.self.inside.keys c.self.inside.nodes c.args.base c.self.view_is c.self.invariant.0 c.requires.live
 
-pub mark_one-requires : goal.mark_one-requires
-mark_one-requires c = record {
-  live = marking_live (mark_in c.args.root c.args.base c.args.alone) c.args.self.now c.loop-next.self c.loop-next.next c.in-Some.id c.loop-next.invariant c.in-Some.is;
-  buffered = λ e. ap is_buffered (marking_row (mark_in c.args.root c.args.base c.args.alone) c.args.self.now c.loop-next.self c.loop-next.next c.in-Some.id c.loop-next.invariant c.in-Some.is ∙ ap (row_at c.args.self.now) e) ∙ c.requires.buffered;
-}
+pub set_mark-requires : goal.set_mark-requires
+set_mark-requires c = ap is_buffered (unmarked_base c.args.self.now c.self.inside.marked c.self.inside.keys c.unmark_one.new.nodes c.args.root c.args.base c.index-key.result.now c.index_mut.result.now (unmarked c.args.self.now c.self.inside.marked c.self.inside.keys c.self.inside.nodes c.unmark.new.nodes c.unmark_one.new.nodes c.args.root c.args.base c.views.result.now c.self.view_is c.views.ensures c.unmark.ensures.rows c.unmark_one.ensures.rows c.unmark_one.ensures.table) c.requires.live c.index-key.ensures c.index_mut.ensures.value) ∙ c.requires.buffered
 
-pub loop-next-smaller : goal.loop-next-smaller
-loop-next-smaller c = marking_smaller (mark_in c.args.root c.args.base c.args.alone) c.args.self.now c.loop-next.self c.loop-next.next c.older-next.result c.in-Some.id c.loop-next.invariant c.in-Some.is c.older-next.ensures
+pub returns : goal.returns
+returns c = marked_rows c.args.self.now c.self.inside.marked c.self.inside.keys c.unmark_one.new.nodes c.args.root c.args.base c.index-key.result.now c.index_mut.result.now c.set_mark.new.self (unmarked c.args.self.now c.self.inside.marked c.self.inside.keys c.self.inside.nodes c.unmark.new.nodes c.unmark_one.new.nodes c.args.root c.args.base c.views.result.now c.self.view_is c.views.ensures c.unmark.ensures.rows c.unmark_one.ensures.rows c.unmark_one.ensures.table) (table_falls c.args.self.now c.self.inside.keys c.self.inside.nodes c.self.view_is c.self.invariant.0) (subst (λ (t : Rows). AreListed t c.self.inside.marked) c.self.view_is c.self.invariant.1) c.requires.root c.index-key.ensures c.index_mut.ensures.value c.set_mark.ensures
 
-pub loop-next-preserved : goal.loop-next-preserved
-loop-next-preserved c = marking_more (mark_in c.args.root c.args.base c.args.alone) c.args.self.now c.loop-next.self c.mark_one.new.self c.loop-next.next c.older-next.result c.in-Some.id c.loop-next.invariant c.in-Some.is c.older-next.ensures c.mark_one.ensures
+pub invariant_of-self : goal.invariant_of-self
+invariant_of-self c = (
+  table_one c.self.inside.keys c.unmark_one.new.nodes c.args.base c.index-key.result.now c.set_mark.new.self c.unmark_one.ensures.table c.index-key.ensures,
+  subst (λ (t : Rows). AreListed t c.keep.new.self) (sym (marked_rows c.args.self.now c.self.inside.marked c.self.inside.keys c.unmark_one.new.nodes c.args.root c.args.base c.index-key.result.now c.index_mut.result.now c.set_mark.new.self (unmarked c.args.self.now c.self.inside.marked c.self.inside.keys c.self.inside.nodes c.unmark.new.nodes c.unmark_one.new.nodes c.args.root c.args.base c.views.result.now c.self.view_is c.views.ensures c.unmark.ensures.rows c.unmark_one.ensures.rows c.unmark_one.ensures.table) (table_falls c.args.self.now c.self.inside.keys c.self.inside.nodes c.self.view_is c.self.invariant.0) (subst (λ (t : Rows). AreListed t c.self.inside.marked) c.self.view_is c.self.invariant.1) c.requires.root c.index-key.ensures c.index_mut.ensures.value c.set_mark.ensures))
+      (listed_alone c.args.self.now c.self.inside.marked c.keep.new.self c.args.root c.args.base (subst (λ (t : Rows). AreListed t c.self.inside.marked) c.self.view_is c.self.invariant.1) c.requires.family c.requires.live c.requires.marked c.keep.ensures.kept c.keep.ensures.others),
+)

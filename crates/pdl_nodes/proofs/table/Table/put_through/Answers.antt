@@ -1,10 +1,11 @@
-use Rattle.std.proofs.Common.{◌≡◌, ℕ, ◌<◌, length, true, All, List, Option, is_some, sym, ◌∙◌, ap, subst}
+use Rattle.std.proofs.Common.{◌≡◌, ℕ, ◌<◌, length, true, All, List, Option, is_some, sym, ◌∙◌, ap, subst, refl}
 use Rattle.pdl_elem.specs.declared.Ty.{Ty}
 use Rattle.pdl_elem.specs.Types.{InRange}
 use Rattle.pdl_shape.specs.Shape.{size_of}
 use Rattle.pdl_nodes.specs.Row.{Row, is_buffered, parent_of, places_or}
 use Rattle.pdl_nodes.specs.Rows.{row_at}
 use Rattle.pdl_nodes.specs.Changes.{kept_in, lift_in, marked_in}
+use Rattle.pdl_nodes.proofs.Listing.{one_kept}
 use Rattle.pdl_nodes.proofs.Calls.{has_key, node_is, changed_one}
 use Rattle.pdl_nodes.proofs.Marks.{kept_here, kept_others, lift_here, lift_others, marked_here, marked_others}
 use Rattle.pdl_nodes.specs.Assigned.{put_all}
@@ -12,21 +13,25 @@ use Rattle.pdl_nodes.specs.Spots.{spots}
 use Rattle.pdl_nodes.proofs.table.Table.put_through.Goals as goal
 
 pub index-key-requires : goal.index-key-requires
-index-key-requires g c = has_key c.args.self.now c.self.inside.keys c.self.inside.nodes c.args.id c.self.view_is c.self.invariant c.requires.live
+index-key-requires g c = has_key c.args.self.now c.self.inside.keys c.self.inside.nodes c.args.id c.self.view_is c.self.invariant.0 c.requires.live
 
 pub returns-clause-value : goal.returns-clause-value
 returns-clause-value g c =
-    let same : c.index_mut.result.now ≡ row_at c.args.self.now c.args.id = node_is c.args.self.now c.self.inside.keys c.self.inside.nodes c.args.id c.index-key.result.now c.index_mut.result.now c.self.view_is c.self.invariant c.index-key.ensures c.index_mut.ensures.value in
-    changed_one (kept_in c.args.id (put_all (places_or (row_at c.args.self.now c.args.id).places) (spots c.args.triple.now) c.args.values.now (row_at c.args.self.now c.args.id).kept)) c.args.self.now c.self.inside.keys c.self.inside.nodes c.args.id c.index-key.result.now c.index_mut.result.now c.put_through.new.self c.self.view_is c.self.invariant c.index-key.ensures c.index_mut.ensures.value (c.put_through.ensures.value ∙ ap (λ (x : Row). record c.index_mut.result.now { kept = put_all (places_or x.places) (spots c.args.triple.now) c.args.values.now x.kept }) same ∙ kept_here c.args.id (put_all (places_or (row_at c.args.self.now c.args.id).places) (spots c.args.triple.now) c.args.values.now (row_at c.args.self.now c.args.id).kept) c.index_mut.result.now) (kept_others c.args.id (put_all (places_or (row_at c.args.self.now c.args.id).places) (spots c.args.triple.now) c.args.values.now (row_at c.args.self.now c.args.id).kept))
+    let same : c.index_mut.result.now ≡ row_at c.args.self.now c.args.id = node_is c.args.self.now c.self.inside.keys c.self.inside.nodes c.args.id c.index-key.result.now c.index_mut.result.now c.self.view_is c.self.invariant.0 c.index-key.ensures c.index_mut.ensures.value in
+    changed_one (kept_in c.args.id (put_all (places_or (row_at c.args.self.now c.args.id).places) (spots c.args.triple.now) c.args.values.now (row_at c.args.self.now c.args.id).kept)) c.args.self.now c.self.inside.keys c.self.inside.nodes c.args.id c.index-key.result.now c.index_mut.result.now c.put_through.new.self c.self.view_is c.self.invariant.0 c.index-key.ensures c.index_mut.ensures.value (c.put_through.ensures.value ∙ ap (λ (x : Row). record c.index_mut.result.now { kept = put_all (places_or x.places) (spots c.args.triple.now) c.args.values.now x.kept }) same ∙ kept_here c.args.id (put_all (places_or (row_at c.args.self.now c.args.id).places) (spots c.args.triple.now) c.args.values.now (row_at c.args.self.now c.args.id).kept) c.index_mut.result.now) (kept_others c.args.id (put_all (places_or (row_at c.args.self.now c.args.id).places) (spots c.args.triple.now) c.args.values.now (row_at c.args.self.now c.args.id).kept))
 
 pub put_through-requires-clause-buffered : goal.put_through-requires-clause-buffered
-put_through-requires-clause-buffered g c = ap is_buffered (node_is c.args.self.now c.self.inside.keys c.self.inside.nodes c.args.id c.index-key.result.now c.index_mut.result.now c.self.view_is c.self.invariant c.index-key.ensures c.index_mut.ensures.value) ∙ c.requires.buffered
+put_through-requires-clause-buffered g c = ap is_buffered (node_is c.args.self.now c.self.inside.keys c.self.inside.nodes c.args.id c.index-key.result.now c.index_mut.result.now c.self.view_is c.self.invariant.0 c.index-key.ensures c.index_mut.ensures.value) ∙ c.requires.buffered
 
 pub put_through-requires-clause-count : goal.put_through-requires-clause-count
-put_through-requires-clause-count g c = subst (λ (r : Row). length r.kept ≡ size_of r.triple.dims) (sym (node_is c.args.self.now c.self.inside.keys c.self.inside.nodes c.args.id c.index-key.result.now c.index_mut.result.now c.self.view_is c.self.invariant c.index-key.ensures c.index_mut.ensures.value)) c.requires.count
+put_through-requires-clause-count g c = subst (λ (r : Row). length r.kept ≡ size_of r.triple.dims) (sym (node_is c.args.self.now c.self.inside.keys c.self.inside.nodes c.args.id c.index-key.result.now c.index_mut.result.now c.self.view_is c.self.invariant.0 c.index-key.ensures c.index_mut.ensures.value)) c.requires.count
 
 pub put_through-requires-clause-in_range : goal.put_through-requires-clause-in_range
-put_through-requires-clause-in_range g c = subst (λ (r : Row). All (InRange r.ty) c.args.values.now) (sym (node_is c.args.self.now c.self.inside.keys c.self.inside.nodes c.args.id c.index-key.result.now c.index_mut.result.now c.self.view_is c.self.invariant c.index-key.ensures c.index_mut.ensures.value)) c.requires.in_range
+put_through-requires-clause-in_range g c = subst (λ (r : Row). All (InRange r.ty) c.args.values.now) (sym (node_is c.args.self.now c.self.inside.keys c.self.inside.nodes c.args.id c.index-key.result.now c.index_mut.result.now c.self.view_is c.self.invariant.0 c.index-key.ensures c.index_mut.ensures.value)) c.requires.in_range
 
 pub put_through-requires-clause-found : goal.put_through-requires-clause-found
-put_through-requires-clause-found g c = ap (λ (r : Row). is_some r.places) (node_is c.args.self.now c.self.inside.keys c.self.inside.nodes c.args.id c.index-key.result.now c.index_mut.result.now c.self.view_is c.self.invariant c.index-key.ensures c.index_mut.ensures.value) ∙ c.requires.found
+put_through-requires-clause-found g c = ap (λ (r : Row). is_some r.places) (node_is c.args.self.now c.self.inside.keys c.self.inside.nodes c.args.id c.index-key.result.now c.index_mut.result.now c.self.view_is c.self.invariant.0 c.index-key.ensures c.index_mut.ensures.value) ∙ c.requires.found
+
+pub invariant_of-self : goal.invariant_of-self
+invariant_of-self g c = one_kept (kept_in c.args.id (put_all (places_or (row_at c.args.self.now c.args.id).places) (spots c.args.triple.now) c.args.values.now (row_at c.args.self.now c.args.id).kept)) c.args.self.now c.self.inside.keys c.self.inside.nodes c.self.inside.marked c.args.id c.index-key.result.now c.put_through.new.self c.self.view_is c.self.invariant c.index-key.ensures (let same : c.index_mut.result.now ≡ row_at c.args.self.now c.args.id = node_is c.args.self.now c.self.inside.keys c.self.inside.nodes c.args.id c.index-key.result.now c.index_mut.result.now c.self.view_is c.self.invariant.0 c.index-key.ensures c.index_mut.ensures.value in
+    changed_one (kept_in c.args.id (put_all (places_or (row_at c.args.self.now c.args.id).places) (spots c.args.triple.now) c.args.values.now (row_at c.args.self.now c.args.id).kept)) c.args.self.now c.self.inside.keys c.self.inside.nodes c.args.id c.index-key.result.now c.index_mut.result.now c.put_through.new.self c.self.view_is c.self.invariant.0 c.index-key.ensures c.index_mut.ensures.value (c.put_through.ensures.value ∙ ap (λ (x : Row). record c.index_mut.result.now { kept = put_all (places_or x.places) (spots c.args.triple.now) c.args.values.now x.kept }) same ∙ kept_here c.args.id (put_all (places_or (row_at c.args.self.now c.args.id).places) (spots c.args.triple.now) c.args.values.now (row_at c.args.self.now c.args.id).kept) c.index_mut.result.now) (kept_others c.args.id (put_all (places_or (row_at c.args.self.now c.args.id).places) (spots c.args.triple.now) c.args.values.now (row_at c.args.self.now c.args.id).kept))) (record { marks = λ v r h. h; roots = λ v r. refl })

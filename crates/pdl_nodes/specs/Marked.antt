@@ -1,0 +1,22 @@
+-- Which views are listed as those that may be marked.
+use Rattle.std.specs.Prelude.{◌≡◌, ℕ, true, List, [], Option, Some, None, Vec}
+use Rattle.std.specs.Global.{Global}
+use Rattle.std.specs.Ordering.{nat_cmp}
+use Rattle.std.specs.BTreeMap.{get}
+use Rattle.pdl_world.specs.Swept.{holds}
+use Rattle.pdl_nodes.specs.declared.marked.Marked.{Marked}
+use Rattle.pdl_nodes.specs.Rows.{Rows, row_at, has}
+
+abbrev pub views_or : Option (Vec ℕ Global) → List ℕ
+views_or None = []
+views_or (Some vs) = vs.items
+
+-- the views that are listed of a root
+abbrev pub listed : Marked → ℕ → List ℕ
+listed m r = views_or (get nat_cmp m.by_root r)
+
+-- each marked view is listed of its root, if that is there
+abbrev pub AreListed : Rows → Marked → Type 0
+AreListed rs m =
+    (v : ℕ) → has rs v ≡ true → (row_at rs v).mark ≡ true → ((row_at rs v).root ≡ v → ⊥)
+    → has rs (row_at rs v).root ≡ true → holds (listed m (row_at rs v).root) v ≡ true
