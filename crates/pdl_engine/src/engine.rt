@@ -1,25 +1,24 @@
 //! The engine and its calls.
-ghost use Rattle.std.specs.Prelude.{◌≡◌, ℕ, ◌+◌, ◌<◌, ◌≤◌, true, is_some, if◌then◌else◌, [], ◌∷◌, ◌++◌, length, map, get_or, All, IfOk, IfErr, IsTrue, OnOk, OnErr, None, Some};
+ghost use Rattle.std.specs.Prelude.{◌≡◌, ℕ, ◌+◌, ◌≤◌, true, length, All, IfOk, IfErr, IsTrue, OnOk, OnErr, None};
 ghost use Rattle.pdl_buf.specs.Buffer.{count_moved};
 ghost use Rattle.pdl_buf.specs.Made.{IsMade};
 ghost use Rattle.pdl_elem.specs.Types.{InRange};
-ghost use Rattle.pdl_shape.specs.Places.{element_at, put, read, write};
 ghost use Rattle.pdl_shape.specs.Shape.{IsDims, size_of};
 ghost use Rattle.pdl_world.specs.Formula.{is_well_formed};
 ghost use Rattle.pdl_world.specs.Paths.{root_of};
 ghost use Rattle.pdl_world.specs.Refused.{view_refusal};
 ghost use Rattle.pdl_world.specs.World.{root, view, dims_in, ty_in, assign};
 ghost use Rattle.pdl_world.specs.Sound.{IsLive, IsSound};
-ghost use Rattle.pdl_engine.specs.State.{no_arrays, is_fresh, Joins, Names, PathIsFresh, SameArrays, StayFresh, shown_in};
-ghost use Rattle.pdl_engine.specs.Kept.{AreFilled, AreKept, IsFilled, IsForgotten, IsWritten, at, world_of};
+ghost use Rattle.pdl_engine.specs.State.{no_arrays, is_fresh, Joins, Names, PathIsFresh, SameArrays, StayFresh, TargetIsFresh, outdated, shown_in, waiting, waiting_size};
 
-use crate::node::{Node, root_node, view_node};
+use crate::layouts::layout;
 use pdl_affine::PlanFault;
-use pdl_buf::{Buf, NoMemory, Steps, Strided, buf_of, strided, tick};
+use pdl_buf::{NoMemory, Steps, Strided};
 use pdl_choice::ChoiceFault;
 use pdl_elem::Ty;
-use pdl_shape::{Dims, shape_laws, whole_triple};
-use pdl_world::{Trans, assignment_laws, growth_laws, newest_laws};
+use pdl_nodes::Nodes;
+use pdl_shape::Dims;
+use pdl_world::Trans;
 use std::alloc::{AllocError, Global};
 use std::marker::Model;
 use std::sync::ledger::Ledger;
@@ -93,160 +92,18 @@ impl From<ChoiceFault> for ViewFault {
 #[derive(Drop)]
 pub struct Engine {
     alloc: Global,
-    nodes: Vec<Node>,
+    nodes: Nodes,
 }
 
 impl Model for Engine {
+    ghost use Rattle.pdl_world.specs.Sound.{IsSound};
     ghost use Rattle.pdl_engine.specs.State.{State};
-    ghost use Rattle.pdl_engine.specs.Kept.{state_of, AreKept};
 
     ghost Value = { State };
 
-    ghost view = { λ e. state_of e.nodes.items };
+    ghost view = { λ e. e.nodes };
 
-    ghost invariant = { λ e. AreKept e.nodes.items };
-}
-
-/// Keeps one more array, and answers its number.
-fn keep(nodes: &mut Vec<Node>, node: Node) -> Result<ArrayId, AllocError>
-    ensures id { IfOk result (λ id. id ≡ length nodes.old.items) }
-    ensures ok { OnOk result (nodes.new.items ≡ nodes.old.items ++ node ∷ []) }
-    ensures err { OnErr result (nodes.new.items ≡ nodes.old.items) }
-{
-    let id = nodes.len() as u64;
-    nodes.push(node)?;
-    Ok(id)
-}
-
-/// Puts each value at its place, in order. It takes a step for each value.
-fn put_all<L: Ledger>(
-    elems: &mut Vec<i64>,
-    places: &[Option<u32>],
-    values: &[i64],
-    steps: &mut Steps<L>,
-)
-    requires { length values.now ≡ length places.now }
-    ensures { elems.new.items ≡ write places.now values.now elems.old.items }
-{
-    for (i, place) in places.iter().enumerate() {
-        put(elems, *place, values[i]);
-        tick(steps);
-    }
-}
-
-/// Puts a value at its place, if there is one.
-fn put(elems: &mut Vec<i64>, place: Option<u32>, value: i64)
-    ensures { elems.new.items ≡ put place value elems.old.items }
-{
-    match place {
-        Some(place) if (place as usize) < elems.len() => elems[place as usize] = value,
-        _ => {}
-    }
-}
-
-/// Puts the values at the places of the array `id`, in the elements of its root.
-fn write<L: Ledger>(
-    alloc: Global,
-    nodes: &mut Vec<Node>,
-    id: usize,
-    values: &[i64],
-    steps: &mut Steps<L>,
-)
-    requires live { id < length nodes.old.items }
-    requires rooted { (at nodes.old.items id).root < length nodes.old.items }
-    requires count { length values.now ≡ length (at nodes.old.items id).places }
-    ensures { IsWritten nodes.old.items id values.now nodes.new.items }
-{
-    let root = nodes[id].root() as usize;
-    let mut elems = nodes[root].take_elems(alloc);
-    put_all(&mut elems, nodes[id].places(), values, steps);
-    nodes[root].set_elems(elems);
-}
-
-/// Lets the buffers of all arrays with this root go.
-fn forget(nodes: &mut Vec<Node>, root: u64)
-    ensures { IsForgotten root nodes.old.items nodes.new.items }
-{
-    for i in 0..nodes.len() {
-        if nodes[i].root() == root {
-            nodes[i].forget();
-        }
-    }
-}
-
-/// A buffer of an array's own elements, which are the root's at its places. It takes a step for
-/// each that isn't 0.
-fn gathered<L: Ledger>(
-    alloc: Global,
-    node: &Node,
-    root: &Node,
-    steps: &mut Steps<L>,
-) -> Result<Buf, AllocError>
-    requires { All (InRange node.now.ty) root.now.elems }
-    ensures { IfOk result (λ b. b ≡ record { ty = node.now.ty; elems = read node.now.places root.now.elems }) }
-{
-    let own = read(alloc, node.places(), root.elems())?;
-    buf_of(alloc, node.ty(), &own, steps)
-}
-
-/// The elements at the places.
-fn read(alloc: Global, places: &[Option<u32>], elems: &[i64]) -> Result<Vec<i64>, AllocError>
-    ensures { IfOk result (λ v. v.items ≡ read places.now elems.now) }
-{
-    places
-        .iter()
-        .map(|place| element_at(elems, *place))
-        .collect(alloc)
-}
-
-/// The element at a place, and 0 where there is none.
-fn element_at(elems: &[i64], place: Option<u32>) -> i64
-    ensures { result ≡ element_at elems.now place }
-{
-    match place {
-        Some(place) if (place as usize) < elems.len() => elems[place as usize],
-        _ => 0,
-    }
-}
-
-/// Makes the buffer of an array that has none.
-fn fill<L: Ledger>(
-    alloc: Global,
-    nodes: &mut Vec<Node>,
-    id: usize,
-    steps: &mut Steps<L>,
-) -> Result<(), AllocError>
-    requires kept { AreKept nodes.old.items }
-    requires live { id < length nodes.old.items }
-    ensures ok { OnOk result (IsFilled nodes.old.items id nodes.new.items) }
-    ensures err { OnErr result (nodes.new.items ≡ nodes.old.items) }
-{
-    growth_laws();
-    let node = &nodes[id];
-    if node.is_fresh() {
-        return Ok(());
-    }
-    let buf = gathered(alloc, node, &nodes[node.root() as usize], steps)?;
-    nodes[id].keep(buf);
-    Ok(())
-}
-
-/// Makes the buffers of the first `count` arrays that have none.
-fn fill_first<L: Ledger>(
-    alloc: Global,
-    nodes: &mut Vec<Node>,
-    count: usize,
-    steps: &mut Steps<L>,
-) -> Result<(), AllocError>
-    requires kept { AreKept nodes.old.items }
-    requires within { count ≤ length nodes.old.items }
-    ensures same { AreFilled nodes.old.items 0 nodes.new.items }
-    ensures fresh { OnOk result (AreFilled nodes.old.items count nodes.new.items) }
-{
-    for i in 0..count {
-        fill(alloc, nodes, i, steps)?;
-    }
-    Ok(())
+    ghost invariant = { λ e. IsSound e.nodes.world };
 }
 
 impl Engine {
@@ -256,7 +113,7 @@ impl Engine {
     {
         Engine {
             alloc,
-            nodes: Vec::new(alloc),
+            nodes: Nodes::new(alloc),
         }
     }
 
@@ -266,7 +123,7 @@ impl Engine {
         ensures now { result.now ≡ dims_in self.now.world id }
         ensures limits { IsDims result.now }
     {
-        self.nodes[id as usize].dims()
+        self.nodes.dims(id)
     }
 
     /// The type of an array's elements, which is its root's.
@@ -274,14 +131,14 @@ impl Engine {
         requires { IsLive self.now.world id }
         ensures { result ≡ ty_in self.now.world id }
     {
-        self.nodes[id as usize].ty()
+        self.nodes.ty(id)
     }
 
     /// How many arrays there are.
     pub fn live(&self) -> u64
         ensures { result ≡ length self.now.world }
     {
-        self.nodes.len() as u64
+        self.nodes.live()
     }
 
     /// Whether an array can be lent.
@@ -289,7 +146,7 @@ impl Engine {
         requires { IsLive self.now.world id }
         ensures { result ≡ is_fresh self.now id }
     {
-        self.nodes[id as usize].is_fresh()
+        self.nodes.is_fresh(id)
     }
 
     /// An array's type, dimensions and elements. The array is one that can be lent.
@@ -298,8 +155,7 @@ impl Engine {
         requires fresh { is_fresh self.now id ≡ true }
         ensures { result ≡ shown_in self.now id }
     {
-        let node = &self.nodes[id as usize];
-        strided(node.buf(), &whole_triple(self.alloc, node.dims()))
+        self.nodes.lend(id)
     }
 
     /// A new root of these dimensions and elements, which can be lent. It takes a step for each
@@ -319,11 +175,7 @@ impl Engine {
         ensures bounded { steps.new ≤ steps.old + count_moved elems.now }
         ensures sound { IsSound self.new.world }
     {
-        growth_laws();
-        newest_laws();
-        let id = self.nodes.len() as u64;
-        let node = root_node(self.alloc, id, ty, dims, elems, steps)?;
-        Ok(keep(&mut self.nodes, node)?)
+        self.nodes.make(ty, dims, elems, steps)
     }
 
     /// A new view of an array. Its transformation is well formed. It is refused exactly where the
@@ -338,26 +190,31 @@ impl Engine {
         ensures err { OnErr result (self.new ≡ self.old) }
         ensures sound { IsSound self.new.world }
     {
-        growth_laws();
-        let node = view_node(self.alloc, parent, trans, &self.nodes[parent as usize])?;
-        Ok(keep(&mut self.nodes, node)?)
+        let layout = layout(self.alloc, &trans, self.nodes.dims(parent))?;
+        if self.nodes.is_deep(parent) {
+            return Err(ViewFault::TooDeep);
+        }
+        Ok(self.nodes.view(parent, trans, layout)?)
     }
 
-    /// Makes an array and each array on its path to the root such that they can be lent, and so it
-    /// does with all others. Want of memory may leave some of them so.
+    /// Makes an array and each array on its path to the root such that they can be lent. What waits
+    /// to be written back in its family is written back first. Want of memory may leave some of them
+    /// so.
     pub fn ready<L: Ledger>(&mut self, id: ArrayId, steps: &mut Steps<L>) -> Result<(), NoMemory>
         requires { IsLive self.old.world id }
         ensures same { SameArrays self.old self.new }
         ensures stay { StayFresh self.old self.new }
         ensures fresh { OnOk result (PathIsFresh self.new id) }
         ensures itself { OnOk result (is_fresh self.new id ≡ true) }
+        ensures settled { waiting self.new id ≡ None }
+        ensures counted { steps.new ≤ steps.old + (outdated self.old id + waiting_size self.old (waiting self.old id)) }
     {
-        let count = self.nodes.len();
-        Ok(fill_first(self.alloc, &mut self.nodes, count, steps)?)
+        self.nodes.ready(id, steps)
     }
 
     /// Puts the values at the array's positions, in rising order. The array is one that can be
-    /// lent. Arrays of other families can be lent afterwards as before.
+    /// lent. Arrays of other families can be lent afterwards as before. It takes a step for each
+    /// value, and no memory.
     pub fn assign<L: Ledger>(&mut self, id: ArrayId, values: &[i64], steps: &mut Steps<L>)
         requires live { IsLive self.old.world id }
         requires fresh { is_fresh self.old id ≡ true }
@@ -368,11 +225,9 @@ impl Engine {
         ensures next { self.new.next ≡ self.old.next }
         ensures others { (u : ℕ) → (root_of self.old.world u ≡ root_of self.old.world id → ⊥) → is_fresh self.old u ≡ true → is_fresh self.new u ≡ true }
         ensures sound { IsSound self.new.world }
+        ensures target { TargetIsFresh self.old id self.new }
+        ensures counted { steps.new ≡ steps.old + length values.now }
     {
-        shape_laws();
-        assignment_laws();
-        let root = self.nodes[id as usize].root();
-        forget(&mut self.nodes, root);
-        write(self.alloc, &mut self.nodes, id as usize, values, steps);
+        self.nodes.assign(id, values, steps)
     }
 }

@@ -1,0 +1,25 @@
+-- Which fault names why there is no view.
+use Rattle.std.proofs.Common.{◌≡◌, ℕ, Bool, true, false, List, [], length, Option, Some, None, refl, sym, ◌∙◌, ap, subst}
+use Rattle.std.specs.Prelude.{nat_lt, Result, Ok, Err, IsOk}
+use Rattle.pdl_shape.specs.Refusals.{Refusal}
+use Rattle.pdl_world.specs.Refused.{NoView, too_deep, refusal_at}
+use Rattle.pdl_engine.specs.State.{Names, NamesReason, reason_of}
+use Rattle.pdl_engine.specs.declared.engine.ViewFault.{ViewFault}
+
+reason_none : (o : Option NoView) (there : Option NoView) → NamesReason o None → NamesReason o there
+reason_none None there h = tt
+reason_none (Some r) there h = let x : None ≡ Some r = h in absurd (cc)
+
+-- a fault that names the formula's refusal names why there is no view
+pub names_at : (f : ViewFault) (ps : List ℕ) (d : Result (List ℕ) Refusal) → Names f (refusal_at [] d) → Names f (refusal_at ps d)
+names_at f ps (Ok ds) h = reason_none (reason_of f) (refusal_at ps (Ok ds)) h
+names_at f ps (Err r) h = h
+
+-- nothing refuses a view that the formula gives on a path that isn't too long
+pub none_at : (ps : List ℕ) (d : Result (List ℕ) Refusal) → IsOk d → nat_lt 64 (length ps) ≡ false → refusal_at ps d ≡ None
+none_at ps (Ok ds) h e = rw e refl
+none_at ps (Err r) h e = let x : false ≡ true = h in absurd (cc)
+
+pub deep_at : (ps : List ℕ) (d : Result (List ℕ) Refusal) → IsOk d → nat_lt 64 (length ps) ≡ true → refusal_at ps d ≡ Some too_deep
+deep_at ps (Ok ds) h e = rw e refl
+deep_at ps (Err r) h e = let x : false ≡ true = h in absurd (cc)
