@@ -6,12 +6,12 @@
 #![tactic(auto)]
 
 mod buffer;
-mod layout;
 mod lending;
 mod made;
 mod moves;
 mod numbers;
 mod packed;
+mod placement;
 mod reads;
 mod steps;
 mod stretching;
@@ -21,6 +21,7 @@ pub use buffer::{Buf, buf_bytes, buf_get, buf_of, buf_set};
 pub use lending::strided;
 pub use made::{Elements, Made};
 pub use moves::{gather, scatter};
+pub use placement::Placement;
 pub use reads::strided_read;
 pub use std::alloc::AllocError as NoMemory;
 pub use steps::{Steps, new_steps, tick};

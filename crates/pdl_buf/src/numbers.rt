@@ -11,8 +11,8 @@ ghost use Rattle.pdl_buf.specs.Numbers.{kept_in};
 ghost use Rattle.pdl_buf.specs.Reads.{HasRead};
 ghost use Rattle.pdl_buf.specs.Window.{shown};
 
-use crate::layout::Layout;
 use crate::packed::{AtByte, AtLong, AtLonglong, AtShort, AtUshort, Packed};
+use crate::placement::Placement;
 use crate::reads::read_block;
 use pdl_elem::Ty;
 use std::alloc::{AllocError, Global};
@@ -98,22 +98,24 @@ impl Numbers {
         }
     }
 
-    /// Sets each of these numbers to the one at the place that a layout shows there of others of
+    /// Sets each of these numbers to the one at the place that a placement shows there of others of
     /// the same type, or to 0 where there is no place.
-    pub(crate) fn gather(&mut self, from: &Numbers, layout: &Layout, places: &[Option<u32>])
+    pub(crate) fn gather(&mut self, from: &Numbers, placement: &Placement, places: &[Option<u32>])
         requires paired { length places.now ≡ length (kept_in self.old).elems }
-        requires within { AllBelow (size_of layout.now.triple.dims) places.now }
-        requires reaches { Reaches layout.now.triple (length (kept_in from.now).elems) }
+        requires within { AllBelow (size_of placement.now.dims) places.now }
+        requires reaches { Reaches placement.now (length (kept_in from.now).elems) }
         requires same_type { (kept_in from.now).ty ≡ (kept_in self.old).ty }
-        ensures { kept_in self.new ≡ record (kept_in self.old) { elems = read places.now (shown layout.now.triple (kept_in from.now).elems) } }
+        ensures { kept_in self.new ≡ record (kept_in self.old) { elems = read places.now (shown placement.now (kept_in from.now).elems) } }
     {
         match (self, from) {
-            (Numbers::Bytes(into), Numbers::Bytes(from)) => into.gather(from, layout, places),
-            (Numbers::Shorts(into), Numbers::Shorts(from)) => into.gather(from, layout, places),
-            (Numbers::Ushorts(into), Numbers::Ushorts(from)) => into.gather(from, layout, places),
-            (Numbers::Longs(into), Numbers::Longs(from)) => into.gather(from, layout, places),
+            (Numbers::Bytes(into), Numbers::Bytes(from)) => into.gather(from, placement, places),
+            (Numbers::Shorts(into), Numbers::Shorts(from)) => into.gather(from, placement, places),
+            (Numbers::Ushorts(into), Numbers::Ushorts(from)) => into.gather(
+                from, placement, places,
+            ),
+            (Numbers::Longs(into), Numbers::Longs(from)) => into.gather(from, placement, places),
             (Numbers::Longlongs(into), Numbers::Longlongs(from)) => {
-                into.gather(from, layout, places)
+                into.gather(from, placement, places)
             }
             _ => {}
         }
@@ -136,19 +138,19 @@ impl Numbers {
         }
     }
 
-    /// The numbers that a layout shows, from a position on.
-    pub(crate) fn read(&self, layout: &Layout, first: u32, into: &mut [i64])
-        requires within { first + length into.old ≤ size_of layout.now.triple.dims }
-        requires reaches { Reaches layout.now.triple (length (kept_in self.now).elems) }
-        ensures value { HasRead layout.now.triple (kept_in self.now).elems first (length into.old) into.new }
+    /// The numbers that a placement shows, from a position on.
+    pub(crate) fn read(&self, placement: &Placement, first: u32, into: &mut [i64])
+        requires within { first + length into.old ≤ size_of placement.now.dims }
+        requires reaches { Reaches placement.now (length (kept_in self.now).elems) }
+        ensures value { HasRead placement.now (kept_in self.now).elems first (length into.old) into.new }
         ensures in_range { All (InRange (kept_in self.now).ty) into.new }
     {
         match self {
-            Numbers::Bytes(packed) => read_block(packed, layout, first, into),
-            Numbers::Shorts(packed) => read_block(packed, layout, first, into),
-            Numbers::Ushorts(packed) => read_block(packed, layout, first, into),
-            Numbers::Longs(packed) => read_block(packed, layout, first, into),
-            Numbers::Longlongs(packed) => read_block(packed, layout, first, into),
+            Numbers::Bytes(packed) => read_block(packed, placement, first, into),
+            Numbers::Shorts(packed) => read_block(packed, placement, first, into),
+            Numbers::Ushorts(packed) => read_block(packed, placement, first, into),
+            Numbers::Longs(packed) => read_block(packed, placement, first, into),
+            Numbers::Longlongs(packed) => read_block(packed, placement, first, into),
         }
     }
 }

@@ -11,7 +11,7 @@ ghost use Rattle.pdl_shape.specs.Triple.{Reaches};
 ghost use Rattle.pdl_buf.specs.Window.{shown};
 ghost use Rattle.pdl_buf.specs.Bytes.{ArePacked, bytes_of, number_of};
 
-use crate::layout::Layout;
+use crate::placement::Placement;
 use pdl_elem::{Ty, wrap, wrapping_laws};
 use pdl_shape::shape_laws;
 use std::alloc::{AllocError, Global};
@@ -181,30 +181,35 @@ impl<T: PackedType<N>, const N: usize> Packed<T, N> {
         let _cells = &self.cells;
     }
 
-    /// The number that a layout shows at a position, or 0 where there is none.
-    fn shown_at(&self, layout: &Layout, position: Option<u32>) -> i64
-        requires within { IsBelow (size_of layout.now.triple.dims) position }
-        requires reaches { Reaches layout.now.triple (length self.now) }
-        ensures value { result ≡ element_at (shown layout.now.triple self.now) position }
+    /// The number that a placement shows at a position, or 0 where there is none.
+    fn shown_at(&self, placement: &Placement, position: Option<u32>) -> i64
+        requires within { IsBelow (size_of placement.now.dims) position }
+        requires reaches { Reaches placement.now (length self.now) }
+        ensures value { result ≡ element_at (shown placement.now self.now) position }
         ensures in_range { InRange T.ty result }
     {
         shape_laws();
         match position {
-            Some(position) => self.get(layout.place(position) as usize),
+            Some(position) => self.get(placement.place(position) as usize),
             None => 0,
         }
     }
 
-    /// Sets each of these numbers to the one that a layout shows of others of the type at the
+    /// Sets each of these numbers to the one that a placement shows of others of the type at the
     /// position that stands for it, or to 0 where there is none.
-    pub(crate) fn gather(&mut self, from: &Packed<T, N>, layout: &Layout, positions: &[Option<u32>])
+    pub(crate) fn gather(
+        &mut self,
+        from: &Packed<T, N>,
+        placement: &Placement,
+        positions: &[Option<u32>],
+    )
         requires paired { length positions.now ≡ length self.old }
-        requires within { AllBelow (size_of layout.now.triple.dims) positions.now }
-        requires reaches { Reaches layout.now.triple (length from.now) }
-        ensures { self.new ≡ read positions.now (shown layout.now.triple from.now) }
+        requires within { AllBelow (size_of placement.now.dims) positions.now }
+        requires reaches { Reaches placement.now (length from.now) }
+        ensures { self.new ≡ read positions.now (shown placement.now from.now) }
     {
         for (i, position) in positions.iter().enumerate() {
-            self.set(i, from.shown_at(layout, *position));
+            self.set(i, from.shown_at(placement, *position));
         }
     }
 

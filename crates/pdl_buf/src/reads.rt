@@ -6,8 +6,8 @@ ghost use Rattle.pdl_shape.specs.Triple.{IsPlace, IsTriple, Reaches};
 ghost use Rattle.pdl_buf.specs.Reads.{IsInside, HasRead};
 ghost use Rattle.pdl_buf.specs.Window.{IsInOrder, place_at};
 
-use crate::layout::{Layout, place_of};
 use crate::packed::{Packed, PackedType};
+use crate::placement::{Placement, place_of};
 use crate::window::Strided;
 use pdl_shape::{Triple, dims_list, incs_list, shape_laws};
 
@@ -259,22 +259,22 @@ fn read_in_order<T: PackedType<N>, const N: usize>(
     }
 }
 
-/// The elements that a layout shows of these numbers, from a position on.
+/// The elements that a placement shows of these numbers, from a position on.
 pub(crate) fn read_block<T: PackedType<N>, const N: usize>(
     numbers: &Packed<T, N>,
-    layout: &Layout,
+    placement: &Placement,
     first: u32,
     into: &mut [i64],
 )
-    requires within { first + length into.old ≤ size_of layout.now.triple.dims }
-    requires reaches { Reaches layout.now.triple (length numbers.now) }
-    ensures value { HasRead layout.now.triple numbers.now first (length into.old) into.new }
+    requires within { first + length into.old ≤ size_of placement.now.dims }
+    requires reaches { Reaches placement.now (length numbers.now) }
+    ensures value { HasRead placement.now numbers.now first (length into.old) into.new }
     ensures in_range { All (InRange T.ty) into.new }
 {
-    if layout.is_in_order {
-        read_in_order(numbers, &layout.triple, first, into);
+    if placement.is_in_order {
+        read_in_order(numbers, placement.triple(), first, into);
     } else {
-        read_runs(numbers, &layout.triple, first, into);
+        read_runs(numbers, placement.triple(), first, into);
     }
 }
 
@@ -286,5 +286,5 @@ pub fn strided_read(from: &Strided<'_>, first: u32, into: &mut [i64])
     ensures in_range { All (InRange from.now.ty) into.new }
 {
     let buf = from.buf;
-    buf.numbers.read(&from.layout, first, into)
+    buf.numbers.read(&from.placement, first, into)
 }

@@ -15,5 +15,5 @@ pub fn stretched<'a>(from: &Strided<'a>, dims: &Dims) -> Strided<'a>
     ensures { result ≡ record { ty = from.now.ty; dims = dims.now; elems = stretched from.now.dims dims.now from.now.elems } }
 {
     shape_laws();
-    strided(from.buf, &stretched_triple(&from.layout.triple, dims))
+    strided(from.buf, &stretched_triple(from.placement.triple(), dims))
 }

@@ -4,7 +4,7 @@ ghost use Rattle.pdl_elem.specs.Types.{InRange};
 ghost use Rattle.pdl_shape.specs.Shape.{size_of};
 
 use crate::buffer::{Buf, buf_get};
-use crate::layout::Layout;
+use crate::placement::Placement;
 use pdl_elem::Ty;
 use pdl_shape::{Dims, shape_laws};
 use std::marker::Model;
@@ -15,7 +15,7 @@ use std::marker::Model;
 #[derive(Drop)]
 pub struct Strided<'a> {
     pub(crate) buf: &'a Buf,
-    pub(crate) layout: Layout,
+    pub(crate) placement: Placement,
 }
 
 impl<'a> Model for Strided<'a> {
@@ -25,9 +25,9 @@ impl<'a> Model for Strided<'a> {
 
     ghost Value = { Window };
 
-    ghost view = { λ s. record { ty = s.buf.now.ty; dims = s.layout.triple.dims; elems = shown s.layout.triple s.buf.now.elems } };
+    ghost view = { λ s. record { ty = s.buf.now.ty; dims = s.placement.dims; elems = shown s.placement s.buf.now.elems } };
 
-    ghost invariant = { λ s. Reaches s.layout.triple (length s.buf.now.elems) };
+    ghost invariant = { λ s. Reaches s.placement (length s.buf.now.elems) };
 }
 
 /// The window's dimensions.
@@ -35,7 +35,7 @@ pub fn strided_dims<'b>(from: &'b Strided<'_>) -> &'b Dims
     ensures dims { result.now ≡ from.now.dims }
     ensures count { length from.now.elems ≡ size_of from.now.dims }
 {
-    &from.layout.triple.dims
+    &from.placement.triple().dims
 }
 
 /// The type of the window's elements.
@@ -53,5 +53,5 @@ pub fn strided_get(from: &Strided<'_>, position: u32) -> i64
     ensures in_range { InRange from.now.ty result }
 {
     shape_laws();
-    buf_get(from.buf, from.layout.place(position))
+    buf_get(from.buf, from.placement.place(position))
 }

@@ -5,4 +5,4 @@ use Rattle.pdl_buf.proofs.packed.Packed.gather.Goals as goal
 
 pub returns : goal.returns
 returns g c =
-    read_is c.args.positions.now (shown c.args.layout.now.triple c.args.from.now) c.loop-i.self c.loop-i.i c.loop-i-test.false c.loop-i.invariant.count c.loop-i.invariant.done
+    read_is c.args.positions.now (shown c.args.placement.now c.args.from.now) c.loop-i.self c.loop-i.i c.loop-i-test.false c.loop-i.invariant.count c.loop-i.invariant.done

@@ -8,5 +8,5 @@ use Rattle.pdl_buf.proofs.packed.Packed.gather.Given as goal
 abbrev pub invariant-loop-i : goal.invariant-loop-i
 invariant-loop-i g l = record {
   count : length l.self ≡ length l.positions;
-  done : (k : ℕ) → k < l.i → get_or l.self k (pos 0) ≡ element_at (shown l.layout.triple l.from) (get_or l.positions k None);
+  done : (k : ℕ) → k < l.i → get_or l.self k (pos 0) ≡ element_at (shown l.placement l.from) (get_or l.positions k None);
 }

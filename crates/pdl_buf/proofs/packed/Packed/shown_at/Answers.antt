@@ -13,13 +13,13 @@ below n p at e h = subst (IsBelow n) e h
 
 pub get-requires : goal.get-requires
 get-requires g c =
-    let s : IsShown c.args.layout.now.triple (length c.args.self.now) c.in-Some.position =
-    shown_at c.shape_laws.ensures.positions c.args.layout.now.triple (length c.args.self.now) c.in-Some.position c.place.ensures.sound c.requires.reaches (below _ _ _ c.in-Some.is c.requires.within) in
+    let s : IsShown c.args.placement.now (length c.args.self.now) c.in-Some.position =
+    shown_at c.shape_laws.ensures.positions c.args.placement.now (length c.args.self.now) c.in-Some.position c.place.ensures.sound c.requires.reaches (below _ _ _ c.in-Some.is c.requires.within) in
     (omega arith, omega (arith, s.below, c.place.ensures.place))
 
 pub returns-in-Some-clause-value : goal.returns-in-Some-clause-value
 returns-in-Some-clause-value g c =
     to_z-of_z w64 c.get.result (record { sfits = c.get.type_inv }) ∙ c.get.ensures.value
     ∙ ap (λ (p : ℕ). get_or c.args.self.now p (pos 0)) c.place.ensures.place
-    ∙ shown_element c.args.layout.now.triple c.args.self.now (shown c.args.layout.now.triple c.args.self.now) c.in-Some.position refl (below _ _ _ c.in-Some.is c.requires.within)
-    ∙ ap (element_at (shown c.args.layout.now.triple c.args.self.now)) (sym c.in-Some.is)
+    ∙ shown_element c.args.placement.now c.args.self.now (shown c.args.placement.now c.args.self.now) c.in-Some.position refl (below _ _ _ c.in-Some.is c.requires.within)
+    ∙ ap (element_at (shown c.args.placement.now c.args.self.now)) (sym c.in-Some.is)

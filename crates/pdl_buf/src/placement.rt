@@ -5,33 +5,54 @@ ghost use Rattle.pdl_shape.specs.Triple.{IsTriple, moved};
 ghost use Rattle.pdl_buf.specs.Window.{IsInOrder, place_at};
 
 use pdl_shape::{Triple, copy_triple, dims_list, incs_list, shape_laws};
+use std::marker::Model;
 
-/// A triple, and whether the elements that it shows are neighbours in the buffer, in order: such
-/// ones are found without a division.
+/// Where a triple places the positions of its dimensions in a buffer. It is made once a triple, and
+/// then each place is found without memory, and without a division where the places are neighbours,
+/// in order. Contracts see the triple.
 #[derive(Drop)]
-pub(crate) struct Layout {
-    pub(crate) triple: Triple,
+pub struct Placement {
+    triple: Triple,
     pub(crate) is_in_order: bool,
-    ghost ordered: { IsTrue is_in_order → IsInOrder 1 triple.incs triple.dims },
 }
 
-impl Layout {
-    /// Where a triple shows its elements.
-    pub(crate) fn of(triple: &Triple) -> Layout
-        ensures { result.triple ≡ triple.now }
+impl Model for Placement {
+    ghost use Rattle.std.specs.Prelude.{IsTrue};
+    ghost use Rattle.pdl_buf.specs.Window.{IsInOrder};
+    ghost use Rattle.pdl_shape.specs.Triple.{Triple};
+
+    ghost Value = { Triple };
+
+    ghost view = { λ p. p.triple };
+
+    ghost invariant = { λ p. IsTrue p.is_in_order → IsInOrder 1 p.triple.incs p.triple.dims };
+}
+
+impl Placement {
+    /// Where a triple places its positions. It takes no memory.
+    pub fn of(triple: &Triple) -> Placement
+        ensures { result ≡ triple.now }
     {
         shape_laws();
-        Layout {
+        Placement {
             triple: copy_triple(triple),
             is_in_order: lie_in_order(dims_list(&triple.dims), incs_list(&triple.incs)),
         }
     }
 
-    /// The buffer's place at a position of the window.
-    pub(crate) fn place(&self, position: u32) -> u32
-        requires { position < size_of self.now.triple.dims }
-        ensures place { result ≡ place_at self.now.triple position }
-        ensures sound { IsTriple self.now.triple }
+    /// The triple.
+    pub(crate) fn triple(&self) -> &Triple
+        ensures { result.now ≡ self.now }
+    {
+        &self.triple
+    }
+
+    /// The buffer's place at a position below the number of elements: the offset plus the
+    /// increments times the position's coordinates.
+    pub fn place(&self, position: u32) -> u32
+        requires { position < size_of self.now.dims }
+        ensures place { result ≡ place_at self.now position }
+        ensures sound { IsTriple self.now }
     {
         if self.is_in_order {
             place_in_order(&self.triple, position)

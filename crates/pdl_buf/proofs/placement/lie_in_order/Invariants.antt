@@ -1,5 +1,5 @@
 use Rattle.pdl_buf.proofs.Ordered.{Ordering}
-use Rattle.pdl_buf.proofs.layout.lie_in_order.Given as goal
+use Rattle.pdl_buf.proofs.placement.lie_in_order.Given as goal
 
 -- the dimensions before i lie in order
 abbrev pub invariant-loop-i : goal.invariant-loop-i

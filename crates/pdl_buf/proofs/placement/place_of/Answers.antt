@@ -9,7 +9,7 @@ use Rattle.pdl_shape.specs.Shape.{coordinates_of}
 use Rattle.pdl_shape.specs.Triple.{Triple, IsTriple, moved, place_of}
 use Rattle.pdl_buf.specs.Window.{place_at}
 use Rattle.pdl_buf.proofs.Walking.{Shows, shows_at}
-use Rattle.pdl_buf.proofs.layout.place_of.Goals as goal
+use Rattle.pdl_buf.proofs.placement.place_of.Goals as goal
 
 shows : (c : goal.After-place_of_position-place) → Shows c.args.triple.now c.args.position
 shows c = shows_at c.shape_laws.ensures.positions c.args.triple.now c.args.position (subst (λ (t : Triple). IsTriple t) c.triple.view_is c.triple.invariant) c.requires

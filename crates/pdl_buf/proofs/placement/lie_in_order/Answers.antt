@@ -4,7 +4,7 @@ use Rattle.std.proofs.lemmas.Int.{to_z-of_z}
 use Rattle.std.specs.Int.{w32}
 use Rattle.std.specs.Int.RustNames.{FitsSigned}
 use Rattle.pdl_buf.proofs.Ordered.{ordering_start, ordering_next, ordering_end, step_small}
-use Rattle.pdl_buf.proofs.layout.lie_in_order.Goals as goal
+use Rattle.pdl_buf.proofs.placement.lie_in_order.Goals as goal
 
 pub loop-i-init : goal.loop-i-init
 loop-i-init c = ordering_start c.args.incs.now c.args.sizes.now c.requires.dims.within

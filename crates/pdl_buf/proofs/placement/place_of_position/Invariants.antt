@@ -2,7 +2,7 @@ use Rattle.std.proofs.Common.{◌+ℤ◌, pos}
 use Rattle.pdl_shape.specs.Shape.{coordinates_of}
 use Rattle.pdl_shape.specs.Triple.{moved}
 use Rattle.pdl_buf.proofs.Walking.{Walk}
-use Rattle.pdl_buf.proofs.layout.place_of_position.Given as goal
+use Rattle.pdl_buf.proofs.placement.place_of_position.Given as goal
 
 -- the walk over the dimensions before i
 abbrev pub invariant-loop-i : goal.invariant-loop-i

@@ -4,7 +4,7 @@ use Rattle.pdl_shape.specs.Triple.{Triple, IsTriple}
 use Rattle.pdl_buf.specs.Window.{place_at}
 use Rattle.pdl_buf.proofs.Ordered.{in_order_at}
 use Rattle.pdl_buf.proofs.Walking.{Shows, shows_at}
-use Rattle.pdl_buf.proofs.layout.place_in_order.Goals as goal
+use Rattle.pdl_buf.proofs.placement.place_in_order.Goals as goal
 
 place_is : (c : goal.After-triple) → place_at c.args.triple.now c.args.position ≡ c.triple.inside.offset + c.args.position
 place_is c =
