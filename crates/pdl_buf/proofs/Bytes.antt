@@ -1,9 +1,10 @@
 -- A number's bytes give the number back.
-use Rattle.std.proofs.Common.{◌≡◌, ℕ, ◌+◌, ◌<◌, ◌≤◌, ℤ, pos, negsuc, List, [], ◌∷◌, ◌++◌, length, map, take, get_or, arith, refl, ap, ap₂, sym, ◌∙◌, All}
+use Rattle.std.proofs.Common.{◌≡◌, ℕ, ◌+◌, ◌<◌, ◌≤◌, ℤ, pos, negsuc, List, [], ◌∷◌, ◌++◌, length, length-append, map, take, get_or, arith, refl, ap, ap₂, sym, ◌∙◌, All}
 use Rattle.std.specs.Prelude.{slice_set}
 use Rattle.std.specs.List.{flat_map}
-use Rattle.std.proofs.lemmas.List.{map-set, map_more, take_more_set, take_all}
-use Rattle.std.proofs.lemmas.List.Elements.{All-map, All-set, All-head, All-tail}
+use Rattle.std.proofs.lemmas.List.{append_assoc, map-append, map-set, map_more, take_more_set, take_all}
+use Rattle.std.proofs.Math.Seq.{take-append_seam}
+use Rattle.std.proofs.lemmas.List.Elements.{All-append, All-map, All-set, All-head, All-tail}
 use Rattle.std.proofs.lemmas.Int.{ints}
 use Rattle.std.proofs.lemmas.Nat.{from_le_bytes-to_le_bytes_2, from_le_bytes-to_le_bytes_4, from_le_bytes-to_le_bytes_8}
 use Rattle.std.specs.Int.{w8, to_le_bytes, from_le_bytes}
@@ -87,3 +88,18 @@ packed_more t cells es i bytes h same e before =
 pub packed_end : (t : Ty) (cells : List (List ℕ)) (es : List ℤ) (i : ℕ) → length es ≤ i → length cells ≡ length es
     → take i cells ≡ map (bytes_of t) (take i es) → cells ≡ map (bytes_of t) es
 packed_end t cells es i h same e = sym (take_all i cells (omega arith)) ∙ e ∙ ap (map (bytes_of t)) (take_all i es h)
+
+-- ---- a list that is packed onto others
+
+-- what stands before the last cells that were set, and these
+pub keep_two : {X : Type 0} (before set post rest : List X) (n : ℕ) → length before + length set ≡ n → take n (before ++ (set ++ post) ++ rest) ≡ before ++ set
+keep_two before set post rest n e =
+    ap (take n) (append_assoc before (set ++ post) rest ∙ ap (λ xs. before ++ xs) (append_assoc set post rest) ∙ sym (append_assoc before set (post ++ rest)))
+    ∙ ap (λ (k : ℕ). take k (before ++ set ++ (post ++ rest))) (sym (length-append before set ∙ e))
+    ∙ take-append_seam (before ++ set) (post ++ rest)
+
+pub packed_onto : (t : Ty) (cells : List (List ℕ)) (es : List ℤ) → ArePacked t cells → All (InRange t) es → ArePacked t (cells ++ map (bytes_of t) es)
+packed_onto t cells es packed all = All-append (IsPacked t) cells (map (bytes_of t) es) packed (all_packed t es all)
+
+pub numbers_onto : (t : Ty) (cells : List (List ℕ)) (es : List ℤ) → All (InRange t) es → map (number_of t) (cells ++ map (bytes_of t) es) ≡ map (number_of t) cells ++ es
+numbers_onto t cells es all = map-append (number_of t) cells (map (bytes_of t) es) ∙ ap (λ (ns : List ℤ). map (number_of t) cells ++ ns) (all_again t es all)

@@ -5,3 +5,4 @@ pub mod Ordered
 pub mod Wholes
 pub mod Runs
 pub mod Stretches
+pub mod Moved

@@ -1,8 +1,8 @@
 //! Kept buffers of numbers, windows on them, and the count of the elements that were moved.
 //!
-//! A buffer comes into being by `buf_of` alone and is changed by `buf_set`, `gather` and `scatter`
-//! alone, and each of these counts the elements that it moves in a `Steps` of the caller. So each
-//! element that isn't 0 came in by a counted step.
+//! A buffer comes into being by `buf_of` or `buf_of_elements` alone and is changed by `buf_set`,
+//! `gather` and `scatter` alone, and each of these counts the elements that it moves in a `Steps`
+//! of the caller. So each element that isn't 0 came in by a counted step.
 #![tactic(auto)]
 
 mod buffer;
@@ -11,16 +11,18 @@ mod made;
 mod moves;
 mod numbers;
 mod packed;
+mod packing;
 mod placement;
 mod reads;
 mod steps;
 mod stretching;
 mod window;
 
-pub use buffer::{Buf, buf_bytes, buf_get, buf_of, buf_set};
+pub use buffer::{Buf, buf_bytes, buf_get, buf_of, buf_of_elements, buf_set};
 pub use lending::strided;
 pub use made::{Elements, Made};
 pub use moves::{gather, scatter};
+pub use packing::Packing;
 pub use placement::Placement;
 pub use reads::strided_read;
 pub use std::alloc::AllocError as NoMemory;

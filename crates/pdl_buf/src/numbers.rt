@@ -1,5 +1,5 @@
 //! The numbers of a buffer, in the width of its type. Each call looks at the type once.
-ghost use Rattle.std.specs.Prelude.{◌≡◌, ◌<◌, ◌≤◌, ◌+◌, ℤ, pos, length, get_or, slice_set, All, IfOk};
+ghost use Rattle.std.specs.Prelude.{◌≡◌, ◌<◌, ◌≤◌, ◌+◌, ◌++◌, ℕ, ℤ, [], pos, length, get_or, slice_set, All, IfOk, OnOk, OnErr};
 ghost use Rattle.std.specs.List.{flat_map};
 ghost use Rattle.pdl_elem.specs.Types.{InRange};
 ghost use Rattle.pdl_shape.specs.Places.{AllBelow, read, write};
@@ -13,7 +13,7 @@ ghost use Rattle.pdl_buf.specs.Window.{shown};
 
 use crate::packed::{AtByte, AtLong, AtLonglong, AtShort, AtUshort, Packed};
 use crate::placement::Placement;
-use crate::reads::read_block;
+use crate::reads::{read_block, read_neighbours};
 use pdl_elem::Ty;
 use std::alloc::{AllocError, Global};
 
@@ -28,18 +28,61 @@ pub(crate) enum Numbers {
 }
 
 impl Numbers {
-    /// These numbers, which are in the type's range.
-    pub(crate) fn of(alloc: Global, ty: Ty, numbers: &[i64]) -> Result<Numbers, AllocError>
-        requires { All (InRange ty) numbers.now }
-        ensures { IfOk result (λ kept. kept_in kept ≡ record { ty = ty; elems = numbers.now }) }
+    /// No numbers of the type, with room for so many.
+    pub(crate) fn with_room(alloc: Global, ty: Ty, count: usize) -> Result<Numbers, AllocError>
+        ensures { IfOk result (λ kept. kept_in kept ≡ record { ty = ty; elems = [] }) }
     {
         Ok(match ty {
-            Ty::Byte => Numbers::Bytes(Packed::of(alloc, numbers)?),
-            Ty::Short => Numbers::Shorts(Packed::of(alloc, numbers)?),
-            Ty::Ushort => Numbers::Ushorts(Packed::of(alloc, numbers)?),
-            Ty::Long => Numbers::Longs(Packed::of(alloc, numbers)?),
-            Ty::Longlong => Numbers::Longlongs(Packed::of(alloc, numbers)?),
+            Ty::Byte => Numbers::Bytes(Packed::with_room(alloc, count)?),
+            Ty::Short => Numbers::Shorts(Packed::with_room(alloc, count)?),
+            Ty::Ushort => Numbers::Ushorts(Packed::with_room(alloc, count)?),
+            Ty::Long => Numbers::Longs(Packed::with_room(alloc, count)?),
+            Ty::Longlong => Numbers::Longlongs(Packed::with_room(alloc, count)?),
         })
+    }
+
+    /// Puts these numbers, which are in the type's range, after the others.
+    pub(crate) fn extend(&mut self, numbers: &[i64]) -> Result<(), AllocError>
+        requires { All (InRange (kept_in self.old).ty) numbers.now }
+        ensures ok { let old = kept_in self.old in
+            OnOk result (kept_in self.new ≡ record old { elems = old.elems ++ numbers.now }) }
+        ensures err { OnErr result (kept_in self.new ≡ kept_in self.old) }
+    {
+        match self {
+            Numbers::Bytes(packed) => packed.extend(numbers),
+            Numbers::Shorts(packed) => packed.extend(numbers),
+            Numbers::Ushorts(packed) => packed.extend(numbers),
+            Numbers::Longs(packed) => packed.extend(numbers),
+            Numbers::Longlongs(packed) => packed.extend(numbers),
+        }
+    }
+
+    /// How many numbers there are.
+    pub(crate) fn len(&self) -> usize
+        ensures { result ≡ length (kept_in self.now).elems }
+    {
+        match self {
+            Numbers::Bytes(packed) => packed.len(),
+            Numbers::Shorts(packed) => packed.len(),
+            Numbers::Ushorts(packed) => packed.len(),
+            Numbers::Longs(packed) => packed.len(),
+            Numbers::Longlongs(packed) => packed.len(),
+        }
+    }
+
+    /// The numbers from a place on, of which there are enough.
+    pub(crate) fn read_from(&self, start: usize, into: &mut [i64])
+        requires { start + length into.old ≤ length (kept_in self.now).elems }
+        ensures { let es = (kept_in self.now).elems in
+            (j : ℕ) → j < length into.old → get_or into.new j (pos 0) ≡ get_or es (start + j) (pos 0) }
+    {
+        match self {
+            Numbers::Bytes(packed) => read_neighbours(packed, start, into),
+            Numbers::Shorts(packed) => read_neighbours(packed, start, into),
+            Numbers::Ushorts(packed) => read_neighbours(packed, start, into),
+            Numbers::Longs(packed) => read_neighbours(packed, start, into),
+            Numbers::Longlongs(packed) => read_neighbours(packed, start, into),
+        }
     }
 
     /// Their type.

@@ -1,5 +1,5 @@
 //! Lists of numbers of one type, each kept as the bytes of its type.
-ghost use Rattle.std.specs.Prelude.{◌≡◌, ◌<◌, ◌≤◌, ℤ, List, pos, length, map, get_or, slice_set, All, IfOk};
+ghost use Rattle.std.specs.Prelude.{◌≡◌, ◌<◌, ◌≤◌, ℤ, List, [], ◌++◌, pos, length, map, get_or, slice_set, All, IfOk, OnOk, OnErr};
 ghost use Rattle.std.specs.List.{flat_map};
 ghost use Rattle.std.proofs.Common.{rules};
 ghost use Rattle.pdl_elem.specs.declared.Ty.{Ty};
@@ -139,20 +139,45 @@ impl<T: PackedType<N>, const N: usize> Model for Packed<T, N> {
     ghost invariant = { λ p. ArePacked T.ty p.cells.items };
 }
 
+/// Sets each cell to the bytes of the number that stands for it.
+fn pack_all<T: PackedType<N>, const N: usize>(numbers: &[i64], cells: &mut [[u8; N]])
+    requires paired { length cells.old ≡ length numbers.now }
+    requires in_range { All (InRange T.ty) numbers.now }
+    ensures { cells.new ≡ map (bytes_of T.ty) numbers.now }
+{
+    for (i, number) in numbers.iter().enumerate() {
+        cells[i] = T::pack(*number);
+    }
+}
+
 impl<T: PackedType<N>, const N: usize> Packed<T, N> {
-    /// These numbers, which are in the type's range.
-    pub(crate) fn of(alloc: Global, numbers: &[i64]) -> Result<Packed<T, N>, AllocError>
-        requires { All (InRange T.ty) numbers.now }
-        ensures { IfOk result (λ packed. packed ≡ numbers.now) }
+    /// No numbers, with room for so many.
+    pub(crate) fn with_room(alloc: Global, count: usize) -> Result<Packed<T, N>, AllocError>
+        ensures { IfOk result (λ packed. packed ≡ []) }
     {
-        let mut cells = Vec::from_elem(alloc, [0; N], numbers.len())?;
-        for (i, number) in numbers.iter().enumerate() {
-            cells[i] = T::pack(*number);
-        }
         Ok(Packed {
-            cells,
+            cells: Vec::with_capacity(alloc, count)?,
             ty: PhantomData,
         })
+    }
+
+    /// How many numbers there are.
+    pub(crate) fn len(&self) -> usize
+        ensures { result ≡ length self.now }
+    {
+        self.cells.len()
+    }
+
+    /// Puts these numbers, which are in the type's range, after the others.
+    pub(crate) fn extend(&mut self, numbers: &[i64]) -> Result<(), AllocError>
+        requires { All (InRange T.ty) numbers.now }
+        ensures ok { OnOk result (self.new ≡ self.old ++ numbers.now) }
+        ensures err { OnErr result (self.new ≡ self.old) }
+    {
+        let start = self.cells.len();
+        self.cells.resize(start + numbers.len(), [0; N])?;
+        pack_all::<T, N>(numbers, &mut self.cells[start..]);
+        Ok(())
     }
 
     /// The number at a place, which is below how many there are.

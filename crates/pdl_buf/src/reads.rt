@@ -39,16 +39,17 @@ fn read_steps<T: PackedType<N>, const N: usize>(
 }
 
 /// The numbers from a place on, one after another.
-fn read_neighbours<T: PackedType<N>, const N: usize>(
+pub(crate) fn read_neighbours<T: PackedType<N>, const N: usize>(
     numbers: &Packed<T, N>,
-    start: u32,
+    start: usize,
     into: &mut [i64],
 )
     requires { start + length into.old ≤ length numbers.now }
     ensures { (j : ℕ) → j < length into.old → get_or into.new j (pos 0) ≡ get_or numbers.now (start + j) (pos 0) }
 {
+    let _count = numbers.len();
     for (j, x) in into.iter_mut().enumerate() {
-        *x = numbers.get(start as usize + j);
+        *x = numbers.get(start + j);
     }
 }
 
@@ -255,7 +256,7 @@ fn read_in_order<T: PackedType<N>, const N: usize>(
     numbers.are_in_range();
     if 0 < into.len() {
         let start = place_of(triple, first);
-        read_neighbours(numbers, start, into);
+        read_neighbours(numbers, start as usize, into);
     }
 }
 
