@@ -1,5 +1,5 @@
 -- Which names are those of built-in calls.
-use Rattle.std.specs.Prelude.{ℕ, List, [], ◌∷◌, codes, Option}
+use Rattle.std.specs.Prelude.{ℕ, List, [], ◌∷◌, ◌++◌, codes, Option}
 use Rattle.pdl_elem.specs.declared.Ty.TheVariants.{Byte, Short, Ushort, Long, Longlong}
 use Rattle.pdl_lexemes.specs.Lexing.{found_in}
 use Rattle.pdl_ops.specs.declared.fills.Fill.TheVariants.{Zeroes, Ones, Sequence, Xvals, Yvals}
@@ -11,26 +11,45 @@ use Rattle.pdl_machine.specs.declared.builtin.Builtin.TheVariants.{Filled, Told,
 use Rattle.pdl_machine.specs.declared.builtin.Inquiry.TheVariants.{Copy, Convert, Nelem, Ndims, Shape, Which}
 use Rattle.pdl_machine.specs.declared.builtin.Arrangement.TheVariants.{Xchg, Mv, Reorder, Dummy, Diagonal, Clump, Flat, Squeeze}
 
--- reductions and products by their names
+-- sums, extremes and prefixes along dimension 0
 abbrev pub reductions : List (List ℕ × Builtin)
 reductions =
     (codes "sumover", Reduced Sumover) ∷ (codes "prodover", Reduced Prodover) ∷ (codes "cumusumover", Reduced Cumusumover)
     ∷ (codes "cumuprodover", Reduced Cumuprodover) ∷ (codes "maximum", Reduced Maximum) ∷ (codes "minimum", Reduced Minimum)
-    ∷ (codes "maximum_ind", Reduced MaximumInd) ∷ (codes "minimum_ind", Reduced MinimumInd) ∷ (codes "sum", Whole Sum)
-    ∷ (codes "prod", Whole Prod) ∷ (codes "max", Whole Max) ∷ (codes "min", Whole Min) ∷ (codes "all", Whole All)
-    ∷ (codes "any", Whole Any) ∷ (codes "inner", Paired Inner) ∷ (codes "outer", Paired Outer) ∷ (codes "matmult", Paired Matmult) ∷ []
+    ∷ (codes "maximum_ind", Reduced MaximumInd) ∷ (codes "minimum_ind", Reduced MinimumInd) ∷ []
+
+-- reductions of all elements, and products of two arrays
+abbrev pub wholes_and_products : List (List ℕ × Builtin)
+wholes_and_products =
+    (codes "sum", Whole Sum) ∷ (codes "prod", Whole Prod) ∷ (codes "max", Whole Max) ∷ (codes "min", Whole Min)
+    ∷ (codes "all", Whole All) ∷ (codes "any", Whole Any) ∷ (codes "inner", Paired Inner) ∷ (codes "outer", Paired Outer)
+    ∷ (codes "matmult", Paired Matmult) ∷ []
+
+-- new arrays by sizes
+abbrev pub fills : List (List ℕ × Builtin)
+fills =
+    (codes "zeroes", Filled Zeroes) ∷ (codes "ones", Filled Ones) ∷ (codes "sequence", Filled Sequence)
+    ∷ (codes "xvals", Filled Xvals) ∷ (codes "yvals", Filled Yvals) ∷ []
+
+-- new arrays that tell something of an array
+abbrev pub inquiries : List (List ℕ × Builtin)
+inquiries =
+    (codes "byte", Told (Convert Byte)) ∷ (codes "short", Told (Convert Short)) ∷ (codes "ushort", Told (Convert Ushort))
+    ∷ (codes "long", Told (Convert Long)) ∷ (codes "longlong", Told (Convert Longlong)) ∷ (codes "copy", Told Copy)
+    ∷ (codes "nelem", Told Nelem) ∷ (codes "ndims", Told Ndims) ∷ (codes "shape", Told Shape) ∷ (codes "which", Told Which)
+    ∷ (codes "dim", Dim) ∷ []
+
+-- views
+abbrev pub views : List (List ℕ × Builtin)
+views =
+    (codes "slice", Slice) ∷ (codes "xchg", Arranged Xchg) ∷ (codes "mv", Arranged Mv) ∷ (codes "reorder", Arranged Reorder)
+    ∷ (codes "dummy", Arranged Dummy) ∷ (codes "diagonal", Arranged Diagonal) ∷ (codes "clump", Arranged Clump)
+    ∷ (codes "flat", Arranged Flat) ∷ (codes "squeeze", Arranged Squeeze) ∷ (codes "index", Index) ∷ (codes "where", Where)
+    ∷ (codes "range", Range) ∷ []
 
 -- the built-in calls by their names
 abbrev pub builtins : List (List ℕ × Builtin)
-builtins =
-    (codes "zeroes", Filled Zeroes) ∷ (codes "ones", Filled Ones) ∷ (codes "sequence", Filled Sequence) ∷ (codes "xvals", Filled Xvals)
-    ∷ (codes "yvals", Filled Yvals) ∷ (codes "byte", Told (Convert Byte)) ∷ (codes "short", Told (Convert Short))
-    ∷ (codes "ushort", Told (Convert Ushort)) ∷ (codes "long", Told (Convert Long)) ∷ (codes "longlong", Told (Convert Longlong))
-    ∷ (codes "copy", Told Copy) ∷ (codes "nelem", Told Nelem) ∷ (codes "ndims", Told Ndims) ∷ (codes "shape", Told Shape)
-    ∷ (codes "which", Told Which) ∷ (codes "dim", Dim) ∷ (codes "slice", Slice) ∷ (codes "xchg", Arranged Xchg)
-    ∷ (codes "mv", Arranged Mv) ∷ (codes "reorder", Arranged Reorder) ∷ (codes "dummy", Arranged Dummy)
-    ∷ (codes "diagonal", Arranged Diagonal) ∷ (codes "clump", Arranged Clump) ∷ (codes "flat", Arranged Flat)
-    ∷ (codes "squeeze", Arranged Squeeze) ∷ (codes "index", Index) ∷ (codes "where", Where) ∷ (codes "range", Range) ∷ reductions
+builtins = fills ++ inquiries ++ views ++ reductions ++ wholes_and_products
 
 -- the built-in call of this name, if there is one
 abbrev pub builtin_of : List ℕ → Option Builtin

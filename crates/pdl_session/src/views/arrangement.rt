@@ -2,6 +2,7 @@
 ghost use Rattle.std.specs.Prelude.{◌≡◌, IfOk, IfSome, IsTrue};
 ghost use Rattle.pdl_affine.specs.Views.{is_well_formed};
 ghost use Rattle.pdl_machine.specs.Views.{arranged, arrangement_outcome};
+ghost use Rattle.pdl_machine.specs.declared.builtin.Arrangement.TheVariants.{Dummy};
 ghost use Rattle.pdl_session.specs.Answers.{AnswersAs};
 ghost use Rattle.pdl_session.specs.Arguments.{all_seen_of, AreGivenLive, outcome_of, IsOutcomeMade};
 
@@ -64,17 +65,7 @@ fn arranged(word: Arrangement, numbers: Vec<i64>) -> Option<Affine>
             [a, b] => Some(Affine::Mv(*a, *b)),
             _ => None,
         },
-        Arrangement::Dummy => match numbers.as_slice() {
-            [place] => Some(Affine::Dummy {
-                place: *place,
-                size: 1,
-            }),
-            [place, size] => Some(Affine::Dummy {
-                place: *place,
-                size: *size,
-            }),
-            _ => None,
-        },
+        Arrangement::Dummy => dummy(numbers.as_slice()),
         Arrangement::Clump => match numbers.as_slice() {
             [count] => Some(Affine::Clump(*count)),
             _ => None,
@@ -87,5 +78,23 @@ fn arranged(word: Arrangement, numbers: Vec<i64>) -> Option<Affine>
             [] => Some(Affine::Squeeze),
             _ => None,
         },
+    }
+}
+
+/// A new dimension at a place, of size 1 unless a size is given.
+fn dummy(numbers: &[i64]) -> Option<Affine>
+    ensures value { result ≡ arranged Dummy numbers.now }
+    ensures well_formed { IfSome result (λ t. IsTrue (is_well_formed t)) }
+{
+    match numbers {
+        [place] => Some(Affine::Dummy {
+            place: *place,
+            size: 1,
+        }),
+        [place, size] => Some(Affine::Dummy {
+            place: *place,
+            size: *size,
+        }),
+        _ => None,
     }
 }
