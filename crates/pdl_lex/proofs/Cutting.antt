@@ -109,7 +109,7 @@ begun_piece-end s fits =
 newlines-append : (xs ys : List ℕ) → newlines (xs ++ ys) ≡ newlines xs + newlines ys
 newlines-append xs ys = sum_by-append (λ x. cond (is_newline x) 1 0) xs ys
 
-newlines-cons : (b : ℕ) (c : List ℕ) → newlines (b ∷ c) ≡ newlines (b ∷ []) + newlines c
+pub newlines-cons : (b : ℕ) (c : List ℕ) → newlines (b ∷ c) ≡ newlines (b ∷ []) + newlines c
 newlines-cons b c = newlines-append (b ∷ []) c
 
 split : (last : Bool) (s : State) (cs : List (List ℕ)) → (d : List ℕ) × (ds : List (List ℕ)) × (cs ≡ d ∷ ds) → length s.text ≤ statement_limit → from_chunks last s ([] ∷ cs) ≡ option_to_list (begun s) ++ numbered last s.line cs

@@ -2,3 +2,5 @@ pub mod Cutting
 pub mod Longest
 pub mod Walking
 pub mod Spans
+pub mod Settled
+pub mod Joining

@@ -16,12 +16,12 @@ use Rattle.pdl_lex.specs.declared.TokenKind.TheVariants.{Name, Word, Number, Str
 abbrev NoneAbove : ℕ → ℕ → List ℕ → Type 0
 NoneAbove m n text = (k : ℕ) → m < k → k ≤ n → kind_of (take k text) ≡ None
 
-longest_none : (n : ℕ) (text : List ℕ) → NoneAbove 0 n text → longest n text ≡ None
+pub longest_none : (n : ℕ) (text : List ℕ) → NoneAbove 0 n text → longest n text ≡ None
 unfolding longest
 longest_none zero text none = refl
 longest_none (suc n) text none = rw (none (suc n) (omega arith) (omega arith)) (longest_none n text (λ k above below. none k above (omega arith)))
 
-longest_is : (n m : ℕ) (text : List ℕ) (kind : TokenKind) → 0 < m → m ≤ n → kind_of (take m text) ≡ Some kind → NoneAbove m n text → longest n text ≡ Some (kind, m)
+pub longest_is : (n m : ℕ) (text : List ℕ) (kind : TokenKind) → 0 < m → m ≤ n → kind_of (take m text) ≡ Some kind → NoneAbove m n text → longest n text ≡ Some (kind, m)
 unfolding longest
 longest_is zero m text kind some below here none = absurd (omega arith)
 longest_is (suc n) m text kind some below here none =

@@ -1,4 +1,4 @@
--- What a cutter does at one byte. Only its private functions speak of this.
+-- What a cutter does at one byte. Of the public calls `end` alone speaks of this, by `begun` and `ended`.
 use Rattle.std.specs.Prelude.{ℕ, ◌+◌, ◌==◌, Bool, true, false, not, ◌||◌, List, [], ◌∷◌, ◌++◌, length, Option, Some, None, if◌then◌else◌, ◌≡◌, ◌<◌, ◌≤◌, take, slice_index}
 use Rattle.pdl_lex.specs.Bytes.{newlines}
 use Rattle.pdl_lex.specs.Pieces.{State, mode_after, is_end, is_between}

@@ -1,5 +1,5 @@
 -- The tokens of a statement's text: at each place the longest one, with blanks and comments between them.
-use Rattle.std.specs.Prelude.{◌≡◌, ℕ, zero, suc, pred, ◌+◌, ◌<◌, ◌≤◌, ◌==◌, nat_lt, Bool, true, false, not, ◌&&◌, if◌then◌else◌, List, [], ◌∷◌, ◌++◌, length, take, Option, Some, None, Result, Ok, Err, codes, bytes_eq}
+use Rattle.std.specs.Prelude.{◌≡◌, ◌↔◌, ℕ, zero, suc, pred, ◌+◌, ◌<◌, ◌≤◌, ◌==◌, nat_lt, Bool, true, false, not, ◌&&◌, if◌then◌else◌, List, [], ◌∷◌, ◌++◌, length, take, Option, Some, None, Result, Ok, Err, codes, bytes_eq}
 use Rattle.std.specs.List.{list_any, list_all, prefix_len}
 use Rattle.std.specs.Char.{is_ascii_digit}
 use Rattle.pdl_lex.specs.Bytes.{is_blank, is_hash, is_newline, is_quote, is_letter, is_word_byte}
@@ -108,21 +108,36 @@ is_one_line bytes = list_all (λ b. not (is_newline b)) bytes
 abbrev pub IsLongest : ℕ → List ℕ → Type 0
 IsLongest n text = (k : ℕ) → n < k → k ≤ length text → kind_of (take k text) ≡ None
 
--- The bytes from a place on are tokens with these spans, one behind the other, and beside them blanks and comments alone.
--- A comment goes up to a newline, or to the end. A token is the longest one where it begins.
-pub data AreSpans : ℕ → List ℕ → List Token → Type 0 where
-  at_end : {at : ℕ} → AreSpans at [] []
-  a_blank : {at b : ℕ} {bs : List ℕ} {ts : List Token} → is_blank b ≡ true
-      → AreSpans (at + 1) bs ts → AreSpans at (b ∷ bs) ts
-  a_comment : {at b : ℕ} (line : List ℕ) {bs : List ℕ} {ts : List Token}
+-- What the bytes from a place on are: tokens with their spans, one behind the other, with blanks and comments alone
+-- beside them, or the fault of the first byte at which none of these begins. A comment goes up to a newline, or to the
+-- end. A token is the longest one where it begins.
+pub data MeansFrom : (at : ℕ) → List ℕ → Result (List Token) LexFault → Type 0 where
+  at_end : {at : ℕ} → MeansFrom at [] (Ok [])
+  a_blank : {at b : ℕ} {bs : List ℕ} {answer : Result (List Token) LexFault} → is_blank b ≡ true
+      → MeansFrom (at + 1) bs answer → MeansFrom at (b ∷ bs) answer
+  a_comment : {at b : ℕ} (line : List ℕ) {bs : List ℕ} {answer : Result (List Token) LexFault}
       → is_hash b ≡ true → is_one_line line ≡ true → is_line_end bs ≡ true
-      → AreSpans (at + length (b ∷ line)) bs ts → AreSpans at (b ∷ line ++ bs) ts
-  a_token : {at : ℕ} {kind : TokenKind} (bytes : List ℕ) {bs : List ℕ} {ts : List Token}
+      → MeansFrom (at + length (b ∷ line)) bs answer → MeansFrom at (b ∷ line ++ bs) answer
+  a_token : {at : ℕ} {kind : TokenKind} (bytes : List ℕ) {bs : List ℕ} {answer : Result (List Token) LexFault}
       → kind_of bytes ≡ Some kind → IsLongest (length bytes) (bytes ++ bs)
-      → AreSpans (at + length bytes) bs ts
-      → AreSpans at (bytes ++ bs) (record { kind = kind; from = at; to = at + length bytes } ∷ ts)
+      → MeansFrom (at + length bytes) bs answer
+      → MeansFrom at (bytes ++ bs) (after_tokens (record { kind = kind; from = at; to = at + length bytes } ∷ []) answer)
+  no_token : {at b : ℕ} {bs : List ℕ} → is_blank b ≡ false → is_hash b ≡ false → IsLongest 0 (b ∷ bs)
+      → MeansFrom at (b ∷ bs) (Err (fault_of at b))
+
+-- what a text is
+abbrev pub Means : (text : List ℕ) → Result (List Token) LexFault → Type 0
+Means text answer = MeansFrom 0 text answer
 
 -- the tokens of a text are its longest ones, with blanks and comments alone beside them, and no more than its bytes
 pub record Spans (text : List ℕ) (ts : List Token) : Type 0 where
-  pub spans : AreSpans 0 text ts
+  pub spans : Means text (Ok ts)
   pub few : length ts ≤ length text
+
+-- `toks` answers exactly what a text means
+abbrev pub TextsHaveOneMeaning : Type 0
+TextsHaveOneMeaning = (text : List ℕ) (answer : Result (List Token) LexFault) → (toks text ≡ answer) ↔ Means text answer
+
+-- the tokens of any text
+abbrev pub TokensAreSpans : Type 0
+TokensAreSpans = (text : List ℕ) (found : List Token) → toks text ≡ Ok found → Spans text found

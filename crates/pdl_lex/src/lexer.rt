@@ -1,8 +1,7 @@
-ghost use Rattle.std.specs.Prelude.{◌≡◌, ℕ, List, ◌+◌, ◌^◌, ◌<◌, ◌≤◌, length, drop, Some, None, Ok, Err, ◌≢◌, IfOk, IfErr, IfSome};
+ghost use Rattle.std.specs.Prelude.{◌≡◌, ◌+◌, ◌^◌, ◌<◌, ◌≤◌, length, drop, Some, None, Ok, Err, ◌≢◌, IfOk, IfErr, IfSome};
 ghost use Rattle.std.specs.List.{list_all};
 ghost use Rattle.pdl_lex.specs.Bytes.{is_letter, is_word_byte};
 ghost use Rattle.pdl_lex.specs.Tokens.{is_word, is_sign, gap_at, token_at, fault_of, after_tokens, toks_from, toks, Spans};
-ghost use Rattle.pdl_lex.specs.declared.Token.{Token};
 ghost use Rattle.pdl_lex.specs.Reading.{word_len, digits_len, other_len, name_after, string_after, begins_sign, sign_at, read_at};
 
 use crate::{LexFault, Token, TokenKind};
@@ -261,9 +260,3 @@ pub fn tokens(alloc: Global, text: &[u8]) -> Result<Vec<Token>, LexFault>
     }
     Ok(found)
 }
-
-/// What the tokens of any text are: spans that rise, don't overlap and leave only blanks and comments between them,
-/// each of them the longest token where it begins; and no more of them than bytes.
-pub fn tokens_are_spans()
-    ensures { (text : List ℕ) (found : List Token) → toks text ≡ Ok found → Spans text found }
-{}

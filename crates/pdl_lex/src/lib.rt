@@ -2,13 +2,15 @@
 #![tactic(auto)]
 
 mod cutter;
+mod laws;
 mod lexer;
 mod parts;
 #[cfg(test)]
 mod tests;
 
 pub use cutter::{Mode, StatementCutter};
-pub use lexer::{is_word, tokens, tokens_are_spans};
+pub use laws::{joining_laws, settled_laws, token_meaning, tokens_are_spans};
+pub use lexer::{is_word, tokens};
 pub use parts::cut_parts;
 use std::alloc::{AllocError, AllocFailed};
 use std::marker::Model;

@@ -1,5 +1,5 @@
 use Rattle.pdl_lex.proofs.Spans.{toks-spans}
-use Rattle.pdl_lex.proofs.lexer.tokens_are_spans.Goals as goal
+use Rattle.pdl_lex.proofs.laws.tokens_are_spans.Goals as goal
 
 pub returns : goal.returns
 returns c = toks-spans

@@ -1,0 +1,5 @@
+use Rattle.pdl_lex.proofs.Spans.{toks-meaning}
+use Rattle.pdl_lex.proofs.laws.token_meaning.Goals as goal
+
+pub returns : goal.returns
+returns c = toks-meaning

@@ -1,0 +1,34 @@
+//! Laws of the statements of a script, and of the tokens of a statement.
+ghost use Rattle.pdl_lex.specs.Certain.{BeginThePieces, StayCertain};
+ghost use Rattle.pdl_lex.specs.Joining.{StatementsJoin, BlanksJoin, PartsJoin, DigitsStay};
+ghost use Rattle.pdl_lex.specs.Tokens.{TextsHaveOneMeaning, TokensAreSpans};
+
+/// The statements that bytes make certain are the first ones of each script that begins with them
+/// (`begin`), and more bytes make none of them less certain (`stay`). The call does nothing when it runs.
+pub fn settled_laws()
+    ensures begin { BeginThePieces }
+    ensures stay { StayCertain }
+{}
+
+/// What statements come to when they stand one behind the other: a statement's text and its semicolon give that
+/// statement and then those behind it (`statements`), a blank before a statement gives none (`blanks`). Whether
+/// bytes are one statement's text is seen part by part (`parts`), and a digit changes nothing there (`digits`). The
+/// call does nothing when it runs.
+pub fn joining_laws()
+    ensures statements { StatementsJoin }
+    ensures blanks { BlanksJoin }
+    ensures parts { PartsJoin }
+    ensures digits { DigitsStay }
+{}
+
+/// Each text has exactly one meaning, which is its tokens or the fault of the first byte at which none begins, and
+/// `toks` is that meaning as a function. The call does nothing when it runs.
+pub fn token_meaning()
+    ensures { TextsHaveOneMeaning }
+{}
+
+/// What the tokens of any text are: spans that rise, don't overlap and leave only blanks and comments between them,
+/// each of them the longest token where it begins; and no more of them than bytes. The call does nothing when it runs.
+pub fn tokens_are_spans()
+    ensures { TokensAreSpans }
+{}
