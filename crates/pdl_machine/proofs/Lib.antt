@@ -8,3 +8,4 @@ pub mod Steps
 pub mod MeaningLemmas
 pub mod RunLemmas
 pub mod Tables
+pub mod SoFar

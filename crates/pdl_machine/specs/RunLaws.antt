@@ -2,7 +2,7 @@
 use Rattle.std.specs.Prelude.{◌≡◌, ℕ, ◌<◌, List, ◌++◌, length, Bool, true, false}
 use Rattle.pdl_lex.specs.Limits.{script_limit}
 use Rattle.pdl_lex.specs.Pieces.{Mark}
-use Rattle.pdl_machine.specs.Run.{Progress, after_marks, run}
+use Rattle.pdl_machine.specs.Run.{Progress, after_marks, run, so_far}
 
 -- a run that a fault has ended prints and changes nothing more
 abbrev pub EndedStays : Type 0
@@ -35,3 +35,12 @@ TooLongFaults = (keep : Bool) (script : List ℕ) → script_limit < length scri
 abbrev pub LimitEnds : Type 0
 LimitEnds = (keep : Bool) (script more : List ℕ) → script_limit < length script →
     run keep (script ++ more) ≡ run keep script
+
+-- a run has come as far by the first bytes of a script as they make certain: from there it goes on over further
+-- statements, whatever bytes follow
+abbrev pub SoFarIsAFront : Type 0
+SoFarIsAFront = (keep : Bool) (bytes more : List ℕ) → (ms : List Mark) × (run keep (bytes ++ more) ≡ after_marks keep (so_far keep bytes) ms)
+
+-- and what it has printed by then is the front of all that it prints
+abbrev pub SoFarIsPrinted : Type 0
+SoFarIsPrinted = (keep : Bool) (bytes more : List ℕ) → (text : List ℕ) × ((run keep (bytes ++ more)).printed ≡ (so_far keep bytes).printed ++ text)

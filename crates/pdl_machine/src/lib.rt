@@ -14,4 +14,4 @@ mod reading;
 pub use builtin::{Arrangement, Builtin, Inquiry, builtin_named};
 pub use fault::{Fault, fault_text};
 pub use laws::{numbering_laws, reaching_laws, worked_scripts};
-pub use reading::{reads_law, run_laws};
+pub use reading::{reads_law, run_laws, so_far_laws};

@@ -1,7 +1,8 @@
 //! Laws of what a text is read as, and of runs.
 ghost use Rattle.pdl_machine.specs.Reading.{ReadsItsMeaning, MeansOneThing};
-ghost use Rattle.pdl_machine.specs.RunLaws.{EndedStays, PrintedStays, FaultStays, GoesOn, FirstFaultEnds, TooLongFaults, LimitEnds};
+ghost use Rattle.pdl_machine.specs.RunLaws.{EndedStays, PrintedStays, FaultStays, GoesOn, FirstFaultEnds, TooLongFaults, LimitEnds, SoFarIsAFront, SoFarIsPrinted};
 
+use pdl_lex::settled_laws;
 use pdl_syntax::parsing_is_the_grammar;
 
 /// What a run reads a text as is what the grammar says: the one statement that its tokens spell, or the
@@ -24,3 +25,12 @@ pub fn run_laws()
     ensures too_long { TooLongFaults }
     ensures limit { LimitEnds }
 {}
+
+/// How far a run has come by the first bytes of a script: whatever bytes follow, it goes on from there (`goes_on`),
+/// and what it has printed by then is the front of all that it prints (`printed`). The call does nothing when it runs.
+pub fn so_far_laws()
+    ensures goes_on { SoFarIsAFront }
+    ensures printed { SoFarIsPrinted }
+{
+    settled_laws();
+}

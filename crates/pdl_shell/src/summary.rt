@@ -17,6 +17,7 @@ use crate::run::run_bytes;
 use crate::status::Status;
 use crate::stop::{Stop, status_after};
 use pdl_io::{CountSink, Sink};
+use pdl_lex::joining_laws;
 use std::alloc::{AllocError, Global};
 use std::marker::Brand;
 use std::sync::ledger::Blank;
@@ -25,6 +26,7 @@ use std::sync::ledger::Blank;
 fn statement_count(rounds: u16) -> u64
     ensures { result ≡ length (pieces (generated_script rounds)) }
 {
+    joining_laws();
     if rounds == 0 {
         0
     } else {

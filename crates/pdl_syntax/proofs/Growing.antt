@@ -22,6 +22,13 @@ module _ (source : List ℕ) (f : Kind → List Lexeme → Read Tree) where
       let go = λ (x : Tree × List Lexeme). chain_at (level_at source f l) (suc l) (limit_of (suc l) x.1) x.0 x.1 in
       ap (option_and_then go) (level_is l ts) ∙ then_then go (λ x. grown_at source f l x.0 x.1) (unary_at source f ts)
 
+  -- so what is read of it is what goes on behind the operand that is read
+  pub level_read : (l : ℕ) (ts rest : List Lexeme) (t : Tree) → unary_at source f ts ≡ Some (t, rest) → level_at source f l ts ≡ grown_at source f l t rest
+  level_read l ts rest t e = level_is l ts ∙ ap (option_and_then (λ x. grown_at source f l x.0 x.1)) e
+
+  pub level_unread : (l : ℕ) (ts : List Lexeme) → unary_at source f ts ≡ None → level_at source f l ts ≡ None
+  level_unread l ts e = level_is l ts ∙ ap (option_and_then (λ x. grown_at source f l x.0 x.1)) e
+
   unary_is : (ts : List Lexeme) → prefix_at ts ≡ None → unary_at source f ts ≡ postfix_at source f ts
   unfolding unary_at
   unary_is ts e = rw e

@@ -1,5 +1,6 @@
 -- What a look at the front says of it.
-use Rattle.std.proofs.Common.{◌≡◌, ℕ, List, [], ◌∷◌, Option, Some, None, Bool, true, false, nat_eq, if◌then◌else◌, refl, ap, ◌∙◌, subst, eqb-true, eq-eqb}
+use Rattle.std.proofs.Common.{◌≡◌, ◌≤◌, ℕ, List, [], ◌∷◌, Option, Some, None, Bool, true, false, nat_eq, if◌then◌else◌, refl, ap, ◌∙◌, subst, eqb-true, eq-eqb, arith}
+use Rattle.std.proofs.lemmas.Bool.{leb-false}
 use Rattle.pdl_elem.specs.declared.BinaryOp.{BinaryOp}
 use Rattle.pdl_elem.specs.declared.Ty.{Ty}
 use Rattle.pdl_lexemes.specs.declared.Span.{Span}
@@ -9,7 +10,7 @@ use Rattle.pdl_lexemes.specs.declared.Lexeme.{Lexeme}
 use Rattle.pdl_lexemes.specs.declared.Lexeme.TheVariants.{Word, Quoted, Open, Close, Comma, Arrow, Operator}
 use Rattle.pdl_lexemes.specs.ListReading.{after_comma}
 use Rattle.pdl_lexemes.specs.Options.{some_inj, none_some, then_elim}
-use Rattle.pdl_syntax.specs.Reading.{Read, after_open, after_close, after_arrow, operator_at, word_at, method_at, type_at, type_step, quoted_at}
+use Rattle.pdl_syntax.specs.Reading.{Read, after_open, after_close, after_arrow, operator_at, begins_operator, word_at, method_at, type_at, type_step, quoted_at}
 use Rattle.pdl_syntax.specs.Grammar.{level_of}
 
 pub comma_is : (ts : List Lexeme) {us : List Lexeme} → after_comma ts ≡ Some us → ts ≡ Comma ∷ us
@@ -60,6 +61,12 @@ operator_other l op ts ne = of_test (nat_eq (level_of op) l) refl
     of_test : (b : Bool) → nat_eq (level_of op) l ≡ b → ◌≡◌ {A = Read BinaryOp} (if b then Some (op, ts) else None) None
     of_test true t = absurd (ne (eqb-true (level_of op) l t))
     of_test false t = refl
+
+-- where no operator up to a level comes first, none of that level or below does
+pub no_operator : (l : ℕ) (ts : List Lexeme) → begins_operator l ts ≡ false → (j : ℕ) → j ≤ l → operator_at j ts ≡ None
+no_operator l [] e j le = refl
+no_operator l (Operator op ∷ ts) e j le = operator_other j op ts (λ same. omega (arith, leb-false (level_of op) l e, same, le))
+no_operator l (_ ∷ ts) e j le = refl
 
 -- a word behind an arrow
 pub record MethodAt (ts : List Lexeme) (x : Span × List Lexeme) : Type 0 where

@@ -55,15 +55,6 @@ module _ (source : List ℕ) (f : Kind → List Lexeme → Read Tree) where
   unfolding more_at
   more_turn k args args' ts us rest e h = rw e (rw h)
 
-  level_up : (n m : ℕ) (ts rest : List Lexeme) (t : Tree) → n ≡ suc m → level_at source f m ts ≡ Some (t, rest) →
-      level_at source f n ts ≡ chain_at (level_at source f m) (suc m) (limit_of (suc m) rest) t rest
-  unfolding level_at
-  level_up n m ts rest t same e = rw same (rw e)
-
-  pub level_above : (n : ℕ) (ts rest : List Lexeme) (t : Tree) → (n ≡ 0 → ⊥) → level_at source f (n - 1) ts ≡ Some (t, rest) →
-      level_at source f n ts ≡ chain_at (level_at source f (n - 1)) (suc (n - 1)) (limit_of (suc (n - 1)) rest) t rest
-  level_above n ts rest t ne e = level_up n (n - 1) ts rest t (omega arith) e
-
   grown_up : (n m : ℕ) (first : Tree) (ts rest : List Lexeme) (t : Tree) → n ≡ suc m → grown_at source f m first ts ≡ Some (t, rest) →
       grown_at source f n first ts ≡ chain_at (level_at source f m) (suc m) (limit_of (suc m) rest) t rest
   unfolding grown_at

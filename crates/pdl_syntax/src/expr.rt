@@ -40,7 +40,6 @@ fn operand<'a>(alloc: Global, source: &[u8], fuel: usize, tokens: &Lexemes<'a>) 
 }
 
 #[cycle(parser)]
-#[tactic(auto, unfolding(crate::specs::Reading::level_at))]
 fn level_expr<'a>(
     alloc: Global,
     source: &[u8],
@@ -51,11 +50,8 @@ fn level_expr<'a>(
     requires level { level ≤ 7 }
     ensures read { Gives (λ x. (tree_of x.0, x.1)) result (level_at source.now (reader source.now fuel) level tokens.now) }
 {
-    if level == 0 {
-        return unary(alloc, source, fuel, tokens);
-    }
-    let (first, rest) = level_expr(alloc, source, fuel, level - 1, tokens)?;
-    chain(alloc, source, fuel, level - 1, first, &rest)
+    let (first, rest) = unary(alloc, source, fuel, tokens)?;
+    grown(alloc, source, fuel, level, first, &rest)
 }
 
 #[cycle(parser)]
@@ -86,7 +82,9 @@ fn chain<'a>(
     Ok((left, rest))
 }
 
-/// An expression of a level whose first operand is read.
+/// An expression of a level whose first operand is read. Where no operator follows that the level takes, it is that
+/// operand, and no level between is gone through.
+#[cycle(parser)]
 #[tactic(auto, unfolding(crate::specs::Reading::grown_at))]
 pub fn grown<'a>(
     alloc: Global,
@@ -100,6 +98,9 @@ pub fn grown<'a>(
     ensures read { Gives (λ x. (tree_of x.0, x.1)) result (grown_at source.now (reader source.now fuel) level (tree_of first) tokens.now) }
 {
     if level == 0 {
+        return Ok((first, tokens.copy()));
+    }
+    if !peek::begins_operator(level, tokens) {
         return Ok((first, tokens.copy()));
     }
     let (left, rest) = grown(alloc, source, fuel, level - 1, first, tokens)?;

@@ -2,7 +2,7 @@
 
 ghost use Rattle.std.specs.Prelude.{◌≡◌, option_and_then};
 ghost use Rattle.pdl_syntax.specs.Grammar.{level_of};
-ghost use Rattle.pdl_syntax.specs.Reading.{after_open, after_close, after_arrow, prefix_at, operator_at, word_at, method_at, type_at, quoted_at};
+ghost use Rattle.pdl_syntax.specs.Reading.{after_open, after_close, after_arrow, prefix_at, operator_at, begins_operator, word_at, method_at, type_at, quoted_at};
 ghost use Rattle.pdl_syntax.specs.StatementReading.{after_equals, keyword_at, after_keyword, after_reshape, name_at, view_word, view_at, assign_at, slot_at, is_brackets, begins_word, after_pars, after_code};
 
 use pdl_elem::{BinaryOp, Ty, UnaryOp};
@@ -71,6 +71,16 @@ pub fn operator<'a>(level: u8, tokens: &Lexemes<'a>) -> Option<(BinaryOp, Lexeme
             }
         }
         _ => None,
+    }
+}
+
+/// Whether an operator up to this level comes first.
+pub fn begins_operator(level: u8, tokens: &Lexemes<'_>) -> bool
+    ensures { result ≡ begins_operator level tokens.now }
+{
+    match tokens.split_first() {
+        Some((Lexeme::Operator(op), _)) => level_of(op) <= level,
+        _ => false,
     }
 }
 

@@ -2,7 +2,9 @@ use Rattle.std.proofs.Common.{◌≡◌, ◌∙◌, ◌-◌, ◌+◌, suc, sym, 
 use Rattle.pdl_syntax.specs.Tree.{none, value}
 use Rattle.pdl_syntax.specs.TreeOf.{tree_of, args_of}
 use Rattle.pdl_syntax.specs.Reading.{reader, level_at, chain_at, methods_at, more_at, maybe_at}
-use Rattle.pdl_syntax.proofs.Turns.{one_less, chain_stop, chain_turn, methods_stop, methods_turn, more_turn, level_above}
+use Rattle.pdl_syntax.proofs.Turns.{one_less, chain_stop, chain_turn, methods_stop, methods_turn, more_turn, grown_above}
+use Rattle.pdl_syntax.proofs.Growing.{level_read, level_unread, grown_stop}
+use Rattle.pdl_syntax.proofs.Peeks.{no_operator}
 use Rattle.pdl_syntax.proofs.expr.+parser.Goals as goal
 
 pub chain-returns-in-None : goal.chain-returns-in-None
@@ -27,11 +29,19 @@ chain-loop-preserved t c =
 pub level_expr-returns : goal.level_expr-returns
 level_expr-returns t c =
     let f = reader c.args.source.now c.args.fuel in
-    let same = level_above c.args.source.now f c.args.level c.args.tokens.now c.in_ok-first.rest (tree_of c.in_ok-first.first) c.if-level-eq0.false c.in_ok-first.ensures.read in
-    record {
-      read =
-          rw same c.chain.ensures.read;
-    }
+    let same = level_read c.args.source.now f c.args.level c.args.tokens.now c.in_ok-first.rest (tree_of c.in_ok-first.first) c.in_ok-first.ensures.read in
+    record { read = rw same c.grown.ensures.read }
+
+pub grown-returns-then-begins_operator : goal.grown-returns-then-begins_operator
+grown-returns-then-begins_operator t c =
+    let f = reader c.args.source.now c.args.fuel in
+    record { read = grown_stop c.args.source.now f c.args.level (tree_of c.args.first) c.args.tokens.now (no_operator c.args.level c.args.tokens.now refl) }
+
+pub grown-returns : goal.grown-returns
+grown-returns t c =
+    let f = reader c.args.source.now c.args.fuel in
+    let same = grown_above c.args.source.now f c.args.level (tree_of c.args.first) c.args.tokens.now c.in_ok-left.rest (tree_of c.in_ok-left.left) c.if-level-eq0.false c.in_ok-left.ensures.read in
+    record { read = rw same c.chain.ensures.read }
 
 pub methods-returns-in-None : goal.methods-returns-in-None
 methods-returns-in-None t c =

@@ -10,46 +10,49 @@ pub record Turns (A : Type 0) (now start : Read A) : Type 0 where
   pub same : now ≡ start
 
 abbrev pub decreases-whole : goal.decreases-whole
-decreases-whole l = 32 * l.fuel
+decreases-whole l = 64 * l.fuel
 
 abbrev pub decreases-operand : goal.decreases-operand
-decreases-operand l = 32 * l.fuel
+decreases-operand l = 64 * l.fuel
 
 abbrev pub decreases-arg : goal.decreases-arg
-decreases-arg l = 32 * l.fuel + 1
+decreases-arg l = 64 * l.fuel + 1
 
 abbrev pub decreases-more_args : goal.decreases-more_args
-decreases-more_args l = 32 * l.fuel + 2
+decreases-more_args l = 64 * l.fuel + 2
 
 abbrev pub decreases-closed_args : goal.decreases-closed_args
-decreases-closed_args l = 32 * l.fuel + 3
+decreases-closed_args l = 64 * l.fuel + 3
 
 abbrev pub decreases-maybe_args : goal.decreases-maybe_args
-decreases-maybe_args l = 32 * l.fuel + 4
+decreases-maybe_args l = 64 * l.fuel + 4
 
 abbrev pub decreases-call : goal.decreases-call
-decreases-call l = 32 * l.fuel + 4
+decreases-call l = 64 * l.fuel + 4
 
 abbrev pub decreases-round : goal.decreases-round
-decreases-round l = 32 * l.fuel + 4
+decreases-round l = 64 * l.fuel + 4
 
 abbrev pub decreases-primary : goal.decreases-primary
-decreases-primary l = 32 * l.fuel + 5
+decreases-primary l = 64 * l.fuel + 5
 
 abbrev pub decreases-methods : goal.decreases-methods
-decreases-methods l = 32 * l.fuel + 5
+decreases-methods l = 64 * l.fuel + 5
 
 abbrev pub decreases-postfix : goal.decreases-postfix
-decreases-postfix l = 32 * l.fuel + 6
+decreases-postfix l = 64 * l.fuel + 6
 
 abbrev pub decreases-unary : goal.decreases-unary
-decreases-unary l = 32 * l.fuel + 7
+decreases-unary l = 64 * l.fuel + 7
 
 abbrev pub decreases-level_expr : goal.decreases-level_expr
-decreases-level_expr l = 32 * l.fuel + 8 + 2 * l.level
+decreases-level_expr l = 64 * l.fuel + 8 + 4 * l.level
+
+abbrev pub decreases-grown : goal.decreases-grown
+decreases-grown l = 64 * l.fuel + 7 + 4 * l.level
 
 abbrev pub decreases-chain : goal.decreases-chain
-decreases-chain l = 32 * l.fuel + 9 + 2 * l.below
+decreases-chain l = 64 * l.fuel + 9 + 4 * l.below
 
 abbrev pub invariant-chain-loop : goal.invariant-chain-loop
 invariant-chain-loop l =

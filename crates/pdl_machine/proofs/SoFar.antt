@@ -1,0 +1,63 @@
+-- How far a run has come by the first bytes of a script.
+use Rattle.std.proofs.Common.{◌≡◌, ℕ, ◌+◌, ◌-◌, ◌<◌, ◌≤◌, List, [], ◌∷◌, ◌++◌, map, length, take, Bool, true, false, cond, refl, sym, ◌∙◌, ap, arith, append_assoc}
+use Rattle.std.specs.Prelude.{nat_lt}
+use Rattle.std.proofs.lemmas.Bool.{ltb-true, ltb-false}
+use Rattle.std.proofs.lemmas.List.{map-append}
+use Rattle.pdl_lex.specs.Bytes.{newlines}
+use Rattle.pdl_lex.specs.Limits.{script_limit}
+use Rattle.pdl_lex.specs.declared.Piece.{Piece}
+use Rattle.pdl_lex.specs.Pieces.{Mark, statement, script_too_long, pieces, settled, script_marks}
+use Rattle.pdl_lex.specs.Certain.{BeginThePieces, StayCertain}
+use Rattle.pdl_machine.specs.Run.{after_marks, start, run, certain_marks, so_far}
+use Rattle.pdl_machine.proofs.RunLemmas.{printed_stays, goes_on, limit_ends}
+
+by_bool : {P : Type 0} (b : Bool) → (b ≡ true → P) → (b ≡ false → P) → P
+by_bool true when_true when_false = when_true refl
+by_bool false when_true when_false = when_false refl
+
+-- the first bytes of what two parts give together
+take_over : (n : ℕ) (xs ys : List ℕ) → length xs ≤ n → take n (xs ++ ys) ≡ xs ++ take (n - length xs) ys
+take_over n [] ys fits = ap (λ k. take k ys) (omega arith)
+take_over zero (x ∷ xs) ys fits = absurd (omega arith)
+take_over (suc n) (x ∷ xs) ys fits = ap (λ zs. x ∷ zs) (take_over n xs ys (omega arith))
+
+module _ (begin : BeginThePieces) (stay : StayCertain) (keep : Bool) (bytes more : List ℕ) where
+  abbrev Front : Type 0
+  Front = (ms : List Mark) × (run keep (bytes ++ more) ≡ after_marks keep (so_far keep bytes) ms)
+
+  -- the marks of the whole script go on from those that the first bytes make certain
+  front_of : (ms : List Mark) → script_marks (bytes ++ more) ≡ certain_marks bytes ++ ms → Front
+  front_of ms is = (ms, ap (after_marks keep start) is ∙ goes_on keep start (certain_marks bytes) ms)
+
+  past_limit : nat_lt script_limit (length bytes) ≡ true → Front
+  past_limit far =
+      let past : script_limit < length bytes = ltb-true script_limit (length bytes) far in
+      ([], limit_ends keep bytes more past ∙ ap (λ t. after_marks keep start (cond t (script_marks bytes) (map statement (settled bytes)))) (sym far))
+
+  within_limit : nat_lt script_limit (length bytes) ≡ false → nat_lt script_limit (length (bytes ++ more)) ≡ false → Front
+  within_limit near all_near =
+      let rest = begin bytes more in
+      front_of (map statement rest.0)
+      (rw (near, all_near) (ap (map statement) rest.1 ∙ map-append statement (settled bytes) rest.0))
+
+  cut_at_limit : nat_lt script_limit (length bytes) ≡ false → nat_lt script_limit (length (bytes ++ more)) ≡ true → Front
+  cut_at_limit near far =
+      let fits : length bytes ≤ script_limit = ltb-false script_limit (length bytes) near in
+      let front : List ℕ = take script_limit (bytes ++ more) in
+      let rest = stay bytes (take (script_limit - length bytes) more) in
+      let last : List Mark = script_too_long (1 + newlines front) ∷ [] in
+      let pieces_are : map statement (settled front) ≡ map statement (settled bytes) ++ map statement rest.0 =
+      ap (λ u. map statement (settled u)) (take_over script_limit bytes more fits) ∙ ap (map statement) rest.1 ∙ map-append statement (settled bytes) rest.0 in
+      front_of (map statement rest.0 ++ last)
+      (rw (near, far) (ap (λ ms. ms ++ last) pieces_are ∙ append_assoc (map statement (settled bytes)) (map statement rest.0) last))
+
+  pub so_far-front : Front
+  so_far-front =
+      by_bool (nat_lt script_limit (length bytes)) past_limit (λ near.
+      by_bool (nat_lt script_limit (length (bytes ++ more))) (cut_at_limit near) (within_limit near))
+
+  pub so_far-printed : (text : List ℕ) × ((run keep (bytes ++ more)).printed ≡ (so_far keep bytes).printed ++ text)
+  so_far-printed =
+      let front = so_far-front in
+      let printed = printed_stays keep (so_far keep bytes) front.0 in
+      (printed.0, ap (λ p. p.printed) front.1 ∙ printed.1)
