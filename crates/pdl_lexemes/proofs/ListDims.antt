@@ -111,9 +111,9 @@ takes (filled {n = n} {shape = shape} {front = front} {all = all} {ts = ts} {res
       numbers = omega (arith, i.numbers);
     }
 
--- the dimensions of a list literal, or of all its numbers where it is ragged, are those of an array
+-- the dimensions of a list literal, or one more than its numbers where it is ragged, are those of an array
 list_dims : (ts : List Lexeme) (p : Part) → AreFew ts → list_read ts ≡ Some p →
-    IsDims (unwrap_or p.shape (length p.elems ∷ []))
+    IsDims (unwrap_or p.shape (suc (length p.elems) ∷ []))
 list_dims ts p few e = of_shape p.shape refl
   where
     spelled : SpellsList (a_list p.shape [] p.elems) ts p.rest
@@ -125,12 +125,12 @@ list_dims ts p few e = of_shape p.shape refl
     taken : Takes 1 p.shape [] p.elems ts p.rest
     taken = takes spelled
 
-    of_shape : (s : Option (List ℕ)) → p.shape ≡ s → IsDims (unwrap_or s (length p.elems ∷ []))
+    of_shape : (s : Option (List ℕ)) → p.shape ≡ s → IsDims (unwrap_or s (suc (length p.elems) ∷ []))
     of_shape None is = record { count = omega arith; within = omega (arith, taken.numbers, few.small) }
     of_shape (Some d) is = record { count = omega (arith, nested'.dims d is); within = omega (arith, taken.members d is, few.small) }
 
 -- what a reader of lists answers is within those limits
 pub read_dims : {A : Type 0} (f : A → Part) (r : Result A Refusal) (ts : List Lexeme) → AreFew ts → Gives f r (list_read ts) →
-    IfOk r (λ x. IsDims (unwrap_or (f x).shape (length (f x).elems ∷ [])))
+    IfOk r (λ x. IsDims (unwrap_or (f x).shape (suc (length (f x).elems) ∷ [])))
 read_dims f (Ok x) ts few g = list_dims ts (f x) few g
 read_dims f (Err e) ts few g = tt

@@ -1,12 +1,12 @@
 -- The scan for ragged lists finds those that are spelled.
-use Rattle.std.proofs.Common.{◌≡◌, ℕ, ℤ, suc, ◌<◌, List, [], ◌∷◌, ◌++◌, length, Bool, true, false, Option, Some, None, if◌then◌else◌, refl, sym, ap, ◌∙◌, subst, arith, true≢false}
+use Rattle.std.proofs.Common.{◌≡◌, ℕ, ℤ, suc, ◌<◌, List, [], ◌∷◌, ◌++◌, length, Bool, true, false, ◌||◌, Option, Some, None, if◌then◌else◌, refl, sym, ap, ◌∙◌, subst, arith, true≢false}
 use Rattle.std.specs.Prelude.{is_some}
 use Rattle.pdl_elem.specs.declared.BinaryOp.TheVariants.{Sub}
 use Rattle.pdl_lexemes.specs.declared.Lexeme.{Lexeme}
 use Rattle.pdl_lexemes.specs.declared.Lexeme.TheVariants.{Number, OpenSquare, CloseSquare, Comma, Operator}
 use Rattle.pdl_lexemes.specs.Lists.{ListPart, SpellsList, an_item, some_items, a_list, with_length, number, minus, nested, first, more, empty, filled, HoldsRagged, here, later}
 use Rattle.pdl_lexemes.specs.ListReading.{Part, part, after_open_square, list_reader, list_read}
-use Rattle.pdl_lexemes.specs.Depth.{ragged_in, reads_ragged, without_shape, GoesOn}
+use Rattle.pdl_lexemes.specs.Depth.{ragged_in, reads_ragged, without_shape}
 use Rattle.pdl_lexemes.proofs.ListSound.{reader_sound}
 use Rattle.pdl_lexemes.specs.Options.{map_elim}
 use Rattle.pdl_lexemes.proofs.ListComplete.{list_found, list_opens, list_shorter}
@@ -57,7 +57,7 @@ no_list : (ts : List Lexeme) → after_open_square ts ≡ None → list_read ts 
 unfolding list_reader
 no_list ts e = rw e
 
-scan_past : (t : Lexeme) (ts : List Lexeme) → after_open_square (t ∷ ts) ≡ None → ragged_in (t ∷ ts) ≡ ragged_in ts
+pub scan_past : (t : Lexeme) (ts : List Lexeme) → after_open_square (t ∷ ts) ≡ None → ragged_in (t ∷ ts) ≡ ragged_in ts
 scan_past t ts e = scan_on t ts (ap reads_ragged (no_list (t ∷ ts) e))
 
 -- the same lexemes behind other numbers
@@ -105,21 +105,7 @@ clean (filled {n = n} {shape = shape} {ts = ts} {rest = rest} h) =
     λ d is. clean_list (with_length n shape) d x.0 OpenSquare ts rest is (filled x.1)
     ∙ map_elim (ragged_in ts ≡ ragged_in rest) (λ c. c ++ n ∷ []) shape is (λ c k same. i c k ∙ scan_past CloseSquare rest refl)
 
--- where no list is read, the scan goes on with the next lexeme
-pub beyond_lexeme : (ts us : List Lexeme) → (t : Lexeme) × (ts ≡ t ∷ us) → list_read ts ≡ None → GoesOn ts (Some us)
-beyond_lexeme ts us (t, is) e =
-    subst (λ vs. GoesOn vs (Some us)) (sym is) (scan_on t us (ap reads_ragged (ap list_read (sym is) ∙ e)), omega arith)
-
--- where one is read, the scan ends with it or goes on behind it
-pub beyond_ragged : (ts rest : List Lexeme) (elems : List ℤ) → list_read ts ≡ Some (part None elems rest) → ragged_in ts ≡ true
-beyond_ragged ts rest elems e = ragged_complete (here (reader_sound (suc (length ts)) [] ts (part None elems rest) e))
-
-list_spends : {shape : Option (List ℕ)} {front all : List ℤ} {ts rest : List Lexeme} → SpellsList (a_list shape front all) ts rest → length rest < length ts
-list_spends empty = omega arith
-list_spends (filled h) = let a = list_shorter h in omega arith
-
-pub beyond_list : (ts rest : List Lexeme) (shape : Option (List ℕ)) (elems : List ℤ) → is_some shape ≡ true → list_read ts ≡ Some (part shape elems rest) → GoesOn ts (Some rest)
-beyond_list ts rest None elems some e = absurd (true≢false (sym some))
-beyond_list ts rest (Some d) elems some e =
-    let h = reader_sound (suc (length ts)) [] ts (part (Some d) elems rest) e in
-    (clean h d refl, list_spends h)
+-- a list literal is found where it is ragged, and else passed
+pub scan_list : (shape : Option (List ℕ)) (elems : List ℤ) (ts rest : List Lexeme) → SpellsList (a_list shape [] elems) ts rest → ragged_in ts ≡ (without_shape shape || ragged_in rest)
+scan_list None elems ts rest h = ragged_complete (here h)
+scan_list (Some d) elems ts rest h = clean h d refl

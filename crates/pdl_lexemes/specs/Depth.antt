@@ -57,8 +57,3 @@ reads_ragged (Some p) = without_shape p.shape
 abbrev pub ragged_in : List Lexeme → Bool
 ragged_in [] = false
 ragged_in (t ∷ ts) = if reads_ragged (list_read (t ∷ ts)) then true else ragged_in ts
-
--- what a look at the place where lexemes begin says: a ragged list stands there, or no other than stand in the rest
-abbrev pub GoesOn : List Lexeme → Option (List Lexeme) → Type 0
-GoesOn ts None = ragged_in ts ≡ true
-GoesOn ts (Some us) = (ragged_in ts ≡ ragged_in us) × (length us < length ts)

@@ -1,13 +1,13 @@
 -- What the definitions promise to the crates above. Each is the contract of a public function.
-use Rattle.std.specs.Prelude.{◌≡◌, ◌↔◌, ◌≤◌, ℕ, ℤ, List, [], ◌∷◌, length, true, Option, Some, unwrap_or, All, is_some}
+use Rattle.std.specs.Prelude.{◌≡◌, ◌↔◌, ◌≤◌, ℕ, ℤ, List, [], ◌∷◌, length, true, ◌||◌, Option, None, Some, unwrap_or, All, is_some}
 use Rattle.pdl_elem.specs.Types.{InRange}
 use Rattle.pdl_shape.specs.Shape.{size_of}
 use Rattle.pdl_lex.specs.Tokens.{is_sign}
 use Rattle.pdl_lexemes.specs.declared.Lexeme.{Lexeme}
 use Rattle.pdl_lexemes.specs.declared.Lexeme.TheVariants.{OpenSquare}
 use Rattle.pdl_lexemes.specs.Lists.{SpellsList, a_list, type_of, HoldsRagged}
-use Rattle.pdl_lexemes.specs.ListReading.{part, list_read}
-use Rattle.pdl_lexemes.specs.Depth.{ragged_in}
+use Rattle.pdl_lexemes.specs.ListReading.{part, after_open_square, list_read}
+use Rattle.pdl_lexemes.specs.Depth.{without_shape, ragged_in}
 use Rattle.pdl_lexemes.specs.Lexing.{found_in, signs}
 
 -- a list literal is read exactly where the grammar spells it; it begins with `[`, and what follows it is no longer
@@ -19,9 +19,13 @@ pub record ListsAreRead : Type 0 where
   pub shortens : (ts rest : List Lexeme) (shape : Option (List ℕ)) (elems : List ℤ)
       → SpellsList (a_list shape [] elems) ts rest → length rest ≤ length ts
 
--- the scan finds a ragged list exactly where the lexemes hold one
-abbrev pub RaggedIsHeld : Type 0
-RaggedIsHeld = (ts : List Lexeme) → (ragged_in ts ≡ true) ↔ HoldsRagged ts
+-- the scan finds a ragged list exactly where the lexemes hold one; each lexeme but `[` is passed, and so is a list
+-- literal, where it isn't ragged itself
+pub record RaggedIsScanned : Type 0 where
+  pub held : (ts : List Lexeme) → (ragged_in ts ≡ true) ↔ HoldsRagged ts
+  pub passes : (t : Lexeme) (ts : List Lexeme) → after_open_square (t ∷ ts) ≡ None → ragged_in (t ∷ ts) ≡ ragged_in ts
+  pub lists : (ts rest : List Lexeme) (shape : Option (List ℕ)) (elems : List ℤ)
+      → SpellsList (a_list shape [] elems) ts rest → ragged_in ts ≡ (without_shape shape || ragged_in rest)
 
 -- as many numbers as the dimensions say, each of them in the type's range
 pub record FillsArray (shape : Option (List ℕ)) (elems : List ℤ) : Type 0 where

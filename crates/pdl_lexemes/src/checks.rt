@@ -1,11 +1,9 @@
-//! The checks on the lexemes that look at no grammar, and the one for ragged lists.
+//! The checks on the lexemes that look at no grammar.
 
-ghost use Rattle.std.specs.Prelude.{◌≡◌, ◌≤◌, ◌+◌, ◌<◌, ◌∷◌, length, IfOk, IfErr};
-ghost use Rattle.pdl_lexemes.specs.Depth.{with_operator, counted_to, is_beyond, is_too_deep, is_large, has_large, ragged_in, GoesOn};
-ghost use Rattle.pdl_lexemes.specs.declared.Lexeme.{Lexeme};
+ghost use Rattle.std.specs.Prelude.{◌≡◌, ◌≤◌, ◌+◌, ◌<◌, length};
+ghost use Rattle.pdl_lexemes.specs.Depth.{with_operator, counted_to, is_beyond, is_too_deep, is_large, has_large};
 
-use crate::{Lexeme, Lexemes, Refusal, list};
-use std::alloc::Global;
+use crate::Lexeme;
 
 /// How many brackets of each kind are open, and how many operators stand outside square ones so far.
 #[derive(Clone, Copy, Debug)]
@@ -113,42 +111,4 @@ pub fn has_large(tokens: &[Lexeme]) -> bool
         }
     }
     false
-}
-
-// What is left to look through behind the place where lexemes begin, or none where a ragged list stands there.
-fn beyond<'a>(
-    alloc: Global,
-    tokens: &Lexemes<'a>,
-    rest: Lexemes<'a>,
-) -> Result<Option<Lexemes<'a>>, Refusal>
-    requires behind { (t : Lexeme) × (tokens.now ≡ t ∷ rest) }
-    ensures ok { IfOk result (GoesOn tokens.now) }
-    ensures err { IfErr result (λ r. r ≡ Refusal.NoMemory) }
-{
-    match list::read(alloc, tokens) {
-        Err(Refusal::NoMemory) => Err(Refusal::NoMemory),
-        Err(Refusal::Refused) => Ok(Some(rest)),
-        Ok((row, behind)) => {
-            if row.shape.is_none() {
-                Ok(None)
-            } else {
-                Ok(Some(behind))
-            }
-        }
-    }
-}
-
-/// Whether some list literal among the lexemes is ragged. It goes over each list once.
-pub fn holds_ragged(alloc: Global, tokens: &Lexemes<'_>) -> Result<bool, Refusal>
-    ensures ok { IfOk result (λ b. b ≡ ragged_in tokens.now) }
-    ensures err { IfErr result (λ r. r ≡ Refusal.NoMemory) }
-{
-    let mut left = tokens.copy();
-    while let Some((_, rest)) = left.split_first() {
-        match beyond(alloc, &left, rest)? {
-            None => return Ok(true),
-            Some(behind) => left = behind,
-        }
-    }
-    Ok(false)
 }

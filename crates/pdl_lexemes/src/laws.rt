@@ -1,15 +1,16 @@
 //! What the definitions promise to the crates above.
 
-ghost use Rattle.pdl_lexemes.specs.Laws.{ListsAreRead, RaggedIsHeld, ListsAreArrays, SignsAreKnown};
+ghost use Rattle.pdl_lexemes.specs.Laws.{ListsAreRead, RaggedIsScanned, ListsAreArrays, SignsAreKnown};
 
 /// A list literal is read exactly where the grammar spells it.
 pub fn lists_are_their_grammar()
     ensures { ListsAreRead }
 {}
 
-/// The scan finds a ragged list exactly where the lexemes hold one.
-pub fn ragged_is_held()
-    ensures { RaggedIsHeld }
+/// The scan finds a ragged list exactly where the lexemes hold one; it passes each lexeme but `[`, and a list literal
+/// with what is found in it.
+pub fn ragged_is_scanned()
+    ensures { RaggedIsScanned }
 {}
 
 /// A list literal has as many numbers as its dimensions say, each of them in its type's range.

@@ -16,8 +16,8 @@ pub mod sizes;
 #[cfg(test)]
 mod tests;
 
-pub use checks::{has_large, holds_ragged};
-pub use laws::{every_sign_is_known, lists_are_arrays, lists_are_their_grammar, ragged_is_held};
+pub use checks::has_large;
+pub use laws::{every_sign_is_known, lists_are_arrays, lists_are_their_grammar, ragged_is_scanned};
 pub use left::Lexemes;
 pub use lexing::{bytes, keyword_named, lexemes};
 use pdl_elem::{BinaryOp, Ty, UnaryOp};

@@ -1,6 +1,6 @@
 //! The reader of list literals.
 
-ghost use Rattle.std.specs.Prelude.{◌≡◌, ◌+◌, ◌∷◌, ◌++◌, [], length, IfOk, Some, unwrap_or};
+ghost use Rattle.std.specs.Prelude.{◌≡◌, ◌+◌, ◌∷◌, ◌++◌, [], suc, length, IfOk, Some, unwrap_or};
 ghost use Rattle.pdl_shape.specs.Shape.{IsDims};
 ghost use Rattle.pdl_lexemes.specs.Lists.{shared, with_length};
 ghost use Rattle.pdl_lexemes.specs.Answers.{Gives};
@@ -17,10 +17,10 @@ pub struct Row {
     pub elems: Vec<i64>,
 }
 
-/// The list literal at the front, and what follows it. Its dimensions, or its numbers as one dimension
-/// where it is ragged, are within the limits of an array.
+/// The list literal at the front, and what follows it. Its dimensions, or one that is longer by one than it has
+/// numbers where it is ragged, are within the limits of an array.
 pub fn read<'a>(alloc: Global, tokens: &Lexemes<'a>) -> Result<(Row, Lexemes<'a>), Refusal>
-    ensures dims { IfOk result (λ x. IsDims (unwrap_or x.0.shape (length x.0.elems.items ∷ []))) }
+    ensures dims { IfOk result (λ x. IsDims (unwrap_or x.0.shape (suc (length x.0.elems.items) ∷ []))) }
     ensures read { Gives (λ x. part x.0.shape x.0.elems.items x.1) result (list_read tokens.now) }
 {
     list(alloc, tokens.len() + 1, Vec::new(alloc), tokens)

@@ -1,17 +1,18 @@
 -- Spelled literals are arrays.
-use Rattle.std.proofs.Common.{◌≡◌, ◌≤◌, ℕ, ℤ, pos, nat_le, List, [], ◌∷◌, length, All, Bool, true, false, if◌then◌else◌, Option, Some, None, unwrap_or, refl, sym, subst, arith}
+use Rattle.std.proofs.Common.{◌≡◌, ◌≤◌, ◌*◌, ℕ, suc, ℤ, pos, nat_le, nat_eq, List, length, All, Bool, true, false, ◌||◌, not, if◌then◌else◌, Option, Some, None, refl, sym, ◌∙◌, subst, arith, eqb-true, true≢false}
 use Rattle.std.proofs.lemmas.Int.{ints}
 use Rattle.std.proofs.lemmas.List.Elements.{All-nil, All-push}
 use Rattle.std.proofs.lemmas.Bool.Decides.{nat_tests}
 use Rattle.pdl_lexemes.specs.declared.Lexeme.{Lexeme}
-use Rattle.pdl_lexemes.specs.Lists.{signed, type_of}
+use Rattle.pdl_lexemes.specs.Lists.{signed}
 use Rattle.pdl_lexemes.specs.Laws.{FillsArray, ListsAreArrays}
 use Rattle.pdl_lexemes.specs.Options.{none_some, some_inj}
-use Rattle.pdl_syntax.specs.Tree.{Tree}
-use Rattle.pdl_syntax.specs.Grammar.{Spells, Part, an_expr, a_postfix, a_primary, an_arg, some_args, closed_args, maybe_args, same, joined, once, negated, prefixed, plain, bare, method, a_number, a_name, list, round_list, called, round, a_value, a_text, a_type, one, more as more_args, no_args, all_args, without, within}
+use Rattle.pdl_syntax.specs.Tree.{Tree, Args, none, value}
+use Rattle.pdl_syntax.specs.Ragged.{is_ragged, are_ragged, in_views, in_statement}
+use Rattle.pdl_syntax.proofs.Raggedness.{any_last}
+use Rattle.pdl_syntax.specs.Grammar.{literal_of, Spells, Part, an_expr, a_postfix, a_primary, an_arg, some_args, closed_args, maybe_args, same, joined, once, negated, prefixed, plain, bare, method, a_number, a_name, list, round_list, called, round, a_value, a_text, a_type, one, more as more_args, no_args, all_args, without, within}
 use Rattle.pdl_syntax.specs.StatementTree.{StatementTree, View}
 use Rattle.pdl_syntax.specs.Statements.{SpellsViews, no_views, one_view, SpellsCalled, by_word, by_method, SpellsBinding, binds_value, binds_severed, binds_names, SpellsStatement, binds, my_binds, assigns, shows_text, shows, shows_info, severs, reshapes, undefs, lists_names, defines, watches, unwatches}
-use Rattle.pdl_buf.specs.Made.{IsMade}
 use Rattle.pdl_syntax.specs.WellMade.{IsCount, AreArrays, AreArgArrays, IsWellMade}
 
 record SignedIs (n : ℕ) (z : ℤ) : Type 0 where
@@ -34,72 +35,99 @@ is_count n z e =
     let small = s.small in
     subst IsCount (sym s.value) (record { least = omega (arith, ints); most = omega (arith, ints) })
 
-literal_array : (shape : Option (List ℕ)) (es : List ℤ) → FillsArray shape es → IsMade (type_of es) (unwrap_or shape (length es ∷ [])) es
-literal_array shape es fills = record { count = fills.count; in_range = fills.in_range }
+pub or_false : (a b : Bool) → (a || b) ≡ false → (a ≡ false) × (b ≡ false)
+or_false true b e = absurd (true≢false e)
+or_false false b e = (refl, e)
 
--- what is spelled behind arguments that hold arrays alone holds arrays alone
+not_false : (b : Bool) → not b ≡ false → b ≡ true
+not_false true e = refl
+not_false false e = absurd (true≢false e)
+
+literal_array : (shape : Option (List ℕ)) (es : List ℤ) → FillsArray shape es → is_ragged (literal_of shape es) ≡ false → AreArrays (literal_of shape es)
+literal_array None es fills e =
+    let same : length es ≡ suc (length es) * 1 = eqb-true (length es) (suc (length es) * 1) (not_false (nat_eq (length es) (suc (length es) * 1)) e) in
+    absurd (omega (arith, same))
+literal_array (Some d) es fills e = record { count = fills.count; in_range = fills.in_range }
+
+-- what is spelled without ragged lists, behind arguments that hold arrays alone, holds arrays alone
+abbrev AddsArrays : Args → Args → Type 0
+AddsArrays front all = are_ragged all ≡ false → (are_ragged front ≡ false) × (AreArgArrays front → AreArgArrays all)
+
+abbrev HasArrays : Tree → Type 0
+HasArrays t = is_ragged t ≡ false → AreArrays t
+
 abbrev Holds : Part → Type 0
-Holds (an_expr l t) = AreArrays t
-Holds (a_postfix t) = AreArrays t
-Holds (a_primary t) = AreArrays t
-Holds (an_arg front all) = AreArgArrays front → AreArgArrays all
-Holds (some_args front all) = AreArgArrays front → AreArgArrays all
-Holds (closed_args front all) = AreArgArrays front → AreArgArrays all
-Holds (maybe_args front all) = AreArgArrays front → AreArgArrays all
+Holds (an_expr l t) = HasArrays t
+Holds (a_postfix t) = HasArrays t
+Holds (a_primary t) = HasArrays t
+Holds (an_arg front all) = AddsArrays front all
+Holds (some_args front all) = AddsArrays front all
+Holds (closed_args front all) = AddsArrays front all
+Holds (maybe_args front all) = AddsArrays front all
+
+both_arrays : (a b : Tree) → HasArrays a → HasArrays b → (is_ragged a || is_ragged b) ≡ false → AreArrays a × AreArrays b
+both_arrays a b h k e = let parts = or_false (is_ragged a) (is_ragged b) e in (h parts.0, k parts.1)
+
+method_arrays : (t : Tree) (args : Args) → HasArrays t → AddsArrays (value none t) args → are_ragged args ≡ false → AreArgArrays args
+method_arrays t args h k e = let more = k e in more.1 (tt, h more.0)
 
 pub arrays : ListsAreArrays → {source : List ℕ} {p : Part} {ts rest : List Lexeme} → Spells source p ts rest → Holds p
 arrays lists (same h) = arrays lists h
-arrays lists (joined h e m k) = (arrays lists h, arrays lists k)
-arrays lists (once h e m k) = (arrays lists h, arrays lists k)
+arrays lists (joined {a = a} {b = b} h e m k) = both_arrays a b (arrays lists h) (arrays lists k)
+arrays lists (once {a = a} {b = b} h e m k) = both_arrays a b (arrays lists h) (arrays lists k)
 arrays lists (negated h) = arrays lists h
 arrays lists (prefixed h) = arrays lists h
 arrays lists (plain h) = arrays lists h
 arrays lists (bare h) = arrays lists h
-arrays lists (method h k) = let t = arrays lists h in arrays lists k (tt, t)
-arrays lists (a_number {n = n} {z = z} e) = is_count n z e
-arrays lists a_name = tt
+arrays lists (method {t = t} {args = args} h k) = method_arrays t args (arrays lists h) (arrays lists k)
+arrays lists (a_number {n = n} {z = z} e) = λ _. is_count n z e
+arrays lists a_name = λ _. tt
 arrays lists (list {shape = shape} {elems = elems} h) = literal_array shape elems (lists _ _ shape elems h)
 arrays lists (round_list {shape = shape} {elems = elems} h) = literal_array shape elems (lists _ _ shape elems h)
-arrays lists (called h) = arrays lists h tt
+arrays lists (called h) = let k = arrays lists h in λ e. (k e).1 tt
 arrays lists (round h) = arrays lists h
-arrays lists (a_value h) = let t = arrays lists h in λ front. (front, t)
-arrays lists a_text = λ front. front
-arrays lists a_type = λ front. front
+arrays lists (a_value {front = front} {t = t} h) = let k = arrays lists h in λ e. let parts = or_false (are_ragged front) (is_ragged t) e in (parts.0, λ all. (all, k parts.1))
+arrays lists a_text = λ e. (e, λ all. all)
+arrays lists a_type = λ e. (e, λ all. all)
 arrays lists (one h) = arrays lists h
-arrays lists (more_args h k) = let a = arrays lists h in let b = arrays lists k in λ front. b (a front)
-arrays lists no_args = λ front. front
+arrays lists (more_args h k) = let a = arrays lists h in let b = arrays lists k in λ e. let y = b e in let x = a y.0 in (x.0, λ all. y.1 (x.1 all))
+arrays lists no_args = λ e. (e, λ all. all)
 arrays lists (all_args h) = arrays lists h
-arrays lists without = λ front. front
+arrays lists without = λ e. (e, λ all. all)
 arrays lists (within h) = arrays lists h
 
 abbrev ViewArrays : View → Type 0
 ViewArrays v = AreArgArrays v.1
 
-views_arrays : ListsAreArrays → {source : List ℕ} {front views : List View} {ts rest : List Lexeme} → SpellsViews source front views ts rest → All ViewArrays front → All ViewArrays views
-views_arrays lists no_views all = all
-views_arrays lists (one_view {views = views} {w = w} {args = args} h k) all = All-push ViewArrays views _ (views_arrays lists h all) (arrays lists k tt)
+views_arrays : ListsAreArrays → {source : List ℕ} {front views : List View} {ts rest : List Lexeme} → SpellsViews source front views ts rest → in_views views ≡ false → All ViewArrays front → All ViewArrays views
+views_arrays lists no_views e all = all
+views_arrays lists (one_view {views = views} {w = w} {args = args} h k) e all =
+    let parts = or_false (in_views views) (are_ragged args) (sym (any_last (λ v. are_ragged v.1) views _) ∙ e) in
+    All-push ViewArrays views _ (views_arrays lists h parts.0 all) ((arrays lists k parts.1).1 tt)
 
-called_arrays : ListsAreArrays → {source : List ℕ} {t : Tree} {ts : List Lexeme} → SpellsCalled source t ts → AreArrays t
-called_arrays lists (by_word h) = arrays lists h tt
-called_arrays lists (by_method h k) = let t = arrays lists h in arrays lists k (tt, t)
+called_arrays : ListsAreArrays → {source : List ℕ} {t : Tree} {ts : List Lexeme} → SpellsCalled source t ts → HasArrays t
+called_arrays lists (by_word h) = let k = arrays lists h in λ e. (k e).1 tt
+called_arrays lists (by_method {t = t} {args = args} h k) = method_arrays t args (arrays lists h) (arrays lists k)
 
-binding_arrays : ListsAreArrays → {source : List ℕ} {s : StatementTree} {ts : List Lexeme} → SpellsBinding source s ts → IsWellMade s
-binding_arrays lists (binds_value h) = arrays lists h
-binding_arrays lists (binds_severed h b) = arrays lists h
-binding_arrays lists (binds_names h c) = called_arrays lists c
+binding_arrays : ListsAreArrays → {source : List ℕ} {s : StatementTree} {ts : List Lexeme} → SpellsBinding source s ts → in_statement s ≡ false → IsWellMade s
+binding_arrays lists (binds_value h) e = arrays lists h e
+binding_arrays lists (binds_severed h b) e = arrays lists h e
+binding_arrays lists (binds_names h c) e = called_arrays lists c e
 
--- the literals of a spelled statement are arrays
-pub statement_arrays : ListsAreArrays → {source : List ℕ} {s : StatementTree} {ts : List Lexeme} → SpellsStatement source s ts → IsWellMade s
-statement_arrays lists (binds h) = binding_arrays lists h
-statement_arrays lists (my_binds h) = binding_arrays lists h
-statement_arrays lists (assigns v h) = (views_arrays lists v (All-nil ViewArrays), arrays lists h)
-statement_arrays lists shows_text = tt
-statement_arrays lists (shows h) = arrays lists h
-statement_arrays lists (shows_info h b) = arrays lists h
-statement_arrays lists (severs b) = tt
-statement_arrays lists (reshapes h) = arrays lists h tt
-statement_arrays lists undefs = tt
-statement_arrays lists lists_names = tt
-statement_arrays lists (defines h k) = tt
-statement_arrays lists (watches e) = tt
-statement_arrays lists (unwatches e) = tt
+-- the literals of a spelled statement without ragged lists are arrays
+pub statement_arrays : ListsAreArrays → {source : List ℕ} {s : StatementTree} {ts : List Lexeme} → SpellsStatement source s ts → in_statement s ≡ false → IsWellMade s
+statement_arrays lists (binds h) e = binding_arrays lists h e
+statement_arrays lists (my_binds h) e = binding_arrays lists h e
+statement_arrays lists (assigns {views = views} {t = t} v h) e =
+    let parts = or_false (in_views views) (is_ragged t) e in
+    (views_arrays lists v parts.0 (All-nil ViewArrays), arrays lists h parts.1)
+statement_arrays lists shows_text e = tt
+statement_arrays lists (shows h) e = arrays lists h e
+statement_arrays lists (shows_info h b) e = arrays lists h e
+statement_arrays lists (severs b) e = tt
+statement_arrays lists (reshapes h) e = (arrays lists h e).1 tt
+statement_arrays lists undefs e = tt
+statement_arrays lists lists_names e = tt
+statement_arrays lists (defines h k) e = tt
+statement_arrays lists (watches count) e = tt
+statement_arrays lists (unwatches count) e = tt

@@ -1,9 +1,10 @@
 -- An expression is read by its first operand, and what goes on behind it.
-use Rattle.std.proofs.Common.{◌≡◌, ℕ, zero, suc, ◌≤◌, List, Option, Some, None, option_and_then, refl, ap, ◌∙◌, arith}
+use Rattle.std.proofs.Common.{◌≡◌, ℕ, zero, suc, ◌≤◌, List, false, Option, Some, None, option_and_then, refl, ap, ◌∙◌, arith}
 use Rattle.pdl_lexemes.specs.declared.Lexeme.{Lexeme}
 use Rattle.pdl_syntax.specs.Tree.{Tree}
-use Rattle.pdl_syntax.specs.Reading.{Read, Kind, prefix_at, operator_at, limit_of, chain_at, postfix_at, unary_at, level_at, grown_at}
+use Rattle.pdl_syntax.specs.Reading.{Read, Kind, prefix_at, operator_at, begins_operator, limit_of, chain_at, postfix_at, unary_at, level_at, grown_at}
 use Rattle.pdl_syntax.proofs.Turns.{chain_stop_at}
+use Rattle.pdl_syntax.proofs.Peeks.{no_operator}
 
 then_some : {A : Type 0} (o : Option A) → o ≡ option_and_then (λ x. Some x) o
 then_some None = refl
@@ -43,3 +44,6 @@ module _ (source : List ℕ) (f : Kind → List Lexeme → Read Tree) where
   grown_stop zero t ts none = refl
   grown_stop (suc l) t ts none =
       rw (grown_stop l t ts (λ j le. none j (omega arith))) (chain_stop_at (level_at source f l) (suc l) (limit_of (suc l) ts) t ts (none (suc l) (omega arith)))
+
+  pub grown_ends : (l : ℕ) (t : Tree) (ts : List Lexeme) → begins_operator l ts ≡ false → grown_at source f l t ts ≡ Some (t, ts)
+  grown_ends l t ts e = grown_stop l t ts (no_operator l ts e)

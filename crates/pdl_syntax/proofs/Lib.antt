@@ -7,5 +7,7 @@ pub mod StatementSound
 pub mod StatementComplete
 pub mod Parsing
 pub mod StatementTurns
+pub mod Raggedness
 pub mod Arrays
 pub mod Growing
+pub mod Walks

@@ -2,10 +2,10 @@
 use Rattle.std.proofs.Common.{◌≡◌, ℕ, suc, ◌+◌, List, [], ◌∷◌, length, Bool, true, false, Option, Some, None, Result, Ok, Err, IfOk, refl, ap, sym, ◌∙◌, subst, true≢false, add-one}
 use Rattle.pdl_lex.specs.declared.Token.{Token}
 use Rattle.pdl_lexemes.specs.declared.Lexeme.{Lexeme}
-use Rattle.pdl_lexemes.specs.Laws.{ListsAreRead, RaggedIsHeld}
+use Rattle.pdl_lexemes.specs.Laws.{ListsAreRead, ListsAreArrays, RaggedIsScanned}
 use Rattle.pdl_lexemes.specs.Lexing.{lexemes_of}
 use Rattle.pdl_lexemes.specs.Lists.{HoldsRagged}
-use Rattle.pdl_lexemes.specs.Depth.{is_too_deep, has_large, ragged_in}
+use Rattle.pdl_lexemes.specs.Depth.{is_too_deep, has_large}
 use Rattle.pdl_syntax.specs.declared.parser.ParseFault.{ParseFault}
 use Rattle.pdl_syntax.specs.declared.parser.ParseFault.TheVariants.{TooDeep, NumberTooLarge, Syntax, Ragged, NoMemory}
 use Rattle.pdl_syntax.specs.declared.tree.Statement.{Statement}
@@ -16,6 +16,9 @@ use Rattle.pdl_syntax.specs.Refusals.{Means, Answers}
 use Rattle.pdl_syntax.specs.StatementTree.{StatementTree, statement_of}
 use Rattle.pdl_syntax.specs.StatementReading.{statement_at, read_statement}
 use Rattle.pdl_syntax.specs.WellMade.{IsWellMade}
+use Rattle.pdl_syntax.specs.Statements.{SpellsStatement}
+use Rattle.pdl_syntax.specs.Ragged.{in_statement}
+use Rattle.pdl_syntax.proofs.Raggedness.{statement_scanned}
 use Rattle.pdl_syntax.proofs.StatementComplete.{statement_found, statement_spelled}
 
 by_bool : {G : Type 0} (b : Bool) → (b ≡ true → G) → (b ≡ false → G) → G
@@ -24,7 +27,7 @@ by_bool false yes' no' = no' refl
 
 -- behind the checks of depth and of numbers, what is read decides
 after_checks : (source : List ℕ) (ts : List Lexeme) (o : Option StatementTree) → is_too_deep ts ≡ false → has_large ts ≡ false →
-    statement_at source (reader source (length ts + 1)) ts ≡ o → checked_lexemes source ts ≡ unless_ragged ts o
+    statement_at source (reader source (length ts + 1)) ts ≡ o → checked_lexemes source ts ≡ unless_ragged o
 after_checks source ts o d l e =
     let read : read_statement source ts ≡ o = rw add-one at e in
     rw (d, l, read) refl
@@ -34,12 +37,19 @@ pub unread : (source : List ℕ) (ts : List Lexeme) → is_too_deep ts ≡ false
 unread source ts d l e = after_checks source ts None d l e
 
 pub read_as : (source : List ℕ) (ts : List Lexeme) (s : Statement) (r : Result Statement ParseFault) → is_too_deep ts ≡ false → has_large ts ≡ false →
-    statement_at source (reader source (length ts + 1)) ts ≡ Some (statement_of s) → IsParsed (unless_ragged ts (Some (statement_of s))) r → IsParsed (checked_lexemes source ts) r
+    statement_at source (reader source (length ts + 1)) ts ≡ Some (statement_of s) → IsParsed (unless_ragged (Some (statement_of s))) r → IsParsed (checked_lexemes source ts) r
 read_as source ts s r d l e h = subst (λ x. IsParsed x r) (sym (after_checks source ts (Some (statement_of s)) d l e)) h
 
-module _ (lists : ListsAreRead) (ragged : RaggedIsHeld) where
-  not_ragged : (ts : List Lexeme) → (HoldsRagged ts → ⊥) → ragged_in ts ≡ false
-  not_ragged ts h = by_bool (ragged_in ts) (λ e. absurd (h ((ragged ts).0 e))) (λ e. e)
+-- by what holds of lists: lexemes hold a ragged one exactly where the statement that they spell has one
+module _ (lists : ListsAreRead) (arrays : ListsAreArrays) (scan : RaggedIsScanned) where
+  is_held : (source : List ℕ) (ts : List Lexeme) (s : StatementTree) → SpellsStatement source s ts → in_statement s ≡ true → HoldsRagged ts
+  is_held source ts s h e = (scan.held ts).0 (statement_scanned scan arrays h ∙ e)
+
+  is_found : (source : List ℕ) (ts : List Lexeme) (s : StatementTree) → SpellsStatement source s ts → HoldsRagged ts → in_statement s ≡ true
+  is_found source ts s h r = sym (statement_scanned scan arrays h) ∙ (scan.held ts).1 r
+
+  not_ragged : (source : List ℕ) (ts : List Lexeme) (s : StatementTree) → SpellsStatement source s ts → (HoldsRagged ts → ⊥) → in_statement s ≡ false
+  not_ragged source ts s h none = by_bool (in_statement s) (λ e. absurd (none (is_held source ts s h e))) (λ e. e)
 
   unread_none : (source : List ℕ) (ts : List Lexeme) → ((s : StatementTree) → read_statement source ts ≡ Some s → ⊥) → (o : Option StatementTree) → read_statement source ts ≡ o → o ≡ None
   unread_none source ts h None e = refl
@@ -51,7 +61,7 @@ module _ (lists : ListsAreRead) (ragged : RaggedIsHeld) where
       let d : is_too_deep ts ≡ false = f.passes.not_deep in
       let l : has_large ts ≡ false = f.passes.not_large in
       let r : read_statement source ts ≡ Some s = statement_found lists source ts s f.spells in
-      let g : ragged_in ts ≡ false = not_ragged ts f.not_ragged in
+      let g : in_statement s ≡ false = not_ragged source ts s f.spells f.not_ragged in
       rw (d, l, r, g) refl
   checked_as source ts (Err TooDeep) f = rw f refl
   checked_as source ts (Err NumberTooLarge) f =
@@ -67,11 +77,11 @@ module _ (lists : ListsAreRead) (ragged : RaggedIsHeld) where
       let d : is_too_deep ts ≡ false = f.passes.not_deep in
       let l : has_large ts ≡ false = f.passes.not_large in
       let r : read_statement source ts ≡ Some f.statement = statement_found lists source ts f.statement f.spells in
-      let g : ragged_in ts ≡ true = (ragged ts).1 f.ragged in
+      let g : in_statement f.statement ≡ true = is_found source ts f.statement f.spells f.ragged in
       rw (d, l, r, g) refl
   checked_as source ts (Err NoMemory) f = absurd f
 
-  ragged_or_found : (source : List ℕ) (ts : List Lexeme) (o : Option StatementTree) → is_too_deep ts ≡ false → has_large ts ≡ false → read_statement source ts ≡ o → Means source ts (unless_ragged ts o)
+  ragged_or_found : (source : List ℕ) (ts : List Lexeme) (o : Option StatementTree) → is_too_deep ts ≡ false → has_large ts ≡ false → read_statement source ts ≡ o → Means source ts (unless_ragged o)
   ragged_or_found source ts None d l e = record {
     passes = record { not_deep = d; not_large = l };
     unspelled = λ s h. never (sym e ∙ statement_found lists source ts s h);
@@ -80,17 +90,18 @@ module _ (lists : ListsAreRead) (ragged : RaggedIsHeld) where
       never : {s : StatementTree} → None ≡ Some s → ⊥
       never e = cc
   ragged_or_found source ts (Some s) d l e =
-      by_bool (ragged_in ts)
+      let spelled : SpellsStatement source s ts = statement_spelled lists source ts s e in
+      by_bool (in_statement s)
       (λ g. rw g (record {
         passes = record { not_deep = d; not_large = l };
         statement = s;
-        spells = statement_spelled lists source ts s e;
-        ragged = (ragged ts).0 g;
+        spells = spelled;
+        ragged = is_held source ts s spelled g;
       }))
       (λ g. rw g (record {
         passes = record { not_deep = d; not_large = l };
-        spells = statement_spelled lists source ts s e;
-        not_ragged = λ h. true≢false (sym ((ragged ts).1 h) ∙ g);
+        spells = spelled;
+        not_ragged = λ h. true≢false (sym (is_found source ts s spelled h) ∙ g);
       }))
 
   -- what the checks say is meant
@@ -118,7 +129,7 @@ module _ (law : TokensAreParsed) (text : List ℕ) (tokens : List Token) where
   answers_of (Err NoMemory) e = tt
 
   pub well_made_of : LiteralsAreArrays → (r : Result Statement ParseFault) → Answers text (lexemes_of text tokens) r → IfOk r (λ s. IsWellMade (statement_of s))
-  well_made_of arrays (Ok s) a = arrays text (lexemes_of text tokens) (statement_of s) a.spells
+  well_made_of arrays (Ok s) a = arrays text (lexemes_of text tokens) (statement_of s) a.spells a.not_ragged
   well_made_of arrays (Err fault) a = tt
 
 pub lexemes_length : (source : List ℕ) (tokens : List Token) → length (lexemes_of source tokens) ≡ length tokens

@@ -44,9 +44,9 @@ many (suc (suc (suc (suc zero)))) = false
 many (suc (suc (suc (suc (suc zero))))) = false
 many (suc (suc (suc (suc (suc (suc n)))))) = true
 
--- the tree of a list literal; a ragged one, which is refused later, counts as a list of its numbers
+-- the tree of a list literal; a ragged one, which is refused later, has a dimension that is too long for its numbers
 abbrev pub literal_of : Option (List ℕ) → List ℤ → Tree
-literal_of shape elems = literal (type_of elems) (unwrap_or shape (length elems ∷ [])) elems
+literal_of shape elems = literal (type_of elems) (unwrap_or shape (suc (length elems) ∷ [])) elems
 
 -- what a part of an expression is
 pub data Part : Type 0 where

@@ -3,6 +3,7 @@ use Rattle.std.specs.Prelude.{◌≡◌, ◌↔◌, ℕ, List, Some, Result}
 use Rattle.pdl_lex.specs.declared.Token.{Token}
 use Rattle.pdl_lexemes.specs.declared.Lexeme.{Lexeme}
 use Rattle.pdl_lexemes.specs.Lexing.{lexemes_of}
+use Rattle.pdl_lexemes.specs.Lists.{HoldsRagged}
 use Rattle.pdl_syntax.specs.declared.parser.ParseFault.{ParseFault}
 use Rattle.pdl_syntax.specs.StatementTree.{StatementTree}
 use Rattle.pdl_syntax.specs.Statements.{SpellsStatement}
@@ -27,7 +28,8 @@ TokensAreParsed =
     (text : List ℕ) (tokens : List Token) (answer : Result StatementTree ParseFault)
     → (parsed text tokens ≡ answer) ↔ Means text (lexemes_of text tokens) answer
 
--- the list literals of a spelled statement are arrays, and its numbers are from 0 up
+-- the list literals of a spelled statement without ragged ones are arrays, and its numbers are from 0 up
 abbrev pub LiteralsAreArrays : Type 0
 LiteralsAreArrays =
-    (source : List ℕ) (lexemes : List Lexeme) (s : StatementTree) → SpellsStatement source s lexemes → IsWellMade s
+    (source : List ℕ) (lexemes : List Lexeme) (s : StatementTree)
+    → SpellsStatement source s lexemes → (HoldsRagged lexemes → ⊥) → IsWellMade s

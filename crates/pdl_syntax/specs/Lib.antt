@@ -5,6 +5,7 @@ pub mod Reading
 pub mod StatementTree
 pub mod Statements
 pub mod StatementReading
+pub mod Ragged
 pub mod Refusals
 pub mod WellMade
 pub mod Parsed

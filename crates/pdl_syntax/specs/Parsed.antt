@@ -3,23 +3,24 @@ use Rattle.std.specs.Prelude.{◌≡◌, ℕ, List, if◌then◌else◌, Option,
 use Rattle.pdl_lex.specs.declared.Token.{Token}
 use Rattle.pdl_lexemes.specs.declared.Lexeme.{Lexeme}
 use Rattle.pdl_lexemes.specs.Lexing.{lexemes_of}
-use Rattle.pdl_lexemes.specs.Depth.{is_too_deep, has_large, ragged_in}
+use Rattle.pdl_lexemes.specs.Depth.{is_too_deep, has_large}
 use Rattle.pdl_syntax.specs.declared.parser.ParseFault.{ParseFault}
 use Rattle.pdl_syntax.specs.declared.parser.ParseFault.TheVariants.{TooDeep, NumberTooLarge, Syntax, Ragged, NoMemory}
 use Rattle.pdl_syntax.specs.declared.tree.Statement.{Statement}
 use Rattle.pdl_syntax.specs.StatementTree.{StatementTree, statement_of}
 use Rattle.pdl_syntax.specs.StatementReading.{read_statement}
+use Rattle.pdl_syntax.specs.Ragged.{in_statement}
 
-abbrev pub unless_ragged : List Lexeme → Option StatementTree → Result StatementTree ParseFault
-unless_ragged lexemes None = Err Syntax
-unless_ragged lexemes (Some s) = if ragged_in lexemes then Err Ragged else Ok s
+abbrev pub unless_ragged : Option StatementTree → Result StatementTree ParseFault
+unless_ragged None = Err Syntax
+unless_ragged (Some s) = if in_statement s then Err Ragged else Ok s
 
 -- the checks in their order: too deep, a number too large, no statement, a ragged list
 abbrev pub checked_lexemes : List ℕ → List Lexeme → Result StatementTree ParseFault
 checked_lexemes source lexemes =
     if is_too_deep lexemes then Err TooDeep
     else (if has_large lexemes then Err NumberTooLarge
-    else unless_ragged lexemes (read_statement source lexemes))
+    else unless_ragged (read_statement source lexemes))
 
 -- the statement that the tokens of a text spell, or the first check that they fail
 unfoldable pub parsed : List ℕ → List Token → Result StatementTree ParseFault

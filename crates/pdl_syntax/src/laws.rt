@@ -8,7 +8,7 @@ ghost use Rattle.pdl_syntax.specs.TreeOf.{tree_of, args_of};
 ghost use Rattle.pdl_syntax.specs.declared.tree.Arg.{Arg};
 ghost use Rattle.pdl_syntax.specs.declared.tree.Expr.{Call};
 
-use pdl_lexemes::{lists_are_arrays, lists_are_their_grammar, ragged_is_held};
+use pdl_lexemes::{lists_are_arrays, lists_are_their_grammar, ragged_is_scanned};
 
 /// A statement is read exactly where the grammar spells it.
 pub fn reading_is_the_grammar()
@@ -30,14 +30,16 @@ pub fn parsing_is_the_grammar()
     ensures { TokensAreParsed }
 {
     lists_are_their_grammar();
-    ragged_is_held();
+    lists_are_arrays();
+    ragged_is_scanned();
 }
 
-/// The list literals of a spelled statement are arrays, and its numbers are from 0 up.
+/// The list literals of a spelled statement that holds no ragged one are arrays, and its numbers are from 0 up.
 pub fn literals_are_arrays()
     ensures { LiteralsAreArrays }
 {
     lists_are_arrays();
+    ragged_is_scanned();
 }
 
 /// The tree of a call has the trees of its arguments in their order.

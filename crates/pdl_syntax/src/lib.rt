@@ -9,6 +9,7 @@ mod literal;
 mod parser;
 mod parts;
 mod peek;
+mod ragged;
 mod statement;
 #[cfg(test)]
 mod tests;

@@ -1,6 +1,6 @@
 //! List literals as arrays.
 
-ghost use Rattle.std.specs.Prelude.{◌≡◌, ◌∷◌, [], length, unwrap_or};
+ghost use Rattle.std.specs.Prelude.{◌≡◌, ◌∷◌, [], suc, length, unwrap_or};
 ghost use Rattle.pdl_shape.specs.Shape.{IsDims};
 ghost use Rattle.pdl_lexemes.specs.Answers.{Gives};
 ghost use Rattle.pdl_lexemes.specs.Lists.{type_of};
@@ -39,14 +39,14 @@ fn round_literal<'a>(alloc: Global, tokens: &Lexemes<'a>) -> Result<(Expr, Lexem
 }
 
 fn list_expr(alloc: Global, row: Row) -> Expr
-    requires { IsDims (unwrap_or row.shape (length row.elems.items ∷ [])) }
+    requires { IsDims (unwrap_or row.shape (suc (length row.elems.items) ∷ [])) }
     ensures { tree_of result ≡ literal_of row.shape row.elems.items }
 {
     let Row { shape, elems } = row;
     let ty = type_of(elems.as_slice());
     let dims = match shape {
         Some(sizes) => dims(alloc, sizes.list()),
-        None => flat(alloc, elems.len()),
+        None => too_long(alloc, elems.len()),
     };
     Expr::List(Made {
         ty,
@@ -55,11 +55,12 @@ fn list_expr(alloc: Global, row: Row) -> Expr
     })
 }
 
-fn flat(alloc: Global, count: usize) -> Dims
-    requires { IsDims (count ∷ []) }
-    ensures { result ≡ count ∷ [] }
+// The dimension of a ragged list, by which it is known: it is longer by one than the list has numbers.
+fn too_long(alloc: Global, count: usize) -> Dims
+    requires { IsDims (suc count ∷ []) }
+    ensures { result ≡ suc count ∷ [] }
 {
-    dims(alloc, &[count as u32])
+    dims(alloc, &[count as u32 + 1])
 }
 
 fn dims(alloc: Global, sizes: &[u32]) -> Dims

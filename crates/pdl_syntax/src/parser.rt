@@ -9,10 +9,10 @@ ghost use Rattle.pdl_syntax.specs.StatementTree.{statement_of};
 ghost use Rattle.pdl_syntax.specs.WellMade.{IsWellMade};
 
 use crate::laws::{literals_are_arrays, parsing_is_the_grammar};
-use crate::statement;
 use crate::tree::Statement;
+use crate::{ragged, statement};
 use pdl_lex::{Token, tokens_are_spans};
-use pdl_lexemes::{Lexeme, Lexemes, Refusal, has_large, holds_ragged, lexemes};
+use pdl_lexemes::{Lexeme, Lexemes, Refusal, has_large, lexemes};
 use std::alloc::{AllocError, Global};
 
 /// Why the tokens of a text are no statement. Where several hold, the first one is answered.
@@ -71,28 +71,19 @@ fn read(alloc: Global, text: &[u8], lexemes: &[Lexeme]) -> Result<Statement, Par
             match statement::statement(alloc, text, tokens.len() + 1, &tokens) {
                 Err(Refusal::NoMemory) => Err(ParseFault::NoMemory),
                 Err(Refusal::Refused) => Err(ParseFault::Syntax),
-                Ok(statement) => checked(alloc, &tokens, statement),
+                Ok(statement) => unless_ragged(statement),
             }
         }
     }
 }
 
 // The statement, unless a list in it is ragged.
-fn checked(
-    alloc: Global,
-    tokens: &Lexemes<'_>,
-    statement: Statement,
-) -> Result<Statement, ParseFault>
-    ensures { IsParsed (unless_ragged tokens.now (Some (statement_of statement))) result }
+fn unless_ragged(statement: Statement) -> Result<Statement, ParseFault>
+    ensures { IsParsed (unless_ragged (Some (statement_of statement))) result }
 {
-    match holds_ragged(alloc, tokens) {
-        Err(_) => Err(ParseFault::NoMemory),
-        Ok(ragged) => {
-            if ragged {
-                Err(ParseFault::Ragged)
-            } else {
-                Ok(statement)
-            }
-        }
+    if ragged::in_statement(&statement) {
+        Err(ParseFault::Ragged)
+    } else {
+        Ok(statement)
     }
 }

@@ -1,10 +1,11 @@
-use Rattle.std.proofs.Common.{◌≡◌, ◌∙◌, ◌-◌, ◌+◌, suc, sym, ap}
+use Rattle.std.proofs.Common.{◌≡◌, Some, ◌∙◌, ◌-◌, ◌+◌, suc, sym, ap}
 use Rattle.pdl_syntax.specs.Tree.{none, value}
 use Rattle.pdl_syntax.specs.TreeOf.{tree_of, args_of}
-use Rattle.pdl_syntax.specs.Reading.{reader, level_at, chain_at, methods_at, more_at, maybe_at}
+use Rattle.pdl_syntax.specs.Reading.{reader, level_at, unary_at, chain_at, methods_at, more_at, maybe_at}
 use Rattle.pdl_syntax.proofs.Turns.{one_less, chain_stop, chain_turn, methods_stop, methods_turn, more_turn, grown_above}
-use Rattle.pdl_syntax.proofs.Growing.{level_read, level_unread, grown_stop}
-use Rattle.pdl_syntax.proofs.Peeks.{no_operator}
+use Rattle.pdl_syntax.proofs.Growing.{level_read, level_unread, grown_ends}
+use Rattle.pdl_syntax.proofs.StatementTurns.{pass_on}
+use Rattle.std.proofs.lemmas.Result.{err_from_is_err_and}
 use Rattle.pdl_syntax.proofs.expr.+parser.Goals as goal
 
 pub chain-returns-in-None : goal.chain-returns-in-None
@@ -32,10 +33,25 @@ level_expr-returns t c =
     let same = level_read c.args.source.now f c.args.level c.args.tokens.now c.in_ok-first.rest (tree_of c.in_ok-first.first) c.in_ok-first.ensures.read in
     record { read = rw same c.grown.ensures.read }
 
-pub grown-returns-then-begins_operator : goal.grown-returns-then-begins_operator
-grown-returns-then-begins_operator t c =
+pub level_expr-returns-in_err-first : goal.level_expr-returns-in_err-first
+level_expr-returns-in_err-first t c =
+    let source = c.args.source.now in
+    let f = reader source c.args.fuel in
+    let p = err_from_is_err_and c.from_residual.result c.from_residual.ensures.1 in
+    record {
+      read =
+          rw (p.1, p.2)
+          (pass_on c.in_err-first.field-0.0 (unary_at source f c.args.tokens.now) (level_at source f c.args.level c.args.tokens.now)
+          c.in_err-first.ensures.read (level_unread source f c.args.level c.args.tokens.now));
+    }
+
+pub grown-returns-then-not-begins_operator : goal.grown-returns-then-not-begins_operator
+grown-returns-then-not-begins_operator t c =
     let f = reader c.args.source.now c.args.fuel in
-    record { read = grown_stop c.args.source.now f c.args.level (tree_of c.args.first) c.args.tokens.now (no_operator c.args.level c.args.tokens.now refl) }
+    record {
+      read = grown_ends c.args.source.now f c.args.level (tree_of c.args.first) c.args.tokens.now (sym c.begins_operator.ensures ∙ c.if-not-begins_operator.true)
+          ∙ ap (λ ts. Some (tree_of c.args.first, ts)) (sym c.copy-then-not-begins_operator.ensures);
+    }
 
 pub grown-returns : goal.grown-returns
 grown-returns t c =
