@@ -11,8 +11,6 @@ mod planning;
 mod resolving;
 mod sizing;
 mod slicing;
-#[cfg(test)]
-mod tests;
 
 ghost use Rattle.std.specs.Prelude.{◌≡◌};
 

@@ -8,8 +8,6 @@
 #![tactic(auto)]
 
 mod cursors;
-#[cfg(test)]
-mod tests;
 mod walk;
 
 pub use walk::BroadcastWalk;

@@ -29,6 +29,3 @@ pub use std::alloc::AllocError as NoMemory;
 pub use steps::{Steps, new_steps, tick};
 pub use stretching::stretched;
 pub use window::{Strided, strided_dims, strided_get, strided_type};
-
-#[cfg(test)]
-mod tests;

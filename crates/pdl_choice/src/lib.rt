@@ -14,8 +14,6 @@ mod laws;
 mod masks;
 mod reach;
 mod rounds;
-#[cfg(test)]
-mod tests;
 mod windows;
 
 pub use answers::{Choice, ChoiceFault, NoMemory, Places};

@@ -18,8 +18,6 @@ mod reading;
 mod resolve;
 mod scope;
 mod stmts;
-#[cfg(test)]
-mod tests;
 mod tree;
 
 pub use fault::KernelFault;

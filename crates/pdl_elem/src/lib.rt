@@ -67,6 +67,3 @@ pub enum BinaryOp {
 /// `/` or `%` was asked for with the divisor 0.
 #[derive(Clone, Copy, PartialEq, Eq, Debug)]
 pub struct DivideByZero;
-
-#[cfg(test)]
-mod tests;

@@ -8,7 +8,5 @@
 
 mod engine;
 mod layouts;
-#[cfg(test)]
-mod tests;
 
 pub use engine::{ArrayId, Engine, ViewFault};

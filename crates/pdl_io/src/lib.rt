@@ -18,6 +18,3 @@ pub use mem_sink::MemSink;
 pub use mem_source::MemSource;
 pub use std::alloc::AllocError as NoMemory;
 pub use traits::{Failed, Sink, Source, write_all};
-
-#[cfg(test)]
-mod tests;

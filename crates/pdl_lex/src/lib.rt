@@ -5,8 +5,6 @@ mod cutter;
 mod laws;
 mod lexer;
 mod parts;
-#[cfg(test)]
-mod tests;
 
 pub use cutter::{Mode, StatementCutter};
 pub use laws::{joining_laws, settled_laws, token_meaning, tokens_are_spans};

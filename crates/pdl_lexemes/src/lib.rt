@@ -13,8 +13,6 @@ pub mod list;
 pub mod peek;
 mod refusal;
 pub mod sizes;
-#[cfg(test)]
-mod tests;
 
 pub use checks::has_large;
 pub use laws::{every_sign_is_known, lists_are_arrays, lists_are_their_grammar, ragged_is_scanned};

@@ -41,6 +41,3 @@ impl From<AllocError> for OpFault {
         OpFault::NoMemory
     }
 }
-
-#[cfg(test)]
-mod tests;

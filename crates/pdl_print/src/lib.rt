@@ -45,6 +45,3 @@ fn settled(done: Result<(), NoMemory>, into: &mut Vec<u8>, mark: usize) -> Resul
         }
     }
 }
-
-#[cfg(test)]
-mod tests;

@@ -93,6 +93,3 @@ impl From<AllocError> for ReduceFault {
         ReduceFault::NoMemory
     }
 }
-
-#[cfg(test)]
-mod tests;

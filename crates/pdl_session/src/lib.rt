@@ -29,6 +29,3 @@ mod views;
 
 pub use fault::StepFault;
 pub use session::Session;
-
-#[cfg(test)]
-mod tests;

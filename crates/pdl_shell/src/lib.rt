@@ -16,6 +16,3 @@ mod words;
 
 pub use run::run_shell;
 pub use status::Status;
-
-#[cfg(test)]
-mod tests;

@@ -13,8 +13,6 @@ mod refusing;
 mod resolving;
 mod shapes;
 mod signing;
-#[cfg(test)]
-mod tests;
 pub mod written;
 
 use pdl_elem::{Items, Name, Ty};

@@ -8,8 +8,6 @@ ghost use Rattle.pdl_slices.specs.declared.SliceFault.{SliceFault};
 
 mod reader;
 mod reading;
-#[cfg(test)]
-mod tests;
 
 use reader::Reader;
 use std::alloc::{AllocError, Global};

@@ -11,8 +11,6 @@ mod parts;
 mod peek;
 mod ragged;
 mod statement;
-#[cfg(test)]
-mod tests;
 mod tree;
 
 pub use laws::{

@@ -1,0 +1,44 @@
+//! Each public call of each crate once, with values from outside: a module a crate. They stand here
+//! and not in the crates, since a crate with tests of its own is proved a second time for them.
+#![tactic(auto)]
+
+#[cfg(test)]
+mod affine;
+#[cfg(test)]
+mod arrays;
+#[cfg(test)]
+mod broadcast;
+#[cfg(test)]
+mod buf;
+#[cfg(test)]
+mod choice;
+#[cfg(test)]
+mod code;
+#[cfg(test)]
+mod elem;
+#[cfg(test)]
+mod engine;
+#[cfg(test)]
+mod io;
+#[cfg(test)]
+mod lex;
+#[cfg(test)]
+mod lexemes;
+#[cfg(test)]
+mod ops;
+#[cfg(test)]
+mod print;
+#[cfg(test)]
+mod reduce;
+#[cfg(test)]
+mod session;
+#[cfg(test)]
+mod shape;
+#[cfg(test)]
+mod shell;
+#[cfg(test)]
+mod sig;
+#[cfg(test)]
+mod slices;
+#[cfg(test)]
+mod syntax;
