@@ -1,6 +1,6 @@
 //! Tokens as lexemes.
 
-ghost use Rattle.std.specs.Prelude.{◌≡◌, ◌≤◌, IfOk, bytes_eq};
+ghost use Rattle.std.specs.Prelude.{◌≡◌, ◌≤◌, IfOk, Some, if◌then◌else◌, bytes_eq};
 ghost use Rattle.pdl_lexemes.specs.Bytes.{bytes_at};
 ghost use Rattle.pdl_lexemes.specs.Lexing.{found_in, keywords, word_kinds, signs, word_of, sign_of, number_of, with_digit, lexeme_of, lexemes_of};
 
@@ -18,118 +18,55 @@ pub fn bytes(source: &[u8], span: Span) -> &[u8]
     &source[from..to]
 }
 
-// Whether two texts are the same.
-fn same(text: &[u8], other: &[u8]) -> bool
-    ensures { result ≡ bytes_eq text.now other.now }
+// The value for this word, where the text is the word.
+fn or_found<T: Copy>(text: &[u8], word: &[u8], value: T, others: Option<T>) -> Option<T>
+    ensures { result ≡ (if bytes_eq text.now word.now then Some value else others) }
 {
-    text == other
+    if text == word { Some(value) } else { others }
 }
 
 /// The keyword that a text is, if any: a word of the language that names no call.
 pub fn keyword_named(text: &[u8]) -> Option<Keyword>
     ensures { result ≡ found_in keywords text.now }
 {
-    if same(text, b"my") {
-        return Some(Keyword::My);
-    }
-    if same(text, b"p") {
-        return Some(Keyword::Print);
-    }
-    if same(text, b"print") {
-        return Some(Keyword::Print);
-    }
-    if same(text, b"undef") {
-        return Some(Keyword::Undef);
-    }
-    if same(text, b"vars") {
-        return Some(Keyword::Vars);
-    }
-    if same(text, b"pp_def") {
-        return Some(Keyword::PpDef);
-    }
-    if same(text, b"watch") {
-        return Some(Keyword::Watch);
-    }
-    if same(text, b"unwatch") {
-        return Some(Keyword::Unwatch);
-    }
-    if same(text, b"pdl") {
-        return Some(Keyword::Pdl);
-    }
-    if same(text, b"info") {
-        return Some(Keyword::Info);
-    }
-    if same(text, b"sever") {
-        return Some(Keyword::Sever);
-    }
-    if same(text, b"reshape") {
-        return Some(Keyword::Reshape);
-    }
-    None
+    let found = None;
+    let found = or_found(text, b"reshape", Keyword::Reshape, found);
+    let found = or_found(text, b"sever", Keyword::Sever, found);
+    let found = or_found(text, b"info", Keyword::Info, found);
+    let found = or_found(text, b"pdl", Keyword::Pdl, found);
+    let found = or_found(text, b"unwatch", Keyword::Unwatch, found);
+    let found = or_found(text, b"watch", Keyword::Watch, found);
+    let found = or_found(text, b"pp_def", Keyword::PpDef, found);
+    let found = or_found(text, b"vars", Keyword::Vars, found);
+    let found = or_found(text, b"undef", Keyword::Undef, found);
+    let found = or_found(text, b"print", Keyword::Print, found);
+    let found = or_found(text, b"p", Keyword::Print, found);
+    or_found(text, b"my", Keyword::My, found)
 }
 
-// What a word is beside the name of a call, if anything.
 fn word_kind(text: &[u8]) -> Option<WordKind>
     ensures { result ≡ found_in word_kinds text.now }
 {
-    if same(text, b"byte") {
-        return Some(WordKind::OfType(Ty::Byte));
-    }
-    if same(text, b"short") {
-        return Some(WordKind::OfType(Ty::Short));
-    }
-    if same(text, b"ushort") {
-        return Some(WordKind::OfType(Ty::Ushort));
-    }
-    if same(text, b"long") {
-        return Some(WordKind::OfType(Ty::Long));
-    }
-    if same(text, b"longlong") {
-        return Some(WordKind::OfType(Ty::Longlong));
-    }
-    if same(text, b"slice") {
-        return Some(WordKind::View);
-    }
-    if same(text, b"xchg") {
-        return Some(WordKind::View);
-    }
-    if same(text, b"mv") {
-        return Some(WordKind::View);
-    }
-    if same(text, b"reorder") {
-        return Some(WordKind::View);
-    }
-    if same(text, b"dummy") {
-        return Some(WordKind::View);
-    }
-    if same(text, b"diagonal") {
-        return Some(WordKind::View);
-    }
-    if same(text, b"clump") {
-        return Some(WordKind::View);
-    }
-    if same(text, b"flat") {
-        return Some(WordKind::View);
-    }
-    if same(text, b"squeeze") {
-        return Some(WordKind::View);
-    }
-    if same(text, b"index") {
-        return Some(WordKind::View);
-    }
-    if same(text, b"where") {
-        return Some(WordKind::View);
-    }
-    if same(text, b"range") {
-        return Some(WordKind::View);
-    }
-    if same(text, b"Pars") {
-        return Some(WordKind::Pars);
-    }
-    if same(text, b"Code") {
-        return Some(WordKind::Code);
-    }
-    None
+    let found = None;
+    let found = or_found(text, b"Code", WordKind::Code, found);
+    let found = or_found(text, b"Pars", WordKind::Pars, found);
+    let found = or_found(text, b"range", WordKind::View, found);
+    let found = or_found(text, b"where", WordKind::View, found);
+    let found = or_found(text, b"index", WordKind::View, found);
+    let found = or_found(text, b"squeeze", WordKind::View, found);
+    let found = or_found(text, b"flat", WordKind::View, found);
+    let found = or_found(text, b"clump", WordKind::View, found);
+    let found = or_found(text, b"diagonal", WordKind::View, found);
+    let found = or_found(text, b"dummy", WordKind::View, found);
+    let found = or_found(text, b"reorder", WordKind::View, found);
+    let found = or_found(text, b"mv", WordKind::View, found);
+    let found = or_found(text, b"xchg", WordKind::View, found);
+    let found = or_found(text, b"slice", WordKind::View, found);
+    let found = or_found(text, b"longlong", WordKind::OfType(Ty::Longlong), found);
+    let found = or_found(text, b"long", WordKind::OfType(Ty::Long), found);
+    let found = or_found(text, b"ushort", WordKind::OfType(Ty::Ushort), found);
+    let found = or_found(text, b"short", WordKind::OfType(Ty::Short), found);
+    or_found(text, b"byte", WordKind::OfType(Ty::Byte), found)
 }
 
 fn word(text: &[u8], span: Span) -> Lexeme

@@ -1,5 +1,5 @@
 -- How far a run has come by the first bytes of a script.
-use Rattle.std.proofs.Common.{◌≡◌, ℕ, ◌+◌, ◌-◌, ◌<◌, ◌≤◌, List, [], ◌∷◌, ◌++◌, map, length, take, Bool, true, false, cond, refl, sym, ◌∙◌, ap, arith, append_assoc}
+use Rattle.std.proofs.Common.{◌≡◌, ℕ, zero, suc, ◌+◌, ◌-◌, ◌<◌, ◌≤◌, List, [], ◌∷◌, ◌++◌, map, length, take, Bool, true, false, cond, refl, sym, ◌∙◌, ap, arith, append_assoc}
 use Rattle.std.specs.Prelude.{nat_lt}
 use Rattle.std.proofs.lemmas.Bool.{ltb-true, ltb-false}
 use Rattle.std.proofs.lemmas.List.{map-append}
@@ -19,7 +19,9 @@ by_bool false when_true when_false = when_false refl
 take_over : (n : ℕ) (xs ys : List ℕ) → length xs ≤ n → take n (xs ++ ys) ≡ xs ++ take (n - length xs) ys
 take_over n [] ys fits = ap (λ k. take k ys) (omega arith)
 take_over zero (x ∷ xs) ys fits = absurd (omega arith)
-take_over (suc n) (x ∷ xs) ys fits = ap (λ zs. x ∷ zs) (take_over n xs ys (omega arith))
+take_over (suc n) (x ∷ xs) ys fits =
+    let left : n - length xs ≡ suc n - suc (length xs) = omega arith in
+    ap (λ zs. x ∷ zs) (take_over n xs ys (omega arith) ∙ ap (λ k. xs ++ take k ys) left)
 
 module _ (begin : BeginThePieces) (stay : StayCertain) (keep : Bool) (bytes more : List ℕ) where
   abbrev Front : Type 0
