@@ -6,7 +6,7 @@ use crate::escapes::write_escaped;
 use crate::tree::write_statement;
 use pdl_lex::{LexFault, tokens};
 use pdl_syntax::{ParseFault, Statement, parse};
-use std::alloc::Global;
+use std::alloc::{AllocError, Global};
 
 // The statement of a text, whose tokens are read first.
 fn read(alloc: Global, text: &[u8]) -> Result<Statement, ParseFault> {
@@ -58,16 +58,20 @@ pub fn form_answer(alloc: Global, line: &mut Cursor<'_>) -> Result<Vec<u8>, Unre
     }
 }
 
-/// What a line's statement says.
-pub fn tree_answer(alloc: Global, line: &mut Cursor<'_>) -> Result<Vec<u8>, Unread> {
-    let text = line.text(alloc)?;
-    let statement = match read(alloc, &text) {
-        Ok(statement) => statement,
-        Err(fault) => return Ok(Vec::from_slice(alloc, fault_text(fault).as_bytes())?),
-    };
+// What a statement says.
+fn told(alloc: Global, statement: &Statement) -> Result<Vec<u8>, AllocError> {
     let mut written = Vec::new(alloc);
-    write_statement(alloc, &mut written, &statement)?;
+    write_statement(alloc, &mut written, statement)?;
     let mut answer = Vec::new(alloc);
     write_escaped(&mut answer, &written)?;
     Ok(answer)
+}
+
+/// What a line's statement says.
+pub fn tree_answer(alloc: Global, line: &mut Cursor<'_>) -> Result<Vec<u8>, Unread> {
+    let text = line.text(alloc)?;
+    match read(alloc, &text) {
+        Ok(statement) => Ok(told(alloc, &statement)?),
+        Err(fault) => Ok(Vec::from_slice(alloc, fault_text(fault).as_bytes())?),
+    }
 }

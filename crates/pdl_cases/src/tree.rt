@@ -63,7 +63,7 @@ fn write_made(alloc: Global, out: &mut Vec<u8>, made: &pdl_buf::Made) -> Written
         write_number(alloc, out, i64::from(*size))?;
     }
     write_text(out, b":")?;
-    for n in made.elems.as_slice() {
+    for n in &made.elems.to_vec(alloc)? {
         write_text(out, b" ")?;
         write_number(alloc, out, *n)?;
     }

@@ -13,7 +13,7 @@ ghost use Rattle.pdl_engine.specs.State.{no_arrays, is_fresh, Joins, Names, Path
 
 use crate::layouts::layout;
 use pdl_affine::PlanFault;
-use pdl_buf::{NoMemory, Steps, Strided};
+use pdl_buf::{Elements, NoMemory, Steps, Strided};
 use pdl_choice::ChoiceFault;
 use pdl_elem::Ty;
 use pdl_nodes::Nodes;
@@ -164,7 +164,7 @@ impl Engine {
         &mut self,
         ty: Ty,
         dims: &Dims,
-        elems: &[i64],
+        elems: &Elements,
         steps: &mut Steps<L>,
     ) -> Result<ArrayId, NoMemory>
         requires { IsMade ty dims.now elems.now }

@@ -17,7 +17,7 @@ use crate::origin::Layout;
 use crate::table::Table;
 use crate::views::{root_node, view_node};
 use crate::{pull, push, readying};
-use pdl_buf::{NoMemory, Steps, Strided, buf_of, strided};
+use pdl_buf::{Elements, NoMemory, Steps, Strided, buf_of_elements, strided};
 use pdl_elem::Ty;
 use pdl_shape::{Dims, dims_list, shape_laws};
 use pdl_world::{Trans, assignment_laws, growth_laws};
@@ -118,7 +118,7 @@ impl Nodes {
         &mut self,
         ty: Ty,
         dims: &Dims,
-        elems: &[i64],
+        elems: &Elements,
         steps: &mut Steps<L>,
     ) -> Result<u64, NoMemory>
         requires { IsMade ty dims.now elems.now }
@@ -136,7 +136,7 @@ impl Nodes {
             return Err(AllocError);
         };
         let _limits = dims_list(dims);
-        let kept = buf_of(self.alloc, ty, elems, steps)?;
+        let kept = buf_of_elements(self.alloc, ty, elems, steps)?;
         let node = root_node(self.alloc, id, ty, dims, kept);
         insert(&mut self.table, &mut self.holds, id, node)?;
         self.next = next;

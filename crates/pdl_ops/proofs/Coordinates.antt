@@ -68,10 +68,9 @@ element_small Yvals ds p = omega (arith, y_at ds p, mod-le (p / get_or ds 0 1) (
 long_holds : (m : ℕ) → m ≤ 1048576 → InRange Long (pos m)
 long_holds m h = grind (arith, h)
 
-pub long_holds_elements : (kind : Fill) (ds : List ℕ) → size_of ds ≤ extent_limit → All (InRange Long) (map (λ p. pos (fill_element kind ds p)) (range_with_len 0 (size_of ds)))
-long_holds_elements kind ds h k d below =
-    let f : ℕ → ℤ = λ p. pos (fill_element kind ds p) in
-    let n : ℕ = size_of ds in
+pub long_holds_block : (kind : Fill) (ds : List ℕ) (first n : ℕ) → first + n ≤ size_of ds → size_of ds ≤ extent_limit → All (InRange Long) (map (λ i. pos (fill_element kind ds (first + i))) (range_with_len 0 n))
+long_holds_block kind ds first n inside h k d below =
+    let f : ℕ → ℤ = λ i. pos (fill_element kind ds (first + i)) in
     let l : length (map f (range_with_len 0 n)) ≡ n = length-map-range_with_len f 0 n in
     let small : k < n = omega (arith, l, below) in
-    subst (InRange Long) (sym (get_or-map-range_with_len f 0 n k k d small (omega arith))) (long_holds (fill_element kind ds k) (omega (arith, element_small kind ds k, h, small)))
+    subst (InRange Long) (sym (get_or-map-range_with_len f 0 n k k d small (omega arith))) (long_holds (fill_element kind ds (first + k)) (omega (arith, element_small kind ds (first + k), h, inside, small)))

@@ -1,6 +1,6 @@
 -- Lists that are made from others number by number.
-use Rattle.std.proofs.Common.{◌≡◌, ℕ, suc, ◌+◌, ◌<◌, ◌≤◌, ℤ, pos, List, [], ◌∷◌, ◌++◌, length, set, take, map, All, arith, refl, ap, ap₂, sym, ◌∙◌}
-use Rattle.std.proofs.lemmas.List.{take_more, take_more_set, take_all}
+use Rattle.std.proofs.Common.{◌≡◌, ℕ, suc, ◌+◌, ◌<◌, ◌≤◌, ℤ, pos, List, [], ◌∷◌, ◌++◌, length, set, take, drop, map, All, arith, refl, ap, ap₂, sym, ◌∙◌}
+use Rattle.std.proofs.lemmas.List.{ext_get_or, get_or-drop, get_or-take, length-drop, length-take-le, take_more, take_more_set, take_all}
 use Rattle.std.proofs.lemmas.List.FromFn.{length-map-range_with_len, get_or-map-range_with_len}
 use Rattle.std.specs.List.{range_with_len}
 use Rattle.pdl_elem.specs.declared.Ty.{Ty}
@@ -42,3 +42,15 @@ pub set_all : (f : ℕ → ℤ) (n : ℕ) (es : List ℤ) (k : ℕ) → length e
 set_all f n es k l h t =
     let m : length (map f (range_with_len 0 n)) ≡ n = length-map-range_with_len f 0 n in
     sym (take_all k es (omega arith)) ∙ t ∙ take_all k (map f (range_with_len 0 n)) (omega arith)
+
+-- a part of a list that is made number by number
+pub part_of_range : (f : ℕ → ℤ) (n k m : ℕ) → k + m ≤ n → map (λ (i : ℕ). f (k + i)) (range_with_len 0 m) ≡ take m (drop k (map f (range_with_len 0 n)))
+part_of_range f n k m h =
+    let all : List ℤ = map f (range_with_len 0 n) in
+    let l : length all ≡ n = length-map-range_with_len f 0 n in
+    let part : length (take m (drop k all)) ≡ m = length-take-le m (drop k all) (omega (arith, l, length-drop k all)) in
+    let made : length (map (λ (i : ℕ). f (k + i)) (range_with_len 0 m)) ≡ m = length-map-range_with_len (λ (i : ℕ). f (k + i)) 0 m in
+    ext_get_or (pos 0) _ _ (made ∙ sym part)
+    (λ i inside. get_or-map-range_with_len (λ (i : ℕ). f (k + i)) 0 m i i (pos 0) (omega (arith, made, inside)) (omega arith)
+    ∙ sym (get_or-take m (drop k all) i (pos 0) (omega (arith, made, inside)) ∙ get_or-drop k all i (pos 0)
+    ∙ get_or-map-range_with_len f 0 n (k + i) (k + i) (pos 0) (omega (arith, made, inside)) (omega arith)))

@@ -18,7 +18,7 @@ use crate::given::Given;
 use crate::outcome::Outcome;
 use crate::scope::Scope;
 use crate::views::slice::slice;
-use pdl_buf::{Made, Steps};
+use pdl_buf::{Elements, Made, Steps};
 use pdl_elem::{Name, Ty};
 use pdl_engine::ArrayId;
 use pdl_machine::{Builtin, Fault, builtin_named};
@@ -37,7 +37,10 @@ impl Scope {
         ensures grown { Grows self.old self.new }
     {
         match dims_of(self.alloc(), &[]) {
-            Ok(dims) => self.make(number_type(number), &dims, &[number], steps),
+            Ok(dims) => {
+                let elems = Elements::new(vec![in self.alloc(); number; 1]?);
+                self.make(number_type(number), &dims, &elems, steps)
+            }
             Err(_) => unreachable!(),
         }
     }
@@ -95,7 +98,7 @@ impl Scope {
         ensures grown { Grows self.old self.new }
     {
         match outputs {
-            [made] => self.make(made.ty, &made.dims, made.elems.as_slice(), steps),
+            [made] => self.make(made.ty, &made.dims, &made.elems, steps),
             _ => Err(StepFault::Script(Fault::WrongArguments)),
         }
     }
@@ -113,7 +116,7 @@ impl Scope {
         ensures grown { Grows self.old self.new }
     {
         match self.outcome(builtin, given, steps) {
-            Ok(Outcome::New(made)) => self.make(made.ty, &made.dims, made.elems.as_slice(), steps),
+            Ok(Outcome::New(made)) => self.make(made.ty, &made.dims, &made.elems, steps),
             Ok(Outcome::View(trans)) => self.view_first(given, trans),
             Err(fault) => Err(fault),
         }

@@ -22,7 +22,7 @@ use crate::fault::StepFault;
 use crate::given::Given;
 use crate::kernels::Kernels;
 use crate::names::Names;
-use pdl_buf::{Made, Steps};
+use pdl_buf::{Elements, Made, Steps};
 use pdl_elem::{Name, Ty};
 use pdl_engine::{ArrayId, Engine};
 use pdl_kernel::Kernel;
@@ -128,7 +128,7 @@ impl Scope {
         &mut self,
         ty: Ty,
         dims: &Dims,
-        elems: &[i64],
+        elems: &Elements,
         steps: &mut Steps<L>,
     ) -> Result<ArrayId, StepFault>
         requires { IsMade ty dims.now elems.now }
@@ -175,7 +175,7 @@ impl Scope {
         let mut names = self.names.copied()?;
         for i in 0..bound.len().min(outputs.len()) {
             let made = &outputs[i];
-            let id = self.make(made.ty, &made.dims, made.elems.as_slice(), steps)?;
+            let id = self.make(made.ty, &made.dims, &made.elems, steps)?;
             names.bind(&bound[i], id)?;
         }
         self.names = names;

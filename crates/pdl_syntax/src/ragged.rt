@@ -14,7 +14,7 @@ use pdl_shape::elements_of;
 fn is_no_array(made: &Made) -> bool
     ensures { result ≡ is_no_array made.now.dims made.now.elems }
 {
-    made.elems.as_slice().len() != elements_of(&made.dims) as usize
+    made.elems.len() != elements_of(&made.dims) as usize
 }
 
 // Whether a list in an expression is ragged.

@@ -237,5 +237,6 @@ fn reads_listed_elements(rt: HostRuntime) -> Result<(), Fail> {
     let mut two = [0; 2];
     elems.read(1, &mut two);
     assert_eq!(rt; two, [8, 9]);
+    assert_eq!(rt; elems.to_vec(rt.alloc())?.as_slice(), [7, 8, 9].as_slice());
     Ok(())
 }

@@ -4,7 +4,7 @@ ghost use Rattle.pdl_world.specs.Formula.{is_well_formed};
 ghost use Rattle.pdl_world.specs.Sound.{IsLive};
 
 use pdl_affine::Affine;
-use pdl_buf::{NoMemory, Steps, new_steps, strided_dims, strided_get};
+use pdl_buf::{Elements, NoMemory, Steps, new_steps, strided_dims, strided_get};
 use pdl_elem::{Items, Ty, wrap_all};
 use pdl_engine::*;
 use pdl_shape::{Dims, dims_list, dims_of, elements_of};
@@ -38,7 +38,8 @@ fn six<L: Ledger>(
     let dims = row(alloc, 6)?;
     let mut numbers = [0, 1, 2, 3, 4, 5];
     wrap_all(Ty::Long, &mut numbers);
-    engine.make(Ty::Long, &dims, &numbers, steps)
+    let elems = Elements::new(numbers.to_vec(alloc)?);
+    engine.make(Ty::Long, &dims, &elems, steps)
 }
 
 // The elements from one to another, by a step.

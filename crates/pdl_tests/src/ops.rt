@@ -28,7 +28,7 @@ fn works_over_joined_dimensions(rt: HostRuntime) -> Result<(), Fail> {
     assert_eq!(rt; made.ty, Ty::Short);
     assert_eq!(rt; dims_list(&made.dims), [3, 2].as_slice());
     assert_eq!(rt;
-        made.elems.as_slice(),
+        made.elems.to_vec(alloc)?.as_slice(),
         [240, -9, -8, -50, -299, -298].as_slice()
     );
     Ok(())
@@ -67,10 +67,16 @@ fn changes_each_element(rt: HostRuntime) -> Result<(), Fail> {
     let shorts = numbers(alloc, Ty::Short, &[10, 300, -32768])?;
     let three = whole(alloc, &shorts, &[3])?;
     let negated = unary_each(alloc, UnaryOp::Neg, &three)?;
-    assert_eq!(rt; negated.elems.as_slice(), [-10, -300, -32768].as_slice());
+    assert_eq!(rt;
+        negated.elems.to_vec(alloc)?.as_slice(),
+        [-10, -300, -32768].as_slice()
+    );
     let bytes = convert(alloc, Ty::Byte, &three)?;
     assert_eq!(rt; bytes.ty, Ty::Byte);
-    assert_eq!(rt; bytes.elems.as_slice(), [10, 44, 0].as_slice());
+    assert_eq!(rt;
+        bytes.elems.to_vec(alloc)?.as_slice(),
+        [10, 44, 0].as_slice()
+    );
     Ok(())
 }
 
@@ -78,7 +84,10 @@ fn changes_each_element(rt: HostRuntime) -> Result<(), Fail> {
 fn fills(rt: HostRuntime) -> Result<(), Fail> {
     let plane = shape(rt.alloc(), &[2, 2])?;
     let made = fill(rt.alloc(), Fill::Yvals, Ty::Byte, &plane)?;
-    assert_eq!(rt; made.elems.as_slice(), [0, 0, 1, 1].as_slice());
+    assert_eq!(rt;
+        made.elems.to_vec(rt.alloc())?.as_slice(),
+        [0, 0, 1, 1].as_slice()
+    );
     Ok(())
 }
 

@@ -1,13 +1,12 @@
 -- The elements before this one are set, and its coordinates are known.
-use Rattle.std.proofs.Common.{◌≡◌, ◌/◌, ◌%◌, take, map, pos}
+use Rattle.std.proofs.Common.{◌≡◌, ◌+◌, ◌/◌, ◌%◌, length, take, map, pos}
 use Rattle.std.specs.List.{range_with_len}
-use Rattle.pdl_shape.specs.Shape.{size_of}
 use Rattle.pdl_ops.specs.Fills.{fill_element}
-use Rattle.pdl_ops.proofs.filling.fill_elements.Given as goal
+use Rattle.pdl_ops.proofs.filling.fill_block.Given as goal
 
-abbrev pub invariant-loop-p : goal.invariant-loop-p
-invariant-loop-p l = record {
-  set : take l.p l.into ≡ take l.p (map (λ p. pos (fill_element l.kind l.sizes p)) (range_with_len 0 (size_of l.sizes)));
-  x : l.x ≡ l.p % l.width;
-  y : l.y ≡ l.p / l.width % l.height;
+abbrev pub invariant-loop-i : goal.invariant-loop-i
+invariant-loop-i l = record {
+  set : take l.i l.into ≡ take l.i (map (λ i. pos (fill_element l.kind l.sizes (l.first + i))) (range_with_len 0 (length l.fn.into)));
+  x : l.x ≡ (l.first + l.i) % l.width;
+  y : l.y ≡ (l.first + l.i) / l.width % l.height;
 }

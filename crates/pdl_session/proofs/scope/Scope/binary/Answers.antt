@@ -18,8 +18,7 @@ returns-in-Ok-clause-value g c =
     let same : a ≡ c.args.self.now.arrays = ap (λ (s : State). s.arrays) (both_readied (names_in c.self.inside.names c.self.inside.kernels) c.self.inside.engine c.ready.new.engine c.ready-2.new.engine c.ready.ensures.same c.ready-2.ensures.same ∙ c.self.view_is) in
     let P : Arrays → Type 0 = λ b. Evaluates (and_then (binary_each c.args.op (array_in b c.args.left) (array_in b c.args.right)) (new_root b)) c.make.new.self c.make.result in
     let Q : Result Made Fault → Type 0 = λ x. Evaluates (and_then x (new_root a)) c.make.new.self c.make.result in
-    let R : List ℤ → Type 0 = λ es. Evaluates (new_root a (array_of c.in-Ok.made.ty c.in-Ok.made.dims es)) c.make.new.self c.make.result in
-    subst P same (subst Q (sym c.in-Ok.ensures.value) (subst R c.as_slice.ensures c.make.ensures.value))
+    subst P same (subst Q (sym c.in-Ok.ensures.value) c.make.ensures.value)
 
 pub returns-in-Err-clause-value : goal.returns-in-Err-clause-value
 returns-in-Err-clause-value g c =

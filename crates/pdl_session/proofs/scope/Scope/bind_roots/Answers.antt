@@ -18,13 +18,12 @@ returns-in_err-bind g c =
     let m = c.index-outputs-i.result in
     let id = c.in_ok-id.id in
     let f = c.in_err-bind.field-0.0 in
-    let V : List ℤ → Type 0 = λ es. new_root c.loop-i.self.arrays (array_of m.ty m.dims es) ≡ Ok (c.make.new.self.arrays, id) in
     let within : c.loop-i.i < length xs = omega arith in
     let there : c.loop-i.i < length ms = omega arith in
     let R : Result (Unit {0}) StepFault → Type 0 = Runs (roots_bound old xs ms) old c.make.new.self [] [] in
     subst R (sym (is_fault c.from_residual-in_err-bind.result f c.from_residual-in_err-bind.ensures.1)) (
       name_refused old c.loop-i.self c.make.new.self c.loop-i.names xs ms c.loop-i.i c.index-bound-i.result m id f within there c.index-bound-i.is c.index-outputs-i.is c.loop-i.invariant.so_far
-          (subst V c.as_slice.ensures c.in_ok-id.ensures.value.0) c.in_err-bind.ensures.fault,
+          c.in_ok-id.ensures.value.0 c.in_err-bind.ensures.fault,
       kept_at f old c.make.new.self [] (grows_trans old c.loop-i.self c.make.new.self c.loop-i.invariant.grown c.make.ensures.grown),
     )
 
@@ -35,12 +34,11 @@ loop-i-preserved g c =
     let ms = c.args.outputs.now in
     let m = c.index-outputs-i.result in
     let id = c.in_ok-id.id in
-    let V : List ℤ → Type 0 = λ es. new_root c.loop-i.self.arrays (array_of m.ty m.dims es) ≡ Ok (c.make.new.self.arrays, id) in
     let within : c.loop-i.i < length xs = omega arith in
     let there : c.loop-i.i < length ms = omega arith in
     record {
       so_far = roots_more old c.loop-i.self c.make.new.self c.loop-i.names c.bind.new.self xs ms c.loop-i.i c.index-bound-i.result m id within there c.index-bound-i.is c.index-outputs-i.is c.loop-i.invariant.so_far
-          (subst V c.as_slice.ensures c.in_ok-id.ensures.value.0) c.make.ensures.grown c.in_ok-bind.ensures.ok;
+          c.in_ok-id.ensures.value.0 c.make.ensures.grown c.in_ok-bind.ensures.ok;
       grown = grows_trans old c.loop-i.self c.make.new.self c.loop-i.invariant.grown c.make.ensures.grown;
       live = live_more c.loop-i.self c.make.new.self c.loop-i.names c.bind.new.self c.index-bound-i.result id c.loop-i.invariant.live c.make.ensures.grown c.in_ok-id.ensures.value.1 c.in_ok-bind.ensures.ok;
     }

@@ -16,10 +16,9 @@ pub returns-in-Ok-New-clause-value : goal.returns-in-Ok-New-clause-value
 unfolding placed
 returns-in-Ok-New-clause-value g c =
     let m = c.in-Ok-New.made in
-    let P : List ℤ → Type 0 = λ es. Evaluates (new_root c.outcome.new.self.arrays (array_of m.ty m.dims es)) c.make.new.self c.make.result in
     let Q : State → Type 0 = λ s. Evaluates (new_root s.arrays m) c.make.new.self c.make.result in
     evaluates c.args.builtin c.args.self.now.arrays c.args.given.now (made m) c.make.new.self c.make.result (c.in-Ok-New.ensures.value ∙ ap placed c.in-Ok-New.field-0-is)
-    (subst Q c.outcome.ensures.same (subst P c.as_slice.ensures c.make.ensures.value))
+    (subst Q c.outcome.ensures.same c.make.ensures.value)
 
 pub returns-in-Ok-View-clause-value : goal.returns-in-Ok-View-clause-value
 unfolding placed
