@@ -9,7 +9,7 @@ ghost use Rattle.pdl_world.specs.Paths.{root_of};
 ghost use Rattle.pdl_world.specs.Refused.{view_refusal};
 ghost use Rattle.pdl_world.specs.World.{root, view, dims_in, ty_in, assign};
 ghost use Rattle.pdl_world.specs.Sound.{IsLive, IsSound};
-ghost use Rattle.pdl_engine.specs.State.{no_arrays, is_fresh, Joins, Names, PathIsFresh, SameArrays, StayFresh, TargetIsFresh, outdated, shown_in, waiting, waiting_size};
+ghost use Rattle.pdl_engine.specs.State.{no_arrays, is_fresh, IsLazy, IsLentAs, Joins, Names, OthersWait, TargetWaits, PathIsFresh, SameArrays, StayFresh, TargetIsFresh, outdated, shown_in, waiting, waiting_size};
 
 use crate::layouts::layout;
 use pdl_affine::PlanFault;
@@ -158,6 +158,13 @@ impl Engine {
         self.nodes.lend(id)
     }
 
+    /// A law: what can be lent of a family, and what waits in it (PDL::Dataflow).
+    pub fn lazy_law(&self)
+        ensures { IsLazy self.now }
+    {
+        self.nodes.lazy_law()
+    }
+
     /// A new root of these dimensions and elements, which can be lent. It takes a step for each
     /// number that isn't 0.
     pub fn make<L: Ledger>(
@@ -186,6 +193,7 @@ impl Engine {
         requires well_formed { IsTrue (is_well_formed trans) }
         ensures made { IfOk result (λ id. Joins self.old id (view parent trans) self.new) }
         ensures allowed { OnOk result (view_refusal self.old.world parent trans ≡ None) }
+        ensures lent { IfOk result (λ id. IsLentAs self.old parent id self.new) }
         ensures refused { IfErr result (λ fault. Names fault (view_refusal self.old.world parent trans)) }
         ensures err { OnErr result (self.new ≡ self.old) }
         ensures sound { IsSound self.new.world }
@@ -207,6 +215,7 @@ impl Engine {
         ensures fresh { OnOk result (PathIsFresh self.new id) }
         ensures itself { OnOk result (is_fresh self.new id ≡ true) }
         ensures settled { waiting self.new id ≡ None }
+        ensures others { OthersWait self.old id self.new }
         ensures counted { steps.new ≤ steps.old + (outdated self.old id + waiting_size self.old (waiting self.old id)) }
     {
         self.nodes.ready(id, steps)
@@ -226,6 +235,7 @@ impl Engine {
         ensures others { (u : ℕ) → (root_of self.old.world u ≡ root_of self.old.world id → ⊥) → is_fresh self.old u ≡ true → is_fresh self.new u ≡ true }
         ensures sound { IsSound self.new.world }
         ensures target { TargetIsFresh self.old id self.new }
+        ensures waits { TargetWaits self.old id self.new }
         ensures counted { steps.new ≡ steps.old + length values.now }
     {
         self.nodes.assign(id, values, steps)

@@ -23,7 +23,7 @@ use Rattle.pdl_nodes.specs.Outcomes.{waiting_of}
 use Rattle.pdl_nodes.specs.Outcomes.{outdated_at as rows_outdated_at}
 use Rattle.pdl_nodes.specs.Outcomes.{outdated as rows_outdated}
 use Rattle.pdl_nodes.specs.Outcomes.{waiting_size as rows_waiting_size}
-use Rattle.pdl_nodes.specs.State.{State, base_in, outdated_at, outdated, waiting_at, waiting, waiting_size, target, TargetIsFresh}
+use Rattle.pdl_nodes.specs.State.{State, base_in, outdated_at, outdated, waiting_at, waiting, waiting_size, target, PathIsFresh, TargetIsFresh}
 use Rattle.pdl_nodes.specs.Still.{IsStill}
 use Rattle.pdl_nodes.specs.Worlds.{shape, places_in, places_of, latest, world_of, with_elements}
 use Rattle.pdl_nodes.proofs.Alikes.{base_live}
@@ -42,7 +42,7 @@ window_with f ((k, view p t) ∷ w) v = ap (λ o. cond (eqb k v) (option_and_the
 pub base_are : (rs : Rows) (v : ℕ) → IsStill rs → has rs v ≡ true → base_in (world_of rs) v ≡ (row_at rs v).base
 base_are rs v s h = ap (λ o. option_map_or (λ (x : Window). x.base) o v) (window_with (latest rs) (shape rs) v ∙ (is_seen rs s v h).windows)
 
-places_are : (rs : Rows) (v : ℕ) → places_in (world_of rs) v ≡ places_of rs v
+pub places_are : (rs : Rows) (v : ℕ) → places_in (world_of rs) v ≡ places_of rs v
 places_are rs v = ap (λ o. option_map_or (λ l. l.places) o []) (look_with (latest rs) (shape rs) v)
 
 all_tail : (P : ℕ → Type 0) (x : ℕ) (xs : List ℕ) → All P (x ∷ xs) → All P xs
@@ -110,7 +110,7 @@ pub size_is : (rs : Rows) (hs : Counts) (n : ℕ) (o : Option ℕ) → IsStill r
 size_is rs hs n None s h = refl
 size_is rs hs n (Some u) s h = ap size_of (dims_are rs u s (h u refl))
 
-target_is : (rs : Rows) (v : ℕ) → IsStill rs → has rs v ≡ true → target (world_of rs) v ≡ rows_target rs v
+pub target_is : (rs : Rows) (v : ℕ) → IsStill rs → has rs v ≡ true → target (world_of rs) v ≡ rows_target rs v
 target_is rs v s h =
     ap (λ b. cond (has_repeats (places_in (world_of rs) b)) (root_of (world_of rs) v) b) (base_are rs v s h)
     ∙ ap (λ ps. cond (has_repeats ps) (root_of (world_of rs) v) (row_at rs v).base) (places_are rs (row_at rs v).base)
@@ -125,3 +125,22 @@ target_fresh old new hs gs n m v s t h a k u l r b =
     let base : (row_at old u).base ≡ rows_target old v = sym (base_are old u s g) ∙ b ∙ target_is old v s h in
     fresh_is new u t (a.has_is u ∙ g) ∙ ap (λ x. (row_at new x).mark) (a.base_is u)
     ∙ k (row_at old u).base q.base_has ∙ rw (same (row_at old (row_at old u).base).root (row_at old v).root (q.base_root ∙ root), same (row_at old u).base (rows_target old v) base) refl
+
+-- ---- a path that can be lent
+
+no_cost : (b f : Bool) (n : ℕ) → f ≡ true → cond b (cond f 0 n) 0 ≡ 0
+no_cost true true n e = refl
+no_cost true false n e = absurd (cc)
+no_cost false f n e = refl
+
+no_sum : (xs : List ℕ) → sum_by (λ x. 0) xs ≡ 0
+no_sum [] = refl
+no_sum (x ∷ xs) =
+    let a : sum_by (λ y. 0) (x ∷ xs) ≡ 0 + sum_by (λ y. 0) xs = sum_by-cons (λ y. 0) x xs in
+    let b : sum_by (λ y. 0) xs ≡ 0 = no_sum xs in
+    omega (arith, a, b)
+
+pub none_outdated : (s : State) (v : ℕ) → PathIsFresh s v → outdated s v ≡ 0
+none_outdated s v h =
+    sum_same (outdated_at s) (λ x. 0) (path s.world v) (λ k d l. no_cost ((eqb (base_in s.world (get_or (path s.world v) k d)) (get_or (path s.world v) k d)) && not (eqb (root_of s.world (get_or (path s.world v) k d)) (get_or (path s.world v) k d))) (holds s.fresh (get_or (path s.world v) k d)) (size_of (dims_in s.world (get_or (path s.world v) k d))) (h k d l))
+    ∙ no_sum (path s.world v)

@@ -36,3 +36,4 @@ mod Viewed
 mod Stating
 mod Growing
 mod Bounds
+mod Lazy

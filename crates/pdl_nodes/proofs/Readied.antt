@@ -61,10 +61,11 @@ settled_back rs new rt b v o a h r w e =
     record {
       ready = d;
       nothing = ap (λ x. (row_at new x).waiting) (d.alike.root_is v ∙ r) ∙ ap (λ t. (row_at t rt).waiting) e ∙ ap (λ x. x.waiting) (each_at (settle rt (latest rs rt) b true) rs rt i.0) ∙ rw (same rt rt refl) refl;
+      others = λ u l n. ap (λ t. (row_at t u).waiting) e ∙ ap (λ x. x.waiting) (each_at (settle rt (latest rs rt) b true) rs u l) ∙ rw (differ u rt (λ x. n (x ∙ sym r))) refl;
     }
 
 pub settled_none : (rs : Rows) (v : ℕ) → InOrder rs → AreKnown rs → (row_at rs (row_at rs v).root).waiting ≡ None → IsSettled rs v rs
-settled_none rs v o a w = record { ready = ready_same rs o a; nothing = w }
+settled_none rs v o a w = record { ready = ready_same rs o a; nothing = w; others = λ u l n. refl }
 
 less_sum : (f g : ℕ → ℕ) (xs : List ℕ) → ((x : ℕ) → f x ≤ g x) → sum_by f xs ≤ sum_by g xs
 less_sum f g [] h = omega arith

@@ -1,5 +1,5 @@
 -- Tables of the same arrays.
-use Rattle.std.specs.Prelude.{◌≡◌, ℕ, ◌==◌, if◌then◌else◌, Bool, true, false, List, [], ◌∷◌, Option}
+use Rattle.std.specs.Prelude.{◌≡◌, ℕ, ◌==◌, if◌then◌else◌, Bool, true, false, List, [], ◌∷◌, Option, Some, None}
 use Rattle.pdl_nodes.specs.Row.{Row, parent_of}
 use Rattle.pdl_nodes.specs.Rows.{Rows, row_at, has}
 use Rattle.pdl_nodes.specs.Families.{has_repeats}
@@ -39,3 +39,9 @@ abbrev pub MarksTarget : (old : Rows) (v : ℕ) (new : Rows) → Type 0
 MarksTarget old v new =
     (u : ℕ) → has old u ≡ true
     → (row_at new u).mark ≡ (if (row_at old u).root == (row_at old v).root then u == target old v else (row_at old u).mark)
+
+-- in v's family the target waits, unless it is the root, and in other families what waited
+abbrev pub WaitsTarget : (old : Rows) (v : ℕ) (new : Rows) → Type 0
+WaitsTarget old v new =
+    (r : ℕ) → has old r ≡ true
+    → (row_at new r).waiting ≡ (if r == (row_at old v).root then (if target old v == (row_at old v).root then None else Some (target old v)) else (row_at old r).waiting)

@@ -55,6 +55,10 @@ abbrev pub waiting_size : Rows → Option ℕ → ℕ
 waiting_size rs None = 0
 waiting_size rs (Some v) = size_of (row_at rs v).triple.dims
 
+-- what waits in other families than v's is what waited
+abbrev pub OthersWait : (old : Rows) (v : ℕ) (new : Rows) → Type 0
+OthersWait old v new = (r : ℕ) → has old r ≡ true → (r ≡ (row_at old v).root → ⊥) → (row_at new r).waiting ≡ (row_at old r).waiting
+
 -- the world is the same, and no mark is lost
 pub record IsReady (old new : Rows) : Type 0 where
   pub order : InOrder new
@@ -63,10 +67,11 @@ pub record IsReady (old new : Rows) : Type 0 where
   pub alike : IsAlike old new
   pub marks : KeepsMarks old new
 
--- and nothing waits in the family of v
+-- and nothing waits in the family of v, but what waited in others
 pub record IsSettled (old : Rows) (v : ℕ) (new : Rows) : Type 0 where
   pub ready : IsReady old new
   pub nothing : (row_at new (row_at new v).root).waiting ≡ None
+  pub others : OthersWait old v new
 
 -- what waits in the family of v
 abbrev pub waiting_of : Rows → ℕ → Option ℕ

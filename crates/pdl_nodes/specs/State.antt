@@ -1,5 +1,5 @@
 -- What kept arrays are seen as, and how calls change that.
-use Rattle.std.specs.Prelude.{◌≡◌, ℕ, ◌+◌, ◌==◌, ◌&&◌, not, if◌then◌else◌, Bool, true, List, [], ◌∷◌, sum_by, All, Option, Some, None}
+use Rattle.std.specs.Prelude.{◌≡◌, ℕ, ◌+◌, ◌==◌, ◌&&◌, not, if◌then◌else◌, Bool, true, false, List, [], ◌∷◌, sum_by, All, Option, Some, None}
 use Rattle.std.specs.Option.{option_map_or}
 use Rattle.pdl_buf.specs.Window.{Window}
 use Rattle.pdl_shape.specs.Shape.{size_of}
@@ -92,3 +92,41 @@ abbrev pub TargetIsFresh : (old : State) (v : ℕ) (new : State) → Type 0
 TargetIsFresh old v new =
     (u : ℕ) → IsLive old.world u → root_of old.world u ≡ root_of old.world v
     → base_in old.world u ≡ target old.world v → is_fresh new u ≡ true
+
+-- what waits in the family after an assignment to v: the array in which the values were put, unless that is the root
+abbrev pub kept_back : World → ℕ → Option ℕ
+kept_back w v = if target w v == root_of w v then None else Some (target w v)
+
+-- in v's family that waits, and in other families what waited
+abbrev pub TargetWaits : (old : State) (v : ℕ) (new : State) → Type 0
+TargetWaits old v new =
+    (u : ℕ) → IsLive old.world u
+    → waiting new u ≡ (if root_of old.world u == root_of old.world v then kept_back old.world v else waiting old u)
+
+-- in other families than v's the same waits
+abbrev pub OthersWait : (old : State) (v : ℕ) (new : State) → Type 0
+OthersWait old v new =
+    (u : ℕ) → IsLive old.world u → (root_of old.world u ≡ root_of old.world v → ⊥) → waiting new u ≡ waiting old u
+
+-- the elements of b wait in the family of v: b is a view of the family, its own base and without repeats, it can be lent,
+-- and so can of the family only what is shown over it
+pub record AreWaiting (s : State) (v b : ℕ) : Type 0 where
+  pub live : IsLive s.world b
+  pub family : root_of s.world b ≡ root_of s.world v
+  pub own : base_in s.world b ≡ b
+  pub view : b ≡ root_of s.world v → ⊥
+  pub once : has_repeats (places_in s.world b) ≡ false
+  pub fresh : is_fresh s b ≡ true
+  pub only : (u : ℕ) → IsLive s.world u → root_of s.world u ≡ root_of s.world v → is_fresh s u ≡ true → base_in s.world u ≡ b
+
+-- views are lazy: an array can be lent exactly where its base can; where nothing waits in its family its root can be lent;
+-- and nothing is outdated on a path that can be lent
+pub record IsLazy (s : State) : Type 0 where
+  pub fresh_is : (v : ℕ) → IsLive s.world v → is_fresh s v ≡ is_fresh s (base_in s.world v)
+  pub waits : (v b : ℕ) → IsLive s.world v → waiting s v ≡ Some b → AreWaiting s v b
+  pub lasts : (v : ℕ) → IsLive s.world v → waiting s v ≡ None → is_fresh s (root_of s.world v) ≡ true
+  pub spent : (v : ℕ) → PathIsFresh s v → outdated s v ≡ 0
+
+-- a new view that isn't its own base can be lent exactly where its parent can
+abbrev pub IsLentAs : (old : State) (parent id : ℕ) (new : State) → Type 0
+IsLentAs old parent id new = (base_in new.world id ≡ id → ⊥) → is_fresh new id ≡ is_fresh old parent

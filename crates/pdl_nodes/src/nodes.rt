@@ -10,7 +10,7 @@ ghost use Rattle.pdl_world.specs.Refused.{view_refusal};
 ghost use Rattle.pdl_world.specs.Sound.{IsLive, IsSound};
 ghost use Rattle.pdl_world.specs.World.{assign, dims_in, root, ty_in, view};
 ghost use Rattle.pdl_nodes.specs.Nodes.{IsLayout};
-ghost use Rattle.pdl_nodes.specs.State.{Joins, PathIsFresh, SameArrays, StayFresh, TargetIsFresh, is_fresh, no_arrays, outdated, shown_in, waiting, waiting_size};
+ghost use Rattle.pdl_nodes.specs.State.{IsLazy, IsLentAs, Joins, OthersWait, TargetWaits, PathIsFresh, SameArrays, StayFresh, TargetIsFresh, is_fresh, no_arrays, outdated, shown_in, waiting, waiting_size};
 
 use crate::holds::{Holds, insert};
 use crate::origin::Layout;
@@ -112,6 +112,13 @@ impl Nodes {
         strided(self.table.node(node.base()).kept(), node.triple())
     }
 
+    /// A law: what can be lent of a family, and what waits in it (PDL::Dataflow). It does nothing.
+    pub fn lazy_law(&self)
+        ensures { IsLazy self.now }
+    {
+        let _next = self.next;
+    }
+
     /// A new root of these dimensions and elements, which can be lent. It takes a step for each
     /// number that isn't 0.
     pub fn make<L: Ledger>(
@@ -150,6 +157,7 @@ impl Nodes {
         requires allowed { view_refusal self.old.world parent trans ≡ None }
         requires layout { IsLayout trans (dims_in self.old.world parent) layout }
         ensures made { IfOk result (λ id. Joins self.old id (view parent trans) self.new) }
+        ensures lent { IfOk result (λ id. IsLentAs self.old parent id self.new) }
         ensures err { OnErr result (self.new ≡ self.old) }
         ensures sound { IsSound self.new.world }
     {
@@ -174,6 +182,7 @@ impl Nodes {
         ensures fresh { OnOk result (PathIsFresh self.new id) }
         ensures itself { OnOk result (is_fresh self.new id ≡ true) }
         ensures settled { waiting self.new id ≡ None }
+        ensures others { OthersWait self.old id self.new }
         ensures counted { steps.new ≤ steps.old + (outdated self.old id + waiting_size self.old (waiting self.old id)) }
     {
         readying::ready(&mut self.table, self.alloc, id, steps)
@@ -193,6 +202,7 @@ impl Nodes {
         ensures others { (u : ℕ) → (root_of self.old.world u ≡ root_of self.old.world id → ⊥) → is_fresh self.old u ≡ true → is_fresh self.new u ≡ true }
         ensures sound { IsSound self.new.world }
         ensures target { TargetIsFresh self.old id self.new }
+        ensures waits { TargetWaits self.old id self.new }
         ensures counted { steps.new ≡ steps.old + length values.now }
     {
         assignment_laws();

@@ -4,7 +4,7 @@ ghost use Rattle.std.specs.Prelude.{◌≡◌, ◌≢◌, ◌+◌, ◌<◌, true
 ghost use Rattle.pdl_elem.specs.Types.{InRange};
 ghost use Rattle.pdl_shape.specs.Places.{write};
 ghost use Rattle.pdl_shape.specs.Shape.{size_of};
-ghost use Rattle.pdl_nodes.specs.Alike.{is_fresh_in};
+ghost use Rattle.pdl_nodes.specs.Alike.{WaitsTarget, is_fresh_in};
 ghost use Rattle.pdl_nodes.specs.Outcomes.{IsAssigned};
 ghost use Rattle.pdl_nodes.specs.Changes.{kept_in};
 ghost use Rattle.pdl_nodes.specs.Families.{InOrder};
@@ -195,6 +195,7 @@ pub fn assign<L: Ledger>(
     requires count { length values.now ≡ size_of (row_at table.old id).triple.dims }
     requires in_range { All (InRange (row_at table.old id).ty) values.now }
     ensures assigned { IsAssigned table.old id values.now table.new }
+    ensures waits { WaitsTarget table.old id table.new }
     ensures counted { steps.new ≡ steps.old + length values.now }
 {
     let node = table.node(id);

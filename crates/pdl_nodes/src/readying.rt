@@ -2,7 +2,7 @@
 ghost use Rattle.std.specs.Prelude.{◌≡◌, ◌+◌, ◌≤◌, true, None, OnOk};
 ghost use Rattle.pdl_nodes.specs.Families.{InOrder};
 ghost use Rattle.pdl_nodes.specs.Known.{AreKnown};
-ghost use Rattle.pdl_nodes.specs.Outcomes.{IsReady, IsSettled, PathIsFresh, outdated, waiting_of, waiting_size};
+ghost use Rattle.pdl_nodes.specs.Outcomes.{OthersWait, IsReady, IsSettled, PathIsFresh, outdated, waiting_of, waiting_size};
 ghost use Rattle.pdl_nodes.specs.Rows.{has};
 
 use crate::pull::refresh;
@@ -41,6 +41,7 @@ pub fn ready<L: Ledger>(
     ensures ready { IsReady table.old table.new }
     ensures fresh { OnOk result (PathIsFresh table.new id) }
     ensures settled { waiting_of table.new id ≡ None }
+    ensures others { OthersWait table.old id table.new }
     ensures counted { steps.new ≤ steps.old + (outdated table.old id + waiting_size table.old (waiting_of table.old id)) }
 {
     settle(table, id, steps);

@@ -26,3 +26,6 @@ returns-clause-counted g c =
 
 pub returns-clause-settled : goal.returns-clause-settled
 returns-clause-settled g c = ap (λ r. (row_at c.refresh.new.table r).waiting) (c.refresh.ensures.kept.alike.root_is c.args.id) ∙ c.refresh.ensures.kept.waits _ ∙ c.settle.ensures.settled.nothing
+
+pub returns-clause-others : goal.returns-clause-others
+returns-clause-others g c = λ r h n. c.refresh.ensures.kept.waits r ∙ c.settle.ensures.settled.others r h n

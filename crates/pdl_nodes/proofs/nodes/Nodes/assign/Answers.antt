@@ -19,8 +19,9 @@ use Rattle.pdl_nodes.specs.Worlds.{world_of, shape, latest}
 use Rattle.pdl_nodes.proofs.Stating.{live_has, dims_are, ty_are, root_are, length_world, fresh_is, fresh_live, path_with, holds_alike, lent_elements}
 use Rattle.pdl_nodes.specs.Nodes.{fresh_among}
 use Rattle.pdl_nodes.proofs.Growing.{beside_alike, below_alike, others_fresh}
-use Rattle.pdl_nodes.specs.State.{TargetIsFresh}
+use Rattle.pdl_nodes.specs.State.{TargetIsFresh, TargetWaits}
 use Rattle.pdl_nodes.proofs.Bounds.{target_fresh}
+use Rattle.pdl_nodes.proofs.Lazy.{target_waits}
 use Rattle.pdl_nodes.proofs.nodes.Nodes.assign.Goals as goal
 
 pub assign-requires-clause-live : goal.assign-requires-clause-live
@@ -58,3 +59,6 @@ returns-clause-others g c = λ u n f.
 
 pub returns-clause-target : goal.returns-clause-target
 returns-clause-target g c = subst (λ (s : State). TargetIsFresh s c.args.id (state_of c.assign.new.table c.self.inside.holds c.self.inside.next)) c.self.view_is (target_fresh c.self.inside.table c.assign.new.table c.self.inside.holds c.self.inside.holds c.self.inside.next c.self.inside.next c.args.id c.self.invariant.order.still c.assign.ensures.assigned.order.still (live_has c.self.inside.table c.args.id (subst (λ (w : World). IsLive w c.args.id) (sym (ap (λ (s : State). s.world) c.self.view_is)) c.requires.live)) c.assign.ensures.assigned.alike c.assign.ensures.assigned.marks)
+
+pub returns-clause-waits : goal.returns-clause-waits
+returns-clause-waits g c = subst (λ (s : State). TargetWaits s c.args.id (state_of c.assign.new.table c.self.inside.holds c.self.inside.next)) c.self.view_is (target_waits c.self.inside.table c.assign.new.table c.self.inside.holds c.self.inside.holds c.self.inside.next c.self.inside.next c.args.id c.self.invariant.order.still c.assign.ensures.assigned.order.still (live_has c.self.inside.table c.args.id (subst (λ (w : World). IsLive w c.args.id) (sym (ap (λ (s : State). s.world) c.self.view_is)) c.requires.live)) c.assign.ensures.assigned.alike c.assign.ensures.waits)

@@ -19,12 +19,13 @@ use Rattle.pdl_nodes.specs.Worlds.{world_of, shape, latest}
 use Rattle.pdl_nodes.proofs.Stating.{live_has, dims_are, ty_are, root_are, length_world, fresh_is, fresh_live, path_with, holds_alike, lent_elements}
 use Rattle.pdl_nodes.proofs.Growing.{nodes_ready, stay_ready, path_state}
 use Rattle.pdl_nodes.proofs.Paths.{on_ok, path_first}
-use Rattle.pdl_nodes.specs.State.{waiting, waiting_size, outdated}
+use Rattle.pdl_nodes.specs.State.{OthersWait, waiting, waiting_size, outdated}
 use Rattle.pdl_nodes.specs.Outcomes.{waiting_of}
 use Rattle.pdl_nodes.specs.Outcomes.{outdated as rows_outdated}
 use Rattle.pdl_nodes.specs.Outcomes.{waiting_size as rows_waiting_size}
 use Rattle.pdl_nodes.proofs.Alikes.{root_live}
 use Rattle.pdl_nodes.proofs.Bounds.{outdated_is, waiting_is, size_is}
+use Rattle.pdl_nodes.proofs.Lazy.{others_wait}
 use Rattle.pdl_nodes.proofs.nodes.Nodes.ready.Goals as goal
 
 pub ready-requires-clause-live : goal.ready-requires-clause-live
@@ -57,3 +58,6 @@ returns-clause-counted g c =
     ap (waiting_size c.args.self.now) w ∙ ap (λ (s : State). waiting_size s (waiting_of c.self.inside.table c.args.id)) (sym c.self.view_is)
     ∙ size_is c.self.inside.table c.self.inside.holds c.self.inside.next (waiting_of c.self.inside.table c.args.id) c.self.invariant.order.still (λ u e. ((c.self.invariant.order.family (row_at c.self.inside.table c.args.id).root (root_live c.self.inside.table (row_at c.self.inside.table c.args.id).root c.args.id c.self.invariant.order.still l refl)).waits u e).live) in
     omega (arith, a, b, c.ready.ensures.counted)
+
+pub returns-clause-others : goal.returns-clause-others
+returns-clause-others g c = subst (λ (s : State). OthersWait s c.args.id (state_of c.ready.new.table c.self.inside.holds c.self.inside.next)) c.self.view_is (others_wait c.self.inside.table c.ready.new.table c.self.inside.holds c.self.inside.holds c.self.inside.next c.self.inside.next c.args.id c.self.invariant.order.still c.ready.ensures.ready.order.still (live_has c.self.inside.table c.args.id (subst (λ (w : World). IsLive w c.args.id) (sym (ap (λ (s : State). s.world) c.self.view_is)) c.requires)) c.ready.ensures.ready.alike c.ready.ensures.others)

@@ -19,12 +19,13 @@ use Rattle.pdl_nodes.specs.Worlds.{world_of, shape, latest}
 use Rattle.pdl_nodes.proofs.Stating.{live_has, dims_are, ty_are, root_are, length_world, fresh_is, fresh_live, path_with, holds_alike, lent_elements}
 use Rattle.pdl_world.specs.World.{ArrayDef, root, view}
 use Rattle.pdl_nodes.specs.Holds.{Beside}
-use Rattle.pdl_nodes.specs.Joined.{joined_def}
+use Rattle.pdl_nodes.specs.Joined.{IsNew, joined_def}
 use Rattle.pdl_nodes.specs.Nodes.{root_row, IsLayout, IsNewView}
-use Rattle.pdl_nodes.specs.State.{Joins}
+use Rattle.pdl_nodes.specs.State.{IsLentAs, Joins}
 use Rattle.pdl_nodes.proofs.Calls.{on_err}
 use Rattle.pdl_nodes.proofs.Growing.{IsGrown, grown_nodes, grown_state, new_root, new_view, view_def, err_state, below_world, no_root}
 use Rattle.pdl_world.specs.Refused.{view_refusal}
+use Rattle.pdl_nodes.proofs.Lazy.{lent_as}
 use Rattle.pdl_nodes.proofs.nodes.Nodes.view.Goals as goal
 
 pub node-above-requires : goal.node-above-requires
@@ -82,3 +83,11 @@ returns-clause-sound c =
       others = c.insert.ensures.others;
     }) in
     subst (λ (t : Rows). IsSound (world_of t)) (sym c.in_ok-insert.ensures.ok) (grown_nodes c.self.inside.table c.self.inside.holds c.insert.new.holds c.self.inside.next c.in-Some.next c.in_ok-node.node c.self.invariant grown c.in-Some.ensures.1).sound
+
+pub returns-clause-lent : goal.returns-clause-lent
+returns-clause-lent c =
+    let old : State = state_of c.self.inside.table c.self.inside.holds c.self.inside.next in
+    let n : IsNew c.self.inside.table c.self.inside.next c.in_ok-node.node = new_view c.self.inside.table c.self.inside.next c.args.parent c.args.trans c.in_ok-node.node c.self.invariant.order.still c.self.invariant.below (live_has c.self.inside.table c.args.parent (subst (λ (w : World). IsLive w c.args.parent) (sym (ap (λ (s : State). s.world) c.self.view_is)) c.requires.live)) (subst (λ (a : Row). IsNewView c.self.inside.next c.args.parent c.args.trans a c.in_ok-node.node) c.node-above.ensures c.in_ok-node.ensures) in
+    subst (λ (s : State). IsLentAs s c.args.parent c.self.inside.next (state_of c.insert.new.table c.insert.new.holds c.in-Some.next)) c.self.view_is
+    (subst (λ (t : Rows). IsLentAs old c.args.parent c.self.inside.next (state_of t c.insert.new.holds c.in-Some.next)) (sym c.in_ok-insert.ensures.ok)
+    (lent_as c.self.inside.table c.self.inside.holds c.insert.new.holds c.self.inside.next c.in-Some.next c.self.inside.next c.args.parent c.in_ok-node.node c.args.trans c.self.invariant.order.still (n.below, n.from, c.self.invariant.order.still) c.self.invariant.below (live_has c.self.inside.table c.args.parent (subst (λ (w : World). IsLive w c.args.parent) (sym (ap (λ (s : State). s.world) c.self.view_is)) c.requires.live)) (subst (λ (a : Row). IsNewView c.self.inside.next c.args.parent c.args.trans a c.in_ok-node.node) c.node-above.ensures c.in_ok-node.ensures)))
