@@ -63,3 +63,9 @@ module _ (begin : BeginThePieces) (stay : StayCertain) (keep : Bool) (bytes more
       let front = so_far-front in
       let printed = printed_stays keep (so_far keep bytes) front.0 in
       (printed.0, ap (λ p. p.printed) front.1 ∙ printed.1)
+
+pub so_far-all : (keep : Bool) (bytes : List ℕ) → settled bytes ≡ pieces bytes → so_far keep bytes ≡ run keep bytes
+so_far-all keep bytes is =
+    let same : certain_marks bytes ≡ script_marks bytes =
+    by_bool (nat_lt script_limit (length bytes)) (λ far. rw far refl) (λ near. rw near (ap (map statement) is)) in
+    ap (after_marks keep start) same

@@ -1,7 +1,7 @@
 -- What holds of every run.
 use Rattle.std.specs.Prelude.{◌≡◌, ℕ, ◌<◌, List, ◌++◌, length, Bool, true, false}
 use Rattle.pdl_lex.specs.Limits.{script_limit}
-use Rattle.pdl_lex.specs.Pieces.{Mark}
+use Rattle.pdl_lex.specs.Pieces.{Mark, pieces, settled}
 use Rattle.pdl_machine.specs.Run.{Progress, after_marks, run, so_far}
 
 -- a run that a fault has ended prints and changes nothing more
@@ -44,3 +44,7 @@ SoFarIsAFront = (keep : Bool) (bytes more : List ℕ) → (ms : List Mark) × (r
 -- and what it has printed by then is the front of all that it prints
 abbrev pub SoFarIsPrinted : Type 0
 SoFarIsPrinted = (keep : Bool) (bytes more : List ℕ) → (text : List ℕ) × ((run keep (bytes ++ more)).printed ≡ (so_far keep bytes).printed ++ text)
+
+-- where the bytes make all of their statements certain, as behind a semicolon, the run has come to its end by them
+abbrev pub SoFarIsAll : Type 0
+SoFarIsAll = (keep : Bool) (bytes : List ℕ) → settled bytes ≡ pieces bytes → so_far keep bytes ≡ run keep bytes

@@ -1,6 +1,6 @@
 //! Laws of what a text is read as, and of runs.
 ghost use Rattle.pdl_machine.specs.Reading.{ReadsItsMeaning, MeansOneThing};
-ghost use Rattle.pdl_machine.specs.RunLaws.{EndedStays, PrintedStays, FaultStays, GoesOn, FirstFaultEnds, TooLongFaults, LimitEnds, SoFarIsAFront, SoFarIsPrinted};
+ghost use Rattle.pdl_machine.specs.RunLaws.{EndedStays, PrintedStays, FaultStays, GoesOn, FirstFaultEnds, TooLongFaults, LimitEnds, SoFarIsAFront, SoFarIsPrinted, SoFarIsAll};
 
 use pdl_lex::settled_laws;
 use pdl_syntax::parsing_is_the_grammar;
@@ -27,10 +27,12 @@ pub fn run_laws()
 {}
 
 /// How far a run has come by the first bytes of a script: whatever bytes follow, it goes on from there (`goes_on`),
-/// and what it has printed by then is the front of all that it prints (`printed`). The call does nothing when it runs.
+/// and what it has printed by then is the front of all that it prints (`printed`); bytes that make all of their
+/// statements certain run to their end (`all`). The call does nothing when it runs.
 pub fn so_far_laws()
     ensures goes_on { SoFarIsAFront }
     ensures printed { SoFarIsPrinted }
+    ensures all { SoFarIsAll }
 {
     settled_laws();
 }

@@ -6,7 +6,7 @@ use Rattle.std.proofs.lemmas.Bool.{ne_eqb}
 use Rattle.pdl_lex.specs.Bytes.{newlines}
 use Rattle.pdl_lex.specs.declared.cutter.Mode.{Mode}
 use Rattle.pdl_lex.specs.declared.cutter.Mode.TheVariants.{Code, Double}
-use Rattle.pdl_lex.specs.Pieces.{pieces}
+use Rattle.pdl_lex.specs.Pieces.{is_between, pieces}
 use Rattle.pdl_lex.specs.Joining.{mode_behind, IsStatement, pieces_from, StatementsJoin, BlanksJoin, PartsJoin, DigitsStay}
 use Rattle.pdl_machine.specs.Step.{newline}
 use Rattle.pdl_shell.specs.Generated.{column_line, index_line, overlap_line, sums_line, round_line, next_seed, round_lines, first_lines, generated_script}
@@ -17,8 +17,8 @@ record IsLine (line : List ℕ) : Type 0 where
   statement : IsStatement text
   is : line ≡ text ++ 59 ∷ newline
 
-line_of : (first : ℕ) (others : List ℕ) → mode_behind Code (first ∷ others) ≡ Some Code → IsStatement (first ∷ others)
-line_of first others ends = record { first = first; others = others; begins = refl; ends = ends; is = refl }
+line_of : (first : ℕ) (others : List ℕ) → is_between Code first ≡ false → mode_behind Code (first ∷ others) ≡ Some Code → IsStatement (first ∷ others)
+line_of first others begins ends = record { first = first; others = others; begins = begins; ends = ends; is = refl }
 
 one_of_four : (a b c : Bool) (w x y z : List ℕ) → IsLine w → IsLine x → IsLine y → IsLine z → IsLine (cond a w (cond b x (cond c y z)))
 one_of_four true b c w x y z is_w is_x is_y is_z = is_w
@@ -48,7 +48,7 @@ module _ (statements : StatementsJoin) (blanks : BlanksJoin) (parts : PartsJoin)
   column_is : (column number : ℕ) → column < 2 ^ 64 → number < 2 ^ 64 → IsLine (column_line column number)
   column_is column number small_column small_number = record {
     text = codes "$a->slice(\"" ++ decimal column ++ codes ",:\") += " ++ decimal number;
-    statement = line_of 36 (codes "a->slice(\"" ++ decimal column ++ codes ",:\") += " ++ decimal number)
+    statement = line_of 36 (codes "a->slice(\"" ++ decimal column ++ codes ",:\") += " ++ decimal number) refl
         (two_numbers Double (codes "$a->slice(\"") (codes ",:\") += ") column number small_column small_number refl refl);
     is = append_assoc (codes "$a->slice(\"" ++ decimal column ++ codes ",:\") += " ++ decimal number) (codes ";") newline;
   }
@@ -56,7 +56,7 @@ module _ (statements : StatementsJoin) (blanks : BlanksJoin) (parts : PartsJoin)
   index_is : (row number : ℕ) → row < 2 ^ 64 → number < 2 ^ 64 → IsLine (index_line row number)
   index_is row number small_row small_number = record {
     text = codes "$v->xchg(0,1)->index(pdl [[" ++ decimal row ++ codes "],[0]]) .= " ++ decimal number;
-    statement = line_of 36 (codes "v->xchg(0,1)->index(pdl [[" ++ decimal row ++ codes "],[0]]) .= " ++ decimal number)
+    statement = line_of 36 (codes "v->xchg(0,1)->index(pdl [[" ++ decimal row ++ codes "],[0]]) .= " ++ decimal number) refl
         (two_numbers Code (codes "$v->xchg(0,1)->index(pdl [[") (codes "],[0]]) .= ") row number small_row small_number refl refl);
     is = append_assoc (codes "$v->xchg(0,1)->index(pdl [[" ++ decimal row ++ codes "],[0]]) .= " ++ decimal number) (codes ";") newline;
   }
@@ -64,13 +64,13 @@ module _ (statements : StatementsJoin) (blanks : BlanksJoin) (parts : PartsJoin)
   overlap_is : (number : ℕ) → number < 2 ^ 64 → IsLine (overlap_line number)
   overlap_is number small = record {
     text = codes "$v .= $a->slice(\"0:5,0:3\") + " ++ decimal number;
-    statement = line_of 36 (codes "v .= $a->slice(\"0:5,0:3\") + " ++ decimal number)
+    statement = line_of 36 (codes "v .= $a->slice(\"0:5,0:3\") + " ++ decimal number) refl
         (behind Code Code (codes "$v .= $a->slice(\"0:5,0:3\") + ") (decimal number) refl ∙ number_stays Code number small);
     is = append_assoc (codes "$v .= $a->slice(\"0:5,0:3\") + " ++ decimal number) (codes ";") newline;
   }
 
   sums_is : IsLine sums_line
-  sums_is = record { text = codes "p $v->sumover"; statement = line_of 112 (codes " $v->sumover") refl; is = refl }
+  sums_is = record { text = codes "p $v->sumover"; statement = line_of 112 (codes " $v->sumover") refl refl; is = refl }
 
   round_is : (bits : ℕ) → IsLine (round_line bits)
   round_is bits =
@@ -81,32 +81,40 @@ module _ (statements : StatementsJoin) (blanks : BlanksJoin) (parts : PartsJoin)
 
   -- a line is a statement more
   count-line : (at : ℕ) (line rest : List ℕ) (l : IsLine line)
-      → length (pieces_from at (line ++ rest)) ≡ 1 + length (pieces_from (at + newlines l.text + newlines newline) rest)
+      → length (pieces_from at (line ++ rest)) ≡ suc (length (pieces_from (at + newlines l.text + newlines newline) rest))
   count-line at line rest l =
-      ap (λ u. length (pieces_from at u)) (ap (λ u. u ++ rest) l.is ∙ append_assoc l.text (59 ∷ newline) rest)
-      ∙ ap length (statements at l.text (10 ∷ rest) l.statement)
-      ∙ ap (λ ps. 1 + length ps) (blanks (at + newlines l.text) 10 rest refl)
+      let behind_text : ℕ = at + newlines l.text in
+      let split : line ++ rest ≡ l.text ++ 59 ∷ 10 ∷ rest = ap (λ u. u ++ rest) l.is ∙ append_assoc l.text (59 ∷ newline) rest in
+      let cut : length (pieces_from at (l.text ++ 59 ∷ 10 ∷ rest)) ≡ suc (length (pieces_from behind_text (10 ∷ rest))) =
+      ap length (statements at l.text (10 ∷ rest) l.statement) in
+      ap (λ u. length (pieces_from at u)) split ∙ cut ∙ ap (λ ps. suc (length ps)) (blanks behind_text 10 rest refl)
 
   count-rounds : (at seed rounds : ℕ) → length (pieces_from at (round_lines seed rounds)) ≡ rounds
   count-rounds at seed zero = refl
   count-rounds at seed (suc rounds) =
       let line = round_is (seed / 65536) in
       count-line at (round_line (seed / 65536)) (round_lines (next_seed seed) rounds) line
-      ∙ ap (λ n. 1 + n) (count-rounds (at + newlines line.text + newlines newline) (next_seed seed) rounds) ∙ omega arith
+      ∙ ap suc (count-rounds (at + newlines line.text + newlines newline) (next_seed seed) rounds)
 
   first_is : IsLine (codes "$a = sequence(8,6);" ++ newline)
-  first_is = record { text = codes "$a = sequence(8,6)"; statement = line_of 36 (codes "a = sequence(8,6)") refl; is = refl }
+  first_is = record { text = codes "$a = sequence(8,6)"; statement = line_of 36 (codes "a = sequence(8,6)") refl refl; is = refl }
 
   second_is : IsLine (codes "$v = $a->slice(\"1:6,1:4\");" ++ newline)
-  second_is = record { text = codes "$v = $a->slice(\"1:6,1:4\")"; statement = line_of 36 (codes "v = $a->slice(\"1:6,1:4\")") refl; is = refl }
+  second_is = record { text = codes "$v = $a->slice(\"1:6,1:4\")"; statement = line_of 36 (codes "v = $a->slice(\"1:6,1:4\")") refl refl; is = refl }
+
+  count-two : (one two rest : List ℕ) (rounds : ℕ) → IsLine one → IsLine two → ((at : ℕ) → length (pieces_from at rest) ≡ rounds)
+      → length (pieces_from 1 (one ++ two ++ rest)) ≡ rounds + 2
+  count-two one two rest rounds a b counts =
+      let at : ℕ = 1 + newlines a.text + newlines newline in
+      let first : length (pieces_from 1 (one ++ (two ++ rest))) ≡ suc (length (pieces_from at (two ++ rest))) = count-line 1 one (two ++ rest) a in
+      let second : length (pieces_from at (two ++ rest)) ≡ suc (length (pieces_from (at + newlines b.text + newlines newline) rest)) = count-line at two rest b in
+      ap (λ u. length (pieces_from 1 u)) (append_assoc one two rest) ∙ first
+      ∙ ap suc (second ∙ ap suc (counts (at + newlines b.text + newlines newline))) ∙ omega arith
 
   count-all : (rounds : ℕ) → length (pieces (first_lines ++ round_lines (next_seed 1) rounds)) ≡ rounds + 2
   count-all rounds =
-      let rest : List ℕ = round_lines (next_seed 1) rounds in
-      let second : List ℕ = codes "$v = $a->slice(\"1:6,1:4\");" ++ newline in
-      count-line 1 (codes "$a = sequence(8,6);" ++ newline) (second ++ rest) first_is
-      ∙ ap (λ n. 1 + n) (count-line _ second rest second_is ∙ ap (λ n. 1 + n) (count-rounds _ (next_seed 1) rounds))
-      ∙ omega arith
+      count-two (codes "$a = sequence(8,6);" ++ newline) (codes "$v = $a->slice(\"1:6,1:4\");" ++ newline) (round_lines (next_seed 1) rounds) rounds
+      first_is second_is (λ at. count-rounds at (next_seed 1) rounds)
 
   -- each line of the script is one statement
   pub statement_count-some : (rounds : ℕ) → (rounds ≡ 0 → ⊥) → length (pieces (generated_script rounds)) ≡ rounds + 2
