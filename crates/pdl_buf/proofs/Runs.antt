@@ -18,7 +18,7 @@ use Rattle.pdl_elem.specs.Types.{InRange}
 use Rattle.pdl_shape.specs.Laws.{PositionLaws}
 use Rattle.pdl_shape.specs.Shape.{size_of, coordinates_of}
 use Rattle.pdl_shape.specs.Triple.{Triple, IsPlace, IsTriple, Reaches, moved}
-use Rattle.pdl_buf.specs.Reads.{IsInside, HasRead}
+use Rattle.pdl_buf.specs.Reads.{IsInside, HasRead, LieAcross, across}
 use Rattle.pdl_buf.specs.Window.{IsInOrder, place_at, shown}
 use Rattle.pdl_buf.proofs.Ordered.{in_order_at}
 use Rattle.pdl_buf.proofs.Walking.{step_bound, step_fits, IsShown, shown_at, shown_within, shown_element}
@@ -145,6 +145,23 @@ first_some laws (d ∷ ds) p h = (laws.quotient_below d ds p h).0
 pub second_some : PositionLaws → (ds : List ℕ) (p : ℕ) → p < size_of ds → 0 < get_or ds 1 1
 second_some laws [] p h = omega arith
 second_some laws (d ∷ ds) p h = first_some laws ds (p / d) (laws.quotient_below d ds p h).1
+
+-- the place so many steps along dimension 1 after that of a position
+pub record Across (t : Triple) (n p j : ℕ) : Type 0 where
+  pub is : pos (place_at t p) +ℤ get_or t.incs 1 (pos 0) *ℤ pos j ≡ pos (place_at t (across t.dims p j))
+  pub below : place_at t (across t.dims p j) < n
+  pub inside : IsInside n (pos (place_at t p) +ℤ get_or t.incs 1 (pos 0) *ℤ pos j)
+
+pub across_at : PositionLaws → (t : Triple) (n p j count : ℕ) → IsTriple t → Reaches t n → p < size_of t.dims → across t.dims p j < size_of t.dims → LieAcross t.dims p count → j < count → Across t n p j
+across_at laws t n p j count ok reach here there along h =
+    let s : IsShown t n (across t.dims p j) = shown_at laws t n (across t.dims p j) ok reach there in
+    let e : pos (place_at t p) +ℤ get_or t.incs 1 (pos 0) *ℤ pos j ≡ pos (place_at t (across t.dims p j)) =
+    rows_at laws t n p j ok reach here there (first_some laws t.dims p here) (omega arith) in
+    record {
+      is = e;
+      below = s.below;
+      inside = subst (λ z. IsInside n z) (sym e) (record { place = record { low = omega (arith, ints); high = omega (arith, ints, s.small) }; high = omega (arith, ints, s.below) });
+    }
 
 -- row r of the rows from a position on, where one starts
 pub record IsRow (t : Triple) (p r count width : ℕ) (z : ℤ) : Type 0 where

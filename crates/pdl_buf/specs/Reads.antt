@@ -1,5 +1,5 @@
 -- Reading the elements of a window in blocks.
-use Rattle.std.specs.Prelude.{◌≡◌, ◌<◌, ◌+◌, ℕ, ℤ, pos, ◌<ℤ◌, List, get_or}
+use Rattle.std.specs.Prelude.{◌≡◌, ◌<◌, ◌≤◌, ◌+◌, ◌*◌, ◌/◌, ◌%◌, ℕ, ℤ, pos, ◌<ℤ◌, List, get_or}
 use Rattle.pdl_shape.specs.Triple.{IsPlace, Triple}
 use Rattle.pdl_buf.specs.Window.{place_at}
 
@@ -11,3 +11,16 @@ pub record IsInside (n : ℕ) (z : ℤ) : Type 0 where
 -- the first count of these numbers are what the triple shows from a position on
 abbrev pub HasRead : Triple → List ℤ → ℕ → ℕ → List ℤ → Type 0
 HasRead t es first count rs = (k : ℕ) → k < count → get_or rs k (pos 0) ≡ get_or es (place_at t (first + k)) (pos 0)
+
+-- the position so many steps along dimension 1 after another
+abbrev pub across : (ds : List ℕ) → (first steps : ℕ) → ℕ
+across ds first steps = first + steps * get_or ds 0 1
+
+-- so many positions along dimension 1 from one on are there
+abbrev pub LieAcross : (ds : List ℕ) → (first count : ℕ) → Type 0
+LieAcross ds first count = (first / get_or ds 0 1) % get_or ds 1 1 + count ≤ get_or ds 1 1
+
+-- the first count of these numbers are what the triple shows along dimension 1 from a position on
+abbrev pub HasReadAcross : Triple → List ℤ → ℕ → ℕ → List ℤ → Type 0
+HasReadAcross t es first count rs =
+    (k : ℕ) → k < count → get_or rs k (pos 0) ≡ get_or es (place_at t (across t.dims first k)) (pos 0)

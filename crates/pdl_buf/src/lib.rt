@@ -5,6 +5,7 @@
 //! of the caller. So each element that isn't 0 came in by a counted step.
 #![tactic(auto)]
 
+mod across;
 mod buffer;
 mod lending;
 mod made;
@@ -18,6 +19,7 @@ mod steps;
 mod stretching;
 mod window;
 
+pub use across::{strided_is_turned, strided_read_across};
 pub use buffer::{Buf, buf_bytes, buf_get, buf_of, buf_of_elements, buf_set};
 pub use lending::strided;
 pub use made::{Elements, Made};

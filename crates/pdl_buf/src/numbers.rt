@@ -3,14 +3,15 @@ ghost use Rattle.std.specs.Prelude.{◌≡◌, ◌<◌, ◌≤◌, ◌+◌, ◌+
 ghost use Rattle.std.specs.List.{flat_map};
 ghost use Rattle.pdl_elem.specs.Types.{InRange};
 ghost use Rattle.pdl_shape.specs.Places.{AllBelow, read, write};
-ghost use Rattle.pdl_shape.specs.Shape.{size_of};
+ghost use Rattle.pdl_shape.specs.Shape.{extent_limit, size_of};
 ghost use Rattle.pdl_shape.specs.Triple.{Reaches};
 ghost use Rattle.pdl_buf.specs.Buffer.{Kept};
 ghost use Rattle.pdl_buf.specs.Bytes.{bytes_of};
 ghost use Rattle.pdl_buf.specs.Numbers.{kept_in};
-ghost use Rattle.pdl_buf.specs.Reads.{HasRead};
+ghost use Rattle.pdl_buf.specs.Reads.{HasRead, HasReadAcross, LieAcross, across};
 ghost use Rattle.pdl_buf.specs.Window.{shown};
 
+use crate::across::read_across;
 use crate::packed::{AtByte, AtLong, AtLonglong, AtShort, AtUshort, Packed};
 use crate::placement::Placement;
 use crate::reads::{read_block, read_neighbours};
@@ -194,6 +195,27 @@ impl Numbers {
             Numbers::Ushorts(packed) => read_block(packed, placement, first, into),
             Numbers::Longs(packed) => read_block(packed, placement, first, into),
             Numbers::Longlongs(packed) => read_block(packed, placement, first, into),
+        }
+    }
+
+    /// The numbers that a triple shows along dimension 1, from a position on.
+    pub(crate) fn read_across(&self, placement: &Placement, first: u32, into: &mut [i64])
+        requires some { first < size_of placement.now.dims }
+        requires small { length into.old ≤ extent_limit }
+        requires along { LieAcross placement.now.dims first (length into.old) }
+        requires within { (k : ℕ) → k < length into.old →
+            across placement.now.dims first k < size_of placement.now.dims }
+        requires reaches { Reaches placement.now (length (kept_in self.now).elems) }
+        ensures value { HasReadAcross placement.now (kept_in self.now).elems
+            first (length into.old) into.new }
+        ensures in_range { All (InRange (kept_in self.now).ty) into.new }
+    {
+        match self {
+            Numbers::Bytes(packed) => read_across(packed, placement, first, into),
+            Numbers::Shorts(packed) => read_across(packed, placement, first, into),
+            Numbers::Ushorts(packed) => read_across(packed, placement, first, into),
+            Numbers::Longs(packed) => read_across(packed, placement, first, into),
+            Numbers::Longlongs(packed) => read_across(packed, placement, first, into),
         }
     }
 }

@@ -64,7 +64,7 @@ fn repeat_number(number: i64, into: &mut [i64])
 
 /// The numbers from a place on, each so far after the one before: one number again and again where
 /// that is nowhere.
-fn read_run<T: PackedType<N>, const N: usize>(
+pub(crate) fn read_run<T: PackedType<N>, const N: usize>(
     numbers: &Packed<T, N>,
     place: u32,
     inc: i32,
@@ -82,7 +82,7 @@ fn read_run<T: PackedType<N>, const N: usize>(
 }
 
 /// The increment along a dimension, and 0 where there is none.
-fn inc_along(triple: &Triple, dimension: usize) -> i32
+pub(crate) fn inc_along(triple: &Triple, dimension: usize) -> i32
     ensures { result ≡ get_or triple.now.incs dimension (pos 0) }
 {
     let incs = incs_list(&triple.incs);

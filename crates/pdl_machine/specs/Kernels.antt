@@ -9,7 +9,7 @@ use Rattle.pdl_kernel.specs.declared.faults.RunFault.{RunFault}
 use Rattle.pdl_kernel.specs.declared.faults.RunFault.TheVariants as run
 use Rattle.pdl_lex.specs.Tokens.{is_word}
 use Rattle.pdl_lexemes.specs.Lexing.{found_in, keywords}
-use Rattle.pdl_reduce.specs.Pairings.{shape_of}
+use Rattle.pdl_sig.specs.Given.{shape_of}
 use Rattle.pdl_sig.specs.declared.ResolveFault.{ResolveFault}
 use Rattle.pdl_sig.specs.declared.ResolveFault.TheVariants as resolve
 use Rattle.pdl_sig.specs.declared.SigFault.{SigFault}

@@ -1,9 +1,9 @@
 //! Operators and conversions of whole arrays (PDL::Ops, PDL::Core).
 ghost use Rattle.std.specs.Prelude.{◌≡◌, IfOk};
-ghost use Rattle.pdl_buf.specs.Made.{IsMade};
+ghost use Rattle.pdl_buf.specs.Made.{IsMade, array_of};
 ghost use Rattle.pdl_shape.specs.Broadcast.{BroadcastsTo};
 ghost use Rattle.pdl_shape.specs.Joined.{joined_dims};
-ghost use Rattle.pdl_ops.specs.Answers.{Answers, array_of, or_refused};
+ghost use Rattle.pdl_ops.specs.Answers.{Answers, or_refused};
 ghost use Rattle.pdl_ops.specs.Elementwise.{converted, elementwise, unary_each};
 
 use crate::OpFault;

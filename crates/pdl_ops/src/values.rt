@@ -1,8 +1,8 @@
 //! What an assignment writes (PDL::Ops, PDL::Broadcasting).
 ghost use Rattle.std.specs.Prelude.{◌≡◌, ◌≢◌, length, All, Err, IfOk};
-ghost use Rattle.pdl_buf.specs.Made.{IsMade};
+ghost use Rattle.pdl_buf.specs.Made.{IsMade, array_of};
 ghost use Rattle.pdl_elem.specs.Types.{InRange};
-ghost use Rattle.pdl_ops.specs.Answers.{Answers, array_of};
+ghost use Rattle.pdl_ops.specs.Answers.{Answers};
 ghost use Rattle.pdl_ops.specs.Values.{fits, values_for, new_values};
 ghost use Rattle.pdl_ops.specs.declared.OpFault.TheVariants.{TooLarge};
 

@@ -4,6 +4,7 @@ pub mod Blocks
 pub mod Numbers
 pub mod Results
 pub mod Matrix
+pub mod Across
 pub mod Meets
 pub mod Paired
 pub mod Resolved

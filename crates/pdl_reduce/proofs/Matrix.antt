@@ -1,15 +1,19 @@
 -- One product more of a sum, and one row more of a product.
-use Rattle.std.proofs.Common.{◌≡◌, ℕ, ◌+◌, ◌-◌, ◌*◌, ◌/◌, ◌%◌, ◌<◌, ℤ, pos, ◌+ℤ◌, List, ◌++◌, length, map, get_or, arith, ap, ap₂, sym, ◌∙◌, inl, inr, length-append}
+use Rattle.std.proofs.Common.{◌≡◌, ℕ, ◌+◌, ◌-◌, ◌*◌, ◌/◌, ◌%◌, ◌<◌, ℤ, pos, ◌+ℤ◌, List, [], ◌∷◌, ◌++◌, slice_set, length, map, get_or, take, drop, ◌≤◌, ◌*ℤ◌, arith, ap, ap₂, sym, ◌∙◌, inl, inr, length-append}
 use Rattle.std.specs.Int.{int_wrap, w64}
 use Rattle.std.specs.List.{range_with_len}
 use Rattle.std.proofs.lemmas.Bool.{cases_lt}
 use Rattle.std.proofs.lemmas.Int.{int_wrap-add_left}
-use Rattle.std.proofs.lemmas.List.{ext_get_or, get_or_append_left, get_or-append_right}
+use Rattle.std.proofs.lemmas.Bool.Decides.{nat_tests}
+use Rattle.std.proofs.lemmas.List.{ext_get_or, get_or_append_left, get_or-append_right, get_or-take, get_or-drop, length-take-le, length-drop}
 use Rattle.std.proofs.lemmas.List.FromFn.{length-map-range_with_len, get_or-map-range_with_len, map-range_with_len_more}
 use Rattle.std.proofs.lemmas.List.Sums.{fold_push}
 use Rattle.std.proofs.lemmas.Nat.{div-mul-add, mod-mul-add}
 use Rattle.pdl_reduce.specs.Folds.{total}
 use Rattle.pdl_reduce.specs.Pairings.{sum_below}
+use Rattle.pdl_reduce.specs.Blocks.{cut, left_at, right_at, sum_at}
+use Rattle.pdl_reduce.specs.declared.matrices.Sizes.{Sizes}
+use Rattle.pdl_reduce.proofs.Paired.{sum_agree}
 
 pub sum_more : (f : ℕ → ℤ) (n : ℕ) → sum_below (n + 1) f ≡ sum_below n f +ℤ f n
 sum_more f n = ap total (map-range_with_len_more f 0 n n (omega arith)) ∙ fold_push (λ s x. s +ℤ x) (pos 0) (map f (range_with_len 0 n)) (f n)
@@ -44,3 +48,33 @@ row_of i w j h = div-mul-add i w j h
 
 pub column_of : (i w j : ℕ) → j < w → (i * w + j) % w ≡ j
 column_of i w j h = mod-mul-add i w j h
+
+-- ---- a column of one number
+
+cut_below : (d k : ℕ) → k < d → cut d k ≡ k
+cut_below d k h = grind (arith, nat_tests, h)
+
+-- the sum over two slices is the sum at a row, where neither block is stretched
+pub single_column : (s : Sizes) (left right : List ℤ) (i j n : ℕ) → s.width ≡ 1 → s.left_depth ≡ s.depth → s.right_depth ≡ s.depth → j < s.width → n ≡ s.depth
+    → s.depth * i + n ≤ length left
+    → (let xs = take n (drop (s.depth * i) left) in sum_below (length xs) (λ k. get_or xs k (pos 0) *ℤ get_or right k (pos 0))) ≡ sum_at s left right s.depth i j
+single_column s left right i j n w l r h e within =
+    let d : ℕ = s.depth in
+    let start : ℕ = d * i in
+    let xs : List ℤ = take n (drop start left) in
+    let size : length xs ≡ d = length-take-le n (drop start left) (omega (arith, length-drop start left, within)) ∙ e in
+    let f : ℕ → ℤ = λ k. get_or xs k (pos 0) *ℤ get_or right k (pos 0) in
+    let g : ℕ → ℤ = λ k. left_at s left i k *ℤ right_at s right k j in
+    let same : (k : ℕ) → k < d → f k ≡ g k = λ k below.
+    let from_left : get_or xs k (pos 0) ≡ left_at s left i k =
+    get_or-take n (drop start left) k (pos 0) (omega (arith, e, below)) ∙ get_or-drop start left k (pos 0)
+    ∙ ap (λ (m : ℕ). get_or left m (pos 0)) (omega arith)
+    ∙ ap₂ (λ (c m : ℕ). get_or left (c + m * i) (pos 0)) (sym (cut_below d k below) ∙ ap (λ (m : ℕ). cut m k) (sym l)) (sym l) in
+    let column : k ≡ j + s.width * cut s.right_depth k =
+    ap (λ (m : ℕ). m) (sym (cut_below d k below) ∙ ap (λ (m : ℕ). cut m k) (sym r)) ∙ omega (arith, w, h, ap (λ (m : ℕ). m * cut s.right_depth k) w) in
+    ap₂ (λ (u v : ℤ). u *ℤ v) from_left (ap (λ (m : ℕ). get_or right m (pos 0)) column) in
+    ap (λ (m : ℕ). sum_below m f) size ∙ sum_agree f g d same
+
+pub first_set : (row : List ℤ) (z : ℤ) (j : ℕ) → j ≡ 0 → 0 < length row → get_or (slice_set row 0 z) j (pos 0) ≡ z
+first_set [] z j e h = absurd (omega arith)
+first_set (x ∷ row) z j e h = ap (λ (m : ℕ). get_or (z ∷ row) m (pos 0)) e

@@ -16,7 +16,8 @@ use Rattle.pdl_reduce.specs.declared.Pairing.{Pairing}
 use Rattle.pdl_reduce.specs.declared.Pairing.TheVariants.{Inner, Outer, Matmult}
 use Rattle.pdl_reduce.specs.declared.matrices.Sizes.{Sizes}
 use Rattle.pdl_reduce.specs.Blocks.{Ready, products_at, sizes_of}
-use Rattle.pdl_reduce.specs.Pairings.{element_at, paired_at, paired_dims, paired_element}
+use Rattle.pdl_reduce.specs.Pairings.{paired_at, paired_dims, paired_element}
+use Rattle.pdl_buf.specs.Made.{broadcast_element}
 use Rattle.pdl_reduce.proofs.Paired.{range_agree}
 use Rattle.pdl_reduce.proofs.Pairs.{Positions, inner_is, outer_is, matmult_is}
 use Rattle.pdl_reduce.proofs.Resolved.{Known}
@@ -78,10 +79,10 @@ joins_to xs ys bs js e f = let same : ◌≡◌ {A = Result (List ℕ) Refusal} 
 -- ---- a pairing's elements
 
 pub value : (kind : Pairing) (r : Resolved) (a b : Made) (dims : List ℕ) (n : ℕ) (P : ℕ → ℤ) → paired_dims r ≡ dims → size_of dims ≡ n
-    → ((p : ℕ) → p < n → wrapped r.generic (paired_at kind (slice_index_or r.sizes 0 1) (element_at r.generic a) (element_at r.generic b) (coordinates_of dims p)) ≡ P p)
+    → ((p : ℕ) → p < n → wrapped r.generic (paired_at kind (slice_index_or r.sizes 0 1) (broadcast_element r.generic a) (broadcast_element r.generic b) (coordinates_of dims p)) ≡ P p)
     → map P (range_with_len 0 n) ≡ map (paired_element kind r a b) (range_with_len 0 (size_of (paired_dims r)))
 value kind r a b dims n P e f h =
-    let at : List ℕ → ℕ → ℤ = λ ds p. wrapped r.generic (paired_at kind (slice_index_or r.sizes 0 1) (element_at r.generic a) (element_at r.generic b) (coordinates_of ds p)) in
+    let at : List ℕ → ℕ → ℤ = λ ds p. wrapped r.generic (paired_at kind (slice_index_or r.sizes 0 1) (broadcast_element r.generic a) (broadcast_element r.generic b) (coordinates_of ds p)) in
     sym (ap (λ (ds : List ℕ). map (at ds) (range_with_len 0 (size_of ds))) e ∙ ap (λ (m : ℕ). map (at dims) (range_with_len 0 m)) f ∙ range_agree (at dims) P n h)
 
 -- what is known of both arrays and of their broadcast

@@ -1,14 +1,9 @@
 -- What a call's answer says of the definition.
 use Rattle.std.specs.Prelude.{◌≡◌, Option, Some, None, Result, Ok, Err}
-use Rattle.pdl_buf.specs.Window.{Window}
 use Rattle.pdl_buf.specs.declared.made.Made.{Made}
 use Rattle.pdl_reduce.specs.declared.ReduceFault.{ReduceFault}
 use Rattle.pdl_reduce.specs.declared.ReduceFault.TheVariants.{Mismatch, TooManyDims, TooLarge, TooMuchWork, EmptyReduce, NoMemory}
 use Rattle.pdl_reduce.specs.Refusals.{ReduceRefusal, mismatch, too_many_dims, too_large, too_much_work, empty_reduce}
-
--- what a window shows, as an array
-abbrev pub array_of : Window → Made
-array_of w = record { ty = w.ty; dims = w.dims; elems = w.elems }
 
 -- the refusal that a fault names, but for want of memory
 abbrev pub refusal_named : ReduceFault → Option ReduceRefusal

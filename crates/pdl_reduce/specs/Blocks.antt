@@ -1,5 +1,5 @@
--- Products of two blocks of elements as matrices, which the pairings are made of.
-use Rattle.std.specs.Prelude.{◌≡◌, ◌<◌, ◌≤◌, ℕ, ◌+◌, ◌*◌, ◌/◌, ◌%◌, ◌==◌, ℤ, pos, ◌*ℤ◌, if◌then◌else◌, List, length, get_or, map, take, drop}
+-- A step of the proof: the pairings are products of blocks of elements as matrices.
+use Rattle.std.specs.Prelude.{◌≡◌, ◌<◌, ◌≤◌, ℕ, ◌+◌, ◌*◌, ◌/◌, ◌%◌, ◌==◌, ℤ, pos, ◌*ℤ◌, if◌then◌else◌, List, length, get_or, map, take, drop, Option, Some, None}
 use Rattle.pdl_elem.specs.declared.Ty.{Ty}
 use Rattle.pdl_elem.specs.Numbers.{wrapped}
 use Rattle.pdl_shape.specs.Broadcast.{BroadcastsTo}
@@ -37,10 +37,19 @@ pub record Fit (s : Sizes) (left right : List ℤ) : Type 0 where
   pub left_deep : (k : ℕ) → k < s.depth → cut s.left_depth k < s.left_depth
   pub right_deep : (k : ℕ) → k < s.depth → cut s.right_depth k < s.right_depth
 
+-- the nth block of so many numbers, wrapped to a type
+abbrev pub nth_block : Ty → (count : ℕ) → List ℤ → (n : ℕ) → List ℤ
+nth_block ty count es n = map (wrapped ty) (take count (drop (n * count) es))
+
+-- where a block is held, this is it
+abbrev pub IsHeld : Ty → List ℤ → (held : Option ℕ) → (block : List ℤ) → Type 0
+IsHeld ty es None block = Unit {0}
+IsHeld ty es (Some n) block = block ≡ nth_block ty (length block) es n
+
 -- the block of so many numbers that an array gives at a position of a broadcast, by its sizes after the core ones,
 -- wrapped to a type
 abbrev pub block_at : Ty → (count : ℕ) → List ℤ → (sizes joined : List ℕ) → (position : ℕ) → List ℤ
-block_at ty count es sizes joined q = map (wrapped ty) (take count (drop (stretched_position sizes joined q * count) es))
+block_at ty count es sizes joined q = nth_block ty count es (stretched_position sizes joined q)
 
 -- the number at a place of the products of two arrays' blocks, one product after the other
 abbrev pub products_at : Ty → Sizes → (left right : List ℤ) → (left_sizes right_sizes joined : List ℕ) → ℕ → ℤ

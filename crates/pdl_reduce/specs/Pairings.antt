@@ -1,15 +1,15 @@
 -- Pairings of two arrays by a signature (PDL::Primitive, inner, outer and matmult; PDL::Broadcasting).
-use Rattle.std.specs.Prelude.{ℕ, ℤ, pos, ◌*ℤ◌, List, [], ◌∷◌, map, drop, get_or, slice_index_or, Result, Ok, Err}
+use Rattle.std.specs.Prelude.{ℕ, ℤ, ◌*ℤ◌, List, [], ◌∷◌, map, drop, get_or, slice_index_or, Result, Ok, Err}
 use Rattle.std.specs.List.{range_with_len}
 use Rattle.pdl_elem.specs.declared.Ty.{Ty}
 use Rattle.pdl_elem.specs.Numbers.{wrapped}
-use Rattle.pdl_shape.specs.Broadcast.{cut_to}
-use Rattle.pdl_shape.specs.Shape.{size_of, position_of, coordinates_of}
+use Rattle.pdl_shape.specs.Shape.{size_of, coordinates_of}
 use Rattle.pdl_buf.specs.declared.made.Made.{Made}
-use Rattle.pdl_sig.specs.declared.ArgShape.{ArgShape}
+use Rattle.pdl_buf.specs.Made.{broadcast_element}
 use Rattle.pdl_sig.specs.declared.Resolved.{Resolved}
 use Rattle.pdl_sig.specs.declared.ResolveFault.{ResolveFault}
 use Rattle.pdl_sig.specs.declared.Signature.{Signature}
+use Rattle.pdl_sig.specs.Given.{shape_of}
 use Rattle.pdl_sig.specs.Known as known
 use Rattle.pdl_sig.specs.Resolution.{resolution}
 use Rattle.pdl_reduce.specs.declared.Pairing.{Pairing}
@@ -22,15 +22,6 @@ abbrev pub signature_of : Pairing → Signature
 signature_of Inner = known.inner
 signature_of Outer = known.outer_product
 signature_of Matmult = known.matmult
-
--- an array's type and dimensions, as a call by a signature is given them
-abbrev pub shape_of : Made → ArgShape
-shape_of a = record { ty = a.ty; dims = a.dims }
-
--- the element that an array gives at coordinates of the call, wrapped to a type: it uses 0 where its size is 1,
--- and no coordinates past its dimensions
-abbrev pub element_at : Ty → Made → List ℕ → ℤ
-element_at ty a cs = wrapped ty (get_or a.elems (position_of a.dims (cut_to a.dims cs)) (pos 0))
 
 -- the sum of what a function gives for the numbers below n
 abbrev pub sum_below : (n : ℕ) → (ℕ → ℤ) → ℤ
@@ -53,7 +44,7 @@ paired_dims r = slice_index_or r.shapes 2 []
 -- the element of the result at a position, at the generic type
 abbrev pub paired_element : Pairing → Resolved → (a b : Made) → ℕ → ℤ
 paired_element kind r a b p =
-    let at = paired_at kind (slice_index_or r.sizes 0 1) (element_at r.generic a) (element_at r.generic b) in
+    let at = paired_at kind (slice_index_or r.sizes 0 1) (broadcast_element r.generic a) (broadcast_element r.generic b) in
     wrapped r.generic (at (coordinates_of (paired_dims r) p))
 
 -- the result of a pairing by what its call resolves to: an element at each position of the output

@@ -20,9 +20,13 @@ use Rattle.pdl_reduce.specs.Refusals.{ReduceRefusal, empty_reduce}
 abbrev pub width : List ℕ → ℕ
 width ds = slice_index_or ds 0 1
 
+-- the nth list of so many numbers
+abbrev pub nth_list : (size : ℕ) → List ℤ → (n : ℕ) → List ℤ
+nth_list size xs n = take size (drop (n * size) xs)
+
 -- a list cut into so many lists of so many numbers each
 abbrev pub lists : (count size : ℕ) → List ℤ → List (List ℤ)
-lists count size xs = map (λ i. take size (drop (i * size) xs)) (range_with_len 0 count)
+lists count size xs = map (nth_list size xs) (range_with_len 0 count)
 
 -- the lists along dimension 0, in the order of the other dimensions
 abbrev pub rows : Made → List (List ℤ)

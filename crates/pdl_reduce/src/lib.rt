@@ -1,9 +1,11 @@
 //! Sums, products, extremes and prefixes along dimension 0 and of whole arrays (PDL::Ufunc), and
 //! the inner, outer and matrix product of two arrays (PDL::Primitive).
 //!
-//! Arrays come as windows that are only read, in blocks, and a result is written once.
+//! Arrays come as windows that are only read: reductions in blocks of 512 elements, products a core
+//! block of each array at a time.
 #![tactic(auto)]
 
+mod columns;
 mod folds;
 mod matrices;
 mod meeting;
@@ -66,7 +68,8 @@ pub enum Pairing {
     Matmult,
 }
 
-/// Why there is no result, in the order in which a call answers these.
+/// Why there is no result, in the order in which a call answers these; only want of memory may be
+/// answered at any call.
 #[derive(Clone, Copy, PartialEq, Eq, Debug)]
 pub enum ReduceFault {
     /// The sizes of two arrays don't fit together.
@@ -75,7 +78,8 @@ pub enum ReduceFault {
     TooManyDims,
     /// The product of the result's sizes that aren't 0 would be above 1,048,576.
     TooLarge,
-    /// The broadcast size times all named sizes, of which 0 counts as 1, is above 16,777,216.
+    /// The broadcast size times all named sizes, where a named size of 0 counts as 1, is above
+    /// 16,777,216.
     TooMuchWork,
     /// An extreme is asked of no elements.
     EmptyReduce,

@@ -5,6 +5,7 @@ ghost use Rattle.std.specs.List.{range_with_len};
 ghost use Rattle.pdl_elem.specs.Numbers.{wrapped};
 ghost use Rattle.pdl_shape.specs.Shape.{extent_limit};
 ghost use Rattle.pdl_reduce.specs.Blocks.{Fit, cut, product_at, sum_at};
+ghost use Rattle.pdl_reduce.specs.Pairings.{sum_below};
 
 use pdl_elem::{Ty, wrap_all, wrapping_laws};
 use std::alloc::AllocError;
@@ -19,6 +20,17 @@ pub(crate) struct Sizes {
     pub width: usize,
     pub left_depth: usize,
     pub right_depth: usize,
+}
+
+/// The size along a dimension: 1 where there is none.
+pub(crate) fn size_at(sizes: &[u32], dimension: usize) -> usize
+    ensures { result ≡ get_or sizes.now dimension 1 }
+{
+    if dimension < sizes.len() {
+        sizes[dimension] as usize
+    } else {
+        1
+    }
 }
 
 /// The coordinate that is used along a size.
@@ -38,27 +50,63 @@ fn add_scaled_to(sum: i64, factor: i64, number: i64) -> i64
 /// Adds to each number of a row another number times a factor.
 fn add_scaled(factor: i64, numbers: &[i64], row: &mut [i64])
     requires { length numbers.now ≡ length row.old }
-    ensures { (j : ℕ) → j < length row.old → get_or row.new j (pos 0) ≡ int_wrap w64 (get_or row.old j (pos 0) +ℤ factor *ℤ get_or numbers.now j (pos 0)) }
+    ensures { (j : ℕ) → j < length row.old → get_or row.new j (pos 0)
+        ≡ int_wrap w64 (get_or row.old j (pos 0) +ℤ factor *ℤ get_or numbers.now j (pos 0)) }
 {
     for (j, sum) in row.iter_mut().enumerate() {
         *sum = add_scaled_to(*sum, factor, numbers[j]);
     }
 }
 
-/// Sets a row to row `i` of the product, in words that wrap. It goes through both blocks in order.
-fn set_row(sizes: Sizes, i: usize, left: &[i64], right: &[i64], row: &mut [i64])
+/// The sum of the products of two lists' numbers, in words that wrap.
+fn sum_of_products(left: &[i64], right: &[i64]) -> i64
+    requires { length left.now ≡ length right.now }
+    ensures { result ≡ int_wrap w64
+        (sum_below (length left.now) (λ k. get_or left.now k (pos 0) *ℤ get_or right.now k (pos 0))) }
+{
+    let mut sum = 0;
+    for (k, number) in left.iter().enumerate() {
+        sum = add_scaled_to(sum, *number, right[k]);
+    }
+    sum
+}
+
+/// Sets a row to row `i` of the product, in words that wrap, depth by depth. It goes through both
+/// blocks in order.
+fn add_depths(sizes: Sizes, i: usize, left: &[i64], right: &[i64], row: &mut [i64])
     requires fit { Fit sizes left.now right.now }
     requires inside { i < sizes.height }
     requires width { length row.old ≡ sizes.width }
     requires small_left { length left.now ≤ extent_limit }
     requires small_right { length right.now ≤ extent_limit }
-    ensures { (j : ℕ) → j < sizes.width → get_or row.new j (pos 0) ≡ int_wrap w64 (sum_at sizes left.now right.now sizes.depth i j) }
+    ensures { (j : ℕ) → j < sizes.width → get_or row.new j (pos 0)
+        ≡ int_wrap w64 (sum_at sizes left.now right.now sizes.depth i j) }
 {
     row.fill(0);
     for k in 0..sizes.depth {
         let factor = left[cut(sizes.left_depth, k) + sizes.left_depth * i];
         let start = sizes.width * cut(sizes.right_depth, k);
         add_scaled(factor, &right[start..start + sizes.width], row);
+    }
+}
+
+/// Sets a row to row `i` of the product, in words that wrap. A column of one number is a sum over two
+/// slices, where none of them is stretched.
+fn set_row(sizes: Sizes, i: usize, left: &[i64], right: &[i64], row: &mut [i64])
+    requires fit { Fit sizes left.now right.now }
+    requires inside { i < sizes.height }
+    requires width { length row.old ≡ sizes.width }
+    requires small_left { length left.now ≤ extent_limit }
+    requires small_right { length right.now ≤ extent_limit }
+    ensures { (j : ℕ) → j < sizes.width → get_or row.new j (pos 0)
+        ≡ int_wrap w64 (sum_at sizes left.now right.now sizes.depth i j) }
+{
+    let depth = sizes.depth;
+    if sizes.width == 1 && sizes.left_depth == depth && sizes.right_depth == depth {
+        let start = depth * i;
+        row[0] = sum_of_products(&left[start..start + depth], right);
+    } else {
+        add_depths(sizes, i, left, right, row);
     }
 }
 
@@ -75,7 +123,8 @@ pub(crate) fn add_product(
     requires width { length row.old ≡ sizes.width }
     requires small_left { length left.now ≤ extent_limit }
     requires small_right { length right.now ≤ extent_limit }
-    ensures { let new = map (product_at ty sizes left.now right.now) (range_with_len 0 (sizes.height * sizes.width)) in
+    ensures { let at = product_at ty sizes left.now right.now in
+        let new = map at (range_with_len 0 (sizes.height * sizes.width)) in
         OnOk result (made.new.items ≡ made.old.items ++ new) }
 {
     wrapping_laws();

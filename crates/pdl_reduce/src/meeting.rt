@@ -1,12 +1,11 @@
 //! The products of two arrays' blocks at each place of a broadcast.
-ghost use Rattle.std.specs.Prelude.{◌≡◌, ◌<◌, ◌≤◌, ◌+◌, ◌*◌, ℕ, List, [], ◌∷◌, Some, slice_get, length, map, take, drop, IfOk};
+ghost use Rattle.std.specs.Prelude.{◌≡◌, ◌<◌, ◌≤◌, ◌+◌, ◌*◌, ℕ, List, [], ◌∷◌, Some, slice_get, length, map, IfOk};
 ghost use Rattle.std.specs.List.{range_with_len};
-ghost use Rattle.pdl_elem.specs.Numbers.{wrapped};
 ghost use Rattle.pdl_shape.specs.Broadcast.{BroadcastsTo};
 ghost use Rattle.pdl_shape.specs.Shape.{extent_limit, size_of};
 ghost use Rattle.pdl_shape.specs.Stretched.{stretched_position};
 ghost use Rattle.pdl_shape.specs.Triple.{whole};
-ghost use Rattle.pdl_reduce.specs.Blocks.{Ready, products_at};
+ghost use Rattle.pdl_reduce.specs.Blocks.{IsHeld, Ready, nth_block, products_at};
 
 use crate::matrices::{Sizes, add_product};
 use pdl_broadcast::BroadcastWalk;
@@ -19,10 +18,25 @@ use std::alloc::{AllocError, Global};
 fn read_block(ty: Ty, from: &Strided<'_>, position: u32, into: &mut [i64])
     requires within { position * length into.old + length into.old ≤ length from.now.elems }
     requires small { length from.now.elems ≤ extent_limit }
-    ensures { into.new ≡ map (wrapped ty) (take (length into.old) (drop (position * length into.old) from.now.elems)) }
+    ensures { into.new ≡ nth_block ty (length into.old) from.now.elems position }
 {
     strided_read(from, position * into.len() as u32, into);
     wrap_all(ty, into);
+}
+
+/// Reads a window's block at a position as `read_block` does, where it isn't the one that is held: a
+/// block that is stretched over a dimension is read once for all places along it.
+fn hold_block(ty: Ty, from: &Strided<'_>, position: u32, held: &mut Option<u32>, block: &mut [i64])
+    requires within { position * length block.old + length block.old ≤ length from.now.elems }
+    requires small { length from.now.elems ≤ extent_limit }
+    requires held { IsHeld ty from.now.elems held.old block.old }
+    ensures block { block.new ≡ nth_block ty (length block.old) from.now.elems position }
+    ensures held { IsHeld ty from.now.elems held.new block.new }
+{
+    if *held != Some(position) {
+        read_block(ty, from, position, block);
+        *held = Some(position);
+    }
 }
 
 /// A walk over a broadcast of two arrays of these sizes, in order.
@@ -34,7 +48,8 @@ fn walk_over(
 ) -> Result<BroadcastWalk, AllocError>
     requires left { BroadcastsTo left.now joined.now }
     requires right { BroadcastsTo right.now joined.now }
-    ensures { IfOk result (λ walk. walk ≡ record { dims = joined.now; triples = whole left.now ∷ whole right.now ∷ []; index = 0 }) }
+    ensures { let triples = whole left.now ∷ whole right.now ∷ [] in
+        IfOk result (λ walk. walk ≡ record { dims = joined.now; triples = triples; index = 0 }) }
 {
     let mut walk = BroadcastWalk::new(alloc, joined)?;
     walk.add(&whole_triple(alloc, left))?;
@@ -55,8 +70,9 @@ fn position_at(walk: &BroadcastWalk, argument: usize) -> u32
     walk.offset(argument)
 }
 
-/// The products of two windows' blocks at each place of a broadcast, one after the other. The sizes
-/// after the blocks' own ones stretch to the joined ones.
+/// The products of two windows' blocks at each place of a broadcast, one after the other, in a list
+/// that is empty and may have room for them. The sizes after the blocks' own ones stretch to the
+/// joined ones.
 pub(crate) fn products(
     alloc: Global,
     ty: Ty,
@@ -66,10 +82,15 @@ pub(crate) fn products(
     left_sizes: &Dims,
     right_sizes: &Dims,
     joined: &Dims,
+    mut made: Vec<i64>,
 ) -> Result<Vec<i64>, AllocError>
-    requires ready { Ready sizes left.now.elems right.now.elems left_sizes.now right_sizes.now joined.now }
-    ensures { let at = products_at ty sizes left.now.elems right.now.elems left_sizes.now right_sizes.now joined.now in
-        IfOk result (λ made. made.items ≡ map at (range_with_len 0 (size_of joined.now * (sizes.height * sizes.width)))) }
+    requires ready { Ready sizes left.now.elems right.now.elems
+        left_sizes.now right_sizes.now joined.now }
+    requires empty { made.items ≡ [] }
+    ensures { let at = products_at ty sizes left.now.elems right.now.elems
+        left_sizes.now right_sizes.now joined.now in
+        let count = size_of joined.now * (sizes.height * sizes.width) in
+        IfOk result (λ products. products.items ≡ map at (range_with_len 0 count)) }
 {
     shape_laws();
     let mut walk = walk_over(alloc, left_sizes, right_sizes, joined)?;
@@ -79,10 +100,17 @@ pub(crate) fn products(
     let left_block = left_room.as_mut_slice();
     let right_block = right_room.as_mut_slice();
     let row = row_room.as_mut_slice();
-    let mut made = Vec::new(alloc);
+    let mut left_held = None;
+    let mut right_held = None;
     for _q in 0..elements_of(joined) {
-        read_block(ty, left, position_at(&walk, 0), left_block);
-        read_block(ty, right, position_at(&walk, 1), right_block);
+        hold_block(ty, left, position_at(&walk, 0), &mut left_held, left_block);
+        hold_block(
+            ty,
+            right,
+            position_at(&walk, 1),
+            &mut right_held,
+            right_block,
+        );
         add_product(ty, sizes, left_block, right_block, row, &mut made)?;
         walk.next();
     }

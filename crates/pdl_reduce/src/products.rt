@@ -1,7 +1,7 @@
 //! Products of two arrays (PDL::Primitive).
 ghost use Rattle.std.specs.Prelude.{◌≡◌, ◌<◌, [], ◌∷◌, length, IfOk, IfErr, IsOk, Ok, Some, None, get_or, if◌then◌else◌, map, codes};
 ghost use Rattle.std.specs.List.{range_with_len};
-ghost use Rattle.pdl_buf.specs.Made.{IsMade};
+ghost use Rattle.pdl_buf.specs.Made.{IsMade, array_of};
 ghost use Rattle.pdl_sig.specs.Known.{generic_arg};
 ghost use Rattle.pdl_sig.specs.declared.Role.TheVariants.{Input, Output};
 ghost use Rattle.pdl_sig.specs.Resolution.{resolution};
@@ -10,17 +10,18 @@ ghost use Rattle.pdl_shape.specs.Joined.{joined_dims};
 ghost use Rattle.pdl_shape.specs.Shape.{size_of};
 ghost use Rattle.pdl_reduce.specs.declared.Pairing.TheVariants.{Inner, Outer, Matmult};
 ghost use Rattle.pdl_reduce.specs.Blocks.{sizes_of};
-ghost use Rattle.pdl_reduce.specs.Answers.{Answers, IsRefused, array_of, refusal_named};
+ghost use Rattle.pdl_reduce.specs.Answers.{Answers, IsRefused, refusal_named};
 ghost use Rattle.pdl_reduce.specs.Refusals.{is_want_of_memory, refusal_of};
-ghost use Rattle.pdl_reduce.specs.Pairings.{paired, paired_dims, paired_element, shape_of, signature_of};
+ghost use Rattle.pdl_reduce.specs.Pairings.{paired, paired_dims, paired_element, signature_of};
+ghost use Rattle.pdl_sig.specs.Given.{shape_of};
 
-use crate::matrices::Sizes;
+use crate::matrices::{Sizes, size_at};
 use crate::meeting::products;
 use crate::reducing::dims_after;
 use crate::{Pairing, ReduceFault};
 use pdl_buf::{Elements, Made, Strided, strided_dims, strided_type};
 use pdl_elem::{Items, Name, wrapping_laws};
-use pdl_shape::{Dims, copy_dims, dims_list, join_dims, shape_laws};
+use pdl_shape::{Dims, copy_dims, dims_list, elements_of, join_dims, shape_laws};
 use pdl_sig::{ArgShape, ArgType, ResolveFault, Resolved, Role, SigArg, Signature, resolve};
 use std::alloc::{AllocError, Global};
 
@@ -97,7 +98,10 @@ fn fault_of(fault: ResolveFault) -> ReduceFault
         ResolveFault::TooLarge => ReduceFault::TooLarge,
         ResolveFault::TooMuchWork => ReduceFault::TooMuchWork,
         ResolveFault::NoMemory => ReduceFault::NoMemory,
-        _ => ReduceFault::Mismatch,
+        ResolveFault::ArgCount
+        | ResolveFault::CoreMismatch
+        | ResolveFault::BroadcastMismatch
+        | ResolveFault::StretchedInOut => ReduceFault::Mismatch,
     }
 }
 
@@ -127,17 +131,6 @@ fn resolved(
     match resolve(alloc, &signature, &[shape_of(a), shape_of(b)]) {
         Ok(resolved) => Ok(resolved),
         Err(fault) => Err(fault_of(fault)),
-    }
-}
-
-/// The size along a dimension: 1 where there is none.
-fn size_at(sizes: &[u32], dimension: usize) -> usize
-    ensures { result ≡ get_or sizes.now dimension 1 }
-{
-    if dimension < sizes.len() {
-        sizes[dimension] as usize
-    } else {
-        1
     }
 }
 
@@ -190,6 +183,14 @@ fn output_dims(resolved: &Resolved) -> Dims
     copy_dims(&resolved.shapes.as_slice()[2])
 }
 
+/// How many elements the output has: 1 where there is none.
+fn output_count(resolved: &Resolved) -> usize {
+    match resolved.shapes.as_slice() {
+        [_, _, output] => elements_of(output) as usize,
+        _ => 1,
+    }
+}
+
 /// The elements of an inner product, which resolves so.
 fn inner_elements(
     alloc: Global,
@@ -208,8 +209,19 @@ fn inner_elements(
     let ys = dims_after(alloc, second, 1);
     let joined = joined(alloc, &xs, &ys);
     let depth = size_at(resolved.sizes.as_slice(), 0);
+    let made = Vec::with_capacity(alloc, output_count(resolved))?;
     let sizes = sizes_of(Pairing::Inner, depth, dims_list(first), dims_list(second));
-    products(alloc, resolved.generic, sizes, a, b, &xs, &ys, &joined)
+    products(
+        alloc,
+        resolved.generic,
+        sizes,
+        a,
+        b,
+        &xs,
+        &ys,
+        &joined,
+        made,
+    )
 }
 
 /// The elements of an outer product, which resolves so.
@@ -230,8 +242,19 @@ fn outer_elements(
     let ys = dims_after(alloc, second, 1);
     let joined = joined(alloc, &xs, &ys);
     let depth = size_at(resolved.sizes.as_slice(), 0);
+    let made = Vec::with_capacity(alloc, output_count(resolved))?;
     let sizes = sizes_of(Pairing::Outer, depth, dims_list(first), dims_list(second));
-    products(alloc, resolved.generic, sizes, b, a, &ys, &xs, &joined)
+    products(
+        alloc,
+        resolved.generic,
+        sizes,
+        b,
+        a,
+        &ys,
+        &xs,
+        &joined,
+        made,
+    )
 }
 
 /// The elements of a matrix product, which resolves so.
@@ -252,8 +275,19 @@ fn matmult_elements(
     let ys = dims_after(alloc, second, 2);
     let joined = joined(alloc, &xs, &ys);
     let depth = size_at(resolved.sizes.as_slice(), 0);
+    let made = Vec::with_capacity(alloc, output_count(resolved))?;
     let sizes = sizes_of(Pairing::Matmult, depth, dims_list(first), dims_list(second));
-    products(alloc, resolved.generic, sizes, a, b, &xs, &ys, &joined)
+    products(
+        alloc,
+        resolved.generic,
+        sizes,
+        a,
+        b,
+        &xs,
+        &ys,
+        &joined,
+        made,
+    )
 }
 
 /// The elements of a pairing, which resolves so.

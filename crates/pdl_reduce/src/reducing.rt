@@ -1,17 +1,20 @@
 //! Reductions along dimension 0 and of whole arrays (PDL::Ufunc).
-ghost use Rattle.std.specs.Prelude.{◌≡◌, ◌<◌, ◌≤◌, ◌*◌, ℕ, List, [], ◌∷◌, length, drop, All, IsTrue, IfOk, if◌then◌else◌};
-ghost use Rattle.std.specs.List.{flat_map};
-ghost use Rattle.pdl_buf.specs.Made.{IsMade};
+ghost use Rattle.std.specs.Prelude.{◌≡◌, ◌<◌, ◌≤◌, ◌*◌, ℕ, List, [], ◌∷◌, length, drop, get_or, map, All, IsTrue, IfOk, if◌then◌else◌};
+ghost use Rattle.std.specs.List.{flat_map, range_with_len};
+ghost use Rattle.pdl_buf.specs.Made.{IsMade, array_of};
 ghost use Rattle.pdl_elem.specs.Types.{InRange};
 ghost use Rattle.pdl_shape.specs.Shape.{IsDims, extent_limit, size_of};
-ghost use Rattle.pdl_reduce.specs.Answers.{Answers, array_of};
+ghost use Rattle.pdl_reduce.specs.Answers.{Answers};
+ghost use Rattle.pdl_reduce.specs.Across.{come_to};
 ghost use Rattle.pdl_reduce.specs.Reductions.{answer, flat, is_extreme, lists, reduced, reduced_dims, reduced_row, reduced_type, whole, width};
 
+use crate::columns::add_lists;
+use crate::folds::{Adding, Folding, Multiplying};
 use crate::rows::{add_row, sum_type};
 use crate::windows::{BLOCK, all_set, any_set};
 use crate::{ReduceFault, Reduction, Whole};
-use pdl_buf::{Elements, Made, Strided, strided_dims, strided_type};
-use pdl_elem::Ty;
+use pdl_buf::{Elements, Made, Strided, strided_dims, strided_is_turned, strided_type};
+use pdl_elem::{Ty, wrapping_laws};
 use pdl_shape::{Dims, copy_dims, dims_list, dims_of, elements_of, shape_laws};
 use std::alloc::{AllocError, Global};
 
@@ -99,6 +102,15 @@ fn reduced_dims(alloc: Global, kind: Reduction, dims: &Dims) -> Dims
     }
 }
 
+/// How many numbers a reduction makes of so many lists of this size, as room for them: a list may
+/// grow past it.
+fn made_count(kind: Reduction, count: u32, size: u32) -> usize {
+    match kind {
+        Reduction::Cumusumover | Reduction::Cumuprodover => count as usize * size as usize,
+        _ => count as usize,
+    }
+}
+
 /// What a reduction makes of a window's elements, cut into so many lists of this size.
 fn reduced_lists(
     alloc: Global,
@@ -117,11 +129,66 @@ fn reduced_lists(
 {
     let mut room = vec![in alloc; 0; BLOCK.min(size as usize)]?;
     let block = room.as_mut_slice();
-    let mut made = Vec::new(alloc);
+    let mut made = Vec::with_capacity(alloc, made_count(kind, count, size))?;
     for i in 0..count {
         add_row(kind, a, i * size, size, block, &mut made)?;
     }
     Ok(made)
+}
+
+/// What the lists along dimension 0 come to by a fold, many lists at once, wrapped to a type.
+fn folded_lists<F: Folding>(
+    alloc: Global,
+    a: &Strided<'_>,
+    ty: Ty,
+    count: u32,
+    size: u32,
+    start: i64,
+) -> Result<Vec<i64>, AllocError>
+    requires size { size ≡ get_or a.now.dims 0 1 }
+    requires planes { 0 < get_or a.now.dims 1 1 }
+    requires whole { count * size ≡ length a.now.elems }
+    requires small { length a.now.elems ≤ extent_limit }
+    ensures { let at = come_to ty F.taken start size a.now.elems in
+        IfOk result (λ elems. elems.items ≡ map at (range_with_len 0 count)) }
+{
+    let width = BLOCK.min(count as usize);
+    let mut row = vec![in alloc; 0; width]?;
+    let mut so_far = vec![in alloc; 0; width]?;
+    let mut made = Vec::with_capacity(alloc, count as usize)?;
+    let (row, so_far) = (row.as_mut_slice(), so_far.as_mut_slice());
+    add_lists::<F>(a, ty, count, size, start, row, so_far, &mut made)?;
+    Ok(made)
+}
+
+/// What a reduction makes of a window's lists along dimension 0, so many of this size. Sums and
+/// products go across where that goes through the buffer in its order.
+fn reduced_window(
+    alloc: Global,
+    kind: Reduction,
+    a: &Strided<'_>,
+    count: u32,
+    size: u32,
+) -> Result<Vec<i64>, AllocError>
+    requires size { size ≡ get_or a.now.dims 0 1 }
+    requires whole { count * size ≡ length a.now.elems }
+    requires small { length a.now.elems ≤ extent_limit }
+    requires some { IsTrue (is_extreme kind) → 0 < size }
+    ensures value { let made = flat_map (reduced_row kind a.now.ty) (lists count size a.now.elems) in
+        IfOk result (λ elems. elems.items ≡ made) }
+    ensures in_range { let ty = reduced_type kind a.now.ty in
+        IfOk result (λ elems. All (InRange ty) elems.items) }
+{
+    wrapping_laws();
+    if !strided_is_turned(a) {
+        return reduced_lists(alloc, kind, a, count, size);
+    }
+    let ty = sum_type(strided_type(a));
+    match kind {
+        Reduction::Sumover => folded_lists::<Adding>(alloc, a, ty, count, size, 0),
+        Reduction::Prodover => folded_lists::<Multiplying>(alloc, a, ty, count, size, 1),
+        _ => reduced_lists(alloc, kind, a, count, size),
+    }
 }
 
 /// A reduction of each list of elements along dimension 0 (PDL::Ufunc). The result has the array's
@@ -138,7 +205,7 @@ pub fn reduce(alloc: Global, kind: Reduction, a: &Strided<'_>) -> Result<Made, R
     if is_extreme(kind) && size == 0 {
         return Err(ReduceFault::EmptyReduce);
     }
-    let elems = reduced_lists(alloc, kind, a, count_lists(alloc, dims), size)?;
+    let elems = reduced_window(alloc, kind, a, count_lists(alloc, dims), size)?;
     Ok(Made {
         ty: reduced_type(kind, strided_type(a)),
         dims: reduced_dims(alloc, kind, dims),

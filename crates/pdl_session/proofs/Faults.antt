@@ -4,7 +4,8 @@ use Rattle.std.specs.Result.{IsErrAnd}
 use Rattle.pdl_elem.specs.declared.BinaryOp.{BinaryOp}
 use Rattle.pdl_buf.specs.Window.{Window}
 use Rattle.pdl_buf.specs.declared.made.Made.{Made}
-use Rattle.pdl_ops.specs.Answers.{IsRefused, array_of, refusal_named}
+use Rattle.pdl_ops.specs.Answers.{IsRefused, refusal_named}
+use Rattle.pdl_buf.specs.Made.{array_of}
 use Rattle.pdl_ops.specs.Elementwise.{OpRefusal, elementwise}
 use Rattle.pdl_ops.specs.declared.OpFault.{OpFault}
 use Rattle.pdl_ops.specs.declared.OpFault.TheVariants.{Mismatch, TooLarge, DivideByZero, NoMemory}

@@ -24,7 +24,7 @@ use Rattle.pdl_world.specs.Sound.{IsLive}
 use Rattle.pdl_machine.specs.declared.fault.Fault.TheVariants.{WrongArguments}
 use Rattle.pdl_machine.specs.Arrays.{Arrays, array_in}
 use Rattle.pdl_machine.specs.Kernels.{array_seen, called_on, kernel_outputs, outputs_count, resolve_fault, run_fault}
-use Rattle.pdl_reduce.specs.Pairings.{shape_of}
+use Rattle.pdl_sig.specs.Given.{shape_of}
 use Rattle.pdl_machine.specs.Refused.{or_named}
 use Rattle.pdl_machine.specs.Then.{and_more, all_of, and_then, or_fault}
 use Rattle.pdl_session.specs.declared.fault.StepFault.{StepFault}

@@ -2,7 +2,7 @@
 use Rattle.std.proofs.Common.{◌≡◌, ℕ, List, [], ◌∷◌, Option, Some, None, Result, Err, refl, sym, ap, ◌∙◌}
 use Rattle.pdl_buf.specs.Window.{Window}
 use Rattle.pdl_buf.specs.declared.made.Made.{Made}
-use Rattle.pdl_reduce.specs.Answers.{array_of}
+use Rattle.pdl_buf.specs.Made.{array_of}
 use Rattle.pdl_reduce.specs.Refusals.{ReduceRefusal}
 use Rattle.pdl_engine.specs.State.{State as Engine, shown_in}
 use Rattle.pdl_machine.specs.declared.fault.Fault.{Fault}

@@ -8,7 +8,7 @@ use Rattle.pdl_kernel.specs.Kernels.{Kernel}
 use Rattle.pdl_machine.specs.Names.{Named, Names}
 use Rattle.pdl_sig.specs.declared.ArgShape.{ArgShape}
 use Rattle.pdl_machine.specs.Arrays.{Arrays, array_in}
-use Rattle.pdl_reduce.specs.Pairings.{shape_of}
+use Rattle.pdl_sig.specs.Given.{shape_of}
 use Rattle.pdl_machine.specs.State.{State, no_names}
 use Rattle.pdl_machine.specs.Laws.{AreGrown}
 

@@ -20,7 +20,7 @@ use pdl_engine::{ArrayId, Engine};
 use pdl_kernel::{Kernel, KernelRun, kernel_signature};
 use pdl_machine::Fault;
 use pdl_shape::copy_dims;
-use pdl_sig::{ArgShape, Role, SigArg, Signature, resolve};
+use pdl_sig::{ArgShape, SigArg, Signature, is_output, resolve};
 use std::alloc::{AllocError, Global};
 use std::sync::ledger::Ledger;
 
@@ -69,13 +69,6 @@ fn count_outputs(args: &[SigArg]) -> usize
         [first, rest @ ..] if is_output(first.role) => 1 + count_outputs(rest),
         [_, rest @ ..] => count_outputs(rest),
     }
-}
-
-/// Whether a call answers an argument of this role.
-fn is_output(role: Role) -> bool
-    ensures { result ≡ is_output role }
-{
-    matches!(role, Role::Output | Role::Both)
 }
 
 /// The arrays that arguments are, if each is one.

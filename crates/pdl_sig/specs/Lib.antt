@@ -1,4 +1,5 @@
 pub mod Grammar
+pub mod Given
 pub mod Known
 pub mod Meaning
 pub mod Reading

@@ -15,6 +15,7 @@ mod shapes;
 mod signing;
 pub mod written;
 
+pub use inputs::is_output;
 use pdl_elem::{Items, Name, Ty};
 use pdl_shape::Dims;
 pub use resolving::resolve;
@@ -135,7 +136,8 @@ pub enum ResolveFault {
     TooManyDims,
     /// The extent of the broadcast dimensions, of an output or of a temporary is above 1,048,576.
     TooLarge,
-    /// The broadcast size times all named sizes, of which 0 counts as 1, is above 16,777,216.
+    /// The broadcast size times all named sizes, where a named size of 0 counts as 1, is above
+    /// 16,777,216.
     TooMuchWork,
     /// Memory has run out.
     NoMemory,

@@ -4,7 +4,7 @@ use Rattle.pdl_elem.specs.declared.Ty.{Ty}
 use Rattle.pdl_elem.specs.Types.{InRange, promoted, binary_result}
 use Rattle.pdl_shape.specs.Joined.{joined_dims}
 use Rattle.pdl_buf.specs.Window.{Window}
-use Rattle.pdl_ops.specs.Answers.{array_of}
+use Rattle.pdl_buf.specs.Made.{array_of}
 use Rattle.pdl_ops.proofs.Results.{elementwise_ok, joined_ok, result_at, stretched_length}
 use Rattle.pdl_ops.proofs.arrays.elementwise.Goals as goal
 

@@ -6,7 +6,7 @@ use Rattle.pdl_shape.specs.Refusals.{mismatch, refusal_of}
 use Rattle.pdl_shape.specs.Shape.{extent}
 use Rattle.pdl_shape.specs.Stretched.{stretched}
 use Rattle.pdl_buf.specs.Window.{Window}
-use Rattle.pdl_ops.specs.Answers.{array_of}
+use Rattle.pdl_buf.specs.Made.{array_of}
 use Rattle.pdl_ops.specs.Elementwise.{OpRefusal, no_dims}
 use Rattle.pdl_ops.specs.Values.{fits, new_values, values_for}
 use Rattle.pdl_ops.proofs.Fitting.{joined_padded, joined_never, padded_stretched}

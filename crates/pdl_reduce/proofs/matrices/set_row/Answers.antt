@@ -1,31 +1,21 @@
--- One depth more.
-use Rattle.std.proofs.Common.{rules, ◌≡◌, ◌+◌, ◌-◌, ◌*◌, ◌*ℤ◌, ℕ, ℤ, pos, List, get_or, take, drop, arith, to_z, of_z, FitsSigned, ap, ap₂, ◌∙◌}
+-- A column of one number.
+use Rattle.std.proofs.Common.{◌≡◌, ◌≤◌, ◌+◌, ◌-◌, ◌*◌, ◌*ℤ◌, ℕ, ℤ, pos, List, length, get_or, take, drop, slice_set, arith, to_z, of_z, FitsSigned, ap, ◌∙◌}
 use Rattle.std.proofs.lemmas.Int.{to_z-of_z}
-use Rattle.std.proofs.lemmas.List.{get_or-take, get_or-drop}
-use Rattle.std.specs.Int.{w64}
-use Rattle.pdl_reduce.specs.Blocks.{left_at, right_at}
-use Rattle.pdl_reduce.proofs.Matrix.{wrapped_more}
+use Rattle.std.proofs.Math.Nat.{mul-le-mul}
+use Rattle.std.specs.Int.{int_wrap, w64}
+use Rattle.pdl_reduce.specs.Blocks.{sum_at}
+use Rattle.pdl_reduce.proofs.Matrix.{first_set, single_column}
 use Rattle.pdl_reduce.proofs.matrices.set_row.Goals as goal
 
-pub loop-k-preserved : goal.loop-k-preserved
-loop-k-preserved c =
+pub returns-then-sizes-depth-2 : goal.returns-then-sizes-depth-2
+returns-then-sizes-depth-2 c = λ j h.
     let s = c.args.sizes in
-    let k : ℕ = c.loop-k.k in
     let left : List ℤ = c.args.left.now in
     let right : List ℤ = c.args.right.now in
-    let at : ℕ = c.cut.result + s.left_depth * c.args.i in
-    let start : ℕ = s.width * c.cut-in-loop-k.result in
-    let fits : FitsSigned w64 (get_or left at (pos 0)) = search rules in
-    let factor : to_z w64 (of_z w64 (get_or left at (pos 0))) ≡ left_at s left c.args.i k =
-    to_z-of_z w64 (get_or left at (pos 0)) fits ∙ ap (λ (n : ℕ). get_or left (n + s.left_depth * c.args.i) (pos 0)) c.cut.ensures in
-    record {
-      width = omega arith;
-      summed = λ j h.
-          let f : ℕ → ℤ = λ k. left_at s left c.args.i k *ℤ right_at s right k j in
-          let run : start + s.width - start ≡ s.width = omega arith in
-          let number : get_or (take (start + s.width - start) (drop start right)) j (pos 0) ≡ right_at s right k j =
-          get_or-take (start + s.width - start) (drop start right) j (pos 0) (omega (arith, run, h)) ∙ get_or-drop start right j (pos 0)
-          ∙ ap (λ (n : ℕ). get_or right n (pos 0)) (omega arith) ∙ ap (λ (n : ℕ). get_or right (j + s.width * n) (pos 0)) c.cut-in-loop-k.ensures in
-          c.add_scaled.ensures j (omega (arith, c.loop-k.invariant.width, h))
-          ∙ wrapped_more f k (get_or c.loop-k.row j (pos 0)) _ (c.loop-k.invariant.summed j h) (ap₂ (λ (u v : ℤ). u *ℤ v) factor number);
-    }
+    let start : ℕ = s.depth * c.args.i in
+    let fits : FitsSigned w64 c.sum_of_products.result = record { sfits = c.sum_of_products.type_inv } in
+    let within : start + (start + s.depth - start) ≤ length left =
+    omega (arith, c.requires.fit.left_count, c.if-sizes-depth.true, c.requires.inside, ap (λ (m : ℕ). m * s.height) c.if-sizes-depth.true, mul-le-mul {n₁ = s.depth} {m₁ = c.args.i + 1} {n₂ = s.depth} {m₂ = s.height} (omega arith) (omega (arith, c.requires.inside))) in
+    first_set c.args.row.now (to_z w64 (of_z w64 c.sum_of_products.result)) j (omega (arith, c.if-sizes-eq1.true, h)) (omega (arith, c.requires.width, h))
+    ∙ to_z-of_z w64 c.sum_of_products.result fits ∙ c.sum_of_products.ensures
+    ∙ ap (int_wrap w64) (single_column s left right c.args.i j (start + s.depth - start) c.if-sizes-eq1.true c.if-sizes-depth.true c.if-sizes-depth-2.true h (omega arith) within)

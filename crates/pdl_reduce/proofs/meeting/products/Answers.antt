@@ -20,11 +20,13 @@ loop-q-init c =
       left = omega (arith, c.as_mut_slice-left_block.ensures.len, c.in_ok-left_room.ensures.len);
       right = omega (arith, c.as_mut_slice-right_block.ensures.len, c.in_ok-right_room.ensures.len);
       row = omega (arith, c.as_mut_slice-row.ensures.len, c.in_ok-row_room.ensures.len);
-      made = c.new-made.ensures.items ∙ ap (λ (m : ℕ). map P (range_with_len 0 m)) none;
+      left_held = tt;
+      right_held = tt;
+      made = c.requires.empty ∙ ap (λ (m : ℕ). map P (range_with_len 0 m)) none;
     }
 
-pub read_block-requires-clause-within : goal.read_block-requires-clause-within
-read_block-requires-clause-within c =
+pub hold_block-requires-clause-within : goal.hold_block-requires-clause-within
+hold_block-requires-clause-within c =
     let n : ℕ = length c.loop-q.left_block in
     let ds : List ℕ = c.args.left_sizes.now in
     let there : slice_get c.loop-q.walk.triples 0 ≡ Some (whole ds) = ap (λ (w : Walk). slice_get w.triples 0) c.loop-q.invariant.walk in
@@ -32,8 +34,8 @@ read_block-requires-clause-within c =
     let all : length c.args.left.now.elems ≡ size_of ds * n = c.requires.ready.left_count ∙ ap (λ (m : ℕ). size_of ds * m) (sym c.loop-q.invariant.left) in
     omega (arith, row_inside c.position_at.result (size_of ds) n below, all)
 
-pub read_block-requires-in-loop-q-clause-within : goal.read_block-requires-in-loop-q-clause-within
-read_block-requires-in-loop-q-clause-within c =
+pub hold_block-requires-in-loop-q-clause-within : goal.hold_block-requires-in-loop-q-clause-within
+hold_block-requires-in-loop-q-clause-within c =
     let n : ℕ = length c.loop-q.right_block in
     let ds : List ℕ = c.args.right_sizes.now in
     let there : slice_get c.loop-q.walk.triples 1 ≡ Some (whole ds) = ap (λ (w : Walk). slice_get w.triples 1) c.loop-q.invariant.walk in
@@ -56,16 +58,18 @@ loop-q-preserved c =
     c.position_at.ensures.position ls left_there ∙ ap (λ (w : Walk). stretched_position ls w.dims w.index) c.loop-q.invariant.walk in
     let right_at : c.position_at-in-loop-q.result ≡ stretched_position rs joined q =
     c.position_at-in-loop-q.ensures.position rs right_there ∙ ap (λ (w : Walk). stretched_position rs w.dims w.index) c.loop-q.invariant.walk in
-    let lb : c.read_block.new.into ≡ block_at c.args.ty (s.left_depth * s.height) les ls joined q =
-    block_read c.args.ty les ls joined q (s.left_depth * s.height) (length c.loop-q.left_block) c.position_at.result c.read_block.new.into c.loop-q.invariant.left left_at c.read_block.ensures in
-    let rb : c.read_block-in-loop-q.new.into ≡ block_at c.args.ty (s.width * s.right_depth) res rs joined q =
-    block_read c.args.ty res rs joined q (s.width * s.right_depth) (length c.loop-q.right_block) c.position_at-in-loop-q.result c.read_block-in-loop-q.new.into c.loop-q.invariant.right right_at c.read_block-in-loop-q.ensures in
+    let lb : c.hold_block.new.block ≡ block_at c.args.ty (s.left_depth * s.height) les ls joined q =
+    block_read c.args.ty les ls joined q (s.left_depth * s.height) (length c.loop-q.left_block) c.position_at.result c.hold_block.new.block c.loop-q.invariant.left left_at c.hold_block.ensures.block in
+    let rb : c.hold_block-in-loop-q.new.block ≡ block_at c.args.ty (s.width * s.right_depth) res rs joined q =
+    block_read c.args.ty res rs joined q (s.width * s.right_depth) (length c.loop-q.right_block) c.position_at-in-loop-q.result c.hold_block-in-loop-q.new.block c.loop-q.invariant.right right_at c.hold_block-in-loop-q.ensures.block in
     record {
       walk = c.next.ensures ∙ ap (λ (w : Walk). record w { index = w.index + 1 }) c.loop-q.invariant.walk;
       left = omega (arith, c.loop-q.invariant.left);
       right = omega (arith, c.loop-q.invariant.right);
+      left_held = c.hold_block.ensures.held;
+      right_held = c.hold_block-in-loop-q.ensures.held;
       row = omega (arith, c.loop-q.invariant.row);
       made = c.in_ok-add_product.ensures
-          ∙ ap (λ (zs : List ℤ). zs ++ map (product_at c.args.ty s c.read_block.new.into c.read_block-in-loop-q.new.into) (range_with_len 0 (s.height * s.width))) c.loop-q.invariant.made
-          ∙ sym (products_more c.args.ty s les res ls rs joined q c.read_block.new.into c.read_block-in-loop-q.new.into lb rb);
+          ∙ ap (λ (zs : List ℤ). zs ++ map (product_at c.args.ty s c.hold_block.new.block c.hold_block-in-loop-q.new.block) (range_with_len 0 (s.height * s.width))) c.loop-q.invariant.made
+          ∙ sym (products_more c.args.ty s les res ls rs joined q c.hold_block.new.block c.hold_block-in-loop-q.new.block lb rb);
     }

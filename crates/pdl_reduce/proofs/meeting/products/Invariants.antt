@@ -2,7 +2,7 @@
 use Rattle.std.proofs.Common.{◌≡◌, ◌*◌, [], ◌∷◌, map, length}
 use Rattle.std.specs.List.{range_with_len}
 use Rattle.pdl_shape.specs.Triple.{whole}
-use Rattle.pdl_reduce.specs.Blocks.{products_at}
+use Rattle.pdl_reduce.specs.Blocks.{IsHeld, products_at}
 use Rattle.pdl_reduce.proofs.meeting.products.Given as goal
 
 abbrev pub invariant-loop-q : goal.invariant-loop-q
@@ -10,6 +10,8 @@ invariant-loop-q l = record {
   walk : l.walk ≡ record { dims = l.joined; triples = whole l.left_sizes ∷ whole l.right_sizes ∷ []; index = l._q };
   left : length l.left_block ≡ l.sizes.left_depth * l.sizes.height;
   right : length l.right_block ≡ l.sizes.width * l.sizes.right_depth;
+  left_held : IsHeld l.ty l.left.elems l.left_held l.left_block;
+  right_held : IsHeld l.ty l.right.elems l.right_held l.right_block;
   row : length l.row ≡ l.sizes.width;
   made : l.made.items ≡ map (products_at l.ty l.sizes l.left.elems l.right.elems l.left_sizes l.right_sizes l.joined) (range_with_len 0 (l._q * (l.sizes.height * l.sizes.width)));
 }

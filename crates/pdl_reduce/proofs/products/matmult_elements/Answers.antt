@@ -7,7 +7,7 @@ use Rattle.pdl_sig.specs.declared.Resolved.{Resolved}
 use Rattle.pdl_buf.specs.declared.made.Made.{Made}
 use Rattle.pdl_reduce.specs.declared.Pairing.TheVariants.{Matmult}
 use Rattle.pdl_reduce.specs.declared.matrices.Sizes.{Sizes}
-use Rattle.pdl_reduce.specs.Answers.{array_of}
+use Rattle.pdl_buf.specs.Made.{array_of}
 use Rattle.pdl_reduce.specs.Blocks.{sizes_of}
 use Rattle.pdl_reduce.proofs.Readiness.{Pair, if_ok_as, joins, joins_ok, joins_to, products_as, ready_as, stretched_as, matmult_ready, matmult_value}
 use Rattle.pdl_reduce.proofs.Resolved.{Known, known_matmult}
@@ -53,6 +53,7 @@ products-requires c =
     record {
       ready = ready_as S c.sizes_of-sizes.result A.elems B.elems (drop 2 A.dims) c.dims_after-xs.result (drop 2 B.dims) c.dims_after-ys.result r.broadcast c.joined-joined.result
           sizes xs ys joined (matmult_ready r A B both known);
+      empty = c.in_ok-made.ensures.items;
     }
 
 pub returns : goal.returns

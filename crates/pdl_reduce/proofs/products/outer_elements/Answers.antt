@@ -7,7 +7,7 @@ use Rattle.pdl_sig.specs.declared.Resolved.{Resolved}
 use Rattle.pdl_buf.specs.declared.made.Made.{Made}
 use Rattle.pdl_reduce.specs.declared.Pairing.TheVariants.{Outer}
 use Rattle.pdl_reduce.specs.declared.matrices.Sizes.{Sizes}
-use Rattle.pdl_reduce.specs.Answers.{array_of}
+use Rattle.pdl_buf.specs.Made.{array_of}
 use Rattle.pdl_reduce.specs.Blocks.{sizes_of}
 use Rattle.pdl_reduce.proofs.Readiness.{Pair, if_ok_as, joins, joins_ok, joins_to, products_as, ready_as, stretched_as, outer_ready, outer_value}
 use Rattle.pdl_reduce.proofs.Resolved.{Known, known_outer}
@@ -53,6 +53,7 @@ products-requires c =
     record {
       ready = ready_as S c.sizes_of-sizes.result B.elems A.elems (drop 1 B.dims) c.dims_after-ys.result (drop 1 A.dims) c.dims_after-xs.result r.broadcast c.joined-joined.result
           sizes ys xs joined (outer_ready r A B both);
+      empty = c.in_ok-made.ensures.items;
     }
 
 pub returns : goal.returns

@@ -8,15 +8,15 @@ use Rattle.pdl_reduce.specs.Reductions.{lists, reduced_dims, reduced_row, reduce
 use Rattle.pdl_reduce.proofs.Results.{size_split, result_length}
 use Rattle.pdl_reduce.proofs.reducing.reduce.Goals as goal
 
-pub reduced_lists-requires-clause-whole : goal.reduced_lists-requires-clause-whole
-reduced_lists-requires-clause-whole c =
+pub reduced_window-requires-clause-whole : goal.reduced_window-requires-clause-whole
+reduced_window-requires-clause-whole c =
     let ds : List ℕ = c.args.a.now.dims in
     let count : c.count_lists.result ≡ size_of (drop 1 ds) = c.count_lists.ensures ∙ ap (λ (xs : List ℕ). size_of (drop 1 xs)) c.strided_dims-dims.ensures.dims in
     let size : c.width-size.result ≡ width ds = c.width-size.ensures ∙ ap width (c.dims_list.ensures.list ∙ c.strided_dims-dims.ensures.dims) in
     ap₂ (λ (n m : ℕ). n * m) count size ∙ size_split ds ∙ sym c.strided_dims-dims.ensures.count
 
-pub reduced_lists-requires-clause-small : goal.reduced_lists-requires-clause-small
-reduced_lists-requires-clause-small c =
+pub reduced_window-requires-clause-small : goal.reduced_window-requires-clause-small
+reduced_window-requires-clause-small c =
     let limits : IsDims c.args.a.now.dims = subst IsDims c.strided_dims-dims.ensures.dims c.dims_list.ensures.limits in
     omega (arith, c.strided_dims-dims.ensures.count, c.shape_laws.ensures.sizes.size_within c.args.a.now.dims, limits.within)
 

@@ -1,5 +1,5 @@
 use Rattle.std.proofs.Common.{◌≡◌, Result, sym, ap, subst, ◌∙◌}
-use Rattle.pdl_reduce.specs.Answers.{array_of}
+use Rattle.pdl_buf.specs.Made.{array_of}
 use Rattle.pdl_reduce.specs.Pairings.{paired}
 use Rattle.pdl_machine.specs.declared.fault.Fault.{Fault}
 use Rattle.pdl_machine.specs.Outcome.{Outcome as Placed}

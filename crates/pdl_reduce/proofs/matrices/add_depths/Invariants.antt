@@ -2,7 +2,7 @@
 use Rattle.std.proofs.Common.{◌≡◌, ◌<◌, ℕ, pos, get_or, length}
 use Rattle.std.specs.Int.{int_wrap, w64}
 use Rattle.pdl_reduce.specs.Blocks.{sum_at}
-use Rattle.pdl_reduce.proofs.matrices.set_row.Given as goal
+use Rattle.pdl_reduce.proofs.matrices.add_depths.Given as goal
 
 abbrev pub invariant-loop-k : goal.invariant-loop-k
 invariant-loop-k l = record {

@@ -1,0 +1,33 @@
+-- A part of a plane more.
+use Rattle.std.proofs.Common.{◌≡◌, ◌≤◌, ◌+◌, ◌++◌, ℕ, ℤ, List, length, map, take, drop, arith, ap, ap₂, sym, ◌∙◌, append_assoc, length-append, length-drop, to_z, of_z}
+use Rattle.std.proofs.lemmas.List.{length-take-le}
+use Rattle.std.specs.Int.{w64}
+use Rattle.std.specs.List.{range_with_len}
+use Rattle.pdl_reduce.specs.Across.{come_to}
+use Rattle.pdl_reduce.proofs.Across.{parts_join}
+use Rattle.pdl_reduce.proofs.columns.add_lists.Goals as goal
+
+pub loop-done-preserved : goal.loop-done-preserved
+loop-done-preserved g c =
+    let at : ℕ → ℤ = come_to c.args.ty g.F.Folding.taken (to_z w64 (of_z w64 c.args.start)) c.args.size c.args.a.now.elems in
+    let old : List ℤ = c.args.made.now.items in
+    let done : ℕ = c.loop-done.done in
+    let run : ℕ = c.lists_in_plane-run.result in
+    let row : List ℤ = c.loop-done.row in
+    let so_far : List ℤ = c.loop-done.so_far in
+    let few : run ≤ length so_far = omega arith in
+    let part : length (take run so_far) ≡ run = length-take-le run so_far few in
+    let row_part : length (take run row) ≡ run = length-take-le run row (omega (arith, few, c.loop-done.invariant.room)) in
+    let new_row : length c.add_part.new.row ≡ run = omega (arith, row_part) in
+    let new_part : length c.add_part.new.so_far ≡ run = omega (arith, part) in
+    let rows : length (c.add_part.new.row ++ drop run row) ≡ length row = omega (arith, length-append c.add_part.new.row (drop run row), length-drop run row, new_row, few, c.loop-done.invariant.room) in
+    let parts : length (c.add_part.new.so_far ++ drop run so_far) ≡ length so_far = omega (arith, length-append c.add_part.new.so_far (drop run so_far), length-drop run so_far, new_part, few) in
+    record {
+      room = rows ∙ c.loop-done.invariant.room ∙ sym parts;
+      kept = parts ∙ c.loop-done.invariant.kept;
+      inside = omega arith;
+      made = c.in_ok-add_part.ensures
+          ∙ ap₂ (λ (zs : List ℤ) (n : ℕ). zs ++ map at (range_with_len done n)) c.loop-done.invariant.made part
+          ∙ append_assoc old (map at (range_with_len 0 done)) (map at (range_with_len done run))
+          ∙ ap (λ (zs : List ℤ). old ++ zs) (sym (parts_join at done run));
+    }

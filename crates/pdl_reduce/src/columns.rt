@@ -1,0 +1,135 @@
+//! Sums and products of the lists along dimension 0, of many lists at once: an element of each list,
+//! then the next one of each. Where elements along dimension 1 lie closer together, the buffer is so
+//! read in its order.
+ghost use Rattle.std.specs.Prelude.{◌≡◌, ◌<◌, ◌≤◌, ◌+◌, ◌*◌, ◌%◌, ◌++◌, ℕ, pos, length, fold, map, get_or, OnOk};
+ghost use Rattle.std.specs.List.{range_with_len};
+ghost use Rattle.pdl_shape.specs.Shape.{extent_limit};
+ghost use Rattle.pdl_reduce.specs.Across.{come_to};
+ghost use Rattle.pdl_reduce.specs.Reductions.{nth_list};
+
+use crate::folds::Folding;
+use crate::matrices::size_at;
+use pdl_buf::{Strided, strided_dims, strided_read_across};
+use pdl_elem::{Ty, wrap_all};
+use pdl_shape::dims_list;
+use std::alloc::AllocError;
+
+/// Takes a number into each of what those before them come to.
+fn take_each<F: Folding>(numbers: &[i64], so_far: &mut [i64])
+    requires { length numbers.now ≡ length so_far.old }
+    ensures { (j : ℕ) → j < length so_far.old → get_or so_far.new j (pos 0)
+        ≡ F.taken (get_or so_far.old j (pos 0)) (get_or numbers.now j (pos 0)) }
+{
+    for (j, come_to) in so_far.iter_mut().enumerate() {
+        *come_to = F::take(*come_to, numbers[j]);
+    }
+}
+
+/// What the lists along dimension 0 from one on come to, in one plane, as many as there is room for.
+fn fold_lists<F: Folding>(
+    a: &Strided<'_>,
+    first: u32,
+    size: u32,
+    start: i64,
+    row: &mut [i64],
+    so_far: &mut [i64],
+)
+    requires size { size ≡ get_or a.now.dims 0 1 }
+    requires room { length row.old ≡ length so_far.old }
+    requires some { 0 < length so_far.old }
+    requires few { length so_far.old ≤ extent_limit }
+    requires small { length a.now.elems ≤ extent_limit }
+    requires plane { first % get_or a.now.dims 1 1 + length so_far.old ≤ get_or a.now.dims 1 1 }
+    requires within { (first + length so_far.old) * size ≤ length a.now.elems }
+    ensures { (j : ℕ) → j < length so_far.old →
+        get_or so_far.new j (pos 0) ≡ fold F.taken start (nth_list size a.now.elems (first + j)) }
+{
+    so_far.fill(start);
+    for i in 0..size {
+        strided_read_across(a, first * size + i, row);
+        take_each::<F>(row, so_far);
+    }
+}
+
+/// How many lists from one on stand in one plane of so many, and no more than are left.
+fn lists_in_plane(height: usize, first: usize, left: usize) -> usize
+    requires height { 0 < height }
+    requires left { 0 < left }
+    ensures some { 0 < result }
+    ensures few { result ≤ left }
+    ensures plane { first % height + result ≤ height }
+{
+    left.min(height - first % height)
+}
+
+/// Adds to a list what the lists along dimension 0 from one on come to, in one plane, as many as there
+/// is room for, wrapped to a type.
+fn add_part<F: Folding>(
+    a: &Strided<'_>,
+    ty: Ty,
+    first: u32,
+    size: u32,
+    start: i64,
+    row: &mut [i64],
+    so_far: &mut [i64],
+    made: &mut Vec<i64>,
+) -> Result<(), AllocError>
+    requires size { size ≡ get_or a.now.dims 0 1 }
+    requires room { length row.old ≡ length so_far.old }
+    requires some { 0 < length so_far.old }
+    requires few { length so_far.old ≤ extent_limit }
+    requires small { length a.now.elems ≤ extent_limit }
+    requires plane { first % get_or a.now.dims 1 1 + length so_far.old ≤ get_or a.now.dims 1 1 }
+    requires within { (first + length so_far.old) * size ≤ length a.now.elems }
+    ensures { let at = come_to ty F.taken start size a.now.elems in
+        let new = map at (range_with_len first (length so_far.old)) in
+        OnOk result (made.new.items ≡ made.old.items ++ new) }
+{
+    fold_lists::<F>(a, first, size, start, row, so_far);
+    wrap_all(ty, so_far);
+    made.extend_from_slice(so_far)?;
+    Ok(())
+}
+
+/// Adds to a list what each of so many lists along dimension 0 comes to from a start on, wrapped to a
+/// type. There is room for a block of numbers, twice.
+pub(crate) fn add_lists<F: Folding>(
+    a: &Strided<'_>,
+    ty: Ty,
+    count: u32,
+    size: u32,
+    start: i64,
+    row: &mut [i64],
+    so_far: &mut [i64],
+    made: &mut Vec<i64>,
+) -> Result<(), AllocError>
+    requires size { size ≡ get_or a.now.dims 0 1 }
+    requires planes { 0 < get_or a.now.dims 1 1 }
+    requires whole { count * size ≡ length a.now.elems }
+    requires small { length a.now.elems ≤ extent_limit }
+    requires room { length row.old ≡ length so_far.old }
+    requires some { 0 < count → 0 < length so_far.old }
+    requires few { length so_far.old ≤ extent_limit }
+    ensures { let at = come_to ty F.taken start size a.now.elems in
+        OnOk result (made.new.items ≡ made.old.items ++ map at (range_with_len 0 count)) }
+{
+    let height = size_at(dims_list(strided_dims(a)), 1);
+    let count = count as usize;
+    let mut done = 0;
+    while done < count {
+        let left = so_far.len().min(count - done);
+        let run = lists_in_plane(height, done, left);
+        add_part::<F>(
+            a,
+            ty,
+            done as u32,
+            size,
+            start,
+            &mut row[..run],
+            &mut so_far[..run],
+            made,
+        )?;
+        done += run;
+    }
+    Ok(())
+}
