@@ -35,7 +35,7 @@ ending_of_run run = record { status = if run.faulted then ScriptFault else Done;
 abbrev pub ending : Option Command → (script : List ℕ) → Ending
 ending None script = record { status = Usage; text = usage_line }
 ending (Some (Run keep)) script = ending_of_run (run keep script)
-ending (Some (Generate rounds)) script = record { status = Done; text = summary rounds }
+ending (Some (Generate keep rounds)) script = record { status = Done; text = summary keep rounds }
 
 -- what was written, from what the sink had taken before the call and has now: at the end the ending's
 -- whole text, and the status is the ending's; where the call stopped short, a prefix of that text
@@ -56,10 +56,10 @@ CanAnswer None _ = ⊥
 CanAnswer (Some (Run keep)) Usage = ⊥
 CanAnswer (Some (Run keep)) WatcherFault = ⊥
 CanAnswer (Some (Run keep)) _ = ⊤
-CanAnswer (Some (Generate rounds)) Done = ⊤
-CanAnswer (Some (Generate rounds)) SinkFault = ⊤
-CanAnswer (Some (Generate rounds)) NoMemory = ⊤
-CanAnswer (Some (Generate rounds)) _ = ⊥
+CanAnswer (Some (Generate keep rounds)) Done = ⊤
+CanAnswer (Some (Generate keep rounds)) SinkFault = ⊤
+CanAnswer (Some (Generate keep rounds)) NoMemory = ⊤
+CanAnswer (Some (Generate keep rounds)) _ = ⊥
 
 -- the counts of faults of the source and of the sink
 pub record Counts : Type 0 where

@@ -24,26 +24,27 @@ is_number_of_rounds word =
     nat_lt 0 (length word) && nat_le (length word) 4 && list_all is_ascii_digit word && nat_le (value_of word) 2000
 
 -- a number of rounds: one to four decimal digits, at most 2000
-abbrev pub generating : (word : List ℕ) → Option Command
-generating word = if is_number_of_rounds word then Some (Generate (value_of word)) else None
+abbrev pub generating : (keep_going : Bool) → (word : List ℕ) → Option Command
+generating keep word = if is_number_of_rounds word then Some (Generate keep (value_of word)) else None
 
 -- both in one word
-abbrev pub generating_joined : (word : List ℕ) → Option Command
-generating_joined word = if starts_with nat_eq word (codes "--generate=") then generating (drop 11 word) else None
+abbrev pub generating_joined : (keep_going : Bool) → (word : List ℕ) → Option Command
+generating_joined keep word =
+    if starts_with nat_eq word (codes "--generate=") then generating keep (drop 11 word) else None
 
 abbrev pub command_of_one : (word : List ℕ) → Option Command
-command_of_one word = if is_keep_going word then Some (Run true) else generating_joined word
+command_of_one word = if is_keep_going word then Some (Run true) else generating_joined false word
 
 abbrev pub command_of_two : (first second : List ℕ) → Option Command
 command_of_two first second =
-    if is_keep_going first then generating_joined second
-    else (if is_keep_going second then generating_joined first
-    else (if is_generate first then generating second else None))
+    if is_keep_going first then generating_joined true second
+    else (if is_keep_going second then generating_joined true first
+    else (if is_generate first then generating false second else None))
 
 abbrev pub command_of_three : (first second third : List ℕ) → Option Command
 command_of_three first second third =
-    if is_keep_going first && is_generate second then generating third
-    else (if is_generate first && is_keep_going third then generating second else None)
+    if is_keep_going first && is_generate second then generating true third
+    else (if is_generate first && is_keep_going third then generating true second else None)
 
 -- what the words ask for, or nothing where they are no spelling of the command
 abbrev pub command_of : (words : List (List ℕ)) → Option Command
@@ -57,7 +58,7 @@ command_of (first ∷ second ∷ third ∷ fourth ∷ words) = None
 abbrev pub reads_source : Option Command → Bool
 reads_source None = false
 reads_source (Some (Run keep)) = true
-reads_source (Some (Generate rounds)) = false
+reads_source (Some (Generate keep rounds)) = false
 
 -- what is written where they are none
 abbrev pub usage_line : List ℕ

@@ -1,5 +1,5 @@
 -- What a run of the generated script comes to.
-use Rattle.std.specs.Prelude.{ℕ, List, ◌++◌, length, sum, false, codes, decimal}
+use Rattle.std.specs.Prelude.{ℕ, List, ◌++◌, Bool, length, sum, codes, decimal}
 use Rattle.pdl_lex.specs.Pieces.{pieces}
 use Rattle.pdl_machine.specs.Run.{run}
 use Rattle.pdl_machine.specs.Step.{newline}
@@ -11,6 +11,8 @@ summary_line statements printed =
     codes "statements " ++ decimal statements ++ codes " bytes " ++ decimal (length printed)
     ++ codes " sum " ++ decimal (sum printed) ++ newline
 
--- the line for the generated script of so many rounds
-abbrev pub summary : (rounds : ℕ) → List ℕ
-summary rounds = summary_line (length (pieces (generated_script rounds))) (run false (generated_script rounds)).printed
+-- the line for the generated script of so many rounds, of which the run goes on after faults or doesn't
+abbrev pub summary : (keep_going : Bool) → (rounds : ℕ) → List ℕ
+summary keep rounds =
+    let script = generated_script rounds in
+    summary_line (length (pieces script)) (run keep script).printed

@@ -112,9 +112,9 @@ fn usage<K: Sink>(sink: &mut K) -> Status
 /// `words` are the words of the command line without the program's name: none, `--keep-going`,
 /// `--generate N` or `--generate=N`, or both, in either order. N is one to four decimal digits, at most
 /// 2000. Where they are no spelling of the command, the usage line is written. With `--generate` the
-/// generated script of N rounds is run, what it prints is counted, and one line is written: how many
-/// statements it has, how many bytes they print, and what these sum to. In both cases the source isn't
-/// touched.
+/// generated script of N rounds is run, on after faults with `--keep-going`, what it prints is counted,
+/// and one line is written: how many statements it has, how many bytes they print, and what these sum
+/// to. In both cases the source isn't touched.
 ///
 /// Else the script is read to its end, and its statements are run in order. After each of them its text is
 /// written, or the line of its fault. The first fault ends the run, unless it is to keep going; that the
@@ -160,7 +160,9 @@ pub fn run_shell<S: Source, K: Sink>(
 {
     match read_words(words) {
         Some(Command::Run { keep_going }) => run_script(alloc, keep_going, source, sink),
-        Some(Command::Generate { rounds }) => summarize(alloc, rounds, sink),
+        Some(Command::Generate { keep_going, rounds }) => {
+            summarize(alloc, keep_going, rounds, sink)
+        }
         None => usage(sink),
     }
 }

@@ -36,22 +36,23 @@ fn statement_count(rounds: u16) -> u64
 
 // Runs the generated script of so many rounds, and counts what it prints. A text that is too long to be
 // counted is answered as want of memory.
-fn count_printed(alloc: Global, rounds: u16) -> Result<CountSink, AllocError>
-    ensures { IfOk result (λ counted. counted.bytes ≡ (run false (generated_script rounds)).printed) }
+fn count_printed(alloc: Global, keep_going: bool, rounds: u16) -> Result<CountSink, AllocError>
+    ensures { let ran = run keep_going (generated_script rounds) in
+        IfOk result (λ counted. counted.bytes ≡ ran.printed) }
 {
     let script = generated_script(alloc, rounds)?;
     let mut printed = CountSink::new();
-    match run_bytes::<CountSink, Brand>(alloc, false, &script, &mut printed, Blank::new(1)) {
+    match run_bytes::<CountSink, Brand>(alloc, keep_going, &script, &mut printed, Blank::new(1)) {
         Ok(_) => Ok(printed),
         Err(_) => Err(AllocError),
     }
 }
 
 // The line that sums up the run of the generated script of so many rounds.
-fn summary(alloc: Global, rounds: u16) -> Result<String, AllocError>
-    ensures { IfOk result (λ line. string_bytes line ≡ summary rounds) }
+fn summary(alloc: Global, keep_going: bool, rounds: u16) -> Result<String, AllocError>
+    ensures { IfOk result (λ line. string_bytes line ≡ summary keep_going rounds) }
 {
-    let printed = count_printed(alloc, rounds)?;
+    let printed = count_printed(alloc, keep_going, rounds)?;
     let statements = statement_count(rounds);
     let bytes = printed.count();
     let sum = printed.sum();
@@ -60,30 +61,43 @@ fn summary(alloc: Global, rounds: u16) -> Result<String, AllocError>
 }
 
 // Writes that line, and flushes it.
-fn write_summary<K: Sink>(alloc: Global, rounds: u16, sink: &mut K) -> Result<(), Stop>
-    ensures whole { OnOk result (Appends (K.taken sink.old) (K.taken sink.new) (summary rounds)) }
-    ensures prefix { OnErr result (AppendsPrefix (K.taken sink.old) (K.taken sink.new) (summary rounds)) }
+fn write_summary<K: Sink>(
+    alloc: Global,
+    keep_going: bool,
+    rounds: u16,
+    sink: &mut K,
+) -> Result<(), Stop>
+    ensures whole { let line = summary keep_going rounds in
+        OnOk result (Appends (K.taken sink.old) (K.taken sink.new) line) }
+    ensures prefix { let line = summary keep_going rounds in
+        OnErr result (AppendsPrefix (K.taken sink.old) (K.taken sink.new) line) }
     ensures flushed { OnOk result (Says (K.is_flushed sink.new) true) }
     ensures tells { KeepsTelling (K.is_flushed sink.old) (K.is_flushed sink.new) }
     ensures cause { HasSinkCause (K.faults sink.old) (K.faults sink.new) result }
 {
-    let line = summary(alloc, rounds)?;
+    let line = summary(alloc, keep_going, rounds)?;
     write_text(sink, line.as_bytes())?;
     flush(sink)
 }
 
 // Runs the generated script of so many rounds, and writes the line that sums it up.
-pub(crate) fn summarize<K: Sink>(alloc: Global, rounds: u16, sink: &mut K) -> Status
+pub(crate) fn summarize<K: Sink>(
+    alloc: Global,
+    keep_going: bool,
+    rounds: u16,
+    sink: &mut K,
+) -> Status
     ensures model { (script : List ℕ) →
-        Gives result (ending (Some (Generate rounds)) script) (K.taken sink.old) (K.taken sink.new) }
-    ensures answers { CanAnswer (Some (Generate rounds)) result }
+        let wanted = ending (Some (Generate keep_going rounds)) script in
+        Gives result wanted (K.taken sink.old) (K.taken sink.new) }
+    ensures answers { CanAnswer (Some (Generate keep_going rounds)) result }
     ensures reason { (faults : ℕ) → HasReason result
         (record { source = faults; sink = K.faults sink.old })
         (record { source = faults; sink = K.faults sink.new }) }
     ensures flushed { IsAnswer result → Says (K.is_flushed sink.new) true }
     ensures tells { KeepsTelling (K.is_flushed sink.old) (K.is_flushed sink.new) }
 {
-    match write_summary(alloc, rounds, sink) {
+    match write_summary(alloc, keep_going, rounds, sink) {
         Ok(()) => Status::Done,
         Err(stop) => status_after(Err(stop)),
     }

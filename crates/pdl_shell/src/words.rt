@@ -8,9 +8,9 @@ ghost use Rattle.pdl_shell.specs.Command.{is_keep_going, is_generate, value_of, 
 pub(crate) enum Command {
     // To run the source's script, which goes on after faults or doesn't.
     Run { keep_going: bool },
-    // To run the generated script of so many rounds up to its first fault, if there is one, and write its
-    // summary. To go on after faults asks for nothing more.
-    Generate { rounds: u16 },
+    // To run the generated script of so many rounds, which goes on after faults or doesn't, and write its
+    // summary.
+    Generate { keep_going: bool, rounds: u16 },
 }
 
 // The word that asks to go on after faults.
@@ -38,8 +38,8 @@ fn is_generate(word: &[u8]) -> bool
 }
 
 // What a number of rounds asks for.
-fn generating(word: &[u8]) -> Option<Command>
-    ensures { result ≡ generating word.now }
+fn generating(keep_going: bool, word: &[u8]) -> Option<Command>
+    ensures { result ≡ generating keep_going word.now }
 {
     if word.is_empty() || word.len() > 4 {
         return None;
@@ -52,18 +52,18 @@ fn generating(word: &[u8]) -> Option<Command>
         rounds = rounds * 10 + u16::from(*digit - b'0');
     }
     if rounds <= MOST_ROUNDS {
-        Some(Command::Generate { rounds })
+        Some(Command::Generate { keep_going, rounds })
     } else {
         None
     }
 }
 
 // What a number of rounds asks for in the same word.
-fn generating_joined(word: &[u8]) -> Option<Command>
-    ensures { result ≡ generating_joined word.now }
+fn generating_joined(keep_going: bool, word: &[u8]) -> Option<Command>
+    ensures { result ≡ generating_joined keep_going word.now }
 {
     if word.starts_with(GENERATE_EQUALS) {
-        generating(&word[GENERATE_EQUALS.len()..])
+        generating(keep_going, &word[GENERATE_EQUALS.len()..])
     } else {
         None
     }
@@ -75,7 +75,7 @@ fn read_one(word: &[u8]) -> Option<Command>
     if is_keep_going(word) {
         Some(Command::Run { keep_going: true })
     } else {
-        generating_joined(word)
+        generating_joined(false, word)
     }
 }
 
@@ -83,11 +83,11 @@ fn read_two(first: &[u8], second: &[u8]) -> Option<Command>
     ensures { result ≡ command_of_two first.now second.now }
 {
     if is_keep_going(first) {
-        generating_joined(second)
+        generating_joined(true, second)
     } else if is_keep_going(second) {
-        generating_joined(first)
+        generating_joined(true, first)
     } else if is_generate(first) {
-        generating(second)
+        generating(false, second)
     } else {
         None
     }
@@ -97,9 +97,9 @@ fn read_three(first: &[u8], second: &[u8], third: &[u8]) -> Option<Command>
     ensures { result ≡ command_of_three first.now second.now third.now }
 {
     if is_keep_going(first) && is_generate(second) {
-        generating(third)
+        generating(true, third)
     } else if is_generate(first) && is_keep_going(third) {
-        generating(second)
+        generating(true, second)
     } else {
         None
     }
