@@ -5,6 +5,7 @@ mod Finding
 mod Gathering
 mod Kept
 mod Laying
+mod Leads
 mod Mapping
 mod Places
 mod Rows

@@ -38,13 +38,13 @@ overlaid_set (s ∷ ss) [] k a h = refl
 overlaid_set (s ∷ ss) (b ∷ bs) zero a h = ap (λ x. x ∷ overlaid ss bs) (sym (in_place_block s.role (shown s) a h))
 overlaid_set (s ∷ ss) (b ∷ bs) (suc k) a h = ap (λ xs. in_place s.role (shown s) b ∷ xs) (overlaid_set ss bs k a h)
 
-pub assigned_over : {B : Type 0} (r : Result B Fault) (ss : List Source) (w now : Work) (k : ℕ) (op : Option BinaryOp) (x y : ℤ) (is : List ℤ) → IsFree (roles_of ss) k → y ≡ x
-    → Becomes r now (and_then (assigned (get_or w.arrays k nothing) op y is) (λ a. Ok (record w { arrays = slice_set w.arrays k a })))
-    → Becomes r (store_of ss now) (and_then (assigned (argument (store_of ss w) k) op x is) (with_argument (store_of ss w) k))
-assigned_over r ss w now k op x y is free same h =
-    let P : Made → Type 0 = λ b. Becomes r (store_of ss now) (and_then (assigned b op x is) (with_argument (store_of ss w) k)) in
-    let G : ℤ → Type 0 = λ z. Becomes r now (and_then (assigned (get_or w.arrays k nothing) op z is) (λ a. Ok (record w { arrays = slice_set w.arrays k a }))) in
-    subst P (sym (overlaid_free ss w.arrays k free)) (put (assigned (get_or w.arrays k nothing) op x is) (becomes_within r now (assigned (get_or w.arrays k nothing) op x is) (λ a. record w { arrays = slice_set w.arrays k a }) (store_of ss) (subst G same h)))
+-- a change of a free argument, in all arguments
+pub changed_over : {B : Type 0} (r : Result B Fault) (ss : List Source) (w now : Work) (k : ℕ) (change : Made → Result Made Fault) → IsFree (roles_of ss) k
+    → Becomes r now (and_then (change (get_or w.arrays k nothing)) (λ a. Ok (record w { arrays = slice_set w.arrays k a })))
+    → Becomes r (store_of ss now) (and_then (change (argument (store_of ss w) k)) (with_argument (store_of ss w) k))
+changed_over r ss w now k change free h =
+    let P : Made → Type 0 = λ b. Becomes r (store_of ss now) (and_then (change b) (with_argument (store_of ss w) k)) in
+    subst P (sym (overlaid_free ss w.arrays k free)) (put (change (get_or w.arrays k nothing)) (becomes_within r now (change (get_or w.arrays k nothing)) (λ a. record w { arrays = slice_set w.arrays k a }) (store_of ss) h))
   where
     put : (y : Result Made Fault) → Becomes r (store_of ss now) (and_then y (λ a. Ok (store_of ss (record w { arrays = slice_set w.arrays k a })))) → Becomes r (store_of ss now) (and_then y (with_argument (store_of ss w) k))
     put (Err e) g = g
@@ -52,14 +52,27 @@ assigned_over r ss w now k op x y is free same h =
         let Q : List Made → Type 0 = λ xs. Becomes r (store_of ss now) (Ok (record { arguments = xs; locals = w.locals })) in
         subst Q (sym (overlaid_set ss w.arrays k a free)) g
 
--- an assignment to one of the arrays
+pub assigned_over : {B : Type 0} (r : Result B Fault) (ss : List Source) (w now : Work) (k : ℕ) (op : Option BinaryOp) (x y : ℤ) (is : List ℤ) → IsFree (roles_of ss) k → y ≡ x
+    → Becomes r now (and_then (assigned (get_or w.arrays k nothing) op y is) (λ a. Ok (record w { arrays = slice_set w.arrays k a })))
+    → Becomes r (store_of ss now) (and_then (assigned (argument (store_of ss w) k) op x is) (with_argument (store_of ss w) k))
+assigned_over r ss w now k op x y is free same h =
+    let G : ℤ → Type 0 = λ z. Becomes r now (and_then (assigned (get_or w.arrays k nothing) op z is) (λ a. Ok (record w { arrays = slice_set w.arrays k a }))) in
+    changed_over r ss w now k (λ b. assigned b op x is) free (subst G same h)
+
+-- a change of one of the arrays
+pub changed_within : {B : Type 0} (r : Result B Fault) (arrays now : List Made) (w : Work) (k : ℕ) (change : Made → Result Made Fault) → arrays ≡ w.arrays
+    → Becomes r now (and_then (change (get_or arrays k nothing)) (λ a. Ok (slice_set arrays k a)))
+    → Becomes r (record w { arrays = now }) (and_then (change (get_or w.arrays k nothing)) (λ a. Ok (record w { arrays = slice_set w.arrays k a })))
+changed_within r arrays now w k change items h =
+    let L : List Made → Type 0 = λ l. Becomes r now (and_then (change (get_or l k nothing)) (λ a. Ok (slice_set l k a))) in
+    becomes_within r now (change (get_or w.arrays k nothing)) (λ a. slice_set w.arrays k a) (λ l. record w { arrays = l }) (subst L items h)
+
 pub assigned_within : {B : Type 0} (r : Result B Fault) (arrays now : List Made) (w : Work) (k : ℕ) (op : Option BinaryOp) (x y : ℤ) (is : List ℤ) → arrays ≡ w.arrays → y ≡ x
     → Becomes r now (and_then (assigned (get_or arrays k nothing) op y is) (λ a. Ok (slice_set arrays k a)))
     → Becomes r (record w { arrays = now }) (and_then (assigned (get_or w.arrays k nothing) op x is) (λ a. Ok (record w { arrays = slice_set w.arrays k a })))
 assigned_within r arrays now w k op x y is items same h =
     let G : ℤ → Type 0 = λ z. Becomes r now (and_then (assigned (get_or arrays k nothing) op z is) (λ a. Ok (slice_set arrays k a))) in
-    let L : List Made → Type 0 = λ l. Becomes r now (and_then (assigned (get_or l k nothing) op x is) (λ a. Ok (slice_set l k a))) in
-    becomes_within r now (assigned (get_or w.arrays k nothing) op x is) (λ a. slice_set w.arrays k a) (λ l. record w { arrays = l }) (subst L items (subst G same h))
+    changed_within r arrays now w k (λ b. assigned b op x is) items (subst G same h)
 
 -- an input as code sees it
 pub overlaid_input : (ss : List Source) (bs : List Made) (k : ℕ) (d : Source) → k < length ss → k < length bs → (get_or ss k d).role ≡ Input → get_or (overlaid ss bs) k nothing ≡ shown (get_or ss k d)

@@ -3,6 +3,7 @@ pub mod Arrays
 pub mod Call
 pub mod Coding
 pub mod Kernels
+pub mod Leading
 pub mod Meaning
 pub mod Parts
 pub mod Runs

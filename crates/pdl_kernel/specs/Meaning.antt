@@ -14,7 +14,7 @@ use Rattle.pdl_code.specs.declared.tree.LocalType.TheVariants.{Long, Longlong, G
 use Rattle.pdl_code.specs.Tree.{Tree, Indices, Step, Code, number, size, index, local, access, unary, binary, none, along, repeat, choose, keep, put, done, next}
 use Rattle.pdl_kernel.specs.declared.faults.Fault.{Fault}
 use Rattle.pdl_kernel.specs.declared.faults.Fault.TheVariants.{DivideByZero, IndexOutOfRange}
-use Rattle.pdl_kernel.specs.Arrays.{coordinates_in, element, stored}
+use Rattle.pdl_kernel.specs.Arrays.{coordinates_in, element, stored, stored_at}
 
 -- a number for each argument and core coordinates, and for each local
 pub record Store : Type 0 where
@@ -63,6 +63,10 @@ element_at a is = and_then (or_range (coordinates_in a.dims is)) (λ cs. Ok (ele
 abbrev pub assigned : Made → Option BinaryOp → ℤ → List ℤ → Result Made Fault
 assigned a op x is =
     and_then (or_range (coordinates_in a.dims is)) (λ cs. and_then (changed op (element a cs) x) (λ y. Ok (stored a cs y)))
+
+-- after an assignment of a number to the element at a position
+abbrev pub assigned_at : Made → Option BinaryOp → ℤ → (position : ℕ) → Result Made Fault
+assigned_at a op x p = and_then (changed op (get_or a.elems p (pos 0)) x) (λ y. Ok (stored_at a p y))
 
 -- a store with another array for an argument
 abbrev pub with_argument : Store → ℕ → Made → Result Store Fault

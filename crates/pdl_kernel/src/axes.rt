@@ -1,8 +1,11 @@
 //! Places in flat buffers.
-ghost use Rattle.std.specs.Prelude.{◌≡◌, ◌≤◌, ◌<◌, get_or, slice_set, length, pos, All};
+ghost use Rattle.std.specs.Prelude.{◌≡◌, ◌≤◌, ◌<◌, get_or, slice_set, length, pos, All, IfSome};
 ghost use Rattle.pdl_shape.specs.Shape.{extent_limit, size_of, coordinates_of};
+ghost use Rattle.pdl_code.specs.TreeOf.{indices_of};
+ghost use Rattle.pdl_kernel.specs.Leading.{LeadsTo};
 ghost use Rattle.pdl_kernel.specs.Sources.{IsSmall, dot, found, reach, sizes_of};
 
+use pdl_code::Entry;
 use pdl_shape::shape_laws;
 
 /// A core dimension of an argument: its size, and how far one step along it goes in the buffer.
@@ -31,6 +34,39 @@ pub fn find(axes: &[Axis], start: usize, at: &[i64; MOST]) -> Option<usize>
             return None;
         }
         place += axis.step as usize * index as usize;
+    }
+    Some(place)
+}
+
+/// The index of the loop over a dimension.
+pub fn loop_index(at: &[u32; MOST], dimension: usize) -> u32
+    ensures { result ≡ get_or at.now dimension 0 }
+{
+    if dimension < MOST { at[dimension] } else { 0 }
+}
+
+/// The place to which an access leads, where each of its indices is a loop's, in the order of the
+/// dimensions. None where it isn't so, or one is out of range.
+pub fn looped(axes: &[Axis], start: usize, at: &[u32; MOST], entries: &[Entry]) -> Option<usize>
+    requires small { All IsSmall axes.now }
+    requires start { start ≤ 1152921504606846976 }
+    ensures { IfSome result (LeadsTo axes.now at.now (indices_of entries.now) start) }
+{
+    if axes.len() != entries.len() || axes.len() > MOST {
+        return None;
+    }
+    let mut place = start;
+    for (k, entry) in entries.iter().enumerate() {
+        match entry {
+            Entry::Looped(dimension, word) => {
+                let index = loop_index(at, *word);
+                if *dimension != k || index >= axes[k].size {
+                    return None;
+                }
+                place += axes[k].step as usize * index as usize;
+            }
+            Entry::Given(_, _) => return None,
+        }
     }
     Some(place)
 }

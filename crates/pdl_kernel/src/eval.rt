@@ -1,14 +1,14 @@
 //! The number of an expression. It takes no memory.
-ghost use Rattle.std.specs.Prelude.{◌≡◌, get_or, slice_index_or};
+ghost use Rattle.std.specs.Prelude.{◌≡◌, slice_index_or};
 ghost use Rattle.pdl_sig.specs.Resolution.{size_in};
 ghost use Rattle.pdl_code.specs.TreeOf.{tree_of, indices_of};
 ghost use Rattle.pdl_kernel.specs.Meaning.{value, indices, start};
 ghost use Rattle.pdl_kernel.specs.Sources.{store_of};
 
-use crate::axes::{MOST, put_at};
+use crate::axes::{MOST, loop_index, put_at};
 use crate::faults::Fault;
 use crate::frame::Frames;
-use crate::memory::read;
+use crate::memory::{looped_element, read};
 use crate::operations::operate;
 use crate::source::Source;
 use pdl_code::{Entry, Expr};
@@ -25,13 +25,6 @@ pub fn size_in(resolved: &Resolved, dimension: usize) -> u32
     }
 }
 
-/// The index of the loop over a dimension.
-fn index(at: &[u32; MOST], dimension: usize) -> u32
-    ensures { result ≡ get_or at.now dimension 0 }
-{
-    if dimension < MOST { at[dimension] } else { 0 }
-}
-
 /// The number of an expression, or its first fault.
 #[cycle(eval)]
 pub fn value(
@@ -46,12 +39,17 @@ pub fn value(
     match expr {
         Expr::Number(n) => Ok(*n),
         Expr::Size(dimension) => Ok(i64::from(size_in(resolved, *dimension))),
-        Expr::Index(dimension) => Ok(i64::from(index(at, *dimension))),
+        Expr::Index(dimension) => Ok(i64::from(loop_index(at, *dimension))),
         Expr::Local(slot) => Ok(frames.local(*slot)),
-        Expr::Access(number, entries) => match indices(resolved, sources, frames, at, entries) {
-            Ok(found) => read(sources, frames, *number, &found),
-            Err(fault) => Err(fault),
-        },
+        Expr::Access(number, entries) => {
+            match looped_element(sources, frames, at, *number, entries) {
+                Some(x) => Ok(x),
+                None => match indices(resolved, sources, frames, at, entries) {
+                    Ok(found) => read(sources, frames, *number, &found),
+                    Err(fault) => Err(fault),
+                },
+            }
+        }
         Expr::Unary(op, inner) => match value(resolved, sources, frames, at, inner) {
             Ok(a) => Ok(unary(*op, Ty::Longlong, a)),
             Err(fault) => Err(fault),
@@ -85,7 +83,7 @@ pub fn indices(
                 Err(fault) => return Err(fault),
             },
             Entry::Looped(place, dimension) => {
-                put_at(&mut found, *place, i64::from(index(at, *dimension)));
+                put_at(&mut found, *place, i64::from(loop_index(at, *dimension)));
             }
         }
     }

@@ -1,18 +1,21 @@
 //! What code may change: a block of its own for each argument that isn't an input, and the locals.
-ghost use Rattle.std.specs.Prelude.{◌≡◌, ◌≤◌, ◌<◌, ◌++◌, get_or, slice_set, length, map, pos, option_map, replicate, Ok, All, OnOk};
+ghost use Rattle.std.specs.Prelude.{◌≡◌, ◌≤◌, ◌<◌, ◌++◌, get_or, slice_set, length, map, pos, option_map, replicate, Ok, All, IfSome, OnOk};
 ghost use Rattle.pdl_elem.specs.Numbers.{wrapped};
 ghost use Rattle.pdl_elem.specs.Types.{InRange};
 ghost use Rattle.pdl_shape.specs.Shape.{position_of};
 ghost use Rattle.pdl_kernel.specs.Answers.{Becomes};
 ghost use Rattle.pdl_kernel.specs.Arrays.{coordinates_in};
-ghost use Rattle.pdl_kernel.specs.Meaning.{and_then, assigned, element_at, nothing};
+ghost use Rattle.pdl_code.specs.TreeOf.{indices_of};
+ghost use Rattle.pdl_kernel.specs.Leading.{LeadsWithin};
+ghost use Rattle.pdl_kernel.specs.Meaning.{and_then, assigned, assigned_at, element_at, nothing};
 ghost use Rattle.pdl_kernel.specs.Sources.{HasBlocks, IsBlockOf, all_loaded, loaded};
 
-use crate::axes::{Axis, MOST, element_in, find};
+use crate::axes::{Axis, MOST, element_in, find, looped};
 use crate::faults::Fault;
 use crate::operations::{change, wrap_to};
 use crate::part::Part;
 use crate::source::Source;
+use pdl_code::Entry;
 use pdl_elem::{BinaryOp, Ty};
 use pdl_sig::Role;
 use std::alloc::AllocError;
@@ -49,6 +52,13 @@ impl Frame {
         find(&self.axes, 0, at)
     }
 
+    /// The position of an access by the indices of loops, where these lead to one.
+    pub fn looped(&self, at: &[u32; MOST], entries: &[Entry]) -> Option<usize>
+        ensures { IfSome result (LeadsWithin self.now at.now (indices_of entries.now)) }
+    {
+        looped(&self.axes, 0, at, entries)
+    }
+
     /// The element at indices.
     pub fn get(&self, at: &[i64; MOST]) -> Result<i64, Fault>
         ensures { result ≡ element_at self.now at.now }
@@ -59,7 +69,8 @@ impl Frame {
         }
     }
 
-    fn element(&self, place: usize) -> i64
+    /// The element at a position.
+    pub fn element(&self, place: usize) -> i64
         ensures { result ≡ get_or self.now.elems place (pos 0) }
     {
         element_in(&self.elems, place)
@@ -72,17 +83,22 @@ impl Frame {
         set_in(&mut self.elems, place, wrap_to(self.ty, x));
     }
 
+    /// An assignment of a number to the element at a position.
+    pub fn assign_at(&mut self, op: Option<BinaryOp>, x: i64, place: usize) -> Result<(), Fault>
+        ensures { Becomes result self.new (assigned_at self.old op x place) }
+    {
+        let y = change(op, self.element(place), x)?;
+        self.put(place, y);
+        Ok(())
+    }
+
     /// An assignment of a number to the element at indices.
     pub fn assign(&mut self, op: Option<BinaryOp>, x: i64, at: &[i64; MOST]) -> Result<(), Fault>
         ensures { Becomes result self.new (assigned self.old op x at.now) }
     {
         match self.place(at) {
             None => Err(Fault::IndexOutOfRange),
-            Some(place) => {
-                let y = change(op, self.element(place), x)?;
-                self.put(place, y);
-                Ok(())
-            }
+            Some(place) => self.assign_at(op, x, place),
         }
     }
 
@@ -147,6 +163,21 @@ fn assign_in(
     }
 }
 
+/// An assignment to an element of one of the arrays, at a position.
+fn assign_at_in(
+    arrays: &mut Vec<Frame>,
+    number: usize,
+    op: Option<BinaryOp>,
+    x: i64,
+    place: usize,
+) -> Result<(), Fault>
+    requires { number < length arrays.old.items }
+    ensures { Becomes result arrays.new.items (and_then (assigned_at (get_or arrays.old.items number nothing) op x place) (λ a. Ok (slice_set arrays.old.items number a))) }
+{
+    let frame = &mut arrays[number];
+    frame.assign_at(op, x, place)
+}
+
 /// Zeros.
 fn clear(elems: &mut Vec<i64>)
     ensures { elems.new.items ≡ replicate (length elems.old.items) (pos 0) }
@@ -192,6 +223,27 @@ impl Frames {
         }
     }
 
+    /// The position in a block of an access by the indices of loops, where these lead to one.
+    pub fn looped(&self, number: usize, at: &[u32; MOST], entries: &[Entry]) -> Option<usize>
+        ensures leads { IfSome result (LeadsWithin (get_or self.now.arrays number nothing) at.now (indices_of entries.now)) }
+        ensures known { IfSome result (λ place. number < length self.now.arrays) }
+    {
+        match self.arrays.get(number) {
+            None => None,
+            Some(frame) => frame.looped(at, entries),
+        }
+    }
+
+    /// The element of a block at a position.
+    pub fn element(&self, number: usize, place: usize) -> i64
+        ensures { result ≡ get_or (get_or self.now.arrays number nothing).elems place (pos 0) }
+    {
+        match self.arrays.get(number) {
+            None => 0,
+            Some(frame) => frame.element(place),
+        }
+    }
+
     /// Appends the elements of a block to an output.
     pub fn append(&self, number: usize, part: &mut Part) -> Result<(), AllocError>
         ensures { OnOk result (part.new ≡ record part.old { elems = part.old.elems ++ (get_or self.now.arrays number nothing).elems }) }
@@ -213,6 +265,20 @@ impl Frames {
         ensures { Becomes result self.new (and_then (assigned (get_or self.old.arrays number nothing) op x at.now) (λ a. Ok (record self.old { arrays = slice_set self.old.arrays number a }))) }
     {
         assign_in(&mut self.arrays, number, op, x, at)
+    }
+
+    /// An assignment to an element of a block at a position.
+    pub fn assign_at(
+        &mut self,
+        number: usize,
+        op: Option<BinaryOp>,
+        x: i64,
+        place: usize,
+    ) -> Result<(), Fault>
+        requires { number < length self.old.arrays }
+        ensures { Becomes result self.new (and_then (assigned_at (get_or self.old.arrays number nothing) op x place) (λ a. Ok (record self.old { arrays = slice_set self.old.arrays number a }))) }
+    {
+        assign_at_in(&mut self.arrays, number, op, x, place)
     }
 
     /// A local.

@@ -1,6 +1,8 @@
 //! The arguments as code sees them at one broadcast place.
-ghost use Rattle.std.specs.Prelude.{◌≡◌};
+ghost use Rattle.std.specs.Prelude.{◌≡◌, IfSome};
+ghost use Rattle.pdl_code.specs.TreeOf.{indices_of};
 ghost use Rattle.pdl_kernel.specs.Answers.{Becomes};
+ghost use Rattle.pdl_kernel.specs.Leading.{AssignsLooped, LeadsToElement};
 ghost use Rattle.pdl_kernel.specs.Meaning.{and_then, argument, assigned, element_at, with_argument};
 ghost use Rattle.pdl_kernel.specs.Sources.{IsFree, roles_of, store_of};
 
@@ -8,6 +10,7 @@ use crate::axes::MOST;
 use crate::faults::Fault;
 use crate::frame::Frames;
 use crate::source::Source;
+use pdl_code::Entry;
 use pdl_elem::BinaryOp;
 use pdl_sig::Role;
 
@@ -27,6 +30,52 @@ pub fn read(
     match source.role() {
         Role::Input => source.get(at),
         _ => frames.get(number, at),
+    }
+}
+
+/// The element of an access by the indices of loops, where these lead to one.
+pub fn looped_element(
+    sources: &[Source],
+    frames: &Frames,
+    at: &[u32; MOST],
+    number: usize,
+    entries: &[Entry],
+) -> Option<i64>
+    ensures { let a = argument (store_of sources.now frames.now) number in
+        IfSome result (LeadsToElement a at.now (indices_of entries.now)) }
+{
+    if number >= sources.len() || number >= frames.len() {
+        return None;
+    }
+    let source = &sources[number];
+    match source.role() {
+        Role::Input => source.looped(at, entries),
+        _ => match frames.looped(number, at, entries) {
+            Some(place) => Some(frames.element(number, place)),
+            None => None,
+        },
+    }
+}
+
+/// An assignment by the indices of loops to an element of an argument that isn't an input, where
+/// these lead to one; else nothing is done.
+pub fn assign_looped(
+    sources: &[Source],
+    frames: &mut Frames,
+    at: &[u32; MOST],
+    number: usize,
+    entries: &[Entry],
+    op: Option<BinaryOp>,
+    x: i64,
+) -> Option<Result<(), Fault>>
+    requires { IsFree (roles_of sources.now) number }
+    ensures { let m = store_of sources.now frames.old in
+        AssignsLooped result (store_of sources.now frames.new) m at.now number (indices_of entries.now) op x }
+{
+    let _inputs = sources.len();
+    match frames.looped(number, at, entries) {
+        Some(place) => Some(frames.assign_at(number, op, x, place)),
+        None => None,
     }
 }
 

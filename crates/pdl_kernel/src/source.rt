@@ -1,13 +1,16 @@
 //! What arguments start with: windows on the elements that were given.
-ghost use Rattle.std.specs.Prelude.{◌≡◌, ◌≢◌, ◌==◌, ◌≤◌, ◌<◌, get_or, length, pos, replicate, All};
+ghost use Rattle.std.specs.Prelude.{◌≡◌, ◌≢◌, ◌==◌, ◌≤◌, ◌<◌, get_or, length, pos, replicate, All, IfSome};
 ghost use Rattle.pdl_elem.specs.Types.{InRange};
 ghost use Rattle.pdl_shape.specs.Shape.{size_of};
 ghost use Rattle.pdl_sig.specs.declared.Role.TheVariants.{Input};
+ghost use Rattle.pdl_code.specs.TreeOf.{indices_of};
+ghost use Rattle.pdl_kernel.specs.Leading.{LeadsToElement};
 ghost use Rattle.pdl_kernel.specs.Meaning.{element_at};
 ghost use Rattle.pdl_kernel.specs.Sources.{element_seen, moved_to, shown, sizes_of};
 
-use crate::axes::{Axis, MOST, element_in, find, offset, reach};
+use crate::axes::{Axis, MOST, element_in, find, looped, offset, reach};
 use crate::faults::Fault;
+use pdl_code::Entry;
 use pdl_elem::Ty;
 use pdl_shape::shape_laws;
 use pdl_sig::Role;
@@ -54,6 +57,17 @@ impl Source {
         match find(&self.axes, self.start, at) {
             None => Err(Fault::IndexOutOfRange),
             Some(place) => Ok(element_in(&self.elems, place)),
+        }
+    }
+
+    /// The element of an access by the indices of loops, where these lead to one.
+    pub fn looped(&self, at: &[u32; MOST], entries: &[Entry]) -> Option<i64>
+        ensures { IfSome result (LeadsToElement (shown self.now) at.now (indices_of entries.now)) }
+    {
+        shape_laws();
+        match looped(&self.axes, self.start, at, entries) {
+            Some(place) => Some(element_in(&self.elems, place)),
+            None => None,
         }
     }
 

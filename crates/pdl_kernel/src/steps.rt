@@ -1,19 +1,19 @@
 //! Statements, run in order. It takes no memory.
 ghost use Rattle.std.specs.Prelude.{◌≡◌, slice_set, get_or, pos, Ok};
 ghost use Rattle.pdl_sig.specs.Resolution.{size_in};
-ghost use Rattle.pdl_code.specs.TreeOf.{code_of, step_of};
+ghost use Rattle.pdl_code.specs.TreeOf.{code_of, indices_of, step_of};
 ghost use Rattle.pdl_kernel.specs.Answers.{Becomes};
-ghost use Rattle.pdl_kernel.specs.Meaning.{and_then, changed, kept, local_type, run, step, turns};
-ghost use Rattle.pdl_kernel.specs.Sources.{IsCodeFree, IsStepFree, roles_of, store_of};
+ghost use Rattle.pdl_kernel.specs.Meaning.{and_then, argument, assigned, changed, indices, kept, local_type, run, start, step, turns, with_argument};
+ghost use Rattle.pdl_kernel.specs.Sources.{IsCodeFree, IsFree, IsStepFree, roles_of, store_of};
 
 use crate::axes::MOST;
 use crate::eval::{indices, size_in, value};
 use crate::faults::Fault;
 use crate::frame::Frames;
-use crate::memory::assign;
+use crate::memory::{assign, assign_looped};
 use crate::operations::change;
 use crate::source::Source;
-use pdl_code::{LocalType, Stmt};
+use pdl_code::{Entry, LocalType, Stmt};
 use pdl_elem::{BinaryOp, Ty};
 use pdl_sig::Resolved;
 
@@ -67,10 +67,7 @@ fn step(
         },
         Stmt::Put(number, entries, op, expr) => {
             match value(resolved, sources, frames, at, expr) {
-                Ok(x) => match indices(resolved, sources, frames, at, entries) {
-                    Ok(found) => assign(sources, frames, *number, *op, x, &found),
-                    Err(fault) => Err(fault),
-                },
+                Ok(x) => put(resolved, sources, frames, at, *number, entries, *op, x),
                 Err(fault) => Err(fault),
             }
         }
@@ -96,6 +93,31 @@ fn keep(
             Ok(())
         }
         Err(fault) => Err(fault),
+    }
+}
+
+/// A store to an element of an argument.
+fn put(
+    resolved: &Resolved,
+    sources: &[Source],
+    frames: &mut Frames,
+    at: &[u32; MOST],
+    number: usize,
+    entries: &[Entry],
+    op: Option<BinaryOp>,
+    x: i64,
+) -> Result<(), Fault>
+    requires { IsFree (roles_of sources.now) number }
+    ensures { let m = store_of sources.now frames.old in
+        Becomes result (store_of sources.now frames.new)
+        (and_then (indices resolved.now.sizes at.now m (indices_of entries.now) start) (λ is. and_then (assigned (argument m number) op x is) (with_argument m number))) }
+{
+    match assign_looped(sources, frames, at, number, entries, op, x) {
+        Some(done) => done,
+        None => match indices(resolved, sources, frames, at, entries) {
+            Ok(found) => assign(sources, frames, number, op, x, &found),
+            Err(fault) => Err(fault),
+        },
     }
 }
 
