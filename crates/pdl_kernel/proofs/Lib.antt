@@ -3,6 +3,7 @@ mod Calling
 mod Examples
 mod Finding
 mod Gathering
+mod Handing
 mod Kept
 mod Laying
 mod Leads

@@ -16,6 +16,8 @@ mod run;
 mod setup;
 mod source;
 mod steps;
+#[cfg(test)]
+mod tests;
 mod walk;
 
 pub use faults::{Fault, RunFault};
