@@ -3,7 +3,6 @@ mod Calling
 mod Examples
 mod Finding
 mod Gathering
-mod Handing
 mod Kept
 mod Laying
 mod Leads

@@ -16,8 +16,6 @@ mod run;
 mod setup;
 mod source;
 mod steps;
-#[cfg(test)]
-mod tests;
 mod walk;
 
 pub use faults::{Fault, RunFault};

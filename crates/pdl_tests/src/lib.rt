@@ -21,6 +21,8 @@ mod engine;
 #[cfg(test)]
 mod io;
 #[cfg(test)]
+mod kernel;
+#[cfg(test)]
 mod lex;
 #[cfg(test)]
 mod lexemes;

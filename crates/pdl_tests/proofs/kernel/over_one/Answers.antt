@@ -1,8 +1,8 @@
 use Rattle.std.proofs.Common.{◌≡◌, [], ◌∷◌, length, Some, sym, ap, subst, ◌∙◌}
 use Rattle.pdl_sig.specs.Resolution.{inputs}
 use Rattle.pdl_kernel.specs.Runs.{IsNext, Run, with_next}
-use Rattle.pdl_kernel.proofs.Handing.{count_is, resolved_is}
-use Rattle.pdl_kernel.proofs.tests.over_one.Goals as goal
+use Rattle.pdl_tests.proofs.Handing.{count_is, resolved_is}
+use Rattle.pdl_tests.proofs.kernel.over_one.Goals as goal
 
 pub begin-requires : goal.begin-requires
 begin-requires t c = record {

@@ -1,20 +1,14 @@
 //! Calls of kernels that were read from their texts, over values worked out by hand.
-ghost use Rattle.std.specs.Prelude.{◌≡◌, ◌<◌, ◌^◌, length, All, IfOk};
-ghost use Rattle.pdl_elem.specs.Types.{InRange};
-ghost use Rattle.pdl_elem.specs.declared.Ty.TheVariants.{Long};
-ghost use Rattle.pdl_shape.specs.Shape.{size_of};
+ghost use Rattle.std.specs.Prelude.{◌≡◌, ◌<◌, ◌^◌, length};
 
-use super::*;
-use pdl_buf::{
-    Buf, Made, NoMemory, Strided, buf_of, new_steps, strided, strided_dims, strided_type,
-};
+use crate::arrays::{numbers, whole};
+use pdl_buf::{Made, Strided, strided_dims, strided_type};
 use pdl_elem::Ty;
-use pdl_shape::{Dims, copy_dims, dims_list, dims_of, whole_triple};
+use pdl_kernel::*;
+use pdl_shape::{copy_dims, dims_list};
 use pdl_sig::{ArgShape, read_signature, resolve};
 use std::alloc::Global;
-use std::marker::Brand;
 use std::process::Abort;
-use std::sync::ledger::{Blank, Ledger};
 use std::test::Fail;
 
 // The kernel of two texts.
@@ -23,44 +17,6 @@ fn kernel(rt: &impl Abort, alloc: Global, signature: &[u8], code: &[u8]) -> Kern
 {
     let signature = read_signature(alloc, signature).expect(rt, "a signature");
     read_kernel(alloc, signature, code).expect(rt, "code")
-}
-
-// The dimensions of these sizes.
-fn shape(alloc: Global, sizes: &[u32]) -> Result<Dims, NoMemory>
-    ensures { IfOk result (λ dims. dims ≡ sizes.now) }
-{
-    match dims_of(alloc, sizes) {
-        Ok(dims) => Ok(dims),
-        Err(_) => Err(NoMemory),
-    }
-}
-
-// A buffer of these numbers, whose elements are counted in a new ledger.
-fn counted<L: Ledger>(alloc: Global, blank: Blank, elems: &[i64]) -> Result<Buf, NoMemory>
-    requires name { blank.name ≡ L.name }
-    requires parts { blank.parts ≡ L.parts }
-    requires some { 0 < blank.parts }
-    requires in_range { All (InRange Long) elems.now }
-    ensures { IfOk result (λ buf. length buf.elems ≡ length elems.now) }
-{
-    let mut steps = new_steps::<L>(blank);
-    buf_of(alloc, Ty::Long, elems, &mut steps)
-}
-
-// A buffer of these numbers.
-fn numbers(alloc: Global, elems: &[i64]) -> Result<Buf, NoMemory>
-    requires { All (InRange Long) elems.now }
-    ensures { IfOk result (λ buf. length buf.elems ≡ length elems.now) }
-{
-    counted::<Brand>(alloc, Blank::new(1), elems)
-}
-
-// The whole buffer as an array of these sizes.
-fn whole<'a>(alloc: Global, buf: &'a Buf, sizes: &[u32]) -> Result<Strided<'a>, NoMemory>
-    requires { length buf.now.elems ≡ size_of sizes.now }
-{
-    let dims = shape(alloc, sizes)?;
-    Ok(strided(buf, &whole_triple(alloc, &dims)))
 }
 
 // The type and dimensions of an argument.
@@ -96,13 +52,13 @@ fn sums_of_rows(rt: HostRuntime) -> Result<(), Fail> {
         b"a(n); int+ [o]b()",
         b"loop(n) %{ $b() += $a(); %}",
     );
-    let buf = numbers(alloc, &[0, 1, 2, 3, 4, 5])?;
+    let buf = numbers(alloc, Ty::Long, &[0, 1, 2, 3, 4, 5])?;
     let outputs = over_one(&rt, alloc, &total, &whole(alloc, &buf, &[3, 2])?).expect(&rt, "sums");
     assert_eq!(rt; outputs.len(), 1);
     let sums = &outputs[0];
     assert!(rt; sums.ty == Ty::Long);
     assert_eq!(rt; dims_list(&sums.dims), [2].as_slice());
-    assert_eq!(rt; sums.elems.as_slice(), [3, 12].as_slice());
+    assert_eq!(rt; sums.elems.to_vec(alloc)?.as_slice(), [3, 12].as_slice());
     Ok(())
 }
 
@@ -110,7 +66,7 @@ fn sums_of_rows(rt: HostRuntime) -> Result<(), Fail> {
 fn the_first_fault_in_broadcast_order(rt: HostRuntime) -> Result<(), Fail> {
     let alloc = rt.alloc();
     let inverse = kernel(&rt, alloc, b"a(); [o]b()", b"$b() = 1 / $a();");
-    let buf = numbers(alloc, &[1, 0, 0, 1])?;
+    let buf = numbers(alloc, Ty::Long, &[1, 0, 0, 1])?;
     let refused = over_one(&rt, alloc, &inverse, &whole(alloc, &buf, &[2, 2])?).err();
     assert_eq!(rt; refused, Some(RunFault::DivideByZero { place: 1 }));
     Ok(())
@@ -122,7 +78,7 @@ fn the_first_fault_in_broadcast_order(rt: HostRuntime) -> Result<(), Fail> {
 fn the_first_dimension_moves_on_first(rt: HostRuntime) -> Result<(), Fail> {
     let alloc = rt.alloc();
     let inverse = kernel(&rt, alloc, b"a(); [o]b()", b"$b() = 1 / $a();");
-    let buf = numbers(alloc, &[1, 1, 0, 1])?;
+    let buf = numbers(alloc, Ty::Long, &[1, 1, 0, 1])?;
     let refused = over_one(&rt, alloc, &inverse, &whole(alloc, &buf, &[2, 2])?).err();
     assert_eq!(rt; refused, Some(RunFault::DivideByZero { place: 2 }));
     Ok(())
