@@ -1,10 +1,12 @@
 -- How the places of a view are found one from another, without a division.
-use Rattle.std.specs.Prelude.{ℕ, ◌+◌, ◌*◌, ◌<◌, List, [], ◌∷◌, length, take, drop, slice_index, slice_index_or, Option, Some, None, ℤ, pos, ◌+ℤ◌}
+use Rattle.std.specs.Prelude.{ℕ, ◌+◌, ◌*◌, ◌/◌, ◌%◌, ◌<◌, List, [], ◌∷◌, length, take, drop, slice_index, slice_index_or, Option, Some, None, ℤ, pos, ◌+ℤ◌}
 use Rattle.std.specs.Option.{option_map, unwrap_or}
 use Rattle.pdl_choice.specs.declared.edges.Edge.{Edge}
 use Rattle.pdl_choice.specs.declared.indices.Line.{Line}
 use Rattle.pdl_choice.specs.Edges.{CanPlace, edge_coordinate}
 use Rattle.pdl_shape.specs.Counting.{from_end}
+use Rattle.pdl_shape.specs.Shape.{coordinates_of, position_of}
+use Rattle.pdl_choice.specs.Range.{inner_dims, window_source}
 
 -- the position at place c of a row
 abbrev pub line_at : Line → ℕ → ℕ
@@ -43,3 +45,10 @@ abbrev pub CanPlaceAll : Edge → List ℕ → List ℤ → ℕ → List ℕ →
 CanPlaceAll edge parent ind len at =
     (q j : ℕ) → j < len → len * q + j < length ind
     → CanPlace edge (slice_index parent j) (slice_index_or ind (len * q + j) (pos 0) +ℤ pos (slice_index at j))
+
+-- the place of the position p of windows at so many corners, where the corners are fastest
+abbrev pub window_place : Edge → List ℕ → List ℕ → List ℤ → ℕ → ℕ → Option ℕ
+window_place edge parent windows ind corners p =
+    let corner = numbers_at ind (length windows) (p % corners) in
+    let at = coordinates_of (inner_dims parent windows) (p / corners) in
+    option_map (position_of parent) (window_source edge parent windows corner at)

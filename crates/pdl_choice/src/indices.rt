@@ -1,5 +1,5 @@
 //! index: the parent's first dimension looked up by an array of coordinates.
-ghost use Rattle.std.specs.Prelude.{◌≡◌, ℕ, ◌+◌, ◌*◌, ◌∷◌, ◌++◌, map, slice_index_or, ◌≢◌, ◌<◌, ◌≤◌, ◌^◌, OnOk, length, drop, slice_index, All, IsSome, Some, None, Ok, Err, IfOk, IfErr, IfSome, IfNone};
+ghost use Rattle.std.specs.Prelude.{◌≡◌, ℕ, List, ◌+◌, ◌*◌, ◌∷◌, ◌++◌, map, slice_index_or, ◌≢◌, ◌<◌, ◌≤◌, ◌^◌, OnOk, length, drop, slice_index, All, IsSome, Some, None, Ok, Err, IfOk, IfErr, IfSome, IfNone};
 ghost use Rattle.pdl_shape.specs.Joined.{joined_dims};
 ghost use Rattle.std.specs.List.{range_with_len};
 ghost use Rattle.pdl_shape.specs.Shape.{IsDims, IsWithin, extent, extent_limit, size_of, position_of, coordinates_of};
@@ -34,7 +34,8 @@ pub fn index(
 ) -> Result<Choice, ChoiceFault>
     requires { length ind.now ≡ size_of ind_dims.now }
     ensures dims { IfOk result (λ c. index_dims source.now ind_dims.now ind.now ≡ Ok c.dims) }
-    ensures places { IfOk result (λ c. c.places ≡ places_of c.dims source.now (λ at. Some (index_source source.now ind_dims.now ind.now at))) }
+    ensures places { let sources = λ (at : List ℕ). Some (index_source source.now ind_dims.now ind.now at) in
+        IfOk result (λ c. c.places ≡ places_of c.dims source.now sources) }
     ensures inside { IfOk result (λ c. AllBelow (size_of source.now) c.places) }
     ensures refusal { IfErr result (λ f. Refuses (index_dims source.now ind_dims.now ind.now) (refusal_of f)) }
     ensures at { IfErr result (λ f. IfSome (position_in f) (λ at. index_outside source.now ind.now ≡ Some at)) }
@@ -191,7 +192,8 @@ fn push_row(
     requires small { (c : ℕ) → c < row → line_at rest_line c < extent_limit }
     requires ind_small { length ind.now ≤ extent_limit }
     requires counted { All (λ value. IsSome (from_end value size)) ind.now }
-    ensures { OnOk result (places.new.items ≡ places.old.items ++ map (λ c. Some (row_place size ind.now ind_line rest_line c)) (range_with_len 0 row)) }
+    ensures { let place = λ (c : ℕ). Some (row_place size ind.now ind_line rest_line c) in
+        OnOk result (places.new.items ≡ places.old.items ++ map place (range_with_len 0 row)) }
 {
     for column in 0..row {
         let value = ind[(ind_line.from + ind_line.step * column) as usize];
@@ -225,7 +227,8 @@ fn index_places(
     requires parent_bounded { extent parent.now ≤ extent_limit }
     requires counted { All (λ value. IsSome (from_end value (slice_index parent.now 0))) ind.now }
     ensures inside { IfOk result (λ places. AllBelow (size_of parent.now) places.items) }
-    ensures places { IfOk result (λ places. places.items ≡ places_of joined.now parent.now (λ at. Some (index_source parent.now ind_dims.now ind.now at))) }
+    ensures places { let sources = λ (at : List ℕ). Some (index_source parent.now ind_dims.now ind.now at) in
+        IfOk result (λ places. places.items ≡ places_of joined.now parent.now sources) }
 {
     shape_laws();
     let (size, rest) = first_size(parent);

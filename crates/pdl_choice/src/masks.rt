@@ -1,5 +1,5 @@
 //! where and which: the places at which a mask isn't 0.
-ghost use Rattle.std.specs.Prelude.{◌≡◌, ◌≢◌, ◌<◌, ◌≤◌, ◌^◌, ◌↔◌, All, IsTrue, [], ◌∷◌, length, map, Some, Ok, Err, IfOk, IfErr, nat_eq};
+ghost use Rattle.std.specs.Prelude.{◌≡◌, ◌≢◌, ◌<◌, ◌≤◌, ◌^◌, ◌↔◌, ℕ, List, All, IsTrue, [], ◌∷◌, length, map, Some, Ok, Err, IfOk, IfErr, nat_eq};
 ghost use Rattle.std.specs.Cmp.Lexicographic.{pointwise};
 ghost use Rattle.pdl_shape.specs.Shape.{extent_limit, size_of};
 ghost use Rattle.pdl_shape.specs.Places.{AllBelow, places_of};
@@ -66,7 +66,8 @@ pub fn listed_places(
 ) -> Result<Choice, ChoiceFault>
     requires { IsTrue (rises 0 (size_of dims.now) places.now) }
     ensures dims { IfOk result (λ c. where_dims source.now dims.now places.now ≡ Ok c.dims) }
-    ensures places { IfOk result (λ c. c.places ≡ places_of c.dims source.now (λ at. Some (where_source source.now places.now at))) }
+    ensures places { let sources = λ (at : List ℕ). Some (where_source source.now places.now at) in
+        IfOk result (λ c. c.places ≡ places_of c.dims source.now sources) }
     ensures inside { IfOk result (λ c. AllBelow (size_of source.now) c.places) }
     ensures refusal { IfErr result (λ f. Refuses (where_dims source.now dims.now places.now) (refusal_of f)) }
 {
@@ -100,7 +101,8 @@ pub fn where_places(
 ) -> Result<Choice, ChoiceFault>
     requires { length mask.now ≡ size_of mask_dims.now }
     ensures dims { IfOk result (λ c. where_dims source.now mask_dims.now (which mask.now) ≡ Ok c.dims) }
-    ensures places { IfOk result (λ c. c.places ≡ places_of c.dims source.now (λ at. Some (where_source source.now (which mask.now) at))) }
+    ensures places { let sources = λ (at : List ℕ). Some (where_source source.now (which mask.now) at) in
+        IfOk result (λ c. c.places ≡ places_of c.dims source.now sources) }
     ensures inside { IfOk result (λ c. AllBelow (size_of source.now) c.places) }
     ensures refusal { IfErr result (λ f. Refuses (where_dims source.now mask_dims.now (which mask.now)) (refusal_of f)) }
 {

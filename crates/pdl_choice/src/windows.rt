@@ -9,8 +9,8 @@ ghost use Rattle.pdl_shape.specs.Places.{AllBelow, places_of};
 ghost use Rattle.pdl_shape.specs.Refusals.{Refuses};
 ghost use Rattle.pdl_choice.specs.Choice.{position_in, refusal_of};
 ghost use Rattle.pdl_choice.specs.Edges.{edge_refuses, from_zero};
-ghost use Rattle.pdl_choice.specs.Rounds.{CanPlaceAll, CanPlaceEach, numbers_at, placed};
-ghost use Rattle.pdl_choice.specs.Range.{capped, corner_len, is_negative, is_positive, window_refusal, window_sizes, first_refused, inner_dims, range_dims, range_outside, window_source, range_source, AllAllowed};
+ghost use Rattle.pdl_choice.specs.Rounds.{CanPlaceAll, CanPlaceEach, numbers_at, placed, window_place};
+ghost use Rattle.pdl_choice.specs.Range.{capped, corner_len, is_negative, is_positive, window_refusal, window_sizes, first_refused, inner_dims, range_dims, range_outside, range_source, AllAllowed};
 
 use crate::answers::{count_of, limited};
 use crate::reach::{coordinate, refuses};
@@ -38,10 +38,12 @@ pub fn range(
 ) -> Result<Choice, ChoiceFault>
     requires { length ind.now ≡ size_of ind_dims.now }
     ensures dims { IfOk result (λ c. range_dims source.now ind_dims.now ind.now sizes.now edge ≡ Ok c.dims) }
-    ensures places { IfOk result (λ c. c.places ≡ places_of c.dims source.now (range_source source.now ind_dims.now ind.now sizes.now edge)) }
+    ensures places { let sources = range_source source.now ind_dims.now ind.now sizes.now edge in
+        IfOk result (λ c. c.places ≡ places_of c.dims source.now sources) }
     ensures inside { IfOk result (λ c. AllBelow (size_of source.now) c.places) }
     ensures refusal { IfErr result (λ f. Refuses (range_dims source.now ind_dims.now ind.now sizes.now edge) (refusal_of f)) }
-    ensures at { IfErr result (λ f. IfSome (position_in f) (λ at. range_outside source.now ind_dims.now ind.now sizes.now edge ≡ Some at)) }
+    ensures at { let first = range_outside source.now ind_dims.now ind.now sizes.now edge in
+        IfErr result (λ f. IfSome (position_in f) (λ at. first ≡ Some at)) }
 {
     ranged(
         alloc,
@@ -66,10 +68,12 @@ fn ranged(
     requires ind_limits { IsDims ind_dims.now }
     requires whole { length ind.now ≡ size_of ind_dims.now }
     ensures dims { IfOk result (λ c. range_dims parent.now ind_dims.now ind.now sizes.now edge ≡ Ok c.dims) }
-    ensures places { IfOk result (λ c. c.places ≡ places_of c.dims parent.now (range_source parent.now ind_dims.now ind.now sizes.now edge)) }
+    ensures places { let sources = range_source parent.now ind_dims.now ind.now sizes.now edge in
+        IfOk result (λ c. c.places ≡ places_of c.dims parent.now sources) }
     ensures inside { IfOk result (λ c. AllBelow (size_of parent.now) c.places) }
     ensures refusal { IfErr result (λ f. Refuses (range_dims parent.now ind_dims.now ind.now sizes.now edge) (refusal_of f)) }
-    ensures at { IfErr result (λ f. IfSome (position_in f) (λ at. range_outside parent.now ind_dims.now ind.now sizes.now edge ≡ Some at)) }
+    ensures at { let first = range_outside parent.now ind_dims.now ind.now sizes.now edge in
+        IfErr result (λ f. IfSome (position_in f) (λ at. first ≡ Some at)) }
 {
     shape_laws();
     let (count, outer) = corner_dims(ind_dims);
@@ -151,7 +155,9 @@ fn windowed_sizes(
     requires outer_few { length outer.now ≤ dims_limit }
     requires parent_few { length parent.now ≤ dims_limit }
     requires fit { length windows.now ≤ length parent.now }
-    ensures { IfOk result (λ sizes. sizes.items ≡ outer.now ++ (map capped (filter is_positive windows.now) ++ drop (length windows.now) parent.now)) }
+    ensures { let rest = drop (length windows.now) parent.now in
+        let inner = map capped (filter is_positive windows.now) ++ rest in
+        IfOk result (λ sizes. sizes.items ≡ outer.now ++ inner) }
 {
     let rest = &parent[windows.len()..];
     let shown = shown(alloc, windows)?;
@@ -287,8 +293,11 @@ fn push_corners(
     requires bounded { extent parent.now ≤ extent_limit }
     requires allowed { CanPlaceAll edge parent.now ind.now (length at.now - 1) at.now }
     requires within { slice_index at.now (length at.now - 1) < size_of (drop (length at.now - 1) parent.now) }
-    ensures inside { OnOk result (AllBelow (size_of parent.now) places.old.items → AllBelow (size_of parent.now) places.new.items) }
-    ensures added { OnOk result (places.new.items ≡ places.old.items ++ map (λ q. placed edge parent.now (numbers_at ind.now (length at.now - 1) q) at.now) (range_with_len 0 corners)) }
+    ensures inside { let within = AllBelow (size_of parent.now) in
+        OnOk result (within places.old.items → within places.new.items) }
+    ensures added { let corner = λ (q : ℕ). numbers_at ind.now (length at.now - 1) q in
+        let place = λ (q : ℕ). placed edge parent.now (corner q) at.now in
+        OnOk result (places.new.items ≡ places.old.items ++ map place (range_with_len 0 corners)) }
 {
     let len = at.len() - 1;
     for number in 0..corners {
@@ -303,7 +312,8 @@ fn push_corners(
 fn window_rounds(alloc: Global, parent: &[u32], windows: &[u64]) -> Result<Vec<u32>, NoMemory>
     requires fit { length windows.now ≤ length parent.now }
     requires bounded { extent parent.now ≤ extent_limit }
-    ensures { IfOk result (λ sizes. sizes.items ≡ map (λ w. max (capped w) 1) windows.now ++ size_of (drop (length windows.now) parent.now) ∷ []) }
+    ensures { let rest = size_of (drop (length windows.now) parent.now) in
+        IfOk result (λ sizes. sizes.items ≡ map (λ w. max (capped w) 1) windows.now ++ rest ∷ []) }
 {
     shape_laws();
     let rest = count_of(&parent[windows.len()..]);
@@ -333,7 +343,8 @@ fn window_places(
     requires inner_bounded { extent (inner_dims parent.now windows.now) ≤ extent_limit }
     requires allowed { AllAllowed edge parent.now windows.now ind.now }
     ensures inside { IfOk result (λ places. AllBelow (size_of parent.now) places.items) }
-    ensures places { IfOk result (λ places. places.items ≡ map (λ p. option_map (position_of parent.now) (window_source edge parent.now windows.now (take (length windows.now) (drop (length windows.now * (p % corners)) ind.now)) (coordinates_of (inner_dims parent.now windows.now) (p / corners)))) (range_with_len 0 count)) }
+    ensures places { let place = window_place edge parent.now windows.now ind.now corners in
+        IfOk result (λ places. places.items ≡ map place (range_with_len 0 count)) }
 {
     shape_laws();
     let sizes = window_rounds(alloc, parent, windows)?;
