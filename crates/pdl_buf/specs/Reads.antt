@@ -1,5 +1,5 @@
 -- Reading the elements of a window in blocks.
-use Rattle.std.specs.Prelude.{◌≡◌, ◌<◌, ◌≤◌, ◌+◌, ◌*◌, ◌/◌, ◌%◌, ℕ, ℤ, pos, ◌<ℤ◌, List, get_or}
+use Rattle.std.specs.Prelude.{◌≡◌, ◌<◌, ◌≤◌, ◌+◌, ◌*◌, ◌/◌, ◌%◌, ℕ, ℤ, pos, ◌<ℤ◌, ◌+ℤ◌, ◌*ℤ◌, unsigned_abs, List, get_or}
 use Rattle.pdl_shape.specs.Triple.{IsPlace, Triple}
 use Rattle.pdl_buf.specs.Window.{place_at}
 
@@ -24,3 +24,8 @@ LieAcross ds first count = (first / get_or ds 0 1) % get_or ds 1 1 + count ≤ g
 abbrev pub HasReadAcross : Triple → List ℤ → ℕ → ℕ → List ℤ → Type 0
 HasReadAcross t es first count rs =
     (k : ℕ) → k < count → get_or rs k (pos 0) ≡ get_or es (place_at t (across t.dims first k)) (pos 0)
+
+-- the first count of these numbers stand from a place on, each so far after the one before
+abbrev pub HasStepped : List ℤ → (place : ℕ) → (inc : ℤ) → ℕ → List ℤ → Type 0
+HasStepped es place inc count rs =
+    (j : ℕ) → j < count → get_or rs j (pos 0) ≡ get_or es (unsigned_abs (pos place +ℤ inc *ℤ pos j)) (pos 0)

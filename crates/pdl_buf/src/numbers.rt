@@ -149,7 +149,8 @@ impl Numbers {
         requires within { AllBelow (size_of placement.now.dims) places.now }
         requires reaches { Reaches placement.now (length (kept_in from.now).elems) }
         requires same_type { (kept_in from.now).ty ≡ (kept_in self.old).ty }
-        ensures { kept_in self.new ≡ record (kept_in self.old) { elems = read places.now (shown placement.now (kept_in from.now).elems) } }
+        ensures { let elems = read places.now (shown placement.now (kept_in from.now).elems) in
+            kept_in self.new ≡ record (kept_in self.old) { elems = elems } }
     {
         match (self, from) {
             (Numbers::Bytes(into), Numbers::Bytes(from)) => into.gather(from, placement, places),

@@ -3,7 +3,7 @@ ghost use Rattle.std.specs.Prelude.{◌≡◌, ◌<◌, ◌≤◌, ◌+◌, ◌%
 ghost use Rattle.pdl_elem.specs.Types.{InRange};
 ghost use Rattle.pdl_shape.specs.Shape.{extent_limit, size_of};
 ghost use Rattle.pdl_shape.specs.Triple.{IsPlace, IsTriple, Reaches};
-ghost use Rattle.pdl_buf.specs.Reads.{IsInside, HasRead};
+ghost use Rattle.pdl_buf.specs.Reads.{IsInside, HasRead, HasStepped};
 ghost use Rattle.pdl_buf.specs.Window.{IsInOrder, place_at};
 
 use crate::packed::{Packed, PackedType};
@@ -31,7 +31,7 @@ fn read_steps<T: PackedType<N>, const N: usize>(
 )
     requires small { length into.old ≤ extent_limit }
     requires inside { (j : ℕ) → j < length into.old → IsInside (length numbers.now) (pos place +ℤ inc *ℤ pos j) }
-    ensures { (j : ℕ) → j < length into.old → get_or into.new j (pos 0) ≡ get_or numbers.now (unsigned_abs (pos place +ℤ inc *ℤ pos j)) (pos 0) }
+    ensures { HasStepped numbers.now place inc (length into.old) into.new }
 {
     for (j, x) in into.iter_mut().enumerate() {
         *x = numbers.get(place_after(place, inc, j));
@@ -72,7 +72,7 @@ pub(crate) fn read_run<T: PackedType<N>, const N: usize>(
 )
     requires small { length into.old ≤ extent_limit }
     requires inside { (j : ℕ) → j < length into.old → IsInside (length numbers.now) (pos place +ℤ inc *ℤ pos j) }
-    ensures { (j : ℕ) → j < length into.old → get_or into.new j (pos 0) ≡ get_or numbers.now (unsigned_abs (pos place +ℤ inc *ℤ pos j)) (pos 0) }
+    ensures { HasStepped numbers.now place inc (length into.old) into.new }
 {
     if inc != 0 {
         read_steps(numbers, place, inc, into);
