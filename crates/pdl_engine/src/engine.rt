@@ -1,15 +1,16 @@
 //! The engine and its calls.
-ghost use Rattle.std.specs.Prelude.{◌≡◌, ℕ, ◌+◌, ◌≤◌, true, length, All, IfOk, IfErr, IsTrue, OnOk, OnErr, None};
+ghost use Rattle.std.specs.Prelude.{◌≡◌, ◌≢◌, ℕ, ◌+◌, ◌<◌, ◌≤◌, ◌^◌, true, false, length, All, IfOk, IfErr, IsTrue, OnOk, OnErr, None};
 ghost use Rattle.pdl_buf.specs.Buffer.{count_moved};
 ghost use Rattle.pdl_buf.specs.Made.{IsMade};
 ghost use Rattle.pdl_elem.specs.Types.{InRange};
 ghost use Rattle.pdl_shape.specs.Shape.{IsDims, size_of};
+ghost use Rattle.pdl_world.specs.Cut.{has_views, reshape, sever};
 ghost use Rattle.pdl_world.specs.Formula.{is_well_formed};
 ghost use Rattle.pdl_world.specs.Paths.{root_of};
 ghost use Rattle.pdl_world.specs.Refused.{view_refusal};
 ghost use Rattle.pdl_world.specs.World.{root, view, dims_in, ty_in, assign};
 ghost use Rattle.pdl_world.specs.Sound.{IsLive, IsSound};
-ghost use Rattle.pdl_engine.specs.State.{no_arrays, is_fresh, IsLazy, IsLentAs, Joins, Names, OthersWait, TargetWaits, PathIsFresh, SameArrays, StayFresh, TargetIsFresh, outdated, shown_in, waiting, waiting_size};
+ghost use Rattle.pdl_engine.specs.State.{ChangesFamily, IsReleased, count_at, one_more_at, written_back, no_arrays, is_fresh, IsLazy, IsLentAs, Joins, Names, OthersWait, TargetWaits, PathIsFresh, SameArrays, StayFresh, TargetIsFresh, outdated, shown_in, waiting, waiting_size};
 
 use crate::layouts::layout;
 use pdl_affine::PlanFault;
@@ -239,5 +240,78 @@ impl Engine {
         ensures counted { steps.new ≡ steps.old + length values.now }
     {
         self.nodes.assign(id, values, steps)
+    }
+
+    /// Whether an array is the parent of a view.
+    pub fn has_views(&self, id: ArrayId) -> bool
+        requires { IsLive self.now.world id }
+        ensures { result ≡ has_views self.now.world id }
+    {
+        self.nodes.has_views(id)
+    }
+
+    /// Cuts an array from its parent: it becomes a root with its elements, which can be lent, and its
+    /// own views stay with it. On a root it does nothing. Want of memory leaves the world, and what
+    /// could be lent. It takes at most the steps of `ready`, and one for each element.
+    pub fn sever<L: Ledger>(&mut self, id: ArrayId, steps: &mut Steps<L>) -> Result<(), NoMemory>
+        requires { IsLive self.old.world id }
+        ensures ok { OnOk result (self.new.world ≡ sever self.old.world id) }
+        ensures err { OnErr result (self.new.world ≡ self.old.world) }
+        ensures family { ChangesFamily self.old id self.new }
+        ensures stay { OnErr result (StayFresh self.old self.new) }
+        ensures fresh { OnOk result (root_of self.old.world id ≢ id → is_fresh self.new id ≡ true) }
+        ensures counted { steps.new ≤ steps.old
+            + (outdated self.old id + waiting_size self.old (waiting self.old id)
+            + size_of (dims_in self.old.world id)) }
+        ensures sound { IsSound self.new.world }
+    {
+        self.nodes.sever(id, steps)
+    }
+
+    /// Gives an array that has no views other dimensions: it becomes a root of its first elements, in
+    /// order, with zeros after them where there are fewer, and can be lent. Want of memory leaves the
+    /// world, and what could be lent. It takes at most the steps of `ready`, and one for each new
+    /// element.
+    pub fn reshape<L: Ledger>(
+        &mut self,
+        id: ArrayId,
+        dims: &Dims,
+        steps: &mut Steps<L>,
+    ) -> Result<(), NoMemory>
+        requires live { IsLive self.old.world id }
+        requires viewless { has_views self.old.world id ≡ false }
+        ensures ok { OnOk result (self.new.world ≡ reshape self.old.world id dims.now) }
+        ensures err { OnErr result (self.new.world ≡ self.old.world) }
+        ensures family { ChangesFamily self.old id self.new }
+        ensures stay { OnErr result (StayFresh self.old self.new) }
+        ensures fresh { OnOk result (is_fresh self.new id ≡ true) }
+        ensures counted { steps.new ≤ steps.old
+            + (outdated self.old id + waiting_size self.old (waiting self.old id)
+            + size_of dims.now) }
+        ensures sound { IsSound self.new.world }
+    {
+        self.nodes.reshape(id, dims, steps)
+    }
+
+    /// Holds an array once more. A new array is held once.
+    pub fn hold(&mut self, id: ArrayId)
+        requires live { IsLive self.old.world id }
+        requires room { count_at self.old.holds id < 2 ^ 63 }
+        ensures { self.new ≡ record self.old { holds = one_more_at self.old.holds id } }
+    {
+        self.nodes.hold(id);
+    }
+
+    /// Takes one hold of an array back. What no held array reaches by parents goes; what waits in a
+    /// view that goes is written back before, if its root stays. It takes a step for each element that
+    /// is written back, and no memory.
+    pub fn release<L: Ledger>(&mut self, id: ArrayId, steps: &mut Steps<L>)
+        requires { 0 < count_at self.old.holds id }
+        ensures released { IsReleased self.old id self.new }
+        ensures counted { steps.new ≡ steps.old
+            + written_back self.old self.new.world self.new.world }
+        ensures sound { IsSound self.new.world }
+    {
+        self.nodes.release(id, steps)
     }
 }

@@ -5,7 +5,7 @@ ghost use Rattle.pdl_shape.specs.Places.{AllBelow, places_of};
 ghost use Rattle.pdl_shape.specs.Shape.{size_of};
 ghost use Rattle.pdl_world.specs.Formula.{child_dims, is_well_formed};
 ghost use Rattle.pdl_world.specs.Refused.{refusal_at};
-ghost use Rattle.pdl_nodes.specs.Nodes.{IsLayout};
+ghost use Rattle.pdl_nodes.specs.Sized.{IsLayout};
 ghost use Rattle.pdl_engine.specs.State.{Names};
 
 use crate::engine::ViewFault;

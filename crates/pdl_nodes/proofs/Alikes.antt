@@ -35,6 +35,7 @@ is_alike f rs q = record {
   numbers_are = numbers_each f rs;
   has_is = λ v. each_has f rs v;
   shape_is = shape_each f rs q;
+  origin_is = λ v. field_each (λ r. r.origin) f rs v q.origin;
   root_is = λ v. root_each f rs v q;
   base_is = λ v. field_each (λ r. r.base) f rs v q.base;
   ty_is = λ v. field_each (λ r. r.ty) f rs v q.ty;
@@ -47,6 +48,7 @@ alike_trans a b c x y = record {
   numbers_are = y.numbers_are ∙ x.numbers_are;
   has_is = λ v. y.has_is v ∙ x.has_is v;
   shape_is = y.shape_is ∙ x.shape_is;
+  origin_is = λ v. y.origin_is v ∙ x.origin_is v;
   root_is = λ v. y.root_is v ∙ x.root_is v;
   base_is = λ v. y.base_is v ∙ x.base_is v;
   ty_is = λ v. y.ty_is v ∙ x.ty_is v;
@@ -55,7 +57,7 @@ alike_trans a b c x y = record {
 }
 
 pub alike_same : (a : Rows) → IsAlike a a
-alike_same a = record { numbers_are = refl; has_is = λ v. refl; shape_is = refl; root_is = λ v. refl; base_is = λ v. refl; ty_is = λ v. refl; parent_is = λ v. refl; triple_is = λ v. refl }
+alike_same a = record { numbers_are = refl; has_is = λ v. refl; shape_is = refl; origin_is = λ v. refl; root_is = λ v. refl; base_is = λ v. refl; ty_is = λ v. refl; parent_is = λ v. refl; triple_is = λ v. refl }
 
 -- what is known stays known where no places and repeats change, and no other view is marked
 pub known_each : (f : ℕ → Row → Row) (rs : Rows) → IsQuiet f → ((k : ℕ) (r : Row) → (f k r).places ≡ r.places) → ((k : ℕ) (r : Row) → (f k r).repeats ≡ r.repeats)

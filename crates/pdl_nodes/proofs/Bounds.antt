@@ -84,7 +84,7 @@ none_waits ((k, r) ∷ rs) v h = elim (eqb_tells k v) [
   past None i e = i
   past (Some w) i e = rw e i
 
-waits_is : (rs : Rows) (v : ℕ) → Falls rs → has rs v ≡ true → waiting_at (pending_in rs) v ≡ (row_at rs v).waiting
+pub waits_is : (rs : Rows) (v : ℕ) → Falls rs → has rs v ≡ true → waiting_at (pending_in rs) v ≡ (row_at rs v).waiting
 waits_is [] v f h = let x : false ≡ true = h in absurd (cc)
 waits_is ((k, r) ∷ rs) v f h = elim (eqb_tells k v) [
   | inl t ↦ rw t.0 (here r.waiting t.0 (none_waits rs v (gone rs t.1 f.0)))

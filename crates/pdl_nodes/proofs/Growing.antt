@@ -20,16 +20,17 @@ use Rattle.pdl_nodes.specs.declared.holds.Hold.{Hold}
 use Rattle.pdl_nodes.specs.declared.origin.Layout.{Layout}
 use Rattle.pdl_nodes.specs.declared.origin.Origin.{Origin}
 use Rattle.pdl_nodes.specs.declared.origin.Origin.TheVariants.{Root, View}
-use Rattle.pdl_nodes.specs.Row.{Row, parent_of}
+use Rattle.pdl_nodes.specs.Row.{root_row, Row, parent_of}
 use Rattle.pdl_nodes.specs.Rows.{Rows, row_at, has, NumbersBelow}
 use Rattle.pdl_nodes.specs.Alike.{IsAlike, KeepsMarks, MarksTarget, target, numbers, is_fresh_in}
 use Rattle.pdl_nodes.specs.Families.{IsMarked, InOrder}
 use Rattle.pdl_nodes.specs.Holds.{Counts, Beside, hold_at, count, count_in, held_once}
 use Rattle.pdl_nodes.specs.Joined.{IsNew, joined_def, joined_from}
 use Rattle.pdl_nodes.specs.Known.{IsKnown, AreKnown}
-use Rattle.pdl_nodes.specs.Nodes.{IsNodes, IsNewView, fresh_among, pending_in, pending_onto, holds_in, state_of, root_row}
+use Rattle.pdl_nodes.specs.Nodes.{IsNodes, IsNewView, fresh_among, pending_in, pending_onto, holds_in, state_of}
 use Rattle.pdl_nodes.specs.Outcomes.{IsReady}
 use Rattle.pdl_nodes.specs.Outcomes.{PathIsFresh as RowsPathIsFresh}
+use Rattle.pdl_nodes.specs.Sized.{IsSized, LaidFrom}
 use Rattle.pdl_nodes.specs.Spots.{spots, Below}
 use Rattle.pdl_nodes.specs.State.{State, Joins, PathIsFresh, SameArrays, StayFresh, is_fresh}
 use Rattle.pdl_nodes.specs.Still.{IsStill, StillFrom}
@@ -40,9 +41,10 @@ use Rattle.pdl_nodes.proofs.Finds.{same, differ, not_newest, below_more}
 use Rattle.pdl_nodes.proofs.Joins.{pushed, world_pushed}
 use Rattle.pdl_nodes.proofs.Paths.{path_is, path_from, parent_live, path_first, fresh_stays}
 use Rattle.pdl_nodes.proofs.Seens.{IsSeen, is_seen, row_older, has_older, places_older}
+use Rattle.pdl_nodes.proofs.Severs.{sized_alike}
 use Rattle.pdl_nodes.proofs.Spotted.{below_at}
 use Rattle.pdl_nodes.proofs.Stating.{ty_are, dims_are, lent_elements, path_with, fresh_is, fresh_keeps, fresh_live, holds_alike, holds_same}
-use Rattle.pdl_nodes.proofs.Viewed.{whole_is}
+use Rattle.pdl_nodes.proofs.Laid.{whole_is}
 
 small_abs : (z : ℤ) (n : ℕ) → unsigned_abs z < n → z <ℤ pos n
 small_abs (pos m) n h = omega (arith, ints, h)
@@ -78,9 +80,11 @@ pub nodes_ready : (old new : Rows) (hs : Counts) (n : ℕ) → IsNodes old hs n 
 nodes_ready old new hs n i r = record {
   order = r.order;
   known = r.known;
+  sized = sized_alike old new i.order.still r.order.still r.alike i.sized;
   sound = subst (λ (w : World). IsSound w) (sym r.world) i.sound;
   beside = beside_alike old new hs r.alike i.beside;
   below = below_alike old new n r.alike.numbers_are i.below;
+  room = i.room;
 }
 
 pub stay_ready : (old new : Rows) (hs : Counts) (n : ℕ) → IsStill old → IsStill new → IsAlike old new → KeepsMarks old new → StayFresh (state_of old hs n) (state_of new hs n)
@@ -166,18 +170,21 @@ fresh_older rs k r v b s h f =
 pub record IsGrown (rs : Rows) (hs gs : Counts) (k : ℕ) (r : Row) : Type 0 where
   pub new : IsNew rs k r
   pub unlisted : r.places ≡ None
+  pub sized : IsSized rs r
   pub sound : IsSound ((k, joined_def r) ∷ world_of rs)
   pub beside : Beside ((k, r) ∷ rs) gs
   pub held : hold_at gs k ≡ Some held_once
   pub others : (v : ℕ) → v ≢ k → hold_at gs v ≡ hold_at hs v
 
-pub grown_nodes : (rs : Rows) (hs gs : Counts) (k n : ℕ) (r : Row) → IsNodes rs hs k → IsGrown rs hs gs k r → n ≡ k + 1 → IsNodes ((k, r) ∷ rs) gs n
-grown_nodes rs hs gs k n r i g e = record {
+pub grown_nodes : (rs : Rows) (hs gs : Counts) (k n : ℕ) (r : Row) → IsNodes rs hs k → IsGrown rs hs gs k r → n ≡ k + 1 → n < 18446744073709551616 → IsNodes ((k, r) ∷ rs) gs n
+grown_nodes rs hs gs k n r i g e m = record {
   order = pushed rs k r g.new i.order;
   known = known_more rs k r i.below i.known g.unlisted (λ m y. (let c : true ≡ false = sym m ∙ g.new.unmarked y in cc));
+  sized = (g.sized, i.sized);
   sound = subst (λ (w : World). IsSound w) (sym (world_pushed rs k r g.new i.order)) g.sound;
   beside = g.beside;
   below = (omega (arith, e), below_more rs k n (omega (arith, e)) i.below);
+  room = m;
 }
 
 pub grown_state : (rs : Rows) (hs gs : Counts) (k n : ℕ) (r : Row) → IsNodes rs hs k → IsGrown rs hs gs k r → n ≡ k + 1 → Joins (state_of rs hs k) k (joined_def r) (state_of ((k, r) ∷ rs) gs n)
@@ -226,6 +233,10 @@ new_view rs k p t r s b h v =
       flat = λ e. absurd (no e);
       count = λ e. absurd (no e);
     }
+
+-- the types of a new view keep what they keep
+pub view_sized : (rs : Rows) (k p : ℕ) (t : Trans) (r : Row) → IsNewView k p t (row_at rs p) r → IsSized rs r
+view_sized rs k p t r v = record { triple = v.triple; limits = v.limits; laid = subst (LaidFrom rs) (sym v.origin) v.laid }
 
 pub view_def : (r : Row) (p : ℕ) (t : Trans) (y : Layout) → r.origin ≡ View p t y → joined_def r ≡ view p t
 view_def r p t y e = ap (λ o. joined_from r.ty r.triple.dims r.kept o) e

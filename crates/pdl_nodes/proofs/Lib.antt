@@ -11,6 +11,7 @@ pub mod Shapes
 pub mod Lists
 pub mod Spotted
 pub mod WorldLemmas
+pub mod Laid
 pub mod Seens
 pub mod FamilyLemmas
 pub mod Settles
@@ -31,9 +32,23 @@ mod Filling
 mod Paths
 mod Gathered
 mod Readied
-mod Shown
 mod Viewed
 mod Stating
 mod Growing
 mod Bounds
+mod Parents
+mod Helds
+mod Changed
+mod Moved
+mod Fits
+mod Shaping
+mod Written
+pub mod CutRows
+pub mod Firsts
+pub mod Derives
+pub mod CutOrder
+pub mod Goings
+pub mod Leavings
+pub mod Reshapes
+pub mod Severs
 mod Lazy

@@ -65,6 +65,12 @@ look_is rs v s h = look_with (latest rs) (shape rs) v ∙ (is_seen rs s v h).loo
 pub has_live : (rs : Rows) (v : ℕ) → IsStill rs → has rs v ≡ true → IsLive (world_of rs) v
 has_live rs v s h = let P : Option Look → Type 0 = λ o. IsSomeAnd o (λ l. Unit {0}) in subst P (sym (look_is rs v s h)) tt
 
+pub look_has : (rs : Rows) → IsStill rs → (v : ℕ) → is_some (look (world_of rs) v) ≡ has rs v
+look_has rs s v = elim (cases_Bool (has rs v)) [
+  | inl t ↦ ap is_some (look_is rs v s t) ∙ sym t
+  | inr t ↦ ap is_some (look_with (latest rs) (shape rs) v ∙ no_look rs v t) ∙ sym t
+]
+
 pub dims_are : (rs : Rows) (v : ℕ) → IsStill rs → has rs v ≡ true → dims_in (world_of rs) v ≡ (row_at rs v).triple.dims
 dims_are rs v s h = ap (λ o. option_map_or (λ (l : Look). l.dims) o []) (look_is rs v s h)
 
@@ -129,7 +135,7 @@ fresh_keeps old new s t h g v f =
     let l : has old v ≡ true = fresh_live old v f in
     fresh_is new v t (h v l) ∙ g v l (sym (fresh_is old v s l) ∙ f)
 
-holds_numbers : (rs : Rows) (hs : Counts) → holds_in rs hs ≡ map (λ k. (k, count hs k)) (numbers rs)
+pub holds_numbers : (rs : Rows) (hs : Counts) → holds_in rs hs ≡ map (λ k. (k, count hs k)) (numbers rs)
 holds_numbers [] hs = refl
 holds_numbers ((k, r) ∷ rs) hs = ap (λ x. (k, count hs k) ∷ x) (holds_numbers rs hs)
 

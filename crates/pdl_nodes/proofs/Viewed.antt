@@ -1,99 +1,114 @@
 -- The rows of new views are derived of their parents.
-use Rattle.std.proofs.Common.{◌≡◌, ℕ, suc, zero, ℤ, pos, ◌+◌, ◌<◌, ◌≤◌, Bool, true, false, List, [], ◌∷◌, length, map, get_or, Option, Some, None, refl, sym, ◌∙◌, ap, subst, arith}
+use Rattle.std.proofs.Common.{◌≡◌, ℕ, true, false, cond, eqb, List, [], map, Option, Some, None, Result, Ok, refl, sym, ◌∙◌, ap, subst}
 use Rattle.std.specs.List.{range_with_len}
-use Rattle.std.specs.Prelude.{unsigned_abs, Result, Ok}
-use Rattle.std.proofs.lemmas.List.{ext_get_or}
-use Rattle.std.proofs.lemmas.List.FromFn.{length-map-range_with_len, get_or-map-range_with_len, get_or-range_with_len, length-range_with_len}
-use Rattle.std.proofs.lemmas.Simd.{map-map}
 use Rattle.pdl_elem.specs.declared.Ty.{Ty}
 use Rattle.pdl_affine.specs.declared.Affine.{Affine}
-use Rattle.pdl_affine.specs.Laws.{SourcesLieWithin}
 use Rattle.pdl_affine.specs.Plan.{Plan as Planned}
-use Rattle.pdl_affine.specs.Views.{dims, source}
-use Rattle.pdl_affine.specs.Windows.{composed, Shows, base_place}
+use Rattle.pdl_affine.specs.Views as affine
 use Rattle.pdl_choice.specs.declared.answers.Choice.{Choice as Chosen}
-use Rattle.pdl_shape.specs.Laws.{PositionLaws, WholesAreInOrder}
-use Rattle.pdl_shape.specs.Places.{AllBelow, places_of}
-use Rattle.pdl_shape.specs.Shape.{size_of, IsWithin, position_of, coordinates_of}
-use Rattle.pdl_shape.specs.Triple.{Triple, place_of, whole}
-use Rattle.pdl_buf.specs.Window.{place_at}
+use Rattle.pdl_shape.specs.Places.{places_of}
+use Rattle.pdl_shape.specs.Shape.{IsDims}
+use Rattle.pdl_shape.specs.Triple.{IsTriple, Triple, whole}
 use Rattle.pdl_world.specs.declared.Trans.{Trans}
 use Rattle.pdl_world.specs.declared.Trans.TheVariants as trans
-use Rattle.pdl_world.specs.Formula.{child_dims}
-use Rattle.pdl_world.specs.Formula.{source as source_of}
+use Rattle.pdl_world.specs.Formula.{child_dims, source}
 use Rattle.pdl_world.specs.Windows.{over}
+use Rattle.pdl_nodes.specs.declared.origin.Layout.{Layout}
 use Rattle.pdl_nodes.specs.declared.origin.Layout.TheVariants.{Plan, Choice}
 use Rattle.pdl_nodes.specs.declared.origin.Origin.TheVariants.{Root, View}
-use Rattle.pdl_nodes.specs.Row.{Row}
+use Rattle.pdl_nodes.specs.Cut.{view_under}
 use Rattle.pdl_nodes.specs.Nodes.{IsNewView}
-use Rattle.pdl_nodes.specs.Spots.{spots, Below}
-use Rattle.pdl_nodes.specs.Still.{own_places, base_over, triple_over, IsWhole, IsThroughBase, IsOwn, IsLaid, IsDerived}
+use Rattle.pdl_nodes.specs.Row.{Row}
+use Rattle.pdl_nodes.specs.Sized.{IsChosen, IsLayout, HasDims}
+use Rattle.pdl_nodes.specs.Still.{own_places, triple_over, IsOwn, IsLaid, IsDerived}
+use Rattle.pdl_nodes.proofs.CutRows.{CutLaws, triple_like}
+use Rattle.pdl_nodes.proofs.Finds.{same}
+use Rattle.pdl_nodes.proofs.Laid.{ViewLaws, is_whole, laid_affine}
 
--- a whole array lies in order
-pub whole_is : PositionLaws → WholesAreInOrder → (ds : List ℕ) → IsWhole (whole ds)
-whole_is laws wholes ds = record {
-  is = refl;
-  in_order = ext_get_or 0 (spots (whole ds)) (range_with_len 0 (size_of ds))
-      (length-map-range_with_len (place_at (whole ds)) 0 (size_of ds) ∙ sym (length-range_with_len 0 (size_of ds)))
-      (λ i h. (let l : i < size_of ds = omega (arith, length-map-range_with_len (place_at (whole ds)) 0 (size_of ds)) in
-      let w : place_of (whole ds) (coordinates_of ds i) ≡ pos (position_of ds (coordinates_of ds i)) = wholes ds (coordinates_of ds i) (laws.coordinates_within ds i l) in
-      get_or-map-range_with_len (place_at (whole ds)) 0 (size_of ds) i i 0 l (omega arith) ∙ ap unsigned_abs w ∙ laws.position_again ds i l
-      ∙ sym (get_or-range_with_len 0 (size_of ds) i 0 l ∙ (let z : 0 + i ≡ i = omega arith in z))));
+-- the dimensions of a layout are the view's
+allowed : (t : Trans) (parent ds : List ℕ) (y : Layout) → IsLayout t parent y → HasDims y ds → child_dims t parent ≡ Ok ds
+allowed (trans.Affine t) parent ds (Plan p) l d = ap (λ x. affine.dims x parent) (sym l.0) ∙ ap (affine.dims p.trans) (sym l.1) ∙ d
+allowed (trans.Affine t) parent ds (Choice c) l d = absurd l
+allowed (trans.Index is ind) parent ds (Plan p) l d = absurd l
+allowed (trans.Index is ind) parent ds (Choice c) l d = l.0 ∙ ap Ok (sym d)
+allowed (trans.Where is ps) parent ds (Plan p) l d = absurd l
+allowed (trans.Where is ps) parent ds (Choice c) l d = l.0 ∙ ap Ok (sym d)
+allowed (trans.Range is ind ss edge) parent ds (Plan p) l d = absurd l
+allowed (trans.Range is ind ss edge) parent ds (Choice c) l d = l.0 ∙ ap Ok (sym d)
+
+-- a choice view has its own places
+chosen : ViewLaws → (t : Trans) (above : Triple) (ds : List ℕ) (c : Chosen) → IsChosen t above.dims c.dims c.places → ds ≡ c.dims → IsOwn above (places_of ds above.dims (source t above.dims)) c.places ds
+chosen laws t above ds c l d = record {
+  places = ap (λ xs. places_of xs above.dims (source t above.dims)) d ∙ sym l.1;
+  within = l.2;
+  whole = is_whole laws ds;
 }
 
--- a view that is its own base
-pub new_own : PositionLaws → WholesAreInOrder → (k p : ℕ) (t : Trans) (ch : Chosen) (a : Row) (ty : Ty) (rt : ℕ) (u : Triple) → ty ≡ a.ty → rt ≡ a.root → u ≡ whole ch.dims
-    → child_dims t a.triple.dims ≡ Ok ch.dims → ch.places ≡ places_of ch.dims a.triple.dims (source_of t a.triple.dims) → AllBelow (size_of a.triple.dims) ch.places → over t a.triple ≡ None
-    → IsNewView k p t a (record { origin = View p t (Choice ch); ty = ty; root = rt; base = k; triple = u; kept = []; mark = false; repeats = false; places = None; waiting = None })
-new_own laws wholes k p t ch a ty rt u ey er eu d c b o =
-    let row : Triple → Row = λ x. record { origin = View p t (Choice ch); ty = ty; root = rt; base = k; triple = x; kept = []; mark = false; repeats = false; places = None; waiting = None } in
-    let own : IsOwn a.triple (places_of ch.dims a.triple.dims (source_of t a.triple.dims)) ch.places ch.dims = record { places = sym c; within = b; whole = whole_is laws wholes ch.dims } in
-    let der : IsDerived k a (row (whole ch.dims)) t (Choice ch) = record {
-      allowed = d;
-      ty_is = ey;
-      root_is = er;
-      base_is = sym (ap (base_over k a.base) o);
-      triple_is = sym (ap (triple_over ch.dims) o);
-      laid = subst (λ (x : Option Triple). IsLaid a.triple (places_of ch.dims a.triple.dims (source_of t a.triple.dims)) ch.places ch.dims x) (sym o) own;
+laid : ViewLaws → (t : Trans) (above : Triple) (ds : List ℕ) (y : Layout) → IsTriple above → IsLayout t above.dims y → HasDims y ds → IsLaid above (places_of ds above.dims (source t above.dims)) (own_places ds y) ds (over t above)
+laid laws (trans.Affine t) above ds (Plan p) i l d = laid_affine laws t above ds i (allowed (trans.Affine t) above.dims ds (Plan p) l d)
+laid laws (trans.Affine t) above ds (Choice c) i l d = absurd l
+laid laws (trans.Index is ind) above ds (Plan p) i l d = absurd l
+laid laws (trans.Index is ind) above ds (Choice c) i l d = chosen laws (trans.Index is ind) above ds c l d
+laid laws (trans.Where is ps) above ds (Plan p) i l d = absurd l
+laid laws (trans.Where is ps) above ds (Choice c) i l d = chosen laws (trans.Where is ps) above ds c l d
+laid laws (trans.Range is ind ss edge) above ds (Plan p) i l d = absurd l
+laid laws (trans.Range is ind ss edge) above ds (Choice c) i l d = chosen laws (trans.Range is ind ss edge) above ds c l d
+
+-- the row of a view before it is shown over the base of its parent
+abbrev pub own_row : (k p : ℕ) (t : Trans) (y : Layout) (a : Row) (ds : List ℕ) → Row
+own_row k p t y a ds = record {
+  origin = View p t y;
+  ty = a.ty;
+  root = a.root;
+  base = k;
+  triple = whole ds;
+  kept = [];
+  mark = false;
+  repeats = false;
+  places = None;
+  waiting = None;
+}
+
+no_mark : (a : ℕ) → cond (eqb a a) false false ≡ false
+no_mark a = rw (same a a refl) refl
+
+no_places : (a : ℕ) (o : Option (List (Option ℕ))) → cond (eqb a a) o o ≡ o
+no_places a o = rw (same a a refl) refl
+
+-- a new view is derived of its parent
+pub new_view_row : CutLaws → (k p : ℕ) (t : Trans) (y : Layout) (a : Row) (ds : List ℕ) → IsTriple a.triple → IsLayout t a.triple.dims y → HasDims y ds → IsDims ds
+    → IsNewView k p t a (view_under k a.root a.base (own_row k p t y a ds) (over t a.triple))
+new_view_row laws k p t y a ds i l d s =
+    let o : Option Triple = over t a.triple in
+    let ok : child_dims t a.triple.dims ≡ Ok ds = allowed t a.triple.dims ds y l d in
+    let q : IsTriple (triple_over ds (over t a.triple)) × ((triple_over ds (over t a.triple)).dims ≡ ds) = triple_like laws t a.triple ds (over t a.triple) i s ok refl in
+    let P : List ℕ → Type 0 = λ xs. IsLaid a.triple (places_of xs a.triple.dims (source t a.triple.dims)) (own_places xs y) xs (over t a.triple) in
+    let der : IsDerived k a (view_under k a.root a.base (own_row k p t y a ds) (over t a.triple)) t y = record {
+      allowed = ok ∙ ap Ok (sym q.1);
+      ty_is = refl;
+      root_is = refl;
+      base_is = refl;
+      triple_is = ap (λ xs. triple_over xs (over t a.triple)) (sym q.1);
+      laid = subst P (sym q.1) (laid laws.views t a.triple ds y i l d);
     } in
-    subst (λ (x : Triple). IsNewView k p t a (row x)) (sym eu) (record { layout = Choice ch; origin = refl; derived = der; unmarked = refl; nothing = refl; unlisted = refl })
-
-below_mapped : (m : ℕ) (f : ℕ → ℕ) (a n : ℕ) → ((i : ℕ) → a ≤ i → i < a + n → f i < m) → Below m (map f (range_with_len a n))
-below_mapped m f a zero h = tt
-below_mapped m f a (suc n) h = (h a (omega arith) (omega arith), below_mapped m f (a + 1) n (λ i l g. h i (omega arith) (omega arith)))
-
--- the base's places that an affine view shows are those of its positions in the parent
-through_base : PositionLaws → SourcesLieWithin → (t : Affine) (above u : Triple) → dims t above.dims ≡ Ok u.dims → Shows u (base_place t above) → IsThroughBase above (places_of u.dims above.dims (source_of (trans.Affine t) above.dims)) u
-through_base laws inside t above u d s =
-    let n : ℕ = size_of u.dims in
-    let f : ℕ → ℕ = λ i. position_of above.dims (source t above.dims (coordinates_of u.dims i)) in
-    let w : (i : ℕ) → i < size_of u.dims → IsWithin above.dims (source t above.dims (coordinates_of u.dims i)) = λ i l. inside t above.dims u.dims (coordinates_of u.dims i) d (laws.coordinates_within u.dims i l) in
     record {
-      at = map f (range_with_len 0 (size_of u.dims));
-      places = sym (map-map Some f (range_with_len 0 (size_of u.dims)));
-      below = below_mapped (size_of above.dims) f 0 (size_of u.dims) (λ i l g. laws.position_below above.dims (source t above.dims (coordinates_of u.dims i)) (w i (omega arith)));
-      shows = ext_get_or 0 (spots u) (map (place_at above) (map f (range_with_len 0 (size_of u.dims))))
-          (length-map-range_with_len (place_at u) 0 (size_of u.dims) ∙ sym (ap (λ (xs : List ℕ). length xs) (map-map (place_at above) f (range_with_len 0 (size_of u.dims))) ∙ length-map-range_with_len (λ i. place_at above (f i)) 0 (size_of u.dims)))
-          (λ i h. (let l : i < size_of u.dims = omega (arith, length-map-range_with_len (place_at u) 0 (size_of u.dims)) in
-          let g : place_of u (coordinates_of u.dims i) ≡ place_of above (source t above.dims (coordinates_of u.dims i)) = s (coordinates_of u.dims i) (laws.coordinates_within u.dims i l) in
-          get_or-map-range_with_len (place_at u) 0 (size_of u.dims) i i 0 l (omega arith)
-          ∙ ap unsigned_abs (g ∙ ap (place_of above) (sym (laws.coordinates_again above.dims (source t above.dims (coordinates_of u.dims i)) (w i l))))
-          ∙ sym (ap (λ (xs : List ℕ). get_or xs i 0) (map-map (place_at above) f (range_with_len 0 (size_of u.dims))) ∙ get_or-map-range_with_len (λ j. place_at above (f j)) 0 (size_of u.dims) i i 0 l (omega arith))));
+      layout = y;
+      origin = refl;
+      derived = der;
+      triple = q.0;
+      limits = subst IsDims (sym q.1) s;
+      laid = l;
+      unmarked = no_mark a.root;
+      nothing = refl;
+      unlisted = no_places a.root None;
     }
 
--- a view over the base of its parent
-pub new_window : PositionLaws → SourcesLieWithin → (k p : ℕ) (t : Trans) (plan : Planned) (a : Row) (ty : Ty) (rt b : ℕ) (u : Triple) → ty ≡ a.ty → rt ≡ a.root → b ≡ a.base
-    → t ≡ trans.Affine plan.trans → plan.parent ≡ a.triple.dims → dims plan.trans plan.parent ≡ Ok u.dims → composed plan.trans a.triple ≡ Some u → Shows u (base_place plan.trans a.triple)
-    → IsNewView k p t a (record { origin = View p t (Plan plan); ty = ty; root = rt; base = b; triple = u; kept = []; mark = false; repeats = false; places = None; waiting = None })
-new_window laws inside k p t plan a ty rt b u ey er eb et ep d o s =
-    let row : Trans → Row = λ x. record { origin = View p x (Plan plan); ty = ty; root = rt; base = b; triple = u; kept = []; mark = false; repeats = false; places = None; waiting = None } in
-    let dd : dims plan.trans a.triple.dims ≡ Ok u.dims = ap (dims plan.trans) (sym ep) ∙ d in
-    let der : IsDerived k a (row (trans.Affine plan.trans)) (trans.Affine plan.trans) (Plan plan) = record {
-      allowed = dd;
-      ty_is = ey;
-      root_is = er;
-      base_is = eb ∙ sym (ap (base_over k a.base) o);
-      triple_is = sym (ap (triple_over u.dims) o);
-      laid = subst (λ (x : Option Triple). IsLaid a.triple (places_of u.dims a.triple.dims (source_of (trans.Affine plan.trans) a.triple.dims)) (own_places u.dims (Plan plan)) u.dims x) (sym o) (through_base laws inside plan.trans a.triple u dd s);
-    } in
-    subst (λ (x : Trans). IsNewView k p x a (row x)) (sym et) (record { layout = Plan plan; origin = refl; derived = der; unmarked = refl; nothing = refl; unlisted = refl })
+pub new_node : CutLaws → (k p : ℕ) (t : Trans) (y : Layout) (a : Row) (ds : List ℕ) (ty : Ty) (rt b : ℕ) (u : Triple) (o : Option Triple) (n : Row)
+    → ty ≡ a.ty → rt ≡ a.root → b ≡ a.base → u ≡ whole ds → o ≡ over t a.triple → IsTriple a.triple → IsLayout t a.triple.dims y → HasDims y ds → IsDims ds
+    → n ≡ view_under k rt b (record { origin = View p t y; ty = ty; root = rt; base = k; triple = u; kept = []; mark = false; repeats = false; places = None; waiting = None }) o
+    → IsNewView k p t a n
+new_node laws k p t y a ds ty rt b u o n ey er eb eu eo i l d s e =
+    let row : Ty → ℕ → ℕ → Triple → Option Triple → Row = λ y' r' b' u' o'. view_under k r' b' (record { origin = View p t y; ty = y'; root = r'; base = k; triple = u'; kept = []; mark = false; repeats = false; places = None; waiting = None }) o' in
+    let same_row : n ≡ view_under k a.root a.base (own_row k p t y a ds) (over t a.triple) =
+    e ∙ ap (λ x. row x rt b u o) ey ∙ ap (λ x. row a.ty x b u o) er ∙ ap (λ x. row a.ty a.root x u o) eb ∙ ap (λ x. row a.ty a.root a.base x o) eu ∙ ap (λ x. row a.ty a.root a.base (whole ds) x) eo in
+    subst (IsNewView k p t a) (sym same_row) (new_view_row laws k p t y a ds i l d s)

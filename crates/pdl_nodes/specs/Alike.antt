@@ -18,6 +18,7 @@ pub record IsAlike (old new : Rows) : Type 0 where
   pub numbers_are : numbers new ≡ numbers old
   pub has_is : (v : ℕ) → has new v ≡ has old v
   pub shape_is : shape new ≡ shape old
+  pub origin_is : (v : ℕ) → (row_at new v).origin ≡ (row_at old v).origin
   pub root_is : (v : ℕ) → (row_at new v).root ≡ (row_at old v).root
   pub base_is : (v : ℕ) → (row_at new v).base ≡ (row_at old v).base
   pub ty_is : (v : ℕ) → (row_at new v).ty ≡ (row_at old v).ty

@@ -50,6 +50,10 @@ pub record Beside (rs : Rows) (hs : Counts) : Type 0 where
 abbrev pub after_release : ℕ → Counts → ℕ → Bool
 after_release id hs v = held_in (if v == id then less_one (hold_at hs v) else hold_at hs v)
 
+-- how often a number is held then
+abbrev pub count_after : ℕ → Counts → ℕ → ℕ
+count_after id hs v = count_in (if v == id then less_one (hold_at hs v) else hold_at hs v)
+
 abbrev pub one_more : Option Hold → Option Hold
 one_more None = None
 one_more (Some h) = Some (record h { count = h.count + 1 })

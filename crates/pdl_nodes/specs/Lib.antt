@@ -10,6 +10,7 @@ pub mod Spots
 pub mod Placed
 pub mod Worlds
 pub mod Still
+pub mod Sized
 pub mod Families
 pub mod Alike
 pub mod Known
@@ -19,5 +20,11 @@ pub mod Ups
 pub mod Joined
 pub mod Released
 pub mod State
+pub mod Held
 pub mod Nodes
 pub mod Laws
+pub mod Cut
+pub mod CutLaws
+pub mod Going
+pub mod Reshaped
+pub mod Severed

@@ -2,7 +2,7 @@
 use Rattle.std.specs.Prelude.{◌≡◌, ℕ, ℤ, Bool, true, false, ◌||◌, List, [], Option, Some, None, IsSome, is_none}
 use Rattle.std.specs.Option.{ForSome}
 use Rattle.pdl_elem.specs.declared.Ty.{Ty}
-use Rattle.pdl_shape.specs.Triple.{Triple}
+use Rattle.pdl_shape.specs.Triple.{Triple, whole}
 use Rattle.pdl_buf.specs.Buffer.{Kept}
 use Rattle.pdl_nodes.specs.declared.origin.Origin.{Origin}
 use Rattle.pdl_nodes.specs.declared.origin.Origin.TheVariants.{Root, View}
@@ -52,3 +52,18 @@ is_buffered r = has_buffer r.mark r.origin
 pub record IsNode (origin : Origin) (ty : Ty) (mark : Bool) (kept : Option Kept) : Type 0 where
   pub same_type : ForSome kept (λ b. b.ty ≡ ty)
   pub buffered : has_buffer mark origin ≡ true → IsSome kept
+
+-- a root with these elements, which is marked
+abbrev pub root_row : ℕ → Ty → List ℕ → List ℤ → Row
+root_row k ty ds es = record {
+  origin = Root;
+  ty = ty;
+  root = k;
+  base = k;
+  triple = whole ds;
+  kept = es;
+  mark = true;
+  repeats = false;
+  places = None;
+  waiting = None;
+}

@@ -1,5 +1,10 @@
 //! Laws of the definitions, for the proofs of the crates above.
 ghost use Rattle.pdl_nodes.specs.Laws.{RowsAreSeen, ElementsAreRead, WritingBackKeeps, RootsAreAssigned, WaitingIsAssigned, FillingKeeps, JoiningAdds, ReleasingSweeps};
+ghost use Rattle.pdl_nodes.specs.CutLaws.{CuttingSevers, CuttingLeavesFamilies, CutsStayKnown, CutsStaySized};
+ghost use Rattle.pdl_nodes.specs.Reshaped.{ReshapingReshapes, ReshapingLeavesOthers, ReshapesStayKnown, ReshapesStaySized};
+
+use pdl_affine::{view_laws, window_laws};
+use pdl_shape::{shape_laws, triple_laws};
 
 /// How rows mean a world. It does nothing: who calls it has them.
 pub fn row_laws()
@@ -17,3 +22,33 @@ pub fn order_laws()
     ensures joining { JoiningAdds }
     ensures releasing { ReleasingSweeps }
 {}
+
+/// What a cut does to rows in order and to their world (PDL::Core, sever): it is the cut of the
+/// world, it leaves the rows of other families, and what is known of places stays true. It does
+/// nothing: who calls it has them.
+pub fn cut_laws()
+    ensures severs { CuttingSevers }
+    ensures families { CuttingLeavesFamilies }
+    ensures known { CutsStayKnown }
+    ensures sized { CutsStaySized }
+{
+    shape_laws();
+    triple_laws();
+    view_laws();
+    window_laws()
+}
+
+/// What other dimensions of an array without views do to rows in order and to their world
+/// (PDL::Core, reshape): it is the reshape of the world, it leaves all other rows, and what is known
+/// of places stays true. It does nothing: who calls it has them.
+pub fn reshape_laws()
+    ensures reshapes { ReshapingReshapes }
+    ensures others { ReshapingLeavesOthers }
+    ensures known { ReshapesStayKnown }
+    ensures sized { ReshapesStaySized }
+{
+    shape_laws();
+    triple_laws();
+    view_laws();
+    window_laws()
+}

@@ -2,6 +2,8 @@
 //! kept of it, and how often it is held.
 #![tactic(auto)]
 
+mod children;
+mod cuts;
 mod gathering;
 mod holds;
 mod laws;
@@ -14,16 +16,20 @@ mod passes;
 mod pull;
 mod push;
 mod readying;
+mod releases;
+mod severing;
 mod table;
 mod views;
 
 pub use holds::{Hold, Holds, insert};
-pub use laws::{order_laws, row_laws};
+pub use laws::{cut_laws, order_laws, reshape_laws, row_laws};
 pub use node::{Lifted, Node};
 pub use nodes::Nodes;
 pub use origin::{Layout, Origin};
-pub use passes::{reach, release, remove_unreached};
+pub use passes::{reach, remove_unreached};
 pub use pull::{is_fresh, refresh};
 pub use push::{assign, write_back};
 pub use readying::{ready, settle};
+pub use releases::{release, settle_going};
+pub use severing::{reshape, sever};
 pub use table::Table;

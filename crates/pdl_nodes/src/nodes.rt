@@ -1,26 +1,28 @@
 //! Kept arrays and their calls.
-ghost use Rattle.std.specs.Prelude.{◌≡◌, ℕ, ◌+◌, ◌≤◌, nat_lt, true, length, All, IfOk, IsTrue, OnOk, OnErr, None};
+ghost use Rattle.std.specs.Prelude.{◌≡◌, ◌≢◌, ℕ, ◌+◌, ◌<◌, ◌≤◌, ◌^◌, nat_lt, true, false, length, All, IfOk, IsTrue, OnOk, OnErr, None};
 ghost use Rattle.pdl_buf.specs.Buffer.{count_moved};
 ghost use Rattle.pdl_buf.specs.Made.{IsMade};
 ghost use Rattle.pdl_elem.specs.Types.{InRange};
 ghost use Rattle.pdl_shape.specs.Shape.{IsDims, size_of};
+ghost use Rattle.pdl_world.specs.Cut.{has_views, reshape, sever};
 ghost use Rattle.pdl_world.specs.Formula.{is_well_formed};
 ghost use Rattle.pdl_world.specs.Paths.{depth_limit, path, root_of};
 ghost use Rattle.pdl_world.specs.Refused.{view_refusal};
 ghost use Rattle.pdl_world.specs.Sound.{IsLive, IsSound};
 ghost use Rattle.pdl_world.specs.World.{assign, dims_in, root, ty_in, view};
-ghost use Rattle.pdl_nodes.specs.Nodes.{IsLayout};
+ghost use Rattle.pdl_nodes.specs.Held.{ChangesFamily, IsReleased, count_at, one_more_at, written_back};
+ghost use Rattle.pdl_nodes.specs.Sized.{IsLayout};
 ghost use Rattle.pdl_nodes.specs.State.{IsLazy, IsLentAs, Joins, OthersWait, TargetWaits, PathIsFresh, SameArrays, StayFresh, TargetIsFresh, is_fresh, no_arrays, outdated, shown_in, waiting, waiting_size};
 
 use crate::holds::{Holds, insert};
 use crate::origin::Layout;
 use crate::table::Table;
 use crate::views::{root_node, view_node};
-use crate::{pull, push, readying};
+use crate::{children, pull, push, readying, releases, severing};
 use pdl_buf::{Elements, NoMemory, Steps, Strided, buf_of_elements, strided};
 use pdl_elem::Ty;
-use pdl_shape::{Dims, dims_list, shape_laws};
-use pdl_world::{Trans, assignment_laws, growth_laws};
+use pdl_shape::{Dims, dims_list, shape_laws, triple_laws};
+use pdl_world::{Trans, assignment_laws, cut_laws, growth_laws, reshape_laws, sweep_laws};
 use std::alloc::{AllocError, Global};
 use std::marker::Model;
 use std::sync::ledger::Ledger;
@@ -138,6 +140,7 @@ impl Nodes {
     {
         growth_laws();
         shape_laws();
+        triple_laws();
         let id = self.next;
         let Some(next) = id.checked_add(1) else {
             return Err(AllocError);
@@ -167,7 +170,7 @@ impl Nodes {
             return Err(AllocError);
         };
         let above = self.table.node(parent);
-        let node = view_node(self.alloc, id, parent, trans, layout, above)?;
+        let node = view_node(self.alloc, id, parent, trans, layout, above);
         insert(&mut self.table, &mut self.holds, id, node)?;
         self.next = next;
         Ok(id)
@@ -207,5 +210,82 @@ impl Nodes {
     {
         assignment_laws();
         push::assign(&mut self.table, self.alloc, id, values, steps)
+    }
+
+    /// Whether an array is the parent of a view.
+    pub fn has_views(&self, id: u64) -> bool
+        requires { IsLive self.now.world id }
+        ensures { result ≡ has_views self.now.world id }
+    {
+        children::has_views(&self.table, id)
+    }
+
+    /// Holds an array once more.
+    pub fn hold(&mut self, id: u64)
+        requires live { IsLive self.old.world id }
+        requires room { count_at self.old.holds id < 2 ^ 63 }
+        ensures { self.new ≡ record self.old { holds = one_more_at self.old.holds id } }
+    {
+        self.holds.hold(id);
+    }
+
+    /// Takes one hold of an array back. What no held array reaches by parents goes; what waits in a
+    /// view that goes is written back before, if its root stays. It takes a step for each element that
+    /// is written back, and no memory.
+    pub fn release<L: Ledger>(&mut self, id: u64, steps: &mut Steps<L>)
+        requires { 0 < count_at self.old.holds id }
+        ensures released { IsReleased self.old id self.new }
+        ensures counted { steps.new ≡ steps.old
+            + written_back self.old self.new.world self.new.world }
+        ensures sound { IsSound self.new.world }
+    {
+        sweep_laws();
+        releases::release(&mut self.table, &mut self.holds, id, steps)
+    }
+
+    /// Cuts an array from its parent: it becomes a root with its elements, which can be lent, and its
+    /// own views stay with it. On a root it does nothing. Want of memory leaves the world, and what
+    /// could be lent. It takes at most the steps of `ready`, and one for each element.
+    pub fn sever<L: Ledger>(&mut self, id: u64, steps: &mut Steps<L>) -> Result<(), NoMemory>
+        requires { IsLive self.old.world id }
+        ensures ok { OnOk result (self.new.world ≡ sever self.old.world id) }
+        ensures err { OnErr result (self.new.world ≡ self.old.world) }
+        ensures family { ChangesFamily self.old id self.new }
+        ensures stay { OnErr result (StayFresh self.old self.new) }
+        ensures fresh { OnOk result (root_of self.old.world id ≢ id → is_fresh self.new id ≡ true) }
+        ensures counted { steps.new ≤ steps.old
+            + (outdated self.old id + waiting_size self.old (waiting self.old id)
+            + size_of (dims_in self.old.world id)) }
+        ensures sound { IsSound self.new.world }
+    {
+        cut_laws();
+        severing::sever(&mut self.table, self.alloc, id, steps)
+    }
+
+    /// Gives an array that has no views other dimensions: it becomes a root of its first elements, in
+    /// order, with zeros after them where there are fewer, and can be lent. Want of memory leaves the
+    /// world, and what could be lent. It takes at most the steps of `ready`, and one for each new
+    /// element.
+    pub fn reshape<L: Ledger>(
+        &mut self,
+        id: u64,
+        dims: &Dims,
+        steps: &mut Steps<L>,
+    ) -> Result<(), NoMemory>
+        requires live { IsLive self.old.world id }
+        requires viewless { has_views self.old.world id ≡ false }
+        ensures ok { OnOk result (self.new.world ≡ reshape self.old.world id dims.now) }
+        ensures err { OnErr result (self.new.world ≡ self.old.world) }
+        ensures family { ChangesFamily self.old id self.new }
+        ensures stay { OnErr result (StayFresh self.old self.new) }
+        ensures fresh { OnOk result (is_fresh self.new id ≡ true) }
+        ensures counted { steps.new ≤ steps.old
+            + (outdated self.old id + waiting_size self.old (waiting self.old id)
+            + size_of dims.now) }
+        ensures sound { IsSound self.new.world }
+    {
+        reshape_laws();
+        let _limits = dims_list(dims);
+        severing::reshape(&mut self.table, self.alloc, id, dims, steps)
     }
 }

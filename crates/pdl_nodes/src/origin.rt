@@ -1,9 +1,11 @@
 //! Where an array comes from.
 ghost use Rattle.std.specs.Prelude.{◌≡◌};
 ghost use Rattle.pdl_nodes.specs.Row.{parent_from};
+ghost use Rattle.pdl_nodes.specs.Sized.{HasDims};
 
-use pdl_affine::AffinePlan;
+use pdl_affine::{AffinePlan, plan_dims};
 use pdl_choice::Choice;
+use pdl_shape::Dims;
 use pdl_world::Trans;
 
 /// How a view's positions lie in its parent: by a plan over the parent's dimensions, or by a list
@@ -12,6 +14,18 @@ use pdl_world::Trans;
 pub enum Layout {
     Plan(AffinePlan),
     Choice(Choice),
+}
+
+impl Layout {
+    /// The dimensions of the view.
+    pub fn dims(&self) -> &Dims
+        ensures { HasDims self.now result.now }
+    {
+        match self {
+            Layout::Plan(plan) => plan_dims(plan),
+            Layout::Choice(choice) => &choice.dims,
+        }
+    }
 }
 
 /// A root, or a view of an older array.

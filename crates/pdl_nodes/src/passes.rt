@@ -1,9 +1,9 @@
 //! The sweep in two passes, between which buffers are written back: noting what is reached, and
 //! removing what isn't.
-ghost use Rattle.std.specs.Prelude.{◌≡◌, ℕ, ◌<◌, true, is_some};
+ghost use Rattle.std.specs.Prelude.{◌≡◌, ℕ, true, is_some};
 ghost use Rattle.pdl_nodes.specs.Staying.{staying};
 ghost use Rattle.pdl_nodes.specs.Rows.{has, reached, HasParents, Falls};
-ghost use Rattle.pdl_nodes.specs.Holds.{hold_at, is_held, count, Beside, after_release};
+ghost use Rattle.pdl_nodes.specs.Holds.{hold_at, is_held, count, Beside};
 
 use crate::holds::Holds;
 use crate::table::Table;
@@ -47,18 +47,4 @@ pub fn remove_unreached(table: &mut Table, holds: &mut Holds)
             holds.remove(id);
         }
     }
-}
-
-/// Takes one hold back, and removes what no held number reaches by parents.
-pub fn release(table: &mut Table, holds: &mut Holds, id: u64)
-    requires falls { Falls table.old }
-    requires parents { HasParents table.old }
-    requires beside { Beside table.old holds.old }
-    requires held { 0 < count holds.old id }
-    ensures stays { table.new ≡ staying (reached table.old (after_release id holds.old)) table.old }
-    ensures beside { Beside table.new holds.new }
-{
-    holds.take(id);
-    reach(table, holds);
-    remove_unreached(table, holds);
 }

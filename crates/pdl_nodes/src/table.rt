@@ -1,5 +1,5 @@
 //! Nodes by their numbers: a slab, and an ordered map that gives the slab's key of each number.
-ghost use Rattle.std.specs.Prelude.{◌≡◌, ◌≢◌, ℕ, ◌+◌, ◌<◌, ◌∷◌, [], true, false, length, All, is_some, Some, None, OnOk, OnErr};
+ghost use Rattle.std.specs.Prelude.{◌≡◌, ◌≢◌, ℕ, ◌+◌, ◌-◌, ◌<◌, ◌^◌, ◌∷◌, [], true, false, length, All, is_some, Some, None, OnOk, OnErr};
 ghost use Rattle.pdl_buf.specs.Window.{place_at};
 ghost use Rattle.pdl_elem.specs.Types.{InRange};
 ghost use Rattle.pdl_shape.specs.Places.{write};
@@ -10,13 +10,15 @@ ghost use Rattle.pdl_nodes.specs.Spots.{spots};
 ghost use Rattle.pdl_nodes.specs.Rows.{NumbersBelow, row_at, has, each, without, below, newest};
 ghost use Rattle.pdl_nodes.specs.Row.{is_buffered, places_or};
 ghost use Rattle.pdl_nodes.specs.Changes.{kept_in, wait_in, fill_in, marked_in, mark_in};
+ghost use Rattle.pdl_nodes.specs.Cut.{CanCut, CanDerive, cut, derived_in, from, rooted_in};
 ghost use Rattle.pdl_nodes.specs.Known.{IsLiftable};
 
 use crate::marked::{Marked, unmark, unmark_one};
 use crate::node::{Lifted, Node};
+use pdl_affine::{view_laws, window_laws};
 use pdl_buf::{Buf, Steps};
 use pdl_choice::Places;
-use pdl_shape::{Triple, elements_of};
+use pdl_shape::{Dims, Triple, elements_of, shape_laws, triple_laws};
 use slab::Slab;
 use std::alloc::{AllocError, Global};
 use std::collections::BTreeMap;
@@ -281,5 +283,65 @@ impl Table {
         unmark_one(&self.keys, &mut self.nodes, root, root, base);
         self.nodes[key].set_mark();
         self.marked.keep(root, base);
+    }
+
+    /// The oldest live number from this one on.
+    pub fn from(&self, id: u64) -> Option<u64>
+        ensures { result ≡ from self.now id }
+    {
+        match self.keys.range(id..).next() {
+            Some((first, _)) => Some(*first),
+            None => None,
+        }
+    }
+
+    /// Makes a node a root of these dimensions and elements.
+    pub fn become_root(&mut self, alloc: Global, id: u64, dims: &Dims, kept: Buf)
+        requires live { has self.old id ≡ true }
+        requires same_type { kept.ty ≡ (row_at self.old id).ty }
+        ensures { self.new ≡ each (rooted_in id dims.now kept.elems) self.old }
+    {
+        let key = self.keys[&id];
+        self.nodes[key].become_root(alloc, id, dims, kept);
+    }
+
+    /// Derives a view anew from its parent.
+    fn derive(&mut self, alloc: Global, id: u64)
+        requires live { has self.old id ≡ true }
+        requires can { CanDerive self.old id }
+        ensures { self.new ≡ each (derived_in self.old id) self.old }
+    {
+        let node = self.node(id);
+        match node.parent() {
+            Some(parent) => {
+                let above = self.node(parent);
+                let root = above.root();
+                let base = above.base();
+                let over = node.over(alloc, above.triple());
+                let key = self.keys[&id];
+                self.nodes[key].derive(alloc, id, root, base, over);
+            }
+            None => {}
+        }
+    }
+
+    /// Cuts a view from its parent: it becomes a root with these elements, and what is derived of
+    /// each newer node is derived anew.
+    pub fn cut(&mut self, alloc: Global, id: u64, dims: &Dims, kept: Buf)
+        requires can { CanCut self.old id dims.now kept.elems }
+        requires same_type { kept.ty ≡ (row_at self.old id).ty }
+        requires small { NumbersBelow (2 ^ 64 - 1) self.old }
+        ensures { self.new ≡ cut self.old id dims.now kept.elems }
+    {
+        shape_laws();
+        triple_laws();
+        view_laws();
+        window_laws();
+        self.become_root(alloc, id, dims, kept);
+        let mut next = self.from(id + 1);
+        while let Some(newer) = next {
+            self.derive(alloc, newer);
+            next = self.from(newer + 1);
+        }
     }
 }

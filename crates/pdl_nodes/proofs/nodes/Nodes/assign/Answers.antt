@@ -18,6 +18,7 @@ use Rattle.pdl_nodes.specs.State.{State}
 use Rattle.pdl_nodes.specs.Worlds.{world_of, shape, latest}
 use Rattle.pdl_nodes.proofs.Stating.{live_has, dims_are, ty_are, root_are, length_world, fresh_is, fresh_live, path_with, holds_alike, lent_elements}
 use Rattle.pdl_nodes.specs.Nodes.{fresh_among}
+use Rattle.pdl_nodes.proofs.Severs.{sized_alike}
 use Rattle.pdl_nodes.proofs.Growing.{beside_alike, below_alike, others_fresh}
 use Rattle.pdl_nodes.specs.State.{TargetIsFresh, TargetWaits}
 use Rattle.pdl_nodes.proofs.Bounds.{target_fresh}
@@ -40,9 +41,11 @@ pub invariant_of-self : goal.invariant_of-self
 invariant_of-self g c = record {
   order = c.assign.ensures.assigned.order;
   known = c.assign.ensures.assigned.known;
+  sized = sized_alike c.self.inside.table c.assign.new.table c.self.invariant.order.still c.assign.ensures.assigned.order.still c.assign.ensures.assigned.alike c.self.invariant.sized;
   sound = subst (λ (w : World). IsSound w) (sym c.assign.ensures.assigned.world) (c.assignment_laws.ensures.sound (world_of c.self.inside.table) c.args.id c.args.values.now c.self.invariant.sound (subst (λ (w : World). All (InRange (ty_in w c.args.id)) c.args.values.now) (sym (ap (λ (s : State). s.world) c.self.view_is)) c.requires.in_range));
   beside = beside_alike c.self.inside.table c.assign.new.table c.self.inside.holds c.assign.ensures.assigned.alike c.self.invariant.beside;
   below = below_alike c.self.inside.table c.assign.new.table c.self.inside.next c.assign.ensures.assigned.alike.numbers_are c.self.invariant.below;
+  room = c.self.invariant.room;
 }
 
 pub returns-clause-holds : goal.returns-clause-holds

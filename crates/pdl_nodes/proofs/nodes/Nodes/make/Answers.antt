@@ -20,7 +20,7 @@ use Rattle.pdl_nodes.proofs.Stating.{live_has, dims_are, ty_are, root_are, lengt
 use Rattle.pdl_world.specs.World.{ArrayDef, root, view}
 use Rattle.pdl_nodes.specs.Holds.{Beside}
 use Rattle.pdl_nodes.specs.Joined.{joined_def}
-use Rattle.pdl_nodes.specs.Nodes.{root_row, IsLayout, IsNewView}
+use Rattle.pdl_nodes.specs.Row.{root_row}
 use Rattle.pdl_nodes.specs.State.{Joins}
 use Rattle.pdl_nodes.proofs.Calls.{on_err}
 use Rattle.pdl_nodes.proofs.Growing.{IsGrown, grown_nodes, grown_state, new_root, new_view, view_def, err_state, below_world, no_root}
@@ -40,18 +40,20 @@ invariant_of-self-2 g c =
     let grown : IsGrown c.self.inside.table c.self.inside.holds c.insert.new.holds c.self.inside.next (root_row c.self.inside.next c.args.ty c.args.dims.now c.args.elems.now) = (record {
       new = new_root c.shape_laws.ensures.positions c.shape_laws.ensures.wholes c.self.inside.table c.self.inside.next c.args.ty c.args.dims.now c.args.elems.now c.self.invariant.below c.requires.count;
       unlisted = refl;
+      sized = record { triple = c.triple_laws.ensures.wholes c.args.dims.now c.dims_list-limits.ensures.limits; limits = c.dims_list-limits.ensures.limits; laid = tt };
       sound = c.growth_laws.ensures.sound (world_of c.self.inside.table) c.self.inside.next (root c.args.ty c.args.dims.now c.args.elems.now) c.self.invariant.sound (below_world c.self.inside.table c.self.inside.next c.self.invariant.below) (c.dims_list-limits.ensures.limits, c.requires);
       beside = subst (λ (t : Rows). Beside t c.insert.new.holds) (c.in_ok-insert.ensures.ok ∙ ap (λ (r : Row). (c.self.inside.next, r) ∷ c.self.inside.table) (c.root_node-node.ensures ∙ ap (λ (k : Kept). root_row c.self.inside.next c.args.ty c.args.dims.now k.elems) c.in_ok-kept.ensures.ok)) c.insert.ensures.beside;
       held = c.in_ok-insert.ensures.held;
       others = c.insert.ensures.others;
     }) in
-    subst (λ (t : Rows). IsNodes t c.insert.new.holds c.in-Some.next) (sym (c.in_ok-insert.ensures.ok ∙ ap (λ (r : Row). (c.self.inside.next, r) ∷ c.self.inside.table) (c.root_node-node.ensures ∙ ap (λ (k : Kept). root_row c.self.inside.next c.args.ty c.args.dims.now k.elems) c.in_ok-kept.ensures.ok))) (grown_nodes c.self.inside.table c.self.inside.holds c.insert.new.holds c.self.inside.next c.in-Some.next (root_row c.self.inside.next c.args.ty c.args.dims.now c.args.elems.now) c.self.invariant grown c.in-Some.ensures.1)
+    subst (λ (t : Rows). IsNodes t c.insert.new.holds c.in-Some.next) (sym (c.in_ok-insert.ensures.ok ∙ ap (λ (r : Row). (c.self.inside.next, r) ∷ c.self.inside.table) (c.root_node-node.ensures ∙ ap (λ (k : Kept). root_row c.self.inside.next c.args.ty c.args.dims.now k.elems) c.in_ok-kept.ensures.ok))) (grown_nodes c.self.inside.table c.self.inside.holds c.insert.new.holds c.self.inside.next c.in-Some.next (root_row c.self.inside.next c.args.ty c.args.dims.now c.args.elems.now) c.self.invariant grown c.in-Some.ensures.1 (omega arith))
 
 pub returns-clause-made : goal.returns-clause-made
 returns-clause-made g c =
     let grown : IsGrown c.self.inside.table c.self.inside.holds c.insert.new.holds c.self.inside.next (root_row c.self.inside.next c.args.ty c.args.dims.now c.args.elems.now) = (record {
       new = new_root c.shape_laws.ensures.positions c.shape_laws.ensures.wholes c.self.inside.table c.self.inside.next c.args.ty c.args.dims.now c.args.elems.now c.self.invariant.below c.requires.count;
       unlisted = refl;
+      sized = record { triple = c.triple_laws.ensures.wholes c.args.dims.now c.dims_list-limits.ensures.limits; limits = c.dims_list-limits.ensures.limits; laid = tt };
       sound = c.growth_laws.ensures.sound (world_of c.self.inside.table) c.self.inside.next (root c.args.ty c.args.dims.now c.args.elems.now) c.self.invariant.sound (below_world c.self.inside.table c.self.inside.next c.self.invariant.below) (c.dims_list-limits.ensures.limits, c.requires);
       beside = subst (λ (t : Rows). Beside t c.insert.new.holds) (c.in_ok-insert.ensures.ok ∙ ap (λ (r : Row). (c.self.inside.next, r) ∷ c.self.inside.table) (c.root_node-node.ensures ∙ ap (λ (k : Kept). root_row c.self.inside.next c.args.ty c.args.dims.now k.elems) c.in_ok-kept.ensures.ok)) c.insert.ensures.beside;
       held = c.in_ok-insert.ensures.held;
@@ -66,9 +68,10 @@ returns-clause-sound g c =
     let grown : IsGrown c.self.inside.table c.self.inside.holds c.insert.new.holds c.self.inside.next (root_row c.self.inside.next c.args.ty c.args.dims.now c.args.elems.now) = (record {
       new = new_root c.shape_laws.ensures.positions c.shape_laws.ensures.wholes c.self.inside.table c.self.inside.next c.args.ty c.args.dims.now c.args.elems.now c.self.invariant.below c.requires.count;
       unlisted = refl;
+      sized = record { triple = c.triple_laws.ensures.wholes c.args.dims.now c.dims_list-limits.ensures.limits; limits = c.dims_list-limits.ensures.limits; laid = tt };
       sound = c.growth_laws.ensures.sound (world_of c.self.inside.table) c.self.inside.next (root c.args.ty c.args.dims.now c.args.elems.now) c.self.invariant.sound (below_world c.self.inside.table c.self.inside.next c.self.invariant.below) (c.dims_list-limits.ensures.limits, c.requires);
       beside = subst (λ (t : Rows). Beside t c.insert.new.holds) (c.in_ok-insert.ensures.ok ∙ ap (λ (r : Row). (c.self.inside.next, r) ∷ c.self.inside.table) (c.root_node-node.ensures ∙ ap (λ (k : Kept). root_row c.self.inside.next c.args.ty c.args.dims.now k.elems) c.in_ok-kept.ensures.ok)) c.insert.ensures.beside;
       held = c.in_ok-insert.ensures.held;
       others = c.insert.ensures.others;
     }) in
-    subst (λ (t : Rows). IsSound (world_of t)) (sym (c.in_ok-insert.ensures.ok ∙ ap (λ (r : Row). (c.self.inside.next, r) ∷ c.self.inside.table) (c.root_node-node.ensures ∙ ap (λ (k : Kept). root_row c.self.inside.next c.args.ty c.args.dims.now k.elems) c.in_ok-kept.ensures.ok))) (grown_nodes c.self.inside.table c.self.inside.holds c.insert.new.holds c.self.inside.next c.in-Some.next (root_row c.self.inside.next c.args.ty c.args.dims.now c.args.elems.now) c.self.invariant grown c.in-Some.ensures.1).sound
+    subst (λ (t : Rows). IsSound (world_of t)) (sym (c.in_ok-insert.ensures.ok ∙ ap (λ (r : Row). (c.self.inside.next, r) ∷ c.self.inside.table) (c.root_node-node.ensures ∙ ap (λ (k : Kept). root_row c.self.inside.next c.args.ty c.args.dims.now k.elems) c.in_ok-kept.ensures.ok))) (grown_nodes c.self.inside.table c.self.inside.holds c.insert.new.holds c.self.inside.next c.in-Some.next (root_row c.self.inside.next c.args.ty c.args.dims.now c.args.elems.now) c.self.invariant grown c.in-Some.ensures.1 (omega arith)).sound

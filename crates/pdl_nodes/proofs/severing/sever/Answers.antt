@@ -1,0 +1,89 @@
+use Rattle.std.proofs.Common.{◌+◌, ◌≤◌, sym, ◌∙◌, ap, arith}
+use Rattle.pdl_buf.specs.Buffer.{Kept}
+use Rattle.pdl_shape.specs.Triple.{Triple}
+use Rattle.pdl_nodes.specs.Cut.{CanCut}
+use Rattle.pdl_nodes.specs.Outcomes.{outdated, waiting_of, waiting_size}
+use Rattle.pdl_nodes.specs.Row.{Row}
+use Rattle.pdl_nodes.proofs.Calls.{on_err}
+use Rattle.pdl_nodes.proofs.Paths.{path_first}
+use Rattle.pdl_nodes.proofs.Readied.{ready_then}
+use Rattle.pdl_nodes.proofs.Severs.{CutFacts, IsFreshly, root_uncut, only_ready, freshly, ready_sized, ready_steps, all_steps, below_ready, ready_fresh, cut_fresh, can_cut, was_cut, cut_world}
+use Rattle.pdl_nodes.proofs.severing.sever.Goals as goal
+
+pub returns-then-root-id-clause-ok : goal.returns-then-root-id-clause-ok
+returns-then-root-id-clause-ok g c = root_uncut c.args.table.now c.args.id c.requires.order c.requires.live (ap (λ (r : Row). r.root) (sym c.node.ensures) ∙ sym c.root.ensures ∙ c.if-root-id.true)
+
+pub returns-in_err-refresh-clause-severed : goal.returns-in_err-refresh-clause-severed
+returns-in_err-refresh-clause-severed g c = only_ready c.args.table.now c.refresh.new.table c.args.id c.requires.order c.requires.sized (ready_then c.args.table.now c.settle.new.table c.refresh.new.table c.settle.ensures.settled.ready c.refresh.ensures.kept)
+
+pub returns-in_err-refresh-clause-counted : goal.returns-in_err-refresh-clause-counted
+returns-in_err-refresh-clause-counted g c =
+    let l : c.refresh.new.steps ≤ c.args.steps.now + (outdated c.args.table.now c.args.id + waiting_size c.args.table.now (waiting_of c.args.table.now c.args.id)) =
+    ready_steps c.args.table.now c.settle.new.table c.args.id c.settle.new.steps c.refresh.new.steps c.args.steps.now c.settle.ensures.settled c.settle.ensures.counted c.refresh.ensures.counted in
+    omega (arith, l)
+
+pub copied-requires-clause-sized : goal.copied-requires-clause-sized
+copied-requires-clause-sized g c = ready_sized c.args.table.now c.settle.new.table c.refresh.new.table c.args.id c.requires.order c.requires.sized c.settle.ensures.settled c.refresh.ensures.kept
+
+pub copied-requires-clause-fresh : goal.copied-requires-clause-fresh
+copied-requires-clause-fresh g c =
+    path_first c.refresh.new.table c.args.id c.refresh.ensures.kept.order.still (c.refresh.ensures.kept.alike.has_is c.args.id ∙ c.settle.ensures.settled.ready.alike.has_is c.args.id ∙ c.requires.live) c.in_ok-refresh.ensures.fresh
+
+pub returns-in_err-kept-clause-severed : goal.returns-in_err-kept-clause-severed
+returns-in_err-kept-clause-severed g c = only_ready c.args.table.now c.refresh.new.table c.args.id c.requires.order c.requires.sized (ready_then c.args.table.now c.settle.new.table c.refresh.new.table c.settle.ensures.settled.ready c.refresh.ensures.kept)
+
+pub returns-in_err-kept-clause-counted : goal.returns-in_err-kept-clause-counted
+returns-in_err-kept-clause-counted g c =
+    all_steps c.args.table.now c.settle.new.table c.refresh.new.table c.args.id c.refresh.new.steps c.copied.new.steps c.args.steps.now c.settle.ensures.settled c.refresh.ensures.kept
+    (ready_steps c.args.table.now c.settle.new.table c.args.id c.settle.new.steps c.refresh.new.steps c.args.steps.now c.settle.ensures.settled c.settle.ensures.counted c.refresh.ensures.counted) c.copied.ensures.counted
+
+pub cut-requires-clause-can : goal.cut-requires-clause-can
+cut-requires-clause-can g c =
+    let f : IsFreshly c.args.table.now c.refresh.new.table c.args.id = freshly c.args.table.now c.settle.new.table c.refresh.new.table c.args.id c.requires.order c.requires.sized c.requires.live c.settle.ensures.settled c.refresh.ensures.kept
+    (path_first c.refresh.new.table c.args.id c.refresh.ensures.kept.order.still (c.refresh.ensures.kept.alike.has_is c.args.id ∙ c.settle.ensures.settled.ready.alike.has_is c.args.id ∙ c.requires.live) c.in_ok-refresh.ensures.fresh) in
+    can_cut c.args.table.now c.refresh.new.table c.args.id c.copy_dims-dims.result c.in_ok-kept.kept.elems f
+    (λ r. c.if-root-id.false (c.root.ensures ∙ ap (λ (x : Row). x.root) c.node.ensures ∙ r))
+    (c.copy_dims-dims.ensures ∙ ap (λ (t : Triple). t.dims) (c.behind-node.view_is ∙ c.triple.ensures ∙ ap (λ (r : Row). r.triple) c.node-2.ensures))
+    (ap (λ (k : Kept). k.elems) c.in_ok-kept.ensures.value)
+
+pub cut-requires-clause-small : goal.cut-requires-clause-small
+cut-requires-clause-small g c = below_ready c.args.table.now c.refresh.new.table 18446744073709551615 (ready_then c.args.table.now c.settle.new.table c.refresh.new.table c.settle.ensures.settled.ready c.refresh.ensures.kept) c.requires.small
+
+pub returns-clause-severed : goal.returns-clause-severed
+returns-clause-severed g c =
+    let laws : CutFacts = record { severs = c.cut_laws.ensures.severs; families = c.cut_laws.ensures.families; known = c.cut_laws.ensures.known; sized = c.cut_laws.ensures.sized } in
+    let f : IsFreshly c.args.table.now c.refresh.new.table c.args.id = freshly c.args.table.now c.settle.new.table c.refresh.new.table c.args.id c.requires.order c.requires.sized c.requires.live c.settle.ensures.settled c.refresh.ensures.kept
+    (path_first c.refresh.new.table c.args.id c.refresh.ensures.kept.order.still (c.refresh.ensures.kept.alike.has_is c.args.id ∙ c.settle.ensures.settled.ready.alike.has_is c.args.id ∙ c.requires.live) c.in_ok-refresh.ensures.fresh) in
+    let can : CanCut c.refresh.new.table c.args.id c.copy_dims-dims.result c.in_ok-kept.kept.elems = can_cut c.args.table.now c.refresh.new.table c.args.id c.copy_dims-dims.result c.in_ok-kept.kept.elems f
+    (λ r. c.if-root-id.false (c.root.ensures ∙ ap (λ (x : Row). x.root) c.node.ensures ∙ r))
+    (c.copy_dims-dims.ensures ∙ ap (λ (t : Triple). t.dims) (c.behind-node.view_is ∙ c.triple.ensures ∙ ap (λ (r : Row). r.triple) c.node-2.ensures))
+    (ap (λ (k : Kept). k.elems) c.in_ok-kept.ensures.value) in
+    was_cut laws c.args.table.now c.refresh.new.table c.cut.new.self c.args.id c.copy_dims-dims.result c.in_ok-kept.kept.elems c.requires.order c.requires.sized f can (ap (λ (k : Kept). k.elems) c.in_ok-kept.ensures.value) c.cut.ensures
+
+pub returns-clause-ok : goal.returns-clause-ok
+returns-clause-ok g c =
+    let laws : CutFacts = record { severs = c.cut_laws.ensures.severs; families = c.cut_laws.ensures.families; known = c.cut_laws.ensures.known; sized = c.cut_laws.ensures.sized } in
+    let f : IsFreshly c.args.table.now c.refresh.new.table c.args.id = freshly c.args.table.now c.settle.new.table c.refresh.new.table c.args.id c.requires.order c.requires.sized c.requires.live c.settle.ensures.settled c.refresh.ensures.kept
+    (path_first c.refresh.new.table c.args.id c.refresh.ensures.kept.order.still (c.refresh.ensures.kept.alike.has_is c.args.id ∙ c.settle.ensures.settled.ready.alike.has_is c.args.id ∙ c.requires.live) c.in_ok-refresh.ensures.fresh) in
+    let can : CanCut c.refresh.new.table c.args.id c.copy_dims-dims.result c.in_ok-kept.kept.elems = can_cut c.args.table.now c.refresh.new.table c.args.id c.copy_dims-dims.result c.in_ok-kept.kept.elems f
+    (λ r. c.if-root-id.false (c.root.ensures ∙ ap (λ (x : Row). x.root) c.node.ensures ∙ r))
+    (c.copy_dims-dims.ensures ∙ ap (λ (t : Triple). t.dims) (c.behind-node.view_is ∙ c.triple.ensures ∙ ap (λ (r : Row). r.triple) c.node-2.ensures))
+    (ap (λ (k : Kept). k.elems) c.in_ok-kept.ensures.value) in
+    cut_world laws c.args.table.now c.refresh.new.table c.cut.new.self c.args.id c.copy_dims-dims.result c.in_ok-kept.kept.elems f can (ap (λ (k : Kept). k.elems) c.in_ok-kept.ensures.value) c.cut.ensures
+
+pub returns-clause-counted : goal.returns-clause-counted
+returns-clause-counted g c =
+    all_steps c.args.table.now c.settle.new.table c.refresh.new.table c.args.id c.refresh.new.steps c.copied.new.steps c.args.steps.now c.settle.ensures.settled c.refresh.ensures.kept
+    (ready_steps c.args.table.now c.settle.new.table c.args.id c.settle.new.steps c.refresh.new.steps c.args.steps.now c.settle.ensures.settled c.settle.ensures.counted c.refresh.ensures.counted) c.copied.ensures.counted
+
+pub returns-in_err-refresh-clause-stay : goal.returns-in_err-refresh-clause-stay
+returns-in_err-refresh-clause-stay g c = on_err c.from_residual.result _ (ready_fresh c.args.table.now c.refresh.new.table (ready_then c.args.table.now c.settle.new.table c.refresh.new.table c.settle.ensures.settled.ready c.refresh.ensures.kept))
+
+pub returns-in_err-kept-clause-stay : goal.returns-in_err-kept-clause-stay
+returns-in_err-kept-clause-stay g c = on_err c.from_residual-in_err-kept.result _ (ready_fresh c.args.table.now c.refresh.new.table (ready_then c.args.table.now c.settle.new.table c.refresh.new.table c.settle.ensures.settled.ready c.refresh.ensures.kept))
+
+pub returns-clause-fresh : goal.returns-clause-fresh
+returns-clause-fresh g c = λ n.
+    let f : IsFreshly c.args.table.now c.refresh.new.table c.args.id = freshly c.args.table.now c.settle.new.table c.refresh.new.table c.args.id c.requires.order c.requires.sized c.requires.live c.settle.ensures.settled c.refresh.ensures.kept
+    (path_first c.refresh.new.table c.args.id c.refresh.ensures.kept.order.still (c.refresh.ensures.kept.alike.has_is c.args.id ∙ c.settle.ensures.settled.ready.alike.has_is c.args.id ∙ c.requires.live) c.in_ok-refresh.ensures.fresh) in
+    cut_fresh c.args.table.now c.refresh.new.table c.cut.new.self c.args.id c.copy_dims-dims.result c.in_ok-kept.kept.elems f c.cut.ensures

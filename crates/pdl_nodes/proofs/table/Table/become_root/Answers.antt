@@ -1,0 +1,21 @@
+use Rattle.std.proofs.Common.{sym, ◌∙◌, ap}
+use Rattle.pdl_nodes.specs.Cut.{rooted_in}
+use Rattle.pdl_nodes.specs.Row.{Row}
+use Rattle.pdl_nodes.proofs.Calls.{has_key, node_is, changed_one}
+use Rattle.pdl_nodes.proofs.Derives.{rooted_here, rooted_others}
+use Rattle.pdl_nodes.proofs.Moved.{one_listed, listed_rooted}
+use Rattle.pdl_nodes.proofs.table.Table.become_root.Goals as goal
+
+pub index-key-requires : goal.index-key-requires
+index-key-requires c = has_key c.args.self.now c.self.inside.keys c.self.inside.nodes c.args.id c.self.view_is c.self.invariant.0 c.requires.live
+
+pub become_root-requires : goal.become_root-requires
+become_root-requires c = record { same_type = c.requires.same_type ∙ ap (λ (r : Row). r.ty) (sym (node_is c.args.self.now c.self.inside.keys c.self.inside.nodes c.args.id c.index-key.result.now c.index_mut.result.now c.self.view_is c.self.invariant.0 c.index-key.ensures c.index_mut.ensures.value)) }
+
+pub returns : goal.returns
+returns c = changed_one (rooted_in c.args.id c.args.dims.now c.args.kept.elems) c.args.self.now c.self.inside.keys c.self.inside.nodes c.args.id c.index-key.result.now c.index_mut.result.now c.become_root.new.self c.self.view_is c.self.invariant.0 c.index-key.ensures c.index_mut.ensures.value (c.become_root.ensures ∙ rooted_here c.args.id c.args.dims.now c.args.kept.elems c.index_mut.result.now) (rooted_others c.args.id c.args.dims.now c.args.kept.elems)
+
+pub invariant_of-self : goal.invariant_of-self
+invariant_of-self c = one_listed (rooted_in c.args.id c.args.dims.now c.args.kept.elems) c.args.self.now c.self.inside.keys c.self.inside.nodes c.self.inside.marked c.args.id c.index-key.result.now c.become_root.new.self c.self.view_is c.self.invariant c.index-key.ensures
+    (changed_one (rooted_in c.args.id c.args.dims.now c.args.kept.elems) c.args.self.now c.self.inside.keys c.self.inside.nodes c.args.id c.index-key.result.now c.index_mut.result.now c.become_root.new.self c.self.view_is c.self.invariant.0 c.index-key.ensures c.index_mut.ensures.value (c.become_root.ensures ∙ rooted_here c.args.id c.args.dims.now c.args.kept.elems c.index_mut.result.now) (rooted_others c.args.id c.args.dims.now c.args.kept.elems))
+    (listed_rooted c.args.id c.args.dims.now c.args.kept.elems c.args.self.now c.self.inside.marked)

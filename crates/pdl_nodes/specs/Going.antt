@@ -1,0 +1,44 @@
+-- What is written back before arrays go: the elements that wait in a view that goes while its root stays.
+use Rattle.std.specs.Prelude.{◌≡◌, ◌≢◌, ℕ, ◌+◌, ◌==◌, if◌then◌else◌, Bool, true, [], ◌∷◌, Option, Some, None}
+use Rattle.std.specs.List.{filter}
+use Rattle.pdl_nodes.specs.Alike.{is_fresh_in, numbers}
+use Rattle.pdl_nodes.specs.Known.{AreKnown}
+use Rattle.pdl_nodes.specs.Outcomes.{IsReady, waiting_size}
+use Rattle.pdl_nodes.specs.Rows.{Rows, row_at, has}
+use Rattle.pdl_nodes.specs.Sized.{AreSized}
+
+-- a waiting view of which the test doesn't hold
+abbrev pub goes_from : (ℕ → Bool) → Option ℕ → Option ℕ
+goes_from stays None = None
+goes_from stays (Some v) = if stays v then None else Some v
+
+-- the view that waits in the family of r and goes, where r is a root that stays
+abbrev pub going_at : Rows → (stays : ℕ → Bool) → ℕ → Option ℕ
+going_at rs stays r =
+    if (row_at rs r).root == r then (if stays r then goes_from stays (row_at rs r).waiting else None) else None
+
+-- how many elements wait in it
+abbrev pub going_size : Rows → (stays : ℕ → Bool) → ℕ → ℕ
+going_size rs stays r = waiting_size rs (going_at rs stays r)
+
+-- the elements that wait so in the families of these rows together
+abbrev pub going_sum : Rows → (stays : ℕ → Bool) → (part : Rows) → ℕ
+going_sum rs stays [] = 0
+going_sum rs stays ((k, r) ∷ part) = going_size rs stays k + going_sum rs stays part
+
+-- what waited and goes in the family of r was written back, and other families wait as before
+pub record IsSettledAt (stays : ℕ → Bool) (old new : Rows) (r : ℕ) : Type 0 where
+  pub kept : IsReady old new
+  pub sized : AreSized old → AreSized new
+  pub here : going_at new stays r ≡ None
+  pub others : (u : ℕ) → u ≢ r → (row_at new u).waiting ≡ (row_at old u).waiting
+
+-- each array that is left stands in its place as it was, and can be lent if it could be
+pub record IsLeft (old new : Rows) : Type 0 where
+  pub known : AreKnown new
+  pub sized : AreSized old → AreSized new
+  pub numbers_are : numbers new ≡ filter (has new) (numbers old)
+  pub there : (v : ℕ) → has new v ≡ true → has old v ≡ true
+  pub root_is : (v : ℕ) → has new v ≡ true → (row_at new v).root ≡ (row_at old v).root
+  pub base_is : (v : ℕ) → has new v ≡ true → (row_at new v).base ≡ (row_at old v).base
+  pub fresh : (v : ℕ) → has new v ≡ true → is_fresh_in old v ≡ true → is_fresh_in new v ≡ true

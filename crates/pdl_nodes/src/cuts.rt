@@ -1,0 +1,67 @@
+//! What a cut does to one node.
+ghost use Rattle.std.specs.Prelude.{◌≡◌};
+ghost use Rattle.pdl_nodes.specs.Cut.{LaidOver, over_from, view_under};
+ghost use Rattle.pdl_nodes.specs.Row.{root_row};
+
+use crate::node::Node;
+use crate::origin::{Layout, Origin};
+use pdl_affine::compose;
+use pdl_buf::Buf;
+use pdl_shape::{Dims, Triple, whole_triple};
+use std::alloc::Global;
+
+impl Node {
+    /// Becomes a root of these dimensions and elements of its type, which is marked.
+    pub fn become_root(&mut self, alloc: Global, id: u64, dims: &Dims, kept: Buf)
+        requires same_type { kept.ty ≡ self.old.ty }
+        ensures { self.new ≡ root_row id self.old.ty dims.now kept.elems }
+    {
+        self.origin = Origin::Root;
+        self.root = id;
+        self.base = id;
+        self.triple = whole_triple(alloc, dims);
+        self.kept = Some(kept);
+        self.mark = true;
+        self.repeats = false;
+        self.places = None;
+        self.waiting = None;
+    }
+
+    /// The triple that shows a view over the base that this one shows its parent over. None for a
+    /// root, and for a view that can't be shown so.
+    pub fn over(&self, alloc: Global, above: &Triple) -> Option<Triple>
+        requires laid { LaidOver self.now.origin above.now.dims }
+        ensures { result ≡ over_from self.now.origin above.now }
+    {
+        match &self.origin {
+            Origin::View {
+                layout: Layout::Plan(plan),
+                ..
+            } => compose(alloc, plan, above),
+            _ => None,
+        }
+    }
+
+    /// Is shown over the base of its parent by this triple, and else keeps elements of its own. In
+    /// another family it isn't marked, and its places aren't known.
+    pub fn derive(&mut self, alloc: Global, id: u64, root: u64, base: u64, over: Option<Triple>)
+        ensures { self.new ≡ view_under id root base self.old over }
+    {
+        match over {
+            Some(triple) => {
+                self.base = base;
+                self.triple = triple;
+            }
+            None => {
+                let whole = whole_triple(alloc, &self.triple.dims);
+                self.base = id;
+                self.triple = whole;
+            }
+        }
+        if self.root != root {
+            self.root = root;
+            self.mark = false;
+            self.places = None;
+        }
+    }
+}
