@@ -3,7 +3,7 @@ ghost use Rattle.std.specs.Prelude.{◌≡◌, ◌<◌, ◌≤◌, ◌+◌, [], 
 use crate::arrays::shape;
 use pdl_buf::*;
 use pdl_elem::Ty;
-use pdl_shape::{Dims, dims_list, elements_of, triple_of, whole_triple};
+use pdl_shape::{Dims, dims_list, dims_of, elements_of, triple_of, whole_triple};
 use std::alloc::Global;
 use std::marker::Brand;
 use std::sync::ledger::{Blank, Ledger};

@@ -1,4 +1,4 @@
-//! Each public call of each crate once, with values from outside: a module a crate. They stand here
+//! Public calls of the crates, with values from outside: a module a crate. They stand here
 //! and not in the crates, since a crate with tests of its own is proved a second time for them.
 #![tactic(auto)]
 

@@ -4,6 +4,7 @@ use pdl_buf::{Made, NoMemory};
 use pdl_elem::Ty;
 use pdl_reduce::*;
 use pdl_shape::dims_list;
+use std::alloc::Global;
 use std::test::Fail;
 
 // Whether an array has this type, these sizes and these elements.
