@@ -1,4 +1,4 @@
-/* Plain loops over 2^20 numbers of 64 bits, to compare the program's statements with: `loops NAME` prints nanoseconds an
+/* Plain loops over 2^20 numbers, of 64 bits or of 32, to compare the program's statements with: `loops NAME` prints nanoseconds an
    element, and `loops run PROGRAM` how many nanoseconds a program takes, which reads its script on standard input. Both are of
    the processor's time, which other work on the machine lengthens less than that on the wall. Built by bench/elements and bench/reductions. */
 #include <stdint.h>
@@ -23,26 +23,27 @@ static void compound(void) { for (int i = 0; i < COUNT; i++) z[i] = (int32_t)((i
 static void greater(void) { for (int i = 0; i < COUNT; i++) z[i] = x[i] > y[i]; }
 static void every_second(void) { for (int i = 0; i < COUNT / 2; i++) z[i] = x[2 * i]; }
 
-/* Sums, extremes, prefixes and products of the same numbers; the planes are SIDE by SIDE, the matrices SMALL by SMALL. */
-static void sum(void) { int64_t s = 0; for (int i = 0; i < COUNT; i++) s += x[i]; kept = (int32_t)s; }
+/* Sums, extremes, prefixes and products of numbers of 32 bits; the planes are SIDE by SIDE, the matrices SMALL by SMALL. */
+static int32_t n[COUNT], m[COUNT];
+static void sum(void) { int64_t s = 0; for (int i = 0; i < COUNT; i++) s += n[i]; kept = (int32_t)s; }
 static void rows(void) {
-    for (int j = 0; j < SIDE; j++) { int64_t s = 0; for (int i = 0; i < SIDE; i++) s += x[SIDE * j + i]; z[j] = (int32_t)s; }
+    for (int j = 0; j < SIDE; j++) { int64_t s = 0; for (int i = 0; i < SIDE; i++) s += n[SIDE * j + i]; z[j] = (int32_t)s; }
 }
 static void columns(void) {
     memset(z, 0, SIDE * sizeof *z);
-    for (int j = 0; j < SIDE; j++) for (int i = 0; i < SIDE; i++) z[i] += x[SIDE * j + i];
+    for (int j = 0; j < SIDE; j++) for (int i = 0; i < SIDE; i++) z[i] += n[SIDE * j + i];
     for (int i = 0; i < SIDE; i++) z[i] = (int32_t)z[i];
 }
-static void maximum_ind(void) { int m = 0; for (int i = 1; i < COUNT; i++) if (x[i] > x[m]) m = i; kept = m; }
-static void cumusumover(void) { int64_t s = 0; for (int i = 0; i < COUNT; i++) { s += x[i]; z[i] = (int32_t)s; } }
+static void maximum_ind(void) { int best = 0; for (int i = 1; i < COUNT; i++) if (n[i] > n[best]) best = i; kept = best; }
+static void cumusumover(void) { int64_t s = 0; for (int i = 0; i < COUNT; i++) { s += n[i]; z[i] = (int32_t)s; } }
 static void inner(void) {
-    for (int j = 0; j < SIDE; j++) { int64_t s = 0; for (int i = 0; i < SIDE; i++) s += x[SIDE * j + i] * y[i]; z[j] = (int32_t)s; }
+    for (int j = 0; j < SIDE; j++) { int64_t s = 0; for (int i = 0; i < SIDE; i++) s += (int64_t)n[SIDE * j + i] * m[i]; z[j] = (int32_t)s; }
 }
-static void outer(void) { for (int j = 0; j < SIDE; j++) for (int i = 0; i < SIDE; i++) z[SIDE * j + i] = (int32_t)(x[i] * y[j]); }
+static void outer(void) { for (int j = 0; j < SIDE; j++) for (int i = 0; i < SIDE; i++) z[SIDE * j + i] = (int32_t)((int64_t)n[i] * m[j]); }
 static void matmult(void) {
     memset(z, 0, SMALL * SMALL * sizeof *z);
     for (int h = 0; h < SMALL; h++) for (int t = 0; t < SMALL; t++) for (int w = 0; w < SMALL; w++)
-        z[SMALL * h + w] += x[SMALL * h + t] * y[SMALL * t + w];
+        z[SMALL * h + w] += (int64_t)n[SMALL * h + t] * m[SMALL * t + w];
     for (int i = 0; i < SMALL * SMALL; i++) z[i] = (int32_t)z[i];
 }
 
@@ -70,7 +71,7 @@ int main(int argc, char **argv) {
         {"maximum_ind", maximum_ind, COUNT}, {"cumusumover", cumusumover, COUNT},
         {"inner", inner, COUNT}, {"outer", outer, COUNT}, {"matmult", matmult, SMALL * SMALL * SMALL},
     };
-    for (int i = 0; i < COUNT; i++) x[i] = y[i] = i;
+    for (int i = 0; i < COUNT; i++) x[i] = y[i] = n[i] = m[i] = i;
     for (unsigned k = 0; k < sizeof loops / sizeof *loops; k++) {
         if (argc != 2 || strcmp(argv[1], loops[k].name)) continue;
         struct timespec from, to;
