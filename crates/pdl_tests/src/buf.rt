@@ -208,35 +208,3 @@ fn lends_bytes(rt: HostRuntime) -> Result<(), Fail> {
     assert_eq!(rt; bytes.as_slice(), [0x01, 0x00, 0xFE, 0xFF].as_slice());
     Ok(())
 }
-
-// The elements of a buffer of 1 and -2, which come packed in two parts, and how many there are.
-fn repacked<L: Ledger>(alloc: Global, blank: Blank) -> Result<(i64, i64, usize), NoMemory>
-    requires name { blank.name ≡ L.name }
-    requires parts { blank.parts ≡ L.parts }
-    requires some { 0 < blank.parts }
-{
-    let mut steps = new_steps::<L>(blank);
-    let mut packing = Packing::new(alloc, Ty::Short, 2)?;
-    packing.extend(&[1])?;
-    packing.extend(&[-2])?;
-    let elems = Elements::packed(packing);
-    let buf = buf_of_elements(alloc, Ty::Short, &elems, &mut steps)?;
-    Ok((buf_get(&buf, 0), buf_get(&buf, 1), elems.len()))
-}
-
-#[test]
-fn packs_elements(rt: HostRuntime) -> Result<(), Fail> {
-    let found = repacked::<Brand>(rt.alloc(), Blank::new(1))?;
-    assert_eq!(rt; found, (1, -2, 2));
-    Ok(())
-}
-
-#[test]
-fn reads_listed_elements(rt: HostRuntime) -> Result<(), Fail> {
-    let elems = Elements::new(vec![in rt.alloc(); 7, 8, 9]?);
-    let mut two = [0; 2];
-    elems.read(1, &mut two);
-    assert_eq!(rt; two, [8, 9]);
-    assert_eq!(rt; elems.to_vec(rt.alloc())?.as_slice(), [7, 8, 9].as_slice());
-    Ok(())
-}

@@ -42,5 +42,3 @@ mod shell;
 mod sig;
 #[cfg(test)]
 mod slices;
-#[cfg(test)]
-mod syntax;
