@@ -1,16 +1,17 @@
 //! The triple that shows a view over the base of its parent (PDL::API, affine transformations).
-ghost use Rattle.std.specs.Prelude.{◌≡◌, ◌<◌, ◌≤◌, ◌*◌, ◌^◌, ◌+◌, ◌+ℤ◌, ◌*ℤ◌, pos, ℕ, map, length, unsigned_abs, slice_index, nat_abs, if◌then◌else◌, ◌==◌, IfSome};
+ghost use Rattle.std.specs.Prelude.{◌≡◌, ◌<◌, ◌≤◌, ◌*◌, ◌^◌, ◌+◌, ◌+ℤ◌, ◌*ℤ◌, pos, ℕ, map, length, unsigned_abs, slice_index, if◌then◌else◌, ◌==◌, IfSome};
 ghost use Rattle.std.specs.List.{range_with_len};
-ghost use Rattle.pdl_shape.specs.Shape.{extent_limit, size_of};
-ghost use Rattle.pdl_shape.specs.Triple.{IsPlace, IsTriple};
+ghost use Rattle.pdl_shape.specs.Shape.{extent_limit};
+ghost use Rattle.pdl_shape.specs.Triple.{IsTriple};
 ghost use Rattle.pdl_affine.specs.Views.{sizes};
 ghost use Rattle.pdl_affine.specs.Windows.{windowed, shown, Shows, LiesIn, form_place};
-ghost use Rattle.pdl_affine.specs.Courses.{seen_form, IsSound, IsStraight, begun, gathered, counting, counted_incs};
+ghost use Rattle.pdl_affine.specs.Courses.{seen_form, IsSound, IsStraight, begun, gathered, counted_incs};
 
+use crate::counting::{counted_offset, counting};
 use crate::courses::courses_of;
 use crate::forms::{Course, Form};
 use crate::joining::clump;
-use pdl_shape::{Dims, Triple, dims_list, elements_of, incs_list, shape_laws, triple_of};
+use pdl_shape::{Dims, Triple, dims_list, incs_list, shape_laws, triple_of};
 use smallvec::SmallVec;
 use std::alloc::Global;
 
@@ -80,18 +81,12 @@ fn step_along(course: Course, dimension: usize) -> i32
     }
 }
 
-/// An increment along a size: 0 along a size of 0 or 1.
-fn counting(inc: i128, size: u32) -> i32
-    requires { 1 < size → unsigned_abs inc < extent_limit }
-    ensures { result ≡ counting inc size }
-{
-    if size <= 1 { 0 } else { inc as i32 }
-}
-
 /// The increments of a view over its parent's.
 fn counted_incs(alloc: Global, over: &Triple, courses: &[Course], dims: &Dims) -> SmallVec<i32, 16>
-    requires narrow { (i : ℕ) → i < length dims.now → 1 < slice_index dims.now i → unsigned_abs (gathered over.now.incs courses.now i) < extent_limit }
-    ensures { result.items ≡ counted_incs (map (gathered over.now.incs courses.now) (range_with_len 0 (length dims.now))) dims.now }
+    requires narrow { (i : ℕ) → i < length dims.now → 1 < slice_index dims.now i →
+        unsigned_abs (gathered over.now.incs courses.now i) < extent_limit }
+    ensures { let moves = map (gathered over.now.incs courses.now) (range_with_len 0 (length dims.now)) in
+        result.items ≡ counted_incs moves dims.now }
 {
     let incs = incs_of(over);
     let sizes = dims_list(dims);
@@ -120,18 +115,6 @@ fn first_place(over: &Triple, courses: &[Course]) -> i128
     i128::from(over.offset) + begun
 }
 
-/// The offset that a place counts as: 0 for a window without elements.
-fn offset(place: i128, dims: &Dims) -> u32
-    requires { (size_of dims.now ≡ 0 → ⊥) → IsPlace place }
-    ensures { result ≡ (if size_of dims.now == 0 then 0 else nat_abs place) }
-{
-    if elements_of(dims) == 0 {
-        0
-    } else {
-        place as u32
-    }
-}
-
 /// The triple that shows a view that is no clump.
 fn straight(alloc: Global, form: &Form, dims: &Dims, over: &Triple) -> Triple
     requires sound { IsSound (seen_form form.now) over.now.dims }
@@ -145,7 +128,7 @@ fn straight(alloc: Global, form: &Form, dims: &Dims, over: &Triple) -> Triple
     let courses = courses_of(alloc, form, &over.dims);
     let place = first_place(over, courses.as_slice());
     let incs = counted_incs(alloc, over, courses.as_slice(), dims);
-    triple_of(alloc, offset(place, dims), incs.as_slice(), dims)
+    triple_of(alloc, counted_offset(place, dims), incs.as_slice(), dims)
 }
 
 /// The triple that shows a view of these dimensions, or `None` for a clump that doesn't join.
@@ -153,7 +136,8 @@ pub fn window(alloc: Global, form: &Form, dims: &Dims, over: &Triple) -> Option<
     requires sound { IsSound (seen_form form.now) over.now.dims }
     requires sized { dims.now ≡ sizes (seen_form form.now) over.now.dims }
     ensures window { result ≡ windowed (seen_form form.now) over.now }
-    ensures shows { IfSome result (λ triple. Shows triple (form_place (seen_form form.now) over.now)) }
+    ensures shows { let place = form_place (seen_form form.now) over.now in
+        IfSome result (λ triple. Shows triple place) }
     ensures inside { IfSome result (λ triple. LiesIn triple over.now) }
 {
     match form {

@@ -1,15 +1,15 @@
 //! Clumps that are windows: dimensions whose increments join.
-ghost use Rattle.std.specs.Prelude.{◌≡◌, ◌≤◌, ◌+◌, ◌==◌, ◌∷◌, ◌*ℤ◌, pos, length, take, drop, if◌then◌else◌, IfSome};
+ghost use Rattle.std.specs.Prelude.{◌≡◌, ◌≤◌, ◌+◌, ◌==◌, ◌∷◌, ◌*ℤ◌, pos, length, take, drop, IfSome};
 ghost use Rattle.std.specs.List.{list_any};
 ghost use Rattle.std.specs.Ordering.{int_eq};
-ghost use Rattle.pdl_shape.specs.Shape.{size_of};
 ghost use Rattle.pdl_shape.specs.Triple.{IsTriple};
 ghost use Rattle.pdl_affine.specs.Views.{clumped, sizes};
 ghost use Rattle.pdl_affine.specs.Windows.{is_chain, do_join, windowed, Shows, LiesIn, form_place};
-ghost use Rattle.pdl_affine.specs.Courses.{counting, counted_incs, first_inc, others};
+ghost use Rattle.pdl_affine.specs.Courses.{counted_incs, first_inc, others};
 
 use crate::composing::incs_of;
-use pdl_shape::{Dims, Triple, dims_list, elements_of, shape_laws, triple_of};
+use crate::counting::{counted_offset, counting};
+use pdl_shape::{Dims, Triple, dims_list, shape_laws, triple_of};
 use smallvec::SmallVec;
 use std::alloc::Global;
 
@@ -91,13 +91,6 @@ fn first_inc(incs: &[i32], sizes: &[u32]) -> i32
     }
 }
 
-/// An increment along a size: 0 along a size of 0 or 1.
-fn counting(inc: i32, size: u32) -> i32
-    ensures { result ≡ counting inc size }
-{
-    if size <= 1 { 0 } else { inc }
-}
-
 /// The increments, each counted along its size.
 fn counted_incs(alloc: Global, first: i32, rest: &[i32], dims: &Dims) -> SmallVec<i32, 16>
     requires { length rest.now + 1 ≡ length dims.now }
@@ -105,9 +98,9 @@ fn counted_incs(alloc: Global, first: i32, rest: &[i32], dims: &Dims) -> SmallVe
 {
     let sizes = dims_list(dims);
     let mut made = SmallVec::new(alloc);
-    made.push_reserved(counting(first, sizes[0]));
+    made.push_reserved(counting(i128::from(first), sizes[0]));
     for i in 0..rest.len() {
-        made.push_reserved(counting(rest[i], sizes[i + 1]));
+        made.push_reserved(counting(i128::from(rest[i]), sizes[i + 1]));
     }
     made
 }
@@ -126,20 +119,14 @@ fn joins(count: usize, over: &Triple) -> bool
 fn joined_incs(alloc: Global, count: usize, dims: &Dims, over: &Triple) -> SmallVec<i32, 16>
     requires within { count ≤ length over.now.dims }
     requires sized { dims.now ≡ sizes (clumped count) over.now.dims }
-    ensures incs { result.items ≡ counted_incs (first_inc (take count over.now.incs) (take count over.now.dims) ∷ drop count over.now.incs) dims.now }
+    ensures incs { let first = first_inc (take count over.now.incs) (take count over.now.dims) in
+        result.items ≡ counted_incs (first ∷ drop count over.now.incs) dims.now }
     ensures triple { IsTriple over.now }
 {
     let incs = incs_of(over);
     let sizes = dims_list(&over.dims);
     let first = first_inc(&incs[..count], &sizes[..count]);
     counted_incs(alloc, first, &incs[count..], dims)
-}
-
-/// The offset that counts: 0 for a window without elements.
-fn counting_offset(offset: u32, dims: &Dims) -> u32
-    ensures { result ≡ (if size_of dims.now == 0 then 0 else offset) }
-{
-    if elements_of(dims) == 0 { 0 } else { offset }
 }
 
 /// The triple that shows a clump of so many dimensions, if they join.
@@ -155,6 +142,6 @@ pub fn clump(alloc: Global, count: usize, dims: &Dims, over: &Triple) -> Option<
         return None;
     }
     let incs = joined_incs(alloc, count, dims, over);
-    let offset = counting_offset(over.offset, dims);
+    let offset = counted_offset(i128::from(over.offset), dims);
     Some(triple_of(alloc, offset, incs.as_slice(), dims))
 }

@@ -3,6 +3,7 @@
 #![tactic(auto)]
 
 mod composing;
+mod counting;
 mod courses;
 mod forms;
 mod joining;

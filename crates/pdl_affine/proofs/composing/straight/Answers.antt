@@ -16,8 +16,8 @@ counted_incs-incs-requires c =
     c.first_place-place.ensures.triple c.courses_of-courses.ensures (ap (λ t. t.dims) c.over.view_is) c.as_slice.ensures c.first_place-place.ensures.value c.requires.sized in
     record { narrow = gathered_small c.shape_laws.ensures.positions _ _ _ _ _ c.as_slice-2.result.now made c.as_slice-2.ensures }
 
-pub offset-requires : goal.offset-requires
-offset-requires c =
+pub counted_offset-requires : goal.counted_offset-requires
+counted_offset-requires c =
     let made = composing (seen_form c.args.form.now) c.args.over.now c.args.dims.now c.over.inside.dims c.first_place-place.result c.courses_of-courses.result.items c.as_slice.result.now
     c.first_place-place.ensures.triple c.courses_of-courses.ensures (ap (λ t. t.dims) c.over.view_is) c.as_slice.ensures c.first_place-place.ensures.value c.requires.sized in
     let fits : SFits w128 c.first_place-place.result = search rules in
@@ -29,8 +29,8 @@ triple_of-requires c =
     let made = composing (seen_form c.args.form.now) c.args.over.now c.args.dims.now c.over.inside.dims c.first_place-place.result c.courses_of-courses.result.items c.as_slice.result.now
     c.first_place-place.ensures.triple c.courses_of-courses.ensures (ap (λ t. t.dims) c.over.view_is) c.as_slice.ensures c.first_place-place.ensures.value c.requires.sized in
     let fits : SFits w128 c.first_place-place.result = search rules in
-    made_triple c.shape_laws.ensures.positions _ _ c.args.dims.now c.first_place-place.result _ c.offset.result c.as_slice-3.result.now (composing_run c.shape_laws.ensures.positions _ _ _ _ _ c.as_slice-2.result.now made c.as_slice-2.ensures)
-    (c.offset.ensures ∙ ap (λ z. if size_of c.args.dims.now == 0 then 0 else nat_abs z) (to_z-of_z w128 c.first_place-place.result fits)) (c.as_slice-3.ensures ∙ c.counted_incs-incs.ensures)
+    made_triple c.shape_laws.ensures.positions _ _ c.args.dims.now c.first_place-place.result _ c.counted_offset.result c.as_slice-3.result.now (composing_run c.shape_laws.ensures.positions _ _ _ _ _ c.as_slice-2.result.now made c.as_slice-2.ensures)
+    (c.counted_offset.ensures ∙ ap (λ z. if size_of c.args.dims.now == 0 then 0 else nat_abs z) (to_z-of_z w128 c.first_place-place.result fits)) (c.as_slice-3.ensures ∙ c.counted_incs-incs.ensures)
 
 pub returns-clause-shown : goal.returns-clause-shown
 returns-clause-shown c =
@@ -38,8 +38,8 @@ returns-clause-shown c =
     c.first_place-place.ensures.triple c.courses_of-courses.ensures (ap (λ t. t.dims) c.over.view_is) c.as_slice.ensures c.first_place-place.ensures.value c.requires.sized in
     let fits : SFits w128 c.first_place-place.result = search rules in
     c.triple_of.ensures
-    ∙ made_shown _ _ c.args.dims.now c.first_place-place.result _ c.offset.result c.as_slice-3.result.now (composing_run c.shape_laws.ensures.positions _ _ _ _ _ c.as_slice-2.result.now made c.as_slice-2.ensures)
-    (c.offset.ensures ∙ ap (λ z. if size_of c.args.dims.now == 0 then 0 else nat_abs z) (to_z-of_z w128 c.first_place-place.result fits)) (c.as_slice-3.ensures ∙ c.counted_incs-incs.ensures)
+    ∙ made_shown _ _ c.args.dims.now c.first_place-place.result _ c.counted_offset.result c.as_slice-3.result.now (composing_run c.shape_laws.ensures.positions _ _ _ _ _ c.as_slice-2.result.now made c.as_slice-2.ensures)
+    (c.counted_offset.ensures ∙ ap (λ z. if size_of c.args.dims.now == 0 then 0 else nat_abs z) (to_z-of_z w128 c.first_place-place.result fits)) (c.as_slice-3.ensures ∙ c.counted_incs-incs.ensures)
 
 pub returns-clause-shows : goal.returns-clause-shows
 returns-clause-shows c =
@@ -48,8 +48,8 @@ returns-clause-shows c =
     let fits : SFits w128 c.first_place-place.result = search rules in
     let P : Triple → Type 0 = λ t. Shows t (form_place (seen_form c.args.form.now) c.args.over.now) in
     subst P (sym c.triple_of.ensures)
-    (made_shows c.shape_laws.ensures.positions _ _ c.args.dims.now c.first_place-place.result _ c.offset.result c.as_slice-3.result.now (composing_run c.shape_laws.ensures.positions _ _ _ _ _ c.as_slice-2.result.now made c.as_slice-2.ensures)
-    (c.offset.ensures ∙ ap (λ z. if size_of c.args.dims.now == 0 then 0 else nat_abs z) (to_z-of_z w128 c.first_place-place.result fits)) (c.as_slice-3.ensures ∙ c.counted_incs-incs.ensures))
+    (made_shows c.shape_laws.ensures.positions _ _ c.args.dims.now c.first_place-place.result _ c.counted_offset.result c.as_slice-3.result.now (composing_run c.shape_laws.ensures.positions _ _ _ _ _ c.as_slice-2.result.now made c.as_slice-2.ensures)
+    (c.counted_offset.ensures ∙ ap (λ z. if size_of c.args.dims.now == 0 then 0 else nat_abs z) (to_z-of_z w128 c.first_place-place.result fits)) (c.as_slice-3.ensures ∙ c.counted_incs-incs.ensures))
 
 pub returns-clause-inside : goal.returns-clause-inside
 returns-clause-inside c =
@@ -58,5 +58,5 @@ returns-clause-inside c =
     let fits : SFits w128 c.first_place-place.result = search rules in
     let P : Triple → Type 0 = λ t. LiesIn t c.args.over.now in
     subst P (sym c.triple_of.ensures)
-    (made_lies c.shape_laws.ensures.positions _ _ c.args.dims.now c.first_place-place.result _ c.offset.result c.as_slice-3.result.now (composing_run c.shape_laws.ensures.positions _ _ _ _ _ c.as_slice-2.result.now made c.as_slice-2.ensures)
-    (c.offset.ensures ∙ ap (λ z. if size_of c.args.dims.now == 0 then 0 else nat_abs z) (to_z-of_z w128 c.first_place-place.result fits)) (c.as_slice-3.ensures ∙ c.counted_incs-incs.ensures))
+    (made_lies c.shape_laws.ensures.positions _ _ c.args.dims.now c.first_place-place.result _ c.counted_offset.result c.as_slice-3.result.now (composing_run c.shape_laws.ensures.positions _ _ _ _ _ c.as_slice-2.result.now made c.as_slice-2.ensures)
+    (c.counted_offset.ensures ∙ ap (λ z. if size_of c.args.dims.now == 0 then 0 else nat_abs z) (to_z-of_z w128 c.first_place-place.result fits)) (c.as_slice-3.ensures ∙ c.counted_incs-incs.ensures))
