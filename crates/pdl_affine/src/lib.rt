@@ -9,6 +9,7 @@ mod forms;
 mod joining;
 mod laws;
 mod planning;
+mod putting;
 mod resolving;
 mod sizing;
 mod slicing;

@@ -7,11 +7,12 @@ ghost use Rattle.pdl_affine.specs.declared.Affine.{Affine};
 ghost use Rattle.pdl_shape.specs.Refusals.{bad_dimension};
 
 use crate::forms::Form;
+use crate::putting::put;
 use crate::slicing::taken_of;
 use crate::{Affine, PlanFault};
 use pdl_shape::{clump_count, from_end};
 use pdl_slices::SliceArg;
-use std::alloc::{AllocError, Global};
+use std::alloc::Global;
 
 fn slice(alloc: Global, args: &[SliceArg], parent: &[u32]) -> Result<Form, PlanFault>
     requires small { AreSmall parent.now }
@@ -40,13 +41,6 @@ fn mv(a: i64, b: i64, parent: &[u32]) -> Result<Form, PlanFault>
         (Some(a), Some(b)) => Ok(Form::Shifted(a, b)),
         _ => Err(PlanFault::BadDimension),
     }
-}
-
-fn put(places: &mut Vec<usize>, place: usize) -> Result<(), AllocError>
-    ensures { OnOk result (places.new.items ≡ places.old.items ++ place ∷ []) }
-{
-    places.push(place)?;
-    Ok(())
 }
 
 /// The places of these numbers among so many dimensions.

@@ -8,16 +8,10 @@ ghost use Rattle.pdl_shape.specs.Shape.{IsDims};
 
 use crate::PlanFault;
 use crate::forms::{Form, Taken};
+use crate::putting::put;
 use crate::resolving::{lists, size_at};
 use pdl_shape::{Dims, ShapeFault, dims_of, size};
 use std::alloc::{AllocError, Global};
-
-fn put(sizes: &mut Vec<u32>, size: u32) -> Result<(), AllocError>
-    ensures { OnOk result (sizes.new.items ≡ sizes.old.items ++ size ∷ []) }
-{
-    sizes.push(size)?;
-    Ok(())
-}
 
 fn put_line(sizes: &mut Vec<u32>, taken: Taken) -> Result<(), AllocError>
     ensures { OnOk result (sizes.new.items ≡ sizes.old.items ++ line_sizes (seen_all (taken ∷ []))) }

@@ -9,6 +9,7 @@ ghost use Rattle.std.specs.List.{list_all};
 
 use crate::PlanFault;
 use crate::forms::Taken;
+use crate::putting::put;
 use pdl_shape::from_end;
 use pdl_slices::SliceArg;
 use std::alloc::{AllocError, Global};
@@ -152,14 +153,6 @@ pub fn taken_of(alloc: Global, args: &[SliceArg], parent: &[u32]) -> Result<Vec<
     }
     whole(&mut taken, rest)?;
     Ok(taken)
-}
-
-/// Puts a line at the end.
-fn put(taken: &mut Vec<Taken>, line: Taken) -> Result<(), AllocError>
-    ensures { OnOk result (taken.new.items ≡ taken.old.items ++ line ∷ []) }
-{
-    taken.push(line)?;
-    Ok(())
 }
 
 /// Puts the whole of each dimension at the end.

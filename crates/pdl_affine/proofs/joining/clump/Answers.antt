@@ -21,8 +21,8 @@ pub triple_of-requires : goal.triple_of-requires
 triple_of-requires c =
     let wide : SFits w128 c.from.result = search rules in
     let offset = c.counted_offset-offset.ensures
-        ∙ ap (λ z. if size_of c.args.dims.now == 0 then 0 else nat_abs z) (to_z-of_z w128 c.from.result wide ∙ c.from.ensures)
-        ∙ ap (λ t. if size_of c.args.dims.now == 0 then 0 else t.offset) c.over.view_is in
+    ∙ ap (λ z. if size_of c.args.dims.now == 0 then 0 else nat_abs z) (to_z-of_z w128 c.from.result wide ∙ c.from.ensures)
+    ∙ ap (λ t. if size_of c.args.dims.now == 0 then 0 else t.offset) c.over.view_is in
     made_triple c.shape_laws.ensures.positions _ _ c.args.dims.now _ _ c.counted_offset-offset.result c.as_slice.result.now
     (clump_run_at c.shape_laws.ensures.positions c.args.count c.args.over.now c.args.dims.now c.joined_incs-incs.ensures.triple c.requires.within c.if-not-joins.ensures c.requires.sized)
     offset (c.as_slice.ensures ∙ c.joined_incs-incs.ensures.incs)
@@ -31,8 +31,8 @@ pub returns-clause-window : goal.returns-clause-window
 returns-clause-window c =
     let wide : SFits w128 c.from.result = search rules in
     let offset = c.counted_offset-offset.ensures
-        ∙ ap (λ z. if size_of c.args.dims.now == 0 then 0 else nat_abs z) (to_z-of_z w128 c.from.result wide ∙ c.from.ensures)
-        ∙ ap (λ t. if size_of c.args.dims.now == 0 then 0 else t.offset) c.over.view_is in
+    ∙ ap (λ z. if size_of c.args.dims.now == 0 then 0 else nat_abs z) (to_z-of_z w128 c.from.result wide ∙ c.from.ensures)
+    ∙ ap (λ t. if size_of c.args.dims.now == 0 then 0 else t.offset) c.over.view_is in
     clump_window c.args.count c.args.over.now c.triple_of.result c.args.dims.now c.if-not-joins.ensures c.requires.sized
     (c.triple_of.ensures
     ∙ made_shown _ _ c.args.dims.now _ _ c.counted_offset-offset.result c.as_slice.result.now
@@ -43,8 +43,8 @@ pub returns-clause-shows : goal.returns-clause-shows
 returns-clause-shows c =
     let wide : SFits w128 c.from.result = search rules in
     let offset = c.counted_offset-offset.ensures
-        ∙ ap (λ z. if size_of c.args.dims.now == 0 then 0 else nat_abs z) (to_z-of_z w128 c.from.result wide ∙ c.from.ensures)
-        ∙ ap (λ t. if size_of c.args.dims.now == 0 then 0 else t.offset) c.over.view_is in
+    ∙ ap (λ z. if size_of c.args.dims.now == 0 then 0 else nat_abs z) (to_z-of_z w128 c.from.result wide ∙ c.from.ensures)
+    ∙ ap (λ t. if size_of c.args.dims.now == 0 then 0 else t.offset) c.over.view_is in
     let P : Triple → Type 0 = λ t. Shows t (form_place (clumped c.args.count) c.args.over.now) in
     subst P (sym c.triple_of.ensures)
     (made_shows c.shape_laws.ensures.positions _ _ c.args.dims.now _ _ c.counted_offset-offset.result c.as_slice.result.now
@@ -55,8 +55,8 @@ pub returns-clause-inside : goal.returns-clause-inside
 returns-clause-inside c =
     let wide : SFits w128 c.from.result = search rules in
     let offset = c.counted_offset-offset.ensures
-        ∙ ap (λ z. if size_of c.args.dims.now == 0 then 0 else nat_abs z) (to_z-of_z w128 c.from.result wide ∙ c.from.ensures)
-        ∙ ap (λ t. if size_of c.args.dims.now == 0 then 0 else t.offset) c.over.view_is in
+    ∙ ap (λ z. if size_of c.args.dims.now == 0 then 0 else nat_abs z) (to_z-of_z w128 c.from.result wide ∙ c.from.ensures)
+    ∙ ap (λ t. if size_of c.args.dims.now == 0 then 0 else t.offset) c.over.view_is in
     let P : Triple → Type 0 = λ t. LiesIn t c.args.over.now in
     subst P (sym c.triple_of.ensures)
     (made_lies c.shape_laws.ensures.positions _ _ c.args.dims.now _ _ c.counted_offset-offset.result c.as_slice.result.now

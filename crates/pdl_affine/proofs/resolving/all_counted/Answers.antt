@@ -10,6 +10,6 @@ pub loop-number-preserved : goal.loop-number-preserved
 loop-number-preserved c =
     let next = number_next (all_counted c.args.numbers.now c.args.count) c.args.numbers.now c.loop-number.places.items c.args.count c.loop-number.number-index (pos 0) c.loop-number-test.true c.loop-number.invariant in
     let fits : SFits w64 (get_or c.args.numbers.now c.loop-number.number-index (pos 0)) = search rules in
-    number_taken (all_counted c.args.numbers.now c.args.count) c.loop-number.places.items c.put.new.places.items c.in-Some.place
+    number_taken (all_counted c.args.numbers.now c.args.count) c.loop-number.places.items c.put.new.items.items c.in-Some.place
     (from_end (get_or c.args.numbers.now c.loop-number.number-index (pos 0)) c.args.count) (all_counted (drop (c.loop-number.number-index + 1) c.args.numbers.now) c.args.count) next
     (c.in-Some.ensures.place ∙ ap (λ z. from_end z c.args.count) (to_z-of_z w64 _ fits)) c.in_ok-put-in-Some.ensures

@@ -20,7 +20,7 @@ returns-in-None-clause-err c = (
 pub loop-arg-preserved : goal.loop-arg-preserved
 loop-arg-preserved c = record {
   lines =
-      arg_taken _ c.loop-arg.taken.items c.put.new.taken.items c.in-Some.line _ (lines_of (drop (c.loop-arg.arg-index + 1) c.args.args.now) c.size_for-size.result.1.now)
+      arg_taken _ c.loop-arg.taken.items c.put.new.items.items c.in-Some.line _ (lines_of (drop (c.loop-arg.arg-index + 1) c.args.args.now) c.size_for-size.result.1.now)
       (arg_next (lines_of c.args.args.now c.args.parent.now) (seen_all c.loop-arg.taken.items) c.args.args.now c.loop-arg.rest.now c.size_for-size.result.1.now c.loop-arg.arg-index
       c.size_for-size.result.0 Whole c.loop-arg-test.true c.loop-arg.invariant.lines c.size_for-size.ensures.first c.size_for-size.ensures.rest)
       c.in-Some.ensures c.in_ok-put-in-Some.ensures;
