@@ -9,7 +9,7 @@ use Rattle.std.proofs.lemmas.List.{map-append, take-append-drop, length-take-le,
 use Rattle.pdl_shape.specs.Laws.{PositionLaws}
 use Rattle.pdl_shape.specs.Shape.{IsWithin, size_of, coordinates_of}
 use Rattle.pdl_shape.specs.Triple.{Triple, IsTriple, moved, spread, whole_incs, whole}
-use Rattle.pdl_affine.specs.Views.{Form, sliced, exchanged, shifted, arranged, inserted, joined, squeezed, clumped, sizes, form_source}
+use Rattle.pdl_affine.specs.Views.{Form, sliced, exchanged, shifted, arranged, inserted, diagonal, squeezed, clumped, sizes, form_source}
 use Rattle.pdl_affine.specs.Windows.{is_chain, do_join, is_window, form_place, shown, windowed}
 use Rattle.pdl_affine.specs.Courses.{filled, first_inc, others}
 use Rattle.pdl_affine.proofs.Moved.{moved_apart, mul-sum, mul_swap}
@@ -241,7 +241,7 @@ whole_window (exchanged a b) ds = refl
 whole_window (shifted a b) ds = refl
 whole_window (arranged order) ds = refl
 whole_window (inserted p m) ds = refl
-whole_window (joined is) ds = refl
+whole_window (diagonal is) ds = refl
 whole_window squeezed ds = refl
 whole_window (clumped n) ds = ap (λ r. do_join r (take n ds)) (take-whole_incs n 1 ds) ∙ whole_joins 1 (take n ds)
 

@@ -12,11 +12,11 @@ use Rattle.pdl_affine.specs.declared.Affine.{Affine}
 use Rattle.pdl_affine.specs.declared.forms.Course.{Course}
 use Rattle.pdl_affine.specs.Courses.{IsSound, IsStraight, IsCourse, AreCourses}
 use Rattle.pdl_affine.specs.Laws.{IsViewOver, ComposedShowViews, UncomposedAreInOrder}
-use Rattle.pdl_affine.specs.Views.{Form, sliced, exchanged, shifted, arranged, inserted, joined, squeezed, clumped, resolved, sizes, form_source, form_dims, dims, source}
+use Rattle.pdl_affine.specs.Views.{Form, sliced, exchanged, shifted, arranged, inserted, diagonal, squeezed, clumped, resolved, sizes, form_source, form_dims, dims, source}
 use Rattle.pdl_affine.specs.Windows.{Shows, is_window, windowed, composed, form_place, base_place, shown}
 use Rattle.pdl_affine.proofs.Clumps.{clump_run, length-coordinates}
 use Rattle.pdl_affine.proofs.Inside.{checked_is}
-use Rattle.pdl_affine.proofs.Picks.{exchanged_course, shifted_course, arranged_course, inserted_course, joined_course, squeezed_course}
+use Rattle.pdl_affine.proofs.Picks.{exchanged_course, shifted_course, arranged_course, inserted_course, diagonal_course, squeezed_course}
 use Rattle.pdl_affine.proofs.Shown.{Runs, shown-is, shows, is_triple, triple_at}
 use Rattle.pdl_affine.proofs.SliceCourses.{sliced_course}
 use Rattle.pdl_affine.proofs.Sounds.{resolved_sound, true_is}
@@ -40,7 +40,7 @@ course_of laws (exchanged a b) ds i s u h = (_, exchanged_course laws ds a b i s
 course_of laws (shifted a b) ds i s u h = (_, shifted_course laws ds a b i s.0 s.1 h)
 course_of laws (arranged order) ds i s u h = (_, arranged_course laws ds order i s h)
 course_of laws (inserted p m) ds i s u h = (_, inserted_course laws ds p m i h)
-course_of laws (joined is) ds i s u h = (_, joined_course laws ds is i s.0 (true_is _ s.1) h)
+course_of laws (diagonal is) ds i s u h = (_, diagonal_course laws ds is i s.0 (true_is _ s.1) h)
 course_of laws squeezed ds i s u h = (_, squeezed_course laws ds i h)
 course_of laws (clumped n) ds i s u h = absurd u
 
@@ -64,7 +64,7 @@ window_runs laws (exchanged a b) over o s w = straight_runs laws (exchanged a b)
 window_runs laws (shifted a b) over o s w = straight_runs laws (shifted a b) over o s tt
 window_runs laws (arranged order) over o s w = straight_runs laws (arranged order) over o s tt
 window_runs laws (inserted p m) over o s w = straight_runs laws (inserted p m) over o s tt
-window_runs laws (joined is) over o s w = straight_runs laws (joined is) over o s tt
+window_runs laws (diagonal is) over o s w = straight_runs laws (diagonal is) over o s tt
 window_runs laws squeezed over o s w = straight_runs laws squeezed over o s tt
 window_runs laws (clumped n) over o s w = steps_of (clumped n) over _ _ (clump_run laws n over o s w)
 
@@ -133,7 +133,7 @@ windowless laws (exchanged a b) over cs h w = cc
 windowless laws (shifted a b) over cs h w = cc
 windowless laws (arranged order) over cs h w = cc
 windowless laws (inserted p m) over cs h w = cc
-windowless laws (joined is) over cs h w = cc
+windowless laws (diagonal is) over cs h w = cc
 windowless laws squeezed over cs h w = cc
 windowless laws (clumped n) over cs h w = clump_order laws n over.dims cs w
 

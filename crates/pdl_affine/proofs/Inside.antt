@@ -12,9 +12,9 @@ use Rattle.pdl_affine.specs.declared.Affine.{Affine}
 use Rattle.pdl_affine.specs.Courses.{IsSound, IsCourse, FitAll}
 use Rattle.pdl_affine.specs.Laws.{SourcesLieWithin}
 use Rattle.pdl_affine.specs.Slicing.{Line, kept, lost, added, line_sources}
-use Rattle.pdl_affine.specs.Views.{Form, sliced, exchanged, shifted, arranged, inserted, joined, squeezed, clumped, resolved, sizes, form_source, form_dims, source, unsqueezed}
+use Rattle.pdl_affine.specs.Views.{Form, sliced, exchanged, shifted, arranged, inserted, diagonal, squeezed, clumped, resolved, sizes, form_source, form_dims, source, unsqueezed}
 use Rattle.pdl_affine.proofs.Clumps.{clump_within}
-use Rattle.pdl_affine.proofs.Picks.{exchanged_course, shifted_course, arranged_course, inserted_course, joined_course, squeezed_course}
+use Rattle.pdl_affine.proofs.Picks.{exchanged_course, shifted_course, arranged_course, inserted_course, diagonal_course, squeezed_course}
 use Rattle.pdl_affine.proofs.SliceCourses.{sliced_course}
 use Rattle.pdl_affine.proofs.Sounds.{resolved_sound, true_is}
 use Rattle.pdl_affine.proofs.Shown.{filled_within}
@@ -52,7 +52,7 @@ length_source laws (inserted p m) ds cs s n w =
     let count : length xs ≡ length ds + (p - length ds) = length-append ds (replicate (p - length ds) 1) ∙ ap (λ n. length ds + n) (length-replicate (p - length ds) 1) in
     let long : length (insert xs p m) ≡ length xs + 1 = length-insert xs p m (omega (arith, count)) in
     length-take-le (length ds) (remove cs p) (omega (arith, length-remove cs p (omega (arith, n, long, count)), n, long, count))
-length_source laws (joined is) ds cs s n w = length-map-range_with_len _ 0 (length ds)
+length_source laws (diagonal is) ds cs s n w = length-map-range_with_len _ 0 (length ds)
 length_source laws squeezed ds cs s n w = length_unsqueezed ds cs
 length_source laws (clumped k) ds cs s n w = laws.as_many ds (form_source (clumped k) ds cs) (clump_within laws k ds cs w)
 
@@ -64,7 +64,7 @@ form_within laws form ds cs s w = within_each ds (form_source form ds cs) (lengt
   each (shifted a b) i s w h = course_within (shifted a b) ds cs i _ (shifted_course laws ds a b i s.0 s.1 h) w
   each (arranged order) i s w h = course_within (arranged order) ds cs i _ (arranged_course laws ds order i s h) w
   each (inserted p m) i s w h = course_within (inserted p m) ds cs i _ (inserted_course laws ds p m i h) w
-  each (joined is) i s w h = course_within (joined is) ds cs i _ (joined_course laws ds is i s.0 (true_is _ s.1) h) w
+  each (diagonal is) i s w h = course_within (diagonal is) ds cs i _ (diagonal_course laws ds is i s.0 (true_is _ s.1) h) w
   each squeezed i s w h = course_within squeezed ds cs i _ (squeezed_course laws ds i h) w
   each (clumped k) i s w h = at_within ds (form_source (clumped k) ds cs) i (clump_within laws k ds cs w) h
 

@@ -11,8 +11,8 @@ use Rattle.std.proofs.lemmas.List.Folds.{Any-from_list_any, list_any_at}
 use Rattle.std.proofs.lemmas.List.Sums.{prefix_len_passes, prefix_len_stops, prefix_len-le-length, AllPass-from_list_all}
 use Rattle.pdl_shape.specs.Laws.{PositionLaws}
 use Rattle.pdl_shape.specs.Shape.{IsWithin}
-use Rattle.pdl_affine.specs.Views.{Form, exchanged, shifted, arranged, inserted, joined, squeezed, lists, lowest_of, kept_dims, is_arrangement, are_same_size, unsqueezed, sizes, form_source}
-use Rattle.pdl_affine.specs.Courses.{filled, IsCourse, whole, still, exchanged_to, past, before, shifted_to, joined_to, squeezed_to}
+use Rattle.pdl_affine.specs.Views.{Form, exchanged, shifted, arranged, inserted, diagonal, squeezed, lists, lowest_of, kept_dims, is_arrangement, are_same_size, unsqueezed, sizes, form_source}
+use Rattle.pdl_affine.specs.Courses.{filled, IsCourse, whole, still, exchanged_to, past, before, shifted_to, diagonal_to, squeezed_to}
 use Rattle.pdl_affine.proofs.SizeLists.{kept_next}
 use Rattle.pdl_affine.proofs.Sourced.{at_within}
 
@@ -262,19 +262,19 @@ listed_below is i n all h =
       equal : (x i : ℕ) → (x == i) ≡ true → x ≡ i
       equal x i h = grind (arith, nat_tests)
 
-pub joined_course : PositionLaws → (ds is : List ℕ) (i : ℕ) → All (λ k. k < length ds) is → are_same_size is ds ≡ true → i < length ds → IsCourse (joined is) ds i (whole (joined_to is i))
-joined_course laws ds is i all same l = choose (lists is i) refl where
-  course : (k : ℕ) → (if lists is i then lowest_of is else i) ≡ k → k < length ds → (not (lists is k) || (k == lowest_of is)) ≡ true → get_or ds k 0 ≡ get_or ds i 0 → IsCourse (joined is) ds i (whole (joined_to is i))
+pub diagonal_course : PositionLaws → (ds is : List ℕ) (i : ℕ) → All (λ k. k < length ds) is → are_same_size is ds ≡ true → i < length ds → IsCourse (diagonal is) ds i (whole (diagonal_to is i))
+diagonal_course laws ds is i all same l = choose (lists is i) refl where
+  course : (k : ℕ) → (if lists is i then lowest_of is else i) ≡ k → k < length ds → (not (lists is k) || (k == lowest_of is)) ≡ true → get_or ds k 0 ≡ get_or ds i 0 → IsCourse (diagonal is) ds i (whole (diagonal_to is i))
   course k e below kept size =
       let at = kept_at is (length ds) k below kept in
-      subst (λ a. IsCourse (joined is) ds i (whole a)) (ap (λ j. length (kept_dims is j)) (sym e))
-      (picked laws (joined is) ds i (length (kept_dims is k)) (omega (arith, at.0, length-map (kept_dims is (length ds)) (λ j. get_or ds j 0)))
+      subst (λ a. IsCourse (diagonal is) ds i (whole a)) (ap (λ j. length (kept_dims is j)) (sym e))
+      (picked laws (diagonal is) ds i (length (kept_dims is k)) (omega (arith, at.0, length-map (kept_dims is (length ds)) (λ j. get_or ds j 0)))
       (get_or-map (λ j. get_or ds j 0) (kept_dims is (length ds)) (length (kept_dims is k)) 0 0 at.0 ∙ ap (λ j. get_or ds j 0) at.1 ∙ size)
       (λ cs n.
       get_or-map-range_with_len (λ j. get_or cs (length (kept_dims is (if lists is j then lowest_of is else j))) 0) 0 (length ds) i i 0 l (zero-add i)
       ∙ ap (λ j. get_or cs (length (kept_dims is j)) 0) e))
 
-  choose : (b : Bool) → lists is i ≡ b → IsCourse (joined is) ds i (whole (joined_to is i))
+  choose : (b : Bool) → lists is i ≡ b → IsCourse (diagonal is) ds i (whole (diagonal_to is i))
   choose true h =
       let low = lowest_there is i h in
       course (lowest_of is) (ap (λ b. if b then lowest_of is else i) h) (listed_below is (lowest_of is) (length ds) all low)

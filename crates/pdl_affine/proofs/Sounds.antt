@@ -8,7 +8,7 @@ use Rattle.pdl_shape.specs.Clump.{clump_count}
 use Rattle.pdl_shape.specs.Counting.{from_end}
 use Rattle.pdl_shape.specs.Refusals.{Refusal, bad_dimension, out_of_range}
 use Rattle.pdl_affine.specs.Slicing.{Line, lines_of}
-use Rattle.pdl_affine.specs.Views.{Form, sliced, exchanged, shifted, arranged, inserted, joined, squeezed, clumped, resolved, or_refusal, when, inserted_at, new_place, all_counted, is_arrangement, is_distinct, are_same_size}
+use Rattle.pdl_affine.specs.Views.{Form, sliced, exchanged, shifted, arranged, inserted, diagonal, squeezed, clumped, resolved, or_refusal, when, inserted_at, new_place, all_counted, is_arrangement, is_distinct, are_same_size}
 use Rattle.pdl_affine.specs.Courses.{IsSound}
 use Rattle.pdl_affine.proofs.SliceCourses.{counted_inside, lines_fit}
 
@@ -82,7 +82,7 @@ resolved_sound (affine.Reorder order) ds form h =
     listed ds arranged (λ is. is_arrangement is (length ds)) (all_counted order (length ds)) form (λ is e t. holds (is_arrangement is (length ds)) t) (form_is bad_dimension _ form h)
 resolved_sound (affine.Dummy place size) ds form h = inserted_sound ds (new_place place (length ds)) size form (form_is bad_dimension _ form h)
 resolved_sound (affine.Diagonal ks) ds form h =
-    listed ds joined (λ is. is_distinct is && are_same_size is ds) (all_counted ks (length ds)) form
+    listed ds diagonal (λ is. is_distinct is && are_same_size is ds) (all_counted ks (length ds)) form
     (λ is e t. (all_inside ks (length ds) is e, holds (are_same_size is ds) (right (is_distinct is) (are_same_size is ds) t))) (form_is bad_dimension _ form h)
 resolved_sound affine.Squeeze ds form h = let same : squeezed ≡ form = cc in subst (λ f. IsSound f ds) same tt
 resolved_sound (affine.Clump count) ds form h = clumped_sound ds (clump_count count (length ds)) form (λ n e. count_inside count (length ds) n e) (form_is bad_dimension _ form h)

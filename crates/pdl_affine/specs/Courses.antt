@@ -13,7 +13,7 @@ use Rattle.pdl_shape.specs.Shape.{IsWithin, extent_limit}
 use Rattle.pdl_affine.specs.Slicing as slicing
 use Rattle.pdl_affine.specs.declared.forms.Form.TheVariants as forms
 use Rattle.pdl_affine.specs.declared.forms.Course.{Course}
-use Rattle.pdl_affine.specs.Views.{Form, sliced, exchanged, shifted, arranged, inserted, joined, squeezed, clumped, lists, lowest_of, kept_dims, is_arrangement, are_same_size, resolved, sizes, form_source, refusal_of, dims}
+use Rattle.pdl_affine.specs.Views.{Form, sliced, exchanged, shifted, arranged, inserted, diagonal, squeezed, clumped, lists, lowest_of, kept_dims, is_arrangement, are_same_size, resolved, sizes, form_source, refusal_of, dims}
 
 -- what an argument takes, as a line of the definition
 abbrev pub seen : Taken → slicing.Line
@@ -32,7 +32,7 @@ seen_form (forms.Exchanged a b) = exchanged a b
 seen_form (forms.Shifted a b) = shifted a b
 seen_form (forms.Arranged order) = arranged order.items
 seen_form (forms.Inserted place size) = inserted place size
-seen_form (forms.Diagonal listed) = joined listed.items
+seen_form (forms.Diagonal listed) = diagonal listed.items
 seen_form forms.Squeezed = squeezed
 seen_form (forms.Clumped count) = clumped count
 
@@ -125,7 +125,7 @@ IsSound (exchanged a b) ds = (a < length ds) × (b < length ds)
 IsSound (shifted a b) ds = (a < length ds) × (b < length ds)
 IsSound (arranged order) ds = IsTrue (is_arrangement order (length ds))
 IsSound (inserted p m) ds = Unit {0}
-IsSound (joined is) ds = All (λ i. i < length ds) is × IsTrue (are_same_size is ds)
+IsSound (diagonal is) ds = All (λ i. i < length ds) is × IsTrue (are_same_size is ds)
 IsSound squeezed ds = Unit {0}
 IsSound (clumped n) ds = n ≤ length ds
 
@@ -136,7 +136,7 @@ IsStraight (exchanged a b) = Unit {0}
 IsStraight (shifted a b) = Unit {0}
 IsStraight (arranged order) = Unit {0}
 IsStraight (inserted p m) = Unit {0}
-IsStraight (joined is) = Unit {0}
+IsStraight (diagonal is) = Unit {0}
 IsStraight squeezed = Unit {0}
 IsStraight (clumped n) = ⊥
 
@@ -174,8 +174,8 @@ abbrev pub shifted_to : ℕ → ℕ → ℕ → ℕ
 shifted_to a b i = if i == a then b else past b (before a i)
 
 -- where it goes among the dimensions that a diagonal keeps
-abbrev pub joined_to : List ℕ → ℕ → ℕ
-joined_to is i = length (kept_dims is (if lists is i then lowest_of is else i))
+abbrev pub diagonal_to : List ℕ → ℕ → ℕ
+diagonal_to is i = length (kept_dims is (if lists is i then lowest_of is else i))
 
 -- where it goes without those of size 1
 abbrev pub squeezed_to : List ℕ → ℕ → ℕ

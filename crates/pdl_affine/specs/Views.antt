@@ -21,7 +21,7 @@ pub data Form : Type 0 where
   shifted : (a b : ℕ) → Form
   arranged : (order : List ℕ) → Form
   inserted : (place size : ℕ) → Form
-  joined : (listed : List ℕ) → Form
+  diagonal : (listed : List ℕ) → Form
   squeezed : Form
   clumped : (count : ℕ) → Form
 
@@ -79,7 +79,7 @@ resolved (affine.Reorder order) ds =
     or_refusal bad_dimension (option_and_then (λ is. when (is_arrangement is (length ds)) (arranged is)) (all_counted order (length ds)))
 resolved (affine.Dummy place size) ds = or_refusal bad_dimension (inserted_at (new_place place (length ds)) size)
 resolved (affine.Diagonal listed) ds =
-    or_refusal bad_dimension (option_and_then (λ is. when (is_distinct is && are_same_size is ds) (joined is)) (all_counted listed (length ds)))
+    or_refusal bad_dimension (option_and_then (λ is. when (is_distinct is && are_same_size is ds) (diagonal is)) (all_counted listed (length ds)))
 resolved affine.Squeeze ds = Ok squeezed
 resolved (affine.Clump count) ds = or_refusal bad_dimension (option_map clumped (clump_count count (length ds)))
 
@@ -107,7 +107,7 @@ sizes (exchanged a b) ds = swap ds a b
 sizes (shifted a b) ds = insert (remove ds a) b (get_or ds a 0)
 sizes (arranged order) ds = map (λ i. get_or ds i 0) order
 sizes (inserted p m) ds = insert (ds ++ replicate (p - length ds) 1) p m
-sizes (joined is) ds = map (λ i. get_or ds i 0) (kept_dims is (length ds))
+sizes (diagonal is) ds = map (λ i. get_or ds i 0) (kept_dims is (length ds))
 sizes squeezed ds = filter (λ d. not (d == 1)) ds
 sizes (clumped n) ds = clump_sizes n ds
 
@@ -118,7 +118,7 @@ form_source (exchanged a b) ds cs = swap cs a b
 form_source (shifted a b) ds cs = insert (remove cs b) a (get_or cs b 0)
 form_source (arranged order) ds cs = map (λ i. get_or cs (unwrap_or (position (λ j. j == i) order) 0) 0) (range_with_len 0 (length ds))
 form_source (inserted p m) ds cs = take (length ds) (remove cs p)
-form_source (joined is) ds cs =
+form_source (diagonal is) ds cs =
     map (λ i. get_or cs (length (kept_dims is (if lists is i then lowest_of is else i))) 0) (range_with_len 0 (length ds))
 form_source squeezed ds cs = unsqueezed ds cs
 form_source (clumped n) ds cs = clump_source n ds cs

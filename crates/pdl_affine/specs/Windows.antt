@@ -6,7 +6,7 @@ use Rattle.pdl_shape.specs.Shape.{size_of, IsWithin}
 use Rattle.pdl_shape.specs.Triple.{Triple, place_of}
 use Rattle.pdl_affine.specs.declared.Affine.{Affine}
 use Rattle.pdl_shape.specs.Refusals.{Refusal}
-use Rattle.pdl_affine.specs.Views.{Form, sliced, exchanged, shifted, arranged, inserted, joined, squeezed, clumped, resolved, sizes, form_source, source}
+use Rattle.pdl_affine.specs.Views.{Form, sliced, exchanged, shifted, arranged, inserted, diagonal, squeezed, clumped, resolved, sizes, form_source, source}
 
 -- each next increment is the one before times its size
 abbrev pub is_chain : List (ℤ × ℕ) → Bool
@@ -26,7 +26,7 @@ is_window (exchanged a b) over = true
 is_window (shifted a b) over = true
 is_window (arranged order) over = true
 is_window (inserted p m) over = true
-is_window (joined is) over = true
+is_window (diagonal is) over = true
 is_window squeezed over = true
 
 -- the first coordinates of a view of n dimensions

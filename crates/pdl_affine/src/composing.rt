@@ -7,10 +7,10 @@ ghost use Rattle.pdl_affine.specs.Views.{sizes};
 ghost use Rattle.pdl_affine.specs.Windows.{windowed, shown, Shows, LiesIn, form_place};
 ghost use Rattle.pdl_affine.specs.Courses.{seen_form, IsSound, IsStraight, begun, gathered, counted_incs};
 
+use crate::clumping::clump;
 use crate::counting::{counted_offset, counting};
 use crate::courses::courses_of;
 use crate::forms::{Course, Form};
-use crate::joining::clump;
 use pdl_shape::{Dims, Triple, dims_list, incs_list, shape_laws, triple_of};
 use smallvec::SmallVec;
 use std::alloc::Global;

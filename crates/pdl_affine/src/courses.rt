@@ -1,6 +1,6 @@
 //! The parent's coordinate along each of its dimensions, for coordinates of a view.
 ghost use Rattle.std.specs.Prelude.{◌≡◌, ◌<◌, ◌≤◌, ◌+◌, ◌-◌, ◌||◌, ◌==◌, ◌^◌, not, pos, slice_index, length, take, count_by, position, unwrap_or, if◌then◌else◌, nat_lt};
-ghost use Rattle.pdl_affine.specs.Courses.{seen_form, seen_all, IsSound, IsStraight, IsCourse, AreCourses, course_at, whole, still, exchanged_to, past, shifted_to, joined_to, squeezed_to};
+ghost use Rattle.pdl_affine.specs.Courses.{seen_form, seen_all, IsSound, IsStraight, IsCourse, AreCourses, course_at, whole, still, exchanged_to, past, shifted_to, diagonal_to, squeezed_to};
 ghost use Rattle.pdl_affine.specs.Views.{kept_dims, lists, lowest_of};
 
 use crate::forms::{Course, Form, Taken};
@@ -39,7 +39,7 @@ fn course(form: &Form, parent: &[u32], dimension: usize) -> Course
         Form::Shifted(a, b) => whole(shifted(*a, *b, dimension)),
         Form::Arranged(order) => whole(arranged(order, dimension)),
         Form::Inserted { place, .. } => whole(past(*place, dimension)),
-        Form::Diagonal(listed) => whole(joined(listed, dimension)),
+        Form::Diagonal(listed) => whole(diagonal_to(listed, dimension)),
         Form::Squeezed => squeezed(parent, dimension),
         Form::Clumped(_) => whole(dimension),
     }
@@ -122,8 +122,8 @@ fn arranged(order: &[usize], dimension: usize) -> usize
     }
 }
 
-fn joined(listed: &[usize], dimension: usize) -> usize
-    ensures { result ≡ joined_to listed.now dimension }
+fn diagonal_to(listed: &[usize], dimension: usize) -> usize
+    ensures { result ≡ diagonal_to listed.now dimension }
 {
     let kept = if lists(listed, dimension) {
         lowest_of(listed)

@@ -2,11 +2,11 @@
 //! triple that shows it over the same base.
 #![tactic(auto)]
 
+mod clumping;
 mod composing;
 mod counting;
 mod courses;
 mod forms;
-mod joining;
 mod laws;
 mod planning;
 mod putting;

@@ -2,7 +2,7 @@
 ghost use Rattle.std.specs.Prelude.{◌≡◌, ◌<◌, ◌≤◌, ◌||◌, ◌==◌, ◌-◌, not, length, map, filter, get_or, replicate, insert, IfErr, IfOk, OnOk, [], ◌∷◌, ◌++◌};
 ghost use Rattle.pdl_affine.specs.Slicing.{line_sizes};
 ghost use Rattle.pdl_affine.specs.Courses.{seen_all, seen_form, Stands, IsLimit, Limits};
-ghost use Rattle.pdl_affine.specs.Views.{exchanged, shifted, inserted, joined, squeezed, clumped, lists, lowest_of, kept_dims, sizes};
+ghost use Rattle.pdl_affine.specs.Views.{exchanged, shifted, inserted, diagonal, squeezed, clumped, lists, lowest_of, kept_dims, sizes};
 ghost use Rattle.pdl_shape.specs.Limits.{checked_dims};
 ghost use Rattle.pdl_shape.specs.Shape.{IsDims};
 
@@ -121,7 +121,7 @@ fn kept_dims(alloc: Global, listed: &[usize], count: usize) -> Result<Vec<usize>
 }
 
 fn join(alloc: Global, listed: &[usize], parent: &[u32]) -> Result<Vec<u32>, AllocError>
-    ensures { IfOk result (λ ms. ms.items ≡ sizes (joined listed.now) parent.now) }
+    ensures { IfOk result (λ ms. ms.items ≡ sizes (diagonal listed.now) parent.now) }
 {
     let kept = kept_dims(alloc, listed, parent.len())?;
     arrange(alloc, &kept, parent)

@@ -1,8 +1,8 @@
 use Rattle.std.proofs.Common.{sym, ap, subst, ◌∙◌, unwrap_or, position, ◌==◌}
 use Rattle.pdl_affine.specs.declared.forms.Form.TheVariants as forms
-use Rattle.pdl_affine.specs.Views.{sliced, exchanged, shifted, arranged, inserted, joined, squeezed}
-use Rattle.pdl_affine.specs.Courses.{seen_all, seen_form, IsSound, IsCourse, course_at, whole, joined_to}
-use Rattle.pdl_affine.proofs.Picks.{exchanged_course, shifted_course, arranged_course, inserted_course, joined_course, squeezed_course}
+use Rattle.pdl_affine.specs.Views.{sliced, exchanged, shifted, arranged, inserted, diagonal, squeezed}
+use Rattle.pdl_affine.specs.Courses.{seen_all, seen_form, IsSound, IsCourse, course_at, whole, diagonal_to}
+use Rattle.pdl_affine.proofs.Picks.{exchanged_course, shifted_course, arranged_course, inserted_course, diagonal_course, squeezed_course}
 use Rattle.pdl_affine.proofs.SliceCourses.{sliced_course}
 use Rattle.pdl_affine.proofs.Sounds.{true_is}
 use Rattle.pdl_affine.proofs.courses.course.Goals as goal
@@ -47,9 +47,9 @@ pub returns-in-Diagonal : goal.returns-in-Diagonal
 returns-in-Diagonal c =
     let P : forms.the_data → Type 0 = λ f. IsSound (seen_form f) c.args.parent.now → IsCourse (seen_form f) c.args.parent.now c.args.dimension c.whole-in-Diagonal.result in
     subst P (sym c.in-Diagonal.is) (λ sound.
-    subst (IsCourse (joined c.in-Diagonal.listed.items) c.args.parent.now c.args.dimension)
-    (sym (c.whole-in-Diagonal.ensures ∙ ap whole (c.joined.ensures ∙ ap (λ is. joined_to is c.args.dimension) c.deref-in-Diagonal.ensures.value)))
-    (joined_course c.shape_laws.ensures.positions c.args.parent.now c.in-Diagonal.listed.items c.args.dimension sound.0 (true_is _ sound.1) c.requires.inside)) c.requires.sound
+    subst (IsCourse (diagonal c.in-Diagonal.listed.items) c.args.parent.now c.args.dimension)
+    (sym (c.whole-in-Diagonal.ensures ∙ ap whole (c.diagonal_to.ensures ∙ ap (λ is. diagonal_to is c.args.dimension) c.deref-in-Diagonal.ensures.value)))
+    (diagonal_course c.shape_laws.ensures.positions c.args.parent.now c.in-Diagonal.listed.items c.args.dimension sound.0 (true_is _ sound.1) c.requires.inside)) c.requires.sound
 
 pub returns-in-Squeezed : goal.returns-in-Squeezed
 returns-in-Squeezed c =

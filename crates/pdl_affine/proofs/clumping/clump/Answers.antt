@@ -8,7 +8,7 @@ use Rattle.pdl_affine.specs.Views.{clumped}
 use Rattle.pdl_affine.specs.Windows.{Shows, LiesIn, form_place}
 use Rattle.pdl_affine.proofs.Shown.{start_place, made_triple, made_shown, made_shows, made_lies}
 use Rattle.pdl_affine.proofs.Clumps.{clump_run_at, clump_window}
-use Rattle.pdl_affine.proofs.joining.clump.Goals as goal
+use Rattle.pdl_affine.proofs.clumping.clump.Goals as goal
 
 pub counted_offset-offset-requires : goal.counted_offset-offset-requires
 counted_offset-offset-requires c =

@@ -1,6 +1,6 @@
 use Rattle.std.proofs.Common.{◌≡◌, ◌∷◌, ◌+◌, length, take}
 use Rattle.pdl_affine.specs.Courses.{counted_incs}
-use Rattle.pdl_affine.proofs.joining.counted_incs.Given as goal
+use Rattle.pdl_affine.proofs.clumping.counted_incs.Given as goal
 
 abbrev pub invariant-loop-i : goal.invariant-loop-i
 invariant-loop-i l = record {
