@@ -1,5 +1,5 @@
--- The forms of the code, as those of the definition. It is a step of the proof: what is promised stands in Views
--- and Windows.
+-- The forms of the code, as those of the definition. It is a step of the proof: what is
+-- promised stands in Views and Windows.
 use Rattle.std.specs.Prelude.{◌≡◌, ◌<◌, ◌≤◌, ◌==◌, nat_le, nat_lt, not, filter, zip, if◌then◌else◌, IsTrue, ℕ, zero, suc, ◌+◌, ◌-◌, max, List, [], ◌∷◌, map, take, length, get_or, ◌++◌, option_map, ℤ, pos, All, ◌+ℤ◌, ◌*ℤ◌, Option, Result, Ok, Err}
 use Rattle.pdl_affine.specs.declared.Affine.{Affine}
 use Rattle.pdl_affine.specs.declared.PlanFault.{PlanFault}
@@ -72,7 +72,8 @@ abbrev pub wholes : List ℕ → List slicing.Line
 wholes ds = map (λ d. slicing.kept 0 (pos 1) d) ds
 
 -- lines before those of others, if all are in range
-abbrev pub lines_before : List slicing.Line → Option (List slicing.Line) → Option (List slicing.Line)
+abbrev pub lines_before : List slicing.Line → Option (List slicing.Line) →
+    Option (List slicing.Line)
 lines_before ls others = option_map (λ rest. ls ++ rest) others
 
 -- places before those of other numbers, if all are there
@@ -104,7 +105,8 @@ coordinate t cs = pos t.first +ℤ (t.step *ℤ pos (get_or cs t.along 0))
 
 -- what a line takes lies in a dimension of size d, and there is nothing where that is empty
 pub record Fits (first : ℕ) (step : ℤ) (m d : ℕ) : Type 0 where
-  pub line : (c : ℕ) → c < max m 1 → pos (slicing.stepped first step c) ≡ pos first +ℤ (step *ℤ pos c)
+  pub line : (c : ℕ) → c < max m 1 → pos (slicing.stepped first step c)
+      ≡ pos first +ℤ (step *ℤ pos c)
   pub small : (c : ℕ) → c < max m 1 → slicing.stepped first step c < max d 1
   pub empty : d ≡ 0 → m ≡ 0
 
@@ -142,8 +144,10 @@ IsStraight (clumped n) = ⊥
 
 -- a course of the parent's dimension i
 pub record IsCourse (form : Form) (ds : List ℕ) (i : ℕ) (t : Course) : Type 0 where
-  pub line : (cs : List ℕ) → IsWithin (filled (sizes form ds)) cs → pos (get_or (form_source form ds cs) i 0) ≡ coordinate t cs
-  pub small : (cs : List ℕ) → IsWithin (filled (sizes form ds)) cs → get_or (form_source form ds cs) i 0 < max (get_or ds i 0) 1
+  pub line : (cs : List ℕ) → IsWithin (filled (sizes form ds)) cs →
+      pos (get_or (form_source form ds cs) i 0) ≡ coordinate t cs
+  pub small : (cs : List ℕ) → IsWithin (filled (sizes form ds)) cs →
+      get_or (form_source form ds cs) i 0 < max (get_or ds i 0) 1
   pub empty : (cs : List ℕ) → IsWithin (sizes form ds) cs → 0 < get_or ds i 0
 
 -- a course for each dimension of the parent

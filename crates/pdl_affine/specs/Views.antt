@@ -1,5 +1,6 @@
--- The affine views (PDL::Slices): for each transformation the dimensions of the view, or the first refusal, and
--- the parent's coordinates for the view's. No line has an offset or an increment.
+-- The affine views (PDL::Slices): for each transformation the dimensions of the view, or
+-- the first refusal, and the parent's coordinates for the view's. No line has an
+-- offset or an increment.
 use Rattle.std.specs.Prelude.{ℕ, ◌-◌, Bool, true, false, not, ◌&&◌, ◌||◌, ◌==◌, nat_lt, nat_le, if◌then◌else◌, List, [], ◌∷◌, ◌++◌, map, length, get_or, take, drop, replicate, filter, swap, insert, remove, position, ℤ, pos, negsuc, Option, Some, None, option_map, option_and_then, unwrap_or, Result, Ok, Err}
 use Rattle.std.specs.List.{list_any, list_all, range_with_len}
 use Rattle.pdl_shape.specs.Clump.{clump_count, clump_sizes, clump_source}
@@ -28,7 +29,8 @@ pub data Form : Type 0 where
 -- the dimensions of these numbers, or nothing where there is no such dimension
 abbrev pub all_counted : List ℤ → ℕ → Option (List ℕ)
 all_counted [] n = Some []
-all_counted (k ∷ ks) n = option_and_then (λ i. option_map (λ is. i ∷ is) (all_counted ks n)) (from_end k n)
+all_counted (k ∷ ks) n = option_and_then (λ i. option_map (λ is. i ∷ is) (all_counted ks n))
+    (from_end k n)
 
 -- the number is in the list
 abbrev pub lists : List ℕ → ℕ → Bool
@@ -72,16 +74,23 @@ inserted_at (Some p) (negsuc m) = None
 abbrev pub resolved : Affine → List ℕ → Result Form Refusal
 resolved (affine.Slice args) ds = or_refusal out_of_range (option_map sliced (lines_of args ds))
 resolved (affine.Xchg a b) ds =
-    or_refusal bad_dimension (option_and_then (λ i. option_map (λ j. exchanged i j) (from_end b (length ds))) (from_end a (length ds)))
+    or_refusal bad_dimension (option_and_then (λ i. option_map (λ j.
+    exchanged i j) (from_end b (length ds))) (from_end a (length ds)))
 resolved (affine.Mv a b) ds =
-    or_refusal bad_dimension (option_and_then (λ i. option_map (λ j. shifted i j) (from_end b (length ds))) (from_end a (length ds)))
+    or_refusal bad_dimension (option_and_then (λ i. option_map (λ j.
+    shifted i j) (from_end b (length ds))) (from_end a (length ds)))
 resolved (affine.Reorder order) ds =
-    or_refusal bad_dimension (option_and_then (λ is. when (is_arrangement is (length ds)) (arranged is)) (all_counted order (length ds)))
-resolved (affine.Dummy place size) ds = or_refusal bad_dimension (inserted_at (new_place place (length ds)) size)
+    or_refusal bad_dimension (option_and_then (λ is.
+    when (is_arrangement is (length ds)) (arranged is)) (all_counted order (length ds)))
+resolved (affine.Dummy place size) ds =
+    or_refusal bad_dimension (inserted_at (new_place place (length ds)) size)
 resolved (affine.Diagonal listed) ds =
-    or_refusal bad_dimension (option_and_then (λ is. when (is_distinct is && are_same_size is ds) (diagonal is)) (all_counted listed (length ds)))
+    or_refusal bad_dimension (option_and_then (λ is.
+    when (is_distinct is && are_same_size is ds) (diagonal is))
+    (all_counted listed (length ds)))
 resolved affine.Squeeze ds = Ok squeezed
-resolved (affine.Clump count) ds = or_refusal bad_dimension (option_map clumped (clump_count count (length ds)))
+resolved (affine.Clump count) ds = or_refusal bad_dimension
+    (option_map clumped (clump_count count (length ds)))
 
 -- the dimension of a diagonal that stands for this one: the lowest listed one for each listed one
 abbrev pub lowest_of : List ℕ → ℕ
@@ -98,7 +107,8 @@ kept_dims is n = filter (λ i. not (lists is i) || (i == lowest_of is)) (range_w
 -- the coordinate 0 at each dimension of size 1, and the others in order
 abbrev pub unsqueezed : List ℕ → List ℕ → List ℕ
 unsqueezed [] cs = []
-unsqueezed (d ∷ ds) cs = if d == 1 then 0 ∷ unsqueezed ds cs else get_or cs 0 0 ∷ unsqueezed ds (drop 1 cs)
+unsqueezed (d ∷ ds) cs = if d == 1 then 0 ∷ unsqueezed ds cs
+    else get_or cs 0 0 ∷ unsqueezed ds (drop 1 cs)
 
 -- the sizes of the view on a parent of these dimensions
 abbrev pub sizes : Form → List ℕ → List ℕ
@@ -116,10 +126,13 @@ abbrev pub form_source : Form → List ℕ → List ℕ → List ℕ
 form_source (sliced lines) ds cs = take (length ds) (line_sources lines cs)
 form_source (exchanged a b) ds cs = swap cs a b
 form_source (shifted a b) ds cs = insert (remove cs b) a (get_or cs b 0)
-form_source (arranged order) ds cs = map (λ i. get_or cs (unwrap_or (position (λ j. j == i) order) 0) 0) (range_with_len 0 (length ds))
+form_source (arranged order) ds cs =
+    map (λ i. get_or cs (unwrap_or (position (λ j. j == i) order) 0) 0)
+    (range_with_len 0 (length ds))
 form_source (inserted p m) ds cs = take (length ds) (remove cs p)
 form_source (diagonal is) ds cs =
-    map (λ i. get_or cs (length (kept_dims is (if lists is i then lowest_of is else i))) 0) (range_with_len 0 (length ds))
+    map (λ i. get_or cs (length (kept_dims is (if lists is i then lowest_of is else i))) 0)
+    (range_with_len 0 (length ds))
 form_source squeezed ds cs = unsqueezed ds cs
 form_source (clumped n) ds cs = clump_source n ds cs
 
@@ -127,7 +140,8 @@ abbrev pub form_dims : Result Form Refusal → List ℕ → Result (List ℕ) Re
 form_dims (Err refusal) ds = Err refusal
 form_dims (Ok form) ds = checked_dims (sizes form ds)
 
--- the dimensions of the view that a transformation makes on a parent of these dimensions, or the first refusal
+-- the dimensions of the view that a transformation makes on a parent of these
+-- dimensions, or the first refusal
 abbrev pub dims : Affine → List ℕ → Result (List ℕ) Refusal
 dims trans ds = form_dims (resolved trans ds) ds
 

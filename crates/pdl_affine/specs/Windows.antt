@@ -14,7 +14,8 @@ is_chain [] = true
 is_chain (p ∷ []) = true
 is_chain (p ∷ q ∷ ps) = int_eq q.0 (p.0 *ℤ pos p.1) && is_chain (q ∷ ps)
 
--- dimensions can be joined to one: without those of size 1 their increments are a chain, or there are no elements
+-- dimensions can be joined to one: without those of size 1 their increments are a chain,
+-- or there are no elements
 abbrev pub do_join : List ℤ → List ℕ → Bool
 do_join incs ds = list_any (λ d. d == 0) ds || is_chain (filter (λ p. not (p.1 == 1)) (zip incs ds))
 
@@ -39,9 +40,11 @@ neighbour n i = set (replicate n 0) i 1
 
 -- how far the place moves with one step along dimension i; 0 along a size of 0 or 1
 abbrev pub increment : (List ℕ → ℤ) → List ℕ → ℕ → ℤ
-increment place ds i = if nat_le (get_or ds i 0) 1 then pos 0 else place (neighbour (length ds) i) -ℤ place (origin (length ds))
+increment place ds i = if nat_le (get_or ds i 0) 1 then pos 0
+    else place (neighbour (length ds) i) -ℤ place (origin (length ds))
 
--- the triple by which places are shown at coordinates: the place of the first element, and how far one step goes
+-- the triple by which places are shown at coordinates: the place of the first element,
+-- and how far one step goes
 abbrev pub shown : (List ℕ → ℤ) → List ℕ → Triple
 shown place ds = record {
   offset = if size_of ds == 0 then 0 else nat_abs (place (origin (length ds)));
@@ -55,7 +58,8 @@ form_place form over cs = place_of over (form_source form over.dims cs)
 
 -- the triple by which a view is shown over the base of its parent, if it can be
 abbrev pub windowed : Form → Triple → Option Triple
-windowed form over = if is_window form over then Some (shown (form_place form over) (sizes form over.dims)) else None
+windowed form over = if is_window form over
+    then Some (shown (form_place form over) (sizes form over.dims)) else None
 
 abbrev pub composed : Affine → Triple → Option Triple
 composed trans over = window (resolved trans over.dims) where
@@ -73,4 +77,5 @@ Shows over place = (cs : List ℕ) → IsWithin over.dims cs → place_of over c
 
 -- each place that a triple shows is one that another shows
 abbrev pub LiesIn : Triple → Triple → Type 0
-LiesIn t over = (cs : List ℕ) → IsWithin t.dims cs → (bs : List ℕ) × IsWithin over.dims bs × (place_of t cs ≡ place_of over bs)
+LiesIn t over = (cs : List ℕ) → IsWithin t.dims cs → (bs : List ℕ) × IsWithin over.dims bs ×
+    (place_of t cs ≡ place_of over bs)

@@ -85,7 +85,8 @@ fn step_along(course: Course, dimension: usize) -> i32
 fn counted_incs(alloc: Global, over: &Triple, courses: &[Course], dims: &Dims) -> SmallVec<i32, 16>
     requires narrow { (i : ℕ) → i < length dims.now → 1 < slice_index dims.now i →
         unsigned_abs (gathered over.now.incs courses.now i) < extent_limit }
-    ensures { let moves = map (gathered over.now.incs courses.now) (range_with_len 0 (length dims.now)) in
+    ensures { let moves = map (gathered over.now.incs courses.now)
+        (range_with_len 0 (length dims.now)) in
         result.items ≡ counted_incs moves dims.now }
 {
     let incs = incs_of(over);

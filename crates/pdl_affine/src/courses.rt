@@ -159,7 +159,8 @@ fn squeezed_to(parent: &[u32], dimension: usize) -> usize
 
 fn squeezed(parent: &[u32], dimension: usize) -> Course
     requires { dimension < length parent.now }
-    ensures { result ≡ (if slice_index parent.now dimension == 1 then still 0 else whole (squeezed_to parent.now dimension)) }
+    ensures { result ≡ (if slice_index parent.now dimension == 1 then still 0
+        else whole (squeezed_to parent.now dimension)) }
 {
     if parent[dimension] == 1 {
         still(0)

@@ -1,5 +1,5 @@
-//! Affine views (PDL::Slices): what dimensions a view has, which elements of its parent it shows, and the
-//! triple that shows it over the same base.
+//! Affine views (PDL::Slices): what dimensions a view has, which elements of its
+//! parent it shows, and the triple that shows it over the same base.
 #![tactic(auto)]
 
 mod clumping;
@@ -22,8 +22,8 @@ use pdl_slices::SliceArgs;
 pub use planning::{AffinePlan, compose, copy_affine, plan, plan_dims};
 use std::alloc::AllocError;
 
-/// Numbers of a transformation, in order: dimensions, of which a negative one counts from the end, or
-/// index values and sizes. Contracts see the list.
+/// Numbers of a transformation, in order: dimensions, of which a negative one
+/// counts from the end, or index values and sizes. Contracts see the list.
 pub type Numbers = Items<i64>;
 
 /// How a view shows its parent. A number of a dimension that is negative counts from the end.

@@ -86,9 +86,11 @@ pub fn copy_affine(alloc: Global, trans: &Affine) -> Result<Affine, AllocError>
 pub fn plan(alloc: Global, trans: &Affine, parent: &Dims) -> Result<AffinePlan, PlanFault>
     requires { IsTrue (is_well_formed trans.now) }
 
-    ensures planned { IfOk result (λ plan. plan ≡ record { trans = trans.now; parent = parent.now }) }
+    ensures planned { IfOk result (λ plan. plan
+        ≡ record { trans = trans.now; parent = parent.now }) }
     ensures fits { OnOk result (IsOk (dims trans.now parent.now)) }
-    ensures refused { IfErr result (λ fault. Refuses (dims trans.now parent.now) (refusal_of fault)) }
+    ensures refused { IfErr result (λ fault. Refuses (dims trans.now parent.now)
+        (refusal_of fault)) }
 {
     let sizes = dims_list(parent);
     let form = resolve(alloc, trans, sizes)?;

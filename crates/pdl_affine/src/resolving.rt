@@ -46,7 +46,8 @@ fn mv(a: i64, b: i64, parent: &[u32]) -> Result<Form, PlanFault>
 /// The places of these numbers among so many dimensions.
 fn all_counted(alloc: Global, numbers: &[i64], count: usize) -> Result<Vec<usize>, PlanFault>
     ensures ok { IfOk result (λ places. all_counted numbers.now count ≡ Some places.items) }
-    ensures err { IfErr result (λ fault. IfSome (refusal_of fault) (λ refusal. (refusal ≡ bad_dimension) × (all_counted numbers.now count ≡ None))) }
+    ensures err { IfErr result (λ fault. IfSome (refusal_of fault) (λ refusal.
+        (refusal ≡ bad_dimension) × (all_counted numbers.now count ≡ None))) }
 {
     let mut places = Vec::new(alloc);
     for number in numbers {

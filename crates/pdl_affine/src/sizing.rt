@@ -14,7 +14,8 @@ use pdl_shape::{Dims, ShapeFault, dims_of, size};
 use std::alloc::{AllocError, Global};
 
 fn put_line(sizes: &mut Vec<u32>, taken: Taken) -> Result<(), AllocError>
-    ensures { OnOk result (sizes.new.items ≡ sizes.old.items ++ line_sizes (seen_all (taken ∷ []))) }
+    ensures { OnOk result (sizes.new.items ≡ sizes.old.items
+        ++ line_sizes (seen_all (taken ∷ []))) }
 {
     match taken {
         Taken::Kept { size, .. } | Taken::Added { size } => put(sizes, size),
@@ -75,7 +76,8 @@ fn squeeze(alloc: Global, parent: &[u32]) -> Result<Vec<u32>, AllocError>
 }
 
 fn put_unless_one(sizes: &mut Vec<u32>, size: u32) -> Result<(), AllocError>
-    ensures { OnOk result (sizes.new.items ≡ sizes.old.items ++ filter (λ d. not (d == 1)) (size ∷ [])) }
+    ensures { OnOk result (sizes.new.items ≡ sizes.old.items
+        ++ filter (λ d. not (d == 1)) (size ∷ [])) }
 {
     if size == 1 { Ok(()) } else { put(sizes, size) }
 }
@@ -102,7 +104,8 @@ pub fn is_kept(listed: &[usize], place: usize) -> bool
 }
 
 fn put_kept(kept: &mut Vec<usize>, listed: &[usize], place: usize) -> Result<(), AllocError>
-    ensures { OnOk result (kept.new.items ≡ kept.old.items ++ filter (λ i. not (lists listed.now i) || (i == lowest_of listed.now)) (place ∷ [])) }
+    ensures { OnOk result (kept.new.items ≡ kept.old.items
+        ++ filter (λ i. not (lists listed.now i) || (i == lowest_of listed.now)) (place ∷ [])) }
 {
     if is_kept(listed, place) {
         kept.push(place)?;

@@ -139,7 +139,8 @@ pub fn taken_of(alloc: Global, args: &[SliceArg], parent: &[u32]) -> Result<Vec<
     requires small { AreSmall parent.now }
     requires moves { IsTrue (list_all steps_on args.now) }
     ensures ok { IfOk result (λ ts. lines_of args.now parent.now ≡ Some (seen_all ts.items)) }
-    ensures err { IfErr result (λ fault. IfSome (refusal_of fault) (λ refusal. (refusal ≡ out_of_range) × (lines_of args.now parent.now ≡ None))) }
+    ensures err { IfErr result (λ fault. IfSome (refusal_of fault) (λ refusal.
+        (refusal ≡ out_of_range) × (lines_of args.now parent.now ≡ None))) }
 {
     let mut taken = Vec::new(alloc);
     let mut rest = parent;
@@ -157,7 +158,8 @@ pub fn taken_of(alloc: Global, args: &[SliceArg], parent: &[u32]) -> Result<Vec<
 
 /// Puts the whole of each dimension at the end.
 fn whole(taken: &mut Vec<Taken>, sizes: &[u32]) -> Result<(), AllocError>
-    ensures { OnOk result (seen_all taken.new.items ≡ seen_all taken.old.items ++ wholes sizes.now) }
+    ensures { OnOk result (seen_all taken.new.items ≡ seen_all taken.old.items
+        ++ wholes sizes.now) }
 {
     for size in sizes {
         taken.push(all_of(*size))?;

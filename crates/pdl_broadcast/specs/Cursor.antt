@@ -17,16 +17,18 @@ rolled_of [] cs = 0
 rolled_of (d ∷ ds) [] = 0
 rolled_of (d ∷ ds) (c ∷ cs) = (if nat_lt (c + 1) d then 0 else suc (rolled_of ds cs))
 
--- how far one step along a dimension goes: 0 along a size of 0 or 1, and along a dimension that is missing
+-- how far one step along a dimension goes: 0 along a size of 0 or 1, and along a
+-- dimension that is missing
 abbrev pub step_of : List ℤ → List ℕ → ℕ → ℤ
 step_of is ds k = (if nat_lt 1 (slice_index_or ds k 1) then slice_index_or is k (pos 0) else pos 0)
 
--- where one dimension of a walk moves on and those before it roll over, these jumps take what the increments of
--- an argument add up to to that of the next coordinates
+-- where one dimension of a walk moves on and those before it roll over, these jumps take
+-- what the increments of an argument add up to to that of the next coordinates
 abbrev pub Jumps : List ℕ → List ℤ → List ℕ → List ℤ → Type 0
 Jumps walk is ds jumps =
     (cs : List ℕ) → IsWithin walk cs → rolled_of walk cs < length walk →
-    moved is (cut_to ds (next_of walk cs)) ≡ moved is (cut_to ds cs) +ℤ slice_index_or jumps (rolled_of walk cs) (pos 0)
+    moved is (cut_to ds (next_of walk cs)) ≡ moved is (cut_to ds cs)
+    +ℤ slice_index_or jumps (rolled_of walk cs) (pos 0)
 
 -- the place after a jump
 abbrev pub landing : ℕ → Cursor → ℤ

@@ -8,8 +8,8 @@ use Rattle.pdl_shape.specs.Triple.{Triple, place_of}
 abbrev pub arguments_room : ℕ
 arguments_room = 16
 
--- the broadcast's dimensions, the arguments' triples in the order in which they were added, and how many
--- coordinates are behind
+-- the broadcast's dimensions, the arguments' triples in the order in which they
+-- were added, and how many coordinates are behind
 pub record Walk : Type 0 where
   pub dims : List ℕ
   pub triples : List Triple

@@ -58,7 +58,8 @@ impl BroadcastWalk {
         requires start { self.old.index ≡ 0 }
         requires stretched { BroadcastsTo triple.now.dims self.old.dims }
         ensures number { IfOk result (λ argument. argument ≡ length self.old.triples) }
-        ensures added { OnOk result (self.new ≡ record self.old { triples = self.old.triples ++ triple.now ∷ [] }) }
+        ensures added { OnOk result (self.new
+            ≡ record self.old { triples = self.old.triples ++ triple.now ∷ [] }) }
         ensures refused { OnErr result (self.new ≡ self.old) }
         ensures room { length self.old.triples < arguments_room → IsOk result }
     {
@@ -82,8 +83,10 @@ impl BroadcastWalk {
     pub fn offset(&self, argument: usize) -> u32
         requires known { argument < length self.now.triples }
         requires inside { self.now.index < size_of self.now.dims }
-        ensures place { IfSome (slice_get self.now.triples argument) (λ triple. pos result ≡ argument_place self.now triple) }
-        ensures reachable { IfSome (slice_get self.now.triples argument) (λ triple. IsWithin triple.dims (argument_coordinates self.now triple)) }
+        ensures place { IfSome (slice_get self.now.triples argument) (λ triple.
+            pos result ≡ argument_place self.now triple) }
+        ensures reachable { IfSome (slice_get self.now.triples argument) (λ triple.
+            IsWithin triple.dims (argument_coordinates self.now triple)) }
         ensures bound { result < extent_limit }
     {
         shape_laws();

@@ -21,7 +21,8 @@ edge_coordinate Zero n z = (if is_within n z then Some (from_zero z) else None)
 edge_coordinate Nearest n z = Some (min (from_zero z) (n - 1))
 edge_coordinate Periodic n z = Some (from_zero (int_rem_euclid z (pos n)))
 
--- whether n numbers from v on are all coordinates in a dimension of size n; a size of 0 looks at one
+-- whether n numbers from v on are all coordinates in a dimension of size n; a
+-- size of 0 looks at one
 abbrev pub is_window_within : ℕ → ℕ → ℤ → Bool
 is_window_within n size (pos v) = nat_le (v + max size 1) n
 is_window_within n size (negsuc v) = false

@@ -21,9 +21,11 @@ index_outside (n ∷ rest) ind = first_outside n ind
 abbrev pub index_dims : List ℕ → List ℕ → List ℤ → Result (List ℕ) Refusal
 index_dims [] ind_dims ind = Err bad_dimension
 index_dims (n ∷ rest) ind_dims ind =
-    option_map_or (λ met. unless_outside (first_outside n ind) (checked_dims met)) (join ind_dims rest) (Err mismatch)
+    option_map_or (λ met. unless_outside (first_outside n ind) (checked_dims met))
+    (join ind_dims rest) (Err mismatch)
 
--- along the first dimension the index value at these coordinates, along the others the coordinates; both broadcast
+-- along the first dimension the index value at these coordinates, along the others the
+-- coordinates; both broadcast
 abbrev pub index_source : List ℕ → List ℕ → List ℤ → List ℕ → List ℕ
 index_source [] ind_dims ind at = []
 index_source (n ∷ rest) ind_dims ind at =

@@ -17,12 +17,14 @@ IndexSourcesLieWithin =
 abbrev pub WhereSourcesLieWithin : Type 0
 WhereSourcesLieWithin =
     (parent mask_dims ds cs places : List ℕ)
-    → IsTrue (rises 0 (size_of mask_dims) places) → where_dims parent mask_dims places ≡ Ok ds → IsWithin ds cs
+    → IsTrue (rises 0 (size_of mask_dims) places) → where_dims parent mask_dims places ≡ Ok ds →
+    IsWithin ds cs
     → IsWithin parent (where_source parent places cs)
 
 -- those of a view of windows do, where they come from any
 abbrev pub RangeSourcesLieWithin : Type 0
 RangeSourcesLieWithin =
     (parent ind_dims ds cs : List ℕ) (ind sizes : List ℤ) (edge : Edge)
-    → length ind ≡ size_of ind_dims → range_dims parent ind_dims ind sizes edge ≡ Ok ds → IsWithin ds cs
+    → length ind ≡ size_of ind_dims → range_dims parent ind_dims ind sizes edge ≡ Ok ds →
+    IsWithin ds cs
     → IfSome (range_source parent ind_dims ind sizes edge cs) (IsWithin parent)

@@ -22,13 +22,15 @@ is_negative (negsuc n) = true
 -- one size of a window for each number of a corner: a lone size counts for all
 abbrev pub window_sizes : ℕ → List ℤ → List ℕ
 window_sizes count sizes =
-    (if length sizes == 1 then replicate count (from_zero (get_or sizes 0 (pos 0))) else map from_zero sizes)
+    (if length sizes == 1 then replicate count (from_zero (get_or sizes 0 (pos 0)))
+    else map from_zero sizes)
 
 -- the first index value at which the edge refuses its window
 abbrev pub first_refused : Edge → List ℕ → List ℕ → List ℤ → Option ℕ
 first_refused edge parent windows ind =
     position
-    (λ p. edge_refuses edge (get_or parent (p % length windows) 0) (get_or windows (p % length windows) 0) (get_or ind p (pos 0)))
+    (λ p. edge_refuses edge (get_or parent (p % length windows) 0)
+    (get_or windows (p % length windows) 0) (get_or ind p (pos 0)))
     (range_with_len 0 (length ind))
 
 -- whether a size is above 0
@@ -56,23 +58,27 @@ range_dims parent ind_dims ind sizes edge =
     let windows = window_sizes (corner_len ind_dims) sizes in
     option_map_or (λ refusal. Err refusal)
     (window_refusal (length parent) (corner_len ind_dims) sizes)
-    (unless_outside (first_refused edge parent windows ind) (checked_dims (windowed_dims parent ind_dims windows)))
+    (unless_outside (first_refused edge parent windows ind)
+    (checked_dims (windowed_dims parent ind_dims windows)))
 
 -- the first index value that the edge refuses
 abbrev pub range_outside : List ℕ → List ℕ → List ℤ → List ℤ → Edge → Option ℕ
-range_outside parent ind_dims ind sizes edge = first_refused edge parent (window_sizes (corner_len ind_dims) sizes) ind
+range_outside parent ind_dims ind sizes edge =
+    first_refused edge parent (window_sizes (corner_len ind_dims) sizes) ind
 
 -- the index values at these coordinates past the index's first dimension
 abbrev pub corner_at : List ℕ → List ℤ → List ℕ → List ℤ
 corner_at ind_dims ind outer =
-    map (λ j. get_or ind (position_of (corner_len ind_dims ∷ drop 1 ind_dims) (j ∷ outer)) (pos 0)) (range_with_len 0 (corner_len ind_dims))
+    map (λ j. get_or ind (position_of (corner_len ind_dims ∷ drop 1 ind_dims) (j ∷ outer)) (pos 0))
+    (range_with_len 0 (corner_len ind_dims))
 
 -- a coordinate before others, or nothing where either is
 abbrev pub put_first : Option ℕ → Option (List ℕ) → Option (List ℕ)
 put_first None rest = None
 put_first (Some c) rest = option_map (λ cs. c ∷ cs) rest
 
--- each number of the corner plus the window's coordinate, which is 0 for a size of 0, by the edge; then the coordinates that are left
+-- each number of the corner plus the window's coordinate, which is 0 for a size of 0, by the edge;
+-- then the coordinates that are left
 abbrev pub window_source : Edge → List ℕ → List ℕ → List ℤ → List ℕ → Option (List ℕ)
 window_source edge parent [] corner at = Some at
 window_source edge [] (w ∷ windows) corner at = Some at
@@ -87,7 +93,8 @@ window_source edge (n ∷ parent) (suc w ∷ windows) (v ∷ corner) (c ∷ at) 
 abbrev pub range_source : List ℕ → List ℕ → List ℤ → List ℤ → Edge → List ℕ → Option (List ℕ)
 range_source parent ind_dims ind sizes edge at =
     let outer = length (drop 1 ind_dims) in
-    window_source edge parent (window_sizes (corner_len ind_dims) sizes) (corner_at ind_dims ind (take outer at)) (drop outer at)
+    window_source edge parent (window_sizes (corner_len ind_dims) sizes)
+    (corner_at ind_dims ind (take outer at)) (drop outer at)
 
 -- a size that a u32 has: the size, or the largest of these
 abbrev pub capped : ℕ → ℕ
@@ -97,4 +104,5 @@ capped n = min n 4294967295
 abbrev pub AllAllowed : Edge → List ℕ → List ℕ → List ℤ → Type 0
 AllAllowed edge parent windows ind =
     (k : ℕ) → k < length ind
-    → edge_refuses edge (get_or parent (k % length windows) 0) (get_or windows (k % length windows) 0) (get_or ind k (pos 0)) ≡ false
+    → edge_refuses edge (get_or parent (k % length windows) 0)
+    (get_or windows (k % length windows) 0) (get_or ind k (pos 0)) ≡ false

@@ -12,10 +12,12 @@ use Rattle.pdl_choice.specs.Range.{inner_dims, window_source}
 abbrev pub line_at : Line → ℕ → ℕ
 line_at line c = line.from + line.step * c
 
--- the place at column c of a row of an index view: the index value's coordinate along the first dimension, of size n
+-- the place at column c of a row of an index view: the index value's coordinate along the
+-- first dimension, of size n
 abbrev pub row_place : ℕ → List ℤ → Line → Line → ℕ → ℕ
 row_place n ind ind_line rest_line c =
-    unwrap_or (from_end (slice_index_or ind (line_at ind_line c) (pos 0)) n) 0 + n * line_at rest_line c
+    unwrap_or (from_end (slice_index_or ind (line_at ind_line c) (pos 0)) n) 0
+    + n * line_at rest_line c
 
 -- the numbers of a corner that has q corners before it
 abbrev pub numbers_at : List ℤ → ℕ → ℕ → List ℤ
@@ -26,7 +28,8 @@ abbrev pub place_first : ℕ → Option ℕ → Option ℕ → Option ℕ
 place_first n None rest = None
 place_first n (Some c) rest = option_map (λ p. c + n * p) rest
 
--- the place of the coordinates that lie so far past a corner; the last number is the place in the dimensions past the corner's
+-- the place of the coordinates that lie so far past a corner; the last number is the place in the
+-- dimensions past the corner's
 abbrev pub placed : Edge → List ℕ → List ℤ → List ℕ → Option ℕ
 placed edge parent corner [] = Some 0
 placed edge parent [] (q ∷ at) = Some q
@@ -38,13 +41,15 @@ placed edge (n ∷ parent) (v ∷ corner) (c ∷ at) =
 abbrev pub CanPlaceEach : Edge → List ℕ → List ℤ → List ℕ → Type 0
 CanPlaceEach edge parent corner at =
     (j : ℕ) → j < length corner
-    → CanPlace edge (slice_index parent j) (slice_index_or corner j (pos 0) +ℤ pos (slice_index at j))
+    → CanPlace edge (slice_index parent j) (slice_index_or corner j (pos 0)
+    +ℤ pos (slice_index at j))
 
 -- the edges place the numbers that lie so far past each corner of so many numbers
 abbrev pub CanPlaceAll : Edge → List ℕ → List ℤ → ℕ → List ℕ → Type 0
 CanPlaceAll edge parent ind len at =
     (q j : ℕ) → j < len → len * q + j < length ind
-    → CanPlace edge (slice_index parent j) (slice_index_or ind (len * q + j) (pos 0) +ℤ pos (slice_index at j))
+    → CanPlace edge (slice_index parent j) (slice_index_or ind (len * q + j) (pos 0)
+    +ℤ pos (slice_index at j))
 
 -- the place of the position p of windows at so many corners, where the corners are fastest
 abbrev pub window_place : Edge → List ℕ → List ℕ → List ℤ → ℕ → ℕ → Option ℕ

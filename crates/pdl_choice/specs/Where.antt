@@ -17,7 +17,8 @@ which mask = filter (λ p. is_set (get_or mask p (pos 0))) (range_with_len 0 (le
 
 -- one dimension of as many elements as places, under a mask of the parent's dimensions
 abbrev pub where_dims : List ℕ → List ℕ → List ℕ → Result (List ℕ) Refusal
-where_dims parent mask_dims places = (if pointwise nat_eq parent mask_dims then Ok (length places ∷ []) else Err mismatch)
+where_dims parent mask_dims places = (if pointwise nat_eq parent mask_dims
+    then Ok (length places ∷ []) else Err mismatch)
 
 -- the parent's coordinates at the chosen place
 abbrev pub where_source : List ℕ → List ℕ → List ℕ → List ℕ

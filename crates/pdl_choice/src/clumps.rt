@@ -16,7 +16,8 @@ use std::alloc::Global;
 /// clump). `BadDimension` where `count` isn't 1 to the number of dimensions or -1.
 pub fn clump_list(alloc: Global, source: &Dims, count: i64) -> Result<Choice, ChoiceFault>
     ensures dims { IfOk result (λ c. clump_dims source.now count ≡ Ok c.dims) }
-    ensures places { IfOk result (λ c. c.places ≡ places_of c.dims source.now (λ at. Some (clumped_source source.now count at))) }
+    ensures places { IfOk result (λ c. c.places ≡ places_of c.dims source.now (λ at.
+        Some (clumped_source source.now count at))) }
     ensures inside { IfOk result (λ c. AllBelow (size_of source.now) c.places) }
     ensures refusal { IfErr result (λ f. Refuses (clump_dims source.now count) (refusal_of f)) }
 {
@@ -38,7 +39,8 @@ fn clumped(alloc: Global, parent: &[u32], joined: usize) -> Result<Dims, NoMemor
     requires limits { IsDims parent.now }
     requires some { 0 < joined ⊎ parent.now ≡ [] }
     requires enough { joined ≤ length parent.now }
-    ensures { IfOk result (λ dims. dims ≡ size_of (take joined parent.now) ∷ drop joined parent.now) }
+    ensures { IfOk result (λ dims. dims ≡ size_of (take joined parent.now)
+        ∷ drop joined parent.now) }
 {
     shape_laws();
     let sizes = clumped_sizes(alloc, parent, joined)?;
@@ -52,7 +54,8 @@ fn clumped(alloc: Global, parent: &[u32], joined: usize) -> Result<Dims, NoMemor
 fn clumped_sizes(alloc: Global, parent: &[u32], joined: usize) -> Result<Vec<u32>, NoMemory>
     requires limits { IsDims parent.now }
     requires enough { joined ≤ length parent.now }
-    ensures { IfOk result (λ sizes. sizes.items ≡ size_of (take joined parent.now) ∷ drop joined parent.now) }
+    ensures { IfOk result (λ sizes. sizes.items ≡ size_of (take joined parent.now)
+        ∷ drop joined parent.now) }
 {
     shape_laws();
     let (first, rest) = parent.split_at(joined);

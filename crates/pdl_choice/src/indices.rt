@@ -34,11 +34,14 @@ pub fn index(
 ) -> Result<Choice, ChoiceFault>
     requires { length ind.now ≡ size_of ind_dims.now }
     ensures dims { IfOk result (λ c. index_dims source.now ind_dims.now ind.now ≡ Ok c.dims) }
-    ensures places { let sources = λ (at : List ℕ). Some (index_source source.now ind_dims.now ind.now at) in
+    ensures places { let sources = λ (at : List ℕ).
+        Some (index_source source.now ind_dims.now ind.now at) in
         IfOk result (λ c. c.places ≡ places_of c.dims source.now sources) }
     ensures inside { IfOk result (λ c. AllBelow (size_of source.now) c.places) }
-    ensures refusal { IfErr result (λ f. Refuses (index_dims source.now ind_dims.now ind.now) (refusal_of f)) }
-    ensures at { IfErr result (λ f. IfSome (position_in f) (λ at. index_outside source.now ind.now ≡ Some at)) }
+    ensures refusal { IfErr result (λ f. Refuses (index_dims source.now ind_dims.now ind.now)
+        (refusal_of f)) }
+    ensures at { IfErr result (λ f. IfSome (position_in f) (λ at.
+        index_outside source.now ind.now ≡ Some at)) }
 {
     let parent = dims_list(source);
     let dims = looked_up(alloc, parent, ind_dims, ind)?;
@@ -66,10 +69,13 @@ fn looked_up(
     requires limits { IsDims parent.now }
     requires whole { length ind.now ≡ size_of ind_dims.now }
     ensures dims { Makes (index_dims parent.now ind_dims.now ind.now) result }
-    ensures at { IfErr result (λ f. IfSome (position_in f) (λ at. index_outside parent.now ind.now ≡ Some at)) }
+    ensures at { IfErr result (λ f. IfSome (position_in f) (λ at.
+        index_outside parent.now ind.now ≡ Some at)) }
     ensures some { OnOk result (0 < length parent.now) }
-    ensures stretched { IfOk result (λ dims. BroadcastsTo ind_dims.now dims × BroadcastsTo (drop 1 parent.now) dims) }
-    ensures counted { OnOk result (All (λ value. IsSome (from_end value (slice_index parent.now 0))) ind.now) }
+    ensures stretched { IfOk result (λ dims. BroadcastsTo ind_dims.now dims ×
+        BroadcastsTo (drop 1 parent.now) dims) }
+    ensures counted { OnOk result (All (λ value. IsSome (from_end value (slice_index parent.now 0)))
+        ind.now) }
 {
     let _count = elements_of(ind_dims);
     let Some((size, rest)) = parent.split_first() else {
@@ -104,7 +110,8 @@ fn too_large(outside: Option<usize>) -> ChoiceFault
 /// The broadcast dimensions of two arrays.
 fn join_limited(alloc: Global, first: &Dims, second: &Dims) -> Result<Dims, ShapeFault>
     ensures joined { named shape_refusal result ≡ joined_dims first.now second.now }
-    ensures stretched { IfOk result (λ dims. BroadcastsTo first.now dims × BroadcastsTo second.now dims) }
+    ensures stretched { IfOk result (λ dims. BroadcastsTo first.now dims ×
+        BroadcastsTo second.now dims) }
     ensures few { IfOk result (λ dims. IsDims dims) }
 {
     let dims = join_dims(alloc, first, second)?;
@@ -118,7 +125,8 @@ fn joined(alloc: Global, ind_dims: &Dims, rest: &[u32]) -> Result<Dims, ShapeFau
     ensures joined { named shape_refusal result ≡ joined_dims ind_dims.now rest.now }
     ensures few { IfOk result (λ dims. IsDims dims) }
     ensures index_few { IsDims ind_dims.now }
-    ensures stretched { IfOk result (λ dims. BroadcastsTo ind_dims.now dims × BroadcastsTo rest.now dims) }
+    ensures stretched { IfOk result (λ dims. BroadcastsTo ind_dims.now dims ×
+        BroadcastsTo rest.now dims) }
 {
     let _index = dims_list(ind_dims);
     match dims_of(alloc, rest) {
@@ -227,7 +235,8 @@ fn index_places(
     requires parent_bounded { extent parent.now ≤ extent_limit }
     requires counted { All (λ value. IsSome (from_end value (slice_index parent.now 0))) ind.now }
     ensures inside { IfOk result (λ places. AllBelow (size_of parent.now) places.items) }
-    ensures places { let sources = λ (at : List ℕ). Some (index_source parent.now ind_dims.now ind.now at) in
+    ensures places { let sources = λ (at : List ℕ).
+        Some (index_source parent.now ind_dims.now ind.now at) in
         IfOk result (λ places. places.items ≡ places_of joined.now parent.now sources) }
 {
     shape_laws();

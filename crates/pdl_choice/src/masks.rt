@@ -56,8 +56,8 @@ fn set_count(mask: &[i64]) -> usize
 }
 
 /// The listed elements of the parent, in one dimension (PDL::Primitive, where). `dims` are those of
-/// the mask that listed them; the places rise and lie below its size. `Mismatch` where the dimensions
-/// aren't the parent's.
+/// the mask that listed them; the places rise and lie below its size.
+/// `Mismatch` where the dimensions aren't the parent's.
 pub fn listed_places(
     alloc: Global,
     source: &Dims,
@@ -69,7 +69,8 @@ pub fn listed_places(
     ensures places { let sources = λ (at : List ℕ). Some (where_source source.now places.now at) in
         IfOk result (λ c. c.places ≡ places_of c.dims source.now sources) }
     ensures inside { IfOk result (λ c. AllBelow (size_of source.now) c.places) }
-    ensures refusal { IfErr result (λ f. Refuses (where_dims source.now dims.now places.now) (refusal_of f)) }
+    ensures refusal { IfErr result (λ f. Refuses (where_dims source.now dims.now places.now)
+        (refusal_of f)) }
 {
     shape_laws();
     let _count = elements_of(dims);
@@ -100,11 +101,14 @@ pub fn where_places(
     mask: &[i64],
 ) -> Result<Choice, ChoiceFault>
     requires { length mask.now ≡ size_of mask_dims.now }
-    ensures dims { IfOk result (λ c. where_dims source.now mask_dims.now (which mask.now) ≡ Ok c.dims) }
-    ensures places { let sources = λ (at : List ℕ). Some (where_source source.now (which mask.now) at) in
+    ensures dims { IfOk result (λ c. where_dims source.now mask_dims.now (which mask.now)
+        ≡ Ok c.dims) }
+    ensures places { let sources = λ (at : List ℕ).
+        Some (where_source source.now (which mask.now) at) in
         IfOk result (λ c. c.places ≡ places_of c.dims source.now sources) }
     ensures inside { IfOk result (λ c. AllBelow (size_of source.now) c.places) }
-    ensures refusal { IfErr result (λ f. Refuses (where_dims source.now mask_dims.now (which mask.now)) (refusal_of f)) }
+    ensures refusal { IfErr result (λ f.
+        Refuses (where_dims source.now mask_dims.now (which mask.now)) (refusal_of f)) }
 {
     let _count = elements_of(mask_dims);
     let places = which_places(alloc, mask)?;

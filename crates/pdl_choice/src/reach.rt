@@ -30,7 +30,8 @@ pub(crate) fn coordinate(edge: Edge, size: u32, value: i64, offset: u32) -> Opti
     ensures bound { IfSome result (λ coordinate. coordinate < size) }
     ensures value { result ≡ edge_coordinate edge size (value +ℤ pos offset) }
 {
-    // A sum that stands still at the largest number lies beyond any dimension, as the whole sum does.
+    // A sum that stands still at the largest number lies beyond any dimension,
+    // as the whole sum does.
     let number = value.saturating_add(i64::from(offset));
     if number >= 0 && number < i64::from(size) {
         return Some(number as u32);

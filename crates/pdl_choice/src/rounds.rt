@@ -8,7 +8,8 @@ use pdl_shape::shape_laws;
 /// position go back to the first.
 pub(crate) fn move_on(sizes: &[u32], coordinates: &mut [u32])
     requires { IsWithin sizes.now coordinates.old }
-    ensures { coordinates.new ≡ coordinates_of sizes.now (position_of sizes.now coordinates.old + 1) }
+    ensures { coordinates.new ≡ coordinates_of sizes.now
+        (position_of sizes.now coordinates.old + 1) }
 {
     shape_laws();
     for (dimension, &size) in sizes.iter().enumerate() {

@@ -37,11 +37,13 @@ pub fn range(
     edge: Edge,
 ) -> Result<Choice, ChoiceFault>
     requires { length ind.now ≡ size_of ind_dims.now }
-    ensures dims { IfOk result (λ c. range_dims source.now ind_dims.now ind.now sizes.now edge ≡ Ok c.dims) }
+    ensures dims { IfOk result (λ c. range_dims source.now ind_dims.now ind.now sizes.now edge
+        ≡ Ok c.dims) }
     ensures places { let sources = range_source source.now ind_dims.now ind.now sizes.now edge in
         IfOk result (λ c. c.places ≡ places_of c.dims source.now sources) }
     ensures inside { IfOk result (λ c. AllBelow (size_of source.now) c.places) }
-    ensures refusal { IfErr result (λ f. Refuses (range_dims source.now ind_dims.now ind.now sizes.now edge) (refusal_of f)) }
+    ensures refusal { IfErr result (λ f.
+        Refuses (range_dims source.now ind_dims.now ind.now sizes.now edge) (refusal_of f)) }
     ensures at { let first = range_outside source.now ind_dims.now ind.now sizes.now edge in
         IfErr result (λ f. IfSome (position_in f) (λ at. first ≡ Some at)) }
 {
@@ -67,11 +69,13 @@ fn ranged(
     requires parent_limits { IsDims parent.now }
     requires ind_limits { IsDims ind_dims.now }
     requires whole { length ind.now ≡ size_of ind_dims.now }
-    ensures dims { IfOk result (λ c. range_dims parent.now ind_dims.now ind.now sizes.now edge ≡ Ok c.dims) }
+    ensures dims { IfOk result (λ c. range_dims parent.now ind_dims.now ind.now sizes.now edge
+        ≡ Ok c.dims) }
     ensures places { let sources = range_source parent.now ind_dims.now ind.now sizes.now edge in
         IfOk result (λ c. c.places ≡ places_of c.dims parent.now sources) }
     ensures inside { IfOk result (λ c. AllBelow (size_of parent.now) c.places) }
-    ensures refusal { IfErr result (λ f. Refuses (range_dims parent.now ind_dims.now ind.now sizes.now edge) (refusal_of f)) }
+    ensures refusal { IfErr result (λ f.
+        Refuses (range_dims parent.now ind_dims.now ind.now sizes.now edge) (refusal_of f)) }
     ensures at { let first = range_outside parent.now ind_dims.now ind.now sizes.now edge in
         IfErr result (λ f. IfSome (position_in f) (λ at. first ≡ Some at)) }
 {
@@ -136,8 +140,10 @@ fn windowed(
     requires outer_few { length outer.now ≤ dims_limit }
     requires parent_few { length parent.now ≤ dims_limit }
     requires fit { length windows.now ≤ length parent.now }
-    ensures dims { IfOk result (λ dims. checked_dims (outer.now ++ inner_dims parent.now windows.now) ≡ Ok dims) }
-    ensures refusal { IfErr result (λ f. Refuses (checked_dims (outer.now ++ inner_dims parent.now windows.now)) (refusal_of f)) }
+    ensures dims { IfOk result (λ dims. checked_dims (outer.now
+        ++ inner_dims parent.now windows.now) ≡ Ok dims) }
+    ensures refusal { IfErr result (λ f. Refuses (checked_dims (outer.now
+        ++ inner_dims parent.now windows.now)) (refusal_of f)) }
     ensures nowhere { IfErr result (λ f. position_in f ≡ None) }
 {
     shape_laws();
@@ -180,7 +186,8 @@ fn window_list(
     ensures len { IfOk result (λ windows. vec_len windows ≡ count) }
     ensures fit { OnOk result (window_refusal dims count sizes.now ≡ None) }
     ensures windows { IfOk result (λ windows. windows.items ≡ window_sizes count sizes.now) }
-    ensures refusal { IfErr result (λ f. IfSome (refusal_of f) (λ refusal. window_refusal dims count sizes.now ≡ Some refusal)) }
+    ensures refusal { IfErr result (λ f. IfSome (refusal_of f) (λ refusal.
+        window_refusal dims count sizes.now ≡ Some refusal)) }
     ensures nowhere { IfErr result (λ f. position_in f ≡ None) }
 {
     if count > dims || has_negative(sizes) {
@@ -253,7 +260,8 @@ fn corner_place(edge: Edge, parent: &[u32], corner: &[i64], at: &[u32]) -> Optio
     requires fit { length corner.now ≤ length parent.now }
     requires bounded { extent parent.now ≤ extent_limit }
     requires allowed { CanPlaceEach edge parent.now corner.now at.now }
-    requires within { slice_index at.now (length corner.now) < size_of (drop (length corner.now) parent.now) }
+    requires within { slice_index at.now (length corner.now)
+        < size_of (drop (length corner.now) parent.now) }
     ensures bound { IfSome result (λ place. place < size_of parent.now) }
     ensures place { result ≡ placed edge parent.now corner.now at.now }
 {
@@ -292,7 +300,8 @@ fn push_corners(
     requires whole { length ind.now ≡ (length at.now - 1) * corners }
     requires bounded { extent parent.now ≤ extent_limit }
     requires allowed { CanPlaceAll edge parent.now ind.now (length at.now - 1) at.now }
-    requires within { slice_index at.now (length at.now - 1) < size_of (drop (length at.now - 1) parent.now) }
+    requires within { slice_index at.now (length at.now - 1)
+        < size_of (drop (length at.now - 1) parent.now) }
     ensures inside { let within = AllBelow (size_of parent.now) in
         OnOk result (within places.old.items → within places.new.items) }
     ensures added { let corner = λ (q : ℕ). numbers_at ind.now (length at.now - 1) q in

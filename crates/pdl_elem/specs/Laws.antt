@@ -5,8 +5,9 @@ use Rattle.pdl_elem.specs.declared.Ty.{Ty}
 use Rattle.pdl_elem.specs.Types.{InRange}
 use Rattle.pdl_elem.specs.Numbers.{wrapped}
 
--- A wrapped number is in the type's range, and one that is in the range already stays as it is. To wrap at 64 bits
--- first changes nothing, so what is computed in machine words may be wrapped to the type late.
+-- A wrapped number is in the type's range, and one that is in the range already stays as it
+-- is. To wrap at 64 bits first changes nothing, so what is computed in machine words may be
+-- wrapped to the type late.
 pub record WrappingLaws : Type 0 where
   pub in_range : (t : Ty) (n : ℤ) → InRange t (wrapped t n)
   pub same : (t : Ty) (n : ℤ) → InRange t n → wrapped t n ≡ n

@@ -19,7 +19,8 @@ widest es = fold (λ w n. max w (length (signed_decimal n))) 0 es
 
 -- a row: an indent and the aligned numbers, joined by one space, in brackets
 abbrev pub line : ℕ → ℕ → List ℤ → List ℕ
-line indent width es = spaces indent ++ codes "[" ++ join_with_byte 32 (map (aligned width) es) ++ codes "]\n"
+line indent width es = spaces indent ++ codes "[" ++ join_with_byte 32 (map (aligned width) es)
+    ++ codes "]\n"
 
 -- the list cut into so many pieces of n elements each
 abbrev pub pieces : ℕ → ℕ → List ℤ → List (List ℤ)
@@ -34,11 +35,14 @@ lines indent rows n es = flat_map (line indent (widest es)) (pieces rows n es)
 abbrev pub bracketed : ℕ → List ℕ → List ℕ
 bracketed indent inner = spaces indent ++ codes "[\n" ++ inner ++ spaces indent ++ codes "]\n"
 
--- an array of so many dimensions around the first two, at an indent: a plane is its rows, aligned to its widest
--- number, and around it each dimension is a block of its members
+-- an array of so many dimensions around the first two, at an indent: a plane is its
+-- rows, aligned to its widest number, and around it each dimension is a block of its members
 abbrev pub block : List ℕ → ℕ → ℕ → List ℤ → List ℕ
-block ds zero indent es = bracketed indent (lines (indent + 1) (get_or ds 1 0) (length es / get_or ds 1 0) es)
-block ds (suc m) indent es = bracketed indent (flat_map (block ds m (indent + 1)) (pieces (get_or ds (m + 2) 0) (length es / get_or ds (m + 2) 0) es))
+block ds zero indent es = bracketed indent (lines (indent + 1) (get_or ds 1 0)
+    (length es / get_or ds 1 0) es)
+block ds (suc m) indent es =
+    bracketed indent (flat_map (block ds m (indent + 1))
+    (pieces (get_or ds (m + 2) 0) (length es / get_or ds (m + 2) 0) es))
 
 -- an array with elements, and not too many of them
 abbrev pub elements_text : List ℕ → List ℤ → List ℕ

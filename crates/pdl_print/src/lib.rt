@@ -12,7 +12,8 @@ use pdl_shape::Dims;
 
 /// Appends an array's text, which ends with a newline. After `NoMemory` the bytes are as before.
 pub fn write_array(elems: &Strided<'_>, into: &mut Vec<u8>) -> Result<(), NoMemory>
-    ensures ok { OnOk result (into.new.items ≡ into.old.items ++ array_text elems.now.dims elems.now.elems) }
+    ensures ok { OnOk result (into.new.items ≡ into.old.items
+        ++ array_text elems.now.dims elems.now.elems) }
     ensures err { OnErr result (into.new.items ≡ into.old.items) }
 {
     let mark = into.len();

@@ -103,7 +103,8 @@ fn push_rows(
     requires some { 0 < size }
     requires within { first + rows * size ≤ length elems.now.elems }
     requires small { first + rows * size < 2 ^ 32 }
-    ensures ok { OnOk result (into.new.items ≡ into.old.items ++ lines indent rows size (take (rows * size) (drop first elems.now.elems))) }
+    ensures ok { OnOk result (into.new.items ≡ into.old.items
+        ++ lines indent rows size (take (rows * size) (drop first elems.now.elems))) }
     ensures front { Begins into.old.items into.new.items }
 {
     let block = block_of(*into.allocator(), elems, first, rows * size)?;
@@ -128,7 +129,9 @@ fn push_plane(
     requires some { 0 < size }
     requires within { first + rows * size ≤ length elems.now.elems }
     requires small { first + rows * size < 2 ^ 32 }
-    ensures ok { OnOk result (into.new.items ≡ into.old.items ++ bracketed indent (lines (indent + 1) rows size (take (rows * size) (drop first elems.now.elems)))) }
+    ensures ok { OnOk result (into.new.items ≡ into.old.items
+        ++ bracketed indent (lines (indent + 1) rows size
+        (take (rows * size) (drop first elems.now.elems)))) }
     ensures front { Begins into.old.items into.new.items }
 {
     push_bracket(into, indent, b"[\n")?;
@@ -160,7 +163,8 @@ fn push_block(
     requires within { first + count ≤ length elems.now.elems }
     requires small { first + count < 2 ^ 32 }
     requires shallow { around + indent < 2 ^ 32 }
-    ensures ok { OnOk result (into.new.items ≡ into.old.items ++ block elems.now.dims around indent (take count (drop first elems.now.elems))) }
+    ensures ok { OnOk result (into.new.items ≡ into.old.items
+        ++ block elems.now.dims around indent (take count (drop first elems.now.elems))) }
     ensures front { Begins into.old.items into.new.items }
 {
     let members = members_of(elems, around);
@@ -209,7 +213,8 @@ fn push_sizes(into: &mut Vec<u8>, sizes: &[u32], byte: u8) -> Result<(), AllocEr
 
 /// Appends an array's text, with its last newline.
 pub fn push_array(into: &mut Vec<u8>, elems: &Strided<'_>) -> Result<(), AllocError>
-    ensures ok { OnOk result (into.new.items ≡ into.old.items ++ array_text elems.now.dims elems.now.elems) }
+    ensures ok { OnOk result (into.new.items ≡ into.old.items
+        ++ array_text elems.now.dims elems.now.elems) }
     ensures front { Begins into.old.items into.new.items }
 {
     let dims = strided_dims(elems);
@@ -230,7 +235,8 @@ pub fn push_array(into: &mut Vec<u8>, elems: &Strided<'_>) -> Result<(), AllocEr
 fn push_elements(into: &mut Vec<u8>, elems: &Strided<'_>, count: u32) -> Result<(), AllocError>
     requires count { count ≡ size_of elems.now.dims }
     requires some { 0 < count }
-    ensures ok { OnOk result (into.new.items ≡ into.old.items ++ elements_text elems.now.dims elems.now.elems) }
+    ensures ok { OnOk result (into.new.items ≡ into.old.items
+        ++ elements_text elems.now.dims elems.now.elems) }
     ensures front { Begins into.old.items into.new.items }
 {
     let sizes = dims_list(strided_dims(elems));

@@ -3,7 +3,8 @@ use Rattle.std.specs.Prelude.{◌≡◌, Option, Some, None, Result, Ok, Err}
 use Rattle.pdl_shape.specs.declared.sizes.ShapeFault.{ShapeFault}
 use Rattle.pdl_shape.specs.declared.sizes.ShapeFault.TheVariants.{Mismatch, TooManyDims, TooLarge}
 
--- Why there are no such dimensions or no such view. Where several hold, it is the one that stands first here.
+-- Why there are no such dimensions or no such view. Where several hold, it is the one
+-- that stands first here.
 pub data Refusal : Type 0 where
   bad_dimension : Refusal
   mismatch : Refusal

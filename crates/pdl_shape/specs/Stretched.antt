@@ -10,4 +10,5 @@ stretched_position sizes joined p = position_of sizes (cut_to sizes (coordinates
 
 -- the elements that it uses at each position of the joined dimensions, in broadcast order
 abbrev pub stretched : (sizes joined : List ℕ) → List ℤ → List ℤ
-stretched sizes joined es = map (λ p. get_or es (stretched_position sizes joined p) (pos 0)) (range_with_len 0 (size_of joined))
+stretched sizes joined es = map (λ p. get_or es (stretched_position sizes joined p) (pos 0))
+    (range_with_len 0 (size_of joined))

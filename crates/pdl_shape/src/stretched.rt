@@ -13,7 +13,8 @@ use smallvec::SmallVec;
 /// window's size is 1 or missing.
 fn stretched_increment(sizes: &[u32], incs: &[i32], dimension: usize) -> i32
     requires paired { length incs.now ≡ length sizes.now }
-    ensures { result ≡ (if slice_index_or sizes.now dimension 1 == 1 then pos 0 else slice_index_or incs.now dimension (pos 0)) }
+    ensures { result ≡ (if slice_index_or sizes.now dimension 1 == 1 then pos 0
+        else slice_index_or incs.now dimension (pos 0)) }
 {
     if size_or_one(sizes, dimension) == 1 {
         0
@@ -28,7 +29,8 @@ fn stretched_increment(sizes: &[u32], incs: &[i32], dimension: usize) -> i32
 pub fn stretched_triple(triple: &Triple, dims: &Dims) -> Triple
     requires { BroadcastsTo triple.now.dims dims.now }
     ensures dims { result.dims ≡ dims.now }
-    ensures shows { (cs : List ℕ) → IsWithin dims.now cs → place_of result cs ≡ place_of triple.now (cut_to triple.now.dims cs) }
+    ensures shows { (cs : List ℕ) → IsWithin dims.now cs →
+        place_of result cs ≡ place_of triple.now (cut_to triple.now.dims cs) }
     ensures reaches { (n : ℕ) → Reaches triple.now n → Reaches result n }
 {
     let joined = dims_list(dims);
