@@ -10,7 +10,7 @@ ghost use Rattle.pdl_world.specs.Paths.{root_of};
 ghost use Rattle.pdl_world.specs.Refused.{view_refusal};
 ghost use Rattle.pdl_world.specs.World.{root, view, dims_in, ty_in, assign};
 ghost use Rattle.pdl_world.specs.Sound.{IsLive, IsSound};
-ghost use Rattle.pdl_engine.specs.State.{ChangesFamily, IsReleased, count_at, one_more_at, written_back, no_arrays, is_fresh, IsLazy, IsLentAs, Joins, Names, OthersWait, TargetWaits, PathIsFresh, SameArrays, StayFresh, TargetIsFresh, outdated, shown_in, waiting, waiting_size};
+ghost use Rattle.pdl_engine.specs.State.{ChangesFamily, FamilyIsSettled, IsReleased, count_at, one_more_at, written_back, no_arrays, is_fresh, IsLazy, IsLentAs, Joins, Names, OthersWait, TargetWaits, PathIsFresh, SameArrays, StayFresh, TargetIsFresh, outdated, shown_in, waiting, waiting_size};
 
 use crate::layouts::layout;
 use pdl_affine::PlanFault;
@@ -195,7 +195,8 @@ impl Engine {
         ensures made { IfOk result (λ id. Joins self.old id (view parent trans) self.new) }
         ensures allowed { OnOk result (view_refusal self.old.world parent trans ≡ None) }
         ensures lent { IfOk result (λ id. IsLentAs self.old parent id self.new) }
-        ensures refused { IfErr result (λ fault. Names fault (view_refusal self.old.world parent trans)) }
+        ensures refused { IfErr result
+            (λ fault. Names fault (view_refusal self.old.world parent trans)) }
         ensures err { OnErr result (self.new ≡ self.old) }
         ensures sound { IsSound self.new.world }
     {
@@ -217,7 +218,8 @@ impl Engine {
         ensures itself { OnOk result (is_fresh self.new id ≡ true) }
         ensures settled { waiting self.new id ≡ None }
         ensures others { OthersWait self.old id self.new }
-        ensures counted { steps.new ≤ steps.old + (outdated self.old id + waiting_size self.old (waiting self.old id)) }
+        ensures counted { steps.new ≤ steps.old
+            + (outdated self.old id + waiting_size self.old (waiting self.old id)) }
     {
         self.nodes.ready(id, steps)
     }
@@ -233,7 +235,8 @@ impl Engine {
         ensures world { self.new.world ≡ assign self.old.world id values.now }
         ensures holds { self.new.holds ≡ self.old.holds }
         ensures next { self.new.next ≡ self.old.next }
-        ensures others { (u : ℕ) → (root_of self.old.world u ≡ root_of self.old.world id → ⊥) → is_fresh self.old u ≡ true → is_fresh self.new u ≡ true }
+        ensures others { (u : ℕ) → (root_of self.old.world u ≡ root_of self.old.world id → ⊥)
+            → is_fresh self.old u ≡ true → is_fresh self.new u ≡ true }
         ensures sound { IsSound self.new.world }
         ensures target { TargetIsFresh self.old id self.new }
         ensures waits { TargetWaits self.old id self.new }
@@ -251,13 +254,17 @@ impl Engine {
     }
 
     /// Cuts an array from its parent: it becomes a root with its elements, which can be lent, and its
-    /// own views stay with it. On a root it does nothing. Want of memory leaves the world, and what
-    /// could be lent. It takes at most the steps of `ready`, and one for each element.
+    /// own views stay with it. What waits in the family is written back first. On a root it does
+    /// nothing. Want of memory leaves the world, and what could be lent. It takes at most the steps of
+    /// `ready`, and one for each element.
     pub fn sever<L: Ledger>(&mut self, id: ArrayId, steps: &mut Steps<L>) -> Result<(), NoMemory>
         requires { IsLive self.old.world id }
+        ensures root { root_of self.old.world id ≡ id → self.new ≡ self.old }
+        ensures spent { root_of self.old.world id ≡ id → steps.new ≡ steps.old }
         ensures ok { OnOk result (self.new.world ≡ sever self.old.world id) }
         ensures err { OnErr result (self.new.world ≡ self.old.world) }
         ensures family { ChangesFamily self.old id self.new }
+        ensures settled { root_of self.old.world id ≢ id → FamilyIsSettled self.old id self.new }
         ensures stay { OnErr result (StayFresh self.old self.new) }
         ensures fresh { OnOk result (root_of self.old.world id ≢ id → is_fresh self.new id ≡ true) }
         ensures counted { steps.new ≤ steps.old
@@ -269,9 +276,9 @@ impl Engine {
     }
 
     /// Gives an array that has no views other dimensions: it becomes a root of its first elements, in
-    /// order, with zeros after them where there are fewer, and can be lent. Want of memory leaves the
-    /// world, and what could be lent. It takes at most the steps of `ready`, and one for each new
-    /// element.
+    /// order, with zeros after them where there are fewer, and can be lent. What waits in the family is
+    /// written back first. Want of memory leaves the world, and what could be lent. It takes at most the
+    /// steps of `ready`, and one for each new element.
     pub fn reshape<L: Ledger>(
         &mut self,
         id: ArrayId,
@@ -283,6 +290,7 @@ impl Engine {
         ensures ok { OnOk result (self.new.world ≡ reshape self.old.world id dims.now) }
         ensures err { OnErr result (self.new.world ≡ self.old.world) }
         ensures family { ChangesFamily self.old id self.new }
+        ensures settled { FamilyIsSettled self.old id self.new }
         ensures stay { OnErr result (StayFresh self.old self.new) }
         ensures fresh { OnOk result (is_fresh self.new id ≡ true) }
         ensures counted { steps.new ≤ steps.old

@@ -26,10 +26,14 @@ fn windows(
     edge: Edge,
 ) -> Result<Choice, ViewFault>
     requires { length ind.now ≡ size_of dims.now }
-    ensures dims { IfOk result (λ c. range_dims parent.now dims.now ind.now sizes.now edge ≡ Ok c.dims) }
-    ensures places { IfOk result (λ c. c.places ≡ places_of c.dims parent.now (range_source parent.now dims.now ind.now sizes.now edge)) }
+    ensures dims { IfOk result
+        (λ c. range_dims parent.now dims.now ind.now sizes.now edge ≡ Ok c.dims) }
+    ensures places { IfOk result (λ c. c.places
+        ≡ places_of c.dims parent.now
+        (range_source parent.now dims.now ind.now sizes.now edge)) }
     ensures inside { IfOk result (λ c. AllBelow (size_of parent.now) c.places) }
-    ensures refused { IfErr result (λ f. Names f (refusal_at [] (range_dims parent.now dims.now ind.now sizes.now edge))) }
+    ensures refused { IfErr result
+        (λ f. Names f (refusal_at [] (range_dims parent.now dims.now ind.now sizes.now edge))) }
 {
     Ok(range(alloc, parent, dims, ind, sizes, edge)?)
 }
@@ -39,7 +43,8 @@ pub fn layout(alloc: Global, trans: &Trans, parent: &Dims) -> Result<Layout, Vie
     requires { IsTrue (is_well_formed trans.now) }
     ensures layout { IfOk result (IsLayout trans.now parent.now) }
     ensures dims { OnOk result (IsOk (child_dims trans.now parent.now)) }
-    ensures refused { IfErr result (λ f. Names f (refusal_at [] (child_dims trans.now parent.now))) }
+    ensures refused { IfErr result
+        (λ f. Names f (refusal_at [] (child_dims trans.now parent.now))) }
 {
     match trans {
         Trans::Affine(trans) => Ok(Layout::Plan(plan(alloc, trans, parent)?)),

@@ -59,21 +59,25 @@ alike_trans a b c x y = record {
 pub alike_same : (a : Rows) → IsAlike a a
 alike_same a = record { numbers_are = refl; has_is = λ v. refl; shape_is = refl; origin_is = λ v. refl; root_is = λ v. refl; base_is = λ v. refl; ty_is = λ v. refl; parent_is = λ v. refl; triple_is = λ v. refl }
 
--- what is known stays known where no places and repeats change, and no other view is marked
+-- what is known stays known where no places and repeats change, no other view is marked, and only bases keep other
+-- elements
 pub known_each : (f : ℕ → Row → Row) (rs : Rows) → IsQuiet f → ((k : ℕ) (r : Row) → (f k r).places ≡ r.places) → ((k : ℕ) (r : Row) → (f k r).repeats ≡ r.repeats)
-    → ((k : ℕ) → ((row_at rs k).root ≡ k → ⊥) → (f k (row_at rs k)).mark ≡ true → (row_at rs k).mark ≡ true) → AreKnown rs → AreKnown (each f rs)
-known_each f rs q p e m a v h =
+    → ((k : ℕ) → ((row_at rs k).root ≡ k → ⊥) → (f k (row_at rs k)).mark ≡ true → (row_at rs k).mark ≡ true)
+    → ((k : ℕ) → ((row_at rs k).base ≡ k → ⊥) → (f k (row_at rs k)).kept ≡ (row_at rs k).kept) → AreKnown rs → AreKnown (each f rs)
+known_each f rs q p e m w a v h =
     let l : has rs v ≡ true = sym (each_has f rs v) ∙ h in
     let row : row_at (each f rs) v ≡ f v (row_at rs v) = each_at f rs v l in
     let x : IsKnown rs v = a v l in
     let ps_is : (row_at (each f rs) v).places ≡ (row_at rs v).places = ap (λ r. r.places) row ∙ p v (row_at rs v) in
     let rp_is : (row_at (each f rs) v).repeats ≡ (row_at rs v).repeats = ap (λ r. r.repeats) row ∙ e v (row_at rs v) in
     let rt_is : (row_at (each f rs) v).root ≡ (row_at rs v).root = root_each f rs v q in
+    let b_is : (row_at (each f rs) v).base ≡ (row_at rs v).base = field_each (λ r. r.base) f rs v q.base in
     record {
       places = λ ps g. x.places ps (sym ps_is ∙ g) ∙ sym (places_each f rs v q);
       repeats = λ ps g. rp_is ∙ x.repeats ps (sym ps_is ∙ g);
       found = λ k n. ap is_some ps_is ∙ x.found (m v (λ y. n (rt_is ∙ y)) (ap (λ r. r.mark) (sym row) ∙ k)) (λ y. n (rt_is ∙ y));
       unlisted = λ ps g y. x.unlisted ps (sym ps_is ∙ g) (sym rt_is ∙ y);
+      bare = λ n. ap (λ r. r.kept) row ∙ w v (λ y. n (b_is ∙ y)) ∙ x.bare (λ y. n (b_is ∙ y));
     }
 
 -- the marks of the family of a root where b alone is marked
@@ -90,6 +94,14 @@ pub root_live : (rs : Rows) (rt v : ℕ) → IsStill rs → has rs v ≡ true �
 root_live rs rt v s h e =
     let a : IsSeen rs v = is_seen rs s v h in
     (ap (has rs) (sym e) ∙ a.root_has, ap (λ x. (row_at rs x).root) (sym e) ∙ a.root_root ∙ e)
+
+-- a root is its own base, so no other view keeps what is put into it
+pub root_own : (rs : Rows) (rt : ℕ) → IsStill rs → IsRoot rs rt → (row_at rs rt).base ≡ rt
+root_own rs rt s i = ap (λ x. (row_at rs x).base) (sym i.1) ∙ (is_seen rs s rt i.0).root_base ∙ i.1
+
+pub kept_by : (rs : Rows) (b k : ℕ) (ks : List ℤ) → (row_at rs b).base ≡ b → ((row_at rs k).base ≡ k → ⊥)
+    → cond (eqb k b) ks (row_at rs k).kept ≡ (row_at rs k).kept
+kept_by rs b k ks own n = ap (λ x. cond x ks (row_at rs k).kept) (differ k b (λ e. n (ap (λ x. (row_at rs x).base) e ∙ own ∙ sym e)))
 
 pub base_live : (rs : Rows) (b v : ℕ) → IsStill rs → has rs v ≡ true → (row_at rs v).base ≡ b → has rs b ≡ true
 base_live rs b v s h e = ap (has rs) (sym e) ∙ (is_seen rs s v h).base_has
@@ -111,7 +123,8 @@ assigned_root rs new rt v vs o a h e t n =
     record {
       order = subst (λ (x : Rows). InOrder x) (sym n) (rooted rs rt v vs o i);
       known = subst (λ (x : Rows). AreKnown x) (sym n) (known_each (settle rt es rt false) rs (settle_quiet rt es rt false) (λ k r. refl) (λ k r. refl)
-          (λ k y m. marks_only (eqb (row_at rs k).root rt) (eqb k rt) (eqb k rt) (row_at rs k).mark m (λ p q. absurd (y (eqb-true (row_at rs k).root rt p ∙ sym (eqb-true k rt q))))) a);
+          (λ k y m. marks_only (eqb (row_at rs k).root rt) (eqb k rt) (eqb k rt) (row_at rs k).mark m (λ p q. absurd (y (eqb-true (row_at rs k).root rt p ∙ sym (eqb-true k rt q)))))
+          (λ k y. kept_by rs rt k es (root_own rs rt o.still i) y) a);
       world = ap world_of n ∙ world_rooted rs rt v vs o i h e;
       alike = subst (λ (x : Rows). IsAlike rs x) (sym n) (is_alike (settle rt es rt false) rs (settle_quiet rt es rt false));
       marks = target_marks rs new (settle rt es rt false) rt rt v e t n (λ k r. refl);
@@ -120,10 +133,12 @@ assigned_root rs new rt v vs o a h e t n =
 pub assigned_base : (rs new : Rows) (rt b v : ℕ) (vs : List ℤ) → IsThrough rs rt b v → AreKnown rs → (b ≡ rt → ⊥) → target rs v ≡ b → new ≡ each (await rt b (put_through rs v vs)) rs → IsAssigned rs v vs new
 assigned_base rs new rt b v vs t a d g n =
     let ks : List ℤ = put_through rs v vs in
+    let own : (row_at rs b).base ≡ b = ap (λ x. (row_at rs x).base) (sym t.base_is) ∙ (is_seen rs t.order.still v t.live).base_base ∙ t.base_is in
     record {
       order = subst (λ (x : Rows). InOrder x) (sym n) (awaited rs rt b v vs t d);
       known = subst (λ (x : Rows). AreKnown x) (sym n) (known_each (await rt b ks) rs (await_quiet rt b ks) (λ k r. refl) (λ k r. refl)
-          (λ k y m. marks_only (eqb (row_at rs k).root rt) (eqb k b) (eqb k rt) (row_at rs k).mark m (λ p q. ap (λ x. (row_at rs x).mark) (eqb-true k b q) ∙ t.marked)) a);
+          (λ k y m. marks_only (eqb (row_at rs k).root rt) (eqb k b) (eqb k rt) (row_at rs k).mark m (λ p q. ap (λ x. (row_at rs x).mark) (eqb-true k b q) ∙ t.marked))
+          (λ k y. kept_by rs b k ks own y) a);
       world = ap world_of n ∙ world_awaited rs rt b v vs t d;
       alike = subst (λ (x : Rows). IsAlike rs x) (sym n) (is_alike (await rt b ks) rs (await_quiet rt b ks));
       marks = target_marks rs new (await rt b ks) rt b v t.root_is g n (λ k r. refl);

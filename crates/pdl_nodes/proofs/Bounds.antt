@@ -23,7 +23,7 @@ use Rattle.pdl_nodes.specs.Outcomes.{waiting_of}
 use Rattle.pdl_nodes.specs.Outcomes.{outdated_at as rows_outdated_at}
 use Rattle.pdl_nodes.specs.Outcomes.{outdated as rows_outdated}
 use Rattle.pdl_nodes.specs.Outcomes.{waiting_size as rows_waiting_size}
-use Rattle.pdl_nodes.specs.State.{State, base_in, outdated_at, outdated, waiting_at, waiting, waiting_size, target, PathIsFresh, TargetIsFresh}
+use Rattle.pdl_nodes.specs.State.{State, base, outdated_at, outdated, waiting_at, waiting, waiting_size, target, PathIsFresh, TargetIsFresh}
 use Rattle.pdl_nodes.specs.Still.{IsStill}
 use Rattle.pdl_nodes.specs.Worlds.{shape, places_in, places_of, latest, world_of, with_elements}
 use Rattle.pdl_nodes.proofs.Alikes.{base_live}
@@ -39,7 +39,7 @@ window_with f [] v = refl
 window_with f ((k, root ty ds es) ∷ w) v = ap (λ o. cond (eqb k v) (Some (record { base = k; triple = whole ds })) o) (window_with f w v)
 window_with f ((k, view p t) ∷ w) v = ap (λ o. cond (eqb k v) (option_and_then (narrowed k t) o) o) (window_with f w (cond (eqb k v) p v))
 
-pub base_are : (rs : Rows) (v : ℕ) → IsStill rs → has rs v ≡ true → base_in (world_of rs) v ≡ (row_at rs v).base
+pub base_are : (rs : Rows) (v : ℕ) → IsStill rs → has rs v ≡ true → base (world_of rs) v ≡ (row_at rs v).base
 base_are rs v s h = ap (λ o. option_map_or (λ (x : Window). x.base) o v) (window_with (latest rs) (shape rs) v ∙ (is_seen rs s v h).windows)
 
 pub places_are : (rs : Rows) (v : ℕ) → places_in (world_of rs) v ≡ places_of rs v
@@ -142,5 +142,5 @@ no_sum (x ∷ xs) =
 
 pub none_outdated : (s : State) (v : ℕ) → PathIsFresh s v → outdated s v ≡ 0
 none_outdated s v h =
-    sum_same (outdated_at s) (λ x. 0) (path s.world v) (λ k d l. no_cost ((eqb (base_in s.world (get_or (path s.world v) k d)) (get_or (path s.world v) k d)) && not (eqb (root_of s.world (get_or (path s.world v) k d)) (get_or (path s.world v) k d))) (holds s.fresh (get_or (path s.world v) k d)) (size_of (dims_in s.world (get_or (path s.world v) k d))) (h k d l))
+    sum_same (outdated_at s) (λ x. 0) (path s.world v) (λ k d l. no_cost ((eqb (base s.world (get_or (path s.world v) k d)) (get_or (path s.world v) k d)) && not (eqb (root_of s.world (get_or (path s.world v) k d)) (get_or (path s.world v) k d))) (holds s.fresh (get_or (path s.world v) k d)) (size_of (dims_in s.world (get_or (path s.world v) k d))) (h k d l))
     ∙ no_sum (path s.world v)

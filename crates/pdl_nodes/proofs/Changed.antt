@@ -7,15 +7,14 @@ use Rattle.pdl_world.specs.CutLaws.{CutsSoundly, ReshapesSoundly}
 use Rattle.pdl_world.specs.Paths.{root_of}
 use Rattle.pdl_world.specs.Sound.{IsSound}
 use Rattle.pdl_nodes.specs.Alike.{is_fresh_in}
-use Rattle.pdl_nodes.specs.Held.{ChangesFamily}
+use Rattle.pdl_nodes.specs.Held.{ChangesFamily, FamilyIsSettled}
 use Rattle.pdl_nodes.specs.Holds.{Counts}
 use Rattle.pdl_nodes.specs.Nodes.{IsNodes, state_of}
 use Rattle.pdl_nodes.specs.Outcomes.{waiting_of}
 use Rattle.pdl_nodes.specs.Outcomes.{outdated as rows_outdated}
 use Rattle.pdl_nodes.specs.Outcomes.{waiting_size as rows_waiting_size}
 use Rattle.pdl_nodes.specs.Rows.{Rows, row_at, has, NumbersBelow}
-use Rattle.pdl_nodes.specs.Severed.{IsSevered}
-use Rattle.pdl_nodes.specs.Severed.{StayFresh as RowsStayFresh}
+use Rattle.pdl_nodes.specs.Severed.{ChangesRows, RowsAreSettled, RowsStayFresh}
 use Rattle.pdl_nodes.specs.State.{StayFresh, is_fresh, outdated, waiting, waiting_size}
 use Rattle.pdl_nodes.specs.Worlds.{world_of}
 use Rattle.pdl_nodes.proofs.Bounds.{outdated_is, waiting_is, size_is}
@@ -25,7 +24,7 @@ use Rattle.pdl_nodes.proofs.Growing.{below_alike}
 use Rattle.pdl_nodes.proofs.Stating.{fresh_is, fresh_keeps, holds_alike, live_has, root_are}
 
 -- the table stays one
-pub changed_nodes : (old new : Rows) (hs : Counts) (n v : ℕ) → IsNodes old hs n → IsSevered old v new → IsSound (world_of new) → IsNodes new hs n
+pub changed_nodes : (old new : Rows) (hs : Counts) (n v : ℕ) → IsNodes old hs n → ChangesRows old v new → IsSound (world_of new) → IsNodes new hs n
 changed_nodes old new hs n v i s w = record {
   order = s.order;
   known = s.known;
@@ -41,21 +40,30 @@ pub below_most : (rs : Rows) (n : ℕ) → n < 18446744073709551616 → NumbersB
 below_most rs n l b = below_more rs n 18446744073709551615 (omega arith) b
 
 -- other families stay
-pub changed_state : (old new : Rows) (hs : Counts) (n v : ℕ) → IsNodes old hs n → has old v ≡ true → IsSevered old v new → ChangesFamily (state_of old hs n) v (state_of new hs n)
+pub changed_state : (old new : Rows) (hs : Counts) (n v : ℕ) → IsNodes old hs n → has old v ≡ true → ChangesRows old v new → ChangesFamily (state_of old hs n) v (state_of new hs n)
 changed_state old new hs n v i l s = record {
   holds = holds_alike old new hs s.numbers_are;
   next = refl;
   others = λ u e d f. (let h : has old u ≡ true = live_has old u e in
       let apart : (row_at old u).root ≢ (row_at old v).root = λ q. d (root_are old u i.order.still h ∙ q ∙ sym (root_are old v i.order.still l)) in
       fresh_is new u s.order.still (s.has_is u ∙ h) ∙ s.fresh u h apart (sym (fresh_is old u i.order.still h) ∙ f));
+  waits = λ u e d. (let h : has old u ≡ true = live_has old u e in
+      let apart : (row_at old u).root ≢ (row_at old v).root = λ q. d (root_are old u i.order.still h ∙ q ∙ sym (root_are old v i.order.still l)) in
+      waiting_is new hs n u s.order.still (s.has_is u ∙ h) ∙ s.waits u h apart ∙ sym (waiting_is old hs n u i.order.still h));
 }
 
+-- nothing waits where its family is now
+pub changed_settled : (old new : Rows) (hs : Counts) (n v : ℕ) → IsNodes old hs n → has old v ≡ true → ChangesRows old v new → RowsAreSettled old v new → FamilyIsSettled (state_of old hs n) v (state_of new hs n)
+changed_settled old new hs n v i l s w = λ u e q.
+    let h : has old u ≡ true = live_has old u e in
+    waiting_is new hs n u s.order.still (s.has_is u ∙ h) ∙ w u h (sym (root_are old u i.order.still h) ∙ q ∙ root_are old v i.order.still l)
+
 -- what could be lent
-pub refused_fresh : (old new : Rows) (hs : Counts) (n v : ℕ) → IsNodes old hs n → IsSevered old v new → RowsStayFresh old new → StayFresh (state_of old hs n) (state_of new hs n)
+pub refused_fresh : (old new : Rows) (hs : Counts) (n v : ℕ) → IsNodes old hs n → ChangesRows old v new → RowsStayFresh old new → StayFresh (state_of old hs n) (state_of new hs n)
 refused_fresh old new hs n v i s f = fresh_keeps old new i.order.still s.order.still (λ u h. s.has_is u ∙ h) f
 
 -- the new root
-pub root_fresh : (old new : Rows) (hs : Counts) (n v : ℕ) → IsNodes old hs n → has old v ≡ true → IsSevered old v new → ((row_at old v).root ≢ v → is_fresh_in new v ≡ true)
+pub root_fresh : (old new : Rows) (hs : Counts) (n v : ℕ) → IsNodes old hs n → has old v ≡ true → ChangesRows old v new → ((row_at old v).root ≢ v → is_fresh_in new v ≡ true)
     → root_of (world_of old) v ≢ v → is_fresh (state_of new hs n) v ≡ true
 root_fresh old new hs n v i h s f d = fresh_is new v s.order.still (s.has_is v ∙ h) ∙ f (λ q. d (root_are old v i.order.still h ∙ q))
 
@@ -79,7 +87,7 @@ pub reshaped_sound : {A E : Type 0} → ReshapesSoundly → (old new : Rows) (v 
 reshaped_sound laws old new v ds (Ok a) s n d f g = subst IsSound (sym f) (laws (world_of old) v ds s n d)
 reshaped_sound laws old new v ds (Err e) s n d f g = subst IsSound (sym g) s
 
-pub reshaped_lent : (old new : Rows) (hs : Counts) (n v : ℕ) → has old v ≡ true → IsSevered old v new → is_fresh_in new v ≡ true → is_fresh (state_of new hs n) v ≡ true
+pub reshaped_lent : (old new : Rows) (hs : Counts) (n v : ℕ) → has old v ≡ true → ChangesRows old v new → is_fresh_in new v ≡ true → is_fresh (state_of new hs n) v ≡ true
 reshaped_lent old new hs n v h s f = fresh_is new v s.order.still (s.has_is v ∙ h) ∙ f
 
 -- what is so on an Err

@@ -17,9 +17,10 @@ use Rattle.pdl_nodes.specs.declared.origin.Layout.{Layout}
 use Rattle.pdl_nodes.specs.declared.origin.Origin.{Origin}
 use Rattle.pdl_nodes.specs.declared.origin.Origin.TheVariants.{Root, View}
 use Rattle.pdl_nodes.specs.Cut.{view_under, derive, cut, CanCut}
-use Rattle.pdl_nodes.specs.CutLaws.{CuttingSevers, CuttingLeavesFamilies, CutsStayKnown, CutsStaySized}
+use Rattle.pdl_nodes.specs.CutLaws.{CuttingSevers, CuttingLeavesFamilies, CutsStaySettled, CutsStayKnown, CutsStaySized}
 use Rattle.pdl_nodes.specs.Families.{has_repeats, IsMarked, IsWaiting, InFamily, InOrder}
 use Rattle.pdl_nodes.specs.Known.{IsKnown}
+use Rattle.pdl_nodes.specs.Outcomes.{waiting_of}
 use Rattle.pdl_nodes.specs.Row.{root_row, Row}
 use Rattle.pdl_nodes.specs.Rows.{Rows, row_at, has, NumbersBelow}
 use Rattle.pdl_nodes.specs.Still.{base_over, triple_over, IsDerived, StillFrom, IsStill}
@@ -35,7 +36,7 @@ use Rattle.pdl_nodes.proofs.Shapes.{marked_live}
 use Rattle.pdl_nodes.proofs.WorldLemmas.{look_with}
 
 -- an array is as it was, and not in the family of the new root; or it is in that, and then it is that root or isn't
--- marked, and its places aren't known
+-- marked, its places aren't known, and it keeps nothing
 pub record IsUntouched (rs : Rows) (v : ℕ) (ds : List ℕ) (es : List ℤ) (u : ℕ) : Type 0 where
   pub row : row_at (cut rs v ds es) u ≡ row_at rs u
   pub places : places_of (cut rs v ds es) u ≡ places_of rs u
@@ -45,6 +46,7 @@ pub record IsMoved (rs : Rows) (v : ℕ) (ds : List ℕ) (es : List ℤ) (rt u :
   pub root_is : (row_at (cut rs v ds es) u).root ≡ v
   pub unmarked : (u ≡ v) ⊎ ((row_at (cut rs v ds es) u).mark ≡ false)
   pub unlisted : (row_at (cut rs v ds es) u).places ≡ None
+  pub bare : ((row_at (cut rs v ds es) u).base ≡ u → ⊥) → (row_at (cut rs v ds es) u).kept ≡ []
   pub was : (row_at rs u).root ≡ rt
 
 abbrev pub After : Rows → ℕ → List ℕ → List ℤ → ℕ → ℕ → Type 0
@@ -61,10 +63,13 @@ same_mark : (r : Row) (k : ℕ) (a : Row) (o : Option Triple) → r.root ≡ a.r
 same_mark r k a o er eb et =
     let m : cond (eqb a.root r.root) r.mark false ≡ r.mark = rw (same a.root r.root (sym er)) refl in
     let p : cond (eqb a.root r.root) r.places None ≡ r.places = rw (same a.root r.root (sym er)) refl in
-    ap (λ (x : ℕ). record r { root = x; base = base_over k a.base o; triple = triple_over r.triple.dims o; mark = cond (eqb a.root r.root) r.mark false; places = cond (eqb a.root r.root) r.places None }) (sym er)
-    ∙ ap (λ (x : ℕ). record r { base = x; triple = triple_over r.triple.dims o; mark = cond (eqb a.root r.root) r.mark false; places = cond (eqb a.root r.root) r.places None }) (sym eb)
-    ∙ ap (λ (x : Triple). record r { triple = x; mark = cond (eqb a.root r.root) r.mark false; places = cond (eqb a.root r.root) r.places None }) (sym et)
-    ∙ ap (λ (x : Bool). record r { mark = x; places = cond (eqb a.root r.root) r.places None }) m
+    let n : cond (eqb a.root r.root) r.kept [] ≡ r.kept = rw (same a.root r.root (sym er)) refl in
+    let under : ℕ → ℕ → Triple → List ℤ → Bool → Option (List (Option ℕ)) → Row = λ x b u ks y ps. record r { root = x; base = b; triple = u; kept = ks; mark = y; places = ps } in
+    ap (λ x. under x (base_over k a.base o) (triple_over r.triple.dims o) (cond (eqb a.root r.root) r.kept []) (cond (eqb a.root r.root) r.mark false) (cond (eqb a.root r.root) r.places None)) (sym er)
+    ∙ ap (λ b. under r.root b (triple_over r.triple.dims o) (cond (eqb a.root r.root) r.kept []) (cond (eqb a.root r.root) r.mark false) (cond (eqb a.root r.root) r.places None)) (sym eb)
+    ∙ ap (λ u. under r.root r.base u (cond (eqb a.root r.root) r.kept []) (cond (eqb a.root r.root) r.mark false) (cond (eqb a.root r.root) r.places None)) (sym et)
+    ∙ ap (λ ks. under r.root r.base r.triple ks (cond (eqb a.root r.root) r.mark false) (cond (eqb a.root r.root) r.places None)) n
+    ∙ ap (λ y. under r.root r.base r.triple r.kept y (cond (eqb a.root r.root) r.places None)) m
     ∙ ap (λ x. record r { places = x }) p
 
 pub same_row : (tail rs : Rows) (k : ℕ) (r : Row) (p : ℕ) (t : Trans) (y : Layout) → row_at tail p ≡ row_at rs p → IsDerived k (row_at rs p) r t y → view_under k (row_at tail p).root (row_at tail p).base r (over t (row_at tail p).triple) ≡ r
@@ -95,6 +100,7 @@ head_view laws rs v ds es rt k r p t y c b e s nk (inr a) =
       root_is = ap (λ z. z.root) x ∙ a.root_is;
       unmarked = inr (ap (λ z. z.mark) x ∙ rw (differ (row_at (cut rs v ds es) p).root r.root ne) refl);
       unlisted = ap (λ z. z.places) x ∙ rw (differ (row_at (cut rs v ds es) p).root r.root ne) refl;
+      bare = λ n. ap (λ z. z.kept) x ∙ rw (differ (row_at (cut rs v ds es) p).root r.root ne) refl;
       was = rw (same k k refl) w;
     })
 
@@ -123,6 +129,7 @@ tail_from rs v ds es rt k u r n (inr a) = inr (record {
   root_is = rw (differ k u n) a.root_is;
   unmarked = rw (differ k u n) a.unmarked;
   unlisted = rw (differ k u n) a.unlisted;
+  bare = rw (differ k u n) a.bare;
   was = rw (differ k u n) a.was;
 })
 
@@ -136,6 +143,7 @@ after laws ((k, r) ∷ rs) v ds es rt c u h = elim (eqb_tells k u) [
           root_is = rw (t.0, same k v y) y;
           unmarked = inl (sym t.1 ∙ y);
           unlisted = rw (t.0, same k v y) refl;
+          bare = rw (t.0, same k v y) (λ n. absurd (n t.1));
           was = rw t.0 w;
         }))
     | inr y ↦ (let P : ℕ → Type 0 = λ x. After ((k, r) ∷ rs) v ds es rt x in
@@ -328,6 +336,33 @@ others_by rs v ds es rt u n (inr a) = absurd (n a.was)
 pub leaves_families : CutLaws → CuttingLeavesFamilies
 leaves_families laws = λ rs v ds es c u h n. others_by rs v ds es (row_at rs v).root u n (after laws rs v ds es (row_at rs v).root (is_cut rs v ds es c) u h)
 
+-- what waits
+derive_waiting : (rs : Rows) (k : ℕ) (r : Row) (o : Origin) → (derive rs k r o).waiting ≡ r.waiting
+derive_waiting rs k r Root = refl
+derive_waiting rs k r (View p t y) = refl
+
+cut_waiting : (rs : Rows) (v : ℕ) (ds : List ℕ) (es : List ℤ) (u : ℕ) → (u ≡ v → ⊥)
+    → (row_at (cut rs v ds es) u).waiting ≡ (row_at rs u).waiting
+cut_waiting [] v ds es u n = refl
+cut_waiting ((k, r) ∷ rs) v ds es u n = elim (eqb_tells k u) [
+  | inl t ↦ rw (t.0, differ k v (λ e. n (sym t.1 ∙ e))) (derive_waiting (cut rs v ds es) k r r.origin)
+  | inr t ↦ rw t.0 (cut_waiting rs v ds es u n)
+]
+
+settled_by : (rs : Rows) (v : ℕ) (ds : List ℕ) (es : List ℤ) (rt u : ℕ) → has rs v ≡ true → (rt ≡ v → ⊥)
+    → (row_at rs rt).waiting ≡ None → (row_at rs u).root ≡ rt → After rs v ds es rt u
+    → waiting_of (cut rs v ds es) u ≡ None
+settled_by rs v ds es rt u h n w e (inl a) =
+    ap (λ (x : Row). (row_at (cut rs v ds es) x.root).waiting) a.row ∙ ap (λ x. (row_at (cut rs v ds es) x).waiting) e
+    ∙ cut_waiting rs v ds es rt n ∙ w
+settled_by rs v ds es rt u h n w e (inr a) =
+    ap (λ x. (row_at (cut rs v ds es) x).waiting) a.root_is ∙ ap (λ x. x.waiting) (cut_row rs v ds es h)
+
+pub stays_settled : CutLaws → CutsStaySettled
+stays_settled laws = λ rs v ds es c u h e.
+    settled_by rs v ds es (row_at rs v).root u c.live c.not_root c.nothing e
+    (after laws rs v ds es (row_at rs v).root (is_cut rs v ds es c) u h)
+
 -- what is known of places
 known_by : (rs : Rows) (v : ℕ) (ds : List ℕ) (es : List ℤ) (rt u : ℕ) → IsKnown rs u → After rs v ds es rt u → IsKnown (cut rs v ds es) u
 known_by rs v ds es rt u k (inl a) = record {
@@ -335,6 +370,7 @@ known_by rs v ds es rt u k (inl a) = record {
   repeats = λ ps e. ap (λ x. x.repeats) a.row ∙ k.repeats ps (ap (λ x. x.places) (sym a.row) ∙ e);
   found = λ m n. ap (λ x. is_some x.places) a.row ∙ k.found (ap (λ x. x.mark) (sym a.row) ∙ m) (λ e. n (ap (λ x. x.root) a.row ∙ e));
   unlisted = λ ps e r. k.unlisted ps (ap (λ x. x.places) (sym a.row) ∙ e) (ap (λ x. x.root) (sym a.row) ∙ r);
+  bare = λ n. ap (λ x. x.kept) a.row ∙ k.bare (λ e. n (ap (λ x. x.base) a.row ∙ e));
 }
 known_by rs v ds es rt u k (inr a) = record {
   places = λ ps e. (let z : None ≡ Some ps = sym a.unlisted ∙ e in absurd (cc));
@@ -344,6 +380,7 @@ known_by rs v ds es rt u k (inr a) = record {
     | inr e ↦ (let z : false ≡ true = sym e ∙ m in absurd (cc))
   ];
   unlisted = λ ps e r. (let z : None ≡ Some ps = sym a.unlisted ∙ e in absurd (cc));
+  bare = a.bare;
 }
 
 pub stays_known : CutLaws → CutsStayKnown

@@ -91,6 +91,7 @@ known_fill rs rt b ks f o t nb a ef w v h =
             places = λ ps g. w.is ps (sym P ∙ g) ∙ ap (places_of rs) (sym t2.1) ∙ sym pl;
             repeats = λ ps g. R ∙ ef ∙ ap has_repeats (sym (w.is ps (sym P ∙ g)));
             found = λ m n. ap is_some P ∙ w.some;
+            bare = λ n. absurd (n (ap (λ r. r.base) row ∙ ap (λ x. (row_at rs x).base) t2.1 ∙ t.own ∙ sym t2.1));
             unlisted = λ ps g y. nb (sym t2.1 ∙ sym y ∙ rt_is ∙ ap (λ x. (row_at rs x).root) t2.1 ∙ t.root_is);
           })
       | inr t2 ↦ (let x : IsKnown rs v = a v l in
@@ -100,6 +101,7 @@ known_fill rs rt b ks f o t nb a ef w v h =
             repeats = λ ps g. ap (λ r. r.repeats) e ∙ x.repeats ps (ap (λ r. r.places) (sym e) ∙ g);
             found = λ m n. ap (λ r. is_some r.places) e ∙ x.found (ap (λ r. r.mark) (sym e) ∙ m) (λ y. n (ap (λ r. r.root) e ∙ y));
             unlisted = λ ps g y. x.unlisted ps (ap (λ r. r.places) (sym e) ∙ g) (ap (λ r. r.root) (sym e) ∙ y);
+            bare = λ n. ap (λ r. r.kept) e ∙ x.bare (λ y. n (ap (λ r. r.base) e ∙ y));
           })
     ]
 

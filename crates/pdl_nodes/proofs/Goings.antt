@@ -8,7 +8,7 @@ use Rattle.pdl_nodes.specs.declared.origin.Origin.{Origin}
 use Rattle.pdl_nodes.specs.declared.origin.Origin.TheVariants.{Root, View}
 use Rattle.pdl_nodes.specs.Alike.{numbers, IsAlike}
 use Rattle.pdl_nodes.specs.Families.{InOrder}
-use Rattle.pdl_nodes.specs.Going.{goes_from, going_at, going_size, going_sum, IsSettledAt}
+use Rattle.pdl_nodes.specs.Going.{goes_from, going_at, going_size, going_sum, IsSettledAt, LeavesWaiting}
 use Rattle.pdl_nodes.specs.Known.{AreKnown}
 use Rattle.pdl_nodes.specs.Late.{settle}
 use Rattle.pdl_nodes.specs.Outcomes.{IsReady, waiting_size}
@@ -16,6 +16,7 @@ use Rattle.pdl_nodes.specs.Released.{KeepsWaiting}
 use Rattle.pdl_nodes.specs.Row.{Row}
 use Rattle.pdl_nodes.specs.Rows.{Rows, row_at, has, each, Falls, below, newest}
 use Rattle.pdl_nodes.specs.Sized.{IsLayout, LaidFrom, AreSized}
+use Rattle.pdl_nodes.specs.Staying.{stays_from}
 use Rattle.pdl_nodes.specs.Worlds.{latest, IsRoot}
 use Rattle.pdl_nodes.proofs.Alikes.{alike_trans, field_each}
 use Rattle.pdl_nodes.proofs.FamilyLemmas.{IsQuiet, still_falls}
@@ -58,6 +59,19 @@ going_root rs t r v h e = (h, (is_going rs t r v e).root)
 pub going_waits : (rs : Rows) (t : ℕ → Bool) (r v : ℕ) → going_at rs t r ≡ Some v → (row_at rs r).waiting ≡ Some v
 going_waits rs t r v e = (is_going rs t r v e).waits
 
+going_gone : (rs : Rows) (t : ℕ → Bool) (r v : ℕ) → going_at rs t r ≡ Some v → t v ≡ false
+going_gone rs t r v e = (is_going rs t r v e).gone
+
+stays_by : (t : ℕ → Bool) (rs : Rows) (r v : ℕ) → IsRoot rs r → t r ≡ true → (row_at rs r).waiting ≡ Some v → going_at rs t r ≡ None → t v ≡ true
+stays_by t rs r v i h w n = elim (cases_Bool (t v)) [
+  | inl y ↦ y
+  | inr m ↦ (let z : Some v ≡ None = rw (same (row_at rs r).root r i.1, h, w, m) at n in absurd (cc))
+]
+
+stays_all : (t : ℕ → Bool) (o : Option ℕ) → ((v : ℕ) → o ≡ Some v → t v ≡ true) → o ≡ stays_from t o
+stays_all t None f = refl
+stays_all t (Some v) f = rw (f v refl) refl
+
 nothing_at : (rs : Rows) (t : ℕ → Bool) (r : ℕ) → (row_at rs r).waiting ≡ None → going_at rs t r ≡ None
 nothing_at rs t r e = elim (eqb_tells (row_at rs r).root r) [
   | inl a ↦ elim (cases_Bool (t r)) [ inl y ↦ rw (a.0, y, e) refl | inr n ↦ rw (a.0, n) refl ]
@@ -91,6 +105,9 @@ settled_some rs new t r v o a h e n =
       kept = ready_back rs (each (settle r (latest rs r) v true) rs) r v o a (going_root rs t r v h e) (going_waits rs t r v e) refl;
       sized = each_sized (settle r (latest rs r) v true) rs (settle_quiet r (latest rs r) v true);
       here = nothing_at (each (settle r (latest rs r) v true) rs) t r (ap (λ x. x.waiting) row ∙ rw (same r r refl) refl);
+      left = λ i y. (let none : (settle r (latest rs r) v true r (row_at rs r)).waiting ≡ None = rw (same r r refl) refl in
+          let goes : stays_from t (Some v) ≡ None = rw (going_gone rs t r v e) refl in
+          ap (λ x. x.waiting) row ∙ none ∙ sym (ap (stays_from t) (going_waits rs t r v e) ∙ goes));
       others = λ u ne. other_waiting rs r v u ne (has rs u) refl;
     }) where
       other_waiting : (rs : Rows) (r v u : ℕ) → u ≢ r → (b : Bool) → has rs u ≡ b → (row_at (each (settle r (latest rs r) v true) rs) u).waiting ≡ (row_at rs u).waiting
@@ -98,7 +115,13 @@ settled_some rs new t r v o a h e n =
       other_waiting rs r v u ne false l = ap (λ x. x.waiting) (past_at (each (settle r (latest rs r) v true) rs) u (each_has (settle r (latest rs r) v true) rs u ∙ l)) ∙ sym (ap (λ x. x.waiting) (past_at rs u l))
 
 pub settled_none : (rs : Rows) (t : ℕ → Bool) (r : ℕ) → InOrder rs → AreKnown rs → going_at rs t r ≡ None → IsSettledAt t rs rs r
-settled_none rs t r o a e = record { kept = ready_same rs o a; sized = λ z. z; here = e; others = λ u n. refl }
+settled_none rs t r o a e = record {
+  kept = ready_same rs o a;
+  sized = λ z. z;
+  here = e;
+  left = λ i y. stays_all t (row_at rs r).waiting (λ v w. stays_by t rs r v i y w e);
+  others = λ u n. refl;
+}
 
 pub size_none : (rs : Rows) (t : ℕ → Bool) (r s : ℕ) → going_at rs t r ≡ None → s ≡ s + going_size rs t r
 size_none rs t r s e = rw e (omega arith)
@@ -115,6 +138,7 @@ pub record IsSettling (t : ℕ → Bool) (t0 table : Rows) (next : Option ℕ) (
   pub kept : IsReady t0 table
   pub sized : AreSized t0 → AreSized table
   pub done : (r : ℕ) → has front r ≡ true → going_at table t r ≡ None
+  pub left : (r : ℕ) → has front r ≡ true → IsRoot t0 r → t r ≡ true → (row_at table r).waiting ≡ stays_from t (row_at t0 r).waiting
   pub rest : (r : ℕ) → has behind r ≡ true → (row_at table r).waiting ≡ (row_at t0 r).waiting
   pub counted : s ≡ s0 + going_sum t0 t front
 
@@ -127,6 +151,7 @@ settling_none t t0 next s o a e = record {
   kept = ready_same t0 o a;
   sized = λ z. z;
   done = λ r h. (let z : false ≡ true = h in absurd (cc));
+  left = λ r h. (let z : false ≡ true = h in absurd (cc));
   rest = λ r h. refl;
   counted = omega arith;
 }
@@ -206,6 +231,11 @@ settling_more t t0 table new next later s0 s m id o c e b y n =
         | inl q ↦ ap (going_at new t) q ∙ y.here
         | inr q ↦ going_same table new t r (y.kept.alike.root_is r) (y.others r q) ∙ c.done r (front_has c.front id h.row r g q)
       ];
+      left = λ r g i w. elim (cases_eq r id) [
+        | inl q ↦ (let j : IsRoot table id = (c.kept.alike.has_is id ∙ ap (has t0) (sym q) ∙ i.0, c.kept.alike.root_is id ∙ ap (λ x. (row_at t0 x).root) (sym q) ∙ i.1 ∙ q) in
+            ap (λ x. (row_at new x).waiting) q ∙ y.left j (ap t (sym q) ∙ w) ∙ ap (stays_from t) (c.rest id here) ∙ ap (λ x. stays_from t (row_at t0 x).waiting) (sym q))
+        | inr q ↦ y.others r q ∙ c.left r (front_has c.front id h.row r g q) i w
+      ];
       rest = λ r g. (let ne : r ≢ id = λ q. not_newest h.tail id r fb.0 g (sym q) in
           let there : has c.behind r ≡ true = ap (λ x. has x r) h.is ∙ rw (differ id r (λ q. ne (sym q))) g in
           y.others r ne ∙ c.rest r there);
@@ -232,16 +262,15 @@ at_end t0 front [] e h = e ∙ nothing front where
   nothing (x ∷ a) = ap (λ z. x ∷ z) (nothing a)
 at_end t0 front ((k, r) ∷ rest) e h = cc
 
-stays_by : (t : ℕ → Bool) (rs : Rows) (r v : ℕ) → IsRoot rs r → t r ≡ true → (row_at rs r).waiting ≡ Some v → going_at rs t r ≡ None → t v ≡ true
-stays_by t rs r v i h w n = elim (cases_Bool (t v)) [
-  | inl y ↦ y
-  | inr m ↦ (let z : Some v ≡ None = rw (same (row_at rs r).root r i.1, h, w, m) at n in absurd (cc))
-]
-
 pub settling_waits : (t : ℕ → Bool) (t0 table : Rows) (next : Option ℕ) (s0 s : ℕ) → IsSettling t t0 table next s0 s → next ≡ None → KeepsWaiting t table
 settling_waits t t0 table next s0 s c e = λ r v i h w.
     let all : t0 ≡ c.front = at_end t0 c.front c.behind c.split (sym c.next_is ∙ e) in
     stays_by t table r v i h w (c.done r (ap (λ x. has x r) (sym all) ∙ sym (c.kept.alike.has_is r) ∙ i.0))
+
+pub settling_left : (t : ℕ → Bool) (t0 table : Rows) (next : Option ℕ) (s0 s : ℕ) → IsSettling t t0 table next s0 s → next ≡ None → LeavesWaiting t t0 table
+settling_left t t0 table next s0 s c e = λ r i w.
+    let all : t0 ≡ c.front = at_end t0 c.front c.behind c.split (sym c.next_is ∙ e) in
+    c.left r (ap (λ x. has x r) (sym all) ∙ i.0) i w
 
 pub settling_counted : (t : ℕ → Bool) (t0 table : Rows) (next : Option ℕ) (s0 s : ℕ) → IsSettling t t0 table next s0 s → next ≡ None → s ≡ s0 + going_sum t0 t t0
 settling_counted t t0 table next s0 s c e =

@@ -130,8 +130,8 @@ path_state rs hs n v s h f =
     let P : List ℕ → Type 0 = λ xs. All (λ u. holds (fresh_among rs rs) u ≡ true) xs in
     subst P (sym (path_with (latest rs) (shape rs) v)) (λ i d l. fresh_is rs (get_or (path (shape rs) v) i d) s (path_live rs s v h i d l) ∙ f i d l)
 
-known_more : (rs : Rows) (k : ℕ) (r : Row) → NumbersBelow k rs → AreKnown rs → r.places ≡ None → (r.mark ≡ true → (r.root ≡ k → ⊥) → ⊥) → AreKnown ((k, r) ∷ rs)
-known_more rs k r b a e m v h = elim (eqb_tells k v) [
+known_more : (rs : Rows) (k : ℕ) (r : Row) → NumbersBelow k rs → AreKnown rs → r.places ≡ None → (r.mark ≡ true → (r.root ≡ k → ⊥) → ⊥) → ((r.base ≡ k → ⊥) → r.kept ≡ []) → AreKnown ((k, r) ∷ rs)
+known_more rs k r b a e m w v h = elim (eqb_tells k v) [
   | inl t ↦ (let row : row_at ((k, r) ∷ rs) v ≡ r = rw t.0 refl in
       let no : (ps : List (Option ℕ)) → (row_at ((k, r) ∷ rs) v).places ≡ Some ps → ⊥ = λ ps g. (let x : None ≡ Some ps = sym e ∙ ap (λ y. y.places) (sym row) ∙ g in cc) in
       record {
@@ -139,6 +139,7 @@ known_more rs k r b a e m v h = elim (eqb_tells k v) [
         repeats = λ ps g. absurd (no ps g);
         unlisted = λ ps g y. no ps g;
         found = λ g n. absurd (m (ap (λ y. y.mark) (sym row) ∙ g) (λ y. n (ap (λ z. z.root) row ∙ y ∙ t.1)));
+        bare = λ n. ap (λ y. y.kept) row ∙ w (λ y. n (ap (λ z. z.base) row ∙ y ∙ t.1));
       })
   | inr t ↦ (let x : IsKnown rs v = a v (rw t.0 at h) in
       let row : row_at ((k, r) ∷ rs) v ≡ row_at rs v = row_older k r rs v t.1 in
@@ -147,6 +148,7 @@ known_more rs k r b a e m v h = elim (eqb_tells k v) [
         repeats = λ ps g. ap (λ y. y.repeats) row ∙ x.repeats ps (ap (λ y. y.places) (sym row) ∙ g);
         found = λ g n. ap (λ y. is_some y.places) row ∙ x.found (ap (λ y. y.mark) (sym row) ∙ g) (λ y. n (ap (λ z. z.root) row ∙ y));
         unlisted = λ ps g y. x.unlisted ps (ap (λ z. z.places) (sym row) ∙ g) (ap (λ z. z.root) (sym row) ∙ y);
+        bare = λ n. ap (λ y. y.kept) row ∙ x.bare (λ y. n (ap (λ z. z.base) row ∙ y));
       })
 ]
 
@@ -170,6 +172,7 @@ fresh_older rs k r v b s h f =
 pub record IsGrown (rs : Rows) (hs gs : Counts) (k : ℕ) (r : Row) : Type 0 where
   pub new : IsNew rs k r
   pub unlisted : r.places ≡ None
+  pub bare : (r.base ≡ k → ⊥) → r.kept ≡ []
   pub sized : IsSized rs r
   pub sound : IsSound ((k, joined_def r) ∷ world_of rs)
   pub beside : Beside ((k, r) ∷ rs) gs
@@ -179,7 +182,7 @@ pub record IsGrown (rs : Rows) (hs gs : Counts) (k : ℕ) (r : Row) : Type 0 whe
 pub grown_nodes : (rs : Rows) (hs gs : Counts) (k n : ℕ) (r : Row) → IsNodes rs hs k → IsGrown rs hs gs k r → n ≡ k + 1 → n < 18446744073709551616 → IsNodes ((k, r) ∷ rs) gs n
 grown_nodes rs hs gs k n r i g e m = record {
   order = pushed rs k r g.new i.order;
-  known = known_more rs k r i.below i.known g.unlisted (λ m y. (let c : true ≡ false = sym m ∙ g.new.unmarked y in cc));
+  known = known_more rs k r i.below i.known g.unlisted (λ m y. (let c : true ≡ false = sym m ∙ g.new.unmarked y in cc)) g.bare;
   sized = (g.sized, i.sized);
   sound = subst (λ (w : World). IsSound w) (sym (world_pushed rs k r g.new i.order)) g.sound;
   beside = g.beside;

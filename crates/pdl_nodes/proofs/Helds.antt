@@ -10,15 +10,17 @@ use Rattle.pdl_world.specs.Swept.{holds, sweep}
 use Rattle.pdl_nodes.specs.declared.holds.Hold.{Hold}
 use Rattle.pdl_nodes.specs.Alike.{numbers}
 use Rattle.pdl_nodes.specs.Going.{IsLeft}
-use Rattle.pdl_nodes.specs.Held.{count_at, one_more_at, one_less_at, held_among, holds_left, IsReleased}
+use Rattle.pdl_nodes.specs.Held.{count_at, one_more_at, one_less_at, held_among, holds_left, left_from, IsReleased}
 use Rattle.pdl_nodes.specs.Holds.{Counts, Beside, hold_at, count, count_in, is_reached, reached_in, held_in, less_one, one_more, after_release, count_after}
 use Rattle.pdl_nodes.specs.Laws.{Means}
 use Rattle.pdl_nodes.specs.Nodes.{IsNodes, fresh_among, holds_in, pending_in, state_of}
+use Rattle.pdl_nodes.specs.Outcomes.{waiting_of}
 use Rattle.pdl_nodes.specs.Rows.{Rows, has, NumbersBelow}
 use Rattle.pdl_nodes.specs.State.{State}
-use Rattle.pdl_nodes.specs.Staying.{staying}
+use Rattle.pdl_nodes.specs.Staying.{staying, stays_from}
 use Rattle.pdl_nodes.specs.Still.{IsStill}
 use Rattle.pdl_nodes.specs.Worlds.{world_of}
+use Rattle.pdl_nodes.proofs.Bounds.{waiting_is}
 use Rattle.pdl_nodes.proofs.Finds.{same, has_below}
 use Rattle.pdl_nodes.proofs.Stating.{live_has, look_has, fresh_is, holds_numbers}
 
@@ -232,6 +234,11 @@ left_nodes laws old new hs gs n held i l m b = record {
   room = i.room;
 }
 
+-- what waits of what is left
+left_tells : (new : Rows) (o : Option ℕ) → IsStill new → stays_from (has new) o ≡ left_from (world_of new) o
+left_tells new None s = refl
+left_tells new (Some v) s = ap (λ b. cond b (Some v) None) (sym (look_has new s v))
+
 pub left_state : (old new : Rows) (hs gs : Counts) (n id : ℕ) → IsStill old → IsLeft old new → Means new (sweep (world_of old) (held_among (one_less_at (holds_in old hs) id)))
     → ((v : ℕ) → has new v ≡ true → count gs v ≡ count_after id hs v) → IsReleased (state_of old hs n) id (state_of new gs n)
 left_state old new hs gs n id s l m c = record {
@@ -240,4 +247,7 @@ left_state old new hs gs n id s l m c = record {
   next = refl;
   stay = λ u e f. (let h : has new u ≡ true = live_has new u e in
       fresh_is new u m.0.still h ∙ l.fresh u h (sym (fresh_is old u s (l.there u h)) ∙ f));
+  waits = λ u e. (let h : has new u ≡ true = live_has new u e in
+      waiting_is new gs n u m.0.still h ∙ l.waits u h ∙ left_tells new (waiting_of old u) m.0.still
+      ∙ ap (left_from (world_of new)) (sym (waiting_is old hs n u s (l.there u h))));
 }

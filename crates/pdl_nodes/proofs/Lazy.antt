@@ -16,7 +16,7 @@ use Rattle.pdl_nodes.specs.Late.{settle, await}
 use Rattle.pdl_nodes.specs.Nodes.{IsNewView, fresh_among, state_of}
 use Rattle.pdl_nodes.specs.Outcomes.{waiting_of}
 use Rattle.pdl_nodes.specs.Outcomes.{OthersWait as RowsOthersWait}
-use Rattle.pdl_nodes.specs.State.{State, PathIsFresh, base_in, is_fresh, outdated, waiting, target, kept_back, AreWaiting, IsLazy, IsLentAs, OthersWait, TargetWaits}
+use Rattle.pdl_nodes.specs.State.{State, PathIsFresh, base, is_fresh, outdated, waiting, target, kept_back, AreWaiting, IsLazy, IsLentAs, OthersWait, TargetWaits}
 use Rattle.pdl_nodes.specs.Still.{IsStill, IsDerived, base_over}
 use Rattle.pdl_nodes.specs.Worlds.{IsRoot, places_of, world_of}
 use Rattle.pdl_nodes.proofs.Alikes.{root_live}
@@ -25,7 +25,7 @@ use Rattle.pdl_nodes.proofs.Finds.{same, differ, each_at, not_newest}
 use Rattle.pdl_nodes.proofs.Seens.{IsSeen, is_seen, row_older}
 use Rattle.pdl_nodes.proofs.Stating.{live_has, has_live, root_are, fresh_is}
 
-base_fresh : (rs : Rows) (v : ℕ) → IsStill rs → has rs v ≡ true → holds (fresh_among rs rs) v ≡ holds (fresh_among rs rs) (base_in (world_of rs) v)
+base_fresh : (rs : Rows) (v : ℕ) → IsStill rs → has rs v ≡ true → holds (fresh_among rs rs) v ≡ holds (fresh_among rs rs) (base (world_of rs) v)
 base_fresh rs v s h =
     let q : IsSeen rs v = is_seen rs s v h in
     fresh_is rs v s h ∙ ap (λ b. (row_at rs b).mark) (sym q.base_base) ∙ sym (fresh_is rs (row_at rs v).base s q.base_has) ∙ ap (holds (fresh_among rs rs)) (sym (base_are rs v s h))

@@ -9,18 +9,19 @@ use Rattle.pdl_nodes.specs.declared.origin.Origin.{Origin}
 use Rattle.pdl_nodes.specs.declared.origin.Origin.TheVariants.{Root, View}
 use Rattle.pdl_nodes.specs.Alike.{numbers}
 use Rattle.pdl_nodes.specs.Families.{IsWaiting, InOrder}
-use Rattle.pdl_nodes.specs.Going.{goes_from, going_at, going_size, going_sum, IsLeft}
+use Rattle.pdl_nodes.specs.Going.{goes_from, going_at, going_size, going_sum, IsLeft, LeavesWaiting}
 use Rattle.pdl_nodes.specs.Holds.{Counts, hold_at, count, count_in, less_one, count_after}
 use Rattle.pdl_nodes.specs.Known.{IsKnown, AreKnown}
 use Rattle.pdl_nodes.specs.Laws.{Means}
-use Rattle.pdl_nodes.specs.Outcomes.{IsReady, waiting_size}
+use Rattle.pdl_nodes.specs.Outcomes.{IsReady, waiting_of, waiting_size}
 use Rattle.pdl_nodes.specs.Released.{KeepsWaiting}
 use Rattle.pdl_nodes.specs.Row.{Row, parent_from}
 use Rattle.pdl_nodes.specs.Rows.{Rows, row_at, has, reached, HasParent, HasParents}
 use Rattle.pdl_nodes.specs.Sized.{IsLayout, LaidFrom, AreSized}
-use Rattle.pdl_nodes.specs.Staying.{staying, KeepsParents}
+use Rattle.pdl_nodes.specs.Staying.{staying, stays_from, KeepsParents}
 use Rattle.pdl_nodes.specs.Still.{StillFrom, IsStill}
-use Rattle.pdl_nodes.specs.Worlds.{shape, def_from, places_of, latest, world_of, with_elements}
+use Rattle.pdl_nodes.specs.Worlds.{IsRoot, shape, def_from, places_of, latest, world_of, with_elements}
+use Rattle.pdl_nodes.proofs.Alikes.{root_live}
 use Rattle.pdl_nodes.proofs.Finds.{row_stays, has_stays, same}
 use Rattle.pdl_nodes.proofs.Reaches.{staying_live}
 use Rattle.pdl_nodes.proofs.Seens.{is_seen}
@@ -50,6 +51,7 @@ pub record IsLeaving (old mid new : Rows) (t h : ℕ → Bool) : Type 0 where
   pub notes : (v : ℕ) → has old v ≡ true → h v ≡ t v
   pub closed : KeepsParents t (shape old)
   pub waits : KeepsWaiting h mid
+  pub leaves : LeavesWaiting h old mid
   pub left : new ≡ staying h mid
 
 record IsGone (old mid new : Rows) (t : ℕ → Bool) : Type 0 where
@@ -89,6 +91,7 @@ known_stays t rs c a = λ v h.
       repeats = λ xs e. ap (λ x. x.repeats) row ∙ k.repeats xs (ap (λ x. x.places) (sym row) ∙ e);
       found = λ m n. ap (λ x. is_some x.places) row ∙ k.found (ap (λ x. x.mark) (sym row) ∙ m) (λ e. n (ap (λ x. x.root) row ∙ e));
       unlisted = λ xs e r. k.unlisted xs (ap (λ x. x.places) (sym row) ∙ e) (ap (λ x. x.root) (sym row) ∙ r);
+      bare = λ n. ap (λ x. x.kept) row ∙ k.bare (λ e. n (ap (λ x. x.base) row ∙ e));
     }
 
 -- and of its sizes
@@ -133,8 +136,29 @@ has_staying t rs v h = elim (cases_Bool (t v)) [
 pub left_numbers : (t : ℕ → Bool) (rs : Rows) → numbers (staying t rs) ≡ filter (has (staying t rs)) (numbers rs)
 left_numbers t rs = numbers_stay t rs ∙ filter_agree t (has (staying t rs)) rs (has_staying t rs)
 
-staying_left : (t : ℕ → Bool) (old mid : Rows) → IsReady old mid → (AreSized old → AreSized mid) → KeepsParents t (shape mid) → IsStill (staying t mid) → IsLeft old (staying t mid)
-staying_left t old mid k z c s =
+-- what waits of what stays
+stays_agree : (t u : ℕ → Bool) (o : Option ℕ) → ((v : ℕ) → o ≡ Some v → t v ≡ u v) → stays_from t o ≡ stays_from u o
+stays_agree t u None f = refl
+stays_agree t u (Some v) f = ap (λ b. cond b (Some v) None) (f v refl)
+
+left_waits : (old mid : Rows) (t h : ℕ → Bool) → InOrder old → IsReady old mid → ((v : ℕ) → has old v ≡ true → h v ≡ t v) → LeavesWaiting h old mid → IsStill (staying t mid)
+    → (v : ℕ) → has (staying t mid) v ≡ true → waiting_of (staying t mid) v ≡ stays_from (has (staying t mid)) (waiting_of old v)
+left_waits old mid t h o k notes w s v g =
+    let row : row_at (staying t mid) v ≡ row_at mid v = row_stays t mid v (stays t mid v g) in
+    let root : (row_at (staying t mid) v).root ≡ (row_at old v).root = ap (λ x. x.root) row ∙ k.alike.root_is v in
+    let live : has old v ≡ true = sym (k.alike.has_is v) ∙ sym (has_stays t mid v (stays t mid v g)) ∙ g in
+    let i : IsRoot old (row_at old v).root = root_live old (row_at old v).root v o.still live refl in
+    let there : has (staying t mid) (row_at old v).root ≡ true = ap (has (staying t mid)) (sym root) ∙ (is_seen (staying t mid) s v g).root_has in
+    let y : t (row_at old v).root ≡ true = stays t mid (row_at old v).root there in
+    ap (λ x. (row_at (staying t mid) x).waiting) root
+    ∙ ap (λ x. x.waiting) (row_stays t mid (row_at old v).root y)
+    ∙ w (row_at old v).root i (notes (row_at old v).root i.0 ∙ y)
+    ∙ stays_agree h (has (staying t mid)) (waiting_of old v) (λ b e. (let l : has old b ≡ true = ((o.family (row_at old v).root i).waits b e).live in
+    notes b l ∙ has_staying t mid b (k.alike.has_is b ∙ l)))
+
+staying_left : (t h : ℕ → Bool) (old mid : Rows) → InOrder old → IsReady old mid → (AreSized old → AreSized mid) → KeepsParents t (shape mid) → IsStill (staying t mid)
+    → ((v : ℕ) → has old v ≡ true → h v ≡ t v) → LeavesWaiting h old mid → IsLeft old (staying t mid)
+staying_left t h old mid o k z c s notes w =
     let row : (v : ℕ) → has (staying t mid) v ≡ true → row_at (staying t mid) v ≡ row_at mid v = λ v h. row_stays t mid v (stays t mid v h) in
     let base : (v : ℕ) → has (staying t mid) v ≡ true → (row_at (staying t mid) v).base ≡ (row_at old v).base = λ v h. ap (λ x. x.base) (row v h) ∙ k.alike.base_is v in
     record {
@@ -144,16 +168,17 @@ staying_left t old mid k z c s =
       there = λ v h. sym (k.alike.has_is v) ∙ sym (has_stays t mid v (stays t mid v h)) ∙ h;
       root_is = λ v h. ap (λ x. x.root) (row v h) ∙ k.alike.root_is v;
       base_is = base;
+      waits = left_waits old mid t h o k notes w s;
       fresh = λ v h m. (let b : has (staying t mid) (row_at (staying t mid) v).base ≡ true = (is_seen (staying t mid) s v h).base_has in
           ap (λ x. x.mark) (row (row_at (staying t mid) v).base b)
           ∙ ap (λ x. (row_at mid x).mark) (base v h)
           ∙ k.marks (row_at old v).base m);
     }
 
-pub is_left : (old mid new : Rows) (t h : ℕ → Bool) → IsLeaving old mid new t h → IsLeft old new
-is_left old mid new t h l =
+pub is_left : (old mid new : Rows) (t h : ℕ → Bool) → InOrder old → IsLeaving old mid new t h → IsLeft old new
+is_left old mid new t h o l =
     let g : IsGone old mid new t = is_gone old mid new t h l in
-    subst (IsLeft old) (sym g.stays_so) (staying_left t old mid l.kept l.sized g.closed (order_stays t mid g.closed g.waits l.kept.order).still)
+    subst (IsLeft old) (sym g.stays_so) (staying_left t h old mid o l.kept l.sized g.closed (order_stays t mid g.closed g.waits l.kept.order).still l.notes l.leaves)
 
 -- what goes is told by tests that agree on what is live
 goes_same : (t u : ℕ → Bool) (o : Option ℕ) → ((v : ℕ) → o ≡ Some v → t v ≡ u v) → goes_from t o ≡ goes_from u o

@@ -231,7 +231,8 @@ listed_joined t m id r b none unmarked a v h k w l = elim (eqb_tells id v) [
       ap (λ (x : Row). holds (listed m x.root) v) s ∙ a v hv kv (λ e. w (ap (λ (x : Row). x.root) s ∙ e)) (rw (differ id (row_at t v).root g) at lv))
 ]
 
-pub listed_gone : (t : Rows) (m n : Marked) (id : ℕ) → ((r : ℕ) → (r ≡ id → ⊥) → listed n r ≡ listed m r) → AreListed t m → AreListed (without id t) n
+pub listed_gone : (t : Rows) (m n : Marked) (id : ℕ) → ((r v : ℕ) → (r ≡ id → ⊥) → (v ≡ id → ⊥) → holds (listed m r) v ≡ true → holds (listed n r) v ≡ true) → AreListed t m
+    → AreListed (without id t) n
 listed_gone t m n id others a v h k w l =
     let it : other id id ≡ false = rw (same id id refl) refl in
     let not_it : (u : ℕ) → (u ≡ id → ⊥) → other id u ≡ true = λ u x. rw (differ u id x) refl in
@@ -241,5 +242,4 @@ listed_gone t m n id others a v h k w l =
     let nr : (row_at t v).root ≡ id → ⊥ = λ e. left (row_at (without id t) v).root l (g ∙ e) in
     let hv : has t v ≡ true = sym (has_stays (other id) t v (not_it v (left v h))) ∙ h in
     let lv : has t (row_at t v).root ≡ true = sym (has_stays (other id) t (row_at t v).root (not_it (row_at t v).root nr)) ∙ ap (has (without id t)) (sym g) ∙ l in
-    ap (λ r. holds (listed n r) v) g ∙ ap (λ vs. holds vs v) (others (row_at t v).root nr)
-    ∙ a v hv (ap (λ (x : Row). x.mark) (sym s) ∙ k) (λ e. w (g ∙ e)) lv
+    ap (λ r. holds (listed n r) v) g ∙ others (row_at t v).root v nr (left v h) (a v hv (ap (λ (x : Row). x.mark) (sym s) ∙ k) (λ e. w (g ∙ e)) lv)

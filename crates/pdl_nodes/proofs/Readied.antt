@@ -13,7 +13,7 @@ use Rattle.pdl_nodes.specs.Known.{AreKnown}
 use Rattle.pdl_nodes.specs.Late.{settle}
 use Rattle.pdl_nodes.specs.Outcomes.{IsKept, IsReady, IsSettled, outdated_at, outdated}
 use Rattle.pdl_nodes.specs.Worlds.{shape, latest, world_of, IsRoot}
-use Rattle.pdl_nodes.proofs.Alikes.{alike_same, alike_trans, is_alike, known_each, eqb-true, root_live}
+use Rattle.pdl_nodes.proofs.Alikes.{alike_same, alike_trans, is_alike, known_each, kept_by, eqb-true, root_live, root_own}
 use Rattle.pdl_nodes.proofs.Finds.{same, differ, each_has, each_at}
 use Rattle.pdl_nodes.proofs.Lowered.{only_mark}
 use Rattle.pdl_nodes.proofs.Paths.{less_outdated}
@@ -48,7 +48,8 @@ ready_back rs new rt b o a i w e =
     subst (λ (t : Rows). IsReady rs t) (sym e) (record {
       order = written_back rs rt b o i w;
       known = known_each (settle rt es b true) rs (settle_quiet rt es b true) (λ k r. refl) (λ k r. refl)
-          (λ k n m. was_mark (eqb (row_at rs k).root rt) (eqb k b) (eqb k rt) (row_at rs k).mark (λ t. only_mark rs rt b k x (eqb-true (row_at rs k).root rt t)) (λ t y. n (eqb-true (row_at rs k).root rt t ∙ sym (eqb-true k rt y))) m) a;
+          (λ k n m. was_mark (eqb (row_at rs k).root rt) (eqb k b) (eqb k rt) (row_at rs k).mark (λ t. only_mark rs rt b k x (eqb-true (row_at rs k).root rt t)) (λ t y. n (eqb-true (row_at rs k).root rt t ∙ sym (eqb-true k rt y))) m)
+          (λ k y. kept_by rs rt k es (root_own rs rt o.still i) y) a;
       world = world_back rs rt b o i;
       alike = is_alike (settle rt es b true) rs (settle_quiet rt es b true);
       marks = keeps_settled rs rt b es x;

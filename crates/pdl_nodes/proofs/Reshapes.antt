@@ -243,6 +243,7 @@ known_at rs v ds es u c a h n =
       repeats = λ xs e. ap (λ x. x.repeats) row ∙ k.repeats xs (ap (λ x. x.places) (sym row) ∙ e);
       found = λ m q. ap (λ x. is_some x.places) row ∙ k.found (ap (λ x. x.mark) (sym row) ∙ m) (λ e. q (ap (λ x. x.root) row ∙ e));
       unlisted = λ xs e r. k.unlisted xs (ap (λ x. x.places) (sym row) ∙ e) (ap (λ x. x.root) (sym row) ∙ r);
+      bare = λ q. ap (λ x. x.kept) row ∙ k.bare (λ e. q (ap (λ x. x.base) row ∙ e));
     }
 
 known_here : (rs : Rows) (v : ℕ) (ds : List ℕ) (es : List ℤ) → has rs v ≡ true → IsKnown (each (rooted_in v ds es) rs) v
@@ -252,6 +253,7 @@ known_here rs v ds es h =
       places = λ xs e. (let z : None ≡ Some xs = sym (ap (λ x. x.places) row) ∙ e in absurd (cc));
       repeats = λ xs e. (let z : None ≡ Some xs = sym (ap (λ x. x.places) row) ∙ e in absurd (cc));
       found = λ m q. absurd (q (ap (λ x. x.root) row));
+      bare = λ q. absurd (q (ap (λ x. x.base) row));
       unlisted = λ xs e r. (let z : None ≡ Some xs = sym (ap (λ x. x.places) row) ∙ e in absurd (cc));
     }
 

@@ -18,14 +18,14 @@ use Rattle.pdl_world.specs.Cut.{replaced, sever}
 use Rattle.pdl_world.specs.World.{ArrayDef, root, view, elements, ty_in, dims_in}
 use Rattle.pdl_nodes.specs.Alike.{numbers, IsAlike, is_fresh_in}
 use Rattle.pdl_nodes.specs.Cut.{LaidOver, cut, CanCut}
-use Rattle.pdl_nodes.specs.CutLaws.{CuttingSevers, CuttingLeavesFamilies, CutsStayKnown, CutsStaySized}
+use Rattle.pdl_nodes.specs.CutLaws.{CuttingSevers, CuttingLeavesFamilies, CutsStaySettled, CutsStayKnown, CutsStaySized}
 use Rattle.pdl_nodes.specs.declared.origin.Origin.{Origin}
 use Rattle.pdl_nodes.specs.declared.origin.Origin.TheVariants.{Root, View}
 use Rattle.pdl_nodes.specs.Families.{IsMarked, InOrder}
-use Rattle.pdl_nodes.specs.Outcomes.{IsKept, IsReady, IsSettled, outdated, waiting_of, waiting_size}
+use Rattle.pdl_nodes.specs.Outcomes.{IsKept, IsReady, IsSettled, OthersWait, outdated, waiting_of, waiting_size}
 use Rattle.pdl_nodes.specs.Row.{root_row, Row, parent_from, parent_of}
 use Rattle.pdl_nodes.specs.Rows.{Rows, row_at, has, NumbersBelow}
-use Rattle.pdl_nodes.specs.Severed.{IsSevered, StayFresh}
+use Rattle.pdl_nodes.specs.Severed.{ChangesRows, RowsAreSettled, RowsStayFresh}
 use Rattle.pdl_nodes.specs.Sized.{LaidFrom, AreSized}
 use Rattle.pdl_nodes.specs.Spots.{spots, Below}
 use Rattle.pdl_nodes.specs.Still.{StillFrom, IsStill}
@@ -189,6 +189,7 @@ pub record IsFreshly (old mid : Rows) (v : ℕ) : Type 0 where
   pub live : has mid v ≡ true
   pub fresh : is_fresh_in mid v ≡ true
   pub nothing : (row_at mid (row_at mid v).root).waiting ≡ None
+  pub others : OthersWait old v mid
 
 -- numbers
 below_numbers : (a b : Rows) (n : ℕ) → numbers b ≡ numbers a → NumbersBelow n a → NumbersBelow n b
@@ -201,18 +202,28 @@ below_numbers ((j, q) ∷ a) ((k, r) ∷ rs) n e b =
     ((let low : j < n = b.0 in omega arith), below_numbers a rs n tails b.1)
 
 -- what could be lent can be lent still
-pub ready_fresh : (old mid : Rows) → IsReady old mid → StayFresh old mid
+pub ready_fresh : (old mid : Rows) → IsReady old mid → RowsStayFresh old mid
 ready_fresh old mid r = λ u h m. ap (λ x. (row_at mid x).mark) (r.alike.base_is u) ∙ r.marks (row_at old u).base m
 
+-- what waits once what waited in the family of v was written back, and the array was made fresh
+pub others_on : (old first mid : Rows) (v : ℕ) → IsSettled old v first → IsKept first mid → OthersWait old v mid
+others_on old first mid v s k = λ r h n. k.waits r ∙ s.others r h n
+
+pub settled_on : (old first mid : Rows) (v : ℕ) → IsSettled old v first → IsKept first mid → RowsAreSettled old v mid
+settled_on old first mid v s k = λ u h e.
+    ap (λ x. (row_at mid x).waiting) (k.alike.root_is u ∙ s.ready.alike.root_is u ∙ e ∙ sym (s.ready.alike.root_is v))
+    ∙ k.waits (row_at first v).root ∙ s.nothing
+
 -- an array that was only made fresh
-pub only_ready : (old mid : Rows) (v : ℕ) → InOrder old → AreSized old → IsReady old mid → IsSevered old v mid
-only_ready old mid v o z r = record {
+pub only_ready : (old mid : Rows) (v : ℕ) → InOrder old → AreSized old → IsReady old mid → OthersWait old v mid → ChangesRows old v mid
+only_ready old mid v o z r w = record {
   order = r.order;
   known = r.known;
   sized = sized_alike old mid o.still r.order.still r.alike z;
   numbers_are = r.alike.numbers_are;
   has_is = λ u. r.alike.has_is u;
   fresh = λ u h d m. ready_fresh old mid r u h m;
+  waits = λ u h d. ap (λ x. (row_at mid x).waiting) (r.alike.root_is u) ∙ w (row_at old u).root (is_seen old o.still u h).root_has d;
 }
 
 -- and then cut
@@ -231,6 +242,7 @@ can_cut old mid v ds es f n d e = record {
 pub record CutFacts : Type 0 where
   pub severs : CuttingSevers
   pub families : CuttingLeavesFamilies
+  pub settled : CutsStaySettled
   pub known : CutsStayKnown
   pub sized : CutsStaySized
 
@@ -244,10 +256,10 @@ cut_fresh old mid new v ds es f n =
     let row : row_at (cut mid v ds es) v ≡ root_row v (row_at mid v).ty ds es = cut_row mid v ds es f.live in
     ap (λ rs. is_fresh_in rs v) n ∙ ap (λ (r : Row). (row_at (cut mid v ds es) r.base).mark) row ∙ ap (λ (r : Row). r.mark) row
 
-pub was_cut : CutFacts → (old mid new : Rows) (v : ℕ) (ds : List ℕ) (es : List ℤ) → InOrder old → AreSized old → IsFreshly old mid v → CanCut mid v ds es → es ≡ elements (world_of mid) v → new ≡ cut mid v ds es → IsSevered old v new
+pub was_cut : CutFacts → (old mid new : Rows) (v : ℕ) (ds : List ℕ) (es : List ℤ) → InOrder old → AreSized old → IsFreshly old mid v → CanCut mid v ds es → es ≡ elements (world_of mid) v → new ≡ cut mid v ds es → ChangesRows old v new
 was_cut laws old mid new v ds es o z f c e n =
-    let P : Rows → Type 0 = λ x. IsSevered old v x in
-    let kept : IsSevered old v mid = only_ready old mid v o z f.ready in
+    let P : Rows → Type 0 = λ x. ChangesRows old v x in
+    let kept : ChangesRows old v mid = only_ready old mid v o z f.ready f.others in
     subst P (sym n) (record {
       order = (laws.severs mid v ds es c e).0;
       known = laws.known mid v ds es c f.ready.known;
@@ -260,7 +272,19 @@ was_cut laws old mid new v ds es o z f c e n =
           let row : row_at (cut mid v ds es) u ≡ row_at mid u = laws.families mid v ds es c u g apart in
           let base : row_at (cut mid v ds es) (row_at mid u).base ≡ row_at mid (row_at mid u).base = laws.families mid v ds es c (row_at mid u).base s.base_has (λ q. apart (sym s.base_root ∙ q)) in
           ap (λ (r : Row). (row_at (cut mid v ds es) r.base).mark) row ∙ ap (λ (r : Row). r.mark) base ∙ kept.fresh u h d m);
+      waits = λ u h d. (let g : has mid u ≡ true = f.ready.alike.has_is u ∙ h in
+          let apart : (row_at mid u).root ≢ (row_at mid v).root = λ q. d (sym (f.ready.alike.root_is u) ∙ q ∙ f.ready.alike.root_is v) in
+          let s : IsSeen mid u = is_seen mid f.ready.order.still u g in
+          let row : row_at (cut mid v ds es) u ≡ row_at mid u = laws.families mid v ds es c u g apart in
+          let above : row_at (cut mid v ds es) (row_at mid u).root ≡ row_at mid (row_at mid u).root = laws.families mid v ds es c (row_at mid u).root s.root_has (λ q. apart (sym s.root_root ∙ q)) in
+          ap (λ (r : Row). (row_at (cut mid v ds es) r.root).waiting) row ∙ ap (λ (r : Row). r.waiting) above ∙ kept.waits u h d);
     })
+
+-- nothing waits in either family
+pub cut_settled : CutFacts → (old mid new : Rows) (v : ℕ) (ds : List ℕ) (es : List ℤ) → IsFreshly old mid v → CanCut mid v ds es → new ≡ cut mid v ds es → RowsAreSettled old v new
+cut_settled laws old mid new v ds es f c n =
+    let P : Rows → Type 0 = λ x. RowsAreSettled old v x in
+    subst P (sym n) (λ u h e. laws.settled mid v ds es c u (f.ready.alike.has_is u ∙ h) (f.ready.alike.root_is u ∙ e ∙ sym (f.ready.alike.root_is v)))
 
 pub cut_world : CutFacts → (old mid new : Rows) (v : ℕ) (ds : List ℕ) (es : List ℤ) → IsFreshly old mid v → CanCut mid v ds es → es ≡ elements (world_of mid) v → new ≡ cut mid v ds es → world_of new ≡ sever (world_of old) v
 cut_world laws old mid new v ds es f c e n = ap world_of n ∙ (laws.severs mid v ds es c e).1 ∙ ap (λ w. sever w v) f.ready.world
@@ -285,6 +309,7 @@ freshly old first mid v o z h s k f =
       live = r.alike.has_is v ∙ h;
       fresh = f;
       nothing = ap (λ x. (row_at mid x).waiting) (k.alike.root_is v) ∙ k.waits (row_at first v).root ∙ s.nothing;
+      others = others_on old first mid v s k;
     }
 
 pub ready_sized : (old first mid : Rows) (v : ℕ) → InOrder old → AreSized old → IsSettled old v first → IsKept first mid → AreSized mid

@@ -1,6 +1,7 @@
 -- Other dimensions of an array that was made fresh.
-use Rattle.std.proofs.Common.{◌≡◌, ◌≢◌, ℕ, ℤ, ◌+◌, ◌≤◌, true, false, List, [], ◌∷◌, length, Result, Ok, Err, refl, sym, ◌∙◌, ap, subst, arith}
+use Rattle.std.proofs.Common.{◌≡◌, ◌≢◌, ℕ, ℤ, ◌+◌, ◌≤◌, true, false, List, [], ◌∷◌, length, Result, Ok, Err, None, inl, inr, refl, sym, ◌∙◌, ap, subst, arith}
 use Rattle.std.specs.Result.{OnOk, OnErr}
+use Rattle.std.proofs.lemmas.Bool.Decides.{eqb_tells}
 use Rattle.std.proofs.lemmas.List.Sums.{count_by-le-length}
 use Rattle.pdl_shape.specs.Shape.{IsDims, size_of}
 use Rattle.pdl_buf.specs.Buffer.{count_moved}
@@ -13,10 +14,10 @@ use Rattle.pdl_nodes.specs.Outcomes.{outdated, waiting_of, waiting_size}
 use Rattle.pdl_nodes.specs.Reshaped.{CanReshape, ReshapingReshapes, ReshapingLeavesOthers, ReshapesStayKnown, ReshapesStaySized}
 use Rattle.pdl_nodes.specs.Row.{root_row, Row}
 use Rattle.pdl_nodes.specs.Rows.{Rows, row_at, has, each}
-use Rattle.pdl_nodes.specs.Severed.{IsSevered}
+use Rattle.pdl_nodes.specs.Severed.{ChangesRows, RowsAreSettled}
 use Rattle.pdl_nodes.specs.Sized.{AreSized}
 use Rattle.pdl_nodes.specs.Worlds.{shape, world_of}
-use Rattle.pdl_nodes.proofs.Finds.{each_has}
+use Rattle.pdl_nodes.proofs.Finds.{each_has, each_at}
 use Rattle.pdl_nodes.proofs.Fits.{length_fitted}
 use Rattle.pdl_nodes.proofs.Reshapes.{row_here}
 use Rattle.pdl_nodes.proofs.Seens.{IsSeen, is_seen}
@@ -44,10 +45,10 @@ pub record ShapeFacts : Type 0 where
   pub sized : ReshapesStaySized
 
 pub was_reshaped : ShapeFacts → (old mid new : Rows) (v : ℕ) (ds : List ℕ) (es : List ℤ) → InOrder old → AreSized old → IsFreshly old mid v → CanReshape mid v ds es → es ≡ fitted (size_of ds) (elements (world_of mid) v)
-    → new ≡ each (rooted_in v ds es) mid → IsSevered old v new
+    → new ≡ each (rooted_in v ds es) mid → ChangesRows old v new
 was_reshaped laws old mid new v ds es o z f c e n =
-    let P : Rows → Type 0 = λ x. IsSevered old v x in
-    let kept : IsSevered old v mid = only_ready old mid v o z f.ready in
+    let P : Rows → Type 0 = λ x. ChangesRows old v x in
+    let kept : ChangesRows old v mid = only_ready old mid v o z f.ready f.others in
     subst P (sym n) (record {
       order = (laws.reshapes mid v ds es c e).0;
       known = laws.known mid v ds es c f.ready.known;
@@ -61,7 +62,35 @@ was_reshaped laws old mid new v ds es o z f c e n =
           let base : row_at (each (rooted_in v ds es) mid) (row_at mid u).base ≡ row_at mid (row_at mid u).base =
           laws.others mid v ds es c (row_at mid u).base s.base_has (λ q. apart (sym s.base_root ∙ ap (λ x. (row_at mid x).root) q)) in
           ap (λ (r : Row). (row_at (each (rooted_in v ds es) mid) r.base).mark) row ∙ ap (λ (r : Row). r.mark) base ∙ kept.fresh u h d m);
+      waits = λ u h d. (let g : has mid u ≡ true = f.ready.alike.has_is u ∙ h in
+          let apart : (row_at mid u).root ≢ (row_at mid v).root = λ q. d (sym (f.ready.alike.root_is u) ∙ q ∙ f.ready.alike.root_is v) in
+          let s : IsSeen mid u = is_seen mid f.ready.order.still u g in
+          let row : row_at (each (rooted_in v ds es) mid) u ≡ row_at mid u = laws.others mid v ds es c u g (λ q. apart (ap (λ x. (row_at mid x).root) q)) in
+          let above : row_at (each (rooted_in v ds es) mid) (row_at mid u).root ≡ row_at mid (row_at mid u).root =
+          laws.others mid v ds es c (row_at mid u).root s.root_has (λ q. apart (sym s.root_root ∙ ap (λ x. (row_at mid x).root) q)) in
+          ap (λ (r : Row). (row_at (each (rooted_in v ds es) mid) r.root).waiting) row ∙ ap (λ (r : Row). r.waiting) above ∙ kept.waits u h d);
     })
+
+-- nothing waits in the family that it was of, nor in its own
+reshaped_none : (mid : Rows) (v : ℕ) (ds : List ℕ) (es : List ℤ) (r : ℕ) → has mid v ≡ true → has mid r ≡ true → (row_at mid r).waiting ≡ None → (row_at (each (rooted_in v ds es) mid) r).waiting ≡ None
+reshaped_none mid v ds es r l h w = ap (λ (x : Row). x.waiting) (each_at (rooted_in v ds es) mid r h) ∙ elim (eqb_tells r v) [
+  | inl y ↦ rw y.0 refl
+  | inr y ↦ rw y.0 w
+]
+
+pub reshaped_settled : (old mid new : Rows) (v : ℕ) (ds : List ℕ) (es : List ℤ) → IsFreshly old mid v → new ≡ each (rooted_in v ds es) mid → RowsAreSettled old v new
+reshaped_settled old mid new v ds es f n =
+    let P : Rows → Type 0 = λ x. RowsAreSettled old v x in
+    let in_root : (u : ℕ) → has mid u ≡ true → (row_at mid u).root ≡ (row_at mid v).root → waiting_of (each (rooted_in v ds es) mid) u ≡ None = λ u g e.
+    (let row : row_at (each (rooted_in v ds es) mid) u ≡ rooted_in v ds es u (row_at mid u) = each_at (rooted_in v ds es) mid u g in
+    elim (eqb_tells u v) [
+      | inl y ↦ (let r : (row_at (each (rooted_in v ds es) mid) u).root ≡ v = ap (λ (x : Row). x.root) row ∙ rw y.0 refl in
+          ap (λ x. (row_at (each (rooted_in v ds es) mid) x).waiting) r ∙ ap (λ (x : Row). x.waiting) (row_here mid v ds es f.live))
+      | inr y ↦ (let r : (row_at (each (rooted_in v ds es) mid) u).root ≡ (row_at mid u).root = ap (λ (x : Row). x.root) row ∙ rw y.0 refl in
+          ap (λ x. (row_at (each (rooted_in v ds es) mid) x).waiting) r
+          ∙ reshaped_none mid v ds es (row_at mid u).root f.live (is_seen mid f.ready.order.still u g).root_has (ap (λ x. (row_at mid x).waiting) e ∙ f.nothing))
+    ]) in
+    subst P (sym n) (λ u h e. in_root u (f.ready.alike.has_is u ∙ h) (f.ready.alike.root_is u ∙ e ∙ sym (f.ready.alike.root_is v)))
 
 pub reshaped_world : ShapeFacts → (old mid new : Rows) (v : ℕ) (ds : List ℕ) (es : List ℤ) → IsFreshly old mid v → CanReshape mid v ds es → es ≡ fitted (size_of ds) (elements (world_of mid) v)
     → new ≡ each (rooted_in v ds es) mid → world_of new ≡ reshape (world_of old) v ds

@@ -101,6 +101,7 @@ new_view_row laws k p t y a ds i l d s =
       unmarked = no_mark a.root;
       nothing = refl;
       unlisted = no_places a.root None;
+      bare = rw (same a.root a.root refl) refl;
     }
 
 pub new_node : CutLaws → (k p : ℕ) (t : Trans) (y : Layout) (a : Row) (ds : List ℕ) (ty : Ty) (rt b : ℕ) (u : Triple) (o : Option Triple) (n : Row)

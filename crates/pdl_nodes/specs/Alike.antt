@@ -29,7 +29,8 @@ pub record IsAlike (old new : Rows) : Type 0 where
 abbrev pub KeepsMarks : (old new : Rows) → Type 0
 KeepsMarks old new = (v : ℕ) → (row_at old v).mark ≡ true → (row_at new v).mark ≡ true
 
--- where values are put that are assigned to v: in its base, or in its root where the base has repeats
+-- where values are put that are assigned to v: in its base, or in its root where the base has
+-- repeats
 abbrev pub target : Rows → ℕ → ℕ
 target rs v =
     let b = (row_at rs v).base in
@@ -39,10 +40,15 @@ target rs v =
 abbrev pub MarksTarget : (old : Rows) (v : ℕ) (new : Rows) → Type 0
 MarksTarget old v new =
     (u : ℕ) → has old u ≡ true
-    → (row_at new u).mark ≡ (if (row_at old u).root == (row_at old v).root then u == target old v else (row_at old u).mark)
+    → (row_at new u).mark
+    ≡ (if (row_at old u).root == (row_at old v).root then u == target old v
+    else (row_at old u).mark)
 
 -- in v's family the target waits, unless it is the root, and in other families what waited
 abbrev pub WaitsTarget : (old : Rows) (v : ℕ) (new : Rows) → Type 0
 WaitsTarget old v new =
     (r : ℕ) → has old r ≡ true
-    → (row_at new r).waiting ≡ (if r == (row_at old v).root then (if target old v == (row_at old v).root then None else Some (target old v)) else (row_at old r).waiting)
+    → (row_at new r).waiting
+    ≡ (if r == (row_at old v).root
+    then (if target old v == (row_at old v).root then None else Some (target old v))
+    else (row_at old r).waiting)

@@ -1,9 +1,6 @@
 -- What is kept of a base after values were assigned through it.
-use Rattle.std.specs.Prelude.{ℕ, ℤ, List, [], ◌∷◌, get_or, Option, Some, None, slice_set}
-
--- the place at a position, or nothing
-abbrev pub entry : List (Option ℕ) → ℕ → Option ℕ
-entry ps i = get_or ps i None
+use Rattle.std.specs.Prelude.{ℕ, ℤ, List, [], ◌∷◌, Option, Some, None, slice_set}
+pub use Rattle.pdl_world.specs.World.{entry}
 
 -- a kept list after a value was put at a position: one without a place keeps what it has
 abbrev pub put_at : Option ℕ → ℕ → ℤ → List ℤ → List ℤ

@@ -1,4 +1,5 @@
--- What the calls do to each row. The choice stands in the field, so that all else of a row is seen to stay.
+-- What the calls do to each row. The choice stands in the field, so that all else of a row is seen
+-- to stay.
 use Rattle.std.specs.Prelude.{ℕ, ℤ, ◌==◌, ◌&&◌, not, if◌then◌else◌, Bool, true, false, List, [], Option, Some, None}
 use Rattle.pdl_world.specs.Swept.{holds}
 use Rattle.pdl_nodes.specs.Row.{Row}
@@ -16,7 +17,8 @@ abbrev pub or_known : Option (List (Option ℕ)) → Option (List (Option ℕ)) 
 or_known None known = known
 or_known (Some ps) known = Some ps
 
--- b keeps these elements, is marked, and has repeats or not; its places are known, if they were found now
+-- b keeps these elements, is marked, and has repeats or not; its places are known, if they were
+-- found now
 abbrev pub fill_in : ℕ → List ℤ → Bool → Option (List (Option ℕ)) → ℕ → Row → Row
 fill_in b ks f o k r = record r {
   kept = (if k == b then ks else r.kept);
@@ -39,8 +41,10 @@ marked_in b k r = record r { mark = (if k == b then true else r.mark) }
 
 -- b is marked, and of the other bases of the family of rt none
 abbrev pub mark_in : (rt b : ℕ) → ℕ → Row → Row
-mark_in rt b k r = record r { mark = (if k == b then true else (if r.root == rt then false else r.mark)) }
+mark_in rt b k r =
+    record r { mark = (if k == b then true else (if r.root == rt then false else r.mark)) }
 
 -- of the family of rt none of these but b is marked
 abbrev pub unmark_in : List ℕ → (rt b : ℕ) → ℕ → Row → Row
-unmark_in vs rt b k r = record r { mark = (if not (k == b) && (holds vs k && (r.root == rt)) then false else r.mark) }
+unmark_in vs rt b k r =
+    record r { mark = (if not (k == b) && (holds vs k && (r.root == rt)) then false else r.mark) }

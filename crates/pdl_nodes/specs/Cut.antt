@@ -1,4 +1,5 @@
--- The cut of an array: it becomes a root, and what is derived of the views below it is derived anew.
+-- The cut of an array: it becomes a root, and what is derived of the views below it is derived
+-- anew.
 use Rattle.std.specs.Prelude.{◌≡◌, ℕ, ℤ, ◌==◌, nat_le, if◌then◌else◌, true, false, List, [], ◌∷◌, length, Option, Some, None}
 use Rattle.pdl_shape.specs.Shape.{size_of}
 use Rattle.pdl_shape.specs.Triple.{Triple}
@@ -11,13 +12,14 @@ use Rattle.pdl_nodes.specs.Still.{base_over, triple_over}
 use Rattle.pdl_nodes.specs.Families.{InOrder}
 use Rattle.pdl_nodes.specs.Sized.{IsLayout, AreSized}
 
--- the row of a view whose parent has this root and this base, over which this triple shows it, if any does; where its root
--- is another one its mark and its places go
+-- the row of a view whose parent has this root and this base, over which this triple shows it, if
+-- any does; where its root is another one its mark, its places and what it kept go
 abbrev pub view_under : ℕ → (root base : ℕ) → Row → Option Triple → Row
 view_under k rt b r o = record r {
   root = rt;
   base = base_over k b o;
   triple = triple_over r.triple.dims o;
+  kept = (if rt == r.root then r.kept else []);
   mark = (if rt == r.root then r.mark else false);
   places = (if rt == r.root then r.places else None);
 }
@@ -30,7 +32,8 @@ over_from (View p t y) above = over t above
 -- what is derived of a row of this origin over older rows
 abbrev pub derive : Rows → ℕ → Row → Origin → Row
 derive rs k r Root = r
-derive rs k r (View p t y) = view_under k (row_at rs p).root (row_at rs p).base r (over t (row_at rs p).triple)
+derive rs k r (View p t y) =
+    view_under k (row_at rs p).root (row_at rs p).base r (over t (row_at rs p).triple)
 
 -- the rows in which v is a root of these dimensions and elements
 abbrev pub cut : Rows → ℕ → List ℕ → List ℤ → Rows

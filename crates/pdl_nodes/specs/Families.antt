@@ -1,22 +1,12 @@
 -- When the marks and the kept elements of a family are those of the world.
-use Rattle.std.specs.Prelude.{◌≡◌, ℕ, ℤ, ◌==◌, if◌then◌else◌, Bool, true, false, List, [], ◌∷◌, length, Option, Some, None}
+use Rattle.std.specs.Prelude.{◌≡◌, ℕ, true, false, length, Some, None}
 use Rattle.pdl_shape.specs.Shape.{size_of}
 use Rattle.pdl_shape.specs.Places.{read}
+pub use Rattle.pdl_world.specs.World.{is_among, has_repeats}
 use Rattle.pdl_nodes.specs.Row.{Row}
 use Rattle.pdl_nodes.specs.Rows.{Rows, row_at, has}
 use Rattle.pdl_nodes.specs.Worlds.{places_of, latest, IsRoot}
 use Rattle.pdl_nodes.specs.Still.{IsStill}
-
-abbrev pub is_among : ℕ → List (Option ℕ) → Bool
-is_among i [] = false
-is_among i (None ∷ ps) = is_among i ps
-is_among i (Some j ∷ ps) = if i == j then true else is_among i ps
-
--- two positions have the same place; nothing isn't a place
-abbrev pub has_repeats : List (Option ℕ) → Bool
-has_repeats [] = false
-has_repeats (None ∷ ps) = has_repeats ps
-has_repeats (Some i ∷ ps) = if is_among i ps then true else has_repeats ps
 
 -- a marked array is its own base, and keeps what the world says
 pub record IsMarked (rs : Rows) (b : ℕ) : Type 0 where
@@ -24,7 +14,8 @@ pub record IsMarked (rs : Rows) (b : ℕ) : Type 0 where
   pub shows : (row_at rs b).kept ≡ read (places_of rs b) (latest rs (row_at rs b).root)
   pub flag : (row_at rs b).repeats ≡ has_repeats (places_of rs b)
 
--- the elements of v wait in the family of r: v is a choice view without repeats, and alone is marked
+-- the elements of v wait in the family of r: v is a choice view without repeats, and alone is
+-- marked
 pub record IsWaiting (rs : Rows) (r v : ℕ) : Type 0 where
   pub live : has rs v ≡ true
   pub marked : (row_at rs v).mark ≡ true
@@ -33,7 +24,8 @@ pub record IsWaiting (rs : Rows) (r v : ℕ) : Type 0 where
   pub once : has_repeats (places_of rs v) ≡ false
   pub only : (u : ℕ) → (row_at rs u).mark ≡ true → (row_at rs u).root ≡ r → u ≡ v
 
--- the family of r is in order: each marked base keeps what the world says, and the root is marked where nothing waits
+-- the family of r is in order: each marked base keeps what the world says, and the root is marked
+-- where nothing waits
 pub record InFamily (rs : Rows) (r : ℕ) : Type 0 where
   pub marked : (b : ℕ) → (row_at rs b).mark ≡ true → (row_at rs b).root ≡ r → IsMarked rs b
   pub waits : (v : ℕ) → (row_at rs r).waiting ≡ Some v → IsWaiting rs r v

@@ -11,7 +11,8 @@ use Rattle.pdl_nodes.specs.Families.{has_repeats, InOrder}
 -- of the family of the root rt, b is marked and, where it is said, the root, and no other
 abbrev pub marks_in : (rt b : ℕ) → (both : Bool) → ℕ → Row → Row
 marks_in rt b both k r = record r {
-  mark = (if r.root == rt then (if k == b then true else (if both then k == rt else false)) else r.mark);
+  mark = (if r.root == rt then (if k == b then true else (if both then k == rt else false))
+      else r.mark);
 }
 
 -- the root keeps these elements, nothing waits, and at most one other base is marked
@@ -25,7 +26,8 @@ await rt b ks k r = wait_in rt (Some b) k (marks_in rt b false k (kept_in b ks k
 -- what the base of v keeps after values were assigned to v
 abbrev pub put_through : Rows → ℕ → List ℤ → List ℤ
 put_through rs v vs =
-    put_all (places_of rs (row_at rs v).base) (spots (row_at rs v).triple) vs (row_at rs (row_at rs v).base).kept
+    put_all (places_of rs (row_at rs v).base) (spots (row_at rs v).triple) vs
+    (row_at rs (row_at rs v).base).kept
 
 -- v is shown over the marked base b without repeats, in the family of rt
 pub record IsThrough (rs : Rows) (rt b v : ℕ) : Type 0 where

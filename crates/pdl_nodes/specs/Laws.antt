@@ -20,10 +20,20 @@ use Rattle.pdl_nodes.specs.Worlds.{shape, places_of, latest, world_of, IsRoot}
 
 -- what the row of a live array says of the world, and how the array is shown over its base
 pub record IsShownOver (rs : Rows) (v : ℕ) : Type 0 where
-  pub looks : look (shape rs) v ≡ Some (record { root = (row_at rs v).root; ty = (row_at rs v).ty; dims = (row_at rs v).triple.dims; places = places_of rs v })
-  pub windows : window (shape rs) v ≡ Some (record { base = (row_at rs v).base; triple = (row_at rs v).triple })
+  pub looks :
+      look (shape rs) v
+      ≡ Some (record {
+        root = (row_at rs v).root;
+        ty = (row_at rs v).ty;
+        dims = (row_at rs v).triple.dims;
+        places = places_of rs v;
+      })
+  pub windows :
+      window (shape rs) v
+      ≡ Some (record { base = (row_at rs v).base; triple = (row_at rs v).triple })
   pub count : length (places_of rs v) ≡ size_of (row_at rs v).triple.dims
-  pub over : places_of rs v ≡ map (entry (places_of rs (row_at rs v).base)) (spots (row_at rs v).triple)
+  pub over :
+      places_of rs v ≡ map (entry (places_of rs (row_at rs v).base)) (spots (row_at rs v).triple)
   pub fits : Below (size_of (row_at rs (row_at rs v).base).triple.dims) (spots (row_at rs v).triple)
   pub base_has : has rs (row_at rs v).base ≡ true
   pub base_base : (row_at rs (row_at rs v).base).base ≡ (row_at rs v).base
@@ -34,7 +44,9 @@ pub record IsShownOver (rs : Rows) (v : ℕ) : Type 0 where
   pub root_root : (row_at rs (row_at rs v).root).root ≡ (row_at rs v).root
   pub root_base : (row_at rs (row_at rs v).root).base ≡ (row_at rs v).root
   pub root_ty : (row_at rs (row_at rs v).root).ty ≡ (row_at rs v).ty
-  pub root_places : places_of rs (row_at rs v).root ≡ map Some (range_with_len 0 (size_of (row_at rs (row_at rs v).root).triple.dims))
+  pub root_places :
+      places_of rs (row_at rs v).root
+      ≡ map Some (range_with_len 0 (size_of (row_at rs (row_at rs v).root).triple.dims))
 
 -- each live array is seen in the world as its row says, and shown over its base
 abbrev pub RowsAreSeen : Type 0
@@ -59,8 +71,10 @@ WritingBackKeeps =
 -- values were put into the root place by place, which alone is marked: they are assigned
 abbrev pub RootsAreAssigned : Type 0
 RootsAreAssigned =
-    (rs : Rows) (rt v : ℕ) (vs : List ℤ) → InOrder rs → IsRoot rs rt → has rs v ≡ true → (row_at rs v).root ≡ rt
-    → Means (each (settle rt (write (places_of rs v) vs (latest rs rt)) rt false) rs) (assign (world_of rs) v vs)
+    (rs : Rows) (rt v : ℕ) (vs : List ℤ) → InOrder rs → IsRoot rs rt → has rs v ≡ true
+    → (row_at rs v).root ≡ rt
+    → Means (each (settle rt (write (places_of rs v) vs (latest rs rt)) rt false) rs)
+    (assign (world_of rs) v vs)
 
 -- values were put into what a choice view without repeats keeps, where they wait: they are assigned
 abbrev pub WaitingIsAssigned : Type 0
@@ -71,7 +85,8 @@ WaitingIsAssigned =
 -- a base was filled with its elements, and its repeats were decided: the world stays
 abbrev pub FillingKeeps : Type 0
 FillingKeeps =
-    (rs : Rows) (rt b : ℕ) (ks : List ℤ) (f : Bool) (ps : Option (List (Option ℕ))) → IsOutdated rs rt b
+    (rs : Rows) (rt b : ℕ) (ks : List ℤ) (f : Bool) (ps : Option (List (Option ℕ)))
+    → IsOutdated rs rt b
     → ks ≡ read (places_of rs b) (latest rs rt) → f ≡ has_repeats (places_of rs b)
     → Means (each (fill_in b ks f ps) rs) (world_of rs)
 

@@ -19,7 +19,8 @@ use Rattle.pdl_nodes.specs.Worlds.{world_of}
 -- the numbers of rows whose base is marked in the table
 abbrev pub fresh_among : (all : Rows) → Rows → List ℕ
 fresh_among all [] = []
-fresh_among all ((k, r) ∷ rs) = if (row_at all r.base).mark then k ∷ fresh_among all rs else fresh_among all rs
+fresh_among all ((k, r) ∷ rs) =
+    if (row_at all r.base).mark then k ∷ fresh_among all rs else fresh_among all rs
 
 abbrev pub pending_onto : ℕ → Option ℕ → List (ℕ × ℕ) → List (ℕ × ℕ)
 pending_onto k None ps = ps
@@ -36,7 +37,13 @@ holds_in [] hs = []
 holds_in ((k, r) ∷ rs) hs = (k, count hs k) ∷ holds_in rs hs
 
 abbrev pub state_of : Rows → Counts → ℕ → State
-state_of rs hs next = record { world = world_of rs; fresh = fresh_among rs rs; pending = pending_in rs; holds = holds_in rs hs; next = next }
+state_of rs hs next = record {
+  world = world_of rs;
+  fresh = fresh_among rs rs;
+  pending = pending_in rs;
+  holds = holds_in rs hs;
+  next = next;
+}
 
 -- all is in order, each row has its holds, and the next number is above all and a number of 64 bits
 pub record IsNodes (rs : Rows) (hs : Counts) (next : ℕ) : Type 0 where
@@ -59,3 +66,4 @@ pub record IsNewView (k p : ℕ) (t : Trans) (a r : Row) : Type 0 where
   pub unmarked : r.mark ≡ false
   pub nothing : r.waiting ≡ None
   pub unlisted : r.places ≡ None
+  pub bare : r.kept ≡ []

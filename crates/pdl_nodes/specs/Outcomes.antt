@@ -57,7 +57,9 @@ waiting_size rs (Some v) = size_of (row_at rs v).triple.dims
 
 -- what waits in other families than v's is what waited
 abbrev pub OthersWait : (old : Rows) (v : ℕ) (new : Rows) → Type 0
-OthersWait old v new = (r : ℕ) → has old r ≡ true → (r ≡ (row_at old v).root → ⊥) → (row_at new r).waiting ≡ (row_at old r).waiting
+OthersWait old v new =
+    (r : ℕ) → has old r ≡ true → (r ≡ (row_at old v).root → ⊥)
+    → (row_at new r).waiting ≡ (row_at old r).waiting
 
 -- the world is the same, and no mark is lost
 pub record IsReady (old new : Rows) : Type 0 where

@@ -15,7 +15,8 @@ placed (Some ps) q = entry ps q
 abbrev pub placed_by : Option (List (Option ℕ)) → Triple → List (Option ℕ)
 placed_by known t = map (placed known) (spots t)
 
--- the parent's position at a position of a view that is its own base: a plan's is the position itself
+-- the parent's position at a position of a view that is its own base: a plan's is the position
+-- itself
 abbrev pub own_at : Layout → ℕ → Option ℕ
 own_at (Plan p) i = Some i
 own_at (Choice c) i = entry c.places i

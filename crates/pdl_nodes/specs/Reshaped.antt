@@ -11,7 +11,8 @@ use Rattle.pdl_nodes.specs.Rows.{Rows, row_at, has, each}
 use Rattle.pdl_nodes.specs.Sized.{AreSized}
 use Rattle.pdl_nodes.specs.Worlds.{shape, world_of}
 
--- an array can get these dimensions: it has no views, nothing waits in its family, and there are as many elements
+-- an array can get these dimensions: it has no views, nothing waits in its family, and there are as
+-- many elements
 pub record CanReshape (rs : Rows) (v : ℕ) (ds : List ℕ) (es : List ℤ) : Type 0 where
   pub order : InOrder rs
   pub live : has rs v ≡ true
@@ -20,7 +21,8 @@ pub record CanReshape (rs : Rows) (v : ℕ) (ds : List ℕ) (es : List ℤ) : Ty
   pub limits : IsDims ds
   pub count : length es ≡ size_of ds
 
--- with the array's first elements the rows stay in order and mean the world in which it has these dimensions
+-- with the array's first elements the rows stay in order and mean the world in which it has these
+-- dimensions
 abbrev pub ReshapingReshapes : Type 0
 ReshapingReshapes =
     (rs : Rows) (v : ℕ) (ds : List ℕ) (es : List ℤ) → CanReshape rs v ds es

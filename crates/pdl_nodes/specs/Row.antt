@@ -7,10 +7,10 @@ use Rattle.pdl_buf.specs.Buffer.{Kept}
 use Rattle.pdl_nodes.specs.declared.origin.Origin.{Origin}
 use Rattle.pdl_nodes.specs.declared.origin.Origin.TheVariants.{Root, View}
 
--- its origin, its type, its root; its base, and the triple over the base's elements that shows it, whose dimensions
--- are its own; of a base its elements, whether they are those of the world, and whether two of its positions have one
--- place; of a view that is its own base the root's place of each position, once they were found; of a root the view
--- whose elements wait to be written back
+-- its origin, its type, its root; its base, and the triple over the base's elements that shows it,
+-- whose dimensions are its own; of a base its elements, whether they are those of the world, and
+-- whether two of its positions have one place; of a view that is its own base the root's place of
+-- each position, once they were found; of a root the view whose elements wait to be written back
 pub record Row : Type 0 where
   pub origin : Origin
   pub ty : Ty

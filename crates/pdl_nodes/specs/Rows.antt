@@ -69,7 +69,8 @@ without v rs = staying (other v) rs
 -- whether a held number reaches v by parents, itself counted
 abbrev pub reached : Rows → (ℕ → Bool) → ℕ → Bool
 reached [] held v = held v
-reached ((k, r) ∷ rs) held v = if k == v then held k else reached rs (passed (parent_of r) (held k) held) v
+reached ((k, r) ∷ rs) held v =
+    if k == v then held k else reached rs (passed (parent_of r) (held k) held) v
 
 abbrev pub HasParent : Rows → Option ℕ → Type 0
 HasParent rs None = Unit {0}

@@ -17,19 +17,22 @@ use Rattle.pdl_nodes.specs.Rows.{Rows, row_at}
 -- the dimensions and the parent's positions of a choice view
 abbrev pub IsChosen : Trans → (parent dims : List ℕ) → (places : List (Option ℕ)) → Type 0
 IsChosen t parent ds ps =
-    (child_dims t parent ≡ Ok ds) × (ps ≡ places_of ds parent (source t parent)) × AllBelow (size_of parent) ps
+    (child_dims t parent ≡ Ok ds) × (ps ≡ places_of ds parent (source t parent))
+    × AllBelow (size_of parent) ps
 
--- the layout is that of the transformation on a parent of these dimensions: an affine view has a plan, and another
--- view a list of places
+-- the layout is that of the transformation on a parent of these dimensions: an affine view has a
+-- plan, and another view a list of places
 abbrev pub IsLayout : Trans → (parent : List ℕ) → Layout → Type 0
 IsLayout (trans.Affine t) parent (Plan p) = (p.trans ≡ t) × (p.parent ≡ parent)
 IsLayout (trans.Affine t) parent (Choice c) = ⊥
 IsLayout (trans.Index ds ind) parent (Plan p) = ⊥
-IsLayout (trans.Index ds ind) parent (Choice c) = IsChosen (trans.Index ds ind) parent c.dims c.places
+IsLayout (trans.Index ds ind) parent (Choice c) =
+    IsChosen (trans.Index ds ind) parent c.dims c.places
 IsLayout (trans.Where ds ps) parent (Plan p) = ⊥
 IsLayout (trans.Where ds ps) parent (Choice c) = IsChosen (trans.Where ds ps) parent c.dims c.places
 IsLayout (trans.Range ds ind ss edge) parent (Plan p) = ⊥
-IsLayout (trans.Range ds ind ss edge) parent (Choice c) = IsChosen (trans.Range ds ind ss edge) parent c.dims c.places
+IsLayout (trans.Range ds ind ss edge) parent (Choice c) =
+    IsChosen (trans.Range ds ind ss edge) parent c.dims c.places
 
 -- the dimensions of a view of this layout
 abbrev pub HasDims : Layout → (dims : List ℕ) → Type 0
@@ -41,7 +44,8 @@ abbrev pub LaidFrom : Rows → Origin → Type 0
 LaidFrom rs Root = Unit {0}
 LaidFrom rs (View p t y) = IsLayout t (row_at rs p).triple.dims y
 
--- the triple shows places of a buffer, the dimensions are within the limits, and a view has its layout over its parent
+-- the triple shows places of a buffer, the dimensions are within the limits, and a view has its
+-- layout over its parent
 pub record IsSized (rs : Rows) (r : Row) : Type 0 where
   pub triple : IsTriple r.triple
   pub limits : IsDims r.triple.dims

@@ -1,18 +1,15 @@
 -- What kept arrays are seen as, and how calls change that.
 use Rattle.std.specs.Prelude.{◌≡◌, ℕ, ◌+◌, ◌==◌, ◌&&◌, not, if◌then◌else◌, Bool, true, false, List, [], ◌∷◌, sum_by, All, Option, Some, None}
-use Rattle.std.specs.Option.{option_map_or}
 use Rattle.pdl_buf.specs.Window.{Window}
 use Rattle.pdl_shape.specs.Shape.{size_of}
 use Rattle.pdl_world.specs.Paths.{path, root_of}
 use Rattle.pdl_world.specs.Sound.{IsLive}
 use Rattle.pdl_world.specs.Swept.{holds}
-use Rattle.pdl_world.specs.World.{World, ArrayDef, dims_in, ty_in, elements}
-use Rattle.pdl_world.specs.Windows.{window}
-use Rattle.pdl_nodes.specs.Families.{has_repeats}
-use Rattle.pdl_nodes.specs.Worlds.{places_in}
+use Rattle.pdl_world.specs.World.{World, ArrayDef, dims_in, ty_in, elements, has_repeats, places_in}
+pub use Rattle.pdl_world.specs.Windows.{base}
 
--- The world of arrays; those that can be lent; per root the view whose buffer waits to be written back; how often
--- each array is held; and the number of the next array.
+-- The world of arrays; those that can be lent; per root the view whose buffer waits to be written
+-- back; how often each array is held; and the number of the next array.
 pub record State : Type 0 where
   pub world : World
   pub fresh : List ℕ
@@ -55,14 +52,10 @@ PathIsFresh s v = All (λ u. is_fresh s u ≡ true) (path s.world v)
 abbrev pub shown_in : State → ℕ → Window
 shown_in s v = record { ty = ty_in s.world v; dims = dims_in s.world v; elems = elements s.world v }
 
--- the array whose kept elements show this one
-abbrev pub base_in : World → ℕ → ℕ
-base_in w v = option_map_or (λ x. x.base) (window w v) v
-
 -- how many elements a view has that keeps its own and can't be lent
 abbrev pub outdated_at : State → ℕ → ℕ
 outdated_at s u =
-    if (base_in s.world u == u) && not (root_of s.world u == u)
+    if (base s.world u == u) && not (root_of s.world u == u)
     then (if is_fresh s u then 0 else size_of (dims_in s.world u))
     else 0
 
@@ -83,17 +76,19 @@ abbrev pub waiting_size : State → Option ℕ → ℕ
 waiting_size s None = 0
 waiting_size s (Some u) = size_of (dims_in s.world u)
 
--- where values are put that are assigned to v: in its base, or in its root where the base has repeats
+-- where values are put that are assigned to v: in its base, or in its root where the base has
+-- repeats
 abbrev pub target : World → ℕ → ℕ
-target w v = if has_repeats (places_in w (base_in w v)) then root_of w v else base_in w v
+target w v = if has_repeats (places_in w (base w v)) then root_of w v else base w v
 
 -- after an assignment to v each array that is shown by what was written can be lent
 abbrev pub TargetIsFresh : (old : State) (v : ℕ) (new : State) → Type 0
 TargetIsFresh old v new =
     (u : ℕ) → IsLive old.world u → root_of old.world u ≡ root_of old.world v
-    → base_in old.world u ≡ target old.world v → is_fresh new u ≡ true
+    → base old.world u ≡ target old.world v → is_fresh new u ≡ true
 
--- what waits in the family after an assignment to v: the array in which the values were put, unless that is the root
+-- what waits in the family after an assignment to v: the array in which the values were put, unless
+-- that is the root
 abbrev pub kept_back : World → ℕ → Option ℕ
 kept_back w v = if target w v == root_of w v then None else Some (target w v)
 
@@ -101,32 +96,37 @@ kept_back w v = if target w v == root_of w v then None else Some (target w v)
 abbrev pub TargetWaits : (old : State) (v : ℕ) (new : State) → Type 0
 TargetWaits old v new =
     (u : ℕ) → IsLive old.world u
-    → waiting new u ≡ (if root_of old.world u == root_of old.world v then kept_back old.world v else waiting old u)
+    → waiting new u ≡ (if root_of old.world u == root_of old.world v then kept_back old.world v
+    else waiting old u)
 
 -- in other families than v's the same waits
 abbrev pub OthersWait : (old : State) (v : ℕ) (new : State) → Type 0
 OthersWait old v new =
-    (u : ℕ) → IsLive old.world u → (root_of old.world u ≡ root_of old.world v → ⊥) → waiting new u ≡ waiting old u
+    (u : ℕ) → IsLive old.world u → (root_of old.world u ≡ root_of old.world v → ⊥)
+    → waiting new u ≡ waiting old u
 
--- the elements of b wait in the family of v: b is a view of the family, its own base and without repeats, it can be lent,
--- and so can of the family only what is shown over it
+-- the elements of b wait in the family of v: b is a view of the family, its own base and without
+-- repeats, it can be lent, and so can of the family only what is shown over it
 pub record AreWaiting (s : State) (v b : ℕ) : Type 0 where
   pub live : IsLive s.world b
   pub family : root_of s.world b ≡ root_of s.world v
-  pub own : base_in s.world b ≡ b
+  pub own : base s.world b ≡ b
   pub view : b ≡ root_of s.world v → ⊥
   pub once : has_repeats (places_in s.world b) ≡ false
   pub fresh : is_fresh s b ≡ true
-  pub only : (u : ℕ) → IsLive s.world u → root_of s.world u ≡ root_of s.world v → is_fresh s u ≡ true → base_in s.world u ≡ b
+  pub only :
+      (u : ℕ) → IsLive s.world u → root_of s.world u ≡ root_of s.world v → is_fresh s u ≡ true
+      → base s.world u ≡ b
 
--- views are lazy: an array can be lent exactly where its base can; where nothing waits in its family its root can be lent;
--- and nothing is outdated on a path that can be lent
+-- views are lazy: an array can be lent exactly where its base can; where nothing waits in its
+-- family its root can be lent; and nothing is outdated on a path that can be lent
 pub record IsLazy (s : State) : Type 0 where
-  pub fresh_is : (v : ℕ) → IsLive s.world v → is_fresh s v ≡ is_fresh s (base_in s.world v)
+  pub fresh_is : (v : ℕ) → IsLive s.world v → is_fresh s v ≡ is_fresh s (base s.world v)
   pub waits : (v b : ℕ) → IsLive s.world v → waiting s v ≡ Some b → AreWaiting s v b
-  pub lasts : (v : ℕ) → IsLive s.world v → waiting s v ≡ None → is_fresh s (root_of s.world v) ≡ true
+  pub lasts :
+      (v : ℕ) → IsLive s.world v → waiting s v ≡ None → is_fresh s (root_of s.world v) ≡ true
   pub spent : (v : ℕ) → PathIsFresh s v → outdated s v ≡ 0
 
 -- a new view that isn't its own base can be lent exactly where its parent can
 abbrev pub IsLentAs : (old : State) (parent id : ℕ) (new : State) → Type 0
-IsLentAs old parent id new = (base_in new.world id ≡ id → ⊥) → is_fresh new id ≡ is_fresh old parent
+IsLentAs old parent id new = (base new.world id ≡ id → ⊥) → is_fresh new id ≡ is_fresh old parent

@@ -1,4 +1,5 @@
--- What is left of numbered entries when arrays are let go: those that a held array reaches by parents.
+-- What is left of numbered entries when arrays are let go: those that a held array reaches by
+-- parents.
 use Rattle.std.specs.Prelude.{◌≡◌, ℕ, ◌==◌, if◌then◌else◌, Bool, true, List, [], ◌∷◌, Option, Some, None}
 use Rattle.pdl_world.specs.World.{World, ArrayDef, root, view}
 
@@ -7,7 +8,13 @@ abbrev pub staying : {A : Type 0} → (ℕ → Bool) → List (ℕ × A) → Lis
 staying t [] = []
 staying t ((k, a) ∷ xs) = if t k then (k, a) ∷ staying t xs else staying t xs
 
--- what is held of the older arrays once one with this parent was passed, which is held itself or isn't
+-- a number, if the test holds of it
+abbrev pub stays_from : (ℕ → Bool) → Option ℕ → Option ℕ
+stays_from t None = None
+stays_from t (Some v) = if t v then Some v else None
+
+-- what is held of the older arrays once one with this parent was passed, which is held itself or
+-- isn't
 abbrev pub passed : Option ℕ → Bool → (ℕ → Bool) → ℕ → Bool
 passed None keeps held v = held v
 passed (Some p) keeps held v = if p == v then (if keeps then true else held v) else held v

@@ -16,7 +16,8 @@ use Rattle.pdl_nodes.specs.Row.{Row}
 use Rattle.pdl_nodes.specs.Rows.{Rows, row_at, has, NumbersBelow}
 use Rattle.pdl_nodes.specs.Spots.{spots, Below}
 
--- the parent's position of each position of a view that is its own base: a plan's are the parent's own
+-- the parent's position of each position of a view that is its own base: a plan's are the parent's
+-- own
 abbrev pub own_places : List ℕ → Layout → List (Option ℕ)
 own_places ds (Choice c) = c.places
 own_places ds (Plan p) = map Some (range_with_len 0 (size_of ds))
@@ -48,8 +49,10 @@ pub record IsOwn (above : Triple) (ps own : List (Option ℕ)) (ds : List ℕ) :
   pub within : AllBelow (size_of above.dims) own
   pub whole : IsWhole (whole ds)
 
--- the view's own list of places, or the triple over the parent's base, gives these positions of the parent
-abbrev pub IsLaid : (above : Triple) (ps : List (Option ℕ)) (own : List (Option ℕ)) (ds : List ℕ) → Option Triple → Type 0
+-- the view's own list of places, or the triple over the parent's base, gives these positions of the
+-- parent
+abbrev pub IsLaid : (above : Triple) (ps : List (Option ℕ)) (own : List (Option ℕ)) (ds : List ℕ)
+    → Option Triple → Type 0
 IsLaid above ps own ds None = IsOwn above ps own ds
 IsLaid above ps own ds (Some t) = IsThroughBase above ps t
 
@@ -60,7 +63,9 @@ pub record IsDerived (k : ℕ) (a r : Row) (t : Trans) (y : Layout) : Type 0 whe
   pub root_is : r.root ≡ a.root
   pub base_is : r.base ≡ base_over k a.base (over t a.triple)
   pub triple_is : r.triple ≡ triple_over r.triple.dims (over t a.triple)
-  pub laid : IsLaid a.triple (places_of r.triple.dims a.triple.dims (source t a.triple.dims)) (own_places r.triple.dims y) r.triple.dims (over t a.triple)
+  pub laid :
+      IsLaid a.triple (places_of r.triple.dims a.triple.dims (source t a.triple.dims))
+      (own_places r.triple.dims y) r.triple.dims (over t a.triple)
 
 pub record IsRootRow (k : ℕ) (r : Row) : Type 0 where
   pub root_is : r.root ≡ k

@@ -10,6 +10,7 @@ abbrev pub up_from : List ℕ → Origin → ℕ → Option (ℕ × Option ℕ)
 up_from ds Root i = None
 up_from ds (View p t y) i = Some (p, entry (own_places ds y) i)
 
--- the parent and its position, or nothing there, for a position of a view that is its own base; nothing for a root
+-- the parent and its position, or nothing there, for a position of a view that is its own base;
+-- nothing for a root
 abbrev pub up_of : Row → ℕ → Option (ℕ × Option ℕ)
 up_of r i = up_from r.triple.dims r.origin i

@@ -1,9 +1,9 @@
 -- What rows mean: a world, with the elements of each root as of the last assignment.
 use Rattle.std.specs.Prelude.{◌≡◌, ℕ, ℤ, true, List, [], ◌∷◌, Option, Some, None}
-use Rattle.std.specs.Option.{option_map_or}
 use Rattle.pdl_elem.specs.declared.Ty.{Ty}
 use Rattle.pdl_shape.specs.Places.{write}
-use Rattle.pdl_world.specs.World.{World, ArrayDef, root, view, look}
+use Rattle.pdl_world.specs.World.{World, ArrayDef, root, view}
+pub use Rattle.pdl_world.specs.World.{places_in}
 use Rattle.pdl_nodes.specs.declared.origin.Origin.{Origin}
 use Rattle.pdl_nodes.specs.declared.origin.Origin.TheVariants.{Root, View}
 use Rattle.pdl_nodes.specs.Row.{Row}
@@ -27,10 +27,6 @@ abbrev pub with_elements : (ℕ → List ℤ) → World → World
 with_elements f [] = []
 with_elements f ((k, root ty ds es) ∷ w) = (k, root ty ds (f k)) ∷ with_elements f w
 with_elements f ((k, view p t) ∷ w) = (k, view p t) ∷ with_elements f w
-
--- the root's place of each position
-abbrev pub places_in : World → ℕ → List (Option ℕ)
-places_in w v = option_map_or (λ l. l.places) (look w v) []
 
 abbrev pub places_of : Rows → ℕ → List (Option ℕ)
 places_of rs v = places_in (shape rs) v

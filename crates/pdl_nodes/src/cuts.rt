@@ -1,7 +1,7 @@
 //! What a cut does to one node.
-ghost use Rattle.std.specs.Prelude.{◌≡◌};
+ghost use Rattle.std.specs.Prelude.{◌≡◌, is_some, true};
 ghost use Rattle.pdl_nodes.specs.Cut.{LaidOver, over_from, view_under};
-ghost use Rattle.pdl_nodes.specs.Row.{root_row};
+ghost use Rattle.pdl_nodes.specs.Row.{parent_of, root_row};
 
 use crate::node::Node;
 use crate::origin::{Layout, Origin};
@@ -43,8 +43,9 @@ impl Node {
     }
 
     /// Is shown over the base of its parent by this triple, and else keeps elements of its own. In
-    /// another family it isn't marked, and its places aren't known.
+    /// another family it keeps none yet: it isn't marked, and its places aren't known.
     pub fn derive(&mut self, alloc: Global, id: u64, root: u64, base: u64, over: Option<Triple>)
+        requires view { is_some (parent_of self.old) ≡ true }
         ensures { self.new ≡ view_under id root base self.old over }
     {
         match over {
@@ -60,6 +61,7 @@ impl Node {
         }
         if self.root != root {
             self.root = root;
+            self.kept = None;
             self.mark = false;
             self.places = None;
         }

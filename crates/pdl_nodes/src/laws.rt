@@ -1,6 +1,6 @@
 //! Laws of the definitions, for the proofs of the crates above.
 ghost use Rattle.pdl_nodes.specs.Laws.{RowsAreSeen, ElementsAreRead, WritingBackKeeps, RootsAreAssigned, WaitingIsAssigned, FillingKeeps, JoiningAdds, ReleasingSweeps};
-ghost use Rattle.pdl_nodes.specs.CutLaws.{CuttingSevers, CuttingLeavesFamilies, CutsStayKnown, CutsStaySized};
+ghost use Rattle.pdl_nodes.specs.CutLaws.{CuttingSevers, CuttingLeavesFamilies, CutsStaySettled, CutsStayKnown, CutsStaySized};
 ghost use Rattle.pdl_nodes.specs.Reshaped.{ReshapingReshapes, ReshapingLeavesOthers, ReshapesStayKnown, ReshapesStaySized};
 
 use pdl_affine::{view_laws, window_laws};
@@ -24,11 +24,12 @@ pub fn order_laws()
 {}
 
 /// What a cut does to rows in order and to their world (PDL::Core, sever): it is the cut of the
-/// world, it leaves the rows of other families, and what is known of places stays true. It does
-/// nothing: who calls it has them.
-pub fn cut_laws()
+/// world, it leaves the rows of other families, nothing waits in those that were of the array's, and
+/// what is known of places stays true. It does nothing: who calls it has them.
+pub fn cut_row_laws()
     ensures severs { CuttingSevers }
     ensures families { CuttingLeavesFamilies }
+    ensures settled { CutsStaySettled }
     ensures known { CutsStayKnown }
     ensures sized { CutsStaySized }
 {
@@ -41,7 +42,7 @@ pub fn cut_laws()
 /// What other dimensions of an array without views do to rows in order and to their world
 /// (PDL::Core, reshape): it is the reshape of the world, it leaves all other rows, and what is known
 /// of places stays true. It does nothing: who calls it has them.
-pub fn reshape_laws()
+pub fn reshape_row_laws()
     ensures reshapes { ReshapingReshapes }
     ensures others { ReshapingLeavesOthers }
     ensures known { ReshapesStayKnown }

@@ -38,7 +38,8 @@ impl Marked {
     /// Lists a view of a root.
     pub fn insert(&mut self, alloc: Global, root: u64, id: u64) -> Result<(), AllocError>
         ensures listed { OnOk result (holds (listed self.new root) id ≡ true) }
-        ensures stay { (r v : ℕ) → holds (listed self.old r) v ≡ true → holds (listed self.new r) v ≡ true }
+        ensures stay { (r v : ℕ) → holds (listed self.old r) v ≡ true
+            → holds (listed self.new r) v ≡ true }
     {
         match self.by_root.get_mut(&root) {
             Some(views) => {
@@ -56,7 +57,8 @@ impl Marked {
 
     /// Of a root's views this one alone stays listed, if it is.
     pub fn keep(&mut self, root: u64, id: u64)
-        ensures kept { holds (listed self.old root) id ≡ true → holds (listed self.new root) id ≡ true }
+        ensures kept { holds (listed self.old root) id ≡ true
+            → holds (listed self.new root) id ≡ true }
         ensures others { (r : ℕ) → r ≢ root → listed self.new r ≡ listed self.old r }
     {
         match self.by_root.get_mut(&root) {
@@ -65,12 +67,27 @@ impl Marked {
         }
     }
 
-    /// Forgets a root.
-    pub fn forget(&mut self, root: u64)
-        ensures others { (r : ℕ) → r ≢ root → listed self.new r ≡ listed self.old r }
+    /// Forgets a number of the family of a root, be it the root or a view.
+    pub fn forget(&mut self, root: u64, id: u64)
+        ensures stay { (r v : ℕ) → r ≢ id → v ≢ id → holds (listed self.old r) v ≡ true
+            → holds (listed self.new r) v ≡ true }
     {
-        self.by_root.remove(&root);
+        if root == id {
+            self.by_root.remove(&id);
+            return;
+        }
+        match self.by_root.get_mut(&root) {
+            Some(views) => leave_out(views, id),
+            None => {}
+        }
     }
+}
+
+/// Leaves a number out of a list.
+fn leave_out(views: &mut Vec<u64>, id: u64)
+    ensures { (v : ℕ) → v ≢ id → holds views.old.items v ≡ true → holds views.new.items v ≡ true }
+{
+    views.retain(|view| *view != id);
 }
 
 /// Leaves this number alone in a list, if it is there.
@@ -90,7 +107,8 @@ pub fn unmark_one(
 )
     requires { IsTable keys.now nodes.old }
     ensures table { IsTable keys.now nodes.new }
-    ensures rows { rows_of nodes.new keys.now.entries ≡ each (unmark_in (id ∷ []) root base) (rows_of nodes.old keys.now.entries) }
+    ensures rows { rows_of nodes.new keys.now.entries
+        ≡ each (unmark_in (id ∷ []) root base) (rows_of nodes.old keys.now.entries) }
 {
     if id != base {
         match keys.get(&id) {
@@ -110,7 +128,8 @@ pub fn unmark(
 )
     requires { IsTable keys.now nodes.old }
     ensures table { IsTable keys.now nodes.new }
-    ensures rows { rows_of nodes.new keys.now.entries ≡ each (unmark_in views.now root base) (rows_of nodes.old keys.now.entries) }
+    ensures rows { rows_of nodes.new keys.now.entries
+        ≡ each (unmark_in views.now root base) (rows_of nodes.old keys.now.entries) }
 {
     for id in views.iter() {
         unmark_one(keys, nodes, *id, root, base);

@@ -13,7 +13,8 @@ pub fn reach(table: &Table, holds: &mut Holds)
     requires falls { Falls table.now }
     requires parents { HasParents table.now }
     requires numbers { (v : ℕ) → is_some (hold_at holds.old v) ≡ has table.now v }
-    ensures reached { (v : ℕ) → has table.now v ≡ true → is_held holds.new v ≡ reached table.now (is_held holds.old) v }
+    ensures reached { (v : ℕ) → has table.now v ≡ true
+        → is_held holds.new v ≡ reached table.now (is_held holds.old) v }
     ensures numbers { (v : ℕ) → is_some (hold_at holds.new v) ≡ has table.now v }
     ensures counts { (v : ℕ) → count holds.new v ≡ count holds.old v }
 {

@@ -42,7 +42,8 @@ pub fn ready<L: Ledger>(
     ensures fresh { OnOk result (PathIsFresh table.new id) }
     ensures settled { waiting_of table.new id ≡ None }
     ensures others { OthersWait table.old id table.new }
-    ensures counted { steps.new ≤ steps.old + (outdated table.old id + waiting_size table.old (waiting_of table.old id)) }
+    ensures counted { steps.new ≤ steps.old
+        + (outdated table.old id + waiting_size table.old (waiting_of table.old id)) }
 {
     settle(table, id, steps);
     refresh(table, alloc, id, steps)

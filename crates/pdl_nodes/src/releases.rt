@@ -3,7 +3,7 @@
 ghost use Rattle.std.specs.Prelude.{◌≡◌, ℕ, ◌+◌, ◌<◌, true, List};
 ghost use Rattle.pdl_world.specs.Swept.{holds as is_listed, sweep};
 ghost use Rattle.pdl_nodes.specs.Families.{InOrder};
-ghost use Rattle.pdl_nodes.specs.Going.{going_at, going_size, going_sum, IsSettledAt, IsLeft};
+ghost use Rattle.pdl_nodes.specs.Going.{going_at, going_size, going_sum, IsSettledAt, IsLeft, LeavesWaiting};
 ghost use Rattle.pdl_nodes.specs.Holds.{hold_at, is_held, count, Beside, after_release, count_after};
 ghost use Rattle.pdl_nodes.specs.Known.{AreKnown};
 ghost use Rattle.pdl_nodes.specs.Laws.{Means};
@@ -66,6 +66,7 @@ pub fn settle_going<L: Ledger>(table: &mut Table, holds: &Holds, steps: &mut Ste
     ensures kept { IsReady table.old table.new }
     ensures sized { AreSized table.old → AreSized table.new }
     ensures waits { KeepsWaiting (is_held holds.now) table.new }
+    ensures left { LeavesWaiting (is_held holds.now) table.old table.new }
     ensures counted { steps.new ≡ steps.old + going_sum table.old (is_held holds.now) table.old }
 {
     let mut next = table.newest();
@@ -83,11 +84,14 @@ pub fn release<L: Ledger>(table: &mut Table, holds: &mut Holds, id: u64, steps: 
     requires known { AreKnown table.old }
     requires beside { Beside table.old holds.old }
     requires held { 0 < count holds.old id }
-    ensures swept { (held : List ℕ) → ((v : ℕ) → is_listed held v ≡ after_release id holds.old v) → Means table.new (sweep (world_of table.old) held) }
+    ensures swept { (held : List ℕ) → ((v : ℕ) → is_listed held v ≡ after_release id holds.old v)
+        → Means table.new (sweep (world_of table.old) held) }
     ensures left { IsLeft table.old table.new }
     ensures beside { Beside table.new holds.new }
-    ensures counts { (v : ℕ) → has table.new v ≡ true → count holds.new v ≡ count_after id holds.old v }
-    ensures counted { steps.new ≡ steps.old + going_sum table.old (reached table.old (after_release id holds.old)) table.old }
+    ensures counts { (v : ℕ) → has table.new v ≡ true
+        → count holds.new v ≡ count_after id holds.old v }
+    ensures counted { steps.new ≡ steps.old
+        + going_sum table.old (reached table.old (after_release id holds.old)) table.old }
 {
     holds.take(id);
     reach(table, holds);

@@ -10,11 +10,11 @@ ghost use Rattle.pdl_nodes.specs.Families.{InOrder};
 ghost use Rattle.pdl_nodes.specs.Known.{AreKnown};
 ghost use Rattle.pdl_nodes.specs.Outcomes.{outdated, waiting_of, waiting_size};
 ghost use Rattle.pdl_nodes.specs.Rows.{NumbersBelow, has, row_at};
-ghost use Rattle.pdl_nodes.specs.Severed.{IsSevered, StayFresh};
+ghost use Rattle.pdl_nodes.specs.Severed.{ChangesRows, RowsAreSettled, RowsStayFresh};
 ghost use Rattle.pdl_nodes.specs.Sized.{AreSized};
 ghost use Rattle.pdl_nodes.specs.Worlds.{shape, world_of};
 
-use crate::laws::{cut_laws, reshape_laws};
+use crate::laws::{cut_row_laws, reshape_row_laws};
 use crate::pull::refresh;
 use crate::readying::settle;
 use crate::table::Table;
@@ -45,7 +45,10 @@ fn copied<L: Ledger>(
     requires sized { AreSized table.now }
     requires live { has table.now id ≡ true }
     requires fresh { is_fresh_in table.now id ≡ true }
-    ensures value { IfOk result (λ b. b ≡ record { ty = (row_at table.now id).ty; elems = elements (world_of table.now) id }) }
+    ensures value { IfOk result (λ b. b ≡ record {
+      ty = (row_at table.now id).ty;
+      elems = elements (world_of table.now) id;
+    }) }
     ensures counted { steps.new ≤ steps.old + size_of (row_at table.now id).triple.dims }
 {
     shape_laws();
@@ -69,16 +72,20 @@ pub fn sever<L: Ledger>(
     requires sized { AreSized table.old }
     requires live { has table.old id ≡ true }
     requires small { NumbersBelow (2 ^ 64 - 1) table.old }
-    ensures severed { IsSevered table.old id table.new }
+    ensures root { (row_at table.old id).root ≡ id → table.new ≡ table.old }
+    ensures spent { (row_at table.old id).root ≡ id → steps.new ≡ steps.old }
+    ensures severed { ChangesRows table.old id table.new }
+    ensures settled { (row_at table.old id).root ≢ id → RowsAreSettled table.old id table.new }
     ensures ok { OnOk result (world_of table.new ≡ sever (world_of table.old) id) }
     ensures err { OnErr result (world_of table.new ≡ world_of table.old) }
-    ensures stay { OnErr result (StayFresh table.old table.new) }
-    ensures fresh { OnOk result ((row_at table.old id).root ≢ id → is_fresh_in table.new id ≡ true) }
+    ensures stay { OnErr result (RowsStayFresh table.old table.new) }
+    ensures fresh { OnOk result
+        ((row_at table.old id).root ≢ id → is_fresh_in table.new id ≡ true) }
     ensures counted { steps.new ≤ steps.old
         + (outdated table.old id + waiting_size table.old (waiting_of table.old id)
         + size_of (row_at table.old id).triple.dims) }
 {
-    cut_laws();
+    cut_row_laws();
     if table.node(id).root() == id {
         return Ok(());
     }
@@ -127,7 +134,10 @@ fn first_copied<L: Ledger>(
     requires sized { AreSized table.now }
     requires live { has table.now id ≡ true }
     requires fresh { is_fresh_in table.now id ≡ true }
-    ensures value { IfOk result (λ b. b ≡ record { ty = (row_at table.now id).ty; elems = fitted count (elements (world_of table.now) id) }) }
+    ensures value { IfOk result (λ b. b ≡ record {
+      ty = (row_at table.now id).ty;
+      elems = fitted count (elements (world_of table.now) id);
+    }) }
     ensures counted { steps.new ≤ steps.old + count }
 {
     shape_laws();
@@ -153,16 +163,17 @@ pub fn reshape<L: Ledger>(
     requires sized { AreSized table.old }
     requires live { has table.old id ≡ true }
     requires viewless { has_views (shape table.old) id ≡ false }
-    ensures reshaped { IsSevered table.old id table.new }
+    ensures reshaped { ChangesRows table.old id table.new }
+    ensures settled { RowsAreSettled table.old id table.new }
     ensures ok { OnOk result (world_of table.new ≡ reshape (world_of table.old) id dims.now) }
     ensures err { OnErr result (world_of table.new ≡ world_of table.old) }
-    ensures stay { OnErr result (StayFresh table.old table.new) }
+    ensures stay { OnErr result (RowsStayFresh table.old table.new) }
     ensures fresh { OnOk result (is_fresh_in table.new id ≡ true) }
     ensures counted { steps.new ≤ steps.old
         + (outdated table.old id + waiting_size table.old (waiting_of table.old id)
         + size_of dims.now) }
 {
-    reshape_laws();
+    reshape_row_laws();
     let _limits = dims_list(dims);
     let count = elements_of(dims);
     settle(table, id, steps);

@@ -87,9 +87,10 @@ impl Table {
         ensures { self.new ≡ without id self.old }
     {
         let key = self.keys[&id];
+        let root = self.nodes[key].root();
         self.keys.remove(&id);
         self.nodes.remove(key);
-        self.marked.forget(id);
+        self.marked.forget(root, id);
     }
 
     /// The newest live number.

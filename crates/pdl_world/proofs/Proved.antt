@@ -1,9 +1,10 @@
 -- The laws of worlds.
 use Rattle.std.specs.List.{Contains}
 use Rattle.std.proofs.lemmas.List.Elements.{All-weaker, All-contains}
-use Rattle.std.proofs.Common.{◌⊎◌, suc, zero, ◌≡◌, ℕ, ℤ, pos, ◌<◌, List, [], ◌∷◌, length, map, get_or, All, Option, Some, None, option_and_then, IsOk, IsSomeAnd, Result, Ok, Err, inl, inr, refl, sym, ◌∙◌, ap, subst, arith}
+use Rattle.std.proofs.Common.{◌⊎◌, suc, zero, ◌≡◌, ℕ, ℤ, pos, ◌<◌, true, false, List, [], ◌∷◌, length, map, get_or, All, Option, Some, None, option_and_then, IsOk, IsSomeAnd, Result, Ok, Err, inl, inr, refl, sym, ◌∙◌, ap, subst, arith}
 use Rattle.std.specs.Option.{option_map_or}
-use Rattle.std.proofs.lemmas.Bool.{cases_lt, eq-eqb}
+use Rattle.std.proofs.lemmas.Bool.{cases_Bool, cases_lt, eq-eqb}
+use Rattle.std.proofs.lemmas.Bool.Decides.{eqb_tells}
 use Rattle.std.proofs.lemmas.List.{length-map, get_or-map, get_or_past, ext_get_or}
 use Rattle.std.proofs.lemmas.List.FromFn.{length-map-range_with_len, get_or-map-range_with_len}
 use Rattle.pdl_elem.specs.declared.Ty.{Ty}
@@ -17,9 +18,9 @@ use Rattle.pdl_shape.specs.Refusals.{Refusal}
 use Rattle.pdl_world.specs.Formula.{child_dims, source}
 use Rattle.pdl_world.specs.Paths.{path}
 use Rattle.pdl_world.specs.Refused.{refusal_at}
-use Rattle.pdl_world.specs.World.{World, ArrayDef, root, view, Look, whole, look, through, seen_through, entry, through_places, elements, root_elements, set_elements, assign, assign_through}
+use Rattle.pdl_world.specs.World.{World, ArrayDef, root, view, Look, whole, look, through, seen_through, entry, through_places, is_among, has_repeats, elements, root_elements, set_elements, assign, assign_through}
 use Rattle.pdl_world.specs.Sound.{IsAllowed, IsSound, IsLive}
-use Rattle.pdl_world.specs.Laws.{LooksStay, Reads, HasNoRepeats, kept_values, ReadsBack, PlacesLieWithin, AssignsSoundly, JoinsSoundly, OlderStay, NewIsLive}
+use Rattle.pdl_world.specs.Laws.{LooksStay, Reads, kept_values, ReadsBack, PlacesLieWithin, AssignsSoundly, JoinsSoundly, OlderStay, NewIsLive}
 use Rattle.pdl_world.proofs.Looks.{through_root, look_root, look_view, look_older, live_below, root_below, look_set}
 use Rattle.pdl_world.proofs.Roots.{elements_older, elements_set, elements_set_same, seen_in_range, sound_set}
 
@@ -142,13 +143,41 @@ kept_at (Some i ∷ ps) (x ∷ vs) zero c l = refl
 kept_at (None ∷ ps) (x ∷ vs) (suc j) c l = kept_at ps vs j (omega arith) (omega arith)
 kept_at (Some i ∷ ps) (x ∷ vs) (suc j) c l = kept_at ps vs j (omega arith) (omega arith)
 
+-- two positions have different places where there are no repeats
+among_at : (ps : List (Option ℕ)) (i k : ℕ) → k < length ps → get_or ps k None ≡ Some i → is_among i ps ≡ true
+among_at [] i k l e = absurd (omega arith)
+among_at (None ∷ ps) i zero l e = cc
+among_at (None ∷ ps) i (suc k) l e = among_at ps i k (omega arith) e
+among_at (Some j ∷ ps) i zero l e = (let z : j ≡ i = cc in rw (eq-eqb i j (sym z)) refl)
+among_at (Some j ∷ ps) i (suc k) l e = elim (eqb_tells i j) [
+  | inl t ↦ rw t.0 refl
+  | inr t ↦ rw t.0 (among_at ps i k (omega arith) e)
+]
+
+once_after : (q : ℕ) (ps : List (Option ℕ)) → has_repeats (Some q ∷ ps) ≡ false → (is_among q ps ≡ false) × (has_repeats ps ≡ false)
+once_after q ps r = elim (cases_Bool (is_among q ps)) [
+  | inl y ↦ (let z : true ≡ false = rw y at r in absurd (cc))
+  | inr n ↦ (n, (let z : has_repeats ps ≡ false = rw n at r in z))
+]
+
+apart : (ps : List (Option ℕ)) → has_repeats ps ≡ false → (j k i : ℕ) → j < k → k < length ps → get_or ps j None ≡ Some i → get_or ps k None ≡ Some i → ⊥
+apart [] r j k i a l e g = absurd (omega arith)
+apart (p ∷ ps) r j zero i a l e g = absurd (omega arith)
+apart (None ∷ ps) r zero (suc k) i a l e g = cc
+apart (None ∷ ps) r (suc j) (suc k) i a l e g = apart ps r j k i (omega arith) (omega arith) e g
+apart (Some q ∷ ps) r zero (suc k) i a l e g =
+    let z : q ≡ i = cc in
+    let m : true ≡ false = sym (among_at ps i k (omega arith) g) ∙ ap (λ x. is_among x ps) (sym z) ∙ (once_after q ps r).0 in
+    cc
+apart (Some q ∷ ps) r (suc j) (suc k) i a l e g = apart ps (once_after q ps r).1 j k i (omega arith) (omega arith) e g
+
 -- one element that was put
-back_at : WriteLaws → (ps : List (Option ℕ)) (vs es : List ℤ) (j : ℕ) (o : Option ℕ) → get_or ps j None ≡ o → ((i : ℕ) → o ≡ Some i → i < length es) → HasNoRepeats ps → length vs ≡ length ps → j < length ps
+back_at : WriteLaws → (ps : List (Option ℕ)) (vs es : List ℤ) (j : ℕ) (o : Option ℕ) → get_or ps j None ≡ o → ((i : ℕ) → o ≡ Some i → i < length es) → has_repeats ps ≡ false → length vs ≡ length ps → j < length ps
     → element_at (write ps vs es) o ≡ value_if o (get_or vs j (pos 0))
 back_at laws ps vs es j None e low r c h = refl
-back_at laws ps vs es j (Some i) e low r c h = laws.last ps vs es j i (pos 0) (omega arith) (low i refl) e (λ k a b g. r j k i a (omega arith) e g)
+back_at laws ps vs es j (Some i) e low r c h = laws.last ps vs es j i (pos 0) (omega arith) (low i refl) e (λ k a b g. apart ps r j k i a (omega arith) e g)
 
-read_back : WriteLaws → (ps : List (Option ℕ)) (vs es : List ℤ) → HasNoRepeats ps → ((j i : ℕ) → get_or ps j None ≡ Some i → i < length es) → length vs ≡ length ps → read ps (write ps vs es) ≡ kept_values ps vs
+read_back : WriteLaws → (ps : List (Option ℕ)) (vs es : List ℤ) → has_repeats ps ≡ false → ((j i : ℕ) → get_or ps j None ≡ Some i → i < length es) → length vs ≡ length ps → read ps (write ps vs es) ≡ kept_values ps vs
 read_back laws ps vs es r low c = ext_get_or (pos 0) (read ps (write ps vs es)) (kept_values ps vs) (length-map ps (element_at (write ps vs es)) ∙ sym (length_kept ps vs c)) (λ j h.
     let l : j < length ps = omega (arith, length-map ps (element_at (write ps vs es))) in
     get_or-map (element_at (write ps vs es)) ps j None (pos 0) l ∙ back_at laws ps vs es j (get_or ps j None) refl (low j) r c l ∙ sym (kept_at ps vs j c l))

@@ -1,5 +1,5 @@
 -- What holds of every world.
-use Rattle.std.specs.Prelude.{◌≡◌, ℕ, ℤ, pos, ◌<◌, ◌==◌, if◌then◌else◌, List, [], ◌∷◌, length, get_or, All, Option, Some, None, Ok}
+use Rattle.std.specs.Prelude.{◌≡◌, ℕ, ℤ, pos, ◌<◌, ◌==◌, if◌then◌else◌, false, List, [], ◌∷◌, length, get_or, All, Option, Some, None, Ok}
 use Rattle.pdl_elem.specs.declared.Ty.{Ty}
 use Rattle.pdl_elem.specs.Types.{InRange}
 use Rattle.pdl_shape.specs.Places.{places_of, read, write}
@@ -7,7 +7,7 @@ use Rattle.pdl_shape.specs.Shape.{size_of}
 use Rattle.pdl_world.specs.declared.Trans.{Trans}
 use Rattle.pdl_world.specs.Formula.{child_dims, source}
 use Rattle.pdl_world.specs.Paths.{path, root_of}
-use Rattle.pdl_world.specs.World.{World, ArrayDef, root, view, Look, whole, look, elements, root_elements, assign, dims_in, ty_in}
+use Rattle.pdl_world.specs.World.{World, ArrayDef, root, view, Look, whole, look, has_repeats, elements, root_elements, assign, dims_in, ty_in}
 use Rattle.pdl_world.specs.Sound.{NumbersBelow, IsAllowed, IsSound, IsLive}
 
 -- an assignment changes nothing of what is seen through any array
@@ -31,11 +31,6 @@ Reads =
     → elements (assign w v vs) u
     ≡ read m.places (if m.root == l.root then write l.places vs (root_elements w l.root) else root_elements w m.root)
 
--- no two positions have the same place; nothing is no place
-abbrev pub HasNoRepeats : List (Option ℕ) → Type 0
-HasNoRepeats ps =
-    (j k i : ℕ) → j < k → k < length ps → get_or ps j None ≡ Some i → get_or ps k None ≡ Some i → ⊥
-
 -- the values at positions that have a place, and 0 at the others
 abbrev pub kept_values : (places : List (Option ℕ)) → (values : List ℤ) → List ℤ
 kept_values [] vs = []
@@ -47,7 +42,7 @@ kept_values (Some i ∷ ps) (x ∷ vs) = x ∷ kept_values ps vs
 abbrev pub ReadsBack : Type 0
 ReadsBack =
     (w : World) (v : ℕ) (l : Look) (vs : List ℤ) → IsSound w → look w v ≡ Some l
-    → HasNoRepeats l.places
+    → has_repeats l.places ≡ false
     → length vs ≡ length l.places → elements (assign w v vs) v ≡ kept_values l.places vs
 
 -- each place is one of an element of the root

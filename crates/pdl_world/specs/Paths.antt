@@ -1,5 +1,5 @@
--- The way from an array to its root, and what is kept of it (PDL::Dataflow).
-use Rattle.std.specs.Prelude.{ℕ, not, ◌==◌, ◌&&◌, if◌then◌else◌, List, [], ◌∷◌, filter}
+-- The way from an array to its root (PDL::Dataflow).
+use Rattle.std.specs.Prelude.{ℕ, ◌==◌, if◌then◌else◌, List, [], ◌∷◌}
 use Rattle.std.specs.Option.{option_map_or}
 use Rattle.pdl_world.specs.World.{World, root, view, look}
 
@@ -16,11 +16,3 @@ path ((k, view p t) ∷ w) v = if k == v then k ∷ path w p else path w v
 -- the root of an array; an array that isn't there is its own
 abbrev pub root_of : World → ℕ → ℕ
 root_of w v = option_map_or (λ l. l.root) (look w v) v
-
--- the array whose kept elements show this one: each array keeps its own
-abbrev pub base : World → ℕ → ℕ
-base w v = v
-
--- the views on the path that keep elements of their own
-abbrev pub choice_path : World → ℕ → List ℕ
-choice_path w v = filter (λ u. (base w u == u) && not (u == root_of w v)) (path w v)

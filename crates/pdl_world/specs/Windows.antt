@@ -1,5 +1,6 @@
 -- Windows (PDL::API, affine transformations): how an array is shown over the elements of its base.
 use Rattle.std.specs.Prelude.{ℕ, ◌==◌, if◌then◌else◌, List, [], ◌∷◌, Option, Some, None, option_and_then, Result, Ok, Err}
+use Rattle.std.specs.Option.{option_map_or}
 use Rattle.pdl_shape.specs.Triple.{Triple, whole}
 use Rattle.pdl_affine.specs.Windows.{composed}
 use Rattle.pdl_world.specs.declared.Trans.{Trans}
@@ -40,3 +41,7 @@ window ((k, root ty ds es) ∷ w) v = if k == v then Some (record { base = k; tr
 window ((k, view p t) ∷ w) v =
     let below = window w (if k == v then p else v) in
     if k == v then option_and_then (narrowed k t) below else below
+
+-- the array whose elements show this one; one that isn't there is its own
+abbrev pub base : World → ℕ → ℕ
+base w v = option_map_or (λ x. x.base) (window w v) v

@@ -1,5 +1,5 @@
 -- Worlds: what is seen through an array, its elements, and assignment (PDL::Indexing, PDL::Dataflow).
-use Rattle.std.specs.Prelude.{ℕ, ℤ, ◌==◌, if◌then◌else◌, List, [], ◌∷◌, map, Option, Some, None, option_and_then, get_or, Result, Ok, Err}
+use Rattle.std.specs.Prelude.{ℕ, ℤ, ◌==◌, if◌then◌else◌, Bool, true, false, List, [], ◌∷◌, map, Option, Some, None, option_and_then, get_or, Result, Ok, Err}
 use Rattle.std.specs.Option.{option_map_or}
 use Rattle.std.specs.List.{range_with_len}
 use Rattle.pdl_elem.specs.declared.Ty.{Ty}
@@ -56,6 +56,21 @@ look ((k, root ty ds es) ∷ w) v = if k == v then Some (whole k ty ds) else loo
 look ((k, view p t) ∷ w) v =
     let below = look w (if k == v then p else v) in
     if k == v then option_and_then (through t) below else below
+
+-- the root's place of each position of an array
+abbrev pub places_in : World → ℕ → List (Option ℕ)
+places_in w v = option_map_or (λ l. l.places) (look w v) []
+
+abbrev pub is_among : ℕ → List (Option ℕ) → Bool
+is_among i [] = false
+is_among i (None ∷ ps) = is_among i ps
+is_among i (Some j ∷ ps) = if i == j then true else is_among i ps
+
+-- two positions have the same place; nothing isn't a place
+abbrev pub has_repeats : List (Option ℕ) → Bool
+has_repeats [] = false
+has_repeats (None ∷ ps) = has_repeats ps
+has_repeats (Some i ∷ ps) = if is_among i ps then true else has_repeats ps
 
 -- the elements of a root
 abbrev pub root_elements : World → ℕ → List ℤ

@@ -1,4 +1,4 @@
-use Rattle.std.proofs.Common.{refl, sym, ◌∙◌}
+use Rattle.std.proofs.Common.{refl, ◌∙◌}
 use Rattle.pdl_nodes.proofs.Reaches.{no_hold, beside_same}
 use Rattle.pdl_nodes.proofs.holds.insert.Goals as goal
 

@@ -1,4 +1,3 @@
-use Rattle.pdl_nodes.specs.Worlds.{latest}
 use Rattle.pdl_nodes.proofs.Settles.{written_back, world_back, rooted, world_rooted}
 use Rattle.pdl_nodes.proofs.Waits.{awaited, world_awaited, filled, world_filled}
 use Rattle.pdl_nodes.proofs.Joins.{pushed, world_pushed}

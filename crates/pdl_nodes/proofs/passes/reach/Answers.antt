@@ -1,6 +1,6 @@
-use Rattle.std.proofs.Common.{◌≡◌, Some, None, sym, ◌∙◌, ap}
+use Rattle.std.proofs.Common.{sym, ◌∙◌, ap}
 use Rattle.pdl_nodes.specs.Row.{Row, parent_of}
-use Rattle.pdl_nodes.proofs.Reaches.{reaching_none, is_near, near_live, near_row, near_smaller, near_held, near_free, up_none, up_some, reached_all, to_later}
+use Rattle.pdl_nodes.proofs.Reaches.{reaching_none, is_near, near_row, near_smaller, near_held, near_free, up_none, up_some, to_later}
 use Rattle.pdl_nodes.proofs.passes.reach.Goals as goal
 
 pub loop-next-init : goal.loop-next-init

@@ -1,5 +1,5 @@
-use Rattle.std.proofs.Common.{◌≡◌, ℕ, ◌+◌, ◌≤◌, true, Option, ◌∙◌, sym, ap, arith}
-use Rattle.pdl_nodes.specs.Rows.{row_at, has}
+use Rattle.std.proofs.Common.{◌≤◌, ◌∙◌, ap, arith}
+use Rattle.pdl_nodes.specs.Rows.{row_at}
 use Rattle.pdl_nodes.specs.Outcomes.{outdated}
 use Rattle.pdl_nodes.proofs.Readied.{ready_then, less_path}
 use Rattle.pdl_nodes.proofs.readying.ready.Goals as goal

@@ -1,9 +1,7 @@
-use Rattle.std.proofs.Common.{◌≡◌, ℕ, true, Option, Some, ◌∙◌, sym, ap}
+use Rattle.std.proofs.Common.{◌∙◌, sym, ap}
 use Rattle.pdl_nodes.specs.Row.{Row}
-use Rattle.pdl_nodes.specs.Rows.{row_at, has}
-use Rattle.pdl_nodes.specs.Worlds.{IsRoot}
 use Rattle.pdl_nodes.proofs.Alikes.{root_live}
-use Rattle.pdl_nodes.proofs.Readied.{settled_back, settled_none}
+use Rattle.pdl_nodes.proofs.Readied.{settled_back}
 use Rattle.pdl_nodes.proofs.readying.settle.Goals as goal
 
 pub node-requires-2 : goal.node-requires-2

@@ -27,18 +27,20 @@ returns-clause-swept g c = λ held f.
       notes = notes;
       closed = reached_closed c.args.table.now (after_release c.args.id c.args.holds.now) c.requires.order.still;
       waits = c.settle_going.ensures.waits;
+      leaves = c.settle_going.ensures.left;
       left = c.remove_unreached.ensures.stays;
     } in
     left_means c.args.table.now c.settle_going.new.table c.remove_unreached.new.table (reached c.args.table.now (after_release c.args.id c.args.holds.now)) (is_held c.reach.new.holds) held (after_release c.args.id c.args.holds.now) c.requires.order.still l refl f
 
 pub returns-clause-left : goal.returns-clause-left
 returns-clause-left g c =
-    is_left c.args.table.now c.settle_going.new.table c.remove_unreached.new.table (reached c.args.table.now (after_release c.args.id c.args.holds.now)) (is_held c.reach.new.holds) (record {
+    is_left c.args.table.now c.settle_going.new.table c.remove_unreached.new.table (reached c.args.table.now (after_release c.args.id c.args.holds.now)) (is_held c.reach.new.holds) c.requires.order (record {
       kept = c.settle_going.ensures.kept;
       sized = c.settle_going.ensures.sized;
       notes = λ v h. c.reach.ensures.reached v h ∙ taken c.args.table.now c.args.holds.now c.take.new.self c.args.id v c.take.ensures.here c.take.ensures.others;
       closed = reached_closed c.args.table.now (after_release c.args.id c.args.holds.now) c.requires.order.still;
       waits = c.settle_going.ensures.waits;
+      leaves = c.settle_going.ensures.left;
       left = c.remove_unreached.ensures.stays;
     })
 

@@ -7,7 +7,7 @@ use Rattle.pdl_nodes.specs.Row.{Row}
 use Rattle.pdl_nodes.proofs.Calls.{on_err}
 use Rattle.pdl_nodes.proofs.Paths.{path_first}
 use Rattle.pdl_nodes.proofs.Readied.{ready_then}
-use Rattle.pdl_nodes.proofs.Severs.{CutFacts, IsFreshly, root_uncut, only_ready, freshly, ready_sized, ready_steps, all_steps, below_ready, ready_fresh, cut_fresh, can_cut, was_cut, cut_world}
+use Rattle.pdl_nodes.proofs.Severs.{CutFacts, IsFreshly, root_uncut, others_on, settled_on, cut_settled, only_ready, freshly, ready_sized, ready_steps, all_steps, below_ready, ready_fresh, cut_fresh, can_cut, was_cut, cut_world}
 use Rattle.pdl_nodes.proofs.severing.sever.Goals as goal
 
 pub returns-then-root-id-clause-ok : goal.returns-then-root-id-clause-ok
@@ -15,6 +15,7 @@ returns-then-root-id-clause-ok g c = root_uncut c.args.table.now c.args.id c.req
 
 pub returns-in_err-refresh-clause-severed : goal.returns-in_err-refresh-clause-severed
 returns-in_err-refresh-clause-severed g c = only_ready c.args.table.now c.refresh.new.table c.args.id c.requires.order c.requires.sized (ready_then c.args.table.now c.settle.new.table c.refresh.new.table c.settle.ensures.settled.ready c.refresh.ensures.kept)
+    (others_on c.args.table.now c.settle.new.table c.refresh.new.table c.args.id c.settle.ensures.settled c.refresh.ensures.kept)
 
 pub returns-in_err-refresh-clause-counted : goal.returns-in_err-refresh-clause-counted
 returns-in_err-refresh-clause-counted g c =
@@ -31,6 +32,7 @@ copied-requires-clause-fresh g c =
 
 pub returns-in_err-kept-clause-severed : goal.returns-in_err-kept-clause-severed
 returns-in_err-kept-clause-severed g c = only_ready c.args.table.now c.refresh.new.table c.args.id c.requires.order c.requires.sized (ready_then c.args.table.now c.settle.new.table c.refresh.new.table c.settle.ensures.settled.ready c.refresh.ensures.kept)
+    (others_on c.args.table.now c.settle.new.table c.refresh.new.table c.args.id c.settle.ensures.settled c.refresh.ensures.kept)
 
 pub returns-in_err-kept-clause-counted : goal.returns-in_err-kept-clause-counted
 returns-in_err-kept-clause-counted g c =
@@ -51,7 +53,7 @@ cut-requires-clause-small g c = below_ready c.args.table.now c.refresh.new.table
 
 pub returns-clause-severed : goal.returns-clause-severed
 returns-clause-severed g c =
-    let laws : CutFacts = record { severs = c.cut_laws.ensures.severs; families = c.cut_laws.ensures.families; known = c.cut_laws.ensures.known; sized = c.cut_laws.ensures.sized } in
+    let laws : CutFacts = record { severs = c.cut_row_laws.ensures.severs; families = c.cut_row_laws.ensures.families; settled = c.cut_row_laws.ensures.settled; known = c.cut_row_laws.ensures.known; sized = c.cut_row_laws.ensures.sized } in
     let f : IsFreshly c.args.table.now c.refresh.new.table c.args.id = freshly c.args.table.now c.settle.new.table c.refresh.new.table c.args.id c.requires.order c.requires.sized c.requires.live c.settle.ensures.settled c.refresh.ensures.kept
     (path_first c.refresh.new.table c.args.id c.refresh.ensures.kept.order.still (c.refresh.ensures.kept.alike.has_is c.args.id ∙ c.settle.ensures.settled.ready.alike.has_is c.args.id ∙ c.requires.live) c.in_ok-refresh.ensures.fresh) in
     let can : CanCut c.refresh.new.table c.args.id c.copy_dims-dims.result c.in_ok-kept.kept.elems = can_cut c.args.table.now c.refresh.new.table c.args.id c.copy_dims-dims.result c.in_ok-kept.kept.elems f
@@ -62,7 +64,7 @@ returns-clause-severed g c =
 
 pub returns-clause-ok : goal.returns-clause-ok
 returns-clause-ok g c =
-    let laws : CutFacts = record { severs = c.cut_laws.ensures.severs; families = c.cut_laws.ensures.families; known = c.cut_laws.ensures.known; sized = c.cut_laws.ensures.sized } in
+    let laws : CutFacts = record { severs = c.cut_row_laws.ensures.severs; families = c.cut_row_laws.ensures.families; settled = c.cut_row_laws.ensures.settled; known = c.cut_row_laws.ensures.known; sized = c.cut_row_laws.ensures.sized } in
     let f : IsFreshly c.args.table.now c.refresh.new.table c.args.id = freshly c.args.table.now c.settle.new.table c.refresh.new.table c.args.id c.requires.order c.requires.sized c.requires.live c.settle.ensures.settled c.refresh.ensures.kept
     (path_first c.refresh.new.table c.args.id c.refresh.ensures.kept.order.still (c.refresh.ensures.kept.alike.has_is c.args.id ∙ c.settle.ensures.settled.ready.alike.has_is c.args.id ∙ c.requires.live) c.in_ok-refresh.ensures.fresh) in
     let can : CanCut c.refresh.new.table c.args.id c.copy_dims-dims.result c.in_ok-kept.kept.elems = can_cut c.args.table.now c.refresh.new.table c.args.id c.copy_dims-dims.result c.in_ok-kept.kept.elems f
@@ -87,3 +89,40 @@ returns-clause-fresh g c = λ n.
     let f : IsFreshly c.args.table.now c.refresh.new.table c.args.id = freshly c.args.table.now c.settle.new.table c.refresh.new.table c.args.id c.requires.order c.requires.sized c.requires.live c.settle.ensures.settled c.refresh.ensures.kept
     (path_first c.refresh.new.table c.args.id c.refresh.ensures.kept.order.still (c.refresh.ensures.kept.alike.has_is c.args.id ∙ c.settle.ensures.settled.ready.alike.has_is c.args.id ∙ c.requires.live) c.in_ok-refresh.ensures.fresh) in
     cut_fresh c.args.table.now c.refresh.new.table c.cut.new.self c.args.id c.copy_dims-dims.result c.in_ok-kept.kept.elems f c.cut.ensures
+
+pub returns-in_err-refresh-clause-settled : goal.returns-in_err-refresh-clause-settled
+returns-in_err-refresh-clause-settled g c = λ n. settled_on c.args.table.now c.settle.new.table c.refresh.new.table c.args.id c.settle.ensures.settled c.refresh.ensures.kept
+
+pub returns-in_err-kept-clause-settled : goal.returns-in_err-kept-clause-settled
+returns-in_err-kept-clause-settled g c = λ n. settled_on c.args.table.now c.settle.new.table c.refresh.new.table c.args.id c.settle.ensures.settled c.refresh.ensures.kept
+
+pub returns-clause-settled : goal.returns-clause-settled
+returns-clause-settled g c = λ n.
+    let laws : CutFacts = record { severs = c.cut_row_laws.ensures.severs; families = c.cut_row_laws.ensures.families; settled = c.cut_row_laws.ensures.settled; known = c.cut_row_laws.ensures.known; sized = c.cut_row_laws.ensures.sized } in
+    let f : IsFreshly c.args.table.now c.refresh.new.table c.args.id = freshly c.args.table.now c.settle.new.table c.refresh.new.table c.args.id c.requires.order c.requires.sized c.requires.live c.settle.ensures.settled c.refresh.ensures.kept
+    (path_first c.refresh.new.table c.args.id c.refresh.ensures.kept.order.still (c.refresh.ensures.kept.alike.has_is c.args.id ∙ c.settle.ensures.settled.ready.alike.has_is c.args.id ∙ c.requires.live) c.in_ok-refresh.ensures.fresh) in
+    let can : CanCut c.refresh.new.table c.args.id c.copy_dims-dims.result c.in_ok-kept.kept.elems = can_cut c.args.table.now c.refresh.new.table c.args.id c.copy_dims-dims.result c.in_ok-kept.kept.elems f n
+    (c.copy_dims-dims.ensures ∙ ap (λ (t : Triple). t.dims) (c.behind-node.view_is ∙ c.triple.ensures ∙ ap (λ (r : Row). r.triple) c.node-2.ensures))
+    (ap (λ (k : Kept). k.elems) c.in_ok-kept.ensures.value) in
+    cut_settled laws c.args.table.now c.refresh.new.table c.cut.new.self c.args.id c.copy_dims-dims.result c.in_ok-kept.kept.elems f can c.cut.ensures
+
+pub returns-in_err-refresh-clause-root : goal.returns-in_err-refresh-clause-root
+returns-in_err-refresh-clause-root g c = λ r. absurd (c.if-root-id.false (c.root.ensures ∙ ap (λ (x : Row). x.root) c.node.ensures ∙ r))
+
+pub returns-in_err-refresh-clause-spent : goal.returns-in_err-refresh-clause-spent
+returns-in_err-refresh-clause-spent g c = λ r. absurd (c.if-root-id.false (c.root.ensures ∙ ap (λ (x : Row). x.root) c.node.ensures ∙ r))
+
+pub returns-in_err-kept-clause-root : goal.returns-in_err-kept-clause-root
+returns-in_err-kept-clause-root g c = λ r. absurd (c.if-root-id.false (c.root.ensures ∙ ap (λ (x : Row). x.root) c.node.ensures ∙ r))
+
+pub returns-in_err-kept-clause-spent : goal.returns-in_err-kept-clause-spent
+returns-in_err-kept-clause-spent g c = λ r. absurd (c.if-root-id.false (c.root.ensures ∙ ap (λ (x : Row). x.root) c.node.ensures ∙ r))
+
+pub returns-clause-root : goal.returns-clause-root
+returns-clause-root g c = λ r. absurd (c.if-root-id.false (c.root.ensures ∙ ap (λ (x : Row). x.root) c.node.ensures ∙ r))
+
+pub returns-clause-spent : goal.returns-clause-spent
+returns-clause-spent g c = λ r. absurd (c.if-root-id.false (c.root.ensures ∙ ap (λ (x : Row). x.root) c.node.ensures ∙ r))
+
+pub returns-then-root-id-clause-settled : goal.returns-then-root-id-clause-settled
+returns-then-root-id-clause-settled g c = λ n. absurd (n (ap (λ (r : Row). r.root) (sym c.node.ensures) ∙ sym c.root.ensures ∙ c.if-root-id.true))

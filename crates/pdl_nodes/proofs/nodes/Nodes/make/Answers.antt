@@ -1,29 +1,17 @@
-use Rattle.std.proofs.Common.{◌≡◌, ◌≢◌, ℕ, ℤ, ◌+◌, ◌<◌, ◌≤◌, List, ◌∷◌, length, All, Option, Some, None, true, false, refl, sym, ◌∙◌, ap, subst, arith}
-use Rattle.std.specs.Prelude.{nat_lt}
-use Rattle.pdl_elem.specs.declared.Ty.{Ty}
-use Rattle.pdl_elem.specs.Types.{InRange}
+use Rattle.std.proofs.Common.{◌∷◌, refl, sym, ◌∙◌, ap, subst, arith}
 use Rattle.pdl_buf.specs.Buffer.{Kept}
-use Rattle.pdl_shape.specs.Shape.{size_of}
-use Rattle.pdl_shape.specs.Triple.{Triple, Reaches}
-use Rattle.pdl_buf.specs.Window.{shown, Window}
-use Rattle.pdl_world.specs.Paths.{path, root_of}
-use Rattle.pdl_world.specs.Sound.{IsLive, IsSound}
-use Rattle.pdl_world.specs.Swept.{holds}
-use Rattle.pdl_world.specs.World.{World, dims_in, ty_in, elements}
+use Rattle.pdl_world.specs.Sound.{IsSound}
 use Rattle.pdl_nodes.specs.Row.{Row}
-use Rattle.pdl_nodes.specs.Rows.{Rows, row_at, has}
-use Rattle.pdl_nodes.specs.Alike.{is_fresh_in}
+use Rattle.pdl_nodes.specs.Rows.{Rows}
 use Rattle.pdl_nodes.specs.Nodes.{state_of, IsNodes}
 use Rattle.pdl_nodes.specs.State.{State}
-use Rattle.pdl_nodes.specs.Worlds.{world_of, shape, latest}
-use Rattle.pdl_nodes.proofs.Stating.{live_has, dims_are, ty_are, root_are, length_world, fresh_is, fresh_live, path_with, holds_alike, lent_elements}
-use Rattle.pdl_world.specs.World.{ArrayDef, root, view}
+use Rattle.pdl_nodes.specs.Worlds.{world_of}
+use Rattle.pdl_world.specs.World.{ArrayDef, root}
 use Rattle.pdl_nodes.specs.Holds.{Beside}
-use Rattle.pdl_nodes.specs.Joined.{joined_def}
 use Rattle.pdl_nodes.specs.Row.{root_row}
 use Rattle.pdl_nodes.specs.State.{Joins}
 use Rattle.pdl_nodes.proofs.Calls.{on_err}
-use Rattle.pdl_nodes.proofs.Growing.{IsGrown, grown_nodes, grown_state, new_root, new_view, view_def, err_state, below_world, no_root}
+use Rattle.pdl_nodes.proofs.Growing.{IsGrown, grown_nodes, grown_state, new_root, err_state, below_world, no_root}
 use Rattle.pdl_nodes.proofs.nodes.Nodes.make.Goals as goal
 
 pub insert-requires-clause-new_root : goal.insert-requires-clause-new_root
@@ -40,6 +28,7 @@ invariant_of-self-2 g c =
     let grown : IsGrown c.self.inside.table c.self.inside.holds c.insert.new.holds c.self.inside.next (root_row c.self.inside.next c.args.ty c.args.dims.now c.args.elems.now) = (record {
       new = new_root c.shape_laws.ensures.positions c.shape_laws.ensures.wholes c.self.inside.table c.self.inside.next c.args.ty c.args.dims.now c.args.elems.now c.self.invariant.below c.requires.count;
       unlisted = refl;
+      bare = λ n. absurd (n refl);
       sized = record { triple = c.triple_laws.ensures.wholes c.args.dims.now c.dims_list-limits.ensures.limits; limits = c.dims_list-limits.ensures.limits; laid = tt };
       sound = c.growth_laws.ensures.sound (world_of c.self.inside.table) c.self.inside.next (root c.args.ty c.args.dims.now c.args.elems.now) c.self.invariant.sound (below_world c.self.inside.table c.self.inside.next c.self.invariant.below) (c.dims_list-limits.ensures.limits, c.requires);
       beside = subst (λ (t : Rows). Beside t c.insert.new.holds) (c.in_ok-insert.ensures.ok ∙ ap (λ (r : Row). (c.self.inside.next, r) ∷ c.self.inside.table) (c.root_node-node.ensures ∙ ap (λ (k : Kept). root_row c.self.inside.next c.args.ty c.args.dims.now k.elems) c.in_ok-kept.ensures.ok)) c.insert.ensures.beside;
@@ -53,6 +42,7 @@ returns-clause-made g c =
     let grown : IsGrown c.self.inside.table c.self.inside.holds c.insert.new.holds c.self.inside.next (root_row c.self.inside.next c.args.ty c.args.dims.now c.args.elems.now) = (record {
       new = new_root c.shape_laws.ensures.positions c.shape_laws.ensures.wholes c.self.inside.table c.self.inside.next c.args.ty c.args.dims.now c.args.elems.now c.self.invariant.below c.requires.count;
       unlisted = refl;
+      bare = λ n. absurd (n refl);
       sized = record { triple = c.triple_laws.ensures.wholes c.args.dims.now c.dims_list-limits.ensures.limits; limits = c.dims_list-limits.ensures.limits; laid = tt };
       sound = c.growth_laws.ensures.sound (world_of c.self.inside.table) c.self.inside.next (root c.args.ty c.args.dims.now c.args.elems.now) c.self.invariant.sound (below_world c.self.inside.table c.self.inside.next c.self.invariant.below) (c.dims_list-limits.ensures.limits, c.requires);
       beside = subst (λ (t : Rows). Beside t c.insert.new.holds) (c.in_ok-insert.ensures.ok ∙ ap (λ (r : Row). (c.self.inside.next, r) ∷ c.self.inside.table) (c.root_node-node.ensures ∙ ap (λ (k : Kept). root_row c.self.inside.next c.args.ty c.args.dims.now k.elems) c.in_ok-kept.ensures.ok)) c.insert.ensures.beside;
@@ -68,6 +58,7 @@ returns-clause-sound g c =
     let grown : IsGrown c.self.inside.table c.self.inside.holds c.insert.new.holds c.self.inside.next (root_row c.self.inside.next c.args.ty c.args.dims.now c.args.elems.now) = (record {
       new = new_root c.shape_laws.ensures.positions c.shape_laws.ensures.wholes c.self.inside.table c.self.inside.next c.args.ty c.args.dims.now c.args.elems.now c.self.invariant.below c.requires.count;
       unlisted = refl;
+      bare = λ n. absurd (n refl);
       sized = record { triple = c.triple_laws.ensures.wholes c.args.dims.now c.dims_list-limits.ensures.limits; limits = c.dims_list-limits.ensures.limits; laid = tt };
       sound = c.growth_laws.ensures.sound (world_of c.self.inside.table) c.self.inside.next (root c.args.ty c.args.dims.now c.args.elems.now) c.self.invariant.sound (below_world c.self.inside.table c.self.inside.next c.self.invariant.below) (c.dims_list-limits.ensures.limits, c.requires);
       beside = subst (λ (t : Rows). Beside t c.insert.new.holds) (c.in_ok-insert.ensures.ok ∙ ap (λ (r : Row). (c.self.inside.next, r) ∷ c.self.inside.table) (c.root_node-node.ensures ∙ ap (λ (k : Kept). root_row c.self.inside.next c.args.ty c.args.dims.now k.elems) c.in_ok-kept.ensures.ok)) c.insert.ensures.beside;

@@ -1,7 +1,7 @@
 use Rattle.std.proofs.Common.{◌≡◌, ◌+◌, true, sym, ◌∙◌, ap, subst, arith}
 use Rattle.pdl_world.specs.Cut.{has_views, reshape}
 use Rattle.pdl_world.specs.Sound.{IsLive}
-use Rattle.pdl_nodes.specs.Held.{ChangesFamily}
+use Rattle.pdl_nodes.specs.Held.{ChangesFamily, FamilyIsSettled}
 use Rattle.pdl_nodes.specs.Nodes.{state_of}
 use Rattle.pdl_nodes.specs.Outcomes.{waiting_of}
 use Rattle.pdl_nodes.specs.Outcomes.{outdated as rows_outdated}
@@ -10,7 +10,7 @@ use Rattle.pdl_nodes.specs.Rows.{has}
 use Rattle.pdl_nodes.specs.State.{State, StayFresh, outdated, waiting, waiting_size}
 use Rattle.pdl_nodes.specs.Worlds.{latest, shape}
 use Rattle.pdl_nodes.proofs.Parents.{views_with}
-use Rattle.pdl_nodes.proofs.Changed.{changed_nodes, changed_state, err_with, refused_fresh, steps_are, reshaped_sound, reshaped_lent}
+use Rattle.pdl_nodes.proofs.Changed.{changed_nodes, changed_settled, changed_state, err_with, refused_fresh, steps_are, reshaped_sound, reshaped_lent}
 use Rattle.pdl_nodes.proofs.Paths.{on_ok}
 use Rattle.pdl_nodes.proofs.Stating.{live_has}
 use Rattle.pdl_nodes.proofs.nodes.Nodes.reshape.Goals as goal
@@ -54,3 +54,9 @@ returns-clause-counted g c =
 
 pub returns-clause-sound : goal.returns-clause-sound
 returns-clause-sound g c = reshaped_sound c.reshape_laws.ensures.sound c.self.inside.table c.reshape.new.table c.args.id c.args.dims.now c.reshape.result c.self.invariant.sound (ap (λ (s : State). has_views s.world c.args.id) c.self.view_is ∙ c.requires.viewless) c.dims_list-limits.ensures.limits c.reshape.ensures.ok c.reshape.ensures.err
+
+pub returns-clause-settled : goal.returns-clause-settled
+returns-clause-settled g c =
+    subst (λ (s : State). FamilyIsSettled s c.args.id (state_of c.reshape.new.table c.self.inside.holds c.self.inside.next)) c.self.view_is
+    (changed_settled c.self.inside.table c.reshape.new.table c.self.inside.holds c.self.inside.next c.args.id c.self.invariant
+    (live_has c.self.inside.table c.args.id (subst (λ (s : State). IsLive s.world c.args.id) (sym c.self.view_is) c.requires.live)) c.reshape.ensures.reshaped c.reshape.ensures.settled)

@@ -1,19 +1,19 @@
-use Rattle.std.proofs.Common.{◌≡◌, ◌+◌, true, sym, ◌∙◌, ap, subst, arith}
+use Rattle.std.proofs.Common.{◌≡◌, ◌≢◌, ◌+◌, true, sym, ◌∙◌, ap, subst, arith}
 use Rattle.pdl_shape.specs.Shape.{size_of}
 use Rattle.pdl_world.specs.Cut.{sever}
 use Rattle.pdl_world.specs.Paths.{root_of}
 use Rattle.pdl_world.specs.Sound.{IsLive}
 use Rattle.pdl_world.specs.World.{dims_in}
-use Rattle.pdl_nodes.specs.Held.{ChangesFamily}
+use Rattle.pdl_nodes.specs.Held.{ChangesFamily, FamilyIsSettled}
 use Rattle.pdl_nodes.specs.Nodes.{state_of}
 use Rattle.pdl_nodes.specs.Outcomes.{waiting_of}
 use Rattle.pdl_nodes.specs.Outcomes.{outdated as rows_outdated}
 use Rattle.pdl_nodes.specs.Outcomes.{waiting_size as rows_waiting_size}
-use Rattle.pdl_nodes.specs.Rows.{has, row_at}
+use Rattle.pdl_nodes.specs.Rows.{Rows, has, row_at}
 use Rattle.pdl_nodes.specs.State.{State, StayFresh, outdated, waiting, waiting_size}
-use Rattle.pdl_nodes.proofs.Changed.{changed_nodes, changed_state, err_with, below_most, refused_fresh, root_fresh, steps_are, severed_sound}
+use Rattle.pdl_nodes.proofs.Changed.{changed_nodes, changed_settled, changed_state, err_with, below_most, refused_fresh, root_fresh, steps_are, severed_sound}
 use Rattle.pdl_nodes.proofs.Paths.{on_ok}
-use Rattle.pdl_nodes.proofs.Stating.{live_has, dims_are}
+use Rattle.pdl_nodes.proofs.Stating.{live_has, dims_are, root_are}
 use Rattle.pdl_nodes.proofs.nodes.Nodes.sever.Goals as goal
 
 pub sever-requires-clause-live : goal.sever-requires-clause-live
@@ -57,3 +57,22 @@ returns-clause-counted g c =
 
 pub returns-clause-sound : goal.returns-clause-sound
 returns-clause-sound g c = severed_sound c.cut_laws.ensures.sound c.self.inside.table c.sever.new.table c.args.id c.sever.result c.self.invariant.sound c.sever.ensures.ok c.sever.ensures.err
+
+pub returns-clause-root : goal.returns-clause-root
+returns-clause-root g c = λ q.
+    let h : has c.self.inside.table c.args.id ≡ true = live_has c.self.inside.table c.args.id (subst (λ (s : State). IsLive s.world c.args.id) (sym c.self.view_is) c.requires) in
+    ap (λ (t : Rows). state_of t c.self.inside.holds c.self.inside.next)
+    (c.sever.ensures.root (sym (root_are c.self.inside.table c.args.id c.self.invariant.order.still h) ∙ ap (λ (s : State). root_of s.world c.args.id) c.self.view_is ∙ q))
+    ∙ c.self.view_is
+
+pub returns-clause-spent : goal.returns-clause-spent
+returns-clause-spent g c = λ q.
+    let h : has c.self.inside.table c.args.id ≡ true = live_has c.self.inside.table c.args.id (subst (λ (s : State). IsLive s.world c.args.id) (sym c.self.view_is) c.requires) in
+    c.sever.ensures.spent (sym (root_are c.self.inside.table c.args.id c.self.invariant.order.still h) ∙ ap (λ (s : State). root_of s.world c.args.id) c.self.view_is ∙ q)
+
+pub returns-clause-settled : goal.returns-clause-settled
+returns-clause-settled g c = λ q.
+    let h : has c.self.inside.table c.args.id ≡ true = live_has c.self.inside.table c.args.id (subst (λ (s : State). IsLive s.world c.args.id) (sym c.self.view_is) c.requires) in
+    subst (λ (s : State). FamilyIsSettled s c.args.id (state_of c.sever.new.table c.self.inside.holds c.self.inside.next)) c.self.view_is
+    (changed_settled c.self.inside.table c.sever.new.table c.self.inside.holds c.self.inside.next c.args.id c.self.invariant h c.sever.ensures.severed
+    (c.sever.ensures.settled (λ e. q (ap (λ (s : State). root_of s.world c.args.id) (sym c.self.view_is) ∙ root_are c.self.inside.table c.args.id c.self.invariant.order.still h ∙ e))))

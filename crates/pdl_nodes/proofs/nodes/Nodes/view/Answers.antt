@@ -1,31 +1,22 @@
-use Rattle.std.proofs.Common.{◌≡◌, ◌≢◌, ℕ, ℤ, ◌+◌, ◌<◌, ◌≤◌, List, ◌∷◌, length, All, Option, Some, None, true, false, refl, sym, ◌∙◌, ap, subst, arith}
-use Rattle.std.specs.Prelude.{nat_lt}
-use Rattle.pdl_elem.specs.declared.Ty.{Ty}
-use Rattle.pdl_elem.specs.Types.{InRange}
-use Rattle.pdl_buf.specs.Buffer.{Kept}
-use Rattle.pdl_shape.specs.Shape.{size_of}
-use Rattle.pdl_shape.specs.Triple.{IsTriple, Triple, Reaches}
-use Rattle.pdl_buf.specs.Window.{shown, Window}
-use Rattle.pdl_world.specs.Paths.{path, root_of}
+use Rattle.std.proofs.Common.{ℕ, List, ◌∷◌, sym, ◌∙◌, ap, subst, arith}
+use Rattle.pdl_shape.specs.Triple.{IsTriple}
 use Rattle.pdl_world.specs.Sound.{IsLive, IsSound}
-use Rattle.pdl_world.specs.Swept.{holds}
-use Rattle.pdl_world.specs.World.{World, dims_in, ty_in, elements}
+use Rattle.pdl_world.specs.World.{World, dims_in}
 use Rattle.pdl_nodes.specs.Row.{Row}
-use Rattle.pdl_nodes.specs.Rows.{Rows, row_at, has}
-use Rattle.pdl_nodes.specs.Alike.{is_fresh_in}
+use Rattle.pdl_nodes.specs.Rows.{Rows}
 use Rattle.pdl_nodes.specs.Nodes.{state_of, IsNodes}
 use Rattle.pdl_nodes.specs.State.{State}
-use Rattle.pdl_nodes.specs.Worlds.{world_of, shape, latest}
-use Rattle.pdl_nodes.proofs.Stating.{live_has, dims_are, ty_are, root_are, length_world, fresh_is, fresh_live, path_with, holds_alike, lent_elements}
-use Rattle.pdl_world.specs.World.{ArrayDef, root, view}
+use Rattle.pdl_nodes.specs.Worlds.{world_of}
+use Rattle.pdl_nodes.proofs.Stating.{live_has, dims_are}
+use Rattle.pdl_world.specs.World.{ArrayDef, view}
 use Rattle.pdl_nodes.specs.Holds.{Beside}
-use Rattle.pdl_nodes.specs.Joined.{IsNew, joined_def}
+use Rattle.pdl_nodes.specs.Joined.{IsNew}
 use Rattle.pdl_nodes.specs.Nodes.{IsNewView}
 use Rattle.pdl_nodes.specs.Sized.{IsLayout}
 use Rattle.pdl_nodes.specs.State.{IsLentAs, Joins}
 use Rattle.pdl_nodes.proofs.Calls.{on_err}
 use Rattle.pdl_nodes.proofs.CutRows.{sized_at}
-use Rattle.pdl_nodes.proofs.Growing.{IsGrown, grown_nodes, grown_state, new_root, new_view, view_sized, view_def, err_state, below_world, no_root}
+use Rattle.pdl_nodes.proofs.Growing.{IsGrown, grown_nodes, grown_state, new_view, view_sized, view_def, err_state, below_world, no_root}
 use Rattle.pdl_world.specs.Refused.{view_refusal}
 use Rattle.pdl_nodes.proofs.Lazy.{lent_as}
 use Rattle.pdl_nodes.proofs.nodes.Nodes.view.Goals as goal
@@ -53,6 +44,7 @@ invariant_of-self-2 c =
     let grown : IsGrown c.self.inside.table c.self.inside.holds c.insert.new.holds c.self.inside.next c.view_node-node.result = (record {
       new = new_view c.self.inside.table c.self.inside.next c.args.parent c.args.trans c.view_node-node.result c.self.invariant.order.still c.self.invariant.below (live_has c.self.inside.table c.args.parent (subst (λ (w : World). IsLive w c.args.parent) (sym (ap (λ (s : State). s.world) c.self.view_is)) c.requires.live)) (subst (λ (a : Row). IsNewView c.self.inside.next c.args.parent c.args.trans a c.view_node-node.result) c.node-above.ensures c.view_node-node.ensures);
       unlisted = (subst (λ (a : Row). IsNewView c.self.inside.next c.args.parent c.args.trans a c.view_node-node.result) c.node-above.ensures c.view_node-node.ensures).unlisted;
+      bare = λ n. (subst (λ (a : Row). IsNewView c.self.inside.next c.args.parent c.args.trans a c.view_node-node.result) c.node-above.ensures c.view_node-node.ensures).bare;
       sized = view_sized c.self.inside.table c.self.inside.next c.args.parent c.args.trans c.view_node-node.result (subst (λ (a : Row). IsNewView c.self.inside.next c.args.parent c.args.trans a c.view_node-node.result) c.node-above.ensures c.view_node-node.ensures);
       sound = subst (λ (d : ArrayDef). IsSound ((c.self.inside.next, d) ∷ world_of c.self.inside.table)) (sym (view_def c.view_node-node.result c.args.parent c.args.trans (subst (λ (a : Row). IsNewView c.self.inside.next c.args.parent c.args.trans a c.view_node-node.result) c.node-above.ensures c.view_node-node.ensures).layout (subst (λ (a : Row). IsNewView c.self.inside.next c.args.parent c.args.trans a c.view_node-node.result) c.node-above.ensures c.view_node-node.ensures).origin)) (c.growth_laws.ensures.sound (world_of c.self.inside.table) c.self.inside.next (view c.args.parent c.args.trans) c.self.invariant.sound (below_world c.self.inside.table c.self.inside.next c.self.invariant.below)
           (record { well_formed = c.requires.well_formed; live = subst (λ (w : World). IsLive w c.args.parent) (sym (ap (λ (s : State). s.world) c.self.view_is)) c.requires.live; allowed = ap (λ w. view_refusal w c.args.parent c.args.trans) (ap (λ (s : State). s.world) c.self.view_is) ∙ c.requires.allowed }));
@@ -67,6 +59,7 @@ returns-clause-made c =
     let grown : IsGrown c.self.inside.table c.self.inside.holds c.insert.new.holds c.self.inside.next c.view_node-node.result = (record {
       new = new_view c.self.inside.table c.self.inside.next c.args.parent c.args.trans c.view_node-node.result c.self.invariant.order.still c.self.invariant.below (live_has c.self.inside.table c.args.parent (subst (λ (w : World). IsLive w c.args.parent) (sym (ap (λ (s : State). s.world) c.self.view_is)) c.requires.live)) (subst (λ (a : Row). IsNewView c.self.inside.next c.args.parent c.args.trans a c.view_node-node.result) c.node-above.ensures c.view_node-node.ensures);
       unlisted = (subst (λ (a : Row). IsNewView c.self.inside.next c.args.parent c.args.trans a c.view_node-node.result) c.node-above.ensures c.view_node-node.ensures).unlisted;
+      bare = λ n. (subst (λ (a : Row). IsNewView c.self.inside.next c.args.parent c.args.trans a c.view_node-node.result) c.node-above.ensures c.view_node-node.ensures).bare;
       sized = view_sized c.self.inside.table c.self.inside.next c.args.parent c.args.trans c.view_node-node.result (subst (λ (a : Row). IsNewView c.self.inside.next c.args.parent c.args.trans a c.view_node-node.result) c.node-above.ensures c.view_node-node.ensures);
       sound = subst (λ (d : ArrayDef). IsSound ((c.self.inside.next, d) ∷ world_of c.self.inside.table)) (sym (view_def c.view_node-node.result c.args.parent c.args.trans (subst (λ (a : Row). IsNewView c.self.inside.next c.args.parent c.args.trans a c.view_node-node.result) c.node-above.ensures c.view_node-node.ensures).layout (subst (λ (a : Row). IsNewView c.self.inside.next c.args.parent c.args.trans a c.view_node-node.result) c.node-above.ensures c.view_node-node.ensures).origin)) (c.growth_laws.ensures.sound (world_of c.self.inside.table) c.self.inside.next (view c.args.parent c.args.trans) c.self.invariant.sound (below_world c.self.inside.table c.self.inside.next c.self.invariant.below)
           (record { well_formed = c.requires.well_formed; live = subst (λ (w : World). IsLive w c.args.parent) (sym (ap (λ (s : State). s.world) c.self.view_is)) c.requires.live; allowed = ap (λ w. view_refusal w c.args.parent c.args.trans) (ap (λ (s : State). s.world) c.self.view_is) ∙ c.requires.allowed }));
@@ -83,6 +76,7 @@ returns-clause-sound c =
     let grown : IsGrown c.self.inside.table c.self.inside.holds c.insert.new.holds c.self.inside.next c.view_node-node.result = (record {
       new = new_view c.self.inside.table c.self.inside.next c.args.parent c.args.trans c.view_node-node.result c.self.invariant.order.still c.self.invariant.below (live_has c.self.inside.table c.args.parent (subst (λ (w : World). IsLive w c.args.parent) (sym (ap (λ (s : State). s.world) c.self.view_is)) c.requires.live)) (subst (λ (a : Row). IsNewView c.self.inside.next c.args.parent c.args.trans a c.view_node-node.result) c.node-above.ensures c.view_node-node.ensures);
       unlisted = (subst (λ (a : Row). IsNewView c.self.inside.next c.args.parent c.args.trans a c.view_node-node.result) c.node-above.ensures c.view_node-node.ensures).unlisted;
+      bare = λ n. (subst (λ (a : Row). IsNewView c.self.inside.next c.args.parent c.args.trans a c.view_node-node.result) c.node-above.ensures c.view_node-node.ensures).bare;
       sized = view_sized c.self.inside.table c.self.inside.next c.args.parent c.args.trans c.view_node-node.result (subst (λ (a : Row). IsNewView c.self.inside.next c.args.parent c.args.trans a c.view_node-node.result) c.node-above.ensures c.view_node-node.ensures);
       sound = subst (λ (d : ArrayDef). IsSound ((c.self.inside.next, d) ∷ world_of c.self.inside.table)) (sym (view_def c.view_node-node.result c.args.parent c.args.trans (subst (λ (a : Row). IsNewView c.self.inside.next c.args.parent c.args.trans a c.view_node-node.result) c.node-above.ensures c.view_node-node.ensures).layout (subst (λ (a : Row). IsNewView c.self.inside.next c.args.parent c.args.trans a c.view_node-node.result) c.node-above.ensures c.view_node-node.ensures).origin)) (c.growth_laws.ensures.sound (world_of c.self.inside.table) c.self.inside.next (view c.args.parent c.args.trans) c.self.invariant.sound (below_world c.self.inside.table c.self.inside.next c.self.invariant.below)
           (record { well_formed = c.requires.well_formed; live = subst (λ (w : World). IsLive w c.args.parent) (sym (ap (λ (s : State). s.world) c.self.view_is)) c.requires.live; allowed = ap (λ w. view_refusal w c.args.parent c.args.trans) (ap (λ (s : State). s.world) c.self.view_is) ∙ c.requires.allowed }));

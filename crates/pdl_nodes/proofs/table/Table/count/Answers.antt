@@ -1,4 +1,4 @@
-use Rattle.std.proofs.Common.{◌≡◌, ℕ, length, List, sym, ◌∙◌, ap}
+use Rattle.std.proofs.Common.{length, sym, ◌∙◌, ap}
 use Rattle.pdl_nodes.specs.Rows.{Rows}
 use Rattle.pdl_nodes.proofs.Counting.{length_rows}
 use Rattle.pdl_nodes.proofs.table.Table.count.Goals as goal

@@ -1,4 +1,4 @@
-use Rattle.std.proofs.Common.{◌≡◌, Some, sym, ◌∙◌, ap}
+use Rattle.std.proofs.Common.{◌≡◌, Some, is_some, sym, ◌∙◌, ap}
 use Rattle.pdl_nodes.specs.Cut.{derived_in, over_from}
 use Rattle.pdl_nodes.specs.Row.{Row, parent_of}
 use Rattle.pdl_nodes.specs.Rows.{row_at}
@@ -9,6 +9,12 @@ use Rattle.pdl_nodes.proofs.table.Table.derive.Goals as goal
 
 pub index-key-requires : goal.index-key-requires
 index-key-requires c = has_key c.args.self.now c.self.inside.keys c.self.inside.nodes c.args.id c.self.view_is c.self.invariant.0 c.requires.live
+
+pub derive-requires : goal.derive-requires
+derive-requires c =
+    let here = node_is c.args.self.now c.self.inside.keys c.self.inside.nodes c.args.id c.index-key.result.now c.index_mut.result.now c.self.view_is c.self.invariant.0 c.index-key.ensures c.index_mut.ensures.value in
+    let parent : parent_of (row_at c.args.self.now c.args.id) ≡ Some c.in-Some.parent = ap parent_of (sym c.node-node.ensures) ∙ sym c.in-Some.ensures in
+    record { view = ap (λ (r : Row). is_some (parent_of r)) here ∙ ap is_some parent }
 
 pub returns-in-Some : goal.returns-in-Some
 returns-in-Some c =

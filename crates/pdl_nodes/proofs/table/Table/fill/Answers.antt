@@ -1,4 +1,4 @@
-use Rattle.std.proofs.Common.{◌≡◌, ℕ, true, sym, ◌∙◌, ap, subst}
+use Rattle.std.proofs.Common.{◌≡◌, sym, ◌∙◌, ap, subst}
 use Rattle.slab.specs.Slab.{with_value}
 use Rattle.pdl_world.specs.Swept.{holds}
 use Rattle.pdl_nodes.specs.Row.{Row}

@@ -1,4 +1,4 @@
-use Rattle.std.proofs.Common.{◌≡◌, Some, None, sym, ◌∙◌, ap, refl, subst}
+use Rattle.std.proofs.Common.{sym, ap, refl, subst}
 use Rattle.slab.specs.Slab.{get}
 use Rattle.pdl_nodes.specs.Marked.{AreListed}
 use Rattle.pdl_nodes.specs.Rows.{Rows}

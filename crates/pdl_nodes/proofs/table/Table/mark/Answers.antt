@@ -1,4 +1,4 @@
-use Rattle.std.proofs.Common.{◌≡◌, true, sym, ◌∙◌, ap, subst}
+use Rattle.std.proofs.Common.{sym, ◌∙◌, ap, subst}
 use Rattle.pdl_nodes.specs.Row.{is_buffered}
 use Rattle.pdl_nodes.specs.Rows.{Rows}
 use Rattle.pdl_nodes.specs.Marked.{AreListed}

@@ -1,16 +1,13 @@
-use Rattle.std.proofs.Common.{◌≡◌, ℕ, ◌<◌, length, true, All, List, Option, is_some, sym, ◌∙◌, ap, subst}
-use Rattle.pdl_elem.specs.declared.Ty.{Ty}
-use Rattle.pdl_elem.specs.Types.{InRange}
-use Rattle.pdl_shape.specs.Shape.{size_of}
-use Rattle.pdl_nodes.specs.Row.{Row, is_buffered, parent_of, places_or}
+use Rattle.std.proofs.Common.{◌≡◌, sym, ◌∙◌, ap, subst}
+use Rattle.pdl_nodes.specs.Row.{is_buffered}
 use Rattle.slab.specs.Slab.{with_value}
-use Rattle.pdl_nodes.specs.Rows.{Rows, row_at, each}
+use Rattle.pdl_nodes.specs.Rows.{Rows, each}
 use Rattle.pdl_nodes.specs.Marked.{AreListed}
 use Rattle.pdl_nodes.specs.Table.{rows_of}
 use Rattle.pdl_nodes.proofs.Listing.{table_one, listed_root}
-use Rattle.pdl_nodes.specs.Changes.{kept_in, lift_in, marked_in}
+use Rattle.pdl_nodes.specs.Changes.{marked_in}
 use Rattle.pdl_nodes.proofs.Calls.{has_key, node_is, changed_one}
-use Rattle.pdl_nodes.proofs.Marks.{kept_here, kept_others, lift_here, lift_others, marked_here, marked_others}
+use Rattle.pdl_nodes.proofs.Marks.{marked_here, marked_others}
 use Rattle.pdl_nodes.proofs.table.Table.mark_root.Goals as goal
 
 pub index-key-requires : goal.index-key-requires

@@ -1,11 +1,9 @@
-use Rattle.std.proofs.Common.{◌≡◌, ℕ, ℤ, ◌+◌, ◌<◌, List, Option, Some, length, true, is_some, sym, ◌∙◌, ap, subst, arith}
-use Rattle.pdl_elem.specs.declared.Ty.{Ty}
+use Rattle.std.proofs.Common.{◌≡◌, Some, length, is_some, sym, ◌∙◌, ap, subst}
 use Rattle.pdl_buf.specs.Buffer.{Kept}
 use Rattle.pdl_shape.specs.Shape.{size_of}
 use Rattle.pdl_shape.specs.Places.{write}
-use Rattle.pdl_shape.specs.Triple.{Triple}
-use Rattle.pdl_nodes.specs.Row.{Row, parent_of, is_buffered, places_or}
-use Rattle.pdl_nodes.specs.Rows.{Rows, row_at, each}
+use Rattle.pdl_nodes.specs.Row.{Row, parent_of, is_buffered}
+use Rattle.pdl_nodes.specs.Rows.{row_at, each}
 use Rattle.pdl_nodes.specs.Changes.{kept_in}
 use Rattle.std.specs.Prelude.{All}
 use Rattle.pdl_elem.specs.Types.{InRange}

@@ -1,13 +1,12 @@
-use Rattle.std.proofs.Common.{◌≡◌, ℕ, ◌<◌, length, true, All, List, Option, is_some, sym, ◌∙◌, ap, subst, refl}
-use Rattle.pdl_elem.specs.declared.Ty.{Ty}
+use Rattle.std.proofs.Common.{◌≡◌, length, All, is_some, sym, ◌∙◌, ap, subst, refl}
 use Rattle.pdl_elem.specs.Types.{InRange}
 use Rattle.pdl_shape.specs.Shape.{size_of}
-use Rattle.pdl_nodes.specs.Row.{Row, is_buffered, parent_of, places_or}
+use Rattle.pdl_nodes.specs.Row.{Row, is_buffered, places_or}
 use Rattle.pdl_nodes.specs.Rows.{row_at}
-use Rattle.pdl_nodes.specs.Changes.{kept_in, lift_in, marked_in}
+use Rattle.pdl_nodes.specs.Changes.{kept_in}
 use Rattle.pdl_nodes.proofs.Listing.{one_kept}
 use Rattle.pdl_nodes.proofs.Calls.{has_key, node_is, changed_one}
-use Rattle.pdl_nodes.proofs.Marks.{kept_here, kept_others, lift_here, lift_others, marked_here, marked_others}
+use Rattle.pdl_nodes.proofs.Marks.{kept_here, kept_others}
 use Rattle.pdl_nodes.specs.Assigned.{put_all}
 use Rattle.pdl_nodes.specs.Spots.{spots}
 use Rattle.pdl_nodes.proofs.table.Table.put_through.Goals as goal

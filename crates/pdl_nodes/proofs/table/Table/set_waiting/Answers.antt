@@ -1,7 +1,7 @@
 use Rattle.std.proofs.Common.{◌∙◌, refl}
 use Rattle.pdl_nodes.specs.Changes.{wait_in}
 use Rattle.pdl_nodes.proofs.Listing.{one_kept}
-use Rattle.pdl_nodes.proofs.Calls.{has_key, node_is, changed_one}
+use Rattle.pdl_nodes.proofs.Calls.{has_key, changed_one}
 use Rattle.pdl_nodes.proofs.Marks.{wait_here, wait_others}
 use Rattle.pdl_nodes.proofs.table.Table.set_waiting.Goals as goal
 

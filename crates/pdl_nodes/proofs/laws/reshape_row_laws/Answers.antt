@@ -1,6 +1,6 @@
 use Rattle.pdl_nodes.proofs.Reshapes.{reshapes, leaves_others, reshaped_known, reshaped_sized}
 use Rattle.pdl_nodes.proofs.CutRows.{CutLaws}
-use Rattle.pdl_nodes.proofs.laws.reshape_laws.Goals as goal
+use Rattle.pdl_nodes.proofs.laws.reshape_row_laws.Goals as goal
 
 pub returns : goal.returns
 returns c =
