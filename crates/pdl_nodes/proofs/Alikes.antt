@@ -1,18 +1,17 @@
 -- What quiet changes leave, and that values were assigned.
-use Rattle.std.proofs.Common.{◌≡◌, ℕ, ℤ, Bool, true, false, eqb, cond, List, [], ◌∷◌, length, Option, Some, None, is_some, inl, inr, refl, sym, ◌∙◌, ap, subst}
+use Rattle.std.proofs.Common.{◌≡◌, ℕ, ℤ, Bool, true, false, eqb, cond, List, [], ◌∷◌, None, is_some, inl, inr, refl, sym, ◌∙◌, ap, subst}
 use Rattle.std.proofs.lemmas.Bool.Decides.{eqb_tells}
 use Rattle.pdl_shape.specs.Places.{write}
-use Rattle.pdl_world.specs.World.{assign}
 use Rattle.pdl_nodes.specs.Row.{Row, parent_from, parent_of}
 use Rattle.pdl_nodes.specs.Rows.{Rows, row_at, has, each}
-use Rattle.pdl_nodes.specs.Alike.{numbers, IsAlike, KeepsMarks, MarksTarget, target, is_fresh_in}
+use Rattle.pdl_nodes.specs.Alike.{numbers, IsAlike, MarksTarget, target}
 use Rattle.pdl_nodes.specs.Known.{IsKnown, AreKnown}
 use Rattle.pdl_nodes.specs.Late.{settle, await, put_through, IsThrough}
-use Rattle.pdl_nodes.specs.Families.{has_repeats, IsMarked, IsWaiting, InFamily, InOrder}
+use Rattle.pdl_nodes.specs.Families.{has_repeats, InOrder}
 use Rattle.pdl_nodes.specs.Outcomes.{IsAssigned}
 use Rattle.pdl_nodes.specs.Still.{IsStill}
 use Rattle.pdl_nodes.specs.Worlds.{places_of, latest, world_of, IsRoot}
-use Rattle.pdl_nodes.proofs.Finds.{same, differ, each_has, each_at}
+use Rattle.pdl_nodes.proofs.Finds.{differ, each_has, each_at}
 use Rattle.pdl_nodes.proofs.Shapes.{past_at}
 use Rattle.pdl_nodes.proofs.FamilyLemmas.{IsQuiet, shape_each, places_each, root_each}
 use Rattle.pdl_nodes.proofs.Settles.{settle_quiet, none_waits, rooted, world_rooted}

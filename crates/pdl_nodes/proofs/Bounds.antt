@@ -1,5 +1,5 @@
 -- Steps and what waits, in the words of the world.
-use Rattle.std.proofs.Common.{◌≡◌, ℕ, suc, ℤ, ◌+◌, ◌<◌, ◌≤◌, ◌&&◌, not, Bool, true, false, eqb, cond, List, [], ◌∷◌, length, get_or, All, Option, Some, None, option_and_then, inl, inr, refl, sym, ◌∙◌, ap, subst, arith}
+use Rattle.std.proofs.Common.{◌≡◌, ℕ, suc, ℤ, ◌+◌, ◌&&◌, not, Bool, true, false, eqb, cond, List, [], ◌∷◌, get_or, All, Option, Some, None, option_and_then, inl, inr, refl, sym, ◌∙◌, ap, arith}
 use Rattle.std.specs.Prelude.{sum_by}
 use Rattle.std.specs.Option.{option_map_or}
 use Rattle.std.proofs.lemmas.Bool.{cases_Bool}
@@ -8,13 +8,11 @@ use Rattle.std.proofs.lemmas.List.Sums.{sum_by-cons}
 use Rattle.pdl_shape.specs.Shape.{size_of}
 use Rattle.pdl_shape.specs.Triple.{whole}
 use Rattle.pdl_world.specs.Paths.{path, root_of}
-use Rattle.pdl_world.specs.Sound.{IsLive}
 use Rattle.pdl_world.specs.Swept.{holds}
 use Rattle.pdl_world.specs.Windows.{Window, window, narrowed}
-use Rattle.pdl_world.specs.World.{World, root, view, dims_in, look}
-use Rattle.pdl_nodes.specs.Row.{Row}
+use Rattle.pdl_world.specs.World.{World, root, view, dims_in}
 use Rattle.pdl_nodes.specs.Rows.{Rows, row_at, has, NumbersBelow, Falls}
-use Rattle.pdl_nodes.specs.Alike.{IsAlike, MarksTarget, is_fresh_in}
+use Rattle.pdl_nodes.specs.Alike.{IsAlike, MarksTarget}
 use Rattle.pdl_nodes.specs.Alike.{target as rows_target}
 use Rattle.pdl_nodes.specs.Families.{has_repeats}
 use Rattle.pdl_nodes.specs.Holds.{Counts}
@@ -26,8 +24,7 @@ use Rattle.pdl_nodes.specs.Outcomes.{waiting_size as rows_waiting_size}
 use Rattle.pdl_nodes.specs.State.{State, base, outdated_at, outdated, waiting_at, waiting, waiting_size, target, PathIsFresh, TargetIsFresh}
 use Rattle.pdl_nodes.specs.Still.{IsStill}
 use Rattle.pdl_nodes.specs.Worlds.{shape, places_in, places_of, latest, world_of, with_elements}
-use Rattle.pdl_nodes.proofs.Alikes.{base_live}
-use Rattle.pdl_nodes.proofs.Finds.{same, differ, not_newest}
+use Rattle.pdl_nodes.proofs.Finds.{same, not_newest}
 use Rattle.pdl_nodes.proofs.Growing.{path_live}
 use Rattle.pdl_nodes.proofs.Lowered.{falls_still}
 use Rattle.pdl_nodes.proofs.Seens.{IsSeen, is_seen}

@@ -1,17 +1,16 @@
 -- What the table's calls do to its rows.
-use Rattle.std.proofs.Common.{◌≡◌, ℕ, ◌<◌, ◌≤◌, Bool, true, false, eqb, cond, List, [], ◌∷◌, Option, Some, None, inl, inr, refl, sym, ◌∙◌, ap, subst, arith}
+use Rattle.std.proofs.Common.{◌≡◌, ℕ, ◌<◌, true, false, cond, ◌∷◌, Option, Some, None, inl, inr, refl, sym, ◌∙◌, ap, subst, arith}
 use Rattle.std.proofs.lemmas.Bool.Decides.{eqb_tells}
 use Rattle.std.specs.Prelude.{Result, Ok, Err, OnErr}
 use Rattle.std.specs.Option.{IsSome}
-use Rattle.std.specs.Ordering.{nat_cmp, is_eq}
+use Rattle.std.specs.Ordering.{nat_cmp}
 use Rattle.std.specs.BTreeMap.{BTreeMap, IsOrdered, Updates}
 use Rattle.std.specs.BTreeMap.{get as key_at}
 use Rattle.slab.specs.Slab.{Slab, get, ContainsKey, with_value}
 use Rattle.slab.specs.Slab.{Updates as Changes}
 use Rattle.slab.proofs.SlabLemmas.{Updates-with_value}
 use Rattle.pdl_nodes.specs.Row.{Row}
-use Rattle.pdl_nodes.specs.Staying.{staying}
-use Rattle.pdl_nodes.specs.Rows.{Rows, no_row, row_at, has, each, other, without, NumbersBelow, Falls}
+use Rattle.pdl_nodes.specs.Rows.{Rows, row_at, has, each, other, without, NumbersBelow, Falls}
 use Rattle.pdl_nodes.specs.Table.{node_at, node_or, rows_of, IsTable}
 use Rattle.pdl_nodes.proofs.Finds.{same, differ, has_below, each_has, each_at, falls_each, row_stays, has_stays, has_gone, falls_stays}
 use Rattle.pdl_nodes.proofs.Slots.{at_same, at_other, seek, Shows, shows, shown}

@@ -1,10 +1,9 @@
 -- What a change of one family leaves.
-use Rattle.std.proofs.Common.{◌≡◌, ℕ, ℤ, Bool, true, false, eqb, cond, List, [], ◌∷◌, length, Option, Some, None, inl, inr, refl, sym, ◌∙◌, ap, subst, arith}
+use Rattle.std.proofs.Common.{◌≡◌, ℕ, ℤ, Bool, true, false, eqb, cond, List, [], ◌∷◌, Option, Some, None, inl, inr, refl, sym, ◌∙◌, ap, subst}
 use Rattle.std.proofs.lemmas.Bool.{cases_eq}
 use Rattle.std.proofs.lemmas.Bool.Decides.{eqb_tells}
-use Rattle.std.specs.Prelude.{Result, Ok}
+use Rattle.std.specs.Prelude.{Ok}
 use Rattle.pdl_elem.specs.declared.Ty.{Ty}
-use Rattle.pdl_shape.specs.Shape.{size_of}
 use Rattle.pdl_shape.specs.Places.{read, write}
 use Rattle.pdl_shape.specs.Places.{places_of as parent_places}
 use Rattle.pdl_shape.specs.Triple.{Triple}
@@ -16,16 +15,16 @@ use Rattle.pdl_nodes.specs.declared.origin.Layout.{Layout}
 use Rattle.pdl_nodes.specs.declared.origin.Origin.{Origin}
 use Rattle.pdl_nodes.specs.declared.origin.Origin.TheVariants.{Root, View}
 use Rattle.pdl_nodes.specs.Row.{Row}
-use Rattle.pdl_nodes.specs.Rows.{Rows, no_row, row_at, has, each, NumbersBelow, Falls}
+use Rattle.pdl_nodes.specs.Rows.{Rows, row_at, has, each, NumbersBelow, Falls}
 use Rattle.pdl_nodes.specs.Changes.{kept_in}
 use Rattle.pdl_nodes.specs.Worlds.{shape, def_from, def_of, places_in, places_of, latest, latest_from, world_of, with_elements, IsRoot}
 use Rattle.pdl_nodes.specs.Still.{own_places, base_over, triple_over, IsWhole, IsLaid, IsDerived, StillFrom, IsStill}
 use Rattle.pdl_nodes.specs.Families.{has_repeats, IsMarked, IsWaiting, InFamily, InOrder}
-use Rattle.pdl_nodes.proofs.Finds.{same, differ, not_newest, each_has, each_at, below_each, falls_each}
+use Rattle.pdl_nodes.proofs.Finds.{same, differ, not_newest, each_has, each_at, below_each}
 use Rattle.pdl_nodes.proofs.Shapes.{past_at, def_same, each_shape}
 use Rattle.pdl_nodes.proofs.Marks.{each_id, each_live}
-use Rattle.pdl_nodes.proofs.Seens.{IsSeen, is_seen, row_older, has_older}
-use Rattle.pdl_nodes.proofs.WorldLemmas.{assign_with, elements_with, look_with}
+use Rattle.pdl_nodes.proofs.Seens.{IsSeen, is_seen}
+use Rattle.pdl_nodes.proofs.WorldLemmas.{assign_with, elements_with}
 
 -- a change that leaves what is derived
 pub record IsQuiet (f : ℕ → Row → Row) : Type 0 where

@@ -1,9 +1,9 @@
 -- Views that are filled: their places, and what filling leaves.
-use Rattle.std.proofs.Common.{◌≡◌, ℕ, suc, ℤ, ◌+◌, ◌<◌, ◌≤◌, Bool, true, false, eqb, cond, List, [], ◌∷◌, length, map, get_or, All, Option, Some, None, option_and_then, is_some, inl, inr, refl, sym, ◌∙◌, ap, subst, arith}
+use Rattle.std.proofs.Common.{◌≡◌, ℕ, ℤ, ◌<◌, Bool, true, false, eqb, cond, List, length, map, Option, Some, None, option_and_then, is_some, inl, inr, refl, sym, ◌∙◌, ap, subst, arith}
 use Rattle.std.specs.List.{range_with_len}
 use Rattle.std.proofs.lemmas.Bool.{cases_eq}
 use Rattle.std.proofs.lemmas.Bool.Decides.{eqb_tells}
-use Rattle.std.proofs.lemmas.List.{ext_get_or, length-map}
+use Rattle.std.proofs.lemmas.List.{ext_get_or}
 use Rattle.std.proofs.lemmas.List.FromFn.{length-map-range_with_len, get_or-map-range_with_len}
 use Rattle.pdl_shape.specs.Shape.{size_of}
 use Rattle.pdl_shape.specs.Places.{read}
@@ -11,27 +11,25 @@ use Rattle.pdl_shape.specs.Triple.{Triple}
 use Rattle.pdl_world.specs.declared.Trans.{Trans}
 use Rattle.pdl_nodes.specs.declared.origin.Layout.{Layout}
 use Rattle.pdl_nodes.specs.declared.origin.Layout.TheVariants.{Plan, Choice}
-use Rattle.pdl_nodes.specs.declared.origin.Origin.{Origin}
-use Rattle.pdl_nodes.specs.declared.origin.Origin.TheVariants.{Root, View}
-use Rattle.pdl_nodes.specs.Row.{Row}
+use Rattle.pdl_nodes.specs.declared.origin.Origin.TheVariants.{View}
 use Rattle.pdl_nodes.specs.Rows.{Rows, row_at, has, each}
 use Rattle.pdl_nodes.specs.Assigned.{entry}
-use Rattle.pdl_nodes.specs.Alike.{KeepsMarks, IsAlike}
+use Rattle.pdl_nodes.specs.Alike.{KeepsMarks}
 use Rattle.pdl_nodes.specs.Changes.{fill_in, or_known}
 use Rattle.pdl_nodes.specs.Known.{IsKnown, AreKnown}
 use Rattle.pdl_nodes.specs.Late.{IsOutdated}
 use Rattle.pdl_nodes.specs.Families.{has_repeats, InOrder}
-use Rattle.pdl_nodes.specs.Outcomes.{IsKept, IsFilled}
-use Rattle.pdl_nodes.specs.Placed.{placed, placed_by, own_at}
+use Rattle.pdl_nodes.specs.Outcomes.{IsFilled}
+use Rattle.pdl_nodes.specs.Placed.{placed_by, own_at}
 use Rattle.pdl_nodes.specs.Still.{own_places, IsStill}
-use Rattle.pdl_nodes.specs.Ups.{up_from, up_of}
-use Rattle.pdl_nodes.specs.Worlds.{places_of, latest, world_of, IsRoot}
+use Rattle.pdl_nodes.specs.Ups.{up_from}
+use Rattle.pdl_nodes.specs.Worlds.{places_of}
 use Rattle.pdl_nodes.proofs.Alikes.{is_alike, field_each, base_live}
 use Rattle.pdl_nodes.proofs.Assigning.{over_root, over_base}
 use Rattle.pdl_nodes.proofs.FamilyLemmas.{latest_none, places_each, root_each}
-use Rattle.pdl_nodes.proofs.Finds.{same, differ, each_has, each_at}
+use Rattle.pdl_nodes.proofs.Finds.{same, each_has, each_at}
 use Rattle.pdl_nodes.proofs.Marks.{fill_others}
-use Rattle.pdl_nodes.proofs.Seens.{IsSeen, is_seen}
+use Rattle.pdl_nodes.proofs.Seens.{is_seen}
 use Rattle.pdl_nodes.proofs.Shapes.{marked_live}
 use Rattle.pdl_nodes.proofs.Ups.{IsUp, is_up}
 use Rattle.pdl_nodes.proofs.Waits.{fill_quiet, filled, world_filled}

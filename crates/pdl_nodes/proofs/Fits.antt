@@ -34,6 +34,14 @@ filled_up n es zs h z =
     ∙ sym (take_more es (replicate n (pos 0)) (n - length es))
     ∙ ap (λ k. take k (es ++ replicate n (pos 0))) (sym a)
 
+-- all of them, where there are as many
+take_first : (es rest : List ℤ) → take (length es) (es ++ rest) ≡ es
+take_first [] rest = refl
+take_first (e ∷ es) rest = ap (λ r. e ∷ r) (take_first es rest)
+
+pub fitted_all : (n : ℕ) (es : List ℤ) → length es ≡ n → fitted n es ≡ es
+fitted_all n es e = ap (λ k. take k (es ++ replicate n (pos 0))) (sym e) ∙ take_first es (replicate n (pos 0))
+
 pub length_fitted : (n : ℕ) (es : List ℤ) → length (fitted n es) ≡ n
 length_fitted n es =
     let l : length (es ++ replicate n (pos 0)) ≡ length es + length (replicate n (pos 0)) = length-append es (replicate n (pos 0)) in

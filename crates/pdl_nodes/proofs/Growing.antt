@@ -1,12 +1,11 @@
 -- One more array, and what stays of the state.
-use Rattle.std.proofs.Common.{◌≡◌, ◌≢◌, ℕ, suc, zero, ℤ, pos, negsuc, ◌+◌, ◌<◌, ◌≤◌, ◌<ℤ◌, Bool, true, false, eqb, cond, List, [], ◌∷◌, length, map, get_or, All, Option, Some, None, is_some, inl, inr, refl, sym, ◌∙◌, ap, subst, arith}
-use Rattle.std.specs.Prelude.{◌-◌, nat_lt, unsigned_abs, Result, Ok, Err, OnOk, IfOk}
-use Rattle.std.specs.List.{range_with_len}
+use Rattle.std.proofs.Common.{◌≡◌, ◌≢◌, ℕ, suc, zero, ℤ, pos, negsuc, ◌+◌, ◌<◌, ◌≤◌, ◌<ℤ◌, Bool, true, false, List, [], ◌∷◌, length, get_or, All, Option, Some, None, is_some, inl, inr, refl, sym, ◌∙◌, ap, subst, arith}
+use Rattle.std.specs.Prelude.{◌-◌, nat_lt, unsigned_abs}
 use Rattle.std.proofs.lemmas.Bool.Decides.{eqb_tells, leb_tells}
 use Rattle.std.proofs.lemmas.Int.{ints}
 use Rattle.pdl_elem.specs.declared.Ty.{Ty}
 use Rattle.pdl_shape.specs.Laws.{PositionLaws, WholesAreInOrder}
-use Rattle.pdl_shape.specs.Shape.{size_of, IsWithin, position_of, coordinates_of}
+use Rattle.pdl_shape.specs.Shape.{size_of, position_of}
 use Rattle.pdl_shape.specs.Triple.{Triple, place_of, Reaches}
 use Rattle.pdl_buf.specs.Buffer.{Kept}
 use Rattle.pdl_buf.specs.Window.{Window, place_at, shown}
@@ -16,13 +15,12 @@ use Rattle.pdl_world.specs.Sound.{IsSound}
 use Rattle.pdl_world.specs.Sound.{NumbersBelow as NumbersBelowIn}
 use Rattle.pdl_world.specs.Swept.{holds}
 use Rattle.pdl_world.specs.World.{World, ArrayDef, root, view, dims_in, ty_in, elements}
-use Rattle.pdl_nodes.specs.declared.holds.Hold.{Hold}
 use Rattle.pdl_nodes.specs.declared.origin.Layout.{Layout}
 use Rattle.pdl_nodes.specs.declared.origin.Origin.{Origin}
 use Rattle.pdl_nodes.specs.declared.origin.Origin.TheVariants.{Root, View}
 use Rattle.pdl_nodes.specs.Row.{root_row, Row, parent_of}
 use Rattle.pdl_nodes.specs.Rows.{Rows, row_at, has, NumbersBelow}
-use Rattle.pdl_nodes.specs.Alike.{IsAlike, KeepsMarks, MarksTarget, target, numbers, is_fresh_in}
+use Rattle.pdl_nodes.specs.Alike.{IsAlike, KeepsMarks, MarksTarget, numbers, is_fresh_in}
 use Rattle.pdl_nodes.specs.Families.{IsMarked, InOrder}
 use Rattle.pdl_nodes.specs.Holds.{Counts, Beside, hold_at, count, count_in, held_once}
 use Rattle.pdl_nodes.specs.Joined.{IsNew, joined_def, joined_from}
@@ -32,18 +30,18 @@ use Rattle.pdl_nodes.specs.Outcomes.{IsReady}
 use Rattle.pdl_nodes.specs.Outcomes.{PathIsFresh as RowsPathIsFresh}
 use Rattle.pdl_nodes.specs.Sized.{IsSized, LaidFrom}
 use Rattle.pdl_nodes.specs.Spots.{spots, Below}
-use Rattle.pdl_nodes.specs.State.{State, Joins, PathIsFresh, SameArrays, StayFresh, is_fresh}
+use Rattle.pdl_nodes.specs.State.{Joins, PathIsFresh, StayFresh, is_fresh}
 use Rattle.pdl_nodes.specs.Still.{IsStill, StillFrom}
 use Rattle.pdl_nodes.specs.Worlds.{def_from, def_of, shape, places_of, latest, world_of, with_elements}
 use Rattle.pdl_nodes.proofs.Alikes.{root_live}
 use Rattle.pdl_nodes.proofs.Lists.{length_read}
 use Rattle.pdl_nodes.proofs.Finds.{same, differ, not_newest, below_more}
 use Rattle.pdl_nodes.proofs.Joins.{pushed, world_pushed}
-use Rattle.pdl_nodes.proofs.Paths.{path_is, path_from, parent_live, path_first, fresh_stays}
+use Rattle.pdl_nodes.proofs.Paths.{path_is, path_from, fresh_stays}
 use Rattle.pdl_nodes.proofs.Seens.{IsSeen, is_seen, row_older, has_older, places_older}
 use Rattle.pdl_nodes.proofs.Severs.{sized_alike}
 use Rattle.pdl_nodes.proofs.Spotted.{below_at}
-use Rattle.pdl_nodes.proofs.Stating.{ty_are, dims_are, lent_elements, path_with, fresh_is, fresh_keeps, fresh_live, holds_alike, holds_same}
+use Rattle.pdl_nodes.proofs.Stating.{ty_are, dims_are, lent_elements, path_with, fresh_is, fresh_keeps, holds_same}
 use Rattle.pdl_nodes.proofs.Laid.{whole_is}
 
 small_abs : (z : ℤ) (n : ℕ) → unsigned_abs z < n → z <ℤ pos n

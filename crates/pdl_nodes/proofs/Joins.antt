@@ -1,25 +1,23 @@
 -- One more array keeps each family in order.
-use Rattle.std.proofs.Common.{◌≡◌, ℕ, suc, zero, ◌+◌, ℤ, ◌<◌, ◌≤◌, Bool, true, false, eqb, cond, List, [], ◌∷◌, length, map, Option, Some, None, inl, inr, refl, sym, ◌∙◌, ap, subst, arith}
+use Rattle.std.proofs.Common.{◌≡◌, ℕ, suc, zero, ◌+◌, ◌<◌, true, false, ◌∷◌, length, map, Option, Some, None, inl, inr, refl, sym, ◌∙◌, ap, subst, arith}
 use Rattle.std.specs.List.{range_with_len}
 use Rattle.std.proofs.lemmas.Bool.{cases_eq}
-use Rattle.std.proofs.lemmas.Bool.Decides.{eqb_tells}
 use Rattle.pdl_shape.specs.Shape.{size_of}
 use Rattle.pdl_shape.specs.Places.{read}
-use Rattle.pdl_shape.specs.Triple.{Triple}
-use Rattle.pdl_world.specs.World.{World, ArrayDef, root, view}
+use Rattle.pdl_world.specs.World.{view}
 use Rattle.pdl_nodes.specs.declared.origin.Origin.{Origin}
 use Rattle.pdl_nodes.specs.declared.origin.Origin.TheVariants.{Root, View}
 use Rattle.pdl_nodes.specs.Row.{Row}
 use Rattle.pdl_nodes.specs.Rows.{Rows, row_at, has, NumbersBelow}
-use Rattle.pdl_nodes.specs.Worlds.{shape, def_from, def_of, places_of, latest, latest_from, world_of, with_elements, IsRoot}
-use Rattle.pdl_nodes.specs.Still.{StillFrom, IsStill}
-use Rattle.pdl_nodes.specs.Families.{is_among, has_repeats, IsMarked, IsWaiting, InFamily, InOrder}
+use Rattle.pdl_nodes.specs.Worlds.{shape, def_from, places_of, latest, world_of, with_elements, IsRoot}
+use Rattle.pdl_nodes.specs.Still.{IsStill}
+use Rattle.pdl_nodes.specs.Families.{is_among, has_repeats, IsMarked, InFamily, InOrder}
 use Rattle.pdl_nodes.specs.Joined.{IsNew, joined_def, joined_from}
 use Rattle.pdl_nodes.proofs.Finds.{same, differ, not_newest}
 use Rattle.pdl_nodes.proofs.Shapes.{marked_live}
 use Rattle.pdl_nodes.proofs.Seens.{IsSeen, is_seen, row_older, has_older, places_older}
 use Rattle.pdl_nodes.proofs.FamilyLemmas.{latest_none, latest_some, with_roots}
-use Rattle.pdl_nodes.proofs.Sames.{IsSame, IsSameFamily, family_same}
+use Rattle.pdl_nodes.proofs.Sames.{family_same}
 use Rattle.pdl_nodes.proofs.Settles.{root_shows}
 
 among_range : (q a n : ℕ) → q < a → is_among q (map Some (range_with_len a n)) ≡ false

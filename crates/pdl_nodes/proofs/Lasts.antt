@@ -1,20 +1,20 @@
 -- The last entry of a part of a map.
-use Rattle.std.proofs.Common.{◌≡◌, ℕ, suc, ◌+◌, ◌<◌, ◌≤◌, Bool, true, false, eqb, cond, not, List, [], ◌∷◌, ◌++◌, Option, Some, None, inl, inr, refl, sym, ◌∙◌, ap, subst, arith}
+use Rattle.std.proofs.Common.{◌≡◌, ℕ, suc, ◌+◌, ◌<◌, ◌≤◌, Bool, true, false, not, List, [], ◌∷◌, ◌++◌, Option, Some, None, inl, inr, refl, sym, ◌∙◌, ap, arith}
 use Rattle.std.proofs.lemmas.Bool.Decides.{eqb_tells, leb_tells}
 use Rattle.std.specs.List.{filter}
-use Rattle.std.specs.Ordering.{nat_cmp, is_eq, is_le}
+use Rattle.std.specs.Ordering.{nat_cmp, is_le}
 use Rattle.std.specs.declared.cmp.Ordering.TheVariants.{Less, Equal, Greater}
 use Rattle.std.specs.declared.ops.Bound.TheVariants.{Excluded, Unbounded}
 use Rattle.std.specs.Cmp.{nat_cmp_is}
-use Rattle.std.specs.BTreeMap.{BTreeMap, IsOrdered}
+use Rattle.std.specs.BTreeMap.{BTreeMap}
 use Rattle.std.specs.BTreeMap.{get as key_at}
 use Rattle.std.specs.BTreeMap.Range.{range_contains, entries_between}
 use Rattle.slab.specs.Slab.{Slab}
 use Rattle.pdl_nodes.specs.Row.{Row}
-use Rattle.pdl_nodes.specs.Rows.{Rows, has, Falls, below, newest}
+use Rattle.pdl_nodes.specs.Rows.{Rows, has, below, newest}
 use Rattle.pdl_nodes.specs.Table.{node_at, rows_onto, rows_of, IsTable}
 use Rattle.pdl_nodes.proofs.Finds.{below_some, below_none}
-use Rattle.pdl_nodes.proofs.Slots.{at_same, at_other, seek, Rises, AllAbove, rises, seek_above, Shows, shows}
+use Rattle.pdl_nodes.proofs.Slots.{at_same, at_other, seek, Rises, AllAbove, rises, Shows}
 use Rattle.pdl_nodes.proofs.Calls.{seen}
 
 abbrev inside : ℕ → ℕ × ℕ → Bool

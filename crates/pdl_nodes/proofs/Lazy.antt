@@ -1,24 +1,22 @@
 -- What can be lent of a family, and what waits in it, in the words of the world.
-use Rattle.std.proofs.Common.{◌≡◌, ℕ, ℤ, Bool, true, false, eqb, cond, List, ◌∷◌, Option, Some, None, refl, sym, ◌∙◌, ap}
+use Rattle.std.proofs.Common.{◌≡◌, ℕ, ℤ, true, false, eqb, cond, List, ◌∷◌, Option, Some, None, refl, sym, ◌∙◌, ap}
 use Rattle.pdl_shape.specs.Triple.{Triple}
 use Rattle.pdl_world.specs.declared.Trans.{Trans}
 use Rattle.pdl_world.specs.Paths.{root_of}
-use Rattle.pdl_world.specs.Sound.{IsLive}
 use Rattle.pdl_world.specs.Swept.{holds}
 use Rattle.pdl_world.specs.Windows.{over}
 use Rattle.pdl_nodes.specs.Row.{Row}
 use Rattle.pdl_nodes.specs.Rows.{Rows, row_at, has, each, NumbersBelow}
-use Rattle.pdl_nodes.specs.Alike.{IsAlike, WaitsTarget, is_fresh_in}
+use Rattle.pdl_nodes.specs.Alike.{IsAlike, WaitsTarget}
 use Rattle.pdl_nodes.specs.Alike.{target as rows_target}
 use Rattle.pdl_nodes.specs.Families.{has_repeats, IsWaiting, InFamily, InOrder}
 use Rattle.pdl_nodes.specs.Holds.{Counts}
 use Rattle.pdl_nodes.specs.Late.{settle, await}
 use Rattle.pdl_nodes.specs.Nodes.{IsNewView, fresh_among, state_of}
-use Rattle.pdl_nodes.specs.Outcomes.{waiting_of}
 use Rattle.pdl_nodes.specs.Outcomes.{OthersWait as RowsOthersWait}
-use Rattle.pdl_nodes.specs.State.{State, PathIsFresh, base, is_fresh, outdated, waiting, target, kept_back, AreWaiting, IsLazy, IsLentAs, OthersWait, TargetWaits}
-use Rattle.pdl_nodes.specs.Still.{IsStill, IsDerived, base_over}
-use Rattle.pdl_nodes.specs.Worlds.{IsRoot, places_of, world_of}
+use Rattle.pdl_nodes.specs.State.{base, waiting, target, kept_back, AreWaiting, IsLazy, IsLentAs, OthersWait, TargetWaits}
+use Rattle.pdl_nodes.specs.Still.{IsStill, base_over}
+use Rattle.pdl_nodes.specs.Worlds.{IsRoot, world_of}
 use Rattle.pdl_nodes.proofs.Alikes.{root_live}
 use Rattle.pdl_nodes.proofs.Bounds.{base_are, none_outdated, places_are, target_is, waiting_is}
 use Rattle.pdl_nodes.proofs.Finds.{same, differ, each_at, not_newest}

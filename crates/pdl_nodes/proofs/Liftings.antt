@@ -1,13 +1,11 @@
 -- What is known when the kept elements of a marked view are taken out, while its root is written.
-use Rattle.std.proofs.Common.{◌≡◌, ℕ, ℤ, ◌<◌, ◌≤◌, Bool, true, false, List, [], ◌∷◌, length, Option, Some, None, is_some, inl, inr, refl, sym, ◌∙◌, ap, subst}
+use Rattle.std.proofs.Common.{◌≡◌, ℕ, ℤ, Bool, true, false, List, [], length, Option, Some, None, refl, sym, ◌∙◌, ap, subst}
 use Rattle.std.specs.Ordering.{nat_cmp}
 use Rattle.std.specs.BTreeMap.{BTreeMap}
 use Rattle.std.specs.BTreeMap.{get as key_at}
 use Rattle.slab.specs.Slab.{Slab, get, ContainsKey, with_value}
 use Rattle.pdl_buf.specs.Buffer.{Kept}
-use Rattle.pdl_shape.specs.Shape.{size_of}
-use Rattle.pdl_shape.specs.Places.{read, write}
-use Rattle.pdl_nodes.specs.Row.{Row, parent_of, is_buffered}
+use Rattle.pdl_nodes.specs.Row.{Row}
 use Rattle.pdl_nodes.specs.Rows.{Rows, row_at, has, each}
 use Rattle.pdl_nodes.specs.declared.marked.Marked.{Marked}
 use Rattle.pdl_nodes.specs.Changes.{kept_in, lift_in, fill_in, or_known}
@@ -15,14 +13,14 @@ use Rattle.pdl_nodes.specs.Marked.{AreListed}
 use Rattle.pdl_nodes.specs.Table.{rows_of, IsTable}
 use Rattle.pdl_nodes.specs.Known.{IsKnown, AreKnown, IsLiftable}
 use Rattle.pdl_nodes.specs.Worlds.{places_of, latest, IsRoot}
-use Rattle.pdl_nodes.specs.Families.{IsMarked, InFamily, InOrder}
+use Rattle.pdl_nodes.specs.Families.{IsMarked, InOrder}
 use Rattle.pdl_nodes.proofs.Calls.{changed_one, node_is, table_falls}
 use Rattle.pdl_nodes.proofs.Finds.{each_has, each_at}
 use Rattle.pdl_nodes.proofs.Listing.{table_one, listed_each}
 use Rattle.pdl_nodes.proofs.Shapes.{marked_live}
 use Rattle.pdl_nodes.proofs.Marks.{lift_here, lift_others, kept_here, kept_others, fill_here, fill_others}
 use Rattle.pdl_nodes.proofs.Lists.{length_read}
-use Rattle.pdl_nodes.proofs.Lowered.{IsHeld, lowered}
+use Rattle.pdl_nodes.proofs.Lowered.{lowered}
 use Rattle.pdl_nodes.proofs.Origins.{root_buffered, view_parent}
 use Rattle.pdl_nodes.proofs.Seens.{IsSeen, is_seen}
 

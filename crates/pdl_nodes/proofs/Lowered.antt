@@ -1,16 +1,14 @@
 -- What is taken out of a row and put back, and other changes in a row one after the other.
-use Rattle.std.proofs.Common.{◌≡◌, ℕ, ℤ, Bool, true, false, eqb, cond, List, [], ◌∷◌, length, Option, Some, None, is_some, inl, inr, refl, sym, ◌∙◌, ap, subst}
+use Rattle.std.proofs.Common.{◌≡◌, ℕ, ℤ, Bool, true, false, eqb, cond, List, [], ◌∷◌, Option, Some, None, inl, inr, refl, sym, ◌∙◌, ap}
 use Rattle.std.proofs.lemmas.Bool.Decides.{eqb_tells}
-use Rattle.pdl_shape.specs.Shape.{size_of}
-use Rattle.pdl_shape.specs.Places.{write}
 use Rattle.pdl_nodes.specs.Row.{Row}
-use Rattle.pdl_nodes.specs.Rows.{Rows, row_at, has, each, Falls}
-use Rattle.pdl_nodes.specs.Changes.{kept_in, fill_in, lift_in, marked_in, mark_in, wait_in}
-use Rattle.pdl_nodes.specs.Late.{settle, await}
-use Rattle.pdl_nodes.specs.Families.{InOrder, InFamily, IsWaiting}
+use Rattle.pdl_nodes.specs.Rows.{Rows, row_at, each, Falls}
+use Rattle.pdl_nodes.specs.Changes.{kept_in, fill_in, lift_in, marked_in, wait_in}
+use Rattle.pdl_nodes.specs.Late.{settle}
+use Rattle.pdl_nodes.specs.Families.{IsWaiting}
 use Rattle.pdl_nodes.specs.Still.{IsStill}
 use Rattle.pdl_nodes.specs.Worlds.{IsRoot}
-use Rattle.pdl_nodes.proofs.Finds.{same, differ, each_has, each_at}
+use Rattle.pdl_nodes.proofs.Finds.{same, differ}
 use Rattle.pdl_nodes.proofs.Marks.{each_live, each_each}
 
 pub falls_still : (rs : Rows) → IsStill rs → Falls rs

@@ -1,5 +1,5 @@
 -- Changes of all rows, one after the other; and changes of one.
-use Rattle.std.proofs.Common.{◌≡◌, ℕ, ℤ, Bool, true, false, List, [], ◌∷◌, Option, Some, None, refl, sym, ◌∙◌, ap}
+use Rattle.std.proofs.Common.{◌≡◌, ℕ, ℤ, Bool, true, false, List, [], ◌∷◌, Option, None, refl, ap}
 use Rattle.pdl_nodes.specs.Row.{Row}
 use Rattle.pdl_nodes.specs.Rows.{Rows, row_at, has, each, Falls}
 use Rattle.pdl_nodes.specs.Changes.{kept_in, wait_in, fill_in, lift_in, marked_in, or_known}

@@ -1,12 +1,12 @@
 -- Roots and views.
-use Rattle.std.proofs.Common.{◌≡◌, ℕ, Bool, true, false, ◌||◌, List, [], ◌∷◌, Option, Some, None, is_some, is_none, inl, inr, refl, sym, ◌∙◌, ap, subst}
+use Rattle.std.proofs.Common.{◌≡◌, ℕ, Bool, true, false, ◌||◌, [], ◌∷◌, is_some, inl, inr, refl, sym, ◌∙◌, ap}
 use Rattle.std.proofs.lemmas.Bool.Decides.{eqb_tells}
 use Rattle.pdl_nodes.specs.declared.origin.Origin.{Origin}
 use Rattle.pdl_nodes.specs.declared.origin.Origin.TheVariants.{Root, View}
 use Rattle.pdl_nodes.specs.Row.{Row, parent_from, parent_of, has_buffer, is_buffered}
 use Rattle.pdl_nodes.specs.Rows.{Rows, row_at, has, NumbersBelow}
 use Rattle.pdl_nodes.specs.Still.{StillFrom, IsStill}
-use Rattle.pdl_nodes.proofs.Finds.{same, differ, not_newest}
+use Rattle.pdl_nodes.proofs.Finds.{not_newest}
 use Rattle.pdl_nodes.proofs.Seens.{is_seen}
 
 root_from : (rs : Rows) (k : ℕ) (r : Row) (o : Origin) → r.origin ≡ o → IsStill rs → NumbersBelow k rs → StillFrom rs k r o → r.root ≡ k → r.origin ≡ Root

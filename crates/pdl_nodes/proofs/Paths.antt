@@ -1,16 +1,13 @@
 -- Paths, and the arrays on them that are fresh.
-use Rattle.std.proofs.Common.{◌≡◌, ℕ, suc, zero, ◌+◌, ◌<◌, ◌≤◌, ◌&&◌, not, Bool, true, false, eqb, cond, List, [], ◌∷◌, length, get_or, All, Option, Some, None, is_some, inl, inr, refl, sym, ◌∙◌, ap, subst, arith}
+use Rattle.std.proofs.Common.{◌≡◌, ℕ, suc, zero, ◌+◌, ◌<◌, ◌≤◌, ◌&&◌, not, Bool, true, false, eqb, cond, List, [], ◌∷◌, length, get_or, All, Option, Some, None, inl, inr, refl, sym, ◌∙◌, ap, subst, arith}
 use Rattle.std.specs.Prelude.{sum_by, Result, Ok, Err, OnOk}
 use Rattle.std.proofs.lemmas.Bool.Decides.{eqb_tells}
 use Rattle.std.proofs.lemmas.List.Sums.{sum_by-cons}
 use Rattle.pdl_shape.specs.Shape.{size_of}
 use Rattle.pdl_shape.specs.Triple.{Triple}
-use Rattle.pdl_elem.specs.declared.Ty.{Ty}
-use Rattle.pdl_world.specs.declared.Trans.{Trans}
 use Rattle.pdl_world.specs.Paths.{path}
 use Rattle.pdl_world.specs.World.{World, ArrayDef, root, view}
 use Rattle.pdl_world.specs.Windows.{over}
-use Rattle.pdl_nodes.specs.declared.origin.Layout.{Layout}
 use Rattle.pdl_nodes.specs.declared.origin.Origin.{Origin}
 use Rattle.pdl_nodes.specs.declared.origin.Origin.TheVariants.{Root, View}
 use Rattle.pdl_nodes.specs.Row.{Row, parent_from, parent_of}
@@ -18,12 +15,12 @@ use Rattle.pdl_nodes.specs.Rows.{Rows, row_at, has, NumbersBelow}
 use Rattle.pdl_nodes.specs.Alike.{IsAlike, KeepsMarks, is_fresh_in}
 use Rattle.pdl_nodes.specs.Families.{InOrder}
 use Rattle.pdl_nodes.specs.Late.{IsOutdated}
-use Rattle.pdl_nodes.specs.Outcomes.{IsFilled, IsKept, ParentIsFresh, PathIsFresh, outdated_at, outdated}
-use Rattle.pdl_nodes.specs.Still.{base_over, IsDerived, StillFrom, IsStill}
+use Rattle.pdl_nodes.specs.Outcomes.{IsFilled, ParentIsFresh, PathIsFresh, outdated_at, outdated}
+use Rattle.pdl_nodes.specs.Still.{base_over, StillFrom, IsStill}
 use Rattle.pdl_nodes.specs.Worlds.{def_from, def_of, shape, IsRoot}
 use Rattle.pdl_nodes.proofs.Alikes.{root_live}
-use Rattle.pdl_nodes.proofs.Finds.{same, differ, has_below, not_newest}
-use Rattle.pdl_nodes.proofs.Seens.{IsSeen, is_seen, row_older, has_older}
+use Rattle.pdl_nodes.proofs.Finds.{same, differ, not_newest}
+use Rattle.pdl_nodes.proofs.Seens.{is_seen, row_older}
 use Rattle.pdl_nodes.proofs.Ups.{IsViewAt, view_at}
 
 path_older : (k : ℕ) (d : ArrayDef) (w : World) (v : ℕ) → (k ≡ v → ⊥) → path ((k, d) ∷ w) v ≡ path w v

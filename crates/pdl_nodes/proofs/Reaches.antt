@@ -1,15 +1,15 @@
 -- The two passes: noting what is reached, and removing what isn't.
-use Rattle.std.proofs.Common.{◌≡◌, ◌≢◌, ℕ, suc, ◌+◌, ◌<◌, ◌≤◌, Bool, true, false, eqb, cond, List, [], ◌∷◌, ◌++◌, Option, Some, None, is_some, ◌⊎◌, inl, inr, refl, sym, ◌∙◌, ap, subst, arith}
+use Rattle.std.proofs.Common.{◌≡◌, ◌≢◌, ℕ, ◌+◌, ◌<◌, Bool, true, false, eqb, cond, [], ◌∷◌, ◌++◌, Option, Some, None, is_some, ◌⊎◌, inl, inr, refl, sym, ◌∙◌, ap, subst, arith}
 use Rattle.std.proofs.Math.Path.{fun_ext}
 use Rattle.std.proofs.lemmas.Bool.{cases_Bool}
 use Rattle.std.proofs.lemmas.Bool.Decides.{eqb_tells}
 use Rattle.pdl_nodes.specs.Row.{Row, parent_of}
 use Rattle.pdl_nodes.specs.declared.holds.Hold.{Hold}
 use Rattle.pdl_nodes.specs.Staying.{staying, passed}
-use Rattle.pdl_nodes.specs.Rows.{Rows, row_at, has, other, without, NumbersBelow, Falls, below, newest, reached, HasParent, HasParents}
-use Rattle.pdl_nodes.specs.Holds.{Counts, hold_at, count_in, count, is_held, is_reached, with_reached, held_in, reached_in, Beside, less_one, after_release}
-use Rattle.pdl_nodes.proofs.Finds.{same, differ, has_below, not_newest, has_stays, has_gone}
-use Rattle.pdl_nodes.proofs.Rests.{size_of, falls_tail, below_tail, next_below, row_here, has_tail, without_here, falls_less, append_one, passed_no, some_with, count_with, clear_with, held_with, not_parent}
+use Rattle.pdl_nodes.specs.Rows.{Rows, row_at, has, NumbersBelow, Falls, below, newest, reached, HasParent, HasParents}
+use Rattle.pdl_nodes.specs.Holds.{Counts, hold_at, count_in, count, is_held, with_reached, held_in, reached_in, Beside, less_one, after_release}
+use Rattle.pdl_nodes.proofs.Finds.{same, differ, has_below, not_newest}
+use Rattle.pdl_nodes.proofs.Rests.{size_of, falls_tail, below_tail, next_below, row_here, has_tail, append_one, passed_no, some_with, count_with, held_with, not_parent}
 
 -- a number stands once
 pub apart : (a b : Rows) (v : ℕ) → Falls (a ++ b) → has a v ≡ true → has b v ≡ true → ⊥

@@ -1,20 +1,18 @@
 -- What waits is written back, and arrays are made fresh.
-use Rattle.std.proofs.Common.{◌≡◌, ℕ, ℤ, ◌+◌, ◌≤◌, Bool, true, false, eqb, cond, List, [], ◌∷◌, Option, Some, None, inl, inr, refl, sym, ◌∙◌, ap, subst, arith}
+use Rattle.std.proofs.Common.{◌≡◌, ℕ, ℤ, ◌≤◌, Bool, true, false, eqb, cond, List, [], ◌∷◌, Some, None, refl, sym, ◌∙◌, ap, subst, arith}
 use Rattle.std.specs.Prelude.{sum_by}
-use Rattle.std.proofs.lemmas.Bool.Decides.{eqb_tells}
 use Rattle.std.proofs.lemmas.List.Sums.{sum_by-cons}
 use Rattle.pdl_world.specs.Paths.{path}
 use Rattle.pdl_world.specs.World.{World}
-use Rattle.pdl_nodes.specs.Row.{Row}
 use Rattle.pdl_nodes.specs.Rows.{Rows, row_at, has, each}
 use Rattle.pdl_nodes.specs.Alike.{IsAlike, KeepsMarks}
-use Rattle.pdl_nodes.specs.Families.{InFamily, InOrder, IsWaiting}
+use Rattle.pdl_nodes.specs.Families.{InOrder, IsWaiting}
 use Rattle.pdl_nodes.specs.Known.{AreKnown}
 use Rattle.pdl_nodes.specs.Late.{settle}
 use Rattle.pdl_nodes.specs.Outcomes.{IsKept, IsReady, IsSettled, outdated_at, outdated}
-use Rattle.pdl_nodes.specs.Worlds.{shape, latest, world_of, IsRoot}
+use Rattle.pdl_nodes.specs.Worlds.{shape, latest, IsRoot}
 use Rattle.pdl_nodes.proofs.Alikes.{alike_same, alike_trans, is_alike, known_each, kept_by, eqb-true, root_live, root_own}
-use Rattle.pdl_nodes.proofs.Finds.{same, differ, each_has, each_at}
+use Rattle.pdl_nodes.proofs.Finds.{same, differ, each_at}
 use Rattle.pdl_nodes.proofs.Lowered.{only_mark}
 use Rattle.pdl_nodes.proofs.Paths.{less_outdated}
 use Rattle.pdl_nodes.proofs.Settles.{settle_quiet, written_back, world_back}

@@ -1,10 +1,10 @@
 -- The pass that removes what has neither a hold nor a note.
-use Rattle.std.proofs.Common.{◌≡◌, ◌≢◌, ℕ, suc, ◌+◌, ◌<◌, ◌≤◌, Bool, true, false, eqb, cond, List, [], ◌∷◌, ◌++◌, Option, Some, None, is_some, inl, inr, refl, sym, ◌∙◌, ap, subst, arith}
+use Rattle.std.proofs.Common.{◌≡◌, ◌≢◌, ℕ, ◌<◌, true, false, cond, [], ◌∷◌, ◌++◌, Option, Some, None, is_some, inl, inr, refl, sym, ◌∙◌, ap, subst}
 use Rattle.std.proofs.lemmas.Bool.Decides.{eqb_tells}
 use Rattle.pdl_nodes.specs.Row.{Row}
 use Rattle.pdl_nodes.specs.declared.holds.Hold.{Hold}
 use Rattle.pdl_nodes.specs.Staying.{staying}
-use Rattle.pdl_nodes.specs.Rows.{Rows, has, other, without, NumbersBelow, Falls, below, newest}
+use Rattle.pdl_nodes.specs.Rows.{Rows, has, other, without, Falls, below, newest}
 use Rattle.pdl_nodes.specs.Holds.{Counts, hold_at, count_in, count, is_held, is_reached, with_reached, held_in, reached_in, Beside}
 use Rattle.pdl_nodes.proofs.Finds.{same, differ, not_newest, has_stays, has_gone}
 use Rattle.pdl_nodes.proofs.Rests.{size_of, falls_tail, next_below, has_tail, without_here, falls_less, append_one, some_with, count_with, clear_with}

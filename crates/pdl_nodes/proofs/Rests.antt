@@ -1,13 +1,12 @@
 -- Rows in two parts: those that a loop has passed, and those that are still to come.
-use Rattle.std.proofs.Common.{◌≡◌, ◌≢◌, ℕ, suc, ◌+◌, ◌<◌, ◌≤◌, Bool, true, false, eqb, cond, List, [], ◌∷◌, ◌++◌, Option, Some, None, is_some, ◌⊎◌, inl, inr, refl, sym, ◌∙◌, ap, subst, arith}
-use Rattle.std.proofs.lemmas.Bool.{cases_Bool}
+use Rattle.std.proofs.Common.{◌≡◌, ℕ, suc, ◌+◌, ◌<◌, Bool, true, false, [], ◌∷◌, ◌++◌, Option, Some, None, is_some, inl, inr, refl, sym, ◌∙◌, ap, arith}
 use Rattle.std.proofs.lemmas.Bool.Decides.{eqb_tells, leb_tells}
-use Rattle.pdl_nodes.specs.Row.{Row, parent_of}
+use Rattle.pdl_nodes.specs.Row.{Row}
 use Rattle.pdl_nodes.specs.declared.holds.Hold.{Hold}
-use Rattle.pdl_nodes.specs.Staying.{staying, passed}
-use Rattle.pdl_nodes.specs.Rows.{Rows, row_at, has, other, without, NumbersBelow, Falls, below, newest, HasParent, HasParents}
-use Rattle.pdl_nodes.specs.Holds.{Counts, hold_at, count_in, count, is_held, is_reached, with_reached, held_in, reached_in, Beside}
-use Rattle.pdl_nodes.proofs.Finds.{same, differ, has_below, not_newest, has_stays, has_gone}
+use Rattle.pdl_nodes.specs.Staying.{passed}
+use Rattle.pdl_nodes.specs.Rows.{Rows, row_at, has, without, NumbersBelow, Falls, below, newest, HasParent}
+use Rattle.pdl_nodes.specs.Holds.{count_in, with_reached, held_in, reached_in}
+use Rattle.pdl_nodes.proofs.Finds.{same, differ}
 
 pub append_one : (a : Rows) (x : ℕ × Row) (b : Rows) → a ++ x ∷ b ≡ (a ++ x ∷ []) ++ b
 append_one [] x b = refl

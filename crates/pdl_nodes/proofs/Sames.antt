@@ -1,10 +1,9 @@
 -- A family of which the marked arrays and what waits are as before is in order as before.
-use Rattle.std.proofs.Common.{◌≡◌, ℕ, ℤ, Bool, true, false, List, [], ◌∷◌, length, Option, Some, None, refl, sym, ◌∙◌, ap, subst}
+use Rattle.std.proofs.Common.{◌≡◌, ℕ, true, length, Option, Some, None, refl, sym, ◌∙◌, ap}
 use Rattle.pdl_shape.specs.Shape.{size_of}
 use Rattle.pdl_shape.specs.Places.{read}
-use Rattle.pdl_nodes.specs.Row.{Row}
 use Rattle.pdl_nodes.specs.Rows.{Rows, row_at, has}
-use Rattle.pdl_nodes.specs.Worlds.{places_of, latest, latest_from, IsRoot}
+use Rattle.pdl_nodes.specs.Worlds.{places_of, latest}
 use Rattle.pdl_nodes.specs.Families.{has_repeats, IsMarked, IsWaiting, InFamily}
 use Rattle.pdl_nodes.proofs.FamilyLemmas.{latest_none, latest_some}
 

@@ -1,5 +1,5 @@
 -- What is derived of each array, and its places.
-use Rattle.std.proofs.Common.{◌≡◌, ℕ, suc, ◌+◌, ◌<◌, ◌≤◌, Bool, true, false, eqb, cond, List, [], ◌∷◌, length, map, Option, Some, None, option_and_then, Result, Ok, ◌⊎◌, inl, inr, refl, sym, ◌∙◌, ap, subst, arith}
+use Rattle.std.proofs.Common.{◌≡◌, ℕ, ◌+◌, ◌<◌, Bool, true, false, List, [], ◌∷◌, length, map, Option, Some, None, option_and_then, Ok, inl, inr, refl, sym, ◌∙◌, ap, subst, arith}
 use Rattle.std.specs.List.{range_with_len}
 use Rattle.std.proofs.lemmas.Bool.Decides.{eqb_tells}
 use Rattle.std.proofs.lemmas.List.{length-map}
@@ -8,7 +8,6 @@ use Rattle.pdl_elem.specs.declared.Ty.{Ty}
 use Rattle.pdl_shape.specs.Shape.{size_of}
 use Rattle.pdl_shape.specs.Places.{places_of as parent_places}
 use Rattle.pdl_shape.specs.Triple.{Triple, whole as whole_triple}
-use Rattle.pdl_buf.specs.Window.{place_at}
 use Rattle.pdl_world.specs.declared.Trans.{Trans}
 use Rattle.pdl_world.specs.Formula.{child_dims, source}
 use Rattle.pdl_world.specs.World.{World, ArrayDef, root, view, Look, look, through_places}
@@ -21,10 +20,10 @@ use Rattle.pdl_nodes.specs.Rows.{Rows, row_at, has, NumbersBelow}
 use Rattle.pdl_nodes.specs.Worlds.{shape, def_of, places_of}
 use Rattle.pdl_nodes.specs.Assigned.{entry}
 use Rattle.pdl_nodes.specs.Spots.{spots, Below}
-use Rattle.pdl_nodes.specs.Still.{own_places, base_over, triple_over, IsWhole, IsThroughBase, IsLaid, IsDerived, IsRootRow, StillFrom, IsStill}
+use Rattle.pdl_nodes.specs.Still.{own_places, base_over, triple_over, IsWhole, IsThroughBase, IsLaid, StillFrom, IsStill}
 use Rattle.pdl_nodes.proofs.Finds.{same, differ, has_below, not_newest}
 use Rattle.pdl_nodes.proofs.Lists.{AllIn}
-use Rattle.pdl_nodes.proofs.Spotted.{length_range, length_spots, below_range, whole_in, whole_over, below_map, through_over, compose_in}
+use Rattle.pdl_nodes.proofs.Spotted.{below_range, whole_in, whole_over, below_map, through_over, compose_in}
 
 pub record IsSeen (rs : Rows) (v : ℕ) : Type 0 where
   pub looks : look (shape rs) v ≡ Some (record { root = (row_at rs v).root; ty = (row_at rs v).ty; dims = (row_at rs v).triple.dims; places = places_of rs v })

@@ -1,28 +1,23 @@
 -- The calls keep each family in order.
-use Rattle.std.proofs.Common.{◌≡◌, ℕ, ℤ, pos, get_or, ◌<◌, Bool, true, false, eqb, cond, List, [], ◌∷◌, length, map, Option, Some, None, inl, inr, refl, sym, ◌∙◌, ap, subst, arith}
+use Rattle.std.proofs.Common.{◌≡◌, ℕ, ℤ, pos, get_or, Bool, true, false, eqb, cond, List, length, map, Option, Some, None, inl, inr, refl, sym, ◌∙◌, ap, subst}
 use Rattle.std.specs.List.{range_with_len}
-use Rattle.std.proofs.lemmas.Bool.{cases_eq}
 use Rattle.std.proofs.lemmas.Simd.{map-map}
 use Rattle.std.proofs.lemmas.List.FromFn.{fill_by_all}
 use Rattle.std.proofs.lemmas.Bool.Decides.{eqb_tells}
 use Rattle.pdl_shape.specs.Shape.{size_of}
 use Rattle.pdl_shape.specs.Places.{element_at, read, write}
-use Rattle.pdl_shape.specs.Triple.{Triple}
-use Rattle.pdl_world.specs.World.{World, elements, assign}
+use Rattle.pdl_world.specs.World.{assign}
 use Rattle.pdl_nodes.specs.Row.{Row}
 use Rattle.pdl_nodes.specs.Rows.{Rows, row_at, has, each}
-use Rattle.pdl_nodes.specs.Changes.{kept_in, wait_in, fill_in}
-use Rattle.pdl_nodes.specs.Assigned.{entry, put_all}
-use Rattle.pdl_nodes.specs.Spots.{spots, Below}
 use Rattle.pdl_nodes.specs.Worlds.{places_of, latest, latest_from, world_of, IsRoot}
 use Rattle.pdl_nodes.specs.Still.{IsStill}
 use Rattle.pdl_nodes.specs.Families.{has_repeats, IsMarked, IsWaiting, InFamily, InOrder}
-use Rattle.pdl_nodes.specs.Late.{marks_in, settle, await, put_through, IsThrough, IsOutdated}
+use Rattle.pdl_nodes.specs.Late.{settle}
 use Rattle.pdl_nodes.proofs.Finds.{same, differ, each_has, each_at}
-use Rattle.pdl_nodes.proofs.Shapes.{past_at, marked_live}
-use Rattle.pdl_nodes.proofs.Lists.{AllIn, length_read, length_write, length_put_all, write_read, write_all, read_all, read_over}
+use Rattle.pdl_nodes.proofs.Shapes.{marked_live}
+use Rattle.pdl_nodes.proofs.Lists.{length_write}
 use Rattle.pdl_nodes.proofs.Seens.{IsSeen, is_seen}
-use Rattle.pdl_nodes.proofs.FamilyLemmas.{IsQuiet, IsWithin, places_each, root_each, latest_none, latest_some, order_each, world_same, world_assigned}
+use Rattle.pdl_nodes.proofs.FamilyLemmas.{IsQuiet, IsWithin, places_each, root_each, latest_none, order_each, world_same, world_assigned}
 
 -- a row of the family after a change
 pub at_each : (f : ℕ → Row → Row) (rs : Rows) (v : ℕ) → has rs v ≡ true → row_at (each f rs) v ≡ f v (row_at rs v)

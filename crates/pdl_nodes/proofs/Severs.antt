@@ -2,19 +2,17 @@
 use Rattle.std.proofs.Common.{◌≡◌, ◌≢◌, ℕ, ℤ, pos, ◌+◌, ◌<◌, ◌≤◌, ◌<ℤ◌, ◌≤ℤ◌, unsigned_abs, true, false, eqb, List, [], ◌∷◌, length, get_or, Some, None, Result, Ok, Err, inl, inr, refl, sym, ◌∙◌, ap, subst, arith}
 use Rattle.std.specs.List.{range_with_len}
 use Rattle.std.specs.Prelude.{IfOk}
-use Rattle.std.specs.Result.{OnOk, OnErr}
 use Rattle.std.proofs.lemmas.Bool.Decides.{eqb_tells}
 use Rattle.std.proofs.lemmas.Int.{ints}
 use Rattle.std.proofs.lemmas.Simd.{map-map}
-use Rattle.std.proofs.lemmas.List.Sums.{count_by-le-length}
 use Rattle.pdl_elem.specs.declared.Ty.{Ty}
 use Rattle.pdl_shape.specs.Laws.{PositionLaws}
 use Rattle.pdl_shape.specs.Places.{read}
 use Rattle.pdl_shape.specs.Shape.{IsDims, size_of, position_of}
 use Rattle.pdl_shape.specs.Triple.{IsTriple, Reaches, Triple, place_of}
-use Rattle.pdl_buf.specs.Buffer.{Kept, count_moved}
+use Rattle.pdl_buf.specs.Buffer.{Kept}
 use Rattle.pdl_buf.specs.Window.{place_at, shown}
-use Rattle.pdl_world.specs.Cut.{replaced, sever}
+use Rattle.pdl_world.specs.Cut.{fitted, replaced, sever}
 use Rattle.pdl_world.specs.World.{ArrayDef, root, view, elements, ty_in, dims_in}
 use Rattle.pdl_nodes.specs.Alike.{numbers, IsAlike, is_fresh_in}
 use Rattle.pdl_nodes.specs.Cut.{LaidOver, cut, CanCut}
@@ -35,6 +33,7 @@ use Rattle.pdl_nodes.proofs.CutRows.{IsWithin as HasSizes, sized_at, cut_has}
 use Rattle.pdl_nodes.proofs.Derives.{laid_at}
 use Rattle.pdl_nodes.proofs.FamilyLemmas.{elements_are}
 use Rattle.pdl_nodes.proofs.Finds.{same, differ, not_newest}
+use Rattle.pdl_nodes.proofs.Fits.{fitted_all}
 use Rattle.pdl_nodes.proofs.Paths.{parent_live}
 use Rattle.pdl_nodes.proofs.Lists.{length_read, read_over}
 use Rattle.pdl_nodes.proofs.Readied.{ready_then, less_path}
@@ -135,17 +134,9 @@ shown_elements rs v o h f =
 pub elements_count : (rs : Rows) (v : ℕ) → IsStill rs → has rs v ≡ true → length (elements (world_of rs) v) ≡ size_of (row_at rs v).triple.dims
 elements_count rs v s h = ap length (elements_are rs v s h) ∙ length_read (places_of rs v) (latest rs (row_at rs v).root) ∙ (is_seen rs s v h).count
 
--- steps of a copy
-bounded : {A E : Type 0} (r : Result A E) (n s k : ℕ) → OnOk r (n ≡ s + k) → OnErr r (n ≡ s) → n ≤ s + k
-bounded (Ok a) n s k f g = omega (arith, f)
-bounded (Err e) n s k f g = omega (arith, g)
-
-pub copy_steps : {A E : Type 0} (r : Result A E) (rs : Rows) (v : ℕ) (es : List ℤ) (n s : ℕ) → IsStill rs → has rs v ≡ true → es ≡ elements (world_of rs) v → OnOk r (n ≡ s + count_moved es) → OnErr r (n ≡ s) → n ≤ s + size_of (row_at rs v).triple.dims
-copy_steps r rs v es n s i h e f g =
-    let a : n ≤ s + count_moved es = bounded r n s (count_moved es) f g in
-    let b : count_moved es ≤ length es = count_by-le-length _ es in
-    let c : length es ≡ size_of (row_at rs v).triple.dims = ap length e ∙ elements_count rs v i h in
-    omega (arith, a, b, c)
+-- the first elements of an array, as many as it has, are all
+pub first_all : (rs : Rows) (v n : ℕ) (ds : List ℕ) (es : List ℤ) → IsStill rs → has rs v ≡ true → n ≡ size_of ds → ds ≡ (row_at rs v).triple.dims → es ≡ fitted n (elements (world_of rs) v) → es ≡ elements (world_of rs) v
+first_all rs v n ds es s h c d e = e ∙ fitted_all n (elements (world_of rs) v) (elements_count rs v s h ∙ sym (c ∙ ap size_of d))
 
 -- a root is its own cut
 root_def_from : (rs : Rows) (k : ℕ) (r : Row) (o : Origin) → IsStill rs → NumbersBelow k rs → StillFrom rs k r o → r.root ≡ k → def_from r.ty r.triple.dims o ≡ root r.ty r.triple.dims []

@@ -1,6 +1,5 @@
 -- The rows that a map to keys of a slab shows.
-use Rattle.std.proofs.Common.{◌≡◌, ℕ, ◌<◌, ◌≤◌, Bool, true, false, eqb, cond, List, [], ◌∷◌, Option, Some, None, inl, inr, refl, sym, ◌∙◌, ap, subst, arith}
-use Rattle.std.proofs.lemmas.Bool.{cases_Bool}
+use Rattle.std.proofs.Common.{◌≡◌, ℕ, ◌<◌, Bool, true, false, List, [], ◌∷◌, Option, Some, None, inl, inr, refl, sym, ◌∙◌, ap, subst, arith}
 use Rattle.std.proofs.lemmas.Bool.Decides.{eqb_tells, leb_tells}
 use Rattle.std.specs.Option.{IsSome}
 use Rattle.std.specs.Ordering.{nat_cmp, is_eq}
@@ -10,11 +9,11 @@ use Rattle.std.specs.Map.{lookup, keys_of}
 use Rattle.std.specs.List.Sorted.{IsStrictlySortedBy}
 use Rattle.std.specs.BTreeMap.{BTreeMap, IsOrdered, is_at}
 use Rattle.std.specs.BTreeMap.{get as key_at}
-use Rattle.slab.specs.Slab.{Slab, get, ContainsKey}
+use Rattle.slab.specs.Slab.{Slab}
 use Rattle.pdl_nodes.specs.Row.{Row}
-use Rattle.pdl_nodes.specs.Rows.{Rows, no_row, row_at, has, NumbersBelow, Falls}
-use Rattle.pdl_nodes.specs.Table.{node_at, node_or, rows_onto, rows_of, IsTable}
-use Rattle.pdl_nodes.proofs.Finds.{same, differ, below_more, rows_same}
+use Rattle.pdl_nodes.specs.Rows.{Rows, row_at, has, NumbersBelow, Falls}
+use Rattle.pdl_nodes.specs.Table.{node_at, rows_onto, rows_of}
+use Rattle.pdl_nodes.proofs.Finds.{below_more, rows_same}
 
 -- the test of a number
 pub at_same : (v k : ℕ) → k ≡ v → is_eq (nat_cmp v k) ≡ true

@@ -3,14 +3,13 @@ use Rattle.std.proofs.Common.{◌≡◌, ℕ, suc, zero, ◌+◌, ◌<◌, ◌�
 use Rattle.std.specs.List.{range_with_len}
 use Rattle.std.proofs.lemmas.Bool.Decides.{eqb_tells}
 use Rattle.std.proofs.lemmas.Simd.{map-map}
-use Rattle.std.proofs.lemmas.List.{length-map, get_or-map, ext_get_or}
+use Rattle.std.proofs.lemmas.List.{ext_get_or}
 use Rattle.std.proofs.lemmas.List.FromFn.{length-map-range_with_len, get_or-map-range_with_len}
 use Rattle.pdl_shape.specs.Shape.{size_of}
-use Rattle.pdl_shape.specs.Triple.{Triple, whole}
+use Rattle.pdl_shape.specs.Triple.{Triple}
 use Rattle.pdl_buf.specs.Window.{place_at}
 use Rattle.pdl_nodes.specs.Assigned.{entry}
 use Rattle.pdl_nodes.specs.Spots.{spots, Below}
-use Rattle.pdl_nodes.specs.Still.{IsWhole, IsThroughBase}
 use Rattle.pdl_nodes.proofs.Lists.{IsIn, AllIn}
 
 pub length_range : (a n : ℕ) → length (range_with_len a n) ≡ n

@@ -1,33 +1,30 @@
 -- What is said of a table's world is what its rows say.
-use Rattle.std.proofs.Common.{◌≡◌, ℕ, suc, zero, ℤ, pos, ◌+◌, ◌<◌, ◌≤◌, ◌||◌, Bool, true, false, eqb, cond, List, [], ◌∷◌, length, map, get_or, All, Option, Some, None, is_some, inl, inr, refl, sym, ◌∙◌, ap, subst, arith}
+use Rattle.std.proofs.Common.{◌≡◌, ℕ, suc, ℤ, pos, true, false, eqb, cond, List, [], ◌∷◌, length, map, get_or, Option, Some, None, is_some, inl, inr, refl, sym, ◌∙◌, ap, subst, arith}
 use Rattle.std.specs.Prelude.{IsSomeAnd}
 use Rattle.std.specs.Option.{option_map_or}
-use Rattle.std.specs.List.{list_any, range_with_len}
+use Rattle.std.specs.List.{range_with_len}
 use Rattle.std.proofs.lemmas.Bool.{cases_Bool}
 use Rattle.std.proofs.lemmas.Bool.Decides.{eqb_tells}
 use Rattle.std.proofs.lemmas.Simd.{map-map}
-use Rattle.pdl_elem.specs.declared.Ty.{Ty}
 use Rattle.pdl_elem.specs.declared.Ty.TheVariants.{Byte}
 use Rattle.pdl_shape.specs.Shape.{size_of}
 use Rattle.pdl_shape.specs.Places.{read}
-use Rattle.pdl_shape.specs.Triple.{Triple}
 use Rattle.pdl_buf.specs.Window.{place_at, shown}
 use Rattle.pdl_world.specs.Paths.{path, root_of}
 use Rattle.pdl_world.specs.Sound.{IsLive}
 use Rattle.pdl_world.specs.Swept.{holds}
 use Rattle.pdl_world.specs.World.{World, ArrayDef, root, view, Look, look, dims_in, ty_in, elements}
-use Rattle.pdl_nodes.specs.Row.{Row}
 use Rattle.pdl_nodes.specs.Rows.{Rows, row_at, has, NumbersBelow, Falls}
-use Rattle.pdl_nodes.specs.Alike.{IsAlike, KeepsMarks, numbers, is_fresh_in}
+use Rattle.pdl_nodes.specs.Alike.{numbers, is_fresh_in}
 use Rattle.pdl_nodes.specs.Families.{IsMarked, InOrder}
 use Rattle.pdl_nodes.specs.Holds.{Counts, count}
 use Rattle.pdl_nodes.specs.Nodes.{fresh_among, holds_in}
 use Rattle.pdl_nodes.specs.Spots.{spots}
 use Rattle.pdl_nodes.specs.Still.{IsStill}
 use Rattle.pdl_nodes.specs.Worlds.{def_of, shape, places_of, latest, world_of, with_elements}
-use Rattle.pdl_nodes.proofs.Alikes.{root_live, base_live}
+use Rattle.pdl_nodes.proofs.Alikes.{root_live}
 use Rattle.pdl_nodes.proofs.FamilyLemmas.{elements_are}
-use Rattle.pdl_nodes.proofs.Finds.{same, differ, not_newest}
+use Rattle.pdl_nodes.proofs.Finds.{differ, not_newest}
 use Rattle.pdl_nodes.proofs.Lists.{read_over}
 use Rattle.pdl_nodes.proofs.Lowered.{falls_still}
 use Rattle.pdl_nodes.proofs.Seens.{IsSeen, is_seen}

@@ -1,26 +1,19 @@
 -- What stays where arrays go that none of the staying ones has above it.
-use Rattle.std.proofs.Common.{◌≡◌, ℕ, ℤ, ◌<◌, Bool, true, false, eqb, cond, List, [], ◌∷◌, length, Option, Some, None, option_and_then, ◌⊎◌, inl, inr, refl, sym, ◌∙◌, ap, subst, arith}
+use Rattle.std.proofs.Common.{◌≡◌, ℕ, ℤ, Bool, true, eqb, cond, List, [], ◌∷◌, Some, option_and_then, inl, inr, refl, sym, ◌∙◌, ap}
 use Rattle.std.proofs.lemmas.Bool.{cases_Bool}
 use Rattle.std.proofs.lemmas.Bool.Decides.{eqb_tells}
-use Rattle.pdl_elem.specs.declared.Ty.{Ty}
 use Rattle.pdl_shape.specs.Triple.{whole as whole_triple}
-use Rattle.pdl_world.specs.declared.Trans.{Trans}
-use Rattle.pdl_world.specs.World.{World, ArrayDef, root, view, look, whole, through}
+use Rattle.pdl_world.specs.World.{World, root, view, look, whole, through}
 use Rattle.pdl_world.specs.Paths.{path}
 use Rattle.pdl_nodes.specs.Staying.{staying, KeepsParents}
 use Rattle.pdl_world.specs.Windows.{window, narrowed}
 use Rattle.pdl_nodes.specs.declared.origin.Origin.{Origin}
 use Rattle.pdl_nodes.specs.declared.origin.Origin.TheVariants.{Root, View}
 use Rattle.pdl_nodes.specs.Row.{Row, parent_from}
-use Rattle.pdl_nodes.specs.Rows.{Rows, row_at, has, NumbersBelow}
-use Rattle.pdl_nodes.specs.Worlds.{shape, def_from, def_of, places_in, places_of, latest, latest_from, world_of, with_elements, IsRoot}
+use Rattle.pdl_nodes.specs.Rows.{Rows, has}
+use Rattle.pdl_nodes.specs.Worlds.{shape, def_from, def_of, places_of, with_elements}
 use Rattle.pdl_nodes.specs.Still.{StillFrom, IsStill}
-use Rattle.pdl_nodes.specs.Families.{IsWaiting, InFamily, InOrder}
-use Rattle.pdl_nodes.specs.Released.{KeepsWaiting}
-use Rattle.pdl_nodes.proofs.Finds.{same, differ, other_than, row_stays, has_stays, below_stays}
-use Rattle.pdl_nodes.proofs.Shapes.{past_at, marked_live}
-use Rattle.pdl_nodes.proofs.FamilyLemmas.{latest_none, latest_some, with_roots}
-use Rattle.pdl_nodes.proofs.Sames.{IsSame, IsSameFamily, latest_same, family_same}
+use Rattle.pdl_nodes.proofs.Finds.{differ, other_than, row_stays, has_stays, below_stays}
 
 -- what is still there stayed
 pub stays : (t : ℕ → Bool) (rs : Rows) (v : ℕ) → has (staying t rs) v ≡ true → t v ≡ true

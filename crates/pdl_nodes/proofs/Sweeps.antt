@@ -1,7 +1,6 @@
 -- What stays is in order, and its world is what stays of the world.
-use Rattle.std.proofs.Common.{◌≡◌, ℕ, ℤ, Bool, true, false, eqb, cond, List, [], ◌∷◌, ◌++◌, Option, Some, None, inl, inr, refl, sym, ◌∙◌, ap, subst, arith}
+use Rattle.std.proofs.Common.{◌≡◌, ℕ, ℤ, Bool, true, false, cond, List, [], ◌∷◌, ◌++◌, Option, Some, None, inl, inr, refl, sym, ◌∙◌, ap}
 use Rattle.std.proofs.Math.Path.{fun_ext}
-use Rattle.std.proofs.lemmas.Bool.{cases_Bool}
 use Rattle.std.proofs.lemmas.Bool.Decides.{eqb_tells}
 use Rattle.pdl_elem.specs.declared.Ty.{Ty}
 use Rattle.pdl_world.specs.World.{World, ArrayDef, root, view}
@@ -10,10 +9,10 @@ use Rattle.pdl_nodes.specs.Staying.{staying, passed, KeepsParents}
 use Rattle.pdl_nodes.specs.declared.origin.Origin.{Origin}
 use Rattle.pdl_nodes.specs.declared.origin.Origin.TheVariants.{Root, View}
 use Rattle.pdl_nodes.specs.Row.{Row, parent_from, parent_of}
-use Rattle.pdl_nodes.specs.Rows.{Rows, row_at, has, NumbersBelow, reached}
+use Rattle.pdl_nodes.specs.Rows.{Rows, has, reached}
 use Rattle.pdl_nodes.specs.Worlds.{shape, def_from, def_of, latest, world_of, with_elements, IsRoot}
 use Rattle.pdl_nodes.specs.Still.{StillFrom, IsStill}
-use Rattle.pdl_nodes.specs.Families.{IsWaiting, InFamily, InOrder}
+use Rattle.pdl_nodes.specs.Families.{IsWaiting, InOrder}
 use Rattle.pdl_nodes.specs.Released.{KeepsWaiting, swept}
 use Rattle.pdl_nodes.proofs.Finds.{same, differ, not_newest, row_stays, has_stays}
 use Rattle.pdl_nodes.proofs.Shapes.{marked_live}

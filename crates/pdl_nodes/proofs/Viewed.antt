@@ -1,9 +1,6 @@
 -- The rows of new views are derived of their parents.
-use Rattle.std.proofs.Common.{◌≡◌, ℕ, true, false, cond, eqb, List, [], map, Option, Some, None, Result, Ok, refl, sym, ◌∙◌, ap, subst}
-use Rattle.std.specs.List.{range_with_len}
+use Rattle.std.proofs.Common.{◌≡◌, ℕ, false, cond, eqb, List, [], Option, None, Ok, refl, sym, ◌∙◌, ap, subst}
 use Rattle.pdl_elem.specs.declared.Ty.{Ty}
-use Rattle.pdl_affine.specs.declared.Affine.{Affine}
-use Rattle.pdl_affine.specs.Plan.{Plan as Planned}
 use Rattle.pdl_affine.specs.Views as affine
 use Rattle.pdl_choice.specs.declared.answers.Choice.{Choice as Chosen}
 use Rattle.pdl_shape.specs.Places.{places_of}
@@ -15,7 +12,7 @@ use Rattle.pdl_world.specs.Formula.{child_dims, source}
 use Rattle.pdl_world.specs.Windows.{over}
 use Rattle.pdl_nodes.specs.declared.origin.Layout.{Layout}
 use Rattle.pdl_nodes.specs.declared.origin.Layout.TheVariants.{Plan, Choice}
-use Rattle.pdl_nodes.specs.declared.origin.Origin.TheVariants.{Root, View}
+use Rattle.pdl_nodes.specs.declared.origin.Origin.TheVariants.{View}
 use Rattle.pdl_nodes.specs.Cut.{view_under}
 use Rattle.pdl_nodes.specs.Nodes.{IsNewView}
 use Rattle.pdl_nodes.specs.Row.{Row}

@@ -1,23 +1,19 @@
 -- Values assigned to a choice view wait in its kept list, and an outdated base is filled.
-use Rattle.std.proofs.Common.{◌≡◌, ℕ, suc, ℤ, pos, get_or, ◌<◌, Bool, true, false, eqb, cond, List, [], ◌∷◌, length, map, Option, Some, None, inl, inr, refl, sym, ◌∙◌, ap, subst, arith}
-use Rattle.std.proofs.lemmas.Bool.{cases_eq}
+use Rattle.std.proofs.Common.{◌≡◌, ℕ, ℤ, Bool, true, false, eqb, cond, List, length, map, Option, Some, None, inl, inr, refl, sym, ◌∙◌, ap, subst}
 use Rattle.std.proofs.lemmas.Bool.Decides.{eqb_tells}
 use Rattle.pdl_shape.specs.Shape.{size_of}
-use Rattle.pdl_shape.specs.Places.{element_at, read, write}
-use Rattle.pdl_shape.specs.Triple.{Triple}
-use Rattle.pdl_world.specs.World.{World, elements, assign}
-use Rattle.pdl_nodes.specs.Row.{Row}
+use Rattle.pdl_shape.specs.Places.{read, write}
+use Rattle.pdl_world.specs.World.{assign}
 use Rattle.pdl_nodes.specs.Rows.{Rows, row_at, has, each}
-use Rattle.pdl_nodes.specs.Changes.{kept_in, wait_in, fill_in}
+use Rattle.pdl_nodes.specs.Changes.{fill_in}
 use Rattle.pdl_nodes.specs.Assigned.{entry, put_all}
 use Rattle.pdl_nodes.specs.Spots.{spots, Below}
-use Rattle.pdl_nodes.specs.Worlds.{places_of, latest, latest_from, world_of, IsRoot}
-use Rattle.pdl_nodes.specs.Still.{IsStill}
+use Rattle.pdl_nodes.specs.Worlds.{places_of, latest, world_of, IsRoot}
 use Rattle.pdl_nodes.specs.Families.{has_repeats, IsMarked, IsWaiting, InFamily, InOrder}
-use Rattle.pdl_nodes.specs.Late.{marks_in, settle, await, put_through, IsThrough, IsOutdated}
-use Rattle.pdl_nodes.proofs.Finds.{same, differ, each_has, each_at}
-use Rattle.pdl_nodes.proofs.Shapes.{past_at, marked_live}
-use Rattle.pdl_nodes.proofs.Lists.{AllIn, length_read, length_write, length_put_all, write_read, write_all, read_all, read_over}
+use Rattle.pdl_nodes.specs.Late.{await, put_through, IsThrough, IsOutdated}
+use Rattle.pdl_nodes.proofs.Finds.{same, differ, each_has}
+use Rattle.pdl_nodes.proofs.Shapes.{marked_live}
+use Rattle.pdl_nodes.proofs.Lists.{AllIn, length_read, write_read, write_all, read_all}
 use Rattle.pdl_nodes.proofs.Seens.{IsSeen, is_seen}
 use Rattle.pdl_nodes.proofs.FamilyLemmas.{IsQuiet, IsWithin, places_each, root_each, latest_none, latest_some, order_each, world_same, world_assigned}
 use Rattle.pdl_nodes.proofs.Settles.{at_each, length_latest}

@@ -1,18 +1,10 @@
 -- Worlds with elements of each root.
-use Rattle.std.proofs.Common.{◌≡◌, ℕ, ℤ, Bool, true, false, eqb, cond, List, [], ◌∷◌, map, Option, Some, None, refl, sym, ◌∙◌, ap}
+use Rattle.std.proofs.Common.{◌≡◌, ℕ, ℤ, eqb, cond, List, [], ◌∷◌, Some, refl, ◌∙◌, ap}
 use Rattle.std.specs.Option.{option_map_or}
-use Rattle.std.specs.List.{range_with_len}
-use Rattle.std.proofs.lemmas.Simd.{map-map}
-use Rattle.pdl_elem.specs.declared.Ty.{Ty}
-use Rattle.pdl_shape.specs.Shape.{size_of}
 use Rattle.std.specs.Prelude.{option_and_then}
-use Rattle.pdl_shape.specs.Places.{read, write, place_in}
-use Rattle.pdl_shape.specs.Places.{places_of as parent_places}
-use Rattle.pdl_world.specs.declared.Trans.{Trans}
-use Rattle.pdl_world.specs.Formula.{source}
-use Rattle.pdl_world.specs.World.{World, ArrayDef, root, view, Look, look, whole, through, root_elements, set_elements, elements, assign, assign_through}
+use Rattle.pdl_shape.specs.Places.{read, write}
+use Rattle.pdl_world.specs.World.{World, root, view, Look, look, whole, through, root_elements, set_elements, elements, assign, assign_through}
 use Rattle.pdl_nodes.specs.Worlds.{with_elements}
-use Rattle.pdl_nodes.specs.Assigned.{entry}
 
 pub look_with : (f : ℕ → List ℤ) (w : World) (v : ℕ) → look (with_elements f w) v ≡ look w v
 look_with f [] v = refl

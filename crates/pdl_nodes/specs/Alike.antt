@@ -1,6 +1,6 @@
 -- Tables of the same arrays.
-use Rattle.std.specs.Prelude.{◌≡◌, ℕ, ◌==◌, if◌then◌else◌, Bool, true, false, List, [], ◌∷◌, Option, Some, None}
-use Rattle.pdl_nodes.specs.Row.{Row, parent_of}
+use Rattle.std.specs.Prelude.{◌≡◌, ℕ, ◌==◌, if◌then◌else◌, Bool, true, List, [], ◌∷◌, Some, None}
+use Rattle.pdl_nodes.specs.Row.{parent_of}
 use Rattle.pdl_nodes.specs.Rows.{Rows, row_at, has}
 use Rattle.pdl_nodes.specs.Families.{has_repeats}
 use Rattle.pdl_nodes.specs.Worlds.{places_of, shape}

@@ -3,7 +3,6 @@ use Rattle.std.specs.Prelude.{◌≡◌, ℕ, true, false, length, Some, None}
 use Rattle.pdl_shape.specs.Shape.{size_of}
 use Rattle.pdl_shape.specs.Places.{read}
 pub use Rattle.pdl_world.specs.World.{is_among, has_repeats}
-use Rattle.pdl_nodes.specs.Row.{Row}
 use Rattle.pdl_nodes.specs.Rows.{Rows, row_at, has}
 use Rattle.pdl_nodes.specs.Worlds.{places_of, latest, IsRoot}
 use Rattle.pdl_nodes.specs.Still.{IsStill}

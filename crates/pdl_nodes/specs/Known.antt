@@ -1,7 +1,7 @@
 -- The root's places of views that are their own base, once they were found.
 use Rattle.std.specs.Prelude.{◌≡◌, ℕ, true, List, [], length, Option, Some, is_some}
 use Rattle.pdl_shape.specs.Shape.{size_of}
-use Rattle.pdl_nodes.specs.Row.{Row, parent_of, is_buffered}
+use Rattle.pdl_nodes.specs.Row.{parent_of, is_buffered}
 use Rattle.pdl_nodes.specs.Rows.{Rows, row_at, has}
 use Rattle.pdl_nodes.specs.Families.{has_repeats}
 use Rattle.pdl_nodes.specs.Worlds.{places_of}

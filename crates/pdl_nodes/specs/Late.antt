@@ -1,5 +1,5 @@
 -- The steps of an assignment, of writing back and of filling, as what they do to each row.
-use Rattle.std.specs.Prelude.{◌≡◌, ℕ, ℤ, ◌==◌, if◌then◌else◌, Bool, true, false, List, Option, Some, None}
+use Rattle.std.specs.Prelude.{◌≡◌, ℕ, ℤ, ◌==◌, if◌then◌else◌, Bool, true, false, List, Some, None}
 use Rattle.pdl_nodes.specs.Row.{Row}
 use Rattle.pdl_nodes.specs.Rows.{Rows, row_at, has}
 use Rattle.pdl_nodes.specs.Changes.{kept_in, wait_in}

@@ -1,5 +1,5 @@
 -- What holds of every table in order.
-use Rattle.std.specs.Prelude.{◌≡◌, ℕ, ℤ, ◌<◌, ◌+◌, Bool, true, false, List, [], ◌∷◌, length, map, Option, Some, None}
+use Rattle.std.specs.Prelude.{◌≡◌, ℕ, ℤ, Bool, true, false, List, ◌∷◌, length, map, Option, Some}
 use Rattle.std.specs.List.{range_with_len}
 use Rattle.pdl_shape.specs.Shape.{size_of}
 use Rattle.pdl_shape.specs.Places.{read, write}
@@ -10,7 +10,7 @@ use Rattle.pdl_nodes.specs.Row.{Row}
 use Rattle.pdl_nodes.specs.Rows.{Rows, row_at, has, each, reached}
 use Rattle.pdl_nodes.specs.Assigned.{entry}
 use Rattle.pdl_nodes.specs.Changes.{fill_in}
-use Rattle.pdl_nodes.specs.Families.{has_repeats, IsMarked, InFamily, InOrder}
+use Rattle.pdl_nodes.specs.Families.{has_repeats, InOrder}
 use Rattle.pdl_nodes.specs.Joined.{IsNew, joined_def}
 use Rattle.pdl_nodes.specs.Late.{settle, await, put_through, IsThrough, IsOutdated}
 use Rattle.pdl_nodes.specs.Released.{KeepsWaiting, swept}

@@ -1,11 +1,11 @@
 -- What the node table means, and what it keeps.
-use Rattle.std.specs.Prelude.{◌≡◌, ℕ, ◌+◌, ◌<◌, ◌^◌, ◌==◌, if◌then◌else◌, Bool, true, false, ℤ, List, [], ◌∷◌, Option, Some, None, Ok}
+use Rattle.std.specs.Prelude.{◌≡◌, ℕ, ◌<◌, ◌^◌, if◌then◌else◌, false, List, [], ◌∷◌, Option, Some, None}
 use Rattle.pdl_shape.specs.Shape.{IsDims}
 use Rattle.pdl_shape.specs.Triple.{IsTriple}
 use Rattle.pdl_world.specs.declared.Trans.{Trans}
 use Rattle.pdl_world.specs.Sound.{IsSound}
 use Rattle.pdl_nodes.specs.declared.origin.Layout.{Layout}
-use Rattle.pdl_nodes.specs.declared.origin.Origin.TheVariants.{Root, View}
+use Rattle.pdl_nodes.specs.declared.origin.Origin.TheVariants.{View}
 use Rattle.pdl_nodes.specs.Row.{Row}
 use Rattle.pdl_nodes.specs.Rows.{Rows, row_at, NumbersBelow}
 use Rattle.pdl_nodes.specs.Families.{InOrder}

@@ -1,9 +1,9 @@
 -- What assigning, and making an array fresh, leave.
-use Rattle.std.specs.Prelude.{◌≡◌, ℕ, ℤ, ◌==◌, ◌&&◌, not, if◌then◌else◌, Bool, true, false, List, [], ◌∷◌, sum_by, All, Option, Some, None}
+use Rattle.std.specs.Prelude.{◌≡◌, ℕ, ℤ, ◌==◌, ◌&&◌, not, if◌then◌else◌, true, List, sum_by, All, Option, Some, None}
 use Rattle.pdl_shape.specs.Shape.{size_of}
 use Rattle.pdl_world.specs.Paths.{path}
 use Rattle.pdl_world.specs.World.{assign}
-use Rattle.pdl_nodes.specs.Row.{Row, parent_of}
+use Rattle.pdl_nodes.specs.Row.{parent_of}
 use Rattle.pdl_nodes.specs.Rows.{Rows, row_at, has}
 use Rattle.pdl_nodes.specs.Alike.{IsAlike, KeepsMarks, MarksTarget, is_fresh_in}
 use Rattle.pdl_nodes.specs.Families.{InOrder}

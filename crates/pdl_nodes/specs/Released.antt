@@ -1,7 +1,6 @@
 -- What letting go leaves.
-use Rattle.std.specs.Prelude.{◌≡◌, ℕ, Bool, true, Option, Some}
+use Rattle.std.specs.Prelude.{◌≡◌, ℕ, Bool, true, Some}
 use Rattle.pdl_nodes.specs.Staying.{staying}
-use Rattle.pdl_nodes.specs.Row.{Row}
 use Rattle.pdl_nodes.specs.Rows.{Rows, row_at, reached}
 use Rattle.pdl_nodes.specs.Worlds.{IsRoot}
 

@@ -1,7 +1,7 @@
 -- What is left of numbered entries when arrays are let go: those that a held array reaches by
 -- parents.
 use Rattle.std.specs.Prelude.{◌≡◌, ℕ, ◌==◌, if◌then◌else◌, Bool, true, List, [], ◌∷◌, Option, Some, None}
-use Rattle.pdl_world.specs.World.{World, ArrayDef, root, view}
+use Rattle.pdl_world.specs.World.{World, root, view}
 
 -- the entries of whose numbers the test holds
 abbrev pub staying : {A : Type 0} → (ℕ → Bool) → List (ℕ × A) → List (ℕ × A)

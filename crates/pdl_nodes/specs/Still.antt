@@ -1,5 +1,5 @@
 -- What is derived of each array from the older ones: its dimensions, type, root, base and triple.
-use Rattle.std.specs.Prelude.{◌≡◌, ℕ, List, [], ◌∷◌, map, Bool, true, Option, Some, None, Result, Ok}
+use Rattle.std.specs.Prelude.{◌≡◌, ℕ, List, [], ◌∷◌, map, true, Option, Some, None, Ok}
 use Rattle.std.specs.List.{range_with_len}
 use Rattle.pdl_shape.specs.Shape.{size_of}
 use Rattle.pdl_shape.specs.Places.{AllBelow, places_of}

@@ -23,80 +23,6 @@ use pdl_shape::{Dims, copy_dims, dims_list, elements_of, shape_laws};
 use std::alloc::{AllocError, Global};
 use std::sync::ledger::Ledger;
 
-/// The elements that are shown.
-fn all_shown(alloc: Global, window: &Strided<'_>) -> Result<Vec<i64>, AllocError>
-    ensures items { IfOk result (λ ns. ns.items ≡ window.now.elems) }
-    ensures in_range { IfOk result (λ ns. All (InRange window.now.ty) ns.items) }
-{
-    let count = elements_of(strided_dims(window)) as usize;
-    let mut numbers = vec![in alloc; 0; count]?;
-    strided_read(window, 0, &mut numbers);
-    Ok(numbers)
-}
-
-/// A buffer of the elements of a fresh array. It takes a step for each that isn't 0.
-fn copied<L: Ledger>(
-    table: &Table,
-    alloc: Global,
-    id: u64,
-    steps: &mut Steps<L>,
-) -> Result<Buf, AllocError>
-    requires order { InOrder table.now }
-    requires sized { AreSized table.now }
-    requires live { has table.now id ≡ true }
-    requires fresh { is_fresh_in table.now id ≡ true }
-    ensures value { IfOk result (λ b. b ≡ record {
-      ty = (row_at table.now id).ty;
-      elems = elements (world_of table.now) id;
-    }) }
-    ensures counted { steps.new ≤ steps.old + size_of (row_at table.now id).triple.dims }
-{
-    shape_laws();
-    let node = table.node(id);
-    let base = table.node(node.base());
-    let elements = all_shown(alloc, &strided(base.kept(), node.triple()))?;
-    buf_of(alloc, node.ty(), &elements, steps)
-}
-
-/// Cuts an array from its parent: it becomes a root with its elements, and its own views stay with
-/// it. On a root it does nothing. Want of memory leaves the world as it was, and what could be lent.
-/// It takes the steps that make the array fresh, and one for each of its elements that isn't 0.
-pub fn sever<L: Ledger>(
-    table: &mut Table,
-    alloc: Global,
-    id: u64,
-    steps: &mut Steps<L>,
-) -> Result<(), AllocError>
-    requires order { InOrder table.old }
-    requires known { AreKnown table.old }
-    requires sized { AreSized table.old }
-    requires live { has table.old id ≡ true }
-    requires small { NumbersBelow (2 ^ 64 - 1) table.old }
-    ensures root { (row_at table.old id).root ≡ id → table.new ≡ table.old }
-    ensures spent { (row_at table.old id).root ≡ id → steps.new ≡ steps.old }
-    ensures severed { ChangesRows table.old id table.new }
-    ensures settled { (row_at table.old id).root ≢ id → RowsAreSettled table.old id table.new }
-    ensures ok { OnOk result (world_of table.new ≡ sever (world_of table.old) id) }
-    ensures err { OnErr result (world_of table.new ≡ world_of table.old) }
-    ensures stay { OnErr result (RowsStayFresh table.old table.new) }
-    ensures fresh { OnOk result
-        ((row_at table.old id).root ≢ id → is_fresh_in table.new id ≡ true) }
-    ensures counted { steps.new ≤ steps.old
-        + (outdated table.old id + waiting_size table.old (waiting_of table.old id)
-        + size_of (row_at table.old id).triple.dims) }
-{
-    cut_row_laws();
-    if table.node(id).root() == id {
-        return Ok(());
-    }
-    settle(table, id, steps);
-    refresh(table, alloc, id, steps)?;
-    let dims = copy_dims(&table.node(id).triple().dims);
-    let kept = copied(table, alloc, id, steps)?;
-    table.cut(alloc, id, &dims, kept);
-    Ok(())
-}
-
 /// Reads the first elements that are shown over zeros, as many as there are places.
 fn read_first(window: &Strided<'_>, into: &mut [i64])
     requires { into.old ≡ replicate (length into.old) (pos 0) }
@@ -145,6 +71,46 @@ fn first_copied<L: Ledger>(
     let base = table.node(node.base());
     let elements = first_shown(alloc, &strided(base.kept(), node.triple()), count)?;
     buf_of(alloc, node.ty(), &elements, steps)
+}
+
+/// Cuts an array from its parent: it becomes a root with its elements, and its own views stay with
+/// it. On a root it does nothing. Want of memory leaves the world as it was, and what could be lent.
+/// It takes the steps that make the array fresh, and one for each of its elements that isn't 0.
+pub fn sever<L: Ledger>(
+    table: &mut Table,
+    alloc: Global,
+    id: u64,
+    steps: &mut Steps<L>,
+) -> Result<(), AllocError>
+    requires order { InOrder table.old }
+    requires known { AreKnown table.old }
+    requires sized { AreSized table.old }
+    requires live { has table.old id ≡ true }
+    requires small { NumbersBelow (2 ^ 64 - 1) table.old }
+    ensures root { (row_at table.old id).root ≡ id → table.new ≡ table.old }
+    ensures spent { (row_at table.old id).root ≡ id → steps.new ≡ steps.old }
+    ensures severed { ChangesRows table.old id table.new }
+    ensures settled { (row_at table.old id).root ≢ id → RowsAreSettled table.old id table.new }
+    ensures ok { OnOk result (world_of table.new ≡ sever (world_of table.old) id) }
+    ensures err { OnErr result (world_of table.new ≡ world_of table.old) }
+    ensures stay { OnErr result (RowsStayFresh table.old table.new) }
+    ensures fresh { OnOk result
+        ((row_at table.old id).root ≢ id → is_fresh_in table.new id ≡ true) }
+    ensures counted { steps.new ≤ steps.old
+        + (outdated table.old id + waiting_size table.old (waiting_of table.old id)
+        + size_of (row_at table.old id).triple.dims) }
+{
+    cut_row_laws();
+    if table.node(id).root() == id {
+        return Ok(());
+    }
+    settle(table, id, steps);
+    refresh(table, alloc, id, steps)?;
+    let dims = copy_dims(&table.node(id).triple().dims);
+    let count = elements_of(&dims);
+    let kept = first_copied(table, alloc, id, count, steps)?;
+    table.cut(alloc, id, &dims, kept);
+    Ok(())
 }
 
 /// Gives an array that has no views other dimensions: it becomes a root with its first elements, in

@@ -1,5 +1,5 @@
-use Rattle.std.proofs.Common.{◌≡◌, sym, ◌∙◌, ap}
-use Rattle.pdl_nodes.proofs.Removes.{removing_none, is_at, at_live, at_smaller, at_gone, at_stays, removed_all, to_after}
+use Rattle.std.proofs.Common.{sym, ◌∙◌}
+use Rattle.pdl_nodes.proofs.Removes.{removing_none, is_at, at_live, at_smaller, at_gone, at_stays, to_after}
 use Rattle.pdl_nodes.proofs.passes.remove_unreached.Goals as goal
 
 pub loop-next-init : goal.loop-next-init

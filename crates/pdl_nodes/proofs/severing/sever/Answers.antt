@@ -1,13 +1,16 @@
-use Rattle.std.proofs.Common.{◌+◌, ◌≤◌, sym, ◌∙◌, ap, arith}
+use Rattle.std.proofs.Common.{◌≡◌, ◌+◌, ◌≤◌, sym, ◌∙◌, ap, subst, arith}
 use Rattle.pdl_buf.specs.Buffer.{Kept}
+use Rattle.pdl_shape.specs.Shape.{size_of}
 use Rattle.pdl_shape.specs.Triple.{Triple}
+use Rattle.pdl_world.specs.World.{elements}
 use Rattle.pdl_nodes.specs.Cut.{CanCut}
 use Rattle.pdl_nodes.specs.Outcomes.{outdated, waiting_of, waiting_size}
 use Rattle.pdl_nodes.specs.Row.{Row}
+use Rattle.pdl_nodes.specs.Worlds.{world_of}
 use Rattle.pdl_nodes.proofs.Calls.{on_err}
 use Rattle.pdl_nodes.proofs.Paths.{path_first}
 use Rattle.pdl_nodes.proofs.Readied.{ready_then}
-use Rattle.pdl_nodes.proofs.Severs.{CutFacts, IsFreshly, root_uncut, others_on, settled_on, cut_settled, only_ready, freshly, ready_sized, ready_steps, all_steps, below_ready, ready_fresh, cut_fresh, can_cut, was_cut, cut_world}
+use Rattle.pdl_nodes.proofs.Severs.{CutFacts, IsFreshly, first_all, root_uncut, others_on, settled_on, cut_settled, only_ready, freshly, ready_sized, ready_steps, all_steps, below_ready, ready_fresh, cut_fresh, can_cut, was_cut, cut_world}
 use Rattle.pdl_nodes.proofs.severing.sever.Goals as goal
 
 pub returns-then-root-id-clause-ok : goal.returns-then-root-id-clause-ok
@@ -23,11 +26,11 @@ returns-in_err-refresh-clause-counted g c =
     ready_steps c.args.table.now c.settle.new.table c.args.id c.settle.new.steps c.refresh.new.steps c.args.steps.now c.settle.ensures.settled c.settle.ensures.counted c.refresh.ensures.counted in
     omega (arith, l)
 
-pub copied-requires-clause-sized : goal.copied-requires-clause-sized
-copied-requires-clause-sized g c = ready_sized c.args.table.now c.settle.new.table c.refresh.new.table c.args.id c.requires.order c.requires.sized c.settle.ensures.settled c.refresh.ensures.kept
+pub first_copied-requires-clause-sized : goal.first_copied-requires-clause-sized
+first_copied-requires-clause-sized g c = ready_sized c.args.table.now c.settle.new.table c.refresh.new.table c.args.id c.requires.order c.requires.sized c.settle.ensures.settled c.refresh.ensures.kept
 
-pub copied-requires-clause-fresh : goal.copied-requires-clause-fresh
-copied-requires-clause-fresh g c =
+pub first_copied-requires-clause-fresh : goal.first_copied-requires-clause-fresh
+first_copied-requires-clause-fresh g c =
     path_first c.refresh.new.table c.args.id c.refresh.ensures.kept.order.still (c.refresh.ensures.kept.alike.has_is c.args.id ∙ c.settle.ensures.settled.ready.alike.has_is c.args.id ∙ c.requires.live) c.in_ok-refresh.ensures.fresh
 
 pub returns-in_err-kept-clause-severed : goal.returns-in_err-kept-clause-severed
@@ -36,47 +39,59 @@ returns-in_err-kept-clause-severed g c = only_ready c.args.table.now c.refresh.n
 
 pub returns-in_err-kept-clause-counted : goal.returns-in_err-kept-clause-counted
 returns-in_err-kept-clause-counted g c =
-    all_steps c.args.table.now c.settle.new.table c.refresh.new.table c.args.id c.refresh.new.steps c.copied.new.steps c.args.steps.now c.settle.ensures.settled c.refresh.ensures.kept
-    (ready_steps c.args.table.now c.settle.new.table c.args.id c.settle.new.steps c.refresh.new.steps c.args.steps.now c.settle.ensures.settled c.settle.ensures.counted c.refresh.ensures.counted) c.copied.ensures.counted
+    all_steps c.args.table.now c.settle.new.table c.refresh.new.table c.args.id c.refresh.new.steps c.first_copied.new.steps c.args.steps.now c.settle.ensures.settled c.refresh.ensures.kept
+    (ready_steps c.args.table.now c.settle.new.table c.args.id c.settle.new.steps c.refresh.new.steps c.args.steps.now c.settle.ensures.settled c.settle.ensures.counted c.refresh.ensures.counted) (subst (λ n. c.first_copied.new.steps ≤ c.refresh.new.steps + n) (c.elements_of-count.ensures.count ∙ ap size_of (c.copy_dims-dims.ensures ∙ ap (λ (t : Triple). t.dims) (c.behind-node.view_is ∙ c.triple.ensures ∙ ap (λ (r : Row). r.triple) c.node-2.ensures))) c.first_copied.ensures.counted)
 
 pub cut-requires-clause-can : goal.cut-requires-clause-can
 cut-requires-clause-can g c =
+    let es : c.in_ok-kept.kept.elems ≡ elements (world_of c.refresh.new.table) c.args.id =
+    first_all c.refresh.new.table c.args.id c.elements_of-count.result c.copy_dims-dims.result c.in_ok-kept.kept.elems c.refresh.ensures.kept.order.still
+    (c.refresh.ensures.kept.alike.has_is c.args.id ∙ c.settle.ensures.settled.ready.alike.has_is c.args.id ∙ c.requires.live)
+    c.elements_of-count.ensures.count (c.copy_dims-dims.ensures ∙ ap (λ (t : Triple). t.dims) (c.behind-node.view_is ∙ c.triple.ensures ∙ ap (λ (r : Row). r.triple) c.node-2.ensures)) (ap (λ (k : Kept). k.elems) c.in_ok-kept.ensures.value) in
     let f : IsFreshly c.args.table.now c.refresh.new.table c.args.id = freshly c.args.table.now c.settle.new.table c.refresh.new.table c.args.id c.requires.order c.requires.sized c.requires.live c.settle.ensures.settled c.refresh.ensures.kept
     (path_first c.refresh.new.table c.args.id c.refresh.ensures.kept.order.still (c.refresh.ensures.kept.alike.has_is c.args.id ∙ c.settle.ensures.settled.ready.alike.has_is c.args.id ∙ c.requires.live) c.in_ok-refresh.ensures.fresh) in
     can_cut c.args.table.now c.refresh.new.table c.args.id c.copy_dims-dims.result c.in_ok-kept.kept.elems f
     (λ r. c.if-root-id.false (c.root.ensures ∙ ap (λ (x : Row). x.root) c.node.ensures ∙ r))
     (c.copy_dims-dims.ensures ∙ ap (λ (t : Triple). t.dims) (c.behind-node.view_is ∙ c.triple.ensures ∙ ap (λ (r : Row). r.triple) c.node-2.ensures))
-    (ap (λ (k : Kept). k.elems) c.in_ok-kept.ensures.value)
+    es
 
 pub cut-requires-clause-small : goal.cut-requires-clause-small
 cut-requires-clause-small g c = below_ready c.args.table.now c.refresh.new.table 18446744073709551615 (ready_then c.args.table.now c.settle.new.table c.refresh.new.table c.settle.ensures.settled.ready c.refresh.ensures.kept) c.requires.small
 
 pub returns-clause-severed : goal.returns-clause-severed
 returns-clause-severed g c =
+    let es : c.in_ok-kept.kept.elems ≡ elements (world_of c.refresh.new.table) c.args.id =
+    first_all c.refresh.new.table c.args.id c.elements_of-count.result c.copy_dims-dims.result c.in_ok-kept.kept.elems c.refresh.ensures.kept.order.still
+    (c.refresh.ensures.kept.alike.has_is c.args.id ∙ c.settle.ensures.settled.ready.alike.has_is c.args.id ∙ c.requires.live)
+    c.elements_of-count.ensures.count (c.copy_dims-dims.ensures ∙ ap (λ (t : Triple). t.dims) (c.behind-node.view_is ∙ c.triple.ensures ∙ ap (λ (r : Row). r.triple) c.node-2.ensures)) (ap (λ (k : Kept). k.elems) c.in_ok-kept.ensures.value) in
     let laws : CutFacts = record { severs = c.cut_row_laws.ensures.severs; families = c.cut_row_laws.ensures.families; settled = c.cut_row_laws.ensures.settled; known = c.cut_row_laws.ensures.known; sized = c.cut_row_laws.ensures.sized } in
     let f : IsFreshly c.args.table.now c.refresh.new.table c.args.id = freshly c.args.table.now c.settle.new.table c.refresh.new.table c.args.id c.requires.order c.requires.sized c.requires.live c.settle.ensures.settled c.refresh.ensures.kept
     (path_first c.refresh.new.table c.args.id c.refresh.ensures.kept.order.still (c.refresh.ensures.kept.alike.has_is c.args.id ∙ c.settle.ensures.settled.ready.alike.has_is c.args.id ∙ c.requires.live) c.in_ok-refresh.ensures.fresh) in
     let can : CanCut c.refresh.new.table c.args.id c.copy_dims-dims.result c.in_ok-kept.kept.elems = can_cut c.args.table.now c.refresh.new.table c.args.id c.copy_dims-dims.result c.in_ok-kept.kept.elems f
     (λ r. c.if-root-id.false (c.root.ensures ∙ ap (λ (x : Row). x.root) c.node.ensures ∙ r))
     (c.copy_dims-dims.ensures ∙ ap (λ (t : Triple). t.dims) (c.behind-node.view_is ∙ c.triple.ensures ∙ ap (λ (r : Row). r.triple) c.node-2.ensures))
-    (ap (λ (k : Kept). k.elems) c.in_ok-kept.ensures.value) in
-    was_cut laws c.args.table.now c.refresh.new.table c.cut.new.self c.args.id c.copy_dims-dims.result c.in_ok-kept.kept.elems c.requires.order c.requires.sized f can (ap (λ (k : Kept). k.elems) c.in_ok-kept.ensures.value) c.cut.ensures
+    es in
+    was_cut laws c.args.table.now c.refresh.new.table c.cut.new.self c.args.id c.copy_dims-dims.result c.in_ok-kept.kept.elems c.requires.order c.requires.sized f can es c.cut.ensures
 
 pub returns-clause-ok : goal.returns-clause-ok
 returns-clause-ok g c =
+    let es : c.in_ok-kept.kept.elems ≡ elements (world_of c.refresh.new.table) c.args.id =
+    first_all c.refresh.new.table c.args.id c.elements_of-count.result c.copy_dims-dims.result c.in_ok-kept.kept.elems c.refresh.ensures.kept.order.still
+    (c.refresh.ensures.kept.alike.has_is c.args.id ∙ c.settle.ensures.settled.ready.alike.has_is c.args.id ∙ c.requires.live)
+    c.elements_of-count.ensures.count (c.copy_dims-dims.ensures ∙ ap (λ (t : Triple). t.dims) (c.behind-node.view_is ∙ c.triple.ensures ∙ ap (λ (r : Row). r.triple) c.node-2.ensures)) (ap (λ (k : Kept). k.elems) c.in_ok-kept.ensures.value) in
     let laws : CutFacts = record { severs = c.cut_row_laws.ensures.severs; families = c.cut_row_laws.ensures.families; settled = c.cut_row_laws.ensures.settled; known = c.cut_row_laws.ensures.known; sized = c.cut_row_laws.ensures.sized } in
     let f : IsFreshly c.args.table.now c.refresh.new.table c.args.id = freshly c.args.table.now c.settle.new.table c.refresh.new.table c.args.id c.requires.order c.requires.sized c.requires.live c.settle.ensures.settled c.refresh.ensures.kept
     (path_first c.refresh.new.table c.args.id c.refresh.ensures.kept.order.still (c.refresh.ensures.kept.alike.has_is c.args.id ∙ c.settle.ensures.settled.ready.alike.has_is c.args.id ∙ c.requires.live) c.in_ok-refresh.ensures.fresh) in
     let can : CanCut c.refresh.new.table c.args.id c.copy_dims-dims.result c.in_ok-kept.kept.elems = can_cut c.args.table.now c.refresh.new.table c.args.id c.copy_dims-dims.result c.in_ok-kept.kept.elems f
     (λ r. c.if-root-id.false (c.root.ensures ∙ ap (λ (x : Row). x.root) c.node.ensures ∙ r))
     (c.copy_dims-dims.ensures ∙ ap (λ (t : Triple). t.dims) (c.behind-node.view_is ∙ c.triple.ensures ∙ ap (λ (r : Row). r.triple) c.node-2.ensures))
-    (ap (λ (k : Kept). k.elems) c.in_ok-kept.ensures.value) in
-    cut_world laws c.args.table.now c.refresh.new.table c.cut.new.self c.args.id c.copy_dims-dims.result c.in_ok-kept.kept.elems f can (ap (λ (k : Kept). k.elems) c.in_ok-kept.ensures.value) c.cut.ensures
+    es in
+    cut_world laws c.args.table.now c.refresh.new.table c.cut.new.self c.args.id c.copy_dims-dims.result c.in_ok-kept.kept.elems f can es c.cut.ensures
 
 pub returns-clause-counted : goal.returns-clause-counted
 returns-clause-counted g c =
-    all_steps c.args.table.now c.settle.new.table c.refresh.new.table c.args.id c.refresh.new.steps c.copied.new.steps c.args.steps.now c.settle.ensures.settled c.refresh.ensures.kept
-    (ready_steps c.args.table.now c.settle.new.table c.args.id c.settle.new.steps c.refresh.new.steps c.args.steps.now c.settle.ensures.settled c.settle.ensures.counted c.refresh.ensures.counted) c.copied.ensures.counted
+    all_steps c.args.table.now c.settle.new.table c.refresh.new.table c.args.id c.refresh.new.steps c.first_copied.new.steps c.args.steps.now c.settle.ensures.settled c.refresh.ensures.kept
+    (ready_steps c.args.table.now c.settle.new.table c.args.id c.settle.new.steps c.refresh.new.steps c.args.steps.now c.settle.ensures.settled c.settle.ensures.counted c.refresh.ensures.counted) (subst (λ n. c.first_copied.new.steps ≤ c.refresh.new.steps + n) (c.elements_of-count.ensures.count ∙ ap size_of (c.copy_dims-dims.ensures ∙ ap (λ (t : Triple). t.dims) (c.behind-node.view_is ∙ c.triple.ensures ∙ ap (λ (r : Row). r.triple) c.node-2.ensures))) c.first_copied.ensures.counted)
 
 pub returns-in_err-refresh-clause-stay : goal.returns-in_err-refresh-clause-stay
 returns-in_err-refresh-clause-stay g c = on_err c.from_residual.result _ (ready_fresh c.args.table.now c.refresh.new.table (ready_then c.args.table.now c.settle.new.table c.refresh.new.table c.settle.ensures.settled.ready c.refresh.ensures.kept))
@@ -98,12 +113,16 @@ returns-in_err-kept-clause-settled g c = λ n. settled_on c.args.table.now c.set
 
 pub returns-clause-settled : goal.returns-clause-settled
 returns-clause-settled g c = λ n.
+    let es : c.in_ok-kept.kept.elems ≡ elements (world_of c.refresh.new.table) c.args.id =
+    first_all c.refresh.new.table c.args.id c.elements_of-count.result c.copy_dims-dims.result c.in_ok-kept.kept.elems c.refresh.ensures.kept.order.still
+    (c.refresh.ensures.kept.alike.has_is c.args.id ∙ c.settle.ensures.settled.ready.alike.has_is c.args.id ∙ c.requires.live)
+    c.elements_of-count.ensures.count (c.copy_dims-dims.ensures ∙ ap (λ (t : Triple). t.dims) (c.behind-node.view_is ∙ c.triple.ensures ∙ ap (λ (r : Row). r.triple) c.node-2.ensures)) (ap (λ (k : Kept). k.elems) c.in_ok-kept.ensures.value) in
     let laws : CutFacts = record { severs = c.cut_row_laws.ensures.severs; families = c.cut_row_laws.ensures.families; settled = c.cut_row_laws.ensures.settled; known = c.cut_row_laws.ensures.known; sized = c.cut_row_laws.ensures.sized } in
     let f : IsFreshly c.args.table.now c.refresh.new.table c.args.id = freshly c.args.table.now c.settle.new.table c.refresh.new.table c.args.id c.requires.order c.requires.sized c.requires.live c.settle.ensures.settled c.refresh.ensures.kept
     (path_first c.refresh.new.table c.args.id c.refresh.ensures.kept.order.still (c.refresh.ensures.kept.alike.has_is c.args.id ∙ c.settle.ensures.settled.ready.alike.has_is c.args.id ∙ c.requires.live) c.in_ok-refresh.ensures.fresh) in
     let can : CanCut c.refresh.new.table c.args.id c.copy_dims-dims.result c.in_ok-kept.kept.elems = can_cut c.args.table.now c.refresh.new.table c.args.id c.copy_dims-dims.result c.in_ok-kept.kept.elems f n
     (c.copy_dims-dims.ensures ∙ ap (λ (t : Triple). t.dims) (c.behind-node.view_is ∙ c.triple.ensures ∙ ap (λ (r : Row). r.triple) c.node-2.ensures))
-    (ap (λ (k : Kept). k.elems) c.in_ok-kept.ensures.value) in
+    es in
     cut_settled laws c.args.table.now c.refresh.new.table c.cut.new.self c.args.id c.copy_dims-dims.result c.in_ok-kept.kept.elems f can c.cut.ensures
 
 pub returns-in_err-refresh-clause-root : goal.returns-in_err-refresh-clause-root
