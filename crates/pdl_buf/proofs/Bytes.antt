@@ -78,16 +78,15 @@ pub bytes_are : (t : Ty) (cells : List (List ℕ)) → ArePacked t cells → fla
 bytes_are t [] all = refl
 bytes_are t (c ∷ cells) all = ap₂ ◌++◌ (sym (All-head (IsPacked t) c cells all)) (bytes_are t cells (All-tail (IsPacked t) c cells all))
 
--- ---- a list that is packed from the front
+-- ---- a list that is set from the front to what another one gives
 
-pub packed_more : (t : Ty) (cells : List (List ℕ)) (es : List ℤ) (i : ℕ) (bytes : List ℕ) → i < length es → length cells ≡ length es
-    → bytes ≡ bytes_of t (get_or es i (pos 0)) → take i cells ≡ map (bytes_of t) (take i es) → take (i + 1) (slice_set cells i bytes) ≡ map (bytes_of t) (take (i + 1) es)
-packed_more t cells es i bytes h same e before =
-    take_more_set cells i bytes (omega arith) ∙ ap₂ (λ (front : List (List ℕ)) (b : List ℕ). front ++ b ∷ []) before e ∙ sym (map_more (bytes_of t) es i (pos 0) h)
+pub set_more : {X Y : Type 0} (f : X → Y) (ys : List Y) (xs : List X) (i : ℕ) (d : X) (y : Y) → i < length xs → length ys ≡ length xs
+    → y ≡ f (get_or xs i d) → take i ys ≡ map f (take i xs) → take (i + 1) (slice_set ys i y) ≡ map f (take (i + 1) xs)
+set_more {Y = Y} f ys xs i d y h same e before =
+    take_more_set ys i y (omega arith) ∙ ap₂ (λ (front : List Y) (b : Y). front ++ b ∷ []) before e ∙ sym (map_more f xs i d h)
 
-pub packed_end : (t : Ty) (cells : List (List ℕ)) (es : List ℤ) (i : ℕ) → length es ≤ i → length cells ≡ length es
-    → take i cells ≡ map (bytes_of t) (take i es) → cells ≡ map (bytes_of t) es
-packed_end t cells es i h same e = sym (take_all i cells (omega arith)) ∙ e ∙ ap (map (bytes_of t)) (take_all i es h)
+pub set_all : {X Y : Type 0} (f : X → Y) (ys : List Y) (xs : List X) (i : ℕ) → length xs ≤ i → length ys ≡ length xs → take i ys ≡ map f (take i xs) → ys ≡ map f xs
+set_all f ys xs i h same e = sym (take_all i ys (omega arith)) ∙ e ∙ ap (map f) (take_all i xs h)
 
 -- ---- a list that is packed onto others
 

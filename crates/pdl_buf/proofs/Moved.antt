@@ -1,21 +1,8 @@
--- A list that is kept part by part, and how many of its numbers aren't 0.
-use Rattle.std.proofs.Common.{◌≡◌, ℕ, ◌+◌, ◌≤◌, ℤ, pos, List, ◌++◌, length, take, drop, ap, ap₂, sym, ◌∙◌, cond}
-use Rattle.std.specs.Prelude.{not}
-use Rattle.std.specs.Ordering.{int_eq}
-use Rattle.std.proofs.lemmas.List.Sums.{sum_by-append, count_by-le-length}
+-- A list that is kept part by part.
+use Rattle.std.proofs.Common.{◌≡◌, ℕ, ◌+◌, ℤ, List, ◌++◌, length, take, drop, ap, ap₂, sym, ◌∙◌}
 use Rattle.std.proofs.Math.Seq.{take-add, take-append_seam}
 use Rattle.pdl_elem.specs.declared.Ty.{Ty}
-use Rattle.pdl_buf.specs.Buffer.{Kept, count_moved}
-
-pub moved_append : (xs ys : List ℤ) → count_moved (xs ++ ys) ≡ count_moved xs + count_moved ys
-moved_append xs ys = sum_by-append (λ e. cond (not (int_eq e (pos 0))) 1 0) xs ys
-
--- the numbers of one block more
-pub moved_more : (es : List ℤ) (k n : ℕ) → count_moved (take (k + n) es) ≡ count_moved (take k es) + count_moved (take n (drop k es))
-moved_more es k n = ap count_moved (take-add k n es) ∙ moved_append (take k es) (take n (drop k es))
-
-pub moved_few : (es : List ℤ) → count_moved es ≤ length es
-moved_few es = count_by-le-length (λ e. not (int_eq e (pos 0))) es
+use Rattle.pdl_buf.specs.Buffer.{Kept}
 
 -- a list that was written over whole
 pub written : (n : ℕ) (xs rest : List ℤ) → length xs ≡ n → take n (xs ++ rest) ≡ xs

@@ -1,8 +1,15 @@
 -- The elements of an array: a list of numbers, or numbers that are packed.
-use Rattle.std.specs.Prelude.{ℤ, List}
-use Rattle.pdl_buf.specs.declared.made.Form.{Form}
-use Rattle.pdl_buf.specs.declared.made.Form.TheVariants.{Wide, Packed}
+use Rattle.std.specs.Prelude.{◌≡◌, ℤ, List}
+use Rattle.pdl_elem.specs.declared.Ty.{Ty}
+use Rattle.pdl_buf.specs.declared.packing.Form.{Form}
+use Rattle.pdl_buf.specs.declared.packing.Form.TheVariants.{Wide, Packed}
+use Rattle.pdl_buf.specs.Numbers.{kept_in}
 
 abbrev pub listed : Form → List ℤ
 listed (Wide es) = es.items
-listed (Packed p) = p.elems
+listed (Packed ns) = (kept_in ns).elems
+
+-- what is packed is packed at this type
+abbrev pub IsAtType : Ty → Form → Type 0
+IsAtType ty (Wide es) = Unit {0}
+IsAtType ty (Packed ns) = (kept_in ns).ty ≡ ty

@@ -1,8 +1,9 @@
 //! Kept buffers of numbers, windows on them, and the count of the elements that were moved.
 //!
-//! A buffer comes into being by `buf_of` or `buf_of_elements` alone and is changed by `buf_set`,
-//! `gather` and `scatter` alone, and each of these counts the elements that it moves in a `Steps`
-//! of the caller. So each element that isn't 0 came in by a counted step.
+//! A buffer comes into being by `buf_of`, `buf_of_elements` or `gathered` alone and is changed by
+//! `buf_set`, `gather`, `scatter`, `scatter_from` and `scatter_by` alone, and each of these counts
+//! the elements that it moves in a `Steps` of the caller. So each element that isn't 0 came in by a
+//! counted step.
 #![tactic(auto)]
 
 mod across;
@@ -15,6 +16,7 @@ mod packed;
 mod packing;
 mod placement;
 mod reads;
+mod routes;
 mod steps;
 mod stretching;
 mod window;
@@ -23,10 +25,11 @@ pub use across::{strided_is_turned, strided_read_across};
 pub use buffer::{Buf, buf_bytes, buf_get, buf_of, buf_of_elements, buf_set};
 pub use lending::strided;
 pub use made::{Elements, Made};
-pub use moves::{gather, scatter};
+pub use moves::{gather, gathered, scatter, scatter_by, scatter_from};
 pub use packing::Packing;
 pub use placement::Placement;
 pub use reads::strided_read;
+pub use routes::Route;
 pub use std::alloc::AllocError as NoMemory;
 pub use steps::{Steps, new_steps, tick};
 pub use stretching::stretched;

@@ -1,11 +1,11 @@
 //! The numbers of a buffer, in the width of its type. Each call looks at the type once.
-ghost use Rattle.std.specs.Prelude.{◌≡◌, ◌<◌, ◌≤◌, ◌+◌, ◌++◌, ℕ, ℤ, [], pos, length, get_or, slice_set, All, IfOk, OnOk, OnErr};
-ghost use Rattle.std.specs.List.{flat_map};
+ghost use Rattle.std.specs.Prelude.{◌≡◌, ◌<◌, ◌≤◌, ◌+◌, ◌^◌, ◌++◌, ℕ, ℤ, [], pos, length, take, drop, map, get_or, slice_set, All, IfOk, OnOk, OnErr};
+ghost use Rattle.std.specs.List.{flat_map, range_with_len};
 ghost use Rattle.pdl_elem.specs.Types.{InRange};
 ghost use Rattle.pdl_shape.specs.Places.{AllBelow, read, write};
 ghost use Rattle.pdl_shape.specs.Shape.{extent_limit, size_of};
 ghost use Rattle.pdl_shape.specs.Triple.{Reaches};
-ghost use Rattle.pdl_buf.specs.Buffer.{Kept};
+ghost use Rattle.pdl_buf.specs.Buffer.{Kept, count_moved};
 ghost use Rattle.pdl_buf.specs.Bytes.{bytes_of};
 ghost use Rattle.pdl_buf.specs.Numbers.{kept_in};
 ghost use Rattle.pdl_buf.specs.Reads.{HasRead, HasReadAcross, LieAcross, across};
@@ -14,9 +14,13 @@ ghost use Rattle.pdl_buf.specs.Window.{shown};
 use crate::across::read_across;
 use crate::packed::{AtByte, AtLong, AtLonglong, AtShort, AtUshort, Packed};
 use crate::placement::Placement;
-use crate::reads::{read_block, read_neighbours};
+use crate::reads::read_block;
+use crate::routes::Route;
 use pdl_elem::Ty;
 use std::alloc::{AllocError, Global};
+
+/// So many numbers are copied at once.
+const BLOCK: usize = 512;
 
 /// Numbers of one type.
 #[derive(Debug, Drop)]
@@ -58,6 +62,39 @@ impl Numbers {
         }
     }
 
+    /// The numbers, packed at a type in whose range they are. Those of the type are moved.
+    pub(crate) fn at_type(self, alloc: Global, ty: Ty) -> Result<Numbers, AllocError>
+        requires { All (InRange ty) (kept_in self).elems }
+        ensures { let elems = (kept_in self).elems in
+            IfOk result (λ kept. kept_in kept ≡ record { ty = ty; elems = elems }) }
+    {
+        if self.ty() == ty {
+            Ok(self)
+        } else {
+            self.copied(alloc, ty)
+        }
+    }
+
+    /// The numbers anew, packed at a type in whose range they are. They are copied in blocks, so
+    /// they are never widened all at once.
+    pub(crate) fn copied(&self, alloc: Global, ty: Ty) -> Result<Numbers, AllocError>
+        requires { All (InRange ty) (kept_in self.now).elems }
+        ensures { let elems = (kept_in self.now).elems in
+            IfOk result (λ kept. kept_in kept ≡ record { ty = ty; elems = elems }) }
+    {
+        let count = self.len();
+        let mut numbers = Numbers::with_room(alloc, ty, count)?;
+        let mut block = vec![in alloc; 0; count.min(BLOCK)]?;
+        let mut done = 0;
+        while done < count {
+            block.truncate(count - done);
+            self.read_from(done, &mut block);
+            numbers.extend(&block)?;
+            done += block.len();
+        }
+        Ok(numbers)
+    }
+
     /// How many numbers there are.
     pub(crate) fn len(&self) -> usize
         ensures { result ≡ length (kept_in self.now).elems }
@@ -71,18 +108,30 @@ impl Numbers {
         }
     }
 
-    /// The numbers from a place on, of which there are enough.
+    /// Sets `into` to the numbers from a place on, of which there are enough.
     pub(crate) fn read_from(&self, start: usize, into: &mut [i64])
         requires { start + length into.old ≤ length (kept_in self.now).elems }
-        ensures { let es = (kept_in self.now).elems in
-            (j : ℕ) → j < length into.old → get_or into.new j (pos 0) ≡ get_or es (start + j) (pos 0) }
+        ensures { into.new ≡ take (length into.old) (drop start (kept_in self.now).elems) }
     {
         match self {
-            Numbers::Bytes(packed) => read_neighbours(packed, start, into),
-            Numbers::Shorts(packed) => read_neighbours(packed, start, into),
-            Numbers::Ushorts(packed) => read_neighbours(packed, start, into),
-            Numbers::Longs(packed) => read_neighbours(packed, start, into),
-            Numbers::Longlongs(packed) => read_neighbours(packed, start, into),
+            Numbers::Bytes(packed) => packed.read_from(start, into),
+            Numbers::Shorts(packed) => packed.read_from(start, into),
+            Numbers::Ushorts(packed) => packed.read_from(start, into),
+            Numbers::Longs(packed) => packed.read_from(start, into),
+            Numbers::Longlongs(packed) => packed.read_from(start, into),
+        }
+    }
+
+    /// How many of the numbers aren't 0.
+    pub(crate) fn moved(&self) -> usize
+        ensures { result ≡ count_moved (kept_in self.now).elems }
+    {
+        match self {
+            Numbers::Bytes(packed) => packed.moved(),
+            Numbers::Shorts(packed) => packed.moved(),
+            Numbers::Ushorts(packed) => packed.moved(),
+            Numbers::Longs(packed) => packed.moved(),
+            Numbers::Longlongs(packed) => packed.moved(),
         }
     }
 
@@ -183,6 +232,82 @@ impl Numbers {
         }
     }
 
+    /// Sets the numbers at the places to those of others of the same type, in order. A number
+    /// without a place among these is dropped.
+    pub(crate) fn scatter_from(&mut self, places: &[Option<u32>], from: &Numbers)
+        requires paired { length places.now ≡ length (kept_in from.now).elems }
+        requires same_type { (kept_in from.now).ty ≡ (kept_in self.old).ty }
+        ensures { let old = kept_in self.old in
+            let elems = write places.now (kept_in from.now).elems old.elems in
+            kept_in self.new ≡ record old { elems = elems } }
+    {
+        match (self, from) {
+            (Numbers::Bytes(into), Numbers::Bytes(from)) => into.scatter_from(places, from),
+            (Numbers::Shorts(into), Numbers::Shorts(from)) => into.scatter_from(places, from),
+            (Numbers::Ushorts(into), Numbers::Ushorts(from)) => into.scatter_from(places, from),
+            (Numbers::Longs(into), Numbers::Longs(from)) => into.scatter_from(places, from),
+            (Numbers::Longlongs(into), Numbers::Longlongs(from)) => into.scatter_from(places, from),
+            _ => {}
+        }
+    }
+
+    /// Sets the numbers at the places that a route gives to the first positions to the values, in
+    /// order, which are in the type's range. A value without a place among these is dropped.
+    pub(crate) fn put_by<R: Route>(&mut self, route: &R, values: &[i64])
+        requires few { length values.now ≤ R.count route.now }
+        requires small { length values.now < 2 ^ 32 }
+        requires in_range { All (InRange (kept_in self.old).ty) values.now }
+        ensures { let old = kept_in self.old in
+            let places = map (R.goes_to route.now) (range_with_len 0 (length values.now)) in
+            kept_in self.new ≡ record old { elems = write places values.now old.elems } }
+    {
+        match self {
+            Numbers::Bytes(packed) => packed.put_by(route, values),
+            Numbers::Shorts(packed) => packed.put_by(route, values),
+            Numbers::Ushorts(packed) => packed.put_by(route, values),
+            Numbers::Longs(packed) => packed.put_by(route, values),
+            Numbers::Longlongs(packed) => packed.put_by(route, values),
+        }
+    }
+
+    /// Sets `into` to the numbers at the places, and to 0 where there is none among these.
+    fn read_at(&self, places: &[Option<u32>], into: &mut [i64])
+        requires { length into.old ≡ length places.now }
+        ensures value { into.new ≡ read places.now (kept_in self.now).elems }
+        ensures in_range { All (InRange (kept_in self.now).ty) into.new }
+    {
+        match self {
+            Numbers::Bytes(packed) => packed.read_at(places, into),
+            Numbers::Shorts(packed) => packed.read_at(places, into),
+            Numbers::Ushorts(packed) => packed.read_at(places, into),
+            Numbers::Longs(packed) => packed.read_at(places, into),
+            Numbers::Longlongs(packed) => packed.read_at(places, into),
+        }
+    }
+
+    /// The numbers at the places, with 0 where there is none among these, packed block by block.
+    pub(crate) fn gathered(
+        &self,
+        alloc: Global,
+        places: &[Option<u32>],
+    ) -> Result<Numbers, AllocError>
+        ensures { let elems = read places.now (kept_in self.now).elems in
+            IfOk result (λ kept. kept_in kept ≡ record (kept_in self.now) { elems = elems }) }
+    {
+        let count = places.len();
+        let mut numbers = Numbers::with_room(alloc, self.ty(), count)?;
+        let mut block = vec![in alloc; 0; count.min(BLOCK)]?;
+        let mut done = 0;
+        while done < count {
+            block.truncate(count - done);
+            let end = done + block.len();
+            self.read_at(&places[done..end], &mut block);
+            numbers.extend(&block)?;
+            done = end;
+        }
+        Ok(numbers)
+    }
+
     /// The numbers that a placement shows, from a position on.
     pub(crate) fn read(&self, placement: &Placement, first: u32, into: &mut [i64])
         requires within { first + length into.old ≤ size_of placement.now.dims }
@@ -219,4 +344,14 @@ impl Numbers {
             Numbers::Longlongs(packed) => read_across(packed, placement, first, into),
         }
     }
+}
+
+/// These numbers, which are in the type's range, packed.
+pub(crate) fn numbers_of(alloc: Global, ty: Ty, numbers: &[i64]) -> Result<Numbers, AllocError>
+    requires { All (InRange ty) numbers.now }
+    ensures { IfOk result (λ kept. kept_in kept ≡ record { ty = ty; elems = numbers.now }) }
+{
+    let mut packed = Numbers::with_room(alloc, ty, numbers.len())?;
+    packed.extend(numbers)?;
+    Ok(packed)
 }

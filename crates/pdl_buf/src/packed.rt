@@ -1,6 +1,6 @@
 //! Lists of numbers of one type, each kept as the bytes of its type.
-ghost use Rattle.std.specs.Prelude.{◌≡◌, ◌<◌, ◌≤◌, ℤ, List, [], ◌++◌, pos, length, map, get_or, slice_set, All, IfOk, OnOk, OnErr};
-ghost use Rattle.std.specs.List.{flat_map};
+ghost use Rattle.std.specs.Prelude.{◌≡◌, ◌<◌, ◌≤◌, ◌+◌, ◌^◌, ℤ, List, [], ◌++◌, pos, length, take, drop, map, get_or, slice_set, All, IfOk, OnOk, OnErr};
+ghost use Rattle.std.specs.List.{flat_map, range_with_len};
 ghost use Rattle.std.proofs.Common.{rules};
 ghost use Rattle.pdl_elem.specs.declared.Ty.{Ty};
 ghost use Rattle.pdl_elem.specs.declared.Ty.TheVariants.{Byte, Short, Ushort, Long, Longlong};
@@ -8,10 +8,12 @@ ghost use Rattle.pdl_elem.specs.Types.{InRange};
 ghost use Rattle.pdl_shape.specs.Places.{AllBelow, IsBelow, element_at, put, read, write};
 ghost use Rattle.pdl_shape.specs.Shape.{size_of};
 ghost use Rattle.pdl_shape.specs.Triple.{Reaches};
+ghost use Rattle.pdl_buf.specs.Buffer.{count_moved};
 ghost use Rattle.pdl_buf.specs.Window.{shown};
 ghost use Rattle.pdl_buf.specs.Bytes.{ArePacked, bytes_of, number_of};
 
 use crate::placement::Placement;
+use crate::routes::Route;
 use pdl_elem::{Ty, wrap, wrapping_laws};
 use pdl_shape::shape_laws;
 use std::alloc::{AllocError, Global};
@@ -150,6 +152,16 @@ fn pack_all<T: PackedType<N>, const N: usize>(numbers: &[i64], cells: &mut [[u8;
     }
 }
 
+/// Sets each number to the one whose bytes stand in the cell for it.
+fn unpack_all<T: PackedType<N>, const N: usize>(cells: &[[u8; N]], numbers: &mut [i64])
+    requires { length numbers.old ≡ length cells.now }
+    ensures { numbers.new ≡ map (number_of T.ty) cells.now }
+{
+    for (i, cell) in cells.iter().enumerate() {
+        numbers[i] = T::unpack(cell);
+    }
+}
+
 impl<T: PackedType<N>, const N: usize> Packed<T, N> {
     /// No numbers, with room for so many.
     pub(crate) fn with_room(alloc: Global, count: usize) -> Result<Packed<T, N>, AllocError>
@@ -178,6 +190,29 @@ impl<T: PackedType<N>, const N: usize> Packed<T, N> {
         self.cells.resize(start + numbers.len(), [0; N])?;
         pack_all::<T, N>(numbers, &mut self.cells[start..]);
         Ok(())
+    }
+
+    /// Sets `into` to the numbers from a place on, of which there are enough.
+    pub(crate) fn read_from(&self, start: usize, into: &mut [i64])
+        requires { start + length into.old ≤ length self.now }
+        ensures { into.new ≡ take (length into.old) (drop start self.now) }
+    {
+        let _count = self.len();
+        let end = start + into.len();
+        unpack_all::<T, N>(&self.cells[start..end], into)
+    }
+
+    /// How many of the numbers aren't 0.
+    pub(crate) fn moved(&self) -> usize
+        ensures { result ≡ count_moved self.now }
+    {
+        let mut count = 0;
+        for place in 0..self.len() {
+            if self.get(place) != 0 {
+                count += 1;
+            }
+        }
+        count
     }
 
     /// The number at a place, which is below how many there are.
@@ -238,14 +273,14 @@ impl<T: PackedType<N>, const N: usize> Packed<T, N> {
         }
     }
 
-    /// Sets the number at the place to one of the type's range, where there is a place.
+    /// Sets the number at the place to one of the type's range, where there is such a place.
     fn put(&mut self, place: Option<u32>, number: i64)
-        requires place { IsBelow (length self.old) place }
-        requires in_range { InRange T.ty number }
+        requires { InRange T.ty number }
         ensures { self.new ≡ put place number self.old }
     {
-        if let Some(place) = place {
-            self.set(place as usize, number);
+        match place {
+            Some(place) if (place as usize) < self.len() => self.set(place as usize, number),
+            _ => {}
         }
     }
 
@@ -259,6 +294,53 @@ impl<T: PackedType<N>, const N: usize> Packed<T, N> {
     {
         for (i, place) in places.iter().enumerate() {
             self.put(*place, values[i]);
+        }
+    }
+
+    /// Sets the numbers at the places to those of others of the type, in order. A number without a
+    /// place among these is dropped.
+    pub(crate) fn scatter_from(&mut self, places: &[Option<u32>], from: &Packed<T, N>)
+        requires { length places.now ≡ length from.now }
+        ensures { self.new ≡ write places.now from.now self.old }
+    {
+        for (i, place) in places.iter().enumerate() {
+            self.put(*place, from.get(i));
+        }
+    }
+
+    /// Sets the numbers at the places that a route gives to the first positions to the values, in
+    /// order, which are in the type's range. A value without a place among these is dropped.
+    pub(crate) fn put_by<R: Route>(&mut self, route: &R, values: &[i64])
+        requires few { length values.now ≤ R.count route.now }
+        requires small { length values.now < 2 ^ 32 }
+        requires in_range { All (InRange T.ty) values.now }
+        ensures { let places = map (R.goes_to route.now) (range_with_len 0 (length values.now)) in
+            self.new ≡ write places values.now self.old }
+    {
+        for (i, value) in values.iter().enumerate() {
+            self.put(route.place(i as u32), *value);
+        }
+    }
+
+    /// The number at a place, and 0 where there is none among these.
+    fn element_at(&self, place: Option<u32>) -> i64
+        ensures value { result ≡ element_at self.now place }
+        ensures in_range { InRange T.ty result }
+    {
+        match place {
+            Some(place) if (place as usize) < self.len() => self.get(place as usize),
+            _ => 0,
+        }
+    }
+
+    /// Sets `into` to the numbers at the places, and to 0 where there is none among these.
+    pub(crate) fn read_at(&self, places: &[Option<u32>], into: &mut [i64])
+        requires { length into.old ≡ length places.now }
+        ensures value { into.new ≡ read places.now self.now }
+        ensures in_range { All (InRange T.ty) into.new }
+    {
+        for (i, place) in places.iter().enumerate() {
+            into[i] = self.element_at(*place);
         }
     }
 

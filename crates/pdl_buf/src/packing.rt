@@ -1,35 +1,125 @@
-//! Numbers that are packed as they are made.
-ghost use Rattle.std.specs.Prelude.{◌≡◌, ◌++◌, [], All, IfOk, OnOk, OnErr};
+//! Numbers that are collected in blocks, packed as they are made or as a list.
+ghost use Rattle.std.specs.Prelude.{◌≡◌, ◌<◌, ◌≤◌, ◌+◌, ◌++◌, [], length, take, drop, All, IfOk, OnOk, OnErr};
 ghost use Rattle.pdl_elem.specs.Types.{InRange};
+ghost use Rattle.pdl_buf.specs.Elements.{listed};
+ghost use Rattle.pdl_buf.specs.Numbers.{kept_in};
 
-use crate::numbers::Numbers;
+use crate::numbers::{Numbers, numbers_of};
 use pdl_elem::Ty;
 use std::alloc::{AllocError, Global};
 use std::marker::Model;
 
-/// A type and numbers in its range, which are put one block after another and take no more bytes
-/// than the type is wide. No array has them yet.
+/// How numbers are kept: 64 bits for each, or the bytes of a type.
+#[derive(Debug, Drop)]
+pub(crate) enum Form {
+    Wide(Vec<i64>),
+    Packed(Numbers),
+}
+
+impl Form {
+    /// How many numbers there are.
+    pub(crate) fn len(&self) -> usize
+        ensures { result ≡ length (listed self.now) }
+    {
+        match self {
+            Form::Wide(items) => items.len(),
+            Form::Packed(numbers) => numbers.len(),
+        }
+    }
+
+    /// Sets `into` to the numbers from a position on, of which there are enough.
+    pub(crate) fn read(&self, first: usize, into: &mut [i64])
+        requires { first + length into.old ≤ length (listed self.now) }
+        ensures { into.new ≡ take (length into.old) (drop first (listed self.now)) }
+    {
+        match self {
+            Form::Wide(items) => {
+                let end = first + into.len();
+                into.copy_from_slice(&items[first..end]);
+            }
+            Form::Packed(numbers) => numbers.read_from(first, into),
+        }
+    }
+
+    /// The numbers as a list of their own.
+    pub(crate) fn to_list(&self, alloc: Global) -> Result<Vec<i64>, AllocError>
+        ensures { IfOk result (λ list. list.items ≡ listed self.now) }
+    {
+        let mut list = vec![in alloc; 0; self.len()]?;
+        self.read(0, &mut list);
+        Ok(list)
+    }
+
+    /// The numbers as a list. A list is moved.
+    fn into_list(self, alloc: Global) -> Result<Vec<i64>, AllocError>
+        ensures { IfOk result (λ list. list.items ≡ listed self) }
+    {
+        match self {
+            Form::Wide(items) => Ok(items),
+            Form::Packed(numbers) => Form::Packed(numbers).to_list(alloc),
+        }
+    }
+
+    /// The numbers anew, packed at a type in whose range they are.
+    pub(crate) fn copied(&self, alloc: Global, ty: Ty) -> Result<Numbers, AllocError>
+        requires { All (InRange ty) (listed self.now) }
+        ensures { IfOk result (λ kept. kept_in kept ≡ record { ty = ty; elems = listed self.now }) }
+    {
+        match self {
+            Form::Wide(items) => numbers_of(alloc, ty, items),
+            Form::Packed(numbers) => numbers.copied(alloc, ty),
+        }
+    }
+
+    /// The numbers, packed at a type in whose range they are. What is packed at it is moved.
+    pub(crate) fn into_numbers(self, alloc: Global, ty: Ty) -> Result<Numbers, AllocError>
+        requires { All (InRange ty) (listed self) }
+        ensures { IfOk result (λ kept. kept_in kept ≡ record { ty = ty; elems = listed self }) }
+    {
+        match self {
+            Form::Wide(items) => numbers_of(alloc, ty, &items),
+            Form::Packed(numbers) => numbers.at_type(alloc, ty),
+        }
+    }
+}
+
+/// A type and numbers in its range, which are put one block after another: packed, so that they
+/// take no more bytes than the type is wide, or as a list of 64-bit numbers. No array has them yet.
 #[derive(Debug, Drop)]
 pub struct Packing {
-    pub(crate) numbers: Numbers,
+    ty: Ty,
+    pub(crate) form: Form,
 }
 
 impl Model for Packing {
     ghost use Rattle.pdl_buf.specs.Buffer.{Kept};
-    ghost use Rattle.pdl_buf.specs.Numbers.{kept_in};
+    ghost use Rattle.pdl_buf.specs.Elements.{IsAtType, listed};
 
     ghost Value = { Kept };
 
-    ghost view = { λ p. kept_in p.numbers };
+    ghost view = { λ p. record { ty = p.ty; elems = listed p.form } };
+
+    ghost invariant = { λ p. IsAtType p.ty p.form };
 }
 
 impl Packing {
-    /// No numbers of the type, with room for so many.
+    /// No numbers of the type, with room for so many, to be packed.
     pub fn new(alloc: Global, ty: Ty, count: usize) -> Result<Packing, AllocError>
         ensures { IfOk result (λ p. p ≡ record { ty = ty; elems = [] }) }
     {
         Ok(Packing {
-            numbers: Numbers::with_room(alloc, ty, count)?,
+            ty,
+            form: Form::Packed(Numbers::with_room(alloc, ty, count)?),
+        })
+    }
+
+    /// No numbers of the type, with room for so many, to be listed.
+    pub fn list(alloc: Global, ty: Ty, count: usize) -> Result<Packing, AllocError>
+        ensures { IfOk result (λ p. p ≡ record { ty = ty; elems = [] }) }
+    {
+        Ok(Packing {
+            ty,
+            form: Form::Wide(Vec::with_capacity(alloc, count)?),
         })
     }
 
@@ -41,6 +131,16 @@ impl Packing {
             OnOk result (self.new ≡ record self.old { elems = elems }) }
         ensures err { OnErr result (self.new ≡ self.old) }
     {
-        self.numbers.extend(numbers)
+        match &mut self.form {
+            Form::Wide(items) => items.extend_from_slice(numbers),
+            Form::Packed(packed) => packed.extend(numbers),
+        }
+    }
+
+    /// The numbers as a list. One that was begun as a list is moved.
+    pub fn into_list(self, alloc: Global) -> Result<Vec<i64>, AllocError>
+        ensures { IfOk result (λ list. list.items ≡ self.elems) }
+    {
+        self.form.into_list(alloc)
     }
 }

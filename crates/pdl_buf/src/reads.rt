@@ -38,21 +38,6 @@ fn read_steps<T: PackedType<N>, const N: usize>(
     }
 }
 
-/// The numbers from a place on, one after another.
-pub(crate) fn read_neighbours<T: PackedType<N>, const N: usize>(
-    numbers: &Packed<T, N>,
-    start: usize,
-    into: &mut [i64],
-)
-    requires { start + length into.old ≤ length numbers.now }
-    ensures { (j : ℕ) → j < length into.old → get_or into.new j (pos 0) ≡ get_or numbers.now (start + j) (pos 0) }
-{
-    let _count = numbers.len();
-    for (j, x) in into.iter_mut().enumerate() {
-        *x = numbers.get(start + j);
-    }
-}
-
 /// Sets each of them to one number.
 fn repeat_number(number: i64, into: &mut [i64])
     ensures { (j : ℕ) → j < length into.old → get_or into.new j (pos 0) ≡ number }
@@ -256,7 +241,7 @@ fn read_in_order<T: PackedType<N>, const N: usize>(
     numbers.are_in_range();
     if 0 < into.len() {
         let start = place_of(triple, first);
-        read_neighbours(numbers, start as usize, into);
+        numbers.read_from(start as usize, into);
     }
 }
 

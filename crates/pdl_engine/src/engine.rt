@@ -172,15 +172,15 @@ impl Engine {
         &mut self,
         ty: Ty,
         dims: &Dims,
-        elems: &Elements,
+        elems: Elements,
         steps: &mut Steps<L>,
     ) -> Result<ArrayId, NoMemory>
-        requires { IsMade ty dims.now elems.now }
-        ensures made { IfOk result (λ id. Joins self.old id (root ty dims.now elems.now) self.new) }
+        requires { IsMade ty dims.now elems }
+        ensures made { IfOk result (λ id. Joins self.old id (root ty dims.now elems) self.new) }
         ensures fresh { IfOk result (λ id. is_fresh self.new id ≡ true) }
-        ensures counted { OnOk result (steps.new ≡ steps.old + count_moved elems.now) }
+        ensures counted { OnOk result (steps.new ≡ steps.old + count_moved elems) }
         ensures err { OnErr result (self.new ≡ self.old) }
-        ensures bounded { steps.new ≤ steps.old + count_moved elems.now }
+        ensures bounded { steps.new ≤ steps.old + count_moved elems }
         ensures sound { IsSound self.new.world }
     {
         self.nodes.make(ty, dims, elems, steps)

@@ -26,18 +26,6 @@ use Rattle.pdl_nodes.specs.Assigned.{put_all}
 use Rattle.pdl_nodes.specs.Late.{put_through}
 use Rattle.pdl_nodes.specs.Row.{places_or}
 
--- an array that is its own base lies in order
-pub own_in_order : (rs : Rows) (v : ℕ) → IsStill rs → has rs v ≡ true → (row_at rs v).base ≡ v → (p : ℕ) → p < size_of (row_at rs v).triple.dims → place_at (row_at rs v).triple p ≡ p
-own_in_order rs v s h e p l =
-    let w : IsWhole (row_at rs v).triple = (let P : ℕ → Type 0 = λ x. IsWhole (row_at rs x).triple in subst P e (is_seen rs s v h).base_whole) in
-    sym (spot_entry (row_at rs v).triple p l) ∙ ap (λ (xs : List ℕ). get_or xs p 0) w.in_order ∙ get_or-range_with_len 0 (size_of (row_at rs v).triple.dims) p 0 l ∙ (let z : 0 + p ≡ p = omega arith in z)
-
-pub in_order_if : (rs : Rows) (v b : ℕ) (t : Triple) → IsStill rs → has rs v ≡ true → (row_at rs v).base ≡ b → t ≡ (row_at rs v).triple → eqb v b ≡ true → (p : ℕ) → p < size_of t.dims → place_at t p ≡ p
-in_order_if rs v b t s h e f q p l =
-    let vb : v ≡ b = eqb-true v b q in
-    let P : Triple → Type 0 = λ u. (p : ℕ) → p < size_of u.dims → place_at u p ≡ p in
-    subst P (sym f) (own_in_order rs v s h (e ∙ sym vb)) p l
-
 all_there : (n : ℕ) (is : List ℕ) → Below n is → map (entry (map Some (range_with_len 0 n))) is ≡ map (placed None) is
 all_there n [] b = refl
 all_there n (q ∷ is) b =

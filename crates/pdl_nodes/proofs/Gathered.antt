@@ -1,4 +1,4 @@
--- Elements and places that are gathered, one after the other.
+-- Places that are gathered, one after the other.
 use Rattle.std.proofs.Common.{◌≡◌, ℕ, suc, zero, ℤ, pos, ◌+◌, ◌<◌, ◌≤◌, Bool, true, false, cond, List, [], ◌∷◌, ◌++◌, length, map, get_or, take, drop, All, Option, Some, None, option_and_then, inl, inr, refl, sym, ◌∙◌, ap, subst, arith, add-one, drop-cons}
 use Rattle.std.specs.List.{range_with_len}
 use Rattle.std.specs.Prelude.{Result, Ok, Err, IfOk}
@@ -18,15 +18,6 @@ use Rattle.pdl_nodes.specs.Placed.{placed, placed_by}
 use Rattle.pdl_nodes.proofs.Lists.{IsIn, AllIn}
 use Rattle.pdl_nodes.proofs.Moving.{length_placed, placed_entry}
 use Rattle.pdl_nodes.proofs.Spotted.{entry_in}
-
--- one more element
-pub read_more : (ps : List (Option ℕ)) (es xs new : List ℤ) (i : ℕ) (x : ℤ) → i < length ps → xs ≡ read (take i ps) es → x ≡ element_at es (get_or ps i None) → new ≡ xs ++ x ∷ [] → new ≡ read (take (i + 1) ps) es
-read_more ps es xs new i x h e d n =
-    n ∙ ap (λ l. l ++ x ∷ []) e ∙ ap (λ y. read (take i ps) es ++ y ∷ []) d ∙ sym (map_more (element_at es) ps i None h)
-
-pub range_more : (t : Ty) (xs new : List ℤ) (x : ℤ) → All (InRange t) xs → InRange t x → new ≡ xs ++ x ∷ [] → All (InRange t) new
-range_more t xs new x h p n =
-    subst (λ (l : List ℤ). All (InRange t) l) (sym n) (All-append (InRange t) xs (x ∷ []) h (All-cons (InRange t) x [] p (All-nil (InRange t))))
 
 among_repeats : (b x : Bool) → x ≡ true → cond b true x ≡ true
 among_repeats true x h = refl

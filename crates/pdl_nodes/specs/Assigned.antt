@@ -2,6 +2,14 @@
 use Rattle.std.specs.Prelude.{ℕ, ℤ, List, [], ◌∷◌, Option, Some, None, slice_set}
 pub use Rattle.pdl_world.specs.World.{entry}
 
+-- a position that has a place
+abbrev pub seen_at : Option ℕ → ℕ → Option ℕ
+seen_at None i = None
+seen_at (Some q) i = Some i
+
+abbrev pub seen : List (Option ℕ) → ℕ → Option ℕ
+seen ps i = seen_at (entry ps i) i
+
 -- a kept list after a value was put at a position: one without a place keeps what it has
 abbrev pub put_at : Option ℕ → ℕ → ℤ → List ℤ → List ℤ
 put_at None i x ks = ks

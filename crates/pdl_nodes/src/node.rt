@@ -12,7 +12,7 @@ ghost use Rattle.pdl_nodes.specs.Spots.{spots};
 
 use crate::moves;
 use crate::origin::Origin;
-use pdl_buf::{Buf, Steps};
+use pdl_buf::{Buf, Steps, scatter_from};
 use pdl_choice::Places;
 use pdl_elem::Ty;
 use pdl_shape::{Triple, elements_of};
@@ -185,16 +185,13 @@ impl Node {
     /// Puts the elements of a buffer at places of what is kept, in order. It takes a step for each.
     pub fn write<L: Ledger>(&mut self, places: &[Option<u32>], from: &Buf, steps: &mut Steps<L>)
         requires buffered { is_buffered self.old ≡ true }
-        requires count { length self.old.kept ≡ size_of self.old.triple.dims }
         requires same_type { from.now.ty ≡ self.old.ty }
         requires paired { length places.now ≡ length from.now.elems }
-        requires few { length places.now < 2 ^ 32 }
         ensures value { self.new ≡ record self.old { kept = write places.now from.now.elems self.old.kept } }
         ensures counted { steps.new ≡ steps.old + length places.now }
     {
-        let count = elements_of(&self.triple.dims);
         match &mut self.kept {
-            Some(kept) => moves::write(kept, count, places, from, steps),
+            Some(kept) => scatter_from(kept, places, from, steps),
             None => unreachable!(),
         }
     }
@@ -203,58 +200,38 @@ impl Node {
     /// step for each value.
     pub fn put_over<L: Ledger>(
         &mut self,
-        alloc: Global,
         known: &Option<Places>,
         triple: &Triple,
-        in_order: bool,
         values: &[i64],
         steps: &mut Steps<L>,
     )
         requires buffered { is_buffered self.old ≡ true }
-        requires count { length self.old.kept ≡ size_of self.old.triple.dims }
-        requires in_order { in_order ≡ true → (p : ℕ) → p < size_of triple.now.dims → place_at triple.now p ≡ p }
         requires paired { length values.now ≡ size_of triple.now.dims }
         requires in_range { All (InRange self.old.ty) values.now }
         ensures value { self.new ≡ record self.old { kept = write (placed_by known.now triple.now) values.now self.old.kept } }
         ensures counted { steps.new ≡ steps.old + length values.now }
     {
-        let count = elements_of(&self.triple.dims);
         match &mut self.kept {
-            Some(kept) => moves::put_over(
-                alloc, kept, count, known, triple, in_order, values, steps,
-            ),
+            Some(kept) => moves::put_over(kept, known, triple, values, steps),
             None => unreachable!(),
         }
     }
 
     /// Puts values at the positions that a triple shows and that have a place, in order. It takes a
     /// step for each value.
-    pub fn put_through<L: Ledger>(
-        &mut self,
-        alloc: Global,
-        triple: &Triple,
-        in_order: bool,
-        values: &[i64],
-        steps: &mut Steps<L>,
-    )
+    pub fn put_through<L: Ledger>(&mut self, triple: &Triple, values: &[i64], steps: &mut Steps<L>)
         requires buffered { is_buffered self.old ≡ true }
         requires found { is_some self.old.places ≡ true }
-        requires count { length self.old.kept ≡ size_of self.old.triple.dims }
-        requires in_order { in_order ≡ true → (p : ℕ) → p < size_of triple.now.dims → place_at triple.now p ≡ p }
         requires paired { length values.now ≡ size_of triple.now.dims }
         requires in_range { All (InRange self.old.ty) values.now }
         ensures value { self.new ≡ record self.old { kept = put_all (places_or self.old.places) (spots triple.now) values.now self.old.kept } }
         ensures counted { steps.new ≡ steps.old + length values.now }
     {
-        let count = elements_of(&self.triple.dims);
         match (&mut self.kept, &self.places) {
             (Some(kept), Some(places)) => moves::put_through(
-                alloc,
                 kept,
-                count,
                 places.as_slice(),
                 triple,
-                in_order,
                 values,
                 steps,
             ),

@@ -11,10 +11,10 @@ ghost use Rattle.pdl_nodes.specs.Rows.{has, row_at};
 ghost use Rattle.pdl_nodes.specs.Still.{IsStill};
 ghost use Rattle.pdl_nodes.specs.Worlds.{places_of, shape};
 
-use crate::gathering::{gathered, has_twice, places_through};
+use crate::gathering::{has_twice, places_through};
 use crate::origin::Origin;
 use crate::table::Table;
-use pdl_buf::Steps;
+use pdl_buf::{Steps, gathered};
 use pdl_choice::Places;
 use pdl_shape::elements_of;
 use std::alloc::{AllocError, Global};
@@ -62,16 +62,7 @@ fn find_places(table: &Table, alloc: Global, id: u64) -> Result<Vec<Option<u32>>
             let above = table.node(*parent);
             let size = elements_of(&above.triple().dims);
             let base = table.node(above.base());
-            let in_order = *parent == above.base();
-            places_through(
-                alloc,
-                layout,
-                count,
-                base.places(),
-                above.triple(),
-                size,
-                in_order,
-            )
+            places_through(alloc, layout, count, base.places(), above.triple(), size)
         }
     }
 }
@@ -92,18 +83,10 @@ fn fill_again<L: Ledger>(
 {
     let node = table.node(id);
     let root = table.node(node.root());
-    let count = elements_of(&root.triple().dims);
     let repeats = node.repeats();
     match node.places() {
         Some(places) => {
-            let kept = gathered(
-                alloc,
-                node.ty(),
-                root.kept(),
-                count,
-                places.as_slice(),
-                steps,
-            )?;
+            let kept = gathered(alloc, root.kept(), places.as_slice(), steps)?;
             table.fill(alloc, id, kept, repeats, None)
         }
         None => unreachable!(),
@@ -129,7 +112,7 @@ fn fill_first<L: Ledger>(
     let root = table.node(node.root());
     let count = elements_of(&root.triple().dims);
     let repeats = has_twice(alloc, &places, count)?;
-    let kept = gathered(alloc, node.ty(), root.kept(), count, &places, steps)?;
+    let kept = gathered(alloc, root.kept(), &places, steps)?;
     table.fill(alloc, id, kept, repeats, Some(Places::new(places)))
 }
 

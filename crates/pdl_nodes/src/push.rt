@@ -16,7 +16,6 @@ ghost use Rattle.pdl_nodes.specs.Worlds.{IsRoot, latest, places_of};
 use crate::table::Table;
 use pdl_buf::Steps;
 use pdl_shape::copy_triple;
-use std::alloc::Global;
 use std::sync::ledger::Ledger;
 
 /// Puts the elements that are kept of a marked view into its root. It takes a step for each.
@@ -51,7 +50,6 @@ pub fn write_back<L: Ledger>(table: &mut Table, root: u64, id: u64, steps: &mut 
 /// each value.
 fn put_on_root<L: Ledger>(
     table: &mut Table,
-    alloc: Global,
     root: u64,
     id: u64,
     values: &[i64],
@@ -67,14 +65,13 @@ fn put_on_root<L: Ledger>(
     ensures counted { steps.new ≡ steps.old + length values.now }
 {
     let triple = copy_triple(table.node(id).triple());
-    table.put_over(alloc, root, &triple, id == root, values, steps);
+    table.put_over(root, &triple, values, steps);
 }
 
 /// Puts values into the root at the places of an array that is shown over a marked view. It takes a
 /// step for each value.
 fn put_past_base<L: Ledger>(
     table: &mut Table,
-    alloc: Global,
     root: u64,
     base: u64,
     id: u64,
@@ -95,13 +92,12 @@ fn put_past_base<L: Ledger>(
     ensures counted { steps.new ≡ steps.old + length values.now }
 {
     let triple = copy_triple(table.node(id).triple());
-    table.put_past(alloc, root, base, &triple, id == base, values, steps);
+    table.put_past(root, base, &triple, values, steps);
 }
 
 /// Puts values into the root at the places of a fresh array. It takes a step for each value.
 fn put_at_root<L: Ledger>(
     table: &mut Table,
-    alloc: Global,
     root: u64,
     id: u64,
     values: &[i64],
@@ -120,9 +116,9 @@ fn put_at_root<L: Ledger>(
 {
     let base = table.node(id).base();
     if base == root {
-        put_on_root(table, alloc, root, id, values, steps)
+        put_on_root(table, root, id, values, steps)
     } else {
-        put_past_base(table, alloc, root, base, id, values, steps)
+        put_past_base(table, root, base, id, values, steps)
     }
 }
 
@@ -130,7 +126,6 @@ fn put_at_root<L: Ledger>(
 /// each value.
 fn assign_at_root<L: Ledger>(
     table: &mut Table,
-    alloc: Global,
     root: u64,
     id: u64,
     values: &[i64],
@@ -148,7 +143,7 @@ fn assign_at_root<L: Ledger>(
     ensures settled { table.new ≡ each (settle root (write (places_of table.old id) values.now (latest table.old root)) root false) table.old }
     ensures counted { steps.new ≡ steps.old + length values.now }
 {
-    put_at_root(table, alloc, root, id, values, steps);
+    put_at_root(table, root, id, values, steps);
     table.mark(root, root);
 }
 
@@ -156,7 +151,6 @@ fn assign_at_root<L: Ledger>(
 /// a step for each value.
 fn assign_at_base<L: Ledger>(
     table: &mut Table,
-    alloc: Global,
     root: u64,
     base: u64,
     id: u64,
@@ -172,7 +166,7 @@ fn assign_at_base<L: Ledger>(
     ensures counted { steps.new ≡ steps.old + length values.now }
 {
     let triple = copy_triple(table.node(id).triple());
-    table.put_through(alloc, base, &triple, id == base, values, steps);
+    table.put_through(base, &triple, values, steps);
     if table.node(root).waiting().is_none() {
         table.mark(root, base);
         table.set_waiting(root, Some(base));
@@ -181,13 +175,7 @@ fn assign_at_base<L: Ledger>(
 
 /// Assigns values to a fresh array. They wait in its base, where that is a view without repeats, and
 /// are put into the root otherwise. It takes a step for each value, and no memory.
-pub fn assign<L: Ledger>(
-    table: &mut Table,
-    alloc: Global,
-    id: u64,
-    values: &[i64],
-    steps: &mut Steps<L>,
-)
+pub fn assign<L: Ledger>(table: &mut Table, id: u64, values: &[i64], steps: &mut Steps<L>)
     requires order { InOrder table.old }
     requires known { AreKnown table.old }
     requires live { has table.old id ≡ true }
@@ -202,10 +190,10 @@ pub fn assign<L: Ledger>(
     let root = node.root();
     let base = node.base();
     if base == root {
-        assign_at_root(table, alloc, root, id, values, steps)
+        assign_at_root(table, root, id, values, steps)
     } else if table.node(base).repeats() {
-        assign_at_root(table, alloc, root, id, values, steps)
+        assign_at_root(table, root, id, values, steps)
     } else {
-        assign_at_base(table, alloc, root, base, id, values, steps)
+        assign_at_base(table, root, base, id, values, steps)
     }
 }

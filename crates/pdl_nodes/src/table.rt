@@ -137,40 +137,33 @@ impl Table {
     /// for each value.
     pub fn put_over<L: Ledger>(
         &mut self,
-        alloc: Global,
         root: u64,
         triple: &Triple,
-        in_order: bool,
         values: &[i64],
         steps: &mut Steps<L>,
     )
         requires live { has self.old root ≡ true }
         requires buffered { is_buffered (row_at self.old root) ≡ true }
-        requires count { length (row_at self.old root).kept ≡ size_of (row_at self.old root).triple.dims }
-        requires in_order { in_order ≡ true → (p : ℕ) → p < size_of triple.now.dims → place_at triple.now p ≡ p }
         requires paired { length values.now ≡ size_of triple.now.dims }
         requires in_range { All (InRange (row_at self.old root).ty) values.now }
         ensures put { self.new ≡ each (kept_in root (write (placed_by None triple.now) values.now (row_at self.old root).kept)) self.old }
         ensures counted { steps.new ≡ steps.old + length values.now }
     {
         let key = self.keys[&root];
-        self.nodes[key].put_over(alloc, &None, triple, in_order, values, steps);
+        self.nodes[key].put_over(&None, triple, values, steps);
     }
 
     /// Puts values at the places of a root that a triple shows over a marked view of it, in order.
     /// It takes a step for each value.
     pub fn put_past<L: Ledger>(
         &mut self,
-        alloc: Global,
         root: u64,
         base: u64,
         triple: &Triple,
-        in_order: bool,
         values: &[i64],
         steps: &mut Steps<L>,
     )
         requires view { IsLiftable self.old root base }
-        requires in_order { in_order ≡ true → (p : ℕ) → p < size_of triple.now.dims → place_at triple.now p ≡ p }
         requires paired { length values.now ≡ size_of triple.now.dims }
         requires in_range { All (InRange (row_at self.old root).ty) values.now }
         ensures put { self.new ≡ each (kept_in root (write
@@ -184,7 +177,7 @@ impl Table {
         let Lifted { kept, places } = self.nodes[key].lift();
         let known = Some(places);
         let at = self.keys[&root];
-        self.nodes[at].put_over(alloc, &known, triple, in_order, values, steps);
+        self.nodes[at].put_over(&known, triple, values, steps);
         self.nodes[key].fill(kept, repeats, known);
     }
 
@@ -192,25 +185,21 @@ impl Table {
     /// It takes a step for each value.
     pub fn put_through<L: Ledger>(
         &mut self,
-        alloc: Global,
         id: u64,
         triple: &Triple,
-        in_order: bool,
         values: &[i64],
         steps: &mut Steps<L>,
     )
         requires live { has self.old id ≡ true }
         requires buffered { is_buffered (row_at self.old id) ≡ true }
         requires found { is_some (row_at self.old id).places ≡ true }
-        requires count { length (row_at self.old id).kept ≡ size_of (row_at self.old id).triple.dims }
-        requires in_order { in_order ≡ true → (p : ℕ) → p < size_of triple.now.dims → place_at triple.now p ≡ p }
         requires paired { length values.now ≡ size_of triple.now.dims }
         requires in_range { All (InRange (row_at self.old id).ty) values.now }
         ensures value { self.new ≡ each (kept_in id (put_all (places_or (row_at self.old id).places) (spots triple.now) values.now (row_at self.old id).kept)) self.old }
         ensures counted { steps.new ≡ steps.old + length values.now }
     {
         let key = self.keys[&id];
-        self.nodes[key].put_through(alloc, triple, in_order, values, steps);
+        self.nodes[key].put_through(triple, values, steps);
     }
 
     /// Notes what waits in the family of a root.

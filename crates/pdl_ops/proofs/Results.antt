@@ -74,3 +74,17 @@ assigned_refused sign op target right ty old new o e p h =
 -- an answer to what is the same
 pub answers_same : {A B : Type 0} (seen : A → B) (r s : Result B OpRefusal) (result : Result A OpFault) → r ≡ s → Answers seen s result → Answers seen r result
 answers_same {B = B} seen r s result e h = subst (λ (w : Result B OpRefusal). Answers seen w result) (sym e) h
+
+refused_made : (ty : Ty) (js : List ℕ) (r : Result (List ℤ) OpRefusal) (o : Option OpRefusal) → IsRefused r o → IsRefused (made_of ty js r) o
+refused_made ty js r None h = tt
+refused_made ty js r (Some refusal) h = ap (made_of ty js) h
+
+-- the definition's refusal from those of the steps
+pub elementwise_refused : (op : BinaryOp) (a b : Made) (js : List ℕ) (ty : Ty) (xs ys : List ℤ) (o : Option OpRefusal) → joined_dims a.dims b.dims ≡ Ok js → ty ≡ promoted a.ty b.ty
+    → xs ≡ stretched a.dims js a.elems → ys ≡ stretched b.dims js b.elems → IsRefused (values_of op ty (map (wrapped ty) xs) (map (wrapped ty) ys)) o → IsRefused (elementwise op a b) o
+elementwise_refused op a b js ty xs ys o j p x y h =
+    let at : Ty → List ℤ → List ℤ → Result (List ℤ) OpRefusal = λ ty us vs. values_of op ty (map (wrapped ty) us) (map (wrapped ty) vs) in
+    let t : Ty = binary_result op a.ty b.ty in
+    let found : at (promoted a.ty b.ty) (stretched a.dims js a.elems) (stretched b.dims js b.elems) ≡ at ty xs ys =
+    ap₂ (at (promoted a.ty b.ty)) (sym x) (sym y) ∙ ap (λ (u : Ty). at u xs ys) (sym p) in
+    subst (λ (w : Result Made OpRefusal). IsRefused w o) (sym (ap (over_joined op a b) j ∙ ap (made_of t js) found)) (refused_made t js (at ty xs ys) o h)

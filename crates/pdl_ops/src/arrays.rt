@@ -9,9 +9,9 @@ ghost use Rattle.pdl_ops.specs.Elementwise.{converted, elementwise, unary_each};
 use crate::OpFault;
 use crate::blocks::values;
 use crate::changes::{Change, changed_elements};
-use pdl_buf::{Elements, Made, Strided, stretched, strided_dims, strided_type};
+use pdl_buf::{Elements, Made, Packing, Strided, stretched, strided_dims, strided_type};
 use pdl_elem::{BinaryOp, Ty, UnaryOp, binary_type, promote, unary_type};
-use pdl_shape::{Dims, ShapeFault, copy_dims, join_dims};
+use pdl_shape::{Dims, ShapeFault, copy_dims, elements_of, join_dims};
 use std::alloc::{AllocError, Global};
 
 /// The dimensions that two arrays join to. It answers `Mismatch` and `TooLarge` alone.
@@ -41,18 +41,16 @@ pub fn elementwise(
     ensures made { IfOk result (λ made. IsMade made.ty made.dims made.elems) }
 {
     let dims = joined(alloc, strided_dims(a), strided_dims(b))?;
-    let (left, right) = (strided_type(a), strided_type(b));
-    let elems = values(
-        alloc,
-        op,
-        promote(left, right),
-        &stretched(a, &dims),
-        &stretched(b, &dims),
-    )?;
+    let both = promote(strided_type(a), strided_type(b));
+    let ty = binary_type(op, both, both);
+    let room = Packing::new(alloc, ty, elements_of(&dims) as usize)?;
+    let left = stretched(a, &dims);
+    let right = stretched(b, &dims);
+    let elems = values(alloc, op, both, &left, &right, room)?;
     Ok(Made {
-        ty: binary_type(op, left, right),
+        ty,
         dims,
-        elems: Elements::new(elems),
+        elems: Elements::packed(elems),
     })
 }
 
@@ -61,11 +59,13 @@ pub fn unary_each(alloc: Global, op: UnaryOp, a: &Strided<'_>) -> Result<Made, A
     ensures value { IfOk result (λ made. made ≡ unary_each op (array_of a.now)) }
     ensures made { IfOk result (λ made. IsMade made.ty made.dims made.elems) }
 {
-    let elems = changed_elements(alloc, Change::Operator(op), a)?;
+    let ty = unary_type(op, strided_type(a));
+    let room = Packing::new(alloc, ty, elements_of(strided_dims(a)) as usize)?;
+    let elems = changed_elements(alloc, Change::Operator(op), a, room)?;
     Ok(Made {
-        ty: unary_type(op, strided_type(a)),
+        ty,
         dims: copy_dims(strided_dims(a)),
-        elems: Elements::new(elems),
+        elems: Elements::packed(elems),
     })
 }
 
@@ -74,10 +74,11 @@ pub fn convert(alloc: Global, ty: Ty, a: &Strided<'_>) -> Result<Made, AllocErro
     ensures value { IfOk result (λ made. made ≡ converted ty (array_of a.now)) }
     ensures made { IfOk result (λ made. IsMade made.ty made.dims made.elems) }
 {
-    let elems = changed_elements(alloc, Change::Convert(ty), a)?;
+    let room = Packing::new(alloc, ty, elements_of(strided_dims(a)) as usize)?;
+    let elems = changed_elements(alloc, Change::Convert(ty), a, room)?;
     Ok(Made {
         ty,
         dims: copy_dims(strided_dims(a)),
-        elems: Elements::new(elems),
+        elems: Elements::packed(elems),
     })
 }

@@ -1,5 +1,5 @@
 //! An operator on two windows of as many elements, in blocks.
-ghost use Rattle.std.specs.Prelude.{◌≡◌, ◌+◌, ◌≤◌, length, map, All, IfOk, OnOk};
+ghost use Rattle.std.specs.Prelude.{◌≡◌, ◌+◌, ◌≤◌, [], length, map, All, IfOk, OnOk};
 ghost use Rattle.std.specs.Result.{result_err};
 ghost use Rattle.pdl_elem.specs.Blocks.{pairwise, zero_at};
 ghost use Rattle.pdl_elem.specs.Numbers.{wrapped};
@@ -10,7 +10,7 @@ ghost use Rattle.pdl_ops.specs.Elementwise.{operands_from, values_of};
 
 use crate::OpFault;
 use crate::operands::{BLOCK, read_operand};
-use pdl_buf::{Strided, strided_dims};
+use pdl_buf::{Packing, Strided, strided_dims};
 use pdl_elem::{BinaryOp, Ty, binary_all};
 use pdl_shape::elements_of;
 use std::alloc::Global;
@@ -45,26 +45,28 @@ fn values_block(
 }
 
 /// The operator's values at the type on the elements of two windows of as many elements, each
-/// wrapped to the type. It answers `DivideByZero` and `NoMemory` alone.
+/// wrapped to the type. They are put into a packing of the type that they have, which is empty. It
+/// answers `DivideByZero` and `NoMemory` alone.
 pub(crate) fn values(
     alloc: Global,
     op: BinaryOp,
     ty: Ty,
     a: &Strided<'_>,
     b: &Strided<'_>,
-) -> Result<Vec<i64>, OpFault>
-    requires { length a.now.elems ≡ length b.now.elems }
+    mut made: Packing,
+) -> Result<Packing, OpFault>
+    requires paired { length a.now.elems ≡ length b.now.elems }
+    requires empty { made ≡ record { ty = binary_result op ty ty; elems = [] } }
     ensures value { let xs = map (wrapped ty) a.now.elems in
         let ys = map (wrapped ty) b.now.elems in
-        Answers (λ made. made.items) (values_of op ty xs ys) result }
-    ensures in_range { IfOk result (λ made. All (InRange (binary_result op ty ty)) made.items) }
-    ensures count { IfOk result (λ made. length made.items ≡ length b.now.elems) }
+        Answers (λ made. made.elems) (values_of op ty xs ys) result }
+    ensures in_range { IfOk result (λ made. All (InRange (binary_result op ty ty)) made.elems) }
+    ensures count { IfOk result (λ made. length made.elems ≡ length b.now.elems) }
 {
     let count = elements_of(strided_dims(b)) as usize;
     let mut left = vec![in alloc; 0; count.min(BLOCK)]?;
     let mut right = vec![in alloc; 0; count.min(BLOCK)]?;
     let mut block = vec![in alloc; 0; count.min(BLOCK)]?;
-    let mut made = Vec::with_capacity(alloc, count)?;
     let mut done = 0;
     while done < count {
         left.truncate(count - done);
@@ -76,7 +78,7 @@ pub(crate) fn values(
                 place: (done + place) as u32,
             });
         }
-        made.extend_from_slice(&block)?;
+        made.extend(&block)?;
         done += block.len();
     }
     Ok(made)

@@ -10,10 +10,10 @@ use crate::OpFault;
 use crate::blocks::values;
 use crate::changes::{Change, changed_elements};
 use crate::operands::rewrap;
-use pdl_buf::{Strided, stretched, strided_dims, strided_type};
+use pdl_buf::{Packing, Strided, stretched, strided_dims, strided_type};
 use pdl_elem::{binary_type, promote};
 use pdl_lexemes::AssignOp;
-use pdl_shape::{dims_list, join_dims};
+use pdl_shape::{dims_list, elements_of, join_dims};
 use std::alloc::Global;
 
 /// Whether sizes fit a target's: each is 1 or the target's, whose missing ones count as 1.
@@ -43,12 +43,19 @@ fn new_values(
     ensures never_large { result ≢ Err TooLarge }
 {
     let ty = strided_type(old);
+    let count = elements_of(strided_dims(new)) as usize;
     match sign {
-        AssignOp::Set => Ok(changed_elements(alloc, Change::Convert(ty), new)?),
+        AssignOp::Set => {
+            let room = Packing::list(alloc, ty, count)?;
+            let made = changed_elements(alloc, Change::Convert(ty), new, room)?;
+            Ok(made.into_list(alloc)?)
+        }
         AssignOp::With(op) => {
             let both = promote(ty, strided_type(new));
-            let mut made = values(alloc, op, both, old, new)?;
-            rewrap(binary_type(op, both, both), ty, &mut made);
+            let made_type = binary_type(op, both, both);
+            let room = Packing::list(alloc, made_type, count)?;
+            let mut made = values(alloc, op, both, old, new, room)?.into_list(alloc)?;
+            rewrap(made_type, ty, &mut made);
             Ok(made)
         }
     }

@@ -39,7 +39,7 @@ impl Scope {
         match dims_of(self.alloc(), &[]) {
             Ok(dims) => {
                 let elems = Elements::new(vec![in self.alloc(); number; 1]?);
-                self.make(number_type(number), &dims, &elems, steps)
+                self.make(number_type(number), &dims, elems, steps)
             }
             Err(_) => unreachable!(),
         }
@@ -98,7 +98,7 @@ impl Scope {
         ensures grown { Grows self.old self.new }
     {
         match outputs {
-            [made] => self.make(made.ty, &made.dims, &made.elems, steps),
+            [made] => self.make_like(made, steps),
             _ => Err(StepFault::Script(Fault::WrongArguments)),
         }
     }
@@ -116,7 +116,7 @@ impl Scope {
         ensures grown { Grows self.old self.new }
     {
         match self.outcome(builtin, given, steps) {
-            Ok(Outcome::New(made)) => self.make(made.ty, &made.dims, &made.elems, steps),
+            Ok(Outcome::New(made)) => self.make(made.ty, &made.dims, made.elems, steps),
             Ok(Outcome::View(trans)) => self.view_first(given, trans),
             Err(fault) => Err(fault),
         }

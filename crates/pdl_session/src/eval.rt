@@ -40,7 +40,7 @@ impl Scope {
                 Some(id) => Ok(id),
                 None => Err(StepFault::Script(Fault::UnknownName)),
             },
-            Expr::List(made) => self.make(made.ty, &made.dims, &made.elems, steps),
+            Expr::List(made) => self.make_like(made, steps),
             Expr::Unary(op, operand) => {
                 let operand = self.eval(operand, steps)?;
                 self.unary(*op, operand, steps)

@@ -128,16 +128,30 @@ impl Scope {
         &mut self,
         ty: Ty,
         dims: &Dims,
-        elems: &Elements,
+        elems: Elements,
         steps: &mut Steps<L>,
     ) -> Result<ArrayId, StepFault>
-        requires { IsMade ty dims.now elems.now }
-        ensures value { let wanted = new_root self.old.arrays (array_of ty dims.now elems.now) in
+        requires { IsMade ty dims.now elems }
+        ensures value { let wanted = new_root self.old.arrays (array_of ty dims.now elems) in
             Evaluates wanted self.new result }
         ensures grown { Grows self.old self.new }
     {
         growth_laws();
         Ok(self.engine.make(ty, dims, elems, steps)?)
+    }
+
+    /// A new array like one that is kept elsewhere, whose elements are copied.
+    pub fn make_like<L: Ledger>(
+        &mut self,
+        made: &Made,
+        steps: &mut Steps<L>,
+    ) -> Result<ArrayId, StepFault>
+        requires { IsMade made.now.ty made.now.dims made.now.elems }
+        ensures value { Evaluates (new_root self.old.arrays made.now) self.new result }
+        ensures grown { Grows self.old self.new }
+    {
+        let elems = made.elems.copied(self.alloc, made.ty)?;
+        self.make(made.ty, &made.dims, elems, steps)
     }
 
     /// A new view of an array, whose transformation is well formed.
@@ -175,7 +189,7 @@ impl Scope {
         let mut names = self.names.copied()?;
         for i in 0..bound.len().min(outputs.len()) {
             let made = &outputs[i];
-            let id = self.make(made.ty, &made.dims, &made.elems, steps)?;
+            let id = self.make_like(made, steps)?;
             names.bind(&bound[i], id)?;
         }
         self.names = names;

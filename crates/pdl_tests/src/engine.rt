@@ -40,7 +40,7 @@ fn six<L: Ledger>(
     let mut numbers = [0, 1, 2, 3, 4, 5];
     wrap_all(Ty::Long, &mut numbers);
     let elems = Elements::new(numbers.to_vec(alloc)?);
-    engine.make(Ty::Long, &dims, &elems, steps)
+    engine.make(Ty::Long, &dims, elems, steps)
 }
 
 // The elements from one to another, by a step.

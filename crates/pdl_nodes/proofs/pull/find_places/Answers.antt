@@ -6,7 +6,6 @@ use Rattle.pdl_nodes.specs.Rows.{row_at, has}
 use Rattle.pdl_nodes.specs.Placed.{placed_by}
 use Rattle.pdl_nodes.specs.Worlds.{places_of}
 use Rattle.pdl_nodes.proofs.Alikes.{base_live}
-use Rattle.pdl_nodes.proofs.Assigning.{in_order_if}
 use Rattle.pdl_nodes.proofs.Filling.{found_places, over_known}
 use Rattle.pdl_nodes.proofs.Gathered.{if_ok}
 use Rattle.pdl_nodes.proofs.Paths.{root_of_origin}
@@ -21,9 +20,6 @@ node-above-requires c = record { live = (view_at c.args.table.now c.requires.ord
 
 pub node-base-requires : goal.node-base-requires
 node-base-requires c = record { live = base_live c.args.table.now c.base.result c.in-View.parent c.requires.order.still (view_at c.args.table.now c.requires.order.still c.args.id c.in-View.parent c.in-View.trans c.in-View.layout c.requires.live (sym (c.origin.ensures ∙ ap (λ (r : Row). r.origin) c.node-node.ensures) ∙ c.in-View.is)).live (sym (c.base.ensures ∙ ap (λ (r : Row). r.base) c.node-above.ensures)) }
-
-pub places_through-requires-clause-in_order : goal.places_through-requires-clause-in_order
-places_through-requires-clause-in_order c = in_order_if c.args.table.now c.in-View.parent c.base-in-View.result c.triple-in-View-2.result.now c.requires.order.still (view_at c.args.table.now c.requires.order.still c.args.id c.in-View.parent c.in-View.trans c.in-View.layout c.requires.live (sym (c.origin.ensures ∙ ap (λ (r : Row). r.origin) c.node-node.ensures) ∙ c.in-View.is)).live (sym (c.base-in-View.ensures ∙ ap (λ (r : Row). r.base) c.node-above.ensures)) (c.triple-in-View-2.ensures ∙ ap (λ (r : Row). r.triple) c.node-above.ensures)
 
 pub returns : goal.returns
 returns c =

@@ -15,7 +15,7 @@ use Rattle.pdl_nodes.specs.Placed.{placed_by}
 use Rattle.pdl_nodes.specs.Spots.{spots}
 use Rattle.pdl_nodes.specs.Worlds.{places_of, latest, IsRoot}
 use Rattle.pdl_nodes.specs.Rows.{Falls}
-use Rattle.pdl_nodes.proofs.Assigning.{in_order_if, based_all, again_all, through_known}
+use Rattle.pdl_nodes.proofs.Assigning.{based_all, again_all, through_known}
 use Rattle.pdl_nodes.proofs.Finds.{each_has, each_at, falls_each}
 use Rattle.pdl_nodes.proofs.Liftings.{liftable}
 use Rattle.pdl_nodes.proofs.Lowered.{falls_still}
@@ -36,12 +36,6 @@ put_through-requires-clause-found g c = (liftable c.args.table.now c.args.root c
 
 pub put_through-requires-clause-buffered : goal.put_through-requires-clause-buffered
 put_through-requires-clause-buffered g c = mark_buffered (row_at c.args.table.now c.args.base) c.requires.through.marked
-
-pub put_through-requires-clause-count : goal.put_through-requires-clause-count
-put_through-requires-clause-count g c = (liftable c.args.table.now c.args.root c.args.base c.requires.through.order c.requires.known c.requires.through.root c.requires.view (base_facts c.args.table.now c.args.root c.args.base c.args.id c.requires.through.order c.requires.through.root c.requires.through.live c.requires.through.base_is c.requires.through.root_is c.requires.through.marked).root_is c.requires.through.marked).size
-
-pub put_through-requires-clause-in_order : goal.put_through-requires-clause-in_order
-put_through-requires-clause-in_order g c = in_order_if c.args.table.now c.args.id c.args.base c.copy_triple-triple.result c.requires.through.order.still c.requires.through.live c.requires.through.base_is (c.copy_triple-triple.ensures ∙ c.triple.ensures ∙ ap (λ (r : Row). r.triple) c.node.ensures)
 
 pub put_through-requires-clause-in_range : goal.put_through-requires-clause-in_range
 put_through-requires-clause-in_range g c =

@@ -14,16 +14,13 @@ use Rattle.pdl_nodes.specs.Late.{settle, await, IsThrough, put_through}
 use Rattle.pdl_nodes.specs.Placed.{placed_by}
 use Rattle.pdl_nodes.specs.Spots.{spots}
 use Rattle.pdl_nodes.specs.Worlds.{places_of, latest, IsRoot}
-use Rattle.pdl_nodes.proofs.Assigning.{in_order_if, over_root}
+use Rattle.pdl_nodes.proofs.Assigning.{over_root}
 use Rattle.pdl_nodes.proofs.Origins.{root_buffered}
 use Rattle.pdl_nodes.proofs.Seens.{IsSeen, is_seen}
 use Rattle.pdl_nodes.proofs.push.put_on_root.Goals as goal
 
 pub put_over-requires-clause-buffered : goal.put_over-requires-clause-buffered
 put_over-requires-clause-buffered g c = root_buffered c.args.table.now c.requires.order.still c.args.root c.requires.root.0 c.requires.root.1
-
-pub put_over-requires-clause-in_order : goal.put_over-requires-clause-in_order
-put_over-requires-clause-in_order g c = in_order_if c.args.table.now c.args.id c.args.root c.copy_triple-triple.result c.requires.order.still c.requires.live c.requires.over (c.copy_triple-triple.ensures ∙ c.triple.ensures ∙ ap (λ (r : Row). r.triple) c.node.ensures)
 
 pub put_over-requires-clause-in_range : goal.put_over-requires-clause-in_range
 put_over-requires-clause-in_range g c =

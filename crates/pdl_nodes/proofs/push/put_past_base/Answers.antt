@@ -9,16 +9,13 @@ use Rattle.pdl_nodes.specs.Changes.{kept_in}
 use Rattle.pdl_nodes.specs.Known.{IsLiftable}
 use Rattle.pdl_nodes.specs.Placed.{placed_by}
 use Rattle.pdl_nodes.specs.Worlds.{places_of}
-use Rattle.pdl_nodes.proofs.Assigning.{in_order_if, over_found, base_root}
+use Rattle.pdl_nodes.proofs.Assigning.{over_found, base_root}
 use Rattle.pdl_nodes.proofs.Liftings.{liftable}
 use Rattle.pdl_nodes.proofs.Seens.{IsSeen, is_seen}
 use Rattle.pdl_nodes.proofs.push.put_past_base.Goals as goal
 
 pub put_past-requires-clause-view : goal.put_past-requires-clause-view
 put_past-requires-clause-view g c = liftable c.args.table.now c.args.root c.args.base c.requires.order c.requires.known c.requires.root c.requires.view (base_root c.args.table.now c.args.root c.args.base c.args.id c.requires.order c.requires.live c.requires.over c.requires.family) c.requires.marked
-
-pub put_past-requires-clause-in_order : goal.put_past-requires-clause-in_order
-put_past-requires-clause-in_order g c = in_order_if c.args.table.now c.args.id c.args.base c.copy_triple-triple.result c.requires.order.still c.requires.live c.requires.over (c.copy_triple-triple.ensures ∙ c.triple.ensures ∙ ap (λ (r : Row). r.triple) c.node.ensures)
 
 pub put_past-requires-clause-in_range : goal.put_past-requires-clause-in_range
 put_past-requires-clause-in_range g c =

@@ -1,6 +1,7 @@
 -- The values before the next block are made, and the blocks are of one length.
 use Rattle.std.proofs.Common.{◌≡◌, ◌<◌, ◌≤◌, ◌-◌, length, map}
 use Rattle.pdl_elem.specs.Numbers.{wrapped}
+use Rattle.pdl_elem.specs.Types.{binary_result}
 use Rattle.pdl_ops.proofs.Parts.{AreMade}
 use Rattle.pdl_ops.proofs.blocks.values.Given as goal
 
@@ -10,8 +11,9 @@ invariant-loop-done l = record {
   some : l.done < l.count → 0 < length l.block.items;
   left : length l.left.items ≡ length l.block.items;
   right : length l.right.items ≡ length l.block.items;
-  count : length l.made.items ≡ l.done;
-  made : AreMade l.op l.ty (map (wrapped l.ty) l.a.elems) (map (wrapped l.ty) l.b.elems) l.done l.made.items;
+  ty : l.made.ty ≡ binary_result l.op l.ty l.ty;
+  count : length l.made.elems ≡ l.done;
+  made : AreMade l.op l.ty (map (wrapped l.ty) l.a.elems) (map (wrapped l.ty) l.b.elems) l.done l.made.elems;
 }
 
 abbrev pub decreases-loop-done : goal.decreases-loop-done

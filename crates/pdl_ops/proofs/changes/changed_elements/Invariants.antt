@@ -9,8 +9,9 @@ abbrev pub invariant-loop-done : goal.invariant-loop-done
 invariant-loop-done l = record {
   inside : l.done ≤ l.count;
   some : l.done < l.count → 0 < length l.block.items;
-  count : length l.made.items ≡ l.done;
-  made : AreChanged (changed l.change l.a.ty) (InRange (changed_type l.change l.a.ty)) l.a.elems l.done l.made.items;
+  ty : l.made.ty ≡ changed_type l.change l.a.ty;
+  count : length l.made.elems ≡ l.done;
+  made : AreChanged (changed l.change l.a.ty) (InRange (changed_type l.change l.a.ty)) l.a.elems l.done l.made.elems;
 }
 
 abbrev pub decreases-loop-done : goal.decreases-loop-done

@@ -25,44 +25,44 @@ returns-in_err-insert-clause-err g c = on_err c.from_residual-in_err-insert.resu
 
 pub invariant_of-self-2 : goal.invariant_of-self-2
 invariant_of-self-2 g c =
-    let grown : IsGrown c.self.inside.table c.self.inside.holds c.insert.new.holds c.self.inside.next (root_row c.self.inside.next c.args.ty c.args.dims.now c.args.elems.now) = (record {
-      new = new_root c.shape_laws.ensures.positions c.shape_laws.ensures.wholes c.self.inside.table c.self.inside.next c.args.ty c.args.dims.now c.args.elems.now c.self.invariant.below c.requires.count;
+    let grown : IsGrown c.self.inside.table c.self.inside.holds c.insert.new.holds c.self.inside.next (root_row c.self.inside.next c.args.ty c.args.dims.now c.args.elems) = (record {
+      new = new_root c.shape_laws.ensures.positions c.shape_laws.ensures.wholes c.self.inside.table c.self.inside.next c.args.ty c.args.dims.now c.args.elems c.self.invariant.below c.requires.count;
       unlisted = refl;
       bare = λ n. absurd (n refl);
       sized = record { triple = c.triple_laws.ensures.wholes c.args.dims.now c.dims_list-limits.ensures.limits; limits = c.dims_list-limits.ensures.limits; laid = tt };
-      sound = c.growth_laws.ensures.sound (world_of c.self.inside.table) c.self.inside.next (root c.args.ty c.args.dims.now c.args.elems.now) c.self.invariant.sound (below_world c.self.inside.table c.self.inside.next c.self.invariant.below) (c.dims_list-limits.ensures.limits, c.requires);
+      sound = c.growth_laws.ensures.sound (world_of c.self.inside.table) c.self.inside.next (root c.args.ty c.args.dims.now c.args.elems) c.self.invariant.sound (below_world c.self.inside.table c.self.inside.next c.self.invariant.below) (c.dims_list-limits.ensures.limits, c.requires);
       beside = subst (λ (t : Rows). Beside t c.insert.new.holds) (c.in_ok-insert.ensures.ok ∙ ap (λ (r : Row). (c.self.inside.next, r) ∷ c.self.inside.table) (c.root_node-node.ensures ∙ ap (λ (k : Kept). root_row c.self.inside.next c.args.ty c.args.dims.now k.elems) c.in_ok-kept.ensures.ok)) c.insert.ensures.beside;
       held = c.in_ok-insert.ensures.held;
       others = c.insert.ensures.others;
     }) in
-    subst (λ (t : Rows). IsNodes t c.insert.new.holds c.in-Some.next) (sym (c.in_ok-insert.ensures.ok ∙ ap (λ (r : Row). (c.self.inside.next, r) ∷ c.self.inside.table) (c.root_node-node.ensures ∙ ap (λ (k : Kept). root_row c.self.inside.next c.args.ty c.args.dims.now k.elems) c.in_ok-kept.ensures.ok))) (grown_nodes c.self.inside.table c.self.inside.holds c.insert.new.holds c.self.inside.next c.in-Some.next (root_row c.self.inside.next c.args.ty c.args.dims.now c.args.elems.now) c.self.invariant grown c.in-Some.ensures.1 (omega arith))
+    subst (λ (t : Rows). IsNodes t c.insert.new.holds c.in-Some.next) (sym (c.in_ok-insert.ensures.ok ∙ ap (λ (r : Row). (c.self.inside.next, r) ∷ c.self.inside.table) (c.root_node-node.ensures ∙ ap (λ (k : Kept). root_row c.self.inside.next c.args.ty c.args.dims.now k.elems) c.in_ok-kept.ensures.ok))) (grown_nodes c.self.inside.table c.self.inside.holds c.insert.new.holds c.self.inside.next c.in-Some.next (root_row c.self.inside.next c.args.ty c.args.dims.now c.args.elems) c.self.invariant grown c.in-Some.ensures.1 (omega arith))
 
 pub returns-clause-made : goal.returns-clause-made
 returns-clause-made g c =
-    let grown : IsGrown c.self.inside.table c.self.inside.holds c.insert.new.holds c.self.inside.next (root_row c.self.inside.next c.args.ty c.args.dims.now c.args.elems.now) = (record {
-      new = new_root c.shape_laws.ensures.positions c.shape_laws.ensures.wholes c.self.inside.table c.self.inside.next c.args.ty c.args.dims.now c.args.elems.now c.self.invariant.below c.requires.count;
+    let grown : IsGrown c.self.inside.table c.self.inside.holds c.insert.new.holds c.self.inside.next (root_row c.self.inside.next c.args.ty c.args.dims.now c.args.elems) = (record {
+      new = new_root c.shape_laws.ensures.positions c.shape_laws.ensures.wholes c.self.inside.table c.self.inside.next c.args.ty c.args.dims.now c.args.elems c.self.invariant.below c.requires.count;
       unlisted = refl;
       bare = λ n. absurd (n refl);
       sized = record { triple = c.triple_laws.ensures.wholes c.args.dims.now c.dims_list-limits.ensures.limits; limits = c.dims_list-limits.ensures.limits; laid = tt };
-      sound = c.growth_laws.ensures.sound (world_of c.self.inside.table) c.self.inside.next (root c.args.ty c.args.dims.now c.args.elems.now) c.self.invariant.sound (below_world c.self.inside.table c.self.inside.next c.self.invariant.below) (c.dims_list-limits.ensures.limits, c.requires);
+      sound = c.growth_laws.ensures.sound (world_of c.self.inside.table) c.self.inside.next (root c.args.ty c.args.dims.now c.args.elems) c.self.invariant.sound (below_world c.self.inside.table c.self.inside.next c.self.invariant.below) (c.dims_list-limits.ensures.limits, c.requires);
       beside = subst (λ (t : Rows). Beside t c.insert.new.holds) (c.in_ok-insert.ensures.ok ∙ ap (λ (r : Row). (c.self.inside.next, r) ∷ c.self.inside.table) (c.root_node-node.ensures ∙ ap (λ (k : Kept). root_row c.self.inside.next c.args.ty c.args.dims.now k.elems) c.in_ok-kept.ensures.ok)) c.insert.ensures.beside;
       held = c.in_ok-insert.ensures.held;
       others = c.insert.ensures.others;
     }) in
-    subst (λ (s : State). Joins s c.self.inside.next (root c.args.ty c.args.dims.now c.args.elems.now) (state_of c.insert.new.table c.insert.new.holds c.in-Some.next)) c.self.view_is
-    (subst (λ (t : Rows). Joins (state_of c.self.inside.table c.self.inside.holds c.self.inside.next) c.self.inside.next (root c.args.ty c.args.dims.now c.args.elems.now) (state_of t c.insert.new.holds c.in-Some.next)) (sym (c.in_ok-insert.ensures.ok ∙ ap (λ (r : Row). (c.self.inside.next, r) ∷ c.self.inside.table) (c.root_node-node.ensures ∙ ap (λ (k : Kept). root_row c.self.inside.next c.args.ty c.args.dims.now k.elems) c.in_ok-kept.ensures.ok)))
-    (subst (λ (d : ArrayDef). Joins (state_of c.self.inside.table c.self.inside.holds c.self.inside.next) c.self.inside.next d (state_of ((c.self.inside.next, (root_row c.self.inside.next c.args.ty c.args.dims.now c.args.elems.now)) ∷ c.self.inside.table) c.insert.new.holds c.in-Some.next)) refl (grown_state c.self.inside.table c.self.inside.holds c.insert.new.holds c.self.inside.next c.in-Some.next (root_row c.self.inside.next c.args.ty c.args.dims.now c.args.elems.now) c.self.invariant grown c.in-Some.ensures.1)))
+    subst (λ (s : State). Joins s c.self.inside.next (root c.args.ty c.args.dims.now c.args.elems) (state_of c.insert.new.table c.insert.new.holds c.in-Some.next)) c.self.view_is
+    (subst (λ (t : Rows). Joins (state_of c.self.inside.table c.self.inside.holds c.self.inside.next) c.self.inside.next (root c.args.ty c.args.dims.now c.args.elems) (state_of t c.insert.new.holds c.in-Some.next)) (sym (c.in_ok-insert.ensures.ok ∙ ap (λ (r : Row). (c.self.inside.next, r) ∷ c.self.inside.table) (c.root_node-node.ensures ∙ ap (λ (k : Kept). root_row c.self.inside.next c.args.ty c.args.dims.now k.elems) c.in_ok-kept.ensures.ok)))
+    (subst (λ (d : ArrayDef). Joins (state_of c.self.inside.table c.self.inside.holds c.self.inside.next) c.self.inside.next d (state_of ((c.self.inside.next, (root_row c.self.inside.next c.args.ty c.args.dims.now c.args.elems)) ∷ c.self.inside.table) c.insert.new.holds c.in-Some.next)) refl (grown_state c.self.inside.table c.self.inside.holds c.insert.new.holds c.self.inside.next c.in-Some.next (root_row c.self.inside.next c.args.ty c.args.dims.now c.args.elems) c.self.invariant grown c.in-Some.ensures.1)))
 
 pub returns-clause-sound : goal.returns-clause-sound
 returns-clause-sound g c =
-    let grown : IsGrown c.self.inside.table c.self.inside.holds c.insert.new.holds c.self.inside.next (root_row c.self.inside.next c.args.ty c.args.dims.now c.args.elems.now) = (record {
-      new = new_root c.shape_laws.ensures.positions c.shape_laws.ensures.wholes c.self.inside.table c.self.inside.next c.args.ty c.args.dims.now c.args.elems.now c.self.invariant.below c.requires.count;
+    let grown : IsGrown c.self.inside.table c.self.inside.holds c.insert.new.holds c.self.inside.next (root_row c.self.inside.next c.args.ty c.args.dims.now c.args.elems) = (record {
+      new = new_root c.shape_laws.ensures.positions c.shape_laws.ensures.wholes c.self.inside.table c.self.inside.next c.args.ty c.args.dims.now c.args.elems c.self.invariant.below c.requires.count;
       unlisted = refl;
       bare = λ n. absurd (n refl);
       sized = record { triple = c.triple_laws.ensures.wholes c.args.dims.now c.dims_list-limits.ensures.limits; limits = c.dims_list-limits.ensures.limits; laid = tt };
-      sound = c.growth_laws.ensures.sound (world_of c.self.inside.table) c.self.inside.next (root c.args.ty c.args.dims.now c.args.elems.now) c.self.invariant.sound (below_world c.self.inside.table c.self.inside.next c.self.invariant.below) (c.dims_list-limits.ensures.limits, c.requires);
+      sound = c.growth_laws.ensures.sound (world_of c.self.inside.table) c.self.inside.next (root c.args.ty c.args.dims.now c.args.elems) c.self.invariant.sound (below_world c.self.inside.table c.self.inside.next c.self.invariant.below) (c.dims_list-limits.ensures.limits, c.requires);
       beside = subst (λ (t : Rows). Beside t c.insert.new.holds) (c.in_ok-insert.ensures.ok ∙ ap (λ (r : Row). (c.self.inside.next, r) ∷ c.self.inside.table) (c.root_node-node.ensures ∙ ap (λ (k : Kept). root_row c.self.inside.next c.args.ty c.args.dims.now k.elems) c.in_ok-kept.ensures.ok)) c.insert.ensures.beside;
       held = c.in_ok-insert.ensures.held;
       others = c.insert.ensures.others;
     }) in
-    subst (λ (t : Rows). IsSound (world_of t)) (sym (c.in_ok-insert.ensures.ok ∙ ap (λ (r : Row). (c.self.inside.next, r) ∷ c.self.inside.table) (c.root_node-node.ensures ∙ ap (λ (k : Kept). root_row c.self.inside.next c.args.ty c.args.dims.now k.elems) c.in_ok-kept.ensures.ok))) (grown_nodes c.self.inside.table c.self.inside.holds c.insert.new.holds c.self.inside.next c.in-Some.next (root_row c.self.inside.next c.args.ty c.args.dims.now c.args.elems.now) c.self.invariant grown c.in-Some.ensures.1 (omega arith)).sound
+    subst (λ (t : Rows). IsSound (world_of t)) (sym (c.in_ok-insert.ensures.ok ∙ ap (λ (r : Row). (c.self.inside.next, r) ∷ c.self.inside.table) (c.root_node-node.ensures ∙ ap (λ (k : Kept). root_row c.self.inside.next c.args.ty c.args.dims.now k.elems) c.in_ok-kept.ensures.ok))) (grown_nodes c.self.inside.table c.self.inside.holds c.insert.new.holds c.self.inside.next c.in-Some.next (root_row c.self.inside.next c.args.ty c.args.dims.now c.args.elems) c.self.invariant grown c.in-Some.ensures.1 (omega arith)).sound

@@ -28,9 +28,6 @@ lift-kept-requires-clause-found g c = ap (λ (r : Row). is_some r.places) (node_
 pub write-requires-clause-buffered : goal.write-requires-clause-buffered
 write-requires-clause-buffered g c = ap is_buffered (lifted_root c.args.self.now c.self.inside.keys c.self.inside.nodes c.args.root c.args.id c.index-key.result.now c.index-at.result.now c.index_mut.result.now c.lift-kept.new.self c.index_mut-2.result.now c.self.view_is c.self.invariant.0 c.requires.view c.index-key.ensures c.index_mut.ensures.value c.lift-kept.ensures.left c.index-at.ensures c.index_mut-2.ensures.value) ∙ c.requires.view.root_buffered
 
-pub write-requires-clause-count : goal.write-requires-clause-count
-write-requires-clause-count g c = subst (λ (r : Row). length r.kept ≡ size_of r.triple.dims) (sym (lifted_root c.args.self.now c.self.inside.keys c.self.inside.nodes c.args.root c.args.id c.index-key.result.now c.index-at.result.now c.index_mut.result.now c.lift-kept.new.self c.index_mut-2.result.now c.self.view_is c.self.invariant.0 c.requires.view c.index-key.ensures c.index_mut.ensures.value c.lift-kept.ensures.left c.index-at.ensures c.index_mut-2.ensures.value)) c.requires.view.root_size
-
 pub fill-requires : goal.fill-requires
 fill-requires g c = record { same_type = ap (λ (k : Kept). k.ty) c.lift-kept.ensures.kept ∙ ap (λ (r : Row). r.ty) (node_is c.args.self.now c.self.inside.keys c.self.inside.nodes c.args.id c.index-key.result.now c.index_mut.result.now c.self.view_is c.self.invariant.0 c.index-key.ensures c.index_mut.ensures.value) ∙ sym (back_type c.args.self.now c.self.inside.keys c.self.inside.nodes c.args.root c.args.id c.index-key.result.now c.index-at.result.now c.lift-kept.new.self c.write.new.self c.index_mut-3.result.now (write c.as_slice.result.now c.lift-kept.result.kept.elems c.index_mut-2.result.now.kept) c.requires.view c.index-key.ensures (root_written c.args.self.now c.self.inside.keys c.self.inside.nodes c.args.root c.args.id c.index-key.result.now c.index-at.result.now c.index_mut.result.now c.lift-kept.new.self c.index_mut-2.result.now c.write.new.self (write c.as_slice.result.now c.lift-kept.result.kept.elems c.index_mut-2.result.now.kept) c.self.view_is c.self.invariant.0 c.index-key.ensures c.index_mut.ensures.value c.lift-kept.ensures.left c.index-at.ensures c.index_mut-2.ensures.value c.write.ensures.value) c.index_mut-3.ensures.value) }
 
@@ -49,15 +46,6 @@ write-requires-clause-paired g c =
     let places : (row_at c.args.self.now c.args.id).places ≡ Some c.lift-kept.result.places = ap (λ (r : Row). r.places) (sym (node_is c.args.self.now c.self.inside.keys c.self.inside.nodes c.args.id c.index-key.result.now c.index_mut.result.now c.self.view_is c.self.invariant.0 c.index-key.ensures c.index_mut.ensures.value)) ∙ c.lift-kept.ensures.places in
     ap (λ (xs : List (Option ℕ)). length xs) c.as_slice.ensures ∙ c.requires.view.count c.lift-kept.result.places places
     ∙ sym (ap (λ (k : Kept). length k.elems) c.lift-kept.ensures.kept ∙ ap (λ (r : Row). length r.kept) (node_is c.args.self.now c.self.inside.keys c.self.inside.nodes c.args.id c.index-key.result.now c.index_mut.result.now c.self.view_is c.self.invariant.0 c.index-key.ensures c.index_mut.ensures.value) ∙ c.requires.view.size)
-
-pub write-requires-clause-few : goal.write-requires-clause-few
-write-requires-clause-few g c =
-    let places : (row_at c.args.self.now c.args.id).places ≡ Some c.lift-kept.result.places = ap (λ (r : Row). r.places) (sym (node_is c.args.self.now c.self.inside.keys c.self.inside.nodes c.args.id c.index-key.result.now c.index_mut.result.now c.self.view_is c.self.invariant.0 c.index-key.ensures c.index_mut.ensures.value)) ∙ c.lift-kept.ensures.places in
-    let n : length c.as_slice.result.now ≡ size_of (row_at c.args.self.now c.args.id).triple.dims = ap (λ (xs : List (Option ℕ)). length xs) c.as_slice.ensures ∙ c.requires.view.count c.lift-kept.result.places places in
-    let m : c.elements_of-count.result ≡ size_of (row_at c.args.self.now c.args.id).triple.dims = c.elements_of-count.ensures.count ∙ ap (λ (t : Triple). size_of t.dims) (c.behind-node.view_is ∙ c.triple.ensures)
-    ∙ ap (λ (r : Row). size_of r.triple.dims) (node_is c.args.self.now c.self.inside.keys c.self.inside.nodes c.args.id c.index-key.result.now c.index-node.result.now c.self.view_is c.self.invariant.0 c.index-key.ensures c.index-node.ensures) in
-    let b : c.elements_of-count.result < 4294967296 = c.elements_of-count.type_inv in
-    omega (arith, n, m, b)
 
 pub returns-clause-put : goal.returns-clause-put
 returns-clause-put g c =

@@ -22,9 +22,6 @@ returns-clause-value g c =
 pub put_through-requires-clause-buffered : goal.put_through-requires-clause-buffered
 put_through-requires-clause-buffered g c = ap is_buffered (node_is c.args.self.now c.self.inside.keys c.self.inside.nodes c.args.id c.index-key.result.now c.index_mut.result.now c.self.view_is c.self.invariant.0 c.index-key.ensures c.index_mut.ensures.value) ∙ c.requires.buffered
 
-pub put_through-requires-clause-count : goal.put_through-requires-clause-count
-put_through-requires-clause-count g c = subst (λ (r : Row). length r.kept ≡ size_of r.triple.dims) (sym (node_is c.args.self.now c.self.inside.keys c.self.inside.nodes c.args.id c.index-key.result.now c.index_mut.result.now c.self.view_is c.self.invariant.0 c.index-key.ensures c.index_mut.ensures.value)) c.requires.count
-
 pub put_through-requires-clause-in_range : goal.put_through-requires-clause-in_range
 put_through-requires-clause-in_range g c = subst (λ (r : Row). All (InRange r.ty) c.args.values.now) (sym (node_is c.args.self.now c.self.inside.keys c.self.inside.nodes c.args.id c.index-key.result.now c.index_mut.result.now c.self.view_is c.self.invariant.0 c.index-key.ensures c.index_mut.ensures.value)) c.requires.in_range
 

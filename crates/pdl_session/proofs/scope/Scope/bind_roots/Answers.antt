@@ -20,11 +20,11 @@ returns-in_err-bind g c =
     let f = c.in_err-bind.field-0.0 in
     let within : c.loop-i.i < length xs = omega arith in
     let there : c.loop-i.i < length ms = omega arith in
-    let R : Result (Unit {0}) StepFault → Type 0 = Runs (roots_bound old xs ms) old c.make.new.self [] [] in
+    let R : Result (Unit {0}) StepFault → Type 0 = Runs (roots_bound old xs ms) old c.make_like.new.self [] [] in
     subst R (sym (is_fault c.from_residual-in_err-bind.result f c.from_residual-in_err-bind.ensures.1)) (
-      name_refused old c.loop-i.self c.make.new.self c.loop-i.names xs ms c.loop-i.i c.index-bound-i.result m id f within there c.index-bound-i.is c.index-outputs-i.is c.loop-i.invariant.so_far
+      name_refused old c.loop-i.self c.make_like.new.self c.loop-i.names xs ms c.loop-i.i c.index-bound-i.result m id f within there c.index-bound-i.is c.index-outputs-i.is c.loop-i.invariant.so_far
           c.in_ok-id.ensures.value.0 c.in_err-bind.ensures.fault,
-      kept_at f old c.make.new.self [] (grows_trans old c.loop-i.self c.make.new.self c.loop-i.invariant.grown c.make.ensures.grown),
+      kept_at f old c.make_like.new.self [] (grows_trans old c.loop-i.self c.make_like.new.self c.loop-i.invariant.grown c.make_like.ensures.grown),
     )
 
 pub loop-i-preserved : goal.loop-i-preserved
@@ -37,10 +37,10 @@ loop-i-preserved g c =
     let within : c.loop-i.i < length xs = omega arith in
     let there : c.loop-i.i < length ms = omega arith in
     record {
-      so_far = roots_more old c.loop-i.self c.make.new.self c.loop-i.names c.bind.new.self xs ms c.loop-i.i c.index-bound-i.result m id within there c.index-bound-i.is c.index-outputs-i.is c.loop-i.invariant.so_far
-          c.in_ok-id.ensures.value.0 c.make.ensures.grown c.in_ok-bind.ensures.ok;
-      grown = grows_trans old c.loop-i.self c.make.new.self c.loop-i.invariant.grown c.make.ensures.grown;
-      live = live_more c.loop-i.self c.make.new.self c.loop-i.names c.bind.new.self c.index-bound-i.result id c.loop-i.invariant.live c.make.ensures.grown c.in_ok-id.ensures.value.1 c.in_ok-bind.ensures.ok;
+      so_far = roots_more old c.loop-i.self c.make_like.new.self c.loop-i.names c.bind.new.self xs ms c.loop-i.i c.index-bound-i.result m id within there c.index-bound-i.is c.index-outputs-i.is c.loop-i.invariant.so_far
+          c.in_ok-id.ensures.value.0 c.make_like.ensures.grown c.in_ok-bind.ensures.ok;
+      grown = grows_trans old c.loop-i.self c.make_like.new.self c.loop-i.invariant.grown c.make_like.ensures.grown;
+      live = live_more c.loop-i.self c.make_like.new.self c.loop-i.names c.bind.new.self c.index-bound-i.result id c.loop-i.invariant.live c.make_like.ensures.grown c.in_ok-id.ensures.value.1 c.in_ok-bind.ensures.ok;
     }
 
 pub returns : goal.returns
