@@ -40,7 +40,7 @@ pub record Walk_at (w : Walk) (t : Triple) (place : ℕ) : Type 0 where
   pub reachable : IsWithin t.dims (argument_coordinates w t)
   pub bound : place < 1048576
 
-standing_is : PositionLaws → (w : Inside) → IsSound w → w.is_at_end ≡ false → standing_at (walk_of w) ≡ w.coordinates.items
+pub standing_is : PositionLaws → (w : Inside) → IsSound w → w.is_at_end ≡ false → standing_at (walk_of w) ≡ w.coordinates.items
 standing_is laws w s e =
     let P : Bool → Type 0 = λ b. coordinates_of w.dims (if b then size_of w.dims else position_of w.dims w.coordinates.items) ≡ w.coordinates.items in
     subst P (sym e) (laws.coordinates_again w.dims w.coordinates.items (s.within e))

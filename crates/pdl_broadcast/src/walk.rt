@@ -1,6 +1,6 @@
 //! The walk through a broadcast.
 ghost use Rattle.std.specs.Prelude.{◌≡◌, ◌+◌, ◌<◌, ◌≤◌, ◌==◌, [], ◌∷◌, ◌++◌, IfOk, IfSome, IsOk, OnErr, OnOk, length, pos, slice_get};
-ghost use Rattle.pdl_broadcast.specs.Walk.{Walk, argument_coordinates, argument_place, arguments_room};
+ghost use Rattle.pdl_broadcast.specs.Walk.{Walk, argument_coordinates, argument_place, arguments_room, standing_at};
 ghost use Rattle.pdl_shape.specs.Broadcast.{BroadcastsTo};
 ghost use Rattle.pdl_shape.specs.Shape.{IsDims, IsWithin, extent_limit, size_of};
 
@@ -76,6 +76,16 @@ impl BroadcastWalk {
             jumps,
         })?;
         Ok(number)
+    }
+
+    /// The coordinates where the walk stands, that along dimension 0 first. The walk must not be at
+    /// its end.
+    pub fn coordinates(&self) -> &[u32]
+        requires { self.now.index < size_of self.now.dims }
+        ensures { result.now ≡ standing_at self.now }
+    {
+        shape_laws();
+        self.coordinates.as_slice()
     }
 
     /// The place of an argument's element at these coordinates. The number must be one that `add`

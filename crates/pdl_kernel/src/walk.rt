@@ -14,8 +14,9 @@ use crate::frame::Frames;
 use crate::part::Part;
 use crate::source::Source;
 use crate::steps::run;
+use pdl_broadcast::BroadcastWalk;
 use pdl_code::Stmt;
-use pdl_shape::{coordinates, coords_list, elements_of};
+use pdl_shape::elements_of;
 use pdl_sig::Resolved;
 use std::alloc::{AllocError, Global};
 
@@ -87,9 +88,9 @@ pub fn collect(
     ensures { let left = left_in_order resolved.now (code_of code.now) sources.old.items (length frames.old.locals) in
         Collected result parts.old.items parts.new.items (stores_from left 0 (size_of resolved.now.broadcast)) }
 {
+    let mut walk = BroadcastWalk::new(alloc, &resolved.broadcast)?;
     for place in 0..elements_of(&resolved.broadcast) {
-        let at = coordinates(alloc, &resolved.broadcast, place);
-        match at_place(resolved, sources, frames, code, coords_list(&at)) {
+        match at_place(resolved, sources, frames, code, walk.coordinates()) {
             Ok(()) => {}
             Err(fault) => return Err(fault_at(place, fault)),
         }
@@ -97,6 +98,7 @@ pub fn collect(
             Ok(()) => {}
             Err(_) => return Err(RunFault::NoMemory),
         }
+        walk.next();
     }
     Ok(())
 }

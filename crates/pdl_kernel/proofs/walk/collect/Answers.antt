@@ -1,8 +1,9 @@
-use Rattle.std.proofs.Common.{◌≡◌, ◌<◌, List, ap, sym, ◌∙◌, subst, arith, length, map, refl, Err}
+use Rattle.std.proofs.Common.{◌≡◌, ◌<◌, ◌+◌, List, ap, sym, ◌∙◌, subst, arith, length, map, refl, Err}
 use Rattle.std.specs.Prelude.{All}
 use Rattle.pdl_shape.specs.Shape.{size_of}
 use Rattle.pdl_sig.specs.declared.Role.{Role}
 use Rattle.pdl_code.specs.TreeOf.{code_of}
+use Rattle.pdl_broadcast.specs.Walk.{Walk, standing_at}
 use Rattle.pdl_kernel.specs.declared.faults.RunFault.{RunFault}
 use Rattle.pdl_kernel.specs.Call.{stores_from}
 use Rattle.pdl_kernel.specs.Parts.{Collected, Part, appended}
@@ -13,6 +14,7 @@ use Rattle.pdl_kernel.proofs.walk.collect.Goals as goal
 
 pub loop-place-init : goal.loop-place-init
 loop-place-init c = record {
+  walk = c.in_ok-walk.ensures;
   same = λ bs. refl;
   roles = refl;
   blocks = c.requires.blocks;
@@ -20,6 +22,10 @@ loop-place-init c = record {
   bound = omega arith;
   gathered = gathered_first (left_in_order c.args.resolved.now (code_of c.args.code.now) c.args.sources.now.items (length c.args.frames.now.locals)) c.args.parts.now.items;
 }
+
+-- the walk's next coordinates
+abbrev moved_on : Walk → Walk
+moved_on w = record w { index = w.index + 1 }
 
 pub at_place-requires-clause-free : goal.at_place-requires-clause-free
 at_place-requires-clause-free c = subst (λ (rs : List Role). IsCodeFree rs (code_of c.args.code.now)) (sym c.loop-place.invariant.roles) c.requires.free
@@ -31,7 +37,7 @@ returns-in-Err c =
     let n = size_of c.args.resolved.now.broadcast in
     let lt : c.loop-place.place < n = omega (arith, c.loop-place-test.true, c.elements_of-place-end.ensures.count) in
     let here = place_left c.args.resolved.now (code_of c.args.code.now) c.loop-place.sources.items c.args.sources.now.items (length c.loop-place.frames.locals) (length c.args.frames.now.locals)
-    c.coords_list.result.now c.loop-place.place inv.same inv.locals (c.coords_list.ensures.list ∙ c.coordinates-at.ensures.list) in
+    c.coordinates.result.now c.loop-place.place inv.same inv.locals (c.coordinates.ensures ∙ ap standing_at inv.walk) in
     let P : RunFault → Type 0 = λ x. Collected (Err x) c.args.parts.now.items c.loop-place.parts.items (stores_from f 0 n) in
     subst P (sym c.fault_at.ensures) (collected_fault c.loop-place.place c.in-Err.fault c.args.parts.now.items c.loop-place.parts.items (stores_from f 0 n)
     (gathered_fault f c.loop-place.place n c.args.parts.now.items c.loop-place.parts.items c.in-Err.fault lt inv.gathered (sym here ∙ c.in-Err.ensures.left)))
@@ -52,11 +58,12 @@ loop-place-preserved c =
     let n = size_of c.args.resolved.now.broadcast in
     let lt : c.loop-place.place < n = omega (arith, c.loop-place-test.true, c.elements_of-place-end.ensures.count) in
     let here = place_left c.args.resolved.now (code_of c.args.code.now) c.loop-place.sources.items c.args.sources.now.items (length c.loop-place.frames.locals) (length c.args.frames.now.locals)
-    c.coords_list.result.now c.loop-place.place inv.same inv.locals (c.coords_list.ensures.list ∙ c.coordinates-at.ensures.list) in
+    c.coordinates.result.now c.loop-place.place inv.same inv.locals (c.coordinates.ensures ∙ ap standing_at inv.walk) in
     let m = store_of c.at_place.new.sources.items c.at_place.new.frames in
     record {
-      same = λ bs. ap (map (moved_to bs)) c.at_place.ensures.moved ∙ moved_again c.coords_list.result.now bs c.loop-place.sources.items ∙ inv.same bs;
-      roles = ap roles_of c.at_place.ensures.moved ∙ roles_moved c.coords_list.result.now c.loop-place.sources.items ∙ inv.roles;
+      walk = c.next.ensures ∙ ap moved_on inv.walk;
+      same = λ bs. ap (map (moved_to bs)) c.at_place.ensures.moved ∙ moved_again c.coordinates.result.now bs c.loop-place.sources.items ∙ inv.same bs;
+      roles = ap roles_of c.at_place.ensures.moved ∙ roles_moved c.coordinates.result.now c.loop-place.sources.items ∙ inv.roles;
       blocks = c.in-Ok.ensures.blocks;
       locals = c.in-Ok.ensures.locals ∙ inv.locals;
       bound = omega (arith, lt);

@@ -1,5 +1,5 @@
 -- What the places before this one gave; only the places of sources have changed.
-use Rattle.std.proofs.Common.{◌≡◌, ℕ, ◌≤◌, List, length, map}
+use Rattle.std.proofs.Common.{◌≡◌, ℕ, ◌≤◌, List, [], length, map}
 use Rattle.pdl_shape.specs.Shape.{size_of}
 use Rattle.pdl_code.specs.TreeOf.{code_of}
 use Rattle.pdl_kernel.specs.Sources.{HasBlocks, left_in_order, moved_to, roles_of}
@@ -8,6 +8,7 @@ use Rattle.pdl_kernel.proofs.walk.collect.Given as goal
 
 abbrev pub invariant-loop-place : goal.invariant-loop-place
 invariant-loop-place l = record {
+  walk : l.walk ≡ record { dims = l.resolved.broadcast; triples = []; index = l.place };
   same : (bs : List ℕ) → map (moved_to bs) l.sources.items ≡ map (moved_to bs) l.fn.sources.items;
   roles : roles_of l.sources.items ≡ roles_of l.fn.sources.items;
   blocks : HasBlocks l.sources.items l.frames.arrays;
