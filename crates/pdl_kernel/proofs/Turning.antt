@@ -1,9 +1,10 @@
 -- What one statement means, by what its parts gave.
 use Rattle.std.proofs.Common.{◌≡◌, ℕ, zero, suc, ℤ, pos, negsuc, List, Ok, Err, refl, sym, ap, subst, ◌∙◌}
-use Rattle.std.specs.Prelude.{Result}
+use Rattle.std.specs.Prelude.{Result, Option, Some, None, IfSome}
 use Rattle.pdl_kernel.specs.declared.faults.Fault.{Fault}
 use Rattle.pdl_sig.specs.declared.Resolved.{Resolved}
 use Rattle.pdl_kernel.specs.Answers.{Becomes}
+use Rattle.pdl_kernel.specs.Leading.{LeadsToElement}
 use Rattle.pdl_kernel.specs.Meaning.{Store, and_then, argument, branch, element_at, indices, run, start, step, value}
 use Rattle.pdl_code.specs.Tree.{Tree, Indices, Step, Code, access, choose}
 
@@ -13,6 +14,16 @@ access_ok sizes at m t a is found e ok = sym (ap (value sizes at m) e ∙ ap (λ
 
 pub access_err : (sizes at : List ℕ) (m : Store) (t : Tree) (a : ℕ) (is : Indices) (h : Fault) → t ≡ access a is → indices sizes at m is start ≡ Err h → Err h ≡ value sizes at m t
 access_err sizes at m t a is h e err = sym (ap (value sizes at m) e ∙ ap (λ r. and_then r (element_at (argument m a))) err)
+
+pub access_read : (sizes at : List ℕ) (m : Store) (t : Tree) (a : ℕ) (is : Indices) (found : List ℤ) (r : Option ℤ) → t ≡ access a is → indices sizes at m is start ≡ Ok found
+    → IfSome r (λ x. element_at (argument m a) found ≡ Ok x) → IfSome r (λ x. value sizes at m t ≡ Ok x)
+access_read sizes at m t a is found None e ok h = tt
+access_read sizes at m t a is found (Some x) e ok h = sym (access_ok sizes at m t a is found e ok) ∙ h
+
+pub access_led : (sizes at : List ℕ) (m : Store) (t : Tree) (a : ℕ) (is : Indices) (r : Option ℤ) → t ≡ access a is
+    → IfSome r (LeadsToElement (argument m a) at is) → IfSome r (λ x. value sizes at m t ≡ Ok x)
+access_led sizes at m t a is None e leads = tt
+access_led sizes at m t a is (Some x) e leads = ap (value sizes at m) e ∙ leads sizes m
 
 pub chosen : {B : Type 0} (r : Result B Fault) (now m : Store) (call : Resolved) (at : List ℕ) (s : Step) (e : Tree) (whole other : Code) (x : ℤ) → s ≡ choose e whole other → value call.sizes at m e ≡ Ok x
     → Becomes r now (branch x (run call at whole m) (run call at other m)) → Becomes r now (step call at s m)

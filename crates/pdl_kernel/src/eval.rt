@@ -1,5 +1,5 @@
 //! The number of an expression. It takes no memory.
-ghost use Rattle.std.specs.Prelude.{◌≡◌, slice_index_or};
+ghost use Rattle.std.specs.Prelude.{◌≡◌, slice_index_or, IfSome, Ok};
 ghost use Rattle.pdl_sig.specs.Resolution.{size_in};
 ghost use Rattle.pdl_code.specs.TreeOf.{tree_of, indices_of};
 ghost use Rattle.pdl_kernel.specs.Meaning.{value, indices, start};
@@ -8,8 +8,8 @@ ghost use Rattle.pdl_kernel.specs.Sources.{store_of};
 use crate::axes::{MOST, loop_index, put_at};
 use crate::faults::Fault;
 use crate::frame::Frames;
-use crate::memory::{looped_element, read};
-use crate::operations::operate;
+use crate::memory::{looped_element, read, read_quickly};
+use crate::operations::{operate, operate_quickly};
 use crate::source::Source;
 use pdl_code::{Entry, Expr};
 use pdl_elem::{Ty, unary};
@@ -25,8 +25,94 @@ pub fn size_in(resolved: &Resolved, dimension: usize) -> u32
     }
 }
 
+/// The number of an expression that is no operation, and whose indices, where it is an access, are
+/// those of loops and lead to an element. It makes no further call for a part.
+fn simple(
+    resolved: &Resolved,
+    sources: &[Source],
+    frames: &Frames,
+    at: &[u32; MOST],
+    expr: &Expr,
+) -> Option<i64>
+    ensures { let m = store_of sources.now frames.now in
+        IfSome result (λ x. value resolved.now.sizes at.now m (tree_of expr.now) ≡ Ok x) }
+{
+    match expr {
+        Expr::Number(n) => Some(*n),
+        Expr::Size(dimension) => Some(i64::from(size_in(resolved, *dimension))),
+        Expr::Index(dimension) => Some(i64::from(loop_index(at, *dimension))),
+        Expr::Local(slot) => Some(frames.local(*slot)),
+        Expr::Access(number, entries) => looped_element(sources, frames, at, *number, entries),
+        Expr::Unary(_, _) | Expr::Binary(_, _, _) => None,
+    }
+}
+
+/// The number of an expression, where it has no fault. It hands a number out in a register, which the
+/// answers of `computed` are too large for.
+#[cycle(quick)]
+fn quick(
+    resolved: &Resolved,
+    sources: &[Source],
+    frames: &Frames,
+    at: &[u32; MOST],
+    expr: &Expr,
+) -> Option<i64>
+    ensures { let m = store_of sources.now frames.now in
+        IfSome result (λ x. value resolved.now.sizes at.now m (tree_of expr.now) ≡ Ok x) }
+{
+    match simple(resolved, sources, frames, at, expr) {
+        Some(x) => Some(x),
+        None => match expr {
+            Expr::Access(number, entries) => {
+                match quick_indices(resolved, sources, frames, at, entries) {
+                    Some(found) => read_quickly(sources, frames, *number, &found),
+                    None => None,
+                }
+            }
+            Expr::Unary(op, inner) => match quick(resolved, sources, frames, at, inner) {
+                Some(a) => Some(unary(*op, Ty::Longlong, a)),
+                None => None,
+            },
+            Expr::Binary(op, left, right) => match quick(resolved, sources, frames, at, left) {
+                Some(a) => match quick(resolved, sources, frames, at, right) {
+                    Some(b) => operate_quickly(*op, a, b),
+                    None => None,
+                },
+                None => None,
+            },
+            _ => None,
+        },
+    }
+}
+
+/// The indices of an access, where these have no fault.
+#[cycle(quick)]
+fn quick_indices(
+    resolved: &Resolved,
+    sources: &[Source],
+    frames: &Frames,
+    at: &[u32; MOST],
+    entries: &[Entry],
+) -> Option<[i64; MOST]>
+    ensures { let m = store_of sources.now frames.now in
+        IfSome result (λ found. indices resolved.now.sizes at.now m (indices_of entries.now) start ≡ Ok found) }
+{
+    let mut found = [0i64; MOST];
+    for entry in entries {
+        match entry {
+            Entry::Given(place, expr) => match quick(resolved, sources, frames, at, expr) {
+                Some(i) => put_at(&mut found, *place, i),
+                None => return None,
+            },
+            Entry::Looped(place, dimension) => {
+                put_at(&mut found, *place, i64::from(loop_index(at, *dimension)));
+            }
+        }
+    }
+    Some(found)
+}
+
 /// The number of an expression, or its first fault.
-#[cycle(eval)]
 pub fn value(
     resolved: &Resolved,
     sources: &[Source],
@@ -34,28 +120,42 @@ pub fn value(
     at: &[u32; MOST],
     expr: &Expr,
 ) -> Result<i64, Fault>
-    ensures { result ≡ value resolved.now.sizes at.now (store_of sources.now frames.now) (tree_of expr.now) }
+    ensures { let m = store_of sources.now frames.now in
+        result ≡ value resolved.now.sizes at.now m (tree_of expr.now) }
+{
+    match quick(resolved, sources, frames, at, expr) {
+        Some(x) => Ok(x),
+        None => computed(resolved, sources, frames, at, expr),
+    }
+}
+
+/// The same, where a fault is known: part by part.
+#[cycle(eval)]
+fn computed(
+    resolved: &Resolved,
+    sources: &[Source],
+    frames: &Frames,
+    at: &[u32; MOST],
+    expr: &Expr,
+) -> Result<i64, Fault>
+    ensures { let m = store_of sources.now frames.now in
+        result ≡ value resolved.now.sizes at.now m (tree_of expr.now) }
 {
     match expr {
         Expr::Number(n) => Ok(*n),
         Expr::Size(dimension) => Ok(i64::from(size_in(resolved, *dimension))),
         Expr::Index(dimension) => Ok(i64::from(loop_index(at, *dimension))),
         Expr::Local(slot) => Ok(frames.local(*slot)),
-        Expr::Access(number, entries) => {
-            match looped_element(sources, frames, at, *number, entries) {
-                Some(x) => Ok(x),
-                None => match indices(resolved, sources, frames, at, entries) {
-                    Ok(found) => read(sources, frames, *number, &found),
-                    Err(fault) => Err(fault),
-                },
-            }
-        }
-        Expr::Unary(op, inner) => match value(resolved, sources, frames, at, inner) {
+        Expr::Access(number, entries) => match indices(resolved, sources, frames, at, entries) {
+            Ok(found) => read(sources, frames, *number, &found),
+            Err(fault) => Err(fault),
+        },
+        Expr::Unary(op, inner) => match computed(resolved, sources, frames, at, inner) {
             Ok(a) => Ok(unary(*op, Ty::Longlong, a)),
             Err(fault) => Err(fault),
         },
-        Expr::Binary(op, left, right) => match value(resolved, sources, frames, at, left) {
-            Ok(a) => match value(resolved, sources, frames, at, right) {
+        Expr::Binary(op, left, right) => match computed(resolved, sources, frames, at, left) {
+            Ok(a) => match computed(resolved, sources, frames, at, right) {
                 Ok(b) => operate(*op, a, b),
                 Err(fault) => Err(fault),
             },
@@ -73,12 +173,13 @@ pub fn indices(
     at: &[u32; MOST],
     entries: &[Entry],
 ) -> Result<[i64; MOST], Fault>
-    ensures { result ≡ indices resolved.now.sizes at.now (store_of sources.now frames.now) (indices_of entries.now) start }
+    ensures { let m = store_of sources.now frames.now in
+        result ≡ indices resolved.now.sizes at.now m (indices_of entries.now) start }
 {
     let mut found = [0i64; MOST];
     for entry in entries {
         match entry {
-            Entry::Given(place, expr) => match value(resolved, sources, frames, at, expr) {
+            Entry::Given(place, expr) => match computed(resolved, sources, frames, at, expr) {
                 Ok(i) => put_at(&mut found, *place, i),
                 Err(fault) => return Err(fault),
             },

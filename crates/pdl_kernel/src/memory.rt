@@ -1,5 +1,5 @@
 //! The arguments as code sees them at one broadcast place.
-ghost use Rattle.std.specs.Prelude.{◌≡◌, IfSome};
+ghost use Rattle.std.specs.Prelude.{◌≡◌, IfSome, Ok};
 ghost use Rattle.pdl_code.specs.TreeOf.{indices_of};
 ghost use Rattle.pdl_kernel.specs.Answers.{Becomes};
 ghost use Rattle.pdl_kernel.specs.Leading.{AssignsLooped, LeadsToElement};
@@ -30,6 +30,22 @@ pub fn read(
     match source.role() {
         Role::Input => source.get(at),
         _ => frames.get(number, at),
+    }
+}
+
+/// The same, where the indices are in range.
+pub fn read_quickly(
+    sources: &[Source],
+    frames: &Frames,
+    number: usize,
+    at: &[i64; MOST],
+) -> Option<i64>
+    ensures { let a = argument (store_of sources.now frames.now) number in
+        IfSome result (λ x. element_at a at.now ≡ Ok x) }
+{
+    match read(sources, frames, number, at) {
+        Ok(x) => Some(x),
+        Err(_) => None,
     }
 }
 

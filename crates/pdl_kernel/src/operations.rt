@@ -1,5 +1,5 @@
 //! Operations on longlongs that may have a fault.
-ghost use Rattle.std.specs.Prelude.{◌≡◌};
+ghost use Rattle.std.specs.Prelude.{◌≡◌, IfSome, Ok};
 ghost use Rattle.pdl_elem.specs.Numbers.{wrapped};
 ghost use Rattle.pdl_kernel.specs.Meaning.{changed, operate};
 
@@ -13,6 +13,16 @@ pub fn operate(op: BinaryOp, a: i64, b: i64) -> Result<i64, Fault>
     match binary(op, Ty::Longlong, a, b) {
         Ok(x) => Ok(x),
         Err(_) => Err(Fault::DivideByZero),
+    }
+}
+
+/// The same, where it has no fault.
+pub fn operate_quickly(op: BinaryOp, a: i64, b: i64) -> Option<i64>
+    ensures { IfSome result (λ x. operate op a b ≡ Ok x) }
+{
+    match binary(op, Ty::Longlong, a, b) {
+        Ok(x) => Some(x),
+        Err(_) => None,
     }
 }
 
