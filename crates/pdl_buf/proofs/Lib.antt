@@ -6,3 +6,4 @@ pub mod Wholes
 pub mod Runs
 pub mod Stretches
 pub mod Moved
+pub mod Summing

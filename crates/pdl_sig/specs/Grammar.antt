@@ -1,4 +1,5 @@
--- The grammar of signatures (PDL::PP, Signatures): what is spelled by a text, from its bytes up to a rest of them.
+-- The grammar of signatures (PDL::PP, Signatures): what is spelled by a text, from its bytes up to
+-- a rest of them.
 -- Blanks may stand before each token, and the longest token is taken.
 use Rattle.std.specs.Prelude.{◌≡◌, ℕ, ◌+◌, ◌-◌, ◌*◌, ◌≤◌, ◌==◌, Bool, false, not, ◌&&◌, ◌||◌, List, [], ◌∷◌, ◌++◌, length, Option, Some, None, is_some, IsTrue, codes, bytes_eq, if◌then◌else◌}
 use Rattle.std.specs.List.{list_any, list_all}
@@ -78,11 +79,13 @@ role_of w =
 
 -- whether the word may name an argument
 abbrev pub is_arg_word : List ℕ → Bool
-is_arg_word w = not (is_some (type_of w)) && not (list_any (bytes_eq w) (codes "SIZE" ∷ codes "GENERIC" ∷ []))
+is_arg_word w =
+    not (is_some (type_of w)) && not (list_any (bytes_eq w) (codes "SIZE" ∷ codes "GENERIC" ∷ []))
 
 -- the words that are reserved in kernel code
 abbrev pub reserved : List (List ℕ)
-reserved = codes "loop" ∷ codes "if" ∷ codes "else" ∷ codes "int" ∷ codes "long" ∷ codes "longlong" ∷ []
+reserved =
+    codes "loop" ∷ codes "if" ∷ codes "else" ∷ codes "int" ∷ codes "long" ∷ codes "longlong" ∷ []
 
 -- whether the word may name a dimension
 abbrev pub is_dim_word : List ℕ → Bool
@@ -92,23 +95,28 @@ is_dim_word w = not (list_any (bytes_eq w) reserved)
 pub data Typed : ArgType → List ℕ → List ℕ → Type 0 where
   untyped : (s : List ℕ) → Typed Generic s s
   of_type : (ty : Ty) (w s t : List ℕ) → Word w s t → type_of w ≡ Some ty → Typed (Fixed ty) s t
-  at_least_type : (ty : Ty) (w s t u : List ℕ) → Word w s t → type_of w ≡ Some ty → Sign 43 t u → Typed (AtLeast ty) s u
+  at_least_type : (ty : Ty) (w s t u : List ℕ) → Word w s t → type_of w ≡ Some ty → Sign 43 t u
+      → Typed (AtLeast ty) s u
 
 -- a role in square brackets, or nothing for an input
 pub data Marked : Role → List ℕ → List ℕ → Type 0 where
   input_role : (s : List ℕ) → Marked Input s s
-  marked_role : (r : Role) (w s t u v : List ℕ) → Sign 91 s t → Word w t u → role_of w ≡ Some r → Sign 93 u v → Marked r s v
+  marked_role : (r : Role) (w s t u v : List ℕ) → Sign 91 s t → Word w t u → role_of w ≡ Some r
+      → Sign 93 u v → Marked r s v
 
 -- a dimension's word, with `=` and the number that it is fixed to or without
 pub data Dim : WrittenDim → List ℕ → List ℕ → Type 0 where
-  unfixed_dim : (w s t : List ℕ) → Word w s t → IsTrue (is_dim_word w) → Dim (record { name = w; size = None }) s t
-  fixed_dim : (n : ℕ) (w s t u v : List ℕ) → Word w s t → IsTrue (is_dim_word w) → Sign 61 t u → Number n u v → n ≤ size_limit
+  unfixed_dim : (w s t : List ℕ) → Word w s t → IsTrue (is_dim_word w)
+      → Dim (record { name = w; size = None }) s t
+  fixed_dim : (n : ℕ) (w s t u v : List ℕ) → Word w s t → IsTrue (is_dim_word w) → Sign 61 t u
+      → Number n u v → n ≤ size_limit
       → Dim (record { name = w; size = Some n }) s v
 
 -- dimensions separated by commas, and the closing bracket
 pub data Dims : List WrittenDim → List ℕ → List ℕ → Type 0 where
   last_dim : (d : WrittenDim) (s t u : List ℕ) → Dim d s t → Sign 41 t u → Dims (d ∷ []) s u
-  next_dim : (d : WrittenDim) (ds : List WrittenDim) (s t u v : List ℕ) → Dim d s t → Sign 44 t u → Dims ds u v → Dims (d ∷ ds) s v
+  next_dim : (d : WrittenDim) (ds : List WrittenDim) (s t u v : List ℕ) → Dim d s t → Sign 44 t u
+      → Dims ds u v → Dims (d ∷ ds) s v
 
 -- the dimensions of an argument in brackets
 pub data Bracketed : List WrittenDim → List ℕ → List ℕ → Type 0 where
@@ -124,5 +132,7 @@ pub data Arg : WrittenArg → List ℕ → List ℕ → Type 0 where
 -- arguments separated by semicolons, of which one may stand at the end, and then nothing but blanks
 pub data Args : List WrittenArg → List ℕ → Type 0 where
   last_arg : (a : WrittenArg) (s t : List ℕ) → Arg a s t → past_blanks t ≡ [] → Args (a ∷ []) s
-  ended_arg : (a : WrittenArg) (s t u : List ℕ) → Arg a s t → Sign 59 t u → past_blanks u ≡ [] → Args (a ∷ []) s
-  next_arg : (a : WrittenArg) (more : List WrittenArg) (s t u : List ℕ) → Arg a s t → Sign 59 t u → Args more u → Args (a ∷ more) s
+  ended_arg : (a : WrittenArg) (s t u : List ℕ) → Arg a s t → Sign 59 t u → past_blanks u ≡ []
+      → Args (a ∷ []) s
+  next_arg : (a : WrittenArg) (more : List WrittenArg) (s t u : List ℕ) → Arg a s t → Sign 59 t u
+      → Args more u → Args (a ∷ more) s

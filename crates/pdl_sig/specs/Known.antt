@@ -13,7 +13,8 @@ generic_arg name role dims = record { name = name; role = role; ty = Generic; di
 -- `a(n); b(n); [o]c()`
 abbrev pub inner : Signature
 inner = record {
-  args = generic_arg (codes "a") Input (0 ∷ []) ∷ generic_arg (codes "b") Input (0 ∷ []) ∷ generic_arg (codes "c") Output [] ∷ [];
+  args = generic_arg (codes "a") Input (0 ∷ []) ∷ generic_arg (codes "b") Input (0 ∷ [])
+      ∷ generic_arg (codes "c") Output [] ∷ [];
   names = codes "n" ∷ [];
   fixed = None ∷ [];
 }
@@ -21,7 +22,8 @@ inner = record {
 -- `a(n); b(m); [o]c(n,m)`
 abbrev pub outer_product : Signature
 outer_product = record {
-  args = generic_arg (codes "a") Input (0 ∷ []) ∷ generic_arg (codes "b") Input (1 ∷ []) ∷ generic_arg (codes "c") Output (0 ∷ 1 ∷ []) ∷ [];
+  args = generic_arg (codes "a") Input (0 ∷ []) ∷ generic_arg (codes "b") Input (1 ∷ [])
+      ∷ generic_arg (codes "c") Output (0 ∷ 1 ∷ []) ∷ [];
   names = codes "n" ∷ codes "m" ∷ [];
   fixed = None ∷ None ∷ [];
 }
@@ -29,7 +31,8 @@ outer_product = record {
 -- `a(t,h); b(w,t); [o]c(w,h)`
 abbrev pub matmult : Signature
 matmult = record {
-  args = generic_arg (codes "a") Input (0 ∷ 1 ∷ []) ∷ generic_arg (codes "b") Input (2 ∷ 0 ∷ []) ∷ generic_arg (codes "c") Output (2 ∷ 1 ∷ []) ∷ [];
+  args = generic_arg (codes "a") Input (0 ∷ 1 ∷ []) ∷ generic_arg (codes "b") Input (2 ∷ 0 ∷ [])
+      ∷ generic_arg (codes "c") Output (2 ∷ 1 ∷ []) ∷ [];
   names = codes "t" ∷ codes "h" ∷ codes "w" ∷ [];
   fixed = None ∷ None ∷ None ∷ [];
 }

@@ -1,4 +1,5 @@
--- The meaning of a signature's text as a function. The law `signature_meaning` says that it is the grammar with its refusals.
+-- The meaning of a signature's text as a function. The law `signature_meaning` says that it is the
+-- grammar with its refusals.
 use Rattle.std.specs.Prelude.{◌≡◌, ◌↔◌, ℕ, List, Option, Some, None, Result, Ok, Err}
 use Rattle.pdl_sig.specs.declared.Signature.{Signature}
 use Rattle.pdl_sig.specs.declared.SigFault.{SigFault}
@@ -29,4 +30,6 @@ Means text (Err fault) = IsFaultOf text fault
 
 -- the answer for a text is exactly what it means
 abbrev pub TextsHaveOneMeaning : Type 0
-TextsHaveOneMeaning = (text : List ℕ) (answer : Result Signature SigFault) → (signature_in text ≡ answer) ↔ Means text answer
+TextsHaveOneMeaning =
+    (text : List ℕ) (answer : Result Signature SigFault)
+    → (signature_in text ≡ answer) ↔ Means text answer

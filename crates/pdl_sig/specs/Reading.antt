@@ -1,4 +1,5 @@
--- The reader of signatures as a function of the text: a step of the proof. What is promised stands in Grammar.
+-- The reader of signatures as a function of the text: a step of the proof. What is promised stands
+-- in Grammar.
 use Rattle.std.specs.Prelude.{ℕ, zero, suc, ◌==◌, nat_lt, Bool, true, false, List, [], ◌∷◌, length, take, drop, Option, Some, None, if◌then◌else◌}
 use Rattle.std.specs.List.{prefix_len}
 use Rattle.std.specs.Char.{is_ascii_digit}
@@ -30,7 +31,9 @@ sign_at b s = sign_in b (past_blanks s)
 
 -- the word at the front, and the text after it
 abbrev pub word_in : List ℕ → Option (List ℕ × List ℕ)
-word_in s = if begins is_letter s then Some (take (prefix_len is_word_byte s) s, drop (prefix_len is_word_byte s) s) else None
+word_in s =
+    let count = prefix_len is_word_byte s in
+    if begins is_letter s then Some (take count s, drop count s) else None
 
 unfoldable pub word_at : List ℕ → Option (List ℕ × List ℕ)
 word_at s = word_in (past_blanks s)
@@ -48,7 +51,9 @@ abbrev pub number_of_digits : List ℕ → List ℕ → Option (ℕ × List ℕ)
 number_of_digits digits t = where_number (value_after 0 digits) t (is_number digits)
 
 abbrev pub number_in : List ℕ → Option (ℕ × List ℕ)
-number_in s = number_of_digits (take (prefix_len is_ascii_digit s) s) (drop (prefix_len is_ascii_digit s) s)
+number_in s =
+    let count = prefix_len is_ascii_digit s in
+    number_of_digits (take count s) (drop count s)
 
 unfoldable pub number_at : List ℕ → Option (ℕ × List ℕ)
 number_at s = number_in (past_blanks s)
@@ -111,17 +116,21 @@ unfoldable pub dim_at : List ℕ → Option (WrittenDim × List ℕ)
 dim_at s = dim_by (word_at s)
 
 -- a dimension before others
-abbrev pub before_dims : WrittenDim → Option (List WrittenDim × List ℕ) → Option (List WrittenDim × List ℕ)
+abbrev pub before_dims : WrittenDim → Option (List WrittenDim × List ℕ)
+    → Option (List WrittenDim × List ℕ)
 before_dims d None = None
 before_dims d (Some x) = Some (d ∷ x.0, x.1)
 
--- the dimensions up to the closing bracket, by what stands after the first one: a comma, or the bracket
-abbrev pub dims_by : (List ℕ → Option (List WrittenDim × List ℕ)) → WrittenDim → Option (List ℕ) → Option (List ℕ) → Option (List WrittenDim × List ℕ)
+-- the dimensions up to the closing bracket, by what stands after the first one: a comma, or the
+-- bracket
+abbrev pub dims_by : (List ℕ → Option (List WrittenDim × List ℕ)) → WrittenDim → Option (List ℕ)
+    → Option (List ℕ) → Option (List WrittenDim × List ℕ)
 dims_by more d (Some t) close = before_dims d (more t)
 dims_by more d None None = None
 dims_by more d None (Some t) = Some (d ∷ [], t)
 
-abbrev pub dims_after : (List ℕ → Option (List WrittenDim × List ℕ)) → Option (WrittenDim × List ℕ) → Option (List WrittenDim × List ℕ)
+abbrev pub dims_after : (List ℕ → Option (List WrittenDim × List ℕ)) → Option (WrittenDim × List ℕ)
+    → Option (List WrittenDim × List ℕ)
 dims_after more None = None
 dims_after more (Some x) = dims_by more x.0 (sign_at 44 x.1) (sign_at 41 x.1)
 
@@ -143,7 +152,8 @@ unfoldable pub bracket_at : List ℕ → Option (List WrittenDim × List ℕ)
 bracket_at s = bracket_after (sign_at 40 s)
 
 -- the argument, by its type, its role, its word and its dimensions
-abbrev pub arg_of : ArgType → Role → List ℕ → Option (List WrittenDim × List ℕ) → Option (WrittenArg × List ℕ)
+abbrev pub arg_of : ArgType → Role → List ℕ → Option (List WrittenDim × List ℕ)
+    → Option (WrittenArg × List ℕ)
 arg_of ty r w None = None
 arg_of ty r w (Some x) = Some (record { name = w; role = r; ty = ty; dims = x.0 }, x.1)
 
@@ -169,15 +179,18 @@ only_arg a false = None
 only_arg a true = Some (a ∷ [])
 
 -- the arguments after a semicolon
-abbrev pub args_past : (List ℕ → Option (List WrittenArg)) → WrittenArg → List ℕ → Bool → Option (List WrittenArg)
+abbrev pub args_past : (List ℕ → Option (List WrittenArg)) → WrittenArg → List ℕ → Bool
+    → Option (List WrittenArg)
 args_past more a t true = Some (a ∷ [])
 args_past more a t false = before_args a (more t)
 
-abbrev pub args_by : (List ℕ → Option (List WrittenArg)) → WrittenArg → List ℕ → Option (List ℕ) → Option (List WrittenArg)
+abbrev pub args_by : (List ℕ → Option (List WrittenArg)) → WrittenArg → List ℕ → Option (List ℕ)
+    → Option (List WrittenArg)
 args_by more a t None = only_arg a (is_end t)
 args_by more a t (Some u) = args_past more a u (is_end u)
 
-abbrev pub args_after : (List ℕ → Option (List WrittenArg)) → Option (WrittenArg × List ℕ) → Option (List WrittenArg)
+abbrev pub args_after : (List ℕ → Option (List WrittenArg)) → Option (WrittenArg × List ℕ)
+    → Option (List WrittenArg)
 args_after more None = None
 args_after more (Some x) = args_by more x.0 x.1 (sign_at 59 x.1)
 

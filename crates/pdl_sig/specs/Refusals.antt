@@ -1,4 +1,5 @@
--- What `read_signature` answers for a text: the signature of the arguments that it spells, or the first refusal that holds.
+-- What `read_signature` answers for a text: the signature of the arguments that it spells, or the
+-- first refusal that holds.
 use Rattle.std.specs.Prelude.{◌≡◌, ℕ, ◌+◌, ◌<◌, ◌==◌, Bool, true, false, not, ◌&&◌, ◌||◌, nat_lt, nat_le, nat_eq, List, [], ◌∷◌, ◌++◌, length, map, Option, Some, None, is_some, IsTrue, bytes_eq, if◌then◌else◌, All}
 use Rattle.std.specs.List.{list_any, list_all, position_or_len}
 use Rattle.pdl_sig.specs.declared.SigArg.{SigArg}
@@ -35,7 +36,12 @@ number_of names w = position_or_len (bytes_eq w) names
 
 -- an argument, with the numbers of its dimensions' words
 abbrev pub numbered : List (List ℕ) → WrittenArg → SigArg
-numbered names a = record { name = a.name; role = a.role; ty = a.ty; dims = map (λ d. number_of names d.name) a.dims }
+numbered names a = record {
+  name = a.name;
+  role = a.role;
+  ty = a.ty;
+  dims = map (λ d. number_of names d.name) a.dims;
+}
 
 -- the first of two numbers, if any
 abbrev pub first_of : Option ℕ → Option ℕ → Option ℕ
@@ -91,7 +97,8 @@ are_different _ _ = false
 
 -- whether a dimension is fixed to another number than the first one for its word
 abbrev pub is_fixed_again : List WrittenArg → Bool
-is_fixed_again args = list_any (λ a. list_any (λ d. are_different d.size (fixed_in args d.name)) a.dims) args
+is_fixed_again args =
+    list_any (λ a. list_any (λ d. are_different d.size (fixed_in args d.name)) a.dims) args
 
 -- whether the dimension of number n stands in an input or an `[io]` argument
 abbrev pub is_sized : List SigArg → ℕ → Bool
@@ -100,12 +107,14 @@ is_sized args n = list_any (λ a. is_given a.role && list_any (nat_eq n) a.dims)
 -- whether a dimension, from number n on, has no size: it isn't fixed, and stands in no input
 abbrev pub has_open : List SigArg → ℕ → List (Option ℕ) → Bool
 has_open args n [] = false
-has_open args n (fixed ∷ rest) = (not (is_some fixed) && not (is_sized args n)) || has_open args (n + 1) rest
+has_open args n (fixed ∷ rest) =
+    (not (is_some fixed) && not (is_sized args n)) || has_open args (n + 1) rest
 
 -- the first refusal that holds of a signature, in which a dimension was fixed again or not
 abbrev pub refusal : Signature → Bool → Option SigFault
 refusal signature fixed_again =
-    if nat_lt args_limit (length signature.args) || nat_lt names_limit (length signature.names) then Some TooManyNames
+    if nat_lt args_limit (length signature.args) || nat_lt names_limit (length signature.names)
+    then Some TooManyNames
     else (if is_twice_named signature.args || fixed_again then Some TwiceNamed
     else (if not (list_any (λ a. is_output a.role) signature.args) then Some NoOutput
     else (if has_open signature.args 0 signature.fixed then Some OpenSize
@@ -139,8 +148,8 @@ abbrev pub is_allowed_size : Option ℕ → Bool
 is_allowed_size None = true
 is_allowed_size (Some n) = nat_le n size_limit
 
--- each dimension's number is one of a name, names are distinct, there is one fixed size or none for each; words and numbers
--- are those that the grammar allows; and no refusal holds
+-- each dimension's number is one of a name, names are distinct, there is one fixed size or none for
+-- each; words and numbers are those that the grammar allows; and no refusal holds
 pub record IsWellFormed (signature : Signature) : Type 0 where
   pub numbers : All (λ a. All (λ n. n < length signature.names) a.dims) signature.args
   pub distinct : has_twice bytes_eq signature.names ≡ false

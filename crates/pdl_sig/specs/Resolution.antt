@@ -1,4 +1,5 @@
--- What the arguments of a call resolve to, or what refuses them (PDL::PP, Signatures; PDL::Broadcasting).
+-- What the arguments of a call resolve to, or what refuses them (PDL::PP, Signatures;
+-- PDL::Broadcasting).
 use Rattle.std.specs.Prelude.{◌≡◌, ℕ, ◌+◌, ◌*◌, Bool, true, false, not, ◌&&◌, ◌||◌, ◌==◌, nat_lt, nat_eq, List, [], ◌∷◌, ◌++◌, length, map, drop, slice_index_or, Option, Some, None, option_and_then, Result, Ok, Err, if◌then◌else◌}
 use Rattle.std.specs.List.{filter, list_any, flat_map, zip}
 use Rattle.std.specs.Option.{unwrap_or}
@@ -70,7 +71,8 @@ type_in generic Generic = generic
 type_in generic (Fixed ty) = ty
 type_in generic (AtLeast ty) = promoted generic ty
 
--- an argument's core dimensions, by their numbers, each with the size of the given shape there: 1 where it is missing
+-- an argument's core dimensions, by their numbers, each with the size of the given shape there: 1
+-- where it is missing
 abbrev pub core : List ℕ → List ℕ → List (ℕ × ℕ)
 core [] sizes = []
 core (n ∷ ns) [] = (n, 1) ∷ core ns []
@@ -115,10 +117,12 @@ joined_with joined (p ∷ ps) = option_and_then (λ more. joined_with more ps) (
 abbrev pub core_sizes : List ℕ → SigArg → List ℕ
 core_sizes sizes a = map (size_in sizes) a.dims
 
--- whether something else than the core sizes and then the broadcast dimensions is given for an `[io]` argument
+-- whether something else than the core sizes and then the broadcast dimensions is given for an
+-- `[io]` argument
 abbrev pub is_stretched : List ℕ → List ℕ → SigArg × ArgShape → Bool
 is_stretched sizes broadcast p =
-    is_both p.0.role && not (pointwise nat_eq (padded p.0.dims p.1.dims ++ outer p) (core_sizes sizes p.0 ++ broadcast))
+    let own = padded p.0.dims p.1.dims ++ outer p in
+    is_both p.0.role && not (pointwise nat_eq own (core_sizes sizes p.0 ++ broadcast))
 
 -- the shape that a call makes for an argument: nothing is made for an input
 abbrev pub made : Role → List ℕ → List ℕ → List ℕ
@@ -131,7 +135,8 @@ made Temp core broadcast = core
 abbrev pub made_for : List ℕ → List ℕ → SigArg → List ℕ
 made_for sizes broadcast a = made a.role (core_sizes sizes a) broadcast
 
--- whether that shape has too many dimensions, as only an output's may: a signature has 8 names at most
+-- whether that shape has too many dimensions, as only an output's may: a signature has 8 names at
+-- most
 abbrev pub has_too_many : List ℕ → List ℕ → SigArg → Bool
 has_too_many sizes broadcast a = nat_lt dims_limit (length (made_for sizes broadcast a))
 
@@ -152,7 +157,8 @@ given_after role given = if is_given role then drop 1 given else given
 abbrev pub shapes : List ℕ → List ℕ → List SigArg → List ArgShape → List (List ℕ)
 shapes sizes broadcast [] given = []
 shapes sizes broadcast (a ∷ args) given =
-    shape_of a.role given (made_for sizes broadcast a) ∷ shapes sizes broadcast args (given_after a.role given)
+    shape_of a.role given (made_for sizes broadcast a)
+    ∷ shapes sizes broadcast args (given_after a.role given)
 
 -- what a call resolves to, by the named sizes and the broadcast dimensions
 abbrev pub solution : List SigArg → List ArgShape → List ℕ → List ℕ → Resolved
@@ -164,13 +170,16 @@ solution args given sizes broadcast = record {
   shapes = shapes sizes broadcast args given;
 }
 
--- what a call resolves to by the named sizes and the joined dimensions, or the first refusal from a mismatch of these on
-abbrev pub resolved_by : List SigArg → List ArgShape → List ℕ → Option (List ℕ) → Result Resolved ResolveFault
+-- what a call resolves to by the named sizes and the joined dimensions, or the first refusal from a
+-- mismatch of these on
+abbrev pub resolved_by : List SigArg → List ArgShape → List ℕ → Option (List ℕ)
+    → Result Resolved ResolveFault
 resolved_by args given sizes None = Err BroadcastMismatch
 resolved_by args given sizes (Some broadcast) =
     if list_any (is_stretched sizes broadcast) (handed args given) then Err StretchedInOut
     else (if list_any (has_too_many sizes broadcast) args then Err TooManyDims
-    else (if nat_lt extent_limit (extent broadcast) || list_any (is_too_large sizes broadcast) args then Err TooLarge
+    else (if nat_lt extent_limit (extent broadcast) || list_any (is_too_large sizes broadcast) args
+    then Err TooLarge
     else (if nat_lt work_limit (size_of broadcast * extent sizes) then Err TooMuchWork
     else Ok (solution args given sizes broadcast))))
 

@@ -10,12 +10,16 @@ use Rattle.pdl_sig.specs.Resolution.{generic_type, type_in, handed, cores, size_
 abbrev pub Fits : List ℕ → ℕ × ℕ → Type 0
 Fits sizes c = c.1 ≢ 1 → c.1 ≡ size_in sizes c.0
 
--- a fixed dimension has its number, each core size fits, a size that is neither fixed nor 1 is that of a given argument,
--- the dimensions after the core ones join to the broadcast ones, and the types and shapes are those of the rules
-pub record Solves (signature : Signature) (given : List ArgShape) (resolved : Resolved) : Type 0 where
-  pub fixed : (n k : ℕ) → slice_index_or signature.fixed n None ≡ Some k → size_in resolved.sizes n ≡ k
+-- a fixed dimension has its number, each core size fits, a size that is neither fixed nor 1 is that
+-- of a given argument, the dimensions after the core ones join to the broadcast ones, and the types
+-- and shapes are those of the rules
+pub record Solves (signature : Signature) (given : List ArgShape) (resolved : Resolved)
+    : Type 0 where
+  pub fixed : (n k : ℕ) → slice_index_or signature.fixed n None ≡ Some k
+      → size_in resolved.sizes n ≡ k
   pub fit : All (Fits resolved.sizes) (cores (handed signature.args given))
-  pub own : (n : ℕ) → n < length signature.fixed → slice_index_or signature.fixed n None ≡ None → size_in resolved.sizes n ≢ 1
+  pub own : (n : ℕ) → n < length signature.fixed → slice_index_or signature.fixed n None ≡ None
+      → size_in resolved.sizes n ≢ 1
       → Contains (cores (handed signature.args given)) (n, size_in resolved.sizes n)
   pub count : length resolved.sizes ≡ length signature.fixed
   pub joined : joined_with [] (handed signature.args given) ≡ Some resolved.broadcast

@@ -34,7 +34,8 @@ fn join_sizes(a: u32, b: u32) -> Option<u32>
 /// What two lists of sizes join to, where they do.
 fn join(alloc: Global, a: &[u32], b: &[u32]) -> Result<Option<Vec<u32>>, AllocError>
     ensures joined { IfOk result (λ joined. option_map (λ v. v.items) joined ≡ join a.now b.now) }
-    ensures count { IfOk result (λ joined. IfSome joined (λ v. length v.items ≤ max (length a.now) (length b.now))) }
+    ensures count { let most = max (length a.now) (length b.now) in
+        IfOk result (λ joined. IfSome joined (λ v. length v.items ≤ most)) }
 {
     let mut joined = Vec::new(alloc);
     let count = a.len().max(b.len());
@@ -65,7 +66,8 @@ pub fn broadcast(
     given: &[ArgShape],
 ) -> Result<Option<Vec<u32>>, AllocError>
     requires { length given.now ≡ length (inputs args.now) }
-    ensures joined { IfOk result (λ joined. option_map (λ v. v.items) joined ≡ joined_with [] (handed args.now given.now)) }
+    ensures joined { let wanted = joined_with [] (handed args.now given.now) in
+        IfOk result (λ joined. option_map (λ v. v.items) joined ≡ wanted) }
     ensures count { IfOk result (λ joined. IfSome joined (λ v. length v.items ≤ dims_limit)) }
 {
     let mut joined = Vec::new(alloc);

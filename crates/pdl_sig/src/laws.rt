@@ -1,5 +1,5 @@
-//! Laws of signatures and of what calls resolve to. Each is the contract of a function with an empty
-//! body.
+//! Laws of signatures and of what calls resolve to. Each is the contract of a function with an
+//! empty body.
 ghost use Rattle.std.specs.Prelude.{◌≡◌, ℕ, List, Ok, codes};
 ghost use Rattle.pdl_sig.specs.Known.{inner, outer_product, matmult};
 ghost use Rattle.pdl_sig.specs.Meaning.{TextsHaveOneMeaning};
@@ -12,12 +12,14 @@ ghost use Rattle.pdl_sig.specs.declared.Signature.{Signature};
 
 /// A text spells at most one signature.
 pub fn one_signature()
-    ensures { (signature other : Signature) (text : List ℕ) → Signs signature text → Signs other text → signature ≡ other }
+    ensures { (signature other : Signature) (text : List ℕ) →
+        Signs signature text → Signs other text → signature ≡ other }
 {}
 
 /// The signature that a text spells is well formed.
 pub fn signatures_are_well_formed()
-    ensures { (signature : Signature) (text : List ℕ) → Signs signature text → IsWellFormed signature }
+    ensures { (signature : Signature) (text : List ℕ) →
+        Signs signature text → IsWellFormed signature }
 {}
 
 /// A text has one meaning: its signature where it spells one and no refusal holds, else the first
@@ -28,7 +30,8 @@ pub fn signature_meaning()
 
 /// What a call resolves to solves the equations on sizes, shapes and types.
 pub fn resolutions_solve()
-    ensures { (signature : Signature) (given : List ArgShape) (resolved : Resolved) → resolution signature given ≡ Ok resolved → Solves signature given resolved }
+    ensures { (signature : Signature) (given : List ArgShape) (resolved : Resolved) →
+        resolution signature given ≡ Ok resolved → Solves signature given resolved }
 {}
 
 /// The signatures of `inner`, `outer` and `matmult` are those of their texts (PDL::Primitive).

@@ -71,12 +71,13 @@ pub struct Signature {
 /// want of memory may be answered at any text.
 #[derive(Clone, Copy, PartialEq, Eq, Debug)]
 pub enum SigFault {
-    /// The text isn't of the form of a signature, or has a word or a number that isn't allowed there.
+    /// The text isn't of the form of a signature, or has a word or a number that isn't allowed
+    /// there.
     BadText,
     /// More than 16 arguments, or more than 8 names of dimensions.
     TooManyNames,
-    /// An argument's name stands twice, or within one argument a dimension, or a dimension is fixed to
-    /// two numbers.
+    /// An argument's name stands twice, or within one argument a dimension, or a dimension is fixed
+    /// to two numbers.
     TwiceNamed,
     /// No argument is `[o]` or `[io]`.
     NoOutput,

@@ -1,5 +1,5 @@
-//! The reader of signatures: a function for each rule of the grammar. Each takes a text, and answers
-//! what stands at its front with the text after it, or `None` where the rule doesn't fit.
+//! The reader of signatures: a function for each rule of the grammar. Each takes a text, and
+//! answers what stands at its front with the text after it, or `None` where the rule doesn't fit.
 ghost use Rattle.std.specs.Prelude.{◌≡◌, length, IfOk, option_map};
 ghost use Rattle.pdl_sig.specs.Reading.{typed_at, marked_at, sized_at, dim_at, dims_at, bracket_at, arg_at, read_args};
 
@@ -75,7 +75,8 @@ fn dim(alloc: Global, text: &[u8]) -> Result<Option<(WrittenDim, &[u8])>, AllocE
 }
 
 fn dims(alloc: Global, text: &[u8]) -> Result<Option<(Vec<WrittenDim>, &[u8])>, AllocError>
-    ensures { IfOk result (λ found. option_map (λ x. (x.0.items, x.1.now)) found ≡ dims_at (length text.now) text.now) }
+    ensures { let wanted = dims_at (length text.now) text.now in
+        IfOk result (λ found. option_map (λ x. (x.0.items, x.1.now)) found ≡ wanted) }
 {
     let mut dims = Vec::new(alloc);
     let mut rest = text;
@@ -97,7 +98,8 @@ fn dims(alloc: Global, text: &[u8]) -> Result<Option<(Vec<WrittenDim>, &[u8])>, 
 
 #[tactic(auto, unfolding(crate::specs::Reading::bracket_at))]
 fn bracket(alloc: Global, text: &[u8]) -> Result<Option<(Vec<WrittenDim>, &[u8])>, AllocError>
-    ensures { IfOk result (λ found. option_map (λ x. (x.0.items, x.1.now)) found ≡ bracket_at text.now) }
+    ensures { let wanted = bracket_at text.now in
+        IfOk result (λ found. option_map (λ x. (x.0.items, x.1.now)) found ≡ wanted) }
 {
     let Some(text) = sign(b'(', text) else {
         return Ok(None);

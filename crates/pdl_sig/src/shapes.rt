@@ -40,7 +40,8 @@ fn is_stretched(
     arg: &SigArg,
     shape: &ArgShape,
 ) -> Result<bool, AllocError>
-    ensures { IfOk result (λ found. found ≡ is_stretched sizes.now broadcast.now (arg.now, shape.now)) }
+    ensures { let wanted = is_stretched sizes.now broadcast.now (arg.now, shape.now) in
+        IfOk result (λ found. found ≡ wanted) }
 {
     if !is_both(arg.role) {
         return Ok(false);
@@ -61,7 +62,8 @@ pub fn any_stretched(
     given: &[ArgShape],
 ) -> Result<bool, AllocError>
     requires { length given.now ≡ length (inputs args.now) }
-    ensures { IfOk result (λ found. found ≡ list_any (is_stretched sizes.now broadcast.now) (handed args.now given.now)) }
+    ensures { let is_one = is_stretched sizes.now broadcast.now in
+        IfOk result (λ found. found ≡ list_any is_one (handed args.now given.now)) }
 {
     for (place, shape) in given.iter().enumerate() {
         if is_stretched(alloc, sizes, broadcast, input(args, place), shape)? {
@@ -94,7 +96,8 @@ pub fn any_too_many(
     broadcast: &[u32],
     args: &[SigArg],
 ) -> Result<bool, AllocError>
-    ensures { IfOk result (λ found. found ≡ list_any (has_too_many sizes.now broadcast.now) args.now) }
+    ensures { let is_one = has_too_many sizes.now broadcast.now in
+        IfOk result (λ found. found ≡ list_any is_one args.now) }
 {
     for arg in args {
         if made_for(alloc, sizes, broadcast, arg)?.len() > MOST_DIMS {
@@ -111,7 +114,8 @@ pub fn any_too_large(
     broadcast: &[u32],
     args: &[SigArg],
 ) -> Result<bool, AllocError>
-    ensures { IfOk result (λ found. found ≡ list_any (is_too_large sizes.now broadcast.now) args.now) }
+    ensures { let is_one = is_too_large sizes.now broadcast.now in
+        IfOk result (λ found. found ≡ list_any is_one args.now) }
 {
     for arg in args {
         if size(made_for(alloc, sizes, broadcast, arg)?.as_slice()).is_none() {
@@ -152,7 +156,8 @@ fn shape_of(
     given: &[ArgShape],
 ) -> Result<Dims, AllocError>
     requires { IsDims (made_for sizes.now broadcast.now arg.now) }
-    ensures { IfOk result (λ shape. shape ≡ shape_of arg.now.role given.now (made_for sizes.now broadcast.now arg.now)) }
+    ensures { let made = made_for sizes.now broadcast.now arg.now in
+        IfOk result (λ shape. shape ≡ shape_of arg.now.role given.now made) }
 {
     if matches!(arg.role, Role::Input) && !given.is_empty() {
         return Ok(copy_dims(&given[0].dims));
@@ -182,7 +187,8 @@ pub fn shapes(
 ) -> Result<Vec<Dims>, AllocError>
     requires few { list_any (has_too_many sizes.now broadcast.now) args.now ≡ false }
     requires small { list_any (is_too_large sizes.now broadcast.now) args.now ≡ false }
-    ensures { IfOk result (λ found. found.items ≡ shapes sizes.now broadcast.now args.now given.now) }
+    ensures { let wanted = shapes sizes.now broadcast.now args.now given.now in
+        IfOk result (λ found. found.items ≡ wanted) }
 {
     let mut found = Vec::new(alloc);
     let mut left = given;

@@ -9,10 +9,11 @@ use crate::{SigFault, Signature};
 use std::alloc::Global;
 
 /// Reads a signature, as `a(n); int+ b(n, m=3); [o]c(m)` (PDL::PP, Signatures): arguments with
-/// semicolons between them and maybe one at the end. An argument has a type word, maybe with `+`; its
-/// role in square brackets, `[o]`, `[t]` or `[io]`, and none for an input; its word; and in brackets
-/// the words of its core dimensions, each maybe with `=` and the number that it is fixed to. Blanks
-/// may stand around each of these. The fault is the first of `SigFault`'s that holds of the text.
+/// semicolons between them and maybe one at the end. An argument has a type word, maybe with `+`;
+/// its role in square brackets, `[o]`, `[t]` or `[io]`, and none for an input; its word; and in
+/// brackets the words of its core dimensions, each maybe with `=` and the number that it is fixed
+/// to. Blanks may stand around each of these. The fault is the first of `SigFault`'s that holds of
+/// the text.
 pub fn read_signature(alloc: Global, text: &[u8]) -> Result<Signature, SigFault>
     ensures read { IfOk result (λ signature. Signs signature text.now) }
     ensures well_formed { IfOk result IsWellFormed }

@@ -1,5 +1,5 @@
 -- A step along dimension 1 goes as far as its increment says.
-use Rattle.std.proofs.Common.{◌≡◌, ℕ, ℤ, pos, ◌+ℤ◌, ◌*ℤ◌, ◌<◌, List, length, get_or, refl, arith, ap, ap₂, sym, subst, ◌∙◌, to_z, of_z, All}
+use Rattle.std.proofs.Common.{◌≡◌, ℕ, ℤ, pos, ◌+ℤ◌, ◌*ℤ◌, ◌<◌, length, get_or, arith, ap, ap₂, sym, subst, ◌∙◌, to_z, of_z}
 use Rattle.std.proofs.lemmas.Int.{to_z-of_z}
 use Rattle.std.proofs.lemmas.List.Elements.{All-get_or, All-from_get_or}
 use Rattle.std.specs.Int.{w32}

@@ -1,6 +1,5 @@
 -- What is read is the window's.
-use Rattle.std.proofs.Common.{◌≡◌, ◌<◌, ◌+◌, ◌*◌, ℕ, ℤ, pos, List, length, get_or, arith, ap, sym, subst, ◌∙◌}
-use Rattle.pdl_shape.specs.Shape.{size_of}
+use Rattle.std.proofs.Common.{◌≡◌, ◌<◌, ℕ, pos, List, length, get_or, ap, sym, subst, ◌∙◌}
 use Rattle.pdl_shape.specs.Triple.{Triple}
 use Rattle.pdl_buf.specs.Buffer.{Kept}
 use Rattle.pdl_buf.specs.Reads.{HasReadAcross, across}

@@ -1,0 +1,110 @@
+//! Sums of a window's elements, straight from the bytes that are kept.
+ghost use Rattle.std.specs.Prelude.{◌≡◌, ◌≤◌, ◌+◌, ◌+ℤ◌, pos, length, fold, take, drop, IfSome};
+ghost use Rattle.std.specs.Int.{int_wrap, w64};
+ghost use Rattle.pdl_shape.specs.Shape.{size_of};
+ghost use Rattle.pdl_shape.specs.Triple.{Reaches};
+ghost use Rattle.pdl_buf.specs.Numbers.{kept_in};
+ghost use Rattle.pdl_buf.specs.Window.{IsInOrder, shown};
+
+use crate::numbers::Numbers;
+use crate::packed::{Packed, PackedType};
+use crate::placement::Placement;
+use crate::window::Strided;
+use pdl_shape::shape_laws;
+
+/// A sum and one number more, in words that wrap.
+fn add(sum: i64, number: i64) -> i64
+    ensures { result ≡ int_wrap w64 (sum +ℤ number) }
+{
+    sum.wrapping_add(number)
+}
+
+/// The sum of so many numbers from a place on, in words that wrap.
+fn sum_from<T: PackedType<N>, const N: usize>(
+    numbers: &Packed<T, N>,
+    start: usize,
+    count: usize,
+) -> i64
+    requires { start + count ≤ length numbers.now }
+    ensures { let xs = take count (drop start numbers.now) in
+        result ≡ int_wrap w64 (fold (λ sum x. sum +ℤ x) (pos 0) xs) }
+{
+    let _count = numbers.len();
+    let mut sum = 0;
+    for j in 0..count {
+        let number = numbers.get(start + j);
+        sum = add(sum, number);
+    }
+    sum
+}
+
+/// The sum of so many elements that a placement in order shows of these numbers from a position on.
+fn sum_in_order<T: PackedType<N>, const N: usize>(
+    numbers: &Packed<T, N>,
+    placement: &Placement,
+    first: u32,
+    count: u32,
+) -> i64
+    requires within { first + count ≤ size_of placement.now.dims }
+    requires reaches { Reaches placement.now (length numbers.now) }
+    requires ordered { IsInOrder 1 placement.now.incs placement.now.dims }
+    ensures { let xs = take count (drop first (shown placement.now numbers.now)) in
+        result ≡ int_wrap w64 (fold (λ sum x. sum +ℤ x) (pos 0) xs) }
+{
+    shape_laws();
+    if count == 0 {
+        return 0;
+    }
+    let start = placement.place(first);
+    sum_from(numbers, start as usize, count as usize)
+}
+
+/// The sum of so many elements that a placement shows of these numbers from a position on, where
+/// they are neighbours, in order.
+fn sum_where_in_order<T: PackedType<N>, const N: usize>(
+    numbers: &Packed<T, N>,
+    placement: &Placement,
+    first: u32,
+    count: u32,
+) -> Option<i64>
+    requires within { first + count ≤ size_of placement.now.dims }
+    requires reaches { Reaches placement.now (length numbers.now) }
+    ensures { let xs = take count (drop first (shown placement.now numbers.now)) in
+        IfSome result (λ sum. sum ≡ int_wrap w64 (fold (λ sum x. sum +ℤ x) (pos 0) xs)) }
+{
+    if placement.is_in_order {
+        Some(sum_in_order(numbers, placement, first, count))
+    } else {
+        None
+    }
+}
+
+impl Numbers {
+    /// The sum of so many numbers that a placement shows from a position on, where they are
+    /// neighbours, in order.
+    fn sum(&self, placement: &Placement, first: u32, count: u32) -> Option<i64>
+        requires within { first + count ≤ size_of placement.now.dims }
+        requires reaches { Reaches placement.now (length (kept_in self.now).elems) }
+        ensures { let xs = take count (drop first (shown placement.now (kept_in self.now).elems)) in
+            IfSome result (λ sum. sum ≡ int_wrap w64 (fold (λ sum x. sum +ℤ x) (pos 0) xs)) }
+    {
+        match self {
+            Numbers::Bytes(packed) => sum_where_in_order(packed, placement, first, count),
+            Numbers::Shorts(packed) => sum_where_in_order(packed, placement, first, count),
+            Numbers::Ushorts(packed) => sum_where_in_order(packed, placement, first, count),
+            Numbers::Longs(packed) => sum_where_in_order(packed, placement, first, count),
+            Numbers::Longlongs(packed) => sum_where_in_order(packed, placement, first, count),
+        }
+    }
+}
+
+/// The sum of so many of the window's elements from a position on, wrapped at 64 bits, and nothing
+/// where they aren't neighbours in the buffer, in order: those are summed as well in blocks.
+pub fn strided_sum(from: &Strided<'_>, first: u32, count: u32) -> Option<i64>
+    requires { first + count ≤ length from.now.elems }
+    ensures { let xs = take count (drop first from.now.elems) in
+        IfSome result (λ sum. sum ≡ int_wrap w64 (fold (λ sum x. sum +ℤ x) (pos 0) xs)) }
+{
+    let buf = from.buf;
+    buf.numbers.sum(&from.placement, first, count)
+}
