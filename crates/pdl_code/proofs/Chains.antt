@@ -1,7 +1,7 @@
 -- One turn of each chain.
 use Rattle.std.proofs.Common.{◌≡◌, ℕ, zero, suc, ◌+◌, ◌-◌, ◌<◌, List, [], ◌∷◌, Option, Some, None, refl, arith, add-one, sym, ap, ◌∙◌}
 use Rattle.pdl_elem.specs.declared.BinaryOp.{BinaryOp}
-use Rattle.pdl_lexemes.specs.Options.{some_inj, none_some, map_elim}
+use Rattle.pdl_code.proofs.Options.{some_inj, none_some, map_elim}
 use Rattle.pdl_lexemes.specs.declared.refusal.Refusal.{Refusal}
 use Rattle.pdl_lexemes.specs.declared.refusal.Refusal.TheVariants.{Refused, NoMemory}
 use Rattle.pdl_code.specs.declared.lexeme.Lexeme.{Lexeme}

@@ -1,3 +1,4 @@
+pub mod Options
 pub mod Walking
 pub mod Joins
 pub mod Rows

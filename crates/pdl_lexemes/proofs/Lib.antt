@@ -1,3 +1,4 @@
+pub mod Options
 pub mod ListTurns
 pub mod ListSound
 pub mod ListComplete

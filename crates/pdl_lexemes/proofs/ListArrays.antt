@@ -10,7 +10,7 @@ use Rattle.pdl_shape.specs.Shape.{size_of}
 use Rattle.pdl_lexemes.specs.declared.Lexeme.{Lexeme}
 use Rattle.pdl_lexemes.specs.Laws.{FillsArray}
 use Rattle.pdl_lexemes.specs.Lists.{signed, shared, with_length, type_of, ListPart, SpellsList, an_item, some_items, a_list, number, minus, nested, first, more, empty, filled}
-use Rattle.pdl_lexemes.specs.Options.{none_some, some_inj, map_elim}
+use Rattle.pdl_lexemes.proofs.Options.{none_some, some_inj, map_elim}
 use Rattle.pdl_lexemes.proofs.ListDims.{shared_is}
 
 -- a number of 63 bits and a sign

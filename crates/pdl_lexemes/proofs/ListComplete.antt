@@ -4,7 +4,8 @@ use Rattle.pdl_elem.specs.declared.BinaryOp.TheVariants.{Sub}
 use Rattle.pdl_lexemes.specs.declared.Lexeme.{Lexeme}
 use Rattle.pdl_lexemes.specs.declared.Lexeme.TheVariants.{Number, OpenSquare, CloseSquare, Comma, Operator}
 use Rattle.pdl_lexemes.specs.Lists.{signed, shared, with_length, ListPart, SpellsList, an_item, some_items, a_list, number, minus, nested, first, more, empty, filled}
-use Rattle.pdl_lexemes.specs.ListReading.{Part, part, closed, after_comma, after_close_square, item_at, items_at, inside_at, list_reader, list_read}
+use Rattle.pdl_lexemes.specs.ListReading.{Part, part, closed, item_at, items_at, inside_at, list_reader, list_read}
+use Rattle.pdl_lexemes.specs.Peeks.{after}
 use Rattle.pdl_lexemes.proofs.ListTurns.{items_stop, items_turn}
 
 pub list_shorter : {p : ListPart} {ts rest : List Lexeme} → SpellsList p ts rest → length rest ≤ length ts
@@ -23,9 +24,9 @@ list_opens (filled {ts = ts} h) = (ts, refl)
 
 -- neither an item nor a list of items begins with `]`
 abbrev Begins : ListPart → List Lexeme → Type 0
-Begins (an_item shape front all) ts = after_close_square ts ≡ None
-Begins (some_items n shape front all) ts = after_close_square ts ≡ None
-Begins (a_list shape front all) ts = after_close_square ts ≡ None
+Begins (an_item shape front all) ts = after CloseSquare ts ≡ None
+Begins (some_items n shape front all) ts = after CloseSquare ts ≡ None
+Begins (a_list shape front all) ts = after CloseSquare ts ≡ None
 
 list_begins : {p : ListPart} {ts rest : List Lexeme} → SpellsList p ts rest → Begins p ts
 list_begins (number e) = refl
@@ -77,18 +78,18 @@ next_turn n c front ts us so_far x e chain h le = of_turns chain.turns refl
       start = chain.start;
       turns = k;
       begun = chain.begun;
-      same = chain.same ∙ (ap (λ j. items_at (list_reader n) j c so_far) z ∙ items_turn (list_reader n) k c so_far x us (ap after_comma e) h);
+      same = chain.same ∙ (ap (λ j. items_at (list_reader n) j c so_far) z ∙ items_turn (list_reader n) k c so_far x us (ap (after Comma) e) h);
       enough = omega (arith, chain.enough, z, ap length e);
     }
 
-close_chain : (n c : ℕ) (front : List ℤ) (ts rest : List Lexeme) (so_far : Part) → after_close_square ts ≡ None → so_far.rest ≡ CloseSquare ∷ rest →
+close_chain : (n c : ℕ) (front : List ℤ) (ts rest : List Lexeme) (so_far : Part) → after CloseSquare ts ≡ None → so_far.rest ≡ CloseSquare ∷ rest →
     Chain n c front ts so_far → list_reader (suc n) front (OpenSquare ∷ ts) ≡ Some (part (with_length c so_far.shape) so_far.elems rest)
 unfolding list_reader inside_at
 close_chain n c front ts rest so_far b e chain =
     let stop : items_at (list_reader n) (length chain.start.rest) 1 chain.start ≡ Some (c, so_far) =
-    chain.same ∙ items_stop (list_reader n) chain.turns c so_far (ap after_comma e) in
+    chain.same ∙ items_stop (list_reader n) chain.turns c so_far (ap (after Comma) e) in
     let last : closed (c, so_far) ≡ Some (part (with_length c so_far.shape) so_far.elems rest) =
-    ap (λ vs. option_map (part (with_length c so_far.shape) so_far.elems) (after_close_square vs)) e in
+    ap (λ vs. option_map (part (with_length c so_far.shape) so_far.elems) (after CloseSquare vs)) e in
     rw b (rw chain.begun (rw stop last))
 
 read_empty : (n : ℕ) (front : List ℤ) (rest : List Lexeme) → list_reader (suc n) front (OpenSquare ∷ CloseSquare ∷ rest) ≡ Some (part (Some (0 ∷ [])) front rest)
@@ -121,7 +122,7 @@ list_complete (filled {n = c} {shape = shape} {front = front} {all = all} {ts = 
     let b = list_begins h in
     of_fuel ih b
   where
-    of_fuel : ((n : ℕ) → length ts ≤ n → Chain n c front ts (part shape all (CloseSquare ∷ rest))) → after_close_square ts ≡ None →
+    of_fuel : ((n : ℕ) → length ts ≤ n → Chain n c front ts (part shape all (CloseSquare ∷ rest))) → after CloseSquare ts ≡ None →
         (n : ℕ) → suc (length ts) ≤ n → list_reader n front (OpenSquare ∷ ts) ≡ Some (part (with_length c shape) all rest)
     of_fuel ih b zero le = absurd (omega arith)
     of_fuel ih b (suc n) le = close_chain n c front ts rest (part shape all (CloseSquare ∷ rest)) b refl (ih n (omega arith))

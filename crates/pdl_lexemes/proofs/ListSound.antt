@@ -1,32 +1,37 @@
 -- What the reader of list literals takes is spelled.
-use Rattle.std.proofs.Common.{◌≡◌, ℕ, ℤ, zero, suc, neg_ℤ, List, [], ◌∷◌, length, Option, Some, None, option_map, option_and_then, refl, ap, sym, ◌∙◌, subst}
+use Rattle.std.proofs.Common.{◌≡◌, ℕ, ℤ, zero, suc, neg_ℤ, List, [], ◌∷◌, length, Bool, true, false, true≢false, if◌then◌else◌, Option, Some, None, option_map, option_and_then, refl, ap, sym, ◌∙◌, subst}
 use Rattle.pdl_elem.specs.declared.BinaryOp.TheVariants.{Sub}
+use Rattle.pdl_lexemes.specs.declared.Keyword.TheVariants.{Info, Sever, Reshape}
 use Rattle.pdl_lexemes.specs.declared.Lexeme.{Lexeme}
-use Rattle.pdl_lexemes.specs.declared.Lexeme.TheVariants.{Number, OpenSquare, CloseSquare, Comma, Operator}
+use Rattle.pdl_lexemes.specs.declared.Lexeme.TheVariants.{Keyword, Number, Open, Close, OpenSquare, CloseSquare, Comma, Equals, Arrow, FatArrow, Operator}
 use Rattle.pdl_lexemes.specs.Lists.{signed, shared, with_length, SpellsList, an_item, some_items, a_list, number, minus, nested, first, more, empty, filled}
-use Rattle.pdl_lexemes.specs.ListReading.{Part, part, closed, number_item, after_comma, after_open_square, after_close_square, after_minus, number_at, signed_number_at, minus_step, item_at, items_at, filled_at, inside_at, list_at, list_reader}
-use Rattle.pdl_lexemes.specs.Options.{some_inj, none_some, then_elim, map_elim, choose_elim}
+use Rattle.pdl_lexemes.specs.ListReading.{Part, part, closed, number_item, item_at, items_at, filled_at, inside_at, list_at, list_reader}
+use Rattle.pdl_lexemes.proofs.Options.{some_inj, none_some, then_elim, map_elim, choose_elim}
+use Rattle.pdl_lexemes.specs.Peeks.{is_same, after, minus_step, number_at, signed_number_at}
 
-pub comma_is : (ts : List Lexeme) {us : List Lexeme} → after_comma ts ≡ Some us → ts ≡ Comma ∷ us
-comma_is [] e = absurd (none_some e)
-comma_is (Comma ∷ ts) e = ap (λ x. Comma ∷ x) (some_inj e)
-comma_is (_ ∷ ts) e = absurd (none_some e)
+same_is : (a b : Lexeme) → is_same a b ≡ true → b ≡ a
+same_is Open Open e = refl
+same_is Close Close e = refl
+same_is OpenSquare OpenSquare e = refl
+same_is CloseSquare CloseSquare e = refl
+same_is Comma Comma e = refl
+same_is Equals Equals e = refl
+same_is Arrow Arrow e = refl
+same_is FatArrow FatArrow e = refl
+same_is (Operator Sub) (Operator Sub) e = refl
+same_is (Keyword Info) (Keyword Info) e = refl
+same_is (Keyword Sever) (Keyword Sever) e = refl
+same_is (Keyword Reshape) (Keyword Reshape) e = refl
+same_is _ _ e = absurd (true≢false (sym e))
 
-pub open_square_is : (ts : List Lexeme) {us : List Lexeme} → after_open_square ts ≡ Some us → ts ≡ OpenSquare ∷ us
-open_square_is [] e = absurd (none_some e)
-open_square_is (OpenSquare ∷ ts) e = ap (λ x. OpenSquare ∷ x) (some_inj e)
-open_square_is (_ ∷ ts) e = absurd (none_some e)
-
-pub close_square_is : (ts : List Lexeme) {us : List Lexeme} → after_close_square ts ≡ Some us → ts ≡ CloseSquare ∷ us
-close_square_is [] e = absurd (none_some e)
-close_square_is (CloseSquare ∷ ts) e = ap (λ x. CloseSquare ∷ x) (some_inj e)
-close_square_is (_ ∷ ts) e = absurd (none_some e)
-
-minus_is : (ts : List Lexeme) {us : List Lexeme} → after_minus ts ≡ Some us → ts ≡ Operator Sub ∷ us
-minus_is [] e = absurd (none_some e)
-minus_is (Operator Sub ∷ ts) e = ap (λ x. Operator Sub ∷ x) (some_inj e)
-minus_is (Operator _ ∷ ts) e = absurd (none_some e)
-minus_is (_ ∷ ts) e = absurd (none_some e)
+-- what follows a sign stands behind it
+pub after_is : (sign : Lexeme) (ts : List Lexeme) {us : List Lexeme} → after sign ts ≡ Some us → ts ≡ sign ∷ us
+after_is sign [] e = absurd (none_some e)
+after_is sign (t ∷ ts) {us = us} e = of_test (is_same sign t) refl e
+  where
+    of_test : (b : Bool) → is_same sign t ≡ b → (if b then Some ts else None) ≡ Some us → t ∷ ts ≡ sign ∷ us
+    of_test true same k = ap (λ x. x ∷ ts) (same_is sign t same) ∙ ap (λ x. sign ∷ x) (some_inj k)
+    of_test false same k = absurd (none_some k)
 
 -- a number token stands at the front
 record NumberAt (ts : List Lexeme) (x : ℤ × List Lexeme) : Type 0 where
@@ -50,23 +55,23 @@ number_sound front ts x e =
     subst (λ us. Item front us (number_item front x)) (sym at.is) (number at.value)
 
 signed_sound : (front : List ℤ) (ts : List Lexeme) (x : ℤ × List Lexeme) → signed_number_at ts ≡ Some x → Item front ts (number_item front x)
-signed_sound front ts x e = of_step (after_minus ts) refl e
+signed_sound front ts x e = of_step (after (Operator Sub) ts) refl e
   where
-    of_step : (o : Option (List Lexeme)) → after_minus ts ≡ o → minus_step ts o ≡ Some x → Item front ts (number_item front x)
+    of_step : (o : Option (List Lexeme)) → after (Operator Sub) ts ≡ o → minus_step ts o ≡ Some x → Item front ts (number_item front x)
     of_step None h k = number_sound front ts x k
     of_step (Some us) h k =
         map_elim (Item front ts (number_item front x)) (λ y. (neg_ℤ y.0, y.1)) (number_at us) k (λ y m same.
         let at = number_is us m in
         subst (λ z. Item front ts (number_item front z)) same
         (subst (λ vs. Item front vs (number_item front (neg_ℤ y.0, y.1)))
-        (sym (minus_is ts h ∙ ap (λ v. Operator Sub ∷ v) at.is)) (minus at.value)))
+        (sym (after_is (Operator Sub) ts h ∙ ap (λ v. Operator Sub ∷ v) at.is)) (minus at.value)))
 
 module _ (list_of : List ℤ → List Lexeme → Option Part)
     (sound : (front : List ℤ) (ts : List Lexeme) (x : Part) → list_of front ts ≡ Some x → SpellsList (a_list x.shape front x.elems) ts x.rest) where
   item_sound : (front : List ℤ) (ts : List Lexeme) (x : Part) → item_at list_of front ts ≡ Some x → Item front ts x
   unfolding item_at
   item_sound front ts x e =
-      choose_elim (Item front ts x) (option_map (number_item front) (signed_number_at ts)) (λ us. list_of front ts) (after_open_square ts) e
+      choose_elim (Item front ts x) (option_map (number_item front) (signed_number_at ts)) (λ us. list_of front ts) (after OpenSquare ts) e
       (λ h k. map_elim (Item front ts x) (number_item front) (signed_number_at ts) k
       (λ y m same. subst (Item front ts) same (signed_sound front ts y m)))
       (λ us h k. nested (sound front ts x k))
@@ -81,12 +86,12 @@ module _ (list_of : List ℤ → List Lexeme → Option Part)
   items_sound (suc k) n so_far x front ts e h =
       choose_elim (Items front ts x) (Some (n, so_far))
       (λ us. option_and_then (λ y. items_at list_of k (suc n) (part (shared so_far.shape y.shape) y.elems y.rest)) (item_at list_of so_far.elems us))
-      (after_comma so_far.rest) e
+      (after Comma so_far.rest) e
       (λ c d. subst (Items front ts) (some_inj d) h)
       (λ us c d. then_elim (Items front ts x)
       (λ y. items_at list_of k (suc n) (part (shared so_far.shape y.shape) y.elems y.rest)) (item_at list_of so_far.elems us) d
       (λ y m r. items_sound k (suc n) (part (shared so_far.shape y.shape) y.elems y.rest) x front ts r
-      (more (subst (λ vs. SpellsList (some_items n so_far.shape front so_far.elems) ts vs) (comma_is so_far.rest c) h)
+      (more (subst (λ vs. SpellsList (some_items n so_far.shape front so_far.elems) ts vs) (after_is Comma so_far.rest c) h)
       (item_sound so_far.elems us y m))))
 
   abbrev Listed : List ℤ → List Lexeme → Part → Type 0
@@ -94,9 +99,9 @@ module _ (list_of : List ℤ → List Lexeme → Option Part)
 
   closed_sound : (front : List ℤ) (ts : List Lexeme) (p : ℕ × Part) (x : Part) → closed p ≡ Some x → Items front ts p → Listed front (OpenSquare ∷ ts) x
   closed_sound front ts p x e h =
-      map_elim (Listed front (OpenSquare ∷ ts) x) (part (with_length p.0 p.1.shape) p.1.elems) (after_close_square p.1.rest) e
+      map_elim (Listed front (OpenSquare ∷ ts) x) (part (with_length p.0 p.1.shape) p.1.elems) (after CloseSquare p.1.rest) e
       (λ us c same. subst (Listed front (OpenSquare ∷ ts)) same
-      (filled (subst (λ vs. SpellsList (some_items p.0 p.1.shape front p.1.elems) ts vs) (close_square_is p.1.rest c) h)))
+      (filled (subst (λ vs. SpellsList (some_items p.0 p.1.shape front p.1.elems) ts vs) (after_is CloseSquare p.1.rest c) h)))
 
   filled_sound : (front : List ℤ) (ts : List Lexeme) (x : Part) → filled_at list_of front ts ≡ Some x → Listed front (OpenSquare ∷ ts) x
   filled_sound front ts x e =
@@ -107,15 +112,15 @@ module _ (list_of : List ℤ → List Lexeme → Option Part)
   inside_sound : (front : List ℤ) (ts : List Lexeme) (x : Part) → inside_at list_of front ts ≡ Some x → Listed front (OpenSquare ∷ ts) x
   unfolding inside_at
   inside_sound front ts x e =
-      choose_elim (Listed front (OpenSquare ∷ ts) x) (filled_at list_of front ts) (λ rest. Some (part (Some (0 ∷ [])) front rest)) (after_close_square ts) e
+      choose_elim (Listed front (OpenSquare ∷ ts) x) (filled_at list_of front ts) (λ rest. Some (part (Some (0 ∷ [])) front rest)) (after CloseSquare ts) e
       (λ h k. filled_sound front ts x k)
       (λ us h k. subst (Listed front (OpenSquare ∷ ts)) (some_inj k)
-      (subst (λ vs. Listed front (OpenSquare ∷ vs) (part (Some (0 ∷ [])) front us)) (sym (close_square_is ts h)) empty))
+      (subst (λ vs. Listed front (OpenSquare ∷ vs) (part (Some (0 ∷ [])) front us)) (sym (after_is CloseSquare ts h)) empty))
 
   list_sound : (front : List ℤ) (ts : List Lexeme) (x : Part) → list_at list_of front ts ≡ Some x → Listed front ts x
   list_sound front ts x e =
-      then_elim (Listed front ts x) (inside_at list_of front) (after_open_square ts) e
-      (λ us h k. subst (λ vs. Listed front vs x) (sym (open_square_is ts h)) (inside_sound front us x k))
+      then_elim (Listed front ts x) (inside_at list_of front) (after OpenSquare ts) e
+      (λ us h k. subst (λ vs. Listed front vs x) (sym (after_is OpenSquare ts h)) (inside_sound front us x k))
 
 -- a list that is read is spelled
 pub reader_sound : (n : ℕ) (front : List ℤ) (ts : List Lexeme) (x : Part) → list_reader n front ts ≡ Some x → SpellsList (a_list x.shape front x.elems) ts x.rest

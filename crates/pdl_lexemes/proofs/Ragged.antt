@@ -1,15 +1,15 @@
 -- The scan for ragged lists finds those that are spelled.
-use Rattle.std.proofs.Common.{◌≡◌, ℕ, ℤ, suc, ◌<◌, List, [], ◌∷◌, ◌++◌, length, Bool, true, false, ◌||◌, Option, Some, None, if◌then◌else◌, refl, sym, ap, ◌∙◌, subst, arith, true≢false}
-use Rattle.std.specs.Prelude.{is_some}
+use Rattle.std.proofs.Common.{◌≡◌, ℕ, ℤ, suc, List, [], ◌∷◌, ◌++◌, length, Bool, true, false, ◌||◌, Option, Some, None, if◌then◌else◌, refl, sym, ap, ◌∙◌, subst, true≢false}
 use Rattle.pdl_elem.specs.declared.BinaryOp.TheVariants.{Sub}
 use Rattle.pdl_lexemes.specs.declared.Lexeme.{Lexeme}
 use Rattle.pdl_lexemes.specs.declared.Lexeme.TheVariants.{Number, OpenSquare, CloseSquare, Comma, Operator}
 use Rattle.pdl_lexemes.specs.Lists.{ListPart, SpellsList, an_item, some_items, a_list, with_length, number, minus, nested, first, more, empty, filled, HoldsRagged, here, later}
-use Rattle.pdl_lexemes.specs.ListReading.{Part, part, after_open_square, list_reader, list_read}
+use Rattle.pdl_lexemes.specs.ListReading.{Part, part, list_reader, list_read}
 use Rattle.pdl_lexemes.specs.Depth.{ragged_in, reads_ragged, without_shape}
 use Rattle.pdl_lexemes.proofs.ListSound.{reader_sound}
-use Rattle.pdl_lexemes.specs.Options.{map_elim}
-use Rattle.pdl_lexemes.proofs.ListComplete.{list_found, list_opens, list_shorter}
+use Rattle.pdl_lexemes.proofs.Options.{map_elim}
+use Rattle.pdl_lexemes.specs.Peeks.{after}
+use Rattle.pdl_lexemes.proofs.ListComplete.{list_found, list_opens}
 use Rattle.pdl_lexemes.proofs.ListDims.{shared_is}
 
 -- the scan ends where a list is ragged, and goes on behind a place where none is
@@ -53,11 +53,11 @@ ragged_complete (here {elems = elems} {ts = ts} {rest = rest} h) = let o = list_
 ragged_complete (later {t = t} {ts = ts} h) = ragged_behind t ts (ragged_complete h)
 
 -- no list begins with another lexeme than `[`
-no_list : (ts : List Lexeme) → after_open_square ts ≡ None → list_read ts ≡ None
+no_list : (ts : List Lexeme) → after OpenSquare ts ≡ None → list_read ts ≡ None
 unfolding list_reader
 no_list ts e = rw e
 
-pub scan_past : (t : Lexeme) (ts : List Lexeme) → after_open_square (t ∷ ts) ≡ None → ragged_in (t ∷ ts) ≡ ragged_in ts
+pub scan_past : (t : Lexeme) (ts : List Lexeme) → after OpenSquare (t ∷ ts) ≡ None → ragged_in (t ∷ ts) ≡ ragged_in ts
 scan_past t ts e = scan_on t ts (ap reads_ragged (no_list (t ∷ ts) e))
 
 -- the same lexemes behind other numbers

@@ -1,5 +1,5 @@
 -- The checks on lexemes that look at no grammar: how deep brackets are, how many operators there are, how large numbers are.
-use Rattle.std.specs.Prelude.{◌≡◌, ℕ, pred, ◌+◌, ◌<◌, length, nat_lt, nat_eq, List, [], ◌∷◌, Bool, true, false, Option, Some, None, if◌then◌else◌}
+use Rattle.std.specs.Prelude.{ℕ, pred, ◌+◌, nat_lt, nat_eq, List, [], ◌∷◌, Bool, true, false, Option, Some, None, if◌then◌else◌}
 use Rattle.std.specs.List.{list_any}
 use Rattle.pdl_lexemes.specs.declared.checks.Counts.{Counts}
 use Rattle.pdl_lexemes.specs.declared.Lexeme.{Lexeme}

@@ -6,9 +6,10 @@ use Rattle.pdl_lex.specs.Tokens.{is_sign}
 use Rattle.pdl_lexemes.specs.declared.Lexeme.{Lexeme}
 use Rattle.pdl_lexemes.specs.declared.Lexeme.TheVariants.{OpenSquare}
 use Rattle.pdl_lexemes.specs.Lists.{SpellsList, a_list, type_of, HoldsRagged}
-use Rattle.pdl_lexemes.specs.ListReading.{part, after_open_square, list_read}
+use Rattle.pdl_lexemes.specs.ListReading.{part, list_read}
 use Rattle.pdl_lexemes.specs.Depth.{without_shape, ragged_in}
 use Rattle.pdl_lexemes.specs.Lexing.{found_in, signs}
+use Rattle.pdl_lexemes.specs.Peeks.{after}
 
 -- a list literal is read exactly where the grammar spells it; it begins with `[`, and what follows it is no longer
 pub record ListsAreRead : Type 0 where
@@ -23,7 +24,7 @@ pub record ListsAreRead : Type 0 where
 -- literal, where it isn't ragged itself
 pub record RaggedIsScanned : Type 0 where
   pub held : (ts : List Lexeme) → (ragged_in ts ≡ true) ↔ HoldsRagged ts
-  pub passes : (t : Lexeme) (ts : List Lexeme) → after_open_square (t ∷ ts) ≡ None → ragged_in (t ∷ ts) ≡ ragged_in ts
+  pub passes : (t : Lexeme) (ts : List Lexeme) → after OpenSquare (t ∷ ts) ≡ None → ragged_in (t ∷ ts) ≡ ragged_in ts
   pub lists : (ts rest : List Lexeme) (shape : Option (List ℕ)) (elems : List ℤ)
       → SpellsList (a_list shape [] elems) ts rest → ragged_in ts ≡ (without_shape shape || ragged_in rest)
 

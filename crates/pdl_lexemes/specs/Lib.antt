@@ -1,9 +1,9 @@
 pub mod Answers
 pub mod Bytes
 pub mod Lists
+pub mod Peeks
 pub mod ListReading
 pub mod Lexing
 pub mod Depth
 pub mod Squares
-pub mod Options
 pub mod Laws

@@ -1,9 +1,9 @@
 -- How a list literal is read: the one way in which its lexemes spell it, if there is one.
-use Rattle.std.specs.Prelude.{ℕ, zero, suc, ℤ, neg_ℤ, List, [], ◌∷◌, ◌++◌, length, Option, Some, None, option_map, option_and_then}
-use Rattle.pdl_elem.specs.declared.BinaryOp.TheVariants.{Sub}
+use Rattle.std.specs.Prelude.{ℕ, zero, suc, ℤ, List, [], ◌∷◌, ◌++◌, length, Option, Some, None, option_map, option_and_then}
 use Rattle.pdl_lexemes.specs.declared.Lexeme.{Lexeme}
-use Rattle.pdl_lexemes.specs.declared.Lexeme.TheVariants.{Number, OpenSquare, CloseSquare, Comma, Operator}
-use Rattle.pdl_lexemes.specs.Lists.{signed, shared, with_length}
+use Rattle.pdl_lexemes.specs.declared.Lexeme.TheVariants.{OpenSquare, CloseSquare, Comma}
+use Rattle.pdl_lexemes.specs.Lists.{shared, with_length}
+use Rattle.pdl_lexemes.specs.Peeks.{after, signed_number_at}
 
 -- the dimensions and the numbers of a list or an item, and what follows it
 pub record Part : Type 0 where
@@ -13,36 +13,6 @@ pub record Part : Type 0 where
 
 abbrev pub part : Option (List ℕ) → List ℤ → List Lexeme → Part
 part shape elems rest = record { shape = shape; elems = elems; rest = rest }
-
--- what follows a comma, a `[` or a `]`
-abbrev pub after_comma : List Lexeme → Option (List Lexeme)
-after_comma (Comma ∷ ts) = Some ts
-after_comma _ = None
-
-abbrev pub after_open_square : List Lexeme → Option (List Lexeme)
-after_open_square (OpenSquare ∷ ts) = Some ts
-after_open_square _ = None
-
-abbrev pub after_close_square : List Lexeme → Option (List Lexeme)
-after_close_square (CloseSquare ∷ ts) = Some ts
-after_close_square _ = None
-
--- a number token, and what follows it
-abbrev pub number_at : List Lexeme → Option (ℤ × List Lexeme)
-number_at (Number n ∷ ts) = option_map (λ z. (z, ts)) (signed n)
-number_at _ = None
-
-abbrev pub after_minus : List Lexeme → Option (List Lexeme)
-after_minus (Operator Sub ∷ ts) = Some ts
-after_minus _ = None
-
--- a number with its sign, and what follows it
-abbrev pub minus_step : List Lexeme → Option (List Lexeme) → Option (ℤ × List Lexeme)
-minus_step ts None = number_at ts
-minus_step ts (Some us) = option_map (λ x. (neg_ℤ x.0, x.1)) (number_at us)
-
-abbrev pub signed_number_at : List Lexeme → Option (ℤ × List Lexeme)
-signed_number_at ts = minus_step ts (after_minus ts)
 
 -- a value where there is none, else what is made of it
 abbrev pub choose : {A B : Type 0} → B → (A → B) → Option A → B
@@ -55,7 +25,7 @@ counted n p = (n, p)
 
 -- the list of which n items are read, where it ends here
 abbrev pub closed : ℕ × Part → Option Part
-closed p = option_map (part (with_length p.0 p.1.shape) p.1.elems) (after_close_square p.1.rest)
+closed p = option_map (part (with_length p.0 p.1.shape) p.1.elems) (after CloseSquare p.1.rest)
 
 -- a number as an item behind the numbers before it
 abbrev pub number_item : List ℤ → ℤ × List Lexeme → Part
@@ -64,7 +34,7 @@ number_item front x = part (Some []) (front ++ x.0 ∷ []) x.1
 module _ (list_of : List ℤ → List Lexeme → Option Part) where
   -- an item, where the reader of lists is `list_of`
   unfoldable pub item_at : List ℤ → List Lexeme → Option Part
-  item_at front ts = choose (option_map (number_item front) (signed_number_at ts)) (λ us. list_of front ts) (after_open_square ts)
+  item_at front ts = choose (option_map (number_item front) (signed_number_at ts)) (λ us. list_of front ts) (after OpenSquare ts)
 
   -- the further items of a list of which n are read, at most k of them; with them their number
   unfoldable pub items_at : ℕ → ℕ → Part → Option (ℕ × Part)
@@ -72,17 +42,17 @@ module _ (list_of : List ℤ → List Lexeme → Option Part) where
   items_at (suc k) n so_far =
       choose (Some (n, so_far))
       (λ us. option_and_then (λ x. items_at k (suc n) (part (shared so_far.shape x.shape) x.elems x.rest)) (item_at so_far.elems us))
-      (after_comma so_far.rest)
+      (after Comma so_far.rest)
 
   -- what stands behind `[`
   abbrev pub filled_at : List ℤ → List Lexeme → Option Part
   filled_at front ts = option_and_then (λ x. option_and_then closed (items_at (length x.rest) 1 x)) (item_at front ts)
 
   unfoldable pub inside_at : List ℤ → List Lexeme → Option Part
-  inside_at front ts = choose (filled_at front ts) (λ rest. Some (part (Some (0 ∷ [])) front rest)) (after_close_square ts)
+  inside_at front ts = choose (filled_at front ts) (λ rest. Some (part (Some (0 ∷ [])) front rest)) (after CloseSquare ts)
 
   abbrev pub list_at : List ℤ → List Lexeme → Option Part
-  list_at front ts = option_and_then (inside_at front) (after_open_square ts)
+  list_at front ts = option_and_then (inside_at front) (after OpenSquare ts)
 
 -- a list literal of which at most n lists are open at once
 unfoldable pub list_reader : ℕ → List ℤ → List Lexeme → Option Part

@@ -5,7 +5,8 @@ ghost use Rattle.pdl_lexemes.specs.Depth.{with_operator, counted_to, is_beyond, 
 
 use crate::Lexeme;
 
-/// How many brackets of each kind are open, and how many operators stand outside square ones so far.
+/// How many brackets of each kind are open, and how many operators stand outside square ones so
+/// far.
 #[derive(Clone, Copy, Debug)]
 pub struct Counts {
     pub round: u32,

@@ -7,8 +7,8 @@ pub fn lists_are_their_grammar()
     ensures { ListsAreRead }
 {}
 
-/// The scan finds a ragged list exactly where the lexemes hold one; it passes each lexeme but `[`, and a list literal
-/// with what is found in it.
+/// The scan finds a ragged list exactly where the lexemes hold one; it passes each lexeme but `[`,
+/// and a list literal with what is found in it.
 pub fn ragged_is_scanned()
     ensures { RaggedIsScanned }
 {}

@@ -27,8 +27,8 @@ impl<'a> Model for Lexemes<'a> {
 }
 
 impl<'a> Lexemes<'a> {
-    /// All lexemes of a statement. `None` where more than 64 brackets are open at once, more than 16
-    /// square ones, or more than 256 operators stand outside square brackets.
+    /// All lexemes of a statement. `None` where more than 64 brackets are open at once, more than
+    /// 16 square ones, or more than 256 operators stand outside square brackets.
     #[tactic(auto, using(crate::proofs::Squares::all_few))]
     pub fn of(list: &'a [Lexeme]) -> Option<Lexemes<'a>>
         requires small { length list.now ≤ 65536 }

@@ -10,7 +10,7 @@ mod laws;
 mod left;
 mod lexing;
 pub mod list;
-pub mod peek;
+mod peek;
 mod refusal;
 pub mod sizes;
 

@@ -7,7 +7,7 @@ ghost use Rattle.pdl_lexemes.specs.Answers.{Gives};
 ghost use Rattle.pdl_lexemes.specs.ListReading.{list_reader, list_read, inside_at, filled_at, items_at, item_at, part, counted};
 
 use crate::sizes::Sizes;
-use crate::{Lexemes, Refusal, peek, sizes};
+use crate::{Lexeme, Lexemes, Refusal, sizes};
 use std::alloc::{AllocError, Global};
 
 /// A list's dimensions, which are none where it is ragged, and all numbers up to its end.
@@ -17,10 +17,11 @@ pub struct Row {
     pub elems: Vec<i64>,
 }
 
-/// The list literal at the front, and what follows it. Its dimensions, or one that is longer by one than it has
-/// numbers where it is ragged, are within the limits of an array.
+/// The list literal at the front, and what follows it. Its dimensions, or one that is longer by one
+/// than it has numbers where it is ragged, are within the limits of an array.
 pub fn read<'a>(alloc: Global, tokens: &Lexemes<'a>) -> Result<(Row, Lexemes<'a>), Refusal>
-    ensures dims { IfOk result (λ x. IsDims (unwrap_or x.0.shape (suc (length x.0.elems.items) ∷ []))) }
+    ensures dims { IfOk result
+        (λ x. IsDims (unwrap_or x.0.shape (suc (length x.0.elems.items) ∷ []))) }
     ensures read { Gives (λ x. part x.0.shape x.0.elems.items x.1) result (list_read tokens.now) }
 {
     list(alloc, tokens.len() + 1, Vec::new(alloc), tokens)
@@ -34,12 +35,13 @@ fn list<'a>(
     front: Vec<i64>,
     tokens: &Lexemes<'a>,
 ) -> Result<(Row, Lexemes<'a>), Refusal>
-    ensures read { Gives (λ x. part x.0.shape x.0.elems.items x.1) result (list_reader fuel front.items tokens.now) }
+    ensures read { Gives (λ x. part x.0.shape x.0.elems.items x.1) result
+        (list_reader fuel front.items tokens.now) }
 {
     if fuel == 0 {
         return Err(Refusal::Refused);
     }
-    let rest = peek::after_open_square(tokens).ok_or(Refusal::Refused)?;
+    let rest = tokens.after(Lexeme::OpenSquare).ok_or(Refusal::Refused)?;
     inside(alloc, fuel - 1, front, &rest)
 }
 
@@ -51,9 +53,10 @@ fn inside<'a>(
     front: Vec<i64>,
     tokens: &Lexemes<'a>,
 ) -> Result<(Row, Lexemes<'a>), Refusal>
-    ensures read { Gives (λ x. part x.0.shape x.0.elems.items x.1) result (inside_at (list_reader fuel) front.items tokens.now) }
+    ensures read { Gives (λ x. part x.0.shape x.0.elems.items x.1) result
+        (inside_at (list_reader fuel) front.items tokens.now) }
 {
-    match peek::after_close_square(tokens) {
+    match tokens.after(Lexeme::CloseSquare) {
         None => filled(alloc, fuel, front, tokens),
         Some(rest) => Ok((empty(alloc, front)?, rest)),
     }
@@ -76,16 +79,18 @@ fn filled<'a>(
     front: Vec<i64>,
     tokens: &Lexemes<'a>,
 ) -> Result<(Row, Lexemes<'a>), Refusal>
-    ensures read { Gives (λ x. part x.0.shape x.0.elems.items x.1) result (filled_at (list_reader fuel) front.items tokens.now) }
+    ensures read { Gives (λ x. part x.0.shape x.0.elems.items x.1) result
+        (filled_at (list_reader fuel) front.items tokens.now) }
 {
     let (first, rest) = item(alloc, fuel, front, tokens)?;
     let (count, row, rest) = items(alloc, fuel, first, &rest)?;
-    let rest = peek::after_close_square(&rest).ok_or(Refusal::Refused)?;
+    let rest = rest.after(Lexeme::CloseSquare).ok_or(Refusal::Refused)?;
     Ok((closed(count, row)?, rest))
 }
 
 fn closed(count: u32, row: Row) -> Result<Row, AllocError>
-    ensures { IfOk result (λ r. (r.shape ≡ with_length count row.shape) × (r.elems.items ≡ row.elems.items)) }
+    ensures { IfOk result
+        (λ r. (r.shape ≡ with_length count row.shape) × (r.elems.items ≡ row.elems.items)) }
 {
     let Row { shape, elems } = row;
     Ok(Row {
@@ -102,13 +107,15 @@ fn items<'a>(
     first: Row,
     tokens: &Lexemes<'a>,
 ) -> Result<(u32, Row, Lexemes<'a>), Refusal>
-    ensures read { Gives (λ x. counted x.0 (part x.1.shape x.1.elems.items x.2)) result (items_at (list_reader fuel) (length tokens.now) 1 (part first.shape first.elems.items tokens.now)) }
+    ensures read { Gives (λ x. counted x.0 (part x.1.shape x.1.elems.items x.2)) result
+        (items_at (list_reader fuel) (length tokens.now) 1
+        (part first.shape first.elems.items tokens.now)) }
 {
     let mut count = 1;
     let mut row = first;
     let mut rest = tokens.copy();
     for _ in 0..tokens.len() {
-        match peek::after_comma(&rest) {
+        match rest.after(Lexeme::Comma) {
             None => return Ok((count, row, rest)),
             Some(after) => {
                 let Row { shape, elems } = row;
@@ -144,17 +151,19 @@ fn item<'a>(
     front: Vec<i64>,
     tokens: &Lexemes<'a>,
 ) -> Result<(Row, Lexemes<'a>), Refusal>
-    ensures read { Gives (λ x. part x.0.shape x.0.elems.items x.1) result (item_at (list_reader fuel) front.items tokens.now) }
+    ensures read { Gives (λ x. part x.0.shape x.0.elems.items x.1) result
+        (item_at (list_reader fuel) front.items tokens.now) }
 {
-    if let Some(_) = peek::after_open_square(tokens) {
+    if let Some(_) = tokens.after(Lexeme::OpenSquare) {
         return list(alloc, fuel, front, tokens);
     }
-    let (z, rest) = peek::signed_number(tokens).ok_or(Refusal::Refused)?;
+    let (z, rest) = tokens.signed_number().ok_or(Refusal::Refused)?;
     Ok((number(alloc, front, z)?, rest))
 }
 
 fn number(alloc: Global, mut front: Vec<i64>, z: i64) -> Result<Row, AllocError>
-    ensures { IfOk result (λ r. (r.shape ≡ Some []) × (r.elems.items ≡ front.items ++ z ∷ [])) }
+    ensures { IfOk result
+        (λ r. (r.shape ≡ Some []) × (r.elems.items ≡ front.items ++ z ∷ [])) }
 {
     front.push(z).map_err(AllocError::from)?;
     Ok(Row {

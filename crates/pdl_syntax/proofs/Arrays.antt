@@ -6,7 +6,7 @@ use Rattle.std.proofs.lemmas.Bool.Decides.{nat_tests}
 use Rattle.pdl_lexemes.specs.declared.Lexeme.{Lexeme}
 use Rattle.pdl_lexemes.specs.Lists.{signed}
 use Rattle.pdl_lexemes.specs.Laws.{FillsArray, ListsAreArrays}
-use Rattle.pdl_lexemes.specs.Options.{none_some, some_inj}
+use Rattle.pdl_syntax.proofs.Options.{none_some, some_inj}
 use Rattle.pdl_syntax.specs.Tree.{Tree, Args, none, value}
 use Rattle.pdl_syntax.specs.Ragged.{is_ragged, are_ragged, in_views, in_statement}
 use Rattle.pdl_syntax.proofs.Raggedness.{any_last}

@@ -15,15 +15,16 @@ use Rattle.pdl_lexemes.specs.Bytes.{bytes_at}
 use Rattle.pdl_lexemes.specs.Lists.{signed}
 use Rattle.pdl_lexemes.specs.ListReading.{list_read, part as list_part}
 use Rattle.pdl_lexemes.specs.Laws.{ListsAreRead}
+use Rattle.pdl_lexemes.specs.Peeks.{after, method_at, prefix_at, quoted_at, type_at}
 use Rattle.pdl_syntax.specs.Tree.{Tree, Args, number, named, unary, binary, call, none, value, text, of_type}
 use Rattle.pdl_syntax.specs.Grammar.{Spells, Part, an_expr, a_postfix, a_primary, an_arg, some_args, closed_args, maybe_args, level_of, many, literal_of, same, joined, once, negated, prefixed, plain, bare, method, a_number, a_name, list, round_list, called, round, a_value, a_text, a_type, one, more, no_args, all_args, without, within}
-use Rattle.pdl_syntax.specs.Reading.{whole, after_open, after_close, prefix_at, operator_at, limit_of, method_at, type_at, quoted_at, literal_at, chain_at, arg_at, more_at, closed_at, maybe_at, primary_at, methods_at, postfix_at, unary_at, level_at, reader}
+use Rattle.pdl_syntax.specs.Reading.{whole, operator_at, limit_of, literal_at, chain_at, arg_at, more_at, closed_at, maybe_at, primary_at, methods_at, postfix_at, unary_at, level_at, reader}
 use Rattle.pdl_syntax.proofs.Peeks.{operator_here, operator_other}
 use Rattle.pdl_syntax.proofs.Turns.{chain_stop_at, chain_turn_at, methods_stop, methods_turn, more_stop, more_turn}
 
 -- what may follow an expression of a level: no further operator of it, no method and no bracket
 pub record Ends (l : ℕ) (rest : List Lexeme) : Type 0 where
-  pub no_open : after_open rest ≡ None
+  pub no_open : after Open rest ≡ None
   pub no_method : method_at rest ≡ None
   pub no_operator : (j : ℕ) → j ≤ l → operator_at j rest ≡ None
 
@@ -70,7 +71,7 @@ shorter lists (within h) = let a = shorter lists h in omega arith
 
 -- what no expression begins with
 pub record Opening (ts : List Lexeme) : Type 0 where
-  pub close : after_close ts ≡ None
+  pub close : after Close ts ≡ None
   pub quoted : quoted_at ts ≡ None
   pub typed : type_at ts ≡ None
 
@@ -82,8 +83,8 @@ abbrev pub Begins : Part → List Lexeme → Type 0
 Begins (an_expr l t) ts = Opening ts
 Begins (a_postfix t) ts = Primary ts
 Begins (a_primary t) ts = Primary ts
-Begins (an_arg front all) ts = after_close ts ≡ None
-Begins (some_args front all) ts = after_close ts ≡ None
+Begins (an_arg front all) ts = after Close ts ≡ None
+Begins (some_args front all) ts = after Close ts ≡ None
 Begins (closed_args front all) ts = Unit {0}
 Begins (maybe_args front all) ts = Unit {0}
 
@@ -145,7 +146,7 @@ module _ (lists : ListsAreRead) (source : List ℕ) where
   Complete (an_expr zero t) ts rest =
       (n : ℕ) → length ts ≤ n → Ends 0 rest → unary_at source (reader source n) ts ≡ Some (t, rest)
   Complete (an_expr (suc l) t) ts rest = (n : ℕ) → length ts ≤ n → Ends l rest → Chain n l t ts rest
-  Complete (a_postfix t) ts rest = (n : ℕ) → length ts ≤ n → after_open rest ≡ None → Methods n t ts rest
+  Complete (a_postfix t) ts rest = (n : ℕ) → length ts ≤ n → after Open rest ≡ None → Methods n t ts rest
   Complete (a_primary t) ts rest = (n : ℕ) → length ts ≤ n → primary_at source (reader source n) ts ≡ Some (t, rest)
   Complete (an_arg front all) ts rest =
       (n : ℕ) → length ts < n → Ends 7 rest → arg_at source (reader source n) front ts ≡ Some (all, rest)
@@ -153,7 +154,7 @@ module _ (lists : ListsAreRead) (source : List ℕ) where
   Complete (closed_args front all) ts rest =
       (n : ℕ) → length ts < n → closed_at source (reader source n) front ts ≡ Some (all, rest)
   Complete (maybe_args front all) ts rest =
-      (n : ℕ) → length ts ≤ n → after_open rest ≡ None → maybe_at source (reader source n) front ts ≡ Some (all, rest)
+      (n : ℕ) → length ts ≤ n → after Open rest ≡ None → maybe_at source (reader source n) front ts ≡ Some (all, rest)
 
   -- an expression behind which nothing of it follows
   pub finished : (l : ℕ) (t : Tree) (ts rest : List Lexeme) → Complete (an_expr l t) ts rest → (n : ℕ) → length ts ≤ n → Ends l rest →
@@ -290,7 +291,7 @@ module _ (lists : ListsAreRead) (source : List ℕ) where
   unfolding arg_at
   read_text n front w rest = refl
 
-  read_type : (n : ℕ) (front : Args) (ty : Ty) (w : Span) (rest : List Lexeme) → after_open rest ≡ None →
+  read_type : (n : ℕ) (front : Args) (ty : Ty) (w : Span) (rest : List Lexeme) → after Open rest ≡ None →
       arg_at source (reader source n) front (Word (OfType ty) w ∷ rest) ≡ Some (of_type front ty, rest)
   unfolding arg_at
   read_type n front ty w rest e = rw e
@@ -316,7 +317,7 @@ module _ (lists : ListsAreRead) (source : List ℕ) where
   unfolding closed_at
   read_no_args n front rest = refl
 
-  read_args : (n : ℕ) (front args : Args) (ts rest : List Lexeme) → after_close ts ≡ None → Arguments n front args ts (Close ∷ rest) →
+  read_args : (n : ℕ) (front args : Args) (ts rest : List Lexeme) → after Close ts ≡ None → Arguments n front args ts (Close ∷ rest) →
       closed_at source (reader source n) front ts ≡ Some (args, rest)
   unfolding closed_at
   read_args n front args ts rest b a =
@@ -324,7 +325,7 @@ module _ (lists : ListsAreRead) (source : List ℕ) where
       a.same ∙ more_stop source (reader source n) a.turns args (Close ∷ rest) refl in
       rw b (rw a.begun (rw stop))
 
-  read_without : (n : ℕ) (front : Args) (rest : List Lexeme) → after_open rest ≡ None → maybe_at source (reader source n) front rest ≡ Some (front, rest)
+  read_without : (n : ℕ) (front : Args) (rest : List Lexeme) → after Open rest ≡ None → maybe_at source (reader source n) front rest ≡ Some (front, rest)
   unfolding maybe_at
   read_without n front rest e = rw e
 

@@ -1,8 +1,9 @@
 -- An expression is read by its first operand, and what goes on behind it.
 use Rattle.std.proofs.Common.{◌≡◌, ℕ, zero, suc, ◌≤◌, List, false, Option, Some, None, option_and_then, refl, ap, ◌∙◌, arith}
 use Rattle.pdl_lexemes.specs.declared.Lexeme.{Lexeme}
+use Rattle.pdl_lexemes.specs.Peeks.{Read, prefix_at}
 use Rattle.pdl_syntax.specs.Tree.{Tree}
-use Rattle.pdl_syntax.specs.Reading.{Read, Kind, prefix_at, operator_at, begins_operator, limit_of, chain_at, postfix_at, unary_at, level_at, grown_at}
+use Rattle.pdl_syntax.specs.Reading.{Kind, operator_at, begins_operator, limit_of, chain_at, postfix_at, unary_at, level_at, grown_at}
 use Rattle.pdl_syntax.proofs.Turns.{chain_stop_at}
 use Rattle.pdl_syntax.proofs.Peeks.{no_operator}
 

@@ -1,37 +1,43 @@
 -- What a look at the front says of it.
-use Rattle.std.proofs.Common.{◌≡◌, ◌≤◌, ℕ, List, [], ◌∷◌, Option, Some, None, Bool, true, false, nat_eq, if◌then◌else◌, refl, ap, ◌∙◌, subst, eqb-true, eq-eqb, arith}
+use Rattle.std.proofs.Common.{◌≡◌, ◌≤◌, ℕ, List, [], ◌∷◌, Option, Some, None, Bool, true, false, nat_eq, if◌then◌else◌, true≢false, refl, ap, sym, ◌∙◌, subst, eqb-true, eq-eqb, arith}
 use Rattle.std.proofs.lemmas.Bool.{leb-false}
 use Rattle.pdl_elem.specs.declared.BinaryOp.{BinaryOp}
+use Rattle.pdl_elem.specs.declared.BinaryOp.TheVariants.{Sub}
 use Rattle.pdl_elem.specs.declared.Ty.{Ty}
 use Rattle.pdl_lexemes.specs.declared.Span.{Span}
 use Rattle.pdl_lexemes.specs.declared.WordKind.{WordKind}
 use Rattle.pdl_lexemes.specs.declared.WordKind.TheVariants.{OfType}
+use Rattle.pdl_lexemes.specs.declared.Keyword.TheVariants.{Info, Sever, Reshape}
 use Rattle.pdl_lexemes.specs.declared.Lexeme.{Lexeme}
-use Rattle.pdl_lexemes.specs.declared.Lexeme.TheVariants.{Word, Quoted, Open, Close, Comma, Arrow, Operator}
-use Rattle.pdl_lexemes.specs.ListReading.{after_comma}
-use Rattle.pdl_lexemes.specs.Options.{some_inj, none_some, then_elim}
-use Rattle.pdl_syntax.specs.Reading.{Read, after_open, after_close, after_arrow, operator_at, begins_operator, word_at, method_at, type_at, type_step, quoted_at}
+use Rattle.pdl_lexemes.specs.declared.Lexeme.TheVariants.{Keyword, Word, Quoted, Open, Close, OpenSquare, CloseSquare, Comma, Equals, Arrow, FatArrow, Operator}
+use Rattle.pdl_syntax.proofs.Options.{some_inj, none_some, then_elim}
+use Rattle.pdl_lexemes.specs.Peeks.{Read, is_same, after, method_at, quoted_at, type_at, type_step, word_at}
+use Rattle.pdl_syntax.specs.Reading.{operator_at, begins_operator}
 use Rattle.pdl_syntax.specs.Grammar.{level_of}
 
-pub comma_is : (ts : List Lexeme) {us : List Lexeme} → after_comma ts ≡ Some us → ts ≡ Comma ∷ us
-comma_is [] e = absurd (none_some e)
-comma_is (Comma ∷ ts) e = ap (λ x. Comma ∷ x) (some_inj e)
-comma_is (_ ∷ ts) e = absurd (none_some e)
+same_is : (a b : Lexeme) → is_same a b ≡ true → b ≡ a
+same_is Open Open e = refl
+same_is Close Close e = refl
+same_is OpenSquare OpenSquare e = refl
+same_is CloseSquare CloseSquare e = refl
+same_is Comma Comma e = refl
+same_is Equals Equals e = refl
+same_is Arrow Arrow e = refl
+same_is FatArrow FatArrow e = refl
+same_is (Operator Sub) (Operator Sub) e = refl
+same_is (Keyword Info) (Keyword Info) e = refl
+same_is (Keyword Sever) (Keyword Sever) e = refl
+same_is (Keyword Reshape) (Keyword Reshape) e = refl
+same_is _ _ e = absurd (true≢false (sym e))
 
-pub open_is : (ts : List Lexeme) {us : List Lexeme} → after_open ts ≡ Some us → ts ≡ Open ∷ us
-open_is [] e = absurd (none_some e)
-open_is (Open ∷ ts) e = ap (λ x. Open ∷ x) (some_inj e)
-open_is (_ ∷ ts) e = absurd (none_some e)
-
-pub close_is : (ts : List Lexeme) {us : List Lexeme} → after_close ts ≡ Some us → ts ≡ Close ∷ us
-close_is [] e = absurd (none_some e)
-close_is (Close ∷ ts) e = ap (λ x. Close ∷ x) (some_inj e)
-close_is (_ ∷ ts) e = absurd (none_some e)
-
-pub arrow_is : (ts : List Lexeme) {us : List Lexeme} → after_arrow ts ≡ Some us → ts ≡ Arrow ∷ us
-arrow_is [] e = absurd (none_some e)
-arrow_is (Arrow ∷ ts) e = ap (λ x. Arrow ∷ x) (some_inj e)
-arrow_is (_ ∷ ts) e = absurd (none_some e)
+-- what follows a sign stands behind it
+pub after_is : (sign : Lexeme) (ts : List Lexeme) {us : List Lexeme} → after sign ts ≡ Some us → ts ≡ sign ∷ us
+after_is sign [] e = absurd (none_some e)
+after_is sign (t ∷ ts) {us = us} e = of_test (is_same sign t) refl e
+  where
+    of_test : (b : Bool) → is_same sign t ≡ b → (if b then Some ts else None) ≡ Some us → t ∷ ts ≡ sign ∷ us
+    of_test true same k = ap (λ x. x ∷ ts) (same_is sign t same) ∙ ap (λ x. sign ∷ x) (some_inj k)
+    of_test false same k = absurd (none_some k)
 
 pub quoted_is : (ts : List Lexeme) (x : Span × List Lexeme) → quoted_at ts ≡ Some x → ts ≡ Quoted x.0 ∷ x.1
 quoted_is [] x e = absurd (none_some e)
@@ -84,8 +90,8 @@ word_is (_ ∷ ts) x e = absurd (none_some e)
 
 pub method_is : (ts : List Lexeme) (x : Span × List Lexeme) → method_at ts ≡ Some x → MethodAt ts x
 method_is ts x e =
-    then_elim (MethodAt ts x) word_at (after_arrow ts) e
-    (λ us h k. let w = word_is us x k in record { kind = w.kind; is = arrow_is ts h ∙ ap (λ v. Arrow ∷ v) w.is })
+    then_elim (MethodAt ts x) word_at (after Arrow ts) e
+    (λ us h k. let w = word_is us x k in record { kind = w.kind; is = after_is Arrow ts h ∙ ap (λ v. Arrow ∷ v) w.is })
 
 -- a type word that calls nothing
 pub record TypeAt (ts : List Lexeme) (x : Ty × List Lexeme) : Type 0 where
@@ -94,7 +100,7 @@ pub record TypeAt (ts : List Lexeme) (x : Ty × List Lexeme) : Type 0 where
 
 pub type_is : (ts : List Lexeme) (x : Ty × List Lexeme) → type_at ts ≡ Some x → TypeAt ts x
 type_is [] x e = absurd (none_some e)
-type_is (Word (OfType ty) w ∷ ts) x e = of_step (after_open ts) e
+type_is (Word (OfType ty) w ∷ ts) x e = of_step (after Open ts) e
   where
     of_step : (o : Option (List Lexeme)) → type_step ty ts o ≡ Some x → TypeAt (Word (OfType ty) w ∷ ts) x
     of_step None k = record { span = w; is = ap (λ y. Word (OfType y.0) w ∷ y.1) (some_inj k) }

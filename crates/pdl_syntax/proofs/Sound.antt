@@ -7,16 +7,17 @@ use Rattle.pdl_lexemes.specs.declared.Span.{Span}
 use Rattle.pdl_lexemes.specs.declared.WordKind.{WordKind}
 use Rattle.pdl_lexemes.specs.declared.Keyword.TheVariants.{Pdl}
 use Rattle.pdl_lexemes.specs.declared.Lexeme.{Lexeme}
-use Rattle.pdl_lexemes.specs.declared.Lexeme.TheVariants.{Name, Keyword, Word, Number, Open, Operator, Prefix}
+use Rattle.pdl_lexemes.specs.declared.Lexeme.TheVariants.{Name, Keyword, Word, Number, Open, Operator, Prefix, Close, Comma}
 use Rattle.pdl_lexemes.specs.Bytes.{bytes_at}
 use Rattle.pdl_lexemes.specs.Lists.{signed}
-use Rattle.pdl_lexemes.specs.ListReading.{after_comma, list_read}
-use Rattle.pdl_lexemes.specs.Options.{some_inj, none_some, then_elim, map_elim, choose_elim}
+use Rattle.pdl_lexemes.specs.ListReading.{list_read}
+use Rattle.pdl_syntax.proofs.Options.{some_inj, none_some, then_elim, map_elim, choose_elim}
 use Rattle.pdl_lexemes.specs.Laws.{ListsAreRead}
+use Rattle.pdl_lexemes.specs.Peeks.{Read, after, method_at, prefix_at, quoted_at, type_at}
 use Rattle.pdl_syntax.specs.Tree.{Tree, Args, unary, binary, call, none, value, text, of_type}
 use Rattle.pdl_syntax.specs.Grammar.{Spells, Part, an_expr, a_postfix, a_primary, an_arg, some_args, closed_args, maybe_args, many, same, joined, once, negated, prefixed, plain, bare, method, a_number, a_name, list, round_list, called, round, a_value, a_text, a_type, one, more, no_args, all_args, without, within}
-use Rattle.pdl_syntax.specs.Reading.{Read, Kind, whole, operand, after_open, after_close, prefix_at, operator_at, limit_of, method_at, type_at, quoted_at, tree_of_list, round_list_at, literal_at, number_before, chain_at, value_at, typed_at, arg_at, more_at, close_at, filled_at, closed_at, maybe_at, round_at, call_at, primary_at, methods_at, postfix_at, unary_at, level_at, reader}
-use Rattle.pdl_syntax.proofs.Peeks.{comma_is, open_is, close_is, quoted_is, operator_is, method_is, type_is}
+use Rattle.pdl_syntax.specs.Reading.{Kind, whole, operand, operator_at, limit_of, tree_of_list, round_list_at, literal_at, number_before, chain_at, value_at, typed_at, arg_at, more_at, close_at, filled_at, closed_at, maybe_at, round_at, call_at, primary_at, methods_at, postfix_at, unary_at, level_at, reader}
+use Rattle.pdl_syntax.proofs.Peeks.{after_is, quoted_is, operator_is, method_is, type_is}
 
 -- what each kind of reading spells
 abbrev pub part_of : Kind → Tree → Part
@@ -33,17 +34,17 @@ module _ (lists : ListsAreRead) (source : List ℕ) where
 
   round_list_sound : (ts : List Lexeme) (x : Tree × List Lexeme) → round_list_at ts ≡ Some x → Taken a_primary (Keyword Pdl ∷ Open ∷ ts) x
   round_list_sound ts x e =
-      then_elim (Taken a_primary (Keyword Pdl ∷ Open ∷ ts) x) (λ p. option_map (λ us. (tree_of_list p, us)) (after_close p.rest)) (list_read ts) e
-      (λ p h k. map_elim (Taken a_primary (Keyword Pdl ∷ Open ∷ ts) x) (λ us. (tree_of_list p, us)) (after_close p.rest) k
+      then_elim (Taken a_primary (Keyword Pdl ∷ Open ∷ ts) x) (λ p. option_map (λ us. (tree_of_list p, us)) (after Close p.rest)) (list_read ts) e
+      (λ p h k. map_elim (Taken a_primary (Keyword Pdl ∷ Open ∷ ts) x) (λ us. (tree_of_list p, us)) (after Close p.rest) k
       (λ us c is. subst (Taken a_primary (Keyword Pdl ∷ Open ∷ ts)) is
-      (round_list (rw (close_is p.rest c) at ((lists.reads ts p.rest p.shape p.elems).0 h)))))
+      (round_list (rw (after_is Close p.rest c) at ((lists.reads ts p.rest p.shape p.elems).0 h)))))
 
   literal_sound : (ts : List Lexeme) (x : Tree × List Lexeme) → literal_at ts ≡ Some x → Taken a_primary (Keyword Pdl ∷ ts) x
   literal_sound ts x e =
-      choose_elim (Taken a_primary (Keyword Pdl ∷ ts) x) (option_map (λ p. (tree_of_list p, p.rest)) (list_read ts)) round_list_at (after_open ts) e
+      choose_elim (Taken a_primary (Keyword Pdl ∷ ts) x) (option_map (λ p. (tree_of_list p, p.rest)) (list_read ts)) round_list_at (after Open ts) e
       (λ h k. map_elim (Taken a_primary (Keyword Pdl ∷ ts) x) (λ p. (tree_of_list p, p.rest)) (list_read ts) k
       (λ p c is. subst (Taken a_primary (Keyword Pdl ∷ ts)) is (list ((lists.reads ts p.rest p.shape p.elems).0 c))))
-      (λ us h k. subst (λ vs. Taken a_primary (Keyword Pdl ∷ vs) x) (sym (open_is ts h)) (round_list_sound us x k))
+      (λ us h k. subst (λ vs. Taken a_primary (Keyword Pdl ∷ vs) x) (sym (after_is Open ts h)) (round_list_sound us x k))
 
   module _ (f : Kind → List Lexeme → Read Tree)
       (sound : (kind : Kind) (ts : List Lexeme) (x : Tree × List Lexeme) → f kind ts ≡ Some x → Taken (part_of kind) ts x) where
@@ -73,48 +74,48 @@ module _ (lists : ListsAreRead) (source : List ℕ) where
     more_sound zero args us x front ts e h = subst (TakenArgs (some_args front) ts) (some_inj e) h
     more_sound (suc k) args us x front ts e h =
         choose_elim (TakenArgs (some_args front) ts x) (Some (args, us))
-        (λ vs. option_and_then (λ y. more_at source f k y.0 y.1) (arg_at source f args vs)) (after_comma us) e
+        (λ vs. option_and_then (λ y. more_at source f k y.0 y.1) (arg_at source f args vs)) (after Comma us) e
         (λ c d. subst (TakenArgs (some_args front) ts) (some_inj d) h)
         (λ vs c d. then_elim (TakenArgs (some_args front) ts x) (λ y. more_at source f k y.0 y.1) (arg_at source f args vs) d
         (λ y m r. more_sound k y.0 y.1 x front ts r
-        (more (subst (Spells source (some_args front args) ts) (comma_is us c) h) (arg_sound args vs y m))))
+        (more (subst (Spells source (some_args front args) ts) (after_is Comma us c) h) (arg_sound args vs y m))))
 
     filled_sound : (front : Args) (ts : List Lexeme) (x : Args × List Lexeme) → filled_at source f front ts ≡ Some x → TakenArgs (closed_args front) ts x
     filled_sound front ts x e =
         then_elim (TakenArgs (closed_args front) ts x) (λ y. option_and_then (close_at source f) (more_at source f (length y.1) y.0 y.1)) (arg_at source f front ts) e
         (λ y h k. then_elim (TakenArgs (closed_args front) ts x) (close_at source f) (more_at source f (length y.1) y.0 y.1) k
-        (λ z m r. map_elim (TakenArgs (closed_args front) ts x) (λ us. (z.0, us)) (after_close z.1) r
+        (λ z m r. map_elim (TakenArgs (closed_args front) ts x) (λ us. (z.0, us)) (after Close z.1) r
         (λ us c is. subst (TakenArgs (closed_args front) ts) is
-        (all_args (subst (Spells source (some_args front z.0) ts) (close_is z.1 c)
+        (all_args (subst (Spells source (some_args front z.0) ts) (after_is Close z.1 c)
         (more_sound (length y.1) y.0 y.1 z front ts m (one (arg_sound front ts y h))))))))
 
     pub closed_sound : (front : Args) (ts : List Lexeme) (x : Args × List Lexeme) → closed_at source f front ts ≡ Some x → TakenArgs (closed_args front) ts x
     unfolding closed_at
     closed_sound front ts x e =
-        choose_elim (TakenArgs (closed_args front) ts x) (filled_at source f front ts) (λ us. Some (front, us)) (after_close ts) e
+        choose_elim (TakenArgs (closed_args front) ts x) (filled_at source f front ts) (λ us. Some (front, us)) (after Close ts) e
         (λ h k. filled_sound front ts x k)
         (λ us h k. subst (TakenArgs (closed_args front) ts) (some_inj k)
-        (subst (λ vs. Spells source (closed_args front front) vs us) (sym (close_is ts h)) no_args))
+        (subst (λ vs. Spells source (closed_args front front) vs us) (sym (after_is Close ts h)) no_args))
 
     pub maybe_sound : (front : Args) (ts : List Lexeme) (x : Args × List Lexeme) → maybe_at source f front ts ≡ Some x → TakenArgs (maybe_args front) ts x
     unfolding maybe_at
     maybe_sound front ts x e =
-        choose_elim (TakenArgs (maybe_args front) ts x) (Some (front, ts)) (closed_at source f front) (after_open ts) e
+        choose_elim (TakenArgs (maybe_args front) ts x) (Some (front, ts)) (closed_at source f front) (after Open ts) e
         (λ h k. subst (TakenArgs (maybe_args front) ts) (some_inj k) without)
-        (λ us h k. subst (λ vs. TakenArgs (maybe_args front) vs x) (sym (open_is ts h)) (within (closed_sound front us x k)))
+        (λ us h k. subst (λ vs. TakenArgs (maybe_args front) vs x) (sym (after_is Open ts h)) (within (closed_sound front us x k)))
 
     round_sound : (ts : List Lexeme) (x : Tree × List Lexeme) → round_at source f ts ≡ Some x → Taken a_primary (Open ∷ ts) x
     round_sound ts x e =
-        then_elim (Taken a_primary (Open ∷ ts) x) (λ y. option_map (λ us. (y.0, us)) (after_close y.1)) (f whole ts) e
-        (λ y h k. map_elim (Taken a_primary (Open ∷ ts) x) (λ us. (y.0, us)) (after_close y.1) k
-        (λ us c is. subst (Taken a_primary (Open ∷ ts)) is (round (subst (Spells source (an_expr 7 y.0) ts) (close_is y.1 c) (sound whole ts y h)))))
+        then_elim (Taken a_primary (Open ∷ ts) x) (λ y. option_map (λ us. (y.0, us)) (after Close y.1)) (f whole ts) e
+        (λ y h k. map_elim (Taken a_primary (Open ∷ ts) x) (λ us. (y.0, us)) (after Close y.1) k
+        (λ us c is. subst (Taken a_primary (Open ∷ ts)) is (round (subst (Spells source (an_expr 7 y.0) ts) (after_is Close y.1 c) (sound whole ts y h)))))
 
     call_sound : (kind : WordKind) (w : Span) (ts : List Lexeme) (x : Tree × List Lexeme) → call_at source f w ts ≡ Some x → Taken a_primary (Word kind w ∷ ts) x
     call_sound kind w ts x e =
-        then_elim (Taken a_primary (Word kind w ∷ ts) x) (λ us. option_map (λ y. (call (bytes_at source w) y.0, y.1)) (closed_at source f none us)) (after_open ts) e
+        then_elim (Taken a_primary (Word kind w ∷ ts) x) (λ us. option_map (λ y. (call (bytes_at source w) y.0, y.1)) (closed_at source f none us)) (after Open ts) e
         (λ us h k. map_elim (Taken a_primary (Word kind w ∷ ts) x) (λ y. (call (bytes_at source w) y.0, y.1)) (closed_at source f none us) k
         (λ y c is. subst (Taken a_primary (Word kind w ∷ ts)) is
-        (subst (λ vs. Spells source (a_primary (call (bytes_at source w) y.0)) (Word kind w ∷ vs) y.1) (sym (open_is ts h)) (called (closed_sound none us y c)))))
+        (subst (λ vs. Spells source (a_primary (call (bytes_at source w) y.0)) (Word kind w ∷ vs) y.1) (sym (after_is Open ts h)) (called (closed_sound none us y c)))))
 
     pub primary_sound : (ts : List Lexeme) (x : Tree × List Lexeme) → primary_at source f ts ≡ Some x → Taken a_primary ts x
     unfolding primary_at

@@ -11,21 +11,22 @@ use Rattle.pdl_lexemes.specs.declared.Lexeme.{Lexeme}
 use Rattle.pdl_lexemes.specs.declared.Lexeme.TheVariants.{Name, Keyword, Word, Number, Quoted, Open, Close, Comma, Equals, Arrow, Assign}
 use Rattle.pdl_lexemes.specs.Bytes.{bytes_at}
 use Rattle.pdl_lexemes.specs.Lists.{signed}
-use Rattle.pdl_lexemes.specs.ListReading.{choose, after_comma}
+use Rattle.pdl_lexemes.specs.ListReading.{choose}
 use Rattle.pdl_lexemes.specs.Laws.{ListsAreRead}
-use Rattle.pdl_lexemes.specs.Options.{some_inj, then_elim}
+use Rattle.pdl_syntax.proofs.Options.{some_inj, then_elim}
+use Rattle.pdl_lexemes.specs.Peeks.{Read, after, after_keyword, after_reshape, after_label, begins_word, is_brackets, prefix_at, quoted_at, slot_at, view_at}
 use Rattle.pdl_syntax.specs.Tree.{Tree, Args, call, none, value}
 use Rattle.pdl_syntax.specs.Grammar.{Spells, an_expr, a_postfix, called}
-use Rattle.pdl_syntax.specs.Reading.{Read, Kind, after_open, prefix_at, quoted_at, maybe_at, closed_at, primary_at, methods_at, postfix_at, grown_at, reader}
+use Rattle.pdl_syntax.specs.Reading.{Kind, maybe_at, closed_at, primary_at, methods_at, postfix_at, grown_at, reader}
 use Rattle.pdl_syntax.specs.StatementTree.{StatementTree, View, bind, bind_list, assign, show, show_text, sever, reshape, vars, pp_def, watch, unwatch}
 use Rattle.pdl_syntax.specs.Statements.{SpellsBrackets, no_brackets, brackets, SpellsNames, one_name, more_names, SpellsViews, no_views, one_view, SpellsText, plain_text, labelled, SpellsCalled, by_word, by_method, SpellsBinding, binds_value, binds_severed, binds_names, SpellsStatement, binds, my_binds, assigns, shows_text, shows, shows_info, severs, reshapes, undefs, lists_names, defines, watches, unwatches}
-use Rattle.pdl_syntax.specs.StatementReading.{after_equals, keyword_at, after_keyword, after_reshape, view_at, slot_at, at_end, is_brackets, begins_word, after_pars, after_code, texts_at, code_at, define_at, undef_at, watch_at, names_at, all_names_at, ended_at, behind_at, valued_at, called_step, called_at, bind_at, bind_list_at, views_at, assignment_at, named_at, binding_at, show_at, statement_at, read_statement}
+use Rattle.pdl_syntax.specs.StatementReading.{at_end, texts_at, code_at, define_at, undef_at, watch_at, names_at, all_names_at, ended_at, behind_at, valued_at, called_step, called_at, bind_at, bind_list_at, views_at, assignment_at, named_at, binding_at, show_at, statement_at, read_statement}
 use Rattle.pdl_syntax.proofs.Turns.{methods_stop, methods_turn}
 use Rattle.pdl_syntax.proofs.Complete.{Ends, ends_nothing, Methods, complete, finished, read_whole, read_postfix, begins, shorter}
 use Rattle.pdl_syntax.proofs.StatementSound.{after_keyword_is, statement_sound}
 use Rattle.pdl_syntax.proofs.Growing.{level_grown, grown_stop}
 
-names_stop : (source : List ℕ) (k : ℕ) (names : List (List ℕ)) (ts : List Lexeme) → after_comma ts ≡ None → names_at source k names ts ≡ Some (names, ts)
+names_stop : (source : List ℕ) (k : ℕ) (names : List (List ℕ)) (ts : List Lexeme) → after Comma ts ≡ None → names_at source k names ts ≡ Some (names, ts)
 unfolding names_at
 names_stop source zero names ts e = refl
 names_stop source (suc k) names ts e = rw e
@@ -63,11 +64,11 @@ module _ (source : List ℕ) where
   names_read : (names : List (List ℕ)) (ts us : List Lexeme) → SpellsNames source [] names ts (Close ∷ us) → all_names_at source ts ≡ Some (names, Close ∷ us)
   names_read names ts us h = let c = names_complete h in c.same ∙ names_stop source c.turns names (Close ∷ us) refl
 
-  text_pars : {text : List ℕ} {ts rest : List Lexeme} → SpellsText source Pars text ts rest → (w : Span) × (quoted_at (after_pars ts) ≡ Some (w, rest)) × (text ≡ bytes_at source w)
+  text_pars : {text : List ℕ} {ts rest : List Lexeme} → SpellsText source Pars text ts rest → (w : Span) × (quoted_at (after_label Pars ts) ≡ Some (w, rest)) × (text ≡ bytes_at source w)
   text_pars (plain_text {w = w}) = (w, refl, refl)
   text_pars (labelled {w = w}) = (w, refl, refl)
 
-  text_code : {text : List ℕ} {ts rest : List Lexeme} → SpellsText source Code text ts rest → (w : Span) × (quoted_at (after_code ts) ≡ Some (w, rest)) × (text ≡ bytes_at source w)
+  text_code : {text : List ℕ} {ts rest : List Lexeme} → SpellsText source Code text ts rest → (w : Span) × (quoted_at (after_label Code ts) ≡ Some (w, rest)) × (text ≡ bytes_at source w)
   text_code (plain_text {w = w}) = (w, refl, refl)
   text_code (labelled {w = w}) = (w, refl, refl)
 
@@ -124,7 +125,7 @@ module _ (lists : ListsAreRead) (source : List ℕ) (n : ℕ) where
           (sym (level_grown source f 7 ts e) ∙ finished lists source 7 t ts [] (complete lists source h) n (omega arith) (ends_nothing 7))
           (λ y g k. ap (option_and_then (behind_at source f word)) g ∙ behind_complete word t y k)
 
-  before_complete : (word : AnyKeyword) (t : Tree) (ts us : List Lexeme) → keyword_at word (Keyword word ∷ us) ≡ Some us → length ts < n →
+  before_complete : (word : AnyKeyword) (t : Tree) (ts us : List Lexeme) → after (Keyword word) (Keyword word ∷ us) ≡ Some us → length ts < n →
       Spells source (a_postfix t) ts (Arrow ∷ Keyword word ∷ us) → SpellsBrackets us → valued_at source f word ts ≡ Some (t, true)
   unfolding valued_at
   before_complete word t ts us found lt h b =
@@ -204,7 +205,7 @@ module _ (lists : ListsAreRead) (source : List ℕ) (n : ℕ) where
 
   -- what no view begins with
   record Viewing (ts : List Lexeme) : Type 0 where
-    equals : after_equals ts ≡ None
+    equals : after Equals ts ≡ None
     severs' : after_keyword Sever ts ≡ None
     reshapes' : after_reshape ts ≡ None
 
@@ -243,7 +244,7 @@ module _ (lists : ListsAreRead) (source : List ℕ) (n : ℕ) where
         enough = omega (arith, c.enough, z);
       }
 
-  views_complete : {front views : List View} {ts rest : List Lexeme} → SpellsViews source front views ts rest → length ts ≤ n → after_open rest ≡ None →
+  views_complete : {front views : List View} {ts rest : List Lexeme} → SpellsViews source front views ts rest → length ts ≤ n → after Open rest ≡ None →
       Views front views ts rest
   views_complete (no_views {rest = rest}) le e = record { turns = length rest; same = refl; enough = omega arith }
   views_complete (one_view {front = front} {views = views} {w = w} {args = args} {ts = ts} {us = us} {rest = rest} h k) le e =

@@ -9,49 +9,30 @@ use Rattle.pdl_lexemes.specs.declared.Lexeme.{Lexeme}
 use Rattle.pdl_lexemes.specs.declared.Lexeme.TheVariants.{Name, Keyword, Word, Number, Quoted, Open, Close, Comma, Equals, Arrow, FatArrow, Assign}
 use Rattle.pdl_lexemes.specs.Bytes.{bytes_at}
 use Rattle.pdl_lexemes.specs.Lists.{signed}
-use Rattle.pdl_lexemes.specs.ListReading.{choose, after_comma}
-use Rattle.pdl_lexemes.specs.Options.{some_inj, none_some, then_elim, map_elim, choose_elim}
+use Rattle.pdl_lexemes.specs.ListReading.{choose}
+use Rattle.pdl_syntax.proofs.Options.{some_inj, none_some, then_elim, map_elim, choose_elim}
 use Rattle.pdl_lexemes.specs.Laws.{ListsAreRead}
+use Rattle.pdl_lexemes.specs.Peeks.{Read, after, after_keyword, after_reshape, after_label, assign_at, begins_word, is_brackets, name_at, prefix_at, quoted_at, slot_at, view_at, view_word}
 use Rattle.pdl_syntax.specs.Tree.{Tree, none, value}
 use Rattle.pdl_syntax.specs.Grammar.{Spells, an_expr, a_postfix, a_primary, closed_args, maybe_args, bare, method, a_number, a_name, list, round_list, called, round}
-use Rattle.pdl_syntax.specs.Reading.{Read, Kind, whole, after_open, after_close, after_arrow, quoted_at, prefix_at, maybe_at, closed_at, primary_at, methods_at, postfix_at, level_at, grown_at, reader}
+use Rattle.pdl_syntax.specs.Reading.{Kind, whole, maybe_at, closed_at, primary_at, methods_at, postfix_at, level_at, grown_at, reader}
 use Rattle.pdl_syntax.specs.StatementTree.{StatementTree, View, bind, bind_list, assign, show, show_text, sever, reshape, undef, vars, watch, unwatch}
 use Rattle.pdl_syntax.specs.Statements.{SpellsBrackets, no_brackets, brackets, SpellsNames, one_name, more_names, SpellsViews, no_views, one_view, SpellsText, plain_text, labelled, SpellsCalled, by_word, by_method, SpellsBinding, binds_value, binds_severed, binds_names, SpellsStatement, binds, my_binds, assigns, shows_text, shows, shows_info, severs, reshapes, undefs, lists_names, defines, watches, unwatches}
-use Rattle.pdl_syntax.specs.StatementReading.{after_equals, keyword_at, after_keyword, after_reshape, name_at, view_word, view_at, assign_at, slot_at, at_end, is_brackets, begins_word, after_pars, after_code, texts_at, code_at, signature_at, define_at, undef_at, watch_at, names_at, all_names_at, ended_at, behind_at, valued_at, called_step, called_at, bind_at, bind_names, bind_list_at, views_at, assign_value, assignment_at, reshape_at, sever_at, named_at, bind_name, binding_at, value_at, show_at, statement_at}
-use Rattle.pdl_syntax.proofs.Peeks.{comma_is, open_is, close_is, arrow_is, quoted_is}
+use Rattle.pdl_syntax.specs.StatementReading.{at_end, texts_at, code_at, signature_at, define_at, undef_at, watch_at, names_at, all_names_at, ended_at, behind_at, valued_at, called_step, called_at, bind_at, bind_names, bind_list_at, views_at, assign_value, assignment_at, reshape_at, sever_at, named_at, bind_name, binding_at, value_at, show_at, statement_at}
+use Rattle.pdl_syntax.proofs.Peeks.{after_is, quoted_is}
 use Rattle.pdl_syntax.proofs.Sound.{closed_sound, maybe_sound, primary_sound, methods_sound, postfix_sound, level_sound, reader_sound_expr}
 use Rattle.pdl_syntax.proofs.Growing.{level_grown}
 use Rattle.pdl_syntax.proofs.Complete.{complete}
 
-equals_is : (ts : List Lexeme) {us : List Lexeme} → after_equals ts ≡ Some us → ts ≡ Equals ∷ us
-equals_is [] e = absurd (none_some e)
-equals_is (Equals ∷ ts) e = ap (λ x. Equals ∷ x) (some_inj e)
-equals_is (_ ∷ ts) e = absurd (none_some e)
-
-keyword_is : (word : AnyKeyword) (ts : List Lexeme) {us : List Lexeme} → keyword_at word ts ≡ Some us → ts ≡ Keyword word ∷ us
-keyword_is Sever [] e = absurd (none_some e)
-keyword_is Sever (Keyword Sever ∷ ts) e = ap (λ x. Keyword Sever ∷ x) (some_inj e)
-keyword_is Sever (Keyword _ ∷ ts) e = absurd (none_some e)
-keyword_is Sever (_ ∷ ts) e = absurd (none_some e)
-keyword_is Info [] e = absurd (none_some e)
-keyword_is Info (Keyword Info ∷ ts) e = ap (λ x. Keyword Info ∷ x) (some_inj e)
-keyword_is Info (Keyword _ ∷ ts) e = absurd (none_some e)
-keyword_is Info (_ ∷ ts) e = absurd (none_some e)
-keyword_is Reshape [] e = absurd (none_some e)
-keyword_is Reshape (Keyword Reshape ∷ ts) e = ap (λ x. Keyword Reshape ∷ x) (some_inj e)
-keyword_is Reshape (Keyword _ ∷ ts) e = absurd (none_some e)
-keyword_is Reshape (_ ∷ ts) e = absurd (none_some e)
-keyword_is _ ts e = absurd (none_some e)
-
 pub after_keyword_is : (word : AnyKeyword) (ts : List Lexeme) {us : List Lexeme} → after_keyword word ts ≡ Some us → ts ≡ Arrow ∷ Keyword word ∷ us
 after_keyword_is word ts {us = us} e =
-    then_elim (ts ≡ Arrow ∷ Keyword word ∷ us) (keyword_at word) (after_arrow ts) e
-    (λ vs h k. arrow_is ts h ∙ ap (λ x. Arrow ∷ x) (keyword_is word vs k))
+    then_elim (ts ≡ Arrow ∷ Keyword word ∷ us) (after (Keyword word)) (after Arrow ts) e
+    (λ vs h k. after_is Arrow ts h ∙ ap (λ x. Arrow ∷ x) (after_is (Keyword word) vs k))
 
 reshape_is : (ts : List Lexeme) {us : List Lexeme} → after_reshape ts ≡ Some us → ts ≡ Arrow ∷ Keyword Reshape ∷ Open ∷ us
 reshape_is ts {us = us} e =
-    then_elim (ts ≡ Arrow ∷ Keyword Reshape ∷ Open ∷ us) after_open (after_keyword Reshape ts) e
-    (λ ws g k. after_keyword_is Reshape ts g ∙ ap (λ x. Arrow ∷ Keyword Reshape ∷ x) (open_is ws k))
+    then_elim (ts ≡ Arrow ∷ Keyword Reshape ∷ Open ∷ us) (after Open) (after_keyword Reshape ts) e
+    (λ ws g k. after_keyword_is Reshape ts g ∙ ap (λ x. Arrow ∷ Keyword Reshape ∷ x) (after_is Open ws k))
 
 name_is : (ts : List Lexeme) (x : Span × List Lexeme) → name_at ts ≡ Some x → ts ≡ Name x.0 ∷ x.1
 name_is [] x e = absurd (none_some e)
@@ -66,8 +47,8 @@ view_word_is (_ ∷ ts) x e = absurd (none_some e)
 
 view_is : (ts : List Lexeme) (x : Span × List Lexeme) → view_at ts ≡ Some x → ts ≡ Arrow ∷ Word IsView x.0 ∷ x.1
 view_is ts x e =
-    then_elim (ts ≡ Arrow ∷ Word IsView x.0 ∷ x.1) view_word (after_arrow ts) e
-    (λ vs h k. arrow_is ts h ∙ ap (λ y. Arrow ∷ y) (view_word_is vs x k))
+    then_elim (ts ≡ Arrow ∷ Word IsView x.0 ∷ x.1) view_word (after Arrow ts) e
+    (λ vs h k. after_is Arrow ts h ∙ ap (λ y. Arrow ∷ y) (view_word_is vs x k))
 
 assign_is : (ts : List Lexeme) (x : AssignOp × List Lexeme) → assign_at ts ≡ Some x → ts ≡ Assign x.0 ∷ x.1
 assign_is [] x e = absurd (none_some e)
@@ -109,17 +90,17 @@ brackets_are (Open ∷ _ ∷ ts) e = absurd (true≢false (sym e))
 brackets_are (_ ∷ ts) e = absurd (true≢false (sym e))
 
 -- a string is read behind its label, if one stands there
-pars_text : (source : List ℕ) (ts : List Lexeme) (x : Span × List Lexeme) → quoted_at (after_pars ts) ≡ Some x → SpellsText source Pars (bytes_at source x.0) ts x.1
-pars_text source ts x e = of_front ts (quoted_is (after_pars ts) x e)
+pars_text : (source : List ℕ) (ts : List Lexeme) (x : Span × List Lexeme) → quoted_at (after_label Pars ts) ≡ Some x → SpellsText source Pars (bytes_at source x.0) ts x.1
+pars_text source ts x e = of_front ts (quoted_is (after_label Pars ts) x e)
   where
-    of_front : (us : List Lexeme) → after_pars us ≡ Quoted x.0 ∷ x.1 → SpellsText source Pars (bytes_at source x.0) us x.1
+    of_front : (us : List Lexeme) → after_label Pars us ≡ Quoted x.0 ∷ x.1 → SpellsText source Pars (bytes_at source x.0) us x.1
     of_front (Word Pars v ∷ FatArrow ∷ us) h = subst (λ vs. SpellsText source Pars (bytes_at source x.0) (Word Pars v ∷ FatArrow ∷ vs) x.1) (sym h) labelled
     of_front us h = subst (λ vs. SpellsText source Pars (bytes_at source x.0) vs x.1) (sym h) plain_text
 
-code_text : (source : List ℕ) (ts : List Lexeme) (x : Span × List Lexeme) → quoted_at (after_code ts) ≡ Some x → SpellsText source Code (bytes_at source x.0) ts x.1
-code_text source ts x e = of_front ts (quoted_is (after_code ts) x e)
+code_text : (source : List ℕ) (ts : List Lexeme) (x : Span × List Lexeme) → quoted_at (after_label Code ts) ≡ Some x → SpellsText source Code (bytes_at source x.0) ts x.1
+code_text source ts x e = of_front ts (quoted_is (after_label Code ts) x e)
   where
-    of_front : (us : List Lexeme) → after_code us ≡ Quoted x.0 ∷ x.1 → SpellsText source Code (bytes_at source x.0) us x.1
+    of_front : (us : List Lexeme) → after_label Code us ≡ Quoted x.0 ∷ x.1 → SpellsText source Code (bytes_at source x.0) us x.1
     of_front (Word Code v ∷ FatArrow ∷ us) h = subst (λ vs. SpellsText source Code (bytes_at source x.0) (Word Code v ∷ FatArrow ∷ vs) x.1) (sym h) labelled
     of_front us h = subst (λ vs. SpellsText source Code (bytes_at source x.0) vs x.1) (sym h) plain_text
 
@@ -132,28 +113,28 @@ module _ (source : List ℕ) where
       Stated (Keyword PpDef ∷ Open ∷ Quoted name ∷ Comma ∷ front) s
   code_sound name signature ts front s e sig =
       then_elim (Stated (Keyword PpDef ∷ Open ∷ Quoted name ∷ Comma ∷ front) s)
-      (λ c. option_and_then (at_end (texts_at source name signature c.0)) (after_close c.1)) (quoted_at (after_code ts)) e
-      (λ c h k. then_elim (Stated (Keyword PpDef ∷ Open ∷ Quoted name ∷ Comma ∷ front) s) (at_end (texts_at source name signature c.0)) (after_close c.1) k
+      (λ c. option_and_then (at_end (texts_at source name signature c.0)) (after Close c.1)) (quoted_at (after_label Code ts)) e
+      (λ c h k. then_elim (Stated (Keyword PpDef ∷ Open ∷ Quoted name ∷ Comma ∷ front) s) (at_end (texts_at source name signature c.0)) (after Close c.1) k
       (λ us l m. let end = end_is (texts_at source name signature c.0) us m in
       subst (Stated (Keyword PpDef ∷ Open ∷ Quoted name ∷ Comma ∷ front)) end.same
-      (defines sig (subst (SpellsText source Code (bytes_at source c.0) ts) (close_is c.1 l ∙ ap (λ x. Close ∷ x) end.empty) (code_text source ts c h)))))
+      (defines sig (subst (SpellsText source Code (bytes_at source c.0) ts) (after_is Close c.1 l ∙ ap (λ x. Close ∷ x) end.empty) (code_text source ts c h)))))
 
   signature_sound : (name : Span) (ts : List Lexeme) (s : StatementTree) → signature_at source name ts ≡ Some s →
       Stated (Keyword PpDef ∷ Open ∷ Quoted name ∷ Comma ∷ ts) s
   signature_sound name ts s e =
       then_elim (Stated (Keyword PpDef ∷ Open ∷ Quoted name ∷ Comma ∷ ts) s)
-      (λ c. option_and_then (code_at source name c.0) (after_comma c.1)) (quoted_at (after_pars ts)) e
-      (λ c h k. then_elim (Stated (Keyword PpDef ∷ Open ∷ Quoted name ∷ Comma ∷ ts) s) (code_at source name c.0) (after_comma c.1) k
-      (λ us l m. code_sound name c.0 us ts s m (subst (SpellsText source Pars (bytes_at source c.0) ts) (comma_is c.1 l) (pars_text source ts c h))))
+      (λ c. option_and_then (code_at source name c.0) (after Comma c.1)) (quoted_at (after_label Pars ts)) e
+      (λ c h k. then_elim (Stated (Keyword PpDef ∷ Open ∷ Quoted name ∷ Comma ∷ ts) s) (code_at source name c.0) (after Comma c.1) k
+      (λ us l m. code_sound name c.0 us ts s m (subst (SpellsText source Pars (bytes_at source c.0) ts) (after_is Comma c.1 l) (pars_text source ts c h))))
 
   define_sound : (ts : List Lexeme) (s : StatementTree) → define_at source ts ≡ Some s → Stated (Keyword PpDef ∷ ts) s
   define_sound ts s e =
       then_elim (Stated (Keyword PpDef ∷ ts) s)
-      (λ us. option_and_then (λ n. option_and_then (signature_at source n.0) (after_comma n.1)) (quoted_at us)) (after_open ts) e
-      (λ us h k. then_elim (Stated (Keyword PpDef ∷ ts) s) (λ n. option_and_then (signature_at source n.0) (after_comma n.1)) (quoted_at us) k
-      (λ n l m. then_elim (Stated (Keyword PpDef ∷ ts) s) (signature_at source n.0) (after_comma n.1) m
+      (λ us. option_and_then (λ n. option_and_then (signature_at source n.0) (after Comma n.1)) (quoted_at us)) (after Open ts) e
+      (λ us h k. then_elim (Stated (Keyword PpDef ∷ ts) s) (λ n. option_and_then (signature_at source n.0) (after Comma n.1)) (quoted_at us) k
+      (λ n l m. then_elim (Stated (Keyword PpDef ∷ ts) s) (signature_at source n.0) (after Comma n.1) m
       (λ vs c d. subst (λ xs. Stated (Keyword PpDef ∷ xs) s)
-      (sym (open_is ts h ∙ ap (λ x. Open ∷ x) (quoted_is us n l ∙ ap (λ x. Quoted n.0 ∷ x) (comma_is n.1 c))))
+      (sym (after_is Open ts h ∙ ap (λ x. Open ∷ x) (quoted_is us n l ∙ ap (λ x. Quoted n.0 ∷ x) (after_is Comma n.1 c))))
       (signature_sound n.0 vs s d))))
 
   undef_sound : (ts : List Lexeme) (s : StatementTree) → undef_at source ts ≡ Some s → Stated (Keyword Undef ∷ ts) s
@@ -166,13 +147,13 @@ module _ (source : List ℕ) where
   watch_sound : (ts : List Lexeme) (s : StatementTree) → watch_at source ts ≡ Some s → Stated (Keyword Watch ∷ ts) s
   watch_sound ts s e =
       then_elim (Stated (Keyword Watch ∷ ts) s)
-      (λ x. option_and_then (λ us. option_map (watch (bytes_at source x.0)) (slot_at us)) (after_comma x.1)) (name_at ts) e
-      (λ x h k. then_elim (Stated (Keyword Watch ∷ ts) s) (λ us. option_map (watch (bytes_at source x.0)) (slot_at us)) (after_comma x.1) k
+      (λ x. option_and_then (λ us. option_map (watch (bytes_at source x.0)) (slot_at us)) (after Comma x.1)) (name_at ts) e
+      (λ x h k. then_elim (Stated (Keyword Watch ∷ ts) s) (λ us. option_map (watch (bytes_at source x.0)) (slot_at us)) (after Comma x.1) k
       (λ us l m. map_elim (Stated (Keyword Watch ∷ ts) s) (watch (bytes_at source x.0)) (slot_at us) m
       (λ n c same. let slot = slot_is us c in
       subst (Stated (Keyword Watch ∷ ts)) same
       (subst (λ vs. Stated (Keyword Watch ∷ vs) (watch (bytes_at source x.0) n))
-      (sym (name_is ts x h ∙ ap (λ v. Name x.0 ∷ v) (comma_is x.1 l ∙ ap (λ v. Comma ∷ v) slot.is))) (watches slot.fits)))))
+      (sym (name_is ts x h ∙ ap (λ v. Name x.0 ∷ v) (after_is Comma x.1 l ∙ ap (λ v. Comma ∷ v) slot.is))) (watches slot.fits)))))
 
   unwatch_sound : (ts : List Lexeme) (s : StatementTree) → option_map unwatch (slot_at ts) ≡ Some s → Stated (Keyword Unwatch ∷ ts) s
   unwatch_sound ts s e =
@@ -189,11 +170,11 @@ module _ (source : List ℕ) where
   names_sound zero names us ts x e h = subst (Named ts) (some_inj e) h
   names_sound (suc k) names us ts x e h =
       choose_elim (Named ts x) (Some (names, us))
-      (λ vs. option_and_then (λ y. names_at source k (names ++ bytes_at source y.0 ∷ []) y.1) (name_at vs)) (after_comma us) e
+      (λ vs. option_and_then (λ y. names_at source k (names ++ bytes_at source y.0 ∷ []) y.1) (name_at vs)) (after Comma us) e
       (λ c d. subst (Named ts) (some_inj d) h)
       (λ vs c d. then_elim (Named ts x) (λ y. names_at source k (names ++ bytes_at source y.0 ∷ []) y.1) (name_at vs) d
       (λ y m r. names_sound k (names ++ bytes_at source y.0 ∷ []) y.1 ts x r
-      (more_names (subst (SpellsNames source [] names ts) (comma_is us c ∙ ap (λ v. Comma ∷ v) (name_is vs y m)) h))))
+      (more_names (subst (SpellsNames source [] names ts) (after_is Comma us c ∙ ap (λ v. Comma ∷ v) (name_is vs y m)) h))))
 
   all_names_sound : (ts : List Lexeme) (x : List (List ℕ) × List Lexeme) → all_names_at source ts ≡ Some x → Named ts x
   all_names_sound ts x e =
@@ -306,11 +287,11 @@ module _ (lists : ListsAreRead) (source : List ℕ) (n : ℕ) where
   unfolding bind_list_at
   bind_list_sound ts s le e =
       then_elim (SpellsBinding source s (Open ∷ ts)) (bind_names source f) (all_names_at source ts) e
-      (λ x h k. then_elim (SpellsBinding source s (Open ∷ ts)) (λ us. option_map (bind_list x.0) (called_at source f us)) (option_and_then after_equals (after_close x.1)) k
-      (λ us l m. then_elim (SpellsBinding source s (Open ∷ ts)) after_equals (after_close x.1) l
+      (λ x h k. then_elim (SpellsBinding source s (Open ∷ ts)) (λ us. option_map (bind_list x.0) (called_at source f us)) (option_and_then (after Equals) (after Close x.1)) k
+      (λ us l m. then_elim (SpellsBinding source s (Open ∷ ts)) (after Equals) (after Close x.1) l
       (λ vs c d. map_elim (SpellsBinding source s (Open ∷ ts)) (bind_list x.0) (called_at source f us) m
       (λ t g same. subst (λ u. SpellsBinding source u (Open ∷ ts)) same
-      (let is : x.1 ≡ Close ∷ Equals ∷ us = close_is x.1 c ∙ ap (λ v. Close ∷ v) (equals_is vs d) in
+      (let is : x.1 ≡ Close ∷ Equals ∷ us = after_is Close x.1 c ∙ ap (λ v. Close ∷ v) (after_is Equals vs d) in
       let spelled = subst (SpellsNames source [] x.0 ts) is (all_names_sound source ts x h) in
       binds_names spelled (called_sound us t (omega (arith, names_shorter spelled)) g))))))
     where
@@ -356,7 +337,7 @@ module _ (lists : ListsAreRead) (source : List ℕ) (n : ℕ) where
       let name = bytes_at source w in
       choose_elim (Stated source (Name w ∷ ts) s)
       (choose (choose (assignment_at source f name ts) (reshape_at source f name) (after_reshape ts)) (sever_at name) (after_keyword Sever ts))
-      (bind_at source f name) (after_equals ts) e
+      (bind_at source f name) (after Equals ts) e
       (λ no' h. choose_elim (Stated source (Name w ∷ ts) s) (choose (assignment_at source f name ts) (reshape_at source f name) (after_reshape ts)) (sever_at name) (after_keyword Sever ts) h
       (λ no'' k. choose_elim (Stated source (Name w ∷ ts) s) (assignment_at source f name ts) (reshape_at source f name) (after_reshape ts) k
       (λ no''' l. assignment_sound w ts s l)
@@ -364,16 +345,16 @@ module _ (lists : ListsAreRead) (source : List ℕ) (n : ℕ) where
       (λ us k l. test_elim (Stated source (Name w ∷ ts) s) (is_brackets us) (Some (sever name)) l
       (λ test same. subst (λ vs. Stated source (Name w ∷ vs) s) (sym (after_keyword_is Sever ts k))
       (subst (Stated source (Name w ∷ Arrow ∷ Keyword Sever ∷ us)) (some_inj same) (severs (brackets_are us test))))))
-      (λ us h k. subst (λ vs. Stated source (Name w ∷ vs) s) (sym (equals_is ts h)) (binds (bind_sound w us s k)))
+      (λ us h k. subst (λ vs. Stated source (Name w ∷ vs) s) (sym (after_is Equals ts h)) (binds (bind_sound w us s k)))
 
   binding_sound : (ts : List Lexeme) (s : StatementTree) → length ts ≤ n → binding_at source f ts ≡ Some s → SpellsBinding source s ts
   unfolding binding_at
   binding_sound ts s le e =
-      choose_elim (SpellsBinding source s ts) (option_and_then (bind_name source f) (name_at ts)) (bind_list_at source f) (after_open ts) e
+      choose_elim (SpellsBinding source s ts) (option_and_then (bind_name source f) (name_at ts)) (bind_list_at source f) (after Open ts) e
       (λ no' h. then_elim (SpellsBinding source s ts) (bind_name source f) (name_at ts) h
-      (λ x k l. then_elim (SpellsBinding source s ts) (bind_at source f (bytes_at source x.0)) (after_equals x.1) l
-      (λ us c d. subst (SpellsBinding source s) (sym (name_is ts x k ∙ ap (λ v. Name x.0 ∷ v) (equals_is x.1 c))) (bind_sound x.0 us s d))))
-      (λ us h k. subst (SpellsBinding source s) (sym (open_is ts h)) (bind_list_sound us s (omega (arith, ap length (open_is ts h))) k))
+      (λ x k l. then_elim (SpellsBinding source s ts) (bind_at source f (bytes_at source x.0)) (after Equals x.1) l
+      (λ us c d. subst (SpellsBinding source s) (sym (name_is ts x k ∙ ap (λ v. Name x.0 ∷ v) (after_is Equals x.1 c))) (bind_sound x.0 us s d))))
+      (λ us h k. subst (SpellsBinding source s) (sym (after_is Open ts h)) (bind_list_sound us s (omega (arith, ap length (after_is Open ts h))) k))
 
   shown_as : (ts : List Lexeme) (t : Tree) (info : Bool) → Valued Info ts t info → Stated source (Keyword Print ∷ ts) (show t info)
   shown_as ts t false h = shows h

@@ -5,23 +5,24 @@ use Rattle.pdl_lexemes.specs.declared.Span.{Span}
 use Rattle.pdl_lexemes.specs.Bytes.{bytes_at}
 use Rattle.pdl_lexemes.specs.declared.refusal.Refusal.{Refusal}
 use Rattle.pdl_lexemes.specs.declared.refusal.Refusal.TheVariants.{Refused, NoMemory}
-use Rattle.pdl_lexemes.specs.ListReading.{after_comma}
+use Rattle.pdl_lexemes.specs.declared.Lexeme.TheVariants.{Comma}
+use Rattle.pdl_lexemes.specs.Peeks.{Read, after, name_at, view_at}
 use Rattle.pdl_syntax.specs.Tree.{Tree, Args, none}
-use Rattle.pdl_syntax.specs.Reading.{Read, Kind, maybe_at}
+use Rattle.pdl_syntax.specs.Reading.{Kind, maybe_at}
 use Rattle.pdl_syntax.specs.StatementTree.{View}
-use Rattle.pdl_syntax.specs.StatementReading.{name_at, view_at, names_at, views_at}
+use Rattle.pdl_syntax.specs.StatementReading.{names_at, views_at}
 
-pub names_stop_at : (source : List ℕ) (k : ℕ) (names : List (List ℕ)) (ts : List Lexeme) → after_comma ts ≡ None → names_at source k names ts ≡ Some (names, ts)
+pub names_stop_at : (source : List ℕ) (k : ℕ) (names : List (List ℕ)) (ts : List Lexeme) → after Comma ts ≡ None → names_at source k names ts ≡ Some (names, ts)
 unfolding names_at
 names_stop_at source zero names ts e = refl
 names_stop_at source (suc k) names ts e = rw e
 
-pub names_next : (source : List ℕ) (k : ℕ) (names : List (List ℕ)) (ts us rest : List Lexeme) (w : Span) → after_comma ts ≡ Some us → name_at us ≡ Some (w, rest) →
+pub names_next : (source : List ℕ) (k : ℕ) (names : List (List ℕ)) (ts us rest : List Lexeme) (w : Span) → after Comma ts ≡ Some us → name_at us ≡ Some (w, rest) →
     names_at source (suc k) names ts ≡ names_at source k (names ++ bytes_at source w ∷ []) rest
 unfolding names_at
 names_next source k names ts us rest w e h = rw e (rw h)
 
-pub names_fail : (source : List ℕ) (k : ℕ) (names : List (List ℕ)) (ts us : List Lexeme) → after_comma ts ≡ Some us → name_at us ≡ None →
+pub names_fail : (source : List ℕ) (k : ℕ) (names : List (List ℕ)) (ts us : List Lexeme) → after Comma ts ≡ Some us → name_at us ≡ None →
     names_at source (suc k) names ts ≡ None
 unfolding names_at
 names_fail source k names ts us e h = rw e (rw h)

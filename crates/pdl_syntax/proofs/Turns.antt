@@ -4,9 +4,10 @@ use Rattle.pdl_elem.specs.declared.BinaryOp.{BinaryOp}
 use Rattle.pdl_lexemes.specs.declared.Lexeme.{Lexeme}
 use Rattle.pdl_lexemes.specs.declared.Span.{Span}
 use Rattle.pdl_lexemes.specs.Bytes.{bytes_at}
-use Rattle.pdl_lexemes.specs.ListReading.{after_comma}
+use Rattle.pdl_lexemes.specs.declared.Lexeme.TheVariants.{Comma}
+use Rattle.pdl_lexemes.specs.Peeks.{Read, after, method_at}
 use Rattle.pdl_syntax.specs.Tree.{Tree, Args, binary, call, value, none}
-use Rattle.pdl_syntax.specs.Reading.{Read, Kind, operator_at, method_at, chain_at, methods_at, more_at, maybe_at, arg_at, level_at, grown_at, limit_of}
+use Rattle.pdl_syntax.specs.Reading.{Kind, operator_at, chain_at, methods_at, more_at, maybe_at, arg_at, level_at, grown_at, limit_of}
 
 pub one_less : (e c : ℕ) → c < e → e - c ≡ suc (e - (c + 1))
 one_less e c h = omega arith
@@ -44,13 +45,13 @@ module _ (source : List ℕ) (f : Kind → List Lexeme → Read Tree) where
   unfolding methods_at
   methods_turn k t ts us rest w args e h = rw e (rw h)
 
-  pub more_stop : (k : ℕ) (args : Args) (ts : List Lexeme) → after_comma ts ≡ None → more_at source f k args ts ≡ Some (args, ts)
+  pub more_stop : (k : ℕ) (args : Args) (ts : List Lexeme) → after Comma ts ≡ None → more_at source f k args ts ≡ Some (args, ts)
   unfolding more_at
   more_stop zero args ts e = refl
   more_stop (suc k) args ts e = rw e
 
   pub more_turn : (k : ℕ) (args args' : Args) (ts us rest : List Lexeme) →
-      after_comma ts ≡ Some us → arg_at source f args us ≡ Some (args', rest) →
+      after Comma ts ≡ Some us → arg_at source f args us ≡ Some (args', rest) →
       more_at source f (suc k) args ts ≡ more_at source f k args' rest
   unfolding more_at
   more_turn k args args' ts us rest e h = rw e (rw h)

@@ -5,6 +5,7 @@ pub mod Reading
 pub mod StatementTree
 pub mod Statements
 pub mod StatementReading
+pub mod Readers
 pub mod Ragged
 pub mod Refusals
 pub mod WellMade

@@ -1,39 +1,16 @@
 -- How an expression is read: the one way in which its lexemes spell it, if there is one.
-use Rattle.std.specs.Prelude.{ℕ, zero, suc, ℤ, nat_eq, nat_le, Bool, false, List, [], ◌∷◌, length, Option, Some, None, option_map, option_and_then, if◌then◌else◌}
+use Rattle.std.specs.Prelude.{ℕ, zero, suc, ℤ, nat_eq, nat_le, Bool, false, List, [], ◌∷◌, length, Some, None, option_map, option_and_then, if◌then◌else◌}
 use Rattle.pdl_elem.specs.declared.BinaryOp.{BinaryOp}
-use Rattle.pdl_elem.specs.declared.BinaryOp.TheVariants.{Sub}
-use Rattle.pdl_elem.specs.declared.UnaryOp.{UnaryOp}
-use Rattle.pdl_elem.specs.declared.UnaryOp.TheVariants.{Neg}
-use Rattle.pdl_elem.specs.declared.Ty.{Ty}
 use Rattle.pdl_lexemes.specs.declared.Span.{Span}
-use Rattle.pdl_lexemes.specs.declared.WordKind.TheVariants.{OfType}
 use Rattle.pdl_lexemes.specs.declared.Keyword.TheVariants.{Pdl}
 use Rattle.pdl_lexemes.specs.declared.Lexeme.{Lexeme}
-use Rattle.pdl_lexemes.specs.declared.Lexeme.TheVariants.{Name, Keyword, Word, Number, Quoted, Open, Close, Arrow, Operator, Prefix}
+use Rattle.pdl_lexemes.specs.declared.Lexeme.TheVariants.{Name, Keyword, Word, Number, Open, Close, Operator, Comma}
 use Rattle.pdl_lexemes.specs.Bytes.{bytes_at}
 use Rattle.pdl_lexemes.specs.Lists.{signed}
-use Rattle.pdl_lexemes.specs.ListReading.{choose, list_read, after_comma, Part as ListPart}
+use Rattle.pdl_lexemes.specs.ListReading.{choose, list_read, Part as ListPart}
+use Rattle.pdl_lexemes.specs.Peeks.{Read, after, prefix_at, method_at, type_at, quoted_at}
 use Rattle.pdl_syntax.specs.Tree.{Tree, Args, number, named, unary, binary, call, none, value, text, of_type}
 use Rattle.pdl_syntax.specs.Grammar.{level_of, many, literal_of}
-
--- what is read from the front, and what follows it
-abbrev pub Read : Type 0 → Type 0
-Read A = Option (A × List Lexeme)
-
--- what follows a bracket
-abbrev pub after_open : List Lexeme → Option (List Lexeme)
-after_open (Open ∷ ts) = Some ts
-after_open _ = None
-
-abbrev pub after_close : List Lexeme → Option (List Lexeme)
-after_close (Close ∷ ts) = Some ts
-after_close _ = None
-
--- a prefix operator
-abbrev pub prefix_at : List Lexeme → Read UnaryOp
-prefix_at (Prefix op ∷ ts) = Some (op, ts)
-prefix_at (Operator Sub ∷ ts) = Some (Neg, ts)
-prefix_at _ = None
 
 -- an operator of a level
 abbrev pub operator_at : ℕ → List Lexeme → Read BinaryOp
@@ -49,40 +26,15 @@ begins_operator l _ = false
 abbrev pub limit_of : ℕ → List Lexeme → ℕ
 limit_of l ts = if many l then length ts else 1
 
--- a word behind an arrow
-abbrev pub word_at : List Lexeme → Read Span
-word_at (Word kind w ∷ ts) = Some (w, ts)
-word_at _ = None
-
-abbrev pub after_arrow : List Lexeme → Option (List Lexeme)
-after_arrow (Arrow ∷ ts) = Some ts
-after_arrow _ = None
-
-abbrev pub method_at : List Lexeme → Read Span
-method_at ts = option_and_then word_at (after_arrow ts)
-
--- an argument that is a string, or a type word that calls nothing
-abbrev pub type_step : Ty → List Lexeme → Option (List Lexeme) → Read Ty
-type_step ty ts None = Some (ty, ts)
-type_step ty ts (Some us) = None
-
-abbrev pub type_at : List Lexeme → Read Ty
-type_at (Word (OfType ty) w ∷ ts) = type_step ty ts (after_open ts)
-type_at _ = None
-
-abbrev pub quoted_at : List Lexeme → Read Span
-quoted_at (Quoted w ∷ ts) = Some (w, ts)
-quoted_at _ = None
-
 -- a list literal behind `pdl`
 abbrev pub tree_of_list : ListPart → Tree
 tree_of_list p = literal_of p.shape p.elems
 
 abbrev pub round_list_at : List Lexeme → Read Tree
-round_list_at ts = option_and_then (λ p. option_map (λ us. (tree_of_list p, us)) (after_close p.rest)) (list_read ts)
+round_list_at ts = option_and_then (λ p. option_map (λ us. (tree_of_list p, us)) (after Close p.rest)) (list_read ts)
 
 abbrev pub literal_at : List Lexeme → Read Tree
-literal_at ts = choose (option_map (λ p. (tree_of_list p, p.rest)) (list_read ts)) round_list_at (after_open ts)
+literal_at ts = choose (option_map (λ p. (tree_of_list p, p.rest)) (list_read ts)) round_list_at (after Open ts)
 
 -- a number's value, with what follows it
 abbrev pub number_before : List Lexeme → ℤ → Tree × List Lexeme
@@ -116,27 +68,27 @@ module _ (source : List ℕ) (f : Kind → List Lexeme → Read Tree) where
   unfoldable pub more_at : ℕ → Args → List Lexeme → Read Args
   more_at zero args ts = Some (args, ts)
   more_at (suc k) args ts =
-      choose (Some (args, ts)) (λ us. option_and_then (λ x. more_at k x.0 x.1) (arg_at args us)) (after_comma ts)
+      choose (Some (args, ts)) (λ us. option_and_then (λ x. more_at k x.0 x.1) (arg_at args us)) (after Comma ts)
 
   abbrev pub close_at : Args × List Lexeme → Read Args
-  close_at x = option_map (λ us. (x.0, us)) (after_close x.1)
+  close_at x = option_map (λ us. (x.0, us)) (after Close x.1)
 
   abbrev pub filled_at : Args → List Lexeme → Read Args
   filled_at front ts = option_and_then (λ x. option_and_then close_at (more_at (length x.1) x.0 x.1)) (arg_at front ts)
 
   -- what stands behind an opening bracket
   unfoldable pub closed_at : Args → List Lexeme → Read Args
-  closed_at front ts = choose (filled_at front ts) (λ us. Some (front, us)) (after_close ts)
+  closed_at front ts = choose (filled_at front ts) (λ us. Some (front, us)) (after Close ts)
 
   -- arguments in brackets, or none
   unfoldable pub maybe_at : Args → List Lexeme → Read Args
-  maybe_at front ts = choose (Some (front, ts)) (closed_at front) (after_open ts)
+  maybe_at front ts = choose (Some (front, ts)) (closed_at front) (after Open ts)
 
   abbrev pub round_at : List Lexeme → Read Tree
-  round_at ts = option_and_then (λ x. option_map (λ us. (x.0, us)) (after_close x.1)) (f whole ts)
+  round_at ts = option_and_then (λ x. option_map (λ us. (x.0, us)) (after Close x.1)) (f whole ts)
 
   abbrev pub call_at : Span → List Lexeme → Read Tree
-  call_at w ts = option_and_then (λ us. option_map (λ x. (call (bytes_at source w) x.0, x.1)) (closed_at none us)) (after_open ts)
+  call_at w ts = option_and_then (λ us. option_map (λ x. (call (bytes_at source w) x.0, x.1)) (closed_at none us)) (after Open ts)
 
   unfoldable pub primary_at : List Lexeme → Read Tree
   primary_at [] = None

@@ -1,85 +1,26 @@
 -- How a statement is read: the one way in which its lexemes spell it, if there is one.
 use Rattle.std.specs.Prelude.{ℕ, zero, suc, nat_lt, List, [], ◌∷◌, ◌++◌, length, Bool, true, false, ◌||◌, Option, Some, None, option_map, option_and_then, if◌then◌else◌}
-use Rattle.pdl_lexemes.specs.declared.AssignOp.{AssignOp}
 use Rattle.pdl_lexemes.specs.declared.Span.{Span}
-use Rattle.pdl_lexemes.specs.declared.WordKind.TheVariants.{View as IsView, Pars, Code}
+use Rattle.pdl_lexemes.specs.declared.WordKind.TheVariants.{Pars, Code}
 use Rattle.pdl_lexemes.specs.declared.Keyword.{Keyword as AnyKeyword}
-use Rattle.pdl_lexemes.specs.declared.Keyword.TheVariants.{My, Print, Undef, Vars, PpDef, Watch, Unwatch, Info, Sever, Reshape}
+use Rattle.pdl_lexemes.specs.declared.Keyword.TheVariants.{My, Print, Undef, Vars, PpDef, Watch, Unwatch, Info, Sever}
 use Rattle.pdl_lexemes.specs.declared.Lexeme.{Lexeme}
-use Rattle.pdl_lexemes.specs.declared.Lexeme.TheVariants.{Name, Keyword, Word, Number, Open, Close, Equals, FatArrow, Assign}
+use Rattle.pdl_lexemes.specs.declared.Lexeme.TheVariants.{Name, Keyword, Open, Close, Equals, Comma}
 use Rattle.pdl_lexemes.specs.Bytes.{bytes_at}
-use Rattle.pdl_lexemes.specs.Lists.{signed}
-use Rattle.pdl_lexemes.specs.ListReading.{choose, after_comma}
+use Rattle.pdl_lexemes.specs.ListReading.{choose}
+use Rattle.pdl_lexemes.specs.Peeks.{Read, after, after_keyword, after_reshape, after_names, after_label, prefix_at, quoted_at, name_at, view_at, assign_at, slot_at, is_brackets, begins_word}
 use Rattle.pdl_syntax.specs.Tree.{Tree, none}
-use Rattle.pdl_syntax.specs.Reading.{Read, Kind, whole, after_open, after_close, after_arrow, prefix_at, quoted_at, maybe_at, closed_at, primary_at, methods_at, postfix_at, grown_at, reader}
+use Rattle.pdl_syntax.specs.Reading.{Kind, whole, maybe_at, closed_at, primary_at, methods_at, postfix_at, grown_at, reader}
 use Rattle.pdl_syntax.specs.StatementTree.{StatementTree, View, bind, bind_list, assign, show, show_text, sever, reshape, undef, vars, pp_def, watch, unwatch}
-
--- what follows a sign or a word
-abbrev pub after_equals : List Lexeme → Option (List Lexeme)
-after_equals (Equals ∷ ts) = Some ts
-after_equals _ = None
-
--- what follows an arrow and a word that no call has
-abbrev pub keyword_at : AnyKeyword → List Lexeme → Option (List Lexeme)
-keyword_at Sever (Keyword Sever ∷ ts) = Some ts
-keyword_at Info (Keyword Info ∷ ts) = Some ts
-keyword_at Reshape (Keyword Reshape ∷ ts) = Some ts
-keyword_at _ _ = None
-
-abbrev pub after_keyword : AnyKeyword → List Lexeme → Option (List Lexeme)
-after_keyword word ts = option_and_then (keyword_at word) (after_arrow ts)
-
-abbrev pub after_reshape : List Lexeme → Option (List Lexeme)
-after_reshape ts = option_and_then after_open (after_keyword Reshape ts)
-
-abbrev pub name_at : List Lexeme → Read Span
-name_at (Name w ∷ ts) = Some (w, ts)
-name_at _ = None
-
-abbrev pub view_word : List Lexeme → Read Span
-view_word (Word IsView w ∷ ts) = Some (w, ts)
-view_word _ = None
-
-abbrev pub view_at : List Lexeme → Read Span
-view_at ts = option_and_then view_word (after_arrow ts)
-
-abbrev pub assign_at : List Lexeme → Read AssignOp
-assign_at (Assign op ∷ ts) = Some (op, ts)
-assign_at _ = None
-
--- a number at the end
-abbrev pub slot_at : List Lexeme → Option ℕ
-slot_at (Number n ∷ []) = option_map (λ z. n) (signed n)
-slot_at _ = None
 
 -- what there is where nothing follows
 abbrev pub at_end : {A : Type 0} → A → List Lexeme → Option A
 at_end x [] = Some x
 at_end x (t ∷ ts) = None
 
--- whether what is left is `["(" ")"]`
-abbrev pub is_brackets : List Lexeme → Bool
-is_brackets [] = true
-is_brackets (Open ∷ Close ∷ []) = true
-is_brackets _ = false
-
--- whether a word that may name a call comes first
-abbrev pub begins_word : List Lexeme → Bool
-begins_word (Word kind w ∷ ts) = true
-begins_word _ = false
-
 -- the sever of a name
 abbrev pub sever_at : List ℕ → List Lexeme → Option StatementTree
 sever_at name ts = if is_brackets ts then Some (sever name) else None
-
--- a string, maybe behind `Pars =>` or `Code =>`
-abbrev pub after_pars : List Lexeme → List Lexeme
-after_pars (Word Pars v ∷ FatArrow ∷ ts) = ts
-after_pars ts = ts
-
-abbrev pub after_code : List Lexeme → List Lexeme
-after_code (Word Code v ∷ FatArrow ∷ ts) = ts
-after_code ts = ts
 
 module _ (source : List ℕ) where
   abbrev pub texts_at : Span → Span → Span → StatementTree
@@ -88,22 +29,22 @@ module _ (source : List ℕ) where
   -- the three strings of a definition
   abbrev pub code_at : Span → Span → List Lexeme → Option StatementTree
   code_at name signature ts =
-      option_and_then (λ c. option_and_then (at_end (texts_at name signature c.0)) (after_close c.1)) (quoted_at (after_code ts))
+      option_and_then (λ c. option_and_then (at_end (texts_at name signature c.0)) (after Close c.1)) (quoted_at (after_label Code ts))
 
   abbrev pub signature_at : Span → List Lexeme → Option StatementTree
   signature_at name ts =
-      option_and_then (λ s. option_and_then (code_at name s.0) (after_comma s.1)) (quoted_at (after_pars ts))
+      option_and_then (λ s. option_and_then (code_at name s.0) (after Comma s.1)) (quoted_at (after_label Pars ts))
 
   abbrev pub define_at : List Lexeme → Option StatementTree
   define_at ts =
-      option_and_then (λ us. option_and_then (λ n. option_and_then (signature_at n.0) (after_comma n.1)) (quoted_at us)) (after_open ts)
+      option_and_then (λ us. option_and_then (λ n. option_and_then (signature_at n.0) (after Comma n.1)) (quoted_at us)) (after Open ts)
 
   abbrev pub undef_at : List Lexeme → Option StatementTree
   undef_at ts = option_and_then (λ x. at_end (undef (bytes_at source x.0)) x.1) (name_at ts)
 
   abbrev pub watch_at : List Lexeme → Option StatementTree
   watch_at ts =
-      option_and_then (λ x. option_and_then (λ us. option_map (watch (bytes_at source x.0)) (slot_at us)) (after_comma x.1)) (name_at ts)
+      option_and_then (λ x. option_and_then (λ us. option_map (watch (bytes_at source x.0)) (slot_at us)) (after Comma x.1)) (name_at ts)
 
   -- the further names, at most k of them
   unfoldable pub names_at : ℕ → List (List ℕ) → List Lexeme → Read (List (List ℕ))
@@ -111,7 +52,7 @@ module _ (source : List ℕ) where
   names_at (suc k) names ts =
       choose (Some (names, ts))
       (λ us. option_and_then (λ x. names_at k (names ++ bytes_at source x.0 ∷ []) x.1) (name_at us))
-      (after_comma ts)
+      (after Comma ts)
 
   abbrev pub all_names_at : List Lexeme → Read (List (List ℕ))
   all_names_at ts = option_and_then (λ x. names_at (length x.1) (bytes_at source x.0 ∷ []) x.1) (name_at ts)
@@ -147,7 +88,7 @@ module _ (source : List ℕ) (f : Kind → List Lexeme → Read Tree) where
 
   abbrev pub bind_names : List (List ℕ) × List Lexeme → Option StatementTree
   bind_names x =
-      option_and_then (λ us. option_map (bind_list x.0) (called_at us)) (option_and_then after_equals (after_close x.1))
+      option_and_then (λ us. option_map (bind_list x.0) (called_at us)) (after_names x.1)
 
   unfoldable pub bind_list_at : List Lexeme → Option StatementTree
   bind_list_at ts = option_and_then bind_names (all_names_at source ts)
@@ -179,14 +120,14 @@ module _ (source : List ℕ) (f : Kind → List Lexeme → Read Tree) where
       (sever_at name)
       (after_keyword Sever ts))
       (bind_at name)
-      (after_equals ts)
+      (after Equals ts)
 
   -- a binding behind `my`
   abbrev pub bind_name : Span × List Lexeme → Option StatementTree
-  bind_name x = option_and_then (bind_at (bytes_at source x.0)) (after_equals x.1)
+  bind_name x = option_and_then (bind_at (bytes_at source x.0)) (after Equals x.1)
 
   unfoldable pub binding_at : List Lexeme → Option StatementTree
-  binding_at ts = choose (option_and_then bind_name (name_at ts)) bind_list_at (after_open ts)
+  binding_at ts = choose (option_and_then bind_name (name_at ts)) bind_list_at (after Open ts)
 
   -- what `p` shows
   abbrev pub value_at : List Lexeme → Option StatementTree

@@ -24,8 +24,8 @@ pub fn one_statement()
     lists_are_their_grammar();
 }
 
-/// The answer for the tokens of a text is the statement that they spell where no check fails, or the first check that
-/// they fail, both ways.
+/// The answer for the tokens of a text is the statement that they spell where no check fails, or
+/// the first check that they fail, both ways.
 pub fn parsing_is_the_grammar()
     ensures { TokensAreParsed }
 {
@@ -34,7 +34,8 @@ pub fn parsing_is_the_grammar()
     ragged_is_scanned();
 }
 
-/// The list literals of a spelled statement that holds no ragged one are arrays, and its numbers are from 0 up.
+/// The list literals of a spelled statement that holds no ragged one are arrays, and its numbers
+/// are from 0 up.
 pub fn literals_are_arrays()
     ensures { LiteralsAreArrays }
 {
@@ -44,5 +45,6 @@ pub fn literals_are_arrays()
 
 /// The tree of a call has the trees of its arguments in their order.
 pub fn calls_are_trees()
-    ensures { (name : List ℕ) (args : Vec Arg Global) → tree_of (Call name args) ≡ call name (args_of args.items none) }
+    ensures { (name : List ℕ) (args : Vec Arg Global) →
+        tree_of (Call name args) ≡ call name (args_of args.items none) }
 {}

@@ -5,11 +5,12 @@
 mod build;
 mod expr;
 mod laws;
+mod levels;
 mod literal;
 mod parser;
 mod parts;
-mod peek;
 mod ragged;
+mod reader;
 mod statement;
 mod tree;
 

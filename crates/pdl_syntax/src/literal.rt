@@ -6,22 +6,22 @@ ghost use Rattle.pdl_lexemes.specs.Answers.{Gives};
 ghost use Rattle.pdl_lexemes.specs.Lists.{type_of};
 ghost use Rattle.pdl_syntax.specs.Grammar.{literal_of};
 ghost use Rattle.pdl_syntax.specs.Reading.{literal_at, round_list_at};
+ghost use Rattle.pdl_syntax.specs.Readers.{with_tree};
 ghost use Rattle.pdl_syntax.specs.TreeOf.{tree_of};
 
-use crate::peek;
 use crate::tree::Expr;
 use pdl_buf::{Elements, Made};
 use pdl_elem::Ty;
 use pdl_lexemes::list::Row;
-use pdl_lexemes::{Lexemes, Refusal, list};
+use pdl_lexemes::{Lexeme, Lexemes, Refusal, list};
 use pdl_shape::{Dims, dims_of};
 use std::alloc::Global;
 
 /// A list literal behind `pdl`, in round brackets or without.
 pub fn literal<'a>(alloc: Global, tokens: &Lexemes<'a>) -> Result<(Expr, Lexemes<'a>), Refusal>
-    ensures read { Gives (λ x. (tree_of x.0, x.1)) result (literal_at tokens.now) }
+    ensures read { Gives with_tree result (literal_at tokens.now) }
 {
-    match peek::after_open(tokens) {
+    match tokens.after(Lexeme::Open) {
         None => {
             let (row, rest) = list::read(alloc, tokens)?;
             Ok((list_expr(alloc, row), rest))
@@ -31,10 +31,10 @@ pub fn literal<'a>(alloc: Global, tokens: &Lexemes<'a>) -> Result<(Expr, Lexemes
 }
 
 fn round_literal<'a>(alloc: Global, tokens: &Lexemes<'a>) -> Result<(Expr, Lexemes<'a>), Refusal>
-    ensures read { Gives (λ x. (tree_of x.0, x.1)) result (round_list_at tokens.now) }
+    ensures read { Gives with_tree result (round_list_at tokens.now) }
 {
     let (row, rest) = list::read(alloc, tokens)?;
-    let rest = peek::after_close(&rest).ok_or(Refusal::Refused)?;
+    let rest = rest.after(Lexeme::Close).ok_or(Refusal::Refused)?;
     Ok((list_expr(alloc, row), rest))
 }
 
@@ -55,7 +55,8 @@ fn list_expr(alloc: Global, row: Row) -> Expr
     })
 }
 
-// The dimension of a ragged list, by which it is known: it is longer by one than the list has numbers.
+// The dimension of a ragged list, by which it is known: it is longer by one than the list has
+// numbers.
 fn too_long(alloc: Global, count: usize) -> Dims
     requires { IsDims (suc count ∷ []) }
     ensures { result ≡ suc count ∷ [] }

@@ -9,8 +9,9 @@ ghost use Rattle.pdl_syntax.specs.StatementTree.{statement_of};
 ghost use Rattle.pdl_syntax.specs.WellMade.{IsWellMade};
 
 use crate::laws::{literals_are_arrays, parsing_is_the_grammar};
+use crate::ragged;
+use crate::reader::Reader;
 use crate::tree::Statement;
-use crate::{ragged, statement};
 use pdl_lex::{Token, tokens_are_spans};
 use pdl_lexemes::{Lexeme, Lexemes, Refusal, has_large, lexemes};
 use std::alloc::{AllocError, Global};
@@ -68,7 +69,12 @@ fn read(alloc: Global, text: &[u8], lexemes: &[Lexeme]) -> Result<Statement, Par
             if has_large(lexemes) {
                 return Err(ParseFault::NumberTooLarge);
             }
-            match statement::statement(alloc, text, tokens.len() + 1, &tokens) {
+            let reader = Reader {
+                alloc,
+                source: text,
+                fuel: tokens.len() + 1,
+            };
+            match reader.statement(&tokens) {
                 Err(Refusal::NoMemory) => Err(ParseFault::NoMemory),
                 Err(Refusal::Refused) => Err(ParseFault::Syntax),
                 Ok(statement) => unless_ragged(statement),

@@ -6,7 +6,7 @@ use Rattle.pdl_syntax.proofs.Turns.{one_less, chain_stop, chain_turn, methods_st
 use Rattle.pdl_syntax.proofs.Growing.{level_read, level_unread, grown_ends}
 use Rattle.pdl_syntax.proofs.StatementTurns.{pass_on}
 use Rattle.std.proofs.lemmas.Result.{err_from_is_err_and}
-use Rattle.pdl_syntax.proofs.expr.+parser.Goals as goal
+use Rattle.pdl_syntax.proofs.reader.Reader.+parser.Goals as goal
 
 pub chain-returns-in-None : goal.chain-returns-in-None
 chain-returns-in-None t c =
@@ -17,7 +17,7 @@ chain-returns-in-None t c =
 
 pub chain-loop-preserved : goal.chain-loop-preserved
 chain-loop-preserved t c =
-    let inner = level_at c.args.source.now (reader c.args.source.now c.args.fuel) c.args.below in
+    let inner = level_at c.args.self.now.source.now (reader c.args.self.now.source.now c.args.self.now.fuel) c.args.below in
     let k = c.limit-end.result - (c.loop.counter + 1) in
     record {
       same =
@@ -29,14 +29,14 @@ chain-loop-preserved t c =
 
 pub level_expr-returns : goal.level_expr-returns
 level_expr-returns t c =
-    let f = reader c.args.source.now c.args.fuel in
-    let same = level_read c.args.source.now f c.args.level c.args.tokens.now c.in_ok-first.rest (tree_of c.in_ok-first.first) c.in_ok-first.ensures.read in
+    let f = reader c.args.self.now.source.now c.args.self.now.fuel in
+    let same = level_read c.args.self.now.source.now f c.args.level c.args.tokens.now c.in_ok-first.rest (tree_of c.in_ok-first.first) c.in_ok-first.ensures.read in
     record { read = rw same c.grown.ensures.read }
 
 pub level_expr-returns-in_err-first : goal.level_expr-returns-in_err-first
 level_expr-returns-in_err-first t c =
-    let source = c.args.source.now in
-    let f = reader source c.args.fuel in
+    let source = c.args.self.now.source.now in
+    let f = reader source c.args.self.now.fuel in
     let p = err_from_is_err_and c.from_residual.result c.from_residual.ensures.1 in
     record {
       read =
@@ -47,16 +47,16 @@ level_expr-returns-in_err-first t c =
 
 pub grown-returns-then-not-begins_operator : goal.grown-returns-then-not-begins_operator
 grown-returns-then-not-begins_operator t c =
-    let f = reader c.args.source.now c.args.fuel in
+    let f = reader c.args.self.now.source.now c.args.self.now.fuel in
     record {
-      read = grown_ends c.args.source.now f c.args.level (tree_of c.args.first) c.args.tokens.now (sym c.begins_operator.ensures ∙ c.if-not-begins_operator.true)
+      read = grown_ends c.args.self.now.source.now f c.args.level (tree_of c.args.first) c.args.tokens.now (sym c.begins_operator.ensures ∙ c.if-not-begins_operator.true)
           ∙ ap (λ ts. Some (tree_of c.args.first, ts)) (sym c.copy-then-not-begins_operator.ensures);
     }
 
 pub grown-returns : goal.grown-returns
 grown-returns t c =
-    let f = reader c.args.source.now c.args.fuel in
-    let same = grown_above c.args.source.now f c.args.level (tree_of c.args.first) c.args.tokens.now c.in_ok-left.rest (tree_of c.in_ok-left.left) c.if-level-eq0.false c.in_ok-left.ensures.read in
+    let f = reader c.args.self.now.source.now c.args.self.now.fuel in
+    let same = grown_above c.args.self.now.source.now f c.args.level (tree_of c.args.first) c.args.tokens.now c.in_ok-left.rest (tree_of c.in_ok-left.left) c.if-level-eq0.false c.in_ok-left.ensures.read in
     record { read = rw same c.chain.ensures.read }
 
 pub methods-returns-in-None : goal.methods-returns-in-None
@@ -68,26 +68,26 @@ methods-returns-in-None t c =
 
 pub methods-loop-preserved : goal.methods-loop-preserved
 methods-loop-preserved t c =
-    let f = reader c.args.source.now c.args.fuel in
+    let f = reader c.args.self.now.source.now c.args.self.now.fuel in
     let front : args_of c.in_ok-front-in-Some.front.items none ≡ value none (tree_of c.loop.value) =
     c.in_ok-front-in-Some.ensures.ok ∙ ap (λ xs. value (args_of xs none) (tree_of c.loop.value)) c.new.ensures.items in
     let k = c.len-end.result - (c.loop.counter + 1) in
     record {
       same =
-          ap (λ x. methods_at c.args.source.now f k x c.in_ok-args-in-Some.after) c.in_ok-value-in-Some.ensures.ok
-          ∙ (sym (methods_turn c.args.source.now f k (tree_of c.loop.value) c.loop.rest c.in-Some.after c.in_ok-args-in-Some.after c.in-Some.word (args_of c.in_ok-args-in-Some.args.items none) (sym c.in-Some.ensures.read)
-          (ap (λ a. maybe_at c.args.source.now f a c.in-Some.after) (sym front) ∙ c.in_ok-args-in-Some.ensures.read))
-          ∙ (ap (λ n. methods_at c.args.source.now f n (tree_of c.loop.value) c.loop.rest)
+          ap (λ x. methods_at c.args.self.now.source.now f k x c.in_ok-args-in-Some.after) c.in_ok-value-in-Some.ensures.ok
+          ∙ (sym (methods_turn c.args.self.now.source.now f k (tree_of c.loop.value) c.loop.rest c.in-Some.after c.in_ok-args-in-Some.after c.in-Some.word (args_of c.in_ok-args-in-Some.args.items none) (sym c.in-Some.ensures.read)
+          (ap (λ a. maybe_at c.args.self.now.source.now f a c.in-Some.after) (sym front) ∙ c.in_ok-args-in-Some.ensures.read))
+          ∙ (ap (λ n. methods_at c.args.self.now.source.now f n (tree_of c.loop.value) c.loop.rest)
           (sym (one_less c.len-end.result c.loop.counter c.loop-test.true)) ∙ c.loop.invariant.same));
     }
 
 pub more_args-loop-preserved : goal.more_args-loop-preserved
 more_args-loop-preserved t c =
-    let f = reader c.args.source.now c.args.fuel in
+    let f = reader c.args.self.now.source.now c.args.self.now.fuel in
     let k = c.len-end.result - (c.loop.counter + 1) in
     record {
       same =
-          sym (more_turn c.args.source.now f k _ _ _ _ _ (sym c.in-Some.ensures.rest) c.in_ok-all-in-Some.ensures.read)
-          ∙ (ap (λ n. more_at c.args.source.now f n (args_of c.loop.args.items none) c.loop.rest)
+          sym (more_turn c.args.self.now.source.now f k _ _ _ _ _ (sym c.in-Some.ensures.rest) c.in_ok-all-in-Some.ensures.read)
+          ∙ (ap (λ n. more_at c.args.self.now.source.now f n (args_of c.loop.args.items none) c.loop.rest)
           (sym (one_less c.len-end.result c.loop.counter c.loop-test.true)) ∙ c.loop.invariant.same);
     }

@@ -7,21 +7,21 @@ use Rattle.pdl_syntax.specs.Tree.{none}
 use Rattle.pdl_syntax.specs.TreeOf.{args_of}
 use Rattle.pdl_syntax.proofs.Turns.{one_less}
 use Rattle.pdl_syntax.proofs.StatementTurns.{views_stop_at, views_next, views_fail, pass_on}
-use Rattle.pdl_syntax.proofs.parts.views.Goals as goal
+use Rattle.pdl_syntax.proofs.reader.Reader.views.Goals as goal
 
 pub returns-in-None : goal.returns-in-None
 returns-in-None c =
     record {
       read =
           sym c.loop.invariant.same
-          ∙ views_stop_at c.args.source.now (reader c.args.source.now c.args.fuel) (c.len-end.result - c.loop.counter)
+          ∙ views_stop_at c.args.self.now.source.now (reader c.args.self.now.source.now c.args.self.now.fuel) (c.len-end.result - c.loop.counter)
           (map view_of c.loop.views.items) c.loop.rest (sym c.in-None.ensures.read);
     }
 
 pub loop-preserved : goal.loop-preserved
 loop-preserved c =
-    let source = c.args.source.now in
-    let f = reader source c.args.fuel in
+    let source = c.args.self.now.source.now in
+    let f = reader source c.args.self.now.fuel in
     let all = c.len-end.result in
     let k = all - (c.loop.counter + 1) in
     let so_far = map view_of c.loop.views.items in
@@ -37,8 +37,8 @@ loop-preserved c =
 
 pub returns-in_err-args-in-Some : goal.returns-in_err-args-in-Some
 returns-in_err-args-in-Some c =
-    let source = c.args.source.now in
-    let f = reader source c.args.fuel in
+    let source = c.args.self.now.source.now in
+    let f = reader source c.args.self.now.fuel in
     let all = c.len-end.result in
     let so_far = map view_of c.loop.views.items in
     let p = err_from_is_err_and c.from_residual.result c.from_residual.ensures.1 in

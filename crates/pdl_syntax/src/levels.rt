@@ -1,0 +1,60 @@
+//! The levels of operators, and looks at an operator at the front.
+
+ghost use Rattle.std.specs.Prelude.{◌≡◌, ◌<◌};
+ghost use Rattle.pdl_syntax.specs.Grammar.{level_of};
+ghost use Rattle.pdl_syntax.specs.Reading.{operator_at, begins_operator, limit_of};
+
+use pdl_elem::BinaryOp;
+use pdl_lexemes::{Lexeme, Lexemes};
+
+fn level_of(op: BinaryOp) -> u8
+    ensures { result ≡ level_of op }
+{
+    match op {
+        BinaryOp::Mul | BinaryOp::Div | BinaryOp::Rem => 1,
+        BinaryOp::Add | BinaryOp::Sub => 2,
+        BinaryOp::Shl | BinaryOp::Shr => 3,
+        BinaryOp::Lt | BinaryOp::Gt | BinaryOp::Le | BinaryOp::Ge => 4,
+        BinaryOp::Eq | BinaryOp::Ne => 5,
+        BinaryOp::And => 6,
+        BinaryOp::Or | BinaryOp::Xor => 7,
+    }
+}
+
+/// An operator of this level, and what follows it.
+pub fn operator<'a>(level: u8, tokens: &Lexemes<'a>) -> Option<(BinaryOp, Lexemes<'a>)>
+    ensures read { result ≡ operator_at level tokens.now }
+{
+    match tokens.split_first() {
+        Some((Lexeme::Operator(op), rest)) => {
+            if level_of(op) == level {
+                Some((op, rest))
+            } else {
+                None
+            }
+        }
+        _ => None,
+    }
+}
+
+/// Whether an operator up to this level comes first.
+pub fn begins_operator(level: u8, tokens: &Lexemes<'_>) -> bool
+    ensures { result ≡ begins_operator level tokens.now }
+{
+    match tokens.split_first() {
+        Some((Lexeme::Operator(op), _)) => level_of(op) <= level,
+        _ => false,
+    }
+}
+
+/// How many operators of this level there may be in what is left.
+pub fn limit(level: u8, tokens: &Lexemes<'_>) -> usize
+    requires { level < 8 }
+    ensures { result ≡ limit_of level tokens.now }
+{
+    if level == 4 || level == 5 {
+        1
+    } else {
+        tokens.len()
+    }
+}
