@@ -22,20 +22,28 @@ abbrev pub found_in : {A : Type 0} → List (List ℕ × A) → List ℕ → Opt
 found_in [] text = None
 found_in (entry ∷ rest) text = if bytes_eq text entry.0 then Some entry.1 else found_in rest text
 
+-- the words of at most five bytes that name no call
+abbrev pub short_keywords : List (List ℕ × Key)
+short_keywords =
+    (codes "my", My) ∷ (codes "p", Print) ∷ (codes "print", Print) ∷ (codes "undef", Undef) ∷ (codes "vars", Vars)
+    ∷ (codes "watch", Watch) ∷ (codes "pdl", Pdl) ∷ (codes "info", Info) ∷ (codes "sever", Sever) ∷ []
+
 -- the words that name no call
 abbrev pub keywords : List (List ℕ × Key)
-keywords =
-    (codes "my", My) ∷ (codes "p", Print) ∷ (codes "print", Print) ∷ (codes "undef", Undef) ∷ (codes "vars", Vars) ∷ (codes "pp_def", PpDef)
-    ∷ (codes "watch", Watch) ∷ (codes "unwatch", Unwatch) ∷ (codes "pdl", Pdl) ∷ (codes "info", Info) ∷ (codes "sever", Sever)
-    ∷ (codes "reshape", Reshape) ∷ []
+keywords = (codes "pp_def", PpDef) ∷ (codes "unwatch", Unwatch) ∷ (codes "reshape", Reshape) ∷ short_keywords
+
+-- the words of at most five bytes that are something beside the name of a call
+abbrev pub short_word_kinds : List (List ℕ × WordKind)
+short_word_kinds =
+    (codes "byte", OfType Byte) ∷ (codes "short", OfType Short) ∷ (codes "long", OfType Long) ∷ (codes "slice", View)
+    ∷ (codes "xchg", View) ∷ (codes "mv", View) ∷ (codes "dummy", View) ∷ (codes "clump", View) ∷ (codes "flat", View)
+    ∷ (codes "index", View) ∷ (codes "where", View) ∷ (codes "range", View) ∷ (codes "Pars", Pars) ∷ (codes "Code", Code) ∷ []
 
 -- the words that are something beside the name of a call
 abbrev pub word_kinds : List (List ℕ × WordKind)
 word_kinds =
-    (codes "byte", OfType Byte) ∷ (codes "short", OfType Short) ∷ (codes "ushort", OfType Ushort) ∷ (codes "long", OfType Long)
-    ∷ (codes "longlong", OfType Longlong) ∷ (codes "slice", View) ∷ (codes "xchg", View) ∷ (codes "mv", View) ∷ (codes "reorder", View)
-    ∷ (codes "dummy", View) ∷ (codes "diagonal", View) ∷ (codes "clump", View) ∷ (codes "flat", View) ∷ (codes "squeeze", View)
-    ∷ (codes "index", View) ∷ (codes "where", View) ∷ (codes "range", View) ∷ (codes "Pars", Pars) ∷ (codes "Code", Code) ∷ []
+    (codes "ushort", OfType Ushort) ∷ (codes "longlong", OfType Longlong) ∷ (codes "reorder", View) ∷ (codes "diagonal", View)
+    ∷ (codes "squeeze", View) ∷ short_word_kinds
 
 -- the signs
 abbrev pub signs : List (List ℕ × Lexeme)

@@ -2,7 +2,7 @@
 
 ghost use Rattle.std.specs.Prelude.{◌≡◌, ◌≤◌, IfOk, Some, if◌then◌else◌, bytes_eq};
 ghost use Rattle.pdl_lexemes.specs.Bytes.{bytes_at};
-ghost use Rattle.pdl_lexemes.specs.Lexing.{found_in, keywords, word_kinds, signs, word_of, sign_of, number_of, with_digit, lexeme_of, lexemes_of};
+ghost use Rattle.pdl_lexemes.specs.Lexing.{found_in, short_keywords, keywords, short_word_kinds, word_kinds, signs, word_of, sign_of, number_of, with_digit, lexeme_of, lexemes_of};
 
 use crate::{AssignOp, Keyword, Lexeme, Span, WordKind};
 use pdl_elem::{BinaryOp, Ty, UnaryOp};
@@ -25,48 +25,64 @@ fn or_found<T: Copy>(text: &[u8], word: &[u8], value: T, others: Option<T>) -> O
     if text == word { Some(value) } else { others }
 }
 
+fn short_keyword(text: &[u8]) -> Option<Keyword>
+    ensures { result ≡ found_in short_keywords text.now }
+{
+    match text {
+        b"my" => Some(Keyword::My),
+        b"p" => Some(Keyword::Print),
+        b"print" => Some(Keyword::Print),
+        b"undef" => Some(Keyword::Undef),
+        b"vars" => Some(Keyword::Vars),
+        b"watch" => Some(Keyword::Watch),
+        b"pdl" => Some(Keyword::Pdl),
+        b"info" => Some(Keyword::Info),
+        b"sever" => Some(Keyword::Sever),
+        _ => None,
+    }
+}
+
 /// The keyword that a text is, if any: a word of the language that names no call.
 pub fn keyword_named(text: &[u8]) -> Option<Keyword>
     ensures { result ≡ found_in keywords text.now }
 {
-    let found = None;
+    let found = short_keyword(text);
     let found = or_found(text, b"reshape", Keyword::Reshape, found);
-    let found = or_found(text, b"sever", Keyword::Sever, found);
-    let found = or_found(text, b"info", Keyword::Info, found);
-    let found = or_found(text, b"pdl", Keyword::Pdl, found);
     let found = or_found(text, b"unwatch", Keyword::Unwatch, found);
-    let found = or_found(text, b"watch", Keyword::Watch, found);
-    let found = or_found(text, b"pp_def", Keyword::PpDef, found);
-    let found = or_found(text, b"vars", Keyword::Vars, found);
-    let found = or_found(text, b"undef", Keyword::Undef, found);
-    let found = or_found(text, b"print", Keyword::Print, found);
-    let found = or_found(text, b"p", Keyword::Print, found);
-    or_found(text, b"my", Keyword::My, found)
+    or_found(text, b"pp_def", Keyword::PpDef, found)
+}
+
+fn short_word_kind(text: &[u8]) -> Option<WordKind>
+    ensures { result ≡ found_in short_word_kinds text.now }
+{
+    match text {
+        b"byte" => Some(WordKind::OfType(Ty::Byte)),
+        b"short" => Some(WordKind::OfType(Ty::Short)),
+        b"long" => Some(WordKind::OfType(Ty::Long)),
+        b"slice" => Some(WordKind::View),
+        b"xchg" => Some(WordKind::View),
+        b"mv" => Some(WordKind::View),
+        b"dummy" => Some(WordKind::View),
+        b"clump" => Some(WordKind::View),
+        b"flat" => Some(WordKind::View),
+        b"index" => Some(WordKind::View),
+        b"where" => Some(WordKind::View),
+        b"range" => Some(WordKind::View),
+        b"Pars" => Some(WordKind::Pars),
+        b"Code" => Some(WordKind::Code),
+        _ => None,
+    }
 }
 
 fn word_kind(text: &[u8]) -> Option<WordKind>
     ensures { result ≡ found_in word_kinds text.now }
 {
-    let found = None;
-    let found = or_found(text, b"Code", WordKind::Code, found);
-    let found = or_found(text, b"Pars", WordKind::Pars, found);
-    let found = or_found(text, b"range", WordKind::View, found);
-    let found = or_found(text, b"where", WordKind::View, found);
-    let found = or_found(text, b"index", WordKind::View, found);
+    let found = short_word_kind(text);
     let found = or_found(text, b"squeeze", WordKind::View, found);
-    let found = or_found(text, b"flat", WordKind::View, found);
-    let found = or_found(text, b"clump", WordKind::View, found);
     let found = or_found(text, b"diagonal", WordKind::View, found);
-    let found = or_found(text, b"dummy", WordKind::View, found);
     let found = or_found(text, b"reorder", WordKind::View, found);
-    let found = or_found(text, b"mv", WordKind::View, found);
-    let found = or_found(text, b"xchg", WordKind::View, found);
-    let found = or_found(text, b"slice", WordKind::View, found);
     let found = or_found(text, b"longlong", WordKind::OfType(Ty::Longlong), found);
-    let found = or_found(text, b"long", WordKind::OfType(Ty::Long), found);
-    let found = or_found(text, b"ushort", WordKind::OfType(Ty::Ushort), found);
-    let found = or_found(text, b"short", WordKind::OfType(Ty::Short), found);
-    or_found(text, b"byte", WordKind::OfType(Ty::Byte), found)
+    or_found(text, b"ushort", WordKind::OfType(Ty::Ushort), found)
 }
 
 fn word(text: &[u8], span: Span) -> Lexeme
