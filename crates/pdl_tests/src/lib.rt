@@ -33,8 +33,6 @@ mod print;
 #[cfg(test)]
 mod reduce;
 #[cfg(test)]
-mod session;
-#[cfg(test)]
 mod shape;
 #[cfg(test)]
 mod shell;
