@@ -10,7 +10,8 @@ pub record IsInside (n : ℕ) (z : ℤ) : Type 0 where
 
 -- the first count of these numbers are what the triple shows from a position on
 abbrev pub HasRead : Triple → List ℤ → ℕ → ℕ → List ℤ → Type 0
-HasRead t es first count rs = (k : ℕ) → k < count → get_or rs k (pos 0) ≡ get_or es (place_at t (first + k)) (pos 0)
+HasRead t es first count rs = (k : ℕ) → k < count →
+    get_or rs k (pos 0) ≡ get_or es (place_at t (first + k)) (pos 0)
 
 -- the position so many steps along dimension 1 after another
 abbrev pub across : (ds : List ℕ) → (first steps : ℕ) → ℕ
@@ -23,9 +24,11 @@ LieAcross ds first count = (first / get_or ds 0 1) % get_or ds 1 1 + count ≤ g
 -- the first count of these numbers are what the triple shows along dimension 1 from a position on
 abbrev pub HasReadAcross : Triple → List ℤ → ℕ → ℕ → List ℤ → Type 0
 HasReadAcross t es first count rs =
-    (k : ℕ) → k < count → get_or rs k (pos 0) ≡ get_or es (place_at t (across t.dims first k)) (pos 0)
+    (k : ℕ) → k < count → get_or rs k (pos 0)
+    ≡ get_or es (place_at t (across t.dims first k)) (pos 0)
 
 -- the first count of these numbers stand from a place on, each so far after the one before
 abbrev pub HasStepped : List ℤ → (place : ℕ) → (inc : ℤ) → ℕ → List ℤ → Type 0
 HasStepped es place inc count rs =
-    (j : ℕ) → j < count → get_or rs j (pos 0) ≡ get_or es (unsigned_abs (pos place +ℤ inc *ℤ pos j)) (pos 0)
+    (j : ℕ) → j < count → get_or rs j (pos 0)
+    ≡ get_or es (unsigned_abs (pos place +ℤ inc *ℤ pos j)) (pos 0)

@@ -53,8 +53,8 @@ pub fn strided_read_across(from: &Strided<'_>, first: u32, into: &mut [i64])
 }
 
 /// Whether elements along dimension 1 lie closer together in the buffer than along dimension 0, so
-/// that it takes less time to read them across. The clause says no more than a reader needs: what is
-/// read is the same.
+/// that it takes less time to read them across. The clause says no more than
+/// a reader needs: what is read is the same.
 pub fn strided_is_turned(from: &Strided<'_>) -> bool
     ensures { IsTrue result → 0 < get_or from.now.dims 1 1 }
 {

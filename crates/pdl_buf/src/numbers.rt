@@ -167,7 +167,9 @@ impl Numbers {
     pub(crate) fn set(&mut self, place: usize, number: i64)
         requires place { place < length (kept_in self.old).elems }
         requires in_range { InRange (kept_in self.old).ty number }
-        ensures { kept_in self.new ≡ record (kept_in self.old) { elems = slice_set (kept_in self.old).elems place number } }
+        ensures { kept_in self.new
+            ≡ record (kept_in self.old)
+            { elems = slice_set (kept_in self.old).elems place number } }
     {
         match self {
             Numbers::Bytes(packed) => packed.set(place, number),
@@ -221,7 +223,9 @@ impl Numbers {
         requires paired { length values.now ≡ length places.now }
         requires within { AllBelow (length (kept_in self.old).elems) places.now }
         requires in_range { All (InRange (kept_in self.old).ty) values.now }
-        ensures { kept_in self.new ≡ record (kept_in self.old) { elems = write places.now values.now (kept_in self.old).elems } }
+        ensures { kept_in self.new
+            ≡ record (kept_in self.old)
+            { elems = write places.now values.now (kept_in self.old).elems } }
     {
         match self {
             Numbers::Bytes(packed) => packed.scatter(places, values),
@@ -312,7 +316,8 @@ impl Numbers {
     pub(crate) fn read(&self, placement: &Placement, first: u32, into: &mut [i64])
         requires within { first + length into.old ≤ size_of placement.now.dims }
         requires reaches { Reaches placement.now (length (kept_in self.now).elems) }
-        ensures value { HasRead placement.now (kept_in self.now).elems first (length into.old) into.new }
+        ensures value { HasRead placement.now (kept_in self.now).elems first
+            (length into.old) into.new }
         ensures in_range { All (InRange (kept_in self.now).ty) into.new }
     {
         match self {

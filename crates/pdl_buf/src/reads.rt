@@ -30,7 +30,8 @@ fn read_steps<T: PackedType<N>, const N: usize>(
     into: &mut [i64],
 )
     requires small { length into.old ≤ extent_limit }
-    requires inside { (j : ℕ) → j < length into.old → IsInside (length numbers.now) (pos place +ℤ inc *ℤ pos j) }
+    requires inside { (j : ℕ) → j < length into.old →
+        IsInside (length numbers.now) (pos place +ℤ inc *ℤ pos j) }
     ensures { HasStepped numbers.now place inc (length into.old) into.new }
 {
     for (j, x) in into.iter_mut().enumerate() {
@@ -56,7 +57,8 @@ pub(crate) fn read_run<T: PackedType<N>, const N: usize>(
     into: &mut [i64],
 )
     requires small { length into.old ≤ extent_limit }
-    requires inside { (j : ℕ) → j < length into.old → IsInside (length numbers.now) (pos place +ℤ inc *ℤ pos j) }
+    requires inside { (j : ℕ) → j < length into.old →
+        IsInside (length numbers.now) (pos place +ℤ inc *ℤ pos j) }
     ensures { HasStepped numbers.now place inc (length into.old) into.new }
 {
     if inc != 0 {
@@ -111,7 +113,8 @@ fn read_row<T: PackedType<N>, const N: usize>(
     position: u32,
     into: &mut [i64],
 )
-    requires row { position % get_or triple.now.dims 0 1 + length into.old ≤ get_or triple.now.dims 0 1 }
+    requires row { position % get_or triple.now.dims 0 1 + length into.old
+        ≤ get_or triple.now.dims 0 1 }
     requires within { position + length into.old ≤ size_of triple.now.dims }
     requires some { position < size_of triple.now.dims }
     requires small { size_of triple.now.dims ≤ extent_limit }
@@ -152,7 +155,8 @@ fn read_rows<T: PackedType<N>, const N: usize>(
 )
     requires count { length into.old ≡ rows * get_or triple.now.dims 0 1 }
     requires start { position % get_or triple.now.dims 0 1 ≡ 0 }
-    requires plane { (position / get_or triple.now.dims 0 1) % get_or triple.now.dims 1 1 + rows ≤ get_or triple.now.dims 1 1 }
+    requires plane { (position / get_or triple.now.dims 0 1) % get_or triple.now.dims 1 1 + rows
+        ≤ get_or triple.now.dims 1 1 }
     requires within { position + length into.old ≤ size_of triple.now.dims }
     requires some { position < size_of triple.now.dims }
     requires small { size_of triple.now.dims ≤ extent_limit }

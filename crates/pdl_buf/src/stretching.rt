@@ -12,7 +12,12 @@ use pdl_shape::{Dims, shape_laws, stretched_triple};
 /// It takes no memory and copies no element.
 pub fn stretched<'a>(from: &Strided<'a>, dims: &Dims) -> Strided<'a>
     requires { BroadcastsTo from.now.dims dims.now }
-    ensures { result ≡ record { ty = from.now.ty; dims = dims.now; elems = stretched from.now.dims dims.now from.now.elems } }
+    ensures { result ≡ record {
+      ty = from.now.ty;
+      dims = dims.now;
+      elems =
+          stretched from.now.dims dims.now from.now.elems;
+    } }
 {
     shape_laws();
     strided(from.buf, &stretched_triple(from.placement.triple(), dims))

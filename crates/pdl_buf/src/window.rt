@@ -25,7 +25,8 @@ impl<'a> Model for Strided<'a> {
 
     ghost Value = { Window };
 
-    ghost view = { λ s. record { ty = s.buf.now.ty; dims = s.placement.dims; elems = shown s.placement s.buf.now.elems } };
+    ghost view = { λ s. record
+        { ty = s.buf.now.ty; dims = s.placement.dims; elems = shown s.placement s.buf.now.elems } };
 
     ghost invariant = { λ s. Reaches s.placement (length s.buf.now.elems) };
 }

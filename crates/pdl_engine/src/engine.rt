@@ -208,8 +208,8 @@ impl Engine {
     }
 
     /// Makes an array and each array on its path to the root such that they can be lent. What waits
-    /// to be written back in its family is written back first. Want of memory may leave some of them
-    /// so.
+    /// to be written back in its family is written back first. Want of memory
+    /// may leave some of them so.
     pub fn ready<L: Ledger>(&mut self, id: ArrayId, steps: &mut Steps<L>) -> Result<(), NoMemory>
         requires { IsLive self.old.world id }
         ensures same { SameArrays self.old self.new }
@@ -253,9 +253,10 @@ impl Engine {
         self.nodes.has_views(id)
     }
 
-    /// Cuts an array from its parent: it becomes a root with its elements, which can be lent, and its
-    /// own views stay with it. What waits in the family is written back first. On a root it does
-    /// nothing. Want of memory leaves the world, and what could be lent. It takes at most the steps of
+    /// Cuts an array from its parent: it becomes a root with its elements,
+    /// which can be lent, and its own views stay with it. What waits in the family is written back
+    /// first. On a root it does nothing. Want of memory leaves the world, and what could be lent.
+    /// It takes at most the steps of
     /// `ready`, and one for each element.
     pub fn sever<L: Ledger>(&mut self, id: ArrayId, steps: &mut Steps<L>) -> Result<(), NoMemory>
         requires { IsLive self.old.world id }
@@ -275,10 +276,10 @@ impl Engine {
         self.nodes.sever(id, steps)
     }
 
-    /// Gives an array that has no views other dimensions: it becomes a root of its first elements, in
-    /// order, with zeros after them where there are fewer, and can be lent. What waits in the family is
-    /// written back first. Want of memory leaves the world, and what could be lent. It takes at most the
-    /// steps of `ready`, and one for each new element.
+    /// Gives an array that has no views other dimensions: it becomes a root of
+    /// its first elements, in order, with zeros after them where there are fewer, and can be lent.
+    /// What waits in the family is written back first. Want of memory leaves the world, and what
+    /// could be lent. It takes at most the steps of `ready`, and one for each new element.
     pub fn reshape<L: Ledger>(
         &mut self,
         id: ArrayId,
@@ -311,8 +312,8 @@ impl Engine {
     }
 
     /// Takes one hold of an array back. What no held array reaches by parents goes; what waits in a
-    /// view that goes is written back before, if its root stays. It takes a step for each element that
-    /// is written back, and no memory.
+    /// view that goes is written back before, if its root stays. It takes a
+    /// step for each element that is written back, and no memory.
     pub fn release<L: Ledger>(&mut self, id: ArrayId, steps: &mut Steps<L>)
         requires { 0 < count_at self.old.holds id }
         ensures released { IsReleased self.old id self.new }

@@ -5,8 +5,10 @@ use Rattle.pdl_lex.specs.Pieces.{pieces, settled}
 
 -- the statements that the first bytes of a script make certain are its first ones
 abbrev pub BeginThePieces : Type 0
-BeginThePieces = (bytes more : List ℕ) → (rest : List Piece) × (pieces (bytes ++ more) ≡ settled bytes ++ rest)
+BeginThePieces = (bytes more : List ℕ) → (rest : List Piece) ×
+    (pieces (bytes ++ more) ≡ settled bytes ++ rest)
 
 -- and what is certain stays so by more bytes
 abbrev pub StayCertain : Type 0
-StayCertain = (bytes more : List ℕ) → (rest : List Piece) × (settled (bytes ++ more) ≡ settled bytes ++ rest)
+StayCertain = (bytes more : List ℕ) → (rest : List Piece) ×
+    (settled (bytes ++ more) ≡ settled bytes ++ rest)

@@ -11,7 +11,8 @@ abbrev pub mode_behind : Mode → List ℕ → Option Mode
 mode_behind now [] = Some now
 mode_behind now (b ∷ bs) = if is_end now b then None else mode_behind (mode_after now b) bs
 
--- the bytes are the text of one statement: it begins with the first of them, and a semicolon behind them ends it
+-- the bytes are the text of one statement: it begins with the first of them, and a
+-- semicolon behind them ends it
 pub record IsStatement (text : List ℕ) : Type 0 where
   pub first : ℕ
   pub others : List ℕ
@@ -27,7 +28,8 @@ pieces_from line bytes = numbered true line (chunks Code bytes)
 abbrev pub StatementsJoin : Type 0
 StatementsJoin =
     (line : ℕ) (text rest : List ℕ) → IsStatement text
-    → pieces_from line (text ++ 59 ∷ rest) ≡ text_piece line text ∷ pieces_from (line + newlines text) rest
+    → pieces_from line (text ++ 59 ∷ rest) ≡ text_piece line text
+    ∷ pieces_from (line + newlines text) rest
 
 -- a blank gives none
 abbrev pub BlanksJoin : Type 0
@@ -39,8 +41,10 @@ BlanksJoin =
 abbrev pub PartsJoin : Type 0
 PartsJoin =
     (now : Mode) (part other : List ℕ)
-    → mode_behind now (part ++ other) ≡ option_and_then (λ mode. mode_behind mode other) (mode_behind now part)
+    → mode_behind now (part ++ other) ≡ option_and_then (λ mode.
+    mode_behind mode other) (mode_behind now part)
 
 -- behind a digit the next byte stands where the digit does
 abbrev pub DigitsStay : Type 0
-DigitsStay = (now : Mode) (digit : ℕ) → 48 ≤ digit → digit ≤ 57 → mode_behind now (digit ∷ []) ≡ Some now
+DigitsStay = (now : Mode) (digit : ℕ) → 48 ≤ digit → digit ≤ 57 →
+    mode_behind now (digit ∷ []) ≡ Some now

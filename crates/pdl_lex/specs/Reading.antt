@@ -1,4 +1,5 @@
--- How the longest token at the front is found, from its first byte on. Only private functions speak of this.
+-- How the longest token at the front is found, from its first byte on. Only private
+-- functions speak of this.
 use Rattle.std.specs.Prelude.{ℕ, ◌+◌, ◌==◌, nat_lt, nat_le, Bool, not, ◌&&◌, if◌then◌else◌, List, [], ◌∷◌, length, take, Option, Some, None}
 use Rattle.std.specs.List.{prefix_len}
 use Rattle.std.specs.Char.{is_ascii_digit}
@@ -26,7 +27,8 @@ name_after (b ∷ bs) = if is_letter b then Some (Name, 2 + word_len bs) else No
 
 -- a string, after its quote
 abbrev pub string_after : ℕ → List ℕ → Option (TokenKind × ℕ)
-string_after quote bs = if nat_lt (other_len quote bs) (length bs) then Some (Str, other_len quote bs + 2) else None
+string_after quote bs = if nat_lt (other_len quote bs) (length bs)
+    then Some (Str, other_len quote bs + 2) else None
 
 -- whether the first n bytes are a sign
 abbrev pub begins_sign : ℕ → List ℕ → Bool

@@ -1,4 +1,5 @@
--- The tokens of a statement's text: at each place the longest one, with blanks and comments between them.
+-- The tokens of a statement's text: at each place the longest one, with blanks and
+-- comments between them.
 use Rattle.std.specs.Prelude.{◌≡◌, ◌↔◌, ℕ, zero, suc, pred, ◌+◌, ◌<◌, ◌≤◌, ◌==◌, nat_lt, Bool, true, false, not, ◌&&◌, if◌then◌else◌, List, [], ◌∷◌, ◌++◌, length, take, Option, Some, None, Result, Ok, Err, codes, bytes_eq}
 use Rattle.std.specs.List.{list_any, list_all, prefix_len}
 use Rattle.std.specs.Char.{is_ascii_digit}
@@ -11,7 +12,9 @@ use Rattle.pdl_lex.specs.declared.LexFault.TheVariants.{BadByte, OpenString}
 
 -- the signs of two bytes
 abbrev pub pairs : List (List ℕ)
-pairs = codes "->" ∷ codes "=>" ∷ codes ".=" ∷ codes "+=" ∷ codes "-=" ∷ codes "*=" ∷ codes "/=" ∷ codes "%=" ∷ codes ">=" ∷ codes "<=" ∷ codes "==" ∷ codes "!=" ∷ codes "&=" ∷ codes "|=" ∷ codes "^=" ∷ codes "<<" ∷ codes ">>" ∷ []
+pairs = codes "->" ∷ codes "=>" ∷ codes ".=" ∷ codes "+=" ∷ codes "-=" ∷ codes "*=" ∷ codes "/="
+    ∷ codes "%=" ∷ codes ">=" ∷ codes "<=" ∷ codes "==" ∷ codes "!=" ∷ codes "&=" ∷ codes "|="
+    ∷ codes "^=" ∷ codes "<<" ∷ codes ">>" ∷ []
 
 -- the signs of three bytes
 abbrev pub triples : List (List ℕ)
@@ -67,7 +70,8 @@ token_at text = longest (length text) text
 -- how many bytes at the front are a blank, or a comment up to its newline
 abbrev pub gap_at : List ℕ → ℕ
 gap_at [] = 0
-gap_at (b ∷ bs) = if is_blank b then 1 else (if is_hash b then suc (prefix_len (λ c. not (is_newline c)) bs) else 0)
+gap_at (b ∷ bs) = if is_blank b then 1 else (if is_hash b
+    then suc (prefix_len (λ c. not (is_newline c)) bs) else 0)
 
 -- why no token begins with byte b, at a place
 abbrev pub fault_of : ℕ → ℕ → LexFault
@@ -79,9 +83,11 @@ after_tokens ts (Ok us) = Ok (ts ++ us)
 after_tokens ts (Err fault) = Err fault
 
 -- a token at a place, with those that come once its bytes are passed, or no token
-abbrev pub token_then : ℕ → ℕ → Option (TokenKind × ℕ) → (ℕ → Result (List Token) LexFault) → Result (List Token) LexFault
+abbrev pub token_then : ℕ → ℕ → Option (TokenKind × ℕ) → (ℕ → Result (List Token) LexFault) →
+    Result (List Token) LexFault
 token_then at b None others = Err (fault_of at b)
-token_then at b (Some found) others = after_tokens (record { kind = found.0; from = at; to = at + found.1 } ∷ []) (others found.1)
+token_then at b (Some found) others =
+    after_tokens (record { kind = found.0; from = at; to = at + found.1 } ∷ []) (others found.1)
 
 -- the tokens from a place on, once `passed` more bytes are passed
 unfoldable pub toks_from : ℕ → ℕ → List ℕ → Result (List Token) LexFault
@@ -108,9 +114,10 @@ is_one_line bytes = list_all (λ b. not (is_newline b)) bytes
 abbrev pub IsLongest : ℕ → List ℕ → Type 0
 IsLongest n text = (k : ℕ) → n < k → k ≤ length text → kind_of (take k text) ≡ None
 
--- What the bytes from a place on are: tokens with their spans, one behind the other, with blanks and comments alone
--- beside them, or the fault of the first byte at which none of these begins. A comment goes up to a newline, or to the
--- end. A token is the longest one where it begins.
+-- What the bytes from a place on are: tokens with their spans, one behind the other, with
+-- blanks and comments alone beside them, or the fault of the first byte at which none of these
+-- begins. A comment goes up to a newline, or to the end. A token is the
+-- longest one where it begins.
 pub data MeansFrom : (at : ℕ) → List ℕ → Result (List Token) LexFault → Type 0 where
   at_end : {at : ℕ} → MeansFrom at [] (Ok [])
   a_blank : {at b : ℕ} {bs : List ℕ} {answer : Result (List Token) LexFault} → is_blank b ≡ true
@@ -118,25 +125,30 @@ pub data MeansFrom : (at : ℕ) → List ℕ → Result (List Token) LexFault �
   a_comment : {at b : ℕ} (line : List ℕ) {bs : List ℕ} {answer : Result (List Token) LexFault}
       → is_hash b ≡ true → is_one_line line ≡ true → is_line_end bs ≡ true
       → MeansFrom (at + length (b ∷ line)) bs answer → MeansFrom at (b ∷ line ++ bs) answer
-  a_token : {at : ℕ} {kind : TokenKind} (bytes : List ℕ) {bs : List ℕ} {answer : Result (List Token) LexFault}
+  a_token : {at : ℕ} {kind : TokenKind} (bytes : List ℕ) {bs : List ℕ}
+      {answer : Result (List Token) LexFault}
       → kind_of bytes ≡ Some kind → IsLongest (length bytes) (bytes ++ bs)
       → MeansFrom (at + length bytes) bs answer
-      → MeansFrom at (bytes ++ bs) (after_tokens (record { kind = kind; from = at; to = at + length bytes } ∷ []) answer)
-  no_token : {at b : ℕ} {bs : List ℕ} → is_blank b ≡ false → is_hash b ≡ false → IsLongest 0 (b ∷ bs)
+      → MeansFrom at (bytes ++ bs) (after_tokens
+      (record { kind = kind; from = at; to = at + length bytes } ∷ []) answer)
+  no_token : {at b : ℕ} {bs : List ℕ} → is_blank b ≡ false →
+      is_hash b ≡ false → IsLongest 0 (b ∷ bs)
       → MeansFrom at (b ∷ bs) (Err (fault_of at b))
 
 -- what a text is
 abbrev pub Means : (text : List ℕ) → Result (List Token) LexFault → Type 0
 Means text answer = MeansFrom 0 text answer
 
--- the tokens of a text are its longest ones, with blanks and comments alone beside them, and no more than its bytes
+-- the tokens of a text are its longest ones, with blanks and comments alone beside them, and
+-- no more than its bytes
 pub record Spans (text : List ℕ) (ts : List Token) : Type 0 where
   pub spans : Means text (Ok ts)
   pub few : length ts ≤ length text
 
 -- `toks` answers exactly what a text means
 abbrev pub TextsHaveOneMeaning : Type 0
-TextsHaveOneMeaning = (text : List ℕ) (answer : Result (List Token) LexFault) → (toks text ≡ answer) ↔ Means text answer
+TextsHaveOneMeaning = (text : List ℕ) (answer : Result (List Token) LexFault) →
+    (toks text ≡ answer) ↔ Means text answer
 
 -- the tokens of any text
 abbrev pub TokensAreSpans : Type 0

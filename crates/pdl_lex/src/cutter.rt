@@ -99,9 +99,19 @@ impl Model for StatementCutter {
 
     ghost Value = { State };
 
-    ghost view = { λ c. record { mode = c.mode; text = c.text.items; over = c.over; start = c.start; line = c.line; taken = c.taken; failed = c.failed } };
+    ghost view = { λ c. record {
+      mode = c.mode;
+      text = c.text.items;
+      over = c.over;
+      start = c.start;
+      line = c.line;
+      taken =
+          c.taken;
+      failed = c.failed;
+    } };
 
-    ghost invariant = { λ c. (length c.text.items ≤ statement_limit) × (c.line ≤ c.taken + 1) × (c.taken < 2 ^ 63) };
+    ghost invariant = { λ c. (length c.text.items ≤ statement_limit) × (c.line ≤ c.taken + 1) ×
+        (c.taken < 2 ^ 63) };
 }
 
 impl StatementCutter {
@@ -123,29 +133,40 @@ impl StatementCutter {
         }
     }
 
-    /// Takes bytes up to and with the one that completes a piece, or all of them. A statement with too long a text
-    /// is answered at the byte past the limit, and the rest of it is taken without an answer.
+    /// Takes bytes up to and with the one that completes a piece, or all of them. A
+    /// statement with too long a text is answered at the byte past the limit, and the rest of it
+    /// is taken without an answer.
     ///
-    /// Once memory was wanting, it answers `NoMemory` from then on, and only `feed` and `line` may be called. `line` then
-    /// counts the newlines up to and with the byte for which there was no memory.
+    /// Once memory was wanting, it answers `NoMemory` from then on, and only `feed` and `line` may
+    /// be called. `line` then counts the newlines up to and with the byte for
+    /// which there was no memory.
     pub fn feed(&mut self, piece: &[u8]) -> Result<Fed, NoMemory>
         requires room { self.old.taken + length piece.now < 2 ^ 63 }
 
         // With the cut, the same pieces are still to come, whatever bytes follow.
-        ensures stream { IfOk result (λ fed. (more : List ℕ) → to_come self.old (piece.now ++ more) ≡ option_to_list fed.cut ++ to_come self.new (drop fed.used piece.now ++ more)) }
-        ensures certain { IfOk result (λ fed. (more : List ℕ) → settled_from self.old (piece.now ++ more) ≡ option_to_list fed.cut ++ settled_from self.new (drop fed.used piece.now ++ more)) }
+        ensures stream { IfOk result (λ fed. (more : List ℕ) →
+            to_come self.old (piece.now ++ more) ≡ option_to_list fed.cut
+            ++ to_come self.new (drop fed.used piece.now ++ more)) }
+        ensures certain { IfOk result (λ fed. (more : List ℕ) →
+            settled_from self.old (piece.now ++ more) ≡ option_to_list fed.cut
+            ++ settled_from self.new (drop fed.used piece.now ++ more)) }
 
-        // The bytes taken complete it and no other piece, and fewer complete none. So it comes at the first byte that makes
-        // it certain, and there is none exactly where no piece is certain.
-        ensures completed { IfOk result (λ fed. settled_from self.old (take fed.used piece.now) ≡ option_to_list fed.cut) }
-        ensures earliest { IfOk result (λ fed. (k : ℕ) → k < fed.used → settled_from self.old (take k piece.now) ≡ []) }
+        // The bytes taken complete it and no other piece, and fewer complete none. So it comes at
+        // the first byte that makes it certain, and there is none exactly
+        // where no piece is certain.
+        ensures completed { IfOk result (λ fed. settled_from self.old (take fed.used piece.now)
+            ≡ option_to_list fed.cut) }
+        ensures earliest { IfOk result (λ fed. (k : ℕ) → k < fed.used →
+            settled_from self.old (take k piece.now) ≡ []) }
         ensures answered { OnOk result (settled_from self.new [] ≡ []) }
         ensures all_used { IfOk result (λ fed. fed.cut ≡ None → fed.used ≡ length piece.now) }
         ensures within { IfOk result (λ fed. fed.used ≤ length piece.now) }
         ensures some { IfOk result (λ fed. 0 < length piece.now → 0 < fed.used) }
 
-        ensures lines { IfOk result (λ fed. self.new.line ≡ self.old.line + newlines (take fed.used piece.now)) }
-        ensures failed_line { OnErr result (self.new.line ≡ self.old.line + newlines (take (self.new.taken - self.old.taken) piece.now)) }
+        ensures lines { IfOk result (λ fed. self.new.line ≡ self.old.line
+            + newlines (take fed.used piece.now)) }
+        ensures failed_line { OnErr result (self.new.line ≡ self.old.line
+            + newlines (take (self.new.taken - self.old.taken) piece.now)) }
         ensures count { IfOk result (λ fed. self.new.taken ≡ self.old.taken + fed.used) }
         ensures at_least { self.old.taken ≤ self.new.taken }
         ensures at_most { self.new.taken ≤ self.old.taken + length piece.now }
@@ -163,10 +184,12 @@ impl StatementCutter {
     fn scan(&mut self, piece: &[u8]) -> Result<Fed, NoMemory>
         requires works { self.old.failed ≡ false }
         requires room { self.old.taken + length piece.now < 2 ^ 63 }
-        ensures reaches { IfOk result (λ fed. Reaches self.old piece.now fed.used fed.cut self.new) }
+        ensures reaches { IfOk result (λ fed. Reaches self.old piece.now
+            fed.used fed.cut self.new) }
         ensures works { OnOk result (self.new.failed ≡ false) }
         ensures failed { OnErr result (self.new.failed ≡ true) }
-        ensures failed_line { OnErr result (self.new.line ≡ self.old.line + newlines (take (self.new.taken - self.old.taken) piece.now)) }
+        ensures failed_line { OnErr result (self.new.line ≡ self.old.line
+            + newlines (take (self.new.taken - self.old.taken) piece.now)) }
         ensures count { IfOk result (λ fed. self.new.taken ≡ self.old.taken + fed.used) }
         ensures at_least { self.old.taken ≤ self.new.taken }
         ensures at_most { self.new.taken ≤ self.old.taken + length piece.now }
@@ -185,15 +208,16 @@ impl StatementCutter {
         Ok(Fed { used, cut: None })
     }
 
-    /// The line on which the next byte stands: 1 plus the number of newlines taken, whether memory was wanting or not.
+    /// The line on which the next byte stands: 1 plus the number of newlines taken, whether
+    /// memory was wanting or not.
     pub fn line(&self) -> u64
         ensures { result ≡ self.now.line }
     {
         self.line
     }
 
-    /// Answers the last statement, where there is one that wasn't answered as too long, and leaves the cutter
-    /// without a begun statement, as it is after a semicolon.
+    /// Answers the last statement, where there is one that wasn't answered as too
+    /// long, and leaves the cutter without a begun statement, as it is after a semicolon.
     pub fn end(&mut self) -> Option<Piece>
         requires { self.old.failed ≡ false }
         ensures last { option_to_list result ≡ to_come self.old [] }
@@ -240,8 +264,8 @@ impl StatementCutter {
         self.grow(byte, line)
     }
 
-    // Puts the plain bytes at the front of a part, as far as the text has room for them, onto a begun statement, and
-    // answers how many they are.
+    // Puts the plain bytes at the front of a part, as far as the text has room for them, onto
+    // a begun statement, and answers how many they are.
     fn extend(&mut self, part: &[u8]) -> Result<usize, NoMemory>
         requires works { self.old.failed ≡ false }
         requires room { self.old.taken + length part.now < 2 ^ 63 }
@@ -269,7 +293,9 @@ impl StatementCutter {
 
     // Puts a byte of a statement onto its text. The line is the one on which the byte stands.
     fn grow(&mut self, byte: u8, line: u64) -> Result<Option<Piece>, NoMemory>
-        ensures cut { IfOk result (λ cut. cut ≡ (if is_full self.old then Some (Piece.TooLong (if is_idle self.old then line else self.old.start)) else None)) }
+        ensures cut { IfOk result (λ cut. cut ≡ (if is_full self.old
+            then Some (Piece.TooLong (if is_idle self.old then line else self.old.start))
+            else None)) }
         ensures after { OnOk result (self.new ≡ grown_on self.old byte line) }
         ensures failed { OnErr result (self.new.failed ≡ true) }
         ensures taken { self.new.taken ≡ self.old.taken }

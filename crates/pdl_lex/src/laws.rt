@@ -4,16 +4,17 @@ ghost use Rattle.pdl_lex.specs.Joining.{StatementsJoin, BlanksJoin, PartsJoin, D
 ghost use Rattle.pdl_lex.specs.Tokens.{TextsHaveOneMeaning, TokensAreSpans};
 
 /// The statements that bytes make certain are the first ones of each script that begins with them
-/// (`begin`), and more bytes make none of them less certain (`stay`). The call does nothing when it runs.
+/// (`begin`), and more bytes make none of them less certain (`stay`). The call
+/// does nothing when it runs.
 pub fn settled_laws()
     ensures begin { BeginThePieces }
     ensures stay { StayCertain }
 {}
 
-/// What statements come to when they stand one behind the other: a statement's text and its semicolon give that
-/// statement and then those behind it (`statements`), a blank before a statement gives none (`blanks`). Whether
-/// bytes are one statement's text is seen part by part (`parts`), and a digit changes nothing there (`digits`). The
-/// call does nothing when it runs.
+/// What statements come to when they stand one behind the other: a statement's text and
+/// its semicolon give that statement and then those behind it (`statements`), a blank before a
+/// statement gives none (`blanks`). Whether bytes are one statement's text is seen part by part
+/// (`parts`), and a digit changes nothing there (`digits`). The call does nothing when it runs.
 pub fn joining_laws()
     ensures statements { StatementsJoin }
     ensures blanks { BlanksJoin }
@@ -21,14 +22,16 @@ pub fn joining_laws()
     ensures digits { DigitsStay }
 {}
 
-/// Each text has exactly one meaning, which is its tokens or the fault of the first byte at which none begins, and
+/// Each text has exactly one meaning, which is its tokens or the fault of the first byte at
+/// which none begins, and
 /// `toks` is that meaning as a function. The call does nothing when it runs.
 pub fn token_meaning()
     ensures { TextsHaveOneMeaning }
 {}
 
-/// What the tokens of any text are: spans that rise, don't overlap and leave only blanks and comments between them,
-/// each of them the longest token where it begins; and no more of them than bytes. The call does nothing when it runs.
+/// What the tokens of any text are: spans that rise, don't overlap and leave only blanks and
+/// comments between them, each of them the longest token where it begins; and no more of them than
+/// bytes. The call does nothing when it runs.
 pub fn tokens_are_spans()
     ensures { TokensAreSpans }
 {}

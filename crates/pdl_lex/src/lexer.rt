@@ -219,9 +219,12 @@ fn fault_of(at: u32, byte: u8) -> LexFault
 fn take_token(found: &mut Vec<Token>, text: &[u8], at: usize) -> Result<usize, LexFault>
     requires limit { length text.now ≤ 65536 }
     requires within { at < length text.now }
-    ensures read { IfOk result (λ next. after_tokens found.old.items (toks_from at 0 (drop at text.now)) ≡ after_tokens found.new.items (toks_from next 0 (drop next text.now))) }
+    ensures read { IfOk result (λ next. after_tokens found.old.items
+        (toks_from at 0 (drop at text.now)) ≡ after_tokens found.new.items
+        (toks_from next 0 (drop next text.now))) }
     ensures forward { IfOk result (λ next. (at < next) × (next ≤ length text.now)) }
-    ensures fault { IfErr result (λ fault. fault ≢ LexFault.NoMemory → toks_from at 0 (drop at text.now) ≡ Err fault) }
+    ensures fault { IfErr result (λ fault. fault ≢ LexFault.NoMemory →
+        toks_from at 0 (drop at text.now) ≡ Err fault) }
 {
     let rest = &text[at..];
     let gap = gap_at(rest);
@@ -242,11 +245,12 @@ fn take_token(found: &mut Vec<Token>, text: &[u8], at: usize) -> Result<usize, L
     }
 }
 
-/// The tokens of a statement's text, in order: at each place the longest one, with blanks and comments passed. Their
-/// spans rise, don't overlap and leave only blanks and comments between them.
+/// The tokens of a statement's text, in order: at each place the longest one, with blanks and
+/// comments passed. Their spans rise, don't overlap and leave only blanks and
+/// comments between them.
 ///
-/// It answers `BadByte` at the first byte that begins no token, or `OpenString` at the quote of a string without an
-/// end, whichever stands first.
+/// It answers `BadByte` at the first byte that begins no token, or `OpenString` at the quote
+/// of a string without an end, whichever stands first.
 pub fn tokens(alloc: Global, text: &[u8]) -> Result<Vec<Token>, LexFault>
     requires { length text.now ≤ 65536 }
     ensures exact { IfOk result (λ found. toks text.now ≡ Ok found.items) }

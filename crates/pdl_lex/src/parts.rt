@@ -4,7 +4,8 @@ ghost use Rattle.pdl_lex.specs.Pieces.{pieces, to_come};
 use crate::{NoMemory, Piece, StatementCutter};
 use std::alloc::Global;
 
-/// The statements of a script that comes in parts: however its bytes are cut into parts, they are those of the whole.
+/// The statements of a script that comes in parts: however its bytes are cut into parts, they
+/// are those of the whole.
 pub fn cut_parts(alloc: Global, parts: &[&[u8]]) -> Result<Vec<Piece>, NoMemory>
     requires { sum_by (λ part. length part.now) parts.now < 2 ^ 63 }
     ensures { IfOk result (λ found. found.items ≡ pieces (flat_map (λ part. part.now) parts.now)) }
@@ -26,7 +27,8 @@ fn cut_part(
 ) -> Result<(), NoMemory>
     requires works { cutter.old.failed ≡ false }
     requires room { cutter.old.taken + length part.now < 2 ^ 63 }
-    ensures stream { OnOk result ((more : List ℕ) → found.new.items ++ to_come cutter.new more ≡ found.old.items ++ to_come cutter.old (part.now ++ more)) }
+    ensures stream { OnOk result ((more : List ℕ) → found.new.items ++ to_come cutter.new more
+        ≡ found.old.items ++ to_come cutter.old (part.now ++ more)) }
     ensures works { OnOk result (cutter.new.failed ≡ false) }
     ensures count { OnOk result (cutter.new.taken ≡ cutter.old.taken + length part.now) }
 {

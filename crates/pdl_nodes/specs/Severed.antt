@@ -29,4 +29,5 @@ RowsAreSettled old v new =
 
 -- each array that can be lent can be lent still
 abbrev pub RowsStayFresh : (old new : Rows) → Type 0
-RowsStayFresh old new = (u : ℕ) → has old u ≡ true → is_fresh_in old u ≡ true → is_fresh_in new u ≡ true
+RowsStayFresh old new = (u : ℕ) → has old u ≡ true → is_fresh_in old u ≡ true →
+    is_fresh_in new u ≡ true

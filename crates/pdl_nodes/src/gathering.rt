@@ -72,7 +72,9 @@ pub fn places_through(
     size: u32,
 ) -> Result<Vec<Option<u32>>, AllocError>
     requires { size ≡ size_of triple.now.dims }
-    ensures { IfOk result (λ v. v.items ≡ map (λ p. option_and_then (entry (placed_by known.now triple.now)) (own_at layout.now p)) (range_with_len 0 count)) }
+    ensures { IfOk result (λ v. v.items ≡ map (λ p.
+        option_and_then (entry (placed_by known.now triple.now)) (own_at layout.now p))
+        (range_with_len 0 count)) }
 {
     let shown = Placement::of(triple);
     let mut places = Vec::with_capacity(alloc, count as usize)?;

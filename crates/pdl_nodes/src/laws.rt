@@ -24,8 +24,9 @@ pub fn order_laws()
 {}
 
 /// What a cut does to rows in order and to their world (PDL::Core, sever): it is the cut of the
-/// world, it leaves the rows of other families, nothing waits in those that were of the array's, and
-/// what is known of places stays true. It does nothing: who calls it has them.
+/// world, it leaves the rows of other families, nothing waits in those that
+/// were of the array's, and what is known of places stays true. It does nothing:
+/// who calls it has them.
 pub fn cut_row_laws()
     ensures severs { CuttingSevers }
     ensures families { CuttingLeavesFamilies }
@@ -40,8 +41,8 @@ pub fn cut_row_laws()
 }
 
 /// What other dimensions of an array without views do to rows in order and to their world
-/// (PDL::Core, reshape): it is the reshape of the world, it leaves all other rows, and what is known
-/// of places stays true. It does nothing: who calls it has them.
+/// (PDL::Core, reshape): it is the reshape of the world, it leaves all other
+/// rows, and what is known of places stays true. It does nothing: who calls it has them.
 pub fn reshape_row_laws()
     ensures reshapes { ReshapingReshapes }
     ensures others { ReshapingLeavesOthers }

@@ -98,7 +98,8 @@ pub fn put_over<L: Ledger>(
     requires paired { length values.now ≡ size_of triple.now.dims }
     requires in_range { All (InRange into.old.ty) values.now }
     ensures same_type { into.new.ty ≡ into.old.ty }
-    ensures value { into.new.elems ≡ write (placed_by known.now triple.now) values.now into.old.elems }
+    ensures value { into.new.elems ≡ write (placed_by known.now triple.now)
+        values.now into.old.elems }
     ensures counted { steps.new ≡ steps.old + length values.now }
 {
     let _count = elements_of(&triple.dims);
@@ -121,7 +122,8 @@ pub fn put_through<L: Ledger>(
     requires paired { length values.now ≡ size_of triple.now.dims }
     requires in_range { All (InRange into.old.ty) values.now }
     ensures same_type { into.new.ty ≡ into.old.ty }
-    ensures value { into.new.elems ≡ put_all places.now (spots triple.now) values.now into.old.elems }
+    ensures value { into.new.elems ≡ put_all places.now (spots triple.now)
+        values.now into.old.elems }
     ensures counted { steps.new ≡ steps.old + length values.now }
 {
     let _count = elements_of(&triple.dims);

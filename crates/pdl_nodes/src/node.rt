@@ -172,7 +172,13 @@ impl Node {
     /// from now on.
     pub fn fill(&mut self, kept: Buf, repeats: bool, places: Option<Places>)
         requires same_type { kept.ty ≡ self.old.ty }
-        ensures { self.new ≡ record self.old { kept = kept.elems; mark = true; repeats = repeats; places = or_known places self.old.places } }
+        ensures { self.new ≡ record self.old {
+          kept = kept.elems;
+          mark = true;
+          repeats = repeats;
+          places =
+              or_known places self.old.places;
+        } }
     {
         self.kept = Some(kept);
         self.mark = true;
@@ -187,7 +193,8 @@ impl Node {
         requires buffered { is_buffered self.old ≡ true }
         requires same_type { from.now.ty ≡ self.old.ty }
         requires paired { length places.now ≡ length from.now.elems }
-        ensures value { self.new ≡ record self.old { kept = write places.now from.now.elems self.old.kept } }
+        ensures value { self.new
+            ≡ record self.old { kept = write places.now from.now.elems self.old.kept } }
         ensures counted { steps.new ≡ steps.old + length places.now }
     {
         match &mut self.kept {
@@ -208,7 +215,8 @@ impl Node {
         requires buffered { is_buffered self.old ≡ true }
         requires paired { length values.now ≡ size_of triple.now.dims }
         requires in_range { All (InRange self.old.ty) values.now }
-        ensures value { self.new ≡ record self.old { kept = write (placed_by known.now triple.now) values.now self.old.kept } }
+        ensures value { self.new
+            ≡ record self.old { kept = write (placed_by known.now triple.now) values.now self.old.kept } }
         ensures counted { steps.new ≡ steps.old + length values.now }
     {
         match &mut self.kept {
@@ -224,7 +232,8 @@ impl Node {
         requires found { is_some self.old.places ≡ true }
         requires paired { length values.now ≡ size_of triple.now.dims }
         requires in_range { All (InRange self.old.ty) values.now }
-        ensures value { self.new ≡ record self.old { kept = put_all (places_or self.old.places) (spots triple.now) values.now self.old.kept } }
+        ensures value { self.new
+            ≡ record self.old { kept = put_all (places_or self.old.places) (spots triple.now) values.now self.old.kept } }
         ensures counted { steps.new ≡ steps.old + length values.now }
     {
         match (&mut self.kept, &self.places) {
@@ -256,7 +265,8 @@ impl Node {
 
     /// Loses its mark if it is of this root's family.
     pub fn unmark(&mut self, root: u64)
-        ensures { self.new ≡ record self.old { mark = if self.old.root == root then false else self.old.mark } }
+        ensures { self.new ≡ record self.old
+            { mark = if self.old.root == root then false else self.old.mark } }
     {
         if self.root == root {
             self.mark = false;

@@ -26,7 +26,8 @@ fn put_back<L: Ledger>(table: &mut Table, root: u64, id: u64, steps: &mut Steps<
     requires view { id ≢ root }
     requires family { (row_at table.old id).root ≡ root }
     requires marked { (row_at table.old id).mark ≡ true }
-    ensures put { table.new ≡ each (kept_in root (write (places_of table.old id) (row_at table.old id).kept (row_at table.old root).kept)) table.old }
+    ensures put { table.new ≡ each (kept_in root (write (places_of table.old id)
+        (row_at table.old id).kept (row_at table.old root).kept)) table.old }
     ensures counted { steps.new ≡ steps.old + size_of (row_at table.old id).triple.dims }
 {
     table.put_back(root, id, steps);
@@ -61,7 +62,8 @@ fn put_on_root<L: Ledger>(
     requires over { (row_at table.old id).base ≡ root }
     requires count { length values.now ≡ size_of (row_at table.old id).triple.dims }
     requires in_range { All (InRange (row_at table.old id).ty) values.now }
-    ensures put { table.new ≡ each (kept_in root (write (places_of table.old id) values.now (row_at table.old root).kept)) table.old }
+    ensures put { table.new ≡ each (kept_in root (write (places_of table.old id) values.now
+        (row_at table.old root).kept)) table.old }
     ensures counted { steps.new ≡ steps.old + length values.now }
 {
     let triple = copy_triple(table.node(id).triple());
@@ -88,7 +90,8 @@ fn put_past_base<L: Ledger>(
     requires marked { (row_at table.old base).mark ≡ true }
     requires count { length values.now ≡ size_of (row_at table.old id).triple.dims }
     requires in_range { All (InRange (row_at table.old id).ty) values.now }
-    ensures put { table.new ≡ each (kept_in root (write (places_of table.old id) values.now (row_at table.old root).kept)) table.old }
+    ensures put { table.new ≡ each (kept_in root (write (places_of table.old id) values.now
+        (row_at table.old root).kept)) table.old }
     ensures counted { steps.new ≡ steps.old + length values.now }
 {
     let triple = copy_triple(table.node(id).triple());
@@ -111,7 +114,8 @@ fn put_at_root<L: Ledger>(
     requires fresh { is_fresh_in table.old id ≡ true }
     requires count { length values.now ≡ size_of (row_at table.old id).triple.dims }
     requires in_range { All (InRange (row_at table.old id).ty) values.now }
-    ensures put { table.new ≡ each (kept_in root (write (places_of table.old id) values.now (row_at table.old root).kept)) table.old }
+    ensures put { table.new ≡ each (kept_in root (write (places_of table.old id) values.now
+        (row_at table.old root).kept)) table.old }
     ensures counted { steps.new ≡ steps.old + length values.now }
 {
     let base = table.node(id).base();
@@ -140,7 +144,9 @@ fn assign_at_root<L: Ledger>(
     requires fresh { is_fresh_in table.old id ≡ true }
     requires count { length values.now ≡ size_of (row_at table.old id).triple.dims }
     requires in_range { All (InRange (row_at table.old id).ty) values.now }
-    ensures settled { table.new ≡ each (settle root (write (places_of table.old id) values.now (latest table.old root)) root false) table.old }
+    ensures settled { table.new
+        ≡ each (settle root (write (places_of table.old id) values.now (latest table.old root))
+        root false) table.old }
     ensures counted { steps.new ≡ steps.old + length values.now }
 {
     put_at_root(table, root, id, values, steps);
@@ -162,7 +168,8 @@ fn assign_at_base<L: Ledger>(
     requires view { base ≢ root }
     requires count { length values.now ≡ size_of (row_at table.old id).triple.dims }
     requires in_range { All (InRange (row_at table.old id).ty) values.now }
-    ensures awaits { table.new ≡ each (await root base (put_through table.old id values.now)) table.old }
+    ensures awaits { table.new ≡ each (await root base (put_through table.old id values.now))
+        table.old }
     ensures counted { steps.new ≡ steps.old + length values.now }
 {
     let triple = copy_triple(table.node(id).triple());
@@ -173,8 +180,9 @@ fn assign_at_base<L: Ledger>(
     }
 }
 
-/// Assigns values to a fresh array. They wait in its base, where that is a view without repeats, and
-/// are put into the root otherwise. It takes a step for each value, and no memory.
+/// Assigns values to a fresh array. They wait in its base, where that is a
+/// view without repeats, and are put into the root otherwise. It takes a step for
+/// each value, and no memory.
 pub fn assign<L: Ledger>(table: &mut Table, id: u64, values: &[i64], steps: &mut Steps<L>)
     requires order { InOrder table.old }
     requires known { AreKnown table.old }

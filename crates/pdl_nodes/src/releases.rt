@@ -1,5 +1,5 @@
-//! Letting go: what waits in views that go is written back, where their roots stay, and then what no
-//! held array reaches is removed (PDL::Dataflow).
+//! Letting go: what waits in views that go is written back, where their roots
+//! stay, and then what no held array reaches is removed (PDL::Dataflow).
 ghost use Rattle.std.specs.Prelude.{◌≡◌, ℕ, ◌+◌, ◌<◌, true, List};
 ghost use Rattle.pdl_world.specs.Swept.{holds as is_listed, sweep};
 ghost use Rattle.pdl_nodes.specs.Families.{InOrder};

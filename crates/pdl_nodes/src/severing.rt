@@ -74,8 +74,9 @@ fn first_copied<L: Ledger>(
 }
 
 /// Cuts an array from its parent: it becomes a root with its elements, and its own views stay with
-/// it. On a root it does nothing. Want of memory leaves the world as it was, and what could be lent.
-/// It takes the steps that make the array fresh, and one for each of its elements that isn't 0.
+/// it. On a root it does nothing. Want of memory leaves the world as it was,
+/// and what could be lent. It takes the steps that make the array fresh, and one for each of its
+/// elements that isn't 0.
 pub fn sever<L: Ledger>(
     table: &mut Table,
     alloc: Global,
@@ -114,9 +115,9 @@ pub fn sever<L: Ledger>(
 }
 
 /// Gives an array that has no views other dimensions: it becomes a root with its first elements, in
-/// order, and zeros after them where there are fewer. Want of memory leaves the world as it was, and
-/// what could be lent. It takes the steps that make the array fresh, and one for each of its new
-/// elements that isn't 0.
+/// order, and zeros after them where there are fewer. Want of memory leaves
+/// the world as it was, and what could be lent. It takes the steps that make the array fresh, and
+/// one for each of its new elements that isn't 0.
 pub fn reshape<L: Ledger>(
     table: &mut Table,
     alloc: Global,

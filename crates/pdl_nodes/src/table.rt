@@ -18,7 +18,7 @@ use crate::node::{Lifted, Node};
 use pdl_affine::{view_laws, window_laws};
 use pdl_buf::{Buf, Steps};
 use pdl_choice::Places;
-use pdl_shape::{Dims, Triple, elements_of, shape_laws, triple_laws};
+use pdl_shape::{Dims, Triple, shape_laws, triple_laws};
 use slab::Slab;
 use std::alloc::{AllocError, Global};
 use std::collections::BTreeMap;
@@ -42,7 +42,8 @@ impl Model for Table {
 
     ghost view = { λ t. rows_of t.nodes t.keys.entries };
 
-    ghost invariant = { λ t. IsTable t.keys t.nodes × AreListed (rows_of t.nodes t.keys.entries) t.marked };
+    ghost invariant = { λ t. IsTable t.keys t.nodes ×
+        AreListed (rows_of t.nodes t.keys.entries) t.marked };
 }
 
 impl Table {
@@ -126,7 +127,6 @@ impl Table {
         let key = self.keys[&id];
         let node = &self.nodes[key];
         let repeats = node.repeats();
-        let _count = elements_of(&node.triple().dims);
         let Lifted { kept, places } = self.nodes[key].lift();
         let at = self.keys[&root];
         self.nodes[at].write(places.as_slice(), &kept, steps);
@@ -146,7 +146,8 @@ impl Table {
         requires buffered { is_buffered (row_at self.old root) ≡ true }
         requires paired { length values.now ≡ size_of triple.now.dims }
         requires in_range { All (InRange (row_at self.old root).ty) values.now }
-        ensures put { self.new ≡ each (kept_in root (write (placed_by None triple.now) values.now (row_at self.old root).kept)) self.old }
+        ensures put { self.new ≡ each (kept_in root (write (placed_by None triple.now) values.now
+            (row_at self.old root).kept)) self.old }
         ensures counted { steps.new ≡ steps.old + length values.now }
     {
         let key = self.keys[&root];
@@ -195,7 +196,9 @@ impl Table {
         requires found { is_some (row_at self.old id).places ≡ true }
         requires paired { length values.now ≡ size_of triple.now.dims }
         requires in_range { All (InRange (row_at self.old id).ty) values.now }
-        ensures value { self.new ≡ each (kept_in id (put_all (places_or (row_at self.old id).places) (spots triple.now) values.now (row_at self.old id).kept)) self.old }
+        ensures value { self.new
+            ≡ each (kept_in id (put_all (places_or (row_at self.old id).places) (spots triple.now)
+            values.now (row_at self.old id).kept)) self.old }
         ensures counted { steps.new ≡ steps.old + length values.now }
     {
         let key = self.keys[&id];

@@ -1,5 +1,5 @@
--- What the reader holds of the arguments so far. It keeps the list only as long as no argument is too large
--- and they aren't too many, since the list isn't answered otherwise.
+-- What the reader holds of the arguments so far. It keeps the list only as long as
+-- no argument is too large and they aren't too many, since the list isn't answered otherwise.
 use Rattle.std.specs.Prelude.{◌≡◌, ◌≤◌, min, Bool, true, false, List, length, Option, Some, None}
 use Rattle.std.specs.List.{list_any}
 use Rattle.pdl_slices.specs.declared.SliceArg.{SliceArg}

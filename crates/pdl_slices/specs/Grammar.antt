@@ -17,7 +17,8 @@ pub data Blanks : List ℕ → Type 0 where
 -- one or more digits, and the number that they spell; leading zeros are digits
 pub data Digits : ℕ → List ℕ → Type 0 where
   one_digit : (d : ℕ) → IsTrue (is_ascii_digit d) → Digits (d - 48) (d ∷ [])
-  digit_after : (n : ℕ) (s : List ℕ) (d : ℕ) → Digits n s → IsTrue (is_ascii_digit d) → Digits (10 * n + (d - 48)) (s ++ d ∷ [])
+  digit_after : (n : ℕ) (s : List ℕ) (d : ℕ) → Digits n s → IsTrue (is_ascii_digit d) →
+      Digits (10 * n + (d - 48)) (s ++ d ∷ [])
 
 -- a number is an optional `-` and digits, with nothing between
 pub data Number : ℤ → List ℕ → Type 0 where
@@ -38,7 +39,8 @@ pub data Arg : SliceArg → List ℕ → Type 0 where
   colon : (s t : List ℕ) → Field None s → Field None t → Arg Whole (s ++ 58 ∷ t)
   span : (from to : Option ℤ) (s t : List ℕ) → Field from s → Field to t
       → IsTrue (is_some from || is_some to) → Arg (Span from to None) (s ++ 58 ∷ t)
-  stepped : (from to : Option ℤ) (step : ℤ) (s t u : List ℕ) → Field from s → Field to t → Field (Some step) u
+  stepped : (from to : Option ℤ) (step : ℤ) (s t u : List ℕ) → Field from s →
+      Field to t → Field (Some step) u
       → Arg (Span from to (Some step)) (s ++ 58 ∷ t ++ 58 ∷ u)
   sized : (n : ℕ) (s t u v : List ℕ) → Blanks s → Blanks t → Digits n u → Blanks v
       → Arg (Dummy n) (s ++ 42 ∷ (t ++ u ++ v))
@@ -47,7 +49,8 @@ pub data Arg : SliceArg → List ℕ → Type 0 where
 -- one or more arguments, separated by commas
 pub data Args : List SliceArg → List ℕ → Type 0 where
   one_arg : (a : SliceArg) (s : List ℕ) → Arg a s → Args (a ∷ []) s
-  arg_after : (args : List SliceArg) (a : SliceArg) (s t : List ℕ) → Args args s → Arg a t → Args (args ++ a ∷ []) (s ++ 44 ∷ t)
+  arg_after : (args : List SliceArg) (a : SliceArg) (s t : List ℕ) → Args args s → Arg a t →
+      Args (args ++ a ∷ []) (s ++ 44 ∷ t)
 
 -- a slice text: blanks alone have no arguments, and another text has those that its commas separate
 pub data Spells : List SliceArg → List ℕ → Type 0 where

@@ -1,4 +1,5 @@
--- The meaning of a slice text as a function. The law `slice_meaning` says that it is the grammar with its refusals.
+-- The meaning of a slice text as a function. The law `slice_meaning` says that it is the
+-- grammar with its refusals.
 use Rattle.std.specs.Prelude.{◌≡◌, ◌↔◌, ℕ, suc, List, [], ◌∷◌, Option, Some, None, Result, Ok, Err}
 use Rattle.pdl_slices.specs.declared.SliceArg.{SliceArg}
 use Rattle.pdl_slices.specs.declared.SliceFault.{SliceFault}
@@ -16,7 +17,8 @@ abbrev pub verdict_on : List SliceArg → Result (List SliceArg) SliceFault
 verdict_on args = judged (refusal args) args
 
 -- what comes of a step, or that the text goes wrong at this place
-abbrev pub or_bad_text : {A : Type 0} → ℕ → (A → Result (List SliceArg) SliceFault) → Option A → Result (List SliceArg) SliceFault
+abbrev pub or_bad_text : {A : Type 0} → ℕ → (A → Result (List SliceArg) SliceFault) → Option A →
+    Result (List SliceArg) SliceFault
 or_bad_text at f None = Err (BadText at)
 or_bad_text at f (Some x) = f x
 
@@ -31,4 +33,5 @@ slice_of text = read_on first_stage 0 text
 
 -- the answer for a text is exactly what it means
 abbrev pub TextsHaveOneMeaning : Type 0
-TextsHaveOneMeaning = (text : List ℕ) (answer : Result (List SliceArg) SliceFault) → (slice_of text ≡ answer) ↔ Means text answer
+TextsHaveOneMeaning = (text : List ℕ) (answer : Result (List SliceArg) SliceFault) →
+    (slice_of text ≡ answer) ↔ Means text answer

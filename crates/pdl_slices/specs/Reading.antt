@@ -1,5 +1,6 @@
--- The reader of slice texts as a machine: where it stands, and how one byte moves it. Numbers are cut at the
--- first size that is too large. It is a step of the proof: what is promised stands in Grammar and Refusals.
+-- The reader of slice texts as a machine: where it stands, and how one byte moves it.
+-- Numbers are cut at the first size that is too large. It is a step of the proof: what is promised
+-- stands in Grammar and Refusals.
 use Rattle.std.specs.Prelude.{ℕ, ◌+◌, ◌-◌, ◌*◌, min, Bool, true, false, ◌&&◌, ◌==◌, List, [], ◌∷◌, ◌++◌, ℤ, pos, neg_ℤ, nat_abs, Option, Some, None, option_map, option_and_then, Result, Ok, Err, if◌then◌else◌}
 use Rattle.pdl_slices.specs.declared.SliceArg.{SliceArg}
 use Rattle.pdl_slices.specs.declared.SliceArg.TheVariants.{Whole, One, Dropped, Dummy, Span}
@@ -73,7 +74,8 @@ takes_sign (By from to) = true
 abbrev pub part_after_digit : Part → ℕ → Option Part
 part_after_digit part.Before digit = Some (part.Digits false (more_digits 0 digit))
 part_after_digit part.Minus digit = Some (part.Digits true (more_digits 0 digit))
-part_after_digit (part.Digits negative size) digit = Some (part.Digits negative (more_digits size digit))
+part_after_digit (part.Digits negative size) digit =
+    Some (part.Digits negative (more_digits size digit))
 part_after_digit (part.After number) digit = None
 
 -- a sign begins a number
@@ -114,10 +116,12 @@ in_slot s p = option_map (λ q. record { slot = s; part = q }) p
 -- where a byte that is no comma leads from a place, if it may stand there
 abbrev pub moved : Place → Kind → Option Place
 moved p Blank = in_slot p.slot (part_after_blank p.part)
-moved p (Digit digit) = if takes_number p.slot then in_slot p.slot (part_after_digit p.part digit) else None
+moved p (Digit digit) = if takes_number p.slot then in_slot p.slot (part_after_digit p.part digit)
+    else None
 moved p Minus = if takes_sign p.slot then in_slot p.slot (part_after_minus p.part) else None
 moved p kind =
-    option_and_then (λ number. option_map (λ s. record { slot = s; part = part.Before }) (slot_after p.slot number kind)) (number_in p.part)
+    option_and_then (λ number. option_map (λ s. record { slot = s; part = part.Before })
+    (slot_after p.slot number kind)) (number_in p.part)
 
 -- the argument that ends at a place, if one may end there
 abbrev pub ended : Place → Option SliceArg
@@ -149,7 +153,8 @@ first_place = record { slot = Single; part = part.Before }
 
 -- a comma ends an argument, and each other byte moves the place
 abbrev pub stage_after : Stage → Kind → Option Stage
-stage_after s Comma = option_map (λ a. record { done = s.done ++ a ∷ []; place = first_place }) (ended s.place)
+stage_after s Comma = option_map (λ a. record { done = s.done ++ a ∷ []; place = first_place })
+    (ended s.place)
 stage_after s kind = option_map (λ p. record { done = s.done; place = p }) (moved s.place kind)
 
 -- the stage after these bytes, if they may stand there

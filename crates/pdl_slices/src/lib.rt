@@ -37,7 +37,8 @@ pub enum SliceArg {
 /// only want of memory may be answered at any text.
 #[derive(Clone, Copy, Debug, PartialEq, Eq)]
 pub enum SliceFault {
-    /// The text isn't a slice text. The longest prefix that some slice text begins with has `at` bytes.
+    /// The text isn't a slice text. The longest prefix that some slice text
+    /// begins with has `at` bytes.
     BadText { at: u32 },
     /// More than 32 arguments.
     TooManyArgs,
@@ -106,7 +107,8 @@ pub fn read_slice(alloc: Global, text: &[u8]) -> Result<SliceArgs, SliceFault>
     requires { length text.now < 2 ^ 32 }
 
     ensures read { IfOk result (IsRead text.now) }
-    ensures refused { IfErr result (λ fault. fault ≢ SliceFault.NoMemory → IsFaultOf text.now fault) }
+    ensures refused { IfErr result (λ fault. fault ≢ SliceFault.NoMemory →
+        IsFaultOf text.now fault) }
 {
     let mut reader = Reader::new(alloc);
     for (at, byte) in text.iter().enumerate() {
@@ -121,8 +123,8 @@ pub fn read_slice(alloc: Global, text: &[u8]) -> Result<SliceArgs, SliceFault>
     reader.verdict()
 }
 
-/// A text has one meaning: its arguments where it spells some and none of them is refused, else the first refusal, with
-/// the place of a bad text. `slice_of` is that meaning as a function.
+/// A text has one meaning: its arguments where it spells some and none of them is refused, else
+/// the first refusal, with the place of a bad text. `slice_of` is that meaning as a function.
 pub fn slice_meaning()
     ensures { TextsHaveOneMeaning }
 {}

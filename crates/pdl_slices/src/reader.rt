@@ -51,7 +51,8 @@ impl Reader {
 
     /// Takes a byte, if it may stand there.
     pub fn take(&mut self, byte: u8) -> Result<bool, AllocError>
-        ensures { IfOk result (λ fits. (s : Stage) → Holds s self.old → Takes fits (stage_after s (kind_of byte)) self.new) }
+        ensures { IfOk result (λ fits. (s : Stage) → Holds s self.old →
+            Takes fits (stage_after s (kind_of byte)) self.new) }
     {
         match kind_of(byte) {
             Kind::Comma => self.end_arg(),
@@ -67,7 +68,8 @@ impl Reader {
 
     /// Ends the text, if it may end there.
     pub fn end(&mut self) -> Result<bool, AllocError>
-        ensures { IfOk result (λ fits. (s : Stage) → Holds s self.old → Ends fits (finished s) self.new) }
+        ensures { IfOk result (λ fits. (s : Stage) → Holds s self.old →
+            Ends fits (finished s) self.new) }
     {
         if self.count == 0 && is_first(self.place) {
             Ok(true)
@@ -78,7 +80,8 @@ impl Reader {
 
     /// Ends an argument, if it may end there.
     fn end_arg(&mut self) -> Result<bool, AllocError>
-        ensures { IfOk result (λ fits. (s : Stage) → Holds s self.old → Takes fits (stage_after s Kind.Comma) self.new) }
+        ensures { IfOk result (λ fits. (s : Stage) → Holds s self.old →
+            Takes fits (stage_after s Kind.Comma) self.new) }
     {
         match ended(self.place) {
             None => Ok(false),
@@ -91,7 +94,8 @@ impl Reader {
     }
 
     fn add(&mut self, arg: Result<SliceArg, TooLarge>) -> Result<(), AllocError>
-        ensures { OnOk result ((done : List SliceArg) (a : SliceArg) → arg ≡ fitted a → Collects done self.old → Collects (done ++ a ∷ []) self.new) }
+        ensures { OnOk result ((done : List SliceArg) (a : SliceArg) → arg ≡ fitted a →
+            Collects done self.old → Collects (done ++ a ∷ []) self.new) }
     {
         if self.count <= MOST {
             self.count += 1;

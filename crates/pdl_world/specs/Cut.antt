@@ -1,4 +1,5 @@
--- Arrays that become roots: cut from their parents, or of other dimensions (PDL::Core: sever, reshape).
+-- Arrays that become roots: cut from their parents, or of other dimensions
+-- (PDL::Core: sever, reshape).
 use Rattle.std.specs.Prelude.{ℕ, ℤ, pos, ◌==◌, if◌then◌else◌, List, [], ◌∷◌, ◌++◌, take, replicate, Bool}
 use Rattle.std.specs.List.{list_any}
 use Rattle.pdl_shape.specs.Shape.{size_of}

@@ -50,8 +50,8 @@ CutsLeaveFamilies =
 abbrev pub seen_over : (l m : Look) → Look
 seen_over l m = record m { root = l.root; places = through_places m.places l.places }
 
--- u is a view of the new root v by way of what it was before: its places in the old root are those of v at its
--- places in v, and its path went on with that of v
+-- u is a view of the new root v by way of what it was before: its places in the old
+-- root are those of v at its places in v, and its path went on with that of v
 pub record IsViewOfCut (old new : World) (v u : ℕ) (l : Look) : Type 0 where
   pub seen : Look
   pub look_is : look new u ≡ Some seen

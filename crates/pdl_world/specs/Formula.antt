@@ -1,5 +1,5 @@
--- The view formulas, one case for each transformation: the child's dimensions over a parent's, or the first
--- refusal, and the parent's coordinates for the child's (PDL::Slices).
+-- The view formulas, one case for each transformation: the child's dimensions over a
+-- parent's, or the first refusal, and the parent's coordinates for the child's (PDL::Slices).
 use Rattle.std.specs.Prelude.{ℕ, Bool, ◌==◌, List, length, Option, Some, Result}
 use Rattle.pdl_shape.specs.Refusals.{Refusal}
 use Rattle.pdl_shape.specs.Shape.{size_of}
@@ -24,8 +24,8 @@ source (Index dims ind) parent at = Some (index_source parent dims ind at)
 source (Where dims places) parent at = Some (where_source parent places at)
 source (Range dims ind sizes edge) parent at = range_source parent dims ind sizes edge at
 
--- a slice has no step 0 and a diagonal lists a dimension; there are as many index values as their dimensions say;
--- listed places rise and lie below the size of their dimensions
+-- a slice has no step 0 and a diagonal lists a dimension; there are as many index values
+-- as their dimensions say; listed places rise and lie below the size of their dimensions
 abbrev pub is_well_formed : Trans → Bool
 is_well_formed (Affine t) = affine.is_well_formed t
 is_well_formed (Index dims ind) = length ind == size_of dims

@@ -23,13 +23,14 @@ abbrev pub NumbersStay : Type 0
 NumbersStay =
     (w : World) (n v : ℕ) (vs : List ℤ) → NumbersBelow n w → NumbersBelow n (assign w v vs)
 
--- the elements of u after values were assigned to v: those of its root at its places, where these have the values
--- if both arrays have one root
+-- the elements of u after values were assigned to v: those of its root at its places,
+-- where these have the values if both arrays have one root
 abbrev pub Reads : Type 0
 Reads =
     (w : World) (v u : ℕ) (l m : Look) (vs : List ℤ) → look w v ≡ Some l → look w u ≡ Some m
     → elements (assign w v vs) u
-    ≡ read m.places (if m.root == l.root then write l.places vs (root_elements w l.root) else root_elements w m.root)
+    ≡ read m.places (if m.root == l.root then write l.places vs (root_elements w l.root)
+    else root_elements w m.root)
 
 -- the values at positions that have a place, and 0 at the others
 abbrev pub kept_values : (places : List (Option ℕ)) → (values : List ℤ) → List ℤ
@@ -115,7 +116,8 @@ NewRootIsWhole =
     (w : World) (k : ℕ) (ty : Ty) (ds : List ℕ) (es : List ℤ)
     → look ((k, root ty ds es) ∷ w) k ≡ Some (whole k ty ds)
 
--- a new view has at each position its parent's element at the source of the position, and 0 where that is nothing
+-- a new view has at each position its parent's element at the source of the position, and
+-- 0 where that is nothing
 abbrev pub NewViewIsSeen : Type 0
 NewViewIsSeen =
     (w : World) (k p : ℕ) (t : Trans) (ds : List ℕ) → IsLive w p

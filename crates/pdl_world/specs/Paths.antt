@@ -7,7 +7,8 @@ use Rattle.pdl_world.specs.World.{World, root, view, look}
 abbrev pub depth_limit : ℕ
 depth_limit = 64
 
--- the array, its parent, the parent's parent and so on to the root; none for a number that no array has
+-- the array, its parent, the parent's parent and so on to the root; none for a
+-- number that no array has
 abbrev pub path : World → ℕ → List ℕ
 path [] v = []
 path ((k, root ty ds es) ∷ w) v = if k == v then k ∷ [] else path w v

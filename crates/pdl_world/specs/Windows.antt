@@ -14,8 +14,8 @@ pub record Window : Type 0 where
   pub base : ℕ
   pub triple : Triple
 
--- the triple of a view over the base that its parent is shown over, if it can be shown over that: an affine view, unless
--- it is a clump of dimensions that don't join
+-- the triple of a view over the base that its parent is shown over, if it can be shown over that:
+-- an affine view, unless it is a clump of dimensions that don't join
 abbrev pub over : Trans → Triple → Option Triple
 over (Affine t) above = composed t above
 over (Index ds ind) above = None
@@ -37,7 +37,8 @@ narrowed k t above = window_over k t above (over t above.triple)
 -- the base of an array and the triple over it
 abbrev pub window : World → ℕ → Option Window
 window [] v = None
-window ((k, root ty ds es) ∷ w) v = if k == v then Some (record { base = k; triple = whole ds }) else window w v
+window ((k, root ty ds es) ∷ w) v = if k == v then Some (record { base = k; triple = whole ds })
+    else window w v
 window ((k, view p t) ∷ w) v =
     let below = window w (if k == v then p else v) in
     if k == v then option_and_then (narrowed k t) below else below

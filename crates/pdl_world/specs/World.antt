@@ -1,4 +1,5 @@
--- Worlds: what is seen through an array, its elements, and assignment (PDL::Indexing, PDL::Dataflow).
+-- Worlds: what is seen through an array, its elements, and assignment
+-- (PDL::Indexing, PDL::Dataflow).
 use Rattle.std.specs.Prelude.{ℕ, ℤ, ◌==◌, if◌then◌else◌, Bool, true, false, List, [], ◌∷◌, map, Option, Some, None, option_and_then, get_or, Result, Ok, Err}
 use Rattle.std.specs.Option.{option_map_or}
 use Rattle.std.specs.List.{range_with_len}
@@ -15,7 +16,8 @@ pub data ArrayDef : Type 0 where
   root : (ty : Ty) (dims : List ℕ) (elems : List ℤ) → ArrayDef
   view : (parent : ℕ) (trans : Trans) → ArrayDef
 
--- The arrays by their numbers, newest first. A view's parent is older, so it stands behind the view.
+-- The arrays by their numbers, newest first. A view's parent is older, so it
+-- stands behind the view.
 abbrev pub World : Type 0
 World = List (ℕ × ArrayDef)
 
@@ -29,7 +31,8 @@ pub record Look : Type 0 where
 
 -- a root sees each of its positions
 abbrev pub whole : ℕ → Ty → List ℕ → Look
-whole k ty ds = record { root = k; ty = ty; dims = ds; places = map Some (range_with_len 0 (size_of ds)) }
+whole k ty ds = record
+    { root = k; ty = ty; dims = ds; places = map Some (range_with_len 0 (size_of ds)) }
 
 -- the root's place at a position of the parent, or nothing
 abbrev pub entry : List (Option ℕ) → ℕ → Option ℕ
@@ -81,7 +84,8 @@ root_elements ((k, view p t) ∷ w) r = root_elements w r
 -- the world with other elements of a root
 abbrev pub set_elements : World → ℕ → List ℤ → World
 set_elements [] r new = []
-set_elements ((k, root ty ds es) ∷ w) r new = (k, root ty ds (if k == r then new else es)) ∷ set_elements w r new
+set_elements ((k, root ty ds es) ∷ w) r new = (k, root ty ds (if k == r then new else es))
+    ∷ set_elements w r new
 set_elements ((k, view p t) ∷ w) r new = (k, view p t) ∷ set_elements w r new
 
 -- the dimensions of an array

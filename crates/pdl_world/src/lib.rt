@@ -112,10 +112,10 @@ pub fn cut_laws()
     shape_laws()
 }
 
-/// The laws of other dimensions (PDL::Core, reshape), for an array that is no view's parent. It is a
-/// root of these dimensions afterwards, with the first elements that it had, in order, and zeros
-/// where there were fewer; the others are seen as before. The same arrays are there, and a sound
-/// world stays sound.
+/// The laws of other dimensions (PDL::Core, reshape), for an array that is no
+/// view's parent. It is a root of these dimensions afterwards, with the first elements that it
+/// had, in order, and zeros where there were fewer; the others are seen as before. The same arrays
+/// are there, and a sound world stays sound.
 pub fn reshape_laws()
     ensures views { ViewsAreFound }
     ensures fitted { FittedIsFitted }
