@@ -35,9 +35,11 @@ impl<R: Read> Source for ReadSource<R> {
 
     fn read(&mut self, into: &mut [u8]) -> Result<usize, Failed>
         ensures bound { ReadsAtMost result into.new }
-        ensures bytes { ReadConsumes (R.remaining (reader_of self.old)) (R.remaining (reader_of self.new)) result into.new }
+        ensures bytes { ReadConsumes (R.remaining (reader_of self.old))
+            (R.remaining (reader_of self.new)) result into.new }
         ensures cause { HasCause (failed_reads self.old) (failed_reads self.new) result }
-        ensures counted { OnErr result (failed_reads self.new ≡ next_count (failed_reads self.old)) }
+        ensures counted { OnErr result
+            (failed_reads self.new ≡ next_count (failed_reads self.old)) }
     {
         match self.reader.read(into) {
             Ok(count) => Ok(count),
@@ -81,9 +83,11 @@ impl<W: Write> Sink for WriteSink<W> {
     fn write(&mut self, piece: &[u8]) -> Result<usize, Failed>
         ensures bound { WritesAtMost result piece.now }
         ensures progress { IfOk result (λ n. 0 < length piece.now → 0 < n) }
-        ensures bytes { WriteAppends (W.contents (writer_of self.old)) (W.contents (writer_of self.new)) result piece.now }
+        ensures bytes { WriteAppends (W.contents (writer_of self.old))
+            (W.contents (writer_of self.new)) result piece.now }
         ensures cause { HasCause (failed_writes self.old) (failed_writes self.new) result }
-        ensures counted { OnErr result (failed_writes self.new ≡ next_count (failed_writes self.old)) }
+        ensures counted { OnErr result
+            (failed_writes self.new ≡ next_count (failed_writes self.old)) }
     {
         match self.writer.write(piece) {
             Ok(count) if count > 0 || piece.is_empty() => Ok(count),
@@ -97,7 +101,8 @@ impl<W: Write> Sink for WriteSink<W> {
     fn flush(&mut self) -> Result<(), Failed>
         ensures bytes { Keeps (W.contents (writer_of self.old)) (W.contents (writer_of self.new)) }
         ensures cause { HasCause (failed_writes self.old) (failed_writes self.new) result }
-        ensures counted { OnErr result (failed_writes self.new ≡ next_count (failed_writes self.old)) }
+        ensures counted { OnErr result
+            (failed_writes self.new ≡ next_count (failed_writes self.old)) }
     {
         match self.writer.flush() {
             Ok(()) => Ok(()),

@@ -31,7 +31,8 @@ impl Model for CountSink {
 
     ghost view = { λ a. record { bytes = a.log.bytes; faults = a.faults } };
 
-    ghost invariant = { λ a. (a.counted ≡ length a.log.bytes) × (a.summed ≡ sum a.log.bytes) × (a.counted ≤ count_limit) × (a.summed ≤ 255 * a.counted) };
+    ghost invariant = { λ a. (a.counted ≡ length a.log.bytes) × (a.summed ≡ sum a.log.bytes)
+        × (a.counted ≤ count_limit) × (a.summed ≤ 255 * a.counted) };
 }
 
 impl CountSink {

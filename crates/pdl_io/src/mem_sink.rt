@@ -39,7 +39,8 @@ impl Model for MemSink {
       is_flushed = a.is_flushed;
     } };
 
-    ghost invariant = { λ a. (length a.bytes.items ≤ a.room) × (a.room ≤ vec_capacity a.bytes) × (0 < a.most) };
+    ghost invariant = { λ a. (length a.bytes.items ≤ a.room) × (a.room ≤ vec_capacity a.bytes)
+        × (0 < a.most) };
 }
 
 impl MemSink {
@@ -101,7 +102,8 @@ impl Sink for MemSink {
         ensures progress { IfOk result (λ n. 0 < length piece.now → 0 < n) }
         ensures bytes { WriteAppends (Some self.old.bytes) (Some self.new.bytes) result piece.now }
         ensures not_flushed { OnOk result (self.new.is_flushed ≡ false) }
-        ensures flushed_before { OnErr result (Some self.new.is_flushed ≡ Some self.old.is_flushed) }
+        ensures flushed_before { OnErr result
+            (Some self.new.is_flushed ≡ Some self.old.is_flushed) }
         ensures tells { KeepsTelling (Some self.old.is_flushed) (Some self.new.is_flushed) }
         ensures cause { HasCause self.old.faults self.new.faults result }
 
@@ -127,7 +129,8 @@ impl Sink for MemSink {
     fn flush(&mut self) -> Result<(), Failed>
         ensures bytes { self.new.bytes ≡ self.old.bytes }
         ensures flushed { OnOk result (self.new.is_flushed ≡ true) }
-        ensures flushed_before { OnErr result (Some self.new.is_flushed ≡ Some self.old.is_flushed) }
+        ensures flushed_before { OnErr result
+            (Some self.new.is_flushed ≡ Some self.old.is_flushed) }
         ensures tells { KeepsTelling (Some self.old.is_flushed) (Some self.new.is_flushed) }
         ensures cause { HasCause self.old.faults self.new.faults result }
 

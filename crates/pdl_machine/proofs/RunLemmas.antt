@@ -77,21 +77,33 @@ after-ended : (ends : Bool) (p : Progress) (line : ℕ) (r : Stepped) → (p.end
 after-ended ends p line (Ok (s, text)) faulted = faulted
 after-ended ends p line (Err e) faulted = λ _. refl
 
-faults_at_last : (keep : Bool) (p : Progress) (ms : List Mark) (line : ℕ) → (p.ended ≡ true → p.faulted ≡ true)
-    → (after_marks keep p (ms ++ script_too_long line ∷ [])).faulted ≡ true
-faults_at_last keep p [] line faulted =
-    elim p.ended as (λ b. p.ended ≡ b → (cond b p (after true p line (Err ScriptTooLong))).faulted ≡ true) [ true ↦ faulted | false ↦ λ e. refl ] refl
-faults_at_last keep p (m ∷ ms) line faulted =
-    let next = faults_at_last keep (after_mark keep p m) ms line (after-ended (fault_ends keep m) p (line_of m) (mark_step p.state m) faulted) in
-    elim p.ended as (λ b. p.ended ≡ b → (cond b p (after_marks keep (after_mark keep p m) (ms ++ script_too_long line ∷ []))).faulted ≡ true) [
+marks-ended : (keep : Bool) (p : Progress) (ms : List Mark) → (p.ended ≡ true → p.faulted ≡ true)
+    → (after_marks keep p ms).ended ≡ true → (after_marks keep p ms).faulted ≡ true
+marks-ended keep p [] faulted = faulted
+marks-ended keep p (m ∷ ms) faulted =
+    let next = marks-ended keep (after_mark keep p m) ms (after-ended (fault_ends keep m) p (line_of m) (mark_step p.state m) faulted) in
+    elim p.ended as (λ b. (cond b p (after_marks keep (after_mark keep p m) ms)).ended ≡ true → (cond b p (after_marks keep (after_mark keep p m) ms)).faulted ≡ true) [
       | true ↦ faulted
+      | false ↦ next
+    ]
+
+pub ended_by_fault : (keep : Bool) (ms : List Mark) → (after_marks keep start ms).ended ≡ true → (after_marks keep start ms).faulted ≡ true
+ended_by_fault keep ms = marks-ended keep start ms (λ e. cc)
+
+ends_at_last : (keep : Bool) (p : Progress) (ms : List Mark) (line : ℕ) → (after_marks keep p (ms ++ script_too_long line ∷ [])).ended ≡ true
+ends_at_last keep p [] line =
+    elim p.ended as (λ b. p.ended ≡ b → (cond b p (after true p line (Err ScriptTooLong))).ended ≡ true) [ true ↦ λ e. e | false ↦ λ e. refl ] refl
+ends_at_last keep p (m ∷ ms) line =
+    let next = ends_at_last keep (after_mark keep p m) ms line in
+    elim p.ended as (λ b. p.ended ≡ b → (cond b p (after_marks keep (after_mark keep p m) (ms ++ script_too_long line ∷ []))).ended ≡ true) [
+      | true ↦ λ e. e
       | false ↦ λ e. next
     ] refl
 
-pub too_long_faults : (keep : Bool) (script : List ℕ) → script_limit < length script → (run keep script).faulted ≡ true
-too_long_faults keep script far =
+pub too_long_ends : (keep : Bool) (script : List ℕ) → script_limit < length script → (run keep script).ended ≡ true
+too_long_ends keep script far =
     rw (lt-ltb script_limit (length script) far)
-    (faults_at_last keep start (map statement (settled (take script_limit script))) (1 + newlines (take script_limit script)) (λ e. cc))
+    (ends_at_last keep start (map statement (settled (take script_limit script))) (1 + newlines (take script_limit script)))
 
 pub limit_ends : (keep : Bool) (script more : List ℕ) → script_limit < length script → run keep (script ++ more) ≡ run keep script
 limit_ends keep script more far =

@@ -1,11 +1,10 @@
 -- How far a run has come by the first bytes of a script.
-use Rattle.std.proofs.Common.{◌≡◌, ℕ, zero, suc, ◌+◌, ◌-◌, ◌<◌, ◌≤◌, List, [], ◌∷◌, ◌++◌, map, length, take, Bool, true, false, cond, refl, sym, ◌∙◌, ap, arith, append_assoc}
+use Rattle.std.proofs.Common.{◌≡◌, ℕ, zero, suc, ◌+◌, ◌-◌, ◌<◌, ◌≤◌, List, [], ◌∷◌, ◌++◌, map, length, take, Bool, true, false, cond, refl, sym, ◌∙◌, ap, arith, append_assoc, length-append}
 use Rattle.std.specs.Prelude.{nat_lt}
-use Rattle.std.proofs.lemmas.Bool.{ltb-true, ltb-false}
+use Rattle.std.proofs.lemmas.Bool.{ltb-true, ltb-false, le-ltb}
 use Rattle.std.proofs.lemmas.List.{map-append}
 use Rattle.pdl_lex.specs.Bytes.{newlines}
 use Rattle.pdl_lex.specs.Limits.{script_limit}
-use Rattle.pdl_lex.specs.declared.Piece.{Piece}
 use Rattle.pdl_lex.specs.Pieces.{Mark, statement, script_too_long, pieces, settled, script_marks}
 use Rattle.pdl_lex.specs.Certain.{BeginThePieces, StayCertain}
 use Rattle.pdl_machine.specs.Run.{after_marks, start, run, certain_marks, so_far}
@@ -57,6 +56,29 @@ module _ (begin : BeginThePieces) (stay : StayCertain) (keep : Bool) (bytes more
   so_far-front =
       by_bool (nat_lt script_limit (length bytes)) past_limit (λ near.
       by_bool (nat_lt script_limit (length (bytes ++ more))) (cut_at_limit near) (within_limit near))
+
+  abbrev Grown : Type 0
+  Grown = (ms : List Mark) × (so_far keep (bytes ++ more) ≡ after_marks keep (so_far keep bytes) ms)
+
+  -- past the limit that is how far the whole run comes
+  grown_past : nat_lt script_limit (length (bytes ++ more)) ≡ true → Grown
+  grown_past far =
+      let front = so_far-front in
+      let whole : so_far keep (bytes ++ more) ≡ run keep (bytes ++ more) =
+      ap (λ t. after_marks keep start (cond t (script_marks (bytes ++ more)) (map statement (settled (bytes ++ more))))) far in
+      (front.0, whole ∙ front.1)
+
+  grown_within : nat_lt script_limit (length (bytes ++ more)) ≡ false → Grown
+  grown_within all_near =
+      let fits : length (bytes ++ more) ≤ script_limit = ltb-false script_limit (length (bytes ++ more)) all_near in
+      let near : nat_lt script_limit (length bytes) ≡ false = le-ltb script_limit (length bytes) (grind (arith, length-append {A = ℕ})) in
+      let rest = stay bytes more in
+      let marks : map statement (settled (bytes ++ more)) ≡ map statement (settled bytes) ++ map statement rest.0 =
+      ap (map statement) rest.1 ∙ map-append statement (settled bytes) rest.0 in
+      (map statement rest.0, rw (near, all_near) (ap (after_marks keep start) marks ∙ goes_on keep start (map statement (settled bytes)) (map statement rest.0)))
+
+  pub so_far-grows : Grown
+  so_far-grows = by_bool (nat_lt script_limit (length (bytes ++ more))) grown_past grown_within
 
   pub so_far-printed : (text : List ℕ) × ((run keep (bytes ++ more)).printed ≡ (so_far keep bytes).printed ++ text)
   so_far-printed =

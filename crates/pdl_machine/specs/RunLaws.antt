@@ -2,7 +2,7 @@
 use Rattle.std.specs.Prelude.{◌≡◌, ℕ, ◌<◌, List, ◌++◌, length, Bool, true, false}
 use Rattle.pdl_lex.specs.Limits.{script_limit}
 use Rattle.pdl_lex.specs.Pieces.{Mark, pieces, settled}
-use Rattle.pdl_machine.specs.Run.{Progress, after_marks, run, so_far}
+use Rattle.pdl_machine.specs.Run.{Progress, after_marks, start, run, so_far}
 
 -- a run that a fault has ended prints and changes nothing more
 abbrev pub EndedStays : Type 0
@@ -26,10 +26,15 @@ GoesOn = (keep : Bool) (p : Progress) (ms more : List Mark) →
 abbrev pub FirstFaultEnds : Type 0
 FirstFaultEnds = (script : List ℕ) → (run false script).ended ≡ (run false script).faulted
 
--- a script that is too long faults, however it goes on after faults
-abbrev pub TooLongFaults : Type 0
-TooLongFaults = (keep : Bool) (script : List ℕ) → script_limit < length script →
-    (run keep script).faulted ≡ true
+-- where a run is ended, a fault came
+abbrev pub EndedByAFault : Type 0
+EndedByAFault = (keep : Bool) (ms : List Mark) → (after_marks keep start ms).ended ≡ true →
+    (after_marks keep start ms).faulted ≡ true
+
+-- a script that is too long ends its run, however it goes on after faults
+abbrev pub TooLongEnds : Type 0
+TooLongEnds = (keep : Bool) (script : List ℕ) → script_limit < length script →
+    (run keep script).ended ≡ true
 
 -- what stands past the byte past the limit doesn't count
 abbrev pub LimitEnds : Type 0
@@ -39,12 +44,20 @@ LimitEnds = (keep : Bool) (script more : List ℕ) → script_limit < length scr
 -- a run has come as far by the first bytes of a script as they make certain: from there it goes on over further
 -- statements, whatever bytes follow
 abbrev pub SoFarIsAFront : Type 0
-SoFarIsAFront = (keep : Bool) (bytes more : List ℕ) → (ms : List Mark) × (run keep (bytes ++ more) ≡ after_marks keep (so_far keep bytes) ms)
+SoFarIsAFront = (keep : Bool) (bytes more : List ℕ) →
+    (ms : List Mark) × (run keep (bytes ++ more) ≡ after_marks keep (so_far keep bytes) ms)
 
 -- and what it has printed by then is the front of all that it prints
 abbrev pub SoFarIsPrinted : Type 0
-SoFarIsPrinted = (keep : Bool) (bytes more : List ℕ) → (text : List ℕ) × ((run keep (bytes ++ more)).printed ≡ (so_far keep bytes).printed ++ text)
+SoFarIsPrinted = (keep : Bool) (bytes more : List ℕ) →
+    (text : List ℕ) × ((run keep (bytes ++ more)).printed ≡ (so_far keep bytes).printed ++ text)
+
+-- more bytes carry it on over further statements, from where it has come by the first ones
+abbrev pub SoFarGrows : Type 0
+SoFarGrows = (keep : Bool) (bytes more : List ℕ) →
+    (ms : List Mark) × (so_far keep (bytes ++ more) ≡ after_marks keep (so_far keep bytes) ms)
 
 -- where the bytes make all of their statements certain, as behind a semicolon, the run has come to its end by them
 abbrev pub SoFarIsAll : Type 0
-SoFarIsAll = (keep : Bool) (bytes : List ℕ) → settled bytes ≡ pieces bytes → so_far keep bytes ≡ run keep bytes
+SoFarIsAll = (keep : Bool) (bytes : List ℕ) → settled bytes ≡ pieces bytes →
+    so_far keep bytes ≡ run keep bytes

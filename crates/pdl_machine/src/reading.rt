@@ -1,6 +1,6 @@
 //! Laws of what a text is read as, and of runs.
 ghost use Rattle.pdl_machine.specs.Reading.{ReadsItsMeaning, MeansOneThing};
-ghost use Rattle.pdl_machine.specs.RunLaws.{EndedStays, PrintedStays, FaultStays, GoesOn, FirstFaultEnds, TooLongFaults, LimitEnds, SoFarIsAFront, SoFarIsPrinted, SoFarIsAll};
+ghost use Rattle.pdl_machine.specs.RunLaws.{EndedStays, PrintedStays, FaultStays, GoesOn, FirstFaultEnds, EndedByAFault, TooLongEnds, LimitEnds, SoFarIsAFront, SoFarIsPrinted, SoFarGrows, SoFarIsAll};
 
 use pdl_lex::settled_laws;
 use pdl_syntax::parsing_is_the_grammar;
@@ -14,24 +14,28 @@ pub fn reads_law()
     parsing_is_the_grammar();
 }
 
-/// The laws of runs: a fault that ends a run ends it, what was printed stays, a fault that came is remembered, and only the bytes up to
-/// the one past the limit of a script count. The call does nothing when it runs.
+/// The laws of runs: a fault that ends a run ends it, and nothing else does; what was printed stays, a fault that
+/// came is remembered, and only the bytes up to the one past the limit of a script count. The call does nothing
+/// when it runs.
 pub fn run_laws()
     ensures ended { EndedStays }
     ensures printed { PrintedStays }
     ensures faulted { FaultStays }
     ensures goes_on { GoesOn }
     ensures first_fault { FirstFaultEnds }
-    ensures too_long { TooLongFaults }
+    ensures by_fault { EndedByAFault }
+    ensures too_long { TooLongEnds }
     ensures limit { LimitEnds }
 {}
 
 /// How far a run has come by the first bytes of a script: whatever bytes follow, it goes on from there (`goes_on`),
-/// and what it has printed by then is the front of all that it prints (`printed`); bytes that make all of their
-/// statements certain run to their end (`all`). The call does nothing when it runs.
+/// and what it has printed by then is the front of all that it prints (`printed`); more bytes carry it on from there
+/// (`grows`), and bytes that make all of their statements certain run to their end (`all`). The call does nothing
+/// when it runs.
 pub fn so_far_laws()
     ensures goes_on { SoFarIsAFront }
     ensures printed { SoFarIsPrinted }
+    ensures grows { SoFarGrows }
     ensures all { SoFarIsAll }
 {
     settled_laws();

@@ -53,7 +53,8 @@ impl Scope {
         steps: &mut Steps<L>,
     ) -> Result<ArrayId, StepFault>
         requires { AreGivenLive self.old.arrays.world given.now }
-        ensures value { let wanted = call_value self.old.names name.now self.old.arrays (arguments given.now) in
+        ensures value { let seen = arguments given.now in
+            let wanted = call_value self.old.names name.now self.old.arrays seen in
             Evaluates wanted self.new result }
         ensures grown { Grows self.old self.new }
     {

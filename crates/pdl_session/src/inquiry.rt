@@ -97,7 +97,8 @@ impl Scope {
     fn size_at(&self, id: ArrayId, number: i64) -> Result<Outcome, StepFault>
         requires { IsLive self.now.arrays.world id }
         ensures value { let dims = (array_in self.now.arrays id).dims in
-            AnswersAs outcome_of (and_then (size_at dims number) (λ n. Ok (made (long_number n)))) result }
+            let wanted = and_then (size_at dims number) (λ n. Ok (made (long_number n))) in
+            AnswersAs outcome_of wanted result }
         ensures made { IfOk result IsOutcomeMade }
     {
         shape_laws();

@@ -215,7 +215,8 @@ impl Scope {
         requires { AreGivenLive self.old.arrays.world given.now }
         ensures value { let kernel = found self.old.names.kernels name.now in
             let seen = all_seen_of self.old.arrays given.now in
-            let outputs = and_then (or_fault UnknownFunction kernel) (λ k. kernel_outputs k wanted seen) in
+            let outputs = and_then (or_fault UnknownFunction kernel)
+            (λ k. kernel_outputs k wanted seen) in
             AnswersAs (λ ms. ms.items) outputs result }
         ensures made { IfOk result (λ ms. All (λ m. IsMade m.ty m.dims m.elems) ms.items) }
         ensures same { self.new ≡ self.old }

@@ -16,7 +16,7 @@ use Rattle.pdl_machine.specs.Step.{Stepped}
 use Rattle.pdl_machine.specs.Run.{Progress, mark_step, line_of, fault_ends, text_after, fault_line, after, after_mark, after_marks}
 use Rattle.pdl_machine.specs.RunLaws.{EndedStays, PrintedStays}
 use Rattle.pdl_shell.specs.declared.runner.Runner.{Runner}
-use Rattle.pdl_shell.specs.Pace.{marks_left, mark_text}
+use Rattle.pdl_shell.specs.Pace.{Behind, end_of_input, past_limit, unknown, behind, marks_left, mark_text}
 use Rattle.pdl_shell.specs.Course.{progress, outcome, Carries, StopsShort, Finishes, FinishesShort}
 
 -- newlines of two texts, one after the other
@@ -54,20 +54,22 @@ pub refused : (old new : Runner) (m : Mark) (e : Fault) → mark_step old.sessio
 refused old new m e is same faulted ended = rw (is, same, faulted, ended) (refl, λ printed. refl)
 
 -- the statements that are left once bytes are fed that complete a piece or none
-pub marks_left-fed : (is_cut : Bool) (old new : State) (piece : Option Piece) (bytes rest more : List ℕ)
+pub marks_left-fed : (follows : Behind) (old new : State) (piece : Option Piece) (bytes rest more : List ℕ)
     → to_come old (bytes ++ more) ≡ option_to_list piece ++ to_come new (rest ++ more)
     → settled_from old (bytes ++ more) ≡ option_to_list piece ++ settled_from new (rest ++ more)
     → old.line + newlines bytes ≡ new.line + newlines rest
-    → marks_left is_cut old (bytes ++ more) ≡ map statement (option_to_list piece) ++ marks_left is_cut new (rest ++ more)
-marks_left-fed false old new piece bytes rest more stream certain line =
+    → marks_left follows old (bytes ++ more) ≡ map statement (option_to_list piece) ++ marks_left follows new (rest ++ more)
+marks_left-fed end_of_input old new piece bytes rest more stream certain line =
     ap (map statement) stream ∙ map-append statement (option_to_list piece) (to_come new (rest ++ more))
-marks_left-fed true old new piece bytes rest more stream certain line =
+marks_left-fed past_limit old new piece bytes rest more stream certain line =
     let lines : old.line + newlines (bytes ++ more) ≡ new.line + newlines (rest ++ more) =
     rw (newlines-append bytes more, newlines-append rest more) (omega arith) in
     ap (λ ms. map statement ms ++ script_too_long (old.line + newlines (bytes ++ more)) ∷ []) certain
     ∙ ap (λ n. map statement (option_to_list piece ++ settled_from new (rest ++ more)) ++ script_too_long n ∷ []) lines
     ∙ ap (λ ms. ms ++ script_too_long (new.line + newlines (rest ++ more)) ∷ []) (map-append statement (option_to_list piece) (settled_from new (rest ++ more)))
     ∙ append_assoc (map statement (option_to_list piece)) (map statement (settled_from new (rest ++ more))) (script_too_long (new.line + newlines (rest ++ more)) ∷ [])
+marks_left-fed unknown old new piece bytes rest more stream certain line =
+    ap (map statement) certain ∙ map-append statement (option_to_list piece) (settled_from new (rest ++ more))
 
 -- what a cutter answers to bytes that are fed to it, whatever follows
 pub record Feeds (old new : State) (piece : Option Piece) (bytes rest : List ℕ) : Type 0 where
@@ -83,9 +85,9 @@ pub carries_quiet : (old new : Runner) (bytes rest : List ℕ) (taken : Option (
 carries_quiet old new bytes rest taken fed same before printed so_far = (
   printed,
   so_far,
-  λ is_cut more.
-      ap (after_marks old.keep_going (progress old printed)) (marks_left-fed is_cut old.cutter new.cutter None bytes rest more (fed.stream more) (fed.certain more) fed.line)
-      ∙ ap (λ (r : Runner). after_marks r.keep_going (progress r printed) (marks_left is_cut new.cutter (rest ++ more))) (sym same),
+  λ follows more.
+      ap (after_marks old.keep_going (progress old printed)) (marks_left-fed follows old.cutter new.cutter None bytes rest more (fed.stream more) (fed.certain more) fed.line)
+      ∙ ap (λ (r : Runner). after_marks r.keep_going (progress r printed) (marks_left follows new.cutter (rest ++ more))) (sym same),
 )
 
 -- bytes taken, and then more of them
@@ -112,11 +114,11 @@ pub carries_piece : (old new : Runner) (piece : Piece) (bytes rest : List ℕ) (
 carries_piece old new piece bytes rest taken now fed running keep ran wrote before printed so_far = (
   printed ++ mark_text old.session.state (statement piece),
   appends_then before taken now printed (mark_text old.session.state (statement piece)) so_far wrote,
-  λ is_cut more.
-      ap (after_marks old.keep_going (progress old printed)) (marks_left-fed is_cut old.cutter new.cutter (Some piece) bytes rest more (fed.stream more) (fed.certain more) fed.line)
-      ∙ after_marks-cons old.keep_going (progress old printed) (statement piece) (marks_left is_cut new.cutter (rest ++ more)) running
-      ∙ ap (λ p. after_marks old.keep_going p (marks_left is_cut new.cutter (rest ++ more))) (ran printed)
-      ∙ ap (λ k. after_marks k (progress new (printed ++ mark_text old.session.state (statement piece))) (marks_left is_cut new.cutter (rest ++ more))) (sym keep),
+  λ follows more.
+      ap (after_marks old.keep_going (progress old printed)) (marks_left-fed follows old.cutter new.cutter (Some piece) bytes rest more (fed.stream more) (fed.certain more) fed.line)
+      ∙ after_marks-cons old.keep_going (progress old printed) (statement piece) (marks_left follows new.cutter (rest ++ more)) running
+      ∙ ap (λ p. after_marks old.keep_going p (marks_left follows new.cutter (rest ++ more))) (ran printed)
+      ∙ ap (λ k. after_marks k (progress new (printed ++ mark_text old.session.state (statement piece))) (marks_left follows new.cutter (rest ++ more))) (sym keep),
 )
 
 -- what was printed before and a prefix of a statement's text are a prefix of what the run comes to
@@ -137,21 +139,21 @@ pub stops_in_piece : (stays : PrintedStays) (old : Runner) (new : State) (piece 
     → old.ended ≡ false
     → AppendsPrefix taken now (mark_text old.session.state (statement piece))
     → StopsShort bytes old taken now
-stops_in_piece stays old new piece bytes rest taken now fed running wrote before printed so_far is_cut more =
-    let ms : List Mark = marks_left is_cut new (rest ++ more) in
-    let comes : outcome is_cut old printed (bytes ++ more) ≡ after_marks old.keep_going (after_mark old.keep_going (progress old printed) (statement piece)) ms =
-    ap (after_marks old.keep_going (progress old printed)) (marks_left-fed is_cut old.cutter new (Some piece) bytes rest more (fed.stream more) (fed.certain more) fed.line)
+stops_in_piece stays old new piece bytes rest taken now fed running wrote before printed so_far follows more =
+    let ms : List Mark = marks_left follows new (rest ++ more) in
+    let comes : outcome follows old printed (bytes ++ more) ≡ after_marks old.keep_going (after_mark old.keep_going (progress old printed) (statement piece)) ms =
+    ap (after_marks old.keep_going (progress old printed)) (marks_left-fed follows old.cutter new (Some piece) bytes rest more (fed.stream more) (fed.certain more) fed.line)
     ∙ after_marks-cons old.keep_going (progress old printed) (statement piece) ms running in
     subst (λ (p : Progress). AppendsPrefix before now p.printed) (sym comes) (prefix_in_mark stays old.keep_going (progress old printed) (statement piece) ms before taken now so_far wrote)
 
 -- the run stops short before anything more is written
 pub stops_before : (stays : PrintedStays) (old : Runner) (bytes : List ℕ) (taken : Option (List ℕ)) → StopsShort bytes old taken taken
-stops_before stays old bytes taken before printed so_far is_cut more =
-    (printed, stays old.keep_going (progress old printed) (marks_left is_cut old.cutter (bytes ++ more)), so_far)
+stops_before stays old bytes taken before printed so_far follows more =
+    (printed, stays old.keep_going (progress old printed) (marks_left follows old.cutter (bytes ++ more)), so_far)
 
 -- nothing is fed
 pub carries_nothing : (old : Runner) (bytes : List ℕ) (taken : Option (List ℕ)) → Carries bytes old taken bytes old taken
-carries_nothing old bytes taken before printed so_far = (printed, so_far, λ is_cut more. refl)
+carries_nothing old bytes taken before printed so_far = (printed, so_far, λ follows more. refl)
 
 -- one part of the bytes after another
 pub carries_then : (a b c : Runner) (bytes mid rest : List ℕ) (ta tb tc : Option (List ℕ))
@@ -159,13 +161,29 @@ pub carries_then : (a b c : Runner) (bytes mid rest : List ℕ) (ta tb tc : Opti
 carries_then a b c bytes mid rest ta tb tc first then' before printed so_far =
     let p = first before printed so_far in
     let q = then' before p.0 p.1 in
-    (q.0, q.1, λ is_cut more. p.2 is_cut more ∙ q.2 is_cut more)
+    (q.0, q.1, λ follows more. p.2 follows more ∙ q.2 follows more)
+
+-- bytes that are all run over, and then more of them
+pub carries_on : (a b c : Runner) (xs ys : List ℕ) (ta tb tc : Option (List ℕ))
+    → Carries xs a ta [] b tb → Carries ys b tb [] c tc → Carries (xs ++ ys) a ta [] c tc
+carries_on a b c xs ys ta tb tc first then' before printed so_far =
+    let p = first before printed so_far in
+    let q = then' before p.0 p.1 in
+    (q.0, q.1, λ follows more. ap (outcome follows a printed) (append_assoc xs ys more) ∙ p.2 follows (ys ++ more) ∙ q.2 follows more)
+
+pub stops_on : (a b : Runner) (xs ys : List ℕ) (ta tb tc : Option (List ℕ))
+    → Carries xs a ta [] b tb → StopsShort ys b tb tc → StopsShort (xs ++ ys) a ta tc
+stops_on a b xs ys ta tb tc first then' before printed so_far follows more =
+    let p = first before printed so_far in
+    let comes : outcome follows a printed ((xs ++ ys) ++ more) ≡ outcome follows b p.0 (ys ++ more) =
+    ap (outcome follows a printed) (append_assoc xs ys more) ∙ p.2 follows (ys ++ more) in
+    subst (λ (o : Progress). AppendsPrefix before tc o.printed) (sym comes) (then' before p.0 p.1 follows more)
 
 pub stops_then : (a b : Runner) (bytes mid : List ℕ) (ta tb tc : Option (List ℕ))
     → Carries bytes a ta mid b tb → StopsShort mid b tb tc → StopsShort bytes a ta tc
-stops_then a b bytes mid ta tb tc first then' before printed so_far is_cut more =
+stops_then a b bytes mid ta tb tc first then' before printed so_far follows more =
     let p = first before printed so_far in
-    subst (λ (o : Progress). AppendsPrefix before tc o.printed) (sym (p.2 is_cut more)) (then' before p.0 p.1 is_cut more)
+    subst (λ (o : Progress). AppendsPrefix before tc o.printed) (sym (p.2 follows more)) (then' before p.0 p.1 follows more)
 
 -- once a fault has ended the run, the bytes that are left don't count
 pub carries_ended : (stays : EndedStays) (a b : Runner) (bytes rest : List ℕ) (ta tb : Option (List ℕ))
@@ -174,9 +192,9 @@ carries_ended stays a b bytes rest ta tb first ended before printed so_far =
     let p = first before printed so_far in (
       p.0,
       p.1,
-      λ is_cut more. p.2 is_cut more
-          ∙ stays b.keep_going (progress b p.0) (marks_left is_cut b.cutter (rest ++ more)) ended
-          ∙ sym (stays b.keep_going (progress b p.0) (marks_left is_cut b.cutter more) ended),
+      λ follows more. p.2 follows more
+          ∙ stays b.keep_going (progress b p.0) (marks_left follows b.cutter (rest ++ more)) ended
+          ∙ sym (stays b.keep_going (progress b p.0) (marks_left follows b.cutter more) ended),
     )
 
 -- the lines of the bytes that were taken and of those that are left
@@ -222,39 +240,39 @@ unfinished s last is comes = unfinished_piece (begun_piece s []) s.over (length 
     unfinished_piece (Some (TooLong line)) false false text start is comes = cc
 
 -- where the script goes on past its limit, only that is left
-pub too_long_left : (s : State) (last : Option Piece) → last ≡ begun s → option_to_list last ≡ to_come s [] → marks_left true s [] ≡ script_too_long s.line ∷ []
+pub too_long_left : (s : State) (last : Option Piece) → last ≡ begun s → option_to_list last ≡ to_come s [] → marks_left past_limit s [] ≡ script_too_long s.line ∷ []
 too_long_left s last is comes =
     ap (λ ps. map statement ps ++ script_too_long (s.line + 0) ∷ []) (unfinished s last is comes) ∙ ap (λ n. script_too_long n ∷ []) (add-zero s.line)
 
 -- the run is at its end where a fault has ended it
 pub finishes_ended : (stays : EndedStays) (is_cut : Bool) (old : Runner) (taken : Option (List ℕ)) → old.ended ≡ true → Finishes is_cut old taken old.faulted taken
 finishes_ended stays is_cut old taken ended before printed so_far =
-    let comes : outcome is_cut old printed [] ≡ progress old printed = stays old.keep_going (progress old printed) (marks_left is_cut old.cutter []) ended in
+    let comes : outcome (behind is_cut) old printed [] ≡ progress old printed = stays old.keep_going (progress old printed) (marks_left (behind is_cut) old.cutter []) ended in
     (rw comes so_far, rw comes refl)
 
 -- or where no statement has begun
-pub finishes_none : (is_cut : Bool) (old : Runner) (taken : Option (List ℕ)) → [] ≡ marks_left is_cut old.cutter [] → Finishes is_cut old taken old.faulted taken
+pub finishes_none : (is_cut : Bool) (old : Runner) (taken : Option (List ℕ)) → [] ≡ marks_left (behind is_cut) old.cutter [] → Finishes is_cut old taken old.faulted taken
 finishes_none is_cut old taken none before printed so_far =
-    let comes : outcome is_cut old printed [] ≡ progress old printed = ap (after_marks old.keep_going (progress old printed)) (sym none) in
+    let comes : outcome (behind is_cut) old printed [] ≡ progress old printed = ap (after_marks old.keep_going (progress old printed)) (sym none) in
     (rw comes so_far, rw comes refl)
 
-last_mark : (is_cut : Bool) (old : Runner) (m : Mark) (printed : List ℕ) → old.ended ≡ false → m ∷ [] ≡ marks_left is_cut old.cutter []
-    → outcome is_cut old printed [] ≡ after_mark old.keep_going (progress old printed) m
+last_mark : (is_cut : Bool) (old : Runner) (m : Mark) (printed : List ℕ) → old.ended ≡ false → m ∷ [] ≡ marks_left (behind is_cut) old.cutter []
+    → outcome (behind is_cut) old printed [] ≡ after_mark old.keep_going (progress old printed) m
 last_mark is_cut old m printed running last =
     ap (after_marks old.keep_going (progress old printed)) (sym last) ∙ after_marks-cons old.keep_going (progress old printed) m [] running
 
 -- what is left is run
 pub finishes_mark : (is_cut : Bool) (old new : Runner) (m : Mark) (taken now : Option (List ℕ))
-    → old.ended ≡ false → m ∷ [] ≡ marks_left is_cut old.cutter []
+    → old.ended ≡ false → m ∷ [] ≡ marks_left (behind is_cut) old.cutter []
     → ((printed : List ℕ) → after_mark old.keep_going (progress old printed) m ≡ progress new (printed ++ mark_text old.session.state m))
     → Appends taken now (mark_text old.session.state m)
     → Finishes is_cut old taken new.faulted now
 finishes_mark is_cut old new m taken now running last ran wrote before printed so_far =
-    let comes : outcome is_cut old printed [] ≡ progress new (printed ++ mark_text old.session.state m) = last_mark is_cut old m printed running last ∙ ran printed in
+    let comes : outcome (behind is_cut) old printed [] ≡ progress new (printed ++ mark_text old.session.state m) = last_mark is_cut old m printed running last ∙ ran printed in
     (rw comes (appends_then before taken now printed (mark_text old.session.state m) so_far wrote), rw comes refl)
 
 pub short_in_mark : (stays : PrintedStays) (is_cut : Bool) (old : Runner) (m : Mark) (taken now : Option (List ℕ))
-    → old.ended ≡ false → m ∷ [] ≡ marks_left is_cut old.cutter []
+    → old.ended ≡ false → m ∷ [] ≡ marks_left (behind is_cut) old.cutter []
     → AppendsPrefix taken now (mark_text old.session.state m)
     → FinishesShort is_cut old taken now
 short_in_mark stays is_cut old m taken now running last wrote before printed so_far =
@@ -265,17 +283,17 @@ pub finishes_kept : (is_cut : Bool) (old : Runner) (taken mid now : Option (List
     → Finishes is_cut old taken faulted mid → Keeps mid now → Finishes is_cut old taken faulted now
 finishes_kept is_cut old taken mid now faulted done kept before printed so_far =
     let f = done before printed so_far in
-    (appends_kept before mid now (outcome is_cut old printed []).printed f.0 kept, f.1)
+    (appends_kept before mid now (outcome (behind is_cut) old printed []).printed f.0 kept, f.1)
 
 pub short_kept : (is_cut : Bool) (old : Runner) (taken mid now : Option (List ℕ)) (faulted : Bool)
     → Finishes is_cut old taken faulted mid → Keeps mid now → FinishesShort is_cut old taken now
 short_kept is_cut old taken mid now faulted done kept before printed so_far =
     let f = done before printed so_far in
-    ((outcome is_cut old printed []).printed, is_prefix-refl (outcome is_cut old printed []).printed, appends_kept before mid now (outcome is_cut old printed []).printed f.0 kept)
+    ((outcome (behind is_cut) old printed []).printed, is_prefix-refl (outcome (behind is_cut) old printed []).printed, appends_kept before mid now (outcome (behind is_cut) old printed []).printed f.0 kept)
 
 -- what is left is run from a runner that is the old one but for its cutter
 pub last_finishes : (result : Result (Unit {0}) Stop) (is_cut : Bool) (old mid new : Runner) (m : Mark) (taken now : Option (List ℕ))
-    → old.ended ≡ false → m ∷ [] ≡ marks_left is_cut old.cutter [] → mid ≡ record old { cutter = mid.cutter }
+    → old.ended ≡ false → m ∷ [] ≡ marks_left (behind is_cut) old.cutter [] → mid ≡ record old { cutter = mid.cutter }
     → OnOk result ((printed : List ℕ) → after_mark mid.keep_going (progress mid printed) m ≡ progress new (printed ++ mark_text mid.session.state m))
     → OnOk result (Appends taken now (mark_text mid.session.state m))
     → OnOk result (Finishes is_cut old taken new.faulted now)
@@ -286,7 +304,7 @@ last_finishes (Ok x) is_cut old mid new m taken now running last same ran wrote 
 last_finishes (Err e) is_cut old mid new m taken now running last same ran wrote = tt
 
 pub last_short : (stays : PrintedStays) (result : Result (Unit {0}) Stop) (is_cut : Bool) (old mid : Runner) (m : Mark) (taken now : Option (List ℕ))
-    → old.ended ≡ false → m ∷ [] ≡ marks_left is_cut old.cutter [] → mid ≡ record old { cutter = mid.cutter }
+    → old.ended ≡ false → m ∷ [] ≡ marks_left (behind is_cut) old.cutter [] → mid ≡ record old { cutter = mid.cutter }
     → OnErr result (AppendsPrefix taken now (mark_text mid.session.state m))
     → OnErr result (FinishesShort is_cut old taken now)
 last_short stays (Ok x) is_cut old mid m taken now running last same wrote = tt

@@ -3,3 +3,4 @@ pub mod Whole
 pub mod WordLemmas
 pub mod Texts
 pub mod StatementCount
+pub mod Parts

@@ -1,5 +1,5 @@
 -- What each status of a call says of the run, of what was written, and of the counts of faults.
-use Rattle.std.specs.Prelude.{◌≡◌, ℕ, ◌≤◌, ⊤, List, drop, Option, Some, None, IfSome, Bool, Result, Ok, Err, if◌then◌else◌}
+use Rattle.std.specs.Prelude.{◌≡◌, ℕ, ◌≤◌, ⊤, List, drop, Option, Some, None, Bool, Result, Ok, Err, if◌then◌else◌}
 use Rattle.std.specs.Io.KnownBytes.{Appends}
 use Rattle.pdl_io.specs.Counts.{Rose}
 use Rattle.pdl_io.specs.Told.{AppendsPrefix}
@@ -81,10 +81,6 @@ pub record TakesAtMost (most : ℕ) (old new : Option (List ℕ)) : Type 0 where
   pub count : ℕ
   pub within : count ≤ most
   pub rest : (bytes : List ℕ) → old ≡ Some bytes → new ≡ Some (drop count bytes)
-
--- the source has nothing left but what stands past so many bytes of what it had, where it tells that
-abbrev pub ReadsUpTo : ℕ → Option (List ℕ) → Option (List ℕ) → Type 0
-ReadsUpTo most old new = IfSome old (λ script. new ≡ Some (drop most script))
 
 -- no count rose
 pub record IsUndisturbed (old new : Counts) : Type 0 where

@@ -6,5 +6,6 @@ pub mod Unrun
 pub mod Marks
 pub mod Stops
 pub mod Answers
+pub mod Taken
 pub mod Pace
 pub mod Course

@@ -1,16 +1,17 @@
 //! The call that runs a script.
-ghost use Rattle.std.specs.Prelude.{◌≡◌, ◌≢◌, ℕ, ◌+◌, ◌<◌, List, drop, map, Bool, true, false, Some, None, OnOk, OnErr};
-ghost use Rattle.std.specs.Io.KnownBytes.{Appends, IsAtEnd};
+ghost use Rattle.std.specs.Prelude.{◌≡◌, ◌≢◌, ℕ, ◌+◌, ◌<◌, List, map, Bool, true, false, Some, None, OnOk, OnErr};
+ghost use Rattle.std.specs.Io.KnownBytes.{Appends};
 ghost use Rattle.std.specs.String.{string_bytes};
 ghost use Rattle.pdl_io.specs.Counts.{HasCause};
 ghost use Rattle.pdl_io.specs.Told.{Says, KeepsTelling, AppendsPrefix};
 ghost use Rattle.pdl_lex.specs.Limits.{script_limit};
 ghost use Rattle.pdl_machine.specs.Run.{run};
 ghost use Rattle.pdl_shell.specs.Command.{command_of, reads_source, usage_line};
-ghost use Rattle.pdl_shell.specs.Stops.{HasSinkCause, Writes};
-ghost use Rattle.pdl_shell.specs.Answers.{IsAnswer, ending, ending_of_run, Gives, CanAnswer, HasReason, TakesAtMost, ReadsUpTo, IsUndisturbed};
+ghost use Rattle.pdl_shell.specs.Stops.{HasCauses, Writes};
+ghost use Rattle.pdl_shell.specs.Answers.{IsAnswer, ending, ending_of_run, Gives, CanAnswer, HasReason, TakesAtMost, IsUndisturbed, status_after};
+ghost use Rattle.pdl_shell.specs.Taken.{Reads};
 
-use crate::reading::{SCRIPT_LIMIT, read_script};
+use crate::reading::read_parts;
 use crate::runner::Runner;
 use crate::status::Status;
 use crate::stop::{Stop, status_after};
@@ -26,31 +27,37 @@ use std::sync::ledger::{Blank, Ledger};
 // What is written where the words are no spelling of the command.
 const USAGE_LINE: &[u8] = b"usage: pdl [--keep-going] [--generate N]\n";
 
-// Runs a script of which these are all the bytes, or all up to and with the one past the limit.
-pub(crate) fn run_bytes<K: Sink, L: Ledger>(
+// Runs the script that the source gives: each statement as soon as it is whole, and at the end what is left.
+fn run_parts<S: Source, K: Sink, L: Ledger>(
     alloc: Global,
     keep_going: bool,
-    script: &[u8],
+    source: &mut S,
     sink: &mut K,
     blank: Blank,
 ) -> Result<bool, Stop>
     requires name { blank.name ≡ L.name }
     requires parts { blank.parts ≡ L.parts }
     requires some { 0 < blank.parts }
-    ensures writes { Writes result (run keep_going script.now) (K.taken sink.old) (K.taken sink.new) }
+    ensures writes { (script : List ℕ) → S.left source.old ≡ Some script →
+        Writes result (run keep_going script) (K.taken sink.old) (K.taken sink.new) }
+    ensures reads { Reads keep_going (status_after result)
+        (S.left source.old) (S.left source.new) (K.taken sink.old) (K.taken sink.new) }
+    ensures at_most { TakesAtMost (script_limit + 1) (S.left source.old) (S.left source.new) }
+    ensures causes { HasCauses
+        (record { source = S.faults source.old; sink = K.faults sink.old })
+        (record { source = S.faults source.new; sink = K.faults sink.new }) result }
     ensures flushed { OnOk result (Says (K.is_flushed sink.new) true) }
     ensures tells { KeepsTelling (K.is_flushed sink.old) (K.is_flushed sink.new) }
-    ensures cause { HasSinkCause (K.faults sink.old) (K.faults sink.new) result }
 {
-    let within = script.len().min(SCRIPT_LIMIT);
+    run_laws();
     let mut runner = Runner::new(alloc, keep_going);
     let mut steps = new_steps::<L>(blank);
-    runner.take(&script[..within], sink, &mut steps)?;
-    runner.finish(script.len() > SCRIPT_LIMIT, sink, &mut steps)
+    let is_cut = read_parts(&mut runner, source, sink, &mut steps)?;
+    runner.finish(is_cut, sink, &mut steps)
 }
 
-// Reads the source's script, and runs it.
-fn run_script<S: Source, K: Sink>(
+// Runs the script that the source gives, and answers the status.
+pub(crate) fn run_script<S: Source, K: Sink>(
     alloc: Global,
     keep_going: bool,
     source: &mut S,
@@ -59,9 +66,8 @@ fn run_script<S: Source, K: Sink>(
     ensures model { (script : List ℕ) → S.left source.old ≡ Some script →
         Gives result (ending_of_run (run keep_going script)) (K.taken sink.old) (K.taken sink.new) }
     ensures answers { CanAnswer (Some (Command.Run keep_going)) result }
-    ensures read { (script : List ℕ) → S.left source.old ≡ Some script → IsAnswer result →
-        S.left source.new ≡ Some (drop (script_limit + 1) script) }
-    ensures end { result ≡ Status.Done → IsAtEnd (S.left source.new) }
+    ensures reads { Reads keep_going result
+        (S.left source.old) (S.left source.new) (K.taken sink.old) (K.taken sink.new) }
     ensures at_most { TakesAtMost (script_limit + 1) (S.left source.old) (S.left source.new) }
     ensures reason { HasReason result
         (record { source = S.faults source.old; sink = K.faults sink.old })
@@ -69,14 +75,8 @@ fn run_script<S: Source, K: Sink>(
     ensures flushed { IsAnswer result → Says (K.is_flushed sink.new) true }
     ensures tells { KeepsTelling (K.is_flushed sink.old) (K.is_flushed sink.new) }
 {
-    run_laws();
-    match read_script(alloc, source) {
-        Ok(script) => {
-            let ran = run_bytes::<K, Brand>(alloc, keep_going, &script, sink, Blank::new(1));
-            status_after(ran)
-        }
-        Err(stop) => status_after(Err(stop)),
-    }
+    let ran = run_parts::<S, K, Brand>(alloc, keep_going, source, sink, Blank::new(1));
+    status_after(ran)
 }
 
 // Writes the usage line, and flushes it.
@@ -93,7 +93,8 @@ fn write_usage<K: Sink>(sink: &mut K) -> Result<(), Failed>
 
 // Answers words that are no spelling of the command.
 fn usage<K: Sink>(sink: &mut K) -> Status
-    ensures model { (script : List ℕ) → Gives result (ending None script) (K.taken sink.old) (K.taken sink.new) }
+    ensures model { (script : List ℕ) →
+        Gives result (ending None script) (K.taken sink.old) (K.taken sink.new) }
     ensures answers { CanAnswer None result }
     ensures reason { (faults : ℕ) → HasReason result
         (record { source = faults; sink = K.faults sink.old })
@@ -116,9 +117,10 @@ fn usage<K: Sink>(sink: &mut K) -> Status
 /// and one line is written: how many statements it has, how many bytes they print, and what these sum
 /// to. In both cases the source isn't touched.
 ///
-/// Else the script is read to its end, and its statements are run in order. After each of them its text is
-/// written, or the line of its fault. The first fault ends the run, unless it is to keep going; that the
-/// script is too long always ends it. At the end the sink is flushed.
+/// Else the script is read in parts of at most 4,096 bytes, and its statements are run in order, each as soon as its
+/// last byte is there. After each of them its text is written, or the line of its fault. The first fault ends the
+/// run, unless it is to keep going, and no more is read then; that the script is too long always ends it. At the
+/// end the sink is flushed.
 ///
 /// After a fault of the source or the sink, or where memory is wanting, the call ends at once. It takes
 /// no memory where the words are no spelling.
@@ -131,18 +133,20 @@ pub fn run_shell<S: Source, K: Sink>(
     // What is written and the status are those of the ending that the words ask for; where the call stops
     // short, a prefix is written. The script is the source's, where the source is read.
     ensures model { (script : List ℕ) →
-        (reads_source (command_of (map string_bytes words.now)) ≡ true → S.left source.old ≡ Some script) →
+        (reads_source (command_of (map string_bytes words.now)) ≡ true →
+        S.left source.old ≡ Some script) →
         Gives result (ending (command_of (map string_bytes words.now)) script)
         (K.taken sink.old) (K.taken sink.new) }
     ensures answers { CanAnswer (command_of (map string_bytes words.now)) result }
 
-    // How far the source is read: not at all, or to its end, or past the limit of a script.
+    // How far the source is read: not at all, or to its end or as far as the run goes, and what is written of the
+    // statements that were whole by then where the source fails.
     ensures unread { reads_source (command_of (map string_bytes words.now)) ≡ false →
         source.new ≡ source.old }
-    ensures read { reads_source (command_of (map string_bytes words.now)) ≡ true →
-        IsAnswer result → ReadsUpTo (script_limit + 1) (S.left source.old) (S.left source.new) }
-    ensures end { reads_source (command_of (map string_bytes words.now)) ≡ true →
-        result ≡ Status.Done → IsAtEnd (S.left source.new) }
+    ensures reads { (keep : Bool) →
+        command_of (map string_bytes words.now) ≡ Some (Command.Run keep) →
+        Reads keep result
+        (S.left source.old) (S.left source.new) (K.taken sink.old) (K.taken sink.new) }
     ensures at_most { TakesAtMost (script_limit + 1) (S.left source.old) (S.left source.new) }
 
     // A fault of the source or the sink is answered only where its count rose in this call.

@@ -29,21 +29,18 @@ impl Runner {
     ghost use Rattle.std.specs.Prelude.{◌≡◌, ℕ, ◌+◌, ◌<◌, ◌≤◌, ◌^◌, ◌++◌, ◌∷◌, [], List, Bool, true, false, length, drop, map, option_to_list, Err, OnOk, OnErr, IfOk};
     ghost use Rattle.std.specs.Io.KnownBytes.{Appends};
     ghost use Rattle.pdl_io.specs.Told.{Says, KeepsTelling, AppendsPrefix};
-    ghost use Rattle.pdl_lex.specs.Bytes.{newlines};
-    ghost use Rattle.pdl_lex.specs.Pieces.{pieces, settled, statement, script_too_long};
-    ghost use Rattle.pdl_machine.specs.Run.{start, after_mark, after_marks};
+    ghost use Rattle.pdl_lex.specs.Pieces.{settled_from};
+    ghost use Rattle.pdl_machine.specs.Run.{after_mark};
     ghost use Rattle.pdl_shell.specs.Stops.{HasSinkCause};
     ghost use Rattle.pdl_shell.specs.Marks.{mark_of};
-    ghost use Rattle.pdl_shell.specs.Pace.{marks_left, mark_text};
-    ghost use Rattle.pdl_shell.specs.Course.{progress, outcome, Carries, StopsShort, Finishes, FinishesShort};
+    ghost use Rattle.pdl_shell.specs.Pace.{behind, marks_left, mark_text};
+    ghost use Rattle.pdl_shell.specs.Course.{progress, IsFresh, Carries, StopsShort, Finishes, FinishesShort};
 
     // A run before its first statement.
     pub(crate) fn new(alloc: Global, keep_going: bool) -> Runner
         ensures ready { (result.cutter.failed ≡ false) × (result.cutter.taken ≡ 0) }
-        ensures whole { (bytes : List ℕ) → outcome false result [] bytes
-            ≡ after_marks keep_going start (map statement (pieces bytes)) }
-        ensures limited { (bytes : List ℕ) → outcome true result [] bytes
-            ≡ after_marks keep_going start (map statement (settled bytes) ++ script_too_long (1 + newlines bytes) ∷ []) }
+        ensures keep { result.keep_going ≡ keep_going }
+        ensures fresh { IsFresh result }
     {
         Runner {
             alloc,
@@ -56,6 +53,13 @@ impl Runner {
         }
     }
 
+    // Whether a fault has ended the run.
+    pub(crate) fn is_ended(&self) -> bool
+        ensures { result ≡ self.now.ended }
+    {
+        self.ended
+    }
+
     // Runs a statement, and leaves in `text` what it prints, or the line of its fault.
     fn answer<L: Ledger>(&mut self, mark: &Mark, steps: &mut Steps<L>) -> Result<(), AllocError>
         ensures cutter { self.new.cutter ≡ self.old.cutter }
@@ -63,7 +67,8 @@ impl Runner {
             after_mark self.old.keep_going (progress self.old printed) (mark_of mark.now)
             ≡ progress self.new (printed ++ mark_text self.old.session.state (mark_of mark.now))) }
         ensures keep { self.new.keep_going ≡ self.old.keep_going }
-        ensures text { OnOk result (self.new.text.items ≡ mark_text self.old.session.state (mark_of mark.now)) }
+        ensures text { OnOk result
+            (self.new.text.items ≡ mark_text self.old.session.state (mark_of mark.now)) }
     {
         match run_mark(self.alloc, &mut self.session, mark, &mut self.text, steps) {
             Ok(()) => Ok(()),
@@ -112,9 +117,12 @@ impl Runner {
         requires room { self.old.cutter.taken + length bytes.now < 2 ^ 63 }
         requires some { 0 < length bytes.now }
         ensures used { IfOk result (λ used. (0 < used) × (used ≤ length bytes.now)) }
-        ensures carries { IfOk result (λ used. Carries bytes.now self.old (K.taken sink.old) (drop used bytes.now) self.new (K.taken sink.new)) }
-        ensures stops { OnErr result (StopsShort bytes.now self.old (K.taken sink.old) (K.taken sink.new)) }
+        ensures carries { IfOk result (λ used. Carries bytes.now self.old (K.taken sink.old)
+            (drop used bytes.now) self.new (K.taken sink.new)) }
+        ensures stops { OnErr result
+            (StopsShort bytes.now self.old (K.taken sink.old) (K.taken sink.new)) }
         ensures works { OnOk result (self.new.cutter.failed ≡ false) }
+        ensures none_left { OnOk result (settled_from self.new.cutter [] ≡ []) }
         ensures count { IfOk result (λ used. self.new.cutter.taken ≡ self.old.cutter.taken + used) }
         ensures tells { KeepsTelling (K.is_flushed sink.old) (K.is_flushed sink.new) }
         ensures cause { HasSinkCause (K.faults sink.old) (K.faults sink.new) result }
@@ -131,7 +139,8 @@ impl Runner {
         }
     }
 
-    // Takes bytes of the script, and runs each statement that they complete, until a fault ends the run.
+    // Takes bytes of the script, and runs each statement that they complete, until a fault ends the run. No
+    // statement that is whole is left then.
     pub(crate) fn take<K: Sink, L: Ledger>(
         &mut self,
         bytes: &[u8],
@@ -139,10 +148,16 @@ impl Runner {
         steps: &mut Steps<L>,
     ) -> Result<(), Stop>
         requires works { self.old.cutter.failed ≡ false }
+        requires none_left { settled_from self.old.cutter [] ≡ [] }
         requires room { self.old.cutter.taken + length bytes.now < 2 ^ 63 }
-        ensures carries { OnOk result (Carries bytes.now self.old (K.taken sink.old) [] self.new (K.taken sink.new)) }
-        ensures stops { OnErr result (StopsShort bytes.now self.old (K.taken sink.old) (K.taken sink.new)) }
+        ensures carries { OnOk result
+            (Carries bytes.now self.old (K.taken sink.old) [] self.new (K.taken sink.new)) }
+        ensures stops { OnErr result
+            (StopsShort bytes.now self.old (K.taken sink.old) (K.taken sink.new)) }
         ensures works { OnOk result (self.new.cutter.failed ≡ false) }
+        ensures none_left { OnOk result (settled_from self.new.cutter [] ≡ []) }
+        ensures count { OnOk result
+            (self.new.cutter.taken ≤ self.old.cutter.taken + length bytes.now) }
         ensures tells { KeepsTelling (K.is_flushed sink.old) (K.is_flushed sink.new) }
         ensures cause { HasSinkCause (K.faults sink.old) (K.faults sink.new) result }
     {
@@ -158,7 +173,8 @@ impl Runner {
     // limit, that it is too long. An unfinished statement isn't run then.
     fn last(&mut self, is_cut: bool) -> Option<Mark>
         requires { self.old.cutter.failed ≡ false }
-        ensures mark { map mark_of (option_to_list result) ≡ marks_left is_cut self.old.cutter [] }
+        ensures mark { map mark_of (option_to_list result)
+            ≡ marks_left (behind is_cut) self.old.cutter [] }
         ensures rest { self.new ≡ record self.old { cutter = self.new.cutter } }
     {
         let line = self.cutter.line();
@@ -180,8 +196,10 @@ impl Runner {
         steps: &mut Steps<L>,
     ) -> Result<(), Stop>
         requires { self.old.cutter.failed ≡ false }
-        ensures finishes { OnOk result (Finishes is_cut self.old (K.taken sink.old) self.new.faulted (K.taken sink.new)) }
-        ensures stops { OnErr result (FinishesShort is_cut self.old (K.taken sink.old) (K.taken sink.new)) }
+        ensures finishes { OnOk result
+            (Finishes is_cut self.old (K.taken sink.old) self.new.faulted (K.taken sink.new)) }
+        ensures stops { OnErr result
+            (FinishesShort is_cut self.old (K.taken sink.old) (K.taken sink.new)) }
         ensures tells { KeepsTelling (K.is_flushed sink.old) (K.is_flushed sink.new) }
         ensures cause { HasSinkCause (K.faults sink.old) (K.faults sink.new) result }
     {
@@ -203,8 +221,10 @@ impl Runner {
         steps: &mut Steps<L>,
     ) -> Result<bool, Stop>
         requires { self.cutter.failed ≡ false }
-        ensures finishes { IfOk result (λ faulted. Finishes is_cut self (K.taken sink.old) faulted (K.taken sink.new)) }
-        ensures stops { OnErr result (FinishesShort is_cut self (K.taken sink.old) (K.taken sink.new)) }
+        ensures finishes { IfOk result
+            (λ faulted. Finishes is_cut self (K.taken sink.old) faulted (K.taken sink.new)) }
+        ensures stops { OnErr result
+            (FinishesShort is_cut self (K.taken sink.old) (K.taken sink.new)) }
         ensures flushed { OnOk result (Says (K.is_flushed sink.new) true) }
         ensures tells { KeepsTelling (K.is_flushed sink.old) (K.is_flushed sink.new) }
         ensures cause { HasSinkCause (K.faults sink.old) (K.faults sink.new) result }

@@ -40,7 +40,8 @@ fn run_text<L: Ledger>(
 ) -> Result<(), Unrun>
     requires within { length text.now ≤ statement_limit }
     requires empty { out.old.items ≡ [] }
-    ensures ok { OnOk result (step_read session.old.state (reads text.now) ≡ Ok (session.new.state, out.new.items)) }
+    ensures ok { OnOk result
+        (step_read session.old.state (reads text.now) ≡ Ok (session.new.state, out.new.items)) }
     ensures fault { IfErr result (IsFaultOf (step_read session.old.state (reads text.now))) }
     ensures kept { IfErr result (λ e. IfFaulted e (session.new.state ≡ session.old.state)) }
     ensures unprinted { IfErr result (λ e. IfFaulted e (out.new.items ≡ [])) }
@@ -58,7 +59,8 @@ pub(crate) fn run_mark<L: Ledger>(
     out: &mut Vec<u8>,
     steps: &mut Steps<L>,
 ) -> Result<(), Unrun>
-    ensures ok { OnOk result (mark_step session.old.state (mark_of mark.now) ≡ Ok (session.new.state, out.new.items)) }
+    ensures ok { OnOk result
+        (mark_step session.old.state (mark_of mark.now) ≡ Ok (session.new.state, out.new.items)) }
     ensures fault { IfErr result (IsFaultOf (mark_step session.old.state (mark_of mark.now))) }
     ensures kept { IfErr result (λ e. IfFaulted e (session.new.state ≡ session.old.state)) }
     ensures unprinted { IfErr result (λ e. IfFaulted e (out.new.items ≡ [])) }

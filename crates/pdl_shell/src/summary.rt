@@ -13,14 +13,15 @@ ghost use Rattle.pdl_shell.specs.Answers.{IsAnswer, ending, Gives, CanAnswer, Ha
 
 use crate::generated::generated_script;
 use crate::output::{flush, write_text};
-use crate::run::run_bytes;
+use crate::run::run_script;
 use crate::status::Status;
 use crate::stop::{Stop, status_after};
-use pdl_io::{CountSink, Sink};
+use pdl_io::{CountSink, MemSource, Sink};
 use pdl_lex::joining_laws;
 use std::alloc::{AllocError, Global};
-use std::marker::Brand;
-use std::sync::ledger::Blank;
+
+// The most bytes of the generated script that a read gives: as many as are asked for.
+const MOST: usize = usize::MAX;
 
 // How many statements the generated script of so many rounds has: one a line.
 fn statement_count(rounds: u16) -> u64
@@ -41,10 +42,12 @@ fn count_printed(alloc: Global, keep_going: bool, rounds: u16) -> Result<CountSi
         IfOk result (λ counted. counted.bytes ≡ ran.printed) }
 {
     let script = generated_script(alloc, rounds)?;
+    let mut source = MemSource::new(script, MOST, Vec::new(alloc));
     let mut printed = CountSink::new();
-    match run_bytes::<CountSink, Brand>(alloc, keep_going, &script, &mut printed, Blank::new(1)) {
-        Ok(_) => Ok(printed),
-        Err(_) => Err(AllocError),
+    match run_script(alloc, keep_going, &mut source, &mut printed) {
+        Status::Done => Ok(printed),
+        Status::ScriptFault => Ok(printed),
+        _ => Err(AllocError),
     }
 }
 

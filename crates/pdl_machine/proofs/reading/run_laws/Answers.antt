@@ -1,4 +1,4 @@
-use Rattle.pdl_machine.proofs.RunLemmas.{ended_stays, printed_stays, fault_stays, goes_on, first_fault, too_long_faults, limit_ends}
+use Rattle.pdl_machine.proofs.RunLemmas.{ended_stays, printed_stays, fault_stays, goes_on, first_fault, ended_by_fault, too_long_ends, limit_ends}
 use Rattle.pdl_machine.proofs.reading.run_laws.Goals as goal
 
 pub returns-clause-ended : goal.returns-clause-ended
@@ -16,8 +16,11 @@ returns-clause-goes_on c = goes_on
 pub returns-clause-first_fault : goal.returns-clause-first_fault
 returns-clause-first_fault c = first_fault
 
+pub returns-clause-by_fault : goal.returns-clause-by_fault
+returns-clause-by_fault c = ended_by_fault
+
 pub returns-clause-too_long : goal.returns-clause-too_long
-returns-clause-too_long c = too_long_faults
+returns-clause-too_long c = too_long_ends
 
 pub returns-clause-limit : goal.returns-clause-limit
 returns-clause-limit c = limit_ends
