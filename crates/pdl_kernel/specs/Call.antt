@@ -2,10 +2,9 @@
 use Rattle.std.specs.Prelude.{ℕ, zero, suc, ◌+◌, ℤ, pos, Bool, true, List, [], ◌∷◌, ◌++◌, map, get_or, take, drop, length, replicate, if◌then◌else◌, Option, Some, None, Result, Ok, Err}
 use Rattle.std.specs.List.{range_with_len}
 use Rattle.pdl_elem.specs.declared.Ty.{Ty}
-use Rattle.pdl_elem.specs.Numbers.{wrapped}
-use Rattle.pdl_shape.specs.Broadcast.{cut_to}
 use Rattle.pdl_shape.specs.Shape.{size_of, position_of, coordinates_of}
 use Rattle.pdl_buf.specs.declared.made.Made.{Made}
+use Rattle.pdl_buf.specs.Made.{broadcast_element}
 use Rattle.pdl_sig.specs.declared.Resolved.{Resolved}
 use Rattle.pdl_sig.specs.declared.SigArg.{SigArg}
 use Rattle.pdl_sig.specs.Refusals.{names_limit}
@@ -35,7 +34,7 @@ with_given (a ∷ args) given =
 -- where a size of 1 and a missing one are stretched, wrapped to the type; and 0 where nothing is given
 abbrev pub start_element : Ty → Option Made → (coordinates : List ℕ) → ℤ
 start_element ty None cs = pos 0
-start_element ty (Some g) cs = wrapped ty (get_or g.elems (position_of g.dims (cut_to g.dims cs)) (pos 0))
+start_element ty (Some g) cs = broadcast_element ty g cs
 
 -- what an argument is at broadcast coordinates before the code runs
 abbrev pub started : Resolved → (coordinates : List ℕ) → SigArg × Option Made → Made

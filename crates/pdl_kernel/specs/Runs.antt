@@ -1,5 +1,6 @@
 -- A call that is being handed its arguments.
 use Rattle.std.specs.Prelude.{◌≡◌, List, [], ◌∷◌, ◌++◌, length, slice_get, Some, Ok}
+use Rattle.pdl_buf.specs.Made.{array_of}
 use Rattle.pdl_buf.specs.Window.{Window}
 use Rattle.pdl_buf.specs.declared.made.Made.{Made}
 use Rattle.pdl_sig.specs.declared.ArgShape.{ArgShape}
@@ -16,9 +17,7 @@ pub record Run : Type 0 where
 
 -- with one argument more: what a window shows
 abbrev pub with_next : Run → Window → Run
-with_next run w =
-    let next : Made = record { ty = w.ty; dims = w.dims; elems = w.elems } in
-    record run { given = run.given ++ next ∷ [] }
+with_next run w = record run { given = run.given ++ array_of w ∷ [] }
 
 -- arguments of some shapes resolve to this
 pub record IsResolved (signature : Signature) (resolved : Resolved) : Type 0 where

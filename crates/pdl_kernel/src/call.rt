@@ -27,7 +27,8 @@ pub fn call(
 ) -> Result<Vec<Made>, RunFault>
     requires { IsResolved kernel.now.signature resolved.now }
     ensures outputs { Answers (called kernel.now resolved.now given.old.items) result }
-    ensures made { IfOk result (λ outputs. All (λ made. IsMade made.ty made.dims made.elems) outputs.items) }
+    ensures made { IfOk result (λ outputs. All (λ made. IsMade made.ty made.dims made.elems)
+        outputs.items) }
 {
     resolutions_solve();
     shape_laws();

@@ -47,8 +47,8 @@ fn simple(
     }
 }
 
-/// The number of an expression, where it has no fault. It hands a number out in a register, which the
-/// answers of `computed` are too large for.
+/// The number of an expression, where it has no fault. It hands the number out in a register, for
+/// which the answers of `computed` are too large.
 #[cycle(quick)]
 fn quick(
     resolved: &Resolved,
@@ -95,7 +95,8 @@ fn quick_indices(
     entries: &[Entry],
 ) -> Option<[i64; MOST]>
     ensures { let m = store_of sources.now frames.now in
-        IfSome result (λ found. indices resolved.now.sizes at.now m (indices_of entries.now) start ≡ Ok found) }
+        IfSome result (λ found. indices resolved.now.sizes at.now m (indices_of entries.now)
+        start ≡ Ok found) }
 {
     let mut found = [0i64; MOST];
     for entry in entries {

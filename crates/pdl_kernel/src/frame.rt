@@ -47,7 +47,8 @@ impl Model for Frame {
 impl Frame {
     /// The position of indices.
     fn place(&self, at: &[i64; MOST]) -> Option<usize>
-        ensures { result ≡ option_map (position_of self.now.dims) (coordinates_in self.now.dims at.now) }
+        ensures { result ≡ option_map (position_of self.now.dims)
+            (coordinates_in self.now.dims at.now) }
     {
         find(&self.axes, 0, at)
     }
@@ -78,7 +79,10 @@ impl Frame {
 
     /// Puts a number, wrapped to the type, at a position.
     fn put(&mut self, place: usize, x: i64)
-        ensures { self.new ≡ record self.old { elems = slice_set self.old.elems place (wrapped self.old.ty x) } }
+        ensures { self.new ≡ record self.old {
+          elems = slice_set self.old.elems place
+              (wrapped self.old.ty x);
+        } }
     {
         set_in(&mut self.elems, place, wrap_to(self.ty, x));
     }
@@ -114,7 +118,8 @@ impl Frame {
 
     /// Appends the elements to an output.
     pub fn append(&self, part: &mut Part) -> Result<(), AllocError>
-        ensures { OnOk result (part.new ≡ record part.old { elems = part.old.elems ++ self.now.elems }) }
+        ensures { OnOk result (part.new ≡ record part.old
+            { elems = part.old.elems ++ self.now.elems }) }
     {
         part.append(&self.elems)
     }
@@ -152,7 +157,9 @@ fn assign_in(
     x: i64,
     at: &[i64; MOST],
 ) -> Result<(), Fault>
-    ensures { Becomes result arrays.new.items (and_then (assigned (get_or arrays.old.items number nothing) op x at.now) (λ a. Ok (slice_set arrays.old.items number a))) }
+    ensures { Becomes result arrays.new.items
+        (and_then (assigned (get_or arrays.old.items number nothing) op x at.now)
+        (λ a. Ok (slice_set arrays.old.items number a))) }
 {
     if number < arrays.len() {
         let frame = &mut arrays[number];
@@ -172,7 +179,9 @@ fn assign_at_in(
     place: usize,
 ) -> Result<(), Fault>
     requires { number < length arrays.old.items }
-    ensures { Becomes result arrays.new.items (and_then (assigned_at (get_or arrays.old.items number nothing) op x place) (λ a. Ok (slice_set arrays.old.items number a))) }
+    ensures { Becomes result arrays.new.items
+        (and_then (assigned_at (get_or arrays.old.items number nothing) op x place)
+        (λ a. Ok (slice_set arrays.old.items number a))) }
 {
     let frame = &mut arrays[number];
     frame.assign_at(op, x, place)
@@ -200,7 +209,10 @@ impl Frames {
     /// The blocks as their arguments start, and zeros for the locals.
     pub fn start(&mut self, sources: &[Source])
         requires { HasBlocks sources.now self.old.arrays }
-        ensures { self.new ≡ record { arrays = all_loaded sources.now self.old.arrays; locals = replicate (length self.old.locals) (pos 0) } }
+        ensures { self.new ≡ record {
+          arrays = all_loaded sources.now self.old.arrays;
+          locals = replicate (length self.old.locals) (pos 0);
+        } }
     {
         load_all(&mut self.arrays, sources);
         clear(&mut self.locals);
@@ -225,7 +237,8 @@ impl Frames {
 
     /// The position in a block of an access by the indices of loops, where these lead to one.
     pub fn looped(&self, number: usize, at: &[u32; MOST], entries: &[Entry]) -> Option<usize>
-        ensures leads { IfSome result (LeadsWithin (get_or self.now.arrays number nothing) at.now (indices_of entries.now)) }
+        ensures leads { IfSome result (LeadsWithin (get_or self.now.arrays number nothing) at.now
+            (indices_of entries.now)) }
         ensures known { IfSome result (λ place. number < length self.now.arrays) }
     {
         match self.arrays.get(number) {
@@ -246,7 +259,8 @@ impl Frames {
 
     /// Appends the elements of a block to an output.
     pub fn append(&self, number: usize, part: &mut Part) -> Result<(), AllocError>
-        ensures { OnOk result (part.new ≡ record part.old { elems = part.old.elems ++ (get_or self.now.arrays number nothing).elems }) }
+        ensures { OnOk result (part.new ≡ record part.old
+            { elems = part.old.elems ++ (get_or self.now.arrays number nothing).elems }) }
     {
         match self.arrays.get(number) {
             None => part.append(&[]),
@@ -262,7 +276,9 @@ impl Frames {
         x: i64,
         at: &[i64; MOST],
     ) -> Result<(), Fault>
-        ensures { Becomes result self.new (and_then (assigned (get_or self.old.arrays number nothing) op x at.now) (λ a. Ok (record self.old { arrays = slice_set self.old.arrays number a }))) }
+        ensures { Becomes result self.new (and_then
+            (assigned (get_or self.old.arrays number nothing) op x at.now)
+            (λ a. Ok (record self.old { arrays = slice_set self.old.arrays number a }))) }
     {
         assign_in(&mut self.arrays, number, op, x, at)
     }
@@ -276,7 +292,9 @@ impl Frames {
         place: usize,
     ) -> Result<(), Fault>
         requires { number < length self.old.arrays }
-        ensures { Becomes result self.new (and_then (assigned_at (get_or self.old.arrays number nothing) op x place) (λ a. Ok (record self.old { arrays = slice_set self.old.arrays number a }))) }
+        ensures { Becomes result self.new (and_then
+            (assigned_at (get_or self.old.arrays number nothing) op x place)
+            (λ a. Ok (record self.old { arrays = slice_set self.old.arrays number a }))) }
     {
         assign_at_in(&mut self.arrays, number, op, x, place)
     }
@@ -290,7 +308,10 @@ impl Frames {
 
     /// Stores to a local of the type.
     pub fn keep(&mut self, ty: Ty, slot: usize, x: i64)
-        ensures { self.new ≡ record self.old { locals = slice_set self.old.locals slot (wrapped ty x) } }
+        ensures { self.new ≡ record self.old {
+          locals = slice_set self.old.locals slot
+              (wrapped ty x);
+        } }
     {
         set_in(&mut self.locals, slot, wrap_to(ty, x));
     }

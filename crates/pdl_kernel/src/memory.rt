@@ -86,7 +86,8 @@ pub fn assign_looped(
 ) -> Option<Result<(), Fault>>
     requires { IsFree (roles_of sources.now) number }
     ensures { let m = store_of sources.now frames.old in
-        AssignsLooped result (store_of sources.now frames.new) m at.now number (indices_of entries.now) op x }
+        AssignsLooped result (store_of sources.now frames.new) m at.now number
+        (indices_of entries.now) op x }
 {
     let _inputs = sources.len();
     match frames.looped(number, at, entries) {
@@ -105,7 +106,9 @@ pub fn assign(
     at: &[i64; MOST],
 ) -> Result<(), Fault>
     requires { IsFree (roles_of sources.now) number }
-    ensures { Becomes result (store_of sources.now frames.new) (and_then (assigned (argument (store_of sources.now frames.old) number) op x at.now) (with_argument (store_of sources.now frames.old) number)) }
+    ensures { Becomes result (store_of sources.now frames.new)
+        (and_then (assigned (argument (store_of sources.now frames.old) number) op x at.now)
+        (with_argument (store_of sources.now frames.old) number)) }
 {
     let _inputs = sources.len();
     frames.assign(number, op, x, at)

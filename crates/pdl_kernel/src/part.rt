@@ -20,7 +20,12 @@ impl Model for Part {
 
     ghost Value = { Part };
 
-    ghost view = { λ p. record { number = p.number; ty = p.ty; dims = p.dims; elems = p.elems.items } };
+    ghost view = { λ p. record {
+      number = p.number;
+      ty = p.ty;
+      dims = p.dims;
+      elems = p.elems.items;
+    } };
 }
 
 impl Part {

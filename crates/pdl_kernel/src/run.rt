@@ -34,7 +34,11 @@ impl<'k> Model for KernelRun<'k> {
 
     ghost coded = { Prim.hlevel (codes, coded_code) };
 
-    ghost view = { λ r. record { kernel = r.kernel.now; resolved = r.resolved; given = r.given.items } };
+    ghost view = { λ r. record {
+      kernel = r.kernel.now;
+      resolved = r.resolved;
+      given = r.given.items;
+    } };
 
     ghost invariant = { λ r. IsResolved r.kernel.now.signature r.resolved };
 }
@@ -48,7 +52,8 @@ impl<'k> KernelRun<'k> {
         resolved: Resolved,
     ) -> Result<KernelRun<'k>, AllocError>
         requires { IsResolved kernel.now.signature resolved }
-        ensures { IfOk result (λ run. run ≡ record { kernel = kernel.now; resolved = resolved; given = [] }) }
+        ensures { IfOk result (λ run. run ≡ record
+            { kernel = kernel.now; resolved = resolved; given = [] }) }
     {
         Ok(KernelRun {
             kernel,
@@ -82,8 +87,10 @@ impl<'k> KernelRun<'k> {
     /// broadcast place whose code has a fault.
     pub fn finish(self) -> Result<Vec<Made>, RunFault>
         requires { length self.given ≡ length (inputs self.kernel.signature.args) }
-        ensures outputs { Answers (called self.entry.kernel self.entry.resolved self.entry.given) result }
-        ensures made { IfOk result (λ outputs. All (λ made. IsMade made.ty made.dims made.elems) outputs.items) }
+        ensures outputs { Answers (called self.entry.kernel self.entry.resolved self.entry.given)
+            result }
+        ensures made { IfOk result (λ outputs. All (λ made. IsMade made.ty made.dims made.elems)
+            outputs.items) }
     {
         let KernelRun {
             kernel,

@@ -2,7 +2,7 @@
 ghost use Rattle.std.specs.Prelude.{◌≡◌, ◌≢◌, ◌==◌, ◌≤◌, [], get_or, length, map, drop, if◌then◌else◌, All, IfOk};
 ghost use Rattle.std.specs.List.{AllZip};
 ghost use Rattle.pdl_shape.specs.Shape.{extent, extent_limit, size_of};
-ghost use Rattle.pdl_sig.specs.Resolution.{core_sizes, is_given, is_output, size_in, type_in};
+ghost use Rattle.pdl_sig.specs.Resolution.{core_sizes, is_given, size_in, type_in};
 ghost use Rattle.pdl_sig.specs.declared.Role.TheVariants.{Input};
 ghost use Rattle.pdl_kernel.specs.Call.{first_given, with_given};
 ghost use Rattle.pdl_kernel.specs.Setup.{IsFront, IsShapeOf, given_elems, given_steps, heads, made_of, source_of, source_with};
@@ -17,7 +17,7 @@ use crate::source::Source;
 use pdl_buf::{Elements, Made};
 use pdl_elem::{Ty, wrap_all};
 use pdl_shape::{Dims, copy_dims, dims_list, elements_of, shape_laws};
-use pdl_sig::{Resolved, Role, SigArg};
+use pdl_sig::{Resolved, Role, SigArg, is_output};
 use std::alloc::{AllocError, Global};
 
 /// How far one step along a dimension goes: nowhere along a size of 1.
@@ -62,7 +62,8 @@ fn axes(
     steps: &[u32],
 ) -> Result<Vec<Axis>, AllocError>
     requires { All (λ s. s ≤ extent_limit) steps.now }
-    ensures value { IfOk result (λ axes. axes.items ≡ axes_of (map (size_in resolved.now.sizes) numbers.now) steps.now) }
+    ensures value { IfOk result (λ axes. axes.items ≡ axes_of
+        (map (size_in resolved.now.sizes) numbers.now) steps.now) }
     ensures small { IfOk result (λ axes. All IsSmall axes.items) }
 {
     let mut axes = Vec::with_capacity(alloc, numbers.len())?;
@@ -87,7 +88,8 @@ fn rest_of(alloc: Global, numbers: &[u32], start: usize) -> Result<Vec<u32>, All
 /// The next of the given arrays for an argument of this role, where it takes one.
 fn take_given(role: Role, given: &mut Vec<Given>) -> Option<Given>
     ensures first { result ≡ first_given (is_given role) given.old.items }
-    ensures rest { given.new.items ≡ (if is_given role then drop 1 given.old.items else given.old.items) }
+    ensures rest { given.new.items ≡ (if is_given role then drop 1 given.old.items else
+        given.old.items) }
 {
     if matches!(role, Role::Input | Role::Both) && !given.is_empty() {
         Some(given.remove(0))
@@ -105,7 +107,8 @@ fn source_with(
     given: Option<Given>,
 ) -> Result<Source, AllocError>
     requires { arg.now.role ≢ Input → length arg.now.dims ≤ 16 }
-    ensures { IfOk result (λ source. source ≡ source_with ty (core_sizes resolved.now.sizes arg.now) arg.now given) }
+    ensures { IfOk result (λ source. source ≡ source_with ty (core_sizes resolved.now.sizes arg.now)
+        arg.now given) }
 {
     let (steps, elems) = taken(alloc, ty, given)?;
     let numbers = arg.dims.as_slice();
@@ -149,7 +152,8 @@ pub fn sources(
 ) -> Result<Vec<Source>, AllocError>
     requires types { resolved.now.types ≡ map (λ a. type_in resolved.now.generic a.ty) args.now }
     requires shapes { AllZip (IsShapeOf resolved.now) args.now resolved.now.shapes }
-    ensures { IfOk result (λ sources. sources.items ≡ map (source_of resolved.now) (with_given args.now given.old.items)) }
+    ensures { IfOk result (λ sources. sources.items ≡ map (source_of resolved.now)
+        (with_given args.now given.old.items)) }
 {
     let mut sources = Vec::with_capacity(alloc, args.len())?;
     for (k, arg) in args.iter().enumerate() {
@@ -223,16 +227,10 @@ pub fn frames(alloc: Global, sources: &[Source], shapes: &[Dims]) -> Result<Vec<
     Ok(blocks)
 }
 
-/// Whether an argument of this role is an output.
-fn is_output(role: Role) -> bool
-    ensures { result ≡ is_output role }
-{
-    matches!(role, Role::Output | Role::Both)
-}
-
 /// An output without elements, with the memory for them.
 fn part(alloc: Global, number: usize, ty: Ty, shape: &Dims) -> Result<Part, AllocError>
-    ensures { IfOk result (λ part. part ≡ record { number = number; ty = ty; dims = shape.now; elems = [] }) }
+    ensures { IfOk result (λ part. part ≡ record
+        { number = number; ty = ty; dims = shape.now; elems = [] }) }
 {
     let count = elements_of(shape) as usize;
     Ok(Part {

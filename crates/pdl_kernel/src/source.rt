@@ -36,9 +36,23 @@ impl Model for Source {
 
     ghost Value = { Source };
 
-    ghost view = { λ s. record { role = s.role; ty = s.ty; axes = s.axes.items; outer = s.outer.items; elems = s.elems.items; start = s.start } };
+    ghost view = { λ s. record {
+      role = s.role;
+      ty = s.ty;
+      axes = s.axes.items;
+      outer = s.outer.items;
+      elems = s.elems.items;
+      start = s.start;
+    } };
 
-    ghost invariant = { λ s. IsSound (record { role = s.role; ty = s.ty; axes = s.axes.items; outer = s.outer.items; elems = s.elems.items; start = s.start }) };
+    ghost invariant = { λ s. IsSound (record {
+      role = s.role;
+      ty = s.ty;
+      axes = s.axes.items;
+      outer = s.outer.items;
+      elems = s.elems.items;
+      start = s.start;
+    }) };
 }
 
 impl Source {

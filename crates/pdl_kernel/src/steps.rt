@@ -47,7 +47,8 @@ fn step(
     stmt: &Stmt,
 ) -> Result<(), Fault>
     requires { IsStepFree (roles_of sources.now) (step_of stmt.now) }
-    ensures { Becomes result (store_of sources.now frames.new) (step resolved.now at.now (step_of stmt.now) (store_of sources.now frames.old)) }
+    ensures { Becomes result (store_of sources.now frames.new)
+        (step resolved.now at.now (step_of stmt.now) (store_of sources.now frames.old)) }
 {
     match stmt {
         Stmt::Loop(dimension, body) => repeat(resolved, sources, frames, at, *dimension, body),
@@ -84,7 +85,10 @@ fn keep(
     op: Option<BinaryOp>,
     x: i64,
 ) -> Result<(), Fault>
-    ensures { Becomes result (store_of sources.now frames.new) (and_then (changed op (get_or (store_of sources.now frames.old).locals slot (pos 0)) x) (λ y. Ok (kept (local_type resolved.now.generic ty) slot (store_of sources.now frames.old) y))) }
+    ensures { Becomes result (store_of sources.now frames.new)
+        (and_then (changed op (get_or (store_of sources.now frames.old).locals slot (pos 0)) x)
+        (λ y. Ok (kept (local_type resolved.now.generic ty) slot (store_of sources.now frames.old)
+        y))) }
 {
     let _inputs = sources.len();
     match change(op, frames.local(slot), x) {
@@ -110,7 +114,8 @@ fn put(
     requires { IsFree (roles_of sources.now) number }
     ensures { let m = store_of sources.now frames.old in
         Becomes result (store_of sources.now frames.new)
-        (and_then (indices resolved.now.sizes at.now m (indices_of entries.now) start) (λ is. and_then (assigned (argument m number) op x is) (with_argument m number))) }
+        (and_then (indices resolved.now.sizes at.now m (indices_of entries.now) start)
+        (λ is. and_then (assigned (argument m number) op x is) (with_argument m number))) }
 {
     match assign_looped(sources, frames, at, number, entries, op, x) {
         Some(done) => done,
@@ -132,7 +137,9 @@ fn repeat(
     body: &[Stmt],
 ) -> Result<(), Fault>
     requires { IsCodeFree (roles_of sources.now) (code_of body.now) }
-    ensures { Becomes result (store_of sources.now frames.new) (turns (λ i now. run resolved.now (slice_set at.now dimension i) (code_of body.now) now) 0 (size_in resolved.now.sizes dimension) (store_of sources.now frames.old)) }
+    ensures { Becomes result (store_of sources.now frames.new)
+        (turns (λ i now. run resolved.now (slice_set at.now dimension i) (code_of body.now) now) 0
+        (size_in resolved.now.sizes dimension) (store_of sources.now frames.old)) }
 {
     let mut here = *at;
     for i in 0..size_in(resolved, dimension) {
@@ -155,7 +162,8 @@ pub fn run(
     code: &[Stmt],
 ) -> Result<(), Fault>
     requires { IsCodeFree (roles_of sources.now) (code_of code.now) }
-    ensures { Becomes result (store_of sources.now frames.new) (run resolved.now at.now (code_of code.now) (store_of sources.now frames.old)) }
+    ensures { Becomes result (store_of sources.now frames.new)
+        (run resolved.now at.now (code_of code.now) (store_of sources.now frames.old)) }
 {
     for stmt in code {
         match step(resolved, sources, frames, at, stmt) {

@@ -40,7 +40,9 @@ fn at_place(
 ) -> Result<(), Fault>
     requires free { IsCodeFree (roles_of sources.old.items) (code_of code.now) }
     requires blocks { HasBlocks sources.old.items frames.old.arrays }
-    ensures left { Becomes result (store_of sources.new.items frames.new) (left_at resolved.now (code_of code.now) sources.old.items (length frames.old.locals) at.now) }
+    ensures left { Becomes result (store_of sources.new.items frames.new)
+        (left_at resolved.now (code_of code.now) sources.old.items (length frames.old.locals)
+        at.now) }
     ensures moved { sources.new.items ≡ map (moved_to at.now) sources.old.items }
     ensures blocks { OnOk result (HasBlocks sources.new.items frames.new.arrays) }
     ensures locals { OnOk result (length frames.new.locals ≡ length frames.old.locals) }
@@ -53,7 +55,8 @@ fn at_place(
 /// Appends to each output its block.
 fn append_all(sources: &[Source], frames: &Frames, parts: &mut Vec<Part>) -> Result<(), AllocError>
     requires { All (λ part. IsFree (roles_of sources.now) part.number) parts.old.items }
-    ensures { OnOk result (parts.new.items ≡ map (appended (store_of sources.now frames.now)) parts.old.items) }
+    ensures { OnOk result (parts.new.items ≡ map (appended (store_of sources.now frames.now))
+        parts.old.items) }
 {
     let _inputs = sources.len();
     for i in 0..parts.len() {
@@ -84,9 +87,12 @@ pub fn collect(
 ) -> Result<(), RunFault>
     requires free { IsCodeFree (roles_of sources.old.items) (code_of code.now) }
     requires blocks { HasBlocks sources.old.items frames.old.arrays }
-    requires outputs { All (λ part. IsFree (roles_of sources.old.items) part.number) parts.old.items }
-    ensures { let left = left_in_order resolved.now (code_of code.now) sources.old.items (length frames.old.locals) in
-        Collected result parts.old.items parts.new.items (stores_from left 0 (size_of resolved.now.broadcast)) }
+    requires outputs { All (λ part. IsFree (roles_of sources.old.items) part.number)
+        parts.old.items }
+    ensures { let left = left_in_order resolved.now (code_of code.now) sources.old.items
+        (length frames.old.locals) in
+        Collected result parts.old.items parts.new.items
+        (stores_from left 0 (size_of resolved.now.broadcast)) }
 {
     let mut walk = BroadcastWalk::new(alloc, &resolved.broadcast)?;
     for place in 0..elements_of(&resolved.broadcast) {
