@@ -1,26 +1,28 @@
 -- Many lists at once.
-use Rattle.std.proofs.Common.{◌≡◌, ℕ, ◌+◌, ◌*◌, ◌/◌, ◌%◌, ◌<◌, ◌≤◌, ℤ, pos, List, [], ◌∷◌, ◌++◌, length, map, take, drop, get_or, fold, All, Result, Ok, Err, arith, ap, sym, subst, ◌∙◌}
-use Rattle.std.specs.Prelude.{IfOk}
+use Rattle.std.proofs.Common.{◌≡◌, ℕ, ◌+◌, ◌*◌, ◌/◌, ◌%◌, ◌<◌, ◌≤◌, ℤ, pos, List, [], ◌∷◌, ◌++◌, length, map, drop, get_or, fold, All, arith, ap, ap₂, sym, subst, ◌∙◌}
+use Rattle.std.specs.Int.{int_max, int_min}
 use Rattle.std.specs.List.{flat_map, range_with_len}
 use Rattle.std.proofs.Math.Nat.{add-mul, mul-le-mul}
 use Rattle.std.proofs.lemmas.List.{ext_get_or, get_or-take, get_or-drop, length-take-le, length-drop}
 use Rattle.std.proofs.lemmas.List.FromFn.{length-map-range_with_len, get_or-map-range_with_len}
 use Rattle.std.proofs.lemmas.Simd.{map-map}
 use Rattle.std.proofs.lemmas.List.Concat.{flat_map_single}
-use Rattle.std.proofs.lemmas.List.Elements.{All-map}
+use Rattle.std.proofs.lemmas.List.Elements.{All-drop, All-take}
 use Rattle.std.proofs.lemmas.Nat.{div-mul-add}
 use Rattle.pdl_elem.specs.declared.Ty.{Ty}
+use Rattle.pdl_elem.specs.declared.Ty.TheVariants.{Longlong}
 use Rattle.pdl_elem.specs.Laws.{WrappingLaws}
 use Rattle.pdl_elem.specs.Numbers.{wrapped}
-use Rattle.pdl_elem.specs.Types.{InRange}
+use Rattle.pdl_elem.specs.Types.{InRange, highest, lowest}
 use Rattle.pdl_buf.specs.Reads.{LieAcross, across}
-use Rattle.pdl_reduce.specs.declared.Reduction.TheVariants.{Sumover, Prodover}
+use Rattle.pdl_reduce.specs.declared.Reduction.TheVariants.{Sumover, Prodover, Maximum, Minimum}
 use Rattle.pdl_reduce.specs.Across.{come_to}
-use Rattle.pdl_reduce.specs.Folds.{total, product}
+use Rattle.pdl_reduce.specs.Folds.{total, product, greatest, least}
 use Rattle.pdl_reduce.specs.Reductions.{lists, nth_list, reduced_row, sum_type}
-use Rattle.pdl_reduce.proofs.Numbers.{adding, multiplying, wrapped_sum, wrapped_product}
+use Rattle.pdl_reduce.proofs.Numbers.{adding, multiplying, wrapped_sum, wrapped_product, greatest_from, least_from}
 use Rattle.pdl_reduce.proofs.Paired.{range_agree}
 use Rattle.pdl_reduce.proofs.Matrix.{range_more}
+use Rattle.pdl_reduce.proofs.Results.{row_inside}
 
 -- a list of n of them lies before the end
 pub list_within : (first j n size total : ℕ) → j < n → (first + n) * size ≤ total → (first + j) * size + size ≤ total
@@ -60,25 +62,51 @@ parts_join f a n =
 
 -- ---- sums and products
 
-wrapped_lists : (T : Ty) (f : ℤ → ℤ → ℤ) (start : ℤ) (g : List ℤ → ℤ) (count size : ℕ) (es : List ℤ) → ((xs : List ℤ) → wrapped T (fold f start xs) ≡ g xs)
+wrapped_lists : (T : Ty) (f : ℤ → ℤ → ℤ) (start : ℤ) (g : List ℤ → ℤ) (count size : ℕ) (es : List ℤ) → ((n : ℕ) → n < count → wrapped T (fold f start (nth_list size es n)) ≡ g (nth_list size es n))
     → map (come_to T f start size es) (range_with_len 0 count) ≡ flat_map (λ xs. g xs ∷ []) (lists count size es)
 wrapped_lists T f start g count size es h =
-    range_agree (come_to T f start size es) (λ n. g (nth_list size es n)) count (λ n below. h (nth_list size es n))
+    range_agree (come_to T f start size es) (λ n. g (nth_list size es n)) count h
     ∙ sym (flat_map_single g (lists count size es) ∙ map-map g (nth_list size es) (range_with_len 0 count))
 
 pub sums_across : WrappingLaws → (ty T : Ty) (count size : ℕ) (es : List ℤ) → T ≡ sum_type ty
     → map (come_to T adding (pos 0) size es) (range_with_len 0 count) ≡ flat_map (reduced_row Sumover ty) (lists count size es)
 sums_across laws ty T count size es e =
-    wrapped_lists T adding (pos 0) (λ xs. wrapped (sum_type ty) (total xs)) count size es (λ xs. wrapped_sum laws T xs ∙ ap (λ (t : Ty). wrapped t (total xs)) e)
+    wrapped_lists T adding (pos 0) (λ xs. wrapped (sum_type ty) (total xs)) count size es
+    (λ n below. wrapped_sum laws T (nth_list size es n) ∙ ap (λ (t : Ty). wrapped t (total (nth_list size es n))) e)
 
 pub products_across : WrappingLaws → (ty T : Ty) (count size : ℕ) (es : List ℤ) → T ≡ sum_type ty
     → map (come_to T multiplying (pos 1) size es) (range_with_len 0 count) ≡ flat_map (reduced_row Prodover ty) (lists count size es)
 products_across laws ty T count size es e =
-    wrapped_lists T multiplying (pos 1) (λ xs. wrapped (sum_type ty) (product xs)) count size es (λ xs. wrapped_product laws T xs ∙ ap (λ (t : Ty). wrapped t (product xs)) e)
+    wrapped_lists T multiplying (pos 1) (λ xs. wrapped (sum_type ty) (product xs)) count size es
+    (λ n below. wrapped_product laws T (nth_list size es n) ∙ ap (λ (t : Ty). wrapped t (product (nth_list size es n))) e)
 
-pub across_in : WrappingLaws → (T : Ty) (f : ℤ → ℤ → ℤ) (start : ℤ) (count size : ℕ) (es : List ℤ) → All (InRange T) (map (come_to T f start size es) (range_with_len 0 count))
-across_in laws T f start count size es = All-map (InRange T) (come_to T f start size es) (range_with_len 0 count) (λ k d below. laws.in_range T _)
+-- ---- extremes
 
-pub if_ok_all : {A E : Type 0} (items : A → List ℤ) (P : ℤ → Type 0) (r : Result A E) (us : List ℤ) → IfOk r (λ m. items m ≡ us) → All P us → IfOk r (λ m. All P (items m))
-if_ok_all items P (Ok m) us h all = subst (All P) (sym h) all
-if_ok_all items P (Err x) us h all = tt
+-- a list below the count has numbers, all in range
+pub record HasSome (ty : Ty) (xs : List ℤ) : Type 0 where
+  pub some : 0 < length xs
+  pub in_range : All (InRange ty) xs
+
+has_some : (ty : Ty) (count size n : ℕ) (es : List ℤ) → n < count → 0 < size → count * size ≡ length es → All (InRange ty) es → HasSome ty (nth_list size es n)
+has_some ty count size n es h some whole all = record {
+  some = omega (arith, some, list_length size es n (omega (arith, whole, row_inside n count size h)));
+  in_range = All-take (InRange ty) size (drop (n * size) es) (All-drop (InRange ty) (n * size) es all);
+}
+
+pub greatest_across : WrappingLaws → (ty T : Ty) (start : ℤ) (count size : ℕ) (es : List ℤ) → T ≡ ty → start ≡ lowest Longlong → 0 < size → count * size ≡ length es → All (InRange ty) es
+    → map (come_to T int_max start size es) (range_with_len 0 count) ≡ flat_map (reduced_row Maximum ty) (lists count size es)
+greatest_across laws ty T start count size es e s some whole all =
+    wrapped_lists T int_max start greatest count size es
+    (λ n below.
+    let xs : List ℤ = nth_list size es n in
+    let h : HasSome ty xs = has_some ty count size n es below some whole all in
+    ap₂ (λ (t : Ty) (z : ℤ). wrapped t (fold int_max z xs)) e s ∙ greatest_from laws ty xs h.some h.in_range)
+
+pub least_across : WrappingLaws → (ty T : Ty) (start : ℤ) (count size : ℕ) (es : List ℤ) → T ≡ ty → start ≡ highest Longlong → 0 < size → count * size ≡ length es → All (InRange ty) es
+    → map (come_to T int_min start size es) (range_with_len 0 count) ≡ flat_map (reduced_row Minimum ty) (lists count size es)
+least_across laws ty T start count size es e s some whole all =
+    wrapped_lists T int_min start least count size es
+    (λ n below.
+    let xs : List ℤ = nth_list size es n in
+    let h : HasSome ty xs = has_some ty count size n es below some whole all in
+    ap₂ (λ (t : Ty) (z : ℤ). wrapped t (fold int_min z xs)) e s ∙ least_from laws ty xs h.some h.in_range)

@@ -1,17 +1,17 @@
 -- What folds in machine words come to.
-use Rattle.std.proofs.Common.{◌≡◌, ℕ, ◌+◌, ◌<◌, ◌≤◌, ℤ, pos, ◌+ℤ◌, ◌*ℤ◌, List, [], ◌∷◌, ◌++◌, length, take, drop, map, get_or, fold, All, arith, refl, ap, ap₂, sym, subst, ◌∙◌, Result, Ok, Err}
+use Rattle.std.proofs.Common.{◌≡◌, ℕ, ◌+◌, ◌<◌, ◌≤◌, ℤ, pos, ◌+ℤ◌, ◌*ℤ◌, ◌≤ℤ◌, List, [], ◌∷◌, length, take, drop, map, get_or, fold, All, arith, refl, ap, ap₂, sym, ◌∙◌, Result, Ok, Err}
 use Rattle.std.specs.Prelude.{OnOk, Bool, true, false, if◌then◌else◌, int_lt}
 use Rattle.std.specs.Int.{int_max, int_min, int_wrap, w64}
 use Rattle.std.specs.List.{range_with_len}
 use Rattle.std.specs.declared.alloc.AllocError.{AllocError}
-use Rattle.std.proofs.lemmas.Int.{int_wrap-add_left, int_wrap-mul_left, int_wrap_fits, SFits-int_wrap}
+use Rattle.std.proofs.lemmas.Int.{int_max_is, int_min_is, int_wrap-add_left, int_wrap-mul_left, int_wrap_fits, ints, SFits-int_wrap}
 use Rattle.std.proofs.lemmas.List.{get_or-drop, get_or-take}
-use Rattle.std.proofs.lemmas.List.Elements.{All-append, All-cons, All-head, All-tail, All-map}
+use Rattle.std.proofs.lemmas.List.Elements.{All-head, All-tail}
 use Rattle.pdl_elem.specs.declared.Ty.{Ty}
-use Rattle.pdl_elem.specs.declared.Ty.TheVariants.{Long}
+use Rattle.pdl_elem.specs.declared.Ty.TheVariants.{Byte, Short, Ushort, Long, Longlong}
 use Rattle.pdl_elem.specs.Laws.{WrappingLaws}
 use Rattle.pdl_elem.specs.Numbers.{wrapped}
-use Rattle.pdl_elem.specs.Types.{InRange}
+use Rattle.pdl_elem.specs.Types.{InRange, highest, lowest}
 use Rattle.pdl_reduce.specs.Folds.{total, product, greatest, least, at_prefixes}
 
 -- ---- a sum or a product wraps on the way or in the end
@@ -85,27 +85,43 @@ pub least_in : (P : ℤ → Type 0) (s : ℤ) (xs : List ℤ) → P s → All P 
 least_in P s [] p h = p
 least_in P s (x ∷ xs) p h = least_in P (int_min s x) xs (either P (int_lt x s) x s (All-head P x xs h) p) (All-tail P x xs h)
 
+-- each number of a type is one of longlong
+in_longlong : (ty : Ty) (x : ℤ) → InRange ty x → InRange Longlong x
+in_longlong Byte x h = omega (arith, ints, h.0, h.1)
+in_longlong Short x h = omega (arith, ints, h.0, h.1)
+in_longlong Ushort x h = omega (arith, ints, h.0, h.1)
+in_longlong Long x h = omega (arith, ints, h.0, h.1)
+in_longlong Longlong x h = h
+
+-- the greatest may be looked for from the least machine number on, and the least from the greatest one on
+pub greatest_from : WrappingLaws → (ty : Ty) (xs : List ℤ) → 0 < length xs → All (InRange ty) xs → wrapped ty (fold int_max (lowest Longlong) xs) ≡ greatest xs
+greatest_from laws ty [] some all = absurd (omega (arith, some))
+greatest_from laws ty (x ∷ xs) some all =
+    let first : InRange ty x = All-head (InRange ty) x xs all in
+    let above : lowest Longlong ≤ℤ x = (in_longlong ty x first).0 in
+    let from_first : int_max (lowest Longlong) x ≡ x = omega (arith, ints, int_max_is (lowest Longlong) x, above) in
+    ap (λ (z : ℤ). wrapped ty (fold int_max z xs)) from_first
+    ∙ laws.same ty (fold int_max x xs) (greatest_in (InRange ty) x xs first (All-tail (InRange ty) x xs all))
+
+pub least_from : WrappingLaws → (ty : Ty) (xs : List ℤ) → 0 < length xs → All (InRange ty) xs → wrapped ty (fold int_min (highest Longlong) xs) ≡ least xs
+least_from laws ty [] some all = absurd (omega (arith, some))
+least_from laws ty (x ∷ xs) some all =
+    let first : InRange ty x = All-head (InRange ty) x xs all in
+    let below : x ≤ℤ highest Longlong = (in_longlong ty x first).1 in
+    let from_first : int_min (highest Longlong) x ≡ x = omega (arith, ints, int_min_is (highest Longlong) x, below) in
+    ap (λ (z : ℤ). wrapped ty (fold int_min z xs)) from_first
+    ∙ laws.same ty (fold int_min x xs) (least_in (InRange ty) x xs first (All-tail (InRange ty) x xs all))
+
 -- the first of so many elements from a place on
 pub first_of : (xs : List ℤ) (first count : ℕ) → 0 < count → get_or (take count (drop first xs)) 0 (pos 0) ≡ get_or xs first (pos 0)
 first_of xs first count h =
     get_or-take count (drop first xs) 0 (pos 0) h ∙ get_or-drop first xs 0 (pos 0) ∙ ap (λ (n : ℕ). get_or xs n (pos 0)) (omega arith)
 
--- ---- a list that grows stays in range
-
-pub pushed_in : (P : ℤ → Type 0) (r : Result (Unit {0}) AllocError) (old new : List ℤ) (x : ℤ) → OnOk r (new ≡ old ++ x ∷ []) → All P old → P x → OnOk r (All P new)
-pushed_in P (Ok u) old new x e h p = subst (All P) (sym e) (All-append P old (x ∷ []) h (All-cons P x [] p (λ k d b. absurd (omega (arith, b)))))
-pushed_in P (Err e) old new x g h p = tt
-
-pub added_in : (P : ℤ → Type 0) (r : Result (Unit {0}) AllocError) (old new xs : List ℤ) → OnOk r (new ≡ old ++ xs) → All P old → All P xs → OnOk r (All P new)
-added_in P (Ok u) old new xs e h g = subst (All P) (sym e) (All-append P old xs h g)
-added_in P (Err e) old new xs f h g = tt
+-- ---- results
 
 pub added_as : (r : Result (Unit {0}) AllocError) (new us vs : List ℤ) → OnOk r (new ≡ us) → us ≡ vs → OnOk r (new ≡ vs)
 added_as (Ok u) new us vs e f = e ∙ f
 added_as (Err e) new us vs g f = tt
-
-pub wrapped_in : WrappingLaws → (t : Ty) (xs : List ℤ) → All (InRange t) (map (wrapped t) xs)
-wrapped_in laws t xs = All-map (InRange t) (wrapped t) xs (λ k d h. laws.in_range t (get_or xs k d))
 
 -- a place in an array is a number of type long
 pub place_in : (n : ℕ) → n ≤ 1048576 → InRange Long (pos n)

@@ -11,16 +11,19 @@ use Rattle.pdl_shape.specs.Laws.{SizeLaws}
 use Rattle.pdl_shape.specs.Refusals.{Refusal, too_large}
 use Rattle.pdl_shape.specs.Shape.{IsDims, coordinates_of, extent, extent_limit, size_of}
 use Rattle.pdl_sig.specs.declared.Resolved.{Resolved}
+use Rattle.pdl_buf.specs.Buffer.{Kept}
 use Rattle.pdl_buf.specs.declared.made.Made.{Made}
 use Rattle.pdl_reduce.specs.declared.Pairing.{Pairing}
 use Rattle.pdl_reduce.specs.declared.Pairing.TheVariants.{Inner, Outer, Matmult}
 use Rattle.pdl_reduce.specs.declared.matrices.Sizes.{Sizes}
-use Rattle.pdl_reduce.specs.Blocks.{Ready, products_at, sizes_of}
-use Rattle.pdl_reduce.specs.Pairings.{paired_at, paired_dims, paired_element}
+use Rattle.pdl_reduce.specs.Blocks.{Ready, ReadyFor, block_products, core_count, products_at, sizes_of}
+use Rattle.pdl_reduce.specs.Pairings.{paired_at, paired_dims, paired_element, signature_of}
 use Rattle.pdl_buf.specs.Made.{broadcast_element}
 use Rattle.pdl_reduce.proofs.Paired.{range_agree}
 use Rattle.pdl_reduce.proofs.Pairs.{Positions, inner_is, outer_is, matmult_is}
-use Rattle.pdl_reduce.proofs.Resolved.{Known}
+use Rattle.pdl_reduce.proofs.Resolved.{Known, known_inner, known_outer, known_matmult}
+use Rattle.pdl_sig.specs.Given.{shape_of as given_as}
+use Rattle.pdl_sig.specs.Resolution.{resolution}
 use Rattle.pdl_reduce.proofs.Results.{size_split}
 
 -- ---- sizes
@@ -185,9 +188,90 @@ products_as ty s v les res ls ms rs ns bs js e f g h =
     let F : Sizes → List ℕ → List ℕ → List ℕ → List ℤ = λ t us vs ws. map (products_at ty t les res us vs ws) (range_with_len 0 (size_of ws * (t.height * t.width))) in
     ap₂ (λ (t : Sizes) (ws : List ℕ). F t ms ns ws) e h ∙ ap₂ (λ (us vs : List ℕ). F s us vs bs) f g
 
-pub if_ok_as : {A E : Type 0} (items : A → List ℤ) (r : Result A E) (us vs : List ℤ) → IfOk r (λ m. items m ≡ us) → us ≡ vs → IfOk r (λ m. items m ≡ vs)
-if_ok_as items (Ok m) us vs h e = h ∙ e
-if_ok_as items (Err x) us vs h e = tt
+-- numbers of a type
+abbrev pub kept : Ty → List ℤ → Kept
+kept t es = record { ty = t; elems = es }
+
+pub if_ok_as : {A E : Type 0} (r : Result A E) (u v : A) → IfOk r (λ m. m ≡ u) → u ≡ v → IfOk r (λ m. m ≡ v)
+if_ok_as (Ok m) u v h e = h ∙ e
+if_ok_as (Err x) u v h e = tt
 
 pub stretched_as : (xs us bs js : List ℕ) → us ≡ xs → js ≡ bs → BroadcastsTo us js → BroadcastsTo xs bs
 stretched_as xs us bs js e f h = subst (λ (t : List ℕ). BroadcastsTo t bs) e (subst (λ (t : List ℕ). BroadcastsTo us t) f h)
+
+-- ---- by kind
+
+-- the dimensions of a pairing's result, by those of its arrays and of the broadcast
+abbrev pub made_dims : Pairing → (a b bs : List ℕ) → List ℕ
+made_dims Inner a b bs = bs
+made_dims Outer a b bs = get_or a 0 1 ∷ get_or b 0 1 ∷ bs
+made_dims Matmult a b bs = get_or b 0 1 ∷ get_or a 1 1 ∷ bs
+
+-- two arrays whose pairing resolves, and the dimensions and sizes that its call works on
+pub record Prepared (kind : Pairing) (r : Resolved) (a b : Made) (xs ys bs : List ℕ) (s : Sizes) : Type 0 where
+  pub left_sizes : xs ≡ drop (core_count kind) a.dims
+  pub right_sizes : ys ≡ drop (core_count kind) b.dims
+  pub joined : bs ≡ r.broadcast
+  pub sizes : s ≡ sizes_of kind (slice_index_or r.sizes 0 1) a.dims b.dims
+  pub both : Pair a b (drop (core_count kind) a.dims) (drop (core_count kind) b.dims) r.broadcast
+  pub known : Known kind a.dims b.dims (drop (core_count kind) a.dims) (drop (core_count kind) b.dims) (made_dims kind a.dims b.dims r.broadcast) (sizes_of kind (slice_index_or r.sizes 0 1) a.dims b.dims) r
+
+pub ready_for : (kind : Pairing) (r : Resolved) (a b : Made) (xs ys bs : List ℕ) (s : Sizes) → Prepared kind r a b xs ys bs s → ReadyFor kind s a.elems b.elems xs ys bs
+ready_for Inner r a b xs ys bs s p =
+    ready_as _ s a.elems b.elems _ xs _ ys _ bs p.sizes p.left_sizes p.right_sizes p.joined (inner_ready r a b p.both p.known)
+ready_for Outer r a b xs ys bs s p =
+    ready_as _ s b.elems a.elems _ ys _ xs _ bs p.sizes p.right_sizes p.left_sizes p.joined (outer_ready r a b p.both)
+ready_for Matmult r a b xs ys bs s p =
+    ready_as _ s a.elems b.elems _ xs _ ys _ bs p.sizes p.left_sizes p.right_sizes p.joined (matmult_ready r a b p.both p.known)
+
+pub elements_for : (kind : Pairing) (r : Resolved) (a b : Made) (xs ys bs : List ℕ) (s : Sizes) → Prepared kind r a b xs ys bs s
+    → block_products kind r.generic s a.elems b.elems xs ys bs ≡ map (paired_element kind r a b) (range_with_len 0 (size_of (paired_dims r)))
+elements_for Inner r a b xs ys bs s p =
+    products_as r.generic _ s a.elems b.elems _ xs _ ys _ bs p.sizes p.left_sizes p.right_sizes p.joined ∙ inner_value r a b p.both p.known
+elements_for Outer r a b xs ys bs s p =
+    products_as r.generic _ s b.elems a.elems _ ys _ xs _ bs p.sizes p.right_sizes p.left_sizes p.joined ∙ outer_value r a b p.both p.known
+elements_for Matmult r a b xs ys bs s p =
+    products_as r.generic _ s a.elems b.elems _ xs _ ys _ bs p.sizes p.left_sizes p.right_sizes p.joined ∙ matmult_value r a b p.both p.known
+
+pub known_as : (kind : Pairing) (a b : Made) (r : Resolved) → resolution (signature_of kind) (given_as a ∷ given_as b ∷ []) ≡ Ok r
+    → Known kind a.dims b.dims (drop (core_count kind) a.dims) (drop (core_count kind) b.dims) (made_dims kind a.dims b.dims r.broadcast) (sizes_of kind (slice_index_or r.sizes 0 1) a.dims b.dims) r
+known_as Inner a b r h = known_inner a.ty b.ty a.dims b.dims r h
+known_as Outer a b r h = known_outer a.ty b.ty a.dims b.dims r h
+known_as Matmult a b r h = known_matmult a.ty b.ty a.dims b.dims r h
+
+-- the further dimensions join, whatever they are called
+pub joins_for : (kind : Pairing) (r : Resolved) (a b : Made) (xs ys : List ℕ) → resolution (signature_of kind) (given_as a ∷ given_as b ∷ []) ≡ Ok r
+    → xs ≡ drop (core_count kind) a.dims → ys ≡ drop (core_count kind) b.dims → joined_dims xs ys ≡ Ok r.broadcast
+joins_for kind r a b xs ys h e f = ap₂ joined_dims e f ∙ joins kind a.dims b.dims _ _ _ _ r (known_as kind a b r h)
+
+pub prepared : (kind : Pairing) (r : Resolved) (a b : Made) (xs ys bs : List ℕ) (s : Sizes) → SizeLaws → Positions → Sound a → Sound b
+    → resolution (signature_of kind) (given_as a ∷ given_as b ∷ []) ≡ Ok r → xs ≡ drop (core_count kind) a.dims → ys ≡ drop (core_count kind) b.dims
+    → joined_dims xs ys ≡ Ok bs → BroadcastsTo xs bs → BroadcastsTo ys bs → s ≡ sizes_of kind (slice_index_or r.sizes 0 1) a.dims b.dims → Prepared kind r a b xs ys bs s
+prepared kind r a b xs ys bs s sizes positions left right h e f j x y z =
+    let joined : bs ≡ r.broadcast = joins_to xs ys r.broadcast bs (joins_for kind r a b xs ys h e f) j in
+    record {
+      left_sizes = e;
+      right_sizes = f;
+      joined = joined;
+      sizes = z;
+      both = record {
+        sizes = sizes;
+        positions = positions;
+        left = left;
+        right = right;
+        left_to = stretched_as (drop (core_count kind) a.dims) xs r.broadcast bs e joined x;
+        right_to = stretched_as (drop (core_count kind) b.dims) ys r.broadcast bs f joined y;
+      };
+      known = known_as kind a b r h;
+    }
+
+-- the same by what the calls answer: counts of core dimensions, the arrays' dimensions, and the depth
+pub prepared_by : (kind : Pairing) (r : Resolved) (a b : Made) (n m depth : ℕ) (us vs first second xs ys bs : List ℕ) (s : Sizes) → SizeLaws → Positions
+    → n ≡ core_count kind → m ≡ core_count kind → us ≡ a.dims → vs ≡ b.dims → first ≡ us → second ≡ vs → IsDims us → IsDims vs
+    → length a.elems ≡ size_of a.dims → length b.elems ≡ size_of b.dims → resolution (signature_of kind) (given_as a ∷ given_as b ∷ []) ≡ Ok r
+    → xs ≡ drop n us → ys ≡ drop m vs → joined_dims xs ys ≡ Ok bs → BroadcastsTo xs bs → BroadcastsTo ys bs
+    → depth ≡ slice_index_or r.sizes 0 1 → s ≡ sizes_of kind depth first second → Prepared kind r a b xs ys bs s
+prepared_by kind r a b n m depth us vs first second xs ys bs s sizes positions en em eu ev ef es du dv ca cb h ex ey j x y ed ez =
+    prepared kind r a b xs ys bs s sizes positions (record { dims = subst IsDims eu du; count = ca }) (record { dims = subst IsDims ev dv; count = cb })
+    h (ex ∙ ap₂ (λ (k : ℕ) (ds : List ℕ). drop k ds) en eu) (ey ∙ ap₂ (λ (k : ℕ) (ds : List ℕ). drop k ds) em ev) j x y
+    (ez ∙ ap (λ (k : ℕ). sizes_of kind k first second) ed ∙ ap₂ (λ (ds es : List ℕ). sizes_of kind (slice_index_or r.sizes 0 1) ds es) (ef ∙ eu) (es ∙ ev))

@@ -15,7 +15,8 @@ refusal_named EmptyReduce = Some empty_reduce
 refusal_named NoMemory = None
 
 -- what is wanted is refused so; a fault that names no refusal says nothing of it
-abbrev pub IsRefused : (wanted : Result Made ReduceRefusal) → (named : Option ReduceRefusal) → Type 0
+abbrev pub IsRefused : (wanted : Result Made ReduceRefusal) → (named : Option ReduceRefusal)
+    → Type 0
 IsRefused wanted None = Unit {0}
 IsRefused wanted (Some refusal) = wanted ≡ Err refusal
 

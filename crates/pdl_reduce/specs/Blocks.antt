@@ -1,5 +1,6 @@
 -- A step of the proof: the pairings are products of blocks of elements as matrices.
 use Rattle.std.specs.Prelude.{◌≡◌, ◌<◌, ◌≤◌, ℕ, ◌+◌, ◌*◌, ◌/◌, ◌%◌, ◌==◌, ℤ, pos, ◌*ℤ◌, if◌then◌else◌, List, length, get_or, map, take, drop, Option, Some, None}
+use Rattle.std.specs.List.{range_with_len}
 use Rattle.pdl_elem.specs.declared.Ty.{Ty}
 use Rattle.pdl_elem.specs.Numbers.{wrapped}
 use Rattle.pdl_shape.specs.Broadcast.{BroadcastsTo}
@@ -46,27 +47,63 @@ abbrev pub IsHeld : Ty → List ℤ → (held : Option ℕ) → (block : List �
 IsHeld ty es None block = Unit {0}
 IsHeld ty es (Some n) block = block ≡ nth_block ty (length block) es n
 
--- the block of so many numbers that an array gives at a position of a broadcast, by its sizes after the core ones,
--- wrapped to a type
+-- the block of so many numbers that an array gives at a position of a broadcast, by its sizes after
+-- the core ones, wrapped to a type
 abbrev pub block_at : Ty → (count : ℕ) → List ℤ → (sizes joined : List ℕ) → (position : ℕ) → List ℤ
 block_at ty count es sizes joined q = nth_block ty count es (stretched_position sizes joined q)
 
 -- the number at a place of the products of two arrays' blocks, one product after the other
-abbrev pub products_at : Ty → Sizes → (left right : List ℤ) → (left_sizes right_sizes joined : List ℕ) → ℕ → ℤ
+abbrev pub products_at : Ty → Sizes → (left right : List ℤ)
+    → (left_sizes right_sizes joined : List ℕ) → ℕ → ℤ
 products_at ty s left right ls rs joined p =
     let count = s.height * s.width in
     let q = p / count in
-    product_at ty s (block_at ty (s.left_depth * s.height) left ls joined q) (block_at ty (s.width * s.right_depth) right rs joined q) (p % count)
+    let left_block = block_at ty (s.left_depth * s.height) left ls joined q in
+    let right_block = block_at ty (s.width * s.right_depth) right rs joined q in
+    product_at ty s left_block right_block (p % count)
 
--- the sizes of the blocks that a pairing works on, at its arrays' dimensions: `outer` has the second array's
--- block on the left
+-- all these numbers
+abbrev pub all_products : Ty → Sizes → (left right : List ℤ)
+    → (left_sizes right_sizes joined : List ℕ) → List ℤ
+all_products ty s left right ls rs joined =
+    let count = size_of joined * (s.height * s.width) in
+    map (products_at ty s left right ls rs joined) (range_with_len 0 count)
+
+-- how many core dimensions a pairing's arrays have
+abbrev pub core_count : Pairing → ℕ
+core_count Inner = 1
+core_count Outer = 1
+core_count Matmult = 2
+
+-- the sizes of the blocks that a pairing works on, at its arrays' dimensions: `outer` has the
+-- second array's block on the left
 abbrev pub sizes_of : Pairing → (depth : ℕ) → (a b : List ℕ) → Sizes
-sizes_of Inner n a b = record { depth = n; height = 1; width = 1; left_depth = get_or a 0 1; right_depth = get_or b 0 1 }
-sizes_of Outer n a b = record { depth = 1; height = get_or b 0 1; width = get_or a 0 1; left_depth = 1; right_depth = 1 }
-sizes_of Matmult n a b = record { depth = n; height = get_or a 1 1; width = get_or b 0 1; left_depth = get_or a 0 1; right_depth = get_or b 1 1 }
+sizes_of Inner n a b = record {
+  depth = n;
+  height = 1;
+  width = 1;
+  left_depth = get_or a 0 1;
+  right_depth = get_or b 0 1;
+}
+sizes_of Outer n a b = record {
+  depth = 1;
+  height = get_or b 0 1;
+  width = get_or a 0 1;
+  left_depth = 1;
+  right_depth = 1;
+}
+sizes_of Matmult n a b = record {
+  depth = n;
+  height = get_or a 1 1;
+  width = get_or b 0 1;
+  left_depth = get_or a 0 1;
+  right_depth = get_or b 1 1;
+}
 
--- two arrays' elements are blocks of these sizes, which fit, and their sizes after the blocks' own stretch to the joined ones
-pub record Ready (s : Sizes) (left right : List ℤ) (left_sizes right_sizes joined : List ℕ) : Type 0 where
+-- two arrays' elements are blocks of these sizes, which fit, and their sizes after the blocks' own
+-- stretch to the joined ones
+pub record Ready (s : Sizes) (left right : List ℤ) (left_sizes right_sizes joined : List ℕ)
+    : Type 0 where
   pub left_count : length left ≡ size_of left_sizes * (s.left_depth * s.height)
   pub right_count : length right ≡ size_of right_sizes * (s.width * s.right_depth)
   pub left_small : s.left_depth * s.height ≤ extent_limit
@@ -77,3 +114,16 @@ pub record Ready (s : Sizes) (left right : List ℤ) (left_sizes right_sizes joi
   pub right_few : length right ≤ extent_limit
   pub left_stretched : BroadcastsTo left_sizes joined
   pub right_stretched : BroadcastsTo right_sizes joined
+
+-- the blocks of a pairing's arrays are ready for it
+abbrev pub ReadyFor : Pairing → Sizes → (a b : List ℤ) → (a_sizes b_sizes joined : List ℕ) → Type 0
+ReadyFor Inner s a b xs ys joined = Ready s a b xs ys joined
+ReadyFor Outer s a b xs ys joined = Ready s b a ys xs joined
+ReadyFor Matmult s a b xs ys joined = Ready s a b xs ys joined
+
+-- the products of a pairing's blocks
+abbrev pub block_products : Pairing → Ty → Sizes → (a b : List ℤ)
+    → (a_sizes b_sizes joined : List ℕ) → List ℤ
+block_products Inner ty s a b xs ys joined = all_products ty s a b xs ys joined
+block_products Outer ty s a b xs ys joined = all_products ty s b a ys xs joined
+block_products Matmult ty s a b xs ys joined = all_products ty s a b xs ys joined

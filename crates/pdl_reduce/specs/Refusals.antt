@@ -11,8 +11,9 @@ pub data ReduceRefusal : Type 0 where
   too_much_work : ReduceRefusal
   empty_reduce : ReduceRefusal
 
--- the refusal that one of a call by its signature is: sizes that don't fit together are a mismatch. A pairing is
--- given two arrays and has no `[io]` argument, and no resolution is want of memory, so three of these never come
+-- the refusal that one of a call by its signature is: sizes that don't fit together are a mismatch.
+-- A pairing is given two arrays and has no `[io]` argument, and no resolution is want of memory, so
+-- three of these never come
 abbrev pub refusal_of : ResolveFault → ReduceRefusal
 refusal_of ArgCount = mismatch
 refusal_of CoreMismatch = mismatch

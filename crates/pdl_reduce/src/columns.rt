@@ -1,6 +1,6 @@
-//! Sums and products of the lists along dimension 0, of many lists at once: an element of each list,
-//! then the next one of each. Where elements along dimension 1 lie closer together, the buffer is so
-//! read in its order.
+//! Sums and products of the lists along dimension 0, of many lists at once: an element of each
+//! list, then the next one of each. Where elements along dimension 1 lie closer together, the
+//! buffer is so read in its order.
 ghost use Rattle.std.specs.Prelude.{◌≡◌, ◌<◌, ◌≤◌, ◌+◌, ◌*◌, ◌%◌, ◌++◌, ℕ, pos, length, fold, map, get_or, OnOk};
 ghost use Rattle.std.specs.List.{range_with_len};
 ghost use Rattle.pdl_shape.specs.Shape.{extent_limit};
@@ -9,7 +9,7 @@ ghost use Rattle.pdl_reduce.specs.Reductions.{nth_list};
 
 use crate::folds::Folding;
 use crate::matrices::size_at;
-use pdl_buf::{Strided, strided_dims, strided_read_across};
+use pdl_buf::{Packing, Strided, strided_dims, strided_read_across};
 use pdl_elem::{Ty, wrap_all};
 use pdl_shape::dims_list;
 use std::alloc::AllocError;
@@ -25,7 +25,8 @@ fn take_each<F: Folding>(numbers: &[i64], so_far: &mut [i64])
     }
 }
 
-/// What the lists along dimension 0 from one on come to, in one plane, as many as there is room for.
+/// What the lists along dimension 0 from one on come to, in one plane, as many as there is room
+/// for.
 fn fold_lists<F: Folding>(
     a: &Strided<'_>,
     first: u32,
@@ -62,8 +63,8 @@ fn lists_in_plane(height: usize, first: usize, left: usize) -> usize
     left.min(height - first % height)
 }
 
-/// Adds to a list what the lists along dimension 0 from one on come to, in one plane, as many as there
-/// is room for, wrapped to a type.
+/// Packs what the lists along dimension 0 from one on come to, in one plane, as many as there is
+/// room for, wrapped to the type.
 fn add_part<F: Folding>(
     a: &Strided<'_>,
     ty: Ty,
@@ -72,7 +73,7 @@ fn add_part<F: Folding>(
     start: i64,
     row: &mut [i64],
     so_far: &mut [i64],
-    made: &mut Vec<i64>,
+    made: &mut Packing,
 ) -> Result<(), AllocError>
     requires size { size ≡ get_or a.now.dims 0 1 }
     requires room { length row.old ≡ length so_far.old }
@@ -81,17 +82,19 @@ fn add_part<F: Folding>(
     requires small { length a.now.elems ≤ extent_limit }
     requires plane { first % get_or a.now.dims 1 1 + length so_far.old ≤ get_or a.now.dims 1 1 }
     requires within { (first + length so_far.old) * size ≤ length a.now.elems }
-    ensures { let at = come_to ty F.taken start size a.now.elems in
+    requires typed { made.old.ty ≡ ty }
+    ensures value { let at = come_to ty F.taken start size a.now.elems in
         let new = map at (range_with_len first (length so_far.old)) in
-        OnOk result (made.new.items ≡ made.old.items ++ new) }
+        OnOk result (made.new.elems ≡ made.old.elems ++ new) }
+    ensures typed { OnOk result (made.new.ty ≡ made.old.ty) }
 {
     fold_lists::<F>(a, first, size, start, row, so_far);
     wrap_all(ty, so_far);
-    made.extend_from_slice(so_far)?;
+    made.extend(so_far)?;
     Ok(())
 }
 
-/// Adds to a list what each of so many lists along dimension 0 comes to from a start on, wrapped to a
+/// Packs what each of so many lists along dimension 0 comes to from a start on, wrapped to the
 /// type. There is room for a block of numbers, twice.
 pub(crate) fn add_lists<F: Folding>(
     a: &Strided<'_>,
@@ -101,7 +104,7 @@ pub(crate) fn add_lists<F: Folding>(
     start: i64,
     row: &mut [i64],
     so_far: &mut [i64],
-    made: &mut Vec<i64>,
+    made: &mut Packing,
 ) -> Result<(), AllocError>
     requires size { size ≡ get_or a.now.dims 0 1 }
     requires planes { 0 < get_or a.now.dims 1 1 }
@@ -110,8 +113,10 @@ pub(crate) fn add_lists<F: Folding>(
     requires room { length row.old ≡ length so_far.old }
     requires some { 0 < count → 0 < length so_far.old }
     requires few { length so_far.old ≤ extent_limit }
-    ensures { let at = come_to ty F.taken start size a.now.elems in
-        OnOk result (made.new.items ≡ made.old.items ++ map at (range_with_len 0 count)) }
+    requires typed { made.old.ty ≡ ty }
+    ensures value { let at = come_to ty F.taken start size a.now.elems in
+        OnOk result (made.new.elems ≡ made.old.elems ++ map at (range_with_len 0 count)) }
+    ensures typed { OnOk result (made.new.ty ≡ made.old.ty) }
 {
     let height = size_at(dims_list(strided_dims(a)), 1);
     let count = count as usize;

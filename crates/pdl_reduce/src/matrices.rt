@@ -7,6 +7,7 @@ ghost use Rattle.pdl_shape.specs.Shape.{extent_limit};
 ghost use Rattle.pdl_reduce.specs.Blocks.{Fit, cut, product_at, sum_at};
 ghost use Rattle.pdl_reduce.specs.Pairings.{sum_below};
 
+use pdl_buf::Packing;
 use pdl_elem::{Ty, wrap_all, wrapping_laws};
 use std::alloc::AllocError;
 
@@ -61,8 +62,8 @@ fn add_scaled(factor: i64, numbers: &[i64], row: &mut [i64])
 /// The sum of the products of two lists' numbers, in words that wrap.
 fn sum_of_products(left: &[i64], right: &[i64]) -> i64
     requires { length left.now ≡ length right.now }
-    ensures { result ≡ int_wrap w64
-        (sum_below (length left.now) (λ k. get_or left.now k (pos 0) *ℤ get_or right.now k (pos 0))) }
+    ensures { let at = λ (k : ℕ). get_or left.now k (pos 0) *ℤ get_or right.now k (pos 0) in
+        result ≡ int_wrap w64 (sum_below (length left.now) at) }
 {
     let mut sum = 0;
     for (k, number) in left.iter().enumerate() {
@@ -90,8 +91,8 @@ fn add_depths(sizes: Sizes, i: usize, left: &[i64], right: &[i64], row: &mut [i6
     }
 }
 
-/// Sets a row to row `i` of the product, in words that wrap. A column of one number is a sum over two
-/// slices, where none of them is stretched.
+/// Sets a row to row `i` of the product, in words that wrap. A column of one number is a sum over
+/// two slices, where none of them is stretched.
 fn set_row(sizes: Sizes, i: usize, left: &[i64], right: &[i64], row: &mut [i64])
     requires fit { Fit sizes left.now right.now }
     requires inside { i < sizes.height }
@@ -110,28 +111,30 @@ fn set_row(sizes: Sizes, i: usize, left: &[i64], right: &[i64], row: &mut [i64])
     }
 }
 
-/// Adds the product of two blocks to a list, row by row, wrapped to a type.
+/// Packs the product of two blocks, row by row, wrapped to the type.
 pub(crate) fn add_product(
     ty: Ty,
     sizes: Sizes,
     left: &[i64],
     right: &[i64],
     row: &mut [i64],
-    made: &mut Vec<i64>,
+    made: &mut Packing,
 ) -> Result<(), AllocError>
     requires fit { Fit sizes left.now right.now }
     requires width { length row.old ≡ sizes.width }
     requires small_left { length left.now ≤ extent_limit }
     requires small_right { length right.now ≤ extent_limit }
-    ensures { let at = product_at ty sizes left.now right.now in
+    requires typed { made.old.ty ≡ ty }
+    ensures value { let at = product_at ty sizes left.now right.now in
         let new = map at (range_with_len 0 (sizes.height * sizes.width)) in
-        OnOk result (made.new.items ≡ made.old.items ++ new) }
+        OnOk result (made.new.elems ≡ made.old.elems ++ new) }
+    ensures typed { OnOk result (made.new.ty ≡ made.old.ty) }
 {
     wrapping_laws();
     for i in 0..sizes.height {
         set_row(sizes, i, left, right, row);
         wrap_all(ty, row);
-        made.extend_from_slice(row)?;
+        made.extend(row)?;
     }
     Ok(())
 }

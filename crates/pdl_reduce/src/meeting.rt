@@ -1,15 +1,14 @@
 //! The products of two arrays' blocks at each place of a broadcast.
-ghost use Rattle.std.specs.Prelude.{◌≡◌, ◌<◌, ◌≤◌, ◌+◌, ◌*◌, ℕ, List, [], ◌∷◌, Some, slice_get, length, map, IfOk};
-ghost use Rattle.std.specs.List.{range_with_len};
+ghost use Rattle.std.specs.Prelude.{◌≡◌, ◌<◌, ◌≤◌, ◌+◌, ◌*◌, ℕ, List, [], ◌∷◌, Some, slice_get, length, IfOk};
 ghost use Rattle.pdl_shape.specs.Broadcast.{BroadcastsTo};
 ghost use Rattle.pdl_shape.specs.Shape.{extent_limit, size_of};
 ghost use Rattle.pdl_shape.specs.Stretched.{stretched_position};
 ghost use Rattle.pdl_shape.specs.Triple.{whole};
-ghost use Rattle.pdl_reduce.specs.Blocks.{IsHeld, Ready, nth_block, products_at};
+ghost use Rattle.pdl_reduce.specs.Blocks.{IsHeld, Ready, all_products, nth_block};
 
 use crate::matrices::{Sizes, add_product};
 use pdl_broadcast::BroadcastWalk;
-use pdl_buf::{Strided, strided_read};
+use pdl_buf::{Packing, Strided, strided_read};
 use pdl_elem::{Ty, wrap_all};
 use pdl_shape::{Dims, elements_of, shape_laws, whole_triple};
 use std::alloc::{AllocError, Global};
@@ -24,8 +23,8 @@ fn read_block(ty: Ty, from: &Strided<'_>, position: u32, into: &mut [i64])
     wrap_all(ty, into);
 }
 
-/// Reads a window's block at a position as `read_block` does, where it isn't the one that is held: a
-/// block that is stretched over a dimension is read once for all places along it.
+/// Reads a window's block at a position as `read_block` does, where it isn't the one that is held:
+/// a block that is stretched over places that follow one another is read once for them.
 fn hold_block(ty: Ty, from: &Strided<'_>, position: u32, held: &mut Option<u32>, block: &mut [i64])
     requires within { position * length block.old + length block.old ≤ length from.now.elems }
     requires small { length from.now.elems ≤ extent_limit }
@@ -70,9 +69,8 @@ fn position_at(walk: &BroadcastWalk, argument: usize) -> u32
     walk.offset(argument)
 }
 
-/// The products of two windows' blocks at each place of a broadcast, one after the other, in a list
-/// that is empty and may have room for them. The sizes after the blocks' own ones stretch to the
-/// joined ones.
+/// Packs the products of two windows' blocks at each place of a broadcast, one after the other,
+/// where nothing is packed yet. The sizes after the blocks' own ones stretch to the joined ones.
 pub(crate) fn products(
     alloc: Global,
     ty: Ty,
@@ -82,15 +80,14 @@ pub(crate) fn products(
     left_sizes: &Dims,
     right_sizes: &Dims,
     joined: &Dims,
-    mut made: Vec<i64>,
-) -> Result<Vec<i64>, AllocError>
+    mut made: Packing,
+) -> Result<Packing, AllocError>
     requires ready { Ready sizes left.now.elems right.now.elems
         left_sizes.now right_sizes.now joined.now }
-    requires empty { made.items ≡ [] }
-    ensures { let at = products_at ty sizes left.now.elems right.now.elems
+    requires empty { made ≡ record { ty = ty; elems = [] } }
+    ensures { let elems = all_products ty sizes left.now.elems right.now.elems
         left_sizes.now right_sizes.now joined.now in
-        let count = size_of joined.now * (sizes.height * sizes.width) in
-        IfOk result (λ products. products.items ≡ map at (range_with_len 0 count)) }
+        IfOk result (λ products. products ≡ record { ty = ty; elems = elems }) }
 {
     shape_laws();
     let mut walk = walk_over(alloc, left_sizes, right_sizes, joined)?;
@@ -103,14 +100,10 @@ pub(crate) fn products(
     let mut left_held = None;
     let mut right_held = None;
     for _q in 0..elements_of(joined) {
-        hold_block(ty, left, position_at(&walk, 0), &mut left_held, left_block);
-        hold_block(
-            ty,
-            right,
-            position_at(&walk, 1),
-            &mut right_held,
-            right_block,
-        );
+        let first = position_at(&walk, 0);
+        let second = position_at(&walk, 1);
+        hold_block(ty, left, first, &mut left_held, left_block);
+        hold_block(ty, right, second, &mut right_held, right_block);
         add_product(ty, sizes, left_block, right_block, row, &mut made)?;
         walk.next();
     }

@@ -9,7 +9,7 @@ ghost use Rattle.pdl_shape.specs.Broadcast.{BroadcastsTo};
 ghost use Rattle.pdl_shape.specs.Joined.{joined_dims};
 ghost use Rattle.pdl_shape.specs.Shape.{size_of};
 ghost use Rattle.pdl_reduce.specs.declared.Pairing.TheVariants.{Inner, Outer, Matmult};
-ghost use Rattle.pdl_reduce.specs.Blocks.{sizes_of};
+ghost use Rattle.pdl_reduce.specs.Blocks.{ReadyFor, block_products, core_count, sizes_of};
 ghost use Rattle.pdl_reduce.specs.Answers.{Answers, IsRefused, refusal_named};
 ghost use Rattle.pdl_reduce.specs.Refusals.{is_want_of_memory, refusal_of};
 ghost use Rattle.pdl_reduce.specs.Pairings.{paired, paired_dims, paired_element, signature_of};
@@ -19,8 +19,8 @@ use crate::matrices::{Sizes, size_at};
 use crate::meeting::products;
 use crate::reducing::dims_after;
 use crate::{Pairing, ReduceFault};
-use pdl_buf::{Elements, Made, Strided, strided_dims, strided_type};
-use pdl_elem::{Items, Name, wrapping_laws};
+use pdl_buf::{Elements, Made, Packing, Strided, strided_dims, strided_type};
+use pdl_elem::{Items, Name, Ty, wrapping_laws};
 use pdl_shape::{Dims, copy_dims, dims_list, elements_of, join_dims, shape_laws};
 use pdl_sig::{ArgShape, ArgType, ResolveFault, Resolved, Role, SigArg, Signature, resolve};
 use std::alloc::{AllocError, Global};
@@ -39,7 +39,10 @@ fn generic_arg(alloc: Global, name: &[u8], role: Role, dims: &[u8]) -> Result<Si
 
 /// Two inputs and an output, by the numbers of their core dimensions.
 fn arguments(alloc: Global, a: &[u8], b: &[u8], c: &[u8]) -> Result<Items<SigArg>, AllocError>
-    ensures { IfOk result (λ args. args ≡ generic_arg (codes "a") Input a.now ∷ generic_arg (codes "b") Input b.now ∷ generic_arg (codes "c") Output c.now ∷ []) }
+    ensures { let first = generic_arg (codes "a") Input a.now in
+        let second = generic_arg (codes "b") Input b.now in
+        let output = generic_arg (codes "c") Output c.now in
+        IfOk result (λ args. args ≡ first ∷ second ∷ output ∷ []) }
 {
     let mut args = Vec::new(alloc);
     args.push(generic_arg(alloc, b"a", Role::Input, a)?)?;
@@ -91,7 +94,8 @@ fn signature_of(alloc: Global, kind: Pairing) -> Result<Signature, AllocError>
 
 /// The fault that names what refuses a call.
 fn fault_of(fault: ResolveFault) -> ReduceFault
-    ensures { refusal_named result ≡ (if is_want_of_memory fault then None else Some (refusal_of fault)) }
+    ensures { let named = if is_want_of_memory fault then None else Some (refusal_of fault) in
+        refusal_named result ≡ named }
 {
     match fault {
         ResolveFault::TooManyDims => ReduceFault::TooManyDims,
@@ -191,103 +195,42 @@ fn output_count(resolved: &Resolved) -> usize {
     }
 }
 
-/// The elements of an inner product, which resolves so.
-fn inner_elements(
-    alloc: Global,
-    resolved: &Resolved,
-    a: &Strided<'_>,
-    b: &Strided<'_>,
-) -> Result<Vec<i64>, AllocError>
-    requires { let given = shape_of (array_of a.now) ∷ shape_of (array_of b.now) ∷ [] in
-        resolution (signature_of Inner) given ≡ Ok resolved.now }
-    ensures { let at = paired_element Inner resolved.now (array_of a.now) (array_of b.now) in
-        IfOk result (λ elems. elems.items ≡ map at (range_with_len 0 (size_of (paired_dims resolved.now)))) }
+/// How many core dimensions a pairing's arrays have.
+fn core_count(kind: Pairing) -> usize
+    ensures { result ≡ core_count kind }
 {
-    shape_laws();
-    let (first, second) = (strided_dims(a), strided_dims(b));
-    let xs = dims_after(alloc, first, 1);
-    let ys = dims_after(alloc, second, 1);
-    let joined = joined(alloc, &xs, &ys);
-    let depth = size_at(resolved.sizes.as_slice(), 0);
-    let made = Vec::with_capacity(alloc, output_count(resolved))?;
-    let sizes = sizes_of(Pairing::Inner, depth, dims_list(first), dims_list(second));
-    products(
-        alloc,
-        resolved.generic,
-        sizes,
-        a,
-        b,
-        &xs,
-        &ys,
-        &joined,
-        made,
-    )
+    match kind {
+        Pairing::Inner | Pairing::Outer => 1,
+        Pairing::Matmult => 2,
+    }
 }
 
-/// The elements of an outer product, which resolves so.
-fn outer_elements(
+/// The products of a pairing's blocks, which are ready for it.
+fn block_products(
     alloc: Global,
-    resolved: &Resolved,
+    kind: Pairing,
+    ty: Ty,
+    sizes: Sizes,
     a: &Strided<'_>,
     b: &Strided<'_>,
-) -> Result<Vec<i64>, AllocError>
-    requires { let given = shape_of (array_of a.now) ∷ shape_of (array_of b.now) ∷ [] in
-        resolution (signature_of Outer) given ≡ Ok resolved.now }
-    ensures { let at = paired_element Outer resolved.now (array_of a.now) (array_of b.now) in
-        IfOk result (λ elems. elems.items ≡ map at (range_with_len 0 (size_of (paired_dims resolved.now)))) }
+    a_sizes: &Dims,
+    b_sizes: &Dims,
+    joined: &Dims,
+    made: Packing,
+) -> Result<Packing, AllocError>
+    requires ready { ReadyFor kind sizes a.now.elems b.now.elems
+        a_sizes.now b_sizes.now joined.now }
+    requires empty { made ≡ record { ty = ty; elems = [] } }
+    ensures { let elems = block_products kind ty sizes a.now.elems b.now.elems
+        a_sizes.now b_sizes.now joined.now in
+        IfOk result (λ products. products ≡ record { ty = ty; elems = elems }) }
 {
-    shape_laws();
-    let (first, second) = (strided_dims(a), strided_dims(b));
-    let xs = dims_after(alloc, first, 1);
-    let ys = dims_after(alloc, second, 1);
-    let joined = joined(alloc, &xs, &ys);
-    let depth = size_at(resolved.sizes.as_slice(), 0);
-    let made = Vec::with_capacity(alloc, output_count(resolved))?;
-    let sizes = sizes_of(Pairing::Outer, depth, dims_list(first), dims_list(second));
-    products(
-        alloc,
-        resolved.generic,
-        sizes,
-        b,
-        a,
-        &ys,
-        &xs,
-        &joined,
-        made,
-    )
-}
-
-/// The elements of a matrix product, which resolves so.
-fn matmult_elements(
-    alloc: Global,
-    resolved: &Resolved,
-    a: &Strided<'_>,
-    b: &Strided<'_>,
-) -> Result<Vec<i64>, AllocError>
-    requires { let given = shape_of (array_of a.now) ∷ shape_of (array_of b.now) ∷ [] in
-        resolution (signature_of Matmult) given ≡ Ok resolved.now }
-    ensures { let at = paired_element Matmult resolved.now (array_of a.now) (array_of b.now) in
-        IfOk result (λ elems. elems.items ≡ map at (range_with_len 0 (size_of (paired_dims resolved.now)))) }
-{
-    shape_laws();
-    let (first, second) = (strided_dims(a), strided_dims(b));
-    let xs = dims_after(alloc, first, 2);
-    let ys = dims_after(alloc, second, 2);
-    let joined = joined(alloc, &xs, &ys);
-    let depth = size_at(resolved.sizes.as_slice(), 0);
-    let made = Vec::with_capacity(alloc, output_count(resolved))?;
-    let sizes = sizes_of(Pairing::Matmult, depth, dims_list(first), dims_list(second));
-    products(
-        alloc,
-        resolved.generic,
-        sizes,
-        a,
-        b,
-        &xs,
-        &ys,
-        &joined,
-        made,
-    )
+    match kind {
+        Pairing::Outer => products(alloc, ty, sizes, b, a, b_sizes, a_sizes, joined, made),
+        Pairing::Inner | Pairing::Matmult => {
+            products(alloc, ty, sizes, a, b, a_sizes, b_sizes, joined, made)
+        }
+    }
 }
 
 /// The elements of a pairing, which resolves so.
@@ -297,17 +240,23 @@ fn elements(
     resolved: &Resolved,
     a: &Strided<'_>,
     b: &Strided<'_>,
-) -> Result<Vec<i64>, AllocError>
+) -> Result<Packing, AllocError>
     requires { let given = shape_of (array_of a.now) ∷ shape_of (array_of b.now) ∷ [] in
         resolution (signature_of kind) given ≡ Ok resolved.now }
     ensures { let at = paired_element kind resolved.now (array_of a.now) (array_of b.now) in
-        IfOk result (λ elems. elems.items ≡ map at (range_with_len 0 (size_of (paired_dims resolved.now)))) }
+        let elems = map at (range_with_len 0 (size_of (paired_dims resolved.now))) in
+        IfOk result (λ made. made ≡ record { ty = resolved.now.generic; elems = elems }) }
 {
-    match kind {
-        Pairing::Inner => inner_elements(alloc, resolved, a, b),
-        Pairing::Outer => outer_elements(alloc, resolved, a, b),
-        Pairing::Matmult => matmult_elements(alloc, resolved, a, b),
-    }
+    shape_laws();
+    let (first, second) = (strided_dims(a), strided_dims(b));
+    let xs = dims_after(alloc, first, core_count(kind));
+    let ys = dims_after(alloc, second, core_count(kind));
+    let joined = joined(alloc, &xs, &ys);
+    let depth = size_at(resolved.sizes.as_slice(), 0);
+    let sizes = sizes_of(kind, depth, dims_list(first), dims_list(second));
+    let ty = resolved.generic;
+    let made = Packing::new(alloc, ty, output_count(resolved))?;
+    block_products(alloc, kind, ty, sizes, a, b, &xs, &ys, &joined, made)
 }
 
 /// A product of two arrays at the higher of their types (PDL::Primitive), by the signature of its
@@ -326,10 +275,11 @@ pub fn pair(
 {
     wrapping_laws();
     let resolved = resolved(alloc, kind, a, b)?;
-    let elems = elements(alloc, kind, &resolved, a, b)?;
+    let made = elements(alloc, kind, &resolved, a, b)?;
+    made.are_in_range();
     Ok(Made {
         ty: resolved.generic,
         dims: output_dims(&resolved),
-        elems: Elements::new(elems),
+        elems: Elements::packed(made),
     })
 }

@@ -9,11 +9,14 @@ ghost use Rattle.pdl_reduce.specs.Across.{come_to};
 ghost use Rattle.pdl_reduce.specs.Reductions.{answer, flat, is_extreme, lists, reduced, reduced_dims, reduced_row, reduced_type, whole, width};
 
 use crate::columns::add_lists;
-use crate::folds::{Adding, Folding, Multiplying};
+use crate::folds::{Adding, Falling, Folding, Multiplying, Rising};
 use crate::rows::{add_row, sum_type};
 use crate::windows::{BLOCK, all_set, any_set};
 use crate::{ReduceFault, Reduction, Whole};
-use pdl_buf::{Elements, Made, Strided, strided_dims, strided_is_turned, strided_type};
+use pdl_buf::{
+    Elements, Made, Packing, Strided, strided_dims, strided_is_in_range, strided_is_turned,
+    strided_type,
+};
 use pdl_elem::{Ty, wrapping_laws};
 use pdl_shape::{Dims, copy_dims, dims_list, dims_of, elements_of, shape_laws};
 use std::alloc::{AllocError, Global};
@@ -102,8 +105,8 @@ fn reduced_dims(alloc: Global, kind: Reduction, dims: &Dims) -> Dims
     }
 }
 
-/// How many numbers a reduction makes of so many lists of this size, as room for them: a list may
-/// grow past it.
+/// How many numbers a reduction makes of so many lists of this size, as room for them: more would
+/// be packed as well.
 fn made_count(kind: Reduction, count: u32, size: u32) -> usize {
     match kind {
         Reduction::Cumusumover | Reduction::Cumuprodover => count as usize * size as usize,
@@ -118,18 +121,18 @@ fn reduced_lists(
     a: &Strided<'_>,
     count: u32,
     size: u32,
-) -> Result<Vec<i64>, AllocError>
+) -> Result<Packing, AllocError>
     requires whole { count * size ≡ length a.now.elems }
     requires small { length a.now.elems ≤ extent_limit }
     requires some { IsTrue (is_extreme kind) → 0 < size }
-    ensures value { let made = flat_map (reduced_row kind a.now.ty) (lists count size a.now.elems) in
-        IfOk result (λ elems. elems.items ≡ made) }
-    ensures in_range { let ty = reduced_type kind a.now.ty in
-        IfOk result (λ elems. All (InRange ty) elems.items) }
+    ensures { let elems = flat_map (reduced_row kind a.now.ty) (lists count size a.now.elems) in
+        let ty = reduced_type kind a.now.ty in
+        IfOk result (λ made. made ≡ record { ty = ty; elems = elems }) }
 {
     let mut room = vec![in alloc; 0; BLOCK.min(size as usize)]?;
     let block = room.as_mut_slice();
-    let mut made = Vec::with_capacity(alloc, made_count(kind, count, size))?;
+    let ty = reduced_type(kind, strided_type(a));
+    let mut made = Packing::new(alloc, ty, made_count(kind, count, size))?;
     for i in 0..count {
         add_row(kind, a, i * size, size, block, &mut made)?;
     }
@@ -144,49 +147,52 @@ fn folded_lists<F: Folding>(
     count: u32,
     size: u32,
     start: i64,
-) -> Result<Vec<i64>, AllocError>
+) -> Result<Packing, AllocError>
     requires size { size ≡ get_or a.now.dims 0 1 }
     requires planes { 0 < get_or a.now.dims 1 1 }
     requires whole { count * size ≡ length a.now.elems }
     requires small { length a.now.elems ≤ extent_limit }
     ensures { let at = come_to ty F.taken start size a.now.elems in
-        IfOk result (λ elems. elems.items ≡ map at (range_with_len 0 count)) }
+        let elems = map at (range_with_len 0 count) in
+        IfOk result (λ made. made ≡ record { ty = ty; elems = elems }) }
 {
     let width = BLOCK.min(count as usize);
     let mut row = vec![in alloc; 0; width]?;
     let mut so_far = vec![in alloc; 0; width]?;
-    let mut made = Vec::with_capacity(alloc, count as usize)?;
+    let mut made = Packing::new(alloc, ty, count as usize)?;
     let (row, so_far) = (row.as_mut_slice(), so_far.as_mut_slice());
     add_lists::<F>(a, ty, count, size, start, row, so_far, &mut made)?;
     Ok(made)
 }
 
-/// What a reduction makes of a window's lists along dimension 0, so many of this size. Sums and
-/// products go across where that goes through the buffer in its order.
+/// What a reduction makes of a window's lists along dimension 0, so many of this size. Sums,
+/// products and extremes go across where that goes through the buffer in its order.
 fn reduced_window(
     alloc: Global,
     kind: Reduction,
     a: &Strided<'_>,
     count: u32,
     size: u32,
-) -> Result<Vec<i64>, AllocError>
+) -> Result<Packing, AllocError>
     requires size { size ≡ get_or a.now.dims 0 1 }
     requires whole { count * size ≡ length a.now.elems }
     requires small { length a.now.elems ≤ extent_limit }
     requires some { IsTrue (is_extreme kind) → 0 < size }
-    ensures value { let made = flat_map (reduced_row kind a.now.ty) (lists count size a.now.elems) in
-        IfOk result (λ elems. elems.items ≡ made) }
-    ensures in_range { let ty = reduced_type kind a.now.ty in
-        IfOk result (λ elems. All (InRange ty) elems.items) }
+    ensures { let elems = flat_map (reduced_row kind a.now.ty) (lists count size a.now.elems) in
+        let ty = reduced_type kind a.now.ty in
+        IfOk result (λ made. made ≡ record { ty = ty; elems = elems }) }
 {
     wrapping_laws();
+    strided_is_in_range(a);
     if !strided_is_turned(a) {
         return reduced_lists(alloc, kind, a, count, size);
     }
-    let ty = sum_type(strided_type(a));
+    let ty = reduced_type(kind, strided_type(a));
     match kind {
         Reduction::Sumover => folded_lists::<Adding>(alloc, a, ty, count, size, 0),
         Reduction::Prodover => folded_lists::<Multiplying>(alloc, a, ty, count, size, 1),
+        Reduction::Maximum => folded_lists::<Rising>(alloc, a, ty, count, size, i64::MIN),
+        Reduction::Minimum => folded_lists::<Falling>(alloc, a, ty, count, size, i64::MAX),
         _ => reduced_lists(alloc, kind, a, count, size),
     }
 }
@@ -205,11 +211,12 @@ pub fn reduce(alloc: Global, kind: Reduction, a: &Strided<'_>) -> Result<Made, R
     if is_extreme(kind) && size == 0 {
         return Err(ReduceFault::EmptyReduce);
     }
-    let elems = reduced_window(alloc, kind, a, count_lists(alloc, dims), size)?;
+    let made = reduced_window(alloc, kind, a, count_lists(alloc, dims), size)?;
+    made.are_in_range();
     Ok(Made {
         ty: reduced_type(kind, strided_type(a)),
         dims: reduced_dims(alloc, kind, dims),
-        elems: Elements::new(elems),
+        elems: Elements::packed(made),
     })
 }
 
@@ -223,11 +230,12 @@ fn reduce_flat(alloc: Global, kind: Reduction, a: &Strided<'_>) -> Result<Made, 
     if is_extreme(kind) && count == 0 {
         return Err(ReduceFault::EmptyReduce);
     }
-    let elems = reduced_lists(alloc, kind, a, 1, count)?;
+    let made = reduced_lists(alloc, kind, a, 1, count)?;
+    made.are_in_range();
     Ok(Made {
         ty: reduced_type(kind, strided_type(a)),
         dims: dims_within(alloc, &[]),
-        elems: Elements::new(elems),
+        elems: Elements::packed(made),
     })
 }
 

@@ -1,15 +1,16 @@
 //! One list of a window's elements, reduced (PDL::Ufunc).
-ghost use Rattle.std.specs.Prelude.{◌≡◌, ◌<◌, ◌≤◌, ◌+◌, ◌++◌, [], ◌∷◌, length, take, drop, All, IsTrue, OnOk};
+ghost use Rattle.std.specs.Prelude.{◌≡◌, ◌<◌, ◌≤◌, ◌+◌, ◌++◌, [], ◌∷◌, pos, length, take, drop, IsTrue, OnOk};
 ghost use Rattle.pdl_shape.specs.Shape.{extent_limit};
 ghost use Rattle.pdl_elem.specs.Numbers.{wrapped};
 ghost use Rattle.pdl_elem.specs.Types.{InRange};
-ghost use Rattle.pdl_reduce.specs.Folds.{total, product, greatest, least};
+ghost use Rattle.pdl_elem.specs.declared.Ty.TheVariants.{Long};
+ghost use Rattle.pdl_reduce.specs.Folds.{total, product, greatest, least, first_place};
 ghost use Rattle.pdl_reduce.specs.Reductions.{is_extreme, reduced_row, reduced_type, sum_type};
 
 use crate::Reduction;
 use crate::folds::{Adding, Falling, Multiplying, Rising};
 use crate::windows::{find_in_window, fold_window, run_window};
-use pdl_buf::{Strided, strided_get, strided_type};
+use pdl_buf::{Packing, Strided, strided_get, strided_sum, strided_type};
 use pdl_elem::{Ty, promote, wrap, wrapping_laws};
 use std::alloc::AllocError;
 
@@ -20,7 +21,8 @@ pub(crate) fn sum_type(ty: Ty) -> Ty
     promote(ty, Ty::Long)
 }
 
-/// The sum of so many elements from a position on.
+/// The sum of so many elements from a position on: straight from the buffer where they lie in
+/// order, else in blocks.
 fn sum_of(a: &Strided<'_>, first: u32, count: u32, block: &mut [i64]) -> i64
     requires within { first + count ≤ length a.now.elems }
     requires small { length a.now.elems ≤ extent_limit }
@@ -30,8 +32,14 @@ fn sum_of(a: &Strided<'_>, first: u32, count: u32, block: &mut [i64]) -> i64
     ensures in_range { InRange (sum_type a.now.ty) result }
 {
     wrapping_laws();
-    let sum = fold_window::<Adding>(a, first, count, 0, block);
-    wrap(sum_type(strided_type(a)), i128::from(sum))
+    let ty = sum_type(strided_type(a));
+    match strided_sum(a, first, count) {
+        Some(sum) => wrap(ty, i128::from(sum)),
+        None => wrap(
+            ty,
+            i128::from(fold_window::<Adding>(a, first, count, 0, block)),
+        ),
+    }
 }
 
 /// The product of so many elements from a position on.
@@ -74,32 +82,61 @@ fn least_of(a: &Strided<'_>, first: u32, count: u32, block: &mut [i64]) -> i64
     fold_window::<Falling>(a, first, count, start, block)
 }
 
-/// Adds a number to a list.
-fn push(made: &mut Vec<i64>, number: i64) -> Result<(), AllocError>
-    ensures { OnOk result (made.new.items ≡ made.old.items ++ number ∷ []) }
+/// The first place of the greatest of so many elements from a position on.
+fn greatest_place(a: &Strided<'_>, first: u32, count: u32, block: &mut [i64]) -> i64
+    requires within { first + count ≤ length a.now.elems }
+    requires small { length a.now.elems ≤ extent_limit }
+    requires some { 0 < count }
+    requires room { 0 < length block.old }
+    ensures value { let xs = take count (drop first a.now.elems) in
+        result ≡ pos (first_place (greatest xs) xs) }
+    ensures in_range { InRange Long result }
 {
-    made.push(number)?;
+    let greatest = greatest_of(a, first, count, block);
+    i64::from(find_in_window(a, first, count, greatest, block))
+}
+
+/// The first place of the least of so many elements from a position on.
+fn least_place(a: &Strided<'_>, first: u32, count: u32, block: &mut [i64]) -> i64
+    requires within { first + count ≤ length a.now.elems }
+    requires small { length a.now.elems ≤ extent_limit }
+    requires some { 0 < count }
+    requires room { 0 < length block.old }
+    ensures value { let xs = take count (drop first a.now.elems) in
+        result ≡ pos (first_place (least xs) xs) }
+    ensures in_range { InRange Long result }
+{
+    let least = least_of(a, first, count, block);
+    i64::from(find_in_window(a, first, count, least, block))
+}
+
+/// Packs one number more.
+fn push(made: &mut Packing, number: i64) -> Result<(), AllocError>
+    requires { InRange made.old.ty number }
+    ensures value { OnOk result (made.new.elems ≡ made.old.elems ++ number ∷ []) }
+    ensures typed { OnOk result (made.new.ty ≡ made.old.ty) }
+{
+    made.extend(&[number])?;
     Ok(())
 }
 
-/// Adds to a list what a reduction makes of so many elements from a position on. An extreme needs
-/// some.
+/// Packs what a reduction makes of so many elements from a position on. An extreme needs some.
 pub(crate) fn add_row(
     kind: Reduction,
     a: &Strided<'_>,
     first: u32,
     count: u32,
     block: &mut [i64],
-    made: &mut Vec<i64>,
+    made: &mut Packing,
 ) -> Result<(), AllocError>
     requires within { first + count ≤ length a.now.elems }
     requires small { length a.now.elems ≤ extent_limit }
     requires room { 0 < count → 0 < length block.old }
     requires some { IsTrue (is_extreme kind) → 0 < count }
-    requires in_range { All (InRange (reduced_type kind a.now.ty)) made.old.items }
+    requires typed { made.old.ty ≡ reduced_type kind a.now.ty }
     ensures value { let xs = take count (drop first a.now.elems) in
-        OnOk result (made.new.items ≡ made.old.items ++ reduced_row kind a.now.ty xs) }
-    ensures in_range { OnOk result (All (InRange (reduced_type kind a.now.ty)) made.new.items) }
+        OnOk result (made.new.elems ≡ made.old.elems ++ reduced_row kind a.now.ty xs) }
+    ensures typed { OnOk result (made.new.ty ≡ made.old.ty) }
 {
     wrapping_laws();
     let ty = sum_type(strided_type(a));
@@ -108,20 +145,8 @@ pub(crate) fn add_row(
         Reduction::Prodover => push(made, product_of(a, first, count, block)),
         Reduction::Maximum => push(made, greatest_of(a, first, count, block)),
         Reduction::Minimum => push(made, least_of(a, first, count, block)),
-        Reduction::MaximumInd => {
-            let greatest = greatest_of(a, first, count, block);
-            push(
-                made,
-                i64::from(find_in_window(a, first, count, greatest, block)),
-            )
-        }
-        Reduction::MinimumInd => {
-            let least = least_of(a, first, count, block);
-            push(
-                made,
-                i64::from(find_in_window(a, first, count, least, block)),
-            )
-        }
+        Reduction::MaximumInd => push(made, greatest_place(a, first, count, block)),
+        Reduction::MinimumInd => push(made, least_place(a, first, count, block)),
         Reduction::Cumusumover => run_window::<Adding>(a, ty, first, count, 0, block, made),
         Reduction::Cumuprodover => run_window::<Multiplying>(a, ty, first, count, 1, block, made),
     }

@@ -9,7 +9,7 @@ ghost use Rattle.pdl_reduce.specs.Folds.{at_prefixes, first_place};
 ghost use Rattle.pdl_reduce.specs.Reductions.{is_set};
 
 use crate::folds::{Folding, fold_block, run_block};
-use pdl_buf::{Strided, strided_read};
+use pdl_buf::{Packing, Strided, strided_read};
 use pdl_elem::{Ty, wrap_all};
 use std::alloc::AllocError;
 
@@ -27,8 +27,8 @@ fn fold_part<F: Folding>(a: &Strided<'_>, first: u32, start: i64, part: &mut [i6
     fold_block::<F>(start, part)
 }
 
-/// What so many elements of the window from a position on come to, from a start on. They are numbers
-/// of the window's type.
+/// What so many elements of the window from a position on come to, from a start on. They are
+/// numbers of the window's type.
 pub(crate) fn fold_window<F: Folding>(
     a: &Strided<'_>,
     first: u32,
@@ -92,33 +92,34 @@ pub(crate) fn find_in_window(
     0
 }
 
-/// Adds to a list what the window's elements from a position on, as many as the part has room for,
-/// come to up to each of them, after those before them, wrapped to a type. It answers what all come
-/// to.
+/// Packs what the window's elements from a position on, as many as the part has room for, come to
+/// up to each of them, after those before them, wrapped to the type. It answers what all come to.
 fn run_part<F: Folding>(
     a: &Strided<'_>,
     ty: Ty,
     first: u32,
     start: i64,
     part: &mut [i64],
-    made: &mut Vec<i64>,
+    made: &mut Packing,
 ) -> Result<i64, AllocError>
-    requires { first + length part.old ≤ length a.now.elems }
+    requires within { first + length part.old ≤ length a.now.elems }
+    requires typed { made.old.ty ≡ ty }
     ensures value { let xs = take (length part.old) (drop first a.now.elems) in
         IfOk result (λ end. end ≡ fold F.taken start xs) }
     ensures prefixes { let xs = take (length part.old) (drop first a.now.elems) in
         let new = map (wrapped ty) (at_prefixes (λ ys. fold F.taken start ys) xs) in
-        OnOk result (made.new.items ≡ made.old.items ++ new) }
+        OnOk result (made.new.elems ≡ made.old.elems ++ new) }
+    ensures typed { OnOk result (made.new.ty ≡ made.old.ty) }
 {
     strided_read(a, first, part);
     let end = run_block::<F>(start, part);
     wrap_all(ty, part);
-    made.extend_from_slice(part)?;
+    made.extend(part)?;
     Ok(end)
 }
 
-/// Adds to a list what the elements up to each place come to, wrapped to a type: those of so many
-/// elements of the window from a position on.
+/// Packs what the elements up to each place come to, wrapped to the type: those of so many elements
+/// of the window from a position on.
 pub(crate) fn run_window<F: Folding>(
     a: &Strided<'_>,
     ty: Ty,
@@ -126,14 +127,16 @@ pub(crate) fn run_window<F: Folding>(
     count: u32,
     start: i64,
     block: &mut [i64],
-    made: &mut Vec<i64>,
+    made: &mut Packing,
 ) -> Result<(), AllocError>
     requires within { first + count ≤ length a.now.elems }
     requires small { length a.now.elems ≤ extent_limit }
     requires room { 0 < count → 0 < length block.old }
-    ensures { let xs = take count (drop first a.now.elems) in
+    requires typed { made.old.ty ≡ ty }
+    ensures value { let xs = take count (drop first a.now.elems) in
         let new = map (wrapped ty) (at_prefixes (λ ys. fold F.taken start ys) xs) in
-        OnOk result (made.new.items ≡ made.old.items ++ new) }
+        OnOk result (made.new.elems ≡ made.old.elems ++ new) }
+    ensures typed { OnOk result (made.new.ty ≡ made.old.ty) }
 {
     let count = count as usize;
     let mut so_far = start;

@@ -1,5 +1,5 @@
 -- A part of a plane more.
-use Rattle.std.proofs.Common.{◌≡◌, ◌≤◌, ◌+◌, ◌++◌, ℕ, ℤ, List, length, map, take, drop, arith, ap, ap₂, sym, ◌∙◌, append_assoc, length-append, length-drop, to_z, of_z}
+use Rattle.std.proofs.Common.{◌≡◌, ◌≤◌, ◌++◌, ℕ, ℤ, List, length, map, take, drop, arith, ap, ap₂, sym, ◌∙◌, append_assoc, length-append, length-drop, to_z, of_z}
 use Rattle.std.proofs.lemmas.List.{length-take-le}
 use Rattle.std.specs.Int.{w64}
 use Rattle.std.specs.List.{range_with_len}
@@ -10,7 +10,7 @@ use Rattle.pdl_reduce.proofs.columns.add_lists.Goals as goal
 pub loop-done-preserved : goal.loop-done-preserved
 loop-done-preserved g c =
     let at : ℕ → ℤ = come_to c.args.ty g.F.Folding.taken (to_z w64 (of_z w64 c.args.start)) c.args.size c.args.a.now.elems in
-    let old : List ℤ = c.args.made.now.items in
+    let old : List ℤ = c.args.made.now.elems in
     let done : ℕ = c.loop-done.done in
     let run : ℕ = c.lists_in_plane-run.result in
     let row : List ℤ = c.loop-done.row in
@@ -26,7 +26,8 @@ loop-done-preserved g c =
       room = rows ∙ c.loop-done.invariant.room ∙ sym parts;
       kept = parts ∙ c.loop-done.invariant.kept;
       inside = omega arith;
-      made = c.in_ok-add_part.ensures
+      ty = c.in_ok-add_part.ensures.typed ∙ c.loop-done.invariant.ty;
+      made = c.in_ok-add_part.ensures.value
           ∙ ap₂ (λ (zs : List ℤ) (n : ℕ). zs ++ map at (range_with_len done n)) c.loop-done.invariant.made part
           ∙ append_assoc old (map at (range_with_len 0 done)) (map at (range_with_len done run))
           ∙ ap (λ (zs : List ℤ). old ++ zs) (sym (parts_join at done run));

@@ -1,5 +1,5 @@
 -- The numbers before this one are taken in, and the others still stand.
-use Rattle.std.proofs.Common.{◌≡◌, ◌<◌, ◌≤◌, ℕ, pos, get_or, length}
+use Rattle.std.proofs.Common.{◌≡◌, ◌<◌, ◌≤◌, ℕ, pos, get_or}
 use Rattle.pdl_reduce.proofs.columns.take_each.Given as goal
 
 abbrev pub invariant-loop-j : goal.invariant-loop-j

@@ -1,9 +1,8 @@
 -- A column of one number.
-use Rattle.std.proofs.Common.{◌≡◌, ◌≤◌, ◌+◌, ◌-◌, ◌*◌, ◌*ℤ◌, ℕ, ℤ, pos, List, length, get_or, take, drop, slice_set, arith, to_z, of_z, FitsSigned, ap, ◌∙◌}
+use Rattle.std.proofs.Common.{◌≤◌, ◌+◌, ◌-◌, ◌*◌, ℕ, ℤ, List, length, arith, to_z, of_z, FitsSigned, ap, ◌∙◌}
 use Rattle.std.proofs.lemmas.Int.{to_z-of_z}
 use Rattle.std.proofs.Math.Nat.{mul-le-mul}
 use Rattle.std.specs.Int.{int_wrap, w64}
-use Rattle.pdl_reduce.specs.Blocks.{sum_at}
 use Rattle.pdl_reduce.proofs.Matrix.{first_set, single_column}
 use Rattle.pdl_reduce.proofs.matrices.set_row.Goals as goal
 

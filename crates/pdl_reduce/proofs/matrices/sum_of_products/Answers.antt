@@ -1,5 +1,5 @@
 -- One product more.
-use Rattle.std.proofs.Common.{rules, ◌≡◌, ◌*ℤ◌, ℕ, ℤ, pos, List, get_or, to_z, of_z, FitsSigned, ap₂, ◌∙◌}
+use Rattle.std.proofs.Common.{rules, ◌*ℤ◌, ℕ, ℤ, pos, List, get_or, FitsSigned, ap₂, ◌∙◌}
 use Rattle.std.proofs.lemmas.Int.{to_z-of_z}
 use Rattle.std.specs.Int.{w64}
 use Rattle.pdl_reduce.proofs.Matrix.{wrapped_more}

@@ -3,6 +3,7 @@ use Rattle.std.proofs.Common.{◌≡◌, ◌<◌, ◌+◌, ◌*◌, ◌++◌, �
 use Rattle.std.specs.Prelude.{slice_get}
 use Rattle.std.specs.List.{range_with_len}
 use Rattle.pdl_broadcast.specs.Walk.{Walk}
+use Rattle.pdl_buf.specs.Buffer.{Kept}
 use Rattle.pdl_shape.specs.Shape.{size_of}
 use Rattle.pdl_shape.specs.Stretched.{stretched_position}
 use Rattle.pdl_shape.specs.Triple.{whole}
@@ -22,7 +23,8 @@ loop-q-init c =
       row = omega (arith, c.as_mut_slice-row.ensures.len, c.in_ok-row_room.ensures.len);
       left_held = tt;
       right_held = tt;
-      made = c.requires.empty ∙ ap (λ (m : ℕ). map P (range_with_len 0 m)) none;
+      ty = ap (λ (p : Kept). p.ty) c.requires.empty;
+      made = ap (λ (p : Kept). p.elems) c.requires.empty ∙ ap (λ (m : ℕ). map P (range_with_len 0 m)) none;
     }
 
 pub hold_block-requires-clause-within : goal.hold_block-requires-clause-within
@@ -30,18 +32,18 @@ hold_block-requires-clause-within c =
     let n : ℕ = length c.loop-q.left_block in
     let ds : List ℕ = c.args.left_sizes.now in
     let there : slice_get c.loop-q.walk.triples 0 ≡ Some (whole ds) = ap (λ (w : Walk). slice_get w.triples 0) c.loop-q.invariant.walk in
-    let below : c.position_at.result < size_of ds = c.position_at.ensures.within ds there in
+    let below : c.position_at-first.result < size_of ds = c.position_at-first.ensures.within ds there in
     let all : length c.args.left.now.elems ≡ size_of ds * n = c.requires.ready.left_count ∙ ap (λ (m : ℕ). size_of ds * m) (sym c.loop-q.invariant.left) in
-    omega (arith, row_inside c.position_at.result (size_of ds) n below, all)
+    omega (arith, row_inside c.position_at-first.result (size_of ds) n below, all)
 
 pub hold_block-requires-in-loop-q-clause-within : goal.hold_block-requires-in-loop-q-clause-within
 hold_block-requires-in-loop-q-clause-within c =
     let n : ℕ = length c.loop-q.right_block in
     let ds : List ℕ = c.args.right_sizes.now in
     let there : slice_get c.loop-q.walk.triples 1 ≡ Some (whole ds) = ap (λ (w : Walk). slice_get w.triples 1) c.loop-q.invariant.walk in
-    let below : c.position_at-in-loop-q.result < size_of ds = c.position_at-in-loop-q.ensures.within ds there in
+    let below : c.position_at-second.result < size_of ds = c.position_at-second.ensures.within ds there in
     let all : length c.args.right.now.elems ≡ size_of ds * n = c.requires.ready.right_count ∙ ap (λ (m : ℕ). size_of ds * m) (sym c.loop-q.invariant.right) in
-    omega (arith, row_inside c.position_at-in-loop-q.result (size_of ds) n below, all)
+    omega (arith, row_inside c.position_at-second.result (size_of ds) n below, all)
 
 pub loop-q-preserved : goal.loop-q-preserved
 loop-q-preserved c =
@@ -54,14 +56,14 @@ loop-q-preserved c =
     let res : List ℤ = c.args.right.now.elems in
     let left_there : slice_get c.loop-q.walk.triples 0 ≡ Some (whole ls) = ap (λ (w : Walk). slice_get w.triples 0) c.loop-q.invariant.walk in
     let right_there : slice_get c.loop-q.walk.triples 1 ≡ Some (whole rs) = ap (λ (w : Walk). slice_get w.triples 1) c.loop-q.invariant.walk in
-    let left_at : c.position_at.result ≡ stretched_position ls joined q =
-    c.position_at.ensures.position ls left_there ∙ ap (λ (w : Walk). stretched_position ls w.dims w.index) c.loop-q.invariant.walk in
-    let right_at : c.position_at-in-loop-q.result ≡ stretched_position rs joined q =
-    c.position_at-in-loop-q.ensures.position rs right_there ∙ ap (λ (w : Walk). stretched_position rs w.dims w.index) c.loop-q.invariant.walk in
+    let left_at : c.position_at-first.result ≡ stretched_position ls joined q =
+    c.position_at-first.ensures.position ls left_there ∙ ap (λ (w : Walk). stretched_position ls w.dims w.index) c.loop-q.invariant.walk in
+    let right_at : c.position_at-second.result ≡ stretched_position rs joined q =
+    c.position_at-second.ensures.position rs right_there ∙ ap (λ (w : Walk). stretched_position rs w.dims w.index) c.loop-q.invariant.walk in
     let lb : c.hold_block.new.block ≡ block_at c.args.ty (s.left_depth * s.height) les ls joined q =
-    block_read c.args.ty les ls joined q (s.left_depth * s.height) (length c.loop-q.left_block) c.position_at.result c.hold_block.new.block c.loop-q.invariant.left left_at c.hold_block.ensures.block in
+    block_read c.args.ty les ls joined q (s.left_depth * s.height) (length c.loop-q.left_block) c.position_at-first.result c.hold_block.new.block c.loop-q.invariant.left left_at c.hold_block.ensures.block in
     let rb : c.hold_block-in-loop-q.new.block ≡ block_at c.args.ty (s.width * s.right_depth) res rs joined q =
-    block_read c.args.ty res rs joined q (s.width * s.right_depth) (length c.loop-q.right_block) c.position_at-in-loop-q.result c.hold_block-in-loop-q.new.block c.loop-q.invariant.right right_at c.hold_block-in-loop-q.ensures.block in
+    block_read c.args.ty res rs joined q (s.width * s.right_depth) (length c.loop-q.right_block) c.position_at-second.result c.hold_block-in-loop-q.new.block c.loop-q.invariant.right right_at c.hold_block-in-loop-q.ensures.block in
     record {
       walk = c.next.ensures ∙ ap (λ (w : Walk). record w { index = w.index + 1 }) c.loop-q.invariant.walk;
       left = omega (arith, c.loop-q.invariant.left);
@@ -69,7 +71,8 @@ loop-q-preserved c =
       left_held = c.hold_block.ensures.held;
       right_held = c.hold_block-in-loop-q.ensures.held;
       row = omega (arith, c.loop-q.invariant.row);
-      made = c.in_ok-add_product.ensures
+      ty = c.in_ok-add_product.ensures.typed ∙ c.loop-q.invariant.ty;
+      made = c.in_ok-add_product.ensures.value
           ∙ ap (λ (zs : List ℤ). zs ++ map (product_at c.args.ty s c.hold_block.new.block c.hold_block-in-loop-q.new.block) (range_with_len 0 (s.height * s.width))) c.loop-q.invariant.made
           ∙ sym (products_more c.args.ty s les res ls rs joined q c.hold_block.new.block c.hold_block-in-loop-q.new.block lb rb);
     }

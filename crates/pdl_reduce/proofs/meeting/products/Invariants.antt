@@ -13,5 +13,6 @@ invariant-loop-q l = record {
   left_held : IsHeld l.ty l.left.elems l.left_held l.left_block;
   right_held : IsHeld l.ty l.right.elems l.right_held l.right_block;
   row : length l.row ≡ l.sizes.width;
-  made : l.made.items ≡ map (products_at l.ty l.sizes l.left.elems l.right.elems l.left_sizes l.right_sizes l.joined) (range_with_len 0 (l._q * (l.sizes.height * l.sizes.width)));
+  ty : l.made.ty ≡ l.ty;
+  made : l.made.elems ≡ map (products_at l.ty l.sizes l.left.elems l.right.elems l.left_sizes l.right_sizes l.joined) (range_with_len 0 (l._q * (l.sizes.height * l.sizes.width)));
 }

@@ -23,18 +23,19 @@ loop-done-preserved g c =
     let fits : FitsSigned w64 c.in_ok-so_far.so_far = search rules in
     let block : to_z w64 (of_z w64 c.in_ok-so_far.so_far) ≡ fold f s (take n (drop (c.args.first + k) xs)) =
     to_z-of_z w64 c.in_ok-so_far.so_far fits ∙ c.in_ok-so_far.ensures.value ∙ ap (λ (m : ℕ). fold f s (take m (drop (c.args.first + k) xs))) count in
-    let added : c.run_part.new.made.items ≡ c.loop-done.made.items ++ map (wrapped c.args.ty) (at_prefixes (λ ys. fold f s ys) (take n (drop (c.args.first + k) xs))) =
-    c.in_ok-so_far.ensures.prefixes ∙ ap (λ (m : ℕ). c.loop-done.made.items ++ map (wrapped c.args.ty) (at_prefixes (λ ys. fold f s ys) (take m (drop (c.args.first + k) xs)))) count in
+    let added : c.run_part.new.made.elems ≡ c.loop-done.made.elems ++ map (wrapped c.args.ty) (at_prefixes (λ ys. fold f s ys) (take n (drop (c.args.first + k) xs))) =
+    c.in_ok-so_far.ensures.prefixes ∙ ap (λ (m : ℕ). c.loop-done.made.elems ++ map (wrapped c.args.ty) (at_prefixes (λ ys. fold f s ys) (take m (drop (c.args.first + k) xs)))) count in
     record {
       inside = omega arith;
       so_far = fold_next f _ s _ xs c.args.first k n c.loop-done.invariant.so_far block;
-      made = made_next f (wrapped c.args.ty) _ s xs c.args.made.now.items c.loop-done.made.items _ c.args.first k n c.loop-done.invariant.so_far c.loop-done.invariant.made added;
+      ty = c.in_ok-so_far.ensures.typed ∙ c.loop-done.invariant.ty;
+      made = made_next f (wrapped c.args.ty) _ s xs c.args.made.now.elems c.loop-done.made.elems _ c.args.first k n c.loop-done.invariant.so_far c.loop-done.invariant.made added;
     }
 
-pub returns : goal.returns
-returns g c =
+pub returns-clause-value : goal.returns-clause-value
+returns-clause-value g c =
     let f : ℤ → ℤ → ℤ = g.F.Folding.taken in
-    let old : List ℤ = c.args.made.now.items in
+    let old : List ℤ = c.args.made.now.elems in
     let start : to_z w64 (of_z w64 c.args.start) ≡ c.args.start = to_z-of_z w64 c.args.start c.ranges.start in
     let all : c.loop-done.done ≡ c.args.count = omega arith in
     c.loop-done.invariant.made

@@ -8,7 +8,8 @@ abbrev pub invariant-loop-done : goal.invariant-loop-done
 invariant-loop-done g l = record {
   inside : l.done ≤ l.count;
   so_far : l.so_far ≡ fold g.F.Folding.taken l.start (take l.done (drop l.first l.a.elems));
-  made : l.made.items ≡ l.initial.made.items ++ map (wrapped l.ty) (running g.F.Folding.taken l.start (take l.done (drop l.first l.a.elems)));
+  ty : l.made.ty ≡ l.initial.made.ty;
+  made : l.made.elems ≡ l.initial.made.elems ++ map (wrapped l.ty) (running g.F.Folding.taken l.start (take l.done (drop l.first l.a.elems)));
 }
 
 abbrev pub decreases-loop-done : goal.decreases-loop-done
