@@ -56,8 +56,8 @@ const KINDS: &[(&str, Kind)] = &[
     ("slice", Kind::Slice),
 ];
 
-// The transformation that a line has next.
-fn transformation(alloc: Global, line: &mut Cursor<'_>) -> Result<Affine, Unread>
+/// The transformation that a line has next.
+pub fn transformation(alloc: Global, line: &mut Cursor<'_>) -> Result<Affine, Unread>
     ensures { IfOk result (λ trans. IsTrue (is_well_formed trans)) }
 {
     match line.named(KINDS)? {

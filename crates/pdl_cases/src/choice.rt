@@ -7,9 +7,13 @@
 //! `clump_list [SIZES] by COUNT => ..`
 //! `which VALUES => PLACES`
 
+ghost use Rattle.std.specs.Prelude.{◌≡◌, IfOk, IsTrue, length};
+ghost use Rattle.pdl_choice.specs.Where.{rises};
+ghost use Rattle.pdl_shape.specs.Shape.{size_of};
+
 use crate::cursor::{Cursor, Unread};
 use crate::writing::{write_all, write_list};
-use pdl_choice::{Choice, Edge, clump_list, index, range, where_places, which_places};
+use pdl_choice::{Choice, Edge, Positions, clump_list, index, range, where_places, which_places};
 use pdl_shape::{Dims, dims_list, dims_of, elements_of};
 use std::alloc::Global;
 use std::fmt::Debug;
@@ -43,10 +47,30 @@ pub fn dims(alloc: Global, line: &mut Cursor<'_>) -> Result<Dims, Unread> {
     }
 }
 
-// The elements of an array.
-fn elements(alloc: Global, line: &mut Cursor<'_>) -> Result<Vec<i64>, Unread> {
+/// The elements of an array.
+pub fn elements(alloc: Global, line: &mut Cursor<'_>) -> Result<Vec<i64>, Unread> {
     if line.takes(b':') {
         line.numbers(alloc)
+    } else {
+        Err(Unread::Faulty)
+    }
+}
+
+/// Dimensions, and as many numbers as these say.
+#[derive(Drop)]
+pub struct Values {
+    pub dims: Dims,
+    pub numbers: Vec<i64>,
+}
+
+/// The dimensions that a line has next, and numbers.
+pub fn read_values(alloc: Global, line: &mut Cursor<'_>) -> Result<Values, Unread>
+    ensures { IfOk result (λ values. length values.numbers.items ≡ size_of values.dims) }
+{
+    let dims = dims(alloc, line)?;
+    let numbers = elements(alloc, line)?;
+    if numbers.len() == elements_of(&dims) as usize {
+        Ok(Values { dims, numbers })
     } else {
         Err(Unread::Faulty)
     }
@@ -71,40 +95,37 @@ const EDGES: &[(&str, Edge)] = &[
 pub fn index_answer(alloc: Global, line: &mut Cursor<'_>) -> Answer {
     let parent = dims(alloc, line)?;
     after(line, "by")?;
-    let ind_dims = dims(alloc, line)?;
-    let ind = elements(alloc, line)?;
-    if ind.len() != elements_of(&ind_dims) as usize {
-        return Err(Unread::Faulty);
-    }
-    written(alloc, &index(alloc, &parent, &ind_dims, &ind))
+    let by = read_values(alloc, line)?;
+    written(alloc, &index(alloc, &parent, &by.dims, &by.numbers))
+}
+
+/// The sizes of windows, and what stands beyond the edges.
+pub fn sizes_and_edge(alloc: Global, line: &mut Cursor<'_>) -> Result<(Vec<i64>, Edge), Unread> {
+    after(line, "sizes")?;
+    let sizes = line.numbers(alloc)?;
+    after(line, "edge")?;
+    Ok((sizes, line.named(EDGES)?))
 }
 
 /// The places of a `range`.
 pub fn range_answer(alloc: Global, line: &mut Cursor<'_>) -> Answer {
     let parent = dims(alloc, line)?;
     after(line, "by")?;
-    let ind_dims = dims(alloc, line)?;
-    let ind = elements(alloc, line)?;
-    after(line, "sizes")?;
-    let sizes = line.numbers(alloc)?;
-    after(line, "edge")?;
-    let edge = line.named(EDGES)?;
-    if ind.len() != elements_of(&ind_dims) as usize {
-        return Err(Unread::Faulty);
-    }
-    written(alloc, &range(alloc, &parent, &ind_dims, &ind, &sizes, edge))
+    let by = read_values(alloc, line)?;
+    let (sizes, edge) = sizes_and_edge(alloc, line)?;
+    let chosen = range(alloc, &parent, &by.dims, &by.numbers, &sizes, edge);
+    written(alloc, &chosen)
 }
 
 /// The places of a `where`.
 pub fn where_answer(alloc: Global, line: &mut Cursor<'_>) -> Answer {
     let parent = dims(alloc, line)?;
     after(line, "mask")?;
-    let mask_dims = dims(alloc, line)?;
-    let mask = elements(alloc, line)?;
-    if mask.len() != elements_of(&mask_dims) as usize {
-        return Err(Unread::Faulty);
-    }
-    written(alloc, &where_places(alloc, &parent, &mask_dims, &mask))
+    let mask = read_values(alloc, line)?;
+    written(
+        alloc,
+        &where_places(alloc, &parent, &mask.dims, &mask.numbers),
+    )
 }
 
 /// The places of a clump that is no window.
@@ -116,14 +137,22 @@ pub fn clump_answer(alloc: Global, line: &mut Cursor<'_>) -> Answer {
 }
 
 /// The places of the numbers that aren't 0.
-pub fn which_answer(alloc: Global, line: &mut Cursor<'_>) -> Answer {
-    let mask = line.numbers(alloc)?;
+pub fn places(alloc: Global, mask: &[i64]) -> Result<Positions, Unread>
+    ensures { IfOk result (λ places. IsTrue (rises 0 (length mask.now) places)) }
+{
     if mask.len() > 1_000_000 {
         return Err(Unread::Faulty);
     }
-    let Ok(places) = which_places(alloc, &mask) else {
-        return Err(Unread::NoMemory);
-    };
+    match which_places(alloc, mask) {
+        Ok(places) => Ok(places),
+        Err(_) => Err(Unread::NoMemory),
+    }
+}
+
+/// The same as an answer.
+pub fn which_answer(alloc: Global, line: &mut Cursor<'_>) -> Answer {
+    let mask = line.numbers(alloc)?;
+    let places = places(alloc, &mask)?;
     let mut answer = Vec::new(alloc);
     write_all(alloc, &mut answer, places.as_slice())?;
     Ok(answer)

@@ -4,8 +4,10 @@
 
 mod affine;
 mod arguments;
+mod board;
 mod choice;
 mod cursor;
+mod engine;
 mod escapes;
 mod numbers;
 mod script;
@@ -47,6 +49,7 @@ enum Call {
     Wrap,
     Unary,
     Binary,
+    Engine,
 }
 
 const CALLS: &[(&str, Call)] = &[
@@ -67,6 +70,7 @@ const CALLS: &[(&str, Call)] = &[
     ("wrap", Call::Wrap),
     ("unary", Call::Unary),
     ("binary", Call::Binary),
+    ("engine", Call::Engine),
 ];
 
 // What the call of a line answers.
@@ -89,6 +93,7 @@ fn answer(alloc: Global, line: &mut Cursor<'_>) -> Result<Vec<u8>, Unread> {
         Call::Wrap => numbers::wrap_answer(alloc, line),
         Call::Unary => numbers::unary_answer(alloc, line),
         Call::Binary => numbers::binary_answer(alloc, line),
+        Call::Engine => engine::answer(alloc, line),
     }
 }
 

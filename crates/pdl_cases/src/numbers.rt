@@ -7,7 +7,8 @@ use std::alloc::Global;
 
 type Answer = Result<Vec<u8>, Unread>;
 
-const TYPES: &[(&str, Ty)] = &[
+/// The types.
+pub const TYPES: &[(&str, Ty)] = &[
     ("Byte", Ty::Byte),
     ("Short", Ty::Short),
     ("Ushort", Ty::Ushort),

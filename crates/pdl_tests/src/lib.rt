@@ -17,8 +17,6 @@ mod code;
 #[cfg(test)]
 mod elem;
 #[cfg(test)]
-mod engine;
-#[cfg(test)]
 mod io;
 #[cfg(test)]
 mod kernel;
