@@ -68,9 +68,9 @@ impl<L: Ledger> Board<L> {
     }
 
     /// A new root.
-    pub fn make(&mut self, name: u8, ty: Ty, dims: &Dims, elems: &Elements) -> Result<(), Unread>
+    pub fn make(&mut self, name: u8, ty: Ty, dims: &Dims, elems: Elements) -> Result<(), Unread>
         requires kept { AreKept self.old.engine self.old.arrays.items }
-        requires made { IsMade ty dims.now elems.now }
+        requires made { IsMade ty dims.now elems }
         ensures { OnOk result (AreKept self.new.engine self.new.arrays.items) }
     {
         growth_laws();

@@ -156,7 +156,7 @@ fn make<L: Ledger>(board: &mut Board<L>, line: &mut Cursor<'_>) -> Result<(), Un
     let ty = line.named(TYPES)?;
     let Values { dims, mut numbers } = choice::read_values(board.alloc, line)?;
     wrap_all(ty, &mut numbers);
-    board.make(name, ty, &dims, &Elements::new(numbers))
+    board.make(name, ty, &dims, Elements::new(numbers))
 }
 
 // Makes a view, and answers why there is none.
