@@ -50,7 +50,7 @@ pub joined : OlderStay → LiveLieBelow → NewIsLive → (old new : State) (id 
     → (arrays : List Array) (a : Array) → a.id ≡ id → a.holds ≡ 1 → AreKept old arrays → AreKept new (arrays ++ a ∷ [])
 joined older below live old new id d j sound arrays a same once kept =
     All-append (IsKept new) arrays (a ∷ []) (λ k e lt. joined_one older below old new id d j sound _ (kept k e lt))
-      (All-cons (IsKept new) a [] (newest live old new id d j sound a same once) (All-nil (IsKept new)))
+    (All-cons (IsKept new) a [] (newest live old new id d j sound a same once) (All-nil (IsKept new)))
 
 -- counts after one hold more, and after one less
 more_count : (hs : List (ℕ × ℕ)) (v u : ℕ) → 0 < count_at hs u → count_at (one_more_at hs v) u ≡ recounted true v u (count_at hs u)
@@ -91,9 +91,11 @@ live_some None h = absurd h
 live_some (Some l) h = refl
 
 pub holding : (s t : State) (v : ℕ) → t ≡ record s { holds = one_more_at s.holds v } → Recounts true v s t
-holding s t v e u n sound live is some after =
-    (subst (λ x. IsSound x.world) (sym e) sound, subst (λ x. IsLive x.world u) (sym e) live,
-     ap (λ x. count_at x.holds u) e ∙ more_count s.holds v u (omega (arith, is, some)) ∙ ap (recounted true v u) is)
+holding s t v e u n sound live is some after = (
+  subst (λ x. IsSound x.world) (sym e) sound,
+  subst (λ x. IsLive x.world u) (sym e) live,
+  ap (λ x. count_at x.holds u) e ∙ more_count s.holds v u (omega (arith, is, some)) ∙ ap (recounted true v u) is,
+)
 
 pub releasing : ReachedAreSeenAsBefore → (s t : State) (v : ℕ) → IsSound t.world → IsReleased s v t → Recounts false v s t
 releasing seen s t v stays r u n sound live is some after =

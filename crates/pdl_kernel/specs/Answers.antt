@@ -7,7 +7,8 @@ use Rattle.pdl_kernel.specs.declared.faults.RunFault.{RunFault}
 use Rattle.pdl_kernel.specs.declared.faults.RunFault.TheVariants.{NoMemory}
 
 -- the answer is what is wanted; want of memory may come at any call
-abbrev pub Answers : (wanted : Result (List Made) RunFault) → Result (Vec Made Global) RunFault → Type 0
+abbrev pub Answers : (wanted : Result (List Made) RunFault) →
+    Result (Vec Made Global) RunFault → Type 0
 Answers wanted (Ok outputs) = wanted ≡ Ok outputs.items
 Answers wanted (Err NoMemory) = Unit {0}
 Answers wanted (Err fault) = wanted ≡ Err fault

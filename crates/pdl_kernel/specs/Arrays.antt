@@ -1,4 +1,5 @@
--- An argument as code sees it at one broadcast place: its type, its core dimensions and its core elements, in order.
+-- An argument as code sees it at one broadcast place: its type, its core dimensions and its
+-- core elements, in order.
 use Rattle.std.specs.Prelude.{ℕ, ℤ, pos, negsuc, nat_lt, if◌then◌else◌, List, [], ◌∷◌, get_or, slice_set, Option, Some, None, option_map}
 use Rattle.pdl_elem.specs.Numbers.{wrapped}
 use Rattle.pdl_shape.specs.Shape.{position_of}

@@ -28,10 +28,12 @@ first_given _ _ = None
 abbrev pub with_given : List SigArg → List Made → List (SigArg × Option Made)
 with_given [] given = []
 with_given (a ∷ args) given =
-    (a, first_given (is_given a.role) given) ∷ with_given args (if is_given a.role then drop 1 given else given)
+    (a, first_given (is_given a.role) given) ∷ with_given args (if is_given a.role
+    then drop 1 given else given)
 
--- what an argument of a type starts with at core coordinates and then broadcast coordinates: the given element,
--- where a size of 1 and a missing one are stretched, wrapped to the type; and 0 where nothing is given
+-- what an argument of a type starts with at core coordinates and then broadcast
+-- coordinates: the given element, where a size of 1 and a missing one are stretched, wrapped to
+-- the type; and 0 where nothing is given
 abbrev pub start_element : Ty → Option Made → (coordinates : List ℕ) → ℤ
 start_element ty None cs = pos 0
 start_element ty (Some g) cs = broadcast_element ty g cs
@@ -41,21 +43,25 @@ abbrev pub started : Resolved → (coordinates : List ℕ) → SigArg × Option 
 started r bs a =
     let ty = type_in r.generic a.0.ty in
     let core = core_sizes r.sizes a.0 in
-    let elems = map (λ q. start_element ty a.1 (coordinates_of core q ++ bs)) (range_with_len 0 (size_of core)) in
+    let elems = map (λ q. start_element ty a.1 (coordinates_of core q ++ bs))
+    (range_with_len 0 (size_of core)) in
     record { ty = ty; dims = core; elems = elems }
 
--- what code leaves at a broadcast place: it runs over the arguments as they start there, and locals of 0
+-- what code leaves at a broadcast place: it runs over the arguments as they start
+-- there, and locals of 0
 abbrev pub outcome : List SigArg → Code → Resolved → List Made → (place : ℕ) → Result Store Fault
 outcome args code r given p =
     let arguments = map (started r (coordinates_of r.broadcast p)) (with_given args given) in
-    run r (replicate names_limit 0) code (record { arguments = arguments; locals = replicate (code_locals 0 code) (pos 0) })
+    run r (replicate names_limit 0) code
+    (record { arguments = arguments; locals = replicate (code_locals 0 code) (pos 0) })
 
 -- a fault of code, with the broadcast place that has it
 abbrev pub fault_at : (place : ℕ) → Fault → RunFault
 fault_at p Divides = DivideByZero p
 fault_at p OutOfRange = IndexOutOfRange p
 
-abbrev pub store_before : (place : ℕ) → Result Store Fault → Result (List Store) RunFault → Result (List Store) RunFault
+abbrev pub store_before : (place : ℕ) → Result Store Fault → Result (List Store) RunFault →
+    Result (List Store) RunFault
 store_before p (Err e) rest = Err (fault_at p e)
 store_before p (Ok m) (Err e) = Err e
 store_before p (Ok m) (Ok ms) = Ok (m ∷ ms)
@@ -65,17 +71,21 @@ abbrev pub stores_from : (ℕ → Result Store Fault) → (p n : ℕ) → Result
 stores_from f p zero = Ok []
 stores_from f p (suc n) = store_before p (f p) (stores_from f (p + 1) n)
 
--- the element of an argument at its core coordinates, so many of them, and then broadcast coordinates
-abbrev pub output_element : (broadcast : List ℕ) → List Store → (number rank : ℕ) → (coordinates : List ℕ) → ℤ
+-- the element of an argument at its core coordinates, so many of them, and
+-- then broadcast coordinates
+abbrev pub output_element : (broadcast : List ℕ) → List Store → (number rank : ℕ) →
+    (coordinates : List ℕ) → ℤ
 output_element broadcast stores k n cs =
-    let left = get_or stores (position_of broadcast (drop n cs)) (record { arguments = []; locals = [] }) in
+    let left = get_or stores (position_of broadcast (drop n cs))
+    (record { arguments = []; locals = [] }) in
     element (argument left k) (take n cs)
 
 -- an output: its core dimensions and then the broadcast dimensions
 abbrev pub output : Resolved → List Store → (number : ℕ) → SigArg → Made
 output r stores k a =
     let dims = core_sizes r.sizes a ++ r.broadcast in
-    let at = λ (q : ℕ). output_element r.broadcast stores k (length a.dims) (coordinates_of dims q) in
+    let at = λ (q : ℕ). output_element r.broadcast stores k (length a.dims)
+    (coordinates_of dims q) in
     record { ty = type_in r.generic a.ty; dims = dims; elems = map at (range_with_len 0 (size_of dims)) }
 
 -- the outputs among arguments, of which the first has number k
@@ -85,12 +95,13 @@ outputs r stores k (a ∷ args) =
     let rest = outputs r stores (k + 1) args in
     if is_output a.role then output r stores k a ∷ rest else rest
 
-abbrev pub outputs_of : Resolved → List SigArg → Result (List Store) RunFault → Result (List Made) RunFault
+abbrev pub outputs_of : Resolved → List SigArg → Result (List Store) RunFault →
+    Result (List Made) RunFault
 outputs_of r args (Err e) = Err e
 outputs_of r args (Ok stores) = Ok (outputs r stores 0 args)
 
--- The outputs of a call, in the order of the signature, or the fault at the first broadcast place that has one: what was
--- resolved, and the inputs and `[io]` arguments in order are given.
+-- The outputs of a call, in the order of the signature, or the fault at the first broadcast place
+-- that has one: what was resolved, and the inputs and `[io]` arguments in order are given.
 abbrev pub called : Kernel → Resolved → (given : List Made) → Result (List Made) RunFault
 called kernel r given =
     let args = kernel.signature.args in

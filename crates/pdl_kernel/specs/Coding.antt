@@ -1,5 +1,5 @@
--- A code for kernel code, by which a proof tells one from another: the code is written as a list of marks, each behind
--- those of its parts, and read back onto stacks.
+-- A code for kernel code, by which a proof tells one from another: the code is written as a list
+-- of marks, each behind those of its parts, and read back onto stacks.
 use Rattle.std.specs.Prelude.{◌≡◌, ◌⊎◌, ℕ, ℤ, List, [], ◌∷◌, Option}
 use Rattle.std.specs.Coded.{Coded, code_by, coded×, coded⊎, coded_ℕ, coded_ℤ, coded_list, coded_option}
 use base.Stored.{coded_unit}
@@ -33,7 +33,10 @@ pub data Mark : Type 0 where
 
 -- a mark as one of several tuples
 abbrev pub Parts : Type 0
-Parts = (ℤ) ⊎ ((ℕ) ⊎ ((ℕ) ⊎ ((ℕ) ⊎ ((ℕ) ⊎ ((UnaryOp) ⊎ ((BinaryOp) ⊎ ((Unit {0}) ⊎ ((ℕ) ⊎ ((ℕ) ⊎ ((Unit {0}) ⊎ ((ℕ × (LocalType × (Option BinaryOp))) ⊎ ((ℕ × (Option BinaryOp)) ⊎ ((Unit {0}) ⊎ (Unit {0}))))))))))))))
+Parts = (ℤ) ⊎ ((ℕ) ⊎ ((ℕ) ⊎
+    ((ℕ) ⊎ ((ℕ) ⊎ ((UnaryOp) ⊎ ((BinaryOp) ⊎ ((Unit {0}) ⊎
+    ((ℕ) ⊎ ((ℕ) ⊎ ((Unit {0}) ⊎ ((ℕ × (LocalType × (Option BinaryOp))) ⊎
+    ((ℕ × (Option BinaryOp)) ⊎ ((Unit {0}) ⊎ (Unit {0}))))))))))))))
 
 abbrev pub parts_of : Mark → Parts
 parts_of (a_number n) = (inl n)
@@ -47,10 +50,14 @@ parts_of no_indices = (inr (inr (inr (inr (inr (inr (inr (inl tt))))))))
 parts_of (one_along n) = (inr (inr (inr (inr (inr (inr (inr (inr (inl n)))))))))
 parts_of (a_loop n) = (inr (inr (inr (inr (inr (inr (inr (inr (inr (inl n))))))))))
 parts_of a_choice = (inr (inr (inr (inr (inr (inr (inr (inr (inr (inr (inl tt)))))))))))
-parts_of (a_keep n ty op) = (inr (inr (inr (inr (inr (inr (inr (inr (inr (inr (inr (inl (n, (ty, op))))))))))))))
-parts_of (a_put n op) = (inr (inr (inr (inr (inr (inr (inr (inr (inr (inr (inr (inr (inl (n, op))))))))))))))
-parts_of no_code = (inr (inr (inr (inr (inr (inr (inr (inr (inr (inr (inr (inr (inr (inl tt))))))))))))))
-parts_of one_step = (inr (inr (inr (inr (inr (inr (inr (inr (inr (inr (inr (inr (inr (inr tt))))))))))))))
+parts_of (a_keep n ty op) =
+    (inr (inr (inr (inr (inr (inr (inr (inr (inr (inr (inr (inl (n, (ty, op))))))))))))))
+parts_of (a_put n op) =
+    (inr (inr (inr (inr (inr (inr (inr (inr (inr (inr (inr (inr (inl (n, op))))))))))))))
+parts_of no_code = (inr
+    (inr (inr (inr (inr (inr (inr (inr (inr (inr (inr (inr (inr (inl tt))))))))))))))
+parts_of one_step = (inr
+    (inr (inr (inr (inr (inr (inr (inr (inr (inr (inr (inr (inr (inr tt))))))))))))))
 
 abbrev pub mark_of : Parts → Mark
 mark_of (inl n) = a_number n
@@ -64,10 +71,14 @@ mark_of (inr (inr (inr (inr (inr (inr (inr (inl _)))))))) = no_indices
 mark_of (inr (inr (inr (inr (inr (inr (inr (inr (inl n))))))))) = one_along n
 mark_of (inr (inr (inr (inr (inr (inr (inr (inr (inr (inl n)))))))))) = a_loop n
 mark_of (inr (inr (inr (inr (inr (inr (inr (inr (inr (inr (inl _))))))))))) = a_choice
-mark_of (inr (inr (inr (inr (inr (inr (inr (inr (inr (inr (inr (inl (n, (ty, op)))))))))))))) = a_keep n ty op
-mark_of (inr (inr (inr (inr (inr (inr (inr (inr (inr (inr (inr (inr (inl (n, op)))))))))))))) = a_put n op
-mark_of (inr (inr (inr (inr (inr (inr (inr (inr (inr (inr (inr (inr (inr (inl _)))))))))))))) = no_code
-mark_of (inr (inr (inr (inr (inr (inr (inr (inr (inr (inr (inr (inr (inr (inr _)))))))))))))) = one_step
+mark_of (inr (inr (inr (inr (inr (inr (inr (inr (inr (inr (inr (inl (n, (ty, op)))))))))))))) =
+    a_keep n ty op
+mark_of (inr (inr (inr (inr (inr (inr (inr (inr (inr (inr (inr (inr (inl (n, op)))))))))))))) =
+    a_put n op
+mark_of (inr (inr (inr (inr (inr (inr (inr (inr (inr (inr (inr (inr (inr (inl _)))))))))))))) =
+    no_code
+mark_of (inr (inr (inr (inr (inr (inr (inr (inr (inr (inr (inr (inr (inr (inr _)))))))))))))) =
+    one_step
 
 pub mark_again : (m : Mark) → mark_of (parts_of m) ≡ m
 mark_again (a_number n) = refl
@@ -89,7 +100,14 @@ mark_again one_step = refl
 abbrev pub coded_mark : Coded Mark
 coded_mark =
     code_by Parts
-    (coded⊎ coded_ℤ (coded⊎ coded_ℕ (coded⊎ coded_ℕ (coded⊎ coded_ℕ (coded⊎ coded_ℕ (coded⊎ unary_op.the_row.coded (coded⊎ binary_op.the_row.coded (coded⊎ coded_unit (coded⊎ coded_ℕ (coded⊎ coded_ℕ (coded⊎ coded_unit (coded⊎ (coded× coded_ℕ (coded× local_type.the_row.coded (coded_option binary_op.the_row.coded))) (coded⊎ (coded× coded_ℕ (coded_option binary_op.the_row.coded)) (coded⊎ coded_unit coded_unit))))))))))))))
+    (coded⊎ coded_ℤ (coded⊎ coded_ℕ (coded⊎ coded_ℕ
+    (coded⊎ coded_ℕ (coded⊎ coded_ℕ (coded⊎ unary_op.the_row.coded
+    (coded⊎ binary_op.the_row.coded (coded⊎ coded_unit
+    (coded⊎ coded_ℕ (coded⊎ coded_ℕ (coded⊎ coded_unit
+    (coded⊎ (coded× coded_ℕ (coded× local_type.the_row.coded
+    (coded_option binary_op.the_row.coded)))
+    (coded⊎ (coded× coded_ℕ (coded_option binary_op.the_row.coded))
+    (coded⊎ coded_unit coded_unit))))))))))))))
     parts_of mark_of mark_again
 
 abbrev mutual
@@ -110,7 +128,8 @@ abbrev mutual
 abbrev mutual
   pub step_marks : Step → List Mark → List Mark
   step_marks (repeat d body) ms = code_marks body (a_loop d ∷ ms)
-  step_marks (choose e whole other) ms = tree_marks e (code_marks whole (code_marks other (a_choice ∷ ms)))
+  step_marks (choose e whole other) ms =
+      tree_marks e (code_marks whole (code_marks other (a_choice ∷ ms)))
   step_marks (keep k ty op e) ms = tree_marks e (a_keep k ty op ∷ ms)
   step_marks (put a is op e) ms = tree_marks e (indices_marks is (a_put a op ∷ ms))
 
@@ -161,7 +180,8 @@ take_repeat d [] s = s
 take_repeat d (c ∷ rest) s = push_step (repeat d c) (record s { codes = rest })
 
 abbrev pub take_choose : List Tree → List Code → Stacks → Stacks
-take_choose (e ∷ trees) (other ∷ whole ∷ rest) s = push_step (choose e whole other) (record s { trees = trees; codes = rest })
+take_choose (e ∷ trees) (other ∷ whole ∷ rest) s =
+    push_step (choose e whole other) (record s { trees = trees; codes = rest })
 take_choose _ _ s = s
 
 abbrev pub take_keep : ℕ → LocalType → Option BinaryOp → List Tree → Stacks → Stacks
@@ -169,7 +189,8 @@ take_keep k ty op [] s = s
 take_keep k ty op (e ∷ rest) s = push_step (keep k ty op e) (record s { trees = rest })
 
 abbrev pub take_put : ℕ → Option BinaryOp → List Tree → List Indices → Stacks → Stacks
-take_put a op (e ∷ trees) (is ∷ rest) s = push_step (put a is op e) (record s { trees = trees; indices = rest })
+take_put a op (e ∷ trees) (is ∷ rest) s =
+    push_step (put a is op e) (record s { trees = trees; indices = rest })
 take_put a op _ _ s = s
 
 abbrev pub take_next : List Step → List Code → Stacks → Stacks
@@ -199,7 +220,8 @@ read_marks [] s = s
 read_marks (m ∷ ms) s = read_marks ms (read_mark m s)
 
 mutual
-  pub tree_again : (t : Tree) (ms : List Mark) (s : Stacks) → read_marks (tree_marks t ms) s ≡ read_marks ms (push_tree t s)
+  pub tree_again : (t : Tree) (ms : List Mark) (s : Stacks) →
+      read_marks (tree_marks t ms) s ≡ read_marks ms (push_tree t s)
   tree_again (number z) ms s = refl
   tree_again (size d) ms s = refl
   tree_again (index d) ms s = refl
@@ -208,19 +230,23 @@ mutual
   tree_again (unary op e) ms s = tree_again e _ s
   tree_again (binary op e f) ms s = tree_again e _ s ∙ tree_again f _ (push_tree e s)
 
-  pub indices_again : (is : Indices) (ms : List Mark) (s : Stacks) → read_marks (indices_marks is ms) s ≡ read_marks ms (push_indices is s)
+  pub indices_again : (is : Indices) (ms : List Mark) (s : Stacks) →
+      read_marks (indices_marks is ms) s ≡ read_marks ms (push_indices is s)
   indices_again none ms s = refl
   indices_again (along k e rest) ms s = tree_again e _ s ∙ indices_again rest _ (push_tree e s)
 
 mutual
-  pub step_again : (t : Step) (ms : List Mark) (s : Stacks) → read_marks (step_marks t ms) s ≡ read_marks ms (push_step t s)
+  pub step_again : (t : Step) (ms : List Mark) (s : Stacks) →
+      read_marks (step_marks t ms) s ≡ read_marks ms (push_step t s)
   step_again (repeat d body) ms s = code_again body _ s
   step_again (choose e whole other) ms s =
-      tree_again e _ s ∙ (code_again whole _ (push_tree e s) ∙ code_again other _ (push_code whole (push_tree e s)))
+      tree_again e _ s ∙ (code_again whole _ (push_tree e s)
+      ∙ code_again other _ (push_code whole (push_tree e s)))
   step_again (keep k ty op e) ms s = tree_again e _ s
   step_again (put a is op e) ms s = tree_again e _ s ∙ indices_again is _ (push_tree e s)
 
-  pub code_again : (c : Code) (ms : List Mark) (s : Stacks) → read_marks (code_marks c ms) s ≡ read_marks ms (push_code c s)
+  pub code_again : (c : Code) (ms : List Mark) (s : Stacks) →
+      read_marks (code_marks c ms) s ≡ read_marks ms (push_code c s)
   code_again done ms s = refl
   code_again (next t rest) ms s = step_again t _ s ∙ code_again rest _ (push_step t s)
 
@@ -231,4 +257,6 @@ first_code (c ∷ rest) = c
 -- kernel code, told apart by its marks
 abbrev pub coded_code : Coded Code
 coded_code =
-    code_by (List Mark) (coded_list coded_mark) (λ c. code_marks c []) (λ ms. first_code (read_marks ms no_stacks).codes) (λ c. ap (λ s. first_code s.codes) (code_again c [] no_stacks))
+    code_by (List Mark) (coded_list coded_mark) (λ c. code_marks c []) (λ ms.
+    first_code (read_marks ms no_stacks).codes) (λ c.
+    ap (λ s. first_code s.codes) (code_again c [] no_stacks))

@@ -11,7 +11,8 @@ pub record Kernel : Type 0 where
   pub signature : Signature
   pub code : Code
 
--- code speaks of what the signature has and assigns to no input, and so many locals are visible at once at most
+-- code speaks of what the signature has and assigns to no input, and so many locals are
+-- visible at once at most
 pub record IsKernel (signature : Signature) (code : Code) (locals : ℕ) : Type 0 where
   pub fit : IsFit signature code
   pub locals_are : locals ≡ code_locals 0 code

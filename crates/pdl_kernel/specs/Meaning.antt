@@ -1,4 +1,5 @@
--- The meaning of kernel code (PDL::PP, Code): from a store to a store or a fault, by recursion on the code.
+-- The meaning of kernel code (PDL::PP, Code): from a store to a store or a fault, by
+-- recursion on the code.
 use Rattle.std.specs.Prelude.{ℕ, zero, suc, ◌+◌, ℤ, pos, List, [], get_or, slice_set, replicate, Option, Some, None, Result, Ok, Err}
 use Rattle.pdl_elem.specs.declared.Ty.{Ty}
 use Rattle.pdl_elem.specs.declared.Ty.TheVariants.{Byte, Long as LongTy, Longlong as LonglongTy}
@@ -62,11 +63,13 @@ element_at a is = and_then (or_range (coordinates_in a.dims is)) (λ cs. Ok (ele
 -- after an assignment of a number to the element at indices
 abbrev pub assigned : Made → Option BinaryOp → ℤ → List ℤ → Result Made Fault
 assigned a op x is =
-    and_then (or_range (coordinates_in a.dims is)) (λ cs. and_then (changed op (element a cs) x) (λ y. Ok (stored a cs y)))
+    and_then (or_range (coordinates_in a.dims is)) (λ cs.
+    and_then (changed op (element a cs) x) (λ y. Ok (stored a cs y)))
 
 -- after an assignment of a number to the element at a position
 abbrev pub assigned_at : Made → Option BinaryOp → ℤ → (position : ℕ) → Result Made Fault
-assigned_at a op x p = and_then (changed op (get_or a.elems p (pos 0)) x) (λ y. Ok (stored_at a p y))
+assigned_at a op x p = and_then (changed op (get_or a.elems p (pos 0)) x) (λ y.
+    Ok (stored_at a p y))
 
 -- a store with another array for an argument
 abbrev pub with_argument : Store → ℕ → Made → Result Store Fault
@@ -83,9 +86,12 @@ abbrev mutual
   value sizes at m (size d) = Ok (pos (size_in sizes d))
   value sizes at m (index d) = Ok (pos (get_or at d 0))
   value sizes at m (local k) = Ok (get_or m.locals k (pos 0))
-  value sizes at m (access a is) = and_then (indices sizes at m is start) (element_at (argument m a))
-  value sizes at m (unary op e) = and_then (value sizes at m e) (λ x. Ok (unary_value op LonglongTy x))
-  value sizes at m (binary op e f) = and_then (value sizes at m e) (λ x. and_then (value sizes at m f) (operate op x))
+  value sizes at m (access a is) = and_then (indices sizes at m is start)
+      (element_at (argument m a))
+  value sizes at m (unary op e) = and_then (value sizes at m e) (λ x.
+      Ok (unary_value op LonglongTy x))
+  value sizes at m (binary op e f) = and_then (value sizes at m e) (λ x.
+      and_then (value sizes at m f) (operate op x))
 
   -- indices, each put at the place of its dimension, in the order in which they stand
   pub indices : (sizes at : List ℕ) → Store → Indices → List ℤ → Result (List ℤ) Fault
@@ -110,12 +116,14 @@ kept ty k m x = record m { locals = slice_set m.locals k (wrapped ty x) }
 abbrev mutual
   -- one statement: the right side first, then the indices, then the operation
   pub step : Resolved → (at : List ℕ) → Step → Store → Result Store Fault
-  step r at (repeat d body) m = turns (λ i now. run r (slice_set at d i) body now) 0 (size_in r.sizes d) m
+  step r at (repeat d body) m = turns (λ i now. run r (slice_set at d i) body now)
+      0 (size_in r.sizes d) m
   step r at (choose e whole other) m =
       and_then (value r.sizes at m e) (λ x. branch x (run r at whole m) (run r at other m))
   step r at (keep k ty op e) m =
       and_then (value r.sizes at m e) (λ x.
-      and_then (changed op (get_or m.locals k (pos 0)) x) (λ y. Ok (kept (local_type r.generic ty) k m y)))
+      and_then (changed op (get_or m.locals k (pos 0)) x) (λ y.
+      Ok (kept (local_type r.generic ty) k m y)))
   step r at (put a is op e) m =
       and_then (value r.sizes at m e) (λ x. and_then (indices r.sizes at m is start) (λ is.
       and_then (assigned (argument m a) op x is) (with_argument m a)))

@@ -19,10 +19,13 @@ appended m part = record part { elems = part.elems ++ (argument m part.number).e
 
 -- with the blocks of broadcast places
 abbrev pub gathered : List Store → Part → Part
-gathered stores part = record part { elems = part.elems ++ flat_map (λ m. (argument m part.number).elems) stores }
+gathered stores part =
+    record part { elems = part.elems ++ flat_map (λ m. (argument m part.number).elems) stores }
 
--- the blocks were gathered where all stores are there, and else the answer is the fault; or it is want of memory
-abbrev pub Collected : Result (Unit {0}) RunFault → (before now : List Part) → Result (List Store) RunFault → Type 0
+-- the blocks were gathered where all stores are there, and else the answer is the fault;
+-- or it is want of memory
+abbrev pub Collected : Result (Unit {0}) RunFault → (before now : List Part) →
+    Result (List Store) RunFault → Type 0
 Collected (Ok u) before now (Ok stores) = now ≡ map (gathered stores) before
 Collected (Ok u) before now (Err e) = ⊥
 Collected (Err NoMemory) before now wanted = Unit {0}

@@ -9,7 +9,8 @@ use Rattle.pdl_sig.specs.declared.Signature.{Signature}
 use Rattle.pdl_sig.specs.Resolution.{resolution}
 use Rattle.pdl_kernel.specs.Kernels.{Kernel}
 
--- the kernel, what its arguments resolve to, and the inputs and `[io]` arguments that were given so far
+-- the kernel, what its arguments resolve to, and the inputs and `[io]` arguments
+-- that were given so far
 pub record Run : Type 0 where
   pub kernel : Kernel
   pub resolved : Resolved
@@ -24,7 +25,8 @@ pub record IsResolved (signature : Signature) (resolved : Resolved) : Type 0 whe
   pub shapes : List ArgShape
   pub resolves : resolution signature shapes ≡ Ok resolved
 
--- what a window shows is the next argument, by its type and dimensions, among shapes that resolve to what was resolved
+-- what a window shows is the next argument, by its type and dimensions, among shapes that
+-- resolve to what was resolved
 pub record IsNext (run : Run) (w : Window) : Type 0 where
   pub shapes : List ArgShape
   pub resolves : resolution run.kernel.signature shapes ≡ Ok run.resolved

@@ -46,7 +46,13 @@ IsFront s shape = s.role ≢ Input → (rest : List ℕ) × (shape ≡ sizes_of 
 abbrev pub heads : Resolved → (k : ℕ) → List SigArg → List Part
 heads r k [] = []
 heads r k (a ∷ args) =
-    let head : Part = record { number = k; ty = type_in r.generic a.ty; dims = core_sizes r.sizes a ++ r.broadcast; elems = [] } in
+    let head : Part = record {
+      number = k;
+      ty = type_in r.generic a.ty;
+      dims =
+          core_sizes r.sizes a ++ r.broadcast;
+      elems = [];
+    } in
     let rest = heads r (k + 1) args in
     if is_output a.role then head ∷ rest else rest
 

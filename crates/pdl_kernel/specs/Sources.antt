@@ -28,7 +28,8 @@ dot [] cs = 0
 dot (s ∷ steps) [] = 0
 dot (s ∷ steps) (c ∷ cs) = s * c + dot steps cs
 
--- how far one step along each dimension of an array goes, n for the first: nowhere along a size of 1
+-- how far one step along each dimension of an array goes, n for the first:
+-- nowhere along a size of 1
 abbrev pub steps_from : ℕ → (sizes : List ℕ) → List ℕ
 steps_from n [] = []
 steps_from n (d ∷ ds) = (if d == 1 then 0 else n) ∷ steps_from (n * d) ds
@@ -53,14 +54,16 @@ found (a ∷ axes) (pos i ∷ is) q = if nat_lt i a.size then found axes is (q +
 
 -- the element at a position of dimensions, from a place on
 abbrev pub element_seen : (start : ℕ) → List Axis → List ℤ → (position : ℕ) → ℤ
-element_seen start axes es p = get_or es (start + reach axes (coordinates_of (sizes_of axes) p)) (pos 0)
+element_seen start axes es p =
+    get_or es (start + reach axes (coordinates_of (sizes_of axes) p)) (pos 0)
 
 -- the elements in order of position
 abbrev pub seen : (start : ℕ) → List Axis → List ℤ → List ℤ
 seen start axes es = map (element_seen start axes es) (range_with_len 0 (size_of (sizes_of axes)))
 
--- what an argument starts with: its core dimensions, its steps along the broadcast dimensions, the elements that are
--- given for it, none for an output, and the place of the first one at a broadcast place
+-- what an argument starts with: its core dimensions, its steps along the broadcast
+-- dimensions, the elements that are given for it, none for an output, and the place of the first
+-- one at a broadcast place
 pub record Source : Type 0 where
   pub role : Role
   pub ty : Ty
@@ -157,11 +160,15 @@ all_loaded [] blocks = blocks
 all_loaded (s ∷ sources) [] = []
 all_loaded (s ∷ sources) (b ∷ blocks) = loaded s b ∷ all_loaded sources blocks
 
--- what code leaves at broadcast coordinates: it runs over the arguments as they start there, and so many locals of 0
-abbrev pub left_at : Resolved → Code → List Source → (locals : ℕ) → (coordinates : List ℕ) → Result Store Fault
+-- what code leaves at broadcast coordinates: it runs over the arguments as they start there,
+-- and so many locals of 0
+abbrev pub left_at : Resolved → Code → List Source → (locals : ℕ) →
+    (coordinates : List ℕ) → Result Store Fault
 left_at r code sources n bs =
-    run r (replicate names_limit 0) code (record { arguments = map (λ s. shown (moved_to bs s)) sources; locals = replicate n (pos 0) })
+    run r (replicate names_limit 0) code
+    (record { arguments = map (λ s. shown (moved_to bs s)) sources; locals = replicate n (pos 0) })
 
 -- the same at each broadcast place, by its number
-abbrev pub left_in_order : Resolved → Code → List Source → (locals : ℕ) → (place : ℕ) → Result Store Fault
+abbrev pub left_in_order : Resolved → Code → List Source → (locals : ℕ) →
+    (place : ℕ) → Result Store Fault
 left_in_order r code sources n p = left_at r code sources n (coordinates_of r.broadcast p)

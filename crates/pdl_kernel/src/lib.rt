@@ -1,5 +1,5 @@
-//! Kernels: operations whose inner loop a user writes in a few lines (PDL::PP). What the code means,
-//! and calls over broadcast arguments.
+//! Kernels: operations whose inner loop a user writes in a few lines
+//! (PDL::PP). What the code means, and calls over broadcast arguments.
 #![tactic(auto)]
 
 mod axes;

@@ -44,8 +44,8 @@ impl<'k> Model for KernelRun<'k> {
 }
 
 impl<'k> KernelRun<'k> {
-    /// Begins a call. What was resolved is the answer of `resolve` for the kernel's signature and the
-    /// shapes of the arguments.
+    /// Begins a call. What was resolved is the answer of `resolve` for the
+    /// kernel's signature and the shapes of the arguments.
     pub fn begin(
         alloc: Global,
         kernel: &'k Kernel,

@@ -1,4 +1,5 @@
--- The checks on lexemes that look at no grammar: how deep brackets are, how many operators there are, how large numbers are.
+-- The checks on lexemes that look at no grammar: how deep brackets are, how many operators there
+-- are, how large numbers are.
 use Rattle.std.specs.Prelude.{ℕ, pred, ◌+◌, nat_lt, nat_eq, List, [], ◌∷◌, Bool, true, false, Option, Some, None, if◌then◌else◌}
 use Rattle.std.specs.List.{list_any}
 use Rattle.pdl_lexemes.specs.declared.checks.Counts.{Counts}
@@ -23,12 +24,14 @@ counted_to c _ = c
 
 -- more than 64 brackets open at once, more than 16 square ones, or more than 256 operators
 abbrev pub is_beyond : Counts → Bool
-is_beyond c = if nat_lt 64 (c.round + c.square) then true else (if nat_lt 16 c.square then true else nat_lt 256 c.operators)
+is_beyond c = if nat_lt 64 (c.round + c.square) then true
+    else (if nat_lt 16 c.square then true else nat_lt 256 c.operators)
 
 -- whether that is so behind some lexeme
 abbrev pub goes_beyond : Counts → List Lexeme → Bool
 goes_beyond c [] = false
-goes_beyond c (t ∷ ts) = if is_beyond (counted_to c t) then true else goes_beyond (counted_to c t) ts
+goes_beyond c (t ∷ ts) = if is_beyond (counted_to c t) then true
+    else goes_beyond (counted_to c t) ts
 
 abbrev pub no_counts : Counts
 no_counts = record { round = 0; square = 0; operators = 0 }

@@ -11,7 +11,8 @@ use Rattle.pdl_lexemes.specs.Depth.{without_shape, ragged_in}
 use Rattle.pdl_lexemes.specs.Lexing.{found_in, signs}
 use Rattle.pdl_lexemes.specs.Peeks.{after}
 
--- a list literal is read exactly where the grammar spells it; it begins with `[`, and what follows it is no longer
+-- a list literal is read exactly where the grammar spells it; it begins with `[`, and what
+-- follows it is no longer
 pub record ListsAreRead : Type 0 where
   pub reads : (ts rest : List Lexeme) (shape : Option (List ℕ)) (elems : List ℤ)
       → (list_read ts ≡ Some (part shape elems rest)) ↔ SpellsList (a_list shape [] elems) ts rest
@@ -20,13 +21,15 @@ pub record ListsAreRead : Type 0 where
   pub shortens : (ts rest : List Lexeme) (shape : Option (List ℕ)) (elems : List ℤ)
       → SpellsList (a_list shape [] elems) ts rest → length rest ≤ length ts
 
--- the scan finds a ragged list exactly where the lexemes hold one; each lexeme but `[` is passed, and so is a list
--- literal, where it isn't ragged itself
+-- the scan finds a ragged list exactly where the lexemes hold one; each lexeme but `[` is
+-- passed, and so is a list literal, where it isn't ragged itself
 pub record RaggedIsScanned : Type 0 where
   pub held : (ts : List Lexeme) → (ragged_in ts ≡ true) ↔ HoldsRagged ts
-  pub passes : (t : Lexeme) (ts : List Lexeme) → after OpenSquare (t ∷ ts) ≡ None → ragged_in (t ∷ ts) ≡ ragged_in ts
+  pub passes : (t : Lexeme) (ts : List Lexeme) → after OpenSquare (t ∷ ts) ≡ None →
+      ragged_in (t ∷ ts) ≡ ragged_in ts
   pub lists : (ts rest : List Lexeme) (shape : Option (List ℕ)) (elems : List ℤ)
-      → SpellsList (a_list shape [] elems) ts rest → ragged_in ts ≡ (without_shape shape || ragged_in rest)
+      → SpellsList (a_list shape [] elems) ts rest →
+      ragged_in ts ≡ (without_shape shape || ragged_in rest)
 
 -- as many numbers as the dimensions say, each of them in the type's range
 pub record FillsArray (shape : Option (List ℕ)) (elems : List ℤ) : Type 0 where
@@ -36,7 +39,8 @@ pub record FillsArray (shape : Option (List ℕ)) (elems : List ℤ) : Type 0 wh
 -- a list literal is an array; a ragged one counts as a list of its numbers
 abbrev pub ListsAreArrays : Type 0
 ListsAreArrays =
-    (ts rest : List Lexeme) (shape : Option (List ℕ)) (elems : List ℤ) → SpellsList (a_list shape [] elems) ts rest → FillsArray shape elems
+    (ts rest : List Lexeme) (shape : Option (List ℕ)) (elems : List ℤ) →
+    SpellsList (a_list shape [] elems) ts rest → FillsArray shape elems
 
 -- each sign that a text may have is a lexeme of the grammar
 abbrev pub SignsAreKnown : Type 0

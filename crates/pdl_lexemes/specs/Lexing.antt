@@ -25,36 +25,50 @@ found_in (entry ∷ rest) text = if bytes_eq text entry.0 then Some entry.1 else
 -- the words of at most five bytes that name no call
 abbrev pub short_keywords : List (List ℕ × Key)
 short_keywords =
-    (codes "my", My) ∷ (codes "p", Print) ∷ (codes "print", Print) ∷ (codes "undef", Undef) ∷ (codes "vars", Vars)
-    ∷ (codes "watch", Watch) ∷ (codes "pdl", Pdl) ∷ (codes "info", Info) ∷ (codes "sever", Sever) ∷ []
+    (codes "my", My) ∷ (codes "p", Print) ∷ (codes "print", Print) ∷ (codes "undef", Undef)
+    ∷ (codes "vars", Vars)
+    ∷ (codes "watch", Watch) ∷ (codes "pdl", Pdl) ∷ (codes "info", Info)
+    ∷ (codes "sever", Sever) ∷ []
 
 -- the words that name no call
 abbrev pub keywords : List (List ℕ × Key)
-keywords = (codes "pp_def", PpDef) ∷ (codes "unwatch", Unwatch) ∷ (codes "reshape", Reshape) ∷ short_keywords
+keywords = (codes "pp_def", PpDef) ∷ (codes "unwatch", Unwatch)
+    ∷ (codes "reshape", Reshape) ∷ short_keywords
 
 -- the words of at most five bytes that are something beside the name of a call
 abbrev pub short_word_kinds : List (List ℕ × WordKind)
 short_word_kinds =
-    (codes "byte", OfType Byte) ∷ (codes "short", OfType Short) ∷ (codes "long", OfType Long) ∷ (codes "slice", View)
-    ∷ (codes "xchg", View) ∷ (codes "mv", View) ∷ (codes "dummy", View) ∷ (codes "clump", View) ∷ (codes "flat", View)
-    ∷ (codes "index", View) ∷ (codes "where", View) ∷ (codes "range", View) ∷ (codes "Pars", Pars) ∷ (codes "Code", Code) ∷ []
+    (codes "byte", OfType Byte) ∷ (codes "short", OfType Short) ∷ (codes "long", OfType Long)
+    ∷ (codes "slice", View)
+    ∷ (codes "xchg", View) ∷ (codes "mv", View) ∷ (codes "dummy", View) ∷ (codes "clump", View)
+    ∷ (codes "flat", View)
+    ∷ (codes "index", View) ∷ (codes "where", View) ∷ (codes "range", View) ∷ (codes "Pars", Pars)
+    ∷ (codes "Code", Code) ∷ []
 
 -- the words that are something beside the name of a call
 abbrev pub word_kinds : List (List ℕ × WordKind)
 word_kinds =
-    (codes "ushort", OfType Ushort) ∷ (codes "longlong", OfType Longlong) ∷ (codes "reorder", View) ∷ (codes "diagonal", View)
+    (codes "ushort", OfType Ushort) ∷ (codes "longlong", OfType Longlong) ∷ (codes "reorder", View)
+    ∷ (codes "diagonal", View)
     ∷ (codes "squeeze", View) ∷ short_word_kinds
 
 -- the signs
 abbrev pub signs : List (List ℕ × Lexeme)
 signs =
-    (codes "(", Open) ∷ (codes ")", Close) ∷ (codes "[", OpenSquare) ∷ (codes "]", CloseSquare) ∷ (codes ",", Comma) ∷ (codes "=", Equals)
-    ∷ (codes "->", Arrow) ∷ (codes "=>", FatArrow) ∷ (codes ".=", Assign Set) ∷ (codes "+=", Assign (With Add)) ∷ (codes "-=", Assign (With Sub))
-    ∷ (codes "*=", Assign (With Mul)) ∷ (codes "/=", Assign (With Div)) ∷ (codes "%=", Assign (With Rem)) ∷ (codes "<<=", Assign (With Shl))
-    ∷ (codes ">>=", Assign (With Shr)) ∷ (codes "&=", Assign (With And)) ∷ (codes "|=", Assign (With Or)) ∷ (codes "^=", Assign (With Xor))
-    ∷ (codes "+", Operator Add) ∷ (codes "-", Operator Sub) ∷ (codes "*", Operator Mul) ∷ (codes "/", Operator Div) ∷ (codes "%", Operator Rem)
-    ∷ (codes "<<", Operator Shl) ∷ (codes ">>", Operator Shr) ∷ (codes "<", Operator Lt) ∷ (codes ">", Operator Gt) ∷ (codes "<=", Operator Le)
-    ∷ (codes ">=", Operator Ge) ∷ (codes "==", Operator Eq) ∷ (codes "!=", Operator Ne) ∷ (codes "&", Operator And) ∷ (codes "|", Operator Or)
+    (codes "(", Open) ∷ (codes ")", Close) ∷ (codes "[", OpenSquare) ∷ (codes "]", CloseSquare)
+    ∷ (codes ",", Comma) ∷ (codes "=", Equals)
+    ∷ (codes "->", Arrow) ∷ (codes "=>", FatArrow) ∷ (codes ".=", Assign Set)
+    ∷ (codes "+=", Assign (With Add)) ∷ (codes "-=", Assign (With Sub))
+    ∷ (codes "*=", Assign (With Mul)) ∷ (codes "/=", Assign (With Div))
+    ∷ (codes "%=", Assign (With Rem)) ∷ (codes "<<=", Assign (With Shl))
+    ∷ (codes ">>=", Assign (With Shr)) ∷ (codes "&=", Assign (With And))
+    ∷ (codes "|=", Assign (With Or)) ∷ (codes "^=", Assign (With Xor))
+    ∷ (codes "+", Operator Add) ∷ (codes "-", Operator Sub) ∷ (codes "*", Operator Mul)
+    ∷ (codes "/", Operator Div) ∷ (codes "%", Operator Rem)
+    ∷ (codes "<<", Operator Shl) ∷ (codes ">>", Operator Shr) ∷ (codes "<", Operator Lt)
+    ∷ (codes ">", Operator Gt) ∷ (codes "<=", Operator Le)
+    ∷ (codes ">=", Operator Ge) ∷ (codes "==", Operator Eq) ∷ (codes "!=", Operator Ne)
+    ∷ (codes "&", Operator And) ∷ (codes "|", Operator Or)
     ∷ (codes "^", Operator Xor) ∷ (codes "!", Prefix Not) ∷ (codes "~", Prefix Complement) ∷ []
 
 -- the value of decimal digits, or 2 ^ 63 where it is above 9223372036854775807
@@ -67,7 +81,8 @@ number_of digits = fold with_digit 0 digits
 -- a word as a keyword, or as the name of a call
 abbrev pub word_of : List ℕ → Span → Lexeme
 word_of text span =
-    choose (Word (choose Plain (λ k. k) (found_in word_kinds text)) span) (λ k. Keyword k) (found_in keywords text)
+    choose (Word (choose Plain (λ k. k) (found_in word_kinds text)) span) (λ k.
+    Keyword k) (found_in keywords text)
 
 -- a sign; a text that is none, which no token has, is a lexeme that no rule of the grammar has
 abbrev pub sign_of : List ℕ → Lexeme

@@ -34,22 +34,26 @@ number_item front x = part (Some []) (front ++ x.0 ∷ []) x.1
 module _ (list_of : List ℤ → List Lexeme → Option Part) where
   -- an item, where the reader of lists is `list_of`
   unfoldable pub item_at : List ℤ → List Lexeme → Option Part
-  item_at front ts = choose (option_map (number_item front) (signed_number_at ts)) (λ us. list_of front ts) (after OpenSquare ts)
+  item_at front ts = choose (option_map (number_item front) (signed_number_at ts)) (λ us.
+      list_of front ts) (after OpenSquare ts)
 
   -- the further items of a list of which n are read, at most k of them; with them their number
   unfoldable pub items_at : ℕ → ℕ → Part → Option (ℕ × Part)
   items_at zero n so_far = Some (n, so_far)
   items_at (suc k) n so_far =
       choose (Some (n, so_far))
-      (λ us. option_and_then (λ x. items_at k (suc n) (part (shared so_far.shape x.shape) x.elems x.rest)) (item_at so_far.elems us))
+      (λ us. option_and_then (λ x. items_at k (suc n) (part (shared so_far.shape x.shape) x.elems
+      x.rest)) (item_at so_far.elems us))
       (after Comma so_far.rest)
 
   -- what stands behind `[`
   abbrev pub filled_at : List ℤ → List Lexeme → Option Part
-  filled_at front ts = option_and_then (λ x. option_and_then closed (items_at (length x.rest) 1 x)) (item_at front ts)
+  filled_at front ts = option_and_then (λ x. option_and_then closed (items_at (length x.rest) 1 x))
+      (item_at front ts)
 
   unfoldable pub inside_at : List ℤ → List Lexeme → Option Part
-  inside_at front ts = choose (filled_at front ts) (λ rest. Some (part (Some (0 ∷ [])) front rest)) (after CloseSquare ts)
+  inside_at front ts = choose (filled_at front ts) (λ rest.
+      Some (part (Some (0 ∷ [])) front rest)) (after CloseSquare ts)
 
   abbrev pub list_at : List ℤ → List Lexeme → Option Part
   list_at front ts = option_and_then (inside_at front) (after OpenSquare ts)

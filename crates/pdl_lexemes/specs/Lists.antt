@@ -37,13 +37,17 @@ pub data SpellsList : ListPart → List Lexeme → List Lexeme → Type 0 where
   number : {n : ℕ} {z : ℤ} {front : List ℤ} {rest : List Lexeme} → signed n ≡ Some z
       → SpellsList (an_item (Some []) front (front ++ z ∷ [])) (Number n ∷ rest) rest
   minus : {n : ℕ} {z : ℤ} {front : List ℤ} {rest : List Lexeme} → signed n ≡ Some z
-      → SpellsList (an_item (Some []) front (front ++ neg_ℤ z ∷ [])) (Operator Sub ∷ Number n ∷ rest) rest
+      → SpellsList (an_item (Some []) front (front ++ neg_ℤ z ∷ [])) (Operator Sub
+      ∷ Number n ∷ rest) rest
   nested : {shape : Option (List ℕ)} {front all : List ℤ} {ts rest : List Lexeme}
       → SpellsList (a_list shape front all) ts rest → SpellsList (an_item shape front all) ts rest
   first : {shape : Option (List ℕ)} {front all : List ℤ} {ts rest : List Lexeme}
-      → SpellsList (an_item shape front all) ts rest → SpellsList (some_items 1 shape front all) ts rest
-  more : {n : ℕ} {shape shape' : Option (List ℕ)} {front so_far all : List ℤ} {ts us rest : List Lexeme}
-      → SpellsList (some_items n shape front so_far) ts (Comma ∷ us) → SpellsList (an_item shape' so_far all) us rest
+      → SpellsList (an_item shape front all) ts rest →
+      SpellsList (some_items 1 shape front all) ts rest
+  more : {n : ℕ} {shape shape' : Option (List ℕ)} {front so_far all : List ℤ}
+      {ts us rest : List Lexeme}
+      → SpellsList (some_items n shape front so_far) ts (Comma ∷ us) →
+      SpellsList (an_item shape' so_far all) us rest
       → SpellsList (some_items (suc n) (shared shape shape') front all) ts rest
   empty : {front : List ℤ} {rest : List Lexeme}
       → SpellsList (a_list (Some (0 ∷ [])) front front) (OpenSquare ∷ CloseSquare ∷ rest) rest
@@ -53,5 +57,6 @@ pub data SpellsList : ListPart → List Lexeme → List Lexeme → Type 0 where
 
 -- a ragged list stands somewhere in the lexemes
 pub data HoldsRagged : List Lexeme → Type 0 where
-  here : {elems : List ℤ} {ts rest : List Lexeme} → SpellsList (a_list None [] elems) ts rest → HoldsRagged ts
+  here : {elems : List ℤ} {ts rest : List Lexeme} → SpellsList (a_list None [] elems) ts rest →
+      HoldsRagged ts
   later : {t : Lexeme} {ts : List Lexeme} → HoldsRagged ts → HoldsRagged (t ∷ ts)

@@ -18,7 +18,8 @@ use Rattle.pdl_lexemes.specs.Lists.{signed}
 abbrev pub Read : Type 0 → Type 0
 Read A = Option (A × List Lexeme)
 
--- whether two lexemes are one sign that has no parts, a minus, or one word that stands behind an arrow
+-- whether two lexemes are one sign that has no parts, a minus, or one word that
+-- stands behind an arrow
 abbrev pub is_same : Lexeme → Lexeme → Bool
 is_same Open Open = true
 is_same Close Close = true

@@ -3,7 +3,8 @@ use Rattle.std.specs.Prelude.{◌≡◌, ◌≤◌, ℕ, suc, pred, nat_lt, List
 use Rattle.pdl_lexemes.specs.declared.Lexeme.{Lexeme}
 use Rattle.pdl_lexemes.specs.declared.Lexeme.TheVariants.{OpenSquare, CloseSquare}
 
--- whether more than 16 square brackets are open at once behind some lexeme, where k are open at the start
+-- whether more than 16 square brackets are open at once behind some lexeme, where
+-- k are open at the start
 abbrev pub goes_too_deep : ℕ → List Lexeme → Bool
 goes_too_deep k [] = false
 goes_too_deep k (OpenSquare ∷ ts) = if nat_lt 16 (suc k) then true else goes_too_deep (suc k) ts

@@ -14,37 +14,48 @@ use Rattle.pdl_machine.specs.declared.builtin.Arrangement.TheVariants.{Xchg, Mv,
 -- sums, extremes and prefixes along dimension 0
 abbrev pub reductions : List (List ℕ × Builtin)
 reductions =
-    (codes "sumover", Reduced Sumover) ∷ (codes "prodover", Reduced Prodover) ∷ (codes "cumusumover", Reduced Cumusumover)
-    ∷ (codes "cumuprodover", Reduced Cumuprodover) ∷ (codes "maximum", Reduced Maximum) ∷ (codes "minimum", Reduced Minimum)
+    (codes "sumover", Reduced Sumover) ∷ (codes "prodover", Reduced Prodover)
+    ∷ (codes "cumusumover", Reduced Cumusumover)
+    ∷ (codes "cumuprodover", Reduced Cumuprodover) ∷ (codes "maximum", Reduced Maximum)
+    ∷ (codes "minimum", Reduced Minimum)
     ∷ (codes "maximum_ind", Reduced MaximumInd) ∷ (codes "minimum_ind", Reduced MinimumInd) ∷ []
 
 -- reductions of all elements, and products of two arrays
 abbrev pub wholes_and_products : List (List ℕ × Builtin)
 wholes_and_products =
-    (codes "sum", Whole Sum) ∷ (codes "prod", Whole Prod) ∷ (codes "max", Whole Max) ∷ (codes "min", Whole Min)
-    ∷ (codes "all", Whole All) ∷ (codes "any", Whole Any) ∷ (codes "inner", Paired Inner) ∷ (codes "outer", Paired Outer)
+    (codes "sum", Whole Sum) ∷ (codes "prod", Whole Prod) ∷ (codes "max", Whole Max)
+    ∷ (codes "min", Whole Min)
+    ∷ (codes "all", Whole All) ∷ (codes "any", Whole Any) ∷ (codes "inner", Paired Inner)
+    ∷ (codes "outer", Paired Outer)
     ∷ (codes "matmult", Paired Matmult) ∷ []
 
 -- new arrays by sizes
 abbrev pub fills : List (List ℕ × Builtin)
 fills =
-    (codes "zeroes", Filled Zeroes) ∷ (codes "ones", Filled Ones) ∷ (codes "sequence", Filled Sequence)
+    (codes "zeroes", Filled Zeroes) ∷ (codes "ones", Filled Ones)
+    ∷ (codes "sequence", Filled Sequence)
     ∷ (codes "xvals", Filled Xvals) ∷ (codes "yvals", Filled Yvals) ∷ []
 
 -- new arrays that tell something of an array
 abbrev pub inquiries : List (List ℕ × Builtin)
 inquiries =
-    (codes "byte", Told (Convert Byte)) ∷ (codes "short", Told (Convert Short)) ∷ (codes "ushort", Told (Convert Ushort))
-    ∷ (codes "long", Told (Convert Long)) ∷ (codes "longlong", Told (Convert Longlong)) ∷ (codes "copy", Told Copy)
-    ∷ (codes "nelem", Told Nelem) ∷ (codes "ndims", Told Ndims) ∷ (codes "shape", Told Shape) ∷ (codes "which", Told Which)
+    (codes "byte", Told (Convert Byte)) ∷ (codes "short", Told (Convert Short))
+    ∷ (codes "ushort", Told (Convert Ushort))
+    ∷ (codes "long", Told (Convert Long)) ∷ (codes "longlong", Told (Convert Longlong))
+    ∷ (codes "copy", Told Copy)
+    ∷ (codes "nelem", Told Nelem) ∷ (codes "ndims", Told Ndims) ∷ (codes "shape", Told Shape)
+    ∷ (codes "which", Told Which)
     ∷ (codes "dim", Dim) ∷ []
 
 -- views
 abbrev pub views : List (List ℕ × Builtin)
 views =
-    (codes "slice", Slice) ∷ (codes "xchg", Arranged Xchg) ∷ (codes "mv", Arranged Mv) ∷ (codes "reorder", Arranged Reorder)
-    ∷ (codes "dummy", Arranged Dummy) ∷ (codes "diagonal", Arranged Diagonal) ∷ (codes "clump", Arranged Clump)
-    ∷ (codes "flat", Arranged Flat) ∷ (codes "squeeze", Arranged Squeeze) ∷ (codes "index", Index) ∷ (codes "where", Where)
+    (codes "slice", Slice) ∷ (codes "xchg", Arranged Xchg) ∷ (codes "mv", Arranged Mv)
+    ∷ (codes "reorder", Arranged Reorder)
+    ∷ (codes "dummy", Arranged Dummy) ∷ (codes "diagonal", Arranged Diagonal)
+    ∷ (codes "clump", Arranged Clump)
+    ∷ (codes "flat", Arranged Flat) ∷ (codes "squeeze", Arranged Squeeze) ∷ (codes "index", Index)
+    ∷ (codes "where", Where)
     ∷ (codes "range", Range) ∷ []
 
 -- the built-in calls by their names

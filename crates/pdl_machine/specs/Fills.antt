@@ -1,4 +1,5 @@
--- New arrays by their sizes: `zeroes`, `ones`, `sequence`, `xvals`, `yvals` (PDL::Core, PDL::Basic).
+-- New arrays by their sizes: `zeroes`, `ones`, `sequence`, `xvals`, `yvals`
+-- (PDL::Core, PDL::Basic).
 use Rattle.std.specs.Prelude.{ℕ, ℤ, pos, negsuc, List, [], ◌∷◌, Option, Some, None, Result, Ok}
 use Rattle.pdl_elem.specs.declared.Ty.{Ty}
 use Rattle.pdl_elem.specs.declared.Ty.TheVariants.{Long}
@@ -43,9 +44,11 @@ size (negsuc n) = None
 
 -- the dimensions of these sizes
 abbrev pub dims_for : List ℤ → Result (List ℕ) Fault
-dims_for ns = and_then (or_fault BadDimension (all_of size ns)) (λ ds. or_named shape_fault (checked_dims ds))
+dims_for ns = and_then (or_fault BadDimension (all_of size ns)) (λ ds.
+    or_named shape_fault (checked_dims ds))
 
 -- a new array of an optional type word, else long, and a size per dimension
 abbrev pub fill_outcome : Fill → List Seen → Result Outcome Fault
 fill_outcome fill given =
-    and_then (numbers_in (after_type given)) (λ ns. and_then (dims_for ns) (λ ds. Ok (made (filled fill (type_given given) ds))))
+    and_then (numbers_in (after_type given)) (λ ns. and_then (dims_for ns) (λ ds.
+    Ok (made (filled fill (type_given given) ds))))

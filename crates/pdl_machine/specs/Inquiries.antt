@@ -1,4 +1,5 @@
--- New arrays of one array: `copy`, the type words, `nelem`, `ndims`, `dim`, `shape`, `which` (PDL::Core, PDL::Primitive).
+-- New arrays of one array: `copy`, the type words, `nelem`, `ndims`, `dim`, `shape`, `which`
+-- (PDL::Core, PDL::Primitive).
 use Rattle.std.specs.Prelude.{ℕ, ℤ, pos, List, [], ◌∷◌, map, length, get_or, Result, Ok, Err}
 use Rattle.pdl_elem.specs.declared.Ty.TheVariants.{Long}
 use Rattle.pdl_shape.specs.Counting.{from_end}
@@ -22,8 +23,8 @@ long_number n = record { ty = Long; dims = []; elems = pos n ∷ [] }
 abbrev pub long_numbers : List ℕ → Made
 long_numbers ns = record { ty = Long; dims = length ns ∷ []; elems = map pos ns }
 
--- the new array of an array: the same, its elements wrapped to a type, how many elements or dimensions it has, its
--- sizes, or the positions at which it isn't 0
+-- the new array of an array: the same, its elements wrapped to a type, how many elements or
+-- dimensions it has, its sizes, or the positions at which it isn't 0
 abbrev pub told : Inquiry → Made → Made
 told Copy m = m
 told (Convert ty) m = converted ty m
@@ -39,10 +40,12 @@ inquiry_outcome inquiry _ = Err WrongArguments
 
 -- the size of the dimension of this number, which counts from the end where it is below 0
 abbrev pub size_at : (dims : List ℕ) → ℤ → Result ℕ Fault
-size_at dims k = and_then (or_fault BadDimension (from_end k (length dims))) (λ i. Ok (get_or dims i 0))
+size_at dims k = and_then (or_fault BadDimension (from_end k (length dims))) (λ i.
+    Ok (get_or dims i 0))
 
 -- `dim`: the size of one dimension of an array
 abbrev pub dim_outcome : List Seen → Result Outcome Fault
 dim_outcome (array m ∷ k ∷ []) =
-    and_then (or_fault WrongArguments (number_in k)) (λ number. and_then (size_at m.dims number) (λ n. Ok (made (long_number n))))
+    and_then (or_fault WrongArguments (number_in k)) (λ number.
+    and_then (size_at m.dims number) (λ n. Ok (made (long_number n))))
 dim_outcome _ = Err WrongArguments

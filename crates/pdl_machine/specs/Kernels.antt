@@ -1,4 +1,5 @@
--- Kernels: operations that a script defines by a signature and code, and what a call of one gives (PDL::PP).
+-- Kernels: operations that a script defines by a signature and code, and what a call
+-- of one gives (PDL::PP).
 use Rattle.std.specs.Prelude.{ℕ, ◌==◌, Bool, ◌&&◌, List, length, map, Option, Some, None, is_none, if◌then◌else◌, Result, Ok, Err}
 use Rattle.std.specs.List.{filter}
 use Rattle.pdl_buf.specs.declared.made.Made.{Made}
@@ -49,15 +50,18 @@ outputs_count signature = length (filter (λ a. is_output a.role) signature.args
 -- what a kernel gives for arrays
 abbrev pub called_on : Kernel → List Made → Result (List Made) Fault
 called_on k given =
-    and_then (or_named resolve_fault (resolution k.signature (map shape_of given))) (λ resolved. or_named run_fault (called k resolved given))
+    and_then (or_named resolve_fault (resolution k.signature (map shape_of given))) (λ resolved.
+    or_named run_fault (called k resolved given))
 
 -- what the call of a kernel gives, of which so many outputs are wanted
 abbrev pub kernel_outputs : Kernel → (wanted : ℕ) → List Seen → Result (List Made) Fault
 kernel_outputs k wanted given =
-    if outputs_count k.signature == wanted then and_then (or_fault WrongArguments (all_of array_seen given)) (called_on k)
+    if outputs_count k.signature == wanted
+    then and_then (or_fault WrongArguments (all_of array_seen given)) (called_on k)
     else Err WrongArguments
 
--- whether a kernel may have this name: a word that is no built-in call and none of the words that name no call
+-- whether a kernel may have this name: a word that is no built-in call and none of the
+-- words that name no call
 abbrev pub can_name : List ℕ → Bool
 can_name f = is_word f && is_none (found_in keywords f) && is_none (builtin_of f)
 
@@ -70,5 +74,6 @@ kernel_fault fault = BadKernel
 -- the kernel that a definition gives, or why it is refused
 abbrev pub defined : (name signature code : List ℕ) → Result Kernel Fault
 defined f signature code =
-    if can_name f then and_then (or_named signature_fault (signature_in signature)) (λ s. or_named kernel_fault (kernel_in s code))
+    if can_name f then and_then (or_named signature_fault (signature_in signature)) (λ s.
+    or_named kernel_fault (kernel_in s code))
     else Err WrongArguments

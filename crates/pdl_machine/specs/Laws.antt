@@ -13,7 +13,8 @@ use Rattle.pdl_machine.specs.Step.{step}
 
 -- a step from the swept and renumbered state is the step
 abbrev pub StepsAlike : Type 0
-StepsAlike = (s : State) (statement : StatementTree) → IsWhole s → step (tidy s) statement ≡ step s statement
+StepsAlike = (s : State) (statement : StatementTree) → IsWhole s →
+    step (tidy s) statement ≡ step s statement
 
 -- nothing but new arrays came
 pub record AreGrown (old new : Arrays) : Type 0 where
@@ -22,15 +23,18 @@ pub record AreGrown (old new : Arrays) : Type 0 where
 
 -- new arrays that nothing reaches are unseen
 abbrev pub NewArraysUnseen : Type 0
-NewArraysUnseen = (s : State) (a : Arrays) → AreGrown s.arrays a → IsSound a.world → AreLive s.arrays.world (held s) → tidy (with_arrays s a) ≡ tidy s
+NewArraysUnseen = (s : State) (a : Arrays) → AreGrown s.arrays a → IsSound a.world →
+    AreLive s.arrays.world (held s) → tidy (with_arrays s a) ≡ tidy s
 
 -- each array of the state is reached
 abbrev pub AreAllReached : State → Type 0
-AreAllReached s = (k : ℕ) (d : ArrayDef) → Has s.arrays.world k d → IsReached s.arrays.world (held s) k
+AreAllReached s = (k : ℕ) (d : ArrayDef) → Has s.arrays.world k d →
+    IsReached s.arrays.world (held s) k
 
 -- after a step each array that is left is reached
 abbrev pub StepsLeaveReached : Type 0
-StepsLeaveReached = (s after : State) (statement : StatementTree) (printed : List ℕ) → IsWhole s → step s statement ≡ Ok (after, printed) → AreAllReached after
+StepsLeaveReached = (s after : State) (statement : StatementTree) (printed : List ℕ) → IsWhole s →
+    step s statement ≡ Ok (after, printed) → AreAllReached after
 
 -- what a name shows, if it is bound
 abbrev pub shown_by : State → List ℕ → Option Made

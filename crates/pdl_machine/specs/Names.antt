@@ -1,4 +1,5 @@
--- What is known by a name: arrays, in the order of their first bindings, and kernels, in the order of their first definitions.
+-- What is known by a name: arrays, in the order of their first bindings, and kernels, in the order
+-- of their first definitions.
 use Rattle.std.specs.Prelude.{ℕ, nat_eq, List, [], ◌∷◌, length, nat_lt, Bool, not, ◌&&◌, Option, Some, None, is_none, if◌then◌else◌, Result, Ok, Err}
 use Rattle.std.specs.Cmp.Lexicographic.{pointwise}
 use Rattle.pdl_machine.specs.declared.fault.Fault.{Fault}
@@ -18,15 +19,18 @@ found (n ∷ names) x = if pointwise nat_eq x n.0 then Some n.1 else found names
 -- with one of this name: a known name keeps its place, and a new one goes last
 abbrev pub with_name : {A : Type 0} → Named A → List ℕ → A → Named A
 with_name [] x a = (x, a) ∷ []
-with_name (n ∷ names) x a = if pointwise nat_eq x n.0 then (n.0, a) ∷ names else n ∷ with_name names x a
+with_name (n ∷ names) x a = if pointwise nat_eq x n.0 then (n.0, a) ∷ names
+    else n ∷ with_name names x a
 
 -- whether there is no room for a name: it is new, and there are as many as may be
 abbrev pub is_full_for : {A : Type 0} → (limit : ℕ) → Named A → List ℕ → Bool
 is_full_for limit names x = is_none (found names x) && not (nat_lt (length names) limit)
 
 -- with one of this name, or that there are too many
-abbrev pub entered : {A : Type 0} → (limit : ℕ) → Fault → Named A → List ℕ → A → Result (Named A) Fault
-entered limit fault names x a = if is_full_for limit names x then Err fault else Ok (with_name names x a)
+abbrev pub entered : {A : Type 0} → (limit : ℕ) → Fault → Named A → List ℕ →
+    A → Result (Named A) Fault
+entered limit fault names x a = if is_full_for limit names x then Err fault
+    else Ok (with_name names x a)
 
 -- The numbers of arrays, and kernels, by their names.
 pub record Names : Type 0 where
@@ -50,9 +54,11 @@ number_of names x = found names.arrays x
 
 -- the names after a binding, or that there are too many
 abbrev pub bind : Names → List ℕ → ℕ → Result Names Fault
-bind names x v = and_then (entered names_limit TooManyNames names.arrays x v) (λ arrays. Ok (record names { arrays = arrays }))
+bind names x v = and_then (entered names_limit TooManyNames names.arrays x v) (λ arrays.
+    Ok (record names { arrays = arrays }))
 
 -- the names after the definition of a kernel, or that there are too many
 abbrev pub define : Names → List ℕ → Kernel → Result Names Fault
 define names f k =
-    and_then (entered kernels_limit TooManyKernels names.kernels f k) (λ kernels. Ok (record names { kernels = kernels }))
+    and_then (entered kernels_limit TooManyKernels names.kernels f k) (λ kernels.
+    Ok (record names { kernels = kernels }))

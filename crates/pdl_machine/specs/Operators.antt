@@ -1,4 +1,5 @@
--- Operators over whole arrays, and what an assignment writes, with the faults of scripts (PDL::Ops).
+-- Operators over whole arrays, and what an assignment writes, with the faults
+-- of scripts (PDL::Ops).
 use Rattle.std.specs.Prelude.{ℤ, List, Result}
 use Rattle.pdl_elem.specs.declared.BinaryOp.{BinaryOp}
 use Rattle.pdl_buf.specs.declared.made.Made.{Made}

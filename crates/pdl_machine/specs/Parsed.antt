@@ -6,7 +6,8 @@ use Rattle.pdl_syntax.specs.StatementTree.{StatementTree}
 use Rattle.pdl_machine.specs.declared.fault.Fault.{Fault}
 use Rattle.pdl_machine.specs.declared.fault.Fault.TheVariants.{Syntax, TooDeep, NumberTooLarge, Ragged}
 
--- the fault of the first check that the tokens fail; no tokens mean want of memory, so that one is never named
+-- the fault of the first check that the tokens fail; no tokens mean want of memory, so
+-- that one is never named
 abbrev pub fault_of : ParseFault → Fault
 fault_of ParsedTooDeep = TooDeep
 fault_of ParsedTooLarge = NumberTooLarge

@@ -25,7 +25,8 @@ abbrev pub MeansAt : List ℕ → Result (List Token) LexFault → Result Statem
 MeansAt text (Err e) answer = answer ≡ Err Syntax
 MeansAt text (Ok tokens) answer = SpellsOrFails text (lexemes_of text tokens) answer
 
--- a text without tokens is a syntax error; else it is the statement that they spell, or why they spell none
+-- a text without tokens is a syntax error; else it is the statement that they spell,
+-- or why they spell none
 abbrev pub Means : (text : List ℕ) → Result StatementTree Fault → Type 0
 Means text answer = MeansAt text (toks text) answer
 
@@ -35,4 +36,5 @@ ReadsItsMeaning = (text : List ℕ) → Means text (reads text)
 
 -- and it means nothing else
 abbrev pub MeansOneThing : Type 0
-MeansOneThing = (text : List ℕ) (answer : Result StatementTree Fault) → Means text answer → reads text ≡ answer
+MeansOneThing = (text : List ℕ) (answer : Result StatementTree Fault) →
+    Means text answer → reads text ≡ answer

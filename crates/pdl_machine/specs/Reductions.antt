@@ -1,4 +1,5 @@
--- Reductions of an array and products of two (PDL::Ufunc, PDL::Primitive): `sumover` and the others along dimension 0, `sum`,
+-- Reductions of an array and products of two (PDL::Ufunc, PDL::Primitive): `sumover` and the
+-- others along dimension 0, `sum`,
 -- `prod`, `max`, `min`, `all`, `any`, `inner`, `outer`, `matmult`.
 use Rattle.std.specs.Prelude.{List, [], ◌∷◌, Result, Ok, Err}
 use Rattle.pdl_buf.specs.declared.made.Made.{Made}

@@ -23,7 +23,8 @@ reads_tokens text (Ok tokens) = as_read (parsed text tokens)
 abbrev pub reads : (text : List ℕ) → Result StatementTree Fault
 reads text = reads_tokens text (toks text)
 
--- How far a run has come: the state, all that was printed, whether a fault came, and whether one has ended it.
+-- How far a run has come: the state, all that was printed, whether a fault came, and
+-- whether one has ended it.
 pub record Progress : Type 0 where
   pub state : State
   pub printed : List ℕ
@@ -60,7 +61,8 @@ abbrev pub text_after : (line : ℕ) → Stepped → List ℕ
 text_after line (Ok (s, text)) = text
 text_after line (Err e) = fault_line line e
 
--- the progress after a statement of this line; a fault leaves the state as it was, and ends the run where it does that
+-- the progress after a statement of this line; a fault leaves the state as it was, and ends the
+-- run where it does that
 abbrev pub after : (ends : Bool) → Progress → (line : ℕ) → Stepped → Progress
 after ends p line (Ok (s, text)) = record p { state = s; printed = p.printed ++ text }
 after ends p line (Err e) =
@@ -84,7 +86,8 @@ run keep script = after_marks keep start (script_marks script)
 
 -- the statements that these bytes make certain, whatever follows them
 abbrev pub certain_marks : (bytes : List ℕ) → List Mark
-certain_marks bytes = if nat_lt script_limit (length bytes) then script_marks bytes else map statement (settled bytes)
+certain_marks bytes = if nat_lt script_limit (length bytes) then script_marks bytes
+    else map statement (settled bytes)
 
 -- how far a run has come by these bytes
 abbrev pub so_far : (keep : Bool) → (bytes : List ℕ) → Progress

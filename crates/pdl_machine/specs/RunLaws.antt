@@ -6,7 +6,8 @@ use Rattle.pdl_machine.specs.Run.{Progress, after_marks, start, run, so_far}
 
 -- a run that a fault has ended prints and changes nothing more
 abbrev pub EndedStays : Type 0
-EndedStays = (keep : Bool) (p : Progress) (ms : List Mark) → p.ended ≡ true → after_marks keep p ms ≡ p
+EndedStays = (keep : Bool) (p : Progress) (ms : List Mark) → p.ended ≡ true →
+    after_marks keep p ms ≡ p
 
 -- what was printed stays at the front of what is printed
 abbrev pub PrintedStays : Type 0
@@ -15,7 +16,8 @@ PrintedStays = (keep : Bool) (p : Progress) (ms : List Mark) →
 
 -- a fault that came is remembered, whatever runs after it
 abbrev pub FaultStays : Type 0
-FaultStays = (keep : Bool) (p : Progress) (ms : List Mark) → p.faulted ≡ true → (after_marks keep p ms).faulted ≡ true
+FaultStays = (keep : Bool) (p : Progress) (ms : List Mark) → p.faulted ≡ true →
+    (after_marks keep p ms).faulted ≡ true
 
 -- statements after others go on from what these come to
 abbrev pub GoesOn : Type 0
@@ -41,8 +43,8 @@ abbrev pub LimitEnds : Type 0
 LimitEnds = (keep : Bool) (script more : List ℕ) → script_limit < length script →
     run keep (script ++ more) ≡ run keep script
 
--- a run has come as far by the first bytes of a script as they make certain: from there it goes on over further
--- statements, whatever bytes follow
+-- a run has come as far by the first bytes of a script as they make certain: from there
+-- it goes on over further statements, whatever bytes follow
 abbrev pub SoFarIsAFront : Type 0
 SoFarIsAFront = (keep : Bool) (bytes more : List ℕ) →
     (ms : List Mark) × (run keep (bytes ++ more) ≡ after_marks keep (so_far keep bytes) ms)
@@ -57,7 +59,8 @@ abbrev pub SoFarGrows : Type 0
 SoFarGrows = (keep : Bool) (bytes more : List ℕ) →
     (ms : List Mark) × (so_far keep (bytes ++ more) ≡ after_marks keep (so_far keep bytes) ms)
 
--- where the bytes make all of their statements certain, as behind a semicolon, the run has come to its end by them
+-- where the bytes make all of their statements certain, as behind a semicolon, the run has
+-- come to its end by them
 abbrev pub SoFarIsAll : Type 0
 SoFarIsAll = (keep : Bool) (bytes : List ℕ) → settled bytes ≡ pieces bytes →
     so_far keep bytes ≡ run keep bytes

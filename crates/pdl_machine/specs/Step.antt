@@ -29,7 +29,8 @@ abbrev pub newline : List ℕ
 newline = 10 ∷ []
 
 abbrev pub bind_value : State → List ℕ → Arrays × ℕ → Stepped
-bind_value s x v = and_then (bind_name s.names x v.1) (λ names. Ok (record s { names = names; arrays = v.0 }, []))
+bind_value s x v = and_then (bind_name s.names x v.1) (λ names.
+    Ok (record s { names = names; arrays = v.0 }, []))
 
 -- a value bound to a name
 abbrev pub bound : State → List ℕ → Valued → Stepped
@@ -37,7 +38,8 @@ bound s x valued = and_then valued (bind_value s x)
 
 -- new arrays bound to names in order
 abbrev pub roots_bound : State → List (List ℕ) → List Made → Stepped
-roots_bound s (x ∷ xs) (m ∷ ms) = and_then (bound s x (new_root s.arrays m)) (λ after. roots_bound after.0 xs ms)
+roots_bound s (x ∷ xs) (m ∷ ms) = and_then (bound s x (new_root s.arrays m)) (λ after.
+    roots_bound after.0 xs ms)
 roots_bound s _ _ = Ok (s, [])
 
 -- the outputs of a call bound to as many names; a built-in call has one
@@ -65,7 +67,8 @@ target x views = fold (λ e v. call v.0 (behind e v.1)) (named x) views
 -- the arrays after an assignment of u to v: all values are found before one is written
 abbrev pub assigned : AssignOp → Arrays → ℕ → ℕ → Result Arrays Fault
 assigned sign a v u =
-    and_then (values_for sign (array_in a v) (array_in a u)) (λ values. Ok (record a { world = assign_in a.world v values }))
+    and_then (values_for sign (array_in a v) (array_in a u)) (λ values.
+    Ok (record a { world = assign_in a.world v values }))
 
 -- an assignment: its target, its right side, and then what is written
 abbrev pub assigning : State → Tree → AssignOp → Tree → Stepped
@@ -94,7 +97,8 @@ name_line a n = n.0 ++ codes " " ++ info_line (array_in a n.1)
 abbrev pub kernel_named : State → List ℕ → Kernel → Stepped
 kernel_named s f k = and_then (define s.names f k) (λ names. Ok (record s { names = names }, []))
 
--- what a statement does before the arrays that nothing reaches are let go; a form that isn't built is a syntax error
+-- what a statement does before the arrays that nothing reaches are let go; a form that isn't
+-- built is a syntax error
 abbrev pub effect : State → StatementTree → Stepped
 effect s (bind x e false) = bound s x (value_in s e)
 effect s (bind_list xs (call f args)) = and_then (taken s.names s.arrays args) (list_bound s xs f)
@@ -108,6 +112,7 @@ effect s _ = Err Syntax
 abbrev pub tidied : Stepped → Stepped
 tidied stepped = and_then stepped (λ after. Ok (tidy after.0, after.1))
 
--- one step: the state after the statement and what it prints, or the fault that leaves the state as it was
+-- one step: the state after the statement and what it prints, or the fault that
+-- leaves the state as it was
 abbrev pub step : State → StatementTree → Stepped
 step s statement = tidied (effect s statement)

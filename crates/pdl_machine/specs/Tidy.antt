@@ -30,7 +30,11 @@ with_numbers f names = record names { arrays = renumbered f names.arrays }
 
 -- a state whose arrays are these, numbered anew
 abbrev pub numbered : State → World → State
-numbered s w = record s { names = with_numbers (older w) s.names; arrays = record { world = renumber w; next = length w } }
+numbered s w = record s {
+  names = with_numbers (older w) s.names;
+  arrays =
+      record { world = renumber w; next = length w };
+}
 
 -- the state without the arrays that it doesn't reach, numbered anew
 abbrev pub tidy : State → State

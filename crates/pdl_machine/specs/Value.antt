@@ -44,9 +44,12 @@ abbrev mutual
   pub taken : Names → Arrays → Args → Taken
   taken names a none = Ok (a, [])
   taken names a (value front e) =
-      and_then (taken names a front) (λ t. and_then (value_of names t.0 e) (λ v. Ok (v.0, t.1 ++ array v.1 ∷ [])))
-  taken names a (text front t) = and_then (taken names a front) (λ g. Ok (g.0, g.1 ++ string t ∷ []))
-  taken names a (of_type front ty) = and_then (taken names a front) (λ g. Ok (g.0, g.1 ++ type_word ty ∷ []))
+      and_then (taken names a front) (λ t. and_then (value_of names t.0 e) (λ v.
+      Ok (v.0, t.1 ++ array v.1 ∷ [])))
+  taken names a (text front t) = and_then (taken names a front) (λ g.
+      Ok (g.0, g.1 ++ string t ∷ []))
+  taken names a (of_type front ty) = and_then (taken names a front) (λ g.
+      Ok (g.0, g.1 ++ type_word ty ∷ []))
 
 -- the value of an expression in a state
 abbrev pub value_in : State → Tree → Valued

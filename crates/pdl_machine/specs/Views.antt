@@ -1,5 +1,5 @@
--- The view words (PDL::Slices, PDL::Primitive): the transformation that each gives for what it sees of its arguments.
--- What an array among these holds is fixed when the view is made.
+-- The view words (PDL::Slices, PDL::Primitive): the transformation that each gives for what it
+-- sees of its arguments. What an array among these holds is fixed when the view is made.
 use Rattle.std.specs.Prelude.{ℕ, ℤ, pos, negsuc, List, [], ◌∷◌, slice_get, Option, Some, None, option_and_then, Result, Ok, Err}
 use Rattle.pdl_buf.specs.declared.made.Made.{Made}
 use Rattle.pdl_slices.specs.declared.SliceFault.{SliceFault}
@@ -25,14 +25,16 @@ slice_fault fault = BadSlice
 
 -- a view by a text, where it is a slice's
 abbrev pub slice_by : List ℕ → Result Outcome Fault
-slice_by text = and_then (or_named slice_fault (slice_of text)) (λ args. Ok (viewed (trans.Affine (affine.Slice args))))
+slice_by text = and_then (or_named slice_fault (slice_of text)) (λ args.
+    Ok (viewed (trans.Affine (affine.Slice args))))
 
 -- `slice`: a view of an array by a text
 abbrev pub slice_outcome : List Seen → Result Outcome Fault
 slice_outcome (array m ∷ string text ∷ []) = slice_by text
 slice_outcome _ = Err WrongArguments
 
--- the arrangement of an array's dimensions that a word names with these numbers, if they are as many as it takes
+-- the arrangement of an array's dimensions that a word names with these numbers, if they
+-- are as many as it takes
 abbrev pub arranged : Arrangement → List ℤ → Option Affine
 arranged Xchg (a ∷ b ∷ []) = Some (affine.Xchg a b)
 arranged Mv (a ∷ b ∷ []) = Some (affine.Mv a b)
@@ -48,7 +50,8 @@ arranged _ _ = None
 -- a view word that takes an array and numbers
 abbrev pub arrangement_outcome : Arrangement → List Seen → Result Outcome Fault
 arrangement_outcome word (array m ∷ given) =
-    and_then (numbers_in given) (λ ns. and_then (or_fault WrongArguments (arranged word ns)) (λ t. Ok (viewed (trans.Affine t))))
+    and_then (numbers_in given) (λ ns. and_then (or_fault WrongArguments (arranged word ns)) (λ t.
+    Ok (viewed (trans.Affine t))))
 arrangement_outcome word _ = Err WrongArguments
 
 -- `index`: an array looked up by another one's values
@@ -66,12 +69,14 @@ abbrev pub edge_of : ℤ → Option Edge
 edge_of (pos n) = slice_get (Refuse ∷ Zero ∷ Nearest ∷ Periodic ∷ []) n
 edge_of (negsuc n) = None
 
--- windows at an index's corners: their sizes, else one 0, and the number of what stands beyond the edges, else 0
+-- windows at an index's corners: their sizes, else one 0, and the number of what stands
+-- beyond the edges, else 0
 abbrev pub range_by : (ind : Made) → List Seen → Result Outcome Fault
 range_by ind [] = Ok (viewed (trans.Range ind.dims ind.elems (pos 0 ∷ []) Refuse))
 range_by ind (array sizes ∷ []) = Ok (viewed (trans.Range ind.dims ind.elems sizes.elems Refuse))
 range_by ind (array sizes ∷ array edge ∷ []) =
-    and_then (or_fault WrongArguments (option_and_then edge_of (only edge.elems))) (λ e. Ok (viewed (trans.Range ind.dims ind.elems sizes.elems e)))
+    and_then (or_fault WrongArguments (option_and_then edge_of (only edge.elems))) (λ e.
+    Ok (viewed (trans.Range ind.dims ind.elems sizes.elems e)))
 range_by ind _ = Err WrongArguments
 
 -- `range`: windows of an array at the corners that an index lists

@@ -30,11 +30,13 @@ sliced x t = call (codes "slice") (text (value none (named x)) t)
 -- $x = sequence(5); $y = $x->slice("1:3"); $y .= 9; and $x is [0 9 9 9 4]
 abbrev pub ASliceIsWrittenThrough : Type 0
 ASliceIsWrittenThrough =
-    shown_after (bind (codes "x") (sequence_to 5) false ∷ bind (codes "y") (sliced (codes "x") (codes "1:3")) false
+    shown_after (bind (codes "x") (sequence_to 5) false
+    ∷ bind (codes "y") (sliced (codes "x") (codes "1:3")) false
     ∷ assign (codes "y") [] Set (number (pos 9)) ∷ []) (codes "x")
     ≡ Ok (Some (record { ty = Long; dims = 5 ∷ []; elems = pos 0 ∷ pos 9 ∷ pos 9 ∷ pos 9 ∷ pos 4 ∷ [] }))
 
 -- $x = sequence(4); $y = $x->slice("2:4"); is out of range
 abbrev pub ASliceEndsWithin : Type 0
 ASliceEndsWithin =
-    after_all no_names (bind (codes "x") (sequence_to 4) false ∷ bind (codes "y") (sliced (codes "x") (codes "2:4")) false ∷ []) ≡ Err OutOfRange
+    after_all no_names (bind (codes "x") (sequence_to 4) false
+    ∷ bind (codes "y") (sliced (codes "x") (codes "2:4")) false ∷ []) ≡ Err OutOfRange

@@ -12,8 +12,8 @@ pub fn numbering_laws()
 {}
 
 /// The laws of the arrays that a step keeps: each of them is reached from a name, directly or
-/// through views, and letting the others go changes nothing that a name shows. The call does nothing
-/// when it runs.
+/// through views, and letting the others go changes nothing that a name
+/// shows. The call does nothing when it runs.
 pub fn reaching_laws()
     ensures reached { StepsLeaveReached }
     ensures shown { TidyingShowsTheSame }

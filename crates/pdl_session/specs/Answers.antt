@@ -44,6 +44,8 @@ pub record IsKept (old new : State) (old_out new_out : List ℕ) : Type 0 where
   pub printed : new_out ≡ old_out
 
 -- a statement did what is wanted, or its fault kept all as it was
-abbrev pub Runs : {T : Type 0} → Stepped → State → State → List ℕ → List ℕ → Result T StepFault → Type 0
+abbrev pub Runs : {T : Type 0} → Stepped → State → State → List ℕ → List ℕ →
+    Result T StepFault → Type 0
 Runs wanted old new old_out new_out (Ok x) = Prints wanted new old_out new_out
-Runs wanted old new old_out new_out (Err e) = IsFault wanted e × IfScript e (IsKept old new old_out new_out)
+Runs wanted old new old_out new_out (Err e) = IsFault wanted e ×
+    IfScript e (IsKept old new old_out new_out)

@@ -42,8 +42,8 @@ pub record Grows (old new : State) : Type 0 where
   pub arrays : AreGrown old.arrays new.arrays
   pub still : (v : ℕ) → IsLive old.arrays.world v → IsLive new.arrays.world v
 
--- What is seen of a session: the machine's state, and how many calls of `step` there were. The count
--- stands still at 2^64 - 1.
+-- What is seen of a session: the machine's state, and how many calls of
+-- `step` there were. The count stands still at 2^64 - 1.
 pub record Session : Type 0 where
   pub state : State
   pub done : ℕ

@@ -24,8 +24,8 @@ use pdl_sig::{ArgShape, SigArg, Signature, is_output, resolve};
 use std::alloc::{AllocError, Global};
 use std::sync::ledger::Ledger;
 
-/// What the call of a kernel gives, of which so many outputs are wanted. Its arguments are made ready
-/// to be lent.
+/// What the call of a kernel gives, of which so many outputs are wanted. Its
+/// arguments are made ready to be lent.
 pub(crate) fn kernel_outputs<L: Ledger>(
     alloc: Global,
     kernel: &Kernel,

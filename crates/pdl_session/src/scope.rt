@@ -33,7 +33,8 @@ use std::alloc::Global;
 use std::marker::Model;
 use std::sync::ledger::Ledger;
 
-/// Names, kernels, and an engine that keeps every array so far. It is seen as a state of the eager machine.
+/// Names, kernels, and an engine that keeps every array so far. It is seen as a
+/// state of the eager machine.
 #[derive(Drop)]
 pub struct Scope {
     pub(crate) alloc: Global,

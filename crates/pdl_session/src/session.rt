@@ -16,8 +16,8 @@ use std::marker::Model;
 use std::sync::ledger::Ledger;
 
 /// The names and arrays of a script, between two statements. It is seen as the state of the eager
-/// machine, which is the names with the arrays that they reach, numbered anew; and as how many calls
-/// of `step` there were.
+/// machine, which is the names with the arrays that they reach, numbered
+/// anew; and as how many calls of `step` there were.
 #[derive(Drop)]
 pub struct Session {
     scope: Scope,
@@ -48,9 +48,10 @@ impl Session {
         }
     }
 
-    /// Runs one statement, and adds the text that it prints to `out`. `Script` names the fault of the
-    /// statement, and leaves the state and `out` as they were. After `NoMemory` the session may only
-    /// be dropped. Each call is counted, a refused one too. `steps` counts the elements that are moved.
+    /// Runs one statement, and adds the text that it prints to `out`. `Script`
+    /// names the fault of the statement, and leaves the state and `out` as they were. After
+    /// `NoMemory` the session may only be dropped. Each call is counted, a refused one too.
+    /// `steps` counts the elements that are moved.
     pub fn step<L: Ledger>(
         &mut self,
         statement: &Statement,

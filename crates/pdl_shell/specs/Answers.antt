@@ -29,7 +29,8 @@ pub record Ending : Type 0 where
   pub text : List ℕ
 
 abbrev pub ending_of_run : Progress → Ending
-ending_of_run run = record { status = if run.faulted then ScriptFault else Done; text = run.printed }
+ending_of_run run = record
+    { status = if run.faulted then ScriptFault else Done; text = run.printed }
 
 -- what a call comes to with what its words ask for, and with the script that the source has
 abbrev pub ending : Option Command → (script : List ℕ) → Ending
@@ -37,8 +38,9 @@ ending None script = record { status = Usage; text = usage_line }
 ending (Some (Run keep)) script = ending_of_run (run keep script)
 ending (Some (Generate keep rounds)) script = record { status = Done; text = summary keep rounds }
 
--- what was written, from what the sink had taken before the call and has now: at the end the ending's
--- whole text, and the status is the ending's; where the call stopped short, a prefix of that text
+-- what was written, from what the sink had taken before the call and has now:
+-- at the end the ending's whole text, and the status is the ending's; where the call stopped
+-- short, a prefix of that text
 abbrev pub Gives : Status → Ending → Option (List ℕ) → Option (List ℕ) → Type 0
 Gives Done ending old new = (Done ≡ ending.status) × Appends old new ending.text
 Gives ScriptFault ending old new = (ScriptFault ≡ ending.status) × Appends old new ending.text

@@ -21,11 +21,13 @@ value_of digits = fold (λ value digit. value * 10 + (digit - 48)) 0 digits
 
 abbrev pub is_number_of_rounds : (word : List ℕ) → Bool
 is_number_of_rounds word =
-    nat_lt 0 (length word) && nat_le (length word) 4 && list_all is_ascii_digit word && nat_le (value_of word) 2000
+    nat_lt 0 (length word) && nat_le (length word) 4 && list_all is_ascii_digit word
+    && nat_le (value_of word) 2000
 
 -- a number of rounds: one to four decimal digits, at most 2000
 abbrev pub generating : (keep_going : Bool) → (word : List ℕ) → Option Command
-generating keep word = if is_number_of_rounds word then Some (Generate keep (value_of word)) else None
+generating keep word = if is_number_of_rounds word then Some (Generate keep (value_of word))
+    else None
 
 -- both in one word
 abbrev pub generating_joined : (keep_going : Bool) → (word : List ℕ) → Option Command

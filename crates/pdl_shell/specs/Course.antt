@@ -25,32 +25,38 @@ pub record IsFresh (runner : Runner) : Type 0 where
   pub whole : (bytes : List ℕ) → outcome end_of_input runner [] bytes
       ≡ after_marks runner.keep_going start (map statement (pieces bytes))
   pub limited : (bytes : List ℕ) → outcome past_limit runner [] bytes
-      ≡ after_marks runner.keep_going start (map statement (settled bytes) ++ script_too_long (1 + newlines bytes) ∷ [])
+      ≡ after_marks runner.keep_going start (map statement (settled bytes)
+      ++ script_too_long (1 + newlines bytes) ∷ [])
   pub certain : (bytes : List ℕ) → outcome unknown runner [] bytes
       ≡ after_marks runner.keep_going start (map statement (settled bytes))
   pub none_left : settled_from runner.cutter [] ≡ []
 
--- Over these bytes the runner came to a new one, and of the bytes this rest is still to come. Whatever
--- was printed before and whatever follows, the run comes to the same, and the sink took what was printed.
+-- Over these bytes the runner came to a new one, and of the bytes this rest is
+-- still to come. Whatever was printed before and whatever follows, the run comes to the same, and
+-- the sink took what was printed.
 abbrev pub Carries : (bytes : List ℕ) (old : Runner) (taken : Option (List ℕ))
     (rest : List ℕ) (new : Runner) (now : Option (List ℕ)) → Type 0
 Carries bytes old taken rest new now =
     (before : Option (List ℕ)) (printed : List ℕ) → Appends before taken printed →
     (printed_now : List ℕ) × Appends before now printed_now
-    × ((follows : Behind) (more : List ℕ) → outcome follows old printed (bytes ++ more) ≡ outcome follows new printed_now (rest ++ more))
+    × ((follows : Behind) (more : List ℕ) → outcome follows old printed (bytes ++ more)
+    ≡ outcome follows new printed_now (rest ++ more))
 
--- The run stopped short over these bytes: whatever follows, the sink took a prefix of what it prints.
+-- The run stopped short over these bytes: whatever follows, the sink took a
+-- prefix of what it prints.
 abbrev pub StopsShort : (bytes : List ℕ) (old : Runner) (taken now : Option (List ℕ)) → Type 0
 StopsShort bytes old taken now =
     (before : Option (List ℕ)) (printed : List ℕ) → Appends before taken printed →
-    (follows : Behind) (more : List ℕ) → AppendsPrefix before now (outcome follows old printed (bytes ++ more)).printed
+    (follows : Behind) (more : List ℕ) →
+    AppendsPrefix before now (outcome follows old printed (bytes ++ more)).printed
 
 -- The run came to its end, with no bytes left of the script, or none up to its limit.
 abbrev pub Finishes : (is_cut : Bool) (old : Runner) (taken : Option (List ℕ))
     (faulted : Bool) (now : Option (List ℕ)) → Type 0
 Finishes is_cut old taken faulted now =
     (before : Option (List ℕ)) (printed : List ℕ) → Appends before taken printed →
-    let last = outcome (behind is_cut) old printed [] in Appends before now last.printed × (faulted ≡ last.faulted)
+    let last = outcome (behind is_cut) old printed [] in
+    Appends before now last.printed × (faulted ≡ last.faulted)
 
 -- The run stopped short at its end.
 abbrev pub FinishesShort : (is_cut : Bool) (old : Runner) (taken now : Option (List ℕ)) → Type 0
@@ -58,8 +64,8 @@ FinishesShort is_cut old taken now =
     (before : Option (List ℕ)) (printed : List ℕ) → Appends before taken printed →
     AppendsPrefix before now (outcome (behind is_cut) old printed []).printed
 
--- From a fresh runner the run came to this one by so many bytes of the source. The one past the limit of a script was
--- taken, but not run over.
+-- From a fresh runner the run came to this one by so many bytes of the source. The one past the
+-- limit of a script was taken, but not run over.
 pub record Comes (first : Runner) (left taken : Option (List ℕ)) (count : ℕ)
     (now : Runner) (left_now taken_now : Option (List ℕ)) : Type 0 where
   pub bytes : List ℕ

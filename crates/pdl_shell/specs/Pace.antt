@@ -5,8 +5,8 @@ use Rattle.pdl_lex.specs.Pieces.{State, Mark, statement, script_too_long, to_com
 use Rattle.pdl_machine.specs.State.{State as MachineState}
 use Rattle.pdl_machine.specs.Run.{text_after, line_of, mark_step}
 
--- what stands behind the bytes that are left of a script, as far as they are at hand: the end of input, a byte past
--- the limit of a script, or what isn't known yet
+-- what stands behind the bytes that are left of a script, as far as they are at hand: the
+-- end of input, a byte past the limit of a script, or what isn't known yet
 pub data Behind : Type 0 where
   end_of_input : Behind
   past_limit : Behind

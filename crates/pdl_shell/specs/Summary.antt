@@ -11,7 +11,8 @@ summary_line statements printed =
     codes "statements " ++ decimal statements ++ codes " bytes " ++ decimal (length printed)
     ++ codes " sum " ++ decimal (sum printed) ++ newline
 
--- the line for the generated script of so many rounds, of which the run goes on after faults or doesn't
+-- the line for the generated script of so many rounds, of which the run goes on
+-- after faults or doesn't
 abbrev pub summary : (keep_going : Bool) → (rounds : ℕ) → List ℕ
 summary keep rounds =
     let script = generated_script rounds in

@@ -1,5 +1,5 @@
-//! Runs a script: the words of the command line, the reading of the source, the statements in order, and
-//! the status at the end.
+//! Runs a script: the words of the command line, the reading of the source, the
+//! statements in order, and the status at the end.
 #![tactic(auto)]
 
 mod generated;

@@ -22,9 +22,9 @@ const SCRIPT_LIMIT: usize = 16_777_216;
 // The most bytes that are asked for at once.
 const PART: usize = 4096;
 
-// Takes the source's bytes in parts, and runs each statement when its last byte is there: to the end of the
-// source, or until a fault ends the run, or up to and with the byte past the limit of a script. Answers whether
-// that one came.
+// Takes the source's bytes in parts, and runs each statement when its last byte is
+// there: to the end of the source, or until a fault ends the run, or up to and with the byte past
+// the limit of a script. Answers whether that one came.
 pub(crate) fn read_parts<S: Source, K: Sink, L: Ledger>(
     runner: &mut Runner,
     source: &mut S,

@@ -27,7 +27,8 @@ use std::sync::ledger::{Blank, Ledger};
 // What is written where the words are no spelling of the command.
 const USAGE_LINE: &[u8] = b"usage: pdl [--keep-going] [--generate N]\n";
 
-// Runs the script that the source gives: each statement as soon as it is whole, and at the end what is left.
+// Runs the script that the source gives: each statement as soon as it is whole, and
+// at the end what is left.
 fn run_parts<S: Source, K: Sink, L: Ledger>(
     alloc: Global,
     keep_going: bool,
@@ -108,30 +109,33 @@ fn usage<K: Sink>(sink: &mut K) -> Status
     }
 }
 
-/// Runs the script that the source gives, or the generated one, and writes what it prints to the sink.
+/// Runs the script that the source gives, or the generated one, and writes what
+/// it prints to the sink.
 ///
 /// `words` are the words of the command line without the program's name: none, `--keep-going`,
-/// `--generate N` or `--generate=N`, or both, in either order. N is one to four decimal digits, at most
-/// 2000. Where they are no spelling of the command, the usage line is written. With `--generate` the
-/// generated script of N rounds is run, on after faults with `--keep-going`, what it prints is counted,
-/// and one line is written: how many statements it has, how many bytes they print, and what these sum
-/// to. In both cases the source isn't touched.
+/// `--generate N` or `--generate=N`, or both, in either order. N is one to four
+/// decimal digits, at most
+/// 2000. Where they are no spelling of the command, the usage line is
+/// written. With `--generate` the generated script of N rounds is run, on after faults with
+/// `--keep-going`, what it prints is counted, and one line is written: how many statements it has,
+/// how many bytes they print, and what these sum to. In both cases the source isn't touched.
 ///
-/// Else the script is read in parts of at most 4,096 bytes, and its statements are run in order, each as soon as its
-/// last byte is there. After each of them its text is written, or the line of its fault. The first fault ends the
-/// run, unless it is to keep going, and no more is read then; that the script is too long always ends it. At the
-/// end the sink is flushed.
+/// Else the script is read in parts of at most 4,096 bytes, and its statements are run in
+/// order, each as soon as its last byte is there. After each of them its text is written, or the
+/// line of its fault. The first fault ends the run, unless it is to keep going, and no more is
+/// read then; that the script is too long always ends it. At the end the sink is flushed.
 ///
-/// After a fault of the source or the sink, or where memory is wanting, the call ends at once. It takes
-/// no memory where the words are no spelling.
+/// After a fault of the source or the sink, or where memory is wanting, the call
+/// ends at once. It takes no memory where the words are no spelling.
 pub fn run_shell<S: Source, K: Sink>(
     alloc: Global,
     words: &[String],
     source: &mut S,
     sink: &mut K,
 ) -> Status
-    // What is written and the status are those of the ending that the words ask for; where the call stops
-    // short, a prefix is written. The script is the source's, where the source is read.
+    // What is written and the status are those of the ending that the words ask
+    // for; where the call stops short, a prefix is written. The script is the source's,
+    // where the source is read.
     ensures model { (script : List ℕ) →
         (reads_source (command_of (map string_bytes words.now)) ≡ true →
         S.left source.old ≡ Some script) →
@@ -139,8 +143,8 @@ pub fn run_shell<S: Source, K: Sink>(
         (K.taken sink.old) (K.taken sink.new) }
     ensures answers { CanAnswer (command_of (map string_bytes words.now)) result }
 
-    // How far the source is read: not at all, or to its end or as far as the run goes, and what is written of the
-    // statements that were whole by then where the source fails.
+    // How far the source is read: not at all, or to its end or as far as the run goes, and
+    // what is written of the statements that were whole by then where the source fails.
     ensures unread { reads_source (command_of (map string_bytes words.now)) ≡ false →
         source.new ≡ source.old }
     ensures reads { (keep : Bool) →

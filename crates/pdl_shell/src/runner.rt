@@ -105,8 +105,8 @@ impl Runner {
         write_text(sink, &self.text)
     }
 
-    // Feeds bytes to the cutter once, runs the piece that they complete, if any, and answers how many
-    // bytes were taken.
+    // Feeds bytes to the cutter once, runs the piece that they complete, if
+    // any, and answers how many bytes were taken.
     fn round<K: Sink, L: Ledger>(
         &mut self,
         bytes: &[u8],
@@ -139,8 +139,8 @@ impl Runner {
         }
     }
 
-    // Takes bytes of the script, and runs each statement that they complete, until a fault ends the run. No
-    // statement that is whole is left then.
+    // Takes bytes of the script, and runs each statement that they complete, until a
+    // fault ends the run. No statement that is whole is left then.
     pub(crate) fn take<K: Sink, L: Ledger>(
         &mut self,
         bytes: &[u8],
@@ -169,8 +169,8 @@ impl Runner {
         Ok(())
     }
 
-    // What is left to run where no bytes are: the last statement, or where the script goes on past its
-    // limit, that it is too long. An unfinished statement isn't run then.
+    // What is left to run where no bytes are: the last statement, or where the
+    // script goes on past its limit, that it is too long. An unfinished statement isn't run then.
     fn last(&mut self, is_cut: bool) -> Option<Mark>
         requires { self.old.cutter.failed ≡ false }
         ensures mark { map mark_of (option_to_list result)

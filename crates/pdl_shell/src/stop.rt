@@ -40,7 +40,8 @@ pub(crate) fn status_after(ran: Result<bool, Stop>) -> Status
     }
 }
 
-// Why a statement wasn't run: by a fault of its own, or for want of memory, which stops the run short.
+// Why a statement wasn't run: by a fault of its own, or for want of memory,
+// which stops the run short.
 #[derive(Clone, Copy, PartialEq, Eq, Debug)]
 pub(crate) enum Unrun {
     Faulted(Fault),

@@ -35,8 +35,8 @@ fn statement_count(rounds: u16) -> u64
     }
 }
 
-// Runs the generated script of so many rounds, and counts what it prints. A text that is too long to be
-// counted is answered as want of memory.
+// Runs the generated script of so many rounds, and counts what it prints. A text
+// that is too long to be counted is answered as want of memory.
 fn count_printed(alloc: Global, keep_going: bool, rounds: u16) -> Result<CountSink, AllocError>
     ensures { let ran = run keep_going (generated_script rounds) in
         IfOk result (λ counted. counted.bytes ≡ ran.printed) }

@@ -8,8 +8,8 @@ ghost use Rattle.pdl_shell.specs.Command.{is_keep_going, is_generate, value_of, 
 pub(crate) enum Command {
     // To run the source's script, which goes on after faults or doesn't.
     Run { keep_going: bool },
-    // To run the generated script of so many rounds, which goes on after faults or doesn't, and write its
-    // summary.
+    // To run the generated script of so many rounds, which goes on after faults or
+    // doesn't, and write its summary.
     Generate { keep_going: bool, rounds: u16 },
 }
 

@@ -44,7 +44,8 @@ many (suc (suc (suc (suc zero)))) = false
 many (suc (suc (suc (suc (suc zero))))) = false
 many (suc (suc (suc (suc (suc (suc n)))))) = true
 
--- the tree of a list literal; a ragged one, which is refused later, has a dimension that is too long for its numbers
+-- the tree of a list literal; a ragged one, which is refused later, has a dimension that is
+-- too long for its numbers
 abbrev pub literal_of : Option (List ℕ) → List ℤ → Tree
 literal_of shape elems = literal (type_of elems) (unwrap_or shape (suc (length elems) ∷ [])) elems
 
@@ -66,15 +67,21 @@ pub data Spells (source : List ℕ) : Part → List Lexeme → List Lexeme → T
   same : {l : ℕ} {t : Tree} {ts rest : List Lexeme}
       → Spells source (an_expr l t) ts rest → Spells source (an_expr (suc l) t) ts rest
   joined : {l : ℕ} {a b : Tree} {op : BinaryOp} {ts us rest : List Lexeme}
-      → Spells source (an_expr (suc l) a) ts (Operator op ∷ us) → level_of op ≡ suc l → many (suc l) ≡ true
-      → Spells source (an_expr l b) us rest → Spells source (an_expr (suc l) (binary op a b)) ts rest
+      → Spells source (an_expr (suc l) a) ts (Operator op ∷ us) →
+      level_of op ≡ suc l → many (suc l) ≡ true
+      → Spells source (an_expr l b) us rest →
+      Spells source (an_expr (suc l) (binary op a b)) ts rest
   once : {l : ℕ} {a b : Tree} {op : BinaryOp} {ts us rest : List Lexeme}
-      → Spells source (an_expr l a) ts (Operator op ∷ us) → level_of op ≡ suc l → many (suc l) ≡ false
-      → Spells source (an_expr l b) us rest → Spells source (an_expr (suc l) (binary op a b)) ts rest
+      → Spells source (an_expr l a) ts (Operator op ∷ us) → level_of op ≡ suc l →
+      many (suc l) ≡ false
+      → Spells source (an_expr l b) us rest →
+      Spells source (an_expr (suc l) (binary op a b)) ts rest
   negated : {t : Tree} {ts rest : List Lexeme}
-      → Spells source (an_expr zero t) ts rest → Spells source (an_expr zero (unary Neg t)) (Operator Sub ∷ ts) rest
+      → Spells source (an_expr zero t) ts rest →
+      Spells source (an_expr zero (unary Neg t)) (Operator Sub ∷ ts) rest
   prefixed : {op : UnaryOp} {t : Tree} {ts rest : List Lexeme}
-      → Spells source (an_expr zero t) ts rest → Spells source (an_expr zero (unary op t)) (Prefix op ∷ ts) rest
+      → Spells source (an_expr zero t) ts rest →
+      Spells source (an_expr zero (unary op t)) (Prefix op ∷ ts) rest
   plain : {t : Tree} {ts rest : List Lexeme}
       → Spells source (a_postfix t) ts rest → Spells source (an_expr zero t) ts rest
   bare : {t : Tree} {ts rest : List Lexeme}
@@ -85,8 +92,10 @@ pub data Spells (source : List ℕ) : Part → List Lexeme → List Lexeme → T
       → Spells source (a_postfix (call (bytes_at source w) args)) ts rest
   a_number : {n : ℕ} {z : ℤ} {rest : List Lexeme} → signed n ≡ Some z
       → Spells source (a_primary (number z)) (Number n ∷ rest) rest
-  a_name : {w : Span} {rest : List Lexeme} → Spells source (a_primary (named (bytes_at source w))) (Name w ∷ rest) rest
-  list : {shape : Option (List ℕ)} {elems : List ℤ} {ts rest : List Lexeme} → SpellsList (a_list shape [] elems) ts rest
+  a_name : {w : Span} {rest : List Lexeme} →
+      Spells source (a_primary (named (bytes_at source w))) (Name w ∷ rest) rest
+  list : {shape : Option (List ℕ)} {elems : List ℤ} {ts rest : List Lexeme} →
+      SpellsList (a_list shape [] elems) ts rest
       → Spells source (a_primary (literal_of shape elems)) (Keyword Pdl ∷ ts) rest
   round_list : {shape : Option (List ℕ)} {elems : List ℤ} {ts rest : List Lexeme}
       → SpellsList (a_list shape [] elems) ts (Close ∷ rest)
@@ -105,11 +114,15 @@ pub data Spells (source : List ℕ) : Part → List Lexeme → List Lexeme → T
   one : {front args : Args} {ts rest : List Lexeme}
       → Spells source (an_arg front args) ts rest → Spells source (some_args front args) ts rest
   more : {front args args' : Args} {ts us rest : List Lexeme}
-      → Spells source (some_args front args) ts (Comma ∷ us) → Spells source (an_arg args args') us rest
+      → Spells source (some_args front args) ts (Comma ∷ us) →
+      Spells source (an_arg args args') us rest
       → Spells source (some_args front args') ts rest
-  no_args : {front : Args} {rest : List Lexeme} → Spells source (closed_args front front) (Close ∷ rest) rest
+  no_args : {front : Args} {rest : List Lexeme} →
+      Spells source (closed_args front front) (Close ∷ rest) rest
   all_args : {front args : Args} {ts rest : List Lexeme}
-      → Spells source (some_args front args) ts (Close ∷ rest) → Spells source (closed_args front args) ts rest
+      → Spells source (some_args front args) ts (Close ∷ rest) →
+      Spells source (closed_args front args) ts rest
   without : {front : Args} {rest : List Lexeme} → Spells source (maybe_args front front) rest rest
   within : {front args : Args} {ts rest : List Lexeme}
-      → Spells source (closed_args front args) ts rest → Spells source (maybe_args front args) (Open ∷ ts) rest
+      → Spells source (closed_args front args) ts rest →
+      Spells source (maybe_args front args) (Open ∷ ts) rest

@@ -15,12 +15,14 @@ use Rattle.pdl_syntax.specs.WellMade.{IsWellMade}
 -- a statement is read exactly where the grammar spells it
 abbrev pub StatementsAreRead : Type 0
 StatementsAreRead =
-    (source : List ℕ) (lexemes : List Lexeme) (s : StatementTree) → (read_statement source lexemes ≡ Some s) ↔ SpellsStatement source s lexemes
+    (source : List ℕ) (lexemes : List Lexeme) (s : StatementTree) →
+    (read_statement source lexemes ≡ Some s) ↔ SpellsStatement source s lexemes
 
 -- lexemes are spelled by at most one statement
 abbrev pub OneStatement : Type 0
 OneStatement =
-    (source : List ℕ) (lexemes : List Lexeme) (a b : StatementTree) → SpellsStatement source a lexemes → SpellsStatement source b lexemes → a ≡ b
+    (source : List ℕ) (lexemes : List Lexeme) (a b : StatementTree) →
+    SpellsStatement source a lexemes → SpellsStatement source b lexemes → a ≡ b
 
 -- the answer for a text's tokens is exactly what they mean
 abbrev pub TokensAreParsed : Type 0
@@ -28,7 +30,8 @@ TokensAreParsed =
     (text : List ℕ) (tokens : List Token) (answer : Result StatementTree ParseFault)
     → (parsed text tokens ≡ answer) ↔ Means text (lexemes_of text tokens) answer
 
--- the list literals of a spelled statement without ragged ones are arrays, and its numbers are from 0 up
+-- the list literals of a spelled statement without ragged ones are arrays, and
+-- its numbers are from 0 up
 abbrev pub LiteralsAreArrays : Type 0
 LiteralsAreArrays =
     (source : List ℕ) (lexemes : List Lexeme) (s : StatementTree)

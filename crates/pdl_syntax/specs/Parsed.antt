@@ -1,4 +1,5 @@
--- The meaning of a text's tokens as a function. The law `parsing_is_the_grammar` says that it is the grammar with its checks.
+-- The meaning of a text's tokens as a function. The law `parsing_is_the_grammar` says that it is
+-- the grammar with its checks.
 use Rattle.std.specs.Prelude.{◌≡◌, ℕ, List, if◌then◌else◌, Option, Some, None, Result, Ok, Err}
 use Rattle.pdl_lex.specs.declared.Token.{Token}
 use Rattle.pdl_lexemes.specs.declared.Lexeme.{Lexeme}

@@ -12,7 +12,8 @@ use Rattle.pdl_syntax.specs.Reading.{Kind, reader}
 use Rattle.pdl_syntax.specs.Tree.{Tree, Args, none}
 use Rattle.pdl_syntax.specs.TreeOf.{tree_of, args_of}
 
--- how a reader reads a part, from its text and from how a whole expression and an operand are read inside
+-- how a reader reads a part, from its text and from how a whole expression and an
+-- operand are read inside
 abbrev pub reads : {A : Type 0} → (List ℕ → (Kind → List Lexeme → Read Tree) → A) → Reader → A
 reads part r = part r.source.now (reader r.source.now r.fuel)
 

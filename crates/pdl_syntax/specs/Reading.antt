@@ -31,10 +31,12 @@ abbrev pub tree_of_list : ListPart → Tree
 tree_of_list p = literal_of p.shape p.elems
 
 abbrev pub round_list_at : List Lexeme → Read Tree
-round_list_at ts = option_and_then (λ p. option_map (λ us. (tree_of_list p, us)) (after Close p.rest)) (list_read ts)
+round_list_at ts = option_and_then (λ p. option_map (λ us.
+    (tree_of_list p, us)) (after Close p.rest)) (list_read ts)
 
 abbrev pub literal_at : List Lexeme → Read Tree
-literal_at ts = choose (option_map (λ p. (tree_of_list p, p.rest)) (list_read ts)) round_list_at (after Open ts)
+literal_at ts = choose (option_map (λ p. (tree_of_list p, p.rest)) (list_read ts))
+    round_list_at (after Open ts)
 
 -- a number's value, with what follows it
 abbrev pub number_before : List Lexeme → ℤ → Tree × List Lexeme
@@ -45,7 +47,8 @@ pub data Kind : Type 0 where
   whole : Kind
   operand : Kind
 
--- the further operators of level `suc l`, at most k of them, where `inner` reads what stands between them
+-- the further operators of level `suc l`, at most k of them, where `inner` reads
+-- what stands between them
 unfoldable pub chain_at : (List Lexeme → Read Tree) → ℕ → ℕ → Tree → List Lexeme → Read Tree
 chain_at inner l zero t ts = Some (t, ts)
 chain_at inner l (suc k) t ts =
@@ -62,19 +65,22 @@ module _ (source : List ℕ) (f : Kind → List Lexeme → Read Tree) where
   typed_at front ts = choose (value_at front ts) (λ x. Some (of_type front x.0, x.1)) (type_at ts)
 
   unfoldable pub arg_at : Args → List Lexeme → Read Args
-  arg_at front ts = choose (typed_at front ts) (λ x. Some (text front (bytes_at source x.0), x.1)) (quoted_at ts)
+  arg_at front ts = choose (typed_at front ts) (λ x. Some (text front (bytes_at source x.0), x.1))
+      (quoted_at ts)
 
   -- the further arguments, at most k of them
   unfoldable pub more_at : ℕ → Args → List Lexeme → Read Args
   more_at zero args ts = Some (args, ts)
   more_at (suc k) args ts =
-      choose (Some (args, ts)) (λ us. option_and_then (λ x. more_at k x.0 x.1) (arg_at args us)) (after Comma ts)
+      choose (Some (args, ts)) (λ us. option_and_then (λ x. more_at k x.0 x.1) (arg_at args us))
+      (after Comma ts)
 
   abbrev pub close_at : Args × List Lexeme → Read Args
   close_at x = option_map (λ us. (x.0, us)) (after Close x.1)
 
   abbrev pub filled_at : Args → List Lexeme → Read Args
-  filled_at front ts = option_and_then (λ x. option_and_then close_at (more_at (length x.1) x.0 x.1)) (arg_at front ts)
+  filled_at front ts = option_and_then (λ x. option_and_then close_at
+      (more_at (length x.1) x.0 x.1)) (arg_at front ts)
 
   -- what stands behind an opening bracket
   unfoldable pub closed_at : Args → List Lexeme → Read Args
@@ -88,7 +94,8 @@ module _ (source : List ℕ) (f : Kind → List Lexeme → Read Tree) where
   round_at ts = option_and_then (λ x. option_map (λ us. (x.0, us)) (after Close x.1)) (f whole ts)
 
   abbrev pub call_at : Span → List Lexeme → Read Tree
-  call_at w ts = option_and_then (λ us. option_map (λ x. (call (bytes_at source w) x.0, x.1)) (closed_at none us)) (after Open ts)
+  call_at w ts = option_and_then (λ us. option_map (λ x. (call (bytes_at source w) x.0, x.1))
+      (closed_at none us)) (after Open ts)
 
   unfoldable pub primary_at : List Lexeme → Read Tree
   primary_at [] = None
@@ -104,26 +111,30 @@ module _ (source : List ℕ) (f : Kind → List Lexeme → Read Tree) where
   methods_at zero t ts = Some (t, ts)
   methods_at (suc k) t ts =
       choose (Some (t, ts))
-      (λ m. option_and_then (λ x. methods_at k (call (bytes_at source m.0) x.0) x.1) (maybe_at (value none t) m.1))
+      (λ m. option_and_then (λ x. methods_at k (call (bytes_at source m.0) x.0) x.1)
+      (maybe_at (value none t) m.1))
       (method_at ts)
 
   unfoldable pub postfix_at : List Lexeme → Read Tree
   postfix_at ts = option_and_then (λ x. methods_at (length x.1) x.0 x.1) (primary_at ts)
 
   unfoldable pub unary_at : List Lexeme → Read Tree
-  unary_at ts = choose (postfix_at ts) (λ p. option_map (λ x. (unary p.0 x.0, x.1)) (f operand p.1)) (prefix_at ts)
+  unary_at ts = choose (postfix_at ts) (λ p. option_map (λ x. (unary p.0 x.0, x.1)) (f operand p.1))
+      (prefix_at ts)
 
   -- an expression of a level
   unfoldable pub level_at : ℕ → List Lexeme → Read Tree
   level_at zero ts = unary_at ts
   level_at (suc l) ts =
-      option_and_then (λ x. chain_at (level_at l) (suc l) (limit_of (suc l) x.1) x.0 x.1) (level_at l ts)
+      option_and_then (λ x. chain_at (level_at l) (suc l) (limit_of (suc l) x.1) x.0 x.1)
+      (level_at l ts)
 
   -- an expression of a level whose first operand is read
   unfoldable pub grown_at : ℕ → Tree → List Lexeme → Read Tree
   grown_at zero t ts = Some (t, ts)
   grown_at (suc l) t ts =
-      option_and_then (λ x. chain_at (level_at l) (suc l) (limit_of (suc l) x.1) x.0 x.1) (grown_at l t ts)
+      option_and_then (λ x. chain_at (level_at l) (suc l) (limit_of (suc l) x.1) x.0 x.1)
+      (grown_at l t ts)
 
 -- an expression in which at most n parts are open at once
 unfoldable pub reader : List ℕ → ℕ → Kind → List Lexeme → Read Tree

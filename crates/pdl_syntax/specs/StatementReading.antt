@@ -24,27 +24,32 @@ sever_at name ts = if is_brackets ts then Some (sever name) else None
 
 module _ (source : List ℕ) where
   abbrev pub texts_at : Span → Span → Span → StatementTree
-  texts_at name signature code = pp_def (bytes_at source name) (bytes_at source signature) (bytes_at source code)
+  texts_at name signature code = pp_def (bytes_at source name) (bytes_at source signature)
+      (bytes_at source code)
 
   -- the three strings of a definition
   abbrev pub code_at : Span → Span → List Lexeme → Option StatementTree
   code_at name signature ts =
-      option_and_then (λ c. option_and_then (at_end (texts_at name signature c.0)) (after Close c.1)) (quoted_at (after_label Code ts))
+      option_and_then (λ c. option_and_then (at_end (texts_at name signature c.0))
+      (after Close c.1)) (quoted_at (after_label Code ts))
 
   abbrev pub signature_at : Span → List Lexeme → Option StatementTree
   signature_at name ts =
-      option_and_then (λ s. option_and_then (code_at name s.0) (after Comma s.1)) (quoted_at (after_label Pars ts))
+      option_and_then (λ s. option_and_then (code_at name s.0) (after Comma s.1))
+      (quoted_at (after_label Pars ts))
 
   abbrev pub define_at : List Lexeme → Option StatementTree
   define_at ts =
-      option_and_then (λ us. option_and_then (λ n. option_and_then (signature_at n.0) (after Comma n.1)) (quoted_at us)) (after Open ts)
+      option_and_then (λ us. option_and_then (λ n.
+      option_and_then (signature_at n.0) (after Comma n.1)) (quoted_at us)) (after Open ts)
 
   abbrev pub undef_at : List Lexeme → Option StatementTree
   undef_at ts = option_and_then (λ x. at_end (undef (bytes_at source x.0)) x.1) (name_at ts)
 
   abbrev pub watch_at : List Lexeme → Option StatementTree
   watch_at ts =
-      option_and_then (λ x. option_and_then (λ us. option_map (watch (bytes_at source x.0)) (slot_at us)) (after Comma x.1)) (name_at ts)
+      option_and_then (λ x. option_and_then (λ us.
+      option_map (watch (bytes_at source x.0)) (slot_at us)) (after Comma x.1)) (name_at ts)
 
   -- the further names, at most k of them
   unfoldable pub names_at : ℕ → List (List ℕ) → List Lexeme → Read (List (List ℕ))
@@ -55,29 +60,33 @@ module _ (source : List ℕ) where
       (after Comma ts)
 
   abbrev pub all_names_at : List Lexeme → Read (List (List ℕ))
-  all_names_at ts = option_and_then (λ x. names_at (length x.1) (bytes_at source x.0 ∷ []) x.1) (name_at ts)
+  all_names_at ts = option_and_then (λ x. names_at (length x.1) (bytes_at source x.0
+      ∷ []) x.1) (name_at ts)
 
 module _ (source : List ℕ) (f : Kind → List Lexeme → Read Tree) where
   -- an expression up to the end
   unfoldable pub ended_at : List Lexeme → Option Tree
   ended_at ts = option_and_then (λ x. at_end x.0 x.1) (f whole ts)
 
-  -- what stands behind a postfix form: an arrow, this word and the end, or the rest of an expression up to the end;
-  -- with the value, whether it's the first
+  -- what stands behind a postfix form: an arrow, this word and the end, or the rest of an
+  -- expression up to the end; with the value, whether it's the first
   abbrev pub behind_at : AnyKeyword → Tree × List Lexeme → Option (Tree × Bool)
   behind_at word x =
-      choose (option_map (λ t. (t, false)) (option_and_then (λ y. at_end y.0 y.1) (grown_at source f 7 x.0 x.1)))
+      choose (option_map (λ t. (t, false)) (option_and_then (λ y.
+      at_end y.0 y.1) (grown_at source f 7 x.0 x.1)))
       (λ us. if is_brackets us then Some (x.0, true) else None) (after_keyword word x.1)
 
   -- a postfix form before an arrow, this word and the end, or else an expression up to the end
   unfoldable pub valued_at : AnyKeyword → List Lexeme → Option (Tree × Bool)
   valued_at word ts =
-      choose (option_and_then (behind_at word) (postfix_at source f ts)) (λ p. option_map (λ t. (t, false)) (ended_at ts)) (prefix_at ts)
+      choose (option_and_then (behind_at word) (postfix_at source f ts)) (λ p.
+      option_map (λ t. (t, false)) (ended_at ts)) (prefix_at ts)
 
   -- a call up to the end, by a word or by a method
   abbrev pub called_step : Bool → Tree × List Lexeme → Option Tree
   called_step by_word x =
-      option_and_then (λ y. if by_word || nat_lt (length y.1) (length x.1) then at_end y.0 y.1 else None)
+      option_and_then (λ y. if by_word || nat_lt (length y.1) (length x.1)
+      then at_end y.0 y.1 else None)
       (methods_at source f (length x.1) x.0 x.1)
 
   unfoldable pub called_at : List Lexeme → Option Tree
@@ -98,7 +107,8 @@ module _ (source : List ℕ) (f : Kind → List Lexeme → Read Tree) where
   views_at zero views ts = Some (views, ts)
   views_at (suc k) views ts =
       choose (Some (views, ts))
-      (λ v. option_and_then (λ x. views_at k (views ++ (bytes_at source v.0, x.0) ∷ []) x.1) (maybe_at source f none v.1))
+      (λ v. option_and_then (λ x. views_at k (views ++ (bytes_at source v.0, x.0) ∷ []) x.1)
+      (maybe_at source f none v.1))
       (view_at ts)
 
   abbrev pub assign_value : List ℕ → List View × List Lexeme → Option StatementTree
@@ -109,7 +119,8 @@ module _ (source : List ℕ) (f : Kind → List Lexeme → Read Tree) where
   assignment_at name ts = option_and_then (assign_value name) (views_at (length ts) [] ts)
 
   abbrev pub reshape_at : List ℕ → List Lexeme → Option StatementTree
-  reshape_at name ts = option_and_then (λ x. at_end (reshape name x.0) x.1) (closed_at source f none ts)
+  reshape_at name ts = option_and_then (λ x. at_end (reshape name x.0) x.1)
+      (closed_at source f none ts)
 
   -- a statement that begins with a name
   unfoldable pub named_at : List ℕ → List Lexeme → Option StatementTree

@@ -32,7 +32,8 @@ view_of v = (v.method, args_of v.args.items none)
 abbrev pub statement_of : Statement → StatementTree
 statement_of (Bind name value severs) = bind name (tree_of value) severs
 statement_of (BindList names value) = bind_list names.items (tree_of value)
-statement_of (Assign target op value) = assign target.name (map view_of target.views.items) op (tree_of value)
+statement_of (Assign target op value) =
+    assign target.name (map view_of target.views.items) op (tree_of value)
 statement_of (Show value info) = show (tree_of value) info
 statement_of (ShowText text) = show_text text
 statement_of (Sever name) = sever name

@@ -19,7 +19,8 @@ pub data SpellsBrackets : List Lexeme → Type 0 where
   brackets : SpellsBrackets (Open ∷ Close ∷ [])
 
 -- names with commas between them, from those before to those with them
-pub data SpellsNames (source : List ℕ) : List (List ℕ) → List (List ℕ) → List Lexeme → List Lexeme → Type 0 where
+pub data SpellsNames (source : List ℕ) : List (List ℕ) → List (List ℕ) → List Lexeme →
+    List Lexeme → Type 0 where
   one_name : {front : List (List ℕ)} {w : Span} {rest : List Lexeme}
       → SpellsNames source front (front ++ bytes_at source w ∷ []) (Name w ∷ rest) rest
   more_names : {front names : List (List ℕ)} {w : Span} {ts rest : List Lexeme}
@@ -27,7 +28,8 @@ pub data SpellsNames (source : List ℕ) : List (List ℕ) → List (List ℕ) �
       → SpellsNames source front (names ++ bytes_at source w ∷ []) ts rest
 
 -- view words behind arrows
-pub data SpellsViews (source : List ℕ) : List View → List View → List Lexeme → List Lexeme → Type 0 where
+pub data SpellsViews (source : List ℕ) : List View → List View → List Lexeme →
+    List Lexeme → Type 0 where
   no_views : {front : List View} {rest : List Lexeme} → SpellsViews source front front rest rest
   one_view : {front views : List View} {w : Span} {args : Args} {ts us rest : List Lexeme}
       → SpellsViews source front views ts (Arrow ∷ Word IsView w ∷ us)
@@ -35,8 +37,10 @@ pub data SpellsViews (source : List ℕ) : List View → List View → List Lexe
       → SpellsViews source front (views ++ (bytes_at source w, args) ∷ []) ts rest
 
 -- a string, maybe behind a word and `=>`
-pub data SpellsText (source : List ℕ) (label : WordKind) : List ℕ → List Lexeme → List Lexeme → Type 0 where
-  plain_text : {w : Span} {rest : List Lexeme} → SpellsText source label (bytes_at source w) (Quoted w ∷ rest) rest
+pub data SpellsText (source : List ℕ) (label : WordKind) : List ℕ → List Lexeme →
+    List Lexeme → Type 0 where
+  plain_text : {w : Span} {rest : List Lexeme} →
+      SpellsText source label (bytes_at source w) (Quoted w ∷ rest) rest
   labelled : {v w : Span} {rest : List Lexeme}
       → SpellsText source label (bytes_at source w) (Word label v ∷ FatArrow ∷ Quoted w ∷ rest) rest
 
@@ -64,27 +68,37 @@ pub data SpellsBinding (source : List ℕ) : StatementTree → List Lexeme → T
 
 -- all lexemes of a text spell this statement
 pub data SpellsStatement (source : List ℕ) : StatementTree → List Lexeme → Type 0 where
-  binds : {s : StatementTree} {ts : List Lexeme} → SpellsBinding source s ts → SpellsStatement source s ts
-  my_binds : {s : StatementTree} {ts : List Lexeme} → SpellsBinding source s ts → SpellsStatement source s (Keyword My ∷ ts)
+  binds : {s : StatementTree} {ts : List Lexeme} → SpellsBinding source s ts →
+      SpellsStatement source s ts
+  my_binds : {s : StatementTree} {ts : List Lexeme} → SpellsBinding source s ts →
+      SpellsStatement source s (Keyword My ∷ ts)
   assigns : {w : Span} {views : List View} {op : AssignOp} {t : Tree} {ts us : List Lexeme}
       → SpellsViews source [] views ts (Assign op ∷ us) → Spells source (an_expr 7 t) us []
       → SpellsStatement source (assign (bytes_at source w) views op t) (Name w ∷ ts)
-  shows_text : {w : Span} → SpellsStatement source (show_text (bytes_at source w)) (Keyword Print ∷ Quoted w ∷ [])
+  shows_text : {w : Span} → SpellsStatement source (show_text (bytes_at source w))
+      (Keyword Print ∷ Quoted w ∷ [])
   shows : {t : Tree} {ts : List Lexeme}
-      → Spells source (an_expr 7 t) ts [] → SpellsStatement source (show t false) (Keyword Print ∷ ts)
+      → Spells source (an_expr 7 t) ts [] →
+      SpellsStatement source (show t false) (Keyword Print ∷ ts)
   shows_info : {t : Tree} {ts us : List Lexeme}
       → Spells source (a_postfix t) ts (Arrow ∷ Keyword Info ∷ us) → SpellsBrackets us
       → SpellsStatement source (show t true) (Keyword Print ∷ ts)
   severs : {w : Span} {us : List Lexeme} → SpellsBrackets us
       → SpellsStatement source (sever (bytes_at source w)) (Name w ∷ Arrow ∷ Keyword Sever ∷ us)
-  reshapes : {w : Span} {args : Args} {ts : List Lexeme} → Spells source (closed_args none args) ts []
-      → SpellsStatement source (reshape (bytes_at source w) args) (Name w ∷ Arrow ∷ Keyword Reshape ∷ Open ∷ ts)
-  undefs : {w : Span} → SpellsStatement source (undef (bytes_at source w)) (Keyword Undef ∷ Name w ∷ [])
+  reshapes : {w : Span} {args : Args} {ts : List Lexeme} →
+      Spells source (closed_args none args) ts []
+      → SpellsStatement source (reshape (bytes_at source w) args) (Name w ∷ Arrow
+      ∷ Keyword Reshape ∷ Open ∷ ts)
+  undefs : {w : Span} → SpellsStatement source (undef (bytes_at source w))
+      (Keyword Undef ∷ Name w ∷ [])
   lists_names : SpellsStatement source vars (Keyword Vars ∷ [])
   defines : {w : Span} {signature code : List ℕ} {ts us : List Lexeme}
-      → SpellsText source Pars signature ts (Comma ∷ us) → SpellsText source Code code us (Close ∷ [])
-      → SpellsStatement source (pp_def (bytes_at source w) signature code) (Keyword PpDef ∷ Open ∷ Quoted w ∷ Comma ∷ ts)
+      → SpellsText source Pars signature ts (Comma ∷ us) →
+      SpellsText source Code code us (Close ∷ [])
+      → SpellsStatement source (pp_def (bytes_at source w) signature code) (Keyword PpDef ∷ Open
+      ∷ Quoted w ∷ Comma ∷ ts)
   watches : {w : Span} {n : ℕ} {z : ℤ} → signed n ≡ Some z
-      → SpellsStatement source (watch (bytes_at source w) n) (Keyword Watch ∷ Name w ∷ Comma ∷ Number n ∷ [])
+      → SpellsStatement source (watch (bytes_at source w) n) (Keyword Watch ∷ Name w
+      ∷ Comma ∷ Number n ∷ [])
   unwatches : {n : ℕ} {z : ℤ} → signed n ≡ Some z
       → SpellsStatement source (unwatch n) (Keyword Unwatch ∷ Number n ∷ [])

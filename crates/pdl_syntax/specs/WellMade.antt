@@ -1,4 +1,5 @@
--- The list literals of a statement are arrays: as many numbers as their dimensions say, all of their type.
+-- The list literals of a statement are arrays: as many numbers as their dimensions
+-- say, all of their type.
 use Rattle.std.specs.Prelude.{◌≤ℤ◌, ℤ, pos, All}
 use Rattle.pdl_buf.specs.Made.{IsMade}
 use Rattle.pdl_syntax.specs.Tree.{Tree, Args, number, named, literal, unary, binary, call, none, value, text, of_type}

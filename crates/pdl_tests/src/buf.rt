@@ -116,7 +116,8 @@ fn reads_blocks(rt: HostRuntime) -> Result<(), Fail> {
     Ok(())
 }
 
-// An element of a stepped window on the numbers from 1 to 6, and what two places and none of it show.
+// An element of a stepped window on the numbers from 1 to 6, and what two
+// places and none of it show.
 fn elements<L: Ledger>(alloc: Global, blank: Blank) -> Result<[i64; 4], NoMemory>
     requires name { blank.name ≡ L.name }
     requires parts { blank.parts ≡ L.parts }

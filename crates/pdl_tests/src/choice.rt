@@ -1,5 +1,5 @@
-//! Each call once, with an answer from outside: a list comprehension over coordinates in Python. The
-//! program `pdl_cases` has many more.
+//! Each call once, with an answer from outside: a list comprehension over
+//! coordinates in Python. The program `pdl_cases` has many more.
 ghost use Rattle.std.specs.Prelude.{◌≡◌};
 
 use pdl_choice::*;

@@ -74,8 +74,8 @@ fn a_text_is_written_whole_or_in_part(rt: HostRuntime) -> Result<(), Fail> {
     Ok(())
 }
 
-// What was asked of a reader or a writer: how many reads or writes, how long the piece of the last one
-// was, and how many flushes.
+// What was asked of a reader or a writer: how many reads or writes, how long
+// the piece of the last one was, and how many flushes.
 #[derive(Drop)]
 struct Asked {
     calls: Cell<u32>,
@@ -119,8 +119,8 @@ impl Read for Stumbling<'_> {
     }
 }
 
-// A writer that takes at most four bytes, takes nothing at its second write, and fails at the third one
-// and at its second flush.
+// A writer that takes at most four bytes, takes nothing at its second write, and
+// fails at the third one and at its second flush.
 #[derive(Drop)]
 struct Slow<'a> {
     asked: &'a Asked,

@@ -72,8 +72,8 @@ fn the_first_fault_in_broadcast_order(rt: HostRuntime) -> Result<(), Fail> {
     Ok(())
 }
 
-// The one fault stands at place 2 where dimension 0 moves on first, and would stand at place 1 where
-// the last dimension did.
+// The one fault stands at place 2 where dimension 0 moves on first, and would
+// stand at place 1 where the last dimension did.
 #[test]
 fn the_first_dimension_moves_on_first(rt: HostRuntime) -> Result<(), Fail> {
     let alloc = rt.alloc();

@@ -1,4 +1,5 @@
-//! A script and a wrong command line, with texts written by hand. The program `pdl_cases` runs many more.
+//! A script and a wrong command line, with texts written by hand. The program
+//! `pdl_cases` runs many more.
 use pdl_io::{MemSink, MemSource};
 use pdl_shell::*;
 use std::test::Fail;

@@ -1,4 +1,5 @@
-//! Views by numbers: exchanged, moved, reordered, new, joined and squeezed dimensions (PDL::Slices).
+//! Views by numbers: exchanged, moved, reordered, new, joined and squeezed
+//! dimensions (PDL::Slices).
 ghost use Rattle.std.specs.Prelude.{◌≡◌, IfOk, IfSome, IsTrue};
 ghost use Rattle.pdl_affine.specs.Views.{is_well_formed};
 ghost use Rattle.pdl_machine.specs.Views.{arranged, arrangement_outcome};

@@ -27,7 +27,8 @@ pub fn slice(alloc: Global, given: &[Given]) -> Result<Outcome, StepFault>
     }
 }
 
-/// A view by a text. Texts of statements are far shorter than 4 GiB, which is more than a slice's may have.
+/// A view by a text. Texts of statements are far shorter than 4 GiB, which is more
+/// than a slice's may have.
 fn sliced(alloc: Global, text: &[u8]) -> Result<Outcome, StepFault>
     ensures value { AnswersAs outcome_of (slice_by text.now) result }
     ensures made { IfOk result IsOutcomeMade }

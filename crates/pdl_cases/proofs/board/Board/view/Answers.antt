@@ -6,5 +6,5 @@ use Rattle.pdl_cases.proofs.board.Board.view.Goals as goal
 pub returns-in_ok-push-in-Ok : goal.returns-in_ok-push-in-Ok
 returns-in_ok-push-in-Ok g c =
     subst (AreKept c.view.new.self) (sym c.in_ok-push-in-Ok.ensures.items)
-      (joined c.growth_laws.ensures.older c.growth_laws.ensures.below c.growth_laws.ensures.live c.args.self.now.engine c.view.new.self c.in-Ok.id _ c.in-Ok.ensures.made c.view.ensures.sound
-        c.args.self.now.arrays.items _ refl refl c.requires.kept)
+    (joined c.growth_laws.ensures.older c.growth_laws.ensures.below c.growth_laws.ensures.live c.args.self.now.engine c.view.new.self c.in-Ok.id _ c.in-Ok.ensures.made c.view.ensures.sound
+    c.args.self.now.arrays.items _ refl refl c.requires.kept)
