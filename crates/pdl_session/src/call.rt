@@ -117,7 +117,10 @@ impl Scope {
         ensures grown { Grows self.old self.new }
     {
         match self.outcome(builtin, given, steps) {
-            Ok(Outcome::New(made)) => self.make(made.ty, &made.dims, made.elems, steps),
+            Ok(Outcome::New(made)) => {
+                let elems = made.elems;
+                self.make(made.ty, &made.dims, elems, steps)
+            }
             Ok(Outcome::View(trans)) => self.view_first(given, trans),
             Err(fault) => Err(fault),
         }

@@ -41,7 +41,8 @@ impl Scope {
     {
         ready(&mut self.engine, id, steps)?;
         let made = unary_each(self.alloc, op, &self.engine.lend(id))?;
-        self.make(made.ty, &made.dims, made.elems, steps)
+        let elems = made.elems;
+        self.make(made.ty, &made.dims, elems, steps)
     }
 
     /// The new array of an operator of two operands.
@@ -62,7 +63,10 @@ impl Scope {
         ready(&mut self.engine, left, steps)?;
         ready(&mut self.engine, right, steps)?;
         match operated(self.alloc, &self.engine, op, left, right) {
-            Ok(made) => self.make(made.ty, &made.dims, made.elems, steps),
+            Ok(made) => {
+                let elems = made.elems;
+                self.make(made.ty, &made.dims, elems, steps)
+            }
             Err(fault) => Err(fault),
         }
     }
