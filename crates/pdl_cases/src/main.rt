@@ -9,6 +9,7 @@ mod choice;
 mod cursor;
 mod engine;
 mod escapes;
+mod kernel_code;
 mod numbers;
 mod script;
 mod slices;
@@ -38,6 +39,7 @@ enum Call {
     Lexemes,
     Form,
     Statement,
+    Kernel,
     Slice,
     Plan,
     Window,
@@ -59,6 +61,7 @@ const CALLS: &[(&str, Call)] = &[
     ("lexemes", Call::Lexemes),
     ("form", Call::Form),
     ("statement", Call::Statement),
+    ("kernel", Call::Kernel),
     ("slice", Call::Slice),
     ("plan", Call::Plan),
     ("window", Call::Window),
@@ -82,6 +85,7 @@ fn answer(alloc: Global, line: &mut Cursor<'_>) -> Result<Vec<u8>, Unread> {
         Call::Lexemes => tokens::lexemes_answer(alloc, line),
         Call::Form => statement::form_answer(alloc, line),
         Call::Statement => statement::tree_answer(alloc, line),
+        Call::Kernel => kernel_code::answer(alloc, line),
         Call::Slice => slices::answer(alloc, line),
         Call::Plan => affine::plan_answer(alloc, line),
         Call::Window => affine::window_answer(alloc, line),
