@@ -211,20 +211,35 @@ fn change_one<L: Ledger>(
     }
 }
 
+// A call that changes arrays and answers nothing.
+fn change_only<L: Ledger>(
+    board: &mut Board<L>,
+    change: Change,
+    line: &mut Cursor<'_>,
+) -> Result<(), Unread>
+    requires { AreKept board.old.engine board.old.arrays.items }
+    ensures { OnOk result (AreKept board.new.engine board.new.arrays.items) }
+{
+    match change {
+        Change::Root => make(board, line),
+        Change::Assign => assign(board, line),
+        Change::Reshape => reshape(board, line),
+        _ => change_one(board, change, line),
+    }
+}
+
 // A call that changes arrays, and what it answers.
 fn changed<L: Ledger>(board: &mut Board<L>, change: Change, line: &mut Cursor<'_>) -> Answer
     requires { AreKept board.old.engine board.old.arrays.items }
     ensures { OnOk result (AreKept board.new.engine board.new.arrays.items) }
 {
-    let nothing = Vec::new(board.alloc);
     match change {
-        Change::View => return view(board, line),
-        Change::Root => make(board, line)?,
-        Change::Assign => assign(board, line)?,
-        Change::Reshape => reshape(board, line)?,
-        _ => change_one(board, change, line)?,
+        Change::View => view(board, line),
+        _ => {
+            change_only(board, change, line)?;
+            Ok(Vec::new(board.alloc))
+        }
     }
-    Ok(nothing)
 }
 
 // The letters of the arrays that can be lent.
