@@ -2,4 +2,4 @@ use Rattle.pdl_cases.proofs.engine.answer.Given as goal
 
 -- the ledger is the one that was made here
 abbrev pub ghosts-run : goal.ghosts-run
-ghosts-run g a = record { name = a.blank.name; parts = a.blank.parts }
+ghosts-run a = record { name = a.blank.name; parts = a.blank.parts }
