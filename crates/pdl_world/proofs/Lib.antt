@@ -8,3 +8,5 @@ pub mod Replaces
 pub mod Dimensions
 pub mod Cuts
 pub mod Severs
+pub mod Bases
+pub mod Repeats

@@ -56,7 +56,7 @@ seen_is : (t : Trans) (l : Look) (r : Result (List ℕ) Refusal) → IsOk r → 
 seen_is t l (Ok ds) h = tt
 seen_is t l (Err e) h = cc
 
-ok_of : (ps : List ℕ) (r : Result (List ℕ) Refusal) → refusal_at ps r ≡ None → IsOk r
+pub ok_of : (ps : List ℕ) (r : Result (List ℕ) Refusal) → refusal_at ps r ≡ None → IsOk r
 ok_of ps (Ok ds) h = refl
 ok_of ps (Err e) h = cc
 
@@ -65,7 +65,7 @@ through_is : (t : Trans) (ps : List ℕ) (o : Option Look) → IsSomeAnd o (λ l
 through_is t ps None h a = h
 through_is t ps (Some l) h a = seen_is t l (child_dims t l.dims) (ok_of ps (child_dims t l.dims) a)
 
-new_live : (w : World) (k : ℕ) (d : ArrayDef) → IsAllowed w d → IsLive ((k, d) ∷ w) k
+pub new_live : (w : World) (k : ℕ) (d : ArrayDef) → IsAllowed w d → IsLive ((k, d) ∷ w) k
 new_live w k (root ty ds es) a = rw (eq-eqb k k refl) tt
 new_live w k (view p t) a = rw (eq-eqb k k refl) (through_is t (path w p) (look w p) a.live a.allowed)
 
@@ -160,7 +160,7 @@ once_after q ps r = elim (cases_Bool (is_among q ps)) [
   | inr n ↦ (n, (let z : has_repeats ps ≡ false = rw n at r in z))
 ]
 
-apart : (ps : List (Option ℕ)) → has_repeats ps ≡ false → (j k i : ℕ) → j < k → k < length ps → get_or ps j None ≡ Some i → get_or ps k None ≡ Some i → ⊥
+pub apart : (ps : List (Option ℕ)) → has_repeats ps ≡ false → (j k i : ℕ) → j < k → k < length ps → get_or ps j None ≡ Some i → get_or ps k None ≡ Some i → ⊥
 apart [] r j k i a l e g = absurd (omega arith)
 apart (p ∷ ps) r j zero i a l e g = absurd (omega arith)
 apart (None ∷ ps) r zero (suc k) i a l e g = cc

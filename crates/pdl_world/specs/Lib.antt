@@ -9,3 +9,4 @@ pub mod Laws
 pub mod SweepLaws
 pub mod CutLaws
 pub mod Windows
+pub mod WindowLaws

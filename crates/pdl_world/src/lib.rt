@@ -11,11 +11,12 @@ ghost use Rattle.pdl_world.specs.Laws.{PlacesLieWithin, RootsAreInRange, LiveLie
 ghost use Rattle.pdl_world.specs.Laws.{NewIsLive, NewRootIsSeen, NewRootIsWhole, NewRootHasPath, NewViewIsSeen, NewViewHasPath};
 ghost use Rattle.pdl_world.specs.CutLaws.{CutsLeaveElements, CutsAreRoots, RootsAreUncut, CutsLeaveOthers, CutsLeaveFamilies, CutsTakeTheirViews, CutsSoundly, CutsLeaveNumbers};
 ghost use Rattle.pdl_world.specs.CutLaws.{ViewsAreFound, FittedIsFitted, ReshapedIsSeen, ReshapesLeaveOthers, ReshapesSoundly, ReshapesLeaveNumbers};
+ghost use Rattle.pdl_world.specs.WindowLaws.{WindowsShowArrays, LiveHaveWindows, RepeatsAreFound, RepeatedRepeat};
 ghost use Rattle.pdl_world.specs.SweepLaws.{KeptWereReached, ReachedAreKept, HeldAreKept, ReachedAreSeenAsBefore, SweepsSoundly, NoNumberComes, NewGoesUnheld};
 
-use pdl_affine::{Affine, Numbers};
+use pdl_affine::{Affine, Numbers, view_laws, window_laws};
 use pdl_choice::{Edge, Positions};
-use pdl_shape::{Dims, shape_laws};
+use pdl_shape::{Dims, shape_laws, triple_laws};
 
 /// How a view shows its parent.
 #[derive(Debug, Drop)]
@@ -123,4 +124,24 @@ pub fn reshape_laws()
     ensures others { ReshapesLeaveOthers }
     ensures sound { ReshapesSoundly }
     ensures numbers { ReshapesLeaveNumbers }
+{}
+
+/// How arrays of a sound world are shown over their bases (PDL::API, affine transformations). Each
+/// live array has a window: its base, which is its own base and shows its elements in order, and
+/// the triple that shows at each of the array's coordinates the base's position that has the
+/// array's place there.
+pub fn base_laws()
+    ensures shown { WindowsShowArrays }
+    ensures live { LiveHaveWindows }
+{
+    shape_laws();
+    triple_laws();
+    view_laws();
+    window_laws()
+}
+
+/// Places have repeats exactly where two positions have the same place; nothing is no place.
+pub fn repeat_laws()
+    ensures found { RepeatsAreFound }
+    ensures repeated { RepeatedRepeat }
 {}
