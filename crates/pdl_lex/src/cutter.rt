@@ -137,8 +137,8 @@ impl StatementCutter {
     /// statement with too long a text is answered at the byte past the limit, and the rest of it
     /// is taken without an answer.
     ///
-    /// Once memory was wanting, it answers `NoMemory` from then on, and only `feed` and `line` may
-    /// be called. `line` then counts the newlines up to and with the byte for
+    /// Once memory was wanting, it answers `NoMemory` from then on and takes no byte more, and only
+    /// `feed` and `line` may be called. `line` then counts the newlines up to and with the byte for
     /// which there was no memory.
     pub fn feed(&mut self, piece: &[u8]) -> Result<Fed, NoMemory>
         requires room { self.old.taken + length piece.now < 2 ^ 63 }
@@ -173,6 +173,7 @@ impl StatementCutter {
 
         ensures works { OnOk result ((self.old.failed ≡ false) × (self.new.failed ≡ false)) }
         ensures failed { OnErr result (self.new.failed ≡ true) }
+        ensures stays { self.old.failed ≡ true → self.new ≡ self.old }
     {
         if self.failed {
             return Err(AllocError);
