@@ -5,7 +5,7 @@ use Rattle.pdl_shape.specs.Shape.{extent, IsDims}
 use Rattle.pdl_lexemes.specs.declared.Lexeme.{Lexeme}
 use Rattle.pdl_lexemes.specs.declared.Lexeme.TheVariants.{OpenSquare, CloseSquare}
 use Rattle.pdl_lexemes.specs.Lists.{shared, with_length, ListPart, SpellsList, an_item, some_items, a_list, number, minus, nested, first, more, empty, filled}
-use Rattle.pdl_lexemes.specs.ListReading.{Part, list_read}
+use Rattle.pdl_lexemes.specs.ListReading.{ReadPart, list_read}
 use Rattle.pdl_lexemes.specs.Answers.{Gives}
 use Rattle.pdl_lexemes.specs.declared.refusal.Refusal.{Refusal}
 use Rattle.pdl_lexemes.specs.Squares.{goes_too_deep, AreFew}
@@ -112,7 +112,7 @@ takes (filled {n = n} {shape = shape} {front = front} {all = all} {ts = ts} {res
     }
 
 -- the dimensions of a list literal, or one more than its numbers where it is ragged, are those of an array
-list_dims : (ts : List Lexeme) (p : Part) → AreFew ts → list_read ts ≡ Some p →
+list_dims : (ts : List Lexeme) (p : ReadPart) → AreFew ts → list_read ts ≡ Some p →
     IsDims (unwrap_or p.shape (suc (length p.elems) ∷ []))
 list_dims ts p few e = of_shape p.shape refl
   where
@@ -130,7 +130,7 @@ list_dims ts p few e = of_shape p.shape refl
     of_shape (Some d) is = record { count = omega (arith, nested'.dims d is); within = omega (arith, taken.members d is, few.small) }
 
 -- what a reader of lists answers is within those limits
-pub read_dims : {A : Type 0} (f : A → Part) (r : Result A Refusal) (ts : List Lexeme) → AreFew ts → Gives f r (list_read ts) →
+pub read_dims : {A : Type 0} (f : A → ReadPart) (r : Result A Refusal) (ts : List Lexeme) → AreFew ts → Gives f r (list_read ts) →
     IfOk r (λ x. IsDims (unwrap_or (f x).shape (suc (length (f x).elems) ∷ [])))
 read_dims f (Ok x) ts few g = list_dims ts (f x) few g
 read_dims f (Err e) ts few g = tt

@@ -4,7 +4,7 @@ use Rattle.pdl_elem.specs.declared.BinaryOp.TheVariants.{Sub}
 use Rattle.pdl_lexemes.specs.declared.Lexeme.{Lexeme}
 use Rattle.pdl_lexemes.specs.declared.Lexeme.TheVariants.{Number, OpenSquare, CloseSquare, Comma, Operator}
 use Rattle.pdl_lexemes.specs.Lists.{ListPart, SpellsList, an_item, some_items, a_list, with_length, number, minus, nested, first, more, empty, filled, HoldsRagged, here, later}
-use Rattle.pdl_lexemes.specs.ListReading.{Part, part, list_reader, list_read}
+use Rattle.pdl_lexemes.specs.ListReading.{ReadPart, read_part, list_reader, list_read}
 use Rattle.pdl_lexemes.specs.Depth.{ragged_in, reads_ragged, without_shape}
 use Rattle.pdl_lexemes.proofs.ListSound.{reader_sound}
 use Rattle.pdl_lexemes.proofs.Options.{map_elim}
@@ -19,7 +19,7 @@ scan_here t ts e = rw e
 pub scan_on : (t : Lexeme) (ts : List Lexeme) → reads_ragged (list_read (t ∷ ts)) ≡ false → ragged_in (t ∷ ts) ≡ ragged_in ts
 scan_on t ts e = rw e
 
-ragged_part : (ts : List Lexeme) (o : Option Part) → list_read ts ≡ o → reads_ragged o ≡ true → HoldsRagged ts
+ragged_part : (ts : List Lexeme) (o : Option ReadPart) → list_read ts ≡ o → reads_ragged o ≡ true → HoldsRagged ts
 ragged_part ts None e h = absurd (true≢false (sym h))
 ragged_part ts (Some p) e h = of_shape p.shape refl h
   where
@@ -36,9 +36,9 @@ ragged_sound (t ∷ ts) e = of_test (λ k. ragged_sound ts k) (reads_ragged (lis
     of_test ih true is k = ragged_part (t ∷ ts) (list_read (t ∷ ts)) refl is
     of_test ih false is k = later (ih k)
 
-ragged_front : (elems : List ℤ) (ts us rest : List Lexeme) {t : Lexeme} → ts ≡ t ∷ us → list_read ts ≡ Some (part None elems rest) → ragged_in ts ≡ true
+ragged_front : (elems : List ℤ) (ts us rest : List Lexeme) {t : Lexeme} → ts ≡ t ∷ us → list_read ts ≡ Some (read_part None elems rest) → ragged_in ts ≡ true
 ragged_front elems ts us rest {t = t} e h =
-    subst (λ vs. list_read vs ≡ Some (part None elems rest) → ragged_in vs ≡ true) (sym e) (λ k. rw k) h
+    subst (λ vs. list_read vs ≡ Some (read_part None elems rest) → ragged_in vs ≡ true) (sym e) (λ k. rw k) h
 
 ragged_behind : (t : Lexeme) (ts : List Lexeme) → ragged_in ts ≡ true → ragged_in (t ∷ ts) ≡ true
 ragged_behind t ts h = of_test (reads_ragged (list_read (t ∷ ts)))

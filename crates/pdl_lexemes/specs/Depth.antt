@@ -5,7 +5,7 @@ use Rattle.std.specs.List.{list_any}
 use Rattle.pdl_lexemes.specs.declared.checks.Counts.{Counts}
 use Rattle.pdl_lexemes.specs.declared.Lexeme.{Lexeme}
 use Rattle.pdl_lexemes.specs.declared.Lexeme.TheVariants.{Number, Open, Close, OpenSquare, CloseSquare, Arrow, Operator, Prefix}
-use Rattle.pdl_lexemes.specs.ListReading.{Part, list_read}
+use Rattle.pdl_lexemes.specs.ListReading.{ReadPart, list_read}
 
 -- one more operator, where no square bracket is open
 abbrev pub with_operator : Counts → Counts
@@ -52,7 +52,7 @@ abbrev pub without_shape : Option (List ℕ) → Bool
 without_shape None = true
 without_shape (Some sizes) = false
 
-abbrev pub reads_ragged : Option Part → Bool
+abbrev pub reads_ragged : Option ReadPart → Bool
 reads_ragged None = false
 reads_ragged (Some p) = without_shape p.shape
 

@@ -6,16 +6,16 @@ use Rattle.pdl_lex.specs.Tokens.{is_sign}
 use Rattle.pdl_lexemes.specs.declared.Lexeme.{Lexeme}
 use Rattle.pdl_lexemes.specs.declared.Lexeme.TheVariants.{OpenSquare}
 use Rattle.pdl_lexemes.specs.Lists.{SpellsList, a_list, type_of, HoldsRagged}
-use Rattle.pdl_lexemes.specs.ListReading.{part, list_read}
+use Rattle.pdl_lexemes.specs.ListReading.{read_part, list_read}
 use Rattle.pdl_lexemes.specs.Depth.{without_shape, ragged_in}
-use Rattle.pdl_lexemes.specs.Lexing.{found_in, signs}
+use Rattle.pdl_lexemes.specs.Lexing.{found_in, operators, signs}
 use Rattle.pdl_lexemes.specs.Peeks.{after}
 
 -- a list literal is read exactly where the grammar spells it; it begins with `[`, and what
 -- follows it is no longer
 pub record ListsAreRead : Type 0 where
   pub reads : (ts rest : List Lexeme) (shape : Option (List ℕ)) (elems : List ℤ)
-      → (list_read ts ≡ Some (part shape elems rest)) ↔ SpellsList (a_list shape [] elems) ts rest
+      → (list_read ts ≡ Some (read_part shape elems rest)) ↔ SpellsList (a_list shape [] elems) ts rest
   pub opens : (ts rest : List Lexeme) (shape : Option (List ℕ)) (elems : List ℤ)
       → SpellsList (a_list shape [] elems) ts rest → (us : List Lexeme) × (ts ≡ OpenSquare ∷ us)
   pub shortens : (ts rest : List Lexeme) (shape : Option (List ℕ)) (elems : List ℤ)
@@ -44,4 +44,6 @@ ListsAreArrays =
 
 -- each sign that a text may have is a lexeme of the grammar
 abbrev pub SignsAreKnown : Type 0
-SignsAreKnown = (text : List ℕ) → is_sign text ≡ true → is_some (found_in signs text) ≡ true
+SignsAreKnown =
+    (text : List ℕ) → is_sign text ≡ true →
+    (is_some (found_in signs text) || is_some (found_in operators text)) ≡ true

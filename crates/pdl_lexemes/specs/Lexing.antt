@@ -1,5 +1,6 @@
 -- The lexeme that a token is.
 use Rattle.std.specs.Prelude.{ℕ, ◌+◌, ◌-◌, ◌*◌, min, List, [], ◌∷◌, map, fold, Option, Some, None, if◌then◌else◌, codes, bytes_eq}
+use Rattle.pdl_elem.specs.declared.BinaryOp.{BinaryOp}
 use Rattle.pdl_elem.specs.declared.BinaryOp.TheVariants.{Add, Sub, Mul, Div, Rem, Shl, Shr, Lt, Le, Gt, Ge, Eq, Ne, And, Or, Xor}
 use Rattle.pdl_elem.specs.declared.UnaryOp.TheVariants.{Not, Complement}
 use Rattle.pdl_elem.specs.declared.Ty.TheVariants.{Byte, Short, Ushort, Long, Longlong}
@@ -52,7 +53,15 @@ word_kinds =
     ∷ (codes "diagonal", View)
     ∷ (codes "squeeze", View) ∷ short_word_kinds
 
--- the signs
+-- the signs of operators on two values
+abbrev pub operators : List (List ℕ × BinaryOp)
+operators =
+    (codes "+", Add) ∷ (codes "-", Sub) ∷ (codes "*", Mul) ∷ (codes "/", Div) ∷ (codes "%", Rem)
+    ∷ (codes "<<", Shl) ∷ (codes ">>", Shr) ∷ (codes "<", Lt) ∷ (codes ">", Gt) ∷ (codes "<=", Le)
+    ∷ (codes ">=", Ge) ∷ (codes "==", Eq) ∷ (codes "!=", Ne) ∷ (codes "&", And) ∷ (codes "|", Or)
+    ∷ (codes "^", Xor) ∷ []
+
+-- the other signs
 abbrev pub signs : List (List ℕ × Lexeme)
 signs =
     (codes "(", Open) ∷ (codes ")", Close) ∷ (codes "[", OpenSquare) ∷ (codes "]", CloseSquare)
@@ -63,13 +72,7 @@ signs =
     ∷ (codes "%=", Assign (With Rem)) ∷ (codes "<<=", Assign (With Shl))
     ∷ (codes ">>=", Assign (With Shr)) ∷ (codes "&=", Assign (With And))
     ∷ (codes "|=", Assign (With Or)) ∷ (codes "^=", Assign (With Xor))
-    ∷ (codes "+", Operator Add) ∷ (codes "-", Operator Sub) ∷ (codes "*", Operator Mul)
-    ∷ (codes "/", Operator Div) ∷ (codes "%", Operator Rem)
-    ∷ (codes "<<", Operator Shl) ∷ (codes ">>", Operator Shr) ∷ (codes "<", Operator Lt)
-    ∷ (codes ">", Operator Gt) ∷ (codes "<=", Operator Le)
-    ∷ (codes ">=", Operator Ge) ∷ (codes "==", Operator Eq) ∷ (codes "!=", Operator Ne)
-    ∷ (codes "&", Operator And) ∷ (codes "|", Operator Or)
-    ∷ (codes "^", Operator Xor) ∷ (codes "!", Prefix Not) ∷ (codes "~", Prefix Complement) ∷ []
+    ∷ (codes "!", Prefix Not) ∷ (codes "~", Prefix Complement) ∷ []
 
 -- the value of decimal digits, or 2 ^ 63 where it is above 9223372036854775807
 abbrev pub with_digit : ℕ → ℕ → ℕ
@@ -86,7 +89,8 @@ word_of text span =
 
 -- a sign; a text that is none, which no token has, is a lexeme that no rule of the grammar has
 abbrev pub sign_of : List ℕ → Lexeme
-sign_of text = choose Unknown (λ s. s) (found_in signs text)
+sign_of text =
+    choose (choose Unknown (λ op. Operator op) (found_in operators text)) (λ s. s) (found_in signs text)
 
 abbrev pub span_of : Token → Span
 span_of t = record { from = t.from; to = t.to }

@@ -7,40 +7,25 @@ use Rattle.pdl_elem.specs.declared.Ty.{Ty}
 use Rattle.pdl_lexemes.specs.declared.AssignOp.{AssignOp}
 use Rattle.pdl_lexemes.specs.declared.Span.{Span}
 use Rattle.pdl_lexemes.specs.declared.WordKind.{WordKind}
-use Rattle.pdl_lexemes.specs.declared.WordKind.TheVariants.{OfType, View as IsView, Pars, Code}
+use Rattle.pdl_lexemes.specs.declared.WordKind.TheVariants.{OfType, View as IsView}
 use Rattle.pdl_lexemes.specs.declared.Keyword.{Keyword as AnyKeyword}
-use Rattle.pdl_lexemes.specs.declared.Keyword.TheVariants.{Info, Sever, Reshape}
+use Rattle.pdl_lexemes.specs.declared.Keyword.TheVariants.{Reshape}
 use Rattle.pdl_lexemes.specs.declared.Lexeme.{Lexeme}
-use Rattle.pdl_lexemes.specs.declared.Lexeme.TheVariants.{Name, Keyword, Word, Number, Quoted, Open, Close, OpenSquare, CloseSquare, Comma, Equals, Arrow, FatArrow, Assign, Operator, Prefix}
+use Rattle.pdl_lexemes.specs.declared.Lexeme.TheVariants.{Name, Keyword, Word, Number, Quoted, Open, Close, Equals, Arrow, FatArrow, Assign, Operator, Prefix}
+use Rattle.pdl_lexemes.specs.contracts.LexemePartialEq.TheImpl as lexeme
+use Rattle.pdl_lexemes.specs.contracts.WordKindPartialEq.TheImpl as word_kind
 use Rattle.pdl_lexemes.specs.Lists.{signed}
 
 -- what is read from the front, and what follows it
 abbrev pub Read : Type 0 → Type 0
 Read A = Option (A × List Lexeme)
 
--- whether two lexemes are one sign that has no parts, a minus, or one word that
--- stands behind an arrow
-abbrev pub is_same : Lexeme → Lexeme → Bool
-is_same Open Open = true
-is_same Close Close = true
-is_same OpenSquare OpenSquare = true
-is_same CloseSquare CloseSquare = true
-is_same Comma Comma = true
-is_same Equals Equals = true
-is_same Arrow Arrow = true
-is_same FatArrow FatArrow = true
-is_same (Operator Sub) (Operator Sub) = true
-is_same (Keyword Info) (Keyword Info) = true
-is_same (Keyword Sever) (Keyword Sever) = true
-is_same (Keyword Reshape) (Keyword Reshape) = true
-is_same _ _ = false
-
--- what follows such a lexeme
+-- what follows this lexeme
 abbrev pub after : Lexeme → List Lexeme → Option (List Lexeme)
 after sign [] = None
-after sign (t ∷ ts) = if is_same sign t then Some ts else None
+after sign (t ∷ ts) = if lexeme.ghosts.eq sign t then Some ts else None
 
--- what follows an arrow and `info`, `sever` or `reshape`
+-- what follows an arrow and this word
 abbrev pub after_keyword : AnyKeyword → List Lexeme → Option (List Lexeme)
 after_keyword word ts = option_and_then (after (Keyword word)) (after Arrow ts)
 
@@ -51,10 +36,10 @@ after_reshape ts = option_and_then (after Open) (after_keyword Reshape ts)
 abbrev pub after_names : List Lexeme → Option (List Lexeme)
 after_names ts = option_and_then (after Equals) (after Close ts)
 
--- what follows `Pars =>` or `Code =>`; without it, all
+-- what follows a word of this kind and `=>`; without them, all
 abbrev pub after_label : WordKind → List Lexeme → List Lexeme
-after_label Pars (Word Pars v ∷ FatArrow ∷ ts) = ts
-after_label Code (Word Code v ∷ FatArrow ∷ ts) = ts
+after_label label (Word kind v ∷ FatArrow ∷ ts) =
+    if word_kind.ghosts.eq label kind then ts else Word kind v ∷ FatArrow ∷ ts
 after_label label ts = ts
 
 -- a number token

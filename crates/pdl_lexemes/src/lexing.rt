@@ -2,7 +2,7 @@
 
 ghost use Rattle.std.specs.Prelude.{◌≡◌, ◌≤◌, IfOk, Some, if◌then◌else◌, bytes_eq};
 ghost use Rattle.pdl_lexemes.specs.Bytes.{bytes_at};
-ghost use Rattle.pdl_lexemes.specs.Lexing.{found_in, short_keywords, keywords, short_word_kinds, word_kinds, signs, word_of, sign_of, number_of, with_digit, lexeme_of, lexemes_of};
+ghost use Rattle.pdl_lexemes.specs.Lexing.{found_in, short_keywords, keywords, short_word_kinds, word_kinds, operators, signs, word_of, sign_of, number_of, with_digit, lexeme_of, lexemes_of};
 
 use crate::{AssignOp, Keyword, Lexeme, Span, WordKind};
 use pdl_elem::{BinaryOp, Ty, UnaryOp};
@@ -97,6 +97,31 @@ fn word(text: &[u8], span: Span) -> Lexeme
     }
 }
 
+/// The operator on two values that a text is the sign of, if any.
+pub fn operator_named(text: &[u8]) -> Option<BinaryOp>
+    ensures { result ≡ found_in operators text.now }
+{
+    match text {
+        b"+" => Some(BinaryOp::Add),
+        b"-" => Some(BinaryOp::Sub),
+        b"*" => Some(BinaryOp::Mul),
+        b"/" => Some(BinaryOp::Div),
+        b"%" => Some(BinaryOp::Rem),
+        b"<<" => Some(BinaryOp::Shl),
+        b">>" => Some(BinaryOp::Shr),
+        b"<" => Some(BinaryOp::Lt),
+        b">" => Some(BinaryOp::Gt),
+        b"<=" => Some(BinaryOp::Le),
+        b">=" => Some(BinaryOp::Ge),
+        b"==" => Some(BinaryOp::Eq),
+        b"!=" => Some(BinaryOp::Ne),
+        b"&" => Some(BinaryOp::And),
+        b"|" => Some(BinaryOp::Or),
+        b"^" => Some(BinaryOp::Xor),
+        _ => None,
+    }
+}
+
 fn sign(text: &[u8]) -> Option<Lexeme>
     ensures { result ≡ found_in signs text.now }
 {
@@ -122,22 +147,6 @@ fn sign(text: &[u8]) -> Option<Lexeme>
         b"^=" => Some(Lexeme::Assign(AssignOp::With(BinaryOp::Xor))),
         b"!" => Some(Lexeme::Prefix(UnaryOp::Not)),
         b"~" => Some(Lexeme::Prefix(UnaryOp::Complement)),
-        b"+" => Some(Lexeme::Operator(BinaryOp::Add)),
-        b"-" => Some(Lexeme::Operator(BinaryOp::Sub)),
-        b"*" => Some(Lexeme::Operator(BinaryOp::Mul)),
-        b"/" => Some(Lexeme::Operator(BinaryOp::Div)),
-        b"%" => Some(Lexeme::Operator(BinaryOp::Rem)),
-        b"<<" => Some(Lexeme::Operator(BinaryOp::Shl)),
-        b">>" => Some(Lexeme::Operator(BinaryOp::Shr)),
-        b"<" => Some(Lexeme::Operator(BinaryOp::Lt)),
-        b">" => Some(Lexeme::Operator(BinaryOp::Gt)),
-        b"<=" => Some(Lexeme::Operator(BinaryOp::Le)),
-        b">=" => Some(Lexeme::Operator(BinaryOp::Ge)),
-        b"==" => Some(Lexeme::Operator(BinaryOp::Eq)),
-        b"!=" => Some(Lexeme::Operator(BinaryOp::Ne)),
-        b"&" => Some(Lexeme::Operator(BinaryOp::And)),
-        b"|" => Some(Lexeme::Operator(BinaryOp::Or)),
-        b"^" => Some(Lexeme::Operator(BinaryOp::Xor)),
         _ => None,
     }
 }
@@ -147,7 +156,10 @@ fn sign_lexeme(text: &[u8]) -> Lexeme
 {
     match sign(text) {
         Some(sign) => sign,
-        None => Lexeme::Unknown,
+        None => match operator_named(text) {
+            Some(op) => Lexeme::Operator(op),
+            None => Lexeme::Unknown,
+        },
     }
 }
 

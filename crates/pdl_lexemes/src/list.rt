@@ -4,7 +4,7 @@ ghost use Rattle.std.specs.Prelude.{◌≡◌, ◌+◌, ◌∷◌, ◌++◌, [],
 ghost use Rattle.pdl_shape.specs.Shape.{IsDims};
 ghost use Rattle.pdl_lexemes.specs.Lists.{shared, with_length};
 ghost use Rattle.pdl_lexemes.specs.Answers.{Gives};
-ghost use Rattle.pdl_lexemes.specs.ListReading.{list_reader, list_read, inside_at, filled_at, items_at, item_at, part, counted};
+ghost use Rattle.pdl_lexemes.specs.ListReading.{list_reader, list_read, inside_at, filled_at, items_at, item_at, read_part, counted};
 
 use crate::sizes::Sizes;
 use crate::{Lexeme, Lexemes, Refusal, sizes};
@@ -22,7 +22,7 @@ pub struct Row {
 pub fn read<'a>(alloc: Global, tokens: &Lexemes<'a>) -> Result<(Row, Lexemes<'a>), Refusal>
     ensures dims { IfOk result
         (λ x. IsDims (unwrap_or x.0.shape (suc (length x.0.elems.items) ∷ []))) }
-    ensures read { Gives (λ x. part x.0.shape x.0.elems.items x.1) result (list_read tokens.now) }
+    ensures read { Gives (λ x. read_part x.0.shape x.0.elems.items x.1) result (list_read tokens.now) }
 {
     list(alloc, tokens.len() + 1, Vec::new(alloc), tokens)
 }
@@ -35,7 +35,7 @@ fn list<'a>(
     front: Vec<i64>,
     tokens: &Lexemes<'a>,
 ) -> Result<(Row, Lexemes<'a>), Refusal>
-    ensures read { Gives (λ x. part x.0.shape x.0.elems.items x.1) result
+    ensures read { Gives (λ x. read_part x.0.shape x.0.elems.items x.1) result
         (list_reader fuel front.items tokens.now) }
 {
     if fuel == 0 {
@@ -53,7 +53,7 @@ fn inside<'a>(
     front: Vec<i64>,
     tokens: &Lexemes<'a>,
 ) -> Result<(Row, Lexemes<'a>), Refusal>
-    ensures read { Gives (λ x. part x.0.shape x.0.elems.items x.1) result
+    ensures read { Gives (λ x. read_part x.0.shape x.0.elems.items x.1) result
         (inside_at (list_reader fuel) front.items tokens.now) }
 {
     match tokens.after(Lexeme::CloseSquare) {
@@ -79,7 +79,7 @@ fn filled<'a>(
     front: Vec<i64>,
     tokens: &Lexemes<'a>,
 ) -> Result<(Row, Lexemes<'a>), Refusal>
-    ensures read { Gives (λ x. part x.0.shape x.0.elems.items x.1) result
+    ensures read { Gives (λ x. read_part x.0.shape x.0.elems.items x.1) result
         (filled_at (list_reader fuel) front.items tokens.now) }
 {
     let (first, rest) = item(alloc, fuel, front, tokens)?;
@@ -107,9 +107,9 @@ fn items<'a>(
     first: Row,
     tokens: &Lexemes<'a>,
 ) -> Result<(u32, Row, Lexemes<'a>), Refusal>
-    ensures read { Gives (λ x. counted x.0 (part x.1.shape x.1.elems.items x.2)) result
+    ensures read { Gives (λ x. counted x.0 (read_part x.1.shape x.1.elems.items x.2)) result
         (items_at (list_reader fuel) (length tokens.now) 1
-        (part first.shape first.elems.items tokens.now)) }
+        (read_part first.shape first.elems.items tokens.now)) }
 {
     let mut count = 1;
     let mut row = first;
@@ -151,7 +151,7 @@ fn item<'a>(
     front: Vec<i64>,
     tokens: &Lexemes<'a>,
 ) -> Result<(Row, Lexemes<'a>), Refusal>
-    ensures read { Gives (λ x. part x.0.shape x.0.elems.items x.1) result
+    ensures read { Gives (λ x. read_part x.0.shape x.0.elems.items x.1) result
         (item_at (list_reader fuel) front.items tokens.now) }
 {
     if let Some(_) = tokens.after(Lexeme::OpenSquare) {

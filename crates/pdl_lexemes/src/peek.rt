@@ -1,47 +1,23 @@
 //! Looks at the front of what is left, each with what follows.
 
 ghost use Rattle.std.specs.Prelude.{◌≡◌, ◌≤ℤ◌, pos, IfSome};
-ghost use Rattle.pdl_lexemes.specs.Peeks.{is_same, after, after_keyword, after_reshape, after_names, after_label, number_at, signed_number_at, prefix_at, word_at, method_at, type_at, quoted_at, name_at, view_word, view_at, assign_at, slot_at, is_brackets, begins_word};
+ghost use Rattle.pdl_lexemes.specs.Peeks.{after, after_keyword, after_reshape, after_names, after_label, number_at, signed_number_at, prefix_at, word_at, method_at, type_at, quoted_at, name_at, view_word, view_at, assign_at, slot_at, is_brackets, begins_word};
 
 use crate::{AssignOp, Keyword, Lexeme, Lexemes, Span, WordKind, signed};
 use pdl_elem::{BinaryOp, Ty, UnaryOp};
 
-fn is_same(sign: Lexeme, lexeme: Lexeme) -> bool
-    ensures { result ≡ is_same sign lexeme }
-{
-    match (sign, lexeme) {
-        (Lexeme::Open, Lexeme::Open)
-        | (Lexeme::Close, Lexeme::Close)
-        | (Lexeme::OpenSquare, Lexeme::OpenSquare)
-        | (Lexeme::CloseSquare, Lexeme::CloseSquare)
-        | (Lexeme::Comma, Lexeme::Comma)
-        | (Lexeme::Equals, Lexeme::Equals)
-        | (Lexeme::Arrow, Lexeme::Arrow)
-        | (Lexeme::FatArrow, Lexeme::FatArrow)
-        | (Lexeme::Operator(BinaryOp::Sub), Lexeme::Operator(BinaryOp::Sub))
-        | (Lexeme::Keyword(Keyword::Info), Lexeme::Keyword(Keyword::Info))
-        | (Lexeme::Keyword(Keyword::Sever), Lexeme::Keyword(Keyword::Sever))
-        | (Lexeme::Keyword(Keyword::Reshape), Lexeme::Keyword(Keyword::Reshape)) => true,
-        _ => false,
-    }
-}
-
 impl<'a> Lexemes<'a> {
-    /// What follows a sign without parts, a minus, `info`, `sever` or `reshape`.
+    /// What follows this lexeme.
     pub fn after(&self, sign: Lexeme) -> Option<Lexemes<'a>>
         ensures rest { result ≡ after sign self.now }
     {
         match self.split_first() {
             None => None,
-            Some((first, rest)) => if is_same(sign, first) {
-                Some(rest)
-            } else {
-                None
-            },
+            Some((first, rest)) => if sign == first { Some(rest) } else { None },
         }
     }
 
-    /// What follows an arrow and `info`, `sever` or `reshape`.
+    /// What follows an arrow and this word.
     pub fn after_keyword(&self, word: Keyword) -> Option<Lexemes<'a>>
         ensures rest { result ≡ after_keyword word self.now }
     {
@@ -71,18 +47,15 @@ impl<'a> Lexemes<'a> {
         }
     }
 
-    /// What follows `Pars =>` or `Code =>`; without it, all.
+    /// What follows a word of this kind and `=>`; without them, all.
     pub fn after_label(&self, label: WordKind) -> Lexemes<'a>
         ensures rest { result ≡ after_label label self.now }
     {
-        match (label, self.split_first()) {
-            (WordKind::Pars, Some((Lexeme::Word(WordKind::Pars, _), rest)))
-            | (WordKind::Code, Some((Lexeme::Word(WordKind::Code, _), rest))) => {
-                match rest.split_first() {
-                    Some((Lexeme::FatArrow, rest)) => rest,
-                    _ => self.copy(),
-                }
-            }
+        match self.split_first() {
+            Some((Lexeme::Word(kind, _), rest)) => match rest.split_first() {
+                Some((Lexeme::FatArrow, rest)) => if label == kind { rest } else { self.copy() },
+                _ => self.copy(),
+            },
             _ => self.copy(),
         }
     }

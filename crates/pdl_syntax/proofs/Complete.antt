@@ -13,7 +13,7 @@ use Rattle.pdl_lexemes.specs.declared.Lexeme.{Lexeme}
 use Rattle.pdl_lexemes.specs.declared.Lexeme.TheVariants.{Name, Keyword, Word, Number, Quoted, Open, Close, OpenSquare, Comma, Arrow, Operator, Prefix}
 use Rattle.pdl_lexemes.specs.Bytes.{bytes_at}
 use Rattle.pdl_lexemes.specs.Lists.{signed}
-use Rattle.pdl_lexemes.specs.ListReading.{list_read, part as list_part}
+use Rattle.pdl_lexemes.specs.ListReading.{list_read, read_part}
 use Rattle.pdl_lexemes.specs.Laws.{ListsAreRead}
 use Rattle.pdl_lexemes.specs.Peeks.{after, method_at, prefix_at, quoted_at, type_at}
 use Rattle.pdl_syntax.specs.Tree.{Tree, Args, number, named, unary, binary, call, none, value, text, of_type}
@@ -252,9 +252,9 @@ module _ (lists : ListsAreRead) (source : List ℕ) where
   read_name n w rest = refl
 
   literal_read : (shape : Option (List ℕ)) (elems : List ℤ) (ts us rest : List Lexeme) → ts ≡ OpenSquare ∷ us →
-      list_read ts ≡ Some (list_part shape elems rest) → literal_at ts ≡ Some (literal_of shape elems, rest)
+      list_read ts ≡ Some (read_part shape elems rest) → literal_at ts ≡ Some (literal_of shape elems, rest)
   literal_read shape elems ts us rest e h =
-      subst (λ vs. list_read vs ≡ Some (list_part shape elems rest) → literal_at vs ≡ Some (literal_of shape elems, rest)) (sym e)
+      subst (λ vs. list_read vs ≡ Some (read_part shape elems rest) → literal_at vs ≡ Some (literal_of shape elems, rest)) (sym e)
       (λ k. rw k) h
 
   read_list : (n : ℕ) (ts : List Lexeme) (x : Option (Tree × List Lexeme)) → literal_at ts ≡ x → primary_at source (reader source n) (Keyword Pdl ∷ ts) ≡ x
@@ -262,7 +262,7 @@ module _ (lists : ListsAreRead) (source : List ℕ) where
   read_list n ts x e = e
 
   round_literal_read : (shape : Option (List ℕ)) (elems : List ℤ) (ts rest : List Lexeme) →
-      list_read ts ≡ Some (list_part shape elems (Close ∷ rest)) → literal_at (Open ∷ ts) ≡ Some (literal_of shape elems, rest)
+      list_read ts ≡ Some (read_part shape elems (Close ∷ rest)) → literal_at (Open ∷ ts) ≡ Some (literal_of shape elems, rest)
   round_literal_read shape elems ts rest h = rw h
 
   read_call : (n : ℕ) (kind : WordKind) (w : Span) (args : Args) (ts rest : List Lexeme) → closed_at source (reader source n) none ts ≡ Some (args, rest) →

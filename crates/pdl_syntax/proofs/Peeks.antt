@@ -1,41 +1,28 @@
 -- What a look at the front says of it.
-use Rattle.std.proofs.Common.{◌≡◌, ◌≤◌, ℕ, List, [], ◌∷◌, Option, Some, None, Bool, true, false, nat_eq, if◌then◌else◌, true≢false, refl, ap, sym, ◌∙◌, subst, eqb-true, eq-eqb, arith}
+use Rattle.std.proofs.Common.{rules, ◌≡◌, ◌≤◌, ℕ, List, [], ◌∷◌, Option, Some, None, Bool, true, false, nat_eq, if◌then◌else◌, refl, ap, ◌∙◌, subst, eqb-true, eq-eqb, arith}
 use Rattle.std.proofs.lemmas.Bool.{leb-false}
 use Rattle.pdl_elem.specs.declared.BinaryOp.{BinaryOp}
-use Rattle.pdl_elem.specs.declared.BinaryOp.TheVariants.{Sub}
 use Rattle.pdl_elem.specs.declared.Ty.{Ty}
 use Rattle.pdl_lexemes.specs.declared.Span.{Span}
 use Rattle.pdl_lexemes.specs.declared.WordKind.{WordKind}
 use Rattle.pdl_lexemes.specs.declared.WordKind.TheVariants.{OfType}
-use Rattle.pdl_lexemes.specs.declared.Keyword.TheVariants.{Info, Sever, Reshape}
+use Rattle.pdl_lexemes.specs.contracts.LexemePartialEq.TheImpl as lexeme
 use Rattle.pdl_lexemes.specs.declared.Lexeme.{Lexeme}
-use Rattle.pdl_lexemes.specs.declared.Lexeme.TheVariants.{Keyword, Word, Quoted, Open, Close, OpenSquare, CloseSquare, Comma, Equals, Arrow, FatArrow, Operator}
+use Rattle.pdl_lexemes.specs.declared.Lexeme.TheVariants.{Word, Quoted, Open, Arrow, Operator}
 use Rattle.pdl_syntax.proofs.Options.{some_inj, none_some, then_elim}
-use Rattle.pdl_lexemes.specs.Peeks.{Read, is_same, after, method_at, quoted_at, type_at, type_step, word_at}
+use Rattle.pdl_lexemes.specs.Peeks.{Read, after, method_at, quoted_at, type_at, type_step, word_at}
 use Rattle.pdl_syntax.specs.Reading.{operator_at, begins_operator}
 use Rattle.pdl_syntax.specs.Grammar.{level_of}
 
-same_is : (a b : Lexeme) → is_same a b ≡ true → b ≡ a
-same_is Open Open e = refl
-same_is Close Close e = refl
-same_is OpenSquare OpenSquare e = refl
-same_is CloseSquare CloseSquare e = refl
-same_is Comma Comma e = refl
-same_is Equals Equals e = refl
-same_is Arrow Arrow e = refl
-same_is FatArrow FatArrow e = refl
-same_is (Operator Sub) (Operator Sub) e = refl
-same_is (Keyword Info) (Keyword Info) e = refl
-same_is (Keyword Sever) (Keyword Sever) e = refl
-same_is (Keyword Reshape) (Keyword Reshape) e = refl
-same_is _ _ e = absurd (true≢false (sym e))
+same_is : (a b : Lexeme) → lexeme.ghosts.eq a b ≡ true → b ≡ a
+same_is a b e = search rules
 
--- what follows a sign stands behind it
+-- what follows a lexeme stands behind it
 pub after_is : (sign : Lexeme) (ts : List Lexeme) {us : List Lexeme} → after sign ts ≡ Some us → ts ≡ sign ∷ us
 after_is sign [] e = absurd (none_some e)
-after_is sign (t ∷ ts) {us = us} e = of_test (is_same sign t) refl e
+after_is sign (t ∷ ts) {us = us} e = of_test (lexeme.ghosts.eq sign t) refl e
   where
-    of_test : (b : Bool) → is_same sign t ≡ b → (if b then Some ts else None) ≡ Some us → t ∷ ts ≡ sign ∷ us
+    of_test : (b : Bool) → lexeme.ghosts.eq sign t ≡ b → (if b then Some ts else None) ≡ Some us → t ∷ ts ≡ sign ∷ us
     of_test true same k = ap (λ x. x ∷ ts) (same_is sign t same) ∙ ap (λ x. sign ∷ x) (some_inj k)
     of_test false same k = absurd (none_some k)
 

@@ -95,6 +95,8 @@ pars_text source ts x e = of_front ts (quoted_is (after_label Pars ts) x e)
   where
     of_front : (us : List Lexeme) → after_label Pars us ≡ Quoted x.0 ∷ x.1 → SpellsText source Pars (bytes_at source x.0) us x.1
     of_front (Word Pars v ∷ FatArrow ∷ us) h = subst (λ vs. SpellsText source Pars (bytes_at source x.0) (Word Pars v ∷ FatArrow ∷ vs) x.1) (sym h) labelled
+    of_front (Word kind v ∷ FatArrow ∷ us) h = subst (λ vs. SpellsText source Pars (bytes_at source x.0) vs x.1) (sym h) plain_text
+    of_front (Word kind v ∷ t ∷ us) h = subst (λ vs. SpellsText source Pars (bytes_at source x.0) vs x.1) (sym h) plain_text
     of_front us h = subst (λ vs. SpellsText source Pars (bytes_at source x.0) vs x.1) (sym h) plain_text
 
 code_text : (source : List ℕ) (ts : List Lexeme) (x : Span × List Lexeme) → quoted_at (after_label Code ts) ≡ Some x → SpellsText source Code (bytes_at source x.0) ts x.1
@@ -102,6 +104,8 @@ code_text source ts x e = of_front ts (quoted_is (after_label Code ts) x e)
   where
     of_front : (us : List Lexeme) → after_label Code us ≡ Quoted x.0 ∷ x.1 → SpellsText source Code (bytes_at source x.0) us x.1
     of_front (Word Code v ∷ FatArrow ∷ us) h = subst (λ vs. SpellsText source Code (bytes_at source x.0) (Word Code v ∷ FatArrow ∷ vs) x.1) (sym h) labelled
+    of_front (Word kind v ∷ FatArrow ∷ us) h = subst (λ vs. SpellsText source Code (bytes_at source x.0) vs x.1) (sym h) plain_text
+    of_front (Word kind v ∷ t ∷ us) h = subst (λ vs. SpellsText source Code (bytes_at source x.0) vs x.1) (sym h) plain_text
     of_front us h = subst (λ vs. SpellsText source Code (bytes_at source x.0) vs x.1) (sym h) plain_text
 
 module _ (source : List ℕ) where

@@ -7,7 +7,7 @@ use Rattle.pdl_lexemes.specs.declared.Lexeme.{Lexeme}
 use Rattle.pdl_lexemes.specs.declared.Lexeme.TheVariants.{Name, Keyword, Word, Number, Open, Close, Operator, Comma}
 use Rattle.pdl_lexemes.specs.Bytes.{bytes_at}
 use Rattle.pdl_lexemes.specs.Lists.{signed}
-use Rattle.pdl_lexemes.specs.ListReading.{choose, list_read, Part as ListPart}
+use Rattle.pdl_lexemes.specs.ListReading.{choose, list_read, ReadPart}
 use Rattle.pdl_lexemes.specs.Peeks.{Read, after, prefix_at, method_at, type_at, quoted_at}
 use Rattle.pdl_syntax.specs.Tree.{Tree, Args, number, named, unary, binary, call, none, value, text, of_type}
 use Rattle.pdl_syntax.specs.Grammar.{level_of, many, literal_of}
@@ -27,7 +27,7 @@ abbrev pub limit_of : ℕ → List Lexeme → ℕ
 limit_of l ts = if many l then length ts else 1
 
 -- a list literal behind `pdl`
-abbrev pub tree_of_list : ListPart → Tree
+abbrev pub tree_of_list : ReadPart → Tree
 tree_of_list p = literal_of p.shape p.elems
 
 abbrev pub round_list_at : List Lexeme → Read Tree
