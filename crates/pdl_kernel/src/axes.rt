@@ -39,6 +39,7 @@ pub fn find(axes: &[Axis], start: usize, at: &[i64; MOST]) -> Option<usize>
 }
 
 /// The index of the loop over a dimension.
+#[inline(always)]
 pub fn loop_index(at: &[u32; MOST], dimension: usize) -> u32
     ensures { result ≡ get_or at.now dimension 0 }
 {
@@ -47,6 +48,7 @@ pub fn loop_index(at: &[u32; MOST], dimension: usize) -> u32
 
 /// The place to which an access leads, where each of its indices is a loop's, in the order of the
 /// dimensions. None where it isn't so, or one is out of range.
+#[inline(always)]
 pub fn looped(axes: &[Axis], start: usize, at: &[u32; MOST], entries: &[Entry]) -> Option<usize>
     requires small { All IsSmall axes.now }
     requires start { start ≤ 1152921504606846976 }

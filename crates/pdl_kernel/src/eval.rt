@@ -25,8 +25,31 @@ pub fn size_in(resolved: &Resolved, dimension: usize) -> u32
     }
 }
 
-/// The number of an expression that is no operation, and whose indices, where it is an access, are
-/// those of loops and lead to an element. It makes no further call for a part.
+/// The number of an expression without parts.
+#[inline(always)]
+fn atom(
+    resolved: &Resolved,
+    sources: &[Source],
+    frames: &Frames,
+    at: &[u32; MOST],
+    expr: &Expr,
+) -> Option<i64>
+    ensures { let m = store_of sources.now frames.now in
+        IfSome result (λ x. value resolved.now.sizes at.now m (tree_of expr.now) ≡ Ok x) }
+{
+    let _inputs = sources.len();
+    match expr {
+        Expr::Number(n) => Some(*n),
+        Expr::Size(dimension) => Some(i64::from(size_in(resolved, *dimension))),
+        Expr::Index(dimension) => Some(i64::from(loop_index(at, *dimension))),
+        Expr::Local(slot) => Some(frames.local(*slot)),
+        Expr::Access(_, _) | Expr::Unary(_, _) | Expr::Binary(_, _, _) => None,
+    }
+}
+
+/// The number of an expression without parts, of an operation on two of these, or of an access
+/// whose indices are those of loops and lead to an element. It makes no further call for a part.
+#[inline(always)]
 fn simple(
     resolved: &Resolved,
     sources: &[Source],
@@ -38,19 +61,22 @@ fn simple(
         IfSome result (λ x. value resolved.now.sizes at.now m (tree_of expr.now) ≡ Ok x) }
 {
     match expr {
-        Expr::Number(n) => Some(*n),
-        Expr::Size(dimension) => Some(i64::from(size_in(resolved, *dimension))),
-        Expr::Index(dimension) => Some(i64::from(loop_index(at, *dimension))),
-        Expr::Local(slot) => Some(frames.local(*slot)),
         Expr::Access(number, entries) => looped_element(sources, frames, at, *number, entries),
-        Expr::Unary(_, _) | Expr::Binary(_, _, _) => None,
+        Expr::Binary(op, left, right) => match atom(resolved, sources, frames, at, left) {
+            Some(a) => match atom(resolved, sources, frames, at, right) {
+                Some(b) => operate_quickly(*op, a, b),
+                None => None,
+            },
+            None => None,
+        },
+        _ => atom(resolved, sources, frames, at, expr),
     }
 }
 
-/// The number of an expression, where it has no fault. It hands the number out in a register, for
-/// which the answers of `computed` are too large.
+/// The number of a part of an expression, where it has no fault: at once where it is simple.
 #[cycle(quick)]
-fn quick(
+#[inline(always)]
+fn part(
     resolved: &Resolved,
     sources: &[Source],
     frames: &Frames,
@@ -62,26 +88,42 @@ fn quick(
 {
     match simple(resolved, sources, frames, at, expr) {
         Some(x) => Some(x),
-        None => match expr {
-            Expr::Access(number, entries) => {
-                match quick_indices(resolved, sources, frames, at, entries) {
-                    Some(found) => read_quickly(sources, frames, *number, &found),
-                    None => None,
-                }
+        None => quick(resolved, sources, frames, at, expr),
+    }
+}
+
+/// The number of an expression that isn't simple, where it has no fault. It hands the number out
+/// in a register, for which the answers of `computed` are too large.
+#[cycle(quick)]
+fn quick(
+    resolved: &Resolved,
+    sources: &[Source],
+    frames: &Frames,
+    at: &[u32; MOST],
+    expr: &Expr,
+) -> Option<i64>
+    ensures { let m = store_of sources.now frames.now in
+        IfSome result (λ x. value resolved.now.sizes at.now m (tree_of expr.now) ≡ Ok x) }
+{
+    match expr {
+        Expr::Access(number, entries) => {
+            match quick_indices(resolved, sources, frames, at, entries) {
+                Some(found) => read_quickly(sources, frames, *number, &found),
+                None => None,
             }
-            Expr::Unary(op, inner) => match quick(resolved, sources, frames, at, inner) {
-                Some(a) => Some(unary(*op, Ty::Longlong, a)),
-                None => None,
-            },
-            Expr::Binary(op, left, right) => match quick(resolved, sources, frames, at, left) {
-                Some(a) => match quick(resolved, sources, frames, at, right) {
-                    Some(b) => operate_quickly(*op, a, b),
-                    None => None,
-                },
-                None => None,
-            },
-            _ => None,
+        }
+        Expr::Unary(op, inner) => match part(resolved, sources, frames, at, inner) {
+            Some(a) => Some(unary(*op, Ty::Longlong, a)),
+            None => None,
         },
+        Expr::Binary(op, left, right) => match part(resolved, sources, frames, at, left) {
+            Some(a) => match part(resolved, sources, frames, at, right) {
+                Some(b) => operate_quickly(*op, a, b),
+                None => None,
+            },
+            None => None,
+        },
+        _ => None,
     }
 }
 
@@ -101,7 +143,7 @@ fn quick_indices(
     let mut found = [0i64; MOST];
     for entry in entries {
         match entry {
-            Entry::Given(place, expr) => match quick(resolved, sources, frames, at, expr) {
+            Entry::Given(place, expr) => match part(resolved, sources, frames, at, expr) {
                 Some(i) => put_at(&mut found, *place, i),
                 None => return None,
             },
@@ -114,6 +156,7 @@ fn quick_indices(
 }
 
 /// The number of an expression, or its first fault.
+#[inline(always)]
 pub fn value(
     resolved: &Resolved,
     sources: &[Source],
@@ -124,7 +167,7 @@ pub fn value(
     ensures { let m = store_of sources.now frames.now in
         result ≡ value resolved.now.sizes at.now m (tree_of expr.now) }
 {
-    match quick(resolved, sources, frames, at, expr) {
+    match part(resolved, sources, frames, at, expr) {
         Some(x) => Ok(x),
         None => computed(resolved, sources, frames, at, expr),
     }
@@ -132,6 +175,8 @@ pub fn value(
 
 /// The same, where a fault is known: part by part.
 #[cycle(eval)]
+#[cold]
+#[inline(never)]
 fn computed(
     resolved: &Resolved,
     sources: &[Source],

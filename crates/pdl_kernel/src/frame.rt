@@ -54,6 +54,7 @@ impl Frame {
     }
 
     /// The position of an access by the indices of loops, where these lead to one.
+    #[inline(always)]
     pub fn looped(&self, at: &[u32; MOST], entries: &[Entry]) -> Option<usize>
         ensures { IfSome result (LeadsWithin self.now at.now (indices_of entries.now)) }
     {
@@ -236,6 +237,7 @@ impl Frames {
     }
 
     /// The position in a block of an access by the indices of loops, where these lead to one.
+    #[inline(always)]
     pub fn looped(&self, number: usize, at: &[u32; MOST], entries: &[Entry]) -> Option<usize>
         ensures leads { IfSome result (LeadsWithin (get_or self.now.arrays number nothing) at.now
             (indices_of entries.now)) }

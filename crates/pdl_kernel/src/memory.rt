@@ -50,6 +50,7 @@ pub fn read_quickly(
 }
 
 /// The element of an access by the indices of loops, where these lead to one.
+#[inline(always)]
 pub fn looped_element(
     sources: &[Source],
     frames: &Frames,

@@ -75,6 +75,7 @@ impl Source {
     }
 
     /// The element of an access by the indices of loops, where these lead to one.
+    #[inline(always)]
     pub fn looped(&self, at: &[u32; MOST], entries: &[Entry]) -> Option<i64>
         ensures { IfSome result (LeadsToElement (shown self.now) at.now (indices_of entries.now)) }
     {

@@ -4,9 +4,9 @@ use Rattle.pdl_kernel.proofs.Rows.{access_tree}
 use Rattle.pdl_kernel.proofs.Turning.{access_read}
 use Rattle.pdl_kernel.proofs.eval.+quick.Goals as goal
 
-pub quick-returns-in-Some-quick_indices : goal.quick-returns-in-Some-quick_indices
-quick-returns-in-Some-quick_indices t c =
+pub quick-returns-in-Some : goal.quick-returns-in-Some
+quick-returns-in-Some t c =
     let m = store_of c.args.sources.now c.args.frames.now in
     let is = indices_of c.deref.result.now in
     let tree = access_tree c.args.expr.now c.in-Access.number c.in-Access.entries c.deref.result.now c.in-Access.is c.deref.ensures.value in
-    access_read c.args.resolved.now.sizes c.args.at.now m _ c.in-Access.number is c.in-Some-quick_indices.found c.read_quickly.result tree c.in-Some-quick_indices.ensures c.read_quickly.ensures
+    access_read c.args.resolved.now.sizes c.args.at.now m _ c.in-Access.number is c.in-Some.found c.read_quickly.result tree c.in-Some.ensures c.read_quickly.ensures
