@@ -1,17 +1,16 @@
 -- The place of indices in a buffer.
-use Rattle.std.proofs.Common.{◌≡◌, ℕ, zero, suc, ◌+◌, ◌*◌, ◌/◌, ◌%◌, ◌<◌, ◌≤◌, ℤ, pos, negsuc, ◌<ℤ◌, ◌≤ℤ◌, List, [], ◌∷◌, length, drop, get_or, Some, None, Ok, Err, refl, sym, ap, subst, ◌∙◌, arith, add-one}
+use Rattle.std.proofs.Common.{◌≡◌, ℕ, zero, suc, ◌+◌, ◌*◌, ◌/◌, ◌%◌, ◌<◌, ◌≤◌, ℤ, pos, negsuc, ◌<ℤ◌, ◌≤ℤ◌, List, [], ◌∷◌, length, drop, get_or, Some, None, Ok, refl, sym, ap, subst, ◌∙◌, arith, add-one}
 use Rattle.std.proofs.lemmas.Bool.Decides.{nat_tests}
 use Rattle.std.proofs.lemmas.Int.{ints}
 use borrow.Author.Tests.{ltb-true}
-use Rattle.std.specs.Prelude.{nat_lt, if◌then◌else◌, Option, Result, option_map, Bool, true, false}
+use Rattle.std.specs.Prelude.{nat_lt, if◌then◌else◌, Option, option_map, Bool, true, false}
 use Rattle.std.proofs.lemmas.List.FromFn.{get_or-map-range_with_len}
 use Rattle.pdl_elem.specs.declared.Ty.{Ty}
 use Rattle.pdl_shape.specs.Shape.{position_of, coordinates_of, size_of, IsWithin}
 use Rattle.pdl_shape.specs.Laws.{PositionLaws}
 use Rattle.pdl_kernel.specs.declared.axes.Axis.{Axis}
-use Rattle.pdl_kernel.specs.declared.faults.Fault.TheVariants.{IndexOutOfRange}
-use Rattle.pdl_kernel.specs.declared.faults.Fault.{Fault}
 use Rattle.pdl_kernel.specs.Arrays.{coordinates_in, element}
+use Rattle.pdl_kernel.specs.Leading.{at_place}
 use Rattle.pdl_kernel.specs.Meaning.{element_at, or_range, and_then}
 use Rattle.pdl_kernel.specs.Sources.{dot, found, reach, sizes_of, seen, InOrder}
 
@@ -92,10 +91,6 @@ input_at laws ty axes offset es is (Some cs) e =
     let ds : List ℕ = sizes_of axes in
     ap Ok (get_or-map-range_with_len (λ p. get_or es (offset + reach axes (coordinates_of ds p)) (pos 0)) 0 (size_of ds) (position_of ds cs) (position_of ds cs) (pos 0) (laws.position_below ds cs w) (omega arith)
     ∙ ap (λ c. get_or es (offset + reach axes c) (pos 0)) (laws.coordinates_again ds cs w))
-
-abbrev pub at_place : List ℤ → Option ℕ → Result ℤ Fault
-at_place es None = Err IndexOutOfRange
-at_place es (Some q) = Ok (get_or es q (pos 0))
 
 pub input_is : PositionLaws → (ty : Ty) (axes : List Axis) (offset : ℕ) (es : List ℤ) (is : List ℤ)
     → at_place es (found axes is offset) ≡ element_at (record { ty = ty; dims = sizes_of axes; elems = seen offset axes es }) is

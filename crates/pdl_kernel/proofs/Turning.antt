@@ -4,7 +4,6 @@ use Rattle.std.specs.Prelude.{Result, Option, Some, None, IfSome}
 use Rattle.pdl_kernel.specs.declared.faults.Fault.{Fault}
 use Rattle.pdl_sig.specs.declared.Resolved.{Resolved}
 use Rattle.pdl_kernel.specs.Answers.{Becomes}
-use Rattle.pdl_kernel.specs.Leading.{LeadsToElement}
 use Rattle.pdl_kernel.specs.Meaning.{Store, and_then, argument, branch, element_at, indices, run, start, step, value}
 use Rattle.pdl_code.specs.Tree.{Tree, Indices, Step, Code, access, choose}
 
@@ -21,9 +20,9 @@ access_read sizes at m t a is found None e ok h = tt
 access_read sizes at m t a is found (Some x) e ok h = sym (access_ok sizes at m t a is found e ok) ∙ h
 
 pub access_led : (sizes at : List ℕ) (m : Store) (t : Tree) (a : ℕ) (is : Indices) (r : Option ℤ) → t ≡ access a is
-    → IfSome r (LeadsToElement (argument m a) at is) → IfSome r (λ x. value sizes at m t ≡ Ok x)
+    → IfSome r (λ x. and_then (indices sizes at m is start) (element_at (argument m a)) ≡ Ok x) → IfSome r (λ x. value sizes at m t ≡ Ok x)
 access_led sizes at m t a is None e leads = tt
-access_led sizes at m t a is (Some x) e leads = ap (value sizes at m) e ∙ leads sizes m
+access_led sizes at m t a is (Some x) e leads = ap (value sizes at m) e ∙ leads
 
 pub chosen : {B : Type 0} (r : Result B Fault) (now m : Store) (call : Resolved) (at : List ℕ) (s : Step) (e : Tree) (whole other : Code) (x : ℤ) → s ≡ choose e whole other → value call.sizes at m e ≡ Ok x
     → Becomes r now (branch x (run call at whole m) (run call at other m)) → Becomes r now (step call at s m)

@@ -1,11 +1,8 @@
 //! Places in flat buffers.
 ghost use Rattle.std.specs.Prelude.{◌≡◌, ◌≤◌, ◌<◌, get_or, slice_set, length, pos, All, IfSome};
 ghost use Rattle.pdl_shape.specs.Shape.{extent_limit, size_of, coordinates_of};
-ghost use Rattle.pdl_code.specs.TreeOf.{indices_of};
-ghost use Rattle.pdl_kernel.specs.Leading.{LeadsTo};
 ghost use Rattle.pdl_kernel.specs.Sources.{IsSmall, dot, found, reach, sizes_of};
 
-use pdl_code::Entry;
 use pdl_shape::shape_laws;
 
 /// A core dimension of an argument: its size, and how far one step along it goes in the buffer.
@@ -13,6 +10,14 @@ use pdl_shape::shape_laws;
 pub struct Axis {
     pub size: u32,
     pub step: u32,
+}
+
+/// Where the elements of an argument lie: in a buffer, from a place on.
+#[derive(Clone, Copy)]
+pub struct Layout<'a> {
+    pub axes: &'a [Axis],
+    pub start: usize,
+    pub elems: &'a [i64],
 }
 
 /// The most dimensions that a signature names, and so the most that an argument has.
@@ -46,31 +51,16 @@ pub fn loop_index(at: &[u32; MOST], dimension: usize) -> u32
     if dimension < MOST { at[dimension] } else { 0 }
 }
 
-/// The place to which an access leads, where each of its indices is a loop's, in the order of the
-/// dimensions. None where it isn't so, or one is out of range.
+/// An index along a dimension of a size, where it is in range.
 #[inline(always)]
-pub fn looped(axes: &[Axis], start: usize, at: &[u32; MOST], entries: &[Entry]) -> Option<usize>
-    requires small { All IsSmall axes.now }
-    requires start { start ≤ 1152921504606846976 }
-    ensures { IfSome result (LeadsTo axes.now at.now (indices_of entries.now) start) }
+pub fn index_within(index: i64, size: u32) -> Option<u32>
+    ensures { IfSome result (λ i. (i < size) × (index ≡ pos i)) }
 {
-    if axes.len() != entries.len() || axes.len() > MOST {
-        return None;
+    if index < 0 || index >= i64::from(size) {
+        None
+    } else {
+        Some(index as u32)
     }
-    let mut place = start;
-    for (k, entry) in entries.iter().enumerate() {
-        match entry {
-            Entry::Looped(dimension, word) => {
-                let index = loop_index(at, *word);
-                if *dimension != k || index >= axes[k].size {
-                    return None;
-                }
-                place += axes[k].step as usize * index as usize;
-            }
-            Entry::Given(_, _) => return None,
-        }
-    }
-    Some(place)
 }
 
 /// The steps times the coordinates.

@@ -1,14 +1,15 @@
 //! The number of an expression. It takes no memory.
-ghost use Rattle.std.specs.Prelude.{◌≡◌, slice_index_or, IfSome, Ok};
+ghost use Rattle.std.specs.Prelude.{◌≡◌, ◌<◌, ◌≤◌, length, All, IfSome, Ok};
 ghost use Rattle.pdl_sig.specs.Resolution.{size_in};
 ghost use Rattle.pdl_code.specs.TreeOf.{tree_of, indices_of};
-ghost use Rattle.pdl_kernel.specs.Meaning.{value, indices, start};
-ghost use Rattle.pdl_kernel.specs.Sources.{store_of};
+ghost use Rattle.pdl_kernel.specs.Leading.{IsIndexAlong, LeadsTo, LeadsWithin};
+ghost use Rattle.pdl_kernel.specs.Meaning.{and_then, argument, element_at, value, indices, start};
+ghost use Rattle.pdl_kernel.specs.Sources.{IsFree, IsSmall, roles_of, store_of};
 
-use crate::axes::{MOST, loop_index, put_at};
+use crate::axes::{Axis, MOST, element_in, index_within, loop_index, put_at};
 use crate::faults::Fault;
 use crate::frame::Frames;
-use crate::memory::{looped_element, read, read_quickly};
+use crate::memory::{layout, read, read_quickly};
 use crate::operations::{operate, operate_quickly};
 use crate::source::Source;
 use pdl_code::{Entry, Expr};
@@ -47,8 +48,185 @@ fn atom(
     }
 }
 
-/// The number of an expression without parts, of an operation on two of these, or of an access
-/// whose indices are those of loops and lead to an element. It makes no further call for a part.
+/// The number of an operation on two expressions without parts, or of one of these.
+#[inline(always)]
+fn pair(
+    resolved: &Resolved,
+    sources: &[Source],
+    frames: &Frames,
+    at: &[u32; MOST],
+    expr: &Expr,
+) -> Option<i64>
+    ensures { let m = store_of sources.now frames.now in
+        IfSome result (λ x. value resolved.now.sizes at.now m (tree_of expr.now) ≡ Ok x) }
+{
+    match expr {
+        Expr::Binary(op, left, right) => match atom(resolved, sources, frames, at, left) {
+            Some(a) => match atom(resolved, sources, frames, at, right) {
+                Some(b) => operate_quickly(*op, a, b),
+                None => None,
+            },
+            None => None,
+        },
+        _ => atom(resolved, sources, frames, at, expr),
+    }
+}
+
+/// The number of an operation on such an expression and one without parts, or of one of these.
+#[inline(always)]
+fn small(
+    resolved: &Resolved,
+    sources: &[Source],
+    frames: &Frames,
+    at: &[u32; MOST],
+    expr: &Expr,
+) -> Option<i64>
+    ensures { let m = store_of sources.now frames.now in
+        IfSome result (λ x. value resolved.now.sizes at.now m (tree_of expr.now) ≡ Ok x) }
+{
+    match expr {
+        Expr::Binary(op, left, right) => match pair(resolved, sources, frames, at, left) {
+            Some(a) => match atom(resolved, sources, frames, at, right) {
+                Some(b) => operate_quickly(*op, a, b),
+                None => None,
+            },
+            None => None,
+        },
+        _ => atom(resolved, sources, frames, at, expr),
+    }
+}
+
+/// The number of an index along a dimension, where it is a loop's or that of a small expression.
+#[inline(always)]
+fn index_along(
+    resolved: &Resolved,
+    sources: &[Source],
+    frames: &Frames,
+    at: &[u32; MOST],
+    entry: &Entry,
+    dimension: usize,
+) -> Option<i64>
+    ensures { let m = store_of sources.now frames.now in
+        IfSome result (IsIndexAlong resolved.now.sizes at.now m entry.now dimension) }
+{
+    match entry {
+        Entry::Looped(place, word) => {
+            if *place == dimension {
+                Some(i64::from(loop_index(at, *word)))
+            } else {
+                None
+            }
+        }
+        Entry::Given(place, expr) => {
+            if *place == dimension {
+                small(resolved, sources, frames, at, expr)
+            } else {
+                None
+            }
+        }
+    }
+}
+
+/// The place to which an access leads, where its indices are in the order of the dimensions and
+/// in range, and each is a loop's or that of a small expression.
+#[inline(always)]
+fn led(
+    resolved: &Resolved,
+    sources: &[Source],
+    frames: &Frames,
+    at: &[u32; MOST],
+    axes: &[Axis],
+    from: usize,
+    entries: &[Entry],
+) -> Option<usize>
+    requires small { All IsSmall axes.now }
+    requires from { from ≤ 1152921504606846976 }
+    ensures { let m = store_of sources.now frames.now in
+        IfSome result (LeadsTo resolved.now.sizes at.now m axes.now (indices_of entries.now) from) }
+{
+    if axes.len() != entries.len() || axes.len() > MOST {
+        return None;
+    }
+    let mut place = from;
+    for (k, entry) in entries.iter().enumerate() {
+        match index_along(resolved, sources, frames, at, entry, k) {
+            Some(number) => match index_within(number, axes[k].size) {
+                Some(index) => {
+                    place += axes[k].step as usize * index as usize;
+                }
+                None => return None,
+            },
+            None => return None,
+        }
+    }
+    Some(place)
+}
+
+/// The element to which an access leads, where it leads to one without a further call.
+#[inline(always)]
+fn element(
+    resolved: &Resolved,
+    sources: &[Source],
+    frames: &Frames,
+    at: &[u32; MOST],
+    number: usize,
+    entries: &[Entry],
+) -> Option<i64>
+    ensures { let m = store_of sources.now frames.now in
+        IfSome result (λ x. and_then
+        (indices resolved.now.sizes at.now m (indices_of entries.now) start)
+        (element_at (argument m number)) ≡ Ok x) }
+{
+    match layout(sources, frames, number) {
+        Some(layout) => match led(
+            resolved,
+            sources,
+            frames,
+            at,
+            layout.axes,
+            layout.start,
+            entries,
+        ) {
+            Some(place) => Some(element_in(layout.elems, place)),
+            None => None,
+        },
+        None => None,
+    }
+}
+
+/// The position to which an access to an argument that isn't an input leads, where it leads to one
+/// without a further call.
+#[inline(always)]
+pub fn position(
+    resolved: &Resolved,
+    sources: &[Source],
+    frames: &Frames,
+    at: &[u32; MOST],
+    number: usize,
+    entries: &[Entry],
+) -> Option<usize>
+    requires { IsFree (roles_of sources.now) number }
+    ensures leads { let m = store_of sources.now frames.now in
+        IfSome result (LeadsWithin resolved.now.sizes at.now m (argument m number)
+        (indices_of entries.now)) }
+    ensures known { IfSome result (λ place. number < length frames.now.arrays) }
+{
+    match frames.layout(number) {
+        Some(layout) => led(
+            resolved,
+            sources,
+            frames,
+            at,
+            layout.axes,
+            layout.start,
+            entries,
+        ),
+        None => None,
+    }
+}
+
+/// The number of an expression that is small, or that is an access and leads to an element without
+/// a further call.
 #[inline(always)]
 fn simple(
     resolved: &Resolved,
@@ -61,15 +239,10 @@ fn simple(
         IfSome result (λ x. value resolved.now.sizes at.now m (tree_of expr.now) ≡ Ok x) }
 {
     match expr {
-        Expr::Access(number, entries) => looped_element(sources, frames, at, *number, entries),
-        Expr::Binary(op, left, right) => match atom(resolved, sources, frames, at, left) {
-            Some(a) => match atom(resolved, sources, frames, at, right) {
-                Some(b) => operate_quickly(*op, a, b),
-                None => None,
-            },
-            None => None,
-        },
-        _ => atom(resolved, sources, frames, at, expr),
+        Expr::Access(number, entries) => {
+            element(resolved, sources, frames, at, *number, entries)
+        }
+        _ => small(resolved, sources, frames, at, expr),
     }
 }
 
@@ -129,6 +302,7 @@ fn quick(
 
 /// The indices of an access, where these have no fault.
 #[cycle(quick)]
+#[inline(never)]
 fn quick_indices(
     resolved: &Resolved,
     sources: &[Source],
@@ -173,7 +347,9 @@ pub fn value(
     }
 }
 
-/// The same, where a fault is known: part by part.
+/// The same, part by part, with the first fault. Where `quick` gives no number there is a fault,
+/// since it tries an access by its indices in any order before it gives up: so the work that is
+/// done again here is done once a call. No proof needs this.
 #[cycle(eval)]
 #[cold]
 #[inline(never)]

@@ -1,21 +1,19 @@
 //! What code may change: a block of its own for each argument that isn't an input, and the locals.
-ghost use Rattle.std.specs.Prelude.{◌≡◌, ◌≤◌, ◌<◌, ◌++◌, get_or, slice_set, length, map, pos, option_map, replicate, Ok, All, IfSome, OnOk};
+ghost use Rattle.std.specs.Prelude.{◌≡◌, ◌≤◌, ◌<◌, ◌++◌, ℤ, List, get_or, slice_set, length, map, pos, option_map, replicate, Ok, All, IfSome, OnOk};
 ghost use Rattle.pdl_elem.specs.Numbers.{wrapped};
 ghost use Rattle.pdl_elem.specs.Types.{InRange};
 ghost use Rattle.pdl_shape.specs.Shape.{position_of};
 ghost use Rattle.pdl_kernel.specs.Answers.{Becomes};
-ghost use Rattle.pdl_kernel.specs.Arrays.{coordinates_in};
-ghost use Rattle.pdl_code.specs.TreeOf.{indices_of};
-ghost use Rattle.pdl_kernel.specs.Leading.{LeadsWithin};
+ghost use Rattle.pdl_kernel.specs.Arrays.{coordinates_in, position_in};
+ghost use Rattle.pdl_kernel.specs.Leading.{IsLaidOut};
 ghost use Rattle.pdl_kernel.specs.Meaning.{and_then, assigned, assigned_at, element_at, nothing};
-ghost use Rattle.pdl_kernel.specs.Sources.{HasBlocks, IsBlockOf, all_loaded, loaded};
+ghost use Rattle.pdl_kernel.specs.Sources.{HasBlocks, IsBlockOf, all_loaded, found, loaded};
 
-use crate::axes::{Axis, MOST, element_in, find, looped};
+use crate::axes::{Axis, Layout, MOST, element_in, find};
 use crate::faults::Fault;
 use crate::operations::{change, wrap_to};
 use crate::part::Part;
 use crate::source::Source;
-use pdl_code::Entry;
 use pdl_elem::{BinaryOp, Ty};
 use pdl_sig::Role;
 use std::alloc::AllocError;
@@ -53,12 +51,18 @@ impl Frame {
         find(&self.axes, 0, at)
     }
 
-    /// The position of an access by the indices of loops, where these lead to one.
+    /// Where the elements lie.
     #[inline(always)]
-    pub fn looped(&self, at: &[u32; MOST], entries: &[Entry]) -> Option<usize>
-        ensures { IfSome result (LeadsWithin self.now at.now (indices_of entries.now)) }
+    pub fn layout(&self) -> Layout<'_>
+        ensures laid { IsLaidOut self.now result.axes.now result.start result.elems.now }
+        ensures places { (js : List ℤ) → found result.axes.now js result.start
+            ≡ position_in self.now js }
     {
-        looped(&self.axes, 0, at, entries)
+        Layout {
+            axes: &self.axes,
+            start: 0,
+            elems: &self.elems,
+        }
     }
 
     /// The element at indices.
@@ -236,26 +240,19 @@ impl Frames {
         }
     }
 
-    /// The position in a block of an access by the indices of loops, where these lead to one.
+    /// Where the elements of a block lie.
     #[inline(always)]
-    pub fn looped(&self, number: usize, at: &[u32; MOST], entries: &[Entry]) -> Option<usize>
-        ensures leads { IfSome result (LeadsWithin (get_or self.now.arrays number nothing) at.now
-            (indices_of entries.now)) }
-        ensures known { IfSome result (λ place. number < length self.now.arrays) }
+    pub fn layout(&self, number: usize) -> Option<Layout<'_>>
+        ensures laid { IfSome result (λ layout. IsLaidOut (get_or self.now.arrays number nothing)
+            layout.axes.now layout.start layout.elems.now) }
+        ensures places { IfSome result (λ layout. (js : List ℤ) →
+            found layout.axes.now js layout.start
+            ≡ position_in (get_or self.now.arrays number nothing) js) }
+        ensures known { IfSome result (λ layout. number < length self.now.arrays) }
     {
         match self.arrays.get(number) {
             None => None,
-            Some(frame) => frame.looped(at, entries),
-        }
-    }
-
-    /// The element of a block at a position.
-    pub fn element(&self, number: usize, place: usize) -> i64
-        ensures { result ≡ get_or (get_or self.now.arrays number nothing).elems place (pos 0) }
-    {
-        match self.arrays.get(number) {
-            None => 0,
-            Some(frame) => frame.element(place),
+            Some(frame) => Some(frame.layout()),
         }
     }
 

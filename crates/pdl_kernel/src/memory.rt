@@ -1,16 +1,14 @@
 //! The arguments as code sees them at one broadcast place.
-ghost use Rattle.std.specs.Prelude.{◌≡◌, IfSome, Ok};
-ghost use Rattle.pdl_code.specs.TreeOf.{indices_of};
+ghost use Rattle.std.specs.Prelude.{◌≡◌, ◌<◌, length, IfSome, Ok};
 ghost use Rattle.pdl_kernel.specs.Answers.{Becomes};
-ghost use Rattle.pdl_kernel.specs.Leading.{AssignsLooped, LeadsToElement};
-ghost use Rattle.pdl_kernel.specs.Meaning.{and_then, argument, assigned, element_at, with_argument};
+ghost use Rattle.pdl_kernel.specs.Leading.{IsLaidOut};
+ghost use Rattle.pdl_kernel.specs.Meaning.{and_then, argument, assigned, assigned_at, element_at, with_argument};
 ghost use Rattle.pdl_kernel.specs.Sources.{IsFree, roles_of, store_of};
 
-use crate::axes::MOST;
+use crate::axes::{Layout, MOST};
 use crate::faults::Fault;
 use crate::frame::Frames;
 use crate::source::Source;
-use pdl_code::Entry;
 use pdl_elem::BinaryOp;
 use pdl_sig::Role;
 
@@ -34,6 +32,7 @@ pub fn read(
 }
 
 /// The same, where the indices are in range.
+#[inline(never)]
 pub fn read_quickly(
     sources: &[Source],
     frames: &Frames,
@@ -49,52 +48,39 @@ pub fn read_quickly(
     }
 }
 
-/// The element of an access by the indices of loops, where these lead to one.
+/// Where the elements of an argument lie.
 #[inline(always)]
-pub fn looped_element(
-    sources: &[Source],
-    frames: &Frames,
-    at: &[u32; MOST],
-    number: usize,
-    entries: &[Entry],
-) -> Option<i64>
+pub fn layout<'a>(sources: &'a [Source], frames: &'a Frames, number: usize) -> Option<Layout<'a>>
     ensures { let a = argument (store_of sources.now frames.now) number in
-        IfSome result (LeadsToElement a at.now (indices_of entries.now)) }
+        IfSome result (λ layout. IsLaidOut a layout.axes.now layout.start layout.elems.now) }
 {
     if number >= sources.len() || number >= frames.len() {
         return None;
     }
     let source = &sources[number];
     match source.role() {
-        Role::Input => source.looped(at, entries),
-        _ => match frames.looped(number, at, entries) {
-            Some(place) => Some(frames.element(number, place)),
-            None => None,
-        },
+        Role::Input => Some(source.layout()),
+        _ => frames.layout(number),
     }
 }
 
-/// An assignment by the indices of loops to an element of an argument that isn't an input, where
-/// these lead to one; else nothing is done.
-pub fn assign_looped(
+/// An assignment to the element at a position of an argument that isn't an input.
+pub fn assign_at(
     sources: &[Source],
     frames: &mut Frames,
-    at: &[u32; MOST],
     number: usize,
-    entries: &[Entry],
     op: Option<BinaryOp>,
     x: i64,
-) -> Option<Result<(), Fault>>
-    requires { IsFree (roles_of sources.now) number }
+    place: usize,
+) -> Result<(), Fault>
+    requires free { IsFree (roles_of sources.now) number }
+    requires known { number < length frames.old.arrays }
     ensures { let m = store_of sources.now frames.old in
-        AssignsLooped result (store_of sources.now frames.new) m at.now number
-        (indices_of entries.now) op x }
+        Becomes result (store_of sources.now frames.new)
+        (and_then (assigned_at (argument m number) op x place) (with_argument m number)) }
 {
     let _inputs = sources.len();
-    match frames.looped(number, at, entries) {
-        Some(place) => Some(frames.assign_at(number, op, x, place)),
-        None => None,
-    }
+    frames.assign_at(number, op, x, place)
 }
 
 /// An assignment to an element of an argument that isn't an input, at indices.

@@ -3,14 +3,12 @@ ghost use Rattle.std.specs.Prelude.{◌≡◌, ◌≢◌, ◌==◌, ◌≤◌, �
 ghost use Rattle.pdl_elem.specs.Types.{InRange};
 ghost use Rattle.pdl_shape.specs.Shape.{size_of};
 ghost use Rattle.pdl_sig.specs.declared.Role.TheVariants.{Input};
-ghost use Rattle.pdl_code.specs.TreeOf.{indices_of};
-ghost use Rattle.pdl_kernel.specs.Leading.{LeadsToElement};
+ghost use Rattle.pdl_kernel.specs.Leading.{IsLaidOut};
 ghost use Rattle.pdl_kernel.specs.Meaning.{element_at};
 ghost use Rattle.pdl_kernel.specs.Sources.{element_seen, moved_to, shown, sizes_of};
 
-use crate::axes::{Axis, MOST, element_in, find, looped, offset, reach};
+use crate::axes::{Axis, Layout, MOST, element_in, find, offset, reach};
 use crate::faults::Fault;
-use pdl_code::Entry;
 use pdl_elem::Ty;
 use pdl_shape::shape_laws;
 use pdl_sig::Role;
@@ -74,15 +72,16 @@ impl Source {
         }
     }
 
-    /// The element of an access by the indices of loops, where these lead to one.
+    /// Where the elements lie.
     #[inline(always)]
-    pub fn looped(&self, at: &[u32; MOST], entries: &[Entry]) -> Option<i64>
-        ensures { IfSome result (LeadsToElement (shown self.now) at.now (indices_of entries.now)) }
+    pub fn layout(&self) -> Layout<'_>
+        ensures { IsLaidOut (shown self.now) result.axes.now result.start result.elems.now }
     {
         shape_laws();
-        match looped(&self.axes, self.start, at, entries) {
-            Some(place) => Some(element_in(&self.elems, place)),
-            None => None,
+        Layout {
+            axes: &self.axes,
+            start: self.start,
+            elems: &self.elems,
         }
     }
 

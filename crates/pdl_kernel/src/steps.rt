@@ -7,10 +7,10 @@ ghost use Rattle.pdl_kernel.specs.Meaning.{and_then, argument, assigned, changed
 ghost use Rattle.pdl_kernel.specs.Sources.{IsCodeFree, IsFree, IsStepFree, roles_of, store_of};
 
 use crate::axes::MOST;
-use crate::eval::{indices, size_in, value};
+use crate::eval::{indices, position, size_in, value};
 use crate::faults::Fault;
 use crate::frame::Frames;
-use crate::memory::{assign, assign_looped};
+use crate::memory::{assign, assign_at};
 use crate::operations::change;
 use crate::source::Source;
 use pdl_code::{Entry, LocalType, Stmt};
@@ -117,12 +117,33 @@ fn put(
         (and_then (indices resolved.now.sizes at.now m (indices_of entries.now) start)
         (λ is. and_then (assigned (argument m number) op x is) (with_argument m number))) }
 {
-    match assign_looped(sources, frames, at, number, entries, op, x) {
-        Some(done) => done,
-        None => match indices(resolved, sources, frames, at, entries) {
-            Ok(found) => assign(sources, frames, number, op, x, &found),
-            Err(fault) => Err(fault),
-        },
+    match position(resolved, sources, frames, at, number, entries) {
+        Some(place) => assign_at(sources, frames, number, op, x, place),
+        None => put_by_indices(resolved, sources, frames, at, number, entries, op, x),
+    }
+}
+
+/// The same, by indices that are evaluated first and then looked up. Its room for these is its own.
+#[inline(never)]
+fn put_by_indices(
+    resolved: &Resolved,
+    sources: &[Source],
+    frames: &mut Frames,
+    at: &[u32; MOST],
+    number: usize,
+    entries: &[Entry],
+    op: Option<BinaryOp>,
+    x: i64,
+) -> Result<(), Fault>
+    requires { IsFree (roles_of sources.now) number }
+    ensures { let m = store_of sources.now frames.old in
+        Becomes result (store_of sources.now frames.new)
+        (and_then (indices resolved.now.sizes at.now m (indices_of entries.now) start)
+        (λ is. and_then (assigned (argument m number) op x is) (with_argument m number))) }
+{
+    match indices(resolved, sources, frames, at, entries) {
+        Ok(found) => assign(sources, frames, number, op, x, &found),
+        Err(fault) => Err(fault),
     }
 }
 

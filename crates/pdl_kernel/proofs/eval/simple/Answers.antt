@@ -9,4 +9,4 @@ returns-in-Access c =
     let m = store_of c.args.sources.now c.args.frames.now in
     let is = indices_of c.deref.result.now in
     let tree = access_tree c.args.expr.now c.in-Access.number c.in-Access.entries c.deref.result.now c.in-Access.is c.deref.ensures.value in
-    access_led c.args.resolved.now.sizes c.args.at.now m _ c.in-Access.number is c.looped_element.result tree c.looped_element.ensures
+    access_led c.args.resolved.now.sizes c.args.at.now m _ c.in-Access.number is c.element.result tree c.element.ensures

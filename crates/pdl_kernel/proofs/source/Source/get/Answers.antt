@@ -3,7 +3,8 @@ use mir.Val.{SFits}
 use Rattle.std.proofs.lemmas.Int.{to_z-of_z}
 use Rattle.pdl_kernel.specs.Meaning.{element_at}
 use Rattle.pdl_kernel.specs.Sources.{Source, found, shown}
-use Rattle.pdl_kernel.proofs.Finding.{input_is, at_place}
+use Rattle.pdl_kernel.specs.Leading.{at_place}
+use Rattle.pdl_kernel.proofs.Finding.{input_is}
 use Rattle.pdl_kernel.proofs.source.Source.get.Goals as goal
 
 pub returns-in-None : goal.returns-in-None
