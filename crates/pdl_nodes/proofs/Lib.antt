@@ -9,6 +9,7 @@ pub mod Marks
 pub mod Listing
 pub mod Shapes
 pub mod Lists
+pub mod Counted
 pub mod Spotted
 pub mod WorldLemmas
 pub mod Laid
@@ -36,7 +37,6 @@ mod Viewed
 mod Stating
 mod Growing
 mod Bounds
-mod Parents
 mod Helds
 mod Changed
 mod Moved

@@ -18,7 +18,7 @@ use crate::holds::{Holds, insert};
 use crate::origin::Layout;
 use crate::table::Table;
 use crate::views::{root_node, view_node};
-use crate::{children, pull, push, readying, releases, severing};
+use crate::{pull, push, readying, releases, severing};
 use pdl_buf::{Elements, NoMemory, Steps, Strided, buf_of_elements, strided};
 use pdl_elem::Ty;
 use pdl_shape::{Dims, dims_list, shape_laws, triple_laws};
@@ -219,7 +219,7 @@ impl Nodes {
         requires { IsLive self.now.world id }
         ensures { result ≡ has_views self.now.world id }
     {
-        children::has_views(&self.table, id)
+        self.table.has_views(id)
     }
 
     /// Holds an array once more.

@@ -1,10 +1,14 @@
 //! Nodes by their numbers: a slab, and an ordered map that gives the slab's key of each number.
 ghost use Rattle.std.specs.Prelude.{◌≡◌, ◌≢◌, ℕ, ◌+◌, ◌-◌, ◌<◌, ◌^◌, ◌∷◌, [], true, false, length, All, is_some, Some, None, OnOk, OnErr};
+ghost use Rattle.std.specs.Ordering.{nat_cmp};
+ghost use Rattle.std.specs.BTreeMap.{IsOrdered, Updates};
 ghost use Rattle.pdl_buf.specs.Window.{place_at};
 ghost use Rattle.pdl_elem.specs.Types.{InRange};
 ghost use Rattle.pdl_shape.specs.Places.{write};
 ghost use Rattle.pdl_shape.specs.Shape.{size_of};
+ghost use Rattle.pdl_world.specs.Cut.{has_views};
 ghost use Rattle.pdl_nodes.specs.Assigned.{put_all};
+ghost use Rattle.pdl_nodes.specs.Children.{noted, one_of};
 ghost use Rattle.pdl_nodes.specs.Placed.{placed_by};
 ghost use Rattle.pdl_nodes.specs.Spots.{spots};
 ghost use Rattle.pdl_nodes.specs.Rows.{NumbersBelow, row_at, has, each, without, below, newest};
@@ -12,7 +16,9 @@ ghost use Rattle.pdl_nodes.specs.Row.{is_buffered, places_or};
 ghost use Rattle.pdl_nodes.specs.Changes.{kept_in, wait_in, fill_in, marked_in, mark_in};
 ghost use Rattle.pdl_nodes.specs.Cut.{CanCut, CanDerive, cut, derived_in, from, rooted_in};
 ghost use Rattle.pdl_nodes.specs.Known.{IsLiftable};
+ghost use Rattle.pdl_nodes.specs.Worlds.{shape};
 
+use crate::children::Children;
 use crate::marked::{Marked, unmark, unmark_one};
 use crate::node::{Lifted, Node};
 use pdl_affine::{view_laws, window_laws};
@@ -31,10 +37,12 @@ pub struct Table {
     keys: BTreeMap<u64, usize>,
     nodes: Slab<Node>,
     marked: Marked,
+    children: Children,
 }
 
 impl Model for Table {
     ghost use Rattle.pdl_nodes.specs.Rows.{Rows};
+    ghost use Rattle.pdl_nodes.specs.Children.{AreCounted};
     ghost use Rattle.pdl_nodes.specs.Marked.{AreListed};
     ghost use Rattle.pdl_nodes.specs.Table.{rows_of, IsTable};
 
@@ -42,8 +50,36 @@ impl Model for Table {
 
     ghost view = { λ t. rows_of t.nodes t.keys.entries };
 
-    ghost invariant = { λ t. IsTable t.keys t.nodes ×
-        AreListed (rows_of t.nodes t.keys.entries) t.marked };
+    ghost invariant = { λ t. (IsTable t.keys t.nodes ×
+        AreListed (rows_of t.nodes t.keys.entries) t.marked) ×
+        AreCounted (rows_of t.nodes t.keys.entries) t.children };
+}
+
+/// Keeps the key of a new number, and counts one view more of its parent, if it has one. A refusal
+/// changes neither.
+fn put_key(
+    keys: &mut BTreeMap<u64, usize>,
+    children: &mut Children,
+    id: u64,
+    key: usize,
+    parent: Option<u64>,
+) -> Result<(), AllocError>
+    requires { IsOrdered nat_cmp keys.old }
+    ensures ordered { IsOrdered nat_cmp keys.new }
+    ensures updates { OnOk result (Updates nat_cmp keys.old keys.new id (Some key)) }
+    ensures counted { OnOk result
+        ((v : ℕ) → noted children.new v ≡ one_of parent v + noted children.old v) }
+    ensures kept { OnErr result (keys.new.entries ≡ keys.old.entries) }
+    ensures same { OnErr result ((v : ℕ) → noted children.new v ≡ noted children.old v) }
+{
+    children.add(parent)?;
+    match keys.insert(id, key) {
+        Ok(_) => Ok(()),
+        Err(refused) => {
+            children.take(parent);
+            Err(refused.into())
+        }
+    }
 }
 
 impl Table {
@@ -55,6 +91,7 @@ impl Table {
             keys: BTreeMap::new(alloc),
             nodes: Slab::new(alloc),
             marked: Marked::new(alloc),
+            children: Children::new(alloc),
         }
     }
 
@@ -75,9 +112,10 @@ impl Table {
         ensures ok { OnOk result (self.new ≡ (id, node) ∷ self.old) }
         ensures err { OnErr result (self.new ≡ self.old) }
     {
+        let parent = node.parent();
         self.nodes.reserve(1)?;
         let key = self.nodes.vacant_key();
-        self.keys.insert(id, key)?;
+        put_key(&mut self.keys, &mut self.children, id, key, parent)?;
         self.nodes.insert_reserved(node);
         Ok(())
     }
@@ -88,10 +126,13 @@ impl Table {
         ensures { self.new ≡ without id self.old }
     {
         let key = self.keys[&id];
-        let root = self.nodes[key].root();
+        let node = &self.nodes[key];
+        let root = node.root();
+        let parent = node.parent();
         self.keys.remove(&id);
         self.nodes.remove(key);
         self.marked.forget(root, id);
+        self.children.take(parent);
     }
 
     /// The newest live number.
@@ -247,6 +288,13 @@ impl Table {
         self.nodes[key].set_mark();
     }
 
+    /// Whether an array is the parent of a view.
+    pub fn has_views(&self, id: u64) -> bool
+        ensures { result ≡ has_views (shape self.now) id }
+    {
+        self.children.of(id) > 0
+    }
+
     /// How many nodes there are.
     pub fn count(&self) -> usize
         ensures { result ≡ length self.now }
@@ -295,7 +343,10 @@ impl Table {
         ensures { self.new ≡ each (rooted_in id dims.now kept.elems) self.old }
     {
         let key = self.keys[&id];
+        let node = &self.nodes[key];
+        let parent = node.parent();
         self.nodes[key].become_root(alloc, id, dims, kept);
+        self.children.take(parent);
     }
 
     /// Derives a view anew from its parent.

@@ -9,7 +9,7 @@ use Rattle.pdl_nodes.specs.Outcomes.{waiting_size as rows_waiting_size}
 use Rattle.pdl_nodes.specs.Rows.{has}
 use Rattle.pdl_nodes.specs.State.{State, StayFresh, outdated, waiting, waiting_size}
 use Rattle.pdl_nodes.specs.Worlds.{latest, shape}
-use Rattle.pdl_nodes.proofs.Parents.{views_with}
+use Rattle.pdl_nodes.proofs.Counted.{views_with}
 use Rattle.pdl_nodes.proofs.Changed.{changed_nodes, changed_settled, changed_state, err_with, refused_fresh, steps_are, reshaped_sound, reshaped_lent}
 use Rattle.pdl_nodes.proofs.Paths.{on_ok}
 use Rattle.pdl_nodes.proofs.Stating.{live_has}

@@ -1,0 +1,121 @@
+-- How many views each array has, through the table's calls.
+use Rattle.std.proofs.Common.{◌≡◌, ◌≢◌, ℕ, ℤ, ◌+◌, ◌<◌, ◌||◌, eqb, true, false, List, [], ◌∷◌, Option, Some, None, nat_lt, inl, inr, refl, sym, ◌∙◌, ap, subst, arith}
+use Rattle.std.proofs.lemmas.Bool.Decides.{eqb_tells, leb_tells}
+use Rattle.pdl_world.specs.Cut.{has_views}
+use Rattle.pdl_world.specs.Swept.{holds, parents}
+use Rattle.pdl_world.specs.World.{World, root, view}
+use Rattle.pdl_nodes.specs.declared.origin.Origin.{Origin}
+use Rattle.pdl_nodes.specs.declared.origin.Origin.TheVariants.{Root, View}
+use Rattle.pdl_nodes.specs.Children.{Noted, noted, one_of, children, AreCounted}
+use Rattle.pdl_nodes.specs.Cut.{derive, derived_in, rooted_in}
+use Rattle.pdl_nodes.specs.Row.{Row, parent_from, parent_of}
+use Rattle.pdl_nodes.specs.Rows.{Rows, row_at, has, each, without, NumbersBelow, Falls}
+use Rattle.pdl_nodes.specs.Worlds.{def_from, shape, with_elements}
+use Rattle.pdl_nodes.proofs.Finds.{same, differ}
+use Rattle.pdl_nodes.proofs.Rests.{without_here}
+
+-- no row gets another parent
+abbrev pub KeepsParent : (ℕ → Row → Row) → Type 0
+KeepsParent f = (k : ℕ) (r : Row) → parent_of (f k r) ≡ parent_of r
+
+children_each : (f : ℕ → Row → Row) (rs : Rows) (v : ℕ) → KeepsParent f → children (each f rs) v ≡ children rs v
+children_each f [] v p = refl
+children_each f ((k, r) ∷ rs) v p =
+    ap (λ o. one_of o v + children (each f rs) v) (p k r) ∙ ap (λ n. one_of (parent_of r) v + n) (children_each f rs v p)
+
+-- rows a were the rows t, and rows b are these changed
+pub counted_each : (f : ℕ → Row → Row) (t a b : Rows) (c : Noted) → a ≡ t → b ≡ each f t → KeepsParent f → AreCounted a c → AreCounted b c
+counted_each f t a b c e g p h v = h v ∙ ap (λ x. children x v) e ∙ sym (ap (λ x. children x v) g ∙ children_each f t v p)
+
+pub counted_same : (a b : Rows) (c : Noted) → a ≡ b → AreCounted a c → AreCounted b c
+counted_same a b c e h v = h v ∙ ap (λ x. children x v) e
+
+pub counted_noted : (a b : Rows) (c d : Noted) → a ≡ b → ((v : ℕ) → noted d v ≡ noted c v) → AreCounted a c → AreCounted b d
+counted_noted a b c d e n h v = n v ∙ h v ∙ ap (λ x. children x v) e
+
+-- a view that is derived anew has its parent
+pub derived_parent : (rs : Rows) (u : ℕ) → KeepsParent (derived_in rs u)
+derived_parent rs u k r = elim (eqb_tells k u) [ inl y ↦ rw y.0 (by_origin r.origin) | inr y ↦ rw y.0 refl ] where
+  by_origin : (o : Origin) → parent_of (derive rs u r o) ≡ parent_of r
+  by_origin Root = refl
+  by_origin (View p t y) = refl
+
+-- ---- one node more, and one less
+
+pub counted_joined : (t b : Rows) (id : ℕ) (r : Row) (c d : Noted) (p : Option ℕ) → b ≡ (id, r) ∷ t → p ≡ parent_of r → ((v : ℕ) → noted d v ≡ one_of p v + noted c v) → AreCounted t c → AreCounted b d
+counted_joined t b id r c d p e g n h v =
+    n v ∙ ap (λ o. one_of o v + noted c v) g ∙ ap (λ m. one_of (parent_of r) v + m) (h v) ∙ sym (ap (λ x. children x v) e)
+
+children_without : (rs : Rows) (id v : ℕ) → Falls rs → has rs id ≡ true → children rs v ≡ one_of (parent_of (row_at rs id)) v + children (without id rs) v
+children_without [] id v f h = (let z : false ≡ true = h in absurd (cc))
+children_without ((k, r) ∷ rs) id v f h = elim (eqb_tells k id) [
+  | inl y ↦ (let row : row_at ((k, r) ∷ rs) id ≡ r = rw y.0 refl in
+      let left : without id ((k, r) ∷ rs) ≡ rs = ap (λ x. without x ((k, r) ∷ rs)) (sym y.1) ∙ without_here [] rs k r f in
+      sym (ap (λ x. one_of (parent_of x) v + children (without id ((k, r) ∷ rs)) v) row ∙ ap (λ x. one_of (parent_of r) v + children x v) left))
+  | inr y ↦ (let rest : children rs v ≡ one_of (parent_of (row_at rs id)) v + children (without id rs) v = children_without rs id v f.1 (rw y.0 at h) in
+      rw y.0 (omega (arith, rest)))
+]
+
+-- one less of what its parent has
+pub counted_less : (t b : Rows) (c d : Noted) (p o : Option ℕ) → ((v : ℕ) → children t v ≡ one_of o v + children b v) → p ≡ o → ((v : ℕ) → noted c v ≡ one_of p v + noted d v) → AreCounted t c → AreCounted b d
+counted_less t b c d p o l e n h v =
+    let e2 : one_of p v ≡ one_of o v = ap (λ x. one_of x v) e in
+    omega (arith, e2, l v, n v, h v)
+
+pub counted_gone : (t b : Rows) (id : ℕ) (c d : Noted) (p : Option ℕ) → b ≡ without id t → Falls t → has t id ≡ true → p ≡ parent_of (row_at t id) → ((v : ℕ) → noted c v ≡ one_of p v + noted d v) → AreCounted t c → AreCounted b d
+counted_gone t b id c d p e f l g n h =
+    counted_less t b c d p (parent_of (row_at t id)) (λ v. children_without t id v f l ∙ ap (λ x. one_of (parent_of (row_at t id)) v + children x v) (sym e)) g n h
+
+-- a new root is no view
+none_rooted : (rs : Rows) (id v : ℕ) (ds : List ℕ) (es : List ℤ) → NumbersBelow id rs → children (each (rooted_in id ds es) rs) v ≡ children rs v
+none_rooted [] id v ds es b = refl
+none_rooted ((k, r) ∷ rs) id v ds es b =
+    rw (differ k id (λ (e : k ≡ id). let z : ⊥ = omega (arith, b.0) in z)) (ap (λ n. one_of (parent_of r) v + n) (none_rooted rs id v ds es b.1))
+
+children_rooted : (rs : Rows) (id v : ℕ) (ds : List ℕ) (es : List ℤ) → Falls rs → has rs id ≡ true → children rs v ≡ one_of (parent_of (row_at rs id)) v + children (each (rooted_in id ds es) rs) v
+children_rooted [] id v ds es f h = (let z : false ≡ true = h in absurd (cc))
+children_rooted ((k, r) ∷ rs) id v ds es f h = elim (eqb_tells k id) [
+  | inl y ↦ (let b : NumbersBelow id rs = (let P : ℕ → Type 0 = λ x. NumbersBelow x rs in subst P y.1 f.0) in
+      let rest : children (each (rooted_in id ds es) rs) v ≡ children rs v = none_rooted rs id v ds es b in
+      rw y.0 (omega (arith, rest)))
+  | inr y ↦ (let rest : children rs v ≡ one_of (parent_of (row_at rs id)) v + children (each (rooted_in id ds es) rs) v = children_rooted rs id v ds es f.1 (rw y.0 at h) in
+      rw y.0 (omega (arith, rest)))
+]
+
+pub counted_rooted : (t b : Rows) (id : ℕ) (ds : List ℕ) (es : List ℤ) (c d : Noted) (p : Option ℕ) → b ≡ each (rooted_in id ds es) t → Falls t → has t id ≡ true → p ≡ parent_of (row_at t id) → ((v : ℕ) → noted c v ≡ one_of p v + noted d v) → AreCounted t c → AreCounted b d
+counted_rooted t b id ds es c d p e f l g n h =
+    counted_less t b c d p (parent_of (row_at t id)) (λ v. children_rooted t id v ds es f l ∙ ap (λ x. one_of (parent_of (row_at t id)) v + children x v) (sym e)) g n h
+
+-- a parent has a view
+pub parent_counted : (t : Rows) (id v : ℕ) (c : Noted) (p : Option ℕ) → Falls t → has t id ≡ true → p ≡ parent_of (row_at t id) → AreCounted t c → p ≡ Some v → 0 < noted c v
+parent_counted t id v c p f l g h e =
+    let one : one_of (parent_of (row_at t id)) v ≡ 1 = ap (λ o. one_of o v) (sym g ∙ e) ∙ (let z : one_of (Some v) v ≡ 1 = rw (same v v refl) refl in z) in
+    omega (arith, one, children_without t id v f l, h v)
+
+-- what was added was taken back
+pub taken_back : (c d e : Noted) (p : Option ℕ) → ((v : ℕ) → noted d v ≡ one_of p v + noted c v) → ((v : ℕ) → noted d v ≡ one_of p v + noted e v) → (v : ℕ) → noted e v ≡ noted c v
+taken_back c d e p a b v = omega (arith, a v, b v)
+
+pub added : (c d : Noted) (p : Option ℕ) (v : ℕ) → ((v : ℕ) → noted d v ≡ one_of p v + noted c v) → p ≡ Some v → 0 < noted d v
+added c d p v a e =
+    let one : one_of p v ≡ 1 = ap (λ o. one_of o v) e ∙ (let z : one_of (Some v) v ≡ 1 = rw (same v v refl) refl in z) in
+    omega (arith, one, a v)
+
+-- ---- whether there is a view
+
+first_view : (r : Row) (o : Origin) (v n : ℕ) → (holds (parents (def_from r.ty r.triple.dims o)) v || nat_lt 0 n) ≡ nat_lt 0 (one_of (parent_from o) v + n)
+first_view r Root v n = ap (nat_lt 0) (let z : n ≡ 0 + n = omega arith in z)
+first_view r (View p t y) v n = elim (eqb_tells p v) [
+  | inl e ↦ rw e.0 (elim (leb_tells 1 (1 + n)) [ inl l ↦ sym l.0 | inr l ↦ absurd (omega (arith, l.1)) ])
+  | inr e ↦ rw e.0 (ap (nat_lt 0) (let z : n ≡ 0 + n = omega arith in z))
+]
+
+pub views_counted : (rs : Rows) (v : ℕ) → has_views (shape rs) v ≡ nat_lt 0 (children rs v)
+views_counted [] v = refl
+views_counted ((k, r) ∷ rs) v = ap (λ b. holds (parents (def_from r.ty r.triple.dims r.origin)) v || b) (views_counted rs v) ∙ first_view r r.origin v (children rs v)
+
+-- elements are no views
+pub views_with : (f : ℕ → List ℤ) (w : World) (v : ℕ) → has_views (with_elements f w) v ≡ has_views w v
+views_with f [] v = refl
+views_with f ((k, root ty ds es) ∷ w) v = views_with f w v
+views_with f ((k, view p t) ∷ w) v = ap (λ b. (eqb p v || false) || b) (views_with f w v)

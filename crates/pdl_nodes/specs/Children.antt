@@ -1,0 +1,32 @@
+-- How many views each array has.
+use Rattle.std.specs.Prelude.{◌≡◌, ℕ, ◌+◌, ◌==◌, if◌then◌else◌, List, [], ◌∷◌, Option, Some, None}
+use Rattle.std.specs.Ordering.{nat_cmp}
+use Rattle.std.specs.Map.{lookup}
+use Rattle.std.specs.BTreeMap.{is_at}
+use Rattle.pdl_nodes.specs.Row.{parent_of}
+use Rattle.pdl_nodes.specs.Rows.{Rows}
+
+abbrev pub Noted : Type 0
+Noted = List (ℕ × ℕ)
+
+abbrev pub noted_in : Option ℕ → ℕ
+noted_in None = 0
+noted_in (Some n) = n
+
+-- how many views of v are noted
+abbrev pub noted : Noted → ℕ → ℕ
+noted c v = noted_in (lookup (is_at (nat_cmp v)) c)
+
+-- 1 where a view with this parent is a view of v
+abbrev pub one_of : (parent : Option ℕ) → ℕ → ℕ
+one_of None v = 0
+one_of (Some p) v = if p == v then 1 else 0
+
+-- how many rows are views of v
+abbrev pub children : Rows → ℕ → ℕ
+children [] v = 0
+children ((k, r) ∷ rs) v = one_of (parent_of r) v + children rs v
+
+-- the views of each number are noted
+abbrev pub AreCounted : Rows → Noted → Type 0
+AreCounted rs c = (v : ℕ) → noted c v ≡ children rs v
