@@ -67,13 +67,17 @@ impl Marked {
         }
     }
 
-    /// Forgets a number of the family of a root, be it the root or a view.
-    pub fn forget(&mut self, root: u64, id: u64)
+    /// Forgets a number of the family of a root, be it the root or a view. A view that isn't marked
+    /// isn't looked for.
+    pub fn forget(&mut self, root: u64, id: u64, marked: bool)
         ensures stay { (r v : ℕ) → r ≢ id → v ≢ id → holds (listed self.old r) v ≡ true
             → holds (listed self.new r) v ≡ true }
     {
         if root == id {
             self.by_root.remove(&id);
+            return;
+        }
+        if !marked {
             return;
         }
         match self.by_root.get_mut(&root) {
