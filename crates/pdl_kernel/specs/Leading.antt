@@ -32,9 +32,9 @@ number_of (Given k e) = tree_of e
 number_of (Looped k d) = index d
 
 -- an index is along a dimension and has the number
-pub record IsIndexAlong (sizes at : List ℕ) (m : Store) (entry : Entry) (k : ℕ) (i : ℤ) : Type 0 where
-  pub along : dimension_of entry ≡ k
-  pub number : value sizes at m (number_of entry) ≡ Ok i
+pub record IsIndexAlong (sizes at : List ℕ) (m : Store) (g : Entry) (k : ℕ) (i : ℤ) : Type 0 where
+  pub along : dimension_of g ≡ k
+  pub number : value sizes at m (number_of g) ≡ Ok i
 
 -- indices lead to a place in a buffer, where the first element is at `from`
 abbrev pub LeadsTo : (sizes at : List ℕ) → Store → List Axis → Indices → (from place : ℕ) → Type 0
