@@ -4,7 +4,7 @@ ghost use Rattle.pdl_elem.specs.Numbers.{wrapped};
 ghost use Rattle.pdl_kernel.specs.Meaning.{changed, operate};
 
 use crate::faults::Fault;
-use pdl_elem::{BinaryOp, Ty, binary, wrap};
+use pdl_elem::{BinaryOp, Ty, binary, wrap, wrapping_laws};
 
 /// An operation of a longlong.
 pub fn operate(op: BinaryOp, a: i64, b: i64) -> Result<i64, Fault>
@@ -16,14 +16,16 @@ pub fn operate(op: BinaryOp, a: i64, b: i64) -> Result<i64, Fault>
     }
 }
 
-/// The same, where it has no fault: sums and differences without a call.
+/// The same, where it has no fault: sums, differences and products without a call.
 #[inline(always)]
 pub fn operate_quickly(op: BinaryOp, a: i64, b: i64) -> Option<i64>
     ensures { IfSome result (λ x. operate op a b ≡ Ok x) }
 {
+    wrapping_laws();
     match op {
         BinaryOp::Add => Some(wrap(Ty::Longlong, i128::from(a) + i128::from(b))),
         BinaryOp::Sub => Some(wrap(Ty::Longlong, i128::from(a) - i128::from(b))),
+        BinaryOp::Mul => Some(a.wrapping_mul(b)),
         _ => match binary(op, Ty::Longlong, a, b) {
             Ok(x) => Some(x),
             Err(_) => None,
