@@ -24,18 +24,23 @@ use Rattle.pdl_machine.specs.Then.{and_then, or_fault, all_of}
 use Rattle.pdl_machine.specs.Refused.{or_named}
 use Rattle.pdl_machine.specs.Outcome.{array, string, type_word, Seen}
 
--- the fault that names why arguments don't resolve: sizes that don't fit together are a mismatch
+-- the fault that names why arguments don't resolve: sizes that don't fit together are a mismatch;
+-- no definition gives want of memory, here and below
 abbrev pub resolve_fault : ResolveFault → Fault
 resolve_fault resolve.ArgCount = WrongArguments
+resolve_fault resolve.CoreMismatch = Mismatch
+resolve_fault resolve.BroadcastMismatch = Mismatch
+resolve_fault resolve.StretchedInOut = Mismatch
 resolve_fault resolve.TooManyDims = TooManyDims
 resolve_fault resolve.TooLarge = TooLarge
 resolve_fault resolve.TooMuchWork = TooMuchWork
-resolve_fault _ = Mismatch
+resolve_fault resolve.NoMemory = Mismatch
 
 -- the fault that names a fault of code
 abbrev pub run_fault : RunFault → Fault
 run_fault (run.DivideByZero place) = DivideByZero
-run_fault _ = OutOfRange
+run_fault (run.IndexOutOfRange place) = OutOfRange
+run_fault run.NoMemory = OutOfRange
 
 -- the array that an argument is
 abbrev pub array_seen : Seen → Option Made

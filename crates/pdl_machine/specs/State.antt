@@ -5,7 +5,7 @@ use Rattle.pdl_world.specs.Sound.{NumbersBelow, IsSound, IsLive}
 use Rattle.pdl_machine.specs.Names.{Names, nothing_named}
 use Rattle.pdl_machine.specs.Arrays.{Arrays, no_arrays}
 
--- Names, and the arrays that they are bound to.
+-- Names, of arrays and of kernels, and the arrays that they are bound to.
 pub record State : Type 0 where
   pub names : Names
   pub arrays : Arrays

@@ -113,19 +113,21 @@ fn usage<K: Sink>(sink: &mut K) -> Status
 /// it prints to the sink.
 ///
 /// `words` are the words of the command line without the program's name: none, `--keep-going`,
-/// `--generate N` or `--generate=N`, or both, in either order. N is one to four
-/// decimal digits, at most
-/// 2000. Where they are no spelling of the command, the usage line is
-/// written. With `--generate` the generated script of N rounds is run, on after faults with
-/// `--keep-going`, what it prints is counted, and one line is written: how many statements it has,
-/// how many bytes they print, and what these sum to. In both cases the source isn't touched.
+/// `--generate N` or `--generate=N`, or both, in either order. N is one to four decimal digits, at
+/// most 2000. Where they are no spelling of the command, the usage line is written. With
+/// `--generate` the generated script of N rounds is run, on after faults with `--keep-going`, what
+/// it prints is counted, and one line is written: how many statements it has, how many bytes they
+/// print, and what these sum to. In both cases the source isn't touched (`unread`).
 ///
 /// Else the script is read in parts of at most 4,096 bytes, and its statements are run in
 /// order, each as soon as its last byte is there. After each of them its text is written, or the
 /// line of its fault. The first fault ends the run, unless it is to keep going, and no more is
 /// read then; that the script is too long always ends it. At the end the sink is flushed.
 ///
-/// After a fault of the source or the sink, or where memory is wanting, the call
+/// What is written and the status are those of the ending that the words ask for; where the call
+/// stops short, a prefix is written (`model`), and where the source fails, just what the statements
+/// print that were whole by then (`reads`). A fault of the source or the sink is answered only
+/// where its count rose in this call (`reason`). After one, or where memory is wanting, the call
 /// ends at once. It takes no memory where the words are no spelling.
 pub fn run_shell<S: Source, K: Sink>(
     alloc: Global,
@@ -133,18 +135,12 @@ pub fn run_shell<S: Source, K: Sink>(
     source: &mut S,
     sink: &mut K,
 ) -> Status
-    // What is written and the status are those of the ending that the words ask
-    // for; where the call stops short, a prefix is written. The script is the source's,
-    // where the source is read.
     ensures model { (script : List ℕ) →
         (reads_source (command_of (map string_bytes words.now)) ≡ true →
         S.left source.old ≡ Some script) →
         Gives result (ending (command_of (map string_bytes words.now)) script)
         (K.taken sink.old) (K.taken sink.new) }
     ensures answers { CanAnswer (command_of (map string_bytes words.now)) result }
-
-    // How far the source is read: not at all, or to its end or as far as the run goes, and
-    // what is written of the statements that were whole by then where the source fails.
     ensures unread { reads_source (command_of (map string_bytes words.now)) ≡ false →
         source.new ≡ source.old }
     ensures reads { (keep : Bool) →
@@ -152,8 +148,6 @@ pub fn run_shell<S: Source, K: Sink>(
         Reads keep result
         (S.left source.old) (S.left source.new) (K.taken sink.old) (K.taken sink.new) }
     ensures at_most { TakesAtMost (script_limit + 1) (S.left source.old) (S.left source.new) }
-
-    // A fault of the source or the sink is answered only where its count rose in this call.
     ensures reason { HasReason result
         (record { source = S.faults source.old; sink = K.faults sink.old })
         (record { source = S.faults source.new; sink = K.faults sink.new }) }
@@ -161,8 +155,6 @@ pub fn run_shell<S: Source, K: Sink>(
         (record { source = S.faults source.old; sink = K.faults sink.old })
         (record { source = S.faults source.new; sink = K.faults sink.new }) →
         result ≢ Status.NoMemory → IsAnswer result }
-
-    // At the end the sink is flushed.
     ensures flushed { IsAnswer result → Says (K.is_flushed sink.new) true }
     ensures tells { KeepsTelling (K.is_flushed sink.old) (K.is_flushed sink.new) }
 {

@@ -12,7 +12,7 @@ use Rattle.pdl_syntax.specs.declared.tree.Statement.{Statement}
 use Rattle.pdl_syntax.specs.Laws.{TokensAreParsed, LiteralsAreArrays}
 use Rattle.pdl_syntax.specs.Parsed.{unless_ragged, checked_lexemes, parsed, IsParsed}
 use Rattle.pdl_syntax.specs.Reading.{reader}
-use Rattle.pdl_syntax.specs.Refusals.{Means, Answers}
+use Rattle.pdl_syntax.specs.Refusals.{NoStatement, too_deep, number_too_large, not_spelled, ragged_list, Means, Answers}
 use Rattle.pdl_syntax.specs.StatementTree.{StatementTree, statement_of}
 use Rattle.pdl_syntax.specs.StatementReading.{statement_at, read_statement}
 use Rattle.pdl_syntax.specs.WellMade.{IsWellMade}
@@ -56,30 +56,29 @@ module _ (lists : ListsAreRead) (arrays : ListsAreArrays) (scan : RaggedIsScanne
   unread_none source ts h (Some s) e = absurd (h s e)
 
   -- what is meant is what the checks say
-  checked_as : (source : List ℕ) (ts : List Lexeme) (answer : Result StatementTree ParseFault) → Means source ts answer → checked_lexemes source ts ≡ answer
+  checked_as : (source : List ℕ) (ts : List Lexeme) (answer : Result StatementTree NoStatement) → Means source ts answer → checked_lexemes source ts ≡ answer
   checked_as source ts (Ok s) f =
       let d : is_too_deep ts ≡ false = f.passes.not_deep in
       let l : has_large ts ≡ false = f.passes.not_large in
       let r : read_statement source ts ≡ Some s = statement_found lists source ts s f.spells in
       let g : in_statement s ≡ false = not_ragged source ts s f.spells f.not_ragged in
       rw (d, l, r, g) refl
-  checked_as source ts (Err TooDeep) f = rw f refl
-  checked_as source ts (Err NumberTooLarge) f =
+  checked_as source ts (Err too_deep) f = rw f refl
+  checked_as source ts (Err number_too_large) f =
       let d : is_too_deep ts ≡ false = f.not_deep in
       let l : has_large ts ≡ true = f.large in
       rw (d, l) refl
-  checked_as source ts (Err Syntax) f =
+  checked_as source ts (Err not_spelled) f =
       let d : is_too_deep ts ≡ false = f.passes.not_deep in
       let l : has_large ts ≡ false = f.passes.not_large in
       let r : read_statement source ts ≡ None = unread_none source ts (λ s h. f.unspelled s (statement_spelled lists source ts s h)) (read_statement source ts) refl in
       rw (d, l, r) refl
-  checked_as source ts (Err Ragged) f =
+  checked_as source ts (Err ragged_list) f =
       let d : is_too_deep ts ≡ false = f.passes.not_deep in
       let l : has_large ts ≡ false = f.passes.not_large in
       let r : read_statement source ts ≡ Some f.statement = statement_found lists source ts f.statement f.spells in
       let g : in_statement f.statement ≡ true = is_found source ts f.statement f.spells f.ragged in
       rw (d, l, r, g) refl
-  checked_as source ts (Err NoMemory) f = absurd f
 
   ragged_or_found : (source : List ℕ) (ts : List Lexeme) (o : Option StatementTree) → is_too_deep ts ≡ false → has_large ts ≡ false → read_statement source ts ≡ o → Means source ts (unless_ragged o)
   ragged_or_found source ts None d l e = record {
@@ -122,10 +121,10 @@ module _ (law : TokensAreParsed) (text : List ℕ) (tokens : List Token) where
   pub answers_of : (r : Result Statement ParseFault) → IsParsed (checked_lexemes text (lexemes_of text tokens)) r → Answers text (lexemes_of text tokens) r
   unfolding parsed
   answers_of (Ok s) e = (law text tokens (Ok (statement_of s))).0 e
-  answers_of (Err TooDeep) e = (law text tokens (Err TooDeep)).0 e
-  answers_of (Err NumberTooLarge) e = (law text tokens (Err NumberTooLarge)).0 e
-  answers_of (Err Syntax) e = (law text tokens (Err Syntax)).0 e
-  answers_of (Err Ragged) e = (law text tokens (Err Ragged)).0 e
+  answers_of (Err TooDeep) e = (law text tokens (Err too_deep)).0 e
+  answers_of (Err NumberTooLarge) e = (law text tokens (Err number_too_large)).0 e
+  answers_of (Err Syntax) e = (law text tokens (Err not_spelled)).0 e
+  answers_of (Err Ragged) e = (law text tokens (Err ragged_list)).0 e
   answers_of (Err NoMemory) e = tt
 
   pub well_made_of : LiteralsAreArrays → (r : Result Statement ParseFault) → Answers text (lexemes_of text tokens) r → IfOk r (λ s. IsWellMade (statement_of s))

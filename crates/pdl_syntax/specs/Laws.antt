@@ -4,11 +4,10 @@ use Rattle.pdl_lex.specs.declared.Token.{Token}
 use Rattle.pdl_lexemes.specs.declared.Lexeme.{Lexeme}
 use Rattle.pdl_lexemes.specs.Lexing.{lexemes_of}
 use Rattle.pdl_lexemes.specs.Lists.{HoldsRagged}
-use Rattle.pdl_syntax.specs.declared.parser.ParseFault.{ParseFault}
 use Rattle.pdl_syntax.specs.StatementTree.{StatementTree}
 use Rattle.pdl_syntax.specs.Statements.{SpellsStatement}
 use Rattle.pdl_syntax.specs.StatementReading.{read_statement}
-use Rattle.pdl_syntax.specs.Refusals.{Means}
+use Rattle.pdl_syntax.specs.Refusals.{NoStatement, Means}
 use Rattle.pdl_syntax.specs.Parsed.{parsed}
 use Rattle.pdl_syntax.specs.WellMade.{IsWellMade}
 
@@ -27,7 +26,7 @@ OneStatement =
 -- the answer for a text's tokens is exactly what they mean
 abbrev pub TokensAreParsed : Type 0
 TokensAreParsed =
-    (text : List ℕ) (tokens : List Token) (answer : Result StatementTree ParseFault)
+    (text : List ℕ) (tokens : List Token) (answer : Result StatementTree NoStatement)
     → (parsed text tokens ≡ answer) ↔ Means text (lexemes_of text tokens) answer
 
 -- the list literals of a spelled statement without ragged ones are arrays, and

@@ -1,5 +1,5 @@
 -- Which statement the tokens of a text spell, or which check refuses them first.
-use Rattle.std.specs.Prelude.{◌≡◌, List, ℕ, true, false, Result, Ok, Err}
+use Rattle.std.specs.Prelude.{◌≡◌, List, ℕ, true, false, Option, Some, None, IfSome, Result, Ok, Err}
 use Rattle.pdl_lexemes.specs.declared.Lexeme.{Lexeme}
 use Rattle.pdl_lexemes.specs.Depth.{is_too_deep, has_large}
 use Rattle.pdl_lexemes.specs.Lists.{HoldsRagged}
@@ -37,17 +37,31 @@ pub record IsRagged (source : List ℕ) (lexemes : List Lexeme) : Type 0 where
   pub spells : SpellsStatement source statement lexemes
   pub ragged : HoldsRagged lexemes
 
+-- why lexemes are no statement, in the order of the checks; want of memory is none of the reasons
+pub data NoStatement : Type 0 where
+  too_deep : NoStatement
+  number_too_large : NoStatement
+  not_spelled : NoStatement
+  ragged_list : NoStatement
+
+-- the reason that a fault names
+abbrev pub refusal_of : ParseFault → Option NoStatement
+refusal_of TooDeep = Some too_deep
+refusal_of NumberTooLarge = Some number_too_large
+refusal_of Syntax = Some not_spelled
+refusal_of Ragged = Some ragged_list
+refusal_of NoMemory = None
+
 -- what the lexemes of a text mean: the statement that they spell, or the first check that they fail
-abbrev pub Means : List ℕ → List Lexeme → Result StatementTree ParseFault → Type 0
+abbrev pub Means : List ℕ → List Lexeme → Result StatementTree NoStatement → Type 0
 Means source lexemes (Ok s) = Found source lexemes s
-Means source lexemes (Err TooDeep) = is_too_deep lexemes ≡ true
-Means source lexemes (Err NumberTooLarge) = Large lexemes
-Means source lexemes (Err Syntax) = Unspelled source lexemes
-Means source lexemes (Err Ragged) = IsRagged source lexemes
-Means source lexemes (Err NoMemory) = ⊥
+Means source lexemes (Err too_deep) = is_too_deep lexemes ≡ true
+Means source lexemes (Err number_too_large) = Large lexemes
+Means source lexemes (Err not_spelled) = Unspelled source lexemes
+Means source lexemes (Err ragged_list) = IsRagged source lexemes
 
 -- the answer is what they mean; want of memory says nothing
 abbrev pub Answers : List ℕ → List Lexeme → Result Statement ParseFault → Type 0
 Answers source lexemes (Ok s) = Means source lexemes (Ok (statement_of s))
-Answers source lexemes (Err NoMemory) = Unit {0}
-Answers source lexemes (Err fault) = Means source lexemes (Err fault)
+Answers source lexemes (Err fault) =
+    IfSome (refusal_of fault) (λ refusal. Means source lexemes (Err refusal))

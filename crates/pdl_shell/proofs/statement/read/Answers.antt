@@ -1,18 +1,28 @@
-use Rattle.std.proofs.Common.{◌≡◌, ◌∙◌, ap, sym, subst, Ok, Result, List}
+use Rattle.std.proofs.Common.{◌≡◌, ◌∙◌, ℕ, ap, sym, subst, refl, Ok, Result, List}
 use Rattle.pdl_lex.specs.declared.Token.{Token}
 use Rattle.pdl_lex.specs.declared.LexFault.{LexFault}
 use Rattle.pdl_lex.specs.Tokens.{toks}
-use Rattle.pdl_syntax.specs.StatementTree.{statement_of}
-use Rattle.pdl_machine.specs.Reading.{MeansAt}
+use Rattle.pdl_lexemes.specs.Lexing.{lexemes_of}
+use Rattle.pdl_syntax.specs.Refusals.{NoStatement, Means as LexemesMean}
+use Rattle.pdl_syntax.specs.StatementTree.{StatementTree, statement_of}
+use Rattle.pdl_machine.specs.Parsed.{as_read}
+use Rattle.pdl_machine.specs.Reading.{MeansAt, MeansOneThing}
+use Rattle.pdl_machine.specs.Run.{reads}
 use Rattle.pdl_shell.proofs.statement.read.Goals as goal
 
 found_tokens : List Token → Result (List Token) LexFault
 found_tokens ts = Ok ts
+
+-- a text with these tokens is read as what their lexemes mean
+read_as : MeansOneThing → (text : List ℕ) (tokens : List Token) (meant : Result StatementTree NoStatement) → toks text ≡ Ok tokens
+    → LexemesMean text (lexemes_of text tokens) meant → reads text ≡ as_read meant
+read_as one text tokens meant found means =
+    one text (as_read meant)
+    (subst (λ (r : Result (List Token) LexFault). MeansAt text r (as_read meant)) (sym found) (record { meant = meant; means = means; named = refl }))
 
 pub returns-clause-ok : goal.returns-clause-ok
 unfolding found_tokens
 returns-clause-ok c =
     let text = c.args.text.now in
     let t : toks text ≡ Ok c.deref.result.now = c.in_ok-tokens.ensures.exact ∙ ap found_tokens (sym c.deref.ensures.value) in
-    c.reads_law.ensures.one text (Ok (statement_of c.in_ok-statement.statement))
-    (subst (λ (r : Result (List Token) LexFault). MeansAt text r (Ok (statement_of c.in_ok-statement.statement))) (sym t) c.in_ok-statement.ensures.exact)
+    read_as c.reads_law.ensures.one text c.deref.result.now (Ok (statement_of c.in_ok-statement.statement)) t c.in_ok-statement.ensures.exact
