@@ -15,7 +15,8 @@ use Rattle.pdl_lexemes.specs.Peeks.{after}
 -- follows it is no longer
 pub record ListsAreRead : Type 0 where
   pub reads : (ts rest : List Lexeme) (shape : Option (List ℕ)) (elems : List ℤ)
-      → (list_read ts ≡ Some (read_part shape elems rest)) ↔ SpellsList (a_list shape [] elems) ts rest
+      → (list_read ts ≡ Some (read_part shape elems rest))
+      ↔ SpellsList (a_list shape [] elems) ts rest
   pub opens : (ts rest : List Lexeme) (shape : Option (List ℕ)) (elems : List ℤ)
       → SpellsList (a_list shape [] elems) ts rest → (us : List Lexeme) × (ts ≡ OpenSquare ∷ us)
   pub shortens : (ts rest : List Lexeme) (shape : Option (List ℕ)) (elems : List ℤ)

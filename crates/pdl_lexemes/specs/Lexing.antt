@@ -90,7 +90,8 @@ word_of text span =
 -- a sign; a text that is none, which no token has, is a lexeme that no rule of the grammar has
 abbrev pub sign_of : List ℕ → Lexeme
 sign_of text =
-    choose (choose Unknown (λ op. Operator op) (found_in operators text)) (λ s. s) (found_in signs text)
+    choose (choose Unknown (λ op. Operator op) (found_in operators text)) (λ s. s)
+    (found_in signs text)
 
 abbrev pub span_of : Token → Span
 span_of t = record { from = t.from; to = t.to }

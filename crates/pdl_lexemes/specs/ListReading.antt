@@ -42,8 +42,9 @@ module _ (list_of : List ℤ → List Lexeme → Option ReadPart) where
   items_at zero n so_far = Some (n, so_far)
   items_at (suc k) n so_far =
       choose (Some (n, so_far))
-      (λ us. option_and_then (λ x. items_at k (suc n) (read_part (shared so_far.shape x.shape) x.elems
-      x.rest)) (item_at so_far.elems us))
+      (λ us. option_and_then
+      (λ x. items_at k (suc n) (read_part (shared so_far.shape x.shape) x.elems x.rest))
+      (item_at so_far.elems us))
       (after Comma so_far.rest)
 
   -- what stands behind `[`

@@ -22,7 +22,8 @@ pub struct Row {
 pub fn read<'a>(alloc: Global, tokens: &Lexemes<'a>) -> Result<(Row, Lexemes<'a>), Refusal>
     ensures dims { IfOk result
         (λ x. IsDims (unwrap_or x.0.shape (suc (length x.0.elems.items) ∷ []))) }
-    ensures read { Gives (λ x. read_part x.0.shape x.0.elems.items x.1) result (list_read tokens.now) }
+    ensures read { Gives (λ x. read_part x.0.shape x.0.elems.items x.1) result
+        (list_read tokens.now) }
 {
     list(alloc, tokens.len() + 1, Vec::new(alloc), tokens)
 }

@@ -1,4 +1,4 @@
-//! Sums and products of the lists along dimension 0, of many lists at once: an element of each
+//! Sums, products and extremes of the lists along dimension 0, many at once: an element of each
 //! list, then the next one of each. Where elements along dimension 1 lie closer together, the
 //! buffer is so read in its order.
 ghost use Rattle.std.specs.Prelude.{◌≡◌, ◌<◌, ◌≤◌, ◌+◌, ◌*◌, ◌%◌, ◌++◌, ℕ, pos, length, fold, map, get_or, OnOk};
