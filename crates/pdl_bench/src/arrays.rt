@@ -1,23 +1,24 @@
-//! Numbers, dimensions and buffers to work on.
-ghost use Rattle.std.specs.Prelude.{◌≡◌, [], ◌∷◌, length, All, IfOk};
+//! Numbers, dimensions, buffers and windows to work on.
+ghost use Rattle.std.specs.Prelude.{◌≡◌, ◌<◌, length, All, IfOk};
 ghost use Rattle.pdl_elem.specs.Types.{InRange};
 ghost use Rattle.pdl_shape.specs.Shape.{size_of};
 
-use pdl_buf::{Buf, Steps, Strided, buf_of, strided};
+use pdl_buf::{Buf, Strided, buf_of, new_steps, strided};
 use pdl_elem::{Ty, wrap};
-use pdl_shape::{Dims, dims_of, elements_of, triple_of, whole_triple};
+use pdl_shape::{Dims, dims_of, whole_triple};
 use std::alloc::{AllocError, Global};
 use std::io::{self, ErrorKind};
-use std::sync::ledger::Ledger;
+use std::marker::Brand;
+use std::sync::ledger::{Blank, Ledger};
 
-/// So many numbers of the type, of which no two neighbours are equal.
-pub fn numbers(alloc: Global, ty: Ty, count: u32) -> Result<Vec<i64>, AllocError>
+/// So many numbers of the type, each so far after the one before. None is 0 where the step is even.
+pub fn numbers(alloc: Global, ty: Ty, count: u32, step: u32) -> Result<Vec<i64>, AllocError>
     ensures count { IfOk result (λ numbers. length numbers.items ≡ count) }
     ensures in_range { IfOk result (λ numbers. All (InRange ty) numbers.items) }
 {
     let mut numbers = Vec::with_capacity(alloc, count as usize)?;
     for i in 0..count {
-        numbers.push(wrap(ty, i128::from(i) * 7_919))?;
+        numbers.push(wrap(ty, i128::from(i) * i128::from(step) + 1))?;
     }
     Ok(numbers)
 }
@@ -32,33 +33,36 @@ pub fn shape(alloc: Global, sizes: &[u32]) -> io::Result<Dims>
     }
 }
 
-/// A buffer of numbers of the type, as many as the dimensions say.
-pub fn filled<L: Ledger>(
+// A buffer of these numbers, whose elements are counted in a new ledger.
+fn counted<L: Ledger>(
     alloc: Global,
+    blank: Blank,
     ty: Ty,
-    dims: &Dims,
-    steps: &mut Steps<L>,
+    numbers: &[i64],
 ) -> Result<Buf, AllocError>
+    requires name { blank.name ≡ L.name }
+    requires parts { blank.parts ≡ L.parts }
+    requires some { 0 < blank.parts }
+    requires in_range { All (InRange ty) numbers.now }
     ensures ty { IfOk result (λ buf. buf.ty ≡ ty) }
-    ensures count { IfOk result (λ buf. length buf.elems ≡ size_of dims.now) }
+    ensures count { IfOk result (λ buf. length buf.elems ≡ length numbers.now) }
 {
-    let numbers = numbers(alloc, ty, elements_of(dims))?;
-    buf_of(alloc, ty, &numbers, steps)
+    buf_of(alloc, ty, numbers, &mut new_steps::<L>(blank))
+}
+
+/// A buffer of so many numbers of the type.
+pub fn filled(alloc: Global, ty: Ty, count: u32) -> Result<Buf, AllocError>
+    ensures ty { IfOk result (λ buf. buf.ty ≡ ty) }
+    ensures count { IfOk result (λ buf. length buf.elems ≡ count) }
+{
+    let numbers = numbers(alloc, ty, count, 7_919)?;
+    counted::<Brand>(alloc, Blank::new(1), ty, &numbers)
 }
 
 /// The buffer as an array of these dimensions, which give its number of elements.
 pub fn window<'a>(alloc: Global, buf: &'a Buf, dims: &Dims) -> Strided<'a>
     requires { length buf.now.elems ≡ size_of dims.now }
-    ensures ty { result.ty ≡ buf.now.ty }
-    ensures count { length result.elems ≡ length buf.now.elems }
+    ensures { result.ty ≡ buf.now.ty }
 {
     strided(buf, &whole_triple(alloc, dims))
-}
-
-/// A buffer of 10,000 elements as 100 by 100, with its rows as columns.
-pub fn turned<'a>(alloc: Global, buf: &'a Buf, dims: &Dims) -> Strided<'a>
-    requires count { length buf.now.elems ≡ size_of dims.now }
-    requires square { dims.now ≡ 100 ∷ 100 ∷ [] }
-{
-    strided(buf, &triple_of(alloc, 0, &[100, 1], dims))
 }

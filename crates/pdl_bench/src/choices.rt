@@ -1,10 +1,11 @@
 //! The places of views that pick elements one by one.
 ghost use Rattle.std.specs.Prelude.{◌≡◌, length, IfOk};
+ghost use Rattle.pdl_shape.specs.Shape.{size_of};
 
 use crate::arrays::shape;
 use crate::stopwatch::{RUNS, Stopwatch};
 use pdl_choice::{Choice, ChoiceFault, Edge, index, range};
-use pdl_shape::elements_of;
+use pdl_shape::{Dims, elements_of};
 use std::alloc::{AllocError, Global};
 use std::io::{self, ErrorKind};
 use std::rt::Clock;
@@ -44,19 +45,40 @@ fn values(alloc: Global, count: u32) -> Result<Vec<i64>, AllocError>
     Ok(values)
 }
 
+// What `index` chooses of an array by as many values as it has elements.
+fn looked_up(alloc: Global, dims: &Dims, values: &[i64]) -> Result<Choice, ChoiceFault>
+    requires { length values.now ≡ size_of dims.now }
+{
+    index(alloc, dims, dims, values)
+}
+
 /// Times `index` with as many values as the parent has elements.
 pub fn time_index(rt: &(impl Print + Clock), alloc: Global) -> io::Result<()> {
     let dims = shape(alloc, &[LOOKED_UP])?;
     let values = values(alloc, elements_of(&dims))?;
-    let mut watch = Stopwatch::new(alloc);
     let mut sum = 0;
-    for _run in 0..RUNS {
-        let start = Instant::now(rt)?;
-        let choice = index(alloc, &dims, &dims, &values);
-        watch.stop(rt, start)?;
-        sum ^= sum_of(choice)?;
-    }
+    let watch = index_timed(rt, alloc, &dims, &values, &mut sum)?;
     watch.report(rt, "index", LOOKED_UP, sum)
+}
+
+// Looks up in each run.
+fn index_timed(
+    clock: &impl Clock,
+    alloc: Global,
+    dims: &Dims,
+    values: &[i64],
+    sum: &mut u64,
+) -> io::Result<Stopwatch>
+    requires { length values.now ≡ size_of dims.now }
+{
+    let mut watch = Stopwatch::new();
+    for _run in 0..RUNS {
+        let start = Instant::now(clock)?;
+        let choice = looked_up(alloc, dims, values);
+        watch.stop(clock, start)?;
+        *sum = sum_of(choice)?;
+    }
+    Ok(watch)
 }
 
 /// The first so many numbers of the corners of all windows, two for each: that along dimension 0
@@ -77,18 +99,45 @@ fn corners(alloc: Global, count: u32) -> Result<Vec<i64>, AllocError>
     Ok(corners)
 }
 
+// What `range` chooses of an array by windows of 3 by 3 at listed corners.
+fn windows(
+    alloc: Global,
+    dims: &Dims,
+    listed: &Dims,
+    corners: &[i64],
+) -> Result<Choice, ChoiceFault>
+    requires { length corners.now ≡ size_of listed.now }
+{
+    range(alloc, dims, listed, corners, &[3, 3], Edge::Refuse)
+}
+
 /// Times `range` with windows of 3 by 3.
 pub fn time_ranges(rt: &(impl Print + Clock), alloc: Global) -> io::Result<()> {
     let dims = shape(alloc, &[CORNERS + 2, CORNERS + 2])?;
     let listed = shape(alloc, &[2, CORNERS, CORNERS])?;
     let corners = corners(alloc, elements_of(&listed))?;
-    let mut watch = Stopwatch::new(alloc);
     let mut sum = 0;
-    for _run in 0..RUNS {
-        let start = Instant::now(rt)?;
-        let choice = range(alloc, &dims, &listed, &corners, &[3, 3], Edge::Refuse);
-        watch.stop(rt, start)?;
-        sum ^= sum_of(choice)?;
-    }
+    let watch = range_timed(rt, alloc, &dims, &listed, &corners, &mut sum)?;
     watch.report(rt, "range, 3 by 3", IN_WINDOWS, sum)
+}
+
+// Finds the windows in each run.
+fn range_timed(
+    clock: &impl Clock,
+    alloc: Global,
+    dims: &Dims,
+    listed: &Dims,
+    corners: &[i64],
+    sum: &mut u64,
+) -> io::Result<Stopwatch>
+    requires { length corners.now ≡ size_of listed.now }
+{
+    let mut watch = Stopwatch::new();
+    for _run in 0..RUNS {
+        let start = Instant::now(clock)?;
+        let choice = windows(alloc, dims, listed, corners);
+        watch.stop(clock, start)?;
+        *sum = sum_of(choice)?;
+    }
+    Ok(watch)
 }

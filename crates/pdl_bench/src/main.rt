@@ -5,13 +5,17 @@ ghost use Rattle.std.specs.Prelude.{◌≡◌, ◌<◌};
 
 mod arrays;
 mod choices;
-mod elements;
 mod moves;
+mod operators;
 mod printing;
+mod reads;
 mod stopwatch;
 mod walks;
+mod words;
 
+use crate::words::{Subject, subject_named, type_named};
 use pdl_buf::{Steps, new_steps};
+use pdl_elem::Ty;
 use std::alloc::Global;
 use std::marker::Brand;
 use std::process::ExitCode;
@@ -19,106 +23,73 @@ use std::rt::Clock;
 use std::sync::ledger::{Blank, Ledger};
 use std::{env, io};
 
-/// What a word asks to be timed.
-#[derive(Clone, Copy)]
-enum Subject {
-    Elements,
-    Gather,
-    Scatter,
-    Printing,
-    Walk,
-    Index,
-    Ranges,
-    All,
-}
+const USAGE: &str = "usage: pdl_bench [TYPE SUBJECT..]";
 
-const USAGE: &str =
-    "usage: pdl_bench [elements | gather | scatter | printing | walk | index | ranges | all]..";
-
-fn subject_named(word: &str) -> Option<Subject> {
-    match word {
-        "elements" => Some(Subject::Elements),
-        "gather" => Some(Subject::Gather),
-        "scatter" => Some(Subject::Scatter),
-        "printing" => Some(Subject::Printing),
-        "walk" => Some(Subject::Walk),
-        "index" => Some(Subject::Index),
-        "ranges" => Some(Subject::Ranges),
-        "all" => Some(Subject::All),
-        _ => None,
-    }
-}
-
-// Times one subject.
+// Times one subject, at a type where it has elements.
 fn time<L: Ledger>(
     rt: &(impl Print + Clock),
     alloc: Global,
+    ty: Ty,
+    word: &str,
     subject: Subject,
     steps: &mut Steps<L>,
 ) -> io::Result<()> {
     match subject {
-        Subject::Elements => elements::time(rt, alloc, steps),
-        Subject::Gather => moves::time_gather(rt, alloc, steps),
-        Subject::Scatter => moves::time_scatter(rt, alloc, steps),
-        Subject::Printing => printing::time(rt, alloc, steps),
+        Subject::Operator(op) => operators::time(rt, alloc, word, op, ty),
+        Subject::Window(form) => reads::time(rt, alloc, word, form, ty),
+        Subject::Gather => moves::time_gather(rt, alloc, ty, steps),
+        Subject::Scatter => moves::time_scatter(rt, alloc, ty, steps),
+        Subject::Print => printing::time(rt, alloc, ty),
         Subject::Walk => walks::time(rt, alloc),
         Subject::Index => choices::time_index(rt, alloc),
-        Subject::Ranges => choices::time_ranges(rt, alloc),
-        Subject::All => time_all(rt, alloc, steps),
+        Subject::Range => choices::time_ranges(rt, alloc),
     }
 }
 
-// Times all of them.
+// Times what the words name, one by one, up to one that names nothing, and answers whether each
+// named something.
 fn time_all<L: Ledger>(
     rt: &(impl Print + Clock),
     alloc: Global,
+    ty: Ty,
+    words: &[String],
     steps: &mut Steps<L>,
-) -> io::Result<()> {
-    elements::time(rt, alloc, steps)?;
-    moves::time_gather(rt, alloc, steps)?;
-    moves::time_scatter(rt, alloc, steps)?;
-    printing::time(rt, alloc, steps)?;
-    walks::time(rt, alloc)?;
-    choices::time_index(rt, alloc)?;
-    choices::time_ranges(rt, alloc)
+) -> io::Result<bool> {
+    for word in words {
+        match subject_named(word.as_str()) {
+            Some(subject) => time(rt, alloc, ty, word.as_str(), subject, steps)?,
+            None => return Ok(false),
+        }
+    }
+    Ok(true)
 }
 
-// Times these subjects, with the moved elements counted in a ledger of their own.
-fn time_each<L: Ledger>(
+// The same, where the first word names the type. Moved elements are counted in this ledger.
+fn time_words<L: Ledger>(
     rt: &(impl Print + Clock),
     alloc: Global,
-    subjects: &[Subject],
+    words: &[String],
     blank: Blank,
-) -> io::Result<()>
+) -> io::Result<bool>
     requires name { blank.name ≡ L.name }
     requires parts { blank.parts ≡ L.parts }
     requires some { 0 < blank.parts }
 {
     let mut steps = new_steps::<L>(blank);
-    for subject in subjects {
-        time(rt, alloc, *subject, &mut steps)?;
+    let Some((first, rest)) = words.split_first() else {
+        return Ok(true);
+    };
+    match type_named(first.as_str()) {
+        Some(ty) => time_all(rt, alloc, ty, rest, &mut steps),
+        None => Ok(false),
     }
-    Ok(())
-}
-
-// The subjects that the words of the command line name, or nothing where one of them names none.
-fn subjects(rt: &HostRuntime) -> io::Result<Option<Vec<Subject>>> {
-    let words: Vec<String> = env::args(rt)?.skip(1).collect(rt.alloc())?;
-    let mut subjects = Vec::new(rt.alloc());
-    for word in &words {
-        match subject_named(word.as_str()) {
-            Some(subject) => subjects.push(subject)?,
-            None => return Ok(None),
-        }
-    }
-    Ok(Some(subjects))
 }
 
 fn main(rt: HostRuntime) -> io::Result<ExitCode> {
-    let Some(subjects) = subjects(&rt)? else {
-        println!(rt; "{USAGE}")?;
-        return Ok(ExitCode::from(2));
-    };
-    time_each::<Brand>(&rt, rt.alloc(), &subjects, Blank::new(1))?;
-    Ok(ExitCode::SUCCESS)
+    let words: Vec<String> = env::args(&rt)?.skip(1).collect(rt.alloc())?;
+    if time_words::<Brand>(&rt, rt.alloc(), &words, Blank::new(1))? {
+        return Ok(ExitCode::SUCCESS);
+    }
+    println!(rt; "{USAGE}")?;
+    Ok(ExitCode::from(2))
 }

@@ -1,11 +1,11 @@
 //! Moving elements between buffers.
-ghost use Rattle.std.specs.Prelude.{◌≡◌, ◌≤◌, length, IfOk, All};
-ghost use Rattle.pdl_shape.specs.Places.{AllBelow};
+ghost use Rattle.std.specs.Prelude.{◌≡◌, length, All, IfOk};
 ghost use Rattle.pdl_elem.specs.Types.{InRange};
+ghost use Rattle.pdl_shape.specs.Places.{AllBelow};
 
 use crate::arrays::{filled, numbers, shape, window};
 use crate::stopwatch::{RUNS, Stopwatch};
-use pdl_buf::{Buf, Steps, Strided, buf_get, gather, scatter};
+use pdl_buf::{Buf, Steps, Strided, buf_bytes, gather, scatter, strided_dims, strided_type};
 use pdl_elem::Ty;
 use pdl_shape::elements_of;
 use std::alloc::{AllocError, Global};
@@ -39,111 +39,106 @@ fn places(alloc: Global, count: u32, step: u32) -> Result<Vec<Option<u32>>, Allo
 pub fn time_gather<L: Ledger>(
     rt: &(impl Print + Clock),
     alloc: Global,
+    ty: Ty,
     steps: &mut Steps<L>,
 ) -> io::Result<()> {
-    gather_by(rt, alloc, steps, "gather, in order", 1)?;
-    gather_by(rt, alloc, steps, "gather, far apart", FAR)
+    let dims = shape(alloc, &[COUNT])?;
+    let buf = filled(alloc, ty, elements_of(&dims))?;
+    let from = window(alloc, &buf, &dims);
+    gather_by(rt, alloc, steps, "gather, in order", &from, 1)?;
+    gather_by(rt, alloc, steps, "gather, far apart", &from, FAR)
 }
 
+// The same by places this far apart.
 fn gather_by<L: Ledger>(
     rt: &(impl Print + Clock),
     alloc: Global,
     steps: &mut Steps<L>,
     name: &str,
+    from: &Strided<'_>,
     step: u32,
 ) -> io::Result<()> {
-    let dims = shape(alloc, &[COUNT])?;
-    let from = filled(alloc, Ty::Long, &dims, steps)?;
-    let mut into = filled(alloc, Ty::Long, &dims, steps)?;
-    let places = places(alloc, elements_of(&dims), step)?;
-    let mut watch = Stopwatch::new(alloc);
-    let sum = gather_timed(
-        rt,
-        &window(alloc, &from, &dims),
-        &places,
-        &mut into,
-        steps,
-        &mut watch,
-    )?;
-    watch.report(rt, name, COUNT, sum)
+    let count = elements_of(strided_dims(from));
+    let places = places(alloc, count, step)?;
+    let mut into = filled(alloc, strided_type(from), count)?;
+    let watch = gather_timed(rt, from, &places, &mut into, steps)?;
+    watch.report(rt, name, count, sum_of(&into))
 }
 
-// Gathers in each run, and answers what the last one left.
+// Gathers in each run.
 fn gather_timed<L: Ledger>(
     clock: &impl Clock,
     from: &Strided<'_>,
     places: &[Option<u32>],
     into: &mut Buf,
     steps: &mut Steps<L>,
-    watch: &mut Stopwatch,
-) -> io::Result<u64>
+) -> io::Result<Stopwatch>
     requires paired { length places.now ≡ length into.old.elems }
     requires within { AllBelow (length from.now.elems) places.now }
     requires same_type { from.now.ty ≡ into.old.ty }
 {
-    for run in 0..RUNS {
+    let mut watch = Stopwatch::new();
+    for _run in 0..RUNS {
         let start = Instant::now(clock)?;
         gather(from, places, into, steps);
         watch.stop(clock, start)?;
     }
-    Ok(sum_of(into, places.len()))
+    Ok(watch)
 }
 
 /// Times `scatter` to places in order, and to places far apart.
 pub fn time_scatter<L: Ledger>(
     rt: &(impl Print + Clock),
     alloc: Global,
+    ty: Ty,
     steps: &mut Steps<L>,
 ) -> io::Result<()> {
-    scatter_by(rt, alloc, steps, "scatter, in order", 1)?;
-    scatter_by(rt, alloc, steps, "scatter, far apart", FAR)
+    scatter_by(rt, alloc, steps, "scatter, in order", ty, 1)?;
+    scatter_by(rt, alloc, steps, "scatter, far apart", ty, FAR)
 }
 
+// The same to places this far apart.
 fn scatter_by<L: Ledger>(
     rt: &(impl Print + Clock),
     alloc: Global,
     steps: &mut Steps<L>,
     name: &str,
+    ty: Ty,
     step: u32,
 ) -> io::Result<()> {
-    let dims = shape(alloc, &[COUNT])?;
-    let mut into = filled(alloc, Ty::Long, &dims, steps)?;
-    let places = places(alloc, elements_of(&dims), step)?;
-    let values = numbers(alloc, Ty::Long, elements_of(&dims))?;
-    let mut watch = Stopwatch::new(alloc);
-    let sum = scatter_timed(rt, &mut into, &places, &values, steps, &mut watch)?;
-    watch.report(rt, name, COUNT, sum)
+    let places = places(alloc, COUNT, step)?;
+    let values = numbers(alloc, ty, COUNT, 7_919)?;
+    let mut into = filled(alloc, ty, COUNT)?;
+    let watch = scatter_timed(rt, &mut into, &places, &values, steps)?;
+    watch.report(rt, name, COUNT, sum_of(&into))
 }
 
-// Scatters in each run, and answers what the last one left.
+// Scatters in each run.
 fn scatter_timed<L: Ledger>(
     clock: &impl Clock,
     into: &mut Buf,
     places: &[Option<u32>],
     values: &[i64],
     steps: &mut Steps<L>,
-    watch: &mut Stopwatch,
-) -> io::Result<u64>
+) -> io::Result<Stopwatch>
     requires paired { length values.now ≡ length places.now }
-    requires whole { length places.now ≡ length into.old.elems }
     requires within { AllBelow (length into.old.elems) places.now }
     requires in_range { All (InRange into.old.ty) values.now }
 {
-    for run in 0..RUNS {
+    let mut watch = Stopwatch::new();
+    for _run in 0..RUNS {
         let start = Instant::now(clock)?;
         scatter(into, places, values, steps);
         watch.stop(clock, start)?;
     }
-    Ok(sum_of(into, places.len()))
+    Ok(watch)
 }
 
-// The sum of the first so many elements of a buffer.
-fn sum_of(buf: &Buf, count: usize) -> u64
-    requires { count ≤ length buf.now.elems }
-{
+// What the bytes of a buffer come to.
+fn sum_of(buf: &Buf) -> u64 {
     let mut sum: u64 = 0;
-    for i in 0..u32::try_from(count).unwrap_or(0) {
-        sum = sum.wrapping_add(buf_get(buf, i).cast_unsigned());
+    for byte in buf_bytes(buf) {
+        sum = sum.wrapping_mul(31).wrapping_add(u64::from(*byte));
     }
     sum
 }

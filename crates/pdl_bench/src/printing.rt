@@ -1,13 +1,16 @@
 //! Printing arrays.
-use crate::arrays::{filled, shape, turned, window};
+ghost use Rattle.std.specs.Prelude.{◌≡◌, IfOk};
+ghost use Rattle.pdl_shape.specs.Triple.{Reaches};
+
+use crate::arrays::{filled, shape, window};
 use crate::stopwatch::{RUNS, Stopwatch};
-use pdl_buf::{Steps, Strided};
+use pdl_buf::{Strided, strided};
 use pdl_elem::Ty;
 use pdl_print::write_array;
+use pdl_shape::{Triple, elements_of, triple_of};
 use std::alloc::{AllocError, Global};
 use std::io;
 use std::rt::Clock;
-use std::sync::ledger::Ledger;
 use std::time::Instant;
 
 /// How many arrays a run prints.
@@ -18,45 +21,55 @@ const COUNT: u32 = ARRAYS * 10_000;
 
 /// Times `write_array` of a row, a plane, a cube and a plane whose rows and columns are turned, of
 /// 10,000 numbers each.
-pub fn time<L: Ledger>(
-    rt: &(impl Print + Clock),
-    alloc: Global,
-    steps: &mut Steps<L>,
-) -> io::Result<()> {
-    print_whole(rt, alloc, steps, "print, row", &[10_000])?;
-    print_whole(rt, alloc, steps, "print, plane", &[100, 100])?;
-    print_whole(rt, alloc, steps, "print, cube", &[20, 20, 25])?;
-    print_turned(rt, alloc, steps)
+pub fn time(rt: &(impl Print + Clock), alloc: Global, ty: Ty) -> io::Result<()> {
+    print_whole(rt, alloc, ty, "print, row", &[10_000])?;
+    print_whole(rt, alloc, ty, "print, plane", &[100, 100])?;
+    print_whole(rt, alloc, ty, "print, cube", &[20, 20, 25])?;
+    print_turned(rt, alloc, ty)
 }
 
-fn print_whole<L: Ledger>(
+fn print_whole(
     rt: &(impl Print + Clock),
     alloc: Global,
-    steps: &mut Steps<L>,
+    ty: Ty,
     name: &str,
     sizes: &[u32],
 ) -> io::Result<()> {
     let dims = shape(alloc, sizes)?;
-    let buf = filled(alloc, Ty::Long, &dims, steps)?;
+    let buf = filled(alloc, ty, elements_of(&dims))?;
     print_timed(rt, alloc, name, &window(alloc, &buf, &dims))
 }
 
-fn print_turned<L: Ledger>(
-    rt: &(impl Print + Clock),
-    alloc: Global,
-    steps: &mut Steps<L>,
-) -> io::Result<()> {
+// A plane with its rows as columns.
+fn turned(alloc: Global) -> io::Result<Triple>
+    ensures { IfOk result (λ triple. Reaches triple 10000) }
+{
     let dims = shape(alloc, &[100, 100])?;
-    let buf = filled(alloc, Ty::Long, &dims, steps)?;
-    print_timed(
-        rt,
-        alloc,
-        "print, turned plane",
-        &turned(alloc, &buf, &dims),
-    )
+    Ok(triple_of(alloc, 0, &[100, 1], &dims))
 }
 
-// Prints the window in each run, and reports the times.
+fn print_turned(rt: &(impl Print + Clock), alloc: Global, ty: Ty) -> io::Result<()> {
+    let buf = filled(alloc, ty, 10_000)?;
+    let triple = turned(alloc)?;
+    print_timed(rt, alloc, "print, turned plane", &strided(&buf, &triple))
+}
+
+// Prints the window in each run.
+fn print_runs(
+    clock: &impl Clock,
+    window: &Strided<'_>,
+    text: &mut Vec<u8>,
+) -> io::Result<Stopwatch> {
+    let mut watch = Stopwatch::new();
+    for _run in 0..RUNS {
+        let start = Instant::now(clock)?;
+        print_often(window, text)?;
+        watch.stop(clock, start)?;
+    }
+    Ok(watch)
+}
+
+// Prints the window in each run, and reports the time.
 fn print_timed(
     rt: &(impl Print + Clock),
     alloc: Global,
@@ -64,12 +77,7 @@ fn print_timed(
     window: &Strided<'_>,
 ) -> io::Result<()> {
     let mut text = Vec::new(alloc);
-    let mut watch = Stopwatch::new(alloc);
-    for _run in 0..RUNS {
-        let start = Instant::now(rt)?;
-        print_often(window, &mut text)?;
-        watch.stop(rt, start)?;
-    }
+    let watch = print_runs(rt, window, &mut text)?;
     watch.report(rt, name, COUNT, text.len() as u64)
 }
 

@@ -1,12 +1,13 @@
 //! Walks through a broadcast.
 ghost use Rattle.std.specs.Prelude.{◌≡◌, ◌<◌, length};
+ghost use Rattle.pdl_shape.specs.Broadcast.{BroadcastsTo};
 ghost use Rattle.pdl_shape.specs.Shape.{size_of};
 
 use crate::arrays::shape;
 use crate::stopwatch::{RUNS, Stopwatch};
 use pdl_broadcast::BroadcastWalk;
-use pdl_shape::{elements_of, join_dims, whole_triple};
-use std::alloc::Global;
+use pdl_shape::{Dims, elements_of, join_dims, whole_triple};
+use std::alloc::{AllocError, Global};
 use std::io::{self, ErrorKind};
 use std::rt::Clock;
 use std::time::Instant;
@@ -26,21 +27,45 @@ fn walk_two(
 ) -> io::Result<()> {
     let first = shape(alloc, &[1_000, 1_000])?;
     let second = shape(alloc, second)?;
-    let Ok(dims) = join_dims(alloc, &first, &second) else {
-        return Err(ErrorKind::InvalidInput.into());
-    };
-    let count = elements_of(&dims);
-    let mut watch = Stopwatch::new(alloc);
     let mut sum = 0;
+    let watch = walk_timed(rt, alloc, &first, &second, &mut sum)?;
+    watch.report(rt, name, elements_of(&first), sum)
+}
+
+// Walks in each run.
+fn walk_timed(
+    clock: &impl Clock,
+    alloc: Global,
+    first: &Dims,
+    second: &Dims,
+    sum: &mut u64,
+) -> io::Result<Stopwatch> {
+    let mut watch = Stopwatch::new();
     for _run in 0..RUNS {
-        let mut walk = BroadcastWalk::new(alloc, &dims)?;
-        walk.add(&whole_triple(alloc, &first))?;
-        walk.add(&whole_triple(alloc, &second))?;
-        let start = Instant::now(rt)?;
-        sum ^= walk_all(&mut walk, count);
-        watch.stop(rt, start)?;
+        let start = Instant::now(clock)?;
+        *sum = walked(alloc, first, second)?;
+        watch.stop(clock, start)?;
     }
-    watch.report(rt, name, count, sum)
+    Ok(watch)
+}
+
+// Walks once with arguments of these dimensions.
+fn walked(alloc: Global, first: &Dims, second: &Dims) -> io::Result<u64> {
+    match join_dims(alloc, first, second) {
+        Ok(dims) => Ok(walk_over(alloc, &dims, first, second)?),
+        Err(_) => Err(ErrorKind::InvalidInput.into()),
+    }
+}
+
+// The same over dimensions that both stretch to.
+fn walk_over(alloc: Global, dims: &Dims, first: &Dims, second: &Dims) -> Result<u64, AllocError>
+    requires first { BroadcastsTo first.now dims.now }
+    requires second { BroadcastsTo second.now dims.now }
+{
+    let mut walk = BroadcastWalk::new(alloc, dims)?;
+    walk.add(&whole_triple(alloc, first))?;
+    walk.add(&whole_triple(alloc, second))?;
+    Ok(walk_all(&mut walk, elements_of(dims)))
 }
 
 // Walks through all coordinates, and sums both places at each.
