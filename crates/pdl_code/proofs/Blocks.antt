@@ -12,7 +12,7 @@ use Rattle.pdl_code.specs.Join.{join_code}
 use Rattle.pdl_code.specs.Raw.{RawTree, RawStep, RawCode, repeat, choose, declare, set, put, next}
 use Rattle.pdl_code.specs.RawOf.{raw_code, raw_step}
 use Rattle.pdl_code.specs.Refused.{answer, loop_wrong, named_dim, or_zero, scope_after, when}
-use Rattle.pdl_code.specs.Resolving.{◌>>=◌, Gives, resolve_tree, resolve_step, resolve_code}
+use Rattle.pdl_code.specs.Resolving.{◌>>=◌, Agrees, resolve_tree, resolve_step, resolve_code}
 use Rattle.pdl_code.specs.Scope.{Scope, within}
 use Rattle.pdl_code.specs.Tree.{Tree, Step, Code, repeat as loop, choose as branches, done as end, next as then_step}
 use Rattle.pdl_code.proofs.Joins.{code_join_join, code_join_done}
@@ -54,7 +54,7 @@ fronts a v now loops (put w is at op e) le h = same_fronts a v now le (ap (λ (x
 
 -- a refusal of a part is one of the whole, as `f` says
 pub pass_on : {A B X Y : Type 0} (v : X → A) (view : Y → B) (r : KernelFault) (part : Result A KernelFault) (whole : Result B KernelFault)
-    → ((x : KernelFault) → part ≡ Err x → whole ≡ Err x) → Gives v (Err r) part → Gives view (Err r) whole
+    → ((x : KernelFault) → part ≡ Err x → whole ≡ Err x) → Agrees v (Err r) part → Agrees view (Err r) whole
 pass_on v view NoMemory part whole f e = tt
 pass_on v view TooDeep part whole f e = f TooDeep e
 pass_on v view BadText part whole f e = f BadText e

@@ -15,7 +15,7 @@ use Rattle.pdl_code.specs.Meaning.{IsFault, code_in, judged, meant_by, spelled_b
 use Rattle.pdl_code.specs.Raw.{RawCode}
 use Rattle.pdl_code.specs.Reading.{read_code}
 use Rattle.pdl_code.specs.Refused.{answer, code_code, code_declares, code_wrongs}
-use Rattle.pdl_code.specs.Resolving.{Gives, or_bad}
+use Rattle.pdl_code.specs.Resolving.{Agrees, or_bad}
 use Rattle.pdl_code.specs.Scope.{top}
 use Rattle.pdl_code.specs.Tree.{Code}
 use Rattle.pdl_code.proofs.Fits.{code_count, code_fits}
@@ -88,7 +88,7 @@ count_is s text raw code n wf e h =
     let m = named s text raw code h in locals_of s text raw n e ∙ code_count text s wf top raw m.none ∙ ap (code_locals 0) (sym m.is)
 
 -- a fault of a text
-pub fault_of : {X : Type 0} (view : X → Code) (f : KernelFault) (wanted : Result Code KernelFault) → Gives view (Err f) wanted → IsFault wanted f
+pub fault_of : {X : Type 0} (view : X → Code) (f : KernelFault) (wanted : Result Code KernelFault) → Agrees view (Err f) wanted → IsFault wanted f
 fault_of view TooDeep wanted e = e
 fault_of view BadText wanted e = e
 fault_of view (UnknownArgument x) wanted e = e
@@ -131,10 +131,10 @@ read_as s text ts whole raw e h = ap (λ b. meant_by s text (if b then read_code
         same : (x : RawCode) → or_bad (Some x) ≡ Ok raw → x ≡ raw
         same x k = cc
 
-pub ok_of : {X : Type 0} (view : X → Code) (r : Result X KernelFault) (wanted other : Result Code KernelFault) → other ≡ wanted → Gives view r wanted → IfOk r (λ c. other ≡ Ok (view c))
+pub ok_of : {X : Type 0} (view : X → Code) (r : Result X KernelFault) (wanted other : Result Code KernelFault) → other ≡ wanted → Agrees view r wanted → IfOk r (λ c. other ≡ Ok (view c))
 ok_of view (Ok x) wanted other e g = e ∙ g
 ok_of view (Err f) wanted other e g = tt
 
-pub err_of : {X : Type 0} (view : X → Code) (r : Result X KernelFault) (wanted other : Result Code KernelFault) → other ≡ wanted → Gives view r wanted → IfErr r (IsFault other)
+pub err_of : {X : Type 0} (view : X → Code) (r : Result X KernelFault) (wanted other : Result Code KernelFault) → other ≡ wanted → Agrees view r wanted → IfErr r (IsFault other)
 err_of view (Ok x) wanted other e g = tt
 err_of view (Err f) wanted other e g = subst (λ o. IsFault o f) (sym e) (fault_of view f wanted g)

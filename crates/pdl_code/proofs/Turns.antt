@@ -13,7 +13,7 @@ use Rattle.pdl_code.specs.Join.{join, one_loop}
 use Rattle.pdl_code.specs.Raw.{RawTree, RawIndices, access, along}
 use Rattle.pdl_code.specs.RawOf.{raw_indices, raw_of}
 use Rattle.pdl_code.specs.Refused.{answer, argument_at, axis_wrong, looped, mark, named_argument, or_zero}
-use Rattle.pdl_code.specs.Resolving.{◌>>=◌, Gives, known, resolve_tree, resolve_indices}
+use Rattle.pdl_code.specs.Resolving.{◌>>=◌, Agrees, known, resolve_tree, resolve_indices}
 use Rattle.pdl_code.specs.Scope.{Scope, axis_of, bytes_of, no_flags}
 use Rattle.pdl_code.specs.Tree.{Tree, Indices, index, access as access_tree, none as nil, along as cons}
 use Rattle.pdl_code.proofs.Joins.{join_join, join_none}
@@ -77,7 +77,7 @@ module _ (source : List ℕ) (s : Signature) where
   access_ok c t w is at number ds found e placed dims ok = access_is c t w is at number ds e placed dims ∙ ap (λ r. r >>= λ found. Ok (access_tree number found)) ok
 
   pub access_err : {X Y : Type 0} (v : X → Indices) (view : Y → Tree) (r : KernelFault) (c : Scope) (t : RawTree) (w : Span) (is : RawIndices) (at number : ℕ) (ds : List ℕ) → t ≡ access w is at → named_argument source s w ≡ Some number → ds ≡ (argument_of s number).dims
-      → Gives v (Err r) (resolve_indices source s c ds no_flags at is) → Gives view (Err r) (resolve_tree source s c t)
+      → Agrees v (Err r) (resolve_indices source s c ds no_flags at is) → Agrees view (Err r) (resolve_tree source s c t)
   access_err v view NoMemory c t w is at number ds e placed dims err = tt
   access_err v view TooDeep c t w is at number ds e placed dims err = access_is c t w is at number ds e placed dims ∙ ap (λ r. r >>= λ found. Ok (access_tree number found)) err
   access_err v view BadText c t w is at number ds e placed dims err = access_is c t w is at number ds e placed dims ∙ ap (λ r. r >>= λ found. Ok (access_tree number found)) err

@@ -1,4 +1,5 @@
--- Refusing declared words and counting locals step by step, in the order of the text. Only private functions speak of this.
+-- Refusing declared words and counting locals step by step, in the order of the text. Only private
+-- functions speak of this.
 use Rattle.std.specs.Prelude.{ℕ, suc, max, Bool, true, false, ◌||◌, List, length, is_some, Result, Ok, Err}
 use Rattle.pdl_sig.specs.declared.Signature.{Signature}
 use Rattle.pdl_code.specs.declared.fault.KernelFault.{KernelFault}
@@ -36,7 +37,8 @@ abbrev mutual
 module _ (source : List ℕ) (s : Signature) where
   -- a dimension's word, or a visible local's
   abbrev pub is_taken : List Local → Span → Bool
-  is_taken locals w = is_some (slot_in source locals (bytes_of source w)) || is_some (named_dim source s w)
+  is_taken locals w = is_some (slot_in source locals (bytes_of source w))
+      || is_some (named_dim source s w)
 
   abbrev mutual
     pub declared_step : Scope → RawStep → Result ℕ KernelFault

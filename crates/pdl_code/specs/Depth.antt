@@ -4,7 +4,8 @@ use Rattle.pdl_code.specs.declared.depth.Counts.{Counts}
 use Rattle.pdl_code.specs.declared.lexeme.Lexeme.{Lexeme}
 use Rattle.pdl_code.specs.declared.lexeme.Lexeme.TheVariants.{Open, Close, BlockOpen, BlockClose, Semicolon, Arrow, Operator, Prefix}
 
--- the counts behind one more token: a closing bracket takes one away, not below 0; `;`, `%{` and `%}` begin the operators anew
+-- the counts behind one more token: a closing bracket takes one away, not below 0; `;`, `%{` and
+-- `%}` begin the operators anew
 abbrev pub counted_to : Counts → Lexeme → Counts
 counted_to c Open = record c { round = c.round + 1 }
 counted_to c (Close at) = record c { round = pred c.round }
@@ -23,7 +24,8 @@ is_beyond c = nat_lt 64 (c.round + c.block) || nat_lt 256 c.operators
 -- whether that is so behind some token
 abbrev pub goes_beyond : Counts → List Lexeme → Bool
 goes_beyond c [] = false
-goes_beyond c (t ∷ ts) = if is_beyond (counted_to c t) then true else goes_beyond (counted_to c t) ts
+goes_beyond c (t ∷ ts) =
+    if is_beyond (counted_to c t) then true else goes_beyond (counted_to c t) ts
 
 abbrev pub no_counts : Counts
 no_counts = record { round = 0; block = 0; operators = 0 }

@@ -1,4 +1,5 @@
--- What a reader promises of code: it speaks of what the signature has and of visible locals alone, and assigns to no input.
+-- What a reader promises of code: it speaks of what the signature has and of visible locals alone,
+-- and assigns to no input.
 use Rattle.std.specs.Prelude.{◌≡◌, ◌≢◌, ℕ, suc, ◌<◌, ◌≤◌, ◌==◌, max, List, [], ◌∷◌, length, get_or, if◌then◌else◌}
 use Rattle.pdl_sig.specs.declared.Role.TheVariants.{Input}
 use Rattle.pdl_sig.specs.declared.ArgType.TheVariants.{Generic}
@@ -29,18 +30,21 @@ abbrev mutual
   IsTreeFit s n (size d) = d < length s.names
   IsTreeFit s n (index d) = d < length s.names
   IsTreeFit s n (local k) = k < n
-  IsTreeFit s n (access a is) = (a < length s.args) × (length (places_of is) ≡ rank_of s a) × AreIndicesFit s n (rank_of s a) is
+  IsTreeFit s n (access a is) = (a < length s.args) × (length (places_of is) ≡ rank_of s a) ×
+      AreIndicesFit s n (rank_of s a) is
   IsTreeFit s n (unary op e) = IsTreeFit s n e
   IsTreeFit s n (binary op x y) = IsTreeFit s n x × IsTreeFit s n y
 
   -- indices of an argument with so many dimensions
   pub AreIndicesFit : Signature → ℕ → ℕ → Indices → Type 0
   AreIndicesFit s n rank none = Unit {0}
-  AreIndicesFit s n rank (along k e rest) = (k < rank) × IsTreeFit s n e × AreIndicesFit s n rank rest
+  AreIndicesFit s n rank (along k e rest) = (k < rank) × IsTreeFit s n e ×
+      AreIndicesFit s n rank rest
 
 -- an access to an argument: as many indices as it has dimensions
 abbrev pub IsAccessFit : Signature → ℕ → ℕ → Indices → Type 0
-IsAccessFit s n a is = (a < length s.args) × (length (places_of is) ≡ rank_of s a) × AreIndicesFit s n (rank_of s a) is
+IsAccessFit s n a is = (a < length s.args) × (length (places_of is) ≡ rank_of s a) ×
+    AreIndicesFit s n (rank_of s a) is
 
 -- how many locals are visible after a statement: a declaration is a store to the next slot
 abbrev pub locals_after : ℕ → Step → ℕ
@@ -50,13 +54,14 @@ locals_after n (keep k ty op e) = if k == n then suc n else n
 locals_after n (put a is op e) = n
 
 abbrev mutual
-  -- a statement among n visible locals: a store goes to a visible local or declares the next one, or goes to an argument
-  -- that is no input
+  -- a statement among n visible locals: a store goes to a visible local or declares the next one,
+  -- or goes to an argument that is no input
   pub IsStepFit : Signature → ℕ → Step → Type 0
   IsStepFit s n (repeat d body) = (d < length s.names) × IsCodeFit s n body
   IsStepFit s n (choose e whole other) = IsTreeFit s n e × IsCodeFit s n whole × IsCodeFit s n other
   IsStepFit s n (keep k ty op e) = (k ≤ n) × IsTreeFit s n e
-  IsStepFit s n (put a is op e) = ((argument_of s a).role ≢ Input) × IsAccessFit s n a is × IsTreeFit s n e
+  IsStepFit s n (put a is op e) = ((argument_of s a).role ≢ Input) ×
+      IsAccessFit s n a is × IsTreeFit s n e
 
   -- statements among n visible locals
   pub IsCodeFit : Signature → ℕ → Code → Type 0

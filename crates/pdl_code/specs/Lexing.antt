@@ -1,11 +1,12 @@
--- The tokens of kernel code (PDL::PP, Code): at each place the longest one, with blanks between them.
+-- The tokens of kernel code (PDL::PP, Code): at each place the longest one,
+-- with blanks between them.
 use Rattle.std.specs.Prelude.{ℕ, zero, suc, pred, ◌+◌, ◌==◌, nat_le, nat_lt, Bool, true, false, if◌then◌else◌, List, [], ◌∷◌, ◌++◌, length, take, Option, Some, None, option_map, codes, bytes_eq}
 use Rattle.std.specs.List.{prefix_len}
 use Rattle.std.specs.Char.{is_ascii_digit}
-use Rattle.pdl_elem.specs.declared.BinaryOp.TheVariants.{Add, Sub, Mul, Div, Rem, Shl, Shr, Lt, Le, Gt, Ge, Eq, Ne, And, Or, Xor}
+use Rattle.pdl_elem.specs.declared.BinaryOp.TheVariants.{Add, Sub, Mul, Div, Rem, Shl, Shr, And, Or, Xor}
 use Rattle.pdl_elem.specs.declared.UnaryOp.TheVariants.{Not, Complement}
 use Rattle.pdl_lex.specs.Bytes.{is_blank, is_letter, is_word_byte}
-use Rattle.pdl_lexemes.specs.Lexing.{found_in, number_of}
+use Rattle.pdl_lexemes.specs.Lexing.{found_in, operators, number_of}
 use Rattle.pdl_lexemes.specs.ListReading.{choose}
 use Rattle.pdl_code.specs.declared.lexeme.Span.{Span}
 use Rattle.pdl_code.specs.declared.lexeme.WordKind.{WordKind}
@@ -19,40 +20,48 @@ use Rattle.pdl_code.specs.declared.tree.LocalType.TheVariants.{Long, Longlong}
 -- what a table has for a text, or what others have
 abbrev pub found_or : {A : Type 0} → A → List (List ℕ × A) → List ℕ → A
 found_or other [] text = other
-found_or other (entry ∷ rest) text = if bytes_eq text entry.0 then entry.1 else found_or other rest text
+found_or other (entry ∷ rest) text =
+    if bytes_eq text entry.0 then entry.1 else found_or other rest text
 
 -- the reserved words
 abbrev pub word_kind : List ℕ → WordKind
 word_kind =
     found_or Plain
-    ((codes "loop", Loop) ∷ (codes "if", If) ∷ (codes "else", Else) ∷ (codes "int", OfType Long) ∷ (codes "long", OfType Long)
+    ((codes "loop", Loop) ∷ (codes "if", If) ∷ (codes "else", Else) ∷ (codes "int", OfType Long)
+    ∷ (codes "long", OfType Long)
     ∷ (codes "longlong", OfType Longlong) ∷ [])
 
 -- the names that are no argument's
 abbrev pub name_kind : List ℕ → NameKind
 name_kind = found_or PlainName ((codes "$SIZE", Size) ∷ (codes "$GENERIC", Generic) ∷ [])
 
--- the signs, the closing bracket with its place
+-- the signs but those of operators on two values; the closing bracket has its place
 abbrev pub signs : ℕ → List (List ℕ × Lexeme)
 signs at =
-    (codes "(", Open) ∷ (codes ")", Close at) ∷ (codes "%{", BlockOpen) ∷ (codes "%}", BlockClose) ∷ (codes ";", Semicolon)
-    ∷ (codes ",", Comma) ∷ (codes "=", Equals) ∷ (codes "=>", FatArrow) ∷ (codes "->", Arrow) ∷ (codes ".=", Unused)
-    ∷ (codes "[", Unused) ∷ (codes "]", Unused) ∷ (codes "+=", Assign Add) ∷ (codes "-=", Assign Sub) ∷ (codes "*=", Assign Mul)
-    ∷ (codes "/=", Assign Div) ∷ (codes "%=", Assign Rem) ∷ (codes "<<=", Assign Shl) ∷ (codes ">>=", Assign Shr)
-    ∷ (codes "&=", Assign And) ∷ (codes "|=", Assign Or) ∷ (codes "^=", Assign Xor) ∷ (codes "+", Operator Add)
-    ∷ (codes "-", Operator Sub) ∷ (codes "*", Operator Mul) ∷ (codes "/", Operator Div) ∷ (codes "%", Operator Rem)
-    ∷ (codes "<<", Operator Shl) ∷ (codes ">>", Operator Shr) ∷ (codes "<", Operator Lt) ∷ (codes ">", Operator Gt)
-    ∷ (codes "<=", Operator Le) ∷ (codes ">=", Operator Ge) ∷ (codes "==", Operator Eq) ∷ (codes "!=", Operator Ne)
-    ∷ (codes "&", Operator And) ∷ (codes "|", Operator Or) ∷ (codes "^", Operator Xor) ∷ (codes "!", Prefix Not)
-    ∷ (codes "~", Prefix Complement) ∷ []
+    (codes "(", Open) ∷ (codes ")", Close at) ∷ (codes "%{", BlockOpen) ∷ (codes "%}", BlockClose)
+    ∷ (codes ";", Semicolon) ∷ (codes ",", Comma) ∷ (codes "=", Equals) ∷ (codes "=>", FatArrow)
+    ∷ (codes "->", Arrow) ∷ (codes ".=", Unused) ∷ (codes "[", Unused) ∷ (codes "]", Unused)
+    ∷ (codes "+=", Assign Add) ∷ (codes "-=", Assign Sub) ∷ (codes "*=", Assign Mul)
+    ∷ (codes "/=", Assign Div) ∷ (codes "%=", Assign Rem) ∷ (codes "<<=", Assign Shl)
+    ∷ (codes ">>=", Assign Shr) ∷ (codes "&=", Assign And) ∷ (codes "|=", Assign Or)
+    ∷ (codes "^=", Assign Xor) ∷ (codes "!", Prefix Not) ∷ (codes "~", Prefix Complement) ∷ []
+
+-- the sign that a text is, if any
+abbrev pub sign_named : ℕ → List ℕ → Option Lexeme
+sign_named at text =
+    choose (option_map (λ op. Operator op) (found_in operators text)) (λ s. Some s)
+    (found_in (signs at) text)
 
 -- the sign of n bytes at the front, with its length
 abbrev pub sign_of : ℕ → ℕ → List ℕ → Option (Lexeme × ℕ)
-sign_of at n text = if nat_le n (length text) then option_map (λ l. (l, n)) (found_in (signs at) (take n text)) else None
+sign_of at n text =
+    if nat_le n (length text) then option_map (λ l. (l, n)) (sign_named at (take n text)) else None
 
 -- the longest sign
 abbrev pub sign_at : ℕ → List ℕ → Option (Lexeme × ℕ)
-sign_at at text = choose (choose (sign_of at 1 text) (λ x. Some x) (sign_of at 2 text)) (λ x. Some x) (sign_of at 3 text)
+sign_at at text =
+    choose (choose (sign_of at 1 text) (λ x. Some x) (sign_of at 2 text)) (λ x. Some x)
+    (sign_of at 3 text)
 
 -- how many bytes a word that begins with a letter has
 abbrev pub word_len : List ℕ → ℕ
@@ -62,7 +71,9 @@ word_len (b ∷ bs) = if is_letter b then 1 + prefix_len is_word_byte bs else 0
 -- how many digits a number has
 abbrev pub number_len : List ℕ → ℕ
 number_len [] = 0
-number_len (b ∷ bs) = if b == 48 then 1 else (if is_ascii_digit b then 1 + prefix_len is_ascii_digit bs else 0)
+number_len (b ∷ bs) =
+    if b == 48 then 1
+    else (if is_ascii_digit b then 1 + prefix_len is_ascii_digit bs else 0)
 
 abbrev pub span_at : ℕ → ℕ → Span
 span_at at n = record { from = at; to = at + n }
@@ -101,7 +112,8 @@ unfoldable pub lexed_from : ℕ → ℕ → List ℕ → Lexed
 lexed_from at passed [] = record { lexemes = []; whole = true }
 lexed_from at (suc passed) (b ∷ bs) = lexed_from (suc at) passed bs
 lexed_from at zero (b ∷ bs) =
-    if is_blank b then lexed_from (suc at) 0 bs else lexed_then (lexeme_at at (b ∷ bs)) (λ n. lexed_from (suc at) (pred n) bs)
+    if is_blank b then lexed_from (suc at) 0 bs
+    else lexed_then (lexeme_at at (b ∷ bs)) (λ n. lexed_from (suc at) (pred n) bs)
 
 unfoldable pub lexed : List ℕ → Lexed
 lexed text = lexed_from 0 0 text

@@ -15,8 +15,8 @@ use Rattle.pdl_code.specs.Tree.{Code}
 abbrev pub spelled_by : Lexed → Option RawCode
 spelled_by l = if l.whole then read_code l.lexemes else None
 
--- code whose names stand as they are: a declared word is a dimension or a visible local, or else some name is refused, or
--- else it is code
+-- code whose names stand as they are: a declared word is a dimension or a visible local, or else
+-- some name is refused, or else it is code
 abbrev pub judged : Signature → List ℕ → RawCode → Result Code KernelFault
 judged signature text raw =
     if code_declares text signature top raw then Err BadText
@@ -29,7 +29,8 @@ meant_by signature text (Some raw) = judged signature text raw
 -- the code of a text, or why it has none
 unfoldable pub code_in : Signature → (text : List ℕ) → Result Code KernelFault
 code_in signature text =
-    if is_too_deep (lexed text).lexemes then Err TooDeep else meant_by signature text (spelled_by (lexed text))
+    if is_too_deep (lexed text).lexemes then Err TooDeep
+    else meant_by signature text (spelled_by (lexed text))
 
 -- a fault is the one that is wanted; want of memory may come at any text
 abbrev pub IsFault : Result Code KernelFault → KernelFault → Type 0

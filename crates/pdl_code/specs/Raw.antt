@@ -1,4 +1,5 @@
--- Kernel code as its text spells it, without pointers: names as they stand, each by its place in the text.
+-- Kernel code as its text spells it, without pointers: names as they stand, each by
+-- its place in the text.
 use Rattle.std.specs.Prelude.{ℕ, ℤ, Option}
 use Rattle.pdl_elem.specs.declared.UnaryOp.{UnaryOp}
 use Rattle.pdl_elem.specs.declared.BinaryOp.{BinaryOp}

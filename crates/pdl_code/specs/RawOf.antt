@@ -33,7 +33,8 @@ abbrev mutual
   -- a statement's tree
   pub raw_step : RawStmt → RawStep
   raw_step (Loop' w shape body) = repeat w (raw_code_row body)
-  raw_step (If' e yes_shape then_body no_shape else_body) = choose (raw_of e) (raw_code_row then_body) (raw_code_row else_body)
+  raw_step (If' e yes_shape then_body no_shape else_body) =
+      choose (raw_of e) (raw_code_row then_body) (raw_code_row else_body)
   raw_step (Declare ty w e) = declare ty w (raw_of e)
   raw_step (Set w op e) = set w op (raw_of e)
   raw_step (Put w gs at op e) = put w (raw_indices gs.items) at op (raw_of e)

@@ -1,4 +1,5 @@
--- How kernel code is read: the one way in which its tokens spell it, if there is one. Only private functions speak of this.
+-- How kernel code is read: the one way in which its tokens spell it, if there is one. Only private
+-- functions speak of this.
 use Rattle.std.specs.Prelude.{ℕ, zero, suc, ℤ, pos, nat_eq, List, [], ◌∷◌, length, Option, Some, None, option_map, option_and_then, if◌then◌else◌}
 use Rattle.pdl_elem.specs.declared.BinaryOp.{BinaryOp}
 use Rattle.pdl_elem.specs.declared.BinaryOp.TheVariants.{Sub}
@@ -120,7 +121,8 @@ size_at ts = option_and_then bracketed_word (after_size_name ts)
 
 -- the word of an index, before its `=>`
 abbrev pub index_word : List Lexeme → Read Span
-index_word ts = option_and_then (λ x. option_map (λ us. (x.0, us)) (after_fat_arrow x.1)) (word_at ts)
+index_word ts = option_and_then (λ x. option_map (λ us. (x.0, us)) (after_fat_arrow x.1))
+    (word_at ts)
 
 -- an argument's name, before what its brackets hold
 abbrev pub access_name : List Lexeme → Read Span
@@ -137,7 +139,8 @@ after_generic_name _ = None
 
 abbrev pub generic_at : List Lexeme → Read LocalType
 generic_at ts =
-    option_map (λ us. (OfGeneric, us)) (option_and_then after_close (option_and_then after_open (after_generic_name ts)))
+    option_map (λ us. (OfGeneric, us)) (option_and_then after_close
+    (option_and_then after_open (after_generic_name ts)))
 
 abbrev pub type_at : List Lexeme → Read LocalType
 type_at ts = either (generic_at ts) (λ x. Some x) (type_word_at ts)
@@ -159,7 +162,8 @@ abbrev pub loop_word : Span × List Lexeme → Read Span
 loop_word x = option_map (λ us. (x.0, us)) (after_block_open x.1)
 
 abbrev pub loop_at : List Lexeme → Read Span
-loop_at ts = option_and_then (λ us. option_and_then loop_word (bracketed_word us)) (after_loop_word ts)
+loop_at ts = option_and_then (λ us. option_and_then loop_word (bracketed_word us))
+    (after_loop_word ts)
 
 abbrev pub after_if : List Lexeme → Option (List Lexeme)
 after_if ts = option_and_then after_open (after_if_word ts)
@@ -187,8 +191,10 @@ before is o = option_map (λ y. (join_raw is y.0, y.1)) o
 abbrev pub before_code : RawCode → Read RawCode → Read RawCode
 before_code c o = option_map (λ y. (join_raw_code c y.0, y.1)) o
 
--- the further operators of level `suc l`, at most k of them, where `inner` reads what stands between them
-unfoldable pub chain_at : (List Lexeme → Read RawTree) → ℕ → ℕ → RawTree → List Lexeme → Read RawTree
+-- the further operators of level `suc l`, at most k of them, where `inner` reads
+-- what stands between them
+unfoldable pub chain_at : (List Lexeme → Read RawTree) → ℕ → ℕ → RawTree →
+    List Lexeme → Read RawTree
 chain_at inner l zero t ts = Some (t, ts)
 chain_at inner l (suc k) t ts =
     either (Some (t, ts))
@@ -198,7 +204,8 @@ chain_at inner l (suc k) t ts =
 module _ (f : Kind → List Lexeme → Read RawTree) where
   -- one index
   abbrev pub index_at : List Lexeme → Read RawIndices
-  index_at ts = option_and_then (λ w. option_map (λ x. (along w.0 x.0 none, x.1)) (f whole w.1)) (index_word ts)
+  index_at ts = option_and_then (λ w. option_map (λ x. (along w.0 x.0 none, x.1)) (f whole w.1))
+      (index_word ts)
 
   -- at most k indices
   unfoldable pub indices_at : ℕ → List Lexeme → Read RawIndices
@@ -213,10 +220,12 @@ module _ (f : Kind → List Lexeme → Read RawTree) where
 
   unfoldable pub given_at : List Lexeme → Read (RawIndices × ℕ)
   given_at ts =
-      either (option_and_then closed_at (indices_at (length ts) ts)) (λ y. Some ((none, y.0), y.1)) (close_at ts)
+      either (option_and_then closed_at (indices_at (length ts) ts)) (λ y.
+      Some ((none, y.0), y.1)) (close_at ts)
 
   abbrev pub access_at : List Lexeme → Read (Span × RawIndices × ℕ)
-  access_at ts = option_and_then (λ w. option_map (λ x. ((w.0, x.0.0, x.0.1), x.1)) (given_at w.1)) (access_name ts)
+  access_at ts = option_and_then (λ w. option_map (λ x. ((w.0, x.0.0, x.0.1), x.1)) (given_at w.1))
+      (access_name ts)
 
   abbrev pub element_at : List Lexeme → Read RawTree
   element_at ts = option_map (λ x. (access x.0.0 x.0.1 x.0.2, x.1)) (access_at ts)
@@ -236,13 +245,15 @@ module _ (f : Kind → List Lexeme → Read RawTree) where
   primary_at _ = None
 
   unfoldable pub unary_at : List Lexeme → Read RawTree
-  unary_at ts = either (primary_at ts) (λ p. option_map (λ x. (unary p.0 x.0, x.1)) (f operand p.1)) (prefix_at ts)
+  unary_at ts = either (primary_at ts) (λ p. option_map (λ x. (unary p.0 x.0, x.1)) (f operand p.1))
+      (prefix_at ts)
 
   -- an expression of a level
   unfoldable pub level_at : ℕ → List Lexeme → Read RawTree
   level_at zero ts = unary_at ts
   level_at (suc l) ts =
-      option_and_then (λ x. chain_at (level_at l) (suc l) (limit_of (suc l) x.1) x.0 x.1) (level_at l ts)
+      option_and_then (λ x. chain_at (level_at l) (suc l) (limit_of (suc l) x.1) x.0 x.1)
+      (level_at l ts)
 
 -- an expression in which at most n parts are open at once
 unfoldable pub reader : ℕ → Kind → List Lexeme → Read RawTree
@@ -268,10 +279,12 @@ declaration_at d = option_map (λ x. (declare d.ty d.word x.0, x.1)) (initial_at
 
 -- an assignment to a word
 abbrev pub set_sign : Span × List Lexeme → Read RawStep
-set_sign w = option_and_then (λ s. option_map (λ x. (set w.0 s.0 x.0, x.1)) (ended_at s.1)) (sign_at w.1)
+set_sign w = option_and_then (λ s. option_map (λ x. (set w.0 s.0 x.0, x.1)) (ended_at s.1))
+    (sign_at w.1)
 
 abbrev pub put_sign : (Span × RawIndices × ℕ) × List Lexeme → Read RawStep
-put_sign a = option_and_then (λ s. option_map (λ x. (put a.0.0 a.0.1 a.0.2 s.0 x.0, x.1)) (ended_at s.1)) (sign_at a.1)
+put_sign a = option_and_then (λ s. option_map (λ x. (put a.0.0 a.0.1 a.0.2 s.0 x.0, x.1))
+    (ended_at s.1)) (sign_at a.1)
 
 -- an assignment to an access
 unfoldable pub put_at : List Lexeme → Read RawStep
@@ -296,11 +309,13 @@ module _ (g : List Lexeme → Read RawCode) where
       option_and_then (λ a. option_map (λ b. (choose t a.0 b.0, b.1)) (else_at a.1)) (block_at ts)
 
   unfoldable pub choice_at : List Lexeme → Read RawStep
-  choice_at ts = option_and_then (λ x. option_and_then (branches_at x.0) (after_condition x.1)) (expr_at ts)
+  choice_at ts = option_and_then (λ x. option_and_then (branches_at x.0) (after_condition x.1))
+      (expr_at ts)
 
   -- a statement that is no `;`
   unfoldable pub step_at : List Lexeme → Read RawStep
-  step_at ts = either (either (either (assignment_at ts) declaration_at (declared_at ts)) choice_at (after_if ts)) body_at (loop_at ts)
+  step_at ts = either (either (either (assignment_at ts) declaration_at (declared_at ts)) choice_at
+      (after_if ts)) body_at (loop_at ts)
 
   -- a statement as code; `;` alone is none
   abbrev pub one_step : List Lexeme → Read RawCode

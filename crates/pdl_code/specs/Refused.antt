@@ -1,4 +1,5 @@
--- Which names of a text are refused, in the order of the text, and the code of a text in which none is (PDL::PP, Code).
+-- Which names of a text are refused, in the order of the text, and the code of a text in which
+-- none is (PDL::PP, Code).
 use Rattle.std.specs.Prelude.{ℕ, ◌+◌, pos, if◌then◌else◌, Bool, true, false, ◌||◌, not, List, [], ◌∷◌, ◌++◌, length, get_or, slice_set, Option, Some, None, is_some, Result, Ok, Err}
 use Rattle.pdl_sig.specs.declared.Role.{Role}
 use Rattle.pdl_sig.specs.declared.Role.TheVariants.{Input, Output, Both, Temp}
@@ -60,7 +61,8 @@ axis_wrong w given (Some k) = when (get_or given k false) (UnknownDim w.from)
 -- at the closing bracket: some dimension, from place k on, is neither given nor looped
 abbrev pub lacks : List Bool → List ℕ → ℕ → List Bool → Bool
 lacks loops [] k given = false
-lacks loops (d ∷ ds) k given = not (get_or given k false || get_or loops d false) || lacks loops ds (k + 1) given
+lacks loops (d ∷ ds) k given = not (get_or given k false || get_or loops d false)
+    || lacks loops ds (k + 1) given
 
 -- the argument's name; then what stands behind it, where there is such an argument
 abbrev pub behind_name : Span → Option ℕ → List KernelFault → List KernelFault
@@ -75,7 +77,9 @@ loop_wrong loops w (Some d) = when (get_or loops d false) (NestedSame w.from)
 -- the dimensions that aren't given, at the indices of their loops
 abbrev pub looped : List ℕ → ℕ → List Bool → Indices
 looped [] k given = nil
-looped (d ∷ ds) k given = if get_or given k false then looped ds (k + 1) given else cons k (index d) (looped ds (k + 1) given)
+looped (d ∷ ds) k given =
+    if get_or given k false then looped ds (k + 1) given
+    else cons k (index d) (looped ds (k + 1) given)
 
 abbrev pub meant_tree : Meant → Tree
 meant_tree (InSlot k) = local k
@@ -117,7 +121,8 @@ module _ (source : List ℕ) (s : Signature) where
     tree_wrongs c (size w) = no_dim w (named_dim w)
     tree_wrongs c (named w) = primary_wrong c.loops w (meant source s c.locals w)
     tree_wrongs c (access w is at) =
-        behind_name w (named_argument w) (index_wrongs c (argument_at s (named_argument w)).dims no_flags at is)
+        behind_name w (named_argument w)
+        (index_wrongs c (argument_at s (named_argument w)).dims no_flags at is)
     tree_wrongs c (unary op e) = tree_wrongs c e
     tree_wrongs c (binary op x y) = tree_wrongs c x ++ tree_wrongs c y
 
@@ -130,13 +135,16 @@ module _ (source : List ℕ) (s : Signature) where
   abbrev mutual
     -- all refusals of a statement
     pub step_wrongs : Scope → RawStep → List KernelFault
-    step_wrongs c (repeat w body) = loop_wrong c.loops w (named_dim w) ++ code_wrongs (within c (or_zero (named_dim w))) body
-    step_wrongs c (choose e whole other) = tree_wrongs c e ++ (code_wrongs c whole ++ code_wrongs c other)
+    step_wrongs c (repeat w body) = loop_wrong c.loops w (named_dim w)
+        ++ code_wrongs (within c (or_zero (named_dim w))) body
+    step_wrongs c (choose e whole other) =
+        tree_wrongs c e ++ (code_wrongs c whole ++ code_wrongs c other)
     step_wrongs c (declare ty w e) = tree_wrongs c e
     step_wrongs c (set w op e) = target_wrong w (meant source s c.locals w) ++ tree_wrongs c e
     step_wrongs c (put w is at op e) =
         let a = argument_at s (named_argument w) in
-        behind_name w (named_argument w) (when (is_input a.role) (WriteToInput w.from) ++ index_wrongs c a.dims no_flags at is)
+        behind_name w (named_argument w)
+        (when (is_input a.role) (WriteToInput w.from) ++ index_wrongs c a.dims no_flags at is)
         ++ tree_wrongs c e
 
     pub code_wrongs : Scope → RawCode → List KernelFault
@@ -150,7 +158,8 @@ module _ (source : List ℕ) (s : Signature) where
     tree_code c (size w) = size_tree (or_zero (named_dim w))
     tree_code c (named w) = meant_tree (meant source s c.locals w)
     tree_code c (access w is at) =
-        access_tree (or_zero (named_argument w)) (index_code c (argument_at s (named_argument w)).dims no_flags is)
+        access_tree (or_zero (named_argument w))
+        (index_code c (argument_at s (named_argument w)).dims no_flags is)
     tree_code c (unary op e) = unary_tree op (tree_code c e)
     tree_code c (binary op x y) = binary_tree op (tree_code c x) (tree_code c y)
 
@@ -163,14 +172,17 @@ module _ (source : List ℕ) (s : Signature) where
   abbrev mutual
     -- the code of a statement whose names aren't refused
     pub step_code : Scope → RawStep → Step
-    step_code c (repeat w body) = loop (or_zero (named_dim w)) (code_code (within c (or_zero (named_dim w))) body)
-    step_code c (choose e whole other) = branches (tree_code c e) (code_code c whole) (code_code c other)
+    step_code c (repeat w body) = loop (or_zero (named_dim w))
+        (code_code (within c (or_zero (named_dim w))) body)
+    step_code c (choose e whole other) =
+        branches (tree_code c e) (code_code c whole) (code_code c other)
     step_code c (declare ty w e) = keep (length c.locals) ty None (tree_code c e)
     step_code c (set w op e) =
         let k = slot_of (meant source s c.locals w) in
         keep k (type_at c.locals k) op (tree_code c e)
     step_code c (put w is at op e) =
-        store (or_zero (named_argument w)) (index_code c (argument_at s (named_argument w)).dims no_flags is) op (tree_code c e)
+        store (or_zero (named_argument w))
+        (index_code c (argument_at s (named_argument w)).dims no_flags is) op (tree_code c e)
 
     pub code_code : Scope → RawCode → Code
     code_code c done = end
@@ -181,7 +193,8 @@ module _ (source : List ℕ) (s : Signature) where
     pub step_declares : Scope → RawStep → Bool
     step_declares c (repeat w body) = code_declares c body
     step_declares c (choose e whole other) = code_declares c whole || code_declares c other
-    step_declares c (declare ty w e) = is_some (slot_in source c.locals (bytes_of source w)) || is_some (named_dim w)
+    step_declares c (declare ty w e) = is_some (slot_in source c.locals (bytes_of source w))
+        || is_some (named_dim w)
     step_declares c (set w op e) = false
     step_declares c (put w is at op e) = false
 

@@ -10,15 +10,16 @@ use Rattle.pdl_code.specs.Scope.{Scope, axis_of, bytes_of, meant, no_flags, with
 use Rattle.pdl_code.specs.Refused.{answer, argument_at, axis_wrong, type_at, is_input, lacks, loop_wrong, looped, mark, meant_tree, named_argument, named_dim, no_dim, or_zero, primary_wrong, scope_after, slot_of, target_wrong, when}
 
 infixl 10 ◌>>=◌
-abbrev pub ◌>>=◌ : {A B : Type 0} → Result A KernelFault → (A → Result B KernelFault) → Result B KernelFault
+abbrev pub ◌>>=◌ : {A B : Type 0} → Result A KernelFault → (A → Result B KernelFault) →
+    Result B KernelFault
 (Ok x) >>= f = f x
 (Err e) >>= f = Err e
 
 -- what a function returned is this, unless memory ran out
-abbrev pub Gives : {X Y : Type 0} → (X → Y) → Result X KernelFault → Result Y KernelFault → Type 0
-Gives view (Ok x) r = r ≡ Ok (view x)
-Gives view (Err NoMemory) r = Unit {0}
-Gives view (Err f) r = r ≡ Err f
+abbrev pub Agrees : {X Y : Type 0} → (X → Y) → Result X KernelFault → Result Y KernelFault → Type 0
+Agrees view (Ok x) r = r ≡ Ok (view x)
+Agrees view (Err NoMemory) r = Unit {0}
+Agrees view (Err f) r = r ≡ Err f
 
 -- what is read, or else the refusal of a text of another form
 abbrev pub or_bad : {A : Type 0} → Option A → Result A KernelFault
@@ -37,38 +38,53 @@ module _ (source : List ℕ) (s : Signature) where
   abbrev mutual
     pub resolve_tree : Scope → RawTree → Result Tree KernelFault
     resolve_tree c (number z) = Ok (num z)
-    resolve_tree c (size w) = answer (no_dim w (named_dim source s w)) (size_tree (or_zero (named_dim source s w)))
-    resolve_tree c (named w) = answer (primary_wrong c.loops w (meant source s c.locals w)) (meant_tree (meant source s c.locals w))
+    resolve_tree c (size w) = answer (no_dim w (named_dim source s w))
+        (size_tree (or_zero (named_dim source s w)))
+    resolve_tree c (named w) = answer (primary_wrong c.loops w (meant source s c.locals w))
+        (meant_tree (meant source s c.locals w))
     resolve_tree c (access w is at) =
         known w (named_argument source s w)
-        (resolve_indices c (argument_at s (named_argument source s w)).dims no_flags at is >>= λ found. Ok (access_tree (or_zero (named_argument source s w)) found))
+        (resolve_indices c (argument_at s (named_argument source s w)).dims no_flags at is >>=
+        λ found. Ok (access_tree (or_zero (named_argument source s w)) found))
     resolve_tree c (unary op e) = resolve_tree c e >>= λ a. Ok (unary_tree op a)
-    resolve_tree c (binary op x y) = resolve_tree c x >>= λ a. resolve_tree c y >>= λ b. Ok (binary_tree op a b)
+    resolve_tree c (binary op x y) =
+        resolve_tree c x >>= λ a. resolve_tree c y >>= λ b. Ok (binary_tree op a b)
 
     pub resolve_indices : Scope → List ℕ → List Bool → ℕ → RawIndices → Result Indices KernelFault
-    resolve_indices c ds given at none = answer (when (lacks c.loops ds 0 given) (UnknownDim at)) (looped ds 0 given)
+    resolve_indices c ds given at none =
+        answer (when (lacks c.loops ds 0 given) (UnknownDim at)) (looped ds 0 given)
     resolve_indices c ds given at (along w e rest) =
-        answer (axis_wrong w given (axis_of s ds (bytes_of source w))) (or_zero (axis_of s ds (bytes_of source w))) >>= λ k.
+        answer (axis_wrong w given (axis_of s ds (bytes_of source w)))
+        (or_zero (axis_of s ds (bytes_of source w))) >>= λ k.
         resolve_tree c e >>= λ a.
-        resolve_indices c ds (mark given (axis_of s ds (bytes_of source w))) at rest >>= λ found. Ok (cons k a found)
+        resolve_indices c ds (mark given (axis_of s ds (bytes_of source w))) at rest >>= λ found.
+        Ok (cons k a found)
 
   abbrev mutual
     pub resolve_step : Scope → RawStep → Result Step KernelFault
     resolve_step c (repeat w body) =
-        answer (loop_wrong c.loops w (named_dim source s w)) (or_zero (named_dim source s w)) >>= λ d.
+        answer (loop_wrong c.loops w (named_dim source s w))
+        (or_zero (named_dim source s w)) >>= λ d.
         resolve_code (within c (or_zero (named_dim source s w))) body >>= λ b. Ok (loop d b)
     resolve_step c (choose e whole other) =
-        resolve_tree c e >>= λ x. resolve_code c whole >>= λ a. resolve_code c other >>= λ b. Ok (branches x a b)
-    resolve_step c (declare ty w e) = resolve_tree c e >>= λ x. Ok (keep (length c.locals) ty None x)
+        resolve_tree c e >>= λ x. resolve_code c whole >>= λ a.
+        resolve_code c other >>= λ b. Ok (branches x a b)
+    resolve_step c (declare ty w e) =
+        resolve_tree c e >>= λ x. Ok (keep (length c.locals) ty None x)
     resolve_step c (set w op e) =
-        answer (target_wrong w (meant source s c.locals w)) (slot_of (meant source s c.locals w)) >>= λ k.
+        answer (target_wrong w (meant source s c.locals w))
+        (slot_of (meant source s c.locals w)) >>= λ k.
         resolve_tree c e >>= λ x. Ok (keep k (type_at c.locals k) op x)
     resolve_step c (put w is at op e) =
         known w (named_argument source s w)
-        (checked (when (is_input (argument_at s (named_argument source s w)).role) (WriteToInput w.from))
-        (resolve_indices c (argument_at s (named_argument source s w)).dims no_flags at is)) >>= λ found.
+        (checked (when (is_input (argument_at s (named_argument source s w)).role)
+        (WriteToInput w.from))
+        (resolve_indices c (argument_at s (named_argument source s w)).dims no_flags at is))
+        >>= λ found.
         resolve_tree c e >>= λ x. Ok (store (or_zero (named_argument source s w)) found op x)
 
     pub resolve_code : Scope → RawCode → Result Code KernelFault
     resolve_code c done = Ok end
-    resolve_code c (next t rest) = resolve_step c t >>= λ a. resolve_code (scope_after c t) rest >>= λ b. Ok (then_step a b)
+    resolve_code c (next t rest) =
+        resolve_step c t >>= λ a.
+        resolve_code (scope_after c t) rest >>= λ b. Ok (then_step a b)

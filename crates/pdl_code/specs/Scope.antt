@@ -27,9 +27,11 @@ abbrev pub dim_place : Signature → List ℕ → Option ℕ
 dim_place s name = place_by (λ d. bytes_eq d name) s.names
 
 abbrev pub axis_of : Signature → List ℕ → List ℕ → Option ℕ
-axis_of s dims name = option_and_then (λ d. place_by (λ other. nat_eq other d) dims) (dim_place s name)
+axis_of s dims name = option_and_then (λ d. place_by (λ other. nat_eq other d) dims)
+    (dim_place s name)
 
--- the visible locals, of which each has its place among them as its slot, and for each dimension whether a loop over it is open
+-- the visible locals, of which each has its place among them as its slot, and for each dimension
+-- whether a loop over it is open
 pub record Scope : Type 0 where
   pub locals : List Local
   pub loops : List Bool
@@ -48,13 +50,15 @@ or_local (Some k) d = InSlot k
 or_local None d = or_dim d
 
 abbrev pub meant : List ℕ → Signature → List Local → Span → Meant
-meant source s locals w = or_local (slot_in source locals (bytes_of source w)) (dim_place s (bytes_of source w))
+meant source s locals w = or_local (slot_in source locals (bytes_of source w))
+    (dim_place s (bytes_of source w))
 
 -- within a loop over a dimension
 abbrev pub within : Scope → ℕ → Scope
 within s d = record s { loops = slice_set s.loops d true }
 
--- for each dimension of a signature or of an argument, of which there are at most eight: none is marked
+-- for each dimension of a signature or of an argument, of which there are at
+-- most eight: none is marked
 abbrev pub no_flags : List Bool
 no_flags = replicate 8 false
 

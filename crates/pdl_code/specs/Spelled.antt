@@ -1,4 +1,5 @@
--- What a text means by the grammar: the code that it spells, or its first refusal. The law `code_meaning` says that `code_in` is it.
+-- What a text means by the grammar: the code that it spells, or its first refusal. The law
+-- `code_meaning` says that `code_in` is it.
 use Rattle.std.specs.Prelude.{◌≡◌, ◌↔◌, ℕ, true, false, List, [], ◌∷◌, Result, Ok, Err}
 use Rattle.pdl_sig.specs.declared.Signature.{Signature}
 use Rattle.pdl_code.specs.declared.fault.KernelFault.{KernelFault}
@@ -17,7 +18,8 @@ pub record Spelled (raw : RawCode) (text : List ℕ) : Type 0 where
   pub whole : (lexed text).whole ≡ true
   pub tokens : SpellsBlock (some_code raw) (lexed text).lexemes []
 
--- it isn't too deep either, and each word that it declares is neither a dimension nor a visible local
+-- it isn't too deep either, and each word that it declares is neither a
+-- dimension nor a visible local
 pub record Stands (signature : Signature) (raw : RawCode) (text : List ℕ) : Type 0 where
   pub within : is_too_deep (lexed text).lexemes ≡ false
   pub spelled : Spelled raw text
@@ -58,4 +60,5 @@ TextsHaveOneMeaning =
 
 -- there is one way to read a text
 abbrev pub TextsHaveOneReading : Type 0
-TextsHaveOneReading = (text : List ℕ) (raw other : RawCode) → Spelled raw text → Spelled other text → raw ≡ other
+TextsHaveOneReading = (text : List ℕ) (raw other : RawCode) → Spelled raw text →
+    Spelled other text → raw ≡ other

@@ -1,5 +1,5 @@
--- The code of a kernel, without pointers. An argument is its number in the signature, a dimension its number among the
--- signature's names, and a local its slot.
+-- The code of a kernel, without pointers. An argument is its number in the signature, a
+-- dimension its number among the signature's names, and a local its slot.
 use Rattle.std.specs.Prelude.{ℕ, ℤ, Option}
 use Rattle.pdl_elem.specs.declared.UnaryOp.{UnaryOp}
 use Rattle.pdl_elem.specs.declared.BinaryOp.{BinaryOp}
@@ -16,13 +16,15 @@ mutual
     unary : UnaryOp → Tree → Tree
     binary : BinaryOp → Tree → Tree → Tree
 
-  -- the indices of an access, in the order in which they are evaluated, each with the place of its dimension in the argument
+  -- the indices of an access, in the order in which they are evaluated, each with the place of its
+  -- dimension in the argument
   pub data Indices : Type 0 where
     none : Indices
     along : ℕ → Tree → Indices → Indices
 
 mutual
-  -- a statement: a loop over a dimension, a choice, a store to a local, and a store to an element of an argument
+  -- a statement: a loop over a dimension, a choice, a store to a local, and a store to an
+  -- element of an argument
   pub data Step : Type 0 where
     repeat : ℕ → Code → Step
     choose : Tree → Code → Code → Step

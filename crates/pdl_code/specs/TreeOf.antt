@@ -34,7 +34,8 @@ abbrev mutual
   -- a statement's tree
   pub step_of : Stmt → Step
   step_of (Loop' d shape body) = repeat d (code_row body)
-  step_of (If' e yes_shape then_body no_shape else_body) = choose (tree_of e) (code_row then_body) (code_row else_body)
+  step_of (If' e yes_shape then_body no_shape else_body) =
+      choose (tree_of e) (code_row then_body) (code_row else_body)
   step_of (Keep k ty op e) = keep k ty op (tree_of e)
   step_of (Put a gs op e) = put a (indices_of gs.items) op (tree_of e)
 

@@ -1,18 +1,20 @@
 //! Resolving the names of statements. A declared word is visible to the end of its block.
 ghost use Rattle.std.specs.Prelude.{◌≡◌, ◌≤◌, ◌++◌, ◌∷◌, [], take, length, get_or, OnOk, IfErr, max};
-ghost use Rattle.pdl_code.specs.RawOf.{raw_code, raw_step};
+ghost use Rattle.pdl_code.specs.Raw.{declare as declare', set, put};
+ghost use Rattle.pdl_code.specs.RawOf.{raw_code, raw_indices, raw_of, raw_step};
 ghost use Rattle.pdl_code.specs.Refused.{answer, code_code, code_declares, code_wrongs, scope_after, step_declares, type_at};
-ghost use Rattle.pdl_code.specs.Resolving.{Gives, resolve_code, resolve_step};
-ghost use Rattle.pdl_code.specs.Scope.{top};
+ghost use Rattle.pdl_code.specs.Resolving.{Agrees, resolve_code, resolve_step};
+ghost use Rattle.pdl_code.specs.Scope.{Scope, top};
 ghost use Rattle.pdl_code.specs.TreeOf.{code_of, step_of};
 
 use crate::build::{if_stmt, loop_stmt, with_stmt};
 use crate::fault::KernelFault;
 use crate::lexeme::Span;
-use crate::raw::RawStmt;
+use crate::raw::{RawEntry, RawExpr, RawStmt};
 use crate::resolve::{MOST, indices, is_marked, mark, tree};
 use crate::scope::{Local, Meant, argument, cut, declare, dim, dims_of, is_input, meaning};
 use crate::tree::{LocalType, Stmt};
+use pdl_elem::BinaryOp;
 use pdl_sig::Signature;
 use std::alloc::Global;
 
@@ -26,6 +28,93 @@ fn type_at(locals: &[Local], k: usize) -> LocalType
     }
 }
 
+/// A declaration.
+fn declaration(
+    alloc: Global,
+    source: &[u8],
+    signature: &Signature,
+    locals: &mut Vec<Local>,
+    loops: &[bool; MOST],
+    ty: LocalType,
+    word: Span,
+    expr: &RawExpr,
+) -> Result<Stmt, KernelFault>
+    ensures gives { let c : Scope = record { locals = locals.old.items; loops = loops.now } in
+        Agrees step_of result
+        (resolve_step source.now signature.now c (declare' ty word (raw_of expr.now))) }
+    ensures after { let c : Scope = record { locals = locals.old.items; loops = loops.now } in
+        OnOk result (record { locals = locals.new.items; loops = loops.now }
+        ≡ scope_after c (declare' ty word (raw_of expr.now))) }
+{
+    match tree(alloc, source, signature, locals.as_slice(), loops, expr) {
+        Ok(e) => {
+            let slot = locals.len();
+            match declare(locals, word, ty) {
+                Ok(()) => Ok(Stmt::Keep(slot, ty, None, e)),
+                Err(fault) => Err(fault),
+            }
+        }
+        Err(fault) => Err(fault),
+    }
+}
+
+/// An assignment to a word.
+fn word_assignment(
+    alloc: Global,
+    source: &[u8],
+    signature: &Signature,
+    locals: &[Local],
+    loops: &[bool; MOST],
+    word: Span,
+    op: Option<BinaryOp>,
+    expr: &RawExpr,
+) -> Result<Stmt, KernelFault>
+    ensures { Agrees step_of result (resolve_step source.now signature.now
+        (record { locals = locals.now; loops = loops.now }) (set word op (raw_of expr.now))) }
+{
+    match meaning(source, signature, locals, word) {
+        Meant::InSlot(k) => match tree(alloc, source, signature, locals, loops, expr) {
+            Ok(e) => Ok(Stmt::Keep(k, type_at(locals, k), op, e)),
+            Err(fault) => Err(fault),
+        },
+        Meant::Dim(_) => Err(KernelFault::WriteToInput { at: word.from }),
+        Meant::Unknown => Err(KernelFault::UnknownArgument { at: word.from }),
+    }
+}
+
+/// An assignment to an access.
+fn access_assignment(
+    alloc: Global,
+    source: &[u8],
+    signature: &Signature,
+    locals: &[Local],
+    loops: &[bool; MOST],
+    name: Span,
+    given: &[RawEntry],
+    close: u32,
+    op: Option<BinaryOp>,
+    expr: &RawExpr,
+) -> Result<Stmt, KernelFault>
+    ensures { Agrees step_of result (resolve_step source.now signature.now
+        (record { locals = locals.now; loops = loops.now })
+        (put name (raw_indices given.now) close op (raw_of expr.now))) }
+{
+    let Some(number) = argument(source, signature, name) else {
+        return Err(KernelFault::UnknownArgument { at: name.from });
+    };
+    if is_input(signature, number) {
+        return Err(KernelFault::WriteToInput { at: name.from });
+    }
+    let dims = dims_of(signature, number);
+    match indices(alloc, source, signature, locals, loops, dims, given, close) {
+        Ok(found) => match tree(alloc, source, signature, locals, loops, expr) {
+            Ok(e) => Ok(Stmt::Put(number, found, op, e)),
+            Err(fault) => Err(fault),
+        },
+        Err(fault) => Err(fault),
+    }
+}
+
 /// One statement.
 #[cycle(block)]
 fn stmt(
@@ -36,8 +125,11 @@ fn stmt(
     loops: &[bool; MOST],
     raw: &RawStmt,
 ) -> Result<Stmt, KernelFault>
-    ensures gives { Gives step_of result (resolve_step source.now signature.now (record { locals = locals.old.items; loops = loops.now }) (raw_step raw.now)) }
-    ensures after { OnOk result (record { locals = locals.new.items; loops = loops.now } ≡ scope_after (record { locals = locals.old.items; loops = loops.now }) (raw_step raw.now)) }
+    ensures gives { Agrees step_of result (resolve_step source.now signature.now
+        (record { locals = locals.old.items; loops = loops.now }) (raw_step raw.now)) }
+    ensures after { OnOk result (record { locals = locals.new.items; loops = loops.now }
+        ≡ scope_after (record { locals = locals.old.items; loops = loops.now })
+        (raw_step raw.now)) }
 {
     match raw {
         RawStmt::Loop(word, body) => match dim(source, signature, *word) {
@@ -68,47 +160,18 @@ fn stmt(
             }
         }
         RawStmt::Declare(ty, word, expr) => {
-            match tree(alloc, source, signature, locals.as_slice(), loops, expr) {
-                Ok(e) => {
-                    let slot = locals.len();
-                    match declare(locals, *word, *ty) {
-                        Ok(()) => Ok(Stmt::Keep(slot, *ty, None, e)),
-                        Err(fault) => Err(fault),
-                    }
-                }
-                Err(fault) => Err(fault),
-            }
+            declaration(alloc, source, signature, locals, loops, *ty, *word, expr)
         }
         RawStmt::Set(word, op, expr) => {
-            match meaning(source, signature, locals.as_slice(), *word) {
-                Meant::InSlot(k) => {
-                    match tree(alloc, source, signature, locals.as_slice(), loops, expr) {
-                        Ok(e) => Ok(Stmt::Keep(k, type_at(locals.as_slice(), k), *op, e)),
-                        Err(fault) => Err(fault),
-                    }
-                }
-                Meant::Dim(_) => Err(KernelFault::WriteToInput { at: word.from }),
-                Meant::Unknown => Err(KernelFault::UnknownArgument { at: word.from }),
-            }
+            let seen = locals.as_slice();
+            word_assignment(alloc, source, signature, seen, loops, *word, *op, expr)
         }
-        RawStmt::Put(name, given, close, op, expr) => match argument(source, signature, *name) {
-            None => Err(KernelFault::UnknownArgument { at: name.from }),
-            Some(number) => {
-                if is_input(signature, number) {
-                    Err(KernelFault::WriteToInput { at: name.from })
-                } else {
-                    let dims = dims_of(signature, number);
-                    let seen = locals.as_slice();
-                    match indices(alloc, source, signature, seen, loops, dims, given, *close) {
-                        Ok(found) => match tree(alloc, source, signature, seen, loops, expr) {
-                            Ok(e) => Ok(Stmt::Put(number, found, *op, e)),
-                            Err(fault) => Err(fault),
-                        },
-                        Err(fault) => Err(fault),
-                    }
-                }
-            }
-        },
+        RawStmt::Put(name, given, close, op, expr) => {
+            let seen = locals.as_slice();
+            access_assignment(
+                alloc, source, signature, seen, loops, *name, given, *close, *op, expr,
+            )
+        }
     }
 }
 
@@ -122,7 +185,9 @@ fn block(
     loops: &[bool; MOST],
     raw: &[RawStmt],
 ) -> Result<Vec<Stmt>, KernelFault>
-    ensures gives { Gives (λ v. code_of v.items) result (resolve_code source.now signature.now (record { locals = locals.old.items; loops = loops.now }) (raw_code raw.now)) }
+    ensures gives { Agrees (λ v. code_of v.items) result
+        (resolve_code source.now signature.now
+        (record { locals = locals.old.items; loops = loops.now }) (raw_code raw.now)) }
     ensures same { OnOk result (locals.new.items ≡ locals.old.items) }
 {
     let count = locals.len();
@@ -148,7 +213,9 @@ pub fn resolved(
     signature: &Signature,
     raw: &[RawStmt],
 ) -> Result<Vec<Stmt>, KernelFault>
-    ensures { Gives (λ v. code_of v.items) result (answer (code_wrongs source.now signature.now top (raw_code raw.now)) (code_code source.now signature.now top (raw_code raw.now))) }
+    ensures { Agrees (λ v. code_of v.items) result
+        (answer (code_wrongs source.now signature.now top (raw_code raw.now))
+        (code_code source.now signature.now top (raw_code raw.now))) }
 {
     let mut locals = Vec::new(alloc);
     block(alloc, source, signature, &mut locals, &[false; MOST], raw)

@@ -1,7 +1,7 @@
 //! The parts of code that take memory.
 ghost use Rattle.std.specs.Prelude.{◌≡◌, IfOk, Ok};
 ghost use Rattle.pdl_code.specs.Join.{join, join_code};
-ghost use Rattle.pdl_code.specs.Resolving.{Gives};
+ghost use Rattle.pdl_code.specs.Resolving.{Agrees};
 ghost use Rattle.pdl_code.specs.Tree.{along, binary, choose, done, index, next, none, repeat, unary};
 ghost use Rattle.pdl_code.specs.TreeOf.{code_of, indices_of, step_of, tree_of};
 
@@ -17,7 +17,7 @@ fn boxed(alloc: Global, e: Expr) -> Result<Box<Expr>, AllocError>
 }
 
 pub fn unary_expr(alloc: Global, op: UnaryOp, a: Expr) -> Result<Expr, KernelFault>
-    ensures { Gives tree_of result (Ok (unary op (tree_of a))) }
+    ensures { Agrees tree_of result (Ok (unary op (tree_of a))) }
 {
     match boxed(alloc, a) {
         Ok(inner) => Ok(Expr::Unary(op, inner)),
@@ -26,7 +26,7 @@ pub fn unary_expr(alloc: Global, op: UnaryOp, a: Expr) -> Result<Expr, KernelFau
 }
 
 pub fn binary_expr(alloc: Global, op: BinaryOp, a: Expr, b: Expr) -> Result<Expr, KernelFault>
-    ensures { Gives tree_of result (Ok (binary op (tree_of a) (tree_of b))) }
+    ensures { Agrees tree_of result (Ok (binary op (tree_of a) (tree_of b))) }
 {
     match boxed(alloc, a) {
         Ok(left) => match boxed(alloc, b) {
@@ -40,7 +40,8 @@ pub fn binary_expr(alloc: Global, op: BinaryOp, a: Expr, b: Expr) -> Result<Expr
 /// One given index more.
 #[tactic(auto, using(crate::proofs::Joins::given_push))]
 pub fn with_given(mut found: Vec<Entry>, place: usize, e: Expr) -> Result<Vec<Entry>, KernelFault>
-    ensures { Gives (λ v. indices_of v.items) result (Ok (join (indices_of found.items) (along place (tree_of e) none))) }
+    ensures { Agrees (λ v. indices_of v.items) result
+        (Ok (join (indices_of found.items) (along place (tree_of e) none))) }
 {
     match found.push(Entry::Given(place, e)) {
         Ok(()) => Ok(found),
@@ -55,7 +56,8 @@ pub fn with_looped(
     place: usize,
     dim: usize,
 ) -> Result<Vec<Entry>, KernelFault>
-    ensures { Gives (λ v. indices_of v.items) result (Ok (join (indices_of found.items) (along place (index dim) none))) }
+    ensures { Agrees (λ v. indices_of v.items) result
+        (Ok (join (indices_of found.items) (along place (index dim) none))) }
 {
     match found.push(Entry::Looped(place, dim)) {
         Ok(()) => Ok(found),
@@ -66,7 +68,8 @@ pub fn with_looped(
 /// One statement more.
 #[tactic(auto, using(crate::proofs::Joins::code_push))]
 pub fn with_stmt(mut code: Vec<Stmt>, stmt: Stmt) -> Result<Vec<Stmt>, KernelFault>
-    ensures { Gives (λ v. code_of v.items) result (Ok (join_code (code_of code.items) (next (step_of stmt) done))) }
+    ensures { Agrees (λ v. code_of v.items) result
+        (Ok (join_code (code_of code.items) (next (step_of stmt) done))) }
 {
     match code.push(stmt) {
         Ok(()) => Ok(code),

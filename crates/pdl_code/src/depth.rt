@@ -60,8 +60,8 @@ fn is_beyond(counts: Counts) -> bool
     counts.round + counts.block > 64 || counts.operators > 256
 }
 
-/// Whether more than 64 of `(` and `%{` are open at once, or more than 256 operators stand without a
-/// `;`, `%{` or `%}` between them.
+/// Whether more than 64 of `(` and `%{` are open at once, or more than 256 operators stand without
+/// a `;`, `%{` or `%}` between them.
 pub fn is_too_deep(tokens: &[Lexeme]) -> bool
     ensures { result ≡ is_too_deep tokens.now }
 {

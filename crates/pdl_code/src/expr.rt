@@ -64,7 +64,9 @@ fn chain<'a>(
     tokens: &Lexemes<'a>,
 ) -> Read<'a, RawExpr>
     requires level { below < 7 }
-    ensures read { Gives (λ x. (raw_of x.0, x.1)) result (chain_at (level_at (reader fuel) below) (suc below) (limit_of (suc below) tokens.now) (raw_of first) tokens.now) }
+    ensures read { Gives (λ x. (raw_of x.0, x.1)) result
+        (chain_at (level_at (reader fuel) below) (suc below) (limit_of (suc below) tokens.now)
+        (raw_of first) tokens.now) }
 {
     let mut left = first;
     let mut rest = tokens.copy();
@@ -121,7 +123,8 @@ fn primary<'a>(alloc: Global, fuel: usize, tokens: &Lexemes<'a>) -> Read<'a, Raw
 }
 
 fn number<'a>(n: u64, rest: Lexemes<'a>) -> Read<'a, RawExpr>
-    ensures read { Gives (λ x. (raw_of x.0, x.1)) result (option_map (number_before rest.entry) (signed n)) }
+    ensures read { Gives (λ x. (raw_of x.0, x.1)) result
+        (option_map (number_before rest.entry) (signed n)) }
 {
     match pdl_lexemes::signed(n) {
         Some(z) => Ok((RawExpr::Number(z), rest)),
@@ -159,7 +162,9 @@ pub fn access<'a>(
     fuel: usize,
     tokens: &Lexemes<'a>,
 ) -> Read<'a, (Span, Vec<RawEntry>, u32)>
-    ensures read { Gives {B = (Span × RawIndices × ℕ) × List Lexeme} (λ x. ((x.0.0, raw_indices x.0.1.items, x.0.2), x.1)) result (access_at (reader fuel) tokens.now) }
+    ensures read { Gives {B = (Span × RawIndices × ℕ) × List Lexeme} (λ x.
+        ((x.0.0, raw_indices x.0.1.items, x.0.2), x.1)) result
+        (access_at (reader fuel) tokens.now) }
 {
     let (name, rest) = peek::access_name(tokens).ok_or(Refusal::Refused)?;
     let ((given, close), rest) = given(alloc, fuel, &rest)?;
@@ -170,7 +175,8 @@ pub fn access<'a>(
 #[cycle(parser)]
 #[tactic(auto, unfolding(crate::specs::Reading::given_at))]
 fn given<'a>(alloc: Global, fuel: usize, tokens: &Lexemes<'a>) -> Read<'a, (Vec<RawEntry>, u32)>
-    ensures read { Gives {B = (RawIndices × ℕ) × List Lexeme} (λ x. ((raw_indices x.0.0.items, x.0.1), x.1)) result (given_at (reader fuel) tokens.now) }
+    ensures read { Gives {B = (RawIndices × ℕ) × List Lexeme} (λ x.
+        ((raw_indices x.0.0.items, x.0.1), x.1)) result (given_at (reader fuel) tokens.now) }
 {
     if let Some((close, rest)) = peek::close(tokens) {
         return Ok(((Vec::new(alloc), close), rest));
@@ -183,7 +189,8 @@ fn given<'a>(alloc: Global, fuel: usize, tokens: &Lexemes<'a>) -> Read<'a, (Vec<
 #[cycle(parser)]
 #[tactic(auto, unfolding(crate::specs::Reading::indices_at))]
 fn indices<'a>(alloc: Global, fuel: usize, tokens: &Lexemes<'a>) -> Read<'a, Vec<RawEntry>>
-    ensures read { Gives (λ x. (raw_indices x.0.items, x.1)) result (indices_at (reader fuel) (length tokens.now) tokens.now) }
+    ensures read { Gives (λ x. (raw_indices x.0.items, x.1)) result
+        (indices_at (reader fuel) (length tokens.now) tokens.now) }
 {
     let mut found = Vec::new(alloc);
     let mut rest = tokens.copy();
@@ -208,7 +215,8 @@ fn index<'a>(
     found: Vec<RawEntry>,
     tokens: &Lexemes<'a>,
 ) -> Read<'a, Vec<RawEntry>>
-    ensures read { Gives (λ x. (raw_indices x.0.items, x.1)) result (before (raw_indices found.items) (index_at (reader fuel) tokens.now)) }
+    ensures read { Gives (λ x. (raw_indices x.0.items, x.1)) result
+        (before (raw_indices found.items) (index_at (reader fuel) tokens.now)) }
 {
     let (word, rest) = peek::index_word(tokens).ok_or(Refusal::Refused)?;
     let (e, rest) = whole(alloc, fuel, &rest)?;

@@ -2,14 +2,14 @@
 
 use std::alloc::AllocError;
 
-/// Why a text gives no code. The first two are looked for first, in this order; of the others, which
-/// are about names, the one that stands first in the text is answered, with the place of the first
-/// byte of the name, the word or the closing bracket that is refused. Only want of memory may be
-/// answered at any text.
+/// Why a text gives no code. The first two are looked for first, in this order; of the others,
+/// which are about names, the one that stands first in the text is answered, with the place of the
+/// first byte of the name, the word or the closing bracket that is refused. Only want of memory may
+/// be answered at any text.
 #[derive(Clone, Copy, PartialEq, Eq, Debug)]
 pub enum KernelFault {
-    /// Before the first byte that begins no token, more than 64 of `(` and `%{` are open at once, or
-    /// more than 256 operators stand without a `;`, `%{` or `%}` between them.
+    /// Before the first byte that begins no token, more than 64 of `(` and `%{` are open at once,
+    /// or more than 256 operators stand without a `;`, `%{` or `%}` between them.
     TooDeep,
     /// The text isn't of the form of kernel code, or a number is above 9223372036854775807, or a
     /// declared word is reserved, a dimension or a visible local.

@@ -1,7 +1,8 @@
 //! Laws of what kernel code means. Each is the contract of a function with an empty body.
 ghost use Rattle.pdl_code.specs.Spelled.{TextsHaveOneMeaning, TextsHaveOneReading};
 
-/// A text's meaning is exactly the code that it spells by the grammar, or the first of its refusals.
+/// A text's meaning is exactly the code that it spells by the grammar, or the first of its
+/// refusals.
 pub fn code_meaning()
     ensures { TextsHaveOneMeaning }
 {}

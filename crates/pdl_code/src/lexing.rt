@@ -4,12 +4,13 @@ ghost use Rattle.std.specs.List.{prefix_len};
 ghost use Rattle.std.specs.Char.{is_ascii_digit};
 ghost use Rattle.pdl_lex.specs.Bytes.{is_blank, is_letter, is_word_byte};
 ghost use Rattle.pdl_lexemes.specs.Lexing.{found_in, number_of, with_digit};
-ghost use Rattle.pdl_code.specs.Lexing.{behind, lexed, lexed_from, lexeme_at, name_kind, name_len, number_len, sign_at, sign_of, signs, span_at, word_kind, word_len};
+ghost use Rattle.pdl_code.specs.Lexing.{behind, lexed, lexed_from, lexeme_at, name_kind, name_len, number_len, sign_at, sign_named, sign_of, signs, span_at, word_kind, word_len};
 
 use crate::fault::KernelFault;
 use crate::lexeme::{Lexeme, NameKind, Span, WordKind};
 use crate::tree::LocalType;
 use pdl_elem::{BinaryOp, UnaryOp};
+use pdl_lexemes::operator_named;
 use std::alloc::{AllocError, Global};
 
 /// The tokens of a text up to the first byte that begins none.
@@ -139,7 +140,8 @@ fn name_kind(text: &[u8]) -> NameKind
     or_found(text, b"$SIZE", NameKind::Size, kind)
 }
 
-fn sign(at: u32, text: &[u8]) -> Option<Lexeme>
+// The sign, where it is none of an operator on two values.
+fn other_sign(at: u32, text: &[u8]) -> Option<Lexeme>
     ensures { result ≡ found_in (signs at) text.now }
 {
     match text {
@@ -165,25 +167,21 @@ fn sign(at: u32, text: &[u8]) -> Option<Lexeme>
         b"&=" => Some(Lexeme::Assign(BinaryOp::And)),
         b"|=" => Some(Lexeme::Assign(BinaryOp::Or)),
         b"^=" => Some(Lexeme::Assign(BinaryOp::Xor)),
-        b"+" => Some(Lexeme::Operator(BinaryOp::Add)),
-        b"-" => Some(Lexeme::Operator(BinaryOp::Sub)),
-        b"*" => Some(Lexeme::Operator(BinaryOp::Mul)),
-        b"/" => Some(Lexeme::Operator(BinaryOp::Div)),
-        b"%" => Some(Lexeme::Operator(BinaryOp::Rem)),
-        b"<<" => Some(Lexeme::Operator(BinaryOp::Shl)),
-        b">>" => Some(Lexeme::Operator(BinaryOp::Shr)),
-        b"<" => Some(Lexeme::Operator(BinaryOp::Lt)),
-        b">" => Some(Lexeme::Operator(BinaryOp::Gt)),
-        b"<=" => Some(Lexeme::Operator(BinaryOp::Le)),
-        b">=" => Some(Lexeme::Operator(BinaryOp::Ge)),
-        b"==" => Some(Lexeme::Operator(BinaryOp::Eq)),
-        b"!=" => Some(Lexeme::Operator(BinaryOp::Ne)),
-        b"&" => Some(Lexeme::Operator(BinaryOp::And)),
-        b"|" => Some(Lexeme::Operator(BinaryOp::Or)),
-        b"^" => Some(Lexeme::Operator(BinaryOp::Xor)),
         b"!" => Some(Lexeme::Prefix(UnaryOp::Not)),
         b"~" => Some(Lexeme::Prefix(UnaryOp::Complement)),
         _ => None,
+    }
+}
+
+fn sign(at: u32, text: &[u8]) -> Option<Lexeme>
+    ensures { result ≡ sign_named at text.now }
+{
+    match other_sign(at, text) {
+        Some(sign) => Some(sign),
+        None => match operator_named(text) {
+            Some(op) => Some(Lexeme::Operator(op)),
+            None => None,
+        },
     }
 }
 
@@ -276,7 +274,8 @@ fn keep(found: &mut Vec<Lexeme>, lexeme: Lexeme) -> Result<(), KernelFault>
     Ok(())
 }
 
-// Takes a blank or a token at a place, and answers the place after it; none where no token begins there.
+// Takes a blank or a token at a place, and answers the place after it; none where
+// no token begins there.
 fn take_lexeme(
     found: &mut Vec<Lexeme>,
     text: &[u8],
@@ -284,9 +283,13 @@ fn take_lexeme(
 ) -> Result<Option<usize>, KernelFault>
     requires limit { length text.now < 2 ^ 32 }
     requires within { at < length text.now }
-    ensures read { IfOk result (λ next. IfSome next (λ n. behind found.old.items (lexed_from at 0 (drop at text.now)) ≡ behind found.new.items (lexed_from n 0 (drop n text.now)))) }
+    ensures read { IfOk result (λ next. IfSome next (λ n.
+        behind found.old.items (lexed_from at 0 (drop at text.now))
+        ≡ behind found.new.items (lexed_from n 0 (drop n text.now)))) }
     ensures forward { IfOk result (λ next. IfSome next (λ n. (at < n) × (n ≤ length text.now))) }
-    ensures stopped { IfOk result (λ next. next ≡ None → behind found.old.items (lexed_from at 0 (drop at text.now)) ≡ record { lexemes = found.new.items; whole = false }) }
+    ensures stopped { IfOk result (λ next. next ≡ None →
+        behind found.old.items (lexed_from at 0 (drop at text.now))
+        ≡ record { lexemes = found.new.items; whole = false }) }
     ensures memory { IfErr result (λ fault. fault ≡ KernelFault.NoMemory) }
 {
     if is_blank(text[at]) {
@@ -304,7 +307,8 @@ fn take_lexeme(
 /// The tokens of a text, up to the first byte that begins none.
 pub fn read_lexemes(alloc: Global, text: &[u8]) -> Result<Lexed, KernelFault>
     requires { length text.now < 2 ^ 32 }
-    ensures read { IfOk result (λ found. lexed text.now ≡ record { lexemes = found.lexemes.items; whole = found.whole }) }
+    ensures read { IfOk result (λ found. lexed text.now
+        ≡ record { lexemes = found.lexemes.items; whole = found.whole }) }
     ensures memory { IfErr result (λ fault. fault ≡ KernelFault.NoMemory) }
 {
     let mut lexemes = Vec::new(alloc);

@@ -3,7 +3,7 @@ ghost use Rattle.std.specs.Prelude.{◌≡◌, OnOk};
 ghost use Rattle.pdl_code.specs.Declaring.{counted, declared_code, declared_step, is_taken, raw_locals};
 ghost use Rattle.pdl_code.specs.RawOf.{raw_code, raw_step};
 ghost use Rattle.pdl_code.specs.Refused.{code_declares, scope_after};
-ghost use Rattle.pdl_code.specs.Resolving.{Gives};
+ghost use Rattle.pdl_code.specs.Resolving.{Agrees};
 ghost use Rattle.pdl_code.specs.Scope.{no_flags, top};
 
 use crate::fault::KernelFault;
@@ -27,8 +27,10 @@ fn stmt_locals(
     locals: &mut Vec<Local>,
     raw: &RawStmt,
 ) -> Result<usize, KernelFault>
-    ensures gives { Gives (λ n. n) result (declared_step source.now signature.now (record { locals = locals.old.items; loops = no_flags }) (raw_step raw.now)) }
-    ensures after { OnOk result (record { locals = locals.new.items; loops = no_flags } ≡ scope_after (record { locals = locals.old.items; loops = no_flags }) (raw_step raw.now)) }
+    ensures gives { Agrees (λ n. n) result (declared_step source.now signature.now
+        (record { locals = locals.old.items; loops = no_flags }) (raw_step raw.now)) }
+    ensures after { OnOk result (record { locals = locals.new.items; loops = no_flags }
+        ≡ scope_after (record { locals = locals.old.items; loops = no_flags }) (raw_step raw.now)) }
 {
     match raw {
         RawStmt::Loop(_, body) => code_locals(source, signature, locals, body),
@@ -62,7 +64,8 @@ fn code_locals(
     locals: &mut Vec<Local>,
     raw: &[RawStmt],
 ) -> Result<usize, KernelFault>
-    ensures gives { Gives (λ n. n) result (declared_code source.now signature.now (record { locals = locals.old.items; loops = no_flags }) (raw_code raw.now)) }
+    ensures gives { Agrees (λ n. n) result (declared_code source.now signature.now
+        (record { locals = locals.old.items; loops = no_flags }) (raw_code raw.now)) }
     ensures same { OnOk result (locals.new.items ≡ locals.old.items) }
 {
     let count = locals.len();
@@ -86,7 +89,8 @@ pub fn declared(
     signature: &Signature,
     raw: &[RawStmt],
 ) -> Result<usize, KernelFault>
-    ensures { Gives (λ n. n) result (counted (code_declares source.now signature.now top (raw_code raw.now)) (raw_locals 0 (raw_code raw.now))) }
+    ensures { Agrees (λ n. n) result (counted (code_declares source.now signature.now top
+        (raw_code raw.now)) (raw_locals 0 (raw_code raw.now))) }
 {
     let mut locals = Vec::new(alloc);
     code_locals(source, signature, &mut locals, raw)

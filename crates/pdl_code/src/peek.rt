@@ -278,7 +278,8 @@ fn type_head<'a>(tokens: &Lexemes<'a>) -> Option<(LocalType, Lexemes<'a>)>
 
 /// The type and the word of a declaration.
 pub fn declared<'a>(tokens: &Lexemes<'a>) -> Option<(LocalType, Span, Lexemes<'a>)>
-    ensures read { option_map (λ x. record { ty = x.0; word = x.1; rest = x.2 }) result ≡ declared_at tokens.now }
+    ensures read { option_map (λ x. record { ty = x.0; word = x.1; rest = x.2 }) result
+        ≡ declared_at tokens.now }
 {
     let (ty, rest) = type_head(tokens)?;
     let (span, rest) = plain_word(&rest)?;

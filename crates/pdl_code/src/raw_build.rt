@@ -43,7 +43,8 @@ pub fn with_entry(
     word: Span,
     e: RawExpr,
 ) -> Result<Vec<RawEntry>, Refusal>
-    ensures ok { IfOk result (λ all. raw_indices all.items ≡ join_raw (raw_indices found.items) (along word (raw_of e) none)) }
+    ensures ok { IfOk result (λ all. raw_indices all.items
+        ≡ join_raw (raw_indices found.items) (along word (raw_of e) none)) }
     ensures err { IfErr result (λ r. r ≡ Refusal.NoMemory) }
 {
     found
@@ -55,7 +56,8 @@ pub fn with_entry(
 /// One statement more.
 #[tactic(auto, using(crate::proofs::RawJoins::stmt_push))]
 pub fn with_stmt(mut code: Vec<RawStmt>, stmt: RawStmt) -> Result<Vec<RawStmt>, Refusal>
-    ensures ok { IfOk result (λ all. raw_code all.items ≡ join_raw_code (raw_code code.items) (next (raw_step stmt) done)) }
+    ensures ok { IfOk result (λ all. raw_code all.items
+        ≡ join_raw_code (raw_code code.items) (next (raw_step stmt) done)) }
     ensures err { IfErr result (λ r. r ≡ Refusal.NoMemory) }
 {
     code.push(stmt).map_err(AllocError::from)?;

@@ -5,7 +5,7 @@ ghost use Rattle.pdl_code.specs.Fit.{IsFit, code_locals};
 ghost use Rattle.pdl_code.specs.Meaning.{code_in, judged, IsFault};
 ghost use Rattle.pdl_code.specs.RawOf.{raw_code};
 ghost use Rattle.pdl_code.specs.Reading.{read_code};
-ghost use Rattle.pdl_code.specs.Resolving.{Gives, or_bad};
+ghost use Rattle.pdl_code.specs.Resolving.{Agrees, or_bad};
 ghost use Rattle.pdl_code.specs.TreeOf.{code_of};
 
 use crate::block::resolved;
@@ -26,7 +26,7 @@ use std::alloc::Global;
 // What tokens spell.
 fn parsed(alloc: Global, tokens: &[Lexeme]) -> Result<Vec<RawStmt>, KernelFault>
     requires small { length tokens.now < 2 ^ 32 }
-    ensures { Gives (λ v. raw_code v.items) result (or_bad (read_code tokens.now)) }
+    ensures { Agrees (λ v. raw_code v.items) result (or_bad (read_code tokens.now)) }
 {
     match parse(alloc, &Lexemes::of(tokens)) {
         Ok(raw) => Ok(raw),
@@ -43,7 +43,8 @@ fn judged(
     raw: &[RawStmt],
 ) -> Result<KernelCode, KernelFault>
     requires well_formed { IsWellFormed signature.now }
-    ensures read { Gives (λ c. code_of c.stmts) result (judged signature.now text.now (raw_code raw.now)) }
+    ensures read { Agrees (λ c. code_of c.stmts) result
+        (judged signature.now text.now (raw_code raw.now)) }
     ensures fit { IfOk result (λ c. IsFit signature.now (code_of c.stmts)) }
     ensures locals { IfOk result (λ c. c.locals ≡ code_locals 0 (code_of c.stmts)) }
 {
@@ -59,8 +60,8 @@ fn judged(
     }
 }
 
-/// The code of a text for a signature, its names resolved; or the first refusal, in the order in which
-/// `KernelFault` has them.
+/// The code of a text for a signature, its names resolved; or the first refusal, in the order in
+/// which `KernelFault` has them.
 pub fn read_code(
     alloc: Global,
     signature: &Signature,

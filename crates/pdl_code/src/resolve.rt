@@ -4,7 +4,7 @@ ghost use Rattle.pdl_code.specs.Fit.{argument_of};
 ghost use Rattle.pdl_code.specs.Join.{join, one_loop};
 ghost use Rattle.pdl_code.specs.RawOf.{raw_indices, raw_of};
 ghost use Rattle.pdl_code.specs.Refused.{answer, axis_wrong, lacks, looped, meant_tree, or_zero, primary_wrong};
-ghost use Rattle.pdl_code.specs.Resolving.{Gives, resolve_indices, resolve_tree};
+ghost use Rattle.pdl_code.specs.Resolving.{Agrees, resolve_indices, resolve_tree};
 ghost use Rattle.pdl_code.specs.Scope.{axis_of, bytes_of, meant, no_flags};
 ghost use Rattle.pdl_code.specs.TreeOf.{indices_of, tree_of};
 
@@ -44,7 +44,9 @@ fn named(
     loops: &[bool; MOST],
     word: Span,
 ) -> Result<Expr, KernelFault>
-    ensures { Gives tree_of result (answer (primary_wrong loops.now word (meant source.now signature.now locals.now word)) (meant_tree (meant source.now signature.now locals.now word))) }
+    ensures { Agrees tree_of result (answer (primary_wrong loops.now word
+        (meant source.now signature.now locals.now word))
+        (meant_tree (meant source.now signature.now locals.now word))) }
 {
     match meaning(source, signature, locals, word) {
         Meant::InSlot(k) => Ok(Expr::Local(k)),
@@ -67,8 +69,11 @@ fn place(
     given: &[bool; MOST],
     word: Span,
 ) -> Result<usize, KernelFault>
-    ensures given { Gives (λ k. k) result (answer (axis_wrong word given.now (axis_of signature.now dims.now (bytes_of source.now word))) (or_zero (axis_of signature.now dims.now (bytes_of source.now word)))) }
-    ensures known { IfOk result (λ k. axis_of signature.now dims.now (bytes_of source.now word) ≡ Some k) }
+    ensures given { Agrees (λ k. k) result (answer (axis_wrong word given.now
+        (axis_of signature.now dims.now (bytes_of source.now word)))
+        (or_zero (axis_of signature.now dims.now (bytes_of source.now word)))) }
+    ensures known { IfOk result (λ k. axis_of signature.now dims.now (bytes_of source.now word)
+        ≡ Some k) }
 {
     match axis(source, signature, dims, word) {
         None => Err(KernelFault::UnknownDim { at: word.from }),
@@ -101,7 +106,8 @@ fn with_loop(
     d: usize,
     given: &[bool; MOST],
 ) -> Result<Vec<Entry>, KernelFault>
-    ensures { Gives (λ v. indices_of v.items) result (Ok (join (indices_of found.items) (one_loop given.now k d))) }
+    ensures { Agrees (λ v. indices_of v.items) result
+        (Ok (join (indices_of found.items) (one_loop given.now k d))) }
 {
     if is_marked(given, k) {
         Ok(found)
@@ -116,7 +122,8 @@ fn with_loops(
     dims: &[u8],
     given: &[bool; MOST],
 ) -> Result<Vec<Entry>, KernelFault>
-    ensures { Gives (λ v. indices_of v.items) result (Ok (join (indices_of found.items) (looped dims.now 0 given.now))) }
+    ensures { Agrees (λ v. indices_of v.items) result
+        (Ok (join (indices_of found.items) (looped dims.now 0 given.now))) }
 {
     for (k, d) in dims.iter().enumerate() {
         match with_loop(found, k, *d as usize, given) {
@@ -137,7 +144,8 @@ pub fn tree(
     loops: &[bool; MOST],
     raw: &RawExpr,
 ) -> Result<Expr, KernelFault>
-    ensures { Gives tree_of result (resolve_tree source.now signature.now (record { locals = locals.now; loops = loops.now }) (raw_of raw.now)) }
+    ensures { Agrees tree_of result (resolve_tree source.now signature.now
+        (record { locals = locals.now; loops = loops.now }) (raw_of raw.now)) }
 {
     match raw {
         RawExpr::Number(n) => Ok(Expr::Number(*n)),
@@ -186,7 +194,9 @@ pub fn indices(
     given: &[RawEntry],
     close: u32,
 ) -> Result<Vec<Entry>, KernelFault>
-    ensures { Gives (λ v. indices_of v.items) result (resolve_indices source.now signature.now (record { locals = locals.now; loops = loops.now }) dims.now no_flags close (raw_indices given.now)) }
+    ensures { Agrees (λ v. indices_of v.items) result (resolve_indices source.now signature.now
+        (record { locals = locals.now; loops = loops.now }) dims.now no_flags close
+        (raw_indices given.now)) }
 {
     let mut flags = [false; MOST];
     let mut found = Vec::new(alloc);

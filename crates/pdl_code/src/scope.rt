@@ -28,7 +28,8 @@ pub enum Meant {
 
 /// Makes a word visible.
 pub fn declare(locals: &mut Vec<Local>, word: Span, ty: LocalType) -> Result<(), KernelFault>
-    ensures ok { OnOk result (locals.new.items ≡ locals.old.items ++ record { word = word; ty = ty } ∷ []) }
+    ensures ok { OnOk result (locals.new.items ≡ locals.old.items
+        ++ record { word = word; ty = ty } ∷ []) }
     ensures err { IfErr result (λ r. r ≡ KernelFault.NoMemory) }
 {
     match locals.push(Local { word, ty }) {

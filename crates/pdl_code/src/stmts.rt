@@ -82,7 +82,8 @@ fn code<'a>(alloc: Global, fuel: usize, tokens: &Lexemes<'a>) -> Read<'a, Vec<Ra
 #[cycle(blocks)]
 #[tactic(auto, unfolding(crate::specs::Reading::code_at))]
 fn statements<'a>(alloc: Global, fuel: usize, tokens: &Lexemes<'a>) -> Read<'a, Vec<RawStmt>>
-    ensures read { Gives (λ x. (raw_code x.0.items, x.1)) result (code_at (code_reader fuel) (length tokens.now) tokens.now) }
+    ensures read { Gives (λ x. (raw_code x.0.items, x.1)) result
+        (code_at (code_reader fuel) (length tokens.now) tokens.now) }
 {
     let mut found = Vec::new(alloc);
     let mut rest = tokens.copy();
@@ -108,7 +109,8 @@ fn statement<'a>(
     found: Vec<RawStmt>,
     tokens: &Lexemes<'a>,
 ) -> Read<'a, Vec<RawStmt>>
-    ensures read { Gives (λ x. (raw_code x.0.items, x.1)) result (before_code (raw_code found.items) (statement_at (code_reader fuel) tokens.now)) }
+    ensures read { Gives (λ x. (raw_code x.0.items, x.1)) result
+        (before_code (raw_code found.items) (statement_at (code_reader fuel) tokens.now)) }
 {
     if let Some(rest) = peek::after_semicolon(tokens) {
         return Ok((found, rest));
@@ -140,7 +142,8 @@ fn step<'a>(alloc: Global, fuel: usize, tokens: &Lexemes<'a>) -> Read<'a, RawStm
 #[cycle(blocks)]
 #[tactic(auto, unfolding(crate::specs::Reading::choice_at))]
 fn choice<'a>(alloc: Global, fuel: usize, tokens: &Lexemes<'a>) -> Read<'a, RawStmt>
-    ensures read { Gives (λ x. (raw_step x.0, x.1)) result (choice_at (code_reader fuel) tokens.now) }
+    ensures read { Gives (λ x. (raw_step x.0, x.1)) result
+        (choice_at (code_reader fuel) tokens.now) }
 {
     let (condition, rest) = expr::expr(alloc, tokens)?;
     let rest = peek::after_condition(&rest).ok_or(Refusal::Refused)?;
@@ -152,7 +155,8 @@ fn choice<'a>(alloc: Global, fuel: usize, tokens: &Lexemes<'a>) -> Read<'a, RawS
 // What stands behind the block of an `if`.
 #[cycle(blocks)]
 fn otherwise<'a>(alloc: Global, fuel: usize, tokens: &Lexemes<'a>) -> Read<'a, Vec<RawStmt>>
-    ensures read { Gives (λ x. (raw_code x.0.items, x.1)) result (else_at (code_reader fuel) tokens.now) }
+    ensures read { Gives (λ x. (raw_code x.0.items, x.1)) result
+        (else_at (code_reader fuel) tokens.now) }
 {
     match peek::after_else(tokens) {
         Some(rest) => block(alloc, fuel, &rest),
@@ -164,7 +168,8 @@ fn otherwise<'a>(alloc: Global, fuel: usize, tokens: &Lexemes<'a>) -> Read<'a, V
 #[cycle(blocks)]
 #[tactic(auto, unfolding(crate::specs::Reading::block_at))]
 fn block<'a>(alloc: Global, fuel: usize, tokens: &Lexemes<'a>) -> Read<'a, Vec<RawStmt>>
-    ensures read { Gives (λ x. (raw_code x.0.items, x.1)) result (block_at (code_reader fuel) tokens.now) }
+    ensures read { Gives (λ x. (raw_code x.0.items, x.1)) result
+        (block_at (code_reader fuel) tokens.now) }
 {
     let (body, rest) = code(alloc, fuel, tokens)?;
     let rest = peek::after_block_close(&rest).ok_or(Refusal::Refused)?;

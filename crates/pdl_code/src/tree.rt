@@ -1,5 +1,5 @@
-//! Kernel code whose names are resolved. An argument is its number in the signature, a dimension its
-//! number among the signature's names, and a local its slot.
+//! Kernel code whose names are resolved. An argument is its number in the signature, a dimension
+//! its number among the signature's names, and a local its slot.
 
 use pdl_elem::{BinaryOp, Items, UnaryOp};
 
@@ -9,7 +9,8 @@ use pdl_elem::{BinaryOp, Items, UnaryOp};
 pub enum Entry {
     /// An index that the text gives.
     Given(usize, Expr),
-    /// The index of the loop over a dimension, by the dimension's number among the signature's names.
+    /// The index of the loop over a dimension, by the dimension's number among the signature's
+    /// names.
     Looped(usize, usize),
 }
 

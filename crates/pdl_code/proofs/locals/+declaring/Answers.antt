@@ -1,7 +1,7 @@
 use Rattle.std.proofs.Common.{refl, sym, ap, ◌∙◌, subst}
 use Rattle.pdl_code.specs.Declaring.{declared_step}
 use Rattle.pdl_code.specs.RawOf.{raw_code, raw_of}
-use Rattle.pdl_code.specs.Resolving.{Gives}
+use Rattle.pdl_code.specs.Resolving.{Agrees}
 use Rattle.pdl_code.specs.Scope.{no_flags}
 use Rattle.pdl_code.proofs.Blocks.{pass_on, visible}
 use Rattle.pdl_code.proofs.Declared.{branches_err_first, branches_err_second, branches_ok}
@@ -10,7 +10,7 @@ use Rattle.pdl_code.proofs.locals.+declaring.Goals as goal
 
 pub stmt_locals-returns-in-Loop-clause-gives : goal.stmt_locals-returns-in-Loop-clause-gives
 stmt_locals-returns-in-Loop-clause-gives t c =
-    subst (Gives (λ n. n) c.code_locals.result)
+    subst (Agrees (λ n. n) c.code_locals.result)
     (sym (ap (declared_step c.args.source.now c.args.signature.now (visible c.args.locals.now.items no_flags)) (loop_tree c.args.raw.now c.in-Loop.field-0 c.in-Loop.body c.deref.result.now c.in-Loop.is c.deref.ensures.value)))
     c.code_locals.ensures.gives
 
