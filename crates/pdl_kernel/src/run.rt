@@ -1,5 +1,5 @@
 //! A call of a kernel.
-ghost use Rattle.std.specs.Prelude.{◌≡◌, [], length, All, IfOk, OnOk};
+ghost use Rattle.std.specs.Prelude.{◌≡◌, [], length, All, IfOk, OnErr, OnOk};
 ghost use Rattle.pdl_buf.specs.Made.{IsMade};
 ghost use Rattle.pdl_sig.specs.Resolution.{inputs};
 ghost use Rattle.pdl_kernel.specs.Answers.{Answers};
@@ -63,10 +63,11 @@ impl<'k> KernelRun<'k> {
     }
 
     /// Gives the next of the inputs and `[io]` arguments, which are taken in the order of the
-    /// signature. After a refusal the run may only be dropped.
+    /// signature. A refusal, for want of memory alone, leaves the run as it was.
     pub fn give(&mut self, elems: &Strided<'_>) -> Result<(), AllocError>
         requires { IsNext self.old elems.now }
-        ensures { OnOk result (self.new ≡ with_next self.old elems.now) }
+        ensures ok { OnOk result (self.new ≡ with_next self.old elems.now) }
+        ensures err { OnErr result (self.new ≡ self.old) }
     {
         let ty = strided_type(elems);
         let dims = copy_dims(strided_dims(elems));

@@ -7,4 +7,4 @@ give-requires c =
 
 pub loop-id-preserved : goal.loop-id-preserved
 loop-id-preserved c =
-    given_more c.args.run.now c.loop-id.run c.give-in-loop-id.new.self c.args.engine.now c.args.ids.now c.loop-id.id-index c.lend.result c.loop-id-test.true c.loop-id.invariant c.lend.ensures c.in_ok-give.ensures
+    given_more c.args.run.now c.loop-id.run c.give-in-loop-id.new.self c.args.engine.now c.args.ids.now c.loop-id.id-index c.lend.result c.loop-id-test.true c.loop-id.invariant c.lend.ensures c.in_ok-give.ensures.ok
