@@ -72,7 +72,7 @@ fn pair(
     }
 }
 
-/// The number of an operation on such an expression and one without parts, or of one of these.
+/// The number of an operation on two such expressions, or of one of these.
 #[inline(always)]
 fn small(
     resolved: &Resolved,
@@ -86,7 +86,7 @@ fn small(
 {
     match expr {
         Expr::Binary(op, left, right) => match pair(resolved, sources, frames, at, left) {
-            Some(a) => match atom(resolved, sources, frames, at, right) {
+            Some(a) => match pair(resolved, sources, frames, at, right) {
                 Some(b) => operate_quickly(*op, a, b),
                 None => None,
             },
@@ -289,6 +289,25 @@ fn quick(
             Some(a) => Some(unary(*op, Ty::Longlong, a)),
             None => None,
         },
+        Expr::Binary(_, _, _) => operation(resolved, sources, frames, at, expr),
+        _ => None,
+    }
+}
+
+/// The number of an operation on two expressions, where it has no fault.
+#[cycle(quick)]
+#[inline(always)]
+fn operation(
+    resolved: &Resolved,
+    sources: &[Source],
+    frames: &Frames,
+    at: &[u32; MOST],
+    expr: &Expr,
+) -> Option<i64>
+    ensures { let m = store_of sources.now frames.now in
+        IfSome result (λ x. value resolved.now.sizes at.now m (tree_of expr.now) ≡ Ok x) }
+{
+    match expr {
         Expr::Binary(op, left, right) => match part(resolved, sources, frames, at, left) {
             Some(a) => match part(resolved, sources, frames, at, right) {
                 Some(b) => operate_quickly(*op, a, b),
@@ -329,6 +348,24 @@ fn quick_indices(
     Some(found)
 }
 
+/// The number of an expression, where it has no fault: that of its outermost operation in line.
+#[inline(always)]
+fn outermost(
+    resolved: &Resolved,
+    sources: &[Source],
+    frames: &Frames,
+    at: &[u32; MOST],
+    expr: &Expr,
+) -> Option<i64>
+    ensures { let m = store_of sources.now frames.now in
+        IfSome result (λ x. value resolved.now.sizes at.now m (tree_of expr.now) ≡ Ok x) }
+{
+    match expr {
+        Expr::Binary(_, _, _) => operation(resolved, sources, frames, at, expr),
+        _ => part(resolved, sources, frames, at, expr),
+    }
+}
+
 /// The number of an expression, or its first fault.
 #[inline(always)]
 pub fn value(
@@ -341,7 +378,7 @@ pub fn value(
     ensures { let m = store_of sources.now frames.now in
         result ≡ value resolved.now.sizes at.now m (tree_of expr.now) }
 {
-    match part(resolved, sources, frames, at, expr) {
+    match outermost(resolved, sources, frames, at, expr) {
         Some(x) => Ok(x),
         None => computed(resolved, sources, frames, at, expr),
     }

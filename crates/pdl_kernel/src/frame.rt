@@ -93,6 +93,7 @@ impl Frame {
     }
 
     /// An assignment of a number to the element at a position.
+    #[inline(always)]
     pub fn assign_at(&mut self, op: Option<BinaryOp>, x: i64, place: usize) -> Result<(), Fault>
         ensures { Becomes result self.new (assigned_at self.old op x place) }
     {
@@ -176,6 +177,7 @@ fn assign_in(
 }
 
 /// An assignment to an element of one of the arrays, at a position.
+#[inline(always)]
 fn assign_at_in(
     arrays: &mut Vec<Frame>,
     number: usize,
@@ -283,6 +285,7 @@ impl Frames {
     }
 
     /// An assignment to an element of a block at a position.
+    #[inline(always)]
     pub fn assign_at(
         &mut self,
         number: usize,

@@ -65,6 +65,7 @@ pub fn layout<'a>(sources: &'a [Source], frames: &'a Frames, number: usize) -> O
 }
 
 /// An assignment to the element at a position of an argument that isn't an input.
+#[inline(always)]
 pub fn assign_at(
     sources: &[Source],
     frames: &mut Frames,

@@ -16,7 +16,7 @@ pub fn operate(op: BinaryOp, a: i64, b: i64) -> Result<i64, Fault>
     }
 }
 
-/// The same, where it has no fault: sums, differences and products without a call.
+/// The same, where it has no fault: sums, differences, products and comparisons without a call.
 #[inline(always)]
 pub fn operate_quickly(op: BinaryOp, a: i64, b: i64) -> Option<i64>
     ensures { IfSome result (λ x. operate op a b ≡ Ok x) }
@@ -26,6 +26,12 @@ pub fn operate_quickly(op: BinaryOp, a: i64, b: i64) -> Option<i64>
         BinaryOp::Add => Some(wrap(Ty::Longlong, i128::from(a) + i128::from(b))),
         BinaryOp::Sub => Some(wrap(Ty::Longlong, i128::from(a) - i128::from(b))),
         BinaryOp::Mul => Some(a.wrapping_mul(b)),
+        BinaryOp::Lt => Some(i64::from(a < b)),
+        BinaryOp::Le => Some(i64::from(a <= b)),
+        BinaryOp::Gt => Some(i64::from(a > b)),
+        BinaryOp::Ge => Some(i64::from(a >= b)),
+        BinaryOp::Eq => Some(i64::from(a == b)),
+        BinaryOp::Ne => Some(i64::from(a != b)),
         _ => match binary(op, Ty::Longlong, a, b) {
             Ok(x) => Some(x),
             Err(_) => None,

@@ -1,7 +1,8 @@
 //! Statements, run in order. It takes no memory.
 ghost use Rattle.std.specs.Prelude.{◌≡◌, slice_set, get_or, pos, Ok};
 ghost use Rattle.pdl_sig.specs.Resolution.{size_in};
-ghost use Rattle.pdl_code.specs.TreeOf.{code_of, indices_of, step_of};
+ghost use Rattle.pdl_code.specs.Tree.{put};
+ghost use Rattle.pdl_code.specs.TreeOf.{code_of, indices_of, step_of, tree_of};
 ghost use Rattle.pdl_kernel.specs.Answers.{Becomes};
 ghost use Rattle.pdl_kernel.specs.Meaning.{and_then, argument, assigned, changed, indices, kept, local_type, run, start, step, turns, with_argument};
 ghost use Rattle.pdl_kernel.specs.Sources.{IsCodeFree, IsFree, IsStepFree, roles_of, store_of};
@@ -13,7 +14,7 @@ use crate::frame::Frames;
 use crate::memory::{assign, assign_at};
 use crate::operations::change;
 use crate::source::Source;
-use pdl_code::{Entry, LocalType, Stmt};
+use pdl_code::{Entry, Expr, LocalType, Stmt};
 use pdl_elem::{BinaryOp, Ty};
 use pdl_sig::Resolved;
 
@@ -67,11 +68,53 @@ fn step(
             Err(fault) => Err(fault),
         },
         Stmt::Put(number, entries, op, expr) => {
-            match value(resolved, sources, frames, at, expr) {
-                Ok(x) => put(resolved, sources, frames, at, *number, entries, *op, x),
-                Err(fault) => Err(fault),
-            }
+            store(resolved, sources, frames, at, *number, entries, *op, expr)
         }
+    }
+}
+
+/// The same, where a store to an argument is done in line.
+#[cycle(run)]
+#[inline(always)]
+fn step_in_line(
+    resolved: &Resolved,
+    sources: &[Source],
+    frames: &mut Frames,
+    at: &[u32; MOST],
+    stmt: &Stmt,
+) -> Result<(), Fault>
+    requires { IsStepFree (roles_of sources.now) (step_of stmt.now) }
+    ensures { Becomes result (store_of sources.now frames.new)
+        (step resolved.now at.now (step_of stmt.now) (store_of sources.now frames.old)) }
+{
+    match stmt {
+        Stmt::Put(number, entries, op, expr) => {
+            store(resolved, sources, frames, at, *number, entries, *op, expr)
+        }
+        _ => step(resolved, sources, frames, at, stmt),
+    }
+}
+
+/// A store of the number of an expression to an element of an argument.
+#[inline(always)]
+fn store(
+    resolved: &Resolved,
+    sources: &[Source],
+    frames: &mut Frames,
+    at: &[u32; MOST],
+    number: usize,
+    entries: &[Entry],
+    op: Option<BinaryOp>,
+    expr: &Expr,
+) -> Result<(), Fault>
+    requires { IsFree (roles_of sources.now) number }
+    ensures { Becomes result (store_of sources.now frames.new)
+        (step resolved.now at.now (put number (indices_of entries.now) op (tree_of expr.now))
+        (store_of sources.now frames.old)) }
+{
+    match value(resolved, sources, frames, at, expr) {
+        Ok(x) => put(resolved, sources, frames, at, number, entries, op, x),
+        Err(fault) => Err(fault),
     }
 }
 
@@ -101,6 +144,7 @@ fn keep(
 }
 
 /// A store to an element of an argument.
+#[inline(always)]
 fn put(
     resolved: &Resolved,
     sources: &[Source],
@@ -165,7 +209,30 @@ fn repeat(
     let mut here = *at;
     for i in 0..size_in(resolved, dimension) {
         set_index(&mut here, dimension, i);
-        match run(resolved, sources, frames, &here, body) {
+        match turn(resolved, sources, frames, &here, body) {
+            Ok(()) => {}
+            Err(fault) => return Err(fault),
+        }
+    }
+    Ok(())
+}
+
+/// One turn of a loop: its statements in order, until a fault.
+#[cycle(run)]
+#[inline(always)]
+fn turn(
+    resolved: &Resolved,
+    sources: &[Source],
+    frames: &mut Frames,
+    at: &[u32; MOST],
+    code: &[Stmt],
+) -> Result<(), Fault>
+    requires { IsCodeFree (roles_of sources.now) (code_of code.now) }
+    ensures { Becomes result (store_of sources.now frames.new)
+        (run resolved.now at.now (code_of code.now) (store_of sources.now frames.old)) }
+{
+    for stmt in code {
+        match step_in_line(resolved, sources, frames, at, stmt) {
             Ok(()) => {}
             Err(fault) => return Err(fault),
         }

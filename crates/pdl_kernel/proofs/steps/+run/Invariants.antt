@@ -23,11 +23,25 @@ invariant-run-loop-stmt l = record {
   light : code_weight (code_of (drop l.stmt-index l.code)) ≤ code_weight (code_of l.code);
 }
 
+-- the statements from here on give what all give from the start
+abbrev pub invariant-turn-loop-stmt : goal.invariant-turn-loop-stmt
+invariant-turn-loop-stmt l = record {
+  rest : run l.resolved l.at (code_of (drop l.stmt-index l.code)) (store_of l.sources l.frames) ≡ run l.resolved l.at (code_of l.code) (store_of l.sources l.fn.frames);
+  fits : IsCodeFree (roles_of l.sources) (code_of (drop l.stmt-index l.code));
+  light : code_weight (code_of (drop l.stmt-index l.code)) ≤ code_weight (code_of l.code);
+}
+
 abbrev pub decreases-step : goal.decreases-step
 decreases-step l = step_weight (step_of l.stmt.now)
 
 abbrev pub decreases-repeat : goal.decreases-repeat
-decreases-repeat l = code_weight (code_of l.body.now) + 2
+decreases-repeat l = code_weight (code_of l.body.now) + 3
 
 abbrev pub decreases-run : goal.decreases-run
 decreases-run l = code_weight (code_of l.code.now) + 1
+
+abbrev pub decreases-step_in_line : goal.decreases-step_in_line
+decreases-step_in_line l = step_weight (step_of l.stmt.now) + 1
+
+abbrev pub decreases-turn : goal.decreases-turn
+decreases-turn l = code_weight (code_of l.code.now) + 2
