@@ -322,7 +322,7 @@ fn operation(
 /// The indices of an access, where these have no fault.
 #[cycle(quick)]
 #[inline(never)]
-fn quick_indices(
+pub(crate) fn quick_indices(
     resolved: &Resolved,
     sources: &[Source],
     frames: &Frames,

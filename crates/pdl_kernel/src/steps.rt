@@ -8,7 +8,7 @@ ghost use Rattle.pdl_kernel.specs.Meaning.{and_then, argument, assigned, changed
 ghost use Rattle.pdl_kernel.specs.Sources.{IsCodeFree, IsFree, IsStepFree, roles_of, store_of};
 
 use crate::axes::MOST;
-use crate::eval::{indices, position, size_in, value};
+use crate::eval::{indices, position, quick_indices, size_in, value};
 use crate::faults::Fault;
 use crate::frame::Frames;
 use crate::memory::{assign, assign_at};
@@ -185,10 +185,14 @@ fn put_by_indices(
         (and_then (indices resolved.now.sizes at.now m (indices_of entries.now) start)
         (λ is. and_then (assigned (argument m number) op x is) (with_argument m number))) }
 {
-    match indices(resolved, sources, frames, at, entries) {
-        Ok(found) => assign(sources, frames, number, op, x, &found),
-        Err(fault) => Err(fault),
-    }
+    let found = match quick_indices(resolved, sources, frames, at, entries) {
+        Some(found) => found,
+        None => match indices(resolved, sources, frames, at, entries) {
+            Ok(found) => found,
+            Err(fault) => return Err(fault),
+        },
+    };
+    assign(sources, frames, number, op, x, &found)
 }
 
 /// The body for each index of a dimension, in order.
