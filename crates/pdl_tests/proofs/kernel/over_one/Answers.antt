@@ -19,5 +19,5 @@ give-requires t c =
 pub finish-requires : goal.finish-requires
 finish-requires t c =
     let resolves = resolved_is c.kernel_signature.result.now c.args.kernel.now.signature (c.shape_of.result ∷ []) c.resolve.result c.expect-resolved.result c.kernel_signature.ensures c.resolve.ensures.resolved c.expect-resolved.ensures in
-    subst (λ (run : Run). length run.given ≡ length (inputs run.kernel.signature.args)) (sym (c.in_ok-give.ensures ∙ ap (λ (run : Run). with_next run c.args.array.now) c.in_ok-run.ensures))
+    subst (λ (run : Run). length run.given ≡ length (inputs run.kernel.signature.args)) (sym (c.in_ok-give.ensures.ok ∙ ap (λ (run : Run). with_next run c.args.array.now) c.in_ok-run.ensures))
     (count_is c.args.kernel.now.signature (c.shape_of.result ∷ []) c.expect-resolved.result resolves)
