@@ -8,7 +8,7 @@ use Rattle.pdl_code.specs.declared.lexeme.Lexeme.{Lexeme}
 use Rattle.pdl_code.specs.declared.lexeme.Lexeme.TheVariants.{BlockClose}
 use Rattle.pdl_code.specs.Join.{join_raw, join_raw_code}
 use Rattle.pdl_code.specs.Raw.{RawTree, RawIndices, RawCode, binary, done}
-use Rattle.pdl_code.specs.Reading.{Read, Kind, after_comma, after_semicolon, before, before_code, operator_at, chain_at, index_at, indices_at, level_at, limit_of, statement_at, code_at, ends}
+use Rattle.pdl_code.specs.CodeReading.{Read, Kind, after_comma, after_semicolon, before, before_code, operator_at, chain_at, index_at, indices_at, level_at, limit_of, statement_at, code_at, ends}
 use Rattle.pdl_code.proofs.RawJoins.{join_join, code_join_join, code_join_done}
 
 pub one_less : (e c : ℕ) → c < e → e - c ≡ suc (e - (c + 1))

@@ -10,7 +10,7 @@ use Rattle.pdl_code.specs.declared.lexeme.Lexeme.TheVariants.{Word, Open, Close,
 use Rattle.pdl_code.specs.declared.tree.LocalType.{LocalType}
 use Rattle.pdl_code.specs.Grammar.{Spells, an_expr, an_access, SpellsType, type_word, generic_type, Block, a_step, some_code, an_else, SpellsBlock, a_loop, a_choice, without_else, with_else, a_declaration, a_valued_declaration, a_word_assignment, an_access_assignment, no_code, empty_statement, a_statement, assigned}
 use Rattle.pdl_code.specs.Raw.{RawTree, RawIndices, RawStep, RawCode, number, repeat, choose, declare, set, put, done, next}
-use Rattle.pdl_code.specs.Reading.{access_at, after_block_open, after_else, after_if, after_open, after_semicolon, assignment_at, block_at, choice_at, code_at, code_reader, declared_at, else_at, ended_at, ends, expr_at, initial_at, loop_at, plain_at, put_at, read_code, reader, statement_at, step_at, word_at}
+use Rattle.pdl_code.specs.CodeReading.{access_at, after_block_open, after_else, after_if, after_open, after_semicolon, assignment_at, block_at, choice_at, code_at, code_reader, declared_at, else_at, ended_at, ends, expr_at, initial_at, loop_at, plain_at, put_at, read_code, reader, statement_at, step_at, word_at}
 use Rattle.pdl_code.proofs.Complete.{AccessStart, begins, complete, ends_close, ends_semicolon, read_whole, shorter}
 
 -- the sign of an assignment

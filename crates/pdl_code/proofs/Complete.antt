@@ -14,7 +14,7 @@ use Rattle.pdl_code.specs.declared.lexeme.Lexeme.{Lexeme}
 use Rattle.pdl_code.specs.declared.lexeme.Lexeme.TheVariants.{Name, Word, Number, Open, Close, Semicolon, Comma, FatArrow, Operator, Prefix}
 use Rattle.pdl_code.specs.Grammar.{Part, an_expr, a_primary, an_access, some_indices, Spells, same, joined, once, negated, prefixed, plain, a_number, a_word, a_size, an_element, round, looped_access, given_access, last_index, next_index}
 use Rattle.pdl_code.specs.Raw.{RawTree, RawIndices, number, size, named, access, unary, binary, none, along}
-use Rattle.pdl_code.specs.Reading.{whole, access_at, after_comma, chain_at, close_at, declared_at, given_at, indices_at, level_at, limit_of, operator_at, plain_at, prefix_at, primary_at, reader, size_at, unary_at}
+use Rattle.pdl_code.specs.CodeReading.{whole, access_at, after_comma, chain_at, close_at, declared_at, given_at, indices_at, level_at, limit_of, operator_at, plain_at, prefix_at, primary_at, reader, size_at, unary_at}
 use Rattle.pdl_code.proofs.Chains.{chain_stop_at, chain_turn_at}
 use Rattle.pdl_code.proofs.Peeks.{operator_here, operator_other}
 

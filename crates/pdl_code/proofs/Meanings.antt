@@ -13,7 +13,7 @@ use Rattle.pdl_code.specs.Fit.{IsFit, code_locals}
 use Rattle.pdl_code.specs.Lexing.{Lexed, lexed, lexed_from, lexed_then, lexeme_at}
 use Rattle.pdl_code.specs.Meaning.{IsFault, code_in, judged, meant_by, spelled_by}
 use Rattle.pdl_code.specs.Raw.{RawCode}
-use Rattle.pdl_code.specs.Reading.{read_code}
+use Rattle.pdl_code.specs.CodeReading.{read_code}
 use Rattle.pdl_code.specs.Refused.{answer, code_code, code_declares, code_wrongs}
 use Rattle.pdl_code.specs.Resolving.{Agrees, or_bad}
 use Rattle.pdl_code.specs.Scope.{top}

@@ -14,7 +14,7 @@ use Rattle.pdl_code.specs.declared.lexeme.Lexeme.TheVariants.{Name, Word, Open, 
 use Rattle.pdl_code.specs.declared.tree.LocalType.{LocalType}
 use Rattle.pdl_code.specs.declared.tree.LocalType.TheVariants.{Generic as OfGeneric}
 use Rattle.pdl_code.specs.Grammar.{SpellsType, type_word, generic_type, assigned}
-use Rattle.pdl_code.specs.Reading.{Read, Declared, after_open, after_close, after_block_open, after_block_close, after_semicolon, after_comma, after_equals, after_fat_arrow, after_loop_word, after_if_word, after_else_word, after_size_name, after_generic_name, close_at, word_at, plain_at, name_at, type_word_at, generic_at, type_at, operator_at, sign_at, closed_word, bracketed_word, size_at, index_word, access_name, declared_word, declared_at, loop_word, loop_at, after_if, after_else, after_condition}
+use Rattle.pdl_code.specs.CodeReading.{Read, Declared, after_open, after_close, after_block_open, after_block_close, after_semicolon, after_comma, after_equals, after_fat_arrow, after_loop_word, after_if_word, after_else_word, after_size_name, after_generic_name, close_at, word_at, plain_at, name_at, type_word_at, generic_at, type_at, operator_at, sign_at, closed_word, bracketed_word, size_at, index_word, access_name, declared_word, declared_at, loop_word, loop_at, after_if, after_else, after_condition}
 
 pub open_is : (ts : List Lexeme) {us : List Lexeme} → after_open ts ≡ Some us → ts ≡ Open ∷ us
 open_is [] e = absurd (none_some e)

@@ -15,7 +15,7 @@ use Rattle.pdl_code.specs.declared.lexeme.Lexeme.TheVariants.{Name, Word, Number
 use Rattle.pdl_code.specs.Grammar.{Part, an_expr, a_primary, an_access, some_indices, Spells, same, joined, once, negated, prefixed, plain, a_number, a_word, a_size, an_element, round, looped_access, given_access, last_index, next_index}
 use Rattle.pdl_code.specs.Join.{join_raw}
 use Rattle.pdl_code.specs.Raw.{RawTree, RawIndices, size, access, unary, binary, none, along}
-use Rattle.pdl_code.specs.Reading.{Read, Kind, whole, operand, access_at, access_name, after_close, after_comma, before, chain_at, close_at, closed_at, element_at, given_at, index_at, index_word, indices_at, level_at, limit_of, name_first, number_before, operator_at, prefix_at, primary_at, reader, round_at, size_at, unary_at}
+use Rattle.pdl_code.specs.CodeReading.{Read, Kind, whole, operand, access_at, access_name, after_close, after_comma, before, chain_at, close_at, closed_at, element_at, given_at, index_at, index_word, indices_at, level_at, limit_of, name_first, number_before, operator_at, prefix_at, primary_at, reader, round_at, size_at, unary_at}
 use Rattle.pdl_code.proofs.Peeks.{access_is, close_is, closed_is, comma_is, index_is, operator_is, size_is}
 
 -- what each kind of reading spells

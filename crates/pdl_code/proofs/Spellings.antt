@@ -13,7 +13,7 @@ use Rattle.pdl_code.specs.Grammar.{SpellsBlock, some_code}
 use Rattle.pdl_code.specs.Lexing.{Lexed, lexed}
 use Rattle.pdl_code.specs.Meaning.{code_in, meant_by, spelled_by}
 use Rattle.pdl_code.specs.Raw.{RawTree, RawIndices, RawStep, RawCode, number, size, named, access, unary, binary, none, along, repeat, choose, declare, set, put, done, next}
-use Rattle.pdl_code.specs.Reading.{read_code}
+use Rattle.pdl_code.specs.CodeReading.{read_code}
 use Rattle.pdl_code.specs.Refused.{answer, argument_at, axis_wrong, behind_name, code_code, code_declares, code_wrongs, index_wrongs, is_input, lacks, loop_wrong, mark, named_argument, named_dim, no_dim, or_zero, primary_wrong, scope_after, step_wrongs, target_wrong, tree_wrongs, when}
 use Rattle.pdl_code.specs.Scope.{Scope, axis_of, bytes_of, meant, no_flags, top, within}
 use Rattle.pdl_code.specs.Spelled.{Codes, IsBad, Means, Refuses, Spelled, Stands}

@@ -7,7 +7,7 @@ pub mod Depth
 pub mod Left
 pub mod Grammar
 pub mod Join
-pub mod Reading
+pub mod CodeReading
 pub mod Fit
 pub mod Scope
 pub mod Refused

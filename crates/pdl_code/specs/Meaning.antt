@@ -6,7 +6,7 @@ use Rattle.pdl_code.specs.declared.fault.KernelFault.TheVariants.{TooDeep, BadTe
 use Rattle.pdl_code.specs.Depth.{is_too_deep}
 use Rattle.pdl_code.specs.Lexing.{Lexed, lexed}
 use Rattle.pdl_code.specs.Raw.{RawCode}
-use Rattle.pdl_code.specs.Reading.{read_code}
+use Rattle.pdl_code.specs.CodeReading.{read_code}
 use Rattle.pdl_code.specs.Refused.{answer, code_code, code_declares, code_wrongs}
 use Rattle.pdl_code.specs.Scope.{top}
 use Rattle.pdl_code.specs.Tree.{Code}

@@ -6,7 +6,7 @@ ghost use Rattle.pdl_code.specs.Raw.{RawIndices};
 ghost use Rattle.pdl_lexemes.specs.Answers.{Gives};
 ghost use Rattle.pdl_lexemes.specs.Lists.{signed};
 ghost use Rattle.pdl_code.specs.RawOf.{raw_indices, raw_of};
-ghost use Rattle.pdl_code.specs.Reading.{access_at, before, chain_at, element_at, expr_at, given_at, index_at, indices_at, level_at, limit_of, name_first, number_before, operand, primary_at, reader, round_at, unary_at, whole};
+ghost use Rattle.pdl_code.specs.CodeReading.{access_at, before, chain_at, element_at, expr_at, given_at, index_at, indices_at, level_at, limit_of, name_first, number_before, operand, primary_at, reader, round_at, unary_at, whole};
 
 use crate::left::Lexemes;
 use crate::lexeme::{Lexeme, Span};
@@ -20,7 +20,7 @@ pub type Read<'a, T> = Result<(T, Lexemes<'a>), Refusal>;
 
 /// A whole expression in which at most `fuel` parts are open at once.
 #[cycle(parser)]
-#[tactic(auto, unfolding(crate::specs::Reading::reader))]
+#[tactic(auto, unfolding(crate::specs::CodeReading::reader))]
 pub fn whole<'a>(alloc: Global, fuel: usize, tokens: &Lexemes<'a>) -> Read<'a, RawExpr>
     ensures read { Gives (λ x. (raw_of x.0, x.1)) result (reader fuel whole tokens.now) }
 {
@@ -31,7 +31,7 @@ pub fn whole<'a>(alloc: Global, fuel: usize, tokens: &Lexemes<'a>) -> Read<'a, R
 }
 
 #[cycle(parser)]
-#[tactic(auto, unfolding(crate::specs::Reading::reader))]
+#[tactic(auto, unfolding(crate::specs::CodeReading::reader))]
 fn operand<'a>(alloc: Global, fuel: usize, tokens: &Lexemes<'a>) -> Read<'a, RawExpr>
     ensures read { Gives (λ x. (raw_of x.0, x.1)) result (reader fuel operand tokens.now) }
 {
@@ -42,7 +42,7 @@ fn operand<'a>(alloc: Global, fuel: usize, tokens: &Lexemes<'a>) -> Read<'a, Raw
 }
 
 #[cycle(parser)]
-#[tactic(auto, unfolding(crate::specs::Reading::level_at))]
+#[tactic(auto, unfolding(crate::specs::CodeReading::level_at))]
 fn level_expr<'a>(alloc: Global, fuel: usize, level: u8, tokens: &Lexemes<'a>) -> Read<'a, RawExpr>
     requires level { level ≤ 7 }
     ensures read { Gives (λ x. (raw_of x.0, x.1)) result (level_at (reader fuel) level tokens.now) }
@@ -55,7 +55,7 @@ fn level_expr<'a>(alloc: Global, fuel: usize, level: u8, tokens: &Lexemes<'a>) -
 }
 
 #[cycle(parser)]
-#[tactic(auto, unfolding(crate::specs::Reading::chain_at))]
+#[tactic(auto, unfolding(crate::specs::CodeReading::chain_at))]
 fn chain<'a>(
     alloc: Global,
     fuel: usize,
@@ -95,7 +95,7 @@ fn limit(level: u8, tokens: &Lexemes<'_>) -> usize
 }
 
 #[cycle(parser)]
-#[tactic(auto, unfolding(crate::specs::Reading::unary_at))]
+#[tactic(auto, unfolding(crate::specs::CodeReading::unary_at))]
 fn unary<'a>(alloc: Global, fuel: usize, tokens: &Lexemes<'a>) -> Read<'a, RawExpr>
     ensures read { Gives (λ x. (raw_of x.0, x.1)) result (unary_at (reader fuel) tokens.now) }
 {
@@ -109,7 +109,7 @@ fn unary<'a>(alloc: Global, fuel: usize, tokens: &Lexemes<'a>) -> Read<'a, RawEx
 }
 
 #[cycle(parser)]
-#[tactic(auto, unfolding(crate::specs::Reading::primary_at))]
+#[tactic(auto, unfolding(crate::specs::CodeReading::primary_at))]
 fn primary<'a>(alloc: Global, fuel: usize, tokens: &Lexemes<'a>) -> Read<'a, RawExpr>
     ensures read { Gives (λ x. (raw_of x.0, x.1)) result (primary_at (reader fuel) tokens.now) }
 {
@@ -173,7 +173,7 @@ pub fn access<'a>(
 
 // What an access's brackets hold.
 #[cycle(parser)]
-#[tactic(auto, unfolding(crate::specs::Reading::given_at))]
+#[tactic(auto, unfolding(crate::specs::CodeReading::given_at))]
 fn given<'a>(alloc: Global, fuel: usize, tokens: &Lexemes<'a>) -> Read<'a, (Vec<RawEntry>, u32)>
     ensures read { Gives {B = (RawIndices × ℕ) × List Lexeme} (λ x.
         ((raw_indices x.0.0.items, x.0.1), x.1)) result (given_at (reader fuel) tokens.now) }
@@ -187,7 +187,7 @@ fn given<'a>(alloc: Global, fuel: usize, tokens: &Lexemes<'a>) -> Read<'a, (Vec<
 }
 
 #[cycle(parser)]
-#[tactic(auto, unfolding(crate::specs::Reading::indices_at))]
+#[tactic(auto, unfolding(crate::specs::CodeReading::indices_at))]
 fn indices<'a>(alloc: Global, fuel: usize, tokens: &Lexemes<'a>) -> Read<'a, Vec<RawEntry>>
     ensures read { Gives (λ x. (raw_indices x.0.items, x.1)) result
         (indices_at (reader fuel) (length tokens.now) tokens.now) }

@@ -1,7 +1,7 @@
 //! Looks at the front of what is left, each with what follows.
 ghost use Rattle.std.specs.Prelude.{◌≡◌, option_map};
 ghost use Rattle.pdl_syntax.specs.Grammar.{level_of};
-ghost use Rattle.pdl_code.specs.Reading.{access_name, after_block_close, after_block_open, after_close, after_comma, after_condition, after_else, after_else_word, after_equals, after_fat_arrow, after_generic_name, after_if, after_if_word, after_loop_word, after_open, after_semicolon, after_size_name, bracketed_word, close_at, declared_at, ends, generic_at, index_word, loop_at, name_at, operator_at, plain_at, prefix_at, sign_at, size_at, type_at, type_word_at, word_at};
+ghost use Rattle.pdl_code.specs.CodeReading.{access_name, after_block_close, after_block_open, after_close, after_comma, after_condition, after_else, after_else_word, after_equals, after_fat_arrow, after_generic_name, after_if, after_if_word, after_loop_word, after_open, after_semicolon, after_size_name, bracketed_word, close_at, declared_at, ends, generic_at, index_word, loop_at, name_at, operator_at, plain_at, prefix_at, sign_at, size_at, type_at, type_word_at, word_at};
 
 use crate::left::Lexemes;
 use crate::lexeme::{Lexeme, NameKind, Span, WordKind};

@@ -4,7 +4,7 @@ ghost use Rattle.pdl_sig.specs.Refusals.{IsWellFormed};
 ghost use Rattle.pdl_code.specs.Fit.{IsFit, code_locals};
 ghost use Rattle.pdl_code.specs.Meaning.{code_in, judged, IsFault};
 ghost use Rattle.pdl_code.specs.RawOf.{raw_code};
-ghost use Rattle.pdl_code.specs.Reading.{read_code};
+ghost use Rattle.pdl_code.specs.CodeReading.{read_code};
 ghost use Rattle.pdl_code.specs.Resolving.{Agrees, or_bad};
 ghost use Rattle.pdl_code.specs.TreeOf.{code_of};
 

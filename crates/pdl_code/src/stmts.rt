@@ -3,7 +3,7 @@ ghost use Rattle.std.specs.Prelude.{◌≡◌, length, option_map, option_and_th
 ghost use Rattle.pdl_lexemes.specs.Answers.{Gives};
 ghost use Rattle.pdl_code.specs.Raw.{declare};
 ghost use Rattle.pdl_code.specs.RawOf.{raw_code, raw_of, raw_step};
-ghost use Rattle.pdl_code.specs.Reading.{assignment_at, before_code, block_at, body_at, choice_at, code_at, code_reader, else_at, ended_at, initial_at, put_at, read_code, set_sign, statement_at, step_at};
+ghost use Rattle.pdl_code.specs.CodeReading.{assignment_at, before_code, block_at, body_at, choice_at, code_at, code_reader, else_at, ended_at, initial_at, put_at, read_code, set_sign, statement_at, step_at};
 
 use crate::expr::{self, Read};
 use crate::left::Lexemes;
@@ -14,7 +14,7 @@ use pdl_lexemes::Refusal;
 use std::alloc::Global;
 
 // An expression and `;`.
-#[tactic(auto, unfolding(crate::specs::Reading::ended_at))]
+#[tactic(auto, unfolding(crate::specs::CodeReading::ended_at))]
 fn ended<'a>(alloc: Global, tokens: &Lexemes<'a>) -> Read<'a, RawExpr>
     ensures read { Gives (λ x. (raw_of x.0, x.1)) result (ended_at tokens.now) }
 {
@@ -24,7 +24,7 @@ fn ended<'a>(alloc: Global, tokens: &Lexemes<'a>) -> Read<'a, RawExpr>
 }
 
 // What stands behind a declaration's word: `= expr ;`, or `;` alone for 0.
-#[tactic(auto, unfolding(crate::specs::Reading::initial_at))]
+#[tactic(auto, unfolding(crate::specs::CodeReading::initial_at))]
 fn initial<'a>(alloc: Global, tokens: &Lexemes<'a>) -> Read<'a, RawExpr>
     ensures read { Gives (λ x. (raw_of x.0, x.1)) result (initial_at tokens.now) }
 {
@@ -47,7 +47,7 @@ fn set<'a>(alloc: Global, word: Span, tokens: &Lexemes<'a>) -> Read<'a, RawStmt>
 }
 
 // An assignment to an access.
-#[tactic(auto, unfolding(crate::specs::Reading::put_at))]
+#[tactic(auto, unfolding(crate::specs::CodeReading::put_at))]
 fn put<'a>(alloc: Global, tokens: &Lexemes<'a>) -> Read<'a, RawStmt>
     ensures read { Gives (λ x. (raw_step x.0, x.1)) result (put_at tokens.now) }
 {
@@ -57,7 +57,7 @@ fn put<'a>(alloc: Global, tokens: &Lexemes<'a>) -> Read<'a, RawStmt>
     Ok((RawStmt::Put(name, given, close, op, value), rest))
 }
 
-#[tactic(auto, unfolding(crate::specs::Reading::assignment_at))]
+#[tactic(auto, unfolding(crate::specs::CodeReading::assignment_at))]
 fn assignment<'a>(alloc: Global, tokens: &Lexemes<'a>) -> Read<'a, RawStmt>
     ensures read { Gives (λ x. (raw_step x.0, x.1)) result (assignment_at tokens.now) }
 {
@@ -69,7 +69,7 @@ fn assignment<'a>(alloc: Global, tokens: &Lexemes<'a>) -> Read<'a, RawStmt>
 
 /// Code in which at most `fuel` blocks are open at once.
 #[cycle(blocks)]
-#[tactic(auto, unfolding(crate::specs::Reading::code_reader))]
+#[tactic(auto, unfolding(crate::specs::CodeReading::code_reader))]
 fn code<'a>(alloc: Global, fuel: usize, tokens: &Lexemes<'a>) -> Read<'a, Vec<RawStmt>>
     ensures read { Gives (λ x. (raw_code x.0.items, x.1)) result (code_reader fuel tokens.now) }
 {
@@ -80,7 +80,7 @@ fn code<'a>(alloc: Global, fuel: usize, tokens: &Lexemes<'a>) -> Read<'a, Vec<Ra
 }
 
 #[cycle(blocks)]
-#[tactic(auto, unfolding(crate::specs::Reading::code_at))]
+#[tactic(auto, unfolding(crate::specs::CodeReading::code_at))]
 fn statements<'a>(alloc: Global, fuel: usize, tokens: &Lexemes<'a>) -> Read<'a, Vec<RawStmt>>
     ensures read { Gives (λ x. (raw_code x.0.items, x.1)) result
         (code_at (code_reader fuel) (length tokens.now) tokens.now) }
@@ -102,7 +102,7 @@ fn statements<'a>(alloc: Global, fuel: usize, tokens: &Lexemes<'a>) -> Read<'a, 
 
 // One statement, behind those before it; `;` alone is none.
 #[cycle(blocks)]
-#[tactic(auto, unfolding(crate::specs::Reading::statement_at))]
+#[tactic(auto, unfolding(crate::specs::CodeReading::statement_at))]
 fn statement<'a>(
     alloc: Global,
     fuel: usize,
@@ -120,7 +120,7 @@ fn statement<'a>(
 }
 
 #[cycle(blocks)]
-#[tactic(auto, unfolding(crate::specs::Reading::step_at))]
+#[tactic(auto, unfolding(crate::specs::CodeReading::step_at))]
 fn step<'a>(alloc: Global, fuel: usize, tokens: &Lexemes<'a>) -> Read<'a, RawStmt>
     ensures read { Gives (λ x. (raw_step x.0, x.1)) result (step_at (code_reader fuel) tokens.now) }
 {
@@ -140,7 +140,7 @@ fn step<'a>(alloc: Global, fuel: usize, tokens: &Lexemes<'a>) -> Read<'a, RawStm
 
 // What stands behind `if (`.
 #[cycle(blocks)]
-#[tactic(auto, unfolding(crate::specs::Reading::choice_at))]
+#[tactic(auto, unfolding(crate::specs::CodeReading::choice_at))]
 fn choice<'a>(alloc: Global, fuel: usize, tokens: &Lexemes<'a>) -> Read<'a, RawStmt>
     ensures read { Gives (λ x. (raw_step x.0, x.1)) result
         (choice_at (code_reader fuel) tokens.now) }
@@ -166,7 +166,7 @@ fn otherwise<'a>(alloc: Global, fuel: usize, tokens: &Lexemes<'a>) -> Read<'a, V
 
 // Code and `%}`.
 #[cycle(blocks)]
-#[tactic(auto, unfolding(crate::specs::Reading::block_at))]
+#[tactic(auto, unfolding(crate::specs::CodeReading::block_at))]
 fn block<'a>(alloc: Global, fuel: usize, tokens: &Lexemes<'a>) -> Read<'a, Vec<RawStmt>>
     ensures read { Gives (λ x. (raw_code x.0.items, x.1)) result
         (block_at (code_reader fuel) tokens.now) }
@@ -177,7 +177,7 @@ fn block<'a>(alloc: Global, fuel: usize, tokens: &Lexemes<'a>) -> Read<'a, Vec<R
 }
 
 /// The code that all tokens of a text spell.
-#[tactic(auto, unfolding(crate::specs::Reading::read_code))]
+#[tactic(auto, unfolding(crate::specs::CodeReading::read_code))]
 pub fn parse(alloc: Global, tokens: &Lexemes<'_>) -> Result<Vec<RawStmt>, Refusal>
     ensures read { Gives (λ v. raw_code v.items) result (read_code tokens.now) }
 {

@@ -10,7 +10,7 @@ use Rattle.pdl_lex.specs.declared.cutter.Mode.{Mode}
 use Rattle.pdl_lex.specs.declared.cutter.Mode.TheVariants.{Code, Comment, Double, Single}
 use Rattle.pdl_lex.specs.declared.Piece.{Piece}
 use Rattle.pdl_lex.specs.declared.Piece.TheVariants.{Whole, TooLong}
-use Rattle.pdl_lex.specs.Pieces.{State, mode_after, is_end, is_between, chunks, onto_first, text_piece, certain, has_ended, numbered, begun_piece, from_chunks, settled_from, start_state}
+use Rattle.pdl_lex.specs.Pieces.{State, mode_after, is_end, is_between, chunks, onto_first, text_piece, settled_piece, has_ended, numbered, begun_piece, from_chunks, settled_from, start_state}
 use Rattle.pdl_lex.specs.Limits.{statement_limit}
 use Rattle.pdl_lex.specs.Steps.{next, cut_at, begun, ended, is_idle, is_full, IsQuiet, Reaches, Fits, is_plain, extended}
 
@@ -42,33 +42,33 @@ text_piece-whole line text e = grind arith
 
 -- a byte that ends no statement, put before the rest of its chunk, by what the cutter is in
 module _ (k : Bool) (s : State) (b : ℕ) (c : List ℕ) (e : is_end s.mode b ≡ false) where
-  step-over : s.over ≡ true → certain k (begun_piece s (b ∷ c)) ≡ option_to_list (cut_at s b) ++ certain k (begun_piece (next s b) c)
+  step-over : s.over ≡ true → settled_piece k (begun_piece s (b ∷ c)) ≡ option_to_list (cut_at s b) ++ settled_piece k (begun_piece (next s b) c)
   step-over over = rw (e, over)
 
-  step-between : s.over ≡ false → is_idle s ≡ true → is_between s.mode b ≡ true → certain k (begun_piece s (b ∷ c)) ≡ option_to_list (cut_at s b) ++ certain k (begun_piece (next s b) c)
+  step-between : s.over ≡ false → is_idle s ≡ true → is_between s.mode b ≡ true → settled_piece k (begun_piece s (b ∷ c)) ≡ option_to_list (cut_at s b) ++ settled_piece k (begun_piece (next s b) c)
   step-between over idle between =
       let small : is_full s ≡ false = rw (empty_from_idle s.text idle) in
       rw (e, over, idle, between, small, idle)
 
-  step-first : s.over ≡ false → is_idle s ≡ true → is_between s.mode b ≡ false → certain k (begun_piece s (b ∷ c)) ≡ option_to_list (cut_at s b) ++ certain k (begun_piece (next s b) c)
+  step-first : s.over ≡ false → is_idle s ≡ true → is_between s.mode b ≡ false → settled_piece k (begun_piece s (b ∷ c)) ≡ option_to_list (cut_at s b) ++ settled_piece k (begun_piece (next s b) c)
   step-first over idle between =
       let empty : s.text ≡ [] = empty_from_idle s.text idle in
       let small : is_full s ≡ false = rw empty in
       rw (e, over, idle, between, small, empty)
 
-  step-full : s.over ≡ false → is_idle s ≡ false → is_full s ≡ true → certain k (begun_piece s (b ∷ c)) ≡ option_to_list (cut_at s b) ++ certain k (begun_piece (next s b) c)
+  step-full : s.over ≡ false → is_idle s ≡ false → is_full s ≡ true → settled_piece k (begun_piece s (b ∷ c)) ≡ option_to_list (cut_at s b) ++ settled_piece k (begun_piece (next s b) c)
   step-full over idle full =
       let long : length (s.text ++ b ∷ []) ≡ suc statement_limit = grind (arith, length-append {A = ℕ}) in
       let put : text_piece s.start ((s.text ++ b ∷ []) ++ c) ≡ TooLong s.start = text_piece-long s.start (s.text ++ b ∷ []) c long in
       let too_long : text_piece s.start (s.text ++ b ∷ c) ≡ TooLong s.start = ap (text_piece s.start) (sym (append_assoc s.text (b ∷ []) c)) ∙ put in
       rw (e, over, idle, full, too_long)
 
-  step-grown : s.over ≡ false → is_idle s ≡ false → is_full s ≡ false → certain k (begun_piece s (b ∷ c)) ≡ option_to_list (cut_at s b) ++ certain k (begun_piece (next s b) c)
+  step-grown : s.over ≡ false → is_idle s ≡ false → is_full s ≡ false → settled_piece k (begun_piece s (b ∷ c)) ≡ option_to_list (cut_at s b) ++ settled_piece k (begun_piece (next s b) c)
   step-grown over idle full =
       let more : (length (s.text ++ b ∷ []) == 0) ≡ false = grind (arith, length-append {A = ℕ}) in
       rw (e, over, idle, full, more, append_assoc)
 
-  pub begun-step : certain k (begun_piece s (b ∷ c)) ≡ option_to_list (cut_at s b) ++ certain k (begun_piece (next s b) c)
+  pub begun-step : settled_piece k (begun_piece s (b ∷ c)) ≡ option_to_list (cut_at s b) ++ settled_piece k (begun_piece (next s b) c)
   begun-step =
       by_bool s.over step-over (λ over.
       by_bool (is_idle s)
@@ -99,7 +99,7 @@ pub start-pieces : (last : Bool) (bytes : List ℕ) → from_chunks last start_s
 start-pieces last bytes = fresh-chunks last start_state (chunks Code bytes) refl refl refl
 
 -- what an ended chunk leaves of the statement that it ends
-begun_piece-end : (s : State) → length s.text ≤ statement_limit → certain true (begun_piece s []) ≡ option_to_list (begun s)
+begun_piece-end : (s : State) → length s.text ≤ statement_limit → settled_piece true (begun_piece s []) ≡ option_to_list (begun s)
 begun_piece-end s fits =
     by_bool s.over (λ over. rw over) (λ over.
     by_bool (is_idle s) (λ idle. rw (over, idle)) (λ idle.
@@ -115,7 +115,7 @@ newlines-cons b c = newlines-append (b ∷ []) c
 split : (last : Bool) (s : State) (cs : List (List ℕ)) → (d : List ℕ) × (ds : List (List ℕ)) × (cs ≡ d ∷ ds) → length s.text ≤ statement_limit → from_chunks last s ([] ∷ cs) ≡ option_to_list (begun s) ++ numbered last s.line cs
 split last s cs some fits =
     let more : has_ended last cs ≡ true = rw some.2 in
-    ap (λ k. certain k (begun_piece s []) ++ numbered last (s.line + 0) cs) more
+    ap (λ k. settled_piece k (begun_piece s []) ++ numbered last (s.line + 0) cs) more
     ∙ ap (λ ps. ps ++ numbered last (s.line + 0) cs) (begun_piece-end s fits)
     ∙ ap (λ n. option_to_list (begun s) ++ numbered last n cs) (add-zero s.line)
 
@@ -128,8 +128,8 @@ goes_on_at : (last : Bool) (s : State) (b : ℕ) (c : List ℕ) (cs : List (List
 goes_on_at last s b c cs e =
     let line : s.line + newlines (b ∷ c) ≡ (next s b).line + newlines c = rw (next-line s b, newlines-cons b c) (omega arith) in
     ap (λ ps. ps ++ numbered last (s.line + newlines (b ∷ c)) cs) (begun-step (has_ended last cs) s b c e)
-    ∙ ap (λ n. (option_to_list (cut_at s b) ++ certain (has_ended last cs) (begun_piece (next s b) c)) ++ numbered last n cs) line
-    ∙ append_assoc (option_to_list (cut_at s b)) (certain (has_ended last cs) (begun_piece (next s b) c)) (numbered last ((next s b).line + newlines c) cs)
+    ∙ ap (λ n. (option_to_list (cut_at s b) ++ settled_piece (has_ended last cs) (begun_piece (next s b) c)) ++ numbered last n cs) line
+    ∙ append_assoc (option_to_list (cut_at s b)) (settled_piece (has_ended last cs) (begun_piece (next s b) c)) (numbered last ((next s b).line + newlines c) cs)
 
 goes_on : (last : Bool) (s : State) (b : ℕ) (bs : List ℕ) → is_end s.mode b ≡ false → from_chunks last s (chunks s.mode (b ∷ bs)) ≡ option_to_list (cut_at s b) ++ from_chunks last (next s b) (chunks (next s b).mode bs)
 goes_on last s b bs e =

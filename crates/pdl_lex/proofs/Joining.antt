@@ -7,7 +7,7 @@ use Rattle.pdl_lex.specs.declared.cutter.Mode.{Mode}
 use Rattle.pdl_lex.specs.declared.cutter.Mode.TheVariants.{Code, Comment, Double, Single}
 use Rattle.pdl_lex.specs.declared.Piece.{Piece}
 use Rattle.pdl_lex.specs.declared.Piece.TheVariants.{Whole, TooLong}
-use Rattle.pdl_lex.specs.Pieces.{mode_after, is_end, is_between, onto_first, chunks, text_piece, chunk_piece, certain, has_ended, numbered}
+use Rattle.pdl_lex.specs.Pieces.{mode_after, is_end, is_between, onto_first, chunks, text_piece, chunk_piece, settled_piece, has_ended, numbered}
 use Rattle.pdl_lex.specs.Joining.{mode_behind, IsStatement, pieces_from}
 use Rattle.pdl_lex.proofs.Cutting.{chunks-some, newlines-cons}
 
@@ -45,7 +45,7 @@ ended : (chunks : List (List ℕ)) → has_ended true chunks ≡ true
 ended [] = refl
 ended (chunk ∷ chunks) = refl
 
-certain-piece : (piece : Piece) → certain true (Some piece) ≡ piece ∷ []
+certain-piece : (piece : Piece) → settled_piece true (Some piece) ≡ piece ∷ []
 certain-piece (Whole cut) = refl
 certain-piece (TooLong line) = refl
 
@@ -54,8 +54,8 @@ numbered-first : (line first : ℕ) (others : List ℕ) (rest : List (List ℕ))
 numbered-first line first others rest begins =
     let text : List ℕ = first ∷ others in
     let here : chunk_piece line Code text ≡ Some (text_piece line text) = rw begins refl in
-    ap (λ e. certain e (chunk_piece line Code text) ++ numbered true (line + newlines text) rest) (ended rest)
-    ∙ ap (λ p. certain true p ++ numbered true (line + newlines text) rest) here
+    ap (λ e. settled_piece e (chunk_piece line Code text) ++ numbered true (line + newlines text) rest) (ended rest)
+    ∙ ap (λ p. settled_piece true p ++ numbered true (line + newlines text) rest) here
     ∙ ap (λ ps. ps ++ numbered true (line + newlines text) rest) (certain-piece (text_piece line text))
 
 pub statements_join : (line : ℕ) (text rest : List ℕ) → IsStatement text
@@ -96,6 +96,6 @@ blanks_join line b rest blank =
     let piece : chunk_piece line Code (b ∷ chunk) ≡ chunk_piece (line + newlines (b ∷ [])) Code chunk = rw (passed.between, passed.stays) refl in
     let further : line + newlines (b ∷ chunk) ≡ (line + newlines (b ∷ [])) + newlines chunk = omega (arith, newlines-cons b chunk) in
     ap (numbered true line) cut
-    ∙ ap (λ p. certain (has_ended true others) p ++ numbered true (line + newlines (b ∷ chunk)) others) piece
-    ∙ ap (λ n. certain (has_ended true others) (chunk_piece (line + newlines (b ∷ [])) Code chunk) ++ numbered true n others) further
+    ∙ ap (λ p. settled_piece (has_ended true others) p ++ numbered true (line + newlines (b ∷ chunk)) others) piece
+    ∙ ap (λ n. settled_piece (has_ended true others) (chunk_piece (line + newlines (b ∷ [])) Code chunk) ++ numbered true n others) further
     ∙ ap (numbered true (line + newlines (b ∷ []))) (sym some.2)

@@ -8,7 +8,7 @@ use Rattle.std.specs.List.{list_all, prefix_len}
 use Rattle.std.specs.Char.{is_ascii_digit}
 use Rattle.pdl_lex.specs.Bytes.{is_quote, is_letter, is_word_byte}
 use Rattle.pdl_lex.specs.Tokens.{is_sign, is_closed, only_where, kind_of, longest, token_at}
-use Rattle.pdl_lex.specs.Reading.{word_len, digits_len, other_len, name_after, string_after, begins_sign, sign_at, read_at}
+use Rattle.pdl_lex.specs.TokenReading.{word_len, digits_len, other_len, name_after, string_after, begins_sign, sign_at, read_at}
 use Rattle.pdl_lex.specs.declared.TokenKind.{TokenKind}
 use Rattle.pdl_lex.specs.declared.TokenKind.TheVariants.{Name, Word, Number, Str, Sign}
 

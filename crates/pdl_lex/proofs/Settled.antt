@@ -5,7 +5,7 @@ use Rattle.pdl_lex.specs.declared.cutter.Mode.{Mode}
 use Rattle.pdl_lex.specs.declared.cutter.Mode.TheVariants.{Code}
 use Rattle.pdl_lex.specs.declared.Piece.{Piece}
 use Rattle.pdl_lex.specs.declared.Piece.TheVariants.{Whole, TooLong}
-use Rattle.pdl_lex.specs.Pieces.{mode_after, is_end, is_between, onto_first, chunks, text_piece, chunk_piece, certain, has_ended, numbered}
+use Rattle.pdl_lex.specs.Pieces.{mode_after, is_end, is_between, onto_first, chunks, text_piece, chunk_piece, settled_piece, has_ended, numbered}
 use Rattle.pdl_lex.proofs.Cutting.{chunks-some}
 
 -- the last chunk of bytes goes on in the bytes that follow, and the chunks before it stay
@@ -79,10 +79,10 @@ chunk-long line at now (b ∷ bs) more is = by_test (is_between now b) is (chunk
 
 -- what the last chunk makes certain is certain of it when it has gone on
 certain-front : (e : Bool) (piece whole : Option Piece) (others : List Piece) → ((at : ℕ) → piece ≡ Some (TooLong at) → whole ≡ Some (TooLong at))
-    → (rest : List Piece) × (certain e whole ++ others ≡ (certain false piece ++ []) ++ rest)
-certain-front e None whole others long = (certain e whole ++ others, refl)
-certain-front e (Some (Whole cut)) whole others long = (certain e whole ++ others, refl)
-certain-front e (Some (TooLong at)) whole others long = (others, ap (λ p. certain e p ++ others) (long at refl))
+    → (rest : List Piece) × (settled_piece e whole ++ others ≡ (settled_piece false piece ++ []) ++ rest)
+certain-front e None whole others long = (settled_piece e whole ++ others, refl)
+certain-front e (Some (Whole cut)) whole others long = (settled_piece e whole ++ others, refl)
+certain-front e (Some (TooLong at)) whole others long = (others, ap (λ p. settled_piece e p ++ others) (long at refl))
 
 ends_before : (k : Bool) (cs : List (List ℕ)) (d : List ℕ) (ds : List (List ℕ)) → has_ended k (cs ++ d ∷ ds) ≡ true
 ends_before k [] d ds = refl
@@ -98,10 +98,10 @@ numbered-front k line (c ∷ cs) last more others =
     let found = numbered-front k (line + newlines c) cs last more others in
     let piece : Option Piece = chunk_piece line Code c in (
       found.0,
-      ap (λ e. certain e piece ++ numbered k (line + newlines c) (cs ++ (last ++ more) ∷ others)) (ends_before k cs (last ++ more) others)
-          ∙ ap (λ ps. certain true piece ++ ps) found.1
-          ∙ sym (append_assoc (certain true piece) (numbered false (line + newlines c) (cs ++ last ∷ [])) found.0)
-          ∙ ap (λ e. (certain e piece ++ numbered false (line + newlines c) (cs ++ last ∷ [])) ++ found.0) (sym (ends_before false cs last [])),
+      ap (λ e. settled_piece e piece ++ numbered k (line + newlines c) (cs ++ (last ++ more) ∷ others)) (ends_before k cs (last ++ more) others)
+          ∙ ap (λ ps. settled_piece true piece ++ ps) found.1
+          ∙ sym (append_assoc (settled_piece true piece) (numbered false (line + newlines c) (cs ++ last ∷ [])) found.0)
+          ∙ ap (λ e. (settled_piece e piece ++ numbered false (line + newlines c) (cs ++ last ∷ [])) ++ found.0) (sym (ends_before false cs last [])),
     )
 
 pub settled-front : (k : Bool) (bytes more : List ℕ)

@@ -1,8 +1,8 @@
 pub mod Bytes
 pub mod Limits
 pub mod Pieces
-pub mod Certain
+pub mod Settled
 pub mod Joining
 pub mod Tokens
 pub mod Steps
-pub mod Reading
+pub mod TokenReading

@@ -57,10 +57,10 @@ chunk_piece line now (b ∷ bs) =
 
 -- what is certain of a chunk's statement: all of it once the chunk has ended, before that
 -- only that it is too long
-abbrev pub certain : Bool → Option Piece → List Piece
-certain ended None = []
-certain ended (Some (TooLong line)) = TooLong line ∷ []
-certain ended (Some (Whole cut)) = if ended then Whole cut ∷ [] else []
+abbrev pub settled_piece : Bool → Option Piece → List Piece
+settled_piece ended None = []
+settled_piece ended (Some (TooLong line)) = TooLong line ∷ []
+settled_piece ended (Some (Whole cut)) = if ended then Whole cut ∷ [] else []
 
 -- whether a chunk has ended, from the chunks after it and from whether the last one has
 abbrev pub has_ended : Bool → List (List ℕ) → Bool
@@ -71,7 +71,7 @@ has_ended last (chunk ∷ chunks) = true
 abbrev pub numbered : Bool → ℕ → List (List ℕ) → List Piece
 numbered last line [] = []
 numbered last line (chunk ∷ chunks) =
-    certain (has_ended last chunks) (chunk_piece line Code chunk)
+    settled_piece (has_ended last chunks) (chunk_piece line Code chunk)
     ++ numbered last (line + newlines chunk) chunks
 
 -- the statements of a script with their lines, the last one ended by the end of input
@@ -123,7 +123,7 @@ begun_piece s chunk =
 abbrev pub from_chunks : Bool → State → List (List ℕ) → List Piece
 from_chunks last s [] = []
 from_chunks last s (chunk ∷ chunks) =
-    certain (has_ended last chunks) (begun_piece s chunk)
+    settled_piece (has_ended last chunks) (begun_piece s chunk)
     ++ numbered last (s.line + newlines chunk) chunks
 
 -- the pieces that a cutter has still to answer when these are all the bytes that come

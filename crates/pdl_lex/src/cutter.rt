@@ -119,7 +119,7 @@ impl StatementCutter {
     pub fn new(alloc: Global) -> StatementCutter
         ensures state { result ≡ start_state }
         ensures whole { (bytes : List ℕ) → to_come result bytes ≡ pieces bytes }
-        ensures certain { (bytes : List ℕ) → settled_from result bytes ≡ settled bytes }
+        ensures settled { (bytes : List ℕ) → settled_from result bytes ≡ settled bytes }
     {
         StatementCutter {
             alloc,
@@ -147,7 +147,7 @@ impl StatementCutter {
         ensures stream { IfOk result (λ fed. (more : List ℕ) →
             to_come self.old (piece.now ++ more) ≡ option_to_list fed.cut
             ++ to_come self.new (drop fed.used piece.now ++ more)) }
-        ensures certain { IfOk result (λ fed. (more : List ℕ) →
+        ensures settled { IfOk result (λ fed. (more : List ℕ) →
             settled_from self.old (piece.now ++ more) ≡ option_to_list fed.cut
             ++ settled_from self.new (drop fed.used piece.now ++ more)) }
 

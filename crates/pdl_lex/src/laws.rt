@@ -1,5 +1,5 @@
 //! Laws of the statements of a script, and of the tokens of a statement.
-ghost use Rattle.pdl_lex.specs.Certain.{BeginThePieces, StayCertain};
+ghost use Rattle.pdl_lex.specs.Settled.{BeginThePieces, StayCertain};
 ghost use Rattle.pdl_lex.specs.Joining.{StatementsJoin, BlanksJoin, PartsJoin, DigitsStay};
 ghost use Rattle.pdl_lex.specs.Tokens.{TextsHaveOneMeaning, TokensAreSpans};
 

@@ -2,7 +2,7 @@ ghost use Rattle.std.specs.Prelude.{◌≡◌, ◌+◌, ◌^◌, ◌<◌, ◌≤
 ghost use Rattle.std.specs.List.{list_all};
 ghost use Rattle.pdl_lex.specs.Bytes.{is_letter, is_word_byte};
 ghost use Rattle.pdl_lex.specs.Tokens.{is_word, is_sign, gap_at, token_at, fault_of, after_tokens, toks_from, toks, Spans};
-ghost use Rattle.pdl_lex.specs.Reading.{word_len, digits_len, other_len, name_after, string_after, begins_sign, sign_at, read_at};
+ghost use Rattle.pdl_lex.specs.TokenReading.{word_len, digits_len, other_len, name_after, string_after, begins_sign, sign_at, read_at};
 
 use crate::{LexFault, Token, TokenKind};
 use std::alloc::Global;

@@ -9,7 +9,7 @@ use Rattle.pdl_syntax.specs.Parsed.{parsed}
 use Rattle.pdl_syntax.specs.Laws.{TokensAreParsed}
 use Rattle.pdl_machine.specs.declared.fault.Fault.{Fault}
 use Rattle.pdl_machine.specs.Parsed.{as_read}
-use Rattle.pdl_machine.specs.Reading.{MeansAt, Means}
+use Rattle.pdl_machine.specs.StatementMeaning.{MeansAt, Means}
 use Rattle.pdl_machine.specs.Run.{reads, reads_tokens}
 
 tokens_mean : (grammar : TokensAreParsed) (text : List ℕ) (tokens : Result (List Token) LexFault) → MeansAt text tokens (reads_tokens text tokens)

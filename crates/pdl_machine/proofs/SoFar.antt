@@ -6,7 +6,7 @@ use Rattle.std.proofs.lemmas.List.{map-append}
 use Rattle.pdl_lex.specs.Bytes.{newlines}
 use Rattle.pdl_lex.specs.Limits.{script_limit}
 use Rattle.pdl_lex.specs.Pieces.{Mark, statement, script_too_long, pieces, settled, script_marks}
-use Rattle.pdl_lex.specs.Certain.{BeginThePieces, StayCertain}
+use Rattle.pdl_lex.specs.Settled.{BeginThePieces, StayCertain}
 use Rattle.pdl_machine.specs.Run.{after_marks, start, run, certain_marks, so_far}
 use Rattle.pdl_machine.proofs.RunLemmas.{printed_stays, goes_on, limit_ends}
 

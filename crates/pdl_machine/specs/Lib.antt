@@ -20,5 +20,5 @@ pub mod Laws
 pub mod Worked
 pub mod Parsed
 pub mod Run
-pub mod Reading
+pub mod StatementMeaning
 pub mod RunLaws

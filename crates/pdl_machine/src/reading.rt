@@ -1,5 +1,5 @@
 //! Laws of what a text is read as, and of runs.
-ghost use Rattle.pdl_machine.specs.Reading.{ReadsItsMeaning, MeansOneThing};
+ghost use Rattle.pdl_machine.specs.StatementMeaning.{ReadsItsMeaning, MeansOneThing};
 ghost use Rattle.pdl_machine.specs.RunLaws.{EndedStays, PrintedStays, FaultStays, GoesOn, FirstFaultEnds, EndedByAFault, TooLongEnds, LimitEnds, SoFarIsAFront, SoFarIsPrinted, SoFarGrows, SoFarIsAll};
 
 use pdl_lex::settled_laws;

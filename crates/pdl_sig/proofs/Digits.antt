@@ -5,7 +5,7 @@ use Rattle.std.specs.Char.{is_ascii_digit}
 use Rattle.std.proofs.lemmas.Bool.Decides.{nat_tests}
 use Rattle.pdl_lex.specs.Bytes.{is_letter, is_word_byte}
 use Rattle.pdl_sig.specs.Grammar.{past_blanks, begins, value_after, is_number}
-use Rattle.pdl_sig.specs.Reading.{word_in, word_at, in_limit, where_number, number_of_digits, number_in, number_at}
+use Rattle.pdl_sig.specs.SignatureReading.{word_in, word_at, in_limit, where_number, number_of_digits, number_in, number_at}
 
 -- the front of a text past its blanks, and what is left after it
 pub record Parts (p : ℕ → Bool) (s u front rest : List ℕ) : Type 0 where

@@ -6,7 +6,7 @@ use Rattle.pdl_sig.specs.declared.Role.TheVariants.{Input, Output}
 use Rattle.pdl_sig.specs.declared.ArgType.TheVariants.{Generic}
 use Rattle.pdl_sig.specs.declared.written.WrittenDim.{WrittenDim}
 use Rattle.pdl_sig.specs.declared.written.WrittenArg.{WrittenArg}
-use Rattle.pdl_sig.specs.Reading.{sign_at, word_at, number_at, typed_at, marked_at, sized_at, dim_at, dims_at, bracket_at, arg_at, args_at, read_args}
+use Rattle.pdl_sig.specs.SignatureReading.{sign_at, word_at, number_at, typed_at, marked_at, sized_at, dim_at, dims_at, bracket_at, arg_at, args_at, read_args}
 use Rattle.pdl_sig.specs.Refusals.{Signs}
 use Rattle.pdl_sig.specs.Known.{inner, outer_product, matmult}
 use Rattle.pdl_sig.proofs.Sound.{args_spelled}

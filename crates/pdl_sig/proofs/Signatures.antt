@@ -7,7 +7,7 @@ use Rattle.pdl_sig.specs.declared.SigFault.{SigFault}
 use Rattle.pdl_sig.specs.declared.SigFault.TheVariants.{BadText, TooManyNames, TwiceNamed, NoOutput, OpenSize, NoMemory}
 use Rattle.pdl_sig.specs.declared.written.WrittenArg.{WrittenArg}
 use Rattle.pdl_sig.specs.Grammar.{Args}
-use Rattle.pdl_sig.specs.Reading.{read_args}
+use Rattle.pdl_sig.specs.SignatureReading.{read_args}
 use Rattle.pdl_sig.specs.Refusals.{all_names, signature_of, is_twice_named, is_fixed_again, has_open, refusal, refusal_of, Signs, IsRefused, IsFaultOf}
 use Rattle.pdl_sig.specs.Resolution.{is_output}
 use Rattle.pdl_sig.proofs.Sound.{args_spelled}

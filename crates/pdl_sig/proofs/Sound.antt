@@ -7,7 +7,7 @@ use Rattle.pdl_sig.specs.declared.ArgType.{ArgType}
 use Rattle.pdl_sig.specs.declared.written.WrittenDim.{WrittenDim}
 use Rattle.pdl_sig.specs.declared.written.WrittenArg.{WrittenArg}
 use Rattle.pdl_sig.specs.Grammar.{past_blanks, Sign, Word, Typed, untyped, of_type, at_least_type, Marked, input_role, marked_role, Dim, unfixed_dim, fixed_dim, Dims, last_dim, next_dim, Bracketed, no_dims, some_dims, Arg, whole_arg, Args, last_arg, ended_arg, next_arg, type_of, role_of, is_arg_word, is_dim_word}
-use Rattle.pdl_sig.specs.Reading.{is_empty, is_end, sign_at, word_at, number_at, at_least, typed_as, typed_by, typed_at, role_before, role_in, marked_by, marked_at, size_before, sized_by, sized_at, dim_of, dim_by, dim_at, before_dims, dims_by, dims_after, dims_at, bracket_by, bracket_after, bracket_at, arg_of, arg_named, arg_marked, arg_at, before_args, only_arg, args_past, args_by, args_after, args_at}
+use Rattle.pdl_sig.specs.SignatureReading.{is_empty, is_end, sign_at, word_at, number_at, at_least, typed_as, typed_by, typed_at, role_before, role_in, marked_by, marked_at, size_before, sized_by, sized_at, dim_of, dim_by, dim_at, before_dims, dims_by, dims_after, dims_at, bracket_by, bracket_after, bracket_at, arg_of, arg_named, arg_marked, arg_at, before_args, only_arg, args_past, args_by, args_after, args_at}
 use Rattle.pdl_sig.proofs.Tokens.{sign_stands, word_stands, number_stands}
 
 some_is : {A : Type 0} (x y : A) → Some x ≡ Some y → x ≡ y

@@ -8,7 +8,7 @@ use Rattle.std.proofs.lemmas.List.{length-append}
 use Rattle.pdl_lex.specs.Bytes.{is_letter, is_word_byte}
 use Rattle.pdl_lex.specs.Tokens.{is_word}
 use Rattle.pdl_sig.specs.Grammar.{past_blanks, begins, Sign, Word, Number, value_after, is_number, size_limit}
-use Rattle.pdl_sig.specs.Reading.{sign_in, sign_at, word_in, word_at, in_limit, where_number, number_of_digits, number_in, number_at}
+use Rattle.pdl_sig.specs.SignatureReading.{sign_in, sign_at, word_in, word_at, in_limit, where_number, number_of_digits, number_in, number_at}
 use Rattle.pdl_sig.proofs.Fronts.{both_first, both_second, front_all, all_front, front_stops, past_shorter, letter_goes_on}
 
 pub sign_read : (b : ℕ) (s t : List ℕ) → Sign b s t → sign_at b s ≡ Some t

@@ -2,7 +2,7 @@
 use Rattle.std.proofs.Common.{◌≡◌, ℕ, suc, ◌+◌, ◌-◌, ◌<◌, ◌≤◌, true, false, List, [], ◌∷◌, ◌++◌, length, Option, Some, None, refl, ap, ap₂, sym, ◌∙◌, arith, append_assoc}
 use Rattle.pdl_sig.specs.declared.written.WrittenDim.{WrittenDim}
 use Rattle.pdl_sig.specs.declared.written.WrittenArg.{WrittenArg}
-use Rattle.pdl_sig.specs.Reading.{is_end, sign_at, dim_at, before_dims, dims_by, dims_after, dims_at, arg_at, before_args, only_arg, args_past, args_by, args_after, args_at}
+use Rattle.pdl_sig.specs.SignatureReading.{is_end, sign_at, dim_at, before_dims, dims_by, dims_after, dims_at, arg_at, before_args, only_arg, args_past, args_by, args_after, args_at}
 
 -- the dimensions so far, before those that are read
 abbrev pub after_dims : List WrittenDim → Option (List WrittenDim × List ℕ) → Option (List WrittenDim × List ℕ)

@@ -5,7 +5,7 @@ use Rattle.pdl_sig.specs.declared.Signature.{Signature}
 use Rattle.pdl_sig.specs.declared.SigFault.{SigFault}
 use Rattle.pdl_sig.specs.declared.SigFault.TheVariants.{BadText, NoMemory}
 use Rattle.pdl_sig.specs.declared.written.WrittenArg.{WrittenArg}
-use Rattle.pdl_sig.specs.Reading.{read_args}
+use Rattle.pdl_sig.specs.SignatureReading.{read_args}
 use Rattle.pdl_sig.specs.Refusals.{Signs, IsFaultOf, signature_of, refusal_of}
 
 -- the first refusal, or else the signature

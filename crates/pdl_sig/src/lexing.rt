@@ -5,7 +5,7 @@ ghost use Rattle.std.specs.List.{list_all, prefix_len};
 ghost use Rattle.std.specs.Char.{is_ascii_digit};
 ghost use Rattle.pdl_lex.specs.Bytes.{is_blank, is_letter, is_word_byte};
 ghost use Rattle.pdl_sig.specs.Grammar.{past_blanks, begins, value_after, is_number, type_of, role_of, is_arg_word, is_dim_word};
-ghost use Rattle.pdl_sig.specs.Reading.{is_end, sign_at, word_at, number_at};
+ghost use Rattle.pdl_sig.specs.SignatureReading.{is_end, sign_at, word_at, number_at};
 
 use crate::Role;
 use pdl_elem::Ty;
@@ -52,7 +52,7 @@ pub fn is_end(text: &[u8]) -> bool
 }
 
 /// The text after a sign.
-#[tactic(auto, unfolding(crate::specs::Reading::sign_at))]
+#[tactic(auto, unfolding(crate::specs::SignatureReading::sign_at))]
 pub fn sign(sign: u8, text: &[u8]) -> Option<&[u8]>
     ensures read { option_map (λ rest. rest.now) result ≡ sign_at sign text.now }
 {
@@ -88,7 +88,7 @@ fn digits_len(text: &[u8]) -> usize
 }
 
 /// The word at the front, and the text after it.
-#[tactic(auto, unfolding(crate::specs::Reading::word_at))]
+#[tactic(auto, unfolding(crate::specs::SignatureReading::word_at))]
 pub fn word(text: &[u8]) -> Option<(&[u8], &[u8])>
     ensures { option_map (λ x. (x.0.now, x.1.now)) result ≡ word_at text.now }
 {
@@ -121,7 +121,7 @@ fn value(digits: &[u8]) -> u32
 }
 
 /// The number at the front, and the text after it; none above the largest.
-#[tactic(auto, unfolding(crate::specs::Reading::number_at))]
+#[tactic(auto, unfolding(crate::specs::SignatureReading::number_at))]
 pub fn number(text: &[u8]) -> Option<(u32, &[u8])>
     ensures { option_map (λ x. (x.0, x.1.now)) result ≡ number_at text.now }
 {

@@ -1,7 +1,7 @@
 //! The reader of signatures: a function for each rule of the grammar. Each takes a text, and
 //! answers what stands at its front with the text after it, or `None` where the rule doesn't fit.
 ghost use Rattle.std.specs.Prelude.{◌≡◌, length, IfOk, option_map};
-ghost use Rattle.pdl_sig.specs.Reading.{typed_at, marked_at, sized_at, dim_at, dims_at, bracket_at, arg_at, read_args};
+ghost use Rattle.pdl_sig.specs.SignatureReading.{typed_at, marked_at, sized_at, dim_at, dims_at, bracket_at, arg_at, read_args};
 
 use crate::lexing::{is_arg_word, is_dim_word, is_end, number, role_of, sign, type_of, word};
 use crate::written::{WrittenArg, WrittenDim};
@@ -9,7 +9,7 @@ use crate::{ArgType, Role};
 use pdl_elem::{Items, Name};
 use std::alloc::{AllocError, Global};
 
-#[tactic(auto, unfolding(crate::specs::Reading::typed_at))]
+#[tactic(auto, unfolding(crate::specs::SignatureReading::typed_at))]
 fn typed(text: &[u8]) -> (ArgType, &[u8])
     ensures { (result.0, result.1.now) ≡ typed_at text.now }
 {
@@ -25,7 +25,7 @@ fn typed(text: &[u8]) -> (ArgType, &[u8])
     }
 }
 
-#[tactic(auto, unfolding(crate::specs::Reading::marked_at))]
+#[tactic(auto, unfolding(crate::specs::SignatureReading::marked_at))]
 fn marked(text: &[u8]) -> Option<(Role, &[u8])>
     ensures { option_map (λ x. (x.0, x.1.now)) result ≡ marked_at text.now }
 {
@@ -44,7 +44,7 @@ fn name_of(alloc: Global, word: &[u8]) -> Result<Name, AllocError>
     Ok(Name::new(Vec::from_slice(alloc, word)?))
 }
 
-#[tactic(auto, unfolding(crate::specs::Reading::sized_at))]
+#[tactic(auto, unfolding(crate::specs::SignatureReading::sized_at))]
 fn sized(text: &[u8]) -> Option<(Option<u32>, &[u8])>
     ensures { option_map (λ x. (x.0, x.1.now)) result ≡ sized_at text.now }
 {
@@ -57,7 +57,7 @@ fn sized(text: &[u8]) -> Option<(Option<u32>, &[u8])>
     }
 }
 
-#[tactic(auto, unfolding(crate::specs::Reading::dim_at))]
+#[tactic(auto, unfolding(crate::specs::SignatureReading::dim_at))]
 fn dim(alloc: Global, text: &[u8]) -> Result<Option<(WrittenDim, &[u8])>, AllocError>
     ensures { IfOk result (λ found. option_map (λ x. (x.0, x.1.now)) found ≡ dim_at text.now) }
 {
@@ -96,7 +96,7 @@ fn dims(alloc: Global, text: &[u8]) -> Result<Option<(Vec<WrittenDim>, &[u8])>, 
     Ok(None)
 }
 
-#[tactic(auto, unfolding(crate::specs::Reading::bracket_at))]
+#[tactic(auto, unfolding(crate::specs::SignatureReading::bracket_at))]
 fn bracket(alloc: Global, text: &[u8]) -> Result<Option<(Vec<WrittenDim>, &[u8])>, AllocError>
     ensures { let wanted = bracket_at text.now in
         IfOk result (λ found. option_map (λ x. (x.0.items, x.1.now)) found ≡ wanted) }
@@ -110,7 +110,7 @@ fn bracket(alloc: Global, text: &[u8]) -> Result<Option<(Vec<WrittenDim>, &[u8])
     }
 }
 
-#[tactic(auto, unfolding(crate::specs::Reading::arg_at))]
+#[tactic(auto, unfolding(crate::specs::SignatureReading::arg_at))]
 fn arg(alloc: Global, text: &[u8]) -> Result<Option<(WrittenArg, &[u8])>, AllocError>
     ensures { IfOk result (λ found. option_map (λ x. (x.0, x.1.now)) found ≡ arg_at text.now) }
 {

@@ -4,7 +4,7 @@ use Rattle.pdl_slices.specs.declared.reading.Kind.{Kind}
 use Rattle.pdl_slices.specs.declared.reading.Kind.TheVariants.{Blank, Digit, Minus, Open, Close, Star, Colon, Comma, Other}
 use Rattle.std.specs.Char.{is_ascii_digit}
 use Rattle.pdl_slices.specs.Grammar.{is_blank}
-use Rattle.pdl_slices.specs.Reading.{kind_of}
+use Rattle.pdl_slices.specs.SliceReading.{kind_of}
 
 -- what is known of a byte of this kind
 abbrev pub Fact : Kind → ℕ → Type 0

@@ -5,7 +5,7 @@ use Rattle.std.proofs.lemmas.List.{length-map}
 use Rattle.pdl_slices.specs.declared.SliceArg.{SliceArg}
 use Rattle.pdl_slices.specs.declared.SliceArg.TheVariants.{Whole, One, Dropped, Dummy, Span}
 use Rattle.pdl_slices.specs.declared.SliceFault.{SliceFault}
-use Rattle.pdl_slices.specs.Reading.{more_digits, signed}
+use Rattle.pdl_slices.specs.SliceReading.{more_digits, with_sign}
 use Rattle.pdl_slices.specs.Refusals.{is_large, is_large_end, has_large_number, is_zero, has_zero_step, refusal}
 
 -- a size, cut
@@ -15,7 +15,7 @@ cut_size n = min n 2147483648
 -- a number with its size cut
 abbrev pub cut : ℤ → ℤ
 cut (pos n) = pos (cut_size n)
-cut (negsuc n) = signed true (cut_size (suc n))
+cut (negsuc n) = with_sign true (cut_size (suc n))
 
 abbrev pub cut_end : Option ℤ → Option ℤ
 cut_end n = option_map cut n
@@ -28,7 +28,7 @@ cut_arg (Dropped n) = Dropped (cut n)
 cut_arg (Dummy n) = Dummy (cut_size n)
 cut_arg (Span from to step) = Span (cut_end from) (cut_end to) (cut_end step)
 
-pub cut-neg : (n : ℕ) → signed true (cut_size n) ≡ cut (neg_ℤ (pos n))
+pub cut-neg : (n : ℕ) → with_sign true (cut_size n) ≡ cut (neg_ℤ (pos n))
 cut-neg zero = refl
 cut-neg (suc n) = refl
 
@@ -51,7 +51,7 @@ is_zero-cut_size n = grind arith
 pub nat_abs-cut : (n : ℤ) → nat_abs (cut n) ≡ cut_size (nat_abs n)
 nat_abs-cut (pos n) = refl
 nat_abs-cut (negsuc n) = abs-signed (cut_size (suc n)) where
-  abs-signed : (m : ℕ) → nat_abs (signed true m) ≡ m
+  abs-signed : (m : ℕ) → nat_abs (with_sign true m) ≡ m
   abs-signed zero = refl
   abs-signed (suc m) = refl
 
@@ -60,7 +60,7 @@ is_large-cut n = ap is_large (nat_abs-cut n) ∙ is_large-cut_size (nat_abs n)
 
 pub cut-allowed : (n : ℤ) → is_large (nat_abs n) ≡ false → cut n ≡ n
 cut-allowed (pos n) h = ap pos (cut_size-allowed n h)
-cut-allowed (negsuc n) h = ap (signed true) (cut_size-allowed (suc n) h)
+cut-allowed (negsuc n) h = ap (with_sign true) (cut_size-allowed (suc n) h)
 
 pub is_large_end-cut : (n : Option ℤ) → is_large_end (cut_end n) ≡ is_large_end n
 is_large_end-cut None = refl

@@ -6,12 +6,12 @@ use Rattle.pdl_slices.specs.declared.SliceArg.TheVariants.{Whole, One, Dropped, 
 use Rattle.pdl_slices.specs.declared.reading.Kind.TheVariants.{Close}
 use Rattle.pdl_slices.specs.declared.reading.Slot.{Slot}
 use Rattle.pdl_slices.specs.declared.reading.Slot.TheVariants.{Single, Bracket, Bracketed, Size, To, By}
-use Rattle.pdl_slices.specs.declared.reading.Part.{Part}
-use Rattle.pdl_slices.specs.declared.reading.Part.TheVariants as part
+use Rattle.pdl_slices.specs.declared.reading.NumberSoFar.{NumberSoFar}
+use Rattle.pdl_slices.specs.declared.reading.NumberSoFar.TheVariants as part
 use Rattle.pdl_slices.specs.declared.reading.Place.{Place}
 use Rattle.pdl_slices.specs.Grammar.{Blanks, Args, one_arg, arg_after, Spells, blanks_alone, listed, CanBegin}
 use Rattle.pdl_slices.specs.Refusals.{IsBadText}
-use Rattle.pdl_slices.specs.Reading.{kind_of, number_in, takes_number, takes_sign, ended, Stage, first_place, stage_after, run, is_first, finished, first_stage}
+use Rattle.pdl_slices.specs.SliceReading.{kind_of, number_in, takes_number, takes_sign, ending_argument, Stage, first_place, stage_after, run, is_first, finished, first_stage}
 use Rattle.pdl_slices.proofs.Cuts.{cut_arg}
 use Rattle.pdl_slices.proofs.Spelled.{at, run-None, run-append, run-blanks_before, sign_takes, Has, Closes, closes_has, run-sign, run-args}
 use Rattle.pdl_slices.proofs.Sound.{some_is, map_is, PartReads, waits, signs, counts, counts_down, after, after_sign, SlotReads, single, bracket, bracketed, size, to, by}
@@ -23,7 +23,7 @@ pub record ReadsText (cs : List SliceArg) (w : List ℕ) : Type 0 where
   pub spelled : Spells args w
   pub cut_is : map cut_arg args ≡ cs
 
-first_part : (s : Slot) (p : Part) (o v : List ℕ) → is_first (record { slot = s; part = p }) ≡ true → SlotReads s o → PartReads s p v → Blanks (o ++ v)
+first_part : (s : Slot) (p : NumberSoFar) (o v : List ℕ) → is_first (record { slot = s; part = p }) ≡ true → SlotReads s o → PartReads s p v → Blanks (o ++ v)
 first_part s p o v h single (waits u bs) = bs
 first_part s p o v h single (signs u t bs) = cc
 first_part s p o v h single (counts n u x t bs ds) = cc
@@ -56,9 +56,9 @@ blanks_first : (s : Stage) (w : List ℕ) → run (Some first_stage) w ≡ Some 
 blanks_first s w h bs = some_is first_stage s (sym (run-blanks_before [] Single w bs) ∙ h)
 
 listed_end : (s : Stage) (cs : List SliceArg) (w : List ℕ) → run (Some first_stage) w ≡ Some s → (first_stage ≡ s → ⊥)
-    → option_map (λ a. s.done ++ a ∷ []) (ended s.place) ≡ Some cs → ReadsText cs w
+    → option_map (λ a. s.done ++ a ∷ []) (ending_argument s.place) ≡ Some cs → ReadsText cs w
 listed_end s cs w r other h =
-    let ends = map_is (λ a. s.done ++ a ∷ []) (ended s.place) cs h in
+    let ends = map_is (λ a. s.done ++ a ∷ []) (ending_argument s.place) cs h in
     let args = stage_args s w ends.0 (run_first w s r) ends.1.0 in
     record { args = args.args; spelled = listed args.args w (λ bs. other (blanks_first s w r bs)) args.spelled; cut_is = args.cut_is ∙ ends.1.1 }
 
@@ -66,7 +66,7 @@ listed_end s cs w r other h =
 pub finished_reads : (d : List SliceArg) (p : Place) (cs : List SliceArg) (w : List ℕ) → run (Some first_stage) w ≡ Some (record { done = d; place = p })
     → finished (record { done = d; place = p }) ≡ Some cs → ReadsText cs w
 finished_reads [] p cs w r h =
-    let go = elim (is_first p) as (λ t. is_first p ≡ t → (if t then Some [] else option_map (λ a. a ∷ []) (ended p)) ≡ Some cs → ReadsText cs w) [
+    let go = elim (is_first p) as (λ t. is_first p ≡ t → (if t then Some [] else option_map (λ a. a ∷ []) (ending_argument p)) ≡ Some cs → ReadsText cs w) [
       | true ↦ λ e k. record { args = []; spelled = blanks_alone w (first_blanks p w (run_first w _ r) e); cut_is = some_is [] cs k }
       | false ↦ λ e k. listed_end (record { done = []; place = p }) cs w r (λ same. no_first (ap (λ s. is_first s.place) same ∙ e)) k
     ] in go refl h
@@ -85,9 +85,9 @@ pub record Finishes (cs : List SliceArg) (w : List ℕ) : Type 0 where
   pub reached : run (Some first_stage) w ≡ Some last
   pub answers : finished last ≡ Some cs
 
-ended_finishes : (d : List SliceArg) (p : Place) (a : SliceArg) → ended p ≡ Some a → (d ≡ [] → is_first p ≡ true → ⊥) → finished (record { done = d; place = p }) ≡ Some (d ++ a ∷ [])
+ended_finishes : (d : List SliceArg) (p : Place) (a : SliceArg) → ending_argument p ≡ Some a → (d ≡ [] → is_first p ≡ true → ⊥) → finished (record { done = d; place = p }) ≡ Some (d ++ a ∷ [])
 ended_finishes [] p a h other =
-    let go = elim (is_first p) as (λ t. is_first p ≡ t → (if t then Some [] else option_map (λ b. b ∷ []) (ended p)) ≡ Some (a ∷ [])) [
+    let go = elim (is_first p) as (λ t. is_first p ≡ t → (if t then Some [] else option_map (λ b. b ∷ []) (ending_argument p)) ≡ Some (a ∷ [])) [
       | true ↦ λ e. absurd (other refl e)
       | false ↦ λ e. ap (option_map (λ b. b ∷ [])) h
     ] in go refl
@@ -124,7 +124,7 @@ record Ending (d : List SliceArg) (o : Option Stage) : Type 0 where
   closes : Closes d arg (run o bytes)
 
 -- after a number an argument may end, or its bracket
-number_ends : (d : List SliceArg) (s : Slot) (p : Part) (z : ℤ) → number_in p ≡ Some (Some z) → IsTrue (takes_number s) → Ending d (at d s p)
+number_ends : (d : List SliceArg) (s : Slot) (p : NumberSoFar) (z : ℤ) → number_in p ≡ Some (Some z) → IsTrue (takes_number s) → Ending d (at d s p)
 number_ends d s p z h t =
     let has : Has d s (Some z) (at d s p) = record { last = p; reached = refl; holds = h } in
     ends s t has
@@ -170,7 +170,7 @@ sign_ends d s t =
     digit_after_sign (To x) h = refl
     digit_after_sign (By x y) h = refl
 
-part_ends : (d : List SliceArg) (s : Slot) (p : Part) (v : List ℕ) → PartReads s p v → Ending d (at d s p)
+part_ends : (d : List SliceArg) (s : Slot) (p : NumberSoFar) (v : List ℕ) → PartReads s p v → Ending d (at d s p)
 part_ends d s p v (waits u bs) = start_ends d s
 part_ends d s p v (signs u t bs) = sign_ends d s t
 part_ends d s p v (counts n u x t bs ds) = number_ends d s p _ refl t
@@ -179,9 +179,9 @@ part_ends d s p v (after n u x y t bs ds es) = number_ends d s p _ refl t
 part_ends d s p v (after_sign n u x y t bs ds es) = number_ends d s p _ refl (sign_takes s t)
 
 -- where an argument may end, the machine answers
-some_answer : (d : List SliceArg) (p : Place) (a : SliceArg) → ended p ≡ Some a → (cs : List SliceArg) × (finished (record { done = d; place = p }) ≡ Some cs)
+some_answer : (d : List SliceArg) (p : Place) (a : SliceArg) → ending_argument p ≡ Some a → (cs : List SliceArg) × (finished (record { done = d; place = p }) ≡ Some cs)
 some_answer [] p a h =
-    elim (is_first p) as (λ t. (cs : List SliceArg) × ((if t then Some [] else option_map (λ b. b ∷ []) (ended p)) ≡ Some cs)) [
+    elim (is_first p) as (λ t. (cs : List SliceArg) × ((if t then Some [] else option_map (λ b. b ∷ []) (ending_argument p)) ≡ Some cs)) [
       | true ↦ ([], refl)
       | false ↦ (a ∷ [], ap (option_map (λ b. b ∷ [])) h)
     ]

@@ -7,7 +7,7 @@ use Rattle.pdl_slices.specs.declared.SliceFault.{SliceFault}
 use Rattle.pdl_slices.specs.declared.SliceFault.TheVariants.{BadText, TooManyArgs, NumberTooLarge, ZeroStep, NoMemory}
 use Rattle.pdl_slices.specs.Grammar.{Spells}
 use Rattle.pdl_slices.specs.Refusals.{refusal, IsRead, IsBadText, IsRefused, IsFaultOf, Means}
-use Rattle.pdl_slices.specs.Reading.{kind_of, Stage, first_stage, stage_after, run, finished}
+use Rattle.pdl_slices.specs.SliceReading.{kind_of, Stage, first_stage, stage_after, run, finished}
 use Rattle.pdl_slices.specs.Meaning.{verdict_on, or_bad_text, read_on, slice_of}
 use Rattle.pdl_slices.proofs.Cuts.{cut_arg, refusal-cut, cut-allowed_list}
 use Rattle.pdl_slices.proofs.Sound.{some_is}

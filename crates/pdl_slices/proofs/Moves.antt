@@ -6,17 +6,17 @@ use Rattle.pdl_slices.specs.declared.reading.Kind.{Kind}
 use Rattle.pdl_slices.specs.declared.reading.Kind.TheVariants.{Blank, Digit, Minus, Open, Close, Star, Colon, Comma, Other}
 use Rattle.pdl_slices.specs.declared.reading.Slot.{Slot}
 use Rattle.pdl_slices.specs.declared.reading.Slot.TheVariants.{Single, Bracket, Bracketed, To, By}
-use Rattle.pdl_slices.specs.declared.reading.Part.{Part}
-use Rattle.pdl_slices.specs.declared.reading.Part.TheVariants as part
+use Rattle.pdl_slices.specs.declared.reading.NumberSoFar.{NumberSoFar}
+use Rattle.pdl_slices.specs.declared.reading.NumberSoFar.TheVariants as part
 use Rattle.pdl_slices.specs.declared.reading.Place.{Place}
 use Rattle.pdl_slices.specs.Grammar.{Blanks, no_blank, Field, Args, one_arg, arg_after}
-use Rattle.pdl_slices.specs.Reading.{kind_of, number_in, part_after_blank, part_after_digit, part_after_minus, takes_number, takes_sign, slot_after, arg_of, in_slot, moved, ended, Stage, first_place, stage_after, run, first_stage}
+use Rattle.pdl_slices.specs.SliceReading.{kind_of, number_in, part_after_blank, part_after_digit, part_after_minus, takes_number, takes_sign, slot_after, arg_of, in_slot, moved, ending_argument, Stage, first_place, stage_after, run, first_stage}
 use Rattle.pdl_slices.proofs.Cuts.{cut, cut_end, cut_arg}
 use Rattle.pdl_slices.proofs.Bytes.{Fact, fact}
 use Rattle.pdl_slices.proofs.Spelled.{run-None, single_colon, to_colon}
 use Rattle.pdl_slices.proofs.Sound.{some_is, map_is, and_then_is, if_is, PartReads, waits, part_blank, part_digit, part_minus, ReadsField, field_of, blanks_of, SlotReads, single, bracket, bracketed, size, to, by, ReadsArg, arg_reads}
 
-bracket_closes : (s : List ℕ) (p : Part) (v : List ℕ) (z : Option ℤ) (b : ℕ) (q : Slot) → Blanks s → ReadsField z v → slot_after Bracket z Close ≡ Some q → b ≡ 41
+bracket_closes : (s : List ℕ) (p : NumberSoFar) (v : List ℕ) (z : Option ℤ) (b : ℕ) (q : Slot) → Blanks s → ReadsField z v → slot_after Bracket z Close ≡ Some q → b ≡ 41
     → SlotReads q ((s ++ 40 ∷ []) ++ v ++ b ∷ [])
 bracket_closes s p v z b q bs f h e = closes f.number f.spelled (ap (λ y. slot_after Bracket y Close) f.cut_is ∙ h) where
   closes : (y : Option ℤ) → Field y v → slot_after Bracket (cut_end y) Close ≡ Some q → SlotReads q ((s ++ 40 ∷ []) ++ v ++ b ∷ [])
@@ -26,7 +26,7 @@ bracket_closes s p v z b q bs f h e = closes f.number f.spelled (ap (λ y. slot_
       (subst (SlotReads (Bracketed (cut n))) (ap₂ (λ w c. w ++ c ∷ []) (sym (append_assoc s (40 ∷ []) v)) (sym e)) (bracketed n s v bs g))
 
 -- a bracket, a star or a colon ends what is read of a number, and begins the next slot
-sign_reads : (s q : Slot) (p : Part) (x : Option ℤ) (k : Kind) (b : ℕ) (o v : List ℕ) → SlotReads s o → PartReads s p v → number_in p ≡ Some x
+sign_reads : (s q : Slot) (p : NumberSoFar) (x : Option ℤ) (k : Kind) (b : ℕ) (o v : List ℕ) → SlotReads s o → PartReads s p v → number_in p ≡ Some x
     → slot_after s x k ≡ Some q → Fact k b → SlotReads q (o ++ v ++ b ∷ [])
 sign_reads s q p None Open b o v single r h e f =
     subst (λ c. SlotReads q (v ++ c ∷ [])) (sym f) (subst (λ t. SlotReads t (v ++ 40 ∷ [])) (some_is _ _ e) (bracket v (blanks_of Single p v r h)))
@@ -65,7 +65,7 @@ pub record PlaceReads (p : Place) (w : List ℕ) : Type 0 where
 pub first_reads : PlaceReads first_place []
 first_reads = record { opened = []; rest = []; all = refl; slot = single; part = waits [] no_blank }
 
-place_grows : (p q : Place) (w : List ℕ) (b : ℕ) (new : Part) → (r : PlaceReads p w) → PartReads p.slot new (r.rest ++ b ∷ [])
+place_grows : (p q : Place) (w : List ℕ) (b : ℕ) (new : NumberSoFar) → (r : PlaceReads p w) → PartReads p.slot new (r.rest ++ b ∷ [])
     → record { slot = p.slot; part = new } ≡ q → PlaceReads q (w ++ b ∷ [])
 place_grows p q w b new r parts is =
     subst (λ t. PlaceReads t (w ++ b ∷ [])) is (record {
@@ -90,7 +90,7 @@ sign_moves p q w b k r f h =
       part = waits [] no_blank;
     })
 
-in_slot_is : (s : Slot) (o : Option Part) (q : Place) → in_slot s o ≡ Some q → (new : Part) × ((o ≡ Some new) × (record { slot = s; part = new } ≡ q))
+in_slot_is : (s : Slot) (o : Option NumberSoFar) (q : Place) → in_slot s o ≡ Some q → (new : NumberSoFar) × ((o ≡ Some new) × (record { slot = s; part = new } ≡ q))
 in_slot_is s o q h = map_is (λ new. record { slot = s; part = new }) o q h
 
 -- a byte that is no comma adds to the place's bytes
@@ -115,7 +115,7 @@ moved_reads p q w b Comma r f h = sign_moves p q w b Comma r f h
 moved_reads p q w b Other r f h = sign_moves p q w b Other r f h
 
 -- the argument that ends at a place is what its bytes spell
-pub ended_reads : (p : Place) (a : SliceArg) (w : List ℕ) → PlaceReads p w → ended p ≡ Some a → ReadsArg a w
+pub ended_reads : (p : Place) (a : SliceArg) (w : List ℕ) → PlaceReads p w → ending_argument p ≡ Some a → ReadsArg a w
 ended_reads p a w r h =
     let number = and_then_is (arg_of p.slot) (number_in p.part) a h in
     subst (ReadsArg a) r.all (arg_reads p.slot p.part number.0 a r.opened r.rest r.slot r.part number.1.0 number.1.1)
@@ -151,12 +151,12 @@ pub first_stage_reads : StageReads first_stage []
 first_stage_reads = record { front = []; rest = []; all = refl; done = none_done; place = first_reads }
 
 -- where an argument ends, all of them so far are spelled
-pub stage_args : (s : Stage) (w : List ℕ) (a : SliceArg) → StageReads s w → ended s.place ≡ Some a → ReadsArgs (s.done ++ a ∷ []) w
+pub stage_args : (s : Stage) (w : List ℕ) (a : SliceArg) → StageReads s w → ending_argument s.place ≡ Some a → ReadsArgs (s.done ++ a ∷ []) w
 stage_args s w a r h = subst (ReadsArgs (s.done ++ a ∷ [])) r.all (args_read s.done a r.front r.rest r.done (ended_reads s.place a r.rest r.place h))
 
 comma_reads : (s t : Stage) (w : List ℕ) (b : ℕ) → StageReads s w → b ≡ 44 → stage_after s Comma ≡ Some t → StageReads t (w ++ b ∷ [])
 comma_reads s t w b r f h =
-    let ends = map_is (λ a. record { done = s.done ++ a ∷ []; place = first_place }) (ended s.place) t h in
+    let ends = map_is (λ a. record { done = s.done ++ a ∷ []; place = first_place }) (ending_argument s.place) t h in
     let args = stage_args s w ends.0 r ends.1.0 in
     subst (λ u. StageReads u (w ++ b ∷ [])) ends.1.1 (record {
       front = w ++ b ∷ [];

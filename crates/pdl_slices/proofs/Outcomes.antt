@@ -6,7 +6,7 @@ use Rattle.pdl_slices.specs.declared.SliceFault.TheVariants.{BadText, TooManyArg
 use Rattle.pdl_slices.specs.declared.reader.Reader.{Reader}
 use Rattle.pdl_slices.specs.Grammar.{Spells}
 use Rattle.pdl_slices.specs.Refusals.{refusal, IsRead, IsFaultOf}
-use Rattle.pdl_slices.specs.Reading.{kind_of, Stage, stage_after, run, finished, first_stage}
+use Rattle.pdl_slices.specs.SliceReading.{kind_of, Stage, stage_after, run, finished, first_stage}
 use Rattle.pdl_slices.specs.Collected.{Holds, Collects, Takes, Ends}
 use Rattle.pdl_slices.specs.Meaning.{judged, verdict_on}
 use Rattle.pdl_slices.proofs.Cuts.{cut_arg, refusal-cut, cut-allowed_list}

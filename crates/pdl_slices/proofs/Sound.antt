@@ -4,11 +4,11 @@ use Rattle.pdl_slices.specs.declared.SliceArg.{SliceArg}
 use Rattle.pdl_slices.specs.declared.SliceArg.TheVariants.{Whole, One, Dropped, Dummy, Span}
 use Rattle.pdl_slices.specs.declared.reading.Slot.{Slot}
 use Rattle.pdl_slices.specs.declared.reading.Slot.TheVariants.{Single, Bracket, Bracketed, Size, To, By}
-use Rattle.pdl_slices.specs.declared.reading.Part.{Part}
-use Rattle.pdl_slices.specs.declared.reading.Part.TheVariants as part
+use Rattle.pdl_slices.specs.declared.reading.NumberSoFar.{NumberSoFar}
+use Rattle.pdl_slices.specs.declared.reading.NumberSoFar.TheVariants as part
 use Rattle.std.specs.Char.{is_ascii_digit}
 use Rattle.pdl_slices.specs.Grammar.{is_blank, Blanks, no_blank, blank_after, Digits, one_digit, digit_after, plain, minus, Field, left_out, given, Arg, nothing, one, dropped, colon, span, stepped, sized, star}
-use Rattle.pdl_slices.specs.Reading.{signed, number_in, part_after_blank, part_after_digit, part_after_minus, takes_number, takes_sign, arg_of}
+use Rattle.pdl_slices.specs.SliceReading.{with_sign, number_in, part_after_blank, part_after_digit, part_after_minus, takes_number, takes_sign, arg_of}
 use Rattle.pdl_slices.proofs.Cuts.{cut_size, cut, cut_end, cut_arg, cut-neg, more_digits-cut, more_digits-zero}
 
 -- an option that is some value
@@ -28,7 +28,7 @@ if_is true o b h = (refl, h)
 if_is false o b h = cc
 
 -- the part of a number's bytes, and the blanks round it
-pub data PartReads (s : Slot) : Part → List ℕ → Type 0 where
+pub data PartReads (s : Slot) : NumberSoFar → List ℕ → Type 0 where
   waits : (v : List ℕ) → Blanks v → PartReads s part.Before v
   signs : (v : List ℕ) → IsTrue (takes_sign s) → Blanks v → PartReads s part.Minus (v ++ 45 ∷ [])
   counts : (n : ℕ) (v u : List ℕ) → IsTrue (takes_number s) → Blanks v → Digits n u
@@ -36,26 +36,26 @@ pub data PartReads (s : Slot) : Part → List ℕ → Type 0 where
   counts_down : (n : ℕ) (v u : List ℕ) → IsTrue (takes_sign s) → Blanks v → Digits n u
       → PartReads s (part.Digits true (cut_size n)) (v ++ 45 ∷ u)
   after : (n : ℕ) (v u t : List ℕ) → IsTrue (takes_number s) → Blanks v → Digits n u → Blanks t
-      → PartReads s (part.After (signed false (cut_size n))) (v ++ u ++ t)
+      → PartReads s (part.After (with_sign false (cut_size n))) (v ++ u ++ t)
   after_sign : (n : ℕ) (v u t : List ℕ) → IsTrue (takes_sign s) → Blanks v → Digits n u → Blanks t
-      → PartReads s (part.After (signed true (cut_size n))) (v ++ 45 ∷ u ++ t)
+      → PartReads s (part.After (with_sign true (cut_size n))) (v ++ 45 ∷ u ++ t)
 
 one_blank : (b : ℕ) → IsTrue (is_blank b) → Blanks (b ∷ [])
 one_blank b h = blank_after [] b no_blank h
 
-pub part_blank : (s : Slot) (p q : Part) (w : List ℕ) (b : ℕ) → IsTrue (is_blank b) → PartReads s p w → part_after_blank p ≡ Some q → PartReads s q (w ++ b ∷ [])
+pub part_blank : (s : Slot) (p q : NumberSoFar) (w : List ℕ) (b : ℕ) → IsTrue (is_blank b) → PartReads s p w → part_after_blank p ≡ Some q → PartReads s q (w ++ b ∷ [])
 part_blank s p q w b k (waits v bs) h = subst (λ r. PartReads s r (v ++ b ∷ [])) (some_is _ _ h) (waits (v ++ b ∷ []) (blank_after v b bs k))
 part_blank s p q w b k (signs v t bs) h = cc
 part_blank s p q w b k (counts n v u t bs ds) h = subst (λ r. PartReads s r (v ++ u ++ b ∷ [])) (some_is _ _ h) (after n v u (b ∷ []) t bs ds (one_blank b k))
 part_blank s p q w b k (counts_down n v u t bs ds) h = subst (λ r. PartReads s r (v ++ 45 ∷ u ++ b ∷ [])) (some_is _ _ h) (after_sign n v u (b ∷ []) t bs ds (one_blank b k))
 part_blank s p q w b k (after n v u r t bs ds es) h =
     subst (λ o. PartReads s o (v ++ u ++ r ++ b ∷ [])) (some_is _ _ h)
-    (subst (PartReads s (part.After (signed false (cut_size n)))) (sym (append_assoc (v ++ u) r (b ∷ []))) (after n v u (r ++ b ∷ []) t bs ds (blank_after r b es k)))
+    (subst (PartReads s (part.After (with_sign false (cut_size n)))) (sym (append_assoc (v ++ u) r (b ∷ []))) (after n v u (r ++ b ∷ []) t bs ds (blank_after r b es k)))
 part_blank s p q w b k (after_sign n v u r t bs ds es) h =
     subst (λ o. PartReads s o (v ++ 45 ∷ u ++ r ++ b ∷ [])) (some_is _ _ h)
-    (subst (PartReads s (part.After (signed true (cut_size n)))) (sym (append_assoc (v ++ 45 ∷ u) r (b ∷ []))) (after_sign n v u (r ++ b ∷ []) t bs ds (blank_after r b es k)))
+    (subst (PartReads s (part.After (with_sign true (cut_size n)))) (sym (append_assoc (v ++ 45 ∷ u) r (b ∷ []))) (after_sign n v u (r ++ b ∷ []) t bs ds (blank_after r b es k)))
 
-pub part_digit : (s : Slot) (p q : Part) (w : List ℕ) (b : ℕ) → IsTrue (takes_number s) → IsTrue (is_ascii_digit b) → PartReads s p w → part_after_digit p (b - 48) ≡ Some q → PartReads s q (w ++ b ∷ [])
+pub part_digit : (s : Slot) (p q : NumberSoFar) (w : List ℕ) (b : ℕ) → IsTrue (takes_number s) → IsTrue (is_ascii_digit b) → PartReads s p w → part_after_digit p (b - 48) ≡ Some q → PartReads s q (w ++ b ∷ [])
 part_digit s p q w b t k (waits v bs) h =
     subst (λ r. PartReads s r (v ++ b ∷ [])) (ap (part.Digits false) (sym (more_digits-zero (b - 48))) ∙ some_is _ _ h) (counts (b - 48) v (b ∷ []) t bs (one_digit b k))
 part_digit s p q w b t k (signs v g bs) h =
@@ -70,7 +70,7 @@ part_digit s p q w b t k (counts_down n v u g bs ds) h =
 part_digit s p q w b t k (after n v u r g bs ds es) h = cc
 part_digit s p q w b t k (after_sign n v u r g bs ds es) h = cc
 
-pub part_minus : (s : Slot) (p q : Part) (w : List ℕ) → IsTrue (takes_sign s) → PartReads s p w → part_after_minus p ≡ Some q → PartReads s q (w ++ 45 ∷ [])
+pub part_minus : (s : Slot) (p q : NumberSoFar) (w : List ℕ) → IsTrue (takes_sign s) → PartReads s p w → part_after_minus p ≡ Some q → PartReads s q (w ++ 45 ∷ [])
 part_minus s p q w t (waits v bs) h = subst (λ r. PartReads s r (v ++ 45 ∷ [])) (some_is _ _ h) (signs v t bs)
 part_minus s p q w t (signs v g bs) h = cc
 part_minus s p q w t (counts n v u g bs ds) h = cc
@@ -84,7 +84,7 @@ pub record ReadsField (x : Option ℤ) (w : List ℕ) : Type 0 where
   pub spelled : Field number w
   pub cut_is : cut_end number ≡ x
 
-pub field_of : (s : Slot) (p : Part) (x : Option ℤ) (w : List ℕ) → PartReads s p w → number_in p ≡ Some x → ReadsField x w
+pub field_of : (s : Slot) (p : NumberSoFar) (x : Option ℤ) (w : List ℕ) → PartReads s p w → number_in p ≡ Some x → ReadsField x w
 field_of s p x w (waits v bs) h = record { number = None; spelled = left_out v bs; cut_is = some_is _ _ h }
 field_of s p x w (signs v t bs) h = cc
 field_of s p x w (counts n v u t bs ds) h = record {
@@ -109,7 +109,7 @@ pub data ReadsSize : Option ℤ → List ℕ → Type 0 where
   no_size : (w : List ℕ) → Blanks w → ReadsSize None w
   a_size : (n : ℕ) (v u t : List ℕ) → Blanks v → Digits n u → Blanks t → ReadsSize (Some (pos (cut_size n))) (v ++ u ++ t)
 
-pub size_of : (p : Part) (x : Option ℤ) (w : List ℕ) → PartReads Size p w → number_in p ≡ Some x → ReadsSize x w
+pub size_of : (p : NumberSoFar) (x : Option ℤ) (w : List ℕ) → PartReads Size p w → number_in p ≡ Some x → ReadsSize x w
 size_of p x w (waits v bs) h = subst (λ y. ReadsSize y v) (some_is _ _ h) (no_size v bs)
 size_of p x w (signs v t bs) h = cc
 size_of p x w (counts n v u t bs ds) h =
@@ -119,7 +119,7 @@ size_of p x w (after n v u r t bs ds es) h = subst (λ y. ReadsSize y (v ++ u ++
 size_of p x w (after_sign n v u r t bs ds es) h = cc
 
 -- behind a closed bracket are blanks alone
-pub closed_of : (z : ℤ) (p : Part) (x : Option ℤ) (w : List ℕ) → PartReads (Bracketed z) p w → number_in p ≡ Some x → Blanks w × (x ≡ None)
+pub closed_of : (z : ℤ) (p : NumberSoFar) (x : Option ℤ) (w : List ℕ) → PartReads (Bracketed z) p w → number_in p ≡ Some x → Blanks w × (x ≡ None)
 closed_of z p x w (waits v bs) h = (bs, sym (some_is _ _ h))
 closed_of z p x w (signs v t bs) h = cc
 closed_of z p x w (counts n v u t bs ds) h = cc
@@ -128,7 +128,7 @@ closed_of z p x w (after n v u r t bs ds es) h = cc
 closed_of z p x w (after_sign n v u r t bs ds es) h = cc
 
 -- without a number there are blanks alone
-pub blanks_of : (s : Slot) (p : Part) (w : List ℕ) → PartReads s p w → number_in p ≡ Some None → Blanks w
+pub blanks_of : (s : Slot) (p : NumberSoFar) (w : List ℕ) → PartReads s p w → number_in p ≡ Some None → Blanks w
 blanks_of s p w (waits v bs) h = bs
 blanks_of s p w (signs v t bs) h = cc
 blanks_of s p w (counts n v u t bs ds) h = cc
@@ -169,7 +169,7 @@ size_arg : (x : Option ℤ) (a : SliceArg) (s w : List ℕ) → Blanks s → Rea
 size_arg x a s w bs (no_size v cs) h = record { arg = Dummy 1; spelled = star s v bs cs; cut_is = some_is _ _ h }
 size_arg x a s w bs (a_size n v u t cs ds es) h = record { arg = Dummy n; spelled = sized n s v u t bs cs ds es; cut_is = some_is _ _ h }
 
-pub arg_reads : (s : Slot) (p : Part) (x : Option ℤ) (a : SliceArg) (o v : List ℕ) → SlotReads s o → PartReads s p v → number_in p ≡ Some x → arg_of s x ≡ Some a → ReadsArg a (o ++ v)
+pub arg_reads : (s : Slot) (p : NumberSoFar) (x : Option ℤ) (a : SliceArg) (o v : List ℕ) → SlotReads s o → PartReads s p v → number_in p ≡ Some x → arg_of s x ≡ Some a → ReadsArg a (o ++ v)
 arg_reads s p x a o v single r h e =
     let f = field_of Single p x v r h in
     single_arg f.number a v f.spelled (ap (arg_of Single) f.cut_is ∙ e)

@@ -7,19 +7,19 @@ use Rattle.pdl_slices.specs.declared.reading.Kind.{Kind}
 use Rattle.pdl_slices.specs.declared.reading.Kind.TheVariants.{Blank, Digit, Minus, Close, Colon}
 use Rattle.pdl_slices.specs.declared.reading.Slot.{Slot}
 use Rattle.pdl_slices.specs.declared.reading.Slot.TheVariants.{Single, Bracket, Bracketed, Size, To, By}
-use Rattle.pdl_slices.specs.declared.reading.Part.{Part}
-use Rattle.pdl_slices.specs.declared.reading.Part.TheVariants as part
+use Rattle.pdl_slices.specs.declared.reading.NumberSoFar.{NumberSoFar}
+use Rattle.pdl_slices.specs.declared.reading.NumberSoFar.TheVariants as part
 use Rattle.pdl_slices.specs.declared.reading.Place.{Place}
 use Rattle.pdl_slices.specs.Grammar.{Blanks, no_blank, blank_after, Digits, one_digit, digit_after, Number, plain, minus, Field, left_out, given, Arg, nothing, one, dropped, colon, span, stepped, sized, star, Args, one_arg, arg_after}
-use Rattle.pdl_slices.specs.Reading.{kind_of, more_digits, signed, number_in, part_after_digit, takes_number, takes_sign, slot_after, arg_of, ended, Stage, first_place, stage_after, run, first_stage}
+use Rattle.pdl_slices.specs.SliceReading.{kind_of, more_digits, with_sign, number_in, part_after_digit, takes_number, takes_sign, slot_after, arg_of, ending_argument, Stage, first_place, stage_after, run, first_stage}
 use Rattle.pdl_slices.proofs.Cuts.{cut_size, cut, cut_end, cut_arg, cut-neg, more_digits-cut, more_digits-zero}
 use Rattle.pdl_slices.proofs.Bytes.{kind_of-blank, kind_of-digit}
 
 -- these arguments are done, and the next one is at this place
-abbrev pub stage : List SliceArg → Slot → Part → Stage
+abbrev pub stage : List SliceArg → Slot → NumberSoFar → Stage
 stage d s p = record { done = d; place = record { slot = s; part = p } }
 
-abbrev pub at : List SliceArg → Slot → Part → Option Stage
+abbrev pub at : List SliceArg → Slot → NumberSoFar → Option Stage
 at d s p = Some (stage d s p)
 
 pub run-None : (w : List ℕ) → run None w ≡ None
@@ -36,16 +36,16 @@ run-one s b k h = ap (stage_after s) h
 
 -- the machine has the number x, if any, after some of the text
 pub record Has (d : List SliceArg) (s : Slot) (x : Option ℤ) (o : Option Stage) : Type 0 where
-  pub last : Part
+  pub last : NumberSoFar
   pub reached : o ≡ at d s last
   pub holds : number_in last ≡ Some x
 
 -- a blank ends a number and keeps it
-blank_keeps : (d : List SliceArg) (s : Slot) (p : Part) (x : Option ℤ) → number_in p ≡ Some x
+blank_keeps : (d : List SliceArg) (s : Slot) (p : NumberSoFar) (x : Option ℤ) → number_in p ≡ Some x
     → Has d s x (stage_after (record { done = d; place = record { slot = s; part = p } }) Blank)
 blank_keeps d s part.Before x h = record { last = part.Before; reached = refl; holds = h }
 blank_keeps d s part.Minus x h = cc
-blank_keeps d s (part.Digits n z) x h = record { last = part.After (signed n z); reached = refl; holds = h }
+blank_keeps d s (part.Digits n z) x h = record { last = part.After (with_sign n z); reached = refl; holds = h }
 blank_keeps d s (part.After z) x h = record { last = part.After z; reached = refl; holds = h }
 
 -- blanks after a number, or before one, leave it
@@ -66,12 +66,12 @@ run-blanks_before d s w no_blank = refl
 run-blanks_before d s w (blank_after v b bs h) =
     run-append (at d s part.Before) v (b ∷ []) ∙ ap (λ q. run q (b ∷ [])) (run-blanks_before d s v bs) ∙ run-one (stage d s part.Before) b Blank (kind_of-blank b h)
 
-digit_moves : (d : List SliceArg) (s : Slot) (p : Part) (e : ℕ) (q : Part) → IsTrue (takes_number s) → part_after_digit p e ≡ Some q
+digit_moves : (d : List SliceArg) (s : Slot) (p : NumberSoFar) (e : ℕ) (q : NumberSoFar) → IsTrue (takes_number s) → part_after_digit p e ≡ Some q
     → stage_after (record { done = d; place = record { slot = s; part = p } }) (Digit e) ≡ at d s q
 digit_moves d s p e q t h = rw (t, h) refl
 
 -- digits after a sign or at the beginning of a number
-pub run-digits : (d : List SliceArg) (s : Slot) (p : Part) (neg : Bool) (n : ℕ) (w : List ℕ) → IsTrue (takes_number s)
+pub run-digits : (d : List SliceArg) (s : Slot) (p : NumberSoFar) (neg : Bool) (n : ℕ) (w : List ℕ) → IsTrue (takes_number s)
     → ((e : ℕ) → part_after_digit p e ≡ Some (part.Digits neg (more_digits 0 e))) → Digits n w
     → run (at d s p) w ≡ at d s (part.Digits neg (cut_size n))
 run-digits d s p neg n w t h (one_digit e k) =
@@ -119,7 +119,7 @@ run-field d s x w t (given z u v r bs n cs) =
 pub record Closes (d : List SliceArg) (a : SliceArg) (o : Option Stage) : Type 0 where
   pub place : Place
   pub reached : o ≡ Some (record { done = d; place = place })
-  pub ends : ended place ≡ Some a
+  pub ends : ending_argument place ≡ Some a
 
 pub closes_has : (d : List SliceArg) (s : Slot) (x : Option ℤ) (a : SliceArg) (o : Option Stage) → Has d s x o → arg_of s x ≡ Some a → Closes d a o
 closes_has d s x a o has e = record {

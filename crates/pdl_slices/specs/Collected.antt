@@ -5,7 +5,7 @@ use Rattle.std.specs.List.{list_any}
 use Rattle.pdl_slices.specs.declared.SliceArg.{SliceArg}
 use Rattle.pdl_slices.specs.declared.reader.Reader.{Reader}
 use Rattle.pdl_slices.specs.Refusals.{has_large_number, has_zero_step}
-use Rattle.pdl_slices.specs.Reading.{Stage}
+use Rattle.pdl_slices.specs.SliceReading.{Stage}
 
 -- the reader has taken these arguments
 pub record Collects (done : List SliceArg) (r : Reader) : Type 0 where

@@ -1,5 +1,5 @@
 pub mod Grammar
 pub mod Refusals
-pub mod Reading
+pub mod SliceReading
 pub mod Collected
 pub mod Meaning

@@ -5,7 +5,7 @@ use Rattle.pdl_slices.specs.declared.SliceArg.{SliceArg}
 use Rattle.pdl_slices.specs.declared.SliceFault.{SliceFault}
 use Rattle.pdl_slices.specs.declared.SliceFault.TheVariants.{BadText}
 use Rattle.pdl_slices.specs.Refusals.{refusal, Means}
-use Rattle.pdl_slices.specs.Reading.{Stage, first_stage, stage_after, kind_of, finished}
+use Rattle.pdl_slices.specs.SliceReading.{Stage, first_stage, stage_after, kind_of, finished}
 
 -- the first refusal, or else the arguments
 abbrev pub judged : Option SliceFault → List SliceArg → Result (List SliceArg) SliceFault

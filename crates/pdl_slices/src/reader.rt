@@ -3,11 +3,11 @@
 ghost use Rattle.std.specs.Prelude.{◌≡◌, [], ◌∷◌, ◌++◌, List, IfOk, OnOk};
 ghost use Rattle.pdl_slices.specs.Collected.{Holds, Collects, Takes, Ends};
 ghost use Rattle.pdl_slices.specs.Meaning.{verdict_on};
-ghost use Rattle.pdl_slices.specs.Reading.{Stage, stage_after, kind_of, finished, fitted, is_first, first_stage};
+ghost use Rattle.pdl_slices.specs.SliceReading.{Stage, stage_after, kind_of, finished, fitted, is_first, first_stage};
 ghost use Rattle.pdl_slices.specs.Refusals.{has_zero_step};
 ghost use Rattle.pdl_slices.specs.declared.SliceArg.{SliceArg};
 
-use crate::reading::{Kind, Part, Place, Slot, TooLarge, ended, is_first, kind_of, moved};
+use crate::reading::{Kind, NumberSoFar, Place, Slot, TooLarge, ending_argument, is_first, kind_of, moved};
 use crate::{SliceArg, SliceArgs, SliceFault};
 use std::alloc::{AllocError, Global};
 
@@ -17,7 +17,7 @@ const MOST: u32 = 32;
 /// An argument begins.
 const FIRST_PLACE: Place = Place {
     slot: Slot::Single,
-    part: Part::Before,
+    part: NumberSoFar::Before,
 };
 
 #[derive(Drop)]
@@ -83,7 +83,7 @@ impl Reader {
         ensures { IfOk result (λ fits. (s : Stage) → Holds s self.old →
             Takes fits (stage_after s Kind.Comma) self.new) }
     {
-        match ended(self.place) {
+        match ending_argument(self.place) {
             None => Ok(false),
             Some(arg) => {
                 self.add(arg)?;

@@ -1,7 +1,7 @@
 //! Where the reader of slice texts stands, and how one byte moves it.
 
 ghost use Rattle.std.specs.Prelude.{◌≡◌, option_map, nat_abs};
-ghost use Rattle.pdl_slices.specs.Reading.{kind_of, more_digits, signed, number_in, part_after_blank, part_after_digit, part_after_minus, takes_number, takes_sign, slot_after, arg_of, moved, ended, fitted, fitted_number, fitted_size, fitted_end, in_slot, is_first};
+ghost use Rattle.pdl_slices.specs.SliceReading.{kind_of, more_digits, with_sign, number_in, part_after_blank, part_after_digit, part_after_minus, takes_number, takes_sign, slot_after, arg_of, moved, ending_argument, fitted, fitted_number, fitted_size, fitted_end, in_slot, is_first};
 
 use crate::SliceArg;
 
@@ -38,7 +38,7 @@ pub enum Slot {
 
 /// How far a number is read.
 #[derive(Clone, Copy)]
-pub enum Part {
+pub enum NumberSoFar {
     /// Not begun.
     Before,
     /// Its `-`.
@@ -53,7 +53,7 @@ pub enum Part {
 #[derive(Clone, Copy)]
 pub struct Place {
     pub slot: Slot,
-    pub part: Part,
+    pub part: NumberSoFar,
 }
 
 /// A number's size is above 2147483647.
@@ -85,8 +85,8 @@ fn more_digits(size: u32, digit: u8) -> u32
     (10 * u64::from(size) + u64::from(digit)).min(u64::from(TOO_LARGE)) as u32
 }
 
-fn signed(negative: bool, size: u32) -> i64
-    ensures { result ≡ signed negative size }
+fn with_sign(negative: bool, size: u32) -> i64
+    ensures { result ≡ with_sign negative size }
 {
     if negative {
         -i64::from(size)
@@ -96,53 +96,53 @@ fn signed(negative: bool, size: u32) -> i64
 }
 
 /// The number that the part holds, if any; nothing where it isn't whole.
-fn number_in(part: Part) -> Option<Option<i64>>
+fn number_in(part: NumberSoFar) -> Option<Option<i64>>
     ensures { result ≡ number_in part }
 {
     match part {
-        Part::Before => Some(None),
-        Part::Minus => None,
-        Part::Digits { negative, size } => Some(Some(signed(negative, size))),
-        Part::After(number) => Some(Some(number)),
+        NumberSoFar::Before => Some(None),
+        NumberSoFar::Minus => None,
+        NumberSoFar::Digits { negative, size } => Some(Some(with_sign(negative, size))),
+        NumberSoFar::After(number) => Some(Some(number)),
     }
 }
 
-fn part_after_blank(part: Part) -> Option<Part>
+fn part_after_blank(part: NumberSoFar) -> Option<NumberSoFar>
     ensures { result ≡ part_after_blank part }
 {
     match part {
-        Part::Before => Some(Part::Before),
-        Part::Minus => None,
-        Part::Digits { negative, size } => Some(Part::After(signed(negative, size))),
-        Part::After(number) => Some(Part::After(number)),
+        NumberSoFar::Before => Some(NumberSoFar::Before),
+        NumberSoFar::Minus => None,
+        NumberSoFar::Digits { negative, size } => Some(NumberSoFar::After(with_sign(negative, size))),
+        NumberSoFar::After(number) => Some(NumberSoFar::After(number)),
     }
 }
 
-fn part_after_digit(part: Part, digit: u8) -> Option<Part>
+fn part_after_digit(part: NumberSoFar, digit: u8) -> Option<NumberSoFar>
     ensures { result ≡ part_after_digit part digit }
 {
     match part {
-        Part::Before => Some(Part::Digits {
+        NumberSoFar::Before => Some(NumberSoFar::Digits {
             negative: false,
             size: more_digits(0, digit),
         }),
-        Part::Minus => Some(Part::Digits {
+        NumberSoFar::Minus => Some(NumberSoFar::Digits {
             negative: true,
             size: more_digits(0, digit),
         }),
-        Part::Digits { negative, size } => Some(Part::Digits {
+        NumberSoFar::Digits { negative, size } => Some(NumberSoFar::Digits {
             negative,
             size: more_digits(size, digit),
         }),
-        Part::After(_) => None,
+        NumberSoFar::After(_) => None,
     }
 }
 
-fn part_after_minus(part: Part) -> Option<Part>
+fn part_after_minus(part: NumberSoFar) -> Option<NumberSoFar>
     ensures { result ≡ part_after_minus part }
 {
     match part {
-        Part::Before => Some(Part::Minus),
+        NumberSoFar::Before => Some(NumberSoFar::Minus),
         _ => None,
     }
 }
@@ -186,7 +186,7 @@ pub fn moved(place: Place, kind: Kind) -> Option<Place>
             let slot = slot_after(slot, number_in(part)?, kind)?;
             Some(Place {
                 slot,
-                part: Part::Before,
+                part: NumberSoFar::Before,
             })
         }
     }
@@ -196,10 +196,10 @@ pub fn moved(place: Place, kind: Kind) -> Option<Place>
 pub fn is_first(place: Place) -> bool
     ensures { result ≡ is_first place }
 {
-    matches!((place.slot, place.part), (Slot::Single, Part::Before))
+    matches!((place.slot, place.part), (Slot::Single, NumberSoFar::Before))
 }
 
-fn in_slot(slot: Slot, part: Option<Part>) -> Option<Place>
+fn in_slot(slot: Slot, part: Option<NumberSoFar>) -> Option<Place>
     ensures { result ≡ in_slot slot part }
 {
     let part = part?;
@@ -281,8 +281,8 @@ fn arg_of(slot: Slot, number: Option<i64>) -> Option<Result<SliceArg, TooLarge>>
 }
 
 /// The argument that ends at a place, if one may end there.
-pub fn ended(place: Place) -> Option<Result<SliceArg, TooLarge>>
-    ensures { result ≡ option_map fitted (ended place) }
+pub fn ending_argument(place: Place) -> Option<Result<SliceArg, TooLarge>>
+    ensures { result ≡ option_map fitted (ending_argument place) }
 {
     arg_of(place.slot, number_in(place.part)?)
 }

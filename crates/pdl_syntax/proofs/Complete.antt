@@ -18,7 +18,7 @@ use Rattle.pdl_lexemes.specs.Laws.{ListsAreRead}
 use Rattle.pdl_lexemes.specs.Peeks.{after, method_at, prefix_at, quoted_at, type_at}
 use Rattle.pdl_syntax.specs.Tree.{Tree, Args, number, named, unary, binary, call, none, value, text, of_type}
 use Rattle.pdl_syntax.specs.Grammar.{Spells, Part, an_expr, a_postfix, a_primary, an_arg, some_args, closed_args, maybe_args, level_of, many, literal_of, same, joined, once, negated, prefixed, plain, bare, method, a_number, a_name, list, round_list, called, round, a_value, a_text, a_type, one, more, no_args, all_args, without, within}
-use Rattle.pdl_syntax.specs.Reading.{whole, operator_at, limit_of, literal_at, chain_at, arg_at, more_at, closed_at, maybe_at, primary_at, methods_at, postfix_at, unary_at, level_at, reader}
+use Rattle.pdl_syntax.specs.ExpressionReading.{expression, operator_at, limit_of, literal_at, chain_at, arg_at, more_at, closed_at, maybe_at, primary_at, methods_at, postfix_at, unary_at, level_at, reader}
 use Rattle.pdl_syntax.proofs.Peeks.{operator_here, operator_other}
 use Rattle.pdl_syntax.proofs.Turns.{chain_stop_at, chain_turn_at, methods_stop, methods_turn, more_stop, more_turn}
 
@@ -277,12 +277,12 @@ module _ (lists : ListsAreRead) (source : List ℕ) where
   read_round (suc m) t ts rest h le = rw (finished 7 t ts (Close ∷ rest) h m (omega arith) (ends_close 7 rest))
 
   pub read_whole : (n : ℕ) (t : Tree) (ts rest : List Lexeme) → Complete (an_expr 7 t) ts rest → length ts < n → Ends 7 rest →
-      reader source n whole ts ≡ Some (t, rest)
+      reader source n expression ts ≡ Some (t, rest)
   unfolding reader
   read_whole zero t ts rest h le e = absurd (omega arith)
   read_whole (suc m) t ts rest h le e = finished 7 t ts rest h m (omega arith) e
 
-  read_value : (n : ℕ) (front : Args) (t : Tree) (ts rest : List Lexeme) → Opening ts → reader source n whole ts ≡ Some (t, rest) →
+  read_value : (n : ℕ) (front : Args) (t : Tree) (ts rest : List Lexeme) → Opening ts → reader source n expression ts ≡ Some (t, rest) →
       arg_at source (reader source n) front ts ≡ Some (value front t, rest)
   unfolding arg_at
   read_value n front t ts rest b h = rw b.quoted (rw b.typed (rw h))

@@ -3,7 +3,7 @@ use Rattle.std.proofs.Common.{◌≡◌, ℕ, zero, suc, ◌≤◌, List, false,
 use Rattle.pdl_lexemes.specs.declared.Lexeme.{Lexeme}
 use Rattle.pdl_lexemes.specs.Peeks.{Read, prefix_at}
 use Rattle.pdl_syntax.specs.Tree.{Tree}
-use Rattle.pdl_syntax.specs.Reading.{Kind, operator_at, begins_operator, limit_of, chain_at, postfix_at, unary_at, level_at, grown_at}
+use Rattle.pdl_syntax.specs.ExpressionReading.{Kind, operator_at, begins_operator, limit_of, chain_at, postfix_at, unary_at, level_at, grown_at}
 use Rattle.pdl_syntax.proofs.Turns.{chain_stop_at}
 use Rattle.pdl_syntax.proofs.Peeks.{no_operator}
 

@@ -11,7 +11,7 @@ use Rattle.pdl_syntax.specs.declared.parser.ParseFault.TheVariants.{TooDeep, Num
 use Rattle.pdl_syntax.specs.declared.tree.Statement.{Statement}
 use Rattle.pdl_syntax.specs.Laws.{TokensAreParsed, LiteralsAreArrays}
 use Rattle.pdl_syntax.specs.Parsed.{unless_ragged, checked_lexemes, parsed, IsParsed}
-use Rattle.pdl_syntax.specs.Reading.{reader}
+use Rattle.pdl_syntax.specs.ExpressionReading.{reader}
 use Rattle.pdl_syntax.specs.Refusals.{NoStatement, too_deep, number_too_large, not_spelled, ragged_list, Means, Answers}
 use Rattle.pdl_syntax.specs.StatementTree.{StatementTree, statement_of}
 use Rattle.pdl_syntax.specs.StatementReading.{statement_at, read_statement}

@@ -11,7 +11,7 @@ use Rattle.pdl_lexemes.specs.declared.Lexeme.{Lexeme}
 use Rattle.pdl_lexemes.specs.declared.Lexeme.TheVariants.{Word, Quoted, Open, Arrow, Operator}
 use Rattle.pdl_syntax.proofs.Options.{some_inj, none_some, then_elim}
 use Rattle.pdl_lexemes.specs.Peeks.{Read, after, method_at, quoted_at, type_at, type_step, word_at}
-use Rattle.pdl_syntax.specs.Reading.{operator_at, begins_operator}
+use Rattle.pdl_syntax.specs.ExpressionReading.{operator_at, begins_operator}
 use Rattle.pdl_syntax.specs.Grammar.{level_of}
 
 same_is : (a b : Lexeme) → lexeme.ghosts.eq a b ≡ true → b ≡ a

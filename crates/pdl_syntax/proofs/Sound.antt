@@ -16,12 +16,12 @@ use Rattle.pdl_lexemes.specs.Laws.{ListsAreRead}
 use Rattle.pdl_lexemes.specs.Peeks.{Read, after, method_at, prefix_at, quoted_at, type_at}
 use Rattle.pdl_syntax.specs.Tree.{Tree, Args, unary, binary, call, none, value, text, of_type}
 use Rattle.pdl_syntax.specs.Grammar.{Spells, Part, an_expr, a_postfix, a_primary, an_arg, some_args, closed_args, maybe_args, many, same, joined, once, negated, prefixed, plain, bare, method, a_number, a_name, list, round_list, called, round, a_value, a_text, a_type, one, more, no_args, all_args, without, within}
-use Rattle.pdl_syntax.specs.Reading.{Kind, whole, operand, operator_at, limit_of, tree_of_list, round_list_at, literal_at, number_before, chain_at, value_at, typed_at, arg_at, more_at, close_at, filled_at, closed_at, maybe_at, round_at, call_at, primary_at, methods_at, postfix_at, unary_at, level_at, reader}
+use Rattle.pdl_syntax.specs.ExpressionReading.{Kind, expression, operand, operator_at, limit_of, tree_of_list, round_list_at, literal_at, number_before, chain_at, value_at, typed_at, arg_at, more_at, close_at, filled_at, closed_at, maybe_at, round_at, call_at, primary_at, methods_at, postfix_at, unary_at, level_at, reader}
 use Rattle.pdl_syntax.proofs.Peeks.{after_is, quoted_is, operator_is, method_is, type_is}
 
 -- what each kind of reading spells
 abbrev pub part_of : Kind → Tree → Part
-part_of whole t = an_expr 7 t
+part_of expression t = an_expr 7 t
 part_of operand t = an_expr 0 t
 
 module _ (lists : ListsAreRead) (source : List ℕ) where
@@ -50,8 +50,8 @@ module _ (lists : ListsAreRead) (source : List ℕ) where
       (sound : (kind : Kind) (ts : List Lexeme) (x : Tree × List Lexeme) → f kind ts ≡ Some x → Taken (part_of kind) ts x) where
     value_sound : (front : Args) (ts : List Lexeme) (x : Args × List Lexeme) → value_at source f front ts ≡ Some x → TakenArgs (an_arg front) ts x
     value_sound front ts x e =
-        map_elim (TakenArgs (an_arg front) ts x) (λ y. (value front y.0, y.1)) (f whole ts) e
-        (λ y h is. subst (TakenArgs (an_arg front) ts) is (a_value (sound whole ts y h)))
+        map_elim (TakenArgs (an_arg front) ts x) (λ y. (value front y.0, y.1)) (f expression ts) e
+        (λ y h is. subst (TakenArgs (an_arg front) ts) is (a_value (sound expression ts y h)))
 
     typed_sound : (front : Args) (ts : List Lexeme) (x : Args × List Lexeme) → typed_at source f front ts ≡ Some x → TakenArgs (an_arg front) ts x
     typed_sound front ts x e =
@@ -106,9 +106,9 @@ module _ (lists : ListsAreRead) (source : List ℕ) where
 
     round_sound : (ts : List Lexeme) (x : Tree × List Lexeme) → round_at source f ts ≡ Some x → Taken a_primary (Open ∷ ts) x
     round_sound ts x e =
-        then_elim (Taken a_primary (Open ∷ ts) x) (λ y. option_map (λ us. (y.0, us)) (after Close y.1)) (f whole ts) e
+        then_elim (Taken a_primary (Open ∷ ts) x) (λ y. option_map (λ us. (y.0, us)) (after Close y.1)) (f expression ts) e
         (λ y h k. map_elim (Taken a_primary (Open ∷ ts) x) (λ us. (y.0, us)) (after Close y.1) k
-        (λ us c is. subst (Taken a_primary (Open ∷ ts)) is (round (subst (Spells source (an_expr 7 y.0) ts) (after_is Close y.1 c) (sound whole ts y h)))))
+        (λ us c is. subst (Taken a_primary (Open ∷ ts)) is (round (subst (Spells source (an_expr 7 y.0) ts) (after_is Close y.1 c) (sound expression ts y h)))))
 
     call_sound : (kind : WordKind) (w : Span) (ts : List Lexeme) (x : Tree × List Lexeme) → call_at source f w ts ≡ Some x → Taken a_primary (Word kind w ∷ ts) x
     call_sound kind w ts x e =
@@ -219,5 +219,5 @@ module _ (lists : ListsAreRead) (source : List ℕ) where
   pub reader_sound_expr : (n : ℕ) (kind : Kind) (ts : List Lexeme) (x : Tree × List Lexeme) → reader source n kind ts ≡ Some x → Taken (part_of kind) ts x
   unfolding reader
   reader_sound_expr zero kind ts x e = absurd (none_some e)
-  reader_sound_expr (suc n) whole ts x e = level_sound (reader source n) (reader_sound_expr n) 7 ts x e
+  reader_sound_expr (suc n) expression ts x e = level_sound (reader source n) (reader_sound_expr n) 7 ts x e
   reader_sound_expr (suc n) operand ts x e = unary_sound (reader source n) (reader_sound_expr n) ts x e

@@ -17,10 +17,10 @@ use Rattle.pdl_syntax.proofs.Options.{some_inj, then_elim}
 use Rattle.pdl_lexemes.specs.Peeks.{Read, after, after_keyword, after_reshape, after_label, begins_word, is_brackets, prefix_at, quoted_at, slot_at, view_at}
 use Rattle.pdl_syntax.specs.Tree.{Tree, Args, call, none, value}
 use Rattle.pdl_syntax.specs.Grammar.{Spells, an_expr, a_postfix, called}
-use Rattle.pdl_syntax.specs.Reading.{Kind, maybe_at, closed_at, primary_at, methods_at, postfix_at, grown_at, reader}
+use Rattle.pdl_syntax.specs.ExpressionReading.{Kind, maybe_at, closed_at, primary_at, methods_at, postfix_at, grown_at, reader}
 use Rattle.pdl_syntax.specs.StatementTree.{StatementTree, View, bind, bind_list, assign, show, show_text, sever, reshape, vars, pp_def, watch, unwatch}
 use Rattle.pdl_syntax.specs.Statements.{SpellsBrackets, no_brackets, brackets, SpellsNames, one_name, more_names, SpellsViews, no_views, one_view, SpellsText, plain_text, labelled, SpellsCalled, by_word, by_method, SpellsBinding, binds_value, binds_severed, binds_names, SpellsStatement, binds, my_binds, assigns, shows_text, shows, shows_info, severs, reshapes, undefs, lists_names, defines, watches, unwatches}
-use Rattle.pdl_syntax.specs.StatementReading.{at_end, texts_at, code_at, define_at, undef_at, watch_at, names_at, all_names_at, ended_at, behind_at, valued_at, called_step, called_at, bind_at, bind_list_at, views_at, assignment_at, named_at, binding_at, show_at, statement_at, read_statement}
+use Rattle.pdl_syntax.specs.StatementReading.{at_end, texts_at, code_at, define_at, undef_at, watch_at, names_at, all_names_at, expression_to_end_at, behind_at, valued_at, called_step, called_at, bind_at, bind_list_at, views_at, assignment_at, statement_of_name_at, binding_at, show_at, statement_at, read_statement}
 use Rattle.pdl_syntax.proofs.Turns.{methods_stop, methods_turn}
 use Rattle.pdl_syntax.proofs.Complete.{Ends, ends_nothing, Methods, complete, finished, read_whole, read_postfix, begins, shorter}
 use Rattle.pdl_syntax.proofs.StatementSound.{after_keyword_is, statement_sound}
@@ -94,8 +94,8 @@ module _ (lists : ListsAreRead) (source : List ℕ) (n : ℕ) where
   abbrev f : Kind → List Lexeme → Read Tree
   f = reader source n
 
-  ended_complete : (t : Tree) (ts : List Lexeme) → length ts < n → Spells source (an_expr 7 t) ts [] → ended_at source f ts ≡ Some t
-  unfolding ended_at
+  ended_complete : (t : Tree) (ts : List Lexeme) → length ts < n → Spells source (an_expr 7 t) ts [] → expression_to_end_at source f ts ≡ Some t
+  unfolding expression_to_end_at
   ended_complete t ts lt h = rw (read_whole lists source n t ts [] (complete lists source h) lt (ends_nothing 7))
 
   not_empty : (a b : Tree) (t : Lexeme) (us : List Lexeme) → ◌≡◌ {A = Read Tree} (Some (a, [])) (Some (b, t ∷ us)) → ⊥
@@ -118,7 +118,7 @@ module _ (lists : ListsAreRead) (source : List ℕ) (n : ℕ) where
   value_complete word t ts lt h = of_prefix (prefix_at ts) refl
     where
       of_prefix : (o : Option (UnaryOp × List Lexeme)) → prefix_at ts ≡ o →
-          choose (option_and_then (behind_at source f word) (postfix_at source f ts)) (λ p. option_map {U = Tree × Bool} (λ u. (u, false)) (ended_at source f ts)) o ≡ Some (t, false)
+          choose (option_and_then (behind_at source f word) (postfix_at source f ts)) (λ p. option_map {U = Tree × Bool} (λ u. (u, false)) (expression_to_end_at source f ts)) o ≡ Some (t, false)
       of_prefix (Some p) e = ap (option_map {U = Tree × Bool} (λ u. (u, false))) (ended_complete t ts lt h)
       of_prefix None e =
           then_elim (option_and_then (behind_at source f word) (postfix_at source f ts) ≡ Some (t, false)) (λ x. grown_at source f 7 x.0 x.1) (postfix_at source f ts)
@@ -181,7 +181,7 @@ module _ (lists : ListsAreRead) (source : List ℕ) (n : ℕ) where
     alone : statement_at source f ts ≡ Some s
 
   bound_name : (w : Span) (ts : List Lexeme) (s : StatementTree) → bind_at source f (bytes_at source w) ts ≡ Some s → Bound s (Name w ∷ Equals ∷ ts)
-  unfolding binding_at statement_at named_at
+  unfolding binding_at statement_at statement_of_name_at
   bound_name w ts s h = record { behind_my = h; alone = h }
 
   bound_list : (ts : List Lexeme) (s : StatementTree) → bind_list_at source f ts ≡ Some s → Bound s (Open ∷ ts)
@@ -252,22 +252,22 @@ module _ (lists : ListsAreRead) (source : List ℕ) (n : ℕ) where
       next_view front views w args ts us rest (views_complete h le refl) (complete lists source k n (omega arith) e) (shorter lists k)
 
   assignment_read : (name : List ℕ) (views : List View) (op : AssignOp) (t : Tree) (ts us : List Lexeme) →
-      views_at source f (length ts) [] ts ≡ Some (views, Assign op ∷ us) → ended_at source f us ≡ Some t → assignment_at source f name ts ≡ Some (assign name views op t)
+      views_at source f (length ts) [] ts ≡ Some (views, Assign op ∷ us) → expression_to_end_at source f us ≡ Some t → assignment_at source f name ts ≡ Some (assign name views op t)
   unfolding assignment_at
   assignment_read name views op t ts us h k = rw h (rw k)
 
   named_assignment : (w : Span) (ts : List Lexeme) (s : StatementTree) → Viewing ts → assignment_at source f (bytes_at source w) ts ≡ Some s →
       statement_at source f (Name w ∷ ts) ≡ Some s
-  unfolding statement_at named_at
+  unfolding statement_at statement_of_name_at
   named_assignment w ts s v h = rw v.equals (rw v.severs' (rw v.reshapes' h))
 
   named_sever : (w : Span) (us : List Lexeme) → is_brackets us ≡ true → statement_at source f (Name w ∷ Arrow ∷ Keyword Sever ∷ us) ≡ Some (sever (bytes_at source w))
-  unfolding statement_at named_at
+  unfolding statement_at statement_of_name_at
   named_sever w us b = rw b
 
   named_reshape : (w : Span) (args : Args) (ts : List Lexeme) → closed_at source f none ts ≡ Some (args, []) →
       statement_at source f (Name w ∷ Arrow ∷ Keyword Reshape ∷ Open ∷ ts) ≡ Some (reshape (bytes_at source w) args)
-  unfolding statement_at named_at
+  unfolding statement_at statement_of_name_at
   named_reshape w args ts h = rw h
 
   my_read : (ts : List Lexeme) (s : StatementTree) → binding_at source f ts ≡ Some s → statement_at source f (Keyword My ∷ ts) ≡ Some s

@@ -15,10 +15,10 @@ use Rattle.pdl_lexemes.specs.Laws.{ListsAreRead}
 use Rattle.pdl_lexemes.specs.Peeks.{Read, after, after_keyword, after_reshape, after_label, assign_at, begins_word, is_brackets, name_at, prefix_at, quoted_at, slot_at, view_at, view_word}
 use Rattle.pdl_syntax.specs.Tree.{Tree, none, value}
 use Rattle.pdl_syntax.specs.Grammar.{Spells, an_expr, a_postfix, a_primary, closed_args, maybe_args, bare, method, a_number, a_name, list, round_list, called, round}
-use Rattle.pdl_syntax.specs.Reading.{Kind, whole, maybe_at, closed_at, primary_at, methods_at, postfix_at, level_at, grown_at, reader}
+use Rattle.pdl_syntax.specs.ExpressionReading.{Kind, expression, maybe_at, closed_at, primary_at, methods_at, postfix_at, level_at, grown_at, reader}
 use Rattle.pdl_syntax.specs.StatementTree.{StatementTree, View, bind, bind_list, assign, show, show_text, sever, reshape, undef, vars, watch, unwatch}
 use Rattle.pdl_syntax.specs.Statements.{SpellsBrackets, no_brackets, brackets, SpellsNames, one_name, more_names, SpellsViews, no_views, one_view, SpellsText, plain_text, labelled, SpellsCalled, by_word, by_method, SpellsBinding, binds_value, binds_severed, binds_names, SpellsStatement, binds, my_binds, assigns, shows_text, shows, shows_info, severs, reshapes, undefs, lists_names, defines, watches, unwatches}
-use Rattle.pdl_syntax.specs.StatementReading.{at_end, texts_at, code_at, signature_at, define_at, undef_at, watch_at, names_at, all_names_at, ended_at, behind_at, valued_at, called_step, called_at, bind_at, bind_names, bind_list_at, views_at, assign_value, assignment_at, reshape_at, sever_at, named_at, bind_name, binding_at, value_at, show_at, statement_at}
+use Rattle.pdl_syntax.specs.StatementReading.{at_end, texts_at, code_at, signature_at, define_at, undef_at, watch_at, names_at, all_names_at, expression_to_end_at, behind_at, valued_at, called_step, called_at, bind_at, bind_names, bind_list_at, views_at, assign_value, assignment_at, reshape_at, sever_at, statement_of_name_at, bind_name, binding_at, value_at, show_at, statement_at}
 use Rattle.pdl_syntax.proofs.Peeks.{after_is, quoted_is}
 use Rattle.pdl_syntax.proofs.Sound.{closed_sound, maybe_sound, primary_sound, methods_sound, postfix_sound, level_sound, reader_sound_expr}
 use Rattle.pdl_syntax.proofs.Growing.{level_grown}
@@ -190,12 +190,12 @@ module _ (lists : ListsAreRead) (source : List ℕ) (n : ℕ) where
   abbrev f : Kind → List Lexeme → Read Tree
   f = reader source n
 
-  ended_sound : (ts : List Lexeme) (t : Tree) → ended_at source f ts ≡ Some t → Spells source (an_expr 7 t) ts []
-  unfolding ended_at
+  ended_sound : (ts : List Lexeme) (t : Tree) → expression_to_end_at source f ts ≡ Some t → Spells source (an_expr 7 t) ts []
+  unfolding expression_to_end_at
   ended_sound ts t e =
-      then_elim (Spells source (an_expr 7 t) ts []) (λ x. at_end x.0 x.1) (f whole ts) e
+      then_elim (Spells source (an_expr 7 t) ts []) (λ x. at_end x.0 x.1) (f expression ts) e
       (λ x h k. let end = end_is x.0 x.1 k in
-      subst (λ u. Spells source (an_expr 7 u) ts []) end.same (subst (Spells source (an_expr 7 x.0) ts) end.empty (reader_sound_expr lists source n whole ts x h)))
+      subst (λ u. Spells source (an_expr 7 u) ts []) end.same (subst (Spells source (an_expr 7 x.0) ts) end.empty (reader_sound_expr lists source n expression ts x h)))
 
   -- a postfix form stands before an arrow, this word and the end
   pub record Before (word : AnyKeyword) (ts : List Lexeme) (t : Tree) : Type 0 where
@@ -234,9 +234,9 @@ module _ (lists : ListsAreRead) (source : List ℕ) (n : ℕ) where
   valued_sound : (word : AnyKeyword) (ts : List Lexeme) (x : Tree × Bool) → valued_at source f word ts ≡ Some x → Valued word ts x.0 x.1
   unfolding valued_at
   valued_sound word ts x e =
-      choose_elim (Valued word ts x.0 x.1) (option_and_then (behind_at source f word) (postfix_at source f ts)) (λ p. option_map (λ t. (t, false)) (ended_at source f ts)) (prefix_at ts) e
+      choose_elim (Valued word ts x.0 x.1) (option_and_then (behind_at source f word) (postfix_at source f ts)) (λ p. option_map (λ t. (t, false)) (expression_to_end_at source f ts)) (prefix_at ts) e
       (λ plain' h. then_elim (Valued word ts x.0 x.1) (behind_at source f word) (postfix_at source f ts) h (λ y g k. behind_sound word ts y x plain' g k))
-      (λ p some h. map_elim (Valued word ts x.0 x.1) (λ t. (t, false)) (ended_at source f ts) h
+      (λ p some h. map_elim (Valued word ts x.0 x.1) (λ t. (t, false)) (expression_to_end_at source f ts) h
       (λ t g same. subst (λ z. Valued word ts z.0 z.1) same (ended_sound ts t g)))
 
   called_primary : {t : Tree} {ts rest : List Lexeme} → Spells source (a_primary t) ts rest → begins_word ts ≡ true → rest ≡ [] → SpellsCalled source t ts
@@ -322,8 +322,8 @@ module _ (lists : ListsAreRead) (source : List ℕ) (n : ℕ) where
   unfolding assignment_at
   assignment_sound w ts s e =
       then_elim (Stated source (Name w ∷ ts) s) (assign_value source f (bytes_at source w)) (views_at source f (length ts) [] ts) e
-      (λ x h k. then_elim (Stated source (Name w ∷ ts) s) (λ a. option_map (assign (bytes_at source w) x.0 a.0) (ended_at source f a.1)) (assign_at x.1) k
-      (λ a l m. map_elim (Stated source (Name w ∷ ts) s) (assign (bytes_at source w) x.0 a.0) (ended_at source f a.1) m
+      (λ x h k. then_elim (Stated source (Name w ∷ ts) s) (λ a. option_map (assign (bytes_at source w) x.0 a.0) (expression_to_end_at source f a.1)) (assign_at x.1) k
+      (λ a l m. map_elim (Stated source (Name w ∷ ts) s) (assign (bytes_at source w) x.0 a.0) (expression_to_end_at source f a.1) m
       (λ t g same. subst (Stated source (Name w ∷ ts)) same
       (assigns (subst (SpellsViews source [] x.0 ts) (assign_is x.1 a l) (views_sound (length ts) [] ts ts x h no_views)) (ended_sound a.1 t g)))))
 
@@ -335,8 +335,8 @@ module _ (lists : ListsAreRead) (source : List ℕ) (n : ℕ) where
       subst (Stated source (Name w ∷ Arrow ∷ Keyword Reshape ∷ Open ∷ ts)) end.same
       (reshapes (subst (Spells source (closed_args none x.0) ts) end.empty (closed_sound lists source f (reader_sound_expr lists source n) none ts x h))))
 
-  named_sound : (w : Span) (ts : List Lexeme) (s : StatementTree) → named_at source f (bytes_at source w) ts ≡ Some s → Stated source (Name w ∷ ts) s
-  unfolding named_at
+  named_sound : (w : Span) (ts : List Lexeme) (s : StatementTree) → statement_of_name_at source f (bytes_at source w) ts ≡ Some s → Stated source (Name w ∷ ts) s
+  unfolding statement_of_name_at
   named_sound w ts s e =
       let name = bytes_at source w in
       choose_elim (Stated source (Name w ∷ ts) s)

@@ -8,7 +8,7 @@ use Rattle.pdl_lexemes.specs.declared.refusal.Refusal.TheVariants.{Refused, NoMe
 use Rattle.pdl_lexemes.specs.declared.Lexeme.TheVariants.{Comma}
 use Rattle.pdl_lexemes.specs.Peeks.{Read, after, name_at, view_at}
 use Rattle.pdl_syntax.specs.Tree.{Tree, Args, none}
-use Rattle.pdl_syntax.specs.Reading.{Kind, maybe_at}
+use Rattle.pdl_syntax.specs.ExpressionReading.{Kind, maybe_at}
 use Rattle.pdl_syntax.specs.StatementTree.{View}
 use Rattle.pdl_syntax.specs.StatementReading.{names_at, views_at}
 

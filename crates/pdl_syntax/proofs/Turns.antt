@@ -7,7 +7,7 @@ use Rattle.pdl_lexemes.specs.Bytes.{bytes_at}
 use Rattle.pdl_lexemes.specs.declared.Lexeme.TheVariants.{Comma}
 use Rattle.pdl_lexemes.specs.Peeks.{Read, after, method_at}
 use Rattle.pdl_syntax.specs.Tree.{Tree, Args, binary, call, value, none}
-use Rattle.pdl_syntax.specs.Reading.{Kind, operator_at, chain_at, methods_at, more_at, maybe_at, arg_at, level_at, grown_at, limit_of}
+use Rattle.pdl_syntax.specs.ExpressionReading.{Kind, operator_at, chain_at, methods_at, more_at, maybe_at, arg_at, level_at, grown_at, limit_of}
 
 pub one_less : (e c : ℕ) → c < e → e - c ≡ suc (e - (c + 1))
 one_less e c h = omega arith

@@ -1,7 +1,7 @@
 pub mod Tree
 pub mod TreeOf
 pub mod Grammar
-pub mod Reading
+pub mod ExpressionReading
 pub mod StatementTree
 pub mod Statements
 pub mod StatementReading

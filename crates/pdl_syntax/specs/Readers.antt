@@ -8,7 +8,7 @@ use Rattle.pdl_lexemes.specs.Peeks.{Read}
 use Rattle.pdl_syntax.specs.declared.reader.Reader.{Reader}
 use Rattle.pdl_syntax.specs.declared.tree.Arg.{Arg}
 use Rattle.pdl_syntax.specs.declared.tree.Expr.{Expr}
-use Rattle.pdl_syntax.specs.Reading.{Kind, reader}
+use Rattle.pdl_syntax.specs.ExpressionReading.{Kind, reader}
 use Rattle.pdl_syntax.specs.Tree.{Tree, Args, none}
 use Rattle.pdl_syntax.specs.TreeOf.{tree_of, args_of}
 

@@ -10,7 +10,7 @@ use Rattle.pdl_lexemes.specs.Bytes.{bytes_at}
 use Rattle.pdl_lexemes.specs.ListReading.{choose}
 use Rattle.pdl_lexemes.specs.Peeks.{Read, after, after_keyword, after_reshape, after_names, after_label, prefix_at, quoted_at, name_at, view_at, assign_at, slot_at, is_brackets, begins_word}
 use Rattle.pdl_syntax.specs.Tree.{Tree, none}
-use Rattle.pdl_syntax.specs.Reading.{Kind, whole, maybe_at, closed_at, primary_at, methods_at, postfix_at, grown_at, reader}
+use Rattle.pdl_syntax.specs.ExpressionReading.{Kind, expression, maybe_at, closed_at, primary_at, methods_at, postfix_at, grown_at, reader}
 use Rattle.pdl_syntax.specs.StatementTree.{StatementTree, View, bind, bind_list, assign, show, show_text, sever, reshape, undef, vars, pp_def, watch, unwatch}
 
 -- what there is where nothing follows
@@ -65,8 +65,8 @@ module _ (source : List ℕ) where
 
 module _ (source : List ℕ) (f : Kind → List Lexeme → Read Tree) where
   -- an expression up to the end
-  unfoldable pub ended_at : List Lexeme → Option Tree
-  ended_at ts = option_and_then (λ x. at_end x.0 x.1) (f whole ts)
+  unfoldable pub expression_to_end_at : List Lexeme → Option Tree
+  expression_to_end_at ts = option_and_then (λ x. at_end x.0 x.1) (f expression ts)
 
   -- what stands behind a postfix form: an arrow, this word and the end, or the rest of an
   -- expression up to the end; with the value, whether it's the first
@@ -80,7 +80,7 @@ module _ (source : List ℕ) (f : Kind → List Lexeme → Read Tree) where
   unfoldable pub valued_at : AnyKeyword → List Lexeme → Option (Tree × Bool)
   valued_at word ts =
       choose (option_and_then (behind_at word) (postfix_at source f ts)) (λ p.
-      option_map (λ t. (t, false)) (ended_at ts)) (prefix_at ts)
+      option_map (λ t. (t, false)) (expression_to_end_at ts)) (prefix_at ts)
 
   -- a call up to the end, by a word or by a method
   abbrev pub called_step : Bool → Tree × List Lexeme → Option Tree
@@ -113,7 +113,7 @@ module _ (source : List ℕ) (f : Kind → List Lexeme → Read Tree) where
 
   abbrev pub assign_value : List ℕ → List View × List Lexeme → Option StatementTree
   assign_value name x =
-      option_and_then (λ a. option_map (assign name x.0 a.0) (ended_at a.1)) (assign_at x.1)
+      option_and_then (λ a. option_map (assign name x.0 a.0) (expression_to_end_at a.1)) (assign_at x.1)
 
   unfoldable pub assignment_at : List ℕ → List Lexeme → Option StatementTree
   assignment_at name ts = option_and_then (assign_value name) (views_at (length ts) [] ts)
@@ -123,8 +123,8 @@ module _ (source : List ℕ) (f : Kind → List Lexeme → Read Tree) where
       (closed_at source f none ts)
 
   -- a statement that begins with a name
-  unfoldable pub named_at : List ℕ → List Lexeme → Option StatementTree
-  named_at name ts =
+  unfoldable pub statement_of_name_at : List ℕ → List Lexeme → Option StatementTree
+  statement_of_name_at name ts =
       choose
       (choose
       (choose (assignment_at name ts) (reshape_at name) (after_reshape ts))
@@ -159,7 +159,7 @@ module _ (source : List ℕ) (f : Kind → List Lexeme → Read Tree) where
   statement_at (Keyword Watch ∷ ts) = watch_at source ts
   statement_at (Keyword Unwatch ∷ ts) = option_map unwatch (slot_at ts)
   statement_at (Open ∷ ts) = bind_list_at ts
-  statement_at (Name w ∷ ts) = named_at (bytes_at source w) ts
+  statement_at (Name w ∷ ts) = statement_of_name_at (bytes_at source w) ts
   statement_at _ = None
 
 -- the statement that the lexemes of a text spell

@@ -5,7 +5,7 @@ ghost use Rattle.pdl_syntax.specs.Tree.{none};
 ghost use Rattle.pdl_syntax.specs.Readers.{reads, with_tree, with_args};
 ghost use Rattle.pdl_syntax.specs.TreeOf.{tree_of, args_of};
 ghost use Rattle.pdl_lexemes.specs.Answers.{Gives};
-ghost use Rattle.pdl_syntax.specs.Reading.{whole, operand, reader, number_before, level_at, grown_at, chain_at, limit_of, unary_at, postfix_at, methods_at, primary_at, call_at, round_at, arg_at, more_at, closed_at, maybe_at};
+ghost use Rattle.pdl_syntax.specs.ExpressionReading.{expression, operand, reader, number_before, level_at, grown_at, chain_at, limit_of, unary_at, postfix_at, methods_at, primary_at, call_at, round_at, arg_at, more_at, closed_at, maybe_at};
 ghost use Rattle.pdl_lexemes.specs.Lists.{signed};
 
 use crate::reader::Reader;
@@ -19,10 +19,10 @@ type Read<'a, T> = Result<(T, Lexemes<'a>), Refusal>;
 impl<'s> Reader<'s> {
     /// A whole expression in which at most `fuel` parts are open at once.
     #[cycle(parser)]
-    #[tactic(auto, unfolding(crate::specs::Reading::reader))]
-    pub fn whole<'a>(&self, tokens: &Lexemes<'a>) -> Read<'a, Expr>
+    #[tactic(auto, unfolding(crate::specs::ExpressionReading::reader))]
+    pub fn expression<'a>(&self, tokens: &Lexemes<'a>) -> Read<'a, Expr>
         ensures read { Gives with_tree result
-            (reader self.now.source.now self.now.fuel whole tokens.now) }
+            (reader self.now.source.now self.now.fuel expression tokens.now) }
     {
         if self.fuel == 0 {
             return Err(Refusal::Refused);
@@ -35,7 +35,7 @@ impl<'s> Reader<'s> {
     }
 
     #[cycle(parser)]
-    #[tactic(auto, unfolding(crate::specs::Reading::reader))]
+    #[tactic(auto, unfolding(crate::specs::ExpressionReading::reader))]
     fn operand<'a>(&self, tokens: &Lexemes<'a>) -> Read<'a, Expr>
         ensures read { Gives with_tree result
             (reader self.now.source.now self.now.fuel operand tokens.now) }
@@ -60,7 +60,7 @@ impl<'s> Reader<'s> {
     }
 
     #[cycle(parser)]
-    #[tactic(auto, unfolding(crate::specs::Reading::chain_at))]
+    #[tactic(auto, unfolding(crate::specs::ExpressionReading::chain_at))]
     fn chain<'a>(&self, below: u8, first: Expr, tokens: &Lexemes<'a>) -> Read<'a, Expr>
         requires level { below < 7 }
         ensures read { Gives with_tree result
@@ -85,7 +85,7 @@ impl<'s> Reader<'s> {
     /// An expression of a level whose first operand is read. Where no operator follows that the
     /// level takes, it is that operand, and no level between is gone through.
     #[cycle(parser)]
-    #[tactic(auto, unfolding(crate::specs::Reading::grown_at))]
+    #[tactic(auto, unfolding(crate::specs::ExpressionReading::grown_at))]
     pub fn grown<'a>(&self, level: u8, first: Expr, tokens: &Lexemes<'a>) -> Read<'a, Expr>
         requires level { level ≤ 7 }
         ensures read { Gives with_tree result
@@ -102,7 +102,7 @@ impl<'s> Reader<'s> {
     }
 
     #[cycle(parser)]
-    #[tactic(auto, unfolding(crate::specs::Reading::unary_at))]
+    #[tactic(auto, unfolding(crate::specs::ExpressionReading::unary_at))]
     fn unary<'a>(&self, tokens: &Lexemes<'a>) -> Read<'a, Expr>
         ensures read { Gives with_tree result (reads unary_at self.now tokens.now) }
     {
@@ -116,7 +116,7 @@ impl<'s> Reader<'s> {
     }
 
     #[cycle(parser)]
-    #[tactic(auto, unfolding(crate::specs::Reading::postfix_at))]
+    #[tactic(auto, unfolding(crate::specs::ExpressionReading::postfix_at))]
     pub fn postfix<'a>(&self, tokens: &Lexemes<'a>) -> Read<'a, Expr>
         ensures read { Gives with_tree result (reads postfix_at self.now tokens.now) }
     {
@@ -125,7 +125,7 @@ impl<'s> Reader<'s> {
     }
 
     #[cycle(parser)]
-    #[tactic(auto, unfolding(crate::specs::Reading::methods_at))]
+    #[tactic(auto, unfolding(crate::specs::ExpressionReading::methods_at))]
     pub fn methods<'a>(&self, first: Expr, tokens: &Lexemes<'a>) -> Read<'a, Expr>
         ensures read { Gives with_tree result
             (reads methods_at self.now (length tokens.now) (tree_of first) tokens.now) }
@@ -147,7 +147,7 @@ impl<'s> Reader<'s> {
     }
 
     #[cycle(parser)]
-    #[tactic(auto, unfolding(crate::specs::Reading::primary_at))]
+    #[tactic(auto, unfolding(crate::specs::ExpressionReading::primary_at))]
     pub fn primary<'a>(&self, tokens: &Lexemes<'a>) -> Read<'a, Expr>
         ensures read { Gives with_tree result (reads primary_at self.now tokens.now) }
     {
@@ -174,13 +174,13 @@ impl<'s> Reader<'s> {
     fn round<'a>(&self, tokens: &Lexemes<'a>) -> Read<'a, Expr>
         ensures read { Gives with_tree result (reads round_at self.now tokens.now) }
     {
-        let (inner, rest) = self.whole(tokens)?;
+        let (inner, rest) = self.expression(tokens)?;
         let rest = rest.after(Lexeme::Close).ok_or(Refusal::Refused)?;
         Ok((inner, rest))
     }
 
     #[cycle(parser)]
-    #[tactic(auto, unfolding(crate::specs::Reading::maybe_at))]
+    #[tactic(auto, unfolding(crate::specs::ExpressionReading::maybe_at))]
     pub fn maybe_args<'a>(&self, front: Vec<Arg>, tokens: &Lexemes<'a>) -> Read<'a, Vec<Arg>>
         ensures read { Gives with_args result
             (reads maybe_at self.now (args_of front.items none) tokens.now) }
@@ -192,7 +192,7 @@ impl<'s> Reader<'s> {
     }
 
     #[cycle(parser)]
-    #[tactic(auto, unfolding(crate::specs::Reading::closed_at))]
+    #[tactic(auto, unfolding(crate::specs::ExpressionReading::closed_at))]
     pub fn closed_args<'a>(&self, front: Vec<Arg>, tokens: &Lexemes<'a>) -> Read<'a, Vec<Arg>>
         ensures read { Gives with_args result
             (reads closed_at self.now (args_of front.items none) tokens.now) }
@@ -207,7 +207,7 @@ impl<'s> Reader<'s> {
     }
 
     #[cycle(parser)]
-    #[tactic(auto, unfolding(crate::specs::Reading::more_at))]
+    #[tactic(auto, unfolding(crate::specs::ExpressionReading::more_at))]
     fn more_args<'a>(&self, front: Vec<Arg>, tokens: &Lexemes<'a>) -> Read<'a, Vec<Arg>>
         ensures read { Gives with_args result
             (reads more_at self.now (length tokens.now) (args_of front.items none) tokens.now) }
@@ -228,7 +228,7 @@ impl<'s> Reader<'s> {
     }
 
     #[cycle(parser)]
-    #[tactic(auto, unfolding(crate::specs::Reading::arg_at))]
+    #[tactic(auto, unfolding(crate::specs::ExpressionReading::arg_at))]
     fn arg<'a>(&self, front: Vec<Arg>, tokens: &Lexemes<'a>) -> Read<'a, Vec<Arg>>
         ensures read { Gives with_args result
             (reads arg_at self.now (args_of front.items none) tokens.now) }
@@ -239,7 +239,7 @@ impl<'s> Reader<'s> {
         if let Some((ty, rest)) = tokens.type_word() {
             return Ok((build::with_type(front, ty)?, rest));
         }
-        let (value, rest) = self.whole(tokens)?;
+        let (value, rest) = self.expression(tokens)?;
         Ok((build::with_value(front, value)?, rest))
     }
 }

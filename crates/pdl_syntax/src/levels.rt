@@ -2,7 +2,7 @@
 
 ghost use Rattle.std.specs.Prelude.{◌≡◌, ◌<◌};
 ghost use Rattle.pdl_syntax.specs.Grammar.{level_of};
-ghost use Rattle.pdl_syntax.specs.Reading.{operator_at, begins_operator, limit_of};
+ghost use Rattle.pdl_syntax.specs.ExpressionReading.{operator_at, begins_operator, limit_of};
 
 use pdl_elem::BinaryOp;
 use pdl_lexemes::{Lexeme, Lexemes};

@@ -5,7 +5,7 @@ ghost use Rattle.pdl_shape.specs.Shape.{IsDims};
 ghost use Rattle.pdl_lexemes.specs.Answers.{Gives};
 ghost use Rattle.pdl_lexemes.specs.Lists.{type_of};
 ghost use Rattle.pdl_syntax.specs.Grammar.{literal_of};
-ghost use Rattle.pdl_syntax.specs.Reading.{literal_at, round_list_at};
+ghost use Rattle.pdl_syntax.specs.ExpressionReading.{literal_at, round_list_at};
 ghost use Rattle.pdl_syntax.specs.Readers.{with_tree};
 ghost use Rattle.pdl_syntax.specs.TreeOf.{tree_of};
 

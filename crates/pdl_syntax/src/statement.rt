@@ -4,7 +4,7 @@ ghost use Rattle.std.specs.Prelude.{◌≡◌, ◌∷◌, option_map};
 ghost use Rattle.pdl_lexemes.specs.Peeks.{slot_at};
 ghost use Rattle.pdl_lexemes.specs.Answers.{Gives};
 ghost use Rattle.pdl_syntax.specs.Readers.{reads, text_at, with_tree};
-ghost use Rattle.pdl_syntax.specs.StatementReading.{ended_at, behind_at, valued_at, called_at, bind_at, bind_list_at, binding_at, assignment_at, reshape_at, sever_at, named_at, value_at, show_at, undef_at, watch_at, define_at, statement_at, at_end};
+ghost use Rattle.pdl_syntax.specs.StatementReading.{expression_to_end_at, behind_at, valued_at, called_at, bind_at, bind_list_at, binding_at, assignment_at, reshape_at, sever_at, statement_of_name_at, value_at, show_at, undef_at, watch_at, define_at, statement_at, at_end};
 ghost use Rattle.pdl_syntax.specs.StatementTree.{statement_of, vars, unwatch};
 ghost use Rattle.pdl_syntax.specs.TreeOf.{tree_of};
 
@@ -21,7 +21,7 @@ impl<'s> Reader<'s> {
         match tokens.split_first() {
             Some((Lexeme::Keyword(word), rest)) => self.keyword(word, &rest),
             Some((Lexeme::Open, rest)) => self.bind_list(&rest),
-            Some((Lexeme::Name(name), rest)) => self.named(name, &rest),
+            Some((Lexeme::Name(name), rest)) => self.statement_of_name(name, &rest),
             _ => Err(Refusal::Refused),
         }
     }
@@ -46,11 +46,11 @@ impl<'s> Reader<'s> {
     }
 
     // An expression up to the end.
-    #[tactic(auto, unfolding(crate::specs::StatementReading::ended_at))]
-    fn ended(&self, tokens: &Lexemes<'_>) -> Result<Expr, Refusal>
-        ensures read { Gives tree_of result (reads ended_at self.now tokens.now) }
+    #[tactic(auto, unfolding(crate::specs::StatementReading::expression_to_end_at))]
+    fn expression_to_end(&self, tokens: &Lexemes<'_>) -> Result<Expr, Refusal>
+        ensures read { Gives tree_of result (reads expression_to_end_at self.now tokens.now) }
     {
-        let (value, rest) = self.whole(tokens)?;
+        let (value, rest) = self.expression(tokens)?;
         rest.end()?;
         Ok(value)
     }
@@ -62,7 +62,7 @@ impl<'s> Reader<'s> {
         ensures read { Gives with_tree result (reads valued_at self.now word tokens.now) }
     {
         match tokens.prefix() {
-            Some((_, _)) => Ok((self.ended(tokens)?, false)),
+            Some((_, _)) => Ok((self.expression_to_end(tokens)?, false)),
             None => {
                 let (first, rest) = self.postfix(tokens)?;
                 self.behind(word, first, &rest)
@@ -143,10 +143,10 @@ impl<'s> Reader<'s> {
     }
 
     // A statement that begins with a name.
-    #[tactic(auto, unfolding(crate::specs::StatementReading::named_at))]
-    fn named(&self, name: Span, tokens: &Lexemes<'_>) -> Result<Statement, Refusal>
+    #[tactic(auto, unfolding(crate::specs::StatementReading::statement_of_name_at))]
+    fn statement_of_name(&self, name: Span, tokens: &Lexemes<'_>) -> Result<Statement, Refusal>
         ensures read { Gives statement_of result
-            (reads named_at self.now (text_at self.now name) tokens.now) }
+            (reads statement_of_name_at self.now (text_at self.now name) tokens.now) }
     {
         if let Some(rest) = tokens.after(Lexeme::Equals) {
             return self.bind(name, &rest);
@@ -187,7 +187,7 @@ impl<'s> Reader<'s> {
     {
         let (views, rest) = self.views(tokens)?;
         let (op, rest) = rest.assign().ok_or(Refusal::Refused)?;
-        let value = self.ended(&rest)?;
+        let value = self.expression_to_end(&rest)?;
         let name = self.name_of(name)?;
         let target = Target { name, views };
         Ok(Statement::Assign { target, op, value })

@@ -1,7 +1,7 @@
 use Rattle.std.proofs.Common.{Some, get_or, sym, refl, ap, ◌∙◌, subst}
 use Rattle.std.proofs.Math.Seq.{take_all}
 use Rattle.std.proofs.lemmas.Result.{IfErr-weaker}
-use Rattle.pdl_slices.specs.Reading.{run, finished, stage_after, kind_of, first_stage}
+use Rattle.pdl_slices.specs.SliceReading.{run, finished, stage_after, kind_of, first_stage}
 use Rattle.pdl_slices.specs.Collected.{Takes, Ends}
 use Rattle.pdl_slices.proofs.Endings.{bad_byte, bad_end}
 use Rattle.pdl_slices.proofs.Outcomes.{at_next, takes_none, ends_none, ends_args, verdict_reads}

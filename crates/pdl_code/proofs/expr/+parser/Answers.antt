@@ -1,7 +1,7 @@
 use Rattle.std.proofs.Common.{◌∙◌, ◌-◌, ◌+◌, suc, length, sym, ap}
 use Rattle.std.proofs.lemmas.Result.{err_from_is_err_and}
 use Rattle.pdl_code.specs.RawOf.{raw_indices, raw_of}
-use Rattle.pdl_code.specs.Reading.{before, reader, level_at, chain_at, index_at, indices_at}
+use Rattle.pdl_code.specs.CodeReading.{before, reader, level_at, chain_at, index_at, indices_at}
 use Rattle.pdl_code.proofs.Chains.{one_less, chain_stop, chain_turn, found_fail, found_next, level_above, pass_on}
 use Rattle.pdl_code.proofs.expr.+parser.Goals as goal
 

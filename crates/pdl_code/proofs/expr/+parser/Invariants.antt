@@ -2,7 +2,7 @@
 use Rattle.std.proofs.Common.{◌≡◌, suc, ◌+◌, ◌-◌, ◌*◌, length}
 use Rattle.pdl_code.specs.Raw.{RawTree, RawIndices}
 use Rattle.pdl_code.specs.RawOf.{raw_of, raw_indices}
-use Rattle.pdl_code.specs.Reading.{Read, before, reader, level_at, chain_at, limit_of, indices_at}
+use Rattle.pdl_code.specs.CodeReading.{Read, before, reader, level_at, chain_at, limit_of, indices_at}
 use Rattle.pdl_code.proofs.expr.+parser.Given as goal
 
 -- what is left to read gives the same as what stood there at the start

@@ -7,7 +7,7 @@ use Rattle.pdl_code.specs.Depth.{is_too_deep}
 use Rattle.pdl_code.specs.Lexing.{Lexed}
 use Rattle.pdl_code.specs.Meaning.{code_in}
 use Rattle.pdl_code.specs.RawOf.{raw_code}
-use Rattle.pdl_code.specs.Reading.{read_code}
+use Rattle.pdl_code.specs.CodeReading.{read_code}
 use Rattle.pdl_code.specs.Resolving.{or_bad}
 use Rattle.pdl_code.specs.TreeOf.{code_of}
 use Rattle.pdl_code.proofs.Blocks.{pass_on}

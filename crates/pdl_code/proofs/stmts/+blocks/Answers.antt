@@ -1,6 +1,6 @@
 use Rattle.std.proofs.Common.{◌∙◌, ◌-◌, ◌+◌, sym, ap, arith}
 use Rattle.pdl_code.specs.RawOf.{raw_code}
-use Rattle.pdl_code.specs.Reading.{before_code, code_at, code_reader}
+use Rattle.pdl_code.specs.CodeReading.{before_code, code_at, code_reader}
 use Rattle.pdl_code.proofs.Chains.{one_less, ended_code, found_statement, last_turn, semicolon_read}
 use Rattle.pdl_code.proofs.stmts.+blocks.Goals as goal
 

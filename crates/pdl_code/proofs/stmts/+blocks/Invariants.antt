@@ -2,7 +2,7 @@
 use Rattle.std.proofs.Common.{◌≡◌, ◌+◌, ◌-◌, ◌*◌, length}
 use Rattle.pdl_code.specs.Raw.{RawCode}
 use Rattle.pdl_code.specs.RawOf.{raw_code}
-use Rattle.pdl_code.specs.Reading.{Read, before_code, code_at, code_reader}
+use Rattle.pdl_code.specs.CodeReading.{Read, before_code, code_at, code_reader}
 use Rattle.pdl_code.proofs.stmts.+blocks.Given as goal
 
 -- what is left to read gives the same as what stood there at the start

@@ -6,7 +6,7 @@ use Rattle.pdl_lexemes.specs.Lexing.{lexemes_of}
 use Rattle.pdl_syntax.specs.Refusals.{NoStatement, Means as LexemesMean}
 use Rattle.pdl_syntax.specs.StatementTree.{StatementTree, statement_of}
 use Rattle.pdl_machine.specs.Parsed.{as_read}
-use Rattle.pdl_machine.specs.Reading.{MeansAt, MeansOneThing}
+use Rattle.pdl_machine.specs.StatementMeaning.{MeansAt, MeansOneThing}
 use Rattle.pdl_machine.specs.Run.{reads}
 use Rattle.pdl_shell.proofs.statement.read.Goals as goal
 

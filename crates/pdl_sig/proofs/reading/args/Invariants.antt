@@ -1,5 +1,5 @@
 use Rattle.std.proofs.Common.{length}
-use Rattle.pdl_sig.specs.Reading.{args_at}
+use Rattle.pdl_sig.specs.SignatureReading.{args_at}
 use Rattle.pdl_sig.proofs.Turns.{ArgsLeft}
 use Rattle.pdl_sig.proofs.reading.args.Given as goal
 

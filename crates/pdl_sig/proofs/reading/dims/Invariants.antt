@@ -1,5 +1,5 @@
 use Rattle.std.proofs.Common.{length}
-use Rattle.pdl_sig.specs.Reading.{dims_at}
+use Rattle.pdl_sig.specs.SignatureReading.{dims_at}
 use Rattle.pdl_sig.proofs.Turns.{DimsLeft}
 use Rattle.pdl_sig.proofs.reading.dims.Given as goal
 

@@ -6,8 +6,8 @@ use Rattle.pdl_lex.proofs.cutter.StatementCutter.feed.Goals as goal
 pub returns-clause-stream : goal.returns-clause-stream
 returns-clause-stream c = IfOk-weaker c.scan.result _ _ (λ fed reaches. reached-stream true _ _ fed.used fed.cut _ (rw (← c.self.view_is) c.self.invariant.0, reaches)) c.scan.ensures.reaches
 
-pub returns-clause-certain : goal.returns-clause-certain
-returns-clause-certain c = IfOk-weaker c.scan.result _ _ (λ fed reaches. reached-stream false _ _ fed.used fed.cut _ (rw (← c.self.view_is) c.self.invariant.0, reaches)) c.scan.ensures.reaches
+pub returns-clause-settled : goal.returns-clause-settled
+returns-clause-settled c = IfOk-weaker c.scan.result _ _ (λ fed reaches. reached-stream false _ _ fed.used fed.cut _ (rw (← c.self.view_is) c.self.invariant.0, reaches)) c.scan.ensures.reaches
 
 pub returns-clause-earliest : goal.returns-clause-earliest
 returns-clause-earliest c = IfOk-weaker c.scan.result _ _ (λ fed reaches. reached-earliest _ _ fed.used fed.cut _ (rw (← c.self.view_is) c.self.invariant.0, reaches)) c.scan.ensures.reaches

@@ -1,7 +1,7 @@
 use Rattle.std.proofs.Common.{◌≡◌, Some, ◌∙◌, ◌-◌, ◌+◌, suc, sym, ap}
 use Rattle.pdl_syntax.specs.Tree.{none, value}
 use Rattle.pdl_syntax.specs.TreeOf.{tree_of, args_of}
-use Rattle.pdl_syntax.specs.Reading.{reader, level_at, unary_at, chain_at, methods_at, more_at, maybe_at}
+use Rattle.pdl_syntax.specs.ExpressionReading.{reader, level_at, unary_at, chain_at, methods_at, more_at, maybe_at}
 use Rattle.pdl_syntax.proofs.Turns.{one_less, chain_stop, chain_turn, methods_stop, methods_turn, more_turn, grown_above}
 use Rattle.pdl_syntax.proofs.Growing.{level_read, level_unread, grown_ends}
 use Rattle.pdl_syntax.proofs.StatementTurns.{pass_on}

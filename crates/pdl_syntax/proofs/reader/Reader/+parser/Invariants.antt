@@ -2,7 +2,7 @@
 use Rattle.std.proofs.Common.{◌≡◌, suc, ◌+◌, ◌-◌, ◌*◌, length}
 use Rattle.pdl_syntax.specs.Tree.{Tree, Args, none}
 use Rattle.pdl_syntax.specs.TreeOf.{tree_of, args_of}
-use Rattle.pdl_syntax.specs.Reading.{reader, level_at, chain_at, limit_of, methods_at, more_at}
+use Rattle.pdl_syntax.specs.ExpressionReading.{reader, level_at, chain_at, limit_of, methods_at, more_at}
 use Rattle.pdl_lexemes.specs.Peeks.{Read}
 use Rattle.pdl_syntax.proofs.reader.Reader.+parser.Given as goal
 
@@ -10,8 +10,8 @@ use Rattle.pdl_syntax.proofs.reader.Reader.+parser.Given as goal
 pub record Turns (A : Type 0) (now start : Read A) : Type 0 where
   pub same : now ≡ start
 
-abbrev pub decreases-whole : goal.decreases-whole
-decreases-whole l = 64 * l.self.now.fuel
+abbrev pub decreases-expression : goal.decreases-expression
+decreases-expression l = 64 * l.self.now.fuel
 
 abbrev pub decreases-operand : goal.decreases-operand
 decreases-operand l = 64 * l.self.now.fuel

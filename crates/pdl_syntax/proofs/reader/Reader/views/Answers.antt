@@ -1,6 +1,6 @@
 use Rattle.std.proofs.Common.{◌∙◌, ◌-◌, ◌+◌, [], length, map, sym, ap}
 use Rattle.std.proofs.lemmas.Result.{err_from_is_err_and}
-use Rattle.pdl_syntax.specs.Reading.{reader, maybe_at}
+use Rattle.pdl_syntax.specs.ExpressionReading.{reader, maybe_at}
 use Rattle.pdl_syntax.specs.StatementReading.{views_at}
 use Rattle.pdl_syntax.specs.StatementTree.{view_of}
 use Rattle.pdl_syntax.specs.Tree.{none}

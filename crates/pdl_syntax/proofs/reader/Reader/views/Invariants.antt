@@ -1,5 +1,5 @@
 use Rattle.std.proofs.Common.{◌≡◌, ◌-◌, List, [], length, map}
-use Rattle.pdl_syntax.specs.Reading.{reader}
+use Rattle.pdl_syntax.specs.ExpressionReading.{reader}
 use Rattle.pdl_syntax.specs.StatementReading.{views_at}
 use Rattle.pdl_syntax.specs.StatementTree.{View, view_of}
 use Rattle.pdl_lexemes.specs.Peeks.{Read}

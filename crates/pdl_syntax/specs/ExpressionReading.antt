@@ -44,7 +44,7 @@ number_before ts z = (number z, ts)
 
 -- the parts of an expression that may hold each other
 pub data Kind : Type 0 where
-  whole : Kind
+  expression : Kind
   operand : Kind
 
 -- the further operators of level `suc l`, at most k of them, where `inner` reads
@@ -59,7 +59,7 @@ chain_at inner l (suc k) t ts =
 module _ (source : List ℕ) (f : Kind → List Lexeme → Read Tree) where
   -- an argument behind those before it
   abbrev pub value_at : Args → List Lexeme → Read Args
-  value_at front ts = option_map (λ x. (value front x.0, x.1)) (f whole ts)
+  value_at front ts = option_map (λ x. (value front x.0, x.1)) (f expression ts)
 
   abbrev pub typed_at : Args → List Lexeme → Read Args
   typed_at front ts = choose (value_at front ts) (λ x. Some (of_type front x.0, x.1)) (type_at ts)
@@ -91,7 +91,7 @@ module _ (source : List ℕ) (f : Kind → List Lexeme → Read Tree) where
   maybe_at front ts = choose (Some (front, ts)) (closed_at front) (after Open ts)
 
   abbrev pub round_at : List Lexeme → Read Tree
-  round_at ts = option_and_then (λ x. option_map (λ us. (x.0, us)) (after Close x.1)) (f whole ts)
+  round_at ts = option_and_then (λ x. option_map (λ us. (x.0, us)) (after Close x.1)) (f expression ts)
 
   abbrev pub call_at : Span → List Lexeme → Read Tree
   call_at w ts = option_and_then (λ us. option_map (λ x. (call (bytes_at source w) x.0, x.1))
@@ -139,5 +139,5 @@ module _ (source : List ℕ) (f : Kind → List Lexeme → Read Tree) where
 -- an expression in which at most n parts are open at once
 unfoldable pub reader : List ℕ → ℕ → Kind → List Lexeme → Read Tree
 reader source zero kind ts = None
-reader source (suc n) whole ts = level_at source (reader source n) 7 ts
+reader source (suc n) expression ts = level_at source (reader source n) 7 ts
 reader source (suc n) operand ts = unary_at source (reader source n) ts

@@ -8,8 +8,8 @@ use Rattle.pdl_slices.specs.declared.reading.Kind.{Kind}
 use Rattle.pdl_slices.specs.declared.reading.Kind.TheVariants.{Blank, Digit, Minus, Open, Close, Star, Colon, Comma, Other}
 use Rattle.pdl_slices.specs.declared.reading.Slot.{Slot}
 use Rattle.pdl_slices.specs.declared.reading.Slot.TheVariants.{Single, Bracket, Bracketed, Size, To, By}
-use Rattle.pdl_slices.specs.declared.reading.Part.{Part}
-use Rattle.pdl_slices.specs.declared.reading.Part.TheVariants as part
+use Rattle.pdl_slices.specs.declared.reading.NumberSoFar.{NumberSoFar}
+use Rattle.pdl_slices.specs.declared.reading.NumberSoFar.TheVariants as part
 use Rattle.pdl_slices.specs.declared.reading.Place.{Place}
 use Rattle.pdl_slices.specs.declared.reading.TooLarge.{TooLarge}
 use Rattle.std.specs.Char.{is_ascii_digit}
@@ -34,22 +34,22 @@ abbrev pub more_digits : ℕ → ℕ → ℕ
 more_digits size digit = min (10 * size + digit) 2147483648
 
 -- the number of this sign and size
-abbrev pub signed : Bool → ℕ → ℤ
-signed true size = neg_ℤ (pos size)
-signed false size = pos size
+abbrev pub with_sign : Bool → ℕ → ℤ
+with_sign true size = neg_ℤ (pos size)
+with_sign false size = pos size
 
 -- the number that the part holds, if any; nothing where it isn't whole
-abbrev pub number_in : Part → Option (Option ℤ)
+abbrev pub number_in : NumberSoFar → Option (Option ℤ)
 number_in part.Before = Some None
 number_in part.Minus = None
-number_in (part.Digits negative size) = Some (Some (signed negative size))
+number_in (part.Digits negative size) = Some (Some (with_sign negative size))
 number_in (part.After number) = Some (Some number)
 
 -- a blank ends a number
-abbrev pub part_after_blank : Part → Option Part
+abbrev pub part_after_blank : NumberSoFar → Option NumberSoFar
 part_after_blank part.Before = Some part.Before
 part_after_blank part.Minus = None
-part_after_blank (part.Digits negative size) = Some (part.After (signed negative size))
+part_after_blank (part.Digits negative size) = Some (part.After (with_sign negative size))
 part_after_blank (part.After number) = Some (part.After number)
 
 -- whether a number may stand there
@@ -71,7 +71,7 @@ takes_sign (To from) = true
 takes_sign (By from to) = true
 
 -- a digit begins a number or goes on with it
-abbrev pub part_after_digit : Part → ℕ → Option Part
+abbrev pub part_after_digit : NumberSoFar → ℕ → Option NumberSoFar
 part_after_digit part.Before digit = Some (part.Digits false (more_digits 0 digit))
 part_after_digit part.Minus digit = Some (part.Digits true (more_digits 0 digit))
 part_after_digit (part.Digits negative size) digit =
@@ -79,7 +79,7 @@ part_after_digit (part.Digits negative size) digit =
 part_after_digit (part.After number) digit = None
 
 -- a sign begins a number
-abbrev pub part_after_minus : Part → Option Part
+abbrev pub part_after_minus : NumberSoFar → Option NumberSoFar
 part_after_minus part.Before = Some part.Minus
 part_after_minus part.Minus = None
 part_after_minus (part.Digits negative size) = None
@@ -110,7 +110,7 @@ arg_of (By from to) None = None
 arg_of (By from to) (Some step) = Some (Span from to (Some step))
 
 -- the place in this slot, if there is such a part
-abbrev pub in_slot : Slot → Option Part → Option Place
+abbrev pub in_slot : Slot → Option NumberSoFar → Option Place
 in_slot s p = option_map (λ q. record { slot = s; part = q }) p
 
 -- where a byte that is no comma leads from a place, if it may stand there
@@ -124,8 +124,8 @@ moved p kind =
     (slot_after p.slot number kind)) (number_in p.part)
 
 -- the argument that ends at a place, if one may end there
-abbrev pub ended : Place → Option SliceArg
-ended p = option_and_then (arg_of p.slot) (number_in p.part)
+abbrev pub ending_argument : Place → Option SliceArg
+ending_argument p = option_and_then (arg_of p.slot) (number_in p.part)
 
 -- a number that isn't too large
 abbrev pub fitted_number : ℤ → Result ℤ TooLarge
@@ -154,7 +154,7 @@ first_place = record { slot = Single; part = part.Before }
 -- a comma ends an argument, and each other byte moves the place
 abbrev pub stage_after : Stage → Kind → Option Stage
 stage_after s Comma = option_map (λ a. record { done = s.done ++ a ∷ []; place = first_place })
-    (ended s.place)
+    (ending_argument s.place)
 stage_after s kind = option_map (λ p. record { done = s.done; place = p }) (moved s.place kind)
 
 -- the stage after these bytes, if they may stand there
@@ -165,7 +165,7 @@ run o (b ∷ bs) = run (option_and_then (λ s. stage_after s (kind_of b)) o) bs
 -- whether no argument has begun
 abbrev pub is_first : Place → Bool
 is_first p = is_unopened p.slot p.part where
-  is_unopened : Slot → Part → Bool
+  is_unopened : Slot → NumberSoFar → Bool
   is_unopened Single part.Before = true
   is_unopened slot p = false
 
@@ -173,7 +173,7 @@ is_first p = is_unopened p.slot p.part where
 abbrev pub finished : Stage → Option (List SliceArg)
 finished s =
     if (is_empty s.done) && is_first s.place then Some []
-    else option_map (λ a. s.done ++ a ∷ []) (ended s.place)
+    else option_map (λ a. s.done ++ a ∷ []) (ending_argument s.place)
   where
     is_empty : List SliceArg → Bool
     is_empty [] = true
