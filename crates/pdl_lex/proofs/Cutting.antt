@@ -170,7 +170,7 @@ quiet-take s bs t zero quiet = (s, refl)
 quiet-take s [] t (suc k) quiet = (s, refl)
 quiet-take s (b ∷ bs) t (suc k) quiet = let rest = quiet-take (next s b) bs t k quiet.1 in (rest.0, (quiet.0, rest.1))
 
--- nothing is certain before the first byte, and none of these bytes makes a piece certain
+-- nothing is settled before the first byte, and none of these bytes settles a piece
 settled-nothing : (s : State) → Fits s → settled_from s [] ≡ []
 settled-nothing s fits =
     by_bool s.over (λ over. rw over) (λ over.
@@ -301,7 +301,7 @@ extend-quiet s part front text n room over some is_front fits is_len is_text =
     let quiet : IsQuiet s (take n front) (extended s (take n front)) = plain-front s front n over idle (omega arith) is_len in
     rw (is_text, ← same) (subst (λ k. IsQuiet s (take n front) (record s { text = s.text ++ take n front; taken = s.taken + k })) size quiet)
 
--- all that was certain is answered
+-- all that was settled is answered
 pub reached-answered : (s : State) (bs : List ℕ) (used : ℕ) (cut : Option Piece) (t : State) → Reached s bs used cut t → settled_from t [] ≡ []
 reached-answered s bs used None t r = settled-nothing t (quiet-fits s bs t r.0 r.1.1)
 reached-answered s bs used (Some piece) t r =

@@ -45,9 +45,9 @@ ended : (chunks : List (List ℕ)) → has_ended true chunks ≡ true
 ended [] = refl
 ended (chunk ∷ chunks) = refl
 
-certain-piece : (piece : Piece) → settled_piece true (Some piece) ≡ piece ∷ []
-certain-piece (Whole cut) = refl
-certain-piece (TooLong line) = refl
+settled_piece-ended : (piece : Piece) → settled_piece true (Some piece) ≡ piece ∷ []
+settled_piece-ended (Whole cut) = refl
+settled_piece-ended (TooLong line) = refl
 
 numbered-first : (line first : ℕ) (others : List ℕ) (rest : List (List ℕ)) → is_between Code first ≡ false
     → numbered true line ((first ∷ others) ∷ rest) ≡ text_piece line (first ∷ others) ∷ numbered true (line + newlines (first ∷ others)) rest
@@ -56,7 +56,7 @@ numbered-first line first others rest begins =
     let here : chunk_piece line Code text ≡ Some (text_piece line text) = rw begins refl in
     ap (λ e. settled_piece e (chunk_piece line Code text) ++ numbered true (line + newlines text) rest) (ended rest)
     ∙ ap (λ p. settled_piece true p ++ numbered true (line + newlines text) rest) here
-    ∙ ap (λ ps. ps ++ numbered true (line + newlines text) rest) (certain-piece (text_piece line text))
+    ∙ ap (λ ps. ps ++ numbered true (line + newlines text) rest) (settled_piece-ended (text_piece line text))
 
 pub statements_join : (line : ℕ) (text rest : List ℕ) → IsStatement text
     → pieces_from line (text ++ 59 ∷ rest) ≡ text_piece line text ∷ pieces_from (line + newlines text) rest

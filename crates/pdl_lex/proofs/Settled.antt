@@ -1,4 +1,4 @@
--- What bytes make certain stands at the front of what they and more bytes make certain.
+-- What bytes settle stands at the front of what they and more bytes settle.
 use Rattle.std.proofs.Common.{◌≡◌, ℕ, ◌+◌, Bool, true, false, cond, List, [], ◌∷◌, ◌++◌, Option, Some, None, refl, sym, ◌∙◌, ap, arith, append_assoc, length-append}
 use Rattle.pdl_lex.specs.Bytes.{newlines}
 use Rattle.pdl_lex.specs.declared.cutter.Mode.{Mode}
@@ -77,12 +77,12 @@ chunk-long line at now (b ∷ bs) more is = by_test (is_between now b) is (chunk
     by_test true e rest = rest e
     by_test false e rest = ap Some (text-long line at (b ∷ bs) more (some_piece _ _ e))
 
--- what the last chunk makes certain is certain of it when it has gone on
-certain-front : (e : Bool) (piece whole : Option Piece) (others : List Piece) → ((at : ℕ) → piece ≡ Some (TooLong at) → whole ≡ Some (TooLong at))
+-- what the last chunk settles is settled of it when it has gone on
+settled_piece-front : (e : Bool) (piece whole : Option Piece) (others : List Piece) → ((at : ℕ) → piece ≡ Some (TooLong at) → whole ≡ Some (TooLong at))
     → (rest : List Piece) × (settled_piece e whole ++ others ≡ (settled_piece false piece ++ []) ++ rest)
-certain-front e None whole others long = (settled_piece e whole ++ others, refl)
-certain-front e (Some (Whole cut)) whole others long = (settled_piece e whole ++ others, refl)
-certain-front e (Some (TooLong at)) whole others long = (others, ap (λ p. settled_piece e p ++ others) (long at refl))
+settled_piece-front e None whole others long = (settled_piece e whole ++ others, refl)
+settled_piece-front e (Some (Whole cut)) whole others long = (settled_piece e whole ++ others, refl)
+settled_piece-front e (Some (TooLong at)) whole others long = (others, ap (λ p. settled_piece e p ++ others) (long at refl))
 
 ends_before : (k : Bool) (cs : List (List ℕ)) (d : List ℕ) (ds : List (List ℕ)) → has_ended k (cs ++ d ∷ ds) ≡ true
 ends_before k [] d ds = refl
@@ -91,7 +91,7 @@ ends_before k (c ∷ cs) d ds = refl
 numbered-front : (k : Bool) (line : ℕ) (before : List (List ℕ)) (last more : List ℕ) (others : List (List ℕ))
     → (rest : List Piece) × (numbered k line (before ++ (last ++ more) ∷ others) ≡ numbered false line (before ++ last ∷ []) ++ rest)
 numbered-front k line [] last more others =
-    let found = certain-front (has_ended k others) (chunk_piece line Code last) (chunk_piece line Code (last ++ more))
+    let found = settled_piece-front (has_ended k others) (chunk_piece line Code last) (chunk_piece line Code (last ++ more))
     (numbered k (line + newlines (last ++ more)) others) (λ at. chunk-long line at Code last more) in
     (found.0, found.1)
 numbered-front k line (c ∷ cs) last more others =

@@ -55,7 +55,7 @@ chunk_piece line now (b ∷ bs) =
     if is_between now b then chunk_piece (line + newlines (b ∷ [])) (mode_after now b) bs
     else Some (text_piece line (b ∷ bs))
 
--- what is certain of a chunk's statement: all of it once the chunk has ended, before that
+-- what is settled of a chunk's statement: all of it once the chunk has ended, before that
 -- only that it is too long
 abbrev pub settled_piece : Bool → Option Piece → List Piece
 settled_piece ended None = []
@@ -78,7 +78,7 @@ numbered last line (chunk ∷ chunks) =
 abbrev pub pieces : List ℕ → List Piece
 pieces bytes = numbered true 1 (chunks Code bytes)
 
--- those that are certain whatever bytes follow
+-- those that are settled: the same whatever bytes follow
 abbrev pub settled : List ℕ → List Piece
 settled bytes = numbered false 1 (chunks Code bytes)
 
@@ -87,7 +87,7 @@ pub data Mark : Type 0 where
   statement : Piece → Mark
   script_too_long : ℕ → Mark
 
--- the statements of a script with its limit: the ones that are certain before a byte past the
+-- the statements of a script with its limit: the ones that are settled before a byte past the
 -- limit, and then that mark
 abbrev pub script_marks : List ℕ → List Mark
 script_marks bytes =

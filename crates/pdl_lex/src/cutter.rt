@@ -152,8 +152,8 @@ impl StatementCutter {
             ++ settled_from self.new (drop fed.used piece.now ++ more)) }
 
         // The bytes taken complete it and no other piece, and fewer complete none. So it comes at
-        // the first byte that makes it certain, and there is none exactly
-        // where no piece is certain.
+        // the first byte that settles it, and there is none exactly
+        // where no piece is settled.
         ensures completed { IfOk result (λ fed. settled_from self.old (take fed.used piece.now)
             ≡ option_to_list fed.cut) }
         ensures earliest { IfOk result (λ fed. (k : ℕ) → k < fed.used →

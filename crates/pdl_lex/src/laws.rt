@@ -1,14 +1,14 @@
 //! Laws of the statements of a script, and of the tokens of a statement.
-ghost use Rattle.pdl_lex.specs.Settled.{BeginThePieces, StayCertain};
+ghost use Rattle.pdl_lex.specs.Settled.{BeginThePieces, StaySettled};
 ghost use Rattle.pdl_lex.specs.Joining.{StatementsJoin, BlanksJoin, PartsJoin, DigitsStay};
 ghost use Rattle.pdl_lex.specs.Tokens.{TextsHaveOneMeaning, TokensAreSpans};
 
-/// The statements that bytes make certain are the first ones of each script that begins with them
-/// (`begin`), and more bytes make none of them less certain (`stay`). The call
+/// The statements that bytes settle are the first ones of each script that begins with them
+/// (`begin`), and more bytes take none of them back (`stay`). The call
 /// does nothing when it runs.
 pub fn settled_laws()
     ensures begin { BeginThePieces }
-    ensures stay { StayCertain }
+    ensures stay { StaySettled }
 {}
 
 /// What statements come to when they stand one behind the other: a statement's text and

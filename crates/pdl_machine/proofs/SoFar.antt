@@ -6,8 +6,8 @@ use Rattle.std.proofs.lemmas.List.{map-append}
 use Rattle.pdl_lex.specs.Bytes.{newlines}
 use Rattle.pdl_lex.specs.Limits.{script_limit}
 use Rattle.pdl_lex.specs.Pieces.{Mark, statement, script_too_long, pieces, settled, script_marks}
-use Rattle.pdl_lex.specs.Settled.{BeginThePieces, StayCertain}
-use Rattle.pdl_machine.specs.Run.{after_marks, start, run, certain_marks, so_far}
+use Rattle.pdl_lex.specs.Settled.{BeginThePieces, StaySettled}
+use Rattle.pdl_machine.specs.Run.{after_marks, start, run, settled_marks, so_far}
 use Rattle.pdl_machine.proofs.RunLemmas.{printed_stays, goes_on, limit_ends}
 
 by_bool : {P : Type 0} (b : Bool) → (b ≡ true → P) → (b ≡ false → P) → P
@@ -22,13 +22,13 @@ take_over (suc n) (x ∷ xs) ys fits =
     let left : n - length xs ≡ suc n - suc (length xs) = omega arith in
     ap (λ zs. x ∷ zs) (take_over n xs ys (omega arith) ∙ ap (λ k. xs ++ take k ys) left)
 
-module _ (begin : BeginThePieces) (stay : StayCertain) (keep : Bool) (bytes more : List ℕ) where
+module _ (begin : BeginThePieces) (stay : StaySettled) (keep : Bool) (bytes more : List ℕ) where
   abbrev Front : Type 0
   Front = (ms : List Mark) × (run keep (bytes ++ more) ≡ after_marks keep (so_far keep bytes) ms)
 
-  -- the marks of the whole script go on from those that the first bytes make certain
-  front_of : (ms : List Mark) → script_marks (bytes ++ more) ≡ certain_marks bytes ++ ms → Front
-  front_of ms is = (ms, ap (after_marks keep start) is ∙ goes_on keep start (certain_marks bytes) ms)
+  -- the marks of the whole script go on from those that the first bytes settle
+  front_of : (ms : List Mark) → script_marks (bytes ++ more) ≡ settled_marks bytes ++ ms → Front
+  front_of ms is = (ms, ap (after_marks keep start) is ∙ goes_on keep start (settled_marks bytes) ms)
 
   past_limit : nat_lt script_limit (length bytes) ≡ true → Front
   past_limit far =
@@ -88,6 +88,6 @@ module _ (begin : BeginThePieces) (stay : StayCertain) (keep : Bool) (bytes more
 
 pub so_far-all : (keep : Bool) (bytes : List ℕ) → settled bytes ≡ pieces bytes → so_far keep bytes ≡ run keep bytes
 so_far-all keep bytes is =
-    let same : certain_marks bytes ≡ script_marks bytes =
+    let same : settled_marks bytes ≡ script_marks bytes =
     by_bool (nat_lt script_limit (length bytes)) (λ far. rw far refl) (λ near. rw near (ap (map statement) is)) in
     ap (after_marks keep start) same

@@ -84,11 +84,11 @@ start = record { state = no_names; printed = []; faulted = false; ended = false 
 abbrev pub run : (keep : Bool) → (script : List ℕ) → Progress
 run keep script = after_marks keep start (script_marks script)
 
--- the statements that these bytes make certain, whatever follows them
-abbrev pub certain_marks : (bytes : List ℕ) → List Mark
-certain_marks bytes = if nat_lt script_limit (length bytes) then script_marks bytes
+-- the statements that these bytes settle, whatever follows them
+abbrev pub settled_marks : (bytes : List ℕ) → List Mark
+settled_marks bytes = if nat_lt script_limit (length bytes) then script_marks bytes
     else map statement (settled bytes)
 
 -- how far a run has come by these bytes
 abbrev pub so_far : (keep : Bool) → (bytes : List ℕ) → Progress
-so_far keep bytes = after_marks keep start (certain_marks bytes)
+so_far keep bytes = after_marks keep start (settled_marks bytes)

@@ -43,7 +43,7 @@ abbrev pub LimitEnds : Type 0
 LimitEnds = (keep : Bool) (script more : List ℕ) → script_limit < length script →
     run keep (script ++ more) ≡ run keep script
 
--- a run has come as far by the first bytes of a script as they make certain: from there
+-- a run has come as far by the first bytes of a script as they settle them: from there
 -- it goes on over further statements, whatever bytes follow
 abbrev pub SoFarIsAFront : Type 0
 SoFarIsAFront = (keep : Bool) (bytes more : List ℕ) →
@@ -59,7 +59,7 @@ abbrev pub SoFarGrows : Type 0
 SoFarGrows = (keep : Bool) (bytes more : List ℕ) →
     (ms : List Mark) × (so_far keep (bytes ++ more) ≡ after_marks keep (so_far keep bytes) ms)
 
--- where the bytes make all of their statements certain, as behind a semicolon, the run has
+-- where the bytes settle all of their statements, as behind a semicolon, the run has
 -- come to its end by them
 abbrev pub SoFarIsAll : Type 0
 SoFarIsAll = (keep : Bool) (bytes : List ℕ) → settled bytes ≡ pieces bytes →

@@ -7,7 +7,7 @@ use Rattle.std.proofs.lemmas.List.Sums.{sum_by-append}
 use Rattle.std.specs.Io.KnownBytes.{Appends, Keeps}
 use Rattle.pdl_io.specs.Told.{IsPrefix, AppendsPrefix}
 use Rattle.pdl_lex.specs.Bytes.{newlines, is_newline}
-use Rattle.pdl_lex.specs.Pieces.{State, Mark, statement, script_too_long, to_come, settled_from, begun_piece, certain}
+use Rattle.pdl_lex.specs.Pieces.{State, Mark, statement, script_too_long, to_come, settled_from, begun_piece, settled_piece}
 use Rattle.pdl_lex.specs.Steps.{begun}
 use Rattle.pdl_lex.specs.declared.Piece.{Piece}
 use Rattle.pdl_lex.specs.declared.Piece.TheVariants.{Whole, TooLong}
@@ -59,22 +59,22 @@ pub marks_left-fed : (follows : Behind) (old new : State) (piece : Option Piece)
     → settled_from old (bytes ++ more) ≡ option_to_list piece ++ settled_from new (rest ++ more)
     → old.line + newlines bytes ≡ new.line + newlines rest
     → marks_left follows old (bytes ++ more) ≡ map statement (option_to_list piece) ++ marks_left follows new (rest ++ more)
-marks_left-fed end_of_input old new piece bytes rest more stream certain line =
+marks_left-fed end_of_input old new piece bytes rest more stream settled line =
     ap (map statement) stream ∙ map-append statement (option_to_list piece) (to_come new (rest ++ more))
-marks_left-fed past_limit old new piece bytes rest more stream certain line =
+marks_left-fed past_limit old new piece bytes rest more stream settled line =
     let lines : old.line + newlines (bytes ++ more) ≡ new.line + newlines (rest ++ more) =
     rw (newlines-append bytes more, newlines-append rest more) (omega arith) in
-    ap (λ ms. map statement ms ++ script_too_long (old.line + newlines (bytes ++ more)) ∷ []) certain
+    ap (λ ms. map statement ms ++ script_too_long (old.line + newlines (bytes ++ more)) ∷ []) settled
     ∙ ap (λ n. map statement (option_to_list piece ++ settled_from new (rest ++ more)) ++ script_too_long n ∷ []) lines
     ∙ ap (λ ms. ms ++ script_too_long (new.line + newlines (rest ++ more)) ∷ []) (map-append statement (option_to_list piece) (settled_from new (rest ++ more)))
     ∙ append_assoc (map statement (option_to_list piece)) (map statement (settled_from new (rest ++ more))) (script_too_long (new.line + newlines (rest ++ more)) ∷ [])
-marks_left-fed unknown old new piece bytes rest more stream certain line =
-    ap (map statement) certain ∙ map-append statement (option_to_list piece) (settled_from new (rest ++ more))
+marks_left-fed unknown old new piece bytes rest more stream settled line =
+    ap (map statement) settled ∙ map-append statement (option_to_list piece) (settled_from new (rest ++ more))
 
 -- what a cutter answers to bytes that are fed to it, whatever follows
 pub record Feeds (old new : State) (piece : Option Piece) (bytes rest : List ℕ) : Type 0 where
   pub stream : (more : List ℕ) → to_come old (bytes ++ more) ≡ option_to_list piece ++ to_come new (rest ++ more)
-  pub certain : (more : List ℕ) → settled_from old (bytes ++ more) ≡ option_to_list piece ++ settled_from new (rest ++ more)
+  pub settled : (more : List ℕ) → settled_from old (bytes ++ more) ≡ option_to_list piece ++ settled_from new (rest ++ more)
   pub line : old.line + newlines bytes ≡ new.line + newlines rest
 
 -- bytes that complete no piece carry the run on
@@ -86,7 +86,7 @@ carries_quiet old new bytes rest taken fed same before printed so_far = (
   printed,
   so_far,
   λ follows more.
-      ap (after_marks old.keep_going (progress old printed)) (marks_left-fed follows old.cutter new.cutter None bytes rest more (fed.stream more) (fed.certain more) fed.line)
+      ap (after_marks old.keep_going (progress old printed)) (marks_left-fed follows old.cutter new.cutter None bytes rest more (fed.stream more) (fed.settled more) fed.line)
       ∙ ap (λ (r : Runner). after_marks r.keep_going (progress r printed) (marks_left follows new.cutter (rest ++ more))) (sym same),
 )
 
@@ -115,7 +115,7 @@ carries_piece old new piece bytes rest taken now fed running keep ran wrote befo
   printed ++ mark_text old.session.state (statement piece),
   appends_then before taken now printed (mark_text old.session.state (statement piece)) so_far wrote,
   λ follows more.
-      ap (after_marks old.keep_going (progress old printed)) (marks_left-fed follows old.cutter new.cutter (Some piece) bytes rest more (fed.stream more) (fed.certain more) fed.line)
+      ap (after_marks old.keep_going (progress old printed)) (marks_left-fed follows old.cutter new.cutter (Some piece) bytes rest more (fed.stream more) (fed.settled more) fed.line)
       ∙ after_marks-cons old.keep_going (progress old printed) (statement piece) (marks_left follows new.cutter (rest ++ more)) running
       ∙ ap (λ p. after_marks old.keep_going p (marks_left follows new.cutter (rest ++ more))) (ran printed)
       ∙ ap (λ k. after_marks k (progress new (printed ++ mark_text old.session.state (statement piece))) (marks_left follows new.cutter (rest ++ more))) (sym keep),
@@ -142,7 +142,7 @@ pub stops_in_piece : (stays : PrintedStays) (old : Runner) (new : State) (piece 
 stops_in_piece stays old new piece bytes rest taken now fed running wrote before printed so_far follows more =
     let ms : List Mark = marks_left follows new (rest ++ more) in
     let comes : outcome follows old printed (bytes ++ more) ≡ after_marks old.keep_going (after_mark old.keep_going (progress old printed) (statement piece)) ms =
-    ap (after_marks old.keep_going (progress old printed)) (marks_left-fed follows old.cutter new (Some piece) bytes rest more (fed.stream more) (fed.certain more) fed.line)
+    ap (after_marks old.keep_going (progress old printed)) (marks_left-fed follows old.cutter new (Some piece) bytes rest more (fed.stream more) (fed.settled more) fed.line)
     ∙ after_marks-cons old.keep_going (progress old printed) (statement piece) ms running in
     subst (λ (p : Progress). AppendsPrefix before now p.printed) (sym comes) (prefix_in_mark stays old.keep_going (progress old printed) (statement piece) ms before taken now so_far wrote)
 
@@ -210,9 +210,9 @@ pub feeds : (old new : State) (cut piece : Option Piece) (bytes : List ℕ) (use
     → ((more : List ℕ) → settled_from old (bytes ++ more) ≡ option_to_list cut ++ settled_from new (drop used bytes ++ more))
     → new.line ≡ old.line + newlines (take used bytes)
     → Feeds old new piece bytes (drop used bytes)
-feeds old new cut piece bytes used is stream certain lines = record {
+feeds old new cut piece bytes used is stream settled lines = record {
   stream = λ more. stream more ∙ ap (λ p. option_to_list p ++ to_come new (drop used bytes ++ more)) is;
-  certain = λ more. certain more ∙ ap (λ p. option_to_list p ++ settled_from new (drop used bytes ++ more)) is;
+  settled = λ more. settled more ∙ ap (λ p. option_to_list p ++ settled_from new (drop used bytes ++ more)) is;
   line = lines_split old.line new.line used bytes lines;
 }
 
@@ -225,14 +225,14 @@ pub on_ok : {T E P : Type 0} (r : Result T E) → P → OnOk r P
 on_ok (Ok x) p = p
 on_ok (Err e) p = tt
 
--- no piece of the unfinished statement is certain: it would be answered at its end if it were whole
+-- no piece of the unfinished statement is settled: it would be answered at its end if it were whole
 pub unfinished : (s : State) (last : Option Piece) → last ≡ begun s → option_to_list last ≡ to_come s [] → settled_from s [] ≡ []
 unfinished s last is comes = unfinished_piece (begun_piece s []) s.over (length s.text == 0) s.text s.start (sym is) comes
   where
     unfinished_piece : (found : Option Piece) (over idle : Bool) (text : List ℕ) (start : ℕ)
         → cond over None (cond idle None (Some (Whole (record { text = text; line = start })))) ≡ last
-        → option_to_list last ≡ certain true found ++ []
-        → certain false found ++ [] ≡ []
+        → option_to_list last ≡ settled_piece true found ++ []
+        → settled_piece false found ++ [] ≡ []
     unfinished_piece None over idle text start is comes = refl
     unfinished_piece (Some (Whole cut)) over idle text start is comes = refl
     unfinished_piece (Some (TooLong line)) true idle text start is comes = cc

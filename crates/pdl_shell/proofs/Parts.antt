@@ -9,7 +9,7 @@ use Rattle.std.specs.Io.KnownBytes.{Appends, Consumes, Keeps, IsAtEnd}
 use Rattle.pdl_io.specs.Told.{AppendsPrefix}
 use Rattle.pdl_lex.specs.Limits.{script_limit}
 use Rattle.pdl_lex.specs.Pieces.{statement, settled, settled_from, script_marks}
-use Rattle.pdl_machine.specs.Run.{Progress, start, run, so_far, after_marks, certain_marks}
+use Rattle.pdl_machine.specs.Run.{Progress, start, run, so_far, after_marks, settled_marks}
 use Rattle.pdl_machine.specs.RunLaws.{EndedStays, PrintedStays, EndedByAFault, TooLongEnds, SoFarGrows}
 use Rattle.pdl_shell.specs.declared.runner.Runner.{Runner}
 use Rattle.pdl_shell.specs.declared.stop.Stop.{Stop}
@@ -188,9 +188,9 @@ module _ (first now : Runner) (left taken : Option (List ℕ)) (count : ℕ) (le
   so_far_is near =
       let fits : length came.bytes ≤ script_limit = rw came.counted near in
       let test : nat_lt script_limit (length came.bytes) ≡ false = le-ltb script_limit (length came.bytes) fits in
-      let certain : so_far first.keep_going came.bytes ≡ outcome unknown first [] came.bytes = rw test (sym (fresh.certain came.bytes)) in
+      let unended : so_far first.keep_going came.bytes ≡ outcome unknown first [] came.bytes = rw test (sym (fresh.unended came.bytes)) in
       let whole : take script_limit came.bytes ++ [] ≡ came.bytes = append-nil (take script_limit came.bytes) ∙ take_all script_limit came.bytes fits in
-      certain
+      unended
       ∙ ap (outcome unknown first []) (sym whole)
       ∙ over_limit unknown []
       ∙ ap (λ ps. after_marks now.keep_going (progress now printed) (map statement ps)) came.none_left
@@ -251,7 +251,7 @@ module _ (first now : Runner) (left taken : Option (List ℕ)) (count : ℕ) (le
   ended_faulted : EndedByAFault → count ≤ script_limit → now.ended ≡ true → now.faulted ≡ true
   ended_faulted by_fault near ended =
       let same : so_far first.keep_going came.bytes ≡ progress now printed = so_far_is near in
-      sym (ap (λ p. p.faulted) same) ∙ by_fault first.keep_going (certain_marks came.bytes) (ap (λ p. p.ended) same ∙ ended)
+      sym (ap (λ p. p.faulted) same) ∙ by_fault first.keep_going (settled_marks came.bytes) (ap (λ p. p.ended) same ∙ ended)
 
   past_faulted : EndedByAFault → TooLongEnds → script_limit < count → (outcome past_limit now printed []).faulted ≡ true
   past_faulted by_fault too_long over =

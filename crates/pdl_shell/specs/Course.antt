@@ -27,7 +27,7 @@ pub record IsFresh (runner : Runner) : Type 0 where
   pub limited : (bytes : List ℕ) → outcome past_limit runner [] bytes
       ≡ after_marks runner.keep_going start (map statement (settled bytes)
       ++ script_too_long (1 + newlines bytes) ∷ [])
-  pub certain : (bytes : List ℕ) → outcome unknown runner [] bytes
+  pub unended : (bytes : List ℕ) → outcome unknown runner [] bytes
       ≡ after_marks runner.keep_going start (map statement (settled bytes))
   pub none_left : settled_from runner.cutter [] ≡ []
 

@@ -12,7 +12,7 @@ returns-in_err-run-in-Some-clause-stops g c =
     let bytes : List ℕ = c.args.bytes.now in
     let rest : List ℕ = drop c.in_ok-fed.fed.used bytes in
     let fed : Feeds c.args.self.now.cutter c.feed.new.self (Some c.in-Some.piece) bytes rest =
-    feeds _ _ _ _ bytes c.in_ok-fed.fed.used c.in-Some.is c.in_ok-fed.ensures.stream c.in_ok-fed.ensures.certain c.in_ok-fed.ensures.lines in
+    feeds _ _ _ _ bytes c.in_ok-fed.fed.used c.in-Some.is c.in_ok-fed.ensures.stream c.in_ok-fed.ensures.settled c.in_ok-fed.ensures.lines in
     on_err c.from_residual-in_err-run-in-Some.result
     (stops_in_piece c.run_laws.ensures.printed c.args.self.now c.feed.new.self c.in-Some.piece bytes rest (g.K.Sink.taken c.args.sink.now) (g.K.Sink.taken c.run.new.sink)
     fed c.requires.running (rw c.in-Some.piece-is at c.in_err-run-in-Some.ensures.prefix))
@@ -22,7 +22,7 @@ returns-in-None-clause-carries g c =
     let bytes : List ℕ = c.args.bytes.now in
     let rest : List ℕ = drop c.in_ok-fed.fed.used bytes in
     let fed : Feeds c.args.self.now.cutter c.feed.new.self None bytes rest =
-    feeds _ _ _ _ bytes c.in_ok-fed.fed.used c.in-None.is c.in_ok-fed.ensures.stream c.in_ok-fed.ensures.certain c.in_ok-fed.ensures.lines in
+    feeds _ _ _ _ bytes c.in_ok-fed.fed.used c.in-None.is c.in_ok-fed.ensures.stream c.in_ok-fed.ensures.settled c.in_ok-fed.ensures.lines in
     carries_quiet c.args.self.now (record c.args.self.now { cutter = c.feed.new.self }) bytes rest (g.K.Sink.taken c.args.sink.now) fed refl
 
 pub returns-in_ok-run-in-Some-clause-carries : goal.returns-in_ok-run-in-Some-clause-carries
@@ -30,7 +30,7 @@ returns-in_ok-run-in-Some-clause-carries g c =
     let bytes : List ℕ = c.args.bytes.now in
     let rest : List ℕ = drop c.in_ok-fed.fed.used bytes in
     let fed : Feeds c.args.self.now.cutter c.feed.new.self (Some c.in-Some.piece) bytes rest =
-    feeds _ _ _ _ bytes c.in_ok-fed.fed.used c.in-Some.is c.in_ok-fed.ensures.stream c.in_ok-fed.ensures.certain c.in_ok-fed.ensures.lines in
+    feeds _ _ _ _ bytes c.in_ok-fed.fed.used c.in-Some.is c.in_ok-fed.ensures.stream c.in_ok-fed.ensures.settled c.in_ok-fed.ensures.lines in
     let same : Feeds c.args.self.now.cutter c.run.new.self.cutter (Some c.in-Some.piece) bytes rest =
     subst (λ (s : State). Feeds c.args.self.now.cutter s (Some c.in-Some.piece) bytes rest) (sym c.in_ok-run-in-Some.ensures.cutter) fed in
     carries_piece c.args.self.now c.run.new.self c.in-Some.piece bytes rest (g.K.Sink.taken c.args.sink.now) (g.K.Sink.taken c.run.new.sink)
