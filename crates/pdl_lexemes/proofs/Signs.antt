@@ -1,13 +1,13 @@
--- Each sign has an entry in one of the two tables.
+-- Each sign has an entry in one of the three tables.
 use Rattle.std.proofs.Common.{◌≡◌, ℕ, List, [], ◌∷◌, Bool, true, false, ◌||◌, ◌&&◌, ◌==◌, refl, sym, subst, eqb-true, true≢false}
 use Rattle.std.specs.Prelude.{is_some, codes, bytes_eq}
 use Rattle.std.specs.List.{list_any, list_all}
 use Rattle.std.proofs.lemmas.Slice.Eq.{bytes_eq-Decides}
 use Rattle.pdl_lex.specs.Tokens.{is_sign, pairs, triples}
-use Rattle.pdl_lexemes.specs.Lexing.{found_in, operators, signs}
+use Rattle.pdl_lexemes.specs.Lexing.{found_in, operators, assignments, signs}
 
 abbrev is_known : List ℕ → Bool
-is_known text = is_some (found_in signs text) || is_some (found_in operators text)
+is_known text = is_some (found_in signs text) || is_some (found_in operators text) || is_some (found_in assignments text)
 
 -- a test that all entries pass is passed by one that is found among them
 one_of : {A : Type 0} (same p : A → Bool) (x : A) → ((y : A) → same y ≡ true → p y ≡ true → p x ≡ true) → (ys : List A) → list_any same ys ≡ true → list_all p ys ≡ true → p x ≡ true

@@ -8,7 +8,7 @@ use Rattle.pdl_lexemes.specs.declared.Lexeme.TheVariants.{OpenSquare}
 use Rattle.pdl_lexemes.specs.Lists.{SpellsList, a_list, type_of, HoldsRagged}
 use Rattle.pdl_lexemes.specs.ListReading.{read_part, list_read}
 use Rattle.pdl_lexemes.specs.Depth.{without_shape, ragged_in}
-use Rattle.pdl_lexemes.specs.Lexing.{found_in, operators, signs}
+use Rattle.pdl_lexemes.specs.Lexing.{found_in, operators, assignments, signs}
 use Rattle.pdl_lexemes.specs.Peeks.{after}
 
 -- a list literal is read exactly where the grammar spells it; it begins with `[`, and what
@@ -47,4 +47,5 @@ ListsAreArrays =
 abbrev pub SignsAreKnown : Type 0
 SignsAreKnown =
     (text : List ℕ) → is_sign text ≡ true →
-    (is_some (found_in signs text) || is_some (found_in operators text)) ≡ true
+    (is_some (found_in signs text) || is_some (found_in operators text)
+    || is_some (found_in assignments text)) ≡ true

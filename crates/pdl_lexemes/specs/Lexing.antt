@@ -7,6 +7,7 @@ use Rattle.pdl_elem.specs.declared.Ty.TheVariants.{Byte, Short, Ushort, Long, Lo
 use Rattle.pdl_lex.specs.declared.Token.{Token}
 use Rattle.pdl_lex.specs.declared.TokenKind.{TokenKind}
 use Rattle.pdl_lex.specs.declared.TokenKind.TheVariants.{Name as IsName, Word as IsWord, Number as IsNumber, Str as IsStr, Sign as IsSign}
+use Rattle.pdl_lexemes.specs.declared.AssignOp.{AssignOp}
 use Rattle.pdl_lexemes.specs.declared.AssignOp.TheVariants.{Set, With}
 use Rattle.pdl_lexemes.specs.declared.Span.{Span}
 use Rattle.pdl_lexemes.specs.declared.Keyword.{Keyword as Key}
@@ -23,35 +24,24 @@ abbrev pub found_in : {A : Type 0} → List (List ℕ × A) → List ℕ → Opt
 found_in [] text = None
 found_in (entry ∷ rest) text = if bytes_eq text entry.0 then Some entry.1 else found_in rest text
 
--- the words of at most five bytes that name no call
-abbrev pub short_keywords : List (List ℕ × Key)
-short_keywords =
-    (codes "my", My) ∷ (codes "p", Print) ∷ (codes "print", Print) ∷ (codes "undef", Undef)
-    ∷ (codes "vars", Vars)
-    ∷ (codes "watch", Watch) ∷ (codes "pdl", Pdl) ∷ (codes "info", Info)
-    ∷ (codes "sever", Sever) ∷ []
-
 -- the words that name no call
 abbrev pub keywords : List (List ℕ × Key)
-keywords = (codes "pp_def", PpDef) ∷ (codes "unwatch", Unwatch)
-    ∷ (codes "reshape", Reshape) ∷ short_keywords
-
--- the words of at most five bytes that are something beside the name of a call
-abbrev pub short_word_kinds : List (List ℕ × WordKind)
-short_word_kinds =
-    (codes "byte", OfType Byte) ∷ (codes "short", OfType Short) ∷ (codes "long", OfType Long)
-    ∷ (codes "slice", View)
-    ∷ (codes "xchg", View) ∷ (codes "mv", View) ∷ (codes "dummy", View) ∷ (codes "clump", View)
-    ∷ (codes "flat", View)
-    ∷ (codes "index", View) ∷ (codes "where", View) ∷ (codes "range", View) ∷ (codes "Pars", Pars)
-    ∷ (codes "Code", Code) ∷ []
+keywords =
+    (codes "my", My) ∷ (codes "p", Print) ∷ (codes "print", Print) ∷ (codes "undef", Undef)
+    ∷ (codes "vars", Vars) ∷ (codes "pp_def", PpDef) ∷ (codes "watch", Watch)
+    ∷ (codes "unwatch", Unwatch) ∷ (codes "pdl", Pdl) ∷ (codes "info", Info)
+    ∷ (codes "sever", Sever) ∷ (codes "reshape", Reshape) ∷ []
 
 -- the words that are something beside the name of a call
 abbrev pub word_kinds : List (List ℕ × WordKind)
 word_kinds =
-    (codes "ushort", OfType Ushort) ∷ (codes "longlong", OfType Longlong) ∷ (codes "reorder", View)
-    ∷ (codes "diagonal", View)
-    ∷ (codes "squeeze", View) ∷ short_word_kinds
+    (codes "byte", OfType Byte) ∷ (codes "short", OfType Short) ∷ (codes "ushort", OfType Ushort)
+    ∷ (codes "long", OfType Long) ∷ (codes "longlong", OfType Longlong)
+    ∷ (codes "slice", View) ∷ (codes "xchg", View) ∷ (codes "mv", View) ∷ (codes "reorder", View)
+    ∷ (codes "diagonal", View) ∷ (codes "dummy", View) ∷ (codes "clump", View)
+    ∷ (codes "squeeze", View) ∷ (codes "flat", View) ∷ (codes "index", View)
+    ∷ (codes "where", View) ∷ (codes "range", View) ∷ (codes "Pars", Pars) ∷ (codes "Code", Code)
+    ∷ []
 
 -- the signs of operators on two values
 abbrev pub operators : List (List ℕ × BinaryOp)
@@ -61,17 +51,19 @@ operators =
     ∷ (codes ">=", Ge) ∷ (codes "==", Eq) ∷ (codes "!=", Ne) ∷ (codes "&", And) ∷ (codes "|", Or)
     ∷ (codes "^", Xor) ∷ []
 
+-- the signs of assignments
+abbrev pub assignments : List (List ℕ × AssignOp)
+assignments =
+    (codes ".=", Set) ∷ (codes "+=", With Add) ∷ (codes "-=", With Sub) ∷ (codes "*=", With Mul)
+    ∷ (codes "/=", With Div) ∷ (codes "%=", With Rem) ∷ (codes "<<=", With Shl)
+    ∷ (codes ">>=", With Shr) ∷ (codes "&=", With And) ∷ (codes "|=", With Or)
+    ∷ (codes "^=", With Xor) ∷ []
+
 -- the other signs
 abbrev pub signs : List (List ℕ × Lexeme)
 signs =
     (codes "(", Open) ∷ (codes ")", Close) ∷ (codes "[", OpenSquare) ∷ (codes "]", CloseSquare)
-    ∷ (codes ",", Comma) ∷ (codes "=", Equals)
-    ∷ (codes "->", Arrow) ∷ (codes "=>", FatArrow) ∷ (codes ".=", Assign Set)
-    ∷ (codes "+=", Assign (With Add)) ∷ (codes "-=", Assign (With Sub))
-    ∷ (codes "*=", Assign (With Mul)) ∷ (codes "/=", Assign (With Div))
-    ∷ (codes "%=", Assign (With Rem)) ∷ (codes "<<=", Assign (With Shl))
-    ∷ (codes ">>=", Assign (With Shr)) ∷ (codes "&=", Assign (With And))
-    ∷ (codes "|=", Assign (With Or)) ∷ (codes "^=", Assign (With Xor))
+    ∷ (codes ",", Comma) ∷ (codes "=", Equals) ∷ (codes "->", Arrow) ∷ (codes "=>", FatArrow)
     ∷ (codes "!", Prefix Not) ∷ (codes "~", Prefix Complement) ∷ []
 
 -- the value of decimal digits, or 2 ^ 63 where it is above 9223372036854775807
@@ -90,7 +82,12 @@ word_of text span =
 -- a sign; a text that is none, which no token has, is a lexeme that no rule of the grammar has
 abbrev pub sign_of : List ℕ → Lexeme
 sign_of text =
-    choose (choose Unknown (λ op. Operator op) (found_in operators text)) (λ s. s)
+    choose
+    (choose
+    (choose Unknown (λ op. Assign op) (found_in assignments text))
+    (λ op. Operator op)
+    (found_in operators text))
+    (λ s. s)
     (found_in signs text)
 
 abbrev pub span_of : Token → Span

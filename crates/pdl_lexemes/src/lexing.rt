@@ -1,8 +1,8 @@
 //! Tokens as lexemes.
 
-ghost use Rattle.std.specs.Prelude.{◌≡◌, ◌≤◌, IfOk, Some, if◌then◌else◌, bytes_eq};
+ghost use Rattle.std.specs.Prelude.{◌≡◌, ◌≤◌, IfOk};
 ghost use Rattle.pdl_lexemes.specs.Bytes.{bytes_at};
-ghost use Rattle.pdl_lexemes.specs.Lexing.{found_in, short_keywords, keywords, short_word_kinds, word_kinds, operators, signs, word_of, sign_of, number_of, with_digit, lexeme_of, lexemes_of};
+ghost use Rattle.pdl_lexemes.specs.Lexing.{found_in, keywords, word_kinds, operators, assignments, signs, word_of, sign_of, number_of, with_digit, lexeme_of, lexemes_of};
 
 use crate::{AssignOp, Keyword, Lexeme, Span, WordKind};
 use pdl_elem::{BinaryOp, Ty, UnaryOp};
@@ -18,15 +18,9 @@ pub fn bytes(source: &[u8], span: Span) -> &[u8]
     &source[from..to]
 }
 
-// The value for this word, where the text is the word.
-fn or_found<T: Copy>(text: &[u8], word: &[u8], value: T, others: Option<T>) -> Option<T>
-    ensures { result ≡ (if bytes_eq text.now word.now then Some value else others) }
-{
-    if text == word { Some(value) } else { others }
-}
-
-fn short_keyword(text: &[u8]) -> Option<Keyword>
-    ensures { result ≡ found_in short_keywords text.now }
+/// The keyword that a text is, if any: a word of the language that names no call.
+pub fn keyword_named(text: &[u8]) -> Option<Keyword>
+    ensures { result ≡ found_in keywords text.now }
 {
     match text {
         b"my" => Some(Keyword::My),
@@ -34,36 +28,34 @@ fn short_keyword(text: &[u8]) -> Option<Keyword>
         b"print" => Some(Keyword::Print),
         b"undef" => Some(Keyword::Undef),
         b"vars" => Some(Keyword::Vars),
+        b"pp_def" => Some(Keyword::PpDef),
         b"watch" => Some(Keyword::Watch),
+        b"unwatch" => Some(Keyword::Unwatch),
         b"pdl" => Some(Keyword::Pdl),
         b"info" => Some(Keyword::Info),
         b"sever" => Some(Keyword::Sever),
+        b"reshape" => Some(Keyword::Reshape),
         _ => None,
     }
 }
 
-/// The keyword that a text is, if any: a word of the language that names no call.
-pub fn keyword_named(text: &[u8]) -> Option<Keyword>
-    ensures { result ≡ found_in keywords text.now }
-{
-    let found = short_keyword(text);
-    let found = or_found(text, b"reshape", Keyword::Reshape, found);
-    let found = or_found(text, b"unwatch", Keyword::Unwatch, found);
-    or_found(text, b"pp_def", Keyword::PpDef, found)
-}
-
-fn short_word_kind(text: &[u8]) -> Option<WordKind>
-    ensures { result ≡ found_in short_word_kinds text.now }
+fn word_kind(text: &[u8]) -> Option<WordKind>
+    ensures { result ≡ found_in word_kinds text.now }
 {
     match text {
         b"byte" => Some(WordKind::OfType(Ty::Byte)),
         b"short" => Some(WordKind::OfType(Ty::Short)),
+        b"ushort" => Some(WordKind::OfType(Ty::Ushort)),
         b"long" => Some(WordKind::OfType(Ty::Long)),
+        b"longlong" => Some(WordKind::OfType(Ty::Longlong)),
         b"slice" => Some(WordKind::View),
         b"xchg" => Some(WordKind::View),
         b"mv" => Some(WordKind::View),
+        b"reorder" => Some(WordKind::View),
+        b"diagonal" => Some(WordKind::View),
         b"dummy" => Some(WordKind::View),
         b"clump" => Some(WordKind::View),
+        b"squeeze" => Some(WordKind::View),
         b"flat" => Some(WordKind::View),
         b"index" => Some(WordKind::View),
         b"where" => Some(WordKind::View),
@@ -72,17 +64,6 @@ fn short_word_kind(text: &[u8]) -> Option<WordKind>
         b"Code" => Some(WordKind::Code),
         _ => None,
     }
-}
-
-fn word_kind(text: &[u8]) -> Option<WordKind>
-    ensures { result ≡ found_in word_kinds text.now }
-{
-    let found = short_word_kind(text);
-    let found = or_found(text, b"squeeze", WordKind::View, found);
-    let found = or_found(text, b"diagonal", WordKind::View, found);
-    let found = or_found(text, b"reorder", WordKind::View, found);
-    let found = or_found(text, b"longlong", WordKind::OfType(Ty::Longlong), found);
-    or_found(text, b"ushort", WordKind::OfType(Ty::Ushort), found)
 }
 
 fn word(text: &[u8], span: Span) -> Lexeme
@@ -122,7 +103,27 @@ pub fn operator_named(text: &[u8]) -> Option<BinaryOp>
     }
 }
 
-fn sign(text: &[u8]) -> Option<Lexeme>
+/// The assignment that a text is the sign of, if any.
+pub fn assignment_named(text: &[u8]) -> Option<AssignOp>
+    ensures { result ≡ found_in assignments text.now }
+{
+    match text {
+        b".=" => Some(AssignOp::Set),
+        b"+=" => Some(AssignOp::With(BinaryOp::Add)),
+        b"-=" => Some(AssignOp::With(BinaryOp::Sub)),
+        b"*=" => Some(AssignOp::With(BinaryOp::Mul)),
+        b"/=" => Some(AssignOp::With(BinaryOp::Div)),
+        b"%=" => Some(AssignOp::With(BinaryOp::Rem)),
+        b"<<=" => Some(AssignOp::With(BinaryOp::Shl)),
+        b">>=" => Some(AssignOp::With(BinaryOp::Shr)),
+        b"&=" => Some(AssignOp::With(BinaryOp::And)),
+        b"|=" => Some(AssignOp::With(BinaryOp::Or)),
+        b"^=" => Some(AssignOp::With(BinaryOp::Xor)),
+        _ => None,
+    }
+}
+
+fn other_sign(text: &[u8]) -> Option<Lexeme>
     ensures { result ≡ found_in signs text.now }
 {
     match text {
@@ -134,32 +135,24 @@ fn sign(text: &[u8]) -> Option<Lexeme>
         b"=" => Some(Lexeme::Equals),
         b"->" => Some(Lexeme::Arrow),
         b"=>" => Some(Lexeme::FatArrow),
-        b".=" => Some(Lexeme::Assign(AssignOp::Set)),
-        b"+=" => Some(Lexeme::Assign(AssignOp::With(BinaryOp::Add))),
-        b"-=" => Some(Lexeme::Assign(AssignOp::With(BinaryOp::Sub))),
-        b"*=" => Some(Lexeme::Assign(AssignOp::With(BinaryOp::Mul))),
-        b"/=" => Some(Lexeme::Assign(AssignOp::With(BinaryOp::Div))),
-        b"%=" => Some(Lexeme::Assign(AssignOp::With(BinaryOp::Rem))),
-        b"<<=" => Some(Lexeme::Assign(AssignOp::With(BinaryOp::Shl))),
-        b">>=" => Some(Lexeme::Assign(AssignOp::With(BinaryOp::Shr))),
-        b"&=" => Some(Lexeme::Assign(AssignOp::With(BinaryOp::And))),
-        b"|=" => Some(Lexeme::Assign(AssignOp::With(BinaryOp::Or))),
-        b"^=" => Some(Lexeme::Assign(AssignOp::With(BinaryOp::Xor))),
         b"!" => Some(Lexeme::Prefix(UnaryOp::Not)),
         b"~" => Some(Lexeme::Prefix(UnaryOp::Complement)),
         _ => None,
     }
 }
 
-fn sign_lexeme(text: &[u8]) -> Lexeme
+fn sign(text: &[u8]) -> Lexeme
     ensures { result ≡ sign_of text.now }
 {
-    match sign(text) {
-        Some(sign) => sign,
-        None => match operator_named(text) {
-            Some(op) => Lexeme::Operator(op),
-            None => Lexeme::Unknown,
-        },
+    if let Some(sign) = other_sign(text) {
+        return sign;
+    }
+    if let Some(op) = operator_named(text) {
+        return Lexeme::Operator(op);
+    }
+    match assignment_named(text) {
+        Some(op) => Lexeme::Assign(op),
+        None => Lexeme::Unknown,
     }
 }
 
@@ -172,7 +165,8 @@ fn with_digit(n: u64, digit: u8) -> u64
     value.min(9223372036854775808) as u64
 }
 
-fn number(digits: &[u8]) -> u64
+/// The value of decimal digits, or 2 ^ 63 where it is above 9223372036854775807.
+pub fn number_of(digits: &[u8]) -> u64
     ensures { result ≡ number_of digits.now }
 {
     let mut n = 0;
@@ -192,12 +186,12 @@ fn lexeme(source: &[u8], token: Token) -> Lexeme
     match token.kind {
         TokenKind::Name => Lexeme::Name(span),
         TokenKind::Word => word(bytes(source, span), span),
-        TokenKind::Number => Lexeme::Number(number(bytes(source, span))),
+        TokenKind::Number => Lexeme::Number(number_of(bytes(source, span))),
         TokenKind::Str => Lexeme::Quoted(Span {
             from: span.from + 1,
             to: span.to.saturating_sub(1),
         }),
-        TokenKind::Sign => sign_lexeme(bytes(source, span)),
+        TokenKind::Sign => sign(bytes(source, span)),
     }
 }
 

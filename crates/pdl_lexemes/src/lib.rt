@@ -17,7 +17,7 @@ pub mod sizes;
 pub use checks::has_large;
 pub use laws::{every_sign_is_known, lists_are_arrays, lists_are_their_grammar, ragged_is_scanned};
 pub use left::Lexemes;
-pub use lexing::{bytes, keyword_named, lexemes, operator_named};
+pub use lexing::{assignment_named, bytes, keyword_named, lexemes, number_of, operator_named};
 use pdl_elem::{BinaryOp, Ty, UnaryOp};
 pub use refusal::Refusal;
 

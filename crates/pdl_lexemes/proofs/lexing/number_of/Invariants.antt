@@ -1,6 +1,6 @@
 use Rattle.std.proofs.Common.{◌≡◌, ◌≤◌, take, fold, ℕ}
 use Rattle.pdl_lexemes.specs.Lexing.{with_digit}
-use Rattle.pdl_code.proofs.lexing.number.Given as goal
+use Rattle.pdl_lexemes.proofs.lexing.number_of.Given as goal
 
 pub record Read (n value : ℕ) : Type 0 where
   pub same : n ≡ value
