@@ -1,25 +1,12 @@
 ghost use Rattle.std.specs.Prelude.{◌≡◌, ◌+◌, ◌^◌, ◌<◌, ◌≤◌, length, drop, Some, None, Ok, Err, ◌≢◌, IfOk, IfErr, IfSome};
 ghost use Rattle.std.specs.List.{list_all};
-ghost use Rattle.pdl_lex.specs.Bytes.{is_letter, is_word_byte};
+ghost use Rattle.pdl_lex.specs.Bytes.{is_word_byte};
 ghost use Rattle.pdl_lex.specs.Tokens.{is_word, is_sign, gap_at, token_at, fault_of, after_tokens, toks_from, toks, Spans};
-ghost use Rattle.pdl_lex.specs.TokenReading.{word_len, digits_len, other_len, name_after, string_after, begins_sign, sign_at, read_at};
+ghost use Rattle.pdl_lex.specs.TokenReading.{other_len, name_after, string_after, begins_sign, sign_at, read_at};
 
+use crate::bytes::{digits_len, is_letter, is_word_byte, word_len};
 use crate::{LexFault, Token, TokenKind};
 use std::alloc::Global;
-
-// Whether a name goes on with this byte after its `$`, and a word begins with it.
-fn is_letter(byte: u8) -> bool
-    ensures { result ≡ is_letter byte }
-{
-    byte.is_ascii_alphabetic() || byte == b'_'
-}
-
-// Whether a name or a word goes on with this byte.
-fn is_word_byte(byte: u8) -> bool
-    ensures { result ≡ is_word_byte byte }
-{
-    byte.is_ascii_alphanumeric() || byte == b'_'
-}
 
 /// Whether a text is a word: a letter or `_`, and then letters, digits and `_`.
 pub fn is_word(text: &[u8]) -> bool
@@ -41,22 +28,6 @@ fn are_word_bytes(text: &[u8]) -> bool
         }
     }
     true
-}
-
-// How many bytes at the front a name or a word goes on with.
-fn word_len(text: &[u8]) -> usize
-    ensures passed { result ≡ word_len text.now }
-    ensures within { result ≤ length text.now }
-{
-    text.iter().take_while(|byte| is_word_byte(**byte)).count()
-}
-
-// How many digits stand at the front.
-fn digits_len(text: &[u8]) -> usize
-    ensures passed { result ≡ digits_len text.now }
-    ensures within { result ≤ length text.now }
-{
-    text.iter().take_while(|byte| byte.is_ascii_digit()).count()
 }
 
 // How many bytes at the front are another byte than this one.

@@ -1,6 +1,7 @@
 //! Cuts the bytes of a script into statements, and the text of a statement into tokens.
 #![tactic(auto)]
 
+pub mod bytes;
 mod cutter;
 mod laws;
 mod lexer;
