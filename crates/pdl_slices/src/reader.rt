@@ -7,7 +7,9 @@ ghost use Rattle.pdl_slices.specs.SliceReading.{Stage, stage_after, kind_of, fin
 ghost use Rattle.pdl_slices.specs.Refusals.{has_zero_step};
 ghost use Rattle.pdl_slices.specs.declared.SliceArg.{SliceArg};
 
-use crate::reading::{Kind, NumberSoFar, Place, Slot, TooLarge, ending_argument, is_first, kind_of, moved};
+use crate::reading::{
+    Kind, NumberSoFar, Place, Slot, TooLarge, ending_argument, is_first, kind_of, moved,
+};
 use crate::{SliceArg, SliceArgs, SliceFault};
 use std::alloc::{AllocError, Global};
 

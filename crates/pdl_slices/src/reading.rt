@@ -113,7 +113,9 @@ fn part_after_blank(part: NumberSoFar) -> Option<NumberSoFar>
     match part {
         NumberSoFar::Before => Some(NumberSoFar::Before),
         NumberSoFar::Minus => None,
-        NumberSoFar::Digits { negative, size } => Some(NumberSoFar::After(with_sign(negative, size))),
+        NumberSoFar::Digits { negative, size } => {
+            Some(NumberSoFar::After(with_sign(negative, size)))
+        }
         NumberSoFar::After(number) => Some(NumberSoFar::After(number)),
     }
 }
@@ -196,7 +198,10 @@ pub fn moved(place: Place, kind: Kind) -> Option<Place>
 pub fn is_first(place: Place) -> bool
     ensures { result ≡ is_first place }
 {
-    matches!((place.slot, place.part), (Slot::Single, NumberSoFar::Before))
+    matches!(
+        (place.slot, place.part),
+        (Slot::Single, NumberSoFar::Before)
+    )
 }
 
 fn in_slot(slot: Slot, part: Option<NumberSoFar>) -> Option<Place>
