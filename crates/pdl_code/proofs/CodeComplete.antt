@@ -11,7 +11,7 @@ use Rattle.pdl_code.specs.declared.tree.LocalType.{LocalType}
 use Rattle.pdl_code.specs.Grammar.{Spells, an_expr, an_access, SpellsType, type_word, generic_type, Block, a_step, some_code, an_else, SpellsBlock, a_loop, a_choice, without_else, with_else, a_declaration, a_valued_declaration, a_word_assignment, an_access_assignment, no_code, empty_statement, a_statement, assigned}
 use Rattle.pdl_code.specs.Raw.{RawTree, RawIndices, RawStep, RawCode, number, repeat, choose, declare, set, put, done, next}
 use Rattle.pdl_code.specs.CodeReading.{access_at, after_block_open, after_else, after_if, after_open, after_semicolon, assignment_at, block_at, choice_at, code_at, code_reader, declared_at, else_at, ended_at, ends, expr_at, initial_at, loop_at, plain_at, put_at, read_code, reader, statement_at, step_at, word_at}
-use Rattle.pdl_code.proofs.Complete.{AccessStart, begins, complete, ends_close, ends_semicolon, read_whole, shorter}
+use Rattle.pdl_code.proofs.Complete.{AccessStart, begins, complete, ends_close, ends_semicolon, read_expression, shorter}
 
 -- the sign of an assignment
 record Sign (s : Lexeme) : Type 0 where
@@ -96,10 +96,10 @@ CompleteBlock (an_else c) ts rest = (n : ℕ) → length ts < n → after_else r
 -- expressions
 read_ended : (t : RawTree) (ts rest : List Lexeme) → Spells (an_expr 7 t) ts (Semicolon ∷ rest) → ended_at ts ≡ Some (t, rest)
 unfolding ended_at
-read_ended t ts rest h = rw (read_whole (suc (length ts)) t ts (Semicolon ∷ rest) (complete h) (omega arith) (ends_semicolon 7 rest))
+read_ended t ts rest h = rw (read_expression (suc (length ts)) t ts (Semicolon ∷ rest) (complete h) (omega arith) (ends_semicolon 7 rest))
 
 read_condition : (t : RawTree) (at : ℕ) (ts us : List Lexeme) → Spells (an_expr 7 t) ts (Close at ∷ us) → expr_at ts ≡ Some (t, Close at ∷ us)
-read_condition t at ts us h = read_whole (suc (length ts)) t ts (Close at ∷ us) (complete h) (omega arith) (ends_close 7 at us)
+read_condition t at ts us h = read_expression (suc (length ts)) t ts (Close at ∷ us) (complete h) (omega arith) (ends_close 7 at us)
 
 -- declarations
 declared_here : {ty : LocalType} {ts us : List Lexeme} (w : Span) (rest : List Lexeme) → SpellsType ty ts us → us ≡ Word Plain w ∷ rest → declared_at ts ≡ Some (record { ty = ty; word = w; rest = rest })

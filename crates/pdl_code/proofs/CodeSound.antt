@@ -9,7 +9,7 @@ use Rattle.pdl_code.specs.declared.lexeme.Lexeme.TheVariants.{Word, BlockClose, 
 use Rattle.pdl_code.specs.Grammar.{Spells, an_expr, an_access, SpellsType, a_step, some_code, an_else, SpellsBlock, a_loop, a_choice, without_else, with_else, a_declaration, a_valued_declaration, a_word_assignment, an_access_assignment, no_code, empty_statement, a_statement}
 use Rattle.pdl_code.specs.Join.{join_raw_code}
 use Rattle.pdl_code.specs.Raw.{RawTree, RawStep, RawCode, number, repeat, choose, declare, set, put, done, next}
-use Rattle.pdl_code.specs.CodeReading.{Read, Declared, access_at, after_block_close, after_condition, after_else, after_equals, after_if, after_semicolon, assignment_at, at_end, before_code, block_at, body_at, branches_at, choice_at, code_at, code_reader, declaration_at, declared_at, else_at, ended_at, ends, expr_at, initial_at, loop_at, one_step, put_at, put_sign, read_code, reader, set_sign, sign_at, statement_at, step_at, whole, word_at}
+use Rattle.pdl_code.specs.CodeReading.{Read, Declared, access_at, after_block_close, after_condition, after_else, after_equals, after_if, after_semicolon, assignment_at, at_end, before_code, block_at, body_at, branches_at, choice_at, code_at, code_reader, declaration_at, declared_at, else_at, ended_at, ends, expr_at, initial_at, loop_at, one_step, put_at, put_sign, read_code, reader, set_sign, sign_at, statement_at, step_at, expression, word_at}
 use Rattle.pdl_code.proofs.Chains.{ends_is}
 use Rattle.pdl_code.proofs.Peeks.{block_close_is, condition_is, declared_is, else_is, equals_is, if_is, loop_is, semicolon_is, sign_is, word_is}
 use Rattle.pdl_code.proofs.Sound.{access_sound, reader_sound}
@@ -25,7 +25,7 @@ abbrev TakenEnded : List Lexeme → RawTree × List Lexeme → Type 0
 TakenEnded ts x = Spells (an_expr 7 x.0) ts (Semicolon ∷ x.1)
 
 expr_sound : (ts : List Lexeme) (x : RawTree × List Lexeme) → expr_at ts ≡ Some x → Spells (an_expr 7 x.0) ts x.1
-expr_sound ts x e = reader_sound (suc (length ts)) whole ts x e
+expr_sound ts x e = reader_sound (suc (length ts)) expression ts x e
 
 ended_sound : (ts : List Lexeme) (x : RawTree × List Lexeme) → ended_at ts ≡ Some x → TakenEnded ts x
 unfolding ended_at

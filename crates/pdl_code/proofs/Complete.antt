@@ -14,7 +14,7 @@ use Rattle.pdl_code.specs.declared.lexeme.Lexeme.{Lexeme}
 use Rattle.pdl_code.specs.declared.lexeme.Lexeme.TheVariants.{Name, Word, Number, Open, Close, Semicolon, Comma, FatArrow, Operator, Prefix}
 use Rattle.pdl_code.specs.Grammar.{Part, an_expr, a_primary, an_access, some_indices, Spells, same, joined, once, negated, prefixed, plain, a_number, a_word, a_size, an_element, round, looped_access, given_access, last_index, next_index}
 use Rattle.pdl_code.specs.Raw.{RawTree, RawIndices, number, size, named, access, unary, binary, none, along}
-use Rattle.pdl_code.specs.CodeReading.{whole, access_at, after_comma, chain_at, close_at, declared_at, given_at, indices_at, level_at, limit_of, operator_at, plain_at, prefix_at, primary_at, reader, size_at, unary_at}
+use Rattle.pdl_code.specs.CodeReading.{expression, access_at, after_comma, chain_at, close_at, declared_at, given_at, indices_at, level_at, limit_of, operator_at, plain_at, prefix_at, primary_at, reader, size_at, unary_at}
 use Rattle.pdl_code.proofs.Chains.{chain_stop_at, chain_turn_at}
 use Rattle.pdl_code.proofs.Peeks.{operator_here, operator_other}
 
@@ -231,11 +231,11 @@ unfolding primary_at reader
 read_round zero t at ts rest h le = absurd (omega arith)
 read_round (suc m) t at ts rest h le = rw (finished 7 t ts (Close at ∷ rest) h m (omega arith) (ends_close 7 at rest))
 
-pub read_whole : (n : ℕ) (t : RawTree) (ts rest : List Lexeme) → Complete (an_expr 7 t) ts rest → length ts < n → Ends 7 rest →
-    reader n whole ts ≡ Some (t, rest)
+pub read_expression : (n : ℕ) (t : RawTree) (ts rest : List Lexeme) → Complete (an_expr 7 t) ts rest → length ts < n → Ends 7 rest →
+    reader n expression ts ≡ Some (t, rest)
 unfolding reader
-read_whole zero t ts rest h le e = absurd (omega arith)
-read_whole (suc m) t ts rest h le e = finished 7 t ts rest h m (omega arith) e
+read_expression zero t ts rest h le e = absurd (omega arith)
+read_expression (suc m) t ts rest h le e = finished 7 t ts rest h m (omega arith) e
 
 read_looped : (n : ℕ) (kind : NameKind) (w : Span) (at : ℕ) (rest : List Lexeme) → access_at (reader n) (Name kind w ∷ Open ∷ Close at ∷ rest) ≡ Some ((w, none, at), rest)
 unfolding given_at
@@ -251,18 +251,18 @@ read_given : (n : ℕ) (kind : NameKind) (w : Span) (is : RawIndices) (at : ℕ)
 read_given n kind w is at ts rest i h le =
     given_here n kind w is at ts rest (ap close_at i.is) (h n (length ts) (omega (arith, le)) (omega arith) (ends_close 7 at rest) refl)
 
-read_last : (n k : ℕ) (kind : WordKind) (w : Span) (t : RawTree) (ts rest : List Lexeme) → suc (suc (length ts)) ≤ k → after_comma rest ≡ None → reader n whole ts ≡ Some (t, rest)
+read_last : (n k : ℕ) (kind : WordKind) (w : Span) (t : RawTree) (ts rest : List Lexeme) → suc (suc (length ts)) ≤ k → after_comma rest ≡ None → reader n expression ts ≡ Some (t, rest)
     → indices_at (reader n) k (Word kind w ∷ FatArrow ∷ ts) ≡ Some (along w t none, rest)
 unfolding indices_at
 read_last n zero kind w t ts rest le e h = absurd (omega (arith, le))
 read_last n (suc k) kind w t ts rest le e h = rw h (rw e)
 
-read_next : (n k : ℕ) (kind : WordKind) (w : Span) (t : RawTree) (is : RawIndices) (ts us rest : List Lexeme) → reader n whole ts ≡ Some (t, Comma ∷ us)
+read_next : (n k : ℕ) (kind : WordKind) (w : Span) (t : RawTree) (is : RawIndices) (ts us rest : List Lexeme) → reader n expression ts ≡ Some (t, Comma ∷ us)
     → indices_at (reader n) k us ≡ Some (is, rest) → indices_at (reader n) (suc k) (Word kind w ∷ FatArrow ∷ ts) ≡ Some (along w t is, rest)
 unfolding indices_at
 read_next n k kind w t is ts us rest h m = rw h (rw m)
 
-read_more : (n k : ℕ) (kind : WordKind) (w : Span) (t : RawTree) (is : RawIndices) (ts us rest : List Lexeme) → suc (suc (length ts)) ≤ k → reader n whole ts ≡ Some (t, Comma ∷ us)
+read_more : (n k : ℕ) (kind : WordKind) (w : Span) (t : RawTree) (is : RawIndices) (ts us rest : List Lexeme) → suc (suc (length ts)) ≤ k → reader n expression ts ≡ Some (t, Comma ∷ us)
     → ((j : ℕ) → length ts ≤ j → indices_at (reader n) j us ≡ Some (is, rest)) → indices_at (reader n) k (Word kind w ∷ FatArrow ∷ ts) ≡ Some (along w t is, rest)
 read_more n zero kind w t is ts us rest le h m = absurd (omega (arith, le))
 read_more n (suc k) kind w t is ts us rest le h m = read_next n k kind w t is ts us rest h (m k (omega (arith, le)))
@@ -304,9 +304,9 @@ complete (given_access {kind = kind} {w = w} {is = is} {at = at} {ts = ts} {rest
     λ n le. read_given n kind w is at ts rest b ih le
 complete (last_index {kind = kind} {w = w} {t = t} {ts = ts} {rest = rest} h) =
     let ih = complete h in
-    λ n k lt le e c. read_last n k kind w t ts rest le c (read_whole n t ts rest ih (omega (arith, lt)) e)
+    λ n k lt le e c. read_last n k kind w t ts rest le c (read_expression n t ts rest ih (omega (arith, lt)) e)
 complete (next_index {kind = kind} {w = w} {t = t} {is = is} {ts = ts} {us = us} {rest = rest} h m) =
     let ih = complete h in
     let im = complete m in
     let x = shorter h in
-    λ n k lt le e c. read_more n k kind w t is ts us rest le (read_whole n t ts (Comma ∷ us) ih (omega (arith, lt)) (ends_comma 7 us)) (λ j at. im n j (omega (arith, x, lt)) (omega (arith, x, at)) e c)
+    λ n k lt le e c. read_more n k kind w t is ts us rest le (read_expression n t ts (Comma ∷ us) ih (omega (arith, lt)) (ends_comma 7 us)) (λ j at. im n j (omega (arith, x, lt)) (omega (arith, x, at)) e c)

@@ -15,12 +15,12 @@ use Rattle.pdl_code.specs.declared.lexeme.Lexeme.TheVariants.{Name, Word, Number
 use Rattle.pdl_code.specs.Grammar.{Part, an_expr, a_primary, an_access, some_indices, Spells, same, joined, once, negated, prefixed, plain, a_number, a_word, a_size, an_element, round, looped_access, given_access, last_index, next_index}
 use Rattle.pdl_code.specs.Join.{join_raw}
 use Rattle.pdl_code.specs.Raw.{RawTree, RawIndices, size, access, unary, binary, none, along}
-use Rattle.pdl_code.specs.CodeReading.{Read, Kind, whole, operand, access_at, access_name, after_close, after_comma, before, chain_at, close_at, closed_at, element_at, given_at, index_at, index_word, indices_at, level_at, limit_of, name_first, number_before, operator_at, prefix_at, primary_at, reader, round_at, size_at, unary_at}
+use Rattle.pdl_code.specs.CodeReading.{Read, Kind, expression, operand, access_at, access_name, after_close, after_comma, before, chain_at, close_at, closed_at, element_at, given_at, index_at, index_word, indices_at, level_at, limit_of, name_first, number_before, operator_at, prefix_at, primary_at, reader, round_at, size_at, unary_at}
 use Rattle.pdl_code.proofs.Peeks.{access_is, close_is, closed_is, comma_is, index_is, operator_is, size_is}
 
 -- what each kind of reading spells
 abbrev pub part_of : Kind → RawTree → Part
-part_of whole t = an_expr 7 t
+part_of expression t = an_expr 7 t
 part_of operand t = an_expr 0 t
 
 -- a part that is read from these tokens
@@ -60,11 +60,11 @@ module _ (f : Kind → List Lexeme → Read RawTree)
     (sound : (kind : Kind) (ts : List Lexeme) (x : RawTree × List Lexeme) → f kind ts ≡ Some x → Taken (part_of kind) ts x) where
   index_sound : (ts : List Lexeme) (x : RawIndices × List Lexeme) → index_at f ts ≡ Some x → IndexRead ts x
   index_sound ts x e =
-      then_elim (IndexRead ts x) (λ w. option_map (λ y. (along w.0 y.0 none, y.1)) (f whole w.1)) (index_word ts) e
-      (λ w h k. map_elim (IndexRead ts x) (λ y. (along w.0 y.0 none, y.1)) (f whole w.1) k
+      then_elim (IndexRead ts x) (λ w. option_map (λ y. (along w.0 y.0 none, y.1)) (f expression w.1)) (index_word ts) e
+      (λ w h k. map_elim (IndexRead ts x) (λ y. (along w.0 y.0 none, y.1)) (f expression w.1) k
       (λ y m is. let i = index_is ts w h in
       subst (IndexRead ts) is
-      (record { kind = i.kind; word = w.0; tree = y.0; left = w.1; is = i.is; indices = refl; spelled = sound whole w.1 y m })))
+      (record { kind = i.kind; word = w.0; tree = y.0; left = w.1; is = i.is; indices = refl; spelled = sound expression w.1 y m })))
 
   indices_sound : (k : ℕ) (ts : List Lexeme) (x : RawIndices × List Lexeme) → indices_at f k ts ≡ Some x → TakenIndices ts x
   unfolding indices_at
@@ -98,10 +98,10 @@ module _ (f : Kind → List Lexeme → Read RawTree)
 
   round_sound : (ts : List Lexeme) (x : RawTree × List Lexeme) → round_at f ts ≡ Some x → Taken a_primary (Open ∷ ts) x
   round_sound ts x e =
-      then_elim (Taken a_primary (Open ∷ ts) x) (λ y. option_map (λ us. (y.0, us)) (after_close y.1)) (f whole ts) e
+      then_elim (Taken a_primary (Open ∷ ts) x) (λ y. option_map (λ us. (y.0, us)) (after_close y.1)) (f expression ts) e
       (λ y h k. map_elim (Taken a_primary (Open ∷ ts) x) (λ us. (y.0, us)) (after_close y.1) k
       (λ us c is. let b = closed_is y.1 us c in
-      subst (Taken a_primary (Open ∷ ts)) is (round (subst (Spells (an_expr 7 y.0) ts) b.is (sound whole ts y h)))))
+      subst (Taken a_primary (Open ∷ ts)) is (round (subst (Spells (an_expr 7 y.0) ts) b.is (sound expression ts y h)))))
 
   name_sound : (ts : List Lexeme) (x : RawTree × List Lexeme) → name_first f ts ≡ Some x → Taken a_primary ts x
   name_sound ts x e =
@@ -193,5 +193,5 @@ module _ (f : Kind → List Lexeme → Read RawTree)
 pub reader_sound : (n : ℕ) (kind : Kind) (ts : List Lexeme) (x : RawTree × List Lexeme) → reader n kind ts ≡ Some x → Taken (part_of kind) ts x
 unfolding reader
 reader_sound zero kind ts x e = absurd (none_some e)
-reader_sound (suc n) whole ts x e = level_sound (reader n) (reader_sound n) 7 ts x e
+reader_sound (suc n) expression ts x e = level_sound (reader n) (reader_sound n) 7 ts x e
 reader_sound (suc n) operand ts x e = unary_sound (reader n) (reader_sound n) ts x e

@@ -181,7 +181,7 @@ number_before ts z = (number z, ts)
 
 -- the parts of an expression that may hold each other
 pub data Kind : Type 0 where
-  whole : Kind
+  expression : Kind
   operand : Kind
 
 -- what was found, before what is read
@@ -204,7 +204,7 @@ chain_at inner l (suc k) t ts =
 module _ (f : Kind → List Lexeme → Read RawTree) where
   -- one index
   abbrev pub index_at : List Lexeme → Read RawIndices
-  index_at ts = option_and_then (λ w. option_map (λ x. (along w.0 x.0 none, x.1)) (f whole w.1))
+  index_at ts = option_and_then (λ w. option_map (λ x. (along w.0 x.0 none, x.1)) (f expression w.1))
       (index_word ts)
 
   -- at most k indices
@@ -231,7 +231,7 @@ module _ (f : Kind → List Lexeme → Read RawTree) where
   element_at ts = option_map (λ x. (access x.0.0 x.0.1 x.0.2, x.1)) (access_at ts)
 
   abbrev pub round_at : List Lexeme → Read RawTree
-  round_at ts = option_and_then (λ x. option_map (λ us. (x.0, us)) (after_close x.1)) (f whole ts)
+  round_at ts = option_and_then (λ x. option_map (λ us. (x.0, us)) (after_close x.1)) (f expression ts)
 
   abbrev pub name_first : List Lexeme → Read RawTree
   name_first ts = either (element_at ts) (λ x. Some (size x.0, x.1)) (size_at ts)
@@ -258,12 +258,12 @@ module _ (f : Kind → List Lexeme → Read RawTree) where
 -- an expression in which at most n parts are open at once
 unfoldable pub reader : ℕ → Kind → List Lexeme → Read RawTree
 reader zero kind ts = None
-reader (suc n) whole ts = level_at (reader n) 7 ts
+reader (suc n) expression ts = level_at (reader n) 7 ts
 reader (suc n) operand ts = unary_at (reader n) ts
 
 -- a whole expression
 abbrev pub expr_at : List Lexeme → Read RawTree
-expr_at ts = reader (suc (length ts)) whole ts
+expr_at ts = reader (suc (length ts)) expression ts
 
 -- an expression and `;`
 unfoldable pub ended_at : List Lexeme → Read RawTree

@@ -3,10 +3,11 @@
 use Rattle.std.specs.Prelude.{ℕ, zero, suc, pred, ◌+◌, ◌==◌, nat_le, nat_lt, Bool, true, false, if◌then◌else◌, List, [], ◌∷◌, ◌++◌, length, take, Option, Some, None, option_map, codes, bytes_eq}
 use Rattle.std.specs.List.{prefix_len}
 use Rattle.std.specs.Char.{is_ascii_digit}
-use Rattle.pdl_elem.specs.declared.BinaryOp.TheVariants.{Add, Sub, Mul, Div, Rem, Shl, Shr, And, Or, Xor}
 use Rattle.pdl_elem.specs.declared.UnaryOp.TheVariants.{Not, Complement}
 use Rattle.pdl_lex.specs.Bytes.{is_blank, is_letter, is_word_byte}
-use Rattle.pdl_lexemes.specs.Lexing.{found_in, operators, number_of}
+use Rattle.pdl_lexemes.specs.declared.AssignOp.{AssignOp}
+use Rattle.pdl_lexemes.specs.declared.AssignOp.TheVariants.{Set, With}
+use Rattle.pdl_lexemes.specs.Lexing.{found_in, operators, assignments, number_of}
 use Rattle.pdl_lexemes.specs.ListReading.{choose}
 use Rattle.pdl_code.specs.declared.lexeme.Span.{Span}
 use Rattle.pdl_code.specs.declared.lexeme.WordKind.{WordKind}
@@ -35,21 +36,27 @@ word_kind =
 abbrev pub name_kind : List ℕ → NameKind
 name_kind = found_or PlainName ((codes "$SIZE", Size) ∷ (codes "$GENERIC", Generic) ∷ [])
 
--- the signs but those of operators on two values; the closing bracket has its place
+-- the signs but those of operators on two values and of assignments; the closing bracket has its
+-- place
 abbrev pub signs : ℕ → List (List ℕ × Lexeme)
 signs at =
     (codes "(", Open) ∷ (codes ")", Close at) ∷ (codes "%{", BlockOpen) ∷ (codes "%}", BlockClose)
     ∷ (codes ";", Semicolon) ∷ (codes ",", Comma) ∷ (codes "=", Equals) ∷ (codes "=>", FatArrow)
-    ∷ (codes "->", Arrow) ∷ (codes ".=", Unused) ∷ (codes "[", Unused) ∷ (codes "]", Unused)
-    ∷ (codes "+=", Assign Add) ∷ (codes "-=", Assign Sub) ∷ (codes "*=", Assign Mul)
-    ∷ (codes "/=", Assign Div) ∷ (codes "%=", Assign Rem) ∷ (codes "<<=", Assign Shl)
-    ∷ (codes ">>=", Assign Shr) ∷ (codes "&=", Assign And) ∷ (codes "|=", Assign Or)
-    ∷ (codes "^=", Assign Xor) ∷ (codes "!", Prefix Not) ∷ (codes "~", Prefix Complement) ∷ []
+    ∷ (codes "->", Arrow) ∷ (codes "[", Unused) ∷ (codes "]", Unused)
+    ∷ (codes "!", Prefix Not) ∷ (codes "~", Prefix Complement) ∷ []
+
+-- an assignment by an operator; kernel code has none by `.=`
+abbrev pub assignment : AssignOp → Lexeme
+assignment Set = Unused
+assignment (With op) = Assign op
 
 -- the sign that a text is, if any
 abbrev pub sign_named : ℕ → List ℕ → Option Lexeme
 sign_named at text =
-    choose (option_map (λ op. Operator op) (found_in operators text)) (λ s. Some s)
+    choose
+    (choose (option_map assignment (found_in assignments text)) (λ op. Some (Operator op))
+    (found_in operators text))
+    (λ s. Some s)
     (found_in (signs at) text)
 
 -- the sign of n bytes at the front, with its length

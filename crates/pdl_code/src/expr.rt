@@ -6,7 +6,7 @@ ghost use Rattle.pdl_code.specs.Raw.{RawIndices};
 ghost use Rattle.pdl_lexemes.specs.Answers.{Gives};
 ghost use Rattle.pdl_lexemes.specs.Lists.{signed};
 ghost use Rattle.pdl_code.specs.RawOf.{raw_indices, raw_of};
-ghost use Rattle.pdl_code.specs.CodeReading.{access_at, before, chain_at, element_at, expr_at, given_at, index_at, indices_at, level_at, limit_of, name_first, number_before, operand, primary_at, reader, round_at, unary_at, whole};
+ghost use Rattle.pdl_code.specs.CodeReading.{access_at, before, chain_at, element_at, expr_at, expression, given_at, index_at, indices_at, level_at, limit_of, name_first, number_before, operand, primary_at, reader, round_at, unary_at};
 
 use crate::left::Lexemes;
 use crate::lexeme::{Lexeme, Span};
@@ -21,8 +21,8 @@ pub type Read<'a, T> = Result<(T, Lexemes<'a>), Refusal>;
 /// A whole expression in which at most `fuel` parts are open at once.
 #[cycle(parser)]
 #[tactic(auto, unfolding(crate::specs::CodeReading::reader))]
-pub fn whole<'a>(alloc: Global, fuel: usize, tokens: &Lexemes<'a>) -> Read<'a, RawExpr>
-    ensures read { Gives (λ x. (raw_of x.0, x.1)) result (reader fuel whole tokens.now) }
+pub fn expression<'a>(alloc: Global, fuel: usize, tokens: &Lexemes<'a>) -> Read<'a, RawExpr>
+    ensures read { Gives (λ x. (raw_of x.0, x.1)) result (reader fuel expression tokens.now) }
 {
     if fuel == 0 {
         return Err(Refusal::Refused);
@@ -136,7 +136,7 @@ fn number<'a>(n: u64, rest: Lexemes<'a>) -> Read<'a, RawExpr>
 fn round<'a>(alloc: Global, fuel: usize, tokens: &Lexemes<'a>) -> Read<'a, RawExpr>
     ensures read { Gives (λ x. (raw_of x.0, x.1)) result (round_at (reader fuel) tokens.now) }
 {
-    let (inner, rest) = whole(alloc, fuel, tokens)?;
+    let (inner, rest) = expression(alloc, fuel, tokens)?;
     let rest = peek::after_close(&rest).ok_or(Refusal::Refused)?;
     Ok((inner, rest))
 }
@@ -219,7 +219,7 @@ fn index<'a>(
         (before (raw_indices found.items) (index_at (reader fuel) tokens.now)) }
 {
     let (word, rest) = peek::index_word(tokens).ok_or(Refusal::Refused)?;
-    let (e, rest) = whole(alloc, fuel, &rest)?;
+    let (e, rest) = expression(alloc, fuel, &rest)?;
     Ok((raw_build::with_entry(found, word, e)?, rest))
 }
 
@@ -227,5 +227,5 @@ fn index<'a>(
 pub fn expr<'a>(alloc: Global, tokens: &Lexemes<'a>) -> Read<'a, RawExpr>
     ensures read { Gives (λ x. (raw_of x.0, x.1)) result (expr_at tokens.now) }
 {
-    whole(alloc, tokens.len() + 1, tokens)
+    expression(alloc, tokens.len() + 1, tokens)
 }

@@ -1,16 +1,14 @@
 //! The tokens of kernel code.
-ghost use Rattle.std.specs.Prelude.{◌≡◌, ◌∷◌, ◌++◌, [], OnOk, ◌≤◌, ◌<◌, ◌+◌, ◌^◌, length, drop, take, min, IfOk, IfErr, IfSome, None, false, if◌then◌else◌, bytes_eq};
-ghost use Rattle.std.specs.List.{prefix_len};
-ghost use Rattle.std.specs.Char.{is_ascii_digit};
-ghost use Rattle.pdl_lex.specs.Bytes.{is_blank, is_letter, is_word_byte};
-ghost use Rattle.pdl_lexemes.specs.Lexing.{found_in, number_of, with_digit};
-ghost use Rattle.pdl_code.specs.Lexing.{behind, lexed, lexed_from, lexeme_at, name_kind, name_len, number_len, sign_at, sign_named, sign_of, signs, span_at, word_kind, word_len};
+ghost use Rattle.std.specs.Prelude.{◌≡◌, ◌∷◌, ◌++◌, [], OnOk, ◌≤◌, ◌<◌, ◌+◌, ◌^◌, length, drop, IfOk, IfErr, IfSome, None, false};
+ghost use Rattle.pdl_lexemes.specs.Lexing.{found_in};
+ghost use Rattle.pdl_code.specs.Lexing.{assignment, behind, lexed, lexed_from, lexeme_at, name_kind, name_len, number_len, sign_at, sign_named, sign_of, signs, span_at, word_kind, word_len};
 
 use crate::fault::KernelFault;
 use crate::lexeme::{Lexeme, NameKind, Span, WordKind};
 use crate::tree::LocalType;
-use pdl_elem::{BinaryOp, UnaryOp};
-use pdl_lexemes::operator_named;
+use pdl_elem::UnaryOp;
+use pdl_lex::bytes::{digits_len, is_blank, is_letter, word_len as word_bytes};
+use pdl_lexemes::{AssignOp, assignment_named, number_of, operator_named};
 use std::alloc::{AllocError, Global};
 
 /// The tokens of a text up to the first byte that begins none.
@@ -19,40 +17,6 @@ pub struct Lexed {
     pub lexemes: Vec<Lexeme>,
     /// Whether each byte belongs to a token or is a blank.
     pub whole: bool,
-}
-
-fn is_blank(byte: u8) -> bool
-    ensures { result ≡ is_blank byte }
-{
-    byte == b' ' || byte == b'\t' || byte == b'\n' || byte == b'\r'
-}
-
-fn is_letter(byte: u8) -> bool
-    ensures { result ≡ is_letter byte }
-{
-    byte.is_ascii_alphabetic() || byte == b'_'
-}
-
-fn is_word_byte(byte: u8) -> bool
-    ensures { result ≡ is_word_byte byte }
-{
-    byte.is_ascii_alphanumeric() || byte == b'_'
-}
-
-// How many bytes at the front a word goes on with.
-fn word_bytes(text: &[u8]) -> usize
-    ensures passed { result ≡ prefix_len is_word_byte text.now }
-    ensures within { result ≤ length text.now }
-{
-    text.iter().take_while(|byte| is_word_byte(**byte)).count()
-}
-
-// How many digits stand at the front.
-fn digits(text: &[u8]) -> usize
-    ensures passed { result ≡ prefix_len is_ascii_digit text.now }
-    ensures within { result ≤ length text.now }
-{
-    text.iter().take_while(|byte| byte.is_ascii_digit()).count()
 }
 
 // How many bytes the word at the front has; 0 where there is none.
@@ -100,7 +64,7 @@ fn number_len(text: &[u8]) -> usize
             if *first == b'0' {
                 1
             } else if first.is_ascii_digit() {
-                1 + digits(rest)
+                1 + digits_len(rest)
             } else {
                 0
             }
@@ -108,39 +72,31 @@ fn number_len(text: &[u8]) -> usize
     }
 }
 
-// The value for this word, where the text is the word.
-fn or_found<T: Copy>(text: &[u8], word: &[u8], value: T, others: T) -> T
-    ensures { result ≡ (if bytes_eq text.now word.now then value else others) }
-{
-    if text == word { value } else { others }
-}
-
 fn word_kind(text: &[u8]) -> WordKind
     ensures { result ≡ word_kind text.now }
 {
-    let kind = WordKind::Plain;
-    let kind = or_found(
-        text,
-        b"longlong",
-        WordKind::OfType(LocalType::Longlong),
-        kind,
-    );
-    let kind = or_found(text, b"long", WordKind::OfType(LocalType::Long), kind);
-    let kind = or_found(text, b"int", WordKind::OfType(LocalType::Long), kind);
-    let kind = or_found(text, b"else", WordKind::Else, kind);
-    let kind = or_found(text, b"if", WordKind::If, kind);
-    or_found(text, b"loop", WordKind::Loop, kind)
+    match text {
+        b"loop" => WordKind::Loop,
+        b"if" => WordKind::If,
+        b"else" => WordKind::Else,
+        b"int" => WordKind::OfType(LocalType::Long),
+        b"long" => WordKind::OfType(LocalType::Long),
+        b"longlong" => WordKind::OfType(LocalType::Longlong),
+        _ => WordKind::Plain,
+    }
 }
 
 fn name_kind(text: &[u8]) -> NameKind
     ensures { result ≡ name_kind text.now }
 {
-    let kind = NameKind::Plain;
-    let kind = or_found(text, b"$GENERIC", NameKind::Generic, kind);
-    or_found(text, b"$SIZE", NameKind::Size, kind)
+    match text {
+        b"$SIZE" => NameKind::Size,
+        b"$GENERIC" => NameKind::Generic,
+        _ => NameKind::Plain,
+    }
 }
 
-// The sign, where it is none of an operator on two values.
+// The sign, where it is none of an operator or an assignment.
 fn other_sign(at: u32, text: &[u8]) -> Option<Lexeme>
     ensures { result ≡ found_in (signs at) text.now }
 {
@@ -154,34 +110,35 @@ fn other_sign(at: u32, text: &[u8]) -> Option<Lexeme>
         b"=" => Some(Lexeme::Equals),
         b"=>" => Some(Lexeme::FatArrow),
         b"->" => Some(Lexeme::Arrow),
-        b".=" => Some(Lexeme::Unused),
         b"[" => Some(Lexeme::Unused),
         b"]" => Some(Lexeme::Unused),
-        b"+=" => Some(Lexeme::Assign(BinaryOp::Add)),
-        b"-=" => Some(Lexeme::Assign(BinaryOp::Sub)),
-        b"*=" => Some(Lexeme::Assign(BinaryOp::Mul)),
-        b"/=" => Some(Lexeme::Assign(BinaryOp::Div)),
-        b"%=" => Some(Lexeme::Assign(BinaryOp::Rem)),
-        b"<<=" => Some(Lexeme::Assign(BinaryOp::Shl)),
-        b">>=" => Some(Lexeme::Assign(BinaryOp::Shr)),
-        b"&=" => Some(Lexeme::Assign(BinaryOp::And)),
-        b"|=" => Some(Lexeme::Assign(BinaryOp::Or)),
-        b"^=" => Some(Lexeme::Assign(BinaryOp::Xor)),
         b"!" => Some(Lexeme::Prefix(UnaryOp::Not)),
         b"~" => Some(Lexeme::Prefix(UnaryOp::Complement)),
         _ => None,
     }
 }
 
+fn assignment(op: AssignOp) -> Lexeme
+    ensures { result ≡ assignment op }
+{
+    match op {
+        AssignOp::Set => Lexeme::Unused,
+        AssignOp::With(op) => Lexeme::Assign(op),
+    }
+}
+
 fn sign(at: u32, text: &[u8]) -> Option<Lexeme>
     ensures { result ≡ sign_named at text.now }
 {
-    match other_sign(at, text) {
-        Some(sign) => Some(sign),
-        None => match operator_named(text) {
-            Some(op) => Some(Lexeme::Operator(op)),
-            None => None,
-        },
+    if let Some(sign) = other_sign(at, text) {
+        return Some(sign);
+    }
+    if let Some(op) = operator_named(text) {
+        return Some(Lexeme::Operator(op));
+    }
+    match assignment_named(text) {
+        Some(op) => Some(assignment(op)),
+        None => None,
     }
 }
 
@@ -215,25 +172,6 @@ fn sign_at(at: u32, text: &[u8]) -> Option<(Lexeme, usize)>
     }
 }
 
-fn with_digit(n: u64, digit: u8) -> u64
-    requires { n ≤ 9223372036854775808 }
-    ensures value { result ≡ with_digit n digit }
-    ensures most { result ≤ 9223372036854775808 }
-{
-    let value = n as u128 * 10 + digit.saturating_sub(48) as u128;
-    value.min(9223372036854775808) as u64
-}
-
-fn number(digits: &[u8]) -> u64
-    ensures { result ≡ number_of digits.now }
-{
-    let mut n = 0;
-    for digit in digits {
-        n = with_digit(n, *digit);
-    }
-    n
-}
-
 fn span(at: usize, len: usize) -> Span
     requires { at + len < 2 ^ 32 }
     ensures { result ≡ span_at at len }
@@ -261,7 +199,7 @@ fn lexeme_at(at: usize, text: &[u8]) -> Option<(Lexeme, usize)>
     }
     let len = number_len(text);
     if len > 0 {
-        return Some((Lexeme::Number(number(&text[..len])), len));
+        return Some((Lexeme::Number(number_of(&text[..len])), len));
     }
     sign_at(at as u32, text)
 }

@@ -1,12 +1,12 @@
 //! Looks at the front of what is left, each with what follows.
 ghost use Rattle.std.specs.Prelude.{◌≡◌, option_map};
-ghost use Rattle.pdl_syntax.specs.Grammar.{level_of};
 ghost use Rattle.pdl_code.specs.CodeReading.{access_name, after_block_close, after_block_open, after_close, after_comma, after_condition, after_else, after_else_word, after_equals, after_fat_arrow, after_generic_name, after_if, after_if_word, after_loop_word, after_open, after_semicolon, after_size_name, bracketed_word, close_at, declared_at, ends, generic_at, index_word, loop_at, name_at, operator_at, plain_at, prefix_at, sign_at, size_at, type_at, type_word_at, word_at};
 
 use crate::left::Lexemes;
 use crate::lexeme::{Lexeme, NameKind, Span, WordKind};
 use crate::tree::LocalType;
 use pdl_elem::{BinaryOp, UnaryOp};
+use pdl_syntax::level_of;
 
 pub fn after_open<'a>(tokens: &Lexemes<'a>) -> Option<Lexemes<'a>>
     ensures rest { result ≡ after_open tokens.now }
@@ -177,20 +177,6 @@ pub fn prefix<'a>(tokens: &Lexemes<'a>) -> Option<(UnaryOp, Lexemes<'a>)>
         Some((Lexeme::Prefix(op), rest)) => Some((op, rest)),
         Some((Lexeme::Operator(BinaryOp::Sub), rest)) => Some((UnaryOp::Neg, rest)),
         _ => None,
-    }
-}
-
-fn level_of(op: BinaryOp) -> u8
-    ensures { result ≡ level_of op }
-{
-    match op {
-        BinaryOp::Mul | BinaryOp::Div | BinaryOp::Rem => 1,
-        BinaryOp::Add | BinaryOp::Sub => 2,
-        BinaryOp::Shl | BinaryOp::Shr => 3,
-        BinaryOp::Lt | BinaryOp::Gt | BinaryOp::Le | BinaryOp::Ge => 4,
-        BinaryOp::Eq | BinaryOp::Ne => 5,
-        BinaryOp::And => 6,
-        BinaryOp::Or | BinaryOp::Xor => 7,
     }
 }
 

@@ -1,35 +1,18 @@
 //! The tokens of signatures. Each function takes a text, and answers what stands at its front with
 //! the text after it.
 ghost use Rattle.std.specs.Prelude.{◌≡◌, ◌≤◌, ◌||◌, if◌then◌else◌, bytes_eq, Some, length, min, option_map, IsTrue};
-ghost use Rattle.std.specs.List.{list_all, prefix_len};
+ghost use Rattle.std.specs.List.{list_all};
 ghost use Rattle.std.specs.Char.{is_ascii_digit};
-ghost use Rattle.pdl_lex.specs.Bytes.{is_blank, is_letter, is_word_byte};
+ghost use Rattle.pdl_lex.specs.Bytes.{is_letter};
 ghost use Rattle.pdl_sig.specs.Grammar.{past_blanks, begins, value_after, is_number, type_of, role_of, is_arg_word, is_dim_word};
 ghost use Rattle.pdl_sig.specs.SignatureReading.{is_end, sign_at, word_at, number_at};
 
 use crate::Role;
 use pdl_elem::Ty;
+use pdl_lex::bytes::{digits_len, is_blank, is_letter, word_len};
 
 /// The largest number that a dimension is fixed to.
 const MOST_SIZE: u32 = 1_048_576;
-
-fn is_blank(byte: u8) -> bool
-    ensures { result ≡ is_blank byte }
-{
-    matches!(byte, b' ' | b'\t' | b'\n' | b'\r')
-}
-
-fn is_letter(byte: u8) -> bool
-    ensures { result ≡ is_letter byte }
-{
-    byte.is_ascii_alphabetic() || byte == b'_'
-}
-
-fn is_word_byte(byte: u8) -> bool
-    ensures { result ≡ is_word_byte byte }
-{
-    byte.is_ascii_alphanumeric() || byte == b'_'
-}
 
 /// The text past its blanks.
 fn past_blanks(text: &[u8]) -> &[u8]
@@ -69,22 +52,6 @@ fn begins_word(text: &[u8]) -> bool
         [first, ..] => is_letter(*first),
         [] => false,
     }
-}
-
-/// How many bytes at the front a word goes on with.
-fn word_len(text: &[u8]) -> usize
-    ensures passed { result ≡ prefix_len is_word_byte text.now }
-    ensures within { result ≤ length text.now }
-{
-    text.iter().take_while(|byte| is_word_byte(**byte)).count()
-}
-
-/// How many digits stand at the front.
-fn digits_len(text: &[u8]) -> usize
-    ensures passed { result ≡ prefix_len is_ascii_digit text.now }
-    ensures within { result ≤ length text.now }
-{
-    text.iter().take_while(|byte| byte.is_ascii_digit()).count()
 }
 
 /// The word at the front, and the text after it.

@@ -91,7 +91,8 @@ module _ (source : List ℕ) (f : Kind → List Lexeme → Read Tree) where
   maybe_at front ts = choose (Some (front, ts)) (closed_at front) (after Open ts)
 
   abbrev pub round_at : List Lexeme → Read Tree
-  round_at ts = option_and_then (λ x. option_map (λ us. (x.0, us)) (after Close x.1)) (f expression ts)
+  round_at ts =
+      option_and_then (λ x. option_map (λ us. (x.0, us)) (after Close x.1)) (f expression ts)
 
   abbrev pub call_at : Span → List Lexeme → Read Tree
   call_at w ts = option_and_then (λ us. option_map (λ x. (call (bytes_at source w) x.0, x.1))

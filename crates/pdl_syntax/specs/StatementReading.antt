@@ -113,7 +113,8 @@ module _ (source : List ℕ) (f : Kind → List Lexeme → Read Tree) where
 
   abbrev pub assign_value : List ℕ → List View × List Lexeme → Option StatementTree
   assign_value name x =
-      option_and_then (λ a. option_map (assign name x.0 a.0) (expression_to_end_at a.1)) (assign_at x.1)
+      option_and_then (λ a. option_map (assign name x.0 a.0) (expression_to_end_at a.1))
+      (assign_at x.1)
 
   unfoldable pub assignment_at : List ℕ → List Lexeme → Option StatementTree
   assignment_at name ts = option_and_then (assign_value name) (views_at (length ts) [] ts)

@@ -7,7 +7,8 @@ ghost use Rattle.pdl_syntax.specs.ExpressionReading.{operator_at, begins_operato
 use pdl_elem::BinaryOp;
 use pdl_lexemes::{Lexeme, Lexemes};
 
-fn level_of(op: BinaryOp) -> u8
+/// The level of an operator: the lower one binds tighter.
+pub fn level_of(op: BinaryOp) -> u8
     ensures { result ≡ level_of op }
 {
     match op {

@@ -9,8 +9,8 @@ use Rattle.pdl_code.proofs.expr.+parser.Given as goal
 pub record Turns (A : Type 0) (now start : Read A) : Type 0 where
   pub same : now ≡ start
 
-abbrev pub decreases-whole : goal.decreases-whole
-decreases-whole l = 32 * l.fuel
+abbrev pub decreases-expression : goal.decreases-expression
+decreases-expression l = 32 * l.fuel
 
 abbrev pub decreases-operand : goal.decreases-operand
 decreases-operand l = 32 * l.fuel
