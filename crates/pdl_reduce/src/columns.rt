@@ -7,9 +7,10 @@ ghost use Rattle.pdl_shape.specs.Shape.{extent_limit};
 ghost use Rattle.pdl_reduce.specs.Across.{come_to};
 ghost use Rattle.pdl_reduce.specs.Reductions.{nth_list};
 
+use crate::collected::Collected;
 use crate::folds::Folding;
 use crate::matrices::size_at;
-use pdl_buf::{Packing, Strided, strided_dims, strided_read_across};
+use pdl_buf::{Strided, strided_dims, strided_read_across};
 use pdl_elem::{Ty, wrap_all};
 use pdl_shape::dims_list;
 use std::alloc::AllocError;
@@ -63,7 +64,7 @@ fn lists_in_plane(height: usize, first: usize, left: usize) -> usize
     left.min(height - first % height)
 }
 
-/// Packs what the lists along dimension 0 from one on come to, in one plane, as many as there is
+/// Puts what the lists along dimension 0 from one on come to, in one plane, as many as there is
 /// room for, wrapped to the type.
 fn add_part<F: Folding>(
     a: &Strided<'_>,
@@ -73,7 +74,7 @@ fn add_part<F: Folding>(
     start: i64,
     row: &mut [i64],
     so_far: &mut [i64],
-    made: &mut Packing,
+    made: &mut Collected,
 ) -> Result<(), AllocError>
     requires size { size ≡ get_or a.now.dims 0 1 }
     requires room { length row.old ≡ length so_far.old }
@@ -94,7 +95,7 @@ fn add_part<F: Folding>(
     Ok(())
 }
 
-/// Packs what each of so many lists along dimension 0 comes to from a start on, wrapped to the
+/// Puts what each of so many lists along dimension 0 comes to from a start on, wrapped to the
 /// type. There is room for a block of numbers, twice.
 pub(crate) fn add_lists<F: Folding>(
     a: &Strided<'_>,
@@ -104,7 +105,7 @@ pub(crate) fn add_lists<F: Folding>(
     start: i64,
     row: &mut [i64],
     so_far: &mut [i64],
-    made: &mut Packing,
+    made: &mut Collected,
 ) -> Result<(), AllocError>
     requires size { size ≡ get_or a.now.dims 0 1 }
     requires planes { 0 < get_or a.now.dims 1 1 }

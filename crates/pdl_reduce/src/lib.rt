@@ -5,6 +5,7 @@
 //! block of each array at a time.
 #![tactic(auto)]
 
+mod collected;
 mod columns;
 mod folds;
 mod matrices;

@@ -7,7 +7,7 @@ ghost use Rattle.pdl_shape.specs.Shape.{extent_limit};
 ghost use Rattle.pdl_reduce.specs.Blocks.{Fit, cut, product_at, sum_at};
 ghost use Rattle.pdl_reduce.specs.Pairings.{sum_below};
 
-use pdl_buf::Packing;
+use crate::collected::Collected;
 use pdl_elem::{Ty, wrap_all, wrapping_laws};
 use std::alloc::AllocError;
 
@@ -111,14 +111,14 @@ fn set_row(sizes: Sizes, i: usize, left: &[i64], right: &[i64], row: &mut [i64])
     }
 }
 
-/// Packs the product of two blocks, row by row, wrapped to the type.
+/// Puts the product of two blocks, row by row, wrapped to the type.
 pub(crate) fn add_product(
     ty: Ty,
     sizes: Sizes,
     left: &[i64],
     right: &[i64],
     row: &mut [i64],
-    made: &mut Packing,
+    made: &mut Collected,
 ) -> Result<(), AllocError>
     requires fit { Fit sizes left.now right.now }
     requires width { length row.old ≡ sizes.width }

@@ -6,9 +6,10 @@ ghost use Rattle.pdl_shape.specs.Stretched.{stretched_position};
 ghost use Rattle.pdl_shape.specs.Triple.{whole};
 ghost use Rattle.pdl_reduce.specs.Blocks.{IsHeld, Ready, all_products, nth_block};
 
+use crate::collected::Collected;
 use crate::matrices::{Sizes, add_product};
 use pdl_broadcast::BroadcastWalk;
-use pdl_buf::{Packing, Strided, strided_read};
+use pdl_buf::{Strided, strided_read};
 use pdl_elem::{Ty, wrap_all};
 use pdl_shape::{Dims, elements_of, shape_laws, whole_triple};
 use std::alloc::{AllocError, Global};
@@ -69,8 +70,8 @@ fn position_at(walk: &BroadcastWalk, argument: usize) -> u32
     walk.offset(argument)
 }
 
-/// Packs the products of two windows' blocks at each place of a broadcast, one after the other,
-/// where nothing is packed yet. The sizes after the blocks' own ones stretch to the joined ones.
+/// Puts the products of two windows' blocks at each place of a broadcast, one after the other, where
+/// nothing is put yet. The sizes after the blocks' own ones stretch to the joined ones.
 pub(crate) fn products(
     alloc: Global,
     ty: Ty,
@@ -80,8 +81,8 @@ pub(crate) fn products(
     left_sizes: &Dims,
     right_sizes: &Dims,
     joined: &Dims,
-    mut made: Packing,
-) -> Result<Packing, AllocError>
+    mut made: Collected,
+) -> Result<Collected, AllocError>
     requires ready { Ready sizes left.now.elems right.now.elems
         left_sizes.now right_sizes.now joined.now }
     requires empty { made ≡ record { ty = ty; elems = [] } }

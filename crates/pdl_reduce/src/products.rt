@@ -15,6 +15,7 @@ ghost use Rattle.pdl_reduce.specs.Refusals.{is_want_of_memory, refusal_of};
 ghost use Rattle.pdl_reduce.specs.Pairings.{paired, paired_dims, paired_element, signature_of};
 ghost use Rattle.pdl_sig.specs.Given.{shape_of};
 
+use crate::collected::Collected;
 use crate::matrices::{Sizes, size_at};
 use crate::meeting::products;
 use crate::reducing::dims_after;
@@ -216,8 +217,8 @@ fn block_products(
     a_sizes: &Dims,
     b_sizes: &Dims,
     joined: &Dims,
-    made: Packing,
-) -> Result<Packing, AllocError>
+    made: Collected,
+) -> Result<Collected, AllocError>
     requires ready { ReadyFor kind sizes a.now.elems b.now.elems
         a_sizes.now b_sizes.now joined.now }
     requires empty { made ≡ record { ty = ty; elems = [] } }
@@ -255,8 +256,9 @@ fn elements(
     let depth = size_at(resolved.sizes.as_slice(), 0);
     let sizes = sizes_of(kind, depth, dims_list(first), dims_list(second));
     let ty = resolved.generic;
-    let made = Packing::new(alloc, ty, output_count(resolved))?;
-    block_products(alloc, kind, ty, sizes, a, b, &xs, &ys, &joined, made)
+    let none = Collected::new(alloc, ty, output_count(resolved))?;
+    let made = block_products(alloc, kind, ty, sizes, a, b, &xs, &ys, &joined, none)?;
+    made.packed()
 }
 
 /// A product of two arrays at the higher of their types (PDL::Primitive), by the signature of its

@@ -8,6 +8,7 @@ ghost use Rattle.pdl_reduce.specs.Answers.{Answers};
 ghost use Rattle.pdl_reduce.specs.Across.{come_to};
 ghost use Rattle.pdl_reduce.specs.Reductions.{answer, flat, is_extreme, lists, reduced, reduced_dims, reduced_row, reduced_type, whole, width};
 
+use crate::collected::Collected;
 use crate::columns::add_lists;
 use crate::folds::{Adding, Falling, Folding, Multiplying, Rising};
 use crate::rows::{add_row, sum_type};
@@ -132,11 +133,11 @@ fn reduced_lists(
     let mut room = vec![in alloc; 0; BLOCK.min(size as usize)]?;
     let block = room.as_mut_slice();
     let ty = reduced_type(kind, strided_type(a));
-    let mut made = Packing::new(alloc, ty, made_count(kind, count, size))?;
+    let mut made = Collected::new(alloc, ty, made_count(kind, count, size))?;
     for i in 0..count {
         add_row(kind, a, i * size, size, block, &mut made)?;
     }
-    Ok(made)
+    made.packed()
 }
 
 /// What the lists along dimension 0 come to by a fold, many lists at once, wrapped to a type.
@@ -159,10 +160,10 @@ fn folded_lists<F: Folding>(
     let width = BLOCK.min(count as usize);
     let mut row = vec![in alloc; 0; width]?;
     let mut so_far = vec![in alloc; 0; width]?;
-    let mut made = Packing::new(alloc, ty, count as usize)?;
+    let mut made = Collected::new(alloc, ty, count as usize)?;
     let (row, so_far) = (row.as_mut_slice(), so_far.as_mut_slice());
     add_lists::<F>(a, ty, count, size, start, row, so_far, &mut made)?;
-    Ok(made)
+    made.packed()
 }
 
 /// What a reduction makes of a window's lists along dimension 0, so many of this size. Sums,

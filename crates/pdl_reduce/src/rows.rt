@@ -8,9 +8,10 @@ ghost use Rattle.pdl_reduce.specs.Folds.{total, product, greatest, least, first_
 ghost use Rattle.pdl_reduce.specs.Reductions.{is_extreme, reduced_row, reduced_type, sum_type};
 
 use crate::Reduction;
+use crate::collected::Collected;
 use crate::folds::{Adding, Falling, Multiplying, Rising};
 use crate::windows::{find_in_window, fold_window, run_window};
-use pdl_buf::{Packing, Strided, strided_get, strided_sum, strided_type};
+use pdl_buf::{Strided, strided_get, strided_sum, strided_type};
 use pdl_elem::{Ty, promote, wrap, wrapping_laws};
 use std::alloc::AllocError;
 
@@ -110,8 +111,8 @@ fn least_place(a: &Strided<'_>, first: u32, count: u32, block: &mut [i64]) -> i6
     i64::from(find_in_window(a, first, count, least, block))
 }
 
-/// Packs one number more.
-fn push(made: &mut Packing, number: i64) -> Result<(), AllocError>
+/// Puts one number more.
+fn push(made: &mut Collected, number: i64) -> Result<(), AllocError>
     requires { InRange made.old.ty number }
     ensures value { OnOk result (made.new.elems ≡ made.old.elems ++ number ∷ []) }
     ensures typed { OnOk result (made.new.ty ≡ made.old.ty) }
@@ -120,14 +121,14 @@ fn push(made: &mut Packing, number: i64) -> Result<(), AllocError>
     Ok(())
 }
 
-/// Packs what a reduction makes of so many elements from a position on. An extreme needs some.
+/// Puts what a reduction makes of so many elements from a position on. An extreme needs some.
 pub(crate) fn add_row(
     kind: Reduction,
     a: &Strided<'_>,
     first: u32,
     count: u32,
     block: &mut [i64],
-    made: &mut Packing,
+    made: &mut Collected,
 ) -> Result<(), AllocError>
     requires within { first + count ≤ length a.now.elems }
     requires small { length a.now.elems ≤ extent_limit }

@@ -8,8 +8,9 @@ ghost use Rattle.pdl_shape.specs.Shape.{extent_limit};
 ghost use Rattle.pdl_reduce.specs.Folds.{at_prefixes, first_place};
 ghost use Rattle.pdl_reduce.specs.Reductions.{is_set};
 
+use crate::collected::Collected;
 use crate::folds::{Folding, fold_block, run_block};
-use pdl_buf::{Packing, Strided, strided_read};
+use pdl_buf::{Strided, strided_read};
 use pdl_elem::{Ty, wrap_all};
 use std::alloc::AllocError;
 
@@ -92,7 +93,7 @@ pub(crate) fn find_in_window(
     0
 }
 
-/// Packs what the window's elements from a position on, as many as the part has room for, come to
+/// Puts what the window's elements from a position on, as many as the part has room for, come to
 /// up to each of them, after those before them, wrapped to the type. It answers what all come to.
 fn run_part<F: Folding>(
     a: &Strided<'_>,
@@ -100,7 +101,7 @@ fn run_part<F: Folding>(
     first: u32,
     start: i64,
     part: &mut [i64],
-    made: &mut Packing,
+    made: &mut Collected,
 ) -> Result<i64, AllocError>
     requires within { first + length part.old ≤ length a.now.elems }
     requires typed { made.old.ty ≡ ty }
@@ -118,7 +119,7 @@ fn run_part<F: Folding>(
     Ok(end)
 }
 
-/// Packs what the elements up to each place come to, wrapped to the type: those of so many elements
+/// Puts what the elements up to each place come to, wrapped to the type: those of so many elements
 /// of the window from a position on.
 pub(crate) fn run_window<F: Folding>(
     a: &Strided<'_>,
@@ -127,7 +128,7 @@ pub(crate) fn run_window<F: Folding>(
     count: u32,
     start: i64,
     block: &mut [i64],
-    made: &mut Packing,
+    made: &mut Collected,
 ) -> Result<(), AllocError>
     requires within { first + count ≤ length a.now.elems }
     requires small { length a.now.elems ≤ extent_limit }
