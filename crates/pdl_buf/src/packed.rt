@@ -163,6 +163,14 @@ fn unpack_all<T: PackedType<N>, const N: usize>(cells: &[[u8; N]], numbers: &mut
 }
 
 impl<T: PackedType<N>, const N: usize> Packed<T, N> {
+    /// The cells in which the numbers stand, in order. A loop over them looks up once where they
+    /// are.
+    pub(crate) fn cells(&self) -> &[[u8; N]]
+        ensures { map (number_of T.ty) result.now ≡ self.now }
+    {
+        self.cells.as_slice()
+    }
+
     /// No numbers, with room for so many.
     pub(crate) fn with_room(alloc: Global, count: usize) -> Result<Packed<T, N>, AllocError>
         ensures { IfOk result (λ packed. packed ≡ []) }

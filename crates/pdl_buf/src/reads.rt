@@ -34,8 +34,9 @@ fn read_steps<T: PackedType<N>, const N: usize>(
         IsInside (length numbers.now) (pos place +ℤ inc *ℤ pos j) }
     ensures { HasStepped numbers.now place inc (length into.old) into.new }
 {
+    let cells = numbers.cells();
     for (j, x) in into.iter_mut().enumerate() {
-        *x = numbers.get(place_after(place, inc, j));
+        *x = T::unpack(&cells[place_after(place, inc, j)]);
     }
 }
 
