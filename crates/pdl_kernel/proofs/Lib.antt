@@ -13,6 +13,7 @@ mod Seen
 mod Shaping
 mod Starting
 mod Stores
+mod Sweeping
 mod Turning
 mod Weights
 mod Zips

@@ -4,6 +4,7 @@ pub mod Call
 pub mod Coding
 pub mod Kernels
 pub mod Leading
+pub mod Lines
 pub mod Meaning
 pub mod Parts
 pub mod Runs

@@ -242,6 +242,17 @@ impl Frames {
         }
     }
 
+    /// The element of a block at a position.
+    #[inline(always)]
+    pub fn element(&self, number: usize, place: usize) -> i64
+        ensures { result ≡ get_or (get_or self.now.arrays number nothing).elems place (pos 0) }
+    {
+        match self.arrays.get(number) {
+            None => 0,
+            Some(frame) => frame.element(place),
+        }
+    }
+
     /// Where the elements of a block lie.
     #[inline(always)]
     pub fn layout(&self, number: usize) -> Option<Layout<'_>>

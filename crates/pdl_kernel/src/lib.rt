@@ -9,6 +9,8 @@ mod faults;
 mod frame;
 mod given;
 mod kernel;
+mod line;
+mod lines;
 mod memory;
 mod operations;
 mod part;
@@ -16,6 +18,7 @@ mod run;
 mod setup;
 mod source;
 mod steps;
+mod sweep;
 mod walk;
 
 pub use faults::{Fault, RunFault};

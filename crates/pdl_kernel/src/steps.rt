@@ -14,6 +14,7 @@ use crate::frame::Frames;
 use crate::memory::{assign, assign_at};
 use crate::operations::change;
 use crate::source::Source;
+use crate::sweep::sweep;
 use pdl_code::{Entry, Expr, LocalType, Stmt};
 use pdl_elem::{BinaryOp, Ty};
 use pdl_sig::Resolved;
@@ -198,6 +199,27 @@ fn put_by_indices(
 /// The body for each index of a dimension, in order.
 #[cycle(run)]
 fn repeat(
+    resolved: &Resolved,
+    sources: &[Source],
+    frames: &mut Frames,
+    at: &[u32; MOST],
+    dimension: usize,
+    body: &[Stmt],
+) -> Result<(), Fault>
+    requires { IsCodeFree (roles_of sources.now) (code_of body.now) }
+    ensures { Becomes result (store_of sources.now frames.new)
+        (turns (λ i now. run resolved.now (slice_set at.now dimension i) (code_of body.now) now) 0
+        (size_in resolved.now.sizes dimension) (store_of sources.now frames.old)) }
+{
+    match sweep(resolved, sources, frames, at, dimension, body) {
+        Some(result) => result,
+        None => each_turn(resolved, sources, frames, at, dimension, body),
+    }
+}
+
+/// The same, turn by turn.
+#[cycle(run)]
+fn each_turn(
     resolved: &Resolved,
     sources: &[Source],
     frames: &mut Frames,

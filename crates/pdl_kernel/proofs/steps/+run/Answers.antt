@@ -16,7 +16,7 @@ use Rattle.pdl_kernel.proofs.steps.+run.Goals as goal
 pub step-repeat-requires : goal.step-repeat-requires
 step-repeat-requires t c =
     let e : step_of c.args.stmt.now ≡ repeat c.in-Loop.dimension (code_of c.deref.result.now) = loop_tree c.args.stmt.now c.in-Loop.dimension c.in-Loop.body c.deref.result.now c.in-Loop.is c.deref.ensures.value in
-    let w : step_weight (step_of c.args.stmt.now) ≡ code_weight (code_of c.deref.result.now) + 4 = ap step_weight e in
+    let w : step_weight (step_of c.args.stmt.now) ≡ code_weight (code_of c.deref.result.now) + 5 = ap step_weight e in
     (search (rules, w), subst (IsStepFree (roles_of c.args.sources.now)) e c.requires)
 
 pub step-run-requires : goal.step-run-requires

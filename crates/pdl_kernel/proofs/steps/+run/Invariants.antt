@@ -8,8 +8,8 @@ use Rattle.pdl_kernel.proofs.Weights.{step_weight, code_weight}
 use Rattle.pdl_kernel.proofs.steps.+run.Given as goal
 
 -- the turns from here on give what all give from the start
-abbrev pub invariant-repeat-loop-i : goal.invariant-repeat-loop-i
-invariant-repeat-loop-i l = record {
+abbrev pub invariant-each_turn-loop-i : goal.invariant-each_turn-loop-i
+invariant-each_turn-loop-i l = record {
   turns : turns (λ i now. run l.resolved (slice_set l.at l.dimension i) (code_of l.body) now) l.i (l.i-end - l.i) (store_of l.sources l.frames)
       ≡ turns (λ i now. run l.resolved (slice_set l.at l.dimension i) (code_of l.body) now) 0 (size_in l.resolved.sizes l.dimension) (store_of l.sources l.fn.frames);
   here : (i : ℕ) → slice_set l.here l.dimension i ≡ slice_set l.at l.dimension i;
@@ -35,7 +35,10 @@ abbrev pub decreases-step : goal.decreases-step
 decreases-step l = step_weight (step_of l.stmt.now)
 
 abbrev pub decreases-repeat : goal.decreases-repeat
-decreases-repeat l = code_weight (code_of l.body.now) + 3
+decreases-repeat l = code_weight (code_of l.body.now) + 4
+
+abbrev pub decreases-each_turn : goal.decreases-each_turn
+decreases-each_turn l = code_weight (code_of l.body.now) + 3
 
 abbrev pub decreases-run : goal.decreases-run
 decreases-run l = code_weight (code_of l.code.now) + 1

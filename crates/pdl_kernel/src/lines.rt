@@ -1,0 +1,158 @@
+//! Where an access leads at each turn of a loop.
+ghost use Rattle.std.specs.Prelude.{◌≡◌, ◌<◌, ◌≤◌, ◌+◌, ◌*◌, ℕ, length, pos, All, IfSome};
+ghost use Rattle.pdl_code.specs.Tree.{index};
+ghost use Rattle.pdl_code.specs.TreeOf.{indices_of};
+ghost use Rattle.pdl_kernel.specs.Leading.{dimension_of, number_of};
+ghost use Rattle.pdl_kernel.specs.Lines.{IsBlockLine, IsLine, IsSlope, loop_of, number_at};
+ghost use Rattle.pdl_kernel.specs.Sources.{IsFree, IsSmall, roles_of};
+
+use crate::axes::{Axis, MOST, index_within, loop_index};
+use crate::frame::Frames;
+use crate::line::{Line, Slope};
+use crate::source::Source;
+use pdl_code::Entry;
+use pdl_sig::Resolved;
+
+/// The index of the loop over a dimension, in a loop over another one or the same.
+fn loop_slope(
+    resolved: &Resolved,
+    sources: &[Source],
+    frames: &Frames,
+    at: &[u32; MOST],
+    dimension: usize,
+    count: u32,
+    word: usize,
+) -> Option<Slope>
+    ensures { let l = loop_of resolved.now at.now dimension count sources.now frames.now in
+        IfSome result (IsSlope l (index word)) }
+{
+    let _call = (resolved.generic, sources.len(), frames.len(), count);
+    if word != dimension {
+        Some(Slope::Still(i64::from(loop_index(at, word))))
+    } else if word < MOST {
+        Some(Slope::Rising(0))
+    } else {
+        None
+    }
+}
+
+/// The index of an access along a dimension, where it stays or rises by one.
+fn slope_along(
+    resolved: &Resolved,
+    sources: &[Source],
+    frames: &Frames,
+    at: &[u32; MOST],
+    dimension: usize,
+    count: u32,
+    entry: &Entry,
+    place: usize,
+) -> Option<Slope>
+    ensures along { IfSome result (λ s. dimension_of entry.now ≡ place) }
+    ensures number { let l = loop_of resolved.now at.now dimension count sources.now frames.now in
+        IfSome result (IsSlope l (number_of entry.now)) }
+{
+    match entry {
+        Entry::Looped(along, word) => {
+            if *along == place {
+                loop_slope(resolved, sources, frames, at, dimension, count, *word)
+            } else {
+                None
+            }
+        }
+        Entry::Given(_, _) => None,
+    }
+}
+
+/// The index of the first turn, and how far it rises to each next one, where all are in range.
+fn span(slope: &Slope, size: u32, count: u32) -> Option<(u32, u32)>
+    ensures rise { IfSome result (λ s. s.1 ≤ 1) }
+    ensures within { IfSome result (λ s. (i : ℕ) → i < count →
+        (number_at slope.now i ≡ pos (s.0 + s.1 * i)) × (s.0 + s.1 * i < size)) }
+{
+    match slope {
+        Slope::Still(number) => match index_within(*number, size) {
+            Some(first) => Some((first, 0)),
+            None => None,
+        },
+        Slope::Rising(number) => match index_within(*number, size) {
+            Some(first) => {
+                if count <= size - first {
+                    Some((first, 1))
+                } else {
+                    None
+                }
+            }
+            None => None,
+        },
+    }
+}
+
+/// The line along which an access leads, where its indices are in the order of the dimensions, each
+/// stays or rises by one, and all are in range at each turn.
+pub fn line_of(
+    resolved: &Resolved,
+    sources: &[Source],
+    frames: &Frames,
+    at: &[u32; MOST],
+    dimension: usize,
+    count: u32,
+    axes: &[Axis],
+    from: usize,
+    entries: &[Entry],
+) -> Option<Line>
+    requires small { All IsSmall axes.now }
+    requires from { from ≤ 1152921504606846976 }
+    ensures { let l = loop_of resolved.now at.now dimension count sources.now frames.now in
+        IfSome result (IsLine l axes.now (indices_of entries.now) from) }
+{
+    if axes.len() != entries.len() || axes.len() > MOST {
+        return None;
+    }
+    let mut start = from;
+    let mut step = 0usize;
+    for (k, entry) in entries.iter().enumerate() {
+        match slope_along(resolved, sources, frames, at, dimension, count, entry, k) {
+            Some(slope) => match span(&slope, axes[k].size, count) {
+                Some(span) => {
+                    start += axes[k].step as usize * span.0 as usize;
+                    step += axes[k].step as usize * span.1 as usize;
+                }
+                None => return None,
+            },
+            None => return None,
+        }
+    }
+    Some(Line { start, step })
+}
+
+/// The line along which an access to an argument that isn't an input leads.
+pub fn block_line(
+    resolved: &Resolved,
+    sources: &[Source],
+    frames: &Frames,
+    at: &[u32; MOST],
+    dimension: usize,
+    count: u32,
+    number: usize,
+    entries: &[Entry],
+) -> Option<Line>
+    requires { IsFree (roles_of sources.now) number }
+    ensures line { let l = loop_of resolved.now at.now dimension count sources.now frames.now in
+        IfSome result (IsBlockLine l number (indices_of entries.now)) }
+    ensures known { IfSome result (λ line. number < length frames.now.arrays) }
+{
+    match frames.layout(number) {
+        Some(layout) => line_of(
+            resolved,
+            sources,
+            frames,
+            at,
+            dimension,
+            count,
+            layout.axes,
+            layout.start,
+            entries,
+        ),
+        None => None,
+    }
+}
