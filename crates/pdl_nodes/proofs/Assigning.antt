@@ -19,7 +19,6 @@ use Rattle.pdl_nodes.specs.Families.{IsWaiting, InOrder}
 use Rattle.pdl_nodes.specs.Worlds.{places_of, IsRoot}
 use Rattle.pdl_nodes.proofs.Finds.{same}
 use Rattle.pdl_nodes.proofs.Marks.{each_live, each_each}
-use Rattle.pdl_nodes.proofs.Moving.{spot_entry}
 use Rattle.pdl_nodes.proofs.Lowered.{set_same, falls_still, only_mark}
 use Rattle.pdl_nodes.proofs.Seens.{IsSeen, is_seen}
 use Rattle.pdl_nodes.specs.Assigned.{put_all}

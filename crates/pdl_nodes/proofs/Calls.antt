@@ -1,5 +1,5 @@
 -- What the table's calls do to its rows.
-use Rattle.std.proofs.Common.{◌≡◌, ℕ, ◌<◌, true, false, cond, ◌∷◌, Option, Some, None, inl, inr, refl, sym, ◌∙◌, ap, subst, arith}
+use Rattle.std.proofs.Common.{◌≡◌, ℕ, ◌<◌, true, false, cond, ◌∷◌, Option, Some, None, is_some, inl, inr, refl, sym, ◌∙◌, ap, subst, arith}
 use Rattle.std.proofs.lemmas.Bool.Decides.{eqb_tells}
 use Rattle.std.specs.Prelude.{Result, Ok, Err, OnErr}
 use Rattle.std.specs.Option.{IsSome}
@@ -25,6 +25,12 @@ found t keys nodes v (Some k) e s h = refl
 pub has_key : (t : Rows) (keys : BTreeMap ℕ ℕ) (nodes : Slab Row) (v : ℕ) → rows_of nodes keys.entries ≡ t → IsTable keys nodes → has t v ≡ true → IsSome (key_at nat_cmp keys v)
 has_key t keys nodes v e i h = found t keys nodes v (key_at nat_cmp keys v) refl (seen t keys nodes e i) h
 
+pub is_there : (t : Rows) (keys : BTreeMap ℕ ℕ) (nodes : Slab Row) (v : ℕ) → rows_of nodes keys.entries ≡ t → IsTable keys nodes → is_some (key_at nat_cmp keys v) ≡ has t v
+is_there t keys nodes v e i = by (key_at nat_cmp keys v) refl where
+  by : (o : Option ℕ) → key_at nat_cmp keys v ≡ o → is_some (key_at nat_cmp keys v) ≡ has t v
+  by None h = ap is_some h ∙ sym ((seen t keys nodes e i).none v h)
+  by (Some k) h = ap is_some h ∙ sym ((seen t keys nodes e i).live v k h)
+
 pub node_is : (t : Rows) (keys : BTreeMap ℕ ℕ) (nodes : Slab Row) (v k : ℕ) (r : Row) → rows_of nodes keys.entries ≡ t → IsTable keys nodes → key_at nat_cmp keys v ≡ Some k → get nodes k ≡ Some r → r ≡ row_at t v
 node_is t keys nodes v k r e i h g = sym ((seen t keys nodes e i).row v k h ∙ ap node_or g)
 
@@ -47,10 +53,6 @@ changed_one f t keys nodes id key r q e i h g c o =
           ap (node_at (with_value nodes key q)) (sym k2) ∙ ap node_or u.changed ∙ c ∙ ap (λ n. f n r) (sym y.1) ∙ ap (f v) (sym (ap (node_at nodes) (sym k2) ∙ ap node_or g)))
       | inr n ↦ ap node_or (u.others k (λ y. n.1 (i.apart v id key (a ∙ ap Some y) h))) ∙ sym (o v (node_at nodes k) n.1)
     ])
-
--- the node that a key gives, as a row
-pub row_is : (t : Rows) (keys : BTreeMap ℕ ℕ) (nodes : Slab Row) (id key : ℕ) (r : Row) → rows_of nodes keys.entries ≡ t → IsTable keys nodes → key_at nat_cmp keys id ≡ Some key → get nodes key ≡ Some r → r ≡ row_at t id
-row_is t keys nodes id key r e i h g = node_is t keys nodes id key r e i h g
 
 -- the rows of a table fall
 pub table_falls : (t : Rows) (keys : BTreeMap ℕ ℕ) (nodes : Slab Row) → rows_of nodes keys.entries ≡ t → IsTable keys nodes → Falls t
@@ -144,14 +146,6 @@ gone t keys next nodes new id key e i o h u c =
       row = λ v k g. row_stays (other id) t v (not_it v (old v k g).0) ∙ s.row v k (old v k g).1
           ∙ ap node_or (sym (c.others k (λ y. (old v k g).0 (i.apart id v key h ((old v k g).1 ∙ ap Some y)))));
     })
-
--- a live number has a key
-pub no_key : (t : Rows) (keys : BTreeMap ℕ ℕ) (nodes : Slab Row) (v : ℕ) (o : Option ℕ) → rows_of nodes keys.entries ≡ t → IsTable keys nodes → has t v ≡ true → o ≡ key_at nat_cmp keys v → o ≡ None → ⊥
-no_key t keys nodes v o e i h k n =
-    let x : IsSome (key_at nat_cmp keys v) = has_key t keys nodes v e i h in
-    let P : Option ℕ → Type 0 = λ y. IsSome y in
-    let w : false ≡ true = subst P (sym k ∙ n) x in
-    absurd (cc)
 
 -- the slot that a slab with more room fills
 pub vacant : (nodes mid : Slab Row) (key at : ℕ) → mid ≡ record nodes { capacity = mid.capacity } → at ≡ mid.vacant_key → key ≡ mid.vacant_key → get mid at ≡ None → get nodes key ≡ None

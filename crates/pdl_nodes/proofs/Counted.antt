@@ -46,7 +46,7 @@ pub counted_joined : (t b : Rows) (id : ℕ) (r : Row) (c d : Noted) (p : Option
 counted_joined t b id r c d p e g n h v =
     n v ∙ ap (λ o. one_of o v + noted c v) g ∙ ap (λ m. one_of (parent_of r) v + m) (h v) ∙ sym (ap (λ x. children x v) e)
 
-children_without : (rs : Rows) (id v : ℕ) → Falls rs → has rs id ≡ true → children rs v ≡ one_of (parent_of (row_at rs id)) v + children (without id rs) v
+pub children_without : (rs : Rows) (id v : ℕ) → Falls rs → has rs id ≡ true → children rs v ≡ one_of (parent_of (row_at rs id)) v + children (without id rs) v
 children_without [] id v f h = (let z : false ≡ true = h in absurd (cc))
 children_without ((k, r) ∷ rs) id v f h = elim (eqb_tells k id) [
   | inl y ↦ (let row : row_at ((k, r) ∷ rs) id ≡ r = rw y.0 refl in

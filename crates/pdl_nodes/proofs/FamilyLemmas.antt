@@ -78,9 +78,6 @@ root_cases f rs v false h q = ap (λ x. x.root) (past_at (each f rs) v (each_has
 pub root_each : (f : ℕ → Row → Row) (rs : Rows) (v : ℕ) → IsQuiet f → (row_at (each f rs) v).root ≡ (row_at rs v).root
 root_each f rs v q = root_cases f rs v (has rs v) refl q
 
-pub triple_each : (f : ℕ → Row → Row) (rs : Rows) (v : ℕ) → IsQuiet f → has rs v ≡ true → (row_at (each f rs) v).triple ≡ (row_at rs v).triple
-triple_each f rs v q h = ap (λ x. x.triple) (each_at f rs v h) ∙ q.triple v (row_at rs v)
-
 pub is_root_each : (f : ℕ → Row → Row) (rs : Rows) (r : ℕ) → IsQuiet f → IsRoot (each f rs) r → IsRoot rs r
 is_root_each f rs r q i = (sym (each_has f rs r) ∙ i.0, sym (root_each f rs r q) ∙ i.1)
 
@@ -206,14 +203,3 @@ world_assigned rt f rs v vs q w o l e h =
 pub still_falls : (rs : Rows) → IsStill rs → Falls rs
 still_falls [] s = tt
 still_falls ((k, r) ∷ rs) s = (s.0, still_falls rs s.2)
-
-kept_test : (t : Bool) (r : Row) → record r { kept = cond t r.kept r.kept } ≡ r
-kept_test true r = refl
-kept_test false r = refl
-
--- nothing put in yet
-pub kept_none : (b : ℕ) (rs : Rows) → IsStill rs → each (kept_in b (row_at rs b).kept) rs ≡ rs
-kept_none b rs s = each_live (kept_in b (row_at rs b).kept) (λ k r. r) rs (still_falls rs s) (λ k h. elim (eqb_tells k b) [
-  | inl t ↦ rw t.0 (ap (λ (x : ℕ). record (row_at rs k) { kept = (row_at rs x).kept }) (sym t.1))
-  | inr t ↦ rw t.0 refl
-]) ∙ each_id rs

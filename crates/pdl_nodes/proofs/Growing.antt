@@ -188,6 +188,12 @@ grown_nodes rs hs gs k n r i g e m = record {
   room = m;
 }
 
+-- none more
+pub refused_nodes : (rs new : Rows) (hs gs : Counts) (n : ℕ) → IsNodes rs hs n → new ≡ rs → Beside new gs → IsNodes new gs n
+refused_nodes rs new hs gs n i e b =
+    let P : Rows → Type 0 = λ x. Beside x gs → IsNodes x gs n in
+    (subst P (sym e) (λ y. record { order = i.order; known = i.known; sized = i.sized; sound = i.sound; beside = y; below = i.below; room = i.room })) b
+
 pub grown_state : (rs : Rows) (hs gs : Counts) (k n : ℕ) (r : Row) → IsNodes rs hs k → IsGrown rs hs gs k r → n ≡ k + 1 → Joins (state_of rs hs k) k (joined_def r) (state_of ((k, r) ∷ rs) gs n)
 grown_state rs hs gs k n r i g e =
     let one : count gs k ≡ 1 = ap count_in g.held in
@@ -200,14 +206,6 @@ grown_state rs hs gs k n r i g e =
       next = e;
       stay = fresh_keeps rs ((k, r) ∷ rs) i.order.still (pushed rs k r g.new i.order).still (λ v h. has_older k r rs v (not_newest rs k v i.below h) ∙ h) (λ v h f. fresh_older rs k r v i.below i.order.still h f);
     }
-
--- a marked new root can be lent
-pub grown_fresh : (rs : Rows) (hs gs : Counts) (k n : ℕ) (r : Row) → IsNodes rs hs k → IsGrown rs hs gs k r → r.base ≡ k → r.mark ≡ true → is_fresh (state_of ((k, r) ∷ rs) gs n) k ≡ true
-grown_fresh rs hs gs k n r i g b m =
-    let row : row_at ((k, r) ∷ rs) k ≡ r = rw (same k k refl) refl in
-    let here : has ((k, r) ∷ rs) k ≡ true = rw (same k k refl) refl in
-    fresh_is ((k, r) ∷ rs) k (pushed rs k r g.new i.order).still here
-    ∙ ap (λ x. (row_at ((k, r) ∷ rs) x.base).mark) row ∙ ap (λ x. (row_at ((k, r) ∷ rs) x).mark) b ∙ ap (λ x. x.mark) row ∙ m
 
 pub new_root : PositionLaws → WholesAreInOrder → (rs : Rows) (k : ℕ) (ty : Ty) (ds : List ℕ) (es : List ℤ) → NumbersBelow k rs → length es ≡ size_of ds → IsNew rs k (root_row k ty ds es)
 new_root laws wholes rs k ty ds es b l = record {

@@ -11,7 +11,7 @@ use Rattle.pdl_nodes.specs.declared.holds.Hold.{Hold}
 use Rattle.pdl_nodes.specs.Alike.{numbers}
 use Rattle.pdl_nodes.specs.Going.{IsLeft}
 use Rattle.pdl_nodes.specs.Held.{count_at, one_more_at, one_less_at, held_among, holds_left, left_from, IsReleased}
-use Rattle.pdl_nodes.specs.Holds.{Counts, Beside, hold_at, count, count_in, is_reached, reached_in, held_in, less_one, one_more, after_release, count_after}
+use Rattle.pdl_nodes.specs.Holds.{Counts, Beside, hold_at, count, count_in, going, going_in, less_one, one_more, after_release, count_after}
 use Rattle.pdl_nodes.specs.Laws.{Means}
 use Rattle.pdl_nodes.specs.Nodes.{IsNodes, fresh_among, holds_in, pending_in, state_of}
 use Rattle.pdl_nodes.specs.Outcomes.{waiting_of}
@@ -94,9 +94,9 @@ one_more_some : (o : Option Hold) → is_some (one_more o) ≡ is_some o
 one_more_some None = refl
 one_more_some (Some h) = refl
 
-one_more_reached : (o : Option Hold) → reached_in (one_more o) ≡ reached_in o
-one_more_reached None = refl
-one_more_reached (Some h) = refl
+one_more_going : (o : Option Hold) → going_in (one_more o) ≡ going_in o
+one_more_going None = refl
+one_more_going (Some h) = refl
 
 pub beside_more : (rs : Rows) (hs gs : Counts) (id : ℕ) → Beside rs hs → hold_at gs id ≡ one_more (hold_at hs id) → ((v : ℕ) → v ≢ id → hold_at gs v ≡ hold_at hs v) → Beside rs gs
 beside_more rs hs gs id b e o = record {
@@ -105,8 +105,8 @@ beside_more rs hs gs id b e o = record {
     | inr t ↦ ap is_some (o v t.1) ∙ b.numbers v
   ];
   clear = λ v. elim (eqb_tells v id) [
-    | inl t ↦ ap (is_reached gs) t.1 ∙ ap reached_in e ∙ one_more_reached (hold_at hs id) ∙ ap (is_reached hs) (sym t.1) ∙ b.clear v
-    | inr t ↦ ap reached_in (o v t.1) ∙ b.clear v
+    | inl t ↦ ap (going gs) t.1 ∙ ap going_in e ∙ one_more_going (hold_at hs id) ∙ ap (going hs) (sym t.1) ∙ b.clear v
+    | inr t ↦ ap going_in (o v t.1) ∙ b.clear v
   ];
 }
 
@@ -170,25 +170,15 @@ live_held f ((k, r) ∷ rs) v h n = elim (eqb_tells k v) [
   ]
 ]
 
-clear_held : (o : Option Hold) → reached_in o ≡ false → held_in o ≡ nat_lt 0 (count_in o)
-clear_held None c = refl
-clear_held (Some h) c = ap (λ b. b || nat_lt 0 h.count) c
-
-less_reached : (o : Option Hold) → reached_in (less_one o) ≡ reached_in o
-less_reached None = refl
-less_reached (Some h) = refl
-
-held_after : (rs : Rows) (hs : Counts) (id v : ℕ) → Beside rs hs → after_release id hs v ≡ nat_lt 0 (count_after id hs v)
-held_after rs hs id v b = elim (eqb_tells v id) [
-  | inl t ↦ rw t.0 (clear_held (less_one (hold_at hs v)) (less_reached (hold_at hs v) ∙ b.clear v))
-  | inr t ↦ rw t.0 (clear_held (hold_at hs v) (b.clear v))
-]
+pub less_going : (o : Option Hold) → going_in (less_one o) ≡ going_in o
+less_going None = refl
+less_going (Some h) = refl
 
 none_after : (o : Option Hold) → is_some o ≡ false → count_in o ≡ 0
 none_after None e = refl
 none_after (Some h) e = (let z : true ≡ false = e in absurd (cc))
 
-less_some : (o : Option Hold) → is_some (less_one o) ≡ is_some o
+pub less_some : (o : Option Hold) → is_some (less_one o) ≡ is_some o
 less_some None = refl
 less_some (Some h) = refl
 
@@ -203,10 +193,10 @@ held_is rs hs id b v =
     ap (λ x. holds (held_among x) v) (holds_less rs hs id)
     ∙ elim (cases_Bool (has rs v)) [
       | inl h ↦ elim (cases_Bool (nat_lt 0 (count_after id hs v))) [
-        | inl y ↦ live_held (count_after id hs) rs v h y ∙ sym (held_after rs hs id v b ∙ y)
-        | inr y ↦ none_held (count_after id hs) (numbers rs) v y ∙ sym (held_after rs hs id v b ∙ y)
+        | inl y ↦ live_held (count_after id hs) rs v h y ∙ sym y
+        | inr y ↦ none_held (count_after id hs) (numbers rs) v y ∙ sym y
       ]
-      | inr h ↦ gone_unheld (count_after id hs) rs v h ∙ sym (held_after rs hs id v b ∙ gone_after rs hs id v b h)
+      | inr h ↦ gone_unheld (count_after id hs) rs v h ∙ sym (gone_after rs hs id v b h)
     ]
 
 -- the holds of what is left

@@ -112,6 +112,3 @@ onto_last w s (x ∷ es) e = onto_last ((x.0, node_at s x.1) ∷ w) s es e
 
 pub newest_some : (t : Rows) (keys : BTreeMap ℕ ℕ) (nodes : Slab Row) (es rest : List (ℕ × ℕ)) (k x : ℕ) → rows_of nodes keys.entries ≡ t → es ≡ keys.entries → es ≡ rest ++ (k, x) ∷ [] → Some k ≡ newest t
 newest_some t keys nodes es rest k x e b c = sym (ap newest (sym e ∙ ap (rows_of nodes) (sym b ∙ c)) ∙ onto_last [] nodes rest (k, x))
-
-pub newest_none : (t : Rows) (keys : BTreeMap ℕ ℕ) (nodes : Slab Row) (es : List (ℕ × ℕ)) → rows_of nodes keys.entries ≡ t → es ≡ keys.entries → es ≡ [] → None ≡ newest t
-newest_none t keys nodes es e b c = sym (ap newest (sym e ∙ ap (rows_of nodes) (sym b ∙ c)))

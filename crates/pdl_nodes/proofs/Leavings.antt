@@ -10,7 +10,6 @@ use Rattle.pdl_nodes.specs.declared.origin.Origin.TheVariants.{Root, View}
 use Rattle.pdl_nodes.specs.Alike.{numbers}
 use Rattle.pdl_nodes.specs.Families.{IsWaiting, InOrder}
 use Rattle.pdl_nodes.specs.Going.{goes_from, going_at, going_size, going_sum, IsLeft, LeavesWaiting}
-use Rattle.pdl_nodes.specs.Holds.{Counts, hold_at, count, count_in, less_one, count_after}
 use Rattle.pdl_nodes.specs.Known.{IsKnown, AreKnown}
 use Rattle.pdl_nodes.specs.Laws.{Means}
 use Rattle.pdl_nodes.specs.Outcomes.{IsReady, waiting_of, waiting_size}
@@ -54,12 +53,12 @@ pub record IsLeaving (old mid new : Rows) (t h : ℕ → Bool) : Type 0 where
   pub leaves : LeavesWaiting h old mid
   pub left : new ≡ staying h mid
 
-record IsGone (old mid new : Rows) (t : ℕ → Bool) : Type 0 where
-  stays_so : new ≡ staying t mid
-  closed : KeepsParents t (shape mid)
-  waits : KeepsWaiting t mid
+pub record IsGone (old mid new : Rows) (t : ℕ → Bool) : Type 0 where
+  pub stays_so : new ≡ staying t mid
+  pub closed : KeepsParents t (shape mid)
+  pub waits : KeepsWaiting t mid
 
-is_gone : (old mid new : Rows) (t h : ℕ → Bool) → IsLeaving old mid new t h → IsGone old mid new t
+pub is_gone : (old mid new : Rows) (t h : ℕ → Bool) → IsLeaving old mid new t h → IsGone old mid new t
 is_gone old mid new t h l =
     let live : (v : ℕ) → has mid v ≡ true → h v ≡ t v = λ v g. l.notes v (sym (l.kept.alike.has_is v) ∙ g) in
     record {
@@ -200,10 +199,3 @@ sum_agree rs t u ((k, r) ∷ part) o h e =
 
 pub going_sums : (rs : Rows) (t u : ℕ → Bool) → InOrder rs → ((v : ℕ) → has rs v ≡ true → t v ≡ u v) → going_sum rs t rs ≡ going_sum rs u rs
 going_sums rs t u o e = sum_agree rs t u rs o (λ v h. h) e
-
--- how often what stays is held
-pub count_taken : (hs later : Counts) (id v : ℕ) → hold_at later id ≡ less_one (hold_at hs id) → ((x : ℕ) → x ≢ id → hold_at later x ≡ hold_at hs x) → count later v ≡ count_after id hs v
-count_taken hs later id v h o = elim (eqb_tells v id) [
-  | inl e ↦ rw e.0 (ap count_in (ap (hold_at later) e.1 ∙ h ∙ ap (λ x. less_one (hold_at hs x)) (sym e.1)))
-  | inr e ↦ rw e.0 (ap count_in (o v e.1))
-]

@@ -4,7 +4,6 @@ pub mod Calls
 pub mod Lasts
 pub mod Rests
 pub mod Reaches
-pub mod Removes
 pub mod Marks
 pub mod Listing
 pub mod Shapes
@@ -51,4 +50,11 @@ pub mod Goings
 pub mod Leavings
 pub mod Reshapes
 pub mod Severs
+pub mod Lefts
+pub mod Rising
+pub mod Letting
+pub mod Falling
+pub mod Removing
+mod Gone
+mod Tight
 mod Lazy

@@ -39,11 +39,6 @@ length_write (p ∷ ps) [] es = refl
 length_write (None ∷ ps) (x ∷ vs) es = length_write ps vs es
 length_write (Some i ∷ ps) (x ∷ vs) es = length_write ps vs (slice_set es i x) ∙ length-set es i x
 
-pub length_put_all : (ps : List (Option ℕ)) (is : List ℕ) (vs ks : List ℤ) → length (put_all ps is vs ks) ≡ length ks
-length_put_all ps [] vs ks = refl
-length_put_all ps (i ∷ is) [] ks = refl
-length_put_all ps (i ∷ is) (x ∷ vs) ks = length_put_all ps is vs (put_seen ps i x ks) ∙ length_put_at (entry ps i) i x ks
-
 -- the first value is put first
 pub write_first : (p : Option ℕ) (ps : List (Option ℕ)) (x : ℤ) (vs es : List ℤ) → write (p ∷ ps) (x ∷ vs) es ≡ write ps vs (put p x es)
 write_first None ps x vs es = refl

@@ -19,9 +19,6 @@ placed_entry known t i h =
     ap (λ (xs : List (Option ℕ)). get_or xs i None) (map-map (placed known) (place_at t) (range_with_len 0 (size_of t.dims)))
     ∙ get_or-map-range_with_len (λ p. placed known (place_at t p)) 0 (size_of t.dims) i i None h (omega arith)
 
-pub spot_entry : (t : Triple) (i : ℕ) → i < size_of t.dims → get_or (spots t) i 0 ≡ place_at t i
-spot_entry t i h = get_or-map-range_with_len (place_at t) 0 (size_of t.dims) i i 0 h (omega arith)
-
 -- the places of a route over a base
 pub over_is : (known : Option (List (Option ℕ))) (t u : Triple) (vs es : List ℤ) → u ≡ t → length vs ≡ size_of t.dims
     → write (map (λ p. placed known (place_at u p)) (range_with_len 0 (length vs))) vs es ≡ write (placed_by known t) vs es

@@ -2,24 +2,14 @@
 use Rattle.std.proofs.Common.{◌≡◌, ℕ, suc, ◌+◌, ◌<◌, Bool, true, false, [], ◌∷◌, ◌++◌, Option, Some, None, is_some, inl, inr, refl, sym, ◌∙◌, ap, arith}
 use Rattle.std.proofs.lemmas.Bool.Decides.{eqb_tells, leb_tells}
 use Rattle.pdl_nodes.specs.Row.{Row}
-use Rattle.pdl_nodes.specs.declared.holds.Hold.{Hold}
 use Rattle.pdl_nodes.specs.Staying.{passed}
 use Rattle.pdl_nodes.specs.Rows.{Rows, row_at, has, without, NumbersBelow, Falls, below, newest, HasParent}
-use Rattle.pdl_nodes.specs.Holds.{count_in, with_reached, held_in, reached_in}
 use Rattle.pdl_nodes.proofs.Finds.{same, differ}
-
-pub append_one : (a : Rows) (x : ℕ × Row) (b : Rows) → a ++ x ∷ b ≡ (a ++ x ∷ []) ++ b
-append_one [] x b = refl
-append_one (y ∷ a) x b = ap (λ z. y ∷ z) (append_one a x b)
 
 -- how far the loop still goes at most
 abbrev pub size_of : Option ℕ → ℕ
 size_of None = 0
 size_of (Some k) = k + 1
-
-pub falls_tail : (a b : Rows) → Falls (a ++ b) → Falls b
-falls_tail [] b f = f
-falls_tail ((k, r) ∷ a) b f = falls_tail a b f.1
 
 pub below_tail : (a b : Rows) (n : ℕ) → NumbersBelow n (a ++ b) → NumbersBelow n b
 below_tail [] b n f = f
@@ -51,10 +41,6 @@ row_here ((j, q) ∷ a) rest k r f =
     let b : k < j = (below_tail a ((k, r) ∷ rest) j f.0).0 in
     rw (differ j k (λ (e : j ≡ k). let z : ⊥ = omega arith in z)) (row_here a rest k r f.1)
 
-pub has_tail : (a b : Rows) (v : ℕ) → has b v ≡ true → has (a ++ b) v ≡ true
-has_tail [] b v h = h
-has_tail ((j, q) ∷ a) b v h = elim (eqb_tells j v) [ inl t ↦ rw t.0 refl | inr t ↦ rw t.0 (has_tail a b v h) ]
-
 -- all rows stay that have another number
 all_stay : (k : ℕ) (rs : Rows) → NumbersBelow k rs → without k rs ≡ rs
 all_stay k [] b = refl
@@ -65,34 +51,6 @@ without_here [] rest k r f = rw (same k k refl) (all_stay k rest f.0)
 without_here ((j, q) ∷ a) rest k r f =
     let b : k < j = (below_tail a ((k, r) ∷ rest) j f.0).0 in
     rw (differ j k (λ (e : j ≡ k). let z : ⊥ = omega arith in z)) (ap (λ x. (j, q) ∷ x) (without_here a rest k r f.1))
-
-below_less : (a rest : Rows) (k n : ℕ) (r : Row) → NumbersBelow n (a ++ (k, r) ∷ rest) → NumbersBelow n (a ++ rest)
-below_less [] rest k n r b = b.1
-below_less ((j, q) ∷ a) rest k n r b = (b.0, below_less a rest k n r b.1)
-
-pub falls_less : (a rest : Rows) (k : ℕ) (r : Row) → Falls (a ++ (k, r) ∷ rest) → Falls (a ++ rest)
-falls_less [] rest k r f = f.1
-falls_less ((j, q) ∷ a) rest k r f = (below_less a rest k j r f.0, falls_less a rest k r f.1)
-
-pub passed_no : (p : Option ℕ) (b : Bool) (held : ℕ → Bool) (v : ℕ) → b ≡ false → passed p b held v ≡ held v
-passed_no None b held v e = refl
-passed_no (Some q) b held v e = elim (eqb_tells q v) [ inl t ↦ rw (t.0, e) refl | inr t ↦ rw t.0 refl ]
-
-pub some_with : (b : Bool) (o : Option Hold) → is_some (with_reached b o) ≡ is_some o
-some_with b None = refl
-some_with b (Some h) = refl
-
-pub count_with : (b : Bool) (o : Option Hold) → count_in (with_reached b o) ≡ count_in o
-count_with b None = refl
-count_with b (Some h) = refl
-
-pub clear_with : (o : Option Hold) → reached_in (with_reached false o) ≡ false
-clear_with None = refl
-clear_with (Some h) = refl
-
-pub held_with : (o : Option Hold) → is_some o ≡ true → held_in (with_reached true o) ≡ true
-held_with None h = absurd (cc)
-held_with (Some x) h = refl
 
 pub not_parent : (rest : Rows) (p : Option ℕ) (v : ℕ) → HasParent rest p → has rest v ≡ false → p ≡ Some v → ⊥
 not_parent rest None v h n e = absurd (cc)

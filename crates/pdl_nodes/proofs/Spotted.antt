@@ -12,13 +12,6 @@ use Rattle.pdl_nodes.specs.Assigned.{entry}
 use Rattle.pdl_nodes.specs.Spots.{spots, Below}
 use Rattle.pdl_nodes.proofs.Lists.{IsIn, AllIn}
 
-pub length_range : (a n : ℕ) → length (range_with_len a n) ≡ n
-length_range a zero = refl
-length_range a (suc n) = ap (λ m. suc m) (length_range (a + 1) n)
-
-pub length_spots : (t : Triple) → length (spots t) ≡ size_of t.dims
-length_spots t = length-map-range_with_len (place_at t) 0 (size_of t.dims)
-
 pub below_range : (n a m : ℕ) → a + m ≤ n → Below n (range_with_len a m)
 below_range n a zero h = tt
 below_range n a (suc m) h = (omega arith, below_range n (a + 1) m (omega arith))

@@ -110,9 +110,6 @@ reached_closed ((k, r) ∷ rs) held s =
 pub order_swept : (rs : Rows) (held : ℕ → Bool) → KeepsWaiting (reached rs held) rs → InOrder rs → InOrder (swept rs held)
 order_swept rs held w o = order_stays (reached rs held) rs (reached_closed rs held o.still) w o
 
-pub still_swept : (rs : Rows) (held : ℕ → Bool) → IsStill rs → IsStill (swept rs held)
-still_swept rs held s = still_stays (reached rs held) rs (reached_closed rs held s) s
-
 -- the parents of what was passed are held too
 passed_holds : (held : List ℕ) (k v : ℕ) (ty : Ty) (ds : List ℕ) (o : Origin) (b : Bool) → holds (cond b (parents (def_from ty ds o) ++ held) held) v ≡ passed (parent_from o) b (holds held) v
 passed_holds held k v ty ds Root true = refl

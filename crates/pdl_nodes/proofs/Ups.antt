@@ -119,29 +119,3 @@ up_cases rs b p i a (View q t y) s h e o l u =
 
 pub is_up : (rs : Rows) (b p i : ℕ) (a : Option ℕ) → IsStill rs → has rs b ≡ true → (row_at rs b).base ≡ b → i < size_of (row_at rs b).triple.dims → up_of (row_at rs b) i ≡ Some (p, a) → IsUp rs b p i a
 is_up rs b p i a s h e l u = up_cases rs b p i a (row_at rs b).origin s h e refl l u
-
--- a position's place goes on from the base's
-pub place_of_base : (rs : Rows) (v i : ℕ) → IsStill rs → has rs v ≡ true → i < size_of (row_at rs v).triple.dims → (entry (places_of rs v) i ≡ entry (places_of rs (row_at rs v).base) (place_at (row_at rs v).triple i)) × (place_at (row_at rs v).triple i < size_of (row_at rs (row_at rs v).base).triple.dims)
-place_of_base rs v i s h l =
-    let e : IsSeen rs v = is_seen rs s v h in
-    (entry_over (places_of rs (row_at rs v).base) (places_of rs v) (row_at rs v).triple i e.over l, below_at (size_of (row_at rs (row_at rs v).base).triple.dims) (place_at (row_at rs v).triple) 0 (size_of (row_at rs v).triple.dims) i e.fits (omega arith) (omega arith))
-
-top_cases : (rs : Rows) (b i : ℕ) (o : Origin) → IsStill rs → has rs b ≡ true → (row_at rs b).origin ≡ o → i < size_of (row_at rs b).triple.dims → up_from (row_at rs b).triple.dims o i ≡ None → entry (places_of rs b) i ≡ Some i
-top_cases rs b i (View p t y) s h e l u = absurd (cc)
-top_cases rs b i Root s h e l u =
-    let rr : (row_at rs b).root ≡ b = root_at rs s b h e in
-    let v : IsSeen rs b = is_seen rs s b h in
-    let p : places_of rs b ≡ map Some (range_with_len 0 (size_of (row_at rs b).triple.dims)) = ap (places_of rs) (sym rr) ∙ v.root_places ∙ ap (λ k. map Some (range_with_len 0 (size_of (row_at rs k).triple.dims))) rr in
-    ap (λ ps. entry ps i) p ∙ get_or-map-range_with_len Some 0 (size_of (row_at rs b).triple.dims) i i None l (omega arith) where
-      root_at : (rs : Rows) → IsStill rs → (b : ℕ) → has rs b ≡ true → (row_at rs b).origin ≡ Root → (row_at rs b).root ≡ b
-      root_at [] s b h e = let x : false ≡ true = h in absurd (cc)
-      root_at ((k, r) ∷ rs) s b h e = elim (eqb_tells k b) [
-        | inl q ↦ (let o : r.origin ≡ Root = rw q.0 at e in
-            let f : IsRootRow k r = subst (λ (x : Origin). StillFrom rs k r x) o s.1 in
-            rw q.0 (f.root_is ∙ q.1))
-        | inr q ↦ rw q.0 (root_at rs s.2 b (rw q.0 at h) (rw q.0 at e))
-      ]
-
--- a root's place is the position
-pub is_top : (rs : Rows) (b i : ℕ) → IsStill rs → has rs b ≡ true → i < size_of (row_at rs b).triple.dims → up_of (row_at rs b) i ≡ None → entry (places_of rs b) i ≡ Some i
-is_top rs b i s h l u = top_cases rs b i (row_at rs b).origin s h refl l u

@@ -1,5 +1,5 @@
 -- How many views each array has.
-use Rattle.std.specs.Prelude.{◌≡◌, ℕ, ◌+◌, ◌==◌, if◌then◌else◌, List, [], ◌∷◌, Option, Some, None}
+use Rattle.std.specs.Prelude.{◌≡◌, ℕ, ◌+◌, ◌==◌, if◌then◌else◌, Bool, List, [], ◌∷◌, Option, Some, None}
 use Rattle.std.specs.Ordering.{nat_cmp}
 use Rattle.std.specs.Map.{lookup}
 use Rattle.std.specs.BTreeMap.{is_at}
@@ -26,6 +26,11 @@ one_of (Some p) v = if p == v then 1 else 0
 abbrev pub children : Rows → ℕ → ℕ
 children [] v = 0
 children ((k, r) ∷ rs) v = one_of (parent_of r) v + children rs v
+
+-- how many rows are views of v of which the test holds
+abbrev pub left : Rows → (ℕ → Bool) → ℕ → ℕ
+left [] t v = 0
+left ((k, r) ∷ rs) t v = (if t k then one_of (parent_of r) v else 0) + left rs t v
 
 -- the views of each number are noted
 abbrev pub AreCounted : Rows → Noted → Type 0

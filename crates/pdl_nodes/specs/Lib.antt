@@ -20,6 +20,7 @@ pub mod Late
 pub mod Ups
 pub mod Joined
 pub mod Released
+pub mod Risen
 pub mod State
 pub mod Held
 pub mod Nodes

@@ -1,7 +1,7 @@
 //! How often each number is held.
-ghost use Rattle.std.specs.Prelude.{◌≡◌, ◌≢◌, ℕ, ◌<◌, ◌^◌, [], ◌∷◌, true, false, Some, None, OnOk, OnErr};
+ghost use Rattle.std.specs.Prelude.{◌≡◌, ◌≢◌, ℕ, ◌+◌, ◌-◌, ◌<◌, ◌^◌, [], ◌∷◌, true, false, Some, None, OnOk, OnErr};
 ghost use Rattle.pdl_nodes.specs.Rows.{NumbersBelow, has, row_at};
-ghost use Rattle.pdl_nodes.specs.Holds.{hold_at, is_held, count, with_reached, less_one, one_more, held_once, Beside};
+ghost use Rattle.pdl_nodes.specs.Holds.{hold_at, stands, count, going, with_going, goes_in, less_one, one_more, held_once, Beside};
 
 use crate::node::Node;
 use crate::table::Table;
@@ -9,11 +9,11 @@ use std::alloc::{AllocError, Global};
 use std::collections::BTreeMap;
 use std::marker::Model;
 
-/// How often a number is held, and whether a kept view of it was passed in a sweep.
+/// How often a number is held, and how many of its views are noted as those that go.
 #[derive(Clone, Copy, Drop)]
 pub struct Hold {
     pub count: u64,
-    pub reached: bool,
+    pub going: u64,
 }
 
 /// The holds by number.
@@ -44,24 +44,47 @@ impl Holds {
         }
     }
 
-    /// Whether the number is held, or a kept view of it was passed.
-    pub fn is_held(&self, id: u64) -> bool
-        ensures { result ≡ is_held self.now id }
+    /// Whether an array of so many views goes: it isn't held, and all of them go.
+    pub fn goes(&self, id: u64, views: u64) -> bool
+        ensures { result ≡ goes_in views (hold_at self.now id) }
     {
         match self.by_number.get(&id) {
-            Some(hold) => hold.reached || hold.count > 0,
+            Some(hold) => hold.count == 0 && hold.going == views,
             None => false,
         }
     }
 
-    /// Notes that a kept view of the number was passed, or that it was passed itself.
-    pub fn set_reached(&mut self, id: u64, reached: bool)
-        ensures here { hold_at self.new id ≡ with_reached reached (hold_at self.old id) }
+    /// Whether the number has holds, be it none.
+    pub fn has(&self, id: u64) -> bool
+        ensures { result ≡ stands self.now id }
+    {
+        self.by_number.get(&id).is_some()
+    }
+
+    /// Notes that one view more goes, of an array of so many views.
+    pub fn note(&mut self, id: u64, views: u64)
+        requires { going self.old id < views }
+        ensures here { hold_at self.new id
+            ≡ with_going (going self.old id + 1) (hold_at self.old id) }
         ensures others { (v : ℕ) → v ≢ id → hold_at self.new v ≡ hold_at self.old v }
     {
         match self.by_number.get_mut(&id) {
             Some(hold) => {
-                hold.reached = reached;
+                hold.going += 1;
+            }
+            None => {}
+        }
+    }
+
+    /// Takes the note of one view back, which is gone.
+    pub fn take_note(&mut self, id: u64)
+        ensures here { hold_at self.new id
+            ≡ with_going (going self.old id - 1) (hold_at self.old id) }
+        ensures others { (v : ℕ) → v ≢ id → hold_at self.new v ≡ hold_at self.old v }
+    {
+        match self.by_number.get_mut(&id) {
+            Some(hold) => {
+                hold.going = hold.going.saturating_sub(1);
             }
             None => {}
         }
@@ -74,13 +97,7 @@ impl Holds {
         ensures others { (v : ℕ) → v ≢ id → hold_at self.new v ≡ hold_at self.old v }
         ensures err { OnErr result (hold_at self.new id ≡ None) }
     {
-        self.by_number.insert(
-            id,
-            Hold {
-                count: 1,
-                reached: false,
-            },
-        )?;
+        self.by_number.insert(id, Hold { count: 1, going: 0 })?;
         Ok(())
     }
 

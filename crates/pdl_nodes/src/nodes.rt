@@ -27,24 +27,28 @@ use std::alloc::{AllocError, Global};
 use std::marker::Model;
 use std::sync::ledger::Ledger;
 
-/// Kept arrays, each a root or a view of an older one.
+/// Kept arrays, each a root or a view of an older one. Each is held or has
+/// views, but for those that a cut may have left loose, which are listed until the next release.
 #[derive(Drop)]
 pub struct Nodes {
     alloc: Global,
     table: Table,
     holds: Holds,
     next: u64,
+    loose: Vec<u64>,
 }
 
 impl Model for Nodes {
     ghost use Rattle.pdl_nodes.specs.State.{State};
     ghost use Rattle.pdl_nodes.specs.Nodes.{IsNodes, state_of};
+    ghost use Rattle.pdl_nodes.specs.Risen.{IsTight};
 
     ghost Value = { State };
 
     ghost view = { λ n. state_of n.table n.holds n.next };
 
-    ghost invariant = { λ n. IsNodes n.table n.holds n.next };
+    ghost invariant = { λ n.
+        IsNodes n.table n.holds n.next × IsTight n.loose.items n.table n.holds };
 }
 
 impl Nodes {
@@ -57,6 +61,7 @@ impl Nodes {
             table: Table::new(alloc),
             holds: Holds::new(alloc),
             next: 0,
+            loose: Vec::new(alloc),
         }
     }
 
@@ -242,7 +247,8 @@ impl Nodes {
         ensures sound { IsSound self.new.world }
     {
         sweep_laws();
-        releases::release(&mut self.table, &mut self.holds, id, steps)
+        releases::release(&mut self.table, &mut self.holds, &self.loose, id, steps);
+        self.loose.clear();
     }
 
     /// Cuts an array from its parent: it becomes a root with its elements,
@@ -266,7 +272,7 @@ impl Nodes {
         ensures sound { IsSound self.new.world }
     {
         cut_laws();
-        severing::sever(&mut self.table, self.alloc, id, steps)
+        severing::sever(&mut self.table, &mut self.loose, self.alloc, id, steps)
     }
 
     /// Gives an array that has no views other dimensions: it becomes a root of
@@ -294,6 +300,13 @@ impl Nodes {
     {
         reshape_laws();
         let _limits = dims_list(dims);
-        severing::reshape(&mut self.table, self.alloc, id, dims, steps)
+        severing::reshape(
+            &mut self.table,
+            &mut self.loose,
+            self.alloc,
+            id,
+            dims,
+            steps,
+        )
     }
 }

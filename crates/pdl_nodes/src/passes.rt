@@ -1,51 +1,78 @@
-//! The sweep in two passes, between which buffers are written back: noting what is reached, and
-//! removing what isn't.
-ghost use Rattle.std.specs.Prelude.{◌≡◌, ℕ, true, is_some};
-ghost use Rattle.pdl_nodes.specs.Staying.{staying};
-ghost use Rattle.pdl_nodes.specs.Rows.{has, reached, HasParents, Falls};
-ghost use Rattle.pdl_nodes.specs.Holds.{hold_at, is_held, count, Beside};
+//! What goes from one array up: taking its holds, which is the mark that it goes, and, once what
+//! waits was written back, its removal.
+ghost use Rattle.std.specs.Prelude.{◌≡◌, ◌≢◌, ℕ, ◌+◌, ◌-◌, ◌<◌, ◌&&◌, not, true, Some};
+ghost use Rattle.pdl_nodes.specs.Children.{children};
+ghost use Rattle.pdl_nodes.specs.Holds.{going, stands};
+ghost use Rattle.pdl_nodes.specs.Risen.{AreMarked, AreNoted, IsFallen, IsFewer, IsLoose, IsNoted, ParentsAreOlder};
+ghost use Rattle.pdl_nodes.specs.Rows.{Falls, has};
+ghost use Rattle.pdl_nodes.specs.Still.{IsStill};
 
 use crate::holds::Holds;
 use crate::table::Table;
 
-/// Notes what the held numbers reach by parents.
-pub fn reach(table: &Table, holds: &mut Holds)
-    requires falls { Falls table.now }
-    requires parents { HasParents table.now }
-    requires numbers { (v : ℕ) → is_some (hold_at holds.old v) ≡ has table.now v }
-    ensures reached { (v : ℕ) → has table.now v ≡ true
-        → is_held holds.new v ≡ reached table.now (is_held holds.old) v }
-    ensures numbers { (v : ℕ) → is_some (hold_at holds.new v) ≡ has table.now v }
-    ensures counts { (v : ℕ) → count holds.new v ≡ count holds.old v }
+/// Notes that one view more of a parent goes, if there is one.
+fn note_parent(table: &Table, holds: &mut Holds, parent: Option<u64>)
+    requires { (p : ℕ) → parent ≡ Some p → going holds.old p < children table.now p }
+    ensures { IsNoted (λ n. n + 1) holds.old holds.new parent }
 {
-    let mut next = table.newest();
-    while let Some(id) = next {
-        next = table.older(id);
-        if holds.is_held(id) {
-            match table.node(id).parent() {
-                Some(parent) => holds.set_reached(parent, true),
-                None => {}
-            }
+    match parent {
+        Some(id) => holds.note(id, table.children(id)),
+        None => {}
+    }
+}
+
+/// Takes the note of one view of a parent back, if there is one.
+fn take_parent_note(holds: &mut Holds, parent: Option<u64>)
+    ensures { IsNoted (λ n. n - 1) holds.old holds.new parent }
+{
+    match parent {
+        Some(id) => holds.take_note(id),
+        None => {}
+    }
+}
+
+/// Takes the holds from an array that goes, and from each above it that goes then.
+pub fn let_up(table: &Table, holds: &mut Holds, id: u64)
+    requires still { IsStill table.now }
+    requires live { has table.now id ≡ true }
+    requires marked { AreMarked table.now holds.old }
+    ensures marked { AreMarked table.now holds.new }
+    ensures fewer { IsFewer holds.old holds.new }
+    ensures loose { (v : ℕ) → IsLoose table.now holds.new v
+        → IsLoose table.now holds.old v × (v ≢ id) }
+{
+    let mut next = Some(id);
+    while let Some(at) = next {
+        next = None;
+        if holds.goes(at, table.children(at)) {
+            next = table.node(at).parent();
+            note_parent(table, holds, next);
+            holds.remove(at);
         }
     }
 }
 
-/// Removes what has neither a hold nor a note, and clears the notes.
-pub fn remove_unreached(table: &mut Table, holds: &mut Holds)
-    requires falls { Falls table.old }
-    requires numbers { (v : ℕ) → is_some (hold_at holds.old v) ≡ has table.old v }
-    ensures stays { table.new ≡ staying (is_held holds.old) table.old }
-    ensures beside { Beside table.new holds.new }
-    ensures counts { (v : ℕ) → has table.new v ≡ true → count holds.new v ≡ count holds.old v }
+/// Whether an array has no holds and is there still.
+fn is_left_over(table: &Table, holds: &Holds, id: u64) -> bool
+    ensures { result ≡ (not (stands holds.now id) && has table.now id) }
 {
-    let mut next = table.newest();
-    while let Some(id) = next {
-        next = table.older(id);
-        if holds.is_held(id) {
-            holds.set_reached(id, false);
-        } else {
-            table.remove(id);
-            holds.remove(id);
+    !holds.has(id) && table.has(id)
+}
+
+/// Removes an array that has no holds, and each above it that has none.
+pub fn remove_up(table: &mut Table, holds: &mut Holds, id: u64)
+    requires falls { Falls table.old }
+    requires older { ParentsAreOlder table.old }
+    requires noted { AreNoted table.old holds.old }
+    ensures { IsFallen id table.old holds.old table.new holds.new }
+{
+    let mut next = Some(id);
+    while let Some(at) = next {
+        next = None;
+        if is_left_over(table, holds, at) {
+            next = table.node(at).parent();
+            table.remove(at);
+            take_parent_note(holds, next);
         }
     }
 }

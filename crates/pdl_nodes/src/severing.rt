@@ -9,6 +9,8 @@ ghost use Rattle.pdl_nodes.specs.Alike.{is_fresh_in};
 ghost use Rattle.pdl_nodes.specs.Families.{InOrder};
 ghost use Rattle.pdl_nodes.specs.Known.{AreKnown};
 ghost use Rattle.pdl_nodes.specs.Outcomes.{outdated, waiting_of, waiting_size};
+ghost use Rattle.pdl_nodes.specs.Risen.{IsListed, ListsParent};
+ghost use Rattle.pdl_nodes.specs.Row.{parent_of};
 ghost use Rattle.pdl_nodes.specs.Rows.{NumbersBelow, has, row_at};
 ghost use Rattle.pdl_nodes.specs.Severed.{ChangesRows, RowsAreSettled, RowsStayFresh};
 ghost use Rattle.pdl_nodes.specs.Sized.{AreSized};
@@ -47,10 +49,26 @@ fn first_shown(alloc: Global, window: &Strided<'_>, count: u32) -> Result<Vec<i6
     Ok(numbers)
 }
 
+/// Lists the parent of an array, if it has one: it may be loose once the array is cut from it.
+fn list_parent(table: &Table, loose: &mut Vec<u64>, id: u64) -> Result<(), AllocError>
+    requires live { has table.now id ≡ true }
+    ensures listed { IsListed loose.old.items loose.new.items (parent_of (row_at table.now id)) }
+    ensures parent { OnOk result (ListsParent loose.new.items (parent_of (row_at table.now id))) }
+{
+    match table.node(id).parent() {
+        Some(parent) => {
+            loose.push(parent)?;
+            Ok(())
+        }
+        None => Ok(()),
+    }
+}
+
 /// A buffer of the first elements of a fresh array, with zeros after them where there are fewer
-/// than `count`. It takes a step for each that isn't 0.
+/// than `count`. It takes a step for each that isn't 0. The parent is listed before.
 fn first_copied<L: Ledger>(
     table: &Table,
+    loose: &mut Vec<u64>,
     alloc: Global,
     id: u64,
     count: u32,
@@ -65,20 +83,24 @@ fn first_copied<L: Ledger>(
       elems = fitted count (elements (world_of table.now) id);
     }) }
     ensures counted { steps.new ≤ steps.old + count }
+    ensures listed { IsListed loose.old.items loose.new.items (parent_of (row_at table.now id)) }
+    ensures parent { OnOk result (ListsParent loose.new.items (parent_of (row_at table.now id))) }
 {
     shape_laws();
+    list_parent(table, loose, id)?;
     let node = table.node(id);
     let base = table.node(node.base());
     let elements = first_shown(alloc, &strided(base.kept(), node.triple()), count)?;
     buf_of(alloc, node.ty(), &elements, steps)
 }
 
-/// Cuts an array from its parent: it becomes a root with its elements, and its own views stay with
-/// it. On a root it does nothing. Want of memory leaves the world as it was,
+/// Cuts an array from its parent, which is listed: it becomes a root with its elements, and its own
+/// views stay with it. On a root it does nothing. Want of memory leaves the world as it was,
 /// and what could be lent. It takes the steps that make the array fresh, and one for each of its
 /// elements that isn't 0.
 pub fn sever<L: Ledger>(
     table: &mut Table,
+    loose: &mut Vec<u64>,
     alloc: Global,
     id: u64,
     steps: &mut Steps<L>,
@@ -100,6 +122,9 @@ pub fn sever<L: Ledger>(
     ensures counted { steps.new ≤ steps.old
         + (outdated table.old id + waiting_size table.old (waiting_of table.old id)
         + size_of (row_at table.old id).triple.dims) }
+    ensures listed { IsListed loose.old.items loose.new.items (parent_of (row_at table.old id)) }
+    ensures parent { OnOk result ((row_at table.old id).root ≢ id
+        → ListsParent loose.new.items (parent_of (row_at table.old id))) }
 {
     cut_row_laws();
     if table.node(id).root() == id {
@@ -109,17 +134,18 @@ pub fn sever<L: Ledger>(
     refresh(table, alloc, id, steps)?;
     let dims = copy_dims(&table.node(id).triple().dims);
     let count = elements_of(&dims);
-    let kept = first_copied(table, alloc, id, count, steps)?;
+    let kept = first_copied(table, loose, alloc, id, count, steps)?;
     table.cut(alloc, id, &dims, kept);
     Ok(())
 }
 
 /// Gives an array that has no views other dimensions: it becomes a root with its first elements, in
-/// order, and zeros after them where there are fewer. Want of memory leaves
+/// order, and zeros after them where there are fewer. Its parent is listed. Want of memory leaves
 /// the world as it was, and what could be lent. It takes the steps that make the array fresh, and
 /// one for each of its new elements that isn't 0.
 pub fn reshape<L: Ledger>(
     table: &mut Table,
+    loose: &mut Vec<u64>,
     alloc: Global,
     id: u64,
     dims: &Dims,
@@ -139,13 +165,15 @@ pub fn reshape<L: Ledger>(
     ensures counted { steps.new ≤ steps.old
         + (outdated table.old id + waiting_size table.old (waiting_of table.old id)
         + size_of dims.now) }
+    ensures listed { IsListed loose.old.items loose.new.items (parent_of (row_at table.old id)) }
+    ensures parent { OnOk result (ListsParent loose.new.items (parent_of (row_at table.old id))) }
 {
     reshape_row_laws();
     let _limits = dims_list(dims);
     let count = elements_of(dims);
     settle(table, id, steps);
     refresh(table, alloc, id, steps)?;
-    let kept = first_copied(table, alloc, id, count, steps)?;
+    let kept = first_copied(table, loose, alloc, id, count, steps)?;
     table.become_root(alloc, id, dims, kept);
     Ok(())
 }

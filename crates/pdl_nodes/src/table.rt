@@ -8,7 +8,7 @@ ghost use Rattle.pdl_shape.specs.Places.{write};
 ghost use Rattle.pdl_shape.specs.Shape.{size_of};
 ghost use Rattle.pdl_world.specs.Cut.{has_views};
 ghost use Rattle.pdl_nodes.specs.Assigned.{put_all};
-ghost use Rattle.pdl_nodes.specs.Children.{noted, one_of};
+ghost use Rattle.pdl_nodes.specs.Children.{children, noted, one_of};
 ghost use Rattle.pdl_nodes.specs.Placed.{placed_by};
 ghost use Rattle.pdl_nodes.specs.Spots.{spots};
 ghost use Rattle.pdl_nodes.specs.Rows.{NumbersBelow, row_at, has, each, without, below, newest};
@@ -101,6 +101,13 @@ impl Table {
         ensures { result.now ≡ row_at self.now id }
     {
         &self.nodes[self.keys[&id]]
+    }
+
+    /// Whether a number has a node.
+    pub fn has(&self, id: u64) -> bool
+        ensures { result ≡ has self.now id }
+    {
+        self.keys.contains_key(&id)
     }
 
     /// Keeps one more node, under a number that is above all others and that no node has as its
@@ -294,6 +301,13 @@ impl Table {
         ensures { result ≡ has_views (shape self.now) id }
     {
         self.children.of(id) > 0
+    }
+
+    /// How many views an array has.
+    pub fn children(&self, id: u64) -> u64
+        ensures { result ≡ children self.now id }
+    {
+        self.children.of(id)
     }
 
     /// How many nodes there are.

@@ -1,15 +1,39 @@
-use Rattle.pdl_nodes.specs.Holds.{is_held}
-use Rattle.pdl_nodes.proofs.Goings.{settling_none, settling_live, settling_smaller, settling_more}
+use Rattle.std.proofs.Common.{◌≡◌, ◌+◌, sym, ◌∙◌, ap, subst}
+use Rattle.pdl_nodes.specs.Going.{IsSettledAt, going_size}
+use Rattle.pdl_nodes.specs.Holds.{stands}
+use Rattle.pdl_nodes.specs.Row.{Row}
+use Rattle.pdl_nodes.specs.Rows.{row_at}
+use Rattle.pdl_nodes.proofs.Alikes.{root_live}
+use Rattle.pdl_nodes.proofs.Goings.{settled_none, settled_some, size_none, size_some}
 use Rattle.pdl_nodes.proofs.releases.settle_going.Goals as goal
 
-pub loop-next-init : goal.loop-next-init
-loop-next-init g c = settling_none (is_held c.args.holds.now) c.args.table.now c.newest-next.result c.args.steps.now c.requires.order c.requires.known c.newest-next.ensures
+pub going-requires : goal.going-requires
+going-requires g c = record { live = root_live c.args.table.now c.root-root.result c.args.id c.requires.order.still c.requires.live (sym (c.root-root.ensures ∙ ap (λ (r : Row). r.root) c.node.ensures)) }
 
-pub settle_root-requires-clause-live : goal.settle_root-requires-clause-live
-settle_root-requires-clause-live g c = settling_live (is_held c.args.holds.now) c.args.table.now c.loop-next.table c.loop-next.next c.args.steps.now c.loop-next.steps c.in-Some.id c.loop-next.invariant c.in-Some.is
+pub write_back-requires-clause-root : goal.write_back-requires-clause-root
+write_back-requires-clause-root g c = root_live c.args.table.now c.root-root.result c.args.id c.requires.order.still c.requires.live (sym (c.root-root.ensures ∙ ap (λ (r : Row). r.root) c.node.ensures))
 
-pub loop-next-smaller : goal.loop-next-smaller
-loop-next-smaller g c = settling_smaller (is_held c.args.holds.now) c.args.table.now c.loop-next.table c.loop-next.next c.older-next.result c.args.steps.now c.loop-next.steps c.in-Some.id c.requires.order c.loop-next.invariant c.in-Some.is c.older-next.ensures
+pub returns-in-Some-clause-settled : goal.returns-in-Some-clause-settled
+returns-in-Some-clause-settled g c =
+    let e : c.root-root.result ≡ (row_at c.args.table.now c.args.id).root = c.root-root.ensures ∙ ap (λ (r : Row). r.root) c.node.ensures in
+    subst (λ r. IsSettledAt (stands c.args.holds.now) c.args.table.now c.write_back.new.table r) e
+    (settled_some c.args.table.now c.write_back.new.table (stands c.args.holds.now) c.root-root.result c.in-Some.view c.requires.order c.requires.known (root_live c.args.table.now c.root-root.result c.args.id c.requires.order.still c.requires.live (sym e)).0
+    (sym c.going.ensures ∙ c.in-Some.is) c.write_back.ensures.settled)
 
-pub loop-next-preserved : goal.loop-next-preserved
-loop-next-preserved g c = settling_more (is_held c.args.holds.now) c.args.table.now c.loop-next.table c.settle_root.new.table c.loop-next.next c.older-next.result c.args.steps.now c.loop-next.steps c.settle_root.new.steps c.in-Some.id c.requires.order c.loop-next.invariant c.in-Some.is c.older-next.ensures c.settle_root.ensures.settled c.settle_root.ensures.counted
+pub returns-in-Some-clause-counted : goal.returns-in-Some-clause-counted
+returns-in-Some-clause-counted g c =
+    let e : c.root-root.result ≡ (row_at c.args.table.now c.args.id).root = c.root-root.ensures ∙ ap (λ (r : Row). r.root) c.node.ensures in
+    subst (λ r. c.write_back.new.steps ≡ c.args.steps.now + going_size c.args.table.now (stands c.args.holds.now) r) e
+    (size_some c.args.table.now (stands c.args.holds.now) c.root-root.result c.in-Some.view c.args.steps.now c.write_back.new.steps (sym c.going.ensures ∙ c.in-Some.is) c.write_back.ensures.counted)
+
+pub returns-in-None-clause-settled : goal.returns-in-None-clause-settled
+returns-in-None-clause-settled g c =
+    let e : c.root-root.result ≡ (row_at c.args.table.now c.args.id).root = c.root-root.ensures ∙ ap (λ (r : Row). r.root) c.node.ensures in
+    subst (λ r. IsSettledAt (stands c.args.holds.now) c.args.table.now c.args.table.now r) e
+    (settled_none c.args.table.now (stands c.args.holds.now) c.root-root.result c.requires.order c.requires.known (sym c.going.ensures ∙ c.in-None.is))
+
+pub returns-in-None-clause-counted : goal.returns-in-None-clause-counted
+returns-in-None-clause-counted g c =
+    let e : c.root-root.result ≡ (row_at c.args.table.now c.args.id).root = c.root-root.ensures ∙ ap (λ (r : Row). r.root) c.node.ensures in
+    subst (λ r. c.args.steps.now ≡ c.args.steps.now + going_size c.args.table.now (stands c.args.holds.now) r) e
+    (size_none c.args.table.now (stands c.args.holds.now) c.root-root.result c.args.steps.now (sym c.going.ensures ∙ c.in-None.is))

@@ -17,30 +17,34 @@ use Rattle.pdl_nodes.proofs.Growing.{beside_alike, below_alike, others_fresh}
 use Rattle.pdl_nodes.specs.State.{TargetIsFresh, TargetWaits}
 use Rattle.pdl_nodes.proofs.Bounds.{target_fresh}
 use Rattle.pdl_nodes.proofs.Lazy.{target_waits}
+use Rattle.pdl_nodes.proofs.Tight.{tight_alike}
 use Rattle.pdl_nodes.proofs.nodes.Nodes.assign.Goals as goal
 
 pub assign-requires-clause-live : goal.assign-requires-clause-live
 assign-requires-clause-live g c = (live_has c.self.inside.table c.args.id (subst (λ (w : World). IsLive w c.args.id) (sym (ap (λ (s : State). s.world) c.self.view_is)) c.requires.live))
 
 pub assign-requires-clause-fresh : goal.assign-requires-clause-fresh
-assign-requires-clause-fresh g c = (sym (fresh_is c.self.inside.table c.args.id c.self.invariant.order.still (live_has c.self.inside.table c.args.id (subst (λ (w : World). IsLive w c.args.id) (sym (ap (λ (s : State). s.world) c.self.view_is)) c.requires.live))) ∙ ap (λ (s : State). holds s.fresh c.args.id) c.self.view_is ∙ c.requires.fresh)
+assign-requires-clause-fresh g c = (sym (fresh_is c.self.inside.table c.args.id c.self.invariant.0.order.still (live_has c.self.inside.table c.args.id (subst (λ (w : World). IsLive w c.args.id) (sym (ap (λ (s : State). s.world) c.self.view_is)) c.requires.live))) ∙ ap (λ (s : State). holds s.fresh c.args.id) c.self.view_is ∙ c.requires.fresh)
 
 pub assign-requires-clause-count : goal.assign-requires-clause-count
-assign-requires-clause-count g c = c.requires.count ∙ ap size_of (ap (λ w. dims_in w c.args.id) (sym (ap (λ (s : State). s.world) c.self.view_is)) ∙ dims_are c.self.inside.table c.args.id c.self.invariant.order.still (live_has c.self.inside.table c.args.id (subst (λ (w : World). IsLive w c.args.id) (sym (ap (λ (s : State). s.world) c.self.view_is)) c.requires.live)))
+assign-requires-clause-count g c = c.requires.count ∙ ap size_of (ap (λ w. dims_in w c.args.id) (sym (ap (λ (s : State). s.world) c.self.view_is)) ∙ dims_are c.self.inside.table c.args.id c.self.invariant.0.order.still (live_has c.self.inside.table c.args.id (subst (λ (w : World). IsLive w c.args.id) (sym (ap (λ (s : State). s.world) c.self.view_is)) c.requires.live)))
 
 pub assign-requires-clause-in_range : goal.assign-requires-clause-in_range
-assign-requires-clause-in_range g c = subst (λ (y : Ty). All (InRange y) c.args.values.now) (ap (λ w. ty_in w c.args.id) (sym (ap (λ (s : State). s.world) c.self.view_is)) ∙ ty_are c.self.inside.table c.args.id c.self.invariant.order.still (live_has c.self.inside.table c.args.id (subst (λ (w : World). IsLive w c.args.id) (sym (ap (λ (s : State). s.world) c.self.view_is)) c.requires.live))) c.requires.in_range
+assign-requires-clause-in_range g c = subst (λ (y : Ty). All (InRange y) c.args.values.now) (ap (λ w. ty_in w c.args.id) (sym (ap (λ (s : State). s.world) c.self.view_is)) ∙ ty_are c.self.inside.table c.args.id c.self.invariant.0.order.still (live_has c.self.inside.table c.args.id (subst (λ (w : World). IsLive w c.args.id) (sym (ap (λ (s : State). s.world) c.self.view_is)) c.requires.live))) c.requires.in_range
 
 pub invariant_of-self : goal.invariant_of-self
-invariant_of-self g c = record {
-  order = c.assign.ensures.assigned.order;
-  known = c.assign.ensures.assigned.known;
-  sized = sized_alike c.self.inside.table c.assign.new.table c.self.invariant.order.still c.assign.ensures.assigned.order.still c.assign.ensures.assigned.alike c.self.invariant.sized;
-  sound = subst (λ (w : World). IsSound w) (sym c.assign.ensures.assigned.world) (c.assignment_laws.ensures.sound (world_of c.self.inside.table) c.args.id c.args.values.now c.self.invariant.sound (subst (λ (w : World). All (InRange (ty_in w c.args.id)) c.args.values.now) (sym (ap (λ (s : State). s.world) c.self.view_is)) c.requires.in_range));
-  beside = beside_alike c.self.inside.table c.assign.new.table c.self.inside.holds c.assign.ensures.assigned.alike c.self.invariant.beside;
-  below = below_alike c.self.inside.table c.assign.new.table c.self.inside.next c.assign.ensures.assigned.alike.numbers_are c.self.invariant.below;
-  room = c.self.invariant.room;
-}
+invariant_of-self g c = (
+  record {
+    order = c.assign.ensures.assigned.order;
+    known = c.assign.ensures.assigned.known;
+    sized = sized_alike c.self.inside.table c.assign.new.table c.self.invariant.0.order.still c.assign.ensures.assigned.order.still c.assign.ensures.assigned.alike c.self.invariant.0.sized;
+    sound = subst (λ (w : World). IsSound w) (sym c.assign.ensures.assigned.world) (c.assignment_laws.ensures.sound (world_of c.self.inside.table) c.args.id c.args.values.now c.self.invariant.0.sound (subst (λ (w : World). All (InRange (ty_in w c.args.id)) c.args.values.now) (sym (ap (λ (s : State). s.world) c.self.view_is)) c.requires.in_range));
+    beside = beside_alike c.self.inside.table c.assign.new.table c.self.inside.holds c.assign.ensures.assigned.alike c.self.invariant.0.beside;
+    below = below_alike c.self.inside.table c.assign.new.table c.self.inside.next c.assign.ensures.assigned.alike.numbers_are c.self.invariant.0.below;
+    room = c.self.invariant.0.room;
+  },
+  tight_alike c.self.inside.loose.items c.self.inside.table c.assign.new.table c.self.inside.holds c.assign.ensures.assigned.alike c.self.invariant.1,
+)
 
 pub returns-clause-holds : goal.returns-clause-holds
 returns-clause-holds g c = holds_alike c.self.inside.table c.assign.new.table c.self.inside.holds c.assign.ensures.assigned.alike.numbers_are ∙ ap (λ (s : State). s.holds) c.self.view_is
@@ -50,12 +54,12 @@ returns-clause-others g c = λ u n f.
     let h : holds (fresh_among c.self.inside.table c.self.inside.table) u ≡ true = ap (λ (s : State). holds s.fresh u) c.self.view_is ∙ f in
     let l : has c.self.inside.table u ≡ true = fresh_live c.self.inside.table u h in
     fresh_is c.assign.new.table u c.assign.ensures.assigned.order.still (c.assign.ensures.assigned.alike.has_is u ∙ l)
-    ∙ others_fresh c.self.inside.table c.assign.new.table c.args.id u c.self.invariant.order.still c.assign.ensures.assigned.order.still c.assign.ensures.assigned.alike c.assign.ensures.assigned.marks l
-    (λ e. n (ap (λ w. root_of w u) (sym (ap (λ (s : State). s.world) c.self.view_is)) ∙ root_are c.self.inside.table u c.self.invariant.order.still l ∙ e ∙ sym (root_are c.self.inside.table c.args.id c.self.invariant.order.still (live_has c.self.inside.table c.args.id (subst (λ (w : World). IsLive w c.args.id) (sym (ap (λ (s : State). s.world) c.self.view_is)) c.requires.live))) ∙ ap (λ w. root_of w c.args.id) (ap (λ (s : State). s.world) c.self.view_is)))
-    (sym (fresh_is c.self.inside.table u c.self.invariant.order.still l) ∙ h)
+    ∙ others_fresh c.self.inside.table c.assign.new.table c.args.id u c.self.invariant.0.order.still c.assign.ensures.assigned.order.still c.assign.ensures.assigned.alike c.assign.ensures.assigned.marks l
+    (λ e. n (ap (λ w. root_of w u) (sym (ap (λ (s : State). s.world) c.self.view_is)) ∙ root_are c.self.inside.table u c.self.invariant.0.order.still l ∙ e ∙ sym (root_are c.self.inside.table c.args.id c.self.invariant.0.order.still (live_has c.self.inside.table c.args.id (subst (λ (w : World). IsLive w c.args.id) (sym (ap (λ (s : State). s.world) c.self.view_is)) c.requires.live))) ∙ ap (λ w. root_of w c.args.id) (ap (λ (s : State). s.world) c.self.view_is)))
+    (sym (fresh_is c.self.inside.table u c.self.invariant.0.order.still l) ∙ h)
 
 pub returns-clause-target : goal.returns-clause-target
-returns-clause-target g c = subst (λ (s : State). TargetIsFresh s c.args.id (state_of c.assign.new.table c.self.inside.holds c.self.inside.next)) c.self.view_is (target_fresh c.self.inside.table c.assign.new.table c.self.inside.holds c.self.inside.holds c.self.inside.next c.self.inside.next c.args.id c.self.invariant.order.still c.assign.ensures.assigned.order.still (live_has c.self.inside.table c.args.id (subst (λ (w : World). IsLive w c.args.id) (sym (ap (λ (s : State). s.world) c.self.view_is)) c.requires.live)) c.assign.ensures.assigned.alike c.assign.ensures.assigned.marks)
+returns-clause-target g c = subst (λ (s : State). TargetIsFresh s c.args.id (state_of c.assign.new.table c.self.inside.holds c.self.inside.next)) c.self.view_is (target_fresh c.self.inside.table c.assign.new.table c.self.inside.holds c.self.inside.holds c.self.inside.next c.self.inside.next c.args.id c.self.invariant.0.order.still c.assign.ensures.assigned.order.still (live_has c.self.inside.table c.args.id (subst (λ (w : World). IsLive w c.args.id) (sym (ap (λ (s : State). s.world) c.self.view_is)) c.requires.live)) c.assign.ensures.assigned.alike c.assign.ensures.assigned.marks)
 
 pub returns-clause-waits : goal.returns-clause-waits
-returns-clause-waits g c = subst (λ (s : State). TargetWaits s c.args.id (state_of c.assign.new.table c.self.inside.holds c.self.inside.next)) c.self.view_is (target_waits c.self.inside.table c.assign.new.table c.self.inside.holds c.self.inside.holds c.self.inside.next c.self.inside.next c.args.id c.self.invariant.order.still c.assign.ensures.assigned.order.still (live_has c.self.inside.table c.args.id (subst (λ (w : World). IsLive w c.args.id) (sym (ap (λ (s : State). s.world) c.self.view_is)) c.requires.live)) c.assign.ensures.assigned.alike c.assign.ensures.waits)
+returns-clause-waits g c = subst (λ (s : State). TargetWaits s c.args.id (state_of c.assign.new.table c.self.inside.holds c.self.inside.next)) c.self.view_is (target_waits c.self.inside.table c.assign.new.table c.self.inside.holds c.self.inside.holds c.self.inside.next c.self.inside.next c.args.id c.self.invariant.0.order.still c.assign.ensures.assigned.order.still (live_has c.self.inside.table c.args.id (subst (λ (w : World). IsLive w c.args.id) (sym (ap (λ (s : State). s.world) c.self.view_is)) c.requires.live)) c.assign.ensures.assigned.alike c.assign.ensures.waits)

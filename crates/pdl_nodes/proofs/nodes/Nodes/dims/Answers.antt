@@ -11,4 +11,4 @@ pub node-requires : goal.node-requires
 node-requires c = record { live = (live_has c.self.inside.table c.args.id (subst (λ (w : World). IsLive w c.args.id) (sym (ap (λ (s : State). s.world) c.self.view_is)) c.requires)) }
 
 pub returns-clause-now : goal.returns-clause-now
-returns-clause-now c = ap (λ (t : Triple). t.dims) (c.behind-node.view_is ∙ c.triple.ensures ∙ ap (λ (r : Row). r.triple) c.node.ensures) ∙ sym (dims_are c.self.inside.table c.args.id c.self.invariant.order.still (live_has c.self.inside.table c.args.id (subst (λ (w : World). IsLive w c.args.id) (sym (ap (λ (s : State). s.world) c.self.view_is)) c.requires))) ∙ ap (λ w. dims_in w c.args.id) (ap (λ (s : State). s.world) c.self.view_is)
+returns-clause-now c = ap (λ (t : Triple). t.dims) (c.behind-node.view_is ∙ c.triple.ensures ∙ ap (λ (r : Row). r.triple) c.node.ensures) ∙ sym (dims_are c.self.inside.table c.args.id c.self.invariant.0.order.still (live_has c.self.inside.table c.args.id (subst (λ (w : World). IsLive w c.args.id) (sym (ap (λ (s : State). s.world) c.self.view_is)) c.requires))) ∙ ap (λ w. dims_in w c.args.id) (ap (λ (s : State). s.world) c.self.view_is)

@@ -10,4 +10,4 @@ pub is_fresh-requires-clause-live : goal.is_fresh-requires-clause-live
 is_fresh-requires-clause-live c = (live_has c.self.inside.table c.args.id (subst (λ (w : World). IsLive w c.args.id) (sym (ap (λ (s : State). s.world) c.self.view_is)) c.requires))
 
 pub returns : goal.returns
-returns c = c.is_fresh.ensures ∙ sym (fresh_is c.self.inside.table c.args.id c.self.invariant.order.still (live_has c.self.inside.table c.args.id (subst (λ (w : World). IsLive w c.args.id) (sym (ap (λ (s : State). s.world) c.self.view_is)) c.requires))) ∙ ap (λ (s : State). holds s.fresh c.args.id) c.self.view_is
+returns c = c.is_fresh.ensures ∙ sym (fresh_is c.self.inside.table c.args.id c.self.invariant.0.order.still (live_has c.self.inside.table c.args.id (subst (λ (w : World). IsLive w c.args.id) (sym (ap (λ (s : State). s.world) c.self.view_is)) c.requires))) ∙ ap (λ (s : State). holds s.fresh c.args.id) c.self.view_is

@@ -1,4 +1,4 @@
-use Rattle.std.proofs.Common.{◌+◌, ◌<◌, ℕ, List, sym, ◌∙◌, ap, subst}
+use Rattle.std.proofs.Common.{◌+◌, ◌<◌, sym, ◌∙◌, ap, subst}
 use Rattle.pdl_nodes.specs.Held.{count_at, one_less_at, held_among, written_back, IsReleased}
 use Rattle.pdl_nodes.specs.Holds.{after_release}
 use Rattle.pdl_nodes.specs.Rows.{reached}
@@ -6,6 +6,7 @@ use Rattle.pdl_nodes.specs.Nodes.{holds_in, state_of}
 use Rattle.pdl_nodes.specs.State.{State}
 use Rattle.pdl_nodes.specs.Worlds.{world_of}
 use Rattle.pdl_nodes.proofs.Helds.{count_is, held_live, held_is, left_nodes, left_state}
+use Rattle.pdl_nodes.proofs.Tight.{tight_all}
 use Rattle.pdl_nodes.proofs.Written.{swept_by, written_is}
 use Rattle.pdl_nodes.proofs.nodes.Nodes.release.Goals as goal
 
@@ -15,24 +16,25 @@ release-requires-clause-held g c =
     subst (λ n. 0 < n) (count_is c.self.inside.table c.self.inside.holds c.args.id (held_live c.self.inside.table c.self.inside.holds c.args.id l)) l
 
 pub invariant_of-self : goal.invariant_of-self
-invariant_of-self g c =
-    let held : List ℕ = held_among (one_less_at (holds_in c.self.inside.table c.self.inside.holds) c.args.id) in
-    left_nodes c.sweep_laws.ensures.sound c.self.inside.table c.release.new.table c.self.inside.holds c.release.new.holds c.self.inside.next (held_among (one_less_at (holds_in c.self.inside.table c.self.inside.holds) c.args.id)) c.self.invariant c.release.ensures.left
-    (c.release.ensures.swept (held_among (one_less_at (holds_in c.self.inside.table c.self.inside.holds) c.args.id)) (held_is c.self.inside.table c.self.inside.holds c.args.id c.self.invariant.beside)) c.release.ensures.beside
+invariant_of-self g c = (
+  left_nodes c.sweep_laws.ensures.sound c.self.inside.table c.release.new.table c.self.inside.holds c.release.new.holds c.self.inside.next (held_among (one_less_at (holds_in c.self.inside.table c.self.inside.holds) c.args.id)) c.self.invariant.0 c.release.ensures.left
+      (c.release.ensures.swept (held_among (one_less_at (holds_in c.self.inside.table c.self.inside.holds) c.args.id)) (held_is c.self.inside.table c.self.inside.holds c.args.id c.self.invariant.0.beside)) c.release.ensures.beside,
+  tight_all c.release.new.table c.release.new.holds c.clear.new.self.items c.clear.ensures.items c.release.ensures.tight,
+)
 
 pub returns-clause-released : goal.returns-clause-released
 returns-clause-released g c =
     subst (λ (s : State). IsReleased s c.args.id (state_of c.release.new.table c.release.new.holds c.self.inside.next)) c.self.view_is
-    (left_state c.self.inside.table c.release.new.table c.self.inside.holds c.release.new.holds c.self.inside.next c.args.id c.self.invariant.order.still c.release.ensures.left
-    (c.release.ensures.swept (held_among (one_less_at (holds_in c.self.inside.table c.self.inside.holds) c.args.id)) (held_is c.self.inside.table c.self.inside.holds c.args.id c.self.invariant.beside)) c.release.ensures.counts)
+    (left_state c.self.inside.table c.release.new.table c.self.inside.holds c.release.new.holds c.self.inside.next c.args.id c.self.invariant.0.order.still c.release.ensures.left
+    (c.release.ensures.swept (held_among (one_less_at (holds_in c.self.inside.table c.self.inside.holds) c.args.id)) (held_is c.self.inside.table c.self.inside.holds c.args.id c.self.invariant.0.beside)) c.release.ensures.counts)
 
 pub returns-clause-sound : goal.returns-clause-sound
-returns-clause-sound g c = (invariant_of-self g c).sound
+returns-clause-sound g c = (invariant_of-self g c).0.sound
 
 pub returns-clause-counted : goal.returns-clause-counted
 returns-clause-counted g c =
     c.release.ensures.counted ∙ ap (λ n. c.args.steps.now + n)
     (written_is c.self.inside.table c.release.new.table c.self.inside.holds c.self.inside.next (reached c.self.inside.table (after_release c.args.id c.self.inside.holds))
-    (swept_by c.self.inside.table c.release.new.table c.self.inside.holds c.args.id c.self.invariant.order c.self.invariant.beside
-    (c.release.ensures.swept (held_among (one_less_at (holds_in c.self.inside.table c.self.inside.holds) c.args.id)) (held_is c.self.inside.table c.self.inside.holds c.args.id c.self.invariant.beside))))
+    (swept_by c.self.inside.table c.release.new.table c.self.inside.holds c.args.id c.self.invariant.0.order c.self.invariant.0.beside
+    (c.release.ensures.swept (held_among (one_less_at (holds_in c.self.inside.table c.self.inside.holds) c.args.id)) (held_is c.self.inside.table c.self.inside.holds c.args.id c.self.invariant.0.beside))))
     ∙ ap (λ (s : State). c.args.steps.now + written_back s (world_of c.release.new.table) (world_of c.release.new.table)) c.self.view_is

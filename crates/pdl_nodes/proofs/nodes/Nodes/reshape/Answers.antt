@@ -13,6 +13,7 @@ use Rattle.pdl_nodes.proofs.Counted.{views_with}
 use Rattle.pdl_nodes.proofs.Changed.{changed_nodes, changed_settled, changed_state, err_with, refused_fresh, steps_are, reshaped_sound, reshaped_lent}
 use Rattle.pdl_nodes.proofs.Paths.{on_ok}
 use Rattle.pdl_nodes.proofs.Stating.{live_has}
+use Rattle.pdl_nodes.proofs.Tight.{tight_reshaped}
 use Rattle.pdl_nodes.proofs.nodes.Nodes.reshape.Goals as goal
 
 pub reshape-requires-clause-live : goal.reshape-requires-clause-live
@@ -22,8 +23,13 @@ pub reshape-requires-clause-viewless : goal.reshape-requires-clause-viewless
 reshape-requires-clause-viewless g c = sym (views_with (latest c.self.inside.table) (shape c.self.inside.table) c.args.id) ∙ ap (λ (s : State). has_views s.world c.args.id) c.self.view_is ∙ c.requires.viewless
 
 pub invariant_of-self : goal.invariant_of-self
-invariant_of-self g c = changed_nodes c.self.inside.table c.reshape.new.table c.self.inside.holds c.self.inside.next c.args.id c.self.invariant c.reshape.ensures.reshaped
-    (reshaped_sound c.reshape_laws.ensures.sound c.self.inside.table c.reshape.new.table c.args.id c.args.dims.now c.reshape.result c.self.invariant.sound (ap (λ (s : State). has_views s.world c.args.id) c.self.view_is ∙ c.requires.viewless) c.dims_list-limits.ensures.limits c.reshape.ensures.ok c.reshape.ensures.err)
+invariant_of-self g c = (
+  changed_nodes c.self.inside.table c.reshape.new.table c.self.inside.holds c.self.inside.next c.args.id c.self.invariant.0 c.reshape.ensures.reshaped
+      (reshaped_sound c.reshape_laws.ensures.sound c.self.inside.table c.reshape.new.table c.args.id c.args.dims.now c.reshape.result c.self.invariant.0.sound (ap (λ (s : State). has_views s.world c.args.id) c.self.view_is ∙ c.requires.viewless) c.dims_list-limits.ensures.limits c.reshape.ensures.ok c.reshape.ensures.err),
+  tight_reshaped c.self.inside.table c.reshape.new.table c.args.id c.self.inside.loose.items c.reshape.new.loose.items c.self.inside.holds c.args.dims.now c.reshape.result c.self.invariant.0.order.still
+      (live_has c.self.inside.table c.args.id (subst (λ (s : State). IsLive s.world c.args.id) (sym c.self.view_is) c.requires.live))
+      c.reshape.ensures.reshaped c.reshape.ensures.listed c.reshape.ensures.parent c.reshape.ensures.ok c.reshape.ensures.err c.self.invariant.1,
+)
 
 pub returns-clause-ok : goal.returns-clause-ok
 returns-clause-ok g c = on_ok c.reshape.result (λ e. e ∙ ap (λ (s : State). reshape s.world c.args.id c.args.dims.now) c.self.view_is) c.reshape.ensures.ok
@@ -34,12 +40,12 @@ returns-clause-err g c = err_with c.reshape.result (λ e. e ∙ ap (λ (s : Stat
 pub returns-clause-family : goal.returns-clause-family
 returns-clause-family g c =
     subst (λ (s : State). ChangesFamily s c.args.id (state_of c.reshape.new.table c.self.inside.holds c.self.inside.next)) c.self.view_is
-    (changed_state c.self.inside.table c.reshape.new.table c.self.inside.holds c.self.inside.next c.args.id c.self.invariant
+    (changed_state c.self.inside.table c.reshape.new.table c.self.inside.holds c.self.inside.next c.args.id c.self.invariant.0
     (live_has c.self.inside.table c.args.id (subst (λ (s : State). IsLive s.world c.args.id) (sym c.self.view_is) c.requires.live)) c.reshape.ensures.reshaped)
 
 pub returns-clause-stay : goal.returns-clause-stay
 returns-clause-stay g c = err_with c.reshape.result (λ f. subst (λ (s : State). StayFresh s (state_of c.reshape.new.table c.self.inside.holds c.self.inside.next)) c.self.view_is
-    (refused_fresh c.self.inside.table c.reshape.new.table c.self.inside.holds c.self.inside.next c.args.id c.self.invariant c.reshape.ensures.reshaped f)) c.reshape.ensures.stay
+    (refused_fresh c.self.inside.table c.reshape.new.table c.self.inside.holds c.self.inside.next c.args.id c.self.invariant.0 c.reshape.ensures.reshaped f)) c.reshape.ensures.stay
 
 pub returns-clause-fresh : goal.returns-clause-fresh
 returns-clause-fresh g c = on_ok c.reshape.result (λ f. reshaped_lent c.self.inside.table c.reshape.new.table c.self.inside.holds c.self.inside.next c.args.id
@@ -49,14 +55,14 @@ pub returns-clause-counted : goal.returns-clause-counted
 returns-clause-counted g c =
     let h : has c.self.inside.table c.args.id ≡ true = live_has c.self.inside.table c.args.id (subst (λ (s : State). IsLive s.world c.args.id) (sym c.self.view_is) c.requires.live) in
     let a : rows_outdated c.self.inside.table c.args.id + rows_waiting_size c.self.inside.table (waiting_of c.self.inside.table c.args.id) ≡ outdated c.args.self.now c.args.id + waiting_size c.args.self.now (waiting c.args.self.now c.args.id) =
-    steps_are c.self.inside.table c.self.inside.holds c.self.inside.next c.args.id c.self.invariant h ∙ ap (λ (s : State). outdated s c.args.id + waiting_size s (waiting s c.args.id)) c.self.view_is in
+    steps_are c.self.inside.table c.self.inside.holds c.self.inside.next c.args.id c.self.invariant.0 h ∙ ap (λ (s : State). outdated s c.args.id + waiting_size s (waiting s c.args.id)) c.self.view_is in
     omega (arith, a, c.reshape.ensures.counted)
 
 pub returns-clause-sound : goal.returns-clause-sound
-returns-clause-sound g c = reshaped_sound c.reshape_laws.ensures.sound c.self.inside.table c.reshape.new.table c.args.id c.args.dims.now c.reshape.result c.self.invariant.sound (ap (λ (s : State). has_views s.world c.args.id) c.self.view_is ∙ c.requires.viewless) c.dims_list-limits.ensures.limits c.reshape.ensures.ok c.reshape.ensures.err
+returns-clause-sound g c = reshaped_sound c.reshape_laws.ensures.sound c.self.inside.table c.reshape.new.table c.args.id c.args.dims.now c.reshape.result c.self.invariant.0.sound (ap (λ (s : State). has_views s.world c.args.id) c.self.view_is ∙ c.requires.viewless) c.dims_list-limits.ensures.limits c.reshape.ensures.ok c.reshape.ensures.err
 
 pub returns-clause-settled : goal.returns-clause-settled
 returns-clause-settled g c =
     subst (λ (s : State). FamilyIsSettled s c.args.id (state_of c.reshape.new.table c.self.inside.holds c.self.inside.next)) c.self.view_is
-    (changed_settled c.self.inside.table c.reshape.new.table c.self.inside.holds c.self.inside.next c.args.id c.self.invariant
+    (changed_settled c.self.inside.table c.reshape.new.table c.self.inside.holds c.self.inside.next c.args.id c.self.invariant.0
     (live_has c.self.inside.table c.args.id (subst (λ (s : State). IsLive s.world c.args.id) (sym c.self.view_is) c.requires.live)) c.reshape.ensures.reshaped c.reshape.ensures.settled)

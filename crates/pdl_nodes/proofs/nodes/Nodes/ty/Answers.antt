@@ -10,4 +10,4 @@ pub node-requires : goal.node-requires
 node-requires c = record { live = (live_has c.self.inside.table c.args.id (subst (λ (w : World). IsLive w c.args.id) (sym (ap (λ (s : State). s.world) c.self.view_is)) c.requires)) }
 
 pub returns : goal.returns
-returns c = c.ty.ensures ∙ ap (λ (r : Row). r.ty) c.node.ensures ∙ sym (ty_are c.self.inside.table c.args.id c.self.invariant.order.still (live_has c.self.inside.table c.args.id (subst (λ (w : World). IsLive w c.args.id) (sym (ap (λ (s : State). s.world) c.self.view_is)) c.requires))) ∙ ap (λ w. ty_in w c.args.id) (ap (λ (s : State). s.world) c.self.view_is)
+returns c = c.ty.ensures ∙ ap (λ (r : Row). r.ty) c.node.ensures ∙ sym (ty_are c.self.inside.table c.args.id c.self.invariant.0.order.still (live_has c.self.inside.table c.args.id (subst (λ (w : World). IsLive w c.args.id) (sym (ap (λ (s : State). s.world) c.self.view_is)) c.requires))) ∙ ap (λ w. ty_in w c.args.id) (ap (λ (s : State). s.world) c.self.view_is)

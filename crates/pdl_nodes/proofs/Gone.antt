@@ -1,0 +1,173 @@
+-- What is left once what no held array reaches was let go.
+use Rattle.std.proofs.Common.{◌≡◌, ◌≢◌, ℕ, ◌+◌, ◌<◌, ◌≤◌, ◌||◌, Bool, true, false, eqb, cond, nat_lt, suc, zero, List, [], ◌∷◌, length, get_or, drop, Option, Some, None, is_some, inl, inr, refl, sym, ◌∙◌, ap, arith}
+use Rattle.std.proofs.lemmas.Bool.{cases_Bool}
+use Rattle.std.proofs.lemmas.Bool.Decides.{eqb_tells}
+use Rattle.pdl_elem.specs.declared.Ty.{Ty}
+use Rattle.pdl_world.specs.Cut.{has_views}
+use Rattle.pdl_world.specs.Swept.{holds}
+use Rattle.pdl_world.specs.World.{World, root, view}
+use Rattle.pdl_nodes.specs.declared.holds.Hold.{Hold}
+use Rattle.pdl_nodes.specs.declared.origin.Origin.{Origin}
+use Rattle.pdl_nodes.specs.declared.origin.Origin.TheVariants.{Root, View}
+use Rattle.pdl_nodes.specs.Children.{children, left, one_of}
+use Rattle.pdl_nodes.specs.Families.{InOrder}
+use Rattle.pdl_nodes.specs.Going.{LeavesWaiting}
+use Rattle.pdl_nodes.specs.Holds.{Counts, Beside, hold_at, is_held, stands, count, count_in, going, going_in, less_one}
+use Rattle.pdl_nodes.specs.Outcomes.{IsReady}
+use Rattle.pdl_nodes.specs.Released.{KeepsWaiting}
+use Rattle.pdl_nodes.specs.Risen.{AreNoted, AreTight, ComesFrom, IsLetGo, IsParentOfGone, IsRisen, IsTight}
+use Rattle.pdl_nodes.specs.Row.{Row, parent_of, parent_from}
+use Rattle.pdl_nodes.specs.Rows.{Rows, row_at, has, reached}
+use Rattle.pdl_nodes.specs.Sized.{AreSized}
+use Rattle.pdl_nodes.specs.Staying.{staying}
+use Rattle.pdl_nodes.specs.Still.{IsStill}
+use Rattle.pdl_nodes.specs.Worlds.{def_from, shape}
+use Rattle.pdl_nodes.proofs.Finds.{differ, has_stays, same}
+use Rattle.pdl_nodes.proofs.Helds.{less_going, less_some}
+use Rattle.pdl_nodes.proofs.Leavings.{IsGone, IsLeaving, is_gone, is_left, left_means}
+use Rattle.pdl_nodes.proofs.Lefts.{left_all, none_if, reached_viewed}
+use Rattle.pdl_nodes.proofs.Letting.{holds_next, holds_end, in_more}
+use Rattle.pdl_nodes.proofs.Removing.{IsRemoved}
+use Rattle.pdl_nodes.proofs.Stayings.{stays, shape_stays}
+use Rattle.pdl_nodes.proofs.Sweeps.{reached_closed}
+
+-- ---- one number and those of a list
+
+pub in_list : (xs : List ℕ) (n d : ℕ) → n < length xs → holds xs (get_or xs n d) ≡ true
+in_list [] n d l = absurd (omega (arith, l))
+in_list (x ∷ xs) zero d l = rw (same x x refl) refl
+in_list (x ∷ xs) (suc n) d l = in_more (eqb x (get_or xs n d)) (holds xs (get_or xs n d)) (in_list xs n d (omega (arith, l)))
+
+swap_or : (a b c : Bool) → (a || (b || c)) ≡ (b || (a || c))
+swap_or true true c = refl
+swap_or true false c = refl
+swap_or false b c = refl
+
+pub under_next : (xs : List ℕ) (n d id v : ℕ) → n < length xs → holds (id ∷ drop n xs) v ≡ (eqb (get_or xs n d) v || holds (id ∷ drop (n + 1) xs) v)
+under_next xs n d id v l = ap (λ b. eqb id v || b) (holds_next xs n d v l) ∙ swap_or (eqb id v) (eqb (get_or xs n d) v) (holds (drop (n + 1) xs) v)
+
+pub under_end : (xs : List ℕ) (n id v : ℕ) → length xs ≤ n → holds (id ∷ drop n xs) v ≡ (eqb id v || holds [] v)
+under_end xs n id v l = ap (λ b. eqb id v || b) (holds_end xs n v l)
+
+pub under_first : (id : ℕ) (xs : List ℕ) → holds (id ∷ xs) id ≡ true
+under_first id xs = rw (same id id refl) refl
+
+pub under_listed : (xs : List ℕ) (n d id : ℕ) → n < length xs → holds (id ∷ xs) (get_or xs n d) ≡ true
+under_listed xs n d id l = in_more (eqb id (get_or xs n d)) (holds xs (get_or xs n d)) (in_list xs n d l)
+
+-- ---- rows that mean the same
+
+abbrev left_in : World → (ℕ → Bool) → ℕ → ℕ
+left_in [] t v = 0
+left_in ((k, root ty ds es) ∷ w) t v = left_in w t v
+left_in ((k, view p u) ∷ w) t v = cond (t k) (one_of (Some p) v) 0 + left_in w t v
+
+left_shape : (rs : Rows) (t : ℕ → Bool) (v : ℕ) → left rs t v ≡ left_in (shape rs) t v
+left_shape [] t v = refl
+left_shape ((k, r) ∷ rs) t v = by r.origin (left_shape rs t v) where
+  by : (o : Origin) → left rs t v ≡ left_in (shape rs) t v → cond (t k) (one_of (parent_from o) v) 0 + left rs t v ≡ left_in ((k, def_from r.ty r.triple.dims o) ∷ shape rs) t v
+  by Root e = ap (λ n. n + left rs t v) (none_if (t k) 0 refl) ∙ (let z : 0 + left rs t v ≡ left rs t v = omega arith in z) ∙ e
+  by (View p u y) e = ap (λ n. cond (t k) (one_of (Some p) v) 0 + n) e
+
+left_ready : (old mid : Rows) (t : ℕ → Bool) (v : ℕ) → IsReady old mid → left mid t v ≡ left old t v
+left_ready old mid t v k = left_shape mid t v ∙ ap (λ w. left_in w t v) k.alike.shape_is ∙ sym (left_shape old t v)
+
+children_ready : (old mid : Rows) (v : ℕ) → IsReady old mid → children mid v ≡ children old v
+children_ready old mid v k =
+    sym (left_all mid (λ x. true) v (λ x h. refl)) ∙ left_ready old mid (λ x. true) v k ∙ left_all old (λ x. true) v (λ x h. refl)
+
+pub noted_ready : (old mid : Rows) (hs : Counts) → IsReady old mid → AreNoted old hs → AreNoted mid hs
+noted_ready old mid hs k n = λ v y.
+    children_ready old mid v k ∙ n v y ∙ ap (λ m. going hs v + m) (sym (left_ready old mid (stands hs) v k))
+
+pub comes_ready : (starts : List ℕ) (old mid : Rows) (hs : Counts) → IsReady old mid → ComesFrom starts old hs → ComesFrom starts mid hs
+comes_ready starts old mid hs k f = λ v h g d.
+    let i : IsParentOfGone old hs v = f v (sym (k.alike.has_is v) ∙ h) g d in
+    record { child = i.child; live = k.alike.has_is i.child ∙ i.live; gone = i.gone; parent = k.alike.parent_is i.child ∙ i.parent }
+
+-- ---- all that goes is gone
+
+clear_none : (o : Option Hold) → is_some o ≡ false → going_in o ≡ 0
+clear_none None h = refl
+clear_none (Some x) h = absurd (cc)
+
+pub removed_beside : (rs : Rows) (h0 : Counts) (table : Rows) (hs : Counts) → IsRemoved rs h0 table hs → Beside table hs
+removed_beside rs h0 table hs i = record {
+  numbers = i.numbers;
+  clear = λ v. elim (cases_Bool (stands hs v)) [ inl y ↦ i.clear v y | inr y ↦ clear_none (hold_at hs v) y ];
+}
+
+-- what is left and isn't held has a view that is left
+left_tight : (old mid new : Rows) (t h held : ℕ → Bool) → IsStill old → IsLeaving old mid new t h → t ≡ reached old held → (v : ℕ) → has new v ≡ true → held v ≡ false → has_views (shape new) v ≡ true
+left_tight old mid new t h held s l e v y n =
+    let g : IsGone old mid new t = is_gone old mid new t h l in
+    let there : has (staying t mid) v ≡ true = ap (λ x. has x v) (sym g.stays_so) ∙ y in
+    let tv : t v ≡ true = stays t mid v there in
+    let hv : has old v ≡ true = sym (l.kept.alike.has_is v) ∙ sym (has_stays t mid v tv) ∙ there in
+    ap (λ x. has_views (shape x) v) g.stays_so
+    ∙ ap (λ w. has_views w v) (shape_stays t mid ∙ ap (staying t) l.kept.alike.shape_is ∙ sym (shape_stays t old))
+    ∙ ap (λ u. has_views (shape (staying u old)) v) e
+    ∙ reached_viewed old held v s hv (sym (ap (λ u. u v) e) ∙ tv) n
+
+-- what was settled once the holds were taken from all that goes
+pub record IsSettledSo (old mid : Rows) (hs : Counts) : Type 0 where
+  pub kept : IsReady old mid
+  pub sized : AreSized old → AreSized mid
+  pub waits : KeepsWaiting (stands hs) mid
+  pub leaves : LeavesWaiting (stands hs) old mid
+
+risen_leaving : (starts : List ℕ) (old mid new : Rows) (hs h1 : Counts) → InOrder old → IsRisen starts old hs h1 → IsSettledSo old mid h1 → new ≡ staying (stands h1) mid → IsLeaving old mid new (reached old (is_held hs)) (stands h1)
+risen_leaving starts old mid new hs h1 o r s n = record {
+  kept = s.kept;
+  sized = s.sized;
+  notes = r.tells;
+  closed = reached_closed old (is_held hs) o.still;
+  waits = s.waits;
+  leaves = s.leaves;
+  left = n;
+}
+
+pub let_go_is : (starts : List ℕ) (old mid new : Rows) (hs h1 gs : Counts) → InOrder old → IsRisen starts old hs h1 → IsSettledSo old mid h1 → new ≡ staying (stands h1) mid → Beside new gs → ((v : ℕ) → count gs v ≡ count h1 v) → IsLetGo old hs new gs
+let_go_is starts old mid new hs h1 gs o r s n b c =
+    let l : IsLeaving old mid new (reached old (is_held hs)) (stands h1) = risen_leaving starts old mid new hs h1 o r s n in
+    let counts : (v : ℕ) → has new v ≡ true → count gs v ≡ count hs v = λ v h. c v ∙ r.counts v (stays (stands h1) mid v (ap (λ x. has x v) (sym n) ∙ h)) in
+    record {
+      swept = λ held f. left_means old mid new (reached old (is_held hs)) (stands h1) held (is_held hs) o.still l refl f;
+      left = is_left old mid new (reached old (is_held hs)) (stands h1) o l;
+      beside = b;
+      counts = counts;
+      tight = λ v y d u. left_tight old mid new (reached old (is_held hs)) (stands h1) (is_held hs) o.still l refl v y (ap (nat_lt 0) (sym (counts v y)) ∙ u);
+    }
+
+-- ---- one hold less
+
+pub beside_taken : (rs : Rows) (hs gs : Counts) (id : ℕ) → Beside rs hs → hold_at gs id ≡ less_one (hold_at hs id) → ((v : ℕ) → v ≢ id → hold_at gs v ≡ hold_at hs v) → Beside rs gs
+beside_taken rs hs gs id b e o = record {
+  numbers = λ v. elim (eqb_tells v id) [
+    | inl t ↦ ap (λ x. is_some (hold_at gs x)) t.1 ∙ ap is_some e ∙ less_some (hold_at hs id) ∙ ap (λ x. is_some (hold_at hs x)) (sym t.1) ∙ b.numbers v
+    | inr t ↦ ap is_some (o v t.1) ∙ b.numbers v
+  ];
+  clear = λ v. elim (eqb_tells v id) [
+    | inl t ↦ ap (going gs) t.1 ∙ ap going_in e ∙ less_going (hold_at hs id) ∙ ap (going hs) (sym t.1) ∙ b.clear v
+    | inr t ↦ ap going_in (o v t.1) ∙ b.clear v
+  ];
+}
+
+-- what is held is there
+held_has : (rs : Rows) (hs : Counts) (id : ℕ) → Beside rs hs → 0 < count hs id → has rs id ≡ true
+held_has rs hs id b l = sym (b.numbers id) ∙ some_held (hold_at hs id) l where
+  some_held : (o : Option Hold) → 0 < count_in o → is_some o ≡ true
+  some_held None l = (let z : ⊥ = omega (arith, l) in absurd z)
+  some_held (Some h) l = refl
+
+pub starts_live : (rs : Rows) (hs : Counts) (loose : List ℕ) (id : ℕ) → Beside rs hs → 0 < count hs id → IsTight loose rs hs → (v : ℕ) → holds (id ∷ loose) v ≡ true → has rs v ≡ true
+starts_live rs hs loose id b l t v h = elim (eqb_tells id v) [
+  | inl y ↦ ap (has rs) (sym y.1) ∙ held_has rs hs id b l
+  | inr y ↦ t.live v (sym (ap (λ c. c || holds loose v) y.0) ∙ h)
+]
+
+pub starts_tight : (rs : Rows) (hs gs : Counts) (loose : List ℕ) (id : ℕ) → ((v : ℕ) → v ≢ id → hold_at gs v ≡ hold_at hs v) → IsTight loose rs hs → AreTight (id ∷ loose) rs gs
+starts_tight rs hs gs loose id o t v h d u = elim (eqb_tells id v) [
+  | inl y ↦ (let z : true ≡ false = sym (ap (λ c. c || holds loose v) y.0) ∙ d in absurd (cc))
+  | inr y ↦ t.tight v h (sym (ap (λ c. c || holds loose v) y.0) ∙ d) (sym (ap (λ x. nat_lt 0 (count_in x)) (o v (λ z. y.1 (sym z)))) ∙ u)
+]
