@@ -8,8 +8,8 @@ use Rattle.pdl_sig.specs.declared.Role.TheVariants.{Input, Output}
 use Rattle.pdl_sig.specs.declared.Resolved.{Resolved}
 use Rattle.pdl_sig.specs.Known.{generic_arg}
 use Rattle.pdl_code.specs.Tree.{number, index, access, binary, none, along, repeat, put, done, next}
-use Rattle.pdl_kernel.specs.declared.faults.RunFault.TheVariants.{DivideByZero, IndexOutOfRange}
-use Rattle.pdl_kernel.specs.Call.{called}
+use Rattle.pdl_kernel.specs.declared.faults.Fault.TheVariants.{DivideByZero, IndexOutOfRange}
+use Rattle.pdl_kernel.specs.Call.{called, fault_at}
 use Rattle.pdl_kernel.specs.Kernels.{Kernel}
 
 abbrev long : List ℕ → List ℤ → Made
@@ -47,11 +47,11 @@ abbrev square : Resolved
 square = record { generic = Long; types = Long ∷ Long ∷ []; sizes = []; broadcast = 2 ∷ 2 ∷ []; shapes = (2 ∷ 2 ∷ []) ∷ (2 ∷ 2 ∷ []) ∷ [] }
 
 -- the place after the first one in broadcast order
-first_place : called inverse square (long (2 ∷ 2 ∷ []) (pos 1 ∷ pos 0 ∷ pos 0 ∷ pos 1 ∷ []) ∷ []) ≡ Err (DivideByZero 1)
+first_place : called inverse square (long (2 ∷ 2 ∷ []) (pos 1 ∷ pos 0 ∷ pos 0 ∷ pos 1 ∷ []) ∷ []) ≡ Err (fault_at 1 DivideByZero)
 first_place = refl
 
 -- a column is stretched over the other dimension
-stretched_column : called inverse square (long (1 ∷ 2 ∷ []) (pos 1 ∷ pos 0 ∷ []) ∷ []) ≡ Err (DivideByZero 2)
+stretched_column : called inverse square (long (1 ∷ 2 ∷ []) (pos 1 ∷ pos 0 ∷ []) ∷ []) ≡ Err (fault_at 2 DivideByZero)
 stretched_column = refl
 
 -- `a(n); [o]b(n)` and `loop(n) %{ $b() = $a(n=>n+1); %}`
@@ -68,5 +68,5 @@ shift = record {
 abbrev row : Resolved
 row = record { generic = Long; types = Long ∷ Long ∷ []; sizes = 3 ∷ []; broadcast = []; shapes = (3 ∷ []) ∷ (3 ∷ []) ∷ [] }
 
-past_the_end : called shift row (long (3 ∷ []) (pos 0 ∷ pos 1 ∷ pos 2 ∷ []) ∷ []) ≡ Err (IndexOutOfRange 0)
+past_the_end : called shift row (long (3 ∷ []) (pos 0 ∷ pos 1 ∷ pos 2 ∷ []) ∷ []) ≡ Err (fault_at 0 IndexOutOfRange)
 past_the_end = refl

@@ -5,21 +5,19 @@ use Rattle.std.specs.List.{flat_map}
 use Rattle.std.proofs.lemmas.List.{append_assoc}
 use Rattle.std.proofs.lemmas.List.Concat.{flat_map-append}
 use Rattle.pdl_kernel.specs.declared.faults.Fault.{Fault}
-use Rattle.pdl_kernel.specs.declared.faults.Fault.TheVariants.{DivideByZero as Divides, IndexOutOfRange as OutOfRange}
-use Rattle.pdl_kernel.specs.declared.faults.RunFault.{RunFault}
-use Rattle.pdl_kernel.specs.Call.{fault_at, store_before, stores_from}
+use Rattle.pdl_kernel.specs.Call.{PlacedFault, fault_at, store_before, stores_from}
 use Rattle.pdl_kernel.specs.Meaning.{Store, argument}
 use Rattle.pdl_kernel.specs.Parts.{Collected, Part, appended, gathered}
 
 -- the first store and the others
-pub record Begins (r : Result Store Fault) (rest : Result (List Store) RunFault) (stores : List Store) : Type 0 where
+pub record Begins (r : Result Store Fault) (rest : Result (List Store) PlacedFault) (stores : List Store) : Type 0 where
   pub first : Store
   pub others : List Store
   pub is : r ≡ Ok first
   pub are : rest ≡ Ok others
   pub both : stores ≡ first ∷ others
 
-pub begins : (p : ℕ) (r : Result Store Fault) (rest : Result (List Store) RunFault) (stores : List Store) → store_before p r rest ≡ Ok stores → Begins r rest stores
+pub begins : (p : ℕ) (r : Result Store Fault) (rest : Result (List Store) PlacedFault) (stores : List Store) → store_before p r rest ≡ Ok stores → Begins r rest stores
 begins p (Err d) rest stores e = cc
 begins p (Ok m) (Err d) stores e = cc
 begins p (Ok m) (Ok ms) stores e = record { first = m; others = ms; is = refl; are = refl; both = cc }
@@ -80,14 +78,9 @@ gathered_more f place before now after m h is more = record {
 pub gathered_fault : (f : ℕ → Result Store Fault) (place count : ℕ) (before now : List Part) (d : Fault) → place < count → IsGathered f place before now → f place ≡ Err d → stores_from f 0 count ≡ Err (fault_at place d)
 gathered_fault f place count before now d lt h is = stores_fault f place count 0 place h.stores d (omega arith) lt h.are is
 
--- a fault is what was wanted
-pub collected_fault : (place : ℕ) (d : Fault) (before now : List Part) (wanted : Result (List Store) RunFault) → wanted ≡ Err (fault_at place d) → Collected (Err (fault_at place d)) before now wanted
-collected_fault place Divides before now wanted e = e
-collected_fault place OutOfRange before now wanted e = e
-
 pub collected_all : (f : ℕ → Result Store Fault) (place count : ℕ) (before now : List Part) → place ≡ count → IsGathered f place before now → Collected (Ok tt) before now (stores_from f 0 count)
 collected_all f place count before now same h =
-    let P : Result (List Store) RunFault → Type 0 = λ r. Collected (Ok tt) before now r in
+    let P : Result (List Store) PlacedFault → Type 0 = λ r. Collected (Ok tt) before now r in
     subst P (sym (ap (stores_from f 0) (sym same) ∙ h.are)) h.parts
 
 -- the parts stay those of arguments that aren't inputs

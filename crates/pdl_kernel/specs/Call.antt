@@ -15,7 +15,7 @@ use Rattle.pdl_code.specs.Tree.{Code}
 use Rattle.pdl_kernel.specs.declared.faults.Fault.{Fault}
 use Rattle.pdl_kernel.specs.declared.faults.Fault.TheVariants.{DivideByZero as Divides, IndexOutOfRange as OutOfRange}
 use Rattle.pdl_kernel.specs.declared.faults.RunFault.{RunFault}
-use Rattle.pdl_kernel.specs.declared.faults.RunFault.TheVariants.{DivideByZero, IndexOutOfRange}
+use Rattle.pdl_kernel.specs.declared.faults.RunFault.TheVariants.{DivideByZero, IndexOutOfRange, NoMemory}
 use Rattle.pdl_kernel.specs.Arrays.{element}
 use Rattle.pdl_kernel.specs.Meaning.{Store, argument, run}
 
@@ -56,18 +56,27 @@ outcome args code r given p =
     (record { arguments = arguments; locals = replicate (code_locals 0 code) (pos 0) })
 
 -- a fault of code, with the broadcast place that has it
-abbrev pub fault_at : (place : ℕ) → Fault → RunFault
-fault_at p Divides = DivideByZero p
-fault_at p OutOfRange = IndexOutOfRange p
+pub record PlacedFault : Type 0 where
+  pub place : ℕ
+  pub fault : Fault
 
-abbrev pub store_before : (place : ℕ) → Result Store Fault → Result (List Store) RunFault →
-    Result (List Store) RunFault
+abbrev pub fault_at : (place : ℕ) → Fault → PlacedFault
+fault_at p fault = record { place = p; fault = fault }
+
+-- the fault of code that a call's fault names; want of memory names none
+abbrev pub fault_named : RunFault → Option PlacedFault
+fault_named (DivideByZero p) = Some (fault_at p Divides)
+fault_named (IndexOutOfRange p) = Some (fault_at p OutOfRange)
+fault_named NoMemory = None
+
+abbrev pub store_before : (place : ℕ) → Result Store Fault → Result (List Store) PlacedFault →
+    Result (List Store) PlacedFault
 store_before p (Err e) rest = Err (fault_at p e)
 store_before p (Ok m) (Err e) = Err e
 store_before p (Ok m) (Ok ms) = Ok (m ∷ ms)
 
 -- what is left at each of the n places from p on, or the fault of the first place that has one
-abbrev pub stores_from : (ℕ → Result Store Fault) → (p n : ℕ) → Result (List Store) RunFault
+abbrev pub stores_from : (ℕ → Result Store Fault) → (p n : ℕ) → Result (List Store) PlacedFault
 stores_from f p zero = Ok []
 stores_from f p (suc n) = store_before p (f p) (stores_from f (p + 1) n)
 
@@ -86,7 +95,8 @@ output r stores k a =
     let dims = core_sizes r.sizes a ++ r.broadcast in
     let at = λ (q : ℕ). output_element r.broadcast stores k (length a.dims)
     (coordinates_of dims q) in
-    record { ty = type_in r.generic a.ty; dims = dims; elems = map at (range_with_len 0 (size_of dims)) }
+    let elems = map at (range_with_len 0 (size_of dims)) in
+    record { ty = type_in r.generic a.ty; dims = dims; elems = elems }
 
 -- the outputs among arguments, of which the first has number k
 abbrev pub outputs : Resolved → List Store → (k : ℕ) → List SigArg → List Made
@@ -95,14 +105,14 @@ outputs r stores k (a ∷ args) =
     let rest = outputs r stores (k + 1) args in
     if is_output a.role then output r stores k a ∷ rest else rest
 
-abbrev pub outputs_of : Resolved → List SigArg → Result (List Store) RunFault →
-    Result (List Made) RunFault
+abbrev pub outputs_of : Resolved → List SigArg → Result (List Store) PlacedFault →
+    Result (List Made) PlacedFault
 outputs_of r args (Err e) = Err e
 outputs_of r args (Ok stores) = Ok (outputs r stores 0 args)
 
 -- The outputs of a call, in the order of the signature, or the fault at the first broadcast place
 -- that has one: what was resolved, and the inputs and `[io]` arguments in order are given.
-abbrev pub called : Kernel → Resolved → (given : List Made) → Result (List Made) RunFault
+abbrev pub called : Kernel → Resolved → (given : List Made) → Result (List Made) PlacedFault
 called kernel r given =
     let args = kernel.signature.args in
     outputs_of r args (stores_from (outcome args kernel.code r given) 0 (size_of r.broadcast))

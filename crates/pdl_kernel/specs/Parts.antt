@@ -1,9 +1,9 @@
 -- Outputs that are being collected: the blocks of the broadcast places, one behind the other.
-use Rattle.std.specs.Prelude.{◌≡◌, ℕ, ℤ, List, ◌++◌, map, Result, Ok, Err}
+use Rattle.std.specs.Prelude.{◌≡◌, ℕ, ℤ, IfSome, List, ◌++◌, map, Result, Ok, Err}
 use Rattle.std.specs.List.{flat_map}
 use Rattle.pdl_elem.specs.declared.Ty.{Ty}
 use Rattle.pdl_kernel.specs.declared.faults.RunFault.{RunFault}
-use Rattle.pdl_kernel.specs.declared.faults.RunFault.TheVariants.{NoMemory}
+use Rattle.pdl_kernel.specs.Call.{PlacedFault, fault_named}
 use Rattle.pdl_kernel.specs.Meaning.{Store, argument}
 
 -- the number of the argument, the type and dimensions of the whole output, and the elements so far
@@ -22,11 +22,11 @@ abbrev pub gathered : List Store → Part → Part
 gathered stores part =
     record part { elems = part.elems ++ flat_map (λ m. (argument m part.number).elems) stores }
 
--- the blocks were gathered where all stores are there, and else the answer is the fault;
--- or it is want of memory
+-- the blocks were gathered where all stores are there, and else the answer is the fault; want of
+-- memory says nothing
 abbrev pub Collected : Result (Unit {0}) RunFault → (before now : List Part) →
-    Result (List Store) RunFault → Type 0
+    Result (List Store) PlacedFault → Type 0
 Collected (Ok u) before now (Ok stores) = now ≡ map (gathered stores) before
 Collected (Ok u) before now (Err e) = ⊥
-Collected (Err NoMemory) before now wanted = Unit {0}
-Collected (Err e) before now wanted = wanted ≡ Err e
+Collected (Err fault) before now wanted =
+    IfSome (fault_named fault) (λ placed. wanted ≡ Err placed)

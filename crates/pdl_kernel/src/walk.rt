@@ -1,9 +1,9 @@
 //! The code at each broadcast place, in broadcast order.
-ghost use Rattle.std.specs.Prelude.{◌≡◌, ◌<◌, ◌≤◌, ◌++◌, length, map, All, OnOk};
+ghost use Rattle.std.specs.Prelude.{◌≡◌, ◌<◌, ◌≤◌, ◌++◌, length, map, All, OnOk, Some};
 ghost use Rattle.pdl_shape.specs.Shape.{size_of};
 ghost use Rattle.pdl_code.specs.TreeOf.{code_of};
 ghost use Rattle.pdl_kernel.specs.Answers.{Becomes};
-ghost use Rattle.pdl_kernel.specs.Call.{fault_at, stores_from};
+ghost use Rattle.pdl_kernel.specs.Call.{fault_at, fault_named, stores_from};
 ghost use Rattle.pdl_kernel.specs.Meaning.{argument, nothing};
 ghost use Rattle.pdl_kernel.specs.Parts.{Collected, appended};
 ghost use Rattle.pdl_kernel.specs.Sources.{HasBlocks, IsCodeFree, IsFree, left_at, left_in_order, moved_to, roles_of, store_of};
@@ -68,7 +68,7 @@ fn append_all(sources: &[Source], frames: &Frames, parts: &mut Vec<Part>) -> Res
 
 /// A fault of code, with the broadcast place that has it.
 fn fault_at(place: u32, fault: Fault) -> RunFault
-    ensures { result ≡ fault_at place fault }
+    ensures { fault_named result ≡ Some (fault_at place fault) }
 {
     match fault {
         Fault::DivideByZero => RunFault::DivideByZero { place },

@@ -3,7 +3,6 @@ use Rattle.std.proofs.Common.{◌≡◌, ℕ, List, Result, Ok, Err, refl, sym, 
 use Rattle.pdl_lex.specs.declared.Token.{Token}
 use Rattle.pdl_lex.specs.declared.LexFault.{LexFault}
 use Rattle.pdl_lex.specs.Tokens.{toks}
-use Rattle.pdl_lexemes.specs.Lexing.{lexemes_of}
 use Rattle.pdl_syntax.specs.StatementTree.{StatementTree}
 use Rattle.pdl_syntax.specs.Parsed.{parsed}
 use Rattle.pdl_syntax.specs.Laws.{TokensAreParsed}

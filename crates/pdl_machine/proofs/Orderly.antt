@@ -1,6 +1,6 @@
 -- A statement leaves numbers in order, and all that names reach in the world.
 use Rattle.std.proofs.Common.{◌≡◌, ℕ, ℤ, ◌+◌, ◌≤◌, List, [], ◌∷◌, ◌++◌, length, map, Bool, true, false, Option, Some, None, Result, Ok, Err, refl, sym, ap, subst, ◌∙◌, arith, eq-eqb, nat_eq}
-use Rattle.std.specs.Prelude.{◌==◌, if◌then◌else◌, is_none, not, ◌&&◌, nat_lt, IfOk, IfSome}
+use Rattle.std.specs.Prelude.{◌==◌, if◌then◌else◌, IfOk, IfSome}
 use Rattle.std.specs.Cmp.Lexicographic.{pointwise}
 use Rattle.pdl_buf.specs.declared.made.Made.{Made}
 use Rattle.pdl_world.specs.declared.Trans.{Trans}
@@ -14,7 +14,7 @@ use Rattle.pdl_syntax.specs.StatementTree.{StatementTree, bind, bind_list, assig
 use Rattle.pdl_machine.specs.declared.fault.Fault.{Fault}
 use Rattle.pdl_machine.specs.declared.fault.Fault.TheVariants.{TooManyNames, TooManyKernels}
 use Rattle.pdl_machine.specs.Then.{and_then}
-use Rattle.pdl_machine.specs.Names.{Named, Names, found, number_of, with_name, is_full_for, bind as bind_name, define, names_limit, kernels_limit}
+use Rattle.pdl_machine.specs.Names.{Named, Names, found, number_of, with_name, is_full_for, bind as bind_name, names_limit, kernels_limit}
 use Rattle.pdl_machine.specs.Arrays.{Arrays, array_in, with_new}
 use Rattle.pdl_machine.specs.State.{State, with_arrays, held}
 use Rattle.pdl_machine.specs.Outcome.{array, string, type_word, Given, all_seen, Outcome, made, viewed, Valued, new_root, new_view, view_placed, placed}

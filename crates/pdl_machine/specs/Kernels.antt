@@ -1,22 +1,20 @@
 -- Kernels: operations that a script defines by a signature and code, and what a call
 -- of one gives (PDL::PP).
-use Rattle.std.specs.Prelude.{ℕ, ◌==◌, Bool, ◌&&◌, List, length, map, Option, Some, None, is_none, if◌then◌else◌, Result, Ok, Err}
+use Rattle.std.specs.Prelude.{ℕ, ◌==◌, Bool, ◌&&◌, List, length, map, Option, Some, None, is_none, if◌then◌else◌, Result, Err}
 use Rattle.std.specs.List.{filter}
 use Rattle.pdl_buf.specs.declared.made.Made.{Made}
 use Rattle.pdl_code.specs.declared.fault.KernelFault.{KernelFault}
-use Rattle.pdl_kernel.specs.Call.{called}
+use Rattle.pdl_kernel.specs.Call.{PlacedFault, called}
 use Rattle.pdl_kernel.specs.Kernels.{Kernel, kernel_in}
-use Rattle.pdl_kernel.specs.declared.faults.RunFault.{RunFault}
-use Rattle.pdl_kernel.specs.declared.faults.RunFault.TheVariants as run
+use Rattle.pdl_kernel.specs.declared.faults.Fault.{Fault as CodeFault}
+use Rattle.pdl_kernel.specs.declared.faults.Fault.TheVariants.{DivideByZero as Divides, IndexOutOfRange as PastTheEnd}
 use Rattle.pdl_lex.specs.Tokens.{is_word}
 use Rattle.pdl_lexemes.specs.Lexing.{found_in, keywords}
 use Rattle.pdl_sig.specs.Given.{shape_of}
-use Rattle.pdl_sig.specs.declared.ResolveFault.{ResolveFault}
-use Rattle.pdl_sig.specs.declared.ResolveFault.TheVariants as resolve
 use Rattle.pdl_sig.specs.declared.SigFault.{SigFault}
 use Rattle.pdl_sig.specs.declared.Signature.{Signature}
 use Rattle.pdl_sig.specs.Meaning.{signature_in}
-use Rattle.pdl_sig.specs.Resolution.{is_output, resolution}
+use Rattle.pdl_sig.specs.Resolution.{Unresolved, arg_count, core_mismatch, broadcast_mismatch, stretched_in_out, too_many_dims, too_large, too_much_work, is_output, resolution}
 use Rattle.pdl_machine.specs.declared.fault.Fault.{Fault}
 use Rattle.pdl_machine.specs.declared.fault.Fault.TheVariants.{WrongArguments, BadSignature, BadKernel, Mismatch, TooManyDims, TooLarge, TooMuchWork, OutOfRange, DivideByZero}
 use Rattle.pdl_machine.specs.Builtin.{builtin_of}
@@ -24,23 +22,23 @@ use Rattle.pdl_machine.specs.Then.{and_then, or_fault, all_of}
 use Rattle.pdl_machine.specs.Refused.{or_named}
 use Rattle.pdl_machine.specs.Outcome.{array, string, type_word, Seen}
 
--- the fault that names why arguments don't resolve: sizes that don't fit together are a mismatch;
--- no definition gives want of memory, here and below
-abbrev pub resolve_fault : ResolveFault → Fault
-resolve_fault resolve.ArgCount = WrongArguments
-resolve_fault resolve.CoreMismatch = Mismatch
-resolve_fault resolve.BroadcastMismatch = Mismatch
-resolve_fault resolve.StretchedInOut = Mismatch
-resolve_fault resolve.TooManyDims = TooManyDims
-resolve_fault resolve.TooLarge = TooLarge
-resolve_fault resolve.TooMuchWork = TooMuchWork
-resolve_fault resolve.NoMemory = Mismatch
+-- the fault that names why arguments don't resolve: sizes that don't fit together are a mismatch
+abbrev pub resolve_fault : Unresolved → Fault
+resolve_fault arg_count = WrongArguments
+resolve_fault core_mismatch = Mismatch
+resolve_fault broadcast_mismatch = Mismatch
+resolve_fault stretched_in_out = Mismatch
+resolve_fault too_many_dims = TooManyDims
+resolve_fault too_large = TooLarge
+resolve_fault too_much_work = TooMuchWork
 
--- the fault that names a fault of code
-abbrev pub run_fault : RunFault → Fault
-run_fault (run.DivideByZero place) = DivideByZero
-run_fault (run.IndexOutOfRange place) = OutOfRange
-run_fault run.NoMemory = OutOfRange
+-- the fault that names a fault of code, at whatever place
+abbrev pub code_fault : CodeFault → Fault
+code_fault Divides = DivideByZero
+code_fault PastTheEnd = OutOfRange
+
+abbrev pub run_fault : PlacedFault → Fault
+run_fault found = code_fault found.fault
 
 -- the array that an argument is
 abbrev pub array_seen : Seen → Option Made

@@ -66,7 +66,7 @@ text_after line (Err e) = fault_line line e
 abbrev pub after : (ends : Bool) → Progress → (line : ℕ) → Stepped → Progress
 after ends p line (Ok (s, text)) = record p { state = s; printed = p.printed ++ text }
 after ends p line (Err e) =
-    record { state = p.state; printed = p.printed ++ fault_line line e; faulted = true; ended = ends }
+    record p { printed = p.printed ++ fault_line line e; faulted = true; ended = ends }
 
 abbrev pub after_mark : (keep : Bool) → Progress → Mark → Progress
 after_mark keep p m = after (fault_ends keep m) p (line_of m) (mark_step p.state m)

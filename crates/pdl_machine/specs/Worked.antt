@@ -33,7 +33,11 @@ ASliceIsWrittenThrough =
     shown_after (bind (codes "x") (sequence_to 5) false
     ∷ bind (codes "y") (sliced (codes "x") (codes "1:3")) false
     ∷ assign (codes "y") [] Set (number (pos 9)) ∷ []) (codes "x")
-    ≡ Ok (Some (record { ty = Long; dims = 5 ∷ []; elems = pos 0 ∷ pos 9 ∷ pos 9 ∷ pos 9 ∷ pos 4 ∷ [] }))
+    ≡ Ok (Some (record {
+      ty = Long;
+      dims = 5 ∷ [];
+      elems = pos 0 ∷ pos 9 ∷ pos 9 ∷ pos 9 ∷ pos 4 ∷ [];
+    }))
 
 -- $x = sequence(4); $y = $x->slice("2:4"); is out of range
 abbrev pub ASliceEndsWithin : Type 0

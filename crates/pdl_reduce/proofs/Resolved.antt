@@ -7,9 +7,8 @@ use Rattle.pdl_shape.specs.Broadcast.{join}
 use Rattle.pdl_shape.specs.Shape.{extent, extent_limit, size_of}
 use Rattle.pdl_sig.specs.declared.ArgShape.{ArgShape}
 use Rattle.pdl_sig.specs.declared.Resolved.{Resolved}
-use Rattle.pdl_sig.specs.declared.ResolveFault.TheVariants.{StretchedInOut, TooManyDims, TooLarge, TooMuchWork, CoreMismatch}
 use Rattle.pdl_sig.specs.declared.SigArg.{SigArg}
-use Rattle.pdl_sig.specs.Resolution.{cores, core, found_size, handed, has_too_many, is_stretched, is_too_large, is_unfit, joined_with, named_sizes, resolution, resolved_by, resolved_in, solution, work_limit}
+use Rattle.pdl_sig.specs.Resolution.{core_mismatch, stretched_in_out, too_many_dims, too_large, too_much_work, cores, core, found_size, handed, has_too_many, is_stretched, is_too_large, is_unfit, joined_with, named_sizes, resolution, resolved_by, resolved_in, solution, work_limit}
 use Rattle.pdl_elem.specs.declared.Ty.{Ty}
 use Rattle.pdl_sig.specs.Known.{inner, outer_product, matmult}
 use Rattle.pdl_reduce.specs.declared.Pairing.{Pairing}
@@ -37,10 +36,10 @@ found_by : (args : List SigArg) (given : List ArgShape) (sizes : List ℕ) (r : 
     → joined_with [] (handed args given) ≡ o → resolved_by args given sizes o ≡ Ok r → Found args given sizes r
 found_by args given sizes r None fit j h = absurd (cc)
 found_by args given sizes r (Some bs) fit j h =
-    let p : _ = past (list_any (is_stretched sizes bs) (handed args given)) StretchedInOut _ r h in
-    let q : _ = past (list_any (has_too_many sizes bs) args) TooManyDims _ r p.1 in
-    let s : _ = past (nat_lt extent_limit (extent bs) || list_any (is_too_large sizes bs) args) TooLarge _ r q.1 in
-    let t : _ = past (nat_lt work_limit (size_of bs * extent sizes)) TooMuchWork (Ok (solution args given sizes bs)) r s.1 in
+    let p : _ = past (list_any (is_stretched sizes bs) (handed args given)) stretched_in_out _ r h in
+    let q : _ = past (list_any (has_too_many sizes bs) args) too_many_dims _ r p.1 in
+    let s : _ = past (nat_lt extent_limit (extent bs) || list_any (is_too_large sizes bs) args) too_large _ r q.1 in
+    let t : _ = past (nat_lt work_limit (size_of bs * extent sizes)) too_much_work (Ok (solution args given sizes bs)) r s.1 in
     let e : solution args given sizes bs ≡ r = cc (t.1) in
     let b : bs ≡ r.broadcast = ap (λ (x : Resolved). x.broadcast) e in
     record {
@@ -52,7 +51,7 @@ found_by args given sizes r (Some bs) fit j h =
 
 pub found : (args : List SigArg) (given : List ArgShape) (sizes : List ℕ) (r : Resolved) → resolved_in args given sizes ≡ Ok r → Found args given sizes r
 found args given sizes r h =
-    let p : _ = past (list_any (is_unfit sizes) (cores (handed args given))) CoreMismatch _ r h in
+    let p : _ = past (list_any (is_unfit sizes) (cores (handed args given))) core_mismatch _ r h in
     found_by args given sizes r (joined_with [] (handed args given)) p.0 refl p.1
 
 -- the core sizes of a given shape

@@ -7,11 +7,10 @@ use Rattle.pdl_shape.specs.Shape.{size_of, coordinates_of}
 use Rattle.pdl_buf.specs.declared.made.Made.{Made}
 use Rattle.pdl_buf.specs.Made.{broadcast_element}
 use Rattle.pdl_sig.specs.declared.Resolved.{Resolved}
-use Rattle.pdl_sig.specs.declared.ResolveFault.{ResolveFault}
 use Rattle.pdl_sig.specs.declared.Signature.{Signature}
 use Rattle.pdl_sig.specs.Given.{shape_of}
 use Rattle.pdl_sig.specs.Known as known
-use Rattle.pdl_sig.specs.Resolution.{resolution}
+use Rattle.pdl_sig.specs.Resolution.{Unresolved, resolution}
 use Rattle.pdl_reduce.specs.declared.Pairing.{Pairing}
 use Rattle.pdl_reduce.specs.declared.Pairing.TheVariants.{Inner, Outer, Matmult}
 use Rattle.pdl_reduce.specs.Folds.{total}
@@ -51,9 +50,9 @@ paired_element kind r a b p =
     wrapped r.generic (paired_at kind (slice_index_or r.sizes 0 1) left right coordinates)
 
 -- the result of a pairing by what its call resolves to: an element at each position of the output
-abbrev pub paired_by : Pairing → (a b : Made) → Result Resolved ResolveFault
+abbrev pub paired_by : Pairing → (a b : Made) → Result Resolved Unresolved
     → Result Made ReduceRefusal
-paired_by kind a b (Err fault) = Err (refusal_of fault)
+paired_by kind a b (Err reason) = Err (refusal_of reason)
 paired_by kind a b (Ok r) =
     let elems = map (paired_element kind r a b) (range_with_len 0 (size_of (paired_dims r))) in
     Ok (record { ty = r.generic; dims = paired_dims r; elems = elems })

@@ -1,17 +1,17 @@
 //! Products of two arrays (PDL::Primitive).
-ghost use Rattle.std.specs.Prelude.{◌≡◌, ◌<◌, [], ◌∷◌, length, IfOk, IfErr, IsOk, Ok, Some, None, get_or, if◌then◌else◌, map, codes};
+ghost use Rattle.std.specs.Prelude.{◌≡◌, ◌<◌, [], ◌∷◌, length, IfOk, IfErr, IsOk, Ok, Some, None, get_or, map, option_map, codes};
 ghost use Rattle.std.specs.List.{range_with_len};
 ghost use Rattle.pdl_buf.specs.Made.{IsMade, array_of};
 ghost use Rattle.pdl_sig.specs.Known.{generic_arg};
 ghost use Rattle.pdl_sig.specs.declared.Role.TheVariants.{Input, Output};
-ghost use Rattle.pdl_sig.specs.Resolution.{resolution};
+ghost use Rattle.pdl_sig.specs.Resolution.{reason_named, resolution};
 ghost use Rattle.pdl_shape.specs.Broadcast.{BroadcastsTo};
 ghost use Rattle.pdl_shape.specs.Joined.{joined_dims};
 ghost use Rattle.pdl_shape.specs.Shape.{size_of};
 ghost use Rattle.pdl_reduce.specs.declared.Pairing.TheVariants.{Inner, Outer, Matmult};
 ghost use Rattle.pdl_reduce.specs.Blocks.{ReadyFor, block_products, core_count, sizes_of};
 ghost use Rattle.pdl_reduce.specs.Answers.{Answers, IsRefused, refusal_named};
-ghost use Rattle.pdl_reduce.specs.Refusals.{is_want_of_memory, refusal_of};
+ghost use Rattle.pdl_reduce.specs.Refusals.{refusal_of};
 ghost use Rattle.pdl_reduce.specs.Pairings.{paired, paired_dims, paired_element, signature_of};
 ghost use Rattle.pdl_sig.specs.Given.{shape_of};
 
@@ -95,8 +95,7 @@ fn signature_of(alloc: Global, kind: Pairing) -> Result<Signature, AllocError>
 
 /// The fault that names what refuses a call.
 fn fault_of(fault: ResolveFault) -> ReduceFault
-    ensures { let named = if is_want_of_memory fault then None else Some (refusal_of fault) in
-        refusal_named result ≡ named }
+    ensures { refusal_named result ≡ option_map refusal_of (reason_named fault) }
 {
     match fault {
         ResolveFault::TooManyDims => ReduceFault::TooManyDims,

@@ -12,8 +12,8 @@ use Rattle.pdl_sig.specs.declared.Resolved.{Resolved}
 use Rattle.pdl_sig.specs.declared.ResolveFault.{ResolveFault}
 use Rattle.pdl_sig.specs.declared.ResolveFault.TheVariants.{ArgCount, CoreMismatch, BroadcastMismatch, StretchedInOut, TooManyDims, TooLarge, TooMuchWork, NoMemory}
 use Rattle.pdl_sig.specs.declared.Signature.{Signature}
-use Rattle.pdl_sig.specs.Resolution.{resolution, Answers as Resolves}
-use Rattle.pdl_kernel.specs.Call.{called}
+use Rattle.pdl_sig.specs.Resolution.{Unresolved, resolution, Answers as Resolves}
+use Rattle.pdl_kernel.specs.Call.{PlacedFault, called, fault_named}
 use Rattle.pdl_kernel.specs.Kernels.{Kernel}
 use Rattle.pdl_kernel.specs.Runs.{Run, with_next, IsNext}
 use Rattle.pdl_kernel.specs.declared.faults.RunFault.{RunFault}
@@ -40,7 +40,7 @@ shapes_seen e [] = refl
 shapes_seen e (v ∷ ids) = ap (λ rest. shape_in e v ∷ rest) (shapes_seen e ids)
 
 -- a call, from what its arguments resolve to
-abbrev call_by : Kernel → List Made → Result Resolved ResolveFault → Result (List Made) Fault
+abbrev call_by : Kernel → List Made → Result Resolved Unresolved → Result (List Made) Fault
 call_by k given found = and_then (or_named resolve_fault found) (λ resolved. or_named run_fault (called k resolved given))
 
 call_is : (k : Kernel) (e : Engine) (ids : List ℕ) (signature : Signature) (shapes : List ArgShape) → signature ≡ k.signature → shapes ≡ map (shape_in e) ids
@@ -89,9 +89,8 @@ pub call_done : (k : Kernel) (e : Engine) (ids : List ℕ) (resolved : Resolved)
 call_done k e ids resolved r outputs g h = called_by k e ids resolved r g ∙ ap (or_named run_fault) h
 
 -- what a fault of a run says of what is wanted
-abbrev pub Answered : Result (List Made) RunFault → RunFault → Type 0
-Answered wanted run.NoMemory = Unit {0}
-Answered wanted fault = wanted ≡ Err fault
+abbrev pub Answered : Result (List Made) PlacedFault → RunFault → Type 0
+Answered wanted fault = IfSome (fault_named fault) (λ placed. wanted ≡ Err placed)
 
 -- the fault of a call
 pub call_faulted : (k : Kernel) (e : Engine) (ids : List ℕ) (resolved : Resolved) (r : Run) (f : RunFault) (fault : StepFault) → IsGiven k e ids resolved r

@@ -6,7 +6,7 @@ use Rattle.pdl_sig.specs.declared.SigFault.TheVariants.{BadText, TooManyNames, T
 use Rattle.pdl_sig.specs.declared.written.WrittenArg.{WrittenArg}
 use Rattle.pdl_sig.specs.Grammar.{Args}
 use Rattle.pdl_sig.specs.SignatureReading.{read_args}
-use Rattle.pdl_sig.specs.Refusals.{signature_of, refusal_of, Signs, IsRefused, IsFaultOf}
+use Rattle.pdl_sig.specs.Refusals.{signature_of, refusal_of, Signs, IsRefused}
 use Rattle.pdl_sig.specs.Meaning.{judged, meant_by, signature_in, Means}
 use Rattle.pdl_sig.proofs.Signatures.{all_read, bad_text, fault_of, refuses_memory}
 use Rattle.pdl_sig.proofs.Sound.{args_spelled}

@@ -8,8 +8,7 @@ use Rattle.pdl_sig.specs.declared.SigArg.{SigArg}
 use Rattle.pdl_sig.specs.declared.Signature.{Signature}
 use Rattle.pdl_sig.specs.declared.ArgShape.{ArgShape}
 use Rattle.pdl_sig.specs.declared.Resolved.{Resolved}
-use Rattle.pdl_sig.specs.declared.ResolveFault.TheVariants.{ArgCount, CoreMismatch}
-use Rattle.pdl_sig.specs.Resolution.{inputs, handed, cores, is_unfit, joined_with, named_sizes, is_stretched, has_too_many, is_too_large, solution, resolved_by, resolved_in, resolution}
+use Rattle.pdl_sig.specs.Resolution.{arg_count, core_mismatch, inputs, handed, cores, is_unfit, joined_with, named_sizes, is_stretched, has_too_many, is_too_large, solution, resolved_by, resolved_in, resolution}
 
 -- a size within the limit
 pub record Counted (n : ℕ) (ds : List ℕ) : Type 0 where
@@ -50,13 +49,13 @@ pub reached : (signature : Signature) (given : List ArgShape) (sizes : List ℕ)
     → resolved_by signature.args given sizes joined ≡ resolution signature given
 reached signature given sizes joined r =
     ap (resolved_by signature.args given sizes) r.joined_is
-    ∙ sym (ap (λ b. if b then Err CoreMismatch else resolved_by signature.args given sizes (joined_with [] (handed signature.args given))) r.fit)
+    ∙ sym (ap (λ b. if b then Err core_mismatch else resolved_by signature.args given sizes (joined_with [] (handed signature.args given))) r.fit)
     ∙ ap (resolved_in signature.args given) r.sizes_are
-    ∙ sym (ap (λ b. if not b then Err ArgCount else resolved_in signature.args given (named_sizes signature given)) (eq-eqb _ _ r.count))
+    ∙ sym (ap (λ b. if not b then Err arg_count else resolved_in signature.args given (named_sizes signature given)) (eq-eqb _ _ r.count))
 
 pub unfit : (signature : Signature) (given : List ArgShape) (sizes : List ℕ) → length given ≡ length (inputs signature.args) → sizes ≡ named_sizes signature given
-    → list_any (is_unfit sizes) (cores (handed signature.args given)) ≡ true → Err CoreMismatch ≡ resolution signature given
+    → list_any (is_unfit sizes) (cores (handed signature.args given)) ≡ true → Err core_mismatch ≡ resolution signature given
 unfit signature given sizes n s f =
-    sym (ap (λ b. if b then Err CoreMismatch else resolved_by signature.args given sizes (joined_with [] (handed signature.args given))) f)
+    sym (ap (λ b. if b then Err core_mismatch else resolved_by signature.args given sizes (joined_with [] (handed signature.args given))) f)
     ∙ ap (resolved_in signature.args given) s
-    ∙ sym (ap (λ b. if not b then Err ArgCount else resolved_in signature.args given (named_sizes signature given)) (eq-eqb _ _ n))
+    ∙ sym (ap (λ b. if not b then Err arg_count else resolved_in signature.args given (named_sizes signature given)) (eq-eqb _ _ n))

@@ -7,16 +7,15 @@ use Rattle.pdl_sig.specs.declared.Signature.{Signature}
 use Rattle.pdl_sig.specs.declared.ArgShape.{ArgShape}
 use Rattle.pdl_sig.specs.declared.Resolved.{Resolved}
 use Rattle.pdl_sig.specs.declared.ResolveFault.{ResolveFault}
-use Rattle.pdl_sig.specs.declared.ResolveFault.TheVariants.{ArgCount, CoreMismatch, StretchedInOut, TooManyDims, TooLarge, TooMuchWork}
-use Rattle.pdl_sig.specs.Resolution.{inputs, handed, cores, found_size, sizes_from, size_in, is_unfit, joined_with, named_sizes, solution, resolved_by, resolved_in, resolution, Answers}
+use Rattle.pdl_sig.specs.Resolution.{Unresolved, arg_count, core_mismatch, stretched_in_out, too_many_dims, too_large, too_much_work, inputs, handed, cores, found_size, sizes_from, size_in, is_unfit, joined_with, named_sizes, solution, resolved_by, resolved_in, resolution, Answers}
 use Rattle.pdl_sig.specs.Solutions.{Fits, Solves}
 
 -- past a refusal that doesn't come
-pub record Past (b : Bool) (x y : Result Resolved ResolveFault) : Type 0 where
+pub record Past (b : Bool) (x y : Result Resolved Unresolved) : Type 0 where
   pub off : b ≡ false
   pub same : x ≡ y
 
-past : (b : Bool) (e : ResolveFault) (x : Result Resolved ResolveFault) (r : Resolved) → (if b then Err e else x) ≡ Ok r → Past b x (Ok r)
+past : (b : Bool) (e : Unresolved) (x : Result Resolved Unresolved) (r : Resolved) → (if b then Err e else x) ≡ Ok r → Past b x (Ok r)
 past true e x r h = cc
 past false e x r h = record { off = refl; same = h }
 
@@ -97,24 +96,24 @@ record Solved (args : List SigArg) (given : List ArgShape) (sizes : List ℕ) (j
   joined_is : joined ≡ Some broadcast
   same : solution args given sizes broadcast ≡ r
 
-ok_is : (u : Result Resolved ResolveFault) (x y : Resolved) → u ≡ Ok x → u ≡ Ok y → x ≡ y
+ok_is : (u : Result Resolved Unresolved) (x y : Resolved) → u ≡ Ok x → u ≡ Ok y → x ≡ y
 ok_is u x y h k = cc
 
 joined_part : (args : List SigArg) (given : List ArgShape) (sizes : List ℕ) (o : Option (List ℕ)) (r : Resolved) → resolved_by args given sizes o ≡ Ok r → Solved args given sizes o r
 joined_part args given sizes None r h = cc
 joined_part args given sizes (Some b) r h =
-    let a1 = past _ StretchedInOut _ r h in
-    let a2 = past _ TooManyDims _ r a1.same in
-    let a3 = past _ TooLarge _ r a2.same in
-    let a4 = past _ TooMuchWork _ r a3.same in
+    let a1 = past _ stretched_in_out _ r h in
+    let a2 = past _ too_many_dims _ r a1.same in
+    let a3 = past _ too_large _ r a2.same in
+    let a4 = past _ too_much_work _ r a3.same in
     record { broadcast = b; joined_is = refl; same = ok_is (Ok (solution args given sizes b)) (solution args given sizes b) r refl a4.same }
 
 pub solves : (signature : Signature) (given : List ArgShape) (r : Resolved) → resolution signature given ≡ Ok r → Solves signature given r
 solves signature given r h =
     let sizes = named_sizes signature given in
     let joined = joined_with [] (handed signature.args given) in
-    let counted = past (not (length given == length (inputs signature.args))) ArgCount (resolved_in signature.args given sizes) r h in
-    let fitted = past (list_any (is_unfit sizes) (cores (handed signature.args given))) CoreMismatch (resolved_by signature.args given sizes joined) r counted.same in
+    let counted = past (not (length given == length (inputs signature.args))) arg_count (resolved_in signature.args given sizes) r h in
+    let fitted = past (list_any (is_unfit sizes) (cores (handed signature.args given))) core_mismatch (resolved_by signature.args given sizes joined) r counted.same in
     let s = joined_part signature.args given sizes joined r fitted.same in
     let P : Resolved → Type 0 = λ x. Solves signature given x in
     subst P s.same (solution_solves signature given s.broadcast fitted.off s.joined_is)

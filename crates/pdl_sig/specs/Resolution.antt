@@ -1,6 +1,6 @@
 -- What the arguments of a call resolve to, or what refuses them (PDL::PP, Signatures;
 -- PDL::Broadcasting).
-use Rattle.std.specs.Prelude.{◌≡◌, ℕ, ◌+◌, ◌*◌, Bool, true, false, not, ◌&&◌, ◌||◌, ◌==◌, nat_lt, nat_eq, List, [], ◌∷◌, ◌++◌, length, map, drop, slice_index_or, Option, Some, None, option_and_then, Result, Ok, Err, if◌then◌else◌}
+use Rattle.std.specs.Prelude.{◌≡◌, ℕ, ◌+◌, ◌*◌, Bool, true, false, not, ◌&&◌, ◌||◌, ◌==◌, nat_lt, nat_eq, List, [], ◌∷◌, ◌++◌, length, map, drop, slice_index_or, Option, Some, None, option_and_then, IfSome, Result, Ok, Err, if◌then◌else◌}
 use Rattle.std.specs.List.{filter, list_any, flat_map, zip}
 use Rattle.std.specs.Option.{unwrap_or}
 use Rattle.std.specs.Cmp.Lexicographic.{pointwise}
@@ -170,23 +170,34 @@ solution args given sizes broadcast = record {
   shapes = shapes sizes broadcast args given;
 }
 
+-- why the arguments of a call don't resolve, in the order of the checks; want of memory is none of
+-- the reasons
+pub data Unresolved : Type 0 where
+  arg_count : Unresolved
+  core_mismatch : Unresolved
+  broadcast_mismatch : Unresolved
+  stretched_in_out : Unresolved
+  too_many_dims : Unresolved
+  too_large : Unresolved
+  too_much_work : Unresolved
+
 -- what a call resolves to by the named sizes and the joined dimensions, or the first refusal from a
 -- mismatch of these on
 abbrev pub resolved_by : List SigArg → List ArgShape → List ℕ → Option (List ℕ)
-    → Result Resolved ResolveFault
-resolved_by args given sizes None = Err BroadcastMismatch
+    → Result Resolved Unresolved
+resolved_by args given sizes None = Err broadcast_mismatch
 resolved_by args given sizes (Some broadcast) =
-    if list_any (is_stretched sizes broadcast) (handed args given) then Err StretchedInOut
-    else (if list_any (has_too_many sizes broadcast) args then Err TooManyDims
+    if list_any (is_stretched sizes broadcast) (handed args given) then Err stretched_in_out
+    else (if list_any (has_too_many sizes broadcast) args then Err too_many_dims
     else (if nat_lt extent_limit (extent broadcast) || list_any (is_too_large sizes broadcast) args
-    then Err TooLarge
-    else (if nat_lt work_limit (size_of broadcast * extent sizes) then Err TooMuchWork
+    then Err too_large
+    else (if nat_lt work_limit (size_of broadcast * extent sizes) then Err too_much_work
     else Ok (solution args given sizes broadcast))))
 
 -- what a call resolves to by the named sizes, or the first refusal from a mismatch of core sizes on
-abbrev pub resolved_in : List SigArg → List ArgShape → List ℕ → Result Resolved ResolveFault
+abbrev pub resolved_in : List SigArg → List ArgShape → List ℕ → Result Resolved Unresolved
 resolved_in args given sizes =
-    if list_any (is_unfit sizes) (cores (handed args given)) then Err CoreMismatch
+    if list_any (is_unfit sizes) (cores (handed args given)) then Err core_mismatch
     else resolved_by args given sizes (joined_with [] (handed args given))
 
 -- the sizes of the named dimensions in a call
@@ -194,13 +205,23 @@ abbrev pub named_sizes : Signature → List ArgShape → List ℕ
 named_sizes signature given = sizes_from (cores (handed signature.args given)) 0 signature.fixed
 
 -- what a call resolves to, or the first refusal
-abbrev pub resolution : Signature → List ArgShape → Result Resolved ResolveFault
+abbrev pub resolution : Signature → List ArgShape → Result Resolved Unresolved
 resolution signature given =
-    if not (length given == length (inputs signature.args)) then Err ArgCount
+    if not (length given == length (inputs signature.args)) then Err arg_count
     else resolved_in signature.args given (named_sizes signature given)
 
--- the answer is this one; want of memory may come at any call
-abbrev pub Answers : Result Resolved ResolveFault → Result Resolved ResolveFault → Type 0
+-- the reason that a fault names
+abbrev pub reason_named : ResolveFault → Option Unresolved
+reason_named ArgCount = Some arg_count
+reason_named CoreMismatch = Some core_mismatch
+reason_named BroadcastMismatch = Some broadcast_mismatch
+reason_named StretchedInOut = Some stretched_in_out
+reason_named TooManyDims = Some too_many_dims
+reason_named TooLarge = Some too_large
+reason_named TooMuchWork = Some too_much_work
+reason_named NoMemory = None
+
+-- the answer is this one; want of memory says nothing
+abbrev pub Answers : Result Resolved Unresolved → Result Resolved ResolveFault → Type 0
 Answers wanted (Ok resolved) = Ok resolved ≡ wanted
-Answers wanted (Err NoMemory) = Unit {0}
-Answers wanted (Err fault) = Err fault ≡ wanted
+Answers wanted (Err fault) = IfSome (reason_named fault) (λ reason. Err reason ≡ wanted)

@@ -4,9 +4,8 @@ use Rattle.std.specs.Prelude.{Bool, true, false, not, ◌==◌, if◌then◌else
 use Rattle.pdl_sig.specs.declared.ArgShape.{ArgShape}
 use Rattle.pdl_sig.specs.declared.Resolved.{Resolved}
 use Rattle.pdl_sig.specs.declared.ResolveFault.{ResolveFault}
-use Rattle.pdl_sig.specs.declared.ResolveFault.TheVariants.{ArgCount}
 use Rattle.pdl_sig.specs.declared.Signature.{Signature}
-use Rattle.pdl_sig.specs.Resolution.{Answers, inputs, named_sizes, resolution, resolved_in}
+use Rattle.pdl_sig.specs.Resolution.{Answers, arg_count, inputs, named_sizes, resolution, resolved_in}
 
 pub resolved_is : (s t : Signature) (given : List ArgShape) (answer : Result Resolved ResolveFault) (r : Resolved) → s ≡ t → Answers (resolution s given) answer → answer ≡ Ok r
     → resolution t given ≡ Ok r
@@ -17,6 +16,6 @@ resolved_is s t given answer r same h is =
 pub count_is : (s : Signature) (given : List ArgShape) (r : Resolved) → resolution s given ≡ Ok r → length given ≡ length (inputs s.args)
 count_is s given r e = by (length given == length (inputs s.args)) refl e
   where
-    by : (b : Bool) → (length given == length (inputs s.args)) ≡ b → (if not b then Err ArgCount else resolved_in s.args given (named_sizes s given)) ≡ Ok r → length given ≡ length (inputs s.args)
+    by : (b : Bool) → (length given == length (inputs s.args)) ≡ b → (if not b then Err arg_count else resolved_in s.args given (named_sizes s given)) ≡ Ok r → length given ≡ length (inputs s.args)
     by true t e = eqb-true (length given) (length (inputs s.args)) t
     by false t e = cc

@@ -8,9 +8,8 @@ use Rattle.pdl_sig.specs.declared.Role.TheVariants.{Input}
 use Rattle.pdl_sig.specs.declared.SigArg.{SigArg}
 use Rattle.pdl_sig.specs.declared.Signature.{Signature}
 use Rattle.pdl_code.specs.TreeOf.{code_of}
-use Rattle.pdl_kernel.specs.declared.faults.RunFault.{RunFault}
 use Rattle.pdl_kernel.specs.Answers.{Answers}
-use Rattle.pdl_kernel.specs.Call.{outcome, outputs_of, stores_from, with_given}
+use Rattle.pdl_kernel.specs.Call.{PlacedFault, outcome, outputs_of, stores_from, with_given}
 use Rattle.pdl_kernel.specs.Meaning.{Store}
 use Rattle.pdl_kernel.specs.Parts.{Collected, Part}
 use Rattle.pdl_kernel.specs.Setup.{IsFront, IsShapeOf, heads, source_of}
@@ -88,7 +87,7 @@ returns-in-Ok-clause-outputs c =
     let wraps = c.wrapping_laws.ensures in
     let n = length c.in_ok-vec.field-0.items in
     let long : n ≡ c.locals.result = search rules in
-    let x : Result (List Store) RunFault = stores_from (left_in_order r (code_of c.stmts.result.now) c.in_ok-sources.sources.items n) 0 (size_of r.broadcast) in
+    let x : Result (List Store) PlacedFault = stores_from (left_in_order r (code_of c.stmts.result.now) c.in_ok-sources.sources.items n) 0 (size_of r.broadcast) in
     let wanted : x ≡ stores_from (outcome k.signature.args k.code r given) 0 (size_of r.broadcast) =
     collected_as laws wraps k.signature.args k.code r given (code_of c.stmts.result.now) c.in_ok-sources.sources.items n c.stmts.ensures.code sources (long ∙ c.locals.ensures) in
     let h : Collected (Ok tt) (heads r 0 k.signature.args) c.collect.new.parts.items x = subst (λ (ps : List Part). Collected (Ok tt) ps c.collect.new.parts.items x) parts c.in-Ok.ensures in
@@ -107,7 +106,7 @@ returns-in-Ok-clause-made c =
     let wraps = c.wrapping_laws.ensures in
     let n = length c.in_ok-vec.field-0.items in
     let long : n ≡ c.locals.result = search rules in
-    let x : Result (List Store) RunFault = stores_from (left_in_order r (code_of c.stmts.result.now) c.in_ok-sources.sources.items n) 0 (size_of r.broadcast) in
+    let x : Result (List Store) PlacedFault = stores_from (left_in_order r (code_of c.stmts.result.now) c.in_ok-sources.sources.items n) 0 (size_of r.broadcast) in
     let wanted : x ≡ stores_from (outcome k.signature.args k.code r given) 0 (size_of r.broadcast) =
     collected_as laws wraps k.signature.args k.code r given (code_of c.stmts.result.now) c.in_ok-sources.sources.items n c.stmts.ensures.code sources (long ∙ c.locals.ensures) in
     let h : Collected (Ok tt) (heads r 0 k.signature.args) c.collect.new.parts.items x = subst (λ (ps : List Part). Collected (Ok tt) ps c.collect.new.parts.items x) parts c.in-Ok.ensures in
@@ -125,8 +124,8 @@ returns-clause-outputs c =
     let wraps = c.wrapping_laws.ensures in
     let n = length c.in_ok-vec.field-0.items in
     let long : n ≡ c.locals.result = search rules in
-    let x : Result (List Store) RunFault = stores_from (left_in_order r (code_of c.stmts.result.now) c.in_ok-sources.sources.items n) 0 (size_of r.broadcast) in
+    let x : Result (List Store) PlacedFault = stores_from (left_in_order r (code_of c.stmts.result.now) c.in_ok-sources.sources.items n) 0 (size_of r.broadcast) in
     let wanted : x ≡ stores_from (outcome k.signature.args k.code r given) 0 (size_of r.broadcast) =
     collected_as laws wraps k.signature.args k.code r given (code_of c.stmts.result.now) c.in_ok-sources.sources.items n c.stmts.ensures.code sources (long ∙ c.locals.ensures) in
-    subst (λ (y : Result (List Store) RunFault). Answers (outputs_of r k.signature.args y) (Err c.in-Err.fault)) wanted
+    subst (λ (y : Result (List Store) PlacedFault). Answers (outputs_of r k.signature.args y) (Err c.in-Err.fault)) wanted
     (fault_right laws wraps k.signature.args k.code r given c.in-Err.fault c.in_ok-parts.parts.items c.collect.new.parts.items x c.in-Err.ensures)

@@ -1,14 +1,13 @@
 use Rattle.std.proofs.Common.{◌≡◌, ◌<◌, ◌+◌, List, ap, sym, ◌∙◌, subst, arith, length, map, refl, Err}
-use Rattle.std.specs.Prelude.{All}
+use Rattle.std.specs.Prelude.{All, IfSome, Option}
 use Rattle.pdl_shape.specs.Shape.{size_of}
 use Rattle.pdl_sig.specs.declared.Role.{Role}
 use Rattle.pdl_code.specs.TreeOf.{code_of}
 use Rattle.pdl_broadcast.specs.Walk.{Walk, standing_at}
-use Rattle.pdl_kernel.specs.declared.faults.RunFault.{RunFault}
-use Rattle.pdl_kernel.specs.Call.{stores_from}
-use Rattle.pdl_kernel.specs.Parts.{Collected, Part, appended}
+use Rattle.pdl_kernel.specs.Call.{PlacedFault, stores_from}
+use Rattle.pdl_kernel.specs.Parts.{Part, appended}
 use Rattle.pdl_kernel.specs.Sources.{IsCodeFree, IsFree, Source, left_in_order, moved_to, roles_of, store_of}
-use Rattle.pdl_kernel.proofs.Gathering.{collected_fault, gathered_fault, gathered_first, gathered_free, gathered_more}
+use Rattle.pdl_kernel.proofs.Gathering.{gathered_fault, gathered_first, gathered_free, gathered_more}
 use Rattle.pdl_kernel.proofs.Places.{moved_again, place_left, roles_moved}
 use Rattle.pdl_kernel.proofs.walk.collect.Goals as goal
 
@@ -38,9 +37,9 @@ returns-in-Err c =
     let lt : c.loop-place.place < n = omega (arith, c.loop-place-test.true, c.elements_of-place-end.ensures.count) in
     let here = place_left c.args.resolved.now (code_of c.args.code.now) c.loop-place.sources.items c.args.sources.now.items (length c.loop-place.frames.locals) (length c.args.frames.now.locals)
     c.coordinates.result.now c.loop-place.place inv.same inv.locals (c.coordinates.ensures ∙ ap standing_at inv.walk) in
-    let P : RunFault → Type 0 = λ x. Collected (Err x) c.args.parts.now.items c.loop-place.parts.items (stores_from f 0 n) in
-    subst P (sym c.fault_at.ensures) (collected_fault c.loop-place.place c.in-Err.fault c.args.parts.now.items c.loop-place.parts.items (stores_from f 0 n)
-    (gathered_fault f c.loop-place.place n c.args.parts.now.items c.loop-place.parts.items c.in-Err.fault lt inv.gathered (sym here ∙ c.in-Err.ensures.left)))
+    let P : Option PlacedFault → Type 0 = λ o. IfSome o (λ placed. stores_from f 0 n ≡ Err placed) in
+    subst P (sym c.fault_at.ensures)
+    (gathered_fault f c.loop-place.place n c.args.parts.now.items c.loop-place.parts.items c.in-Err.fault lt inv.gathered (sym here ∙ c.in-Err.ensures.left))
 
 pub append_all-requires : goal.append_all-requires
 append_all-requires c =

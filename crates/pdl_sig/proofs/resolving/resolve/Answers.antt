@@ -1,8 +1,7 @@
 use Rattle.std.proofs.Common.{[], ◌≡◌, false, length, Some, ap, ap₂, sym, ◌∙◌, subst, Result}
 use Rattle.std.specs.List.{list_any}
 use Rattle.pdl_sig.specs.declared.Resolved.{Resolved}
-use Rattle.pdl_sig.specs.declared.ResolveFault.{ResolveFault}
-use Rattle.pdl_sig.specs.Resolution.{inputs, handed, cores, sizes_from, is_unfit, joined_with, named_sizes, resolved_by, resolution, Answers}
+use Rattle.pdl_sig.specs.Resolution.{Unresolved, inputs, handed, cores, sizes_from, is_unfit, joined_with, named_sizes, resolved_by, resolution, Answers}
 use Rattle.pdl_sig.proofs.Outcomes.{reached}
 use Rattle.pdl_sig.proofs.Solving.{answers_solve}
 use Rattle.pdl_sig.proofs.resolving.resolve.Goals as goal
@@ -29,5 +28,5 @@ returns c = record { resolved = answer; solved = answers_solve c.args.signature.
       ap (λ x. resolved_by x given c.as_slice-in-Some.result.now (Some c.as_slice-in-Some-2.result.now)) args_are
       ∙ ap₂ (λ x y. resolved_by signature.args given x (Some y)) c.as_slice-in-Some.ensures.value c.as_slice-in-Some-2.ensures.value
       ∙ same in
-      let P : Result Resolved ResolveFault → Type 0 = λ x. Answers x c.resolved_by.result in
+      let P : Result Resolved Unresolved → Type 0 = λ x. Answers x c.resolved_by.result in
       subst P call c.resolved_by.ensures

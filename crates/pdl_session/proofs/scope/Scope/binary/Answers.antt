@@ -1,4 +1,4 @@
-use Rattle.std.proofs.Common.{◌≡◌, ℤ, List, Result, sym, ap, subst, ◌∙◌}
+use Rattle.std.proofs.Common.{◌≡◌, Result, sym, ap, subst, ◌∙◌}
 use Rattle.pdl_buf.specs.declared.made.Made.{Made}
 use Rattle.pdl_machine.specs.declared.fault.Fault.{Fault}
 use Rattle.pdl_machine.specs.Arrays.{Arrays, array_in}
@@ -7,7 +7,7 @@ use Rattle.pdl_machine.specs.Outcome.{new_root}
 use Rattle.pdl_machine.specs.State.{State}
 use Rattle.pdl_machine.specs.Then.{and_then}
 use Rattle.pdl_session.specs.Answers.{IsFault, Evaluates}
-use Rattle.pdl_session.specs.Scope.{names_in, arrays_of, array_of}
+use Rattle.pdl_session.specs.Scope.{names_in, arrays_of}
 use Rattle.pdl_session.proofs.Faults.{first_fault}
 use Rattle.pdl_session.proofs.Growing.{both_readied}
 use Rattle.pdl_session.proofs.scope.Scope.binary.Goals as goal

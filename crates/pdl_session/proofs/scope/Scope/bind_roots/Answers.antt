@@ -1,9 +1,8 @@
-use Rattle.std.proofs.Common.{◌≡◌, ◌<◌, ◌≤◌, ℤ, [], List, Result, Ok, length, refl, sym, ap, subst, ◌∙◌, arith}
-use Rattle.pdl_machine.specs.Outcome.{new_root}
+use Rattle.std.proofs.Common.{◌<◌, ◌≤◌, [], Result, length, refl, sym, ap, subst, ◌∙◌, arith}
 use Rattle.pdl_machine.specs.Step.{Stepped, roots_bound}
 use Rattle.pdl_session.specs.declared.fault.StepFault.{StepFault}
 use Rattle.pdl_session.specs.Answers.{Prints, Runs}
-use Rattle.pdl_session.specs.Scope.{array_of, names_in, state_in}
+use Rattle.pdl_session.specs.Scope.{names_in, state_in}
 use Rattle.pdl_session.proofs.Faults.{is_fault}
 use Rattle.pdl_session.proofs.Growing.{grows_trans}
 use Rattle.pdl_session.proofs.Roots.{naming, roots_more, roots_done, name_refused, live_more}

@@ -1,11 +1,10 @@
-use Rattle.std.proofs.Common.{ℤ, List, Result, Ok, ap, subst, ◌∙◌}
+use Rattle.std.proofs.Common.{Result, Ok, ap, subst, ◌∙◌}
 use Rattle.pdl_machine.specs.declared.fault.Fault.{Fault}
 use Rattle.pdl_machine.specs.Outcome.{new_root, view_placed, Outcome as Placed, made, viewed}
 use Rattle.pdl_machine.specs.State.{State}
 use Rattle.pdl_session.specs.declared.outcome.Outcome.{Outcome}
 use Rattle.pdl_session.specs.Arguments.{arguments, outcome_of}
 use Rattle.pdl_session.specs.Answers.{Evaluates}
-use Rattle.pdl_session.specs.Scope.{array_of}
 use Rattle.pdl_session.proofs.Seen.{evaluates, call_fault}
 use Rattle.pdl_session.proofs.scope.Scope.builtin_call.Goals as goal
 
