@@ -1,5 +1,5 @@
 -- Loops in which each access leads along a line.
-use Rattle.std.specs.Prelude.{◌≡◌, ◌<◌, ℕ, ◌+◌, ◌*◌, ℤ, pos, ◌+ℤ◌, List, map, get_or, length, slice_set, Result, Ok}
+use Rattle.std.specs.Prelude.{◌≡◌, ◌<◌, ℕ, ◌+◌, ◌*◌, ℤ, pos, negsuc, ◌+ℤ◌, ◌≤ℤ◌, List, map, get_or, length, slice_set, Result, Ok}
 use Rattle.pdl_sig.specs.declared.Resolved.{Resolved}
 use Rattle.pdl_code.specs.Tree.{Tree, Indices, Step, Code}
 use Rattle.pdl_kernel.specs.declared.axes.Axis.{Axis}
@@ -48,6 +48,10 @@ AtEach l P = (w : Work) → HasSameForm l.work w → (i : ℕ) → i < l.count �
 abbrev pub number_at : Slope → ℕ → ℤ
 number_at (Still n) i = n
 number_at (Rising n) i = n +ℤ pos i
+
+-- it is far from the ends of a longlong's range
+abbrev pub IsNear : ℤ → Type 0
+IsNear z = (negsuc 2199023255551 ≤ℤ z) × (z ≤ℤ pos 2199023255552)
 
 -- an expression has these numbers
 abbrev pub IsSlope : Loop → Tree → Slope → Type 0

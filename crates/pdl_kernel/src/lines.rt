@@ -1,17 +1,24 @@
 //! Where an access leads at each turn of a loop.
-ghost use Rattle.std.specs.Prelude.{◌≡◌, ◌<◌, ◌≤◌, ◌+◌, ◌*◌, ℕ, length, pos, All, IfSome};
+ghost use Rattle.std.specs.Prelude.{◌≡◌, ◌<◌, ◌≤◌, ◌+◌, ◌*◌, ◌+ℤ◌, ◌-ℤ◌, ℕ, length, pos, All, IfSome, Ok};
 ghost use Rattle.pdl_code.specs.Tree.{index};
-ghost use Rattle.pdl_code.specs.TreeOf.{indices_of};
+ghost use Rattle.pdl_code.specs.TreeOf.{indices_of, tree_of};
 ghost use Rattle.pdl_kernel.specs.Leading.{dimension_of, number_of};
-ghost use Rattle.pdl_kernel.specs.Lines.{IsBlockLine, IsLine, IsSlope, loop_of, number_at};
+ghost use Rattle.pdl_kernel.specs.Lines.{IsBlockLine, IsLine, IsNear, IsSlope, loop_of, number_at};
+ghost use Rattle.pdl_kernel.specs.Meaning.{operate};
 ghost use Rattle.pdl_kernel.specs.Sources.{IsFree, IsSmall, roles_of};
 
 use crate::axes::{Axis, MOST, index_within, loop_index};
+use crate::eval::size_in;
 use crate::frame::Frames;
 use crate::line::{Line, Slope};
+use crate::operations::operate_quickly;
 use crate::source::Source;
-use pdl_code::Entry;
+use pdl_code::{Entry, Expr};
+use pdl_elem::{BinaryOp, wrapping_laws};
 use pdl_sig::Resolved;
+
+/// Sums of numbers up to here, and of a turn, are far from the ends of a longlong's range.
+const NEAR: i64 = 1099511627776;
 
 /// The index of the loop over a dimension, in a loop over another one or the same.
 fn loop_slope(
@@ -33,6 +40,113 @@ fn loop_slope(
         Some(Slope::Rising(0))
     } else {
         None
+    }
+}
+
+/// The sum of numbers that are far from the ends of the range.
+fn near_sum(x: i64, y: i64) -> Option<i64>
+    ensures { IfSome result (λ z. IsNear z × (z ≡ x +ℤ y)) }
+{
+    if x < -NEAR || x > NEAR || y < -NEAR || y > NEAR {
+        None
+    } else {
+        Some(x + y)
+    }
+}
+
+/// The difference of numbers that are far from the ends of the range.
+fn near_difference(x: i64, y: i64) -> Option<i64>
+    ensures { IfSome result (λ z. IsNear z × (z ≡ x -ℤ y)) }
+{
+    if y < -NEAR { None } else { near_sum(x, -y) }
+}
+
+/// A number that stays, and one that rises by one.
+fn still_and_rising(op: BinaryOp, x: i64, y: i64, count: u32) -> Option<Slope>
+    ensures { IfSome result (λ s. (i : ℕ) → i < count →
+        operate op x (y +ℤ pos i) ≡ Ok (number_at s i)) }
+{
+    wrapping_laws();
+    let _turns = count;
+    match op {
+        BinaryOp::Add => match near_sum(x, y) {
+            Some(z) => Some(Slope::Rising(z)),
+            None => None,
+        },
+        _ => None,
+    }
+}
+
+/// A number that rises by one, and one that stays.
+fn rising_and_still(op: BinaryOp, x: i64, y: i64, count: u32) -> Option<Slope>
+    ensures { IfSome result (λ s. (i : ℕ) → i < count →
+        operate op (x +ℤ pos i) y ≡ Ok (number_at s i)) }
+{
+    wrapping_laws();
+    let _turns = count;
+    match op {
+        BinaryOp::Add => match near_sum(x, y) {
+            Some(z) => Some(Slope::Rising(z)),
+            None => None,
+        },
+        BinaryOp::Sub => match near_difference(x, y) {
+            Some(z) => Some(Slope::Rising(z)),
+            None => None,
+        },
+        _ => None,
+    }
+}
+
+/// An operation on two numbers, where its number stays or rises by one.
+fn joined(op: BinaryOp, a: &Slope, b: &Slope, count: u32) -> Option<Slope>
+    ensures { IfSome result (λ s. (i : ℕ) → i < count →
+        operate op (number_at a.now i) (number_at b.now i) ≡ Ok (number_at s i)) }
+{
+    match a {
+        Slope::Still(x) => match b {
+            Slope::Still(y) => match operate_quickly(op, *x, *y) {
+                Some(z) => Some(Slope::Still(z)),
+                None => None,
+            },
+            Slope::Rising(y) => still_and_rising(op, *x, *y, count),
+        },
+        Slope::Rising(x) => match b {
+            Slope::Still(y) => rising_and_still(op, *x, *y, count),
+            Slope::Rising(_) => None,
+        },
+    }
+}
+
+/// The number of an expression, where it stays or rises by one.
+fn slope_of(
+    resolved: &Resolved,
+    sources: &[Source],
+    frames: &Frames,
+    at: &[u32; MOST],
+    dimension: usize,
+    count: u32,
+    expr: &Expr,
+) -> Option<Slope>
+    ensures { let l = loop_of resolved.now at.now dimension count sources.now frames.now in
+        IfSome result (IsSlope l (tree_of expr.now)) }
+{
+    match expr {
+        Expr::Number(n) => Some(Slope::Still(*n)),
+        Expr::Size(word) => Some(Slope::Still(i64::from(size_in(resolved, *word)))),
+        Expr::Index(word) => loop_slope(resolved, sources, frames, at, dimension, count, *word),
+        Expr::Local(slot) => Some(Slope::Still(frames.local(*slot))),
+        Expr::Binary(op, left, right) => {
+            match slope_of(resolved, sources, frames, at, dimension, count, left) {
+                Some(a) => {
+                    match slope_of(resolved, sources, frames, at, dimension, count, right) {
+                        Some(b) => joined(*op, &a, &b, count),
+                        None => None,
+                    }
+                }
+                None => None,
+            }
+        }
+        Expr::Access(_, _) | Expr::Unary(_, _) => None,
     }
 }
 
@@ -59,7 +173,13 @@ fn slope_along(
                 None
             }
         }
-        Entry::Given(_, _) => None,
+        Entry::Given(along, expr) => {
+            if *along == place {
+                slope_of(resolved, sources, frames, at, dimension, count, expr)
+            } else {
+                None
+            }
+        }
     }
 }
 
