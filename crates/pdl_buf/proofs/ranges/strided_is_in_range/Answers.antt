@@ -1,5 +1,5 @@
 -- What is shown of numbers in a range is in it.
-use Rattle.std.proofs.Common.{ℤ, List, pos, All, length, get_or, refl, subst}
+use Rattle.std.proofs.Common.{ℤ, List, pos, All, length, refl, subst}
 use Rattle.std.proofs.lemmas.List.Elements.{All-get_or, All-from_get_or}
 use Rattle.pdl_elem.specs.declared.Ty.{Ty}
 use Rattle.pdl_elem.specs.Types.{InRange}

@@ -7,6 +7,7 @@ use Rattle.std.specs.Int.RustNames.{unsigned_abs}
 use Rattle.pdl_buf.specs.Bytes.{number_of}
 use Rattle.pdl_buf.proofs.Runs.{inside_below}
 use Rattle.pdl_buf.proofs.reads.read_steps.Goals as goal
+
 pub loop-j-preserved : goal.loop-j-preserved
 loop-j-preserved g c =
     let n : List ℕ → ℤ = number_of g.T.PackedType.ty in

@@ -1,5 +1,5 @@
 -- One block more is copied.
-use Rattle.std.proofs.Common.{◌≡◌, ℕ, ◌+◌, ◌<◌, ℤ, List, length, take, drop, arith, ap, ◌∙◌}
+use Rattle.std.proofs.Common.{◌≡◌, ℕ, ◌<◌, ℤ, List, length, take, drop, arith, ap, ◌∙◌}
 use Rattle.pdl_buf.specs.Numbers.{kept_in}
 use Rattle.pdl_buf.proofs.Moved.{kept_more, written}
 use Rattle.pdl_buf.proofs.numbers.Numbers.copied.Goals as goal

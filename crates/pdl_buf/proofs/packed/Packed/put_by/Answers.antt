@@ -1,5 +1,5 @@
 -- One value more is put, and all are put at the end.
-use Rattle.std.proofs.Common.{◌≡◌, ℕ, ◌+◌, ℤ, pos, List, length, map, get_or, drop, rules, arith, ap, sym, ◌∙◌, FitsSigned, to_z, of_z}
+use Rattle.std.proofs.Common.{◌≡◌, ℕ, ◌+◌, ℤ, pos, List, length, map, get_or, drop, rules, arith, ap, sym, ◌∙◌, to_z, of_z}
 use Rattle.std.proofs.lemmas.Int.{to_z-of_z}
 use Rattle.std.specs.Int.{w64}
 use Rattle.std.specs.List.{range_with_len}

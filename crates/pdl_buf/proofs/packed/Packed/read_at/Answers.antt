@@ -1,5 +1,5 @@
 -- All numbers are those at their places.
-use Rattle.std.proofs.Common.{pos, get_or, subst, arith}
+use Rattle.std.proofs.Common.{pos, subst, arith}
 use Rattle.pdl_elem.specs.Types.{InRange}
 use Rattle.std.proofs.lemmas.List.{get_or_default}
 use Rattle.pdl_buf.proofs.Lists.{read_is}
