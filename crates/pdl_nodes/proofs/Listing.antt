@@ -1,8 +1,10 @@
 -- Which views are listed as marked, through the table's calls.
-use Rattle.std.proofs.Common.{◌≡◌, ℕ, ℤ, ◌+◌, ◌<◌, ◌≤◌, Bool, true, false, eqb, cond, ◌&&◌, ◌||◌, not, List, [], ◌∷◌, length, drop, get_or, Option, Some, inl, inr, refl, sym, ◌∙◌, ap, ap₂, subst}
+use Rattle.std.proofs.Common.{◌≡◌, ◌≢◌, ℕ, ℤ, ◌+◌, ◌<◌, ◌≤◌, Bool, true, false, eqb, cond, ◌&&◌, ◌||◌, not, List, [], ◌∷◌, length, drop, get_or, Option, Some, inl, inr, refl, sym, ◌∙◌, ap, ap₂, subst}
 use Rattle.std.proofs.lemmas.Bool.{eqb-true}
 use Rattle.std.proofs.lemmas.Bool.Decides.{eqb_tells}
-use Rattle.std.proofs.lemmas.List.{drop_all, drop_more}
+use Rattle.std.proofs.lemmas.List.{drop_all, drop_more, get_or_default}
+use Rattle.std.proofs.lemmas.List.Sorted.{IsPermutation-swap_remove, list_any-IsPermutation}
+use Rattle.std.specs.List.{swap_remove}
 use Rattle.std.specs.Option.{IsSome}
 use Rattle.std.specs.Ordering.{nat_cmp}
 use Rattle.std.specs.BTreeMap.{BTreeMap}
@@ -243,3 +245,10 @@ listed_gone t m n id others a v h k w l =
     let hv : has t v ≡ true = sym (has_stays (other id) t v (not_it v (left v h))) ∙ h in
     let lv : has t (row_at t v).root ≡ true = sym (has_stays (other id) t (row_at t v).root (not_it (row_at t v).root nr)) ∙ ap (has (without id t)) (sym g) ∙ l in
     ap (λ r. holds (listed n r) v) g ∙ others (row_at t v).root v nr (left v h) (a v hv (ap (λ (x : Row). x.mark) (sym s) ∙ k) (λ e. w (g ∙ e)) lv)
+
+-- one was taken out, and the last is in its place
+pub pulled : (xs ys : List ℕ) (i x y id v : ℕ) → i < length xs → x ≡ get_or xs i x → y ≡ get_or xs i y → y ≡ id → ys ≡ swap_remove xs i x → v ≢ id → holds xs v ≡ true → holds ys v ≡ true
+pulled xs ys i x y id v l a b e f n h =
+    let z : x ≡ id = a ∙ get_or_default xs i x y l ∙ sym b ∙ e in
+    let w : holds xs v ≡ (eqb x v || holds (swap_remove xs i x) v) = list_any-IsPermutation (λ k. eqb k v) xs (x ∷ swap_remove xs i x) (IsPermutation-swap_remove xs i x l a) in
+    ap (λ zs. holds zs v) f ∙ ap (λ b. b || holds (swap_remove xs i x) v) (sym (differ x v (λ k. n (sym k ∙ z)))) ∙ sym w ∙ h

@@ -2,7 +2,7 @@
 use Rattle.std.specs.Prelude.{◌≡◌, ℕ, true, List, [], Option, Some, None, Vec}
 use Rattle.std.specs.Global.{Global}
 use Rattle.std.specs.Ordering.{nat_cmp}
-use Rattle.std.specs.BTreeMap.{get}
+use Rattle.std.specs.BTreeMap.{BTreeMap, get}
 use Rattle.pdl_world.specs.Swept.{holds}
 use Rattle.pdl_nodes.specs.declared.marked.Marked.{Marked}
 use Rattle.pdl_nodes.specs.Rows.{Rows, row_at, has}
@@ -11,9 +11,12 @@ abbrev pub views_or : Option (Vec ℕ Global) → List ℕ
 views_or None = []
 views_or (Some vs) = vs.items
 
+abbrev pub listed_in : BTreeMap ℕ (Vec ℕ Global) → ℕ → List ℕ
+listed_in m r = views_or (get nat_cmp m r)
+
 -- the views that are listed of a root
 abbrev pub listed : Marked → ℕ → List ℕ
-listed m r = views_or (get nat_cmp m.by_root r)
+listed m r = listed_in m.by_root r
 
 -- each marked view is listed of its root, if that is there
 abbrev pub AreListed : Rows → Marked → Type 0

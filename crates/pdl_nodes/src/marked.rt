@@ -2,7 +2,7 @@
 ghost use Rattle.std.specs.Prelude.{◌≡◌, ◌≢◌, ℕ, true, ◌∷◌, [], OnOk};
 ghost use Rattle.pdl_world.specs.Swept.{holds};
 ghost use Rattle.pdl_nodes.specs.Changes.{unmark_in};
-ghost use Rattle.pdl_nodes.specs.Marked.{listed};
+ghost use Rattle.pdl_nodes.specs.Marked.{listed, listed_in};
 ghost use Rattle.pdl_nodes.specs.Rows.{each};
 ghost use Rattle.pdl_nodes.specs.Table.{rows_of, IsTable};
 
@@ -11,10 +11,12 @@ use slab::Slab;
 use std::alloc::{AllocError, Global};
 use std::collections::BTreeMap;
 
-/// For each root the views of its family that may be marked.
+/// For each root the views of its family that may be marked, and the place of each in its list. No
+/// clause speaks of places: a view is taken out of a list where it stands at its place.
 #[derive(Drop)]
 pub struct Marked {
     by_root: BTreeMap<u64, Vec<u64>>,
+    places: BTreeMap<u64, usize>,
 }
 
 impl Marked {
@@ -22,6 +24,7 @@ impl Marked {
     pub fn new(alloc: Global) -> Marked {
         Marked {
             by_root: BTreeMap::new(alloc),
+            places: BTreeMap::new(alloc),
         }
     }
 
@@ -41,18 +44,9 @@ impl Marked {
         ensures stay { (r v : ℕ) → holds (listed self.old r) v ≡ true
             → holds (listed self.new r) v ≡ true }
     {
-        match self.by_root.get_mut(&root) {
-            Some(views) => {
-                views.push(id)?;
-                Ok(())
-            }
-            None => {
-                let mut views = Vec::new(alloc);
-                views.push(id)?;
-                self.by_root.insert(root, views)?;
-                Ok(())
-            }
-        }
+        let place = list(&mut self.by_root, alloc, root, id)?;
+        self.places.insert(id, place)?;
+        Ok(())
     }
 
     /// Of a root's views this one alone stays listed, if it is.
@@ -62,36 +56,94 @@ impl Marked {
         ensures others { (r : ℕ) → r ≢ root → listed self.new r ≡ listed self.old r }
     {
         match self.by_root.get_mut(&root) {
-            Some(views) => keep_one(views, id),
+            Some(views) => {
+                forget_places(&mut self.places, views, id);
+                note_place(&mut self.places, id, 0);
+                keep_one(views, id)
+            }
             None => {}
         }
     }
 
-    /// Forgets a number of the family of a root, be it the root or a view. A view that isn't marked
-    /// isn't looked for.
-    pub fn forget(&mut self, root: u64, id: u64, marked: bool)
+    /// Forgets a number of the family of a root, be it the root or a view. It goes over no list.
+    pub fn forget(&mut self, root: u64, id: u64)
         ensures stay { (r v : ℕ) → r ≢ id → v ≢ id → holds (listed self.old r) v ≡ true
             → holds (listed self.new r) v ≡ true }
     {
+        let place = self.places.remove(&id);
         if root == id {
             self.by_root.remove(&id);
             return;
         }
-        if !marked {
-            return;
-        }
         match self.by_root.get_mut(&root) {
-            Some(views) => leave_out(views, id),
+            Some(views) => take_out(views, &mut self.places, id, place),
             None => {}
         }
     }
 }
 
-/// Leaves a number out of a list.
-fn leave_out(views: &mut Vec<u64>, id: u64)
+/// Lists a view of a root, and says at which place.
+fn list(
+    by_root: &mut BTreeMap<u64, Vec<u64>>,
+    alloc: Global,
+    root: u64,
+    id: u64,
+) -> Result<usize, AllocError>
+    ensures listed { OnOk result (holds (listed_in by_root.new root) id ≡ true) }
+    ensures stay { (r v : ℕ) → holds (listed_in by_root.old r) v ≡ true
+        → holds (listed_in by_root.new r) v ≡ true }
+{
+    match by_root.get_mut(&root) {
+        Some(views) => {
+            let place = views.len();
+            views.push(id)?;
+            Ok(place)
+        }
+        None => {
+            let mut views = Vec::new(alloc);
+            views.push(id)?;
+            by_root.insert(root, views)?;
+            Ok(0)
+        }
+    }
+}
+
+/// Forgets the places of these views, but for one.
+fn forget_places(places: &mut BTreeMap<u64, usize>, views: &[u64], id: u64) {
+    for view in views.iter() {
+        if *view != id {
+            places.remove(view);
+        }
+    }
+}
+
+/// Notes the place of a view, if it has one.
+fn note_place(places: &mut BTreeMap<u64, usize>, id: u64, at: usize) {
+    match places.get_mut(&id) {
+        Some(place) => {
+            *place = at;
+        }
+        None => {}
+    }
+}
+
+/// Takes a view out of a list, if it stands at this place: the last moves there.
+fn take_out(views: &mut Vec<u64>, places: &mut BTreeMap<u64, usize>, id: u64, place: Option<usize>)
     ensures { (v : ℕ) → v ≢ id → holds views.old.items v ≡ true → holds views.new.items v ≡ true }
 {
-    views.retain(|view| *view != id);
+    let Some(at) = place else {
+        return;
+    };
+    if at >= views.len() {
+        return;
+    }
+    if views[at] != id {
+        return;
+    }
+    views.swap_remove(at);
+    if at < views.len() {
+        note_place(places, views[at], at);
+    }
 }
 
 /// Leaves this number alone in a list, if it is there.

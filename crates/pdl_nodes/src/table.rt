@@ -136,10 +136,9 @@ impl Table {
         let node = &self.nodes[key];
         let root = node.root();
         let parent = node.parent();
-        let marked = node.mark();
         self.keys.remove(&id);
         self.nodes.remove(key);
-        self.marked.forget(root, id, marked);
+        self.marked.forget(root, id);
         self.children.take(parent);
     }
 
