@@ -111,7 +111,15 @@ pub record State : Type 0 where
 
 -- a cutter before the first byte
 abbrev pub start_state : State
-start_state = record { mode = Code; text = []; over = false; start = 1; line = 1; taken = 0; failed = false }
+start_state = record {
+  mode = Code;
+  text = [];
+  over = false;
+  start = 1;
+  line = 1;
+  taken = 0;
+  failed = false;
+}
 
 -- the statement that a cutter is in, when a chunk's bytes are put onto those that it has
 abbrev pub begun_piece : State → List ℕ → Option Piece

@@ -13,7 +13,12 @@ use Rattle.pdl_shell.specs.Taken.{StopsSoon}
 -- the run so far, which has printed this
 abbrev pub progress : Runner → (printed : List ℕ) → Progress
 progress runner printed =
-    record { state = runner.session.state; printed = printed; faulted = runner.faulted; ended = runner.ended }
+    record {
+      state = runner.session.state;
+      printed = printed;
+      faulted = runner.faulted;
+      ended = runner.ended;
+    }
 
 -- what the run comes to, with these bytes left of the script and this behind them
 abbrev pub outcome : Behind → Runner → (printed bytes : List ℕ) → Progress
