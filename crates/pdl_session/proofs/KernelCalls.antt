@@ -10,14 +10,12 @@ use Rattle.pdl_engine.specs.State.{State as Engine, is_fresh, SameArrays, StayFr
 use Rattle.pdl_sig.specs.declared.ArgShape.{ArgShape}
 use Rattle.pdl_sig.specs.declared.Resolved.{Resolved}
 use Rattle.pdl_sig.specs.declared.ResolveFault.{ResolveFault}
-use Rattle.pdl_sig.specs.declared.ResolveFault.TheVariants.{ArgCount, CoreMismatch, BroadcastMismatch, StretchedInOut, TooManyDims, TooLarge, TooMuchWork, NoMemory}
 use Rattle.pdl_sig.specs.declared.Signature.{Signature}
-use Rattle.pdl_sig.specs.Resolution.{Unresolved, resolution, Answers as Resolves}
-use Rattle.pdl_kernel.specs.Call.{PlacedFault, called, fault_named}
+use Rattle.pdl_sig.specs.Resolution.{Unresolved, reason_named, resolution, Answers as Resolves}
+use Rattle.pdl_kernel.specs.Call.{called, fault_named}
 use Rattle.pdl_kernel.specs.Kernels.{Kernel}
 use Rattle.pdl_kernel.specs.Runs.{Run, with_next, IsNext}
 use Rattle.pdl_kernel.specs.declared.faults.RunFault.{RunFault}
-use Rattle.pdl_kernel.specs.declared.faults.RunFault.TheVariants as run
 use Rattle.pdl_machine.specs.declared.fault.Fault.{Fault}
 use Rattle.pdl_world.specs.World.{World}
 use Rattle.pdl_world.specs.Sound.{IsLive}
@@ -33,6 +31,8 @@ use Rattle.pdl_session.specs.declared.given.Given.TheVariants.{Array, Text, OfTy
 use Rattle.pdl_session.specs.Answers.{AnswersAs, IsFault}
 use Rattle.pdl_session.specs.Arguments.{all_seen_of, array_number, AreGivenLive}
 use Rattle.pdl_session.specs.Faults.{of_resolve, of_run}
+use Rattle.pdl_session.proofs.Faults.{first_fault, named_fault}
+use Rattle.std.proofs.lemmas.Option.{IfSome_then}
 use Rattle.pdl_session.specs.Scope.{arrays_of, made_in, shape_in}
 
 pub shapes_seen : (e : Engine) (ids : List ℕ) → map shape_of (map (made_in e) ids) ≡ map (shape_in e) ids
@@ -54,20 +54,9 @@ pub call_refused : (k : Kernel) (e : Engine) (ids : List ℕ) (signature : Signa
     → Resolves (resolution signature shapes) (Err f) → fault ≡ of_resolve f → IsFault (called_on k (map (made_in e) ids)) fault
 call_refused k e ids signature shapes f fault same seen h is =
     let P : StepFault → Type 0 = λ x. IsFault (called_on k (map (made_in e) ids)) x in
-    subst P (sym is) (by_fault f h)
-  where
-    given : List Made
-    given = map (made_in e) ids
-
-    by_fault : (f : ResolveFault) → Resolves (resolution signature shapes) (Err f) → IsFault (called_on k (map (made_in e) ids)) (of_resolve f)
-    by_fault ArgCount h = call_is k e ids signature shapes same seen ∙ ap (call_by k given) (sym h)
-    by_fault CoreMismatch h = call_is k e ids signature shapes same seen ∙ ap (call_by k given) (sym h)
-    by_fault BroadcastMismatch h = call_is k e ids signature shapes same seen ∙ ap (call_by k given) (sym h)
-    by_fault StretchedInOut h = call_is k e ids signature shapes same seen ∙ ap (call_by k given) (sym h)
-    by_fault TooManyDims h = call_is k e ids signature shapes same seen ∙ ap (call_by k given) (sym h)
-    by_fault TooLarge h = call_is k e ids signature shapes same seen ∙ ap (call_by k given) (sym h)
-    by_fault TooMuchWork h = call_is k e ids signature shapes same seen ∙ ap (call_by k given) (sym h)
-    by_fault NoMemory h = tt
+    let Q : Result (List Made) Fault → Type 0 = λ x. IsFault x (of_resolve f) in
+    let refused = named_fault resolve_fault (resolution signature shapes) (reason_named f) (IfSome_then (reason_named f) h (λ x is. sym is)) in
+    subst P (sym is) (subst Q (sym (call_is k e ids signature shapes same seen)) (first_fault (or_named resolve_fault (resolution signature shapes)) (λ resolved. or_named run_fault (called k resolved (map (made_in e) ids))) (of_resolve f) refused))
 
 -- what is known of a call whose arguments were all given
 pub record IsGiven (k : Kernel) (e : Engine) (ids : List ℕ) (resolved : Resolved) (r : Run) : Type 0 where
@@ -88,21 +77,13 @@ pub call_done : (k : Kernel) (e : Engine) (ids : List ℕ) (resolved : Resolved)
     → called_on k (map (made_in e) ids) ≡ Ok outputs
 call_done k e ids resolved r outputs g h = called_by k e ids resolved r g ∙ ap (or_named run_fault) h
 
--- what a fault of a run says of what is wanted
-abbrev pub Answered : Result (List Made) PlacedFault → RunFault → Type 0
-Answered wanted fault = IfSome (fault_named fault) (λ placed. wanted ≡ Err placed)
-
 -- the fault of a call
 pub call_faulted : (k : Kernel) (e : Engine) (ids : List ℕ) (resolved : Resolved) (r : Run) (f : RunFault) (fault : StepFault) → IsGiven k e ids resolved r
-    → Answered (called r.kernel r.resolved r.given) f → fault ≡ of_run f → IsFault (called_on k (map (made_in e) ids)) fault
+    → IfSome (fault_named f) (λ placed. called r.kernel r.resolved r.given ≡ Err placed) → fault ≡ of_run f → IsFault (called_on k (map (made_in e) ids)) fault
 call_faulted k e ids resolved r f fault g h is =
     let P : StepFault → Type 0 = λ x. IsFault (called_on k (map (made_in e) ids)) x in
-    subst P (sym is) (by_fault f h)
-  where
-    by_fault : (f : RunFault) → Answered (called r.kernel r.resolved r.given) f → IsFault (called_on k (map (made_in e) ids)) (of_run f)
-    by_fault (run.DivideByZero place) h = called_by k e ids resolved r g ∙ ap (or_named run_fault) h
-    by_fault (run.IndexOutOfRange place) h = called_by k e ids resolved r g ∙ ap (or_named run_fault) h
-    by_fault run.NoMemory h = tt
+    let Q : Result (List Made) Fault → Type 0 = λ x. IsFault x (of_run f) in
+    subst P (sym is) (subst Q (sym (called_by k e ids resolved r g)) (named_fault run_fault (called r.kernel r.resolved r.given) (fault_named f) h))
 
 same_again : (a b c : Engine) → SameArrays a b → SameArrays b c → SameArrays a c
 same_again a b c s t = record { world = t.world ∙ s.world; holds = t.holds ∙ s.holds; next = t.next ∙ s.next }
