@@ -1,5 +1,6 @@
 -- How many views each array has.
 use Rattle.std.specs.Prelude.{◌≡◌, ℕ, ◌+◌, ◌==◌, if◌then◌else◌, Bool, List, [], ◌∷◌, Option, Some, None}
+use Rattle.std.specs.Option.{unwrap_or}
 use Rattle.std.specs.Ordering.{nat_cmp}
 use Rattle.std.specs.Map.{lookup}
 use Rattle.std.specs.BTreeMap.{is_at}
@@ -9,13 +10,9 @@ use Rattle.pdl_nodes.specs.Rows.{Rows}
 abbrev pub Noted : Type 0
 Noted = List (ℕ × ℕ)
 
-abbrev pub noted_in : Option ℕ → ℕ
-noted_in None = 0
-noted_in (Some n) = n
-
 -- how many views of v are noted
 abbrev pub noted : Noted → ℕ → ℕ
-noted c v = noted_in (lookup (is_at (nat_cmp v)) c)
+noted c v = unwrap_or (lookup (is_at (nat_cmp v)) c) 0
 
 -- 1 where a view with this parent is a view of v
 abbrev pub one_of : (parent : Option ℕ) → ℕ → ℕ

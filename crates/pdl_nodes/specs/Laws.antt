@@ -19,7 +19,7 @@ use Rattle.pdl_nodes.specs.Still.{IsStill, IsWhole}
 use Rattle.pdl_nodes.specs.Worlds.{shape, places_of, latest, world_of, IsRoot}
 
 -- what the row of a live array says of the world, and how the array is shown over its base
-pub record IsShownOver (rs : Rows) (v : ℕ) : Type 0 where
+pub record IsToldByRow (rs : Rows) (v : ℕ) : Type 0 where
   pub looks :
       look (shape rs) v
       ≡ Some (record {
@@ -50,7 +50,7 @@ pub record IsShownOver (rs : Rows) (v : ℕ) : Type 0 where
 
 -- each live array is seen in the world as its row says, and shown over its base
 abbrev pub RowsAreSeen : Type 0
-RowsAreSeen = (rs : Rows) → IsStill rs → (v : ℕ) → has rs v ≡ true → IsShownOver rs v
+RowsAreSeen = (rs : Rows) → IsStill rs → (v : ℕ) → has rs v ≡ true → IsToldByRow rs v
 
 -- an array's elements are those that the root has at its places
 abbrev pub ElementsAreRead : Type 0

@@ -3,11 +3,11 @@ use Rattle.std.proofs.Common.{◌≡◌, ℕ, suc, zero, ◌<◌, Bool, true, fa
 use Rattle.std.proofs.lemmas.Bool.{cases_Bool}
 use Rattle.std.proofs.lemmas.Bool.Decides.{eqb_tells}
 use Rattle.pdl_world.specs.World.{has_repeats, is_among}
-use Rattle.pdl_world.specs.WindowLaws.{IsRepeated, RepeatedRepeat, RepeatsAreFound}
+use Rattle.pdl_world.specs.WindowLaws.{IsRepeated, PositionsRepeat, RepeatsHavePositions}
 use Rattle.pdl_world.proofs.Proved.{apart}
 
-pub repeated_repeat : RepeatedRepeat
-repeated_repeat = λ ps j k i r. elim (cases_Bool (has_repeats ps)) [
+pub positions_repeat : PositionsRepeat
+positions_repeat = λ ps j k i r. elim (cases_Bool (has_repeats ps)) [
   | inl y ↦ y
   | inr n ↦ absurd (apart ps n j k i r.order r.inside r.first r.second)
 ]
@@ -33,5 +33,5 @@ found (Some i ∷ ps) h = elim (cases_Bool (is_among i ps)) [
   | inr n ↦ (let z : has_repeats ps ≡ true = rw n at h in later (Some i) ps (found ps z))
 ]
 
-pub repeats_are_found : RepeatsAreFound
-repeats_are_found = λ ps h. found ps h
+pub repeats_have_positions : RepeatsHavePositions
+repeats_have_positions = λ ps h. found ps h

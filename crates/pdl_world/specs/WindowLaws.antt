@@ -38,12 +38,12 @@ pub record IsRepeated (places : List (Option ℕ)) (j k i : ℕ) : Type 0 where
   pub second : get_or places k None ≡ Some i
 
 -- where there are repeats, some two positions have the same place
-abbrev pub RepeatsAreFound : Type 0
-RepeatsAreFound =
+abbrev pub RepeatsHavePositions : Type 0
+RepeatsHavePositions =
     (places : List (Option ℕ)) → has_repeats places ≡ true
     → (j : ℕ) × (k : ℕ) × (i : ℕ) × IsRepeated places j k i
 
 -- and where two have, there are repeats
-abbrev pub RepeatedRepeat : Type 0
-RepeatedRepeat =
+abbrev pub PositionsRepeat : Type 0
+PositionsRepeat =
     (places : List (Option ℕ)) (j k i : ℕ) → IsRepeated places j k i → has_repeats places ≡ true

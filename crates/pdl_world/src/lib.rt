@@ -11,7 +11,7 @@ ghost use Rattle.pdl_world.specs.Laws.{PlacesLieWithin, RootsAreInRange, LiveLie
 ghost use Rattle.pdl_world.specs.Laws.{NewIsLive, NewRootIsSeen, NewRootIsWhole, NewRootHasPath, NewViewIsSeen, NewViewHasPath};
 ghost use Rattle.pdl_world.specs.CutLaws.{CutsLeaveElements, CutsAreRoots, RootsAreUncut, CutsLeaveOthers, CutsLeaveFamilies, CutsTakeTheirViews, CutsSoundly, CutsLeaveNumbers};
 ghost use Rattle.pdl_world.specs.CutLaws.{ViewsAreFound, FittedIsFitted, ReshapedIsSeen, ReshapesLeaveOthers, ReshapesSoundly, ReshapesLeaveNumbers};
-ghost use Rattle.pdl_world.specs.WindowLaws.{WindowsShowArrays, LiveHaveWindows, RepeatsAreFound, RepeatedRepeat};
+ghost use Rattle.pdl_world.specs.WindowLaws.{WindowsShowArrays, LiveHaveWindows, RepeatsHavePositions, PositionsRepeat};
 ghost use Rattle.pdl_world.specs.SweepLaws.{KeptWereReached, ReachedAreKept, HeldAreKept, ReachedAreSeenAsBefore, SweepsSoundly, NoNumberComes, NewGoesUnheld};
 
 use pdl_affine::{Affine, Numbers, view_laws, window_laws};
@@ -142,6 +142,6 @@ pub fn base_laws()
 
 /// Places have repeats exactly where two positions have the same place; nothing is no place.
 pub fn repeat_laws()
-    ensures found { RepeatsAreFound }
-    ensures repeated { RepeatedRepeat }
+    ensures found { RepeatsHavePositions }
+    ensures repeated { PositionsRepeat }
 {}

@@ -1,13 +1,13 @@
 use Rattle.std.proofs.Common.{◌≡◌, ℕ, true}
 use Rattle.pdl_nodes.specs.Rows.{Rows, has}
-use Rattle.pdl_nodes.specs.Laws.{IsShownOver}
+use Rattle.pdl_nodes.specs.Laws.{IsToldByRow}
 use Rattle.pdl_nodes.specs.Still.{IsStill}
 use Rattle.pdl_nodes.proofs.Seens.{IsSeen, is_seen}
 use Rattle.pdl_nodes.proofs.FamilyLemmas.{elements_are}
 use Rattle.pdl_nodes.proofs.laws.row_laws.Goals as goal
 
-shown_over : (rs : Rows) → IsStill rs → (v : ℕ) → has rs v ≡ true → IsShownOver rs v
-shown_over rs i v h = let s : IsSeen rs v = is_seen rs i v h in
+told_by_row : (rs : Rows) → IsStill rs → (v : ℕ) → has rs v ≡ true → IsToldByRow rs v
+told_by_row rs i v h = let s : IsSeen rs v = is_seen rs i v h in
     record {
       looks = s.looks;
       windows = s.windows;
@@ -27,7 +27,7 @@ shown_over rs i v h = let s : IsSeen rs v = is_seen rs i v h in
     }
 
 pub returns-clause-seen : goal.returns-clause-seen
-returns-clause-seen c = shown_over
+returns-clause-seen c = told_by_row
 
 pub returns-clause-elements : goal.returns-clause-elements
 returns-clause-elements c = elements_are
