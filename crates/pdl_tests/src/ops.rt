@@ -1,22 +1,12 @@
 //! Values worked out by hand.
-ghost use Rattle.std.specs.Prelude.{◌≡◌, length};
-
 use crate::arrays::{numbers, shape, whole};
-use pdl_buf::{Buf, NoMemory, Strided, strided};
+use pdl_buf::Strided;
 use pdl_elem::{BinaryOp, Ty, UnaryOp};
 use pdl_lexemes::AssignOp;
 use pdl_ops::*;
-use pdl_shape::{Dims, dims_list, triple_of};
+use pdl_shape::dims_list;
 use std::alloc::Global;
 use std::test::Fail;
-
-// Two columns of three rows, with the columns as rows.
-fn turned<'a>(alloc: Global, buf: &'a Buf) -> Result<Strided<'a>, NoMemory>
-    requires { length buf.now.elems ≡ 6 }
-{
-    let dims = shape(alloc, &[3, 2])?;
-    Ok(strided(buf, &triple_of(alloc, 0, &[2, 1], &dims)))
-}
 
 #[test]
 fn works_over_joined_dimensions(rt: HostRuntime) -> Result<(), Fail> {
@@ -102,22 +92,5 @@ fn takes_further_sizes_of_one(rt: HostRuntime) -> Result<(), Fail> {
         &rt, "values",
     );
     assert_eq!(rt; values.as_slice(), [4, 21, 46].as_slice());
-    Ok(())
-}
-
-#[test]
-fn reads_turned_and_stretched(rt: HostRuntime) -> Result<(), Fail> {
-    let alloc = rt.alloc();
-    let nines = numbers(alloc, Ty::Byte, &[9; 12])?;
-    let six = numbers(alloc, Ty::Byte, &[1, 2, 3, 4, 5, 6])?;
-    let target = whole(alloc, &nines, &[3, 2, 2])?;
-    let value = turned(alloc, &six)?;
-    let values = values_for(alloc, AssignOp::With(BinaryOp::Sub), &target, &value).expect(
-        &rt, "values",
-    );
-    assert_eq!(rt;
-        values.as_slice(),
-        [8, 6, 4, 7, 5, 3, 8, 6, 4, 7, 5, 3].as_slice()
-    );
     Ok(())
 }

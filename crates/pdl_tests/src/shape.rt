@@ -104,20 +104,6 @@ fn joins(rt: HostRuntime) {
 }
 
 #[test]
-fn whole_arrays(rt: HostRuntime) {
-    let alloc = rt.alloc();
-    for (sizes, want) in [
-        ([2, 3, 1, 4].as_slice(), [1, 2, 0, 6].as_slice()),
-        ([3, 0, 2].as_slice(), [1, 0, 0].as_slice()),
-        ([].as_slice(), [].as_slice()),
-    ] {
-        let whole = whole_triple(alloc, &dims(&rt, alloc, sizes));
-        assert_eq!(rt; whole.offset, 0);
-        assert_eq!(rt; incs_list(&whole.incs), want);
-    }
-}
-
-#[test]
 fn windows(rt: HostRuntime) {
     let alloc = rt.alloc();
     let whole = whole_triple(alloc, &dims(&rt, alloc, &[2, 3]));
