@@ -34,6 +34,7 @@ struct Counts {
 #[derive(Clone, Copy)]
 enum Call {
     Script,
+    Status,
     Cut,
     Tokens,
     Lexemes,
@@ -56,6 +57,7 @@ enum Call {
 
 const CALLS: &[(&str, Call)] = &[
     ("script", Call::Script),
+    ("status", Call::Status),
     ("cut", Call::Cut),
     ("tokens", Call::Tokens),
     ("lexemes", Call::Lexemes),
@@ -80,6 +82,7 @@ const CALLS: &[(&str, Call)] = &[
 fn answer(alloc: Global, line: &mut Cursor<'_>) -> Result<Vec<u8>, Unread> {
     match line.named(CALLS)? {
         Call::Script => script::answer(alloc, line),
+        Call::Status => script::status_answer(alloc, line),
         Call::Cut => tokens::cut(alloc, line),
         Call::Tokens => tokens::answer(alloc, line),
         Call::Lexemes => tokens::lexemes_answer(alloc, line),

@@ -4,11 +4,13 @@
 //! where none are said the script is run twice, with 4096 bytes a read and with 1, and both must
 //! agree. Reads, and writes and flushes together, are numbered from 0. The sink has room for 65,536
 //! bytes, or for N. The answer is the status and the text that was written.
+//!
+//! `status STATUS => N`: the number of a status.
 
 use crate::cursor::{Cursor, Unread};
 use crate::escapes::write_quoted;
 use pdl_io::{MemSink, MemSource};
-use pdl_shell::run_shell;
+use pdl_shell::{Status, run_shell};
 use std::alloc::Global;
 
 // How a script is run.
@@ -100,4 +102,20 @@ pub fn answer(alloc: Global, line: &mut Cursor<'_>) -> Result<Vec<u8>, Unread> {
         }
     }
     Ok(answer)
+}
+
+const STATUSES: &[(&str, Status)] = &[
+    ("Done", Status::Done),
+    ("ScriptFault", Status::ScriptFault),
+    ("Usage", Status::Usage),
+    ("SourceFault", Status::SourceFault),
+    ("SinkFault", Status::SinkFault),
+    ("WatcherFault", Status::WatcherFault),
+    ("NoMemory", Status::NoMemory),
+];
+
+/// The number of a line's status.
+pub fn status_answer(alloc: Global, line: &mut Cursor<'_>) -> Result<Vec<u8>, Unread> {
+    let number = line.named(STATUSES)?.number();
+    Ok(format!(in alloc; "{number}")?.into_bytes())
 }
