@@ -1,26 +1,26 @@
-//! Arrays of given sizes and numbers, for the tests of the crates of arrays.
-ghost use Rattle.std.specs.Prelude.{◌≡◌, ◌<◌, length, All, IfOk};
+//! Arrays of given sizes and numbers, for the tests of the crates of arrays. Where memory is wanting
+//! the test ends here, so that it needs no `?`.
+ghost use Rattle.std.specs.Prelude.{◌≡◌, ◌<◌, [], ◌∷◌, length, All, IfOk};
 ghost use Rattle.pdl_elem.specs.Types.{InRange};
 ghost use Rattle.pdl_shape.specs.Shape.{size_of};
 
-use pdl_buf::{Buf, NoMemory, Strided, buf_of, new_steps, strided};
+use crate::comparing::{same, same_list};
+use pdl_buf::{Buf, Made, NoMemory, Strided, buf_of, new_steps, strided};
 use pdl_elem::Ty;
-use pdl_shape::{Dims, dims_of, whole_triple};
+use pdl_shape::{Dims, dims_list, dims_of, triple_of, whole_triple};
 use std::alloc::Global;
 use std::marker::Brand;
+use std::process::Abort;
 use std::sync::ledger::{Blank, Ledger};
 
 /// The dimensions of these sizes.
-pub fn shape(alloc: Global, sizes: &[u32]) -> Result<Dims, NoMemory>
-    ensures { IfOk result (λ dims. dims ≡ sizes.now) }
+pub fn shape(rt: &impl Abort, alloc: Global, sizes: &[u32]) -> Dims
+    ensures { result ≡ sizes.now }
 {
-    match dims_of(alloc, sizes) {
-        Ok(dims) => Ok(dims),
-        Err(_) => Err(NoMemory),
-    }
+    dims_of(alloc, sizes).expect(rt, "dimensions")
 }
 
-/// A buffer of these numbers, whose elements are counted in a new ledger.
+// A buffer of these numbers, whose elements are counted in a ledger.
 fn counted<L: Ledger>(alloc: Global, blank: Blank, ty: Ty, elems: &[i64]) -> Result<Buf, NoMemory>
     requires name { blank.name ≡ L.name }
     requires parts { blank.parts ≡ L.parts }
@@ -32,18 +32,43 @@ fn counted<L: Ledger>(alloc: Global, blank: Blank, ty: Ty, elems: &[i64]) -> Res
     buf_of(alloc, ty, elems, &mut steps)
 }
 
-/// A buffer of these numbers.
-pub fn numbers(alloc: Global, ty: Ty, elems: &[i64]) -> Result<Buf, NoMemory>
+// The same in a new ledger.
+fn counted_anew(alloc: Global, ty: Ty, elems: &[i64]) -> Result<Buf, NoMemory>
     requires { All (InRange ty) elems.now }
     ensures { IfOk result (λ buf. length buf.elems ≡ length elems.now) }
 {
     counted::<Brand>(alloc, Blank::new(1), ty, elems)
 }
 
+/// A buffer of these numbers.
+pub fn numbers(rt: &impl Abort, alloc: Global, ty: Ty, elems: &[i64]) -> Buf
+    requires { All (InRange ty) elems.now }
+    ensures { length result.elems ≡ length elems.now }
+{
+    counted_anew(alloc, ty, elems).expect(rt, "memory")
+}
+
 /// The whole buffer as an array of these sizes.
-pub fn whole<'a>(alloc: Global, buf: &'a Buf, sizes: &[u32]) -> Result<Strided<'a>, NoMemory>
+pub fn whole<'a>(rt: &impl Abort, alloc: Global, buf: &'a Buf, sizes: &[u32]) -> Strided<'a>
     requires { length buf.now.elems ≡ size_of sizes.now }
 {
-    let dims = shape(alloc, sizes)?;
-    Ok(strided(buf, &whole_triple(alloc, &dims)))
+    let dims = shape(rt, alloc, sizes);
+    strided(buf, &whole_triple(alloc, &dims))
+}
+
+/// A plane of two columns and three rows, with its columns as rows.
+pub fn turned<'a>(alloc: Global, buf: &'a Buf, dims: &Dims) -> Strided<'a>
+    requires count { length buf.now.elems ≡ 6 }
+    requires sizes { dims.now ≡ 3 ∷ 2 ∷ [] }
+    ensures { length result.elems ≡ 6 }
+{
+    strided(buf, &triple_of(alloc, 0, &[2, 1], dims))
+}
+
+/// The array has this type, these sizes and these elements.
+pub fn is_array(rt: &impl Abort, alloc: Global, made: &Made, ty: Ty, sizes: &[u32], elems: &[i64]) {
+    let list = made.elems.to_vec(alloc).expect(rt, "memory");
+    same(rt, made.ty, ty);
+    same_list(rt, dims_list(&made.dims), sizes);
+    same_list(rt, list.as_slice(), elems);
 }

@@ -1,56 +1,74 @@
+//! Each call once, with values worked out by hand.
 ghost use Rattle.std.specs.Prelude.{◌≡◌, ◌<◌, ◌≤◌, ◌+◌, [], ◌∷◌, length};
+ghost use Rattle.pdl_elem.specs.declared.Ty.TheVariants.{Short};
 
-use crate::arrays::shape;
+use crate::arrays::{numbers, shape, turned};
+use crate::comparing::{same, same_list};
 use pdl_buf::*;
 use pdl_elem::Ty;
-use pdl_shape::{Dims, dims_list, dims_of, elements_of, triple_of, whole_triple};
+use pdl_shape::{Dims, dims_list, triple_of, whole_triple};
 use std::alloc::Global;
 use std::marker::Brand;
+use std::process::Abort;
 use std::sync::ledger::{Blank, Ledger};
-use std::test::Fail;
 
-// What is left in three zeros after 7 was put at 1, and 5, 6, 7 at the places 1, 1 and none, and
-// what the places 2, none and 1 of it show.
-fn moved<L: Ledger>(alloc: Global, blank: Blank) -> Result<[i64; 4], NoMemory>
+// The buffer has these three elements.
+fn keeps(rt: &impl Abort, buf: &Buf, want: [i64; 3])
+    requires { length buf.now.elems ≡ 3 }
+{
+    same(
+        rt,
+        [buf_get(buf, 0), buf_get(buf, 1), buf_get(buf, 2)],
+        want,
+    );
+}
+
+// Of 0, 0, 8 place 1 becomes 7, and then 6, since the places 1, 1 and none get 5, 6 and 7.
+fn put<L: Ledger>(rt: &impl Abort, buf: &mut Buf, steps: &mut Steps<L>)
+    requires three { length buf.old.elems ≡ 3 }
+    requires kind { buf.old.ty ≡ Short }
+    ensures three { length buf.new.elems ≡ 3 }
+    ensures kind { buf.new.ty ≡ Short }
+{
+    buf_set(buf, 1, 7, steps);
+    scatter(buf, &[Some(1), Some(1), None], &[5, 6, 7], steps);
+    keeps(rt, buf, [0, 6, 8]);
+}
+
+// The places 2, none and 1 of 0, 6, 8 are gathered.
+fn gather_whole<L: Ledger>(rt: &impl Abort, alloc: Global, buf: &Buf, steps: &mut Steps<L>)
+    requires three { length buf.now.elems ≡ 3 }
+    requires kind { buf.now.ty ≡ Short }
+{
+    let mut into = buf_of(alloc, Ty::Short, &[1, 1, 1], steps).expect(rt, "memory");
+    let triple = whole_triple(alloc, &shape(rt, alloc, &[3]));
+    gather(
+        &strided(buf, &triple),
+        &[Some(2), None, Some(1)],
+        &mut into,
+        steps,
+    );
+    keeps(rt, &into, [8, 0, 6]);
+}
+
+fn moved<L: Ledger>(rt: &impl Abort, alloc: Global, blank: Blank)
     requires name { blank.name ≡ L.name }
     requires parts { blank.parts ≡ L.parts }
     requires some { 0 < blank.parts }
 {
     let mut steps = new_steps::<L>(blank);
-    let mut buf = buf_of(alloc, Ty::Short, &[0, 0, 8], &mut steps)?;
-    let mut into = buf_of(alloc, Ty::Short, &[1, 1, 1], &mut steps)?;
-    buf_set(&mut buf, 1, 7, &mut steps);
-    scatter(&mut buf, &[Some(1), Some(1), None], &[5, 6, 7], &mut steps);
-    let Ok(dims) = dims_of(alloc, &[3]) else {
-        return Err(NoMemory);
-    };
-    let window = strided(&buf, &whole_triple(alloc, &dims));
-    gather(&window, &[Some(2), None, Some(1)], &mut into, &mut steps);
-    Ok([
-        buf_get(&buf, 1),
-        buf_get(&into, 0),
-        buf_get(&into, 1),
-        buf_get(&into, 2),
-    ])
+    let mut buf = buf_of(alloc, Ty::Short, &[0, 0, 8], &mut steps).expect(rt, "memory");
+    put(rt, &mut buf, &mut steps);
+    gather_whole(rt, alloc, &buf, &mut steps);
 }
 
 #[test]
-fn moves(rt: HostRuntime) -> Result<(), Fail> {
-    let found = moved::<Brand>(rt.alloc(), Blank::new(1))?;
-    assert_eq!(rt; found, [6, 8, 0, 6]);
-    Ok(())
+fn moves(rt: HostRuntime) {
+    let rt = &rt;
+    moved::<Brand>(rt, rt.alloc(), Blank::new(1));
 }
 
-// A plane of two columns and three rows, with its columns as rows.
-fn turned<'a>(alloc: Global, buf: &'a Buf, dims: &Dims) -> Strided<'a>
-    requires count { length buf.now.elems ≡ 6 }
-    requires sizes { dims.now ≡ 3 ∷ 2 ∷ [] }
-    ensures { length result.elems ≡ 6 }
-{
-    strided(buf, &triple_of(alloc, 0, &[2, 1], dims))
-}
-
-// The place of the fifth element of such a plane.
+// The place of the fifth element of a plane of two columns and three rows, with its columns as rows.
 fn turned_place(alloc: Global, dims: &Dims) -> u32
     requires { dims.now ≡ 3 ∷ 2 ∷ [] }
 {
@@ -58,10 +76,10 @@ fn turned_place(alloc: Global, dims: &Dims) -> u32
 }
 
 #[test]
-fn places_positions(rt: HostRuntime) -> Result<(), Fail> {
-    let plane = shape(rt.alloc(), &[3, 2])?;
-    assert_eq!(rt; turned_place(rt.alloc(), &plane), 3);
-    Ok(())
+fn places_positions(rt: HostRuntime) {
+    let rt = &rt;
+    let plane = shape(rt, rt.alloc(), &[3, 2]);
+    same(rt, turned_place(rt.alloc(), &plane), 3);
 }
 
 // Six elements from the last to the first.
@@ -92,120 +110,99 @@ fn four(window: &Strided<'_>, first: u32) -> [i64; 4]
     block
 }
 
-// Blocks of the numbers from 1 to 6, turned and reversed.
-fn blocks<L: Ledger>(alloc: Global, blank: Blank) -> Result<[[i64; 4]; 2], NoMemory>
+#[test]
+fn reads_turned_blocks(rt: HostRuntime) {
+    let rt = &rt;
+    let buf = numbers(rt, rt.alloc(), Ty::Byte, &[1, 2, 3, 4, 5, 6]);
+    let plane = shape(rt, rt.alloc(), &[3, 2]);
+    same(rt, four(&turned(rt.alloc(), &buf, &plane), 1), [3, 5, 2, 4]);
+}
+
+#[test]
+fn reads_reversed_blocks(rt: HostRuntime) {
+    let rt = &rt;
+    let buf = numbers(rt, rt.alloc(), Ty::Byte, &[1, 2, 3, 4, 5, 6]);
+    let row = shape(rt, rt.alloc(), &[6]);
+    same(rt, four(&reversed(rt.alloc(), &buf, &row), 2), [4, 3, 2, 1]);
+}
+
+// The places 2, none and 0 of every second of the numbers from 1 to 6 are gathered.
+fn gather_stepped<L: Ledger>(
+    rt: &impl Abort,
+    window: &Strided<'_>,
+    into: &mut Buf,
+    steps: &mut Steps<L>,
+)
+    requires count { length window.now.elems ≡ 3 }
+    requires three { length into.old.elems ≡ 3 }
+    requires kind { window.now.ty ≡ into.old.ty }
+{
+    gather(window, &[Some(2), None, Some(0)], into, steps);
+    tick(steps);
+    keeps(rt, into, [6, 0, 2]);
+}
+
+fn gathered_by_steps<L: Ledger>(rt: &impl Abort, alloc: Global, blank: Blank)
     requires name { blank.name ≡ L.name }
     requires parts { blank.parts ≡ L.parts }
     requires some { 0 < blank.parts }
 {
     let mut steps = new_steps::<L>(blank);
-    let buf = buf_of(alloc, Ty::Byte, &[1, 2, 3, 4, 5, 6], &mut steps)?;
-    let plane = shape(alloc, &[3, 2])?;
-    let row = shape(alloc, &[6])?;
-    Ok([
-        four(&turned(alloc, &buf, &plane), 1),
-        four(&reversed(alloc, &buf, &row), 2),
-    ])
+    let buf = buf_of(alloc, Ty::Byte, &[1, 2, 3, 4, 5, 6], &mut steps).expect(rt, "memory");
+    let mut into = buf_of(alloc, Ty::Byte, &[9, 9, 9], &mut steps).expect(rt, "memory");
+    let window = stepped(alloc, &buf, &shape(rt, alloc, &[3]));
+    gather_stepped(rt, &window, &mut into, &mut steps);
 }
 
 #[test]
-fn reads_blocks(rt: HostRuntime) -> Result<(), Fail> {
-    let found = blocks::<Brand>(rt.alloc(), Blank::new(1))?;
-    assert_eq!(rt; found[0], [3, 5, 2, 4]);
-    assert_eq!(rt; found[1], [4, 3, 2, 1]);
-    Ok(())
+fn gathers_by_steps(rt: HostRuntime) {
+    let rt = &rt;
+    gathered_by_steps::<Brand>(rt, rt.alloc(), Blank::new(1));
 }
 
-// An element of a stepped window on the numbers from 1 to 6, and what two
-// places and none of it show.
-fn elements<L: Ledger>(alloc: Global, blank: Blank) -> Result<[i64; 4], NoMemory>
-    requires name { blank.name ≡ L.name }
-    requires parts { blank.parts ≡ L.parts }
-    requires some { 0 < blank.parts }
+// The window is of three bytes, of which the second is 4.
+fn is_described(rt: &impl Abort, window: &Strided<'_>)
+    requires { 1 < length window.now.elems }
 {
-    let mut steps = new_steps::<L>(blank);
-    let buf = buf_of(alloc, Ty::Byte, &[1, 2, 3, 4, 5, 6], &mut steps)?;
-    let mut into = buf_of(alloc, Ty::Byte, &[9, 9, 9], &mut steps)?;
-    let three = shape(alloc, &[3])?;
-    let window = stepped(alloc, &buf, &three);
-    gather(&window, &[Some(2), None, Some(0)], &mut into, &mut steps);
-    tick(&mut steps);
-    Ok([
-        strided_get(&window, 1),
-        buf_get(&into, 0),
-        buf_get(&into, 1),
-        buf_get(&into, 2),
-    ])
+    same(rt, strided_get(window, 1), 4);
+    same(rt, strided_type(window), Ty::Byte);
+    same_list(rt, dims_list(strided_dims(window)), &[3]);
 }
 
 #[test]
-fn reads_elements(rt: HostRuntime) -> Result<(), Fail> {
-    let found = elements::<Brand>(rt.alloc(), Blank::new(1))?;
-    assert_eq!(rt; found, [4, 6, 0, 2]);
-    Ok(())
+fn describes_windows(rt: HostRuntime) {
+    let rt = &rt;
+    let buf = numbers(rt, rt.alloc(), Ty::Byte, &[1, 2, 3, 4, 5, 6]);
+    let three = shape(rt, rt.alloc(), &[3]);
+    is_described(rt, &stepped(rt.alloc(), &buf, &three));
 }
 
-// The type and the sizes of a stepped window.
-fn described<L: Ledger>(alloc: Global, blank: Blank) -> Result<(Ty, usize, u32), NoMemory>
-    requires name { blank.name ≡ L.name }
-    requires parts { blank.parts ≡ L.parts }
-    requires some { 0 < blank.parts }
+// Four elements of three in a column over a plane, from the second on.
+fn stretched_block(alloc: Global, buf: &Buf, column: &Dims, plane: &Dims) -> [i64; 4]
+    requires count { length buf.now.elems ≡ 3 }
+    requires column { column.now ≡ 1 ∷ 3 ∷ [] }
+    requires plane { plane.now ≡ 2 ∷ 3 ∷ [] }
 {
-    let mut steps = new_steps::<L>(blank);
-    let buf = buf_of(alloc, Ty::Byte, &[1, 2, 3, 4, 5, 6], &mut steps)?;
-    let three = shape(alloc, &[3])?;
-    let window = stepped(alloc, &buf, &three);
-    let dims = strided_dims(&window);
-    Ok((
-        strided_type(&window),
-        dims_list(dims).len(),
-        elements_of(dims),
-    ))
+    let window = strided(buf, &whole_triple(alloc, column));
+    four(&stretched(&window, plane), 1)
 }
 
 #[test]
-fn describes_windows(rt: HostRuntime) -> Result<(), Fail> {
-    let found = described::<Brand>(rt.alloc(), Blank::new(1))?;
-    assert_eq!(rt; found, (Ty::Byte, 1, 3));
-    Ok(())
-}
-
-// Three elements in a column over a plane.
-fn over<L: Ledger>(alloc: Global, blank: Blank) -> Result<[i64; 4], NoMemory>
-    requires name { blank.name ≡ L.name }
-    requires parts { blank.parts ≡ L.parts }
-    requires some { 0 < blank.parts }
-{
-    let mut steps = new_steps::<L>(blank);
-    let buf = buf_of(alloc, Ty::Byte, &[7, 8, 9], &mut steps)?;
-    let column = shape(alloc, &[1, 3])?;
-    let plane = shape(alloc, &[2, 3])?;
-    let window = strided(&buf, &whole_triple(alloc, &column));
-    let wide = stretched(&window, &plane);
-    Ok(four(&wide, 1))
+fn stretches(rt: HostRuntime) {
+    let rt = &rt;
+    let buf = numbers(rt, rt.alloc(), Ty::Byte, &[7, 8, 9]);
+    let column = shape(rt, rt.alloc(), &[1, 3]);
+    let plane = shape(rt, rt.alloc(), &[2, 3]);
+    same(
+        rt,
+        stretched_block(rt.alloc(), &buf, &column, &plane),
+        [7, 8, 8, 9],
+    );
 }
 
 #[test]
-fn stretches(rt: HostRuntime) -> Result<(), Fail> {
-    let found = over::<Brand>(rt.alloc(), Blank::new(1))?;
-    assert_eq!(rt; found, [7, 8, 8, 9]);
-    Ok(())
-}
-
-// The bytes of 1 and -2 at type short.
-fn lent<L: Ledger>(alloc: Global, blank: Blank) -> Result<Vec<u8>, NoMemory>
-    requires name { blank.name ≡ L.name }
-    requires parts { blank.parts ≡ L.parts }
-    requires some { 0 < blank.parts }
-{
-    let mut steps = new_steps::<L>(blank);
-    let buf = buf_of(alloc, Ty::Short, &[1, -2], &mut steps)?;
-    buf_bytes(&buf).to_vec(alloc)
-}
-
-#[test]
-fn lends_bytes(rt: HostRuntime) -> Result<(), Fail> {
-    let bytes = lent::<Brand>(rt.alloc(), Blank::new(1))?;
-    assert_eq!(rt; bytes.as_slice(), [0x01, 0x00, 0xFE, 0xFF].as_slice());
-    Ok(())
+fn lends_bytes(rt: HostRuntime) {
+    let rt = &rt;
+    let buf = numbers(rt, rt.alloc(), Ty::Short, &[1, -2]);
+    same_list(rt, buf_bytes(&buf), &[0x01, 0x00, 0xFE, 0xFF]);
 }

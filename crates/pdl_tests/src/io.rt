@@ -1,77 +1,99 @@
+//! Each call once, with sources and sinks in memory and over a reader and a writer that fail.
+ghost use Rattle.std.specs.Prelude.{◌≤◌};
+
+use crate::comparing::{same, same_list};
 use pdl_io::*;
+use std::alloc::Global;
 use std::cell::Cell;
 use std::io::{self, ErrorKind, Read, Write};
-use std::test::Fail;
+use std::process::Abort;
 
-#[test]
-fn a_source_in_memory_gives_its_bytes(rt: HostRuntime) -> Result<(), Fail> {
-    let bytes = Vec::from_slice(rt.alloc(), b"abcdefg")?;
-    let failing = Vec::from_slice(rt.alloc(), &[1])?;
-    let mut source = MemSource::new(bytes, 3, failing);
-    // The length of the piece, the answer, and the bytes that came.
-    let reads: [(usize, Result<usize, Failed>, &[u8]); 6] = [
-        (2, Ok(2), b"ab"),
-        (2, Err(Failed), b""),
-        (5, Ok(3), b"cde"),
-        (0, Ok(0), b""),
-        (5, Ok(2), b"fg"),
-        (5, Ok(0), b""),
-    ];
-    for (size, answer, came) in reads {
-        let mut piece = Vec::from_elem(rt.alloc(), b'.', size)?;
-        let got = source.read(&mut piece);
-        assert_eq!(rt; got, answer, "at a piece of {size}");
-        assert!(rt; piece.starts_with(came), "at a piece of {size}");
-    }
-    Ok(())
+// A read with a piece of this length answers this, and these bytes come.
+fn reads(
+    rt: &impl Abort,
+    alloc: Global,
+    source: &mut MemSource,
+    size: usize,
+    answer: Result<usize, Failed>,
+    came: &[u8],
+) {
+    let mut piece = Vec::from_elem(alloc, b'.', size).expect(rt, "memory");
+    same(rt, source.read(&mut piece), answer);
+    assert!(rt; piece.starts_with(came));
 }
 
 #[test]
-fn a_sink_in_memory_takes_and_fails(rt: HostRuntime) -> Result<(), Fail> {
-    let failing = Vec::from_slice(rt.alloc(), &[1])?;
-    let mut sink = MemSink::with_room(rt.alloc(), 5, 2, failing)?;
-    assert_eq!(rt; sink.write(b"abc"), Ok(2));
-    assert_eq!(rt; sink.flush(), Err(Failed), "the list");
-    assert_eq!(rt; sink.write(b"cde"), Ok(2));
-    assert_eq!(rt; sink.write(b"ef"), Err(Failed), "past the room");
-    assert_eq!(rt; sink.bytes(), b"abcd".as_slice());
-    assert_eq!(rt; sink.write(b"e"), Ok(1));
-    assert_eq!(rt; sink.write(b""), Ok(0));
-    assert_eq!(rt; sink.flush(), Ok(()));
-    assert_eq!(rt; sink.bytes(), b"abcde".as_slice());
-    assert_eq!(rt; sink.faults(), 2);
-    Ok(())
+fn a_source_in_memory_gives_its_bytes(rt: HostRuntime) {
+    let rt = &rt;
+    let alloc = rt.alloc();
+    let bytes = Vec::from_slice(alloc, b"abcdefg").expect(rt, "memory");
+    let failing = Vec::from_slice(alloc, &[1]).expect(rt, "memory");
+    let mut source = MemSource::new(bytes, 3, failing);
+    reads(rt, alloc, &mut source, 2, Ok(2), b"ab");
+    reads(rt, alloc, &mut source, 2, Err(Failed), b"");
+    reads(rt, alloc, &mut source, 5, Ok(3), b"cde");
+    reads(rt, alloc, &mut source, 0, Ok(0), b"");
+    reads(rt, alloc, &mut source, 5, Ok(2), b"fg");
+    reads(rt, alloc, &mut source, 5, Ok(0), b"");
+}
+
+#[test]
+fn a_sink_in_memory_takes_and_fails(rt: HostRuntime) {
+    let rt = &rt;
+    let failing = Vec::from_slice(rt.alloc(), &[1]).expect(rt, "memory");
+    let mut sink = MemSink::with_room(rt.alloc(), 5, 2, failing).expect(rt, "memory");
+    same(rt, sink.write(b"abc"), Ok(2));
+    // the list
+    same(rt, sink.flush(), Err(Failed));
+    same(rt, sink.write(b"cde"), Ok(2));
+    // past the room
+    same(rt, sink.write(b"ef"), Err(Failed));
+    same_list(rt, sink.bytes(), b"abcd");
+    same(rt, sink.write(b"e"), Ok(1));
+    same(rt, sink.write(b""), Ok(0));
+    same(rt, sink.flush(), Ok(()));
+    same_list(rt, sink.bytes(), b"abcde");
+    same(rt, sink.faults(), 2);
 }
 
 #[test]
 fn a_sink_counts(rt: HostRuntime) {
+    let rt = &rt;
     let mut sink = CountSink::new();
-    assert_eq!(rt; sink.write(b"[60 382 430 "), Ok(12));
-    assert_eq!(rt; sink.write(b""), Ok(0));
-    assert_eq!(rt; sink.write(b"478]\n"), Ok(5));
-    assert_eq!(rt; sink.flush(), Ok(()));
-    assert_eq!(rt; sink.count(), 17);
-    assert_eq!(rt; sink.sum(), 863);
+    same(rt, sink.write(b"[60 382 430 "), Ok(12));
+    same(rt, sink.write(b""), Ok(0));
+    same(rt, sink.write(b"478]\n"), Ok(5));
+    same(rt, sink.flush(), Ok(()));
+    same(rt, sink.count(), 17);
+    same(rt, sink.sum(), 863);
+}
+
+// Where a write takes at most so many bytes and these calls fail, `hello` is answered so, and so
+// much of it is taken.
+fn writes(
+    rt: &impl Abort,
+    alloc: Global,
+    most: usize,
+    failing: &[u64],
+    answer: Result<(), Failed>,
+    taken: &[u8],
+)
+    requires { 1 ≤ most }
+{
+    let failing = Vec::from_slice(alloc, failing).expect(rt, "memory");
+    let mut sink = MemSink::with_room(alloc, 8, most, failing).expect(rt, "memory");
+    same(rt, write_all(&mut sink, b"hello"), answer);
+    same_list(rt, sink.bytes(), taken);
 }
 
 #[test]
-fn a_text_is_written_whole_or_in_part(rt: HostRuntime) -> Result<(), Fail> {
-    // How many bytes a write takes, the calls that fail, the answer, and what was taken.
-    let texts: [(usize, &[u64], Result<(), Failed>, &[u8]); 4] = [
-        (1, &[], Ok(()), b"hello"),
-        (2, &[], Ok(()), b"hello"),
-        (2, &[2], Err(Failed), b"hell"),
-        (9, &[0], Err(Failed), b""),
-    ];
-    for (most, failing, answer, taken) in texts {
-        let failing = Vec::from_slice(rt.alloc(), failing)?;
-        if most > 0 {
-            let mut sink = MemSink::with_room(rt.alloc(), 8, most, failing)?;
-            assert_eq!(rt; write_all(&mut sink, b"hello"), answer, "at most {most}");
-            assert_eq!(rt; sink.bytes(), taken, "at most {most}");
-        }
-    }
-    Ok(())
+fn a_text_is_written_whole_or_in_part(rt: HostRuntime) {
+    let rt = &rt;
+    let alloc = rt.alloc();
+    writes(rt, alloc, 1, &[], Ok(()), b"hello");
+    writes(rt, alloc, 2, &[], Ok(()), b"hello");
+    writes(rt, alloc, 2, &[2], Err(Failed), b"hell");
+    writes(rt, alloc, 9, &[0], Err(Failed), b"");
 }
 
 // What was asked of a reader or a writer: how many reads or writes, how long
@@ -146,62 +168,62 @@ impl Write for Slow<'_> {
 }
 
 #[test]
-fn a_reader_is_a_source(rt: HostRuntime) -> Result<(), Fail> {
+fn a_reader_is_a_source(rt: HostRuntime) {
+    let rt = &rt;
     let mut piece = [b'.'; 4];
     let asked = Asked::nothing();
     let mut source = ReadSource::new(Stumbling { asked: &asked });
-    assert_eq!(rt; source.read(&mut piece), Ok(1));
-    assert_eq!(rt; asked.calls.get(), 1, "one read is one of the reader");
-    assert_eq!(rt; asked.length.get(), 4, "the whole piece is passed on");
-    assert_eq!(rt; source.read(&mut piece), Err(Failed));
-    assert_eq!(rt;
-        asked.calls.get(),
-        2,
-        "a read that failed isn't tried again"
-    );
-    assert_eq!(rt; source.read(&mut piece), Ok(1));
-    assert_eq!(rt; piece.as_slice(), b"x...".as_slice());
+    same(rt, source.read(&mut piece), Ok(1));
+    // one read is one of the reader, and the whole piece is passed on
+    same(rt, asked.calls.get(), 1);
+    same(rt, asked.length.get(), 4);
+    // a read that failed isn't tried again
+    same(rt, source.read(&mut piece), Err(Failed));
+    same(rt, asked.calls.get(), 2);
+    same(rt, source.read(&mut piece), Ok(1));
+    same_list(rt, &piece, b"x...");
+}
+
+#[test]
+fn a_list_is_a_source(rt: HostRuntime) {
+    let rt = &rt;
+    let mut piece = [b'.'; 4];
     let mut source = ReadSource::new(b"ab".as_slice());
-    assert_eq!(rt; source.read(&mut piece), Ok(2));
-    assert_eq!(rt; source.read(&mut piece), Ok(0));
-    assert_eq!(rt; piece.as_slice(), b"ab..".as_slice());
-    Ok(())
+    same(rt, source.read(&mut piece), Ok(2));
+    same(rt, source.read(&mut piece), Ok(0));
+    same_list(rt, &piece, b"ab..");
 }
 
 #[test]
-fn a_writer_is_a_sink(rt: HostRuntime) -> Result<(), Fail> {
+fn a_writer_is_a_sink(rt: HostRuntime) {
+    let rt = &rt;
     let asked = Asked::nothing();
     let mut sink = WriteSink::new(Slow { asked: &asked });
-    assert_eq!(rt; sink.write(b"hello"), Ok(4));
-    assert_eq!(rt; asked.calls.get(), 1, "one write is one of the writer");
-    assert_eq!(rt; asked.length.get(), 5, "the whole piece is passed on");
-    assert_eq!(rt; sink.write(b"hello"), Err(Failed), "nothing was taken");
-    assert_eq!(rt; sink.write(b"hello"), Err(Failed));
-    assert_eq!(rt; sink.write(b""), Ok(0));
-    assert_eq!(rt;
-        asked.calls.get(),
-        4,
-        "a write that failed isn't tried again"
-    );
-    assert_eq!(rt; asked.flushes.get(), 0);
-    assert_eq!(rt; sink.flush(), Ok(()));
-    assert_eq!(rt; asked.flushes.get(), 1, "the flush is passed on");
-    assert_eq!(rt; sink.flush(), Err(Failed));
-    assert_eq!(rt;
-        asked.flushes.get(),
-        2,
-        "a flush that failed isn't tried again"
-    );
-    Ok(())
+    same(rt, sink.write(b"hello"), Ok(4));
+    // one write is one of the writer, and the whole piece is passed on
+    same(rt, asked.calls.get(), 1);
+    same(rt, asked.length.get(), 5);
+    // nothing was taken, and then a write failed: neither is tried again
+    same(rt, sink.write(b"hello"), Err(Failed));
+    same(rt, sink.write(b"hello"), Err(Failed));
+    same(rt, sink.write(b""), Ok(0));
+    same(rt, asked.calls.get(), 4);
+    // a flush is passed on, and one that failed isn't tried again
+    same(rt, asked.flushes.get(), 0);
+    same(rt, sink.flush(), Ok(()));
+    same(rt, asked.flushes.get(), 1);
+    same(rt, sink.flush(), Err(Failed));
+    same(rt, asked.flushes.get(), 2);
 }
 
 #[test]
-fn a_text_ends_at_a_failed_write(rt: HostRuntime) -> Result<(), Fail> {
+fn a_text_ends_at_a_failed_write(rt: HostRuntime) {
+    let rt = &rt;
     let asked = Asked::nothing();
     let mut sink = WriteSink::new(Slow { asked: &asked });
-    assert_eq!(rt; write_all(&mut sink, b"hello, world"), Err(Failed));
-    assert_eq!(rt; asked.calls.get(), 2, "no write follows the failed one");
-    assert_eq!(rt; asked.length.get(), 8, "all that is left is passed on");
-    assert_eq!(rt; asked.flushes.get(), 0);
-    Ok(())
+    same(rt, write_all(&mut sink, b"hello, world"), Err(Failed));
+    // no write follows the failed one, and all that is left is passed on
+    same(rt, asked.calls.get(), 2);
+    same(rt, asked.length.get(), 8);
+    same(rt, asked.flushes.get(), 0);
 }

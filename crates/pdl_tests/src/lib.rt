@@ -3,17 +3,15 @@
 #![tactic(auto)]
 
 #[cfg(test)]
-mod affine;
-#[cfg(test)]
 mod arrays;
 #[cfg(test)]
 mod broadcast;
 #[cfg(test)]
 mod buf;
 #[cfg(test)]
-mod choice;
-#[cfg(test)]
 mod code;
+#[cfg(test)]
+mod comparing;
 #[cfg(test)]
 mod elem;
 #[cfg(test)]
@@ -33,8 +31,4 @@ mod reduce;
 #[cfg(test)]
 mod shape;
 #[cfg(test)]
-mod shell;
-#[cfg(test)]
 mod sig;
-#[cfg(test)]
-mod slices;

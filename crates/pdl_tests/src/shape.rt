@@ -1,125 +1,167 @@
 //! Cases whose answers come from outside: NumPy's `ravel_multi_index` and `unravel_index` in
 //! Fortran order, its `broadcast_shapes` on reversed shapes, and products by hand.
-ghost use Rattle.std.specs.Prelude.{◌≡◌};
+ghost use Rattle.std.specs.Prelude.{◌≡◌, [], ◌∷◌};
 
+use crate::arrays::shape;
+use crate::comparing::{same, same_list};
 use pdl_shape::*;
 use std::alloc::Global;
 use std::process::Abort;
-use std::test::Fail;
-
-fn dims(rt: &impl Abort, alloc: Global, sizes: &[u32]) -> Dims
-    ensures { result ≡ sizes.now }
-{
-    dims_of(alloc, sizes).expect(rt, "dimensions")
-}
 
 #[test]
 fn sizes(rt: HostRuntime) {
-    for (sizes, want) in [
-        ([].as_slice(), Some(1)),
-        ([3, 2].as_slice(), Some(6)),
-        ([5, 0, 7].as_slice(), Some(0)),
-        ([1_048_576].as_slice(), Some(1_048_576)),
-        ([1_048_577].as_slice(), None),
-        ([1024, 1025, 0].as_slice(), None),
-        ([65_536, 65_536].as_slice(), None),
-    ] {
-        assert_eq!(rt; size(sizes), want);
-    }
+    let rt = &rt;
+    same(rt, size(&[]), Some(1));
+    same(rt, size(&[3, 2]), Some(6));
+    same(rt, size(&[5, 0, 7]), Some(0));
+    same(rt, size(&[1_048_576]), Some(1_048_576));
+    same(rt, size(&[1_048_577]), None);
+    same(rt, size(&[1024, 1025, 0]), None);
+    same(rt, size(&[65_536, 65_536]), None);
 }
 
 #[test]
 fn limits(rt: HostRuntime) {
+    let rt = &rt;
     let alloc = rt.alloc();
-    assert!(rt; dims_of(alloc, &[1; 16]).is_ok());
-    assert!(rt; matches!(dims_of(alloc, &[2000; 17]), Err(ShapeFault::TooManyDims)));
-    assert!(rt; matches!(dims_of(alloc, &[1024, 1025, 0]), Err(ShapeFault::TooLarge)));
+    same(rt, dims_of(alloc, &[1; 16]).err(), None);
+    same(
+        &rt,
+        &dims_of(alloc, &[2000; 17]).err(),
+        &Some(ShapeFault::TooManyDims),
+    );
+    same(
+        &rt,
+        &dims_of(alloc, &[1024, 1025, 0]).err(),
+        &Some(ShapeFault::TooLarge),
+    );
 }
 
 #[test]
-fn copies(rt: HostRuntime) -> Result<(), Fail> {
-    let three = dims(&rt, rt.alloc(), &[4, 3, 2]);
-    assert_eq!(rt; elements_of(&three), 24);
-    assert_eq!(rt; dims_list(&copy_dims(&three)), [4, 3, 2].as_slice());
-    assert_eq!(rt; dims_list(&three.clone()?), [4, 3, 2].as_slice());
-    Ok(())
+fn copies(rt: HostRuntime) {
+    let rt = &rt;
+    let three = shape(rt, rt.alloc(), &[4, 3, 2]);
+    same(rt, elements_of(&three), 24);
+    same_list(rt, dims_list(&copy_dims(&three)), &[4, 3, 2]);
+    same_list(
+        &rt,
+        dims_list(&three.clone().expect(rt, "memory")),
+        &[4, 3, 2],
+    );
 }
 
 #[test]
 fn numbers_from_the_end(rt: HostRuntime) {
-    assert_eq!(rt; from_end(-1, 5), Some(4));
-    assert_eq!(rt; clump_count(-1, 3), Some(3));
+    let rt = &rt;
+    same(rt, from_end(-1, 5), Some(4));
+    same(rt, clump_count(-1, 3), Some(3));
     shape_laws();
 }
 
 #[test]
-fn positions_and_coordinates(rt: HostRuntime) {
+fn positions(rt: HostRuntime) {
+    let rt = &rt;
     let alloc = rt.alloc();
-    let three = dims(&rt, alloc, &[4, 3, 2]);
-    assert_eq!(rt; position(&three, &[1, 2, 1]), 21);
-    assert_eq!(rt; place(&whole_triple(alloc, &three), &[1, 2, 1]), 21);
-    assert_eq!(rt; position(&dims(&rt, alloc, &[2, 3]), &[1, 0]), 1);
-    assert_eq!(rt; position(&dims(&rt, alloc, &[]), &[]), 0);
-    assert_eq!(rt;
+    let three = shape(rt, alloc, &[4, 3, 2]);
+    same(rt, position(&three, &[1, 2, 1]), 21);
+    same(rt, place(&whole_triple(alloc, &three), &[1, 2, 1]), 21);
+    same(rt, position(&shape(rt, alloc, &[2, 3]), &[1, 0]), 1);
+    same(rt, position(&shape(rt, alloc, &[]), &[]), 0);
+}
+
+#[test]
+fn coordinates_of_positions(rt: HostRuntime) {
+    let rt = &rt;
+    let alloc = rt.alloc();
+    let three = shape(rt, alloc, &[4, 3, 2]);
+    same_list(
+        &rt,
         coords_list(&coordinates(alloc, &three, 21)),
-        [1, 2, 1].as_slice()
+        &[1, 2, 1],
     );
-    assert_eq!(rt;
+    same_list(
+        &rt,
         coords_list(&coordinates(alloc, &three, 10)),
-        [2, 2, 0].as_slice()
+        &[2, 2, 0],
     );
+}
+
+// Two arrays of these sizes join to this.
+fn joins_to(rt: &impl Abort, alloc: Global, one: &[u32], other: &[u32], want: &[u32]) {
+    let joined = join_dims(alloc, &shape(rt, alloc, one), &shape(rt, alloc, other));
+    same_list(rt, dims_list(&joined.expect(rt, "dimensions")), want);
 }
 
 #[test]
 fn joins(rt: HostRuntime) {
+    let rt = &rt;
     let alloc = rt.alloc();
-    for (a, b, want) in [
-        ([2, 3].as_slice(), [1, 3].as_slice(), Ok([2, 3].as_slice())),
-        ([].as_slice(), [5].as_slice(), Ok([5].as_slice())),
-        (
-            [2, 3].as_slice(),
-            [2, 1, 2].as_slice(),
-            Ok([2, 3, 2].as_slice()),
-        ),
-        ([0].as_slice(), [1].as_slice(), Ok([0].as_slice())),
-        ([0].as_slice(), [2].as_slice(), Err(ShapeFault::Mismatch)),
-        ([3].as_slice(), [2].as_slice(), Err(ShapeFault::Mismatch)),
-        (
-            [1024, 1, 3].as_slice(),
-            [1, 1025, 2].as_slice(),
-            Err(ShapeFault::Mismatch),
-        ),
-        (
-            [1024].as_slice(),
-            [1, 1025].as_slice(),
-            Err(ShapeFault::TooLarge),
-        ),
-    ] {
-        let joined = join_dims(alloc, &dims(&rt, alloc, a), &dims(&rt, alloc, b));
-        match joined {
-            Ok(joined) => assert!(rt; want.is_ok_and(|sizes| sizes == dims_list(&joined))),
-            Err(fault) => assert!(rt; want.is_err_and(|named| named == fault)),
-        }
-    }
+    joins_to(rt, alloc, &[2, 3], &[1, 3], &[2, 3]);
+    joins_to(rt, alloc, &[], &[5], &[5]);
+    joins_to(rt, alloc, &[2, 3], &[2, 1, 2], &[2, 3, 2]);
+    joins_to(rt, alloc, &[0], &[1], &[0]);
+}
+
+// Two arrays of these sizes don't join.
+fn parts(rt: &impl Abort, alloc: Global, one: &[u32], other: &[u32], fault: ShapeFault) {
+    let joined = join_dims(alloc, &shape(rt, alloc, one), &shape(rt, alloc, other));
+    same(rt, joined.err(), Some(fault));
+}
+
+#[test]
+fn refuses_to_join(rt: HostRuntime) {
+    let rt = &rt;
+    let alloc = rt.alloc();
+    parts(rt, alloc, &[0], &[2], ShapeFault::Mismatch);
+    parts(rt, alloc, &[3], &[2], ShapeFault::Mismatch);
+    parts(
+        &rt,
+        alloc,
+        &[1024, 1, 3],
+        &[1, 1025, 2],
+        ShapeFault::Mismatch,
+    );
+    parts(rt, alloc, &[1024], &[1, 1025], ShapeFault::TooLarge);
+}
+
+// The triple has this offset, these increments and these sizes.
+fn is_triple(rt: &impl Abort, triple: &Triple, offset: u32, incs: &[i32], sizes: &[u32]) {
+    same(rt, triple.offset, offset);
+    same_list(rt, incs_list(&copy_incs(&triple.incs)), incs);
+    same_list(rt, dims_list(&triple.dims), sizes);
 }
 
 #[test]
 fn windows(rt: HostRuntime) {
-    let alloc = rt.alloc();
-    let whole = whole_triple(alloc, &dims(&rt, alloc, &[2, 3]));
-    let again = triple_of(alloc, whole.offset, incs_list(&whole.incs), &whole.dims);
-    let copy = copy_triple(&again);
-    assert_eq!(rt; copy.offset, 0);
-    assert_eq!(rt; incs_list(&copy_incs(&copy.incs)), [1, 2].as_slice());
-    assert_eq!(rt; dims_list(&copy.dims), [2, 3].as_slice());
+    let rt = &rt;
+    let whole = whole_triple(rt.alloc(), &shape(rt, rt.alloc(), &[2, 3]));
+    let again = triple_of(
+        rt.alloc(),
+        whole.offset,
+        incs_list(&whole.incs),
+        &whole.dims,
+    );
+    is_triple(rt, &copy_triple(&again), 0, &[1, 2], &[2, 3]);
+}
+
+// Three elements as a row of one column, at every second place before the fifth.
+fn column(alloc: Global, dims: &Dims) -> Triple
+    requires { dims.now ≡ 1 ∷ 3 ∷ [] }
+    ensures { result.dims ≡ dims.now }
+{
+    triple_of(alloc, 4, &[0, -2], dims)
 }
 
 #[test]
 fn stretched_windows(rt: HostRuntime) {
-    let alloc = rt.alloc();
-    let window = triple_of(alloc, 4, &[0, -2], &dims(&rt, alloc, &[1, 3]));
-    let stretched = stretched_triple(&window, &dims(&rt, alloc, &[5, 3, 2]));
-    assert_eq!(rt; stretched.offset, 4);
-    assert_eq!(rt; incs_list(&stretched.incs), [0, -2, 0].as_slice());
-    assert_eq!(rt; dims_list(&stretched.dims), [5, 3, 2].as_slice());
+    let rt = &rt;
+    let window = column(rt.alloc(), &shape(rt, rt.alloc(), &[1, 3]));
+    let wide = shape(rt, rt.alloc(), &[5, 3, 2]);
+    is_triple(
+        rt,
+        &stretched_triple(&window, &wide),
+        4,
+        &[0, -2, 0],
+        &[5, 3, 2],
+    );
 }

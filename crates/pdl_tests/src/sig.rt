@@ -1,56 +1,61 @@
-//! One call each, with values worked by hand from the rules.
-use pdl_elem::Ty;
-use pdl_shape::{dims_list, dims_of};
+//! Each call once, with values worked by hand from the rules.
+use crate::arrays::shape;
+use crate::comparing::{same, same_list};
+use pdl_elem::{Name, Ty};
+use pdl_shape::{Dims, dims_list};
 use pdl_sig::*;
-use std::alloc::Global;
 use std::process::Abort;
-use std::test::Fail;
 
-fn shape(rt: &impl Abort, alloc: Global, ty: Ty, sizes: &[u32]) -> ArgShape {
-    let dims = dims_of(alloc, sizes).expect(rt, "dimensions");
-    ArgShape { ty, dims }
+// The second of three arguments: a temporary `b` of type long at least, over dimensions 0 and 1.
+fn is_temporary(rt: &impl Abort, args: &[SigArg]) {
+    assert!(rt; args.len() == 3);
+    same_list(rt, args[1].name.bytes(), b"b");
+    same(rt, args[1].role, Role::Temp);
+    same(rt, args[1].ty, ArgType::AtLeast(Ty::Long));
+    same_list(rt, args[1].dims.as_slice(), &[0, 1]);
+}
+
+// Two names, of which the second is `m`.
+fn is_m(rt: &impl Abort, names: &[Name]) {
+    assert!(rt; names.len() == 2);
+    same_list(rt, names[1].bytes(), b"m");
 }
 
 #[test]
 fn a_signature(rt: HostRuntime) {
-    let read = read_signature(rt.alloc(), b"a(n); int+ [t]b(n, m=3); [o]c(m)");
-    assert!(rt; read.is_ok());
-    let Ok(signature) = read else {
-        return;
-    };
-    let args = signature.args.as_slice();
-    assert_eq!(rt; args.len(), 3);
-    assert_eq!(rt; args[1].name.bytes(), b"b".as_slice());
-    assert!(rt; args[1].role == Role::Temp);
-    assert!(rt; args[1].ty == ArgType::AtLeast(Ty::Long));
-    assert_eq!(rt; args[1].dims.as_slice(), [0, 1].as_slice());
-    let names = signature.names.as_slice();
-    assert_eq!(rt; names.len(), 2);
-    assert_eq!(rt; names[1].bytes(), b"m".as_slice());
-    assert_eq!(rt; signature.fixed.as_slice(), [None, Some(3)].as_slice());
+    let rt = &rt;
+    let text = b"a(n); int+ [t]b(n, m=3); [o]c(m)";
+    let signature = read_signature(rt.alloc(), text).expect(rt, "a signature");
+    is_temporary(rt, signature.args.as_slice());
+    is_m(rt, signature.names.as_slice());
+    same_list(rt, signature.fixed.as_slice(), &[None, Some(3)]);
+}
+
+// The third of three arguments has these sizes.
+fn is_third(rt: &impl Abort, shapes: &[Dims], sizes: &[u32]) {
+    assert!(rt; shapes.len() == 3);
+    same_list(rt, dims_list(&shapes[2]), sizes);
 }
 
 #[test]
 fn a_call(rt: HostRuntime) {
+    let rt = &rt;
     let alloc = rt.alloc();
-    let read = read_signature(alloc, b"a(t,h); b(w,t); [o]c(w,h)");
-    assert!(rt; read.is_ok());
-    let Ok(matmult) = read else {
-        return;
-    };
+    let text = b"a(t,h); b(w,t); [o]c(w,h)";
+    let matmult = read_signature(alloc, text).expect(rt, "a signature");
     let given = [
-        shape(&rt, alloc, Ty::Byte, &[2, 3]),
-        shape(&rt, alloc, Ty::Short, &[4, 2, 5]),
+        ArgShape {
+            ty: Ty::Byte,
+            dims: shape(rt, alloc, &[2, 3]),
+        },
+        ArgShape {
+            ty: Ty::Short,
+            dims: shape(rt, alloc, &[4, 2, 5]),
+        },
     ];
-    let resolved = resolve(alloc, &matmult, &given);
-    assert!(rt; resolved.is_ok());
-    let Ok(resolved) = resolved else {
-        return;
-    };
-    assert!(rt; resolved.generic == Ty::Short);
-    assert_eq!(rt; resolved.sizes.as_slice(), [2, 3, 4].as_slice());
-    assert_eq!(rt; dims_list(&resolved.broadcast), [5].as_slice());
-    let shapes = resolved.shapes.as_slice();
-    assert_eq!(rt; shapes.len(), 3);
-    assert_eq!(rt; dims_list(&shapes[2]), [4, 3, 5].as_slice());
+    let resolved = resolve(alloc, &matmult, &given).expect(rt, "sizes");
+    same(rt, resolved.generic, Ty::Short);
+    same_list(rt, resolved.sizes.as_slice(), &[2, 3, 4]);
+    same_list(rt, dims_list(&resolved.broadcast), &[5]);
+    is_third(rt, resolved.shapes.as_slice(), &[4, 3, 5]);
 }

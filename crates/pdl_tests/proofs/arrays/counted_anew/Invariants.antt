@@ -1,4 +1,4 @@
-use Rattle.pdl_tests.proofs.arrays.numbers.Given as goal
+use Rattle.pdl_tests.proofs.arrays.counted_anew.Given as goal
 
 -- the ledger is the one that was made here
 abbrev pub ghosts-counted : goal.ghosts-counted
