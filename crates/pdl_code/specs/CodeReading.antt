@@ -204,7 +204,8 @@ chain_at inner l (suc k) t ts =
 module _ (f : Kind → List Lexeme → Read RawTree) where
   -- one index
   abbrev pub index_at : List Lexeme → Read RawIndices
-  index_at ts = option_and_then (λ w. option_map (λ x. (along w.0 x.0 none, x.1)) (f expression w.1))
+  index_at ts =
+      option_and_then (λ w. option_map (λ x. (along w.0 x.0 none, x.1)) (f expression w.1))
       (index_word ts)
 
   -- at most k indices
@@ -231,7 +232,8 @@ module _ (f : Kind → List Lexeme → Read RawTree) where
   element_at ts = option_map (λ x. (access x.0.0 x.0.1 x.0.2, x.1)) (access_at ts)
 
   abbrev pub round_at : List Lexeme → Read RawTree
-  round_at ts = option_and_then (λ x. option_map (λ us. (x.0, us)) (after_close x.1)) (f expression ts)
+  round_at ts =
+      option_and_then (λ x. option_map (λ us. (x.0, us)) (after_close x.1)) (f expression ts)
 
   abbrev pub name_first : List Lexeme → Read RawTree
   name_first ts = either (element_at ts) (λ x. Some (size x.0, x.1)) (size_at ts)

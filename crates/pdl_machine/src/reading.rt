@@ -30,8 +30,8 @@ pub fn run_laws()
 
 /// How far a run has come by the first bytes of a script: whatever bytes follow, it goes on
 /// from there (`goes_on`), and what it has printed by then is the front of all that it prints
-/// (`printed`); more bytes carry it on from there (`grows`), and bytes that make all of their
-/// statements settled run to their end (`all`). The call does nothing when it runs.
+/// (`printed`); more bytes carry it on from there (`grows`), and bytes that settle all of their
+/// statements run to their end (`all`). The call does nothing when it runs.
 pub fn so_far_laws()
     ensures goes_on { SoFarIsAFront }
     ensures printed { SoFarIsPrinted }

@@ -50,6 +50,9 @@ impl Collected {
         }
         self.packed.extend(&self.block)?;
         self.block.clear();
+        if numbers.len() < BLOCK {
+            return self.block.extend_from_slice(numbers);
+        }
         self.packed.extend(numbers)
     }
 
