@@ -1,10 +1,10 @@
 //! Resolving the names of statements. A declared word is visible to the end of its block.
-ghost use Rattle.std.specs.Prelude.{◌≡◌, ◌≤◌, ◌++◌, ◌∷◌, [], take, length, get_or, OnOk, IfErr, max};
+ghost use Rattle.std.specs.Prelude.{◌≡◌, ◌≤◌, ◌++◌, ◌∷◌, [], take, length, get_or, OnOk, IfOk, IfErr, Some, false, max};
 ghost use Rattle.pdl_code.specs.Raw.{declare as declare', set, put};
 ghost use Rattle.pdl_code.specs.RawOf.{raw_code, raw_indices, raw_of, raw_step};
-ghost use Rattle.pdl_code.specs.Refused.{answer, code_code, code_declares, code_wrongs, scope_after, step_declares, type_at};
+ghost use Rattle.pdl_code.specs.Refused.{answer, code_code, code_declares, code_wrongs, loop_wrong, or_zero, scope_after, step_declares, type_at};
 ghost use Rattle.pdl_code.specs.Resolving.{Agrees, resolve_code, resolve_step};
-ghost use Rattle.pdl_code.specs.Scope.{Scope, top};
+ghost use Rattle.pdl_code.specs.Scope.{Scope, bytes_of, dim_place, top};
 ghost use Rattle.pdl_code.specs.TreeOf.{code_of, step_of};
 
 use crate::build::{if_stmt, loop_stmt, with_stmt};
@@ -115,6 +115,31 @@ fn access_assignment(
     }
 }
 
+/// The dimension that a loop goes over.
+fn loop_dim(
+    source: &[u8],
+    signature: &Signature,
+    loops: &[bool; MOST],
+    word: Span,
+) -> Result<usize, KernelFault>
+    ensures gives { let place = dim_place signature.now (bytes_of source.now word) in
+        Agrees (λ d. d) result (answer (loop_wrong loops.now word place) (or_zero place)) }
+    ensures known { IfOk result (λ d.
+        dim_place signature.now (bytes_of source.now word) ≡ Some d) }
+    ensures unmarked { IfOk result (λ d. get_or loops.now d false ≡ false) }
+{
+    match dim(source, signature, word) {
+        None => Err(KernelFault::UnknownDim { at: word.from }),
+        Some(d) => {
+            if is_marked(loops, d) {
+                Err(KernelFault::NestedSame { at: word.from })
+            } else {
+                Ok(d)
+            }
+        }
+    }
+}
+
 /// One statement.
 #[cycle(block)]
 fn stmt(
@@ -132,20 +157,16 @@ fn stmt(
         (raw_step raw.now)) }
 {
     match raw {
-        RawStmt::Loop(word, body) => match dim(source, signature, *word) {
-            None => Err(KernelFault::UnknownDim { at: word.from }),
-            Some(d) => {
-                if is_marked(loops, d) {
-                    Err(KernelFault::NestedSame { at: word.from })
-                } else {
-                    let mut inner = *loops;
-                    mark(&mut inner, d);
-                    match block(alloc, source, signature, locals, &inner, body) {
-                        Ok(code) => Ok(loop_stmt(d, code)),
-                        Err(fault) => Err(fault),
-                    }
+        RawStmt::Loop(word, body) => match loop_dim(source, signature, loops, *word) {
+            Ok(d) => {
+                let mut inner = *loops;
+                mark(&mut inner, d);
+                match block(alloc, source, signature, locals, &inner, body) {
+                    Ok(code) => Ok(loop_stmt(d, code)),
+                    Err(fault) => Err(fault),
                 }
             }
+            Err(fault) => Err(fault),
         },
         RawStmt::If(expr, whole, other) => {
             match tree(alloc, source, signature, locals.as_slice(), loops, expr) {
