@@ -1,12 +1,10 @@
 -- Assigning values: the places of an array over its base, and the changes of rows one after the other.
-use Rattle.std.proofs.Common.{◌≡◌, ℕ, ℤ, ◌+◌, ◌<◌, Bool, true, false, eqb, cond, List, [], ◌∷◌, map, get_or, Option, Some, None, is_some, inl, inr, refl, sym, ◌∙◌, ap, subst, arith}
+use Rattle.std.proofs.Common.{◌≡◌, ℕ, ℤ, Bool, true, false, eqb, cond, List, [], ◌∷◌, map, Option, Some, None, is_some, inl, inr, refl, sym, ◌∙◌, ap, subst, arith}
 use Rattle.std.specs.List.{range_with_len}
-use Rattle.std.proofs.lemmas.Bool.{eqb-true}
 use Rattle.std.proofs.lemmas.Bool.Decides.{eqb_tells}
-use Rattle.std.proofs.lemmas.List.FromFn.{get_or-map-range_with_len, get_or-range_with_len}
+use Rattle.std.proofs.lemmas.List.FromFn.{get_or-map-range_with_len}
 use Rattle.pdl_shape.specs.Shape.{size_of}
 use Rattle.pdl_shape.specs.Triple.{Triple}
-use Rattle.pdl_buf.specs.Window.{place_at}
 use Rattle.pdl_nodes.specs.Rows.{Rows, row_at, has, each}
 use Rattle.pdl_nodes.specs.Assigned.{entry}
 use Rattle.pdl_nodes.specs.Changes.{kept_in, mark_in, wait_in}
@@ -14,7 +12,7 @@ use Rattle.pdl_nodes.specs.Known.{IsLiftable}
 use Rattle.pdl_nodes.specs.Late.{settle, await}
 use Rattle.pdl_nodes.specs.Placed.{placed, placed_by}
 use Rattle.pdl_nodes.specs.Spots.{spots, Below}
-use Rattle.pdl_nodes.specs.Still.{IsStill, IsWhole}
+use Rattle.pdl_nodes.specs.Still.{IsStill}
 use Rattle.pdl_nodes.specs.Families.{IsWaiting, InOrder}
 use Rattle.pdl_nodes.specs.Worlds.{places_of, IsRoot}
 use Rattle.pdl_nodes.proofs.Finds.{same}

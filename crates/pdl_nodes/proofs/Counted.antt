@@ -1,5 +1,5 @@
 -- How many views each array has, through the table's calls.
-use Rattle.std.proofs.Common.{◌≡◌, ◌≢◌, ℕ, ℤ, ◌+◌, ◌<◌, ◌||◌, eqb, true, false, List, [], ◌∷◌, Option, Some, None, nat_lt, inl, inr, refl, sym, ◌∙◌, ap, subst, arith}
+use Rattle.std.proofs.Common.{◌≡◌, ℕ, ℤ, ◌+◌, ◌<◌, ◌||◌, eqb, true, false, List, [], ◌∷◌, Option, Some, nat_lt, inl, inr, refl, sym, ◌∙◌, ap, subst, arith}
 use Rattle.std.proofs.lemmas.Bool.Decides.{eqb_tells, leb_tells}
 use Rattle.pdl_world.specs.Cut.{has_views}
 use Rattle.pdl_world.specs.Swept.{holds, parents}

@@ -1,5 +1,5 @@
 -- Letting arrays go whose holds were taken: what waits is written back, and what goes is removed.
-use Rattle.std.proofs.Common.{◌≡◌, ◌≢◌, ℕ, suc, zero, ◌+◌, ◌-◌, ◌<◌, ◌≤◌, ◌&&◌, ◌||◌, Bool, true, false, eqb, cond, List, [], ◌∷◌, Option, Some, None, is_some, inl, inr, refl, sym, ◌∙◌, ap, subst, arith}
+use Rattle.std.proofs.Common.{◌≡◌, ℕ, suc, zero, ◌+◌, ◌<◌, ◌≤◌, ◌||◌, Bool, true, false, eqb, cond, List, [], ◌∷◌, Option, Some, None, inl, inr, refl, sym, ◌∙◌, ap, subst, arith}
 use Rattle.std.proofs.lemmas.Bool.{cases_Bool, cases_eq}
 use Rattle.std.proofs.lemmas.Bool.Decides.{eqb_tells}
 use Rattle.pdl_world.specs.Swept.{holds}
@@ -11,14 +11,14 @@ use Rattle.pdl_nodes.specs.Known.{AreKnown}
 use Rattle.pdl_nodes.specs.Outcomes.{IsReady, waiting_size}
 use Rattle.pdl_nodes.specs.Released.{KeepsWaiting}
 use Rattle.pdl_nodes.specs.Risen.{IsParentOfGone, ComesFrom}
-use Rattle.pdl_nodes.specs.Row.{Row, parent_of}
+use Rattle.pdl_nodes.specs.Row.{parent_of}
 use Rattle.pdl_nodes.specs.Rows.{Rows, row_at, has, newest, NumbersBelow, Falls}
 use Rattle.pdl_nodes.specs.Sized.{AreSized}
 use Rattle.pdl_nodes.specs.Staying.{stays_from}
 use Rattle.pdl_nodes.specs.Still.{IsStill}
 use Rattle.pdl_nodes.specs.Worlds.{IsRoot}
 use Rattle.pdl_nodes.proofs.FamilyLemmas.{still_falls}
-use Rattle.pdl_nodes.proofs.Finds.{has_below, below_more, differ, not_newest, same}
+use Rattle.pdl_nodes.proofs.Finds.{has_below, below_more, not_newest}
 use Rattle.pdl_nodes.proofs.Goings.{IsGoing, going_same, is_going, ready_trans, size_same, stays_all, stays_by}
 use Rattle.pdl_nodes.proofs.Lefts.{head_has, older_has}
 use Rattle.pdl_nodes.proofs.Paths.{parent_live, parent_root}

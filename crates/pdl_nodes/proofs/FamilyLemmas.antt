@@ -16,13 +16,11 @@ use Rattle.pdl_nodes.specs.declared.origin.Origin.{Origin}
 use Rattle.pdl_nodes.specs.declared.origin.Origin.TheVariants.{Root, View}
 use Rattle.pdl_nodes.specs.Row.{Row}
 use Rattle.pdl_nodes.specs.Rows.{Rows, row_at, has, each, NumbersBelow, Falls}
-use Rattle.pdl_nodes.specs.Changes.{kept_in}
 use Rattle.pdl_nodes.specs.Worlds.{shape, def_from, def_of, places_in, places_of, latest, latest_from, world_of, with_elements, IsRoot}
 use Rattle.pdl_nodes.specs.Still.{own_places, base_over, triple_over, IsWhole, IsLaid, IsDerived, StillFrom, IsStill}
 use Rattle.pdl_nodes.specs.Families.{has_repeats, IsMarked, IsWaiting, InFamily, InOrder}
 use Rattle.pdl_nodes.proofs.Finds.{same, differ, not_newest, each_has, each_at, below_each}
 use Rattle.pdl_nodes.proofs.Shapes.{past_at, def_same, each_shape}
-use Rattle.pdl_nodes.proofs.Marks.{each_id, each_live}
 use Rattle.pdl_nodes.proofs.Seens.{IsSeen, is_seen}
 use Rattle.pdl_nodes.proofs.WorldLemmas.{assign_with, elements_with}
 

@@ -1,15 +1,11 @@
 -- Places that are gathered, one after the other.
-use Rattle.std.proofs.Common.{◌≡◌, ℕ, suc, zero, ℤ, pos, ◌+◌, ◌<◌, ◌≤◌, Bool, true, false, cond, List, [], ◌∷◌, ◌++◌, length, map, get_or, take, drop, All, Option, Some, None, option_and_then, inl, inr, refl, sym, ◌∙◌, ap, subst, arith, add-one, drop-cons}
+use Rattle.std.proofs.Common.{◌≡◌, ℕ, suc, zero, ◌+◌, ◌<◌, ◌≤◌, Bool, true, false, cond, List, [], ◌∷◌, ◌++◌, length, map, get_or, drop, Option, Some, None, option_and_then, refl, sym, ◌∙◌, ap, subst, arith, add-one, drop-cons}
 use Rattle.std.specs.List.{range_with_len}
 use Rattle.std.specs.Prelude.{Result, Ok, Err, IfOk}
-use Rattle.std.proofs.lemmas.Bool.{cases_lt}
-use Rattle.std.proofs.lemmas.List.{map_more, get_or_default, get_or_past}
-use Rattle.std.proofs.lemmas.List.Elements.{All-append, All-cons, All-nil}
+use Rattle.std.proofs.lemmas.List.{get_or_default, get_or_past}
 use Rattle.std.proofs.lemmas.List.FromFn.{map-range_with_len_more}
-use Rattle.pdl_elem.specs.declared.Ty.{Ty}
-use Rattle.pdl_elem.specs.Types.{InRange}
 use Rattle.pdl_shape.specs.Shape.{size_of}
-use Rattle.pdl_shape.specs.Places.{AllBelow, IsBelow, element_at, read}
+use Rattle.pdl_shape.specs.Places.{AllBelow, IsBelow}
 use Rattle.pdl_shape.specs.Triple.{Triple}
 use Rattle.pdl_buf.specs.Window.{place_at}
 use Rattle.pdl_nodes.specs.Assigned.{entry}

@@ -1,27 +1,25 @@
 -- What is written back before arrays go.
-use Rattle.std.proofs.Common.{◌≡◌, ◌≢◌, ℕ, suc, ◌+◌, ◌<◌, Bool, true, false, eqb, cond, List, [], ◌∷◌, ◌++◌, Option, Some, None, nat_lt, inl, inr, refl, sym, ◌∙◌, ap, subst, arith}
-use Rattle.std.proofs.lemmas.Bool.{cases_Bool, cases_eq}
-use Rattle.std.proofs.lemmas.Bool.Decides.{eqb_tells, leb_tells}
+use Rattle.std.proofs.Common.{◌≡◌, ◌≢◌, ℕ, ◌+◌, Bool, true, false, eqb, cond, [], ◌∷◌, Option, Some, None, inl, inr, refl, sym, ◌∙◌, ap, subst, arith}
+use Rattle.std.proofs.lemmas.Bool.{cases_Bool}
+use Rattle.std.proofs.lemmas.Bool.Decides.{eqb_tells}
 use Rattle.pdl_shape.specs.Shape.{IsDims, size_of as size}
 use Rattle.pdl_shape.specs.Triple.{IsTriple, Triple}
 use Rattle.pdl_nodes.specs.declared.origin.Origin.{Origin}
 use Rattle.pdl_nodes.specs.declared.origin.Origin.TheVariants.{Root, View}
-use Rattle.pdl_nodes.specs.Alike.{numbers, IsAlike}
+use Rattle.pdl_nodes.specs.Alike.{IsAlike}
 use Rattle.pdl_nodes.specs.Families.{InOrder}
-use Rattle.pdl_nodes.specs.Going.{goes_from, going_at, going_size, going_sum, IsSettledAt, LeavesWaiting}
+use Rattle.pdl_nodes.specs.Going.{goes_from, going_at, going_size, IsSettledAt}
 use Rattle.pdl_nodes.specs.Known.{AreKnown}
 use Rattle.pdl_nodes.specs.Late.{settle}
 use Rattle.pdl_nodes.specs.Outcomes.{IsReady, waiting_size}
-use Rattle.pdl_nodes.specs.Released.{KeepsWaiting}
 use Rattle.pdl_nodes.specs.Row.{Row}
-use Rattle.pdl_nodes.specs.Rows.{Rows, row_at, has, each, Falls, below, newest}
+use Rattle.pdl_nodes.specs.Rows.{Rows, row_at, has, each}
 use Rattle.pdl_nodes.specs.Sized.{IsLayout, LaidFrom, AreSized}
 use Rattle.pdl_nodes.specs.Staying.{stays_from}
 use Rattle.pdl_nodes.specs.Worlds.{latest, IsRoot}
 use Rattle.pdl_nodes.proofs.Alikes.{alike_trans, field_each}
-use Rattle.pdl_nodes.proofs.FamilyLemmas.{IsQuiet, still_falls}
-use Rattle.pdl_nodes.proofs.Finds.{same, differ, not_newest, each_has, each_at}
-use Rattle.pdl_nodes.proofs.Rests.{size_of, next_below}
+use Rattle.pdl_nodes.proofs.FamilyLemmas.{IsQuiet}
+use Rattle.pdl_nodes.proofs.Finds.{same, differ, each_has, each_at}
 use Rattle.pdl_nodes.proofs.Readied.{ready_same, ready_back}
 use Rattle.pdl_nodes.proofs.Settles.{settle_quiet}
 use Rattle.pdl_nodes.proofs.Shapes.{past_at}

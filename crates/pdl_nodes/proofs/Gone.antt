@@ -2,7 +2,6 @@
 use Rattle.std.proofs.Common.{◌≡◌, ◌≢◌, ℕ, ◌+◌, ◌<◌, ◌≤◌, ◌||◌, Bool, true, false, eqb, cond, nat_lt, suc, zero, List, [], ◌∷◌, length, get_or, drop, Option, Some, None, is_some, inl, inr, refl, sym, ◌∙◌, ap, arith}
 use Rattle.std.proofs.lemmas.Bool.{cases_Bool}
 use Rattle.std.proofs.lemmas.Bool.Decides.{eqb_tells}
-use Rattle.pdl_elem.specs.declared.Ty.{Ty}
 use Rattle.pdl_world.specs.Cut.{has_views}
 use Rattle.pdl_world.specs.Swept.{holds}
 use Rattle.pdl_world.specs.World.{World, root, view}
@@ -16,13 +15,13 @@ use Rattle.pdl_nodes.specs.Holds.{Counts, Beside, hold_at, is_held, stands, coun
 use Rattle.pdl_nodes.specs.Outcomes.{IsReady}
 use Rattle.pdl_nodes.specs.Released.{KeepsWaiting}
 use Rattle.pdl_nodes.specs.Risen.{AreNoted, AreTight, ComesFrom, IsLetGo, IsParentOfGone, IsRisen, IsTight}
-use Rattle.pdl_nodes.specs.Row.{Row, parent_of, parent_from}
-use Rattle.pdl_nodes.specs.Rows.{Rows, row_at, has, reached}
+use Rattle.pdl_nodes.specs.Row.{parent_from}
+use Rattle.pdl_nodes.specs.Rows.{Rows, has, reached}
 use Rattle.pdl_nodes.specs.Sized.{AreSized}
 use Rattle.pdl_nodes.specs.Staying.{staying}
 use Rattle.pdl_nodes.specs.Still.{IsStill}
 use Rattle.pdl_nodes.specs.Worlds.{def_from, shape}
-use Rattle.pdl_nodes.proofs.Finds.{differ, has_stays, same}
+use Rattle.pdl_nodes.proofs.Finds.{has_stays, same}
 use Rattle.pdl_nodes.proofs.Helds.{less_going, less_some}
 use Rattle.pdl_nodes.proofs.Leavings.{IsGone, IsLeaving, is_gone, is_left, left_means}
 use Rattle.pdl_nodes.proofs.Lefts.{left_all, none_if, reached_viewed}

@@ -30,7 +30,7 @@ use Rattle.pdl_nodes.specs.Outcomes.{IsReady}
 use Rattle.pdl_nodes.specs.Outcomes.{PathIsFresh as RowsPathIsFresh}
 use Rattle.pdl_nodes.specs.Sized.{IsSized, LaidFrom}
 use Rattle.pdl_nodes.specs.Spots.{spots, Below}
-use Rattle.pdl_nodes.specs.State.{Joins, PathIsFresh, StayFresh, is_fresh}
+use Rattle.pdl_nodes.specs.State.{Joins, PathIsFresh, StayFresh}
 use Rattle.pdl_nodes.specs.Still.{IsStill, StillFrom}
 use Rattle.pdl_nodes.specs.Worlds.{def_from, def_of, shape, places_of, latest, world_of, with_elements}
 use Rattle.pdl_nodes.proofs.Alikes.{root_live}

@@ -5,7 +5,7 @@ use Rattle.std.proofs.lemmas.Bool.Decides.{eqb_tells, leb_tells}
 use Rattle.pdl_world.specs.Cut.{has_views}
 use Rattle.pdl_nodes.specs.Children.{children, left, one_of}
 use Rattle.pdl_nodes.specs.Row.{Row, parent_of}
-use Rattle.pdl_nodes.specs.Rows.{Rows, row_at, has, reached, NumbersBelow, Falls, HasParent, HasParents}
+use Rattle.pdl_nodes.specs.Rows.{Rows, row_at, has, reached, NumbersBelow, Falls, HasParents}
 use Rattle.pdl_nodes.specs.Staying.{staying, passed}
 use Rattle.pdl_nodes.specs.Still.{IsStill}
 use Rattle.pdl_nodes.specs.Worlds.{shape}

@@ -1,16 +1,14 @@
 -- Taking the holds from all that no held array reaches: from some arrays up.
-use Rattle.std.proofs.Common.{◌≡◌, ◌≢◌, ℕ, ◌+◌, ◌<◌, ◌≤◌, ◌||◌, Bool, true, false, eqb, List, [], ◌∷◌, length, get_or, drop, nat_lt, Some, inl, inr, refl, sym, ◌∙◌, ap, subst, arith}
+use Rattle.std.proofs.Common.{◌≡◌, ◌≢◌, ℕ, ◌+◌, ◌<◌, ◌≤◌, ◌||◌, Bool, true, false, eqb, List, ◌∷◌, length, get_or, drop, nat_lt, inl, inr, refl, sym, ◌∙◌, ap, arith}
 use Rattle.std.proofs.lemmas.Bool.{cases_Bool}
-use Rattle.std.proofs.lemmas.Bool.Decides.{eqb_tells, leb_tells}
+use Rattle.std.proofs.lemmas.Bool.Decides.{leb_tells}
 use Rattle.std.proofs.lemmas.List.{drop_all, drop_more}
-use Rattle.pdl_world.specs.Cut.{has_views}
 use Rattle.pdl_world.specs.Swept.{holds}
 use Rattle.pdl_nodes.specs.Children.{children, left}
-use Rattle.pdl_nodes.specs.Holds.{Counts, Beside, count, is_held, going, stands}
+use Rattle.pdl_nodes.specs.Holds.{Counts, Beside, is_held, going, stands}
 use Rattle.pdl_nodes.specs.Risen.{AreMarked, AreTight, IsFewer, IsLoose, IsRisen}
 use Rattle.pdl_nodes.specs.Rows.{Rows, has, reached}
 use Rattle.pdl_nodes.specs.Still.{IsStill}
-use Rattle.pdl_nodes.specs.Worlds.{shape}
 use Rattle.pdl_nodes.proofs.Counted.{views_counted}
 use Rattle.pdl_nodes.proofs.FamilyLemmas.{still_falls}
 use Rattle.pdl_nodes.proofs.Finds.{differ}

@@ -6,7 +6,7 @@ use Rattle.pdl_world.specs.Swept.{holds}
 use Rattle.pdl_nodes.specs.Children.{children, left, one_of}
 use Rattle.pdl_nodes.specs.Holds.{Counts, count, going, stands}
 use Rattle.pdl_nodes.specs.Risen.{AreNoted, ComesFrom, IsFallen, IsNoted, ParentsAreOlder}
-use Rattle.pdl_nodes.specs.Row.{Row, parent_of}
+use Rattle.pdl_nodes.specs.Row.{parent_of}
 use Rattle.pdl_nodes.specs.Rows.{Rows, row_at, has, other, without, Falls}
 use Rattle.pdl_nodes.specs.Staying.{staying}
 use Rattle.pdl_nodes.specs.Still.{IsStill}
@@ -18,7 +18,6 @@ use Rattle.pdl_nodes.proofs.Paths.{parent_live}
 use Rattle.pdl_nodes.proofs.Reaches.{staying_live}
 use Rattle.pdl_nodes.proofs.Rests.{size_of, without_here}
 use Rattle.pdl_nodes.proofs.Rising.{no_both, noted_stands, noted_count, noted_less}
-use Rattle.pdl_nodes.proofs.Stayings.{stays}
 
 -- ---- rows of which some are left
 

@@ -1,6 +1,5 @@
 -- Taking the holds from what goes, from one array up.
-use Rattle.std.proofs.Common.{◌≡◌, ◌≢◌, ℕ, ◌+◌, ◌-◌, ◌<◌, ◌&&◌, Bool, true, false, eqb, [], ◌∷◌, Option, Some, None, is_some, nat_lt, inl, inr, refl, sym, ◌∙◌, ap, subst, arith}
-use Rattle.std.proofs.lemmas.Bool.{cases_Bool}
+use Rattle.std.proofs.Common.{◌≡◌, ◌≢◌, ℕ, ◌+◌, ◌-◌, ◌<◌, ◌&&◌, Bool, true, false, eqb, Option, Some, None, is_some, nat_lt, inl, inr, refl, sym, ◌∙◌, ap, subst, arith}
 use Rattle.std.proofs.lemmas.Bool.Decides.{eqb_tells, leb_tells}
 use Rattle.pdl_nodes.specs.declared.holds.Hold.{Hold}
 use Rattle.pdl_nodes.specs.Children.{children, left, one_of}
@@ -10,8 +9,8 @@ use Rattle.pdl_nodes.specs.Row.{parent_of}
 use Rattle.pdl_nodes.specs.Rows.{Rows, row_at, has}
 use Rattle.pdl_nodes.specs.Still.{IsStill}
 use Rattle.pdl_nodes.proofs.FamilyLemmas.{still_falls}
-use Rattle.pdl_nodes.proofs.Finds.{same, differ}
-use Rattle.pdl_nodes.proofs.Lefts.{left_less, left_some, no_one, one_is}
+use Rattle.pdl_nodes.proofs.Finds.{same}
+use Rattle.pdl_nodes.proofs.Lefts.{left_less, left_some, no_one}
 use Rattle.pdl_nodes.proofs.Paths.{parent_live}
 use Rattle.pdl_nodes.proofs.Rests.{size_of}
 

@@ -7,7 +7,7 @@ use Rattle.pdl_elem.specs.declared.Ty.{Ty}
 use Rattle.pdl_shape.specs.Shape.{size_of}
 use Rattle.pdl_world.specs.Cut.{fitted, has_views, replaced, reshape, sever}
 use Rattle.pdl_world.specs.Swept.{holds, parents}
-use Rattle.pdl_world.specs.World.{World, ArrayDef, root, view, dims_in, elements, ty_in}
+use Rattle.pdl_world.specs.World.{World, ArrayDef, root, dims_in, elements, ty_in}
 use Rattle.pdl_nodes.specs.declared.holds.Hold.{Hold}
 use Rattle.pdl_nodes.specs.declared.origin.Origin.{Origin}
 use Rattle.pdl_nodes.specs.declared.origin.Origin.TheVariants.{Root, View}

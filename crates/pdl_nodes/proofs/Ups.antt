@@ -2,13 +2,11 @@
 use Rattle.std.proofs.Common.{◌≡◌, ℕ, ◌+◌, ◌<◌, true, false, List, [], ◌∷◌, length, map, Option, Some, None, option_and_then, inl, inr, refl, sym, ◌∙◌, ap, subst, arith}
 use Rattle.std.proofs.lemmas.Bool.Decides.{eqb_tells}
 use Rattle.std.proofs.lemmas.List.{get_or-map}
-use Rattle.std.proofs.lemmas.List.FromFn.{length-map-range_with_len, get_or-map-range_with_len}
-use Rattle.std.specs.List.{range_with_len}
+use Rattle.std.proofs.lemmas.List.FromFn.{length-map-range_with_len}
 use Rattle.pdl_shape.specs.Shape.{size_of}
 use Rattle.pdl_shape.specs.Places.{AllBelow, IsBelow}
 use Rattle.pdl_shape.specs.Places.{places_of as parent_places}
 use Rattle.pdl_shape.specs.Triple.{Triple}
-use Rattle.pdl_buf.specs.Window.{place_at}
 use Rattle.pdl_world.specs.declared.Trans.{Trans}
 use Rattle.pdl_world.specs.Formula.{source}
 use Rattle.pdl_world.specs.World.{Look}
@@ -20,11 +18,10 @@ use Rattle.pdl_nodes.specs.Row.{Row}
 use Rattle.pdl_nodes.specs.Rows.{Rows, row_at, has, NumbersBelow}
 use Rattle.pdl_nodes.specs.Worlds.{shape, def_from, places_in, places_of}
 use Rattle.pdl_nodes.specs.Assigned.{entry}
-use Rattle.pdl_nodes.specs.Still.{own_places, base_over, IsOwn, IsLaid, IsDerived, IsRootRow, StillFrom, IsStill}
+use Rattle.pdl_nodes.specs.Still.{own_places, base_over, IsOwn, IsLaid, IsDerived, StillFrom, IsStill}
 use Rattle.pdl_nodes.specs.Ups.{up_from, up_of}
 use Rattle.pdl_nodes.proofs.Finds.{same, differ, has_below, not_newest}
 use Rattle.pdl_nodes.proofs.Seens.{IsSeen, is_seen, has_older, places_older}
-use Rattle.pdl_nodes.proofs.Spotted.{entry_over, below_at}
 
 -- a view and its parent, and that it is derived of it
 pub record IsViewAt (rs : Rows) (v p : ℕ) (t : Trans) (y : Layout) : Type 0 where

@@ -19,9 +19,9 @@ ghost use Rattle.pdl_nodes.specs.Still.{IsStill};
 ghost use Rattle.pdl_nodes.specs.Worlds.{IsRoot, world_of};
 
 use crate::holds::Holds;
-use crate::passes::{let_up, remove_up};
 use crate::push::write_back;
 use crate::table::Table;
+use crate::upward::{let_up, remove_up};
 use pdl_buf::Steps;
 use std::sync::ledger::Ledger;
 

@@ -1,4 +1,4 @@
-use Rattle.std.proofs.Common.{◌≡◌, ◌+◌, ◌<◌, ◌∙◌, sym, length, true, false, ℕ, Option, Some, None, subst, arith}
+use Rattle.std.proofs.Common.{◌<◌, ◌∙◌, sym, false, ℕ, Option, Some, None, subst, arith}
 use Rattle.std.proofs.lemmas.List.{get_or_default}
 use Rattle.pdl_shape.specs.Places.{IsBelow}
 use Rattle.pdl_nodes.proofs.Gathered.{twice_here}

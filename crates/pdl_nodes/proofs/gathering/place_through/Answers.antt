@@ -1,5 +1,4 @@
-use Rattle.std.proofs.Common.{◌≡◌, ◌≤◌, ◌<◌, ◌∙◌, sym, arith}
-use Rattle.pdl_shape.specs.Shape.{size_of}
+use Rattle.std.proofs.Common.{arith}
 use Rattle.pdl_nodes.proofs.Gathered.{through_is, through_past}
 use Rattle.pdl_nodes.proofs.gathering.place_through.Goals as goal
 

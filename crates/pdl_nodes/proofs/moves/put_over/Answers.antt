@@ -1,5 +1,5 @@
 -- A route over a base gives the places that are shown.
-use Rattle.std.proofs.Common.{length, ap, arith, sym, ◌∙◌}
+use Rattle.std.proofs.Common.{ap, ◌∙◌}
 use Rattle.pdl_buf.specs.Buffer.{Kept}
 use Rattle.pdl_nodes.proofs.Moving.{over_is}
 use Rattle.pdl_nodes.proofs.moves.put_over.Goals as goal

@@ -1,5 +1,5 @@
 -- A route through a base gives its positions that have a place.
-use Rattle.std.proofs.Common.{length, ap, arith, sym, ◌∙◌}
+use Rattle.std.proofs.Common.{ap, ◌∙◌}
 use Rattle.pdl_buf.specs.Buffer.{Kept}
 use Rattle.pdl_nodes.proofs.Moving.{through_is}
 use Rattle.pdl_nodes.proofs.moves.put_through.Goals as goal

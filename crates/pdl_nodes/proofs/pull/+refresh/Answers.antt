@@ -1,5 +1,5 @@
-use Rattle.std.proofs.Common.{◌≡◌, ℕ, ◌+◌, ◌<◌, ◌≤◌, ◌∙◌, ap, sym, true, Option, Some, None, arith}
-use Rattle.pdl_nodes.specs.Row.{Row, parent_of}
+use Rattle.std.proofs.Common.{◌≡◌, ◌+◌, ◌<◌, ◌≤◌, ◌∙◌, ap, sym, true, arith}
+use Rattle.pdl_nodes.specs.Row.{parent_of}
 use Rattle.pdl_nodes.specs.Rows.{row_at, has}
 use Rattle.pdl_nodes.specs.Outcomes.{outdated, outdated_at}
 use Rattle.pdl_nodes.proofs.Paths.{parent_live, parent_root, parent_fresh, path_fresh_over, path_fresh_root, outdated_more, outdated_one, less_outdated, on_ok}

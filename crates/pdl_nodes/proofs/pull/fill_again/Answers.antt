@@ -1,16 +1,14 @@
-use Rattle.std.proofs.Common.{◌≡◌, ℕ, ℤ, ◌+◌, ◌≤◌, true, List, length, Option, Some, None, is_some, refl, ◌∙◌, sym, ap, subst, arith}
+use Rattle.std.proofs.Common.{◌≡◌, ℕ, List, length, Option, None, ◌∙◌, sym, ap, arith}
 use Rattle.pdl_buf.specs.Buffer.{Kept}
 use Rattle.pdl_shape.specs.Shape.{size_of}
-use Rattle.pdl_shape.specs.Places.{read, AllBelow}
-use Rattle.pdl_shape.specs.Triple.{Triple}
+use Rattle.pdl_shape.specs.Places.{read}
 use Rattle.pdl_nodes.specs.Row.{Row}
-use Rattle.pdl_nodes.specs.Rows.{row_at, has}
+use Rattle.pdl_nodes.specs.Rows.{row_at}
 use Rattle.pdl_nodes.specs.Families.{has_repeats}
 use Rattle.pdl_nodes.specs.Worlds.{places_of}
-use Rattle.pdl_nodes.proofs.Filling.{IsFound, is_filled, not_root}
-use Rattle.pdl_nodes.proofs.Gathered.{all_below}
+use Rattle.pdl_nodes.proofs.Filling.{is_filled}
 use Rattle.pdl_nodes.proofs.Paths.{on_ok}
-use Rattle.pdl_nodes.proofs.Seens.{IsSeen, is_seen}
+use Rattle.pdl_nodes.proofs.Seens.{is_seen}
 use Rattle.pdl_nodes.proofs.pull.fill_again.Goals as goal
 
 pub returns-clause-counted : goal.returns-clause-counted

@@ -1,15 +1,15 @@
-use Rattle.std.proofs.Common.{◌≡◌, ℕ, true, List, Option, Some, ◌∙◌, sym, ap, arith}
+use Rattle.std.proofs.Common.{◌≡◌, ℕ, true, List, Option, ◌∙◌, sym, ap}
 use Rattle.pdl_shape.specs.Shape.{size_of}
 use Rattle.pdl_shape.specs.Triple.{Triple}
-use Rattle.pdl_nodes.specs.Row.{Row, parent_from, parent_of}
-use Rattle.pdl_nodes.specs.Rows.{row_at, has}
+use Rattle.pdl_nodes.specs.Row.{Row, parent_from}
+use Rattle.pdl_nodes.specs.Rows.{row_at}
 use Rattle.pdl_nodes.specs.Placed.{placed_by}
 use Rattle.pdl_nodes.specs.Worlds.{places_of}
 use Rattle.pdl_nodes.proofs.Alikes.{base_live}
 use Rattle.pdl_nodes.proofs.Filling.{found_places, over_known}
 use Rattle.pdl_nodes.proofs.Gathered.{if_ok}
 use Rattle.pdl_nodes.proofs.Paths.{root_of_origin}
-use Rattle.pdl_nodes.proofs.Ups.{IsViewAt, view_at}
+use Rattle.pdl_nodes.proofs.Ups.{view_at}
 use Rattle.pdl_nodes.proofs.pull.find_places.Goals as goal
 
 pub unreachable-requires : goal.unreachable-requires

@@ -1,10 +1,8 @@
-use Rattle.std.proofs.Common.{◌≡◌, ◌+◌, ◌≤◌, ◌∙◌, ap, sym, true, false, arith}
+use Rattle.std.proofs.Common.{◌≡◌, ◌∙◌, sym, arith}
 use Rattle.pdl_shape.specs.Shape.{size_of}
-use Rattle.pdl_nodes.specs.Outcomes.{IsFilled, outdated_at}
-use Rattle.pdl_nodes.specs.Alike.{is_fresh_in}
+use Rattle.pdl_nodes.specs.Outcomes.{outdated_at}
 use Rattle.pdl_nodes.specs.Rows.{row_at}
-use Rattle.pdl_nodes.proofs.Filling.{is_filled}
-use Rattle.pdl_nodes.proofs.Paths.{IsStale, is_stale, is_outdated, stale_cost, on_ok, filled_fresh}
+use Rattle.pdl_nodes.proofs.Paths.{is_stale, is_outdated, stale_cost, on_ok, filled_fresh}
 use Rattle.pdl_nodes.proofs.pull.freshen.Goals as goal
 
 pub fill-requires-clause-outdated : goal.fill-requires-clause-outdated

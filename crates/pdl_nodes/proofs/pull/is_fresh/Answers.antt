@@ -1,6 +1,5 @@
-use Rattle.std.proofs.Common.{◌≡◌, ◌∙◌, ap, sym, true}
+use Rattle.std.proofs.Common.{◌∙◌, ap, sym}
 use Rattle.pdl_nodes.specs.Row.{Row}
-use Rattle.pdl_nodes.specs.Rows.{has}
 use Rattle.pdl_nodes.proofs.Alikes.{base_live}
 use Rattle.pdl_nodes.proofs.pull.is_fresh.Goals as goal
 

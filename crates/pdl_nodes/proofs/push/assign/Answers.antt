@@ -1,8 +1,6 @@
-use Rattle.std.proofs.Common.{◌≡◌, ℕ, Bool, true, false, Option, None, sym, ◌∙◌, ap, arith}
+use Rattle.std.proofs.Common.{true, false, sym, ◌∙◌, ap, arith}
 use Rattle.pdl_nodes.specs.Row.{Row}
-use Rattle.pdl_nodes.specs.Rows.{row_at, has}
-use Rattle.pdl_nodes.specs.Families.{has_repeats}
-use Rattle.pdl_nodes.specs.Worlds.{places_of}
+use Rattle.pdl_nodes.specs.Rows.{row_at}
 use Rattle.pdl_nodes.proofs.Alikes.{root_live, base_live, assigned_root, assigned_base, target_root, target_repeats, flag_is, nothing_root, nothing_repeats}
 use Rattle.pdl_nodes.proofs.Lazy.{waits_root, waits_base}
 use Rattle.pdl_nodes.proofs.push.assign.Goals as goal

@@ -1,25 +1,14 @@
-use Rattle.std.proofs.Common.{◌≡◌, ℕ, ℤ, ◌+◌, ◌<◌, Bool, List, Option, Some, None, length, true, false, All, is_some, refl, sym, ◌∙◌, ap, subst, arith}
-use Rattle.pdl_elem.specs.declared.Ty.{Ty}
-use Rattle.pdl_elem.specs.Types.{InRange}
-use Rattle.pdl_buf.specs.Buffer.{Kept}
-use Rattle.pdl_shape.specs.Shape.{size_of}
+use Rattle.std.proofs.Common.{false, sym, ◌∙◌, ap}
 use Rattle.pdl_shape.specs.Places.{write}
-use Rattle.pdl_shape.specs.Triple.{Triple}
-use Rattle.pdl_nodes.specs.Row.{Row, is_buffered, places_or}
-use Rattle.pdl_nodes.specs.Rows.{Rows, row_at, has, each}
-use Rattle.pdl_nodes.specs.Assigned.{put_all}
-use Rattle.pdl_nodes.specs.Changes.{kept_in, mark_in, wait_in}
-use Rattle.pdl_nodes.specs.Families.{IsMarked, IsWaiting, has_repeats}
-use Rattle.pdl_nodes.specs.Late.{settle, await, IsThrough, put_through}
-use Rattle.pdl_nodes.specs.Placed.{placed_by}
-use Rattle.pdl_nodes.specs.Spots.{spots}
-use Rattle.pdl_nodes.specs.Worlds.{places_of, latest, IsRoot}
+use Rattle.pdl_nodes.specs.Row.{Row, is_buffered}
+use Rattle.pdl_nodes.specs.Rows.{row_at, has, each}
+use Rattle.pdl_nodes.specs.Changes.{mark_in}
+use Rattle.pdl_nodes.specs.Late.{settle}
+use Rattle.pdl_nodes.specs.Worlds.{places_of}
 use Rattle.pdl_nodes.proofs.Assigning.{rooted_all}
 use Rattle.pdl_nodes.proofs.FamilyLemmas.{latest_none}
-use Rattle.pdl_nodes.proofs.Finds.{each_has, each_at, falls_each}
-use Rattle.pdl_nodes.proofs.Lowered.{falls_still}
+use Rattle.pdl_nodes.proofs.Finds.{each_has, each_at}
 use Rattle.pdl_nodes.proofs.Origins.{root_buffered}
-use Rattle.pdl_nodes.specs.Rows.{Falls}
 use Rattle.pdl_nodes.proofs.push.assign_at_root.Goals as goal
 
 pub mark-requires-clause-root : goal.mark-requires-clause-root

@@ -1,6 +1,5 @@
-use Rattle.std.proofs.Common.{◌≡◌, ℕ, ◌∙◌, ap, List, Option}
+use Rattle.std.proofs.Common.{ℕ, ◌∙◌, ap, List, Option}
 use Rattle.pdl_shape.specs.Places.{write}
-use Rattle.pdl_nodes.specs.Row.{places_or}
 use Rattle.pdl_nodes.specs.Rows.{row_at, each}
 use Rattle.pdl_nodes.specs.Changes.{kept_in}
 use Rattle.pdl_nodes.specs.Known.{IsLiftable}

@@ -1,19 +1,11 @@
-use Rattle.std.proofs.Common.{◌≡◌, ℕ, ℤ, ◌+◌, ◌<◌, Bool, List, Option, Some, None, length, true, false, All, is_some, refl, sym, ◌∙◌, ap, subst, arith}
+use Rattle.std.proofs.Common.{◌≡◌, ℕ, List, Option, None, All, sym, ◌∙◌, ap, subst}
 use Rattle.pdl_elem.specs.declared.Ty.{Ty}
 use Rattle.pdl_elem.specs.Types.{InRange}
-use Rattle.pdl_buf.specs.Buffer.{Kept}
-use Rattle.pdl_shape.specs.Shape.{size_of}
 use Rattle.pdl_shape.specs.Places.{write}
-use Rattle.pdl_shape.specs.Triple.{Triple}
-use Rattle.pdl_nodes.specs.Row.{Row, is_buffered, places_or}
-use Rattle.pdl_nodes.specs.Rows.{Rows, row_at, has, each}
-use Rattle.pdl_nodes.specs.Assigned.{put_all}
-use Rattle.pdl_nodes.specs.Changes.{kept_in, mark_in, wait_in}
-use Rattle.pdl_nodes.specs.Families.{IsMarked, IsWaiting, has_repeats}
-use Rattle.pdl_nodes.specs.Late.{settle, await, IsThrough, put_through}
+use Rattle.pdl_nodes.specs.Row.{Row}
+use Rattle.pdl_nodes.specs.Rows.{row_at, each}
+use Rattle.pdl_nodes.specs.Changes.{kept_in}
 use Rattle.pdl_nodes.specs.Placed.{placed_by}
-use Rattle.pdl_nodes.specs.Spots.{spots}
-use Rattle.pdl_nodes.specs.Worlds.{places_of, latest, IsRoot}
 use Rattle.pdl_nodes.proofs.Assigning.{over_root}
 use Rattle.pdl_nodes.proofs.Origins.{root_buffered}
 use Rattle.pdl_nodes.proofs.Seens.{IsSeen, is_seen}

@@ -1,14 +1,12 @@
-use Rattle.std.proofs.Common.{◌≡◌, ℕ, List, Option, Some, None, true, All, is_some, sym, ◌∙◌, ap, subst}
+use Rattle.std.proofs.Common.{◌≡◌, ℕ, List, Option, All, sym, ◌∙◌, ap, subst}
 use Rattle.pdl_elem.specs.declared.Ty.{Ty}
 use Rattle.pdl_elem.specs.Types.{InRange}
 use Rattle.pdl_shape.specs.Places.{write}
-use Rattle.pdl_shape.specs.Triple.{Triple}
 use Rattle.pdl_nodes.specs.Row.{Row}
 use Rattle.pdl_nodes.specs.Rows.{row_at, each}
 use Rattle.pdl_nodes.specs.Changes.{kept_in}
 use Rattle.pdl_nodes.specs.Known.{IsLiftable}
 use Rattle.pdl_nodes.specs.Placed.{placed_by}
-use Rattle.pdl_nodes.specs.Worlds.{places_of}
 use Rattle.pdl_nodes.proofs.Assigning.{over_found, base_root}
 use Rattle.pdl_nodes.proofs.Liftings.{liftable}
 use Rattle.pdl_nodes.proofs.Seens.{IsSeen, is_seen}

@@ -1,11 +1,9 @@
-use Rattle.std.proofs.Common.{◌≡◌, ℕ, ℤ, ◌<◌, List, Option, length, true, sym, ◌∙◌, ap, subst, arith}
-use Rattle.pdl_shape.specs.Places.{write}
+use Rattle.std.proofs.Common.{true, sym, ◌∙◌, ap}
 use Rattle.pdl_nodes.specs.Row.{Row, is_buffered}
-use Rattle.pdl_nodes.specs.Rows.{Rows, row_at, has, each}
-use Rattle.pdl_nodes.specs.Changes.{kept_in, marked_in, wait_in}
+use Rattle.pdl_nodes.specs.Rows.{row_at, has, each}
+use Rattle.pdl_nodes.specs.Changes.{marked_in, wait_in}
 use Rattle.pdl_nodes.specs.Late.{settle}
 use Rattle.pdl_nodes.specs.Families.{IsWaiting}
-use Rattle.pdl_nodes.specs.Worlds.{places_of, latest}
 use Rattle.pdl_nodes.proofs.FamilyLemmas.{latest_some}
 use Rattle.pdl_nodes.proofs.Finds.{each_has, each_at}
 use Rattle.pdl_nodes.proofs.Lowered.{written}

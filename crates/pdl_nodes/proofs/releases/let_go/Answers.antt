@@ -1,4 +1,4 @@
-use Rattle.std.proofs.Common.{ℕ, ◌+◌, ◌∷◌, ◌∙◌, ap}
+use Rattle.std.proofs.Common.{◌+◌, ◌∷◌, ◌∙◌, ap}
 use Rattle.pdl_nodes.specs.Holds.{is_held, stands}
 use Rattle.pdl_nodes.specs.Rows.{reached}
 use Rattle.pdl_nodes.proofs.Gone.{comes_ready, let_go_is, noted_ready}

@@ -1,8 +1,7 @@
-use Rattle.std.proofs.Common.{◌≡◌, ◌+◌, true, [], ◌∷◌, drop, refl, ◌∙◌, arith}
+use Rattle.std.proofs.Common.{◌+◌, [], ◌∷◌, drop, refl, ◌∙◌, arith}
 use Rattle.pdl_nodes.specs.Holds.{stands}
-use Rattle.pdl_nodes.specs.Rows.{has}
 use Rattle.pdl_nodes.proofs.Alikes.{root_live}
-use Rattle.pdl_nodes.proofs.Falling.{IsSettling, IsSettledAll, settled_all, settling_more, settling_none}
+use Rattle.pdl_nodes.proofs.Falling.{settled_all, settling_more, settling_none}
 use Rattle.pdl_nodes.proofs.Gone.{under_end, under_first, under_listed, under_next}
 use Rattle.pdl_nodes.proofs.releases.settle_all.Goals as goal
 

@@ -1,4 +1,3 @@
-use Rattle.std.proofs.Common.{refl}
 use Rattle.pdl_nodes.proofs.Counted.{added, taken_back}
 use Rattle.pdl_nodes.proofs.table.put_key.Goals as goal
 

@@ -1,8 +1,6 @@
-use Rattle.std.proofs.Common.{refl, ◌≡◌, ℕ, ◌+◌, ◌<◌, List, Option, Some, length, is_some, sym, ◌∙◌, ap, subst, arith}
+use Rattle.std.proofs.Common.{refl, ◌≡◌, ℕ, ◌+◌, List, Option, Some, length, is_some, sym, ◌∙◌, ap}
 use Rattle.pdl_buf.specs.Buffer.{Kept}
-use Rattle.pdl_shape.specs.Shape.{size_of}
 use Rattle.pdl_shape.specs.Places.{write}
-use Rattle.pdl_shape.specs.Triple.{Triple}
 use Rattle.pdl_nodes.specs.Row.{Row, parent_of, is_buffered, places_or}
 use Rattle.pdl_nodes.specs.Rows.{row_at, each}
 use Rattle.pdl_nodes.specs.Changes.{kept_in}

@@ -1,6 +1,5 @@
-use Rattle.std.proofs.Common.{◌≡◌, length, All, None, sym, ◌∙◌, ap, subst, refl}
+use Rattle.std.proofs.Common.{◌≡◌, All, None, sym, ◌∙◌, ap, subst, refl}
 use Rattle.pdl_elem.specs.Types.{InRange}
-use Rattle.pdl_shape.specs.Shape.{size_of}
 use Rattle.pdl_nodes.specs.Row.{Row, is_buffered}
 use Rattle.pdl_nodes.specs.Rows.{row_at}
 use Rattle.pdl_nodes.specs.Changes.{kept_in}

@@ -1,6 +1,5 @@
-use Rattle.std.proofs.Common.{refl, ◌≡◌, Some, length, is_some, sym, ◌∙◌, ap, subst}
+use Rattle.std.proofs.Common.{refl, ◌≡◌, Some, is_some, sym, ◌∙◌, ap, subst}
 use Rattle.pdl_buf.specs.Buffer.{Kept}
-use Rattle.pdl_shape.specs.Shape.{size_of}
 use Rattle.pdl_shape.specs.Places.{write}
 use Rattle.pdl_nodes.specs.Row.{Row, parent_of, is_buffered}
 use Rattle.pdl_nodes.specs.Rows.{row_at, each}

@@ -1,9 +1,9 @@
-use Rattle.pdl_nodes.proofs.Removing.{IsFalling}
 use Rattle.pdl_nodes.proofs.Rests.{size_of}
-use Rattle.pdl_nodes.proofs.passes.remove_up.Given as goal
+use Rattle.pdl_nodes.proofs.Rising.{IsRising}
+use Rattle.pdl_nodes.proofs.upward.let_up.Given as goal
 
 abbrev pub invariant-loop-next : goal.invariant-loop-next
-invariant-loop-next l = IsFalling l.id l.fn.table l.fn.holds l.table l.holds l.next
+invariant-loop-next l = IsRising l.table l.fn.holds l.holds l.id l.next
 
 abbrev pub decreases-loop-next : goal.decreases-loop-next
 decreases-loop-next l = size_of l.next
