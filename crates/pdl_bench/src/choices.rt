@@ -9,7 +9,6 @@ use pdl_shape::{Dims, elements_of};
 use std::alloc::{AllocError, Global};
 use std::io::{self, ErrorKind};
 use std::rt::Clock;
-use std::time::Instant;
 
 /// How many places a run of `index` looks up.
 const LOOKED_UP: u32 = 524_288;
@@ -73,9 +72,9 @@ fn index_timed(
 {
     let mut watch = Stopwatch::new();
     for _run in 0..RUNS {
-        let start = Instant::now(clock)?;
+        watch.start(clock);
         let choice = looked_up(alloc, dims, values);
-        watch.stop(clock, start)?;
+        watch.stop(clock);
         *sum = sum_of(choice)?;
     }
     Ok(watch)
@@ -134,9 +133,9 @@ fn range_timed(
 {
     let mut watch = Stopwatch::new();
     for _run in 0..RUNS {
-        let start = Instant::now(clock)?;
+        watch.start(clock);
         let choice = windows(alloc, dims, listed, corners);
-        watch.stop(clock, start)?;
+        watch.stop(clock);
         *sum = sum_of(choice)?;
     }
     Ok(watch)

@@ -12,7 +12,6 @@ use std::alloc::{AllocError, Global};
 use std::io;
 use std::rt::Clock;
 use std::sync::ledger::Ledger;
-use std::time::Instant;
 
 /// How many elements a run moves.
 const COUNT: u32 = 1_000_000;
@@ -61,7 +60,7 @@ fn gather_by<L: Ledger>(
     let count = elements_of(strided_dims(from));
     let places = places(alloc, count, step)?;
     let mut into = filled(alloc, strided_type(from), count)?;
-    let watch = gather_timed(rt, from, &places, &mut into, steps)?;
+    let watch = gather_timed(rt, from, &places, &mut into, steps);
     watch.report(rt, name, count, sum_of(&into))
 }
 
@@ -72,18 +71,18 @@ fn gather_timed<L: Ledger>(
     places: &[Option<u32>],
     into: &mut Buf,
     steps: &mut Steps<L>,
-) -> io::Result<Stopwatch>
+) -> Stopwatch
     requires paired { length places.now ≡ length into.old.elems }
     requires within { AllBelow (length from.now.elems) places.now }
     requires same_type { from.now.ty ≡ into.old.ty }
 {
     let mut watch = Stopwatch::new();
     for _run in 0..RUNS {
-        let start = Instant::now(clock)?;
+        watch.start(clock);
         gather(from, places, into, steps);
-        watch.stop(clock, start)?;
+        watch.stop(clock);
     }
-    Ok(watch)
+    watch
 }
 
 /// Times `scatter` to places in order, and to places far apart.
@@ -109,7 +108,7 @@ fn scatter_by<L: Ledger>(
     let places = places(alloc, COUNT, step)?;
     let values = numbers(alloc, ty, COUNT, 7_919)?;
     let mut into = filled(alloc, ty, COUNT)?;
-    let watch = scatter_timed(rt, &mut into, &places, &values, steps)?;
+    let watch = scatter_timed(rt, &mut into, &places, &values, steps);
     watch.report(rt, name, COUNT, sum_of(&into))
 }
 
@@ -120,18 +119,18 @@ fn scatter_timed<L: Ledger>(
     places: &[Option<u32>],
     values: &[i64],
     steps: &mut Steps<L>,
-) -> io::Result<Stopwatch>
+) -> Stopwatch
     requires paired { length values.now ≡ length places.now }
     requires within { AllBelow (length into.old.elems) places.now }
     requires in_range { All (InRange into.old.ty) values.now }
 {
     let mut watch = Stopwatch::new();
     for _run in 0..RUNS {
-        let start = Instant::now(clock)?;
+        watch.start(clock);
         scatter(into, places, values, steps);
-        watch.stop(clock, start)?;
+        watch.stop(clock);
     }
-    Ok(watch)
+    watch
 }
 
 // What the bytes of a buffer come to.

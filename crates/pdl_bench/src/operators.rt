@@ -8,7 +8,6 @@ use pdl_elem::{BinaryOp, Ty, binary_all};
 use std::alloc::Global;
 use std::io;
 use std::rt::Clock;
-use std::time::Instant;
 
 /// How many numbers a block has.
 const BLOCK: u32 = 512;
@@ -27,7 +26,7 @@ pub fn time(
     let a = numbers(alloc, ty, BLOCK, 7_919)?;
     let b = numbers(alloc, ty, BLOCK, 2)?;
     let mut into = numbers(alloc, ty, BLOCK, 0)?;
-    let watch = work_timed(rt, op, ty, &a, &b, &mut into)?;
+    let watch = work_timed(rt, op, ty, &a, &b, &mut into);
     watch.report(rt, word, BLOCK * BLOCKS, sum_of(&into))
 }
 
@@ -39,7 +38,7 @@ fn work_timed(
     a: &[i64],
     b: &[i64],
     into: &mut [i64],
-) -> io::Result<Stopwatch>
+) -> Stopwatch
     requires left { length a.now ≡ length into.old }
     requires right { length b.now ≡ length into.old }
     requires left_in_range { All (InRange ty) a.now }
@@ -47,11 +46,11 @@ fn work_timed(
 {
     let mut watch = Stopwatch::new();
     for _run in 0..RUNS {
-        let start = Instant::now(clock)?;
+        watch.start(clock);
         work(op, ty, a, b, into);
-        watch.stop(clock, start)?;
+        watch.stop(clock);
     }
-    Ok(watch)
+    watch
 }
 
 // The operator on the pairs of two blocks, so many times over.

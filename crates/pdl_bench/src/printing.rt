@@ -11,7 +11,6 @@ use pdl_shape::{Triple, elements_of, triple_of};
 use std::alloc::{AllocError, Global};
 use std::io;
 use std::rt::Clock;
-use std::time::Instant;
 
 /// How many arrays a run prints.
 const ARRAYS: u32 = 100;
@@ -62,9 +61,9 @@ fn print_runs(
 ) -> io::Result<Stopwatch> {
     let mut watch = Stopwatch::new();
     for _run in 0..RUNS {
-        let start = Instant::now(clock)?;
+        watch.start(clock);
         print_often(window, text)?;
-        watch.stop(clock, start)?;
+        watch.stop(clock);
     }
     Ok(watch)
 }

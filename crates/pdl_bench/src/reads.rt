@@ -10,7 +10,6 @@ use pdl_shape::{Triple, elements_of, triple_of, whole_triple};
 use std::alloc::Global;
 use std::io;
 use std::rt::Clock;
-use std::time::Instant;
 
 /// How many elements the buffer has.
 const COUNT: u32 = 1_048_576;
@@ -108,7 +107,7 @@ fn time_window(
 ) -> io::Result<()> {
     let mut block = vec![in alloc; 0; BLOCK as usize]?;
     let mut sum = 0;
-    let watch = read_timed(rt, window, &mut block, &mut sum)?;
+    let watch = read_timed(rt, window, &mut block, &mut sum);
     watch.report(rt, word, elements_of(strided_dims(window)), sum)
 }
 
@@ -118,16 +117,16 @@ fn read_timed(
     window: &Strided<'_>,
     block: &mut [i64],
     sum: &mut u64,
-) -> io::Result<Stopwatch>
+) -> Stopwatch
     requires { length block.old ≡ 512 }
 {
     let mut watch = Stopwatch::new();
     for _run in 0..RUNS {
-        let start = Instant::now(clock)?;
+        watch.start(clock);
         *sum = read_all(window, block);
-        watch.stop(clock, start)?;
+        watch.stop(clock);
     }
-    Ok(watch)
+    watch
 }
 
 // Reads the window block by block, and sums the last numbers of the blocks.

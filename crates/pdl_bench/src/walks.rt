@@ -10,7 +10,6 @@ use pdl_shape::{Dims, elements_of, join_dims, whole_triple};
 use std::alloc::{AllocError, Global};
 use std::io::{self, ErrorKind};
 use std::rt::Clock;
-use std::time::Instant;
 
 /// Times a walk of two arguments of a million elements, and one with a stretched argument.
 pub fn time(rt: &(impl Print + Clock), alloc: Global) -> io::Result<()> {
@@ -42,9 +41,9 @@ fn walk_timed(
 ) -> io::Result<Stopwatch> {
     let mut watch = Stopwatch::new();
     for _run in 0..RUNS {
-        let start = Instant::now(clock)?;
+        watch.start(clock);
         *sum = walked(alloc, first, second)?;
-        watch.stop(clock, start)?;
+        watch.stop(clock);
     }
     Ok(watch)
 }
