@@ -10,6 +10,7 @@ mod Mapping
 mod Places
 mod Rows
 mod Seen
+mod Singles
 mod Shaping
 mod Starting
 mod Stores

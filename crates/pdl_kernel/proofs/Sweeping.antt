@@ -186,7 +186,7 @@ plan_is l is e p free values leads w h i lt =
         ∙ by_assigned (assigned_at block p.op x (place_of p.line i))
     by_worked (Err d) = refl
 
-then_done : (r : Result Store Fault) → and_then r (λ m. Ok m) ≡ r
+pub then_done : (r : Result Store Fault) → and_then r (λ m. Ok m) ≡ r
 then_done (Ok m) = refl
 then_done (Err d) = refl
 
@@ -237,7 +237,7 @@ plan_put l s is e p same free values known leads = record {
   turn = λ w form i lt. ap (λ y. step l.call (slice_set l.at l.dimension i) y (store_of l.sources w)) same ∙ plan_is l is e p free values leads w form i lt;
 }
 
-one_statement : (code : List Stmt) (x : Stmt) → length code ≡ 1 → x ≡ get_or code 0 x → code_of code ≡ next (step_of x) done
+pub one_statement : (code : List Stmt) (x : Stmt) → length code ≡ 1 → x ≡ get_or code 0 x → code_of code ≡ next (step_of x) done
 one_statement [] x one e = absurd (omega (arith, one))
 one_statement (s ∷ []) x one e = ap (λ y. next (step_of y) done) (sym e)
 one_statement (s ∷ t ∷ rest) x one e = absurd (omega (arith, one))

@@ -8,5 +8,6 @@ pub mod Lines
 pub mod Meaning
 pub mod Parts
 pub mod Runs
+pub mod Scalars
 pub mod Setup
 pub mod Sources

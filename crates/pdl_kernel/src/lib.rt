@@ -4,6 +4,7 @@
 
 mod axes;
 mod call;
+mod elementwise;
 mod eval;
 mod faults;
 mod frame;

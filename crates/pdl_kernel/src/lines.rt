@@ -21,6 +21,7 @@ use pdl_sig::Resolved;
 const NEAR: i64 = 1099511627776;
 
 /// The index of the loop over a dimension, in a loop over another one or the same.
+#[inline(always)]
 fn loop_slope(
     resolved: &Resolved,
     sources: &[Source],
@@ -151,6 +152,7 @@ fn slope_of(
 }
 
 /// The index of an access along a dimension, where it stays or rises by one.
+#[inline(always)]
 fn slope_along(
     resolved: &Resolved,
     sources: &[Source],
@@ -184,6 +186,7 @@ fn slope_along(
 }
 
 /// The index of the first turn, and how far it rises to each next one, where all are in range.
+#[inline(always)]
 fn span(slope: &Slope, size: u32, count: u32) -> Option<(u32, u32)>
     ensures rise { IfSome result (λ s. s.1 ≤ 1) }
     ensures within { IfSome result (λ s. (i : ℕ) → i < count →
@@ -209,6 +212,7 @@ fn span(slope: &Slope, size: u32, count: u32) -> Option<(u32, u32)>
 
 /// The line along which an access leads, where its indices are in the order of the dimensions, each
 /// stays or rises by one, and all are in range at each turn.
+#[inline(always)]
 pub fn line_of(
     resolved: &Resolved,
     sources: &[Source],
@@ -246,6 +250,7 @@ pub fn line_of(
 }
 
 /// The line along which an access to an argument that isn't an input leads.
+#[inline(always)]
 pub fn block_line(
     resolved: &Resolved,
     sources: &[Source],

@@ -1,5 +1,5 @@
 //! Outputs that are being collected.
-ghost use Rattle.std.specs.Prelude.{◌≡◌, ◌++◌, OnOk};
+ghost use Rattle.std.specs.Prelude.{◌≡◌, [], ◌∷◌, ◌++◌, OnOk};
 
 use pdl_elem::Ty;
 use pdl_shape::Dims;
@@ -34,6 +34,13 @@ impl Part {
         ensures { result ≡ self.now.number }
     {
         self.number
+    }
+
+    /// Appends an element.
+    pub fn push(&mut self, x: i64) -> Result<(), AllocError>
+        ensures { OnOk result (self.new ≡ record self.old { elems = self.old.elems ++ x ∷ [] }) }
+    {
+        Ok(self.elems.push(x)?)
     }
 
     /// Appends a block.

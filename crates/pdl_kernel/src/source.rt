@@ -5,7 +5,7 @@ ghost use Rattle.pdl_shape.specs.Shape.{size_of};
 ghost use Rattle.pdl_sig.specs.declared.Role.TheVariants.{Input};
 ghost use Rattle.pdl_kernel.specs.Leading.{IsLaidOut};
 ghost use Rattle.pdl_kernel.specs.Meaning.{element_at};
-ghost use Rattle.pdl_kernel.specs.Sources.{element_seen, moved_to, shown, sizes_of};
+ghost use Rattle.pdl_kernel.specs.Sources.{dot, element_seen, moved_to, shown, sizes_of};
 
 use crate::axes::{Axis, Layout, MOST, element_in, find, offset, reach};
 use crate::faults::Fault;
@@ -59,6 +59,29 @@ impl Source {
         ensures { result ≡ self.now.role }
     {
         self.role
+    }
+
+    /// Its type.
+    #[inline(always)]
+    pub fn ty(&self) -> Ty
+        ensures { result ≡ self.now.ty }
+    {
+        self.ty
+    }
+
+    /// Whether it has no core dimensions, and so one element at each broadcast place.
+    pub fn is_single(&self) -> bool
+        ensures { result ≡ (length self.now.axes == 0) }
+    {
+        self.axes.is_empty()
+    }
+
+    /// The element at broadcast coordinates, where it has no core dimensions.
+    #[inline(always)]
+    pub fn single(&self, at: &[u32]) -> i64
+        ensures { result ≡ get_or self.now.elems (dot self.now.outer at.now) (pos 0) }
+    {
+        element_in(&self.elems, offset(&self.outer, at))
     }
 
     /// The element at indices.

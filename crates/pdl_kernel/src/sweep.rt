@@ -50,6 +50,7 @@ pub struct Plan<'a> {
 }
 
 /// The elements that an access reads, where it leads along a line.
+#[inline(always)]
 fn access_operand<'a>(
     resolved: &Resolved,
     sources: &'a [Source],
@@ -95,6 +96,7 @@ fn access_operand<'a>(
 }
 
 /// An expression without operations as an operand.
+#[inline(always)]
 fn operand_of<'a>(
     resolved: &Resolved,
     sources: &'a [Source],
@@ -119,6 +121,7 @@ fn operand_of<'a>(
 }
 
 /// An expression as an operation on operands.
+#[inline(always)]
 fn operation_of<'a>(
     resolved: &Resolved,
     sources: &'a [Source],
@@ -159,6 +162,7 @@ fn operation_of<'a>(
 }
 
 /// What each turn does, where it is a statement that stores along a line.
+#[inline(always)]
 fn plan_of<'a>(
     resolved: &Resolved,
     sources: &'a [Source],
@@ -194,6 +198,7 @@ fn plan_of<'a>(
 }
 
 /// The same for code that is one statement.
+#[inline(always)]
 fn code_plan<'a>(
     resolved: &Resolved,
     sources: &'a [Source],

@@ -1,14 +1,17 @@
 //! The code at each broadcast place, in broadcast order.
-ghost use Rattle.std.specs.Prelude.{◌≡◌, ◌<◌, ◌≤◌, ◌++◌, length, map, All, OnOk, Some};
-ghost use Rattle.pdl_shape.specs.Shape.{size_of};
+ghost use Rattle.std.specs.Prelude.{◌≡◌, ◌<◌, ◌≤◌, ◌∷◌, ◌++◌, [], ℕ, length, map, All, IfNone, IfSome, OnOk, Result, Some};
+ghost use Rattle.pdl_shape.specs.Shape.{coordinates_of, size_of};
 ghost use Rattle.pdl_code.specs.TreeOf.{code_of};
+ghost use Rattle.pdl_kernel.specs.declared.faults.Fault.{Fault};
 ghost use Rattle.pdl_kernel.specs.Answers.{Becomes};
 ghost use Rattle.pdl_kernel.specs.Call.{fault_at, fault_named, stores_from};
-ghost use Rattle.pdl_kernel.specs.Meaning.{argument, nothing};
+ghost use Rattle.pdl_kernel.specs.Meaning.{Store, argument, nothing};
 ghost use Rattle.pdl_kernel.specs.Parts.{Collected, appended};
+ghost use Rattle.pdl_kernel.specs.Scalars.{Leaves, worth};
 ghost use Rattle.pdl_kernel.specs.Sources.{HasBlocks, IsCodeFree, IsFree, left_at, left_in_order, moved_to, roles_of, store_of};
 
 use crate::axes::MOST;
+use crate::elementwise::{Elementwise, elementwise_code, worth};
 use crate::faults::{Fault, RunFault};
 use crate::frame::Frames;
 use crate::part::Part;
@@ -76,8 +79,62 @@ fn fault_at(place: u32, fault: Fault) -> RunFault
     }
 }
 
-/// The elements of the outputs over all broadcast places, in order, or the first fault.
-pub fn collect(
+/// Fills an output of which code leaves one element at each broadcast place, in order, up to the
+/// first fault.
+fn fill(
+    alloc: Global,
+    resolved: &Resolved,
+    plan: &Elementwise,
+    part: &mut Part,
+) -> Result<(), RunFault>
+    ensures { (f : ℕ → Result Store Fault) →
+        ((p : ℕ) → Leaves (f p) part.old.number
+        (worth plan.now (coordinates_of resolved.now.broadcast p))) →
+        Collected result (part.old ∷ []) (part.new ∷ [])
+        (stores_from f 0 (size_of resolved.now.broadcast)) }
+{
+    let mut places = BroadcastWalk::new(alloc, &resolved.broadcast)?;
+    for place in 0..elements_of(&resolved.broadcast) {
+        let y = match worth(plan, places.coordinates()) {
+            Ok(y) => y,
+            Err(first) => return Err(fault_at(place, first)),
+        };
+        match part.push(y) {
+            Ok(()) => {}
+            Err(_) => return Err(RunFault::NoMemory),
+        }
+        places.next();
+    }
+    Ok(())
+}
+
+/// The elements of the one output over all broadcast places, where code leaves one at each.
+fn collect_elements(
+    alloc: Global,
+    resolved: &Resolved,
+    sources: &[Source],
+    code: &[Stmt],
+    parts: &mut Vec<Part>,
+) -> Option<Result<(), RunFault>>
+    ensures collected { IfSome result (λ r. (n : ℕ) → Collected r parts.old.items parts.new.items
+        (stores_from (left_in_order resolved.now (code_of code.now) sources.now n) 0
+        (size_of resolved.now.broadcast))) }
+    ensures left { IfNone result (parts.new.items ≡ parts.old.items) }
+{
+    match elementwise_code(sources, code) {
+        Some(plan) => {
+            if parts.len() == 1 && parts[0].number() == plan.number {
+                Some(fill(alloc, resolved, &plan, &mut parts[0]))
+            } else {
+                None
+            }
+        }
+        None => None,
+    }
+}
+
+/// The elements of the outputs over all broadcast places, from a block of each at each place.
+fn collect_blocks(
     alloc: Global,
     resolved: &Resolved,
     sources: &mut Vec<Source>,
@@ -107,4 +164,28 @@ pub fn collect(
         walk.next();
     }
     Ok(())
+}
+
+/// The elements of the outputs over all broadcast places, in order, or the first fault.
+pub fn collect(
+    alloc: Global,
+    resolved: &Resolved,
+    sources: &mut Vec<Source>,
+    frames: &mut Frames,
+    code: &[Stmt],
+    parts: &mut Vec<Part>,
+) -> Result<(), RunFault>
+    requires free { IsCodeFree (roles_of sources.old.items) (code_of code.now) }
+    requires blocks { HasBlocks sources.old.items frames.old.arrays }
+    requires outputs { All (λ part. IsFree (roles_of sources.old.items) part.number)
+        parts.old.items }
+    ensures { let left = left_in_order resolved.now (code_of code.now) sources.old.items
+        (length frames.old.locals) in
+        Collected result parts.old.items parts.new.items
+        (stores_from left 0 (size_of resolved.now.broadcast)) }
+{
+    match collect_elements(alloc, resolved, sources, code, parts) {
+        Some(result) => result,
+        None => collect_blocks(alloc, resolved, sources, frames, code, parts),
+    }
 }

@@ -9,7 +9,7 @@ use Rattle.pdl_kernel.specs.Parts.{Part, appended}
 use Rattle.pdl_kernel.specs.Sources.{IsCodeFree, IsFree, Source, left_in_order, moved_to, roles_of, store_of}
 use Rattle.pdl_kernel.proofs.Gathering.{gathered_fault, gathered_first, gathered_free, gathered_more}
 use Rattle.pdl_kernel.proofs.Places.{moved_again, place_left, roles_moved}
-use Rattle.pdl_kernel.proofs.walk.collect.Goals as goal
+use Rattle.pdl_kernel.proofs.walk.collect_blocks.Goals as goal
 
 pub loop-place-init : goal.loop-place-init
 loop-place-init c = record {

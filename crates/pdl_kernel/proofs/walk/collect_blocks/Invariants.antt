@@ -4,7 +4,7 @@ use Rattle.pdl_shape.specs.Shape.{size_of}
 use Rattle.pdl_code.specs.TreeOf.{code_of}
 use Rattle.pdl_kernel.specs.Sources.{HasBlocks, left_in_order, moved_to, roles_of}
 use Rattle.pdl_kernel.proofs.Gathering.{IsGathered}
-use Rattle.pdl_kernel.proofs.walk.collect.Given as goal
+use Rattle.pdl_kernel.proofs.walk.collect_blocks.Given as goal
 
 abbrev pub invariant-loop-place : goal.invariant-loop-place
 invariant-loop-place l = record {
