@@ -45,6 +45,7 @@ fn loop_slope(
 }
 
 /// The sum of numbers that are far from the ends of the range.
+#[inline(always)]
 fn near_sum(x: i64, y: i64) -> Option<i64>
     ensures { IfSome result (λ z. IsNear z × (z ≡ x +ℤ y)) }
 {
@@ -56,6 +57,7 @@ fn near_sum(x: i64, y: i64) -> Option<i64>
 }
 
 /// The difference of numbers that are far from the ends of the range.
+#[inline(always)]
 fn near_difference(x: i64, y: i64) -> Option<i64>
     ensures { IfSome result (λ z. IsNear z × (z ≡ x -ℤ y)) }
 {
@@ -63,6 +65,7 @@ fn near_difference(x: i64, y: i64) -> Option<i64>
 }
 
 /// A number that stays, and one that rises by one.
+#[inline(always)]
 fn still_and_rising(op: BinaryOp, x: i64, y: i64, count: u32) -> Option<Slope>
     ensures { IfSome result (λ s. (i : ℕ) → i < count →
         operate op x (y +ℤ pos i) ≡ Ok (number_at s i)) }
@@ -79,6 +82,7 @@ fn still_and_rising(op: BinaryOp, x: i64, y: i64, count: u32) -> Option<Slope>
 }
 
 /// A number that rises by one, and one that stays.
+#[inline(always)]
 fn rising_and_still(op: BinaryOp, x: i64, y: i64, count: u32) -> Option<Slope>
     ensures { IfSome result (λ s. (i : ℕ) → i < count →
         operate op (x +ℤ pos i) y ≡ Ok (number_at s i)) }
@@ -99,6 +103,7 @@ fn rising_and_still(op: BinaryOp, x: i64, y: i64, count: u32) -> Option<Slope>
 }
 
 /// An operation on two numbers, where its number stays or rises by one.
+#[inline(always)]
 fn joined(op: BinaryOp, a: &Slope, b: &Slope, count: u32) -> Option<Slope>
     ensures { IfSome result (λ s. (i : ℕ) → i < count →
         operate op (number_at a.now i) (number_at b.now i) ≡ Ok (number_at s i)) }
@@ -118,8 +123,9 @@ fn joined(op: BinaryOp, a: &Slope, b: &Slope, count: u32) -> Option<Slope>
     }
 }
 
-/// The number of an expression, where it stays or rises by one.
-fn slope_of(
+/// The number of an expression without parts.
+#[inline(always)]
+fn atom_slope(
     resolved: &Resolved,
     sources: &[Source],
     frames: &Frames,
@@ -136,10 +142,50 @@ fn slope_of(
         Expr::Size(word) => Some(Slope::Still(i64::from(size_in(resolved, *word)))),
         Expr::Index(word) => loop_slope(resolved, sources, frames, at, dimension, count, *word),
         Expr::Local(slot) => Some(Slope::Still(frames.local(*slot))),
+        Expr::Access(_, _) | Expr::Unary(_, _) | Expr::Binary(_, _, _) => None,
+    }
+}
+
+/// The number of an expression, where it stays or rises by one: at once where it has no parts.
+#[cycle(slope)]
+#[inline(always)]
+fn part_slope(
+    resolved: &Resolved,
+    sources: &[Source],
+    frames: &Frames,
+    at: &[u32; MOST],
+    dimension: usize,
+    count: u32,
+    expr: &Expr,
+) -> Option<Slope>
+    ensures { let l = loop_of resolved.now at.now dimension count sources.now frames.now in
+        IfSome result (IsSlope l (tree_of expr.now)) }
+{
+    match atom_slope(resolved, sources, frames, at, dimension, count, expr) {
+        Some(slope) => Some(slope),
+        None => slope_of(resolved, sources, frames, at, dimension, count, expr),
+    }
+}
+
+/// The number of an operation, where it stays or rises by one.
+#[cycle(slope)]
+fn slope_of(
+    resolved: &Resolved,
+    sources: &[Source],
+    frames: &Frames,
+    at: &[u32; MOST],
+    dimension: usize,
+    count: u32,
+    expr: &Expr,
+) -> Option<Slope>
+    ensures { let l = loop_of resolved.now at.now dimension count sources.now frames.now in
+        IfSome result (IsSlope l (tree_of expr.now)) }
+{
+    match expr {
         Expr::Binary(op, left, right) => {
-            match slope_of(resolved, sources, frames, at, dimension, count, left) {
+            match part_slope(resolved, sources, frames, at, dimension, count, left) {
                 Some(a) => {
-                    match slope_of(resolved, sources, frames, at, dimension, count, right) {
+                    match part_slope(resolved, sources, frames, at, dimension, count, right) {
                         Some(b) => joined(*op, &a, &b, count),
                         None => None,
                     }
@@ -147,7 +193,7 @@ fn slope_of(
                 None => None,
             }
         }
-        Expr::Access(_, _) | Expr::Unary(_, _) => None,
+        _ => None,
     }
 }
 
@@ -177,7 +223,7 @@ fn slope_along(
         }
         Entry::Given(along, expr) => {
             if *along == place {
-                slope_of(resolved, sources, frames, at, dimension, count, expr)
+                part_slope(resolved, sources, frames, at, dimension, count, expr)
             } else {
                 None
             }
