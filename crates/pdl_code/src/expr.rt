@@ -3,7 +3,7 @@ ghost use Rattle.std.specs.Prelude.{◌≡◌, ◌≤◌, ◌<◌, ℕ, suc, len
 ghost use Rattle.pdl_code.specs.declared.lexeme.Lexeme.{Lexeme};
 ghost use Rattle.pdl_code.specs.declared.lexeme.Span.{Span};
 ghost use Rattle.pdl_code.specs.Raw.{RawIndices};
-ghost use Rattle.pdl_lexemes.specs.Answers.{Gives};
+ghost use Rattle.pdl_lexemes.specs.ReadAnswers.{Gives};
 ghost use Rattle.pdl_lexemes.specs.Lists.{signed};
 ghost use Rattle.pdl_code.specs.RawOf.{raw_indices, raw_of};
 ghost use Rattle.pdl_code.specs.CodeReading.{access_at, before, chain_at, element_at, expr_at, expression, given_at, index_at, indices_at, level_at, limit_of, name_first, number_before, operand, primary_at, reader, round_at, unary_at};

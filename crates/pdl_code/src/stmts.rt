@@ -1,6 +1,6 @@
 //! The reader of statements: a recursive descent over the tokens.
 ghost use Rattle.std.specs.Prelude.{◌≡◌, length, option_map, option_and_then};
-ghost use Rattle.pdl_lexemes.specs.Answers.{Gives};
+ghost use Rattle.pdl_lexemes.specs.ReadAnswers.{Gives};
 ghost use Rattle.pdl_code.specs.Raw.{declare};
 ghost use Rattle.pdl_code.specs.RawOf.{raw_code, raw_of, raw_step};
 ghost use Rattle.pdl_code.specs.CodeReading.{assignment_at, before_code, block_at, body_at, choice_at, code_at, code_reader, else_at, ended_at, initial_at, put_at, read_code, set_sign, statement_at, step_at};

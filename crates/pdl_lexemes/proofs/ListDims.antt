@@ -6,7 +6,7 @@ use Rattle.pdl_lexemes.specs.declared.Lexeme.{Lexeme}
 use Rattle.pdl_lexemes.specs.declared.Lexeme.TheVariants.{OpenSquare, CloseSquare}
 use Rattle.pdl_lexemes.specs.Lists.{shared, with_length, ListPart, SpellsList, an_item, some_items, a_list, number, minus, nested, first, more, empty, filled}
 use Rattle.pdl_lexemes.specs.ListReading.{ReadPart, list_read}
-use Rattle.pdl_lexemes.specs.Answers.{Gives}
+use Rattle.pdl_lexemes.specs.ReadAnswers.{Gives}
 use Rattle.pdl_lexemes.specs.declared.refusal.Refusal.{Refusal}
 use Rattle.pdl_lexemes.specs.Squares.{goes_too_deep, AreFew}
 use Rattle.pdl_lexemes.proofs.ListSound.{reader_sound}

@@ -1,4 +1,4 @@
-pub mod Answers
+pub mod ReadAnswers
 pub mod Bytes
 pub mod Lists
 pub mod Peeks

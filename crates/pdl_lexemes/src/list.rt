@@ -3,7 +3,7 @@
 ghost use Rattle.std.specs.Prelude.{◌≡◌, ◌+◌, ◌∷◌, ◌++◌, [], suc, length, IfOk, Some, unwrap_or};
 ghost use Rattle.pdl_shape.specs.Shape.{IsDims};
 ghost use Rattle.pdl_lexemes.specs.Lists.{shared, with_length};
-ghost use Rattle.pdl_lexemes.specs.Answers.{Gives};
+ghost use Rattle.pdl_lexemes.specs.ReadAnswers.{Gives};
 ghost use Rattle.pdl_lexemes.specs.ListReading.{list_reader, list_read, inside_at, filled_at, items_at, item_at, read_part, counted};
 
 use crate::sizes::Sizes;

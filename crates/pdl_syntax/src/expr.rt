@@ -4,7 +4,7 @@ ghost use Rattle.std.specs.Prelude.{◌≡◌, ◌≤◌, ◌<◌, suc, length, 
 ghost use Rattle.pdl_syntax.specs.Tree.{none};
 ghost use Rattle.pdl_syntax.specs.Readers.{reads, with_tree, with_args};
 ghost use Rattle.pdl_syntax.specs.TreeOf.{tree_of, args_of};
-ghost use Rattle.pdl_lexemes.specs.Answers.{Gives};
+ghost use Rattle.pdl_lexemes.specs.ReadAnswers.{Gives};
 ghost use Rattle.pdl_syntax.specs.ExpressionReading.{expression, operand, reader, number_before, level_at, grown_at, chain_at, limit_of, unary_at, postfix_at, methods_at, primary_at, call_at, round_at, arg_at, more_at, closed_at, maybe_at};
 ghost use Rattle.pdl_lexemes.specs.Lists.{signed};
 

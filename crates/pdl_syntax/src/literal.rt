@@ -2,7 +2,7 @@
 
 ghost use Rattle.std.specs.Prelude.{◌≡◌, ◌∷◌, [], suc, length, unwrap_or};
 ghost use Rattle.pdl_shape.specs.Shape.{IsDims};
-ghost use Rattle.pdl_lexemes.specs.Answers.{Gives};
+ghost use Rattle.pdl_lexemes.specs.ReadAnswers.{Gives};
 ghost use Rattle.pdl_lexemes.specs.Lists.{type_of};
 ghost use Rattle.pdl_syntax.specs.Grammar.{literal_of};
 ghost use Rattle.pdl_syntax.specs.ExpressionReading.{literal_at, round_list_at};

@@ -1,7 +1,7 @@
 //! The parts of statements that are lists: names, and the views of a target.
 
 ghost use Rattle.std.specs.Prelude.{◌≡◌, ◌∷◌, ◌++◌, [], length, IfOk, IfErr, map, option_map, if◌then◌else◌, Some, None};
-ghost use Rattle.pdl_lexemes.specs.Answers.{Gives};
+ghost use Rattle.pdl_lexemes.specs.ReadAnswers.{Gives};
 ghost use Rattle.pdl_syntax.specs.ExpressionReading.{maybe_at};
 ghost use Rattle.pdl_syntax.specs.Readers.{reads, text_at, with_args};
 ghost use Rattle.pdl_syntax.specs.StatementReading.{names_at, all_names_at, views_at};

@@ -2,7 +2,7 @@
 
 ghost use Rattle.std.specs.Prelude.{◌≡◌, ◌∷◌, option_map};
 ghost use Rattle.pdl_lexemes.specs.Peeks.{slot_at};
-ghost use Rattle.pdl_lexemes.specs.Answers.{Gives};
+ghost use Rattle.pdl_lexemes.specs.ReadAnswers.{Gives};
 ghost use Rattle.pdl_syntax.specs.Readers.{reads, text_at, with_tree};
 ghost use Rattle.pdl_syntax.specs.StatementReading.{expression_to_end_at, behind_at, valued_at, called_at, bind_at, bind_list_at, binding_at, assignment_at, reshape_at, sever_at, statement_of_name_at, value_at, show_at, undef_at, watch_at, define_at, statement_at, at_end};
 ghost use Rattle.pdl_syntax.specs.StatementTree.{statement_of, vars, unwatch};

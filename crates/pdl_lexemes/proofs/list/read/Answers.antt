@@ -1,5 +1,5 @@
 use Rattle.std.proofs.Common.{◌∙◌, ◌+◌, [], length, ap, subst, add-one}
-use Rattle.pdl_lexemes.specs.Answers.{Gives}
+use Rattle.pdl_lexemes.specs.ReadAnswers.{Gives}
 use Rattle.pdl_lexemes.specs.ListReading.{read_part, list_reader}
 use Rattle.pdl_lexemes.proofs.ListDims.{read_dims}
 use Rattle.pdl_lexemes.proofs.list.read.Goals as goal
