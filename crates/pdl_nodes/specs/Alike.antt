@@ -1,5 +1,6 @@
 -- Tables of the same arrays.
 use Rattle.std.specs.Prelude.{◌≡◌, ℕ, ◌==◌, if◌then◌else◌, Bool, true, List, [], ◌∷◌, Some, None}
+use Rattle.pdl_nodes.specs.Owed.{target_of}
 use Rattle.pdl_nodes.specs.Row.{parent_of}
 use Rattle.pdl_nodes.specs.Rows.{Rows, row_at, has}
 use Rattle.pdl_nodes.specs.Families.{has_repeats}
@@ -34,7 +35,7 @@ KeepsMarks old new = (v : ℕ) → (row_at old v).mark ≡ true → (row_at new 
 abbrev pub target : Rows → ℕ → ℕ
 target rs v =
     let b = (row_at rs v).base in
-    if has_repeats (places_of rs b) then (row_at rs v).root else b
+    target_of (has_repeats (places_of rs b)) (row_at rs v).root b
 
 -- of the family of v the target alone is marked, and others are marked as before
 abbrev pub MarksTarget : (old : Rows) (v : ℕ) (new : Rows) → Type 0

@@ -10,6 +10,7 @@ pub mod Assigned
 pub mod Spots
 pub mod Placed
 pub mod Worlds
+pub mod Owed
 pub mod Still
 pub mod Sized
 pub mod Families

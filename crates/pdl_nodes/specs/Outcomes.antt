@@ -1,8 +1,9 @@
 -- What assigning, and making an array fresh, leave.
-use Rattle.std.specs.Prelude.{◌≡◌, ℕ, ℤ, ◌==◌, ◌&&◌, not, if◌then◌else◌, true, List, sum_by, All, Option, Some, None}
+use Rattle.std.specs.Prelude.{◌≡◌, ℕ, ℤ, ◌==◌, true, List, sum_by, All, Option, Some, None}
 use Rattle.pdl_shape.specs.Shape.{size_of}
 use Rattle.pdl_world.specs.Paths.{path}
 use Rattle.pdl_world.specs.World.{assign}
+use Rattle.pdl_nodes.specs.Owed.{owed, size_if}
 use Rattle.pdl_nodes.specs.Row.{parent_of}
 use Rattle.pdl_nodes.specs.Rows.{Rows, row_at, has}
 use Rattle.pdl_nodes.specs.Alike.{IsAlike, KeepsMarks, MarksTarget, is_fresh_in}
@@ -44,7 +45,7 @@ PathIsFresh rs v = All (λ u. is_fresh_in rs u ≡ true) (path (shape rs) v)
 abbrev pub outdated_at : Rows → ℕ → ℕ
 outdated_at rs u =
     let r = row_at rs u in
-    if (r.base == u) && not (r.root == u) then (if r.mark then 0 else size_of r.triple.dims) else 0
+    owed (r.base == u) (r.root == u) r.mark (size_of r.triple.dims)
 
 -- that of all such views on the path of v
 abbrev pub outdated : Rows → ℕ → ℕ
@@ -52,8 +53,7 @@ outdated rs v = sum_by (outdated_at rs) (path (shape rs) v)
 
 -- the number of elements that wait
 abbrev pub waiting_size : Rows → Option ℕ → ℕ
-waiting_size rs None = 0
-waiting_size rs (Some v) = size_of (row_at rs v).triple.dims
+waiting_size rs o = size_if (λ v. (row_at rs v).triple.dims) o
 
 -- what waits in other families than v's is what waited
 abbrev pub OthersWait : (old : Rows) (v : ℕ) (new : Rows) → Type 0

@@ -1,5 +1,5 @@
 -- What kept arrays are seen as, and how calls change that.
-use Rattle.std.specs.Prelude.{◌≡◌, ℕ, ◌+◌, ◌==◌, ◌&&◌, not, if◌then◌else◌, Bool, true, false, List, [], ◌∷◌, sum_by, All, Option, Some, None}
+use Rattle.std.specs.Prelude.{◌≡◌, ℕ, ◌+◌, ◌==◌, if◌then◌else◌, Bool, true, false, List, [], ◌∷◌, sum_by, All, Option, Some, None}
 use Rattle.pdl_buf.specs.Window.{Window}
 use Rattle.pdl_shape.specs.Shape.{size_of}
 use Rattle.pdl_world.specs.Paths.{path, root_of}
@@ -7,6 +7,7 @@ use Rattle.pdl_world.specs.Sound.{IsLive}
 use Rattle.pdl_world.specs.Swept.{holds}
 use Rattle.pdl_world.specs.World.{World, ArrayDef, dims_in, ty_in, elements, has_repeats, places_in}
 pub use Rattle.pdl_world.specs.Windows.{base}
+use Rattle.pdl_nodes.specs.Owed.{owed, size_if, target_of}
 
 -- The world of arrays; those that can be lent; per root the view whose buffer waits to be written
 -- back; how often each array is held; and the number of the next array.
@@ -55,9 +56,8 @@ shown_in s v = record { ty = ty_in s.world v; dims = dims_in s.world v; elems = 
 -- how many elements a view has that keeps its own and can't be lent
 abbrev pub outdated_at : State → ℕ → ℕ
 outdated_at s u =
-    if (base s.world u == u) && not (root_of s.world u == u)
-    then (if is_fresh s u then 0 else size_of (dims_in s.world u))
-    else 0
+    owed (base s.world u == u) (root_of s.world u == u) (is_fresh s u)
+    (size_of (dims_in s.world u))
 
 -- of all views on the path of v
 abbrev pub outdated : State → ℕ → ℕ
@@ -73,13 +73,12 @@ waiting s v = waiting_at s.pending (root_of s.world v)
 
 -- how many elements wait
 abbrev pub waiting_size : State → Option ℕ → ℕ
-waiting_size s None = 0
-waiting_size s (Some u) = size_of (dims_in s.world u)
+waiting_size s o = size_if (dims_in s.world) o
 
 -- where values are put that are assigned to v: in its base, or in its root where the base has
 -- repeats
 abbrev pub target : World → ℕ → ℕ
-target w v = if has_repeats (places_in w (base w v)) then root_of w v else base w v
+target w v = target_of (has_repeats (places_in w (base w v))) (root_of w v) (base w v)
 
 -- after an assignment to v each array that is shown by what was written can be lent
 abbrev pub TargetIsFresh : (old : State) (v : ℕ) (new : State) → Type 0
