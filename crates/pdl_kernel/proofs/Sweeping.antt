@@ -16,12 +16,11 @@ use Rattle.pdl_code.specs.Tree.{Tree, Indices, Step, Code, access, along, binary
 use Rattle.pdl_kernel.specs.declared.axes.Axis.{Axis}
 use Rattle.pdl_kernel.specs.declared.faults.Fault.{Fault}
 use Rattle.pdl_kernel.specs.declared.line.Line.{Line}
-use Rattle.pdl_kernel.specs.declared.line.Slope.{Slope}
 use Rattle.pdl_kernel.specs.declared.sweep.Operand.{Operand}
 use Rattle.pdl_kernel.specs.declared.sweep.Plan.{Plan}
 use Rattle.pdl_kernel.specs.Arrays.{coordinates_in, element, position_in, stored_at}
 use Rattle.pdl_kernel.specs.Leading.{IsLaidOut, LeadsTo, LeadsWithin}
-use Rattle.pdl_kernel.specs.Lines.{AtEach, HasSameForm, IsAccess, IsBlockLine, IsCodePlan, IsLine, IsOperand, IsOperation, IsPlan, IsSlope, Loop, number_at, place_of, taken, turned, worked}
+use Rattle.pdl_kernel.specs.Lines.{AtEach, HasSameForm, IsAccess, IsBlockLine, IsCodePlan, IsLine, IsOperand, IsOperation, IsPlan, IsSpan, Loop, place_of, taken, turned, worked}
 use Rattle.pdl_kernel.specs.Meaning.{Store, and_then, argument, assigned, assigned_at, changed, element_at, indices, nothing, or_range, run, start, step, turns, value, with_argument}
 use Rattle.pdl_kernel.specs.Sources.{IsFree, Source, Work, found, roles_of, shown, store_of}
 use Rattle.pdl_kernel.proofs.Leads.{IsLed, assigned_led, element_led, led_first, led_last, led_more, within_led}
@@ -81,13 +80,12 @@ further : (p q a first rise i : ℕ) → (p + q * i) + a * (first + rise * i) �
 further p q a first rise i = grind arith
 
 -- one index more
-pub along_more : (l : Loop) (axes : List Axis) (all here rest : Indices) (from k p q first rise : ℕ) (e : Tree) (a : Axis) (s : Slope) → IsLedAlong l axes all here from k p q → here ≡ along k e rest → IsSlope l e s
-    → ((i : ℕ) → i < l.count → (number_at s i ≡ pos (first + rise * i)) × (first + rise * i < (get_or axes k a).size)) → k < length axes → k < names_limit
-    → IsLedAlong l axes all rest from (k + 1) (p + (get_or axes k a).step * first) (q + (get_or axes k a).step * rise)
-along_more l axes all here rest from k p q first rise e a s led is slope within ka kn w h i lt =
+pub along_more : (l : Loop) (axes : List Axis) (all here rest : Indices) (from k p q first rise : ℕ) (e : Tree) (a : Axis) → IsLedAlong l axes all here from k p q → here ≡ along k e rest → IsSpan l e (get_or axes k a).size first rise
+    → k < length axes → k < names_limit → IsLedAlong l axes all rest from (k + 1) (p + (get_or axes k a).step * first) (q + (get_or axes k a).step * rise)
+along_more l axes all here rest from k p q first rise e a led is span ka kn w h i lt =
     let at = slice_set l.at l.dimension i in
     let m = store_of l.sources w in
-    let one = led_more l.call.sizes at m axes all here rest from k (p + q * i) (first + rise * i) e a (led w h i lt) is (slope w h i lt ∙ ap Ok (within i lt).0) ka kn (within i lt).1 in
+    let one = led_more l.call.sizes at m axes all here rest from k (p + q * i) (first + rise * i) e a (led w h i lt) is (span w h i lt).0 ka kn (span w h i lt).1 in
     subst (λ p. IsLed l.call.sizes at m axes all rest from (k + 1) p) (further p q (get_or axes k a).step first rise i) one
 
 no_indices : (es : List Entry) (k : ℕ) → length es ≤ k → indices_of (drop k es) ≡ none

@@ -58,6 +58,12 @@ abbrev pub IsSlope : Loop → Tree → Slope → Type 0
 IsSlope l e s = AtEach l (λ i at w.
     value l.call.sizes at (store_of l.sources w) e ≡ Ok (number_at s i))
 
+-- an expression has the first number, and one further by the rise at each turn, all below a size
+abbrev pub IsSpan : Loop → Tree → (size first rise : ℕ) → Type 0
+IsSpan l e size first rise = AtEach l (λ i at w.
+    (value l.call.sizes at (store_of l.sources w) e ≡ Ok (pos (first + rise * i)))
+    × (first + rise * i < size))
+
 -- the place of a line at a turn
 abbrev pub place_of : Line → ℕ → ℕ
 place_of line i = line.start + line.step * i

@@ -3,7 +3,7 @@ ghost use Rattle.std.specs.Prelude.{◌≡◌, ◌<◌, ◌≤◌, ◌+◌, ◌*
 ghost use Rattle.pdl_code.specs.Tree.{index};
 ghost use Rattle.pdl_code.specs.TreeOf.{indices_of, tree_of};
 ghost use Rattle.pdl_kernel.specs.Leading.{dimension_of, number_of};
-ghost use Rattle.pdl_kernel.specs.Lines.{IsBlockLine, IsLine, IsNear, IsSlope, loop_of, number_at};
+ghost use Rattle.pdl_kernel.specs.Lines.{IsBlockLine, IsLine, IsNear, IsSlope, IsSpan, loop_of, number_at};
 ghost use Rattle.pdl_kernel.specs.Meaning.{operate};
 ghost use Rattle.pdl_kernel.specs.Sources.{IsFree, IsSmall, roles_of};
 
@@ -197,40 +197,6 @@ fn slope_of(
     }
 }
 
-/// The index of an access along a dimension, where it stays or rises by one.
-#[inline(always)]
-fn slope_along(
-    resolved: &Resolved,
-    sources: &[Source],
-    frames: &Frames,
-    at: &[u32; MOST],
-    dimension: usize,
-    count: u32,
-    entry: &Entry,
-    place: usize,
-) -> Option<Slope>
-    ensures along { IfSome result (λ s. dimension_of entry.now ≡ place) }
-    ensures number { let l = loop_of resolved.now at.now dimension count sources.now frames.now in
-        IfSome result (IsSlope l (number_of entry.now)) }
-{
-    match entry {
-        Entry::Looped(along, word) => {
-            if *along == place {
-                loop_slope(resolved, sources, frames, at, dimension, count, *word)
-            } else {
-                None
-            }
-        }
-        Entry::Given(along, expr) => {
-            if *along == place {
-                part_slope(resolved, sources, frames, at, dimension, count, expr)
-            } else {
-                None
-            }
-        }
-    }
-}
-
 /// The index of the first turn, and how far it rises to each next one, where all are in range.
 #[inline(always)]
 fn span(slope: &Slope, size: u32, count: u32) -> Option<(u32, u32)>
@@ -253,6 +219,92 @@ fn span(slope: &Slope, size: u32, count: u32) -> Option<(u32, u32)>
             }
             None => None,
         },
+    }
+}
+
+/// The index of a loop, as the index of the first turn and how far it rises to each next one,
+/// where all are below a size.
+#[inline(always)]
+fn loop_span(
+    resolved: &Resolved,
+    sources: &[Source],
+    frames: &Frames,
+    at: &[u32; MOST],
+    dimension: usize,
+    count: u32,
+    word: usize,
+    size: u32,
+) -> Option<(u32, u32)>
+    ensures rise { IfSome result (λ s. s.1 ≤ 1) }
+    ensures span { let l = loop_of resolved.now at.now dimension count sources.now frames.now in
+        IfSome result (λ s. IsSpan l (index word) size s.0 s.1) }
+{
+    let _call = (resolved.generic, sources.len(), frames.len());
+    if word != dimension {
+        let first = loop_index(at, word);
+        if first < size { Some((first, 0)) } else { None }
+    } else if word < MOST && count <= size {
+        Some((0, 1))
+    } else {
+        None
+    }
+}
+
+/// The same for an expression.
+#[inline(always)]
+fn given_span(
+    resolved: &Resolved,
+    sources: &[Source],
+    frames: &Frames,
+    at: &[u32; MOST],
+    dimension: usize,
+    count: u32,
+    expr: &Expr,
+    size: u32,
+) -> Option<(u32, u32)>
+    ensures rise { IfSome result (λ s. s.1 ≤ 1) }
+    ensures span { let l = loop_of resolved.now at.now dimension count sources.now frames.now in
+        IfSome result (λ s. IsSpan l (tree_of expr.now) size s.0 s.1) }
+{
+    match part_slope(resolved, sources, frames, at, dimension, count, expr) {
+        Some(slope) => span(&slope, size, count),
+        None => None,
+    }
+}
+
+/// The same for the index of an access along a dimension.
+#[inline(always)]
+fn span_along(
+    resolved: &Resolved,
+    sources: &[Source],
+    frames: &Frames,
+    at: &[u32; MOST],
+    dimension: usize,
+    count: u32,
+    entry: &Entry,
+    place: usize,
+    size: u32,
+) -> Option<(u32, u32)>
+    ensures along { IfSome result (λ s. dimension_of entry.now ≡ place) }
+    ensures rise { IfSome result (λ s. s.1 ≤ 1) }
+    ensures span { let l = loop_of resolved.now at.now dimension count sources.now frames.now in
+        IfSome result (λ s. IsSpan l (number_of entry.now) size s.0 s.1) }
+{
+    match entry {
+        Entry::Looped(along, word) => {
+            if *along == place {
+                loop_span(resolved, sources, frames, at, dimension, count, *word, size)
+            } else {
+                None
+            }
+        }
+        Entry::Given(along, expr) => {
+            if *along == place {
+                given_span(resolved, sources, frames, at, dimension, count, expr, size)
+            } else {
+                None
+            }
+        }
     }
 }
 
@@ -281,14 +333,21 @@ pub fn line_of(
     let mut start = from;
     let mut step = 0usize;
     for (k, entry) in entries.iter().enumerate() {
-        match slope_along(resolved, sources, frames, at, dimension, count, entry, k) {
-            Some(slope) => match span(&slope, axes[k].size, count) {
-                Some(span) => {
-                    start += axes[k].step as usize * span.0 as usize;
-                    step += axes[k].step as usize * span.1 as usize;
-                }
-                None => return None,
-            },
+        match span_along(
+            resolved,
+            sources,
+            frames,
+            at,
+            dimension,
+            count,
+            entry,
+            k,
+            axes[k].size,
+        ) {
+            Some(span) => {
+                start += axes[k].step as usize * span.0 as usize;
+                step += axes[k].step as usize * span.1 as usize;
+            }
             None => return None,
         }
     }

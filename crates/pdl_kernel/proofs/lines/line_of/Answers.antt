@@ -22,14 +22,14 @@ loop-k-preserved c =
     let k = c.loop-k.k in
     let axes = c.args.axes.now in
     let es = c.args.entries.now in
-    let span = c.in-Some-span.span in
+    let span = c.in-Some.span in
     let rest = index_next es k c.index-entries-k.result (search rules) c.index-entries-k.is c.in-Some.ensures.along in
     let step : (get_or axes k d).step ≤ 1048576 = c.requires.small k d (search rules) in
     let far : (get_or axes k d).step * span.0 ≤ 4503599627370496 = mul-le (get_or axes k d).step span.0 1048576 4294967296 step (search rules) in
     let more : (get_or axes k d).step * span.1 ≤ 1048576 = mul-le (get_or axes k d).step span.1 1048576 1 step (search rules) in
     record {
-      led = along_more l axes (indices_of es) (indices_of (drop k es)) (indices_of (drop (k + 1) es)) c.args.from k c.loop-k.start c.loop-k.step span.0 span.1 (number_of c.index-entries-k.result) d c.in-Some.slope
-          c.loop-k.invariant.led rest c.in-Some.ensures.number c.in-Some-span.ensures.within (search rules) (search rules);
+      led = along_more l axes (indices_of es) (indices_of (drop k es)) (indices_of (drop (k + 1) es)) c.args.from k c.loop-k.start c.loop-k.step span.0 span.1 (number_of c.index-entries-k.result) d
+          c.loop-k.invariant.led rest c.in-Some.ensures.span (search rules) (search rules);
       near = omega (arith, far, c.loop-k.invariant.near);
       small = omega (arith, more, c.loop-k.invariant.small);
     }
