@@ -3,8 +3,7 @@ use Rattle.std.proofs.Common.{◌≡◌, ◌≢◌, ℕ, zero, suc, ◌+◌, ◌
 use Rattle.std.specs.Prelude.{IfSome, Option, Result, option_map, slice_set}
 use Rattle.std.proofs.Math.ListN.{get_or-map}
 use Rattle.std.proofs.Math.Seq.{map-set_same}
-use Rattle.std.proofs.lemmas.List.{length-map, get_or-set_same, get_or-set_other}
-use Rattle.pdl_elem.specs.declared.BinaryOp.{BinaryOp}
+use Rattle.std.proofs.lemmas.List.{length-map}
 use Rattle.pdl_shape.specs.Shape.{position_of}
 use Rattle.pdl_buf.specs.declared.made.Made.{Made}
 use Rattle.pdl_sig.specs.Refusals.{names_limit}
@@ -12,7 +11,7 @@ use Rattle.pdl_sig.specs.declared.Role.TheVariants.{Input}
 use Rattle.pdl_code.specs.declared.tree.Entry.{Entry}
 use Rattle.pdl_code.specs.declared.tree.Stmt.{Stmt}
 use Rattle.pdl_code.specs.TreeOf.{code_of, indices_of, step_of}
-use Rattle.pdl_code.specs.Tree.{Tree, Indices, Step, Code, access, along, binary, index, none, put, done, next}
+use Rattle.pdl_code.specs.Tree.{Tree, Indices, Step, Code, access, along, none, put, done, next}
 use Rattle.pdl_kernel.specs.declared.axes.Axis.{Axis}
 use Rattle.pdl_kernel.specs.declared.faults.Fault.{Fault}
 use Rattle.pdl_kernel.specs.declared.line.Line.{Line}
@@ -20,16 +19,13 @@ use Rattle.pdl_kernel.specs.declared.sweep.Operand.{Operand}
 use Rattle.pdl_kernel.specs.declared.sweep.Plan.{Plan}
 use Rattle.pdl_kernel.specs.Arrays.{coordinates_in, element, position_in, stored_at}
 use Rattle.pdl_kernel.specs.Leading.{IsLaidOut, LeadsTo, LeadsWithin}
-use Rattle.pdl_kernel.specs.Lines.{AtEach, HasSameForm, IsAccess, IsBlockLine, IsCodePlan, IsLine, IsOperand, IsOperation, IsPlan, IsSpan, Loop, place_of, taken, turned, worked}
+use Rattle.pdl_kernel.specs.Lines.{AtEach, HasSameForm, IsAccess, IsBlockLine, IsCodePlan, IsLine, IsOperand, IsOperation, IsPlan, IsSpan, Loop, place_of, turned, worked}
 use Rattle.pdl_kernel.specs.Meaning.{Store, and_then, argument, assigned, assigned_at, changed, element_at, indices, nothing, or_range, run, start, step, turns, value, with_argument}
 use Rattle.pdl_kernel.specs.Sources.{IsFree, Source, Work, found, roles_of, shown, store_of}
 use Rattle.pdl_kernel.proofs.Leads.{IsLed, assigned_led, element_led, led_first, led_last, led_more, within_led}
 use Rattle.pdl_kernel.proofs.Stores.{overlaid_free, overlaid_input, overlaid_set}
 
 -- the form of a work
-pub same_form : (w : Work) → HasSameForm w w
-same_form w = record { dims = refl; locals = refl }
-
 pub form_more : (u v w : Work) → HasSameForm u v → HasSameForm v w → HasSameForm u w
 form_more u v w a b = record { dims = b.dims ∙ a.dims; locals = b.locals ∙ a.locals }
 
@@ -55,15 +51,6 @@ turned_form w now p i e = by_worked (worked w p.value i) e
     by_worked : (x : Result ℤ Fault) → and_then x (λ y. and_then (assigned_at (get_or w.arrays k nothing) p.op y (place_of p.line i)) (λ a. Ok (record w { arrays = slice_set w.arrays k a }))) ≡ Ok now → HasSameForm w now
     by_worked (Ok y) e = by_changed (changed p.op (get_or (get_or w.arrays k nothing).elems (place_of p.line i) (pos 0)) y) e
     by_worked (Err d) e = cc
-
--- the index of a loop
-pub still_slope : (l : Loop) (d : ℕ) (x : ℤ) → d ≢ l.dimension → x ≡ pos (get_or l.at d 0) → AtEach l (λ i at w. value l.call.sizes at (store_of l.sources w) (index d) ≡ Ok x)
-still_slope l d x other is w h i lt = ap (λ n. Ok (pos n)) (get_or-set_other l.at l.dimension d i 0 other) ∙ ap Ok (sym is)
-
-pub rising_slope : (l : Loop) (d : ℕ) (x : ℕ → ℤ) → d ≡ l.dimension → d < length l.at → ((i : ℕ) → x i ≡ pos i) → AtEach l (λ i at w. value l.call.sizes at (store_of l.sources w) (index d) ≡ Ok (x i))
-rising_slope l d x same below is w h i lt =
-    ap (λ k. Ok (pos (get_or (slice_set l.at l.dimension i) k 0))) same
-    ∙ ap (λ n. Ok (pos n)) (get_or-set_same l.at l.dimension i 0 (omega (arith, same, below))) ∙ ap Ok (sym (is i))
 
 -- the indices before the k-th one lead along a line
 abbrev pub IsLedAlong : Loop → List Axis → (all rest : Indices) → (from k start step : ℕ) → Type 0
@@ -141,14 +128,6 @@ given_access l k d axes is from es line ks kb input laid leads w h i lt =
     let same : argument m k ≡ shown (get_or l.sources k d) = overlaid_input l.sources w.arrays k d ks (omega (arith, long, kb)) input in
     subst (λ (a : Made). and_then (indices l.call.sizes at m is start) (element_at a) ≡ Ok (get_or es (place_of line i) (pos 0))) (sym same)
     (element_led l.call.sizes at m (shown (get_or l.sources k d)) axes is from (place_of line i) es laid (leads w h i lt))
-
--- an operation is worked out by its operands
-pub both_worked : (l : Loop) (op : BinaryOp) (e f : Tree) (o p : Operand) → IsOperand l e o → IsOperand l f p
-    → AtEach l (λ i at w. value l.call.sizes at (store_of l.sources w) (binary op e f) ≡ changed (Some op) (taken w o i) (taken w p i))
-both_worked l op e f o p left right w h i lt =
-    let at = slice_set l.at l.dimension i in
-    let m = store_of l.sources w in
-    ap (λ r. and_then r (λ x. and_then (value l.call.sizes at m f) (changed (Some op) x))) (left w h i lt) ∙ ap (λ r. and_then r (changed (Some op) (taken w o i))) (right w h i lt)
 
 -- a statement that stores goes by a plan
 plan_is : (l : Loop) (is : Indices) (e : Tree) (p : Plan) → IsFree (roles_of l.sources) p.number → IsOperation l e p.value → IsBlockLine l p.number is p.line
