@@ -1,7 +1,6 @@
 pub mod Finds
 pub mod Slots
 pub mod Calls
-pub mod Lasts
 pub mod Rests
 pub mod Reaches
 pub mod Marks

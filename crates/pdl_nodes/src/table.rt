@@ -11,7 +11,7 @@ ghost use Rattle.pdl_nodes.specs.Assigned.{put_all};
 ghost use Rattle.pdl_nodes.specs.Children.{children, noted, one_of};
 ghost use Rattle.pdl_nodes.specs.Placed.{placed_by};
 ghost use Rattle.pdl_nodes.specs.Spots.{spots};
-ghost use Rattle.pdl_nodes.specs.Rows.{NumbersBelow, row_at, has, each, without, below, newest};
+ghost use Rattle.pdl_nodes.specs.Rows.{NumbersBelow, row_at, has, each, without};
 ghost use Rattle.pdl_nodes.specs.Row.{is_buffered, places_or};
 ghost use Rattle.pdl_nodes.specs.Changes.{kept_in, wait_in, fill_in, marked_in, mark_in};
 ghost use Rattle.pdl_nodes.specs.Cut.{CanCut, CanDerive, cut, derived_in, from, rooted_in};
@@ -140,26 +140,6 @@ impl Table {
         self.nodes.remove(key);
         self.marked.forget(root, id);
         self.children.take(parent);
-    }
-
-    /// The newest live number.
-    pub fn newest(&self) -> Option<u64>
-        ensures { result ≡ newest self.now }
-    {
-        match self.keys.iter().next_back() {
-            Some((newest, _)) => Some(*newest),
-            None => None,
-        }
-    }
-
-    /// The newest live number below this one.
-    pub fn older(&self, id: u64) -> Option<u64>
-        ensures { result ≡ below self.now id }
-    {
-        match self.keys.range(..id).next_back() {
-            Some((older, _)) => Some(*older),
-            None => None,
-        }
     }
 
     /// Puts the elements that are kept of a marked view at its places in its root, in order. It
