@@ -146,30 +146,9 @@ fn atom_slope(
     }
 }
 
-/// The number of an expression, where it stays or rises by one: at once where it has no parts.
-#[cycle(slope)]
+/// The number of an operation on two expressions without parts, or of one of these.
 #[inline(always)]
-fn part_slope(
-    resolved: &Resolved,
-    sources: &[Source],
-    frames: &Frames,
-    at: &[u32; MOST],
-    dimension: usize,
-    count: u32,
-    expr: &Expr,
-) -> Option<Slope>
-    ensures { let l = loop_of resolved.now at.now dimension count sources.now frames.now in
-        IfSome result (IsSlope l (tree_of expr.now)) }
-{
-    match atom_slope(resolved, sources, frames, at, dimension, count, expr) {
-        Some(slope) => Some(slope),
-        None => slope_of(resolved, sources, frames, at, dimension, count, expr),
-    }
-}
-
-/// The number of an operation, where it stays or rises by one.
-#[cycle(slope)]
-fn slope_of(
+fn pair_slope(
     resolved: &Resolved,
     sources: &[Source],
     frames: &Frames,
@@ -183,9 +162,9 @@ fn slope_of(
 {
     match expr {
         Expr::Binary(op, left, right) => {
-            match part_slope(resolved, sources, frames, at, dimension, count, left) {
+            match atom_slope(resolved, sources, frames, at, dimension, count, left) {
                 Some(a) => {
-                    match part_slope(resolved, sources, frames, at, dimension, count, right) {
+                    match atom_slope(resolved, sources, frames, at, dimension, count, right) {
                         Some(b) => joined(*op, &a, &b, count),
                         None => None,
                     }
@@ -193,7 +172,37 @@ fn slope_of(
                 None => None,
             }
         }
-        _ => None,
+        _ => atom_slope(resolved, sources, frames, at, dimension, count, expr),
+    }
+}
+
+/// The number of an operation on two such expressions, or of one of these.
+#[inline(always)]
+fn small_slope(
+    resolved: &Resolved,
+    sources: &[Source],
+    frames: &Frames,
+    at: &[u32; MOST],
+    dimension: usize,
+    count: u32,
+    expr: &Expr,
+) -> Option<Slope>
+    ensures { let l = loop_of resolved.now at.now dimension count sources.now frames.now in
+        IfSome result (IsSlope l (tree_of expr.now)) }
+{
+    match expr {
+        Expr::Binary(op, left, right) => {
+            match pair_slope(resolved, sources, frames, at, dimension, count, left) {
+                Some(a) => {
+                    match pair_slope(resolved, sources, frames, at, dimension, count, right) {
+                        Some(b) => joined(*op, &a, &b, count),
+                        None => None,
+                    }
+                }
+                None => None,
+            }
+        }
+        _ => atom_slope(resolved, sources, frames, at, dimension, count, expr),
     }
 }
 
@@ -266,7 +275,7 @@ fn given_span(
     ensures span { let l = loop_of resolved.now at.now dimension count sources.now frames.now in
         IfSome result (λ s. IsSpan l (tree_of expr.now) size s.0 s.1) }
 {
-    match part_slope(resolved, sources, frames, at, dimension, count, expr) {
+    match small_slope(resolved, sources, frames, at, dimension, count, expr) {
         Some(slope) => span(&slope, size, count),
         None => None,
     }
@@ -310,7 +319,7 @@ fn span_along(
 
 /// The line along which an access leads, where its indices are in the order of the dimensions, each
 /// stays or rises by one, and all are in range at each turn.
-#[inline(always)]
+#[inline(never)]
 pub fn line_of(
     resolved: &Resolved,
     sources: &[Source],
