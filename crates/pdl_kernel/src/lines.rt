@@ -260,7 +260,7 @@ fn loop_span(
 }
 
 /// The same for an expression.
-#[inline(always)]
+#[inline(never)]
 fn given_span(
     resolved: &Resolved,
     sources: &[Source],
@@ -319,7 +319,7 @@ fn span_along(
 
 /// The line along which an access leads, where its indices are in the order of the dimensions, each
 /// stays or rises by one, and all are in range at each turn.
-#[inline(never)]
+#[inline(always)]
 pub fn line_of(
     resolved: &Resolved,
     sources: &[Source],
