@@ -5,6 +5,7 @@ use Rattle.pdl_world.specs.World.{World, ArrayDef, root, view}
 use Rattle.pdl_kernel.specs.Kernels.{Kernel}
 use Rattle.pdl_machine.specs.Names.{Named, Names}
 use Rattle.pdl_machine.specs.State.{State, held}
+use Rattle.pdl_machine.specs.Laws.{LettingGoUnseen}
 use Rattle.pdl_world.specs.Swept.{holds, parents, kept_onto, sweep}
 use Rattle.pdl_machine.specs.Tidy.{older, with_parent, renumber, renumbered, with_numbers, tidy}
 use Rattle.pdl_machine.proofs.Renamed.{by_test, IsApart, same_test, Renames, empty, more, same, StateAlike}
@@ -100,3 +101,32 @@ tidy_alike g s t h =
   where
     all_same : {n m : Names} {w x : World} {k l : ℕ} → n ≡ m → w ≡ x → k ≡ l → state_of n w k ≡ state_of m x l
     all_same p q r = cc
+
+-- a sweep by fewer after a sweep by more is the sweep by fewer
+sweep_again : (w : World) (many few : List ℕ) → ((v : ℕ) → holds few v ≡ true → holds many v ≡ true) → sweep (sweep w many) few ≡ sweep w few
+sweep_again [] many few h = refl
+sweep_again ((k, d) ∷ w) many few h = by_keeps (λ m f i. sweep_again w m f i) (holds many k) (holds few k) refl refl
+  where
+    wider : (d : ArrayDef) (v : ℕ) → holds few v ≡ true → holds (parents d ++ many) v ≡ true
+    wider (root ty ds es) v t = h v t
+    wider (view p u) v t = by_test (p == v) (λ same. rw same refl) (λ other. rw other (h v t))
+
+    both : (d : ArrayDef) (v : ℕ) → holds (parents d ++ few) v ≡ true → holds (parents d ++ many) v ≡ true
+    both (root ty ds es) v t = h v t
+    both (view p u) v t = by_test (p == v) (λ same. rw same refl) (λ other. rw other (h v (rw other at t)))
+
+    clash : holds many k ≡ false → holds many k ≡ true → ⊥
+    clash f t = cc
+
+    by_keeps : ((m f : List ℕ) → ((v : ℕ) → holds f v ≡ true → holds m v ≡ true) → sweep (sweep w m) f ≡ sweep w f) → (m f : Bool) → holds many k ≡ m → holds few k ≡ f
+        → sweep (kept_onto m (k, d) (sweep w (if m then parents d ++ many else many))) few ≡ kept_onto f (k, d) (sweep w (if f then parents d ++ few else few))
+    by_keeps rest true true a b = rw b (ap (λ x. (k, d) ∷ x) (rest (parents d ++ many) (parents d ++ few) (both d)))
+    by_keeps rest true false a b = rw b (rest (parents d ++ many) few (wider d))
+    by_keeps rest false true a b = absurd (clash a (h k b))
+    by_keeps rest false false a b = rest many few h
+
+abbrev numbered_by : State → World → State
+numbered_by s w = state_of (with_numbers (older w) s.names) (renumber w) (length w)
+
+pub letting_go_is_unseen : LettingGoUnseen
+letting_go_is_unseen = λ s many h. ap (numbered_by s) (sweep_again s.arrays.world many (held s) h)

@@ -1,13 +1,13 @@
 -- What holds of every step, whatever numbers its arrays have.
-use Rattle.std.specs.Prelude.{◌≡◌, ℕ, List, ◌++◌, Option, option_map, Ok}
+use Rattle.std.specs.Prelude.{◌≡◌, ℕ, true, List, ◌++◌, Option, option_map, Ok}
 use Rattle.pdl_buf.specs.declared.made.Made.{Made}
 use Rattle.pdl_world.specs.World.{World, ArrayDef}
 use Rattle.pdl_world.specs.Sound.{IsSound}
-use Rattle.pdl_world.specs.Swept.{Has, IsReached}
+use Rattle.pdl_world.specs.Swept.{holds, sweep, Has, IsReached}
 use Rattle.pdl_syntax.specs.StatementTree.{StatementTree}
 use Rattle.pdl_machine.specs.Names.{number_of}
 use Rattle.pdl_machine.specs.Arrays.{Arrays, array_in}
-use Rattle.pdl_machine.specs.State.{State, with_arrays, held, AreLive, IsWhole}
+use Rattle.pdl_machine.specs.State.{State, with_arrays, with_world, held, AreLive, IsWhole}
 use Rattle.pdl_machine.specs.Tidy.{tidy}
 use Rattle.pdl_machine.specs.Step.{step}
 
@@ -25,6 +25,12 @@ pub record AreGrown (old new : Arrays) : Type 0 where
 abbrev pub NewArraysUnseen : Type 0
 NewArraysUnseen = (s : State) (a : Arrays) → AreGrown s.arrays a → IsSound a.world →
     AreLive s.arrays.world (held s) → tidy (with_arrays s a) ≡ tidy s
+
+-- letting arrays go is unseen, where all that the state holds by itself is held still
+abbrev pub LettingGoUnseen : Type 0
+LettingGoUnseen = (s : State) (many : List ℕ) →
+    ((v : ℕ) → holds (held s) v ≡ true → holds many v ≡ true) →
+    tidy (with_world s (sweep s.arrays.world many)) ≡ tidy s
 
 -- each array of the state is reached
 abbrev pub AreAllReached : State → Type 0

@@ -18,6 +18,10 @@ no_names = record { names = nothing_named; arrays = no_arrays }
 abbrev pub with_arrays : State → Arrays → State
 with_arrays s a = record s { arrays = a }
 
+-- with the arrays of another world
+abbrev pub with_world : State → World → State
+with_world s w = with_arrays s (record s.arrays { world = w })
+
 -- the arrays that the state holds by itself: those that names are bound to
 abbrev pub held : State → List ℕ
 held s = map (λ n. n.1) s.names.arrays

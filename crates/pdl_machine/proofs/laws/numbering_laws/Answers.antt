@@ -1,4 +1,5 @@
 use Rattle.pdl_machine.proofs.Steps.{steps_are_alike, new_arrays_are_unseen}
+use Rattle.pdl_machine.proofs.Tidying.{letting_go_is_unseen}
 use Rattle.pdl_machine.proofs.laws.numbering_laws.Goals as goal
 
 pub returns-clause-alike : goal.returns-clause-alike
@@ -6,3 +7,6 @@ returns-clause-alike c = steps_are_alike
 
 pub returns-clause-unseen : goal.returns-clause-unseen
 returns-clause-unseen c = new_arrays_are_unseen
+
+pub returns-clause-gone : goal.returns-clause-gone
+returns-clause-gone c = letting_go_is_unseen
