@@ -17,3 +17,4 @@ pub mod Roots
 pub mod Callees
 pub mod Statements
 pub mod Definitions
+pub mod Held

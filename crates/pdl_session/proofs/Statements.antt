@@ -180,9 +180,9 @@ assigned_refused old mid new to e sign v f target_is refused g h =
     )
 
 -- what a session is seen as stays after a script's fault
-pub kept_seen : {T : Type 0} (r : Result T StepFault) (x : Stepped) (old new seen : State) (o n : List ℕ) → NewArraysUnseen → IsWhole old → IsWhole new → tidy old ≡ seen → Runs x old new o n r
-    → IfErr r (λ e. IfScript e (tidy new ≡ seen))
-kept_seen (Ok u) x old new seen o n unseen whole after is h = tt
-kept_seen (Err NoMemory) x old new seen o n unseen whole after is h = tt
-kept_seen (Err (Script e)) x old new seen o n unseen whole after is h =
-    ap tidy (state_is old new h.1.grown) ∙ unseen old new.arrays h.1.grown.arrays after.sound whole.live ∙ is
+pub kept_seen : {T : Type 0} (r : Result T StepFault) (x : Stepped) (old new left seen : State) (o n : List ℕ) → NewArraysUnseen → IsWhole old → IsWhole new → tidy left ≡ tidy new → tidy old ≡ seen → Runs x old new o n r
+    → IfErr r (λ e. IfScript e (tidy left ≡ seen))
+kept_seen (Ok u) x old new left seen o n unseen whole after gone is h = tt
+kept_seen (Err NoMemory) x old new left seen o n unseen whole after gone is h = tt
+kept_seen (Err (Script e)) x old new left seen o n unseen whole after gone is h =
+    gone ∙ ap tidy (state_is old new h.1.grown) ∙ unseen old new.arrays h.1.grown.arrays after.sound whole.live ∙ is

@@ -3,3 +3,4 @@ pub mod Answers
 pub mod Faults
 pub mod Arguments
 pub mod Sizes
+pub mod Holding

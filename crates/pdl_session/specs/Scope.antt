@@ -1,15 +1,17 @@
 -- What a session keeps, and how it is seen.
-use Rattle.std.specs.Prelude.{◌≡◌, ℕ, ℤ, List}
+use Rattle.std.specs.Prelude.{◌≡◌, ℕ, ◌+◌, ◌≤◌, ◌==◌, if◌then◌else◌, ℤ, List, [], ◌∷◌, length, map, is_some}
 use Rattle.pdl_elem.specs.declared.Ty.{Ty}
 use Rattle.pdl_buf.specs.declared.made.Made.{Made}
 use Rattle.pdl_world.specs.Sound.{IsLive}
-use Rattle.pdl_engine.specs.State.{State as Engine}
+use Rattle.pdl_world.specs.Swept.{holds}
+use Rattle.pdl_world.specs.World.{look}
+use Rattle.pdl_engine.specs.State.{State as Engine, count_at}
 use Rattle.pdl_kernel.specs.Kernels.{Kernel}
-use Rattle.pdl_machine.specs.Names.{Named, Names}
+use Rattle.pdl_machine.specs.Names.{Named, Names, names_limit}
 use Rattle.pdl_sig.specs.declared.ArgShape.{ArgShape}
 use Rattle.pdl_machine.specs.Arrays.{Arrays, array_in}
 use Rattle.pdl_sig.specs.Given.{shape_of}
-use Rattle.pdl_machine.specs.State.{State, no_names}
+use Rattle.pdl_machine.specs.State.{State, no_names, held, IsWhole}
 use Rattle.pdl_machine.specs.Laws.{AreGrown}
 
 -- the engine's arrays as the machine's
@@ -41,6 +43,20 @@ pub record Grows (old new : State) : Type 0 where
   pub names : new.names ≡ old.names
   pub arrays : AreGrown old.arrays new.arrays
   pub still : (v : ℕ) → IsLive old.arrays.world v → IsLive new.arrays.world v
+
+-- how often v stands in the list
+abbrev pub times : List ℕ → ℕ → ℕ
+times [] v = 0
+times (u ∷ us) v = (if u == v then 1 else 0) + times us v
+
+-- The state is whole; at most so many names are bound; each array of the world, and no other, has
+-- its holds; and it is held once for each name of it, and once for each place in the list of those
+-- that leave when the statement ends.
+pub record IsHeld (s : State) (hs : List (ℕ × ℕ)) (leaving : List ℕ) : Type 0 where
+  pub whole : IsWhole s
+  pub few : length s.names.arrays ≤ names_limit
+  pub keys : (v : ℕ) → holds (map (λ h. h.0) hs) v ≡ is_some (look s.arrays.world v)
+  pub counts : (v : ℕ) → count_at hs v ≡ times (held s) v + times leaving v
 
 -- What is seen of a session: the machine's state, and how many calls of
 -- `step` there were. The count stands still at 2^64 - 1.

@@ -12,6 +12,7 @@ mod eval;
 mod fault;
 mod fill;
 mod given;
+mod holding;
 mod inquiry;
 mod kernels;
 mod names;

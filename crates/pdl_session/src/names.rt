@@ -1,5 +1,5 @@
 //! The names that arrays are bound to.
-ghost use Rattle.std.specs.Prelude.{◌≡◌, ◌<◌, [], length, slice_get, Some, Ok, IfOk, IfErr, OnOk, OnErr};
+ghost use Rattle.std.specs.Prelude.{◌≡◌, ◌<◌, [], length, map, slice_get, Some, Ok, IfOk, IfErr, OnOk, OnErr};
 ghost use Rattle.pdl_machine.specs.declared.fault.Fault.TheVariants.{TooManyNames};
 ghost use Rattle.pdl_machine.specs.Names.{found, entered, is_full_for, names_limit};
 ghost use Rattle.pdl_session.specs.Answers.{IsFault};
@@ -71,6 +71,18 @@ impl Names {
             Ok(_) => Ok(()),
             Err(_) => Err(StepFault::NoMemory),
         }
+    }
+
+    /// The arrays of the names.
+    pub fn numbers(&self, alloc: Global) -> Result<Vec<ArrayId>, AllocError>
+        ensures { IfOk result (λ ids. ids.items ≡ map (λ n. n.1) self.now) }
+    {
+        let mut ids = Vec::new(alloc);
+        for i in 0..self.len() {
+            let (_, id) = self.entry(i);
+            ids.push(id)?;
+        }
+        Ok(ids)
     }
 
     /// Whether there is no room for the name: it isn't bound, and 512 are.

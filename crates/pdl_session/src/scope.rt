@@ -1,5 +1,5 @@
 //! Names and the arrays that they are bound to.
-ghost use Rattle.std.specs.Prelude.{◌≡◌, ◌<◌, [], length, All, IfOk, IfSome, IsTrue, slice_get, Some};
+ghost use Rattle.std.specs.Prelude.{◌≡◌, ◌<◌, ◌≤◌, [], length, map, All, IfOk, IfSome, IsTrue, OnErr, OnOk, slice_get, Some};
 ghost use Rattle.pdl_shape.specs.Shape.{IsDims};
 ghost use Rattle.pdl_buf.specs.Made.{IsMade};
 ghost use Rattle.pdl_world.specs.Formula.{is_well_formed};
@@ -8,18 +8,20 @@ ghost use Rattle.pdl_world.specs.World.{dims_in, ty_in};
 ghost use Rattle.pdl_world.specs.Sound.{IsLive};
 ghost use Rattle.pdl_machine.specs.declared.fault.Fault.TheVariants.{UnknownFunction};
 ghost use Rattle.pdl_machine.specs.Kernels.{kernel_outputs};
-ghost use Rattle.pdl_machine.specs.Names.{found, number_of};
+ghost use Rattle.pdl_machine.specs.Names.{found, names_limit, number_of};
 ghost use Rattle.pdl_machine.specs.Then.{and_then, or_fault};
-ghost use Rattle.pdl_machine.specs.State.{no_names, IsWhole};
+ghost use Rattle.pdl_machine.specs.State.{no_names, AreLive, IsWhole};
+ghost use Rattle.pdl_machine.specs.Tidy.{tidy};
 ghost use Rattle.pdl_machine.specs.Outcome.{new_root, new_view};
 ghost use Rattle.pdl_machine.specs.Step.{bind_value, roots_bound, kernel_named};
-ghost use Rattle.pdl_session.specs.Scope.{Grows, array_of};
+ghost use Rattle.pdl_session.specs.Scope.{Grows, array_of, names_in};
 ghost use Rattle.pdl_session.specs.Answers.{AnswersAs, Evaluates, Runs};
 ghost use Rattle.pdl_session.specs.Arguments.{all_seen_of, AreGivenLive};
 
 use crate::calling::kernel_outputs;
 use crate::fault::StepFault;
 use crate::given::Given;
+use crate::holding::{hold_all, note, note_some, release_all};
 use crate::kernels::Kernels;
 use crate::names::Names;
 use pdl_buf::{Elements, Made, Steps};
@@ -29,25 +31,28 @@ use pdl_kernel::Kernel;
 use pdl_machine::Fault;
 use pdl_shape::Dims;
 use pdl_world::{Trans, growth_laws};
-use std::alloc::Global;
+use std::alloc::{AllocError, Global};
 use std::marker::Model;
 use std::sync::ledger::Ledger;
 
-/// Names, kernels, and an engine that keeps every array so far. It is seen as a
-/// state of the eager machine.
+/// Names, kernels, and an engine that keeps the arrays that names reach, and those of the
+/// statement that runs. It is seen as a state of the eager machine.
 #[derive(Drop)]
 pub struct Scope {
     pub(crate) alloc: Global,
     names: Names,
     kernels: Kernels,
     pub(crate) engine: Engine,
+    /// Arrays that are held once more until the statement ends: those that it made, and those that
+    /// a name gave up.
+    leaving: Vec<ArrayId>,
 }
 
 impl Model for Scope {
-    ghost use Rattle.pdl_machine.specs.State.{State, IsWhole};
+    ghost use Rattle.pdl_machine.specs.State.{State};
     ghost use Rattle.std.specs.Coded.{codes};
     ghost use Rattle.pdl_kernel.specs.Coding.{coded_code};
-    ghost use Rattle.pdl_session.specs.Scope.{names_in, state_in};
+    ghost use Rattle.pdl_session.specs.Scope.{names_in, state_in, IsHeld};
 
     ghost Value = { State };
 
@@ -55,7 +60,8 @@ impl Model for Scope {
 
     ghost view = { λ s. state_in (names_in s.names s.kernels) s.engine };
 
-    ghost invariant = { λ s. IsWhole (state_in (names_in s.names s.kernels) s.engine) };
+    ghost invariant = { λ s.
+        IsHeld (state_in (names_in s.names s.kernels) s.engine) s.engine.holds s.leaving.items };
 }
 
 impl Scope {
@@ -68,6 +74,7 @@ impl Scope {
             names: Names::new(alloc),
             kernels: Kernels::new(alloc),
             engine: Engine::new(alloc),
+            leaving: Vec::new(alloc),
         }
     }
 
@@ -138,7 +145,10 @@ impl Scope {
         ensures grown { Grows self.old self.new }
     {
         growth_laws();
-        Ok(self.engine.make(ty, dims, elems, steps)?)
+        self.leaving.reserve(1)?;
+        let id = self.engine.make(ty, dims, elems, steps)?;
+        note(&mut self.leaving, id);
+        Ok(id)
     }
 
     /// A new array like one that is kept elsewhere, whose elements are copied.
@@ -164,7 +174,10 @@ impl Scope {
         ensures grown { Grows self.old self.new }
     {
         growth_laws();
-        Ok(self.engine.view(parent, trans)?)
+        self.leaving.reserve(1)?;
+        let id = self.engine.view(parent, trans)?;
+        note(&mut self.leaving, id);
+        Ok(id)
     }
 
     /// Binds a name to an array, with `TooManyNames` where it is new and 512 are bound.
@@ -173,7 +186,12 @@ impl Scope {
         ensures { let wanted = bind_value self.old name.now (self.old.arrays, id) in
             Runs wanted self.old self.new [] [] result }
     {
-        self.names.bind(name, id)
+        self.leaving.reserve(1)?;
+        let had = self.names.get(name);
+        self.names.bind(name, id)?;
+        self.engine.hold(id);
+        note_some(&mut self.leaving, had);
+        Ok(())
     }
 
     /// Binds names to new arrays in order. A fault binds none of them.
@@ -193,8 +211,32 @@ impl Scope {
             let id = self.make_like(made, steps)?;
             names.bind(&bound[i], id)?;
         }
+        Ok(self.rename(names)?)
+    }
+
+    /// Other names take the place of the names.
+    fn rename(&mut self, names: Names) -> Result<(), AllocError>
+        requires live { AreLive self.old.arrays.world (map (λ n. n.1) names) }
+        requires few { length names ≤ names_limit }
+        ensures ok { OnOk result (self.new ≡ record self.old {
+          names = names_in names self.old.names.kernels;
+        }) }
+        ensures err { OnErr result (self.new ≡ self.old) }
+    {
+        let bound = names.numbers(self.alloc)?;
+        let given_up = self.names.numbers(self.alloc)?;
+        self.leaving.extend_from_slice(&given_up)?;
+        hold_all(&mut self.engine, &bound);
         self.names = names;
         Ok(())
+    }
+
+    /// Lets go of the arrays that no name reaches. That is unseen.
+    pub fn let_go<L: Ledger>(&mut self, steps: &mut Steps<L>)
+        ensures { tidy self.new ≡ tidy self.old }
+    {
+        release_all(&mut self.engine, &self.leaving, steps);
+        self.leaving.clear();
     }
 
     /// Defines a kernel of a name, with `TooManyKernels` where it is new and 256 are there.

@@ -71,6 +71,7 @@ impl Session {
         self.scope.whole();
         let ran = self.scope.run(statement, out, steps);
         self.scope.whole();
+        self.scope.let_go(steps);
         ran
     }
 }

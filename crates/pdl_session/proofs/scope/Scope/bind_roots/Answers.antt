@@ -1,10 +1,10 @@
-use Rattle.std.proofs.Common.{◌<◌, ◌≤◌, [], Result, length, refl, sym, ap, subst, ◌∙◌, arith}
+use Rattle.std.proofs.Common.{◌<◌, ◌≤◌, [], Result, length, refl, sym, subst, ◌∙◌, arith}
 use Rattle.pdl_machine.specs.Step.{Stepped, roots_bound}
 use Rattle.pdl_session.specs.declared.fault.StepFault.{StepFault}
 use Rattle.pdl_session.specs.Answers.{Prints, Runs}
-use Rattle.pdl_session.specs.Scope.{names_in, state_in}
 use Rattle.pdl_session.proofs.Faults.{is_fault}
 use Rattle.pdl_session.proofs.Growing.{grows_trans}
+use Rattle.pdl_session.proofs.Held.{few_bound}
 use Rattle.pdl_session.proofs.Roots.{naming, roots_more, roots_done, name_refused, live_more}
 use Rattle.pdl_session.proofs.Statements.{kept_at}
 use Rattle.pdl_session.proofs.scope.Scope.bind_roots.Goals as goal
@@ -40,6 +40,7 @@ loop-i-preserved g c =
           c.in_ok-id.ensures.value.0 c.make_like.ensures.grown c.in_ok-bind.ensures.ok;
       grown = grows_trans old c.loop-i.self c.make_like.new.self c.loop-i.invariant.grown c.make_like.ensures.grown;
       live = live_more c.loop-i.self c.make_like.new.self c.loop-i.names c.bind.new.self c.index-bound-i.result id c.loop-i.invariant.live c.make_like.ensures.grown c.in_ok-id.ensures.value.1 c.in_ok-bind.ensures.ok;
+      few = few_bound c.loop-i.names c.bind.new.self c.index-bound-i.result id c.in_ok-bind.ensures.ok c.loop-i.invariant.few;
     }
 
 pub returns : goal.returns
@@ -47,6 +48,6 @@ returns g c =
     let names = c.loop-i.names in
     let xs = c.args.bound.now in
     let ms = c.args.outputs.now in
-    let P : Stepped → Type 0 = λ r. Prints r (state_in (names_in names c.self-2.inside.kernels) c.self-2.inside.engine) [] [] in
+    let P : Stepped → Type 0 = λ r. Prints r c.rename.new.self [] [] in
     let end : c.loop-i.i < length xs → length ms ≤ c.loop-i.i = λ within. omega arith in
-    subst P (sym (c.loop-i.invariant.so_far ∙ roots_done (naming c.loop-i.self names) xs ms c.loop-i.i end)) (ap (λ s. naming s names) c.self-2.view_is, refl)
+    subst P (sym (c.loop-i.invariant.so_far ∙ roots_done (naming c.loop-i.self names) xs ms c.loop-i.i end)) (c.in_ok-rename.ensures.ok, refl)

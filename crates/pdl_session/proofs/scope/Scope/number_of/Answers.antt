@@ -10,4 +10,4 @@ returns-clause-live c =
     let w = c.self.inside.engine.world in
     let P : State → Type 0 = λ s. IfSome c.get.result (IsLive s.arrays.world) in
     let Q : Option ℕ → Type 0 = λ o. IfSome o (IsLive w) in
-    subst P c.self.view_is (subst Q (sym c.get.ensures) (live_found w c.self.inside.names c.args.name.now c.self.invariant.live))
+    subst P c.self.view_is (subst Q (sym c.get.ensures) (live_found w c.self.inside.names c.args.name.now c.self.invariant.whole.live))

@@ -7,5 +7,5 @@ use Rattle.pdl_session.proofs.session.Session.step.Goals as goal
 
 pub returns-clause-kept : goal.returns-clause-kept
 returns-clause-kept g c =
-    kept_seen c.run-ran.result (effect c.self.inside.scope (statement_of c.args.statement.now)) c.self.inside.scope c.run-ran.new.self c.args.self.now.state c.args.out.now.items c.run-ran.new.out.items
-    c.numbering_laws.ensures.unseen c.whole.ensures c.whole-2.ensures (ap (λ (s : Session). s.state) c.self.view_is) c.run-ran.ensures
+    kept_seen c.run-ran.result (effect c.self.inside.scope (statement_of c.args.statement.now)) c.self.inside.scope c.run-ran.new.self c.let_go.new.self c.args.self.now.state c.args.out.now.items c.run-ran.new.out.items
+    c.numbering_laws.ensures.unseen c.whole.ensures c.whole-2.ensures c.let_go.ensures (ap (λ (s : Session). s.state) c.self.view_is) c.run-ran.ensures
