@@ -8,9 +8,9 @@ use Rattle.std.proofs.lemmas.Int.{ints}
 use Rattle.std.proofs.lemmas.List.{map-append, take-append-drop, length-take-le, length-drop}
 use Rattle.pdl_shape.specs.Laws.{PositionLaws}
 use Rattle.pdl_shape.specs.Shape.{IsWithin, size_of, coordinates_of}
-use Rattle.pdl_shape.specs.Triple.{Triple, IsTriple, moved, spread, whole_incs, whole}
+use Rattle.pdl_shape.specs.Triple.{Triple, IsTriple, moved, spread, whole_incs, whole_triple}
 use Rattle.pdl_affine.specs.Views.{Form, sliced, exchanged, shifted, arranged, inserted, diagonal, squeezed, clumped, sizes, form_source}
-use Rattle.pdl_affine.specs.Windows.{is_chain, do_join, is_window, form_place, shown, windowed}
+use Rattle.pdl_affine.specs.Windows.{is_chain, do_join, is_window, form_place, triple_showing, windowed}
 use Rattle.pdl_affine.specs.Courses.{filled, first_inc, others}
 use Rattle.pdl_affine.proofs.Moved.{moved_apart, mul-sum, mul_swap}
 use Rattle.pdl_affine.proofs.Picks.{not_one}
@@ -180,9 +180,9 @@ clump_run_at laws n over ds o h j e =
     subst P (sym e) (clump_run laws n over o h (sym j))
 
 -- a clump that joins is a window
-pub clump_window : (n : ℕ) (over t : Triple) (ds : List ℕ) → true ≡ do_join (take n over.incs) (take n over.dims) → ds ≡ sizes (clumped n) over.dims → t ≡ shown (form_place (clumped n) over) ds → Some t ≡ windowed (clumped n) over
+pub clump_window : (n : ℕ) (over t : Triple) (ds : List ℕ) → true ≡ do_join (take n over.incs) (take n over.dims) → ds ≡ sizes (clumped n) over.dims → t ≡ triple_showing (form_place (clumped n) over) ds → Some t ≡ windowed (clumped n) over
 clump_window n over t ds j e h =
-    ap Some (h ∙ ap (shown (form_place (clumped n) over)) e) ∙ ap (λ b. if b then Some (shown (form_place (clumped n) over) (sizes (clumped n) over.dims)) else None) j
+    ap Some (h ∙ ap (triple_showing (form_place (clumped n) over)) e) ∙ ap (λ b. if b then Some (triple_showing (form_place (clumped n) over) (sizes (clumped n) over.dims)) else None) j
 
 later : (a b : Bool) → (a || b) ≡ false → b ≡ false
 later a b h = grind arith
@@ -235,7 +235,7 @@ take-whole_incs (suc n) k [] = refl
 take-whole_incs (suc n) k (d ∷ ds) = ap (λ r. (if nat_le d 1 then pos 0 else pos k) ∷ r) (take-whole_incs n (k * d) ds)
 
 -- each view of an array in order is a window
-pub whole_window : (form : Form) (ds : List ℕ) → is_window form (whole ds) ≡ true
+pub whole_window : (form : Form) (ds : List ℕ) → is_window form (whole_triple ds) ≡ true
 whole_window (sliced ls) ds = refl
 whole_window (exchanged a b) ds = refl
 whole_window (shifted a b) ds = refl
@@ -246,7 +246,7 @@ whole_window squeezed ds = refl
 whole_window (clumped n) ds = ap (λ r. do_join r (take n ds)) (take-whole_incs n 1 ds) ∙ whole_joins 1 (take n ds)
 
 -- so it is shown
-pub whole_shown : (form : Form) (over : Triple) (o : Option Triple) → over ≡ whole over.dims → o ≡ windowed form over → IsSome o
+pub whole_shown : (form : Form) (over : Triple) (o : Option Triple) → over ≡ whole_triple over.dims → o ≡ windowed form over → IsSome o
 whole_shown form over o h e =
     let test : is_window form over ≡ true = ap (is_window form) h ∙ whole_window form over.dims in
-    subst IsSome (sym (e ∙ ap (λ b. if b then Some (shown (form_place form over) (sizes form over.dims)) else None) test)) refl
+    subst IsSome (sym (e ∙ ap (λ b. if b then Some (triple_showing (form_place form over) (sizes form over.dims)) else None) test)) refl

@@ -13,7 +13,7 @@ use Rattle.pdl_affine.specs.declared.forms.Course.{Course}
 use Rattle.pdl_affine.specs.Courses.{IsSound, IsStraight, IsCourse, AreCourses}
 use Rattle.pdl_affine.specs.Laws.{IsViewOver, ComposedShowViews, UncomposedAreInOrder}
 use Rattle.pdl_affine.specs.Views.{Form, sliced, exchanged, shifted, arranged, inserted, diagonal, squeezed, clumped, resolved, sizes, form_source, form_dims, dims, source}
-use Rattle.pdl_affine.specs.Windows.{Shows, is_window, windowed, composed, form_place, base_place, shown}
+use Rattle.pdl_affine.specs.Windows.{Shows, is_window, windowed, composed, form_place, base_place, triple_showing}
 use Rattle.pdl_affine.proofs.Clumps.{clump_run, length-coordinates}
 use Rattle.pdl_affine.proofs.Inside.{checked_is}
 use Rattle.pdl_affine.proofs.Picks.{exchanged_course, shifted_course, arranged_course, inserted_course, diagonal_course, squeezed_course}
@@ -74,7 +74,7 @@ record IsShown (form : Form) (over t : Triple) : Type 0 where
   triple : IsTriple t
   shows_form : Shows t (form_place form over)
 
-run_shows : PositionLaws → (form : Form) (over : Triple) → Steps form over → IsShown form over (shown (form_place form over) (sizes form over.dims))
+run_shows : PositionLaws → (form : Form) (over : Triple) → Steps form over → IsShown form over (triple_showing (form_place form over) (sizes form over.dims))
 run_shows laws form over r =
     let P : Triple → Type 0 = λ t. IsShown form over t in
     subst P (sym (shown-is over (form_place form over) (sizes form over.dims) r.start r.steps r.run)) (record {
@@ -84,10 +84,10 @@ run_shows laws form over r =
     })
 
 windowed_by : PositionLaws → (form : Form) (over t : Triple) → IsTriple over → IsSound form over.dims → (b : Bool) → is_window form over ≡ b
-    → (if b then Some (shown (form_place form over) (sizes form over.dims)) else None) ≡ Some t → IsShown form over t
+    → (if b then Some (triple_showing (form_place form over) (sizes form over.dims)) else None) ≡ Some t → IsShown form over t
 windowed_by laws form over t o s false e h = cc
 windowed_by laws form over t o s true e h =
-    let same : shown (form_place form over) (sizes form over.dims) ≡ t = cc in
+    let same : triple_showing (form_place form over) (sizes form over.dims) ≡ t = cc in
     let P : Triple → Type 0 = λ x. IsShown form over x in
     subst P same (run_shows laws form over (window_runs laws form over o s e))
 

@@ -12,13 +12,13 @@ use Rattle.std.proofs.lemmas.List.Sums.{prefix_len_passes, prefix_len_stops, pre
 use Rattle.pdl_shape.specs.Laws.{PositionLaws}
 use Rattle.pdl_shape.specs.Shape.{IsWithin}
 use Rattle.pdl_affine.specs.Views.{Form, exchanged, shifted, arranged, inserted, diagonal, squeezed, lists, lowest_of, kept_dims, is_arrangement, are_same_size, unsqueezed, sizes, form_source}
-use Rattle.pdl_affine.specs.Courses.{filled, IsCourse, whole, still, exchanged_to, past, before, shifted_to, diagonal_to, squeezed_to}
+use Rattle.pdl_affine.specs.Courses.{filled, IsCourse, full_course, still, exchanged_to, past, before, shifted_to, diagonal_to, squeezed_to}
 use Rattle.pdl_affine.proofs.SizeLists.{kept_next}
 use Rattle.pdl_affine.proofs.Sourced.{at_within}
 
 -- a dimension whose coordinate is that of one dimension of the view, of the same size
 pub picked : PositionLaws → (form : Form) (ds : List ℕ) (i a : ℕ) → a < length (sizes form ds) → get_or (sizes form ds) a 0 ≡ get_or ds i 0
-    → ((cs : List ℕ) → length cs ≡ length (sizes form ds) → get_or (form_source form ds cs) i 0 ≡ get_or cs a 0) → IsCourse form ds i (whole a)
+    → ((cs : List ℕ) → length cs ≡ length (sizes form ds) → get_or (form_source form ds cs) i 0 ≡ get_or cs a 0) → IsCourse form ds i (full_course a)
 picked laws form ds i a inside size_is source_is = record {
   line = λ cs w. ap pos (source_is cs (long cs w)) ∙ once (get_or cs a 0);
   small = λ cs w. subst (λ n. n < max (get_or ds i 0) 1) (sym (source_is cs (long cs w))) (subst (λ m. get_or cs a 0 < max m 1) size_is (below cs w));
@@ -73,7 +73,7 @@ exchange_twice a b i = grind (arith, nat_tests)
 exchange_inside : (a b i n : ℕ) → a < n → b < n → i < n → exchanged_to a b i < n
 exchange_inside a b i n h k l = grind (arith, nat_tests)
 
-pub exchanged_course : PositionLaws → (ds : List ℕ) (a b i : ℕ) → a < length ds → b < length ds → i < length ds → IsCourse (exchanged a b) ds i (whole (exchanged_to a b i))
+pub exchanged_course : PositionLaws → (ds : List ℕ) (a b i : ℕ) → a < length ds → b < length ds → i < length ds → IsCourse (exchanged a b) ds i (full_course (exchanged_to a b i))
 exchanged_course laws ds a b i h k l =
     let long : length (swap ds a b) ≡ length ds = length-swap ds a b in
     picked laws (exchanged a b) ds i (exchanged_to a b i)
@@ -119,19 +119,19 @@ shifted_here a b i e = grind (arith, nat_tests)
 shifted_there : (a b i : ℕ) → (i ≡ a → ⊥) → shifted_to a b i ≡ past b (before a i)
 shifted_there a b i e = grind (arith, nat_tests)
 
-pub shifted_course : PositionLaws → (ds : List ℕ) (a b i : ℕ) → a < length ds → b < length ds → i < length ds → IsCourse (shifted a b) ds i (whole (shifted_to a b i))
+pub shifted_course : PositionLaws → (ds : List ℕ) (a b i : ℕ) → a < length ds → b < length ds → i < length ds → IsCourse (shifted a b) ds i (full_course (shifted_to a b i))
 shifted_course laws ds a b i h k l =
     let x : ℕ = get_or ds a 0 in
     let less : length (remove ds a) + 1 ≡ length ds = length-remove ds a h in
     let fits : b ≤ length (remove ds a) = omega (arith, less, k) in
     let long : length (insert (remove ds a) b x) ≡ length ds = length-insert (remove ds a) b x fits ∙ less in
     elim (cases_eq i a) [
-      | inl e ↦ subst (λ j. IsCourse (shifted a b) ds i (whole j)) (sym (shifted_here a b i e))
+      | inl e ↦ subst (λ j. IsCourse (shifted a b) ds i (full_course j)) (sym (shifted_here a b i e))
           (picked laws (shifted a b) ds i b (omega (arith, long, k)) (get_or-insert_at (remove ds a) b x 0 fits ∙ ap (λ j. get_or ds j 0) (sym e))
           (λ cs n.
           let shorter : length (remove cs b) + 1 ≡ length cs = length-remove cs b (omega (arith, n, long, k)) in
           ap (λ j. get_or (insert (remove cs b) a (get_or cs b 0)) j 0) e ∙ get_or-insert_at (remove cs b) a (get_or cs b 0) 0 (omega (arith, n, long, h, shorter))))
-      | inr o ↦ subst (λ j. IsCourse (shifted a b) ds i (whole j)) (sym (shifted_there a b i o))
+      | inr o ↦ subst (λ j. IsCourse (shifted a b) ds i (full_course j)) (sym (shifted_there a b i o))
           (picked laws (shifted a b) ds i (past b (before a i))
           (omega (arith, long, less, past_inside b (before a i) (length ds - 1) (before_inside a i (length ds) o h l)))
           (insert_past (remove ds a) b (before a i) x fits ∙ remove_past ds a (before a i) h ∙ ap (λ j. get_or ds j 0) (past-before a i o))
@@ -142,7 +142,7 @@ shifted_course laws ds a b i h k l =
           ∙ remove_past cs b (before a i) (omega (arith, n, long, k))))
     ]
 
-pub inserted_course : PositionLaws → (ds : List ℕ) (p m i : ℕ) → i < length ds → IsCourse (inserted p m) ds i (whole (past p i))
+pub inserted_course : PositionLaws → (ds : List ℕ) (p m i : ℕ) → i < length ds → IsCourse (inserted p m) ds i (full_course (past p i))
 inserted_course laws ds p m i l =
     let xs : List ℕ = ds ++ replicate (p - length ds) 1 in
     let count : length xs ≡ length ds + (p - length ds) = length-append ds (replicate (p - length ds) 1) ∙ ap (λ n. length ds + n) (length-replicate (p - length ds) 1) in
@@ -182,12 +182,12 @@ all_listed is n i h l =
       both : (m n : ℕ) (b : Bool) → IsTrue ((m == n) && b) → (m ≡ n) × (b ≡ true)
       both m n b h = grind (arith, nat_tests)
 
-pub arranged_course : PositionLaws → (ds order : List ℕ) (i : ℕ) → IsTrue (is_arrangement order (length ds)) → i < length ds → IsCourse (arranged order) ds i (whole (unwrap_or (position (λ j. j == i) order) 0))
+pub arranged_course : PositionLaws → (ds order : List ℕ) (i : ℕ) → IsTrue (is_arrangement order (length ds)) → i < length ds → IsCourse (arranged order) ds i (full_course (unwrap_or (position (λ j. j == i) order) 0))
 arranged_course laws ds order i h l =
     let all = all_listed order (length ds) i h l in
     let place = listed_place order i all.1 in
     let a : ℕ = position_or_len (λ j. j == i) order in
-    subst (λ j. IsCourse (arranged order) ds i (whole j)) (sym (place_is order i place.0))
+    subst (λ j. IsCourse (arranged order) ds i (full_course j)) (sym (place_is order i place.0))
     (picked laws (arranged order) ds i a (omega (arith, place.0, length-map order (λ j. get_or ds j 0)))
     (get_or-map (λ j. get_or ds j 0) order a 0 0 place.0 ∙ ap (λ j. get_or ds j 0) place.1)
     (λ cs n.
@@ -262,19 +262,19 @@ listed_below is i n all h =
       equal : (x i : ℕ) → (x == i) ≡ true → x ≡ i
       equal x i h = grind (arith, nat_tests)
 
-pub diagonal_course : PositionLaws → (ds is : List ℕ) (i : ℕ) → All (λ k. k < length ds) is → are_same_size is ds ≡ true → i < length ds → IsCourse (diagonal is) ds i (whole (diagonal_to is i))
+pub diagonal_course : PositionLaws → (ds is : List ℕ) (i : ℕ) → All (λ k. k < length ds) is → are_same_size is ds ≡ true → i < length ds → IsCourse (diagonal is) ds i (full_course (diagonal_to is i))
 diagonal_course laws ds is i all same l = choose (lists is i) refl where
-  course : (k : ℕ) → (if lists is i then lowest_of is else i) ≡ k → k < length ds → (not (lists is k) || (k == lowest_of is)) ≡ true → get_or ds k 0 ≡ get_or ds i 0 → IsCourse (diagonal is) ds i (whole (diagonal_to is i))
+  course : (k : ℕ) → (if lists is i then lowest_of is else i) ≡ k → k < length ds → (not (lists is k) || (k == lowest_of is)) ≡ true → get_or ds k 0 ≡ get_or ds i 0 → IsCourse (diagonal is) ds i (full_course (diagonal_to is i))
   course k e below kept size =
       let at = kept_at is (length ds) k below kept in
-      subst (λ a. IsCourse (diagonal is) ds i (whole a)) (ap (λ j. length (kept_dims is j)) (sym e))
+      subst (λ a. IsCourse (diagonal is) ds i (full_course a)) (ap (λ j. length (kept_dims is j)) (sym e))
       (picked laws (diagonal is) ds i (length (kept_dims is k)) (omega (arith, at.0, length-map (kept_dims is (length ds)) (λ j. get_or ds j 0)))
       (get_or-map (λ j. get_or ds j 0) (kept_dims is (length ds)) (length (kept_dims is k)) 0 0 at.0 ∙ ap (λ j. get_or ds j 0) at.1 ∙ size)
       (λ cs n.
       get_or-map-range_with_len (λ j. get_or cs (length (kept_dims is (if lists is j then lowest_of is else j))) 0) 0 (length ds) i i 0 l (zero-add i)
       ∙ ap (λ j. get_or cs (length (kept_dims is j)) 0) e))
 
-  choose : (b : Bool) → lists is i ≡ b → IsCourse (diagonal is) ds i (whole (diagonal_to is i))
+  choose : (b : Bool) → lists is i ≡ b → IsCourse (diagonal is) ds i (full_course (diagonal_to is i))
   choose true h =
       let low = lowest_there is i h in
       course (lowest_of is) (ap (λ b. if b then lowest_of is else i) h) (listed_below is (lowest_of is) (length ds) all low)
@@ -315,10 +315,10 @@ squeezed-size (d ∷ ds) (suc i) h o = rest (squeezed-size ds i (omega arith) o)
   rest r true = r
   rest r false = (suc-le-suc r.0, r.1)
 
-pub squeezed_course : PositionLaws → (ds : List ℕ) (i : ℕ) → i < length ds → IsCourse squeezed ds i (if get_or ds i 0 == 1 then still 0 else whole (squeezed_to ds i))
+pub squeezed_course : PositionLaws → (ds : List ℕ) (i : ℕ) → i < length ds → IsCourse squeezed ds i (if get_or ds i 0 == 1 then still 0 else full_course (squeezed_to ds i))
 squeezed_course laws ds i l = elim (cases_eq (get_or ds i 0) 1) [
-  | inl e ↦ subst (λ b. IsCourse squeezed ds i (if b then still 0 else whole (squeezed_to ds i))) (sym (eq-eqb (get_or ds i 0) 1 e))
+  | inl e ↦ subst (λ b. IsCourse squeezed ds i (if b then still 0 else full_course (squeezed_to ds i))) (sym (eq-eqb (get_or ds i 0) 1 e))
       (fixed laws squeezed ds i 0 (omega (arith, e)) (λ cs n. squeezed-one ds cs i e))
-  | inr o ↦ let s = squeezed-size ds i l o in subst (λ b. IsCourse squeezed ds i (if b then still 0 else whole (squeezed_to ds i))) (sym (not_one (get_or ds i 0) o))
+  | inr o ↦ let s = squeezed-size ds i l o in subst (λ b. IsCourse squeezed ds i (if b then still 0 else full_course (squeezed_to ds i))) (sym (not_one (get_or ds i 0) o))
       (picked laws squeezed ds i (squeezed_to ds i) s.0 s.1 (λ cs n. squeezed-other ds cs i l o))
 ]

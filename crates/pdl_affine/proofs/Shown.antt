@@ -9,7 +9,7 @@ use Rattle.std.proofs.lemmas.List.FromFn.{fill_by_all, map-range_with_len_more, 
 use Rattle.pdl_shape.specs.Laws.{PositionLaws}
 use Rattle.pdl_shape.specs.Shape.{IsWithin, size_of, extent_limit}
 use Rattle.pdl_shape.specs.Triple.{Triple, IsTriple, IsPlace, place_of, moved, spread}
-use Rattle.pdl_affine.specs.Windows.{origin, neighbour, increment, shown, Shows, LiesIn}
+use Rattle.pdl_affine.specs.Windows.{origin, neighbour, increment, triple_showing, Shows, LiesIn}
 use Rattle.pdl_affine.specs.Courses.{filled, counting, counted_incs}
 use Rattle.pdl_affine.proofs.Moved.{moved-counted, furthest, nearest, furthest_within, nearest_within, spread-ends, spread-counted, inc_spread}
 
@@ -94,7 +94,7 @@ get_or-counted (x ∷ xs) (d ∷ ds) (suc i) l h = get_or-counted xs ds i (omega
 abbrev pub triple_at : ℤ → List ℤ → List ℕ → Triple
 triple_at start xs ds = record { offset = if size_of ds == 0 then 0 else nat_abs start; incs = counted_incs xs ds; dims = ds }
 
-pub shown-is : (over : Triple) (place : List ℕ → ℤ) (ds : List ℕ) (start : ℤ) (xs : List ℤ) → Runs over place ds start xs → shown place ds ≡ triple_at start xs ds
+pub shown-is : (over : Triple) (place : List ℕ → ℤ) (ds : List ℕ) (start : ℤ) (xs : List ℤ) → Runs over place ds start xs → triple_showing place ds ≡ triple_at start xs ds
 shown-is over place ds start xs r =
     let incs : counted_incs xs ds ≡ map (increment place ds) (range_with_len 0 (length ds)) =
     fill_by_all (increment place ds) (counted_incs xs ds) (length ds) (pos 0) (length-counted xs ds r.paired)
@@ -181,7 +181,7 @@ pub made_triple : PositionLaws → (over : Triple) (place : List ℕ → ℤ) (d
 made_triple laws over place ds start xs offset incs r h k = subst IsTriple (sym (made-is offset incs xs ds start h k)) (is_triple laws over place ds start xs r)
 
 pub made_shown : (over : Triple) (place : List ℕ → ℤ) (ds : List ℕ) (start : ℤ) (xs : List ℤ) (offset : ℕ) (incs : List ℤ) → Runs over place ds start xs
-    → offset ≡ (if size_of ds == 0 then 0 else nat_abs start) → incs ≡ counted_incs xs ds → made offset incs ds ≡ shown place ds
+    → offset ≡ (if size_of ds == 0 then 0 else nat_abs start) → incs ≡ counted_incs xs ds → made offset incs ds ≡ triple_showing place ds
 made_shown over place ds start xs offset incs r h k = made-is offset incs xs ds start h k ∙ sym (shown-is over place ds start xs r)
 
 pub made_shows : PositionLaws → (over : Triple) (place : List ℕ → ℤ) (ds : List ℕ) (start : ℤ) (xs : List ℤ) (offset : ℕ) (incs : List ℤ) → Runs over place ds start xs

@@ -12,7 +12,7 @@ use Rattle.pdl_affine.specs.declared.forms.Taken.{Taken}
 use Rattle.pdl_affine.specs.Slicing as slicing
 use Rattle.pdl_affine.specs.Slicing.{line_sizes}
 use Rattle.pdl_affine.specs.Views.{lists, lowest_of, kept_dims}
-use Rattle.pdl_affine.specs.Courses.{seen_all, AreSmall}
+use Rattle.pdl_affine.specs.Courses.{lines_of_taken, AreSmall}
 
 pub line_sizes-append : (xs ys : List slicing.Line) → line_sizes (xs ++ ys) ≡ line_sizes xs ++ line_sizes ys
 line_sizes-append [] ys = refl
@@ -21,10 +21,10 @@ line_sizes-append (slicing.lost f ∷ xs) ys = line_sizes-append xs ys
 line_sizes-append (slicing.added m ∷ xs) ys = ap (λ r. m ∷ r) (line_sizes-append xs ys)
 
 pub sizes_next : (ts : List Taken) (i : ℕ) (d : Taken) → i < length ts
-    → line_sizes (seen_all (take (i + 1) ts)) ≡ line_sizes (seen_all (take i ts)) ++ line_sizes (seen_all (get_or ts i d ∷ []))
+    → line_sizes (lines_of_taken (take (i + 1) ts)) ≡ line_sizes (lines_of_taken (take i ts)) ++ line_sizes (lines_of_taken (get_or ts i d ∷ []))
 sizes_next ts i d lt =
-    ap (λ n. line_sizes (seen_all (take n ts))) (add-one i) ∙ ap (λ r. line_sizes (seen_all r)) (take-suc ts i d lt)
-    ∙ ap line_sizes (map-append _ (take i ts) (get_or ts i d ∷ [])) ∙ line_sizes-append (seen_all (take i ts)) (seen_all (get_or ts i d ∷ []))
+    ap (λ n. line_sizes (lines_of_taken (take n ts))) (add-one i) ∙ ap (λ r. line_sizes (lines_of_taken r)) (take-suc ts i d lt)
+    ∙ ap line_sizes (map-append _ (take i ts) (get_or ts i d ∷ [])) ∙ line_sizes-append (lines_of_taken (take i ts)) (lines_of_taken (get_or ts i d ∷ []))
 
 range_next : (a n : ℕ) → range_with_len a (suc n) ≡ range_with_len a n ++ (a + n) ∷ []
 range_next a zero = ap (λ k. k ∷ []) (sym (add-zero a))

@@ -6,7 +6,7 @@ use Rattle.pdl_slices.specs.declared.SliceArg.TheVariants.{Whole, One, Dropped, 
 use Rattle.pdl_affine.specs.declared.forms.Taken.{Taken}
 use Rattle.pdl_affine.specs.Slicing as slicing
 use Rattle.pdl_affine.specs.Slicing.{line_of, line_cons, lines_of}
-use Rattle.pdl_affine.specs.Courses.{seen, seen_all, size_for, sizes_after, lines_before, AreSmall}
+use Rattle.pdl_affine.specs.Courses.{line_of_taken, lines_of_taken, size_for, sizes_after, lines_before, AreSmall}
 
 -- one argument, and then the others
 pub lines_of-step : (arg : SliceArg) (args : List SliceArg) (ds : List ℕ) → lines_of (arg ∷ args) ds ≡ line_cons (line_of arg (size_for arg ds)) (lines_of args (sizes_after arg ds))
@@ -63,7 +63,7 @@ arg_next all ls args ds after i size e lt h size_is after_is =
 
 -- an argument in range
 pub arg_taken : (all : Option (List slicing.Line)) (ts us : List Taken) (t : Taken) (o : Option slicing.Line) (rest : Option (List slicing.Line))
-    → all ≡ lines_before (seen_all ts) (line_cons o rest) → Some (seen t) ≡ o → us ≡ ts ++ t ∷ [] → all ≡ lines_before (seen_all us) rest
+    → all ≡ lines_before (lines_of_taken ts) (line_cons o rest) → Some (line_of_taken t) ≡ o → us ≡ ts ++ t ∷ [] → all ≡ lines_before (lines_of_taken us) rest
 arg_taken all ts us t o rest h l us_is =
-    h ∙ ap (λ q. lines_before (seen_all ts) (line_cons q rest)) (sym l) ∙ lines_before-cons (seen_all ts) (seen t) rest
-    ∙ ap (λ r. lines_before r rest) (sym (map-append seen ts (t ∷ [])) ∙ ap seen_all (sym us_is))
+    h ∙ ap (λ q. lines_before (lines_of_taken ts) (line_cons q rest)) (sym l) ∙ lines_before-cons (lines_of_taken ts) (line_of_taken t) rest
+    ∙ ap (λ r. lines_before r rest) (sym (map-append line_of_taken ts (t ∷ [])) ∙ ap lines_of_taken (sym us_is))

@@ -16,18 +16,18 @@ use Rattle.pdl_affine.specs.declared.forms.Course.{Course}
 use Rattle.pdl_affine.specs.Views.{Form, sliced, exchanged, shifted, arranged, inserted, diagonal, squeezed, clumped, lists, lowest_of, kept_dims, is_arrangement, are_same_size, resolved, sizes, form_source, refusal_of, dims}
 
 -- what an argument takes, as a line of the definition
-abbrev pub seen : Taken → slicing.Line
-seen (Kept first step size) = slicing.kept first step size
-seen (Lost first) = slicing.lost first
-seen (Added size) = slicing.added size
+abbrev pub line_of_taken : Taken → slicing.Line
+line_of_taken (Kept first step size) = slicing.kept first step size
+line_of_taken (Lost first) = slicing.lost first
+line_of_taken (Added size) = slicing.added size
 
 -- what arguments take, as lines of the definition
-abbrev pub seen_all : List Taken → List slicing.Line
-seen_all ts = map seen ts
+abbrev pub lines_of_taken : List Taken → List slicing.Line
+lines_of_taken ts = map line_of_taken ts
 
 -- a form of the code, as one of the definition
 abbrev pub seen_form : forms.the_data → Form
-seen_form (forms.Sliced taken) = sliced (seen_all taken.items)
+seen_form (forms.Sliced taken) = sliced (lines_of_taken taken.items)
 seen_form (forms.Exchanged a b) = exchanged a b
 seen_form (forms.Shifted a b) = shifted a b
 seen_form (forms.Arranged order) = arranged order.items
@@ -156,8 +156,8 @@ pub record AreCourses (form : Form) (ds : List ℕ) (ts : List Course) : Type 0 
   pub each : (i : ℕ) (t : Course) → i < length ds → IsCourse form ds i (get_or ts i t)
 
 -- the whole of a dimension, by that of the view
-abbrev pub whole : ℕ → Course
-whole a = record { first = 0; step = pos 1; along = a }
+abbrev pub full_course : ℕ → Course
+full_course a = record { first = 0; step = pos 1; along = a }
 
 -- one element of a dimension
 abbrev pub still : ℕ → Course

@@ -45,8 +45,8 @@ increment place ds i = if nat_le (get_or ds i 0) 1 then pos 0
 
 -- the triple by which places are shown at coordinates: the place of the first element,
 -- and how far one step goes
-abbrev pub shown : (List ℕ → ℤ) → List ℕ → Triple
-shown place ds = record {
+abbrev pub triple_showing : (List ℕ → ℤ) → List ℕ → Triple
+triple_showing place ds = record {
   offset = if size_of ds == 0 then 0 else nat_abs (place (origin (length ds)));
   incs = map (increment place ds) (range_with_len 0 (length ds));
   dims = ds;
@@ -59,7 +59,7 @@ form_place form over cs = place_of over (form_source form over.dims cs)
 -- the triple by which a view is shown over the base of its parent, if it can be
 abbrev pub windowed : Form → Triple → Option Triple
 windowed form over = if is_window form over
-    then Some (shown (form_place form over) (sizes form over.dims)) else None
+    then Some (triple_showing (form_place form over) (sizes form over.dims)) else None
 
 abbrev pub composed : Affine → Triple → Option Triple
 composed trans over = window (resolved trans over.dims) where

@@ -4,7 +4,7 @@ ghost use Rattle.std.specs.List.{range_with_len};
 ghost use Rattle.pdl_shape.specs.Shape.{extent_limit};
 ghost use Rattle.pdl_shape.specs.Triple.{IsTriple};
 ghost use Rattle.pdl_affine.specs.Views.{sizes};
-ghost use Rattle.pdl_affine.specs.Windows.{windowed, shown, Shows, LiesIn, form_place};
+ghost use Rattle.pdl_affine.specs.Windows.{windowed, triple_showing, Shows, LiesIn, form_place};
 ghost use Rattle.pdl_affine.specs.Courses.{seen_form, IsSound, IsStraight, begun, gathered, counted_incs};
 
 use crate::clumping::clump;
@@ -121,7 +121,7 @@ fn straight(alloc: Global, form: &Form, dims: &Dims, over: &Triple) -> Triple
     requires sound { IsSound (seen_form form.now) over.now.dims }
     requires straight { IsStraight (seen_form form.now) }
     requires sized { dims.now ≡ sizes (seen_form form.now) over.now.dims }
-    ensures shown { result ≡ shown (form_place (seen_form form.now) over.now) dims.now }
+    ensures shown { result ≡ triple_showing (form_place (seen_form form.now) over.now) dims.now }
     ensures shows { Shows result (form_place (seen_form form.now) over.now) }
     ensures inside { LiesIn result over.now }
 {

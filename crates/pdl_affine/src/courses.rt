@@ -1,6 +1,6 @@
 //! The parent's coordinate along each of its dimensions, for coordinates of a view.
 ghost use Rattle.std.specs.Prelude.{◌≡◌, ◌<◌, ◌≤◌, ◌+◌, ◌-◌, ◌||◌, ◌==◌, ◌^◌, not, pos, slice_index, length, take, count_by, position, unwrap_or, if◌then◌else◌, nat_lt};
-ghost use Rattle.pdl_affine.specs.Courses.{seen_form, seen_all, IsSound, IsStraight, IsCourse, AreCourses, course_at, whole, still, exchanged_to, past, shifted_to, diagonal_to, squeezed_to};
+ghost use Rattle.pdl_affine.specs.Courses.{seen_form, lines_of_taken, IsSound, IsStraight, IsCourse, AreCourses, course_at, full_course, still, exchanged_to, past, shifted_to, diagonal_to, squeezed_to};
 ghost use Rattle.pdl_affine.specs.Views.{kept_dims, lists, lowest_of};
 
 use crate::forms::{Course, Form, Taken};
@@ -35,19 +35,19 @@ fn course(form: &Form, parent: &[u32], dimension: usize) -> Course
     shape_laws();
     match form {
         Form::Sliced(taken) => sliced(taken, dimension, 0),
-        Form::Exchanged(a, b) => whole(exchanged(*a, *b, dimension)),
-        Form::Shifted(a, b) => whole(shifted(*a, *b, dimension)),
-        Form::Arranged(order) => whole(arranged(order, dimension)),
-        Form::Inserted { place, .. } => whole(past(*place, dimension)),
-        Form::Diagonal(listed) => whole(diagonal_to(listed, dimension)),
+        Form::Exchanged(a, b) => full_course(exchanged(*a, *b, dimension)),
+        Form::Shifted(a, b) => full_course(shifted(*a, *b, dimension)),
+        Form::Arranged(order) => full_course(arranged(order, dimension)),
+        Form::Inserted { place, .. } => full_course(past(*place, dimension)),
+        Form::Diagonal(listed) => full_course(diagonal_to(listed, dimension)),
         Form::Squeezed => squeezed(parent, dimension),
-        Form::Clumped(_) => whole(dimension),
+        Form::Clumped(_) => full_course(dimension),
     }
 }
 
 /// All of a dimension, by that of the view.
-fn whole(along: usize) -> Course
-    ensures { result ≡ whole along }
+fn full_course(along: usize) -> Course
+    ensures { result ≡ full_course along }
 {
     Course {
         first: 0,
@@ -160,19 +160,19 @@ fn squeezed_to(parent: &[u32], dimension: usize) -> usize
 fn squeezed(parent: &[u32], dimension: usize) -> Course
     requires { dimension < length parent.now }
     ensures { result ≡ (if slice_index parent.now dimension == 1 then still 0
-        else whole (squeezed_to parent.now dimension)) }
+        else full_course (squeezed_to parent.now dimension)) }
 {
     if parent[dimension] == 1 {
         still(0)
     } else {
-        whole(squeezed_to(parent, dimension))
+        full_course(squeezed_to(parent, dimension))
     }
 }
 
 /// The course of a dimension that slice arguments take, before `along` dimensions of the view.
 fn sliced(taken: &[Taken], dimension: usize, along: usize) -> Course
     requires { along + length taken.now < 2 ^ 64 }
-    ensures { result ≡ course_at (seen_all taken.now) dimension along }
+    ensures { result ≡ course_at (lines_of_taken taken.now) dimension along }
 {
     match taken {
         [] => still(0),

@@ -1,7 +1,7 @@
 //! Plans of views.
 ghost use Rattle.std.specs.Prelude.{◌≡◌, ◌≢◌, IfOk, IfErr, OnOk, IsOk, IsTrue, Ok, Err, length, IfSome, IsSome};
 ghost use Rattle.pdl_affine.specs.Views.{dims, is_well_formed, refusal_of, sizes};
-ghost use Rattle.pdl_shape.specs.Triple.{whole};
+ghost use Rattle.pdl_shape.specs.Triple.{whole_triple};
 ghost use Rattle.pdl_affine.specs.Windows.{composed, base_place, Shows, LiesIn};
 ghost use Rattle.pdl_affine.specs.Courses.{seen_form, Stands, Limits};
 ghost use Rattle.pdl_shape.specs.Shape.{IsDims};
@@ -123,7 +123,7 @@ pub fn compose(alloc: Global, plan: &AffinePlan, over: &Triple) -> Option<Triple
     ensures shows { IfSome result (λ triple. Shows triple (base_place plan.now.trans over.now)) }
     ensures inside { IfSome result (λ triple. LiesIn triple over.now) }
     ensures fits { IfSome result (λ triple. dims plan.now.trans plan.now.parent ≡ Ok triple.dims) }
-    ensures in_order { over.now ≡ whole plan.now.parent → IsSome result }
+    ensures in_order { over.now ≡ whole_triple plan.now.parent → IsSome result }
 {
     window(alloc, &plan.form, &plan.dims, over)
 }

@@ -1,7 +1,7 @@
 //! The sizes of a view's dimensions.
 ghost use Rattle.std.specs.Prelude.{◌≡◌, ◌<◌, ◌≤◌, ◌||◌, ◌==◌, ◌-◌, not, length, map, filter, get_or, replicate, insert, IfErr, IfOk, OnOk, [], ◌∷◌, ◌++◌};
 ghost use Rattle.pdl_affine.specs.Slicing.{line_sizes};
-ghost use Rattle.pdl_affine.specs.Courses.{seen_all, seen_form, Stands, IsLimit, Limits};
+ghost use Rattle.pdl_affine.specs.Courses.{lines_of_taken, seen_form, Stands, IsLimit, Limits};
 ghost use Rattle.pdl_affine.specs.Views.{exchanged, shifted, inserted, diagonal, squeezed, clumped, lists, lowest_of, kept_dims, sizes};
 ghost use Rattle.pdl_shape.specs.Limits.{checked_dims};
 ghost use Rattle.pdl_shape.specs.Shape.{IsDims};
@@ -15,7 +15,7 @@ use std::alloc::{AllocError, Global};
 
 fn put_line(sizes: &mut Vec<u32>, taken: Taken) -> Result<(), AllocError>
     ensures { OnOk result (sizes.new.items ≡ sizes.old.items
-        ++ line_sizes (seen_all (taken ∷ []))) }
+        ++ line_sizes (lines_of_taken (taken ∷ []))) }
 {
     match taken {
         Taken::Kept { size, .. } | Taken::Added { size } => put(sizes, size),
@@ -24,7 +24,7 @@ fn put_line(sizes: &mut Vec<u32>, taken: Taken) -> Result<(), AllocError>
 }
 
 fn slice(alloc: Global, taken: &[Taken]) -> Result<Vec<u32>, AllocError>
-    ensures { IfOk result (λ ms. ms.items ≡ line_sizes (seen_all taken.now)) }
+    ensures { IfOk result (λ ms. ms.items ≡ line_sizes (lines_of_taken taken.now)) }
 {
     let mut sizes = Vec::new(alloc);
     for line in taken {

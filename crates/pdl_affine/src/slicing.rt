@@ -3,7 +3,7 @@ ghost use Rattle.std.specs.Prelude.{◌≡◌, ◌<◌, ◌≤◌, ◌^◌, leng
 ghost use Rattle.pdl_shape.specs.Counting.{from_end};
 ghost use Rattle.pdl_shape.specs.Refusals.{out_of_range};
 ghost use Rattle.pdl_affine.specs.Slicing.{end_of, kept, span_line, falls, is_step, spanned, line_of, lines_of};
-ghost use Rattle.pdl_affine.specs.Courses.{seen, seen_all, size_for, sizes_after, AreSmall, wholes};
+ghost use Rattle.pdl_affine.specs.Courses.{line_of_taken, lines_of_taken, size_for, sizes_after, AreSmall, wholes};
 ghost use Rattle.pdl_affine.specs.Views.{refusal_of, steps_on};
 ghost use Rattle.std.specs.List.{list_all};
 
@@ -35,7 +35,7 @@ fn end_of(number: Option<i32>, missing: u32, size: u32) -> Option<u32>
 
 /// The whole of a dimension of this size.
 fn all_of(size: u32) -> Taken
-    ensures { seen result ≡ kept 0 (pos 1) size }
+    ensures { line_of_taken result ≡ kept 0 (pos 1) size }
 {
     Taken::Kept {
         first: 0,
@@ -49,7 +49,7 @@ fn span_line(from: u32, to: u32, step: Option<i32>) -> Taken
     requires from_in { from < 2 ^ 31 }
     requires to_in { to < 2 ^ 31 }
     requires moves { IsTrue (is_step step) }
-    ensures { seen result ≡ span_line from to step }
+    ensures { line_of_taken result ≡ span_line from to step }
 {
     let far = from.abs_diff(to);
     match step {
@@ -86,7 +86,7 @@ fn falls(step: Option<i32>) -> bool
 fn spanned(from: Option<i32>, to: Option<i32>, step: Option<i32>, size: u32) -> Option<Taken>
     requires small { size < 2 ^ 31 }
     requires moves { IsTrue (is_step step) }
-    ensures { option_map seen result ≡ spanned from to step size }
+    ensures { option_map line_of_taken result ≡ spanned from to step size }
 {
     if from.is_none() && to.is_none() && size == 0 {
         return Some(all_of(0));
@@ -102,7 +102,7 @@ fn spanned(from: Option<i32>, to: Option<i32>, step: Option<i32>, size: u32) -> 
 fn line_of(arg: SliceArg, size: u32) -> Option<Taken>
     requires small { size < 2 ^ 31 }
     requires moves { IsTrue (steps_on arg) }
-    ensures { option_map seen result ≡ line_of arg size }
+    ensures { option_map line_of_taken result ≡ line_of arg size }
 {
     match arg {
         SliceArg::Whole => Some(all_of(size)),
@@ -138,7 +138,7 @@ fn size_for<'a>(arg: &SliceArg, sizes: &'a [u32]) -> (u32, &'a [u32])
 pub fn taken_of(alloc: Global, args: &[SliceArg], parent: &[u32]) -> Result<Vec<Taken>, PlanFault>
     requires small { AreSmall parent.now }
     requires moves { IsTrue (list_all steps_on args.now) }
-    ensures ok { IfOk result (λ ts. lines_of args.now parent.now ≡ Some (seen_all ts.items)) }
+    ensures ok { IfOk result (λ ts. lines_of args.now parent.now ≡ Some (lines_of_taken ts.items)) }
     ensures err { IfErr result (λ fault. IfSome (refusal_of fault) (λ refusal.
         (refusal ≡ out_of_range) × (lines_of args.now parent.now ≡ None))) }
 {
@@ -152,13 +152,13 @@ pub fn taken_of(alloc: Global, args: &[SliceArg], parent: &[u32]) -> Result<Vec<
         }
         rest = after;
     }
-    whole(&mut taken, rest)?;
+    take_wholes(&mut taken, rest)?;
     Ok(taken)
 }
 
 /// Puts the whole of each dimension at the end.
-fn whole(taken: &mut Vec<Taken>, sizes: &[u32]) -> Result<(), AllocError>
-    ensures { OnOk result (seen_all taken.new.items ≡ seen_all taken.old.items
+fn take_wholes(taken: &mut Vec<Taken>, sizes: &[u32]) -> Result<(), AllocError>
+    ensures { OnOk result (lines_of_taken taken.new.items ≡ lines_of_taken taken.old.items
         ++ wholes sizes.now) }
 {
     for size in sizes {

@@ -19,7 +19,7 @@ use Rattle.pdl_shape.specs.Laws.{PositionLaws}
 use Rattle.pdl_shape.specs.Shape.{size_of, coordinates_of}
 use Rattle.pdl_shape.specs.Triple.{Triple, IsPlace, IsTriple, Reaches, moved}
 use Rattle.pdl_buf.specs.Reads.{IsInside, HasRead, LieAcross, across}
-use Rattle.pdl_buf.specs.Window.{IsInOrder, place_at, shown}
+use Rattle.pdl_buf.specs.Window.{IsInOrder, place_at, shown_through}
 use Rattle.pdl_buf.proofs.Ordered.{in_order_at}
 use Rattle.pdl_buf.proofs.Walking.{step_bound, step_fits, IsShown, shown_at, shown_within, shown_element}
 use borrow.Rule.Slice.PartMut.{put_mid}
@@ -211,7 +211,7 @@ read_more t es into part first done run n few fits long before here k h =
     ]
 
 -- all of a window's block
-pub block_is : (t : Triple) (es elems rs : List ℤ) (first count : ℕ) → shown t es ≡ elems → length rs ≡ count → first + count ≤ length elems
+pub block_is : (t : Triple) (es elems rs : List ℤ) (first count : ℕ) → shown_through t es ≡ elems → length rs ≡ count → first + count ≤ length elems
     → HasRead t es first count rs → rs ≡ take count (drop first elems)
 block_is t es elems rs first count e long inside read =
     let l : length (take count (drop first elems)) ≡ count = length-take-le count (drop first elems) (omega (arith, length-drop first elems)) in
@@ -244,7 +244,7 @@ neighbours laws t es first start n ok reach o fits some e =
           omega arith;
     }
 
-pub block_fits : (t : Triple) (es elems : List ℤ) (first count : ℕ) → shown t es ≡ elems → first + count ≤ length elems → first + count ≤ size_of t.dims
+pub block_fits : (t : Triple) (es elems : List ℤ) (first count : ℕ) → shown_through t es ≡ elems → first + count ≤ length elems → first + count ≤ size_of t.dims
 block_fits t es elems first count e h =
     omega (arith, ap (λ (xs : List ℤ). length xs) e, length-map-range_with_len (λ k. get_or es (place_at t k) (pos 0)) 0 (size_of t.dims))
 

@@ -9,19 +9,19 @@ use Rattle.pdl_shape.specs.Laws.{PositionLaws, CutsWithin}
 use Rattle.pdl_shape.specs.Shape.{IsWithin, size_of, coordinates_of, position_of}
 use Rattle.pdl_shape.specs.Stretched.{stretched, stretched_position}
 use Rattle.pdl_shape.specs.Triple.{Triple, place_of}
-use Rattle.pdl_buf.specs.Window.{place_at, shown}
+use Rattle.pdl_buf.specs.Window.{place_at, shown_through}
 
 -- a triple that shows the places of the cut coordinates shows the stretched elements
 pub shown_stretched : PositionLaws → CutsWithin → (t r : Triple) (js : List ℕ) (es : List ℤ) → r.dims ≡ js → BroadcastsTo t.dims js
-    → ((cs : List ℕ) → IsWithin js cs → place_of r cs ≡ place_of t (cut_to t.dims cs)) → shown r es ≡ stretched t.dims js (shown t es)
+    → ((cs : List ℕ) → IsWithin js cs → place_of r cs ≡ place_of t (cut_to t.dims cs)) → shown_through r es ≡ stretched t.dims js (shown_through t es)
 shown_stretched laws cuts t r js es same stretches shows =
     let f : ℕ → ℤ = λ p. get_or es (unsigned_abs (place_of r (coordinates_of js p))) (pos 0) in
-    let g : ℕ → ℤ = λ p. get_or (shown t es) (stretched_position t.dims js p) (pos 0) in
+    let g : ℕ → ℤ = λ p. get_or (shown_through t es) (stretched_position t.dims js p) (pos 0) in
     let h : ℕ → ℤ = λ p. get_or es (place_at t p) (pos 0) in
     let l : length (map f (range_with_len 0 (size_of js))) ≡ size_of js = length-map-range_with_len f 0 (size_of js) in
-    let m : length (stretched t.dims js (shown t es)) ≡ size_of js = length-map-range_with_len g 0 (size_of js) in
+    let m : length (stretched t.dims js (shown_through t es)) ≡ size_of js = length-map-range_with_len g 0 (size_of js) in
     ap (λ (ds : List ℕ). map (λ p. get_or es (unsigned_abs (place_of r (coordinates_of ds p))) (pos 0)) (range_with_len 0 (size_of ds))) same
-    ∙ ext_get_or (pos 0) (map f (range_with_len 0 (size_of js))) (stretched t.dims js (shown t es)) (l ∙ sym m)
+    ∙ ext_get_or (pos 0) (map f (range_with_len 0 (size_of js))) (stretched t.dims js (shown_through t es)) (l ∙ sym m)
     (λ p within.
     let small : p < size_of js = omega (arith, l, within) in
     let cs : List ℕ = coordinates_of js p in

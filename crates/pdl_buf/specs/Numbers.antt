@@ -2,11 +2,11 @@
 use Rattle.pdl_elem.specs.declared.Ty.TheVariants.{Byte, Short, Ushort, Long, Longlong}
 use Rattle.pdl_buf.specs.declared.numbers.Numbers.{Numbers}
 use Rattle.pdl_buf.specs.declared.numbers.Numbers.TheVariants as packed
-use Rattle.pdl_buf.specs.Buffer.{Kept}
+use Rattle.pdl_buf.specs.Buffer.{TypedElements}
 
-abbrev pub kept_in : Numbers → Kept
-kept_in (packed.Bytes es) = record { ty = Byte; elems = es }
-kept_in (packed.Shorts es) = record { ty = Short; elems = es }
-kept_in (packed.Ushorts es) = record { ty = Ushort; elems = es }
-kept_in (packed.Longs es) = record { ty = Long; elems = es }
-kept_in (packed.Longlongs es) = record { ty = Longlong; elems = es }
+abbrev pub elements_in : Numbers → TypedElements
+elements_in (packed.Bytes es) = record { ty = Byte; elems = es }
+elements_in (packed.Shorts es) = record { ty = Short; elems = es }
+elements_in (packed.Ushorts es) = record { ty = Ushort; elems = es }
+elements_in (packed.Longs es) = record { ty = Long; elems = es }
+elements_in (packed.Longlongs es) = record { ty = Longlong; elems = es }

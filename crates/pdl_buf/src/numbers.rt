@@ -5,11 +5,11 @@ ghost use Rattle.pdl_elem.specs.Types.{InRange};
 ghost use Rattle.pdl_shape.specs.Places.{AllBelow, read, write};
 ghost use Rattle.pdl_shape.specs.Shape.{extent_limit, size_of};
 ghost use Rattle.pdl_shape.specs.Triple.{Reaches};
-ghost use Rattle.pdl_buf.specs.Buffer.{Kept, count_moved};
+ghost use Rattle.pdl_buf.specs.Buffer.{TypedElements, count_moved};
 ghost use Rattle.pdl_buf.specs.Bytes.{bytes_of};
-ghost use Rattle.pdl_buf.specs.Numbers.{kept_in};
+ghost use Rattle.pdl_buf.specs.Numbers.{elements_in};
 ghost use Rattle.pdl_buf.specs.Reads.{HasRead, HasReadAcross, LieAcross, across};
-ghost use Rattle.pdl_buf.specs.Window.{shown};
+ghost use Rattle.pdl_buf.specs.Window.{shown_through};
 
 use crate::across::read_across;
 use crate::packed::{AtByte, AtLong, AtLonglong, AtShort, AtUshort, Packed};
@@ -35,7 +35,7 @@ pub(crate) enum Numbers {
 impl Numbers {
     /// No numbers of the type, with room for so many.
     pub(crate) fn with_room(alloc: Global, ty: Ty, count: usize) -> Result<Numbers, AllocError>
-        ensures { IfOk result (λ kept. kept_in kept ≡ record { ty = ty; elems = [] }) }
+        ensures { IfOk result (λ kept. elements_in kept ≡ record { ty = ty; elems = [] }) }
     {
         Ok(match ty {
             Ty::Byte => Numbers::Bytes(Packed::with_room(alloc, count)?),
@@ -48,10 +48,10 @@ impl Numbers {
 
     /// Puts these numbers, which are in the type's range, after the others.
     pub(crate) fn extend(&mut self, numbers: &[i64]) -> Result<(), AllocError>
-        requires { All (InRange (kept_in self.old).ty) numbers.now }
-        ensures ok { let old = kept_in self.old in
-            OnOk result (kept_in self.new ≡ record old { elems = old.elems ++ numbers.now }) }
-        ensures err { OnErr result (kept_in self.new ≡ kept_in self.old) }
+        requires { All (InRange (elements_in self.old).ty) numbers.now }
+        ensures ok { let old = elements_in self.old in
+            OnOk result (elements_in self.new ≡ record old { elems = old.elems ++ numbers.now }) }
+        ensures err { OnErr result (elements_in self.new ≡ elements_in self.old) }
     {
         match self {
             Numbers::Bytes(packed) => packed.extend(numbers),
@@ -64,9 +64,9 @@ impl Numbers {
 
     /// The numbers, packed at a type in whose range they are. Those of the type are moved.
     pub(crate) fn at_type(self, alloc: Global, ty: Ty) -> Result<Numbers, AllocError>
-        requires { All (InRange ty) (kept_in self).elems }
-        ensures { let elems = (kept_in self).elems in
-            IfOk result (λ kept. kept_in kept ≡ record { ty = ty; elems = elems }) }
+        requires { All (InRange ty) (elements_in self).elems }
+        ensures { let elems = (elements_in self).elems in
+            IfOk result (λ kept. elements_in kept ≡ record { ty = ty; elems = elems }) }
     {
         if self.ty() == ty {
             Ok(self)
@@ -78,9 +78,9 @@ impl Numbers {
     /// The numbers anew, packed at a type in whose range they are. They are copied in blocks, so
     /// they are never widened all at once.
     pub(crate) fn copied(&self, alloc: Global, ty: Ty) -> Result<Numbers, AllocError>
-        requires { All (InRange ty) (kept_in self.now).elems }
-        ensures { let elems = (kept_in self.now).elems in
-            IfOk result (λ kept. kept_in kept ≡ record { ty = ty; elems = elems }) }
+        requires { All (InRange ty) (elements_in self.now).elems }
+        ensures { let elems = (elements_in self.now).elems in
+            IfOk result (λ kept. elements_in kept ≡ record { ty = ty; elems = elems }) }
     {
         let count = self.len();
         let mut numbers = Numbers::with_room(alloc, ty, count)?;
@@ -97,7 +97,7 @@ impl Numbers {
 
     /// How many numbers there are.
     pub(crate) fn len(&self) -> usize
-        ensures { result ≡ length (kept_in self.now).elems }
+        ensures { result ≡ length (elements_in self.now).elems }
     {
         match self {
             Numbers::Bytes(packed) => packed.len(),
@@ -110,8 +110,8 @@ impl Numbers {
 
     /// Sets `into` to the numbers from a place on, of which there are enough.
     pub(crate) fn read_from(&self, start: usize, into: &mut [i64])
-        requires { start + length into.old ≤ length (kept_in self.now).elems }
-        ensures { into.new ≡ take (length into.old) (drop start (kept_in self.now).elems) }
+        requires { start + length into.old ≤ length (elements_in self.now).elems }
+        ensures { into.new ≡ take (length into.old) (drop start (elements_in self.now).elems) }
     {
         match self {
             Numbers::Bytes(packed) => packed.read_from(start, into),
@@ -124,7 +124,7 @@ impl Numbers {
 
     /// How many of the numbers aren't 0.
     pub(crate) fn moved(&self) -> usize
-        ensures { result ≡ count_moved (kept_in self.now).elems }
+        ensures { result ≡ count_moved (elements_in self.now).elems }
     {
         match self {
             Numbers::Bytes(packed) => packed.moved(),
@@ -137,7 +137,7 @@ impl Numbers {
 
     /// Their type.
     pub(crate) fn ty(&self) -> Ty
-        ensures { result ≡ (kept_in self.now).ty }
+        ensures { result ≡ (elements_in self.now).ty }
     {
         match self {
             Numbers::Bytes(_) => Ty::Byte,
@@ -150,9 +150,9 @@ impl Numbers {
 
     /// The number at a place, which is below how many there are.
     pub(crate) fn get(&self, place: usize) -> i64
-        requires { place < length (kept_in self.now).elems }
-        ensures value { result ≡ get_or (kept_in self.now).elems place (pos 0) }
-        ensures in_range { InRange (kept_in self.now).ty result }
+        requires { place < length (elements_in self.now).elems }
+        ensures value { result ≡ get_or (elements_in self.now).elems place (pos 0) }
+        ensures in_range { InRange (elements_in self.now).ty result }
     {
         match self {
             Numbers::Bytes(packed) => packed.get(place),
@@ -165,11 +165,11 @@ impl Numbers {
 
     /// Sets the number at a place, which is below how many there are, to one of the type's range.
     pub(crate) fn set(&mut self, place: usize, number: i64)
-        requires place { place < length (kept_in self.old).elems }
-        requires in_range { InRange (kept_in self.old).ty number }
-        ensures { kept_in self.new
-            ≡ record (kept_in self.old)
-            { elems = slice_set (kept_in self.old).elems place number } }
+        requires place { place < length (elements_in self.old).elems }
+        requires in_range { InRange (elements_in self.old).ty number }
+        ensures { elements_in self.new
+            ≡ record (elements_in self.old)
+            { elems = slice_set (elements_in self.old).elems place number } }
     {
         match self {
             Numbers::Bytes(packed) => packed.set(place, number),
@@ -182,7 +182,8 @@ impl Numbers {
 
     /// The bytes of each number in turn.
     pub(crate) fn bytes(&self) -> &[u8]
-        ensures { result.now ≡ flat_map (bytes_of (kept_in self.now).ty) (kept_in self.now).elems }
+        ensures { let kept = elements_in self.now in
+            result.now ≡ flat_map (bytes_of kept.ty) kept.elems }
     {
         match self {
             Numbers::Bytes(packed) => packed.bytes(),
@@ -196,12 +197,13 @@ impl Numbers {
     /// Sets each of these numbers to the one at the place that a placement shows there of others of
     /// the same type, or to 0 where there is no place.
     pub(crate) fn gather(&mut self, from: &Numbers, placement: &Placement, places: &[Option<u32>])
-        requires paired { length places.now ≡ length (kept_in self.old).elems }
+        requires paired { length places.now ≡ length (elements_in self.old).elems }
         requires within { AllBelow (size_of placement.now.dims) places.now }
-        requires reaches { Reaches placement.now (length (kept_in from.now).elems) }
-        requires same_type { (kept_in from.now).ty ≡ (kept_in self.old).ty }
-        ensures { let elems = read places.now (shown placement.now (kept_in from.now).elems) in
-            kept_in self.new ≡ record (kept_in self.old) { elems = elems } }
+        requires reaches { Reaches placement.now (length (elements_in from.now).elems) }
+        requires same_type { (elements_in from.now).ty ≡ (elements_in self.old).ty }
+        ensures { let shown = shown_through placement.now (elements_in from.now).elems in
+            let elems = read places.now shown in
+            elements_in self.new ≡ record (elements_in self.old) { elems = elems } }
     {
         match (self, from) {
             (Numbers::Bytes(into), Numbers::Bytes(from)) => into.gather(from, placement, places),
@@ -221,11 +223,11 @@ impl Numbers {
     /// value without a place is dropped.
     pub(crate) fn scatter(&mut self, places: &[Option<u32>], values: &[i64])
         requires paired { length values.now ≡ length places.now }
-        requires within { AllBelow (length (kept_in self.old).elems) places.now }
-        requires in_range { All (InRange (kept_in self.old).ty) values.now }
-        ensures { kept_in self.new
-            ≡ record (kept_in self.old)
-            { elems = write places.now values.now (kept_in self.old).elems } }
+        requires within { AllBelow (length (elements_in self.old).elems) places.now }
+        requires in_range { All (InRange (elements_in self.old).ty) values.now }
+        ensures { elements_in self.new
+            ≡ record (elements_in self.old)
+            { elems = write places.now values.now (elements_in self.old).elems } }
     {
         match self {
             Numbers::Bytes(packed) => packed.scatter(places, values),
@@ -239,11 +241,11 @@ impl Numbers {
     /// Sets the numbers at the places to those of others of the same type, in order. A number
     /// without a place among these is dropped.
     pub(crate) fn scatter_from(&mut self, places: &[Option<u32>], from: &Numbers)
-        requires paired { length places.now ≡ length (kept_in from.now).elems }
-        requires same_type { (kept_in from.now).ty ≡ (kept_in self.old).ty }
-        ensures { let old = kept_in self.old in
-            let elems = write places.now (kept_in from.now).elems old.elems in
-            kept_in self.new ≡ record old { elems = elems } }
+        requires paired { length places.now ≡ length (elements_in from.now).elems }
+        requires same_type { (elements_in from.now).ty ≡ (elements_in self.old).ty }
+        ensures { let old = elements_in self.old in
+            let elems = write places.now (elements_in from.now).elems old.elems in
+            elements_in self.new ≡ record old { elems = elems } }
     {
         match (self, from) {
             (Numbers::Bytes(into), Numbers::Bytes(from)) => into.scatter_from(places, from),
@@ -260,10 +262,10 @@ impl Numbers {
     pub(crate) fn put_by<R: Route>(&mut self, route: &R, values: &[i64])
         requires few { length values.now ≤ R.count route.now }
         requires small { length values.now < 2 ^ 32 }
-        requires in_range { All (InRange (kept_in self.old).ty) values.now }
-        ensures { let old = kept_in self.old in
+        requires in_range { All (InRange (elements_in self.old).ty) values.now }
+        ensures { let old = elements_in self.old in
             let places = map (R.goes_to route.now) (range_with_len 0 (length values.now)) in
-            kept_in self.new ≡ record old { elems = write places values.now old.elems } }
+            elements_in self.new ≡ record old { elems = write places values.now old.elems } }
     {
         match self {
             Numbers::Bytes(packed) => packed.put_by(route, values),
@@ -277,8 +279,8 @@ impl Numbers {
     /// Sets `into` to the numbers at the places, and to 0 where there is none among these.
     fn read_at(&self, places: &[Option<u32>], into: &mut [i64])
         requires { length into.old ≡ length places.now }
-        ensures value { into.new ≡ read places.now (kept_in self.now).elems }
-        ensures in_range { All (InRange (kept_in self.now).ty) into.new }
+        ensures value { into.new ≡ read places.now (elements_in self.now).elems }
+        ensures in_range { All (InRange (elements_in self.now).ty) into.new }
     {
         match self {
             Numbers::Bytes(packed) => packed.read_at(places, into),
@@ -295,8 +297,9 @@ impl Numbers {
         alloc: Global,
         places: &[Option<u32>],
     ) -> Result<Numbers, AllocError>
-        ensures { let elems = read places.now (kept_in self.now).elems in
-            IfOk result (λ kept. kept_in kept ≡ record (kept_in self.now) { elems = elems }) }
+        ensures { let elems = read places.now (elements_in self.now).elems in
+            IfOk result (λ kept.
+            elements_in kept ≡ record (elements_in self.now) { elems = elems }) }
     {
         let count = places.len();
         let mut numbers = Numbers::with_room(alloc, self.ty(), count)?;
@@ -315,10 +318,10 @@ impl Numbers {
     /// The numbers that a placement shows, from a position on.
     pub(crate) fn read(&self, placement: &Placement, first: u32, into: &mut [i64])
         requires within { first + length into.old ≤ size_of placement.now.dims }
-        requires reaches { Reaches placement.now (length (kept_in self.now).elems) }
-        ensures value { HasRead placement.now (kept_in self.now).elems first
+        requires reaches { Reaches placement.now (length (elements_in self.now).elems) }
+        ensures value { HasRead placement.now (elements_in self.now).elems first
             (length into.old) into.new }
-        ensures in_range { All (InRange (kept_in self.now).ty) into.new }
+        ensures in_range { All (InRange (elements_in self.now).ty) into.new }
     {
         match self {
             Numbers::Bytes(packed) => read_block(packed, placement, first, into),
@@ -336,10 +339,10 @@ impl Numbers {
         requires along { LieAcross placement.now.dims first (length into.old) }
         requires within { (k : ℕ) → k < length into.old →
             across placement.now.dims first k < size_of placement.now.dims }
-        requires reaches { Reaches placement.now (length (kept_in self.now).elems) }
-        ensures value { HasReadAcross placement.now (kept_in self.now).elems
+        requires reaches { Reaches placement.now (length (elements_in self.now).elems) }
+        ensures value { HasReadAcross placement.now (elements_in self.now).elems
             first (length into.old) into.new }
-        ensures in_range { All (InRange (kept_in self.now).ty) into.new }
+        ensures in_range { All (InRange (elements_in self.now).ty) into.new }
     {
         match self {
             Numbers::Bytes(packed) => read_across(packed, placement, first, into),
@@ -354,7 +357,7 @@ impl Numbers {
 /// These numbers, which are in the type's range, packed.
 pub(crate) fn numbers_of(alloc: Global, ty: Ty, numbers: &[i64]) -> Result<Numbers, AllocError>
     requires { All (InRange ty) numbers.now }
-    ensures { IfOk result (λ kept. kept_in kept ≡ record { ty = ty; elems = numbers.now }) }
+    ensures { IfOk result (λ kept. elements_in kept ≡ record { ty = ty; elems = numbers.now }) }
 {
     let mut packed = Numbers::with_room(alloc, ty, numbers.len())?;
     packed.extend(numbers)?;

@@ -9,7 +9,7 @@ ghost use Rattle.pdl_shape.specs.Places.{AllBelow, IsBelow, element_at, put, rea
 ghost use Rattle.pdl_shape.specs.Shape.{size_of};
 ghost use Rattle.pdl_shape.specs.Triple.{Reaches};
 ghost use Rattle.pdl_buf.specs.Buffer.{count_moved};
-ghost use Rattle.pdl_buf.specs.Window.{shown};
+ghost use Rattle.pdl_buf.specs.Window.{shown_through};
 ghost use Rattle.pdl_buf.specs.Bytes.{ArePacked, bytes_of, number_of};
 
 use crate::placement::Placement;
@@ -253,7 +253,7 @@ impl<T: PackedType<N>, const N: usize> Packed<T, N> {
     fn shown_at(&self, placement: &Placement, position: Option<u32>) -> i64
         requires within { IsBelow (size_of placement.now.dims) position }
         requires reaches { Reaches placement.now (length self.now) }
-        ensures value { result ≡ element_at (shown placement.now self.now) position }
+        ensures value { result ≡ element_at (shown_through placement.now self.now) position }
         ensures in_range { InRange T.ty result }
     {
         shape_laws();
@@ -274,7 +274,7 @@ impl<T: PackedType<N>, const N: usize> Packed<T, N> {
         requires paired { length positions.now ≡ length self.old }
         requires within { AllBelow (size_of placement.now.dims) positions.now }
         requires reaches { Reaches placement.now (length from.now) }
-        ensures { self.new ≡ read positions.now (shown placement.now from.now) }
+        ensures { self.new ≡ read positions.now (shown_through placement.now from.now) }
     {
         for (i, position) in positions.iter().enumerate() {
             self.set(i, from.shown_at(placement, *position));

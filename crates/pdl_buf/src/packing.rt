@@ -2,7 +2,7 @@
 ghost use Rattle.std.specs.Prelude.{◌≡◌, ◌<◌, ◌≤◌, ◌+◌, ◌++◌, [], length, take, drop, All, IfOk, OnOk, OnErr};
 ghost use Rattle.pdl_elem.specs.Types.{InRange};
 ghost use Rattle.pdl_buf.specs.Elements.{listed};
-ghost use Rattle.pdl_buf.specs.Numbers.{kept_in};
+ghost use Rattle.pdl_buf.specs.Numbers.{elements_in};
 
 use crate::numbers::{Numbers, numbers_of};
 use pdl_elem::Ty;
@@ -63,7 +63,8 @@ impl Form {
     /// The numbers anew, packed at a type in whose range they are.
     pub(crate) fn copied(&self, alloc: Global, ty: Ty) -> Result<Numbers, AllocError>
         requires { All (InRange ty) (listed self.now) }
-        ensures { IfOk result (λ kept. kept_in kept ≡ record { ty = ty; elems = listed self.now }) }
+        ensures { IfOk result (λ kept.
+            elements_in kept ≡ record { ty = ty; elems = listed self.now }) }
     {
         match self {
             Form::Wide(items) => numbers_of(alloc, ty, items),
@@ -74,7 +75,7 @@ impl Form {
     /// The numbers, packed at a type in whose range they are. What is packed at it is moved.
     pub(crate) fn into_numbers(self, alloc: Global, ty: Ty) -> Result<Numbers, AllocError>
         requires { All (InRange ty) (listed self) }
-        ensures { IfOk result (λ kept. kept_in kept ≡ record { ty = ty; elems = listed self }) }
+        ensures { IfOk result (λ kept. elements_in kept ≡ record { ty = ty; elems = listed self }) }
     {
         match self {
             Form::Wide(items) => numbers_of(alloc, ty, &items),
@@ -92,10 +93,10 @@ pub struct Packing {
 }
 
 impl Model for Packing {
-    ghost use Rattle.pdl_buf.specs.Buffer.{Kept};
+    ghost use Rattle.pdl_buf.specs.Buffer.{TypedElements};
     ghost use Rattle.pdl_buf.specs.Elements.{IsAtType, listed};
 
-    ghost Value = { Kept };
+    ghost Value = { TypedElements };
 
     ghost view = { λ p. record { ty = p.ty; elems = listed p.form } };
 

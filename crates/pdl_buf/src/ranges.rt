@@ -2,7 +2,7 @@
 ghost use Rattle.std.specs.Prelude.{All};
 ghost use Rattle.pdl_elem.specs.Types.{InRange};
 ghost use Rattle.pdl_shape.specs.Triple.{IsTriple};
-ghost use Rattle.pdl_buf.specs.Numbers.{kept_in};
+ghost use Rattle.pdl_buf.specs.Numbers.{elements_in};
 
 use crate::numbers::Numbers;
 use crate::packing::{Form, Packing};
@@ -13,7 +13,7 @@ use pdl_shape::shape_laws;
 impl Numbers {
     /// All of them are in the type's range. It does nothing: who calls it knows that.
     fn are_in_range(&self)
-        ensures { All (InRange (kept_in self.now).ty) (kept_in self.now).elems }
+        ensures { All (InRange (elements_in self.now).ty) (elements_in self.now).elems }
     {
         match self {
             Numbers::Bytes(packed) => packed.are_in_range(),

@@ -3,8 +3,8 @@ ghost use Rattle.std.specs.Prelude.{◌≡◌, ◌≤◌, ◌+◌, ◌+ℤ◌, p
 ghost use Rattle.std.specs.Int.{int_wrap, w64};
 ghost use Rattle.pdl_shape.specs.Shape.{size_of};
 ghost use Rattle.pdl_shape.specs.Triple.{Reaches};
-ghost use Rattle.pdl_buf.specs.Numbers.{kept_in};
-ghost use Rattle.pdl_buf.specs.Window.{IsInOrder, shown};
+ghost use Rattle.pdl_buf.specs.Numbers.{elements_in};
+ghost use Rattle.pdl_buf.specs.Window.{IsInOrder, shown_through};
 
 use crate::numbers::Numbers;
 use crate::packed::{Packed, PackedType};
@@ -48,7 +48,7 @@ fn sum_in_order<T: PackedType<N>, const N: usize>(
     requires within { first + count ≤ size_of placement.now.dims }
     requires reaches { Reaches placement.now (length numbers.now) }
     requires ordered { IsInOrder 1 placement.now.incs placement.now.dims }
-    ensures { let xs = take count (drop first (shown placement.now numbers.now)) in
+    ensures { let xs = take count (drop first (shown_through placement.now numbers.now)) in
         result ≡ int_wrap w64 (fold (λ sum x. sum +ℤ x) (pos 0) xs) }
 {
     shape_laws();
@@ -69,7 +69,7 @@ fn sum_where_in_order<T: PackedType<N>, const N: usize>(
 ) -> Option<i64>
     requires within { first + count ≤ size_of placement.now.dims }
     requires reaches { Reaches placement.now (length numbers.now) }
-    ensures { let xs = take count (drop first (shown placement.now numbers.now)) in
+    ensures { let xs = take count (drop first (shown_through placement.now numbers.now)) in
         IfSome result (λ sum. sum ≡ int_wrap w64 (fold (λ sum x. sum +ℤ x) (pos 0) xs)) }
 {
     if placement.is_in_order {
@@ -84,8 +84,9 @@ impl Numbers {
     /// neighbours, in order.
     fn sum(&self, placement: &Placement, first: u32, count: u32) -> Option<i64>
         requires within { first + count ≤ size_of placement.now.dims }
-        requires reaches { Reaches placement.now (length (kept_in self.now).elems) }
-        ensures { let xs = take count (drop first (shown placement.now (kept_in self.now).elems)) in
+        requires reaches { Reaches placement.now (length (elements_in self.now).elems) }
+        ensures { let shown = shown_through placement.now (elements_in self.now).elems in
+            let xs = take count (drop first shown) in
             IfSome result (λ sum. sum ≡ int_wrap w64 (fold (λ sum x. sum +ℤ x) (pos 0) xs)) }
     {
         match self {

@@ -21,12 +21,15 @@ pub struct Strided<'a> {
 impl<'a> Model for Strided<'a> {
     ghost use Rattle.std.specs.Prelude.{length};
     ghost use Rattle.pdl_shape.specs.Triple.{Reaches};
-    ghost use Rattle.pdl_buf.specs.Window.{Window, shown};
+    ghost use Rattle.pdl_buf.specs.Window.{Window, shown_through};
 
     ghost Value = { Window };
 
-    ghost view = { λ s. record
-        { ty = s.buf.now.ty; dims = s.placement.dims; elems = shown s.placement s.buf.now.elems } };
+    ghost view = { λ s. record {
+      ty = s.buf.now.ty;
+      dims = s.placement.dims;
+      elems = shown_through s.placement s.buf.now.elems;
+    } };
 
     ghost invariant = { λ s. Reaches s.placement (length s.buf.now.elems) };
 }

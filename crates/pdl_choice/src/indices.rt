@@ -82,7 +82,7 @@ fn looked_up(
         return Err(ChoiceFault::BadDimension);
     };
     let outside = first_uncounted(*size, ind);
-    let dims = match joined(alloc, ind_dims, rest) {
+    let dims = match broadcast_dims(alloc, ind_dims, rest) {
         Ok(dims) => dims,
         Err(ShapeFault::Mismatch) => return Err(ChoiceFault::Mismatch),
         Err(ShapeFault::TooLarge) => return Err(too_large(outside)),
@@ -120,7 +120,7 @@ fn join_limited(alloc: Global, first: &Dims, second: &Dims) -> Result<Dims, Shap
 }
 
 /// The broadcast dimensions of the index array and the parent's dimensions past its first.
-fn joined(alloc: Global, ind_dims: &Dims, rest: &[u32]) -> Result<Dims, ShapeFault>
+fn broadcast_dims(alloc: Global, ind_dims: &Dims, rest: &[u32]) -> Result<Dims, ShapeFault>
     requires { IsDims rest.now }
     ensures joined { named shape_refusal result ≡ joined_dims ind_dims.now rest.now }
     ensures few { IfOk result (λ dims. IsDims dims) }

@@ -113,7 +113,7 @@ fn corner_dims(ind_dims: &[u32]) -> (usize, &[u32])
 }
 
 /// The sizes of windows that aren't 0. Sizes past the largest number stand at it.
-fn shown(alloc: Global, windows: &[u64]) -> Result<Vec<u32>, NoMemory>
+fn window_dims(alloc: Global, windows: &[u64]) -> Result<Vec<u32>, NoMemory>
     ensures { IfOk result (λ sizes. sizes.items ≡ map capped (filter is_positive windows.now)) }
 {
     windows
@@ -166,7 +166,7 @@ fn windowed_sizes(
         IfOk result (λ sizes. sizes.items ≡ outer.now ++ inner) }
 {
     let rest = &parent[windows.len()..];
-    let shown = shown(alloc, windows)?;
+    let shown = window_dims(alloc, windows)?;
     let mut sizes = Vec::with_capacity(alloc, outer.len() + shown.len() + rest.len())?;
     sizes.extend_from_slice(outer)?;
     sizes.extend_from_slice(&shown)?;
@@ -194,7 +194,7 @@ fn window_list(
         return Err(ChoiceFault::BadDimension);
     }
     if sizes.len() == 1 {
-        Ok(vec![in alloc; whole(sizes[0]); count]?)
+        Ok(vec![in alloc; unsigned_size(sizes[0]); count]?)
     } else if sizes.len() == count {
         Ok(whole_sizes(alloc, sizes)?)
     } else {
@@ -215,11 +215,11 @@ fn whole_sizes(alloc: Global, sizes: &[i64]) -> Result<Vec<u64>, NoMemory>
     requires { All (λ size. pos 0 ≤ℤ size) sizes.now }
     ensures { IfOk result (λ windows. windows.items ≡ map from_zero sizes.now) }
 {
-    sizes.iter().map(|size| whole(*size)).collect(alloc)
+    sizes.iter().map(|size| unsigned_size(*size)).collect(alloc)
 }
 
 /// A size that isn't below 0, without its sign.
-fn whole(size: i64) -> u64
+fn unsigned_size(size: i64) -> u64
     requires { pos 0 ≤ℤ size }
     ensures { result ≡ from_zero size }
 {

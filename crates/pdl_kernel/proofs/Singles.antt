@@ -18,12 +18,12 @@ use Rattle.pdl_kernel.specs.declared.faults.Fault.{Fault}
 use Rattle.pdl_kernel.specs.Arrays.{stored}
 use Rattle.pdl_kernel.specs.Meaning.{Store, and_then, argument, assigned, changed, element_at, nothing, start, step, value, with_argument}
 use Rattle.pdl_kernel.specs.Scalars.{IsElementwise, IsScalars, Leaves, began, scalars_at, single}
-use Rattle.pdl_kernel.specs.Sources.{Source, left_at, moved_to, seen, shown, sizes_of}
+use Rattle.pdl_kernel.specs.Sources.{Source, left_at, moved_to, seen, array_of_source, sizes_of}
 use Rattle.pdl_kernel.specs.Parts.{Part}
 use Rattle.pdl_kernel.proofs.Gathering.{IsGathered, gathered_more}
 use Rattle.pdl_kernel.proofs.Sweeping.{one_statement, then_done}
 
-argument_at : (ss : List Source) (k : ℕ) (bs : List ℕ) (d : Source) → k < length ss → get_or (map (λ s. shown (moved_to bs s)) ss) k nothing ≡ shown (moved_to bs (get_or ss k d))
+argument_at : (ss : List Source) (k : ℕ) (bs : List ℕ) (d : Source) → k < length ss → get_or (map (λ s. array_of_source (moved_to bs s)) ss) k nothing ≡ array_of_source (moved_to bs (get_or ss k d))
 argument_at [] k bs d lt = absurd (omega arith)
 argument_at (s ∷ ss) zero bs d lt = refl
 argument_at (s ∷ ss) (suc k) bs d lt = argument_at ss k bs d (omega arith)
@@ -37,7 +37,7 @@ lone_seen ty [] es q bare = let z : q + 0 ≡ q = omega arith in ap (λ n. lone 
 lone_seen ty (a ∷ axes) es q bare = absurd (omega (arith, bare))
 
 lone_argument : (ss : List Source) (k : ℕ) (bs : List ℕ) (d : Source) → k < length ss → length (get_or ss k d).axes ≡ 0
-    → get_or (map (λ s. shown (moved_to bs s)) ss) k nothing ≡ lone (get_or ss k d).ty (single (get_or ss k d) bs)
+    → get_or (map (λ s. array_of_source (moved_to bs s)) ss) k nothing ≡ lone (get_or ss k d).ty (single (get_or ss k d) bs)
 lone_argument ss k bs d lt bare = let s = get_or ss k d in argument_at ss k bs d lt ∙ lone_seen s.ty s.axes s.elems _ bare
 
 pub empty : {X : Type 0} (xs : List X) → length xs ≡ 0 → [] ≡ xs
@@ -78,7 +78,7 @@ lone_left ss k t op v e s is lt here bare values r n bs =
 
     by_changed : (c : Result ℤ Fault) → Leaves (and_then (and_then c (λ y. Ok (stored (lone ty z) [] y))) (with_argument m k)) k (and_then c (λ y. Ok (wrapped ty y)))
     by_changed (Ok y) =
-        let long : length m.arguments ≡ length ss = length-map ss (λ s. shown (moved_to bs s)) in
+        let long : length m.arguments ≡ length ss = length-map ss (λ s. array_of_source (moved_to bs s)) in
         ap (λ (a : Made). a.elems) (get_or-set_same m.arguments k (stored (lone ty z) [] y) nothing (omega (arith, long, lt)))
     by_changed (Err f) = refl
 

@@ -20,7 +20,7 @@ use Rattle.pdl_kernel.specs.declared.faults.Fault.{Fault}
 use Rattle.pdl_kernel.specs.Call.{outcome, start_element, started, store_before, stores_from, with_given}
 use Rattle.pdl_kernel.specs.Meaning.{Store, run}
 use Rattle.pdl_kernel.specs.Setup.{given_elems, given_steps, source_of}
-use Rattle.pdl_kernel.specs.Sources.{Source, axes_of, dot, element_seen, left_in_order, moved_to, reach, roles_of, shown, sizes_of, steps_from}
+use Rattle.pdl_kernel.specs.Sources.{Source, axes_of, dot, element_seen, left_in_order, moved_to, reach, roles_of, array_of_source, sizes_of, steps_from}
 
 -- steps of a given array, 0 along a size of 1, lead to the place that broadcasting names
 stretch : (n : ℕ) (gs cs : List ℕ) → dot (steps_from n gs) cs ≡ n * position_of gs (cut_to gs cs)
@@ -90,7 +90,7 @@ element_is ty core n (Some g) bs p count =
     ∙ ap (get_or (map (wrapped ty) g.elems) (position_of g.dims (cut_to g.dims (cs ++ bs)))) (sym (zero_stays ty))
     ∙ get_or-map (wrapped ty) g.elems (position_of g.dims (cut_to g.dims (cs ++ bs))) (pos 0)
 
-source_shown : (r : Resolved) (bs : List ℕ) (a : SigArg × Option Made) → shown (moved_to bs (source_of r a)) ≡ started r bs a
+source_shown : (r : Resolved) (bs : List ℕ) (a : SigArg × Option Made) → array_of_source (moved_to bs (source_of r a)) ≡ started r bs a
 source_shown r bs a =
     let ty = type_in r.generic a.0.ty in
     let core = core_sizes r.sizes a.0 in
@@ -103,9 +103,9 @@ source_shown r bs a =
     ∙ map_same seen (λ q. start_element ty a.1 (coordinates_of core q ++ bs)) (λ q. element_is ty core (length a.0.dims) a.1 bs q count) (range_with_len 0 (size_of core)) in
     ap₂ (λ (ds : List ℕ) (es : List ℤ). let m : Made = record { ty = ty; dims = ds; elems = es } in m) (axes_sizes core ss) elems
 
-sources_shown : (r : Resolved) (bs : List ℕ) (pairs : List (SigArg × Option Made)) → map (λ s. shown (moved_to bs s)) (map (source_of r) pairs) ≡ map (started r bs) pairs
+sources_shown : (r : Resolved) (bs : List ℕ) (pairs : List (SigArg × Option Made)) → map (λ s. array_of_source (moved_to bs s)) (map (source_of r) pairs) ≡ map (started r bs) pairs
 sources_shown r bs [] = refl
-sources_shown r bs (a ∷ pairs) = ap (λ m. m ∷ map (λ s. shown (moved_to bs s)) (map (source_of r) pairs)) (source_shown r bs a) ∙ ap (λ ms. started r bs a ∷ ms) (sources_shown r bs pairs)
+sources_shown r bs (a ∷ pairs) = ap (λ m. m ∷ map (λ s. array_of_source (moved_to bs s)) (map (source_of r) pairs)) (source_shown r bs a) ∙ ap (λ ms. started r bs a ∷ ms) (sources_shown r bs pairs)
 
 -- what the walk finds at a place is what the definition says
 pub outcome_is : (args : List SigArg) (code : Code) (r : Resolved) (given : List Made) (sources : List Source) (n p : ℕ) → sources ≡ map (source_of r) (with_given args given) → n ≡ code_locals 0 code

@@ -9,7 +9,7 @@ use Rattle.pdl_sig.specs.declared.Role.TheVariants.{Input, Output, Both, Temp}
 use Rattle.pdl_kernel.specs.declared.faults.Fault.{Fault}
 use Rattle.pdl_kernel.specs.Answers.{Becomes}
 use Rattle.pdl_kernel.specs.Meaning.{and_then, argument, assigned, nothing, with_argument}
-use Rattle.pdl_kernel.specs.Sources.{Source, Work, IsFree, in_place, overlaid, roles_of, shown, store_of}
+use Rattle.pdl_kernel.specs.Sources.{Source, Work, IsFree, in_place, overlaid, roles_of, array_of_source, store_of}
 
 -- what becomes of a part is what becomes of the whole
 pub becomes_within : {A B C X : Type 0} (r : Result B Fault) (now : A) (x : Result X Fault) (f : X → A) (g : A → C)
@@ -29,14 +29,14 @@ in_place_block Temp given block h = refl
 pub overlaid_free : (ss : List Source) (bs : List Made) (k : ℕ) → IsFree (roles_of ss) k → get_or (overlaid ss bs) k nothing ≡ get_or bs k nothing
 overlaid_free [] bs k h = absurd (h refl)
 overlaid_free (s ∷ ss) [] k h = refl
-overlaid_free (s ∷ ss) (b ∷ bs) zero h = in_place_block s.role (shown s) b h
+overlaid_free (s ∷ ss) (b ∷ bs) zero h = in_place_block s.role (array_of_source s) b h
 overlaid_free (s ∷ ss) (b ∷ bs) (suc k) h = overlaid_free ss bs k h
 
 pub overlaid_set : (ss : List Source) (bs : List Made) (k : ℕ) (a : Made) → IsFree (roles_of ss) k → slice_set (overlaid ss bs) k a ≡ overlaid ss (slice_set bs k a)
 overlaid_set [] bs k a h = absurd (h refl)
 overlaid_set (s ∷ ss) [] k a h = refl
-overlaid_set (s ∷ ss) (b ∷ bs) zero a h = ap (λ x. x ∷ overlaid ss bs) (sym (in_place_block s.role (shown s) a h))
-overlaid_set (s ∷ ss) (b ∷ bs) (suc k) a h = ap (λ xs. in_place s.role (shown s) b ∷ xs) (overlaid_set ss bs k a h)
+overlaid_set (s ∷ ss) (b ∷ bs) zero a h = ap (λ x. x ∷ overlaid ss bs) (sym (in_place_block s.role (array_of_source s) a h))
+overlaid_set (s ∷ ss) (b ∷ bs) (suc k) a h = ap (λ xs. in_place s.role (array_of_source s) b ∷ xs) (overlaid_set ss bs k a h)
 
 -- a change of a free argument, in all arguments
 pub changed_over : {B : Type 0} (r : Result B Fault) (ss : List Source) (w now : Work) (k : ℕ) (change : Made → Result Made Fault) → IsFree (roles_of ss) k
@@ -75,17 +75,17 @@ assigned_within r arrays now w k op x y is items same h =
     changed_within r arrays now w k (λ b. assigned b op x is) items (subst G same h)
 
 -- an input as code sees it
-pub overlaid_input : (ss : List Source) (bs : List Made) (k : ℕ) (d : Source) → k < length ss → k < length bs → (get_or ss k d).role ≡ Input → get_or (overlaid ss bs) k nothing ≡ shown (get_or ss k d)
+pub overlaid_input : (ss : List Source) (bs : List Made) (k : ℕ) (d : Source) → k < length ss → k < length bs → (get_or ss k d).role ≡ Input → get_or (overlaid ss bs) k nothing ≡ array_of_source (get_or ss k d)
 overlaid_input [] bs k d ks kb is = absurd (omega arith)
 overlaid_input (s ∷ ss) [] k d ks kb is = absurd (omega arith)
-overlaid_input (s ∷ ss) (b ∷ bs) zero d ks kb is = ap (λ r. in_place r (shown s) b) is
+overlaid_input (s ∷ ss) (b ∷ bs) zero d ks kb is = ap (λ r. in_place r (array_of_source s) b) is
 overlaid_input (s ∷ ss) (b ∷ bs) (suc k) d ks kb is = overlaid_input ss bs k d (omega arith) (omega arith) is
 
 -- a block of another argument
 pub overlaid_block : (ss : List Source) (bs : List Made) (k : ℕ) (d : Source) → k < length ss → (get_or ss k d).role ≢ Input → get_or (overlaid ss bs) k nothing ≡ get_or bs k nothing
 overlaid_block [] bs k d ks other = absurd (omega arith)
 overlaid_block (s ∷ ss) [] k d ks other = refl
-overlaid_block (s ∷ ss) (b ∷ bs) zero d ks other = in_place_block s.role (shown s) b other
+overlaid_block (s ∷ ss) (b ∷ bs) zero d ks other = in_place_block s.role (array_of_source s) b other
 overlaid_block (s ∷ ss) (b ∷ bs) (suc k) d ks other = overlaid_block ss bs k d (omega arith) other
 
 -- past the last argument there is nothing

@@ -21,7 +21,7 @@ use Rattle.pdl_kernel.specs.Arrays.{coordinates_in, element, position_in, stored
 use Rattle.pdl_kernel.specs.Leading.{IsLaidOut, LeadsTo, LeadsWithin}
 use Rattle.pdl_kernel.specs.Lines.{AtEach, HasSameForm, IsAccess, IsBlockLine, IsCodePlan, IsLine, IsOperand, IsOperation, IsPlan, IsSpan, Loop, place_of, turned, worked}
 use Rattle.pdl_kernel.specs.Meaning.{Store, and_then, argument, assigned, assigned_at, changed, element_at, indices, nothing, or_range, run, start, step, turns, value, with_argument}
-use Rattle.pdl_kernel.specs.Sources.{IsFree, Source, Work, found, roles_of, shown, store_of}
+use Rattle.pdl_kernel.specs.Sources.{IsFree, Source, Work, found, roles_of, array_of_source, store_of}
 use Rattle.pdl_kernel.proofs.Leads.{IsLed, assigned_led, element_led, led_first, led_last, led_more, within_led}
 use Rattle.pdl_kernel.proofs.Stores.{overlaid_free, overlaid_input, overlaid_set}
 
@@ -119,15 +119,15 @@ kept_access l k is line free leads w h i lt =
 
 -- the elements of an input
 pub given_access : (l : Loop) (k : ℕ) (d : Source) (axes : List Axis) (is : Indices) (from : ℕ) (es : List ℤ) (line : Line) → k < length l.sources → k < length l.work.arrays → (get_or l.sources k d).role ≡ Input
-    → IsLaidOut (shown (get_or l.sources k d)) axes from es → IsLine l axes is from line
+    → IsLaidOut (array_of_source (get_or l.sources k d)) axes from es → IsLine l axes is from line
     → AtEach l (λ i at w. and_then (indices l.call.sizes at (store_of l.sources w) is start) (element_at (argument (store_of l.sources w) k)) ≡ Ok (get_or es (place_of line i) (pos 0)))
 given_access l k d axes is from es line ks kb input laid leads w h i lt =
     let at = slice_set l.at l.dimension i in
     let m = store_of l.sources w in
     let long = form_long l.work w h in
-    let same : argument m k ≡ shown (get_or l.sources k d) = overlaid_input l.sources w.arrays k d ks (omega (arith, long, kb)) input in
+    let same : argument m k ≡ array_of_source (get_or l.sources k d) = overlaid_input l.sources w.arrays k d ks (omega (arith, long, kb)) input in
     subst (λ (a : Made). and_then (indices l.call.sizes at m is start) (element_at a) ≡ Ok (get_or es (place_of line i) (pos 0))) (sym same)
-    (element_led l.call.sizes at m (shown (get_or l.sources k d)) axes is from (place_of line i) es laid (leads w h i lt))
+    (element_led l.call.sizes at m (array_of_source (get_or l.sources k d)) axes is from (place_of line i) es laid (leads w h i lt))
 
 -- a statement that stores goes by a plan
 plan_is : (l : Loop) (is : Indices) (e : Tree) (p : Plan) → IsFree (roles_of l.sources) p.number → IsOperation l e p.value → IsBlockLine l p.number is p.line

@@ -9,12 +9,12 @@ use Rattle.pdl_kernel.specs.declared.elementwise.Scalar.TheVariants.{Fixed, Of}
 use Rattle.pdl_kernel.specs.declared.elementwise.Scalars.{Scalars}
 use Rattle.pdl_kernel.specs.declared.faults.Fault.{Fault}
 use Rattle.pdl_kernel.specs.Meaning.{Store, and_then, argument, changed, value}
-use Rattle.pdl_kernel.specs.Sources.{Source, dot, left_at, moved_to, shown}
+use Rattle.pdl_kernel.specs.Sources.{Source, dot, left_at, moved_to, array_of_source}
 
 -- what code starts from at broadcast coordinates, with so many locals
 abbrev pub began : List Source → (locals : ℕ) → (coordinates : List ℕ) → Store
 began ss n bs = record {
-  arguments = map (λ s. shown (moved_to bs s)) ss;
+  arguments = map (λ s. array_of_source (moved_to bs s)) ss;
   locals = replicate n (pos 0);
 }
 

@@ -77,8 +77,9 @@ abbrev pub moved_to : (coordinates : List ℕ) → Source → Source
 moved_to bs s = record s { start = dot s.outer bs }
 
 -- the argument as code finds it
-abbrev pub shown : Source → Made
-shown s = record { ty = s.ty; dims = sizes_of s.axes; elems = seen s.start s.axes s.elems }
+abbrev pub array_of_source : Source → Made
+array_of_source s = record
+    { ty = s.ty; dims = sizes_of s.axes; elems = seen s.start s.axes s.elems }
 
 -- a step within the largest buffer
 abbrev pub IsSmall : Axis → Type 0
@@ -112,7 +113,8 @@ in_place Temp given block = block
 abbrev pub overlaid : List Source → List Made → List Made
 overlaid [] blocks = []
 overlaid (s ∷ sources) [] = []
-overlaid (s ∷ sources) (b ∷ blocks) = in_place s.role (shown s) b ∷ overlaid sources blocks
+overlaid (s ∷ sources) (b ∷ blocks) =
+    in_place s.role (array_of_source s) b ∷ overlaid sources blocks
 
 abbrev pub store_of : List Source → Work → Store
 store_of sources w = record { arguments = overlaid sources w.arrays; locals = w.locals }
@@ -153,7 +155,7 @@ HasBlocks (s ∷ sources) (b ∷ blocks) = IsBlockOf s b × HasBlocks sources bl
 
 -- a block as its argument starts
 abbrev pub loaded : Source → Made → Made
-loaded s b = in_place s.role b (shown s)
+loaded s b = in_place s.role b (array_of_source s)
 
 abbrev pub all_loaded : List Source → List Made → List Made
 all_loaded [] blocks = blocks
@@ -166,7 +168,10 @@ abbrev pub left_at : Resolved → Code → List Source → (locals : ℕ) →
     (coordinates : List ℕ) → Result Store Fault
 left_at r code sources n bs =
     run r (replicate names_limit 0) code
-    (record { arguments = map (λ s. shown (moved_to bs s)) sources; locals = replicate n (pos 0) })
+    (record {
+      arguments = map (λ s. array_of_source (moved_to bs s)) sources;
+      locals = replicate n (pos 0);
+    })
 
 -- the same at each broadcast place, by its number
 abbrev pub left_in_order : Resolved → Code → List Source → (locals : ℕ) →

@@ -5,7 +5,7 @@ ghost use Rattle.pdl_shape.specs.Shape.{size_of};
 ghost use Rattle.pdl_sig.specs.declared.Role.TheVariants.{Input};
 ghost use Rattle.pdl_kernel.specs.Leading.{IsLaidOut};
 ghost use Rattle.pdl_kernel.specs.Meaning.{element_at};
-ghost use Rattle.pdl_kernel.specs.Sources.{dot, element_seen, moved_to, shown, sizes_of};
+ghost use Rattle.pdl_kernel.specs.Sources.{dot, element_seen, moved_to, array_of_source, sizes_of};
 
 use crate::axes::{Axis, Layout, MOST, element_in, find, offset, reach};
 use crate::faults::Fault;
@@ -86,7 +86,7 @@ impl Source {
 
     /// The element at indices.
     pub fn get(&self, at: &[i64; MOST]) -> Result<i64, Fault>
-        ensures { result ≡ element_at (shown self.now) at.now }
+        ensures { result ≡ element_at (array_of_source self.now) at.now }
     {
         shape_laws();
         match find(&self.axes, self.start, at) {
@@ -98,7 +98,8 @@ impl Source {
     /// Where the elements lie.
     #[inline(always)]
     pub fn layout(&self) -> Layout<'_>
-        ensures { IsLaidOut (shown self.now) result.axes.now result.start result.elems.now }
+        ensures { IsLaidOut (array_of_source self.now) result.axes.now result.start
+            result.elems.now }
     {
         shape_laws();
         Layout {
@@ -135,7 +136,7 @@ impl Source {
     pub fn copy(&self, into: &mut [i64])
         requires free { self.now.role ≢ Input }
         requires count { length into.old ≡ size_of (sizes_of self.now.axes) }
-        ensures { into.new ≡ (shown self.now).elems }
+        ensures { into.new ≡ (array_of_source self.now).elems }
     {
         if self.is_blank() {
             clear(into);

@@ -25,7 +25,7 @@ use Rattle.pdl_machine.specs.Kernels.{kernel_outputs, defined}
 use Rattle.pdl_machine.specs.Calls.{outcome, Callee, builtin, kernel, callee_of, only_root, value_by, call_value}
 use Rattle.pdl_machine.specs.Value.{Taken, known, number_made, value_of, taken}
 use Rattle.pdl_world.specs.Swept.{parents}
-use Rattle.pdl_machine.specs.Step.{Stepped, bind_value, bound, roots_bound, outputs_bound, kernel_named, list_bound, target, assigned, assigning, shown, effect}
+use Rattle.pdl_machine.specs.Step.{Stepped, bind_value, bound, roots_bound, outputs_bound, kernel_named, list_bound, target, assigned, assigning, after_printing, effect}
 use Rattle.pdl_machine.proofs.Renamed.{by_test}
 use Rattle.pdl_machine.proofs.Numbering.{in_world, AreIn, IsOrderly, IsInOrder}
 
@@ -296,7 +296,7 @@ effect_in_order s order (bind_list xs (unary op e)) = tt
 effect_in_order s order (bind_list xs (binary op e f)) = tt
 effect_in_order s order (assign x views sign e) = assigning_fine s (target x views) sign e order
 effect_in_order s order (show e is_info) =
-    ok_then (FineValue s.arrays) FineStep (value_of s.names s.arrays e) (λ v. Ok (shown s is_info v)) (state_value_fine s order e) (λ v fine. state_fine s v.0 order fine.0)
+    ok_then (FineValue s.arrays) FineStep (value_of s.names s.arrays e) (λ v. Ok (after_printing s is_info v)) (state_value_fine s order e) (λ v fine. state_fine s v.0 order fine.0)
 effect_in_order s order (show_text t) = order
 effect_in_order s order vars = order
 effect_in_order s order (sever x) = tt

@@ -26,7 +26,7 @@ use Rattle.pdl_machine.specs.Kernels.{kernel_outputs, defined}
 use Rattle.pdl_machine.specs.Calls.{outcome, builtin_value, Callee, builtin, kernel, callee_of, only_root, value_by, call_value}
 use Rattle.pdl_machine.specs.Value.{Taken, known, number_made, value_of, taken}
 use Rattle.pdl_machine.specs.Tidy.{renumbered, with_numbers}
-use Rattle.pdl_machine.specs.Step.{Stepped, bind_value, bound, roots_bound, outputs_bound, kernel_named, list_bound, target, assigned, assigning, info_line, printed, shown, name_line, effect}
+use Rattle.pdl_machine.specs.Step.{Stepped, bind_value, bound, roots_bound, outputs_bound, kernel_named, list_bound, target, assigned, assigning, info_line, printed, after_printing, name_line, effect}
 use Rattle.pdl_machine.proofs.Renamed.{by_test, AreAlike, StateAlike, view_refusal_renamed, assign_renamed, array_alike, new_alike}
 use Rattle.pdl_machine.proofs.Both.{Both, both_then, both_same}
 
@@ -293,7 +293,7 @@ assigning_alike g s t h to sign e =
     right : (a b : Arrays) → AreAlike g a b → Both (ValueAlike g) (value_of s.names a e) (value_of t.names b e)
     right a b alike = let P : Names → Type 0 = λ n. Both (ValueAlike g) (value_of s.names a e) (value_of n b e) in subst P (sym h.names) (value_alike g s.names e a b alike)
 
-shown_alike : (g : ℕ → ℕ) (s t : State) → StateAlike g s t → (is_info : Bool) (v w : Arrays × ℕ) → ValueAlike g v w → StepAlike g (shown s is_info v) (shown t is_info w)
+shown_alike : (g : ℕ → ℕ) (s t : State) → StateAlike g s t → (is_info : Bool) (v w : Arrays × ℕ) → ValueAlike g v w → StepAlike g (after_printing s is_info v) (after_printing t is_info w)
 shown_alike g s t h is_info (a, v) (b, w) both =
     (record { arrays = both.0; names = h.names }, ap (printed is_info) (sym (ap (array_in b) both.1 ∙ array_alike g a b both.0 v)))
 
@@ -333,7 +333,7 @@ effect_alike g s t h (bind_list xs (unary op e)) = refl
 effect_alike g s t h (bind_list xs (binary op e f)) = refl
 effect_alike g s t h (assign x views sign e) = assigning_alike g s t h (target x views) sign e
 effect_alike g s t h (show e is_info) =
-    both_then (ValueAlike g) (StepAlike g) (value_of s.names s.arrays e) (value_of t.names t.arrays e) (λ v. Ok (shown s is_info v)) (λ v. Ok (shown t is_info v))
+    both_then (ValueAlike g) (StepAlike g) (value_of s.names s.arrays e) (value_of t.names t.arrays e) (λ v. Ok (after_printing s is_info v)) (λ v. Ok (after_printing t is_info v))
     (state_value_alike g s t h e) (shown_alike g s t h is_info)
 effect_alike g s t h (show_text x) = (h, refl)
 effect_alike g s t h vars = (h, lines_alike g s.arrays t.arrays h.arrays s.names.arrays ∙ ap (λ names. flat_map (name_line t.arrays) names.arrays) (sym h.names))

@@ -16,7 +16,7 @@ use Rattle.pdl_machine.specs.Fills.{fill_outcome}
 use Rattle.pdl_machine.specs.Inquiries.{inquiry_outcome, dim_outcome}
 use Rattle.pdl_machine.specs.Views.{slice_outcome, arrangement_outcome, index_outcome, where_outcome, range_outcome}
 use Rattle.pdl_machine.specs.Reductions.{of_one, of_two}
-use Rattle.pdl_reduce.specs.Reductions.{reduced, whole}
+use Rattle.pdl_reduce.specs.Reductions.{reduced, whole_reduced}
 use Rattle.pdl_reduce.specs.Pairings.{paired}
 
 abbrev pub outcome : Builtin → List Seen → Result Outcome Fault
@@ -29,7 +29,7 @@ outcome Index given = index_outcome given
 outcome Where given = where_outcome given
 outcome Range given = range_outcome given
 outcome (Reduced kind) given = of_one (reduced kind) given
-outcome (Whole kind) given = of_one (whole kind) given
+outcome (Whole kind) given = of_one (whole_reduced kind) given
 outcome (Paired kind) given = of_two (paired kind) given
 
 -- a built-in call's value

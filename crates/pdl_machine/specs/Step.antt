@@ -86,8 +86,8 @@ abbrev pub printed : Bool → Made → List ℕ
 printed true m = info_line m
 printed false m = array_text m.dims m.elems
 
-abbrev pub shown : State → Bool → Arrays × ℕ → State × List ℕ
-shown s is_info v = (with_arrays s v.0, printed is_info (array_in v.0 v.1))
+abbrev pub after_printing : State → Bool → Arrays × ℕ → State × List ℕ
+after_printing s is_info v = (with_arrays s v.0, printed is_info (array_in v.0 v.1))
 
 -- a name with the info line of its array
 abbrev pub name_line : Arrays → List ℕ × ℕ → List ℕ
@@ -103,7 +103,7 @@ abbrev pub effect : State → StatementTree → Stepped
 effect s (bind x e false) = bound s x (value_in s e)
 effect s (bind_list xs (call f args)) = and_then (taken s.names s.arrays args) (list_bound s xs f)
 effect s (assign x views sign e) = assigning s (target x views) sign e
-effect s (show e is_info) = and_then (value_in s e) (λ v. Ok (shown s is_info v))
+effect s (show e is_info) = and_then (value_in s e) (λ v. Ok (after_printing s is_info v))
 effect s (show_text t) = Ok (s, t ++ newline)
 effect s vars = Ok (s, flat_map (name_line s.arrays) s.names.arrays)
 effect s (pp_def f signature code) = and_then (defined f signature code) (kernel_named s f)

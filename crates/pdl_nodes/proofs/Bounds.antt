@@ -6,7 +6,7 @@ use Rattle.std.proofs.lemmas.Bool.{cases_Bool}
 use Rattle.std.proofs.lemmas.Bool.Decides.{eqb_tells}
 use Rattle.std.proofs.lemmas.List.Sums.{sum_by-cons}
 use Rattle.pdl_shape.specs.Shape.{size_of}
-use Rattle.pdl_shape.specs.Triple.{whole}
+use Rattle.pdl_shape.specs.Triple.{whole_triple}
 use Rattle.pdl_world.specs.Paths.{path, root_of}
 use Rattle.pdl_world.specs.Swept.{holds}
 use Rattle.pdl_world.specs.Windows.{Window, window, narrowed}
@@ -33,7 +33,7 @@ use Rattle.pdl_nodes.proofs.WorldLemmas.{look_with}
 
 window_with : (f : ℕ → List ℤ) (w : World) (v : ℕ) → window (with_elements f w) v ≡ window w v
 window_with f [] v = refl
-window_with f ((k, root ty ds es) ∷ w) v = ap (λ o. cond (eqb k v) (Some (record { base = k; triple = whole ds })) o) (window_with f w v)
+window_with f ((k, root ty ds es) ∷ w) v = ap (λ o. cond (eqb k v) (Some (record { base = k; triple = whole_triple ds })) o) (window_with f w v)
 window_with f ((k, view p t) ∷ w) v = ap (λ o. cond (eqb k v) (option_and_then (narrowed k t) o) o) (window_with f w (cond (eqb k v) p v))
 
 pub base_are : (rs : Rows) (v : ℕ) → IsStill rs → has rs v ≡ true → base (world_of rs) v ≡ (row_at rs v).base

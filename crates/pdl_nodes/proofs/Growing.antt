@@ -7,8 +7,8 @@ use Rattle.pdl_elem.specs.declared.Ty.{Ty}
 use Rattle.pdl_shape.specs.Laws.{PositionLaws, WholesAreInOrder}
 use Rattle.pdl_shape.specs.Shape.{size_of, position_of}
 use Rattle.pdl_shape.specs.Triple.{Triple, place_of, Reaches}
-use Rattle.pdl_buf.specs.Buffer.{Kept}
-use Rattle.pdl_buf.specs.Window.{Window, place_at, shown}
+use Rattle.pdl_buf.specs.Buffer.{TypedElements}
+use Rattle.pdl_buf.specs.Window.{Window, place_at, shown_through}
 use Rattle.pdl_world.specs.declared.Trans.{Trans}
 use Rattle.pdl_world.specs.Paths.{path}
 use Rattle.pdl_world.specs.Sound.{IsSound}
@@ -263,13 +263,13 @@ lent_reaches laws rs v u es o h f eu ee =
     let n : length es ≡ size_of (row_at rs (row_at rs v).base).triple.dims = ap (λ (xs : List ℤ). length xs) ee ∙ fresh_size rs v o h f in
     reaches laws u (length es) (subst (λ (x : ℕ). Below x (spots u)) (sym n) (subst (λ (x : Triple). Below (size_of (row_at rs (row_at rs v).base).triple.dims) (spots x)) (sym eu) (is_seen rs o.still v h).fits))
 
-pub lent_window : (rs : Rows) (v : ℕ) (u : Triple) (k : Kept) → InOrder rs → has rs v ≡ true → is_fresh_in rs v ≡ true → u ≡ (row_at rs v).triple → k.ty ≡ (row_at rs (row_at rs v).base).ty → k.elems ≡ (row_at rs (row_at rs v).base).kept
-    → ◌≡◌ {A = Window} (record { ty = k.ty; dims = u.dims; elems = shown u k.elems }) (record { ty = ty_in (world_of rs) v; dims = dims_in (world_of rs) v; elems = elements (world_of rs) v })
+pub lent_window : (rs : Rows) (v : ℕ) (u : Triple) (k : TypedElements) → InOrder rs → has rs v ≡ true → is_fresh_in rs v ≡ true → u ≡ (row_at rs v).triple → k.ty ≡ (row_at rs (row_at rs v).base).ty → k.elems ≡ (row_at rs (row_at rs v).base).kept
+    → ◌≡◌ {A = Window} (record { ty = k.ty; dims = u.dims; elems = shown_through u k.elems }) (record { ty = ty_in (world_of rs) v; dims = dims_in (world_of rs) v; elems = elements (world_of rs) v })
 lent_window rs v u k o h f eu ey ee =
     let w : Ty → List ℕ → List ℤ → Window = λ y ds es. record { ty = y; dims = ds; elems = es } in
-    ap (λ y. w y u.dims (shown u k.elems)) (ey ∙ (is_seen rs o.still v h).base_ty ∙ sym (ty_are rs v o.still h))
-    ∙ ap (λ ds. w (ty_in (world_of rs) v) ds (shown u k.elems)) (ap (λ (x : Triple). x.dims) eu ∙ sym (dims_are rs v o.still h))
-    ∙ ap (λ es. w (ty_in (world_of rs) v) (dims_in (world_of rs) v) es) (ap (λ x. shown x k.elems) eu ∙ ap (λ es. shown (row_at rs v).triple es) ee ∙ lent_elements rs v o h f)
+    ap (λ y. w y u.dims (shown_through u k.elems)) (ey ∙ (is_seen rs o.still v h).base_ty ∙ sym (ty_are rs v o.still h))
+    ∙ ap (λ ds. w (ty_in (world_of rs) v) ds (shown_through u k.elems)) (ap (λ (x : Triple). x.dims) eu ∙ sym (dims_are rs v o.still h))
+    ∙ ap (λ es. w (ty_in (world_of rs) v) (dims_in (world_of rs) v) es) (ap (λ x. shown_through x k.elems) eu ∙ ap (λ es. shown_through (row_at rs v).triple es) ee ∙ lent_elements rs v o h f)
 
 lt_true : (a b : ℕ) → a < b → nat_lt a b ≡ true
 lt_true a b h = elim (leb_tells (suc a) b) [ inl t ↦ t.0 | inr t ↦ (let z : ⊥ = omega (arith, t.1) in absurd z) ]

@@ -7,7 +7,7 @@ use Rattle.std.proofs.lemmas.List.FromFn.{length-map-range_with_len, get_or-map-
 use Rattle.pdl_shape.specs.Laws.{PositionLaws, WholesAreInOrder}
 use Rattle.pdl_shape.specs.Places.{AllBelow, IsBelow, places_of}
 use Rattle.pdl_shape.specs.Shape.{IsWithin, size_of, position_of, coordinates_of}
-use Rattle.pdl_shape.specs.Triple.{IsTriple, Triple, place_of, whole}
+use Rattle.pdl_shape.specs.Triple.{IsTriple, Triple, place_of, whole_triple}
 use Rattle.pdl_buf.specs.Window.{place_at}
 use Rattle.pdl_affine.specs.declared.Affine.{Affine}
 use Rattle.pdl_affine.specs.Laws.{SourcesLieWithin, IsViewOver, ComposedShowViews, UncomposedAreInOrder}
@@ -42,20 +42,20 @@ below_by n g a zero f = tt
 below_by n g a (suc m) f = (f a (omega arith), below_by n g (a + 1) m (λ p h. f p (omega arith)))
 
 -- the elements of a whole array lie in order
-whole_at : PositionLaws → WholesAreInOrder → (ds : List ℕ) (p : ℕ) → p < size_of ds → place_at (whole ds) p ≡ p
+whole_at : PositionLaws → WholesAreInOrder → (ds : List ℕ) (p : ℕ) → p < size_of ds → place_at (whole_triple ds) p ≡ p
 whole_at laws wholes ds p h = ap unsigned_abs (wholes ds (coordinates_of ds p) (laws.coordinates_within ds p h)) ∙ laws.position_again ds p h
 
 range_id : (n a : ℕ) → map (λ (p : ℕ). p) (range_with_len a n) ≡ range_with_len a n
 range_id zero a = refl
 range_id (suc n) a = ap (λ xs. a ∷ xs) (range_id n (a + 1))
 
-pub whole_is : PositionLaws → WholesAreInOrder → (ds : List ℕ) → IsWhole (whole ds)
+pub whole_is : PositionLaws → WholesAreInOrder → (ds : List ℕ) → IsWhole (whole_triple ds)
 whole_is laws wholes ds = record {
   is = refl;
-  in_order = range_same (place_at (whole ds)) (λ (p : ℕ). p) (size_of ds) 0 (λ p h. whole_at laws wholes ds p h) ∙ range_id (size_of ds) 0;
+  in_order = range_same (place_at (whole_triple ds)) (λ (p : ℕ). p) (size_of ds) 0 (λ p h. whole_at laws wholes ds p h) ∙ range_id (size_of ds) 0;
 }
 
-pub is_whole : ViewLaws → (ds : List ℕ) → IsWhole (whole ds)
+pub is_whole : ViewLaws → (ds : List ℕ) → IsWhole (whole_triple ds)
 is_whole laws ds = whole_is laws.positions laws.in_order ds
 
 -- the parent's position for a position of an affine view

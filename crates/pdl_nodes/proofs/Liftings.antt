@@ -4,7 +4,7 @@ use Rattle.std.specs.Ordering.{nat_cmp}
 use Rattle.std.specs.BTreeMap.{BTreeMap}
 use Rattle.std.specs.BTreeMap.{get as key_at}
 use Rattle.slab.specs.Slab.{Slab, get, ContainsKey, with_value}
-use Rattle.pdl_buf.specs.Buffer.{Kept}
+use Rattle.pdl_buf.specs.Buffer.{TypedElements}
 use Rattle.pdl_nodes.specs.Row.{Row}
 use Rattle.pdl_nodes.specs.Rows.{Rows, row_at, has, each}
 use Rattle.pdl_nodes.specs.declared.marked.Marked.{Marked}
@@ -91,7 +91,7 @@ pub record IsPutBack (t : Rows) (keys : BTreeMap ℕ ℕ) (nodes : Slab Row) (m 
   pub table : IsTable keys nodes
   pub listed : AreListed (rows_of nodes keys.entries) m
 
-pub put_back : (t : Rows) (keys : BTreeMap ℕ ℕ) (nodes : Slab Row) (m : Marked) (rt b key at : ℕ) (r q p u v : Row) (es : List ℤ) (kept : Kept) (f : Bool) (ps : List (Option ℕ))
+pub put_back : (t : Rows) (keys : BTreeMap ℕ ℕ) (nodes : Slab Row) (m : Marked) (rt b key at : ℕ) (r q p u v : Row) (es : List ℤ) (kept : TypedElements) (f : Bool) (ps : List (Option ℕ))
     → rows_of nodes keys.entries ≡ t → IsTable keys nodes × AreListed (rows_of nodes keys.entries) m → IsLiftable t rt b → key_at nat_cmp keys b ≡ Some key → get nodes key ≡ Some r
     → kept ≡ record { ty = r.ty; elems = r.kept } → f ≡ r.repeats → r.places ≡ Some ps → IsWritten t keys nodes rt b key at q p es
     → get (with_value (with_value nodes key q) at p) key ≡ Some u → v ≡ record u { kept = kept.elems; mark = true; repeats = f; places = or_known (Some ps) u.places }
@@ -102,7 +102,7 @@ put_back t keys nodes m rt b key at r q p u v es kept f ps e i l h g ek ef ep w 
     let rows : rows_of (with_value out key v) keys.entries ≡ each (kept_in rt es) t =
     changed_one (fill_in b kept.elems f (Some ps)) (each (kept_in rt es) (each (lift_in b) t)) keys out b key u v w.rows w.table h d (c ∙ fill_here b kept.elems f (Some ps) u) (fill_others b kept.elems f (Some ps))
     ∙ lowered t rt b es kept.elems f ps (table_falls t keys nodes e i.0) (record {
-      kept = ap (λ (x : Row). x.kept) (sym same) ∙ ap (λ (x : Kept). x.elems) (sym ek);
+      kept = ap (λ (x : Row). x.kept) (sym same) ∙ ap (λ (x : TypedElements). x.elems) (sym ek);
       mark = l.mark;
       repeats = ap (λ (x : Row). x.repeats) (sym same) ∙ sym ef;
       places = ap (λ (x : Row). x.places) (sym same) ∙ ep;

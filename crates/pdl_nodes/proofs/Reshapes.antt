@@ -9,7 +9,7 @@ use Rattle.pdl_shape.specs.Places.{read}
 use Rattle.pdl_shape.specs.Shape.{IsDims, size_of}
 use Rattle.pdl_world.specs.Cut.{replaced, has_views}
 use Rattle.pdl_world.specs.declared.Trans.{Trans}
-use Rattle.pdl_world.specs.World.{World, ArrayDef, root, view, Look, look, whole, through, ty_in}
+use Rattle.pdl_world.specs.World.{World, ArrayDef, root, view, Look, look, look_of_root, through, ty_in}
 use Rattle.pdl_nodes.specs.Cut.{rooted_in}
 use Rattle.pdl_nodes.specs.declared.origin.Origin.{Origin}
 use Rattle.pdl_nodes.specs.declared.origin.Origin.TheVariants.{Root, View}
@@ -65,7 +65,7 @@ look_beside [] v u new h n = refl
 look_beside ((k, root ty ds es) ∷ w) v u new h n = elim (eqb_tells k v) [
   | inl y ↦ (let ne : k ≡ u → ⊥ = λ e. n (sym e ∙ y.1) in
       rw y.0 (look_past k new (replaced w v new) u ne ∙ look_beside w v u new (tail_viewless k (root ty ds es) w v h) n ∙ sym (look_past k (root ty ds es) w u ne)))
-  | inr y ↦ rw y.0 (ap (λ o. cond (eqb k u) (Some (whole k ty ds)) o) (look_beside w v u new (tail_viewless k (root ty ds es) w v h) n))
+  | inr y ↦ rw y.0 (ap (λ o. cond (eqb k u) (Some (look_of_root k ty ds)) o) (look_beside w v u new (tail_viewless k (root ty ds es) w v h) n))
 ]
 look_beside ((k, view p t) ∷ w) v u new h n = elim (eqb_tells k v) [
   | inl y ↦ (let ne : k ≡ u → ⊥ = λ e. n (sym e ∙ y.1) in

@@ -7,7 +7,7 @@ use Rattle.std.proofs.lemmas.List.FromFn.{length-map-range_with_len}
 use Rattle.pdl_elem.specs.declared.Ty.{Ty}
 use Rattle.pdl_shape.specs.Shape.{size_of}
 use Rattle.pdl_shape.specs.Places.{places_of as parent_places}
-use Rattle.pdl_shape.specs.Triple.{Triple, whole as whole_triple}
+use Rattle.pdl_shape.specs.Triple.{Triple, whole_triple}
 use Rattle.pdl_world.specs.declared.Trans.{Trans}
 use Rattle.pdl_world.specs.Formula.{child_dims, source}
 use Rattle.pdl_world.specs.World.{World, ArrayDef, root, view, Look, look, through_places}

@@ -10,8 +10,8 @@ use Rattle.pdl_shape.specs.Laws.{PositionLaws}
 use Rattle.pdl_shape.specs.Places.{read}
 use Rattle.pdl_shape.specs.Shape.{IsDims, size_of, position_of}
 use Rattle.pdl_shape.specs.Triple.{IsTriple, Reaches, Triple, place_of}
-use Rattle.pdl_buf.specs.Buffer.{Kept}
-use Rattle.pdl_buf.specs.Window.{place_at, shown}
+use Rattle.pdl_buf.specs.Buffer.{TypedElements}
+use Rattle.pdl_buf.specs.Window.{place_at, shown_through}
 use Rattle.pdl_world.specs.Cut.{fitted, replaced, sever}
 use Rattle.pdl_world.specs.World.{ArrayDef, root, view, elements, ty_in, dims_in}
 use Rattle.pdl_nodes.specs.Alike.{numbers, IsAlike, is_fresh_in}
@@ -121,11 +121,11 @@ base_reaches laws rs v o z h f =
     let P : ℕ → Type 0 = λ n. Below n (spots (row_at rs v).triple) in
     reaches laws (row_at rs v).triple _ (sized_at rs z v h).triple (subst P (sym (base_count rs v o h f)) (is_seen rs o.still v h).fits)
 
-pub shown_elements : (rs : Rows) (v : ℕ) → InOrder rs → has rs v ≡ true → is_fresh_in rs v ≡ true → shown (row_at rs v).triple (row_at rs (row_at rs v).base).kept ≡ elements (world_of rs) v
+pub shown_elements : (rs : Rows) (v : ℕ) → InOrder rs → has rs v ≡ true → is_fresh_in rs v ≡ true → shown_through (row_at rs v).triple (row_at rs (row_at rs v).base).kept ≡ elements (world_of rs) v
 shown_elements rs v o h f =
     let y : IsFreshBase rs v = fresh_base rs v o h f in
     let t : Triple = (row_at rs v).triple in
-    ap (shown (row_at rs v).triple) (kept_is rs v y)
+    ap (shown_through (row_at rs v).triple) (kept_is rs v y)
     ∙ sym (map-map (λ i. get_or (read (places_of rs (row_at rs v).base) (latest rs (row_at rs v).root)) i (pos 0)) (place_at (row_at rs v).triple) (range_with_len 0 (size_of (row_at rs v).triple.dims)))
     ∙ sym (read_over (places_of rs (row_at rs v).base) (spots (row_at rs v).triple) (latest rs (row_at rs v).root))
     ∙ ap (λ ps. read ps (latest rs (row_at rs v).root)) (sym y.seen.over)
@@ -166,7 +166,7 @@ root_replaced f ((k, r) ∷ rs) v s i = elim (eqb_tells k v) [
   by_origin tail (View p t y) e = rw e (ap (λ x. (k, view p t) ∷ x) tail)
 
 -- a buffer of this type and these elements
-pub made_of : {E : Type 0} (r : Result Kept E) (ty uy : Ty) (es fs : List ℤ) → ty ≡ uy → es ≡ fs → IfOk r (λ b. b ≡ record { ty = ty; elems = es }) → IfOk r (λ b. b ≡ record { ty = uy; elems = fs })
+pub made_of : {E : Type 0} (r : Result TypedElements E) (ty uy : Ty) (es fs : List ℤ) → ty ≡ uy → es ≡ fs → IfOk r (λ b. b ≡ record { ty = ty; elems = es }) → IfOk r (λ b. b ≡ record { ty = uy; elems = fs })
 made_of (Err e) ty uy es fs a b h = tt
 made_of (Ok x) ty uy es fs a b h =
     let P : Ty → Type 0 = λ t. x ≡ record { ty = t; elems = es } in

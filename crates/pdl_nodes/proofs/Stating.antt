@@ -9,7 +9,7 @@ use Rattle.std.proofs.lemmas.Simd.{map-map}
 use Rattle.pdl_elem.specs.declared.Ty.TheVariants.{Byte}
 use Rattle.pdl_shape.specs.Shape.{size_of}
 use Rattle.pdl_shape.specs.Places.{read}
-use Rattle.pdl_buf.specs.Window.{place_at, shown}
+use Rattle.pdl_buf.specs.Window.{place_at, shown_through}
 use Rattle.pdl_world.specs.Paths.{path, root_of}
 use Rattle.pdl_world.specs.Sound.{IsLive}
 use Rattle.pdl_world.specs.Swept.{holds}
@@ -147,7 +147,7 @@ holds_same ((k, r) ∷ rs) hs gs n b h =
     cc
 
 -- what a marked base shows of an array are its elements
-pub lent_elements : (rs : Rows) (v : ℕ) → InOrder rs → has rs v ≡ true → is_fresh_in rs v ≡ true → shown (row_at rs v).triple (row_at rs (row_at rs v).base).kept ≡ elements (world_of rs) v
+pub lent_elements : (rs : Rows) (v : ℕ) → InOrder rs → has rs v ≡ true → is_fresh_in rs v ≡ true → shown_through (row_at rs v).triple (row_at rs (row_at rs v).base).kept ≡ elements (world_of rs) v
 lent_elements rs v o h f =
     let s : IsSeen rs v = is_seen rs o.still v h in
     let a : IsMarked rs (row_at rs v).base = (o.family (row_at rs v).root (root_live rs (row_at rs v).root v o.still h refl)).marked (row_at rs v).base f s.base_root in

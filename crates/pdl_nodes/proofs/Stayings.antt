@@ -2,8 +2,8 @@
 use Rattle.std.proofs.Common.{◌≡◌, ℕ, ℤ, Bool, true, eqb, cond, List, [], ◌∷◌, Some, option_and_then, inl, inr, refl, sym, ◌∙◌, ap}
 use Rattle.std.proofs.lemmas.Bool.{cases_Bool}
 use Rattle.std.proofs.lemmas.Bool.Decides.{eqb_tells}
-use Rattle.pdl_shape.specs.Triple.{whole as whole_triple}
-use Rattle.pdl_world.specs.World.{World, root, view, look, whole, through}
+use Rattle.pdl_shape.specs.Triple.{whole_triple}
+use Rattle.pdl_world.specs.World.{World, root, view, look, look_of_root, through}
 use Rattle.pdl_world.specs.Paths.{path}
 use Rattle.pdl_nodes.specs.Staying.{staying, KeepsParents}
 use Rattle.pdl_world.specs.Windows.{window, narrowed}
@@ -54,7 +54,7 @@ onward t k p v c h = elim (eqb_tells k v) [
 pub look_stays : (t : ℕ → Bool) (w : World) (v : ℕ) → KeepsParents t w → t v ≡ true → look (staying t w) v ≡ look w v
 look_stays t [] v c h = refl
 look_stays t ((k, root ty n es) ∷ w) v c h = elim (cases_Bool (t k)) [
-  | inl y ↦ rw y (ap (λ x. cond (eqb k v) (Some (whole k ty n)) x) (look_stays t w v c h))
+  | inl y ↦ rw y (ap (λ x. cond (eqb k v) (Some (look_of_root k ty n)) x) (look_stays t w v c h))
   | inr m ↦ rw (m, differ k v (other_than t k v m h)) (look_stays t w v c h)
 ]
 look_stays t ((k, view p u) ∷ w) v c h = elim (cases_Bool (t k)) [

@@ -5,7 +5,7 @@ use Rattle.pdl_affine.specs.Views as affine
 use Rattle.pdl_choice.specs.declared.answers.Choice.{Choice as Chosen}
 use Rattle.pdl_shape.specs.Places.{places_of}
 use Rattle.pdl_shape.specs.Shape.{IsDims}
-use Rattle.pdl_shape.specs.Triple.{IsTriple, Triple, whole}
+use Rattle.pdl_shape.specs.Triple.{IsTriple, Triple, whole_triple}
 use Rattle.pdl_world.specs.declared.Trans.{Trans}
 use Rattle.pdl_world.specs.declared.Trans.TheVariants as trans
 use Rattle.pdl_world.specs.Formula.{child_dims, source}
@@ -58,7 +58,7 @@ own_row k p t y a ds = record {
   ty = a.ty;
   root = a.root;
   base = k;
-  triple = whole ds;
+  triple = whole_triple ds;
   kept = [];
   mark = false;
   repeats = false;
@@ -102,11 +102,11 @@ new_view_row laws k p t y a ds i l d s =
     }
 
 pub new_node : CutLaws → (k p : ℕ) (t : Trans) (y : Layout) (a : Row) (ds : List ℕ) (ty : Ty) (rt b : ℕ) (u : Triple) (o : Option Triple) (n : Row)
-    → ty ≡ a.ty → rt ≡ a.root → b ≡ a.base → u ≡ whole ds → o ≡ over t a.triple → IsTriple a.triple → IsLayout t a.triple.dims y → HasDims y ds → IsDims ds
+    → ty ≡ a.ty → rt ≡ a.root → b ≡ a.base → u ≡ whole_triple ds → o ≡ over t a.triple → IsTriple a.triple → IsLayout t a.triple.dims y → HasDims y ds → IsDims ds
     → n ≡ view_under k rt b (record { origin = View p t y; ty = ty; root = rt; base = k; triple = u; kept = []; mark = false; repeats = false; places = None; waiting = None }) o
     → IsNewView k p t a n
 new_node laws k p t y a ds ty rt b u o n ey er eb eu eo i l d s e =
     let row : Ty → ℕ → ℕ → Triple → Option Triple → Row = λ y' r' b' u' o'. view_under k r' b' (record { origin = View p t y; ty = y'; root = r'; base = k; triple = u'; kept = []; mark = false; repeats = false; places = None; waiting = None }) o' in
     let same_row : n ≡ view_under k a.root a.base (own_row k p t y a ds) (over t a.triple) =
-    e ∙ ap (λ x. row x rt b u o) ey ∙ ap (λ x. row a.ty x b u o) er ∙ ap (λ x. row a.ty a.root x u o) eb ∙ ap (λ x. row a.ty a.root a.base x o) eu ∙ ap (λ x. row a.ty a.root a.base (whole ds) x) eo in
+    e ∙ ap (λ x. row x rt b u o) ey ∙ ap (λ x. row a.ty x b u o) er ∙ ap (λ x. row a.ty a.root x u o) eb ∙ ap (λ x. row a.ty a.root a.base x o) eu ∙ ap (λ x. row a.ty a.root a.base (whole_triple ds) x) eo in
     subst (IsNewView k p t a) (sym same_row) (new_view_row laws k p t y a ds i l d s)

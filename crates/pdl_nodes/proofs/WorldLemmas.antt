@@ -3,12 +3,12 @@ use Rattle.std.proofs.Common.{◌≡◌, ℕ, ℤ, eqb, cond, List, [], ◌∷�
 use Rattle.std.specs.Option.{option_map_or}
 use Rattle.std.specs.Prelude.{option_and_then}
 use Rattle.pdl_shape.specs.Places.{read, write}
-use Rattle.pdl_world.specs.World.{World, root, view, Look, look, whole, through, root_elements, set_elements, elements, assign, assign_through}
+use Rattle.pdl_world.specs.World.{World, root, view, Look, look, look_of_root, through, root_elements, set_elements, elements, assign, assign_through}
 use Rattle.pdl_nodes.specs.Worlds.{with_elements}
 
 pub look_with : (f : ℕ → List ℤ) (w : World) (v : ℕ) → look (with_elements f w) v ≡ look w v
 look_with f [] v = refl
-look_with f ((k, root ty n es) ∷ w) v = ap (λ o. cond (eqb k v) (Some (whole k ty n)) o) (look_with f w v)
+look_with f ((k, root ty n es) ∷ w) v = ap (λ o. cond (eqb k v) (Some (look_of_root k ty n)) o) (look_with f w v)
 look_with f ((k, view p t) ∷ w) v = ap (λ o. cond (eqb k v) (option_and_then (through t) o) o) (look_with f w (cond (eqb k v) p v))
 
 pub set_with : (f : ℕ → List ℤ) (w : World) (r : ℕ) (new : List ℤ) → set_elements (with_elements f w) r new ≡ with_elements (λ k. cond (eqb k r) new (f k)) w

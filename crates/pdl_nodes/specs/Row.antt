@@ -2,8 +2,8 @@
 use Rattle.std.specs.Prelude.{◌≡◌, ℕ, ℤ, Bool, true, false, ◌||◌, List, [], Option, Some, None, IsSome, is_none}
 use Rattle.std.specs.Option.{ForSome}
 use Rattle.pdl_elem.specs.declared.Ty.{Ty}
-use Rattle.pdl_shape.specs.Triple.{Triple, whole}
-use Rattle.pdl_buf.specs.Buffer.{Kept}
+use Rattle.pdl_shape.specs.Triple.{Triple, whole_triple}
+use Rattle.pdl_buf.specs.Buffer.{TypedElements}
 use Rattle.pdl_nodes.specs.declared.origin.Origin.{Origin}
 use Rattle.pdl_nodes.specs.declared.origin.Origin.TheVariants.{Root, View}
 
@@ -32,7 +32,7 @@ abbrev pub parent_of : Row → Option ℕ
 parent_of r = parent_from r.origin
 
 -- the elements of a buffer, if there is one
-abbrev pub elements_or : Option Kept → List ℤ
+abbrev pub elements_or : Option TypedElements → List ℤ
 elements_or None = []
 elements_or (Some b) = b.elems
 
@@ -49,7 +49,8 @@ abbrev pub is_buffered : Row → Bool
 is_buffered r = has_buffer r.mark r.origin
 
 -- a buffer is of the array's type, and there is one where the row says so
-pub record IsNode (origin : Origin) (ty : Ty) (mark : Bool) (kept : Option Kept) : Type 0 where
+pub record IsNode
+    (origin : Origin) (ty : Ty) (mark : Bool) (kept : Option TypedElements) : Type 0 where
   pub same_type : ForSome kept (λ b. b.ty ≡ ty)
   pub buffered : has_buffer mark origin ≡ true → IsSome kept
 
@@ -60,7 +61,7 @@ root_row k ty ds es = record {
   ty = ty;
   root = k;
   base = k;
-  triple = whole ds;
+  triple = whole_triple ds;
   kept = es;
   mark = true;
   repeats = false;

@@ -3,7 +3,7 @@ use Rattle.std.specs.Prelude.{◌≡◌, ℕ, List, [], ◌∷◌, map, true, Op
 use Rattle.std.specs.List.{range_with_len}
 use Rattle.pdl_shape.specs.Shape.{size_of}
 use Rattle.pdl_shape.specs.Places.{AllBelow, places_of}
-use Rattle.pdl_shape.specs.Triple.{Triple, whole}
+use Rattle.pdl_shape.specs.Triple.{Triple, whole_triple}
 use Rattle.pdl_buf.specs.Window.{place_at}
 use Rattle.pdl_world.specs.declared.Trans.{Trans}
 use Rattle.pdl_world.specs.Formula.{child_dims, source}
@@ -28,12 +28,12 @@ base_over k above None = k
 base_over k above (Some t) = above
 
 abbrev pub triple_over : List ℕ → Option Triple → Triple
-triple_over ds None = whole ds
+triple_over ds None = whole_triple ds
 triple_over ds (Some t) = t
 
 -- its elements lie in order from place 0 on
 pub record IsWhole (t : Triple) : Type 0 where
-  pub is : t ≡ whole t.dims
+  pub is : t ≡ whole_triple t.dims
   pub in_order : spots t ≡ range_with_len 0 (size_of t.dims)
 
 -- positions ps of the parent, all of them there, are shown over the parent's base by this triple
@@ -47,7 +47,7 @@ pub record IsThroughBase (above : Triple) (ps : List (Option ℕ)) (t : Triple) 
 pub record IsOwn (above : Triple) (ps own : List (Option ℕ)) (ds : List ℕ) : Type 0 where
   pub places : ps ≡ own
   pub within : AllBelow (size_of above.dims) own
-  pub whole : IsWhole (whole ds)
+  pub whole : IsWhole (whole_triple ds)
 
 -- the view's own list of places, or the triple over the parent's base, gives these positions of the
 -- parent

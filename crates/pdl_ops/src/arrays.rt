@@ -15,7 +15,7 @@ use pdl_shape::{Dims, ShapeFault, copy_dims, elements_of, join_dims};
 use std::alloc::{AllocError, Global};
 
 /// The dimensions that two arrays join to. It answers `Mismatch` and `TooLarge` alone.
-fn joined(alloc: Global, a: &Dims, b: &Dims) -> Result<Dims, OpFault>
+fn broadcast_dims(alloc: Global, a: &Dims, b: &Dims) -> Result<Dims, OpFault>
     ensures value { Answers (λ dims. dims) (or_refused (joined_dims a.now b.now)) result }
     ensures stretched { IfOk result (λ dims. BroadcastsTo a.now dims × BroadcastsTo b.now dims) }
 {
@@ -40,7 +40,7 @@ pub fn elementwise(
         Answers (λ made. made) wanted result }
     ensures made { IfOk result (λ made. IsMade made.ty made.dims made.elems) }
 {
-    let dims = joined(alloc, strided_dims(a), strided_dims(b))?;
+    let dims = broadcast_dims(alloc, strided_dims(a), strided_dims(b))?;
     let both = promote(strided_type(a), strided_type(b));
     let ty = binary_type(op, both, both);
     let room = Packing::new(alloc, ty, elements_of(&dims) as usize)?;

@@ -51,15 +51,15 @@ elements_text (d ∷ []) es = line 0 0 es
 elements_text (d ∷ e ∷ ds) es = codes "\n" ++ block (d ∷ e ∷ ds) (length ds) 0 es
 
 -- sizes in decimal with a byte between them
-abbrev pub joined : ℕ → List ℕ → List ℕ
-joined byte ds = join_with_byte byte (map decimal ds)
+abbrev pub decimals_joined : ℕ → List ℕ → List ℕ
+decimals_joined byte ds = join_with_byte byte (map decimal ds)
 
 -- an array's text, with its last newline
 abbrev pub array_text : List ℕ → List ℤ → List ℕ
 array_text ds es =
-    if size_of ds == 0 then codes "Empty[" ++ joined 120 ds ++ codes "]\n"
+    if size_of ds == 0 then codes "Empty[" ++ decimals_joined 120 ds ++ codes "]\n"
     else if nat_lt 10000 (size_of ds) then codes "TOO LONG TO PRINT\n" else elements_text ds es
 
 -- what `info` tells of an array
 abbrev pub info : Ty → List ℕ → List ℕ
-info ty ds = codes "PDL: " ++ name_of ty ++ codes " D [" ++ joined 44 ds ++ codes "]"
+info ty ds = codes "PDL: " ++ name_of ty ++ codes " D [" ++ decimals_joined 44 ds ++ codes "]"

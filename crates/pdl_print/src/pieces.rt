@@ -2,7 +2,7 @@
 ghost use Rattle.std.specs.Prelude.{◌≡◌, ◌<◌, ◌≤◌, ◌+◌, ◌*◌, ◌++◌, length, take, drop, get_or, decimal, OnOk, IfOk, ◌^◌};
 ghost use Rattle.pdl_shape.specs.Shape.{size_of};
 ghost use Rattle.pdl_print.specs.Pieces.{Begins};
-ghost use Rattle.pdl_print.specs.Printed.{spaces, aligned, widest, line, joined, block, bracketed, elements_text, lines, array_text, info};
+ghost use Rattle.pdl_print.specs.Printed.{spaces, aligned, widest, line, decimals_joined, block, bracketed, elements_text, lines, array_text, info};
 
 use itoa::Buffer;
 use pdl_buf::{Strided, strided_dims, strided_get, strided_read};
@@ -197,7 +197,7 @@ fn push_size(into: &mut Vec<u8>, size: u32) -> Result<(), AllocError>
 
 /// Appends sizes in decimal with a byte between them.
 fn push_sizes(into: &mut Vec<u8>, sizes: &[u32], byte: u8) -> Result<(), AllocError>
-    ensures ok { OnOk result (into.new.items ≡ into.old.items ++ joined byte sizes.now) }
+    ensures ok { OnOk result (into.new.items ≡ into.old.items ++ decimals_joined byte sizes.now) }
     ensures front { Begins into.old.items into.new.items }
 {
     let [first, rest @ ..] = sizes else {

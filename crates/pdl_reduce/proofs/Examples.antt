@@ -7,7 +7,7 @@ use Rattle.pdl_reduce.specs.declared.Reduction.TheVariants.{Sumover, MaximumInd,
 use Rattle.pdl_reduce.specs.declared.Whole.TheVariants.{Max, Min}
 use Rattle.pdl_reduce.specs.declared.Pairing.TheVariants.{Inner, Outer, Matmult}
 use Rattle.pdl_reduce.specs.Refusals.{mismatch, empty_reduce}
-use Rattle.pdl_reduce.specs.Reductions.{reduced, whole}
+use Rattle.pdl_reduce.specs.Reductions.{reduced, whole_reduced}
 use Rattle.pdl_reduce.specs.Pairings.{paired}
 
 made : Ty → List ℕ → List ℤ → Made
@@ -28,11 +28,11 @@ prefixes : reduced Cumuprodover plane ≡ Ok (made Long (3 ∷ 2 ∷ []) (pos 5 
 unfolding made plane
 prefixes = refl
 
-least_of : whole Min plane ≡ Ok (made Short [] (negsuc 0 ∷ []))
+least_of : whole_reduced Min plane ≡ Ok (made Short [] (negsuc 0 ∷ []))
 unfolding made plane
 least_of = refl
 
-none : whole Max (made Long (0 ∷ []) []) ≡ Err empty_reduce
+none : whole_reduced Max (made Long (0 ∷ []) []) ≡ Err empty_reduce
 unfolding made
 none = refl
 

@@ -13,14 +13,14 @@ use Rattle.pdl_shape.specs.Broadcast.{cut_to}
 use Rattle.pdl_shape.specs.Laws.{PositionLaws, WholesAreInOrder}
 use Rattle.pdl_shape.specs.Shape.{IsWithin, coordinates_of, size_of}
 use Rattle.pdl_shape.specs.Stretched.{stretched_position}
-use Rattle.pdl_shape.specs.Triple.{Triple, place_of, whole}
+use Rattle.pdl_shape.specs.Triple.{Triple, place_of, whole_triple}
 
 -- what is said of a triple that is there
 pub said : (P : Triple → Type 0) (o : Option Triple) (t : Triple) → o ≡ Some t → IfSome o P → P t
 said P o t e h = subst (λ (x : Option Triple). IfSome x P) e h
 
 -- the place of a whole array is its position
-pub place_is : WholesAreInOrder → (ds joined : List ℕ) (q r : ℕ) → IsWithin ds (cut_to ds (coordinates_of joined q)) → pos r ≡ place_of (whole ds) (cut_to ds (coordinates_of joined q))
+pub place_is : WholesAreInOrder → (ds joined : List ℕ) (q r : ℕ) → IsWithin ds (cut_to ds (coordinates_of joined q)) → pos r ≡ place_of (whole_triple ds) (cut_to ds (coordinates_of joined q))
     → r ≡ stretched_position ds joined q
 place_is wholes ds joined q r within e =
     let same : pos r ≡ pos (stretched_position ds joined q) = e ∙ wholes ds (cut_to ds (coordinates_of joined q)) within in

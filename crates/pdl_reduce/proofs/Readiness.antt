@@ -11,7 +11,7 @@ use Rattle.pdl_shape.specs.Laws.{SizeLaws}
 use Rattle.pdl_shape.specs.Refusals.{Refusal, too_large}
 use Rattle.pdl_shape.specs.Shape.{IsDims, coordinates_of, extent, extent_limit, size_of}
 use Rattle.pdl_sig.specs.declared.Resolved.{Resolved}
-use Rattle.pdl_buf.specs.Buffer.{Kept}
+use Rattle.pdl_buf.specs.Buffer.{TypedElements}
 use Rattle.pdl_buf.specs.declared.made.Made.{Made}
 use Rattle.pdl_reduce.specs.declared.Pairing.{Pairing}
 use Rattle.pdl_reduce.specs.declared.Pairing.TheVariants.{Inner, Outer, Matmult}
@@ -189,7 +189,7 @@ products_as ty s v les res ls ms rs ns bs js e f g h =
     ap₂ (λ (t : Sizes) (ws : List ℕ). F t ms ns ws) e h ∙ ap₂ (λ (us vs : List ℕ). F s us vs bs) f g
 
 -- numbers of a type
-abbrev pub kept : Ty → List ℤ → Kept
+abbrev pub kept : Ty → List ℤ → TypedElements
 kept t es = record { ty = t; elems = es }
 
 pub if_ok_as : {A E : Type 0} (r : Result A E) (u v : A) → IfOk r (λ m. m ≡ u) → u ≡ v → IfOk r (λ m. m ≡ v)

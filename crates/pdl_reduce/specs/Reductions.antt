@@ -92,10 +92,10 @@ abbrev pub is_set : ℤ → Bool
 is_set z = not (int_eq z (pos 0))
 
 -- a reduction of all elements in their order, to an array without dimensions
-abbrev pub whole : Whole → Made → Result Made ReduceRefusal
-whole Sum a = reduced Sumover (flat a)
-whole Prod a = reduced Prodover (flat a)
-whole Max a = reduced Maximum (flat a)
-whole Min a = reduced Minimum (flat a)
-whole All a = answer (list_all is_set a.elems)
-whole Any a = answer (list_any is_set a.elems)
+abbrev pub whole_reduced : Whole → Made → Result Made ReduceRefusal
+whole_reduced Sum a = reduced Sumover (flat a)
+whole_reduced Prod a = reduced Prodover (flat a)
+whole_reduced Max a = reduced Maximum (flat a)
+whole_reduced Min a = reduced Minimum (flat a)
+whole_reduced All a = answer (list_all is_set a.elems)
+whole_reduced Any a = answer (list_any is_set a.elems)

@@ -18,10 +18,10 @@ pub(crate) struct Collected {
 
 impl Model for Collected {
     ghost use Rattle.std.specs.Prelude.{◌++◌, All};
-    ghost use Rattle.pdl_buf.specs.Buffer.{Kept};
+    ghost use Rattle.pdl_buf.specs.Buffer.{TypedElements};
     ghost use Rattle.pdl_elem.specs.Types.{InRange};
 
-    ghost Value = { Kept };
+    ghost Value = { TypedElements };
 
     ghost view = { λ c. record { ty = c.packed.ty; elems = c.packed.elems ++ c.block.items } };
 

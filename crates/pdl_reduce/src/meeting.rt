@@ -3,7 +3,7 @@ ghost use Rattle.std.specs.Prelude.{◌≡◌, ◌<◌, ◌≤◌, ◌+◌, ◌*
 ghost use Rattle.pdl_shape.specs.Broadcast.{BroadcastsTo};
 ghost use Rattle.pdl_shape.specs.Shape.{extent_limit, size_of};
 ghost use Rattle.pdl_shape.specs.Stretched.{stretched_position};
-ghost use Rattle.pdl_shape.specs.Triple.{whole};
+ghost use Rattle.pdl_shape.specs.Triple.{whole_triple};
 ghost use Rattle.pdl_reduce.specs.Blocks.{IsHeld, Ready, all_products, nth_block};
 
 use crate::collected::Collected;
@@ -48,7 +48,7 @@ fn walk_over(
 ) -> Result<BroadcastWalk, AllocError>
     requires left { BroadcastsTo left.now joined.now }
     requires right { BroadcastsTo right.now joined.now }
-    ensures { let triples = whole left.now ∷ whole right.now ∷ [] in
+    ensures { let triples = whole_triple left.now ∷ whole_triple right.now ∷ [] in
         IfOk result (λ walk. walk ≡ record { dims = joined.now; triples = triples; index = 0 }) }
 {
     let mut walk = BroadcastWalk::new(alloc, joined)?;
@@ -61,17 +61,18 @@ fn walk_over(
 fn position_at(walk: &BroadcastWalk, argument: usize) -> u32
     requires known { argument < length walk.now.triples }
     requires inside { walk.now.index < size_of walk.now.dims }
-    ensures position { (ds : List ℕ) → slice_get walk.now.triples argument ≡ Some (whole ds) →
+    ensures position { (ds : List ℕ) →
+        slice_get walk.now.triples argument ≡ Some (whole_triple ds) →
         result ≡ stretched_position ds walk.now.dims walk.now.index }
-    ensures within { (ds : List ℕ) → slice_get walk.now.triples argument ≡ Some (whole ds) →
+    ensures within { (ds : List ℕ) → slice_get walk.now.triples argument ≡ Some (whole_triple ds) →
         result < size_of ds }
 {
     shape_laws();
     walk.offset(argument)
 }
 
-/// Puts the products of two windows' blocks at each place of a broadcast, one after the other, where
-/// nothing is put yet. The sizes after the blocks' own ones stretch to the joined ones.
+/// Puts the products of two windows' blocks at each place of a broadcast, one after the other,
+/// where nothing is put yet. The sizes after the blocks' own ones stretch to the joined ones.
 pub(crate) fn products(
     alloc: Global,
     ty: Ty,

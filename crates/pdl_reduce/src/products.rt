@@ -168,7 +168,7 @@ fn sizes_of(kind: Pairing, depth: usize, a: &[u32], b: &[u32]) -> Sizes
 }
 
 /// The dimensions that two lists of them join to, as they do.
-fn joined(alloc: Global, a: &Dims, b: &Dims) -> Dims
+fn broadcast_dims(alloc: Global, a: &Dims, b: &Dims) -> Dims
     requires { IsOk (joined_dims a.now b.now) }
     ensures joined { joined_dims a.now b.now ≡ Ok result }
     ensures stretched { BroadcastsTo a.now result × BroadcastsTo b.now result }
@@ -251,7 +251,7 @@ fn elements(
     let (first, second) = (strided_dims(a), strided_dims(b));
     let xs = dims_after(alloc, first, core_count(kind));
     let ys = dims_after(alloc, second, core_count(kind));
-    let joined = joined(alloc, &xs, &ys);
+    let joined = broadcast_dims(alloc, &xs, &ys);
     let depth = size_at(resolved.sizes.as_slice(), 0);
     let sizes = sizes_of(kind, depth, dims_list(first), dims_list(second));
     let ty = resolved.generic;

@@ -6,7 +6,7 @@ ghost use Rattle.pdl_elem.specs.Types.{InRange};
 ghost use Rattle.pdl_shape.specs.Shape.{IsDims, extent_limit, size_of};
 ghost use Rattle.pdl_reduce.specs.Answers.{Answers};
 ghost use Rattle.pdl_reduce.specs.Across.{come_to};
-ghost use Rattle.pdl_reduce.specs.Reductions.{answer, flat, is_extreme, lists, reduced, reduced_dims, reduced_row, reduced_type, whole, width};
+ghost use Rattle.pdl_reduce.specs.Reductions.{answer, flat, is_extreme, lists, reduced, reduced_dims, reduced_row, reduced_type, whole_reduced, width};
 
 use crate::collected::Collected;
 use crate::columns::add_lists;
@@ -257,7 +257,7 @@ fn answer(alloc: Global, holds: bool) -> Result<Made, ReduceFault>
 /// `EmptyReduce` exactly for the greatest or the least of an array without elements. It answers no
 /// other refusal.
 pub fn reduce_whole(alloc: Global, kind: Whole, a: &Strided<'_>) -> Result<Made, ReduceFault>
-    ensures value { Answers (whole kind (array_of a.now)) result }
+    ensures value { Answers (whole_reduced kind (array_of a.now)) result }
     ensures made { IfOk result (λ made. IsMade made.ty made.dims made.elems) }
 {
     let count = elements_of(strided_dims(a));

@@ -9,7 +9,7 @@ use Rattle.pdl_shape.specs.Refusals.{Refusal}
 use Rattle.pdl_shape.specs.Shape.{size_of}
 use Rattle.pdl_world.specs.declared.Trans.{Trans}
 use Rattle.pdl_world.specs.Formula.{child_dims}
-use Rattle.pdl_world.specs.World.{World, root, view, Look, look, whole, through, seen_through, root_elements, elements, dims_in}
+use Rattle.pdl_world.specs.World.{World, root, view, Look, look, look_of_root, through, seen_through, root_elements, elements, dims_in}
 use Rattle.pdl_world.specs.Sound.{IsLive}
 use Rattle.pdl_machine.specs.Fills.{only}
 
@@ -29,7 +29,7 @@ counted : (w : World) (v : ℕ) → IsCounted (look w v)
 counted [] v = tt
 counted ((k, root ty ds es) ∷ w) v = by_test (k == v) (counted w v)
   where
-    by_test : (b : Bool) → IsCounted (look w v) → IsCounted (if b then Some (whole k ty ds) else look w v)
+    by_test : (b : Bool) → IsCounted (look w v) → IsCounted (if b then Some (look_of_root k ty ds) else look w v)
     by_test true h = length-map-range_with_len Some 0 (size_of ds)
     by_test false h = h
 counted ((k, view p t) ∷ w) v = by_test (k == v) (counted w v)

@@ -16,7 +16,7 @@ use Rattle.pdl_machine.specs.Calls.{Callee, builtin, kernel, callee_of, value_by
 use Rattle.pdl_machine.specs.Value.{value_of, taken}
 use Rattle.pdl_machine.specs.Tidy.{tidy}
 use Rattle.pdl_machine.specs.Laws.{NewArraysUnseen}
-use Rattle.pdl_machine.specs.Step.{Stepped, bind_value, bound, roots_bound, outputs_bound, list_bound, assigned, assigning, printed, shown, effect}
+use Rattle.pdl_machine.specs.Step.{Stepped, bind_value, bound, roots_bound, outputs_bound, list_bound, assigned, assigning, printed, after_printing, effect}
 use Rattle.pdl_session.specs.declared.fault.StepFault.{StepFault}
 use Rattle.pdl_session.specs.declared.fault.StepFault.TheVariants.{Script, NoMemory}
 use Rattle.pdl_session.specs.declared.given.Given.{Given}
@@ -46,9 +46,9 @@ runs_bound r old mid new x valued id is g h =
 
 -- a text that is printed of a value that came
 pub prints_shown : (old new : State) (is_info : Bool) (valued : Valued) (id : ℕ) (o n : List ℕ) → valued ≡ Ok (new.arrays, id) → Grows old new → n ≡ o ++ printed is_info (array_in new.arrays id)
-    → Prints (and_then valued (λ v. Ok (shown old is_info v))) new o n
+    → Prints (and_then valued (λ v. Ok (after_printing old is_info v))) new o n
 prints_shown old new is_info valued id o n is g text =
-    let P : Valued → Type 0 = λ v. Prints (and_then v (λ v. Ok (shown old is_info v))) new o n in
+    let P : Valued → Type 0 = λ v. Prints (and_then v (λ v. Ok (after_printing old is_info v))) new o n in
     subst P (sym is) (state_is old new g, text)
 
 -- a statement that prints nothing, beside what was printed

@@ -4,7 +4,7 @@ ghost use Rattle.pdl_buf.specs.Made.{IsMade};
 ghost use Rattle.pdl_buf.specs.declared.made.Made.{Made};
 ghost use Rattle.pdl_reduce.specs.Answers as reduce;
 ghost use Rattle.pdl_reduce.specs.Refusals.{ReduceRefusal};
-ghost use Rattle.pdl_reduce.specs.Reductions.{reduced, whole};
+ghost use Rattle.pdl_reduce.specs.Reductions.{reduced, whole_reduced};
 ghost use Rattle.pdl_reduce.specs.Pairings.{paired};
 ghost use Rattle.pdl_machine.specs.Reductions.{made_or_fault, of_one, of_two};
 ghost use Rattle.pdl_session.specs.Answers.{AnswersAs};
@@ -53,7 +53,7 @@ impl Scope {
     ) -> Result<Outcome, StepFault>
         requires { AreGivenLive self.old.arrays.world given.now }
         ensures value { let seen = all_seen_of self.old.arrays given.now in
-            AnswersAs outcome_of (of_one (whole kind) seen) result }
+            AnswersAs outcome_of (of_one (whole_reduced kind) seen) result }
         ensures made { IfOk result IsOutcomeMade }
         ensures same { self.new ≡ self.old }
     {

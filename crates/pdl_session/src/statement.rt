@@ -5,7 +5,7 @@ ghost use Rattle.pdl_syntax.specs.StatementTree.{statement_of, bind_list as bind
 ghost use Rattle.pdl_syntax.specs.WellMade.{AreArrays, AreArgArrays, IsWellMade};
 ghost use Rattle.pdl_machine.specs.Then.{and_then};
 ghost use Rattle.pdl_machine.specs.Value.{value_of};
-ghost use Rattle.pdl_machine.specs.Step.{bound, list_bound, target, assigning, shown, effect};
+ghost use Rattle.pdl_machine.specs.Step.{bound, list_bound, target, assigning, after_printing, effect};
 ghost use Rattle.pdl_session.specs.Answers.{Runs};
 ghost use Rattle.pdl_session.specs.Arguments.{arguments, AreGivenLive};
 
@@ -107,7 +107,7 @@ impl Scope {
     ) -> Result<(), StepFault>
         requires { AreArrays (tree_of value.now) }
         ensures { let valued = value_of self.old.names self.old.arrays (tree_of value.now) in
-            let wanted = and_then valued (λ v. Ok (shown self.old info v)) in
+            let wanted = and_then valued (λ v. Ok (after_printing self.old info v)) in
             Runs wanted self.old self.new out.old.items out.new.items result }
     {
         let id = self.eval(value, steps)?;

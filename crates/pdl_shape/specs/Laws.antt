@@ -3,7 +3,7 @@ use Rattle.std.specs.Prelude.{◌≡◌, ◌⊎◌, ℕ, ℤ, pos, ◌/◌, ◌<
 use Rattle.std.specs.List.{Contains}
 use Rattle.pdl_shape.specs.Broadcast.{BroadcastsTo, cut_to, join}
 use Rattle.pdl_shape.specs.Shape.{IsDims, extent, size_of, IsWithin, position_of, coordinates_of}
-use Rattle.pdl_shape.specs.Triple.{IsTriple, place_of, whole}
+use Rattle.pdl_shape.specs.Triple.{IsTriple, place_of, whole_triple}
 use Rattle.pdl_shape.specs.Places.{AllBelow, places_of, write}
 
 -- Coordinates and positions are inverse to each other, and both stay within the sizes.
@@ -40,11 +40,11 @@ JoinsStretch = (a b joined : List ℕ) → join a b ≡ Some joined →
 -- A whole array's places are its positions.
 abbrev pub WholesAreInOrder : Type 0
 WholesAreInOrder = (ds cs : List ℕ) → IsWithin ds cs →
-    place_of (whole ds) cs ≡ pos (position_of ds cs)
+    place_of (whole_triple ds) cs ≡ pos (position_of ds cs)
 
 -- The triple of a whole array is one that shows places of a buffer.
 abbrev pub WholesAreTriples : Type 0
-WholesAreTriples = (ds : List ℕ) → IsDims ds → IsTriple (whole ds)
+WholesAreTriples = (ds : List ℕ) → IsDims ds → IsTriple (whole_triple ds)
 
 -- A child's places lie in its parent where the coordinates that its own come from do.
 abbrev pub PlacesLieInParent : Type 0

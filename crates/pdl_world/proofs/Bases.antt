@@ -11,7 +11,7 @@ use Rattle.pdl_shape.specs.Laws.{PositionLaws, SizeLaws, WholesAreInOrder, Whole
 use Rattle.pdl_shape.specs.Places.{place_in, places_of}
 use Rattle.pdl_shape.specs.Refusals.{Refusal}
 use Rattle.pdl_shape.specs.Shape.{IsDims, IsWithin, position_of, coordinates_of, size_of}
-use Rattle.pdl_shape.specs.Triple.{IsTriple, Reaches, Triple, place_of, whole as whole_triple}
+use Rattle.pdl_shape.specs.Triple.{IsTriple, Reaches, Triple, place_of, whole_triple}
 use Rattle.pdl_affine.specs.declared.Affine.{Affine}
 use Rattle.pdl_affine.specs.Laws.{ComposedShowViews, IsViewOver, SourcesLieWithin}
 use Rattle.pdl_affine.specs.Views.{dims as affine_dims, source as affine_source}
@@ -24,7 +24,7 @@ use Rattle.pdl_world.specs.Paths.{path}
 use Rattle.pdl_world.specs.Sound.{NumbersBelow, IsLive, IsSound}
 use Rattle.pdl_world.specs.Windows.{Window, narrowed, over, own_window, window, window_over}
 use Rattle.pdl_world.specs.WindowLaws.{IsShownOver, LiveHaveWindows, WindowsShowArrays}
-use Rattle.pdl_world.specs.World.{World, ArrayDef, root, view, Look, whole, look, entry, seen_through, through, through_places}
+use Rattle.pdl_world.specs.World.{World, ArrayDef, root, view, Look, look_of_root, look, entry, seen_through, through, through_places}
 use Rattle.pdl_world.proofs.Dimensions.{IsThrough, look_dims, through_is}
 use Rattle.pdl_world.proofs.Proved.{new_live, ok_of}
 use Rattle.pdl_world.proofs.Looks.{HasRoot, IsShown, look_older, look_root, look_view, through_root}
@@ -167,7 +167,7 @@ newest_view f w k p t m x n s shows seen kept up =
     ]
 
 newest_root : Facts → (w : World) (k : ℕ) (ty : Ty) (ds : List ℕ) (es : List ℤ) → IsDims ds → ShownIn ((k, root ty ds es) ∷ w) k (record { base = k; triple = whole_triple ds })
-newest_root f w k ty ds es d = rw (eq-eqb k k refl) (own_array f k (whole k ty ds) d)
+newest_root f w k ty ds es d = rw (eq-eqb k k refl) (own_array f k (look_of_root k ty ds) d)
 
 -- what is seen of a live array
 seen_of : (w : World) (v : ℕ) (o : Option Look) → look w v ≡ o → IsSomeAnd o (λ l. Unit {0}) → (l : Look) × (look w v ≡ Some l)

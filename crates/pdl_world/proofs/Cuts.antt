@@ -18,7 +18,7 @@ use Rattle.pdl_world.specs.Paths.{path}
 use Rattle.pdl_world.specs.Refused.{refusal_at}
 use Rattle.pdl_world.specs.Sound.{NumbersBelow, IsAllowed, IsShowable, IsSound}
 use Rattle.pdl_world.specs.Swept.{holds}
-use Rattle.pdl_world.specs.World.{World, ArrayDef, root, view, Look, whole, look, through, seen_through, through_places, entry, dims_in}
+use Rattle.pdl_world.specs.World.{World, ArrayDef, root, view, Look, look_of_root, look, through, seen_through, through_places, entry, dims_in}
 use Rattle.pdl_world.proofs.Dimensions.{look_count}
 use Rattle.pdl_world.proofs.Looks.{look_older, path_older}
 use Rattle.pdl_world.proofs.Replaces.{below_replaced, replaced_newest, replaced_older, stays_beside}
@@ -75,10 +75,10 @@ After w new v u l = (Stays w new u × (holds (path w u) v ≡ false)) ⊎ ((hold
 -- the newest array is the one that was cut
 cut_itself : (k : ℕ) (d : ArrayDef) (w : World) (l : Look) (es : List ℤ) → look ((k, d) ∷ w) k ≡ Some l → IsViewOfCut ((k, d) ∷ w) ((k, root l.ty l.dims es) ∷ w) k k l
 cut_itself k d w l es h = record {
-  seen = whole k l.ty l.dims;
+  seen = look_of_root k l.ty l.dims;
   look_is = rw (eq-eqb k k refl) refl;
   root_is = refl;
-  was = (let same : l.places ≡ through_places (whole k l.ty l.dims).places l.places = sym (through_whole (size_of l.dims) l.places (look_count ((k, d) ∷ w) k l h)) in
+  was = (let same : l.places ≡ through_places (look_of_root k l.ty l.dims).places l.places = sym (through_whole (size_of l.dims) l.places (look_count ((k, d) ∷ w) k l h)) in
       h ∙ ap (λ ps. Some (record l { places = ps })) same);
   path_was = (let alone : path ((k, root l.ty l.dims es) ∷ w) k ≡ k ∷ [] = rw (eq-eqb k k refl) refl in
       path_head k d w ∙ ap (λ ps. ps ++ drop 1 (path ((k, d) ∷ w) k)) (sym alone));

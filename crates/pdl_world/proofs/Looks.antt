@@ -6,7 +6,7 @@ use Rattle.pdl_elem.specs.declared.Ty.{Ty}
 use Rattle.pdl_world.specs.declared.Trans.{Trans}
 use Rattle.pdl_shape.specs.Refusals.{Refusal}
 use Rattle.pdl_world.specs.Formula.{child_dims}
-use Rattle.pdl_world.specs.World.{World, ArrayDef, root, view, Look, whole, look, through, seen_through, set_elements}
+use Rattle.pdl_world.specs.World.{World, ArrayDef, root, view, Look, look_of_root, look, through, seen_through, set_elements}
 use Rattle.pdl_world.specs.Sound.{NumbersBelow, IsLive}
 use Rattle.pdl_world.specs.Paths.{path}
 
@@ -29,9 +29,9 @@ pub through_root : (t : Trans) (m l : Look) → through t m ≡ Some l → HasRo
 through_root t m l h = seen_root t m l (child_dims t m.dims) h
 
 -- what is seen through a root, or through an array behind it
-pub look_root : (k : ℕ) (ty : Ty) (ds : List ℕ) (es : List ℤ) (w : World) (v : ℕ) (l : Look) → look ((k, root ty ds es) ∷ w) v ≡ Some l → ((k ≡ v) × (whole k ty ds ≡ l)) ⊎ ((k ≡ v → ⊥) × (look w v ≡ Some l))
+pub look_root : (k : ℕ) (ty : Ty) (ds : List ℕ) (es : List ℤ) (w : World) (v : ℕ) (l : Look) → look ((k, root ty ds es) ∷ w) v ≡ Some l → ((k ≡ v) × (look_of_root k ty ds ≡ l)) ⊎ ((k ≡ v → ⊥) × (look w v ≡ Some l))
 look_root k ty ds es w v l h = elim (eqb_tells k v) [
-  | inl t ↦ inl (t.1, (let e : Some (whole k ty ds) ≡ Some l = rw t.0 at h in cc))
+  | inl t ↦ inl (t.1, (let e : Some (look_of_root k ty ds) ≡ Some l = rw t.0 at h in cc))
   | inr t ↦ inr (t.1, rw t.0 at h)
 ]
 
@@ -89,7 +89,7 @@ root_below ((k, view p t) ∷ w) n v l b h = elim (look_view k p t w v l h) [
 -- other elements of a root change no look
 pub look_set : (w : World) (r : ℕ) (new : List ℤ) (v : ℕ) → look (set_elements w r new) v ≡ look w v
 look_set [] r new v = refl
-look_set ((k, root ty ds es) ∷ w) r new v = ap (λ o. cond (eqb k v) (Some (whole k ty ds)) o) (look_set w r new v)
+look_set ((k, root ty ds es) ∷ w) r new v = ap (λ o. cond (eqb k v) (Some (look_of_root k ty ds)) o) (look_set w r new v)
 look_set ((k, view p t) ∷ w) r new v = ap (λ o. cond (eqb k v) (option_and_then (through t) o) o) (look_set w r new (cond (eqb k v) p v))
 
 pub below_set : (w : World) (n r : ℕ) (new : List ℤ) → NumbersBelow n w → NumbersBelow n (set_elements w r new)

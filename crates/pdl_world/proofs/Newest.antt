@@ -13,7 +13,7 @@ use Rattle.pdl_world.specs.Formula.{child_dims, source}
 use Rattle.pdl_world.specs.Laws.{PathsStay, NumbersStay, OlderElementsStay, OlderPathsStay, LiveLieBelow, RootsAreInRange, IsSeenAs, NewRootIsSeen, NewRootIsWhole, NewViewIsSeen, NewRootHasPath, NewViewHasPath}
 use Rattle.pdl_world.specs.Paths.{path}
 use Rattle.pdl_world.specs.Sound.{NumbersBelow}
-use Rattle.pdl_world.specs.World.{World, ArrayDef, root, view, Look, whole, look, seen_through, through, entry, through_places, root_elements, assign_through}
+use Rattle.pdl_world.specs.World.{World, ArrayDef, root, view, Look, look_of_root, look, seen_through, through, entry, through_places, root_elements, assign_through}
 use Rattle.pdl_shape.specs.Places.{write}
 use Rattle.pdl_world.proofs.Looks.{look_older, path_older, live_below, root_below, below_set, path_set}
 use Rattle.pdl_world.proofs.Roots.{elements_older, seen_in_range}
@@ -73,7 +73,7 @@ new_root_is_seen = λ w k ty ds es c. record {
   elems_are = (let new : World = (k, root ty ds es) ∷ w in
       let here : root_elements new k ≡ es = rw (eq-eqb k k refl) refl in
       ap (λ o. option_map_or (λ (l : Look). read l.places (root_elements new l.root)) o []) (new_root_is_whole w k ty ds es)
-      ∙ ap (read (whole k ty ds).places) here ∙ read_whole (size_of ds) es c);
+      ∙ ap (read (look_of_root k ty ds).places) here ∙ read_whole (size_of ds) es c);
 }
 
 pub new_root_has_path : NewRootHasPath

@@ -18,7 +18,7 @@ use Rattle.pdl_shape.specs.Refusals.{Refusal}
 use Rattle.pdl_world.specs.Formula.{child_dims, source}
 use Rattle.pdl_world.specs.Paths.{path}
 use Rattle.pdl_world.specs.Refused.{refusal_at}
-use Rattle.pdl_world.specs.World.{World, ArrayDef, root, view, Look, whole, look, through, seen_through, entry, through_places, is_among, has_repeats, elements, root_elements, set_elements, assign, assign_through}
+use Rattle.pdl_world.specs.World.{World, ArrayDef, root, view, Look, look_of_root, look, through, seen_through, entry, through_places, is_among, has_repeats, elements, root_elements, set_elements, assign, assign_through}
 use Rattle.pdl_world.specs.Sound.{IsAllowed, IsSound, IsLive}
 use Rattle.pdl_world.specs.Laws.{LooksStay, Reads, kept_values, ReadsBack, PlacesLieWithin, AssignsSoundly, JoinsSoundly, OlderStay, NewIsLive}
 use Rattle.pdl_world.proofs.Looks.{through_root, look_root, look_view, look_older, live_below, root_below, look_set}
@@ -73,11 +73,11 @@ pub new_is_live : NewIsLive
 new_is_live = λ w k d a. new_live w k d a
 
 -- places of a root
-whole_within : (k : ℕ) (ty : Ty) (ds : List ℕ) (j i : ℕ) → get_or (whole k ty ds).places j None ≡ Some i → i < size_of ds
+whole_within : (k : ℕ) (ty : Ty) (ds : List ℕ) (j i : ℕ) → get_or (look_of_root k ty ds).places j None ≡ Some i → i < size_of ds
 whole_within k ty ds j i h = elim (cases_lt j (size_of ds)) [
   | inl low ↦ (let e : Some j ≡ Some i = sym (get_or-map-range_with_len Some 0 (size_of ds) j j None low (omega arith)) ∙ h in
       let s : j ≡ i = cc in omega arith)
-  | inr past ↦ (let e : None ≡ Some i = sym (get_or_past (whole k ty ds).places j None (omega (arith, length-map-range_with_len Some 0 (size_of ds)))) ∙ h in cc)
+  | inr past ↦ (let e : None ≡ Some i = sym (get_or_past (look_of_root k ty ds).places j None (omega (arith, length-map-range_with_len Some 0 (size_of ds)))) ∙ h in cc)
 ]
 
 -- a place of a view is one of its parent
@@ -101,7 +101,7 @@ within : (w : World) (v : ℕ) (l : Look) (j i : ℕ) → IsSound w → look w v
 within [] v l j i s h g = cc
 within ((k, root ty ds es) ∷ w) v l j i s h g = elim (look_root k ty ds es w v l h) [
   | inl e ↦ (let P : Look → Type 0 = λ m. get_or m.places j None ≡ Some i → i < length (root_elements ((k, root ty ds es) ∷ w) m.root) in
-      let here : P (whole k ty ds) = λ p. rw (eq-eqb k k refl) (omega (arith, whole_within k ty ds j i p, s.1.1.count)) in
+      let here : P (look_of_root k ty ds) = λ p. rw (eq-eqb k k refl) (omega (arith, whole_within k ty ds j i p, s.1.1.count)) in
       subst P e.1 here g)
   | inr e ↦ rw (elements_older k (root ty ds es) w l.root (root_below w k v l s.0 e.1)) (within w v l j i s.2 e.1 g)
 ]

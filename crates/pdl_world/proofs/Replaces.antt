@@ -12,7 +12,7 @@ use Rattle.pdl_world.specs.Cut.{replaced, has_views, fitted}
 use Rattle.pdl_world.specs.CutLaws.{IsFitted}
 use Rattle.pdl_world.specs.Paths.{path}
 use Rattle.pdl_world.specs.Sound.{NumbersBelow, IsAllowed, IsSound}
-use Rattle.pdl_world.specs.World.{World, ArrayDef, root, view, Look, whole, look, root_elements}
+use Rattle.pdl_world.specs.World.{World, ArrayDef, root, view, Look, look_of_root, look, root_elements}
 use Rattle.pdl_world.proofs.Looks.{look_older, path_older, root_below}
 use Rattle.pdl_world.proofs.Roots.{elements_older, showable}
 use Rattle.pdl_world.proofs.Stays.{Stays, stays_under, newest_stays}
@@ -93,7 +93,7 @@ reshaped_sound ((k, d) ∷ w) v ty ds es s h a = elim (cases_eq k v) [
 
 -- the new root
 pub record IsRooted (new : World) (v : ℕ) (ty : Ty) (ds : List ℕ) (es : List ℤ) : Type 0 where
-  pub look_is : look new v ≡ Some (whole v ty ds)
+  pub look_is : look new v ≡ Some (look_of_root v ty ds)
   pub path_is : path new v ≡ v ∷ []
   pub elems_are : root_elements new v ≡ es
 

@@ -9,7 +9,7 @@ use Rattle.pdl_world.specs.Paths.{path}
 use Rattle.pdl_world.specs.Refused.{refusal_at}
 use Rattle.pdl_world.specs.declared.Trans.{Trans}
 use Rattle.std.specs.Option.{option_map_or}
-use Rattle.pdl_world.specs.World.{World, ArrayDef, root, view, Look, whole, look, dims_in, root_elements, set_elements}
+use Rattle.pdl_world.specs.World.{World, ArrayDef, root, view, Look, look_of_root, look, dims_in, root_elements, set_elements}
 use Rattle.pdl_world.specs.Sound.{IsShowable, IsSound}
 use Rattle.pdl_world.proofs.Looks.{through_root, look_root, look_view, root_below, look_set, below_set, set_past, path_set}
 
@@ -78,7 +78,7 @@ pub sound_set : (w : World) (v : ℕ) (l : Look) (new : List ℤ) → IsSound w 
 sound_set [] v l new s h c a = tt
 sound_set ((k, root ty ds es) ∷ w) v l new s h c a = elim (look_root k ty ds es w v l h) [
   | inl e ↦ (let P : Look → Type 0 = λ m. length new ≡ length (root_elements ((k, root ty ds es) ∷ w) m.root) → All (InRange m.ty) new → IsSound (set_elements ((k, root ty ds es) ∷ w) m.root new) in
-      let here : P (whole k ty ds) = λ count fits.
+      let here : P (look_of_root k ty ds) = λ count fits.
       (let count' : length new ≡ length es = rw (eq-eqb k k refl) at count in
       rw (eq-eqb k k refl, set_past w k k new s.0 (omega arith)) (s.0, (s.1.0, record { count = count' ∙ s.1.1.count; in_range = fits }), s.2)) in
       subst P e.1 here c a)

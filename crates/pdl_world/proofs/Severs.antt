@@ -21,7 +21,7 @@ use Rattle.pdl_world.specs.Paths.{path, root_of}
 use Rattle.pdl_world.specs.Sound.{IsSound, IsLive}
 use Rattle.pdl_world.specs.SweepLaws.{IsSeenAsBefore}
 use Rattle.pdl_world.specs.Swept.{holds, parents, Has}
-use Rattle.pdl_world.specs.World.{World, ArrayDef, root, view, Look, whole, look, ty_in, dims_in, elements, root_elements}
+use Rattle.pdl_world.specs.World.{World, ArrayDef, root, view, Look, look_of_root, look, ty_in, dims_in, elements, root_elements}
 use Rattle.pdl_world.proofs.Cuts.{After, after, cut_sound}
 use Rattle.pdl_world.proofs.Dimensions.{look_count, look_dims}
 use Rattle.pdl_world.proofs.Looks.{look_root, look_view, look_older, through_root, root_below}
@@ -57,8 +57,8 @@ uncut [] v l es s h r e = cc
 uncut ((k, root ty ds fs) ∷ w) v l es s h r e = elim (look_root k ty ds fs w v l h) [
   | inl y ↦ (let P : Look → Type 0 = λ m. es ≡ read m.places (root_elements ((k, root ty ds fs) ∷ w) m.root) → replaced ((k, root ty ds fs) ∷ w) v (root m.ty m.dims es) ≡ (k, root ty ds fs) ∷ w in
       let own : root_elements ((k, root ty ds fs) ∷ w) k ≡ fs = rw (eq-eqb k k refl) refl in
-      let here : P (whole k ty ds) = λ q. replaced_newest k (root ty ds fs) w v (root ty ds es) s.0 y.0
-      ∙ ap (λ xs. (k, root ty ds xs) ∷ w) (q ∙ ap (read (whole k ty ds).places) own ∙ read_whole (size_of ds) fs s.1.1.count) in
+      let here : P (look_of_root k ty ds) = λ q. replaced_newest k (root ty ds fs) w v (root ty ds es) s.0 y.0
+      ∙ ap (λ xs. (k, root ty ds xs) ∷ w) (q ∙ ap (read (look_of_root k ty ds).places) own ∙ read_whole (size_of ds) fs s.1.1.count) in
       subst P y.1 here e)
   | inr y ↦ (let low = root_below w k v l s.0 y.1 in
       replaced_older k (root ty ds fs) w v (root l.ty l.dims es) y.0
@@ -222,7 +222,7 @@ root_seen_as new v ty ds es c y = record {
   root_is = ap (λ o. option_map_or (λ (m : Look). m.root) o v) y.look_is;
   ty_is = ap (λ o. option_map_or (λ (m : Look). m.ty) o Byte) y.look_is;
   dims_are = ap (λ o. option_map_or (λ (m : Look). m.dims) o []) y.look_is;
-  elems_are = elements_seen new v (whole v ty ds) y.look_is ∙ ap (read (whole v ty ds).places) y.elems_are ∙ read_whole (size_of ds) es c;
+  elems_are = elements_seen new v (look_of_root v ty ds) y.look_is ∙ ap (read (look_of_root v ty ds).places) y.elems_are ∙ read_whole (size_of ds) es c;
 }
 
 pub reshaped_is_seen : ReshapedIsSeen
@@ -254,7 +254,7 @@ reshape_live w v u ds s n h (Some l) e = elim (cases_eq u v) [
       let Q : ℕ → Type 0 = λ x. IsLive (reshape w v ds) x in
       let there : look w v ≡ Some l = ap (look w) (sym same) ∙ e in
       let y : IsRooted (replaced w v (root l.ty ds (new_elements w v ds))) v l.ty ds (new_elements w v ds) = is_rooted w v l l.ty ds (new_elements w v ds) there in
-      subst Q (sym same) (subst P (sym (reshaped w v l ds there)) (same_live (replaced w v (root l.ty ds (new_elements w v ds))) v (Some (whole v l.ty ds)) y.look_is tt)))
+      subst Q (sym same) (subst P (sym (reshaped w v l ds there)) (same_live (replaced w v (root l.ty ds (new_elements w v ds))) v (Some (look_of_root v l.ty ds)) y.look_is tt)))
   | inr ne ↦ same_live (reshape w v ds) u (look w u) (others_stay w v u (root (ty_in w v) ds (new_elements w v ds)) s n ne).look_is h
 ]
 

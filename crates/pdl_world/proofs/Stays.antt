@@ -7,7 +7,7 @@ use Rattle.pdl_world.specs.declared.Trans.{Trans}
 use Rattle.pdl_world.specs.Paths.{path}
 use Rattle.pdl_world.specs.Sound.{NumbersBelow}
 use Rattle.pdl_world.specs.SweepLaws.{IsSeenAsBefore}
-use Rattle.pdl_world.specs.World.{World, ArrayDef, root, view, Look, whole, look, through, root_elements}
+use Rattle.pdl_world.specs.World.{World, ArrayDef, root, view, Look, look_of_root, look, through, root_elements}
 use Rattle.pdl_world.proofs.Looks.{through_root, look_view, look_older, path_older, root_below}
 use Rattle.pdl_world.proofs.Roots.{elements_older}
 
@@ -43,8 +43,8 @@ newest_stays w u j (root ty ds es) h = record {
   path_is = rw (eq-eqb j j refl) refl;
   root_is = λ l q. (let P : Look → Type 0 = λ m. root_elements ((j, root ty ds es) ∷ u) m.root ≡ root_elements ((j, root ty ds es) ∷ w) m.root in
       let is : Some _ ≡ Some l = rw (eq-eqb j j refl) at q in
-      let here : P (whole j ty ds) = rw (eq-eqb j j refl) refl in
-      subst P (let k : whole j ty ds ≡ l = cc in k) here);
+      let here : P (look_of_root j ty ds) = rw (eq-eqb j j refl) refl in
+      subst P (let k : look_of_root j ty ds ≡ l = cc in k) here);
 }
 newest_stays w u j (view p t) h =
     let a : Stays w u p = h p t refl in

@@ -8,7 +8,7 @@ use Rattle.pdl_world.specs.Paths.{path, root_of}
 use Rattle.pdl_world.specs.Sound.{NumbersBelow, IsSound, IsLive}
 use Rattle.pdl_world.specs.SweepLaws.{IsSeenAsBefore}
 use Rattle.pdl_world.specs.Swept.{holds, Has}
-use Rattle.pdl_world.specs.World.{World, view, Look, whole, look, through_places, dims_in, ty_in, elements}
+use Rattle.pdl_world.specs.World.{World, view, Look, look_of_root, look, through_places, dims_in, ty_in, elements}
 
 -- the array has the type, the dimensions and the elements that it had
 pub record ShowsTheSame (old new : World) (u : ℕ) : Type 0 where
@@ -22,7 +22,7 @@ CutsLeaveElements = (w : World) (v u : ℕ) → IsSound w → ShowsTheSame w (se
 
 -- the array is a root that shows its own elements, and its path ends there
 pub record IsRootIn (w : World) (v : ℕ) (l : Look) : Type 0 where
-  pub look_is : look w v ≡ Some (whole v l.ty l.dims)
+  pub look_is : look w v ≡ Some (look_of_root v l.ty l.dims)
   pub path_is : path w v ≡ v ∷ []
 
 -- what was cut is a root of the type and the dimensions that were seen through it

@@ -7,7 +7,7 @@ use Rattle.pdl_shape.specs.Shape.{size_of}
 use Rattle.pdl_world.specs.declared.Trans.{Trans}
 use Rattle.pdl_world.specs.Formula.{child_dims, source}
 use Rattle.pdl_world.specs.Paths.{path, root_of}
-use Rattle.pdl_world.specs.World.{World, ArrayDef, root, view, Look, whole, look, has_repeats, elements, root_elements, assign, dims_in, ty_in}
+use Rattle.pdl_world.specs.World.{World, ArrayDef, root, view, Look, look_of_root, look, has_repeats, elements, root_elements, assign, dims_in, ty_in}
 use Rattle.pdl_world.specs.Sound.{NumbersBelow, IsAllowed, IsSound, IsLive}
 
 -- an assignment changes nothing of what is seen through any array
@@ -114,7 +114,7 @@ NewRootIsSeen =
 abbrev pub NewRootIsWhole : Type 0
 NewRootIsWhole =
     (w : World) (k : ℕ) (ty : Ty) (ds : List ℕ) (es : List ℤ)
-    → look ((k, root ty ds es) ∷ w) k ≡ Some (whole k ty ds)
+    → look ((k, root ty ds es) ∷ w) k ≡ Some (look_of_root k ty ds)
 
 -- a new view has at each position its parent's element at the source of the position, and
 -- 0 where that is nothing

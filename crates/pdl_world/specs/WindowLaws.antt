@@ -1,7 +1,7 @@
 -- What holds of windows, and of repeats among places.
 use Rattle.std.specs.Prelude.{◌≡◌, ◌<◌, ℕ, pos, true, List, length, get_or, Option, Some, None, IsSomeAnd}
 use Rattle.pdl_shape.specs.Shape.{IsWithin, position_of, size_of}
-use Rattle.pdl_shape.specs.Triple.{IsTriple, Reaches, place_of, whole}
+use Rattle.pdl_shape.specs.Triple.{IsTriple, Reaches, place_of, whole_triple}
 use Rattle.pdl_world.specs.Paths.{root_of}
 use Rattle.pdl_world.specs.Sound.{IsLive, IsSound}
 use Rattle.pdl_world.specs.Windows.{Window, window}
@@ -12,7 +12,8 @@ use Rattle.pdl_world.specs.World.{World, dims_in, entry, has_repeats, places_in}
 -- the array's coordinates one that has the array's place there.
 pub record IsShownOver (w : World) (v : ℕ) (x : Window) : Type 0 where
   pub root_is : root_of w x.base ≡ root_of w v
-  pub own : window w x.base ≡ Some (record { base = x.base; triple = whole (dims_in w x.base) })
+  pub own : window w x.base
+    ≡ Some (record { base = x.base; triple = whole_triple (dims_in w x.base) })
   pub dims_are : dims_in w v ≡ x.triple.dims
   pub is_triple : IsTriple x.triple
   pub reaches : Reaches x.triple (size_of (dims_in w x.base))

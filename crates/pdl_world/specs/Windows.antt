@@ -1,7 +1,7 @@
 -- Windows (PDL::API, affine transformations): how an array is shown over the elements of its base.
 use Rattle.std.specs.Prelude.{ℕ, ◌==◌, if◌then◌else◌, List, [], ◌∷◌, Option, Some, None, option_and_then, Result, Ok, Err}
 use Rattle.std.specs.Option.{option_map_or}
-use Rattle.pdl_shape.specs.Triple.{Triple, whole}
+use Rattle.pdl_shape.specs.Triple.{Triple, whole_triple}
 use Rattle.pdl_affine.specs.Windows.{composed}
 use Rattle.pdl_world.specs.declared.Trans.{Trans}
 use Rattle.pdl_world.specs.declared.Trans.TheVariants.{Affine, Index, Where, Range}
@@ -23,7 +23,7 @@ over (Where ds ps) above = None
 over (Range ds ind sizes edge) above = None
 
 abbrev pub own_window : ℕ → Result (List ℕ) Refusal → Option Window
-own_window k (Ok ds) = Some (record { base = k; triple = whole ds })
+own_window k (Ok ds) = Some (record { base = k; triple = whole_triple ds })
 own_window k (Err refusal) = None
 
 abbrev pub window_over : ℕ → Trans → Window → Option Triple → Option Window
@@ -37,7 +37,8 @@ narrowed k t above = window_over k t above (over t above.triple)
 -- the base of an array and the triple over it
 abbrev pub window : World → ℕ → Option Window
 window [] v = None
-window ((k, root ty ds es) ∷ w) v = if k == v then Some (record { base = k; triple = whole ds })
+window ((k, root ty ds es) ∷ w) v = if k == v
+    then Some (record { base = k; triple = whole_triple ds })
     else window w v
 window ((k, view p t) ∷ w) v =
     let below = window w (if k == v then p else v) in

@@ -30,8 +30,8 @@ pub record Look : Type 0 where
   pub places : List (Option ℕ)
 
 -- a root sees each of its positions
-abbrev pub whole : ℕ → Ty → List ℕ → Look
-whole k ty ds = record
+abbrev pub look_of_root : ℕ → Ty → List ℕ → Look
+look_of_root k ty ds = record
     { root = k; ty = ty; dims = ds; places = map Some (range_with_len 0 (size_of ds)) }
 
 -- the root's place at a position of the parent, or nothing
@@ -55,7 +55,7 @@ through t l = seen_through t l (child_dims t l.dims)
 -- what is seen through the array v, or nothing where there is no such array
 abbrev pub look : World → ℕ → Option Look
 look [] v = None
-look ((k, root ty ds es) ∷ w) v = if k == v then Some (whole k ty ds) else look w v
+look ((k, root ty ds es) ∷ w) v = if k == v then Some (look_of_root k ty ds) else look w v
 look ((k, view p t) ∷ w) v =
     let below = look w (if k == v then p else v) in
     if k == v then option_and_then (through t) below else below

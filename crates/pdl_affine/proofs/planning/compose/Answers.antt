@@ -1,5 +1,5 @@
 use Rattle.std.proofs.Common.{◌≡◌, ◌∙◌, ap, sym, subst}
-use Rattle.pdl_shape.specs.Triple.{whole as whole_triple}
+use Rattle.pdl_shape.specs.Triple.{whole_triple}
 use Rattle.pdl_affine.specs.Courses.{seen_form, IsSound}
 use Rattle.pdl_affine.proofs.Clumps.{whole_shown}
 use Rattle.pdl_affine.proofs.Sounds.{resolved_sound}

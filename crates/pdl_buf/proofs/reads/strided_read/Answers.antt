@@ -1,6 +1,6 @@
 -- What is read is the window's block.
 use Rattle.std.proofs.Common.{length, arith, ap, subst}
-use Rattle.pdl_buf.specs.Buffer.{Kept}
+use Rattle.pdl_buf.specs.Buffer.{TypedElements}
 use Rattle.pdl_buf.specs.Reads.{HasRead}
 use Rattle.pdl_buf.specs.Window.{Window}
 use Rattle.pdl_buf.proofs.Runs.{block_is, block_fits}
@@ -15,4 +15,4 @@ pub returns-clause-value : goal.returns-clause-value
 returns-clause-value c =
     let s = c.from.inside in
     block_is s.placement s.buf.now.elems c.args.from.now.elems c.read.new.into c.args.first (length c.args.into.now) (ap (λ (w : Window). w.elems) c.from.view_is) (omega arith) c.requires
-    (subst (λ (k : Kept). HasRead s.placement k.elems c.args.first (length c.args.into.now) c.read.new.into) c.buf.view_is c.read.ensures.value)
+    (subst (λ (k : TypedElements). HasRead s.placement k.elems c.args.first (length c.args.into.now) c.read.new.into) c.buf.view_is c.read.ensures.value)

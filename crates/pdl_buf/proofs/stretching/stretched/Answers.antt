@@ -4,7 +4,7 @@ use Rattle.pdl_elem.specs.declared.Ty.{Ty}
 use Rattle.pdl_shape.specs.Broadcast.{BroadcastsTo}
 use Rattle.pdl_shape.specs.Stretched as meant
 use Rattle.pdl_shape.specs.Triple.{Reaches, Triple}
-use Rattle.pdl_buf.specs.Window.{Window, shown}
+use Rattle.pdl_buf.specs.Window.{Window, shown_through}
 use Rattle.pdl_buf.proofs.Stretches.{shown_stretched}
 use Rattle.pdl_buf.proofs.stretching.stretched.Goals as goal
 
@@ -23,9 +23,9 @@ returns c =
     let t : Triple = c.triple.result.now in
     let es : List ℤ = c.from.inside.buf.now.elems in
     let js : List ℕ = c.args.dims.now in
-    let seen : window ty t.dims (shown t es) ≡ c.args.from.now = ap (λ (t : Triple). window ty t.dims (shown t es)) c.triple.ensures ∙ c.from.view_is in
+    let seen : window ty t.dims (shown_through t es) ≡ c.args.from.now = ap (λ (t : Triple). window ty t.dims (shown_through t es)) c.triple.ensures ∙ c.from.view_is in
     let fits : BroadcastsTo t.dims js = subst (λ (w : Window). BroadcastsTo w.dims js) (sym seen) c.requires in
-    let elems : shown c.stretched_triple.result es ≡ meant.stretched t.dims js (shown t es) =
+    let elems : shown_through c.stretched_triple.result es ≡ meant.stretched t.dims js (shown_through t es) =
     shown_stretched c.shape_laws.ensures.positions c.shape_laws.ensures.cuts t c.stretched_triple.result js es c.stretched_triple.ensures.dims fits c.stretched_triple.ensures.shows in
     c.strided-2.ensures.window
     ∙ ap₂ (λ (ds : List ℕ) (xs : List ℤ). window ty ds xs) c.stretched_triple.ensures.dims elems

@@ -6,7 +6,7 @@ use Rattle.std.proofs.lemmas.List.FromFn.{length-map-range_with_len}
 use Rattle.std.specs.Int.{int_wrap, w64}
 use Rattle.pdl_shape.specs.Shape.{size_of}
 use Rattle.pdl_shape.specs.Triple.{Triple}
-use Rattle.pdl_buf.specs.Window.{place_at, shown}
+use Rattle.pdl_buf.specs.Window.{place_at, shown_through}
 use Rattle.pdl_buf.proofs.Runs.{Neighbours, block_is, neighbours}
 use Rattle.pdl_buf.proofs.sums.sum_in_order.Goals as goal
 
@@ -26,9 +26,9 @@ returns g c =
     let n : Neighbours t es first start count =
     neighbours c.shape_laws.ensures.positions _ _ _ _ _ c.place-start.ensures.sound c.requires.reaches c.requires.ordered c.requires.within (omega arith) c.place-start.ensures.place in
     let long : length (take count (drop start es)) ≡ count = length-take-le count (drop start es) (omega (arith, length-drop start es, n.inside)) in
-    let fits : first + count ≤ length (shown t es) = omega (arith, c.requires.within, length-map-range_with_len (λ p. get_or es (place_at t p) (pos 0)) 0 (size_of t.dims)) in
+    let fits : first + count ≤ length (shown_through t es) = omega (arith, c.requires.within, length-map-range_with_len (λ p. get_or es (place_at t p) (pos 0)) 0 (size_of t.dims)) in
     let word : FitsSigned w64 c.sum_from.result = record { sfits = c.sum_from.type_inv } in
     to_z-of_z w64 c.sum_from.result word ∙ c.sum_from.ensures
     ∙ ap (λ (xs : List ℤ). int_wrap w64 (fold (λ sum x. sum +ℤ x) (pos 0) xs))
-    (block_is t es (shown t es) (take count (drop start es)) first count refl long fits
+    (block_is t es (shown_through t es) (take count (drop start es)) first count refl long fits
     (λ k h. get_or-take count (drop start es) k (pos 0) h ∙ get_or-drop start es k (pos 0) ∙ ap (λ (p : ℕ). get_or es p (pos 0)) (n.here k h)))

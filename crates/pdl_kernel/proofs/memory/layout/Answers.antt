@@ -2,7 +2,7 @@ use Rattle.std.proofs.Common.{ap, sym, ◌∙◌, arith, subst}
 use Rattle.std.specs.Prelude.{IfSome}
 use Rattle.pdl_buf.specs.declared.made.Made.{Made}
 use Rattle.pdl_kernel.specs.Leading.{IsLaidOut}
-use Rattle.pdl_kernel.specs.Sources.{Source, shown}
+use Rattle.pdl_kernel.specs.Sources.{Source, array_of_source}
 use Rattle.pdl_kernel.proofs.Stores.{overlaid_input, overlaid_block}
 use Rattle.pdl_kernel.proofs.memory.layout.Goals as goal
 
@@ -12,7 +12,7 @@ returns-in-Input c =
     let is = c.index-sources-number.is in
     let l = c.layout.result in
     let input = overlaid_input c.args.sources.now c.args.frames.now.arrays c.args.number r (omega arith) (omega arith) (ap (λ (s : Source). s.role) (sym is) ∙ sym c.role.ensures ∙ c.in-Input.is) in
-    subst (λ (a : Made). IsLaidOut a l.axes.now l.start l.elems.now) (ap shown is ∙ sym input) c.layout.ensures
+    subst (λ (a : Made). IsLaidOut a l.axes.now l.start l.elems.now) (ap array_of_source is ∙ sym input) c.layout.ensures
 
 pub returns-in_default : goal.returns-in_default
 returns-in_default c =

@@ -1,7 +1,7 @@
 use Rattle.std.proofs.Common.{ap, sym, ◌∙◌, arith}
 use mathlib.Core.Logic.{inl, inr}
 use Rattle.pdl_kernel.specs.Meaning.{element_at}
-use Rattle.pdl_kernel.specs.Sources.{Source, shown}
+use Rattle.pdl_kernel.specs.Sources.{Source, array_of_source}
 use Rattle.pdl_kernel.proofs.Stores.{overlaid_input, overlaid_block, overlaid_past}
 use Rattle.pdl_kernel.proofs.memory.read.Goals as goal
 use Rattle.pdl_kernel.proofs.memory.read.Goals.{then-number-sources-via-then-number-sources, then-number-sources-via-else-number-sources+then-number-len}
@@ -17,7 +17,7 @@ pub returns-in-Input : goal.returns-in-Input
 returns-in-Input c =
     let r = c.index-sources-number.result in
     let is = c.index-sources-number.is in
-    c.get.ensures ∙ ap (λ (s : Source). element_at (shown s) c.args.at.now) is
+    c.get.ensures ∙ ap (λ (s : Source). element_at (array_of_source s) c.args.at.now) is
     ∙ sym (ap (λ a. element_at a c.args.at.now) (overlaid_input c.args.sources.now c.args.frames.now.arrays c.args.number r (omega arith) (omega arith)
     (ap (λ (s : Source). s.role) (sym is) ∙ sym c.role.ensures ∙ c.in-Input.is)))
 

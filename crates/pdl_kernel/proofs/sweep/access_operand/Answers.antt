@@ -2,7 +2,7 @@ use Rattle.std.proofs.Common.{ap, sym, subst, ◌∙◌, arith}
 use Rattle.pdl_code.specs.TreeOf.{indices_of}
 use Rattle.pdl_kernel.specs.Leading.{IsLaidOut}
 use Rattle.pdl_kernel.specs.Lines.{loop_of}
-use Rattle.pdl_kernel.specs.Sources.{Source, shown}
+use Rattle.pdl_kernel.specs.Sources.{Source, array_of_source}
 use Rattle.pdl_kernel.proofs.Sweeping.{free_by_role, given_access, kept_access}
 use Rattle.pdl_kernel.proofs.sweep.access_operand.Goals as goal
 
@@ -12,7 +12,7 @@ returns-in-Some c =
     let s = c.index-sources-number.result in
     let is = c.index-sources-number.is in
     let lay = c.layout-layout.result in
-    let laid = subst (λ (x : Source). IsLaidOut (shown x) lay.axes.now lay.start lay.elems.now) is c.layout-layout.ensures in
+    let laid = subst (λ (x : Source). IsLaidOut (array_of_source x) lay.axes.now lay.start lay.elems.now) is c.layout-layout.ensures in
     given_access l c.args.number s lay.axes.now (indices_of c.args.entries.now) lay.start lay.elems.now c.in-Some.line (omega arith) (omega arith)
     (ap (λ (x : Source). x.role) (sym is) ∙ sym c.role.ensures ∙ c.in-Input.is) laid c.in-Some.ensures
 

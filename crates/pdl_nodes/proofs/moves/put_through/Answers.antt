@@ -1,10 +1,10 @@
 -- A route through a base gives its positions that have a place.
 use Rattle.std.proofs.Common.{ap, ◌∙◌}
-use Rattle.pdl_buf.specs.Buffer.{Kept}
+use Rattle.pdl_buf.specs.Buffer.{TypedElements}
 use Rattle.pdl_nodes.proofs.Moving.{through_is}
 use Rattle.pdl_nodes.proofs.moves.put_through.Goals as goal
 
 pub returns-clause-value : goal.returns-clause-value
 returns-clause-value g c =
-    ap (λ (k : Kept). k.elems) c.scatter_by.ensures.value
+    ap (λ (k : TypedElements). k.elems) c.scatter_by.ensures.value
     ∙ through_is c.args.places.now c.args.triple.now c.of.result c.args.values.now c.args.into.now.elems c.of.ensures c.requires.paired

@@ -1,5 +1,5 @@
 use Rattle.std.proofs.Common.{◌≡◌, ℕ, List, length, Option, Some, refl, ◌∙◌, sym, ap, subst, arith}
-use Rattle.pdl_buf.specs.Buffer.{Kept}
+use Rattle.pdl_buf.specs.Buffer.{TypedElements}
 use Rattle.pdl_shape.specs.Shape.{size_of}
 use Rattle.pdl_shape.specs.Places.{read, AllBelow}
 use Rattle.pdl_shape.specs.Triple.{Triple}
@@ -27,9 +27,9 @@ pub returns-clause-ok : goal.returns-clause-ok
 returns-clause-ok g c =
     let p : c.deref-2.result.now ≡ places_of c.args.table.now c.args.id = c.deref-2.ensures.value ∙ c.in_ok-places.ensures in
     let q : c.new.result ≡ places_of c.args.table.now c.args.id = c.new.ensures ∙ c.in_ok-places.ensures in
-    let k : c.kept.result.now.elems ≡ (row_at c.args.table.now (row_at c.args.table.now c.args.id).root).kept = (ap (λ (k : Kept). k.elems) c.kept.ensures ∙ ap (λ (r : Row). r.kept) c.node-root.ensures ∙ ap (λ x. (row_at c.args.table.now x).kept) (c.root.ensures ∙ ap (λ (r : Row). r.root) c.node-node.ensures)) in
+    let k : c.kept.result.now.elems ≡ (row_at c.args.table.now (row_at c.args.table.now c.args.id).root).kept = (ap (λ (k : TypedElements). k.elems) c.kept.ensures ∙ ap (λ (r : Row). r.kept) c.node-root.ensures ∙ ap (λ x. (row_at c.args.table.now x).kept) (c.root.ensures ∙ ap (λ (r : Row). r.root) c.node-node.ensures)) in
     on_ok c.fill.result (λ e. is_filled c.args.table.now c.fill.new.self (row_at c.args.table.now c.args.id).root c.args.id c.in_ok-kept.kept.elems c.in_ok-repeats.repeats (Some c.new.result) c.requires.outdated c.requires.known
-    (ap (λ (x : Kept). x.elems) c.in_ok-kept.ensures.ok ∙ ap (λ (ps : List (Option ℕ)). read ps c.kept.result.now.elems) p ∙ ap (read (places_of c.args.table.now c.args.id)) k)
+    (ap (λ (x : TypedElements). x.elems) c.in_ok-kept.ensures.ok ∙ ap (λ (ps : List (Option ℕ)). read ps c.kept.result.now.elems) p ∙ ap (read (places_of c.args.table.now c.args.id)) k)
     (c.in_ok-repeats.ensures ∙ ap has_repeats (c.deref.ensures.value ∙ c.in_ok-places.ensures))
     (record { some = refl; is = λ ps e. some_is c.new.result ps e ∙ q })
     e) c.fill.ensures.ok where
@@ -38,5 +38,5 @@ returns-clause-ok g c =
 
 pub fill-requires-clause-same_type : goal.fill-requires-clause-same_type
 fill-requires-clause-same_type g c =
-    ap (λ (k : Kept). k.ty) c.in_ok-kept.ensures.ok ∙ ap (λ (k : Kept). k.ty) c.kept.ensures ∙ ap (λ (r : Row). r.ty) c.node-root.ensures ∙ ap (λ x. (row_at c.args.table.now x).ty) (c.root.ensures ∙ ap (λ (r : Row). r.root) c.node-node.ensures)
+    ap (λ (k : TypedElements). k.ty) c.in_ok-kept.ensures.ok ∙ ap (λ (k : TypedElements). k.ty) c.kept.ensures ∙ ap (λ (r : Row). r.ty) c.node-root.ensures ∙ ap (λ x. (row_at c.args.table.now x).ty) (c.root.ensures ∙ ap (λ (r : Row). r.root) c.node-node.ensures)
     ∙ (is_seen c.args.table.now c.requires.outdated.order.still c.args.id c.requires.outdated.live).root_ty

@@ -1,5 +1,5 @@
 use Rattle.std.proofs.Common.{◌≡◌, ◌+◌, ◌≤◌, ◌∙◌, ap, subst, arith}
-use Rattle.pdl_buf.specs.Buffer.{Kept}
+use Rattle.pdl_buf.specs.Buffer.{TypedElements}
 use Rattle.pdl_shape.specs.Shape.{size_of}
 use Rattle.pdl_world.specs.Cut.{fitted}
 use Rattle.pdl_world.specs.World.{elements}
@@ -51,7 +51,7 @@ returns-clause-reshaped g c =
     let f : IsFreshly c.args.table.now c.refresh.new.table c.args.id = freshly c.args.table.now c.settle.new.table c.refresh.new.table c.args.id c.requires.order c.requires.sized c.requires.live c.settle.ensures.settled c.refresh.ensures.kept
     (path_first c.refresh.new.table c.args.id c.refresh.ensures.kept.order.still (c.refresh.ensures.kept.alike.has_is c.args.id ∙ c.settle.ensures.settled.ready.alike.has_is c.args.id ∙ c.requires.live) c.in_ok-refresh.ensures.fresh) in
     let es : c.in_ok-kept.kept.elems ≡ fitted (size_of c.args.dims.now) (elements (world_of c.refresh.new.table) c.args.id) =
-    ap (λ (k : Kept). k.elems) c.in_ok-kept.ensures.value ∙ ap (λ n. fitted n (elements (world_of c.refresh.new.table) c.args.id)) c.elements_of-count.ensures.count in
+    ap (λ (k : TypedElements). k.elems) c.in_ok-kept.ensures.value ∙ ap (λ n. fitted n (elements (world_of c.refresh.new.table) c.args.id)) c.elements_of-count.ensures.count in
     let can : CanReshape c.refresh.new.table c.args.id c.args.dims.now c.in_ok-kept.kept.elems = can_reshape c.args.table.now c.refresh.new.table c.args.id c.args.dims.now c.in_ok-kept.kept.elems f c.requires.viewless c.dims_list-limits.ensures.limits es in
     was_reshaped laws c.args.table.now c.refresh.new.table c.become_root.new.self c.args.id c.args.dims.now c.in_ok-kept.kept.elems c.requires.order c.requires.sized f can es c.become_root.ensures
 
@@ -61,7 +61,7 @@ returns-clause-ok g c =
     let f : IsFreshly c.args.table.now c.refresh.new.table c.args.id = freshly c.args.table.now c.settle.new.table c.refresh.new.table c.args.id c.requires.order c.requires.sized c.requires.live c.settle.ensures.settled c.refresh.ensures.kept
     (path_first c.refresh.new.table c.args.id c.refresh.ensures.kept.order.still (c.refresh.ensures.kept.alike.has_is c.args.id ∙ c.settle.ensures.settled.ready.alike.has_is c.args.id ∙ c.requires.live) c.in_ok-refresh.ensures.fresh) in
     let es : c.in_ok-kept.kept.elems ≡ fitted (size_of c.args.dims.now) (elements (world_of c.refresh.new.table) c.args.id) =
-    ap (λ (k : Kept). k.elems) c.in_ok-kept.ensures.value ∙ ap (λ n. fitted n (elements (world_of c.refresh.new.table) c.args.id)) c.elements_of-count.ensures.count in
+    ap (λ (k : TypedElements). k.elems) c.in_ok-kept.ensures.value ∙ ap (λ n. fitted n (elements (world_of c.refresh.new.table) c.args.id)) c.elements_of-count.ensures.count in
     let can : CanReshape c.refresh.new.table c.args.id c.args.dims.now c.in_ok-kept.kept.elems = can_reshape c.args.table.now c.refresh.new.table c.args.id c.args.dims.now c.in_ok-kept.kept.elems f c.requires.viewless c.dims_list-limits.ensures.limits es in
     reshaped_world laws c.args.table.now c.refresh.new.table c.become_root.new.self c.args.id c.args.dims.now c.in_ok-kept.kept.elems f can es c.become_root.ensures
 

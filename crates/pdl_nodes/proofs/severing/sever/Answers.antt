@@ -1,5 +1,5 @@
 use Rattle.std.proofs.Common.{◌≡◌, ◌+◌, ◌≤◌, sym, ◌∙◌, ap, subst, arith}
-use Rattle.pdl_buf.specs.Buffer.{Kept}
+use Rattle.pdl_buf.specs.Buffer.{TypedElements}
 use Rattle.pdl_shape.specs.Shape.{size_of}
 use Rattle.pdl_shape.specs.Triple.{Triple}
 use Rattle.pdl_world.specs.World.{elements}
@@ -47,7 +47,7 @@ cut-requires-clause-can g c =
     let es : c.in_ok-kept.kept.elems ≡ elements (world_of c.refresh.new.table) c.args.id =
     first_all c.refresh.new.table c.args.id c.elements_of-count.result c.copy_dims-dims.result c.in_ok-kept.kept.elems c.refresh.ensures.kept.order.still
     (c.refresh.ensures.kept.alike.has_is c.args.id ∙ c.settle.ensures.settled.ready.alike.has_is c.args.id ∙ c.requires.live)
-    c.elements_of-count.ensures.count (c.copy_dims-dims.ensures ∙ ap (λ (t : Triple). t.dims) (c.behind-node.view_is ∙ c.triple.ensures ∙ ap (λ (r : Row). r.triple) c.node-2.ensures)) (ap (λ (k : Kept). k.elems) c.in_ok-kept.ensures.value) in
+    c.elements_of-count.ensures.count (c.copy_dims-dims.ensures ∙ ap (λ (t : Triple). t.dims) (c.behind-node.view_is ∙ c.triple.ensures ∙ ap (λ (r : Row). r.triple) c.node-2.ensures)) (ap (λ (k : TypedElements). k.elems) c.in_ok-kept.ensures.value) in
     let f : IsFreshly c.args.table.now c.refresh.new.table c.args.id = freshly c.args.table.now c.settle.new.table c.refresh.new.table c.args.id c.requires.order c.requires.sized c.requires.live c.settle.ensures.settled c.refresh.ensures.kept
     (path_first c.refresh.new.table c.args.id c.refresh.ensures.kept.order.still (c.refresh.ensures.kept.alike.has_is c.args.id ∙ c.settle.ensures.settled.ready.alike.has_is c.args.id ∙ c.requires.live) c.in_ok-refresh.ensures.fresh) in
     can_cut c.args.table.now c.refresh.new.table c.args.id c.copy_dims-dims.result c.in_ok-kept.kept.elems f
@@ -63,7 +63,7 @@ returns-clause-severed g c =
     let es : c.in_ok-kept.kept.elems ≡ elements (world_of c.refresh.new.table) c.args.id =
     first_all c.refresh.new.table c.args.id c.elements_of-count.result c.copy_dims-dims.result c.in_ok-kept.kept.elems c.refresh.ensures.kept.order.still
     (c.refresh.ensures.kept.alike.has_is c.args.id ∙ c.settle.ensures.settled.ready.alike.has_is c.args.id ∙ c.requires.live)
-    c.elements_of-count.ensures.count (c.copy_dims-dims.ensures ∙ ap (λ (t : Triple). t.dims) (c.behind-node.view_is ∙ c.triple.ensures ∙ ap (λ (r : Row). r.triple) c.node-2.ensures)) (ap (λ (k : Kept). k.elems) c.in_ok-kept.ensures.value) in
+    c.elements_of-count.ensures.count (c.copy_dims-dims.ensures ∙ ap (λ (t : Triple). t.dims) (c.behind-node.view_is ∙ c.triple.ensures ∙ ap (λ (r : Row). r.triple) c.node-2.ensures)) (ap (λ (k : TypedElements). k.elems) c.in_ok-kept.ensures.value) in
     let laws : CutFacts = record { severs = c.cut_row_laws.ensures.severs; families = c.cut_row_laws.ensures.families; settled = c.cut_row_laws.ensures.settled; known = c.cut_row_laws.ensures.known; sized = c.cut_row_laws.ensures.sized } in
     let f : IsFreshly c.args.table.now c.refresh.new.table c.args.id = freshly c.args.table.now c.settle.new.table c.refresh.new.table c.args.id c.requires.order c.requires.sized c.requires.live c.settle.ensures.settled c.refresh.ensures.kept
     (path_first c.refresh.new.table c.args.id c.refresh.ensures.kept.order.still (c.refresh.ensures.kept.alike.has_is c.args.id ∙ c.settle.ensures.settled.ready.alike.has_is c.args.id ∙ c.requires.live) c.in_ok-refresh.ensures.fresh) in
@@ -78,7 +78,7 @@ returns-clause-ok g c =
     let es : c.in_ok-kept.kept.elems ≡ elements (world_of c.refresh.new.table) c.args.id =
     first_all c.refresh.new.table c.args.id c.elements_of-count.result c.copy_dims-dims.result c.in_ok-kept.kept.elems c.refresh.ensures.kept.order.still
     (c.refresh.ensures.kept.alike.has_is c.args.id ∙ c.settle.ensures.settled.ready.alike.has_is c.args.id ∙ c.requires.live)
-    c.elements_of-count.ensures.count (c.copy_dims-dims.ensures ∙ ap (λ (t : Triple). t.dims) (c.behind-node.view_is ∙ c.triple.ensures ∙ ap (λ (r : Row). r.triple) c.node-2.ensures)) (ap (λ (k : Kept). k.elems) c.in_ok-kept.ensures.value) in
+    c.elements_of-count.ensures.count (c.copy_dims-dims.ensures ∙ ap (λ (t : Triple). t.dims) (c.behind-node.view_is ∙ c.triple.ensures ∙ ap (λ (r : Row). r.triple) c.node-2.ensures)) (ap (λ (k : TypedElements). k.elems) c.in_ok-kept.ensures.value) in
     let laws : CutFacts = record { severs = c.cut_row_laws.ensures.severs; families = c.cut_row_laws.ensures.families; settled = c.cut_row_laws.ensures.settled; known = c.cut_row_laws.ensures.known; sized = c.cut_row_laws.ensures.sized } in
     let f : IsFreshly c.args.table.now c.refresh.new.table c.args.id = freshly c.args.table.now c.settle.new.table c.refresh.new.table c.args.id c.requires.order c.requires.sized c.requires.live c.settle.ensures.settled c.refresh.ensures.kept
     (path_first c.refresh.new.table c.args.id c.refresh.ensures.kept.order.still (c.refresh.ensures.kept.alike.has_is c.args.id ∙ c.settle.ensures.settled.ready.alike.has_is c.args.id ∙ c.requires.live) c.in_ok-refresh.ensures.fresh) in
@@ -116,7 +116,7 @@ returns-clause-settled g c = λ n.
     let es : c.in_ok-kept.kept.elems ≡ elements (world_of c.refresh.new.table) c.args.id =
     first_all c.refresh.new.table c.args.id c.elements_of-count.result c.copy_dims-dims.result c.in_ok-kept.kept.elems c.refresh.ensures.kept.order.still
     (c.refresh.ensures.kept.alike.has_is c.args.id ∙ c.settle.ensures.settled.ready.alike.has_is c.args.id ∙ c.requires.live)
-    c.elements_of-count.ensures.count (c.copy_dims-dims.ensures ∙ ap (λ (t : Triple). t.dims) (c.behind-node.view_is ∙ c.triple.ensures ∙ ap (λ (r : Row). r.triple) c.node-2.ensures)) (ap (λ (k : Kept). k.elems) c.in_ok-kept.ensures.value) in
+    c.elements_of-count.ensures.count (c.copy_dims-dims.ensures ∙ ap (λ (t : Triple). t.dims) (c.behind-node.view_is ∙ c.triple.ensures ∙ ap (λ (r : Row). r.triple) c.node-2.ensures)) (ap (λ (k : TypedElements). k.elems) c.in_ok-kept.ensures.value) in
     let laws : CutFacts = record { severs = c.cut_row_laws.ensures.severs; families = c.cut_row_laws.ensures.families; settled = c.cut_row_laws.ensures.settled; known = c.cut_row_laws.ensures.known; sized = c.cut_row_laws.ensures.sized } in
     let f : IsFreshly c.args.table.now c.refresh.new.table c.args.id = freshly c.args.table.now c.settle.new.table c.refresh.new.table c.args.id c.requires.order c.requires.sized c.requires.live c.settle.ensures.settled c.refresh.ensures.kept
     (path_first c.refresh.new.table c.args.id c.refresh.ensures.kept.order.still (c.refresh.ensures.kept.alike.has_is c.args.id ∙ c.settle.ensures.settled.ready.alike.has_is c.args.id ∙ c.requires.live) c.in_ok-refresh.ensures.fresh) in

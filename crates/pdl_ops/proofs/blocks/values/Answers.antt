@@ -1,7 +1,7 @@
 -- One block more of the values is made, or has the first divisor 0.
 use Rattle.std.proofs.Common.{◌≡◌, ℕ, ◌<◌, ℤ, List, length, length-append, take, drop, map, All, arith, ap, sym, subst, ◌∙◌, None}
 use Rattle.std.proofs.lemmas.List.{length-map}
-use Rattle.pdl_buf.specs.Buffer.{Kept}
+use Rattle.pdl_buf.specs.Buffer.{TypedElements}
 use Rattle.pdl_elem.specs.Blocks.{pairwise, zero_at}
 use Rattle.pdl_elem.specs.Numbers.{wrapped}
 use Rattle.pdl_elem.specs.Operators.{value_of}
@@ -43,8 +43,8 @@ loop-done-preserved c =
       some = λ more. omega (arith, some, ap (λ (zs : List ℤ). length zs) c.deref.ensures.value);
       left = ap (λ (zs : List ℤ). length zs) (written _ c.values_block-found.new.left _ left) ∙ omega arith ∙ sym (ap (λ (zs : List ℤ). length zs) (written _ c.values_block-found.new.into _ whole));
       right = ap (λ (zs : List ℤ). length zs) (written _ c.values_block-found.new.right _ right) ∙ omega arith ∙ sym (ap (λ (zs : List ℤ). length zs) (written _ c.values_block-found.new.into _ whole));
-      ty = ap (λ (p : Kept). p.ty) c.in_ok-extend.ensures.ok ∙ c.loop-done.invariant.ty;
-      count = omega (arith, ap (λ (zs : List ℤ). length zs) c.deref.ensures.value, ap (λ (p : Kept). length p.elems) c.in_ok-extend.ensures.ok, length-append c.loop-done.made.elems c.deref.result.now);
+      ty = ap (λ (p : TypedElements). p.ty) c.in_ok-extend.ensures.ok ∙ c.loop-done.invariant.ty;
+      count = omega (arith, ap (λ (zs : List ℤ). length zs) c.deref.ensures.value, ap (λ (p : TypedElements). length p.elems) c.in_ok-extend.ensures.ok, length-append c.loop-done.made.elems c.deref.result.now);
       made = made_more c.args.op c.args.ty (map f xs) (map f bs) _ _ _ us vs k n (omega (arith, l, m)) (omega (arith, m, ap size_of c.strided_dims.ensures.dims)) c.loop-done.invariant.made
-          (block_map f xs k n) (block_map f bs k n) v z (subst (All (InRange (binary_result c.args.op c.args.ty c.args.ty))) (sym block) c.in_default.ensures.in_range) (ap (λ (p : Kept). p.elems) c.in_ok-extend.ensures.ok);
+          (block_map f xs k n) (block_map f bs k n) v z (subst (All (InRange (binary_result c.args.op c.args.ty c.args.ty))) (sym block) c.in_default.ensures.in_range) (ap (λ (p : TypedElements). p.elems) c.in_ok-extend.ensures.ok);
     }

@@ -1,6 +1,6 @@
 -- One block more is changed.
 use Rattle.std.proofs.Common.{◌≡◌, ℕ, ◌<◌, ℤ, List, length, length-append, take, drop, map, All, arith, ap, ap₂, sym, subst, ◌∙◌}
-use Rattle.pdl_buf.specs.Buffer.{Kept}
+use Rattle.pdl_buf.specs.Buffer.{TypedElements}
 use Rattle.pdl_elem.specs.declared.Ty.{Ty}
 use Rattle.pdl_elem.specs.Types.{InRange}
 use Rattle.pdl_ops.specs.Changes.{changed, changed_type}
@@ -28,7 +28,7 @@ loop-done-preserved c =
     record {
       inside = omega arith;
       some = λ more. omega (arith, some, ap (λ (xs : List ℤ). length xs) c.deref.ensures.value);
-      ty = ap (λ (p : Kept). p.ty) c.in_ok-extend.ensures.ok ∙ c.loop-done.invariant.ty;
-      count = omega (arith, ap (λ (zs : List ℤ). length zs) c.deref.ensures.value, ap (λ (p : Kept). length p.elems) c.in_ok-extend.ensures.ok, length-append c.loop-done.made.elems c.deref.result.now);
-      made = changed_more (changed c.args.change c.args.a.now.ty) (InRange (changed_type c.args.change c.args.a.now.ty)) es _ _ _ k n c.loop-done.invariant.made e h (ap (λ (p : Kept). p.elems) c.in_ok-extend.ensures.ok);
+      ty = ap (λ (p : TypedElements). p.ty) c.in_ok-extend.ensures.ok ∙ c.loop-done.invariant.ty;
+      count = omega (arith, ap (λ (zs : List ℤ). length zs) c.deref.ensures.value, ap (λ (p : TypedElements). length p.elems) c.in_ok-extend.ensures.ok, length-append c.loop-done.made.elems c.deref.result.now);
+      made = changed_more (changed c.args.change c.args.a.now.ty) (InRange (changed_type c.args.change c.args.a.now.ty)) es _ _ _ k n c.loop-done.invariant.made e h (ap (λ (p : TypedElements). p.elems) c.in_ok-extend.ensures.ok);
     }

@@ -3,7 +3,7 @@ use Rattle.std.proofs.Common.{◌≡◌, ℕ, ◌+◌, ◌<◌, ◌≤◌, ℤ, 
 use Rattle.std.proofs.lemmas.List.{length-map}
 use Rattle.std.proofs.lemmas.List.FromFn.{length-map-range_with_len}
 use Rattle.std.specs.List.{range_with_len}
-use Rattle.pdl_buf.specs.Buffer.{Kept}
+use Rattle.pdl_buf.specs.Buffer.{TypedElements}
 use Rattle.pdl_elem.specs.Numbers.{wrapped}
 use Rattle.pdl_elem.specs.Types.{InRange}
 use Rattle.pdl_elem.specs.declared.Ty.{Ty}
@@ -44,8 +44,8 @@ loop-done-preserved c =
     record {
       inside = omega (arith, inside, c.elements_of-count.ensures.count, ap size_of c.dims_list-sizes.ensures.list);
       some = λ more. omega (arith, some, ap length c.deref.ensures.value, wrapped_length, ap length block);
-      ty = ap (λ (p : Kept). p.ty) c.in_ok-extend.ensures.ok ∙ c.loop-done.invariant.ty;
-      made = changed_more (wrapped ty) (InRange ty) xs _ _ _ k n c.loop-done.invariant.made made (subst (All (InRange ty)) (sym block) c.rewrap.ensures.in_range) (ap (λ (p : Kept). p.elems) c.in_ok-extend.ensures.ok);
+      ty = ap (λ (p : TypedElements). p.ty) c.in_ok-extend.ensures.ok ∙ c.loop-done.invariant.ty;
+      made = changed_more (wrapped ty) (InRange ty) xs _ _ _ k n c.loop-done.invariant.made made (subst (All (InRange ty)) (sym block) c.rewrap.ensures.in_range) (ap (λ (p : TypedElements). p.elems) c.in_ok-extend.ensures.ok);
     }
 
 -- all elements are made

@@ -2,7 +2,7 @@
 use Rattle.std.proofs.Common.{ℕ, List, ◌+◌, ◌-◌, ◌<◌, ◌++◌, ◌∷◌, [], length, take, drop, get_or, arith, ap, sym, ◌∙◌}
 use Rattle.std.specs.Prelude.{decimal}
 use Rattle.pdl_print.proofs.Texts.{join_more, grown, rest_at}
-use Rattle.pdl_print.specs.Printed.{joined}
+use Rattle.pdl_print.specs.Printed.{decimals_joined}
 use Rattle.pdl_print.proofs.pieces.push_sizes.Goals as goal
 
 pub loop-size-preserved : goal.loop-size-preserved
@@ -13,6 +13,6 @@ loop-size-preserved c =
     let step = join_more c.args.byte decimal xs (k + 1) 0 (omega arith) h in
     c.in_ok-push_size-2.ensures.ok
     ∙ ap (λ (t : List ℕ). t ++ decimal (get_or (take (length xs - 1) (drop 1 xs)) k 0)) (c.in_ok-push.ensures.items ∙ ap (λ (t : List ℕ). t ++ c.args.byte ∷ []) c.loop-size.invariant)
-    ∙ grown c.args.into.now.items (joined c.args.byte (take (k + 1) xs)) (c.args.byte ∷ []) (decimal (get_or (take (length xs - 1) (drop 1 xs)) k 0))
-    ∙ ap (λ (n : ℕ). c.args.into.now.items ++ (joined c.args.byte (take (k + 1) xs) ++ c.args.byte ∷ decimal n)) (rest_at xs k h)
+    ∙ grown c.args.into.now.items (decimals_joined c.args.byte (take (k + 1) xs)) (c.args.byte ∷ []) (decimal (get_or (take (length xs - 1) (drop 1 xs)) k 0))
+    ∙ ap (λ (n : ℕ). c.args.into.now.items ++ (decimals_joined c.args.byte (take (k + 1) xs) ++ c.args.byte ∷ decimal n)) (rest_at xs k h)
     ∙ ap (λ (t : List ℕ). c.args.into.now.items ++ t) (sym step)

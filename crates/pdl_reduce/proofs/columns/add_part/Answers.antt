@@ -5,7 +5,7 @@ use Rattle.std.specs.Int.{w64}
 use Rattle.pdl_reduce.specs.Reductions.{nth_list}
 use Rattle.std.proofs.lemmas.List.{length-map, get_or-map}
 use Rattle.pdl_elem.specs.Numbers.{wrapped}
-use Rattle.pdl_buf.specs.Buffer.{Kept}
+use Rattle.pdl_buf.specs.Buffer.{TypedElements}
 use Rattle.pdl_reduce.specs.Across.{come_to}
 use Rattle.pdl_reduce.proofs.Across.{part_is}
 use Rattle.pdl_reduce.proofs.columns.add_part.Goals as goal
@@ -22,7 +22,7 @@ returns-clause-value g c =
     let folded : length xs ≡ n = omega arith in
     let mapped : length (map (wrapped c.args.ty) xs) ≡ length xs = simp length-map in
     let long : length ys ≡ n = ap (λ (zs : List ℤ). length zs) c.wrap_all.ensures.value ∙ mapped ∙ folded in
-    ap (λ (p : Kept). p.elems) c.in_ok-extend.ensures.ok
+    ap (λ (p : TypedElements). p.elems) c.in_ok-extend.ensures.ok
     ∙ ap (λ (zs : List ℤ). c.args.made.now.elems ++ zs)
     (part_is (come_to c.args.ty f c.args.start size es) ys first n long
     (λ j h.

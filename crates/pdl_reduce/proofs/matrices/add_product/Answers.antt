@@ -2,7 +2,7 @@
 use Rattle.std.proofs.Common.{◌≡◌, ◌<◌, ◌+◌, ◌*◌, ◌++◌, ℕ, ℤ, pos, List, map, get_or, length, arith, ap, ap₂, sym, ◌∙◌, append_assoc}
 use Rattle.std.specs.List.{range_with_len}
 use Rattle.std.proofs.lemmas.List.{length-map, get_or-map}
-use Rattle.pdl_buf.specs.Buffer.{Kept}
+use Rattle.pdl_buf.specs.Buffer.{TypedElements}
 use Rattle.pdl_elem.specs.Numbers.{wrapped}
 use Rattle.pdl_reduce.specs.Blocks.{product_at, sum_at}
 use Rattle.pdl_reduce.proofs.Matrix.{range_more, row_of, column_of}
@@ -29,8 +29,8 @@ loop-i-preserved c =
     let more : i * s.width + s.width ≡ (i + 1) * s.width = omega arith in
     record {
       width = size;
-      ty = ap (λ (p : Kept). p.ty) c.in_ok-extend.ensures.ok ∙ c.loop-i.invariant.ty;
-      made = ap (λ (p : Kept). p.elems) c.in_ok-extend.ensures.ok ∙ ap (λ (zs : List ℤ). zs ++ ys) c.loop-i.invariant.made
+      ty = ap (λ (p : TypedElements). p.ty) c.in_ok-extend.ensures.ok ∙ c.loop-i.invariant.ty;
+      made = ap (λ (p : TypedElements). p.elems) c.in_ok-extend.ensures.ok ∙ ap (λ (zs : List ℤ). zs ++ ys) c.loop-i.invariant.made
           ∙ append_assoc c.args.made.now.elems (map P (range_with_len 0 (i * s.width))) ys
           ∙ ap (λ (zs : List ℤ). c.args.made.now.elems ++ zs) (sym (range_more P (i * s.width) s.width ys size element) ∙ ap (λ (n : ℕ). map P (range_with_len 0 n)) more);
     }

@@ -3,10 +3,10 @@ use Rattle.std.proofs.Common.{◌≡◌, ◌<◌, ◌+◌, ◌*◌, ◌++◌, �
 use Rattle.std.specs.Prelude.{slice_get}
 use Rattle.std.specs.List.{range_with_len}
 use Rattle.pdl_broadcast.specs.Walk.{Walk}
-use Rattle.pdl_buf.specs.Buffer.{Kept}
+use Rattle.pdl_buf.specs.Buffer.{TypedElements}
 use Rattle.pdl_shape.specs.Shape.{size_of}
 use Rattle.pdl_shape.specs.Stretched.{stretched_position}
-use Rattle.pdl_shape.specs.Triple.{whole}
+use Rattle.pdl_shape.specs.Triple.{whole_triple}
 use Rattle.pdl_reduce.specs.Blocks.{block_at, product_at, products_at}
 use Rattle.pdl_reduce.proofs.Meets.{products_more, block_read}
 use Rattle.pdl_reduce.proofs.Results.{row_inside}
@@ -23,15 +23,15 @@ loop-q-init c =
       row = omega (arith, c.as_mut_slice-row.ensures.len, c.in_ok-row_room.ensures.len);
       left_held = tt;
       right_held = tt;
-      ty = ap (λ (p : Kept). p.ty) c.requires.empty;
-      made = ap (λ (p : Kept). p.elems) c.requires.empty ∙ ap (λ (m : ℕ). map P (range_with_len 0 m)) none;
+      ty = ap (λ (p : TypedElements). p.ty) c.requires.empty;
+      made = ap (λ (p : TypedElements). p.elems) c.requires.empty ∙ ap (λ (m : ℕ). map P (range_with_len 0 m)) none;
     }
 
 pub hold_block-requires-clause-within : goal.hold_block-requires-clause-within
 hold_block-requires-clause-within c =
     let n : ℕ = length c.loop-q.left_block in
     let ds : List ℕ = c.args.left_sizes.now in
-    let there : slice_get c.loop-q.walk.triples 0 ≡ Some (whole ds) = ap (λ (w : Walk). slice_get w.triples 0) c.loop-q.invariant.walk in
+    let there : slice_get c.loop-q.walk.triples 0 ≡ Some (whole_triple ds) = ap (λ (w : Walk). slice_get w.triples 0) c.loop-q.invariant.walk in
     let below : c.position_at-first.result < size_of ds = c.position_at-first.ensures.within ds there in
     let all : length c.args.left.now.elems ≡ size_of ds * n = c.requires.ready.left_count ∙ ap (λ (m : ℕ). size_of ds * m) (sym c.loop-q.invariant.left) in
     omega (arith, row_inside c.position_at-first.result (size_of ds) n below, all)
@@ -40,7 +40,7 @@ pub hold_block-requires-in-loop-q-clause-within : goal.hold_block-requires-in-lo
 hold_block-requires-in-loop-q-clause-within c =
     let n : ℕ = length c.loop-q.right_block in
     let ds : List ℕ = c.args.right_sizes.now in
-    let there : slice_get c.loop-q.walk.triples 1 ≡ Some (whole ds) = ap (λ (w : Walk). slice_get w.triples 1) c.loop-q.invariant.walk in
+    let there : slice_get c.loop-q.walk.triples 1 ≡ Some (whole_triple ds) = ap (λ (w : Walk). slice_get w.triples 1) c.loop-q.invariant.walk in
     let below : c.position_at-second.result < size_of ds = c.position_at-second.ensures.within ds there in
     let all : length c.args.right.now.elems ≡ size_of ds * n = c.requires.ready.right_count ∙ ap (λ (m : ℕ). size_of ds * m) (sym c.loop-q.invariant.right) in
     omega (arith, row_inside c.position_at-second.result (size_of ds) n below, all)
@@ -54,8 +54,8 @@ loop-q-preserved c =
     let joined : List ℕ = c.args.joined.now in
     let les : List ℤ = c.args.left.now.elems in
     let res : List ℤ = c.args.right.now.elems in
-    let left_there : slice_get c.loop-q.walk.triples 0 ≡ Some (whole ls) = ap (λ (w : Walk). slice_get w.triples 0) c.loop-q.invariant.walk in
-    let right_there : slice_get c.loop-q.walk.triples 1 ≡ Some (whole rs) = ap (λ (w : Walk). slice_get w.triples 1) c.loop-q.invariant.walk in
+    let left_there : slice_get c.loop-q.walk.triples 0 ≡ Some (whole_triple ls) = ap (λ (w : Walk). slice_get w.triples 0) c.loop-q.invariant.walk in
+    let right_there : slice_get c.loop-q.walk.triples 1 ≡ Some (whole_triple rs) = ap (λ (w : Walk). slice_get w.triples 1) c.loop-q.invariant.walk in
     let left_at : c.position_at-first.result ≡ stretched_position ls joined q =
     c.position_at-first.ensures.position ls left_there ∙ ap (λ (w : Walk). stretched_position ls w.dims w.index) c.loop-q.invariant.walk in
     let right_at : c.position_at-second.result ≡ stretched_position rs joined q =

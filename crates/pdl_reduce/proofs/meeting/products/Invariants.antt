@@ -1,13 +1,13 @@
 -- The products at the places before this one are made.
 use Rattle.std.proofs.Common.{◌≡◌, ◌*◌, [], ◌∷◌, map, length}
 use Rattle.std.specs.List.{range_with_len}
-use Rattle.pdl_shape.specs.Triple.{whole}
+use Rattle.pdl_shape.specs.Triple.{whole_triple}
 use Rattle.pdl_reduce.specs.Blocks.{IsHeld, products_at}
 use Rattle.pdl_reduce.proofs.meeting.products.Given as goal
 
 abbrev pub invariant-loop-q : goal.invariant-loop-q
 invariant-loop-q l = record {
-  walk : l.walk ≡ record { dims = l.joined; triples = whole l.left_sizes ∷ whole l.right_sizes ∷ []; index = l._q };
+  walk : l.walk ≡ record { dims = l.joined; triples = whole_triple l.left_sizes ∷ whole_triple l.right_sizes ∷ []; index = l._q };
   left : length l.left_block ≡ l.sizes.left_depth * l.sizes.height;
   right : length l.right_block ≡ l.sizes.width * l.sizes.right_depth;
   left_held : IsHeld l.ty l.left.elems l.left_held l.left_block;

@@ -6,7 +6,7 @@ use Rattle.std.proofs.lemmas.List.FromFn.{length-map-range_with_len}
 use Rattle.pdl_elem.specs.Types.{InRange}
 use Rattle.pdl_shape.specs.Shape.{size_of}
 use Rattle.pdl_sig.specs.declared.Resolved.{Resolved}
-use Rattle.pdl_buf.specs.Buffer.{Kept}
+use Rattle.pdl_buf.specs.Buffer.{TypedElements}
 use Rattle.pdl_buf.specs.Made.{array_of}
 use Rattle.pdl_reduce.specs.Pairings.{paired_dims, paired_element}
 use Rattle.pdl_reduce.proofs.Resolved.{three_shapes}
@@ -20,7 +20,7 @@ returns-clause-made c =
     let r : Resolved = c.in_ok-resolved.resolved in
     let at : ℕ → ℤ = paired_element c.args.kind r (array_of c.args.a.now) (array_of c.args.b.now) in
     let n : ℕ = size_of (paired_dims r) in
-    let elems : c.packed.result ≡ map at (range_with_len 0 n) = c.packed.ensures ∙ ap (λ (p : Kept). p.elems) c.in_ok-made.ensures in
+    let elems : c.packed.result ≡ map at (range_with_len 0 n) = c.packed.ensures ∙ ap (λ (p : TypedElements). p.elems) c.in_ok-made.ensures in
     record {
       count = ap (λ (xs : List ℤ). length xs) elems ∙ length-map-range_with_len at 0 n ∙ ap size_of (sym c.output_dims.ensures);
       in_range = subst (All (InRange r.generic)) (sym elems) (All-map (InRange r.generic) at (range_with_len 0 n) (λ k d below. c.wrapping_laws.ensures.in_range r.generic _));

@@ -1,6 +1,6 @@
 -- One block more is copied.
 use Rattle.std.proofs.Common.{◌≡◌, ℕ, ◌<◌, ℤ, List, length, take, drop, arith, ap, ◌∙◌}
-use Rattle.pdl_buf.specs.Numbers.{kept_in}
+use Rattle.pdl_buf.specs.Numbers.{elements_in}
 use Rattle.pdl_buf.proofs.Moved.{kept_more, written}
 use Rattle.pdl_buf.proofs.numbers.Numbers.copied.Goals as goal
 
@@ -8,7 +8,7 @@ pub loop-done-preserved : goal.loop-done-preserved
 loop-done-preserved c =
     let k : ℕ = c.loop-done.done in
     let n : ℕ = c.len-done.result in
-    let es : List ℤ = (kept_in c.args.self.now).elems in
+    let es : List ℤ = (elements_in c.args.self.now).elems in
     let read_length : length c.read_from.new.into ≡ c.truncate.new.self.len = omega arith in
     let size : length c.deref_mut.result.now ≡ n = omega arith in
     let read : c.read_from.new.into ≡ take n (drop k es) = c.read_from.ensures ∙ ap (λ (m : ℕ). take m (drop k es)) size in

@@ -2,7 +2,7 @@
 use Rattle.std.proofs.Common.{◌≡◌, ℕ, ◌+◌, ◌<◌, ℤ, List, length, take, drop, arith, ap, ◌∙◌}
 use Rattle.std.specs.Prelude.{◌-◌, Option}
 use Rattle.pdl_shape.specs.Places.{element_at, read}
-use Rattle.pdl_buf.specs.Numbers.{kept_in}
+use Rattle.pdl_buf.specs.Numbers.{elements_in}
 use Rattle.pdl_buf.proofs.Lists.{block_map}
 use Rattle.pdl_buf.proofs.Moved.{kept_more, written}
 use Rattle.pdl_buf.proofs.numbers.Numbers.gathered.Goals as goal
@@ -11,7 +11,7 @@ pub loop-done-preserved : goal.loop-done-preserved
 loop-done-preserved c =
     let k : ℕ = c.loop-done.done in
     let n : ℕ = c.len.result in
-    let es : List ℤ = (kept_in c.args.self.now).elems in
+    let es : List ℤ = (elements_in c.args.self.now).elems in
     let ps : List (Option ℕ) = c.args.places.now in
     let read_length : length c.read_at.new.into ≡ c.truncate.new.self.len = omega arith in
     let size : k + n - k ≡ n = omega arith in
@@ -22,5 +22,5 @@ loop-done-preserved c =
     record {
       inside = omega arith;
       some = λ more. omega (arith, some, ap length block, ap length c.deref.ensures.value);
-      kept = kept_more (kept_in c.args.self.now).ty _ _ (read ps es) c.deref.result.now k n c.loop-done.invariant.kept (block ∙ part) c.in_ok-extend.ensures.ok;
+      kept = kept_more (elements_in c.args.self.now).ty _ _ (read ps es) c.deref.result.now k n c.loop-done.invariant.kept (block ∙ part) c.in_ok-extend.ensures.ok;
     }

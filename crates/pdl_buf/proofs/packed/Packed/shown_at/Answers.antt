@@ -4,7 +4,7 @@ use Rattle.std.proofs.lemmas.Int.{to_z-of_z}
 use Rattle.std.specs.Int.{w64}
 use Rattle.std.specs.Prelude.{Option, Some}
 use Rattle.pdl_shape.specs.Places.{IsBelow, element_at}
-use Rattle.pdl_buf.specs.Window.{shown}
+use Rattle.pdl_buf.specs.Window.{shown_through}
 use Rattle.pdl_buf.proofs.Walking.{IsShown, shown_at, shown_element}
 use Rattle.pdl_buf.proofs.packed.Packed.shown_at.Goals as goal
 
@@ -21,5 +21,5 @@ pub returns-in-Some-clause-value : goal.returns-in-Some-clause-value
 returns-in-Some-clause-value g c =
     to_z-of_z w64 c.get.result (record { sfits = c.get.type_inv }) ∙ c.get.ensures.value
     ∙ ap (λ (p : ℕ). get_or c.args.self.now p (pos 0)) c.place.ensures.place
-    ∙ shown_element c.args.placement.now c.args.self.now (shown c.args.placement.now c.args.self.now) c.in-Some.position refl (below _ _ _ c.in-Some.is c.requires.within)
-    ∙ ap (element_at (shown c.args.placement.now c.args.self.now)) (sym c.in-Some.is)
+    ∙ shown_element c.args.placement.now c.args.self.now (shown_through c.args.placement.now c.args.self.now) c.in-Some.position refl (below _ _ _ c.in-Some.is c.requires.within)
+    ∙ ap (element_at (shown_through c.args.placement.now c.args.self.now)) (sym c.in-Some.is)

@@ -1,5 +1,5 @@
 use Rattle.std.proofs.Common.{◌∷◌, refl, sym, ◌∙◌, ap, subst, arith}
-use Rattle.pdl_buf.specs.Buffer.{Kept}
+use Rattle.pdl_buf.specs.Buffer.{TypedElements}
 use Rattle.pdl_world.specs.Sound.{IsSound}
 use Rattle.pdl_nodes.specs.Risen.{IsTight}
 use Rattle.pdl_nodes.specs.Row.{Row}
@@ -39,11 +39,11 @@ invariant_of-self-2 g c =
       bare = λ n. absurd (n refl);
       sized = record { triple = c.triple_laws.ensures.wholes c.args.dims.now c.dims_list-limits.ensures.limits; limits = c.dims_list-limits.ensures.limits; laid = tt };
       sound = c.growth_laws.ensures.sound (world_of c.self.inside.table) c.self.inside.next (root c.args.ty c.args.dims.now c.args.elems) c.self.invariant.0.sound (below_world c.self.inside.table c.self.inside.next c.self.invariant.0.below) (c.dims_list-limits.ensures.limits, c.requires);
-      beside = subst (λ (t : Rows). Beside t c.insert.new.holds) (c.in_ok-insert.ensures.ok ∙ ap (λ (r : Row). (c.self.inside.next, r) ∷ c.self.inside.table) (c.root_node-node.ensures ∙ ap (λ (k : Kept). root_row c.self.inside.next c.args.ty c.args.dims.now k.elems) c.in_ok-kept.ensures.ok)) c.insert.ensures.beside;
+      beside = subst (λ (t : Rows). Beside t c.insert.new.holds) (c.in_ok-insert.ensures.ok ∙ ap (λ (r : Row). (c.self.inside.next, r) ∷ c.self.inside.table) (c.root_node-node.ensures ∙ ap (λ (k : TypedElements). root_row c.self.inside.next c.args.ty c.args.dims.now k.elems) c.in_ok-kept.ensures.ok)) c.insert.ensures.beside;
       held = c.in_ok-insert.ensures.held;
       others = c.insert.ensures.others;
     }) in (
-      subst (λ (t : Rows). IsNodes t c.insert.new.holds c.in-Some.next) (sym (c.in_ok-insert.ensures.ok ∙ ap (λ (r : Row). (c.self.inside.next, r) ∷ c.self.inside.table) (c.root_node-node.ensures ∙ ap (λ (k : Kept). root_row c.self.inside.next c.args.ty c.args.dims.now k.elems) c.in_ok-kept.ensures.ok))) (grown_nodes c.self.inside.table c.self.inside.holds c.insert.new.holds c.self.inside.next c.in-Some.next (root_row c.self.inside.next c.args.ty c.args.dims.now c.args.elems) c.self.invariant.0 grown c.in-Some.ensures.1 (omega arith)),
+      subst (λ (t : Rows). IsNodes t c.insert.new.holds c.in-Some.next) (sym (c.in_ok-insert.ensures.ok ∙ ap (λ (r : Row). (c.self.inside.next, r) ∷ c.self.inside.table) (c.root_node-node.ensures ∙ ap (λ (k : TypedElements). root_row c.self.inside.next c.args.ty c.args.dims.now k.elems) c.in_ok-kept.ensures.ok))) (grown_nodes c.self.inside.table c.self.inside.holds c.insert.new.holds c.self.inside.next c.in-Some.next (root_row c.self.inside.next c.args.ty c.args.dims.now c.args.elems) c.self.invariant.0 grown c.in-Some.ensures.1 (omega arith)),
       subst (λ (t : Rows). IsTight c.self.inside.loose.items t c.insert.new.holds) (sym c.in_ok-insert.ensures.ok) (tight_grown c.self.inside.loose.items c.self.inside.table c.self.inside.holds c.insert.new.holds c.self.inside.next c.root_node-node.result c.in_ok-insert.ensures.held c.insert.ensures.others c.self.invariant.1),
     )
 
@@ -55,12 +55,12 @@ returns-clause-made g c =
       bare = λ n. absurd (n refl);
       sized = record { triple = c.triple_laws.ensures.wholes c.args.dims.now c.dims_list-limits.ensures.limits; limits = c.dims_list-limits.ensures.limits; laid = tt };
       sound = c.growth_laws.ensures.sound (world_of c.self.inside.table) c.self.inside.next (root c.args.ty c.args.dims.now c.args.elems) c.self.invariant.0.sound (below_world c.self.inside.table c.self.inside.next c.self.invariant.0.below) (c.dims_list-limits.ensures.limits, c.requires);
-      beside = subst (λ (t : Rows). Beside t c.insert.new.holds) (c.in_ok-insert.ensures.ok ∙ ap (λ (r : Row). (c.self.inside.next, r) ∷ c.self.inside.table) (c.root_node-node.ensures ∙ ap (λ (k : Kept). root_row c.self.inside.next c.args.ty c.args.dims.now k.elems) c.in_ok-kept.ensures.ok)) c.insert.ensures.beside;
+      beside = subst (λ (t : Rows). Beside t c.insert.new.holds) (c.in_ok-insert.ensures.ok ∙ ap (λ (r : Row). (c.self.inside.next, r) ∷ c.self.inside.table) (c.root_node-node.ensures ∙ ap (λ (k : TypedElements). root_row c.self.inside.next c.args.ty c.args.dims.now k.elems) c.in_ok-kept.ensures.ok)) c.insert.ensures.beside;
       held = c.in_ok-insert.ensures.held;
       others = c.insert.ensures.others;
     }) in
     subst (λ (s : State). Joins s c.self.inside.next (root c.args.ty c.args.dims.now c.args.elems) (state_of c.insert.new.table c.insert.new.holds c.in-Some.next)) c.self.view_is
-    (subst (λ (t : Rows). Joins (state_of c.self.inside.table c.self.inside.holds c.self.inside.next) c.self.inside.next (root c.args.ty c.args.dims.now c.args.elems) (state_of t c.insert.new.holds c.in-Some.next)) (sym (c.in_ok-insert.ensures.ok ∙ ap (λ (r : Row). (c.self.inside.next, r) ∷ c.self.inside.table) (c.root_node-node.ensures ∙ ap (λ (k : Kept). root_row c.self.inside.next c.args.ty c.args.dims.now k.elems) c.in_ok-kept.ensures.ok)))
+    (subst (λ (t : Rows). Joins (state_of c.self.inside.table c.self.inside.holds c.self.inside.next) c.self.inside.next (root c.args.ty c.args.dims.now c.args.elems) (state_of t c.insert.new.holds c.in-Some.next)) (sym (c.in_ok-insert.ensures.ok ∙ ap (λ (r : Row). (c.self.inside.next, r) ∷ c.self.inside.table) (c.root_node-node.ensures ∙ ap (λ (k : TypedElements). root_row c.self.inside.next c.args.ty c.args.dims.now k.elems) c.in_ok-kept.ensures.ok)))
     (subst (λ (d : ArrayDef). Joins (state_of c.self.inside.table c.self.inside.holds c.self.inside.next) c.self.inside.next d (state_of ((c.self.inside.next, (root_row c.self.inside.next c.args.ty c.args.dims.now c.args.elems)) ∷ c.self.inside.table) c.insert.new.holds c.in-Some.next)) refl (grown_state c.self.inside.table c.self.inside.holds c.insert.new.holds c.self.inside.next c.in-Some.next (root_row c.self.inside.next c.args.ty c.args.dims.now c.args.elems) c.self.invariant.0 grown c.in-Some.ensures.1)))
 
 pub returns-clause-sound : goal.returns-clause-sound
@@ -71,8 +71,8 @@ returns-clause-sound g c =
       bare = λ n. absurd (n refl);
       sized = record { triple = c.triple_laws.ensures.wholes c.args.dims.now c.dims_list-limits.ensures.limits; limits = c.dims_list-limits.ensures.limits; laid = tt };
       sound = c.growth_laws.ensures.sound (world_of c.self.inside.table) c.self.inside.next (root c.args.ty c.args.dims.now c.args.elems) c.self.invariant.0.sound (below_world c.self.inside.table c.self.inside.next c.self.invariant.0.below) (c.dims_list-limits.ensures.limits, c.requires);
-      beside = subst (λ (t : Rows). Beside t c.insert.new.holds) (c.in_ok-insert.ensures.ok ∙ ap (λ (r : Row). (c.self.inside.next, r) ∷ c.self.inside.table) (c.root_node-node.ensures ∙ ap (λ (k : Kept). root_row c.self.inside.next c.args.ty c.args.dims.now k.elems) c.in_ok-kept.ensures.ok)) c.insert.ensures.beside;
+      beside = subst (λ (t : Rows). Beside t c.insert.new.holds) (c.in_ok-insert.ensures.ok ∙ ap (λ (r : Row). (c.self.inside.next, r) ∷ c.self.inside.table) (c.root_node-node.ensures ∙ ap (λ (k : TypedElements). root_row c.self.inside.next c.args.ty c.args.dims.now k.elems) c.in_ok-kept.ensures.ok)) c.insert.ensures.beside;
       held = c.in_ok-insert.ensures.held;
       others = c.insert.ensures.others;
     }) in
-    subst (λ (t : Rows). IsSound (world_of t)) (sym (c.in_ok-insert.ensures.ok ∙ ap (λ (r : Row). (c.self.inside.next, r) ∷ c.self.inside.table) (c.root_node-node.ensures ∙ ap (λ (k : Kept). root_row c.self.inside.next c.args.ty c.args.dims.now k.elems) c.in_ok-kept.ensures.ok))) (grown_nodes c.self.inside.table c.self.inside.holds c.insert.new.holds c.self.inside.next c.in-Some.next (root_row c.self.inside.next c.args.ty c.args.dims.now c.args.elems) c.self.invariant.0 grown c.in-Some.ensures.1 (omega arith)).sound
+    subst (λ (t : Rows). IsSound (world_of t)) (sym (c.in_ok-insert.ensures.ok ∙ ap (λ (r : Row). (c.self.inside.next, r) ∷ c.self.inside.table) (c.root_node-node.ensures ∙ ap (λ (k : TypedElements). root_row c.self.inside.next c.args.ty c.args.dims.now k.elems) c.in_ok-kept.ensures.ok))) (grown_nodes c.self.inside.table c.self.inside.holds c.insert.new.holds c.self.inside.next c.in-Some.next (root_row c.self.inside.next c.args.ty c.args.dims.now c.args.elems) c.self.invariant.0 grown c.in-Some.ensures.1 (omega arith)).sound

@@ -1,5 +1,5 @@
 use Rattle.std.proofs.Common.{refl, ◌≡◌, Some, is_some, sym, ◌∙◌, ap, subst}
-use Rattle.pdl_buf.specs.Buffer.{Kept}
+use Rattle.pdl_buf.specs.Buffer.{TypedElements}
 use Rattle.pdl_shape.specs.Places.{write}
 use Rattle.pdl_nodes.specs.Row.{Row, parent_of, is_buffered}
 use Rattle.pdl_nodes.specs.Rows.{row_at, each}
@@ -32,7 +32,7 @@ pub put_over-requires-clause-buffered : goal.put_over-requires-clause-buffered
 put_over-requires-clause-buffered g c = ap is_buffered (lifted_root c.args.self.now c.self.inside.keys c.self.inside.nodes c.args.root c.args.base c.index-key.result.now c.index-at.result.now c.index_mut.result.now c.lift-kept.new.self c.index_mut-2.result.now c.self.view_is c.self.invariant.0.0 c.requires.view c.index-key.ensures c.index_mut.ensures.value c.lift-kept.ensures.left c.index-at.ensures c.index_mut-2.ensures.value) ∙ c.requires.view.root_buffered
 
 pub fill-requires : goal.fill-requires
-fill-requires g c = record { same_type = ap (λ (k : Kept). k.ty) c.lift-kept.ensures.kept ∙ ap (λ (r : Row). r.ty) (node_is c.args.self.now c.self.inside.keys c.self.inside.nodes c.args.base c.index-key.result.now c.index_mut.result.now c.self.view_is c.self.invariant.0.0 c.index-key.ensures c.index_mut.ensures.value) ∙ sym (back_type c.args.self.now c.self.inside.keys c.self.inside.nodes c.args.root c.args.base c.index-key.result.now c.index-at.result.now c.lift-kept.new.self c.put_over.new.self c.index_mut-3.result.now (write (placed_by (Some c.lift-kept.result.places) c.args.triple.now) c.args.values.now c.index_mut-2.result.now.kept) c.requires.view c.index-key.ensures (root_written c.args.self.now c.self.inside.keys c.self.inside.nodes c.args.root c.args.base c.index-key.result.now c.index-at.result.now c.index_mut.result.now c.lift-kept.new.self c.index_mut-2.result.now c.put_over.new.self (write (placed_by (Some c.lift-kept.result.places) c.args.triple.now) c.args.values.now c.index_mut-2.result.now.kept) c.self.view_is c.self.invariant.0.0 c.index-key.ensures c.index_mut.ensures.value c.lift-kept.ensures.left c.index-at.ensures c.index_mut-2.ensures.value c.put_over.ensures.value) c.index_mut-3.ensures.value) }
+fill-requires g c = record { same_type = ap (λ (k : TypedElements). k.ty) c.lift-kept.ensures.kept ∙ ap (λ (r : Row). r.ty) (node_is c.args.self.now c.self.inside.keys c.self.inside.nodes c.args.base c.index-key.result.now c.index_mut.result.now c.self.view_is c.self.invariant.0.0 c.index-key.ensures c.index_mut.ensures.value) ∙ sym (back_type c.args.self.now c.self.inside.keys c.self.inside.nodes c.args.root c.args.base c.index-key.result.now c.index-at.result.now c.lift-kept.new.self c.put_over.new.self c.index_mut-3.result.now (write (placed_by (Some c.lift-kept.result.places) c.args.triple.now) c.args.values.now c.index_mut-2.result.now.kept) c.requires.view c.index-key.ensures (root_written c.args.self.now c.self.inside.keys c.self.inside.nodes c.args.root c.args.base c.index-key.result.now c.index-at.result.now c.index_mut.result.now c.lift-kept.new.self c.index_mut-2.result.now c.put_over.new.self (write (placed_by (Some c.lift-kept.result.places) c.args.triple.now) c.args.values.now c.index_mut-2.result.now.kept) c.self.view_is c.self.invariant.0.0 c.index-key.ensures c.index_mut.ensures.value c.lift-kept.ensures.left c.index-at.ensures c.index_mut-2.ensures.value c.put_over.ensures.value) c.index_mut-3.ensures.value) }
 
 pub invariant_of-self : goal.invariant_of-self
 invariant_of-self g c =

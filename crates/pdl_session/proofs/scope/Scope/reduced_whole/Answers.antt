@@ -1,6 +1,6 @@
 use Rattle.std.proofs.Common.{◌≡◌, Result, sym, ap, subst, ◌∙◌}
 use Rattle.pdl_buf.specs.Made.{array_of}
-use Rattle.pdl_reduce.specs.Reductions.{whole}
+use Rattle.pdl_reduce.specs.Reductions.{whole_reduced}
 use Rattle.pdl_machine.specs.declared.fault.Fault.{Fault}
 use Rattle.pdl_machine.specs.Outcome.{Outcome as Placed}
 use Rattle.pdl_machine.specs.State.{State}
@@ -13,7 +13,7 @@ use Rattle.pdl_session.proofs.scope.Scope.reduced_whole.Goals as goal
 
 pub returns-in_ok-ready-in-Some-clause-value : goal.returns-in_ok-ready-in-Some-clause-value
 returns-in_ok-ready-in-Some-clause-value g c =
-    let f = whole c.args.kind in
+    let f = whole_reduced c.args.kind in
     let e = c.ready.new.engine in
     let a = c.args.self.now.arrays in
     let same : arrays_of e ≡ a = ap (λ (s : State). s.arrays) (readied (names_in c.self.inside.names c.self.inside.kernels) c.self.inside.engine e c.ready.ensures.same ∙ c.self.view_is) in
