@@ -9,7 +9,7 @@ abbrev mutual
   pub tree_of : Expr → Tree
   tree_of (Number z) = number z
   tree_of (Named n) = named n
-  tree_of (Listed m) = literal m.ty m.dims m.elems
+  tree_of (Listed m) = literal m.value.ty m.value.dims m.value.elems
   tree_of (Unary' op p e) = unary op (tree_of e)
   tree_of (Binary' op p a q b) = binary op (tree_of a) (tree_of b)
   tree_of (Call' name shape all) = call name (row_of all none)

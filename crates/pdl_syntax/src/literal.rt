@@ -1,6 +1,6 @@
 //! List literals as arrays.
 
-ghost use Rattle.std.specs.Prelude.{◌≡◌, ◌∷◌, [], suc, length, unwrap_or};
+ghost use Rattle.std.specs.Prelude.{◌≡◌, ◌∷◌, [], suc, length, IfOk, unwrap_or};
 ghost use Rattle.pdl_shape.specs.Shape.{IsDims};
 ghost use Rattle.pdl_lexemes.specs.ReadAnswers.{Gives};
 ghost use Rattle.pdl_lexemes.specs.Lists.{type_of};
@@ -15,7 +15,7 @@ use pdl_elem::Ty;
 use pdl_lexemes::list::Row;
 use pdl_lexemes::{Lexeme, Lexemes, Refusal, list};
 use pdl_shape::{Dims, dims_of};
-use std::alloc::Global;
+use std::alloc::{AllocError, Global};
 
 /// A list literal behind `pdl`, in round brackets or without.
 pub fn literal<'a>(alloc: Global, tokens: &Lexemes<'a>) -> Result<(Expr, Lexemes<'a>), Refusal>
@@ -24,7 +24,7 @@ pub fn literal<'a>(alloc: Global, tokens: &Lexemes<'a>) -> Result<(Expr, Lexemes
     match tokens.after(Lexeme::Open) {
         None => {
             let (row, rest) = list::read(alloc, tokens)?;
-            Ok((list_expr(alloc, row), rest))
+            Ok((list_expr(alloc, row)?, rest))
         }
         Some(inside) => round_literal(alloc, &inside),
     }
@@ -35,12 +35,12 @@ fn round_literal<'a>(alloc: Global, tokens: &Lexemes<'a>) -> Result<(Expr, Lexem
 {
     let (row, rest) = list::read(alloc, tokens)?;
     let rest = rest.after(Lexeme::Close).ok_or(Refusal::Refused)?;
-    Ok((list_expr(alloc, row), rest))
+    Ok((list_expr(alloc, row)?, rest))
 }
 
-fn list_expr(alloc: Global, row: Row) -> Expr
+fn list_expr(alloc: Global, row: Row) -> Result<Expr, AllocError>
     requires { IsDims (unwrap_or row.shape (suc (length row.elems.items) ∷ [])) }
-    ensures { tree_of result ≡ literal_of row.shape row.elems.items }
+    ensures { IfOk result (λ e. tree_of e ≡ literal_of row.shape row.elems.items) }
 {
     let Row { shape, elems } = row;
     let ty = type_of(elems.as_slice());
@@ -48,11 +48,13 @@ fn list_expr(alloc: Global, row: Row) -> Expr
         Some(sizes) => dims(alloc, sizes.list()),
         None => too_long(alloc, elems.len()),
     };
-    Expr::List(Made {
+    let made = Made {
         ty,
         dims,
         elems: Elements::new(elems),
-    })
+    };
+    let made = Box::new(alloc, made).map_err(AllocError::from)?;
+    Ok(Expr::List(made))
 }
 
 // The dimension of a ragged list, by which it is known: it is longer by one than the list has

@@ -24,7 +24,8 @@ pub enum Expr {
     /// A name, with its `$`.
     Named(Name),
     /// A list literal. The dimensions of a list of lists are those of its members, then its length.
-    List(Made),
+    /// In a box, since expressions are moved while they are read, and all others are small.
+    List(Box<Made>),
     Unary(UnaryOp, Box<Expr>),
     Binary(BinaryOp, Box<Expr>, Box<Expr>),
     Call(Name, Vec<Arg>),
