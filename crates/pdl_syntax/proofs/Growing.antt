@@ -1,17 +1,16 @@
 -- An expression is read by its first operand, and what goes on behind it.
-use Rattle.std.proofs.Common.{◌≡◌, ℕ, zero, suc, ◌≤◌, List, false, Option, Some, None, option_and_then, refl, ap, ◌∙◌, arith}
+use Rattle.std.proofs.Common.{◌≡◌, ℕ, zero, suc, ◌≤◌, List, Option, Some, None, option_and_then, refl, ap, ◌∙◌, arith}
 use Rattle.pdl_lexemes.specs.declared.Lexeme.{Lexeme}
 use Rattle.pdl_lexemes.specs.Peeks.{Read, prefix_at}
 use Rattle.pdl_syntax.specs.Tree.{Tree}
-use Rattle.pdl_syntax.specs.ExpressionReading.{Kind, operator_at, begins_operator, limit_of, chain_at, postfix_at, unary_at, level_at, grown_at}
+use Rattle.pdl_syntax.specs.ExpressionReading.{Kind, operator_at, limit_of, chain_at, postfix_at, unary_at, level_at, grown_at}
 use Rattle.pdl_syntax.proofs.Turns.{chain_stop_at}
-use Rattle.pdl_syntax.proofs.Peeks.{no_operator}
 
-then_some : {A : Type 0} (o : Option A) → o ≡ option_and_then (λ x. Some x) o
+pub then_some : {A : Type 0} (o : Option A) → o ≡ option_and_then (λ x. Some x) o
 then_some None = refl
 then_some (Some x) = refl
 
-then_then : {A B C : Type 0} (g : B → Option C) (h : A → Option B) (o : Option A) → option_and_then g (option_and_then h o) ≡ option_and_then (λ x. option_and_then g (h x)) o
+pub then_then : {A B C : Type 0} (g : B → Option C) (h : A → Option B) (o : Option A) → option_and_then g (option_and_then h o) ≡ option_and_then (λ x. option_and_then g (h x)) o
 then_then g h None = refl
 then_then g h (Some x) = refl
 
@@ -45,6 +44,3 @@ module _ (source : List ℕ) (f : Kind → List Lexeme → Read Tree) where
   grown_stop zero t ts none = refl
   grown_stop (suc l) t ts none =
       rw (grown_stop l t ts (λ j le. none j (omega arith))) (chain_stop_at (level_at source f l) (suc l) (limit_of (suc l) ts) t ts (none (suc l) (omega arith)))
-
-  pub grown_ends : (l : ℕ) (t : Tree) (ts : List Lexeme) → begins_operator l ts ≡ false → grown_at source f l t ts ≡ Some (t, ts)
-  grown_ends l t ts e = grown_stop l t ts (no_operator l ts e)

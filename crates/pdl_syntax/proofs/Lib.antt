@@ -11,4 +11,5 @@ pub mod StatementTurns
 pub mod Raggedness
 pub mod Arrays
 pub mod Growing
+pub mod Climbing
 pub mod Walks

@@ -1,6 +1,6 @@
 -- What a look at the front says of it.
-use Rattle.std.proofs.Common.{rules, ◌≡◌, ◌≤◌, ℕ, List, [], ◌∷◌, Option, Some, None, Bool, true, false, nat_eq, if◌then◌else◌, refl, ap, ◌∙◌, subst, eqb-true, eq-eqb, arith}
-use Rattle.std.proofs.lemmas.Bool.{leb-false}
+use Rattle.std.proofs.Common.{rules, ◌≡◌, ◌<◌, ◌≤◌, ℕ, List, [], ◌∷◌, Option, Some, None, Bool, true, false, ◌&&◌, nat_eq, nat_lt, nat_le, if◌then◌else◌, refl, ap, sym, ◌∙◌, subst, eqb-true, eq-eqb, true≢false, arith}
+use Rattle.std.proofs.lemmas.Bool.{and_parts, and_from, ltb-true, leb-true, lt-ltb, le-leb}
 use Rattle.pdl_elem.specs.declared.BinaryOp.{BinaryOp}
 use Rattle.pdl_elem.specs.declared.Ty.{Ty}
 use Rattle.pdl_lexemes.specs.declared.Span.{Span}
@@ -11,7 +11,7 @@ use Rattle.pdl_lexemes.specs.declared.Lexeme.{Lexeme}
 use Rattle.pdl_lexemes.specs.declared.Lexeme.TheVariants.{Word, Quoted, Open, Arrow, Operator}
 use Rattle.pdl_syntax.proofs.Options.{some_inj, none_some, then_elim}
 use Rattle.pdl_lexemes.specs.Peeks.{Read, after, method_at, quoted_at, type_at, type_step, word_at}
-use Rattle.pdl_syntax.specs.ExpressionReading.{operator_at, begins_operator}
+use Rattle.pdl_syntax.specs.ExpressionReading.{operator_at, level_between}
 use Rattle.pdl_syntax.specs.Grammar.{level_of}
 
 same_is : (a b : Lexeme) → lexeme.ghosts.eq a b ≡ true → b ≡ a
@@ -55,11 +55,39 @@ operator_other l op ts ne = of_test (nat_eq (level_of op) l) refl
     of_test true t = absurd (ne (eqb-true (level_of op) l t))
     of_test false t = refl
 
--- where no operator up to a level comes first, none of that level or below does
-pub no_operator : (l : ℕ) (ts : List Lexeme) → begins_operator l ts ≡ false → (j : ℕ) → j ≤ l → operator_at j ts ≡ None
-no_operator l [] e j le = refl
-no_operator l (Operator op ∷ ts) e j le = operator_other j op ts (λ same. omega (arith, leb-false (level_of op) l e, same, le))
-no_operator l (_ ∷ ts) e j le = refl
+-- an operator of level n comes first, above b and at most l, and so none of another level
+pub record LevelAt (b l : ℕ) (ts : List Lexeme) (n : ℕ) : Type 0 where
+  pub above : b < n
+  pub within : n ≤ l
+  pub no_other : (j : ℕ) → (j ≡ n → ⊥) → operator_at j ts ≡ None
+
+pub level_is_between : (b l : ℕ) (ts : List Lexeme) (n : ℕ) → level_between b l ts ≡ Some n → LevelAt b l ts n
+level_is_between b l [] n e = absurd (none_some e)
+level_is_between b l (Operator op ∷ ts) n e = of_test (nat_lt b (level_of op) && nat_le (level_of op) l) refl e
+  where
+    of_test : (t : Bool) → (nat_lt b (level_of op) && nat_le (level_of op) l) ≡ t → (if t then Some (level_of op) else None) ≡ Some n → LevelAt b l (Operator op ∷ ts) n
+    of_test true t k =
+        let parts = and_parts (nat_lt b (level_of op)) (nat_le (level_of op) l) t in
+        subst (LevelAt b l (Operator op ∷ ts)) (some_inj k)
+        (record {
+          above = ltb-true b (level_of op) parts.0;
+          within = leb-true (level_of op) l parts.1;
+          no_other = λ j ne. operator_other j op ts (λ same. ne (sym same));
+        })
+    of_test false t k = absurd (none_some k)
+level_is_between b l (_ ∷ ts) n e = absurd (none_some e)
+
+-- where no operator above b and at most l comes first, none of such a level does
+pub no_level_between : (b l : ℕ) (ts : List Lexeme) → level_between b l ts ≡ None → (j : ℕ) → b < j → j ≤ l → operator_at j ts ≡ None
+no_level_between b l [] e j above within = refl
+no_level_between b l (Operator op ∷ ts) e j above within = of_test (nat_lt b (level_of op) && nat_le (level_of op) l) refl e
+  where
+    of_test : (t : Bool) → (nat_lt b (level_of op) && nat_le (level_of op) l) ≡ t → (if t then Some (level_of op) else None) ≡ None → operator_at j (Operator op ∷ ts) ≡ None
+    of_test true t k = absurd (none_some (sym k))
+    of_test false t k =
+        operator_other j op ts
+        (λ same. true≢false (sym (and_from (nat_lt b (level_of op)) (nat_le (level_of op) l) (lt-ltb b (level_of op) (omega (arith, same, above))) (le-leb (level_of op) l (omega (arith, same, within)))) ∙ t))
+no_level_between b l (_ ∷ ts) e j above within = refl
 
 -- a word behind an arrow
 pub record MethodAt (ts : List Lexeme) (x : Span × List Lexeme) : Type 0 where

@@ -7,7 +7,7 @@ use Rattle.pdl_lexemes.specs.Bytes.{bytes_at}
 use Rattle.pdl_lexemes.specs.declared.Lexeme.TheVariants.{Comma}
 use Rattle.pdl_lexemes.specs.Peeks.{Read, after, method_at}
 use Rattle.pdl_syntax.specs.Tree.{Tree, Args, binary, call, value, none}
-use Rattle.pdl_syntax.specs.ExpressionReading.{Kind, operator_at, chain_at, methods_at, more_at, maybe_at, arg_at, level_at, grown_at, limit_of}
+use Rattle.pdl_syntax.specs.ExpressionReading.{Kind, operator_at, chain_at, methods_at, more_at, maybe_at, arg_at}
 
 pub one_less : (e c : ℕ) → c < e → e - c ≡ suc (e - (c + 1))
 one_less e c h = omega arith
@@ -55,12 +55,3 @@ module _ (source : List ℕ) (f : Kind → List Lexeme → Read Tree) where
       more_at source f (suc k) args ts ≡ more_at source f k args' rest
   unfolding more_at
   more_turn k args args' ts us rest e h = rw e (rw h)
-
-  grown_up : (n m : ℕ) (first : Tree) (ts rest : List Lexeme) (t : Tree) → n ≡ suc m → grown_at source f m first ts ≡ Some (t, rest) →
-      grown_at source f n first ts ≡ chain_at (level_at source f m) (suc m) (limit_of (suc m) rest) t rest
-  unfolding grown_at
-  grown_up n m first ts rest t same e = rw same (rw e)
-
-  pub grown_above : (n : ℕ) (first : Tree) (ts rest : List Lexeme) (t : Tree) → (n ≡ 0 → ⊥) → grown_at source f (n - 1) first ts ≡ Some (t, rest) →
-      grown_at source f n first ts ≡ chain_at (level_at source f (n - 1)) (suc (n - 1)) (limit_of (suc (n - 1)) rest) t rest
-  grown_above n first ts rest t ne e = grown_up n (n - 1) first ts rest t (omega arith) e

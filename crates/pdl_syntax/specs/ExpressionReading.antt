@@ -1,5 +1,5 @@
 -- How an expression is read: the one way in which its lexemes spell it, if there is one.
-use Rattle.std.specs.Prelude.{ℕ, zero, suc, ℤ, nat_eq, nat_le, Bool, false, List, [], ◌∷◌, length, Some, None, option_map, option_and_then, if◌then◌else◌}
+use Rattle.std.specs.Prelude.{ℕ, zero, suc, ℤ, nat_eq, nat_lt, nat_le, ◌&&◌, List, [], ◌∷◌, length, Option, Some, None, option_map, option_and_then, if◌then◌else◌}
 use Rattle.pdl_elem.specs.declared.BinaryOp.{BinaryOp}
 use Rattle.pdl_lexemes.specs.declared.Span.{Span}
 use Rattle.pdl_lexemes.specs.declared.Keyword.TheVariants.{Pdl}
@@ -17,10 +17,11 @@ abbrev pub operator_at : ℕ → List Lexeme → Read BinaryOp
 operator_at l (Operator op ∷ ts) = if nat_eq (level_of op) l then Some (op, ts) else None
 operator_at l _ = None
 
--- whether an operator up to a level comes first
-abbrev pub begins_operator : ℕ → List Lexeme → Bool
-begins_operator l (Operator op ∷ ts) = nat_le (level_of op) l
-begins_operator l _ = false
+-- the level of the operator that comes first, where it is above a level and at most another
+abbrev pub level_between : ℕ → ℕ → List Lexeme → Option ℕ
+level_between b l (Operator op ∷ ts) =
+    if nat_lt b (level_of op) && nat_le (level_of op) l then Some (level_of op) else None
+level_between b l _ = None
 
 -- how many operators of a level there may be in what is left
 abbrev pub limit_of : ℕ → List Lexeme → ℕ

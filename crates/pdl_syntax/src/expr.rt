@@ -82,23 +82,24 @@ impl<'s> Reader<'s> {
         Ok((left, rest))
     }
 
-    /// An expression of a level whose first operand is read. Where no operator follows that the
-    /// level takes, it is that operand, and no level between is gone through.
+    /// An expression of a level whose first operand is read. Only the levels of operators that
+    /// follow are gone through, from the tightest on.
     #[cycle(parser)]
-    #[tactic(auto, unfolding(crate::specs::ExpressionReading::grown_at))]
     pub fn grown<'a>(&self, level: u8, first: Expr, tokens: &Lexemes<'a>) -> Read<'a, Expr>
         requires level { level ≤ 7 }
         ensures read { Gives with_tree result
             (reads grown_at self.now level (tree_of first) tokens.now) }
     {
-        if level == 0 {
-            return Ok((first, tokens.copy()));
+        let mut left = first;
+        let mut rest = tokens.copy();
+        let mut below = 0;
+        while let Some(next) = levels::level_between(below, level, &rest) {
+            let (joined, after) = self.chain(next - 1, left, &rest)?;
+            left = joined;
+            rest = after;
+            below = next;
         }
-        if !levels::begins_operator(level, tokens) {
-            return Ok((first, tokens.copy()));
-        }
-        let (left, rest) = self.grown(level - 1, first, tokens)?;
-        self.chain(level - 1, left, &rest)
+        Ok((left, rest))
     }
 
     #[cycle(parser)]

@@ -2,7 +2,7 @@
 
 ghost use Rattle.std.specs.Prelude.{◌≡◌, ◌<◌};
 ghost use Rattle.pdl_syntax.specs.Grammar.{level_of};
-ghost use Rattle.pdl_syntax.specs.ExpressionReading.{operator_at, begins_operator, limit_of};
+ghost use Rattle.pdl_syntax.specs.ExpressionReading.{operator_at, level_between, limit_of};
 
 use pdl_elem::BinaryOp;
 use pdl_lexemes::{Lexeme, Lexemes};
@@ -38,13 +38,20 @@ pub fn operator<'a>(level: u8, tokens: &Lexemes<'a>) -> Option<(BinaryOp, Lexeme
     }
 }
 
-/// Whether an operator up to this level comes first.
-pub fn begins_operator(level: u8, tokens: &Lexemes<'_>) -> bool
-    ensures { result ≡ begins_operator level tokens.now }
+/// The level of the operator that comes first, where it is above `below` and at most `most`.
+pub fn level_between(below: u8, most: u8, tokens: &Lexemes<'_>) -> Option<u8>
+    ensures { result ≡ level_between below most tokens.now }
 {
     match tokens.split_first() {
-        Some((Lexeme::Operator(op), _)) => level_of(op) <= level,
-        _ => false,
+        Some((Lexeme::Operator(op), _)) => {
+            let level = level_of(op);
+            if below < level && level <= most {
+                Some(level)
+            } else {
+                None
+            }
+        }
+        _ => None,
     }
 }
 

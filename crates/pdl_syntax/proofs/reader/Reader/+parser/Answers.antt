@@ -1,9 +1,10 @@
-use Rattle.std.proofs.Common.{◌≡◌, Some, ◌∙◌, ◌-◌, ◌+◌, suc, sym, ap}
+use Rattle.std.proofs.Common.{◌≡◌, ◌∙◌, ◌-◌, ◌+◌, suc, sym, ap, arith}
 use Rattle.pdl_syntax.specs.Tree.{none, value}
 use Rattle.pdl_syntax.specs.TreeOf.{tree_of, args_of}
-use Rattle.pdl_syntax.specs.ExpressionReading.{reader, level_at, unary_at, chain_at, methods_at, more_at, maybe_at}
-use Rattle.pdl_syntax.proofs.Turns.{one_less, chain_stop, chain_turn, methods_stop, methods_turn, more_turn, grown_above}
-use Rattle.pdl_syntax.proofs.Growing.{level_read, level_unread, grown_ends}
+use Rattle.pdl_syntax.specs.ExpressionReading.{reader, level_at, grown_at, unary_at, chain_at, methods_at, more_at, maybe_at}
+use Rattle.pdl_syntax.proofs.Turns.{one_less, chain_stop, chain_turn, methods_stop, methods_turn, more_turn}
+use Rattle.pdl_syntax.proofs.Growing.{level_read, level_unread}
+use Rattle.pdl_syntax.proofs.Climbing.{climb_at, joined_at, grown_is, climb_turn, climb_fail, climb_ends}
 use Rattle.pdl_syntax.proofs.StatementTurns.{pass_on}
 use Rattle.std.proofs.lemmas.Result.{err_from_is_err_and}
 use Rattle.pdl_syntax.proofs.reader.Reader.+parser.Goals as goal
@@ -45,19 +46,52 @@ level_expr-returns-in_err-first t c =
           c.in_err-first.ensures.read (level_unread source f c.args.level c.args.tokens.now));
     }
 
-pub grown-returns-then-not-begins_operator : goal.grown-returns-then-not-begins_operator
-grown-returns-then-not-begins_operator t c =
-    let f = reader c.args.self.now.source.now c.args.self.now.fuel in
+pub grown-loop-next-init : goal.grown-loop-next-init
+grown-loop-next-init t c =
+    let source = c.args.self.now.source.now in
+    let f = reader source c.args.self.now.fuel in
+    let first = tree_of c.args.first in
+    let all : c.args.level - 0 ≡ c.args.level = omega arith in
     record {
-      read = grown_ends c.args.self.now.source.now f c.args.level (tree_of c.args.first) c.args.tokens.now (sym c.begins_operator.ensures ∙ c.if-not-begins_operator.true)
-          ∙ ap (λ ts. Some (tree_of c.args.first, ts)) (sym c.copy-then-not-begins_operator.ensures);
+      same =
+          ap (λ n. climb_at source f n 0 first c.copy-rest.result) all
+          ∙ (ap (climb_at source f c.args.level 0 first) c.copy-rest.ensures ∙ sym (grown_is source f c.args.level first c.args.tokens.now));
+    }
+
+pub grown-loop-next-preserved : goal.grown-loop-next-preserved
+grown-loop-next-preserved t c =
+    let source = c.args.self.now.source.now in
+    let f = reader source c.args.self.now.fuel in
+    record {
+      same =
+          sym (climb_turn source f c.loop-next.below c.args.level c.in-Some.next (tree_of c.loop-next.left) (tree_of c.in_ok-joined.joined) c.loop-next.rest c.in_ok-joined.after
+          (sym c.in-Some.ensures) c.in_ok-joined.ensures.read)
+          ∙ c.loop-next.invariant.same;
+    }
+
+pub grown-returns-in_err-joined : goal.grown-returns-in_err-joined
+grown-returns-in_err-joined t c =
+    let source = c.args.self.now.source.now in
+    let f = reader source c.args.self.now.fuel in
+    let left = tree_of c.loop-next.left in
+    let p = err_from_is_err_and c.from_residual.result c.from_residual.ensures.1 in
+    record {
+      read =
+          rw (p.1, p.2)
+          (pass_on c.in_err-joined.field-0.0 (joined_at source f (c.in-Some.next - 1) left c.loop-next.rest) (grown_at source f c.args.level (tree_of c.args.first) c.args.tokens.now)
+          c.in_err-joined.ensures.read
+          (λ h. sym c.loop-next.invariant.same ∙ climb_fail source f c.loop-next.below c.args.level c.in-Some.next left c.loop-next.rest (sym c.in-Some.ensures) h));
     }
 
 pub grown-returns : goal.grown-returns
 grown-returns t c =
-    let f = reader c.args.self.now.source.now c.args.self.now.fuel in
-    let same = grown_above c.args.self.now.source.now f c.args.level (tree_of c.args.first) c.args.tokens.now c.in_ok-left.rest (tree_of c.in_ok-left.left) c.if-level-eq0.false c.in_ok-left.ensures.read in
-    record { read = rw same c.chain.ensures.read }
+    let source = c.args.self.now.source.now in
+    let f = reader source c.args.self.now.fuel in
+    record {
+      read =
+          sym c.loop-next.invariant.same
+          ∙ climb_ends source f c.loop-next.below c.args.level (tree_of c.loop-next.left) c.loop-next.rest (sym c.in_default.ensures);
+    }
 
 pub methods-returns-in-None : goal.methods-returns-in-None
 methods-returns-in-None t c =

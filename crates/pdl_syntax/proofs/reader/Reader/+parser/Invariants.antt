@@ -2,8 +2,9 @@
 use Rattle.std.proofs.Common.{◌≡◌, suc, ◌+◌, ◌-◌, ◌*◌, length}
 use Rattle.pdl_syntax.specs.Tree.{Tree, Args, none}
 use Rattle.pdl_syntax.specs.TreeOf.{tree_of, args_of}
-use Rattle.pdl_syntax.specs.ExpressionReading.{reader, level_at, chain_at, limit_of, methods_at, more_at}
+use Rattle.pdl_syntax.specs.ExpressionReading.{reader, level_at, grown_at, chain_at, limit_of, methods_at, more_at}
 use Rattle.pdl_lexemes.specs.Peeks.{Read}
+use Rattle.pdl_syntax.proofs.Climbing.{climb_at}
 use Rattle.pdl_syntax.proofs.reader.Reader.+parser.Given as goal
 
 -- what is left to read gives the same as what stood there at the start
@@ -60,6 +61,15 @@ invariant-chain-loop l =
     let inner = level_at l.self.source.now (reader l.self.source.now l.self.fuel) l.below in
     Turns Tree (chain_at inner (suc l.below) (l.end - l.counter) (tree_of l.left) l.rest)
     (chain_at inner (suc l.below) (limit_of (suc l.below) l.tokens) (tree_of l.fn.first) l.tokens)
+
+abbrev pub decreases-grown-loop-next : goal.decreases-grown-loop-next
+decreases-grown-loop-next l = l.level - l.below
+
+abbrev pub invariant-grown-loop-next : goal.invariant-grown-loop-next
+invariant-grown-loop-next l =
+    let f = reader l.self.source.now l.self.fuel in
+    Turns Tree (climb_at l.self.source.now f (l.level - l.below) l.below (tree_of l.left) l.rest)
+    (grown_at l.self.source.now f l.level (tree_of l.fn.first) l.tokens)
 
 abbrev pub invariant-methods-loop : goal.invariant-methods-loop
 invariant-methods-loop l =
