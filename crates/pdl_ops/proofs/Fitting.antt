@@ -1,12 +1,14 @@
 -- Sizes that fit a target's are joined with them to the target's, and to 1 for each further one.
-use Rattle.std.proofs.Common.{◌≡◌, ℕ, ◌+◌, ◌*◌, ◌<◌, ◌≤◌, ◌==◌, ◌/◌, ◌%◌, ℤ, pos, List, [], ◌∷◌, length, map, get_or, max, Some, Result, Ok, Err, refl, ap, ap₂, sym, ◌∙◌, arith}
+use Rattle.std.proofs.Common.{◌≡◌, ◌⊎◌, inl, inr, ℕ, ◌+◌, ◌*◌, ◌<◌, ◌≤◌, ◌==◌, ◌/◌, ◌%◌, ℤ, pos, List, [], ◌∷◌, length, map, get_or, max, Some, Result, Ok, Err, refl, ap, ap₂, sym, ◌∙◌, arith}
 use Rattle.std.specs.Prelude.{Bool, true, false, ◌&&◌, ◌||◌, if◌then◌else◌}
 use Rattle.std.specs.List.{range_with_len}
 use Rattle.std.proofs.lemmas.Bool.Decides.{nat_tests}
 use Rattle.std.proofs.lemmas.List.{ext_get_or}
+use Rattle.std.proofs.Math.Nat.{mod-one}
 use Rattle.std.proofs.lemmas.List.FromFn.{length-map-range_with_len, get_or-map-range_with_len}
 use Rattle.pdl_shape.specs.Broadcast.{cut_to, join, join_cons, join_size}
 use Rattle.pdl_shape.specs.Joined.{joined_dims, checked_join}
+use Rattle.pdl_shape.specs.Laws.{PositionLaws}
 use Rattle.pdl_shape.specs.Refusals.{Refusal}
 use Rattle.pdl_shape.specs.Shape.{extent, size_of, position_of, coordinates_of}
 use Rattle.pdl_shape.specs.Stretched.{stretched, stretched_position}
@@ -101,3 +103,44 @@ padded_stretched ds ts es e =
     get_or-map-range_with_len f 0 n p p (pos 0) small (omega arith)
     ∙ ap (λ (q : ℕ). get_or es q (pos 0)) (padded_position ds ts p e)
     ∙ sym (get_or-map-range_with_len g 0 n p p (pos 0) small (omega arith)))
+
+-- ---- sizes fit themselves, and nothing is stretched
+
+pub fits_itself : (ds : List ℕ) → fits ds ds ≡ true
+fits_itself [] = refl
+fits_itself (d ∷ ds) = ap₂ (λ (p q : Bool). p && q) (one_or_itself d) (fits_itself ds)
+  where
+    one_or_itself : (d : ℕ) → (d == 1 || d == d) ≡ true
+    one_or_itself d = grind (arith, nat_tests)
+
+padded_itself : (ds : List ℕ) → padded ds ds ≡ ds
+padded_itself [] = refl
+padded_itself (d ∷ ds) = ap (λ (es : List ℕ). d ∷ es) (padded_itself ds)
+
+pub joined_itself : (ds : List ℕ) → extent ds ≤ 1048576 → joined_dims ds ds ≡ Ok ds
+joined_itself ds h = fits_joined ds ds (fits_itself ds) h ∙ ap Ok (padded_itself ds)
+
+-- along a size of 1 a coordinate is 0 as it is
+uncut : (ds : List ℕ) (p : ℕ) → cut_to ds (coordinates_of ds p) ≡ coordinates_of ds p
+uncut [] p = refl
+uncut (d ∷ ds) p = ap₂ (λ (c : ℕ) (cs : List ℕ). c ∷ cs) (along d) (uncut ds (p / d))
+  where
+    is_it : (b : Bool) → (b ≡ true) ⊎ (b ≡ false)
+    is_it true = inl refl
+    is_it false = inr refl
+
+    along : (d : ℕ) → (if d == 1 then 0 else p % d) ≡ p % d
+    along d = elim (is_it (d == 1)) as (λ x. (if d == 1 then 0 else p % d) ≡ p % d) [
+      | inl one ↦ ap (λ (b : Bool). if b then 0 else p % d) one ∙ sym (ap (λ (n : ℕ). p % n) (is_one d one) ∙ mod-one p)
+      | inr other ↦ ap (λ (b : Bool). if b then 0 else p % d) other
+    ]
+
+pub stretched_itself : PositionLaws → (ds : List ℕ) (es : List ℤ) → length es ≡ size_of ds → stretched ds ds es ≡ es
+stretched_itself laws ds es e =
+    let f : ℕ → ℤ = λ p. get_or es (stretched_position ds ds p) (pos 0) in
+    let l : length (map f (range_with_len 0 (size_of ds))) ≡ size_of ds = length-map-range_with_len f 0 (size_of ds) in
+    ext_get_or (pos 0) (stretched ds ds es) es (l ∙ sym e)
+    (λ p within.
+    let small : p < size_of ds = omega (arith, l, within) in
+    get_or-map-range_with_len f 0 (size_of ds) p p (pos 0) small (omega arith)
+    ∙ ap (λ (q : ℕ). get_or es q (pos 0)) (ap (position_of ds) (uncut ds p) ∙ laws.position_again ds p small))

@@ -1,6 +1,6 @@
 -- What the parts of an answer are as a whole.
-use Rattle.std.proofs.Common.{◌≡◌, ℕ, ℤ, List, length, map, Result, Ok, Err, Option, Some, None, refl, ap, ap₂, sym, subst, ◌∙◌}
-use Rattle.std.specs.Prelude.{if◌then◌else◌}
+use Rattle.std.proofs.Common.{◌≡◌, ◌≤◌, ℕ, ℤ, List, length, map, Result, Ok, Err, Option, Some, None, refl, ap, ap₂, sym, subst, ◌∙◌}
+use Rattle.std.specs.Prelude.{Bool, true, if◌then◌else◌}
 use Rattle.std.proofs.lemmas.List.FromFn.{length-map-range_with_len}
 use Rattle.pdl_elem.specs.declared.BinaryOp.{BinaryOp}
 use Rattle.pdl_elem.specs.declared.Ty.{Ty}
@@ -8,16 +8,20 @@ use Rattle.pdl_elem.specs.declared.Ty.TheVariants.{Byte, Short, Ushort, Long, Lo
 use Rattle.pdl_elem.specs.Numbers.{wrapped}
 use Rattle.pdl_elem.specs.Types.{promoted, binary_result, compares}
 use Rattle.pdl_shape.specs.Joined.{joined_dims}
-use Rattle.pdl_shape.specs.Refusals.{Refusal}
-use Rattle.pdl_shape.specs.Shape.{size_of}
+use Rattle.pdl_shape.specs.Refusals.{Refusal, mismatch}
+use Rattle.pdl_shape.specs.Laws.{PositionLaws}
+use Rattle.pdl_shape.specs.Shape.{extent, size_of}
 use Rattle.pdl_shape.specs.Stretched.{stretched}
+use Rattle.pdl_buf.specs.Made.{array_of}
+use Rattle.pdl_buf.specs.Window.{Window}
 use Rattle.pdl_buf.specs.declared.made.Made.{Made}
 use Rattle.pdl_lexemes.specs.declared.AssignOp.{AssignOp}
 use Rattle.pdl_lexemes.specs.declared.AssignOp.TheVariants.{With}
 use Rattle.pdl_ops.specs.declared.OpFault.{OpFault}
 use Rattle.pdl_ops.specs.Answers.{Answers, IsRefused, or_refused}
-use Rattle.pdl_ops.specs.Elementwise.{OpRefusal, elementwise, over_joined, made_of, values_of}
-use Rattle.pdl_ops.specs.Values.{new_values, wrapped_to}
+use Rattle.pdl_ops.specs.Elementwise.{OpRefusal, elementwise, no_dims, over_joined, made_of, values_of}
+use Rattle.pdl_ops.specs.Values.{fits, new_values, values_for, wrapped_to}
+use Rattle.pdl_ops.proofs.Fitting.{fits_itself, joined_itself, stretched_itself}
 
 made : Ty → List ℕ → List ℤ → Made
 made ty ds es = record { ty = ty; dims = ds; elems = es }
@@ -38,18 +42,39 @@ promoted_same Longlong = refl
 pub result_at : (op : BinaryOp) (a b : Ty) → binary_result op (promoted a b) (promoted a b) ≡ binary_result op a b
 result_at op a b = ap (λ (t : Ty). if compares op then Byte else t) (promoted_same (promoted a b))
 
--- the definition's answer from those of the steps
-pub elementwise_ok : (op : BinaryOp) (a b : Made) (js : List ℕ) (ty t : Ty) (xs ys es fs : List ℤ) → joined_dims a.dims b.dims ≡ Ok js → ty ≡ promoted a.ty b.ty
-    → xs ≡ stretched a.dims js a.elems → ys ≡ stretched b.dims js b.elems → values_of op ty (map (wrapped ty) xs) (map (wrapped ty) ys) ≡ Ok es
-    → t ≡ binary_result op a.ty b.ty → fs ≡ es → elementwise op a b ≡ Ok (record { ty = t; dims = js; elems = fs })
+-- what an operator gives on two windows of the same dimensions, element by element
+abbrev pub paired : BinaryOp → Window → Window → Result Made OpRefusal
+paired op a b = let ty = promoted a.ty b.ty in made_of (binary_result op a.ty b.ty) b.dims (values_of op ty (map (wrapped ty) a.elems) (map (wrapped ty) b.elems))
+
+-- from the answers of the steps
+pub paired_ok : (op : BinaryOp) (a b : Window) (ds : List ℕ) (ty t : Ty) (es fs : List ℤ) → ty ≡ promoted a.ty b.ty → ds ≡ b.dims
+    → values_of op ty (map (wrapped ty) a.elems) (map (wrapped ty) b.elems) ≡ Ok es → t ≡ binary_result op a.ty b.ty → fs ≡ es → paired op a b ≡ Ok (record { ty = t; dims = ds; elems = fs })
 unfolding made
-elementwise_ok op a b js ty t xs ys es fs j p x y v r f =
-    let at : Ty → List ℤ → List ℤ → Result (List ℤ) OpRefusal = λ ty us vs. values_of op ty (map (wrapped ty) us) (map (wrapped ty) vs) in
-    let found : at (promoted a.ty b.ty) (stretched a.dims js a.elems) (stretched b.dims js b.elems) ≡ Ok es =
-    ap₂ (at (promoted a.ty b.ty)) (sym x) (sym y) ∙ ap (λ (u : Ty). at u xs ys) (sym p) ∙ v in
-    ap (over_joined op a b) j
-    ∙ ap (made_of (binary_result op a.ty b.ty) js) found
-    ∙ ap₂ (λ (u : Ty) (us : List ℤ). Ok (made u js us)) (sym r) (sym f)
+paired_ok op a b ds ty t es fs p d v r f =
+    let at : Ty → Result (List ℤ) OpRefusal = λ u. values_of op u (map (wrapped u) a.elems) (map (wrapped u) b.elems) in
+    ap (made_of (binary_result op a.ty b.ty) b.dims) (ap at (sym p) ∙ v)
+    ∙ ap (λ (us : List ℕ). Ok (made (binary_result op a.ty b.ty) us es)) (sym d)
+    ∙ ap₂ (λ (u : Ty) (us : List ℤ). Ok (made u ds us)) (sym r) (sym f)
+
+-- a window that is stretched over joined dimensions
+abbrev pub over : List ℕ → Window → Window
+over js w = record { ty = w.ty; dims = js; elems = stretched w.dims js w.elems }
+
+-- the definition's answer is that over the joined dimensions
+pub elementwise_joined : (op : BinaryOp) (a b left right : Window) (js : List ℕ) → joined_dims a.dims b.dims ≡ Ok js → left ≡ over js a → right ≡ over js b
+    → elementwise op (array_of a) (array_of b) ≡ paired op left right
+elementwise_joined op a b left right js j l r = ap (over_joined op (array_of a) (array_of b)) j ∙ ap₂ (paired op) (sym l) (sym r)
+
+-- and that as they are, where their dimensions are the same
+pub elementwise_alike : PositionLaws → (op : BinaryOp) (a b : Window) → a.dims ≡ b.dims → length a.elems ≡ size_of a.dims → length b.elems ≡ size_of b.dims → extent b.dims ≤ 1048576
+    → elementwise op (array_of a) (array_of b) ≡ paired op a b
+elementwise_alike laws op a b e m n h = elementwise_joined op a b a b b.dims (ap (λ (ds : List ℕ). joined_dims ds b.dims) e ∙ joined_itself b.dims h) (itself a b.dims e m) (itself b b.dims refl n)
+  where
+    window : Ty → List ℕ → List ℤ → Window
+    window ty ds es = record { ty = ty; dims = ds; elems = es }
+
+    itself : (w : Window) (js : List ℕ) → w.dims ≡ js → length w.elems ≡ size_of w.dims → w ≡ over js w
+    itself w js same many = subst (λ (ds : List ℕ). w ≡ over ds w) same (ap (λ (es : List ℤ). window w.ty w.dims es) (sym (stretched_itself laws w.dims w.elems many)))
 
 -- as many elements as the joined dimensions say
 pub stretched_length : (ds js : List ℕ) (es : List ℤ) → length (stretched ds js es) ≡ size_of js
@@ -79,12 +104,18 @@ refused_made : (ty : Ty) (js : List ℕ) (r : Result (List ℤ) OpRefusal) (o : 
 refused_made ty js r None h = tt
 refused_made ty js r (Some refusal) h = ap (made_of ty js) h
 
--- the definition's refusal from those of the steps
-pub elementwise_refused : (op : BinaryOp) (a b : Made) (js : List ℕ) (ty : Ty) (xs ys : List ℤ) (o : Option OpRefusal) → joined_dims a.dims b.dims ≡ Ok js → ty ≡ promoted a.ty b.ty
-    → xs ≡ stretched a.dims js a.elems → ys ≡ stretched b.dims js b.elems → IsRefused (values_of op ty (map (wrapped ty) xs) (map (wrapped ty) ys)) o → IsRefused (elementwise op a b) o
-elementwise_refused op a b js ty xs ys o j p x y h =
-    let at : Ty → List ℤ → List ℤ → Result (List ℤ) OpRefusal = λ ty us vs. values_of op ty (map (wrapped ty) us) (map (wrapped ty) vs) in
-    let t : Ty = binary_result op a.ty b.ty in
-    let found : at (promoted a.ty b.ty) (stretched a.dims js a.elems) (stretched b.dims js b.elems) ≡ at ty xs ys =
-    ap₂ (at (promoted a.ty b.ty)) (sym x) (sym y) ∙ ap (λ (u : Ty). at u xs ys) (sym p) in
-    subst (λ (w : Result Made OpRefusal). IsRefused w o) (sym (ap (over_joined op a b) j ∙ ap (made_of t js) found)) (refused_made t js (at ty xs ys) o h)
+-- and a refusal
+pub paired_refused : (op : BinaryOp) (a b : Window) (ty : Ty) (o : Option OpRefusal) → ty ≡ promoted a.ty b.ty → IsRefused (values_of op ty (map (wrapped ty) a.elems) (map (wrapped ty) b.elems)) o
+    → IsRefused (paired op a b) o
+paired_refused op a b ty o p h =
+    let at : Ty → Result (List ℤ) OpRefusal = λ u. values_of op u (map (wrapped u) a.elems) (map (wrapped u) b.elems) in
+    refused_made (binary_result op a.ty b.ty) b.dims (at (promoted a.ty b.ty)) o (subst (λ (u : Ty). IsRefused (at u) o) p h)
+
+-- what an assignment of as many sizes as the target's writes
+pub values_alike : PositionLaws → (sign : AssignOp) (target value : Window) → value.dims ≡ target.dims → length value.elems ≡ size_of value.dims
+    → values_for sign (array_of target) (array_of value) ≡ new_values sign target.ty value.ty target.elems value.elems
+values_alike laws sign target value e n =
+    let new : List ℤ = stretched value.dims target.dims value.elems in
+    let f : fits value.dims target.dims ≡ true = subst (λ (ds : List ℕ). fits value.dims ds ≡ true) e (fits_itself value.dims) in
+    let s : new ≡ value.elems = subst (λ (ds : List ℕ). stretched value.dims ds value.elems ≡ value.elems) e (stretched_itself laws value.dims value.elems n) in
+    ap (λ (b : Bool). if b then new_values sign target.ty value.ty target.elems new else Err (no_dims mismatch)) f ∙ ap (new_values sign target.ty value.ty target.elems) s

@@ -1,17 +1,19 @@
 //! Operators and conversions of whole arrays (PDL::Ops, PDL::Core).
-ghost use Rattle.std.specs.Prelude.{◌≡◌, IfOk};
+ghost use Rattle.std.specs.Prelude.{◌≡◌, map, IfOk};
+ghost use Rattle.pdl_elem.specs.Numbers.{wrapped};
+ghost use Rattle.pdl_elem.specs.Types.{binary_result, promoted};
 ghost use Rattle.pdl_buf.specs.Made.{IsMade, array_of};
 ghost use Rattle.pdl_shape.specs.Broadcast.{BroadcastsTo};
 ghost use Rattle.pdl_shape.specs.Joined.{joined_dims};
 ghost use Rattle.pdl_ops.specs.Answers.{Answers, or_refused};
-ghost use Rattle.pdl_ops.specs.Elementwise.{converted, elementwise, unary_each};
+ghost use Rattle.pdl_ops.specs.Elementwise.{converted, elementwise, made_of, unary_each, values_of};
 
 use crate::OpFault;
 use crate::blocks::values;
 use crate::changes::{Change, changed_elements};
 use pdl_buf::{Elements, Made, Packing, Strided, stretched, strided_dims, strided_type};
 use pdl_elem::{BinaryOp, Ty, UnaryOp, binary_type, promote, unary_type};
-use pdl_shape::{Dims, ShapeFault, copy_dims, elements_of, join_dims};
+use pdl_shape::{Dims, ShapeFault, copy_dims, dims_list, elements_of, join_dims, shape_laws};
 use std::alloc::{AllocError, Global};
 
 /// The dimensions that two arrays join to. It answers `Mismatch` and `TooLarge` alone.
@@ -27,9 +29,32 @@ fn broadcast_dims(alloc: Global, a: &Dims, b: &Dims) -> Result<Dims, OpFault>
     }
 }
 
+/// An operator of two operands of the same dimensions at each position, at the type of higher rank.
+/// It answers `DivideByZero` and `NoMemory` alone.
+fn paired(alloc: Global, op: BinaryOp, a: &Strided<'_>, b: &Strided<'_>) -> Result<Made, OpFault>
+    requires { a.now.dims ≡ b.now.dims }
+    ensures value { let ty = promoted a.now.ty b.now.ty in
+        let values = values_of op ty (map (wrapped ty) a.now.elems) (map (wrapped ty) b.now.elems) in
+        let wanted = made_of (binary_result op a.now.ty b.now.ty) b.now.dims values in
+        Answers (λ made. made) wanted result }
+    ensures made { IfOk result (λ made. IsMade made.ty made.dims made.elems) }
+{
+    let both = promote(strided_type(a), strided_type(b));
+    let ty = binary_type(op, both, both);
+    let (_same, dims) = (strided_dims(a), copy_dims(strided_dims(b)));
+    let room = Packing::new(alloc, ty, elements_of(&dims) as usize)?;
+    let elems = values(alloc, op, both, a, b, room)?;
+    Ok(Made {
+        ty,
+        dims,
+        elems: Elements::packed(elems),
+    })
+}
+
 /// An operator of two operands at each position of the joined dimensions, at the type of higher
 /// rank (PDL::Ops, PDL::Broadcasting). `Mismatch` where the dimensions don't join, then `TooLarge`,
-/// then `DivideByZero` with the position of the first divisor 0.
+/// then `DivideByZero` with the position of the first divisor 0. Operands of the same dimensions
+/// are taken as they are.
 pub fn elementwise(
     alloc: Global,
     op: BinaryOp,
@@ -40,18 +65,13 @@ pub fn elementwise(
         Answers (λ made. made) wanted result }
     ensures made { IfOk result (λ made. IsMade made.ty made.dims made.elems) }
 {
-    let dims = broadcast_dims(alloc, strided_dims(a), strided_dims(b))?;
-    let both = promote(strided_type(a), strided_type(b));
-    let ty = binary_type(op, both, both);
-    let room = Packing::new(alloc, ty, elements_of(&dims) as usize)?;
-    let left = stretched(a, &dims);
-    let right = stretched(b, &dims);
-    let elems = values(alloc, op, both, &left, &right, room)?;
-    Ok(Made {
-        ty,
-        dims,
-        elems: Elements::packed(elems),
-    })
+    shape_laws();
+    let (left, right) = (strided_dims(a), strided_dims(b));
+    if dims_list(left) == dims_list(right) {
+        return paired(alloc, op, a, b);
+    }
+    let dims = broadcast_dims(alloc, left, right)?;
+    paired(alloc, op, &stretched(a, &dims), &stretched(b, &dims))
 }
 
 /// An operator of one operand at each element (PDL::Ops).

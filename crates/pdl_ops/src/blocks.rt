@@ -1,5 +1,5 @@
 //! An operator on two windows of as many elements, in blocks.
-ghost use Rattle.std.specs.Prelude.{◌≡◌, ◌+◌, ◌≤◌, [], length, map, All, IfOk, OnOk};
+ghost use Rattle.std.specs.Prelude.{◌≡◌, ◌+◌, ◌*◌, ◌≤◌, [], length, map, take, All, IfOk, OnOk};
 ghost use Rattle.std.specs.Result.{result_err};
 ghost use Rattle.pdl_elem.specs.Blocks.{pairwise, zero_at};
 ghost use Rattle.pdl_elem.specs.Numbers.{wrapped};
@@ -15,33 +15,35 @@ use pdl_elem::{BinaryOp, Ty, binary_all};
 use pdl_shape::elements_of;
 use std::alloc::Global;
 
-/// Sets `into` to the operator's values at the type on the elements of two windows from a position
-/// on, of which there are enough. `left` and `right` are as long, and become the operands. Where
-/// the operator divides and some divisor is 0, it answers the place of the first one in the block.
+/// Sets the first `count` numbers of `room` to the operator's values at the type on so many elements
+/// of two windows from a position on, of which there are enough. The room is for three times as many:
+/// behind the values it is given to the operands. Where the operator divides and some divisor is 0, it
+/// answers the place of the first one in the block.
 fn values_block(
     op: BinaryOp,
     ty: Ty,
     a: &Strided<'_>,
     b: &Strided<'_>,
     first: u32,
-    left: &mut [i64],
-    right: &mut [i64],
-    into: &mut [i64],
+    count: usize,
+    room: &mut [i64],
 ) -> Result<(), usize>
-    requires left { length left.old ≡ length into.old }
-    requires right { length right.old ≡ length into.old }
-    requires a_within { first + length into.old ≤ length a.now.elems }
-    requires b_within { first + length into.old ≤ length b.now.elems }
-    ensures value { let xs = operands_from ty first (length into.old) a.now.elems in
-        let ys = operands_from ty first (length into.old) b.now.elems in
-        OnOk result (into.new ≡ pairwise (value_of op ty) xs ys) }
-    ensures in_range { OnOk result (All (InRange (binary_result op ty ty)) into.new) }
-    ensures refused { let ys = operands_from ty first (length into.old) b.now.elems in
+    requires room { length room.old ≡ 3 * count }
+    requires a_within { first + count ≤ length a.now.elems }
+    requires b_within { first + count ≤ length b.now.elems }
+    ensures value { let xs = operands_from ty first count a.now.elems in
+        let ys = operands_from ty first count b.now.elems in
+        OnOk result (take count room.new ≡ pairwise (value_of op ty) xs ys) }
+    ensures in_range { OnOk result (All (InRange (binary_result op ty ty)) (take count room.new)) }
+    ensures refused { let ys = operands_from ty first count b.now.elems in
         result_err result ≡ zero_at op ys }
+    ensures length { length room.new ≡ 3 * count }
 {
+    let (values, operands) = room.split_at_mut(count);
+    let (left, right) = operands.split_at_mut(count);
     read_operand(a, ty, first, left);
     read_operand(b, ty, first, right);
-    binary_all(op, ty, left, right, into)
+    binary_all(op, ty, left, right, values)
 }
 
 /// The operator's values at the type on the elements of two windows of as many elements, each
@@ -64,22 +66,19 @@ pub(crate) fn values(
     ensures count { IfOk result (λ made. length made.elems ≡ length b.now.elems) }
 {
     let count = elements_of(strided_dims(b)) as usize;
-    let mut left = vec![in alloc; 0; count.min(BLOCK)]?;
-    let mut right = vec![in alloc; 0; count.min(BLOCK)]?;
-    let mut block = vec![in alloc; 0; count.min(BLOCK)]?;
+    let mut room = vec![in alloc; 0; 3 * count.min(BLOCK)]?;
     let mut done = 0;
     while done < count {
-        left.truncate(count - done);
-        right.truncate(count - done);
-        block.truncate(count - done);
-        let found = values_block(op, ty, a, b, done as u32, &mut left, &mut right, &mut block);
+        let size = (count - done).min(BLOCK);
+        room.truncate(3 * size);
+        let found = values_block(op, ty, a, b, done as u32, size, &mut room);
         if let Err(place) = found {
             return Err(OpFault::DivideByZero {
                 place: (done + place) as u32,
             });
         }
-        made.extend(&block)?;
-        done += block.len();
+        made.extend(&room[..size])?;
+        done += size;
     }
     Ok(made)
 }

@@ -13,7 +13,7 @@ use crate::operands::rewrap;
 use pdl_buf::{Packing, Strided, stretched, strided_dims, strided_type};
 use pdl_elem::{binary_type, promote};
 use pdl_lexemes::AssignOp;
-use pdl_shape::{dims_list, elements_of, join_dims};
+use pdl_shape::{dims_list, elements_of, join_dims, shape_laws};
 use std::alloc::Global;
 
 /// Whether sizes fit a target's: each is 1 or the target's, whose missing ones count as 1.
@@ -78,7 +78,11 @@ pub fn values_for(
     ensures made { IfOk result (λ made. IsMade target.now.ty target.now.dims made.items) }
     ensures never_large { result ≢ Err TooLarge }
 {
+    shape_laws();
     let (sizes, wanted) = (strided_dims(value), strided_dims(target));
+    if dims_list(sizes) == dims_list(wanted) {
+        return new_values(alloc, sign, target, value);
+    }
     if !fits(dims_list(sizes), dims_list(wanted)) {
         return Err(OpFault::Mismatch);
     }

@@ -1,41 +1,20 @@
--- The answer from its parts.
-use Rattle.std.proofs.Common.{◌≡◌, ℤ, List, length, All, arith, ap, ap₂, sym, subst, ◌∙◌}
-use Rattle.std.proofs.lemmas.Grind.{common_steps}
-use Rattle.pdl_elem.specs.declared.Ty.{Ty}
-use Rattle.pdl_elem.specs.Types.{InRange, promoted, binary_result}
+-- Operands of the same dimensions join to these, and are stretched to themselves.
+use Rattle.std.proofs.Common.{◌≡◌, ◌≤◌, ℕ, List, ap₂, sym, subst, ◌∙◌}
+use Rattle.std.specs.Cmp.Lexicographic.{same_text}
 use Rattle.pdl_shape.specs.Joined.{joined_dims}
-use Rattle.pdl_buf.specs.Window.{Window}
-use Rattle.pdl_buf.specs.Made.{array_of}
-use Rattle.pdl_ops.specs.Answers.{IsRefused, refusal_named}
-use Rattle.pdl_ops.specs.Elementwise.{elementwise}
-use Rattle.pdl_ops.proofs.Results.{elementwise_ok, elementwise_refused, joined_ok, result_at, stretched_length}
+use Rattle.pdl_shape.specs.Shape.{extent}
+use Rattle.pdl_ops.proofs.Results.{answers_same, elementwise_alike, elementwise_joined, joined_ok}
 use Rattle.pdl_ops.proofs.arrays.elementwise.Goals as goal
+
+pub returns-then-eq-clause-value : goal.returns-then-eq-clause-value
+returns-then-eq-clause-value c =
+    let a = c.args.a.now in
+    let b = c.args.b.now in
+    let e : a.dims ≡ b.dims = sym (c.dims_list.ensures.list ∙ c.strided_dims-left.ensures.dims) ∙ same_text _ _ (sym c.if-eq.true ∙ c.eq.ensures) ∙ c.dims_list-2.ensures.list ∙ c.strided_dims-right.ensures.dims in
+    let h : extent b.dims ≤ 1048576 = subst (λ (ds : List ℕ). extent ds ≤ 1048576) c.strided_dims-right.ensures.dims c.dims_list-2.ensures.limits.within in
+    answers_same _ _ _ _ (elementwise_alike c.shape_laws.ensures.positions c.args.op a b e c.strided_dims-left.ensures.count c.strided_dims-right.ensures.count h) c.paired.ensures.value
 
 pub returns-clause-value : goal.returns-clause-value
 returns-clause-value c =
-    elementwise_ok c.args.op (array_of c.args.a.now) (array_of c.args.b.now) c.in_ok-dims.dims c.promote-both.result c.binary_type-ty.result
-    c.stretched-left.result.elems c.stretched-right.result.elems c.in_ok-elems.elems.elems c.packed.result
-    (ap₂ joined_dims (sym c.strided_dims.ensures.dims) (sym c.strided_dims-2.ensures.dims) ∙ joined_ok _ _ c.in_ok-dims.ensures.value)
-    (c.promote-both.ensures ∙ ap₂ promoted c.strided_type.ensures c.strided_type-2.ensures)
-    (ap (λ (w : Window). w.elems) c.stretched-left.ensures)
-    (ap (λ (w : Window). w.elems) c.stretched-right.ensures)
-    c.in_ok-elems.ensures.value
-    (c.binary_type-ty.ensures ∙ ap (λ (t : Ty). binary_result c.args.op t t) c.promote-both.ensures ∙ result_at c.args.op c.strided_type.result c.strided_type-2.result ∙ ap₂ (binary_result c.args.op) c.strided_type.ensures c.strided_type-2.ensures)
-    c.packed.ensures
-
-pub returns-clause-made : goal.returns-clause-made
-returns-clause-made c = record {
-  count = ap (λ (xs : List ℤ). length xs) c.packed.ensures ∙ c.in_ok-elems.ensures.count ∙ ap (λ (w : Window). length w.elems) c.stretched-right.ensures ∙ stretched_length c.args.b.now.dims c.in_ok-dims.dims c.args.b.now.elems;
-  in_range = subst (λ (t : Ty). All (InRange t) c.packed.result) (sym c.binary_type-ty.ensures) (subst (All (InRange (binary_result c.args.op c.promote-both.result c.promote-both.result))) (sym c.packed.ensures) c.in_ok-elems.ensures.in_range);
-}
-
-pub returns-in_err-elems-clause-value : goal.returns-in_err-elems-clause-value
-returns-in_err-elems-clause-value c =
-    let h : IsRefused (elementwise c.args.op (array_of c.args.a.now) (array_of c.args.b.now)) (refusal_named c.in_err-elems.field-0.0) =
-    elementwise_refused c.args.op (array_of c.args.a.now) (array_of c.args.b.now) c.in_ok-dims.dims c.promote-both.result c.stretched-left.result.elems c.stretched-right.result.elems (refusal_named c.in_err-elems.field-0.0)
-    (ap₂ joined_dims (sym c.strided_dims.ensures.dims) (sym c.strided_dims-2.ensures.dims) ∙ joined_ok _ _ c.in_ok-dims.ensures.value)
-    (c.promote-both.ensures ∙ ap₂ promoted c.strided_type.ensures c.strided_type-2.ensures)
-    (ap (λ (w : Window). w.elems) c.stretched-left.ensures)
-    (ap (λ (w : Window). w.elems) c.stretched-right.ensures)
-    c.in_err-elems.ensures.value in
-    grind (arith, common_steps, h)
+    let j = ap₂ joined_dims (sym c.strided_dims-left.ensures.dims) (sym c.strided_dims-right.ensures.dims) ∙ joined_ok _ _ c.in_ok-dims.ensures.value in
+    answers_same _ _ _ _ (elementwise_joined c.args.op c.args.a.now c.args.b.now c.stretched.result c.stretched-2.result c.in_ok-dims.dims j c.stretched.ensures c.stretched-2.ensures) c.paired-4.ensures.value

@@ -1,5 +1,5 @@
--- The values before the next block are made, and the blocks are of one length.
-use Rattle.std.proofs.Common.{◌≡◌, ◌<◌, ◌≤◌, ◌-◌, length, map}
+-- The values before the next block are made, and there is room for it.
+use Rattle.std.proofs.Common.{◌≡◌, ◌≤◌, ◌*◌, ◌-◌, length, map, min}
 use Rattle.pdl_elem.specs.Numbers.{wrapped}
 use Rattle.pdl_elem.specs.Types.{binary_result}
 use Rattle.pdl_ops.proofs.Parts.{AreMade}
@@ -8,9 +8,7 @@ use Rattle.pdl_ops.proofs.blocks.values.Given as goal
 abbrev pub invariant-loop-done : goal.invariant-loop-done
 invariant-loop-done l = record {
   inside : l.done ≤ l.count;
-  some : l.done < l.count → 0 < length l.block.items;
-  left : length l.left.items ≡ length l.block.items;
-  right : length l.right.items ≡ length l.block.items;
+  room : 3 * min (l.count - l.done) 512 ≤ length l.room.items;
   ty : l.made.ty ≡ binary_result l.op l.ty l.ty;
   count : length l.made.elems ≡ l.done;
   made : AreMade l.op l.ty (map (wrapped l.ty) l.a.elems) (map (wrapped l.ty) l.b.elems) l.done l.made.elems;
