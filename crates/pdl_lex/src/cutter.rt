@@ -12,6 +12,9 @@ use std::mem;
 /// The most bytes of a statement's text.
 const STATEMENT_LIMIT: usize = 65_536;
 
+// The bytes for which a text has room once it's begun.
+const FIRST_ROOM: usize = 64;
+
 /// Where a byte of a script stands.
 #[derive(Clone, Copy, Debug, PartialEq, Eq)]
 pub enum Mode {
@@ -77,6 +80,16 @@ fn plain_len(mode: Mode, bytes: &[u8]) -> usize
         .iter()
         .take_while(|byte| is_plain(mode, **byte))
         .count()
+}
+
+// Puts a byte onto a text. The first one makes room for those that follow.
+fn put(text: &mut Vec<u8>, byte: u8) -> Result<(), NoMemory>
+    ensures ok { OnOk result (text.new.items ≡ text.old.items ++ byte ∷ []) }
+    ensures err { OnErr result (text.new.items ≡ text.old.items) }
+{
+    let room = if text.is_empty() { FIRST_ROOM } else { 1 };
+    text.reserve(room)?;
+    text.push(byte).map_err(AllocError::from)
 }
 
 /// Cuts a script, which is fed to it in parts of any size, into its statements.
@@ -310,11 +323,11 @@ impl StatementCutter {
             self.over = true;
             return Ok(Some(Piece::TooLong { line: self.start }));
         }
-        match self.text.push(byte) {
+        match put(&mut self.text, byte) {
             Ok(()) => Ok(None),
             Err(refused) => {
                 self.failed = true;
-                Err(refused.into())
+                Err(refused)
             }
         }
     }

@@ -8,6 +8,9 @@ use crate::bytes::{digits_len, is_letter, is_word_byte, word_len};
 use crate::{LexFault, Token, TokenKind};
 use std::alloc::Global;
 
+// The most tokens for which there is room from the start.
+const FIRST_TOKENS: usize = 32;
+
 /// Whether a text is a word: a letter or `_`, and then letters, digits and `_`.
 pub fn is_word(text: &[u8]) -> bool
     ensures { result ≡ is_word text.now }
@@ -197,7 +200,7 @@ pub fn tokens(alloc: Global, text: &[u8]) -> Result<Vec<Token>, LexFault>
     ensures fault { IfErr result (λ fault. fault ≢ LexFault.NoMemory → toks text.now ≡ Err fault) }
     ensures spans { IfOk result (λ found. Spans text.now found.items) }
 {
-    let mut found = Vec::new(alloc);
+    let mut found = Vec::with_capacity(alloc, text.len().min(FIRST_TOKENS))?;
     let mut at = 0;
     while at < text.len() {
         at = take_token(&mut found, text, at)?;

@@ -5,7 +5,7 @@ use Rattle.pdl_lex.proofs.lexer.tokens.Goals as goal
 
 pub loop-at-init : goal.loop-at-init
 loop-at-init c = record {
-  read = at-start c.args.text.now c.new-found.result.items c.new-found.ensures.items;
+  read = at-start c.args.text.now c.in_ok-found.found.items c.in_ok-found.ensures.items;
   within = omega arith;
 }
 
