@@ -1,5 +1,6 @@
 -- What is left once what no held array reaches was let go.
-use Rattle.std.proofs.Common.{◌≡◌, ◌≢◌, ℕ, ◌+◌, ◌<◌, ◌≤◌, ◌||◌, Bool, true, false, eqb, cond, nat_lt, suc, zero, List, [], ◌∷◌, length, get_or, drop, Option, Some, None, is_some, inl, inr, refl, sym, ◌∙◌, ap, arith}
+use Rattle.std.proofs.Common.{◌≡◌, ◌≢◌, ℕ, ◌+◌, ◌<◌, ◌≤◌, ◌||◌, Bool, true, false, eqb, cond, nat_lt, suc, zero, List, [], ◌∷◌, length, get_or, drop, Option, Some, None, is_some, inl, inr, refl, sym, ◌∙◌, ap, subst, arith}
+use Rattle.std.proofs.Math.Path.{fun_ext}
 use Rattle.std.proofs.lemmas.Bool.{cases_Bool}
 use Rattle.std.proofs.lemmas.Bool.Decides.{eqb_tells}
 use Rattle.pdl_world.specs.Cut.{has_views}
@@ -126,7 +127,7 @@ risen_leaving starts old mid new hs h1 o r s n = record {
   left = n;
 }
 
-pub let_go_is : (starts : List ℕ) (old mid new : Rows) (hs h1 gs : Counts) → InOrder old → IsRisen starts old hs h1 → IsSettledSo old mid h1 → new ≡ staying (stands h1) mid → Beside new gs → ((v : ℕ) → count gs v ≡ count h1 v) → IsLetGo old hs new gs
+pub let_go_is : (starts : List ℕ) (old mid new : Rows) (hs h1 gs : Counts) → InOrder old → IsRisen starts old hs h1 → IsSettledSo old mid h1 → new ≡ staying (stands h1) mid → Beside new gs → ((v : ℕ) → count gs v ≡ count h1 v) → IsLetGo old (count hs) new gs
 let_go_is starts old mid new hs h1 gs o r s n b c =
     let l : IsLeaving old mid new (reached old (is_held hs)) (stands h1) = risen_leaving starts old mid new hs h1 o r s n in
     let counts : (v : ℕ) → has new v ≡ true → count gs v ≡ count hs v = λ v h. c v ∙ r.counts v (stays (stands h1) mid v (ap (λ x. has x v) (sym n) ∙ h)) in
@@ -134,9 +135,13 @@ let_go_is starts old mid new hs h1 gs o r s n b c =
       swept = λ held f. left_means old mid new (reached old (is_held hs)) (stands h1) held (is_held hs) o.still l refl f;
       left = is_left old mid new (reached old (is_held hs)) (stands h1) o l;
       beside = b;
-      counts = counts;
+      counts_are = counts;
       tight = λ v y d u. left_tight old mid new (reached old (is_held hs)) (stands h1) (is_held hs) o.still l refl v y (ap (nat_lt 0) (sym (counts v y)) ∙ u);
     }
+
+-- held as often
+pub let_go_as : (old : Rows) (f g : ℕ → ℕ) (new : Rows) (gs : Counts) → ((v : ℕ) → f v ≡ g v) → IsLetGo old f new gs → IsLetGo old g new gs
+let_go_as old f g new gs e i = (let P : (ℕ → ℕ) → Type 0 = λ h. IsLetGo old h new gs in subst P (fun_ext e) i)
 
 -- ---- one hold less
 

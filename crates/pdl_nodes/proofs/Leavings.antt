@@ -123,7 +123,7 @@ filter_agree t u ((k, r) ∷ rs) f =
     let rest : filter t (numbers rs) ≡ filter u (numbers rs) = filter_agree t u rs (λ v h. f v (elim (eqb_tells k v) [ inl y ↦ rw y.0 refl | inr y ↦ rw y.0 h ])) in
     ap (λ b. cond b (k ∷ filter t (numbers rs)) (filter t (numbers rs))) here ∙ ap (λ ks. cond (u k) (k ∷ ks) ks) rest
 
-has_staying : (t : ℕ → Bool) (rs : Rows) (v : ℕ) → has rs v ≡ true → t v ≡ has (staying t rs) v
+pub has_staying : (t : ℕ → Bool) (rs : Rows) (v : ℕ) → has rs v ≡ true → t v ≡ has (staying t rs) v
 has_staying t rs v h = elim (cases_Bool (t v)) [
   | inl y ↦ y ∙ sym (has_stays t rs v y ∙ h)
   | inr n ↦ n ∙ sym (elim (cases_Bool (has (staying t rs) v)) [

@@ -48,7 +48,7 @@ marked_none rs hs b = record {
       let c : going hs v ≡ 0 = b.clear v in omega (arith, a, c));
 }
 
-loose_listed : (rs : Rows) (hs : Counts) (starts : List ℕ) (v : ℕ) → Beside rs hs → AreTight starts rs hs → IsLoose rs hs v → holds starts v ≡ true
+pub loose_listed : (rs : Rows) (hs : Counts) (starts : List ℕ) (v : ℕ) → Beside rs hs → AreTight starts rs hs → IsLoose rs hs v → holds starts v ≡ true
 loose_listed rs hs starts v b t l = elim (cases_Bool (holds starts v)) [
   | inl y ↦ y
   | inr n ↦ (let a : left rs (stands hs) v ≡ children rs v = left_all rs (stands hs) v (λ k g. b.numbers k ∙ g) in
@@ -64,7 +64,7 @@ letting_none rs hs loose id b t = record {
   loose = λ v l. loose_listed rs hs (id ∷ loose) v b t l;
 }
 
-fewer_then : (a b c : Counts) → IsFewer a b → IsFewer b c → IsFewer a c
+pub fewer_then : (a b c : Counts) → IsFewer a b → IsFewer b c → IsFewer a c
 fewer_then a b c x y = record {
   standing = λ v e. x.standing v (y.standing v e);
   counts = λ v e. y.counts v e ∙ x.counts v (y.standing v e);

@@ -55,5 +55,6 @@ pub mod Letting
 pub mod Falling
 pub mod Removing
 mod Gone
+mod Alone
 mod Tight
 mod Lazy

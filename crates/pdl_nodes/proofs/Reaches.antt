@@ -30,7 +30,7 @@ after_take hs later id v h o = ap (nat_lt 0) (count_taken hs later id v h o)
 pub taken : (t : Rows) (hs later : Counts) (id v : ℕ) → hold_at later id ≡ less_one (hold_at hs id) → ((x : ℕ) → x ≢ id → hold_at later x ≡ hold_at hs x) → reached t (is_held later) v ≡ reached t (after_release id hs) v
 taken t hs later id v h o = ap (λ f. reached t f v) (fun_ext (λ x. after_take hs later id x h o))
 
-none_of : (o : Option Hold) → is_some o ≡ false → o ≡ None
+pub none_of : (o : Option Hold) → is_some o ≡ false → o ≡ None
 none_of None h = refl
 none_of (Some x) h = absurd (cc)
 

@@ -1,10 +1,10 @@
 -- Removing what has no holds, from some arrays up.
-use Rattle.std.proofs.Common.{◌≡◌, ◌≢◌, ℕ, ◌+◌, ◌-◌, ◌<◌, ◌≤◌, ◌&&◌, ◌||◌, not, Bool, true, false, eqb, cond, List, [], ◌∷◌, Option, Some, None, inl, inr, refl, sym, ◌∙◌, ap, subst, arith}
+use Rattle.std.proofs.Common.{◌≡◌, ◌≢◌, ℕ, ◌+◌, ◌-◌, ◌<◌, ◌≤◌, ◌&&◌, ◌||◌, not, Bool, true, false, eqb, cond, List, [], ◌∷◌, Option, Some, None, is_some, inl, inr, refl, sym, ◌∙◌, ap, subst, arith}
 use Rattle.std.proofs.lemmas.Bool.{cases_Bool}
 use Rattle.std.proofs.lemmas.Bool.Decides.{eqb_tells}
 use Rattle.pdl_world.specs.Swept.{holds}
 use Rattle.pdl_nodes.specs.Children.{children, left, one_of}
-use Rattle.pdl_nodes.specs.Holds.{Counts, count, going, stands}
+use Rattle.pdl_nodes.specs.Holds.{Counts, hold_at, count, count_in, going, going_in, stands}
 use Rattle.pdl_nodes.specs.Risen.{AreNoted, ComesFrom, IsFallen, IsNoted, ParentsAreOlder}
 use Rattle.pdl_nodes.specs.Row.{parent_of}
 use Rattle.pdl_nodes.specs.Rows.{Rows, row_at, has, other, without, Falls}
@@ -16,7 +16,8 @@ use Rattle.pdl_nodes.proofs.Finds.{same, differ, falls_stays, has_gone, has_stay
 use Rattle.pdl_nodes.proofs.Lefts.{left_all, left_same}
 use Rattle.pdl_nodes.proofs.Paths.{parent_live}
 use Rattle.pdl_nodes.proofs.Reaches.{staying_live}
-use Rattle.pdl_nodes.proofs.Rests.{size_of, without_here}
+use Rattle.pdl_nodes.proofs.Rests.{size_of, without_here, without_none}
+use Rattle.pdl_nodes.proofs.Shapes.{past_at}
 use Rattle.pdl_nodes.proofs.Rising.{no_both, noted_stands, noted_count, noted_less}
 
 -- ---- rows of which some are left
@@ -31,7 +32,7 @@ staying_twice t u ((k, r) ∷ rs) = elim (cases_Bool (u k)) [
   | inr n ↦ rw n (staying_twice t u rs)
 ]
 
-staying_all : (rs : Rows) → staying (λ v. true) rs ≡ rs
+pub staying_all : (rs : Rows) → staying (λ v. true) rs ≡ rs
 staying_all [] = refl
 staying_all ((k, r) ∷ rs) = ap (λ x. (k, r) ∷ x) (staying_all rs)
 
@@ -139,24 +140,25 @@ falling_stays id t0 h0 table hs next at i e g =
       noted = i.noted;
     }
 
-pub record IsGoneThere (table : Rows) (hs : Counts) (at : ℕ) : Type 0 where
-  pub gone : stands hs at ≡ false
-  pub there : has table at ≡ true
+record IsGoneThere (table : Rows) (hs : Counts) (at : ℕ) : Type 0 where
+  gone : stands hs at ≡ false
+  there : has table at ≡ true
 
-pub gone_there : (table : Rows) (hs : Counts) (at : ℕ) → (not (stands hs at) && has table at) ≡ true → IsGoneThere table hs at
+gone_there : (table : Rows) (hs : Counts) (at : ℕ) → (not (stands hs at) && has table at) ≡ true → IsGoneThere table hs at
 gone_there table hs at g = by (stands hs at) refl (has table at) refl g where
   by : (a : Bool) → stands hs at ≡ a → (b : Bool) → has table at ≡ b → (not a && b) ≡ true → IsGoneThere table hs at
   by true x b y z = (let w : false ≡ true = z in absurd (cc))
   by false x false y z = (let w : false ≡ true = z in absurd (cc))
   by false x true y z = record { gone = x; there = y }
 
-pub falling_smaller : (id : ℕ) (t0 : Rows) (h0 : Counts) (table : Rows) (hs : Counts) (next : Option ℕ) (at : ℕ) → ParentsAreOlder t0 → IsFalling id t0 h0 table hs next → has table at ≡ true → size_of (parent_of (row_at table at)) < at + 1
-falling_smaller id t0 h0 table hs next at o i h = by (parent_of (row_at table at)) refl where
+pub falling_smaller : (id : ℕ) (t0 : Rows) (h0 : Counts) (table : Rows) (hs : Counts) (next : Option ℕ) (at : ℕ) → ParentsAreOlder t0 → IsFalling id t0 h0 table hs next → size_of (parent_of (row_at table at)) < at + 1
+falling_smaller id t0 h0 table hs next at o i = by (parent_of (row_at table at)) refl where
   by : (q : Option ℕ) → parent_of (row_at table at) ≡ q → size_of q < at + 1
   by None e = omega arith
-  by (Some q) e =
-      let l : q < at = o at q (has_less t0 table at i.rows h) (ap parent_of (sym (row_less t0 table at i.rows h)) ∙ e) in
-      omega (arith, l)
+  by (Some q) e = elim (cases_Bool (has table at)) [
+    | inl h ↦ (let l : q < at = o at q (has_less t0 table at i.rows h) (ap parent_of (sym (row_less t0 table at i.rows h)) ∙ e) in omega (arith, l))
+    | inr h ↦ (let z : None ≡ Some q = sym (ap parent_of (past_at table at h)) ∙ e in absurd (cc))
+  ]
 
 noted_gone : (table new : Rows) (hs gs : Counts) (at : ℕ) → Falls table → IsGoneThere table hs at → new ≡ without at table → IsNoted (λ n. n - 1) hs gs (parent_of (row_at table at)) → AreNoted table hs → AreNoted new gs
 noted_gone table new hs gs at f x n k a v y =
@@ -170,7 +172,7 @@ noted_gone table new hs gs at f x n k a v y =
     omega (arith, c, l, m, b, g, e)
 
 -- it goes
-pub falling_goes : (id : ℕ) (t0 : Rows) (h0 : Counts) (table new : Rows) (hs gs : Counts) (next : Option ℕ) (at : ℕ) → Falls t0 → IsFalling id t0 h0 table hs next → next ≡ Some at → (not (stands hs at) && has table at) ≡ true
+falling_goes : (id : ℕ) (t0 : Rows) (h0 : Counts) (table new : Rows) (hs gs : Counts) (next : Option ℕ) (at : ℕ) → Falls t0 → IsFalling id t0 h0 table hs next → next ≡ Some at → (not (stands hs at) && has table at) ≡ true
     → new ≡ without at table → IsNoted (λ n. n - 1) hs gs (parent_of (row_at table at)) → IsFalling id t0 h0 new gs (parent_of (row_at table at))
 falling_goes id t0 h0 table new hs gs next at f i e g n k =
     let x : IsGoneThere table hs at = gone_there table hs at g in
@@ -199,6 +201,33 @@ falling_goes id t0 h0 table new hs gs next at f i e g n k =
       ];
       noted = noted_gone table new hs gs at falls x n k i.noted;
     }
+
+-- none of its notes changed
+falling_as : (id : ℕ) (t0 : Rows) (h0 : Counts) (table new : Rows) (hs gs : Counts) → new ≡ table → ((v : ℕ) → hold_at gs v ≡ hold_at hs v) → IsFalling id t0 h0 table hs None → IsFalling id t0 h0 new gs None
+falling_as id t0 h0 table new hs gs e a i =
+    let P : Rows → Type 0 = λ x. IsFalling id t0 h0 x gs None in
+    subst P (sym e) (record {
+      rows = i.rows;
+      keeps = i.keeps;
+      standing = λ v. ap is_some (a v) ∙ i.standing v;
+      counts = λ v. ap count_in (a v) ∙ i.counts v;
+      first = i.first;
+      climbs = i.climbs;
+      noted = λ v y. i.noted v (sym (ap is_some (a v)) ∙ y)
+          ∙ ap (λ n. n + left table (stands hs) v) (sym (ap going_in (a v)))
+          ∙ ap (λ n. going gs v + n) (left_same table (stands hs) (stands gs) v (λ k h. sym (ap is_some (a k))));
+    })
+
+-- it goes, if it is there
+pub falling_on : (id : ℕ) (t0 : Rows) (h0 : Counts) (table new : Rows) (hs gs : Counts) (next : Option ℕ) (at : ℕ) → Falls t0 → IsFalling id t0 h0 table hs next → next ≡ Some at → stands hs at ≡ false
+    → new ≡ without at table → IsNoted (λ n. n - 1) hs gs (parent_of (row_at table at)) → IsFalling id t0 h0 new gs (parent_of (row_at table at))
+falling_on id t0 h0 table new hs gs next at f i e s n k = elim (cases_Bool (has table at)) [
+  | inl y ↦ falling_goes id t0 h0 table new hs gs next at f i e (rw (s, y) refl) n k
+  | inr y ↦ (let p : parent_of (row_at table at) ≡ None = ap parent_of (past_at table at y) in
+      let P : Option ℕ → Type 0 = λ o. IsFalling id t0 h0 new gs o in
+      subst P (sym p) (falling_as id t0 h0 table new hs gs (n ∙ without_none table at y) (λ v. k.others v (λ z. (let w : None ≡ Some v = sym p ∙ z in absurd (cc))))
+      (falling_stays id t0 h0 table hs next at i e (rw (s, y) refl))))
+]
 
 pub falling_done : (id : ℕ) (t0 : Rows) (h0 : Counts) (table : Rows) (hs : Counts) → IsFalling id t0 h0 table hs None → IsFallen id t0 h0 table hs
 falling_done id t0 h0 table hs i = record {

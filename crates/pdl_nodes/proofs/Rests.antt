@@ -1,6 +1,6 @@
 -- Rows in two parts: those that a loop has passed, and those that are still to come.
 use Rattle.std.proofs.Common.{◌≡◌, ℕ, suc, ◌+◌, ◌<◌, true, false, [], ◌∷◌, ◌++◌, Option, Some, None, inl, inr, refl, sym, ◌∙◌, ap, arith}
-use Rattle.std.proofs.lemmas.Bool.Decides.{leb_tells}
+use Rattle.std.proofs.lemmas.Bool.Decides.{eqb_tells, leb_tells}
 use Rattle.pdl_nodes.specs.Row.{Row}
 use Rattle.pdl_nodes.specs.Rows.{Rows, row_at, has, without, NumbersBelow, Falls, below, newest, HasParent}
 use Rattle.pdl_nodes.proofs.Finds.{same, differ}
@@ -44,6 +44,13 @@ row_here ((j, q) ∷ a) rest k r f =
 all_stay : (k : ℕ) (rs : Rows) → NumbersBelow k rs → without k rs ≡ rs
 all_stay k [] b = refl
 all_stay k ((j, q) ∷ rs) b = rw (differ j k (λ (e : j ≡ k). let z : ⊥ = omega (arith, b.0) in z)) (ap (λ x. (j, q) ∷ x) (all_stay k rs b.1))
+
+pub without_none : (rs : Rows) (id : ℕ) → has rs id ≡ false → without id rs ≡ rs
+without_none [] id h = refl
+without_none ((j, q) ∷ rs) id h = elim (eqb_tells j id) [
+  | inl y ↦ (let z : true ≡ false = rw y.0 at h in absurd (cc))
+  | inr y ↦ rw y.0 (ap (λ x. (j, q) ∷ x) (without_none rs id (rw y.0 at h)))
+]
 
 pub without_here : (a rest : Rows) (k : ℕ) (r : Row) → Falls (a ++ (k, r) ∷ rest) → without k (a ++ (k, r) ∷ rest) ≡ a ++ rest
 without_here [] rest k r f = rw (same k k refl) (all_stay k rest f.0)

@@ -93,7 +93,7 @@ rising_none rs hs id m h = record {
   loose = λ v l n. (l, λ e. n (ap Some (sym e)));
 }
 
-none_less : (n : ℕ) → nat_lt 0 n ≡ false → n ≡ 0
+pub none_less : (n : ℕ) → nat_lt 0 n ≡ false → n ≡ 0
 none_less n h = elim (leb_tells 1 n) [ inl l ↦ (let z : true ≡ false = sym l.0 ∙ h in absurd (cc)) | inr l ↦ omega (arith, l.1) ]
 
 -- one that is loose goes

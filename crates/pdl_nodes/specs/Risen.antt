@@ -1,5 +1,5 @@
 -- What goes from arrays up, and what is left then.
-use Rattle.std.specs.Prelude.{◌≡◌, ℕ, ◌+◌, ◌<◌, true, false, List, [], Option, Some}
+use Rattle.std.specs.Prelude.{◌≡◌, ℕ, ◌+◌, ◌<◌, nat_lt, true, false, List, [], ◌∷◌, Option, Some}
 use Rattle.pdl_world.specs.Cut.{has_views}
 use Rattle.pdl_world.specs.Swept.{holds, sweep}
 use Rattle.pdl_nodes.specs.Children.{children, left}
@@ -7,8 +7,9 @@ use Rattle.pdl_nodes.specs.Going.{IsLeft}
 use Rattle.pdl_nodes.specs.Holds.{Counts, Beside, hold_at, is_held, stands, count, going, with_going}
 use Rattle.pdl_nodes.specs.Laws.{Means}
 use Rattle.pdl_nodes.specs.Row.{parent_of}
-use Rattle.pdl_nodes.specs.Rows.{Rows, row_at, has, reached}
+use Rattle.pdl_nodes.specs.Rows.{Rows, row_at, has, reached, without}
 use Rattle.pdl_nodes.specs.Staying.{staying}
+use Rattle.pdl_nodes.specs.Still.{IsStill}
 use Rattle.pdl_nodes.specs.Worlds.{shape, world_of}
 
 -- all but those that are listed are held, or have views: none of them can go
@@ -60,6 +61,14 @@ pub record IsFewer (old new : Counts) : Type 0 where
   pub counts : (v : ℕ) → stands new v ≡ true → count new v ≡ count old v
   pub free : (v : ℕ) → stands old v ≡ true → stands new v ≡ false → is_held old v ≡ false
 
+-- the holds of v were forgotten: it is there, and has no views; all else is held, or has views
+pub record IsForgotten (rs : Rows) (hs : Counts) (v : ℕ) : Type 0 where
+  pub still : IsStill rs
+  pub live : has rs v ≡ true
+  pub viewless : has_views (shape rs) v ≡ false
+  pub beside : Beside (without v rs) hs
+  pub tight : AreTight (v ∷ []) rs hs
+
 -- a view of v goes
 pub record IsParentOfGone (rs : Rows) (hs : Counts) (v : ℕ) : Type 0 where
   pub child : ℕ
@@ -100,12 +109,12 @@ pub record IsFallen (id : ℕ) (old : Rows) (hs : Counts) (new : Rows) (gs : Cou
       → stands hs p ≡ false → has new p ≡ false
   pub noted : AreNoted new gs
 
--- what no held array reaches is gone, and none that is left can go
-pub record IsLetGo (old : Rows) (hs : Counts) (new : Rows) (gs : Counts) : Type 0 where
+-- what none reaches that is held so often is gone, and none that is left can go
+pub record IsLetGo (old : Rows) (counts : ℕ → ℕ) (new : Rows) (gs : Counts) : Type 0 where
   pub swept :
-      (held : List ℕ) → ((v : ℕ) → holds held v ≡ is_held hs v)
+      (held : List ℕ) → ((v : ℕ) → holds held v ≡ nat_lt 0 (counts v))
       → Means new (sweep (world_of old) held)
   pub left : IsLeft old new
   pub beside : Beside new gs
-  pub counts : (v : ℕ) → has new v ≡ true → count gs v ≡ count hs v
+  pub counts_are : (v : ℕ) → has new v ≡ true → count gs v ≡ counts v
   pub tight : AreTight [] new gs

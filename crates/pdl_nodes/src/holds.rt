@@ -1,5 +1,5 @@
 //! How often each number is held.
-ghost use Rattle.std.specs.Prelude.{◌≡◌, ◌≢◌, ℕ, ◌+◌, ◌-◌, ◌<◌, ◌^◌, [], ◌∷◌, true, false, Some, None, OnOk, OnErr};
+ghost use Rattle.std.specs.Prelude.{◌≡◌, ◌≢◌, ℕ, ◌+◌, ◌-◌, ◌<◌, ◌^◌, ◌==◌, if◌then◌else◌, [], ◌∷◌, true, false, Some, None, OnOk, OnErr};
 ghost use Rattle.pdl_nodes.specs.Rows.{NumbersBelow, has, row_at};
 ghost use Rattle.pdl_nodes.specs.Holds.{hold_at, stands, count, going, with_going, goes_in, less_one, one_more, held_once, Beside};
 
@@ -127,6 +127,31 @@ impl Holds {
             }
             None => {}
         }
+    }
+
+    /// Whether a number is held once.
+    fn is_last(&self, id: u64) -> bool
+        ensures { result ≡ (count self.now id == 1) }
+    {
+        match self.by_number.get(&id) {
+            Some(hold) => hold.count == 1,
+            None => false,
+        }
+    }
+
+    /// Takes one hold back. A number that was held once is forgotten, which this says.
+    pub fn take_out(&mut self, id: u64) -> bool
+        requires { 0 < count self.old id }
+        ensures last { result ≡ (count self.old id == 1) }
+        ensures here { hold_at self.new id ≡ if result then None else less_one (hold_at self.old id) }
+        ensures others { (v : ℕ) → v ≢ id → hold_at self.new v ≡ hold_at self.old v }
+    {
+        if self.is_last(id) {
+            self.remove(id);
+            return true;
+        }
+        self.take(id);
+        false
     }
 
     /// Forgets a number.

@@ -1,27 +1,25 @@
 //! Letting go: what waits in views that go is written back, where their roots
 //! stay, and then what no held array reaches is removed (PDL::Dataflow). It goes over what goes alone:
 //! from the array that was released, and from those that a cut may have left loose, up.
-ghost use Rattle.std.specs.Prelude.{◌≡◌, ℕ, ◌+◌, ◌<◌, true, List, ◌∷◌, []};
-ghost use Rattle.pdl_world.specs.Swept.{sweep};
+ghost use Rattle.std.specs.Prelude.{◌≡◌, ℕ, ◌+◌, ◌<◌, true, ◌∷◌, []};
 ghost use Rattle.pdl_world.specs.Swept.{holds as is_listed};
 ghost use Rattle.pdl_nodes.specs.Families.{InOrder};
-ghost use Rattle.pdl_nodes.specs.Going.{going_at, going_size, going_sum, IsSettledAt, IsLeft, LeavesWaiting};
+ghost use Rattle.pdl_nodes.specs.Going.{going_at, going_size, going_sum, IsSettledAt, LeavesWaiting};
 ghost use Rattle.pdl_nodes.specs.Holds.{is_held, stands, count, Beside, after_release, count_after};
 ghost use Rattle.pdl_nodes.specs.Known.{AreKnown};
-ghost use Rattle.pdl_nodes.specs.Laws.{Means};
 ghost use Rattle.pdl_nodes.specs.Outcomes.{IsReady};
 ghost use Rattle.pdl_nodes.specs.Released.{KeepsWaiting};
-ghost use Rattle.pdl_nodes.specs.Risen.{AreNoted, AreTight, ComesFrom, IsLetGo, IsRisen, IsTight};
+ghost use Rattle.pdl_nodes.specs.Risen.{AreNoted, AreTight, ComesFrom, IsForgotten, IsLetGo, IsRisen, IsTight};
 ghost use Rattle.pdl_nodes.specs.Rows.{has, reached, row_at};
 ghost use Rattle.pdl_nodes.specs.Sized.{AreSized};
 ghost use Rattle.pdl_nodes.specs.Staying.{staying};
 ghost use Rattle.pdl_nodes.specs.Still.{IsStill};
-ghost use Rattle.pdl_nodes.specs.Worlds.{IsRoot, world_of};
+ghost use Rattle.pdl_nodes.specs.Worlds.{IsRoot};
 
 use crate::holds::Holds;
 use crate::push::write_back;
 use crate::table::Table;
-use crate::upward::{let_up, remove_up};
+use crate::upward::{let_parent_up, let_up, remove_up};
 use pdl_buf::Steps;
 use std::sync::ledger::Ledger;
 
@@ -126,13 +124,74 @@ fn let_go<L: Ledger>(
     requires beside { Beside table.old holds.old }
     requires live { (v : ℕ) → is_listed (id ∷ loose.now) v ≡ true → has table.old v ≡ true }
     requires tight { AreTight (id ∷ loose.now) table.old holds.old }
-    ensures gone { IsLetGo table.old holds.old table.new holds.new }
+    ensures gone { IsLetGo table.old (count holds.old) table.new holds.new }
     ensures counted { steps.new ≡ steps.old
         + going_sum table.old (reached table.old (is_held holds.old)) table.old }
 {
     let_all(table, holds, loose, id);
     settle_all(table, holds, loose, id, steps);
     remove_all(table, holds, loose, id);
+}
+
+/// Lets a view go that has no views and whose last hold was forgotten, and each array above it that
+/// goes then. What waits in views that go is written back where their roots stay.
+fn let_view_go<L: Ledger>(table: &mut Table, holds: &mut Holds, id: u64, steps: &mut Steps<L>)
+    requires order { InOrder table.old }
+    requires known { AreKnown table.old }
+    requires forgotten { IsForgotten table.old holds.old id }
+    ensures gone { IsLetGo table.old (count holds.old) table.new holds.new }
+    ensures counted { steps.new ≡ steps.old
+        + going_sum table.old (reached table.old (is_held holds.old)) table.old }
+{
+    let_parent_up(table, holds, id);
+    settle_all(table, holds, &[], id, steps);
+    remove_all(table, holds, &[], id);
+}
+
+/// Takes one hold back where no array is loose: then this one can go, and what is above it, and no
+/// other.
+fn release_one<L: Ledger>(table: &mut Table, holds: &mut Holds, id: u64, steps: &mut Steps<L>)
+    requires order { InOrder table.old }
+    requires known { AreKnown table.old }
+    requires beside { Beside table.old holds.old }
+    requires held { 0 < count holds.old id }
+    requires tight { AreTight [] table.old holds.old }
+    ensures gone { IsLetGo table.old (count_after id holds.old) table.new holds.new }
+    ensures counted { steps.new ≡ steps.old
+        + going_sum table.old (reached table.old (after_release id holds.old)) table.old }
+{
+    if table.has_views(id) {
+        holds.take(id);
+        return;
+    }
+    if !holds.take_out(id) {
+        return;
+    }
+    if table.remove_root(id) {
+        return;
+    }
+    let_view_go(table, holds, id, steps)
+}
+
+/// Takes one hold back where others may be loose.
+fn release_with<L: Ledger>(
+    table: &mut Table,
+    holds: &mut Holds,
+    loose: &[u64],
+    id: u64,
+    steps: &mut Steps<L>,
+)
+    requires order { InOrder table.old }
+    requires known { AreKnown table.old }
+    requires beside { Beside table.old holds.old }
+    requires held { 0 < count holds.old id }
+    requires tight { IsTight loose.now table.old holds.old }
+    ensures gone { IsLetGo table.old (count_after id holds.old) table.new holds.new }
+    ensures counted { steps.new ≡ steps.old
+        + going_sum table.old (reached table.old (after_release id holds.old)) table.old }
+{
+    holds.take(id);
+    let_go(table, holds, loose, id, steps);
 }
 
 /// Takes one hold back. What waits in views that go now is written back where their roots stay, and
@@ -150,16 +209,13 @@ pub fn release<L: Ledger>(
     requires beside { Beside table.old holds.old }
     requires held { 0 < count holds.old id }
     requires tight { IsTight loose.now table.old holds.old }
-    ensures swept { (held : List ℕ) → ((v : ℕ) → is_listed held v ≡ after_release id holds.old v)
-        → Means table.new (sweep (world_of table.old) held) }
-    ensures left { IsLeft table.old table.new }
-    ensures beside { Beside table.new holds.new }
-    ensures counts { (v : ℕ) → has table.new v ≡ true
-        → count holds.new v ≡ count_after id holds.old v }
-    ensures tight { AreTight [] table.new holds.new }
+    ensures gone { IsLetGo table.old (count_after id holds.old) table.new holds.new }
     ensures counted { steps.new ≡ steps.old
         + going_sum table.old (reached table.old (after_release id holds.old)) table.old }
 {
-    holds.take(id);
-    let_go(table, holds, loose, id, steps);
+    if loose.is_empty() {
+        release_one(table, holds, id, steps)
+    } else {
+        release_with(table, holds, loose, id, steps)
+    }
 }

@@ -1,5 +1,5 @@
 //! Nodes by their numbers: a slab, and an ordered map that gives the slab's key of each number.
-ghost use Rattle.std.specs.Prelude.{◌≡◌, ◌≢◌, ℕ, ◌+◌, ◌-◌, ◌<◌, ◌^◌, ◌∷◌, [], true, false, length, All, is_some, Some, None, OnOk, OnErr};
+ghost use Rattle.std.specs.Prelude.{◌≡◌, ◌≢◌, ℕ, ◌+◌, ◌-◌, ◌<◌, ◌^◌, ◌∷◌, if◌then◌else◌, [], true, false, length, All, is_none, is_some, Some, None, OnOk, OnErr};
 ghost use Rattle.std.specs.Ordering.{nat_cmp};
 ghost use Rattle.std.specs.BTreeMap.{IsOrdered, Updates};
 ghost use Rattle.pdl_buf.specs.Window.{place_at};
@@ -12,7 +12,7 @@ ghost use Rattle.pdl_nodes.specs.Children.{children, noted, one_of};
 ghost use Rattle.pdl_nodes.specs.Placed.{placed_by};
 ghost use Rattle.pdl_nodes.specs.Spots.{spots};
 ghost use Rattle.pdl_nodes.specs.Rows.{NumbersBelow, row_at, has, each, without};
-ghost use Rattle.pdl_nodes.specs.Row.{is_buffered, places_or};
+ghost use Rattle.pdl_nodes.specs.Row.{is_buffered, parent_of, places_or};
 ghost use Rattle.pdl_nodes.specs.Changes.{kept_in, wait_in, fill_in, marked_in, mark_in};
 ghost use Rattle.pdl_nodes.specs.Cut.{CanCut, CanDerive, cut, derived_in, from, rooted_in};
 ghost use Rattle.pdl_nodes.specs.Known.{IsLiftable};
@@ -103,13 +103,6 @@ impl Table {
         &self.nodes[self.keys[&id]]
     }
 
-    /// Whether a number has a node.
-    pub fn has(&self, id: u64) -> bool
-        ensures { result ≡ has self.now id }
-    {
-        self.keys.contains_key(&id)
-    }
-
     /// Keeps one more node, under a number that is above all others and that no node has as its
     /// root. A view isn't marked.
     pub fn insert(&mut self, id: u64, node: Node) -> Result<(), AllocError>
@@ -127,19 +120,34 @@ impl Table {
         Ok(())
     }
 
-    /// Lets a node go.
-    pub fn remove(&mut self, id: u64)
-        requires live { has self.old id ≡ true }
-        ensures { self.new ≡ without id self.old }
+    /// Lets a node go, if the number has one, and says its parent, if it has one.
+    pub fn remove(&mut self, id: u64) -> Option<u64>
+        ensures rows { self.new ≡ without id self.old }
+        ensures parent { result ≡ parent_of (row_at self.old id) }
     {
-        let key = self.keys[&id];
-        let node = &self.nodes[key];
+        let Some(key) = self.keys.remove(&id) else {
+            return None;
+        };
+        let node = self.nodes.remove(key);
         let root = node.root();
         let parent = node.parent();
-        self.keys.remove(&id);
-        self.nodes.remove(key);
+        drop(node);
         self.marked.forget(root, id);
         self.children.take(parent);
+        parent
+    }
+
+    /// Lets a root go. A view stays. This says which it is.
+    pub fn remove_root(&mut self, id: u64) -> bool
+        requires live { has self.old id ≡ true }
+        ensures root { result ≡ is_none (parent_of (row_at self.old id)) }
+        ensures rows { self.new ≡ if result then without id self.old else self.old }
+    {
+        if self.node(id).parent().is_some() {
+            return false;
+        }
+        self.remove(id);
+        true
     }
 
     /// Puts the elements that are kept of a marked view at its places in its root, in order. It

@@ -1,9 +1,9 @@
 //! What goes from one array up: taking its holds, which is the mark that it goes, and, once what
 //! waits was written back, its removal.
-ghost use Rattle.std.specs.Prelude.{◌≡◌, ◌≢◌, ℕ, ◌+◌, ◌-◌, ◌<◌, ◌&&◌, not, true, Some};
+ghost use Rattle.std.specs.Prelude.{◌≡◌, ◌≢◌, ℕ, ◌+◌, ◌-◌, ◌<◌, true, Some, [], ◌∷◌};
 ghost use Rattle.pdl_nodes.specs.Children.{children};
-ghost use Rattle.pdl_nodes.specs.Holds.{going, stands};
-ghost use Rattle.pdl_nodes.specs.Risen.{AreMarked, AreNoted, IsFallen, IsFewer, IsLoose, IsNoted, ParentsAreOlder};
+ghost use Rattle.pdl_nodes.specs.Holds.{going};
+ghost use Rattle.pdl_nodes.specs.Risen.{AreMarked, AreNoted, IsFallen, IsFewer, IsForgotten, IsLoose, IsNoted, IsRisen, ParentsAreOlder};
 ghost use Rattle.pdl_nodes.specs.Rows.{Falls, has};
 ghost use Rattle.pdl_nodes.specs.Still.{IsStill};
 
@@ -52,11 +52,19 @@ pub fn let_up(table: &Table, holds: &mut Holds, id: u64)
     }
 }
 
-/// Whether an array has no holds and is there still.
-fn is_left_over(table: &Table, holds: &Holds, id: u64) -> bool
-    ensures { result ≡ (not (stands holds.now id) && has table.now id) }
+/// Takes the holds from each array above this one that goes once it does. It has no views, and its
+/// own holds were forgotten.
+pub fn let_parent_up(table: &Table, holds: &mut Holds, id: u64)
+    requires { IsForgotten table.now holds.old id }
+    ensures { IsRisen (id ∷ []) table.now holds.old holds.new }
 {
-    !holds.has(id) && table.has(id)
+    match table.node(id).parent() {
+        Some(parent) => {
+            holds.note(parent, table.children(parent));
+            let_up(table, holds, parent)
+        }
+        None => {}
+    }
 }
 
 /// Removes an array that has no holds, and each above it that has none.
@@ -69,9 +77,8 @@ pub fn remove_up(table: &mut Table, holds: &mut Holds, id: u64)
     let mut next = Some(id);
     while let Some(at) = next {
         next = None;
-        if is_left_over(table, holds, at) {
-            next = table.node(at).parent();
-            table.remove(at);
+        if !holds.has(at) {
+            next = table.remove(at);
             take_parent_note(holds, next);
         }
     }

@@ -17,16 +17,16 @@ release-requires-clause-held g c =
 
 pub invariant_of-self : goal.invariant_of-self
 invariant_of-self g c = (
-  left_nodes c.sweep_laws.ensures.sound c.self.inside.table c.release.new.table c.self.inside.holds c.release.new.holds c.self.inside.next (held_among (one_less_at (holds_in c.self.inside.table c.self.inside.holds) c.args.id)) c.self.invariant.0 c.release.ensures.left
-      (c.release.ensures.swept (held_among (one_less_at (holds_in c.self.inside.table c.self.inside.holds) c.args.id)) (held_is c.self.inside.table c.self.inside.holds c.args.id c.self.invariant.0.beside)) c.release.ensures.beside,
-  tight_all c.release.new.table c.release.new.holds c.clear.new.self.items c.clear.ensures.items c.release.ensures.tight,
+  left_nodes c.sweep_laws.ensures.sound c.self.inside.table c.release.new.table c.self.inside.holds c.release.new.holds c.self.inside.next (held_among (one_less_at (holds_in c.self.inside.table c.self.inside.holds) c.args.id)) c.self.invariant.0 c.release.ensures.gone.left
+      (c.release.ensures.gone.swept (held_among (one_less_at (holds_in c.self.inside.table c.self.inside.holds) c.args.id)) (held_is c.self.inside.table c.self.inside.holds c.args.id c.self.invariant.0.beside)) c.release.ensures.gone.beside,
+  tight_all c.release.new.table c.release.new.holds c.clear.new.self.items c.clear.ensures.items c.release.ensures.gone.tight,
 )
 
 pub returns-clause-released : goal.returns-clause-released
 returns-clause-released g c =
     subst (λ (s : State). IsReleased s c.args.id (state_of c.release.new.table c.release.new.holds c.self.inside.next)) c.self.view_is
-    (left_state c.self.inside.table c.release.new.table c.self.inside.holds c.release.new.holds c.self.inside.next c.args.id c.self.invariant.0.order.still c.release.ensures.left
-    (c.release.ensures.swept (held_among (one_less_at (holds_in c.self.inside.table c.self.inside.holds) c.args.id)) (held_is c.self.inside.table c.self.inside.holds c.args.id c.self.invariant.0.beside)) c.release.ensures.counts)
+    (left_state c.self.inside.table c.release.new.table c.self.inside.holds c.release.new.holds c.self.inside.next c.args.id c.self.invariant.0.order.still c.release.ensures.gone.left
+    (c.release.ensures.gone.swept (held_among (one_less_at (holds_in c.self.inside.table c.self.inside.holds) c.args.id)) (held_is c.self.inside.table c.self.inside.holds c.args.id c.self.invariant.0.beside)) c.release.ensures.gone.counts_are)
 
 pub returns-clause-sound : goal.returns-clause-sound
 returns-clause-sound g c = (invariant_of-self g c).0.sound
@@ -36,5 +36,5 @@ returns-clause-counted g c =
     c.release.ensures.counted ∙ ap (λ n. c.args.steps.now + n)
     (written_is c.self.inside.table c.release.new.table c.self.inside.holds c.self.inside.next (reached c.self.inside.table (after_release c.args.id c.self.inside.holds))
     (swept_by c.self.inside.table c.release.new.table c.self.inside.holds c.args.id c.self.invariant.0.order c.self.invariant.0.beside
-    (c.release.ensures.swept (held_among (one_less_at (holds_in c.self.inside.table c.self.inside.holds) c.args.id)) (held_is c.self.inside.table c.self.inside.holds c.args.id c.self.invariant.0.beside))))
+    (c.release.ensures.gone.swept (held_among (one_less_at (holds_in c.self.inside.table c.self.inside.holds) c.args.id)) (held_is c.self.inside.table c.self.inside.holds c.args.id c.self.invariant.0.beside))))
     ∙ ap (λ (s : State). c.args.steps.now + written_back s (world_of c.release.new.table) (world_of c.release.new.table)) c.self.view_is

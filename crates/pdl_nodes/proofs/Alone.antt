@@ -1,0 +1,334 @@
+-- One hold less where nothing is loose: nothing goes, or one array alone, or it and some above it.
+use Rattle.std.proofs.Common.{◌≡◌, ◌≢◌, ℕ, ◌+◌, ◌-◌, ◌<◌, Bool, true, false, eqb, nat_lt, [], ◌∷◌, Option, Some, None, is_none, is_some, inl, inr, refl, sym, ◌∙◌, ap, subst, arith}
+use Rattle.std.proofs.Math.Path.{fun_ext}
+use Rattle.std.proofs.lemmas.Bool.{cases_Bool}
+use Rattle.std.proofs.lemmas.Bool.Decides.{eqb_tells, leb_tells}
+use Rattle.pdl_world.specs.Cut.{has_views}
+use Rattle.pdl_world.specs.Swept.{holds}
+use Rattle.pdl_nodes.specs.declared.holds.Hold.{Hold}
+use Rattle.pdl_nodes.specs.declared.origin.Origin.{Origin}
+use Rattle.pdl_nodes.specs.declared.origin.Origin.TheVariants.{Root, View}
+use Rattle.pdl_nodes.specs.Children.{children}
+use Rattle.pdl_nodes.specs.Families.{IsWaiting, InOrder}
+use Rattle.pdl_nodes.specs.Going.{goes_from, going_at, going_size, going_sum}
+use Rattle.pdl_nodes.specs.Holds.{Counts, Beside, hold_at, is_held, stands, count, count_in, going, going_in, goes_in, less_one, after_release, count_after, with_going}
+use Rattle.pdl_nodes.specs.Known.{AreKnown}
+use Rattle.pdl_nodes.specs.Outcomes.{waiting_size}
+use Rattle.pdl_nodes.specs.Released.{KeepsWaiting}
+use Rattle.pdl_nodes.specs.Risen.{AreMarked, AreTight, IsFewer, IsForgotten, IsLetGo, IsLoose, IsRisen, IsTight}
+use Rattle.pdl_nodes.specs.Row.{Row, parent_from, parent_of}
+use Rattle.pdl_nodes.specs.Rows.{Rows, row_at, has, other, reached, without}
+use Rattle.pdl_nodes.specs.Staying.{staying}
+use Rattle.pdl_nodes.specs.Still.{StillFrom, IsStill}
+use Rattle.pdl_nodes.specs.Worlds.{shape}
+use Rattle.pdl_nodes.proofs.Counted.{views_counted}
+use Rattle.pdl_nodes.proofs.Finds.{differ, has_gone, has_stays, same}
+use Rattle.pdl_nodes.proofs.Goings.{stays_all}
+use Rattle.pdl_nodes.proofs.Gone.{IsSettledSo, beside_taken, let_go_as, let_go_is, starts_live, starts_tight, under_first}
+use Rattle.pdl_nodes.proofs.Leavings.{going_sums, has_staying}
+use Rattle.pdl_nodes.proofs.Lefts.{older_has}
+use Rattle.pdl_nodes.proofs.Letting.{fewer_then, letting_last, letting_none, loose_listed, marked_none}
+use Rattle.pdl_nodes.proofs.Paths.{parent_live}
+use Rattle.pdl_nodes.proofs.Reaches.{count_taken, none_of, staying_live, taken}
+use Rattle.pdl_nodes.proofs.Readied.{ready_same}
+use Rattle.pdl_nodes.proofs.Removing.{staying_all}
+use Rattle.pdl_nodes.proofs.Rising.{IsRising, fewer_same, none_less, noted_none, noted_some, rising_goes, rising_none, rising_room}
+use Rattle.pdl_nodes.proofs.Slots.{at_other, at_same}
+
+-- ---- where what waits stays, nothing is written back
+
+goes_none : (t : ℕ → Bool) (o : Option ℕ) → ((v : ℕ) → o ≡ Some v → t v ≡ true) → goes_from t o ≡ None
+goes_none t None f = refl
+goes_none t (Some v) f = rw (f v refl) refl
+
+none_going : (t : ℕ → Bool) (rs : Rows) (r : ℕ) → KeepsWaiting t rs → has rs r ≡ true → going_at rs t r ≡ None
+none_going t rs r k h = elim (eqb_tells (row_at rs r).root r) [
+  | inl a ↦ elim (cases_Bool (t r)) [
+    | inl y ↦ rw (a.0, y) (goes_none t (row_at rs r).waiting (λ v e. k r v (h, a.1) y e))
+    | inr n ↦ rw (a.0, n) refl
+  ]
+  | inr a ↦ rw a.0 refl
+]
+
+none_sum : (t : ℕ → Bool) (rs part : Rows) → KeepsWaiting t rs → ((v : ℕ) → has part v ≡ true → has rs v ≡ true) → going_sum rs t part ≡ 0
+none_sum t rs [] k h = refl
+none_sum t rs ((j, r) ∷ part) k h =
+    let a : going_size rs t j ≡ 0 = ap (waiting_size rs) (none_going t rs j k (h j (rw (same j j refl) refl))) in
+    let b : going_sum rs t part ≡ 0 = none_sum t rs part k (λ v g. h v (older_has j r part v g)) in
+    omega (arith, a, b)
+
+pub no_steps : (t : ℕ → Bool) (rs : Rows) (s : ℕ) → KeepsWaiting t rs → s ≡ s + going_sum rs t rs
+no_steps t rs s k = (let a : going_sum rs t rs ≡ 0 = none_sum t rs rs k (λ v h. h) in omega (arith, a))
+
+settled_so : (rs : Rows) (hs : Counts) → InOrder rs → AreKnown rs → KeepsWaiting (stands hs) rs → IsSettledSo rs rs hs
+settled_so rs hs o a k = record {
+  kept = ready_same rs o a;
+  sized = λ z. z;
+  waits = k;
+  leaves = λ r i y. stays_all (stands hs) (row_at rs r).waiting (λ v e. k r v i y e);
+}
+
+-- ---- nothing goes
+
+pub waiting_stands : (rs : Rows) (hs : Counts) → InOrder rs → Beside rs hs → KeepsWaiting (stands hs) rs
+waiting_stands rs hs o b r v i y e = b.numbers v ∙ ((o.family r i).waits v e).live
+
+-- the one that may be loose is held, or has views
+pub tight_one : (rs : Rows) (hs : Counts) (id : ℕ) → AreTight (id ∷ []) rs hs → (is_held hs id ≡ false → has_views (shape rs) id ≡ true) → AreTight [] rs hs
+tight_one rs hs id t f v h d u = elim (eqb_tells id v) [
+  | inl y ↦ ap (has_views (shape rs)) (sym y.1) ∙ f (ap (is_held hs) y.1 ∙ u)
+  | inr y ↦ t v h (rw y.0 refl) u
+]
+
+kept_risen : (rs : Rows) (hs : Counts) (id : ℕ) → IsStill rs → Beside rs hs → AreTight [] rs hs → IsRisen (id ∷ []) rs hs hs
+kept_risen rs hs id s b t =
+    let one : AreTight (id ∷ []) rs hs = λ v h d u. t v h refl u in
+    letting_last rs hs hs hs [] [] id s b one (letting_none rs hs [] id b one) (λ v. refl) (marked_none rs hs b) (fewer_same hs)
+    (λ v l. (let z : false ≡ true = loose_listed rs hs [] v b t l in absurd (cc)))
+
+all_stand : (rs : Rows) (hs : Counts) → Beside rs hs → rs ≡ staying (stands hs) rs
+all_stand rs hs b = sym (staying_live (stands hs) (λ v. true) rs (λ v h. b.numbers v ∙ h) ∙ staying_all rs)
+
+pub kept_let_go : (rs : Rows) (hs : Counts) (id : ℕ) → InOrder rs → AreKnown rs → Beside rs hs → AreTight [] rs hs → IsLetGo rs (count hs) rs hs
+kept_let_go rs hs id o a b t =
+    let_go_is (id ∷ []) rs rs rs hs hs hs o (kept_risen rs hs id o.still b t) (settled_so rs hs o a (waiting_stands rs hs o b)) (all_stand rs hs b) b (λ v. refl)
+
+pub kept_tells : (rs : Rows) (hs : Counts) (id v : ℕ) → InOrder rs → Beside rs hs → AreTight [] rs hs → has rs v ≡ true → stands hs v ≡ reached rs (is_held hs) v
+kept_tells rs hs id v o b t h = (kept_risen rs hs id o.still b t).tells v h
+
+-- ---- one was forgotten that none held
+
+-- the holds before: none of it
+abbrev pub none_held : Hold
+none_held = record { count = 0; going = 0 }
+
+abbrev pub with_none : ℕ → Counts → Counts
+with_none id gs = (id, none_held) ∷ gs
+
+none_here : (id : ℕ) (gs : Counts) → hold_at (with_none id gs) id ≡ Some none_held
+none_here id gs = rw (at_same id id refl) refl
+
+none_there : (id : ℕ) (gs : Counts) (v : ℕ) → v ≢ id → hold_at (with_none id gs) v ≡ hold_at gs v
+none_there id gs v n = rw (at_other v id (λ e. n (sym e))) refl
+
+is_other : (id v : ℕ) → v ≢ id → other id v ≡ true
+is_other id v n = rw (differ v id n) refl
+
+gone_here : (rs : Rows) (id : ℕ) → has (without id rs) id ≡ false
+gone_here rs id = has_gone (other id) rs id (rw (same id id refl) refl)
+
+stays_there : (rs : Rows) (id v : ℕ) → v ≢ id → has (without id rs) v ≡ has rs v
+stays_there rs id v n = has_stays (other id) rs v (is_other id v n)
+
+none_now : (rs : Rows) (gs : Counts) (id : ℕ) → Beside (without id rs) gs → hold_at gs id ≡ None
+none_now rs gs id b = none_of (hold_at gs id) (b.numbers id ∙ gone_here rs id)
+
+none_beside : (rs : Rows) (gs : Counts) (id : ℕ) → has rs id ≡ true → Beside (without id rs) gs → Beside rs (with_none id gs)
+none_beside rs gs id h b = record {
+  numbers = λ v. elim (eqb_tells v id) [
+    | inl y ↦ ap (stands (with_none id gs)) y.1 ∙ ap is_some (none_here id gs) ∙ sym (ap (has rs) y.1 ∙ h)
+    | inr y ↦ ap is_some (none_there id gs v y.1) ∙ b.numbers v ∙ stays_there rs id v y.1
+  ];
+  clear = λ v. elim (eqb_tells v id) [
+    | inl y ↦ ap (going (with_none id gs)) y.1 ∙ ap going_in (none_here id gs)
+    | inr y ↦ ap going_in (none_there id gs v y.1) ∙ b.clear v
+  ];
+}
+
+none_count : (rs : Rows) (gs : Counts) (id v : ℕ) → Beside (without id rs) gs → count (with_none id gs) v ≡ count gs v
+none_count rs gs id v b = elim (eqb_tells v id) [
+  | inl y ↦ ap (count (with_none id gs)) y.1 ∙ ap count_in (none_here id gs) ∙ sym (ap (count gs) y.1 ∙ ap count_in (none_now rs gs id b))
+  | inr y ↦ ap count_in (none_there id gs v y.1)
+]
+
+none_tight : (rs : Rows) (gs : Counts) (id : ℕ) → Beside (without id rs) gs → AreTight (id ∷ []) rs gs → AreTight (id ∷ []) rs (with_none id gs)
+none_tight rs gs id b t v h d u = t v h d (ap (nat_lt 0) (sym (none_count rs gs id v b)) ∙ u)
+
+none_goes : (rs : Rows) (gs : Counts) (id : ℕ) → IsForgotten rs gs id → goes_in (children rs id) (hold_at (with_none id gs) id) ≡ true
+none_goes rs gs id f =
+    let c : children rs id ≡ 0 = none_less (children rs id) (sym (views_counted rs id) ∙ f.viewless) in
+    ap (goes_in (children rs id)) (none_here id gs) ∙ ap (λ n. goes_in n (Some none_held)) c
+
+none_rising : (rs : Rows) (gs : Counts) (id : ℕ) → IsForgotten rs gs id → IsRising rs (with_none id gs) (with_none id gs) id (Some id)
+none_rising rs gs id f = rising_none rs (with_none id gs) id (marked_none rs (with_none id gs) (none_beside rs gs id f.live f.beside)) f.live
+
+root_rising : (rs : Rows) (gs : Counts) (id : ℕ) → IsForgotten rs gs id → parent_of (row_at rs id) ≡ None → IsRising rs (with_none id gs) gs id None
+root_rising rs gs id f e =
+    let P : Option ℕ → Type 0 = λ o. IsRising rs (with_none id gs) gs id o in
+    subst P e (rising_goes rs (with_none id gs) (with_none id gs) (with_none id gs) gs id (Some id) id f.still (none_rising rs gs id f) refl (none_goes rs gs id f)
+    (noted_none (λ n. n + 1) (with_none id gs) (parent_of (row_at rs id)) e) (none_now rs gs id f.beside) (λ v n. sym (none_there id gs v n)))
+
+parent_other : (rs : Rows) (id p : ℕ) → IsStill rs → has rs id ≡ true → parent_of (row_at rs id) ≡ Some p → p ≢ id
+parent_other rs id p s h e y = (let l : p < id = (parent_live rs id p s h e).1 in let z : ⊥ = omega (arith, l, y) in z)
+
+-- room for the note of a parent
+pub view_room : (rs : Rows) (gs : Counts) (id p : ℕ) → IsForgotten rs gs id → parent_of (row_at rs id) ≡ Some p → going gs p < children rs p
+view_room rs gs id p f e =
+    let a : going (with_none id gs) p < children rs p = rising_room rs (with_none id gs) (with_none id gs) id (Some id) id p f.still (none_rising rs gs id f) refl (none_goes rs gs id f) e in
+    subst (λ n. n < children rs p) (ap going_in (none_there id gs p (parent_other rs id p f.still f.live e))) a
+
+-- once the parent was told
+pub view_rising : (rs : Rows) (gs mid : Counts) (id p : ℕ) → IsForgotten rs gs id → parent_of (row_at rs id) ≡ Some p → hold_at mid p ≡ with_going (going gs p + 1) (hold_at gs p) → ((v : ℕ) → v ≢ p → hold_at mid v ≡ hold_at gs v)
+    → IsRising rs (with_none id gs) mid id (Some p)
+view_rising rs gs mid id p f e h o =
+    let n : p ≢ id = parent_other rs id p f.still f.live e in
+    let here : hold_at (with_none id mid) p ≡ with_going (going (with_none id gs) p + 1) (hold_at (with_none id gs) p) =
+    none_there id mid p n ∙ h ∙ ap (λ x. with_going (going_in x + 1) x) (sym (none_there id gs p n)) in
+    let others : (v : ℕ) → v ≢ p → hold_at (with_none id mid) v ≡ hold_at (with_none id gs) v = λ v d. elim (eqb_tells v id) [
+      | inl y ↦ ap (hold_at (with_none id mid)) y.1 ∙ none_here id mid ∙ sym (ap (hold_at (with_none id gs)) y.1 ∙ none_here id gs)
+      | inr y ↦ none_there id mid v y.1 ∙ o v d ∙ sym (none_there id gs v y.1)
+    ] in
+    let P : Option ℕ → Type 0 = λ x. IsRising rs (with_none id gs) mid id x in
+    subst P e (rising_goes rs (with_none id gs) (with_none id gs) (with_none id mid) mid id (Some id) id f.still (none_rising rs gs id f) refl (none_goes rs gs id f)
+    (noted_some (λ n. n + 1) (with_none id gs) (with_none id mid) (parent_of (row_at rs id)) p e here others)
+    (o id (λ y. n (sym y)) ∙ none_now rs gs id f.beside) (λ v d. sym (none_there id mid v d)))
+
+risen_as : (rs : Rows) (hs gs new : Counts) (id : ℕ) → ((v : ℕ) → count hs v ≡ count gs v) → IsRisen (id ∷ []) rs hs new → IsRisen (id ∷ []) rs gs new
+risen_as rs hs gs new id e r = record {
+  numbers = r.numbers;
+  counts = λ v y. r.counts v y ∙ e v;
+  tells = λ v h. r.tells v h ∙ ap (λ f. reached rs f v) (fun_ext (λ x. ap (nat_lt 0) (e x)));
+  noted = r.noted;
+  from = r.from;
+}
+
+risen_last : (rs : Rows) (gs new : Counts) (id : ℕ) → IsForgotten rs gs id → AreMarked rs new → IsFewer (with_none id gs) new → ((v : ℕ) → IsLoose rs new v → IsLoose rs (with_none id gs) v × (v ≢ id)) → IsRisen (id ∷ []) rs gs new
+risen_last rs gs new id f m w l =
+    let b : Beside rs (with_none id gs) = none_beside rs gs id f.live f.beside in
+    let t : AreTight (id ∷ []) rs (with_none id gs) = none_tight rs gs id f.beside f.tight in
+    risen_as rs (with_none id gs) gs new id (λ v. none_count rs gs id v f.beside)
+    (letting_last rs (with_none id gs) (with_none id gs) new [] [] id f.still b t (letting_none rs (with_none id gs) [] id b t) (λ v. refl) m w l)
+
+pub root_risen : (rs : Rows) (gs : Counts) (id : ℕ) → IsForgotten rs gs id → parent_of (row_at rs id) ≡ None → IsRisen (id ∷ []) rs gs gs
+root_risen rs gs id f e =
+    let i : IsRising rs (with_none id gs) gs id None = root_rising rs gs id f e in
+    risen_last rs gs gs id f i.marked i.fewer (λ v l. i.loose v l (λ z. absurd (cc)))
+
+pub view_risen : (rs : Rows) (gs mid new : Counts) (id p : ℕ) → IsForgotten rs gs id → IsRising rs (with_none id gs) mid id (Some p) → AreMarked rs new → IsFewer mid new → ((v : ℕ) → IsLoose rs new v → IsLoose rs mid v × (v ≢ p)) → IsRisen (id ∷ []) rs gs new
+view_risen rs gs mid new id p f i m w l =
+    risen_last rs gs new id f m (fewer_then (with_none id gs) mid new i.fewer w)
+    (λ v y. (let x : IsLoose rs mid v × (v ≢ p) = l v y in i.loose v x.0 (λ z. x.1 (let q : p ≡ v = cc in sym q))))
+
+-- the only start is there
+pub start_live : (rs : Rows) (id : ℕ) → has rs id ≡ true → (v : ℕ) → holds (id ∷ []) v ≡ true → has rs v ≡ true
+start_live rs id h v l = elim (eqb_tells id v) [
+  | inl y ↦ ap (has rs) (sym y.1) ∙ h
+  | inr y ↦ (let z : false ≡ true = rw y.0 at l in absurd (cc))
+]
+
+-- ---- a root that goes alone
+
+root_from : (k : ℕ) (r : Row) (rs : Rows) (o : Origin) → StillFrom rs k r o → parent_from o ≡ None → r.root ≡ k
+root_from k r rs Root s e = s.root_is
+root_from k r rs (View p t y) s e = (let z : Some p ≡ None = e in absurd (cc))
+
+own_root : (rs : Rows) (v : ℕ) → IsStill rs → has rs v ≡ true → parent_of (row_at rs v) ≡ None → (row_at rs v).root ≡ v
+own_root [] v s h e = (let z : false ≡ true = h in absurd (cc))
+own_root ((k, r) ∷ rs) v s h e = elim (eqb_tells k v) [
+  | inl y ↦ rw y.0 (root_from k r rs r.origin s.1 (rw y.0 at e) ∙ y.1)
+  | inr y ↦ rw y.0 (own_root rs v s.2 (rw y.0 at h) (rw y.0 at e))
+]
+
+-- it waits in no family
+pub root_waits : (rs : Rows) (gs : Counts) (id : ℕ) → InOrder rs → has rs id ≡ true → parent_of (row_at rs id) ≡ None → Beside (without id rs) gs → KeepsWaiting (stands gs) rs
+root_waits rs gs id o h e b r v i y z =
+    let w : IsWaiting rs r v = (o.family r i).waits v z in
+    let n : v ≢ id = λ q. w.not_root (q ∙ sym (own_root rs id o.still h e) ∙ ap (λ x. (row_at rs x).root) (sym q) ∙ w.of_root) in
+    b.numbers v ∙ stays_there rs id v n ∙ w.live
+
+one_less : (rs : Rows) (gs : Counts) (id : ℕ) → Beside (without id rs) gs → without id rs ≡ staying (stands gs) rs
+one_less rs gs id b = staying_live (other id) (stands gs) rs (λ v h. has_staying (other id) rs v h ∙ sym (b.numbers v))
+
+pub root_let_go : (rs new : Rows) (gs : Counts) (id : ℕ) → InOrder rs → AreKnown rs → IsForgotten rs gs id → parent_of (row_at rs id) ≡ None → new ≡ without id rs → IsLetGo rs (count gs) new gs
+root_let_go rs new gs id o a f e n =
+    let P : Rows → Type 0 = λ x. IsLetGo rs (count gs) x gs in
+    subst P (sym n) (let_go_is (id ∷ []) rs rs (without id rs) gs gs gs o (root_risen rs gs id f e) (settled_so rs gs o a (root_waits rs gs id o f.live e f.beside)) (one_less rs gs id f.beside) f.beside (λ v. refl))
+
+-- ---- the holds after one was taken back
+
+less_count : (o : Option Hold) → count_in (less_one o) ≡ count_in o - 1
+less_count None = omega arith
+less_count (Some h) = refl
+
+more_than_none : (n : ℕ) → 0 < n → nat_lt 0 n ≡ true
+more_than_none n l = elim (leb_tells 1 n) [ inl t ↦ t.0 | inr t ↦ absurd (omega (arith, l, t.1)) ]
+
+not_one : (n : ℕ) → eqb n 1 ≡ false → 0 < n → 0 < n - 1
+not_one n e l = elim (eqb_tells n 1) [ inl t ↦ (let z : true ≡ false = sym t.0 ∙ e in absurd (cc)) | inr t ↦ omega (arith, l, t.1) ]
+
+-- it wasn't the last
+pub still_held : (hs gs : Counts) (id : ℕ) → 0 < count hs id → eqb (count hs id) 1 ≡ false → hold_at gs id ≡ less_one (hold_at hs id) → is_held gs id ≡ true
+still_held hs gs id l e h = more_than_none (count gs id) (subst (λ n. 0 < n) (sym (ap count_in h ∙ less_count (hold_at hs id))) (not_one (count hs id) e l))
+
+-- it was the last
+pub last_beside : (rs : Rows) (hs gs : Counts) (id : ℕ) → Beside rs hs → hold_at gs id ≡ None → ((v : ℕ) → v ≢ id → hold_at gs v ≡ hold_at hs v) → Beside (without id rs) gs
+last_beside rs hs gs id b h o = record {
+  numbers = λ v. elim (eqb_tells v id) [
+    | inl y ↦ ap (stands gs) y.1 ∙ ap is_some h ∙ sym (ap (has (without id rs)) y.1 ∙ gone_here rs id)
+    | inr y ↦ ap is_some (o v y.1) ∙ b.numbers v ∙ sym (stays_there rs id v y.1)
+  ];
+  clear = λ v. elim (eqb_tells v id) [
+    | inl y ↦ ap (going gs) y.1 ∙ ap going_in h
+    | inr y ↦ ap going_in (o v y.1) ∙ b.clear v
+  ];
+}
+
+pub last_count : (hs gs : Counts) (id v : ℕ) → eqb (count hs id) 1 ≡ true → hold_at gs id ≡ None → ((x : ℕ) → x ≢ id → hold_at gs x ≡ hold_at hs x) → count gs v ≡ count_after id hs v
+last_count hs gs id v e h o = elim (eqb_tells v id) [
+  | inl y ↦ (let one : count hs id ≡ 1 = elim (eqb_tells (count hs id) 1) [ inl t ↦ t.1 | inr t ↦ (let z : false ≡ true = sym t.0 ∙ e in absurd (cc)) ] in
+      let less : count_in (less_one (hold_at hs v)) ≡ 0 = less_count (hold_at hs v) ∙ (let d : count hs v ≡ 1 = ap (count hs) y.1 ∙ one in omega (arith, d)) in
+      rw y.0 (ap (count gs) y.1 ∙ ap count_in h ∙ sym less))
+  | inr y ↦ rw y.0 (ap count_in (o v y.1))
+]
+
+-- ---- what a release leaves
+
+none_loose : (rs : Rows) (hs : Counts) → AreTight [] rs hs → IsTight [] rs hs
+none_loose rs hs t = record { live = λ v h. (let z : false ≡ true = h in absurd (cc)); tight = t }
+
+-- what was let go, and at how many steps
+pub record IsDone (rs : Rows) (hs : Counts) (id s : ℕ) (new : Rows) (gs : Counts) (n : ℕ) : Type 0 where
+  pub gone : IsLetGo rs (count_after id hs) new gs
+  pub counted : n ≡ s + going_sum rs (reached rs (after_release id hs)) rs
+
+pub done_kept : (rs : Rows) (hs gs : Counts) (id s : ℕ) → InOrder rs → AreKnown rs → Beside rs hs → AreTight [] rs hs → hold_at gs id ≡ less_one (hold_at hs id) → ((v : ℕ) → v ≢ id → hold_at gs v ≡ hold_at hs v)
+    → (is_held gs id ≡ false → has_views (shape rs) id ≡ true) → IsDone rs hs id s rs gs s
+done_kept rs hs gs id s o a b0 t0 h u f =
+    let b : Beside rs gs = beside_taken rs hs gs id b0 h u in
+    let t : AreTight [] rs gs = tight_one rs gs id (starts_tight rs hs gs [] id u (none_loose rs hs t0)) f in
+    record {
+      gone = let_go_as rs (count gs) (count_after id hs) rs gs (λ v. count_taken hs gs id v h u) (kept_let_go rs gs id o a b t);
+      counted = no_steps (stands gs) rs s (waiting_stands rs gs o b)
+          ∙ ap (λ n. s + n) (going_sums rs (stands gs) (reached rs (after_release id hs)) o (λ v l. kept_tells rs gs id v o b t l ∙ taken rs hs gs id v h u));
+    }
+
+-- the last hold of one without views was taken back
+pub is_forgotten : (rs : Rows) (hs gs : Counts) (id : ℕ) → IsStill rs → Beside rs hs → 0 < count hs id → AreTight [] rs hs → has_views (shape rs) id ≡ false → hold_at gs id ≡ None → ((v : ℕ) → v ≢ id → hold_at gs v ≡ hold_at hs v) → IsForgotten rs gs id
+is_forgotten rs hs gs id s b l t n h o = record {
+  still = s;
+  live = starts_live rs hs [] id b l (none_loose rs hs t) id (under_first id []);
+  viewless = n;
+  beside = last_beside rs hs gs id b h o;
+  tight = starts_tight rs hs gs [] id o (none_loose rs hs t);
+}
+
+pub done_root : (rs new : Rows) (hs gs : Counts) (id s : ℕ) → InOrder rs → AreKnown rs → IsForgotten rs gs id → ((v : ℕ) → count gs v ≡ count_after id hs v) → is_none (parent_of (row_at rs id)) ≡ true → new ≡ without id rs → IsDone rs hs id s new gs s
+done_root rs new hs gs id s o a f e r n =
+    let p : parent_of (row_at rs id) ≡ None = is_root (parent_of (row_at rs id)) r in
+    record {
+      gone = let_go_as rs (count gs) (count_after id hs) new gs e (root_let_go rs new gs id o a f p n);
+      counted = no_steps (stands gs) rs s (root_waits rs gs id o f.live p f.beside)
+          ∙ ap (λ n. s + n) (going_sums rs (stands gs) (reached rs (after_release id hs)) o (λ v l. (root_risen rs gs id f p).tells v l ∙ ap (λ g. reached rs g v) (fun_ext (λ x. ap (nat_lt 0) (e x)))));
+    } where
+      is_root : (q : Option ℕ) → is_none q ≡ true → q ≡ None
+      is_root None y = refl
+      is_root (Some x) y = (let z : false ≡ true = y in absurd (cc))
+
+pub done_view : (rs mid new : Rows) (hs gs later : Counts) (id s n : ℕ) → mid ≡ rs → ((v : ℕ) → count gs v ≡ count_after id hs v) → IsLetGo mid (count gs) new later → n ≡ s + going_sum mid (reached mid (is_held gs)) mid → IsDone rs hs id s new later n
+done_view rs mid new hs gs later id s n m e g c =
+    let P : Rows → Type 0 = λ x. IsLetGo x (count gs) new later in
+    record {
+      gone = let_go_as rs (count gs) (count_after id hs) new later e (subst P m g);
+      counted = c ∙ ap (λ x. s + going_sum x (reached x (is_held gs)) x) m
+          ∙ ap (λ g. s + going_sum rs (reached rs g) rs) (fun_ext (λ x. ap (nat_lt 0) (e x)));
+    }
