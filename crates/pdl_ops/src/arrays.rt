@@ -34,13 +34,16 @@ fn broadcast_dims(alloc: Global, a: &Dims, b: &Dims) -> Result<Dims, OpFault>
 fn paired(alloc: Global, op: BinaryOp, a: &Strided<'_>, b: &Strided<'_>) -> Result<Made, OpFault>
     requires { a.now.dims ≡ b.now.dims }
     ensures value { let ty = promoted a.now.ty b.now.ty in
-        let values = values_of op ty (map (wrapped ty) a.now.elems) (map (wrapped ty) b.now.elems) in
-        let wanted = made_of (binary_result op a.now.ty b.now.ty) b.now.dims values in
+        let xs = map (wrapped ty) a.now.elems in
+        let ys = map (wrapped ty) b.now.elems in
+        let made = made_of (binary_result op a.now.ty b.now.ty) b.now.dims in
+        let wanted = made (values_of op ty xs ys) in
         Answers (λ made. made) wanted result }
     ensures made { IfOk result (λ made. IsMade made.ty made.dims made.elems) }
 {
     let both = promote(strided_type(a), strided_type(b));
     let ty = binary_type(op, both, both);
+    // that `a` has as many elements comes with its dimensions
     let (_same, dims) = (strided_dims(a), copy_dims(strided_dims(b)));
     let room = Packing::new(alloc, ty, elements_of(&dims) as usize)?;
     let elems = values(alloc, op, both, a, b, room)?;

@@ -15,10 +15,10 @@ use pdl_elem::{BinaryOp, Ty, binary_all};
 use pdl_shape::elements_of;
 use std::alloc::Global;
 
-/// Sets the first `count` numbers of `room` to the operator's values at the type on so many elements
-/// of two windows from a position on, of which there are enough. The room is for three times as many:
-/// behind the values it is given to the operands. Where the operator divides and some divisor is 0, it
-/// answers the place of the first one in the block.
+/// Sets the first `count` numbers of a room to the operator's values at the type on so many
+/// elements of two windows from a position on, of which there are enough. The room is three times
+/// as long: the operands are put behind the values. Where the operator divides and some divisor is
+/// 0, it answers the place of the first one in the block.
 fn values_block(
     op: BinaryOp,
     ty: Ty,
