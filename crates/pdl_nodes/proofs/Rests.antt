@@ -45,6 +45,9 @@ all_stay : (k : ℕ) (rs : Rows) → NumbersBelow k rs → without k rs ≡ rs
 all_stay k [] b = refl
 all_stay k ((j, q) ∷ rs) b = rw (differ j k (λ (e : j ≡ k). let z : ⊥ = omega (arith, b.0) in z)) (ap (λ x. (j, q) ∷ x) (all_stay k rs b.1))
 
+pub without_newest : (k : ℕ) (r : Row) (rest : Rows) → NumbersBelow k rest → without k ((k, r) ∷ rest) ≡ rest
+without_newest k r rest b = rw (same k k refl) (all_stay k rest b)
+
 pub without_none : (rs : Rows) (id : ℕ) → has rs id ≡ false → without id rs ≡ rs
 without_none [] id h = refl
 without_none ((j, q) ∷ rs) id h = elim (eqb_tells j id) [
@@ -53,7 +56,7 @@ without_none ((j, q) ∷ rs) id h = elim (eqb_tells j id) [
 ]
 
 pub without_here : (a rest : Rows) (k : ℕ) (r : Row) → Falls (a ++ (k, r) ∷ rest) → without k (a ++ (k, r) ∷ rest) ≡ a ++ rest
-without_here [] rest k r f = rw (same k k refl) (all_stay k rest f.0)
+without_here [] rest k r f = without_newest k r rest f.0
 without_here ((j, q) ∷ a) rest k r f =
     let b : k < j = (below_tail a ((k, r) ∷ rest) j f.0).0 in
     rw (differ j k (λ (e : j ≡ k). let z : ⊥ = omega arith in z)) (ap (λ x. (j, q) ∷ x) (without_here a rest k r f.1))

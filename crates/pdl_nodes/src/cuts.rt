@@ -5,10 +5,12 @@ ghost use Rattle.pdl_nodes.specs.Row.{parent_of, root_row};
 
 use crate::node::Node;
 use crate::origin::{Layout, Origin};
+use crate::views::root_node;
 use pdl_affine::compose;
 use pdl_buf::Buf;
 use pdl_shape::{Dims, Triple, whole_triple};
 use std::alloc::Global;
+use std::mem::replace;
 
 impl Node {
     /// Becomes a root of these dimensions and elements of its type, which is marked.
@@ -16,15 +18,8 @@ impl Node {
         requires same_type { kept.ty ≡ self.old.ty }
         ensures { self.new ≡ root_row id self.old.ty dims.now kept.elems }
     {
-        self.origin = Origin::Root;
-        self.root = id;
-        self.base = id;
-        self.triple = whole_triple(alloc, dims);
-        self.kept = Some(kept);
-        self.mark = true;
-        self.repeats = false;
-        self.places = None;
-        self.waiting = None;
+        let root = root_node(alloc, id, self.ty, dims, kept);
+        drop(replace(self, root));
     }
 
     /// The triple that shows a view over the base that this one shows its parent over. None for a

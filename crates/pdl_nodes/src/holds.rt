@@ -176,11 +176,11 @@ pub fn insert(table: &mut Table, holds: &mut Holds, id: u64, node: Node) -> Resu
     ensures others { (v : ℕ) → v ≢ id → hold_at holds.new v ≡ hold_at holds.old v }
     ensures err { OnErr result (table.new ≡ table.old) }
 {
-    holds.insert(id)?;
-    match table.insert(id, node) {
+    table.insert(id, node)?;
+    match holds.insert(id) {
         Ok(()) => Ok(()),
         Err(refused) => {
-            holds.remove(id);
+            table.remove(id);
             Err(refused)
         }
     }

@@ -2,6 +2,7 @@
 ghost use Rattle.std.specs.Prelude.{◌≡◌, ◌≢◌, ℕ, ◌+◌, ◌-◌, ◌<◌, ◌^◌, ◌∷◌, if◌then◌else◌, [], true, false, length, All, is_none, is_some, Some, None, OnOk, OnErr};
 ghost use Rattle.std.specs.Ordering.{nat_cmp};
 ghost use Rattle.std.specs.BTreeMap.{IsOrdered, Updates};
+ghost use Rattle.slab.specs.Slab.{HasRoomFor};
 ghost use Rattle.pdl_buf.specs.Window.{place_at};
 ghost use Rattle.pdl_elem.specs.Types.{InRange};
 ghost use Rattle.pdl_shape.specs.Places.{write};
@@ -82,6 +83,30 @@ fn put_key(
     }
 }
 
+/// Makes room for one node more, and keeps its key under its number.
+fn make_room(
+    nodes: &mut Slab<Node>,
+    keys: &mut BTreeMap<u64, usize>,
+    children: &mut Children,
+    id: u64,
+    parent: Option<u64>,
+) -> Result<(), AllocError>
+    requires { IsOrdered nat_cmp keys.old }
+    ensures ordered { IsOrdered nat_cmp keys.new }
+    ensures room { OnOk result (HasRoomFor nodes.new 1) }
+    ensures updates { OnOk result
+        (Updates nat_cmp keys.old keys.new id (Some nodes.new.vacant_key)) }
+    ensures counted { OnOk result
+        ((v : ℕ) → noted children.new v ≡ one_of parent v + noted children.old v) }
+    ensures rest { nodes.new ≡ record nodes.old { capacity = nodes.new.capacity } }
+    ensures kept { OnErr result (keys.new.entries ≡ keys.old.entries) }
+    ensures same { OnErr result ((v : ℕ) → noted children.new v ≡ noted children.old v) }
+{
+    nodes.reserve(1)?;
+    let key = nodes.vacant_key();
+    put_key(keys, children, id, key, parent)
+}
+
 impl Table {
     /// No nodes.
     pub fn new(alloc: Global) -> Table
@@ -113,11 +138,22 @@ impl Table {
         ensures err { OnErr result (self.new ≡ self.old) }
     {
         let parent = node.parent();
-        self.nodes.reserve(1)?;
-        let key = self.nodes.vacant_key();
-        put_key(&mut self.keys, &mut self.children, id, key, parent)?;
-        self.nodes.insert_reserved(node);
-        Ok(())
+        match make_room(
+            &mut self.nodes,
+            &mut self.keys,
+            &mut self.children,
+            id,
+            parent,
+        ) {
+            Ok(()) => {
+                self.nodes.insert_reserved(node);
+                Ok(())
+            }
+            Err(refused) => {
+                drop(node);
+                Err(refused)
+            }
+        }
     }
 
     /// Lets a node go, if the number has one, and says its parent, if it has one.
