@@ -2,10 +2,11 @@
 
 ghost use Rattle.std.specs.Prelude.{◌≡◌, ◌≤◌, IfOk};
 ghost use Rattle.pdl_lexemes.specs.Bytes.{bytes_at};
-ghost use Rattle.pdl_lexemes.specs.Lexing.{found_in, keywords, word_kinds, operators, assignments, signs, word_of, sign_of, number_of, with_digit, lexeme_of, lexemes_of};
+ghost use Rattle.pdl_lexemes.specs.Lexing.{found_in, keywords, operators, assignments, word_of, sign_of, number_of, with_digit, lexeme_of, lexemes_of};
 
+use crate::tables::{ASSIGNMENTS, KEYWORDS, OPERATORS, SIGNS, WORD_KINDS, found_in};
 use crate::{AssignOp, Keyword, Lexeme, Span, WordKind};
-use pdl_elem::{BinaryOp, Ty, UnaryOp};
+use pdl_elem::BinaryOp;
 use pdl_lex::{Token, TokenKind};
 use std::alloc::{AllocError, Global};
 
@@ -22,48 +23,7 @@ pub fn bytes(source: &[u8], span: Span) -> &[u8]
 pub fn keyword_named(text: &[u8]) -> Option<Keyword>
     ensures { result ≡ found_in keywords text.now }
 {
-    match text {
-        b"my" => Some(Keyword::My),
-        b"p" => Some(Keyword::Print),
-        b"print" => Some(Keyword::Print),
-        b"undef" => Some(Keyword::Undef),
-        b"vars" => Some(Keyword::Vars),
-        b"pp_def" => Some(Keyword::PpDef),
-        b"watch" => Some(Keyword::Watch),
-        b"unwatch" => Some(Keyword::Unwatch),
-        b"pdl" => Some(Keyword::Pdl),
-        b"info" => Some(Keyword::Info),
-        b"sever" => Some(Keyword::Sever),
-        b"reshape" => Some(Keyword::Reshape),
-        _ => None,
-    }
-}
-
-fn word_kind(text: &[u8]) -> Option<WordKind>
-    ensures { result ≡ found_in word_kinds text.now }
-{
-    match text {
-        b"byte" => Some(WordKind::OfType(Ty::Byte)),
-        b"short" => Some(WordKind::OfType(Ty::Short)),
-        b"ushort" => Some(WordKind::OfType(Ty::Ushort)),
-        b"long" => Some(WordKind::OfType(Ty::Long)),
-        b"longlong" => Some(WordKind::OfType(Ty::Longlong)),
-        b"slice" => Some(WordKind::View),
-        b"xchg" => Some(WordKind::View),
-        b"mv" => Some(WordKind::View),
-        b"reorder" => Some(WordKind::View),
-        b"diagonal" => Some(WordKind::View),
-        b"dummy" => Some(WordKind::View),
-        b"clump" => Some(WordKind::View),
-        b"squeeze" => Some(WordKind::View),
-        b"flat" => Some(WordKind::View),
-        b"index" => Some(WordKind::View),
-        b"where" => Some(WordKind::View),
-        b"range" => Some(WordKind::View),
-        b"Pars" => Some(WordKind::Pars),
-        b"Code" => Some(WordKind::Code),
-        _ => None,
-    }
+    found_in(KEYWORDS, text)
 }
 
 fn word(text: &[u8], span: Span) -> Lexeme
@@ -71,7 +31,7 @@ fn word(text: &[u8], span: Span) -> Lexeme
 {
     match keyword_named(text) {
         Some(keyword) => Lexeme::Keyword(keyword),
-        None => match word_kind(text) {
+        None => match found_in(WORD_KINDS, text) {
             Some(kind) => Lexeme::Word(kind, span),
             None => Lexeme::Word(WordKind::Plain, span),
         },
@@ -82,69 +42,20 @@ fn word(text: &[u8], span: Span) -> Lexeme
 pub fn operator_named(text: &[u8]) -> Option<BinaryOp>
     ensures { result ≡ found_in operators text.now }
 {
-    match text {
-        b"+" => Some(BinaryOp::Add),
-        b"-" => Some(BinaryOp::Sub),
-        b"*" => Some(BinaryOp::Mul),
-        b"/" => Some(BinaryOp::Div),
-        b"%" => Some(BinaryOp::Rem),
-        b"<<" => Some(BinaryOp::Shl),
-        b">>" => Some(BinaryOp::Shr),
-        b"<" => Some(BinaryOp::Lt),
-        b">" => Some(BinaryOp::Gt),
-        b"<=" => Some(BinaryOp::Le),
-        b">=" => Some(BinaryOp::Ge),
-        b"==" => Some(BinaryOp::Eq),
-        b"!=" => Some(BinaryOp::Ne),
-        b"&" => Some(BinaryOp::And),
-        b"|" => Some(BinaryOp::Or),
-        b"^" => Some(BinaryOp::Xor),
-        _ => None,
-    }
+    found_in(OPERATORS, text)
 }
 
 /// The assignment that a text is the sign of, if any.
 pub fn assignment_named(text: &[u8]) -> Option<AssignOp>
     ensures { result ≡ found_in assignments text.now }
 {
-    match text {
-        b".=" => Some(AssignOp::Set),
-        b"+=" => Some(AssignOp::With(BinaryOp::Add)),
-        b"-=" => Some(AssignOp::With(BinaryOp::Sub)),
-        b"*=" => Some(AssignOp::With(BinaryOp::Mul)),
-        b"/=" => Some(AssignOp::With(BinaryOp::Div)),
-        b"%=" => Some(AssignOp::With(BinaryOp::Rem)),
-        b"<<=" => Some(AssignOp::With(BinaryOp::Shl)),
-        b">>=" => Some(AssignOp::With(BinaryOp::Shr)),
-        b"&=" => Some(AssignOp::With(BinaryOp::And)),
-        b"|=" => Some(AssignOp::With(BinaryOp::Or)),
-        b"^=" => Some(AssignOp::With(BinaryOp::Xor)),
-        _ => None,
-    }
-}
-
-fn other_sign(text: &[u8]) -> Option<Lexeme>
-    ensures { result ≡ found_in signs text.now }
-{
-    match text {
-        b"(" => Some(Lexeme::Open),
-        b")" => Some(Lexeme::Close),
-        b"[" => Some(Lexeme::OpenSquare),
-        b"]" => Some(Lexeme::CloseSquare),
-        b"," => Some(Lexeme::Comma),
-        b"=" => Some(Lexeme::Equals),
-        b"->" => Some(Lexeme::Arrow),
-        b"=>" => Some(Lexeme::FatArrow),
-        b"!" => Some(Lexeme::Prefix(UnaryOp::Not)),
-        b"~" => Some(Lexeme::Prefix(UnaryOp::Complement)),
-        _ => None,
-    }
+    found_in(ASSIGNMENTS, text)
 }
 
 fn sign(text: &[u8]) -> Lexeme
     ensures { result ≡ sign_of text.now }
 {
-    if let Some(sign) = other_sign(text) {
+    if let Some(sign) = found_in(SIGNS, text) {
         return sign;
     }
     if let Some(op) = operator_named(text) {

@@ -13,6 +13,7 @@ pub mod list;
 mod peek;
 mod refusal;
 pub mod sizes;
+mod tables;
 
 pub use checks::has_large;
 pub use laws::{every_sign_is_known, lists_are_arrays, lists_are_their_grammar, ragged_is_scanned};
@@ -20,6 +21,7 @@ pub use left::Lexemes;
 pub use lexing::{assignment_named, bytes, keyword_named, lexemes, number_of, operator_named};
 use pdl_elem::{BinaryOp, Ty, UnaryOp};
 pub use refusal::Refusal;
+pub use tables::found_in;
 
 /// The sign of an assignment: `.=`, or an operator followed by `=`.
 #[derive(Clone, Copy, PartialEq, Eq, Debug)]

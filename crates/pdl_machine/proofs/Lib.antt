@@ -7,5 +7,4 @@ pub mod Orderly
 pub mod Steps
 pub mod MeaningLemmas
 pub mod RunLemmas
-pub mod Tables
 pub mod SoFar

@@ -1,10 +1,9 @@
 //! The built-in calls.
-ghost use Rattle.std.specs.Prelude.{◌≡◌, bytes_eq, if◌then◌else◌};
-ghost use Rattle.pdl_lexemes.specs.Lexing.{found_in};
-ghost use Rattle.pdl_machine.specs.Builtin.{fills, inquiries, views, reductions, wholes_and_products, builtin_of};
-ghost use Rattle.pdl_machine.specs.declared.builtin.Builtin.TheVariants.{Arranged, Filled, Reduced, Told};
+ghost use Rattle.std.specs.Prelude.{◌≡◌};
+ghost use Rattle.pdl_machine.specs.Builtin.{builtin_of};
 
 use pdl_elem::Ty;
+use pdl_lexemes::found_in;
 use pdl_ops::Fill;
 use pdl_reduce::{Pairing, Reduction, Whole};
 
@@ -73,134 +72,63 @@ pub enum Builtin {
     Paired(Pairing),
 }
 
+/// The built-in calls by their names.
+const BUILTINS: &[(&[u8], Builtin)] = &[
+    // New arrays by sizes.
+    (b"zeroes", Builtin::Filled(Fill::Zeroes)),
+    (b"ones", Builtin::Filled(Fill::Ones)),
+    (b"sequence", Builtin::Filled(Fill::Sequence)),
+    (b"xvals", Builtin::Filled(Fill::Xvals)),
+    (b"yvals", Builtin::Filled(Fill::Yvals)),
+    // New arrays that tell something of an array.
+    (b"byte", Builtin::Told(Inquiry::Convert(Ty::Byte))),
+    (b"short", Builtin::Told(Inquiry::Convert(Ty::Short))),
+    (b"ushort", Builtin::Told(Inquiry::Convert(Ty::Ushort))),
+    (b"long", Builtin::Told(Inquiry::Convert(Ty::Long))),
+    (b"longlong", Builtin::Told(Inquiry::Convert(Ty::Longlong))),
+    (b"copy", Builtin::Told(Inquiry::Copy)),
+    (b"nelem", Builtin::Told(Inquiry::Nelem)),
+    (b"ndims", Builtin::Told(Inquiry::Ndims)),
+    (b"shape", Builtin::Told(Inquiry::Shape)),
+    (b"which", Builtin::Told(Inquiry::Which)),
+    (b"dim", Builtin::Dim),
+    // Views.
+    (b"slice", Builtin::Slice),
+    (b"xchg", Builtin::Arranged(Arrangement::Xchg)),
+    (b"mv", Builtin::Arranged(Arrangement::Mv)),
+    (b"reorder", Builtin::Arranged(Arrangement::Reorder)),
+    (b"dummy", Builtin::Arranged(Arrangement::Dummy)),
+    (b"diagonal", Builtin::Arranged(Arrangement::Diagonal)),
+    (b"clump", Builtin::Arranged(Arrangement::Clump)),
+    (b"flat", Builtin::Arranged(Arrangement::Flat)),
+    (b"squeeze", Builtin::Arranged(Arrangement::Squeeze)),
+    (b"index", Builtin::Index),
+    (b"where", Builtin::Where),
+    (b"range", Builtin::Range),
+    // Reductions along dimension 0.
+    (b"sumover", Builtin::Reduced(Reduction::Sumover)),
+    (b"prodover", Builtin::Reduced(Reduction::Prodover)),
+    (b"cumusumover", Builtin::Reduced(Reduction::Cumusumover)),
+    (b"cumuprodover", Builtin::Reduced(Reduction::Cumuprodover)),
+    (b"maximum", Builtin::Reduced(Reduction::Maximum)),
+    (b"minimum", Builtin::Reduced(Reduction::Minimum)),
+    (b"maximum_ind", Builtin::Reduced(Reduction::MaximumInd)),
+    (b"minimum_ind", Builtin::Reduced(Reduction::MinimumInd)),
+    // Reductions of all elements, and products of two arrays.
+    (b"sum", Builtin::Whole(Whole::Sum)),
+    (b"prod", Builtin::Whole(Whole::Prod)),
+    (b"max", Builtin::Whole(Whole::Max)),
+    (b"min", Builtin::Whole(Whole::Min)),
+    (b"all", Builtin::Whole(Whole::All)),
+    (b"any", Builtin::Whole(Whole::Any)),
+    (b"inner", Builtin::Paired(Pairing::Inner)),
+    (b"outer", Builtin::Paired(Pairing::Outer)),
+    (b"matmult", Builtin::Paired(Pairing::Matmult)),
+];
+
 /// The built-in call of this name, if there is one.
 pub fn builtin_named(name: &[u8]) -> Option<Builtin>
     ensures { result ≡ builtin_of name.now }
 {
-    fill_named(name)
-        .or(inquiry_named(name))
-        .or(view_named(name))
-        .or(reduction_named(name))
-        .or(product_named(name))
-}
-
-/// A new array by sizes.
-fn fill_named(name: &[u8]) -> Option<Builtin>
-    ensures { result ≡ found_in fills name.now }
-{
-    let found = None;
-    let found = or_filled(name, b"yvals", Fill::Yvals, found);
-    let found = or_filled(name, b"xvals", Fill::Xvals, found);
-    let found = or_filled(name, b"sequence", Fill::Sequence, found);
-    let found = or_filled(name, b"ones", Fill::Ones, found);
-    or_filled(name, b"zeroes", Fill::Zeroes, found)
-}
-
-/// A new array that tells something of an array.
-fn inquiry_named(name: &[u8]) -> Option<Builtin>
-    ensures { result ≡ found_in inquiries name.now }
-{
-    let found = None;
-    let found = or_found(name, b"dim", Builtin::Dim, found);
-    let found = or_told(name, b"which", Inquiry::Which, found);
-    let found = or_told(name, b"shape", Inquiry::Shape, found);
-    let found = or_told(name, b"ndims", Inquiry::Ndims, found);
-    let found = or_told(name, b"nelem", Inquiry::Nelem, found);
-    let found = or_told(name, b"copy", Inquiry::Copy, found);
-    let found = or_told(name, b"longlong", Inquiry::Convert(Ty::Longlong), found);
-    let found = or_told(name, b"long", Inquiry::Convert(Ty::Long), found);
-    let found = or_told(name, b"ushort", Inquiry::Convert(Ty::Ushort), found);
-    let found = or_told(name, b"short", Inquiry::Convert(Ty::Short), found);
-    or_told(name, b"byte", Inquiry::Convert(Ty::Byte), found)
-}
-
-/// A view.
-fn view_named(name: &[u8]) -> Option<Builtin>
-    ensures { result ≡ found_in views name.now }
-{
-    let found = None;
-    let found = or_found(name, b"range", Builtin::Range, found);
-    let found = or_found(name, b"where", Builtin::Where, found);
-    let found = or_found(name, b"index", Builtin::Index, found);
-    let found = or_arranged(name, b"squeeze", Arrangement::Squeeze, found);
-    let found = or_arranged(name, b"flat", Arrangement::Flat, found);
-    let found = or_arranged(name, b"clump", Arrangement::Clump, found);
-    let found = or_arranged(name, b"diagonal", Arrangement::Diagonal, found);
-    let found = or_arranged(name, b"dummy", Arrangement::Dummy, found);
-    let found = or_arranged(name, b"reorder", Arrangement::Reorder, found);
-    let found = or_arranged(name, b"mv", Arrangement::Mv, found);
-    let found = or_arranged(name, b"xchg", Arrangement::Xchg, found);
-    or_found(name, b"slice", Builtin::Slice, found)
-}
-
-/// A reduction along dimension 0.
-fn reduction_named(name: &[u8]) -> Option<Builtin>
-    ensures { result ≡ found_in reductions name.now }
-{
-    let found = None;
-    let found = or_reduced(name, b"minimum_ind", Reduction::MinimumInd, found);
-    let found = or_reduced(name, b"maximum_ind", Reduction::MaximumInd, found);
-    let found = or_reduced(name, b"minimum", Reduction::Minimum, found);
-    let found = or_reduced(name, b"maximum", Reduction::Maximum, found);
-    let found = or_reduced(name, b"cumuprodover", Reduction::Cumuprodover, found);
-    let found = or_reduced(name, b"cumusumover", Reduction::Cumusumover, found);
-    let found = or_reduced(name, b"prodover", Reduction::Prodover, found);
-    or_reduced(name, b"sumover", Reduction::Sumover, found)
-}
-
-/// A reduction of all elements, or a product of two arrays.
-fn product_named(name: &[u8]) -> Option<Builtin>
-    ensures { result ≡ found_in wholes_and_products name.now }
-{
-    let found = None;
-    let found = or_found(name, b"matmult", Builtin::Paired(Pairing::Matmult), found);
-    let found = or_found(name, b"outer", Builtin::Paired(Pairing::Outer), found);
-    let found = or_found(name, b"inner", Builtin::Paired(Pairing::Inner), found);
-    let found = or_found(name, b"any", Builtin::Whole(Whole::Any), found);
-    let found = or_found(name, b"all", Builtin::Whole(Whole::All), found);
-    let found = or_found(name, b"min", Builtin::Whole(Whole::Min), found);
-    let found = or_found(name, b"max", Builtin::Whole(Whole::Max), found);
-    let found = or_found(name, b"prod", Builtin::Whole(Whole::Prod), found);
-    or_found(name, b"sum", Builtin::Whole(Whole::Sum), found)
-}
-
-fn or_filled(name: &[u8], word: &[u8], fill: Fill, found: Option<Builtin>) -> Option<Builtin>
-    ensures { result ≡ (if bytes_eq name.now word.now then Some (Filled fill) else found) }
-{
-    or_found(name, word, Builtin::Filled(fill), found)
-}
-
-fn or_told(name: &[u8], word: &[u8], inquiry: Inquiry, found: Option<Builtin>) -> Option<Builtin>
-    ensures { result ≡ (if bytes_eq name.now word.now then Some (Told inquiry) else found) }
-{
-    or_found(name, word, Builtin::Told(inquiry), found)
-}
-
-fn or_arranged(
-    name: &[u8],
-    word: &[u8],
-    arrangement: Arrangement,
-    found: Option<Builtin>,
-) -> Option<Builtin>
-    ensures { result ≡ (if bytes_eq name.now word.now then Some (Arranged arrangement) else found) }
-{
-    or_found(name, word, Builtin::Arranged(arrangement), found)
-}
-
-fn or_reduced(
-    name: &[u8],
-    word: &[u8],
-    reduction: Reduction,
-    found: Option<Builtin>,
-) -> Option<Builtin>
-    ensures { result ≡ (if bytes_eq name.now word.now then Some (Reduced reduction) else found) }
-{
-    or_found(name, word, Builtin::Reduced(reduction), found)
-}
-
-/// The call where the name is the word, else what was found.
-fn or_found(name: &[u8], word: &[u8], builtin: Builtin, found: Option<Builtin>) -> Option<Builtin>
-    ensures { result ≡ (if bytes_eq name.now word.now then Some builtin else found) }
-{
-    if name == word { Some(builtin) } else { found }
+    found_in(BUILTINS, name)
 }
