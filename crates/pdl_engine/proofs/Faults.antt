@@ -1,5 +1,5 @@
 -- Which fault names why there is no view.
-use Rattle.std.proofs.Common.{◌≡◌, ℕ, Bool, true, false, List, [], length, Option, Some, None, refl, sym, ◌∙◌, ap, subst}
+use Rattle.std.proofs.Common.{◌≡◌, ℕ, true, false, List, [], length, Option, Some, None, refl}
 use Rattle.std.specs.Prelude.{nat_lt, Result, Ok, Err, IsOk}
 use Rattle.pdl_shape.specs.Refusals.{Refusal}
 use Rattle.pdl_world.specs.Refused.{NoView, too_deep, refusal_at}

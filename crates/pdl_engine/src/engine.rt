@@ -10,7 +10,7 @@ ghost use Rattle.pdl_world.specs.Paths.{root_of};
 ghost use Rattle.pdl_world.specs.Refused.{view_refusal};
 ghost use Rattle.pdl_world.specs.World.{root, view, dims_in, ty_in, assign};
 ghost use Rattle.pdl_world.specs.Sound.{IsLive, IsSound};
-ghost use Rattle.pdl_engine.specs.State.{ChangesFamily, FamilyIsSettled, IsReleased, count_at, one_more_at, written_back, no_arrays, is_fresh, IsLazy, IsLentAs, Joins, Names, OthersWait, TargetWaits, PathIsFresh, SameArrays, StayFresh, TargetIsFresh, outdated, shown_in, waiting, waiting_size};
+ghost use Rattle.pdl_engine.specs.State.{ChangesFamily, FamilyIsSettled, IsReleased, count_at, one_more_at, written_back, no_arrays, is_fresh, IsLazy, IsLentAs, Joins, Names, OthersWait, TargetWaits, PathIsFresh, SameArrays, StayFresh, TargetIsFresh, ready_steps, shown_in, waiting};
 
 use crate::layouts::layout;
 use pdl_affine::PlanFault;
@@ -218,8 +218,7 @@ impl Engine {
         ensures itself { OnOk result (is_fresh self.new id ≡ true) }
         ensures settled { waiting self.new id ≡ None }
         ensures others { OthersWait self.old id self.new }
-        ensures counted { steps.new ≤ steps.old
-            + (outdated self.old id + waiting_size self.old (waiting self.old id)) }
+        ensures counted { steps.new ≤ steps.old + ready_steps self.old id }
     {
         self.nodes.ready(id, steps)
     }
@@ -269,8 +268,7 @@ impl Engine {
         ensures stay { OnErr result (StayFresh self.old self.new) }
         ensures fresh { OnOk result (root_of self.old.world id ≢ id → is_fresh self.new id ≡ true) }
         ensures counted { steps.new ≤ steps.old
-            + (outdated self.old id + waiting_size self.old (waiting self.old id)
-            + size_of (dims_in self.old.world id)) }
+            + (ready_steps self.old id + size_of (dims_in self.old.world id)) }
         ensures sound { IsSound self.new.world }
     {
         self.nodes.sever(id, steps)
@@ -294,9 +292,7 @@ impl Engine {
         ensures settled { FamilyIsSettled self.old id self.new }
         ensures stay { OnErr result (StayFresh self.old self.new) }
         ensures fresh { OnOk result (is_fresh self.new id ≡ true) }
-        ensures counted { steps.new ≤ steps.old
-            + (outdated self.old id + waiting_size self.old (waiting self.old id)
-            + size_of dims.now) }
+        ensures counted { steps.new ≤ steps.old + (ready_steps self.old id + size_of dims.now) }
         ensures sound { IsSound self.new.world }
     {
         self.nodes.reshape(id, dims, steps)

@@ -8,6 +8,8 @@
 #![tactic(auto)]
 
 mod engine;
+mod laws;
 mod layouts;
 
 pub use engine::{ArrayId, Engine, ViewFault};
+pub use laws::worked_scripts;

@@ -75,6 +75,10 @@ waiting s v = waiting_at s.pending (root_of s.world v)
 abbrev pub waiting_size : State → Option ℕ → ℕ
 waiting_size s o = size_if (dims_in s.world) o
 
+-- the most steps that it takes to make v such that it can be lent
+abbrev pub ready_steps : State → ℕ → ℕ
+ready_steps s v = outdated s v + waiting_size s (waiting s v)
+
 -- where values are put that are assigned to v: in its base, or in its root where the base has
 -- repeats
 abbrev pub target : World → ℕ → ℕ

@@ -12,7 +12,7 @@ ghost use Rattle.pdl_world.specs.Sound.{IsLive, IsSound};
 ghost use Rattle.pdl_world.specs.World.{assign, dims_in, root, ty_in, view};
 ghost use Rattle.pdl_nodes.specs.Held.{ChangesFamily, FamilyIsSettled, IsReleased, count_at, one_more_at, written_back};
 ghost use Rattle.pdl_nodes.specs.Sized.{IsLayout};
-ghost use Rattle.pdl_nodes.specs.State.{IsLazy, IsLentAs, Joins, OthersWait, TargetWaits, PathIsFresh, SameArrays, StayFresh, TargetIsFresh, is_fresh, no_arrays, outdated, shown_in, waiting, waiting_size};
+ghost use Rattle.pdl_nodes.specs.State.{IsLazy, IsLentAs, Joins, OthersWait, TargetWaits, PathIsFresh, SameArrays, StayFresh, TargetIsFresh, is_fresh, no_arrays, ready_steps, shown_in, waiting};
 
 use crate::holds::{Holds, insert};
 use crate::origin::Layout;
@@ -191,8 +191,7 @@ impl Nodes {
         ensures itself { OnOk result (is_fresh self.new id ≡ true) }
         ensures settled { waiting self.new id ≡ None }
         ensures others { OthersWait self.old id self.new }
-        ensures counted { steps.new ≤ steps.old
-            + (outdated self.old id + waiting_size self.old (waiting self.old id)) }
+        ensures counted { steps.new ≤ steps.old + ready_steps self.old id }
     {
         readying::ready(&mut self.table, self.alloc, id, steps)
     }
@@ -267,8 +266,7 @@ impl Nodes {
         ensures stay { OnErr result (StayFresh self.old self.new) }
         ensures fresh { OnOk result (root_of self.old.world id ≢ id → is_fresh self.new id ≡ true) }
         ensures counted { steps.new ≤ steps.old
-            + (outdated self.old id + waiting_size self.old (waiting self.old id)
-            + size_of (dims_in self.old.world id)) }
+            + (ready_steps self.old id + size_of (dims_in self.old.world id)) }
         ensures sound { IsSound self.new.world }
     {
         cut_laws();
@@ -293,9 +291,7 @@ impl Nodes {
         ensures settled { FamilyIsSettled self.old id self.new }
         ensures stay { OnErr result (StayFresh self.old self.new) }
         ensures fresh { OnOk result (is_fresh self.new id ≡ true) }
-        ensures counted { steps.new ≤ steps.old
-            + (outdated self.old id + waiting_size self.old (waiting self.old id)
-            + size_of dims.now) }
+        ensures counted { steps.new ≤ steps.old + (ready_steps self.old id + size_of dims.now) }
         ensures sound { IsSound self.new.world }
     {
         reshape_laws();

@@ -1,4 +1,4 @@
-use Rattle.std.proofs.Common.{◌≡◌, ℕ, List, [], Some, rules, sym, ◌∙◌, ap, subst}
+use Rattle.std.proofs.Common.{ℕ, List, [], rules, sym, ◌∙◌, ap, subst}
 use Rattle.std.specs.Prelude.{IsOk}
 use Rattle.pdl_world.specs.Formula.{child_dims}
 use Rattle.pdl_world.specs.Paths.{path}

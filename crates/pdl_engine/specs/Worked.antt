@@ -1,0 +1,280 @@
+-- Scripts of calls worked by hand: after each call the arrays that can be lent, what waits, and the
+-- steps that the call took. They are those of the "Twelve tables of marks" of
+-- crates/pdl_cases/data/engine.txt, in their order, and three of those on cut, reshaped and released
+-- arrays; that file is run, and shows which arrays can be lent. Here `waits` and `steps` are checked
+-- against what the clauses of the calls say of them; where a clause says "at most", a script has the
+-- most. The arrays are numbered as they are made: x is 0, the next one 1.
+use Rattle.std.specs.Prelude.{◌≡◌, ℕ, ◌+◌, ◌==◌, not, if◌then◌else◌, List, [], ◌∷◌, length, map, filter, ℤ, pos, negsuc, Some, is_some}
+use Rattle.pdl_elem.specs.declared.Ty.TheVariants.{Long}
+use Rattle.pdl_buf.specs.Buffer.{count_moved}
+use Rattle.pdl_shape.specs.Shape.{size_of}
+use Rattle.pdl_slices.specs.declared.SliceArg.TheVariants.{Span}
+use Rattle.pdl_affine.specs.declared.Affine.TheVariants.{Slice, Xchg, Clump}
+use Rattle.pdl_choice.specs.declared.edges.Edge.TheVariants.{Zero}
+use Rattle.pdl_world.specs.declared.Trans.{Trans}
+use Rattle.pdl_world.specs.declared.Trans.TheVariants.{Affine, Index, Range}
+use Rattle.pdl_world.specs.World as world
+use Rattle.pdl_world.specs.World.{World, ArrayDef, dims_in, look}
+use Rattle.pdl_world.specs.Cut as cut
+use Rattle.pdl_world.specs.Paths.{root_of}
+use Rattle.pdl_world.specs.Swept.{sweep}
+use Rattle.pdl_nodes.specs.Nodes.{pending_onto}
+use Rattle.pdl_engine.specs.State.{State, no_arrays, ready_steps, kept_back, one_less_at, held_among, holds_left, written_back}
+
+pub data Call : Type 0 where
+  make : (dims : List ℕ) (elems : List ℤ) → Call
+  view : (parent : ℕ) (trans : Trans) → Call
+  ready : (id : ℕ) → Call
+  assign : (id : ℕ) (values : List ℤ) → Call
+  sever : (id : ℕ) → Call
+  reshape : (id : ℕ) (dims : List ℕ) → Call
+  release : (id : ℕ) → Call
+
+-- a call, and after it the arrays that can be lent, the views that wait, each with its root, and the
+-- steps of the call
+pub data Line : Type 0 where
+  after : Call → (lent : List ℕ) (waits : List (ℕ × ℕ)) (steps : ℕ) → Line
+
+-- one array more, held once
+abbrev pub with_array : State → ArrayDef → State
+with_array s d = record s {
+  world = (s.next, d) ∷ s.world;
+  holds = (s.next, 1) ∷ s.holds;
+  next = s.next + 1;
+}
+
+-- nothing waits in the family of v
+abbrev pub with_settled : State → ℕ → State
+with_settled s v = record s { pending = filter (λ p. not (p.0 == root_of s.world v)) s.pending }
+
+-- the arrays of a smaller world, held as said
+abbrev pub with_left : State → World → List (ℕ × ℕ) → State
+with_left s w holds = record s {
+  world = w;
+  holds = holds_left w holds;
+  pending = filter (λ p. is_some (look w p.1)) s.pending;
+}
+
+-- the state after a call, but for what can be lent
+abbrev pub state_after : State → Call → State
+state_after s (make ds es) = with_array s (world.root Long ds es)
+state_after s (view p t) = with_array s (world.view p t)
+state_after s (ready v) = with_settled s v
+state_after s (assign v vs) = record s {
+  world = world.assign s.world v vs;
+  pending = pending_onto (root_of s.world v) (kept_back s.world v) (with_settled s v).pending;
+}
+state_after s (sever v) = record (with_settled s v) { world = cut.sever s.world v }
+state_after s (reshape v ds) = record (with_settled s v) { world = cut.reshape s.world v ds }
+state_after s (release v) =
+    with_left s (sweep s.world (held_among (one_less_at s.holds v))) (one_less_at s.holds v)
+
+-- the steps that a call takes, or the most that it may
+abbrev pub steps_of : State → Call → ℕ
+steps_of s (make ds es) = count_moved es
+steps_of s (view p t) = 0
+steps_of s (ready v) = ready_steps s v
+steps_of s (assign v vs) = length vs
+steps_of s (sever v) =
+    if root_of s.world v == v then 0 else ready_steps s v + size_of (dims_in s.world v)
+steps_of s (reshape v ds) = ready_steps s v + size_of ds
+steps_of s (release v) =
+    let left = (state_after s (release v)).world in
+    written_back s left left
+
+-- the lines from a state on, with what waits and the steps as the clauses say
+abbrev pub worked_from : State → List Line → List Line
+worked_from s [] = []
+worked_from s (after c lent waits steps ∷ rest) =
+    let next = record (state_after s c) { fresh = lent } in
+    after c lent next.pending (steps_of s c) ∷ worked_from next rest
+
+-- 0 1 2 3 4 5, of which five aren't 0
+abbrev pub to_five : List ℤ
+to_five = pos 0 ∷ pos 1 ∷ pos 2 ∷ pos 3 ∷ pos 4 ∷ pos 5 ∷ []
+
+abbrev pub index_at : List ℕ → Trans
+index_at is = Index (length is ∷ []) (map pos is)
+
+abbrev pub span_of : (from to step : ℕ) → Trans
+span_of from to step =
+    Affine (Slice (Span (Some (pos from)) (Some (pos to)) (Some (pos step)) ∷ []))
+
+abbrev pub whole_numbers : List ℕ → List ℤ
+whole_numbers vs = map pos vs
+
+-- x = 0 .. 5; b = x index 4 1 2; s = x index 0 5
+abbrev pub sibling_is_read : List Line
+sibling_is_read =
+    after (make (6 ∷ []) to_five) (0 ∷ []) [] 5
+    ∷ after (view 0 (index_at (4 ∷ 1 ∷ 2 ∷ []))) (0 ∷ []) [] 0
+    ∷ after (ready 1) (0 ∷ 1 ∷ []) [] 3
+    ∷ after (view 0 (index_at (0 ∷ 5 ∷ []))) (0 ∷ 1 ∷ []) [] 0
+    ∷ after (ready 2) (0 ∷ 1 ∷ 2 ∷ []) [] 2
+    ∷ after (assign 1 (whole_numbers (7 ∷ 8 ∷ 9 ∷ []))) (1 ∷ []) ((0, 1) ∷ []) 3
+    ∷ after (ready 2) (0 ∷ 1 ∷ 2 ∷ []) [] 5
+    ∷ after (ready 0) (0 ∷ 1 ∷ 2 ∷ []) [] 0 ∷ []
+
+-- the same views, written one after the other
+abbrev pub siblings_are_written : List Line
+siblings_are_written =
+    after (make (6 ∷ []) to_five) (0 ∷ []) [] 5
+    ∷ after (view 0 (index_at (4 ∷ 1 ∷ 2 ∷ []))) (0 ∷ []) [] 0
+    ∷ after (view 0 (index_at (0 ∷ 5 ∷ []))) (0 ∷ []) [] 0
+    ∷ after (ready 1) (0 ∷ 1 ∷ []) [] 3
+    ∷ after (ready 2) (0 ∷ 1 ∷ 2 ∷ []) [] 2
+    ∷ after (assign 1 (whole_numbers (7 ∷ 8 ∷ 9 ∷ []))) (1 ∷ []) ((0, 1) ∷ []) 3
+    ∷ after (ready 2) (0 ∷ 1 ∷ 2 ∷ []) [] 5
+    ∷ after (assign 2 (whole_numbers (5 ∷ 6 ∷ []))) (2 ∷ []) ((0, 2) ∷ []) 2
+    ∷ after (ready 1) (0 ∷ 1 ∷ 2 ∷ []) [] 5
+    ∷ after (ready 0) (0 ∷ 1 ∷ 2 ∷ []) [] 0 ∷ []
+
+-- y = x slice 0:4:2; b = x index 4 1 2; o = b slice 0:2:2, whose values wait in b
+abbrev pub slice_of_choice_is_written : List Line
+slice_of_choice_is_written =
+    after (make (6 ∷ []) to_five) (0 ∷ []) [] 5
+    ∷ after (view 0 (span_of 0 4 2)) (0 ∷ 1 ∷ []) [] 0
+    ∷ after (view 0 (index_at (4 ∷ 1 ∷ 2 ∷ []))) (0 ∷ 1 ∷ []) [] 0
+    ∷ after (view 2 (span_of 0 2 2)) (0 ∷ 1 ∷ []) [] 0
+    ∷ after (ready 3) (0 ∷ 1 ∷ 2 ∷ 3 ∷ []) [] 3
+    ∷ after (assign 3 (whole_numbers (5 ∷ 6 ∷ []))) (2 ∷ 3 ∷ []) ((0, 2) ∷ []) 2
+    ∷ after (ready 1) (0 ∷ 1 ∷ 2 ∷ 3 ∷ []) [] 3
+    ∷ after (ready 2) (0 ∷ 1 ∷ 2 ∷ 3 ∷ []) [] 0 ∷ []
+
+-- b = x index 4 1 2
+abbrev pub root_is_written : List Line
+root_is_written =
+    after (make (6 ∷ []) to_five) (0 ∷ []) [] 5
+    ∷ after (view 0 (index_at (4 ∷ 1 ∷ 2 ∷ []))) (0 ∷ []) [] 0
+    ∷ after (ready 1) (0 ∷ 1 ∷ []) [] 3
+    ∷ after (assign 0 (whole_numbers (9 ∷ 8 ∷ 7 ∷ 6 ∷ 5 ∷ 4 ∷ []))) (0 ∷ []) [] 6
+    ∷ after (ready 1) (0 ∷ 1 ∷ []) [] 3 ∷ []
+
+-- y = x slice 0:4:2; b = x index 4 1 2
+abbrev pub slice_is_written : List Line
+slice_is_written =
+    after (make (6 ∷ []) to_five) (0 ∷ []) [] 5
+    ∷ after (view 0 (span_of 0 4 2)) (0 ∷ 1 ∷ []) [] 0
+    ∷ after (view 0 (index_at (4 ∷ 1 ∷ 2 ∷ []))) (0 ∷ 1 ∷ []) [] 0
+    ∷ after (ready 2) (0 ∷ 1 ∷ 2 ∷ []) [] 3
+    ∷ after (assign 1 (whole_numbers (1 ∷ 2 ∷ 3 ∷ []))) (0 ∷ 1 ∷ []) [] 3
+    ∷ after (ready 2) (0 ∷ 1 ∷ 2 ∷ []) [] 3
+    ∷ after (ready 0) (0 ∷ 1 ∷ 2 ∷ []) [] 0 ∷ []
+
+-- d = x index 4 1 4, which has a place twice
+abbrev pub place_is_twice : List Line
+place_is_twice =
+    after (make (6 ∷ []) to_five) (0 ∷ []) [] 5
+    ∷ after (view 0 (index_at (4 ∷ 1 ∷ 4 ∷ []))) (0 ∷ []) [] 0
+    ∷ after (ready 1) (0 ∷ 1 ∷ []) [] 3
+    ∷ after (assign 1 (whole_numbers (7 ∷ 8 ∷ 9 ∷ []))) (0 ∷ []) [] 3
+    ∷ after (ready 1) (0 ∷ 1 ∷ []) [] 3
+    ∷ after (ready 0) (0 ∷ 1 ∷ []) [] 0 ∷ []
+
+-- b = x index 4 1 2; d = b index 1 1
+abbrev pub place_of_choice_is_twice : List Line
+place_of_choice_is_twice =
+    after (make (6 ∷ []) to_five) (0 ∷ []) [] 5
+    ∷ after (view 0 (index_at (4 ∷ 1 ∷ 2 ∷ []))) (0 ∷ []) [] 0
+    ∷ after (view 1 (index_at (1 ∷ 1 ∷ []))) (0 ∷ []) [] 0
+    ∷ after (ready 2) (0 ∷ 1 ∷ 2 ∷ []) [] 5
+    ∷ after (assign 1 (whole_numbers (7 ∷ 8 ∷ 9 ∷ []))) (1 ∷ []) ((0, 1) ∷ []) 3
+    ∷ after (ready 2) (0 ∷ 1 ∷ 2 ∷ []) [] 5
+    ∷ after (assign 2 (whole_numbers (5 ∷ 6 ∷ []))) (0 ∷ []) [] 2
+    ∷ after (ready 1) (0 ∷ 1 ∷ []) [] 3
+    ∷ after (ready 2) (0 ∷ 1 ∷ 2 ∷ []) [] 2 ∷ []
+
+-- v = x range -1 sizes 3 edge Zero, whose first place is missing
+abbrev pub place_is_missing : List Line
+place_is_missing =
+    after (make (6 ∷ []) to_five) (0 ∷ []) [] 5
+    ∷ after (view 0 (Range (1 ∷ []) (negsuc 0 ∷ []) (pos 3 ∷ []) Zero)) (0 ∷ []) [] 0
+    ∷ after (ready 1) (0 ∷ 1 ∷ []) [] 3
+    ∷ after (assign 1 (whole_numbers (7 ∷ 8 ∷ 9 ∷ []))) (1 ∷ []) ((0, 1) ∷ []) 3
+    ∷ after (ready 0) (0 ∷ 1 ∷ []) [] 3
+    ∷ after (ready 1) (0 ∷ 1 ∷ []) [] 0 ∷ []
+
+-- b = x index 4 1 2; c = b index 2 0
+abbrev pub choice_of_choice_is_written : List Line
+choice_of_choice_is_written =
+    after (make (6 ∷ []) to_five) (0 ∷ []) [] 5
+    ∷ after (view 0 (index_at (4 ∷ 1 ∷ 2 ∷ []))) (0 ∷ []) [] 0
+    ∷ after (view 1 (index_at (2 ∷ 0 ∷ []))) (0 ∷ []) [] 0
+    ∷ after (ready 2) (0 ∷ 1 ∷ 2 ∷ []) [] 5
+    ∷ after (assign 2 (whole_numbers (5 ∷ 6 ∷ []))) (2 ∷ []) ((0, 2) ∷ []) 2
+    ∷ after (ready 1) (0 ∷ 1 ∷ 2 ∷ []) [] 5
+    ∷ after (ready 0) (0 ∷ 1 ∷ 2 ∷ []) [] 0 ∷ []
+
+-- b = x index 4 1 2; z = 1 2, another root; e = z index 1 0
+abbrev pub two_families : List Line
+two_families =
+    after (make (6 ∷ []) to_five) (0 ∷ []) [] 5
+    ∷ after (view 0 (index_at (4 ∷ 1 ∷ 2 ∷ []))) (0 ∷ []) [] 0
+    ∷ after (make (2 ∷ []) (whole_numbers (1 ∷ 2 ∷ []))) (0 ∷ 2 ∷ []) [] 2
+    ∷ after (view 2 (index_at (1 ∷ 0 ∷ []))) (0 ∷ 2 ∷ []) [] 0
+    ∷ after (ready 1) (0 ∷ 1 ∷ 2 ∷ []) [] 3
+    ∷ after (ready 3) (0 ∷ 1 ∷ 2 ∷ 3 ∷ []) [] 2
+    ∷ after (assign 1 (whole_numbers (7 ∷ 8 ∷ 9 ∷ []))) (1 ∷ 2 ∷ 3 ∷ []) ((0, 1) ∷ []) 3
+    ∷ after (assign 3 (whole_numbers (3 ∷ 4 ∷ []))) (1 ∷ 3 ∷ []) ((2, 3) ∷ (0, 1) ∷ []) 2
+    ∷ after (ready 2) (1 ∷ 2 ∷ 3 ∷ []) ((0, 1) ∷ []) 2
+    ∷ after (ready 0) (0 ∷ 1 ∷ 2 ∷ 3 ∷ []) [] 3 ∷ []
+
+-- x of sizes 2 and 3; y = x xchg 0 1; c = y clump -1, whose dimensions don't join
+abbrev pub clump_is_written : List Line
+clump_is_written =
+    after (make (2 ∷ 3 ∷ []) to_five) (0 ∷ []) [] 5
+    ∷ after (view 0 (Affine (Xchg (pos 0) (pos 1)))) (0 ∷ 1 ∷ []) [] 0
+    ∷ after (view 1 (Affine (Clump (negsuc 0)))) (0 ∷ 1 ∷ []) [] 0
+    ∷ after (ready 2) (0 ∷ 1 ∷ 2 ∷ []) [] 6
+    ∷ after (assign 2 (whole_numbers (9 ∷ 8 ∷ 7 ∷ 6 ∷ 5 ∷ 4 ∷ []))) (2 ∷ []) ((0, 2) ∷ []) 6
+    ∷ after (ready 1) (0 ∷ 1 ∷ 2 ∷ []) [] 6
+    ∷ after (ready 0) (0 ∷ 1 ∷ 2 ∷ []) [] 0 ∷ []
+
+-- x = 0 .. 5; b = x index 4 1 2, in which 7 8 9 wait; and then these calls
+abbrev pub in_b_waits : List Line → List Line
+in_b_waits rest =
+    after (make (6 ∷ []) to_five) (0 ∷ []) [] 5
+    ∷ after (view 0 (index_at (4 ∷ 1 ∷ 2 ∷ []))) (0 ∷ []) [] 0
+    ∷ after (ready 1) (0 ∷ 1 ∷ []) [] 3
+    ∷ after (assign 1 (whole_numbers (7 ∷ 8 ∷ 9 ∷ []))) (1 ∷ []) ((0, 1) ∷ []) 3
+    ∷ rest
+
+-- o = b slice 0:1; y = x slice 0:2; f = b index 0
+abbrev pub views_come_late : List Line
+views_come_late =
+    in_b_waits (
+    after (view 1 (span_of 0 1 1)) (1 ∷ 2 ∷ []) ((0, 1) ∷ []) 0
+    ∷ after (view 0 (span_of 0 2 1)) (1 ∷ 2 ∷ []) ((0, 1) ∷ []) 0
+    ∷ after (view 1 (index_at (0 ∷ []))) (1 ∷ 2 ∷ []) ((0, 1) ∷ []) 0
+    ∷ after (ready 4) (0 ∷ 1 ∷ 2 ∷ 3 ∷ 4 ∷ []) [] 4 ∷ [])
+
+-- b is cut
+abbrev pub waiting_is_cut : List Line
+waiting_is_cut =
+    in_b_waits (
+    after (sever 1) (0 ∷ 1 ∷ []) [] 6
+    ∷ after (assign 1 (whole_numbers (1 ∷ 2 ∷ 3 ∷ []))) (0 ∷ 1 ∷ []) [] 3 ∷ [])
+
+-- b gets four elements, and then x two
+abbrev pub waiting_is_reshaped : List Line
+waiting_is_reshaped =
+    in_b_waits (
+    after (reshape 1 (2 ∷ 2 ∷ [])) (0 ∷ 1 ∷ []) [] 7
+    ∷ after (reshape 0 (2 ∷ [])) (0 ∷ 1 ∷ []) [] 2 ∷ [])
+
+-- b goes
+abbrev pub waiting_goes : List Line
+waiting_goes =
+    in_b_waits (
+    after (release 1) (0 ∷ []) [] 3 ∷ [])
+
+abbrev pub scripts : List (List Line)
+scripts =
+    sibling_is_read ∷ siblings_are_written ∷ slice_of_choice_is_written ∷ root_is_written
+    ∷ slice_is_written ∷ place_is_twice ∷ place_of_choice_is_twice ∷ place_is_missing
+    ∷ choice_of_choice_is_written ∷ two_families ∷ clump_is_written ∷ views_come_late
+    ∷ waiting_is_cut ∷ waiting_is_reshaped ∷ waiting_goes ∷ []
+
+-- what waits and the steps are as the clauses say, at each line of each script
+abbrev pub ScriptsAreWorked : Type 0
+ScriptsAreWorked = map (worked_from no_arrays) scripts ≡ scripts
