@@ -225,6 +225,22 @@ impl Node {
         }
     }
 
+    /// Puts values at the places of what is kept that its own triple shows, in order. It takes a step
+    /// for each value.
+    pub fn put_own<L: Ledger>(&mut self, values: &[i64], steps: &mut Steps<L>)
+        requires buffered { is_buffered self.old ≡ true }
+        requires paired { length values.now ≡ size_of self.old.triple.dims }
+        requires in_range { All (InRange self.old.ty) values.now }
+        ensures value { self.new ≡ record self.old
+            { kept = write (placed_by None self.old.triple) values.now self.old.kept } }
+        ensures counted { steps.new ≡ steps.old + length values.now }
+    {
+        match &mut self.kept {
+            Some(kept) => moves::put_over(kept, &None, &self.triple, values, steps),
+            None => unreachable!(),
+        }
+    }
+
     /// Puts values at the positions that a triple shows and that have a place, in order. It takes a
     /// step for each value.
     pub fn put_through<L: Ledger>(&mut self, triple: &Triple, values: &[i64], steps: &mut Steps<L>)

@@ -116,7 +116,7 @@ impl Nodes {
     {
         shape_laws();
         let node = self.table.node(id);
-        strided(self.table.node(node.base()).kept(), node.triple())
+        strided(self.table.base_of(id, node).kept(), node.triple())
     }
 
     /// A law: what can be lent of a family, and what waits in it (PDL::Dataflow). It does nothing.

@@ -41,7 +41,8 @@ pub fn is_fresh(table: &Table, id: u64) -> bool
     requires live { has table.now id ≡ true }
     ensures { result ≡ is_fresh_in table.now id }
 {
-    table.node(table.node(id).base()).mark()
+    let node = table.node(id);
+    table.base_of(id, node).mark()
 }
 
 /// The root's places of a view that is its own base and has a fresh parent.

@@ -66,6 +66,10 @@ fn put_on_root<L: Ledger>(
         (row_at table.old root).kept)) table.old }
     ensures counted { steps.new ≡ steps.old + length values.now }
 {
+    if id == root {
+        table.put_own(root, values, steps);
+        return;
+    }
     let triple = copy_triple(table.node(id).triple());
     table.put_over(root, &triple, values, steps);
 }
@@ -102,6 +106,7 @@ fn put_past_base<L: Ledger>(
 fn put_at_root<L: Ledger>(
     table: &mut Table,
     root: u64,
+    base: u64,
     id: u64,
     values: &[i64],
     steps: &mut Steps<L>,
@@ -111,6 +116,7 @@ fn put_at_root<L: Ledger>(
     requires root { IsRoot table.old root }
     requires live { has table.old id ≡ true }
     requires family { (row_at table.old id).root ≡ root }
+    requires over { (row_at table.old id).base ≡ base }
     requires fresh { is_fresh_in table.old id ≡ true }
     requires count { length values.now ≡ size_of (row_at table.old id).triple.dims }
     requires in_range { All (InRange (row_at table.old id).ty) values.now }
@@ -118,7 +124,6 @@ fn put_at_root<L: Ledger>(
         (row_at table.old root).kept)) table.old }
     ensures counted { steps.new ≡ steps.old + length values.now }
 {
-    let base = table.node(id).base();
     if base == root {
         put_on_root(table, root, id, values, steps)
     } else {
@@ -131,6 +136,7 @@ fn put_at_root<L: Ledger>(
 fn assign_at_root<L: Ledger>(
     table: &mut Table,
     root: u64,
+    base: u64,
     id: u64,
     values: &[i64],
     steps: &mut Steps<L>,
@@ -141,6 +147,7 @@ fn assign_at_root<L: Ledger>(
     requires nothing { (row_at table.old root).waiting ≡ None }
     requires live { has table.old id ≡ true }
     requires family { (row_at table.old id).root ≡ root }
+    requires over { (row_at table.old id).base ≡ base }
     requires fresh { is_fresh_in table.old id ≡ true }
     requires count { length values.now ≡ size_of (row_at table.old id).triple.dims }
     requires in_range { All (InRange (row_at table.old id).ty) values.now }
@@ -149,7 +156,7 @@ fn assign_at_root<L: Ledger>(
         root false) table.old }
     ensures counted { steps.new ≡ steps.old + length values.now }
 {
-    put_at_root(table, root, id, values, steps);
+    put_at_root(table, root, base, id, values, steps);
     table.mark(root, root);
 }
 
@@ -198,9 +205,9 @@ pub fn assign<L: Ledger>(table: &mut Table, id: u64, values: &[i64], steps: &mut
     let root = node.root();
     let base = node.base();
     if base == root {
-        assign_at_root(table, root, id, values, steps)
+        assign_at_root(table, root, base, id, values, steps)
     } else if table.node(base).repeats() {
-        assign_at_root(table, root, id, values, steps)
+        assign_at_root(table, root, base, id, values, steps)
     } else {
         assign_at_base(table, root, base, id, values, steps)
     }

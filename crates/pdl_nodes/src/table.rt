@@ -128,6 +128,16 @@ impl Table {
         &self.nodes[self.keys[&id]]
     }
 
+    /// The base of the node of this number: where that is the node itself it isn't looked up again.
+    pub fn base_of<'a>(&'a self, id: u64, node: &'a Node) -> &'a Node
+        requires here { node.now ≡ row_at self.now id }
+        requires live { has self.now node.now.base ≡ true }
+        ensures { result.now ≡ row_at self.now node.now.base }
+    {
+        let base = node.base();
+        if base == id { node } else { self.node(base) }
+    }
+
     /// Keeps one more node, under a number that is above all others and that no node has as its
     /// root. A view isn't marked.
     pub fn insert(&mut self, id: u64, node: Node) -> Result<(), AllocError>
@@ -224,6 +234,21 @@ impl Table {
     {
         let key = self.keys[&root];
         self.nodes[key].put_over(&None, triple, values, steps);
+    }
+
+    /// Puts values into an array at the places that its own triple shows, in order. It takes a step
+    /// for each value.
+    pub fn put_own<L: Ledger>(&mut self, id: u64, values: &[i64], steps: &mut Steps<L>)
+        requires live { has self.old id ≡ true }
+        requires buffered { is_buffered (row_at self.old id) ≡ true }
+        requires paired { length values.now ≡ size_of (row_at self.old id).triple.dims }
+        requires in_range { All (InRange (row_at self.old id).ty) values.now }
+        ensures put { self.new ≡ each (kept_in id (write (placed_by None (row_at self.old id).triple)
+            values.now (row_at self.old id).kept)) self.old }
+        ensures counted { steps.new ≡ steps.old + length values.now }
+    {
+        let key = self.keys[&id];
+        self.nodes[key].put_own(values, steps);
     }
 
     /// Puts values at the places of a root that a triple shows over a marked view of it, in order.

@@ -16,14 +16,14 @@ use Rattle.pdl_nodes.proofs.nodes.Nodes.lend.Goals as goal
 pub node-node-requires : goal.node-node-requires
 node-node-requires c = record { live = (live_has c.self.inside.table c.args.id (subst (λ (w : World). IsLive w c.args.id) (sym (ap (λ (s : State). s.world) c.self.view_is)) c.requires.live)) }
 
-pub node-requires : goal.node-requires
-node-requires c = record { live = base_live c.self.inside.table c.base.result c.args.id c.self.invariant.0.order.still (live_has c.self.inside.table c.args.id (subst (λ (w : World). IsLive w c.args.id) (sym (ap (λ (s : State). s.world) c.self.view_is)) c.requires.live)) (sym (c.base.ensures ∙ ap (λ (r : Row). r.base) c.node-node.ensures)) }
+pub base_of-requires-clause-live : goal.base_of-requires-clause-live
+base_of-requires-clause-live c = base_live c.self.inside.table c.node-node.result.now.base c.args.id c.self.invariant.0.order.still (live_has c.self.inside.table c.args.id (subst (λ (w : World). IsLive w c.args.id) (sym (ap (λ (s : State). s.world) c.self.view_is)) c.requires.live)) (sym (ap (λ (r : Row). r.base) c.node-node.ensures))
 
 pub kept-requires : goal.kept-requires
-kept-requires c = mark_buffered c.node.result.now (ap (λ (r : Row). r.mark) c.node.ensures ∙ ap (λ x. (row_at c.self.inside.table x).mark) (c.base.ensures ∙ ap (λ (r : Row). r.base) c.node-node.ensures) ∙ (sym (fresh_is c.self.inside.table c.args.id c.self.invariant.0.order.still (live_has c.self.inside.table c.args.id (subst (λ (w : World). IsLive w c.args.id) (sym (ap (λ (s : State). s.world) c.self.view_is)) c.requires.live))) ∙ ap (λ (s : State). holds s.fresh c.args.id) c.self.view_is ∙ c.requires.fresh))
+kept-requires c = mark_buffered c.base_of.result.now (ap (λ (r : Row). r.mark) c.base_of.ensures ∙ ap (λ x. (row_at c.self.inside.table x).mark) (ap (λ (r : Row). r.base) c.node-node.ensures) ∙ (sym (fresh_is c.self.inside.table c.args.id c.self.invariant.0.order.still (live_has c.self.inside.table c.args.id (subst (λ (w : World). IsLive w c.args.id) (sym (ap (λ (s : State). s.world) c.self.view_is)) c.requires.live))) ∙ ap (λ (s : State). holds s.fresh c.args.id) c.self.view_is ∙ c.requires.fresh))
 
 pub strided-requires : goal.strided-requires
-strided-requires c = lent_reaches c.shape_laws.ensures.positions c.self.inside.table c.args.id c.triple.result.now c.kept.result.now.elems c.self.invariant.0.order (live_has c.self.inside.table c.args.id (subst (λ (w : World). IsLive w c.args.id) (sym (ap (λ (s : State). s.world) c.self.view_is)) c.requires.live)) (sym (fresh_is c.self.inside.table c.args.id c.self.invariant.0.order.still (live_has c.self.inside.table c.args.id (subst (λ (w : World). IsLive w c.args.id) (sym (ap (λ (s : State). s.world) c.self.view_is)) c.requires.live))) ∙ ap (λ (s : State). holds s.fresh c.args.id) c.self.view_is ∙ c.requires.fresh) (c.triple.ensures ∙ ap (λ (r : Row). r.triple) c.node-node.ensures) (ap (λ (k : TypedElements). k.elems) c.kept.ensures ∙ ap (λ (r : Row). r.kept) c.node.ensures ∙ ap (λ x. (row_at c.self.inside.table x).kept) (c.base.ensures ∙ ap (λ (r : Row). r.base) c.node-node.ensures))
+strided-requires c = lent_reaches c.shape_laws.ensures.positions c.self.inside.table c.args.id c.triple.result.now c.kept.result.now.elems c.self.invariant.0.order (live_has c.self.inside.table c.args.id (subst (λ (w : World). IsLive w c.args.id) (sym (ap (λ (s : State). s.world) c.self.view_is)) c.requires.live)) (sym (fresh_is c.self.inside.table c.args.id c.self.invariant.0.order.still (live_has c.self.inside.table c.args.id (subst (λ (w : World). IsLive w c.args.id) (sym (ap (λ (s : State). s.world) c.self.view_is)) c.requires.live))) ∙ ap (λ (s : State). holds s.fresh c.args.id) c.self.view_is ∙ c.requires.fresh) (c.triple.ensures ∙ ap (λ (r : Row). r.triple) c.node-node.ensures) (ap (λ (k : TypedElements). k.elems) c.kept.ensures ∙ ap (λ (r : Row). r.kept) c.base_of.ensures ∙ ap (λ x. (row_at c.self.inside.table x).kept) (ap (λ (r : Row). r.base) c.node-node.ensures))
 
 pub returns : goal.returns
-returns c = c.strided.ensures.window ∙ lent_window c.self.inside.table c.args.id c.triple.result.now c.kept.result.now c.self.invariant.0.order (live_has c.self.inside.table c.args.id (subst (λ (w : World). IsLive w c.args.id) (sym (ap (λ (s : State). s.world) c.self.view_is)) c.requires.live)) (sym (fresh_is c.self.inside.table c.args.id c.self.invariant.0.order.still (live_has c.self.inside.table c.args.id (subst (λ (w : World). IsLive w c.args.id) (sym (ap (λ (s : State). s.world) c.self.view_is)) c.requires.live))) ∙ ap (λ (s : State). holds s.fresh c.args.id) c.self.view_is ∙ c.requires.fresh) (c.triple.ensures ∙ ap (λ (r : Row). r.triple) c.node-node.ensures) (ap (λ (k : TypedElements). k.ty) c.kept.ensures ∙ ap (λ (r : Row). r.ty) c.node.ensures ∙ ap (λ x. (row_at c.self.inside.table x).ty) (c.base.ensures ∙ ap (λ (r : Row). r.base) c.node-node.ensures)) (ap (λ (k : TypedElements). k.elems) c.kept.ensures ∙ ap (λ (r : Row). r.kept) c.node.ensures ∙ ap (λ x. (row_at c.self.inside.table x).kept) (c.base.ensures ∙ ap (λ (r : Row). r.base) c.node-node.ensures)) ∙ ap (λ (s : State). shown_in s c.args.id) c.self.view_is
+returns c = c.strided.ensures.window ∙ lent_window c.self.inside.table c.args.id c.triple.result.now c.kept.result.now c.self.invariant.0.order (live_has c.self.inside.table c.args.id (subst (λ (w : World). IsLive w c.args.id) (sym (ap (λ (s : State). s.world) c.self.view_is)) c.requires.live)) (sym (fresh_is c.self.inside.table c.args.id c.self.invariant.0.order.still (live_has c.self.inside.table c.args.id (subst (λ (w : World). IsLive w c.args.id) (sym (ap (λ (s : State). s.world) c.self.view_is)) c.requires.live))) ∙ ap (λ (s : State). holds s.fresh c.args.id) c.self.view_is ∙ c.requires.fresh) (c.triple.ensures ∙ ap (λ (r : Row). r.triple) c.node-node.ensures) (ap (λ (k : TypedElements). k.ty) c.kept.ensures ∙ ap (λ (r : Row). r.ty) c.base_of.ensures ∙ ap (λ x. (row_at c.self.inside.table x).ty) (ap (λ (r : Row). r.base) c.node-node.ensures)) (ap (λ (k : TypedElements). k.elems) c.kept.ensures ∙ ap (λ (r : Row). r.kept) c.base_of.ensures ∙ ap (λ x. (row_at c.self.inside.table x).kept) (ap (λ (r : Row). r.base) c.node-node.ensures)) ∙ ap (λ (s : State). shown_in s c.args.id) c.self.view_is
