@@ -12,7 +12,7 @@ use Rattle.pdl_nodes.specs.Alike.{numbers}
 use Rattle.pdl_nodes.specs.Going.{IsLeft}
 use Rattle.pdl_nodes.specs.Held.{count_at, one_more_at, one_less_at, held_among, holds_left, left_from, IsReleased}
 use Rattle.pdl_nodes.specs.Holds.{Counts, Beside, hold_at, count, count_in, going, going_in, less_one, one_more, after_release, count_after}
-use Rattle.pdl_nodes.specs.Laws.{Means}
+use Rattle.pdl_nodes.specs.Families.{Means}
 use Rattle.pdl_nodes.specs.Nodes.{IsNodes, fresh_among, holds_in, pending_in, state_of}
 use Rattle.pdl_nodes.specs.Outcomes.{waiting_of}
 use Rattle.pdl_nodes.specs.Rows.{Rows, has, NumbersBelow}

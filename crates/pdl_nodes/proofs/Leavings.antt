@@ -8,10 +8,9 @@ use Rattle.pdl_world.specs.Swept.{holds, sweep}
 use Rattle.pdl_nodes.specs.declared.origin.Origin.{Origin}
 use Rattle.pdl_nodes.specs.declared.origin.Origin.TheVariants.{Root, View}
 use Rattle.pdl_nodes.specs.Alike.{numbers}
-use Rattle.pdl_nodes.specs.Families.{IsWaiting, InOrder}
+use Rattle.pdl_nodes.specs.Families.{IsWaiting, InOrder, Means}
 use Rattle.pdl_nodes.specs.Going.{goes_from, going_at, going_size, going_sum, IsLeft, LeavesWaiting}
 use Rattle.pdl_nodes.specs.Known.{IsKnown, AreKnown}
-use Rattle.pdl_nodes.specs.Laws.{Means}
 use Rattle.pdl_nodes.specs.Outcomes.{IsReady, waiting_of, waiting_size}
 use Rattle.pdl_nodes.specs.Released.{KeepsWaiting}
 use Rattle.pdl_nodes.specs.Row.{Row, parent_from}

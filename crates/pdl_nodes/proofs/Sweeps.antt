@@ -13,7 +13,7 @@ use Rattle.pdl_nodes.specs.Rows.{Rows, has, reached}
 use Rattle.pdl_nodes.specs.Worlds.{shape, def_from, def_of, latest, world_of, with_elements, IsRoot}
 use Rattle.pdl_nodes.specs.Still.{StillFrom, IsStill}
 use Rattle.pdl_nodes.specs.Families.{IsWaiting, InOrder}
-use Rattle.pdl_nodes.specs.Released.{KeepsWaiting, swept}
+use Rattle.pdl_nodes.specs.Released.{KeepsWaiting}
 use Rattle.pdl_nodes.proofs.Finds.{same, differ, not_newest, row_stays, has_stays}
 use Rattle.pdl_nodes.proofs.Shapes.{marked_live}
 use Rattle.pdl_nodes.proofs.FamilyLemmas.{with_roots}
@@ -106,10 +106,6 @@ reached_closed ((k, r) ∷ rs) held s =
     (λ v h. sym (reached_older k r rs held v (not_newest rs k v s.0 h)))
     (reached_closed rs (passed (parent_of r) (held k) held) s.2))
 
--- what is left is in order
-pub order_swept : (rs : Rows) (held : ℕ → Bool) → KeepsWaiting (reached rs held) rs → InOrder rs → InOrder (swept rs held)
-order_swept rs held w o = order_stays (reached rs held) rs (reached_closed rs held o.still) w o
-
 -- the parents of what was passed are held too
 passed_holds : (held : List ℕ) (k v : ℕ) (ty : Ty) (ds : List ℕ) (o : Origin) (b : Bool) → holds (cond b (parents (def_from ty ds o) ++ held) held) v ≡ passed (parent_from o) b (holds held) v
 passed_holds held k v ty ds Root true = refl
@@ -139,11 +135,3 @@ pub sweep_with : (f : ℕ → List ℤ) (w : World) (held : List ℕ) → sweep 
 sweep_with f [] held = refl
 sweep_with f ((k, root ty ds es) ∷ w) held = kept_both f (holds held k) k (root ty ds (f k)) (root ty ds es) _ _ (sweep_with f w (cond (holds held k) held held)) (λ z. refl)
 sweep_with f ((k, view p t) ∷ w) held = kept_both f (holds held k) k (view p t) (view p t) _ _ (sweep_with f w (cond (holds held k) (p ∷ held) held)) (λ z. refl)
-
--- the world of what is left is the sweep of the world
-pub world_swept : (rs : Rows) (held : List ℕ) → KeepsWaiting (reached rs (holds held)) rs → InOrder rs → world_of (swept rs (holds held)) ≡ sweep (world_of rs) held
-world_swept rs held w o =
-    world_stays (reached rs (holds held)) rs (reached_closed rs (holds held) o.still) w o
-    ∙ sym (with_stays (reached rs (holds held)) (latest rs) (shape rs))
-    ∙ ap (with_elements (latest rs)) (sym (sweep_is rs held o.still))
-    ∙ sym (sweep_with (latest rs) (shape rs) held)

@@ -8,11 +8,10 @@ use Rattle.pdl_world.specs.Swept.{sweep}
 use Rattle.pdl_world.specs.World.{World, ArrayDef, root, view, look}
 use Rattle.pdl_nodes.specs.declared.origin.Origin.{Origin}
 use Rattle.pdl_nodes.specs.declared.origin.Origin.TheVariants.{Root, View}
-use Rattle.pdl_nodes.specs.Families.{InOrder}
+use Rattle.pdl_nodes.specs.Families.{InOrder, Means}
 use Rattle.pdl_nodes.specs.Going.{goes_from, going_at, going_size, going_sum}
 use Rattle.pdl_nodes.specs.Held.{gone_from, held_among, one_less_at, written_back}
 use Rattle.pdl_nodes.specs.Holds.{Counts, Beside, after_release}
-use Rattle.pdl_nodes.specs.Laws.{Means}
 use Rattle.pdl_nodes.specs.Nodes.{holds_in, pending_in, state_of}
 use Rattle.pdl_nodes.specs.Outcomes.{waiting_size as rows_waiting_size}
 use Rattle.pdl_nodes.specs.Row.{Row}

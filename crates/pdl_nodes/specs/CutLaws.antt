@@ -4,7 +4,7 @@ use Rattle.pdl_world.specs.Cut.{sever}
 use Rattle.pdl_world.specs.World.{elements}
 use Rattle.pdl_nodes.specs.Cut.{cut, CanCut}
 use Rattle.pdl_nodes.specs.Known.{AreKnown}
-use Rattle.pdl_nodes.specs.Laws.{Means}
+use Rattle.pdl_nodes.specs.Families.{Means}
 use Rattle.pdl_nodes.specs.Outcomes.{waiting_of}
 use Rattle.pdl_nodes.specs.Rows.{Rows, row_at, has}
 use Rattle.pdl_nodes.specs.Sized.{AreSized}

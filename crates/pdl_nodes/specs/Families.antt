@@ -2,9 +2,10 @@
 use Rattle.std.specs.Prelude.{◌≡◌, ℕ, true, false, length, Some, None}
 use Rattle.pdl_shape.specs.Shape.{size_of}
 use Rattle.pdl_shape.specs.Places.{read}
+use Rattle.pdl_world.specs.World.{World}
 pub use Rattle.pdl_world.specs.World.{is_among, has_repeats}
 use Rattle.pdl_nodes.specs.Rows.{Rows, row_at, has}
-use Rattle.pdl_nodes.specs.Worlds.{places_of, latest, IsRoot}
+use Rattle.pdl_nodes.specs.Worlds.{places_of, latest, world_of, IsRoot}
 use Rattle.pdl_nodes.specs.Still.{IsStill}
 
 -- a marked array is its own base, and keeps what the world says
@@ -35,3 +36,7 @@ pub record InFamily (rs : Rows) (r : ℕ) : Type 0 where
 pub record InOrder (rs : Rows) : Type 0 where
   pub still : IsStill rs
   pub family : (r : ℕ) → IsRoot rs r → InFamily rs r
+
+-- the rows are in order, and mean this world
+abbrev pub Means : Rows → World → Type 0
+Means rs w = InOrder rs × (world_of rs ≡ w)

@@ -25,7 +25,6 @@ pub mod Risen
 pub mod State
 pub mod Held
 pub mod Nodes
-pub mod Laws
 pub mod Cut
 pub mod CutLaws
 pub mod Going

@@ -4,9 +4,8 @@ use Rattle.pdl_shape.specs.Shape.{IsDims, size_of}
 use Rattle.pdl_world.specs.Cut.{has_views, fitted, reshape}
 use Rattle.pdl_world.specs.World.{elements}
 use Rattle.pdl_nodes.specs.Cut.{rooted_in}
-use Rattle.pdl_nodes.specs.Families.{InOrder}
+use Rattle.pdl_nodes.specs.Families.{InOrder, Means}
 use Rattle.pdl_nodes.specs.Known.{AreKnown}
-use Rattle.pdl_nodes.specs.Laws.{Means}
 use Rattle.pdl_nodes.specs.Rows.{Rows, row_at, has, each}
 use Rattle.pdl_nodes.specs.Sized.{AreSized}
 use Rattle.pdl_nodes.specs.Worlds.{shape, world_of}

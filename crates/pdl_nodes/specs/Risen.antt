@@ -5,7 +5,7 @@ use Rattle.pdl_world.specs.Swept.{holds, sweep}
 use Rattle.pdl_nodes.specs.Children.{children, left}
 use Rattle.pdl_nodes.specs.Going.{IsLeft}
 use Rattle.pdl_nodes.specs.Holds.{Counts, Beside, hold_at, is_held, stands, count, going, with_going}
-use Rattle.pdl_nodes.specs.Laws.{Means}
+use Rattle.pdl_nodes.specs.Families.{Means}
 use Rattle.pdl_nodes.specs.Row.{parent_of}
 use Rattle.pdl_nodes.specs.Rows.{Rows, row_at, has, reached, without}
 use Rattle.pdl_nodes.specs.Staying.{staying}

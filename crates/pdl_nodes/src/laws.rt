@@ -1,27 +1,9 @@
 //! Laws of the definitions, for the proofs of the crates above.
-ghost use Rattle.pdl_nodes.specs.Laws.{RowsAreSeen, ElementsAreRead, WritingBackKeeps, RootsAreAssigned, WaitingIsAssigned, FillingKeeps, JoiningAdds, ReleasingSweeps};
 ghost use Rattle.pdl_nodes.specs.CutLaws.{CuttingSevers, CuttingLeavesFamilies, CutsStaySettled, CutsStayKnown, CutsStaySized};
 ghost use Rattle.pdl_nodes.specs.Reshaped.{ReshapingReshapes, ReshapingLeavesOthers, ReshapesStayKnown, ReshapesStaySized};
 
 use pdl_affine::{view_laws, window_laws};
 use pdl_shape::{shape_laws, triple_laws};
-
-/// How rows mean a world. It does nothing: who calls it has them.
-pub fn row_laws()
-    ensures seen { RowsAreSeen }
-    ensures elements { ElementsAreRead }
-{}
-
-/// What writing back, assigning, filling, joining and letting go do to rows in order and to their
-/// world (PDL::Dataflow). It does nothing: who calls it has them.
-pub fn order_laws()
-    ensures writing_back { WritingBackKeeps }
-    ensures roots { RootsAreAssigned }
-    ensures waiting { WaitingIsAssigned }
-    ensures filling { FillingKeeps }
-    ensures joining { JoiningAdds }
-    ensures releasing { ReleasingSweeps }
-{}
 
 /// What a cut does to rows in order and to their world (PDL::Core, sever): it is the cut of the
 /// world, it leaves the rows of other families, nothing waits in those that
