@@ -6,11 +6,13 @@ mod Gathering
 mod Kept
 mod Laying
 mod Leads
+mod Nesting
 mod Mapping
 mod Places
 mod Rows
 mod Seen
 mod Singles
+mod Slopes
 mod Shaping
 mod Starting
 mod Stores

@@ -6,6 +6,7 @@ pub mod Kernels
 pub mod Leading
 pub mod Lines
 pub mod Meaning
+pub mod Nested
 pub mod Parts
 pub mod Runs
 pub mod Scalars

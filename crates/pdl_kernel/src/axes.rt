@@ -51,6 +51,15 @@ pub fn loop_index(at: &[u32; MOST], dimension: usize) -> u32
     if dimension < MOST { at[dimension] } else { 0 }
 }
 
+/// Sets the index of the loop over a dimension.
+pub fn set_index(at: &mut [u32; MOST], dimension: usize, i: u32)
+    ensures { at.new ≡ slice_set at.old dimension i }
+{
+    if dimension < MOST {
+        at[dimension] = i;
+    }
+}
+
 /// An index along a dimension of a size, where it is in range.
 #[inline(always)]
 pub fn index_within(index: i64, size: u32) -> Option<u32>

@@ -13,6 +13,8 @@ mod kernel;
 mod line;
 mod lines;
 mod memory;
+mod nest;
+mod nested;
 mod operations;
 mod part;
 mod run;

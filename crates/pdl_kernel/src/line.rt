@@ -1,27 +1,46 @@
 //! Lines of places.
 ghost use Rattle.std.specs.Prelude.{◌≡◌, ◌≤◌, ◌+◌, ◌*◌};
 
-/// A place in a buffer for each turn of a loop: that of the first turn, and how far it is from each
-/// one to the next.
+/// A place in a buffer for each turn of two loops, one in the other: that of the first turns, and
+/// how far it is from each turn of the outer one, and of the inner one, to the next. It serves so
+/// many turns of the outer one.
 #[derive(Clone, Copy)]
 pub struct Line {
     pub start: usize,
-    pub step: usize,
+    pub outer: usize,
+    pub inner: usize,
+    pub turns: u32,
     ghost near: { start ≤ 2305843009213693952 },
-    ghost small: { step ≤ 8388608 },
+    ghost small_outer: { outer ≤ 8388608 },
+    ghost small_inner: { inner ≤ 8388608 },
 }
 
-/// An index at each turn of a loop: it stays, or it rises by one from each turn to the next.
+/// A number at each turn of two loops: that of the first turns, and whether it rises by one (1) or
+/// stays (0) from each turn of the outer one, and of the inner one, to the next.
 #[derive(Clone, Copy)]
-pub enum Slope {
-    Still(i64),
-    Rising(i64),
+pub struct Slope {
+    pub number: i64,
+    pub outer: u32,
+    pub inner: u32,
+    ghost small_outer: { outer ≤ 1 },
+    ghost small_inner: { inner ≤ 1 },
+}
+
+/// An index at each turn of two loops, in range for so many turns of the outer one.
+#[derive(Clone, Copy)]
+pub struct Span {
+    pub first: u32,
+    pub outer: u32,
+    pub inner: u32,
+    pub turns: u32,
+    ghost small_outer: { outer ≤ 1 },
+    ghost small_inner: { inner ≤ 1 },
 }
 
 /// The place at a turn.
 #[inline(always)]
-pub fn place_at(line: &Line, turn: u32) -> usize
-    ensures { result ≡ line.now.start + line.now.step * turn }
+pub fn place_at(line: &Line, outer: u32, inner: u32) -> usize
+    ensures { result ≡ line.now.start + line.now.outer * outer + line.now.inner * inner }
 {
-    line.start + line.step * turn as usize
+    line.start + line.outer * outer as usize + line.inner * inner as usize
 }

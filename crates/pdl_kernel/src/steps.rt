@@ -1,32 +1,25 @@
 //! Statements, run in order. It takes no memory.
-ghost use Rattle.std.specs.Prelude.{◌≡◌, slice_set, get_or, pos, Ok};
+ghost use Rattle.std.specs.Prelude.{◌≡◌, ◌<◌, slice_set, get_or, pos, Ok};
 ghost use Rattle.pdl_sig.specs.Resolution.{size_in};
 ghost use Rattle.pdl_code.specs.Tree.{put};
 ghost use Rattle.pdl_code.specs.TreeOf.{code_of, indices_of, step_of, tree_of};
 ghost use Rattle.pdl_kernel.specs.Answers.{Becomes};
 ghost use Rattle.pdl_kernel.specs.Meaning.{and_then, argument, assigned, changed, indices, kept, local_type, run, start, step, turns, with_argument};
+ghost use Rattle.pdl_kernel.specs.Nested.{Resumes};
 ghost use Rattle.pdl_kernel.specs.Sources.{IsCodeFree, IsFree, IsStepFree, roles_of, store_of};
 
-use crate::axes::MOST;
+use crate::axes::{MOST, set_index};
 use crate::eval::{indices, position, quick_indices, size_in, value};
 use crate::faults::Fault;
 use crate::frame::Frames;
 use crate::memory::{assign, assign_at};
+use crate::nested::nested_turns;
 use crate::operations::change;
 use crate::source::Source;
 use crate::sweep::sweep;
 use pdl_code::{Entry, Expr, LocalType, Stmt};
 use pdl_elem::{BinaryOp, Ty};
 use pdl_sig::Resolved;
-
-/// Sets the index of the loop over a dimension.
-fn set_index(at: &mut [u32; MOST], dimension: usize, i: u32)
-    ensures { at.new ≡ slice_set at.old dimension i }
-{
-    if dimension < MOST {
-        at[dimension] = i;
-    }
-}
 
 /// The type of a local.
 fn local_type(generic: Ty, ty: LocalType) -> Ty
@@ -232,15 +225,66 @@ fn each_turn(
         (turns (λ i now. run resolved.now (slice_set at.now dimension i) (code_of body.now) now) 0
         (size_in resolved.now.sizes dimension) (store_of sources.now frames.old)) }
 {
+    let size = size_in(resolved, dimension);
     let mut here = *at;
-    for i in 0..size_in(resolved, dimension) {
-        set_index(&mut here, dimension, i);
-        match turn(resolved, sources, frames, &here, body) {
-            Ok(()) => {}
+    let mut nested = true;
+    let mut i = 0;
+    while i < size {
+        match resume(
+            resolved,
+            sources,
+            frames,
+            at,
+            dimension,
+            body,
+            &mut nested,
+            i,
+        ) {
+            Ok(next) => i = next,
             Err(fault) => return Err(fault),
+        }
+        if i < size {
+            set_index(&mut here, dimension, i);
+            match turn(resolved, sources, frames, &here, body) {
+                Ok(()) => {}
+                Err(fault) => return Err(fault),
+            }
+            i += 1;
         }
     }
     Ok(())
+}
+
+/// The turns of a loop from one on, as far as they go by a plan, and which one comes next. Where
+/// there is no plan, none is looked for again.
+#[inline(always)]
+fn resume(
+    resolved: &Resolved,
+    sources: &[Source],
+    frames: &mut Frames,
+    at: &[u32; MOST],
+    dimension: usize,
+    body: &[Stmt],
+    nested: &mut bool,
+    first: u32,
+) -> Result<u32, Fault>
+    requires free { IsCodeFree (roles_of sources.now) (code_of body.now) }
+    requires first { first < size_in resolved.now.sizes dimension }
+    ensures { Resumes
+        (λ i now. run resolved.now (slice_set at.now dimension i) (code_of body.now) now)
+        first (size_in resolved.now.sizes dimension)
+        (store_of sources.now frames.old) (store_of sources.now frames.new) result }
+{
+    if !*nested {
+        return Ok(first);
+    }
+    match nested_turns(resolved, sources, frames, at, dimension, body, first) {
+        Some(result) => result,
+        None => {
+            *nested = false;
+            Ok(first)
+        }
+    }
 }
 
 /// One turn of a loop: its statements in order, until a fault.

@@ -1,10 +1,10 @@
 //! Loops in which each access leads along a line: the lines are found once, and each turn goes by
 //! places alone.
-ghost use Rattle.std.specs.Prelude.{◌≡◌, ◌<◌, ◌+◌, length, slice_set, IfNone, IfSome};
+ghost use Rattle.std.specs.Prelude.{◌≡◌, ◌<◌, ◌+◌, length, slice_set, IfNone, IfSome, IsTrue};
 ghost use Rattle.pdl_sig.specs.Resolution.{size_in};
 ghost use Rattle.pdl_code.specs.TreeOf.{code_of, indices_of, step_of, tree_of};
 ghost use Rattle.pdl_kernel.specs.Answers.{Becomes};
-ghost use Rattle.pdl_kernel.specs.Lines.{IsAccess, IsOperand, IsOperation, IsPlan, IsCodePlan, loop_of, taken, turned, worked};
+ghost use Rattle.pdl_kernel.specs.Lines.{IsAccess, IsOperand, IsOperation, IsPlan, IsCodePlan, Serves, IsServed, taken, turned, worked};
 ghost use Rattle.pdl_kernel.specs.Meaning.{run, turns};
 ghost use Rattle.pdl_kernel.specs.Sources.{IsCodeFree, IsStepFree, roles_of, store_of};
 
@@ -14,13 +14,14 @@ use crate::faults::Fault;
 use crate::frame::Frames;
 use crate::line::{Line, place_at};
 use crate::lines::{block_line, line_of};
+use crate::nest::Nest;
 use crate::operations::change;
 use crate::source::Source;
 use pdl_code::{Entry, Expr, Stmt};
 use pdl_elem::BinaryOp;
 use pdl_sig::{Resolved, Role};
 
-/// A number at each turn of a loop.
+/// A number at each turn.
 #[derive(Clone, Copy)]
 pub enum Operand<'a> {
     /// One that stays.
@@ -28,7 +29,7 @@ pub enum Operand<'a> {
     /// An element of these, along a line.
     Given(&'a [i64], Line),
     /// An element of a block, along a line.
-    Kept(usize, Line),
+    Along(usize, Line),
 }
 
 /// An operation on two operands, or the right one of these.
@@ -39,8 +40,8 @@ pub struct Operation<'a> {
     pub right: Operand<'a>,
 }
 
-/// What each turn of a loop does: an assignment of the number of an operation to an element of an
-/// argument, along a line.
+/// What each turn does: an assignment of the number of an operation to an element of an argument,
+/// along a line.
 #[derive(Clone, Copy)]
 pub struct Plan<'a> {
     pub number: usize,
@@ -51,45 +52,23 @@ pub struct Plan<'a> {
 
 /// The elements that an access reads, where it leads along a line.
 #[inline(always)]
-fn access_operand<'a>(
-    resolved: &Resolved,
-    sources: &'a [Source],
-    frames: &Frames,
-    at: &[u32; MOST],
-    dimension: usize,
-    count: u32,
-    number: usize,
-    entries: &[Entry],
-) -> Option<Operand<'a>>
-    ensures { let l = loop_of resolved.now at.now dimension count sources.now frames.now in
-        IfSome result (IsAccess l number (indices_of entries.now)) }
+fn access_operand<'a>(nest: &Nest<'a, '_>, number: usize, entries: &[Entry]) -> Option<Operand<'a>>
+    ensures { IfSome result (IsAccess nest.now number (indices_of entries.now)) }
 {
-    if number >= sources.len() || number >= frames.len() {
+    if number >= nest.sources.len() || number >= nest.frames.len() {
         return None;
     }
-    let source = &sources[number];
+    let source = &nest.sources[number];
     match source.role() {
         Role::Input => {
             let layout = source.layout();
-            match line_of(
-                resolved,
-                sources,
-                frames,
-                at,
-                dimension,
-                count,
-                layout.axes,
-                layout.start,
-                entries,
-            ) {
+            match line_of(nest, layout.axes, layout.start, entries) {
                 Some(line) => Some(Operand::Given(layout.elems, line)),
                 None => None,
             }
         }
-        _ => match block_line(
-            resolved, sources, frames, at, dimension, count, number, entries,
-        ) {
-            Some(line) => Some(Operand::Kept(number, line)),
+        _ => match block_line(nest, number, entries) {
+            Some(line) => Some(Operand::Along(number, line)),
             None => None,
         },
     }
@@ -97,60 +76,36 @@ fn access_operand<'a>(
 
 /// An expression without operations as an operand.
 #[inline(always)]
-fn operand_of<'a>(
-    resolved: &Resolved,
-    sources: &'a [Source],
-    frames: &Frames,
-    at: &[u32; MOST],
-    dimension: usize,
-    count: u32,
-    expr: &Expr,
-) -> Option<Operand<'a>>
-    ensures { let l = loop_of resolved.now at.now dimension count sources.now frames.now in
-        IfSome result (IsOperand l (tree_of expr.now)) }
+fn operand_of<'a>(nest: &Nest<'a, '_>, expr: &Expr) -> Option<Operand<'a>>
+    ensures { IfSome result (IsOperand nest.now (tree_of expr.now)) }
 {
     match expr {
         Expr::Number(n) => Some(Operand::Fixed(*n)),
-        Expr::Size(word) => Some(Operand::Fixed(i64::from(size_in(resolved, *word)))),
-        Expr::Local(slot) => Some(Operand::Fixed(frames.local(*slot))),
-        Expr::Access(number, entries) => access_operand(
-            resolved, sources, frames, at, dimension, count, *number, entries,
-        ),
+        Expr::Size(word) => Some(Operand::Fixed(i64::from(size_in(nest.resolved, *word)))),
+        Expr::Local(slot) => Some(Operand::Fixed(nest.frames.local(*slot))),
+        Expr::Access(number, entries) => access_operand(nest, *number, entries),
         Expr::Index(_) | Expr::Unary(_, _) | Expr::Binary(_, _, _) => None,
     }
 }
 
 /// An expression as an operation on operands.
 #[inline(always)]
-fn operation_of<'a>(
-    resolved: &Resolved,
-    sources: &'a [Source],
-    frames: &Frames,
-    at: &[u32; MOST],
-    dimension: usize,
-    count: u32,
-    expr: &Expr,
-) -> Option<Operation<'a>>
-    ensures { let l = loop_of resolved.now at.now dimension count sources.now frames.now in
-        IfSome result (IsOperation l (tree_of expr.now)) }
+fn operation_of<'a>(nest: &Nest<'a, '_>, expr: &Expr) -> Option<Operation<'a>>
+    ensures { IfSome result (IsOperation nest.now (tree_of expr.now)) }
 {
     match expr {
-        Expr::Binary(op, first, second) => {
-            match operand_of(resolved, sources, frames, at, dimension, count, first) {
-                Some(left) => {
-                    match operand_of(resolved, sources, frames, at, dimension, count, second) {
-                        Some(right) => Some(Operation {
-                            op: Some(*op),
-                            left,
-                            right,
-                        }),
-                        None => None,
-                    }
-                }
+        Expr::Binary(op, first, second) => match operand_of(nest, first) {
+            Some(left) => match operand_of(nest, second) {
+                Some(right) => Some(Operation {
+                    op: Some(*op),
+                    left,
+                    right,
+                }),
                 None => None,
-            }
-        }
-        _ => match operand_of(resolved, sources, frames, at, dimension, count, expr) {
+            },
+            None => None,
+        },
+        _ => match operand_of(nest, expr) {
             Some(right) => Some(Operation {
                 op: None,
                 left: Operand::Fixed(0),
@@ -163,26 +118,13 @@ fn operation_of<'a>(
 
 /// What each turn does, where it is a statement that stores along a line.
 #[inline(always)]
-fn plan_of<'a>(
-    resolved: &Resolved,
-    sources: &'a [Source],
-    frames: &Frames,
-    at: &[u32; MOST],
-    dimension: usize,
-    count: u32,
-    stmt: &Stmt,
-) -> Option<Plan<'a>>
-    requires { IsStepFree (roles_of sources.now) (step_of stmt.now) }
-    ensures { let l = loop_of resolved.now at.now dimension count sources.now frames.now in
-        IfSome result (IsPlan l (step_of stmt.now)) }
+fn plan_of<'a>(nest: &Nest<'a, '_>, stmt: &Stmt) -> Option<Plan<'a>>
+    requires { IsStepFree (roles_of nest.now.sources.now) (step_of stmt.now) }
+    ensures { IfSome result (IsPlan nest.now (step_of stmt.now)) }
 {
     match stmt {
-        Stmt::Put(number, entries, op, expr) => match operation_of(
-            resolved, sources, frames, at, dimension, count, expr,
-        ) {
-            Some(value) => match block_line(
-                resolved, sources, frames, at, dimension, count, *number, entries,
-            ) {
+        Stmt::Put(number, entries, op, expr) => match operation_of(nest, expr) {
+            Some(value) => match block_line(nest, *number, entries) {
                 Some(line) => Some(Plan {
                     number: *number,
                     line,
@@ -199,60 +141,86 @@ fn plan_of<'a>(
 
 /// The same for code that is one statement.
 #[inline(always)]
-fn code_plan<'a>(
-    resolved: &Resolved,
-    sources: &'a [Source],
-    frames: &Frames,
-    at: &[u32; MOST],
-    dimension: usize,
-    count: u32,
-    code: &[Stmt],
-) -> Option<Plan<'a>>
-    requires { IsCodeFree (roles_of sources.now) (code_of code.now) }
-    ensures { let l = loop_of resolved.now at.now dimension count sources.now frames.now in
-        IfSome result (IsCodePlan l (code_of code.now)) }
+pub fn code_plan<'a>(nest: &Nest<'a, '_>, code: &[Stmt]) -> Option<Plan<'a>>
+    requires { IsCodeFree (roles_of nest.now.sources.now) (code_of code.now) }
+    ensures { IfSome result (IsCodePlan nest.now (code_of code.now)) }
 {
     if code.len() == 1 {
-        plan_of(resolved, sources, frames, at, dimension, count, &code[0])
+        plan_of(nest, &code[0])
     } else {
         None
     }
 }
 
+/// Whether an operand is found by its line at a turn of the outer loop.
+#[inline(always)]
+fn serves(operand: &Operand, outer: u32) -> bool
+    ensures { IsTrue result → Serves operand.now outer }
+{
+    match operand {
+        Operand::Fixed(_) => true,
+        Operand::Given(_, line) => outer < line.turns,
+        Operand::Along(_, line) => outer < line.turns,
+    }
+}
+
+/// Whether a turn of the outer loop goes by the plan.
+#[inline(always)]
+pub fn is_served(plan: &Plan, outer: u32) -> bool
+    ensures { IsTrue result → IsServed plan.now outer }
+{
+    outer < plan.line.turns && serves(&plan.value.left, outer) && serves(&plan.value.right, outer)
+}
+
 /// An operand at a turn.
 #[inline(always)]
-fn taken(frames: &Frames, operand: &Operand, turn: u32) -> i64
-    ensures { result ≡ taken frames.now operand.now turn }
+fn taken(frames: &Frames, operand: &Operand, outer: u32, inner: u32) -> i64
+    ensures { result ≡ taken frames.now operand.now outer inner }
 {
     match operand {
         Operand::Fixed(x) => *x,
-        Operand::Given(elems, line) => element_in(elems, place_at(line, turn)),
-        Operand::Kept(number, line) => frames.element(*number, place_at(line, turn)),
+        Operand::Given(elems, line) => element_in(elems, place_at(line, outer, inner)),
+        Operand::Along(number, line) => frames.element(*number, place_at(line, outer, inner)),
     }
 }
 
 /// An operation at a turn.
 #[inline(always)]
-fn worked(frames: &Frames, value: &Operation, turn: u32) -> Result<i64, Fault>
-    ensures { result ≡ worked frames.now value.now turn }
+fn worked(frames: &Frames, value: &Operation, outer: u32, inner: u32) -> Result<i64, Fault>
+    ensures { result ≡ worked frames.now value.now outer inner }
 {
     change(
         value.op,
-        taken(frames, &value.left, turn),
-        taken(frames, &value.right, turn),
+        taken(frames, &value.left, outer, inner),
+        taken(frames, &value.right, outer, inner),
     )
 }
 
 /// One turn.
 #[inline(always)]
-fn turn_by(frames: &mut Frames, plan: &Plan, turn: u32) -> Result<(), Fault>
+fn turn_by(frames: &mut Frames, plan: &Plan, outer: u32, inner: u32) -> Result<(), Fault>
     requires { plan.now.number < length frames.old.arrays }
-    ensures { Becomes result frames.new (turned frames.old plan.now turn) }
+    ensures { Becomes result frames.new (turned plan.now outer inner frames.old) }
 {
-    match worked(frames, &plan.value, turn) {
-        Ok(x) => frames.assign_at(plan.number, plan.op, x, place_at(&plan.line, turn)),
+    match worked(frames, &plan.value, outer, inner) {
+        Ok(x) => frames.assign_at(plan.number, plan.op, x, place_at(&plan.line, outer, inner)),
         Err(fault) => Err(fault),
     }
+}
+
+/// All turns of the inner loop at a turn of the outer one, until a fault.
+#[inline(always)]
+pub fn turns_by(frames: &mut Frames, plan: &Plan, outer: u32, count: u32) -> Result<(), Fault>
+    requires { plan.now.number < length frames.old.arrays }
+    ensures { Becomes result frames.new (turns (turned plan.now outer) 0 count frames.old) }
+{
+    for inner in 0..count {
+        match turn_by(frames, plan, outer, inner) {
+            Ok(()) => {}
+            Err(fault) => return Err(fault),
+        }
+    }
+    Ok(())
 }
 
 /// The body of a loop for each index of its dimension, in order, where each access leads along a
@@ -273,15 +241,27 @@ pub fn sweep(
     ensures left { IfNone result (frames.new ≡ frames.old) }
 {
     let count = size_in(resolved, dimension);
-    match code_plan(resolved, sources, frames, at, dimension, count, body) {
+    if dimension >= MOST || count == 0 {
+        return None;
+    }
+    let alone = Nest {
+        resolved,
+        sources,
+        frames,
+        at,
+        outer: dimension,
+        first: 0,
+        turns: 1,
+        inner: dimension,
+        count,
+    };
+    match code_plan(&alone, body) {
         Some(plan) => {
-            for turn in 0..count {
-                match turn_by(frames, &plan, turn) {
-                    Ok(()) => {}
-                    Err(fault) => return Some(Err(fault)),
-                }
+            if is_served(&plan, 0) {
+                Some(turns_by(frames, &plan, 0, count))
+            } else {
+                None
             }
-            Some(Ok(()))
         }
         None => None,
     }

@@ -1,7 +1,9 @@
-use Rattle.std.proofs.Common.{rules, ◌≡◌, sym, ap, subst, ◌∙◌, of_z, w64, pos, ℤ, arith, List, ◌+◌}
+use Rattle.std.proofs.Common.{rules, ◌≡◌, ◌<◌, Ok, sym, ap, subst, ◌∙◌, of_z, w64, pos, ℕ, ℤ, arith, List, ◌+◌}
 use Rattle.std.proofs.lemmas.Int.{ints}
+use Rattle.std.proofs.lemmas.List.{set-set}
 use Rattle.pdl_code.specs.declared.tree.Stmt.{Stmt}
-use Rattle.std.specs.Prelude.{Result}
+use Rattle.std.specs.Prelude.{Result, slice_set}
+use Rattle.pdl_sig.specs.Resolution.{size_in}
 use Rattle.pdl_kernel.specs.declared.faults.Fault.{Fault}
 use Rattle.pdl_kernel.specs.Answers.{Becomes}
 use Rattle.pdl_kernel.specs.Meaning.{Store, step, run, branch}
@@ -9,6 +11,7 @@ use Rattle.pdl_kernel.specs.Sources.{IsCodeFree, IsStepFree, roles_of, store_of}
 use Rattle.pdl_code.specs.Tree.{Step, repeat, choose}
 use Rattle.pdl_code.specs.TreeOf.{code_of, step_of, tree_of}
 use Rattle.pdl_kernel.proofs.Rows.{loop_tree, if_tree}
+use Rattle.pdl_kernel.proofs.Sweeping.{turns_more}
 use Rattle.pdl_kernel.proofs.Turning.{chosen, branch_whole}
 use Rattle.pdl_kernel.proofs.Weights.{step_weight, code_weight}
 use Rattle.pdl_kernel.proofs.steps.+run.Goals as goal
@@ -63,3 +66,21 @@ step-returns-else-x-eq0 t c =
     chosen c.run-else-x-eq0.result now m c.args.resolved.now c.args.at.now (step_of c.args.stmt.now) (tree_of c.in-If.expr) (code_of c.in-If.whole.items) (code_of c.in-If.other.items) c.in-Ok.x
     (if_tree c.args.stmt.now c.in-If.expr c.in-If.whole c.in-If.other c.in-If.is) (sym c.value.ensures ∙ c.in-Ok.is)
     (subst Q (sym z) (subst P c.deref-else-x-eq0.ensures.value c.run-else-x-eq0.ensures))
+
+pub each_turn-loop-i-preserved-then-i-size : goal.each_turn-loop-i-preserved-then-i-size
+each_turn-loop-i-preserved-then-i-size t c =
+    let ss = c.args.sources.now in
+    let d = c.args.dimension in
+    let size = size_in c.args.resolved.now.sizes d in
+    let f : ℕ → Store → Result Store Fault = λ i now. run c.args.resolved.now (slice_set c.args.at.now d i) (code_of c.args.body.now) now in
+    let i = c.in-Ok.next in
+    let m = store_of ss c.resume.new.frames in
+    let now = store_of ss c.turn.new.frames in
+    let below : i < size = search rules in
+    let at : c.set_index.new.at ≡ slice_set c.args.at.now d i = c.set_index.ensures ∙ c.loop-i.invariant.here i in
+    let here : f i m ≡ Ok now = ap (λ at. run c.args.resolved.now at (code_of c.args.body.now) m) (sym at) ∙ c.in-Ok-turn.ensures in
+    record {
+      turns = sym (turns_more f i size m (Ok now) below here) ∙ sym c.in-Ok.ensures.2 ∙ c.loop-i.invariant.turns;
+      here = λ k. ap (λ at. slice_set at d k) c.set_index.ensures ∙ set-set c.loop-i.here d i k ∙ c.loop-i.invariant.here k;
+      within = omega (arith, below);
+    }

@@ -10,10 +10,14 @@ use Rattle.pdl_kernel.proofs.steps.+run.Given as goal
 -- the turns from here on give what all give from the start
 abbrev pub invariant-each_turn-loop-i : goal.invariant-each_turn-loop-i
 invariant-each_turn-loop-i l = record {
-  turns : turns (λ i now. run l.resolved (slice_set l.at l.dimension i) (code_of l.body) now) l.i (l.i-end - l.i) (store_of l.sources l.frames)
+  turns : turns (λ i now. run l.resolved (slice_set l.at l.dimension i) (code_of l.body) now) l.i (size_in l.resolved.sizes l.dimension - l.i) (store_of l.sources l.frames)
       ≡ turns (λ i now. run l.resolved (slice_set l.at l.dimension i) (code_of l.body) now) 0 (size_in l.resolved.sizes l.dimension) (store_of l.sources l.fn.frames);
   here : (i : ℕ) → slice_set l.here l.dimension i ≡ slice_set l.at l.dimension i;
+  within : l.i ≤ size_in l.resolved.sizes l.dimension;
 }
+
+abbrev pub decreases-each_turn-loop-i : goal.decreases-each_turn-loop-i
+decreases-each_turn-loop-i l = size_in l.resolved.sizes l.dimension - l.i
 
 -- the statements from here on give what all give from the start
 abbrev pub invariant-run-loop-stmt : goal.invariant-run-loop-stmt
