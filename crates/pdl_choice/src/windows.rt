@@ -93,13 +93,10 @@ fn ranged(
         Ok(dims) => dims,
         Err(fault) => return Err(fault),
     };
-    let corners = count_of(outer);
-    let count = elements_of(&dims);
+    let (corners, count) = (count_of(outer), elements_of(&dims));
     let places = window_places(alloc, edge, parent, windows, ind, corners, count)?;
-    Ok(Choice {
-        dims,
-        places: Places::new(places),
-    })
+    let places = Places::new(places);
+    Ok(Choice { dims, places })
 }
 
 /// How many numbers a corner has, and the dimensions of the array of corners.

@@ -125,16 +125,8 @@ pub(crate) fn add_lists<F: Folding>(
     while done < count {
         let left = so_far.len().min(count - done);
         let run = lists_in_plane(height, done, left);
-        add_part::<F>(
-            a,
-            ty,
-            done as u32,
-            size,
-            start,
-            &mut row[..run],
-            &mut so_far[..run],
-            made,
-        )?;
+        let (row, so_far) = (&mut row[..run], &mut so_far[..run]);
+        add_part::<F>(a, ty, done as u32, size, start, row, so_far, made)?;
         done += run;
     }
     Ok(())
