@@ -64,7 +64,8 @@ state_after s (assign v vs) = record s {
   world = world.assign s.world v vs;
   pending = pending_onto (root_of s.world v) (kept_back s.world v) (with_settled s v).pending;
 }
-state_after s (sever v) = record (with_settled s v) { world = cut.sever s.world v }
+state_after s (sever v) = if root_of s.world v == v then s
+    else record (with_settled s v) { world = cut.sever s.world v }
 state_after s (reshape v ds) = record (with_settled s v) { world = cut.reshape s.world v ds }
 state_after s (release v) =
     with_left s (sweep s.world (held_among (one_less_at s.holds v))) (one_less_at s.holds v)
