@@ -42,13 +42,11 @@ fn going(table: &Table, holds: &Holds, root: u64) -> Option<u64>
     requires live { IsRoot table.now root }
     ensures { result ≡ going_at table.now (stands holds.now) root }
 {
+    let view = table.node(root).waiting()?;
     if !holds.has(root) {
         return None;
     }
-    match table.node(root).waiting() {
-        Some(view) => { if holds.has(view) { None } else { Some(view) } }
-        None => None,
-    }
+    if holds.has(view) { None } else { Some(view) }
 }
 
 /// Writes back what waits in the family of an array and has no holds, where the root has. It takes a
