@@ -13,11 +13,11 @@ use Rattle.pdl_code.specs.Tree.{Tree, Code, Step, access, none, put, done, next}
 use Rattle.pdl_code.specs.TreeOf.{code_of, step_of}
 use Rattle.pdl_kernel.specs.declared.axes.Axis.{Axis}
 use Rattle.pdl_kernel.specs.declared.elementwise.Elementwise.{Elementwise}
-use Rattle.pdl_kernel.specs.declared.elementwise.Scalars.{Scalars}
+use Rattle.pdl_kernel.specs.declared.elementwise.ScalarOperation.{ScalarOperation}
 use Rattle.pdl_kernel.specs.declared.faults.Fault.{Fault}
 use Rattle.pdl_kernel.specs.Arrays.{stored}
 use Rattle.pdl_kernel.specs.Meaning.{Store, and_then, argument, assigned, changed, element_at, nothing, start, step, value, with_argument}
-use Rattle.pdl_kernel.specs.Scalars.{IsElementwise, IsScalars, Leaves, began, scalars_at, single}
+use Rattle.pdl_kernel.specs.Scalars.{IsElementwise, IsScalarOperation, Leaves, starting_store, operation_at, single}
 use Rattle.pdl_kernel.specs.Sources.{Source, left_at, moved_to, seen, array_of_source, sizes_of}
 use Rattle.pdl_kernel.specs.Parts.{Part}
 use Rattle.pdl_kernel.proofs.Gathering.{IsGathered, gathered_more}
@@ -46,19 +46,19 @@ empty (x ∷ xs) bare = absurd (omega (arith, bare))
 
 -- an access reads the one element
 pub single_read : (ss : List Source) (t : Tree) (k : ℕ) (s : Source) → t ≡ access k none → k < length ss → s ≡ get_or ss k s → length s.axes ≡ 0
-    → (sizes at bs : List ℕ) (n : ℕ) → value sizes at (began ss n bs) t ≡ Ok (single s bs)
+    → (sizes at bs : List ℕ) (n : ℕ) → value sizes at (starting_store ss n bs) t ≡ Ok (single s bs)
 single_read ss t k s is lt here bare sizes at bs n =
     let flat : length (get_or ss k s).axes ≡ 0 = subst (λ (x : Source). length x.axes ≡ 0) here bare in
-    ap (value sizes at (began ss n bs)) is ∙ ap (λ (a : Made). element_at a start) (lone_argument ss k bs s lt flat) ∙ ap (λ (x : Source). Ok (single x bs)) (sym here)
+    ap (value sizes at (starting_store ss n bs)) is ∙ ap (λ (a : Made). element_at a start) (lone_argument ss k bs s lt flat) ∙ ap (λ (x : Source). Ok (single x bs)) (sym here)
 
 -- a store of a number leaves it alone in an argument
-pub lone_left : (ss : List Source) (k : ℕ) (t : Source) (op : Option BinaryOp) (v : Scalars) (e : Tree) (s : Step) → s ≡ put k none op e → k < length ss → t ≡ get_or ss k t → length t.axes ≡ 0 → IsScalars ss e v
-    → (r : Resolved) (n : ℕ) (bs : List ℕ) → Leaves (left_at r (next s done) ss n bs) k (and_then (scalars_at v bs) (λ x. and_then (changed op (single t bs) x) (λ y. Ok (wrapped t.ty y))))
+pub lone_left : (ss : List Source) (k : ℕ) (t : Source) (op : Option BinaryOp) (v : ScalarOperation) (e : Tree) (s : Step) → s ≡ put k none op e → k < length ss → t ≡ get_or ss k t → length t.axes ≡ 0 → IsScalarOperation ss e v
+    → (r : Resolved) (n : ℕ) (bs : List ℕ) → Leaves (left_at r (next s done) ss n bs) k (and_then (operation_at v bs) (λ x. and_then (changed op (single t bs) x) (λ y. Ok (wrapped t.ty y))))
 lone_left ss k t op v e s is lt here bare values r n bs =
-    subst (λ x. Leaves x k (and_then (scalars_at v bs) (λ x. and_then (changed op (single t bs) x) (λ y. Ok (wrapped t.ty y))))) (sym all) (by_value (scalars_at v bs))
+    subst (λ x. Leaves x k (and_then (operation_at v bs) (λ x. and_then (changed op (single t bs) x) (λ y. Ok (wrapped t.ty y))))) (sym all) (by_value (operation_at v bs))
   where
     m : Store
-    m = began ss n bs
+    m = starting_store ss n bs
 
     at : List ℕ
     at = replicate names_limit 0
@@ -72,9 +72,9 @@ lone_left ss k t op v e s is lt here bare values r n bs =
     found : argument m k ≡ lone ty z
     found = lone_argument ss k bs t lt (subst (λ (x : Source). length x.axes ≡ 0) here bare) ∙ ap (λ (x : Source). lone x.ty (single x bs)) (sym here)
 
-    all : left_at r (next s done) ss n bs ≡ and_then (scalars_at v bs) (λ x. and_then (assigned (lone ty z) op x start) (with_argument m k))
+    all : left_at r (next s done) ss n bs ≡ and_then (operation_at v bs) (λ x. and_then (assigned (lone ty z) op x start) (with_argument m k))
     all = then_done (step r at s m) ∙ ap (λ y. step r at y m) is ∙ ap (λ y. and_then y (λ x. and_then (assigned (argument m k) op x start) (with_argument m k))) (values r.sizes at bs n)
-        ∙ ap (λ (a : Made). and_then (scalars_at v bs) (λ x. and_then (assigned a op x start) (with_argument m k))) found
+        ∙ ap (λ (a : Made). and_then (operation_at v bs) (λ x. and_then (assigned a op x start) (with_argument m k))) found
 
     by_changed : (c : Result ℤ Fault) → Leaves (and_then (and_then c (λ y. Ok (stored (lone ty z) [] y))) (with_argument m k)) k (and_then c (λ y. Ok (wrapped ty y)))
     by_changed (Ok y) =

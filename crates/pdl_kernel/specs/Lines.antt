@@ -113,10 +113,12 @@ turned p j i w =
 -- each turn of a statement, and of code, goes by the plan
 pub record IsPlan (l : Nest) (s : Step) (p : Plan) : Type 0 where
   pub known : p.number < length l.frames.now.arrays
-  pub turn : AtEach l (λ j i at w. IsServed p j → step l.resolved.now at s (store_of l.sources.now w)
+  pub turn : AtEach l (λ j i at w. IsServed p j →
+      step l.resolved.now at s (store_of l.sources.now w)
       ≡ and_then (turned p j i w) (λ now. Ok (store_of l.sources.now now)))
 
 pub record IsCodePlan (l : Nest) (code : Code) (p : Plan) : Type 0 where
   pub known : p.number < length l.frames.now.arrays
-  pub turn : AtEach l (λ j i at w. IsServed p j → run l.resolved.now at code (store_of l.sources.now w)
+  pub turn : AtEach l (λ j i at w. IsServed p j →
+      run l.resolved.now at code (store_of l.sources.now w)
       ≡ and_then (turned p j i w) (λ now. Ok (store_of l.sources.now now)))

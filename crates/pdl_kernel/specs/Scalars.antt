@@ -6,14 +6,14 @@ use Rattle.pdl_code.specs.Tree.{Tree, Code}
 use Rattle.pdl_kernel.specs.declared.elementwise.Elementwise.{Elementwise}
 use Rattle.pdl_kernel.specs.declared.elementwise.Scalar.{Scalar}
 use Rattle.pdl_kernel.specs.declared.elementwise.Scalar.TheVariants.{Fixed, Of}
-use Rattle.pdl_kernel.specs.declared.elementwise.Scalars.{Scalars}
+use Rattle.pdl_kernel.specs.declared.elementwise.ScalarOperation.{ScalarOperation}
 use Rattle.pdl_kernel.specs.declared.faults.Fault.{Fault}
 use Rattle.pdl_kernel.specs.Meaning.{Store, and_then, argument, changed, value}
 use Rattle.pdl_kernel.specs.Sources.{Source, dot, left_at, moved_to, array_of_source}
 
 -- what code starts from at broadcast coordinates, with so many locals
-abbrev pub began : List Source → (locals : ℕ) → (coordinates : List ℕ) → Store
-began ss n bs = record {
+abbrev pub starting_store : List Source → (locals : ℕ) → (coordinates : List ℕ) → Store
+starting_store ss n bs = record {
   arguments = map (λ s. array_of_source (moved_to bs s)) ss;
   locals = replicate n (pos 0);
 }
@@ -29,19 +29,19 @@ scalar_at (Of s) bs = single s.now bs
 -- an expression has the number at all coordinates, before anything is stored
 abbrev pub IsScalar : List Source → Tree → Scalar → Type 0
 IsScalar ss e x = (sizes at bs : List ℕ) (n : ℕ) →
-    value sizes at (began ss n bs) e ≡ Ok (scalar_at x bs)
+    value sizes at (starting_store ss n bs) e ≡ Ok (scalar_at x bs)
 
-abbrev pub scalars_at : Scalars → (coordinates : List ℕ) → Result ℤ Fault
-scalars_at v bs = changed v.op (scalar_at v.left bs) (scalar_at v.right bs)
+abbrev pub operation_at : ScalarOperation → (coordinates : List ℕ) → Result ℤ Fault
+operation_at v bs = changed v.op (scalar_at v.left bs) (scalar_at v.right bs)
 
-abbrev pub IsScalars : List Source → Tree → Scalars → Type 0
-IsScalars ss e v = (sizes at bs : List ℕ) (n : ℕ) →
-    value sizes at (began ss n bs) e ≡ scalars_at v bs
+abbrev pub IsScalarOperation : List Source → Tree → ScalarOperation → Type 0
+IsScalarOperation ss e v = (sizes at bs : List ℕ) (n : ℕ) →
+    value sizes at (starting_store ss n bs) e ≡ operation_at v bs
 
 -- the element that is stored
-abbrev pub worth : Elementwise → (coordinates : List ℕ) → Result ℤ Fault
-worth p bs =
-    and_then (scalars_at p.value bs) (λ x.
+abbrev pub element_stored : Elementwise → (coordinates : List ℕ) → Result ℤ Fault
+element_stored p bs =
+    and_then (operation_at p.value bs) (λ x.
     and_then (changed p.op (single p.target.now bs) x) (λ y.
     Ok (wrapped p.target.now.ty y)))
 
@@ -55,4 +55,4 @@ Leaves (Err e) k (Ok y) = ⊥
 -- code leaves that element, whatever was resolved and at all coordinates
 abbrev pub IsElementwise : List Source → Code → Elementwise → Type 0
 IsElementwise ss code p = (r : Resolved) (n : ℕ) (bs : List ℕ) →
-    Leaves (left_at r code ss n bs) p.number (worth p bs)
+    Leaves (left_at r code ss n bs) p.number (element_stored p bs)

@@ -2,7 +2,7 @@
 ghost use Rattle.std.specs.Prelude.{◌≡◌, IfSome};
 ghost use Rattle.pdl_code.specs.TreeOf.{code_of, step_of, tree_of};
 ghost use Rattle.pdl_code.specs.Tree.{done, next};
-ghost use Rattle.pdl_kernel.specs.Scalars.{IsElementwise, IsScalar, IsScalars, scalar_at, scalars_at, worth};
+ghost use Rattle.pdl_kernel.specs.Scalars.{IsElementwise, IsScalar, IsScalarOperation, scalar_at, operation_at, element_stored};
 
 use crate::faults::Fault;
 use crate::operations::{change, wrap_to};
@@ -21,7 +21,7 @@ pub enum Scalar<'a> {
 
 /// An operation on two numbers, or the right one of these.
 #[derive(Clone, Copy)]
-pub struct Scalars<'a> {
+pub struct ScalarOperation<'a> {
     pub op: Option<BinaryOp>,
     pub left: Scalar<'a>,
     pub right: Scalar<'a>,
@@ -33,7 +33,7 @@ pub struct Elementwise<'a> {
     pub number: usize,
     pub target: &'a Source,
     pub op: Option<BinaryOp>,
-    pub value: Scalars<'a>,
+    pub value: ScalarOperation<'a>,
 }
 
 /// An expression without operations as a number at each place.
@@ -58,13 +58,13 @@ fn scalar_of<'a>(sources: &'a [Source], expr: &Expr) -> Option<Scalar<'a>>
 }
 
 /// An expression as an operation on such numbers.
-fn scalars_of<'a>(sources: &'a [Source], expr: &Expr) -> Option<Scalars<'a>>
-    ensures { IfSome result (IsScalars sources.now (tree_of expr.now)) }
+fn scalar_operation_of<'a>(sources: &'a [Source], expr: &Expr) -> Option<ScalarOperation<'a>>
+    ensures { IfSome result (IsScalarOperation sources.now (tree_of expr.now)) }
 {
     match expr {
         Expr::Binary(op, first, second) => match scalar_of(sources, first) {
             Some(left) => match scalar_of(sources, second) {
-                Some(right) => Some(Scalars {
+                Some(right) => Some(ScalarOperation {
                     op: Some(*op),
                     left,
                     right,
@@ -74,7 +74,7 @@ fn scalars_of<'a>(sources: &'a [Source], expr: &Expr) -> Option<Scalars<'a>>
             None => None,
         },
         _ => match scalar_of(sources, expr) {
-            Some(right) => Some(Scalars {
+            Some(right) => Some(ScalarOperation {
                 op: None,
                 left: Scalar::Fixed(0),
                 right,
@@ -97,7 +97,7 @@ fn elementwise_of<'a>(sources: &'a [Source], stmt: &Stmt) -> Option<Elementwise<
             if !target.is_single() {
                 return None;
             }
-            match scalars_of(sources, expr) {
+            match scalar_operation_of(sources, expr) {
                 Some(value) => Some(Elementwise {
                     number: *number,
                     target,
@@ -135,8 +135,8 @@ fn scalar_at(scalar: &Scalar, at: &[u32]) -> i64
 
 /// An operation at broadcast coordinates.
 #[inline(always)]
-fn scalars_at(value: &Scalars, at: &[u32]) -> Result<i64, Fault>
-    ensures { result ≡ scalars_at value.now at.now }
+fn operation_at(value: &ScalarOperation, at: &[u32]) -> Result<i64, Fault>
+    ensures { result ≡ operation_at value.now at.now }
 {
     change(
         value.op,
@@ -147,10 +147,10 @@ fn scalars_at(value: &Scalars, at: &[u32]) -> Result<i64, Fault>
 
 /// The element that is stored at broadcast coordinates.
 #[inline(always)]
-pub fn worth(plan: &Elementwise, at: &[u32]) -> Result<i64, Fault>
-    ensures { result ≡ worth plan.now at.now }
+pub fn element_stored(plan: &Elementwise, at: &[u32]) -> Result<i64, Fault>
+    ensures { result ≡ element_stored plan.now at.now }
 {
-    match scalars_at(&plan.value, at) {
+    match operation_at(&plan.value, at) {
         Ok(x) => match change(plan.op, plan.target.single(at), x) {
             Ok(y) => Ok(wrap_to(plan.target.ty(), y)),
             Err(fault) => Err(fault),

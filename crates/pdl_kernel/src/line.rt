@@ -3,7 +3,8 @@ ghost use Rattle.std.specs.Prelude.{◌≡◌, ◌≤◌, ◌+◌, ◌*◌};
 
 /// A place in a buffer for each turn of two loops, one in the other: that of the first turns, and
 /// how far it is from each turn of the outer one, and of the inner one, to the next. It serves so
-/// many turns of the outer one.
+/// many turns of the outer one. It starts below 2 ^ 61, and a step is at most that of eight axes,
+/// 2 ^ 20 each, so a place fits a word.
 #[derive(Clone, Copy)]
 pub struct Line {
     pub start: usize,

@@ -7,7 +7,8 @@ use crate::source::Source;
 use pdl_sig::Resolved;
 
 /// Two loops, one in the other: the turns of the outer one from the first on, and all of the inner
-/// one. A loop alone is one turn of a loop over the same dimension.
+/// one. A loop alone is one turn of a loop over the same dimension. A signature names at most eight
+/// dimensions.
 #[derive(Clone, Copy)]
 pub struct Nest<'a, 'b> {
     pub resolved: &'b Resolved,

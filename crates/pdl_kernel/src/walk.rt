@@ -7,11 +7,11 @@ ghost use Rattle.pdl_kernel.specs.Answers.{Becomes};
 ghost use Rattle.pdl_kernel.specs.Call.{fault_at, fault_named, stores_from};
 ghost use Rattle.pdl_kernel.specs.Meaning.{Store, argument, nothing};
 ghost use Rattle.pdl_kernel.specs.Parts.{Collected, appended};
-ghost use Rattle.pdl_kernel.specs.Scalars.{Leaves, worth};
+ghost use Rattle.pdl_kernel.specs.Scalars.{Leaves, element_stored};
 ghost use Rattle.pdl_kernel.specs.Sources.{HasBlocks, IsCodeFree, IsFree, left_at, left_in_order, moved_to, roles_of, store_of};
 
 use crate::axes::MOST;
-use crate::elementwise::{Elementwise, elementwise_code, worth};
+use crate::elementwise::{Elementwise, element_stored, elementwise_code};
 use crate::faults::{Fault, RunFault};
 use crate::frame::Frames;
 use crate::part::Part;
@@ -89,13 +89,13 @@ fn fill(
 ) -> Result<(), RunFault>
     ensures { (f : ℕ → Result Store Fault) →
         ((p : ℕ) → Leaves (f p) part.old.number
-        (worth plan.now (coordinates_of resolved.now.broadcast p))) →
+        (element_stored plan.now (coordinates_of resolved.now.broadcast p))) →
         Collected result (part.old ∷ []) (part.new ∷ [])
         (stores_from f 0 (size_of resolved.now.broadcast)) }
 {
     let mut places = BroadcastWalk::new(alloc, &resolved.broadcast)?;
     for place in 0..elements_of(&resolved.broadcast) {
-        let y = match worth(plan, places.coordinates()) {
+        let y = match element_stored(plan, places.coordinates()) {
             Ok(y) => y,
             Err(first) => return Err(fault_at(place, first)),
         };
