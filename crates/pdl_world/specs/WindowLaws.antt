@@ -13,7 +13,7 @@ use Rattle.pdl_world.specs.World.{World, dims_in, entry, has_repeats, places_in}
 pub record IsShownOver (w : World) (v : ℕ) (x : Window) : Type 0 where
   pub root_is : root_of w x.base ≡ root_of w v
   pub own : window w x.base
-    ≡ Some (record { base = x.base; triple = whole_triple (dims_in w x.base) })
+      ≡ Some (record { base = x.base; triple = whole_triple (dims_in w x.base) })
   pub dims_are : dims_in w v ≡ x.triple.dims
   pub is_triple : IsTriple x.triple
   pub reaches : Reaches x.triple (size_of (dims_in w x.base))
