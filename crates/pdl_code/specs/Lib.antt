@@ -4,7 +4,6 @@ pub mod Raw
 pub mod RawOf
 pub mod Lexing
 pub mod Depth
-pub mod Left
 pub mod Grammar
 pub mod Join
 pub mod CodeReading

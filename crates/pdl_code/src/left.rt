@@ -1,6 +1,6 @@
 //! The tokens of kernel code that are still to be read.
 ghost use Rattle.std.specs.Prelude.{◌≡◌, ◌≤◌, ◌<◌, ◌^◌, length, nat_eq, None, Some};
-ghost use Rattle.pdl_code.specs.Left.{joined};
+ghost use Rattle.pdl_lexemes.specs.Squares.{joined};
 
 use crate::lexeme::Lexeme;
 use std::marker::Model;

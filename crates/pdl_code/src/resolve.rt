@@ -3,9 +3,10 @@ ghost use Rattle.std.specs.Prelude.{◌≡◌, Ok, false, true, get_or, slice_se
 ghost use Rattle.pdl_code.specs.Fit.{argument_of};
 ghost use Rattle.pdl_code.specs.Join.{join, one_loop};
 ghost use Rattle.pdl_code.specs.RawOf.{raw_indices, raw_of};
-ghost use Rattle.pdl_code.specs.Refused.{answer, axis_wrong, lacks, looped, meant_tree, or_zero, primary_wrong};
+ghost use Rattle.pdl_code.specs.Refused.{answer, axis_wrong, lacks, looped, meant_tree, named_dim, no_dim, or_zero, primary_wrong};
 ghost use Rattle.pdl_code.specs.Resolving.{Agrees, resolve_indices, resolve_tree};
 ghost use Rattle.pdl_code.specs.Scope.{axis_of, bytes_of, meant, no_flags};
+ghost use Rattle.pdl_code.specs.Tree.{size as size_of_dim};
 ghost use Rattle.pdl_code.specs.TreeOf.{indices_of, tree_of};
 
 use crate::build::{binary_expr, unary_expr, with_given, with_looped};
@@ -33,6 +34,17 @@ pub fn mark(flags: &mut [bool; MOST], k: usize)
 {
     if k < MOST {
         flags[k] = true;
+    }
+}
+
+// The size of a dimension that a word names.
+fn size(source: &[u8], signature: &Signature, word: Span) -> Result<Expr, KernelFault>
+    ensures { let named = named_dim source.now signature.now word in
+        Agrees tree_of result (answer (no_dim word named) (size_of_dim (or_zero named))) }
+{
+    match dim(source, signature, word) {
+        Some(d) => Ok(Expr::Size(d)),
+        None => Err(KernelFault::UnknownDim { at: word.from }),
     }
 }
 
@@ -149,10 +161,7 @@ pub fn tree(
 {
     match raw {
         RawExpr::Number(n) => Ok(Expr::Number(*n)),
-        RawExpr::Size(word) => match dim(source, signature, *word) {
-            Some(d) => Ok(Expr::Size(d)),
-            None => Err(KernelFault::UnknownDim { at: word.from }),
-        },
+        RawExpr::Size(word) => size(source, signature, *word),
         RawExpr::Named(word) => named(source, signature, locals, loops, *word),
         RawExpr::Access(name, given, close) => match argument(source, signature, *name) {
             None => Err(KernelFault::UnknownArgument { at: name.from }),
@@ -164,12 +173,10 @@ pub fn tree(
                 }
             }
         },
-        RawExpr::Unary(op, inner) => {
-            match tree(alloc, source, signature, locals, loops, inner) {
-                Ok(a) => unary_expr(alloc, *op, a),
-                Err(fault) => Err(fault),
-            }
-        }
+        RawExpr::Unary(op, inner) => match tree(alloc, source, signature, locals, loops, inner) {
+            Ok(a) => unary_expr(alloc, *op, a),
+            Err(fault) => Err(fault),
+        },
         RawExpr::Binary(op, left, right) => {
             match tree(alloc, source, signature, locals, loops, left) {
                 Ok(a) => match tree(alloc, source, signature, locals, loops, right) {
@@ -202,21 +209,19 @@ pub fn indices(
     let mut found = Vec::new(alloc);
     for one in given {
         match one {
-            RawEntry::Along(word, expr) => {
-                match place(source, signature, dims, &flags, *word) {
-                    Ok(k) => match tree(alloc, source, signature, locals, loops, expr) {
-                        Ok(e) => match with_given(found, k, e) {
-                            Ok(more) => {
-                                found = more;
-                                mark(&mut flags, k);
-                            }
-                            Err(fault) => return Err(fault),
-                        },
+            RawEntry::Along(word, expr) => match place(source, signature, dims, &flags, *word) {
+                Ok(k) => match tree(alloc, source, signature, locals, loops, expr) {
+                    Ok(e) => match with_given(found, k, e) {
+                        Ok(more) => {
+                            found = more;
+                            mark(&mut flags, k);
+                        }
                         Err(fault) => return Err(fault),
                     },
                     Err(fault) => return Err(fault),
-                }
-            }
+                },
+                Err(fault) => return Err(fault),
+            },
             RawEntry::Blank => {}
         }
     }

@@ -16,7 +16,7 @@ pub record AreFew (ts : List Lexeme) : Type 0 where
   pub small : length ts ≤ 65536
   pub shallow : goes_too_deep 0 ts ≡ false
 
--- a first lexeme and what follows it, as one list
-abbrev pub joined : Option (Lexeme × List Lexeme) → List Lexeme
+-- a first element and what follows it, as one list
+abbrev pub joined : {A : Type 0} → Option (A × List A) → List A
 joined None = []
 joined (Some x) = x.0 ∷ x.1

@@ -13,16 +13,16 @@ use Rattle.pdl_code.proofs.resolve.+resolve.Goals as goal
 
 pub tree-returns-in-Ok : goal.tree-returns-in-Ok
 tree-returns-in-Ok t c =
-    access_ok c.args.source.now c.args.signature.now (record { locals = c.args.locals.now; loops = c.args.loops.now }) _ c.in-Access.name (raw_indices c.deref.result.now) c.in-Access.close c.in-Some-argument.number c.dims_of-dims.result.now (indices_of c.in-Ok.found.items)
+    access_ok c.args.source.now c.args.signature.now (record { locals = c.args.locals.now; loops = c.args.loops.now }) _ c.in-Access.name (raw_indices c.deref.result.now) c.in-Access.close c.in-Some.number c.dims_of-dims.result.now (indices_of c.in-Ok.found.items)
     (access_tree c.args.raw.now c.in-Access.name c.in-Access.given c.in-Access.close c.deref.result.now c.in-Access.is c.deref.ensures.value)
-    (sym c.argument.ensures ∙ c.in-Some-argument.is) c.dims_of-dims.ensures c.in-Ok.ensures
-    ∙ ap Ok (sym (tree_of_access c.in-Some-argument.number c.in-Ok.found))
+    (sym c.argument.ensures ∙ c.in-Some.is) c.dims_of-dims.ensures c.in-Ok.ensures
+    ∙ ap Ok (sym (tree_of_access c.in-Some.number c.in-Ok.found))
 
 pub tree-returns-in-Err : goal.tree-returns-in-Err
 tree-returns-in-Err t c =
-    access_err c.args.source.now c.args.signature.now (λ (v : Vec Entry Global). indices_of v.items) tree_of c.in-Err.fault (record { locals = c.args.locals.now; loops = c.args.loops.now }) _ c.in-Access.name (raw_indices c.deref.result.now) c.in-Access.close c.in-Some-argument.number c.dims_of-dims.result.now
+    access_err c.args.source.now c.args.signature.now (λ (v : Vec Entry Global). indices_of v.items) tree_of c.in-Err.fault (record { locals = c.args.locals.now; loops = c.args.loops.now }) _ c.in-Access.name (raw_indices c.deref.result.now) c.in-Access.close c.in-Some.number c.dims_of-dims.result.now
     (access_tree c.args.raw.now c.in-Access.name c.in-Access.given c.in-Access.close c.deref.result.now c.in-Access.is c.deref.ensures.value)
-    (sym c.argument.ensures ∙ c.in-Some-argument.is) c.dims_of-dims.ensures c.in-Err.ensures
+    (sym c.argument.ensures ∙ c.in-Some.is) c.dims_of-dims.ensures c.in-Err.ensures
 
 pub indices-loop-one-preserved : goal.indices-loop-one-preserved
 indices-loop-one-preserved t c =
