@@ -1,9 +1,9 @@
--- Scripts of calls worked by hand: after each call the arrays that can be lent, what waits, and the
--- steps that the call took. They are those of the "Twelve tables of marks" of
--- crates/pdl_cases/data/engine.txt, in their order, and three of those on cut, reshaped and released
--- arrays; that file is run, and shows which arrays can be lent. Here `waits` and `steps` are checked
--- against what the clauses of the calls say of them; where a clause says "at most", a script has the
--- most. The arrays are numbered as they are made: x is 0, the next one 1.
+-- Scripts of calls worked by hand: after each call the arrays that can be lent, what waits, and
+-- the steps that the call took. They are those of the "Twelve tables of marks" of
+-- crates/pdl_cases/data/engine.txt, in their order, and three of those on cut, reshaped and
+-- released arrays; that file is run, and shows which arrays can be lent. Here `waits` and `steps`
+-- are checked against what the clauses of the calls say of them; where a clause says "at most", a
+-- script has the most. The arrays are numbered as they are made: x is 0, the next one 1.
 use Rattle.std.specs.Prelude.{◌≡◌, ℕ, ◌+◌, ◌==◌, not, if◌then◌else◌, List, [], ◌∷◌, length, map, filter, ℤ, pos, negsuc, Some, is_some}
 use Rattle.pdl_elem.specs.declared.Ty.TheVariants.{Long}
 use Rattle.pdl_buf.specs.Buffer.{count_moved}
@@ -30,8 +30,8 @@ pub data Call : Type 0 where
   reshape : (id : ℕ) (dims : List ℕ) → Call
   release : (id : ℕ) → Call
 
--- a call, and after it the arrays that can be lent, the views that wait, each with its root, and the
--- steps of the call
+-- a call, and after it the arrays that can be lent, the views that wait, each with its root, and
+-- the steps of the call
 pub data Line : Type 0 where
   after : Call → (lent : List ℕ) (waits : List (ℕ × ℕ)) (steps : ℕ) → Line
 
