@@ -1,3 +1,4 @@
+pub mod Numbers
 pub mod Finds
 pub mod Slots
 pub mod Calls

@@ -1,16 +1,14 @@
 -- How often each number is held.
 use Rattle.std.specs.Prelude.{◌≡◌, ℕ, ◌+◌, ◌-◌, ◌==◌, ◌&&◌, nat_lt, if◌then◌else◌, Bool, false, List, Option, Some, None, is_some}
-use Rattle.std.specs.Ordering.{nat_cmp}
-use Rattle.std.specs.Map.{lookup}
-use Rattle.std.specs.BTreeMap.{is_at}
 use Rattle.pdl_nodes.specs.declared.holds.Hold.{Hold}
+use Rattle.pdl_nodes.specs.Numbered.{value_at}
 use Rattle.pdl_nodes.specs.Rows.{Rows, has}
 
 abbrev pub Counts : Type 0
 Counts = List (ℕ × Hold)
 
 abbrev pub hold_at : Counts → ℕ → Option Hold
-hold_at hs v = lookup (is_at (nat_cmp v)) hs
+hold_at hs v = value_at hs v
 
 abbrev pub count_in : Option Hold → ℕ
 count_in None = 0

@@ -1,6 +1,7 @@
 pub mod Row
 pub mod Staying
 pub mod Rows
+pub mod Numbered
 pub mod Children
 pub mod Table
 pub mod Holds

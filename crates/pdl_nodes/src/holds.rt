@@ -4,9 +4,9 @@ ghost use Rattle.pdl_nodes.specs.Rows.{NumbersBelow, has, row_at};
 ghost use Rattle.pdl_nodes.specs.Holds.{hold_at, stands, count, going, with_going, goes_in, less_one, one_more, held_once, Beside};
 
 use crate::node::Node;
+use crate::numbered::Numbered;
 use crate::table::Table;
 use std::alloc::{AllocError, Global};
-use std::collections::BTreeMap;
 use std::marker::Model;
 
 /// How often a number is held, and how many of its views are noted as those that go.
@@ -19,19 +19,15 @@ pub struct Hold {
 /// The holds by number.
 #[derive(Drop)]
 pub struct Holds {
-    by_number: BTreeMap<u64, Hold>,
+    by_number: Numbered<Hold>,
 }
 
 impl Model for Holds {
-    ghost use Rattle.std.specs.Ordering.{nat_cmp};
-    ghost use Rattle.std.specs.BTreeMap.{IsOrdered};
     ghost use Rattle.pdl_nodes.specs.Holds.{Counts};
 
     ghost Value = { Counts };
 
-    ghost view = { λ h. h.by_number.entries };
-
-    ghost invariant = { λ h. IsOrdered nat_cmp h.by_number };
+    ghost view = { λ h. h.by_number };
 }
 
 impl Holds {
@@ -40,7 +36,7 @@ impl Holds {
         ensures { result ≡ [] }
     {
         Holds {
-            by_number: BTreeMap::new(alloc),
+            by_number: Numbered::new(alloc),
         }
     }
 
@@ -48,7 +44,7 @@ impl Holds {
     pub fn goes(&self, id: u64, views: u64) -> bool
         ensures { result ≡ goes_in views (hold_at self.now id) }
     {
-        match self.by_number.get(&id) {
+        match self.by_number.get(id) {
             Some(hold) => hold.count == 0 && hold.going == views,
             None => false,
         }
@@ -58,7 +54,7 @@ impl Holds {
     pub fn has(&self, id: u64) -> bool
         ensures { result ≡ stands self.now id }
     {
-        self.by_number.get(&id).is_some()
+        self.by_number.has(id)
     }
 
     /// Notes that one view more goes, of an array of so many views.
@@ -68,9 +64,11 @@ impl Holds {
             ≡ with_going (going self.old id + 1) (hold_at self.old id) }
         ensures others { (v : ℕ) → v ≢ id → hold_at self.new v ≡ hold_at self.old v }
     {
-        match self.by_number.get_mut(&id) {
+        match self.by_number.get(id) {
             Some(hold) => {
-                hold.going += 1;
+                let Hold { count, going } = *hold;
+                let going = going + 1;
+                self.by_number.set(id, Hold { count, going });
             }
             None => {}
         }
@@ -82,9 +80,11 @@ impl Holds {
             ≡ with_going (going self.old id - 1) (hold_at self.old id) }
         ensures others { (v : ℕ) → v ≢ id → hold_at self.new v ≡ hold_at self.old v }
     {
-        match self.by_number.get_mut(&id) {
+        match self.by_number.get(id) {
             Some(hold) => {
-                hold.going = hold.going.saturating_sub(1);
+                let Hold { count, going } = *hold;
+                let going = going.saturating_sub(1);
+                self.by_number.set(id, Hold { count, going });
             }
             None => {}
         }
@@ -107,9 +107,11 @@ impl Holds {
         ensures here { hold_at self.new id ≡ one_more (hold_at self.old id) }
         ensures others { (v : ℕ) → v ≢ id → hold_at self.new v ≡ hold_at self.old v }
     {
-        match self.by_number.get_mut(&id) {
+        match self.by_number.get(id) {
             Some(hold) => {
-                hold.count += 1;
+                let Hold { count, going } = *hold;
+                let count = count + 1;
+                self.by_number.set(id, Hold { count, going });
             }
             None => {}
         }
@@ -121,9 +123,11 @@ impl Holds {
         ensures here { hold_at self.new id ≡ less_one (hold_at self.old id) }
         ensures others { (v : ℕ) → v ≢ id → hold_at self.new v ≡ hold_at self.old v }
     {
-        match self.by_number.get_mut(&id) {
+        match self.by_number.get(id) {
             Some(hold) => {
-                hold.count -= 1;
+                let Hold { count, going } = *hold;
+                let count = count - 1;
+                self.by_number.set(id, Hold { count, going });
             }
             None => {}
         }
@@ -159,7 +163,7 @@ impl Holds {
         ensures here { hold_at self.new id ≡ None }
         ensures others { (v : ℕ) → v ≢ id → hold_at self.new v ≡ hold_at self.old v }
     {
-        self.by_number.remove(&id);
+        self.by_number.remove(id);
     }
 }
 

@@ -11,6 +11,7 @@ mod marked;
 mod moves;
 mod node;
 mod nodes;
+mod numbered;
 mod origin;
 mod pull;
 mod push;

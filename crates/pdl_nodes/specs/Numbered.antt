@@ -1,0 +1,54 @@
+-- Values by numbers, in rising order.
+use Rattle.std.specs.Prelude.{◌≡◌, ◌≢◌, ℕ, ◌<◌, ◌≤◌, nat_le, if◌then◌else◌, List, [], ◌∷◌, length, Option, Some, None, slice_index_or}
+use Rattle.std.specs.Ordering.{nat_cmp}
+use Rattle.std.specs.Map.{lookup}
+use Rattle.std.specs.BTreeMap.{is_at}
+
+-- the value of v
+abbrev pub value_at : {V : Type 0} → List (ℕ × V) → ℕ → Option V
+value_at es v = lookup (is_at (nat_cmp v)) es
+
+-- the lowest number from v on
+abbrev pub first_from : {V : Type 0} → List (ℕ × V) → ℕ → Option ℕ
+first_from [] v = None
+first_from (e ∷ es) v = if nat_le v e.0 then Some e.0 else first_from es v
+
+-- each number is above v
+abbrev pub AllAbove : {V : Type 0} → ℕ → List (ℕ × V) → Type 0
+AllAbove v [] = Unit {0}
+AllAbove v (e ∷ es) = (v < e.0) × AllAbove v es
+
+-- each number is below those after it
+abbrev pub Rises : {V : Type 0} → List (ℕ × V) → Type 0
+Rises [] = Unit {0}
+Rises (e ∷ es) = AllAbove e.0 es × Rises es
+
+-- v has what is said then, and each other number what it had
+pub record IsPut {V : Type 0} (old new : List (ℕ × V)) (v : ℕ) (o : Option V) : Type 0 where
+  pub here : value_at new v ≡ o
+  pub others : (u : ℕ) → u ≢ v → value_at new u ≡ value_at old u
+
+-- before these entries one more, if it isn't empty
+abbrev pub onto : {V : Type 0} → ℕ → Option V → List (ℕ × V) → List (ℕ × V)
+onto v None es = es
+onto v (Some x) es = (v, x) ∷ es
+
+-- the entries that aren't empty
+abbrev pub filled : {V : Type 0} → List (ℕ × Option V) → List (ℕ × V)
+filled [] = []
+filled (e ∷ es) = onto e.0 e.1 (filled es)
+
+-- the number of the entry at place i
+abbrev pub number_at : {V : Type 0} → List (ℕ × Option V) → ℕ → ℕ
+number_at es i = let e = slice_index_or es i (0, None) in e.0
+
+-- v stands at place i
+pub record IsPlace {V : Type 0} (es : List (ℕ × Option V)) (v i : ℕ) : Type 0 where
+  pub in_range : i < length es
+  pub number : number_at es i ≡ v
+
+-- v would go to place i: lower numbers are before it, and higher ones from it on
+pub record IsGap {V : Type 0} (es : List (ℕ × Option V)) (v i : ℕ) : Type 0 where
+  pub in_range : i ≤ length es
+  pub lower : (j : ℕ) → j < i → number_at es j < v
+  pub higher : (j : ℕ) → i ≤ j → j < length es → v < number_at es j
