@@ -33,7 +33,7 @@ use Rattle.pdl_nodes.proofs.Reaches.{count_taken, none_of, staying_live, taken}
 use Rattle.pdl_nodes.proofs.Readied.{ready_same}
 use Rattle.pdl_nodes.proofs.Removing.{staying_all}
 use Rattle.pdl_nodes.proofs.Rising.{IsRising, fewer_same, none_less, noted_none, noted_some, rising_goes, rising_none, rising_room}
-use Rattle.pdl_nodes.proofs.Slots.{at_other, at_same}
+use Rattle.pdl_nodes.proofs.Numbers.{at_other, at_same}
 
 -- ---- where what waits stays, nothing is written back
 

@@ -1,41 +1,39 @@
 -- What the table's calls do to its rows.
-use Rattle.std.proofs.Common.{◌≡◌, ℕ, ◌<◌, true, false, cond, ◌∷◌, Option, Some, None, is_some, inl, inr, refl, sym, ◌∙◌, ap, subst, arith}
+use Rattle.std.proofs.Common.{◌≡◌, ℕ, ◌<◌, true, false, List, ◌∷◌, Option, Some, None, is_some, inl, inr, refl, sym, ◌∙◌, ap, subst, arith}
 use Rattle.std.proofs.lemmas.Bool.Decides.{eqb_tells}
 use Rattle.std.specs.Prelude.{Result, Ok, Err, OnErr}
 use Rattle.std.specs.Option.{IsSome}
-use Rattle.std.specs.Ordering.{nat_cmp}
-use Rattle.std.specs.BTreeMap.{BTreeMap, IsOrdered, Updates}
-use Rattle.std.specs.BTreeMap.{get as key_at}
 use Rattle.slab.specs.Slab.{Slab, get, ContainsKey, with_value}
 use Rattle.slab.specs.Slab.{Updates as Changes}
 use Rattle.slab.proofs.SlabLemmas.{Updates-with_value}
+use Rattle.pdl_nodes.specs.Numbered.{IsPut, Rises, value_at}
 use Rattle.pdl_nodes.specs.Row.{Row}
 use Rattle.pdl_nodes.specs.Rows.{Rows, row_at, has, each, other, without, NumbersBelow, Falls}
 use Rattle.pdl_nodes.specs.Table.{node_at, node_or, rows_of, IsTable}
 use Rattle.pdl_nodes.proofs.Finds.{same, differ, has_below, each_has, each_at, falls_each, row_stays, has_stays, has_gone, falls_stays}
-use Rattle.pdl_nodes.proofs.Slots.{at_same, at_other, seek, Shows, shows, shown}
+use Rattle.pdl_nodes.proofs.Slots.{Shows, shows, shown}
 
-pub seen : (t : Rows) (keys : BTreeMap ℕ ℕ) (nodes : Slab Row) → rows_of nodes keys.entries ≡ t → IsTable keys nodes → Shows t keys nodes
+pub seen : (t : Rows) (keys : List (ℕ × ℕ)) (nodes : Slab Row) → rows_of nodes keys ≡ t → IsTable keys nodes → Shows t keys nodes
 seen t keys nodes e i = let P : Rows → Type 0 = λ x. Shows x keys nodes in subst P e (shows keys nodes i.ordered)
 
-found : (t : Rows) (keys : BTreeMap ℕ ℕ) (nodes : Slab Row) (v : ℕ) (o : Option ℕ) → key_at nat_cmp keys v ≡ o → Shows t keys nodes → has t v ≡ true → IsSome o
+found : (t : Rows) (keys : List (ℕ × ℕ)) (nodes : Slab Row) (v : ℕ) (o : Option ℕ) → value_at keys v ≡ o → Shows t keys nodes → has t v ≡ true → IsSome o
 found t keys nodes v None e s h = let x : false ≡ true = sym (s.none v e) ∙ h in absurd (cc)
 found t keys nodes v (Some k) e s h = refl
 
-pub has_key : (t : Rows) (keys : BTreeMap ℕ ℕ) (nodes : Slab Row) (v : ℕ) → rows_of nodes keys.entries ≡ t → IsTable keys nodes → has t v ≡ true → IsSome (key_at nat_cmp keys v)
-has_key t keys nodes v e i h = found t keys nodes v (key_at nat_cmp keys v) refl (seen t keys nodes e i) h
+pub has_key : (t : Rows) (keys : List (ℕ × ℕ)) (nodes : Slab Row) (v : ℕ) → rows_of nodes keys ≡ t → IsTable keys nodes → has t v ≡ true → IsSome (value_at keys v)
+has_key t keys nodes v e i h = found t keys nodes v (value_at keys v) refl (seen t keys nodes e i) h
 
-pub is_there : (t : Rows) (keys : BTreeMap ℕ ℕ) (nodes : Slab Row) (v : ℕ) → rows_of nodes keys.entries ≡ t → IsTable keys nodes → is_some (key_at nat_cmp keys v) ≡ has t v
-is_there t keys nodes v e i = by (key_at nat_cmp keys v) refl where
-  by : (o : Option ℕ) → key_at nat_cmp keys v ≡ o → is_some (key_at nat_cmp keys v) ≡ has t v
+pub is_there : (t : Rows) (keys : List (ℕ × ℕ)) (nodes : Slab Row) (v : ℕ) → rows_of nodes keys ≡ t → IsTable keys nodes → is_some (value_at keys v) ≡ has t v
+is_there t keys nodes v e i = by (value_at keys v) refl where
+  by : (o : Option ℕ) → value_at keys v ≡ o → is_some (value_at keys v) ≡ has t v
   by None h = ap is_some h ∙ sym ((seen t keys nodes e i).none v h)
   by (Some k) h = ap is_some h ∙ sym ((seen t keys nodes e i).live v k h)
 
-pub node_is : (t : Rows) (keys : BTreeMap ℕ ℕ) (nodes : Slab Row) (v k : ℕ) (r : Row) → rows_of nodes keys.entries ≡ t → IsTable keys nodes → key_at nat_cmp keys v ≡ Some k → get nodes k ≡ Some r → r ≡ row_at t v
+pub node_is : (t : Rows) (keys : List (ℕ × ℕ)) (nodes : Slab Row) (v k : ℕ) (r : Row) → rows_of nodes keys ≡ t → IsTable keys nodes → value_at keys v ≡ Some k → get nodes k ≡ Some r → r ≡ row_at t v
 node_is t keys nodes v k r e i h g = sym ((seen t keys nodes e i).row v k h ∙ ap node_or g)
 
 -- other nodes of the same keys
-pub rewritten : (f : ℕ → Row → Row) (t : Rows) (keys : BTreeMap ℕ ℕ) (nodes new : Slab Row) → IsOrdered nat_cmp keys → Shows t keys nodes → ((v k : ℕ) → key_at nat_cmp keys v ≡ Some k → node_at new k ≡ f v (node_at nodes k)) → rows_of new keys.entries ≡ each f t
+pub rewritten : (f : ℕ → Row → Row) (t : Rows) (keys : List (ℕ × ℕ)) (nodes new : Slab Row) → Rises keys → Shows t keys nodes → ((v k : ℕ) → value_at keys v ≡ Some k → node_at new k ≡ f v (node_at nodes k)) → rows_of new keys ≡ each f t
 rewritten f t keys nodes new o s h = shown (each f t) keys new o (record {
   falls = falls_each f t s.falls;
   none = λ v e. each_has f t v ∙ s.none v e;
@@ -44,18 +42,18 @@ rewritten f t keys nodes new o s h = shown (each f t) keys new o (record {
 })
 
 -- one node was changed
-pub changed_one : (f : ℕ → Row → Row) (t : Rows) (keys : BTreeMap ℕ ℕ) (nodes : Slab Row) (id key : ℕ) (r q : Row) → rows_of nodes keys.entries ≡ t → IsTable keys nodes → key_at nat_cmp keys id ≡ Some key → get nodes key ≡ Some r → q ≡ f id r → ((v : ℕ) (x : Row) → (v ≡ id → ⊥) → f v x ≡ x) → rows_of (with_value nodes key q) keys.entries ≡ each f t
+pub changed_one : (f : ℕ → Row → Row) (t : Rows) (keys : List (ℕ × ℕ)) (nodes : Slab Row) (id key : ℕ) (r q : Row) → rows_of nodes keys ≡ t → IsTable keys nodes → value_at keys id ≡ Some key → get nodes key ≡ Some r → q ≡ f id r → ((v : ℕ) (x : Row) → (v ≡ id → ⊥) → f v x ≡ x) → rows_of (with_value nodes key q) keys ≡ each f t
 changed_one f t keys nodes id key r q e i h g c o =
     let u : Changes nodes (with_value nodes key q) key (Some q) = Updates-with_value nodes key q (i.full id key h) in
     rewritten f t keys nodes (with_value nodes key q) i.ordered (seen t keys nodes e i) (λ v k a. elim (eqb_tells v id) [
-      | inl y ↦ (let kk : Some key ≡ Some k = sym h ∙ ap (key_at nat_cmp keys) (sym y.1) ∙ a in
+      | inl y ↦ (let kk : Some key ≡ Some k = sym h ∙ ap (value_at keys) (sym y.1) ∙ a in
           let k2 : key ≡ k = cc in
           ap (node_at (with_value nodes key q)) (sym k2) ∙ ap node_or u.changed ∙ c ∙ ap (λ n. f n r) (sym y.1) ∙ ap (f v) (sym (ap (node_at nodes) (sym k2) ∙ ap node_or g)))
       | inr n ↦ ap node_or (u.others k (λ y. n.1 (i.apart v id key (a ∙ ap Some y) h))) ∙ sym (o v (node_at nodes k) n.1)
     ])
 
 -- the rows of a table fall
-pub table_falls : (t : Rows) (keys : BTreeMap ℕ ℕ) (nodes : Slab Row) → rows_of nodes keys.entries ≡ t → IsTable keys nodes → Falls t
+pub table_falls : (t : Rows) (keys : List (ℕ × ℕ)) (nodes : Slab Row) → rows_of nodes keys ≡ t → IsTable keys nodes → Falls t
 table_falls t keys nodes e i = (seen t keys nodes e i).falls
 
 -- what is so holds on an Err
@@ -64,25 +62,32 @@ on_err (Ok x) P p = tt
 on_err (Err e) P p = p
 
 -- the same rows
-pub unchanged : (t : Rows) (keys kept : BTreeMap ℕ ℕ) (nodes new : Slab Row) → rows_of nodes keys.entries ≡ t → IsTable keys nodes → kept.entries ≡ keys.entries → ((k : ℕ) → get new k ≡ get nodes k) → rows_of new kept.entries ≡ t
+pub unchanged : (t : Rows) (keys kept : List (ℕ × ℕ)) (nodes new : Slab Row) → rows_of nodes keys ≡ t → IsTable keys nodes → kept ≡ keys → ((k : ℕ) → get new k ≡ get nodes k) → rows_of new kept ≡ t
 unchanged t keys kept nodes new e i c h =
     let s : Shows t keys nodes = seen t keys nodes e i in
     ap (rows_of new) c ∙ shown t keys new i.ordered (record { falls = s.falls; none = s.none; live = s.live; row = λ v k a. s.row v k a ∙ ap node_or (sym (h k)) })
 
 -- the key of a number after the map was changed at one
-updated_here : (keys new : BTreeMap ℕ ℕ) (id v : ℕ) (o : Option ℕ) → Updates nat_cmp keys new id o → id ≡ v → key_at nat_cmp new v ≡ o
-updated_here keys new id v o u e = u.0 v ∙ ap (λ b. cond b o (key_at nat_cmp keys v)) (at_same id v (sym e))
+updated_here : (keys new : List (ℕ × ℕ)) (id v : ℕ) (o : Option ℕ) → IsPut keys new id o → id ≡ v → value_at new v ≡ o
+updated_here keys new id v o u e = ap (value_at new) (sym e) ∙ u.here
 
-updated_there : (keys new : BTreeMap ℕ ℕ) (id v : ℕ) (o : Option ℕ) → Updates nat_cmp keys new id o → (id ≡ v → ⊥) → key_at nat_cmp new v ≡ key_at nat_cmp keys v
-updated_there keys new id v o u n = u.0 v ∙ ap (λ b. cond b o (key_at nat_cmp keys v)) (at_other id v (λ e. n (sym e)))
+updated_there : (keys new : List (ℕ × ℕ)) (id v : ℕ) (o : Option ℕ) → IsPut keys new id o → (id ≡ v → ⊥) → value_at new v ≡ value_at keys v
+updated_there keys new id v o u n = u.others v (λ e. n (sym e))
+
+-- a number above all has no key
+pub keyless : (t : Rows) (keys : List (ℕ × ℕ)) (nodes : Slab Row) (id : ℕ) → rows_of nodes keys ≡ t → IsTable keys nodes → NumbersBelow id t → value_at keys id ≡ None
+keyless t keys nodes id e i b = by (value_at keys id) refl where
+  by : (o : Option ℕ) → value_at keys id ≡ o → o ≡ None
+  by None h = refl
+  by (Some k) h = let x : id < id = has_below t id id b ((seen t keys nodes e i).live id k h) in let z : ⊥ = omega arith in absurd z
 
 -- one more node, in a slot that was empty
-pub joined : (t : Rows) (keys next : BTreeMap ℕ ℕ) (nodes new : Slab Row) (id key : ℕ) (r : Row) → rows_of nodes keys.entries ≡ t → IsTable keys nodes → NumbersBelow id t → IsOrdered nat_cmp next → Updates nat_cmp keys next id (Some key) → get nodes key ≡ None → Changes nodes new key (Some r) → IsTable next new × (rows_of new next.entries ≡ (id, r) ∷ t)
+pub joined : (t : Rows) (keys next : List (ℕ × ℕ)) (nodes new : Slab Row) (id key : ℕ) (r : Row) → rows_of nodes keys ≡ t → IsTable keys nodes → NumbersBelow id t → Rises next → IsPut keys next id (Some key) → get nodes key ≡ None → Changes nodes new key (Some r) → IsTable next new × (rows_of new next ≡ (id, r) ∷ t)
 joined t keys next nodes new id key r e i b o u z c =
     let s : Shows t keys nodes = seen t keys nodes e i in
-    let taken : (v : ℕ) → key_at nat_cmp keys v ≡ Some key → ⊥ = λ v h. (let x : ContainsKey nodes key = i.full v key h in let P : Option Row → Type 0 = λ y. IsSome y in let w : false ≡ true = subst P z x in absurd (cc)) in
-    let apart : (v k : ℕ) → key_at nat_cmp keys v ≡ Some k → key ≡ k → ⊥ = λ v k h y. taken v (h ∙ ap Some (sym y)) in
-    let older : (v k : ℕ) → key_at nat_cmp keys v ≡ Some k → id ≡ v → ⊥ = λ v k h y. (let x : v < id = has_below t id v b (s.live v k h) in let w : ⊥ = omega arith in w) in (
+    let taken : (v : ℕ) → value_at keys v ≡ Some key → ⊥ = λ v h. (let x : ContainsKey nodes key = i.full v key h in let P : Option Row → Type 0 = λ y. IsSome y in let w : false ≡ true = subst P z x in absurd (cc)) in
+    let apart : (v k : ℕ) → value_at keys v ≡ Some k → key ≡ k → ⊥ = λ v k h y. taken v (h ∙ ap Some (sym y)) in
+    let older : (v k : ℕ) → value_at keys v ≡ Some k → id ≡ v → ⊥ = λ v k h y. (let x : v < id = has_below t id v b (s.live v k h) in let w : ⊥ = omega arith in w) in (
       record {
         ordered = o;
         full = λ v k h. elim (eqb_tells id v) [
@@ -90,7 +95,7 @@ joined t keys next nodes new id key r e i b o u z c =
               let kk : key ≡ k = cc in
               let P : Option Row → Type 0 = λ q. IsSome q in
               subst P (sym (ap (get new) (sym kk) ∙ c.changed)) refl)
-          | inr n ↦ (let h2 : key_at nat_cmp keys v ≡ Some k = sym (updated_there keys next id v (Some key) u n.1) ∙ h in
+          | inr n ↦ (let h2 : value_at keys v ≡ Some k = sym (updated_there keys next id v (Some key) u n.1) ∙ h in
               let P : Option Row → Type 0 = λ q. IsSome q in
               subst P (sym (c.others k (λ y. apart v k h2 (sym y)))) (i.full v k h2))
         ];
@@ -120,19 +125,19 @@ joined t keys next nodes new id key r e i b o u z c =
         row = λ v k h. elim (eqb_tells id v) [
           | inl y ↦ (let x : Some key ≡ Some k = sym (updated_here keys next id v (Some key) u y.1) ∙ h in
               let kk : key ≡ k = cc in rw y.0 (sym (ap (node_at new) (sym kk) ∙ ap node_or c.changed)))
-          | inr n ↦ (let h2 : key_at nat_cmp keys v ≡ Some k = sym (updated_there keys next id v (Some key) u n.1) ∙ h in
+          | inr n ↦ (let h2 : value_at keys v ≡ Some k = sym (updated_there keys next id v (Some key) u n.1) ∙ h in
               rw n.0 (s.row v k h2 ∙ ap node_or (sym (c.others k (λ y. apart v k h2 (sym y))))))
         ];
       }),
     )
 
 -- one node less
-pub gone : (t : Rows) (keys next : BTreeMap ℕ ℕ) (nodes new : Slab Row) (id key : ℕ) → rows_of nodes keys.entries ≡ t → IsTable keys nodes → IsOrdered nat_cmp next → key_at nat_cmp keys id ≡ Some key → Updates nat_cmp keys next id None → Changes nodes new key None → rows_of new next.entries ≡ without id t
+pub gone : (t : Rows) (keys next : List (ℕ × ℕ)) (nodes new : Slab Row) (id key : ℕ) → rows_of nodes keys ≡ t → IsTable keys nodes → Rises next → value_at keys id ≡ Some key → IsPut keys next id None → Changes nodes new key None → rows_of new next ≡ without id t
 gone t keys next nodes new id key e i o h u c =
     let s : Shows t keys nodes = seen t keys nodes e i in
     let it : other id id ≡ false = rw (same id id refl) refl in
     let not_it : (v : ℕ) → (id ≡ v → ⊥) → other id v ≡ true = λ v n. rw (differ v id (λ y. n (sym y))) refl in
-    let old : (v k : ℕ) → key_at nat_cmp next v ≡ Some k → (id ≡ v → ⊥) × (key_at nat_cmp keys v ≡ Some k) = λ v k g. elim (eqb_tells id v) [
+    let old : (v k : ℕ) → value_at next v ≡ Some k → (id ≡ v → ⊥) × (value_at keys v ≡ Some k) = λ v k g. elim (eqb_tells id v) [
       | inl y ↦ (let x : None ≡ Some k = sym (updated_here keys next id v None u y.1) ∙ g in absurd (cc))
       | inr n ↦ (n.1, sym (updated_there keys next id v None u n.1) ∙ g)
     ] in
@@ -158,17 +163,17 @@ filled nodes mid new key at r e a k c = record {
 }
 
 -- the same keys and nodes, with more room
-pub table_same : (keys kept : BTreeMap ℕ ℕ) (nodes new : Slab Row) → IsTable keys nodes → IsOrdered nat_cmp kept → kept.entries ≡ keys.entries → ((k : ℕ) → get new k ≡ get nodes k) → IsTable kept new
+pub table_same : (keys kept : List (ℕ × ℕ)) (nodes new : Slab Row) → IsTable keys nodes → Rises kept → kept ≡ keys → ((k : ℕ) → get new k ≡ get nodes k) → IsTable kept new
 table_same keys kept nodes new i o c g = record {
   ordered = o;
-  full = λ v k h. (let P : Option Row → Type 0 = λ q. IsSome q in subst P (sym (g k)) (i.full v k (ap (seek v) (sym c) ∙ h)));
-  apart = λ v u k h e. i.apart v u k (ap (seek v) (sym c) ∙ h) (ap (seek u) (sym c) ∙ e);
+  full = λ v k h. (let P : Option Row → Type 0 = λ q. IsSome q in subst P (sym (g k)) (i.full v k (ap (λ es. value_at es v) (sym c) ∙ h)));
+  apart = λ v u k h e. i.apart v u k (ap (λ es. value_at es v) (sym c) ∙ h) (ap (λ es. value_at es u) (sym c) ∙ e);
 }
 
 -- the table without one node
-pub gone_table : (keys next : BTreeMap ℕ ℕ) (nodes new : Slab Row) (id key : ℕ) → IsTable keys nodes → IsOrdered nat_cmp next → key_at nat_cmp keys id ≡ Some key → Updates nat_cmp keys next id None → Changes nodes new key None → IsTable next new
+pub gone_table : (keys next : List (ℕ × ℕ)) (nodes new : Slab Row) (id key : ℕ) → IsTable keys nodes → Rises next → value_at keys id ≡ Some key → IsPut keys next id None → Changes nodes new key None → IsTable next new
 gone_table keys next nodes new id key i o h u c =
-    let old : (v k : ℕ) → key_at nat_cmp next v ≡ Some k → (id ≡ v → ⊥) × (key_at nat_cmp keys v ≡ Some k) = λ v k g. elim (eqb_tells id v) [
+    let old : (v k : ℕ) → value_at next v ≡ Some k → (id ≡ v → ⊥) × (value_at keys v ≡ Some k) = λ v k g. elim (eqb_tells id v) [
       | inl y ↦ (let x : None ≡ Some k = sym (updated_here keys next id v None u y.1) ∙ g in absurd (cc))
       | inr n ↦ (n.1, sym (updated_there keys next id v None u n.1) ∙ g)
     ] in

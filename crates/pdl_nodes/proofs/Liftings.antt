@@ -1,10 +1,8 @@
 -- What is known when the kept elements of a marked view are taken out, while its root is written.
 use Rattle.std.proofs.Common.{◌≡◌, ℕ, ℤ, Bool, true, false, List, [], length, Option, Some, None, refl, sym, ◌∙◌, ap, subst}
-use Rattle.std.specs.Ordering.{nat_cmp}
-use Rattle.std.specs.BTreeMap.{BTreeMap}
-use Rattle.std.specs.BTreeMap.{get as key_at}
 use Rattle.slab.specs.Slab.{Slab, get, ContainsKey, with_value}
 use Rattle.pdl_buf.specs.Buffer.{TypedElements}
+use Rattle.pdl_nodes.specs.Numbered.{value_at}
 use Rattle.pdl_nodes.specs.Row.{Row}
 use Rattle.pdl_nodes.specs.Rows.{Rows, row_at, has, each}
 use Rattle.pdl_nodes.specs.declared.marked.Marked.{Marked}
@@ -48,25 +46,25 @@ liftable rs rt b o k i n g m =
 
 -- ---- while it is out of a table, and the root is written
 
-rows_lifted : (t : Rows) (keys : BTreeMap ℕ ℕ) (nodes : Slab Row) (b key : ℕ) (r q : Row) → rows_of nodes keys.entries ≡ t → IsTable keys nodes → key_at nat_cmp keys b ≡ Some key → get nodes key ≡ Some r
-    → q ≡ record r { kept = []; mark = false; places = None } → rows_of (with_value nodes key q) keys.entries ≡ each (lift_in b) t
+rows_lifted : (t : Rows) (keys : List (ℕ × ℕ)) (nodes : Slab Row) (b key : ℕ) (r q : Row) → rows_of nodes keys ≡ t → IsTable keys nodes → value_at keys b ≡ Some key → get nodes key ≡ Some r
+    → q ≡ record r { kept = []; mark = false; places = None } → rows_of (with_value nodes key q) keys ≡ each (lift_in b) t
 rows_lifted t keys nodes b key r q e i h g c = changed_one (lift_in b) t keys nodes b key r q e i h g (c ∙ lift_here b r) (lift_others b)
 
 -- the root is as it was
-pub lifted_root : (t : Rows) (keys : BTreeMap ℕ ℕ) (nodes : Slab Row) (rt b key at : ℕ) (r q s : Row) → rows_of nodes keys.entries ≡ t → IsTable keys nodes → IsLiftable t rt b → key_at nat_cmp keys b ≡ Some key
-    → get nodes key ≡ Some r → q ≡ record r { kept = []; mark = false; places = None } → key_at nat_cmp keys rt ≡ Some at → get (with_value nodes key q) at ≡ Some s → s ≡ row_at t rt
+pub lifted_root : (t : Rows) (keys : List (ℕ × ℕ)) (nodes : Slab Row) (rt b key at : ℕ) (r q s : Row) → rows_of nodes keys ≡ t → IsTable keys nodes → IsLiftable t rt b → value_at keys b ≡ Some key
+    → get nodes key ≡ Some r → q ≡ record r { kept = []; mark = false; places = None } → value_at keys rt ≡ Some at → get (with_value nodes key q) at ≡ Some s → s ≡ row_at t rt
 lifted_root t keys nodes rt b key at r q s e i l h g c k d =
     node_is (each (lift_in b) t) keys (with_value nodes key q) rt at s (rows_lifted t keys nodes b key r q e i h g c) (table_one keys nodes b key q i h) k d
     ∙ each_at (lift_in b) t rt l.root_live ∙ lift_others b rt (row_at t rt) l.apart
 
 -- another row after the root was written
-pub record IsWritten (t : Rows) (keys : BTreeMap ℕ ℕ) (nodes : Slab Row) (rt b key at : ℕ) (q p : Row) (es : List ℤ) : Type 0 where
+pub record IsWritten (t : Rows) (keys : List (ℕ × ℕ)) (nodes : Slab Row) (rt b key at : ℕ) (q p : Row) (es : List ℤ) : Type 0 where
   pub table : IsTable keys (with_value (with_value nodes key q) at p)
-  pub rows : rows_of (with_value (with_value nodes key q) at p) keys.entries ≡ each (kept_in rt es) (each (lift_in b) t)
+  pub rows : rows_of (with_value (with_value nodes key q) at p) keys ≡ each (kept_in rt es) (each (lift_in b) t)
   pub there : ContainsKey (with_value (with_value nodes key q) at p) key
 
-pub root_written : (t : Rows) (keys : BTreeMap ℕ ℕ) (nodes : Slab Row) (rt b key at : ℕ) (r q s p : Row) (es : List ℤ) → rows_of nodes keys.entries ≡ t → IsTable keys nodes → key_at nat_cmp keys b ≡ Some key
-    → get nodes key ≡ Some r → q ≡ record r { kept = []; mark = false; places = None } → key_at nat_cmp keys rt ≡ Some at → get (with_value nodes key q) at ≡ Some s → p ≡ record s { kept = es }
+pub root_written : (t : Rows) (keys : List (ℕ × ℕ)) (nodes : Slab Row) (rt b key at : ℕ) (r q s p : Row) (es : List ℤ) → rows_of nodes keys ≡ t → IsTable keys nodes → value_at keys b ≡ Some key
+    → get nodes key ≡ Some r → q ≡ record r { kept = []; mark = false; places = None } → value_at keys rt ≡ Some at → get (with_value nodes key q) at ≡ Some s → p ≡ record s { kept = es }
     → IsWritten t keys nodes rt b key at q p es
 root_written t keys nodes rt b key at r q s p es e i h g c k d f =
     let i1 : IsTable keys (with_value nodes key q) = table_one keys nodes b key q i h in
@@ -78,7 +76,7 @@ root_written t keys nodes rt b key at r q s p es e i h g c k d f =
     }
 
 -- the type of what comes back
-pub back_type : (t : Rows) (keys : BTreeMap ℕ ℕ) (nodes : Slab Row) (rt b key at : ℕ) (q p u : Row) (es : List ℤ) → IsLiftable t rt b → key_at nat_cmp keys b ≡ Some key → IsWritten t keys nodes rt b key at q p es
+pub back_type : (t : Rows) (keys : List (ℕ × ℕ)) (nodes : Slab Row) (rt b key at : ℕ) (q p u : Row) (es : List ℤ) → IsLiftable t rt b → value_at keys b ≡ Some key → IsWritten t keys nodes rt b key at q p es
     → get (with_value (with_value nodes key q) at p) key ≡ Some u → u.ty ≡ (row_at t b).ty
 back_type t keys nodes rt b key at q p u es l h w g =
     ap (λ (r : Row). r.ty) (node_is (each (kept_in rt es) (each (lift_in b) t)) keys (with_value (with_value nodes key q) at p) b key u w.rows w.table h g
@@ -86,20 +84,20 @@ back_type t keys nodes rt b key at q p u es l h w g =
     ∙ ap (λ (r : Row). r.ty) (each_at (lift_in b) t b l.live)
 
 -- what was taken out was put back
-pub record IsPutBack (t : Rows) (keys : BTreeMap ℕ ℕ) (nodes : Slab Row) (m : Marked) (rt : ℕ) (es : List ℤ) : Type 0 where
-  pub rows : rows_of nodes keys.entries ≡ each (kept_in rt es) t
+pub record IsPutBack (t : Rows) (keys : List (ℕ × ℕ)) (nodes : Slab Row) (m : Marked) (rt : ℕ) (es : List ℤ) : Type 0 where
+  pub rows : rows_of nodes keys ≡ each (kept_in rt es) t
   pub table : IsTable keys nodes
-  pub listed : AreListed (rows_of nodes keys.entries) m
+  pub listed : AreListed (rows_of nodes keys) m
 
-pub put_back : (t : Rows) (keys : BTreeMap ℕ ℕ) (nodes : Slab Row) (m : Marked) (rt b key at : ℕ) (r q p u v : Row) (es : List ℤ) (kept : TypedElements) (f : Bool) (ps : List (Option ℕ))
-    → rows_of nodes keys.entries ≡ t → IsTable keys nodes × AreListed (rows_of nodes keys.entries) m → IsLiftable t rt b → key_at nat_cmp keys b ≡ Some key → get nodes key ≡ Some r
+pub put_back : (t : Rows) (keys : List (ℕ × ℕ)) (nodes : Slab Row) (m : Marked) (rt b key at : ℕ) (r q p u v : Row) (es : List ℤ) (kept : TypedElements) (f : Bool) (ps : List (Option ℕ))
+    → rows_of nodes keys ≡ t → IsTable keys nodes × AreListed (rows_of nodes keys) m → IsLiftable t rt b → value_at keys b ≡ Some key → get nodes key ≡ Some r
     → kept ≡ record { ty = r.ty; elems = r.kept } → f ≡ r.repeats → r.places ≡ Some ps → IsWritten t keys nodes rt b key at q p es
     → get (with_value (with_value nodes key q) at p) key ≡ Some u → v ≡ record u { kept = kept.elems; mark = true; repeats = f; places = or_known (Some ps) u.places }
     → IsPutBack t keys (with_value (with_value (with_value nodes key q) at p) key v) m rt es
 put_back t keys nodes m rt b key at r q p u v es kept f ps e i l h g ek ef ep w d c =
     let same : r ≡ row_at t b = node_is t keys nodes b key r e i.0 h g in
     let out : Slab Row = with_value (with_value nodes key q) at p in
-    let rows : rows_of (with_value out key v) keys.entries ≡ each (kept_in rt es) t =
+    let rows : rows_of (with_value out key v) keys ≡ each (kept_in rt es) t =
     changed_one (fill_in b kept.elems f (Some ps)) (each (kept_in rt es) (each (lift_in b) t)) keys out b key u v w.rows w.table h d (c ∙ fill_here b kept.elems f (Some ps) u) (fill_others b kept.elems f (Some ps))
     ∙ lowered t rt b es kept.elems f ps (table_falls t keys nodes e i.0) (record {
       kept = ap (λ (x : Row). x.kept) (sym same) ∙ ap (λ (x : TypedElements). x.elems) (sym ek);

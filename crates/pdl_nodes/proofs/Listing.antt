@@ -6,13 +6,11 @@ use Rattle.std.proofs.lemmas.List.{drop_all, drop_more, get_or_default}
 use Rattle.std.proofs.lemmas.List.Sorted.{IsPermutation-swap_remove, list_any-IsPermutation}
 use Rattle.std.specs.List.{swap_remove}
 use Rattle.std.specs.Option.{IsSome}
-use Rattle.std.specs.Ordering.{nat_cmp}
-use Rattle.std.specs.BTreeMap.{BTreeMap}
-use Rattle.std.specs.BTreeMap.{get as key_at}
 use Rattle.slab.specs.Slab.{Slab, get, with_value}
 use Rattle.slab.specs.Slab.{Updates as Changes}
 use Rattle.slab.proofs.SlabLemmas.{Updates-with_value}
 use Rattle.pdl_world.specs.Swept.{holds}
+use Rattle.pdl_nodes.specs.Numbered.{value_at}
 use Rattle.pdl_nodes.specs.declared.marked.Marked.{Marked}
 use Rattle.pdl_nodes.specs.Row.{Row}
 use Rattle.pdl_nodes.specs.Rows.{Rows, row_at, has, each, NumbersBelow, Falls, other, without}
@@ -24,7 +22,7 @@ use Rattle.pdl_nodes.proofs.Finds.{same, differ, each_has, each_at, row_stays, h
 use Rattle.pdl_nodes.proofs.Marks.{each_live, each_id, each_each, marked_here, marked_others}
 
 -- another node under the same key
-pub table_one : (keys : BTreeMap ℕ ℕ) (nodes : Slab Row) (id key : ℕ) (q : Row) → IsTable keys nodes → key_at nat_cmp keys id ≡ Some key → IsTable keys (with_value nodes key q)
+pub table_one : (keys : List (ℕ × ℕ)) (nodes : Slab Row) (id key : ℕ) (q : Row) → IsTable keys nodes → value_at keys id ≡ Some key → IsTable keys (with_value nodes key q)
 table_one keys nodes id key q i h =
     let u : Changes nodes (with_value nodes key q) key (Some q) = Updates-with_value nodes key q (i.full id key h) in
     record {
@@ -56,9 +54,9 @@ pub listed_each : (f : ℕ → Row → Row) (t : Rows) (m : Marked) → IsCalm f
 listed_each f t m c a = listed_more f t m c.roots (λ v h k w l. a v h (c.marks v (row_at t v) k) w l)
 
 -- the table after one node was changed
-pub one_kept : (f : ℕ → Row → Row) (t : Rows) (keys : BTreeMap ℕ ℕ) (nodes : Slab Row) (m : Marked) (id key : ℕ) (q : Row) → rows_of nodes keys.entries ≡ t
-    → IsTable keys nodes × AreListed (rows_of nodes keys.entries) m → key_at nat_cmp keys id ≡ Some key
-    → rows_of (with_value nodes key q) keys.entries ≡ each f t → IsCalm f → IsTable keys (with_value nodes key q) × AreListed (rows_of (with_value nodes key q) keys.entries) m
+pub one_kept : (f : ℕ → Row → Row) (t : Rows) (keys : List (ℕ × ℕ)) (nodes : Slab Row) (m : Marked) (id key : ℕ) (q : Row) → rows_of nodes keys ≡ t
+    → IsTable keys nodes × AreListed (rows_of nodes keys) m → value_at keys id ≡ Some key
+    → rows_of (with_value nodes key q) keys ≡ each f t → IsCalm f → IsTable keys (with_value nodes key q) × AreListed (rows_of (with_value nodes key q) keys) m
 one_kept f t keys nodes m id key q e i h g c =
     let P : Rows → Type 0 = λ x. AreListed x m in
     (table_one keys nodes id key q i.0 h, subst P (sym g) (listed_each f t m c (subst P e i.1)))
@@ -177,19 +175,19 @@ marked_alone t m rt b s a i =
     ap (λ x. record (row_at t k) { mark = x }) (alone (eqb k b) (eqb rt k) (holds (listed m rt) k) (eqb (row_at t k).root rt) (row_at t k).mark (λ x h g. unlisted t m rt k (row_at t k).mark a i l refl x h g)))
 
 -- the table once what is listed, and the root, have lost their marks
-pub record IsUnmarked (t : Rows) (m : Marked) (keys : BTreeMap ℕ ℕ) (nodes : Slab Row) (rt b : ℕ) : Type 0 where
+pub record IsUnmarked (t : Rows) (m : Marked) (keys : List (ℕ × ℕ)) (nodes : Slab Row) (rt b : ℕ) : Type 0 where
   pub table : IsTable keys nodes
-  pub rows : rows_of nodes keys.entries ≡ each (unmark_in (rt ∷ []) rt b) (each (unmark_in (listed m rt) rt b) t)
+  pub rows : rows_of nodes keys ≡ each (unmark_in (rt ∷ []) rt b) (each (unmark_in (listed m rt) rt b) t)
 
-pub unmarked : (t : Rows) (m : Marked) (keys : BTreeMap ℕ ℕ) (nodes mid new : Slab Row) (rt b : ℕ) (vs : List ℕ) → rows_of nodes keys.entries ≡ t → vs ≡ listed m rt
-    → rows_of mid keys.entries ≡ each (unmark_in vs rt b) (rows_of nodes keys.entries) → rows_of new keys.entries ≡ each (unmark_in (rt ∷ []) rt b) (rows_of mid keys.entries) → IsTable keys new → IsUnmarked t m keys new rt b
+pub unmarked : (t : Rows) (m : Marked) (keys : List (ℕ × ℕ)) (nodes mid new : Slab Row) (rt b : ℕ) (vs : List ℕ) → rows_of nodes keys ≡ t → vs ≡ listed m rt
+    → rows_of mid keys ≡ each (unmark_in vs rt b) (rows_of nodes keys) → rows_of new keys ≡ each (unmark_in (rt ∷ []) rt b) (rows_of mid keys) → IsTable keys new → IsUnmarked t m keys new rt b
 unmarked t m keys nodes mid new rt b vs e v f g i = record {
   table = i;
-  rows = g ∙ ap (each (unmark_in (rt ∷ []) rt b)) (f ∙ ap (λ ws. each (unmark_in ws rt b) (rows_of nodes keys.entries)) v ∙ ap (each (unmark_in (listed m rt) rt b)) e);
+  rows = g ∙ ap (each (unmark_in (rt ∷ []) rt b)) (f ∙ ap (λ ws. each (unmark_in ws rt b) (rows_of nodes keys)) v ∙ ap (each (unmark_in (listed m rt) rt b)) e);
 }
 
 -- the base is as it was
-pub unmarked_base : (t : Rows) (m : Marked) (keys : BTreeMap ℕ ℕ) (nodes : Slab Row) (rt b key : ℕ) (r : Row) → IsUnmarked t m keys nodes rt b → has t b ≡ true → key_at nat_cmp keys b ≡ Some key → get nodes key ≡ Some r → r ≡ row_at t b
+pub unmarked_base : (t : Rows) (m : Marked) (keys : List (ℕ × ℕ)) (nodes : Slab Row) (rt b key : ℕ) (r : Row) → IsUnmarked t m keys nodes rt b → has t b ≡ true → value_at keys b ≡ Some key → get nodes key ≡ Some r → r ≡ row_at t b
 unmarked_base t m keys nodes rt b key r u l h g =
     let once : Rows = each (unmark_in (listed m rt) rt b) t in
     node_is (each (unmark_in (rt ∷ []) rt b) once) keys nodes b key r u.rows u.table h g
@@ -197,8 +195,8 @@ unmarked_base t m keys nodes rt b key r u l h g =
     ∙ each_at (unmark_in (listed m rt) rt b) t b l ∙ unmark_base (listed m rt) rt b (row_at t b)
 
 -- and once it is marked
-pub marked_rows : (t : Rows) (m : Marked) (keys : BTreeMap ℕ ℕ) (nodes : Slab Row) (rt b key : ℕ) (r q : Row) → IsUnmarked t m keys nodes rt b → Falls t → AreListed t m → has t rt ≡ true → key_at nat_cmp keys b ≡ Some key → get nodes key ≡ Some r
-    → q ≡ record r { mark = true } → rows_of (with_value nodes key q) keys.entries ≡ each (mark_in rt b) t
+pub marked_rows : (t : Rows) (m : Marked) (keys : List (ℕ × ℕ)) (nodes : Slab Row) (rt b key : ℕ) (r q : Row) → IsUnmarked t m keys nodes rt b → Falls t → AreListed t m → has t rt ≡ true → value_at keys b ≡ Some key → get nodes key ≡ Some r
+    → q ≡ record r { mark = true } → rows_of (with_value nodes key q) keys ≡ each (mark_in rt b) t
 marked_rows t m keys nodes rt b key r q u s a i h g c =
     changed_one (marked_in b) (each (unmark_in (rt ∷ []) rt b) (each (unmark_in (listed m rt) rt b) t)) keys nodes b key r q u.rows u.table h g (c ∙ marked_here b r) (marked_others b)
     ∙ marked_alone t m rt b s a i

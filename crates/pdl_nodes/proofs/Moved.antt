@@ -1,13 +1,11 @@
 -- Which views are listed as marked, where rows come to other roots.
 use Rattle.std.proofs.Common.{◌≡◌, ℕ, ℤ, true, false, List, Option, Some, inl, inr, refl, sym, ◌∙◌, ap, subst}
 use Rattle.std.proofs.lemmas.Bool.Decides.{eqb_tells}
-use Rattle.std.specs.Ordering.{nat_cmp}
-use Rattle.std.specs.BTreeMap.{BTreeMap}
-use Rattle.std.specs.BTreeMap.{get as key_at}
 use Rattle.slab.specs.Slab.{Slab, with_value}
 use Rattle.pdl_shape.specs.Triple.{Triple}
 use Rattle.pdl_world.specs.Swept.{holds}
 use Rattle.pdl_world.specs.Windows.{over}
+use Rattle.pdl_nodes.specs.Numbered.{value_at}
 use Rattle.pdl_nodes.specs.declared.marked.Marked.{Marked}
 use Rattle.pdl_nodes.specs.declared.origin.Origin.{Origin}
 use Rattle.pdl_nodes.specs.declared.origin.Origin.TheVariants.{Root, View}
@@ -53,9 +51,9 @@ listed_derived rs u t m a = listed_moved (derived_in rs u) t m (λ v h k w. elim
 ]) a
 
 -- the table after one node was changed
-pub one_listed : (f : ℕ → Row → Row) (t : Rows) (keys : BTreeMap ℕ ℕ) (nodes : Slab Row) (m : Marked) (id key : ℕ) (q : Row) → rows_of nodes keys.entries ≡ t
-    → IsTable keys nodes × AreListed (rows_of nodes keys.entries) m → key_at nat_cmp keys id ≡ Some key
-    → rows_of (with_value nodes key q) keys.entries ≡ each f t → (AreListed t m → AreListed (each f t) m) → IsTable keys (with_value nodes key q) × AreListed (rows_of (with_value nodes key q) keys.entries) m
+pub one_listed : (f : ℕ → Row → Row) (t : Rows) (keys : List (ℕ × ℕ)) (nodes : Slab Row) (m : Marked) (id key : ℕ) (q : Row) → rows_of nodes keys ≡ t
+    → IsTable keys nodes × AreListed (rows_of nodes keys) m → value_at keys id ≡ Some key
+    → rows_of (with_value nodes key q) keys ≡ each f t → (AreListed t m → AreListed (each f t) m) → IsTable keys (with_value nodes key q) × AreListed (rows_of (with_value nodes key q) keys) m
 one_listed f t keys nodes m id key q e i h g c =
     let P : Rows → Type 0 = λ x. AreListed x m in
     (table_one keys nodes id key q i.0 h, subst P (sym g) (c (subst P e i.1)))

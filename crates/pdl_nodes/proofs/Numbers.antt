@@ -222,6 +222,17 @@ module _ {V : Type 0} (l : List (ℕ × Option V)) (r : Rises l) (v : ℕ) where
     };
   }
 
+-- a number above the last goes to the end
+pub after_last : {V : Type 0} (l : List (ℕ × Option V)) (v i : ℕ) → Rises l → i + 1 ≡ length l → number_at l i < v → IsGap l v (length l)
+after_last l v i r e lt = record {
+  in_range = omega arith;
+  lower = λ j below. elim (leb_tells i j) [
+    | inl t ↦ (let same : number_at l i ≡ number_at l j = ap (number_at l) (omega (arith, t.1)) in omega arith)
+    | inr t ↦ (let b : number_at l j < number_at l i = rising l j i r t.1 (omega arith) in omega arith)
+  ];
+  higher = λ j le below. absurd (omega arith);
+}
+
 -- the first number
 abbrev pub first_of : {V : Type 0} → List (ℕ × V) → Option ℕ
 first_of [] = None

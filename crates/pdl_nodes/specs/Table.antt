@@ -1,9 +1,7 @@
--- A table as an ordered map from numbers to keys of a slab.
+-- A table as a list of numbers, in rising order, with their keys of a slab.
 use Rattle.std.specs.Prelude.{◌≡◌, ℕ, List, [], ◌∷◌, Option, Some, None}
-use Rattle.std.specs.Ordering.{nat_cmp}
-use Rattle.std.specs.BTreeMap.{BTreeMap, IsOrdered}
-use Rattle.std.specs.BTreeMap.{get as key_at}
 use Rattle.slab.specs.Slab.{Slab, get, ContainsKey}
+use Rattle.pdl_nodes.specs.Numbered.{Rises, value_at}
 use Rattle.pdl_nodes.specs.Row.{Row}
 use Rattle.pdl_nodes.specs.Rows.{Rows, no_row}
 
@@ -23,7 +21,7 @@ abbrev pub rows_of : Slab Row → List (ℕ × ℕ) → Rows
 rows_of s es = rows_onto [] s es
 
 -- each number has a node, and no two have the same
-pub record IsTable (keys : BTreeMap ℕ ℕ) (nodes : Slab Row) : Type 0 where
-  pub ordered : IsOrdered nat_cmp keys
-  pub full : (v k : ℕ) → key_at nat_cmp keys v ≡ Some k → ContainsKey nodes k
-  pub apart : (v u k : ℕ) → key_at nat_cmp keys v ≡ Some k → key_at nat_cmp keys u ≡ Some k → v ≡ u
+pub record IsTable (keys : List (ℕ × ℕ)) (nodes : Slab Row) : Type 0 where
+  pub ordered : Rises keys
+  pub full : (v k : ℕ) → value_at keys v ≡ Some k → ContainsKey nodes k
+  pub apart : (v u k : ℕ) → value_at keys v ≡ Some k → value_at keys u ≡ Some k → v ≡ u

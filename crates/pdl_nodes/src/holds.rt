@@ -65,10 +65,10 @@ impl Holds {
         ensures others { (v : ℕ) → v ≢ id → hold_at self.new v ≡ hold_at self.old v }
     {
         match self.by_number.get(id) {
-            Some(hold) => {
-                let Hold { count, going } = *hold;
-                let going = going + 1;
-                self.by_number.set(id, Hold { count, going });
+            Some(held) => {
+                let mut hold = *held;
+                hold.going += 1;
+                self.by_number.set(id, hold);
             }
             None => {}
         }
@@ -81,10 +81,10 @@ impl Holds {
         ensures others { (v : ℕ) → v ≢ id → hold_at self.new v ≡ hold_at self.old v }
     {
         match self.by_number.get(id) {
-            Some(hold) => {
-                let Hold { count, going } = *hold;
-                let going = going.saturating_sub(1);
-                self.by_number.set(id, Hold { count, going });
+            Some(held) => {
+                let mut hold = *held;
+                hold.going = hold.going.saturating_sub(1);
+                self.by_number.set(id, hold);
             }
             None => {}
         }
@@ -108,10 +108,10 @@ impl Holds {
         ensures others { (v : ℕ) → v ≢ id → hold_at self.new v ≡ hold_at self.old v }
     {
         match self.by_number.get(id) {
-            Some(hold) => {
-                let Hold { count, going } = *hold;
-                let count = count + 1;
-                self.by_number.set(id, Hold { count, going });
+            Some(held) => {
+                let mut hold = *held;
+                hold.count += 1;
+                self.by_number.set(id, hold);
             }
             None => {}
         }
@@ -124,10 +124,10 @@ impl Holds {
         ensures others { (v : ℕ) → v ≢ id → hold_at self.new v ≡ hold_at self.old v }
     {
         match self.by_number.get(id) {
-            Some(hold) => {
-                let Hold { count, going } = *hold;
-                let count = count - 1;
-                self.by_number.set(id, Hold { count, going });
+            Some(held) => {
+                let mut hold = *held;
+                hold.count -= 1;
+                self.by_number.set(id, hold);
             }
             None => {}
         }
@@ -137,7 +137,7 @@ impl Holds {
     fn is_last(&self, id: u64) -> bool
         ensures { result ≡ (count self.now id == 1) }
     {
-        match self.by_number.get(&id) {
+        match self.by_number.get(id) {
             Some(hold) => hold.count == 1,
             None => false,
         }

@@ -7,6 +7,7 @@ ghost use Rattle.pdl_nodes.specs.Rows.{each};
 ghost use Rattle.pdl_nodes.specs.Table.{rows_of, IsTable};
 
 use crate::node::Node;
+use crate::numbered::Numbered;
 use slab::Slab;
 use std::alloc::{AllocError, Global};
 use std::collections::BTreeMap;
@@ -155,7 +156,7 @@ fn keep_one(views: &mut Vec<u64>, id: u64)
 
 /// Takes the mark from a node of a root's family, if there is such a node and it isn't the base.
 pub fn unmark_one(
-    keys: &BTreeMap<u64, usize>,
+    keys: &Numbered<usize>,
     nodes: &mut Slab<Node>,
     id: u64,
     root: u64,
@@ -163,11 +164,11 @@ pub fn unmark_one(
 )
     requires { IsTable keys.now nodes.old }
     ensures table { IsTable keys.now nodes.new }
-    ensures rows { rows_of nodes.new keys.now.entries
-        ≡ each (unmark_in (id ∷ []) root base) (rows_of nodes.old keys.now.entries) }
+    ensures rows { rows_of nodes.new keys.now
+        ≡ each (unmark_in (id ∷ []) root base) (rows_of nodes.old keys.now) }
 {
     if id != base {
-        match keys.get(&id) {
+        match keys.get(id) {
             Some(key) => nodes[*key].unmark(root),
             None => {}
         }
@@ -176,7 +177,7 @@ pub fn unmark_one(
 
 /// Takes the mark from those nodes of a root's family that are among these, but for the base.
 pub fn unmark(
-    keys: &BTreeMap<u64, usize>,
+    keys: &Numbered<usize>,
     nodes: &mut Slab<Node>,
     views: &[u64],
     root: u64,
@@ -184,8 +185,8 @@ pub fn unmark(
 )
     requires { IsTable keys.now nodes.old }
     ensures table { IsTable keys.now nodes.new }
-    ensures rows { rows_of nodes.new keys.now.entries
-        ≡ each (unmark_in views.now root base) (rows_of nodes.old keys.now.entries) }
+    ensures rows { rows_of nodes.new keys.now
+        ≡ each (unmark_in views.now root base) (rows_of nodes.old keys.now) }
 {
     for id in views.iter() {
         unmark_one(keys, nodes, *id, root, base);

@@ -148,12 +148,23 @@ impl<V: Drop> Index<u64> for Numbered<V> {
     }
 }
 
-/// Where a number stands, or where it would go.
+/// Where a number stands, or where it would go. The last is looked at first, since new numbers go
+/// to the end and are asked for most.
 fn place<V>(entries: &[(u64, Option<V>)], id: u64) -> Result<usize, usize>
     requires { Rises entries.now }
     ensures found { IfOk result (IsPlace entries.now id) }
     ensures absent { IfErr result (IsGap entries.now id) }
 {
+    let count = entries.len();
+    if count > 0 {
+        let last = entries[count - 1].0;
+        if last == id {
+            return Ok(count - 1);
+        }
+        if last < id {
+            return Err(count);
+        }
+    }
     entries.binary_search_by_key(&id, |entry| entry.0)
 }
 

@@ -1,7 +1,5 @@
-//! Nodes by their numbers: a slab, and an ordered map that gives the slab's key of each number.
+//! Nodes by their numbers: a slab, and a list in rising order that gives the slab's key of each number.
 ghost use Rattle.std.specs.Prelude.{◌≡◌, ◌≢◌, ℕ, ◌+◌, ◌-◌, ◌<◌, ◌^◌, ◌∷◌, if◌then◌else◌, [], true, false, length, All, is_none, is_some, Some, None, OnOk, OnErr};
-ghost use Rattle.std.specs.Ordering.{nat_cmp};
-ghost use Rattle.std.specs.BTreeMap.{IsOrdered, Updates};
 ghost use Rattle.slab.specs.Slab.{HasRoomFor};
 ghost use Rattle.pdl_buf.specs.Window.{place_at};
 ghost use Rattle.pdl_elem.specs.Types.{InRange};
@@ -10,6 +8,7 @@ ghost use Rattle.pdl_shape.specs.Shape.{size_of};
 ghost use Rattle.pdl_world.specs.Cut.{has_views};
 ghost use Rattle.pdl_nodes.specs.Assigned.{put_all};
 ghost use Rattle.pdl_nodes.specs.Children.{children, noted, one_of};
+ghost use Rattle.pdl_nodes.specs.Numbered.{IsPut, Rises, value_at};
 ghost use Rattle.pdl_nodes.specs.Placed.{placed_by};
 ghost use Rattle.pdl_nodes.specs.Spots.{spots};
 ghost use Rattle.pdl_nodes.specs.Rows.{NumbersBelow, row_at, has, each, without};
@@ -22,20 +21,20 @@ ghost use Rattle.pdl_nodes.specs.Worlds.{shape};
 use crate::children::Children;
 use crate::marked::{Marked, unmark, unmark_one};
 use crate::node::{Lifted, Node};
+use crate::numbered::Numbered;
 use pdl_affine::{view_laws, window_laws};
 use pdl_buf::{Buf, Steps};
 use pdl_choice::Places;
 use pdl_shape::{Dims, Triple, shape_laws, triple_laws};
 use slab::Slab;
 use std::alloc::{AllocError, Global};
-use std::collections::BTreeMap;
 use std::marker::Model;
 use std::sync::ledger::Ledger;
 
 /// Nodes by their numbers.
 #[derive(Drop)]
 pub struct Table {
-    keys: BTreeMap<u64, usize>,
+    keys: Numbered<usize>,
     nodes: Slab<Node>,
     marked: Marked,
     children: Children,
@@ -49,36 +48,37 @@ impl Model for Table {
 
     ghost Value = { Rows };
 
-    ghost view = { λ t. rows_of t.nodes t.keys.entries };
+    ghost view = { λ t. rows_of t.nodes t.keys };
 
     ghost invariant = { λ t. (IsTable t.keys t.nodes ×
-        AreListed (rows_of t.nodes t.keys.entries) t.marked) ×
-        AreCounted (rows_of t.nodes t.keys.entries) t.children };
+        AreListed (rows_of t.nodes t.keys) t.marked) ×
+        AreCounted (rows_of t.nodes t.keys) t.children };
 }
 
 /// Keeps the key of a new number, and counts one view more of its parent, if it has one. A refusal
 /// changes neither.
 fn put_key(
-    keys: &mut BTreeMap<u64, usize>,
+    keys: &mut Numbered<usize>,
     children: &mut Children,
     id: u64,
     key: usize,
     parent: Option<u64>,
 ) -> Result<(), AllocError>
-    requires { IsOrdered nat_cmp keys.old }
-    ensures ordered { IsOrdered nat_cmp keys.new }
-    ensures updates { OnOk result (Updates nat_cmp keys.old keys.new id (Some key)) }
+    requires ordered { Rises keys.old }
+    requires new { value_at keys.old id ≡ None }
+    ensures ordered { Rises keys.new }
+    ensures updates { OnOk result (IsPut keys.old keys.new id (Some key)) }
     ensures counted { OnOk result
         ((v : ℕ) → noted children.new v ≡ one_of parent v + noted children.old v) }
-    ensures kept { OnErr result (keys.new.entries ≡ keys.old.entries) }
+    ensures kept { OnErr result (keys.new ≡ keys.old) }
     ensures same { OnErr result ((v : ℕ) → noted children.new v ≡ noted children.old v) }
 {
     children.add(parent)?;
     match keys.insert(id, key) {
-        Ok(_) => Ok(()),
+        Ok(()) => Ok(()),
         Err(refused) => {
             children.take(parent);
-            Err(refused.into())
+            Err(refused)
         }
     }
 }
@@ -86,20 +86,21 @@ fn put_key(
 /// Makes room for one node more, and keeps its key under its number.
 fn make_room(
     nodes: &mut Slab<Node>,
-    keys: &mut BTreeMap<u64, usize>,
+    keys: &mut Numbered<usize>,
     children: &mut Children,
     id: u64,
     parent: Option<u64>,
 ) -> Result<(), AllocError>
-    requires { IsOrdered nat_cmp keys.old }
-    ensures ordered { IsOrdered nat_cmp keys.new }
+    requires ordered { Rises keys.old }
+    requires new { value_at keys.old id ≡ None }
+    ensures ordered { Rises keys.new }
     ensures room { OnOk result (HasRoomFor nodes.new 1) }
     ensures updates { OnOk result
-        (Updates nat_cmp keys.old keys.new id (Some nodes.new.vacant_key)) }
+        (IsPut keys.old keys.new id (Some nodes.new.vacant_key)) }
     ensures counted { OnOk result
         ((v : ℕ) → noted children.new v ≡ one_of parent v + noted children.old v) }
     ensures rest { nodes.new ≡ record nodes.old { capacity = nodes.new.capacity } }
-    ensures kept { OnErr result (keys.new.entries ≡ keys.old.entries) }
+    ensures kept { OnErr result (keys.new ≡ keys.old) }
     ensures same { OnErr result ((v : ℕ) → noted children.new v ≡ noted children.old v) }
 {
     nodes.reserve(1)?;
@@ -113,7 +114,7 @@ impl Table {
         ensures { result ≡ [] }
     {
         Table {
-            keys: BTreeMap::new(alloc),
+            keys: Numbered::new(alloc),
             nodes: Slab::new(alloc),
             marked: Marked::new(alloc),
             children: Children::new(alloc),
@@ -125,7 +126,7 @@ impl Table {
         requires live { has self.now id ≡ true }
         ensures { result.now ≡ row_at self.now id }
     {
-        &self.nodes[self.keys[&id]]
+        &self.nodes[self.keys[id]]
     }
 
     /// The base of the node of this number: where that is the node itself it isn't looked up again.
@@ -171,9 +172,11 @@ impl Table {
         ensures rows { self.new ≡ without id self.old }
         ensures parent { result ≡ parent_of (row_at self.old id) }
     {
-        let Some(key) = self.keys.remove(&id) else {
+        let Some(found) = self.keys.get(id) else {
             return None;
         };
+        let key = *found;
+        self.keys.remove(id);
         let node = self.nodes.remove(key);
         let root = node.root();
         let parent = node.parent();
@@ -206,11 +209,11 @@ impl Table {
             (row_at self.old root).kept)) self.old }
         ensures counted { steps.new ≡ steps.old + size_of (row_at self.old id).triple.dims }
     {
-        let key = self.keys[&id];
+        let key = self.keys[id];
         let node = &self.nodes[key];
         let repeats = node.repeats();
         let Lifted { kept, places } = self.nodes[key].lift();
-        let at = self.keys[&root];
+        let at = self.keys[root];
         self.nodes[at].write(places.as_slice(), &kept, steps);
         self.nodes[key].fill(kept, repeats, Some(places));
     }
@@ -232,7 +235,7 @@ impl Table {
             (row_at self.old root).kept)) self.old }
         ensures counted { steps.new ≡ steps.old + length values.now }
     {
-        let key = self.keys[&root];
+        let key = self.keys[root];
         self.nodes[key].put_over(&None, triple, values, steps);
     }
 
@@ -247,7 +250,7 @@ impl Table {
             values.now (row_at self.old id).kept)) self.old }
         ensures counted { steps.new ≡ steps.old + length values.now }
     {
-        let key = self.keys[&id];
+        let key = self.keys[id];
         self.nodes[key].put_own(values, steps);
     }
 
@@ -270,11 +273,11 @@ impl Table {
             (row_at self.old root).kept)) self.old }
         ensures counted { steps.new ≡ steps.old + length values.now }
     {
-        let key = self.keys[&base];
+        let key = self.keys[base];
         let repeats = self.nodes[key].repeats();
         let Lifted { kept, places } = self.nodes[key].lift();
         let known = Some(places);
-        let at = self.keys[&root];
+        let at = self.keys[root];
         self.nodes[at].put_over(&known, triple, values, steps);
         self.nodes[key].fill(kept, repeats, known);
     }
@@ -298,7 +301,7 @@ impl Table {
             values.now (row_at self.old id).kept)) self.old }
         ensures counted { steps.new ≡ steps.old + length values.now }
     {
-        let key = self.keys[&id];
+        let key = self.keys[id];
         self.nodes[key].put_through(triple, values, steps);
     }
 
@@ -307,7 +310,7 @@ impl Table {
         requires live { has self.old id ≡ true }
         ensures { self.new ≡ each (wait_in id waiting) self.old }
     {
-        let key = self.keys[&id];
+        let key = self.keys[id];
         self.nodes[key].set_waiting(waiting);
     }
 
@@ -326,7 +329,7 @@ impl Table {
         ensures ok { OnOk result (self.new ≡ each (fill_in id kept.elems repeats places) self.old) }
         ensures err { OnErr result (self.new ≡ self.old) }
     {
-        let key = self.keys[&id];
+        let key = self.keys[id];
         let root = self.nodes[key].root();
         self.marked.insert(alloc, root, id)?;
         self.nodes[key].fill(kept, repeats, places);
@@ -340,7 +343,7 @@ impl Table {
         requires buffered { is_buffered (row_at self.old id) ≡ true }
         ensures { self.new ≡ each (marked_in id) self.old }
     {
-        let key = self.keys[&id];
+        let key = self.keys[id];
         self.nodes[key].set_mark();
     }
 
@@ -376,7 +379,7 @@ impl Table {
         requires marked { base ≢ root → (row_at self.old base).mark ≡ true }
         ensures { self.new ≡ each (mark_in root base) self.old }
     {
-        let key = self.keys[&base];
+        let key = self.keys[base];
         unmark(
             &self.keys,
             &mut self.nodes,
@@ -393,10 +396,7 @@ impl Table {
     pub fn from(&self, id: u64) -> Option<u64>
         ensures { result ≡ from self.now id }
     {
-        match self.keys.range(id..).next() {
-            Some((first, _)) => Some(*first),
-            None => None,
-        }
+        self.keys.from(id)
     }
 
     /// Makes a node a root of these dimensions and elements.
@@ -405,7 +405,7 @@ impl Table {
         requires same_type { kept.ty ≡ (row_at self.old id).ty }
         ensures { self.new ≡ each (rooted_in id dims.now kept.elems) self.old }
     {
-        let key = self.keys[&id];
+        let key = self.keys[id];
         let node = &self.nodes[key];
         let parent = node.parent();
         self.nodes[key].become_root(alloc, id, dims, kept);
@@ -425,7 +425,7 @@ impl Table {
                 let root = above.root();
                 let base = above.base();
                 let over = node.over(alloc, above.triple());
-                let key = self.keys[&id];
+                let key = self.keys[id];
                 self.nodes[key].derive(alloc, id, root, base, over);
             }
             None => {}

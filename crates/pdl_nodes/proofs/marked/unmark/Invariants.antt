@@ -8,5 +8,5 @@ use Rattle.pdl_nodes.proofs.marked.unmark.Given as goal
 abbrev pub invariant-loop-id : goal.invariant-loop-id
 invariant-loop-id l = record {
   table : IsTable l.keys l.nodes;
-  left : each (unmark_in (drop l.id-index l.views) l.root l.base) (rows_of l.nodes l.keys.entries) ≡ each (unmark_in l.views l.root l.base) (rows_of l.fn.nodes l.keys.entries);
+  left : each (unmark_in (drop l.id-index l.views) l.root l.base) (rows_of l.nodes l.keys) ≡ each (unmark_in l.views l.root l.base) (rows_of l.fn.nodes l.keys);
 }

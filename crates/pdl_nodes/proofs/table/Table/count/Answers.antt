@@ -4,4 +4,4 @@ use Rattle.pdl_nodes.proofs.Counting.{length_rows}
 use Rattle.pdl_nodes.proofs.table.Table.count.Goals as goal
 
 pub returns : goal.returns
-returns c = c.len.ensures.len ∙ sym (length_rows c.self.inside.nodes c.self.inside.keys.entries) ∙ ap (λ (t : Rows). length t) c.self.view_is
+returns c = c.len.ensures ∙ sym (length_rows c.self.inside.nodes c.self.inside.keys) ∙ ap (λ (t : Rows). length t) c.self.view_is

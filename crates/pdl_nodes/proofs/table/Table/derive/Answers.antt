@@ -43,5 +43,5 @@ invariant_of-self c =
       one_listed (derived_in c.args.self.now c.args.id) c.args.self.now c.self.inside.keys c.self.inside.nodes c.self.inside.marked c.args.id c.index-key.result.now c.derive.new.self c.self.view_is c.self.invariant.0 c.index-key.ensures
           e
           (listed_derived c.args.self.now c.args.id c.args.self.now c.self.inside.marked),
-      counted_each (derived_in c.args.self.now c.args.id) c.args.self.now (rows_of c.self.inside.nodes c.self.inside.keys.entries) _ c.self.inside.children c.self.view_is e (derived_parent c.args.self.now c.args.id) c.self.invariant.1,
+      counted_each (derived_in c.args.self.now c.args.id) c.args.self.now (rows_of c.self.inside.nodes c.self.inside.keys) _ c.self.inside.children c.self.view_is e (derived_parent c.args.self.now c.args.id) c.self.invariant.1,
     )

@@ -26,5 +26,5 @@ invariant_of-self c =
         subst (λ (t : Rows). AreListed t c.keep.new.self) (sym e)
             (listed_alone c.args.self.now c.self.inside.marked c.keep.new.self c.args.root c.args.base (subst (λ (t : Rows). AreListed t c.self.inside.marked) c.self.view_is c.self.invariant.0.1) c.requires.family c.requires.live c.requires.marked c.keep.ensures.kept c.keep.ensures.others),
       ),
-      counted_each (mark_in c.args.root c.args.base) c.args.self.now (rows_of c.self.inside.nodes c.self.inside.keys.entries) _ c.self.inside.children c.self.view_is e (λ k r. refl) c.self.invariant.1,
+      counted_each (mark_in c.args.root c.args.base) c.args.self.now (rows_of c.self.inside.nodes c.self.inside.keys) _ c.self.inside.children c.self.view_is e (λ k r. refl) c.self.invariant.1,
     )

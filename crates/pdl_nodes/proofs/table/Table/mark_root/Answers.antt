@@ -22,10 +22,10 @@ returns c = changed_one (marked_in c.args.id) c.args.self.now c.self.inside.keys
 
 pub invariant_of-self : goal.invariant_of-self
 invariant_of-self c =
-    let e : rows_of (with_value c.self.inside.nodes c.index-key.result.now c.set_mark.new.self) c.self.inside.keys.entries ≡ each (marked_in c.args.id) c.args.self.now = changed_one (marked_in c.args.id) c.args.self.now c.self.inside.keys c.self.inside.nodes c.args.id c.index-key.result.now c.index_mut.result.now c.set_mark.new.self c.self.view_is c.self.invariant.0.0 c.index-key.ensures c.index_mut.ensures.value (c.set_mark.ensures ∙ marked_here c.args.id c.index_mut.result.now) (marked_others c.args.id) in (
+    let e : rows_of (with_value c.self.inside.nodes c.index-key.result.now c.set_mark.new.self) c.self.inside.keys ≡ each (marked_in c.args.id) c.args.self.now = changed_one (marked_in c.args.id) c.args.self.now c.self.inside.keys c.self.inside.nodes c.args.id c.index-key.result.now c.index_mut.result.now c.set_mark.new.self c.self.view_is c.self.invariant.0.0 c.index-key.ensures c.index_mut.ensures.value (c.set_mark.ensures ∙ marked_here c.args.id c.index_mut.result.now) (marked_others c.args.id) in (
       (
         table_one c.self.inside.keys c.self.inside.nodes c.args.id c.index-key.result.now c.set_mark.new.self c.self.invariant.0.0 c.index-key.ensures,
         subst (λ (t : Rows). AreListed t c.self.inside.marked) (sym e) (listed_root c.args.self.now c.self.inside.marked c.args.id c.requires.root (subst (λ (t : Rows). AreListed t c.self.inside.marked) c.self.view_is c.self.invariant.0.1)),
       ),
-      counted_each (marked_in c.args.id) c.args.self.now (rows_of c.self.inside.nodes c.self.inside.keys.entries) _ c.self.inside.children c.self.view_is e (λ k r. refl) c.self.invariant.1,
+      counted_each (marked_in c.args.id) c.args.self.now (rows_of c.self.inside.nodes c.self.inside.keys) _ c.self.inside.children c.self.view_is e (λ k r. refl) c.self.invariant.1,
     )

@@ -36,7 +36,7 @@ invariant_of-self g c =
     let b : IsPutBack c.args.self.now c.self.inside.keys _ c.self.inside.marked c.args.root (write c.as_slice.result.now c.lift-kept.result.kept.elems c.index_mut-2.result.now.kept) = put_back c.args.self.now c.self.inside.keys c.self.inside.nodes c.self.inside.marked c.args.root c.args.id c.index-key.result.now c.index-at.result.now c.index_mut.result.now c.lift-kept.new.self c.write.new.self c.index_mut-3.result.now c.fill.new.self (write c.as_slice.result.now c.lift-kept.result.kept.elems c.index_mut-2.result.now.kept) c.lift-kept.result.kept c.repeats-repeats.result c.lift-kept.result.places c.self.view_is c.self.invariant.0 c.requires.view c.index-key.ensures c.index_mut.ensures.value c.lift-kept.ensures.kept
     (c.repeats-repeats.ensures ∙ ap (λ (r : Row). r.repeats) (node_is c.args.self.now c.self.inside.keys c.self.inside.nodes c.args.id c.index-key.result.now c.index-node.result.now c.self.view_is c.self.invariant.0.0 c.index-key.ensures c.index-node.ensures) ∙ ap (λ (r : Row). r.repeats) (sym (node_is c.args.self.now c.self.inside.keys c.self.inside.nodes c.args.id c.index-key.result.now c.index_mut.result.now c.self.view_is c.self.invariant.0.0 c.index-key.ensures c.index_mut.ensures.value))) c.lift-kept.ensures.places
     (root_written c.args.self.now c.self.inside.keys c.self.inside.nodes c.args.root c.args.id c.index-key.result.now c.index-at.result.now c.index_mut.result.now c.lift-kept.new.self c.index_mut-2.result.now c.write.new.self (write c.as_slice.result.now c.lift-kept.result.kept.elems c.index_mut-2.result.now.kept) c.self.view_is c.self.invariant.0.0 c.index-key.ensures c.index_mut.ensures.value c.lift-kept.ensures.left c.index-at.ensures c.index_mut-2.ensures.value c.write.ensures.value) c.index_mut-3.ensures.value c.fill.ensures in
-    ((b.table, b.listed), counted_each (kept_in c.args.root (write c.as_slice.result.now c.lift-kept.result.kept.elems c.index_mut-2.result.now.kept)) c.args.self.now (rows_of c.self.inside.nodes c.self.inside.keys.entries) _ c.self.inside.children c.self.view_is b.rows (λ k r. refl) c.self.invariant.1)
+    ((b.table, b.listed), counted_each (kept_in c.args.root (write c.as_slice.result.now c.lift-kept.result.kept.elems c.index_mut-2.result.now.kept)) c.args.self.now (rows_of c.self.inside.nodes c.self.inside.keys) _ c.self.inside.children c.self.view_is b.rows (λ k r. refl) c.self.invariant.1)
 
 pub write-requires-clause-same_type : goal.write-requires-clause-same_type
 write-requires-clause-same_type g c = ap (λ (k : TypedElements). k.ty) c.lift-kept.ensures.kept ∙ ap (λ (r : Row). r.ty) (node_is c.args.self.now c.self.inside.keys c.self.inside.nodes c.args.id c.index-key.result.now c.index_mut.result.now c.self.view_is c.self.invariant.0.0 c.index-key.ensures c.index_mut.ensures.value) ∙ c.requires.view.same_type ∙ ap (λ (r : Row). r.ty) (sym (lifted_root c.args.self.now c.self.inside.keys c.self.inside.nodes c.args.root c.args.id c.index-key.result.now c.index-at.result.now c.index_mut.result.now c.lift-kept.new.self c.index_mut-2.result.now c.self.view_is c.self.invariant.0.0 c.requires.view c.index-key.ensures c.index_mut.ensures.value c.lift-kept.ensures.left c.index-at.ensures c.index_mut-2.ensures.value))

@@ -39,7 +39,7 @@ invariant_of-self g c =
     let b : IsPutBack c.args.self.now c.self.inside.keys _ c.self.inside.marked c.args.root (write (placed_by (Some c.lift-kept.result.places) c.args.triple.now) c.args.values.now c.index_mut-2.result.now.kept) = put_back c.args.self.now c.self.inside.keys c.self.inside.nodes c.self.inside.marked c.args.root c.args.base c.index-key.result.now c.index-at.result.now c.index_mut.result.now c.lift-kept.new.self c.put_over.new.self c.index_mut-3.result.now c.fill.new.self (write (placed_by (Some c.lift-kept.result.places) c.args.triple.now) c.args.values.now c.index_mut-2.result.now.kept) c.lift-kept.result.kept c.repeats-repeats.result c.lift-kept.result.places c.self.view_is c.self.invariant.0 c.requires.view c.index-key.ensures c.index_mut.ensures.value c.lift-kept.ensures.kept
     (c.repeats-repeats.ensures ∙ ap (λ (r : Row). r.repeats) (node_is c.args.self.now c.self.inside.keys c.self.inside.nodes c.args.base c.index-key.result.now c.index.result.now c.self.view_is c.self.invariant.0.0 c.index-key.ensures c.index.ensures) ∙ ap (λ (r : Row). r.repeats) (sym (node_is c.args.self.now c.self.inside.keys c.self.inside.nodes c.args.base c.index-key.result.now c.index_mut.result.now c.self.view_is c.self.invariant.0.0 c.index-key.ensures c.index_mut.ensures.value))) c.lift-kept.ensures.places
     (root_written c.args.self.now c.self.inside.keys c.self.inside.nodes c.args.root c.args.base c.index-key.result.now c.index-at.result.now c.index_mut.result.now c.lift-kept.new.self c.index_mut-2.result.now c.put_over.new.self (write (placed_by (Some c.lift-kept.result.places) c.args.triple.now) c.args.values.now c.index_mut-2.result.now.kept) c.self.view_is c.self.invariant.0.0 c.index-key.ensures c.index_mut.ensures.value c.lift-kept.ensures.left c.index-at.ensures c.index_mut-2.ensures.value c.put_over.ensures.value) c.index_mut-3.ensures.value c.fill.ensures in
-    ((b.table, b.listed), counted_each (kept_in c.args.root (write (placed_by (Some c.lift-kept.result.places) c.args.triple.now) c.args.values.now c.index_mut-2.result.now.kept)) c.args.self.now (rows_of c.self.inside.nodes c.self.inside.keys.entries) _ c.self.inside.children c.self.view_is b.rows (λ k r. refl) c.self.invariant.1)
+    ((b.table, b.listed), counted_each (kept_in c.args.root (write (placed_by (Some c.lift-kept.result.places) c.args.triple.now) c.args.values.now c.index_mut-2.result.now.kept)) c.args.self.now (rows_of c.self.inside.nodes c.self.inside.keys) _ c.self.inside.children c.self.view_is b.rows (λ k r. refl) c.self.invariant.1)
 
 pub put_over-requires-clause-in_range : goal.put_over-requires-clause-in_range
 put_over-requires-clause-in_range g c = subst (λ (r : Row). All (InRange r.ty) c.args.values.now) (sym (lifted_root c.args.self.now c.self.inside.keys c.self.inside.nodes c.args.root c.args.base c.index-key.result.now c.index-at.result.now c.index_mut.result.now c.lift-kept.new.self c.index_mut-2.result.now c.self.view_is c.self.invariant.0.0 c.requires.view c.index-key.ensures c.index_mut.ensures.value c.lift-kept.ensures.left c.index-at.ensures c.index_mut-2.ensures.value)) c.requires.in_range

@@ -34,5 +34,5 @@ invariant_of-self g c =
     let e = let same : c.index_mut.result.now ≡ row_at c.args.self.now c.args.id = node_is c.args.self.now c.self.inside.keys c.self.inside.nodes c.args.id c.index-key.result.now c.index_mut.result.now c.self.view_is c.self.invariant.0.0 c.index-key.ensures c.index_mut.ensures.value in
     changed_one (kept_in c.args.id (put_all (places_or (row_at c.args.self.now c.args.id).places) (spots c.args.triple.now) c.args.values.now (row_at c.args.self.now c.args.id).kept)) c.args.self.now c.self.inside.keys c.self.inside.nodes c.args.id c.index-key.result.now c.index_mut.result.now c.put_through.new.self c.self.view_is c.self.invariant.0.0 c.index-key.ensures c.index_mut.ensures.value (c.put_through.ensures.value ∙ ap (λ (x : Row). record c.index_mut.result.now { kept = put_all (places_or x.places) (spots c.args.triple.now) c.args.values.now x.kept }) same ∙ kept_here c.args.id (put_all (places_or (row_at c.args.self.now c.args.id).places) (spots c.args.triple.now) c.args.values.now (row_at c.args.self.now c.args.id).kept) c.index_mut.result.now) (kept_others c.args.id (put_all (places_or (row_at c.args.self.now c.args.id).places) (spots c.args.triple.now) c.args.values.now (row_at c.args.self.now c.args.id).kept)) in (
       one_kept (kept_in c.args.id (put_all (places_or (row_at c.args.self.now c.args.id).places) (spots c.args.triple.now) c.args.values.now (row_at c.args.self.now c.args.id).kept)) c.args.self.now c.self.inside.keys c.self.inside.nodes c.self.inside.marked c.args.id c.index-key.result.now c.put_through.new.self c.self.view_is c.self.invariant.0 c.index-key.ensures e (record { marks = λ v r h. h; roots = λ v r. refl }),
-      counted_each (kept_in c.args.id (put_all (places_or (row_at c.args.self.now c.args.id).places) (spots c.args.triple.now) c.args.values.now (row_at c.args.self.now c.args.id).kept)) c.args.self.now (rows_of c.self.inside.nodes c.self.inside.keys.entries) _ c.self.inside.children c.self.view_is e (λ k r. refl) c.self.invariant.1,
+      counted_each (kept_in c.args.id (put_all (places_or (row_at c.args.self.now c.args.id).places) (spots c.args.triple.now) c.args.values.now (row_at c.args.self.now c.args.id).kept)) c.args.self.now (rows_of c.self.inside.nodes c.self.inside.keys) _ c.self.inside.children c.self.view_is e (λ k r. refl) c.self.invariant.1,
     )
