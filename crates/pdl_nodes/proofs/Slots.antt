@@ -1,7 +1,6 @@
 -- The rows that a list of keys of a slab shows.
-use Rattle.std.proofs.Common.{◌≡◌, ℕ, ◌<◌, Bool, true, false, List, [], ◌∷◌, Option, Some, None, inl, inr, refl, sym, ◌∙◌, ap, subst, arith}
+use Rattle.std.proofs.Common.{◌≡◌, ℕ, Bool, true, false, List, [], ◌∷◌, Option, Some, None, inl, inr, refl, sym, ◌∙◌, ap, subst, arith}
 use Rattle.std.proofs.lemmas.Bool.Decides.{eqb_tells}
-use Rattle.std.specs.Option.{IsSome}
 use Rattle.slab.specs.Slab.{Slab}
 use Rattle.pdl_nodes.specs.Numbered.{AllAbove, Rises, value_at}
 use Rattle.pdl_nodes.specs.Row.{Row}

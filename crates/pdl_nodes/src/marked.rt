@@ -155,13 +155,7 @@ fn keep_one(views: &mut Vec<u64>, id: u64)
 }
 
 /// Takes the mark from a node of a root's family, if there is such a node and it isn't the base.
-pub fn unmark_one(
-    keys: &Numbered<usize>,
-    nodes: &mut Slab<Node>,
-    id: u64,
-    root: u64,
-    base: u64,
-)
+pub fn unmark_one(keys: &Numbered<usize>, nodes: &mut Slab<Node>, id: u64, root: u64, base: u64)
     requires { IsTable keys.now nodes.old }
     ensures table { IsTable keys.now nodes.new }
     ensures rows { rows_of nodes.new keys.now
@@ -176,13 +170,7 @@ pub fn unmark_one(
 }
 
 /// Takes the mark from those nodes of a root's family that are among these, but for the base.
-pub fn unmark(
-    keys: &Numbered<usize>,
-    nodes: &mut Slab<Node>,
-    views: &[u64],
-    root: u64,
-    base: u64,
-)
+pub fn unmark(keys: &Numbered<usize>, nodes: &mut Slab<Node>, views: &[u64], root: u64, base: u64)
     requires { IsTable keys.now nodes.old }
     ensures table { IsTable keys.now nodes.new }
     ensures rows { rows_of nodes.new keys.now

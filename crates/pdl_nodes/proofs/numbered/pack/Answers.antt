@@ -1,4 +1,4 @@
-use Rattle.std.proofs.Common.{rules, ◌≡◌, ◌∙◌, ap, sym, subst, filter, is_some}
+use Rattle.std.proofs.Common.{rules, ◌≡◌, ◌∙◌, ap, sym, subst, filter}
 use Rattle.std.proofs.lemmas.Fn.{filter_same}
 use Rattle.pdl_nodes.specs.Numbered.{Rises, filled}
 use Rattle.pdl_nodes.proofs.Numbers.{is_filled, rises_packed, filled_packed}

@@ -1,4 +1,4 @@
-use Rattle.std.proofs.Common.{◌≡◌, ◌≤◌, ◌<◌, ◌+◌, suc, ℕ, true, false, is_some, Some, None, drop, length, get_or, sym, ◌∙◌, ap, subst, arith, drop-cons, drop_of_length-le}
+use Rattle.std.proofs.Common.{◌≡◌, ◌≤◌, ◌<◌, ◌+◌, suc, true, false, is_some, Some, None, drop, length, get_or, sym, ◌∙◌, ap, subst, arith, drop-cons, drop_of_length-le}
 use Rattle.std.proofs.lemmas.List.{get_or_default}
 use Rattle.pdl_nodes.specs.Numbered.{IsGap, IsPlace, filled, first_from}
 use Rattle.pdl_nodes.proofs.Numbers.{first_empty, first_filled, first_of, from_gap, from_there}

@@ -1,4 +1,4 @@
-use Rattle.std.proofs.Common.{◌≡◌, ℕ, ◌+◌, ◌<◌, length, get_or, set, Some, None, sym, ◌∙◌, ap, subst, arith, length-set}
+use Rattle.std.proofs.Common.{◌≡◌, ◌+◌, length, get_or, set, Some, None, sym, ◌∙◌, ap, subst, arith}
 use Rattle.std.specs.List.{insert}
 use Rattle.pdl_nodes.specs.Numbered.{IsGap, IsPlace, IsPut, Rises, filled, value_at}
 use Rattle.pdl_nodes.proofs.Numbers.{filled_rises, length_filled, length_insert, length_set, one, put_insert, put_set, rises_insert, rises_set, value_there}

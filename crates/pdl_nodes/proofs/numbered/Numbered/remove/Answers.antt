@@ -1,4 +1,4 @@
-use Rattle.std.proofs.Common.{◌≡◌, ℕ, ◌+◌, ◌-◌, ◌<◌, length, get_or, set, true, is_some, Some, None, sym, ◌∙◌, ap, subst, arith}
+use Rattle.std.proofs.Common.{◌≡◌, ◌-◌, length, get_or, set, is_some, None, sym, ◌∙◌, ap, subst, arith}
 use Rattle.std.proofs.lemmas.List.{get_or_default}
 use Rattle.pdl_nodes.specs.Numbered.{IsGap, IsPlace, IsPut, Rises, filled, value_at}
 use Rattle.pdl_nodes.proofs.Numbers.{filled_rises, length_set, none_there, one, one_some, put_none, put_set, rises_set, value_in_gap, value_there}
@@ -60,7 +60,7 @@ returns-else-is_some-clause-put g c =
     let items = c.self.inside.entries.items in
     let p : IsPlace items c.args.id c.in-Ok.at = subst (λ l. IsPlace l c.args.id c.in-Ok.at) c.deref.ensures.value c.in-Ok.ensures.found in
     put_none c.args.self.now c.args.id (ap (λ es. value_at es c.args.id) (sym c.self.view_is) ∙ value_there items c.args.id c.in-Ok.at c.self.invariant.0 p
-        ∙ none_there _ (sym (ap (λ e. is_some e.1) (c.index.ensures ∙ get_or_default _ _ c.index.result.now (0, None) p.in_range)) ∙ sym c.is_some.ensures ∙ c.if-is_some.false))
+    ∙ none_there _ (sym (ap (λ e. is_some e.1) (c.index.ensures ∙ get_or_default _ _ c.index.result.now (0, None) p.in_range)) ∙ sym c.is_some.ensures ∙ c.if-is_some.false))
 
 pub returns-else-is_some-clause-rises : goal.returns-else-is_some-clause-rises
 returns-else-is_some-clause-rises g c = subst Rises c.self.view_is (filled_rises c.self.inside.entries.items c.self.invariant.0)

@@ -1,4 +1,4 @@
-use Rattle.std.proofs.Common.{◌≡◌, ℕ, ◌+◌, ◌<◌, length, get_or, set, true, false, is_some, Some, None, sym, ◌∙◌, ap, subst, arith}
+use Rattle.std.proofs.Common.{◌≡◌, get_or, set, true, false, is_some, Some, None, sym, ◌∙◌, ap, subst, arith}
 use Rattle.pdl_nodes.specs.Numbered.{IsGap, IsPlace, IsPut, Rises, filled, value_at}
 use Rattle.pdl_nodes.proofs.Numbers.{filled_rises, length_set, one, one_some, put_set, rises_set, value_in_gap, value_there}
 use Rattle.pdl_nodes.proofs.numbered.Numbered.set.Goals.{in-Some-1, in-None-1}
