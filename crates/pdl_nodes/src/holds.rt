@@ -147,7 +147,8 @@ impl Holds {
     pub fn take_out(&mut self, id: u64) -> bool
         requires { 0 < count self.old id }
         ensures last { result ≡ (count self.old id == 1) }
-        ensures here { hold_at self.new id ≡ if result then None else less_one (hold_at self.old id) }
+        ensures here { hold_at self.new id
+            ≡ if result then None else less_one (hold_at self.old id) }
         ensures others { (v : ℕ) → v ≢ id → hold_at self.new v ≡ hold_at self.old v }
     {
         if self.is_last(id) {

@@ -225,8 +225,8 @@ impl Node {
         }
     }
 
-    /// Puts values at the places of what is kept that its own triple shows, in order. It takes a step
-    /// for each value.
+    /// Puts values at the places of what is kept that its own triple shows, in order. It takes a
+    /// step for each value.
     pub fn put_own<L: Ledger>(&mut self, values: &[i64], steps: &mut Steps<L>)
         requires buffered { is_buffered self.old ≡ true }
         requires paired { length values.now ≡ size_of self.old.triple.dims }

@@ -1,6 +1,6 @@
-//! Letting go: what waits in views that go is written back, where their roots
-//! stay, and then what no held array reaches is removed (PDL::Dataflow). It goes over what goes alone:
-//! from the array that was released, and from those that a cut may have left loose, up.
+//! Letting go: what waits in views that go is written back, where their roots stay, and then what no
+//! held array reaches is removed (PDL::Dataflow). It goes over what goes alone: from the array that
+//! was released, and from those that a cut may have left loose, up.
 ghost use Rattle.std.specs.Prelude.{◌≡◌, ℕ, ◌+◌, ◌<◌, true, ◌∷◌, []};
 ghost use Rattle.pdl_world.specs.Swept.{holds as is_listed};
 ghost use Rattle.pdl_nodes.specs.Families.{InOrder};
@@ -49,8 +49,8 @@ fn going(table: &Table, holds: &Holds, root: u64) -> Option<u64>
     if holds.has(view) { None } else { Some(view) }
 }
 
-/// Writes back what waits in the family of an array and has no holds, where the root has. It takes a
-/// step for each element.
+/// Writes back what waits in the family of an array and has no holds, where the root has. It takes
+/// a step for each element.
 fn settle_going<L: Ledger>(table: &mut Table, holds: &Holds, id: u64, steps: &mut Steps<L>)
     requires order { InOrder table.old }
     requires known { AreKnown table.old }

@@ -246,8 +246,10 @@ impl Table {
         requires buffered { is_buffered (row_at self.old id) ≡ true }
         requires paired { length values.now ≡ size_of (row_at self.old id).triple.dims }
         requires in_range { All (InRange (row_at self.old id).ty) values.now }
-        ensures put { self.new ≡ each (kept_in id (write (placed_by None (row_at self.old id).triple)
-            values.now (row_at self.old id).kept)) self.old }
+        ensures put { self.new ≡ each (kept_in id (write
+            (placed_by None (row_at self.old id).triple)
+            values.now
+            (row_at self.old id).kept)) self.old }
         ensures counted { steps.new ≡ steps.old + length values.now }
     {
         let key = self.keys[id];
