@@ -1,11 +1,13 @@
 -- The names' map as the list of names.
-use Rattle.std.proofs.Common.{◌≡◌, ℕ, zero, suc, ◌≤◌, Bool, true, false, List, [], ◌∷◌, length, nat_eq, Option, Some, None, Ok, Err, Bor, refl, sym, ap, subst, ◌∙◌, arith}
-use Rattle.std.specs.Prelude.{map, IfSome, slice_get, Result, OnOk, OnErr, nat_lt, not, ◌&&◌, is_some, is_none, if◌then◌else◌}
+use Rattle.std.proofs.Common.{◌≡◌, ℕ, zero, suc, ◌+◌, ◌<◌, ◌≤◌, Bool, true, false, List, [], ◌∷◌, length, nat_eq, Option, Some, None, Ok, Err, Bor, refl, sym, ap, subst, ◌∙◌, arith}
+use Rattle.std.specs.Prelude.{map, position, IfSome, slice_get, Result, OnOk, OnErr, nat_lt, not, ◌&&◌, is_some, is_none, if◌then◌else◌}
 use Rattle.std.specs.Option.{option_copied}
 use Rattle.std.specs.Cmp.Lexicographic.{pointwise}
 use Rattle.std.proofs.lemmas.Bool.Decides.{nat_tests}
-use Rattle.std.specs.Map.{lookup}
-use Rattle.indexmap.specs.IndexMap.{insert_entry}
+use Rattle.std.specs.Map.{lookup, keys_of}
+use Rattle.indexmap.specs.IndexMap.{insert_entry, set_value_at}
+use Rattle.std.specs.List.{position_or_len}
+use Rattle.std.proofs.lemmas.List.{length-map}
 use Rattle.pdl_machine.specs.declared.fault.Fault.TheVariants.{TooManyNames}
 use Rattle.pdl_world.specs.World.{World}
 use Rattle.pdl_world.specs.Sound.{IsLive}
@@ -30,6 +32,60 @@ bind_free limit fault names new x y v full e h same ok =
     let n : new ≡ with_name names x v = ok ∙ ap (λ z. insert_entry (pointwise nat_eq) names z v) same ∙ name_inserted names x v in
     let b : entered limit fault names x v ≡ Ok (with_name names x v) = rw t refl in
     b ∙ ap Ok (sym n)
+
+pub none_told : {A : Type 0} (o : Option A) → false ≡ is_some o → None ≡ o
+none_told None h = refl
+none_told (Some a) h = absurd (cc)
+
+-- the first entry of a name is set where the name is bound
+set_first : {A : Type 0} (names : Named A) (x : List ℕ) (v : A) → position_or_len (pointwise nat_eq x) (keys_of names) < length names
+    → set_value_at names (position_or_len (pointwise nat_eq x) (keys_of names)) v ≡ with_name names x v
+set_first [] x v below = absurd (omega arith)
+set_first {A = A} (n ∷ names) x v below = by_name (pointwise nat_eq x n.0) (set_first names x v) below
+  where
+    rest : ℕ
+    rest = position_or_len (pointwise nat_eq x) (keys_of names)
+
+    by_name : (same : Bool) → (rest < length names → set_value_at names rest v ≡ with_name names x v) → (if not same then 1 + rest else 0) < suc (length names)
+        → set_value_at (n ∷ names) (if not same then 1 + rest else 0) v ≡ (if same then (n.0, v) ∷ names else n ∷ with_name names x v)
+    by_name true more b = refl
+    by_name false more b = let next : 1 + rest ≡ suc rest = omega arith in ap (λ k. set_value_at (n ∷ names) k v) next ∙ ap (λ ns. n ∷ ns) (more (omega arith))
+
+pub name_set : {A : Type 0} (names : Named A) (x : List ℕ) (i : ℕ) (v : A) → Some i ≡ position (pointwise nat_eq x) (keys_of names) → set_value_at names i v ≡ with_name names x v
+name_set {A = A} names x i v at = by_bound (nat_lt first (length (keys_of names))) refl at
+  where
+    first : ℕ
+    first = position_or_len (pointwise nat_eq x) (keys_of names)
+
+    by_bound : (within : Bool) → nat_lt first (length (keys_of names)) ≡ within → Some i ≡ (if within then Some first else None) → set_value_at names i v ≡ with_name names x v
+    by_bound true is e =
+        let same : i ≡ first = cc in
+        let l : length (keys_of names) ≡ length names = length-map names (λ e. e.0) in
+        let below : first < length names = grind (arith, nat_tests, is, l) in
+        ap (λ k. set_value_at names k v) same ∙ set_first names x v below
+    by_bound false is e = absurd (cc)
+
+-- a name that isn't bound is bound where there is room
+pub bind_unbound : {A : Type 0} (limit : ℕ) (fault : Fault) (names new : Named A) (x y : List ℕ) (v : A) → found names x ≡ None → length names < limit → y ≡ x → new ≡ insert_entry (pointwise nat_eq) names y v
+    → entered limit fault names x v ≡ Ok new
+bind_unbound limit fault names new x y v none few same ok =
+    let t : nat_lt (length names) limit ≡ true = grind (arith, nat_tests, few) in
+    let f : is_full_for limit names x ≡ false = rw (none, t) refl in
+    bind_free limit fault names new x y v false (sym f) refl same ok
+
+-- and else there is none
+pub unbound_refused : {A : Type 0} (limit : ℕ) (fault : Fault) (names : Named A) (x : List ℕ) (v : A) → found names x ≡ None → limit ≤ length names → entered limit fault names x v ≡ Err fault
+unbound_refused limit fault names x v none many =
+    let t : nat_lt (length names) limit ≡ false = grind (arith, nat_tests, many) in
+    let f : is_full_for limit names x ≡ true = rw (none, t) refl in
+    rw f refl
+
+-- a known name has room
+pub bind_known : {A : Type 0} (limit : ℕ) (fault : Fault) (names new : Named A) (x : List ℕ) (u v : A) → found names x ≡ Some u → new ≡ with_name names x v → entered limit fault names x v ≡ Ok new
+bind_known limit fault names new x u v some is =
+    let f : is_full_for limit names x ≡ false = rw some refl in
+    let b : entered limit fault names x v ≡ Ok (with_name names x v) = rw f refl in
+    b ∙ ap Ok (sym is)
 
 none_is : {A : Type 0} (o : Option A) → is_none o ≡ not (is_some o)
 none_is None = refl

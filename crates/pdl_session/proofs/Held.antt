@@ -22,7 +22,7 @@ use Rattle.pdl_machine.specs.Tidy.{tidy}
 use Rattle.pdl_session.specs.Scope.{state_in, names_in, times, IsHeld}
 use Rattle.pdl_session.proofs.Bindings.{live_bound, bound_is, whole_defined}
 use Rattle.pdl_session.proofs.Growing.{readied}
-use Rattle.pdl_session.specs.Holding.{HoldsMore, LetsGo}
+use Rattle.pdl_session.specs.Holding.{HoldsMore, IsHeldForName, LetsGo}
 
 by_test : {P : Type 0} (b : Bool) → (b ≡ true → P) → (b ≡ false → P) → P
 by_test true t f = t refl
@@ -342,20 +342,32 @@ names_times (n ∷ names) x v u = by_name (pointwise nat_eq x n.0) (names_times 
     by_name true rest = omega arith
     by_name false rest = omega arith
 
--- a name is bound to an array, which is held once more
-pub held_bound : (names : Named ℕ) (kernels : Named Kernel) (e : Engine) (x : List ℕ) (v : ℕ) (leaving : List ℕ) → IsHeld (state_in (names_in names kernels) e) e.holds leaving → IsLive e.world v
-    → length (with_name names x v) ≤ names_limit → IsHeld (state_in (names_in (with_name names x v) kernels) e) (one_more_at e.holds v) (leaving ++ option_to_list (found names x))
-held_bound names kernels e x v leaving h live few = record {
-  whole = record { sound = h.whole.sound; below = h.whole.below; live = live_bound e.world names x v h.whole.live live };
-  few = few;
-  keys = λ u. (ap (λ ks. holds ks u) (keys_more e.holds v) ∙ h.keys u);
-  counts = λ u. (let known : holds (keys e.holds) v ≡ true = h.keys v ∙ some_live e.world v live in
-      let c = count_more e.holds v u known in
-      let b = h.counts u in
-      let n = names_times names x v u in
-      let l = times_more leaving (option_to_list (found names x)) u in
-      omega arith);
-}
+-- a name is bound to an array, which is held for it
+pub held_bound : (names : Named ℕ) (kernels : Named Kernel) (e t : Engine) (x : List ℕ) (v : ℕ) (leaving left : List ℕ) → IsHeld (state_in (names_in names kernels) e) e.holds leaving → IsLive e.world v
+    → length (with_name names x v) ≤ names_limit → IsHeldForName e leaving v t left → IsHeld (state_in (names_in (with_name names x v) kernels) t) t.holds (left ++ option_to_list (found names x))
+held_bound names kernels e t x v leaving left h live few is = by_way is
+  where
+    gives_up : List ℕ
+    gives_up = option_to_list (found names x)
+
+    held_now : (hs : List (ℕ × ℕ)) → ((u : ℕ) → holds (keys hs) u ≡ holds (keys e.holds) u) → ((u : ℕ) → count_at hs u + times leaving u ≡ count_at e.holds u + times left u + one_if (v == u))
+        → IsHeld (state_in (names_in (with_name names x v) kernels) e) hs (left ++ gives_up)
+    held_now hs same more = record {
+      whole = record { sound = h.whole.sound; below = h.whole.below; live = live_bound e.world names x v h.whole.live live };
+      few = few;
+      keys = λ u. (same u ∙ h.keys u);
+      counts = λ u. (let c = more u in let b = h.counts u in let n = names_times names x v u in let l = times_more left gives_up u in omega arith);
+    }
+
+    by_way : IsHeldForName e leaving v t left → IsHeld (state_in (names_in (with_name names x v) kernels) t) t.holds (left ++ gives_up)
+    by_way (inl handed) =
+        let E : Engine → Type 0 = λ y. IsHeld (state_in (names_in (with_name names x v) kernels) y) y.holds (left ++ gives_up) in
+        let last : (u : ℕ) → times leaving u ≡ times left u + times (v ∷ []) u = λ u. ap (λ us. times us u) handed.1 ∙ times_more left (v ∷ []) u in
+        subst E (sym handed.0) (held_now e.holds (λ u. refl) (λ u. (let l = last u in omega arith)))
+    by_way (inr more) =
+        let E : Engine → Type 0 = λ y. IsHeld (state_in (names_in (with_name names x v) kernels) y) y.holds (left ++ gives_up) in
+        let known : holds (keys e.holds) v ≡ true = h.keys v ∙ some_live e.world v live in
+        subst E (sym more.0) (held_now (one_more_at e.holds v) (λ u. ap (λ ks. holds ks u) (keys_more e.holds v)) (λ u. (let c = count_more e.holds v u known in let l = ap (λ us. times us u) more.1 in omega arith)))
 
 -- there is room for one hold more
 pub room_for : (names : Named ℕ) (kernels : Named Kernel) (e : Engine) (leaving : List ℕ) (v : ℕ) → IsHeld (state_in (names_in names kernels) e) e.holds leaving → count_at e.holds v ≤ names_limit + length leaving

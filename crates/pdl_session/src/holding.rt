@@ -1,12 +1,12 @@
 //! How often a scope holds its arrays.
-ghost use Rattle.std.specs.Prelude.{◌≡◌, ℕ, ◌+◌, ◌<◌, ◌^◌, [], ◌∷◌, ◌++◌, length, map, true, vec_capacity, All};
+ghost use Rattle.std.specs.Prelude.{◌≡◌, ℕ, ◌+◌, ◌<◌, ◌≤◌, ◌^◌, [], ◌∷◌, ◌++◌, length, map, true, false, vec_capacity, All, IsTrue};
 ghost use Rattle.std.specs.Option.{option_to_list};
 ghost use Rattle.pdl_world.specs.Swept.{holds};
 ghost use Rattle.pdl_world.specs.Sound.{IsLive};
 ghost use Rattle.pdl_engine.specs.State.{count_at};
 ghost use Rattle.pdl_machine.specs.Names.{Names};
 ghost use Rattle.pdl_session.specs.Scope.{state_in, IsHeld};
-ghost use Rattle.pdl_session.specs.Holding.{HoldsMore, IsHeldBeside, LetsGo};
+ghost use Rattle.pdl_session.specs.Holding.{HoldsMore, IsHeldBeside, IsHeldForName, LetsGo};
 
 use pdl_buf::Steps;
 use pdl_engine::{ArrayId, Engine};
@@ -35,6 +35,34 @@ pub(crate) fn note_some(list: &mut Vec<ArrayId>, id: Option<ArrayId>)
     }
 }
 
+/// Takes an array off the end of a list, if it stands there.
+fn take_last(list: &mut Vec<ArrayId>, id: ArrayId) -> bool
+    ensures taken { IsTrue result → list.old.items ≡ list.new.items ++ id ∷ [] }
+    ensures kept { result ≡ false → list.new.items ≡ list.old.items }
+    ensures room { vec_capacity list.new ≡ vec_capacity list.old }
+{
+    if list.last().copied() == Some(id) {
+        list.pop();
+        true
+    } else {
+        false
+    }
+}
+
+/// Holds an array for a name. Where it stands last among those that leave, the name takes over the
+/// hold that it has there.
+pub(crate) fn hold_for_name(engine: &mut Engine, leaving: &mut Vec<ArrayId>, id: ArrayId)
+    requires live { IsLive engine.old.world id }
+    requires room { count_at engine.old.holds id < 2 ^ 63 }
+    ensures held { IsHeldForName engine.old leaving.old.items id engine.new leaving.new.items }
+    ensures few { length leaving.new.items ≤ length leaving.old.items }
+    ensures room { vec_capacity leaving.new ≡ vec_capacity leaving.old }
+{
+    if !take_last(leaving, id) {
+        engine.hold(id);
+    }
+}
+
 /// Holds each of these arrays once more.
 pub(crate) fn hold_all(engine: &mut Engine, ids: &[ArrayId])
     requires live { All (IsLive engine.old.world) ids.now }
@@ -47,8 +75,7 @@ pub(crate) fn hold_all(engine: &mut Engine, ids: &[ArrayId])
     }
 }
 
-/// Takes one hold back for each place in a list. That is unseen beside the names that hold the
-/// other ones.
+/// Takes one hold back for each place in a list. That is unseen where names hold all the others.
 pub(crate) fn release_all<L: Ledger>(engine: &mut Engine, leaving: &[ArrayId], steps: &mut Steps<L>)
     requires { IsHeldBeside engine.old leaving.now }
     ensures { (names : Names) → IsHeld (state_in names engine.old) engine.old.holds leaving.now →

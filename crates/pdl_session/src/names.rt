@@ -1,7 +1,7 @@
 //! The names that arrays are bound to.
-ghost use Rattle.std.specs.Prelude.{◌≡◌, ◌<◌, [], length, map, slice_get, Some, Ok, IfOk, IfErr, OnOk, OnErr};
+ghost use Rattle.std.specs.Prelude.{◌≡◌, ◌<◌, [], length, map, slice_get, Some, None, Ok, IfOk, IfErr, IfSome, IfNone, OnOk, OnErr};
 ghost use Rattle.pdl_machine.specs.declared.fault.Fault.TheVariants.{TooManyNames};
-ghost use Rattle.pdl_machine.specs.Names.{found, entered, is_full_for, names_limit};
+ghost use Rattle.pdl_machine.specs.Names.{found, entered, with_name, names_limit};
 ghost use Rattle.pdl_session.specs.Answers.{IsFault};
 
 use crate::fault::StepFault;
@@ -56,19 +56,57 @@ impl Names {
         self.arrays.get(name).copied()
     }
 
-    /// Binds a name to an array, with `TooManyNames` where it is new and 512 are bound.
-    pub fn bind(&mut self, name: &Name, id: ArrayId) -> Result<(), StepFault>
+    /// Binds a name to an array, with `TooManyNames` where it is new and 512 are bound. It answers
+    /// the array that a known name gives up.
+    pub fn bind(&mut self, name: &Name, id: ArrayId) -> Result<Option<ArrayId>, StepFault>
         ensures ok { let wanted = entered names_limit TooManyNames self.old name.now id in
             OnOk result (wanted ≡ Ok self.new) }
+        ensures given_up { IfOk result (λ had. had ≡ found self.old name.now) }
         ensures fault { let wanted = entered names_limit TooManyNames self.old name.now id in
             IfErr result (IsFault wanted) }
         ensures err { OnErr result (self.new ≡ self.old) }
     {
-        if self.is_full_for(name) {
+        match self.rebind(name, id) {
+            Some(had) => Ok(Some(had)),
+            None => self.bind_new(name, id),
+        }
+    }
+
+    /// Binds a known name to another array, and answers the one that it gives up.
+    fn rebind(&mut self, name: &Name, id: ArrayId) -> Option<ArrayId>
+        ensures given_up { result ≡ found self.old name.now }
+        ensures known { IfSome result (λ had. self.new ≡ with_name self.old name.now id) }
+        ensures unknown { IfNone result (self.new ≡ self.old) }
+    {
+        let index = match self.arrays.get_index_of(name) {
+            Some(index) => index,
+            None => return None,
+        };
+        match self.arrays.get_index_mut(index) {
+            Some(array) => {
+                let had = *array;
+                *array = id;
+                Some(had)
+            }
+            None => unreachable!(),
+        }
+    }
+
+    /// Binds a name that isn't bound, with `TooManyNames` where 512 are.
+    fn bind_new(&mut self, name: &Name, id: ArrayId) -> Result<Option<ArrayId>, StepFault>
+        requires { found self.old name.now ≡ None }
+        ensures ok { let wanted = entered names_limit TooManyNames self.old name.now id in
+            OnOk result (wanted ≡ Ok self.new) }
+        ensures given_up { IfOk result (λ had. had ≡ None) }
+        ensures fault { let wanted = entered names_limit TooManyNames self.old name.now id in
+            IfErr result (IsFault wanted) }
+        ensures err { OnErr result (self.new ≡ self.old) }
+    {
+        if self.arrays.len() >= MOST_NAMES {
             return Err(StepFault::Script(Fault::TooManyNames));
         }
         match self.arrays.insert(name.clone()?, id) {
-            Ok(_) => Ok(()),
+            Ok(_) => Ok(None),
             Err(_) => Err(StepFault::NoMemory),
         }
     }
@@ -83,13 +121,6 @@ impl Names {
             ids.push(id)?;
         }
         Ok(ids)
-    }
-
-    /// Whether there is no room for the name: it isn't bound, and 512 are.
-    fn is_full_for(&self, name: &Name) -> bool
-        ensures { result ≡ is_full_for names_limit self.now name.now }
-    {
-        self.arrays.len() >= MOST_NAMES && self.arrays.get(name).is_none()
     }
 
     /// How many names are bound.

@@ -21,7 +21,7 @@ ghost use Rattle.pdl_session.specs.Arguments.{all_seen_of, AreGivenLive};
 use crate::calling::kernel_outputs;
 use crate::fault::StepFault;
 use crate::given::Given;
-use crate::holding::{hold_all, note, note_some, release_all};
+use crate::holding::{hold_all, hold_for_name, note, note_some, release_all};
 use crate::kernels::Kernels;
 use crate::names::Names;
 use pdl_buf::{Elements, Made, Steps};
@@ -187,9 +187,8 @@ impl Scope {
             Runs wanted self.old self.new [] [] result }
     {
         self.leaving.reserve(1)?;
-        let had = self.names.get(name);
-        self.names.bind(name, id)?;
-        self.engine.hold(id);
+        let had = self.names.bind(name, id)?;
+        hold_for_name(&mut self.engine, &mut self.leaving, id);
         note_some(&mut self.leaving, had);
         Ok(())
     }
@@ -231,7 +230,8 @@ impl Scope {
         Ok(())
     }
 
-    /// Lets go of the arrays that no name reaches. That is unseen.
+    /// Takes back the holds that end with a statement, so that what no name reaches goes. The
+    /// clause says that this is unseen, and not that anything goes.
     pub fn let_go<L: Ledger>(&mut self, steps: &mut Steps<L>)
         ensures { tidy self.new ≡ tidy self.old }
     {
