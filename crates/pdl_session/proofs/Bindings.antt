@@ -73,20 +73,6 @@ bind_unbound limit fault names new x y v none few same ok =
     let f : is_full_for limit names x ≡ false = rw (none, t) refl in
     bind_free limit fault names new x y v false (sym f) refl same ok
 
--- and else there is none
-pub unbound_refused : {A : Type 0} (limit : ℕ) (fault : Fault) (names : Named A) (x : List ℕ) (v : A) → found names x ≡ None → limit ≤ length names → entered limit fault names x v ≡ Err fault
-unbound_refused limit fault names x v none many =
-    let t : nat_lt (length names) limit ≡ false = grind (arith, nat_tests, many) in
-    let f : is_full_for limit names x ≡ true = rw (none, t) refl in
-    rw f refl
-
--- a known name has room
-pub bind_known : {A : Type 0} (limit : ℕ) (fault : Fault) (names new : Named A) (x : List ℕ) (u v : A) → found names x ≡ Some u → new ≡ with_name names x v → entered limit fault names x v ≡ Ok new
-bind_known limit fault names new x u v some is =
-    let f : is_full_for limit names x ≡ false = rw some refl in
-    let b : entered limit fault names x v ≡ Ok (with_name names x v) = rw f refl in
-    b ∙ ap Ok (sym is)
-
 none_is : {A : Type 0} (o : Option A) → is_none o ≡ not (is_some o)
 none_is None = refl
 none_is (Some x) = refl
@@ -149,14 +135,6 @@ bound_is limit fault names new x v h = by_full (is_full_for limit names x) h
     by_full : (full : Bool) → (if full then Err fault else Ok (with_name names x v)) ≡ Ok new → new ≡ with_name names x v
     by_full true g = cc
     by_full false g = cc
-
--- a state is whole after a binding that was tried
-pub whole_bound : {T E : Type 0} (r : Result T E) (names after : Named ℕ) (kernels : Named Kernel) (e : Engine) (x : List ℕ) (v : ℕ) → IsWhole (state_in (names_in names kernels) e) → IsLive e.world v
-    → OnOk r (entered names_limit TooManyNames names x v ≡ Ok after) → OnErr r (after ≡ names) → IsWhole (state_in (names_in after kernels) e)
-whole_bound (Ok u) names after kernels e x v whole live ok err =
-    let P : Named ℕ → Type 0 = λ ns. IsWhole (state_in (names_in ns kernels) e) in
-    subst P (sym (bound_is names_limit TooManyNames names after x v ok)) (record { sound = whole.sound; below = whole.below; live = live_bound e.world names x v whole.live live })
-whole_bound (Err f) names after kernels e x v whole live ok err = let P : Named ℕ → Type 0 = λ ns. IsWhole (state_in (names_in ns kernels) e) in subst P (sym err) whole
 
 -- a state is whole with other kernels
 pub whole_defined : (names : Named ℕ) (kernels after : Named Kernel) (e : Engine) → IsWhole (state_in (names_in names kernels) e) → IsWhole (state_in (names_in names after) e)

@@ -26,10 +26,6 @@ value_among k a given b = and_then (or_fault UnknownFunction (callee_among b k))
 abbrev several_among : Option Kernel → ℕ → List Seen → Option Builtin → Result (List Made) Fault
 several_among k wanted seen b = and_then (or_fault UnknownFunction (callee_among b k)) (several wanted seen)
 
--- the name of a built-in call
-pub builtin_called : (names : Names) (f : List ℕ) (a : Arrays) (given : List Argument) (b : Builtin) → builtin_of f ≡ Some b → call_value names f a given ≡ builtin_value b a given
-builtin_called names f a given b is = ap (value_among (found names.kernels f) a given) is
-
 -- the name of a kernel, or of nothing
 pub kernel_called : (names : Names) (f : List ℕ) (a : Arrays) (given : List Given) → builtin_of f ≡ None
     → call_value names f a (arguments given) ≡ and_then (outputs_of names f 1 (all_seen_of a given)) (only_root a)
@@ -38,9 +34,6 @@ kernel_called names f a given none = ap (value_among (found names.kernels f) a (
     by_kernel : (k : Option Kernel) → value_among k a (arguments given) None ≡ and_then (and_then (or_fault UnknownFunction k) (λ k. kernel_outputs k 1 (all_seen_of a given))) (only_root a)
     by_kernel None = refl
     by_kernel (Some k) = ap (λ seen. and_then (kernel_outputs k 1 seen) (only_root a)) (seen_same a given)
-
-pub builtin_several : (names : Names) (f : List ℕ) (wanted : ℕ) (seen : List Seen) (b : Builtin) → builtin_of f ≡ Some b → and_then (callee_of names f) (several wanted seen) ≡ Err WrongArguments
-builtin_several names f wanted seen b is = ap (several_among (found names.kernels f) wanted seen) is
 
 pub kernel_several : (names : Names) (f : List ℕ) (wanted : ℕ) (seen : List Seen) → builtin_of f ≡ None → and_then (callee_of names f) (several wanted seen) ≡ outputs_of names f wanted seen
 kernel_several names f wanted seen none = ap (several_among (found names.kernels f) wanted seen) none ∙ by_kernel (found names.kernels f)

@@ -40,9 +40,6 @@ by_code s code = or_named kernel_fault (kernel_by s code)
 named_so : (f signature text : List ℕ) → can_name f ≡ true → defined f signature text ≡ by_signature text (signature_in signature)
 named_so f signature text named = ap (by_name (by_signature text (signature_in signature))) named
 
-pub not_named : (f signature text : List ℕ) → can_name f ≡ false → defined f signature text ≡ Err WrongArguments
-not_named f signature text named = ap (by_name (by_signature text (signature_in signature))) named
-
 pub signature_refused : (f signature text : List ℕ) (fault : SigFault) → can_name f ≡ true → TextsHaveOneMeaning → IsFaultOf signature fault → IsFault (defined f signature text) (of_signature fault)
 signature_refused f signature text BadText named means h = named_so f signature text named ∙ ap (by_signature text) ((means signature (Err BadText)).1 h)
 signature_refused f signature text TooManyNames named means h = named_so f signature text named ∙ ap (by_signature text) ((means signature (Err TooManyNames)).1 h)
@@ -66,13 +63,3 @@ code_refused f signature text s code.NoMemory named means signs h = tt
 
 pub kernel_read : (f signature text : List ℕ) (s : Signature) (k : Kernel) → can_name f ≡ true → TextsHaveOneMeaning → Signs s signature → kernel_in s text ≡ Ok k → defined f signature text ≡ Ok k
 kernel_read f signature text s k named means signs h = signed f signature text s named means signs ∙ ap (or_named kernel_fault) h
-
--- a definition, after its kernel came
-pub runs_defined : {T : Type 0} (r : Result T StepFault) (s new : State) (f name signature text : List ℕ) (k : Kernel) → defined f signature text ≡ Ok k → name ≡ f → Runs (kernel_named s name k) s new [] [] r
-    → Runs (effect s (pp_def f signature text)) s new [] [] r
-runs_defined r s new f name signature text k is same h =
-    let P : Stepped → Type 0 = λ x. Runs x s new [] [] r in
-    subst P (sym (ap (λ d. and_then d (kernel_named s f)) is ∙ ap (λ n. kernel_named s n k) (sym same))) h
-
-pub definition_refused : (s : State) (f signature text : List ℕ) (e : StepFault) → IsFault (defined f signature text) e → IsFault (effect s (pp_def f signature text)) e × IfScript e (IsKept s s [] [])
-definition_refused s f signature text e h = (first_fault (defined f signature text) (kernel_named s f) e h, kept_at e s s [] (grows_refl s))

@@ -1,8 +1,7 @@
 -- Lists that are gathered one item at a time, up to the first item that gives nothing.
 use Rattle.std.proofs.Common.{◌≡◌, ℕ, suc, ◌+◌, ◌<◌, ◌≤◌, List, [], ◌∷◌, ◌++◌, length, get_or, drop, Option, Some, None, refl, sym, ap, subst, ◌∙◌, arith, append_assoc}
-use Rattle.std.proofs.Math.Seq.{drop-cons}
 use Rattle.std.specs.Prelude.{option_map}
-use Rattle.std.proofs.lemmas.List.{append-nil, drop_all}
+use Rattle.std.proofs.lemmas.List.{append-nil, drop_all, drop_more}
 use Rattle.pdl_world.specs.World.{World}
 use Rattle.pdl_machine.specs.Arrays.{Arrays}
 use Rattle.pdl_machine.specs.Fills.{number_in}
@@ -24,11 +23,6 @@ moved_front found y (Some ms) =
     let e : (found ++ y ∷ []) ++ ms ≡ found ++ (y ∷ ms) = rw append_assoc refl in
     ap Some (sym e)
 
-drop_at : {X : Type 0} (xs : List X) (i : ℕ) (d : X) → i < length xs → drop i xs ≡ get_or xs i d ∷ drop (i + 1) xs
-drop_at xs i d h =
-    let s : suc i ≡ i + 1 = omega arith in
-    drop-cons xs i d h ∙ ap (λ n. get_or xs i d ∷ drop n xs) s
-
 -- before the first item
 pub front_none : {X Y : Type 0} (f : X → Option Y) (xs : List X) (found : List Y) → found ≡ [] → IsFront f xs 0 found
 front_none {X} {Y} f xs found e =
@@ -36,7 +30,7 @@ front_none {X} {Y} f xs found e =
     subst P (sym e) (same_front (all_of f xs))
 
 front_at : {X Y : Type 0} (f : X → Option Y) (xs : List X) (i : ℕ) (d : X) → i < length xs → all_of f (drop i xs) ≡ and_more (f (get_or xs i d)) (all_of f (drop (i + 1) xs))
-front_at f xs i d h = ap (all_of f) (drop_at xs i d h)
+front_at f xs i d h = ap (all_of f) (drop_more xs i d h)
 
 -- one more item
 pub front_more : {X Y : Type 0} (f : X → Option Y) (xs : List X) (found more : List Y) (i : ℕ) (d : X) (y : Y)
@@ -62,9 +56,3 @@ front_all {X} {Y} f xs found i h front =
 pub numbers_seen : (a : Arrays) (given : List Given) → all_of number_in (all_seen_of a given) ≡ all_of (λ g. number_in (seen_of a g)) given
 numbers_seen a [] = refl
 numbers_seen a (g ∷ given) = ap (and_more (number_in (seen_of a g))) (numbers_seen a given)
-
--- each argument can be looked at, and so can those after it
-pub live_at : (w : World) (given : List Given) (i : ℕ) (d : Given) → i < length given → AreGivenLive w (drop i given) → IsGivenLive w (get_or given i d) × AreGivenLive w (drop (i + 1) given)
-live_at w given i d h live =
-    let P : List Given → Type 0 = λ l. AreGivenLive w l in
-    subst P (drop_at given i d h) live

@@ -1,6 +1,6 @@
 -- States to which nothing but new arrays came.
 use Rattle.std.proofs.Common.{◌≡◌, ℕ, ℤ, ◌+◌, ◌≤◌, List, [], ◌∷◌, ◌++◌, append_assoc, Option, Result, Ok, Err, refl, sym, ap, subst, ◌∙◌, arith}
-use Rattle.std.specs.Prelude.{IsSomeAnd, IfOk, OnErr}
+use Rattle.std.specs.Prelude.{IsSomeAnd}
 use Rattle.pdl_world.specs.World.{World, ArrayDef, Look, assign}
 use Rattle.pdl_world.specs.Sound.{NumbersBelow, IsSound, IsLive}
 use Rattle.pdl_world.specs.Laws.{OlderStay, LooksStay, NumbersStay}
@@ -72,22 +72,12 @@ joins e t d id j =
     ap (λ w. numbered w (e.next + 1) e.next) (sym (j.world ∙ ap (λ k. (k, d) ∷ e.world) j.number)) ∙ ap (λ n. numbered t.world n e.next) (sym j.next)
     ∙ ap (numbered t.world t.next) (sym j.number)
 
--- what is left of a call that makes an array, or makes none
-pub record IsTried (names : Names) (e t : Engine) : Type 0 where
-  pub whole : IsWhole (state_in names t)
-  pub grown : Grows (state_in names e) (state_in names t)
-
-pub tried : {E : Type 0} (r : Result ℕ E) → OlderStay → (names : Names) (e t : Engine) (d : ArrayDef) → IsWhole (state_in names e)
-    → IfOk r (λ id. Joins e id d t) → OnErr r (t ≡ e) → IsSound t.world → IsTried names e t
-tried (Ok id) older names e t d whole is err sound =
+-- a new array of the engine came
+pub came : OlderStay → (names : Names) (e t : Engine) (d : ArrayDef) (id : ℕ) → IsWhole (state_in names e) → Joins e id d t → IsSound t.world → IsJoined names (arrays_of e) (arrays_of t, id)
+came older names e t d id whole is sound =
     let S : Arrays × ℕ → Type 0 = λ p. IsSound p.0.world in
     let j : with_new (arrays_of e) d ≡ (arrays_of t, id) = joins e t d id is in
-    let h : IsJoined names (arrays_of e) (arrays_of t, id) =
-    subst (λ (p : Arrays × ℕ). IsJoined names (arrays_of e) p) j (joined older names (arrays_of e) d whole (subst S (sym j) sound)) in
-    record { whole = h.whole; grown = h.grown }
-tried (Err f) older names e t d whole is err sound =
-    let P : Engine → Type 0 = λ x. IsTried names e x in
-    subst P (sym err) (record { whole = whole; grown = grows_refl (state_in names e) })
+    subst (λ (p : Arrays × ℕ). IsJoined names (arrays_of e) p) j (joined older names (arrays_of e) d whole (subst S (sym j) sound))
 
 -- arrays that may be lent now are the same arrays
 pub readied : (names : Names) (e t : Engine) → SameArrays e t → state_in names t ≡ state_in names e

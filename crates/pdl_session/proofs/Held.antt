@@ -1,16 +1,16 @@
 -- How often arrays are held.
-use Rattle.std.proofs.Common.{◌≡◌, ℕ, ℤ, zero, suc, ◌+◌, ◌-◌, ◌^◌, ◌<◌, ◌≤◌, Bool, true, false, List, [], ◌∷◌, ◌++◌, length, map, take, drop, get_or, Option, Some, None, inl, inr, refl, sym, ap, subst, ◌∙◌, arith, eqb-true, eq-eqb}
+use Rattle.std.proofs.Common.{◌≡◌, ℕ, ℤ, zero, suc, ◌+◌, ◌-◌, ◌^◌, ◌<◌, ◌≤◌, Bool, true, false, List, [], ◌∷◌, ◌++◌, length, map, take, drop, get_or, min, Option, Some, None, inl, inr, refl, sym, ap, subst, ◌∙◌, arith, eqb-true, eq-eqb}
 use Rattle.std.specs.Prelude.{◌==◌, if◌then◌else◌, IsSomeAnd, is_some, is_none, not, nat_lt, nat_eq, slice_get, All, Ok, Err}
 use Rattle.std.specs.Cmp.Lexicographic.{pointwise}
 use Rattle.std.specs.Option.{option_to_list}
-use Rattle.std.proofs.lemmas.List.{drop_more, take_more, take_all}
+use Rattle.std.proofs.lemmas.List.{drop_all, drop_more, length-take, map-append, take_more, take_all}
 use Rattle.std.proofs.lemmas.Bool.{cases_lt}
 use Rattle.std.proofs.lemmas.Bool.Decides.{nat_tests}
 use Rattle.pdl_world.specs.World.{World, ArrayDef, Look, root, view, look, assign}
 use Rattle.pdl_world.specs.Sound.{NumbersBelow, IsSound, IsAllowed, IsLive}
 use Rattle.pdl_world.specs.Swept.{holds, sweep, Has, IsReached, held_itself}
 use Rattle.pdl_world.specs.SweepLaws.{KeptWereReached, ReachedAreSeenAsBefore, NoNumberComes}
-use Rattle.pdl_world.specs.Laws.{LooksStay, NewIsLive}
+use Rattle.pdl_world.specs.Laws.{LooksStay, NewIsLive, OlderStay}
 use Rattle.pdl_nodes.specs.Staying.{staying}
 use Rattle.pdl_engine.specs.State.{State as Engine, Joins, SameArrays, count_at, one_more_at, one_less_at, held_among, holds_left, IsReleased}
 use Rattle.pdl_machine.specs.Names.{Named, Names, found, with_name, is_full_for, entered, names_limit}
@@ -21,7 +21,8 @@ use Rattle.pdl_machine.specs.State.{State, held, AreLive, IsWhole}
 use Rattle.pdl_machine.specs.Tidy.{tidy}
 use Rattle.pdl_session.specs.Scope.{state_in, names_in, times, IsHeld}
 use Rattle.pdl_session.proofs.Bindings.{live_bound, bound_is, whole_defined}
-use Rattle.pdl_session.proofs.Growing.{readied}
+use Rattle.pdl_session.proofs.Growing.{came, readied}
+use Rattle.pdl_session.proofs.Printing.{take_entry}
 use Rattle.pdl_session.specs.Holding.{HoldsMore, IsHeldForName, LetsGo}
 
 by_test : {P : Type 0} (b : Bool) → (b ≡ true → P) → (b ≡ false → P) → P
@@ -212,16 +213,17 @@ counted_known : (hs : List (ℕ × ℕ)) (v : ℕ) → 0 < count_at hs v → hol
 counted_known hs v some = by_test (holds (keys hs) v) (λ t. t) (λ f. absurd (let none = uncounted hs v f in omega arith))
 
 -- a new array is noted
-pub held_new : NewIsLive → (names : Names) (e t : Engine) (d : ArrayDef) (id : ℕ) (leaving : List ℕ) → IsHeld (state_in names e) e.holds leaving → Joins e id d t → IsSound t.world → IsWhole (state_in names t)
-    → IsHeld (state_in names t) t.holds (leaving ++ id ∷ [])
-held_new new_live names e t d id leaving h j sound whole = record {
-  whole = whole;
+pub held_new : OlderStay → NewIsLive → (names : Names) (e t : Engine) (d : ArrayDef) (id : ℕ) (leaving left : List ℕ) → IsHeld (state_in names e) e.holds leaving → Joins e id d t → IsSound t.world → left ≡ leaving ++ id ∷ []
+    → IsHeld (state_in names t) t.holds left
+held_new older new_live names e t d id leaving left h j sound noted = record {
+  whole = (came older names e t d id h.whole j sound).whole;
   few = h.few;
   keys = λ v. (let K : List (ℕ × ℕ) → Type 0 = λ hs. holds (keys hs) v ≡ is_some (look t.world v) in
       let W : World → Type 0 = λ w. holds (keys ((id, 1) ∷ e.holds)) v ≡ is_some (look w v) in
       subst K (sym j.holds) (subst W (sym j.world) (key v)));
-  counts = λ v. (let C : List (ℕ × ℕ) → Type 0 = λ hs. count_at hs v ≡ times (numbers names.arrays) v + times (leaving ++ id ∷ []) v in
-      subst C (sym j.holds) (count v));
+  counts = λ v. (let C : List (ℕ × ℕ) → Type 0 = λ hs. count_at hs v ≡ times (numbers names.arrays) v + times left v in
+      let L : List ℕ → Type 0 = λ vs. count_at ((id, 1) ∷ e.holds) v ≡ times (numbers names.arrays) v + times vs v in
+      subst C (sym j.holds) (subst L (sym noted) (count v)));
 }
   where
     joined : IsSound ((id, d) ∷ e.world)
@@ -397,31 +399,22 @@ held_renamed names after kernels e t leaving h live few more = record {
 pub lets_go_refl : (names : Names) (e : Engine) (vs : List ℕ) → IsHeld (state_in names e) e.holds vs → LetsGo names e e (drop 0 vs)
 lets_go_refl names e vs h = record { is_held = h; unseen = refl }
 
-next_is : (vs : List ℕ) (i : ℕ) → i < length vs → drop i vs ≡ get_or vs i 0 ∷ drop (i + 1) vs
-next_is vs i lt = drop_more vs i 0 lt
-
 -- the next one is held
 pub next_counted : (old e : Engine) (vs : List ℕ) (i : ℕ) (names : Names) → i < length vs → LetsGo names old e (drop i vs) → 0 < count_at e.holds (get_or vs i 0)
 next_counted old e vs i names lt l =
     let P : List ℕ → Type 0 = λ us. IsHeld (state_in names e) e.holds us in
-    first_counted (state_in names e) e.holds (get_or vs i 0) (drop (i + 1) vs) (subst P (next_is vs i lt) l.is_held)
+    first_counted (state_in names e) e.holds (get_or vs i 0) (drop (i + 1) vs) (subst P (drop_more vs i 0 lt) l.is_held)
 
 -- and is let go
 pub lets_go_more : KeptWereReached → ReachedAreSeenAsBefore → NoNumberComes → LettingGoUnseen → (names : Names) (old e t : Engine) (vs : List ℕ) (i : ℕ) → i < length vs → LetsGo names old e (drop i vs)
     → IsReleased e (get_or vs i 0) t → IsSound t.world → LetsGo names old t (drop (i + 1) vs)
 lets_go_more kept reached numbered gone names old e t vs i lt l r sound =
     let P : List ℕ → Type 0 = λ us. IsHeld (state_in names e) e.holds us in
-    let one : LetsGo names e t (drop (i + 1) vs) = let_go_one kept reached numbered gone names e t (get_or vs i 0) (drop (i + 1) vs) (subst P (next_is vs i lt) l.is_held) r sound in
+    let one : LetsGo names e t (drop (i + 1) vs) = let_go_one kept reached numbered gone names e t (get_or vs i 0) (drop (i + 1) vs) (subst P (drop_more vs i 0 lt) l.is_held) r sound in
     record { is_held = one.is_held; unseen = one.unseen ∙ l.unseen }
 
 pub all_let_go : (names : Names) (old e : Engine) (vs : List ℕ) (i : ℕ) → length vs ≤ i → LetsGo names old e (drop i vs) → LetsGo names old e []
-all_let_go names old e vs i past l = let P : List ℕ → Type 0 = λ us. LetsGo names old e us in subst P (none_left vs i past) l
-  where
-    none_left : (vs : List ℕ) (i : ℕ) → length vs ≤ i → drop i vs ≡ []
-    none_left [] zero past = refl
-    none_left [] (suc i) past = refl
-    none_left (v ∷ vs) zero past = absurd (omega arith)
-    none_left (v ∷ vs) (suc i) past = none_left vs i (omega arith)
+all_let_go names old e vs i past l = let P : List ℕ → Type 0 = λ us. LetsGo names old e us in subst P (drop_all i vs past) l
 
 -- nothing is held more yet
 pub holds_more_refl : (e : Engine) (vs : List ℕ) → HoldsMore e (take 0 vs) e
@@ -459,14 +452,8 @@ room_more old e vs i lt h room =
     let c = h.counts v in
     let r : count_at old.holds v + length vs < 2 ^ 63 = room v in
     let f = times_few (take i vs) v in
-    let t : length (take i vs) ≤ length vs = taken vs i in
+    let t : length (take i vs) ≡ min i (length vs) = length-take i vs in
     omega arith
-  where
-    taken : (vs : List ℕ) (i : ℕ) → length (take i vs) ≤ length vs
-    taken [] zero = omega arith
-    taken [] (suc i) = omega arith
-    taken (v ∷ vs) zero = omega arith
-    taken (v ∷ vs) (suc i) = let rest = taken vs i in omega arith
 
 -- so many names are bound at most
 pub few_bound : (names after : Named ℕ) (x : List ℕ) (v : ℕ) → entered names_limit TooManyNames names x v ≡ Ok after → length names ≤ names_limit → length after ≤ names_limit
@@ -502,15 +489,7 @@ few_bound names after x v h few =
 
 -- the arrays of more names
 pub numbers_more : (names : Named ℕ) (i : ℕ) (x : List ℕ) (v : ℕ) → slice_get names i ≡ Some (x, v) → numbers (take (suc i) names) ≡ numbers (take i names) ++ v ∷ []
-numbers_more [] i x v h = cc
-numbers_more (n ∷ names) zero x v h =
-    let e : n ≡ (x, v) = entry_is n (x, v) h in
-    let P : List ℕ × ℕ → Type 0 = λ m. m.1 ∷ [] ≡ v ∷ [] in
-    subst P (sym e) refl
-  where
-    entry_is : (a b : List ℕ × ℕ) → Some a ≡ Some b → a ≡ b
-    entry_is a b h = cc
-numbers_more (n ∷ names) (suc i) x v h = ap (λ vs. n.1 ∷ vs) (numbers_more names i x v h)
+numbers_more names i x v h = ap numbers (take_entry names i (x, v) h) ∙ map-append (λ n. n.1) (take i names) ((x, v) ∷ [])
 
 pub numbers_all : (names : Named ℕ) (i : ℕ) → length names ≤ i → numbers (take i names) ≡ numbers names
 numbers_all names i past = ap numbers (take_all i names past)

@@ -2,8 +2,8 @@
 use Rattle.std.proofs.Common.{◌≡◌, ℕ, zero, suc, ◌+◌, ◌<◌, ◌≤◌, true, List, [], ◌∷◌, length, map, take, get_or, Option, Some, None, eq-eqb, Result, Ok, Err, refl, sym, ap, subst, ◌∙◌, arith}
 use Rattle.std.specs.Prelude.{◌==◌, All, IfSome, option_map, slice_get, Vec}
 use Rattle.std.specs.Global.{Global}
-use Rattle.std.proofs.lemmas.List.{map_more, take_all}
-use Rattle.std.proofs.lemmas.List.Elements.{All-more}
+use Rattle.std.proofs.lemmas.List.{length-map, length-take-le, map_more, take_all}
+use Rattle.std.proofs.lemmas.List.Elements.{All-cons, All-more}
 use Rattle.pdl_buf.specs.Window.{Window}
 use Rattle.pdl_buf.specs.declared.made.Made.{Made}
 use Rattle.pdl_engine.specs.State.{State as Engine, is_fresh, SameArrays, StayFresh, shown_in}
@@ -108,11 +108,6 @@ got_mapped f [] i d lt = absurd (omega arith)
 got_mapped f (x ∷ xs) zero d lt = refl
 got_mapped f (x ∷ xs) (suc i) d lt = got_mapped f xs i d (omega arith)
 
-taken_length : {A B : Type 0} (f : A → B) (xs : List A) (i : ℕ) → i ≤ length xs → length (map f (take i xs)) ≡ i
-taken_length f xs zero le = refl
-taken_length f [] (suc i) le = absurd (omega arith)
-taken_length f (x ∷ xs) (suc i) le = ap suc (taken_length f xs i (omega arith))
-
 -- a call with the first arguments given
 abbrev pub with_first : Run → Engine → List ℕ → ℕ → Run
 with_first r e ids i = record r { given = map (made_in e) (take i ids) }
@@ -125,7 +120,7 @@ next_is start now e ids i w lt is resolves shown =
     subst P (sym is) (subst Q (sym shown) (record {
       shapes = map (shape_in e) ids;
       resolves = resolves;
-      next = ap (slice_get (map (shape_in e) ids)) (taken_length (made_in e) ids i (omega arith)) ∙ got_mapped (shape_in e) ids i 0 lt;
+      next = ap (slice_get (map (shape_in e) ids)) (length-map (take i ids) (made_in e) ∙ length-take-le i ids (omega arith)) ∙ got_mapped (shape_in e) ids i 0 lt;
     }))
 
 pub given_more : (start now new : Run) (e : Engine) (ids : List ℕ) (i : ℕ) (w : Window) → i < length ids → now ≡ with_first start e ids i → w ≡ shown_in e (get_or ids i 0) → new ≡ with_next now w
@@ -133,11 +128,6 @@ pub given_more : (start now new : Run) (e : Engine) (ids : List ℕ) (i : ℕ) (
 given_more start now new e ids i w lt is shown next =
     next ∙ ap (λ r. with_next r w) is ∙ ap (with_next (with_first start e ids i)) shown
     ∙ ap (λ given. record start { given = given }) (sym (map_more (made_in e) ids i 0 lt))
-
--- a list of one more, whose items all have a property
-all_more : {A : Type 0} (P : A → Type 0) (x : A) (xs : List A) → P x → All P xs → All P (x ∷ xs)
-all_more P x xs here rest zero d lt = here
-all_more P x xs here rest (suc k) d lt = rest k d (omega arith)
 
 -- the arrays that arguments are can be looked at
 pub numbers_live : (w : World) (given : List Given) (ids : List ℕ) → AreGivenLive w given → all_of array_number given ≡ Some ids → All (IsLive w) ids
@@ -149,7 +139,7 @@ numbers_live w given ids live e = by_all (all_of array_number given) (each given
       where
         by_rest : (o : Option (List ℕ)) → IfSome o (All (IsLive w)) → IfSome (and_more (Some v) o) (All (IsLive w))
         by_rest None h = tt
-        by_rest (Some vs) h = all_more (IsLive w) v vs live.0 h
+        by_rest (Some vs) h = All-cons (IsLive w) v vs live.0 h
     each (Text t ∷ given) live = tt
     each (OfType ty ∷ given) live = tt
 

@@ -7,9 +7,8 @@ use Rattle.pdl_machine.specs.Names.{Named}
 use Rattle.pdl_machine.specs.Arrays.{Arrays}
 use Rattle.pdl_machine.specs.Step.{name_line}
 
--- the elements so far, and the next one
 -- the entries before a place, and the one there
-take_entry : {X : Type 0} (xs : List X) (i : ℕ) (x : X) → slice_get xs i ≡ Some x → take (suc i) xs ≡ take i xs ++ x ∷ []
+pub take_entry : {X : Type 0} (xs : List X) (i : ℕ) (x : X) → slice_get xs i ≡ Some x → take (suc i) xs ≡ take i xs ++ x ∷ []
 take_entry [] i x h = cc
 take_entry (y ∷ xs) zero x h = let e : y ≡ x = cc in ap (λ z. z ∷ []) e
 take_entry (y ∷ xs) (suc i) x h = ap (λ l. y ∷ l) (take_entry xs i x h)

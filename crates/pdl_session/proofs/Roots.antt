@@ -52,15 +52,6 @@ roots_more old s mid names after xs ms i x m id within there here it so_far made
     so_far ∙ left_is s names xs ms i x m within there here it
     ∙ ap (then_bound (drop (i + 1) xs) (drop (i + 1) ms)) (ap (by_value s names x) made ∙ ap (by_names s mid) free ∙ ap (by_kernels mid after) (sym g.names))
 
--- there is no such array
-pub root_refused : (old s : State) (names : Named ℕ) (xs : List (List ℕ)) (ms : List Made) (i : ℕ) (x : List ℕ) (m : Made) (e : StepFault) → i < length xs → i < length ms → x ≡ get_or xs i x → m ≡ get_or ms i m
-    → roots_bound old xs ms ≡ left s names xs ms i → IsFault (new_root s.arrays m) e → IsFault (roots_bound old xs ms) e
-root_refused old s names xs ms i x m e within there here it so_far h =
-    let P : Stepped → Type 0 = λ r. IsFault r e in
-    subst P (sym (so_far ∙ left_is s names xs ms i x m within there here it))
-    (first_fault (bound (naming s names) x (new_root s.arrays m)) (λ after. roots_bound after.0 (drop (i + 1) xs) (drop (i + 1) ms)) e
-    (first_fault (new_root s.arrays m) (bind_value (naming s names) x) e h))
-
 -- there is no room for the name
 pub name_refused : (old s mid : State) (names : Named ℕ) (xs : List (List ℕ)) (ms : List Made) (i : ℕ) (x : List ℕ) (m : Made) (id : ℕ) (e : StepFault) → i < length xs → i < length ms → x ≡ get_or xs i x → m ≡ get_or ms i m
     → roots_bound old xs ms ≡ left s names xs ms i → new_root s.arrays m ≡ Ok (mid.arrays, id) → IsFault (entered names_limit TooManyNames names x id) e → IsFault (roots_bound old xs ms) e

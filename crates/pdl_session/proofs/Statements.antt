@@ -44,22 +44,6 @@ runs_bound r old mid new x valued id is g h =
     let next : Names → Stepped = λ names. and_then (bind names x id) (λ after. Ok (record { names = after; arrays = mid.arrays }, [])) in
     runs_from r (bind_value mid x (mid.arrays, id)) (bound old x valued) old mid new [] [] (ap (λ v. and_then v (bind_value old x)) is ∙ ap next (sym g.names)) g h
 
--- a text that is printed of a value that came
-pub prints_shown : (old new : State) (is_info : Bool) (valued : Valued) (id : ℕ) (o n : List ℕ) → valued ≡ Ok (new.arrays, id) → Grows old new → n ≡ o ++ printed is_info (array_in new.arrays id)
-    → Prints (and_then valued (λ v. Ok (after_printing old is_info v))) new o n
-prints_shown old new is_info valued id o n is g text =
-    let P : Valued → Type 0 = λ v. Prints (and_then v (λ v. Ok (after_printing old is_info v))) new o n in
-    subst P (sym is) (state_is old new g, text)
-
--- a statement that prints nothing, beside what was printed
-pub quiet : {T : Type 0} (r : Result T StepFault) (x : Stepped) (old new : State) (o : List ℕ) → Runs x old new [] [] r → Runs x old new o o r
-quiet (Ok u) (Ok (s, t)) old new o h =
-    let none : List ℕ → Type 0 = λ l. o ≡ o ++ l in
-    (h.0, subst none h.1 (sym (append-nil o)))
-quiet (Ok u) (Err e) old new o h = absurd h
-quiet (Err (Script e)) x old new o h = (h.0, record { grown = h.1.grown; printed = refl })
-quiet (Err NoMemory) x old new o h = (tt, tt)
-
 -- the one output of a call, bound to one name
 one_output : (s : State) (x f : List ℕ) (t : Arrays × List Argument) → list_bound s (x ∷ []) f t ≡ bound s x (call_value s.names f t.0 t.1)
 one_output s x f t = by_callee (callee_of s.names f)
