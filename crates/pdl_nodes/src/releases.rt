@@ -1,6 +1,6 @@
-//! Letting go: what waits in views that go is written back, where their roots stay, and then what no
-//! held array reaches is removed (PDL::Dataflow). It goes over what goes alone: from the array that
-//! was released, and from those that a cut may have left loose, up.
+//! Letting go: what waits in views that go is written back, where their roots stay, and then what
+//! no held array reaches is removed (PDL::Dataflow). It goes over what goes alone: from the array
+//! that was released, and from those that a cut may have left loose, up.
 ghost use Rattle.std.specs.Prelude.{◌≡◌, ℕ, ◌+◌, ◌<◌, true, ◌∷◌, []};
 ghost use Rattle.pdl_world.specs.Swept.{holds as is_listed};
 ghost use Rattle.pdl_nodes.specs.Families.{InOrder};

@@ -1,4 +1,4 @@
-//! Nodes by their numbers: a slab, and a list in rising order that gives the slab's key of each number.
+//! Nodes by their numbers: a slab, and the slab's key of each number, in a list in rising order.
 ghost use Rattle.std.specs.Prelude.{◌≡◌, ◌≢◌, ℕ, ◌+◌, ◌-◌, ◌<◌, ◌^◌, ◌∷◌, if◌then◌else◌, [], true, false, length, All, is_none, is_some, Some, None, OnOk, OnErr};
 ghost use Rattle.slab.specs.Slab.{HasRoomFor};
 ghost use Rattle.pdl_buf.specs.Window.{place_at};
