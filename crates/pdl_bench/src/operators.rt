@@ -23,9 +23,11 @@ pub fn time(
     op: BinaryOp,
     ty: Ty,
 ) -> io::Result<()> {
+    // Made first: behind the others it would lie so that a read came upon the same place within
+    // 4,096 bytes as a write just before, for which the machine waits.
+    let mut into = numbers(alloc, ty, BLOCK, 0)?;
     let a = numbers(alloc, ty, BLOCK, 7_919)?;
     let b = numbers(alloc, ty, BLOCK, 2)?;
-    let mut into = numbers(alloc, ty, BLOCK, 0)?;
     let watch = work_timed(rt, op, ty, &a, &b, &mut into);
     watch.report(rt, word, BLOCK * BLOCKS, sum_of(&into))
 }
