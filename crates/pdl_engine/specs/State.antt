@@ -9,7 +9,7 @@ use Rattle.pdl_world.specs.Refused.{NoView, refused, too_deep}
 use Rattle.pdl_engine.specs.declared.engine.ViewFault.{ViewFault}
 use Rattle.pdl_engine.specs.declared.engine.ViewFault.TheVariants.{BadDimension, Mismatch, OutOfRange, TooManyDims, TooLarge, TooDeep, NoMemory}
 pub use Rattle.pdl_nodes.specs.State.{State, no_arrays, is_fresh, StayFresh, Joins, SameArrays, PathIsFresh, shown_in, base, outdated_at, outdated, waiting_at, waiting, waiting_size, ready_steps, target, TargetIsFresh, kept_back, TargetWaits, OthersWait, AreWaiting, IsLazy, IsLentAs}
-pub use Rattle.pdl_nodes.specs.Held.{count_at, one_more_at, one_less_at, held_among, holds_left, ChangesFamily, FamilyIsSettled, gone_from, left_from, written_back, IsReleased}
+pub use Rattle.pdl_nodes.specs.Held.{AllHaveHolds, AreApart, count_at, one_more_at, one_less_at, held_among, holders, holds_left, ChangesFamily, FamilyIsSettled, gone_from, left_from, written_back, IsReleased}
 
 -- the fault of a view that has the name of a plan's, or of a choice's
 abbrev pub of_plan : PlanFault → ViewFault

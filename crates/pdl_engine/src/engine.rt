@@ -10,7 +10,7 @@ ghost use Rattle.pdl_world.specs.Paths.{root_of};
 ghost use Rattle.pdl_world.specs.Refused.{view_refusal};
 ghost use Rattle.pdl_world.specs.World.{root, view, dims_in, ty_in, assign};
 ghost use Rattle.pdl_world.specs.Sound.{IsLive, IsSound};
-ghost use Rattle.pdl_engine.specs.State.{ChangesFamily, FamilyIsSettled, IsReleased, count_at, one_more_at, written_back, no_arrays, is_fresh, IsLazy, IsLentAs, Joins, Names, OthersWait, TargetWaits, PathIsFresh, SameArrays, StayFresh, TargetIsFresh, ready_steps, shown_in, waiting};
+ghost use Rattle.pdl_engine.specs.State.{AllHaveHolds, AreApart, ChangesFamily, FamilyIsSettled, IsReleased, count_at, holders, one_more_at, written_back, no_arrays, is_fresh, IsLazy, IsLentAs, Joins, Names, OthersWait, TargetWaits, PathIsFresh, SameArrays, StayFresh, TargetIsFresh, ready_steps, shown_in, waiting};
 
 use crate::layouts::layout;
 use pdl_affine::PlanFault;
@@ -164,6 +164,14 @@ impl Engine {
         ensures { IsLazy self.now }
     {
         self.nodes.lazy_law()
+    }
+
+    /// A law: each array has holds once, be it none, and nothing else has.
+    pub fn holds_law(&self)
+        ensures each { AllHaveHolds self.now }
+        ensures once { AreApart (holders self.now.holds) }
+    {
+        self.nodes.holds_law()
     }
 
     /// A new root of these dimensions and elements, which can be lent. It takes a step for each

@@ -13,3 +13,4 @@ mod layouts;
 
 pub use engine::{ArrayId, Engine, ViewFault};
 pub use laws::worked_scripts;
+pub use pdl_nodes::hold_laws;

@@ -37,6 +37,7 @@ mod Stating
 mod Growing
 mod Bounds
 mod Helds
+mod HoldLaws
 mod Changed
 mod Moved
 mod Fits

@@ -1,8 +1,8 @@
 -- How often arrays are held, and what calls leave that cut arrays or let them go.
-use Rattle.std.specs.Prelude.{◌≡◌, ◌≢◌, ℕ, ◌+◌, ◌-◌, ◌==◌, nat_lt, if◌then◌else◌, true, List, [], ◌∷◌, Option, Some, None, is_some}
+use Rattle.std.specs.Prelude.{◌≡◌, ◌≢◌, ℕ, ◌+◌, ◌-◌, ◌==◌, nat_lt, if◌then◌else◌, true, false, List, [], ◌∷◌, map, Option, Some, None, is_some}
 use Rattle.pdl_world.specs.Paths.{root_of}
 use Rattle.pdl_world.specs.Sound.{IsLive}
-use Rattle.pdl_world.specs.Swept.{sweep}
+use Rattle.pdl_world.specs.Swept.{holds, sweep}
 use Rattle.pdl_world.specs.World.{World, look, root, view}
 use Rattle.pdl_nodes.specs.State.{State, OthersWait, is_fresh, waiting, waiting_at, waiting_size}
 use Rattle.pdl_nodes.specs.Staying.{staying, stays_from}
@@ -26,6 +26,19 @@ one_less_at ((k, n) ∷ hs) v = (k, if k == v then n - 1 else n) ∷ one_less_at
 abbrev pub held_among : List (ℕ × ℕ) → List ℕ
 held_among [] = []
 held_among ((k, n) ∷ hs) = if nat_lt 0 n then k ∷ held_among hs else held_among hs
+
+-- the arrays that have holds, be it none
+abbrev pub holders : List (ℕ × ℕ) → List ℕ
+holders hs = map (λ h. h.0) hs
+
+-- no number stands twice
+abbrev pub AreApart : List ℕ → Type 0
+AreApart [] = Unit {0}
+AreApart (k ∷ ks) = (holds ks k ≡ false) × AreApart ks
+
+-- each array has holds, be it none, and nothing else has
+abbrev pub AllHaveHolds : State → Type 0
+AllHaveHolds s = (v : ℕ) → holds (holders s.holds) v ≡ is_some (look s.world v)
 
 -- the holds of the arrays of this world
 abbrev pub holds_left : World → List (ℕ × ℕ) → List (ℕ × ℕ)

@@ -25,6 +25,7 @@ pub mod Released
 pub mod Risen
 pub mod State
 pub mod Held
+pub mod HoldLaws
 pub mod Nodes
 pub mod Cut
 pub mod CutLaws

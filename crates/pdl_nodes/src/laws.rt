@@ -1,5 +1,6 @@
 //! Laws of the definitions, for the proofs of the crates above.
 ghost use Rattle.pdl_nodes.specs.CutLaws.{CuttingSevers, CuttingLeavesFamilies, CutsStaySettled, CutsStayKnown, CutsStaySized};
+ghost use Rattle.pdl_nodes.specs.HoldLaws.{CountedAreHeld, HeldAreCounted, OneLessCounts, OneMoreCounts, OthersDontCount, StayingCount};
 ghost use Rattle.pdl_nodes.specs.Reshaped.{ReshapingReshapes, ReshapingLeavesOthers, ReshapesStayKnown, ReshapesStaySized};
 
 use pdl_affine::{view_laws, window_laws};
@@ -36,3 +37,14 @@ pub fn reshape_row_laws()
     view_laws();
     window_laws()
 }
+
+/// What one hold more or less changes in a list of holds, what stays of one, and which arrays are
+/// counted as held. It does nothing: who calls it has them.
+pub fn hold_laws()
+    ensures more { OneMoreCounts }
+    ensures less { OneLessCounts }
+    ensures staying { StayingCount }
+    ensures held { CountedAreHeld }
+    ensures counted { HeldAreCounted }
+    ensures others { OthersDontCount }
+{}

@@ -23,7 +23,7 @@ mod upward;
 mod views;
 
 pub use holds::{Hold, Holds, insert};
-pub use laws::{cut_row_laws, reshape_row_laws};
+pub use laws::{cut_row_laws, hold_laws, reshape_row_laws};
 pub use node::{Lifted, Node};
 pub use nodes::Nodes;
 pub use origin::{Layout, Origin};

@@ -10,7 +10,7 @@ ghost use Rattle.pdl_world.specs.Paths.{depth_limit, path, root_of};
 ghost use Rattle.pdl_world.specs.Refused.{view_refusal};
 ghost use Rattle.pdl_world.specs.Sound.{IsLive, IsSound};
 ghost use Rattle.pdl_world.specs.World.{assign, dims_in, root, ty_in, view};
-ghost use Rattle.pdl_nodes.specs.Held.{ChangesFamily, FamilyIsSettled, IsReleased, count_at, one_more_at, written_back};
+ghost use Rattle.pdl_nodes.specs.Held.{AllHaveHolds, AreApart, ChangesFamily, FamilyIsSettled, IsReleased, count_at, holders, one_more_at, written_back};
 ghost use Rattle.pdl_nodes.specs.Sized.{IsLayout};
 ghost use Rattle.pdl_nodes.specs.State.{IsLazy, IsLentAs, Joins, OthersWait, TargetWaits, PathIsFresh, SameArrays, StayFresh, TargetIsFresh, is_fresh, no_arrays, ready_steps, shown_in, waiting};
 
@@ -122,6 +122,14 @@ impl Nodes {
     /// A law: what can be lent of a family, and what waits in it (PDL::Dataflow). It does nothing.
     pub fn lazy_law(&self)
         ensures { IsLazy self.now }
+    {
+        let _next = self.next;
+    }
+
+    /// A law: each array has holds once, be it none, and nothing else has. It does nothing.
+    pub fn holds_law(&self)
+        ensures each { AllHaveHolds self.now }
+        ensures once { AreApart (holders self.now.holds) }
     {
         let _next = self.next;
     }
