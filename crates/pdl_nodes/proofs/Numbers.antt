@@ -1,5 +1,5 @@
 -- What a list in rising order holds of a number, and what edits at its place do.
-use Rattle.std.proofs.Common.{◌≡◌, ℕ, zero, suc, ◌+◌, ◌<◌, ◌≤◌, cond, Bool, true, false, List, [], ◌∷◌, length, get_or, set, drop, filter, is_some, Option, Some, None, Result, Ok, Err, IfOk, IfErr, inl, inr, refl, sym, ◌∙◌, ap, subst, arith}
+use Rattle.std.proofs.Common.{◌≡◌, ℕ, zero, suc, ◌+◌, ◌<◌, ◌≤◌, cond, Bool, true, false, List, [], ◌∷◌, length, get_or, set, drop, filter, is_some, Option, Some, None, Result, Ok, Err, IfNone, IfOk, IfErr, inl, inr, refl, sym, ◌∙◌, ap, subst, arith}
 use Rattle.std.proofs.lemmas.Bool.{le-leb, lt-leb}
 use Rattle.std.proofs.lemmas.Bool.Decides.{leb_tells, nat_tests}
 use Rattle.std.proofs.lemmas.Cmp.{ranked}
@@ -149,6 +149,16 @@ module _ {V : Type 0} where
   pub none_there : (o : Option V) → is_some o ≡ false → o ≡ None
   none_there None h = refl
   none_there (Some x) h = absurd (cc)
+
+  -- an empty entry that is emptied leaves the values
+  pub same_empty : (l : List (ℕ × Option V)) (v i : ℕ) → i < length l → (get_or l i (0, None)).1 ≡ None → filled (set l i (v, None)) ≡ filled l
+  same_empty [] v i lt h = absurd (omega arith)
+  same_empty (e ∷ l) v zero lt h = sym (ap (λ o. onto e.0 o (filled l)) h)
+  same_empty (e ∷ l) v (suc i) lt h = ap (λ es. onto e.0 e.1 es) (same_empty l v i (omega arith) h)
+
+  pub if_none : {P : Type 0} (o : Option V) → (o ≡ None → P) → IfNone o P
+  if_none None f = f refl
+  if_none (Some x) f = tt
 
   -- what was said of a number that has no value holds still
   pub put_none : (es : List (ℕ × V)) (v : ℕ) → value_at es v ≡ None → IsPut es es v None

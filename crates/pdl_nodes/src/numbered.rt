@@ -1,15 +1,16 @@
 //! Values by numbers: a list in rising order, in which each step of a look-up halves what is left.
-ghost use Rattle.std.specs.Prelude.{◌≡◌, ◌≢◌, ℕ, List, [], length, is_some, IsSome, true, Some, None, IfOk, IfErr, OnOk, OnErr};
+ghost use Rattle.std.specs.Prelude.{◌≡◌, ◌≢◌, ℕ, List, [], length, is_some, IsSome, true, Some, None, IfNone, IfOk, IfErr, OnOk, OnErr};
 ghost use Rattle.std.specs.Option.{option_copied};
 ghost use Rattle.pdl_nodes.specs.Numbered.{IsGap, IsPlace, IsPut, Rises, filled, first_from, value_at};
 
 use std::alloc::{AllocError, Global};
 use std::marker::Model;
+use std::mem::replace;
 use std::ops::Index;
 
-/// Values by numbers. The entry of one that was removed is emptied, and stays until more than half
-/// of the entries are empty: then the list is packed. So a removal moves few entries on average,
-/// and so does a new number above all others.
+/// Values by numbers. The entry of one that was removed is emptied, and stays: where a new number
+/// finds the list full and at least half of it empty, the list is packed in place of growing. So a
+/// removal touches one entry, and a new number above all others moves few on average.
 #[derive(Drop)]
 pub struct Numbered<V> {
     entries: Vec<(u64, Option<V>)>,
@@ -77,9 +78,30 @@ impl<V: Drop> Numbered<V> {
         }
     }
 
+    /// Leaves the emptied entries out where the list is full and at least half of it is empty.
+    fn pack_if_full(&mut self)
+        ensures { self.new ≡ self.old }
+    {
+        let len = self.entries.len();
+        if len == self.entries.capacity() && self.count <= len / 2 {
+            pack(&mut self.entries);
+        }
+    }
+
     /// Gives a number that has no value one. A number that isn't above all others moves the newer
     /// ones.
     pub fn insert(&mut self, id: u64, value: V) -> Result<(), AllocError>
+        requires { value_at self.old id ≡ None }
+        ensures put { OnOk result (IsPut self.old self.new id (Some value)) }
+        ensures rises { Rises self.new }
+        ensures err { OnErr result (self.new ≡ self.old) }
+    {
+        self.pack_if_full();
+        self.put_new(id, value)
+    }
+
+    /// Gives a number that has no value one, in its emptied entry or in a new one.
+    fn put_new(&mut self, id: u64, value: V) -> Result<(), AllocError>
         requires { value_at self.old id ≡ None }
         ensures put { OnOk result (IsPut self.old self.new id (Some value)) }
         ensures rises { Rises self.new }
@@ -99,22 +121,22 @@ impl<V: Drop> Numbered<V> {
         }
     }
 
-    /// Takes the value of a number away, if it has one.
-    pub fn remove(&mut self, id: u64)
+    /// Takes the value of a number away, if it has one, and hands it out.
+    pub fn remove(&mut self, id: u64) -> Option<V>
+        ensures taken { result ≡ value_at self.old id }
         ensures put { IsPut self.old self.new id None }
+        ensures absent { IfNone result (self.new ≡ self.old) }
         ensures rises { Rises self.new }
     {
         match place(&self.entries, id) {
             Ok(at) => {
-                if self.entries[at].1.is_some() {
-                    self.entries[at] = (id, None);
+                let (_, taken) = replace(&mut self.entries[at], (id, None));
+                if taken.is_some() {
                     self.count -= 1;
-                    if self.count < self.entries.len() / 2 {
-                        pack(&mut self.entries);
-                    }
                 }
+                taken
             }
-            Err(_) => {}
+            Err(_) => None,
         }
     }
 

@@ -172,11 +172,9 @@ impl Table {
         ensures rows { self.new ≡ without id self.old }
         ensures parent { result ≡ parent_of (row_at self.old id) }
     {
-        let Some(found) = self.keys.get(id) else {
+        let Some(key) = self.keys.remove(id) else {
             return None;
         };
-        let key = *found;
-        self.keys.remove(id);
         let node = self.nodes.remove(key);
         let root = node.root();
         let parent = node.parent();

@@ -2,7 +2,7 @@ use Rattle.std.proofs.Common.{◌≡◌, ◌+◌, length, get_or, set, Some, Non
 use Rattle.std.specs.List.{insert}
 use Rattle.pdl_nodes.specs.Numbered.{IsGap, IsPlace, IsPut, Rises, filled, value_at}
 use Rattle.pdl_nodes.proofs.Numbers.{filled_rises, length_filled, length_insert, length_set, one, put_insert, put_set, rises_insert, rises_set, value_there}
-use Rattle.pdl_nodes.proofs.numbered.Numbered.insert.Goals as goal
+use Rattle.pdl_nodes.proofs.numbered.Numbered.put_new.Goals as goal
 
 -- the number stood there, without a value
 pub invariant_of-self : goal.invariant_of-self
