@@ -10,7 +10,7 @@ use Rattle.pdl_nodes.specs.Assigned.{entry}
 use Rattle.pdl_nodes.specs.Changes.{kept_in, mark_in, wait_in}
 use Rattle.pdl_nodes.specs.Known.{IsLiftable}
 use Rattle.pdl_nodes.specs.Late.{settle, await}
-use Rattle.pdl_nodes.specs.Placed.{placed, placed_by}
+use Rattle.pdl_nodes.specs.Placed.{in_order, placed, placed_by}
 use Rattle.pdl_nodes.specs.Spots.{spots, Below}
 use Rattle.pdl_nodes.specs.Still.{IsStill}
 use Rattle.pdl_nodes.specs.Families.{IsWaiting, InOrder}
@@ -30,16 +30,17 @@ all_there n (q ∷ is) b =
     let tail : map (entry (map Some (range_with_len 0 n))) is ≡ map (placed None) is = all_there n is b.1 in
     cc
 
+-- a root's places
+pub root_in_order : (rs : Rows) (rt : ℕ) → IsStill rs → IsRoot rs rt → places_of rs rt ≡ in_order (size_of (row_at rs rt).triple.dims)
+root_in_order rs rt s i = ap (places_of rs) (sym i.1) ∙ (is_seen rs s rt i.0).root_places ∙ ap (λ k. in_order (size_of (row_at rs k).triple.dims)) i.1
+
 -- the places of an array over its root
 pub over_root : (rs : Rows) (rt v : ℕ) → IsStill rs → has rs v ≡ true → IsRoot rs rt → (row_at rs v).base ≡ rt → places_of rs v ≡ placed_by None (row_at rs v).triple
 over_root rs rt v s h i e =
     let a : IsSeen rs v = is_seen rs s v h in
-    let r : IsSeen rs rt = is_seen rs s rt i.0 in
-    let n : ℕ = size_of (row_at rs rt).triple.dims in
-    let p : places_of rs rt ≡ map Some (range_with_len 0 (size_of (row_at rs rt).triple.dims)) = ap (places_of rs) (sym i.1) ∙ r.root_places ∙ ap (λ k. map Some (range_with_len 0 (size_of (row_at rs k).triple.dims))) i.1 in
     let f : Below (size_of (row_at rs rt).triple.dims) (spots (row_at rs v).triple) = (let P : ℕ → Type 0 = λ x. Below (size_of (row_at rs x).triple.dims) (spots (row_at rs v).triple) in subst P e a.fits) in
     a.over ∙ ap (λ x. map (entry (places_of rs x)) (spots (row_at rs v).triple)) e
-    ∙ ap (λ (ps : List (Option ℕ)). map (entry ps) (spots (row_at rs v).triple)) p
+    ∙ ap (λ (ps : List (Option ℕ)). map (entry ps) (spots (row_at rs v).triple)) (root_in_order rs rt s i)
     ∙ all_there (size_of (row_at rs rt).triple.dims) (spots (row_at rs v).triple) f
 
 -- and over another base, whose places are known

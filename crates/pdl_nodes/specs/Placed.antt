@@ -1,10 +1,15 @@
 -- The root's places over a base.
 use Rattle.std.specs.Prelude.{ℕ, List, Option, Some, None, map}
+use Rattle.std.specs.List.{range_with_len}
 use Rattle.pdl_shape.specs.Triple.{Triple}
 use Rattle.pdl_nodes.specs.Assigned.{entry}
 use Rattle.pdl_nodes.specs.declared.origin.Layout.{Layout}
 use Rattle.pdl_nodes.specs.declared.origin.Layout.TheVariants.{Plan, Choice}
 use Rattle.pdl_nodes.specs.Spots.{spots}
+
+-- so many places, each position's its own
+abbrev pub in_order : ℕ → List (Option ℕ)
+in_order n = map Some (range_with_len 0 n)
 
 -- the root's place at a base's place: of a root the place itself, else what is known
 abbrev pub placed : Option (List (Option ℕ)) → ℕ → Option ℕ

@@ -109,7 +109,8 @@ pub record IsFallen (id : ℕ) (old : Rows) (hs : Counts) (new : Rows) (gs : Cou
       → stands hs p ≡ false → has new p ≡ false
   pub noted : AreNoted new gs
 
--- what none reaches that is held so often is gone, and none that is left can go
+-- arrays are held as the counts say: those that no held one reaches are gone, what is left is held
+-- as before, and none of it can go
 pub record IsLetGo (old : Rows) (counts : ℕ → ℕ) (new : Rows) (gs : Counts) : Type 0 where
   pub swept :
       (held : List ℕ) → ((v : ℕ) → holds held v ≡ nat_lt 0 (counts v))

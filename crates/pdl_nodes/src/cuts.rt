@@ -19,6 +19,7 @@ impl Node {
         ensures { self.new ≡ root_row id self.old.ty dims.now kept.elems }
     {
         let root = root_node(alloc, id, self.ty, dims, kept);
+        // By a call: in line the old node's fields would be dropped one by one, and checked here.
         drop(replace(self, root));
     }
 

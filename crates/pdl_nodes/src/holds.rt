@@ -143,7 +143,8 @@ impl Holds {
         }
     }
 
-    /// Takes one hold back. A number that was held once is forgotten, which this says.
+    /// Takes one hold back, and forgets a number that was held once. The answer says whether it
+    /// was.
     pub fn take_out(&mut self, id: u64) -> bool
         requires { 0 < count self.old id }
         ensures last { result ≡ (count self.old id == 1) }

@@ -4,7 +4,7 @@ ghost use Rattle.pdl_elem.specs.Types.{InRange};
 ghost use Rattle.pdl_shape.specs.Places.{write};
 ghost use Rattle.pdl_shape.specs.Shape.{size_of};
 ghost use Rattle.pdl_nodes.specs.Assigned.{entry, put_all, seen};
-ghost use Rattle.pdl_nodes.specs.Placed.{placed, placed_by};
+ghost use Rattle.pdl_nodes.specs.Placed.{in_order, placed, placed_by};
 ghost use Rattle.pdl_nodes.specs.Spots.{spots};
 
 use pdl_buf::{Buf, Placement, Route, Steps, scatter_by};
@@ -84,6 +84,36 @@ impl<'a> Route for ThroughBase<'a> {
     fn place(&self, position: u32) -> Option<u32> {
         seen(self.places, self.placement.place(position))
     }
+}
+
+/// So many places, each position's its own.
+#[derive(Drop)]
+struct InOrder {
+    count: u32,
+}
+
+impl Route for InOrder {
+    ghost use Rattle.std.specs.Prelude.{Some};
+
+    ghost count = { λ r. r.count };
+
+    ghost goes_to = { λ r p. Some p };
+
+    fn place(&self, position: u32) -> Option<u32> {
+        Some(position)
+    }
+}
+
+/// Puts so many values into a buffer from its first place on, in order. It takes a step for each.
+pub fn put_in_order<L: Ledger>(into: &mut Buf, count: u32, values: &[i64], steps: &mut Steps<L>)
+    requires paired { length values.now ≡ count }
+    requires in_range { All (InRange into.old.ty) values.now }
+    ensures same_type { into.new.ty ≡ into.old.ty }
+    ensures value { into.new.elems ≡ write (in_order count) values.now into.old.elems }
+    ensures counted { steps.new ≡ steps.old + length values.now }
+{
+    let route = InOrder { count };
+    scatter_by(into, &route, values, steps)
 }
 
 /// Puts values at the root's places that a triple shows over a base, in order. It takes a step for

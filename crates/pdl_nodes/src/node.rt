@@ -7,7 +7,7 @@ ghost use Rattle.pdl_shape.specs.Shape.{size_of};
 ghost use Rattle.pdl_nodes.specs.Assigned.{put_all};
 ghost use Rattle.pdl_nodes.specs.Row.{parent_of, is_buffered, places_or};
 ghost use Rattle.pdl_nodes.specs.Changes.{or_known};
-ghost use Rattle.pdl_nodes.specs.Placed.{placed_by};
+ghost use Rattle.pdl_nodes.specs.Placed.{in_order, placed_by};
 ghost use Rattle.pdl_nodes.specs.Spots.{spots};
 
 use crate::moves;
@@ -215,8 +215,8 @@ impl Node {
         requires buffered { is_buffered self.old ≡ true }
         requires paired { length values.now ≡ size_of triple.now.dims }
         requires in_range { All (InRange self.old.ty) values.now }
-        ensures value { self.new
-            ≡ record self.old { kept = write (placed_by known.now triple.now) values.now self.old.kept } }
+        ensures value { self.new ≡ record self.old
+            { kept = write (placed_by known.now triple.now) values.now self.old.kept } }
         ensures counted { steps.new ≡ steps.old + length values.now }
     {
         match &mut self.kept {
@@ -225,18 +225,19 @@ impl Node {
         }
     }
 
-    /// Puts values at the places of what is kept that its own triple shows, in order. It takes a
-    /// step for each value.
-    pub fn put_own<L: Ledger>(&mut self, values: &[i64], steps: &mut Steps<L>)
+    /// Puts as many values as it has positions into what is kept, in order. It takes a step for
+    /// each.
+    pub fn put_in_order<L: Ledger>(&mut self, values: &[i64], steps: &mut Steps<L>)
         requires buffered { is_buffered self.old ≡ true }
         requires paired { length values.now ≡ size_of self.old.triple.dims }
         requires in_range { All (InRange self.old.ty) values.now }
         ensures value { self.new ≡ record self.old
-            { kept = write (placed_by None self.old.triple) values.now self.old.kept } }
+            { kept = write (in_order (size_of self.old.triple.dims)) values.now self.old.kept } }
         ensures counted { steps.new ≡ steps.old + length values.now }
     {
+        let count = elements_of(&self.triple.dims);
         match &mut self.kept {
-            Some(kept) => moves::put_over(kept, &None, &self.triple, values, steps),
+            Some(kept) => moves::put_in_order(kept, count, values, steps),
             None => unreachable!(),
         }
     }
@@ -248,8 +249,10 @@ impl Node {
         requires found { is_some self.old.places ≡ true }
         requires paired { length values.now ≡ size_of triple.now.dims }
         requires in_range { All (InRange self.old.ty) values.now }
-        ensures value { self.new
-            ≡ record self.old { kept = put_all (places_or self.old.places) (spots triple.now) values.now self.old.kept } }
+        ensures value { self.new ≡ record self.old {
+          kept = put_all (places_or self.old.places) (spots triple.now) values.now
+              self.old.kept;
+        } }
         ensures counted { steps.new ≡ steps.old + length values.now }
     {
         match (&mut self.kept, &self.places) {

@@ -67,7 +67,7 @@ fn put_on_root<L: Ledger>(
     ensures counted { steps.new ≡ steps.old + length values.now }
 {
     if id == root {
-        table.put_own(root, values, steps);
+        table.put_in_order(root, values, steps);
         return;
     }
     let triple = copy_triple(table.node(id).triple());

@@ -1,4 +1,4 @@
-//! Nodes by their numbers: a slab, and the slab's key of each number, in a list in rising order.
+//! Nodes by their numbers: a slab, and the key of each number, in a list in rising order.
 ghost use Rattle.std.specs.Prelude.{◌≡◌, ◌≢◌, ℕ, ◌+◌, ◌-◌, ◌<◌, ◌^◌, ◌∷◌, if◌then◌else◌, [], true, false, length, All, is_none, is_some, Some, None, OnOk, OnErr};
 ghost use Rattle.slab.specs.Slab.{HasRoomFor};
 ghost use Rattle.pdl_buf.specs.Window.{place_at};
@@ -9,7 +9,7 @@ ghost use Rattle.pdl_world.specs.Cut.{has_views};
 ghost use Rattle.pdl_nodes.specs.Assigned.{put_all};
 ghost use Rattle.pdl_nodes.specs.Children.{children, noted, one_of};
 ghost use Rattle.pdl_nodes.specs.Numbered.{IsPut, Rises, value_at};
-ghost use Rattle.pdl_nodes.specs.Placed.{placed_by};
+ghost use Rattle.pdl_nodes.specs.Placed.{in_order, placed_by};
 ghost use Rattle.pdl_nodes.specs.Spots.{spots};
 ghost use Rattle.pdl_nodes.specs.Rows.{NumbersBelow, row_at, has, each, without};
 ghost use Rattle.pdl_nodes.specs.Row.{is_buffered, parent_of, places_or};
@@ -161,6 +161,7 @@ impl Table {
                 Ok(())
             }
             Err(refused) => {
+                // By a call: in line each field's drop would be checked here anew.
                 drop(node);
                 Err(refused)
             }
@@ -178,13 +179,14 @@ impl Table {
         let node = self.nodes.remove(key);
         let root = node.root();
         let parent = node.parent();
+        // By a call, as in `insert`.
         drop(node);
         self.marked.forget(root, id);
         self.children.take(parent);
         parent
     }
 
-    /// Lets a root go. A view stays. This says which it is.
+    /// Removes an array that is a root, and leaves a view. The answer says whether it is a root.
     pub fn remove_root(&mut self, id: u64) -> bool
         requires live { has self.old id ≡ true }
         ensures root { result ≡ is_none (parent_of (row_at self.old id)) }
@@ -237,21 +239,20 @@ impl Table {
         self.nodes[key].put_over(&None, triple, values, steps);
     }
 
-    /// Puts values into an array at the places that its own triple shows, in order. It takes a step
-    /// for each value.
-    pub fn put_own<L: Ledger>(&mut self, id: u64, values: &[i64], steps: &mut Steps<L>)
+    /// Puts as many values into an array as it has positions, in order. It takes a step for each.
+    pub fn put_in_order<L: Ledger>(&mut self, id: u64, values: &[i64], steps: &mut Steps<L>)
         requires live { has self.old id ≡ true }
         requires buffered { is_buffered (row_at self.old id) ≡ true }
         requires paired { length values.now ≡ size_of (row_at self.old id).triple.dims }
         requires in_range { All (InRange (row_at self.old id).ty) values.now }
         ensures put { self.new ≡ each (kept_in id (write
-            (placed_by None (row_at self.old id).triple)
+            (in_order (size_of (row_at self.old id).triple.dims))
             values.now
             (row_at self.old id).kept)) self.old }
         ensures counted { steps.new ≡ steps.old + length values.now }
     {
         let key = self.keys[id];
-        self.nodes[key].put_own(values, steps);
+        self.nodes[key].put_in_order(values, steps);
     }
 
     /// Puts values at the places of a root that a triple shows over a marked view of it, in order.
