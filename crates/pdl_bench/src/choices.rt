@@ -54,9 +54,14 @@ fn looked_up(alloc: Global, dims: &Dims, values: &[i64]) -> Result<Choice, Choic
 /// Times `index` with as many values as the parent has elements.
 pub fn time_index(rt: &(impl Print + Clock), alloc: Global) -> io::Result<()> {
     let dims = shape(alloc, &[LOOKED_UP])?;
-    let values = values(alloc, elements_of(&dims))?;
+    index_of(rt, alloc, &dims)
+}
+
+// Times it for a parent of these dimensions.
+fn index_of(rt: &(impl Print + Clock), alloc: Global, dims: &Dims) -> io::Result<()> {
+    let values = values(alloc, elements_of(dims))?;
     let mut sum = 0;
-    let watch = index_timed(rt, alloc, &dims, &values, &mut sum)?;
+    let watch = index_timed(rt, alloc, dims, &values, &mut sum)?;
     watch.report(rt, "index", LOOKED_UP, sum)
 }
 
@@ -112,11 +117,28 @@ fn windows(
 
 /// Times `range` with windows of 3 by 3.
 pub fn time_ranges(rt: &(impl Print + Clock), alloc: Global) -> io::Result<()> {
-    let dims = shape(alloc, &[CORNERS + 2, CORNERS + 2])?;
     let listed = shape(alloc, &[2, CORNERS, CORNERS])?;
-    let corners = corners(alloc, elements_of(&listed))?;
+    ranges_at(rt, alloc, &listed)
+}
+
+// Times it for an array of corners of these dimensions.
+fn ranges_at(rt: &(impl Print + Clock), alloc: Global, listed: &Dims) -> io::Result<()> {
+    let corners = corners(alloc, elements_of(listed))?;
+    ranges_of(rt, alloc, listed, &corners)
+}
+
+// Times it for these corners.
+fn ranges_of(
+    rt: &(impl Print + Clock),
+    alloc: Global,
+    listed: &Dims,
+    corners: &[i64],
+) -> io::Result<()>
+    requires { length corners.now ≡ size_of listed.now }
+{
+    let dims = shape(alloc, &[CORNERS + 2, CORNERS + 2])?;
     let mut sum = 0;
-    let watch = range_timed(rt, alloc, &dims, &listed, &corners, &mut sum)?;
+    let watch = range_timed(rt, alloc, &dims, listed, corners, &mut sum)?;
     watch.report(rt, "range, 3 by 3", IN_WINDOWS, sum)
 }
 

@@ -7,7 +7,7 @@ use crate::arrays::{filled, numbers, shape, window};
 use crate::stopwatch::{RUNS, Stopwatch};
 use pdl_buf::{Buf, Steps, Strided, buf_bytes, gather, scatter, strided_dims, strided_type};
 use pdl_elem::Ty;
-use pdl_shape::elements_of;
+use pdl_shape::{Dims, elements_of};
 use std::alloc::{AllocError, Global};
 use std::io;
 use std::rt::Clock;
@@ -42,10 +42,30 @@ pub fn time_gather<L: Ledger>(
     steps: &mut Steps<L>,
 ) -> io::Result<()> {
     let dims = shape(alloc, &[COUNT])?;
-    let buf = filled(alloc, ty, elements_of(&dims))?;
-    let from = window(alloc, &buf, &dims);
-    gather_by(rt, alloc, steps, "gather, in order", &from, 1)?;
-    gather_by(rt, alloc, steps, "gather, far apart", &from, FAR)
+    gather_whole(rt, alloc, steps, ty, &dims)
+}
+
+// Times both from a buffer as an array of these dimensions.
+fn gather_whole<L: Ledger>(
+    rt: &(impl Print + Clock),
+    alloc: Global,
+    steps: &mut Steps<L>,
+    ty: Ty,
+    dims: &Dims,
+) -> io::Result<()> {
+    let buf = filled(alloc, ty, elements_of(dims))?;
+    gather_from(rt, alloc, steps, &window(alloc, &buf, dims))
+}
+
+// Times both from this window.
+fn gather_from<L: Ledger>(
+    rt: &(impl Print + Clock),
+    alloc: Global,
+    steps: &mut Steps<L>,
+    from: &Strided<'_>,
+) -> io::Result<()> {
+    gather_by(rt, alloc, steps, "gather, in order", from, 1)?;
+    gather_by(rt, alloc, steps, "gather, far apart", from, FAR)
 }
 
 // The same by places this far apart.

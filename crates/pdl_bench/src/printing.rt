@@ -1,13 +1,14 @@
 //! Printing arrays.
 ghost use Rattle.std.specs.Prelude.{◌≡◌, IfOk};
+ghost use Rattle.pdl_shape.specs.Shape.{size_of};
 ghost use Rattle.pdl_shape.specs.Triple.{Reaches};
 
-use crate::arrays::{filled, shape, window};
+use crate::arrays::{filled, shape};
 use crate::stopwatch::{RUNS, Stopwatch};
 use pdl_buf::{Strided, strided};
 use pdl_elem::Ty;
 use pdl_print::write_array;
-use pdl_shape::{Triple, elements_of, triple_of};
+use pdl_shape::{Triple, triple_of, whole_triple};
 use std::alloc::{AllocError, Global};
 use std::io;
 use std::rt::Clock;
@@ -24,7 +25,7 @@ pub fn time(rt: &(impl Print + Clock), alloc: Global, ty: Ty) -> io::Result<()> 
     print_whole(rt, alloc, ty, "print, row", &[10_000])?;
     print_whole(rt, alloc, ty, "print, plane", &[100, 100])?;
     print_whole(rt, alloc, ty, "print, cube", &[20, 20, 25])?;
-    print_turned(rt, alloc, ty)
+    print_turned(rt, alloc, ty, "print, turned plane")
 }
 
 fn print_whole(
@@ -33,10 +34,11 @@ fn print_whole(
     ty: Ty,
     name: &str,
     sizes: &[u32],
-) -> io::Result<()> {
+) -> io::Result<()>
+    requires { size_of sizes.now ≡ 10000 }
+{
     let dims = shape(alloc, sizes)?;
-    let buf = filled(alloc, ty, elements_of(&dims))?;
-    print_timed(rt, alloc, name, &window(alloc, &buf, &dims))
+    print_triple(rt, alloc, ty, name, &whole_triple(alloc, &dims))
 }
 
 // A plane with its rows as columns.
@@ -47,10 +49,22 @@ fn turned(alloc: Global) -> io::Result<Triple>
     Ok(triple_of(alloc, 0, &[100, 1], &dims))
 }
 
-fn print_turned(rt: &(impl Print + Clock), alloc: Global, ty: Ty) -> io::Result<()> {
+fn print_turned(rt: &(impl Print + Clock), alloc: Global, ty: Ty, name: &str) -> io::Result<()> {
+    print_triple(rt, alloc, ty, name, &turned(alloc)?)
+}
+
+// Prints what a triple shows of a buffer of 10,000 numbers.
+fn print_triple(
+    rt: &(impl Print + Clock),
+    alloc: Global,
+    ty: Ty,
+    name: &str,
+    triple: &Triple,
+) -> io::Result<()>
+    requires { Reaches triple.now 10000 }
+{
     let buf = filled(alloc, ty, 10_000)?;
-    let triple = turned(alloc)?;
-    print_timed(rt, alloc, "print, turned plane", &strided(&buf, &triple))
+    print_timed(rt, alloc, name, &strided(&buf, triple))
 }
 
 // Prints the window in each run.

@@ -94,9 +94,22 @@ pub fn time(
     form: Form,
     ty: Ty,
 ) -> io::Result<()> {
-    let buf = filled(alloc, ty, COUNT)?;
     let triple = triple(alloc, form)?;
-    time_window(rt, alloc, word, &strided(&buf, &triple))
+    time_triple(rt, alloc, word, ty, &triple)
+}
+
+// Times the window of a triple.
+fn time_triple(
+    rt: &(impl Print + Clock),
+    alloc: Global,
+    word: &str,
+    ty: Ty,
+    triple: &Triple,
+) -> io::Result<()>
+    requires { Reaches triple.now 1048576 }
+{
+    let buf = filled(alloc, ty, COUNT)?;
+    time_window(rt, alloc, word, &strided(&buf, triple))
 }
 
 fn time_window(

@@ -1,7 +1,8 @@
 //! Walks through a broadcast.
-ghost use Rattle.std.specs.Prelude.{◌≡◌, ◌<◌, length};
+ghost use Rattle.std.specs.Prelude.{◌≡◌, ◌<◌, ◌++◌, ◌∷◌, [], length, OnOk};
 ghost use Rattle.pdl_shape.specs.Broadcast.{BroadcastsTo};
 ghost use Rattle.pdl_shape.specs.Shape.{size_of};
+ghost use Rattle.pdl_shape.specs.Triple.{whole_triple};
 
 use crate::arrays::shape;
 use crate::stopwatch::{RUNS, Stopwatch};
@@ -24,10 +25,20 @@ fn walk_two(
     name: &str,
     second: &[u32],
 ) -> io::Result<()> {
-    let first = shape(alloc, &[1_000, 1_000])?;
     let second = shape(alloc, second)?;
+    walk_beside(rt, alloc, name, &second)
+}
+
+// The same, where the second argument has these dimensions.
+fn walk_beside(
+    rt: &(impl Print + Clock),
+    alloc: Global,
+    name: &str,
+    second: &Dims,
+) -> io::Result<()> {
+    let first = shape(alloc, &[1_000, 1_000])?;
     let mut sum = 0;
-    let watch = walk_timed(rt, alloc, &first, &second, &mut sum)?;
+    let watch = walk_timed(rt, alloc, &first, second, &mut sum)?;
     watch.report(rt, name, elements_of(&first), sum)
 }
 
@@ -62,9 +73,20 @@ fn walk_over(alloc: Global, dims: &Dims, first: &Dims, second: &Dims) -> Result<
     requires second { BroadcastsTo second.now dims.now }
 {
     let mut walk = BroadcastWalk::new(alloc, dims)?;
-    walk.add(&whole_triple(alloc, first))?;
-    walk.add(&whole_triple(alloc, second))?;
+    add(&mut walk, alloc, first)?;
+    add(&mut walk, alloc, second)?;
     Ok(walk_all(&mut walk, elements_of(dims)))
+}
+
+// Adds an array in order of these dimensions to a walk that hasn't moved.
+fn add(walk: &mut BroadcastWalk, alloc: Global, dims: &Dims) -> Result<(), AllocError>
+    requires start { walk.old.index ≡ 0 }
+    requires stretched { BroadcastsTo dims.now walk.old.dims }
+    ensures { let triples = walk.old.triples ++ whole_triple dims.now ∷ [] in
+        OnOk result (walk.new ≡ record walk.old { triples = triples }) }
+{
+    walk.add(&whole_triple(alloc, dims))?;
+    Ok(())
 }
 
 // Walks through all coordinates, and sums both places at each.

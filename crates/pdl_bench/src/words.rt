@@ -15,64 +15,58 @@ pub enum Subject {
     Range,
 }
 
-pub fn type_named(word: &str) -> Option<Ty> {
-    match word {
-        "byte" => Some(Ty::Byte),
-        "short" => Some(Ty::Short),
-        "ushort" => Some(Ty::Ushort),
-        "long" => Some(Ty::Long),
-        "longlong" => Some(Ty::Longlong),
-        _ => None,
+const TYPES: &[(&str, Ty)] = &[
+    ("byte", Ty::Byte),
+    ("short", Ty::Short),
+    ("ushort", Ty::Ushort),
+    ("long", Ty::Long),
+    ("longlong", Ty::Longlong),
+];
+
+const SUBJECTS: &[(&str, Subject)] = &[
+    ("add", Subject::Operator(BinaryOp::Add)),
+    ("sub", Subject::Operator(BinaryOp::Sub)),
+    ("mul", Subject::Operator(BinaryOp::Mul)),
+    ("div", Subject::Operator(BinaryOp::Div)),
+    ("rem", Subject::Operator(BinaryOp::Rem)),
+    ("shl", Subject::Operator(BinaryOp::Shl)),
+    ("shr", Subject::Operator(BinaryOp::Shr)),
+    ("lt", Subject::Operator(BinaryOp::Lt)),
+    ("le", Subject::Operator(BinaryOp::Le)),
+    ("gt", Subject::Operator(BinaryOp::Gt)),
+    ("ge", Subject::Operator(BinaryOp::Ge)),
+    ("eq", Subject::Operator(BinaryOp::Eq)),
+    ("ne", Subject::Operator(BinaryOp::Ne)),
+    ("and", Subject::Operator(BinaryOp::And)),
+    ("or", Subject::Operator(BinaryOp::Or)),
+    ("xor", Subject::Operator(BinaryOp::Xor)),
+    ("in_order", Subject::Window(Form::InOrder)),
+    ("stepped", Subject::Window(Form::Stepped)),
+    ("turned", Subject::Window(Form::Turned)),
+    ("stretched", Subject::Window(Form::Stretched)),
+    ("rows_of_3", Subject::Window(Form::Rows)),
+    ("gather", Subject::Gather),
+    ("scatter", Subject::Scatter),
+    ("print", Subject::Print),
+    ("walk", Subject::Walk),
+    ("index", Subject::Index),
+    ("range", Subject::Range),
+];
+
+// What a word stands for in a table.
+fn named<T: Copy>(table: &[(&str, T)], word: &str) -> Option<T> {
+    for (name, value) in table {
+        if *name == word {
+            return Some(*value);
+        }
     }
+    None
+}
+
+pub fn type_named(word: &str) -> Option<Ty> {
+    named(TYPES, word)
 }
 
 pub fn subject_named(word: &str) -> Option<Subject> {
-    if let Some(op) = operator_named(word) {
-        return Some(Subject::Operator(op));
-    }
-    if let Some(form) = window_named(word) {
-        return Some(Subject::Window(form));
-    }
-    match word {
-        "gather" => Some(Subject::Gather),
-        "scatter" => Some(Subject::Scatter),
-        "print" => Some(Subject::Print),
-        "walk" => Some(Subject::Walk),
-        "index" => Some(Subject::Index),
-        "range" => Some(Subject::Range),
-        _ => None,
-    }
-}
-
-fn operator_named(word: &str) -> Option<BinaryOp> {
-    match word {
-        "add" => Some(BinaryOp::Add),
-        "sub" => Some(BinaryOp::Sub),
-        "mul" => Some(BinaryOp::Mul),
-        "div" => Some(BinaryOp::Div),
-        "rem" => Some(BinaryOp::Rem),
-        "shl" => Some(BinaryOp::Shl),
-        "shr" => Some(BinaryOp::Shr),
-        "lt" => Some(BinaryOp::Lt),
-        "le" => Some(BinaryOp::Le),
-        "gt" => Some(BinaryOp::Gt),
-        "ge" => Some(BinaryOp::Ge),
-        "eq" => Some(BinaryOp::Eq),
-        "ne" => Some(BinaryOp::Ne),
-        "and" => Some(BinaryOp::And),
-        "or" => Some(BinaryOp::Or),
-        "xor" => Some(BinaryOp::Xor),
-        _ => None,
-    }
-}
-
-fn window_named(word: &str) -> Option<Form> {
-    match word {
-        "in_order" => Some(Form::InOrder),
-        "stepped" => Some(Form::Stepped),
-        "turned" => Some(Form::Turned),
-        "stretched" => Some(Form::Stretched),
-        "rows_of_3" => Some(Form::Rows),
-        _ => None,
-    }
+    named(SUBJECTS, word)
 }
