@@ -10,6 +10,7 @@ ghost use Rattle.pdl_world.specs.Paths.{root_of};
 ghost use Rattle.pdl_world.specs.Refused.{view_refusal};
 ghost use Rattle.pdl_world.specs.World.{root, view, dims_in, ty_in, assign};
 ghost use Rattle.pdl_world.specs.Sound.{IsLive, IsSound};
+ghost use Rattle.pdl_nodes.specs.Sized.{IsLayout};
 ghost use Rattle.pdl_engine.specs.State.{AllHaveHolds, AreApart, ChangesFamily, FamilyIsSettled, IsReleased, count_at, holders, one_more_at, written_back, no_arrays, is_fresh, IsLazy, IsLentAs, Joins, Names, OthersWait, TargetWaits, PathIsFresh, SameArrays, StayFresh, TargetIsFresh, ready_steps, shown_in, waiting};
 
 use crate::layouts::layout;
@@ -17,7 +18,7 @@ use pdl_affine::PlanFault;
 use pdl_buf::{Elements, NoMemory, Steps, Strided};
 use pdl_choice::ChoiceFault;
 use pdl_elem::Ty;
-use pdl_nodes::Nodes;
+use pdl_nodes::{Layout, Nodes};
 use pdl_shape::Dims;
 use pdl_world::Trans;
 use std::alloc::{AllocError, Global};
@@ -208,11 +209,24 @@ impl Engine {
         ensures err { OnErr result (self.new ≡ self.old) }
         ensures sound { IsSound self.new.world }
     {
-        let layout = layout(self.alloc, &trans, self.nodes.dims(parent))?;
+        let layout = self.layout_of(parent, &trans)?;
+        Ok(self.nodes.view(parent, trans, layout)?)
+    }
+
+    // The layout of a view of an array, where nothing refuses it.
+    fn layout_of(&self, parent: ArrayId, trans: &Trans) -> Result<Layout, ViewFault>
+        requires live { IsLive self.now.world parent }
+        requires well_formed { IsTrue (is_well_formed trans.now) }
+        ensures layout { IfOk result (IsLayout trans.now (dims_in self.now.world parent)) }
+        ensures allowed { OnOk result (view_refusal self.now.world parent trans.now ≡ None) }
+        ensures refused { IfErr result
+            (λ fault. Names fault (view_refusal self.now.world parent trans.now)) }
+    {
+        let layout = layout(self.alloc, trans, self.nodes.dims(parent))?;
         if self.nodes.is_deep(parent) {
             return Err(ViewFault::TooDeep);
         }
-        Ok(self.nodes.view(parent, trans, layout)?)
+        Ok(layout)
     }
 
     /// Makes an array and each array on its path to the root such that they can be lent. What waits
