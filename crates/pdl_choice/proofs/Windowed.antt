@@ -45,9 +45,13 @@ at_window parent windows at len w long is = record {
     sizes : List ℕ
     sizes = map (λ w. max w 1) windows
 
+-- a number for each window, and one for the dimensions that are left
+pub at_long : (parent windows at : List ℕ) (r : ℕ) → at ≡ coordinates_of (rounds parent windows) r → length at ≡ length windows + 1
+at_long parent windows at r is = ap length is ∙ length-coordinates_of (rounds parent windows) r ∙ length-rounds parent windows
+
 pub at_round : PositionLaws → (parent windows at : List ℕ) (r len : ℕ) → length windows ≤ length parent → r < size_of (inner_dims parent windows) → at ≡ coordinates_of (rounds parent windows) r → len ≡ length at - 1 → AtWindow parent windows at len
 at_round positions parent windows at r len fit h is same =
-    let long : length at ≡ length windows + 1 = ap length is ∙ length-coordinates_of (rounds parent windows) r ∙ length-rounds parent windows in
+    let long = at_long parent windows at r is in
     at_window parent windows at len (subst (λ (cs : List ℕ). IsWithin (rounds parent windows) cs) (sym is) (positions.coordinates_within (rounds parent windows) r (omega (arith, size_of-rounds parent windows fit)))) long (omega arith)
 
 -- the edges place all corners' numbers there

@@ -1,4 +1,4 @@
-use Rattle.std.proofs.Common.{◌≡◌, ◌-◌, ◌<◌, ◌∙◌, ℕ, List, ℤ, ap, drop, get_or, length, subst, sym}
+use Rattle.std.proofs.Common.{◌≡◌, ◌-◌, arith, ◌<◌, ◌∙◌, ℕ, List, ℤ, ap, drop, get_or, length, subst, sym}
 use Rattle.pdl_shape.specs.Shape.{size_of}
 use Rattle.pdl_choice.specs.Rounds.{numbers_at, placed}
 use Rattle.pdl_choice.proofs.Bounds.{corner_fits}
@@ -6,6 +6,19 @@ use Rattle.pdl_choice.proofs.Inside.{inside_push}
 use Rattle.pdl_choice.proofs.Listed.{places_added}
 use Rattle.pdl_choice.proofs.Reached.{length-corner}
 use Rattle.pdl_choice.proofs.windows.push_corners.Goals as goal
+
+pub corner_of-corner-requires : goal.corner_of-corner-requires
+corner_of-corner-requires c = corner_fits _ _ c.args.corners _ c.loop-number-test.true c.requires.whole
+
+pub corner_place-requires-clause-paired : goal.corner_place-requires-clause-paired
+corner_place-requires-clause-paired c =
+    let len : length c.corner_of-corner.result.now ≡ length c.args.at.now - 1 = ap length c.corner_of-corner.ensures ∙ length-corner c.args.ind.now _ c.loop-number.number (corner_fits _ _ c.args.corners _ c.loop-number-test.true c.requires.whole) in
+    omega (arith, len, c.requires.some)
+
+pub corner_place-requires-clause-fit : goal.corner_place-requires-clause-fit
+corner_place-requires-clause-fit c =
+    let len : length c.corner_of-corner.result.now ≡ length c.args.at.now - 1 = ap length c.corner_of-corner.ensures ∙ length-corner c.args.ind.now _ c.loop-number.number (corner_fits _ _ c.args.corners _ c.loop-number-test.true c.requires.whole) in
+    omega (arith, len, c.requires.fit)
 
 pub corner_place-requires-clause-within : goal.corner_place-requires-clause-within
 corner_place-requires-clause-within c =

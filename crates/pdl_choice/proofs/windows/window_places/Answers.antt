@@ -1,4 +1,4 @@
-use Rattle.std.proofs.Common.{◌∙◌, ◌-◌, ◌/◌, ◌%◌, ap, arith, length, map, None}
+use Rattle.std.proofs.Common.{◌∙◌, ◌-◌, ◌*◌, ◌/◌, ◌%◌, ap, arith, length, map, None}
 use Rattle.std.specs.List.{range_with_len}
 use Rattle.std.proofs.lemmas.List.{with_items_is}
 use Rattle.pdl_shape.specs.Shape.{size_of}
@@ -8,7 +8,7 @@ use Rattle.pdl_choice.proofs.Inside.{none_inside}
 use Rattle.pdl_choice.proofs.Listed.{rounds_grow, rounds_none}
 use Rattle.pdl_choice.proofs.MovingOn.{rounds_all, rounds_below}
 use Rattle.pdl_choice.proofs.Reached.{window_position}
-use Rattle.pdl_choice.proofs.Windowed.{all_placed, at_round, first_round, round_moved, round_places, round_within, rounds_are}
+use Rattle.pdl_choice.proofs.Windowed.{all_placed, at_long, at_round, first_round, round_moved, round_places, round_within, rounds_are}
 use Rattle.pdl_choice.proofs.windows.window_places.Goals as goal
 
 pub loop-round-init : goal.loop-round-init
@@ -17,6 +17,19 @@ loop-round-init c = (
   rounds_none _ c.in_ok-places.places.items c.args.corners c.in_ok-places.ensures.items,
   none_inside (size_of c.args.parent.now) c.in_ok-places.places.items c.in_ok-places.ensures.items,
 )
+
+pub push_corners-requires-clause-some : goal.push_corners-requires-clause-some
+push_corners-requires-clause-some c =
+    omega (arith, at_long c.args.parent.now c.args.windows.now c.deref.result.now c.loop-round._round (c.deref.ensures.value ∙ c.loop-round.invariant.0))
+
+pub push_corners-requires-clause-fit : goal.push_corners-requires-clause-fit
+push_corners-requires-clause-fit c =
+    omega (arith, at_long c.args.parent.now c.args.windows.now c.deref.result.now c.loop-round._round (c.deref.ensures.value ∙ c.loop-round.invariant.0), c.requires.fit)
+
+pub push_corners-requires-clause-whole : goal.push_corners-requires-clause-whole
+push_corners-requires-clause-whole c =
+    let long = at_long c.args.parent.now c.args.windows.now c.deref.result.now c.loop-round._round (c.deref.ensures.value ∙ c.loop-round.invariant.0) in
+    c.requires.whole ∙ ap (λ n. n * c.args.corners) (omega (arith, long))
 
 pub push_corners-requires-clause-allowed : goal.push_corners-requires-clause-allowed
 push_corners-requires-clause-allowed c =
