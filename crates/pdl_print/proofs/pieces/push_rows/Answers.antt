@@ -2,6 +2,7 @@
 use Rattle.std.proofs.Common.{◌≡◌, ℕ, ℤ, List, ◌+◌, ◌-◌, ◌*◌, ◌++◌, take, drop, arith, ap, ap₂, sym, ◌∙◌, append_assoc}
 use Rattle.std.specs.Prelude.{flat_map}
 use Rattle.pdl_print.specs.Printed.{line, widest, pieces}
+use Rattle.pdl_print.proofs.Fronts.{begins_by, begins_then}
 use Rattle.pdl_print.proofs.Texts.{flat_more}
 use Rattle.pdl_print.proofs.pieces.push_rows.Goals as goal
 
@@ -21,3 +22,9 @@ loop-row-preserved c =
     ∙ ap₂ (λ (n : ℕ) (xs : List ℤ). (old ++ flat_map f (pieces row size part)) ++ f (take n (drop (row * size) xs))) long same
     ∙ append_assoc old (flat_map f (pieces row size part)) (f (take size (drop (row * size) part)))
     ∙ ap (λ (t : List ℕ). old ++ t) (sym (flat_more f row size part))
+
+pub returns-in_err-push_line-clause-front : goal.returns-in_err-push_line-clause-front
+returns-in_err-push_line-clause-front c = begins_then _ _ _ (begins_by _ _ _ c.loop-row.invariant) c.in_err-push_line.ensures.front
+
+pub returns-clause-front : goal.returns-clause-front
+returns-clause-front c = begins_by _ _ _ c.loop-row.invariant

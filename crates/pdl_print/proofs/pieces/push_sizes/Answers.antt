@@ -1,6 +1,7 @@
 -- One size more.
 use Rattle.std.proofs.Common.{ℕ, List, ◌+◌, ◌-◌, ◌<◌, ◌++◌, ◌∷◌, [], length, take, drop, get_or, arith, ap, sym, ◌∙◌}
 use Rattle.std.specs.Prelude.{decimal}
+use Rattle.pdl_print.proofs.Fronts.{begins_by, begins_then}
 use Rattle.pdl_print.proofs.Texts.{join_more, grown, rest_at}
 use Rattle.pdl_print.specs.Printed.{decimals_joined}
 use Rattle.pdl_print.proofs.pieces.push_sizes.Goals as goal
@@ -16,3 +17,14 @@ loop-size-preserved c =
     ∙ grown c.args.into.now.items (decimals_joined c.args.byte (take (k + 1) xs)) (c.args.byte ∷ []) (decimal (get_or (take (length xs - 1) (drop 1 xs)) k 0))
     ∙ ap (λ (n : ℕ). c.args.into.now.items ++ (decimals_joined c.args.byte (take (k + 1) xs) ++ c.args.byte ∷ decimal n)) (rest_at xs k h)
     ∙ ap (λ (t : List ℕ). c.args.into.now.items ++ t) (sym step)
+
+pub returns-in_err-push-clause-front : goal.returns-in_err-push-clause-front
+returns-in_err-push-clause-front c = begins_by _ _ _ (c.in_err-push.ensures.items ∙ c.loop-size.invariant)
+
+pub returns-in_err-push_size-2-clause-front : goal.returns-in_err-push_size-2-clause-front
+returns-in_err-push_size-2-clause-front c =
+    begins_then _ _ _ (begins_then _ _ _ (begins_by _ _ _ c.loop-size.invariant) (begins_by _ _ _ c.in_ok-push.ensures.items))
+    c.in_err-push_size-2.ensures.front
+
+pub returns-clause-front : goal.returns-clause-front
+returns-clause-front c = begins_by _ _ _ c.loop-size.invariant
