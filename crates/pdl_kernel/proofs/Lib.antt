@@ -15,6 +15,7 @@ mod Singles
 mod Slopes
 mod Shaping
 mod Starting
+mod Steadying
 mod Stores
 mod Sweeping
 mod Turning

@@ -1,9 +1,11 @@
 -- Loops whose body is a loop along lines, perhaps under a condition.
-use Rattle.std.proofs.Common.{◌≡◌, ℕ, zero, suc, ◌+◌, ◌-◌, ◌<◌, ◌≤◌, ℤ, pos, negsuc, List, [], ◌∷◌, length, get_or, Ok, Err, refl, sym, ap, subst, ◌∙◌, arith}
+use Rattle.std.proofs.Common.{Bor, ◌≡◌, ℕ, zero, suc, ◌+◌, ◌-◌, ◌<◌, ◌≤◌, ℤ, pos, negsuc, List, [], ◌∷◌, length, get_or, Ok, Err, refl, sym, ap, subst, ◌∙◌, arith}
 use Rattle.std.specs.Prelude.{Bool, true, false, if◌then◌else◌, IfSome, Option, Some, None, Result, slice_set}
 use Rattle.pdl_sig.specs.declared.Resolved.{Resolved}
 use Rattle.pdl_sig.specs.declared.Role.{Role}
 use Rattle.pdl_sig.specs.Resolution.{size_in}
+use Rattle.std.proofs.lemmas.List.{set-set}
+use Rattle.pdl_code.specs.declared.tree.Expr.{Expr}
 use Rattle.pdl_code.specs.declared.tree.Stmt.{Stmt}
 use Rattle.pdl_code.specs.Tree.{Code, Step, Tree, choose, done, next, repeat}
 use Rattle.pdl_code.specs.TreeOf.{code_of, step_of, tree_of}
@@ -12,12 +14,16 @@ use Rattle.pdl_kernel.specs.declared.nest.Nest.{Nest}
 use Rattle.pdl_kernel.specs.declared.nested.Guard.{Guard}
 use Rattle.pdl_kernel.specs.declared.nested.Guard.TheVariants.{Always, Where}
 use Rattle.pdl_kernel.specs.declared.nested.Inner.{Inner}
+use Rattle.pdl_kernel.specs.declared.nested.Settled.{Settled}
+use Rattle.pdl_kernel.specs.declared.nested.Wants.TheVariants.{Known, Each}
+use Rattle.pdl_kernel.specs.declared.steady.Steady.{Steady}
 use Rattle.pdl_kernel.specs.declared.sweep.Plan.{Plan}
 use Rattle.pdl_kernel.specs.Lines.{HasSameForm, IsCodePlan, IsServed, loops_at, turned}
 use Rattle.pdl_kernel.specs.Meaning.{Store, and_then, branch, run, turns, value}
-use Rattle.pdl_kernel.specs.Nested.{Resumes, code_of_inner, guarded, guarded_turn, wanted}
-use Rattle.pdl_kernel.specs.Sources.{IsCodeFree, Work, store_of}
-use Rattle.pdl_kernel.proofs.Sweeping.{form_same, swept, then_done, turns_form, turns_more}
+use Rattle.pdl_kernel.specs.Nested.{IsSettled, Resumes, code_of_inner, guarded, guarded_turn, outer_turn, wanted, wants_of}
+use Rattle.pdl_kernel.specs.Sources.{IsCodeFree, Source, Work, store_of}
+use Rattle.pdl_kernel.specs.Steady.{IsSteady}
+use Rattle.pdl_kernel.proofs.Sweeping.{form_more, form_same, swept, then_done, turns_form, turns_more}
 
 -- the assignments of a loop that code is
 pub inner_free : (roles : List Role) (inner : Inner) → IsCodeFree roles (code_of_inner inner) → IsCodeFree roles (code_of inner.body.now)
@@ -31,9 +37,9 @@ inner_free roles inner = by inner.guard
 pub turn_is : (l : Nest) (g : Guard) (code : Code) (p : Plan) → IsCodePlan l code p → size_in l.resolved.now.sizes l.inner ≡ l.count → (j : ℕ) → j < l.turns → IsServed p j → (w : Work) → HasSameForm l.frames.now w → (here : List ℕ)
     → here ≡ slice_set l.at.now l.outer (l.first + j)
     → run l.resolved.now here (guarded g (next (repeat l.inner code) done)) (store_of l.sources.now w)
-    ≡ and_then (guarded_turn (wanted l.resolved.now.sizes here (store_of l.sources.now w) g) p j l.count w) (λ v. Ok (store_of l.sources.now v))
+    ≡ and_then (guarded_turn (wanted l.resolved.now.sizes here (store_of l.sources.now w) (wants_of g)) p j l.count w) (λ v. Ok (store_of l.sources.now v))
 turn_is l g code p h size j jt served w form here is =
-    subst (λ at. run l.resolved.now at (guarded g loop) m ≡ and_then (guarded_turn (wanted l.resolved.now.sizes at m g) p j l.count w) (λ v. Ok (store_of l.sources.now v))) (sym is) (by_guard g)
+    subst (λ at. run l.resolved.now at (guarded g loop) m ≡ and_then (guarded_turn (wanted l.resolved.now.sizes at m (wants_of g)) p j l.count w) (λ v. Ok (store_of l.sources.now v))) (sym is) (by_guard g)
   where
     at : List ℕ
     at = slice_set l.at.now l.outer (l.first + j)
@@ -59,7 +65,7 @@ turn_is l g code p h size j jt served w form here is =
     by_value (Ok (negsuc n)) = by_loop
     by_value (Err d) = refl
 
-    by_guard : (g : Guard) → run l.resolved.now at (guarded g loop) m ≡ and_then (guarded_turn (wanted l.resolved.now.sizes at m g) p j l.count w) (λ v. Ok (store_of l.sources.now v))
+    by_guard : (g : Guard) → run l.resolved.now at (guarded g loop) m ≡ and_then (guarded_turn (wanted l.resolved.now.sizes at m (wants_of g)) p j l.count w) (λ v. Ok (store_of l.sources.now v))
     by_guard Always = by_loop
     by_guard (Where e) = then_done (and_then (value l.resolved.now.sizes at m (tree_of e.now)) (λ x. branch x (run l.resolved.now at loop m) (Ok m))) ∙ by_value (value l.resolved.now.sizes at m (tree_of e.now))
 
@@ -69,15 +75,68 @@ guarded_form (Ok true) p j n w now e = turns_form p j n 0 w now e
 guarded_form (Ok false) p j n w now e = let is : w ≡ now = cc in subst (HasSameForm w) is (form_same w)
 guarded_form (Err d) p j n w now e = cc
 
--- one turn more, and a fault at one
-pub resume_more : (f : ℕ → Store → Result Store Fault) (first j size : ℕ) (m now : Store) (all : Result Store Fault) → first + j < size → f (first + j) m ≡ Ok now → turns f (first + j) (size - (first + j)) m ≡ all
-    → turns f (first + (j + 1)) (size - (first + (j + 1))) now ≡ all
-resume_more f first j size m now all lt here rest =
-    let one : first + (j + 1) ≡ first + j + 1 = omega arith in
-    ap (λ k. turns f k (size - k) now) one ∙ sym (turns_more f (first + j) size m (Ok now) lt here) ∙ rest
+-- turns that go by a plan, which keeps the form: what is left to do behind them
+resume_by : (f : ℕ → Store → Result Store Fault) (g : ℕ → Work → Result Work Fault) (ss : List Source) (start : Work) (first size n : ℕ) → first + n ≤ size → ((j : ℕ) (w now : Work) → g j w ≡ Ok now → HasSameForm w now)
+    → ((j : ℕ) → j < n → (w : Work) → HasSameForm start w → f (first + j) (store_of ss w) ≡ and_then (g j w) (λ v. Ok (store_of ss v)))
+    → (k j : ℕ) → j + k ≡ n → (w : Work) → HasSameForm start w
+    → turns f (first + j) (size - (first + j)) (store_of ss w) ≡ and_then (turns g j k w) (λ v. turns f (first + n) (size - (first + n)) (store_of ss v))
+resume_by f g ss start first size n le keeps same zero j all w form =
+    let e : j ≡ n = omega (arith, all) in ap (λ i. turns f (first + i) (size - (first + i)) (store_of ss w)) e
+resume_by f g ss start first size n le keeps same (suc k) j all w form =
+    turns_more f (first + j) size (store_of ss w) _ (omega (arith, all, le)) (same j (omega (arith, all)) w form)
+    ∙ by (g j w) refl (λ v kept. resume_by f g ss start first size n le keeps same k (j + 1) (omega (arith, all)) v kept)
+  where
+    left : Work → Result Store Fault
+    left v = turns f (first + n) (size - (first + n)) (store_of ss v)
 
-pub resume_fault : (f : ℕ → Store → Result Store Fault) (first j size : ℕ) (m : Store) (d : Fault) (all : Result Store Fault) → first + j < size → f (first + j) m ≡ Err d → turns f (first + j) (size - (first + j)) m ≡ all → all ≡ Err d
-resume_fault f first j size m d all lt here rest = sym rest ∙ turns_more f (first + j) size m (Err d) lt here
+    by : (r : Result Work Fault) → g j w ≡ r
+        → ((v : Work) → HasSameForm start v → turns f (first + (j + 1)) (size - (first + (j + 1))) (store_of ss v) ≡ and_then (turns g (j + 1) k v) left)
+        → and_then (and_then r (λ v. Ok (store_of ss v))) (turns f (first + j + 1) (size - (first + j + 1))) ≡ and_then (and_then r (turns g (j + 1) k)) left
+    by (Ok v) is more = let one : first + j + 1 ≡ first + (j + 1) = omega arith in
+        ap (λ i. turns f i (size - i) (store_of ss v)) one ∙ more v (form_more start w v form (keeps j w v is))
+    by (Err d) is more = refl
+
+-- turns that change nothing
+pub turns_idle : {A : Type 0} (f : ℕ → A → Result A Fault) (m : A) → ((i : ℕ) → f i m ≡ Ok m) → (i n : ℕ) → turns f i n m ≡ Ok m
+turns_idle f m idle i zero = refl
+turns_idle f m idle i (suc n) = ap (λ r. and_then r (turns f (i + 1) n)) (idle i) ∙ turns_idle f m idle (i + 1) n
+
+-- the loop resumes behind them, or has their fault
+resumes : (f : ℕ → Store → Result Store Fault) (g : ℕ → Work → Result Work Fault) (ss : List Source) (start : Work) (first size n : ℕ) → first + n ≤ size → ((j : ℕ) (w now : Work) → g j w ≡ Ok now → HasSameForm w now)
+    → ((j : ℕ) → j < n → (w : Work) → HasSameForm start w → f (first + j) (store_of ss w) ≡ and_then (g j w) (λ v. Ok (store_of ss v)))
+    → (r : Result Work Fault) → turns g 0 n start ≡ r
+    → turns f first (size - first) (store_of ss start) ≡ and_then r (λ v. turns f (first + n) (size - (first + n)) (store_of ss v))
+resumes f g ss start first size n le keeps same r is =
+    let e : first ≡ first + 0 = omega arith in
+    ap (λ i. turns f i (size - i) (store_of ss start)) e ∙ resume_by f g ss start first size n le keeps same n 0 (omega arith) start (form_same start) ∙ ap (λ r. and_then r (λ v. turns f (first + n) (size - (first + n)) (store_of ss v))) is
+
+-- a nest that goes by a plan, as far as its lines serve and its guard is known
+pub inner_resumes : (l : Nest) (g : Guard) (code : Code) (p : Plan) (s : Settled) (n : ℕ) → IsCodePlan l code p → size_in l.resolved.now.sizes l.inner ≡ l.count → IsSettled l.resolved.now.sizes l.at.now l.sources.now l.frames.now l.outer g l.first s
+    → l.turns ≡ s.until - l.first → n ≤ l.turns → ((j : ℕ) → j < n → IsServed p j)
+    → (r : Result Work Fault) → turns (outer_turn l.resolved.now.sizes l.at.now l.sources.now l.outer l.first s.wants p l.count) 0 n l.frames.now ≡ r
+    → let f : ℕ → Store → Result Store Fault = λ i now. run l.resolved.now (slice_set l.at.now l.outer i) (guarded g (next (repeat l.inner code) done)) now in
+    let size = size_in l.resolved.now.sizes l.outer in
+    turns f l.first (size - l.first) (store_of l.sources.now l.frames.now) ≡ and_then r (λ v. turns f (l.first + n) (size - (l.first + n)) (store_of l.sources.now v))
+inner_resumes l g code p s n h size settled some few served r is =
+    resumes _ (outer_turn l.resolved.now.sizes l.at.now l.sources.now l.outer l.first s.wants p l.count) l.sources.now l.frames.now l.first (size_in l.resolved.now.sizes l.outer) n
+    (omega (arith, some, few, settled.lasts.0, settled.lasts.1)) (λ j w now e. guarded_form _ p j l.count w now e) same r is
+  where
+    same : (j : ℕ) → j < n → (w : Work) → HasSameForm l.frames.now w → run l.resolved.now (slice_set l.at.now l.outer (l.first + j)) (guarded g (next (repeat l.inner code) done)) (store_of l.sources.now w)
+        ≡ and_then (outer_turn l.resolved.now.sizes l.at.now l.sources.now l.outer l.first s.wants p l.count j w) (λ v. Ok (store_of l.sources.now v))
+    same j jt w form = turn_is l g code p h size j (omega (arith, jt, few)) (served j jt) w form (slice_set l.at.now l.outer (l.first + j)) refl
+        ∙ ap (λ b. and_then (guarded_turn b p j l.count w) (λ v. Ok (store_of l.sources.now v))) (settled.same w form (l.first + j) (omega arith) (omega (arith, jt, some, few, settled.lasts.0)))
+
+-- a condition whose number stays
+pub condition_settled : (l : Nest) (e : Bor Expr) (first : ℕ) (s : Steady) (b : Bool) → l.outer ≡ l.inner → 1 ≤ l.turns → l.count ≡ size_in l.resolved.now.sizes l.inner → IsSteady l (tree_of e.now) first s → b ≡ branch s.number true false
+    → IsSettled l.resolved.now.sizes l.at.now l.sources.now l.frames.now l.inner (Where e) first (record { wants = Known b; until = s.until })
+condition_settled l e first s b alone some size steady is = record {
+  lasts = (steady.lasts.0, omega (arith, steady.lasts.1, size));
+  same = λ w form i fi iu.
+      let sizes = l.resolved.now.sizes in
+      let m = store_of l.sources.now w in
+      let at : slice_set l.at.now l.inner i ≡ loops_at l 0 i = sym (ap (λ k. slice_set (slice_set l.at.now k (l.first + 0)) l.inner i) alone ∙ set-set l.at.now l.inner (l.first + 0) i) in
+      ap (λ a. wanted sizes a m (Each e)) at ∙ ap (λ r. and_then r (λ x. Ok (branch x true false))) (steady.number w form 0 (omega (arith, some)) i (omega (arith, iu, steady.lasts.1)) fi iu) ∙ ap Ok (sym is);
+}
 
 -- code that is a loop, and one under a condition
 pub inner_always : (code : List Stmt) (r : Option Inner) → IfSome r (λ inner. inner.guard ≡ Always) → IfSome r (λ inner. code_of code ≡ next (repeat inner.dimension (code_of inner.body.now)) done) → IfSome r (λ inner. code_of code ≡ code_of_inner inner)

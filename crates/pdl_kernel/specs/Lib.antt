@@ -12,3 +12,4 @@ pub mod Runs
 pub mod Scalars
 pub mod Setup
 pub mod Sources
+pub mod Steady

@@ -20,6 +20,7 @@ mod part;
 mod run;
 mod setup;
 mod source;
+mod steady;
 mod steps;
 mod sweep;
 mod walk;

@@ -21,8 +21,9 @@ const NEAR: i64 = 1099511627776;
 
 /// The fewer of two counts.
 #[inline(always)]
-fn fewer(a: u32, b: u32) -> u32
-    ensures { (result ≤ a) × (result ≤ b) }
+pub fn fewer(a: u32, b: u32) -> u32
+    ensures few { (result ≤ a) × (result ≤ b) }
+    ensures most { (n : ℕ) → n ≤ a → n ≤ b → n ≤ result }
 {
     if a < b { a } else { b }
 }
@@ -176,7 +177,7 @@ fn pair_slope(nest: &Nest, expr: &Expr) -> Option<Slope>
 
 /// The number of an operation on two such expressions, or of one of these.
 #[inline(always)]
-fn small_slope(nest: &Nest, expr: &Expr) -> Option<Slope>
+pub fn small_slope(nest: &Nest, expr: &Expr) -> Option<Slope>
     ensures { IfSome result (IsSlope nest.now (tree_of expr.now)) }
 {
     match expr {

@@ -1,12 +1,13 @@
 //! Loops whose body is a loop along lines, perhaps under a condition: the lines are found once for
 //! as many turns as they serve.
-ghost use Rattle.std.specs.Prelude.{◌≡◌, ◌<◌, length, slice_set, IfNone, IfSome};
+ghost use Rattle.std.specs.Prelude.{◌≡◌, ◌<◌, ◌+◌, length, slice_set, IfNone, IfSome};
 ghost use Rattle.pdl_sig.specs.Resolution.{size_in};
 ghost use Rattle.pdl_code.specs.TreeOf.{code_of};
 ghost use Rattle.pdl_code.specs.Tree.{done, next, repeat};
 ghost use Rattle.pdl_kernel.specs.Answers.{Becomes};
 ghost use Rattle.pdl_kernel.specs.Meaning.{and_then, run, turns};
-ghost use Rattle.pdl_kernel.specs.Nested.{Resumes, code_of_inner, guarded, guarded_turn, wanted};
+ghost use Rattle.pdl_kernel.specs.declared.nested.Guard.TheVariants.{Where};
+ghost use Rattle.pdl_kernel.specs.Nested.{IsSettled, Resumes, code_of_inner, guarded, guarded_turn, outer_turn, wanted};
 ghost use Rattle.pdl_kernel.specs.Sources.{IsCodeFree, roles_of, store_of};
 
 use crate::axes::{MOST, set_index};
@@ -15,7 +16,8 @@ use crate::faults::Fault;
 use crate::frame::Frames;
 use crate::nest::Nest;
 use crate::source::Source;
-use crate::sweep::{Plan, code_plan, is_served, turns_by};
+use crate::steady::steady_number;
+use crate::sweep::{Plan, all_turns, code_plan, turns_by, turns_served};
 use pdl_code::{Expr, Stmt};
 use pdl_sig::Resolved;
 
@@ -75,6 +77,20 @@ fn inner_of<'a>(code: &'a [Stmt]) -> Option<Inner<'a>>
     }
 }
 
+/// Whether a loop is run: as is known of all turns of the outer one, or where a number isn't 0.
+#[derive(Clone, Copy)]
+pub enum Wants<'a> {
+    Known(bool),
+    Each(&'a Expr),
+}
+
+/// What is known of a guard up to a turn of the outer loop.
+#[derive(Clone, Copy)]
+pub struct Settled<'a> {
+    pub wants: Wants<'a>,
+    pub until: u32,
+}
+
 /// Whether the loop is run.
 #[inline(always)]
 fn wanted(
@@ -82,17 +98,84 @@ fn wanted(
     sources: &[Source],
     frames: &Frames,
     at: &[u32; MOST],
-    guard: &Guard,
+    wants: &Wants,
 ) -> Result<bool, Fault>
     ensures { let m = store_of sources.now frames.now in
-        result ≡ wanted resolved.now.sizes at.now m guard.now }
+        result ≡ wanted resolved.now.sizes at.now m wants.now }
 {
-    match guard {
-        Guard::Always => Ok(true),
-        Guard::Where(expr) => match value(resolved, sources, frames, at, expr) {
+    match wants {
+        Wants::Known(known) => Ok(*known),
+        Wants::Each(expr) => match value(resolved, sources, frames, at, expr) {
             Ok(x) => Ok(x != 0),
             Err(fault) => Err(fault),
         },
+    }
+}
+
+/// A condition, where it is made of comparisons that stay as they are from a turn on.
+#[inline(always)]
+fn settle_condition<'a>(
+    resolved: &Resolved,
+    sources: &[Source],
+    frames: &Frames,
+    at: &[u32; MOST],
+    dimension: usize,
+    expr: &'a Expr,
+    first: u32,
+) -> Settled<'a>
+    requires named { dimension < 8 }
+    requires first { first < size_in resolved.now.sizes dimension }
+    ensures { IsSettled resolved.now.sizes at.now sources.now frames.now dimension
+        (Where expr.entry) first result }
+{
+    let count = size_in(resolved, dimension);
+    let alone = Nest {
+        resolved,
+        sources,
+        frames,
+        at,
+        outer: dimension,
+        first: 0,
+        turns: 1,
+        inner: dimension,
+        count,
+    };
+    match steady_number(&alone, expr, first) {
+        Some(steady) => Settled {
+            wants: Wants::Known(steady.number != 0),
+            until: steady.until,
+        },
+        None => Settled {
+            wants: Wants::Each(expr),
+            until: count,
+        },
+    }
+}
+
+/// What is known of a guard from a turn of the outer loop on.
+#[inline(always)]
+fn settle_guard<'a>(
+    resolved: &Resolved,
+    sources: &[Source],
+    frames: &Frames,
+    at: &[u32; MOST],
+    dimension: usize,
+    guard: &Guard<'a>,
+    first: u32,
+) -> Settled<'a>
+    requires named { dimension < 8 }
+    requires first { first < size_in resolved.now.sizes dimension }
+    ensures { IsSettled resolved.now.sizes at.now sources.now frames.now dimension guard.now
+        first result }
+{
+    match guard {
+        Guard::Always => Settled {
+            wants: Wants::Known(true),
+            until: size_in(resolved, dimension),
+        },
+        Guard::Where(expr) => settle_condition(
+            resolved, sources, frames, at, dimension, expr, first,
+        ),
     }
 }
 
@@ -103,20 +186,57 @@ fn turn_by(
     sources: &[Source],
     frames: &mut Frames,
     at: &[u32; MOST],
-    guard: &Guard,
+    wants: &Wants,
     plan: &Plan,
     outer: u32,
     count: u32,
 ) -> Result<(), Fault>
     requires { plan.now.number < length frames.old.arrays }
     ensures { let wants = wanted resolved.now.sizes at.now (store_of sources.now frames.old)
-        guard.now in
+        wants.now in
         Becomes result frames.new (guarded_turn wants plan.now outer count frames.old) }
 {
-    match wanted(resolved, sources, frames, at, guard) {
+    match wanted(resolved, sources, frames, at, wants) {
         Ok(true) => turns_by(frames, plan, outer, count),
         Ok(false) => Ok(()),
         Err(fault) => Err(fault),
+    }
+}
+
+/// So many turns of the outer loop.
+#[inline(always)]
+fn guarded_turns(
+    resolved: &Resolved,
+    sources: &[Source],
+    frames: &mut Frames,
+    at: &[u32; MOST],
+    dimension: usize,
+    first: u32,
+    wants: &Wants,
+    plan: &Plan,
+    amount: u32,
+    count: u32,
+) -> Result<(), Fault>
+    requires known { plan.now.number < length frames.old.arrays }
+    requires room { first + amount < 4294967296 }
+    ensures { let turn = outer_turn resolved.now.sizes at.now sources.now dimension first wants.now
+        plan.now count in
+        Becomes result frames.new (turns turn 0 amount frames.old) }
+{
+    match wants {
+        Wants::Known(true) => all_turns(frames, plan, amount, count),
+        Wants::Known(false) => Ok(()),
+        Wants::Each(_) => {
+            let mut here = *at;
+            for outer in 0..amount {
+                set_index(&mut here, dimension, first + outer);
+                match turn_by(resolved, sources, frames, &here, wants, plan, outer, count) {
+                    Ok(()) => {}
+                    Err(fault) => return Err(fault),
+                }
+            }
+            Ok(())
+        }
     }
 }
 
@@ -144,6 +264,15 @@ fn inner_turns(
     if dimension >= MOST || inner.dimension >= MOST || count == 0 {
         return None;
     }
+    let settled = settle_guard(
+        resolved,
+        sources,
+        frames,
+        at,
+        dimension,
+        &inner.guard,
+        first,
+    );
     let nest = Nest {
         resolved,
         sources,
@@ -151,26 +280,20 @@ fn inner_turns(
         at,
         outer: dimension,
         first,
-        turns: size_in(resolved, dimension) - first,
+        turns: settled.until - first,
         inner: inner.dimension,
         count,
     };
-    let turns = nest.turns;
     match code_plan(&nest, inner.body) {
         Some(plan) => {
-            let mut here = *at;
-            for outer in 0..turns {
-                if !is_served(&plan, outer) {
-                    return Some(Ok(first + outer));
-                }
-                set_index(&mut here, dimension, first + outer);
-                let guard = &inner.guard;
-                match turn_by(resolved, sources, frames, &here, guard, &plan, outer, count) {
-                    Ok(()) => {}
-                    Err(fault) => return Some(Err(fault)),
-                }
+            let wants = settled.wants;
+            let turns = turns_served(&plan, settled.until - first);
+            match guarded_turns(
+                resolved, sources, frames, at, dimension, first, &wants, &plan, turns, count,
+            ) {
+                Ok(()) => Some(Ok(first + turns)),
+                Err(fault) => Some(Err(fault)),
             }
-            Some(Ok(first + turns))
         }
         None => None,
     }

@@ -1,6 +1,6 @@
 //! Loops in which each access leads along a line: the lines are found once, and each turn goes by
 //! places alone.
-ghost use Rattle.std.specs.Prelude.{◌≡◌, ◌<◌, ◌+◌, length, slice_set, IfNone, IfSome, IsTrue};
+ghost use Rattle.std.specs.Prelude.{◌≡◌, ◌<◌, ◌≤◌, ◌+◌, ℕ, length, slice_set, IfNone, IfSome};
 ghost use Rattle.pdl_sig.specs.Resolution.{size_in};
 ghost use Rattle.pdl_code.specs.TreeOf.{code_of, indices_of, step_of, tree_of};
 ghost use Rattle.pdl_kernel.specs.Answers.{Becomes};
@@ -13,7 +13,7 @@ use crate::eval::size_in;
 use crate::faults::Fault;
 use crate::frame::Frames;
 use crate::line::{Line, place_at};
-use crate::lines::{block_line, line_of};
+use crate::lines::{block_line, fewer, line_of};
 use crate::nest::Nest;
 use crate::operations::change;
 use crate::source::Source;
@@ -152,24 +152,28 @@ pub fn code_plan<'a>(nest: &Nest<'a, '_>, code: &[Stmt]) -> Option<Plan<'a>>
     }
 }
 
-/// Whether an operand is found by its line at a turn of the outer loop.
+/// For how many of so many turns of the outer loop an operand is found by its line.
 #[inline(always)]
-fn serves(operand: &Operand, outer: u32) -> bool
-    ensures { IsTrue result → Serves operand.now outer }
+fn served(operand: &Operand, most: u32) -> u32
+    ensures few { result ≤ most }
+    ensures served { (j : ℕ) → j < result → Serves operand.now j }
 {
     match operand {
-        Operand::Fixed(_) => true,
-        Operand::Given(_, line) => outer < line.turns,
-        Operand::Along(_, line) => outer < line.turns,
+        Operand::Fixed(_) => most,
+        Operand::Given(_, line) => fewer(most, line.turns),
+        Operand::Along(_, line) => fewer(most, line.turns),
     }
 }
 
-/// Whether a turn of the outer loop goes by the plan.
+/// How many of so many turns of the outer loop go by the plan.
 #[inline(always)]
-pub fn is_served(plan: &Plan, outer: u32) -> bool
-    ensures { IsTrue result → IsServed plan.now outer }
+pub fn turns_served(plan: &Plan, most: u32) -> u32
+    ensures few { result ≤ most }
+    ensures served { (j : ℕ) → j < result → IsServed plan.now j }
 {
-    outer < plan.line.turns && serves(&plan.value.left, outer) && serves(&plan.value.right, outer)
+    let first = fewer(most, plan.line.turns);
+    let second = served(&plan.value.left, first);
+    served(&plan.value.right, second)
 }
 
 /// An operand at a turn.
@@ -223,6 +227,24 @@ pub fn turns_by(frames: &mut Frames, plan: &Plan, outer: u32, count: u32) -> Res
     Ok(())
 }
 
+/// All turns of both loops, until a fault. The plan is copied, so that no store is taken to change
+/// it.
+#[inline(never)]
+pub fn all_turns(frames: &mut Frames, plan: &Plan, amount: u32, count: u32) -> Result<(), Fault>
+    requires { plan.now.number < length frames.old.arrays }
+    ensures { Becomes result frames.new
+        (turns (λ j. turns (turned plan.now j) 0 count) 0 amount frames.old) }
+{
+    let own = *plan;
+    for outer in 0..amount {
+        match turns_by(frames, &own, outer, count) {
+            Ok(()) => {}
+            Err(fault) => return Err(fault),
+        }
+    }
+    Ok(())
+}
+
 /// The body of a loop for each index of its dimension, in order, where each access leads along a
 /// line. None where one doesn't.
 #[inline(never)]
@@ -257,7 +279,7 @@ pub fn sweep(
     };
     match code_plan(&alone, body) {
         Some(plan) => {
-            if is_served(&plan, 0) {
+            if turns_served(&plan, 1) == 1 {
                 Some(turns_by(frames, &plan, 0, count))
             } else {
                 None

@@ -29,7 +29,7 @@ loop-k-preserved c =
     let more_inner : (get_or axes k d).step * span.inner ≤ 1048576 = mul-le (get_or axes k d).step span.inner 1048576 1 step span.small_inner in
     record {
       led = along_more c.args.nest.now axes (indices_of es) (indices_of (drop k es)) (indices_of (drop (k + 1) es)) c.args.from k c.loop-k.start c.loop-k.outer c.loop-k.inner c.loop-k.turns span (number_of c.index-entries-k.result) d c.fewer-turns.result
-          c.loop-k.invariant.led rest c.in-Some.ensures.span (search rules) (search rules) c.fewer-turns.ensures.0 c.fewer-turns.ensures.1;
+          c.loop-k.invariant.led rest c.in-Some.ensures.span (search rules) (search rules) c.fewer-turns.ensures.few.0 c.fewer-turns.ensures.few.1;
       near = omega (arith, far, c.loop-k.invariant.near);
       small_outer = omega (arith, more_outer, c.loop-k.invariant.small_outer);
       small_inner = omega (arith, more_inner, c.loop-k.invariant.small_inner);
