@@ -98,6 +98,8 @@ pub struct StatementCutter {
     alloc: Global,
     mode: Mode,
     text: Vec<u8>,
+    // Room for a text to come, without bytes.
+    spare: Vec<u8>,
     over: bool,
     start: u64,
     line: u64,
@@ -106,7 +108,7 @@ pub struct StatementCutter {
 }
 
 impl Model for StatementCutter {
-    ghost use Rattle.std.specs.Prelude.{◌+◌, ◌^◌, ◌<◌, ◌≤◌, length};
+    ghost use Rattle.std.specs.Prelude.{◌≡◌, ◌+◌, ◌^◌, ◌<◌, ◌≤◌, [], length};
     ghost use Rattle.pdl_lex.specs.Limits.{statement_limit};
     ghost use Rattle.pdl_lex.specs.Pieces.{State};
 
@@ -124,7 +126,7 @@ impl Model for StatementCutter {
     } };
 
     ghost invariant = { λ c. (length c.text.items ≤ statement_limit) × (c.line ≤ c.taken + 1) ×
-        (c.taken < 2 ^ 63) };
+        (c.taken < 2 ^ 63) × (c.spare.items ≡ []) };
 }
 
 impl StatementCutter {
@@ -138,6 +140,7 @@ impl StatementCutter {
             alloc,
             mode: Mode::Code,
             text: Vec::new(alloc),
+            spare: Vec::new(alloc),
             over: false,
             start: 1,
             line: 1,
@@ -238,7 +241,8 @@ impl StatementCutter {
         ensures begun { result ≡ begun self.old }
         ensures after { self.new ≡ ended self.old }
     {
-        let text = mem::replace(&mut self.text, Vec::new(self.alloc));
+        let spare = mem::replace(&mut self.spare, Vec::new(self.alloc));
+        let text = mem::replace(&mut self.text, spare);
         let over = mem::replace(&mut self.over, false);
         self.mode = Mode::Code;
         if over || text.is_empty() {
@@ -248,6 +252,17 @@ impl StatementCutter {
                 text: StatementText::new(text),
                 line: self.start,
             }))
+        }
+    }
+
+    /// Keeps the room of a cut statement's text for one that comes.
+    pub fn reuse(&mut self, piece: Piece)
+        ensures { self.new ≡ self.old }
+    {
+        if let Piece::Whole(cut) = piece {
+            let mut room = cut.text.into_bytes();
+            room.clear();
+            self.spare = room;
         }
     }
 

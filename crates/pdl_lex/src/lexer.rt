@@ -1,4 +1,4 @@
-ghost use Rattle.std.specs.Prelude.{◌≡◌, ◌+◌, ◌^◌, ◌<◌, ◌≤◌, length, drop, Some, None, Ok, Err, ◌≢◌, IfOk, IfErr, IfSome};
+ghost use Rattle.std.specs.Prelude.{◌≡◌, ◌+◌, ◌^◌, ◌<◌, ◌≤◌, length, drop, Some, None, Ok, Err, ◌≢◌, IfOk, IfErr, IfSome, OnOk};
 ghost use Rattle.std.specs.List.{list_all};
 ghost use Rattle.pdl_lex.specs.Bytes.{is_word_byte};
 ghost use Rattle.pdl_lex.specs.Tokens.{is_word, is_sign, gap_at, token_at, fault_of, after_tokens, toks_from, toks, Spans};
@@ -200,10 +200,24 @@ pub fn tokens(alloc: Global, text: &[u8]) -> Result<Vec<Token>, LexFault>
     ensures fault { IfErr result (λ fault. fault ≢ LexFault.NoMemory → toks text.now ≡ Err fault) }
     ensures spans { IfOk result (λ found. Spans text.now found.items) }
 {
-    let mut found = Vec::with_capacity(alloc, text.len().min(FIRST_TOKENS))?;
+    let mut found = Vec::new(alloc);
+    read_tokens(text, &mut found)?;
+    Ok(found)
+}
+
+/// The tokens of a statement's text, as `tokens` has them, in a list whose room is kept. What stood
+/// in it goes.
+pub fn read_tokens(text: &[u8], found: &mut Vec<Token>) -> Result<(), LexFault>
+    requires { length text.now ≤ 65536 }
+    ensures exact { OnOk result (toks text.now ≡ Ok found.new.items) }
+    ensures fault { IfErr result (λ fault. fault ≢ LexFault.NoMemory → toks text.now ≡ Err fault) }
+    ensures spans { OnOk result (Spans text.now found.new.items) }
+{
+    found.clear();
+    found.reserve(text.len().min(FIRST_TOKENS))?;
     let mut at = 0;
     while at < text.len() {
-        at = take_token(&mut found, text, at)?;
+        at = take_token(found, text, at)?;
     }
-    Ok(found)
+    Ok(())
 }

@@ -9,7 +9,7 @@ mod parts;
 
 pub use cutter::{Mode, StatementCutter};
 pub use laws::{joining_laws, settled_laws, token_meaning, tokens_are_spans};
-pub use lexer::{is_word, tokens};
+pub use lexer::{is_word, read_tokens, tokens};
 pub use parts::cut_parts;
 use std::alloc::{AllocError, AllocFailed};
 use std::marker::Model;
@@ -100,6 +100,13 @@ impl StatementText {
         ensures same { result ≡ bytes.items }
     {
         StatementText { bytes }
+    }
+
+    /// The bytes in order, as a list.
+    pub(crate) fn into_bytes(self) -> Vec<u8>
+        ensures same { result.items ≡ self }
+    {
+        self.bytes
     }
 
     /// The bytes in order.

@@ -1,11 +1,11 @@
-use Rattle.std.proofs.Common.{arith}
+use Rattle.std.proofs.Common.{◌∙◌, arith}
 use Rattle.pdl_lex.proofs.Walking.{at-start, at-end}
 use Rattle.pdl_lex.proofs.Spans.{toks-spans}
-use Rattle.pdl_lex.proofs.lexer.tokens.Goals as goal
+use Rattle.pdl_lex.proofs.lexer.read_tokens.Goals as goal
 
 pub loop-at-init : goal.loop-at-init
 loop-at-init c = record {
-  read = at-start c.args.text.now c.in_ok-found.found.items c.in_ok-found.ensures.items;
+  read = at-start c.args.text.now _ (c.reserve.ensures.items ∙ c.clear.ensures.items);
   within = omega arith;
 }
 

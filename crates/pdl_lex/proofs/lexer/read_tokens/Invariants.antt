@@ -1,6 +1,6 @@
 use Rattle.std.proofs.Common.{◌≡◌, ◌≤◌, ◌-◌, length, drop}
 use Rattle.pdl_lex.specs.Tokens.{after_tokens, toks_from, toks}
-use Rattle.pdl_lex.proofs.lexer.tokens.Given as goal
+use Rattle.pdl_lex.proofs.lexer.read_tokens.Given as goal
 
 abbrev pub invariant-loop-at : goal.invariant-loop-at
 invariant-loop-at l = record {
