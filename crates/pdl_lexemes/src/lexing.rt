@@ -1,6 +1,6 @@
 //! Tokens as lexemes.
 
-ghost use Rattle.std.specs.Prelude.{◌≡◌, ◌≤◌, IfOk};
+ghost use Rattle.std.specs.Prelude.{◌≡◌, ◌≤◌, IfOk, OnOk};
 ghost use Rattle.pdl_lexemes.specs.Bytes.{bytes_at};
 ghost use Rattle.pdl_lexemes.specs.Lexing.{found_in, keywords, operators, assignments, word_of, sign_of, number_of, with_digit, lexeme_of, lexemes_of};
 
@@ -110,9 +110,23 @@ fn lexeme(source: &[u8], token: Token) -> Lexeme
 pub fn lexemes(alloc: Global, source: &[u8], tokens: &[Token]) -> Result<Vec<Lexeme>, AllocError>
     ensures { IfOk result (λ all. all.items ≡ lexemes_of source.now tokens.now) }
 {
-    let mut all = Vec::with_capacity(alloc, tokens.len())?;
+    let mut all = Vec::new(alloc);
+    read_lexemes(source, tokens, &mut all)?;
+    Ok(all)
+}
+
+/// The lexemes of the tokens of a text, in a list whose room is kept. What stood in it goes.
+pub fn read_lexemes(
+    source: &[u8],
+    tokens: &[Token],
+    all: &mut Vec<Lexeme>,
+) -> Result<(), AllocError>
+    ensures { OnOk result (all.new.items ≡ lexemes_of source.now tokens.now) }
+{
+    all.clear();
+    all.reserve(tokens.len())?;
     for token in tokens {
         all.push(lexeme(source, *token)).map_err(AllocError::from)?;
     }
-    Ok(all)
+    Ok(())
 }
