@@ -1,5 +1,5 @@
 //! The products of two arrays' blocks at each place of a broadcast.
-ghost use Rattle.std.specs.Prelude.{◌≡◌, ◌<◌, ◌≤◌, ◌+◌, ◌*◌, ℕ, List, [], ◌∷◌, Some, slice_get, length, IfOk};
+ghost use Rattle.std.specs.Prelude.{◌≡◌, ◌<◌, ◌≤◌, ◌+◌, ◌*◌, ℕ, List, [], ◌∷◌, ◌++◌, Some, slice_get, length, IfOk, OnOk};
 ghost use Rattle.pdl_shape.specs.Broadcast.{BroadcastsTo};
 ghost use Rattle.pdl_shape.specs.Shape.{extent_limit, size_of};
 ghost use Rattle.pdl_shape.specs.Stretched.{stretched_position};
@@ -9,7 +9,7 @@ ghost use Rattle.pdl_reduce.specs.Blocks.{IsHeld, Ready, all_products, nth_block
 use crate::collected::Collected;
 use crate::matrices::{Sizes, add_product};
 use pdl_broadcast::BroadcastWalk;
-use pdl_buf::{Strided, strided_read};
+use pdl_buf::{Packing, Strided, strided_read};
 use pdl_elem::{Ty, wrap_all};
 use pdl_shape::{Dims, elements_of, shape_laws, whole_triple};
 use std::alloc::{AllocError, Global};
@@ -39,6 +39,17 @@ fn hold_block(ty: Ty, from: &Strided<'_>, position: u32, held: &mut Option<u32>,
     }
 }
 
+/// Adds an array of these sizes, whose elements lie in order, to a walk that hasn't moved.
+fn add_whole(alloc: Global, walk: &mut BroadcastWalk, sizes: &Dims) -> Result<(), AllocError>
+    requires start { walk.old.index ≡ 0 }
+    requires stretched { BroadcastsTo sizes.now walk.old.dims }
+    ensures { let triples = walk.old.triples ++ whole_triple sizes.now ∷ [] in
+        OnOk result (walk.new ≡ record walk.old { triples = triples }) }
+{
+    walk.add(&whole_triple(alloc, sizes))?;
+    Ok(())
+}
+
 /// A walk over a broadcast of two arrays of these sizes, in order.
 fn walk_over(
     alloc: Global,
@@ -52,8 +63,8 @@ fn walk_over(
         IfOk result (λ walk. walk ≡ record { dims = joined.now; triples = triples; index = 0 }) }
 {
     let mut walk = BroadcastWalk::new(alloc, joined)?;
-    walk.add(&whole_triple(alloc, left))?;
-    walk.add(&whole_triple(alloc, right))?;
+    add_whole(alloc, &mut walk, left)?;
+    add_whole(alloc, &mut walk, right)?;
     Ok(walk)
 }
 
@@ -73,6 +84,47 @@ fn position_at(walk: &BroadcastWalk, argument: usize) -> u32
 
 /// Puts the products of two windows' blocks at each place of a broadcast, one after the other,
 /// where nothing is put yet. The sizes after the blocks' own ones stretch to the joined ones.
+fn put_products(
+    alloc: Global,
+    ty: Ty,
+    sizes: Sizes,
+    left: &Strided<'_>,
+    right: &Strided<'_>,
+    left_sizes: &Dims,
+    right_sizes: &Dims,
+    joined: &Dims,
+    made: &mut Collected,
+) -> Result<(), AllocError>
+    requires ready { Ready sizes left.now.elems right.now.elems
+        left_sizes.now right_sizes.now joined.now }
+    requires empty { made.old ≡ record { ty = ty; elems = [] } }
+    ensures { let elems = all_products ty sizes left.now.elems right.now.elems
+        left_sizes.now right_sizes.now joined.now in
+        OnOk result (made.new ≡ record { ty = ty; elems = elems }) }
+{
+    shape_laws();
+    let left_count = sizes.left_depth * sizes.height;
+    let right_count = sizes.width * sizes.right_depth;
+    let mut room = vec![in alloc; 0; left_count + right_count]?;
+    let mut row_room = vec![in alloc; 0; sizes.width]?;
+    let mut walk = walk_over(alloc, left_sizes, right_sizes, joined)?;
+    let (left_block, right_block) = room.split_at_mut(left_count);
+    let row = row_room.as_mut_slice();
+    let mut left_held = None;
+    let mut right_held = None;
+    for _q in 0..elements_of(joined) {
+        let first = position_at(&walk, 0);
+        let second = position_at(&walk, 1);
+        hold_block(ty, left, first, &mut left_held, left_block);
+        hold_block(ty, right, second, &mut right_held, right_block);
+        add_product(ty, sizes, left_block, right_block, row, made)?;
+        walk.next();
+    }
+    Ok(())
+}
+
+/// The products of two windows' blocks at each place of a broadcast, one after the other, with room
+/// for so many numbers. The sizes after the blocks' own ones stretch to the joined ones.
 pub(crate) fn products(
     alloc: Global,
     ty: Ty,
@@ -82,32 +134,25 @@ pub(crate) fn products(
     left_sizes: &Dims,
     right_sizes: &Dims,
     joined: &Dims,
-    mut made: Collected,
-) -> Result<Collected, AllocError>
-    requires ready { Ready sizes left.now.elems right.now.elems
+    count: usize,
+) -> Result<Packing, AllocError>
+    requires { Ready sizes left.now.elems right.now.elems
         left_sizes.now right_sizes.now joined.now }
-    requires empty { made ≡ record { ty = ty; elems = [] } }
     ensures { let elems = all_products ty sizes left.now.elems right.now.elems
         left_sizes.now right_sizes.now joined.now in
-        IfOk result (λ products. products ≡ record { ty = ty; elems = elems }) }
+        IfOk result (λ made. made ≡ record { ty = ty; elems = elems }) }
 {
-    shape_laws();
-    let mut walk = walk_over(alloc, left_sizes, right_sizes, joined)?;
-    let mut left_room = vec![in alloc; 0; sizes.left_depth * sizes.height]?;
-    let mut right_room = vec![in alloc; 0; sizes.width * sizes.right_depth]?;
-    let mut row_room = vec![in alloc; 0; sizes.width]?;
-    let left_block = left_room.as_mut_slice();
-    let right_block = right_room.as_mut_slice();
-    let row = row_room.as_mut_slice();
-    let mut left_held = None;
-    let mut right_held = None;
-    for _q in 0..elements_of(joined) {
-        let first = position_at(&walk, 0);
-        let second = position_at(&walk, 1);
-        hold_block(ty, left, first, &mut left_held, left_block);
-        hold_block(ty, right, second, &mut right_held, right_block);
-        add_product(ty, sizes, left_block, right_block, row, &mut made)?;
-        walk.next();
-    }
-    Ok(made)
+    let mut made = Collected::new(alloc, ty, count)?;
+    put_products(
+        alloc,
+        ty,
+        sizes,
+        left,
+        right,
+        left_sizes,
+        right_sizes,
+        joined,
+        &mut made,
+    )?;
+    made.packed()
 }

@@ -15,7 +15,6 @@ ghost use Rattle.pdl_reduce.specs.Refusals.{refusal_of};
 ghost use Rattle.pdl_reduce.specs.Pairings.{paired, paired_dims, paired_element, signature_of};
 ghost use Rattle.pdl_sig.specs.Given.{shape_of};
 
-use crate::collected::Collected;
 use crate::matrices::{Sizes, size_at};
 use crate::meeting::products;
 use crate::reducing::dims_after;
@@ -205,7 +204,7 @@ fn core_count(kind: Pairing) -> usize
     }
 }
 
-/// The products of a pairing's blocks, which are ready for it.
+/// The products of a pairing's blocks, which are ready for it, with room for so many numbers.
 fn block_products(
     alloc: Global,
     kind: Pairing,
@@ -216,19 +215,17 @@ fn block_products(
     a_sizes: &Dims,
     b_sizes: &Dims,
     joined: &Dims,
-    made: Collected,
-) -> Result<Collected, AllocError>
-    requires ready { ReadyFor kind sizes a.now.elems b.now.elems
-        a_sizes.now b_sizes.now joined.now }
-    requires empty { made ≡ record { ty = ty; elems = [] } }
+    count: usize,
+) -> Result<Packing, AllocError>
+    requires { ReadyFor kind sizes a.now.elems b.now.elems a_sizes.now b_sizes.now joined.now }
     ensures { let elems = block_products kind ty sizes a.now.elems b.now.elems
         a_sizes.now b_sizes.now joined.now in
-        IfOk result (λ products. products ≡ record { ty = ty; elems = elems }) }
+        IfOk result (λ made. made ≡ record { ty = ty; elems = elems }) }
 {
     match kind {
-        Pairing::Outer => products(alloc, ty, sizes, b, a, b_sizes, a_sizes, joined, made),
+        Pairing::Outer => products(alloc, ty, sizes, b, a, b_sizes, a_sizes, joined, count),
         Pairing::Inner | Pairing::Matmult => {
-            products(alloc, ty, sizes, a, b, a_sizes, b_sizes, joined, made)
+            products(alloc, ty, sizes, a, b, a_sizes, b_sizes, joined, count)
         }
     }
 }
@@ -255,9 +252,8 @@ fn elements(
     let depth = size_at(resolved.sizes.as_slice(), 0);
     let sizes = sizes_of(kind, depth, dims_list(first), dims_list(second));
     let ty = resolved.generic;
-    let none = Collected::new(alloc, ty, output_count(resolved))?;
-    let made = block_products(alloc, kind, ty, sizes, a, b, &xs, &ys, &joined, none)?;
-    made.packed()
+    let count = output_count(resolved);
+    block_products(alloc, kind, ty, sizes, a, b, &xs, &ys, &joined, count)
 }
 
 /// A product of two arrays at the higher of their types (PDL::Primitive), by the signature of its

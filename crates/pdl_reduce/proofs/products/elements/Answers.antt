@@ -21,10 +21,7 @@ block_products-requires c =
     c.dims_list.ensures.limits c.dims_list-2.ensures.limits
     c.strided_dims-first.ensures.count c.strided_dims-second.ensures.count c.requires c.dims_after-xs.ensures c.dims_after-ys.ensures c.broadcast_dims-joined.ensures.joined
     c.broadcast_dims-joined.ensures.stretched.0 c.broadcast_dims-joined.ensures.stretched.1 (c.size_at-depth.ensures ∙ ap (λ (ns : List ℕ). slice_index_or ns 0 1) c.as_slice.ensures) c.sizes_of-sizes.ensures in
-    record {
-      ready = ready_for c.args.kind c.args.resolved.now (array_of c.args.a.now) (array_of c.args.b.now) _ _ _ _ ready;
-      empty = c.in_ok-none.ensures;
-    }
+    ready_for c.args.kind c.args.resolved.now (array_of c.args.a.now) (array_of c.args.b.now) _ _ _ _ ready
 
 pub returns : goal.returns
 returns c =
@@ -34,5 +31,5 @@ returns c =
     c.dims_list.ensures.limits c.dims_list-2.ensures.limits
     c.strided_dims-first.ensures.count c.strided_dims-second.ensures.count c.requires c.dims_after-xs.ensures c.dims_after-ys.ensures c.broadcast_dims-joined.ensures.joined
     c.broadcast_dims-joined.ensures.stretched.0 c.broadcast_dims-joined.ensures.stretched.1 (c.size_at-depth.ensures ∙ ap (λ (ns : List ℕ). slice_index_or ns 0 1) c.as_slice.ensures) c.sizes_of-sizes.ensures in
-    if_ok_as c.packed.result _ _ c.packed.ensures
-    (c.in_ok-made.ensures ∙ ap (kept c.args.resolved.now.generic) (elements_for c.args.kind c.args.resolved.now (array_of c.args.a.now) (array_of c.args.b.now) _ _ _ _ ready))
+    if_ok_as c.block_products.result _ _ c.block_products.ensures
+    (ap (kept c.args.resolved.now.generic) (elements_for c.args.kind c.args.resolved.now (array_of c.args.a.now) (array_of c.args.b.now) _ _ _ _ ready))

@@ -1,5 +1,5 @@
 -- One place of the broadcast more.
-use Rattle.std.proofs.Common.{◌≡◌, ◌<◌, ◌+◌, ◌*◌, ◌++◌, ℕ, ℤ, List, Some, length, map, arith, ap, sym, ◌∙◌}
+use Rattle.std.proofs.Common.{◌≡◌, ◌<◌, ◌+◌, ◌*◌, ◌++◌, ℕ, ℤ, List, Some, length, map, arith, length-append, ap, sym, ◌∙◌}
 use Rattle.std.specs.Prelude.{slice_get}
 use Rattle.std.specs.List.{range_with_len}
 use Rattle.pdl_broadcast.specs.Walk.{Walk}
@@ -10,16 +10,19 @@ use Rattle.pdl_shape.specs.Triple.{whole_triple}
 use Rattle.pdl_reduce.specs.Blocks.{block_at, product_at, products_at}
 use Rattle.pdl_reduce.proofs.Meets.{products_more, block_read}
 use Rattle.pdl_reduce.proofs.Results.{row_inside}
-use Rattle.pdl_reduce.proofs.meeting.products.Goals as goal
+use Rattle.pdl_reduce.proofs.meeting.put_products.Goals as goal
 
 pub loop-q-init : goal.loop-q-init
 loop-q-init c =
     let P : ℕ → ℤ = products_at c.args.ty c.args.sizes c.args.left.now.elems c.args.right.now.elems c.args.left_sizes.now c.args.right_sizes.now c.args.joined.now in
+    let left : List ℤ = c.split_at_mut-left_block.result.0.now in
+    let right : List ℤ = c.split_at_mut-left_block.result.1.now in
+    let both : length c.deref_mut.result.now ≡ length left + length right = ap (λ (zs : List ℤ). length zs) c.split_at_mut-left_block.ensures.value ∙ length-append left right in
     let none : 0 ≡ 0 * (c.args.sizes.height * c.args.sizes.width) = omega arith in
     record {
       walk = c.in_ok-walk.ensures;
-      left = omega (arith, c.as_mut_slice-left_block.ensures.len, c.in_ok-left_room.ensures.len);
-      right = omega (arith, c.as_mut_slice-right_block.ensures.len, c.in_ok-right_room.ensures.len);
+      left = c.split_at_mut-left_block.ensures.front_len;
+      right = omega (arith, both, c.split_at_mut-left_block.ensures.front_len, c.deref_mut.ensures.len, c.in_ok-room.ensures.len);
       row = omega (arith, c.as_mut_slice-row.ensures.len, c.in_ok-row_room.ensures.len);
       left_held = tt;
       right_held = tt;

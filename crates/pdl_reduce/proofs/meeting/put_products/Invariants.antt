@@ -3,7 +3,7 @@ use Rattle.std.proofs.Common.{◌≡◌, ◌*◌, [], ◌∷◌, map, length}
 use Rattle.std.specs.List.{range_with_len}
 use Rattle.pdl_shape.specs.Triple.{whole_triple}
 use Rattle.pdl_reduce.specs.Blocks.{IsHeld, products_at}
-use Rattle.pdl_reduce.proofs.meeting.products.Given as goal
+use Rattle.pdl_reduce.proofs.meeting.put_products.Given as goal
 
 abbrev pub invariant-loop-q : goal.invariant-loop-q
 invariant-loop-q l = record {
