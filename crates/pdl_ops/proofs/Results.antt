@@ -19,7 +19,7 @@ use Rattle.pdl_lexemes.specs.declared.AssignOp.{AssignOp}
 use Rattle.pdl_lexemes.specs.declared.AssignOp.TheVariants.{With}
 use Rattle.pdl_ops.specs.declared.OpFault.{OpFault}
 use Rattle.pdl_ops.specs.Answers.{Answers, IsRefused, or_refused}
-use Rattle.pdl_ops.specs.Elementwise.{OpRefusal, elementwise, no_dims, over_joined, made_of, values_of}
+use Rattle.pdl_ops.specs.Elementwise.{OpRefusal, elementwise, no_dims, of_alike, over_joined, made_of, values_of}
 use Rattle.pdl_ops.specs.Values.{fits, new_values, values_for, wrapped_to}
 use Rattle.pdl_ops.proofs.Fitting.{fits_itself, joined_itself, stretched_itself}
 
@@ -42,39 +42,35 @@ promoted_same Longlong = refl
 pub result_at : (op : BinaryOp) (a b : Ty) → binary_result op (promoted a b) (promoted a b) ≡ binary_result op a b
 result_at op a b = ap (λ (t : Ty). if compares op then Byte else t) (promoted_same (promoted a b))
 
--- what an operator gives on two windows of the same dimensions, element by element
-abbrev pub paired : BinaryOp → Window → Window → Result Made OpRefusal
-paired op a b = let ty = promoted a.ty b.ty in made_of (binary_result op a.ty b.ty) b.dims (values_of op ty (map (wrapped ty) a.elems) (map (wrapped ty) b.elems))
-
 -- from the answers of the steps
-pub paired_ok : (op : BinaryOp) (a b : Window) (ds : List ℕ) (ty t : Ty) (es fs : List ℤ) → ty ≡ promoted a.ty b.ty → ds ≡ b.dims
-    → values_of op ty (map (wrapped ty) a.elems) (map (wrapped ty) b.elems) ≡ Ok es → t ≡ binary_result op a.ty b.ty → fs ≡ es → paired op a b ≡ Ok (record { ty = t; dims = ds; elems = fs })
+pub of_alike_ok : (op : BinaryOp) (a b : Window) (ds : List ℕ) (ty t : Ty) (es fs : List ℤ) → ty ≡ promoted a.ty b.ty → ds ≡ b.dims
+    → values_of op ty (map (wrapped ty) a.elems) (map (wrapped ty) b.elems) ≡ Ok es → t ≡ binary_result op a.ty b.ty → fs ≡ es → of_alike op (array_of a) (array_of b) ≡ Ok (record { ty = t; dims = ds; elems = fs })
 unfolding made
-paired_ok op a b ds ty t es fs p d v r f =
+of_alike_ok op a b ds ty t es fs p d v r f =
     let at : Ty → Result (List ℤ) OpRefusal = λ u. values_of op u (map (wrapped u) a.elems) (map (wrapped u) b.elems) in
     ap (made_of (binary_result op a.ty b.ty) b.dims) (ap at (sym p) ∙ v)
     ∙ ap (λ (us : List ℕ). Ok (made (binary_result op a.ty b.ty) us es)) (sym d)
     ∙ ap₂ (λ (u : Ty) (us : List ℤ). Ok (made u ds us)) (sym r) (sym f)
 
 -- a window that is stretched over joined dimensions
-abbrev pub over : List ℕ → Window → Window
-over js w = record { ty = w.ty; dims = js; elems = stretched w.dims js w.elems }
+abbrev pub over_window : List ℕ → Window → Window
+over_window js w = record { ty = w.ty; dims = js; elems = stretched w.dims js w.elems }
 
 -- the definition's answer is that over the joined dimensions
-pub elementwise_joined : (op : BinaryOp) (a b left right : Window) (js : List ℕ) → joined_dims a.dims b.dims ≡ Ok js → left ≡ over js a → right ≡ over js b
-    → elementwise op (array_of a) (array_of b) ≡ paired op left right
-elementwise_joined op a b left right js j l r = ap (over_joined op (array_of a) (array_of b)) j ∙ ap₂ (paired op) (sym l) (sym r)
+pub elementwise_joined : (op : BinaryOp) (a b left right : Window) (js : List ℕ) → joined_dims a.dims b.dims ≡ Ok js → left ≡ over_window js a → right ≡ over_window js b
+    → elementwise op (array_of a) (array_of b) ≡ of_alike op (array_of left) (array_of right)
+elementwise_joined op a b left right js j l r = ap (over_joined op (array_of a) (array_of b)) j ∙ ap₂ (λ (v w : Window). of_alike op (array_of v) (array_of w)) (sym l) (sym r)
 
 -- and that as they are, where their dimensions are the same
 pub elementwise_alike : PositionLaws → (op : BinaryOp) (a b : Window) → a.dims ≡ b.dims → length a.elems ≡ size_of a.dims → length b.elems ≡ size_of b.dims → extent b.dims ≤ 1048576
-    → elementwise op (array_of a) (array_of b) ≡ paired op a b
+    → elementwise op (array_of a) (array_of b) ≡ of_alike op (array_of a) (array_of b)
 elementwise_alike laws op a b e m n h = elementwise_joined op a b a b b.dims (ap (λ (ds : List ℕ). joined_dims ds b.dims) e ∙ joined_itself b.dims h) (itself a b.dims e m) (itself b b.dims refl n)
   where
     window : Ty → List ℕ → List ℤ → Window
     window ty ds es = record { ty = ty; dims = ds; elems = es }
 
-    itself : (w : Window) (js : List ℕ) → w.dims ≡ js → length w.elems ≡ size_of w.dims → w ≡ over js w
-    itself w js same many = subst (λ (ds : List ℕ). w ≡ over ds w) same (ap (λ (es : List ℤ). window w.ty w.dims es) (sym (stretched_itself laws w.dims w.elems many)))
+    itself : (w : Window) (js : List ℕ) → w.dims ≡ js → length w.elems ≡ size_of w.dims → w ≡ over_window js w
+    itself w js same many = subst (λ (ds : List ℕ). w ≡ over_window ds w) same (ap (λ (es : List ℤ). window w.ty w.dims es) (sym (stretched_itself laws w.dims w.elems many)))
 
 -- as many elements as the joined dimensions say
 pub stretched_length : (ds js : List ℕ) (es : List ℤ) → length (stretched ds js es) ≡ size_of js
@@ -99,17 +95,6 @@ assigned_refused sign op target right ty old new o e p h =
 -- an answer to what is the same
 pub answers_same : {A B : Type 0} (seen : A → B) (r s : Result B OpRefusal) (result : Result A OpFault) → r ≡ s → Answers seen s result → Answers seen r result
 answers_same {B = B} seen r s result e h = subst (λ (w : Result B OpRefusal). Answers seen w result) (sym e) h
-
-refused_made : (ty : Ty) (js : List ℕ) (r : Result (List ℤ) OpRefusal) (o : Option OpRefusal) → IsRefused r o → IsRefused (made_of ty js r) o
-refused_made ty js r None h = tt
-refused_made ty js r (Some refusal) h = ap (made_of ty js) h
-
--- and a refusal
-pub paired_refused : (op : BinaryOp) (a b : Window) (ty : Ty) (o : Option OpRefusal) → ty ≡ promoted a.ty b.ty → IsRefused (values_of op ty (map (wrapped ty) a.elems) (map (wrapped ty) b.elems)) o
-    → IsRefused (paired op a b) o
-paired_refused op a b ty o p h =
-    let at : Ty → Result (List ℤ) OpRefusal = λ u. values_of op u (map (wrapped u) a.elems) (map (wrapped u) b.elems) in
-    refused_made (binary_result op a.ty b.ty) b.dims (at (promoted a.ty b.ty)) o (subst (λ (u : Ty). IsRefused (at u) o) p h)
 
 -- what an assignment of as many sizes as the target's writes
 pub values_alike : PositionLaws → (sign : AssignOp) (target value : Window) → value.dims ≡ target.dims → length value.elems ≡ size_of value.dims

@@ -1,7 +1,6 @@
 -- What a call's answer says of the definition.
 use Rattle.std.specs.Prelude.{◌≡◌, ℕ, List, Option, Some, None, Result, Ok, Err}
 use Rattle.pdl_shape.specs.Refusals.{Refusal, mismatch, too_large}
-use Rattle.pdl_buf.specs.declared.made.Made.{Made}
 use Rattle.pdl_ops.specs.declared.OpFault.{OpFault}
 use Rattle.pdl_ops.specs.declared.OpFault.TheVariants.{Mismatch, TooLarge, DivideByZero, NoMemory}
 use Rattle.pdl_ops.specs.Elementwise.{OpRefusal, no_dims, zero_divisor}

@@ -31,10 +31,6 @@ converted ty a = record { ty = ty; dims = a.dims; elems = map (wrapped ty) a.ele
 abbrev pub operands_from : Ty → (first count : ℕ) → List ℤ → List ℤ
 operands_from ty first count es = map (wrapped ty) (take count (drop first es))
 
--- what an array gives at each position of joined dimensions, wrapped to the operator's type
-abbrev pub operands : Ty → (joined : List ℕ) → Made → List ℤ
-operands ty joined a = map (wrapped ty) (stretched a.dims joined a.elems)
-
 -- an operator on two lists of operands of a type, where no divisor is 0
 abbrev pub values_at : BinaryOp → Ty → (left right : List ℤ) → Option ℕ → Result (List ℤ) OpRefusal
 values_at op ty xs ys (Some place) = Err (zero_divisor place)
@@ -47,12 +43,20 @@ abbrev pub made_of : Ty → List ℕ → Result (List ℤ) OpRefusal → Result 
 made_of ty dims (Err e) = Err e
 made_of ty dims (Ok es) = Ok (record { ty = ty; dims = dims; elems = es })
 
+-- an operator on two arrays of the same dimensions, element by element, at the type of higher rank
+abbrev pub of_alike : BinaryOp → Made → Made → Result Made OpRefusal
+of_alike op a b =
+    let ty = promoted a.ty b.ty in
+    let values = values_of op ty (map (wrapped ty) a.elems) (map (wrapped ty) b.elems) in
+    made_of (binary_result op a.ty b.ty) b.dims values
+
+-- an array stretched over joined dimensions
+abbrev pub over : (joined : List ℕ) → Made → Made
+over joined a = record { ty = a.ty; dims = joined; elems = stretched a.dims joined a.elems }
+
 abbrev pub over_joined : BinaryOp → Made → Made → Result (List ℕ) Refusal → Result Made OpRefusal
 over_joined op a b (Err refusal) = Err (no_dims refusal)
-over_joined op a b (Ok joined) =
-    let ty = promoted a.ty b.ty in
-    let values = values_of op ty (operands ty joined a) (operands ty joined b) in
-    made_of (binary_result op a.ty b.ty) joined values
+over_joined op a b (Ok joined) = of_alike op (over joined a) (over joined b)
 
 -- an operator of two operands at each position of the joined dimensions, at the type of higher
 -- rank; or why it has no values: first what the dimensions refuse, then the first divisor 0

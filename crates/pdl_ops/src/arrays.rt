@@ -1,12 +1,10 @@
 //! Operators and conversions of whole arrays (PDL::Ops, PDL::Core).
-ghost use Rattle.std.specs.Prelude.{◌≡◌, map, IfOk};
-ghost use Rattle.pdl_elem.specs.Numbers.{wrapped};
-ghost use Rattle.pdl_elem.specs.Types.{binary_result, promoted};
+ghost use Rattle.std.specs.Prelude.{◌≡◌, IfOk};
 ghost use Rattle.pdl_buf.specs.Made.{IsMade, array_of};
 ghost use Rattle.pdl_shape.specs.Broadcast.{BroadcastsTo};
 ghost use Rattle.pdl_shape.specs.Joined.{joined_dims};
 ghost use Rattle.pdl_ops.specs.Answers.{Answers, or_refused};
-ghost use Rattle.pdl_ops.specs.Elementwise.{converted, elementwise, made_of, unary_each, values_of};
+ghost use Rattle.pdl_ops.specs.Elementwise.{converted, elementwise, of_alike, unary_each};
 
 use crate::OpFault;
 use crate::blocks::values;
@@ -31,13 +29,9 @@ fn broadcast_dims(alloc: Global, a: &Dims, b: &Dims) -> Result<Dims, OpFault>
 
 /// An operator of two operands of the same dimensions at each position, at the type of higher rank.
 /// It answers `DivideByZero` and `NoMemory` alone.
-fn paired(alloc: Global, op: BinaryOp, a: &Strided<'_>, b: &Strided<'_>) -> Result<Made, OpFault>
+fn of_alike(alloc: Global, op: BinaryOp, a: &Strided<'_>, b: &Strided<'_>) -> Result<Made, OpFault>
     requires { a.now.dims ≡ b.now.dims }
-    ensures value { let ty = promoted a.now.ty b.now.ty in
-        let xs = map (wrapped ty) a.now.elems in
-        let ys = map (wrapped ty) b.now.elems in
-        let made = made_of (binary_result op a.now.ty b.now.ty) b.now.dims in
-        let wanted = made (values_of op ty xs ys) in
+    ensures value { let wanted = of_alike op (array_of a.now) (array_of b.now) in
         Answers (λ made. made) wanted result }
     ensures made { IfOk result (λ made. IsMade made.ty made.dims made.elems) }
 {
@@ -71,10 +65,10 @@ pub fn elementwise(
     shape_laws();
     let (left, right) = (strided_dims(a), strided_dims(b));
     if dims_list(left) == dims_list(right) {
-        return paired(alloc, op, a, b);
+        return of_alike(alloc, op, a, b);
     }
     let dims = broadcast_dims(alloc, left, right)?;
-    paired(alloc, op, &stretched(a, &dims), &stretched(b, &dims))
+    of_alike(alloc, op, &stretched(a, &dims), &stretched(b, &dims))
 }
 
 /// An operator of one operand at each element (PDL::Ops).

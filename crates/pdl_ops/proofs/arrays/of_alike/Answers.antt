@@ -2,12 +2,12 @@
 use Rattle.std.proofs.Common.{ap, ap₂, ◌∙◌}
 use Rattle.pdl_elem.specs.declared.Ty.{Ty}
 use Rattle.pdl_elem.specs.Types.{promoted, binary_result}
-use Rattle.pdl_ops.proofs.Results.{paired_ok, result_at}
-use Rattle.pdl_ops.proofs.arrays.paired.Goals as goal
+use Rattle.pdl_ops.proofs.Results.{of_alike_ok, result_at}
+use Rattle.pdl_ops.proofs.arrays.of_alike.Goals as goal
 
 pub returns-clause-value : goal.returns-clause-value
 returns-clause-value c =
-    paired_ok c.args.op c.args.a.now c.args.b.now c.copy_dims-dims.result c.promote-both.result c.binary_type-ty.result c.in_ok-elems.elems.elems c.packed.result
+    of_alike_ok c.args.op c.args.a.now c.args.b.now c.copy_dims-dims.result c.promote-both.result c.binary_type-ty.result c.in_ok-elems.elems.elems c.packed.result
     (c.promote-both.ensures ∙ ap₂ promoted c.strided_type.ensures c.strided_type-2.ensures)
     (c.copy_dims-dims.ensures ∙ c.strided_dims.ensures.dims)
     c.in_ok-elems.ensures.value
