@@ -1,5 +1,5 @@
 -- Loops whose body is a loop along lines, perhaps under a condition.
-use Rattle.std.proofs.Common.{Bor, ◌≡◌, ℕ, zero, suc, ◌+◌, ◌-◌, ◌<◌, ◌≤◌, ℤ, pos, negsuc, List, [], ◌∷◌, length, get_or, Ok, Err, refl, sym, ap, subst, ◌∙◌, arith}
+use Rattle.std.proofs.Common.{Bor, ◌≡◌, ℕ, zero, suc, ◌+◌, ◌-◌, ◌<◌, ◌≤◌, ℤ, pos, negsuc, List, [], ◌∷◌, length, Ok, Err, refl, sym, ap, subst, ◌∙◌, arith}
 use Rattle.std.specs.Prelude.{Bool, true, false, if◌then◌else◌, IfSome, Option, Some, None, Result, slice_set}
 use Rattle.pdl_sig.specs.declared.Resolved.{Resolved}
 use Rattle.pdl_sig.specs.declared.Role.{Role}
@@ -7,20 +7,20 @@ use Rattle.pdl_sig.specs.Resolution.{size_in}
 use Rattle.std.proofs.lemmas.List.{set-set}
 use Rattle.pdl_code.specs.declared.tree.Expr.{Expr}
 use Rattle.pdl_code.specs.declared.tree.Stmt.{Stmt}
-use Rattle.pdl_code.specs.Tree.{Code, Step, Tree, choose, done, next, repeat}
+use Rattle.pdl_code.specs.Tree.{Code, Tree, choose, done, next, repeat}
 use Rattle.pdl_code.specs.TreeOf.{code_of, step_of, tree_of}
 use Rattle.pdl_kernel.specs.declared.faults.Fault.{Fault}
 use Rattle.pdl_kernel.specs.declared.nest.Nest.{Nest}
+use Rattle.pdl_kernel.specs.declared.nested.Course.{Course}
 use Rattle.pdl_kernel.specs.declared.nested.Guard.{Guard}
 use Rattle.pdl_kernel.specs.declared.nested.Guard.TheVariants.{Always, Where}
 use Rattle.pdl_kernel.specs.declared.nested.Inner.{Inner}
 use Rattle.pdl_kernel.specs.declared.nested.Settled.{Settled}
 use Rattle.pdl_kernel.specs.declared.nested.Wants.TheVariants.{Known, Each}
 use Rattle.pdl_kernel.specs.declared.steady.Steady.{Steady}
-use Rattle.pdl_kernel.specs.declared.sweep.Plan.{Plan}
 use Rattle.pdl_kernel.specs.Lines.{HasSameForm, IsCodePlan, IsServed, loops_at, turned}
 use Rattle.pdl_kernel.specs.Meaning.{Store, and_then, branch, run, turns, value}
-use Rattle.pdl_kernel.specs.Nested.{IsSettled, Resumes, code_of_inner, guarded, guarded_turn, outer_turn, wanted, wants_of}
+use Rattle.pdl_kernel.specs.Nested.{IsCourse, IsSettled, code_of_inner, guarded, guarded_turn, outer_turn, wanted, wants_of}
 use Rattle.pdl_kernel.specs.Sources.{IsCodeFree, Source, Work, store_of}
 use Rattle.pdl_kernel.specs.Steady.{IsSteady}
 use Rattle.pdl_kernel.proofs.Sweeping.{form_more, form_same, swept, then_done, turns_form, turns_more}
@@ -34,12 +34,12 @@ inner_free roles inner = by inner.guard
     by (Where e) h = h.0.0.0
 
 -- a turn of the outer loop goes by the plan
-pub turn_is : (l : Nest) (g : Guard) (code : Code) (p : Plan) → IsCodePlan l code p → size_in l.resolved.now.sizes l.inner ≡ l.count → (j : ℕ) → j < l.turns → IsServed p j → (w : Work) → HasSameForm l.frames.now w → (here : List ℕ)
+pub turn_is : (l : Nest) (g : Guard) (code : Code) (c : Course) → IsCodePlan l code c.plan → size_in l.resolved.now.sizes l.inner ≡ c.count → c.count ≤ l.count → (j : ℕ) → j < l.turns → IsServed c.plan j → (w : Work) → HasSameForm l.frames.now w → (here : List ℕ)
     → here ≡ slice_set l.at.now l.outer (l.first + j)
     → run l.resolved.now here (guarded g (next (repeat l.inner code) done)) (store_of l.sources.now w)
-    ≡ and_then (guarded_turn (wanted l.resolved.now.sizes here (store_of l.sources.now w) (wants_of g)) p j l.count w) (λ v. Ok (store_of l.sources.now v))
-turn_is l g code p h size j jt served w form here is =
-    subst (λ at. run l.resolved.now at (guarded g loop) m ≡ and_then (guarded_turn (wanted l.resolved.now.sizes at m (wants_of g)) p j l.count w) (λ v. Ok (store_of l.sources.now v))) (sym is) (by_guard g)
+    ≡ and_then (guarded_turn (wanted l.resolved.now.sizes here (store_of l.sources.now w) (wants_of g)) c j w) (λ v. Ok (store_of l.sources.now v))
+turn_is l g code c h size few j jt served w form here is =
+    subst (λ at. run l.resolved.now at (guarded g loop) m ≡ and_then (guarded_turn (wanted l.resolved.now.sizes at m (wants_of g)) c j w) (λ v. Ok (store_of l.sources.now v))) (sym is) (by_guard g)
   where
     at : List ℕ
     at = slice_set l.at.now l.outer (l.first + j)
@@ -51,29 +51,29 @@ turn_is l g code p h size j jt served w form here is =
     loop = next (repeat l.inner code) done
 
     all : Result Store Fault
-    all = and_then (turns (turned p j) 0 l.count w) (λ v. Ok (store_of l.sources.now v))
+    all = and_then (turns (turned c.plan j) 0 c.count w) (λ v. Ok (store_of l.sources.now v))
 
     by_loop : run l.resolved.now at loop m ≡ all
     by_loop = then_done (turns (λ i now. run l.resolved.now (loops_at l j i) code now) 0 (size_in l.resolved.now.sizes l.inner) m)
         ∙ ap (λ n. turns (λ i now. run l.resolved.now (loops_at l j i) code now) 0 n m) size
-        ∙ swept l code p h j jt served l.count 0 (omega arith) w form
+        ∙ swept l code c.plan h j jt served c.count 0 (omega (arith, few)) w form
 
     by_value : (v : Result ℤ Fault) → and_then v (λ x. branch x (run l.resolved.now at loop m) (Ok m))
-        ≡ and_then (and_then (and_then v (λ x. Ok (branch x true false))) (λ b. if b then turns (turned p j) 0 l.count w else Ok w)) (λ v. Ok (store_of l.sources.now v))
+        ≡ and_then (and_then (and_then v (λ x. Ok (branch x true false))) (λ b. if b then turns (turned c.plan j) 0 c.count w else Ok w)) (λ v. Ok (store_of l.sources.now v))
     by_value (Ok (pos zero)) = refl
     by_value (Ok (pos (suc n))) = by_loop
     by_value (Ok (negsuc n)) = by_loop
     by_value (Err d) = refl
 
-    by_guard : (g : Guard) → run l.resolved.now at (guarded g loop) m ≡ and_then (guarded_turn (wanted l.resolved.now.sizes at m (wants_of g)) p j l.count w) (λ v. Ok (store_of l.sources.now v))
+    by_guard : (g : Guard) → run l.resolved.now at (guarded g loop) m ≡ and_then (guarded_turn (wanted l.resolved.now.sizes at m (wants_of g)) c j w) (λ v. Ok (store_of l.sources.now v))
     by_guard Always = by_loop
     by_guard (Where e) = then_done (and_then (value l.resolved.now.sizes at m (tree_of e.now)) (λ x. branch x (run l.resolved.now at loop m) (Ok m))) ∙ by_value (value l.resolved.now.sizes at m (tree_of e.now))
 
 -- it keeps the form
-pub guarded_form : (wants : Result Bool Fault) (p : Plan) (j n : ℕ) (w now : Work) → guarded_turn wants p j n w ≡ Ok now → HasSameForm w now
-guarded_form (Ok true) p j n w now e = turns_form p j n 0 w now e
-guarded_form (Ok false) p j n w now e = let is : w ≡ now = cc in subst (HasSameForm w) is (form_same w)
-guarded_form (Err d) p j n w now e = cc
+pub guarded_form : (wants : Result Bool Fault) (c : Course) (j : ℕ) (w now : Work) → guarded_turn wants c j w ≡ Ok now → HasSameForm w now
+guarded_form (Ok true) c j w now e = turns_form c.plan j c.count 0 w now e
+guarded_form (Ok false) c j w now e = let is : w ≡ now = cc in subst (HasSameForm w) is (form_same w)
+guarded_form (Err d) c j w now e = cc
 
 -- turns that go by a plan, which keeps the form: what is left to do behind them
 resume_by : (f : ℕ → Store → Result Store Fault) (g : ℕ → Work → Result Work Fault) (ss : List Source) (start : Work) (first size n : ℕ) → first + n ≤ size → ((j : ℕ) (w now : Work) → g j w ≡ Ok now → HasSameForm w now)
@@ -111,20 +111,29 @@ resumes f g ss start first size n le keeps same r is =
     ap (λ i. turns f i (size - i) (store_of ss start)) e ∙ resume_by f g ss start first size n le keeps same n 0 (omega arith) start (form_same start) ∙ ap (λ r. and_then r (λ v. turns f (first + n) (size - (first + n)) (store_of ss v))) is
 
 -- a nest that goes by a plan, as far as its lines serve and its guard is known
-pub inner_resumes : (l : Nest) (g : Guard) (code : Code) (p : Plan) (s : Settled) (n : ℕ) → IsCodePlan l code p → size_in l.resolved.now.sizes l.inner ≡ l.count → IsSettled l.resolved.now.sizes l.at.now l.sources.now l.frames.now l.outer g l.first s
-    → l.turns ≡ s.until - l.first → n ≤ l.turns → ((j : ℕ) → j < n → IsServed p j)
-    → (r : Result Work Fault) → turns (outer_turn l.resolved.now.sizes l.at.now l.sources.now l.outer l.first s.wants p l.count) 0 n l.frames.now ≡ r
-    → let f : ℕ → Store → Result Store Fault = λ i now. run l.resolved.now (slice_set l.at.now l.outer i) (guarded g (next (repeat l.inner code) done)) now in
-    let size = size_in l.resolved.now.sizes l.outer in
-    turns f l.first (size - l.first) (store_of l.sources.now l.frames.now) ≡ and_then r (λ v. turns f (l.first + n) (size - (l.first + n)) (store_of l.sources.now v))
-inner_resumes l g code p s n h size settled some few served r is =
-    resumes _ (outer_turn l.resolved.now.sizes l.at.now l.sources.now l.outer l.first s.wants p l.count) l.sources.now l.frames.now l.first (size_in l.resolved.now.sizes l.outer) n
-    (omega (arith, some, few, settled.lasts.0, settled.lasts.1)) (λ j w now e. guarded_form _ p j l.count w now e) same r is
-  where
-    same : (j : ℕ) → j < n → (w : Work) → HasSameForm l.frames.now w → run l.resolved.now (slice_set l.at.now l.outer (l.first + j)) (guarded g (next (repeat l.inner code) done)) (store_of l.sources.now w)
-        ≡ and_then (outer_turn l.resolved.now.sizes l.at.now l.sources.now l.outer l.first s.wants p l.count j w) (λ v. Ok (store_of l.sources.now v))
-    same j jt w form = turn_is l g code p h size j (omega (arith, jt, few)) (served j jt) w form (slice_set l.at.now l.outer (l.first + j)) refl
-        ∙ ap (λ b. and_then (guarded_turn b p j l.count w) (λ v. Ok (store_of l.sources.now v))) (settled.same w form (l.first + j) (omega arith) (omega (arith, jt, some, few, settled.lasts.0)))
+pub course_is : (l : Nest) (inner : Inner) (s : Settled) (c : Course) → IsCodePlan l (code_of inner.body.now) c.plan → l.inner ≡ inner.dimension → size_in l.resolved.now.sizes l.inner ≡ c.count → c.count ≤ l.count
+    → IsSettled l.resolved.now.sizes l.at.now l.sources.now l.frames.now l.outer inner.guard l.first s → c.wants ≡ s.wants → l.turns ≡ s.until - l.first → c.turns ≤ l.turns → ((j : ℕ) → j < c.turns → IsServed c.plan j)
+    → IsCourse l.resolved.now l.at.now l.sources.now l.frames.now l.outer inner l.first c
+course_is l inner s c h same size few settled wants some less served = record {
+  known = h.known;
+  within = omega (arith, some, less, settled.lasts.0, settled.lasts.1);
+  turn = λ w form j jt.
+      let at = slice_set l.at.now l.outer (l.first + j) in
+      let m = store_of l.sources.now w in
+      let code = code_of inner.body.now in
+      let is = settled.same w form (l.first + j) (omega arith) (omega (arith, jt, some, less, settled.lasts.0)) in
+      ap (λ d. run l.resolved.now at (guarded inner.guard (next (repeat d code) done)) m) (sym same)
+      ∙ turn_is l inner.guard code c h size few j (omega (arith, jt, less)) (served j jt) w form at refl
+      ∙ ap (λ b. and_then (guarded_turn b c j w) (λ v. Ok (store_of l.sources.now v))) (is ∙ ap (λ k. wanted l.resolved.now.sizes at m k) (sym wants));
+}
+
+-- the loop resumes behind the turns of a course, or has their fault
+pub course_resumes : (r : Resolved) (at : List ℕ) (ss : List Source) (start : Work) (d : ℕ) (inner : Inner) (first : ℕ) (c : Course) → IsCourse r at ss start d inner first c
+    → (done_by : Result Work Fault) → turns (outer_turn r.sizes at ss d first c) 0 c.turns start ≡ done_by
+    → let f : ℕ → Store → Result Store Fault = λ i now. run r (slice_set at d i) (code_of_inner inner) now in
+    turns f first (size_in r.sizes d - first) (store_of ss start) ≡ and_then done_by (λ v. turns f (first + c.turns) (size_in r.sizes d - (first + c.turns)) (store_of ss v))
+course_resumes r at ss start d inner first c h done_by is =
+    resumes _ (outer_turn r.sizes at ss d first c) ss start first (size_in r.sizes d) c.turns h.within (λ j w now e. guarded_form _ c j w now e) (λ j jt w form. h.turn w form j jt) done_by is
 
 -- a condition whose number stays
 pub condition_settled : (l : Nest) (e : Bor Expr) (first : ℕ) (s : Steady) (b : Bool) → l.outer ≡ l.inner → 1 ≤ l.turns → l.count ≡ size_in l.resolved.now.sizes l.inner → IsSteady l (tree_of e.now) first s → b ≡ branch s.number true false

@@ -1,12 +1,9 @@
 -- Comparisons of numbers that rise along a loop.
-use Rattle.std.proofs.Common.{◌≡◌, ℕ, zero, suc, ◌+◌, ◌*◌, ◌<◌, ◌≤◌, ℤ, pos, ◌+ℤ◌, ◌-ℤ◌, ◌≤ℤ◌, Ok, Some, None, refl, sym, ap, ◌∙◌, arith}
+use Rattle.std.proofs.Common.{◌≡◌, ℕ, zero, suc, ◌+◌, ◌*◌, ◌<◌, ◌≤◌, ℤ, pos, ◌+ℤ◌, ◌-ℤ◌, ◌≤ℤ◌, Ok, Some, None, ap, ◌∙◌, arith}
 use Rattle.std.specs.Prelude.{Bool, true, false, ◌<ℤ◌, int_le, int_lt, not, IfSome, Option}
 use Rattle.std.specs.Ordering.{int_eq}
 use Rattle.std.proofs.lemmas.Int.{ints}
 use Rattle.pdl_elem.specs.declared.BinaryOp.{BinaryOp}
-use Rattle.pdl_elem.specs.declared.BinaryOp.TheVariants.{Lt, Le, Gt, Ge}
-use Rattle.pdl_elem.specs.declared.Ty.TheVariants.{Longlong}
-use Rattle.pdl_elem.specs.Laws.{WrappingLaws}
 use Rattle.pdl_elem.specs.Operators.{truth}
 use Rattle.pdl_kernel.specs.declared.line.Slope.{Slope}
 use Rattle.pdl_code.specs.Tree.{Tree, binary}

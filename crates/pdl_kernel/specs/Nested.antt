@@ -1,18 +1,19 @@
 -- Loops whose body is a loop along lines, perhaps under a condition.
-use Rattle.std.specs.Prelude.{◌≡◌, ◌<◌, ◌≤◌, ◌+◌, ◌-◌, ℕ, List, Bool, true, false, if◌then◌else◌, Result, Ok, Err, slice_set}
+use Rattle.std.specs.Prelude.{◌≡◌, ◌<◌, ◌≤◌, ◌+◌, ◌-◌, ℕ, List, Bool, true, false, if◌then◌else◌, Result, Ok, Err, length, slice_set}
+use Rattle.pdl_sig.specs.declared.Resolved.{Resolved}
 use Rattle.pdl_sig.specs.Resolution.{size_in}
 use Rattle.pdl_code.specs.TreeOf.{code_of, tree_of}
 use Rattle.pdl_code.specs.Tree.{Code, choose, done, next, repeat}
 use Rattle.pdl_kernel.specs.declared.faults.Fault.{Fault}
+use Rattle.pdl_kernel.specs.declared.nested.Course.{Course}
 use Rattle.pdl_kernel.specs.declared.nested.Guard.{Guard}
 use Rattle.pdl_kernel.specs.declared.nested.Guard.TheVariants.{Always, Where}
 use Rattle.pdl_kernel.specs.declared.nested.Inner.{Inner}
 use Rattle.pdl_kernel.specs.declared.nested.Settled.{Settled}
 use Rattle.pdl_kernel.specs.declared.nested.Wants.{Wants}
 use Rattle.pdl_kernel.specs.declared.nested.Wants.TheVariants.{Known, Each}
-use Rattle.pdl_kernel.specs.declared.sweep.Plan.{Plan}
 use Rattle.pdl_kernel.specs.Lines.{HasSameForm, turned}
-use Rattle.pdl_kernel.specs.Meaning.{Store, and_then, branch, turns, value}
+use Rattle.pdl_kernel.specs.Meaning.{Store, and_then, branch, run, turns, value}
 use Rattle.pdl_kernel.specs.Sources.{Source, Work, store_of}
 use Rattle.pdl_kernel.specs.Steady.{Lasts}
 
@@ -46,14 +47,24 @@ pub record IsSettled (sizes at : List ℕ) (ss : List Source) (before : Work) (d
       wanted sizes at m (wants_of g) ≡ wanted sizes at m s.wants
 
 -- after a turn of the outer loop: all turns of the inner one, where it is wanted
-abbrev pub guarded_turn : Result Bool Fault → Plan → (outer count : ℕ) → Work → Result Work Fault
-guarded_turn wants p j n w = and_then wants (λ b. if b then turns (turned p j) 0 n w else Ok w)
+abbrev pub guarded_turn : Result Bool Fault → Course → (outer : ℕ) → Work → Result Work Fault
+guarded_turn wants c j w =
+    and_then wants (λ b. if b then turns (turned c.plan j) 0 c.count w else Ok w)
 
 -- the same by its number from the first one on
-abbrev pub outer_turn : (sizes at : List ℕ) → List Source → (d first : ℕ) → Wants → Plan →
-    (count outer : ℕ) → Work → Result Work Fault
-outer_turn sizes at ss d first wants p n j w =
-    guarded_turn (wanted sizes (slice_set at d (first + j)) (store_of ss w) wants) p j n w
+abbrev pub outer_turn : (sizes at : List ℕ) → List Source → (d first : ℕ) → Course →
+    (outer : ℕ) → Work → Result Work Fault
+outer_turn sizes at ss d first c j w =
+    guarded_turn (wanted sizes (slice_set at d (first + j)) (store_of ss w) c.wants) c j w
+
+-- the turns of the outer loop from the first on go so, whatever is assigned
+pub record IsCourse (r : Resolved) (at : List ℕ) (ss : List Source) (before : Work) (d : ℕ)
+    (inner : Inner) (first : ℕ) (c : Course) : Type 0 where
+  pub known : c.plan.number < length before.arrays
+  pub within : first + c.turns ≤ size_in r.sizes d
+  pub turn : (w : Work) → HasSameForm before w → (j : ℕ) → j < c.turns →
+      run r (slice_set at d (first + j)) (code_of_inner inner) (store_of ss w)
+      ≡ and_then (outer_turn r.sizes at ss d first c j w) (λ now. Ok (store_of ss now))
 
 -- f was done at the numbers from `first` on, up to the one that comes next or the first fault:
 -- what is left to do up to a size gives what all gives

@@ -1,5 +1,5 @@
 //! Lines of places.
-ghost use Rattle.std.specs.Prelude.{◌≡◌, ◌≤◌, ◌+◌, ◌*◌};
+ghost use Rattle.std.specs.Prelude.{◌≡◌, ◌≤◌, ◌+◌, ◌*◌, ◌^◌};
 
 /// A place in a buffer for each turn of two loops, one in the other: that of the first turns, and
 /// how far it is from each turn of the outer one, and of the inner one, to the next. It serves so
@@ -11,9 +11,9 @@ pub struct Line {
     pub outer: usize,
     pub inner: usize,
     pub turns: u32,
-    ghost near: { start ≤ 2305843009213693952 },
-    ghost small_outer: { outer ≤ 8388608 },
-    ghost small_inner: { inner ≤ 8388608 },
+    ghost near: { start ≤ 2 ^ 61 },
+    ghost small_outer: { outer ≤ 2 ^ 23 },
+    ghost small_inner: { inner ≤ 2 ^ 23 },
 }
 
 /// A number at each turn of two loops: that of the first turns, and whether it rises by one (1) or

@@ -7,7 +7,7 @@ ghost use Rattle.pdl_code.specs.Tree.{done, next, repeat};
 ghost use Rattle.pdl_kernel.specs.Answers.{Becomes};
 ghost use Rattle.pdl_kernel.specs.Meaning.{and_then, run, turns};
 ghost use Rattle.pdl_kernel.specs.declared.nested.Guard.TheVariants.{Where};
-ghost use Rattle.pdl_kernel.specs.Nested.{IsSettled, Resumes, code_of_inner, guarded, guarded_turn, outer_turn, wanted};
+ghost use Rattle.pdl_kernel.specs.Nested.{IsCourse, IsSettled, Resumes, code_of_inner, guarded, guarded_turn, outer_turn, wanted};
 ghost use Rattle.pdl_kernel.specs.Sources.{IsCodeFree, roles_of, store_of};
 
 use crate::axes::{MOST, set_index};
@@ -179,6 +179,60 @@ fn settle_guard<'a>(
     }
 }
 
+/// How so many turns of the outer loop go: whether the inner one is run, its plan, and how many
+/// turns it has.
+#[derive(Clone, Copy)]
+pub struct Course<'a, 'b> {
+    pub wants: Wants<'b>,
+    pub plan: Plan<'a>,
+    pub turns: u32,
+    pub count: u32,
+}
+
+/// How the turns of the outer loop go from the first on, for as many as the lines serve and the
+/// guard stays as it is. None where there is no plan.
+#[inline(always)]
+fn course_of<'a, 'b>(
+    resolved: &Resolved,
+    sources: &'a [Source],
+    frames: &Frames,
+    at: &[u32; MOST],
+    dimension: usize,
+    inner: &Inner<'b>,
+    first: u32,
+) -> Option<Course<'a, 'b>>
+    requires free { IsCodeFree (roles_of sources.now) (code_of inner.now.body.now) }
+    requires first { first < size_in resolved.now.sizes dimension }
+    ensures goes { IfSome result (IsCourse resolved.now at.now sources.now frames.now dimension
+        inner.now first) }
+    ensures room { IfSome result (λ course. first + course.turns < 4294967296) }
+{
+    let count = size_in(resolved, inner.dimension);
+    if dimension >= MOST || inner.dimension >= MOST || count == 0 {
+        return None;
+    }
+    let guard = &inner.guard;
+    let settled = settle_guard(resolved, sources, frames, at, dimension, guard, first);
+    let nest = Nest {
+        resolved,
+        sources,
+        frames,
+        at,
+        outer: dimension,
+        first,
+        turns: settled.until - first,
+        inner: inner.dimension,
+        count,
+    };
+    let plan = code_plan(&nest, inner.body)?;
+    Some(Course {
+        wants: settled.wants,
+        plan,
+        turns: turns_served(&plan, settled.until - first),
+        count,
+    })
+}
+
 /// One turn of the outer loop.
 #[inline(always)]
 fn turn_by(
@@ -186,24 +240,22 @@ fn turn_by(
     sources: &[Source],
     frames: &mut Frames,
     at: &[u32; MOST],
-    wants: &Wants,
-    plan: &Plan,
+    course: &Course,
     outer: u32,
-    count: u32,
 ) -> Result<(), Fault>
-    requires { plan.now.number < length frames.old.arrays }
+    requires { course.now.plan.number < length frames.old.arrays }
     ensures { let wants = wanted resolved.now.sizes at.now (store_of sources.now frames.old)
-        wants.now in
-        Becomes result frames.new (guarded_turn wants plan.now outer count frames.old) }
+        course.now.wants in
+        Becomes result frames.new (guarded_turn wants course.now outer frames.old) }
 {
-    match wanted(resolved, sources, frames, at, wants) {
-        Ok(true) => turns_by(frames, plan, outer, count),
+    match wanted(resolved, sources, frames, at, &course.wants) {
+        Ok(true) => turns_by(frames, &course.plan, outer, course.count),
         Ok(false) => Ok(()),
         Err(fault) => Err(fault),
     }
 }
 
-/// So many turns of the outer loop.
+/// The turns of the outer loop that go so.
 #[inline(always)]
 fn guarded_turns(
     resolved: &Resolved,
@@ -212,25 +264,21 @@ fn guarded_turns(
     at: &[u32; MOST],
     dimension: usize,
     first: u32,
-    wants: &Wants,
-    plan: &Plan,
-    amount: u32,
-    count: u32,
+    course: &Course,
 ) -> Result<(), Fault>
-    requires known { plan.now.number < length frames.old.arrays }
-    requires room { first + amount < 4294967296 }
-    ensures { let turn = outer_turn resolved.now.sizes at.now sources.now dimension first wants.now
-        plan.now count in
-        Becomes result frames.new (turns turn 0 amount frames.old) }
+    requires known { course.now.plan.number < length frames.old.arrays }
+    requires room { first + course.now.turns < 4294967296 }
+    ensures { let turn = outer_turn resolved.now.sizes at.now sources.now dimension first course.now
+        in Becomes result frames.new (turns turn 0 course.now.turns frames.old) }
 {
-    match wants {
-        Wants::Known(true) => all_turns(frames, plan, amount, count),
+    match course.wants {
+        Wants::Known(true) => all_turns(frames, &course.plan, course.turns, course.count),
         Wants::Known(false) => Ok(()),
         Wants::Each(_) => {
             let mut here = *at;
-            for outer in 0..amount {
+            for outer in 0..course.turns {
                 set_index(&mut here, dimension, first + outer);
-                match turn_by(resolved, sources, frames, &here, wants, plan, outer, count) {
+                match turn_by(resolved, sources, frames, &here, course, outer) {
                     Ok(()) => {}
                     Err(fault) => return Err(fault),
                 }
@@ -260,38 +308,10 @@ fn inner_turns(
         (store_of sources.now frames.old) (store_of sources.now frames.new)) }
     ensures left { IfNone result (frames.new ≡ frames.old) }
 {
-    let count = size_in(resolved, inner.dimension);
-    if dimension >= MOST || inner.dimension >= MOST || count == 0 {
-        return None;
-    }
-    let settled = settle_guard(
-        resolved,
-        sources,
-        frames,
-        at,
-        dimension,
-        &inner.guard,
-        first,
-    );
-    let nest = Nest {
-        resolved,
-        sources,
-        frames,
-        at,
-        outer: dimension,
-        first,
-        turns: settled.until - first,
-        inner: inner.dimension,
-        count,
-    };
-    match code_plan(&nest, inner.body) {
-        Some(plan) => {
-            let wants = settled.wants;
-            let turns = turns_served(&plan, settled.until - first);
-            match guarded_turns(
-                resolved, sources, frames, at, dimension, first, &wants, &plan, turns, count,
-            ) {
-                Ok(()) => Some(Ok(first + turns)),
+    match course_of(resolved, sources, frames, at, dimension, inner, first) {
+        Some(course) => {
+            match guarded_turns(resolved, sources, frames, at, dimension, first, &course) {
+                Ok(()) => Some(Ok(first + course.turns)),
                 Err(fault) => Some(Err(fault)),
             }
         }

@@ -227,19 +227,10 @@ fn each_turn(
 {
     let size = size_in(resolved, dimension);
     let mut here = *at;
-    let mut nested = true;
+    let mut look = true;
     let mut i = 0;
     while i < size {
-        match resume(
-            resolved,
-            sources,
-            frames,
-            at,
-            dimension,
-            body,
-            &mut nested,
-            i,
-        ) {
+        match resume(resolved, sources, frames, at, dimension, body, &mut look, i) {
             Ok(next) => i = next,
             Err(fault) => return Err(fault),
         }
@@ -265,7 +256,7 @@ fn resume(
     at: &[u32; MOST],
     dimension: usize,
     body: &[Stmt],
-    nested: &mut bool,
+    look: &mut bool,
     first: u32,
 ) -> Result<u32, Fault>
     requires free { IsCodeFree (roles_of sources.now) (code_of body.now) }
@@ -275,13 +266,13 @@ fn resume(
         first (size_in resolved.now.sizes dimension)
         (store_of sources.now frames.old) (store_of sources.now frames.new) result }
 {
-    if !*nested {
+    if !*look {
         return Ok(first);
     }
     match nested_turns(resolved, sources, frames, at, dimension, body, first) {
         Some(result) => result,
         None => {
-            *nested = false;
+            *look = false;
             Ok(first)
         }
     }

@@ -1,48 +1,45 @@
-use Rattle.std.proofs.Common.{◌≡◌, ℕ, ◌+◌, arith, rules, sym, ap, subst, ◌∙◌, Ok, Err, List}
-use Rattle.std.specs.Prelude.{Result, false, slice_set}
+use Rattle.std.proofs.Common.{◌≡◌, ◌+◌, arith, rules, sym, ap, ◌∙◌, Ok, Err}
+use Rattle.std.specs.Prelude.{false, slice_set}
 use Rattle.pdl_kernel.specs.declared.nested.Wants.TheVariants.{Known}
 use Rattle.std.proofs.lemmas.List.{set-set}
-use Rattle.pdl_kernel.specs.declared.faults.Fault.{Fault}
-use Rattle.pdl_kernel.specs.Meaning.{turns}
 use Rattle.pdl_kernel.specs.Nested.{guarded_turn, outer_turn, wanted}
-use Rattle.pdl_kernel.specs.Sources.{Work, store_of}
+use Rattle.pdl_kernel.specs.Sources.{store_of}
 use Rattle.pdl_kernel.proofs.Nesting.{guarded_form, turns_idle}
 use Rattle.pdl_kernel.proofs.Sweeping.{form_long, turns_more}
 use Rattle.pdl_kernel.proofs.nested.guarded_turns.Goals as goal
 
 pub loop-outer-preserved : goal.loop-outer-preserved
 loop-outer-preserved c =
-    let p = c.args.plan.now in
+    let k = c.args.course.now in
     let d = c.args.dimension in
     let ss = c.args.sources.now in
     let j = c.loop-outer.outer in
     let w = c.loop-outer.frames in
     let now = c.turn_by.new.frames in
-    let f = outer_turn c.args.resolved.now.sizes c.args.at.now ss d c.args.first c.args.wants.now p c.args.count in
+    let f = outer_turn c.args.resolved.now.sizes c.args.at.now ss d c.args.first k in
     let at : c.set_index.new.at ≡ slice_set c.args.at.now d (c.args.first + j) = c.set_index.ensures ∙ c.loop-outer.invariant.here (c.args.first + j) in
-    let one : f j w ≡ Ok now = ap (λ at. guarded_turn (wanted c.args.resolved.now.sizes at (store_of ss w) c.args.wants.now) p j c.args.count w) (sym at) ∙ c.in-Ok.ensures in
+    let one : f j w ≡ Ok now = ap (λ at. guarded_turn (wanted c.args.resolved.now.sizes at (store_of ss w) k.wants) k j w) (sym at) ∙ c.in-Ok.ensures in
     record {
-      turns = sym (turns_more f j c.args.amount w (Ok now) (omega arith) one) ∙ c.loop-outer.invariant.turns;
-      known = form_long w now (guarded_form _ p j c.args.count w now one) ∙ c.loop-outer.invariant.known;
+      turns = sym (turns_more f j c.args.course.now.turns w (Ok now) (omega arith) one) ∙ c.loop-outer.invariant.turns;
+      known = form_long w now (guarded_form _ k j w now one) ∙ c.loop-outer.invariant.known;
       here = λ i. ap (λ at. slice_set at d i) c.set_index.ensures ∙ set-set c.loop-outer.here d (c.args.first + j) i ∙ c.loop-outer.invariant.here i;
     }
 
 pub returns-in-Err : goal.returns-in-Err
 returns-in-Err c =
-    let p = c.args.plan.now in
+    let k = c.args.course.now in
     let d = c.args.dimension in
     let ss = c.args.sources.now in
     let j = c.loop-outer.outer in
     let w = c.loop-outer.frames in
-    let f = outer_turn c.args.resolved.now.sizes c.args.at.now ss d c.args.first c.args.wants.now p c.args.count in
+    let f = outer_turn c.args.resolved.now.sizes c.args.at.now ss d c.args.first k in
     let at : c.set_index.new.at ≡ slice_set c.args.at.now d (c.args.first + j) = c.set_index.ensures ∙ c.loop-outer.invariant.here (c.args.first + j) in
-    let one : f j w ≡ Err c.in-Err.fault = ap (λ at. guarded_turn (wanted c.args.resolved.now.sizes at (store_of ss w) c.args.wants.now) p j c.args.count w) (sym at) ∙ c.in-Err.ensures in
-    sym c.loop-outer.invariant.turns ∙ turns_more f j c.args.amount w (Err c.in-Err.fault) (omega arith) one
+    let one : f j w ≡ Err c.in-Err.fault = ap (λ at. guarded_turn (wanted c.args.resolved.now.sizes at (store_of ss w) k.wants) k j w) (sym at) ∙ c.in-Err.ensures in
+    sym c.loop-outer.invariant.turns ∙ turns_more f j c.args.course.now.turns w (Err c.in-Err.fault) (omega arith) one
 
 pub returns-in-Known-false : goal.returns-in-Known-false
 returns-in-Known-false c =
-    let sizes = c.args.resolved.now.sizes in
-    let ss = c.args.sources.now in
+    let k = c.args.course.now in
     let w = c.args.frames.now in
-    let never : c.args.wants.now ≡ Known false = search rules in
-    turns_idle _ w (λ j. ap (λ k. outer_turn sizes c.args.at.now ss c.args.dimension c.args.first k c.args.plan.now c.args.count j w) never) 0 c.args.amount
+    let never : k.wants ≡ Known false = search rules in
+    turns_idle _ w (λ j. ap (λ wants. guarded_turn (wanted c.args.resolved.now.sizes (slice_set c.args.at.now c.args.dimension (c.args.first + j)) (store_of c.args.sources.now w) wants) k j w) never) 0 k.turns

@@ -1,4 +1,4 @@
-use Rattle.std.proofs.Common.{sym, ap, ◌∙◌}
+use Rattle.std.proofs.Common.{ap, ◌∙◌}
 use Rattle.pdl_code.specs.Tree.{done, next}
 use Rattle.pdl_kernel.proofs.Rows.{loop_tree}
 use Rattle.pdl_kernel.proofs.Sweeping.{one_statement}

@@ -1,0 +1,7 @@
+use Rattle.std.proofs.Common.{sym, arith, refl}
+use Rattle.pdl_kernel.proofs.Nesting.{course_is}
+use Rattle.pdl_kernel.proofs.nested.course_of.Goals as goal
+
+pub returns-clause-goes : goal.returns-clause-goes
+returns-clause-goes c =
+    course_is _ c.args.inner.now c.settle_guard-settled.result _ c.in_ok-plan.ensures refl (sym c.size_in-count.ensures) (omega arith) c.settle_guard-settled.ensures refl refl c.turns_served.ensures.few c.turns_served.ensures.served
