@@ -12,8 +12,9 @@ use Rattle.pdl_machine.specs.Kernels.{kernel_outputs}
 use Rattle.pdl_machine.specs.Names.{Names, found}
 use Rattle.pdl_machine.specs.Outcome.{Given as Argument, Seen, Valued}
 use Rattle.pdl_machine.specs.Then.{and_then, or_fault}
-use Rattle.pdl_session.specs.declared.given.Given.{Given}
-use Rattle.pdl_session.specs.Arguments.{arguments, all_seen_of, several}
+use Rattle.pdl_scope.specs.declared.given.Given.{Given}
+use Rattle.pdl_scope.specs.Arguments.{arguments, all_seen_of}
+use Rattle.pdl_session.specs.Calls.{several}
 use Rattle.pdl_session.proofs.Seen.{seen_same}
 
 -- the outputs of the kernel of a name

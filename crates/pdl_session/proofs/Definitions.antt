@@ -19,12 +19,10 @@ use Rattle.pdl_machine.specs.Refused.{or_named}
 use Rattle.pdl_machine.specs.State.{State}
 use Rattle.pdl_machine.specs.Step.{Stepped, kernel_named, effect}
 use Rattle.pdl_machine.specs.Then.{and_then}
-use Rattle.pdl_session.specs.declared.fault.StepFault.{StepFault}
-use Rattle.pdl_session.specs.Answers.{IsFault, IfScript, IsKept, Runs}
-use Rattle.pdl_session.specs.Faults.{of_signature, of_code}
-use Rattle.pdl_session.proofs.Faults.{first_fault}
-use Rattle.pdl_session.proofs.Growing.{grows_refl}
-use Rattle.pdl_session.proofs.Statements.{kept_at}
+use Rattle.pdl_scope.specs.declared.fault.StepFault.{StepFault}
+use Rattle.pdl_scope.specs.Answers.{IsFault, IfScript, IsKept, Runs}
+use Rattle.pdl_scope.specs.Faults.{of_signature, of_code}
+use Rattle.pdl_scope.specs.Facts.{first_fault, grows_refl, kept_at}
 
 -- a definition, by what its signature's text means
 abbrev by_signature : List ℕ → Result Signature SigFault → Result Kernel Fault

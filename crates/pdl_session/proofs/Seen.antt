@@ -6,11 +6,11 @@ use Rattle.pdl_machine.specs.Arrays.{Arrays}
 use Rattle.pdl_machine.specs.State.{State}
 use Rattle.pdl_machine.specs.Outcome.{all_seen, Outcome as Placed, placed}
 use Rattle.pdl_machine.specs.Calls.{outcome, builtin_value}
-use Rattle.pdl_session.specs.declared.fault.StepFault.{StepFault}
-use Rattle.pdl_session.specs.declared.fault.StepFault.TheVariants.{Script, NoMemory}
-use Rattle.pdl_session.specs.declared.given.Given.{Given}
-use Rattle.pdl_session.specs.Answers.{IsFault, Evaluates}
-use Rattle.pdl_session.specs.Arguments.{arguments, seen_of, all_seen_of}
+use Rattle.pdl_scope.specs.declared.fault.StepFault.{StepFault}
+use Rattle.pdl_scope.specs.declared.fault.StepFault.TheVariants.{Script, NoMemory}
+use Rattle.pdl_scope.specs.declared.given.Given.{Given}
+use Rattle.pdl_scope.specs.Answers.{IsFault, Evaluates}
+use Rattle.pdl_scope.specs.Arguments.{arguments, seen_of, all_seen_of}
 
 -- what a call sees
 pub seen_same : (a : Arrays) (given : List Given) → all_seen a (arguments given) ≡ all_seen_of a given

@@ -17,8 +17,8 @@ use Rattle.pdl_machine.specs.Outcome.{Outcome as Placed, viewed}
 use Rattle.pdl_machine.specs.Refused.{or_named}
 use Rattle.pdl_machine.specs.Then.{and_then}
 use Rattle.pdl_machine.specs.Views.{slice_fault, slice_by}
-use Rattle.pdl_session.specs.Answers.{IsFault}
-use Rattle.pdl_session.specs.Faults.{of_slice}
+use Rattle.pdl_scope.specs.Answers.{IsFault}
+use Rattle.pdl_scope.specs.Faults.{of_slice}
 
 step_is : (step : Option ℤ) → is_step step ≡ not (is_zero step)
 step_is None = refl

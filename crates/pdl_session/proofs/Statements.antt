@@ -17,19 +17,15 @@ use Rattle.pdl_machine.specs.Value.{value_of, taken}
 use Rattle.pdl_machine.specs.Tidy.{tidy}
 use Rattle.pdl_machine.specs.Laws.{NewArraysUnseen}
 use Rattle.pdl_machine.specs.Step.{Stepped, bind_value, bound, roots_bound, outputs_bound, list_bound, assigned, assigning, printed, after_printing, effect}
-use Rattle.pdl_session.specs.declared.fault.StepFault.{StepFault}
-use Rattle.pdl_session.specs.declared.fault.StepFault.TheVariants.{Script, NoMemory}
-use Rattle.pdl_session.specs.declared.given.Given.{Given}
-use Rattle.pdl_session.specs.Arguments.{arguments, all_seen_of, several}
-use Rattle.pdl_session.specs.Scope.{Grows}
-use Rattle.pdl_session.specs.Answers.{IsFault, IfScript, Prints, IsKept, Runs}
-use Rattle.pdl_session.proofs.Faults.{first_fault}
-use Rattle.pdl_session.proofs.Growing.{grows_refl, grows_trans, state_is}
+use Rattle.pdl_scope.specs.declared.fault.StepFault.{StepFault}
+use Rattle.pdl_scope.specs.declared.fault.StepFault.TheVariants.{Script, NoMemory}
+use Rattle.pdl_scope.specs.declared.given.Given.{Given}
+use Rattle.pdl_scope.specs.Arguments.{arguments, all_seen_of}
+use Rattle.pdl_session.specs.Calls.{several}
+use Rattle.pdl_scope.specs.Scope.{Grows}
+use Rattle.pdl_scope.specs.Answers.{IsFault, IfScript, Prints, IsKept, Runs}
+use Rattle.pdl_scope.specs.Facts.{first_fault, grows_refl, grows_trans, state_is, kept_at}
 use Rattle.pdl_session.proofs.Seen.{seen_same}
-
-pub kept_at : (e : StepFault) (old new : State) (out : List ℕ) → Grows old new → IfScript e (IsKept old new out out)
-kept_at (Script e) old new out g = record { grown = g; printed = refl }
-kept_at NoMemory old new out g = tt
 
 -- a statement that goes on from where new arrays came
 pub runs_from : {T : Type 0} (r : Result T StepFault) (x y : Stepped) (old mid new : State) (o n : List ℕ) → y ≡ x → Grows old mid → Runs x mid new o n r → Runs y old new o n r

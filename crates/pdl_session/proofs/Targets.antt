@@ -13,13 +13,13 @@ use Rattle.pdl_machine.specs.Names.{Names}
 use Rattle.pdl_machine.specs.Arrays.{Arrays}
 use Rattle.pdl_machine.specs.Step.{behind, target}
 use Rattle.pdl_machine.specs.Value.{value_of, taken}
-use Rattle.pdl_session.specs.declared.given.Given.{Given}
-use Rattle.pdl_session.specs.declared.given.Given.TheVariants.{Array}
-use Rattle.pdl_session.specs.Arguments.{arguments}
+use Rattle.pdl_scope.specs.declared.given.Given.{Given}
+use Rattle.pdl_scope.specs.declared.given.Given.TheVariants.{Array}
+use Rattle.pdl_scope.specs.Arguments.{arguments}
 use Rattle.pdl_session.proofs.Evals.{with_given}
-use Rattle.pdl_session.specs.declared.fault.StepFault.{StepFault}
-use Rattle.pdl_session.specs.declared.fault.StepFault.TheVariants.{Script, NoMemory}
-use Rattle.pdl_session.specs.Answers.{IsFault}
+use Rattle.pdl_scope.specs.declared.fault.StepFault.{StepFault}
+use Rattle.pdl_scope.specs.declared.fault.StepFault.TheVariants.{Script, NoMemory}
+use Rattle.pdl_scope.specs.Answers.{IsFault}
 
 -- arguments behind a first one are those after it
 pub behind_args : (e : Tree) (args : List Arg) (front : Args) → behind e (args_of args front) ≡ args_of args (behind e front)

@@ -1,6 +1,2 @@
-pub mod Scope
-pub mod Answers
-pub mod Faults
-pub mod Arguments
-pub mod Sizes
-pub mod Holding
+pub mod Session
+pub mod Calls

@@ -8,164 +8,164 @@ ghost use Rattle.pdl_machine.specs.Outcome.{new_root, view_placed};
 ghost use Rattle.pdl_machine.specs.Then.{and_then};
 ghost use Rattle.pdl_machine.specs.Value.{number_made};
 ghost use Rattle.pdl_world.specs.Formula.{is_well_formed};
-ghost use Rattle.pdl_session.specs.Answers.{AnswersAs, Evaluates};
-ghost use Rattle.pdl_session.specs.Arguments.{arguments, AreGivenLive, all_seen_of, several, outcome_of, IsOutcomeMade};
-ghost use Rattle.pdl_session.specs.Scope.{Grows};
+ghost use Rattle.pdl_scope.specs.Answers.{AnswersAs, Evaluates};
+ghost use Rattle.pdl_scope.specs.Arguments.{arguments, AreGivenLive, all_seen_of, outcome_of, IsOutcomeMade};
+ghost use Rattle.pdl_session.specs.Calls.{several};
+ghost use Rattle.pdl_scope.specs.Scope.{Grows};
 ghost use Rattle.std.specs.Prelude.{IsTrue};
 
-use crate::fault::StepFault;
-use crate::given::Given;
-use crate::outcome::Outcome;
-use crate::scope::Scope;
+use crate::fill::filled;
+use crate::inquiry::{dim, inquiry};
+use crate::views::arrangement::arrangement;
+use crate::views::choices::{index, masked, range};
 use crate::views::slice::slice;
 use pdl_buf::{Elements, Made, Steps};
 use pdl_elem::{Name, Ty};
 use pdl_engine::ArrayId;
 use pdl_machine::{Builtin, Fault, builtin_named};
+use pdl_scope::{Given, Outcome, Scope, StepFault};
 use pdl_shape::dims_of;
 use pdl_world::Trans;
 use std::sync::ledger::Ledger;
 
-impl Scope {
-    /// The array of a number: no dimensions, long where it is at most 2147483647, else longlong.
-    pub fn number<L: Ledger>(
-        &mut self,
-        number: i64,
-        steps: &mut Steps<L>,
-    ) -> Result<ArrayId, StepFault>
-        ensures value { Evaluates (new_root self.old.arrays (number_made number)) self.new result }
-        ensures grown { Grows self.old self.new }
-    {
-        match dims_of(self.alloc(), &[]) {
-            Ok(dims) => {
-                let elems = Elements::new(vec![in self.alloc(); number; 1]?);
-                self.make(number_type(number), &dims, elems, steps)
-            }
-            Err(_) => unreachable!(),
+/// The array of a number: no dimensions, long where it is at most 2147483647, else longlong.
+pub fn number_array<L: Ledger>(
+    scope: &mut Scope,
+    number: i64,
+    steps: &mut Steps<L>,
+) -> Result<ArrayId, StepFault>
+    ensures value { Evaluates (new_root scope.old.arrays (number_made number)) scope.new result }
+    ensures grown { Grows scope.old scope.new }
+{
+    match dims_of(scope.alloc(), &[]) {
+        Ok(dims) => {
+            let elems = Elements::new(vec![in scope.alloc(); number; 1]?);
+            scope.make(number_type(number), &dims, elems, steps)
+        }
+        Err(_) => unreachable!(),
+    }
+}
+
+/// The call of a name with its arguments.
+pub fn call<L: Ledger>(
+    scope: &mut Scope,
+    name: &Name,
+    given: &[Given],
+    steps: &mut Steps<L>,
+) -> Result<ArrayId, StepFault>
+    requires { AreGivenLive scope.old.arrays.world given.now }
+    ensures value { let seen = arguments given.now in
+        let wanted = call_value scope.old.names name.now scope.old.arrays seen in
+        Evaluates wanted scope.new result }
+    ensures grown { Grows scope.old scope.new }
+{
+    match builtin_named(name.bytes()) {
+        Some(builtin) => builtin_call(scope, builtin, given, steps),
+        None => {
+            let outputs = scope.kernel_outputs(name, 1, given, steps)?;
+            only_root(scope, &outputs, steps)
         }
     }
+}
 
-    /// The call of a name with its arguments.
-    pub fn call<L: Ledger>(
-        &mut self,
-        name: &Name,
-        given: &[Given],
-        steps: &mut Steps<L>,
-    ) -> Result<ArrayId, StepFault>
-        requires { AreGivenLive self.old.arrays.world given.now }
-        ensures value { let seen = arguments given.now in
-            let wanted = call_value self.old.names name.now self.old.arrays seen in
-            Evaluates wanted self.new result }
-        ensures grown { Grows self.old self.new }
-    {
-        match builtin_named(name.bytes()) {
-            Some(builtin) => self.builtin_call(builtin, given, steps),
-            None => {
-                let outputs = self.kernel_outputs(name, 1, given, steps)?;
-                self.only_root(&outputs, steps)
-            }
-        }
+/// The outputs of the call of a name, where not one is wanted. A built-in call has one.
+pub fn several<L: Ledger>(
+    scope: &mut Scope,
+    name: &Name,
+    wanted: usize,
+    given: &[Given],
+    steps: &mut Steps<L>,
+) -> Result<Vec<Made>, StepFault>
+    requires { AreGivenLive scope.old.arrays.world given.now }
+    ensures value { let seen = all_seen_of scope.old.arrays given.now in
+        let outputs = and_then (callee_of scope.old.names name.now) (several wanted seen) in
+        AnswersAs (λ ms. ms.items) outputs result }
+    ensures made { IfOk result (λ ms. All (λ m. IsMade m.ty m.dims m.elems) ms.items) }
+    ensures same { scope.new ≡ scope.old }
+{
+    match builtin_named(name.bytes()) {
+        Some(_) => Err(StepFault::Script(Fault::WrongArguments)),
+        None => scope.kernel_outputs(name, wanted, given, steps),
     }
+}
 
-    /// The outputs of the call of a name, where not one is wanted. A built-in call has one.
-    pub fn several<L: Ledger>(
-        &mut self,
-        name: &Name,
-        wanted: usize,
-        given: &[Given],
-        steps: &mut Steps<L>,
-    ) -> Result<Vec<Made>, StepFault>
-        requires { AreGivenLive self.old.arrays.world given.now }
-        ensures value { let seen = all_seen_of self.old.arrays given.now in
-            let outputs = and_then (callee_of self.old.names name.now) (several wanted seen) in
-            AnswersAs (λ ms. ms.items) outputs result }
-        ensures made { IfOk result (λ ms. All (λ m. IsMade m.ty m.dims m.elems) ms.items) }
-        ensures same { self.new ≡ self.old }
-    {
-        match builtin_named(name.bytes()) {
-            Some(_) => Err(StepFault::Script(Fault::WrongArguments)),
-            None => self.kernel_outputs(name, wanted, given, steps),
-        }
+/// The only output, where one value is wanted.
+fn only_root<L: Ledger>(
+    scope: &mut Scope,
+    outputs: &[Made],
+    steps: &mut Steps<L>,
+) -> Result<ArrayId, StepFault>
+    requires { All (λ m. IsMade m.ty m.dims m.elems) outputs.now }
+    ensures value { Evaluates (only_root scope.old.arrays outputs.now) scope.new result }
+    ensures grown { Grows scope.old scope.new }
+{
+    match outputs {
+        [made] => scope.make_like(made, steps),
+        _ => Err(StepFault::Script(Fault::WrongArguments)),
     }
+}
 
-    /// The only output, where one value is wanted.
-    fn only_root<L: Ledger>(
-        &mut self,
-        outputs: &[Made],
-        steps: &mut Steps<L>,
-    ) -> Result<ArrayId, StepFault>
-        requires { All (λ m. IsMade m.ty m.dims m.elems) outputs.now }
-        ensures value { Evaluates (only_root self.old.arrays outputs.now) self.new result }
-        ensures grown { Grows self.old self.new }
-    {
-        match outputs {
-            [made] => self.make_like(made, steps),
-            _ => Err(StepFault::Script(Fault::WrongArguments)),
+/// A built-in call.
+pub fn builtin_call<L: Ledger>(
+    scope: &mut Scope,
+    builtin: Builtin,
+    given: &[Given],
+    steps: &mut Steps<L>,
+) -> Result<ArrayId, StepFault>
+    requires { AreGivenLive scope.old.arrays.world given.now }
+    ensures value { let wanted = builtin_value builtin scope.old.arrays (arguments given.now) in
+        Evaluates wanted scope.new result }
+    ensures grown { Grows scope.old scope.new }
+{
+    match outcome(scope, builtin, given, steps) {
+        Ok(Outcome::New(made)) => {
+            let elems = made.elems;
+            scope.make(made.ty, &made.dims, elems, steps)
         }
+        Ok(Outcome::View(trans)) => view_first(scope, given, trans),
+        Err(fault) => Err(fault),
     }
+}
 
-    /// A built-in call.
-    pub fn builtin_call<L: Ledger>(
-        &mut self,
-        builtin: Builtin,
-        given: &[Given],
-        steps: &mut Steps<L>,
-    ) -> Result<ArrayId, StepFault>
-        requires { AreGivenLive self.old.arrays.world given.now }
-        ensures value { let wanted = builtin_value builtin self.old.arrays (arguments given.now) in
-            Evaluates wanted self.new result }
-        ensures grown { Grows self.old self.new }
-    {
-        match self.outcome(builtin, given, steps) {
-            Ok(Outcome::New(made)) => {
-                let elems = made.elems;
-                self.make(made.ty, &made.dims, elems, steps)
-            }
-            Ok(Outcome::View(trans)) => self.view_first(given, trans),
-            Err(fault) => Err(fault),
-        }
+/// A view of the array that stands first.
+fn view_first(scope: &mut Scope, given: &[Given], trans: Trans) -> Result<ArrayId, StepFault>
+    requires live { AreGivenLive scope.old.arrays.world given.now }
+    requires well_formed { IsTrue (is_well_formed trans) }
+    ensures value { let wanted = view_placed scope.old.arrays (arguments given.now) trans in
+        Evaluates wanted scope.new result }
+    ensures grown { Grows scope.old scope.new }
+{
+    match given.first() {
+        Some(Given::Array(id)) => scope.view(*id, trans),
+        _ => Err(StepFault::Script(Fault::WrongArguments)),
     }
+}
 
-    /// A view of the array that stands first.
-    fn view_first(&mut self, given: &[Given], trans: Trans) -> Result<ArrayId, StepFault>
-        requires live { AreGivenLive self.old.arrays.world given.now }
-        requires well_formed { IsTrue (is_well_formed trans) }
-        ensures value { let wanted = view_placed self.old.arrays (arguments given.now) trans in
-            Evaluates wanted self.new result }
-        ensures grown { Grows self.old self.new }
-    {
-        match given.first() {
-            Some(Given::Array(id)) => self.view(*id, trans),
-            _ => Err(StepFault::Script(Fault::WrongArguments)),
-        }
-    }
-
-    /// What a built-in call gives for its arguments. Only what it reads of them is made ready.
-    fn outcome<L: Ledger>(
-        &mut self,
-        builtin: Builtin,
-        given: &[Given],
-        steps: &mut Steps<L>,
-    ) -> Result<Outcome, StepFault>
-        requires { AreGivenLive self.old.arrays.world given.now }
-        ensures value { let wanted = outcome builtin (all_seen_of self.old.arrays given.now) in
-            AnswersAs outcome_of wanted result }
-        ensures made { IfOk result IsOutcomeMade }
-        ensures same { self.new ≡ self.old }
-    {
-        match builtin {
-            Builtin::Filled(fill) => self.filled(fill, given, steps),
-            Builtin::Told(inquiry) => self.inquiry(inquiry, given, steps),
-            Builtin::Dim => self.dim(given, steps),
-            Builtin::Slice => slice(self.alloc(), given),
-            Builtin::Arranged(word) => self.arrangement(word, given, steps),
-            Builtin::Index => self.index(given, steps),
-            Builtin::Where => self.masked(given, steps),
-            Builtin::Range => self.range(given, steps),
-            Builtin::Reduced(kind) => self.reduced(kind, given, steps),
-            Builtin::Whole(kind) => self.reduced_whole(kind, given, steps),
-            Builtin::Paired(kind) => self.paired(kind, given, steps),
-        }
+/// What a built-in call gives for its arguments. Only what it reads of them is made ready.
+fn outcome<L: Ledger>(
+    scope: &mut Scope,
+    builtin: Builtin,
+    given: &[Given],
+    steps: &mut Steps<L>,
+) -> Result<Outcome, StepFault>
+    requires { AreGivenLive scope.old.arrays.world given.now }
+    ensures value { let wanted = outcome builtin (all_seen_of scope.old.arrays given.now) in
+        AnswersAs outcome_of wanted result }
+    ensures made { IfOk result IsOutcomeMade }
+    ensures same { scope.new ≡ scope.old }
+{
+    match builtin {
+        Builtin::Filled(fill) => filled(scope, fill, given, steps),
+        Builtin::Told(kind) => inquiry(scope, kind, given, steps),
+        Builtin::Dim => dim(scope, given, steps),
+        Builtin::Slice => slice(scope.alloc(), given),
+        Builtin::Arranged(word) => arrangement(scope, word, given, steps),
+        Builtin::Index => index(scope, given, steps),
+        Builtin::Where => masked(scope, given, steps),
+        Builtin::Range => range(scope, given, steps),
+        Builtin::Reduced(kind) => scope.reduced(kind, given, steps),
+        Builtin::Whole(kind) => scope.reduced_whole(kind, given, steps),
+        Builtin::Paired(kind) => scope.paired(kind, given, steps),
     }
 }
 

@@ -3,34 +3,31 @@ ghost use Rattle.std.specs.Prelude.{◌≡◌, []};
 ghost use Rattle.pdl_syntax.specs.StatementTree.{pp_def};
 ghost use Rattle.pdl_machine.specs.Kernels.{can_name, defined};
 ghost use Rattle.pdl_machine.specs.Step.{effect};
-ghost use Rattle.pdl_session.specs.Answers.{AnswersAs, Runs};
+ghost use Rattle.pdl_scope.specs.Answers.{AnswersAs, Runs};
 
-use crate::fault::StepFault;
-use crate::scope::Scope;
 use pdl_elem::{Name, Text};
 use pdl_kernel::{Kernel, read_kernel};
 use pdl_lex::is_word;
 use pdl_lexemes::keyword_named;
 use pdl_machine::{Fault, builtin_named};
+use pdl_scope::{Scope, StepFault};
 use pdl_sig::laws::signature_meaning;
 use pdl_sig::read_signature;
 use std::alloc::Global;
 
-impl Scope {
-    /// Defines a kernel by its signature and its code.
-    pub fn define_kernel(
-        &mut self,
-        name: &Text,
-        signature: &Text,
-        code: &Text,
-    ) -> Result<(), StepFault>
-        ensures { let wanted = effect self.old (pp_def name.now signature.now code.now) in
-            Runs wanted self.old self.new [] [] result }
-    {
-        let kernel = kernel_defined(self.alloc(), name.bytes(), signature.bytes(), code.bytes())?;
-        let name = Name::new(Vec::from_slice(self.alloc(), name.bytes())?);
-        self.define(name, kernel)
-    }
+/// Defines a kernel by its signature and its code.
+pub fn define_kernel(
+    scope: &mut Scope,
+    name: &Text,
+    signature: &Text,
+    code: &Text,
+) -> Result<(), StepFault>
+    ensures { let wanted = effect scope.old (pp_def name.now signature.now code.now) in
+        Runs wanted scope.old scope.new [] [] result }
+{
+    let kernel = kernel_defined(scope.alloc(), name.bytes(), signature.bytes(), code.bytes())?;
+    let name = Name::new(Vec::from_slice(scope.alloc(), name.bytes())?);
+    scope.define(name, kernel)
 }
 
 /// The kernel of a definition. Texts of statements are far shorter than 4 GiB.

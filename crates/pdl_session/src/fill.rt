@@ -3,46 +3,40 @@ ghost use Rattle.std.specs.Prelude.{◌≡◌, IfOk};
 ghost use Rattle.pdl_machine.specs.Arrays.{Arrays};
 ghost use Rattle.pdl_machine.specs.Fills.{fill_outcome, type_given, after_type};
 ghost use Rattle.pdl_world.specs.World.{World};
-ghost use Rattle.pdl_session.specs.Answers.{AnswersAs};
-ghost use Rattle.pdl_session.specs.Arguments.{all_seen_of, AreGivenLive, outcome_of, IsOutcomeMade};
+ghost use Rattle.pdl_scope.specs.Answers.{AnswersAs};
+ghost use Rattle.pdl_scope.specs.Arguments.{all_seen_of, AreGivenLive, outcome_of, IsOutcomeMade};
 
-use crate::dims::dims_for;
-use crate::fault::StepFault;
-use crate::given::Given;
-use crate::outcome::Outcome;
-use crate::scope::Scope;
 use pdl_buf::Steps;
 use pdl_elem::Ty;
 use pdl_ops::{Fill, fill};
+use pdl_scope::{Given, Outcome, Scope, StepFault, dims_for};
 use std::sync::ledger::Ledger;
 
-impl Scope {
-    /// A fill of an optional type word, else long, and a size per dimension.
-    pub fn filled<L: Ledger>(
-        &mut self,
-        kind: Fill,
-        given: &[Given],
-        steps: &mut Steps<L>,
-    ) -> Result<Outcome, StepFault>
-        requires { AreGivenLive self.old.arrays.world given.now }
-        ensures value { let wanted = fill_outcome kind (all_seen_of self.old.arrays given.now) in
-            AnswersAs outcome_of wanted result }
-        ensures made { IfOk result IsOutcomeMade }
-        ensures same { self.new ≡ self.old }
-    {
-        let (ty, sizes) = typed(given);
-        let sizes = match self.numbers_in(sizes, steps) {
-            Ok(sizes) => sizes,
-            Err(fault) => return Err(fault),
-        };
-        let dims = match dims_for(self.alloc(), &sizes) {
-            Ok(dims) => dims,
-            Err(fault) => return Err(fault),
-        };
-        match fill(self.alloc(), kind, ty, &dims) {
-            Ok(made) => Ok(Outcome::New(made)),
-            Err(_) => Err(StepFault::NoMemory),
-        }
+/// A fill of an optional type word, else long, and a size per dimension.
+pub fn filled<L: Ledger>(
+    scope: &mut Scope,
+    kind: Fill,
+    given: &[Given],
+    steps: &mut Steps<L>,
+) -> Result<Outcome, StepFault>
+    requires { AreGivenLive scope.old.arrays.world given.now }
+    ensures value { let wanted = fill_outcome kind (all_seen_of scope.old.arrays given.now) in
+        AnswersAs outcome_of wanted result }
+    ensures made { IfOk result IsOutcomeMade }
+    ensures same { scope.new ≡ scope.old }
+{
+    let (ty, sizes) = typed(given);
+    let sizes = match scope.numbers_in(sizes, steps) {
+        Ok(sizes) => sizes,
+        Err(fault) => return Err(fault),
+    };
+    let dims = match dims_for(scope.alloc(), &sizes) {
+        Ok(dims) => dims,
+        Err(fault) => return Err(fault),
+    };
+    match fill(scope.alloc(), kind, ty, &dims) {
+        Ok(made) => Ok(Outcome::New(made)),
+        Err(_) => Err(StepFault::NoMemory),
     }
 }
 

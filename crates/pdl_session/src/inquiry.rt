@@ -6,110 +6,104 @@ ghost use Rattle.pdl_machine.specs.Arrays.{array_in};
 ghost use Rattle.pdl_machine.specs.Inquiries.{long_number, long_numbers, told, inquiry_outcome, dim_outcome, size_at};
 ghost use Rattle.pdl_machine.specs.Outcome.{made};
 ghost use Rattle.pdl_machine.specs.Then.{and_then};
-ghost use Rattle.pdl_session.specs.Answers.{AnswersAs};
-ghost use Rattle.pdl_session.specs.Arguments.{all_seen_of, AreGivenLive, outcome_of, IsOutcomeMade};
+ghost use Rattle.pdl_scope.specs.Answers.{AnswersAs};
+ghost use Rattle.pdl_scope.specs.Arguments.{all_seen_of, AreGivenLive, outcome_of, IsOutcomeMade};
 
-use crate::fault::StepFault;
-use crate::given::Given;
-use crate::outcome::Outcome;
-use crate::scope::Scope;
-use crate::shapes::{array_and_one, one_array};
 use pdl_buf::{Elements, Made, Steps};
 use pdl_elem::Ty;
 use pdl_engine::ArrayId;
 use pdl_machine::{Fault, Inquiry};
+use pdl_scope::{Given, Outcome, Scope, StepFault, array_and_one, one_array};
 use pdl_shape::{dims_list, dims_of, elements_of, from_end, shape_laws};
 use std::alloc::{AllocError, Global};
 use std::sync::ledger::Ledger;
 
-impl Scope {
-    /// A call that takes one array.
-    pub fn inquiry<L: Ledger>(
-        &mut self,
-        inquiry: Inquiry,
-        given: &[Given],
-        steps: &mut Steps<L>,
-    ) -> Result<Outcome, StepFault>
-        requires { AreGivenLive self.old.arrays.world given.now }
-        ensures value { let seen = all_seen_of self.old.arrays given.now in
-            AnswersAs outcome_of (inquiry_outcome inquiry seen) result }
-        ensures made { IfOk result IsOutcomeMade }
-        ensures same { self.new ≡ self.old }
-    {
-        match one_array(given) {
-            Some(id) => match self.told(inquiry, id, steps) {
-                Ok(made) => Ok(Outcome::New(made)),
-                Err(_) => Err(StepFault::NoMemory),
-            },
+/// A call that takes one array.
+pub fn inquiry<L: Ledger>(
+    scope: &mut Scope,
+    inquiry: Inquiry,
+    given: &[Given],
+    steps: &mut Steps<L>,
+) -> Result<Outcome, StepFault>
+    requires { AreGivenLive scope.old.arrays.world given.now }
+    ensures value { let seen = all_seen_of scope.old.arrays given.now in
+        AnswersAs outcome_of (inquiry_outcome inquiry seen) result }
+    ensures made { IfOk result IsOutcomeMade }
+    ensures same { scope.new ≡ scope.old }
+{
+    match one_array(given) {
+        Some(id) => match told(scope, inquiry, id, steps) {
+            Ok(made) => Ok(Outcome::New(made)),
+            Err(_) => Err(StepFault::NoMemory),
+        },
+        None => Err(StepFault::Script(Fault::WrongArguments)),
+    }
+}
+
+/// The new array of an array.
+fn told<L: Ledger>(
+    scope: &mut Scope,
+    inquiry: Inquiry,
+    id: ArrayId,
+    steps: &mut Steps<L>,
+) -> Result<Made, AllocError>
+    requires { IsLive scope.old.arrays.world id }
+    ensures value { IfOk result (λ m. m ≡ told inquiry (array_in scope.old.arrays id)) }
+    ensures made { IfOk result (λ m. IsMade m.ty m.dims m.elems) }
+    ensures same { scope.new ≡ scope.old }
+{
+    shape_laws();
+    let count = elements_of(scope.dims(id));
+    match inquiry {
+        Inquiry::Copy => scope.copied(id, steps),
+        Inquiry::Convert(ty) => scope.converted(ty, id, steps),
+        Inquiry::Nelem => long_number(scope.alloc(), count),
+        Inquiry::Ndims => { long_number(scope.alloc(), dims_list(scope.dims(id)).len() as u32) }
+        Inquiry::Shape => long_numbers(scope.alloc(), dims_list(scope.dims(id))),
+        Inquiry::Which => {
+            let places = scope.set_positions(id, steps)?;
+            long_numbers(scope.alloc(), places.as_slice())
+        }
+    }
+}
+
+/// The size of one dimension of an array.
+pub fn dim<L: Ledger>(
+    scope: &mut Scope,
+    given: &[Given],
+    steps: &mut Steps<L>,
+) -> Result<Outcome, StepFault>
+    requires { AreGivenLive scope.old.arrays.world given.now }
+    ensures value { let seen = all_seen_of scope.old.arrays given.now in
+        AnswersAs outcome_of (dim_outcome seen) result }
+    ensures made { IfOk result IsOutcomeMade }
+    ensures same { scope.new ≡ scope.old }
+{
+    match array_and_one(given) {
+        Some((id, place)) => match scope.number_in(&place, steps)? {
+            Some(number) => size_at(scope, id, number),
             None => Err(StepFault::Script(Fault::WrongArguments)),
-        }
+        },
+        None => Err(StepFault::Script(Fault::WrongArguments)),
     }
+}
 
-    /// The new array of an array.
-    fn told<L: Ledger>(
-        &mut self,
-        inquiry: Inquiry,
-        id: ArrayId,
-        steps: &mut Steps<L>,
-    ) -> Result<Made, AllocError>
-        requires { IsLive self.old.arrays.world id }
-        ensures value { IfOk result (λ m. m ≡ told inquiry (array_in self.old.arrays id)) }
-        ensures made { IfOk result (λ m. IsMade m.ty m.dims m.elems) }
-        ensures same { self.new ≡ self.old }
-    {
-        shape_laws();
-        let count = elements_of(self.dims(id));
-        match inquiry {
-            Inquiry::Copy => self.copied(id, steps),
-            Inquiry::Convert(ty) => self.converted(ty, id, steps),
-            Inquiry::Nelem => long_number(self.alloc(), count),
-            Inquiry::Ndims => { long_number(self.alloc(), dims_list(self.dims(id)).len() as u32) }
-            Inquiry::Shape => long_numbers(self.alloc(), dims_list(self.dims(id))),
-            Inquiry::Which => {
-                let places = self.set_positions(id, steps)?;
-                long_numbers(self.alloc(), places.as_slice())
-            }
-        }
-    }
-
-    /// The size of one dimension of an array.
-    pub fn dim<L: Ledger>(
-        &mut self,
-        given: &[Given],
-        steps: &mut Steps<L>,
-    ) -> Result<Outcome, StepFault>
-        requires { AreGivenLive self.old.arrays.world given.now }
-        ensures value { let seen = all_seen_of self.old.arrays given.now in
-            AnswersAs outcome_of (dim_outcome seen) result }
-        ensures made { IfOk result IsOutcomeMade }
-        ensures same { self.new ≡ self.old }
-    {
-        match array_and_one(given) {
-            Some((id, place)) => match self.number_in(&place, steps)? {
-                Some(number) => self.size_at(id, number),
-                None => Err(StepFault::Script(Fault::WrongArguments)),
-            },
-            None => Err(StepFault::Script(Fault::WrongArguments)),
-        }
-    }
-
-    /// The size of the dimension of this number, which counts from the end where it is below 0.
-    fn size_at(&self, id: ArrayId, number: i64) -> Result<Outcome, StepFault>
-        requires { IsLive self.now.arrays.world id }
-        ensures value { let dims = (array_in self.now.arrays id).dims in
-            let wanted = and_then (size_at dims number) (λ n. Ok (made (long_number n))) in
-            AnswersAs outcome_of wanted result }
-        ensures made { IfOk result IsOutcomeMade }
-    {
-        shape_laws();
-        let sizes = dims_list(self.dims(id));
-        match from_end(number, sizes.len()) {
-            Some(place) => match long_number(self.alloc(), sizes[place]) {
-                Ok(made) => Ok(Outcome::New(made)),
-                Err(_) => Err(StepFault::NoMemory),
-            },
-            None => Err(StepFault::Script(Fault::BadDimension)),
-        }
+/// The size of the dimension of this number, which counts from the end where it is below 0.
+fn size_at(scope: &Scope, id: ArrayId, number: i64) -> Result<Outcome, StepFault>
+    requires { IsLive scope.now.arrays.world id }
+    ensures value { let dims = (array_in scope.now.arrays id).dims in
+        let wanted = and_then (size_at dims number) (λ n. Ok (made (long_number n))) in
+        AnswersAs outcome_of wanted result }
+    ensures made { IfOk result IsOutcomeMade }
+{
+    shape_laws();
+    let sizes = dims_list(scope.dims(id));
+    match from_end(number, sizes.len()) {
+        Some(place) => match long_number(scope.alloc(), sizes[place]) {
+            Ok(made) => Ok(Outcome::New(made)),
+            Err(_) => Err(StepFault::NoMemory),
+        },
+        None => Err(StepFault::Script(Fault::BadDimension)),
     }
 }
 

@@ -3,13 +3,13 @@ ghost use Rattle.std.specs.Prelude.{◌≡◌, ◌+◌, min, OnOk, IfErr};
 ghost use Rattle.pdl_syntax.specs.StatementTree.{statement_of};
 ghost use Rattle.pdl_syntax.specs.WellMade.{IsWellMade};
 ghost use Rattle.pdl_machine.specs.Step.{step};
-ghost use Rattle.pdl_session.specs.Scope.{no_steps};
-ghost use Rattle.pdl_session.specs.Answers.{IsFault, IfScript, Prints};
+ghost use Rattle.pdl_session.specs.Session.{no_steps};
+ghost use Rattle.pdl_scope.specs.Answers.{IsFault, IfScript, Prints};
 
-use crate::fault::StepFault;
-use crate::scope::Scope;
+use crate::statement::run;
 use pdl_buf::Steps;
 use pdl_machine::numbering_laws;
+use pdl_scope::{Scope, StepFault};
 use pdl_syntax::Statement;
 use std::alloc::Global;
 use std::marker::Model;
@@ -28,7 +28,7 @@ impl Model for Session {
     ghost use Rattle.std.specs.Coded.{codes};
     ghost use Rattle.pdl_kernel.specs.Coding.{coded_code};
     ghost use Rattle.pdl_machine.specs.Tidy.{tidy};
-    ghost use Rattle.pdl_session.specs.Scope.{Session as Seen};
+    ghost use Rattle.pdl_session.specs.Session.{Session as Seen};
 
     ghost Value = { Seen };
 
@@ -69,7 +69,7 @@ impl Session {
         numbering_laws();
         self.steps = self.steps.saturating_add(1);
         self.scope.whole();
-        let ran = self.scope.run(statement, out, steps);
+        let ran = run(&mut self.scope, statement, out, steps);
         self.scope.whole();
         self.scope.let_go(steps);
         ran

@@ -6,8 +6,8 @@ use Rattle.pdl_syntax.specs.declared.parser.ParseFault.{ParseFault}
 use Rattle.pdl_syntax.specs.declared.parser.ParseFault.TheVariants.{TooDeep as ParsedTooDeep, NumberTooLarge as ParsedTooLarge, Syntax as Unparsed, Ragged as ParsedRagged, NoMemory as ParsingNoMemory}
 use Rattle.pdl_machine.specs.declared.fault.Fault.{Fault}
 use Rattle.pdl_machine.specs.declared.fault.Fault.TheVariants.{Syntax, TooDeep, NumberTooLarge, Ragged}
-use Rattle.pdl_session.specs.declared.fault.StepFault.{StepFault}
-use Rattle.pdl_session.specs.declared.fault.StepFault.TheVariants.{Script, NoMemory as StepNoMemory}
+use Rattle.pdl_scope.specs.declared.fault.StepFault.{StepFault}
+use Rattle.pdl_scope.specs.declared.fault.StepFault.TheVariants.{Script, NoMemory as StepNoMemory}
 use Rattle.pdl_shell.specs.declared.stop.Unrun.{Unrun}
 use Rattle.pdl_shell.specs.declared.stop.Unrun.TheVariants.{Faulted, NoMemory}
 

@@ -4,43 +4,38 @@ ghost use Rattle.std.specs.Prelude.{◌≡◌, IfOk, IfSome, IsTrue};
 ghost use Rattle.pdl_affine.specs.Views.{is_well_formed};
 ghost use Rattle.pdl_machine.specs.Views.{arranged, arrangement_outcome};
 ghost use Rattle.pdl_machine.specs.declared.builtin.Arrangement.TheVariants.{Dummy};
-ghost use Rattle.pdl_session.specs.Answers.{AnswersAs};
-ghost use Rattle.pdl_session.specs.Arguments.{all_seen_of, AreGivenLive, outcome_of, IsOutcomeMade};
+ghost use Rattle.pdl_scope.specs.Answers.{AnswersAs};
+ghost use Rattle.pdl_scope.specs.Arguments.{all_seen_of, AreGivenLive, outcome_of, IsOutcomeMade};
 
-use crate::fault::StepFault;
-use crate::given::Given;
-use crate::outcome::Outcome;
-use crate::scope::Scope;
 use pdl_affine::{Affine, Numbers};
 use pdl_buf::Steps;
 use pdl_machine::{Arrangement, Fault};
+use pdl_scope::{Given, Outcome, Scope, StepFault};
 use pdl_world::Trans;
 use std::sync::ledger::Ledger;
 
-impl Scope {
-    /// A view word that takes an array and numbers.
-    pub fn arrangement<L: Ledger>(
-        &mut self,
-        word: Arrangement,
-        given: &[Given],
-        steps: &mut Steps<L>,
-    ) -> Result<Outcome, StepFault>
-        requires { AreGivenLive self.old.arrays.world given.now }
-        ensures value { let seen = all_seen_of self.old.arrays given.now in
-            AnswersAs outcome_of (arrangement_outcome word seen) result }
-        ensures made { IfOk result IsOutcomeMade }
-        ensures same { self.new ≡ self.old }
-    {
-        match given.split_first() {
-            Some((Given::Array(_), rest)) => match self.numbers_in(rest, steps) {
-                Ok(numbers) => match arranged(word, numbers) {
-                    Some(affine) => Ok(Outcome::View(Trans::Affine(affine))),
-                    None => Err(StepFault::Script(Fault::WrongArguments)),
-                },
-                Err(fault) => Err(fault),
+/// A view word that takes an array and numbers.
+pub fn arrangement<L: Ledger>(
+    scope: &mut Scope,
+    word: Arrangement,
+    given: &[Given],
+    steps: &mut Steps<L>,
+) -> Result<Outcome, StepFault>
+    requires { AreGivenLive scope.old.arrays.world given.now }
+    ensures value { let seen = all_seen_of scope.old.arrays given.now in
+        AnswersAs outcome_of (arrangement_outcome word seen) result }
+    ensures made { IfOk result IsOutcomeMade }
+    ensures same { scope.new ≡ scope.old }
+{
+    match given.split_first() {
+        Some((Given::Array(_), rest)) => match scope.numbers_in(rest, steps) {
+            Ok(numbers) => match arranged(word, numbers) {
+                Some(affine) => Ok(Outcome::View(Trans::Affine(affine))),
+                None => Err(StepFault::Script(Fault::WrongArguments)),
             },
-            _ => Err(StepFault::Script(Fault::WrongArguments)),
-        }
+            Err(fault) => Err(fault),
+        },
+        _ => Err(StepFault::Script(Fault::WrongArguments)),
     }
 }
 

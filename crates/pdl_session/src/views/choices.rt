@@ -4,141 +4,136 @@ ghost use Rattle.pdl_buf.specs.declared.made.Made.{Made};
 ghost use Rattle.pdl_world.specs.Sound.{IsLive};
 ghost use Rattle.pdl_machine.specs.Arrays.{array_in};
 ghost use Rattle.pdl_machine.specs.Views.{edge_of, index_outcome, where_outcome, range_by, range_outcome};
-ghost use Rattle.pdl_session.specs.Answers.{AnswersAs};
-ghost use Rattle.pdl_session.specs.Arguments.{all_seen_of, AreGivenLive, outcome_of, windows, IsOutcomeMade};
+ghost use Rattle.pdl_scope.specs.Answers.{AnswersAs};
+ghost use Rattle.pdl_scope.specs.Arguments.{all_seen_of, AreGivenLive, outcome_of, IsOutcomeMade};
+ghost use Rattle.pdl_session.specs.Calls.{windows};
 
-use crate::fault::StepFault;
-use crate::given::Given;
-use crate::outcome::Outcome;
-use crate::scope::Scope;
-use crate::shapes::{few_arrays, second_array, two_and_more};
 use pdl_affine::Numbers;
 use pdl_buf::Steps;
 use pdl_choice::Edge;
 use pdl_engine::ArrayId;
 use pdl_machine::Fault;
+use pdl_scope::{Given, Outcome, Scope, StepFault, few_arrays, second_array, two_and_more};
 use pdl_shape::copy_dims;
 use pdl_world::Trans;
 use std::sync::ledger::Ledger;
 
-impl Scope {
-    /// `index`: an array looked up by another one's values.
-    pub fn index<L: Ledger>(
-        &mut self,
-        given: &[Given],
-        steps: &mut Steps<L>,
-    ) -> Result<Outcome, StepFault>
-        requires { AreGivenLive self.old.arrays.world given.now }
-        ensures value { let seen = all_seen_of self.old.arrays given.now in
-            AnswersAs outcome_of (index_outcome seen) result }
-        ensures made { IfOk result IsOutcomeMade }
-        ensures same { self.new ≡ self.old }
-    {
-        match second_array(given) {
-            Some(id) => {
-                let numbers = self.numbers(id, steps)?;
-                Ok(Outcome::View(Trans::Index {
-                    dims: copy_dims(self.dims(id)),
-                    ind: Numbers::new(numbers),
-                }))
-            }
-            None => Err(StepFault::Script(Fault::WrongArguments)),
+/// `index`: an array looked up by another one's values.
+pub fn index<L: Ledger>(
+    scope: &mut Scope,
+    given: &[Given],
+    steps: &mut Steps<L>,
+) -> Result<Outcome, StepFault>
+    requires { AreGivenLive scope.old.arrays.world given.now }
+    ensures value { let seen = all_seen_of scope.old.arrays given.now in
+        AnswersAs outcome_of (index_outcome seen) result }
+    ensures made { IfOk result IsOutcomeMade }
+    ensures same { scope.new ≡ scope.old }
+{
+    match second_array(given) {
+        Some(id) => {
+            let numbers = scope.numbers(id, steps)?;
+            Ok(Outcome::View(Trans::Index {
+                dims: copy_dims(scope.dims(id)),
+                ind: Numbers::new(numbers),
+            }))
         }
+        None => Err(StepFault::Script(Fault::WrongArguments)),
     }
+}
 
-    /// `where`: an array's elements at which a mask isn't 0.
-    pub fn masked<L: Ledger>(
-        &mut self,
-        given: &[Given],
-        steps: &mut Steps<L>,
-    ) -> Result<Outcome, StepFault>
-        requires { AreGivenLive self.old.arrays.world given.now }
-        ensures value { let seen = all_seen_of self.old.arrays given.now in
-            AnswersAs outcome_of (where_outcome seen) result }
-        ensures made { IfOk result IsOutcomeMade }
-        ensures same { self.new ≡ self.old }
-    {
-        match second_array(given) {
-            Some(id) => {
-                let places = self.set_positions(id, steps)?;
-                Ok(Outcome::View(Trans::Where {
-                    dims: copy_dims(self.dims(id)),
-                    places,
-                }))
-            }
-            None => Err(StepFault::Script(Fault::WrongArguments)),
+/// `where`: an array's elements at which a mask isn't 0.
+pub fn masked<L: Ledger>(
+    scope: &mut Scope,
+    given: &[Given],
+    steps: &mut Steps<L>,
+) -> Result<Outcome, StepFault>
+    requires { AreGivenLive scope.old.arrays.world given.now }
+    ensures value { let seen = all_seen_of scope.old.arrays given.now in
+        AnswersAs outcome_of (where_outcome seen) result }
+    ensures made { IfOk result IsOutcomeMade }
+    ensures same { scope.new ≡ scope.old }
+{
+    match second_array(given) {
+        Some(id) => {
+            let places = scope.set_positions(id, steps)?;
+            Ok(Outcome::View(Trans::Where {
+                dims: copy_dims(scope.dims(id)),
+                places,
+            }))
         }
+        None => Err(StepFault::Script(Fault::WrongArguments)),
     }
+}
 
-    /// `range`: windows of an array at the corners that an index lists.
-    pub fn range<L: Ledger>(
-        &mut self,
-        given: &[Given],
-        steps: &mut Steps<L>,
-    ) -> Result<Outcome, StepFault>
-        requires { AreGivenLive self.old.arrays.world given.now }
-        ensures value { let seen = all_seen_of self.old.arrays given.now in
-            AnswersAs outcome_of (range_outcome seen) result }
-        ensures made { IfOk result IsOutcomeMade }
-        ensures same { self.new ≡ self.old }
-    {
-        match two_and_more(given) {
-            Some((ind, rest)) => self.windows_at(ind, rest, steps),
-            None => Err(StepFault::Script(Fault::WrongArguments)),
-        }
+/// `range`: windows of an array at the corners that an index lists.
+pub fn range<L: Ledger>(
+    scope: &mut Scope,
+    given: &[Given],
+    steps: &mut Steps<L>,
+) -> Result<Outcome, StepFault>
+    requires { AreGivenLive scope.old.arrays.world given.now }
+    ensures value { let seen = all_seen_of scope.old.arrays given.now in
+        AnswersAs outcome_of (range_outcome seen) result }
+    ensures made { IfOk result IsOutcomeMade }
+    ensures same { scope.new ≡ scope.old }
+{
+    match two_and_more(given) {
+        Some((ind, rest)) => windows_at(scope, ind, rest, steps),
+        None => Err(StepFault::Script(Fault::WrongArguments)),
     }
+}
 
-    /// Windows at the corners that an index lists.
-    fn windows_at<L: Ledger>(
-        &mut self,
-        ind: ArrayId,
-        rest: &[Given],
-        steps: &mut Steps<L>,
-    ) -> Result<Outcome, StepFault>
-        requires ind { IsLive self.old.arrays.world ind }
-        requires rest { AreGivenLive self.old.arrays.world rest.now }
-        ensures value { let corners = array_in self.old.arrays ind in
-            AnswersAs outcome_of (range_by corners (all_seen_of self.old.arrays rest.now)) result }
-        ensures made { IfOk result IsOutcomeMade }
-        ensures same { self.new ≡ self.old }
-    {
-        let (sizes, edge) = match self.window_parts(rest, steps) {
-            Ok(parts) => parts,
-            Err(fault) => return Err(fault),
-        };
-        let numbers = self.numbers(ind, steps)?;
-        Ok(Outcome::View(Trans::Range {
-            dims: copy_dims(self.dims(ind)),
-            ind: Numbers::new(numbers),
-            sizes: Numbers::new(sizes),
-            edge,
-        }))
-    }
+/// Windows at the corners that an index lists.
+fn windows_at<L: Ledger>(
+    scope: &mut Scope,
+    ind: ArrayId,
+    rest: &[Given],
+    steps: &mut Steps<L>,
+) -> Result<Outcome, StepFault>
+    requires ind { IsLive scope.old.arrays.world ind }
+    requires rest { AreGivenLive scope.old.arrays.world rest.now }
+    ensures value { let corners = array_in scope.old.arrays ind in
+        AnswersAs outcome_of (range_by corners (all_seen_of scope.old.arrays rest.now)) result }
+    ensures made { IfOk result IsOutcomeMade }
+    ensures same { scope.new ≡ scope.old }
+{
+    let (sizes, edge) = match window_parts(scope, rest, steps) {
+        Ok(parts) => parts,
+        Err(fault) => return Err(fault),
+    };
+    let numbers = scope.numbers(ind, steps)?;
+    Ok(Outcome::View(Trans::Range {
+        dims: copy_dims(scope.dims(ind)),
+        ind: Numbers::new(numbers),
+        sizes: Numbers::new(sizes),
+        edge,
+    }))
+}
 
-    /// The sizes of windows, else one 0, and what stands beyond the edges, else a refusal.
-    fn window_parts<L: Ledger>(
-        &mut self,
-        rest: &[Given],
-        steps: &mut Steps<L>,
-    ) -> Result<(Vec<i64>, Edge), StepFault>
-        requires { AreGivenLive self.old.arrays.world rest.now }
-        ensures value { (corners : Made) →
-            let wanted = range_by corners (all_seen_of self.old.arrays rest.now) in
-            AnswersAs (λ parts. windows corners parts.0.items parts.1) wanted result }
-        ensures same { self.new ≡ self.old }
-    {
-        match few_arrays(rest) {
-            Some((None, _)) => Ok((vec![in self.alloc(); 0; 1]?, Edge::Refuse)),
-            Some((Some(sizes), None)) => Ok((self.numbers(sizes, steps)?, Edge::Refuse)),
-            Some((Some(sizes), Some(edge))) => match self.only_number(edge, steps)? {
-                Some(number) => match edge_of(number) {
-                    Some(edge) => Ok((self.numbers(sizes, steps)?, edge)),
-                    None => Err(StepFault::Script(Fault::WrongArguments)),
-                },
+/// The sizes of windows, else one 0, and what stands beyond the edges, else a refusal.
+fn window_parts<L: Ledger>(
+    scope: &mut Scope,
+    rest: &[Given],
+    steps: &mut Steps<L>,
+) -> Result<(Vec<i64>, Edge), StepFault>
+    requires { AreGivenLive scope.old.arrays.world rest.now }
+    ensures value { (corners : Made) →
+        let wanted = range_by corners (all_seen_of scope.old.arrays rest.now) in
+        AnswersAs (λ parts. windows corners parts.0.items parts.1) wanted result }
+    ensures same { scope.new ≡ scope.old }
+{
+    match few_arrays(rest) {
+        Some((None, _)) => Ok((vec![in scope.alloc(); 0; 1]?, Edge::Refuse)),
+        Some((Some(sizes), None)) => Ok((scope.numbers(sizes, steps)?, Edge::Refuse)),
+        Some((Some(sizes), Some(edge))) => match scope.only_number(edge, steps)? {
+            Some(number) => match edge_of(number) {
+                Some(edge) => Ok((scope.numbers(sizes, steps)?, edge)),
                 None => Err(StepFault::Script(Fault::WrongArguments)),
             },
             None => Err(StepFault::Script(Fault::WrongArguments)),
-        }
+        },
+        None => Err(StepFault::Script(Fault::WrongArguments)),
     }
 }
 

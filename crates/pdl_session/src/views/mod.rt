@@ -1,4 +1,4 @@
 //! The view words: the transformation that each gives for its arguments.
-mod arrangement;
-mod choices;
+pub mod arrangement;
+pub mod choices;
 pub mod slice;

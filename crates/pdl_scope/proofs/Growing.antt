@@ -1,0 +1,90 @@
+-- States to which nothing but new arrays came.
+use Rattle.std.proofs.Common.{◌≡◌, ℕ, ℤ, ◌+◌, ◌≤◌, List, [], ◌∷◌, ◌++◌, append_assoc, Option, Result, Ok, Err, refl, sym, ap, subst, ◌∙◌, arith}
+use Rattle.std.specs.Prelude.{IsSomeAnd}
+use Rattle.pdl_world.specs.World.{World, ArrayDef, Look, assign}
+use Rattle.pdl_world.specs.Sound.{NumbersBelow, IsSound, IsLive}
+use Rattle.pdl_world.specs.Laws.{OlderStay, LooksStay, NumbersStay}
+use Rattle.pdl_engine.specs.State.{State as Engine, Joins, SameArrays}
+use Rattle.pdl_machine.specs.Names.{Names}
+use Rattle.pdl_lexemes.specs.declared.AssignOp.{AssignOp}
+use Rattle.pdl_machine.specs.declared.fault.Fault.{Fault}
+use Rattle.pdl_machine.specs.Arrays.{Arrays, with_new, array_in}
+use Rattle.pdl_machine.specs.Operators.{values_for}
+use Rattle.pdl_machine.specs.Step.{assigned}
+use Rattle.pdl_machine.specs.Then.{and_then}
+use Rattle.pdl_machine.specs.State.{State, with_arrays, held, AreLive, IsWhole}
+use Rattle.pdl_scope.specs.Answers.{Prints}
+use Rattle.pdl_scope.specs.Scope.{arrays_of, state_in, Grows}
+
+abbrev state_of : Names → Arrays → State
+state_of names a = record { names = names; arrays = a }
+
+below_more : (w : World) (m n : ℕ) → m ≤ n → NumbersBelow m w → NumbersBelow n w
+below_more [] m n h b = tt
+below_more (a ∷ w) m n h b = (omega arith, below_more w m n h b.1)
+
+pub still_live : (w u : World) → ((v : ℕ) → IsLive w v → IsLive u v) → (vs : List ℕ) → AreLive w vs → AreLive u vs
+still_live w u still [] live = tt
+still_live w u still (v ∷ vs) live = (still v live.0, still_live w u still vs live.1)
+
+-- what comes of a new array
+pub record IsJoined (names : Names) (a : Arrays) (p : Arrays × ℕ) : Type 0 where
+  pub whole : IsWhole (state_of names p.0)
+  pub grown : Grows (state_of names a) (state_of names p.0)
+
+joined : OlderStay → (names : Names) (a : Arrays) (d : ArrayDef) → IsWhole (state_of names a) → IsSound ((a.next, d) ∷ a.world) → IsJoined names a (with_new a d)
+joined older names a d whole sound =
+    let P : Option Look → Type 0 = λ o. IsSomeAnd o (λ l. Unit {0}) in
+    let still : (v : ℕ) → IsLive a.world v → IsLive ((a.next, d) ∷ a.world) v = λ v live. subst P (sym (older a.world a.next v d whole.below live)) live in
+    record {
+      whole = record {
+        sound = sound;
+        below = (omega arith, below_more a.world a.next (a.next + 1) (omega arith) whole.below);
+        live = still_live a.world ((a.next, d) ∷ a.world) still (held (state_of names a)) whole.live;
+      };
+      grown = record { names = refl; arrays = record { more = (a.next, d) ∷ []; is = refl }; still = still };
+    }
+
+abbrev numbered : World → ℕ → ℕ → Arrays × ℕ
+numbered w next id = (record { world = w; next = next }, id)
+
+pub joins : (e t : Engine) (d : ArrayDef) (id : ℕ) → Joins e id d t → with_new (arrays_of e) d ≡ (arrays_of t, id)
+joins e t d id j =
+    ap (λ w. numbered w (e.next + 1) e.next) (sym (j.world ∙ ap (λ k. (k, d) ∷ e.world) j.number)) ∙ ap (λ n. numbered t.world n e.next) (sym j.next)
+    ∙ ap (numbered t.world t.next) (sym j.number)
+
+-- a new array of the engine came
+pub came : OlderStay → (names : Names) (e t : Engine) (d : ArrayDef) (id : ℕ) → IsWhole (state_in names e) → Joins e id d t → IsSound t.world → IsJoined names (arrays_of e) (arrays_of t, id)
+came older names e t d id whole is sound =
+    let S : Arrays × ℕ → Type 0 = λ p. IsSound p.0.world in
+    let j : with_new (arrays_of e) d ≡ (arrays_of t, id) = joins e t d id is in
+    subst (λ (p : Arrays × ℕ). IsJoined names (arrays_of e) p) j (joined older names (arrays_of e) d whole (subst S (sym j) sound))
+
+-- arrays that may be lent now are the same arrays
+pub readied : (names : Names) (e t : Engine) → SameArrays e t → state_in names t ≡ state_in names e
+readied names e t s =
+    ap (λ w. state_of names (record { world = w; next = t.next })) s.world ∙ ap (λ n. state_of names (record { world = e.world; next = n })) s.next
+
+pub both_readied : (names : Names) (e f t : Engine) → SameArrays e f → SameArrays f t → state_in names t ≡ state_in names e
+both_readied names e f t s u = readied names f t u ∙ readied names e f s
+
+-- the arrays after an assignment
+pub whole_assigned : LooksStay → NumbersStay → (names : Names) (e t : Engine) (v : ℕ) (vs : List ℤ) → IsWhole (state_in names e) → t.world ≡ assign e.world v vs → t.next ≡ e.next → IsSound t.world → IsWhole (state_in names t)
+whole_assigned looks stay names e t v vs whole world next sound =
+    let B : World → Type 0 = NumbersBelow e.next in
+    let L : Option Look → Type 0 = λ o. IsSomeAnd o (λ l. Unit {0}) in
+    let still : (u : ℕ) → IsLive e.world u → IsLive t.world u =
+    λ u live. let W : World → Type 0 = λ w. IsLive w u in subst W (sym world) (subst L (sym (looks e.world v u vs)) live) in
+    record {
+      sound = sound;
+      below = subst (λ n. NumbersBelow n t.world) (sym next) (subst B (sym world) (stay e.world e.next v vs whole.below));
+      live = still_live e.world t.world still (held (state_in names e)) whole.live;
+    }
+
+-- the values are written, and nothing is printed
+pub values_written : (sign : AssignOp) (names : Names) (e t : Engine) (v u : ℕ) (vs : List ℤ) → values_for sign (array_in (arrays_of e) v) (array_in (arrays_of e) u) ≡ Ok vs
+    → t.world ≡ assign e.world v vs → t.next ≡ e.next → Prints (and_then (assigned sign (arrays_of e) v u) (λ a. Ok (with_arrays (state_in names e) a, []))) (state_in names t) [] []
+values_written sign names e t v u vs h world next =
+    let P : Result (List ℤ) Fault → Type 0 =
+    λ x. Prints (and_then (and_then x (λ ws. Ok (record { world = assign e.world v ws; next = e.next }))) (λ a. Ok (state_of names a, []))) (state_in names t) [] [] in
+    subst P (sym h) (ap (λ w. state_of names (record { world = w; next = t.next })) world ∙ ap (λ n. state_of names (record { world = assign e.world v vs; next = n })) next, refl)

@@ -1,0 +1,190 @@
+-- Calls of kernels, from what their arguments resolve to.
+use Rattle.std.proofs.Common.{◌≡◌, ℕ, zero, suc, ◌+◌, ◌<◌, ◌≤◌, true, List, [], ◌∷◌, length, map, take, get_or, Option, Some, None, eq-eqb, Result, Ok, Err, refl, sym, ap, subst, ◌∙◌, arith}
+use Rattle.std.specs.Prelude.{◌==◌, All, IfSome, option_map, slice_get, Vec}
+use Rattle.std.specs.Global.{Global}
+use Rattle.std.proofs.lemmas.List.{length-map, length-take-le, map_more, take_all}
+use Rattle.std.proofs.lemmas.List.Elements.{All-cons, All-more}
+use Rattle.pdl_buf.specs.Window.{Window}
+use Rattle.pdl_buf.specs.declared.made.Made.{Made}
+use Rattle.pdl_engine.specs.State.{State as Engine, is_fresh, SameArrays, StayFresh, shown_in}
+use Rattle.pdl_sig.specs.declared.ArgShape.{ArgShape}
+use Rattle.pdl_sig.specs.declared.Resolved.{Resolved}
+use Rattle.pdl_sig.specs.declared.ResolveFault.{ResolveFault}
+use Rattle.pdl_sig.specs.declared.Signature.{Signature}
+use Rattle.pdl_sig.specs.Resolution.{Unresolved, reason_named, resolution, Answers as Resolves}
+use Rattle.pdl_kernel.specs.Call.{called, fault_named}
+use Rattle.pdl_kernel.specs.Kernels.{Kernel}
+use Rattle.pdl_kernel.specs.Runs.{Run, with_next, IsNext}
+use Rattle.pdl_kernel.specs.declared.faults.RunFault.{RunFault}
+use Rattle.pdl_machine.specs.declared.fault.Fault.{Fault}
+use Rattle.pdl_world.specs.World.{World}
+use Rattle.pdl_world.specs.Sound.{IsLive}
+use Rattle.pdl_machine.specs.declared.fault.Fault.TheVariants.{WrongArguments}
+use Rattle.pdl_machine.specs.Arrays.{Arrays, array_in}
+use Rattle.pdl_machine.specs.Kernels.{array_seen, called_on, kernel_outputs, outputs_count, resolve_fault, run_fault}
+use Rattle.pdl_sig.specs.Given.{shape_of}
+use Rattle.pdl_machine.specs.Refused.{or_named}
+use Rattle.pdl_machine.specs.Then.{and_more, all_of, and_then, or_fault}
+use Rattle.pdl_scope.specs.declared.fault.StepFault.{StepFault}
+use Rattle.pdl_scope.specs.declared.given.Given.{Given}
+use Rattle.pdl_scope.specs.declared.given.Given.TheVariants.{Array, Text, OfType}
+use Rattle.pdl_scope.specs.Answers.{AnswersAs, IsFault}
+use Rattle.pdl_scope.specs.Arguments.{all_seen_of, array_number, AreGivenLive}
+use Rattle.pdl_scope.specs.Faults.{of_resolve, of_run}
+use Rattle.pdl_scope.specs.Facts.{first_fault}
+use Rattle.pdl_scope.proofs.Faults.{named_fault}
+use Rattle.std.proofs.lemmas.Option.{IfSome_then}
+use Rattle.pdl_scope.specs.Scope.{arrays_of, made_in, shape_in}
+
+pub shapes_seen : (e : Engine) (ids : List ℕ) → map shape_of (map (made_in e) ids) ≡ map (shape_in e) ids
+shapes_seen e [] = refl
+shapes_seen e (v ∷ ids) = ap (λ rest. shape_in e v ∷ rest) (shapes_seen e ids)
+
+-- a call, from what its arguments resolve to
+abbrev call_by : Kernel → List Made → Result Resolved Unresolved → Result (List Made) Fault
+call_by k given found = and_then (or_named resolve_fault found) (λ resolved. or_named run_fault (called k resolved given))
+
+call_is : (k : Kernel) (e : Engine) (ids : List ℕ) (signature : Signature) (shapes : List ArgShape) → signature ≡ k.signature → shapes ≡ map (shape_in e) ids
+    → called_on k (map (made_in e) ids) ≡ call_by k (map (made_in e) ids) (resolution signature shapes)
+call_is k e ids signature shapes same seen =
+    ap (λ ss. call_by k (map (made_in e) ids) (resolution k.signature ss)) (shapes_seen e ids ∙ sym seen)
+    ∙ ap (λ s. call_by k (map (made_in e) ids) (resolution s shapes)) (sym same)
+
+-- the arguments don't resolve
+pub call_refused : (k : Kernel) (e : Engine) (ids : List ℕ) (signature : Signature) (shapes : List ArgShape) (f : ResolveFault) (fault : StepFault) → signature ≡ k.signature → shapes ≡ map (shape_in e) ids
+    → Resolves (resolution signature shapes) (Err f) → fault ≡ of_resolve f → IsFault (called_on k (map (made_in e) ids)) fault
+call_refused k e ids signature shapes f fault same seen h is =
+    let P : StepFault → Type 0 = λ x. IsFault (called_on k (map (made_in e) ids)) x in
+    let Q : Result (List Made) Fault → Type 0 = λ x. IsFault x (of_resolve f) in
+    let refused = named_fault resolve_fault (resolution signature shapes) (reason_named f) (IfSome_then (reason_named f) h (λ x is. sym is)) in
+    subst P (sym is) (subst Q (sym (call_is k e ids signature shapes same seen)) (first_fault (or_named resolve_fault (resolution signature shapes)) (λ resolved. or_named run_fault (called k resolved (map (made_in e) ids))) (of_resolve f) refused))
+
+-- what is known of a call whose arguments were all given
+pub record IsGiven (k : Kernel) (e : Engine) (ids : List ℕ) (resolved : Resolved) (r : Run) : Type 0 where
+  pub signature : Signature
+  pub shapes : List ArgShape
+  pub same : signature ≡ k.signature
+  pub seen : shapes ≡ map (shape_in e) ids
+  pub resolves : resolution signature shapes ≡ Ok resolved
+  pub run_is : r ≡ record { kernel = k; resolved = resolved; given = map (made_in e) ids }
+
+called_by : (k : Kernel) (e : Engine) (ids : List ℕ) (resolved : Resolved) (r : Run) → IsGiven k e ids resolved r → called_on k (map (made_in e) ids) ≡ or_named run_fault (called r.kernel r.resolved r.given)
+called_by k e ids resolved r g =
+    call_is k e ids g.signature g.shapes g.same g.seen ∙ ap (call_by k (map (made_in e) ids)) g.resolves
+    ∙ ap (λ (x : Run). or_named run_fault (called x.kernel x.resolved x.given)) (sym g.run_is)
+
+-- the outputs of a call
+pub call_done : (k : Kernel) (e : Engine) (ids : List ℕ) (resolved : Resolved) (r : Run) (outputs : List Made) → IsGiven k e ids resolved r → called r.kernel r.resolved r.given ≡ Ok outputs
+    → called_on k (map (made_in e) ids) ≡ Ok outputs
+call_done k e ids resolved r outputs g h = called_by k e ids resolved r g ∙ ap (or_named run_fault) h
+
+-- the fault of a call
+pub call_faulted : (k : Kernel) (e : Engine) (ids : List ℕ) (resolved : Resolved) (r : Run) (f : RunFault) (fault : StepFault) → IsGiven k e ids resolved r
+    → IfSome (fault_named f) (λ placed. called r.kernel r.resolved r.given ≡ Err placed) → fault ≡ of_run f → IsFault (called_on k (map (made_in e) ids)) fault
+call_faulted k e ids resolved r f fault g h is =
+    let P : StepFault → Type 0 = λ x. IsFault (called_on k (map (made_in e) ids)) x in
+    let Q : Result (List Made) Fault → Type 0 = λ x. IsFault x (of_run f) in
+    subst P (sym is) (subst Q (sym (called_by k e ids resolved r g)) (named_fault run_fault (called r.kernel r.resolved r.given) (fault_named f) h))
+
+same_again : (a b c : Engine) → SameArrays a b → SameArrays b c → SameArrays a c
+same_again a b c s t = record { world = t.world ∙ s.world; holds = t.holds ∙ s.holds; next = t.next ∙ s.next }
+
+-- what is left once some arrays can be lent
+pub record AreReady (old new : Engine) (ids : List ℕ) : Type 0 where
+  pub same : SameArrays old new
+  pub fresh : All (λ v. is_fresh new v ≡ true) ids
+
+pub ready_more : (a b c : Engine) (ids : List ℕ) (i : ℕ) → i < length ids → AreReady a b (take i ids) → SameArrays b c → StayFresh b c → is_fresh c (get_or ids i 0) ≡ true
+    → AreReady a c (take (i + 1) ids)
+ready_more a b c ids i lt r s stay here = record {
+  same = same_again a b c r.same s;
+  fresh = All-more (λ v. is_fresh c v ≡ true) ids i 0 lt (λ k d within. stay _ (r.fresh k d within)) here;
+}
+
+pub ready_all : (e : Engine) (ids : List ℕ) (i : ℕ) → length ids ≤ i → All (λ v. is_fresh e v ≡ true) (take i ids) → All (λ v. is_fresh e v ≡ true) ids
+ready_all e ids i le fresh = let P : List ℕ → Type 0 = λ vs. All (λ v. is_fresh e v ≡ true) vs in subst P (take_all i ids le) fresh
+
+got_mapped : {A B : Type 0} (f : A → B) (xs : List A) (i : ℕ) (d : A) → i < length xs → slice_get (map f xs) i ≡ Some (f (get_or xs i d))
+got_mapped f [] i d lt = absurd (omega arith)
+got_mapped f (x ∷ xs) zero d lt = refl
+got_mapped f (x ∷ xs) (suc i) d lt = got_mapped f xs i d (omega arith)
+
+-- a call with the first arguments given
+abbrev pub with_first : Run → Engine → List ℕ → ℕ → Run
+with_first r e ids i = record r { given = map (made_in e) (take i ids) }
+
+pub next_is : (start now : Run) (e : Engine) (ids : List ℕ) (i : ℕ) (w : Window) → i < length ids → now ≡ with_first start e ids i → resolution start.kernel.signature (map (shape_in e) ids) ≡ Ok start.resolved
+    → w ≡ shown_in e (get_or ids i 0) → IsNext now w
+next_is start now e ids i w lt is resolves shown =
+    let P : Run → Type 0 = λ r. IsNext r w in
+    let Q : Window → Type 0 = λ x. IsNext (with_first start e ids i) x in
+    subst P (sym is) (subst Q (sym shown) (record {
+      shapes = map (shape_in e) ids;
+      resolves = resolves;
+      next = ap (slice_get (map (shape_in e) ids)) (length-map (take i ids) (made_in e) ∙ length-take-le i ids (omega arith)) ∙ got_mapped (shape_in e) ids i 0 lt;
+    }))
+
+pub given_more : (start now new : Run) (e : Engine) (ids : List ℕ) (i : ℕ) (w : Window) → i < length ids → now ≡ with_first start e ids i → w ≡ shown_in e (get_or ids i 0) → new ≡ with_next now w
+    → new ≡ with_first start e ids (i + 1)
+given_more start now new e ids i w lt is shown next =
+    next ∙ ap (λ r. with_next r w) is ∙ ap (with_next (with_first start e ids i)) shown
+    ∙ ap (λ given. record start { given = given }) (sym (map_more (made_in e) ids i 0 lt))
+
+-- the arrays that arguments are can be looked at
+pub numbers_live : (w : World) (given : List Given) (ids : List ℕ) → AreGivenLive w given → all_of array_number given ≡ Some ids → All (IsLive w) ids
+numbers_live w given ids live e = by_all (all_of array_number given) (each given live) e
+  where
+    each : (given : List Given) → AreGivenLive w given → IfSome (all_of array_number given) (All (IsLive w))
+    each [] live = λ k d lt. absurd (omega arith)
+    each (Array v ∷ given) live = by_rest (all_of array_number given) (each given live.1)
+      where
+        by_rest : (o : Option (List ℕ)) → IfSome o (All (IsLive w)) → IfSome (and_more (Some v) o) (All (IsLive w))
+        by_rest None h = tt
+        by_rest (Some vs) h = All-cons (IsLive w) v vs live.0 h
+    each (Text t ∷ given) live = tt
+    each (OfType ty ∷ given) live = tt
+
+    by_all : (o : Option (List ℕ)) → IfSome o (All (IsLive w)) → o ≡ Some ids → All (IsLive w) ids
+    by_all o h e = let P : Option (List ℕ) → Type 0 = λ x. IfSome x (All (IsLive w)) in subst P e h
+
+arrays_seen : (a : Arrays) (given : List Given) → all_of array_seen (all_seen_of a given) ≡ option_map (map (array_in a)) (all_of array_number given)
+arrays_seen a [] = refl
+arrays_seen a (Array v ∷ given) = ap (and_more (Some (array_in a v))) (arrays_seen a given) ∙ by_rest (all_of array_number given)
+  where
+    by_rest : (o : Option (List ℕ)) → and_more (Some (array_in a v)) (option_map (map (array_in a)) o) ≡ option_map (map (array_in a)) (and_more (Some v) o)
+    by_rest None = refl
+    by_rest (Some vs) = refl
+arrays_seen a (Text t ∷ given) = refl
+arrays_seen a (OfType ty ∷ given) = refl
+
+-- a call that has as many outputs as are wanted
+as_wanted : (k : Kernel) (wanted count : ℕ) (e : Engine) (given : List Given) → count ≡ outputs_count k.signature → count ≡ wanted
+    → kernel_outputs k wanted (all_seen_of (arrays_of e) given) ≡ and_then (or_fault WrongArguments (option_map (map (made_in e)) (all_of array_number given))) (called_on k)
+as_wanted k wanted count e given is same =
+    let t : (outputs_count k.signature == wanted) ≡ true = eq-eqb (outputs_count k.signature) wanted (sym is ∙ same) in
+    rw t (ap (λ o. and_then (or_fault WrongArguments o) (called_on k)) (arrays_seen (arrays_of e) given))
+
+pub none_given : (k : Kernel) (wanted count : ℕ) (e : Engine) (given : List Given) → count ≡ outputs_count k.signature → count ≡ wanted → all_of array_number given ≡ None
+    → kernel_outputs k wanted (all_seen_of (arrays_of e) given) ≡ Err WrongArguments
+none_given k wanted count e given is same none =
+    as_wanted k wanted count e given is same ∙ ap (λ o. and_then (or_fault WrongArguments (option_map (map (made_in e)) o)) (called_on k)) none
+
+same_made : (e t : Engine) → SameArrays e t → made_in t ≡ made_in e
+same_made e t s = ap (λ w. made_by w t.next) s.world ∙ ap (made_by e.world) s.next
+  where
+    made_by : World → ℕ → ℕ → Made
+    made_by w next v = array_in (record { world = w; next = next }) v
+
+-- the answer for arrays that were made ready is that for the arguments
+pub all_given : (k : Kernel) (wanted count : ℕ) (e t : Engine) (given : List Given) (ids : List ℕ) (r : Result (Vec Made Global) StepFault) → count ≡ outputs_count k.signature → count ≡ wanted
+    → all_of array_number given ≡ Some ids → SameArrays e t → AnswersAs (λ ms. ms.items) (called_on k (map (made_in t) ids)) r
+    → AnswersAs (λ ms. ms.items) (kernel_outputs k wanted (all_seen_of (arrays_of e) given)) r
+all_given k wanted count e t given ids r is same all arrays h =
+    let P : Result (List Made) Fault → Type 0 = λ x. AnswersAs (λ (ms : Vec Made Global). ms.items) x r in
+    let found : kernel_outputs k wanted (all_seen_of (arrays_of e) given) ≡ called_on k (map (made_in t) ids) =
+    as_wanted k wanted count e given is same ∙ ap (λ o. and_then (or_fault WrongArguments (option_map (map (made_in e)) o)) (called_on k)) all
+    ∙ ap (λ f. called_on k (map f ids)) (sym (same_made e t arrays)) in
+    subst P (sym found) h
+
+pub live_again : (e t : Engine) (ids : List ℕ) → SameArrays e t → All (IsLive e.world) ids → All (IsLive t.world) ids
+live_again e t ids s live = let P : World → Type 0 = λ w. All (IsLive w) ids in subst P (sym s.world) live

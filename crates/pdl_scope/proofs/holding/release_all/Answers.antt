@@ -1,0 +1,19 @@
+use Rattle.std.proofs.Common.{◌≡◌, ◌∷◌, drop, get_or, sym, subst}
+use Rattle.pdl_scope.specs.Holding.{LetsGo}
+use Rattle.pdl_scope.proofs.Held.{lets_go_refl, lets_go_more, all_let_go, next_counted}
+use Rattle.pdl_scope.proofs.holding.release_all.Goals as goal
+
+pub loop-id-init : goal.loop-id-init
+loop-id-init g c = λ names held. lets_go_refl names c.args.engine.now c.args.leaving.now held
+
+pub release-requires : goal.release-requires
+release-requires g c =
+    next_counted c.args.engine.now c.loop-id.engine c.args.leaving.now c.loop-id.id-index c.requires.names c.loop-id-test.true (c.loop-id.invariant c.requires.names c.requires.held)
+
+pub loop-id-preserved : goal.loop-id-preserved
+loop-id-preserved g c = λ names held.
+    lets_go_more c.sweep_laws.ensures.kept c.sweep_laws.ensures.seen c.sweep_laws.ensures.numbers c.numbering_laws.ensures.gone
+    names c.args.engine.now c.loop-id.engine c.release.new.self c.args.leaving.now c.loop-id.id-index c.loop-id-test.true (c.loop-id.invariant names held) c.release.ensures.released c.release.ensures.sound
+
+pub returns : goal.returns
+returns g c = λ names held. all_let_go names c.args.engine.now c.loop-id.engine c.args.leaving.now c.loop-id.id-index c.loop-id-test.false (c.loop-id.invariant names held)

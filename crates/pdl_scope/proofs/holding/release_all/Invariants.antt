@@ -1,0 +1,9 @@
+use Rattle.std.proofs.Common.{drop}
+use Rattle.pdl_machine.specs.Names.{Names}
+use Rattle.pdl_scope.specs.Scope.{state_in, IsHeld}
+use Rattle.pdl_scope.specs.Holding.{LetsGo}
+use Rattle.pdl_scope.proofs.holding.release_all.Given as goal
+
+-- those before this place are let go
+abbrev pub invariant-loop-id : goal.invariant-loop-id
+invariant-loop-id g l = (names : Names) → IsHeld (state_in names l.fn.engine) l.fn.engine.holds l.leaving → LetsGo names l.fn.engine l.engine (drop l.id-index l.leaving)

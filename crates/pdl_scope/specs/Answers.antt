@@ -1,0 +1,51 @@
+-- What code answers where the machine wants a value: that value or its fault, or want of memory.
+use Rattle.std.specs.Prelude.{◌≡◌, ℕ, List, ◌++◌, Result, Ok, Err}
+use Rattle.pdl_world.specs.Sound.{IsLive}
+use Rattle.pdl_machine.specs.declared.fault.Fault.{Fault}
+use Rattle.pdl_machine.specs.Outcome.{Valued}
+use Rattle.pdl_machine.specs.State.{State}
+use Rattle.pdl_machine.specs.Step.{Stepped}
+use Rattle.pdl_scope.specs.declared.fault.StepFault.{StepFault}
+use Rattle.pdl_scope.specs.declared.fault.StepFault.TheVariants.{Script, NoMemory}
+use Rattle.pdl_scope.specs.Scope.{Grows}
+
+-- a fault of the script is the one that is wanted; want of memory says nothing
+abbrev pub IsFault : {U : Type 0} → Result U Fault → StepFault → Type 0
+IsFault wanted (Script e) = wanted ≡ Err e
+IsFault wanted NoMemory = Unit {0}
+
+-- the answer, by what it stands for, is the wanted one
+abbrev pub AnswersAs : {T U : Type 0} → (T → U) → Result U Fault → Result T StepFault → Type 0
+AnswersAs seen wanted (Ok x) = wanted ≡ Ok (seen x)
+AnswersAs seen wanted (Err e) = IsFault wanted e
+
+-- the answer is the wanted one
+abbrev pub Answers : {T : Type 0} → Result T Fault → Result T StepFault → Type 0
+Answers wanted result = AnswersAs (λ x. x) wanted result
+
+-- the answer is the wanted array, which is there, and the arrays are the wanted ones
+abbrev pub Evaluates : Valued → State → Result ℕ StepFault → Type 0
+Evaluates wanted new (Ok v) = (wanted ≡ Ok (new.arrays, v)) × IsLive new.arrays.world v
+Evaluates wanted new (Err e) = IsFault wanted e
+
+-- the step's state is the new one, and its text was added at the end of what was printed
+abbrev pub Prints : Stepped → State → List ℕ → List ℕ → Type 0
+Prints (Ok (s, t)) new old_out new_out = (new ≡ s) × (new_out ≡ old_out ++ t)
+Prints (Err e) new old_out new_out = ⊥
+
+-- the fact, where the fault is the script's
+abbrev pub IfScript : StepFault → Type 0 → Type 0
+IfScript (Script e) p = p
+IfScript NoMemory p = Unit {0}
+
+-- What is left after a fault: nothing but new arrays came, and nothing was printed.
+pub record IsKept (old new : State) (old_out new_out : List ℕ) : Type 0 where
+  pub grown : Grows old new
+  pub printed : new_out ≡ old_out
+
+-- a statement did what is wanted, or its fault kept all as it was
+abbrev pub Runs : {T : Type 0} → Stepped → State → State → List ℕ → List ℕ →
+    Result T StepFault → Type 0
+Runs wanted old new old_out new_out (Ok x) = Prints wanted new old_out new_out
+Runs wanted old new old_out new_out (Err e) = IsFault wanted e ×
+    IfScript e (IsKept old new old_out new_out)

@@ -1,0 +1,159 @@
+//! Calls of kernels (PDL::PP).
+ghost use Rattle.std.specs.Prelude.{◌≡◌, ◌≤◌, true, [], length, map, option_map, All, IfOk, OnOk, Ok};
+ghost use Rattle.std.specs.List.{filter};
+ghost use Rattle.pdl_buf.specs.Made.{IsMade};
+ghost use Rattle.pdl_engine.specs.State.{is_fresh, SameArrays};
+ghost use Rattle.pdl_sig.specs.Resolution.{is_output, resolution};
+ghost use Rattle.pdl_sig.specs.declared.SigArg.{SigArg};
+ghost use Rattle.pdl_world.specs.Sound.{IsLive};
+ghost use Rattle.pdl_machine.specs.Kernels.{called_on, kernel_outputs, outputs_count};
+ghost use Rattle.pdl_machine.specs.Then.{all_of};
+ghost use Rattle.pdl_scope.specs.Answers.{AnswersAs};
+ghost use Rattle.pdl_scope.specs.Arguments.{all_seen_of, array_number, AreGivenLive};
+ghost use Rattle.pdl_scope.specs.Scope.{arrays_of, made_in, shape_in};
+
+use crate::fault::StepFault;
+use crate::given::Given;
+use crate::reading::ready;
+use pdl_buf::{Made, Steps};
+use pdl_engine::{ArrayId, Engine};
+use pdl_kernel::{Kernel, KernelRun, kernel_signature};
+use pdl_machine::Fault;
+use pdl_shape::copy_dims;
+use pdl_sig::{ArgShape, SigArg, Signature, is_output, resolve};
+use std::alloc::{AllocError, Global};
+use std::sync::ledger::Ledger;
+
+/// What the call of a kernel gives, of which so many outputs are wanted. Its
+/// arguments are made ready to be lent.
+pub(crate) fn kernel_outputs<L: Ledger>(
+    alloc: Global,
+    kernel: &Kernel,
+    engine: &mut Engine,
+    wanted: usize,
+    given: &[Given],
+    steps: &mut Steps<L>,
+) -> Result<Vec<Made>, StepFault>
+    requires { AreGivenLive engine.old.world given.now }
+    ensures value { let seen = all_seen_of (arrays_of engine.old) given.now in
+        AnswersAs (λ ms. ms.items) (kernel_outputs kernel.now wanted seen) result }
+    ensures made { IfOk result (λ ms. All (λ m. IsMade m.ty m.dims m.elems) ms.items) }
+    ensures same { SameArrays engine.old engine.new }
+{
+    if outputs_count(kernel_signature(kernel)) != wanted {
+        return Err(StepFault::Script(Fault::WrongArguments));
+    }
+    match arrays_given(alloc, given)? {
+        Some(ids) => {
+            ready_all(engine, &ids, steps)?;
+            called_on(alloc, kernel, engine, &ids)
+        }
+        None => Err(StepFault::Script(Fault::WrongArguments)),
+    }
+}
+
+/// How many outputs a call has.
+fn outputs_count(signature: &Signature) -> usize
+    ensures { result ≡ outputs_count signature.now }
+{
+    count_outputs(signature.args.as_slice())
+}
+
+/// How many of these arguments are outputs. A signature has 16 arguments at most.
+fn count_outputs(args: &[SigArg]) -> usize
+    ensures count { result ≡ length (filter (λ (a : SigArg). is_output a.role) args.now) }
+    ensures within { result ≤ length args.now }
+{
+    match args {
+        [] => 0,
+        [first, rest @ ..] if is_output(first.role) => 1 + count_outputs(rest),
+        [_, rest @ ..] => count_outputs(rest),
+    }
+}
+
+/// The arrays that arguments are, if each is one.
+fn arrays_given(alloc: Global, given: &[Given]) -> Result<Option<Vec<ArrayId>>, AllocError>
+    ensures { IfOk result (λ ids. option_map (λ v. v.items) ids ≡ all_of array_number given.now) }
+{
+    let mut ids = Vec::new(alloc);
+    for one in given {
+        match one {
+            Given::Array(id) => ids.push(*id)?,
+            _ => return Ok(None),
+        }
+    }
+    Ok(Some(ids))
+}
+
+/// Makes arrays ones that can be lent.
+fn ready_all<L: Ledger>(
+    engine: &mut Engine,
+    ids: &[ArrayId],
+    steps: &mut Steps<L>,
+) -> Result<(), AllocError>
+    requires { All (IsLive engine.old.world) ids.now }
+    ensures same { SameArrays engine.old engine.new }
+    ensures fresh { OnOk result (All (λ v. is_fresh engine.new v ≡ true) ids.now) }
+{
+    for id in ids {
+        ready(engine, *id, steps)?;
+    }
+    Ok(())
+}
+
+/// What a kernel gives for arrays that can be lent.
+fn called_on(
+    alloc: Global,
+    kernel: &Kernel,
+    engine: &Engine,
+    ids: &[ArrayId],
+) -> Result<Vec<Made>, StepFault>
+    requires live { All (IsLive engine.now.world) ids.now }
+    requires fresh { All (λ v. is_fresh engine.now v ≡ true) ids.now }
+    ensures value { let arrays = map (made_in engine.now) ids.now in
+        AnswersAs (λ ms. ms.items) (called_on kernel.now arrays) result }
+    ensures made { IfOk result (λ ms. All (λ m. IsMade m.ty m.dims m.elems) ms.items) }
+{
+    let shapes = shapes_of(alloc, engine, ids)?;
+    let resolved = match resolve(alloc, kernel_signature(kernel), &shapes) {
+        Ok(resolved) => resolved,
+        Err(fault) => return Err(StepFault::from(fault)),
+    };
+    let mut run = KernelRun::begin(alloc, kernel, resolved)?;
+    give_all(&mut run, engine, ids)?;
+    match run.finish() {
+        Ok(outputs) => Ok(outputs),
+        Err(fault) => Err(StepFault::from(fault)),
+    }
+}
+
+/// The types and dimensions of arrays.
+fn shapes_of(alloc: Global, engine: &Engine, ids: &[ArrayId]) -> Result<Vec<ArgShape>, AllocError>
+    requires { All (IsLive engine.now.world) ids.now }
+    ensures { IfOk result (λ shapes. shapes.items ≡ map (shape_in engine.now) ids.now) }
+{
+    let mut shapes = Vec::with_capacity(alloc, ids.len())?;
+    for id in ids {
+        shapes.push(ArgShape {
+            ty: engine.ty(*id),
+            dims: copy_dims(engine.dims(*id)),
+        })?;
+    }
+    Ok(shapes)
+}
+
+/// Gives a call its arguments, which can be lent.
+fn give_all(run: &mut KernelRun<'_>, engine: &Engine, ids: &[ArrayId]) -> Result<(), AllocError>
+    requires live { All (IsLive engine.now.world) ids.now }
+    requires fresh { All (λ v. is_fresh engine.now v ≡ true) ids.now }
+    requires first { run.old.given ≡ [] }
+    requires resolved { let shapes = map (shape_in engine.now) ids.now in
+        resolution run.old.kernel.signature shapes ≡ Ok run.old.resolved }
+    ensures { let arrays = map (made_in engine.now) ids.now in
+        OnOk result (run.new ≡ record run.old { given = arrays }) }
+{
+    for id in ids {
+        run.give(&engine.lend(*id))?;
+    }
+    Ok(())
+}

@@ -1,0 +1,99 @@
+//! Numbers that are arguments, and the dimensions that they are.
+ghost use Rattle.std.specs.Prelude.{◌≡◌, IfOk};
+ghost use Rattle.pdl_machine.specs.Fills.{number_in, numbers_in, dims_for};
+ghost use Rattle.pdl_machine.specs.Then.{all_of, or_fault};
+ghost use Rattle.pdl_machine.specs.declared.fault.Fault.TheVariants.{BadDimension};
+ghost use Rattle.pdl_scope.specs.Answers.{Answers, AnswersAs};
+ghost use Rattle.pdl_scope.specs.Arguments.{seen_of, all_seen_of, IsGivenLive, AreGivenLive};
+ghost use Rattle.pdl_scope.specs.Sizes.{clamped_size};
+
+use crate::fault::StepFault;
+use crate::given::Given;
+use crate::scope::Scope;
+use pdl_buf::Steps;
+use pdl_machine::Fault;
+use pdl_shape::{Dims, ShapeFault, dims_of};
+use std::alloc::{AllocError, Global};
+use std::sync::ledger::Ledger;
+
+impl Scope {
+    /// The number that an argument is: an array of exactly one element.
+    pub fn number_in<L: Ledger>(
+        &mut self,
+        given: &Given,
+        steps: &mut Steps<L>,
+    ) -> Result<Option<i64>, AllocError>
+        requires { IsGivenLive self.old.arrays.world given.now }
+        ensures number { IfOk result (λ n. n ≡ number_in (seen_of self.old.arrays given.now)) }
+        ensures same { self.new ≡ self.old }
+    {
+        match given {
+            Given::Array(id) => self.only_number(*id, steps),
+            Given::Text(_) | Given::OfType(_) => Ok(None),
+        }
+    }
+
+    /// The numbers that arguments are.
+    pub fn numbers_in<L: Ledger>(
+        &mut self,
+        given: &[Given],
+        steps: &mut Steps<L>,
+    ) -> Result<Vec<i64>, StepFault>
+        requires { AreGivenLive self.old.arrays.world given.now }
+        ensures value { let wanted = numbers_in (all_seen_of self.old.arrays given.now) in
+            AnswersAs (λ ns. ns.items) wanted result }
+        ensures same { self.new ≡ self.old }
+    {
+        let mut found = Vec::new(self.alloc());
+        for one in given {
+            match self.number_in(one, steps)? {
+                Some(number) => found.push(number)?,
+                None => return Err(StepFault::Script(Fault::WrongArguments)),
+            }
+        }
+        Ok(found)
+    }
+}
+/// Dimensions of these sizes: `BadDimension` for one below 0, then `TooManyDims`, then `TooLarge`.
+pub fn dims_for(alloc: Global, numbers: &[i64]) -> Result<Dims, StepFault>
+    ensures { Answers (dims_for numbers.now) result }
+{
+    let sizes = match clamped(alloc, numbers) {
+        Ok(sizes) => sizes,
+        Err(fault) => return Err(fault),
+    };
+    match dims_of(alloc, &sizes) {
+        Ok(dims) => Ok(dims),
+        Err(ShapeFault::Mismatch) => Err(StepFault::Script(Fault::Mismatch)),
+        Err(ShapeFault::TooManyDims) => Err(StepFault::Script(Fault::TooManyDims)),
+        Err(ShapeFault::TooLarge) => Err(StepFault::Script(Fault::TooLarge)),
+    }
+}
+
+/// The sizes, where one that is too large for any array stays too large.
+fn clamped(alloc: Global, numbers: &[i64]) -> Result<Vec<u32>, StepFault>
+    ensures { let wanted = or_fault BadDimension (all_of clamped_size numbers.now) in
+        AnswersAs (λ ds. ds.items) wanted result }
+{
+    let mut sizes = Vec::new(alloc);
+    for &number in numbers {
+        match clamp(number) {
+            Some(size) => sizes.push(size)?,
+            None => return Err(StepFault::Script(Fault::BadDimension)),
+        }
+    }
+    Ok(sizes)
+}
+
+/// A size, or the largest `u32` for a larger one; nothing for one below 0.
+fn clamp(number: i64) -> Option<u32>
+    ensures { result ≡ clamped_size number }
+{
+    if number < 0 {
+        None
+    } else if number > 4_294_967_295 {
+        Some(u32::MAX)
+    } else {
+        Some(number as u32)
+    }
+}

@@ -1,0 +1,140 @@
+//! Operators and assignments on the arrays of a scope.
+ghost use Rattle.std.specs.Prelude.{◌≡◌, true, [], Ok, IfOk};
+ghost use Rattle.pdl_buf.specs.Made.{IsMade};
+ghost use Rattle.pdl_ops.specs.Elementwise.{unary_each};
+ghost use Rattle.pdl_world.specs.Sound.{IsLive};
+ghost use Rattle.pdl_world.specs.World.{dims_in, ty_in};
+ghost use Rattle.pdl_engine.specs.State.{is_fresh};
+ghost use Rattle.pdl_machine.specs.Arrays.{array_in};
+ghost use Rattle.pdl_machine.specs.Operators.{binary_each, values_for};
+ghost use Rattle.pdl_machine.specs.Outcome.{new_root};
+ghost use Rattle.pdl_machine.specs.Step.{assigned};
+ghost use Rattle.pdl_machine.specs.State.{with_arrays};
+ghost use Rattle.pdl_machine.specs.Then.{and_then};
+ghost use Rattle.pdl_scope.specs.Answers.{Answers, AnswersAs, Evaluates, Runs};
+ghost use Rattle.pdl_scope.specs.Scope.{Grows, arrays_of};
+
+use crate::fault::StepFault;
+use crate::reading::ready;
+use crate::scope::Scope;
+use pdl_buf::{Made, Steps};
+use pdl_elem::{BinaryOp, UnaryOp};
+use pdl_engine::{ArrayId, Engine};
+use pdl_lexemes::AssignOp;
+use pdl_ops::{elementwise, unary_each, values_for};
+use pdl_world::assignment_laws;
+use std::alloc::Global;
+use std::sync::ledger::Ledger;
+
+impl Scope {
+    /// The new array of an operator of one operand.
+    pub fn unary<L: Ledger>(
+        &mut self,
+        op: UnaryOp,
+        id: ArrayId,
+        steps: &mut Steps<L>,
+    ) -> Result<ArrayId, StepFault>
+        requires { IsLive self.old.arrays.world id }
+        ensures value { let wanted = unary_each op (array_in self.old.arrays id) in
+            Evaluates (new_root self.old.arrays wanted) self.new result }
+        ensures grown { Grows self.old self.new }
+    {
+        ready(&mut self.engine, id, steps)?;
+        let made = unary_each(self.alloc, op, &self.engine.lend(id))?;
+        let elems = made.elems;
+        self.make(made.ty, &made.dims, elems, steps)
+    }
+
+    /// The new array of an operator of two operands.
+    pub fn binary<L: Ledger>(
+        &mut self,
+        op: BinaryOp,
+        left: ArrayId,
+        right: ArrayId,
+        steps: &mut Steps<L>,
+    ) -> Result<ArrayId, StepFault>
+        requires left { IsLive self.old.arrays.world left }
+        requires right { IsLive self.old.arrays.world right }
+        ensures value { let a = self.old.arrays in
+            let wanted = binary_each op (array_in a left) (array_in a right) in
+            Evaluates (and_then wanted (new_root a)) self.new result }
+        ensures grown { Grows self.old self.new }
+    {
+        ready(&mut self.engine, left, steps)?;
+        ready(&mut self.engine, right, steps)?;
+        match operated(self.alloc, &self.engine, op, left, right) {
+            Ok(made) => {
+                let elems = made.elems;
+                self.make(made.ty, &made.dims, elems, steps)
+            }
+            Err(fault) => Err(fault),
+        }
+    }
+
+    /// Assigns an array to another one by a sign: all values are found before one is written.
+    pub fn assign<L: Ledger>(
+        &mut self,
+        sign: AssignOp,
+        target: ArrayId,
+        value: ArrayId,
+        steps: &mut Steps<L>,
+    ) -> Result<(), StepFault>
+        requires target { IsLive self.old.arrays.world target }
+        requires value { IsLive self.old.arrays.world value }
+        ensures { let values = assigned sign self.old.arrays target value in
+            let wanted = and_then values (λ a. Ok (with_arrays self.old a, [])) in
+            Runs wanted self.old self.new [] [] result }
+    {
+        assignment_laws();
+        ready(&mut self.engine, target, steps)?;
+        ready(&mut self.engine, value, steps)?;
+        match written(self.alloc, &self.engine, sign, target, value) {
+            Ok(values) => {
+                self.engine.assign(target, &values, steps);
+                Ok(())
+            }
+            Err(fault) => Err(fault),
+        }
+    }
+}
+
+/// What an operator gives for two arrays that can be lent.
+fn operated(
+    alloc: Global,
+    engine: &Engine,
+    op: BinaryOp,
+    left: ArrayId,
+    right: ArrayId,
+) -> Result<Made, StepFault>
+    requires left { IsLive engine.now.world left }
+    requires right { IsLive engine.now.world right }
+    requires left_fresh { is_fresh engine.now left ≡ true }
+    requires right_fresh { is_fresh engine.now right ≡ true }
+    ensures value { let a = arrays_of engine.now in
+        Answers (binary_each op (array_in a left) (array_in a right)) result }
+    ensures made { IfOk result (λ m. IsMade m.ty m.dims m.elems) }
+{
+    let made = elementwise(alloc, op, &engine.lend(left), &engine.lend(right))?;
+    Ok(made)
+}
+
+/// The values that an assignment writes, of arrays that can be lent.
+fn written(
+    alloc: Global,
+    engine: &Engine,
+    sign: AssignOp,
+    target: ArrayId,
+    value: ArrayId,
+) -> Result<Vec<i64>, StepFault>
+    requires target { IsLive engine.now.world target }
+    requires value { IsLive engine.now.world value }
+    requires target_fresh { is_fresh engine.now target ≡ true }
+    requires value_fresh { is_fresh engine.now value ≡ true }
+    ensures value { let a = arrays_of engine.now in
+        AnswersAs (λ vs. vs.items) (values_for sign (array_in a target) (array_in a value)) result }
+    ensures made { let w = engine.now.world in
+        IfOk result (λ vs. IsMade (ty_in w target) (dims_in w target) vs.items) }
+{
+    let values = values_for(alloc, sign, &engine.lend(target), &engine.lend(value))?;
+    Ok(values)
+}

@@ -1,0 +1,279 @@
+//! Names and the arrays that they are bound to.
+ghost use Rattle.std.specs.Prelude.{◌≡◌, ◌<◌, ◌≤◌, [], length, map, All, IfOk, IfSome, IsTrue, OnErr, OnOk, slice_get, Some};
+ghost use Rattle.pdl_shape.specs.Shape.{IsDims};
+ghost use Rattle.pdl_buf.specs.Made.{IsMade};
+ghost use Rattle.pdl_world.specs.Formula.{is_well_formed};
+ghost use Rattle.pdl_world.specs.Refused.{view_refusal};
+ghost use Rattle.pdl_world.specs.World.{dims_in, ty_in};
+ghost use Rattle.pdl_world.specs.Sound.{IsLive};
+ghost use Rattle.pdl_machine.specs.declared.fault.Fault.TheVariants.{UnknownFunction};
+ghost use Rattle.pdl_machine.specs.Kernels.{kernel_outputs};
+ghost use Rattle.pdl_machine.specs.Names.{found, names_limit, number_of};
+ghost use Rattle.pdl_machine.specs.Then.{and_then, or_fault};
+ghost use Rattle.pdl_machine.specs.State.{no_names, AreLive, IsWhole};
+ghost use Rattle.pdl_machine.specs.Tidy.{tidy};
+ghost use Rattle.pdl_machine.specs.Outcome.{new_root, new_view};
+ghost use Rattle.pdl_machine.specs.Step.{bind_value, roots_bound, kernel_named};
+ghost use Rattle.pdl_scope.specs.Scope.{Grows, array_of, names_in};
+ghost use Rattle.pdl_scope.specs.Answers.{AnswersAs, Evaluates, Runs};
+ghost use Rattle.pdl_scope.specs.Arguments.{all_seen_of, AreGivenLive};
+
+use crate::calling::kernel_outputs;
+use crate::fault::StepFault;
+use crate::given::Given;
+use crate::holding::{hold_all, hold_for_name, note, note_some, release_all};
+use crate::kernels::Kernels;
+use crate::names::Names;
+use pdl_buf::{Elements, Made, Steps};
+use pdl_elem::{Name, Ty};
+use pdl_engine::{ArrayId, Engine};
+use pdl_kernel::Kernel;
+use pdl_machine::Fault;
+use pdl_shape::Dims;
+use pdl_world::{Trans, growth_laws};
+use std::alloc::{AllocError, Global};
+use std::marker::Model;
+use std::sync::ledger::Ledger;
+
+/// Names, kernels, and an engine that keeps the arrays that names reach, and those of the
+/// statement that runs. It is seen as a state of the eager machine.
+#[derive(Drop)]
+pub struct Scope {
+    pub(crate) alloc: Global,
+    names: Names,
+    kernels: Kernels,
+    pub(crate) engine: Engine,
+    /// Arrays that are held once more until the statement ends: those that it made, and those that
+    /// a name gave up.
+    leaving: Vec<ArrayId>,
+}
+
+impl Model for Scope {
+    ghost use Rattle.pdl_machine.specs.State.{State};
+    ghost use Rattle.std.specs.Coded.{codes};
+    ghost use Rattle.pdl_kernel.specs.Coding.{coded_code};
+    ghost use Rattle.pdl_scope.specs.Scope.{names_in, state_in, IsHeld};
+
+    ghost Value = { State };
+
+    ghost coded = { Prim.hlevel (codes, coded_code) };
+
+    ghost view = { λ s. state_in (names_in s.names s.kernels) s.engine };
+
+    ghost invariant = { λ s.
+        IsHeld (state_in (names_in s.names s.kernels) s.engine) s.engine.holds s.leaving.items };
+}
+
+impl Scope {
+    /// No names, no kernels and no arrays.
+    pub fn new(alloc: Global) -> Scope
+        ensures { result ≡ no_names }
+    {
+        Scope {
+            alloc,
+            names: Names::new(alloc),
+            kernels: Kernels::new(alloc),
+            engine: Engine::new(alloc),
+            leaving: Vec::new(alloc),
+        }
+    }
+
+    /// Each scope is whole. The call does nothing when it runs.
+    pub fn whole(&self)
+        ensures { IsWhole self.now }
+    {
+        let _alloc = self.alloc;
+    }
+
+    /// The allocator of all that the scope keeps.
+    pub fn alloc(&self) -> Global {
+        self.alloc
+    }
+
+    /// The array of a name.
+    pub fn number_of(&self, name: &Name) -> Option<ArrayId>
+        ensures number { result ≡ number_of self.now.names name.now }
+        ensures live { IfSome result (IsLive self.now.arrays.world) }
+    {
+        self.names.get(name)
+    }
+
+    /// How many names are bound.
+    pub fn len(&self) -> usize
+        ensures { result ≡ length self.now.names.arrays }
+    {
+        self.names.len()
+    }
+
+    /// The name at a place in the order of the first bindings, with its array.
+    pub fn entry(&self, index: usize) -> (&Name, ArrayId)
+        requires { index < length self.now.names.arrays }
+        ensures entry { slice_get self.now.names.arrays index ≡ Some (result.0.now, result.1) }
+        ensures live { IsLive self.now.arrays.world result.1 }
+    {
+        self.names.entry(index)
+    }
+
+    /// The sizes of an array.
+    pub fn dims(&self, id: ArrayId) -> &Dims
+        requires { IsLive self.now.arrays.world id }
+        ensures now { result.now ≡ dims_in self.now.arrays.world id }
+        ensures limits { IsDims result.now }
+    {
+        self.engine.dims(id)
+    }
+
+    /// The type of an array.
+    pub fn ty(&self, id: ArrayId) -> Ty
+        requires { IsLive self.now.arrays.world id }
+        ensures { result ≡ ty_in self.now.arrays.world id }
+    {
+        self.engine.ty(id)
+    }
+
+    /// A new array of these dimensions and elements.
+    pub fn make<L: Ledger>(
+        &mut self,
+        ty: Ty,
+        dims: &Dims,
+        elems: Elements,
+        steps: &mut Steps<L>,
+    ) -> Result<ArrayId, StepFault>
+        requires { IsMade ty dims.now elems }
+        ensures value { let wanted = new_root self.old.arrays (array_of ty dims.now elems) in
+            Evaluates wanted self.new result }
+        ensures grown { Grows self.old self.new }
+    {
+        growth_laws();
+        self.leaving.reserve(1)?;
+        let id = self.engine.make(ty, dims, elems, steps)?;
+        note(&mut self.leaving, id);
+        Ok(id)
+    }
+
+    /// A new array like one that is kept elsewhere, whose elements are copied.
+    pub fn make_like<L: Ledger>(
+        &mut self,
+        made: &Made,
+        steps: &mut Steps<L>,
+    ) -> Result<ArrayId, StepFault>
+        requires { IsMade made.now.ty made.now.dims made.now.elems }
+        ensures value { Evaluates (new_root self.old.arrays made.now) self.new result }
+        ensures grown { Grows self.old self.new }
+    {
+        let elems = made.elems.copied(self.alloc, made.ty)?;
+        self.make(made.ty, &made.dims, elems, steps)
+    }
+
+    /// A new view of an array, whose transformation is well formed.
+    pub fn view(&mut self, parent: ArrayId, trans: Trans) -> Result<ArrayId, StepFault>
+        requires live { IsLive self.old.arrays.world parent }
+        requires well_formed { IsTrue (is_well_formed trans) }
+        ensures value { let refusal = view_refusal self.old.arrays.world parent trans in
+            Evaluates (new_view self.old.arrays parent trans refusal) self.new result }
+        ensures grown { Grows self.old self.new }
+    {
+        growth_laws();
+        self.leaving.reserve(1)?;
+        let id = self.engine.view(parent, trans)?;
+        note(&mut self.leaving, id);
+        Ok(id)
+    }
+
+    /// Binds a name to an array, with `TooManyNames` where it is new and 512 are bound.
+    pub fn bind(&mut self, name: &Name, id: ArrayId) -> Result<(), StepFault>
+        requires { IsLive self.old.arrays.world id }
+        ensures { let wanted = bind_value self.old name.now (self.old.arrays, id) in
+            Runs wanted self.old self.new [] [] result }
+    {
+        self.leaving.reserve(1)?;
+        let had = self.names.bind(name, id)?;
+        hold_for_name(&mut self.engine, &mut self.leaving, id);
+        note_some(&mut self.leaving, had);
+        Ok(())
+    }
+
+    /// Binds names to new arrays in order. A fault binds none of them.
+    pub fn bind_roots<L: Ledger>(
+        &mut self,
+        bound: &[Name],
+        outputs: &[Made],
+        steps: &mut Steps<L>,
+    ) -> Result<(), StepFault>
+        requires { All (λ m. IsMade m.ty m.dims m.elems) outputs.now }
+        ensures { let wanted = roots_bound self.old bound.now outputs.now in
+            Runs wanted self.old self.new [] [] result }
+    {
+        let mut names = self.names.copied()?;
+        for i in 0..bound.len().min(outputs.len()) {
+            let made = &outputs[i];
+            let id = self.make_like(made, steps)?;
+            names.bind(&bound[i], id)?;
+        }
+        Ok(self.rename(names)?)
+    }
+
+    /// Other names take the place of the names.
+    fn rename(&mut self, names: Names) -> Result<(), AllocError>
+        requires live { AreLive self.old.arrays.world (map (λ n. n.1) names) }
+        requires few { length names ≤ names_limit }
+        ensures ok { OnOk result (self.new ≡ record self.old {
+          names = names_in names self.old.names.kernels;
+        }) }
+        ensures err { OnErr result (self.new ≡ self.old) }
+    {
+        let bound = names.numbers(self.alloc)?;
+        let given_up = self.names.numbers(self.alloc)?;
+        self.leaving.extend_from_slice(&given_up)?;
+        hold_all(&mut self.engine, &bound);
+        self.names = names;
+        Ok(())
+    }
+
+    /// Takes back the holds that end with a statement, so that what no name reaches goes. The
+    /// clause says that this is unseen, and not that anything goes.
+    pub fn let_go<L: Ledger>(&mut self, steps: &mut Steps<L>)
+        ensures { tidy self.new ≡ tidy self.old }
+    {
+        release_all(&mut self.engine, &self.leaving, steps);
+        self.leaving.clear();
+    }
+
+    /// Defines a kernel of a name, with `TooManyKernels` where it is new and 256 are there.
+    pub fn define(&mut self, name: Name, kernel: Kernel) -> Result<(), StepFault>
+        ensures { let wanted = kernel_named self.old name kernel in
+            Runs wanted self.old self.new [] [] result }
+    {
+        self.kernels.define(name, kernel)
+    }
+
+    /// What the call of a kernel's name gives, of which so many outputs are wanted.
+    pub fn kernel_outputs<L: Ledger>(
+        &mut self,
+        name: &Name,
+        wanted: usize,
+        given: &[Given],
+        steps: &mut Steps<L>,
+    ) -> Result<Vec<Made>, StepFault>
+        requires { AreGivenLive self.old.arrays.world given.now }
+        ensures value { let kernel = found self.old.names.kernels name.now in
+            let seen = all_seen_of self.old.arrays given.now in
+            let outputs = and_then (or_fault UnknownFunction kernel)
+            (λ k. kernel_outputs k wanted seen) in
+            AnswersAs (λ ms. ms.items) outputs result }
+        ensures made { IfOk result (λ ms. All (λ m. IsMade m.ty m.dims m.elems) ms.items) }
+        ensures same { self.new ≡ self.old }
+    {
+        match self.kernels.get(name) {
+            Some(kernel) => kernel_outputs(
+                self.alloc,
+                kernel,
+                &mut self.engine,
+                wanted,
+                given,
+                steps,
+            ),
+            None => Err(StepFault::Script(Fault::UnknownFunction)),
+        }
+    }
+}

@@ -1,0 +1,90 @@
+//! The shapes of argument lists.
+ghost use Rattle.std.specs.Prelude.{◌≡◌, IfSome, option_map};
+ghost use Rattle.pdl_world.specs.World.{World};
+ghost use Rattle.pdl_world.specs.Sound.{IsLive};
+ghost use Rattle.pdl_scope.specs.Arguments.{IsGivenLive, AreGivenLive, one_array, array_and_text, two_arrays, second_array, array_and_one, two_and_more, few_arrays};
+
+use crate::given::Given;
+use pdl_engine::ArrayId;
+
+/// The array that stands alone.
+pub fn one_array(given: &[Given]) -> Option<ArrayId>
+    ensures shape { result ≡ one_array given.now }
+    ensures live { (w : World) → AreGivenLive w given.now → IfSome result (IsLive w) }
+{
+    match given {
+        [Given::Array(id)] => Some(*id),
+        _ => None,
+    }
+}
+
+/// The text of an array and a text.
+pub fn array_and_text<'a>(given: &[Given<'a>]) -> Option<&'a [u8]>
+    ensures { result ≡ array_and_text given.now }
+{
+    match given {
+        [Given::Array(_), Given::Text(text)] => Some(*text),
+        _ => None,
+    }
+}
+
+/// The two arrays that stand alone.
+pub fn two_arrays(given: &[Given]) -> Option<(ArrayId, ArrayId)>
+    ensures shape { result ≡ two_arrays given.now }
+    ensures live { (w : World) → AreGivenLive w given.now →
+        IfSome result (λ r. IsLive w r.0 × IsLive w r.1) }
+{
+    match given {
+        [Given::Array(left), Given::Array(right)] => Some((*left, *right)),
+        _ => None,
+    }
+}
+
+/// The second of two arrays.
+pub fn second_array(given: &[Given]) -> Option<ArrayId>
+    ensures shape { result ≡ second_array given.now }
+    ensures live { (w : World) → AreGivenLive w given.now → IfSome result (IsLive w) }
+{
+    match given {
+        [Given::Array(_), Given::Array(id)] => Some(*id),
+        _ => None,
+    }
+}
+
+/// An array, and the one argument behind it.
+pub fn array_and_one<'a>(given: &[Given<'a>]) -> Option<(ArrayId, Given<'a>)>
+    ensures shape { result ≡ array_and_one given.now }
+    ensures live { (w : World) → AreGivenLive w given.now →
+        IfSome result (λ r. IsLive w r.0 × IsGivenLive w r.1) }
+{
+    match given {
+        [Given::Array(id), one] => Some((*id, *one)),
+        _ => None,
+    }
+}
+
+/// The second of the two arrays that stand first, and what stands behind them.
+pub fn two_and_more<'a, 'b>(given: &'a [Given<'b>]) -> Option<(ArrayId, &'a [Given<'b>])>
+    ensures shape { option_map (λ r. (r.0, r.1.now)) result ≡ two_and_more given.now }
+    ensures live { (w : World) → AreGivenLive w given.now →
+        IfSome result (λ r. IsLive w r.0 × AreGivenLive w r.1.now) }
+{
+    match given {
+        [Given::Array(_), Given::Array(id), rest @ ..] => Some((*id, rest)),
+        _ => None,
+    }
+}
+
+/// No argument, or one or two arrays.
+pub fn few_arrays(given: &[Given]) -> Option<(Option<ArrayId>, Option<ArrayId>)>
+    ensures shape { result ≡ few_arrays given.now }
+    ensures live { (w : World) → AreGivenLive w given.now →
+        IfSome result (λ r. IfSome r.0 (IsLive w) × IfSome r.1 (IsLive w)) }
+{
+    match given {
+        [] => Some((None, None)),
+        [Given::Array(first)] => Some((Some(*first), None)),
+        [Given::Array(first), Given::Array(second)] => Some((Some(*first), Some(*second))),
+        _ => None,
+    }
+}

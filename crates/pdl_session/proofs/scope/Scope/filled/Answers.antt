@@ -1,4 +1,0 @@
-use Rattle.pdl_session.proofs.scope.Scope.filled.Goals as goal
-
-pub numbers_in-requires : goal.numbers_in-requires
-numbers_in-requires g c = c.typed-ty.ensures.live c.args.self.now.arrays.world c.requires

@@ -1,0 +1,40 @@
+use Rattle.std.proofs.Common.{List, [], Result, length, refl, sym, subst}
+use Rattle.pdl_buf.specs.declared.made.Made.{Made}
+use Rattle.pdl_machine.specs.Step.{roots_bound, list_bound}
+use Rattle.pdl_scope.specs.declared.fault.StepFault.{StepFault}
+use Rattle.pdl_scope.specs.Answers.{Runs}
+use Rattle.pdl_scope.specs.Arguments.{arguments}
+use Rattle.pdl_scope.specs.Facts.{is_fault}
+use Rattle.pdl_session.proofs.Statements.{runs_output, output_refused, runs_several, several_refused}
+use Rattle.pdl_session.proofs.statement.bind_outputs.Goals as goal
+
+pub returns-in_err-outputs : goal.returns-in_err-outputs
+returns-in_err-outputs g c =
+    let s = c.args.scope.now in
+    let xs = c.args.bound.now in
+    let f = c.in_err-outputs.field-0.0 in
+    let R : Result (Unit {0}) StepFault → Type 0 = Runs (list_bound s xs c.args.function.now (s.arrays, arguments c.args.given.now)) s c.several.new.scope [] [] in
+    subst R (sym (is_fault c.from_residual.result f c.from_residual.ensures.1))
+    (several_refused s c.several.new.scope xs c.args.function.now c.args.given.now (length xs) f c.if-bound-ne1.true refl c.in_err-outputs.ensures.value c.several.ensures.same)
+
+pub returns-then-bound-ne1 : goal.returns-then-bound-ne1
+returns-then-bound-ne1 g c =
+    let s = c.args.scope.now in
+    let xs = c.args.bound.now in
+    let P : List Made → Type 0 = λ ms. Runs (roots_bound c.several.new.scope xs ms) c.several.new.scope c.bind_roots.new.self [] [] c.bind_roots.result in
+    runs_several c.bind_roots.result s c.several.new.scope c.bind_roots.new.self xs c.args.function.now c.args.given.now (length xs) c.in_ok-outputs.outputs.items c.if-bound-ne1.true refl
+    c.in_ok-outputs.ensures.value c.several.ensures.same (subst P c.deref.ensures.value c.bind_roots.ensures)
+
+pub returns-in_err-id : goal.returns-in_err-id
+returns-in_err-id g c =
+    let s = c.args.scope.now in
+    let given = arguments c.args.given.now in
+    let f = c.in_err-id.field-0.0 in
+    let R : Result (Unit {0}) StepFault → Type 0 = Runs (list_bound s c.args.bound.now c.args.function.now (s.arrays, given)) s c.call.new.scope [] [] in
+    subst R (sym (is_fault c.from_residual-in_err-id.result f c.from_residual-in_err-id.ensures.1))
+    (output_refused s c.call.new.scope c.args.bound.now c.args.function.now given f c.if-bound-ne1.false c.in_err-id.ensures.value c.call.ensures.grown)
+
+pub returns : goal.returns
+returns g c =
+    runs_output c.bind.result c.args.scope.now c.call.new.scope c.bind.new.self c.args.bound.now c.index-bound-0.result c.args.function.now (arguments c.args.given.now) c.in_ok-id.id
+    c.if-bound-ne1.false c.index-bound-0.is c.in_ok-id.ensures.value.0 c.in_ok-id.ensures.grown c.bind.ensures
