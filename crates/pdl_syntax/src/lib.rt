@@ -19,6 +19,6 @@ pub use laws::{
     reading_is_the_grammar,
 };
 pub use levels::level_of;
-pub use parser::{ParseFault, parse};
+pub use parser::{ParseFault, parse, parse_within};
 pub use pdl_lexemes::AssignOp;
 pub use tree::{Arg, Expr, Statement, Target, ViewCall};

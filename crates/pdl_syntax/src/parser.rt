@@ -13,7 +13,7 @@ use crate::ragged;
 use crate::reader::Reader;
 use crate::tree::Statement;
 use pdl_lex::{Token, tokens_are_spans};
-use pdl_lexemes::{Lexeme, Lexemes, Refusal, has_large, lexemes};
+use pdl_lexemes::{Lexeme, Lexemes, Refusal, has_large, read_lexemes};
 use std::alloc::{AllocError, Global};
 
 /// Why the tokens of a text are no statement. Where several hold, the first one is answered.
@@ -51,10 +51,26 @@ pub fn parse(alloc: Global, text: &[u8], tokens: &[Token]) -> Result<Statement, 
     ensures exact { Answers text.now (lexemes_of text.now tokens.now) result }
     ensures well_made { IfOk result (λ s. IsWellMade (statement_of s)) }
 {
+    let mut room = Vec::new(alloc);
+    parse_within(alloc, text, tokens, &mut room)
+}
+
+/// What `parse` answers. The lexemes are put into a list whose room is kept; what stood in it goes.
+pub fn parse_within(
+    alloc: Global,
+    text: &[u8],
+    tokens: &[Token],
+    lexemes: &mut Vec<Lexeme>,
+) -> Result<Statement, ParseFault>
+    requires tokens { toks text.now ≡ Ok tokens.now }
+    requires small { length text.now ≤ 65536 }
+    ensures exact { Answers text.now (lexemes_of text.now tokens.now) result }
+    ensures well_made { IfOk result (λ s. IsWellMade (statement_of s)) }
+{
     tokens_are_spans();
     parsing_is_the_grammar();
     literals_are_arrays();
-    let lexemes = lexemes(alloc, text, tokens)?;
+    read_lexemes(text, tokens, lexemes)?;
     read(alloc, text, lexemes.as_slice())
 }
 
