@@ -115,7 +115,7 @@ pub(crate) fn place_of(triple: &Triple, position: u32) -> u32
 }
 
 /// The buffer's place at a position of a triple that shows neighbours in order.
-fn place_in_order(triple: &Triple, position: u32) -> u32
+pub(crate) fn place_in_order(triple: &Triple, position: u32) -> u32
     requires within { position < size_of triple.now.dims }
     requires ordered { IsInOrder 1 triple.now.incs triple.now.dims }
     ensures place { result ≡ place_at triple.now position }

@@ -7,7 +7,7 @@ ghost use Rattle.pdl_buf.specs.Reads.{IsInside, HasRead, HasStepped};
 ghost use Rattle.pdl_buf.specs.Window.{IsInOrder, place_at};
 
 use crate::packed::{Packed, PackedType};
-use crate::placement::{Placement, place_of};
+use crate::placement::{Placement, place_in_order, place_of};
 use crate::window::Strided;
 use pdl_shape::{Triple, dims_list, incs_list, shape_laws};
 
@@ -245,7 +245,7 @@ fn read_in_order<T: PackedType<N>, const N: usize>(
     shape_laws();
     numbers.are_in_range();
     if 0 < into.len() {
-        let start = place_of(triple, first);
+        let start = place_in_order(triple, first);
         numbers.read_from(start as usize, into);
     }
 }
