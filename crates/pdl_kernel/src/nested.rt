@@ -77,7 +77,7 @@ fn inner_of<'a>(code: &'a [Stmt]) -> Option<Inner<'a>>
     }
 }
 
-/// Whether a loop is run: as is known of all turns of the outer one, or where a number isn't 0.
+/// Whether a loop is run: as is known of the turns that come, or where a number isn't 0.
 #[derive(Clone, Copy)]
 pub enum Wants<'a> {
     Known(bool),

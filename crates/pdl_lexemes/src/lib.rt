@@ -18,7 +18,9 @@ mod tables;
 pub use checks::has_large;
 pub use laws::{every_sign_is_known, lists_are_arrays, lists_are_their_grammar, ragged_is_scanned};
 pub use left::Lexemes;
-pub use lexing::{assignment_named, bytes, keyword_named, lexemes, number_of, operator_named, read_lexemes};
+pub use lexing::{
+    assignment_named, bytes, keyword_named, lexemes, number_of, operator_named, read_lexemes,
+};
 use pdl_elem::{BinaryOp, Ty, UnaryOp};
 pub use refusal::Refusal;
 pub use tables::found_in;

@@ -1,4 +1,4 @@
-//! Why a statement wasn't run.
+//! Why a call gave nothing.
 use pdl_engine::ViewFault;
 use pdl_kernel::{KernelFault, RunFault};
 use pdl_machine::Fault;
@@ -8,12 +8,12 @@ use pdl_sig::{ResolveFault, SigFault};
 use pdl_slices::SliceFault;
 use std::alloc::{AllocError, AllocFailed};
 
-/// Why a statement wasn't run.
+/// Why a call gave nothing.
 #[derive(Clone, Copy, PartialEq, Eq, Debug)]
 pub enum StepFault {
-    /// The statement has this fault, and the session is as it was.
+    /// The script's fault. What it leaves is said at the call.
     Script(Fault),
-    /// There was no memory. The session may only be dropped.
+    /// There was no memory. What was asked may only be dropped.
     NoMemory,
 }
 

@@ -1,4 +1,4 @@
-//! What statements print.
+//! What is printed of arrays and names.
 ghost use Rattle.std.specs.Prelude.{◌≡◌, ◌++◌, OnOk};
 ghost use Rattle.std.specs.List.{flat_map};
 ghost use Rattle.pdl_world.specs.Sound.{IsLive};

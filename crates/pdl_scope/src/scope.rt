@@ -1,4 +1,4 @@
-//! Names and the arrays that they are bound to.
+//! Names, kernels and arrays.
 ghost use Rattle.std.specs.Prelude.{◌≡◌, ◌<◌, ◌≤◌, [], length, map, All, IfOk, IfSome, IsTrue, OnErr, OnOk, slice_get, Some};
 ghost use Rattle.pdl_shape.specs.Shape.{IsDims};
 ghost use Rattle.pdl_buf.specs.Made.{IsMade};
