@@ -30,11 +30,11 @@ impl Node {
         ensures { result ≡ over_from self.now.origin above.now }
     {
         match &self.origin {
-            Origin::View {
-                layout: Layout::Plan(plan),
-                ..
-            } => compose(alloc, plan, above),
-            _ => None,
+            Origin::View { layout, .. } => match layout.get() {
+                Layout::Plan(plan) => compose(alloc, plan, above),
+                Layout::Choice(_) => None,
+            },
+            Origin::Root => None,
         }
     }
 

@@ -2,6 +2,7 @@
 //! kept of it, and how often it is held.
 #![tactic(auto)]
 
+mod apart;
 mod children;
 mod cuts;
 mod gathering;
@@ -22,6 +23,7 @@ mod table;
 mod upward;
 mod views;
 
+pub use apart::Apart;
 pub use holds::{Hold, Holds, insert};
 pub use laws::{cut_row_laws, hold_laws, reshape_row_laws};
 pub use node::{Lifted, Node};

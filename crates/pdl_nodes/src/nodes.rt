@@ -183,7 +183,7 @@ impl Nodes {
             return Err(AllocError);
         };
         let above = self.table.node(parent);
-        let node = view_node(self.alloc, id, parent, trans, layout, above);
+        let node = view_node(self.alloc, id, parent, trans, layout, above)?;
         insert(&mut self.table, &mut self.holds, id, node)?;
         self.next = next;
         Ok(id)

@@ -3,6 +3,7 @@ ghost use Rattle.std.specs.Prelude.{◌≡◌};
 ghost use Rattle.pdl_nodes.specs.Row.{parent_from};
 ghost use Rattle.pdl_nodes.specs.Sized.{HasDims};
 
+use crate::apart::Apart;
 use pdl_affine::{AffinePlan, plan_dims};
 use pdl_choice::Choice;
 use pdl_shape::Dims;
@@ -28,14 +29,15 @@ impl Layout {
     }
 }
 
-/// A root, or a view of an older array.
+/// A root, or a view of an older array. What a view is made by stands apart, so that a node, which is
+/// moved when an array is made and when it goes, has no room for it.
 #[derive(Drop)]
 pub enum Origin {
     Root,
     View {
         parent: u64,
-        trans: Trans,
-        layout: Layout,
+        trans: Apart<Trans>,
+        layout: Apart<Layout>,
     },
 }
 

@@ -63,7 +63,14 @@ fn find_places(table: &Table, alloc: Global, id: u64) -> Result<Vec<Option<u32>>
             let above = table.node(*parent);
             let size = elements_of(&above.triple().dims);
             let base = table.node(above.base());
-            places_through(alloc, layout, count, base.places(), above.triple(), size)
+            places_through(
+                alloc,
+                layout.get(),
+                count,
+                base.places(),
+                above.triple(),
+                size,
+            )
         }
     }
 }

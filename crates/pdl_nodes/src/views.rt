@@ -1,10 +1,11 @@
 //! The nodes of new roots and of new views.
-ghost use Rattle.std.specs.Prelude.{◌≡◌};
+ghost use Rattle.std.specs.Prelude.{◌≡◌, IfOk};
 ghost use Rattle.pdl_shape.specs.Triple.{IsTriple};
 ghost use Rattle.pdl_nodes.specs.Nodes.{IsNewView};
 ghost use Rattle.pdl_nodes.specs.Row.{root_row};
 ghost use Rattle.pdl_nodes.specs.Sized.{IsLayout};
 
+use crate::apart::Apart;
 use crate::node::Node;
 use crate::origin::{Layout, Origin};
 use pdl_affine::{view_laws, window_laws};
@@ -12,7 +13,7 @@ use pdl_buf::Buf;
 use pdl_elem::Ty;
 use pdl_shape::{Dims, dims_list, shape_laws, triple_laws, whole_triple};
 use pdl_world::Trans;
-use std::alloc::Global;
+use std::alloc::{AllocError, Global};
 
 /// A root of this number, which is marked.
 pub fn root_node(alloc: Global, id: u64, ty: Ty, dims: &Dims, kept: Buf) -> Node
@@ -42,10 +43,10 @@ pub fn view_node(
     trans: Trans,
     layout: Layout,
     above: &Node,
-) -> Node
+) -> Result<Node, AllocError>
     requires laid { IsLayout trans above.now.triple.dims layout }
     requires triple { IsTriple above.now.triple }
-    ensures { IsNewView id parent trans above.now result }
+    ensures { IfOk result (IsNewView id parent trans above.now) }
 {
     shape_laws();
     triple_laws();
@@ -54,6 +55,8 @@ pub fn view_node(
     let dims = layout.dims();
     let _limits = dims_list(dims);
     let triple = whole_triple(alloc, dims);
+    let trans = Apart::new(alloc, trans)?;
+    let layout = Apart::new(alloc, layout)?;
     let mut node = Node {
         origin: Origin::View {
             parent,
@@ -72,5 +75,5 @@ pub fn view_node(
     };
     let over = node.over(alloc, &above.triple);
     node.derive(alloc, id, above.root, above.base, over);
-    node
+    Ok(node)
 }

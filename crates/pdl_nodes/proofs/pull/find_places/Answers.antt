@@ -1,6 +1,8 @@
 use Rattle.std.proofs.Common.{◌≡◌, ℕ, true, List, Option, ◌∙◌, sym, ap}
 use Rattle.pdl_shape.specs.Shape.{size_of}
 use Rattle.pdl_shape.specs.Triple.{Triple}
+use Rattle.pdl_nodes.specs.declared.origin.Layout.{Layout}
+use Rattle.pdl_nodes.specs.declared.origin.Origin.TheVariants.{View}
 use Rattle.pdl_nodes.specs.Row.{Row, parent_from}
 use Rattle.pdl_nodes.specs.Rows.{row_at}
 use Rattle.pdl_nodes.specs.Placed.{placed_by}
@@ -30,4 +32,5 @@ returns c =
     ∙ ap (λ (o : Option (List (Option ℕ))). placed_by o (row_at c.args.table.now c.in-View.parent).triple) (c.places.ensures ∙ ap (λ (r : Row). r.places) c.node-base.ensures)
     ∙ over_known c.args.table.now c.base.result c.in-View.parent c.requires.order c.requires.known (view_at c.args.table.now c.requires.order.still c.args.id c.in-View.parent c.in-View.trans c.in-View.layout c.requires.live (sym (c.origin.ensures ∙ ap (λ (r : Row). r.origin) c.node-node.ensures) ∙ c.in-View.is)).live b m in
     let n : c.elements_of-count.result ≡ size_of (row_at c.args.table.now c.args.id).triple.dims = c.elements_of-count.ensures.count ∙ ap (λ (t : Triple). size_of t.dims) (c.behind-node.view_is ∙ c.triple.ensures ∙ ap (λ (r : Row). r.triple) c.node-node.ensures) in
-    if_ok c.places_through.result (λ v e. e ∙ found_places c.args.table.now c.args.id c.in-View.parent c.elements_of-count.result c.in-View.trans c.in-View.layout c.places.result.now c.triple-in-View-2.result.now c.requires.order.still c.requires.live c.requires.own (sym (c.origin.ensures ∙ ap (λ (r : Row). r.origin) c.node-node.ensures) ∙ c.in-View.is) n k) c.places_through.ensures
+    if_ok c.places_through.result (λ v e. e ∙ found_places c.args.table.now c.args.id c.in-View.parent c.elements_of-count.result c.in-View.trans c.get.result.now c.places.result.now c.triple-in-View-2.result.now c.requires.order.still c.requires.live c.requires.own
+    (sym (c.origin.ensures ∙ ap (λ (r : Row). r.origin) c.node-node.ensures) ∙ c.in-View.is ∙ ap (λ (y : Layout). View c.in-View.parent c.in-View.trans y) (sym c.get.ensures)) n k) c.places_through.ensures
