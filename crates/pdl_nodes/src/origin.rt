@@ -29,8 +29,8 @@ impl Layout {
     }
 }
 
-/// A root, or a view of an older array. What a view is made by stands apart, so that a node, which is
-/// moved when an array is made and when it goes, has no room for it.
+/// A root, or a view of an older array. What a view is made by stands apart, so that a node, which
+/// is moved when an array is made and when it goes, has no room for it.
 #[derive(Drop)]
 pub enum Origin {
     Root,
