@@ -1,10 +1,11 @@
 //! An operator on two windows of as many elements, in blocks.
-ghost use Rattle.std.specs.Prelude.{◌≡◌, ◌+◌, ◌*◌, ◌≤◌, [], length, map, take, All, IfOk, OnOk};
+ghost use Rattle.std.specs.Prelude.{◌≡◌, ◌+◌, ◌*◌, ◌≤◌, [], length, map, min, take, All, IfOk, OnOk};
 ghost use Rattle.std.specs.Result.{result_err};
 ghost use Rattle.pdl_elem.specs.Blocks.{pairwise, zero_at};
 ghost use Rattle.pdl_elem.specs.Numbers.{wrapped};
 ghost use Rattle.pdl_elem.specs.Operators.{value_of};
 ghost use Rattle.pdl_elem.specs.Types.{InRange, binary_result};
+ghost use Rattle.pdl_shape.specs.Shape.{size_of};
 ghost use Rattle.pdl_ops.specs.Answers.{Answers};
 ghost use Rattle.pdl_ops.specs.Elementwise.{operands_from, values_of};
 
@@ -14,6 +15,9 @@ use pdl_buf::{Packing, Strided, strided_dims};
 use pdl_elem::{BinaryOp, Ty, binary_all};
 use pdl_shape::elements_of;
 use std::alloc::Global;
+
+/// For so many elements the operands and the values find room without an allocation.
+const FEW: usize = 16;
 
 /// Sets the first `count` numbers of a room to the operator's values at the type on so many
 /// elements of two windows from a position on, of which there are enough. The room is three times
@@ -55,7 +59,7 @@ pub(crate) fn values(
     ty: Ty,
     a: &Strided<'_>,
     b: &Strided<'_>,
-    mut made: Packing,
+    made: Packing,
 ) -> Result<Packing, OpFault>
     requires paired { length a.now.elems ≡ length b.now.elems }
     requires empty { made ≡ record { ty = binary_result op ty ty; elems = [] } }
@@ -66,12 +70,38 @@ pub(crate) fn values(
     ensures count { IfOk result (λ made. length made.elems ≡ length b.now.elems) }
 {
     let count = elements_of(strided_dims(b)) as usize;
-    let mut room = vec![in alloc; 0; 3 * count.min(BLOCK)]?;
+    if count <= FEW {
+        let mut room = [0; 3 * FEW];
+        values_within(op, ty, a, b, made, &mut room)
+    } else {
+        let mut room = vec![in alloc; 0; 3 * count.min(BLOCK)]?;
+        values_within(op, ty, a, b, made, &mut room)
+    }
+}
+
+/// What `values` answers, found block by block in a room for the values and the operands of one.
+fn values_within(
+    op: BinaryOp,
+    ty: Ty,
+    a: &Strided<'_>,
+    b: &Strided<'_>,
+    mut made: Packing,
+    room: &mut [i64],
+) -> Result<Packing, OpFault>
+    requires paired { length a.now.elems ≡ length b.now.elems }
+    requires empty { made ≡ record { ty = binary_result op ty ty; elems = [] } }
+    requires room { 3 * min (size_of b.now.dims) 512 ≤ length room.old }
+    ensures value { let xs = map (wrapped ty) a.now.elems in
+        let ys = map (wrapped ty) b.now.elems in
+        Answers (λ made. made.elems) (values_of op ty xs ys) result }
+    ensures in_range { IfOk result (λ made. All (InRange (binary_result op ty ty)) made.elems) }
+    ensures count { IfOk result (λ made. length made.elems ≡ length b.now.elems) }
+{
+    let count = elements_of(strided_dims(b)) as usize;
     let mut done = 0;
     while done < count {
         let size = (count - done).min(BLOCK);
-        room.truncate(3 * size);
-        let found = values_block(op, ty, a, b, done as u32, size, &mut room);
+        let found = values_block(op, ty, a, b, done as u32, size, &mut room[..3 * size]);
         if let Err(place) = found {
             return Err(OpFault::DivideByZero {
                 place: (done + place) as u32,

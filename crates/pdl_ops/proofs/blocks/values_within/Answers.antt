@@ -1,15 +1,14 @@
 -- One block more of the values is made, or has the first divisor 0.
-use Rattle.std.proofs.Common.{◌≡◌, ℕ, ◌*◌, ℤ, List, length, length-append, take, drop, map, All, arith, ap, sym, subst, ◌∙◌, None}
-use Rattle.std.proofs.lemmas.List.{length-map, length-take-le}
+use Rattle.std.proofs.Common.{◌≡◌, ℕ, ◌*◌, ℤ, List, length, length-append, length-drop, ◌++◌, take, drop, map, All, arith, ap, sym, subst, ◌∙◌, None}
+use Rattle.std.proofs.lemmas.List.{length-map, length-take-le, take-append-le}
 use Rattle.pdl_buf.specs.Buffer.{TypedElements}
-use Rattle.pdl_elem.specs.declared.Ty.{Ty}
 use Rattle.pdl_elem.specs.Blocks.{pairwise, zero_at}
 use Rattle.pdl_elem.specs.Numbers.{wrapped}
 use Rattle.pdl_elem.specs.Operators.{value_of}
 use Rattle.pdl_elem.specs.Types.{InRange, binary_result}
 use Rattle.pdl_shape.specs.Shape.{size_of}
-use Rattle.pdl_ops.proofs.Parts.{block_map, made_more, made_never, written}
-use Rattle.pdl_ops.proofs.blocks.values.Goals as goal
+use Rattle.pdl_ops.proofs.Parts.{block_map, made_more, made_never}
+use Rattle.pdl_ops.proofs.blocks.values_within.Goals as goal
 
 pub returns-in-Err-clause-value : goal.returns-in-Err-clause-value
 returns-in-Err-clause-value c =
@@ -18,15 +17,6 @@ returns-in-Err-clause-value c =
     made_never c.args.op c.args.ty _ _ _ _ c.loop-done.done c.min-size.result c.in-Err.place
     (omega (arith, m, ap size_of c.strided_dims.ensures.dims)) c.loop-done.invariant.made
     (block_map f c.args.b.now.elems c.loop-done.done c.min-size.result) (sym c.in-Err.ensures.refused)
-
-pub extend-requires : goal.extend-requires
-extend-requires c =
-    let n : ℕ = c.min-size.result in
-    let whole : length c.values_block-found.new.room ≡ c.truncate.new.self.len = omega arith in
-    let block : c.deref.result.now ≡ c.values_block-found.new.room = c.deref.ensures.value ∙ written _ _ _ whole in
-    let T : Ty = binary_result c.args.op c.args.ty c.args.ty in
-    subst (λ (t : Ty). All (InRange t) (take n c.deref.result.now)) (sym c.loop-done.invariant.ty)
-    (subst (λ (zs : List ℤ). All (InRange T) (take n zs)) (sym block) c.in_default.ensures.in_range)
 
 pub loop-done-preserved : goal.loop-done-preserved
 loop-done-preserved c =
@@ -38,19 +28,19 @@ loop-done-preserved c =
     let l : length (map f xs) ≡ length xs = simp length-map in
     let m : length (map f bs) ≡ length bs = simp length-map in
     let room : length c.values_block-found.new.room ≡ 3 * n = c.values_block-found.ensures.length in
-    let whole : length c.values_block-found.new.room ≡ c.truncate.new.self.len = omega arith in
-    let block : c.deref.result.now ≡ c.values_block-found.new.room = c.deref.ensures.value ∙ written _ _ _ whole in
-    let size : length (take n c.deref.result.now) ≡ n = length-take-le n c.deref.result.now (omega (arith, room, ap (λ (zs : List ℤ). length zs) block)) in
+    let after : List ℤ = c.values_block-found.new.room ++ drop (3 * n) c.loop-done.room in
+    let block : take n after ≡ take n c.values_block-found.new.room = take-append-le n c.values_block-found.new.room (drop (3 * n) c.loop-done.room) (omega (arith, room)) in
+    let size : length (take n after) ≡ n = length-take-le n after (omega (arith, room, length-append c.values_block-found.new.room (drop (3 * n) c.loop-done.room))) in
     let us : List ℤ = map f (take n (drop k xs)) in
     let vs : List ℤ = map f (take n (drop k bs)) in
-    let v : take n c.deref.result.now ≡ pairwise (value_of c.args.op c.args.ty) us vs = ap (take n) block ∙ c.in_default.ensures.value in
+    let v : take n after ≡ pairwise (value_of c.args.op c.args.ty) us vs = block ∙ c.in_default.ensures.value in
     let z : zero_at c.args.op vs ≡ None = sym c.in_default.ensures.refused in
-    let P : List ℤ → Type 0 = λ zs. All (InRange (binary_result c.args.op c.args.ty c.args.ty)) (take n zs) in
+    let P : List ℤ → Type 0 = λ zs. All (InRange (binary_result c.args.op c.args.ty c.args.ty)) zs in
     record {
       inside = omega arith;
-      room = omega (arith, room, ap (λ (zs : List ℤ). length zs) c.deref.ensures.value, ap (λ (zs : List ℤ). length zs) block);
+      room = omega (arith, room, c.loop-done.invariant.room, length-append c.values_block-found.new.room (drop (3 * n) c.loop-done.room), length-drop (3 * n) c.loop-done.room);
       ty = ap (λ (p : TypedElements). p.ty) c.in_ok-extend.ensures.ok ∙ c.loop-done.invariant.ty;
-      count = omega (arith, size, ap (λ (p : TypedElements). length p.elems) c.in_ok-extend.ensures.ok, length-append c.loop-done.made.elems (take n c.deref.result.now));
+      count = omega (arith, size, ap (λ (p : TypedElements). length p.elems) c.in_ok-extend.ensures.ok, length-append c.loop-done.made.elems (take n after));
       made = made_more c.args.op c.args.ty (map f xs) (map f bs) _ _ _ us vs k n (omega (arith, l, m)) (omega (arith, m, ap size_of c.strided_dims.ensures.dims)) c.loop-done.invariant.made
           (block_map f xs k n) (block_map f bs k n) v z (subst P (sym block) c.in_default.ensures.in_range) (ap (λ (p : TypedElements). p.elems) c.in_ok-extend.ensures.ok);
     }
