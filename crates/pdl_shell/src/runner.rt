@@ -1,7 +1,7 @@
 //! Carries a run on over bytes of the script.
 use crate::mark::Mark;
 use crate::output::{flush, write_text};
-use crate::statement::{push_fault_line, run_mark};
+use crate::statement::{Rooms, push_fault_line, run_mark};
 use crate::stop::{Stop, Unrun};
 use pdl_buf::Steps;
 use pdl_io::Sink;
@@ -17,6 +17,7 @@ pub(crate) struct Runner {
     alloc: Global,
     cutter: StatementCutter,
     session: Session,
+    rooms: Rooms,
     // What the statement printed that was run last, or the line of its fault.
     text: Vec<u8>,
     keep_going: bool,
@@ -46,6 +47,7 @@ impl Runner {
             alloc,
             cutter: StatementCutter::new(alloc),
             session: Session::new(alloc),
+            rooms: Rooms::new(alloc),
             text: Vec::new(alloc),
             keep_going,
             faulted: false,
@@ -70,7 +72,15 @@ impl Runner {
         ensures text { OnOk result
             (self.new.text.items ≡ mark_text self.old.session.state (mark_of mark.now)) }
     {
-        match run_mark(self.alloc, &mut self.session, mark, &mut self.text, steps) {
+        let ran = run_mark(
+            self.alloc,
+            &mut self.session,
+            mark,
+            &mut self.rooms,
+            &mut self.text,
+            steps,
+        );
+        match ran {
             Ok(()) => Ok(()),
             Err(Unrun::Faulted(fault)) => {
                 push_fault_line(self.alloc, &mut self.text, mark.line(), fault)?;
@@ -105,6 +115,15 @@ impl Runner {
         write_text(sink, &self.text)
     }
 
+    // Keeps the room of a statement's text that was run for one that comes.
+    fn keep_room(&mut self, mark: Mark)
+        ensures { self.new ≡ self.old }
+    {
+        if let Mark::Statement(piece) = mark {
+            self.cutter.reuse(piece);
+        }
+    }
+
     // Feeds bytes to the cutter once, runs the piece that they complete, if
     // any, and answers how many bytes were taken.
     fn round<K: Sink, L: Ledger>(
@@ -133,7 +152,9 @@ impl Runner {
         match fed.cut {
             None => Ok(used),
             Some(piece) => {
-                self.run(&Mark::Statement(piece), sink, steps)?;
+                let mark = Mark::Statement(piece);
+                self.run(&mark, sink, steps)?;
+                self.keep_room(mark);
                 Ok(used)
             }
         }

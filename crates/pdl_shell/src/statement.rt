@@ -10,23 +10,40 @@ ghost use Rattle.pdl_shell.specs.Unrun.{IsFaultOf, IfFaulted};
 use crate::mark::Mark;
 use crate::stop::Unrun;
 use pdl_buf::Steps;
-use pdl_lex::{Piece, tokens};
+use pdl_lex::{Piece, Token, read_tokens};
+use pdl_lexemes::Lexeme;
 use pdl_machine::{Fault, fault_text, reads_law};
 use pdl_session::Session;
-use pdl_syntax::{Statement, parse};
+use pdl_syntax::{Statement, parse_within};
 use std::alloc::{AllocError, Global};
 use std::sync::ledger::Ledger;
 
+// Lists whose room is kept from one statement to the next. What stands in them is of no account.
+#[derive(Drop)]
+pub(crate) struct Rooms {
+    tokens: Vec<Token>,
+    lexemes: Vec<Lexeme>,
+}
+
+impl Rooms {
+    pub(crate) fn new(alloc: Global) -> Rooms {
+        Rooms {
+            tokens: Vec::new(alloc),
+            lexemes: Vec::new(alloc),
+        }
+    }
+}
+
 // The statement that a text is, or why it is none.
-fn read(alloc: Global, text: &[u8]) -> Result<Statement, Unrun>
+fn read(alloc: Global, text: &[u8], rooms: &mut Rooms) -> Result<Statement, Unrun>
     requires { length text.now ≤ statement_limit }
     ensures ok { IfOk result (λ s. reads text.now ≡ Ok (statement_of s)) }
     ensures well_made { IfOk result (λ s. IsWellMade (statement_of s)) }
     ensures fault { IfErr result (IsFaultOf (reads text.now)) }
 {
     reads_law();
-    let tokens = tokens(alloc, text)?;
-    let statement = parse(alloc, text, &tokens)?;
+    read_tokens(text, &mut rooms.tokens)?;
+    let statement = parse_within(alloc, text, &rooms.tokens, &mut rooms.lexemes)?;
     Ok(statement)
 }
 
@@ -35,6 +52,7 @@ fn run_text<L: Ledger>(
     alloc: Global,
     session: &mut Session,
     text: &[u8],
+    rooms: &mut Rooms,
     out: &mut Vec<u8>,
     steps: &mut Steps<L>,
 ) -> Result<(), Unrun>
@@ -46,7 +64,7 @@ fn run_text<L: Ledger>(
     ensures kept { IfErr result (λ e. IfFaulted e (session.new.state ≡ session.old.state)) }
     ensures unprinted { IfErr result (λ e. IfFaulted e (out.new.items ≡ [])) }
 {
-    let statement = read(alloc, text)?;
+    let statement = read(alloc, text, rooms)?;
     session.step(&statement, out, steps)?;
     Ok(())
 }
@@ -56,6 +74,7 @@ pub(crate) fn run_mark<L: Ledger>(
     alloc: Global,
     session: &mut Session,
     mark: &Mark,
+    rooms: &mut Rooms,
     out: &mut Vec<u8>,
     steps: &mut Steps<L>,
 ) -> Result<(), Unrun>
@@ -71,6 +90,7 @@ pub(crate) fn run_mark<L: Ledger>(
             alloc,
             session,
             cut.text.bytes(),
+            rooms,
             out,
             steps,
         ),

@@ -24,5 +24,5 @@ pub returns-clause-ok : goal.returns-clause-ok
 unfolding found_tokens
 returns-clause-ok c =
     let text = c.args.text.now in
-    let t : toks text ≡ Ok c.deref.result.now = c.in_ok-tokens.ensures.exact ∙ ap found_tokens (sym c.deref.ensures.value) in
+    let t : toks text ≡ Ok c.deref.result.now = c.in_ok-read_tokens.ensures.exact ∙ ap found_tokens (sym c.deref.ensures.value) in
     read_as c.reads_law.ensures.one text c.deref.result.now (Ok (statement_of c.in_ok-statement.statement)) t c.in_ok-statement.ensures.exact

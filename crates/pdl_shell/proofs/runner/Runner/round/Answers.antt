@@ -1,5 +1,7 @@
 use Rattle.std.proofs.Common.{List, ℕ, Some, None, drop, refl, subst, sym}
 use Rattle.pdl_lex.specs.Pieces.{State}
+use Rattle.pdl_shell.specs.declared.runner.Runner.{Runner}
+use Rattle.pdl_shell.specs.Course.{Carries}
 use Rattle.pdl_shell.proofs.Carrying.{Feeds, feeds, on_err, stops_before, stops_in_piece, carries_quiet, carries_piece}
 use Rattle.pdl_shell.proofs.runner.Runner.round.Goals as goal
 
@@ -33,5 +35,6 @@ returns-in_ok-run-in-Some-clause-carries g c =
     feeds _ _ _ _ bytes c.in_ok-fed.fed.used c.in-Some.is c.in_ok-fed.ensures.stream c.in_ok-fed.ensures.settled c.in_ok-fed.ensures.lines in
     let same : Feeds c.args.self.now.cutter c.run.new.self.cutter (Some c.in-Some.piece) bytes rest =
     subst (λ (s : State). Feeds c.args.self.now.cutter s (Some c.in-Some.piece) bytes rest) (sym c.in_ok-run-in-Some.ensures.cutter) fed in
-    carries_piece c.args.self.now c.run.new.self c.in-Some.piece bytes rest (g.K.Sink.taken c.args.sink.now) (g.K.Sink.taken c.run.new.sink)
-    same c.requires.running c.in_ok-run-in-Some.ensures.keep (rw c.in-Some.piece-is at c.in_ok-run-in-Some.ensures.step) (rw c.in-Some.piece-is at c.in_ok-run-in-Some.ensures.whole)
+    let carried = carries_piece c.args.self.now c.run.new.self c.in-Some.piece bytes rest (g.K.Sink.taken c.args.sink.now) (g.K.Sink.taken c.run.new.sink)
+    same c.requires.running c.in_ok-run-in-Some.ensures.keep (rw c.in-Some.piece-is at c.in_ok-run-in-Some.ensures.step) (rw c.in-Some.piece-is at c.in_ok-run-in-Some.ensures.whole) in
+    subst (λ (now : Runner). Carries bytes c.args.self.now (g.K.Sink.taken c.args.sink.now) rest now (g.K.Sink.taken c.run.new.sink)) (sym c.keep_room.ensures) carried
