@@ -5,7 +5,7 @@ use Rattle.pdl_world.specs.World.{World, ArrayDef, root, view}
 use Rattle.pdl_kernel.specs.Kernels.{Kernel}
 use Rattle.pdl_machine.specs.Names.{Named, Names}
 use Rattle.pdl_machine.specs.State.{State, held}
-use Rattle.pdl_machine.specs.Laws.{LettingGoUnseen}
+use Rattle.pdl_machine.specs.Laws.{LettingGoUnseen, SweepsByFewer}
 use Rattle.pdl_world.specs.Swept.{holds, parents, kept_onto, sweep}
 use Rattle.pdl_machine.specs.Tidy.{older, with_parent, renumber, renumbered, with_numbers, tidy}
 use Rattle.pdl_machine.proofs.Renamed.{by_test, IsApart, same_test, Renames, empty, more, same, StateAlike}
@@ -103,7 +103,7 @@ tidy_alike g s t h =
     all_same p q r = cc
 
 -- a sweep by fewer after a sweep by more is the sweep by fewer
-sweep_again : (w : World) (many few : List ℕ) → ((v : ℕ) → holds few v ≡ true → holds many v ≡ true) → sweep (sweep w many) few ≡ sweep w few
+pub sweep_again : SweepsByFewer
 sweep_again [] many few h = refl
 sweep_again ((k, d) ∷ w) many few h = by_keeps (λ m f i. sweep_again w m f i) (holds many k) (holds few k) refl refl
   where

@@ -26,6 +26,12 @@ abbrev pub NewArraysUnseen : Type 0
 NewArraysUnseen = (s : State) (a : Arrays) → AreGrown s.arrays a → IsSound a.world →
     AreLive s.arrays.world (held s) → tidy (with_arrays s a) ≡ tidy s
 
+-- a sweep by fewer after a sweep by more is the sweep by fewer
+abbrev pub SweepsByFewer : Type 0
+SweepsByFewer = (w : World) (many few : List ℕ) →
+    ((v : ℕ) → holds few v ≡ true → holds many v ≡ true) →
+    sweep (sweep w many) few ≡ sweep w few
+
 -- letting arrays go is unseen, where all that the state holds by itself is held still
 abbrev pub LettingGoUnseen : Type 0
 LettingGoUnseen = (s : State) (many : List ℕ) →

@@ -136,6 +136,16 @@ bound_is limit fault names new x v h = by_full (is_full_for limit names x) h
     by_full true g = cc
     by_full false g = cc
 
+-- one name more, where it is new
+pub length_after : {A : Type 0} (names : Named A) (x : List ℕ) (v : A) → length (with_name names x v) ≡ length names + (if is_none (found names x) then 1 else 0)
+length_after [] x v = refl
+length_after (n ∷ names) x v = by_name (pointwise nat_eq x n.0) (length_after names x v)
+  where
+    by_name : (same : Bool) → length (with_name names x v) ≡ length names + (if is_none (found names x) then 1 else 0)
+        → length (if same then (n.0, v) ∷ names else n ∷ with_name names x v) ≡ suc (length names) + (if is_none (if same then Some n.1 else found names x) then 1 else 0)
+    by_name true rest = omega arith
+    by_name false rest = omega arith
+
 -- a state is whole with other kernels
 pub whole_defined : (names : Named ℕ) (kernels after : Named Kernel) (e : Engine) → IsWhole (state_in (names_in names kernels) e) → IsWhole (state_in (names_in names after) e)
 whole_defined names kernels after e whole = record { sound = whole.sound; below = whole.below; live = whole.live }

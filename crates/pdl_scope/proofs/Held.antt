@@ -3,27 +3,26 @@ use Rattle.std.proofs.Common.{◌≡◌, ℕ, ℤ, zero, suc, ◌+◌, ◌-◌, 
 use Rattle.std.specs.Prelude.{◌==◌, if◌then◌else◌, IsSomeAnd, is_some, is_none, not, nat_lt, nat_eq, slice_get, All, Ok, Err}
 use Rattle.std.specs.Cmp.Lexicographic.{pointwise}
 use Rattle.std.specs.Option.{option_to_list}
-use Rattle.std.proofs.lemmas.List.{drop_all, drop_more, length-take, map-append, take_more, take_all}
+use Rattle.std.proofs.lemmas.List.{append-nil, drop_all, drop_more}
 use Rattle.std.proofs.lemmas.Bool.{cases_lt}
 use Rattle.std.proofs.lemmas.Bool.Decides.{nat_tests}
-use Rattle.pdl_world.specs.World.{World, ArrayDef, Look, root, view, look, assign}
+use Rattle.pdl_shape.specs.Places.{write}
+use Rattle.pdl_world.specs.World.{World, ArrayDef, Look, root, view, look, assign, assign_through, set_elements, root_elements}
 use Rattle.pdl_world.specs.Sound.{NumbersBelow, IsSound, IsAllowed, IsLive}
-use Rattle.pdl_world.specs.Swept.{holds, sweep, Has, IsReached, held_itself}
-use Rattle.pdl_world.specs.SweepLaws.{KeptWereReached, ReachedAreSeenAsBefore, NoNumberComes}
-use Rattle.pdl_world.specs.Laws.{LooksStay, NewIsLive, OlderStay}
-use Rattle.pdl_nodes.specs.Staying.{staying}
-use Rattle.pdl_engine.specs.State.{State as Engine, Joins, SameArrays, count_at, one_more_at, one_less_at, held_among, holds_left, IsReleased}
+use Rattle.pdl_world.specs.Swept.{holds, parents, kept_onto, sweep, held_itself}
+use Rattle.pdl_world.specs.SweepLaws.{ReachedAreSeenAsBefore, NoNumberComes}
+use Rattle.pdl_world.specs.Laws.{OlderStay}
+use Rattle.pdl_nodes.specs.HoldLaws.{OneMoreCounts, OneLessCounts, StayingCount, CountedAreHeld, HeldAreCounted, OthersDontCount}
+use Rattle.pdl_engine.specs.State.{State as Engine, Joins, SameArrays, AllHaveHolds, AreApart, count_at, one_more_at, one_less_at, held_among, holders, IsReleased}
 use Rattle.pdl_machine.specs.Names.{Named, Names, found, with_name, is_full_for, entered, names_limit}
 use Rattle.pdl_machine.specs.declared.fault.Fault.TheVariants.{TooManyNames}
 use Rattle.pdl_kernel.specs.Kernels.{Kernel}
-use Rattle.pdl_machine.specs.Laws.{LettingGoUnseen}
-use Rattle.pdl_machine.specs.State.{State, held, AreLive, IsWhole}
-use Rattle.pdl_machine.specs.Tidy.{tidy}
-use Rattle.pdl_scope.specs.Scope.{state_in, names_in, times, IsHeld}
-use Rattle.pdl_scope.proofs.Bindings.{live_bound, bound_is, whole_defined}
+use Rattle.pdl_machine.specs.Laws.{SweepsByFewer}
+use Rattle.pdl_machine.specs.State.{State, held, with_world, AreLive, IsWhole}
+use Rattle.pdl_scope.specs.Scope.{state_in, names_in, times, KeepsAll, IsHeld}
+use Rattle.pdl_scope.proofs.Bindings.{live_bound, bound_is, length_after, whole_defined}
 use Rattle.pdl_scope.proofs.Growing.{came, readied}
-use Rattle.pdl_scope.proofs.Printing.{take_entry}
-use Rattle.pdl_scope.specs.Holding.{HoldsMore, IsHeldForName, LetsGo}
+use Rattle.pdl_scope.specs.Holding.{IsHeldForName, LetsGo}
 
 by_test : {P : Type 0} (b : Bool) → (b ≡ true → P) → (b ≡ false → P) → P
 by_test true t f = t refl
@@ -38,10 +37,6 @@ pub numbers_count : (names : Named ℕ) → length (numbers names) ≡ length na
 numbers_count [] = refl
 numbers_count (n ∷ names) = ap suc (numbers_count names)
 
--- the numbers that have holds
-abbrev pub keys : List (ℕ × ℕ) → List ℕ
-keys hs = map (λ h. h.0) hs
-
 abbrev one_if : Bool → ℕ
 one_if b = if b then 1 else 0
 
@@ -55,108 +50,70 @@ times_few (x ∷ xs) v = by_test (x == v)
     (λ is. rw is (let rest = times_few xs v in omega arith))
     (λ other. rw other (let rest = times_few xs v in omega arith))
 
--- one hold more
-pub count_more : (hs : List (ℕ × ℕ)) (v u : ℕ) → holds (keys hs) v ≡ true → count_at (one_more_at hs v) u ≡ count_at hs u + one_if (v == u)
-count_more hs v u known = by_test (v == u)
-    (λ is. rw is (let P : ℕ → Type 0 = λ x. count_at (one_more_at hs v) x ≡ count_at hs x + 1 in subst P (eqb-true v u is) (here hs known)))
-    (λ other. rw other (let o = others hs other in omega arith))
+-- what stands in a list is held by it
+times_held : (vs : List ℕ) (v : ℕ) → 0 < times vs v → holds vs v ≡ true
+times_held [] v some = absurd (omega arith)
+times_held (u ∷ vs) v some = by_test (u == v) (λ is. rw is refl) (λ other. let s : 0 < times vs v = (let t = rw other at some in omega arith) in rw other (times_held vs v s))
+
+-- what is in a list is there at least once
+held_times : (vs : List ℕ) (v : ℕ) → holds vs v ≡ true → 0 < times vs v
+held_times [] v h = cc
+held_times (u ∷ vs) v h = by_test (u == v) (λ is. rw is (omega arith)) (λ other. rw other (let rest : 0 < times vs v = held_times vs v (rw other at h) in omega arith))
+
+-- two lists together hold what stands in one of them
+both_hold : (vs us : List ℕ) (v : ℕ) → 0 < times vs v + times us v → holds (vs ++ us) v ≡ true
+both_hold vs us v some = times_held (vs ++ us) v (let m = times_more vs us v in omega arith)
+
+held_by_both : (vs us : List ℕ) (v : ℕ) → holds (vs ++ us) v ≡ true → 0 < times vs v + times us v
+held_by_both vs us v h = let t = held_times (vs ++ us) v h in let m = times_more vs us v in omega arith
+
+-- what keeps all, and more, keeps all
+more_held : (d : ArrayDef) (many : List ℕ) (v : ℕ) → holds many v ≡ true → holds (parents d ++ many) v ≡ true
+more_held (root ty ds es) many v t = t
+more_held (view p u) many v t = by_test (p == v) (λ same. rw same refl) (λ other. rw other t)
+
+keeps_more : (w : World) (few many : List ℕ) → ((v : ℕ) → holds few v ≡ true → holds many v ≡ true) → KeepsAll w few → KeepsAll w many
+keeps_more [] few many h keeps = tt
+keeps_more ((k, d) ∷ w) few many h keeps = (h k keeps.0, keeps_more w (parents d ++ few) (parents d ++ many) (both d) keeps.1)
   where
-    here : (hs : List (ℕ × ℕ)) → holds (keys hs) v ≡ true → count_at (one_more_at hs v) v ≡ count_at hs v + 1
-    here [] known = cc
-    here ((k, n) ∷ hs) known = by_test (k == v)
-        (λ is. rw is refl)
-        (λ other. rw other (here hs (rw other at known)))
+    both : (d : ArrayDef) (v : ℕ) → holds (parents d ++ few) v ≡ true → holds (parents d ++ many) v ≡ true
+    both (root ty ds es) v t = h v t
+    both (view p u) v t = by_test (p == v) (λ same. rw same refl) (λ other. rw other (h v (rw other at t)))
 
-    others : (hs : List (ℕ × ℕ)) → (v == u) ≡ false → count_at (one_more_at hs v) u ≡ count_at hs u
-    others [] other = refl
-    others ((k, n) ∷ hs) other = by_test (k == u)
-        (λ is. let no : (k == v) ≡ false = by_test (k == v) (λ same. absurd (clash (sym (eqb-true k v same) ∙ eqb-true k u is))) (λ f. f) in rw (is, no) refl)
-        (λ past. rw past (others hs other))
-      where
-        clash : v ≡ u → ⊥
-        clash e = let t : (v == u) ≡ true = eq-eqb v u e in cc
-
-pub keys_more : (hs : List (ℕ × ℕ)) (v : ℕ) → keys (one_more_at hs v) ≡ keys hs
-keys_more [] v = refl
-keys_more ((k, n) ∷ hs) v = ap (λ ks. k ∷ ks) (keys_more hs v)
-
--- one hold less
-count_less : (hs : List (ℕ × ℕ)) (v u : ℕ) → count_at (one_less_at hs v) u ≡ count_at hs u - one_if (v == u)
-count_less [] v u = by_test (v == u) (λ is. rw is refl) (λ other. rw other refl)
-count_less ((k, n) ∷ hs) v u = by_test (k == u)
-    (λ is. let e : (k == v) ≡ (v == u) = turned (eqb-true k u is) in rw (is, e) (by_one (v == u)))
-    (λ past. rw past (count_less hs v u))
+-- a sweep leaves what the sweep keeps
+keeps_swept : (w : World) (many : List ℕ) → KeepsAll (sweep w many) many
+keeps_swept [] many = tt
+keeps_swept ((k, d) ∷ w) many = by_keeps (λ m. keeps_swept w m) (holds many k) refl
   where
-    by_one : (b : Bool) → (if b then n - 1 else n) ≡ n - one_if b
-    by_one true = refl
-    by_one false = omega arith
+    by_keeps : ((m : List ℕ) → KeepsAll (sweep w m) m) → (b : Bool) → holds many k ≡ b → KeepsAll (kept_onto b (k, d) (sweep w (if b then parents d ++ many else many))) many
+    by_keeps rest true is = (is, rest (parents d ++ many))
+    by_keeps rest false is = rest many
 
-    turned : k ≡ u → (k == v) ≡ (v == u)
-    turned e = by_test (k == v)
-        (λ same. same ∙ sym (eq-eqb v u (sym (eqb-true k v same) ∙ e)))
-        (λ other. other ∙ sym (by_test (v == u) (λ same. absurd (no other (e ∙ sym (eqb-true v u same)))) (λ f. f)))
-      where
-        no : (k == v) ≡ false → k ≡ v → ⊥
-        no f e = let t : (k == v) ≡ true = eq-eqb k v e in cc
-
-keys_less : (hs : List (ℕ × ℕ)) (v : ℕ) → keys (one_less_at hs v) ≡ keys hs
-keys_less [] v = refl
-keys_less ((k, n) ∷ hs) v = ap (λ ks. k ∷ ks) (keys_less hs v)
-
--- the holds of what stays
-count_stays : (t : ℕ → Bool) (hs : List (ℕ × ℕ)) (u : ℕ) → count_at (staying t hs) u ≡ (if t u then count_at hs u else 0)
-count_stays t [] u = by_test (t u) (λ is. rw is refl) (λ other. rw other refl)
-count_stays t ((k, n) ∷ hs) u = by_test (k == u)
-    (λ is. let P : ℕ → Type 0 = λ x. count_at (staying t ((k, n) ∷ hs)) x ≡ (if t x then count_at ((k, n) ∷ hs) x else 0) in
-    subst P (eqb-true k u is) (by_test (t k)
-    (λ keeps. let self : (k == k) ≡ true = eq-eqb k k refl in rw (keeps, self) refl)
-    (λ goes. rw goes (count_stays t hs k ∙ gone goes))))
-    (λ past. by_test (t k)
-    (λ keeps. rw (keeps, past) (count_stays t hs u))
-    (λ goes. rw (goes, past) (count_stays t hs u)))
+kept_all : (w : World) (many : List ℕ) → KeepsAll w many → sweep w many ≡ w
+kept_all [] many keeps = refl
+kept_all ((k, d) ∷ w) many keeps = by_keeps (kept_all w (parents d ++ many) keeps.1) (holds many k) keeps.0
   where
-    gone : t k ≡ false → (if t k then count_at hs k else 0) ≡ 0
-    gone goes = rw goes refl
+    by_keeps : sweep w (parents d ++ many) ≡ w → (b : Bool) → b ≡ true → kept_onto b (k, d) (sweep w (if b then parents d ++ many else many)) ≡ (k, d) ∷ w
+    by_keeps rest true is = ap (λ u. (k, d) ∷ u) rest
+    by_keeps rest false is = cc
 
-keys_stay : (t : ℕ → Bool) (hs : List (ℕ × ℕ)) (u : ℕ) → holds (keys (staying t hs)) u ≡ (if t u then holds (keys hs) u else false)
-keys_stay t [] u = by_test (t u) (λ is. rw is refl) (λ other. rw other refl)
-keys_stay t ((k, n) ∷ hs) u = by_test (k == u)
-    (λ is. let P : ℕ → Type 0 = λ x. holds (keys (staying t ((k, n) ∷ hs))) x ≡ (if t x then holds (keys ((k, n) ∷ hs)) x else false) in
-    subst P (eqb-true k u is) (by_test (t k)
-    (λ keeps. let self : (k == k) ≡ true = eq-eqb k k refl in rw (keeps, self) refl)
-    (λ goes. rw goes (keys_stay t hs k ∙ gone goes))))
-    (λ past. by_test (t k)
-    (λ keeps. rw (keeps, past) (keys_stay t hs u))
-    (λ goes. rw (goes, past) (keys_stay t hs u)))
+-- elements are no matter of a sweep
+keeps_assigned : (w : World) (v : ℕ) (vs : List ℤ) (many : List ℕ) → KeepsAll w many → KeepsAll (assign w v vs) many
+keeps_assigned w v vs many keeps = by_look (look w v)
   where
-    gone : t k ≡ false → (if t k then holds (keys hs) k else false) ≡ false
-    gone goes = rw goes refl
+    set : (w : World) (r : ℕ) (es : List ℤ) (many : List ℕ) → KeepsAll w many → KeepsAll (set_elements w r es) many
+    set [] r es many k = tt
+    set ((n, root ty ds old) ∷ w) r es many k = (k.0, set w r es many k.1)
+    set ((n, view p t) ∷ w) r es many k = (k.0, set w r es (p ∷ many) k.1)
 
--- what is counted is held
-counted_held : (hs : List (ℕ × ℕ)) (u : ℕ) → 0 < count_at hs u → holds (held_among hs) u ≡ true
-counted_held [] u some = absurd (omega arith)
-counted_held ((k, n) ∷ hs) u some = by_test (k == u)
-    (λ is. let s : 0 < n = rw is at some in
-    by_test (nat_lt 0 n)
-    (λ pos. rw (pos, is) refl)
-    (λ zero. absurd (none zero s)))
-    (λ past. let s : 0 < count_at hs u = rw past at some in
-    by_test (nat_lt 0 n)
-    (λ pos. rw (pos, past) (counted_held hs u s))
-    (λ zero. rw zero (counted_held hs u s)))
-  where
-    none : nat_lt 0 n ≡ false → 0 < n → ⊥
-    none f s = grind (arith, nat_tests)
+    by_look : (o : Option Look) → KeepsAll (assign_through w o vs) many
+    by_look None = keeps
+    by_look (Some l) = set w l.root (write l.places vs (root_elements w l.root)) many keeps
 
--- what has no holds isn't counted
-uncounted : (hs : List (ℕ × ℕ)) (u : ℕ) → holds (keys hs) u ≡ false → count_at hs u ≡ 0
-uncounted [] u h = refl
-uncounted ((k, n) ∷ hs) u h = by_test (k == u)
-    (λ is. absurd (no is))
-    (λ past. rw past (uncounted hs u (rw past at h)))
-  where
-    no : (k == u) ≡ true → ⊥
-    no is = let t : holds (keys ((k, n) ∷ hs)) u ≡ true = rw is refl in cc
+-- the same arrays have holds after one hold less
+holders_less : (hs : List (ℕ × ℕ)) (v : ℕ) → holders (one_less_at hs v) ≡ holders hs
+holders_less [] v = refl
+holders_less ((k, n) ∷ hs) v = ap (λ ks. k ∷ ks) (holders_less hs v)
 
 -- looks
 pub some_live : (w : World) (v : ℕ) → IsLive w v → is_some (look w v) ≡ true
@@ -177,18 +134,6 @@ look_past : (k : ℕ) (d : ArrayDef) (w : World) (v : ℕ) → (k == v) ≡ fals
 look_past k (root ty ds es) w v other = rw other refl
 look_past k (view p t) w v other = rw other refl
 
--- a number that is looked at is in the world
-record Stands (w : World) (v : ℕ) : Type 0 where
-  def : ArrayDef
-  has : Has w v def
-
-stands : (w : World) (v : ℕ) → is_some (look w v) ≡ true → Stands w v
-stands [] v some = cc
-stands ((k, d) ∷ w) v some = by_test (k == v)
-    (λ is. record { def = d; has = inl (eqb-true k v is, refl) })
-    (λ other. let S : Option Look → Type 0 = λ o. is_some o ≡ true in
-    let s : Stands w v = stands w v (subst S (look_past k d w v other) some) in record { def = s.def; has = inr s.has })
-
 -- no array is there under a number that all are below
 unlooked : (w : World) (n v : ℕ) → NumbersBelow n w → n ≤ v → look w v ≡ None
 unlooked [] n v b past = refl
@@ -203,50 +148,46 @@ all_live w (v ∷ vs) h =
     let self : (v == v) ≡ true = eq-eqb v v refl in
     (h v (rw self (omega arith)), all_live w vs (λ u some. h u (by_test (v == u) (λ is. rw is (omega arith)) (λ other. rw other (omega arith)))))
 
--- what is in a list is there at least once
-held_times : (vs : List ℕ) (v : ℕ) → holds vs v ≡ true → 0 < times vs v
-held_times [] v h = cc
-held_times (u ∷ vs) v h = by_test (u == v) (λ is. rw is (omega arith)) (λ other. rw other (let rest : 0 < times vs v = held_times vs v (rw other at h) in omega arith))
-
 -- what is counted has holds
-counted_known : (hs : List (ℕ × ℕ)) (v : ℕ) → 0 < count_at hs v → holds (keys hs) v ≡ true
-counted_known hs v some = by_test (holds (keys hs) v) (λ t. t) (λ f. absurd (let none = uncounted hs v f in omega arith))
+counted_known : OthersDontCount → (hs : List (ℕ × ℕ)) (v : ℕ) → 0 < count_at hs v → holds (holders hs) v ≡ true
+counted_known others hs v some = by_test (holds (holders hs) v) (λ t. t) (λ f. absurd (let none = others hs v f in omega arith))
 
 -- a new array is noted
-pub held_new : OlderStay → NewIsLive → (names : Names) (e t : Engine) (d : ArrayDef) (id : ℕ) (leaving left : List ℕ) → IsHeld (state_in names e) e.holds leaving → Joins e id d t → IsSound t.world → left ≡ leaving ++ id ∷ []
+pub held_new : OlderStay → OthersDontCount → (names : Names) (e t : Engine) (d : ArrayDef) (id : ℕ) (leaving left : List ℕ) → AllHaveHolds e → IsHeld (state_in names e) e.holds leaving → Joins e id d t → IsSound t.world → left ≡ leaving ++ id ∷ []
     → IsHeld (state_in names t) t.holds left
-held_new older new_live names e t d id leaving left h j sound noted = record {
+held_new older others names e t d id leaving left have h j sound noted = record {
   whole = (came older names e t d id h.whole j sound).whole;
   few = h.few;
-  keys = λ v. (let K : List (ℕ × ℕ) → Type 0 = λ hs. holds (keys hs) v ≡ is_some (look t.world v) in
-      let W : World → Type 0 = λ w. holds (keys ((id, 1) ∷ e.holds)) v ≡ is_some (look w v) in
-      subst K (sym j.holds) (subst W (sym j.world) (key v)));
   counts = λ v. (let C : List (ℕ × ℕ) → Type 0 = λ hs. count_at hs v ≡ times (numbers names.arrays) v + times left v in
       let L : List ℕ → Type 0 = λ vs. count_at ((id, 1) ∷ e.holds) v ≡ times (numbers names.arrays) v + times vs v in
       subst C (sym j.holds) (subst L (sym noted) (count v)));
+  reached = (let W : World → Type 0 = λ w. KeepsAll w (numbers names.arrays ++ left) in
+      let L : List ℕ → Type 0 = λ vs. KeepsAll ((id, d) ∷ e.world) (numbers names.arrays ++ vs) in
+      subst W (sym j.world) (subst L (sym noted) kept));
 }
   where
-    joined : IsSound ((id, d) ∷ e.world)
-    joined = let S : World → Type 0 = IsSound in subst S j.world sound
+    after : List ℕ
+    after = leaving ++ id ∷ []
 
-    key : (v : ℕ) → holds (keys ((id, 1) ∷ e.holds)) v ≡ is_some (look ((id, d) ∷ e.world) v)
-    key v = by_test (id == v)
-        (λ is. let L : ℕ → Type 0 = λ x. IsLive ((id, d) ∷ e.world) x in
-        let there : is_some (look ((id, d) ∷ e.world) v) ≡ true = some_live ((id, d) ∷ e.world) v (subst L (eqb-true id v is) (new_live e.world id d joined.1)) in
-        first is ∙ sym there)
-        (λ other. later other ∙ h.keys v ∙ ap is_some (sym (look_past id d e.world v other)))
-      where
-        first : (id == v) ≡ true → holds (keys ((id, 1) ∷ e.holds)) v ≡ true
-        first is = rw is refl
+    first_held : holds (numbers names.arrays ++ after) id ≡ true
+    first_held =
+        let self : (id == id) ≡ true = eq-eqb id id refl in
+        let one : times (id ∷ []) id ≡ 1 = rw self refl in
+        both_hold (numbers names.arrays) after id (let m = times_more leaving (id ∷ []) id in omega arith)
 
-        later : (id == v) ≡ false → holds (keys ((id, 1) ∷ e.holds)) v ≡ holds (keys e.holds) v
-        later other = rw other refl
+    still_held : (v : ℕ) → holds (numbers names.arrays ++ leaving) v ≡ true → holds (parents d ++ (numbers names.arrays ++ after)) v ≡ true
+    still_held v t =
+        let some = held_by_both (numbers names.arrays) leaving v t in
+        more_held d (numbers names.arrays ++ after) v (both_hold (numbers names.arrays) after v (let m = times_more leaving (id ∷ []) v in omega arith))
+
+    kept : KeepsAll ((id, d) ∷ e.world) (numbers names.arrays ++ after)
+    kept = (first_held, keeps_more e.world (numbers names.arrays ++ leaving) (parents d ++ (numbers names.arrays ++ after)) still_held h.reached)
 
     count : (v : ℕ) → count_at ((id, 1) ∷ e.holds) v ≡ times (numbers names.arrays) v + times (leaving ++ id ∷ []) v
     count v = by_test (id == v)
         (λ is. let same : id ≡ v = eqb-true id v is in
         let none : look e.world v ≡ None = unlooked e.world e.next v h.whole.below (let number = j.number in omega arith) in
-        let zero : count_at e.holds v ≡ 0 = uncounted e.holds v (h.keys v ∙ ap is_some none) in
+        let zero : count_at e.holds v ≡ 0 = others e.holds v (have v ∙ ap is_some none) in
         let more : times (leaving ++ id ∷ []) v ≡ times leaving v + 1 = times_more leaving (id ∷ []) v ∙ one is in
         let before = h.counts v in
         rw is (omega arith))
@@ -271,21 +212,34 @@ first_counted s hs v vs h =
 abbrev state_of : Names → World → ℕ → State
 state_of names w n = record { names = names; arrays = record { world = w; next = n } }
 
+-- the laws of holds
+pub record Laws : Type 0 where
+  pub reached : ReachedAreSeenAsBefore
+  pub numbered : NoNumberComes
+  pub again : SweepsByFewer
+  pub less : OneLessCounts
+  pub staying : StayingCount
+  pub held : CountedAreHeld
+  pub counted : HeldAreCounted
+  pub others : OthersDontCount
+
 -- an array that leaves is let go
-pub let_go_one : KeptWereReached → ReachedAreSeenAsBefore → NoNumberComes → LettingGoUnseen → (names : Names) (e t : Engine) (v : ℕ) (vs : List ℕ) → IsHeld (state_in names e) e.holds (v ∷ vs) → IsReleased e v t → IsSound t.world
+pub let_go_one : Laws → (names : Names) (e t : Engine) (v : ℕ) (vs : List ℕ) → AllHaveHolds e → AreApart (holders e.holds) → IsHeld (state_in names e) e.holds (v ∷ vs) → IsReleased e v t → IsSound t.world
     → LetsGo names e t vs
-let_go_one kept reached numbered gone names e t v vs h r sound = record {
+let_go_one laws names e t v vs have apart h r sound = record {
   is_held = record {
     whole = record {
       sound = sound;
-      below = subst (λ n. NumbersBelow n t.world) (sym r.next) (let B : World → Type 0 = NumbersBelow e.next in subst B (sym r.world) (numbered e.world e.next many h.whole.below));
-      live = all_live t.world (numbers names.arrays) (λ u some. live_some t.world u (sym (key u) ∙ counted_known t.holds u (let c = count u in omega arith)));
+      below = subst (λ n. NumbersBelow n t.world) (sym r.next) (let B : World → Type 0 = NumbersBelow e.next in subst B (sym r.world) (laws.numbered e.world e.next many h.whole.below));
+      live = all_live t.world (numbers names.arrays) (λ u some. live_some t.world u (stays u (let c = counted u in omega arith)));
     };
     few = h.few;
-    keys = key;
     counts = count;
+    reached = (let W : World → Type 0 = λ w. KeepsAll w (numbers names.arrays ++ vs) in
+        subst W (sym r.world) (keeps_more (sweep e.world many) many (numbers names.arrays ++ vs) left_held (keeps_swept e.world many)));
   };
-  unseen = ap tidy (ap (λ w. state_of names w t.next) r.world ∙ ap (λ n. state_of names (sweep e.world many) n) r.next) ∙ gone (state_in names e) many covers;
+  next = r.next;
+  swept = ap (λ w. sweep w (numbers names.arrays)) r.world ∙ laws.again e.world many (numbers names.arrays) covers;
 }
   where
     less : List (ℕ × ℕ)
@@ -295,30 +249,22 @@ let_go_one kept reached numbered gone names e t v vs h r sound = record {
     many = held_among less
 
     counted : (u : ℕ) → count_at less u ≡ times (numbers names.arrays) u + times vs u
-    counted u = let c = count_less e.holds v u in let b = h.counts u in omega arith
+    counted u = let c = laws.less e.holds v u in let b = h.counts u in omega arith
 
-    swept_look : (u : ℕ) → IsReached e.world many u → look t.world u ≡ look e.world u
-    swept_look u is = ap (λ w. look w u) r.world ∙ (reached e.world many u h.whole.sound is).look_is
+    left_held : (u : ℕ) → holds many u ≡ true → holds (numbers names.arrays ++ vs) u ≡ true
+    left_held u is =
+        let A : List ℕ → Type 0 = AreApart in
+        let some = laws.counted less u (subst A (sym (holders_less e.holds v)) apart) is in
+        both_hold (numbers names.arrays) vs u (let c = counted u in omega arith)
 
     stays : (u : ℕ) → 0 < count_at less u → is_some (look t.world u) ≡ true
     stays u some =
-        let c : 0 < count_at e.holds u = (let l = count_less e.holds v u in omega arith) in
-        ap is_some (swept_look u (held_itself u (counted_held less u some))) ∙ sym (h.keys u) ∙ counted_known e.holds u c
-
-    was : (u : ℕ) → is_some (look t.world u) ≡ true → holds (keys less) u ≡ true
-    was u some =
-        let there : Stands t.world u = stands t.world u some in
-        let H : World → Type 0 = λ w. Has w u there.def in
-        let is : IsReached e.world many u = (kept e.world many u there.def (subst H r.world there.has)).reached in
-        ap (λ ks. holds ks u) (keys_less e.holds v) ∙ h.keys u ∙ ap is_some (sym (swept_look u is)) ∙ some
-
-    key : (u : ℕ) → holds (keys t.holds) u ≡ is_some (look t.world u)
-    key u = ap (λ hs. holds (keys hs) u) r.holds ∙ keys_stay (λ k. is_some (look t.world k)) less u ∙ by_test (is_some (look t.world u))
-        (λ is. rw is (was u is))
-        (λ goes. rw goes refl)
+        let c : 0 < count_at e.holds u = (let l = laws.less e.holds v u in omega arith) in
+        let seen : look t.world u ≡ look e.world u = ap (λ w. look w u) r.world ∙ (laws.reached e.world many u h.whole.sound (held_itself u (laws.held less u some))).look_is in
+        ap is_some seen ∙ sym (have u) ∙ counted_known laws.others e.holds u c
 
     count : (u : ℕ) → count_at t.holds u ≡ times (numbers names.arrays) u + times vs u
-    count u = ap (λ hs. count_at hs u) r.holds ∙ count_stays (λ k. is_some (look t.world k)) less u ∙ left ∙ counted u
+    count u = ap (λ hs. count_at hs u) r.holds ∙ laws.staying (λ k. is_some (look t.world k)) less u ∙ left ∙ counted u
       where
         clash : is_some (look t.world u) ≡ true → is_some (look t.world u) ≡ false → ⊥
         clash a b = cc
@@ -331,8 +277,8 @@ let_go_one kept reached numbered gone names e t v vs h r sound = record {
               | inr none ↦ omega arith
             ]))
 
-    covers : (u : ℕ) → holds (held (state_in names e)) u ≡ true → holds many u ≡ true
-    covers u is = counted_held less u (let n = held_times (numbers names.arrays) u is in let c = counted u in omega arith)
+    covers : (u : ℕ) → holds (numbers names.arrays) u ≡ true → holds many u ≡ true
+    covers u is = laws.held less u (let n = held_times (numbers names.arrays) u is in let c = counted u in omega arith)
 
 -- a name's array before is given up where the name gets another
 names_times : (names : Named ℕ) (x : List ℕ) (v u : ℕ) → times (numbers (with_name names x v)) u + times (option_to_list (found names x)) u ≡ times (numbers names) u + one_if (v == u)
@@ -345,31 +291,38 @@ names_times (n ∷ names) x v u = by_name (pointwise nat_eq x n.0) (names_times 
     by_name false rest = omega arith
 
 -- a name is bound to an array, which is held for it
-pub held_bound : (names : Named ℕ) (kernels : Named Kernel) (e t : Engine) (x : List ℕ) (v : ℕ) (leaving left : List ℕ) → IsHeld (state_in (names_in names kernels) e) e.holds leaving → IsLive e.world v
+pub held_bound : OneMoreCounts → (names : Named ℕ) (kernels : Named Kernel) (e t : Engine) (x : List ℕ) (v : ℕ) (leaving left : List ℕ) → AllHaveHolds e → IsHeld (state_in (names_in names kernels) e) e.holds leaving → IsLive e.world v
     → length (with_name names x v) ≤ names_limit → IsHeldForName e leaving v t left → IsHeld (state_in (names_in (with_name names x v) kernels) t) t.holds (left ++ option_to_list (found names x))
-held_bound names kernels e t x v leaving left h live few is = by_way is
+held_bound one_more names kernels e t x v leaving left have h live few is = by_way is
   where
     gives_up : List ℕ
     gives_up = option_to_list (found names x)
 
-    held_now : (hs : List (ℕ × ℕ)) → ((u : ℕ) → holds (keys hs) u ≡ holds (keys e.holds) u) → ((u : ℕ) → count_at hs u + times leaving u ≡ count_at e.holds u + times left u + one_if (v == u))
-        → IsHeld (state_in (names_in (with_name names x v) kernels) e) hs (left ++ gives_up)
-    held_now hs same more = record {
+    after : List ℕ
+    after = left ++ gives_up
+
+    held_now : (hs : List (ℕ × ℕ)) → ((u : ℕ) → count_at e.holds u ≤ count_at hs u)
+        → ((u : ℕ) → count_at hs u + times leaving u ≡ count_at e.holds u + times left u + one_if (v == u)) → IsHeld (state_in (names_in (with_name names x v) kernels) e) hs (left ++ gives_up)
+    held_now hs least more = record {
       whole = record { sound = h.whole.sound; below = h.whole.below; live = live_bound e.world names x v h.whole.live live };
       few = few;
-      keys = λ u. (same u ∙ h.keys u);
-      counts = λ u. (let c = more u in let b = h.counts u in let n = names_times names x v u in let l = times_more left gives_up u in omega arith);
+      counts = counts;
+      reached = keeps_more e.world (numbers names ++ leaving) (numbers (with_name names x v) ++ after)
+          (λ u t. both_hold (numbers (with_name names x v)) after u (let some = held_by_both (numbers names) leaving u t in let b = h.counts u in let c = counts u in let l = least u in omega arith)) h.reached;
     }
+      where
+        counts : (u : ℕ) → count_at hs u ≡ times (numbers (with_name names x v)) u + times after u
+        counts u = let c = more u in let b = h.counts u in let n = names_times names x v u in let l = times_more left gives_up u in omega arith
 
     by_way : IsHeldForName e leaving v t left → IsHeld (state_in (names_in (with_name names x v) kernels) t) t.holds (left ++ gives_up)
     by_way (inl handed) =
         let E : Engine → Type 0 = λ y. IsHeld (state_in (names_in (with_name names x v) kernels) y) y.holds (left ++ gives_up) in
         let last : (u : ℕ) → times leaving u ≡ times left u + times (v ∷ []) u = λ u. ap (λ us. times us u) handed.1 ∙ times_more left (v ∷ []) u in
-        subst E (sym handed.0) (held_now e.holds (λ u. refl) (λ u. (let l = last u in omega arith)))
+        subst E (sym handed.0) (held_now e.holds (λ u. omega arith) (λ u. (let l = last u in omega arith)))
     by_way (inr more) =
         let E : Engine → Type 0 = λ y. IsHeld (state_in (names_in (with_name names x v) kernels) y) y.holds (left ++ gives_up) in
-        let known : holds (keys e.holds) v ≡ true = h.keys v ∙ some_live e.world v live in
-        subst E (sym more.0) (held_now (one_more_at e.holds v) (λ u. ap (λ ks. holds ks u) (keys_more e.holds v)) (λ u. (let c = count_more e.holds v u known in let l = ap (λ us. times us u) more.1 in omega arith)))
+        let known : holds (holders e.holds) v ≡ true = have v ∙ some_live e.world v live in
+        subst E (sym more.0) (held_now (one_more_at e.holds v) (λ u. (let c = one_more e.holds v u known in omega arith)) (λ u. (let c = one_more e.holds v u known in let l = ap (λ us. times us u) more.1 in omega arith)))
 
 -- there is room for one hold more
 pub room_for : (names : Named ℕ) (kernels : Named Kernel) (e : Engine) (leaving : List ℕ) (v : ℕ) → IsHeld (state_in (names_in names kernels) e) e.holds leaving → count_at e.holds v ≤ names_limit + length leaving
@@ -381,23 +334,9 @@ room_for names kernels e leaving v h =
     let f : length names ≤ names_limit = h.few in
     omega arith
 
--- other names take the place of the names
-pub held_renamed : (names after : Named ℕ) (kernels : Named Kernel) (e t : Engine) (leaving : List ℕ) → IsHeld (state_in (names_in names kernels) e) e.holds leaving → AreLive e.world (numbers after)
-    → length after ≤ names_limit → HoldsMore e (numbers after) t → IsHeld (state_in (names_in after kernels) t) t.holds (leaving ++ numbers names)
-held_renamed names after kernels e t leaving h live few more = record {
-  whole = record {
-    sound = (let S : World → Type 0 = IsSound in subst S (sym more.world) h.whole.sound);
-    below = subst (λ n. NumbersBelow n t.world) (sym more.next) (let B : World → Type 0 = NumbersBelow e.next in subst B (sym more.world) h.whole.below);
-    live = (let L : World → Type 0 = λ w. AreLive w (numbers after) in subst L (sym more.world) live);
-  };
-  few = few;
-  keys = λ u. (ap (λ ks. holds ks u) more.keys ∙ h.keys u ∙ ap (λ w. is_some (look w u)) (sym more.world));
-  counts = λ u. (let c = more.counts u in let b = h.counts u in let l = times_more leaving (numbers names) u in omega arith);
-}
-
 -- nothing was let go yet
 pub lets_go_refl : (names : Names) (e : Engine) (vs : List ℕ) → IsHeld (state_in names e) e.holds vs → LetsGo names e e (drop 0 vs)
-lets_go_refl names e vs h = record { is_held = h; unseen = refl }
+lets_go_refl names e vs h = record { is_held = h; next = refl; swept = refl }
 
 -- the next one is held
 pub next_counted : (old e : Engine) (vs : List ℕ) (i : ℕ) (names : Names) → i < length vs → LetsGo names old e (drop i vs) → 0 < count_at e.holds (get_or vs i 0)
@@ -406,54 +345,23 @@ next_counted old e vs i names lt l =
     first_counted (state_in names e) e.holds (get_or vs i 0) (drop (i + 1) vs) (subst P (drop_more vs i 0 lt) l.is_held)
 
 -- and is let go
-pub lets_go_more : KeptWereReached → ReachedAreSeenAsBefore → NoNumberComes → LettingGoUnseen → (names : Names) (old e t : Engine) (vs : List ℕ) (i : ℕ) → i < length vs → LetsGo names old e (drop i vs)
-    → IsReleased e (get_or vs i 0) t → IsSound t.world → LetsGo names old t (drop (i + 1) vs)
-lets_go_more kept reached numbered gone names old e t vs i lt l r sound =
+pub lets_go_more : Laws → (names : Names) (old e t : Engine) (vs : List ℕ) (i : ℕ) → i < length vs → AllHaveHolds e → AreApart (holders e.holds) → LetsGo names old e (drop i vs) → IsReleased e (get_or vs i 0) t → IsSound t.world
+    → LetsGo names old t (drop (i + 1) vs)
+lets_go_more laws names old e t vs i lt have apart l r sound =
     let P : List ℕ → Type 0 = λ us. IsHeld (state_in names e) e.holds us in
-    let one : LetsGo names e t (drop (i + 1) vs) = let_go_one kept reached numbered gone names e t (get_or vs i 0) (drop (i + 1) vs) (subst P (drop_more vs i 0 lt) l.is_held) r sound in
-    record { is_held = one.is_held; unseen = one.unseen ∙ l.unseen }
+    let one : LetsGo names e t (drop (i + 1) vs) = let_go_one laws names e t (get_or vs i 0) (drop (i + 1) vs) have apart (subst P (drop_more vs i 0 lt) l.is_held) r sound in
+    record { is_held = one.is_held; next = one.next ∙ l.next; swept = one.swept ∙ l.swept }
 
 pub all_let_go : (names : Names) (old e : Engine) (vs : List ℕ) (i : ℕ) → length vs ≤ i → LetsGo names old e (drop i vs) → LetsGo names old e []
 all_let_go names old e vs i past l = let P : List ℕ → Type 0 = λ us. LetsGo names old e us in subst P (drop_all i vs past) l
 
--- nothing is held more yet
-pub holds_more_refl : (e : Engine) (vs : List ℕ) → HoldsMore e (take 0 vs) e
-holds_more_refl e vs = record { world = refl; next = refl; keys = refl; counts = λ v. omega arith }
-
--- one more
-pub holds_more : (old e t : Engine) (vs : List ℕ) (i : ℕ) → i < length vs → HoldsMore old (take i vs) e → holds (keys old.holds) (get_or vs i 0) ≡ true → t ≡ record e { holds = one_more_at e.holds (get_or vs i 0) }
-    → HoldsMore old (take (i + 1) vs) t
-holds_more old e t vs i lt h known is =
-    let v = get_or vs i 0 in
-    let hs = one_more_at e.holds v in
-    let P : Engine → Type 0 = λ x. HoldsMore old (take (i + 1) vs) x in
-    subst P (sym is) (record {
-      world = h.world;
-      next = h.next;
-      keys = keys_more e.holds v ∙ h.keys;
-      counts = λ u. (let c = count_more e.holds v u (ap (λ ks. holds ks v) h.keys ∙ known) in
-          let b = h.counts u in
-          let m : times (take (i + 1) vs) u ≡ times (take i vs ++ v ∷ []) u = ap (λ us. times us u) (take_more vs i 0 lt) in
-          let n = times_more (take i vs) (v ∷ []) u in
-          omega arith);
-    })
-
--- all
-pub holds_all : (old e : Engine) (vs : List ℕ) (i : ℕ) → length vs ≤ i → HoldsMore old (take i vs) e → HoldsMore old vs e
-holds_all old e vs i past h = let P : List ℕ → Type 0 = λ us. HoldsMore old us e in subst P (take_all i vs past) h
-
--- the next one can be held
-pub live_next : (old e : Engine) (vs : List ℕ) (i : ℕ) → i < length vs → HoldsMore old (take i vs) e → All (IsLive old.world) vs → IsLive e.world (get_or vs i 0)
-live_next old e vs i lt h live = let W : World → Type 0 = λ w. IsLive w (get_or vs i 0) in subst W (sym h.world) (live i 0 lt)
-
-pub room_more : (old e : Engine) (vs : List ℕ) (i : ℕ) → i < length vs → HoldsMore old (take i vs) e → ((v : ℕ) → count_at old.holds v + length vs < 2 ^ 63) → count_at e.holds (get_or vs i 0) < 2 ^ 63
-room_more old e vs i lt h room =
-    let v = get_or vs i 0 in
-    let c = h.counts v in
-    let r : count_at old.holds v + length vs < 2 ^ 63 = room v in
-    let f = times_few (take i vs) v in
-    let t : length (take i vs) ≡ min i (length vs) = length-take i vs in
-    omega arith
+-- and nothing is left but what names reach
+pub all_gone : (names : Names) (old new : Engine) → LetsGo names old new [] → state_in names new ≡ with_world (state_in names old) (sweep old.world (held (state_in names old)))
+all_gone names old new l =
+    let vs : List ℕ = numbers names.arrays in
+    let K : List ℕ → Type 0 = KeepsAll new.world in
+    let w : new.world ≡ sweep old.world vs = sym (kept_all new.world vs (subst K (append-nil vs) l.is_held.reached)) ∙ l.swept in
+    ap (λ x. state_of names x new.next) w ∙ ap (λ n. state_of names (sweep old.world vs) n) l.next
 
 -- so many names are bound at most
 pub few_bound : (names after : Named ℕ) (x : List ℕ) (v : ℕ) → entered names_limit TooManyNames names x v ≡ Ok after → length names ≤ names_limit → length after ≤ names_limit
@@ -466,18 +374,9 @@ few_bound names after x v h few =
     refused : is_full_for names_limit names x ≡ true → ⊥
     refused full = let e : Err TooManyNames ≡ Ok after = rw full at h in cc
 
-    length_with : (names : Named ℕ) → length (with_name names x v) ≤ length names + one_if (is_none (found names x))
-    length_with [] = omega arith
-    length_with (n ∷ names) = by_name (pointwise nat_eq x n.0) (length_with names)
-      where
-        by_name : (same : Bool) → length (with_name names x v) ≤ length names + one_if (is_none (found names x))
-            → length (if same then (n.0, v) ∷ names else n ∷ with_name names x v) ≤ suc (length names) + one_if (is_none (if same then Some n.1 else found names x))
-        by_name true rest = omega arith
-        by_name false rest = omega arith
-
     fits : (new : Bool) → is_none (found names x) ≡ new → is_full_for names_limit names x ≡ false → length (with_name names x v) ≤ names_limit
     fits true is free =
-        let l : length (with_name names x v) ≤ length names + 1 = rw is at (length_with names) in
+        let l : length (with_name names x v) ≡ length names + 1 = length_after names x v ∙ ap (λ b. length names + one_if b) is in
         let t : not (nat_lt (length names) names_limit) ≡ false = rw is at free in
         let s : nat_lt (length names) names_limit ≡ true = by_test (nat_lt (length names) names_limit) (λ a. a) (λ b. absurd (clash b t)) in
         let u : length names < names_limit = grind (arith, nat_tests) in
@@ -485,24 +384,7 @@ few_bound names after x v h few =
       where
         clash : nat_lt (length names) names_limit ≡ false → not (nat_lt (length names) names_limit) ≡ false → ⊥
         clash b t = let r : not (nat_lt (length names) names_limit) ≡ true = rw b refl in cc
-    fits false is free = let l : length (with_name names x v) ≤ length names + 0 = rw is at (length_with names) in omega arith
-
--- the arrays of more names
-pub numbers_more : (names : Named ℕ) (i : ℕ) (x : List ℕ) (v : ℕ) → slice_get names i ≡ Some (x, v) → numbers (take (suc i) names) ≡ numbers (take i names) ++ v ∷ []
-numbers_more names i x v h = ap numbers (take_entry names i (x, v) h) ∙ map-append (λ n. n.1) (take i names) ((x, v) ∷ [])
-
-pub numbers_all : (names : Named ℕ) (i : ℕ) → length names ≤ i → numbers (take i names) ≡ numbers names
-numbers_all names i past = ap numbers (take_all i names past)
-
--- each of the arrays of names is there
-pub names_live : (w : World) (vs : List ℕ) → AreLive w vs → All (IsLive w) vs
-names_live w [] live k d lt = absurd (omega arith)
-names_live w (v ∷ vs) live zero d lt = live.0
-names_live w (v ∷ vs) live (suc k) d lt = names_live w vs live.1 k d (omega arith)
-
--- each of the arrays of names has its holds
-pub names_known : (w : World) (hs : List (ℕ × ℕ)) (vs : List ℕ) → ((v : ℕ) → holds (keys hs) v ≡ is_some (look w v)) → AreLive w vs → All (λ v. holds (keys hs) v ≡ true) vs
-names_known w hs vs known live k d lt = let l = names_live w vs live k d lt in known (get_or vs k d) ∙ some_live w (get_or vs k d) l
+    fits false is free = let l : length (with_name names x v) ≡ length names + 0 = length_after names x v ∙ ap (λ b. length names + one_if b) is in omega arith
 
 -- a scope's arrays are held as before where they can be lent now
 pub held_readied : (names : Names) (e t : Engine) (leaving : List ℕ) → SameArrays e t → IsHeld (state_in names e) e.holds leaving → IsHeld (state_in names t) t.holds leaving
@@ -512,15 +394,15 @@ held_readied names e t leaving s h =
     subst Q (sym s.holds) (subst P (sym (readied names e t s)) h)
 
 -- after an assignment
-pub held_assigned : LooksStay → (names : Names) (e t : Engine) (v : ℕ) (vs : List ℤ) (leaving : List ℕ) → IsHeld (state_in names e) e.holds leaving → t.world ≡ assign e.world v vs → t.holds ≡ e.holds → IsWhole (state_in names t)
+pub held_assigned : (names : Names) (e t : Engine) (v : ℕ) (vs : List ℤ) (leaving : List ℕ) → IsHeld (state_in names e) e.holds leaving → t.world ≡ assign e.world v vs → t.holds ≡ e.holds → IsWhole (state_in names t)
     → IsHeld (state_in names t) t.holds leaving
-held_assigned looks names e t v vs leaving h world same whole = record {
+held_assigned names e t v vs leaving h world same whole = record {
   whole = whole;
   few = h.few;
-  keys = λ u. (ap (λ hs. holds (keys hs) u) same ∙ h.keys u ∙ sym (ap (λ w. is_some (look w u)) world ∙ ap is_some (looks e.world v u vs)));
   counts = λ u. (ap (λ hs. count_at hs u) same ∙ h.counts u);
+  reached = (let W : World → Type 0 = λ w. KeepsAll w (numbers names.arrays ++ leaving) in subst W (sym world) (keeps_assigned e.world v vs (numbers names.arrays ++ leaving) h.reached));
 }
 
 -- and beside other kernels
 pub held_defined : (names : Named ℕ) (kernels after : Named Kernel) (e : Engine) (leaving : List ℕ) → IsHeld (state_in (names_in names kernels) e) e.holds leaving → IsHeld (state_in (names_in names after) e) e.holds leaving
-held_defined names kernels after e leaving h = record { whole = whole_defined names kernels after e h.whole; few = h.few; keys = h.keys; counts = h.counts }
+held_defined names kernels after e leaving h = record { whole = whole_defined names kernels after e h.whole; few = h.few; counts = h.counts; reached = h.reached }

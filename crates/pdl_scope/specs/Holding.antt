@@ -2,15 +2,9 @@
 use Rattle.std.specs.Prelude.{◌≡◌, ◌⊎◌, ℕ, ◌+◌, List, [], ◌∷◌, ◌++◌, map}
 use Rattle.pdl_engine.specs.State.{State as Engine, count_at, one_more_at}
 use Rattle.pdl_machine.specs.Names.{Names}
-use Rattle.pdl_machine.specs.Tidy.{tidy}
+use Rattle.pdl_world.specs.Swept.{sweep}
+use Rattle.pdl_machine.specs.State.{held}
 use Rattle.pdl_scope.specs.Scope.{state_in, times, IsHeld}
-
--- the same arrays, each held once more for each place that it has in the list
-pub record HoldsMore (old : Engine) (ids : List ℕ) (new : Engine) : Type 0 where
-  pub world : new.world ≡ old.world
-  pub next : new.next ≡ old.next
-  pub keys : map (λ h. h.0) new.holds ≡ map (λ h. h.0) old.holds
-  pub counts : (v : ℕ) → count_at new.holds v ≡ count_at old.holds v + times ids v
 
 -- an array is held once more, or the hold that it has at the end of the list is handed over
 abbrev pub IsHeldForName : (old : Engine) (leaving : List ℕ) (id : ℕ) (new : Engine) (left : List ℕ)
@@ -24,7 +18,10 @@ pub record IsHeldBeside (e : Engine) (leaving : List ℕ) : Type 0 where
   pub names : Names
   pub held : IsHeld (state_in names e) e.holds leaving
 
--- beside these names and the list of those that leave, arrays are let go unseen
+-- arrays were let go, and what names reach is there: these leave still
 pub record LetsGo (names : Names) (old new : Engine) (leaving : List ℕ) : Type 0 where
   pub is_held : IsHeld (state_in names new) new.holds leaving
-  pub unseen : tidy (state_in names new) ≡ tidy (state_in names old)
+  pub next : new.next ≡ old.next
+  pub swept :
+      let vs = held (state_in names old) in
+      sweep new.world vs ≡ sweep old.world vs

@@ -5,3 +5,4 @@ pub mod Arguments
 pub mod Sizes
 pub mod Holding
 pub mod Facts
+pub mod Room

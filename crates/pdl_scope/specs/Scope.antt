@@ -1,10 +1,10 @@
 -- What a scope keeps, and how it is seen.
-use Rattle.std.specs.Prelude.{◌≡◌, ℕ, ◌+◌, ◌≤◌, ◌==◌, if◌then◌else◌, ℤ, List, [], ◌∷◌, length, map, is_some}
+use Rattle.std.specs.Prelude.{◌≡◌, ℕ, ◌+◌, ◌≤◌, ◌==◌, if◌then◌else◌, ℤ, true, List, [], ◌∷◌, ◌++◌, length}
 use Rattle.pdl_elem.specs.declared.Ty.{Ty}
 use Rattle.pdl_buf.specs.declared.made.Made.{Made}
 use Rattle.pdl_world.specs.Sound.{IsLive}
-use Rattle.pdl_world.specs.Swept.{holds}
-use Rattle.pdl_world.specs.World.{look}
+use Rattle.pdl_world.specs.Swept.{holds, parents}
+use Rattle.pdl_world.specs.World.{World}
 use Rattle.pdl_engine.specs.State.{State as Engine, count_at}
 use Rattle.pdl_kernel.specs.Kernels.{Kernel}
 use Rattle.pdl_machine.specs.Names.{Named, Names, names_limit}
@@ -49,11 +49,16 @@ abbrev pub times : List ℕ → ℕ → ℕ
 times [] v = 0
 times (u ∷ us) v = (if u == v then 1 else 0) + times us v
 
--- The state is whole; at most so many names are bound; each array of the world, and no other, has
--- its holds; and it is held once for each name of it, and once for each place in the list of those
--- that leave when the statement ends.
+-- a sweep by these keeps all: each array is among them, or is the parent of a newer one
+abbrev pub KeepsAll : World → List ℕ → Type 0
+KeepsAll [] many = Unit {0}
+KeepsAll ((k, d) ∷ w) many = (holds many k ≡ true) × KeepsAll w (parents d ++ many)
+
+-- The state is whole; at most so many names are bound; each array is held once for each name of it,
+-- and once for each place in the list of those that leave when the statement ends; and nothing is
+-- there but what these reach.
 pub record IsHeld (s : State) (hs : List (ℕ × ℕ)) (leaving : List ℕ) : Type 0 where
   pub whole : IsWhole s
   pub few : length s.names.arrays ≤ names_limit
-  pub keys : (v : ℕ) → holds (map (λ h. h.0) hs) v ≡ is_some (look s.arrays.world v)
   pub counts : (v : ℕ) → count_at hs v ≡ times (held s) v + times leaving v
+  pub reached : KeepsAll s.arrays.world (held s ++ leaving)

@@ -6,10 +6,10 @@ ghost use Rattle.pdl_world.specs.Sound.{IsLive};
 ghost use Rattle.pdl_engine.specs.State.{count_at};
 ghost use Rattle.pdl_machine.specs.Names.{Names};
 ghost use Rattle.pdl_scope.specs.Scope.{state_in, IsHeld};
-ghost use Rattle.pdl_scope.specs.Holding.{HoldsMore, IsHeldBeside, IsHeldForName, LetsGo};
+ghost use Rattle.pdl_scope.specs.Holding.{IsHeldBeside, IsHeldForName, LetsGo};
 
 use pdl_buf::Steps;
-use pdl_engine::{ArrayId, Engine};
+use pdl_engine::{ArrayId, Engine, hold_laws};
 use pdl_machine::numbering_laws;
 use pdl_world::sweep_laws;
 use std::sync::ledger::Ledger;
@@ -63,18 +63,6 @@ pub(crate) fn hold_for_name(engine: &mut Engine, leaving: &mut Vec<ArrayId>, id:
     }
 }
 
-/// Holds each of these arrays once more.
-pub(crate) fn hold_all(engine: &mut Engine, ids: &[ArrayId])
-    requires live { All (IsLive engine.old.world) ids.now }
-    requires known { All (λ v. holds (map (λ h. h.0) engine.old.holds) v ≡ true) ids.now }
-    requires room { (v : ℕ) → count_at engine.old.holds v + length ids.now < 2 ^ 63 }
-    ensures { HoldsMore engine.old ids.now engine.new }
-{
-    for id in ids {
-        engine.hold(*id);
-    }
-}
-
 /// Takes one hold back for each place in a list. That is unseen where names hold all the others.
 pub(crate) fn release_all<L: Ledger>(engine: &mut Engine, leaving: &[ArrayId], steps: &mut Steps<L>)
     requires { IsHeldBeside engine.old leaving.now }
@@ -83,7 +71,9 @@ pub(crate) fn release_all<L: Ledger>(engine: &mut Engine, leaving: &[ArrayId], s
 {
     sweep_laws();
     numbering_laws();
+    hold_laws();
     for id in leaving {
+        engine.holds_law();
         engine.release(*id, steps);
     }
 }

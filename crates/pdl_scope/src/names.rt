@@ -1,15 +1,16 @@
 //! The names that arrays are bound to.
-ghost use Rattle.std.specs.Prelude.{◌≡◌, ◌<◌, [], length, map, slice_get, Some, None, Ok, IfOk, IfErr, IfSome, IfNone, OnOk, OnErr};
+ghost use Rattle.std.specs.Prelude.{◌≡◌, ◌+◌, ◌<◌, ◌≤◌, [], false, length, slice_get, Some, None, Ok, IfOk, IfErr, IfSome, IfNone, IsTrue, OnOk, OnErr};
 ghost use Rattle.pdl_machine.specs.declared.fault.Fault.TheVariants.{TooManyNames};
 ghost use Rattle.pdl_machine.specs.Names.{found, entered, with_name, names_limit};
 ghost use Rattle.pdl_scope.specs.Answers.{IsFault};
+ghost use Rattle.pdl_scope.specs.Room.{new_among};
 
 use crate::fault::StepFault;
 use indexmap::IndexMap;
 use pdl_elem::Name;
 use pdl_engine::ArrayId;
 use pdl_machine::Fault;
-use std::alloc::{AllocError, Global};
+use std::alloc::Global;
 use std::marker::Model;
 
 /// At most so many names are bound at once.
@@ -38,15 +39,6 @@ impl Names {
         Names {
             arrays: IndexMap::new(alloc),
         }
-    }
-
-    /// The same names with the same arrays.
-    pub fn copied(&self) -> Result<Names, AllocError>
-        ensures { IfOk result (λ copy. copy ≡ self.now) }
-    {
-        Ok(Names {
-            arrays: self.arrays.clone()?,
-        })
     }
 
     /// The array of a name.
@@ -111,16 +103,30 @@ impl Names {
         }
     }
 
-    /// The arrays of the names.
-    pub fn numbers(&self, alloc: Global) -> Result<Vec<ArrayId>, AllocError>
-        ensures { IfOk result (λ ids. ids.items ≡ map (λ n. n.1) self.now) }
+    /// Whether there is room for these names: with the new ones among them at most 512 are bound.
+    pub fn has_room(&self, bound: &[Name]) -> bool
+        requires { length self.now ≤ names_limit }
+        ensures room { IsTrue result →
+            length self.now + new_among self.now bound.now ≤ names_limit }
+        ensures none { result ≡ false →
+            names_limit < length self.now + new_among self.now bound.now }
     {
-        let mut ids = Vec::new(alloc);
-        for i in 0..self.len() {
-            let (_, id) = self.entry(i);
-            ids.push(id)?;
+        self.new_among(bound) <= MOST_NAMES - self.arrays.len()
+    }
+
+    /// How many of these names are new, each counted once.
+    fn new_among(&self, bound: &[Name]) -> usize
+        ensures count { result ≡ new_among self.now bound.now }
+        ensures within { result ≤ length bound.now }
+    {
+        match bound {
+            [] => 0,
+            [first, rest @ ..] => {
+                let known = self.get(first).is_some() || rest.contains(first);
+                let others = self.new_among(rest);
+                if known { others } else { 1 + others }
+            }
         }
-        Ok(ids)
     }
 
     /// How many names are bound.

@@ -6,11 +6,12 @@ ghost use Rattle.pdl_world.specs.Formula.{is_well_formed};
 ghost use Rattle.pdl_world.specs.Refused.{view_refusal};
 ghost use Rattle.pdl_world.specs.World.{dims_in, ty_in};
 ghost use Rattle.pdl_world.specs.Sound.{IsLive};
+ghost use Rattle.pdl_world.specs.Swept.{sweep};
 ghost use Rattle.pdl_machine.specs.declared.fault.Fault.TheVariants.{UnknownFunction};
 ghost use Rattle.pdl_machine.specs.Kernels.{kernel_outputs};
 ghost use Rattle.pdl_machine.specs.Names.{found, names_limit, number_of};
 ghost use Rattle.pdl_machine.specs.Then.{and_then, or_fault};
-ghost use Rattle.pdl_machine.specs.State.{no_names, AreLive, IsWhole};
+ghost use Rattle.pdl_machine.specs.State.{no_names, held, with_world, IsWhole};
 ghost use Rattle.pdl_machine.specs.Tidy.{tidy};
 ghost use Rattle.pdl_machine.specs.Outcome.{new_root, new_view};
 ghost use Rattle.pdl_machine.specs.Step.{bind_value, roots_bound, kernel_named};
@@ -21,17 +22,17 @@ ghost use Rattle.pdl_scope.specs.Arguments.{all_seen_of, AreGivenLive};
 use crate::calling::kernel_outputs;
 use crate::fault::StepFault;
 use crate::given::Given;
-use crate::holding::{hold_all, hold_for_name, note, note_some, release_all};
+use crate::holding::{hold_for_name, note, note_some, release_all};
 use crate::kernels::Kernels;
 use crate::names::Names;
 use pdl_buf::{Elements, Made, Steps};
 use pdl_elem::{Name, Ty};
-use pdl_engine::{ArrayId, Engine};
+use pdl_engine::{ArrayId, Engine, hold_laws};
 use pdl_kernel::Kernel;
-use pdl_machine::Fault;
+use pdl_machine::{Fault, numbering_laws};
 use pdl_shape::Dims;
 use pdl_world::{Trans, growth_laws};
-use std::alloc::{AllocError, Global};
+use std::alloc::Global;
 use std::marker::Model;
 use std::sync::ledger::Ledger;
 
@@ -145,6 +146,8 @@ impl Scope {
         ensures grown { Grows self.old self.new }
     {
         growth_laws();
+        hold_laws();
+        self.engine.holds_law();
         self.leaving.reserve(1)?;
         let id = self.engine.make(ty, dims, elems, steps)?;
         note(&mut self.leaving, id);
@@ -174,6 +177,8 @@ impl Scope {
         ensures grown { Grows self.old self.new }
     {
         growth_laws();
+        hold_laws();
+        self.engine.holds_law();
         self.leaving.reserve(1)?;
         let id = self.engine.view(parent, trans)?;
         note(&mut self.leaving, id);
@@ -186,6 +191,8 @@ impl Scope {
         ensures { let wanted = bind_value self.old name.now (self.old.arrays, id) in
             Runs wanted self.old self.new [] [] result }
     {
+        hold_laws();
+        self.engine.holds_law();
         self.leaving.reserve(1)?;
         let had = self.names.bind(name, id)?;
         hold_for_name(&mut self.engine, &mut self.leaving, id);
@@ -193,7 +200,7 @@ impl Scope {
         Ok(())
     }
 
-    /// Binds names to new arrays in order. A fault binds none of them.
+    /// Binds names to new arrays in order. Where there isn't room for all of them none is bound.
     pub fn bind_roots<L: Ledger>(
         &mut self,
         bound: &[Name],
@@ -204,39 +211,34 @@ impl Scope {
         ensures { let wanted = roots_bound self.old bound.now outputs.now in
             Runs wanted self.old self.new [] [] result }
     {
-        let mut names = self.names.copied()?;
-        for i in 0..bound.len().min(outputs.len()) {
-            let made = &outputs[i];
-            let id = self.make_like(made, steps)?;
-            names.bind(&bound[i], id)?;
+        let count = bound.len().min(outputs.len());
+        if !self.names.has_room(&bound[..count]) {
+            return Err(StepFault::Script(Fault::TooManyNames));
         }
-        Ok(self.rename(names)?)
-    }
-
-    /// Other names take the place of the names.
-    fn rename(&mut self, names: Names) -> Result<(), AllocError>
-        requires live { AreLive self.old.arrays.world (map (λ n. n.1) names) }
-        requires few { length names ≤ names_limit }
-        ensures ok { OnOk result (self.new ≡ record self.old {
-          names = names_in names self.old.names.kernels;
-        }) }
-        ensures err { OnErr result (self.new ≡ self.old) }
-    {
-        let bound = names.numbers(self.alloc)?;
-        let given_up = self.names.numbers(self.alloc)?;
-        self.leaving.extend_from_slice(&given_up)?;
-        hold_all(&mut self.engine, &bound);
-        self.names = names;
+        for i in 0..count {
+            let id = self.make_like(&outputs[i], steps)?;
+            self.bind(&bound[i], id)?;
+        }
         Ok(())
     }
 
-    /// Takes back the holds that end with a statement, so that what no name reaches goes. The
-    /// clause says that this is unseen, and not that anything goes.
+    /// Takes back the holds that end with a statement, so that what no name reaches goes. What is
+    /// left when the state is tidied is the same.
     pub fn let_go<L: Ledger>(&mut self, steps: &mut Steps<L>)
-        ensures { tidy self.new ≡ tidy self.old }
+        ensures gone { let w = self.old.arrays.world in
+            self.new ≡ with_world self.old (sweep w (held self.old)) }
+        ensures unseen { tidy self.new ≡ tidy self.old }
     {
+        numbering_laws();
         release_all(&mut self.engine, &self.leaving, steps);
         self.leaving.clear();
+    }
+
+    /// How many arrays there are.
+    pub fn live(&self) -> u64
+        ensures { result ≡ length self.now.arrays.world }
+    {
+        self.engine.live()
     }
 
     /// Defines a kernel of a name, with `TooManyKernels` where it is new and 256 are there.

@@ -7,3 +7,4 @@ pub mod Sliced
 pub mod Callees
 pub mod Statements
 pub mod Definitions
+pub mod Tidied

@@ -1,5 +1,5 @@
 //! A session.
-ghost use Rattle.std.specs.Prelude.{◌≡◌, ◌+◌, min, OnOk, IfErr};
+ghost use Rattle.std.specs.Prelude.{◌≡◌, ◌+◌, length, min, OnOk, IfErr};
 ghost use Rattle.pdl_syntax.specs.StatementTree.{statement_of};
 ghost use Rattle.pdl_syntax.specs.WellMade.{IsWellMade};
 ghost use Rattle.pdl_machine.specs.Step.{step};
@@ -17,7 +17,7 @@ use std::sync::ledger::Ledger;
 
 /// The names and arrays of a script, between two statements. It is seen as the state of the eager
 /// machine, which is the names with the arrays that they reach, numbered
-/// anew; and as how many calls of `step` there were.
+/// anew; and as how many calls of `step` there were. No other array is kept.
 #[derive(Drop)]
 pub struct Session {
     scope: Scope,
@@ -28,13 +28,15 @@ impl Model for Session {
     ghost use Rattle.std.specs.Coded.{codes};
     ghost use Rattle.pdl_kernel.specs.Coding.{coded_code};
     ghost use Rattle.pdl_machine.specs.Tidy.{tidy};
-    ghost use Rattle.pdl_session.specs.Session.{Session as Seen};
+    ghost use Rattle.pdl_session.specs.Session.{Session as Seen, IsTidied};
 
     ghost Value = { Seen };
 
     ghost coded = { Prim.hlevel (codes, coded_code) };
 
     ghost view = { λ s. record { state = tidy s.scope; done = s.steps } };
+
+    ghost invariant = { λ s. IsTidied s.scope };
 }
 
 impl Session {
@@ -46,6 +48,13 @@ impl Session {
             scope: Scope::new(alloc),
             steps: 0,
         }
+    }
+
+    /// How many arrays there are: just those that names reach.
+    pub fn live(&self) -> u64
+        ensures { result ≡ length self.now.state.arrays.world }
+    {
+        self.scope.live()
     }
 
     /// Runs one statement, and adds the text that it prints to `out`. `Script`

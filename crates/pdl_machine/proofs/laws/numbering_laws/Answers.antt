@@ -1,5 +1,5 @@
 use Rattle.pdl_machine.proofs.Steps.{steps_are_alike, new_arrays_are_unseen}
-use Rattle.pdl_machine.proofs.Tidying.{letting_go_is_unseen}
+use Rattle.pdl_machine.proofs.Tidying.{letting_go_is_unseen, sweep_again}
 use Rattle.pdl_machine.proofs.laws.numbering_laws.Goals as goal
 
 pub returns-clause-alike : goal.returns-clause-alike
@@ -10,3 +10,6 @@ returns-clause-unseen c = new_arrays_are_unseen
 
 pub returns-clause-gone : goal.returns-clause-gone
 returns-clause-gone c = letting_go_is_unseen
+
+pub returns-clause-again : goal.returns-clause-again
+returns-clause-again c = sweep_again

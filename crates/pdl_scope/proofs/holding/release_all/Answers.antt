@@ -12,8 +12,17 @@ release-requires g c =
 
 pub loop-id-preserved : goal.loop-id-preserved
 loop-id-preserved g c = λ names held.
-    lets_go_more c.sweep_laws.ensures.kept c.sweep_laws.ensures.seen c.sweep_laws.ensures.numbers c.numbering_laws.ensures.gone
-    names c.args.engine.now c.loop-id.engine c.release.new.self c.args.leaving.now c.loop-id.id-index c.loop-id-test.true (c.loop-id.invariant names held) c.release.ensures.released c.release.ensures.sound
+    lets_go_more (record {
+      reached = c.sweep_laws.ensures.seen;
+      numbered = c.sweep_laws.ensures.numbers;
+      again = c.numbering_laws.ensures.again;
+      less = c.hold_laws.ensures.less;
+      staying = c.hold_laws.ensures.staying;
+      held = c.hold_laws.ensures.held;
+      counted = c.hold_laws.ensures.counted;
+      others = c.hold_laws.ensures.others;
+    }) names c.args.engine.now c.loop-id.engine c.release.new.self c.args.leaving.now c.loop-id.id-index c.loop-id-test.true c.holds_law.ensures.each c.holds_law.ensures.once
+    (c.loop-id.invariant names held) c.release.ensures.released c.release.ensures.sound
 
 pub returns : goal.returns
 returns g c = λ names held. all_let_go names c.args.engine.now c.loop-id.engine c.args.leaving.now c.loop-id.id-index c.loop-id-test.false (c.loop-id.invariant names held)

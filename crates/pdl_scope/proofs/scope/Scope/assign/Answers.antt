@@ -14,7 +14,7 @@ invariant_of-self-in-Ok g c =
     let e = c.ready-2.new.engine in
     let held : IsHeld (state_in names e) e.holds c.self.inside.leaving.items =
     held_readied names c.ready.new.engine e c.self.inside.leaving.items c.ready-2.ensures.same (held_readied names c.self.inside.engine c.ready.new.engine c.self.inside.leaving.items c.ready.ensures.same c.self.invariant) in
-    held_assigned c.assignment_laws.ensures.looks names e c.assign.new.self c.args.target c.deref.result.now c.self.inside.leaving.items held c.assign.ensures.world c.assign.ensures.holds
+    held_assigned names e c.assign.new.self c.args.target c.deref.result.now c.self.inside.leaving.items held c.assign.ensures.world c.assign.ensures.holds
     (whole_assigned c.assignment_laws.ensures.looks c.assignment_laws.ensures.numbers names e c.assign.new.self c.args.target c.deref.result.now held.whole c.assign.ensures.world c.assign.ensures.next c.assign.ensures.sound)
 
 pub returns-in-Ok : goal.returns-in-Ok

@@ -1,51 +1,72 @@
-use Rattle.std.proofs.Common.{◌<◌, ◌≤◌, [], Result, length, refl, sym, subst, ◌∙◌, arith}
+use Rattle.std.proofs.Common.{◌≡◌, ◌<◌, ◌≤◌, ◌+◌, ℕ, [], ◌∷◌, List, Ok, length, min, take, drop, get_or, sym, subst, ap, refl, ◌∙◌, arith}
+use Rattle.std.proofs.lemmas.List.{drop_more, get_or-take, length-take-le}
+use Rattle.pdl_machine.specs.Names.{Named, names_limit}
+use Rattle.pdl_machine.specs.State.{State}
 use Rattle.pdl_machine.specs.Step.{Stepped, roots_bound}
-use Rattle.pdl_scope.specs.declared.fault.StepFault.{StepFault}
-use Rattle.pdl_scope.specs.Answers.{Prints, Runs}
-use Rattle.pdl_scope.specs.Facts.{is_fault, grows_trans, kept_at}
-use Rattle.pdl_scope.proofs.Held.{few_bound}
-use Rattle.pdl_scope.proofs.Roots.{naming, roots_more, roots_done, name_refused, live_more}
+use Rattle.pdl_scope.specs.Answers.{IsFault, Prints}
+use Rattle.pdl_scope.specs.Facts.{grows_refl}
+use Rattle.pdl_scope.specs.Room.{new_among}
+use Rattle.pdl_scope.proofs.Roots.{IsNext, fits_first, none_fit, binds, roots_more, roots_done, room_left, bound_so, never_refused}
 use Rattle.pdl_scope.proofs.scope.Scope.bind_roots.Goals as goal
 
-pub returns-in_err-bind : goal.returns-in_err-bind
-returns-in_err-bind g c =
-    let old = c.args.self.now in
-    let xs = c.args.bound.now in
-    let ms = c.args.outputs.now in
-    let m = c.index-outputs-i.result in
-    let id = c.in_ok-id.id in
-    let f = c.in_err-bind.field-0.0 in
-    let within : c.loop-i.i < length xs = omega arith in
-    let there : c.loop-i.i < length ms = omega arith in
-    let R : Result (Unit {0}) StepFault → Type 0 = Runs (roots_bound old xs ms) old c.make_like.new.self [] [] in
-    subst R (sym (is_fault c.from_residual-in_err-bind.result f c.from_residual-in_err-bind.ensures.1)) (
-      name_refused old c.loop-i.self c.make_like.new.self c.loop-i.names xs ms c.loop-i.i c.index-bound-i.result m id f within there c.index-bound-i.is c.index-outputs-i.is c.loop-i.invariant.so_far
-          c.in_ok-id.ensures.value.0 c.in_err-bind.ensures.fault,
-      kept_at f old c.make_like.new.self [] (grows_trans old c.loop-i.self c.make_like.new.self c.loop-i.invariant.grown c.make_like.ensures.grown),
-    )
+-- the first of the names that are left
+rest_is : (xs : List (List ℕ)) (n i : ℕ) (x : List ℕ) → i < n → n ≤ length xs → x ≡ get_or xs i x → drop i (take n xs) ≡ x ∷ drop (i + 1) (take n xs)
+rest_is xs n i x lt within here =
+    let l : length (take n xs) ≡ n = length-take-le n xs within in
+    drop_more (take n xs) i x (omega (arith, l)) ∙ ap (λ y. y ∷ drop (i + 1) (take n xs)) (get_or-take n xs i x lt ∙ sym here)
 
 pub loop-i-preserved : goal.loop-i-preserved
 loop-i-preserved g c =
-    let old = c.args.self.now in
+    let s = c.loop-i.self in
+    let mid = c.make_like.new.self in
     let xs = c.args.bound.now in
-    let ms = c.args.outputs.now in
+    let i = c.loop-i.i in
+    let x = c.index-bound-i.result in
     let m = c.index-outputs-i.result in
     let id = c.in_ok-id.id in
-    let within : c.loop-i.i < length xs = omega arith in
-    let there : c.loop-i.i < length ms = omega arith in
+    let rest : List (List ℕ) = drop (i + 1) (take c.min-count.result xs) in
+    let R : List (List ℕ) → Type 0 = λ ys. length s.names.arrays + new_among s.names.arrays ys ≤ names_limit in
+    let room : R (x ∷ rest) = subst R (rest_is xs c.min-count.result i x (omega arith) (omega arith) c.index-bound-i.is) c.loop-i.invariant.room in
+    let next : IsNext s mid x m id = record { made = c.in_ok-id.ensures.value.0; grown = c.make_like.ensures.grown; free = fits_first s.names.arrays x id rest room } in
+    let is = bound_so s mid c.bind.new.self x m id next c.in_ok-bind.ensures in
     record {
-      so_far = roots_more old c.loop-i.self c.make_like.new.self c.loop-i.names c.bind.new.self xs ms c.loop-i.i c.index-bound-i.result m id within there c.index-bound-i.is c.index-outputs-i.is c.loop-i.invariant.so_far
-          c.in_ok-id.ensures.value.0 c.make_like.ensures.grown c.in_ok-bind.ensures.ok;
-      grown = grows_trans old c.loop-i.self c.make_like.new.self c.loop-i.invariant.grown c.make_like.ensures.grown;
-      live = live_more c.loop-i.self c.make_like.new.self c.loop-i.names c.bind.new.self c.index-bound-i.result id c.loop-i.invariant.live c.make_like.ensures.grown c.in_ok-id.ensures.value.1 c.in_ok-bind.ensures.ok;
-      few = few_bound c.loop-i.names c.bind.new.self c.index-bound-i.result id c.in_ok-bind.ensures.ok c.loop-i.invariant.few;
+      so_far = roots_more c.args.self.now s mid c.bind.new.self xs c.args.outputs.now i x m id (omega arith) (omega arith) c.index-bound-i.is c.index-outputs-i.is c.loop-i.invariant.so_far next is;
+      room = room_left s mid c.bind.new.self x rest id c.make_like.ensures.grown is room;
     }
+
+pub returns-then-not-has_room : goal.returns-then-not-has_room
+returns-then-not-has_room g c =
+    let s = c.args.self.now in
+    let xs = c.args.bound.now in
+    let e : c.self.inside.names ≡ s.names.arrays = ap (λ (t : State). t.names.arrays) c.self.view_is in
+    let M : Named ℕ → Type 0 = λ names. names_limit < length names + new_among names (take c.min-count.result xs) in
+    let F : Named ℕ → Type 0 = λ names. length names ≤ names_limit in (
+      none_fit s xs c.args.outputs.now c.min-count.result (omega (arith, c.min-count.ensures)) (subst F e c.self.invariant.few) (subst M e (c.has_room.ensures.none c.if-not-has_room.true)),
+      record { grown = grows_refl s; printed = refl },
+    )
+
+pub returns-in_err-bind : goal.returns-in_err-bind
+returns-in_err-bind g c =
+    let s = c.loop-i.self in
+    let mid = c.make_like.new.self in
+    let xs = c.args.bound.now in
+    let i = c.loop-i.i in
+    let x = c.index-bound-i.result in
+    let m = c.index-outputs-i.result in
+    let id = c.in_ok-id.id in
+    let f = c.in_err-bind.field-0.0 in
+    let rest : List (List ℕ) = drop (i + 1) (take c.min-count.result xs) in
+    let R : List (List ℕ) → Type 0 = λ ys. length s.names.arrays + new_among s.names.arrays ys ≤ names_limit in
+    let room : R (x ∷ rest) = subst R (rest_is xs c.min-count.result i x (omega arith) (omega arith) c.index-bound-i.is) c.loop-i.invariant.room in
+    let next : IsNext s mid x m id = record { made = c.in_ok-id.ensures.value.0; grown = c.make_like.ensures.grown; free = fits_first s.names.arrays x id rest room } in
+    let P : Stepped → Type 0 = λ r. IsFault r f in
+    never_refused _ (roots_bound c.args.self.now xs c.args.outputs.now) c.args.self.now c.bind.new.self c.from_residual-in_err-bind.result f c.from_residual-in_err-bind.ensures.1
+    (subst P (binds s mid x m id next) c.in_err-bind.ensures.0)
 
 pub returns : goal.returns
 returns g c =
-    let names = c.loop-i.names in
     let xs = c.args.bound.now in
     let ms = c.args.outputs.now in
-    let P : Stepped → Type 0 = λ r. Prints r c.rename.new.self [] [] in
-    let end : c.loop-i.i < length xs → length ms ≤ c.loop-i.i = λ within. omega arith in
-    subst P (sym (c.loop-i.invariant.so_far ∙ roots_done (naming c.loop-i.self names) xs ms c.loop-i.i end)) (c.in_ok-rename.ensures.ok, refl)
+    let P : Stepped → Type 0 = λ r. Prints r c.loop-i.self [] [] in
+    let end : c.loop-i.i < length xs → length ms ≤ c.loop-i.i = λ within. omega (arith, c.min-count.ensures) in
+    subst P (sym (c.loop-i.invariant.so_far ∙ roots_done c.loop-i.self xs ms c.loop-i.i end)) (refl, refl)

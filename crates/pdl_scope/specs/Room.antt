@@ -1,0 +1,15 @@
+-- Room for names.
+use Rattle.std.specs.Prelude.{ℕ, nat_eq, Bool, ◌+◌, ◌||◌, if◌then◌else◌, List, [], ◌∷◌, is_some}
+use Rattle.std.specs.Cmp.Lexicographic.{pointwise}
+use Rattle.std.specs.List.{list_any}
+use Rattle.pdl_machine.specs.Names.{Named, found}
+
+-- whether the name is among these
+abbrev pub is_among : List (List ℕ) → List ℕ → Bool
+is_among xs x = list_any (λ y. pointwise nat_eq y x) xs
+
+-- how many of these names are new, each counted once
+abbrev pub new_among : {A : Type 0} → Named A → List (List ℕ) → ℕ
+new_among names [] = 0
+new_among names (x ∷ xs) =
+    (if is_some (found names x) || is_among xs x then 0 else 1) + new_among names xs
