@@ -4,6 +4,7 @@ use Rattle.std.proofs.lemmas.Int.{to_z-of_z}
 use Rattle.std.specs.Int.{cast_unsigned, w64, w128}
 use Rattle.pdl_elem.specs.Numbers.{wrapped, WrapsTo}
 use Rattle.pdl_elem.proofs.Wrapping.{wraps, wrapped_wide}
+use Rattle.pdl_elem.proofs.Unwrapped.{wrapped_only}
 use Rattle.pdl_elem.proofs.operators.wrap.Goals as goal
 
 is_wrapped : (c : goal.After-narrow) → to_z w64 (of_z w64 c.narrow.result) ≡ wrapped c.args.ty c.args.n
@@ -17,3 +18,6 @@ returns-clause-value c = is_wrapped c
 
 pub returns-clause-wraps : goal.returns-clause-wraps
 returns-clause-wraps c = subst (λ r. WrapsTo c.args.ty c.args.n r) (sym (is_wrapped c)) (wraps c.args.ty c.args.n)
+
+pub returns-clause-only : goal.returns-clause-only
+returns-clause-only c r h = wrapped_only c.args.ty c.args.n r h ∙ sym (is_wrapped c)
