@@ -24,6 +24,11 @@ joined : (c : Code) (a : Step) (r : Result Code KernelFault) → and_code (join_
 joined c a (Ok rest) = ap Ok (code_join_join c (then_step a end) rest)
 joined c a (Err e) = refl
 
+-- no code is there yet
+pub code_none : (r : Result Code KernelFault) → and_code end r ≡ r
+code_none (Ok rest) = refl
+code_none (Err e) = refl
+
 pub cut : (xs : List RawStmt) (i : ℕ) (x : RawStmt) → i < length xs → x ≡ get_or xs i x → raw_code (drop i xs) ≡ next (raw_step x) (raw_code (drop (i + 1) xs))
 cut xs i x lt at =
     let c : drop i xs ≡ get_or xs i x ∷ drop (i + 1) xs = rw add-one (drop-cons xs i x lt) in
@@ -127,3 +132,8 @@ module _ (source : List ℕ) (s : Signature) where
   choice_err_second v w loops t e a b x p is found first same y second =
       choice_is (visible v loops) t e a b x is found ∙ ap (λ y. y >>= λ p. resolve_code source s (visible v loops) b >>= λ q. Ok (branches x p q)) first
       ∙ ap (λ y. y >>= λ q. Ok (branches x p q)) (ap (λ ls. resolve_code source s (visible ls loops) b) (sym same) ∙ second)
+
+  -- a condition that is refused
+  pub choice_refused : (c : Scope) (t : RawStep) (e : RawTree) (a b : RawCode) → t ≡ choose e a b → (x : KernelFault) → resolve_tree source s c e ≡ Err x → resolve_step source s c t ≡ Err x
+  choice_refused c t e a b is x err =
+      ap (resolve_step source s c) is ∙ ap (λ r. r >>= λ x. resolve_code source s c a >>= λ p. resolve_code source s c b >>= λ q. Ok (branches x p q)) err

@@ -59,6 +59,11 @@ max_assoc a b c =
     up : {i j k : ℕ} → i ≤ j → j ≤ k → i ≤ k
     up h g = omega (arith, h, g)
 
+-- none is counted yet
+pub most_none : (r : Result ℕ KernelFault) → and_most 0 r ≡ r
+most_none (Ok m) = ap Ok (omega arith)
+most_none (Err e) = refl
+
 and_both : (n a : ℕ) (r : Result ℕ KernelFault) → and_most (max n a) r ≡ and_most n (r >>= λ b. Ok (max a b))
 and_both n a (Ok b) = ap Ok (max_assoc n a b)
 and_both n a (Err e) = refl

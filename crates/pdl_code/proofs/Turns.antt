@@ -1,7 +1,9 @@
 -- One index, or one part of an expression, more.
-use Rattle.std.proofs.Common.{◌≡◌, ℕ, ◌+◌, ◌<◌, ◌≤◌, List, ◌∷◌, length, drop, get_or, Some, Ok, Err, refl, sym, ap, ◌∙◌, add-one, drop-cons}
+use Rattle.std.proofs.Common.{◌≡◌, ℕ, ◌+◌, ◌<◌, ◌≤◌, List, ◌∷◌, length, drop, get_or, Some, None, Ok, Err, refl, sym, ap, ◌∙◌, add-one, drop-cons}
 use Rattle.std.specs.Prelude.{Result, Option, Bool, true, false, if◌then◌else◌, slice_set}
 use Rattle.std.proofs.lemmas.List.{drop_all}
+use Rattle.pdl_elem.specs.declared.BinaryOp.{BinaryOp}
+use Rattle.pdl_elem.specs.declared.UnaryOp.{UnaryOp}
 use Rattle.pdl_sig.specs.declared.Signature.{Signature}
 use Rattle.pdl_code.specs.declared.fault.KernelFault.{KernelFault}
 use Rattle.pdl_code.specs.declared.fault.KernelFault.TheVariants.{TooDeep, BadText, UnknownArgument, WriteToInput, UnknownDim, NestedSame, NoMemory}
@@ -10,12 +12,12 @@ use Rattle.pdl_code.specs.declared.raw.RawEntry.{RawEntry, Along, Blank}
 use Rattle.pdl_code.specs.declared.raw.RawExpr.{RawExpr}
 use Rattle.pdl_code.specs.Fit.{argument_of}
 use Rattle.pdl_code.specs.Join.{join, one_loop}
-use Rattle.pdl_code.specs.Raw.{RawTree, RawIndices, access, along}
+use Rattle.pdl_code.specs.Raw.{RawTree, RawIndices, access, along, unary, binary}
 use Rattle.pdl_code.specs.RawOf.{raw_indices, raw_of}
-use Rattle.pdl_code.specs.Refused.{answer, argument_at, axis_wrong, looped, mark, named_argument, or_zero}
+use Rattle.pdl_code.specs.Refused.{answer, argument_at, axis_wrong, lacks, looped, mark, named_argument, or_zero, when}
 use Rattle.pdl_code.specs.Resolving.{◌>>=◌, Agrees, known, resolve_tree, resolve_indices}
 use Rattle.pdl_code.specs.Scope.{Scope, axis_of, bytes_of, no_flags}
-use Rattle.pdl_code.specs.Tree.{Tree, Indices, index, access as access_tree, none as nil, along as cons}
+use Rattle.pdl_code.specs.Tree.{Tree, Indices, index, access as access_tree, unary as unary_tree, binary as binary_tree, none as nil, along as cons}
 use Rattle.pdl_code.proofs.Joins.{join_join, join_none}
 
 looped_next : (ds : List ℕ) (k d : ℕ) (given : List Bool) → looped (d ∷ ds) k given ≡ join (one_loop given k d) (looped ds (k + 1) given)
@@ -100,3 +102,65 @@ pub blank_next : (gs : List RawEntry) (i : ℕ) (g : RawEntry) → i < length gs
 blank_next gs i g lt at is =
     let cut : drop i gs ≡ get_or gs i g ∷ drop (i + 1) gs = rw add-one (drop-cons gs i g lt) in
     ap raw_indices (cut ∙ ap (λ x. x ∷ drop (i + 1) gs) (sym at ∙ is))
+
+-- nothing is found yet
+pub found_none : (r : Result Indices KernelFault) → and_join nil r ≡ r
+found_none (Ok rest) = refl
+found_none (Err e) = refl
+
+module _ (source : List ℕ) (s : Signature) where
+  -- ---- a part of an expression, or its refusal, is one of the whole
+
+  unary_is : (c : Scope) (t : RawTree) (op : UnaryOp) (e : RawTree) → t ≡ unary op e → resolve_tree source s c t ≡ (resolve_tree source s c e >>= λ a. Ok (unary_tree op a))
+  unary_is c t op e is = ap (resolve_tree source s c) is
+
+  pub unary_ok : (c : Scope) (t : RawTree) (op : UnaryOp) (e : RawTree) (a : Tree) → t ≡ unary op e → resolve_tree source s c e ≡ Ok a → resolve_tree source s c t ≡ Ok (unary_tree op a)
+  unary_ok c t op e a is ok = unary_is c t op e is ∙ ap (λ r. r >>= λ a. Ok (unary_tree op a)) ok
+
+  pub unary_err : (c : Scope) (t : RawTree) (op : UnaryOp) (e : RawTree) → t ≡ unary op e → (x : KernelFault) → resolve_tree source s c e ≡ Err x → resolve_tree source s c t ≡ Err x
+  unary_err c t op e is x err = unary_is c t op e is ∙ ap (λ r. r >>= λ a. Ok (unary_tree op a)) err
+
+  binary_is : (c : Scope) (t : RawTree) (op : BinaryOp) (l r : RawTree) → t ≡ binary op l r → resolve_tree source s c t ≡ (resolve_tree source s c l >>= λ a. resolve_tree source s c r >>= λ b. Ok (binary_tree op a b))
+  binary_is c t op l r is = ap (resolve_tree source s c) is
+
+  pub binary_ok : (c : Scope) (t : RawTree) (op : BinaryOp) (l r : RawTree) (a b : Tree) → t ≡ binary op l r → resolve_tree source s c l ≡ Ok a → resolve_tree source s c r ≡ Ok b → resolve_tree source s c t ≡ Ok (binary_tree op a b)
+  binary_ok c t op l r a b is left right =
+      binary_is c t op l r is ∙ ap (λ x. x >>= λ a. resolve_tree source s c r >>= λ b. Ok (binary_tree op a b)) left
+      ∙ ap (λ x. x >>= λ b. Ok (binary_tree op a b)) right
+
+  pub binary_err_left : (c : Scope) (t : RawTree) (op : BinaryOp) (l r : RawTree) → t ≡ binary op l r → (x : KernelFault) → resolve_tree source s c l ≡ Err x → resolve_tree source s c t ≡ Err x
+  binary_err_left c t op l r is x err = binary_is c t op l r is ∙ ap (λ y. y >>= λ a. resolve_tree source s c r >>= λ b. Ok (binary_tree op a b)) err
+
+  pub binary_err_right : (c : Scope) (t : RawTree) (op : BinaryOp) (l r : RawTree) (a : Tree) → t ≡ binary op l r → resolve_tree source s c l ≡ Ok a → (x : KernelFault) → resolve_tree source s c r ≡ Err x → resolve_tree source s c t ≡ Err x
+  binary_err_right c t op l r a is left x err =
+      binary_is c t op l r is ∙ ap (λ y. y >>= λ a. resolve_tree source s c r >>= λ b. Ok (binary_tree op a b)) left
+      ∙ ap (λ y. y >>= λ b. Ok (binary_tree op a b)) err
+
+  pub access_unknown : (c : Scope) (t : RawTree) (w : Span) (is : RawIndices) (at : ℕ) → t ≡ access w is at → named_argument source s w ≡ None → resolve_tree source s c t ≡ Err (UnknownArgument w.from)
+  access_unknown c t w is at e lost =
+      let P : Option ℕ → Result Tree KernelFault = λ p. known w p (resolve_indices source s c (argument_at s p).dims no_flags at is >>= λ found. Ok (access_tree (or_zero p) found)) in
+      ap (resolve_tree source s c) e ∙ ap P lost
+
+  -- ---- the indices of an access, of which some are found
+
+  pub index_refused : (c : Scope) (ds : List ℕ) (flags : List Bool) (at : ℕ) (gs : List RawEntry) (i : ℕ) (g : RawEntry) (w : Span) (e : RawExpr) (f : Indices) (all : Result Indices KernelFault) → i < length gs → g ≡ get_or gs i g → g ≡ Along w e
+      → and_join f (resolve_indices source s c ds flags at (raw_indices (drop i gs))) ≡ all → (x : KernelFault) → answer (axis_wrong w flags (axis_of s ds (bytes_of source w))) (or_zero (axis_of s ds (bytes_of source w))) ≡ Err x → all ≡ Err x
+  index_refused c ds flags at gs i g w e f all lt here is same x err =
+      sym same ∙ ap (λ js. and_join f (resolve_indices source s c ds flags at js)) (given_next gs i g w e lt here is)
+      ∙ ap (λ r. and_join f (r >>= λ k. resolve_tree source s c (raw_of e) >>= λ a. resolve_indices source s c ds (mark flags (axis_of s ds (bytes_of source w))) at (raw_indices (drop (i + 1) gs)) >>= λ found. Ok (cons k a found))) err
+
+  pub index_tree_refused : (c : Scope) (ds : List ℕ) (flags : List Bool) (at : ℕ) (gs : List RawEntry) (i : ℕ) (g : RawEntry) (w : Span) (e : RawExpr) (k : ℕ) (f : Indices) (all : Result Indices KernelFault) → i < length gs → g ≡ get_or gs i g → g ≡ Along w e
+      → and_join f (resolve_indices source s c ds flags at (raw_indices (drop i gs))) ≡ all → answer (axis_wrong w flags (axis_of s ds (bytes_of source w))) (or_zero (axis_of s ds (bytes_of source w))) ≡ Ok k
+      → (x : KernelFault) → resolve_tree source s c (raw_of e) ≡ Err x → all ≡ Err x
+  index_tree_refused c ds flags at gs i g w e k f all lt here is same fine x err =
+      let R : Result Indices KernelFault = resolve_indices source s c ds (mark flags (axis_of s ds (bytes_of source w))) at (raw_indices (drop (i + 1) gs)) in
+      sym same ∙ ap (λ js. and_join f (resolve_indices source s c ds flags at js)) (given_next gs i g w e lt here is)
+      ∙ ap (λ r. and_join f (r >>= λ k. resolve_tree source s c (raw_of e) >>= λ a. R >>= λ found. Ok (cons k a found))) fine
+      ∙ ap (λ r. and_join f (r >>= λ a. R >>= λ found. Ok (cons k a found))) err
+
+  -- all that are given are found
+  pub indices_end : (c : Scope) (ds : List ℕ) (flags : List Bool) (at : ℕ) (gs : List RawEntry) (i : ℕ) (f : Indices) (all : Result Indices KernelFault) (b : Bool) → length gs ≤ i
+      → and_join f (resolve_indices source s c ds flags at (raw_indices (drop i gs))) ≡ all → b ≡ lacks c.loops ds 0 flags → all ≡ and_join f (answer (when b (UnknownDim at)) (looped ds 0 flags))
+  indices_end c ds flags at gs i f all b le same is =
+      sym same ∙ ap (λ xs. and_join f (resolve_indices source s c ds flags at (raw_indices xs))) (drop_all i gs le)
+      ∙ ap (λ b. and_join f (answer (when b (UnknownDim at)) (looped ds 0 flags))) (sym is)

@@ -5,7 +5,7 @@ ghost use Rattle.pdl_code.specs.Depth.{counted_to, is_beyond, is_too_deep};
 use crate::lexeme::Lexeme;
 
 /// How many `(` and `%{` are open, and how many operators stand behind the last `;`, `%{` or `%}`.
-#[derive(Clone, Copy, Debug)]
+#[derive(Clone, Copy)]
 pub struct Counts {
     pub round: u32,
     pub block: u32,

@@ -10,14 +10,14 @@ use crate::tree::LocalType;
 use pdl_sig::{Role, Signature};
 
 /// A visible local: the word that declares it, and its type.
-#[derive(Clone, Copy, PartialEq, Eq, Debug)]
+#[derive(Clone, Copy)]
 pub struct Local {
     pub word: Span,
     pub ty: LocalType,
 }
 
 /// What a word stands for.
-#[derive(Clone, Copy, PartialEq, Eq, Debug)]
+#[derive(Clone, Copy)]
 pub enum Meant {
     /// A local, by its slot.
     InSlot(usize),

@@ -1,9 +1,12 @@
-use Rattle.std.proofs.Common.{ℕ, refl, sym, ap, ◌∙◌, Vec, Global}
+use Rattle.std.proofs.Common.{◌≡◌, ℕ, refl, sym, subst, ap, ◌∙◌, Vec, Global, OnOk, arith}
+use Rattle.std.proofs.lemmas.List.{take_all}
 use Rattle.pdl_code.specs.declared.tree.Stmt.{Stmt}
-use Rattle.pdl_code.specs.RawOf.{raw_code, raw_of, raw_step}
-use Rattle.pdl_code.specs.Resolving.{resolve_tree}
+use Rattle.pdl_code.specs.Raw.{put, set}
+use Rattle.pdl_code.specs.RawOf.{raw_code, raw_indices, raw_of, raw_step}
+use Rattle.pdl_code.specs.Refused.{scope_after}
+use Rattle.pdl_code.specs.Resolving.{Agrees, resolve_code, resolve_step, resolve_tree}
 use Rattle.pdl_code.specs.TreeOf.{code_of, step_of, tree_of}
-use Rattle.pdl_code.proofs.Blocks.{choice_err_first, choice_err_second, choice_ok, code_end, code_turn, fronts, loop_ok, loop_err, loop_refused, pass_on, visible}
+use Rattle.pdl_code.proofs.Blocks.{and_code, choice_err_first, choice_err_second, choice_ok, choice_refused, code_end, code_fault, code_none, code_turn, fronts, loop_ok, loop_err, loop_refused, pass_on, visible}
 use Rattle.pdl_code.proofs.RawRows.{if_tree, loop_tree, same_parts}
 use Rattle.pdl_code.proofs.Turns.{same_ok}
 use Rattle.pdl_code.proofs.block.+block.Goals as goal
@@ -67,3 +70,47 @@ block-loop-one-preserved t c =
 pub block-returns-clause-gives : goal.block-returns-clause-gives
 block-returns-clause-gives t c =
     code_end c.args.source.now c.args.signature.now (visible c.loop-one.locals.items c.args.loops.now) c.args.raw.now c.loop-one.one-index (code_of c.loop-one.code.items) _ c.loop-one-test.false c.loop-one.invariant.rest
+
+pub block-loop-one-init : goal.block-loop-one-init
+block-loop-one-init t c =
+    record {
+      rest = ap (λ xs. and_code (code_of xs) (resolve_code c.args.source.now c.args.signature.now (visible c.args.locals.now.items c.args.loops.now) (raw_code c.args.raw.now))) c.new-code.ensures.items ∙ code_none _;
+      fronts = record { same = refl; count = omega arith };
+    }
+
+pub block-returns-in-Err-clause-gives : goal.block-returns-in-Err-clause-gives
+block-returns-in-Err-clause-gives t c =
+    pass_on step_of (λ (v : Vec Stmt Global). code_of v.items) c.in-Err.fault _ _
+    (λ x err. code_fault c.args.source.now c.args.signature.now (visible c.loop-one.locals.items c.args.loops.now) c.args.raw.now c.loop-one.one-index c.one-item.result (code_of c.loop-one.code.items) _ x c.loop-one-test.true c.one-item.is c.loop-one.invariant.rest err)
+    c.in-Err.ensures.gives
+
+pub block-returns-clause-same : goal.block-returns-clause-same
+block-returns-clause-same t c =
+    c.cut.ensures ∙ c.loop-one.invariant.fronts.same ∙ take_all c.len-count.result c.args.locals.now.items (omega arith)
+
+pub stmt-returns-in-Err-tree-clause-gives : goal.stmt-returns-in-Err-tree-clause-gives
+stmt-returns-in-Err-tree-clause-gives t c =
+    pass_on tree_of step_of c.in-Err-tree.fault _ _
+    (λ x err. choice_refused c.args.source.now c.args.signature.now (visible c.args.locals.now.items c.args.loops.now) _ (raw_of c.in-If.expr) (raw_code c.in-If.whole.items) (raw_code c.in-If.other.items)
+    (if_tree c.args.raw.now c.in-If.expr c.in-If.whole c.in-If.other c.in-If.is) x
+    (ap (λ ls. resolve_tree c.args.source.now c.args.signature.now (visible ls c.args.loops.now) (raw_of c.in-If.expr)) (sym c.as_slice.ensures.value) ∙ err))
+    c.in-Err-tree.ensures
+
+pub stmt-returns-in-Declare-clause-gives : goal.stmt-returns-in-Declare-clause-gives
+stmt-returns-in-Declare-clause-gives t c =
+    subst (λ raw. Agrees step_of c.declaration.result (resolve_step c.args.source.now c.args.signature.now (visible c.args.locals.now.items c.args.loops.now) (raw_step raw))) (sym c.in-Declare.is) c.declaration.ensures.gives
+
+pub stmt-returns-in-Declare-clause-after : goal.stmt-returns-in-Declare-clause-after
+stmt-returns-in-Declare-clause-after t c =
+    subst (λ raw. OnOk c.declaration.result (visible c.declaration.new.locals.items c.args.loops.now ≡ scope_after (visible c.args.locals.now.items c.args.loops.now) (raw_step raw))) (sym c.in-Declare.is) c.declaration.ensures.after
+
+pub stmt-returns-in-Set-clause-gives : goal.stmt-returns-in-Set-clause-gives
+stmt-returns-in-Set-clause-gives t c =
+    subst (λ raw. Agrees step_of c.word_assignment.result (resolve_step c.args.source.now c.args.signature.now (visible c.args.locals.now.items c.args.loops.now) (raw_step raw))) (sym c.in-Set.is)
+    (subst (λ ls. Agrees step_of c.word_assignment.result (resolve_step c.args.source.now c.args.signature.now (visible ls c.args.loops.now) (set c.in-Set.word c.in-Set.op (raw_of c.in-Set.expr)))) c.as_slice-seen.ensures.value c.word_assignment.ensures)
+
+pub stmt-returns-in-Put-clause-gives : goal.stmt-returns-in-Put-clause-gives
+stmt-returns-in-Put-clause-gives t c =
+    subst (λ raw. Agrees step_of c.access_assignment.result (resolve_step c.args.source.now c.args.signature.now (visible c.args.locals.now.items c.args.loops.now) (raw_step raw))) (sym c.in-Put.is)
+    (subst (λ gs. Agrees step_of c.access_assignment.result (resolve_step c.args.source.now c.args.signature.now (visible c.args.locals.now.items c.args.loops.now) (put c.in-Put.name (raw_indices gs) c.in-Put.close c.in-Put.op (raw_of c.in-Put.expr)))) c.deref-in-Put.ensures.value
+    (subst (λ ls. Agrees step_of c.access_assignment.result (resolve_step c.args.source.now c.args.signature.now (visible ls c.args.loops.now) (put c.in-Put.name (raw_indices c.deref-in-Put.result.now) c.in-Put.close c.in-Put.op (raw_of c.in-Put.expr)))) c.as_slice-seen-in-Put.ensures.value c.access_assignment.ensures))

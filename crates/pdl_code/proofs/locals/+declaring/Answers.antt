@@ -1,10 +1,12 @@
-use Rattle.std.proofs.Common.{refl, sym, ap, ◌∙◌, subst}
+use Rattle.std.proofs.Common.{◌≡◌, ℕ, length, refl, sym, ap, ◌∙◌, subst, arith, Ok}
+use Rattle.std.proofs.lemmas.List.{take_all}
+use Rattle.std.specs.Prelude.{max}
 use Rattle.pdl_code.specs.Declaring.{declared_step}
-use Rattle.pdl_code.specs.RawOf.{raw_code, raw_of}
+use Rattle.pdl_code.specs.RawOf.{raw_code, raw_of, raw_step}
 use Rattle.pdl_code.specs.Resolving.{Agrees}
 use Rattle.pdl_code.specs.Scope.{no_flags}
-use Rattle.pdl_code.proofs.Blocks.{pass_on, visible}
-use Rattle.pdl_code.proofs.Declared.{branches_err_first, branches_err_second, branches_ok}
+use Rattle.pdl_code.proofs.Blocks.{fronts, pass_on, visible}
+use Rattle.pdl_code.proofs.Declared.{branches_err_first, branches_err_second, branches_ok, most_end, most_fault, most_none, most_turn}
 use Rattle.pdl_code.proofs.RawRows.{if_tree, loop_tree, same_parts}
 use Rattle.pdl_code.proofs.locals.+declaring.Goals as goal
 
@@ -34,3 +36,35 @@ stmt_locals-returns-in-Err-clause-gives t c =
     (branches_err_first c.args.source.now c.args.signature.now c.args.locals.now.items _ (raw_of c.in-If.field-0) (raw_code c.deref-in-If.result.now) (raw_code c.in-If.other.items)
     (if_tree c.args.raw.now c.in-If.field-0 c.in-If.whole c.in-If.other c.in-If.is ∙ same_parts (raw_of c.in-If.field-0) c.deref-in-If.ensures.value refl))
     c.in-Err.ensures.gives
+
+pub code_locals-loop-one-init : goal.code_locals-loop-one-init
+code_locals-loop-one-init t c = record { rest = most_none _; fronts = record { same = refl; count = omega arith } }
+
+pub code_locals-loop-one-preserved : goal.code_locals-loop-one-preserved
+code_locals-loop-one-preserved t c =
+    let old = c.loop-one.invariant.fronts in
+    let grown = fronts _ c.loop-one.locals.items c.stmt_locals.new.locals.items no_flags (raw_step c.one-item.result) old.count c.in-Ok.ensures.after in
+    let more : c.max-most.result ≡ max c.loop-one.most c.in-Ok.n = grind (arith, c.max-most.ensures) in
+    record {
+      rest = most_turn c.args.source.now c.args.signature.now (visible c.loop-one.locals.items no_flags) (visible c.stmt_locals.new.locals.items no_flags) c.args.raw.now c.loop-one.one-index c.one-item.result c.loop-one.most c.in-Ok.n c.max-most.result
+          c.loop-one-test.true c.one-item.is c.in-Ok.ensures.after c.in-Ok.ensures.gives more
+          ∙ c.loop-one.invariant.rest;
+      fronts = record { same = grown.same ∙ old.same; count = grown.count };
+    }
+
+pub code_locals-returns-in-Err-clause-gives : goal.code_locals-returns-in-Err-clause-gives
+code_locals-returns-in-Err-clause-gives t c =
+    pass_on (λ n. n) (λ n. n) c.in-Err.fault _ _
+    (λ x err. most_fault c.args.source.now c.args.signature.now (visible c.loop-one.locals.items no_flags) c.args.raw.now c.loop-one.one-index c.one-item.result c.loop-one.most _ x c.loop-one-test.true c.one-item.is c.loop-one.invariant.rest err)
+    c.in-Err.ensures.gives
+
+pub code_locals-returns-clause-gives : goal.code_locals-returns-clause-gives
+code_locals-returns-clause-gives t c =
+    let long : length c.loop-one.locals.items ≡ c.len.result = omega arith in
+    most_end c.args.source.now c.args.signature.now (visible c.loop-one.locals.items no_flags) c.args.raw.now c.loop-one.one-index c.loop-one.most _ c.loop-one-test.false c.loop-one.invariant.rest
+    ∙ ap (λ (n : ℕ). Ok (max c.loop-one.most n)) long
+    ∙ ap Ok (sym c.max-most-2.ensures)
+
+pub code_locals-returns-clause-same : goal.code_locals-returns-clause-same
+code_locals-returns-clause-same t c =
+    c.cut.ensures ∙ c.loop-one.invariant.fronts.same ∙ take_all c.len-count.result c.args.locals.now.items (omega arith)
