@@ -110,6 +110,33 @@ resumes f g ss start first size n le keeps same r is =
     let e : first ≡ first + 0 = omega arith in
     ap (λ i. turns f i (size - i) (store_of ss start)) e ∙ resume_by f g ss start first size n le keeps same n 0 (omega arith) start (form_same start) ∙ ap (λ r. and_then r (λ v. turns f (first + n) (size - (first + n)) (store_of ss v))) is
 
+-- where a guard doesn't hold, its code does nothing
+unwanted : (r : Resolved) (at : List ℕ) (m : Store) (g : Guard) (code : Code) → wanted r.sizes at m (wants_of g) ≡ Ok false → run r at (guarded g code) m ≡ Ok m
+unwanted r at m Always code is = cc
+unwanted r at m (Where e) code is = then_done (and_then (value r.sizes at m (tree_of e.now)) (λ x. branch x (run r at code m) (Ok m))) ∙ by (value r.sizes at m (tree_of e.now)) is
+  where
+    by : (v : Result ℤ Fault) → and_then v (λ x. Ok (branch x true false)) ≡ Ok false → and_then v (λ x. branch x (run r at code m) (Ok m)) ≡ Ok m
+    by (Ok (pos zero)) is = refl
+    by (Ok (pos (suc n))) is = cc
+    by (Ok (negsuc n)) is = cc
+    by (Err d) is = cc
+
+-- the loop resumes behind the turns at which the inner one isn't run
+pub passed_over : (r : Resolved) (at : List ℕ) (ss : List Source) (start : Work) (d : ℕ) (inner : Inner) (first : ℕ) (s : Settled) → IsSettled r.sizes at ss start d inner.guard first s → s.wants ≡ Known false
+    → let f : ℕ → Store → Result Store Fault = λ i now. run r (slice_set at d i) (code_of_inner inner) now in
+    turns f first (size_in r.sizes d - first) (store_of ss start) ≡ turns f s.until (size_in r.sizes d - s.until) (store_of ss start)
+passed_over r at ss start d inner first s h never =
+    let e : first + (s.until - first) ≡ s.until = omega (arith, h.lasts.0) in
+    let f : ℕ → Store → Result Store Fault = λ i now. run r (slice_set at d i) (code_of_inner inner) now in
+    let idle : ℕ → Work → Result Work Fault = λ j w. Ok w in
+    resumes f idle ss start first (size_in r.sizes d) (s.until - first) (omega (arith, h.lasts.0, h.lasts.1)) (λ j w now kept. let is : w ≡ now = cc in subst (HasSameForm w) is (form_same w))
+    (λ j jt w form.
+    let at = slice_set at d (first + j) in
+    let m = store_of ss w in
+    unwanted r at m inner.guard (next (repeat inner.dimension (code_of inner.body.now)) done) (h.same w form (first + j) (omega arith) (omega (arith, jt)) ∙ ap (wanted r.sizes at m) never))
+    (Ok start) (turns_idle idle start (λ j. refl) 0 (s.until - first))
+    ∙ ap (λ k. turns f k (size_in r.sizes d - k) (store_of ss start)) e
+
 -- a nest that goes by a plan, as far as its lines serve and its guard is known
 pub course_is : (l : Nest) (inner : Inner) (s : Settled) (c : Course) → IsCodePlan l (code_of inner.body.now) c.plan → l.inner ≡ inner.dimension → size_in l.resolved.now.sizes l.inner ≡ c.count → c.count ≤ l.count
     → IsSettled l.resolved.now.sizes l.at.now l.sources.now l.frames.now l.outer inner.guard l.first s → c.wants ≡ s.wants → l.turns ≡ s.until - l.first → c.turns ≤ l.turns → ((j : ℕ) → j < c.turns → IsServed c.plan j)

@@ -190,7 +190,7 @@ pub struct Course<'a, 'b> {
 }
 
 /// How the turns of the outer loop go from the first on, for as many as the lines serve and the
-/// guard stays as it is. None where there is no plan.
+/// guard is settled. None where there is no plan.
 #[inline(always)]
 fn course_of<'a, 'b>(
     resolved: &Resolved,
@@ -200,9 +200,11 @@ fn course_of<'a, 'b>(
     dimension: usize,
     inner: &Inner<'b>,
     first: u32,
+    settled: &Settled<'b>,
 ) -> Option<Course<'a, 'b>>
     requires free { IsCodeFree (roles_of sources.now) (code_of inner.now.body.now) }
-    requires first { first < size_in resolved.now.sizes dimension }
+    requires settled { IsSettled resolved.now.sizes at.now sources.now frames.now dimension
+        inner.now.guard first settled.now }
     ensures goes { IfSome result (IsCourse resolved.now at.now sources.now frames.now dimension
         inner.now first) }
     ensures room { IfSome result (λ course. first + course.turns < 4294967296) }
@@ -211,8 +213,6 @@ fn course_of<'a, 'b>(
     if dimension >= MOST || inner.dimension >= MOST || count == 0 {
         return None;
     }
-    let guard = &inner.guard;
-    let settled = settle_guard(resolved, sources, frames, at, dimension, guard, first);
     let nest = Nest {
         resolved,
         sources,
@@ -288,8 +288,43 @@ fn guarded_turns(
     }
 }
 
-/// The turns of the outer loop from the first on, as far as they go by a plan, and which one comes
-/// next. None where there is no plan.
+/// The turns of the outer loop from the first on, as far as they go by a plan while the guard is
+/// settled, and which one comes next. None where there is no plan.
+#[inline(always)]
+fn planned_turns(
+    resolved: &Resolved,
+    sources: &[Source],
+    frames: &mut Frames,
+    at: &[u32; MOST],
+    dimension: usize,
+    inner: &Inner,
+    first: u32,
+    settled: &Settled,
+) -> Option<Result<u32, Fault>>
+    requires free { IsCodeFree (roles_of sources.now) (code_of inner.now.body.now) }
+    requires settled { IsSettled resolved.now.sizes at.now sources.now frames.old dimension
+        inner.now.guard first settled.now }
+    ensures resumes { IfSome result (Resumes
+        (λ i now. run resolved.now (slice_set at.now dimension i) (code_of_inner inner.now) now)
+        first (size_in resolved.now.sizes dimension)
+        (store_of sources.now frames.old) (store_of sources.now frames.new)) }
+    ensures left { IfNone result (frames.new ≡ frames.old) }
+{
+    match course_of(
+        resolved, sources, frames, at, dimension, inner, first, settled,
+    ) {
+        Some(course) => {
+            match guarded_turns(resolved, sources, frames, at, dimension, first, &course) {
+                Ok(()) => Some(Ok(first + course.turns)),
+                Err(fault) => Some(Err(fault)),
+            }
+        }
+        None => None,
+    }
+}
+
+/// The turns of the outer loop from the first on, as far as they are passed over or go by a plan,
+/// and which one comes next. None where there is no plan.
 #[inline(always)]
 fn inner_turns(
     resolved: &Resolved,
@@ -308,14 +343,16 @@ fn inner_turns(
         (store_of sources.now frames.old) (store_of sources.now frames.new)) }
     ensures left { IfNone result (frames.new ≡ frames.old) }
 {
-    match course_of(resolved, sources, frames, at, dimension, inner, first) {
-        Some(course) => {
-            match guarded_turns(resolved, sources, frames, at, dimension, first, &course) {
-                Ok(()) => Some(Ok(first + course.turns)),
-                Err(fault) => Some(Err(fault)),
-            }
-        }
-        None => None,
+    if dimension >= MOST {
+        return None;
+    }
+    let guard = &inner.guard;
+    let settled = settle_guard(resolved, sources, frames, at, dimension, guard, first);
+    match settled.wants {
+        Wants::Known(false) => Some(Ok(settled.until)),
+        _ => planned_turns(
+            resolved, sources, frames, at, dimension, inner, first, &settled,
+        ),
     }
 }
 

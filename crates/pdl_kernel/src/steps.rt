@@ -230,11 +230,12 @@ fn each_turn(
     let mut look = true;
     let mut i = 0;
     while i < size {
+        let first = i;
         match resume(resolved, sources, frames, at, dimension, body, &mut look, i) {
             Ok(next) => i = next,
             Err(fault) => return Err(fault),
         }
-        if i < size {
+        if i == first {
             set_index(&mut here, dimension, i);
             match turn(resolved, sources, frames, &here, body) {
                 Ok(()) => {}

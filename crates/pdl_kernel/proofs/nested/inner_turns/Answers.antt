@@ -1,11 +1,9 @@
-use Rattle.std.proofs.Common.{arith, Ok, Err}
-use Rattle.pdl_kernel.proofs.Nesting.{course_resumes}
+use Rattle.std.proofs.Common.{rules}
+use Rattle.pdl_kernel.proofs.Nesting.{passed_over}
 use Rattle.pdl_kernel.proofs.nested.inner_turns.Goals as goal
 
-pub returns-in-Ok-clause-resumes : goal.returns-in-Ok-clause-resumes
-returns-in-Ok-clause-resumes c =
-    (omega arith, c.in-Some.ensures.goes.within, course_resumes c.args.resolved.now c.args.at.now c.args.sources.now c.args.frames.now c.args.dimension c.args.inner.now c.args.first c.in-Some.course c.in-Some.ensures.goes (Ok c.guarded_turns.new.frames) c.in-Ok.ensures)
-
-pub returns-in-Err-clause-resumes : goal.returns-in-Err-clause-resumes
-returns-in-Err-clause-resumes c =
-    course_resumes c.args.resolved.now c.args.at.now c.args.sources.now c.args.frames.now c.args.dimension c.args.inner.now c.args.first c.in-Some.course c.in-Some.ensures.goes (Err c.in-Err.fault) c.in-Err.ensures
+pub returns-in-Known-false-clause-resumes : goal.returns-in-Known-false-clause-resumes
+returns-in-Known-false-clause-resumes c =
+    let s = c.settle_guard-settled.result in
+    let h = c.settle_guard-settled.ensures in
+    (h.lasts.0, h.lasts.1, passed_over c.args.resolved.now c.args.at.now c.args.sources.now c.args.frames.now c.args.dimension c.args.inner.now c.args.first s h (search rules))

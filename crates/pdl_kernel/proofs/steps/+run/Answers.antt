@@ -67,8 +67,8 @@ step-returns-else-x-eq0 t c =
     (if_tree c.args.stmt.now c.in-If.expr c.in-If.whole c.in-If.other c.in-If.is) (sym c.value.ensures ∙ c.in-Ok.is)
     (subst Q (sym z) (subst P c.deref-else-x-eq0.ensures.value c.run-else-x-eq0.ensures))
 
-pub each_turn-loop-i-preserved-then-i-size : goal.each_turn-loop-i-preserved-then-i-size
-each_turn-loop-i-preserved-then-i-size t c =
+pub each_turn-loop-i-preserved-then-i-first : goal.each_turn-loop-i-preserved-then-i-first
+each_turn-loop-i-preserved-then-i-first t c =
     let ss = c.args.sources.now in
     let d = c.args.dimension in
     let size = size_in c.args.resolved.now.sizes d in
@@ -76,7 +76,7 @@ each_turn-loop-i-preserved-then-i-size t c =
     let i = c.in-Ok.next in
     let m = store_of ss c.resume.new.frames in
     let now = store_of ss c.turn.new.frames in
-    let below : i < size = search rules in
+    let below : i < size = omega arith in
     let at : c.set_index.new.at ≡ slice_set c.args.at.now d i = c.set_index.ensures ∙ c.loop-i.invariant.here i in
     let here : f i m ≡ Ok now = ap (λ at. run c.args.resolved.now at (code_of c.args.body.now) m) (sym at) ∙ c.in-Ok-turn.ensures in
     record {
