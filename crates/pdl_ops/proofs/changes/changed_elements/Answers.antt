@@ -1,10 +1,11 @@
--- One block more is changed.
+-- One block more is changed, and all are at the end.
 use Rattle.std.proofs.Common.{◌≡◌, ℕ, ◌<◌, ℤ, List, length, length-append, take, drop, map, All, arith, ap, ap₂, sym, subst, ◌∙◌}
 use Rattle.pdl_buf.specs.Buffer.{TypedElements}
 use Rattle.pdl_elem.specs.declared.Ty.{Ty}
 use Rattle.pdl_elem.specs.Types.{InRange}
+use Rattle.pdl_shape.specs.Shape.{size_of}
 use Rattle.pdl_ops.specs.Changes.{changed, changed_type}
-use Rattle.pdl_ops.proofs.Parts.{changed_more, written}
+use Rattle.pdl_ops.proofs.Parts.{changed_all, changed_more, written}
 use Rattle.pdl_ops.proofs.changes.changed_elements.Goals as goal
 
 pub loop-done-preserved : goal.loop-done-preserved
@@ -32,3 +33,34 @@ loop-done-preserved c =
       count = omega (arith, ap (λ (zs : List ℤ). length zs) c.deref.ensures.value, ap (λ (p : TypedElements). length p.elems) c.in_ok-extend.ensures.ok, length-append c.loop-done.made.elems c.deref.result.now);
       made = changed_more (changed c.args.change c.args.a.now.ty) (InRange (changed_type c.args.change c.args.a.now.ty)) es _ _ _ k n c.loop-done.invariant.made e h (ap (λ (p : TypedElements). p.elems) c.in_ok-extend.ensures.ok);
     }
+
+pub strided_read-requires : goal.strided_read-requires
+strided_read-requires c =
+    omega (arith, c.deref_mut.ensures.len, c.truncate.ensures.len, c.strided_dims.ensures.count, c.elements_of-count.ensures.count, ap size_of c.strided_dims.ensures.dims, c.loop-done-test.true)
+
+pub change_block-requires : goal.change_block-requires
+change_block-requires c =
+    let read_length : length c.strided_read.new.into ≡ c.truncate.new.self.len = omega arith in
+    let read : c.deref_mut-in-loop-done.result.now ≡ c.strided_read.new.into = c.deref_mut-in-loop-done.ensures.value ∙ written _ _ _ read_length in
+    subst (λ (ty : Ty). All (InRange ty) c.deref_mut-in-loop-done.result.now) (sym c.strided_type.ensures)
+    (subst (All (InRange c.args.a.now.ty)) (sym read) c.strided_read.ensures.in_range)
+
+pub extend-requires : goal.extend-requires
+extend-requires c =
+    let changed_length : length c.change_block.new.numbers ≡ c.truncate.new.self.len = omega arith in
+    let block : c.deref.result.now ≡ c.change_block.new.numbers = c.deref.ensures.value ∙ written _ _ _ changed_length in
+    subst (λ (ty : Ty). All (InRange ty) c.deref.result.now) (sym c.loop-done.invariant.ty)
+    (subst (All (InRange (changed_type c.args.change c.args.a.now.ty))) (sym block)
+    (subst (λ (ty : Ty). All (InRange (changed_type c.args.change ty)) c.change_block.new.numbers) c.strided_type.ensures c.change_block.ensures.in_range))
+
+pub returns-clause-value : goal.returns-clause-value
+returns-clause-value c =
+    changed_all (changed c.args.change c.args.a.now.ty) (InRange (changed_type c.args.change c.args.a.now.ty)) c.args.a.now.elems c.loop-done.made.elems c.loop-done.done
+    (omega (arith, c.strided_dims.ensures.count, c.elements_of-count.ensures.count, ap size_of c.strided_dims.ensures.dims, c.loop-done-test.false)) c.loop-done.invariant.made
+
+pub returns-clause-in_range : goal.returns-clause-in_range
+returns-clause-in_range c = c.loop-done.invariant.made.in_range
+
+pub returns-clause-count : goal.returns-clause-count
+returns-clause-count c =
+    omega (arith, c.strided_dims.ensures.count, c.elements_of-count.ensures.count, ap size_of c.strided_dims.ensures.dims, c.loop-done-test.false, c.loop-done.invariant.count, c.loop-done.invariant.inside)

@@ -7,6 +7,7 @@ use Rattle.pdl_buf.specs.Buffer.{TypedElements}
 use Rattle.pdl_elem.specs.Numbers.{wrapped}
 use Rattle.pdl_elem.specs.Types.{InRange}
 use Rattle.pdl_elem.specs.declared.Ty.{Ty}
+use Rattle.pdl_elem.specs.declared.Ty.TheVariants.{Long}
 use Rattle.pdl_shape.specs.Shape.{size_of}
 use Rattle.pdl_ops.specs.Fills.{fill_element}
 use Rattle.pdl_ops.specs.declared.fills.Fill.{Fill}
@@ -70,3 +71,25 @@ returns-clause-made c =
       count = ap length e ∙ l ∙ unwrapped_length c.args.kind c.args.dims.now ∙ ap size_of (sym c.copy_dims.ensures);
       in_range = subst (All (InRange c.args.ty)) (sym c.packed.ensures) c.loop-done.invariant.made.in_range;
     }
+
+pub fill_block-requires : goal.fill_block-requires
+fill_block-requires c =
+    let same : size_of c.dims_list-sizes.result.now ≡ size_of c.args.dims.now = ap size_of c.dims_list-sizes.ensures.list in
+    let size : length c.deref_mut.result.now ≡ c.truncate.new.self.len = c.deref_mut.ensures.len in
+    record {
+      some = omega (arith, size, c.truncate.ensures.len, c.loop-done.invariant.some c.loop-done-test.true, c.loop-done-test.true);
+      within = omega (arith, size, same, c.truncate.ensures.len, c.elements_of-count.ensures.count, c.loop-done-test.true);
+      few = omega (arith, same, c.elements_of-count.ensures.count, c.elements_of-count.ensures.bound);
+    }
+
+pub rewrap-requires : goal.rewrap-requires
+rewrap-requires c =
+    let filled_length : length c.fill_block.new.into ≡ c.truncate.new.self.len = omega arith in
+    let numbers : c.deref_mut-in-loop-done.result.now ≡ c.fill_block.new.into = c.deref_mut-in-loop-done.ensures.value ∙ written _ _ _ filled_length in
+    subst (All (InRange Long)) (sym numbers) c.fill_block.ensures.in_range
+
+pub extend-requires : goal.extend-requires
+extend-requires c =
+    let wrapped_length : length c.rewrap.new.numbers ≡ c.truncate.new.self.len = omega arith in
+    let block : c.deref.result.now ≡ c.rewrap.new.numbers = c.deref.ensures.value ∙ written _ _ _ wrapped_length in
+    subst (λ (ty : Ty). All (InRange ty) c.deref.result.now) (sym c.loop-done.invariant.ty) (subst (All (InRange c.args.ty)) (sym block) c.rewrap.ensures.in_range)
