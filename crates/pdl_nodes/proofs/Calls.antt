@@ -6,7 +6,7 @@ use Rattle.std.specs.Option.{IsSome}
 use Rattle.slab.specs.Slab.{Slab, get, ContainsKey, with_value}
 use Rattle.slab.specs.Slab.{Updates as Changes}
 use Rattle.slab.proofs.SlabLemmas.{Updates-with_value}
-use Rattle.pdl_nodes.specs.Numbered.{IsPut, Rises, value_at}
+use Rattle.pdl_nodes.specs.Numbered.{AllBelow, IsPut, Rises, value_at}
 use Rattle.pdl_nodes.specs.Row.{Row}
 use Rattle.pdl_nodes.specs.Rows.{Rows, row_at, has, each, other, without, NumbersBelow, Falls}
 use Rattle.pdl_nodes.specs.Table.{node_at, node_or, rows_of, IsTable}
@@ -74,12 +74,9 @@ updated_here keys new id v o u e = ap (value_at new) (sym e) ∙ u.here
 updated_there : (keys new : List (ℕ × ℕ)) (id v : ℕ) (o : Option ℕ) → IsPut keys new id o → (id ≡ v → ⊥) → value_at new v ≡ value_at keys v
 updated_there keys new id v o u n = u.others v (λ e. n (sym e))
 
--- a number above all has no key
-pub keyless : (t : Rows) (keys : List (ℕ × ℕ)) (nodes : Slab Row) (id : ℕ) → rows_of nodes keys ≡ t → IsTable keys nodes → NumbersBelow id t → value_at keys id ≡ None
-keyless t keys nodes id e i b = by (value_at keys id) refl where
-  by : (o : Option ℕ) → value_at keys id ≡ o → o ≡ None
-  by None h = refl
-  by (Some k) h = let x : id < id = has_below t id id b ((seen t keys nodes e i).live id k h) in let z : ⊥ = omega arith in absurd z
+-- a number above all is above all that have keys
+pub keys_below : (t : Rows) (keys : List (ℕ × ℕ)) (nodes : Slab Row) (id : ℕ) → rows_of nodes keys ≡ t → IsTable keys nodes → NumbersBelow id t → AllBelow keys id
+keys_below t keys nodes id e i b v h = has_below t id v b (sym (is_there t keys nodes v e i) ∙ h)
 
 -- one more node, in a slot that was empty
 pub joined : (t : Rows) (keys next : List (ℕ × ℕ)) (nodes new : Slab Row) (id key : ℕ) (r : Row) → rows_of nodes keys ≡ t → IsTable keys nodes → NumbersBelow id t → Rises next → IsPut keys next id (Some key) → get nodes key ≡ None → Changes nodes new key (Some r) → IsTable next new × (rows_of new next ≡ (id, r) ∷ t)

@@ -1,15 +1,18 @@
--- What a list in rising order holds of a number, and what edits at its place do.
-use Rattle.std.proofs.Common.{◌≡◌, ℕ, zero, suc, ◌+◌, ◌<◌, ◌≤◌, cond, Bool, true, false, List, [], ◌∷◌, length, get_or, set, drop, filter, is_some, Option, Some, None, Result, Ok, Err, IfNone, IfOk, IfErr, inl, inr, refl, sym, ◌∙◌, ap, subst, arith}
-use Rattle.std.proofs.lemmas.Bool.{le-leb, lt-leb}
-use Rattle.std.proofs.lemmas.Bool.Decides.{leb_tells, nat_tests}
-use Rattle.std.proofs.lemmas.Cmp.{ranked}
-use Rattle.std.proofs.lemmas.List.Sorted.{IsNonDecreasingBy-from_default}
+-- What lists of numbers in rising order hold of a number, and what edits do.
+use Rattle.std.proofs.Common.{◌≡◌, ℕ, zero, suc, ◌+◌, ◌<◌, ◌≤◌, ◌&&◌, Bool, true, false, List, [], ◌∷◌, ◌++◌, length, get_or, set, filter, is_some, Option, Some, None, IfNone, inl, inr, refl, sym, ◌∙◌, ap, subst, arith}
+use Rattle.std.proofs.lemmas.Bool.Decides.{eqb_tells, leb_tells}
+use Rattle.std.proofs.lemmas.List.{append_assoc}
+use Rattle.std.specs.BTreeMap.{BTreeMap, UpdatesBy, insert_entry}
+use Rattle.std.specs.BTreeMap.Range.{range_contains}
 use Rattle.std.specs.Cmp.{nat_cmp_is}
-use Rattle.std.specs.List.{insert}
-use Rattle.std.specs.List.Sorted.{IsSearchInRange, IsBinarySearchResult, IsNonDecreasingBy}
-use Rattle.std.specs.Ordering.{nat_cmp, ordering_index, is_eq}
+use Rattle.std.specs.List.{remove}
+use Rattle.std.specs.List.Sorted.{IsStrictlySortedBy}
+use Rattle.std.specs.Map.{keys_of}
+use Rattle.std.specs.Option.{option_or}
+use Rattle.std.specs.Ordering.{nat_cmp, is_eq, is_le}
 use Rattle.std.specs.declared.cmp.Ordering.TheVariants.{Less, Equal, Greater}
-use Rattle.pdl_nodes.specs.Numbered.{AllAbove, IsGap, IsPlace, IsPut, Rises, filled, first_from, number_at, onto, value_at}
+use Rattle.std.specs.declared.ops.Bound.TheVariants.{Included, Unbounded}
+use Rattle.pdl_nodes.specs.Numbered.{AllAbove, AllBelow, IsPlace, IsPut, Rises, first_from, value_at}
 
 -- the test of a number
 pub at_same : (v k : ℕ) → k ≡ v → is_eq (nat_cmp v k) ≡ true
@@ -21,266 +24,303 @@ at_other v k n = elim (leb_tells v k) [
   | inr t ↦ ap is_eq (sym (nat_cmp_is v k Greater t.1))
 ]
 
+is_less : (a b : ℕ) → nat_cmp a b ≡ Less → a < b
+is_less a b h = elim (eqb_tells a b) [
+  | inl t ↦ (let x : Equal ≡ Less = nat_cmp_is a b Equal t.1 ∙ h in absurd (cc))
+  | inr t ↦ elim (leb_tells a b) [
+    | inl l ↦ omega (arith, l.1, t.1)
+    | inr l ↦ (let x : Greater ≡ Less = nat_cmp_is a b Greater l.1 ∙ h in absurd (cc))
+  ]
+]
+
+pub or_none : {V : Type 0} (o : Option V) → option_or o None ≡ o
+or_none None = refl
+or_none (Some x) = refl
+
+pub if_none : {V : Type 0} {P : Type 0} (o : Option V) → (o ≡ None → P) → IfNone o P
+if_none None f = f refl
+if_none (Some x) f = tt
+
 module _ {V : Type 0} where
+  none_or : (o : Option V) → (is_some o ≡ true → ⊥) → o ≡ None
+  none_or None h = refl
+  none_or (Some x) h = absurd (h refl)
+
   -- a number below all has no value
   pub none_below : (v : ℕ) (es : List (ℕ × V)) → AllAbove v es → value_at es v ≡ None
   none_below v [] a = refl
   none_below v (e ∷ es) a = rw (at_other v e.0 (λ (y : e.0 ≡ v). let z : ⊥ = omega (arith, a.0, y) in z)) (none_below v es a.1)
 
-  -- what the first entry has, and the others
-  onto_here : (v : ℕ) (o : Option V) (es : List (ℕ × V)) → AllAbove v es → value_at (onto v o es) v ≡ o
-  onto_here v None es a = none_below v es a
-  onto_here v (Some x) es a = rw (at_same v v refl) refl
+  -- numbers above v that have values
+  above_value : (v u : ℕ) (es : List (ℕ × V)) → AllAbove v es → is_some (value_at es u) ≡ true → v < u
+  above_value v u [] a h = absurd (cc)
+  above_value v u (e ∷ es) a h = elim (eqb_tells e.0 u) [
+    | inl t ↦ omega (arith, t.1, a.0)
+    | inr t ↦ above_value v u es a.1 (rw (at_other u e.0 t.1) at h)
+  ]
 
-  onto_there : (u v : ℕ) (o : Option V) (es : List (ℕ × V)) → (u ≡ v → ⊥) → value_at (onto u o es) v ≡ value_at es v
-  onto_there u v None es n = refl
-  onto_there u v (Some x) es n = rw (at_other v u n) refl
+  with_more : (e : ℕ × V) (es : List (ℕ × V)) (u : ℕ) → is_some (value_at es u) ≡ true → is_some (value_at (e ∷ es) u) ≡ true
+  with_more e es u h = elim (eqb_tells e.0 u) [
+    | inl t ↦ rw (at_same u e.0 t.1) refl
+    | inr t ↦ rw (at_other u e.0 t.1) h
+  ]
 
-  onto_both : (u v : ℕ) (o : Option V) (es fs : List (ℕ × V)) → value_at es v ≡ value_at fs v → value_at (onto u o es) v ≡ value_at (onto u o fs) v
-  onto_both u v None es fs h = h
-  onto_both u v (Some x) es fs h = ap (cond (is_eq (nat_cmp v u)) (Some x)) h
+  all_above : (v : ℕ) (es : List (ℕ × V)) → ((u : ℕ) → is_some (value_at es u) ≡ true → v < u) → AllAbove v es
+  all_above v [] h = tt
+  all_above v (e ∷ es) h = (h e.0 (rw (at_same e.0 e.0 refl) refl), all_above v es (λ u g. h u (with_more e es u g)))
 
-  onto_put : (u v : ℕ) (o p : Option V) (es fs : List (ℕ × V)) → (u ≡ v → ⊥) → IsPut es fs v p → IsPut (onto u o es) (onto u o fs) v p
-  onto_put u v o p es fs n h = record { here = onto_there u v o fs n ∙ h.here; others = λ w d. onto_both u w o fs es (h.others w d) }
+  -- what entries and those after them have
+  pub value_append : (es fs : List (ℕ × V)) (v : ℕ) → value_at (es ++ fs) v ≡ option_or (value_at es v) (value_at fs v)
+  value_append [] fs v = refl
+  value_append (e ∷ es) fs v = elim (eqb_tells e.0 v) [
+    | inl t ↦ rw (at_same v e.0 t.1) refl
+    | inr t ↦ rw (at_other v e.0 t.1) (value_append es fs v)
+  ]
 
-  -- the filled entries rise too
-  onto_above : (v u : ℕ) (o : Option V) (es : List (ℕ × V)) → v < u → AllAbove v es → AllAbove v (onto u o es)
-  onto_above v u None es lt a = a
-  onto_above v u (Some x) es lt a = (lt, a)
+  -- two lists that rise one after the other
+  pub record IsParted (es fs : List (ℕ × V)) : Type 0 where
+    pub before : Rises es
+    pub after : Rises fs
+    pub apart : (u w : ℕ) → is_some (value_at es u) ≡ true → is_some (value_at fs w) ≡ true → u < w
 
-  onto_rises : (u : ℕ) (o : Option V) (es : List (ℕ × V)) → AllAbove u es → Rises es → Rises (onto u o es)
-  onto_rises u None es a r = r
-  onto_rises u (Some x) es a r = (a, r)
+  above_both : (v : ℕ) (es fs : List (ℕ × V)) → AllAbove v (es ++ fs) → AllAbove v es × AllAbove v fs
+  above_both v [] fs a = (tt, a)
+  above_both v (e ∷ es) fs a = let b : AllAbove v es × AllAbove v fs = above_both v es fs a.1 in ((a.0, b.0), b.1)
 
-  filled_above : (v : ℕ) (l : List (ℕ × Option V)) → AllAbove v l → AllAbove v (filled l)
-  filled_above v [] a = tt
-  filled_above v (e ∷ l) a = onto_above v e.0 e.1 (filled l) a.0 (filled_above v l a.1)
+  above_append : (v : ℕ) (es fs : List (ℕ × V)) → AllAbove v es → AllAbove v fs → AllAbove v (es ++ fs)
+  above_append v [] fs a b = b
+  above_append v (e ∷ es) fs a b = (a.0, above_append v es fs a.1 b)
 
-  pub filled_rises : (l : List (ℕ × Option V)) → Rises l → Rises (filled l)
-  filled_rises [] r = tt
-  filled_rises (e ∷ l) r = onto_rises e.0 e.1 (filled l) (filled_above e.0 l r.0) (filled_rises l r.1)
+  pub parted : (es fs : List (ℕ × V)) → Rises (es ++ fs) → IsParted es fs
+  parted [] fs r = record { before = tt; after = r; apart = λ u w h g. (let z : false ≡ true = h in absurd (cc)) }
+  parted (e ∷ es) fs r =
+      let p : IsParted es fs = parted es fs r.1 in
+      let b : AllAbove e.0 es × AllAbove e.0 fs = above_both e.0 es fs r.0 in record {
+        before = (b.0, p.before);
+        after = p.after;
+        apart = λ u w h g. elim (eqb_tells e.0 u) [
+          | inl t ↦ (let l : e.0 < w = above_value e.0 w fs b.1 g in omega (arith, t.1))
+          | inr t ↦ p.apart u w (rw (at_other u e.0 t.1) at h) g
+        ];
+      }
 
-  -- by places: numbers rise
-  above_at : (v : ℕ) (l : List (ℕ × Option V)) (j : ℕ) → AllAbove v l → j < length l → v < number_at l j
-  above_at v [] j a lt = absurd (omega arith)
-  above_at v (e ∷ l) zero a lt = a.0
-  above_at v (e ∷ l) (suc j) a lt = above_at v l j a.1 (omega arith)
+  pub together : (es fs : List (ℕ × V)) → IsParted es fs → Rises (es ++ fs)
+  together [] fs p = p.after
+  together (e ∷ es) fs p = (
+    above_append e.0 es fs p.before.0 (all_above e.0 fs (λ w g. p.apart e.0 w (rw (at_same e.0 e.0 refl) refl) g)),
+    together es fs (record { before = p.before.1; after = p.after; apart = λ u w h g. p.apart u w (with_more e es u h) g }),
+  )
 
-  pub rising : (l : List (ℕ × Option V)) (i j : ℕ) → Rises l → i < j → j < length l → number_at l i < number_at l j
-  rising [] i j r lt len = absurd (omega arith)
-  rising (e ∷ l) i zero r lt len = absurd (omega arith)
-  rising (e ∷ l) zero (suc j) r lt len = above_at e.0 l j r.0 (omega arith)
-  rising (e ∷ l) (suc i) (suc j) r lt len = rising l i j r.1 (omega arith) (omega arith)
+  pub value_before : (es fs : List (ℕ × V)) (v : ℕ) → value_at fs v ≡ None → value_at (es ++ fs) v ≡ value_at es v
+  value_before es fs v z = value_append es fs v ∙ ap (option_or (value_at es v)) z ∙ or_none (value_at es v)
 
-  above_all : (v : ℕ) (l : List (ℕ × Option V)) → ((j : ℕ) → j < length l → v < number_at l j) → AllAbove v l
-  above_all v [] h = tt
-  above_all v (e ∷ l) h = (h 0 (omega arith), above_all v l (λ j lt. h (suc j) (omega arith)))
+  -- what one of the later ones has, none of the earlier has
+  none_before : (es fs : List (ℕ × V)) (v : ℕ) → IsParted es fs → is_some (value_at fs v) ≡ true → value_at es v ≡ None
+  none_before es fs v p h = none_or (value_at es v) (λ g. let l : v < v = p.apart v v g h in omega arith)
+
+  -- an edit of the later ones, or of the earlier, at a number that they have
+  pub put_after : (es fs gs : List (ℕ × V)) (v : ℕ) (o : Option V) → IsParted es fs → is_some (value_at fs v) ≡ true → Rises gs → IsPut fs gs v o → IsPut (es ++ fs) (es ++ gs) v o × IsParted es gs
+  put_after es fs gs v o p h r q = (
+    record {
+      here = value_append es gs v ∙ rw (none_before es fs v p h) q.here;
+      others = λ u n. value_append es gs u ∙ ap (option_or (value_at es u)) (q.others u n) ∙ sym (value_append es fs u);
+    },
+    record {
+      before = p.before;
+      after = r;
+      apart = λ u w x y. elim (eqb_tells w v) [
+        | inl t ↦ (let l : u < v = p.apart u v x h in omega (arith, t.1))
+        | inr t ↦ p.apart u w x (ap is_some (sym (q.others w t.1)) ∙ y)
+      ];
+    },
+  )
+
+  pub put_before : (es gs fs : List (ℕ × V)) (v : ℕ) (o : Option V) → IsParted es fs → value_at fs v ≡ None → (is_some o ≡ true → is_some (value_at es v) ≡ true) → Rises gs → IsPut es gs v o → IsPut (es ++ fs) (gs ++ fs) v o × IsParted gs fs
+  put_before es gs fs v o p z h r q = (
+    record {
+      here = value_append gs fs v ∙ ap (option_or (value_at gs v)) z ∙ or_none (value_at gs v) ∙ q.here;
+      others = λ u n. value_append gs fs u ∙ ap (λ x. option_or x (value_at fs u)) (q.others u n) ∙ sym (value_append es fs u);
+    },
+    record {
+      before = r;
+      after = p.after;
+      apart = λ u w x y. elim (eqb_tells u v) [
+        | inl t ↦ (let l : v < w = p.apart v w (h (ap is_some (sym q.here) ∙ ap (λ n. is_some (value_at gs n)) (sym t.1) ∙ x)) y in omega (arith, t.1))
+        | inr t ↦ p.apart u w (ap is_some (sym (q.others u t.1)) ∙ x) y
+      ];
+    },
+  )
+
+  -- a number above all goes to the end
+  pub put_last : (es : List (ℕ × V)) (v : ℕ) (x : V) → Rises es → AllBelow es v → IsPut es (es ++ (v, x) ∷ []) v (Some x) × Rises (es ++ (v, x) ∷ [])
+  put_last es v x r b =
+      let none : value_at es v ≡ None = none_or (value_at es v) (λ g. let l : v < v = b v g in omega arith) in (
+        record {
+          here = value_append es ((v, x) ∷ []) v ∙ rw (none, at_same v v refl) refl;
+          others = λ u n. value_append es ((v, x) ∷ []) u ∙ rw (at_other u v (λ y. n (sym y))) (or_none (value_at es u));
+        },
+        together es ((v, x) ∷ []) (record {
+          before = r;
+          after = (tt, tt);
+          apart = λ u w g h. elim (eqb_tells v w) [
+            | inl t ↦ (let l : u < v = b u g in omega (arith, t.1))
+            | inr t ↦ (let z : false ≡ true = rw (at_other w v t.1) at h in absurd (cc))
+          ];
+        }),
+      )
 
   -- the same place in what follows the first entry
-  place_below : (e : ℕ × Option V) (l : List (ℕ × Option V)) (v i : ℕ) → IsPlace (e ∷ l) v (suc i) → IsPlace l v i
-  place_below e l v i p = record { in_range = omega (arith, p.in_range); number = p.number }
+  place_below : (e : ℕ × V) (es : List (ℕ × V)) (v i : ℕ) → IsPlace (e ∷ es) v (suc i) → IsPlace es v i
+  place_below e es v i p = record { in_range = omega (arith, p.in_range); number = p.number }
 
-  gap_below : (e : ℕ × Option V) (l : List (ℕ × Option V)) (v i : ℕ) → IsGap (e ∷ l) v (suc i) → IsGap l v i
-  gap_below e l v i g = record { in_range = omega (arith, g.in_range); lower = λ j lt. g.lower (suc j) (omega arith); higher = λ j le lt. g.higher (suc j) (omega arith) (omega arith) }
+  above_at : (v : ℕ) (es : List (ℕ × V)) (i : ℕ) (d : ℕ × V) → AllAbove v es → i < length es → v < (get_or es i d).0
+  above_at v [] i d a lt = absurd (omega arith)
+  above_at v (e ∷ es) zero d a lt = a.0
+  above_at v (e ∷ es) (suc i) d a lt = above_at v es i d a.1 (omega arith)
 
-  not_first : (e : ℕ × Option V) (l : List (ℕ × Option V)) (v i : ℕ) → Rises (e ∷ l) → IsPlace (e ∷ l) v (suc i) → e.0 < v
-  not_first e l v i r p = let b : e.0 < number_at l i = above_at e.0 l i r.0 (omega (arith, p.in_range)) in omega (arith, p.number)
+  not_first : (e : ℕ × V) (es : List (ℕ × V)) (v i : ℕ) → AllAbove e.0 es → IsPlace es v i → e.0 < v
+  not_first e es v i a p = let b : e.0 < (get_or es i e).0 = above_at e.0 es i e a p.in_range in omega (arith, p.number e)
 
   -- what stands at a number's place is its value
-  pub value_there : (l : List (ℕ × Option V)) (v i : ℕ) → Rises l → IsPlace l v i → value_at (filled l) v ≡ (get_or l i (0, None)).1
-  value_there [] v i r p = absurd (omega (arith, p.in_range))
-  value_there (e ∷ l) v zero r p = ap (value_at (filled (e ∷ l))) (sym p.number) ∙ onto_here e.0 e.1 (filled l) (filled_above e.0 l r.0)
-  value_there (e ∷ l) v (suc i) r p =
-      let b : e.0 < v = not_first e l v i r p in
-      onto_there e.0 v e.1 (filled l) (λ y. omega arith) ∙ value_there l v i r.1 (place_below e l v i p)
+  pub value_there : (es : List (ℕ × V)) (v i : ℕ) (d : ℕ × V) → Rises es → IsPlace es v i → value_at es v ≡ Some (get_or es i d).1
+  value_there [] v i d r p = absurd (omega (arith, p.in_range))
+  value_there (e ∷ es) v zero d r p = rw (at_same v e.0 (p.number e)) refl
+  value_there (e ∷ es) v (suc i) d r p =
+      let b : e.0 < v = not_first e es v i r.0 (place_below e es v i p) in
+      rw (at_other v e.0 (λ (y : e.0 ≡ v). let z : ⊥ = omega (arith, y) in z)) (value_there es v i d r.1 (place_below e es v i p))
 
-  -- a number that has a gap has no value
-  pub value_in_gap : (l : List (ℕ × Option V)) (v i : ℕ) → IsGap l v i → value_at (filled l) v ≡ None
-  value_in_gap [] v i g = refl
-  value_in_gap (e ∷ l) v zero g =
-      let b : v < e.0 = g.higher 0 (omega arith) (omega arith) in
-      onto_there e.0 v e.1 (filled l) (λ y. omega arith) ∙ value_in_gap l v zero (record { in_range = omega arith; lower = λ j lt. absurd (omega arith); higher = λ j le lt. g.higher (suc j) (omega arith) (omega arith) })
-  value_in_gap (e ∷ l) v (suc i) g =
-      let b : e.0 < v = g.lower 0 (omega arith) in
-      onto_there e.0 v e.1 (filled l) (λ y. omega arith) ∙ value_in_gap l v i (gap_below e l v i g)
+  pub has_there : (es : List (ℕ × V)) (v i : ℕ) → Rises es → IsPlace es v i → is_some (value_at es v) ≡ true
+  has_there [] v i r p = absurd (omega (arith, p.in_range))
+  has_there (e ∷ es) v i r p = ap is_some (value_there (e ∷ es) v i e r p)
+
+  pub value_after : (es fs : List (ℕ × V)) (v i : ℕ) (d : ℕ × V) → IsParted es fs → IsPlace fs v i → value_at (es ++ fs) v ≡ Some (get_or fs i d).1
+  value_after es fs v i d p q = value_append es fs v ∙ ap (λ o. option_or o (value_at fs v)) (none_before es fs v p (has_there fs v i p.after q)) ∙ value_there fs v i d p.after q
+
+  -- where no number is, and below the first
+  pub none_empty : (es : List (ℕ × V)) (v : ℕ) → length es ≡ 0 → value_at es v ≡ None
+  none_empty [] v h = refl
+  none_empty (e ∷ es) v h = absurd (omega arith)
+
+  above_less : (v u : ℕ) (es : List (ℕ × V)) → v < u → AllAbove u es → AllAbove v es
+  above_less v u [] lt a = tt
+  above_less v u (e ∷ es) lt a = (omega (arith, a.0), above_less v u es lt a.1)
+
+  pub none_low : (es : List (ℕ × V)) (v : ℕ) (d : ℕ × V) → Rises es → v < (get_or es 0 d).0 → value_at es v ≡ None
+  none_low [] v d r lt = refl
+  none_low (e ∷ es) v d r lt = none_below v (e ∷ es) (lt, above_less v e.0 es lt r.0)
+
+  -- an edit behind the first entry
+  put_more : (e : ℕ × V) (es fs : List (ℕ × V)) (v : ℕ) (o : Option V) → e.0 < v → IsPut es fs v o → IsPut (e ∷ es) (e ∷ fs) v o
+  put_more e es fs v o lt q = record {
+    here = rw (at_other v e.0 (λ (y : e.0 ≡ v). let z : ⊥ = omega (arith, y) in z)) q.here;
+    others = λ u n. elim (eqb_tells e.0 u) [
+      | inl t ↦ rw (at_same u e.0 t.1) refl
+      | inr t ↦ rw (at_other u e.0 t.1) (q.others u n)
+    ];
+  }
 
   -- another value at a number's place
-  above_set : (u : ℕ) (l : List (ℕ × Option V)) (v i : ℕ) (o : Option V) → AllAbove u l → IsPlace l v i → AllAbove u (set l i (v, o))
-  above_set u [] v i o a p = absurd (omega (arith, p.in_range))
-  above_set u (e ∷ l) v zero o a p = (omega (arith, a.0, p.number), a.1)
-  above_set u (e ∷ l) v (suc i) o a p = (a.0, above_set u l v i o a.1 (place_below e l v i p))
-
-  above_this : (e : ℕ × Option V) (l : List (ℕ × Option V)) (v : ℕ) → IsPlace (e ∷ l) v 0 → Rises (e ∷ l) → AllAbove v l
-  above_this e l v p r = subst (λ n. AllAbove n l) p.number r.0
-
-  pub rises_set : (l : List (ℕ × Option V)) (v i : ℕ) (o : Option V) → Rises l → IsPlace l v i → Rises (set l i (v, o))
-  rises_set [] v i o r p = absurd (omega (arith, p.in_range))
-  rises_set (e ∷ l) v zero o r p = (above_this e l v p r, r.1)
-  rises_set (e ∷ l) v (suc i) o r p = (above_set e.0 l v i o r.0 (place_below e l v i p), rises_set l v i o r.1 (place_below e l v i p))
-
-  pub put_set : (l : List (ℕ × Option V)) (v i : ℕ) (o : Option V) → Rises l → IsPlace l v i → IsPut (filled l) (filled (set l i (v, o))) v o
-  put_set [] v i o r p = absurd (omega (arith, p.in_range))
-  put_set (e ∷ l) v zero o r p = record {
-    here = onto_here v o (filled l) (filled_above v l (above_this e l v p r));
-    others = λ u d. onto_there v u o (filled l) (λ y. d (sym y)) ∙ sym (onto_there e.0 u e.1 (filled l) (λ y. d (sym y ∙ p.number)));
+  pub put_set : (es : List (ℕ × V)) (v i : ℕ) (x : V) → Rises es → IsPlace es v i → IsPut es (set es i (v, x)) v (Some x)
+  put_set [] v i x r p = absurd (omega (arith, p.in_range))
+  put_set (e ∷ es) v zero x r p = record {
+    here = rw (at_same v v refl) refl;
+    others = λ u n. rw (at_other u v (λ y. n (sym y)), at_other u e.0 (λ y. n (sym y ∙ p.number e))) refl;
   }
-  put_set (e ∷ l) v (suc i) o r p =
-      let b : e.0 < v = not_first e l v i r p in
-      onto_put e.0 v e.1 o (filled l) (filled (set l i (v, o))) (λ y. omega arith) (put_set l v i o r.1 (place_below e l v i p))
+  put_set (e ∷ es) v (suc i) x r p =
+      let q : IsPlace es v i = place_below e es v i p in
+      put_more e es (set es i (v, x)) v (Some x) (not_first e es v i r.0 q) (put_set es v i x r.1 q)
 
-  -- one where there is a value
-  abbrev pub one : Option V → ℕ
-  one None = 0
-  one (Some x) = 1
+  above_set : (u : ℕ) (es : List (ℕ × V)) (v i : ℕ) (x : V) → AllAbove u es → u < v → AllAbove u (set es i (v, x))
+  above_set u [] v i x a lt = tt
+  above_set u (e ∷ es) v zero x a lt = (lt, a.1)
+  above_set u (e ∷ es) v (suc i) x a lt = (a.0, above_set u es v i x a.1 lt)
 
-  onto_length : (v : ℕ) (o : Option V) (es : List (ℕ × V)) → length (onto v o es) ≡ one o + length es
-  onto_length v None es = omega arith
-  onto_length v (Some x) es = omega arith
+  pub rises_set : (es : List (ℕ × V)) (v i : ℕ) (x : V) → Rises es → IsPlace es v i → Rises (set es i (v, x))
+  rises_set [] v i x r p = absurd (omega (arith, p.in_range))
+  rises_set (e ∷ es) v zero x r p = (subst (λ n. AllAbove n es) (p.number e) r.0, r.1)
+  rises_set (e ∷ es) v (suc i) x r p =
+      let q : IsPlace es v i = place_below e es v i p in
+      (above_set e.0 es v i x r.0 (not_first e es v i r.0 q), rises_set es v i x r.1 q)
 
-  pub length_set : (l : List (ℕ × Option V)) (v i : ℕ) (o : Option V) → i < length l → length (filled (set l i (v, o))) + one (get_or l i (0, None)).1 ≡ length (filled l) + one o
-  length_set [] v i o lt = absurd (omega arith)
-  length_set (e ∷ l) v zero o lt = omega (arith, onto_length v o (filled l), onto_length e.0 e.1 (filled l))
-  length_set (e ∷ l) v (suc i) o lt = omega (arith, onto_length e.0 e.1 (filled (set l i (v, o))), onto_length e.0 e.1 (filled l), length_set l v i o (omega arith))
-
-  pub one_some : (o : Option V) → is_some o ≡ true → one o ≡ 1
-  one_some None h = absurd (cc)
-  one_some (Some x) h = refl
-
-  pub none_there : (o : Option V) → is_some o ≡ false → o ≡ None
-  none_there None h = refl
-  none_there (Some x) h = absurd (cc)
-
-  -- an empty entry that is emptied leaves the values
-  pub same_empty : (l : List (ℕ × Option V)) (v i : ℕ) → i < length l → (get_or l i (0, None)).1 ≡ None → filled (set l i (v, None)) ≡ filled l
-  same_empty [] v i lt h = absurd (omega arith)
-  same_empty (e ∷ l) v zero lt h = sym (ap (λ o. onto e.0 o (filled l)) h)
-  same_empty (e ∷ l) v (suc i) lt h = ap (λ es. onto e.0 e.1 es) (same_empty l v i (omega arith) h)
-
-  pub if_none : {P : Type 0} (o : Option V) → (o ≡ None → P) → IfNone o P
-  if_none None f = f refl
-  if_none (Some x) f = tt
-
-  -- what was said of a number that has no value holds still
-  pub put_none : (es : List (ℕ × V)) (v : ℕ) → value_at es v ≡ None → IsPut es es v None
-  put_none es v h = record { here = h; others = λ u d. refl }
-
-  pub length_filled : (l : List (ℕ × Option V)) → length (filled l) ≤ length l
-  length_filled [] = omega arith
-  length_filled (e ∷ l) = omega (arith, at_most e.1, onto_length e.0 e.1 (filled l), length_filled l) where
-    at_most : (o : Option V) → one o ≤ 1
-    at_most None = omega arith
-    at_most (Some x) = omega arith
-
-  -- an entry more, in a number's gap
-  above_insert : (u : ℕ) (l : List (ℕ × Option V)) (v i : ℕ) (o : Option V) → u < v → AllAbove u l → AllAbove u (insert l i (v, o))
-  above_insert u l v zero o lt a = (lt, a)
-  above_insert u [] v (suc i) o lt a = (lt, tt)
-  above_insert u (e ∷ l) v (suc i) o lt a = (a.0, above_insert u l v i o lt a.1)
-
-  pub rises_insert : (l : List (ℕ × Option V)) (v i : ℕ) (o : Option V) → Rises l → IsGap l v i → Rises (insert l i (v, o))
-  rises_insert l v zero o r g = (above_all v l (λ j lt. g.higher j (omega arith) lt), r)
-  rises_insert [] v (suc i) o r g = (tt, tt)
-  rises_insert (e ∷ l) v (suc i) o r g = (above_insert e.0 l v i o (g.lower 0 (omega arith)) r.0, rises_insert l v i o r.1 (gap_below e l v i g))
-
-  pub put_insert : (l : List (ℕ × Option V)) (v i : ℕ) (x : V) → IsGap l v i → IsPut (filled l) (filled (insert l i (v, Some x))) v (Some x)
-  put_insert l v zero x g = record { here = rw (at_same v v refl) refl; others = λ u d. rw (at_other u v (λ y. d (sym y))) refl }
-  put_insert [] v (suc i) x g = record { here = rw (at_same v v refl) refl; others = λ u d. rw (at_other u v (λ y. d (sym y))) refl }
-  put_insert (e ∷ l) v (suc i) x g =
-      let b : e.0 < v = g.lower 0 (omega arith) in
-      onto_put e.0 v e.1 (Some x) (filled l) (filled (insert l i (v, Some x))) (λ y. omega arith) (put_insert l v i x (gap_below e l v i g))
-
-  pub length_insert : (l : List (ℕ × Option V)) (v i : ℕ) (x : V) → length (filled (insert l i (v, Some x))) ≡ length (filled l) + 1
-  length_insert l v zero x = omega arith
-  length_insert [] v (suc i) x = omega arith
-  length_insert (e ∷ l) v (suc i) x = omega (arith, onto_length e.0 e.1 (filled (insert l i (v, Some x))), onto_length e.0 e.1 (filled l), length_insert l v i x)
-
-  -- the entries without the empty ones
-  abbrev pub is_filled : ℕ × Option V → Bool
-  is_filled e = is_some e.1
-
-  above_packed : (v : ℕ) (l : List (ℕ × Option V)) → AllAbove v l → AllAbove v (filter is_filled l)
-  above_packed v [] a = tt
-  above_packed v ((k, None) ∷ l) a = above_packed v l a.1
-  above_packed v ((k, Some x) ∷ l) a = (a.0, above_packed v l a.1)
-
-  pub rises_packed : (l : List (ℕ × Option V)) → Rises l → Rises (filter is_filled l)
-  rises_packed [] r = tt
-  rises_packed ((k, None) ∷ l) r = rises_packed l r.1
-  rises_packed ((k, Some x) ∷ l) r = (above_packed k l r.0, rises_packed l r.1)
-
-  pub filled_packed : (l : List (ℕ × Option V)) → filled (filter is_filled l) ≡ filled l
-  filled_packed [] = refl
-  filled_packed ((k, None) ∷ l) = filled_packed l
-  filled_packed ((k, Some x) ∷ l) = ap (λ es. (k, x) ∷ es) (filled_packed l)
-
-module _ {V : Type 0} (l : List (ℕ × Option V)) (r : Rises l) (v : ℕ) where
-  -- the comparisons with v rise along the list, as a binary search asks
-  comparisons_rise : IsNonDecreasingBy (λ e. ordering_index (nat_cmp e.0 v)) l
-  comparisons_rise = IsNonDecreasingBy-from_default (λ e. ordering_index (nat_cmp e.0 v)) l (0, None) (λ i j le in_range.
-      let numbers : number_at l i ≤ number_at l j = grind (arith, rising l i j r, λ (same : i ≡ j). ap (number_at l) same) in
-      grind (arith, nat_tests))
-
-  -- a binary search ends at the number, or at its gap
-  pub searched : (o : Result ℕ ℕ) → IsSearchInRange o (length l) → IsBinarySearchResult (λ e. nat_cmp e.0 v) l o → record { found : IfOk o (IsPlace l v); absent : IfErr o (IsGap l v) }
-  searched (Ok at) in_range equal = record { found = record { in_range = in_range; number = ranked _ v _ (sym (equal (0, None))) }; absent = tt }
-  searched (Err at) in_range parted = record {
-    found = tt;
-    absent = record {
-      in_range = in_range;
-      lower = λ j lt. ranked _ v _ (sym ((parted comparisons_rise).0 j (0, None) (omega arith) lt));
-      higher = λ j le lt. ranked _ v _ (sym ((parted comparisons_rise).1 j (0, None) le lt));
-    };
+  -- a number's entry taken out
+  pub put_removed : (es : List (ℕ × V)) (v i : ℕ) → Rises es → IsPlace es v i → IsPut es (remove es i) v None
+  put_removed [] v i r p = absurd (omega (arith, p.in_range))
+  put_removed (e ∷ es) v zero r p = record {
+    here = none_below v es (subst (λ n. AllAbove n es) (p.number e) r.0);
+    others = λ u n. rw (at_other u e.0 (λ y. n (sym y ∙ p.number e))) refl;
   }
+  put_removed (e ∷ es) v (suc i) r p =
+      let q : IsPlace es v i = place_below e es v i p in
+      put_more e es (remove es i) v None (not_first e es v i r.0 q) (put_removed es v i r.1 q)
 
--- a number above the last goes to the end
-pub after_last : {V : Type 0} (l : List (ℕ × Option V)) (v i : ℕ) → Rises l → i + 1 ≡ length l → number_at l i < v → IsGap l v (length l)
-after_last l v i r e lt = record {
-  in_range = omega arith;
-  lower = λ j below. elim (leb_tells i j) [
-    | inl t ↦ (let same : number_at l i ≡ number_at l j = ap (number_at l) (omega (arith, t.1)) in omega arith)
-    | inr t ↦ (let b : number_at l j < number_at l i = rising l j i r t.1 (omega arith) in omega arith)
-  ];
-  higher = λ j le below. absurd (omega arith);
-}
+  above_removed : (u : ℕ) (es : List (ℕ × V)) (i : ℕ) → AllAbove u es → AllAbove u (remove es i)
+  above_removed u [] zero a = tt
+  above_removed u [] (suc i) a = tt
+  above_removed u (e ∷ es) zero a = a.1
+  above_removed u (e ∷ es) (suc i) a = (a.0, above_removed u es i a.1)
 
--- the first number
-abbrev pub first_of : {V : Type 0} → List (ℕ × V) → Option ℕ
-first_of [] = None
-first_of (e ∷ es) = Some e.0
+  pub rises_removed : (es : List (ℕ × V)) (i : ℕ) → Rises es → Rises (remove es i)
+  rises_removed [] zero r = tt
+  rises_removed [] (suc i) r = tt
+  rises_removed (e ∷ es) zero r = r.1
+  rises_removed (e ∷ es) (suc i) r = (above_removed e.0 es i r.0, rises_removed es i r.1)
 
-module _ {V : Type 0} where
-  pub first_filled : (k : ℕ) (o : Option V) (es : List (ℕ × V)) → is_some o ≡ true → first_of (onto k o es) ≡ Some k
-  first_filled k None es h = absurd (cc)
-  first_filled k (Some x) es h = refl
+  -- keys that ascend
+  pub rises : (es : List (ℕ × V)) → IsStrictlySortedBy nat_cmp (keys_of es) → Rises es
+  unfolding IsStrictlySortedBy
+  rises [] s = tt
+  rises (e ∷ es) s = (above e.0 es s.0, rises es s.1) where
+    above : (n : ℕ) (xs : List (ℕ × V)) → Rattle.std.specs.List.AllByRecursion (λ y. nat_cmp n y ≡ Less) (keys_of xs) → AllAbove n xs
+    above n [] a = tt
+    above n (x ∷ xs) a = (is_less n x.0 a.0, above n xs a.1)
 
-  pub first_empty : (k : ℕ) (o : Option V) (es : List (ℕ × V)) → is_some o ≡ false → first_of (onto k o es) ≡ first_of es
-  first_empty k None es h = refl
-  first_empty k (Some x) es h = absurd (cc)
+  -- the first of the later ones goes to the end of the earlier
+  pub entry_last : (es fs : List (ℕ × V)) (k : ℕ) (x : V) → Rises (es ++ (k, x) ∷ fs) → insert_entry nat_cmp es k x ≡ es ++ (k, x) ∷ []
+  entry_last [] fs k x r = refl
+  entry_last (e ∷ es) fs k x r =
+      let b : AllAbove e.0 es × AllAbove e.0 ((k, x) ∷ fs) = above_both e.0 es ((k, x) ∷ fs) r.0 in
+      rw (sym (nat_cmp_is k e.0 Greater b.1.0)) (ap (λ l. e ∷ l) (entry_last es fs k x r.1))
 
-  from_low : (k v : ℕ) (o : Option V) (es : List (ℕ × V)) → k < v → first_from (onto k o es) v ≡ first_from es v
-  from_low k v None es lt = refl
-  from_low k v (Some x) es lt = rw (lt-leb v k lt) refl
+  pub first_moved : (es fs : List (ℕ × V)) (d : ℕ × V) → 0 < length fs → Rises (es ++ fs) → (let f = get_or fs 0 d in insert_entry nat_cmp es f.0 f.1 ++ remove fs 0 ≡ es ++ fs)
+  first_moved es [] d lt r = absurd (omega arith)
+  first_moved es ((k, x) ∷ fs) d lt r = ap (λ l. l ++ fs) (entry_last es fs k x r) ∙ append_assoc es ((k, x) ∷ []) fs
 
-  from_high : (k v : ℕ) (o : Option V) (es : List (ℕ × V)) → v ≤ k → first_from es v ≡ first_of es → first_from (onto k o es) v ≡ first_of (onto k o es)
-  from_high k v None es le h = h
-  from_high k v (Some x) es le h = rw (le-leb v k le) refl
+  -- the first number from v on
+  pub first_append : (es fs : List (ℕ × V)) (v : ℕ) → first_from (es ++ fs) v ≡ option_or (first_from es v) (first_from fs v)
+  first_append [] fs v = refl
+  first_append (e ∷ es) fs v = elim (leb_tells v e.0) [
+    | inl t ↦ rw t.0 refl
+    | inr t ↦ rw t.0 (first_append es fs v)
+  ]
 
-  all_high : (l : List (ℕ × Option V)) (v : ℕ) → ((j : ℕ) → j < length l → v ≤ number_at l j) → first_from (filled l) v ≡ first_of (filled l)
-  all_high [] v h = refl
-  all_high (e ∷ l) v h = from_high e.0 v e.1 (filled l) (h 0 (omega arith)) (all_high l v (λ j lt. h (suc j) (omega arith)))
+  abbrev inside : ℕ → ℕ × V → Bool
+  inside v e = range_contains nat_cmp (Included v) Unbounded e.0
 
-  -- the first from v on is the first of those from a place on before which all are lower
-  pub from_place : (l : List (ℕ × Option V)) (v i : ℕ) → i ≤ length l → ((j : ℕ) → j < i → number_at l j < v) → ((j : ℕ) → i ≤ j → j < length l → v ≤ number_at l j) → first_from (filled l) v ≡ first_of (filled (drop i l))
-  from_place l v zero le low high = all_high l v (λ j lt. high j (omega arith) lt)
-  from_place [] v (suc i) le low high = refl
-  from_place (e ∷ l) v (suc i) le low high = from_low e.0 v e.1 (filled l) (low 0 (omega arith)) ∙ from_place l v i (omega arith) (λ j lt. low (suc j) (omega arith)) (λ j le lt. high (suc j) (omega arith) (omega arith))
+  inside_true : (v : ℕ) (e : ℕ × V) → v ≤ e.0 → inside v e ≡ true
+  inside_true v e l = elim (eqb_tells v e.0) [
+    | inl t ↦ ap (λ o. is_le o && true) (sym (nat_cmp_is v e.0 Equal t.1))
+    | inr t ↦ (let m : v < e.0 = omega (arith, l, t.1) in ap (λ o. is_le o && true) (sym (nat_cmp_is v e.0 Less m)))
+  ]
 
-  -- from where a search ended
-  pub from_there : (l : List (ℕ × Option V)) (v i : ℕ) → Rises l → IsPlace l v i → first_from (filled l) v ≡ first_of (filled (drop i l))
-  from_there l v i r p = from_place l v i (omega (arith, p.in_range)) (λ j lt. let b : number_at l j < number_at l i = rising l j i r lt p.in_range in omega (arith, p.number)) (λ j le lt. elim (leb_tells j i) [
-    | inl t ↦ (let e : number_at l i ≡ number_at l j = ap (number_at l) (omega (arith, t.1)) in omega (arith, p.number))
-    | inr t ↦ (let b : number_at l i < number_at l j = rising l i j r t.1 lt in omega (arith, p.number))
-  ])
+  inside_false : (v : ℕ) (e : ℕ × V) → e.0 < v → inside v e ≡ false
+  inside_false v e l = ap (λ o. is_le o && true) (sym (nat_cmp_is v e.0 Greater l))
 
-  pub from_gap : (l : List (ℕ × Option V)) (v i : ℕ) → IsGap l v i → first_from (filled l) v ≡ first_of (filled (drop i l))
-  from_gap l v i g = from_place l v i g.in_range g.lower (λ j le lt. let b : v < number_at l j = g.higher j le lt in omega arith)
+  pub first_between : (es rest : List (ℕ × V)) (v k : ℕ) (x : V) → filter (inside v) es ≡ (k, x) ∷ rest → first_from es v ≡ Some k
+  first_between [] rest v k x h = absurd (cc)
+  first_between (e ∷ es) rest v k x h = elim (leb_tells v e.0) [
+    | inl t ↦ (let f : e ∷ filter (inside v) es ≡ (k, x) ∷ rest = rw (inside_true v e t.1) at h in
+        let a : e ≡ (k, x) = cc in
+        rw t.0 (ap (λ p. Some p.0) a))
+    | inr t ↦ rw t.0 (first_between es rest v k x (rw (inside_false v e (omega (arith, t.1))) at h))
+  ]
+
+  pub none_between : (es : List (ℕ × V)) (v : ℕ) → filter (inside v) es ≡ [] → first_from es v ≡ None
+  none_between [] v h = refl
+  none_between (e ∷ es) v h = elim (leb_tells v e.0) [
+    | inl t ↦ (let f : e ∷ filter (inside v) es ≡ [] = rw (inside_true v e t.1) at h in absurd (cc))
+    | inr t ↦ rw t.0 (none_between es v (rw (inside_false v e (omega (arith, t.1))) at h))
+  ]
+
+  -- what a map says of an edit
+  pub updated : (m n : BTreeMap ℕ V) (v : ℕ) (o : Option V) → UpdatesBy nat_cmp (nat_cmp v) m n o → IsPut m.entries n.entries v o
+  updated m n v o u = record { here = u.1; others = λ w d. u.2 w (at_other v w d) }

@@ -1,5 +1,5 @@
 -- Values by numbers, in rising order.
-use Rattle.std.specs.Prelude.{◌≡◌, ◌≢◌, ℕ, ◌<◌, ◌≤◌, nat_le, if◌then◌else◌, List, [], ◌∷◌, length, Option, Some, None, slice_index_or}
+use Rattle.std.specs.Prelude.{◌≡◌, ◌≢◌, ℕ, ◌<◌, nat_le, if◌then◌else◌, List, [], ◌∷◌, length, true, Option, Some, None, is_some, slice_index_or}
 use Rattle.std.specs.Ordering.{nat_cmp}
 use Rattle.std.specs.Map.{lookup}
 use Rattle.std.specs.BTreeMap.{is_at}
@@ -23,32 +23,16 @@ abbrev pub Rises : {V : Type 0} → List (ℕ × V) → Type 0
 Rises [] = Unit {0}
 Rises (e ∷ es) = AllAbove e.0 es × Rises es
 
+-- each number that has a value is below v
+abbrev pub AllBelow : {V : Type 0} → List (ℕ × V) → ℕ → Type 0
+AllBelow es v = (u : ℕ) → is_some (value_at es u) ≡ true → u < v
+
 -- v has what is said then, and each other number what it had
 pub record IsPut {V : Type 0} (old new : List (ℕ × V)) (v : ℕ) (o : Option V) : Type 0 where
   pub here : value_at new v ≡ o
   pub others : (u : ℕ) → u ≢ v → value_at new u ≡ value_at old u
 
--- before these entries one more, if it isn't empty
-abbrev pub onto : {V : Type 0} → ℕ → Option V → List (ℕ × V) → List (ℕ × V)
-onto v None es = es
-onto v (Some x) es = (v, x) ∷ es
-
--- the entries that aren't empty
-abbrev pub filled : {V : Type 0} → List (ℕ × Option V) → List (ℕ × V)
-filled [] = []
-filled (e ∷ es) = onto e.0 e.1 (filled es)
-
--- the number of the entry at place i
-abbrev pub number_at : {V : Type 0} → List (ℕ × Option V) → ℕ → ℕ
-number_at es i = let e = slice_index_or es i (0, None) in e.0
-
 -- v stands at place i
-pub record IsPlace {V : Type 0} (es : List (ℕ × Option V)) (v i : ℕ) : Type 0 where
+pub record IsPlace {V : Type 0} (es : List (ℕ × V)) (v i : ℕ) : Type 0 where
   pub in_range : i < length es
-  pub number : number_at es i ≡ v
-
--- v would go to place i: lower numbers are before it, and higher ones from it on
-pub record IsGap {V : Type 0} (es : List (ℕ × Option V)) (v i : ℕ) : Type 0 where
-  pub in_range : i ≤ length es
-  pub lower : (j : ℕ) → j < i → number_at es j < v
-  pub higher : (j : ℕ) → i ≤ j → j < length es → v < number_at es j
+  pub number : (d : ℕ × V) → (let e = slice_index_or es i d in e.0 ≡ v)

@@ -1,42 +1,45 @@
-//! Values by numbers: a list in rising order, in which each step of a look-up halves what is left.
-ghost use Rattle.std.specs.Prelude.{◌≡◌, ◌≢◌, ℕ, List, [], length, is_some, IsSome, true, Some, None, IfNone, IfOk, IfErr, OnOk, OnErr};
+//! Values by numbers: `std`'s ordered map, and before it the newest, which are asked for most and
+//! go soonest.
+ghost use Rattle.std.specs.Prelude.{◌≡◌, ◌≢◌, ℕ, List, [], length, is_some, IsSome, true, Some, None, IfSome, IfNone, OnOk, OnErr};
 ghost use Rattle.std.specs.Option.{option_copied};
-ghost use Rattle.pdl_nodes.specs.Numbered.{IsGap, IsPlace, IsPut, Rises, filled, first_from, value_at};
+ghost use Rattle.pdl_nodes.specs.Numbered.{AllBelow, IsPlace, IsPut, Rises, first_from, value_at};
 
 use std::alloc::{AllocError, Global};
+use std::collections::BTreeMap;
 use std::marker::Model;
-use std::mem::replace;
 use std::ops::Index;
 
-/// Values by numbers. The entry of one that was removed is emptied, and stays: where a new number
-/// finds the list full and at least half of it empty, the list is packed in place of growing. So a
-/// removal touches one entry, and a new number above all others moves few on average.
+/// How many numbers stand before the map at most. No clause asks for it.
+const MOST_NEWEST: usize = 8;
+
+/// Values by numbers. The newest stand in a short list before the map, and go into the map, oldest
+/// first, as newer ones come. So a number that goes soon was never in the map, where each insertion
+/// and each removal beside 500 others takes hundreds of instructions.
 #[derive(Drop)]
 pub struct Numbered<V> {
-    entries: Vec<(u64, Option<V>)>,
-    count: usize,
+    settled: BTreeMap<u64, V>,
+    newest: Vec<(u64, V)>,
 }
 
 impl<V> Model for Numbered<V> {
-    ghost use Rattle.std.specs.Prelude.{◌≡◌, ℕ, List, length};
-    ghost use Rattle.pdl_nodes.specs.Numbered.{Rises, filled};
+    ghost use Rattle.std.specs.Prelude.{ℕ, List, ◌++◌};
+    ghost use Rattle.pdl_nodes.specs.Numbered.{Rises};
 
     ghost Value = { List (ℕ × V) };
 
-    ghost view = { λ n. filled n.entries.items };
+    ghost view = { λ n. n.settled.entries ++ n.newest.items };
 
-    ghost invariant = { λ n.
-        Rises n.entries.items × (n.count ≡ length (filled n.entries.items)) };
+    ghost invariant = { λ n. Rises (n.settled.entries ++ n.newest.items) };
 }
 
-impl<V: Drop> Numbered<V> {
+impl<V: Copy + Drop> Numbered<V> {
     /// No numbers.
     pub fn new(alloc: Global) -> Numbered<V>
         ensures { result ≡ [] }
     {
         Numbered {
-            entries: Vec::new(alloc),
-            count: 0,
+            settled: BTreeMap::new(alloc),
+            newest: Vec::new(alloc),
         }
     }
 
@@ -44,9 +47,9 @@ impl<V: Drop> Numbered<V> {
     pub fn get(&self, id: u64) -> Option<&V>
         ensures { option_copied result ≡ value_at self.now id }
     {
-        match place(&self.entries, id) {
-            Ok(at) => self.entries[at].1.as_ref(),
-            Err(_) => None,
+        match place(&self.newest, id) {
+            Some(at) => Some(&self.newest[at].1),
+            None => self.settled.get(&id),
         }
     }
 
@@ -61,7 +64,7 @@ impl<V: Drop> Numbered<V> {
     pub fn len(&self) -> usize
         ensures { result ≡ length self.now }
     {
-        self.count
+        self.settled.len() + self.newest.len()
     }
 
     /// Gives a number that has a value another one.
@@ -70,55 +73,43 @@ impl<V: Drop> Numbered<V> {
         ensures put { IsPut self.old self.new id (Some value) }
         ensures rises { Rises self.new }
     {
-        match place(&self.entries, id) {
-            Ok(at) => {
-                self.entries[at] = (id, Some(value));
+        match place(&self.newest, id) {
+            Some(at) => {
+                self.newest[at] = (id, value);
             }
-            Err(_) => {}
+            None => match self.settled.get_mut(&id) {
+                Some(kept) => {
+                    *kept = value;
+                }
+                None => {}
+            },
         }
     }
 
-    /// Leaves the emptied entries out where the list is full and at least half of it is empty.
-    fn pack_if_full(&mut self)
-        ensures { self.new ≡ self.old }
+    /// Puts the oldest of the newest numbers into the map, where there are many.
+    fn settle(&mut self) -> Result<(), AllocError>
+        ensures same { self.new ≡ self.old }
+        ensures rises { Rises self.new }
     {
-        let len = self.entries.len();
-        if len == self.entries.capacity() && self.count <= len / 2 {
-            pack(&mut self.entries);
+        if self.newest.len() < MOST_NEWEST {
+            return Ok(());
         }
+        let (id, value) = self.newest[0];
+        self.settled.insert(id, value)?;
+        self.newest.remove(0);
+        Ok(())
     }
 
-    /// Gives a number that has no value one. A number that isn't above all others moves the newer
-    /// ones.
+    /// Gives a number above all others a value.
     pub fn insert(&mut self, id: u64, value: V) -> Result<(), AllocError>
-        requires { value_at self.old id ≡ None }
+        requires above { AllBelow self.old id }
         ensures put { OnOk result (IsPut self.old self.new id (Some value)) }
         ensures rises { Rises self.new }
         ensures err { OnErr result (self.new ≡ self.old) }
     {
-        self.pack_if_full();
-        self.put_new(id, value)
-    }
-
-    /// Gives a number that has no value one, in its emptied entry or in a new one.
-    fn put_new(&mut self, id: u64, value: V) -> Result<(), AllocError>
-        requires { value_at self.old id ≡ None }
-        ensures put { OnOk result (IsPut self.old self.new id (Some value)) }
-        ensures rises { Rises self.new }
-        ensures err { OnErr result (self.new ≡ self.old) }
-    {
-        match place(&self.entries, id) {
-            Ok(at) => {
-                self.entries[at] = (id, Some(value));
-                self.count += 1;
-                Ok(())
-            }
-            Err(at) => {
-                self.entries.insert(at, (id, Some(value)))?;
-                self.count += 1;
-                Ok(())
-            }
-        }
+        self.settle()?;
+        self.newest.push((id, value))?;
+        Ok(())
     }
 
     /// Takes the value of a number away, if it has one, and hands it out.
@@ -128,15 +119,12 @@ impl<V: Drop> Numbered<V> {
         ensures absent { IfNone result (self.new ≡ self.old) }
         ensures rises { Rises self.new }
     {
-        match place(&self.entries, id) {
-            Ok(at) => {
-                let (_, taken) = replace(&mut self.entries[at], (id, None));
-                if taken.is_some() {
-                    self.count -= 1;
-                }
-                taken
+        match place(&self.newest, id) {
+            Some(at) => {
+                let (_, taken) = self.newest.remove(at);
+                Some(taken)
             }
-            Err(_) => None,
+            None => self.settled.remove(&id),
         }
     }
 
@@ -144,21 +132,14 @@ impl<V: Drop> Numbered<V> {
     pub fn from(&self, id: u64) -> Option<u64>
         ensures { result ≡ first_from self.now id }
     {
-        let mut at = match place(&self.entries, id) {
-            Ok(at) => at,
-            Err(at) => at,
-        };
-        while at < self.entries.len() {
-            if self.entries[at].1.is_some() {
-                return Some(self.entries[at].0);
-            }
-            at += 1;
+        match self.settled.range(id..).next() {
+            Some((first, _)) => Some(*first),
+            None => first_of(&self.newest, id),
         }
-        None
     }
 }
 
-impl<V: Drop> Index<u64> for Numbered<V> {
+impl<V: Copy + Drop> Index<u64> for Numbered<V> {
     type Output = V;
 
     ghost can_index = { λ m v. IsSome (value_at m v) };
@@ -170,31 +151,36 @@ impl<V: Drop> Index<u64> for Numbered<V> {
     }
 }
 
-/// Where a number stands, or where it would go. The last is looked at first, since new numbers go
-/// to the end and are asked for most.
-fn place<V>(entries: &[(u64, Option<V>)], id: u64) -> Result<usize, usize>
+/// Where a number stands. The last are looked at first, since they are asked for most; a number
+/// below the first stands nowhere.
+fn place<V>(entries: &[(u64, V)], id: u64) -> Option<usize>
     requires { Rises entries.now }
-    ensures found { IfOk result (IsPlace entries.now id) }
-    ensures absent { IfErr result (IsGap entries.now id) }
+    ensures found { IfSome result (IsPlace entries.now id) }
+    ensures absent { IfNone result (value_at entries.now id ≡ None) }
 {
-    let count = entries.len();
-    if count > 0 {
-        let last = entries[count - 1].0;
-        if last == id {
-            return Ok(count - 1);
-        }
-        if last < id {
-            return Err(count);
+    let mut at = entries.len();
+    if at == 0 || id < entries[0].0 {
+        return None;
+    }
+    while at > 0 {
+        at -= 1;
+        if entries[at].0 == id {
+            return Some(at);
         }
     }
-    entries.binary_search_by_key(&id, |entry| entry.0)
+    None
 }
 
-/// Leaves the entries out that were emptied.
-fn pack<V: Drop>(entries: &mut Vec<(u64, Option<V>)>)
-    requires { Rises entries.old.items }
-    ensures rises { Rises entries.new.items }
-    ensures same { filled entries.new.items ≡ filled entries.old.items }
+/// The first number from this one on.
+fn first_of<V>(entries: &[(u64, V)], id: u64) -> Option<u64>
+    ensures { result ≡ first_from entries.now id }
 {
-    entries.retain(|entry| entry.1.is_some());
+    let mut at = 0;
+    while at < entries.len() {
+        if id <= entries[at].0 {
+            return Some(entries[at].0);
+        }
+        at += 1;
+    }
+    None
 }

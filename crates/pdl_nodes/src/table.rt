@@ -8,7 +8,7 @@ ghost use Rattle.pdl_shape.specs.Shape.{size_of};
 ghost use Rattle.pdl_world.specs.Cut.{has_views};
 ghost use Rattle.pdl_nodes.specs.Assigned.{put_all};
 ghost use Rattle.pdl_nodes.specs.Children.{children, noted, one_of};
-ghost use Rattle.pdl_nodes.specs.Numbered.{IsPut, Rises, value_at};
+ghost use Rattle.pdl_nodes.specs.Numbered.{AllBelow, IsPut, Rises};
 ghost use Rattle.pdl_nodes.specs.Placed.{in_order, placed_by};
 ghost use Rattle.pdl_nodes.specs.Spots.{spots};
 ghost use Rattle.pdl_nodes.specs.Rows.{NumbersBelow, row_at, has, each, without};
@@ -65,7 +65,7 @@ fn put_key(
     parent: Option<u64>,
 ) -> Result<(), AllocError>
     requires ordered { Rises keys.old }
-    requires new { value_at keys.old id ≡ None }
+    requires above { AllBelow keys.old id }
     ensures ordered { Rises keys.new }
     ensures updates { OnOk result (IsPut keys.old keys.new id (Some key)) }
     ensures counted { OnOk result
@@ -92,7 +92,7 @@ fn make_room(
     parent: Option<u64>,
 ) -> Result<(), AllocError>
     requires ordered { Rises keys.old }
-    requires new { value_at keys.old id ≡ None }
+    requires above { AllBelow keys.old id }
     ensures ordered { Rises keys.new }
     ensures room { OnOk result (HasRoomFor nodes.new 1) }
     ensures updates { OnOk result

@@ -1,15 +1,22 @@
-use Rattle.std.proofs.Common.{None, sym, ◌∙◌, ap, subst}
-use Rattle.std.proofs.lemmas.List.{get_or_default}
-use Rattle.pdl_nodes.specs.Numbered.{IsGap, IsPlace, value_at}
-use Rattle.pdl_nodes.proofs.Numbers.{value_there, value_in_gap}
+use Rattle.std.proofs.Common.{◌≡◌, Some, None, sym, ◌∙◌, ap, subst}
+use Rattle.pdl_nodes.specs.Numbered.{IsPlace, Rises, value_at}
+use Rattle.pdl_nodes.proofs.Numbers.{IsParted, parted, value_after, value_before}
 use Rattle.pdl_nodes.proofs.numbered.Numbered.get.Goals as goal
 
--- the entry at the place of the number was read
-pub returns-in-Ok : goal.returns-in-Ok
-returns-in-Ok g c =
-    let p : IsPlace c.self.inside.entries.items c.args.id c.in-Ok.at = subst (λ l. IsPlace l c.args.id c.in-Ok.at) c.deref.ensures.value c.in-Ok.ensures.found in
-    c.as_ref.ensures.value ∙ ap (λ e. e.1) (c.index.ensures ∙ get_or_default _ _ c.index.result.now (0, None) p.in_range)
-    ∙ sym (value_there c.self.inside.entries.items c.args.id c.in-Ok.at c.self.invariant.0 p) ∙ ap (λ es. value_at es c.args.id) c.self.view_is
+pub place-requires : goal.place-requires
+place-requires g c = subst Rises (sym c.deref.ensures.value) (parted c.self.inside.settled.entries c.self.inside.newest.items c.self.invariant).after
 
-pub returns-in-Err : goal.returns-in-Err
-returns-in-Err g c = sym (ap (λ es. value_at es c.args.id) (sym c.self.view_is) ∙ value_in_gap c.self.inside.entries.items c.args.id c.in-Err.field-0 (subst (λ l. IsGap l c.args.id c.in-Err.field-0) c.deref.ensures.value c.in-Err.ensures.absent))
+pub returns-in-Some : goal.returns-in-Some
+returns-in-Some g c =
+    let es = c.self.inside.settled.entries in
+    let fs = c.self.inside.newest.items in
+    let p : IsParted es fs = parted es fs c.self.invariant in
+    let q : IsPlace fs c.args.id c.in-Some.at = subst (λ l. IsPlace l c.args.id c.in-Some.at) c.deref.ensures.value c.in-Some.ensures.found in
+    ap (λ e. Some e.1) c.index.ensures ∙ sym (value_after es fs c.args.id c.in-Some.at c.index.result.now p q) ∙ ap (λ l. value_at l c.args.id) c.self.view_is
+
+pub returns-in-None : goal.returns-in-None
+returns-in-None g c =
+    let es = c.self.inside.settled.entries in
+    let fs = c.self.inside.newest.items in
+    let none : value_at fs c.args.id ≡ None = subst (λ l. value_at l c.args.id ≡ None) c.deref.ensures.value c.in-None.ensures.absent in
+    c.get.ensures.value ∙ sym (value_before es fs c.args.id none) ∙ ap (λ l. value_at l c.args.id) c.self.view_is

@@ -1,94 +1,85 @@
-use Rattle.std.proofs.Common.{◌≡◌, ◌-◌, length, get_or, set, is_some, None, sym, ◌∙◌, ap, subst, arith}
-use Rattle.std.proofs.lemmas.List.{get_or_default}
-use Rattle.pdl_nodes.specs.Numbered.{IsGap, IsPlace, IsPut, Rises, filled, value_at}
-use Rattle.pdl_nodes.proofs.Numbers.{filled_rises, if_none, length_set, one, one_some, put_none, put_set, rises_set, same_empty, value_in_gap, value_there}
+use Rattle.std.proofs.Common.{◌≡◌, ◌++◌, true, false, Some, None, sym, ◌∙◌, ap, subst}
+use Rattle.std.specs.List.{remove}
+use Rattle.pdl_nodes.specs.Numbered.{IsPlace, IsPut, Rises, value_at}
+use Rattle.pdl_nodes.proofs.Numbers.{IsParted, has_there, parted, put_after, put_before, put_removed, rises, rises_removed, together, updated, value_after, value_before}
 use Rattle.pdl_nodes.proofs.numbered.Numbered.remove.Goals as goal
 
--- one value less where there was one
-pub overflow_sub-self : goal.overflow_sub-self
-overflow_sub-self g c =
-    let items = c.self.inside.entries.items in
-    let p : IsPlace items c.args.id c.in-Ok.at = subst (λ l. IsPlace l c.args.id c.in-Ok.at) c.deref.ensures.value c.in-Ok.ensures.found in
-    let here : c.replace-taken.result ≡ get_or items c.in-Ok.at (0, None) = c.replace-taken.ensures.value ∙ c.index_mut.ensures.value ∙ get_or_default _ _ c.index_mut.result.now (0, None) p.in_range in
-    let full : one (get_or items c.in-Ok.at (0, None)).1 ≡ 1 = one_some _ (ap (λ e. is_some e.1) (sym here) ∙ sym c.is_some.ensures ∙ c.if-is_some.true) in
-    omega (arith, c.self.invariant.1, full, length_set items c.args.id c.in-Ok.at None p.in_range)
+pub place-requires : goal.place-requires
+place-requires g c = subst Rises (sym c.deref.ensures.value) (parted c.self.inside.settled.entries c.self.inside.newest.items c.self.invariant).after
 
+-- one of the newest
 pub invariant_of-self : goal.invariant_of-self
 invariant_of-self g c =
-    let items = c.self.inside.entries.items in
-    let p : IsPlace items c.args.id c.in-Ok.at = subst (λ l. IsPlace l c.args.id c.in-Ok.at) c.deref.ensures.value c.in-Ok.ensures.found in
-    let here : c.replace-taken.result ≡ get_or items c.in-Ok.at (0, None) = c.replace-taken.ensures.value ∙ c.index_mut.ensures.value ∙ get_or_default _ _ c.index_mut.result.now (0, None) p.in_range in
-    let full : one (get_or items c.in-Ok.at (0, None)).1 ≡ 1 = one_some _ (ap (λ e. is_some e.1) (sym here) ∙ sym c.is_some.ensures ∙ c.if-is_some.true) in
-    subst (λ e. Rises (set items c.in-Ok.at e) × (c.self.inside.count - 1 ≡ length (filled (set items c.in-Ok.at e)))) (sym c.replace-taken.ensures.after)
-    (rises_set items c.args.id c.in-Ok.at None c.self.invariant.0 p, omega (arith, c.self.invariant.1, full, length_set items c.args.id c.in-Ok.at None p.in_range))
+    let es = c.self.inside.settled.entries in
+    let fs = c.self.inside.newest.items in
+    let p : IsParted es fs = parted es fs c.self.invariant in
+    let q : IsPlace fs c.args.id c.in-Some.at = subst (λ l. IsPlace l c.args.id c.in-Some.at) c.deref.ensures.value c.in-Some.ensures.found in
+    let removed = remove fs c.in-Some.at in
+    let both : IsPut (es ++ fs) (es ++ removed) c.args.id None × IsParted es removed = put_after es fs removed c.args.id None p (has_there fs c.args.id c.in-Some.at p.after q) (rises_removed fs c.in-Some.at p.after) (put_removed fs c.args.id c.in-Some.at p.after q) in
+    subst (λ l. Rises (es ++ l)) (sym c.remove-taken.ensures.items) (together es removed both.1)
 
-pub returns-then-is_some-clause-taken : goal.returns-then-is_some-clause-taken
-returns-then-is_some-clause-taken g c =
-    let items = c.self.inside.entries.items in
-    let p : IsPlace items c.args.id c.in-Ok.at = subst (λ l. IsPlace l c.args.id c.in-Ok.at) c.deref.ensures.value c.in-Ok.ensures.found in
-    let here : c.replace-taken.result ≡ get_or items c.in-Ok.at (0, None) = c.replace-taken.ensures.value ∙ c.index_mut.ensures.value ∙ get_or_default _ _ c.index_mut.result.now (0, None) p.in_range in
-    ap (λ e. e.1) here ∙ sym (value_there items c.args.id c.in-Ok.at c.self.invariant.0 p) ∙ ap (λ es. value_at es c.args.id) c.self.view_is
+pub returns-in-Some-clause-taken : goal.returns-in-Some-clause-taken
+returns-in-Some-clause-taken g c =
+    let es = c.self.inside.settled.entries in
+    let fs = c.self.inside.newest.items in
+    let p : IsParted es fs = parted es fs c.self.invariant in
+    let q : IsPlace fs c.args.id c.in-Some.at = subst (λ l. IsPlace l c.args.id c.in-Some.at) c.deref.ensures.value c.in-Some.ensures.found in
+    ap (λ e. Some e.1) c.remove-taken.ensures.value ∙ sym (value_after es fs c.args.id c.in-Some.at c.remove-taken.result p q) ∙ ap (λ l. value_at l c.args.id) c.self.view_is
 
-pub returns-then-is_some-clause-put : goal.returns-then-is_some-clause-put
-returns-then-is_some-clause-put g c =
-    let items = c.self.inside.entries.items in
-    let p : IsPlace items c.args.id c.in-Ok.at = subst (λ l. IsPlace l c.args.id c.in-Ok.at) c.deref.ensures.value c.in-Ok.ensures.found in
-    subst (λ e. IsPut c.args.self.now (filled (set items c.in-Ok.at e)) c.args.id None) (sym c.replace-taken.ensures.after)
-    (subst (λ es. IsPut es (filled (set items c.in-Ok.at (c.args.id, None))) c.args.id None) c.self.view_is (put_set items c.args.id c.in-Ok.at None c.self.invariant.0 p))
+pub returns-in-Some-clause-put : goal.returns-in-Some-clause-put
+returns-in-Some-clause-put g c =
+    let es = c.self.inside.settled.entries in
+    let fs = c.self.inside.newest.items in
+    let p : IsParted es fs = parted es fs c.self.invariant in
+    let q : IsPlace fs c.args.id c.in-Some.at = subst (λ l. IsPlace l c.args.id c.in-Some.at) c.deref.ensures.value c.in-Some.ensures.found in
+    let removed = remove fs c.in-Some.at in
+    let both : IsPut (es ++ fs) (es ++ removed) c.args.id None × IsParted es removed = put_after es fs removed c.args.id None p (has_there fs c.args.id c.in-Some.at p.after q) (rises_removed fs c.in-Some.at p.after) (put_removed fs c.args.id c.in-Some.at p.after q) in
+    subst (λ l. IsPut c.args.self.now (es ++ l) c.args.id None) (sym c.remove-taken.ensures.items) (subst (λ l. IsPut l (es ++ removed) c.args.id None) c.self.view_is both.0)
 
-pub returns-then-is_some-clause-rises : goal.returns-then-is_some-clause-rises
-returns-then-is_some-clause-rises g c =
-    let items = c.self.inside.entries.items in
-    let p : IsPlace items c.args.id c.in-Ok.at = subst (λ l. IsPlace l c.args.id c.in-Ok.at) c.deref.ensures.value c.in-Ok.ensures.found in
-    subst (λ e. Rises (filled (set items c.in-Ok.at e))) (sym c.replace-taken.ensures.after) (filled_rises (set items c.in-Ok.at (c.args.id, None)) (rises_set items c.args.id c.in-Ok.at None c.self.invariant.0 p))
+pub returns-in-Some-clause-rises : goal.returns-in-Some-clause-rises
+returns-in-Some-clause-rises g c =
+    let es = c.self.inside.settled.entries in
+    let fs = c.self.inside.newest.items in
+    let p : IsParted es fs = parted es fs c.self.invariant in
+    let q : IsPlace fs c.args.id c.in-Some.at = subst (λ l. IsPlace l c.args.id c.in-Some.at) c.deref.ensures.value c.in-Some.ensures.found in
+    let removed = remove fs c.in-Some.at in
+    let both : IsPut (es ++ fs) (es ++ removed) c.args.id None × IsParted es removed = put_after es fs removed c.args.id None p (has_there fs c.args.id c.in-Some.at p.after q) (rises_removed fs c.in-Some.at p.after) (put_removed fs c.args.id c.in-Some.at p.after q) in
+    subst (λ l. Rises (es ++ l)) (sym c.remove-taken.ensures.items) (together es removed both.1)
 
-pub returns-else-is_some-clause-taken : goal.returns-else-is_some-clause-taken
-returns-else-is_some-clause-taken g c =
-    let items = c.self.inside.entries.items in
-    let p : IsPlace items c.args.id c.in-Ok.at = subst (λ l. IsPlace l c.args.id c.in-Ok.at) c.deref.ensures.value c.in-Ok.ensures.found in
-    let here : c.replace-taken.result ≡ get_or items c.in-Ok.at (0, None) = c.replace-taken.ensures.value ∙ c.index_mut.ensures.value ∙ get_or_default _ _ c.index_mut.result.now (0, None) p.in_range in
-    ap (λ e. e.1) here ∙ sym (value_there items c.args.id c.in-Ok.at c.self.invariant.0 p) ∙ ap (λ es. value_at es c.args.id) c.self.view_is
+-- one of the map
+pub invariant_of-self-in-None : goal.invariant_of-self-in-None
+invariant_of-self-in-None g c =
+    let es = c.self.inside.settled.entries in
+    let fs = c.self.inside.newest.items in
+    let p : IsParted es fs = parted es fs c.self.invariant in
+    let gs = c.remove.new.self.entries in
+    let none : value_at fs c.args.id ≡ None = subst (λ l. value_at l c.args.id ≡ None) c.deref.ensures.value c.in-None.ensures.absent in
+    let both : IsPut (es ++ fs) (gs ++ fs) c.args.id None × IsParted gs fs = put_before es gs fs c.args.id None p none (λ h. let z : false ≡ true = h in absurd (cc)) (rises gs c.remove.ensures.ordered) (updated c.self.inside.settled c.remove.new.self c.args.id None c.remove.ensures.updates) in
+    together gs fs both.1
 
-pub returns-else-is_some-clause-put : goal.returns-else-is_some-clause-put
-returns-else-is_some-clause-put g c =
-    let items = c.self.inside.entries.items in
-    let p : IsPlace items c.args.id c.in-Ok.at = subst (λ l. IsPlace l c.args.id c.in-Ok.at) c.deref.ensures.value c.in-Ok.ensures.found in
-    subst (λ e. IsPut c.args.self.now (filled (set items c.in-Ok.at e)) c.args.id None) (sym c.replace-taken.ensures.after)
-    (subst (λ es. IsPut es (filled (set items c.in-Ok.at (c.args.id, None))) c.args.id None) c.self.view_is (put_set items c.args.id c.in-Ok.at None c.self.invariant.0 p))
+pub returns-in-None-clause-taken : goal.returns-in-None-clause-taken
+returns-in-None-clause-taken g c =
+    let es = c.self.inside.settled.entries in
+    let fs = c.self.inside.newest.items in
+    let none : value_at fs c.args.id ≡ None = subst (λ l. value_at l c.args.id ≡ None) c.deref.ensures.value c.in-None.ensures.absent in
+    c.remove.ensures.value ∙ sym (value_before es fs c.args.id none) ∙ ap (λ l. value_at l c.args.id) c.self.view_is
 
-pub returns-else-is_some-clause-rises : goal.returns-else-is_some-clause-rises
-returns-else-is_some-clause-rises g c =
-    let items = c.self.inside.entries.items in
-    let p : IsPlace items c.args.id c.in-Ok.at = subst (λ l. IsPlace l c.args.id c.in-Ok.at) c.deref.ensures.value c.in-Ok.ensures.found in
-    subst (λ e. Rises (filled (set items c.in-Ok.at e))) (sym c.replace-taken.ensures.after) (filled_rises (set items c.in-Ok.at (c.args.id, None)) (rises_set items c.args.id c.in-Ok.at None c.self.invariant.0 p))
+pub returns-in-None-clause-put : goal.returns-in-None-clause-put
+returns-in-None-clause-put g c =
+    let es = c.self.inside.settled.entries in
+    let fs = c.self.inside.newest.items in
+    let p : IsParted es fs = parted es fs c.self.invariant in
+    let gs = c.remove.new.self.entries in
+    let none : value_at fs c.args.id ≡ None = subst (λ l. value_at l c.args.id ≡ None) c.deref.ensures.value c.in-None.ensures.absent in
+    let both : IsPut (es ++ fs) (gs ++ fs) c.args.id None × IsParted gs fs = put_before es gs fs c.args.id None p none (λ h. let z : false ≡ true = h in absurd (cc)) (rises gs c.remove.ensures.ordered) (updated c.self.inside.settled c.remove.new.self c.args.id None c.remove.ensures.updates) in
+    subst (λ l. IsPut l (gs ++ fs) c.args.id None) c.self.view_is both.0
 
-pub returns-then-is_some-clause-absent : goal.returns-then-is_some-clause-absent
-returns-then-is_some-clause-absent g c =
-    let items = c.self.inside.entries.items in
-    let p : IsPlace items c.args.id c.in-Ok.at = subst (λ l. IsPlace l c.args.id c.in-Ok.at) c.deref.ensures.value c.in-Ok.ensures.found in
-    let here : c.replace-taken.result ≡ get_or items c.in-Ok.at (0, None) = c.replace-taken.ensures.value ∙ c.index_mut.ensures.value ∙ get_or_default _ _ c.index_mut.result.now (0, None) p.in_range in
-    if_none c.replace-taken.result.1 (λ none.
-    ap (λ e. filled (set items c.in-Ok.at e)) c.replace-taken.ensures.after ∙ same_empty items c.args.id c.in-Ok.at p.in_range (ap (λ e. e.1) (sym here) ∙ none) ∙ c.self.view_is)
-
-pub returns-else-is_some-clause-absent : goal.returns-else-is_some-clause-absent
-returns-else-is_some-clause-absent g c =
-    let items = c.self.inside.entries.items in
-    let p : IsPlace items c.args.id c.in-Ok.at = subst (λ l. IsPlace l c.args.id c.in-Ok.at) c.deref.ensures.value c.in-Ok.ensures.found in
-    let here : c.replace-taken.result ≡ get_or items c.in-Ok.at (0, None) = c.replace-taken.ensures.value ∙ c.index_mut.ensures.value ∙ get_or_default _ _ c.index_mut.result.now (0, None) p.in_range in
-    if_none c.replace-taken.result.1 (λ none.
-    ap (λ e. filled (set items c.in-Ok.at e)) c.replace-taken.ensures.after ∙ same_empty items c.args.id c.in-Ok.at p.in_range (ap (λ e. e.1) (sym here) ∙ none) ∙ c.self.view_is)
-
--- the number has a gap
-pub returns-in-Err-clause-taken : goal.returns-in-Err-clause-taken
-returns-in-Err-clause-taken g c =
-    let none : value_at c.args.self.now c.args.id ≡ None = ap (λ es. value_at es c.args.id) (sym c.self.view_is) ∙ value_in_gap c.self.inside.entries.items c.args.id c.in-Err.field-0 (subst (λ l. IsGap l c.args.id c.in-Err.field-0) c.deref.ensures.value c.in-Err.ensures.absent) in
-    sym none
-
-pub returns-in-Err-clause-put : goal.returns-in-Err-clause-put
-returns-in-Err-clause-put g c =
-    let none : value_at c.args.self.now c.args.id ≡ None = ap (λ es. value_at es c.args.id) (sym c.self.view_is) ∙ value_in_gap c.self.inside.entries.items c.args.id c.in-Err.field-0 (subst (λ l. IsGap l c.args.id c.in-Err.field-0) c.deref.ensures.value c.in-Err.ensures.absent) in
-    put_none c.args.self.now c.args.id none
-
-pub returns-in-Err-clause-rises : goal.returns-in-Err-clause-rises
-returns-in-Err-clause-rises g c =
-    subst Rises c.self.view_is (filled_rises c.self.inside.entries.items c.self.invariant.0)
+pub returns-in-None-clause-rises : goal.returns-in-None-clause-rises
+returns-in-None-clause-rises g c =
+    let es = c.self.inside.settled.entries in
+    let fs = c.self.inside.newest.items in
+    let p : IsParted es fs = parted es fs c.self.invariant in
+    let gs = c.remove.new.self.entries in
+    let none : value_at fs c.args.id ≡ None = subst (λ l. value_at l c.args.id ≡ None) c.deref.ensures.value c.in-None.ensures.absent in
+    let both : IsPut (es ++ fs) (gs ++ fs) c.args.id None × IsParted gs fs = put_before es gs fs c.args.id None p none (λ h. let z : false ≡ true = h in absurd (cc)) (rises gs c.remove.ensures.ordered) (updated c.self.inside.settled c.remove.new.self c.args.id None c.remove.ensures.updates) in
+    together gs fs both.1

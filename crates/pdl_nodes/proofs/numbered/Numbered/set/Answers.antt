@@ -1,48 +1,87 @@
-use Rattle.std.proofs.Common.{◌≡◌, get_or, set, true, false, is_some, Some, None, sym, ◌∙◌, ap, subst, arith}
-use Rattle.pdl_nodes.specs.Numbered.{IsGap, IsPlace, IsPut, Rises, filled, value_at}
-use Rattle.pdl_nodes.proofs.Numbers.{filled_rises, length_set, one, one_some, put_set, rises_set, value_in_gap, value_there}
-use Rattle.pdl_nodes.proofs.numbered.Numbered.set.Goals.{in-Some-1, in-None-1}
+use Rattle.std.proofs.Common.{◌≡◌, ◌++◌, set, is_some, true, false, Some, None, sym, ◌∙◌, ap, subst}
+use Rattle.pdl_nodes.specs.Numbered.{IsPlace, IsPut, Rises, value_at}
+use Rattle.pdl_nodes.proofs.Numbers.{IsParted, has_there, parted, put_after, put_before, put_set, rises, rises_set, together, updated, value_before}
 use Rattle.pdl_nodes.proofs.numbered.Numbered.set.Goals as goal
 
+pub place-requires : goal.place-requires
+place-requires g c = subst Rises (sym c.deref.ensures.value) (parted c.self.inside.settled.entries c.self.inside.newest.items c.self.invariant).after
+
+-- one of the newest
 pub invariant_of-self : goal.invariant_of-self
 invariant_of-self g c =
-    let items = c.self.inside.entries.items in
-    let p : IsPlace items c.args.id c.in-Ok.at = subst (λ l. IsPlace l c.args.id c.in-Ok.at) c.deref.ensures.value c.in-Ok.ensures.found in
-    let full : one (get_or items c.in-Ok.at (0, None)).1 ≡ 1 = one_some _ (ap is_some (sym (value_there items c.args.id c.in-Ok.at c.self.invariant.0 p) ∙ ap (λ es. value_at es c.args.id) c.self.view_is) ∙ c.requires) in
-    (rises_set items c.args.id c.in-Ok.at (Some c.args.value) c.self.invariant.0 p, omega (arith, c.self.invariant.1, full, length_set items c.args.id c.in-Ok.at (Some c.args.value) p.in_range))
+    let es = c.self.inside.settled.entries in
+    let fs = c.self.inside.newest.items in
+    let p : IsParted es fs = parted es fs c.self.invariant in
+    let q : IsPlace fs c.args.id c.in-Some.at = subst (λ l. IsPlace l c.args.id c.in-Some.at) c.deref.ensures.value c.in-Some.ensures.found in
+    let gs = set fs c.in-Some.at (c.args.id, c.args.value) in
+    let both : IsPut (es ++ fs) (es ++ gs) c.args.id (Some c.args.value) × IsParted es gs = put_after es fs gs c.args.id (Some c.args.value) p (has_there fs c.args.id c.in-Some.at p.after q) (rises_set fs c.args.id c.in-Some.at c.args.value p.after q) (put_set fs c.args.id c.in-Some.at c.args.value p.after q) in
+    together es gs both.1
 
-pub invariant_of-self-in-Ok-2 : goal.invariant_of-self-in-Ok-2
-invariant_of-self-in-Ok-2 g c =
-    let items = c.self.inside.entries.items in
-    let p : IsPlace items c.args.id c.in-Ok.at = subst (λ l. IsPlace l c.args.id c.in-Ok.at) c.deref.ensures.value c.in-Ok.ensures.found in
-    let full : one (get_or items c.in-Ok.at (0, None)).1 ≡ 1 = one_some _ (ap is_some (sym (value_there items c.args.id c.in-Ok.at c.self.invariant.0 p) ∙ ap (λ es. value_at es c.args.id) c.self.view_is) ∙ c.requires) in
-    (rises_set items c.args.id c.in-Ok.at (Some c.args.value) c.self.invariant.0 p, omega (arith, c.self.invariant.1, full, length_set items c.args.id c.in-Ok.at (Some c.args.value) p.in_range))
+pub returns-in-Some-clause-put : goal.returns-in-Some-clause-put
+returns-in-Some-clause-put g c =
+    let es = c.self.inside.settled.entries in
+    let fs = c.self.inside.newest.items in
+    let p : IsParted es fs = parted es fs c.self.invariant in
+    let q : IsPlace fs c.args.id c.in-Some.at = subst (λ l. IsPlace l c.args.id c.in-Some.at) c.deref.ensures.value c.in-Some.ensures.found in
+    let gs = set fs c.in-Some.at (c.args.id, c.args.value) in
+    let both : IsPut (es ++ fs) (es ++ gs) c.args.id (Some c.args.value) × IsParted es gs = put_after es fs gs c.args.id (Some c.args.value) p (has_there fs c.args.id c.in-Some.at p.after q) (rises_set fs c.args.id c.in-Some.at c.args.value p.after q) (put_set fs c.args.id c.in-Some.at c.args.value p.after q) in
+    subst (λ l. IsPut l (es ++ gs) c.args.id (Some c.args.value)) c.self.view_is both.0
 
-pub returns-in-Ok-clause-put : goal.returns-in-Ok-clause-put
-returns-in-Ok-clause-put g c =
-    let items = c.self.inside.entries.items in
-    let p : IsPlace items c.args.id c.in-Ok.at = subst (λ l. IsPlace l c.args.id c.in-Ok.at) c.deref.ensures.value c.in-Ok.ensures.found in
-    let here : IsPut c.args.self.now (filled (set items c.in-Ok.at (c.args.id, Some c.args.value))) c.args.id (Some c.args.value) = subst (λ es. IsPut es (filled (set items c.in-Ok.at (c.args.id, Some c.args.value))) c.args.id (Some c.args.value)) c.self.view_is (put_set items c.args.id c.in-Ok.at (Some c.args.value) c.self.invariant.0 p) in
-    elim c.match-index_mut.branch [
-      | in-Some-1 w ↦ subst (λ es. IsPut c.args.self.now es c.args.id (Some c.args.value)) (sym w.self-is) here
-      | in-None-1 w ↦ subst (λ es. IsPut c.args.self.now es c.args.id (Some c.args.value)) (sym w.self-is) here
-    ]
+pub returns-in-Some-clause-rises : goal.returns-in-Some-clause-rises
+returns-in-Some-clause-rises g c =
+    let es = c.self.inside.settled.entries in
+    let fs = c.self.inside.newest.items in
+    let p : IsParted es fs = parted es fs c.self.invariant in
+    let q : IsPlace fs c.args.id c.in-Some.at = subst (λ l. IsPlace l c.args.id c.in-Some.at) c.deref.ensures.value c.in-Some.ensures.found in
+    let gs = set fs c.in-Some.at (c.args.id, c.args.value) in
+    let both : IsPut (es ++ fs) (es ++ gs) c.args.id (Some c.args.value) × IsParted es gs = put_after es fs gs c.args.id (Some c.args.value) p (has_there fs c.args.id c.in-Some.at p.after q) (rises_set fs c.args.id c.in-Some.at c.args.value p.after q) (put_set fs c.args.id c.in-Some.at c.args.value p.after q) in
+    together es gs both.1
 
-pub returns-in-Ok-clause-rises : goal.returns-in-Ok-clause-rises
-returns-in-Ok-clause-rises g c =
-    let items = c.self.inside.entries.items in
-    let p : IsPlace items c.args.id c.in-Ok.at = subst (λ l. IsPlace l c.args.id c.in-Ok.at) c.deref.ensures.value c.in-Ok.ensures.found in
-    let here : Rises (filled (set items c.in-Ok.at (c.args.id, Some c.args.value))) = filled_rises (set items c.in-Ok.at (c.args.id, Some c.args.value)) (rises_set items c.args.id c.in-Ok.at (Some c.args.value) c.self.invariant.0 p) in
-    elim c.match-index_mut.branch [
-      | in-Some-1 w ↦ subst (λ es. Rises es) (sym w.self-is) here
-      | in-None-1 w ↦ subst (λ es. Rises es) (sym w.self-is) here
-    ]
+-- one of the map
+pub invariant_of-self-in-Some-get_mut : goal.invariant_of-self-in-Some-get_mut
+invariant_of-self-in-Some-get_mut g c =
+    let es = c.self.inside.settled.entries in
+    let fs = c.self.inside.newest.items in
+    let p : IsParted es fs = parted es fs c.self.invariant in
+    let new = c.get_mut.follows.lender c.args.value in
+    let gs = new.entries in
+    let none : value_at fs c.args.id ≡ None = subst (λ l. value_at l c.args.id ≡ None) c.deref.ensures.value c.in-None.ensures.absent in
+    let here : is_some (value_at es c.args.id) ≡ true = ap is_some (sym (value_before es fs c.args.id none)) ∙ ap (λ l. is_some (value_at l c.args.id)) c.self.view_is ∙ c.requires in
+    let written = c.get_mut.follows.holds c.args.value in
+    let both : IsPut (es ++ fs) (gs ++ fs) c.args.id (Some c.args.value) × IsParted gs fs = put_before es gs fs c.args.id (Some c.args.value) p none (λ h. here) (rises gs written.4) (updated c.self.inside.settled new c.args.id (Some c.args.value) (written.3 here)) in
+    together gs fs both.1
 
--- a number that has a value is found
-pub returns-in-Err-clause-put : goal.returns-in-Err-clause-put
-returns-in-Err-clause-put g c =
-    let h : false ≡ true = ap is_some (sym (ap (λ es. value_at es c.args.id) (sym c.self.view_is) ∙ value_in_gap c.self.inside.entries.items c.args.id c.in-Err.field-0 (subst (λ l. IsGap l c.args.id c.in-Err.field-0) c.deref.ensures.value c.in-Err.ensures.absent))) ∙ c.requires in
+pub returns-in-Some-get_mut-clause-put : goal.returns-in-Some-get_mut-clause-put
+returns-in-Some-get_mut-clause-put g c =
+    let es = c.self.inside.settled.entries in
+    let fs = c.self.inside.newest.items in
+    let p : IsParted es fs = parted es fs c.self.invariant in
+    let new = c.get_mut.follows.lender c.args.value in
+    let gs = new.entries in
+    let none : value_at fs c.args.id ≡ None = subst (λ l. value_at l c.args.id ≡ None) c.deref.ensures.value c.in-None.ensures.absent in
+    let here : is_some (value_at es c.args.id) ≡ true = ap is_some (sym (value_before es fs c.args.id none)) ∙ ap (λ l. is_some (value_at l c.args.id)) c.self.view_is ∙ c.requires in
+    let written = c.get_mut.follows.holds c.args.value in
+    let both : IsPut (es ++ fs) (gs ++ fs) c.args.id (Some c.args.value) × IsParted gs fs = put_before es gs fs c.args.id (Some c.args.value) p none (λ h. here) (rises gs written.4) (updated c.self.inside.settled new c.args.id (Some c.args.value) (written.3 here)) in
+    subst (λ l. IsPut l (gs ++ fs) c.args.id (Some c.args.value)) c.self.view_is both.0
+
+pub returns-in-Some-get_mut-clause-rises : goal.returns-in-Some-get_mut-clause-rises
+returns-in-Some-get_mut-clause-rises g c =
+    let es = c.self.inside.settled.entries in
+    let fs = c.self.inside.newest.items in
+    let p : IsParted es fs = parted es fs c.self.invariant in
+    let new = c.get_mut.follows.lender c.args.value in
+    let gs = new.entries in
+    let none : value_at fs c.args.id ≡ None = subst (λ l. value_at l c.args.id ≡ None) c.deref.ensures.value c.in-None.ensures.absent in
+    let here : is_some (value_at es c.args.id) ≡ true = ap is_some (sym (value_before es fs c.args.id none)) ∙ ap (λ l. is_some (value_at l c.args.id)) c.self.view_is ∙ c.requires in
+    let written = c.get_mut.follows.holds c.args.value in
+    let both : IsPut (es ++ fs) (gs ++ fs) c.args.id (Some c.args.value) × IsParted gs fs = put_before es gs fs c.args.id (Some c.args.value) p none (λ h. here) (rises gs written.4) (updated c.self.inside.settled new c.args.id (Some c.args.value) (written.3 here)) in
+    together gs fs both.1
+
+-- it has a value
+pub returns-in-None-get_mut-clause-put : goal.returns-in-None-get_mut-clause-put
+returns-in-None-get_mut-clause-put g c =
+    let es = c.self.inside.settled.entries in
+    let fs = c.self.inside.newest.items in
+    let none : value_at fs c.args.id ≡ None = subst (λ l. value_at l c.args.id ≡ None) c.deref.ensures.value c.in-None.ensures.absent in
+    let h : false ≡ true = ap is_some (c.in-None-get_mut.ensures.value ∙ sym (value_before es fs c.args.id none) ∙ ap (λ l. value_at l c.args.id) c.self.view_is) ∙ c.requires in
     absurd (cc)
-
-pub returns-in-Err-clause-rises : goal.returns-in-Err-clause-rises
-returns-in-Err-clause-rises g c = subst (λ es. Rises es) c.self.view_is (filled_rises c.self.inside.entries.items c.self.invariant.0)
