@@ -3,10 +3,12 @@ ghost use Rattle.std.specs.Prelude.{◌≡◌, ◌+◌, ◌<◌, ◌≤◌, ◌=
 ghost use Rattle.pdl_broadcast.specs.Walk.{Walk, argument_coordinates, argument_place, arguments_room, standing_at};
 ghost use Rattle.pdl_shape.specs.Broadcast.{BroadcastsTo};
 ghost use Rattle.pdl_shape.specs.Shape.{IsDims, IsWithin, extent_limit, size_of};
+ghost use Rattle.pdl_shape.specs.Triple.{whole_triple};
 
 use crate::cursors::{Cursor, jump, jumps_of, step};
 use pdl_shape::{
     Dims, Triple, copy_dims, copy_triple, dims_list, elements_of, incs_list, shape_laws,
+    whole_triple,
 };
 use std::alloc::{AllocError, Global};
 use std::marker::Model;
@@ -76,6 +78,19 @@ impl BroadcastWalk {
             jumps,
         })?;
         Ok(number)
+    }
+
+    /// Adds an array of these dimensions, whose elements lie in order, to a walk that hasn't moved.
+    pub fn add_whole(&mut self, alloc: Global, dims: &Dims) -> Result<(), AllocError>
+        requires start { self.old.index ≡ 0 }
+        requires stretched { BroadcastsTo dims.now self.old.dims }
+        ensures added { OnOk result (self.new
+            ≡ record self.old { triples = self.old.triples ++ whole_triple dims.now ∷ [] }) }
+        ensures refused { OnErr result (self.new ≡ self.old) }
+        ensures room { length self.old.triples < arguments_room → IsOk result }
+    {
+        self.add(&whole_triple(alloc, dims))?;
+        Ok(())
     }
 
     /// The coordinates where the walk stands, that along dimension 0 first. The walk must not be at

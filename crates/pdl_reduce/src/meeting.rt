@@ -1,5 +1,5 @@
 //! The products of two arrays' blocks at each place of a broadcast.
-ghost use Rattle.std.specs.Prelude.{◌≡◌, ◌<◌, ◌≤◌, ◌+◌, ◌*◌, ℕ, List, [], ◌∷◌, ◌++◌, Some, slice_get, length, IfOk, OnOk};
+ghost use Rattle.std.specs.Prelude.{◌≡◌, ◌<◌, ◌≤◌, ◌+◌, ◌*◌, ℕ, List, [], ◌∷◌, Some, slice_get, length, IfOk, OnOk};
 ghost use Rattle.pdl_shape.specs.Broadcast.{BroadcastsTo};
 ghost use Rattle.pdl_shape.specs.Shape.{extent_limit, size_of};
 ghost use Rattle.pdl_shape.specs.Stretched.{stretched_position};
@@ -11,7 +11,7 @@ use crate::matrices::{Sizes, add_product};
 use pdl_broadcast::BroadcastWalk;
 use pdl_buf::{Packing, Strided, strided_read};
 use pdl_elem::{Ty, wrap_all};
-use pdl_shape::{Dims, elements_of, shape_laws, whole_triple};
+use pdl_shape::{Dims, elements_of, shape_laws};
 use std::alloc::{AllocError, Global};
 
 /// Reads a window's block at a position, in blocks as long as this one, wrapped to a type.
@@ -39,17 +39,6 @@ fn hold_block(ty: Ty, from: &Strided<'_>, position: u32, held: &mut Option<u32>,
     }
 }
 
-/// Adds an array of these sizes, whose elements lie in order, to a walk that hasn't moved.
-fn add_whole(alloc: Global, walk: &mut BroadcastWalk, sizes: &Dims) -> Result<(), AllocError>
-    requires start { walk.old.index ≡ 0 }
-    requires stretched { BroadcastsTo sizes.now walk.old.dims }
-    ensures { let triples = walk.old.triples ++ whole_triple sizes.now ∷ [] in
-        OnOk result (walk.new ≡ record walk.old { triples = triples }) }
-{
-    walk.add(&whole_triple(alloc, sizes))?;
-    Ok(())
-}
-
 /// A walk over a broadcast of two arrays of these sizes, in order.
 fn walk_over(
     alloc: Global,
@@ -63,8 +52,8 @@ fn walk_over(
         IfOk result (λ walk. walk ≡ record { dims = joined.now; triples = triples; index = 0 }) }
 {
     let mut walk = BroadcastWalk::new(alloc, joined)?;
-    add_whole(alloc, &mut walk, left)?;
-    add_whole(alloc, &mut walk, right)?;
+    walk.add_whole(alloc, left)?;
+    walk.add_whole(alloc, right)?;
     Ok(walk)
 }
 

@@ -1,6 +1,7 @@
 -- A part of a plane more.
-use Rattle.std.proofs.Common.{◌≡◌, ◌≤◌, ◌++◌, ℕ, ℤ, List, length, map, take, drop, arith, ap, ap₂, sym, ◌∙◌, append_assoc, length-append, length-drop, to_z, of_z}
+use Rattle.std.proofs.Common.{◌≡◌, ◌≤◌, ◌+◌, ◌*◌, ◌%◌, ◌++◌, ℕ, ℤ, List, get_or, length, map, take, drop, arith, ap, ap₂, sym, subst, ◌∙◌, append_assoc, length-append, length-drop, to_z, of_z}
 use Rattle.std.proofs.lemmas.List.{length-take-le}
+use Rattle.std.proofs.Math.Nat.{mul-le-mul_right}
 use Rattle.std.specs.Int.{w64}
 use Rattle.std.specs.List.{range_with_len}
 use Rattle.pdl_reduce.specs.Across.{come_to}
@@ -31,4 +32,25 @@ loop-done-preserved g c =
           ∙ ap₂ (λ (zs : List ℤ) (n : ℕ). zs ++ map at (range_with_len done n)) c.loop-done.invariant.made part
           ∙ append_assoc old (map at (range_with_len 0 done)) (map at (range_with_len done run))
           ∙ ap (λ (zs : List ℤ). old ++ zs) (sym (parts_join at done run));
+    }
+
+pub add_part-requires : goal.add_part-requires
+add_part-requires g c =
+    let run : ℕ = c.lists_in_plane-run.result in
+    let few : run ≤ length c.loop-done.so_far = omega (arith, c.lists_in_plane-run.ensures.few, c.min-left.ensures) in
+    let left : c.loop-done.done + run ≤ c.args.count = omega (arith, c.lists_in_plane-run.ensures.few, c.min-left.ensures, c.loop-done-test.true) in
+    let part : length (take run c.loop-done.so_far) ≡ run = length-take-le run c.loop-done.so_far few in
+    let row : length (take run c.loop-done.row) ≡ run = length-take-le run c.loop-done.row (omega (arith, few, c.loop-done.invariant.room)) in
+    let height : c.size_at-height.result ≡ get_or c.args.a.now.dims 1 1 = c.size_at-height.ensures ∙ ap (λ (ds : List ℕ). get_or ds 1 1) (c.dims_list.ensures.list ∙ c.strided_dims.ensures.dims) in
+    record {
+      size = c.requires.size;
+      room = row ∙ sym part;
+      some = omega (arith, part, c.lists_in_plane-run.ensures.some);
+      few = omega (arith, part, few, c.loop-done.invariant.kept, c.requires.few);
+      small = c.requires.small;
+      plane = subst (λ (h : ℕ). c.loop-done.done % h + length (take run c.loop-done.so_far) ≤ h) height
+          (subst (λ (n : ℕ). c.loop-done.done % c.size_at-height.result + n ≤ c.size_at-height.result) (sym part) c.lists_in_plane-run.ensures.plane);
+      within = subst (λ (n : ℕ). (c.loop-done.done + n) * c.args.size ≤ length c.args.a.now.elems) (sym part)
+          (omega (arith, mul-le-mul_right c.args.size left, c.requires.whole));
+      typed = c.loop-done.invariant.ty ∙ c.requires.typed;
     }

@@ -1,5 +1,5 @@
--- One place of the broadcast more.
-use Rattle.std.proofs.Common.{◌≡◌, ◌<◌, ◌+◌, ◌*◌, ◌++◌, ℕ, ℤ, List, Some, length, map, arith, length-append, ap, sym, ◌∙◌}
+-- One place of the broadcast more, and all at the end.
+use Rattle.std.proofs.Common.{◌≡◌, ◌<◌, ◌+◌, ◌*◌, ◌++◌, ℕ, ℤ, List, Some, length, map, arith, length-append, ap, ap₂, sym, ◌∙◌}
 use Rattle.std.specs.Prelude.{slice_get}
 use Rattle.std.specs.List.{range_with_len}
 use Rattle.pdl_broadcast.specs.Walk.{Walk}
@@ -9,6 +9,7 @@ use Rattle.pdl_shape.specs.Stretched.{stretched_position}
 use Rattle.pdl_shape.specs.Triple.{whole_triple}
 use Rattle.pdl_reduce.specs.Blocks.{block_at, product_at, products_at}
 use Rattle.pdl_reduce.proofs.Meets.{products_more, block_read}
+use Rattle.pdl_reduce.proofs.Readiness.{kept}
 use Rattle.pdl_reduce.proofs.Results.{row_inside}
 use Rattle.pdl_reduce.proofs.meeting.put_products.Goals as goal
 
@@ -79,3 +80,57 @@ loop-q-preserved c =
           ∙ ap (λ (zs : List ℤ). zs ++ map (product_at c.args.ty s c.hold_block.new.block c.hold_block-in-loop-q.new.block) (range_with_len 0 (s.height * s.width))) c.loop-q.invariant.made
           ∙ sym (products_more c.args.ty s les res ls rs joined q c.hold_block.new.block c.hold_block-in-loop-q.new.block lb rb);
     }
+
+pub hold_block-requires-clause-small : goal.hold_block-requires-clause-small
+hold_block-requires-clause-small c = c.requires.ready.left_few
+
+pub hold_block-requires-clause-held : goal.hold_block-requires-clause-held
+hold_block-requires-clause-held c = c.loop-q.invariant.left_held
+
+pub hold_block-requires-in-loop-q-clause-small : goal.hold_block-requires-in-loop-q-clause-small
+hold_block-requires-in-loop-q-clause-small c = c.requires.ready.right_few
+
+pub hold_block-requires-in-loop-q-clause-held : goal.hold_block-requires-in-loop-q-clause-held
+hold_block-requires-in-loop-q-clause-held c = c.loop-q.invariant.right_held
+
+pub position_at-first-requires : goal.position_at-first-requires
+position_at-first-requires c =
+    let two : length c.loop-q.walk.triples ≡ 2 = ap (λ (w : Walk). length w.triples) c.loop-q.invariant.walk in
+    let index : c.loop-q.walk.index ≡ c.loop-q._q = ap (λ (w : Walk). w.index) c.loop-q.invariant.walk in
+    record {
+      known = omega (arith, two);
+      inside = omega (arith, index, ap (λ (w : Walk). size_of w.dims) c.loop-q.invariant.walk, c.elements_of-q-end.ensures.count, c.loop-q-test.true);
+    }
+
+pub position_at-second-requires : goal.position_at-second-requires
+position_at-second-requires c =
+    let two : length c.loop-q.walk.triples ≡ 2 = ap (λ (w : Walk). length w.triples) c.loop-q.invariant.walk in
+    let index : c.loop-q.walk.index ≡ c.loop-q._q = ap (λ (w : Walk). w.index) c.loop-q.invariant.walk in
+    record {
+      known = omega (arith, two);
+      inside = omega (arith, index, ap (λ (w : Walk). size_of w.dims) c.loop-q.invariant.walk, c.elements_of-q-end.ensures.count, c.loop-q-test.true);
+    }
+
+pub next-requires : goal.next-requires
+next-requires c =
+    let index : c.loop-q.walk.index ≡ c.loop-q._q = ap (λ (w : Walk). w.index) c.loop-q.invariant.walk in
+    omega (arith, index, ap (λ (w : Walk). size_of w.dims) c.loop-q.invariant.walk, c.elements_of-q-end.ensures.count, c.loop-q-test.true)
+
+pub add_product-requires : goal.add_product-requires
+add_product-requires c =
+    let left : length c.hold_block.new.block ≡ c.args.sizes.left_depth * c.args.sizes.height = omega (arith, c.loop-q.invariant.left) in
+    let right : length c.hold_block-in-loop-q.new.block ≡ c.args.sizes.width * c.args.sizes.right_depth = omega (arith, c.loop-q.invariant.right) in
+    record {
+      fit = record { left_count = left; right_count = right; left_deep = c.requires.ready.left_deep; right_deep = c.requires.ready.right_deep };
+      width = c.loop-q.invariant.row;
+      small_left = omega (arith, left, c.requires.ready.left_small);
+      small_right = omega (arith, right, c.requires.ready.right_small);
+      typed = c.loop-q.invariant.ty;
+    }
+
+pub returns : goal.returns
+returns c =
+    let P : ℕ → ℤ = products_at c.args.ty c.args.sizes c.args.left.now.elems c.args.right.now.elems c.args.left_sizes.now c.args.right_sizes.now c.args.joined.now in
+    let each : ℕ = c.args.sizes.height * c.args.sizes.width in
+    let all : c.loop-q._q ≡ size_of c.args.joined.now = omega (arith, c.elements_of-q-end.ensures.count, c.loop-q-test.false) in
+    ap₂ kept c.loop-q.invariant.ty (c.loop-q.invariant.made ∙ ap (λ (n : ℕ). map P (range_with_len 0 (n * each))) all)
