@@ -72,39 +72,59 @@ more_held : (d : ArrayDef) (many : List ℕ) (v : ℕ) → holds many v ≡ true
 more_held (root ty ds es) many v t = t
 more_held (view p u) many v t = by_test (p == v) (λ same. rw same refl) (λ other. rw other t)
 
+-- a sweep adds nothing
+swept_few : (w : World) (many : List ℕ) → length (sweep w many) ≤ length w
+swept_few [] many = omega arith
+swept_few ((k, d) ∷ w) many = by_kept (λ m. swept_few w m) (holds many k)
+  where
+    by_kept : ((m : List ℕ) → length (sweep w m) ≤ length w) → (kept : Bool) → length (kept_onto kept (k, d) (sweep w (if kept then parents d ++ many else many))) ≤ suc (length w)
+    by_kept rest true = let r = rest (parents d ++ many) in omega arith
+    by_kept rest false = let r = rest many in omega arith
+
+-- all is kept where the newest array is held, and all others are kept with its parent held too
+front_keeps : (k : ℕ) (d : ArrayDef) (w : World) (many : List ℕ) → holds many k ≡ true → KeepsAll w (parents d ++ many) → KeepsAll ((k, d) ∷ w) many
+front_keeps k d w many first rest = by_kept (holds many k) first
+  where
+    by_kept : (kept : Bool) → kept ≡ true → kept_onto kept (k, d) (sweep w (if kept then parents d ++ many else many)) ≡ (k, d) ∷ w
+    by_kept true is = ap (λ u. (k, d) ∷ u) rest
+    by_kept false is = absurd (cc)
+
+-- and only there
+front_kept : (k : ℕ) (d : ArrayDef) (w : World) (many : List ℕ) → KeepsAll ((k, d) ∷ w) many → (holds many k ≡ true) × KeepsAll w (parents d ++ many)
+front_kept k d w many keeps = by_kept (holds many k) refl keeps
+  where
+    rest_is : (a b : ℕ × ArrayDef) (u t : World) → a ∷ u ≡ b ∷ t → u ≡ t
+    rest_is a b u t e = cc
+
+    by_kept : (kept : Bool) → holds many k ≡ kept → kept_onto kept (k, d) (sweep w (if kept then parents d ++ many else many)) ≡ (k, d) ∷ w → (holds many k ≡ true) × KeepsAll w (parents d ++ many)
+    by_kept true is e = (is, rest_is (k, d) (k, d) (sweep w (parents d ++ many)) w e)
+    by_kept false is e =
+        let more : length (sweep w many) ≡ suc (length w) = ap length e in
+        let few = swept_few w many in
+        absurd (omega arith)
+
 keeps_more : (w : World) (few many : List ℕ) → ((v : ℕ) → holds few v ≡ true → holds many v ≡ true) → KeepsAll w few → KeepsAll w many
-keeps_more [] few many h keeps = tt
-keeps_more ((k, d) ∷ w) few many h keeps = (h k keeps.0, keeps_more w (parents d ++ few) (parents d ++ many) (both d) keeps.1)
+keeps_more [] few many h keeps = refl
+keeps_more ((k, d) ∷ w) few many h keeps =
+    let front = front_kept k d w few keeps in
+    front_keeps k d w many (h k front.0) (keeps_more w (parents d ++ few) (parents d ++ many) (both d) front.1)
   where
     both : (d : ArrayDef) (v : ℕ) → holds (parents d ++ few) v ≡ true → holds (parents d ++ many) v ≡ true
     both (root ty ds es) v t = h v t
     both (view p u) v t = by_test (p == v) (λ same. rw same refl) (λ other. rw other (h v (rw other at t)))
-
--- a sweep leaves what the sweep keeps
-keeps_swept : (w : World) (many : List ℕ) → KeepsAll (sweep w many) many
-keeps_swept [] many = tt
-keeps_swept ((k, d) ∷ w) many = by_keeps (λ m. keeps_swept w m) (holds many k) refl
-  where
-    by_keeps : ((m : List ℕ) → KeepsAll (sweep w m) m) → (b : Bool) → holds many k ≡ b → KeepsAll (kept_onto b (k, d) (sweep w (if b then parents d ++ many else many))) many
-    by_keeps rest true is = (is, rest (parents d ++ many))
-    by_keeps rest false is = rest many
-
-kept_all : (w : World) (many : List ℕ) → KeepsAll w many → sweep w many ≡ w
-kept_all [] many keeps = refl
-kept_all ((k, d) ∷ w) many keeps = by_keeps (kept_all w (parents d ++ many) keeps.1) (holds many k) keeps.0
-  where
-    by_keeps : sweep w (parents d ++ many) ≡ w → (b : Bool) → b ≡ true → kept_onto b (k, d) (sweep w (if b then parents d ++ many else many)) ≡ (k, d) ∷ w
-    by_keeps rest true is = ap (λ u. (k, d) ∷ u) rest
-    by_keeps rest false is = cc
 
 -- elements are no matter of a sweep
 keeps_assigned : (w : World) (v : ℕ) (vs : List ℤ) (many : List ℕ) → KeepsAll w many → KeepsAll (assign w v vs) many
 keeps_assigned w v vs many keeps = by_look (look w v)
   where
     set : (w : World) (r : ℕ) (es : List ℤ) (many : List ℕ) → KeepsAll w many → KeepsAll (set_elements w r es) many
-    set [] r es many k = tt
-    set ((n, root ty ds old) ∷ w) r es many k = (k.0, set w r es many k.1)
-    set ((n, view p t) ∷ w) r es many k = (k.0, set w r es (p ∷ many) k.1)
+    set [] r es many k = refl
+    set ((n, root ty ds old) ∷ w) r es many k =
+        let front = front_kept n (root ty ds old) w many k in
+        front_keeps n (root ty ds (if n == r then es else old)) (set_elements w r es) many front.0 (set w r es many front.1)
+    set ((n, view p t) ∷ w) r es many k =
+        let front = front_kept n (view p t) w many k in
+        front_keeps n (view p t) (set_elements w r es) many front.0 (set w r es (p ∷ many) front.1)
 
     by_look : (o : Option Look) → KeepsAll (assign_through w o vs) many
     by_look None = keeps
@@ -181,7 +201,7 @@ held_new older others names e t d id leaving left have h j sound noted = record 
         more_held d (numbers names.arrays ++ after) v (both_hold (numbers names.arrays) after v (let m = times_more leaving (id ∷ []) v in omega arith))
 
     kept : KeepsAll ((id, d) ∷ e.world) (numbers names.arrays ++ after)
-    kept = (first_held, keeps_more e.world (numbers names.arrays ++ leaving) (parents d ++ (numbers names.arrays ++ after)) still_held h.reached)
+    kept = front_keeps id d e.world (numbers names.arrays ++ after) first_held (keeps_more e.world (numbers names.arrays ++ leaving) (parents d ++ (numbers names.arrays ++ after)) still_held h.reached)
 
     count : (v : ℕ) → count_at ((id, 1) ∷ e.holds) v ≡ times (numbers names.arrays) v + times (leaving ++ id ∷ []) v
     count v = by_test (id == v)
@@ -236,7 +256,7 @@ let_go_one laws names e t v vs have apart h r sound = record {
     few = h.few;
     counts = count;
     reached = (let W : World → Type 0 = λ w. KeepsAll w (numbers names.arrays ++ vs) in
-        subst W (sym r.world) (keeps_more (sweep e.world many) many (numbers names.arrays ++ vs) left_held (keeps_swept e.world many)));
+        subst W (sym r.world) (keeps_more (sweep e.world many) many (numbers names.arrays ++ vs) left_held (laws.again e.world many many (λ u is. is))));
   };
   next = r.next;
   swept = ap (λ w. sweep w (numbers names.arrays)) r.world ∙ laws.again e.world many (numbers names.arrays) covers;
@@ -359,8 +379,8 @@ all_let_go names old e vs i past l = let P : List ℕ → Type 0 = λ us. LetsGo
 pub all_gone : (names : Names) (old new : Engine) → LetsGo names old new [] → state_in names new ≡ with_world (state_in names old) (sweep old.world (held (state_in names old)))
 all_gone names old new l =
     let vs : List ℕ = numbers names.arrays in
-    let K : List ℕ → Type 0 = KeepsAll new.world in
-    let w : new.world ≡ sweep old.world vs = sym (kept_all new.world vs (subst K (append-nil vs) l.is_held.reached)) ∙ l.swept in
+    let K : List ℕ → Type 0 = λ us. KeepsAll new.world us in
+    let w : new.world ≡ sweep old.world vs = sym (subst K (append-nil vs) l.is_held.reached) ∙ l.swept in
     ap (λ x. state_of names x new.next) w ∙ ap (λ n. state_of names (sweep old.world vs) n) l.next
 
 -- so many names are bound at most

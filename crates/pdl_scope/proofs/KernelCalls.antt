@@ -1,9 +1,9 @@
 -- Calls of kernels, from what their arguments resolve to.
-use Rattle.std.proofs.Common.{◌≡◌, ℕ, zero, suc, ◌+◌, ◌<◌, ◌≤◌, true, List, [], ◌∷◌, length, map, take, get_or, Option, Some, None, eq-eqb, Result, Ok, Err, refl, sym, ap, subst, ◌∙◌, arith}
-use Rattle.std.specs.Prelude.{◌==◌, All, IfSome, option_map, slice_get, Vec}
+use Rattle.std.proofs.Common.{◌≡◌, ℕ, zero, suc, ◌+◌, ◌<◌, ◌≤◌, true, List, [], ◌∷◌, length, map, take, get_or, Some, eq-eqb, Result, Ok, Err, refl, sym, ap, subst, ◌∙◌, arith}
+use Rattle.std.specs.Prelude.{◌==◌, All, IfSome, slice_get, Vec}
 use Rattle.std.specs.Global.{Global}
 use Rattle.std.proofs.lemmas.List.{length-map, length-take-le, map_more, take_all}
-use Rattle.std.proofs.lemmas.List.Elements.{All-cons, All-more}
+use Rattle.std.proofs.lemmas.List.Elements.{All-more}
 use Rattle.pdl_buf.specs.Window.{Window}
 use Rattle.pdl_buf.specs.declared.made.Made.{Made}
 use Rattle.pdl_engine.specs.State.{State as Engine, is_fresh, SameArrays, StayFresh, shown_in}
@@ -20,21 +20,18 @@ use Rattle.pdl_machine.specs.declared.fault.Fault.{Fault}
 use Rattle.pdl_world.specs.World.{World}
 use Rattle.pdl_world.specs.Sound.{IsLive}
 use Rattle.pdl_machine.specs.declared.fault.Fault.TheVariants.{WrongArguments}
-use Rattle.pdl_machine.specs.Arrays.{Arrays, array_in}
+use Rattle.pdl_machine.specs.Arrays.{array_in}
 use Rattle.pdl_machine.specs.Kernels.{array_seen, called_on, kernel_outputs, outputs_count, resolve_fault, run_fault}
 use Rattle.pdl_sig.specs.Given.{shape_of}
+use Rattle.pdl_machine.specs.Outcome.{array}
 use Rattle.pdl_machine.specs.Refused.{or_named}
 use Rattle.pdl_machine.specs.Then.{and_more, all_of, and_then, or_fault}
 use Rattle.pdl_scope.specs.declared.fault.StepFault.{StepFault}
-use Rattle.pdl_scope.specs.declared.given.Given.{Given}
-use Rattle.pdl_scope.specs.declared.given.Given.TheVariants.{Array, Text, OfType}
 use Rattle.pdl_scope.specs.Answers.{AnswersAs, IsFault}
-use Rattle.pdl_scope.specs.Arguments.{all_seen_of, array_number, AreGivenLive}
 use Rattle.pdl_scope.specs.Faults.{of_resolve, of_run}
-use Rattle.pdl_scope.specs.Facts.{first_fault}
-use Rattle.pdl_scope.proofs.Faults.{named_fault}
+use Rattle.pdl_scope.proofs.Faults.{named_fault, named_first}
 use Rattle.std.proofs.lemmas.Option.{IfSome_then}
-use Rattle.pdl_scope.specs.Scope.{arrays_of, made_in, shape_in}
+use Rattle.pdl_scope.specs.Scope.{arrays_of, arrays_seen, made_in, shape_in}
 
 pub shapes_seen : (e : Engine) (ids : List ℕ) → map shape_of (map (made_in e) ids) ≡ map (shape_in e) ids
 shapes_seen e [] = refl
@@ -56,8 +53,8 @@ pub call_refused : (k : Kernel) (e : Engine) (ids : List ℕ) (signature : Signa
 call_refused k e ids signature shapes f fault same seen h is =
     let P : StepFault → Type 0 = λ x. IsFault (called_on k (map (made_in e) ids)) x in
     let Q : Result (List Made) Fault → Type 0 = λ x. IsFault x (of_resolve f) in
-    let refused = named_fault resolve_fault (resolution signature shapes) (reason_named f) (IfSome_then (reason_named f) h (λ x is. sym is)) in
-    subst P (sym is) (subst Q (sym (call_is k e ids signature shapes same seen)) (first_fault (or_named resolve_fault (resolution signature shapes)) (λ resolved. or_named run_fault (called k resolved (map (made_in e) ids))) (of_resolve f) refused))
+    let refused = named_first resolve_fault (resolution signature shapes) (λ resolved. or_named run_fault (called k resolved (map (made_in e) ids))) (reason_named f) (IfSome_then (reason_named f) h (λ x is. sym is)) in
+    subst P (sym is) (subst Q (sym (call_is k e ids signature shapes same seen)) refused)
 
 -- what is known of a call whose arguments were all given
 pub record IsGiven (k : Kernel) (e : Engine) (ids : List ℕ) (resolved : Resolved) (r : Run) : Type 0 where
@@ -130,44 +127,17 @@ given_more start now new e ids i w lt is shown next =
     next ∙ ap (λ r. with_next r w) is ∙ ap (with_next (with_first start e ids i)) shown
     ∙ ap (λ given. record start { given = given }) (sym (map_more (made_in e) ids i 0 lt))
 
--- the arrays that arguments are can be looked at
-pub numbers_live : (w : World) (given : List Given) (ids : List ℕ) → AreGivenLive w given → all_of array_number given ≡ Some ids → All (IsLive w) ids
-numbers_live w given ids live e = by_all (all_of array_number given) (each given live) e
-  where
-    each : (given : List Given) → AreGivenLive w given → IfSome (all_of array_number given) (All (IsLive w))
-    each [] live = λ k d lt. absurd (omega arith)
-    each (Array v ∷ given) live = by_rest (all_of array_number given) (each given live.1)
-      where
-        by_rest : (o : Option (List ℕ)) → IfSome o (All (IsLive w)) → IfSome (and_more (Some v) o) (All (IsLive w))
-        by_rest None h = tt
-        by_rest (Some vs) h = All-cons (IsLive w) v vs live.0 h
-    each (Text t ∷ given) live = tt
-    each (OfType ty ∷ given) live = tt
-
-    by_all : (o : Option (List ℕ)) → IfSome o (All (IsLive w)) → o ≡ Some ids → All (IsLive w) ids
-    by_all o h e = let P : Option (List ℕ) → Type 0 = λ x. IfSome x (All (IsLive w)) in subst P e h
-
-arrays_seen : (a : Arrays) (given : List Given) → all_of array_seen (all_seen_of a given) ≡ option_map (map (array_in a)) (all_of array_number given)
-arrays_seen a [] = refl
-arrays_seen a (Array v ∷ given) = ap (and_more (Some (array_in a v))) (arrays_seen a given) ∙ by_rest (all_of array_number given)
-  where
-    by_rest : (o : Option (List ℕ)) → and_more (Some (array_in a v)) (option_map (map (array_in a)) o) ≡ option_map (map (array_in a)) (and_more (Some v) o)
-    by_rest None = refl
-    by_rest (Some vs) = refl
-arrays_seen a (Text t ∷ given) = refl
-arrays_seen a (OfType ty ∷ given) = refl
+-- arrays as a call sees them
+all_arrays : (f : ℕ → Made) (ids : List ℕ) → all_of array_seen (map (λ v. array (f v)) ids) ≡ Some (map f ids)
+all_arrays f [] = refl
+all_arrays f (v ∷ ids) = ap (and_more (Some (f v))) (all_arrays f ids)
 
 -- a call that has as many outputs as are wanted
-as_wanted : (k : Kernel) (wanted count : ℕ) (e : Engine) (given : List Given) → count ≡ outputs_count k.signature → count ≡ wanted
-    → kernel_outputs k wanted (all_seen_of (arrays_of e) given) ≡ and_then (or_fault WrongArguments (option_map (map (made_in e)) (all_of array_number given))) (called_on k)
-as_wanted k wanted count e given is same =
+as_wanted : (k : Kernel) (wanted count : ℕ) (e : Engine) (ids : List ℕ) → count ≡ outputs_count k.signature → count ≡ wanted
+    → kernel_outputs k wanted (arrays_seen (arrays_of e) ids) ≡ called_on k (map (made_in e) ids)
+as_wanted k wanted count e ids is same =
     let t : (outputs_count k.signature == wanted) ≡ true = eq-eqb (outputs_count k.signature) wanted (sym is ∙ same) in
-    rw t (ap (λ o. and_then (or_fault WrongArguments o) (called_on k)) (arrays_seen (arrays_of e) given))
-
-pub none_given : (k : Kernel) (wanted count : ℕ) (e : Engine) (given : List Given) → count ≡ outputs_count k.signature → count ≡ wanted → all_of array_number given ≡ None
-    → kernel_outputs k wanted (all_seen_of (arrays_of e) given) ≡ Err WrongArguments
-none_given k wanted count e given is same none =
-    as_wanted k wanted count e given is same ∙ ap (λ o. and_then (or_fault WrongArguments (option_map (map (made_in e)) o)) (called_on k)) none
+    rw t (ap (λ o. and_then (or_fault WrongArguments o) (called_on k)) (all_arrays (made_in e) ids))
 
 same_made : (e t : Engine) → SameArrays e t → made_in t ≡ made_in e
 same_made e t s = ap (λ w. made_by w t.next) s.world ∙ ap (made_by e.world) s.next
@@ -175,16 +145,12 @@ same_made e t s = ap (λ w. made_by w t.next) s.world ∙ ap (made_by e.world) s
     made_by : World → ℕ → ℕ → Made
     made_by w next v = array_in (record { world = w; next = next }) v
 
--- the answer for arrays that were made ready is that for the arguments
-pub all_given : (k : Kernel) (wanted count : ℕ) (e t : Engine) (given : List Given) (ids : List ℕ) (r : Result (Vec Made Global) StepFault) → count ≡ outputs_count k.signature → count ≡ wanted
-    → all_of array_number given ≡ Some ids → SameArrays e t → AnswersAs (λ ms. ms.items) (called_on k (map (made_in t) ids)) r
-    → AnswersAs (λ ms. ms.items) (kernel_outputs k wanted (all_seen_of (arrays_of e) given)) r
-all_given k wanted count e t given ids r is same all arrays h =
+-- the answer for arrays that were made ready is that for the arrays
+pub all_given : (k : Kernel) (wanted count : ℕ) (e t : Engine) (ids : List ℕ) (r : Result (Vec Made Global) StepFault) → count ≡ outputs_count k.signature → count ≡ wanted
+    → SameArrays e t → AnswersAs (λ ms. ms.items) (called_on k (map (made_in t) ids)) r → AnswersAs (λ ms. ms.items) (kernel_outputs k wanted (arrays_seen (arrays_of e) ids)) r
+all_given k wanted count e t ids r is same arrays h =
     let P : Result (List Made) Fault → Type 0 = λ x. AnswersAs (λ (ms : Vec Made Global). ms.items) x r in
-    let found : kernel_outputs k wanted (all_seen_of (arrays_of e) given) ≡ called_on k (map (made_in t) ids) =
-    as_wanted k wanted count e given is same ∙ ap (λ o. and_then (or_fault WrongArguments (option_map (map (made_in e)) o)) (called_on k)) all
-    ∙ ap (λ f. called_on k (map f ids)) (sym (same_made e t arrays)) in
-    subst P (sym found) h
+    subst P (sym (as_wanted k wanted count e ids is same ∙ ap (λ f. called_on k (map f ids)) (sym (same_made e t arrays)))) h
 
 pub live_again : (e t : Engine) (ids : List ℕ) → SameArrays e t → All (IsLive e.world) ids → All (IsLive t.world) ids
 live_again e t ids s live = let P : World → Type 0 = λ w. All (IsLive w) ids in subst P (sym s.world) live

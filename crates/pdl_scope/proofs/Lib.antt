@@ -2,9 +2,7 @@ pub mod Bindings
 pub mod Growing
 pub mod Counts
 pub mod Faults
-pub mod Gathered
 pub mod KernelCalls
-pub mod Clamps
 pub mod Reduced
 pub mod Printing
 pub mod Roots

@@ -19,7 +19,7 @@ use Rattle.pdl_machine.specs.Then.{and_then}
 use Rattle.pdl_scope.specs.declared.fault.StepFault.{StepFault}
 use Rattle.pdl_scope.specs.declared.fault.StepFault.TheVariants.{Script, NoMemory}
 use Rattle.pdl_scope.specs.Answers.{IsFault, Prints, IfScript, IsKept, Runs}
-use Rattle.pdl_scope.specs.Room.{is_among, new_among}
+use Rattle.pdl_scope.specs.Room.{is_among, new_among, has_room}
 use Rattle.pdl_scope.specs.Scope.{Grows}
 use Rattle.pdl_scope.proofs.Bindings.{length_after}
 use Rattle.pdl_scope.proofs.Held.{few_bound}
@@ -109,6 +109,24 @@ fits_first {A = A} names x v xs room = by_found (found names x) refl
         let stays = room_stays names x v xs in
         let t : nat_lt (length names) names_limit ≡ true = grind (arith, nat_tests) in
         rw (e, t) refl
+
+-- room for all, as a number
+pub fits_all : {A : Type 0} (names : Named A) (xs : List (List ℕ)) (room : Bool) → room ≡ has_room names xs → room ≡ true → length names + new_among names xs ≤ names_limit
+fits_all names xs room is told = by_count (length names + new_among names xs) (sym is ∙ told)
+  where
+    by_count : (n : ℕ) → not (nat_lt names_limit n) ≡ true → n ≤ names_limit
+    by_count n h = by_test (nat_lt names_limit n)
+        (λ past. absurd (let no : not true ≡ true = rw past at h in cc))
+        (λ within. (let few : n ≤ names_limit = grind (arith, nat_tests) in few))
+
+-- and no room
+pub some_too_many : {A : Type 0} (names : Named A) (xs : List (List ℕ)) (room : Bool) → room ≡ has_room names xs → room ≡ false → names_limit < length names + new_among names xs
+some_too_many names xs room is told = by_count (length names + new_among names xs) (sym is ∙ told)
+  where
+    by_count : (n : ℕ) → not (nat_lt names_limit n) ≡ false → names_limit < n
+    by_count n h = by_test (nat_lt names_limit n)
+        (λ past. (let many : names_limit < n = grind (arith, nat_tests) in many))
+        (λ within. absurd (let no : not false ≡ false = rw within at h in cc))
 
 -- the state after a binding for which there is room
 abbrev with_bound : State → List ℕ → ℕ → State

@@ -1,8 +1,8 @@
 -- Room for names.
-use Rattle.std.specs.Prelude.{ℕ, nat_eq, Bool, ◌+◌, ◌||◌, if◌then◌else◌, List, [], ◌∷◌, is_some}
+use Rattle.std.specs.Prelude.{ℕ, nat_eq, nat_lt, Bool, not, ◌+◌, ◌||◌, if◌then◌else◌, List, [], ◌∷◌, length, is_some}
 use Rattle.std.specs.Cmp.Lexicographic.{pointwise}
 use Rattle.std.specs.List.{list_any}
-use Rattle.pdl_machine.specs.Names.{Named, found}
+use Rattle.pdl_machine.specs.Names.{Named, found, names_limit}
 
 -- whether the name is among these
 abbrev pub is_among : List (List ℕ) → List ℕ → Bool
@@ -13,3 +13,7 @@ abbrev pub new_among : {A : Type 0} → Named A → List (List ℕ) → ℕ
 new_among names [] = 0
 new_among names (x ∷ xs) =
     (if is_some (found names x) || is_among xs x then 0 else 1) + new_among names xs
+
+-- whether all of these names fit: with the new ones among them there are as many as may be, or fewer
+abbrev pub has_room : {A : Type 0} → Named A → List (List ℕ) → Bool
+has_room names xs = not (nat_lt names_limit (length names + new_among names xs))

@@ -1,9 +1,9 @@
 -- What a scope keeps, and how it is seen.
-use Rattle.std.specs.Prelude.{◌≡◌, ℕ, ◌+◌, ◌≤◌, ◌==◌, if◌then◌else◌, ℤ, true, List, [], ◌∷◌, ◌++◌, length}
+use Rattle.std.specs.Prelude.{◌≡◌, ℕ, ◌+◌, ◌≤◌, ◌==◌, if◌then◌else◌, ℤ, List, [], ◌∷◌, ◌++◌, length, map}
 use Rattle.pdl_elem.specs.declared.Ty.{Ty}
 use Rattle.pdl_buf.specs.declared.made.Made.{Made}
 use Rattle.pdl_world.specs.Sound.{IsLive}
-use Rattle.pdl_world.specs.Swept.{holds, parents}
+use Rattle.pdl_world.specs.Swept.{sweep}
 use Rattle.pdl_world.specs.World.{World}
 use Rattle.pdl_engine.specs.State.{State as Engine, count_at}
 use Rattle.pdl_kernel.specs.Kernels.{Kernel}
@@ -13,6 +13,7 @@ use Rattle.pdl_machine.specs.Arrays.{Arrays, array_in}
 use Rattle.pdl_sig.specs.Given.{shape_of}
 use Rattle.pdl_machine.specs.State.{State, held, IsWhole}
 use Rattle.pdl_machine.specs.Laws.{AreGrown}
+use Rattle.pdl_machine.specs.Outcome.{Seen, array}
 
 -- the engine's arrays as the machine's
 abbrev pub arrays_of : Engine → Arrays
@@ -34,6 +35,10 @@ made_in e v = array_in (arrays_of e) v
 abbrev pub shape_in : Engine → ℕ → ArgShape
 shape_in e v = shape_of (made_in e v)
 
+-- arrays as a call sees them that takes nothing else
+abbrev pub arrays_seen : Arrays → List ℕ → List Seen
+arrays_seen a vs = map (λ v. array (array_in a v)) vs
+
 -- an array of this type, these dimensions and these elements
 abbrev pub array_of : Ty → List ℕ → List ℤ → Made
 array_of ty ds es = record { ty = ty; dims = ds; elems = es }
@@ -49,10 +54,9 @@ abbrev pub times : List ℕ → ℕ → ℕ
 times [] v = 0
 times (u ∷ us) v = (if u == v then 1 else 0) + times us v
 
--- a sweep by these keeps all: each array is among them, or is the parent of a newer one
+-- a sweep by these keeps all
 abbrev pub KeepsAll : World → List ℕ → Type 0
-KeepsAll [] many = Unit {0}
-KeepsAll ((k, d) ∷ w) many = (holds many k ≡ true) × KeepsAll w (parents d ++ many)
+KeepsAll w many = sweep w many ≡ w
 
 -- The state is whole; at most so many names are bound; each array is held once for each name of it,
 -- and once for each place in the list of those that leave when the statement ends; and nothing is

@@ -1,5 +1,5 @@
 //! Calls of kernels (PDL::PP).
-ghost use Rattle.std.specs.Prelude.{◌≡◌, ◌≤◌, true, [], length, map, option_map, All, IfOk, OnOk, Ok};
+ghost use Rattle.std.specs.Prelude.{◌≡◌, ◌≤◌, true, [], length, map, All, IfOk, OnOk, Ok};
 ghost use Rattle.std.specs.List.{filter};
 ghost use Rattle.pdl_buf.specs.Made.{IsMade};
 ghost use Rattle.pdl_engine.specs.State.{is_fresh, SameArrays};
@@ -7,13 +7,10 @@ ghost use Rattle.pdl_sig.specs.Resolution.{is_output, resolution};
 ghost use Rattle.pdl_sig.specs.declared.SigArg.{SigArg};
 ghost use Rattle.pdl_world.specs.Sound.{IsLive};
 ghost use Rattle.pdl_machine.specs.Kernels.{called_on, kernel_outputs, outputs_count};
-ghost use Rattle.pdl_machine.specs.Then.{all_of};
 ghost use Rattle.pdl_scope.specs.Answers.{AnswersAs};
-ghost use Rattle.pdl_scope.specs.Arguments.{all_seen_of, array_number, AreGivenLive};
-ghost use Rattle.pdl_scope.specs.Scope.{arrays_of, made_in, shape_in};
+ghost use Rattle.pdl_scope.specs.Scope.{arrays_of, arrays_seen, made_in, shape_in};
 
 use crate::fault::StepFault;
-use crate::given::Given;
 use crate::reading::ready;
 use pdl_buf::{Made, Steps};
 use pdl_engine::{ArrayId, Engine};
@@ -24,18 +21,18 @@ use pdl_sig::{ArgShape, SigArg, Signature, is_output, resolve};
 use std::alloc::{AllocError, Global};
 use std::sync::ledger::Ledger;
 
-/// What the call of a kernel gives, of which so many outputs are wanted. Its
-/// arguments are made ready to be lent.
+/// What the call of a kernel gives for arrays, of which so many outputs are wanted. They are made
+/// ready to be lent.
 pub(crate) fn kernel_outputs<L: Ledger>(
     alloc: Global,
     kernel: &Kernel,
     engine: &mut Engine,
     wanted: usize,
-    given: &[Given],
+    ids: &[ArrayId],
     steps: &mut Steps<L>,
 ) -> Result<Vec<Made>, StepFault>
-    requires { AreGivenLive engine.old.world given.now }
-    ensures value { let seen = all_seen_of (arrays_of engine.old) given.now in
+    requires { All (IsLive engine.old.world) ids.now }
+    ensures value { let seen = arrays_seen (arrays_of engine.old) ids.now in
         AnswersAs (λ ms. ms.items) (kernel_outputs kernel.now wanted seen) result }
     ensures made { IfOk result (λ ms. All (λ m. IsMade m.ty m.dims m.elems) ms.items) }
     ensures same { SameArrays engine.old engine.new }
@@ -43,13 +40,8 @@ pub(crate) fn kernel_outputs<L: Ledger>(
     if outputs_count(kernel_signature(kernel)) != wanted {
         return Err(StepFault::Script(Fault::WrongArguments));
     }
-    match arrays_given(alloc, given)? {
-        Some(ids) => {
-            ready_all(engine, &ids, steps)?;
-            called_on(alloc, kernel, engine, &ids)
-        }
-        None => Err(StepFault::Script(Fault::WrongArguments)),
-    }
+    ready_all(engine, ids, steps)?;
+    called_on(alloc, kernel, engine, ids)
 }
 
 /// How many outputs a call has.
@@ -69,20 +61,6 @@ fn count_outputs(args: &[SigArg]) -> usize
         [first, rest @ ..] if is_output(first.role) => 1 + count_outputs(rest),
         [_, rest @ ..] => count_outputs(rest),
     }
-}
-
-/// The arrays that arguments are, if each is one.
-fn arrays_given(alloc: Global, given: &[Given]) -> Result<Option<Vec<ArrayId>>, AllocError>
-    ensures { IfOk result (λ ids. option_map (λ v. v.items) ids ≡ all_of array_number given.now) }
-{
-    let mut ids = Vec::new(alloc);
-    for one in given {
-        match one {
-            Given::Array(id) => ids.push(*id)?,
-            _ => return Ok(None),
-        }
-    }
-    Ok(Some(ids))
 }
 
 /// Makes arrays ones that can be lent.

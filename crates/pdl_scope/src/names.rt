@@ -1,9 +1,9 @@
 //! The names that arrays are bound to.
-ghost use Rattle.std.specs.Prelude.{◌≡◌, ◌+◌, ◌<◌, ◌≤◌, [], false, length, slice_get, Some, None, Ok, IfOk, IfErr, IfSome, IfNone, IsTrue, OnOk, OnErr};
+ghost use Rattle.std.specs.Prelude.{◌≡◌, ◌<◌, ◌≤◌, [], length, slice_get, Some, None, Ok, IfOk, IfErr, IfSome, IfNone, OnOk, OnErr};
 ghost use Rattle.pdl_machine.specs.declared.fault.Fault.TheVariants.{TooManyNames};
 ghost use Rattle.pdl_machine.specs.Names.{found, entered, with_name, names_limit};
 ghost use Rattle.pdl_scope.specs.Answers.{IsFault};
-ghost use Rattle.pdl_scope.specs.Room.{new_among};
+ghost use Rattle.pdl_scope.specs.Room.{new_among, has_room};
 
 use crate::fault::StepFault;
 use indexmap::IndexMap;
@@ -106,10 +106,7 @@ impl Names {
     /// Whether there is room for these names: with the new ones among them at most 512 are bound.
     pub fn has_room(&self, bound: &[Name]) -> bool
         requires { length self.now ≤ names_limit }
-        ensures room { IsTrue result →
-            length self.now + new_among self.now bound.now ≤ names_limit }
-        ensures none { result ≡ false →
-            names_limit < length self.now + new_among self.now bound.now }
+        ensures { result ≡ has_room self.now bound.now }
     {
         self.new_among(bound) <= MOST_NAMES - self.arrays.len()
     }

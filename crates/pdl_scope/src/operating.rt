@@ -114,8 +114,10 @@ fn operated(
         Answers (binary_each op (array_in a left) (array_in a right)) result }
     ensures made { IfOk result (λ m. IsMade m.ty m.dims m.elems) }
 {
-    let made = elementwise(alloc, op, &engine.lend(left), &engine.lend(right))?;
-    Ok(made)
+    match elementwise(alloc, op, &engine.lend(left), &engine.lend(right)) {
+        Ok(made) => Ok(made),
+        Err(fault) => Err(StepFault::from(fault)),
+    }
 }
 
 /// The values that an assignment writes, of arrays that can be lent.

@@ -6,99 +6,86 @@ ghost use Rattle.pdl_reduce.specs.Answers as reduce;
 ghost use Rattle.pdl_reduce.specs.Refusals.{ReduceRefusal};
 ghost use Rattle.pdl_reduce.specs.Reductions.{reduced, whole_reduced};
 ghost use Rattle.pdl_reduce.specs.Pairings.{paired};
-ghost use Rattle.pdl_machine.specs.Reductions.{made_or_fault, of_one, of_two};
-ghost use Rattle.pdl_scope.specs.Answers.{AnswersAs};
-ghost use Rattle.pdl_scope.specs.Arguments.{all_seen_of, AreGivenLive, outcome_of, IsOutcomeMade};
+ghost use Rattle.pdl_world.specs.Sound.{IsLive};
+ghost use Rattle.pdl_machine.specs.Arrays.{array_in};
+ghost use Rattle.pdl_machine.specs.Refused.{reduce_fault, or_named};
+ghost use Rattle.pdl_scope.specs.Answers.{Answers};
 
 use crate::fault::StepFault;
-use crate::given::Given;
-use crate::outcome::Outcome;
 use crate::reading::ready;
 use crate::scope::Scope;
-use crate::shapes::{one_array, two_arrays};
 use pdl_buf::{Made, Steps};
-use pdl_machine::Fault;
+use pdl_engine::ArrayId;
 use pdl_reduce::{Pairing, ReduceFault, Reduction, Whole, pair, reduce, reduce_whole};
 use std::sync::ledger::Ledger;
 
 impl Scope {
-    /// A reduction of one array along dimension 0.
+    /// A reduction of an array along dimension 0.
     pub fn reduced<L: Ledger>(
         &mut self,
         kind: Reduction,
-        given: &[Given],
+        id: ArrayId,
         steps: &mut Steps<L>,
-    ) -> Result<Outcome, StepFault>
-        requires { AreGivenLive self.old.arrays.world given.now }
-        ensures value { let seen = all_seen_of self.old.arrays given.now in
-            AnswersAs outcome_of (of_one (reduced kind) seen) result }
-        ensures made { IfOk result IsOutcomeMade }
+    ) -> Result<Made, StepFault>
+        requires { IsLive self.old.arrays.world id }
+        ensures value { let wanted = reduced kind (array_in self.old.arrays id) in
+            Answers (or_named reduce_fault wanted) result }
+        ensures made { IfOk result (λ m. IsMade m.ty m.dims m.elems) }
         ensures same { self.new ≡ self.old }
     {
-        match one_array(given) {
-            Some(id) => {
-                ready(&mut self.engine, id, steps)?;
-                outcome_of(reduce(self.alloc, kind, &self.engine.lend(id)))
-            }
-            None => Err(StepFault::Script(Fault::WrongArguments)),
-        }
+        ready(&mut self.engine, id, steps)?;
+        named(reduce(self.alloc, kind, &self.engine.lend(id)))
     }
 
-    /// A reduction of all elements of one array.
+    /// A reduction of all elements of an array.
     pub fn reduced_whole<L: Ledger>(
         &mut self,
         kind: Whole,
-        given: &[Given],
+        id: ArrayId,
         steps: &mut Steps<L>,
-    ) -> Result<Outcome, StepFault>
-        requires { AreGivenLive self.old.arrays.world given.now }
-        ensures value { let seen = all_seen_of self.old.arrays given.now in
-            AnswersAs outcome_of (of_one (whole_reduced kind) seen) result }
-        ensures made { IfOk result IsOutcomeMade }
+    ) -> Result<Made, StepFault>
+        requires { IsLive self.old.arrays.world id }
+        ensures value { let wanted = whole_reduced kind (array_in self.old.arrays id) in
+            Answers (or_named reduce_fault wanted) result }
+        ensures made { IfOk result (λ m. IsMade m.ty m.dims m.elems) }
         ensures same { self.new ≡ self.old }
     {
-        match one_array(given) {
-            Some(id) => {
-                ready(&mut self.engine, id, steps)?;
-                outcome_of(reduce_whole(self.alloc, kind, &self.engine.lend(id)))
-            }
-            None => Err(StepFault::Script(Fault::WrongArguments)),
-        }
+        ready(&mut self.engine, id, steps)?;
+        named(reduce_whole(self.alloc, kind, &self.engine.lend(id)))
     }
 
     /// A product of two arrays.
     pub fn paired<L: Ledger>(
         &mut self,
         kind: Pairing,
-        given: &[Given],
+        left: ArrayId,
+        right: ArrayId,
         steps: &mut Steps<L>,
-    ) -> Result<Outcome, StepFault>
-        requires { AreGivenLive self.old.arrays.world given.now }
-        ensures value { let seen = all_seen_of self.old.arrays given.now in
-            AnswersAs outcome_of (of_two (paired kind) seen) result }
-        ensures made { IfOk result IsOutcomeMade }
+    ) -> Result<Made, StepFault>
+        requires left { IsLive self.old.arrays.world left }
+        requires right { IsLive self.old.arrays.world right }
+        ensures value { let a = self.old.arrays in
+            let wanted = paired kind (array_in a left) (array_in a right) in
+            Answers (or_named reduce_fault wanted) result }
+        ensures made { IfOk result (λ m. IsMade m.ty m.dims m.elems) }
         ensures same { self.new ≡ self.old }
     {
-        match two_arrays(given) {
-            Some((left, right)) => {
-                ready(&mut self.engine, left, steps)?;
-                ready(&mut self.engine, right, steps)?;
-                let engine = &self.engine;
-                outcome_of(pair(self.alloc, kind, &engine.lend(left), &engine.lend(right)))
-            }
-            None => Err(StepFault::Script(Fault::WrongArguments)),
-        }
+        ready(&mut self.engine, left, steps)?;
+        ready(&mut self.engine, right, steps)?;
+        let engine = &self.engine;
+        named(pair(self.alloc, kind, &engine.lend(left), &engine.lend(right)))
     }
 }
 
-/// What a reduction gave, as a call's outcome.
-fn outcome_of(reduction: Result<Made, ReduceFault>) -> Result<Outcome, StepFault>
+/// What a reduction gave, with its refusal by the name of a script's fault.
+fn named(reduction: Result<Made, ReduceFault>) -> Result<Made, StepFault>
     ensures value { (wanted : Result Made ReduceRefusal) → reduce.Answers wanted reduction →
-        AnswersAs outcome_of (made_or_fault wanted) result }
-    ensures made { IfOk reduction (λ m. IsMade m.ty m.dims m.elems) → IfOk result IsOutcomeMade }
+        Answers (or_named reduce_fault wanted) result }
+    ensures made { IfOk reduction (λ m. IsMade m.ty m.dims m.elems) →
+        IfOk result (λ m. IsMade m.ty m.dims m.elems) }
 {
     match reduction {
-        Ok(made) => Ok(Outcome::New(made)),
+        Ok(made) => Ok(made),
         Err(fault) => Err(StepFault::from(fault)),
     }
 }

@@ -1,5 +1,5 @@
 //! Names, kernels and arrays.
-ghost use Rattle.std.specs.Prelude.{◌≡◌, ◌<◌, ◌≤◌, [], length, map, All, IfOk, IfSome, IsTrue, OnErr, OnOk, slice_get, Some};
+ghost use Rattle.std.specs.Prelude.{◌≡◌, ◌<◌, ◌≤◌, [], length, map, All, IfOk, IfSome, IsTrue, OnErr, OnOk, is_some, slice_get, Some};
 ghost use Rattle.pdl_shape.specs.Shape.{IsDims};
 ghost use Rattle.pdl_buf.specs.Made.{IsMade};
 ghost use Rattle.pdl_world.specs.Formula.{is_well_formed};
@@ -15,13 +15,11 @@ ghost use Rattle.pdl_machine.specs.State.{no_names, held, with_world, IsWhole};
 ghost use Rattle.pdl_machine.specs.Tidy.{tidy};
 ghost use Rattle.pdl_machine.specs.Outcome.{new_root, new_view};
 ghost use Rattle.pdl_machine.specs.Step.{bind_value, roots_bound, kernel_named};
-ghost use Rattle.pdl_scope.specs.Scope.{Grows, array_of, names_in};
+ghost use Rattle.pdl_scope.specs.Scope.{Grows, array_of, arrays_seen};
 ghost use Rattle.pdl_scope.specs.Answers.{AnswersAs, Evaluates, Runs};
-ghost use Rattle.pdl_scope.specs.Arguments.{all_seen_of, AreGivenLive};
 
 use crate::calling::kernel_outputs;
 use crate::fault::StepFault;
-use crate::given::Given;
 use crate::holding::{hold_for_name, note, note_some, release_all};
 use crate::kernels::Kernels;
 use crate::names::Names;
@@ -249,17 +247,24 @@ impl Scope {
         self.kernels.define(name, kernel)
     }
 
-    /// What the call of a kernel's name gives, of which so many outputs are wanted.
+    /// Whether a name is a kernel's.
+    pub fn has_kernel(&self, name: &Name) -> bool
+        ensures { result ≡ is_some (found self.now.names.kernels name.now) }
+    {
+        self.kernels.get(name).is_some()
+    }
+
+    /// What the call of a kernel's name gives for arrays, of which so many outputs are wanted.
     pub fn kernel_outputs<L: Ledger>(
         &mut self,
         name: &Name,
         wanted: usize,
-        given: &[Given],
+        ids: &[ArrayId],
         steps: &mut Steps<L>,
     ) -> Result<Vec<Made>, StepFault>
-        requires { AreGivenLive self.old.arrays.world given.now }
+        requires { All (IsLive self.old.arrays.world) ids.now }
         ensures value { let kernel = found self.old.names.kernels name.now in
-            let seen = all_seen_of self.old.arrays given.now in
+            let seen = arrays_seen self.old.arrays ids.now in
             let outputs = and_then (or_fault UnknownFunction kernel)
             (λ k. kernel_outputs k wanted seen) in
             AnswersAs (λ ms. ms.items) outputs result }
@@ -272,7 +277,7 @@ impl Scope {
                 kernel,
                 &mut self.engine,
                 wanted,
-                given,
+                ids,
                 steps,
             ),
             None => Err(StepFault::Script(Fault::UnknownFunction)),

@@ -12,14 +12,9 @@ use Rattle.pdl_machine.specs.Kernels.{kernel_outputs}
 use Rattle.pdl_machine.specs.Names.{Names, found}
 use Rattle.pdl_machine.specs.Outcome.{Given as Argument, Seen, Valued}
 use Rattle.pdl_machine.specs.Then.{and_then, or_fault}
-use Rattle.pdl_scope.specs.declared.given.Given.{Given}
-use Rattle.pdl_scope.specs.Arguments.{arguments, all_seen_of}
-use Rattle.pdl_session.specs.Calls.{several}
-use Rattle.pdl_session.proofs.Seen.{seen_same}
-
--- the outputs of the kernel of a name
-abbrev pub outputs_of : Names → List ℕ → (wanted : ℕ) → List Seen → Result (List Made) Fault
-outputs_of names f wanted seen = and_then (or_fault UnknownFunction (found names.kernels f)) (λ k. kernel_outputs k wanted seen)
+use Rattle.pdl_session.specs.declared.given.Given.{Given}
+use Rattle.pdl_session.specs.Arguments.{arguments, all_seen_of}
+use Rattle.pdl_session.specs.Calls.{outputs_of, several}
 
 abbrev value_among : Option Kernel → Arrays → List Argument → Option Builtin → Valued
 value_among k a given b = and_then (or_fault UnknownFunction (callee_among b k)) (value_by a given)
@@ -34,7 +29,7 @@ kernel_called names f a given none = ap (value_among (found names.kernels f) a (
   where
     by_kernel : (k : Option Kernel) → value_among k a (arguments given) None ≡ and_then (and_then (or_fault UnknownFunction k) (λ k. kernel_outputs k 1 (all_seen_of a given))) (only_root a)
     by_kernel None = refl
-    by_kernel (Some k) = ap (λ seen. and_then (kernel_outputs k 1 seen) (only_root a)) (seen_same a given)
+    by_kernel (Some k) = refl
 
 pub kernel_several : (names : Names) (f : List ℕ) (wanted : ℕ) (seen : List Seen) → builtin_of f ≡ None → and_then (callee_of names f) (several wanted seen) ≡ outputs_of names f wanted seen
 kernel_several names f wanted seen none = ap (several_among (found names.kernels f) wanted seen) none ∙ by_kernel (found names.kernels f)

@@ -22,7 +22,7 @@ use Rattle.pdl_machine.specs.Then.{and_then}
 use Rattle.pdl_scope.specs.declared.fault.StepFault.{StepFault}
 use Rattle.pdl_scope.specs.Answers.{IsFault, IfScript, IsKept, Runs}
 use Rattle.pdl_scope.specs.Faults.{of_signature, of_code}
-use Rattle.pdl_scope.specs.Facts.{first_fault, grows_refl, kept_at}
+use Rattle.pdl_session.proofs.Facts.{first_fault, grows_refl, kept_at}
 
 -- a definition, by what its signature's text means
 abbrev by_signature : List ℕ → Result Signature SigFault → Result Kernel Fault

@@ -19,9 +19,9 @@ use Rattle.pdl_machine.specs.Value.{Taken, value_of, taken}
 use Rattle.pdl_scope.specs.declared.fault.StepFault.{StepFault}
 use Rattle.pdl_scope.specs.declared.fault.StepFault.TheVariants.{Script, NoMemory}
 use Rattle.pdl_scope.specs.Answers.{IsFault}
-use Rattle.pdl_scope.specs.declared.given.Given.{Given}
-use Rattle.pdl_scope.specs.declared.given.Given.TheVariants.{Array, Text, OfType as OfType'}
-use Rattle.pdl_scope.specs.Arguments.{argument, arguments, IsGivenLive, AreGivenLive}
+use Rattle.pdl_session.specs.declared.given.Given.{Given}
+use Rattle.pdl_session.specs.declared.given.Given.TheVariants.{Array, Text, OfType as OfType'}
+use Rattle.pdl_session.specs.Arguments.{argument, arguments, IsGivenLive, AreGivenLive}
 
 abbrev pub with_given : Arrays → List Argument → Taken
 with_given a given = Ok (a, given)

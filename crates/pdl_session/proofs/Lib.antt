@@ -1,6 +1,11 @@
+pub mod Facts
 pub mod Evals
 pub mod Targets
 pub mod Seen
+pub mod Gathered
+pub mod Clamps
+pub mod Reduced
+pub mod ArraysGiven
 pub mod Sizes
 pub mod Shaped
 pub mod Sliced

@@ -5,9 +5,9 @@ use Rattle.pdl_machine.specs.declared.fault.Fault.TheVariants.{WrongArguments}
 use Rattle.pdl_machine.specs.Arrays.{Arrays, array_in}
 use Rattle.pdl_machine.specs.Outcome.{Outcome as Placed}
 use Rattle.pdl_machine.specs.Views.{range_by, range_outcome}
-use Rattle.pdl_scope.specs.declared.given.Given.{Given}
-use Rattle.pdl_scope.specs.declared.given.Given.TheVariants.{Array, Text, OfType}
-use Rattle.pdl_scope.specs.Arguments.{all_seen_of, two_and_more}
+use Rattle.pdl_session.specs.declared.given.Given.{Given}
+use Rattle.pdl_session.specs.declared.given.Given.TheVariants.{Array, Text, OfType}
+use Rattle.pdl_session.specs.Arguments.{all_seen_of, two_and_more}
 
 -- what it gives by the shape
 abbrev pub ranged : Arrays → Option (ℕ × List Given) → Result Placed Fault

@@ -19,13 +19,12 @@ use Rattle.pdl_machine.specs.Laws.{NewArraysUnseen}
 use Rattle.pdl_machine.specs.Step.{Stepped, bind_value, bound, roots_bound, outputs_bound, list_bound, assigned, assigning, printed, after_printing, effect}
 use Rattle.pdl_scope.specs.declared.fault.StepFault.{StepFault}
 use Rattle.pdl_scope.specs.declared.fault.StepFault.TheVariants.{Script, NoMemory}
-use Rattle.pdl_scope.specs.declared.given.Given.{Given}
-use Rattle.pdl_scope.specs.Arguments.{arguments, all_seen_of}
+use Rattle.pdl_session.specs.declared.given.Given.{Given}
+use Rattle.pdl_session.specs.Arguments.{arguments, all_seen_of}
 use Rattle.pdl_session.specs.Calls.{several}
 use Rattle.pdl_scope.specs.Scope.{Grows}
 use Rattle.pdl_scope.specs.Answers.{IsFault, IfScript, Prints, IsKept, Runs}
-use Rattle.pdl_scope.specs.Facts.{first_fault, grows_refl, grows_trans, state_is, kept_at}
-use Rattle.pdl_session.proofs.Seen.{seen_same}
+use Rattle.pdl_session.proofs.Facts.{first_fault, grows_refl, grows_trans, state_is, kept_at}
 
 -- a statement that goes on from where new arrays came
 pub runs_from : {T : Type 0} (r : Result T StepFault) (x y : Stepped) (old mid new : State) (o n : List ℕ) → y ≡ x → Grows old mid → Runs x mid new o n r → Runs y old new o n r
@@ -86,8 +85,7 @@ outputs_for s xs f seen = and_then (callee_of s.names f) (several (length xs) se
 
 several_is : (s : State) (xs : List (List ℕ)) (f : List ℕ) (given : List Given) → length xs ≢ 1
     → list_bound s xs f (s.arrays, arguments given) ≡ and_then (outputs_for s xs f (all_seen_of s.arrays given)) (roots_bound s xs)
-several_is s xs f given many =
-    several_outputs s xs f (s.arrays, arguments given) many ∙ ap (λ seen. and_then (outputs_for s xs f seen) (roots_bound s xs)) (seen_same s.arrays given)
+several_is s xs f given many = several_outputs s xs f (s.arrays, arguments given) many
 
 pub runs_several : {T : Type 0} (r : Result T StepFault) (old mid new : State) (xs : List (List ℕ)) (f : List ℕ) (given : List Given) (wanted : ℕ) (ms : List Made) → length xs ≢ 1 → wanted ≡ length xs
     → and_then (callee_of old.names f) (several wanted (all_seen_of old.arrays given)) ≡ Ok ms → mid ≡ old → Runs (roots_bound mid xs ms) mid new [] [] r

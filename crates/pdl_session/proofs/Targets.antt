@@ -13,9 +13,9 @@ use Rattle.pdl_machine.specs.Names.{Names}
 use Rattle.pdl_machine.specs.Arrays.{Arrays}
 use Rattle.pdl_machine.specs.Step.{behind, target}
 use Rattle.pdl_machine.specs.Value.{value_of, taken}
-use Rattle.pdl_scope.specs.declared.given.Given.{Given}
-use Rattle.pdl_scope.specs.declared.given.Given.TheVariants.{Array}
-use Rattle.pdl_scope.specs.Arguments.{arguments}
+use Rattle.pdl_session.specs.declared.given.Given.{Given}
+use Rattle.pdl_session.specs.declared.given.Given.TheVariants.{Array}
+use Rattle.pdl_session.specs.Arguments.{arguments}
 use Rattle.pdl_session.proofs.Evals.{with_given}
 use Rattle.pdl_scope.specs.declared.fault.StepFault.{StepFault}
 use Rattle.pdl_scope.specs.declared.fault.StepFault.TheVariants.{Script, NoMemory}

@@ -1,2 +1,4 @@
 pub mod Session
 pub mod Calls
+pub mod Arguments
+pub mod Sizes

@@ -1,21 +1,26 @@
 //! The built-in calls: what each gives, and how that joins the arrays.
-ghost use Rattle.std.specs.Prelude.{◌≡◌, [], ◌∷◌, All, IfOk};
+ghost use Rattle.std.specs.Prelude.{◌≡◌, [], ◌∷◌, All, IfOk, if◌then◌else◌};
 ghost use Rattle.pdl_elem.specs.Types.{InRange};
 ghost use Rattle.pdl_lexemes.specs.Lists.{type_of};
 ghost use Rattle.pdl_buf.specs.Made.{IsMade};
+ghost use Rattle.pdl_machine.specs.declared.fault.Fault.TheVariants.{WrongArguments, UnknownFunction};
 ghost use Rattle.pdl_machine.specs.Calls.{outcome, builtin_value, callee_of, call_value, only_root};
 ghost use Rattle.pdl_machine.specs.Outcome.{new_root, view_placed};
 ghost use Rattle.pdl_machine.specs.Then.{and_then};
 ghost use Rattle.pdl_machine.specs.Value.{number_made};
 ghost use Rattle.pdl_world.specs.Formula.{is_well_formed};
 ghost use Rattle.pdl_scope.specs.Answers.{AnswersAs, Evaluates};
-ghost use Rattle.pdl_scope.specs.Arguments.{arguments, AreGivenLive, all_seen_of, outcome_of, IsOutcomeMade};
-ghost use Rattle.pdl_session.specs.Calls.{several};
+ghost use Rattle.pdl_session.specs.Arguments.{arguments, AreGivenLive, all_seen_of, outcome_of, IsOutcomeMade};
+ghost use Rattle.pdl_session.specs.Calls.{outputs_of, several};
 ghost use Rattle.pdl_scope.specs.Scope.{Grows};
 ghost use Rattle.std.specs.Prelude.{IsTrue};
 
 use crate::fill::filled;
+use crate::given::Given;
 use crate::inquiry::{dim, inquiry};
+use crate::outcome::Outcome;
+use crate::reducing::{paired, reduced, reduced_whole};
+use crate::shapes::arrays_given;
 use crate::views::arrangement::arrangement;
 use crate::views::choices::{index, masked, range};
 use crate::views::slice::slice;
@@ -23,7 +28,7 @@ use pdl_buf::{Elements, Made, Steps};
 use pdl_elem::{Name, Ty};
 use pdl_engine::ArrayId;
 use pdl_machine::{Builtin, Fault, builtin_named};
-use pdl_scope::{Given, Outcome, Scope, StepFault};
+use pdl_scope::{Scope, StepFault};
 use pdl_shape::dims_of;
 use pdl_world::Trans;
 use std::sync::ledger::Ledger;
@@ -62,7 +67,7 @@ pub fn call<L: Ledger>(
     match builtin_named(name.bytes()) {
         Some(builtin) => builtin_call(scope, builtin, given, steps),
         None => {
-            let outputs = scope.kernel_outputs(name, 1, given, steps)?;
+            let outputs = kernel_outputs(scope, name, 1, given, steps)?;
             only_root(scope, &outputs, steps)
         }
     }
@@ -85,7 +90,39 @@ pub fn several<L: Ledger>(
 {
     match builtin_named(name.bytes()) {
         Some(_) => Err(StepFault::Script(Fault::WrongArguments)),
-        None => scope.kernel_outputs(name, wanted, given, steps),
+        None => kernel_outputs(scope, name, wanted, given, steps),
+    }
+}
+
+/// The outputs of the call of a kernel's name, whose arguments are arrays.
+fn kernel_outputs<L: Ledger>(
+    scope: &mut Scope,
+    name: &Name,
+    wanted: usize,
+    given: &[Given],
+    steps: &mut Steps<L>,
+) -> Result<Vec<Made>, StepFault>
+    requires { AreGivenLive scope.old.arrays.world given.now }
+    ensures value { let seen = all_seen_of scope.old.arrays given.now in
+        let outputs = outputs_of scope.old.names name.now wanted seen in
+        AnswersAs (λ ms. ms.items) outputs result }
+    ensures made { IfOk result (λ ms. All (λ m. IsMade m.ty m.dims m.elems) ms.items) }
+    ensures same { scope.new ≡ scope.old }
+{
+    match arrays_given(scope.alloc(), given)? {
+        Some(ids) => scope.kernel_outputs(name, wanted, &ids, steps),
+        None => Err(StepFault::Script(not_arrays(scope.has_kernel(name)))),
+    }
+}
+
+/// The fault of arguments that aren't all arrays: a kernel wants arrays, and no other name is known.
+fn not_arrays(is_kernel: bool) -> Fault
+    ensures { result ≡ (if is_kernel then WrongArguments else UnknownFunction) }
+{
+    if is_kernel {
+        Fault::WrongArguments
+    } else {
+        Fault::UnknownFunction
     }
 }
 
@@ -163,9 +200,9 @@ fn outcome<L: Ledger>(
         Builtin::Index => index(scope, given, steps),
         Builtin::Where => masked(scope, given, steps),
         Builtin::Range => range(scope, given, steps),
-        Builtin::Reduced(kind) => scope.reduced(kind, given, steps),
-        Builtin::Whole(kind) => scope.reduced_whole(kind, given, steps),
-        Builtin::Paired(kind) => scope.paired(kind, given, steps),
+        Builtin::Reduced(kind) => reduced(scope, kind, given, steps),
+        Builtin::Whole(kind) => reduced_whole(scope, kind, given, steps),
+        Builtin::Paired(kind) => paired(scope, kind, given, steps),
     }
 }
 

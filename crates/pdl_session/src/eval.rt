@@ -7,20 +7,21 @@ ghost use Rattle.pdl_machine.specs.Arrays.{Arrays};
 ghost use Rattle.pdl_machine.specs.Outcome.{Given as Argument};
 ghost use Rattle.pdl_machine.specs.Value.{value_of, taken};
 ghost use Rattle.pdl_scope.specs.Answers.{AnswersAs, Evaluates};
-ghost use Rattle.pdl_scope.specs.Arguments.{argument, arguments, IsGivenLive, AreGivenLive};
+ghost use Rattle.pdl_session.specs.Arguments.{argument, arguments, IsGivenLive, AreGivenLive};
 ghost use Rattle.pdl_scope.specs.Scope.{Grows};
 
 use crate::call::{call, number_array};
+use crate::given::Given;
 use pdl_buf::Steps;
 use pdl_engine::ArrayId;
 use pdl_machine::Fault;
-use pdl_scope::{Given, Scope, StepFault};
+use pdl_scope::{Scope, StepFault};
 use pdl_syntax::{Arg, Expr, calls_are_trees};
 use std::sync::ledger::Ledger;
 
 /// The array of an expression. New arrays may have come also where it is refused.
 #[cycle(eval)]
-#[tactic(auto, using(pdl_scope::specs::Facts::grows_trans))]
+#[tactic(auto, using(crate::proofs::Facts::grows_trans))]
 pub fn eval<L: Ledger>(
     scope: &mut Scope,
     value: &Expr,
@@ -58,7 +59,7 @@ pub fn eval<L: Ledger>(
 
 /// The arguments of a call, evaluated in order, behind those that are given.
 #[cycle(eval)]
-#[tactic(auto, using(pdl_scope::specs::Facts::grows_trans))]
+#[tactic(auto, using(crate::proofs::Facts::grows_trans))]
 pub fn take<'a, L: Ledger>(
     scope: &mut Scope,
     mut given: Vec<Given<'a>>,

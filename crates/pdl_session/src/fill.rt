@@ -4,12 +4,15 @@ ghost use Rattle.pdl_machine.specs.Arrays.{Arrays};
 ghost use Rattle.pdl_machine.specs.Fills.{fill_outcome, type_given, after_type};
 ghost use Rattle.pdl_world.specs.World.{World};
 ghost use Rattle.pdl_scope.specs.Answers.{AnswersAs};
-ghost use Rattle.pdl_scope.specs.Arguments.{all_seen_of, AreGivenLive, outcome_of, IsOutcomeMade};
+ghost use Rattle.pdl_session.specs.Arguments.{all_seen_of, AreGivenLive, outcome_of, IsOutcomeMade};
 
+use crate::dims::{dims_for, numbers_in};
+use crate::given::Given;
+use crate::outcome::Outcome;
 use pdl_buf::Steps;
 use pdl_elem::Ty;
 use pdl_ops::{Fill, fill};
-use pdl_scope::{Given, Outcome, Scope, StepFault, dims_for};
+use pdl_scope::{Scope, StepFault};
 use std::sync::ledger::Ledger;
 
 /// A fill of an optional type word, else long, and a size per dimension.
@@ -26,7 +29,7 @@ pub fn filled<L: Ledger>(
     ensures same { scope.new ≡ scope.old }
 {
     let (ty, sizes) = typed(given);
-    let sizes = match scope.numbers_in(sizes, steps) {
+    let sizes = match numbers_in(scope, sizes, steps) {
         Ok(sizes) => sizes,
         Err(fault) => return Err(fault),
     };

@@ -7,13 +7,17 @@ ghost use Rattle.pdl_machine.specs.Inquiries.{long_number, long_numbers, told, i
 ghost use Rattle.pdl_machine.specs.Outcome.{made};
 ghost use Rattle.pdl_machine.specs.Then.{and_then};
 ghost use Rattle.pdl_scope.specs.Answers.{AnswersAs};
-ghost use Rattle.pdl_scope.specs.Arguments.{all_seen_of, AreGivenLive, outcome_of, IsOutcomeMade};
+ghost use Rattle.pdl_session.specs.Arguments.{all_seen_of, AreGivenLive, outcome_of, IsOutcomeMade};
 
+use crate::dims::number_in;
+use crate::given::Given;
+use crate::outcome::Outcome;
+use crate::shapes::{array_and_one, one_array};
 use pdl_buf::{Elements, Made, Steps};
 use pdl_elem::Ty;
 use pdl_engine::ArrayId;
 use pdl_machine::{Fault, Inquiry};
-use pdl_scope::{Given, Outcome, Scope, StepFault, array_and_one, one_array};
+use pdl_scope::{Scope, StepFault};
 use pdl_shape::{dims_list, dims_of, elements_of, from_end, shape_laws};
 use std::alloc::{AllocError, Global};
 use std::sync::ledger::Ledger;
@@ -80,7 +84,7 @@ pub fn dim<L: Ledger>(
     ensures same { scope.new ≡ scope.old }
 {
     match array_and_one(given) {
-        Some((id, place)) => match scope.number_in(&place, steps)? {
+        Some((id, place)) => match number_in(scope, &place, steps)? {
             Some(number) => size_at(scope, id, number),
             None => Err(StepFault::Script(Fault::WrongArguments)),
         },

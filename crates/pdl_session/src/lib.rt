@@ -6,10 +6,15 @@
 
 mod call;
 mod defining;
+mod dims;
 mod eval;
 mod fill;
+mod given;
 mod inquiry;
+mod outcome;
+mod reducing;
 mod session;
+mod shapes;
 mod statement;
 mod target;
 mod views;

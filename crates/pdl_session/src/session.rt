@@ -28,7 +28,9 @@ impl Model for Session {
     ghost use Rattle.std.specs.Coded.{codes};
     ghost use Rattle.pdl_kernel.specs.Coding.{coded_code};
     ghost use Rattle.pdl_machine.specs.Tidy.{tidy};
-    ghost use Rattle.pdl_session.specs.Session.{Session as Seen, IsTidied};
+    ghost use Rattle.pdl_machine.specs.State.{held};
+    ghost use Rattle.pdl_scope.specs.Scope.{KeepsAll};
+    ghost use Rattle.pdl_session.specs.Session.{Session as Seen};
 
     ghost Value = { Seen };
 
@@ -36,7 +38,7 @@ impl Model for Session {
 
     ghost view = { λ s. record { state = tidy s.scope; done = s.steps } };
 
-    ghost invariant = { λ s. IsTidied s.scope };
+    ghost invariant = { λ s. KeepsAll s.scope.arrays.world (held s.scope) };
 }
 
 impl Session {

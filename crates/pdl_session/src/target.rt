@@ -12,15 +12,16 @@ ghost use Rattle.pdl_scope.specs.Scope.{Grows};
 
 use crate::call::call;
 use crate::eval::take;
+use crate::given::Given;
 use pdl_buf::Steps;
 use pdl_engine::ArrayId;
 use pdl_machine::Fault;
-use pdl_scope::{Given, Scope, StepFault};
+use pdl_scope::{Scope, StepFault};
 use pdl_syntax::{Target, ViewCall};
 use std::sync::ledger::Ledger;
 
 /// The array of a target: its views, one after another, of the array of its name.
-#[tactic(auto, using(pdl_scope::specs::Facts::grows_trans))]
+#[tactic(auto, using(crate::proofs::Facts::grows_trans))]
 pub fn target<L: Ledger>(
     scope: &mut Scope,
     target: &Target,
@@ -42,7 +43,7 @@ pub fn target<L: Ledger>(
 }
 
 /// The call of a view word on the array that a tree gave, which is its first argument.
-#[tactic(auto, using(pdl_scope::specs::Facts::grows_trans))]
+#[tactic(auto, using(crate::proofs::Facts::grows_trans))]
 fn call_on<L: Ledger>(
     scope: &mut Scope,
     id: ArrayId,

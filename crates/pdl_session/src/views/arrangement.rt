@@ -5,12 +5,15 @@ ghost use Rattle.pdl_affine.specs.Views.{is_well_formed};
 ghost use Rattle.pdl_machine.specs.Views.{arranged, arrangement_outcome};
 ghost use Rattle.pdl_machine.specs.declared.builtin.Arrangement.TheVariants.{Dummy};
 ghost use Rattle.pdl_scope.specs.Answers.{AnswersAs};
-ghost use Rattle.pdl_scope.specs.Arguments.{all_seen_of, AreGivenLive, outcome_of, IsOutcomeMade};
+ghost use Rattle.pdl_session.specs.Arguments.{all_seen_of, AreGivenLive, outcome_of, IsOutcomeMade};
 
+use crate::dims::numbers_in;
+use crate::given::Given;
+use crate::outcome::Outcome;
 use pdl_affine::{Affine, Numbers};
 use pdl_buf::Steps;
 use pdl_machine::{Arrangement, Fault};
-use pdl_scope::{Given, Outcome, Scope, StepFault};
+use pdl_scope::{Scope, StepFault};
 use pdl_world::Trans;
 use std::sync::ledger::Ledger;
 
@@ -28,7 +31,7 @@ pub fn arrangement<L: Ledger>(
     ensures same { scope.new ≡ scope.old }
 {
     match given.split_first() {
-        Some((Given::Array(_), rest)) => match scope.numbers_in(rest, steps) {
+        Some((Given::Array(_), rest)) => match numbers_in(scope, rest, steps) {
             Ok(numbers) => match arranged(word, numbers) {
                 Some(affine) => Ok(Outcome::View(Trans::Affine(affine))),
                 None => Err(StepFault::Script(Fault::WrongArguments)),

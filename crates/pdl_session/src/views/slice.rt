@@ -3,11 +3,14 @@ ghost use Rattle.std.specs.Prelude.{◌≡◌, IfOk};
 ghost use Rattle.pdl_machine.specs.Arrays.{Arrays};
 ghost use Rattle.pdl_machine.specs.Views.{slice_by, slice_outcome};
 ghost use Rattle.pdl_scope.specs.Answers.{AnswersAs};
-ghost use Rattle.pdl_scope.specs.Arguments.{all_seen_of, outcome_of, IsOutcomeMade};
+ghost use Rattle.pdl_session.specs.Arguments.{all_seen_of, outcome_of, IsOutcomeMade};
 
+use crate::given::Given;
+use crate::outcome::Outcome;
+use crate::shapes::array_and_text;
 use pdl_affine::Affine;
 use pdl_machine::Fault;
-use pdl_scope::{Given, Outcome, StepFault, array_and_text};
+use pdl_scope::StepFault;
 use pdl_slices::{read_slice, slice_meaning};
 use pdl_world::Trans;
 use std::alloc::Global;

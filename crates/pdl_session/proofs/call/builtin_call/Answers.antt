@@ -2,8 +2,8 @@ use Rattle.std.proofs.Common.{Result, Ok, ap, subst, ◌∙◌}
 use Rattle.pdl_machine.specs.declared.fault.Fault.{Fault}
 use Rattle.pdl_machine.specs.Outcome.{new_root, view_placed, Outcome as Placed, made, viewed}
 use Rattle.pdl_machine.specs.State.{State}
-use Rattle.pdl_scope.specs.declared.outcome.Outcome.{Outcome}
-use Rattle.pdl_scope.specs.Arguments.{arguments, outcome_of}
+use Rattle.pdl_session.specs.declared.outcome.Outcome.{Outcome}
+use Rattle.pdl_session.specs.Arguments.{arguments, outcome_of}
 use Rattle.pdl_scope.specs.Answers.{Evaluates}
 use Rattle.pdl_session.proofs.Seen.{evaluates, call_fault}
 use Rattle.pdl_session.proofs.call.builtin_call.Goals as goal

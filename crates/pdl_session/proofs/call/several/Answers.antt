@@ -3,7 +3,7 @@ use Rattle.pdl_buf.specs.declared.made.Made.{Made}
 use Rattle.pdl_machine.specs.declared.fault.Fault.{Fault}
 use Rattle.pdl_machine.specs.Builtin.{builtin_of}
 use Rattle.pdl_scope.specs.Answers.{AnswersAs}
-use Rattle.pdl_scope.specs.Arguments.{all_seen_of}
+use Rattle.pdl_session.specs.Arguments.{all_seen_of}
 use Rattle.pdl_session.proofs.Callees.{kernel_several}
 use Rattle.pdl_session.proofs.call.several.Goals as goal
 

@@ -2,7 +2,7 @@ use Rattle.std.proofs.Common.{◌≡◌, true, sym, ◌∙◌}
 use Rattle.pdl_machine.specs.Kernels.{can_name, defined}
 use Rattle.pdl_scope.specs.Faults.{of_signature, of_code}
 use Rattle.pdl_session.proofs.Definitions.{signature_refused, code_refused, kernel_read}
-use Rattle.pdl_scope.specs.Facts.{handed_on}
+use Rattle.pdl_session.proofs.Facts.{handed_on}
 use Rattle.pdl_session.proofs.defining.kernel_defined.Goals as goal
 
 pub returns-in_err-signature : goal.returns-in_err-signature

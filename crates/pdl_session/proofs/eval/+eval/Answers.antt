@@ -7,11 +7,11 @@ use Rattle.pdl_machine.specs.Names.{Names}
 use Rattle.pdl_machine.specs.Outcome.{Valued}
 use Rattle.pdl_machine.specs.Calls.{call_value}
 use Rattle.pdl_machine.specs.Value.{value_of, taken}
-use Rattle.pdl_scope.specs.declared.given.Given.{Given}
+use Rattle.pdl_session.specs.declared.given.Given.{Given}
 use Rattle.pdl_scope.specs.declared.fault.StepFault.{StepFault}
 use Rattle.pdl_scope.specs.Answers.{IsFault, Evaluates}
-use Rattle.pdl_scope.specs.Arguments.{argument, arguments, AreGivenLive}
-use Rattle.pdl_scope.specs.Facts.{is_fault, handed_on, first_fault, grows_trans}
+use Rattle.pdl_session.specs.Arguments.{argument, arguments, AreGivenLive}
+use Rattle.pdl_session.proofs.Facts.{is_fault, handed_on, first_fault, grows_trans}
 use Rattle.pdl_session.proofs.Evals.{fault_at, arrays_at, weight, weights, weights_at, tree_is, with_given, call_is, arguments_snoc, live_snoc, given_still, args_more}
 use Rattle.pdl_session.proofs.eval.+eval.Goals as goal
 

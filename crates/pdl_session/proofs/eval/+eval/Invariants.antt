@@ -4,7 +4,7 @@ use Rattle.pdl_syntax.specs.Tree.{Args, none}
 use Rattle.pdl_syntax.specs.TreeOf.{tree_of, args_of, argument_of}
 use Rattle.pdl_machine.specs.Arrays.{Arrays}
 use Rattle.pdl_machine.specs.Value.{taken}
-use Rattle.pdl_scope.specs.Arguments.{arguments, AreGivenLive}
+use Rattle.pdl_session.specs.Arguments.{arguments, AreGivenLive}
 use Rattle.pdl_scope.specs.Scope.{Grows}
 use Rattle.pdl_session.proofs.Evals.{weight, weights}
 use Rattle.pdl_session.proofs.eval.+eval.Given as goal

@@ -5,7 +5,7 @@ use Rattle.pdl_syntax.specs.StatementTree.{view_of}
 use Rattle.pdl_machine.specs.Step.{target, assigning}
 use Rattle.pdl_scope.specs.declared.fault.StepFault.{StepFault}
 use Rattle.pdl_scope.specs.Answers.{Runs}
-use Rattle.pdl_scope.specs.Facts.{is_fault}
+use Rattle.pdl_session.proofs.Facts.{is_fault}
 use Rattle.pdl_session.proofs.Statements.{runs_assigned, assigned_refused}
 use Rattle.pdl_session.proofs.statement.assign_value.Goals as goal
 

@@ -6,9 +6,9 @@ use Rattle.pdl_syntax.specs.StatementTree.{bind_list}
 use Rattle.pdl_machine.specs.Step.{effect}
 use Rattle.pdl_scope.specs.declared.fault.StepFault.{StepFault}
 use Rattle.pdl_scope.specs.Answers.{Runs}
-use Rattle.pdl_scope.specs.Arguments.{arguments}
+use Rattle.pdl_session.specs.Arguments.{arguments}
 use Rattle.pdl_session.proofs.Evals.{tree_is, with_given}
-use Rattle.pdl_scope.specs.Facts.{is_fault}
+use Rattle.pdl_session.proofs.Facts.{is_fault}
 use Rattle.pdl_session.proofs.Statements.{runs_list, list_refused}
 use Rattle.pdl_session.proofs.statement.bind_list.Goals as goal
 

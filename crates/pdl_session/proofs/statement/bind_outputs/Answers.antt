@@ -3,8 +3,8 @@ use Rattle.pdl_buf.specs.declared.made.Made.{Made}
 use Rattle.pdl_machine.specs.Step.{roots_bound, list_bound}
 use Rattle.pdl_scope.specs.declared.fault.StepFault.{StepFault}
 use Rattle.pdl_scope.specs.Answers.{Runs}
-use Rattle.pdl_scope.specs.Arguments.{arguments}
-use Rattle.pdl_scope.specs.Facts.{is_fault}
+use Rattle.pdl_session.specs.Arguments.{arguments}
+use Rattle.pdl_session.proofs.Facts.{is_fault}
 use Rattle.pdl_session.proofs.Statements.{runs_output, output_refused, runs_several, several_refused}
 use Rattle.pdl_session.proofs.statement.bind_outputs.Goals as goal
 

@@ -8,9 +8,9 @@ use Rattle.pdl_machine.specs.Step.{behind}
 use Rattle.pdl_machine.specs.Value.{value_of, taken}
 use Rattle.pdl_scope.specs.declared.fault.StepFault.{StepFault}
 use Rattle.pdl_scope.specs.Answers.{IsFault, Evaluates}
-use Rattle.pdl_scope.specs.Arguments.{arguments}
+use Rattle.pdl_session.specs.Arguments.{arguments}
 use Rattle.pdl_session.proofs.Evals.{call_is}
-use Rattle.pdl_scope.specs.Facts.{is_fault, first_fault}
+use Rattle.pdl_session.proofs.Facts.{is_fault, first_fault}
 use Rattle.pdl_session.proofs.Targets.{behind_args, first_taken}
 use Rattle.pdl_session.proofs.target.call_on.Goals as goal
 

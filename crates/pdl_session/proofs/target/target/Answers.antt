@@ -11,7 +11,7 @@ use Rattle.pdl_machine.specs.Value.{known, value_of}
 use Rattle.pdl_scope.specs.declared.fault.StepFault.{StepFault}
 use Rattle.pdl_scope.specs.declared.fault.StepFault.TheVariants.{Script}
 use Rattle.pdl_scope.specs.Answers.{IsFault, Evaluates}
-use Rattle.pdl_scope.specs.Facts.{is_fault, grows_trans}
+use Rattle.pdl_session.proofs.Facts.{is_fault, grows_trans}
 use Rattle.pdl_session.proofs.Targets.{called, target_more, fault_at}
 use Rattle.pdl_session.proofs.target.target.Goals as goal
 

@@ -4,9 +4,9 @@ use Rattle.pdl_machine.specs.Names.{Named, names_limit}
 use Rattle.pdl_machine.specs.State.{State}
 use Rattle.pdl_machine.specs.Step.{Stepped, roots_bound}
 use Rattle.pdl_scope.specs.Answers.{IsFault, Prints}
-use Rattle.pdl_scope.specs.Facts.{grows_refl}
+use Rattle.pdl_scope.specs.Scope.{Grows}
 use Rattle.pdl_scope.specs.Room.{new_among}
-use Rattle.pdl_scope.proofs.Roots.{IsNext, fits_first, none_fit, binds, roots_more, roots_done, room_left, bound_so, never_refused}
+use Rattle.pdl_scope.proofs.Roots.{IsNext, fits_first, fits_all, some_too_many, none_fit, binds, roots_more, roots_done, room_left, bound_so, never_refused}
 use Rattle.pdl_scope.proofs.scope.Scope.bind_roots.Goals as goal
 
 -- the first of the names that are left
@@ -14,6 +14,19 @@ rest_is : (xs : List (List ℕ)) (n i : ℕ) (x : List ℕ) → i < n → n ≤ 
 rest_is xs n i x lt within here =
     let l : length (take n xs) ≡ n = length-take-le n xs within in
     drop_more (take n xs) i x (omega (arith, l)) ∙ ap (λ y. y ∷ drop (i + 1) (take n xs)) (get_or-take n xs i x lt ∙ sym here)
+
+-- the names that are there, as the state has them
+abbrev names_of : State → Named ℕ
+names_of s = s.names.arrays
+
+pub loop-i-init : goal.loop-i-init
+loop-i-init g c =
+    let bound = take c.min-count.result c.args.bound.now in
+    let R : Named ℕ → Type 0 = λ names. length names + new_among names bound ≤ names_limit in
+    record {
+      so_far = refl;
+      room = subst R (ap names_of c.self.view_is) (fits_all c.self.inside.names bound c.has_room.result c.has_room.ensures c.if-not-has_room.false);
+    }
 
 pub loop-i-preserved : goal.loop-i-preserved
 loop-i-preserved g c =
@@ -38,11 +51,14 @@ pub returns-then-not-has_room : goal.returns-then-not-has_room
 returns-then-not-has_room g c =
     let s = c.args.self.now in
     let xs = c.args.bound.now in
-    let e : c.self.inside.names ≡ s.names.arrays = ap (λ (t : State). t.names.arrays) c.self.view_is in
-    let M : Named ℕ → Type 0 = λ names. names_limit < length names + new_among names (take c.min-count.result xs) in
-    let F : Named ℕ → Type 0 = λ names. length names ≤ names_limit in (
-      none_fit s xs c.args.outputs.now c.min-count.result (omega (arith, c.min-count.ensures)) (subst F e c.self.invariant.few) (subst M e (c.has_room.ensures.none c.if-not-has_room.true)),
-      record { grown = grows_refl s; printed = refl },
+    let bound = take c.min-count.result xs in
+    let e : c.self.inside.names ≡ names_of s = ap names_of c.self.view_is in
+    let M : Named ℕ → Type 0 = λ names. names_limit < length names + new_among names bound in
+    let F : Named ℕ → Type 0 = λ names. length names ≤ names_limit in
+    let many = some_too_many c.self.inside.names bound c.has_room.result c.has_room.ensures c.if-not-has_room.true in
+    let same : Grows s s = record { names = refl; arrays = record { more = []; is = refl }; still = λ v live. live } in (
+      none_fit s xs c.args.outputs.now c.min-count.result (omega (arith, c.min-count.ensures)) (subst F e c.self.invariant.few) (subst M e many),
+      record { grown = same; printed = refl },
     )
 
 pub returns-in_err-bind : goal.returns-in_err-bind

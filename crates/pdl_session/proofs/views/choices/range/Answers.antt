@@ -2,7 +2,7 @@ use Rattle.std.proofs.Common.{ap, sym, subst, ◌∙◌, Result}
 use Rattle.pdl_machine.specs.declared.fault.Fault.{Fault}
 use Rattle.pdl_machine.specs.Outcome.{Outcome as Placed}
 use Rattle.pdl_scope.specs.Answers.{AnswersAs}
-use Rattle.pdl_scope.specs.Arguments.{outcome_of}
+use Rattle.pdl_session.specs.Arguments.{outcome_of}
 use Rattle.pdl_session.proofs.Shaped.{ranged, range_is}
 use Rattle.pdl_session.proofs.views.choices.range.Goals as goal
 

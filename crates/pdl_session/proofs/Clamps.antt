@@ -15,7 +15,7 @@ use Rattle.pdl_machine.specs.Refused.{shape_fault, or_named}
 use Rattle.pdl_scope.specs.declared.fault.StepFault.{StepFault}
 use Rattle.pdl_scope.specs.declared.fault.StepFault.TheVariants.{Script, NoMemory}
 use Rattle.pdl_scope.specs.Answers.{IsFault}
-use Rattle.pdl_scope.specs.Sizes.{clamped_size}
+use Rattle.pdl_session.specs.Sizes.{clamped_size}
 
 by_test : {G : Type 0} (b : Bool) → (b ≡ true → G) → (b ≡ false → G) → G
 by_test true holds fails = holds refl

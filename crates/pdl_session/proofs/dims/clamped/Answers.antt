@@ -2,9 +2,9 @@ use Rattle.std.proofs.Common.{◌≡◌, pos, Some, None, get_or, sym, ap, arith
 use Rattle.std.proofs.lemmas.Int.{to_z-of_z}
 use Rattle.pdl_machine.specs.declared.fault.Fault.TheVariants.{BadDimension}
 use Rattle.pdl_machine.specs.Then.{or_fault}
-use Rattle.pdl_scope.specs.Sizes.{clamped_size}
-use Rattle.pdl_scope.proofs.Gathered.{front_none, front_more, front_stops, front_all}
-use Rattle.pdl_scope.proofs.dims.clamped.Goals as goal
+use Rattle.pdl_session.specs.Sizes.{clamped_size}
+use Rattle.pdl_session.proofs.Gathered.{front_none, front_more, front_stops, front_all}
+use Rattle.pdl_session.proofs.dims.clamped.Goals as goal
 
 pub loop-number-init : goal.loop-number-init
 loop-number-init c = front_none clamped_size c.args.numbers.now c.new-sizes.result.items c.new-sizes.ensures.items

@@ -6,11 +6,11 @@ use Rattle.pdl_world.specs.World.{World}
 use Rattle.pdl_world.specs.Sound.{IsLive}
 use Rattle.pdl_buf.specs.Made.{IsMade}
 use Rattle.pdl_machine.specs.Arrays.{Arrays}
-use Rattle.pdl_machine.specs.Outcome.{Given as Argument, array, string, type_word, Seen, seen, Outcome as Placed, made, viewed}
-use Rattle.pdl_scope.specs.declared.given.Given.{Given}
-use Rattle.pdl_scope.specs.declared.given.Given.TheVariants.{Array, Text, OfType}
-use Rattle.pdl_scope.specs.declared.outcome.Outcome.{Outcome}
-use Rattle.pdl_scope.specs.declared.outcome.Outcome.TheVariants.{New, View}
+use Rattle.pdl_machine.specs.Outcome.{Given as Argument, array, string, type_word, Seen, seen, all_seen, Outcome as Placed, made, viewed}
+use Rattle.pdl_session.specs.declared.given.Given.{Given}
+use Rattle.pdl_session.specs.declared.given.Given.TheVariants.{Array, Text, OfType}
+use Rattle.pdl_session.specs.declared.outcome.Outcome.{Outcome}
+use Rattle.pdl_session.specs.declared.outcome.Outcome.TheVariants.{New, View}
 
 abbrev pub argument : Given → Argument
 argument (Array v) = array v
@@ -21,13 +21,12 @@ abbrev pub arguments : List Given → List Argument
 arguments [] = []
 arguments (g ∷ given) = argument g ∷ arguments given
 
--- what a call sees of an argument
+-- what a call sees of an argument, and of all
 abbrev pub seen_of : Arrays → Given → Seen
 seen_of a g = seen a (argument g)
 
 abbrev pub all_seen_of : Arrays → List Given → List Seen
-all_seen_of a [] = []
-all_seen_of a (g ∷ given) = seen_of a g ∷ all_seen_of a given
+all_seen_of a given = all_seen a (arguments given)
 
 -- each array among the arguments can be looked at
 abbrev pub IsGivenLive : World → Given → Type 0

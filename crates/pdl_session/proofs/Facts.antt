@@ -1,5 +1,4 @@
--- What follows at once of the words of contracts, proved here: each layer that answers by them goes
--- on from these.
+-- What follows at once of the words of a scope's contracts.
 use Rattle.std.proofs.Common.{◌≡◌, ℕ, List, [], ◌++◌, append_assoc, Result, Ok, Err, refl, sym, ap, subst, ◌∙◌}
 use Rattle.std.specs.Result.{IsErrAnd}
 use Rattle.pdl_machine.specs.declared.fault.Fault.{Fault}

@@ -4,56 +4,54 @@ ghost use Rattle.pdl_machine.specs.Fills.{number_in, numbers_in, dims_for};
 ghost use Rattle.pdl_machine.specs.Then.{all_of, or_fault};
 ghost use Rattle.pdl_machine.specs.declared.fault.Fault.TheVariants.{BadDimension};
 ghost use Rattle.pdl_scope.specs.Answers.{Answers, AnswersAs};
-ghost use Rattle.pdl_scope.specs.Arguments.{seen_of, all_seen_of, IsGivenLive, AreGivenLive};
-ghost use Rattle.pdl_scope.specs.Sizes.{clamped_size};
+ghost use Rattle.pdl_session.specs.Arguments.{seen_of, all_seen_of, IsGivenLive, AreGivenLive};
+ghost use Rattle.pdl_session.specs.Sizes.{clamped_size};
 
-use crate::fault::StepFault;
 use crate::given::Given;
-use crate::scope::Scope;
 use pdl_buf::Steps;
 use pdl_machine::Fault;
+use pdl_scope::{Scope, StepFault};
 use pdl_shape::{Dims, ShapeFault, dims_of};
 use std::alloc::{AllocError, Global};
 use std::sync::ledger::Ledger;
 
-impl Scope {
-    /// The number that an argument is: an array of exactly one element.
-    pub fn number_in<L: Ledger>(
-        &mut self,
-        given: &Given,
-        steps: &mut Steps<L>,
-    ) -> Result<Option<i64>, AllocError>
-        requires { IsGivenLive self.old.arrays.world given.now }
-        ensures number { IfOk result (λ n. n ≡ number_in (seen_of self.old.arrays given.now)) }
-        ensures same { self.new ≡ self.old }
-    {
-        match given {
-            Given::Array(id) => self.only_number(*id, steps),
-            Given::Text(_) | Given::OfType(_) => Ok(None),
-        }
-    }
-
-    /// The numbers that arguments are.
-    pub fn numbers_in<L: Ledger>(
-        &mut self,
-        given: &[Given],
-        steps: &mut Steps<L>,
-    ) -> Result<Vec<i64>, StepFault>
-        requires { AreGivenLive self.old.arrays.world given.now }
-        ensures value { let wanted = numbers_in (all_seen_of self.old.arrays given.now) in
-            AnswersAs (λ ns. ns.items) wanted result }
-        ensures same { self.new ≡ self.old }
-    {
-        let mut found = Vec::new(self.alloc());
-        for one in given {
-            match self.number_in(one, steps)? {
-                Some(number) => found.push(number)?,
-                None => return Err(StepFault::Script(Fault::WrongArguments)),
-            }
-        }
-        Ok(found)
+/// The number that an argument is: an array of exactly one element.
+pub fn number_in<L: Ledger>(
+    scope: &mut Scope,
+    given: &Given,
+    steps: &mut Steps<L>,
+) -> Result<Option<i64>, AllocError>
+    requires { IsGivenLive scope.old.arrays.world given.now }
+    ensures number { IfOk result (λ n. n ≡ number_in (seen_of scope.old.arrays given.now)) }
+    ensures same { scope.new ≡ scope.old }
+{
+    match given {
+        Given::Array(id) => scope.only_number(*id, steps),
+        Given::Text(_) | Given::OfType(_) => Ok(None),
     }
 }
+
+/// The numbers that arguments are.
+pub fn numbers_in<L: Ledger>(
+    scope: &mut Scope,
+    given: &[Given],
+    steps: &mut Steps<L>,
+) -> Result<Vec<i64>, StepFault>
+    requires { AreGivenLive scope.old.arrays.world given.now }
+    ensures value { let wanted = numbers_in (all_seen_of scope.old.arrays given.now) in
+        AnswersAs (λ ns. ns.items) wanted result }
+    ensures same { scope.new ≡ scope.old }
+{
+    let mut found = Vec::new(scope.alloc());
+    for one in given {
+        match number_in(scope, one, steps)? {
+            Some(number) => found.push(number)?,
+            None => return Err(StepFault::Script(Fault::WrongArguments)),
+        }
+    }
+    Ok(found)
+}
+
 /// Dimensions of these sizes: `BadDimension` for one below 0, then `TooManyDims`, then `TooLarge`.
 pub fn dims_for(alloc: Global, numbers: &[i64]) -> Result<Dims, StepFault>
     ensures { Answers (dims_for numbers.now) result }

@@ -3,7 +3,7 @@ use pdl_elem::Ty;
 use pdl_engine::ArrayId;
 
 /// An argument that was evaluated: an array, a string, or a type word.
-#[derive(Clone, Copy, Debug)]
+#[derive(Clone, Copy)]
 pub enum Given<'a> {
     Array(ArrayId),
     Text(&'a [u8]),

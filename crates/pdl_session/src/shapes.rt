@@ -1,11 +1,13 @@
 //! The shapes of argument lists.
-ghost use Rattle.std.specs.Prelude.{◌≡◌, IfSome, option_map};
+ghost use Rattle.std.specs.Prelude.{◌≡◌, IfOk, IfSome, option_map};
 ghost use Rattle.pdl_world.specs.World.{World};
 ghost use Rattle.pdl_world.specs.Sound.{IsLive};
-ghost use Rattle.pdl_scope.specs.Arguments.{IsGivenLive, AreGivenLive, one_array, array_and_text, two_arrays, second_array, array_and_one, two_and_more, few_arrays};
+ghost use Rattle.pdl_machine.specs.Then.{all_of};
+ghost use Rattle.pdl_session.specs.Arguments.{IsGivenLive, AreGivenLive, array_number, one_array, array_and_text, two_arrays, second_array, array_and_one, two_and_more, few_arrays};
 
 use crate::given::Given;
 use pdl_engine::ArrayId;
+use std::alloc::{AllocError, Global};
 
 /// The array that stands alone.
 pub fn one_array(given: &[Given]) -> Option<ArrayId>
@@ -87,4 +89,18 @@ pub fn few_arrays(given: &[Given]) -> Option<(Option<ArrayId>, Option<ArrayId>)>
         [Given::Array(first), Given::Array(second)] => Some((Some(*first), Some(*second))),
         _ => None,
     }
+}
+
+/// The arrays that arguments are, if each is one.
+pub fn arrays_given(alloc: Global, given: &[Given]) -> Result<Option<Vec<ArrayId>>, AllocError>
+    ensures { IfOk result (λ ids. option_map (λ v. v.items) ids ≡ all_of array_number given.now) }
+{
+    let mut ids = Vec::new(alloc);
+    for one in given {
+        match one {
+            Given::Array(id) => ids.push(*id)?,
+            _ => return Ok(None),
+        }
+    }
+    Ok(Some(ids))
 }

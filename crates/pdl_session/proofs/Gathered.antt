@@ -6,8 +6,8 @@ use Rattle.pdl_world.specs.World.{World}
 use Rattle.pdl_machine.specs.Arrays.{Arrays}
 use Rattle.pdl_machine.specs.Fills.{number_in}
 use Rattle.pdl_machine.specs.Then.{and_more, all_of}
-use Rattle.pdl_scope.specs.declared.given.Given.{Given}
-use Rattle.pdl_scope.specs.Arguments.{seen_of, all_seen_of, IsGivenLive, AreGivenLive}
+use Rattle.pdl_session.specs.declared.given.Given.{Given}
+use Rattle.pdl_session.specs.Arguments.{seen_of, all_seen_of, IsGivenLive, AreGivenLive}
 
 -- what was found is the front of all values
 abbrev pub IsFront : {X Y : Type 0} → (X → Option Y) → List X → ℕ → List Y → Type 0

@@ -1,6 +1,0 @@
-use Rattle.pdl_scope.specs.Arguments.{array_number}
-use Rattle.pdl_scope.proofs.Gathered.{IsFront}
-use Rattle.pdl_scope.proofs.calling.arrays_given.Given as goal
-
-abbrev pub invariant-loop-one : goal.invariant-loop-one
-invariant-loop-one l = IsFront array_number l.given l.one-index l.ids.items

@@ -1,6 +1,0 @@
-use Rattle.pdl_scope.specs.Sizes.{clamped_size}
-use Rattle.pdl_scope.proofs.Gathered.{IsFront}
-use Rattle.pdl_scope.proofs.dims.clamped.Given as goal
-
-abbrev pub invariant-loop-number : goal.invariant-loop-number
-invariant-loop-number l = IsFront clamped_size l.numbers l.number-index l.sizes.items

@@ -1,0 +1,87 @@
+-- Arguments that are arrays, for the call of a kernel.
+use Rattle.std.proofs.Common.{◌≡◌, ℕ, ◌<◌, Bool, true, false, List, [], ◌∷◌, map, Option, Some, None, Result, Ok, Err, refl, sym, ap, subst, ◌∙◌, arith, Vec}
+use Rattle.std.specs.Prelude.{◌==◌, All, IfSome, if◌then◌else◌, is_some, option_map}
+use Rattle.std.specs.Global.{Global}
+use Rattle.std.proofs.lemmas.List.Elements.{All-cons}
+use Rattle.pdl_buf.specs.declared.made.Made.{Made}
+use Rattle.pdl_kernel.specs.Kernels.{Kernel}
+use Rattle.pdl_machine.specs.declared.fault.Fault.{Fault}
+use Rattle.pdl_machine.specs.declared.fault.Fault.TheVariants.{UnknownFunction, WrongArguments}
+use Rattle.pdl_machine.specs.Arrays.{Arrays, array_in}
+use Rattle.pdl_machine.specs.Kernels.{array_seen, called_on, kernel_outputs, outputs_count}
+use Rattle.pdl_machine.specs.Names.{Names, found}
+use Rattle.pdl_machine.specs.Outcome.{Seen, array}
+use Rattle.pdl_machine.specs.Then.{and_more, all_of, and_then, or_fault}
+use Rattle.pdl_world.specs.World.{World}
+use Rattle.pdl_world.specs.Sound.{IsLive}
+use Rattle.pdl_scope.specs.declared.fault.StepFault.{StepFault}
+use Rattle.pdl_scope.specs.Answers.{AnswersAs}
+use Rattle.pdl_scope.specs.Scope.{arrays_seen}
+use Rattle.pdl_session.specs.declared.given.Given.{Given}
+use Rattle.pdl_session.specs.declared.given.Given.TheVariants.{Array, Text, OfType}
+use Rattle.pdl_session.specs.Arguments.{all_seen_of, array_number, AreGivenLive}
+use Rattle.pdl_session.specs.Calls.{outputs_of}
+
+-- the arrays that arguments are can be looked at
+pub numbers_live : (w : World) (given : List Given) (ids : List ℕ) → AreGivenLive w given → all_of array_number given ≡ Some ids → All (IsLive w) ids
+numbers_live w given ids live e = by_all (all_of array_number given) (each given live) e
+  where
+    each : (given : List Given) → AreGivenLive w given → IfSome (all_of array_number given) (All (IsLive w))
+    each [] live = λ k d lt. absurd (omega arith)
+    each (Array v ∷ given) live = by_rest (all_of array_number given) (each given live.1)
+      where
+        by_rest : (o : Option (List ℕ)) → IfSome o (All (IsLive w)) → IfSome (and_more (Some v) o) (All (IsLive w))
+        by_rest None h = tt
+        by_rest (Some vs) h = All-cons (IsLive w) v vs live.0 h
+    each (Text t ∷ given) live = tt
+    each (OfType ty ∷ given) live = tt
+
+    by_all : (o : Option (List ℕ)) → IfSome o (All (IsLive w)) → o ≡ Some ids → All (IsLive w) ids
+    by_all o h e = let P : Option (List ℕ) → Type 0 = λ x. IfSome x (All (IsLive w)) in subst P e h
+
+pub arrays_told : (a : Arrays) (given : List Given) → all_of array_seen (all_seen_of a given) ≡ option_map (map (array_in a)) (all_of array_number given)
+arrays_told a [] = refl
+arrays_told a (Array v ∷ given) = ap (and_more (Some (array_in a v))) (arrays_told a given) ∙ by_rest (all_of array_number given)
+  where
+    by_rest : (o : Option (List ℕ)) → and_more (Some (array_in a v)) (option_map (map (array_in a)) o) ≡ option_map (map (array_in a)) (and_more (Some v) o)
+    by_rest None = refl
+    by_rest (Some vs) = refl
+arrays_told a (Text t ∷ given) = refl
+arrays_told a (OfType ty ∷ given) = refl
+
+-- what a call sees of arguments that are arrays
+pub seen_as_arrays : (a : Arrays) (given : List Given) (ids : List ℕ) → all_of array_number given ≡ Some ids → all_seen_of a given ≡ arrays_seen a ids
+seen_as_arrays a given ids e = by_all (all_of array_number given) (each given) e
+  where
+    each : (given : List Given) → IfSome (all_of array_number given) (λ vs. all_seen_of a given ≡ arrays_seen a vs)
+    each [] = refl
+    each (Array v ∷ given) = by_rest (all_of array_number given) (each given)
+      where
+        by_rest : (o : Option (List ℕ)) → IfSome o (λ vs. all_seen_of a given ≡ arrays_seen a vs) → IfSome (and_more (Some v) o) (λ vs. all_seen_of a (Array v ∷ given) ≡ arrays_seen a vs)
+        by_rest None h = tt
+        by_rest (Some vs) h = ap (λ seen. array (array_in a v) ∷ seen) h
+    each (Text t ∷ given) = tt
+    each (OfType ty ∷ given) = tt
+
+    by_all : (o : Option (List ℕ)) → IfSome o (λ vs. all_seen_of a given ≡ arrays_seen a vs) → o ≡ Some ids → all_seen_of a given ≡ arrays_seen a ids
+    by_all o h e = let P : Option (List ℕ) → Type 0 = λ x. IfSome x (λ vs. all_seen_of a given ≡ arrays_seen a vs) in subst P e h
+
+-- the answer for the arrays is that for the arguments
+pub outputs_given : (names : Names) (f : List ℕ) (wanted : ℕ) (a : Arrays) (given : List Given) (ids : List ℕ) (r : Result (Vec Made Global) StepFault) → all_of array_number given ≡ Some ids
+    → AnswersAs (λ ms. ms.items) (outputs_of names f wanted (arrays_seen a ids)) r → AnswersAs (λ ms. ms.items) (outputs_of names f wanted (all_seen_of a given)) r
+outputs_given names f wanted a given ids r all h =
+    let P : List Seen → Type 0 = λ seen. AnswersAs (λ (ms : Vec Made Global). ms.items) (outputs_of names f wanted seen) r in
+    subst P (sym (seen_as_arrays a given ids all)) h
+
+-- an argument that is no array
+pub none_given : (names : Names) (f : List ℕ) (wanted : ℕ) (a : Arrays) (given : List Given) → all_of array_number given ≡ None
+    → outputs_of names f wanted (all_seen_of a given) ≡ Err (if is_some (found names.kernels f) then WrongArguments else UnknownFunction)
+none_given names f wanted a given none = by_kernel (found names.kernels f)
+  where
+    by_kernel : (o : Option Kernel) → and_then (or_fault UnknownFunction o) (λ k. kernel_outputs k wanted (all_seen_of a given)) ≡ Err (if is_some o then WrongArguments else UnknownFunction)
+    by_kernel None = refl
+    by_kernel (Some k) = by_count (outputs_count k.signature == wanted)
+      where
+        by_count : (same : Bool) → (if same then and_then (or_fault WrongArguments (all_of array_seen (all_seen_of a given))) (called_on k) else Err WrongArguments) ≡ Err WrongArguments
+        by_count true = ap (λ o. and_then (or_fault WrongArguments o) (called_on k)) (arrays_told a given ∙ ap (option_map (map (array_in a))) none)
+        by_count false = refl
