@@ -1,10 +1,10 @@
 //! The reader of statements.
 
-ghost use Rattle.std.specs.Prelude.{◌≡◌, ◌∷◌, option_map};
+ghost use Rattle.std.specs.Prelude.{◌≡◌, ◌∷◌, option_map, IfOk, IfErr};
 ghost use Rattle.pdl_lexemes.specs.Peeks.{slot_at};
 ghost use Rattle.pdl_lexemes.specs.ReadAnswers.{Gives};
 ghost use Rattle.pdl_syntax.specs.Readers.{reads, text_at, with_tree};
-ghost use Rattle.pdl_syntax.specs.StatementReading.{expression_to_end_at, behind_at, valued_at, called_at, bind_at, bind_list_at, binding_at, assignment_at, reshape_at, sever_at, statement_of_name_at, value_at, show_at, undef_at, watch_at, define_at, statement_at, at_end};
+ghost use Rattle.pdl_syntax.specs.StatementReading.{expression_to_end_at, behind_at, valued_at, called_at, bind_at, bind_list_at, binding_at, assignment_at, reshape_at, sever_at, statement_of_name_at, value_at, show_at, undef_at, watch_at, define_at, signature_at, code_at, texts_at, statement_at, at_end};
 ghost use Rattle.pdl_syntax.specs.StatementTree.{statement_of, vars, unwatch};
 ghost use Rattle.pdl_syntax.specs.TreeOf.{tree_of};
 
@@ -240,13 +240,42 @@ impl<'s> Reader<'s> {
         let rest = tokens.after(Lexeme::Open).ok_or(Refusal::Refused)?;
         let (name, rest) = rest.quoted().ok_or(Refusal::Refused)?;
         let rest = rest.after(Lexeme::Comma).ok_or(Refusal::Refused)?;
-        let rest = rest.after_label(WordKind::Pars);
+        self.define_signature(name, &rest)
+    }
+
+    // A definition of this name, from its signature on.
+    fn define_signature(&self, name: Span, tokens: &Lexemes<'_>) -> Result<Statement, Refusal>
+        ensures read { Gives statement_of result
+            (signature_at self.now.source.now name tokens.now) }
+    {
+        let rest = tokens.after_label(WordKind::Pars);
         let (signature, rest) = rest.quoted().ok_or(Refusal::Refused)?;
         let rest = rest.after(Lexeme::Comma).ok_or(Refusal::Refused)?;
-        let rest = rest.after_label(WordKind::Code);
+        self.define_code(name, signature, &rest)
+    }
+
+    // A definition of this name and signature, from its code on.
+    fn define_code(
+        &self,
+        name: Span,
+        signature: Span,
+        tokens: &Lexemes<'_>,
+    ) -> Result<Statement, Refusal>
+        ensures read { Gives statement_of result
+            (code_at self.now.source.now name signature tokens.now) }
+    {
+        let rest = tokens.after_label(WordKind::Code);
         let (code, rest) = rest.quoted().ok_or(Refusal::Refused)?;
         let rest = rest.after(Lexeme::Close).ok_or(Refusal::Refused)?;
         rest.end()?;
+        self.definition(name, signature, code)
+    }
+
+    fn definition(&self, name: Span, signature: Span, code: Span) -> Result<Statement, Refusal>
+        ensures ok { IfOk result
+            (λ s. statement_of s ≡ texts_at self.now.source.now name signature code) }
+        ensures err { IfErr result (λ r. r ≡ Refusal.NoMemory) }
+    {
         let name = self.text_of(name)?;
         let signature = self.text_of(signature)?;
         let code = self.text_of(code)?;
