@@ -1,13 +1,12 @@
 //! Walks through a broadcast.
-ghost use Rattle.std.specs.Prelude.{◌≡◌, ◌<◌, ◌++◌, ◌∷◌, [], length, OnOk};
+ghost use Rattle.std.specs.Prelude.{◌≡◌, ◌<◌, length};
 ghost use Rattle.pdl_shape.specs.Broadcast.{BroadcastsTo};
 ghost use Rattle.pdl_shape.specs.Shape.{size_of};
-ghost use Rattle.pdl_shape.specs.Triple.{whole_triple};
 
 use crate::arrays::shape;
 use crate::stopwatch::{RUNS, Stopwatch};
 use pdl_broadcast::BroadcastWalk;
-use pdl_shape::{Dims, elements_of, join_dims, whole_triple};
+use pdl_shape::{Dims, elements_of, join_dims};
 use std::alloc::{AllocError, Global};
 use std::io::{self, ErrorKind};
 use std::rt::Clock;
@@ -73,20 +72,9 @@ fn walk_over(alloc: Global, dims: &Dims, first: &Dims, second: &Dims) -> Result<
     requires second { BroadcastsTo second.now dims.now }
 {
     let mut walk = BroadcastWalk::new(alloc, dims)?;
-    add(&mut walk, alloc, first)?;
-    add(&mut walk, alloc, second)?;
+    walk.add_whole(alloc, first)?;
+    walk.add_whole(alloc, second)?;
     Ok(walk_all(&mut walk, elements_of(dims)))
-}
-
-// Adds an array in order of these dimensions to a walk that hasn't moved.
-fn add(walk: &mut BroadcastWalk, alloc: Global, dims: &Dims) -> Result<(), AllocError>
-    requires start { walk.old.index ≡ 0 }
-    requires stretched { BroadcastsTo dims.now walk.old.dims }
-    ensures { let triples = walk.old.triples ++ whole_triple dims.now ∷ [] in
-        OnOk result (walk.new ≡ record walk.old { triples = triples }) }
-{
-    walk.add(&whole_triple(alloc, dims))?;
-    Ok(())
 }
 
 // Walks through all coordinates, and sums both places at each.
