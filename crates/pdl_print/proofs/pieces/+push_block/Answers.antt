@@ -4,6 +4,7 @@ use Rattle.std.specs.Prelude.{flat_map}
 use Rattle.std.proofs.Math.Nat.{mul-le-mul_right}
 use Rattle.pdl_shape.specs.Shape.{size_of}
 use Rattle.pdl_print.specs.Printed.{block, pieces, spaces}
+use Rattle.pdl_print.proofs.Fronts.{begins_then, begins_with}
 use Rattle.pdl_print.proofs.Texts.{Members, members_of, member_more, block_plane, block_around, length_from, on_ok, closed}
 use Rattle.pdl_print.proofs.pieces.+push_block.Goals as goal
 
@@ -77,3 +78,11 @@ returns-clause-ok t c =
     ∙ block_around ds c.args.around c.args.indent c.members_of-members.result size part (omega arith) c.members_of-members.ensures
     (ap (λ (k : ℕ). k / c.members_of-members.result) (sym (length_from c.args.elems.now.elems c.args.first c.args.count c.requires.within)))))
     c.push_bracket-2.ensures.ok
+
+pub returns-in_err-push_block-clause-front : goal.returns-in_err-push_block-clause-front
+returns-in_err-push_block-clause-front t c =
+    begins_then _ _ _ (begins_with c.args.into.now.items _ _ _ c.loop-member.invariant) c.in_err-push_block.ensures.front
+
+pub returns-clause-front : goal.returns-clause-front
+returns-clause-front t c =
+    begins_then _ _ _ (begins_with c.args.into.now.items _ _ _ c.loop-member.invariant) c.push_bracket-2.ensures.front
