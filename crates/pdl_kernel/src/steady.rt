@@ -47,6 +47,7 @@ fn turn_after(first: u32, wait: i128, count: u32) -> u32
     requires later { pos 0 ≤ℤ wait }
     ensures lasts { Lasts first count result }
     ensures after { pos result ≤ℤ (pos first +ℤ wait) }
+    ensures most { result < count → pos result ≡ pos first +ℤ wait }
 {
     if wait < i128::from(count - first) {
         first + wait as u32
