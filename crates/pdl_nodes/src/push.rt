@@ -66,10 +66,6 @@ fn put_on_root<L: Ledger>(
         (row_at table.old root).kept)) table.old }
     ensures counted { steps.new ≡ steps.old + length values.now }
 {
-    if id == root {
-        table.put_in_order(root, values, steps);
-        return;
-    }
     let triple = copy_triple(table.node(id).triple());
     table.put_over(root, &triple, values, steps);
 }
@@ -156,6 +152,10 @@ fn assign_at_root<L: Ledger>(
         root false) table.old }
     ensures counted { steps.new ≡ steps.old + length values.now }
 {
+    if id == root {
+        table.assign_root(root, values, steps);
+        return;
+    }
     put_at_root(table, root, base, id, values, steps);
     table.mark(root, root);
 }

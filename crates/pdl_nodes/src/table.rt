@@ -8,7 +8,9 @@ ghost use Rattle.pdl_shape.specs.Shape.{size_of};
 ghost use Rattle.pdl_world.specs.Cut.{has_views};
 ghost use Rattle.pdl_nodes.specs.Assigned.{put_all};
 ghost use Rattle.pdl_nodes.specs.Children.{children, noted, one_of};
-ghost use Rattle.pdl_nodes.specs.Numbered.{AllBelow, IsPut, Rises};
+ghost use Rattle.pdl_nodes.specs.Marked.{AreListed};
+ghost use Rattle.pdl_nodes.specs.Numbered.{AllBelow, IsPut, Rises, value_at};
+ghost use Rattle.pdl_nodes.specs.Table.{IsTable, rows_of};
 ghost use Rattle.pdl_nodes.specs.Placed.{in_order, placed_by};
 ghost use Rattle.pdl_nodes.specs.Spots.{spots};
 ghost use Rattle.pdl_nodes.specs.Rows.{NumbersBelow, row_at, has, each, without};
@@ -106,6 +108,36 @@ fn make_room(
     nodes.reserve(1)?;
     let key = nodes.vacant_key();
     put_key(keys, children, id, key, parent)
+}
+
+/// Marks a base of a family, the root itself or a view that is marked already, of which this is the
+/// key, and takes the mark from the others of this family.
+fn mark_at(
+    keys: &Numbered<usize>,
+    nodes: &mut Slab<Node>,
+    marked: &mut Marked,
+    root: u64,
+    base: u64,
+    key: usize,
+)
+    requires table { IsTable keys.now nodes.old }
+    requires listed { AreListed (rows_of nodes.old keys.now) marked.old }
+    requires key { value_at keys.now base ≡ Some key }
+    requires root { has (rows_of nodes.old keys.now) root ≡ true }
+    requires live { has (rows_of nodes.old keys.now) base ≡ true }
+    requires family { (row_at (rows_of nodes.old keys.now) base).root ≡ root }
+    requires buffered { is_buffered (row_at (rows_of nodes.old keys.now) base) ≡ true }
+    requires was_marked { base ≢ root
+        → (row_at (rows_of nodes.old keys.now) base).mark ≡ true }
+    ensures table { IsTable keys.now nodes.new }
+    ensures listed { AreListed (rows_of nodes.new keys.now) marked.new }
+    ensures rows { rows_of nodes.new keys.now
+        ≡ each (mark_in root base) (rows_of nodes.old keys.now) }
+{
+    unmark(keys, nodes, marked.views(root), root, base);
+    unmark_one(keys, nodes, root, root, base);
+    nodes[key].set_mark();
+    marked.keep(root, base);
 }
 
 impl Table {
@@ -239,22 +271,6 @@ impl Table {
         self.nodes[key].put_over(&None, triple, values, steps);
     }
 
-    /// Puts as many values into an array as it has positions, in order. It takes a step for each.
-    pub fn put_in_order<L: Ledger>(&mut self, id: u64, values: &[i64], steps: &mut Steps<L>)
-        requires live { has self.old id ≡ true }
-        requires buffered { is_buffered (row_at self.old id) ≡ true }
-        requires paired { length values.now ≡ size_of (row_at self.old id).triple.dims }
-        requires in_range { All (InRange (row_at self.old id).ty) values.now }
-        ensures put { self.new ≡ each (kept_in id (write
-            (in_order (size_of (row_at self.old id).triple.dims))
-            values.now
-            (row_at self.old id).kept)) self.old }
-        ensures counted { steps.new ≡ steps.old + length values.now }
-    {
-        let key = self.keys[id];
-        self.nodes[key].put_in_order(values, steps);
-    }
-
     /// Puts values at the places of a root that a triple shows over a marked view of it, in order.
     /// It takes a step for each value.
     pub fn put_past<L: Ledger>(
@@ -381,16 +397,33 @@ impl Table {
         ensures { self.new ≡ each (mark_in root base) self.old }
     {
         let key = self.keys[base];
-        unmark(
+        mark_at(
             &self.keys,
             &mut self.nodes,
-            self.marked.views(root),
+            &mut self.marked,
             root,
             base,
+            key,
         );
-        unmark_one(&self.keys, &mut self.nodes, root, root, base);
-        self.nodes[key].set_mark();
-        self.marked.keep(root, base);
+    }
+
+    /// Puts as many values into a root as it has positions, in order, and marks it alone of its
+    /// family, as `mark` does. It takes a step for each value.
+    pub fn assign_root<L: Ledger>(&mut self, id: u64, values: &[i64], steps: &mut Steps<L>)
+        requires live { has self.old id ≡ true }
+        requires root { (row_at self.old id).root ≡ id }
+        requires buffered { is_buffered (row_at self.old id) ≡ true }
+        requires paired { length values.now ≡ size_of (row_at self.old id).triple.dims }
+        requires in_range { All (InRange (row_at self.old id).ty) values.now }
+        ensures put { self.new ≡ each (mark_in id id) (each (kept_in id (write
+            (in_order (size_of (row_at self.old id).triple.dims))
+            values.now
+            (row_at self.old id).kept)) self.old) }
+        ensures counted { steps.new ≡ steps.old + length values.now }
+    {
+        let key = self.keys[id];
+        self.nodes[key].put_in_order(values, steps);
+        mark_at(&self.keys, &mut self.nodes, &mut self.marked, id, id, key);
     }
 
     /// The oldest live number from this one on.

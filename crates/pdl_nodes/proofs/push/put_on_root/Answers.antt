@@ -2,13 +2,12 @@ use Rattle.std.proofs.Common.{◌≡◌, ℕ, List, Option, None, All, sym, ◌�
 use Rattle.pdl_elem.specs.declared.Ty.{Ty}
 use Rattle.pdl_elem.specs.Types.{InRange}
 use Rattle.pdl_shape.specs.Places.{write}
-use Rattle.pdl_shape.specs.Shape.{size_of}
 use Rattle.pdl_nodes.specs.Row.{Row}
 use Rattle.pdl_nodes.specs.Rows.{row_at, each}
 use Rattle.pdl_nodes.specs.Changes.{kept_in}
 use Rattle.pdl_nodes.specs.Placed.{placed_by}
 use Rattle.pdl_nodes.specs.Worlds.{places_of}
-use Rattle.pdl_nodes.proofs.Assigning.{over_root, root_in_order}
+use Rattle.pdl_nodes.proofs.Assigning.{over_root}
 use Rattle.pdl_nodes.proofs.Origins.{root_buffered}
 use Rattle.pdl_nodes.proofs.Seens.{IsSeen, is_seen}
 use Rattle.pdl_nodes.proofs.push.put_on_root.Goals as goal
@@ -26,20 +25,3 @@ pub returns-clause-put : goal.returns-clause-put
 returns-clause-put g c =
     c.put_over.ensures.put ∙ ap (λ (ps : List (Option ℕ)). each (kept_in c.args.root (write ps c.args.values.now (row_at c.args.table.now c.args.root).kept)) c.args.table.now)
     (ap (placed_by None) (c.copy_triple-triple.ensures ∙ c.triple.ensures ∙ ap (λ (r : Row). r.triple) c.node.ensures) ∙ sym (over_root c.args.table.now c.args.root c.args.id c.requires.order.still c.requires.live c.requires.root c.requires.over))
-
-pub put_in_order-requires-clause-buffered : goal.put_in_order-requires-clause-buffered
-put_in_order-requires-clause-buffered g c = root_buffered c.args.table.now c.requires.order.still c.args.root c.requires.root.0 c.requires.root.1
-
-pub put_in_order-requires-clause-paired : goal.put_in_order-requires-clause-paired
-put_in_order-requires-clause-paired g c = c.requires.count ∙ ap (λ v. size_of (row_at c.args.table.now v).triple.dims) c.if-id-root.true
-
-pub put_in_order-requires-clause-in_range : goal.put_in_order-requires-clause-in_range
-put_in_order-requires-clause-in_range g c = subst (λ v. All (InRange (row_at c.args.table.now v).ty) c.args.values.now) c.if-id-root.true c.requires.in_range
-
-pub returns-then-id-root-clause-put : goal.returns-then-id-root-clause-put
-returns-then-id-root-clause-put g c =
-    c.put_in_order.ensures.put ∙ ap (λ (ps : List (Option ℕ)). each (kept_in c.args.root (write ps c.args.values.now (row_at c.args.table.now c.args.root).kept)) c.args.table.now)
-    (sym (root_in_order c.args.table.now c.args.root c.requires.order.still c.requires.root) ∙ ap (places_of c.args.table.now) (sym c.if-id-root.true))
-
-pub returns-then-id-root-clause-counted : goal.returns-then-id-root-clause-counted
-returns-then-id-root-clause-counted g c = c.put_in_order.ensures.counted
