@@ -1,6 +1,6 @@
 -- The names' map as the list of names.
 use Rattle.std.proofs.Common.{◌≡◌, ℕ, zero, suc, ◌+◌, ◌<◌, ◌≤◌, Bool, true, false, List, [], ◌∷◌, length, nat_eq, Option, Some, None, Ok, Err, Bor, refl, sym, ap, subst, ◌∙◌, arith}
-use Rattle.std.specs.Prelude.{map, position, IfSome, slice_get, Result, OnOk, OnErr, nat_lt, not, ◌&&◌, is_some, is_none, if◌then◌else◌}
+use Rattle.std.specs.Prelude.{map, position, IfSome, slice_get, nat_lt, not, ◌&&◌, is_some, is_none, if◌then◌else◌}
 use Rattle.std.specs.Option.{option_copied}
 use Rattle.std.specs.Cmp.Lexicographic.{pointwise}
 use Rattle.std.proofs.lemmas.Bool.Decides.{nat_tests}
@@ -8,7 +8,6 @@ use Rattle.std.specs.Map.{lookup, keys_of}
 use Rattle.indexmap.specs.IndexMap.{insert_entry, set_value_at}
 use Rattle.std.specs.List.{position_or_len}
 use Rattle.std.proofs.lemmas.List.{length-map}
-use Rattle.pdl_machine.specs.declared.fault.Fault.TheVariants.{TooManyNames}
 use Rattle.pdl_world.specs.World.{World}
 use Rattle.pdl_world.specs.Sound.{IsLive}
 use Rattle.pdl_engine.specs.State.{State as Engine}
@@ -16,7 +15,7 @@ use Rattle.pdl_machine.specs.State.{AreLive, IsWhole}
 use Rattle.pdl_kernel.specs.Kernels.{Kernel}
 use Rattle.pdl_machine.specs.declared.fault.Fault.{Fault}
 use Rattle.pdl_scope.specs.Scope.{names_in, state_in}
-use Rattle.pdl_machine.specs.Names.{Named, found, with_name, is_full_for, entered, names_limit}
+use Rattle.pdl_machine.specs.Names.{Named, found, with_name, is_full_for, entered}
 
 pub number_found : {A : Type 0} (names : Named A) (x : List ℕ) → lookup (pointwise nat_eq x) names ≡ found names x
 number_found [] x = refl

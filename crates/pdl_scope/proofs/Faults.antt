@@ -1,7 +1,6 @@
 -- What operators give, with the faults of statements.
-use Rattle.std.proofs.Common.{◌≡◌, Result, Ok, Err, sym, ap, subst, ◌∙◌}
+use Rattle.std.proofs.Common.{◌≡◌, Result, Ok, Err, sym, ap, ◌∙◌}
 use Rattle.std.specs.Prelude.{Option, Some, None, IfSome, option_map}
-use Rattle.std.specs.Result.{IsErrAnd}
 use Rattle.pdl_elem.specs.declared.BinaryOp.{BinaryOp}
 use Rattle.pdl_buf.specs.Window.{Window}
 use Rattle.pdl_buf.specs.declared.made.Made.{Made}
@@ -17,7 +16,7 @@ use Rattle.pdl_machine.specs.declared.fault.Fault.{Fault}
 use Rattle.pdl_scope.specs.declared.fault.StepFault.{StepFault}
 use Rattle.pdl_machine.specs.Then.{and_then}
 use Rattle.pdl_scope.specs.declared.fault.StepFault.TheVariants as step
-use Rattle.pdl_scope.specs.Answers.{IsFault, AnswersAs}
+use Rattle.pdl_scope.specs.Answers.{IsFault}
 use Rattle.pdl_scope.specs.Faults.{of_operator, step_fault}
 
 -- what a fault names refuses a statement, by its name in the machine

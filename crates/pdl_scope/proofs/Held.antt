@@ -1,6 +1,6 @@
 -- How often arrays are held.
-use Rattle.std.proofs.Common.{◌≡◌, ℕ, ℤ, zero, suc, ◌+◌, ◌-◌, ◌^◌, ◌<◌, ◌≤◌, Bool, true, false, List, [], ◌∷◌, ◌++◌, length, map, take, drop, get_or, min, Option, Some, None, inl, inr, refl, sym, ap, subst, ◌∙◌, arith, eqb-true, eq-eqb}
-use Rattle.std.specs.Prelude.{◌==◌, if◌then◌else◌, IsSomeAnd, is_some, is_none, not, nat_lt, nat_eq, slice_get, All, Ok, Err}
+use Rattle.std.proofs.Common.{◌≡◌, ℕ, ℤ, zero, suc, ◌+◌, ◌-◌, ◌<◌, ◌≤◌, Bool, true, false, List, [], ◌∷◌, ◌++◌, length, map, drop, get_or, Option, Some, None, inl, inr, refl, sym, ap, subst, ◌∙◌, arith, eqb-true, eq-eqb}
+use Rattle.std.specs.Prelude.{◌==◌, if◌then◌else◌, IsSomeAnd, is_some, is_none, not, nat_lt, nat_eq, Ok, Err}
 use Rattle.std.specs.Cmp.Lexicographic.{pointwise}
 use Rattle.std.specs.Option.{option_to_list}
 use Rattle.std.proofs.lemmas.List.{append-nil, drop_all, drop_more}
@@ -8,7 +8,7 @@ use Rattle.std.proofs.lemmas.Bool.{cases_lt}
 use Rattle.std.proofs.lemmas.Bool.Decides.{nat_tests}
 use Rattle.pdl_shape.specs.Places.{write}
 use Rattle.pdl_world.specs.World.{World, ArrayDef, Look, root, view, look, assign, assign_through, set_elements, root_elements}
-use Rattle.pdl_world.specs.Sound.{NumbersBelow, IsSound, IsAllowed, IsLive}
+use Rattle.pdl_world.specs.Sound.{NumbersBelow, IsSound, IsLive}
 use Rattle.pdl_world.specs.Swept.{holds, parents, kept_onto, sweep, held_itself}
 use Rattle.pdl_world.specs.SweepLaws.{ReachedAreSeenAsBefore, NoNumberComes}
 use Rattle.pdl_world.specs.Laws.{OlderStay}

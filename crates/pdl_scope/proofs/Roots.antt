@@ -1,18 +1,16 @@
 -- New arrays bound to names in order, where there is room for all of them.
 use Rattle.std.proofs.Common.{◌≡◌, ℕ, zero, suc, ◌+◌, ◌-◌, ◌<◌, ◌≤◌, Bool, true, false, List, [], ◌∷◌, length, take, drop, get_or, Result, Ok, Err, nat_eq, nat_lt, refl, sym, ap, subst, ◌∙◌, arith}
-use Rattle.std.specs.Prelude.{map, not, ◌||◌, is_some, is_none, if◌then◌else◌, Option, Some, None}
+use Rattle.std.specs.Prelude.{not, ◌||◌, is_some, is_none, if◌then◌else◌, Option, Some, None}
 use Rattle.std.specs.Cmp.Lexicographic.{pointwise, same_text}
-use Rattle.std.specs.List.{list_any}
 use Rattle.std.specs.Result.{IsErrAnd}
 use Rattle.std.proofs.lemmas.Bool.Decides.{nat_tests}
 use Rattle.std.proofs.lemmas.List.{drop_more, take_all}
 use Rattle.pdl_buf.specs.declared.made.Made.{Made}
-use Rattle.pdl_machine.specs.declared.fault.Fault.{Fault}
 use Rattle.pdl_machine.specs.declared.fault.Fault.TheVariants.{TooManyNames}
 use Rattle.pdl_world.specs.World.{root}
 use Rattle.pdl_machine.specs.Arrays.{with_new}
 use Rattle.pdl_machine.specs.Names.{Named, Names, found, with_name, is_full_for, entered, bind, names_limit}
-use Rattle.pdl_machine.specs.Outcome.{Valued, new_root}
+use Rattle.pdl_machine.specs.Outcome.{new_root}
 use Rattle.pdl_machine.specs.State.{State}
 use Rattle.pdl_machine.specs.Step.{Stepped, bind_value, bound, roots_bound}
 use Rattle.pdl_machine.specs.Then.{and_then}

@@ -1,11 +1,10 @@
 -- Arguments that are arrays, for the call of a kernel.
-use Rattle.std.proofs.Common.{◌≡◌, ℕ, ◌<◌, Bool, true, false, List, [], ◌∷◌, map, Option, Some, None, Result, Ok, Err, refl, sym, ap, subst, ◌∙◌, arith, Vec}
+use Rattle.std.proofs.Common.{◌≡◌, ℕ, Bool, true, false, List, [], ◌∷◌, map, Option, Some, None, Result, Err, refl, sym, ap, subst, ◌∙◌, arith, Vec}
 use Rattle.std.specs.Prelude.{◌==◌, All, IfSome, if◌then◌else◌, is_some, option_map}
 use Rattle.std.specs.Global.{Global}
 use Rattle.std.proofs.lemmas.List.Elements.{All-cons}
 use Rattle.pdl_buf.specs.declared.made.Made.{Made}
 use Rattle.pdl_kernel.specs.Kernels.{Kernel}
-use Rattle.pdl_machine.specs.declared.fault.Fault.{Fault}
 use Rattle.pdl_machine.specs.declared.fault.Fault.TheVariants.{UnknownFunction, WrongArguments}
 use Rattle.pdl_machine.specs.Arrays.{Arrays, array_in}
 use Rattle.pdl_machine.specs.Kernels.{array_seen, called_on, kernel_outputs, outputs_count}

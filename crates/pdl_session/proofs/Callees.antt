@@ -1,13 +1,13 @@
 -- What the name of a call stands for.
-use Rattle.std.proofs.Common.{◌≡◌, ℕ, List, Option, Some, None, Result, Err, refl, ap, ◌∙◌}
+use Rattle.std.proofs.Common.{◌≡◌, ℕ, List, Option, Some, None, Result, refl, ap, ◌∙◌}
 use Rattle.pdl_buf.specs.declared.made.Made.{Made}
 use Rattle.pdl_kernel.specs.Kernels.{Kernel}
 use Rattle.pdl_machine.specs.declared.builtin.Builtin.{Builtin}
 use Rattle.pdl_machine.specs.declared.fault.Fault.{Fault}
-use Rattle.pdl_machine.specs.declared.fault.Fault.TheVariants.{UnknownFunction, WrongArguments}
+use Rattle.pdl_machine.specs.declared.fault.Fault.TheVariants.{UnknownFunction}
 use Rattle.pdl_machine.specs.Arrays.{Arrays}
 use Rattle.pdl_machine.specs.Builtin.{builtin_of}
-use Rattle.pdl_machine.specs.Calls.{callee_among, callee_of, builtin_value, only_root, value_by, call_value}
+use Rattle.pdl_machine.specs.Calls.{callee_among, callee_of, only_root, value_by, call_value}
 use Rattle.pdl_machine.specs.Kernels.{kernel_outputs}
 use Rattle.pdl_machine.specs.Names.{Names, found}
 use Rattle.pdl_machine.specs.Outcome.{Given as Argument, Seen, Valued}

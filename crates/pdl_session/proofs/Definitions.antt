@@ -1,5 +1,5 @@
 -- Definitions of kernels, from what their texts mean.
-use Rattle.std.proofs.Common.{◌≡◌, ℕ, Bool, true, false, List, [], Result, Ok, Err, sym, ap, subst, ◌∙◌}
+use Rattle.std.proofs.Common.{◌≡◌, ℕ, Bool, true, List, Result, Ok, Err, ap, ◌∙◌}
 use Rattle.std.specs.Prelude.{if◌then◌else◌}
 use Rattle.pdl_sig.specs.declared.Signature.{Signature}
 use Rattle.pdl_sig.specs.declared.SigFault.{SigFault}
@@ -11,18 +11,13 @@ use Rattle.pdl_code.specs.Meaning.{code_in, IsFault as IsCodeFault}
 use Rattle.pdl_code.specs.declared.fault.KernelFault.{KernelFault}
 use Rattle.pdl_code.specs.declared.fault.KernelFault.TheVariants as code
 use Rattle.pdl_kernel.specs.Kernels.{Kernel, kernel_by, kernel_in}
-use Rattle.pdl_syntax.specs.StatementTree.{pp_def}
 use Rattle.pdl_machine.specs.declared.fault.Fault.{Fault}
 use Rattle.pdl_machine.specs.declared.fault.Fault.TheVariants.{WrongArguments}
 use Rattle.pdl_machine.specs.Kernels.{can_name, signature_fault, kernel_fault, defined}
 use Rattle.pdl_machine.specs.Refused.{or_named}
-use Rattle.pdl_machine.specs.State.{State}
-use Rattle.pdl_machine.specs.Step.{Stepped, kernel_named, effect}
 use Rattle.pdl_machine.specs.Then.{and_then}
-use Rattle.pdl_scope.specs.declared.fault.StepFault.{StepFault}
-use Rattle.pdl_scope.specs.Answers.{IsFault, IfScript, IsKept, Runs}
+use Rattle.pdl_scope.specs.Answers.{IsFault}
 use Rattle.pdl_scope.specs.Faults.{of_signature, of_code}
-use Rattle.pdl_session.proofs.Facts.{first_fault, grows_refl, kept_at}
 
 -- a definition, by what its signature's text means
 abbrev by_signature : List ℕ → Result Signature SigFault → Result Kernel Fault

@@ -1,13 +1,12 @@
 -- Lists that are gathered one item at a time, up to the first item that gives nothing.
-use Rattle.std.proofs.Common.{◌≡◌, ℕ, suc, ◌+◌, ◌<◌, ◌≤◌, List, [], ◌∷◌, ◌++◌, length, get_or, drop, Option, Some, None, refl, sym, ap, subst, ◌∙◌, arith, append_assoc}
+use Rattle.std.proofs.Common.{◌≡◌, ℕ, ◌+◌, ◌<◌, ◌≤◌, List, [], ◌∷◌, ◌++◌, length, get_or, drop, Option, Some, None, refl, sym, ap, subst, ◌∙◌, append_assoc}
 use Rattle.std.specs.Prelude.{option_map}
 use Rattle.std.proofs.lemmas.List.{append-nil, drop_all, drop_more}
-use Rattle.pdl_world.specs.World.{World}
 use Rattle.pdl_machine.specs.Arrays.{Arrays}
 use Rattle.pdl_machine.specs.Fills.{number_in}
 use Rattle.pdl_machine.specs.Then.{and_more, all_of}
 use Rattle.pdl_session.specs.declared.given.Given.{Given}
-use Rattle.pdl_session.specs.Arguments.{seen_of, all_seen_of, IsGivenLive, AreGivenLive}
+use Rattle.pdl_session.specs.Arguments.{seen_of, all_seen_of}
 
 -- what was found is the front of all values
 abbrev pub IsFront : {X Y : Type 0} → (X → Option Y) → List X → ℕ → List Y → Type 0

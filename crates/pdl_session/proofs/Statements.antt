@@ -1,14 +1,13 @@
 -- What a statement does, from what its parts do.
-use Rattle.std.proofs.Common.{◌≡◌, ◌≢◌, ℕ, length, get_or, arith, Bool, List, [], ◌∷◌, ◌++◌, Result, Ok, Err, refl, sym, ap, subst, ◌∙◌}
+use Rattle.std.proofs.Common.{◌≡◌, ◌≢◌, ℕ, length, get_or, arith, List, [], ◌∷◌, Result, Ok, Err, refl, sym, ap, subst, ◌∙◌}
 use Rattle.std.specs.Prelude.{IfErr}
-use Rattle.std.proofs.lemmas.List.{append-nil}
 use Rattle.pdl_buf.specs.declared.made.Made.{Made}
 use Rattle.pdl_lexemes.specs.declared.AssignOp.{AssignOp}
 use Rattle.pdl_syntax.specs.Tree.{Tree, Args, call}
 use Rattle.pdl_syntax.specs.StatementTree.{bind_list}
 use Rattle.pdl_machine.specs.declared.fault.Fault.{Fault}
 use Rattle.pdl_machine.specs.Names.{Names, bind}
-use Rattle.pdl_machine.specs.Arrays.{Arrays, array_in}
+use Rattle.pdl_machine.specs.Arrays.{Arrays}
 use Rattle.pdl_machine.specs.Then.{and_then}
 use Rattle.pdl_machine.specs.State.{State, with_arrays, IsWhole}
 use Rattle.pdl_machine.specs.Outcome.{Given as Argument, Seen, Valued, all_seen}
@@ -16,7 +15,7 @@ use Rattle.pdl_machine.specs.Calls.{Callee, builtin, kernel, callee_of, value_by
 use Rattle.pdl_machine.specs.Value.{value_of, taken}
 use Rattle.pdl_machine.specs.Tidy.{tidy}
 use Rattle.pdl_machine.specs.Laws.{NewArraysUnseen}
-use Rattle.pdl_machine.specs.Step.{Stepped, bind_value, bound, roots_bound, outputs_bound, list_bound, assigned, assigning, printed, after_printing, effect}
+use Rattle.pdl_machine.specs.Step.{Stepped, bind_value, bound, roots_bound, outputs_bound, list_bound, assigned, assigning, printed, effect}
 use Rattle.pdl_scope.specs.declared.fault.StepFault.{StepFault}
 use Rattle.pdl_scope.specs.declared.fault.StepFault.TheVariants.{Script, NoMemory}
 use Rattle.pdl_session.specs.declared.given.Given.{Given}

@@ -1,5 +1,5 @@
 -- A session keeps just the arrays that its names reach.
-use Rattle.std.proofs.Common.{◌≡◌, ℕ, suc, [], ◌∷◌, length, refl, sym, ap, subst, ◌∙◌}
+use Rattle.std.proofs.Common.{◌≡◌, suc, [], ◌∷◌, length, refl, sym, ap, subst, ◌∙◌}
 use Rattle.pdl_world.specs.Swept.{sweep}
 use Rattle.pdl_world.specs.World.{World}
 use Rattle.pdl_machine.specs.Laws.{SweepsByFewer}

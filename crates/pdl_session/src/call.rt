@@ -174,7 +174,10 @@ fn view_first(scope: &mut Scope, given: &[Given], trans: Trans) -> Result<ArrayI
 {
     match given.first() {
         Some(Given::Array(id)) => scope.view(*id, trans),
-        _ => Err(StepFault::Script(Fault::WrongArguments)),
+        _ => {
+            drop(trans);
+            Err(StepFault::Script(Fault::WrongArguments))
+        }
     }
 }
 

@@ -1,5 +1,3 @@
-use Rattle.std.proofs.Common.{◌≡◌, ◌∷◌, drop, get_or, sym, subst}
-use Rattle.pdl_scope.specs.Holding.{LetsGo}
 use Rattle.pdl_scope.proofs.Held.{lets_go_refl, lets_go_more, all_let_go, next_counted}
 use Rattle.pdl_scope.proofs.holding.release_all.Goals as goal
 
