@@ -32,6 +32,10 @@ pub record IsPut {V : Type 0} (old new : List (ℕ × V)) (v : ℕ) (o : Option 
   pub here : value_at new v ≡ o
   pub others : (u : ℕ) → u ≢ v → value_at new u ≡ value_at old u
 
+-- how many of the newest numbers stand before the others, at most
+abbrev pub most_newest : ℕ
+most_newest = 8
+
 -- v stands at place i
 pub record IsPlace {V : Type 0} (es : List (ℕ × V)) (v i : ℕ) : Type 0 where
   pub in_range : i < length es

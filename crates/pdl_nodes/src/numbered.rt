@@ -1,15 +1,15 @@
 //! Values by numbers: `std`'s ordered map, and before it the newest, which are asked for most and
 //! go soonest.
-ghost use Rattle.std.specs.Prelude.{◌≡◌, ◌≢◌, ℕ, List, [], length, is_some, IsSome, true, Some, None, IfSome, IfNone, OnOk, OnErr};
+ghost use Rattle.std.specs.Prelude.{◌≡◌, ◌≢◌, ℕ, ◌<◌, ◌≤◌, ◌++◌, List, [], length, is_some, IsSome, true, Some, None, IfSome, IfNone, OnOk, OnErr};
 ghost use Rattle.std.specs.Option.{option_copied};
-ghost use Rattle.pdl_nodes.specs.Numbered.{AllBelow, IsPlace, IsPut, Rises, first_from, value_at};
+ghost use Rattle.pdl_nodes.specs.Numbered.{AllBelow, IsPlace, IsPut, Rises, first_from, most_newest, value_at};
 
 use std::alloc::{AllocError, Global};
 use std::collections::BTreeMap;
 use std::marker::Model;
 use std::ops::Index;
 
-/// How many numbers stand before the map at most. No clause asks for it.
+/// How many numbers stand before the map at most.
 const MOST_NEWEST: usize = 8;
 
 /// Values by numbers. The newest stand in a short list before the map, and go into the map, oldest
@@ -22,14 +22,15 @@ pub struct Numbered<V> {
 }
 
 impl<V> Model for Numbered<V> {
-    ghost use Rattle.std.specs.Prelude.{ℕ, List, ◌++◌};
-    ghost use Rattle.pdl_nodes.specs.Numbered.{Rises};
+    ghost use Rattle.std.specs.Prelude.{ℕ, ◌≤◌, List, ◌++◌, length};
+    ghost use Rattle.pdl_nodes.specs.Numbered.{Rises, most_newest};
 
     ghost Value = { List (ℕ × V) };
 
     ghost view = { λ n. n.settled.entries ++ n.newest.items };
 
-    ghost invariant = { λ n. Rises (n.settled.entries ++ n.newest.items) };
+    ghost invariant = { λ n.
+        Rises (n.settled.entries ++ n.newest.items) × (length n.newest.items ≤ most_newest) };
 }
 
 impl<V: Copy + Drop> Numbered<V> {
@@ -86,20 +87,6 @@ impl<V: Copy + Drop> Numbered<V> {
         }
     }
 
-    /// Puts the oldest of the newest numbers into the map, where there are many.
-    fn settle(&mut self) -> Result<(), AllocError>
-        ensures same { self.new ≡ self.old }
-        ensures rises { Rises self.new }
-    {
-        if self.newest.len() < MOST_NEWEST {
-            return Ok(());
-        }
-        let (id, value) = self.newest[0];
-        self.settled.insert(id, value)?;
-        self.newest.remove(0);
-        Ok(())
-    }
-
     /// Gives a number above all others a value.
     pub fn insert(&mut self, id: u64, value: V) -> Result<(), AllocError>
         requires above { AllBelow self.old id }
@@ -107,7 +94,7 @@ impl<V: Copy + Drop> Numbered<V> {
         ensures rises { Rises self.new }
         ensures err { OnErr result (self.new ≡ self.old) }
     {
-        self.settle()?;
+        settle(&mut self.settled, &mut self.newest)?;
         self.newest.push((id, value))?;
         Ok(())
     }
@@ -149,6 +136,27 @@ impl<V: Copy + Drop> Index<u64> for Numbered<V> {
     fn index(&self, id: u64) -> &V {
         self.get(id).unwrap()
     }
+}
+
+/// Puts the oldest of the newest numbers into the map, where there is no room for one more.
+fn settle<V: Copy + Drop>(
+    settled: &mut BTreeMap<u64, V>,
+    newest: &mut Vec<(u64, V)>,
+) -> Result<(), AllocError>
+    requires rises { Rises (settled.old.entries ++ newest.old.items) }
+    requires few { length newest.old.items ≤ most_newest }
+    ensures same { settled.new.entries ++ newest.new.items
+        ≡ settled.old.entries ++ newest.old.items }
+    ensures room { OnOk result (length newest.new.items < most_newest) }
+    ensures few { length newest.new.items ≤ most_newest }
+{
+    if newest.len() < MOST_NEWEST {
+        return Ok(());
+    }
+    let (id, value) = newest[0];
+    settled.insert(id, value)?;
+    newest.remove(0);
+    Ok(())
 }
 
 /// Where a number stands. The last are looked at first, since they are asked for most; a number

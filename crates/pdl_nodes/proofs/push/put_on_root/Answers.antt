@@ -6,7 +6,6 @@ use Rattle.pdl_nodes.specs.Row.{Row}
 use Rattle.pdl_nodes.specs.Rows.{row_at, each}
 use Rattle.pdl_nodes.specs.Changes.{kept_in}
 use Rattle.pdl_nodes.specs.Placed.{placed_by}
-use Rattle.pdl_nodes.specs.Worlds.{places_of}
 use Rattle.pdl_nodes.proofs.Assigning.{over_root}
 use Rattle.pdl_nodes.proofs.Origins.{root_buffered}
 use Rattle.pdl_nodes.proofs.Seens.{IsSeen, is_seen}

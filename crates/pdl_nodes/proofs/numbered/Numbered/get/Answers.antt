@@ -4,13 +4,13 @@ use Rattle.pdl_nodes.proofs.Numbers.{IsParted, parted, value_after, value_before
 use Rattle.pdl_nodes.proofs.numbered.Numbered.get.Goals as goal
 
 pub place-requires : goal.place-requires
-place-requires g c = subst Rises (sym c.deref.ensures.value) (parted c.self.inside.settled.entries c.self.inside.newest.items c.self.invariant).after
+place-requires g c = subst Rises (sym c.deref.ensures.value) (parted c.self.inside.settled.entries c.self.inside.newest.items c.self.invariant.0).after
 
 pub returns-in-Some : goal.returns-in-Some
 returns-in-Some g c =
     let es = c.self.inside.settled.entries in
     let fs = c.self.inside.newest.items in
-    let p : IsParted es fs = parted es fs c.self.invariant in
+    let p : IsParted es fs = parted es fs c.self.invariant.0 in
     let q : IsPlace fs c.args.id c.in-Some.at = subst (λ l. IsPlace l c.args.id c.in-Some.at) c.deref.ensures.value c.in-Some.ensures.found in
     ap (λ e. Some e.1) c.index.ensures ∙ sym (value_after es fs c.args.id c.in-Some.at c.index.result.now p q) ∙ ap (λ l. value_at l c.args.id) c.self.view_is
 
