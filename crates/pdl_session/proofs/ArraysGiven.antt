@@ -1,6 +1,6 @@
 -- Arguments that are arrays, for the call of a kernel.
 use Rattle.std.proofs.Common.{◌≡◌, ℕ, Bool, true, false, List, [], ◌∷◌, map, Option, Some, None, Result, Err, refl, sym, ap, subst, ◌∙◌, arith, Vec}
-use Rattle.std.specs.Prelude.{◌==◌, All, IfSome, if◌then◌else◌, is_some, option_map}
+use Rattle.std.specs.Prelude.{◌==◌, All, if◌then◌else◌, is_some, option_map}
 use Rattle.std.specs.Global.{Global}
 use Rattle.std.proofs.lemmas.List.Elements.{All-cons}
 use Rattle.pdl_buf.specs.declared.made.Made.{Made}
@@ -21,22 +21,25 @@ use Rattle.pdl_session.specs.declared.given.Given.TheVariants.{Array, Text, OfTy
 use Rattle.pdl_session.specs.Arguments.{all_seen_of, array_number, AreGivenLive}
 use Rattle.pdl_session.specs.Calls.{outputs_of}
 
--- the arrays that arguments are can be looked at
-pub numbers_live : (w : World) (given : List Given) (ids : List ℕ) → AreGivenLive w given → all_of array_number given ≡ Some ids → All (IsLive w) ids
-numbers_live w given ids live e = by_all (all_of array_number given) (each given live) e
+-- arguments that are all arrays are these
+all_arrays : (given : List Given) (ids : List ℕ) → all_of array_number given ≡ Some ids → given ≡ map Array ids
+all_arrays [] [] e = refl
+all_arrays [] (v ∷ ids) e = absurd (cc)
+all_arrays (Array v ∷ given) ids e = by_rest (all_of array_number given) (all_arrays given) e
   where
-    each : (given : List Given) → AreGivenLive w given → IfSome (all_of array_number given) (All (IsLive w))
-    each [] live = λ k d lt. absurd (omega arith)
-    each (Array v ∷ given) live = by_rest (all_of array_number given) (each given live.1)
-      where
-        by_rest : (o : Option (List ℕ)) → IfSome o (All (IsLive w)) → IfSome (and_more (Some v) o) (All (IsLive w))
-        by_rest None h = tt
-        by_rest (Some vs) h = All-cons (IsLive w) v vs live.0 h
-    each (Text t ∷ given) live = tt
-    each (OfType ty ∷ given) live = tt
+    by_rest : (o : Option (List ℕ)) → ((vs : List ℕ) → o ≡ Some vs → given ≡ map Array vs) → and_more (Some v) o ≡ Some ids → Array v ∷ given ≡ map Array ids
+    by_rest None h e = absurd (cc)
+    by_rest (Some vs) h e = (let same : v ∷ vs ≡ ids = cc in ap (λ gs. Array v ∷ gs) (h vs refl) ∙ ap (map Array) same)
+all_arrays (Text t ∷ given) ids e = absurd (cc)
+all_arrays (OfType ty ∷ given) ids e = absurd (cc)
 
-    by_all : (o : Option (List ℕ)) → IfSome o (All (IsLive w)) → o ≡ Some ids → All (IsLive w) ids
-    by_all o h e = let P : Option (List ℕ) → Type 0 = λ x. IfSome x (All (IsLive w)) in subst P e h
+-- they can be looked at
+pub numbers_live : (w : World) (given : List Given) (ids : List ℕ) → AreGivenLive w given → all_of array_number given ≡ Some ids → All (IsLive w) ids
+numbers_live w given ids live e = each ids (subst (λ (gs : List Given). AreGivenLive w gs) (all_arrays given ids e) live)
+  where
+    each : (ids : List ℕ) → AreGivenLive w (map Array ids) → All (IsLive w) ids
+    each [] live = λ k d lt. absurd (omega arith)
+    each (v ∷ ids) live = All-cons (IsLive w) v ids live.0 (each ids live.1)
 
 pub arrays_told : (a : Arrays) (given : List Given) → all_of array_seen (all_seen_of a given) ≡ option_map (map (array_in a)) (all_of array_number given)
 arrays_told a [] = refl
@@ -48,29 +51,16 @@ arrays_told a (Array v ∷ given) = ap (and_more (Some (array_in a v))) (arrays_
 arrays_told a (Text t ∷ given) = refl
 arrays_told a (OfType ty ∷ given) = refl
 
--- what a call sees of arguments that are arrays
-pub seen_as_arrays : (a : Arrays) (given : List Given) (ids : List ℕ) → all_of array_number given ≡ Some ids → all_seen_of a given ≡ arrays_seen a ids
-seen_as_arrays a given ids e = by_all (all_of array_number given) (each given) e
-  where
-    each : (given : List Given) → IfSome (all_of array_number given) (λ vs. all_seen_of a given ≡ arrays_seen a vs)
-    each [] = refl
-    each (Array v ∷ given) = by_rest (all_of array_number given) (each given)
-      where
-        by_rest : (o : Option (List ℕ)) → IfSome o (λ vs. all_seen_of a given ≡ arrays_seen a vs) → IfSome (and_more (Some v) o) (λ vs. all_seen_of a (Array v ∷ given) ≡ arrays_seen a vs)
-        by_rest None h = tt
-        by_rest (Some vs) h = ap (λ seen. array (array_in a v) ∷ seen) h
-    each (Text t ∷ given) = tt
-    each (OfType ty ∷ given) = tt
-
-    by_all : (o : Option (List ℕ)) → IfSome o (λ vs. all_seen_of a given ≡ arrays_seen a vs) → o ≡ Some ids → all_seen_of a given ≡ arrays_seen a ids
-    by_all o h e = let P : Option (List ℕ) → Type 0 = λ x. IfSome x (λ vs. all_seen_of a given ≡ arrays_seen a vs) in subst P e h
+-- what a call sees of them
+seen_as_arrays : (a : Arrays) (ids : List ℕ) → all_seen_of a (map Array ids) ≡ arrays_seen a ids
+seen_as_arrays a [] = refl
+seen_as_arrays a (v ∷ ids) = ap (λ seen. array (array_in a v) ∷ seen) (seen_as_arrays a ids)
 
 -- the answer for the arrays is that for the arguments
 pub outputs_given : (names : Names) (f : List ℕ) (wanted : ℕ) (a : Arrays) (given : List Given) (ids : List ℕ) (r : Result (Vec Made Global) StepFault) → all_of array_number given ≡ Some ids
     → AnswersAs (λ ms. ms.items) (outputs_of names f wanted (arrays_seen a ids)) r → AnswersAs (λ ms. ms.items) (outputs_of names f wanted (all_seen_of a given)) r
 outputs_given names f wanted a given ids r all h =
-    let P : List Seen → Type 0 = λ seen. AnswersAs (λ (ms : Vec Made Global). ms.items) (outputs_of names f wanted seen) r in
-    subst P (sym (seen_as_arrays a given ids all)) h
+    subst (λ (seen : List Seen). AnswersAs (λ (ms : Vec Made Global). ms.items) (outputs_of names f wanted seen) r) (sym (ap (all_seen_of a) (all_arrays given ids all) ∙ seen_as_arrays a ids)) h
 
 -- an argument that is no array
 pub none_given : (names : Names) (f : List ℕ) (wanted : ℕ) (a : Arrays) (given : List Given) → all_of array_number given ≡ None

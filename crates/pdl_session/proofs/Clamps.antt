@@ -1,7 +1,6 @@
 -- Sizes that are cut to 32 bits are dimensions where the sizes are, and are refused for the same reason.
-use Rattle.std.proofs.Common.{◌≡◌, ℕ, ℤ, pos, negsuc, ◌*◌, ◌<◌, ◌≤◌, Bool, true, false, max, List, [], ◌∷◌, map, length, Option, Some, None, Result, Ok, Err, ◌⊎◌, inl, inr, refl, sym, ap, ◌∙◌, arith}
+use Rattle.std.proofs.Common.{◌≡◌, ℕ, ℤ, pos, negsuc, ◌<◌, Bool, true, false, List, [], ◌∷◌, map, length, Option, Some, None, Result, Ok, Err, ◌⊎◌, inl, inr, refl, sym, ap, ◌∙◌, arith}
 use Rattle.std.specs.Prelude.{option_map, nat_lt, if◌then◌else◌}
-use Rattle.std.proofs.Math.Nat.{mul-le-mul}
 use Rattle.std.proofs.lemmas.Bool.Decides.{nat_tests}
 use Rattle.std.proofs.lemmas.List.{length-map}
 use Rattle.pdl_shape.specs.Refusals.{Refusal, too_many_dims, too_large as extent_too_large}
@@ -16,6 +15,7 @@ use Rattle.pdl_scope.specs.declared.fault.StepFault.{StepFault}
 use Rattle.pdl_scope.specs.declared.fault.StepFault.TheVariants.{Script, NoMemory}
 use Rattle.pdl_scope.specs.Answers.{IsFault}
 use Rattle.pdl_session.specs.Sizes.{clamped_size}
+use Rattle.pdl_session.proofs.Sizes.{ExtentsAbove, first_small, rest_small}
 
 by_test : {G : Type 0} (b : Bool) → (b ≡ true → G) → (b ≡ false → G) → G
 by_test true holds fails = holds refl
@@ -38,35 +38,19 @@ clamped_is (negsuc n ∷ ns) = refl
 abbrev Alike : List ℕ → Type 0
 Alike ds = (map cut ds ≡ ds) ⊎ ((1048576 < extent ds) × (1048576 < extent (map cut ds)))
 
-extent_positive : (ds : List ℕ) → 1 ≤ extent ds
-extent_positive [] = omega arith
-extent_positive (d ∷ ds) =
-    let more : 1 * 1 ≤ max d 1 * extent ds = mul-le-mul {n₁ = 1} {m₁ = 1} {n₂ = max d 1} {m₂ = extent ds} (omega arith) (extent_positive ds) in
-    omega arith
-
-large_front : (d : ℕ) (ds : List ℕ) → 1048576 < d → 1048576 < extent (d ∷ ds)
-large_front d ds h =
-    let more : max d 1 * 1 ≤ max d 1 * extent ds = mul-le-mul {n₁ = max d 1} {m₁ = 1} {n₂ = max d 1} {m₂ = extent ds} (omega arith) (extent_positive ds) in
-    omega arith
-
-large_rest : (d : ℕ) (ds : List ℕ) → 1048576 < extent ds → 1048576 < extent (d ∷ ds)
-large_rest d ds h =
-    let more : 1 * extent ds ≤ max d 1 * extent ds = mul-le-mul {n₁ = 1} {m₁ = extent ds} {n₂ = max d 1} {m₂ = extent ds} (omega arith) (omega arith) in
-    omega arith
-
 past : (d : ℕ) → nat_lt 4294967295 d ≡ true → 4294967295 < d
 past d t = grind (arith, nat_tests)
 
-alike : (ds : List ℕ) → Alike ds
-alike [] = inl refl
-alike (d ∷ ds) = by_test (nat_lt 4294967295 d)
+alike : ExtentsAbove → (ds : List ℕ) → Alike ds
+alike above [] = inl refl
+alike above (d ∷ ds) = by_test (nat_lt 4294967295 d)
     (λ t. let c : cut d ≡ 4294967295 = rw t refl in
     let r : 1048576 < cut d = omega (arith, c) in
-    inr (large_front d ds (omega (arith, past d t)), large_front (cut d) (map cut ds) r))
+    inr (omega (arith, past d t, first_small above d ds), omega (arith, r, first_small above (cut d) (map cut ds))))
     (λ f. let c : cut d ≡ d = rw f refl in
-    elim (alike ds) [
+    elim (alike above ds) [
       | inl e ↦ inl (ap (λ x. x ∷ map cut ds) c ∙ ap (λ xs. d ∷ xs) e)
-      | inr h ↦ inr (large_rest d ds h.0, large_rest (cut d) (map cut ds) h.1)
+      | inr h ↦ inr (omega (arith, h.0, rest_small d ds), omega (arith, h.1, rest_small (cut d) (map cut ds)))
     ])
 
 abbrev the_refusal : Bool → Result (List ℕ) Refusal
@@ -75,8 +59,8 @@ the_refusal b = if b then Err too_many_dims else Err extent_too_large
 too_large : (ds : List ℕ) → 1048576 < extent ds → checked_dims ds ≡ (if nat_lt 16 (length ds) then Err too_many_dims else Err extent_too_large)
 too_large ds h = let t : nat_lt 1048576 (extent ds) ≡ true = grind (arith, nat_tests) in rw t refl
 
-checked_alike : (ds : List ℕ) → checked_dims (map cut ds) ≡ checked_dims ds
-checked_alike ds = elim (alike ds) [
+checked_alike : ExtentsAbove → (ds : List ℕ) → checked_dims (map cut ds) ≡ checked_dims ds
+checked_alike above ds = elim (alike above ds) [
   | inl e ↦ ap checked_dims e
   | inr h ↦ too_large (map cut ds) h.1 ∙ ap (λ n. the_refusal (nat_lt 16 n)) (length-map ds cut) ∙ sym (too_large ds h.0)
 ]
@@ -84,21 +68,21 @@ checked_alike ds = elim (alike ds) [
 abbrev dims_by : Option (List ℕ) → Result (List ℕ) Fault
 dims_by o = and_then (or_fault BadDimension o) (λ ds. or_named shape_fault (checked_dims ds))
 
-dims_alike : (ns : List ℤ) → dims_for ns ≡ dims_by (all_of clamped_size ns)
-dims_alike ns = by_sizes (all_of size ns) ∙ ap dims_by (sym (clamped_is ns))
+dims_alike : ExtentsAbove → (ns : List ℤ) → dims_for ns ≡ dims_by (all_of clamped_size ns)
+dims_alike above ns = by_sizes (all_of size ns) ∙ ap dims_by (sym (clamped_is ns))
   where
     by_sizes : (o : Option (List ℕ)) → dims_by o ≡ dims_by (option_map (map cut) o)
     by_sizes None = refl
-    by_sizes (Some ds) = ap (or_named shape_fault) (sym (checked_alike ds))
+    by_sizes (Some ds) = ap (or_named shape_fault) (sym (checked_alike above ds))
 
 abbrev checked_after : Result (List ℕ) Fault → Result (List ℕ) Fault
 checked_after x = and_then x (λ ds. or_named shape_fault (checked_dims ds))
 
 -- what the check of the cut sizes gives is what the sizes are as dimensions
-pub dims_found : (ns : List ℤ) (ds list : List ℕ) (r : Result (List ℕ) Refusal) → or_fault BadDimension (all_of clamped_size ns) ≡ Ok ds → list ≡ ds → r ≡ checked_dims list → dims_for ns ≡ or_named shape_fault r
-dims_found ns ds list r e same h = dims_alike ns ∙ ap checked_after e ∙ ap (λ l. or_named shape_fault (checked_dims l)) (sym same) ∙ ap (or_named shape_fault) (sym h)
+pub dims_found : ExtentsAbove → (ns : List ℤ) (ds list : List ℕ) (r : Result (List ℕ) Refusal) → or_fault BadDimension (all_of clamped_size ns) ≡ Ok ds → list ≡ ds → r ≡ checked_dims list → dims_for ns ≡ or_named shape_fault r
+dims_found above ns ds list r e same h = dims_alike above ns ∙ ap checked_after e ∙ ap (λ l. or_named shape_fault (checked_dims l)) (sym same) ∙ ap (or_named shape_fault) (sym h)
 
 -- a size below 0 is the fault
-pub dims_refused : (ns : List ℤ) (e : StepFault) → IsFault (or_fault BadDimension (all_of clamped_size ns)) e → IsFault (dims_for ns) e
-dims_refused ns (Script e) h = dims_alike ns ∙ ap checked_after h
-dims_refused ns NoMemory h = tt
+pub dims_refused : ExtentsAbove → (ns : List ℤ) (e : StepFault) → IsFault (or_fault BadDimension (all_of clamped_size ns)) e → IsFault (dims_for ns) e
+dims_refused above ns (Script e) h = dims_alike above ns ∙ ap checked_after h
+dims_refused above ns NoMemory h = tt

@@ -25,8 +25,7 @@ moved_front found y (Some ms) =
 -- before the first item
 pub front_none : {X Y : Type 0} (f : X → Option Y) (xs : List X) (found : List Y) → found ≡ [] → IsFront f xs 0 found
 front_none {X} {Y} f xs found e =
-    let P : List Y → Type 0 = λ l. all_of f xs ≡ option_map (λ ms. l ++ ms) (all_of f xs) in
-    subst P (sym e) (same_front (all_of f xs))
+    subst (λ (l : List Y). all_of f xs ≡ option_map (λ ms. l ++ ms) (all_of f xs)) (sym e) (same_front (all_of f xs))
 
 front_at : {X Y : Type 0} (f : X → Option Y) (xs : List X) (i : ℕ) (d : X) → i < length xs → all_of f (drop i xs) ≡ and_more (f (get_or xs i d)) (all_of f (drop (i + 1) xs))
 front_at f xs i d h = ap (all_of f) (drop_more xs i d h)
@@ -36,8 +35,7 @@ pub front_more : {X Y : Type 0} (f : X → Option Y) (xs : List X) (found more :
     → i < length xs → f (get_or xs i d) ≡ Some y → more ≡ found ++ y ∷ [] → IsFront f xs i found → IsFront f xs (i + 1) more
 front_more {X} {Y} f xs found more i d y h e e' front =
     let a : all_of f (drop i xs) ≡ and_more (Some y) (all_of f (drop (i + 1) xs)) = front_at f xs i d h ∙ ap (λ o. and_more o (all_of f (drop (i + 1) xs))) e in
-    let P : List Y → Type 0 = λ l. IsFront f xs (i + 1) l in
-    subst P (sym e') (front ∙ ap (option_map (λ ms. found ++ ms)) a ∙ moved_front found y (all_of f (drop (i + 1) xs)))
+    subst (λ (l : List Y). IsFront f xs (i + 1) l) (sym e') (front ∙ ap (option_map (λ ms. found ++ ms)) a ∙ moved_front found y (all_of f (drop (i + 1) xs)))
 
 -- an item that gives nothing
 pub front_stops : {X Y : Type 0} (f : X → Option Y) (xs : List X) (found : List Y) (i : ℕ) (d : X) → i < length xs → f (get_or xs i d) ≡ None → IsFront f xs i found → all_of f xs ≡ None

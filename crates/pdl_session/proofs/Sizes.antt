@@ -7,15 +7,15 @@ use Rattle.pdl_elem.specs.Types.{InRange}
 use Rattle.pdl_elem.specs.declared.Ty.TheVariants.{Long}
 use Rattle.pdl_shape.specs.Shape.{extent}
 
-abbrev ExtentsAbove : Type 0
+abbrev pub ExtentsAbove : Type 0
 ExtentsAbove = (ds : List ℕ) → 0 < extent ds
 
-first_small : ExtentsAbove → (d : ℕ) (ds : List ℕ) → d ≤ extent (d ∷ ds)
+pub first_small : ExtentsAbove → (d : ℕ) (ds : List ℕ) → d ≤ extent (d ∷ ds)
 first_small above d ds =
     let more : max d 1 * 1 ≤ max d 1 * extent ds = mul-le-mul {n₁ = max d 1} {m₁ = 1} {n₂ = max d 1} {m₂ = extent ds} (omega arith) (omega (arith, above ds)) in
     omega arith
 
-rest_small : (d : ℕ) (ds : List ℕ) → extent ds ≤ extent (d ∷ ds)
+pub rest_small : (d : ℕ) (ds : List ℕ) → extent ds ≤ extent (d ∷ ds)
 rest_small d ds =
     let more : 1 * extent ds ≤ max d 1 * extent ds = mul-le-mul {n₁ = 1} {m₁ = extent ds} {n₂ = max d 1} {m₂ = extent ds} (omega arith) (omega arith) in
     omega arith
@@ -40,12 +40,9 @@ small_long n small = search (rules, arith)
 -- small numbers are an array of type long
 pub numbers_made : (ns : List ℕ) (ds : List ℕ) (es : List ℤ) → ds ≡ length ns ∷ [] → es ≡ map pos ns → All (λ n. n ≤ 1048576) ns → IsMade Long ds es
 numbers_made ns ds es dims elems small =
-    let P : List ℕ → Type 0 = λ ds. IsMade Long ds es in
-    let Q : List ℤ → Type 0 = λ es. IsMade Long (length ns ∷ []) es in
-    let R : ℤ → Type 0 = λ z. InRange Long z in
-    subst P (sym dims) (subst Q (sym elems) (record {
+    subst (λ (ds : List ℕ). IsMade Long ds es) (sym dims) (subst (λ (es : List ℤ). IsMade Long (length ns ∷ []) es) (sym elems) (record {
       count = omega (arith, length-map ns pos);
       in_range = λ k d l.
           (let low : k < length ns = omega (arith, length-map ns pos) in
-          subst R (sym (get_or-map pos ns k 0 d low)) (small_long (get_or ns k 0) (small k 0 low)));
+          subst (λ (z : ℤ). InRange Long z) (sym (get_or-map pos ns k 0 d low)) (small_long (get_or ns k 0) (small k 0 low)));
     }))

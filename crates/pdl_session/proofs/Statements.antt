@@ -10,7 +10,7 @@ use Rattle.pdl_machine.specs.Names.{Names, bind}
 use Rattle.pdl_machine.specs.Arrays.{Arrays}
 use Rattle.pdl_machine.specs.Then.{and_then}
 use Rattle.pdl_machine.specs.State.{State, with_arrays, IsWhole}
-use Rattle.pdl_machine.specs.Outcome.{Given as Argument, Seen, Valued, all_seen}
+use Rattle.pdl_machine.specs.Outcome.{Given as Argument, Seen, Valued}
 use Rattle.pdl_machine.specs.Calls.{Callee, builtin, kernel, callee_of, value_by, call_value}
 use Rattle.pdl_machine.specs.Value.{value_of, taken}
 use Rattle.pdl_machine.specs.Tidy.{tidy}
@@ -22,8 +22,8 @@ use Rattle.pdl_session.specs.declared.given.Given.{Given}
 use Rattle.pdl_session.specs.Arguments.{arguments, all_seen_of}
 use Rattle.pdl_session.specs.Calls.{several}
 use Rattle.pdl_scope.specs.Scope.{Grows}
-use Rattle.pdl_scope.specs.Answers.{IsFault, IfScript, Prints, IsKept, Runs}
-use Rattle.pdl_session.proofs.Facts.{first_fault, grows_refl, grows_trans, state_is, kept_at}
+use Rattle.pdl_scope.specs.Answers.{IsFault, IfScript, Prints, Runs}
+use Rattle.pdl_session.proofs.Facts.{first_fault, grows_trans, state_is}
 
 -- a statement that goes on from where new arrays came
 pub runs_from : {T : Type 0} (r : Result T StepFault) (x y : Stepped) (old mid new : State) (o n : List ℕ) → y ≡ x → Grows old mid → Runs x mid new o n r → Runs y old new o n r
@@ -51,26 +51,28 @@ pub runs_output : {T : Type 0} (r : Result T StepFault) (old mid new : State) (x
 runs_output r old mid new [] x f given id one first output g h = absurd (omega arith)
 runs_output r old mid new (y ∷ z ∷ xs) x f given id one first output g h = absurd (omega arith)
 runs_output r old mid new (y ∷ []) x f given id one first output g h =
-    let P : Stepped → Type 0 = λ s. Runs s old new [] [] r in
     let e : list_bound old (y ∷ []) f (old.arrays, given) ≡ bound old x (call_value old.names f old.arrays given) =
     ap (λ n. list_bound old (n ∷ []) f (old.arrays, given)) (sym first) ∙ one_output old x f (old.arrays, given) in
-    subst P (sym e) (runs_bound r old mid new x (call_value old.names f old.arrays given) id output g h)
+    subst (λ (s : Stepped). Runs s old new [] [] r) (sym e) (runs_bound r old mid new x (call_value old.names f old.arrays given) id output g h)
 
-pub output_refused : (old new : State) (xs : List (List ℕ)) (f : List ℕ) (given : List Argument) (e : StepFault) → length xs ≡ 1 → IsFault (call_value old.names f old.arrays given) e → Grows old new
-    → IsFault (list_bound old xs f (old.arrays, given)) e × IfScript e (IsKept old new [] [])
-output_refused old new [] f given e one h g = absurd (omega arith)
-output_refused old new (x ∷ y ∷ xs) f given e one h g = absurd (omega arith)
-output_refused old new (x ∷ []) f given e one h g =
-    let P : Stepped → Type 0 = λ s. IsFault s e in
-    (subst P (sym (one_output old x f (old.arrays, given))) (first_fault (call_value old.names f old.arrays given) (bind_value old x) e h), kept_at e old new [] g)
+pub output_refused : (old : State) (xs : List (List ℕ)) (f : List ℕ) (given : List Argument) (e : StepFault) → length xs ≡ 1 → IsFault (call_value old.names f old.arrays given) e
+    → IsFault (list_bound old xs f (old.arrays, given)) e
+output_refused old [] f given e one h = absurd (omega arith)
+output_refused old (x ∷ y ∷ xs) f given e one h = absurd (omega arith)
+output_refused old (x ∷ []) f given e one h =
+    subst (λ s. IsFault s e) (sym (one_output old x f (old.arrays, given))) (first_fault (call_value old.names f old.arrays given) (bind_value old x) e h)
+
+-- the outputs that a name stands for
+abbrev outputs_for : State → List (List ℕ) → List ℕ → List Seen → Result (List Made) Fault
+outputs_for s xs f seen = and_then (callee_of s.names f) (several (length xs) seen)
 
 -- the outputs of a call, bound to names that aren't one
-several_outputs : (s : State) (xs : List (List ℕ)) (f : List ℕ) (t : Arrays × List Argument) → length xs ≢ 1
-    → list_bound s xs f t ≡ and_then (and_then (callee_of s.names f) (several (length xs) (all_seen t.0 t.1))) (roots_bound (with_arrays s t.0) xs)
-several_outputs s xs f t many = by_callee (callee_of s.names f) xs many
+several_is : (s : State) (xs : List (List ℕ)) (f : List ℕ) (given : List Given) → length xs ≢ 1
+    → list_bound s xs f (s.arrays, arguments given) ≡ and_then (outputs_for s xs f (all_seen_of s.arrays given)) (roots_bound s xs)
+several_is s xs f given many = by_callee (callee_of s.names f) xs many
   where
     by_callee : (c : Result Callee Fault) (xs : List (List ℕ)) → length xs ≢ 1
-        → and_then c (outputs_bound s xs t) ≡ and_then (and_then c (several (length xs) (all_seen t.0 t.1))) (roots_bound (with_arrays s t.0) xs)
+        → and_then c (outputs_bound s xs (s.arrays, arguments given)) ≡ and_then (and_then c (several (length xs) (all_seen_of s.arrays given))) (roots_bound s xs)
     by_callee (Err e) xs many = refl
     by_callee (Ok c) (x ∷ []) many = absurd (many refl)
     by_callee (Ok (builtin b)) [] many = refl
@@ -78,33 +80,17 @@ several_outputs s xs f t many = by_callee (callee_of s.names f) xs many
     by_callee (Ok (kernel k)) [] many = refl
     by_callee (Ok (kernel k)) (x ∷ y ∷ xs) many = refl
 
--- the outputs that a name stands for
-abbrev outputs_for : State → List (List ℕ) → List ℕ → List Seen → Result (List Made) Fault
-outputs_for s xs f seen = and_then (callee_of s.names f) (several (length xs) seen)
-
-several_is : (s : State) (xs : List (List ℕ)) (f : List ℕ) (given : List Given) → length xs ≢ 1
-    → list_bound s xs f (s.arrays, arguments given) ≡ and_then (outputs_for s xs f (all_seen_of s.arrays given)) (roots_bound s xs)
-several_is s xs f given many = several_outputs s xs f (s.arrays, arguments given) many
-
 pub runs_several : {T : Type 0} (r : Result T StepFault) (old mid new : State) (xs : List (List ℕ)) (f : List ℕ) (given : List Given) (wanted : ℕ) (ms : List Made) → length xs ≢ 1 → wanted ≡ length xs
     → and_then (callee_of old.names f) (several wanted (all_seen_of old.arrays given)) ≡ Ok ms → mid ≡ old → Runs (roots_bound mid xs ms) mid new [] [] r
     → Runs (list_bound old xs f (old.arrays, arguments given)) old new [] [] r
 runs_several r old mid new xs f given wanted ms many count output same h =
-    let P : Stepped → Type 0 = λ y. Runs y old new [] [] r in
-    let Q : State → Type 0 = λ s. Runs (roots_bound s xs ms) s new [] [] r in
     let all : outputs_for old xs f (all_seen_of old.arrays given) ≡ Ok ms = ap (λ n. and_then (callee_of old.names f) (several n (all_seen_of old.arrays given))) (sym count) ∙ output in
-    subst P (sym (several_is old xs f given many ∙ ap (λ o. and_then o (roots_bound old xs)) all)) (subst Q same h)
+    subst (λ (y : Stepped). Runs y old new [] [] r) (sym (several_is old xs f given many ∙ ap (λ o. and_then o (roots_bound old xs)) all)) (subst (λ (s : State). Runs (roots_bound s xs ms) s new [] [] r) same h)
 
-pub several_refused : (old new : State) (xs : List (List ℕ)) (f : List ℕ) (given : List Given) (wanted : ℕ) (e : StepFault) → length xs ≢ 1 → wanted ≡ length xs
-    → IsFault (and_then (callee_of old.names f) (several wanted (all_seen_of old.arrays given))) e → new ≡ old
-    → IsFault (list_bound old xs f (old.arrays, arguments given)) e × IfScript e (IsKept old new [] [])
-several_refused old new xs f given wanted e many count h same =
-    let P : Stepped → Type 0 = λ y. IsFault y e in
-    let W : ℕ → Type 0 = λ n. IsFault (and_then (callee_of old.names f) (several n (all_seen_of old.arrays given))) e in
-    let G : State → Type 0 = λ s. Grows old s in (
-      subst P (sym (several_is old xs f given many)) (first_fault (outputs_for old xs f (all_seen_of old.arrays given)) (roots_bound old xs) e (subst W count h)),
-      kept_at e old new [] (subst G (sym same) (grows_refl old)),
-    )
+pub several_refused : (old : State) (xs : List (List ℕ)) (f : List ℕ) (given : List Given) (wanted : ℕ) (e : StepFault) → length xs ≢ 1 → wanted ≡ length xs
+    → IsFault (and_then (callee_of old.names f) (several wanted (all_seen_of old.arrays given))) e → IsFault (list_bound old xs f (old.arrays, arguments given)) e
+several_refused old xs f given wanted e many count h =
+    subst (λ y. IsFault y e) (sym (several_is old xs f given many)) (first_fault (outputs_for old xs f (all_seen_of old.arrays given)) (roots_bound old xs) e (subst (λ (n : ℕ). IsFault (and_then (callee_of old.names f) (several n (all_seen_of old.arrays given))) e) count h))
 
 list_same : (s : State) (a : Arrays) (xs : List (List ℕ)) (f : List ℕ) (t : Arrays × List Argument) → list_bound (with_arrays s a) xs f t ≡ list_bound s xs f t
 list_same s a xs f t = by_call (callee_of s.names f) xs
@@ -128,11 +114,9 @@ runs_list r old mid new xs tree f args given items is taken_so same g h =
     ap (λ s. list_bound s xs f (mid.arrays, items)) (state_is old mid g) ∙ list_same old mid.arrays xs f (mid.arrays, items) in
     runs_from r (list_bound mid xs f (mid.arrays, items)) (effect old (bind_list xs tree)) old mid new [] [] (a ∙ sym b) g h
 
-pub list_refused : (old new : State) (xs : List (List ℕ)) (tree : Tree) (f : List ℕ) (args : Args) (e : StepFault) → tree ≡ call f args → IsFault (taken old.names old.arrays args) e → Grows old new
-    → IsFault (effect old (bind_list xs tree)) e × IfScript e (IsKept old new [] [])
-list_refused old new xs tree f args e is h g =
-    let P : Tree → Type 0 = λ x. IsFault (effect old (bind_list xs x)) e in
-    (subst P (sym is) (first_fault (taken old.names old.arrays args) (list_bound old xs f) e h), kept_at e old new [] g)
+pub list_refused : (old : State) (xs : List (List ℕ)) (tree : Tree) (f : List ℕ) (args : Args) (e : StepFault) → tree ≡ call f args → IsFault (taken old.names old.arrays args) e
+    → IsFault (effect old (bind_list xs tree)) e
+list_refused old xs tree f args e is h = subst (λ x. IsFault (effect old (bind_list xs x)) e) (sym is) (first_fault (taken old.names old.arrays args) (list_bound old xs f) e h)
 
 -- an assignment, after its target and its right side came
 pub runs_assigned : {T : Type 0} (r : Result T StepFault) (old mid late new : State) (to e : Tree) (sign : AssignOp) (v u : ℕ) → value_of old.names old.arrays to ≡ Ok (mid.arrays, v) → value_of mid.names mid.arrays e ≡ Ok (late.arrays, u)
@@ -146,15 +130,11 @@ runs_assigned r old mid late new to e sign v u target_is value_is g h ran =
     ap from_target target_is ∙ ap from_value (ap value (sym g.names) ∙ value_is) ∙ ap written (sym (h.names ∙ g.names)) in
     runs_from r (and_then (assigned sign late.arrays v u) (λ a. Ok (with_arrays late a, []))) (assigning old to sign e) old late new [] [] is (grows_trans old mid late g h) ran
 
-pub assigned_refused : (old mid new : State) (to e : Tree) (sign : AssignOp) (v : ℕ) (f : StepFault) → value_of old.names old.arrays to ≡ Ok (mid.arrays, v) → IsFault (value_of mid.names mid.arrays e) f → Grows old mid → Grows mid new
-    → IsFault (assigning old to sign e) f × IfScript f (IsKept old new [] [])
-assigned_refused old mid new to e sign v f target_is refused g h =
+pub assigned_refused : (old mid : State) (to e : Tree) (sign : AssignOp) (v : ℕ) (f : StepFault) → value_of old.names old.arrays to ≡ Ok (mid.arrays, v) → IsFault (value_of mid.names mid.arrays e) f → Grows old mid
+    → IsFault (assigning old to sign e) f
+assigned_refused old mid to e sign v f target_is refused g =
     let from_target : Valued → Stepped = λ x. and_then x (λ w. and_then (value_of old.names w.0 e) (λ u. and_then (assigned sign u.0 w.1 u.1) (λ a. Ok (with_arrays old a, [])))) in
-    let P : Stepped → Type 0 = λ x. IsFault x f in
-    let Q : Names → Type 0 = λ names. IsFault (value_of names mid.arrays e) f in (
-      subst P (sym (ap from_target target_is)) (first_fault (value_of old.names mid.arrays e) (λ u. and_then (assigned sign u.0 v u.1) (λ a. Ok (with_arrays old a, []))) f (subst Q g.names refused)),
-      kept_at f old new [] (grows_trans old mid new g h),
-    )
+    subst (λ x. IsFault x f) (sym (ap from_target target_is)) (first_fault (value_of old.names mid.arrays e) (λ u. and_then (assigned sign u.0 v u.1) (λ a. Ok (with_arrays old a, []))) f (subst (λ (names : Names). IsFault (value_of names mid.arrays e) f) g.names refused))
 
 -- what a session is seen as stays after a script's fault
 pub kept_seen : {T : Type 0} (r : Result T StepFault) (x : Stepped) (old new left seen : State) (o n : List ℕ) → NewArraysUnseen → IsWhole old → IsWhole new → tidy left ≡ tidy new → tidy old ≡ seen → Runs x old new o n r

@@ -11,7 +11,7 @@ use crate::given::Given;
 use pdl_buf::Steps;
 use pdl_machine::Fault;
 use pdl_scope::{Scope, StepFault};
-use pdl_shape::{Dims, ShapeFault, dims_of};
+use pdl_shape::{Dims, ShapeFault, dims_of, shape_laws};
 use std::alloc::{AllocError, Global};
 use std::sync::ledger::Ledger;
 
@@ -56,6 +56,7 @@ pub fn numbers_in<L: Ledger>(
 pub fn dims_for(alloc: Global, numbers: &[i64]) -> Result<Dims, StepFault>
     ensures { Answers (dims_for numbers.now) result }
 {
+    shape_laws();
     let sizes = match clamped(alloc, numbers) {
         Ok(sizes) => sizes,
         Err(fault) => return Err(fault),

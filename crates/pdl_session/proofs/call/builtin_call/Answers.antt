@@ -15,16 +15,14 @@ pub returns-in-Ok-New-clause-value : goal.returns-in-Ok-New-clause-value
 unfolding placed
 returns-in-Ok-New-clause-value g c =
     let m = c.in-Ok-New.made in
-    let Q : State → Type 0 = λ s. Evaluates (new_root s.arrays m) c.make.new.self c.make.result in
     evaluates c.args.builtin c.args.scope.now.arrays c.args.given.now (made m) c.make.new.self c.make.result (c.in-Ok-New.ensures.value ∙ ap placed c.in-Ok-New.field-0-is)
-    (subst Q c.outcome.ensures.same c.make.ensures.value)
+    (subst (λ (s : State). Evaluates (new_root s.arrays m) c.make.new.self c.make.result) c.outcome.ensures.same c.make.ensures.value)
 
 pub returns-in-Ok-View-clause-value : goal.returns-in-Ok-View-clause-value
 unfolding placed
 returns-in-Ok-View-clause-value g c =
-    let Q : State → Type 0 = λ s. Evaluates (view_placed s.arrays (arguments c.args.given.now) c.in-Ok-View.trans) c.view_first.new.scope c.view_first.result in
     evaluates c.args.builtin c.args.scope.now.arrays c.args.given.now (viewed c.in-Ok-View.trans) c.view_first.new.scope c.view_first.result (c.in-Ok-View.ensures.value ∙ ap placed c.in-Ok-View.field-0-is)
-    (subst Q c.outcome.ensures.same c.view_first.ensures.value)
+    (subst (λ (s : State). Evaluates (view_placed s.arrays (arguments c.args.given.now) c.in-Ok-View.trans) c.view_first.new.scope c.view_first.result) c.outcome.ensures.same c.view_first.ensures.value)
 
 pub returns-in-Err-clause-value : goal.returns-in-Err-clause-value
 returns-in-Err-clause-value g c = call_fault c.args.builtin c.args.scope.now.arrays c.args.given.now c.in-Err.fault c.in-Err.ensures.value

@@ -1,15 +1,14 @@
-use Rattle.std.proofs.Common.{◌≡◌, ℕ, None, Result, sym, ap, subst, ◌∙◌}
+use Rattle.std.proofs.Common.{◌≡◌, None, sym, ap, subst, ◌∙◌}
 use Rattle.pdl_machine.specs.Builtin.{builtin_of}
 use Rattle.pdl_machine.specs.Calls.{only_root, call_value}
 use Rattle.pdl_machine.specs.Outcome.{Valued}
 use Rattle.pdl_machine.specs.State.{State}
 use Rattle.pdl_machine.specs.Then.{and_then}
-use Rattle.pdl_scope.specs.declared.fault.StepFault.{StepFault}
 use Rattle.pdl_scope.specs.Answers.{IsFault, Evaluates}
 use Rattle.pdl_session.specs.Arguments.{arguments, all_seen_of}
 use Rattle.pdl_session.specs.Calls.{outputs_of}
 use Rattle.pdl_session.proofs.Callees.{kernel_called}
-use Rattle.pdl_session.proofs.Facts.{is_fault, first_fault}
+use Rattle.pdl_session.proofs.Facts.{hands_on, first_fault}
 use Rattle.pdl_session.proofs.call.call.Goals as goal
 
 pub returns-in_err-outputs-in-None-clause-value : goal.returns-in_err-outputs-in-None-clause-value
@@ -19,10 +18,8 @@ returns-in_err-outputs-in-None-clause-value g c =
     let a = c.args.scope.now.arrays in
     let fault = c.in_err-outputs-in-None.field-0.0 in
     let none : builtin_of f ≡ None = ap builtin_of (sym c.bytes.ensures) ∙ sym c.builtin_named.ensures ∙ c.in-None.is in
-    let P : Valued → Type 0 = λ v. IsFault v fault in
-    let R : Result ℕ StepFault → Type 0 = Evaluates (call_value names f a (arguments c.args.given.now)) c.kernel_outputs.new.scope in
-    subst R (sym (is_fault c.from_residual.result fault c.from_residual.ensures.1))
-    (subst P (sym (kernel_called names f a c.args.given.now none)) (first_fault (outputs_of names f 1 (all_seen_of a c.args.given.now)) (only_root a) fault c.in_err-outputs-in-None.ensures.value))
+    hands_on _ c.kernel_outputs.new.scope fault c.from_residual.result c.from_residual.ensures.1
+    (subst (λ (v : Valued). IsFault v fault) (sym (kernel_called names f a c.args.given.now none)) (first_fault (outputs_of names f 1 (all_seen_of a c.args.given.now)) (only_root a) fault c.in_err-outputs-in-None.ensures.value))
 
 pub returns-in_ok-outputs-in-None-clause-value : goal.returns-in_ok-outputs-in-None-clause-value
 returns-in_ok-outputs-in-None-clause-value g c =
@@ -31,8 +28,7 @@ returns-in_ok-outputs-in-None-clause-value g c =
     let a = c.args.scope.now.arrays in
     let ms = c.deref.result.now in
     let none : builtin_of f ≡ None = ap builtin_of (sym c.bytes.ensures) ∙ sym c.builtin_named.ensures ∙ c.in-None.is in
-    let P : Valued → Type 0 = λ v. Evaluates v c.only_root.new.scope c.only_root.result in
     let is : call_value names f a (arguments c.args.given.now) ≡ only_root c.kernel_outputs.new.scope.arrays ms =
     kernel_called names f a c.args.given.now none ∙ ap (λ o. and_then o (only_root a)) c.in_ok-outputs-in-None.ensures.value ∙ ap (only_root a) (sym c.deref.ensures.value)
     ∙ ap (λ (s : State). only_root s.arrays ms) (sym c.kernel_outputs.ensures.same) in
-    subst P (sym is) c.only_root.ensures.value
+    subst (λ (v : Valued). Evaluates v c.only_root.new.scope c.only_root.result) (sym is) c.only_root.ensures.value

@@ -7,5 +7,4 @@ use Rattle.pdl_session.proofs.call.outcome.Goals as goal
 
 pub returns-in-Slice-clause-value : goal.returns-in-Slice-clause-value
 returns-in-Slice-clause-value g c =
-    let P : Builtin → Type 0 = λ b. AnswersAs outcome_of (outcome b (all_seen_of c.args.scope.now.arrays c.args.given.now)) c.slice.result in
-    subst P (sym c.in-Slice.is) (c.slice.ensures.value c.args.scope.now.arrays)
+    subst (λ (b : Builtin). AnswersAs outcome_of (outcome b (all_seen_of c.args.scope.now.arrays c.args.given.now)) c.slice.result) (sym c.in-Slice.is) (c.slice.ensures.value c.args.scope.now.arrays)

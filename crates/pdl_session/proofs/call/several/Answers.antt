@@ -9,6 +9,5 @@ use Rattle.pdl_session.proofs.call.several.Goals as goal
 
 pub returns-in-None-clause-value : goal.returns-in-None-clause-value
 returns-in-None-clause-value g c =
-    let P : Result (List Made) Fault → Type 0 = λ o. AnswersAs (λ ms. ms.items) o c.kernel_outputs.result in
     let seen = all_seen_of c.args.scope.now.arrays c.args.given.now in
-    subst P (sym (kernel_several c.args.scope.now.names c.args.name.now c.args.wanted seen (ap builtin_of (sym c.bytes.ensures) ∙ sym c.builtin_named.ensures ∙ c.in-None.is))) c.kernel_outputs.ensures.value
+    subst (λ (o : Result (List Made) Fault). AnswersAs (λ ms. ms.items) o c.kernel_outputs.result) (sym (kernel_several c.args.scope.now.names c.args.name.now c.args.wanted seen (ap builtin_of (sym c.bytes.ensures) ∙ sym c.builtin_named.ensures ∙ c.in-None.is))) c.kernel_outputs.ensures.value

@@ -1,4 +1,4 @@
-use Rattle.std.proofs.Common.{rules, ◌≡◌, [], ◌∷◌, ◌++◌, ℕ, ◌+◌, ◌<◌, ◌≤◌, List, Result, Ok, length, sym, ap, subst, ◌∙◌, arith, take}
+use Rattle.std.proofs.Common.{rules, ◌≡◌, [], ◌∷◌, ◌++◌, ◌+◌, ◌<◌, ◌≤◌, List, Ok, length, sym, ap, subst, ◌∙◌, arith, take}
 use Rattle.pdl_syntax.specs.declared.tree.Arg.{Arg}
 use Rattle.pdl_syntax.specs.Tree.{Tree, none, call}
 use Rattle.pdl_syntax.specs.TreeOf.{tree_of, args_of, argument_of}
@@ -8,10 +8,9 @@ use Rattle.pdl_machine.specs.Outcome.{Valued}
 use Rattle.pdl_machine.specs.Calls.{call_value}
 use Rattle.pdl_machine.specs.Value.{value_of, taken}
 use Rattle.pdl_session.specs.declared.given.Given.{Given}
-use Rattle.pdl_scope.specs.declared.fault.StepFault.{StepFault}
 use Rattle.pdl_scope.specs.Answers.{IsFault, Evaluates}
 use Rattle.pdl_session.specs.Arguments.{argument, arguments, AreGivenLive}
-use Rattle.pdl_session.proofs.Facts.{is_fault, handed_on, first_fault, grows_trans}
+use Rattle.pdl_session.proofs.Facts.{hands_on, handed_on, first_fault, grows_trans}
 use Rattle.pdl_session.proofs.Evals.{fault_at, arrays_at, weight, weights, weights_at, tree_is, with_given, call_is, arguments_snoc, live_snoc, given_still, args_more}
 use Rattle.pdl_session.proofs.eval.+eval.Goals as goal
 
@@ -34,8 +33,7 @@ eval-returns-in_ok-given-in-Call-clause-value g t c =
     let v : value_of names a (tree_of c.args.value.now) ≡ call_value c.take.new.scope.names c.in-Call.name c.take.new.scope.arrays (arguments c.deref-in-Call-2.result.now) =
     ap (value_of names a) e
     ∙ call_is names c.take.new.scope.names a c.take.new.scope.arrays c.in-Call.name (args_of xs none) (arguments c.in_ok-given-in-Call.given.items) (arguments c.deref-in-Call-2.result.now) all (ap arguments c.deref-in-Call-2.ensures.value) c.take.ensures.grown.names in
-    let P : Valued → Type 0 = λ x. Evaluates x c.call.new.scope c.call.result in
-    subst P (sym v) c.call.ensures.value
+    subst (λ (x : Valued). Evaluates x c.call.new.scope c.call.result) (sym v) c.call.ensures.value
 
 pub eval-returns-in_err-given-in-Call-clause-value : goal.eval-returns-in_err-given-in-Call-clause-value
 eval-returns-in_err-given-in-Call-clause-value g t c =
@@ -45,28 +43,22 @@ eval-returns-in_err-given-in-Call-clause-value g t c =
     let f = c.in_err-given-in-Call.field-0.0 in
     let e : tree_of c.args.value.now ≡ call c.in-Call.name (args_of xs none) = tree_is c.args.value.now c.in-Call.name c.in-Call.args xs (c.calls_are_trees.ensures c.in-Call.name c.in-Call.args) c.in-Call.is c.deref-in-Call.ensures.value in
     let all : IsFault (taken names a (args_of xs none)) f = c.in_err-given-in-Call.ensures.value a none (ap (λ gs. with_given a (arguments gs)) (sym c.new-none.ensures.items)) in
-    let P : Tree → Type 0 = λ x. IsFault (value_of names a x) f in
-    let h : IsFault (value_of names a (tree_of c.args.value.now)) f = subst P (sym e) (first_fault (taken names a (args_of xs none)) (λ x. call_value names c.in-Call.name x.0 x.1) f all) in
-    let R : Result ℕ StepFault → Type 0 = Evaluates (value_of names a (tree_of c.args.value.now)) c.take.new.scope in
-    subst R (sym (is_fault c.from_residual-in_err-given-in-Call.result f c.from_residual-in_err-given-in-Call.ensures.1)) h
+    let h : IsFault (value_of names a (tree_of c.args.value.now)) f = subst (λ (x : Tree). IsFault (value_of names a x) f) (sym e) (first_fault (taken names a (args_of xs none)) (λ x. call_value names c.in-Call.name x.0 x.1) f all) in
+    hands_on _ c.take.new.scope f c.from_residual-in_err-given-in-Call.result c.from_residual-in_err-given-in-Call.ensures.1 h
 
 pub take-take_one-requires : goal.take-take_one-requires
 take-take_one-requires g t c =
     let lt : c.loop-arg.arg-index < length c.args.args.now = omega arith in
-    let P : Arg → Type 0 = λ a. AreArgArrays (argument_of a none) in
-    let Q : Arg → Type 0 = λ a. weights (argument_of a none) ≤ weights (args_of c.args.args.now none) in
-    let w : weights (argument_of c.arg-item.result none) ≤ weights (args_of c.args.args.now none) = subst Q (sym c.arg-item.is) (weights_at c.args.args.now none c.loop-arg.arg-index c.arg-item.result lt) in
-    λ κs within. (search (rules, w), (within, subst P (sym c.arg-item.is) (arrays_at c.args.args.now none c.loop-arg.arg-index c.arg-item.result lt c.requires.made)))
+    let w : weights (argument_of c.arg-item.result none) ≤ weights (args_of c.args.args.now none) = subst (λ (a : Arg). weights (argument_of a none) ≤ weights (args_of c.args.args.now none)) (sym c.arg-item.is) (weights_at c.args.args.now none c.loop-arg.arg-index c.arg-item.result lt) in
+    λ κs within. (search (rules, w), (within, subst (λ (a : Arg). AreArgArrays (argument_of a none)) (sym c.arg-item.is) (arrays_at c.args.args.now none c.loop-arg.arg-index c.arg-item.result lt c.requires.made)))
 
 pub take-returns-in_err-one-clause-value : goal.take-returns-in_err-one-clause-value
 take-returns-in_err-one-clause-value g t c = λ a front before.
     let names = c.args.scope.now.names in
     let so_far = args_of (take c.loop-arg.arg-index c.args.args.now) front in
     let f = c.in_err-one.field-0.0 in
-    let P : Names → Type 0 = λ n. taken n a so_far ≡ Ok (c.loop-arg.scope.arrays, arguments c.loop-arg.given.items) in
-    let Q : Names → Type 0 = λ n. IsFault (taken n a (argument_of c.arg-item.result so_far)) f in
-    let here : IsFault (taken names a (argument_of c.arg-item.result so_far)) f = subst Q c.loop-arg.invariant.grown.names
-    (c.in_err-one.ensures.value a so_far (arguments c.loop-arg.given.items) (subst P (sym c.loop-arg.invariant.grown.names) (c.loop-arg.invariant.so_far a front before))) in
+    let here : IsFault (taken names a (argument_of c.arg-item.result so_far)) f = subst (λ (n : Names). IsFault (taken n a (argument_of c.arg-item.result so_far)) f) c.loop-arg.invariant.grown.names
+    (c.in_err-one.ensures.value a so_far (arguments c.loop-arg.given.items) (subst (λ (n : Names). taken n a so_far ≡ Ok (c.loop-arg.scope.arrays, arguments c.loop-arg.given.items)) (sym c.loop-arg.invariant.grown.names) (c.loop-arg.invariant.so_far a front before))) in
     handed_on _ _ f c.from_residual.result c.from_residual.ensures.1 (fault_at names a c.args.args.now front c.loop-arg.arg-index c.arg-item.result f (omega arith) c.arg-item.is here)
 
 pub take-loop-arg-preserved : goal.take-loop-arg-preserved
@@ -77,10 +69,8 @@ take-loop-arg-preserved g t c =
     record {
       so_far = λ a front before.
           let so_far = args_of (take c.loop-arg.arg-index c.args.args.now) front in
-          let P : Names → Type 0 = λ n. taken n a so_far ≡ Ok (c.loop-arg.scope.arrays, arguments c.loop-arg.given.items) in
-          let Q : Names → Type 0 = λ n. taken n a (argument_of c.arg-item.result so_far) ≡ Ok (c.take_one.new.scope.arrays, arguments c.loop-arg.given.items ++ argument c.in_ok-one.one ∷ []) in
-          let here : taken names a (argument_of c.arg-item.result so_far) ≡ Ok (c.take_one.new.scope.arrays, arguments c.loop-arg.given.items ++ argument c.in_ok-one.one ∷ []) = subst Q c.loop-arg.invariant.grown.names
-          (c.in_ok-one.ensures.value a so_far (arguments c.loop-arg.given.items) (subst P (sym c.loop-arg.invariant.grown.names) (c.loop-arg.invariant.so_far a front before))) in
+          let here : taken names a (argument_of c.arg-item.result so_far) ≡ Ok (c.take_one.new.scope.arrays, arguments c.loop-arg.given.items ++ argument c.in_ok-one.one ∷ []) = subst (λ (n : Names). taken n a (argument_of c.arg-item.result so_far) ≡ Ok (c.take_one.new.scope.arrays, arguments c.loop-arg.given.items ++ argument c.in_ok-one.one ∷ [])) c.loop-arg.invariant.grown.names
+          (c.in_ok-one.ensures.value a so_far (arguments c.loop-arg.given.items) (subst (λ (n : Names). taken n a so_far ≡ Ok (c.loop-arg.scope.arrays, arguments c.loop-arg.given.items)) (sym c.loop-arg.invariant.grown.names) (c.loop-arg.invariant.so_far a front before))) in
           ap (taken names a) (args_more c.args.args.now front c.loop-arg.arg-index c.arg-item.result lt c.arg-item.is) ∙ here
           ∙ ap (with_given c.take_one.new.scope.arrays) (sym (ap arguments items ∙ arguments_snoc c.loop-arg.given.items c.in_ok-one.one));
       grown = grows_trans c.args.scope.now c.loop-arg.scope c.take_one.new.scope c.loop-arg.invariant.grown c.take_one.ensures.grown;

@@ -6,8 +6,7 @@ use Rattle.pdl_session.proofs.inquiry.told.Goals as goal
 
 pub long_numbers-requires-clause-small : goal.long_numbers-requires-clause-small
 long_numbers-requires-clause-small g c =
-    let P : List ℕ → Type 0 = λ ds. All (λ n. n ≤ 1048576) ds in
-    subst P (sym c.dims_list-in-Shape.ensures.list)
+    subst (λ (ds : List ℕ). All (λ n. n ≤ 1048576) ds) (sym c.dims_list-in-Shape.ensures.list)
     (sizes_small c.shape_laws.ensures.sizes.extent_above c.dims-in-Shape.result.now 1048576 c.dims-in-Shape.ensures.limits.within)
 
 pub long_numbers-requires-in-Which-clause-few : goal.long_numbers-requires-in-Which-clause-few
@@ -20,6 +19,5 @@ pub long_numbers-requires-in-Which-clause-small : goal.long_numbers-requires-in-
 long_numbers-requires-in-Which-clause-small g c =
     let count = size_of (dims_in c.args.scope.now.arrays.world c.args.id) in
     let n : c.elements_of-count.result ≡ count = c.elements_of-count.ensures.count ∙ ap size_of c.dims.ensures.now in
-    let P : List ℕ → Type 0 = λ ps. All (λ p. p ≤ 1048576) ps in
-    subst P (sym c.as_slice.ensures)
+    subst (λ (ps : List ℕ). All (λ p. p ≤ 1048576) ps) (sym c.as_slice.ensures)
     (below_small c.in_ok-places-in-Which.places count 1048576 (omega (arith, n, c.elements_of-count.ensures.bound)) c.in_ok-places-in-Which.ensures.below)

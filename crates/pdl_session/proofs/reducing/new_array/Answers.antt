@@ -8,5 +8,4 @@ use Rattle.pdl_session.proofs.reducing.new_array.Goals as goal
 
 pub returns-in-Err-clause-value : goal.returns-in-Err-clause-value
 returns-in-Err-clause-value c = λ wanted h.
-    let P : Result Made StepFault → Type 0 = λ r. Answers wanted r in
-    first_fault wanted (λ m. Ok (made m)) c.in-Err.fault (subst P c.in-Err.is h)
+    first_fault wanted (λ m. Ok (made m)) c.in-Err.fault (subst (λ (r : Result Made StepFault). Answers wanted r) c.in-Err.is h)

@@ -1,17 +1,11 @@
-use Rattle.std.proofs.Common.{Result, sym, ap, subst, ◌∙◌}
 use Rattle.pdl_reduce.specs.Pairings.{paired}
-use Rattle.pdl_machine.specs.declared.fault.Fault.{Fault}
 use Rattle.pdl_machine.specs.Arrays.{array_in}
-use Rattle.pdl_machine.specs.Outcome.{Outcome as Placed}
 use Rattle.pdl_machine.specs.Refused.{reduce_fault, or_named}
-use Rattle.pdl_scope.specs.Answers.{AnswersAs}
-use Rattle.pdl_session.specs.Arguments.{outcome_of}
-use Rattle.pdl_session.proofs.Reduced.{by_two, two_is}
+use Rattle.pdl_session.proofs.Reduced.{two_given}
 use Rattle.pdl_session.proofs.reducing.paired.Goals as goal
 
 pub returns-in-Some-clause-value : goal.returns-in-Some-clause-value
 returns-in-Some-clause-value g c =
-    let f = paired c.args.kind in
+    let kind = c.args.kind in
     let a = c.args.scope.now.arrays in
-    let P : Result Placed Fault → Type 0 = λ x. AnswersAs outcome_of x c.new_array.result in
-    subst P (sym (two_is f a c.args.given.now ∙ ap (by_two f a) (sym c.in-Some.ensures.shape))) (c.new_array.ensures.value (or_named reduce_fault (f (array_in a c.in-Some.left) (array_in a c.in-Some.right))) c.paired.ensures.value)
+    two_given (paired kind) a c.args.given.now (c.in-Some.left, c.in-Some.right) c.new_array.result c.in-Some.ensures.shape (c.new_array.ensures.value (or_named reduce_fault (paired kind (array_in a c.in-Some.left) (array_in a c.in-Some.right))) c.paired.ensures.value)

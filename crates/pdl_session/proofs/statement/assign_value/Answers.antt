@@ -1,11 +1,8 @@
-use Rattle.std.proofs.Common.{[], Result, sym, subst}
 use Rattle.std.specs.Prelude.{map}
 use Rattle.pdl_syntax.specs.TreeOf.{tree_of}
 use Rattle.pdl_syntax.specs.StatementTree.{view_of}
-use Rattle.pdl_machine.specs.Step.{target, assigning}
-use Rattle.pdl_scope.specs.declared.fault.StepFault.{StepFault}
-use Rattle.pdl_scope.specs.Answers.{Runs}
-use Rattle.pdl_session.proofs.Facts.{is_fault}
+use Rattle.pdl_machine.specs.Step.{target}
+use Rattle.pdl_session.proofs.Facts.{ends_at, grows_trans}
 use Rattle.pdl_session.proofs.Statements.{runs_assigned, assigned_refused}
 use Rattle.pdl_session.proofs.statement.assign_value.Goals as goal
 
@@ -19,6 +16,6 @@ returns-in_err-from g c =
     let s = c.args.scope.now in
     let to = target c.args.to.now.name (map view_of c.args.to.now.views.items) in
     let f = c.in_err-from.field-0.0 in
-    let P : Result (Unit {0}) StepFault → Type 0 = Runs (assigning s to c.args.sign (tree_of c.args.value.now)) s c.eval.new.scope [] [] in
-    subst P (sym (is_fault c.from_residual-in_err-from.result f c.from_residual-in_err-from.ensures.1))
-    (assigned_refused s c.target.new.scope c.eval.new.scope to (tree_of c.args.value.now) c.args.sign c.in_ok-to.to f c.in_ok-to.ensures.value.0 c.in_err-from.ensures.value c.target.ensures.grown c.eval.ensures.grown)
+    ends_at _ _ _ _ f c.from_residual-in_err-from.result c.from_residual-in_err-from.ensures.1
+    (assigned_refused s c.target.new.scope to (tree_of c.args.value.now) c.args.sign c.in_ok-to.to f c.in_ok-to.ensures.value.0 c.in_err-from.ensures.value c.target.ensures.grown)
+    (grows_trans s c.target.new.scope c.eval.new.scope c.target.ensures.grown c.eval.ensures.grown)

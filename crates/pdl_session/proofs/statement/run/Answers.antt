@@ -7,5 +7,4 @@ use Rattle.pdl_session.proofs.statement.run.Goals as goal
 
 pub returns-in-Show : goal.returns-in-Show
 returns-in-Show g c =
-    let P : Statement → Type 0 = λ s. Runs (effect c.args.scope.now (statement_of s)) c.args.scope.now c.show.new.scope c.args.out.now.items c.show.new.out.items c.show.result in
-    subst P (sym c.in-Show.is) c.show.ensures
+    subst (λ (s : Statement). Runs (effect c.args.scope.now (statement_of s)) c.args.scope.now c.show.new.scope c.args.out.now.items c.show.new.out.items c.show.result) (sym c.in-Show.is) c.show.ensures

@@ -1,4 +1,4 @@
-use Rattle.std.proofs.Common.{◌≡◌, ◌<◌, ◌+◌, ℕ, List, Result, Ok, get_or, length, take, sym, ap, subst, ◌∙◌, arith}
+use Rattle.std.proofs.Common.{◌≡◌, ◌<◌, ◌+◌, List, Ok, get_or, length, take, sym, ap, subst, ◌∙◌, arith}
 use Rattle.std.specs.Prelude.{map}
 use Rattle.std.proofs.lemmas.List.{length-map, get_or-map}
 use Rattle.pdl_syntax.specs.declared.tree.ViewCall.{ViewCall}
@@ -8,10 +8,9 @@ use Rattle.pdl_machine.specs.declared.fault.Fault.TheVariants.{UnknownName}
 use Rattle.pdl_machine.specs.Names.{Names}
 use Rattle.pdl_machine.specs.Step.{target}
 use Rattle.pdl_machine.specs.Value.{known, value_of}
-use Rattle.pdl_scope.specs.declared.fault.StepFault.{StepFault}
 use Rattle.pdl_scope.specs.declared.fault.StepFault.TheVariants.{Script}
-use Rattle.pdl_scope.specs.Answers.{IsFault, Evaluates}
-use Rattle.pdl_session.proofs.Facts.{is_fault, grows_trans}
+use Rattle.pdl_scope.specs.Answers.{IsFault}
+use Rattle.pdl_session.proofs.Facts.{hands_on, grows_trans}
 use Rattle.pdl_session.proofs.Targets.{called, target_more, fault_at}
 use Rattle.pdl_session.proofs.target.target.Goals as goal
 
@@ -26,10 +25,8 @@ call_on-requires-clause-made g c =
     let v = c.view-item.result in
     let lt : i < length vs = omega arith in
     let within : i < length (map view_of vs) = (let n : length (map view_of vs) ≡ length vs = length-map vs view_of in omega arith) in
-    let L : List ViewCall → Type 0 = λ l. c.view-item.result ≡ get_or l c.loop-view.view-index c.view-item.result in
-    let at : c.view-item.result ≡ get_or c.args.target.now.views.items c.loop-view.view-index c.view-item.result = subst L c.deref-view-items.ensures.value c.view-item.is in
-    let P : View → Type 0 = λ w. AreArgArrays w.1 in
-    subst P (get_or-map view_of vs i v (view_of v) lt ∙ ap view_of (sym at)) (c.requires i (view_of v) within)
+    let at : c.view-item.result ≡ get_or c.args.target.now.views.items c.loop-view.view-index c.view-item.result = subst (λ (l : List ViewCall). c.view-item.result ≡ get_or l c.loop-view.view-index c.view-item.result) c.deref-view-items.ensures.value c.view-item.is in
+    subst (λ (w : View). AreArgArrays w.1) (get_or-map view_of vs i v (view_of v) lt ∙ ap view_of (sym at)) (c.requires i (view_of v) within)
 
 pub returns-in_err-id-clause-value : goal.returns-in_err-id-clause-value
 returns-in_err-id-clause-value g c =
@@ -40,16 +37,12 @@ returns-in_err-id-clause-value g c =
     let i = c.loop-view.view-index in
     let f = c.in_err-id.field-0.0 in
     let so_far = target x (map view_of (take i vs)) in
-    let L : List ViewCall → Type 0 = λ l. c.view-item.result ≡ get_or l c.loop-view.view-index c.view-item.result in
-    let at : c.view-item.result ≡ get_or c.args.target.now.views.items c.loop-view.view-index c.view-item.result = subst L c.deref-view-items.ensures.value c.view-item.is in
-    let N : Names → Type 0 = λ n. value_of n a so_far ≡ Ok (c.loop-view.scope.arrays, c.loop-view.id) in
-    let P : Names → Type 0 = λ n. IsFault (value_of n a (called so_far (view_of c.view-item.result))) f in
+    let at : c.view-item.result ≡ get_or c.args.target.now.views.items c.loop-view.view-index c.view-item.result = subst (λ (l : List ViewCall). c.view-item.result ≡ get_or l c.loop-view.view-index c.view-item.result) c.deref-view-items.ensures.value c.view-item.is in
     let here : IsFault (value_of names a (called so_far (view_of c.view-item.result))) f =
-    subst P c.loop-view.invariant.grown.names (c.in_err-id.ensures.value a so_far (subst N (sym c.loop-view.invariant.grown.names) c.loop-view.invariant.so_far)) in
+    subst (λ (n : Names). IsFault (value_of n a (called so_far (view_of c.view-item.result))) f) c.loop-view.invariant.grown.names (c.in_err-id.ensures.value a so_far (subst (λ (n : Names). value_of n a so_far ≡ Ok (c.loop-view.scope.arrays, c.loop-view.id)) (sym c.loop-view.invariant.grown.names) c.loop-view.invariant.so_far)) in
     let more : target x (map view_of (take (i + 1) vs)) ≡ called so_far (view_of c.view-item.result) = target_more x vs i c.view-item.result (omega arith) at in
     let h : IsFault (value_of names a (target x (map view_of vs))) f = fault_at names a x vs (i + 1) f (rw more here) in
-    let R : Result ℕ StepFault → Type 0 = Evaluates (value_of names a (target x (map view_of vs))) c.call_on.new.scope in
-    subst R (sym (is_fault c.from_residual.result f c.from_residual.ensures.1)) h
+    hands_on _ c.call_on.new.scope f c.from_residual.result c.from_residual.ensures.1 h
 
 pub loop-view-preserved : goal.loop-view-preserved
 loop-view-preserved g c =
@@ -59,12 +52,10 @@ loop-view-preserved g c =
     let vs = c.args.target.now.views.items in
     let i = c.loop-view.view-index in
     let so_far = target x (map view_of (take i vs)) in
-    let L : List ViewCall → Type 0 = λ l. c.view-item.result ≡ get_or l c.loop-view.view-index c.view-item.result in
-    let at : c.view-item.result ≡ get_or c.args.target.now.views.items c.loop-view.view-index c.view-item.result = subst L c.deref-view-items.ensures.value c.view-item.is in
+    let at : c.view-item.result ≡ get_or c.args.target.now.views.items c.loop-view.view-index c.view-item.result = subst (λ (l : List ViewCall). c.view-item.result ≡ get_or l c.loop-view.view-index c.view-item.result) c.deref-view-items.ensures.value c.view-item.is in
     let N : Names → Type 0 = λ n. value_of n a so_far ≡ Ok (c.loop-view.scope.arrays, c.loop-view.id) in
-    let P : Names → Type 0 = λ n. value_of n a (called so_far (view_of c.view-item.result)) ≡ Ok (c.call_on.new.scope.arrays, c.in_ok-id.id) in
     let here : value_of names a (called so_far (view_of c.view-item.result)) ≡ Ok (c.call_on.new.scope.arrays, c.in_ok-id.id) =
-    subst P c.loop-view.invariant.grown.names (c.in_ok-id.ensures.value a so_far (subst N (sym c.loop-view.invariant.grown.names) c.loop-view.invariant.so_far)).0 in
+    subst (λ (n : Names). value_of n a (called so_far (view_of c.view-item.result)) ≡ Ok (c.call_on.new.scope.arrays, c.in_ok-id.id)) c.loop-view.invariant.grown.names (c.in_ok-id.ensures.value a so_far (subst N (sym c.loop-view.invariant.grown.names) c.loop-view.invariant.so_far)).0 in
     let more : target x (map view_of (take (i + 1) vs)) ≡ called so_far (view_of c.view-item.result) = target_more x vs i c.view-item.result (omega arith) at in
     record {
       so_far = ap (value_of names a) more ∙ here;

@@ -10,5 +10,4 @@ pub returns-in-Some-clause-value : goal.returns-in-Some-clause-value
 returns-in-Some-clause-value g c =
     let a = c.args.scope.now.arrays in
     let is = range_is a c.args.given.now ∙ ap (ranged a) (sym c.in-Some.ensures.shape) in
-    let P : Result Placed Fault → Type 0 = λ x. AnswersAs outcome_of x c.windows_at.result in
-    subst P (sym is) c.windows_at.ensures.value
+    subst (λ (x : Result Placed Fault). AnswersAs outcome_of x c.windows_at.result) (sym is) c.windows_at.ensures.value
