@@ -5,31 +5,28 @@
 //! `plan [SIZES] VIEW => [SIZES]`: the view's dimensions, or the refusal.
 //! `window [SIZES] VIEW => OFFSET [INCREMENTS] [SIZES]`: how the view is shown over an array in
 //! order.
-ghost use Rattle.std.specs.Prelude.{IsTrue, IfOk};
+ghost use Rattle.std.specs.Prelude.{◌≡◌, IsTrue, IfSome};
 ghost use Rattle.pdl_affine.specs.Views.{is_well_formed};
 
+use crate::answer::Answer;
 use crate::arguments::arguments;
 use crate::choice::dims;
-use crate::cursor::{Cursor, Unread};
-use crate::writing::write_list;
-use pdl_affine::{Affine, Numbers, compose, plan, plan_dims};
-use pdl_shape::{Triple, dims_list, incs_list, whole_triple};
-use std::alloc::Global;
+use crate::cursor::Cursor;
+use pdl_affine::{Affine, AffinePlan, Numbers, compose, plan, plan_dims};
+use pdl_shape::{Dims, Triple, dims_list, incs_list, whole_triple};
 
-type Answer = Result<Vec<u8>, Unread>;
-
-fn listed(alloc: Global, line: &mut Cursor<'_>) -> Result<Numbers, Unread> {
-    Ok(Numbers::new(line.numbers(alloc)?))
+fn listed(line: &mut Cursor<'_>) -> Option<Numbers> {
+    Some(Numbers::new(line.numbers()?))
 }
 
-fn diagonal(alloc: Global, line: &mut Cursor<'_>) -> Result<Affine, Unread>
-    ensures { IfOk result (λ trans. IsTrue (is_well_formed trans)) }
+fn diagonal(line: &mut Cursor<'_>) -> Option<Affine>
+    ensures { IfSome result (λ trans. IsTrue (is_well_formed trans)) }
 {
-    let listed = listed(alloc, line)?;
+    let listed = listed(line)?;
     if listed.as_slice().is_empty() {
-        return Err(Unread::Faulty);
+        return None;
     }
-    Ok(Affine::Diagonal(listed))
+    Some(Affine::Diagonal(listed))
 }
 
 // The kinds of transformations.
@@ -57,73 +54,99 @@ const KINDS: &[(&str, Kind)] = &[
 ];
 
 /// The transformation that a line has next.
-pub fn transformation(alloc: Global, line: &mut Cursor<'_>) -> Result<Affine, Unread>
-    ensures { IfOk result (λ trans. IsTrue (is_well_formed trans)) }
+pub fn transformation(line: &mut Cursor<'_>) -> Option<Affine>
+    ensures { IfSome result (λ trans. IsTrue (is_well_formed trans)) }
 {
     match line.named(KINDS)? {
-        Kind::Xchg => Ok(Affine::Xchg(line.next_number()?, line.next_number()?)),
-        Kind::Mv => Ok(Affine::Mv(line.next_number()?, line.next_number()?)),
-        Kind::Reorder => Ok(Affine::Reorder(listed(alloc, line)?)),
-        Kind::Dummy => Ok(Affine::Dummy {
-            place: line.next_number()?,
-            size: line.next_number()?,
+        Kind::Xchg => Some(Affine::Xchg(line.number()?, line.number()?)),
+        Kind::Mv => Some(Affine::Mv(line.number()?, line.number()?)),
+        Kind::Reorder => Some(Affine::Reorder(listed(line)?)),
+        Kind::Dummy => Some(Affine::Dummy {
+            place: line.number()?,
+            size: line.number()?,
         }),
-        Kind::Diagonal => diagonal(alloc, line),
-        Kind::Squeeze => Ok(Affine::Squeeze),
-        Kind::Clump => Ok(Affine::Clump(line.next_number()?)),
-        Kind::Slice => Ok(Affine::Slice(arguments(alloc, line)?)),
+        Kind::Diagonal => diagonal(line),
+        Kind::Squeeze => Some(Affine::Squeeze),
+        Kind::Clump => Some(Affine::Clump(line.number()?)),
+        Kind::Slice => Some(Affine::Slice(arguments(line)?)),
     }
 }
 
 /// The dimensions of a view.
-pub fn plan_answer(alloc: Global, line: &mut Cursor<'_>) -> Answer {
-    let parent = dims(alloc, line)?;
-    let trans = transformation(alloc, line)?;
-    let mut answer = Vec::new(alloc);
-    match plan(alloc, &trans, &parent) {
-        Ok(plan) => write_list(alloc, &mut answer, dims_list(plan_dims(&plan)))?,
-        Err(fault) => answer.extend_from_slice(format!(in alloc; "{fault:?}")?.as_bytes())?,
-    }
-    Ok(answer)
+pub fn plan_answer(line: &mut Cursor<'_>, answer: &mut Answer) -> Option<()> {
+    let parent = dims(line)?;
+    say_planned(line, &parent, answer)
 }
 
-// What a line's next transformation shows over this window, or why there is no window.
-fn next_window(
-    alloc: Global,
-    line: &mut Cursor<'_>,
-    over: &Triple,
-) -> Result<Result<Triple, Vec<u8>>, Unread> {
-    let trans = transformation(alloc, line)?;
-    let plan = match plan(alloc, &trans, &over.dims) {
-        Ok(plan) => plan,
-        Err(fault) => return Ok(Err(format!(in alloc; "{fault:?}")?.into_bytes())),
-    };
-    match compose(alloc, &plan, over) {
-        Some(shown) => Ok(Ok(shown)),
-        None => Ok(Err(Vec::from_slice(alloc, b"no window")?)),
+// The dimensions of a line's next transformation of a parent.
+fn say_planned(line: &mut Cursor<'_>, parent: &Dims, answer: &mut Answer) -> Option<()> {
+    let trans = transformation(line)?;
+    match plan(line.alloc, &trans, parent) {
+        Ok(plan) => answer.list(dims_list(plan_dims(&plan))),
+        Err(fault) => answer.debug(&fault),
+    }
+    Some(())
+}
+
+// Takes one transformation more over this window, and answers whether there is a window; says why
+// there is none.
+fn take_next(line: &mut Cursor<'_>, shown: &mut Triple, answer: &mut Answer) -> Option<bool> {
+    let trans = transformation(line)?;
+    match plan(line.alloc, &trans, &shown.dims) {
+        Ok(plan) => Some(show_over(&plan, shown, answer)),
+        Err(fault) => {
+            answer.debug(&fault);
+            Some(false)
+        }
     }
 }
 
-fn written(alloc: Global, shown: &Triple) -> Answer {
-    let mut answer = Vec::new(alloc);
-    answer.extend_from_slice(format!(in alloc; "{} ", shown.offset)?.as_bytes())?;
-    write_list(alloc, &mut answer, incs_list(&shown.incs))?;
-    answer.push(b' ')?;
-    write_list(alloc, &mut answer, dims_list(&shown.dims))?;
-    Ok(answer)
+// The same of a plan.
+fn show_over(plan: &AffinePlan, shown: &mut Triple, answer: &mut Answer) -> bool
+    requires { shown.old.dims ≡ plan.now.parent }
+{
+    match compose(answer.alloc, plan, shown) {
+        Some(next) => {
+            *shown = next;
+            true
+        }
+        None => {
+            answer.say("no window");
+            false
+        }
+    }
+}
+
+fn say_window(answer: &mut Answer, shown: &Triple) {
+    answer.show(&shown.offset);
+    answer.say(" ");
+    answer.list(incs_list(&shown.incs));
+    answer.say(" ");
+    answer.list(dims_list(&shown.dims));
 }
 
 /// The window of a view.
-pub fn window_answer(alloc: Global, line: &mut Cursor<'_>) -> Answer {
-    let mut shown = whole_triple(alloc, &dims(alloc, line)?);
+pub fn window_answer(line: &mut Cursor<'_>, answer: &mut Answer) -> Option<()> {
+    let mut shown = whole(line)?;
+    say_window_over(line, &mut shown, answer)
+}
+
+// The window of a line's whole array.
+fn whole(line: &mut Cursor<'_>) -> Option<Triple> {
+    let dims = dims(line)?;
+    Some(whole_triple(line.alloc, &dims))
+}
+
+// The window of a line's transformations over this one.
+fn say_window_over(line: &mut Cursor<'_>, shown: &mut Triple, answer: &mut Answer) -> Option<()> {
     for _ in 0..16 {
-        match next_window(alloc, line, &shown)? {
-            Ok(next) => shown = next,
-            Err(answer) => return Ok(answer),
+        if !take_next(line, shown, answer)? {
+            return Some(());
         }
         if !line.takes_word("then") {
-            return written(alloc, &shown);
+            say_window(answer, shown);
+            return Some(());
         }
     }
-    Err(Unread::Faulty)
+    None
 }

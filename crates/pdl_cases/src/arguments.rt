@@ -1,55 +1,51 @@
 //! Slice arguments in square brackets, written as in slice texts.
-ghost use Rattle.std.specs.Prelude.{◌≡◌, IsTrue, IfOk};
+ghost use Rattle.std.specs.Prelude.{◌≡◌, IsTrue, IfSome};
 ghost use Rattle.std.specs.List.{list_all};
 ghost use Rattle.pdl_affine.specs.Views.{steps_on};
 
-use crate::cursor::{Cursor, Unread};
+use crate::cursor::Cursor;
 use pdl_slices::{SliceArg, SliceArgs};
-use std::alloc::Global;
 
-fn small(number: i64) -> Result<i32, Unread> {
-    i32::try_from(number).map_err(|_| Unread::Faulty)
+// The argument of a place alone: `N)`, of which the parenthesis before it has been taken.
+fn dropped(line: &mut Cursor<'_>) -> Option<SliceArg> {
+    let place = i32::try_from(line.number()?).ok()?;
+    line.expect(b')')?;
+    Some(SliceArg::Dropped(place))
 }
 
-fn small_or_none(number: Option<i64>) -> Result<Option<i32>, Unread> {
-    match number {
-        Some(number) => Ok(Some(small(number)?)),
-        None => Ok(None),
-    }
+fn dummy(line: &mut Cursor<'_>) -> Option<SliceArg> {
+    let size = u32::try_from(line.number().unwrap_or(1)).ok()?;
+    Some(SliceArg::Dummy(size))
 }
 
-fn dropped(line: &mut Cursor<'_>) -> Result<SliceArg, Unread> {
+// A place or a step, which may be left out.
+fn small(line: &mut Cursor<'_>) -> Option<Option<i32>> {
     match line.number() {
-        Some(number) if line.takes(b')') => Ok(SliceArg::Dropped(small(number)?)),
-        _ => Err(Unread::Faulty),
+        Some(number) => Some(Some(i32::try_from(number).ok()?)),
+        None => Some(None),
     }
 }
 
-fn dummy(line: &mut Cursor<'_>) -> Result<SliceArg, Unread> {
-    match u32::try_from(line.number().unwrap_or(1)) {
-        Ok(size) => Ok(SliceArg::Dummy(size)),
-        Err(_) => Err(Unread::Faulty),
-    }
-}
-
-fn argument(line: &mut Cursor<'_>) -> Result<SliceArg, Unread> {
+fn argument(line: &mut Cursor<'_>) -> Option<SliceArg> {
     if line.takes(b'(') {
         return dropped(line);
     }
     if line.takes(b'*') {
         return dummy(line);
     }
-    let from = small_or_none(line.number())?;
-    if !line.takes(b':') {
-        return from.map(SliceArg::One).ok_or(Unread::Faulty);
-    }
-    let to = small_or_none(line.number())?;
-    let step = if line.takes(b':') {
-        small_or_none(line.number())?
+    let from = small(line)?;
+    if line.takes(b':') {
+        span(line, from)
     } else {
-        None
-    };
-    Ok(if from.is_none() && to.is_none() && step.is_none() {
+        Some(SliceArg::One(from?))
+    }
+}
+
+// What stands behind the first `:`.
+fn span(line: &mut Cursor<'_>, from: Option<i32>) -> Option<SliceArg> {
+    let to = small(line)?;
+    let step = if line.takes(b':') { small(line)? } else { None };
+    Some(if from.is_none() && to.is_none() && step.is_none() {
         SliceArg::Whole
     } else {
         SliceArg::Span { from, to, step }
@@ -69,34 +65,35 @@ fn have_steps(args: &[SliceArg]) -> bool
     args.iter().all(|arg| has_step(arg))
 }
 
-fn listed(alloc: Global, line: &mut Cursor<'_>) -> Result<SliceArgs, Unread> {
-    let mut args = SliceArgs::new(alloc);
+fn read_arguments(line: &mut Cursor<'_>, args: &mut SliceArgs) -> Option<()> {
     if line.takes(b']') {
-        return Ok(args);
+        return Some(());
     }
     for _ in 0..64 {
-        args.push(argument(line)?)?;
+        args.push(argument(line)?).ok()?;
         if line.takes(b']') {
-            return Ok(args);
+            return Some(());
         }
-        if !line.takes(b',') {
-            return Err(Unread::Faulty);
-        }
+        line.expect(b',')?;
     }
-    Err(Unread::Faulty)
+    None
+}
+
+fn listed(line: &mut Cursor<'_>) -> Option<SliceArgs> {
+    let mut args = SliceArgs::new(line.alloc);
+    read_arguments(line, &mut args)?;
+    Some(args)
 }
 
 /// The arguments that a line has next. No span has the step 0.
-pub fn arguments(alloc: Global, line: &mut Cursor<'_>) -> Result<SliceArgs, Unread>
-    ensures { IfOk result (λ args. IsTrue (list_all steps_on args)) }
+pub fn arguments(line: &mut Cursor<'_>) -> Option<SliceArgs>
+    ensures { IfSome result (λ args. IsTrue (list_all steps_on args)) }
 {
-    if !line.takes(b'[') {
-        return Err(Unread::Faulty);
-    }
-    let args = listed(alloc, line)?;
+    line.expect(b'[')?;
+    let args = listed(line)?;
     if have_steps(args.as_slice()) {
-        Ok(args)
+        Some(args)
     } else {
-        Err(Unread::Faulty)
+        None
     }
 }

@@ -1,5 +1,5 @@
 //! The arrays of a case: an engine, and what it keeps by name.
-ghost use Rattle.std.specs.Prelude.{◌≡◌, ◌<◌, ℕ, Bool, All, IfOk, IfSome, IsTrue, OnOk, length};
+ghost use Rattle.std.specs.Prelude.{◌≡◌, ◌<◌, ◌++◌, ◌∷◌, [], ℕ, IfSome, IsTrue, OnSome};
 ghost use Rattle.pdl_buf.specs.Made.{IsMade};
 ghost use Rattle.pdl_elem.specs.Types.{InRange};
 ghost use Rattle.pdl_engine.specs.State.{State};
@@ -9,7 +9,6 @@ ghost use Rattle.pdl_world.specs.Sound.{IsLive};
 ghost use Rattle.pdl_world.specs.World.{dims_in, ty_in};
 ghost use Rattle.pdl_cases.specs.Kept.{AreKept, IsKept, Recounts, recounted};
 
-use crate::cursor::Unread;
 use pdl_buf::{Elements, Steps, new_steps};
 use pdl_elem::{Ty, wrap_all};
 use pdl_engine::{ArrayId, Engine, ViewFault};
@@ -55,155 +54,160 @@ impl<L: Ledger> Board<L> {
     }
 
     /// The newest array of a name.
-    pub fn find(&self, name: u8) -> Result<Array, Unread>
+    pub fn find(&self, name: u8) -> Option<Array>
         requires { AreKept self.now.engine self.now.arrays.items }
-        ensures { IfOk result (IsKept self.now.engine) }
+        ensures { IfSome result (IsKept self.now.engine) }
     {
         for array in self.arrays.iter().rev() {
             if array.name == name {
-                return Ok(*array);
+                return Some(*array);
             }
         }
-        Err(Unread::Faulty)
+        None
     }
 
     /// A new root.
-    pub fn make(&mut self, name: u8, ty: Ty, dims: &Dims, elems: Elements) -> Result<(), Unread>
+    pub fn make(&mut self, name: u8, ty: Ty, dims: &Dims, elems: Elements) -> Option<()>
         requires kept { AreKept self.old.engine self.old.arrays.items }
         requires made { IsMade ty dims.now elems }
-        ensures { OnOk result (AreKept self.new.engine self.new.arrays.items) }
+        ensures { OnSome result (AreKept self.new.engine self.new.arrays.items) }
     {
         growth_laws();
-        let id = self.engine.make(ty, dims, elems, &mut self.steps)?;
-        self.arrays.push(Array { name, id, holds: 1 })?;
-        Ok(())
+        let id = self.engine.make(ty, dims, elems, &mut self.steps).ok()?;
+        put(&mut self.arrays, Array { name, id, holds: 1 })?;
+        Some(())
     }
 
     /// A new view, or why there is none.
-    pub fn view(
-        &mut self,
-        name: u8,
-        parent: &Array,
-        trans: Trans,
-    ) -> Result<Option<ViewFault>, Unread>
+    pub fn view(&mut self, name: u8, parent: &Array, trans: Trans) -> Option<Option<ViewFault>>
         requires kept { AreKept self.old.engine self.old.arrays.items }
         requires parent { IsKept self.old.engine parent.now }
         requires well_formed { IsTrue (is_well_formed trans) }
-        ensures { OnOk result (AreKept self.new.engine self.new.arrays.items) }
+        ensures { OnSome result (AreKept self.new.engine self.new.arrays.items) }
     {
         growth_laws();
         match self.engine.view(parent.id, trans) {
             Ok(id) => {
-                self.arrays.push(Array { name, id, holds: 1 })?;
-                Ok(None)
+                put(&mut self.arrays, Array { name, id, holds: 1 })?;
+                Some(None)
             }
-            Err(fault) => Ok(Some(fault)),
+            Err(fault) => Some(Some(fault)),
         }
     }
 
     /// Makes an array one that can be lent.
-    pub fn ready(&mut self, array: &Array) -> Result<(), Unread>
+    pub fn ready(&mut self, array: &Array) -> Option<()>
         requires kept { AreKept self.old.engine self.old.arrays.items }
         requires array { IsKept self.old.engine array.now }
-        ensures kept { OnOk result (AreKept self.new.engine self.new.arrays.items) }
-        ensures array { OnOk result (IsKept self.new.engine array.now) }
+        ensures kept { OnSome result (AreKept self.new.engine self.new.arrays.items) }
+        ensures array { OnSome result (IsKept self.new.engine array.now) }
     {
-        self.engine.ready(array.id, &mut self.steps)?;
-        Ok(())
+        self.engine.ready(array.id, &mut self.steps).ok()
     }
 
     /// Puts numbers at the positions of an array that can be lent.
-    pub fn assign(&mut self, array: &Array, mut numbers: Vec<i64>) -> Result<(), Unread>
+    pub fn assign(&mut self, array: &Array, mut numbers: Vec<i64>) -> Option<()>
         requires kept { AreKept self.old.engine self.old.arrays.items }
         requires array { IsKept self.old.engine array.now }
-        ensures { OnOk result (AreKept self.new.engine self.new.arrays.items) }
+        ensures { OnSome result (AreKept self.new.engine self.new.arrays.items) }
     {
         assignment_laws();
         let count = elements_of(self.engine.dims(array.id)) as usize;
         if numbers.len() != count || !self.engine.is_fresh(array.id) {
-            return Err(Unread::Faulty);
+            return None;
         }
         wrap_all(self.engine.ty(array.id), &mut numbers);
         self.engine.assign(array.id, &numbers, &mut self.steps);
-        Ok(())
+        Some(())
     }
 
     /// Cuts an array from its parent.
-    pub fn sever(&mut self, array: &Array) -> Result<(), Unread>
+    pub fn sever(&mut self, array: &Array) -> Option<()>
         requires kept { AreKept self.old.engine self.old.arrays.items }
         requires array { IsKept self.old.engine array.now }
-        ensures { OnOk result (AreKept self.new.engine self.new.arrays.items) }
+        ensures { OnSome result (AreKept self.new.engine self.new.arrays.items) }
     {
         cut_laws();
-        self.engine.sever(array.id, &mut self.steps)?;
-        Ok(())
+        match self.engine.sever(array.id, &mut self.steps) {
+            Ok(()) => Some(()),
+            Err(_) => None,
+        }
     }
 
     /// Gives an array without views other dimensions.
-    pub fn reshape(&mut self, array: &Array, dims: &Dims) -> Result<(), Unread>
+    pub fn reshape(&mut self, array: &Array, dims: &Dims) -> Option<()>
         requires kept { AreKept self.old.engine self.old.arrays.items }
         requires array { IsKept self.old.engine array.now }
-        ensures { OnOk result (AreKept self.new.engine self.new.arrays.items) }
+        ensures { OnSome result (AreKept self.new.engine self.new.arrays.items) }
     {
         reshape_laws();
         if self.engine.has_views(array.id) {
-            return Err(Unread::Faulty);
+            return None;
         }
-        self.engine.reshape(array.id, dims, &mut self.steps)?;
-        Ok(())
+        match self.engine.reshape(array.id, dims, &mut self.steps) {
+            Ok(()) => Some(()),
+            Err(_) => None,
+        }
     }
 
     /// Holds an array once more.
-    pub fn hold(&mut self, array: &Array) -> Result<(), Unread>
+    pub fn hold(&mut self, array: &Array) -> Option<()>
         requires kept { AreKept self.old.engine self.old.arrays.items }
         requires array { IsKept self.old.engine array.now }
-        ensures { OnOk result (AreKept self.new.engine self.new.arrays.items) }
+        ensures { OnSome result (AreKept self.new.engine self.new.arrays.items) }
     {
         if array.holds >= MOST_HOLDS {
-            return Err(Unread::Faulty);
+            return None;
         }
         self.engine.hold(array.id);
         self.arrays = recounted(self.alloc, &self.arrays, array.id, true)?;
-        Ok(())
+        Some(())
     }
 
     /// Takes one hold of an array back. What is held no more has no name afterwards.
-    pub fn release(&mut self, array: &Array) -> Result<(), Unread>
+    pub fn release(&mut self, array: &Array) -> Option<()>
         requires kept { AreKept self.old.engine self.old.arrays.items }
         requires array { IsKept self.old.engine array.now }
-        ensures { OnOk result (AreKept self.new.engine self.new.arrays.items) }
+        ensures { OnSome result (AreKept self.new.engine self.new.arrays.items) }
     {
         sweep_laws();
         self.engine.release(array.id, &mut self.steps);
         self.arrays = recounted(self.alloc, &self.arrays, array.id, false)?;
-        Ok(())
+        Some(())
     }
+}
+
+// Puts an array behind the others.
+fn put(arrays: &mut Vec<Array>, array: Array) -> Option<()>
+    ensures { OnSome result (arrays.new.items ≡ arrays.old.items ++ array ∷ []) }
+{
+    arrays.push(array).ok()
 }
 
 // How often an array is held after one hold more or less of the array of this number.
-fn holds_of(array: &Array, id: ArrayId, more: bool) -> Result<u32, Unread>
-    ensures { IfOk result (λ n. n ≡ recounted more id array.now.id array.now.holds) }
+fn holds_of(array: &Array, id: ArrayId, more: bool) -> Option<u32>
+    ensures { IfSome result (λ n. n ≡ recounted more id array.now.id array.now.holds) }
 {
     if array.id != id {
-        return Ok(array.holds);
+        return Some(array.holds);
     }
     if more {
-        return array.holds.checked_add(1).ok_or(Unread::Faulty);
+        return array.holds.checked_add(1);
     }
-    Ok(array.holds.saturating_sub(1))
+    Some(array.holds.saturating_sub(1))
 }
 
 // The arrays that are held after one hold more or less of the array of this number.
-fn recounted(alloc: Global, arrays: &[Array], id: ArrayId, more: bool) -> Result<Vec<Array>, Unread>
+fn recounted(alloc: Global, arrays: &[Array], id: ArrayId, more: bool) -> Option<Vec<Array>>
     ensures { (old new : State) → Recounts more id old new → AreKept old arrays.now →
-        IfOk result (λ left. AreKept new left.items) }
+        IfSome result (λ left. AreKept new left.items) }
 {
     let mut left = Vec::new(alloc);
     for array in arrays {
         let holds = holds_of(array, id, more)?;
         if holds > 0 {
-            left.push(Array { holds, ..*array })?;
+            put(&mut left, Array { holds, ..*array })?;
         }
     }
-    Ok(left)
+    Some(left)
 }

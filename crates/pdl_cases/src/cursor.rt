@@ -1,66 +1,75 @@
-//! What is left of a line, and the parts that are read from its front.
-use crate::escapes::unescaped;
-use std::alloc::{AllocError, AllocFailed, Global};
+//! What is left of a line, and the parts that are read from its front. A part that isn't there, or
+//! for which there is no memory, is nothing.
 
-/// Why a line gives no answer.
-#[derive(Clone, Copy, Debug, PartialEq, Eq)]
-pub enum Unread {
-    /// The line isn't written as a case is.
-    Faulty,
-    /// Memory has run out.
-    NoMemory,
-}
+ghost use Rattle.std.specs.Prelude.{◌≤◌, IfSome, length};
 
-impl From<AllocError> for Unread {
-    fn from(_e: AllocError) -> Unread {
-        Unread::NoMemory
-    }
-}
+use crate::escapes::unescape;
+use std::alloc::Global;
 
-// The most pieces of a text, the most numbers of a list, and the most bytes of a piece with its
-// repeats.
+// The most pieces of a text, and the most numbers of a list without their repeats.
 const MOST_PARTS: usize = 4096;
 
 const MOST_REPEATS: i64 = 20_000_000;
 
-impl<T: Drop> From<AllocFailed<T>> for Unread {
-    fn from(_e: AllocFailed<T>) -> Unread {
-        Unread::NoMemory
+// The bytes that a part of a line is made of.
+#[derive(Clone, Copy)]
+enum Class {
+    Blank,
+    Word,
+    Digit,
+    Text,
+}
+
+impl Class {
+    fn has(self, byte: u8) -> bool {
+        match self {
+            Class::Blank => byte == b' ',
+            Class::Word => byte.is_ascii_alphanumeric() || byte == b'_' || byte == b'-',
+            Class::Digit => byte.is_ascii_digit(),
+            Class::Text => byte != b'`',
+        }
     }
 }
 
 /// What is left of a line.
 #[derive(Drop)]
 pub struct Cursor<'a> {
+    pub alloc: Global,
     rest: &'a [u8],
 }
 
 impl<'a> Cursor<'a> {
     /// The whole of a line.
-    pub fn of(line: &'a [u8]) -> Cursor<'a> {
-        Cursor { rest: line }
+    pub fn of(alloc: Global, line: &'a [u8]) -> Cursor<'a> {
+        Cursor { alloc, rest: line }
+    }
+
+    // Takes the bytes of this class that come next.
+    fn part(&mut self, class: Class) -> &'a [u8] {
+        let bytes = self.rest;
+        match bytes.iter().position(|byte| !class.has(*byte)) {
+            Some(end) if end <= bytes.len() => {
+                let (part, rest) = bytes.split_at(end);
+                self.rest = rest;
+                part
+            }
+            _ => {
+                self.rest = &[];
+                bytes
+            }
+        }
     }
 
     /// What is left, without the blanks before it.
     pub fn left(&mut self) -> &'a [u8] {
-        self.skip_blanks();
+        self.part(Class::Blank);
         self.rest
     }
 
-    fn skip_blanks(&mut self) {
-        self.rest = split(self.rest, self.rest.iter().position(|byte| *byte != b' ')).1;
-    }
-
-    /// Takes this byte where it is the next one after blanks, and says whether it was.
-    pub fn takes(&mut self, byte: u8) -> bool {
-        self.skip_blanks();
-        self.takes_at_once(byte)
-    }
-
-    // Takes this byte where it is the very next one.
+    // Takes this byte where it is the very next one, and says whether it was.
     fn takes_at_once(&mut self, byte: u8) -> bool {
-        match self.rest.split_first() {
-            Some((first, rest)) if *first == byte => {
+        match self.rest {
+            [first, rest @ ..] if *first == byte => {
                 self.rest = rest;
                 true
             }
@@ -68,156 +77,169 @@ impl<'a> Cursor<'a> {
         }
     }
 
+    /// Takes this byte where it is the next one after blanks, and says whether it was.
+    pub fn takes(&mut self, byte: u8) -> bool {
+        self.part(Class::Blank);
+        self.takes_at_once(byte)
+    }
+
+    /// Takes this byte, which is the next one after blanks.
+    pub fn expect(&mut self, byte: u8) -> Option<()> {
+        self.takes(byte).then_some(())
+    }
+
     /// The bytes up to the next one that isn't of a word.
     pub fn word(&mut self) -> &'a [u8] {
-        self.skip_blanks();
-        let (word, rest) = split(
-            self.rest,
-            self.rest.iter().position(|byte| !is_of_word(*byte)),
-        );
-        self.rest = rest;
-        word
+        self.part(Class::Blank);
+        self.part(Class::Word)
     }
 
     /// Takes this word where it comes next, and says whether it did.
     pub fn takes_word(&mut self, word: &str) -> bool {
-        self.skip_blanks();
         let from = self.rest;
-        if self.word() == word.as_bytes() {
-            return true;
+        let is_next = self.word() == word.as_bytes();
+        if !is_next {
+            self.rest = from;
         }
-        self.rest = from;
-        false
+        is_next
     }
 
-    /// Takes this word with a `=` behind it where they come next, and says whether it did.
-    pub fn takes_setting(&mut self, word: &str) -> bool {
-        let from = self.rest;
-        if self.takes_word(word) && self.takes_at_once(b'=') {
-            return true;
-        }
-        self.rest = from;
-        false
+    /// Takes this word, which comes next.
+    pub fn expect_word(&mut self, word: &str) -> Option<()> {
+        self.takes_word(word).then_some(())
     }
 
     /// Takes one of these words where it comes next, and answers what it stands for.
-    pub fn named<T: Copy>(&mut self, words: &[(&str, T)]) -> Result<T, Unread> {
+    pub fn named<T: Copy>(&mut self, words: &[(&str, T)]) -> Option<T> {
         for (word, value) in words {
             if self.takes_word(word) {
-                return Ok(*value);
+                return Some(*value);
             }
         }
-        Err(Unread::Faulty)
+        None
+    }
+
+    /// The same of a word with a `=` right behind it.
+    pub fn setting<T: Copy>(&mut self, words: &[(&str, T)]) -> Option<T> {
+        let from = self.rest;
+        let setting = self.named(words);
+        if setting.is_some() && self.takes_at_once(b'=') {
+            return setting;
+        }
+        self.rest = from;
+        None
     }
 
     /// A whole number, with a sign or none.
     pub fn number(&mut self) -> Option<i64> {
-        self.skip_blanks();
+        self.part(Class::Blank);
         let is_negative = self.takes_at_once(b'-');
-        let (digits, rest) = split(
-            self.rest,
-            self.rest.iter().position(|byte| !byte.is_ascii_digit()),
-        );
-        self.rest = rest;
-        value_of(is_negative, digits)
-    }
-
-    /// The number that a line has next.
-    pub fn next_number(&mut self) -> Result<i64, Unread> {
-        self.number().ok_or(Unread::Faulty)
+        value_of(is_negative, self.part(Class::Digit))
     }
 
     /// Numbers up to something else; `n*k` stands for k times n.
-    pub fn numbers(&mut self, alloc: Global) -> Result<Vec<i64>, Unread> {
-        let mut numbers = Vec::new(alloc);
+    pub fn numbers(&mut self) -> Option<Vec<i64>> {
+        let mut numbers = Vec::new(self.alloc);
+        self.read_numbers(&mut numbers)?;
+        Some(numbers)
+    }
+
+    fn read_numbers(&mut self, numbers: &mut Vec<i64>) -> Option<()> {
         for _ in 0..MOST_PARTS {
             let Some(number) = self.number() else {
-                return Ok(numbers);
+                return Some(());
             };
-            for _ in 0..self.repeats()? {
-                numbers.push(number)?;
-            }
+            repeat(&[number], self.repeats()?, numbers)?;
             self.takes(b',');
         }
-        Err(Unread::Faulty)
+        None
     }
 
     // How often what stood before is repeated: `*k`, or once.
-    fn repeats(&mut self) -> Result<i64, Unread> {
+    fn repeats(&mut self) -> Option<i64> {
         if !self.takes_at_once(b'*') {
-            return Ok(1);
+            return Some(1);
         }
         match self.number() {
-            Some(count) if 0 <= count && count <= MOST_REPEATS => Ok(count),
-            _ => Err(Unread::Faulty),
+            Some(count) if 0 <= count && count <= MOST_REPEATS => Some(count),
+            _ => None,
         }
     }
 
     /// A list of sizes in square brackets.
-    pub fn sizes(&mut self, alloc: Global) -> Result<Vec<u32>, Unread> {
-        if !self.takes(b'[') {
-            return Err(Unread::Faulty);
-        }
-        let mut sizes = Vec::new(alloc);
-        for number in self.numbers(alloc)?.as_slice() {
-            let Ok(size) = u32::try_from(*number) else {
-                return Err(Unread::Faulty);
-            };
-            sizes.push(size)?;
-        }
-        if self.takes(b']') {
-            Ok(sizes)
-        } else {
-            Err(Unread::Faulty)
-        }
+    pub fn sizes(&mut self) -> Option<Vec<u32>> {
+        let mut sizes = Vec::new(self.alloc);
+        self.read_sizes(&mut sizes)?;
+        Some(sizes)
+    }
+
+    fn read_sizes(&mut self, sizes: &mut Vec<u32>) -> Option<()> {
+        self.expect(b'[')?;
+        let numbers = self.numbers()?;
+        put_sizes(&numbers, sizes)?;
+        self.expect(b']')
     }
 
     /// A text: one or more pieces.
-    pub fn text(&mut self, alloc: Global) -> Result<Vec<u8>, Unread> {
-        let mut text = self.piece(alloc)?;
-        for _ in 0..MOST_PARTS {
-            self.skip_blanks();
-            if self.rest.first() != Some(&b'`') {
-                return Ok(text);
-            }
-            text.extend_from_slice(&self.piece(alloc)?)?;
+    pub fn text(&mut self) -> Option<Vec<u8>> {
+        let mut text = Vec::new(self.alloc);
+        self.read_text(&mut text)?;
+        Some(text)
+    }
+
+    /// A text of at most 65,536 bytes.
+    pub fn short_text(&mut self) -> Option<Vec<u8>>
+        ensures { IfSome result (λ text. length text.items ≤ 65536) }
+    {
+        let text = self.text()?;
+        if text.len() > 65_536 {
+            return None;
         }
-        Err(Unread::Faulty)
+        Some(text)
+    }
+
+    fn read_text(&mut self, text: &mut Vec<u8>) -> Option<()> {
+        for _ in 0..MOST_PARTS {
+            self.read_piece(text)?;
+            if !self.left().starts_with(b"`") {
+                return Some(());
+            }
+        }
+        None
     }
 
     /// A piece of text in backquotes; with `*k` behind it, k times.
-    pub fn piece(&mut self, alloc: Global) -> Result<Vec<u8>, Unread> {
-        if !self.takes(b'`') {
-            return Err(Unread::Faulty);
-        }
-        let (inner, rest) = split(self.rest, self.rest.iter().position(|byte| *byte == b'`'));
-        self.rest = rest;
-        if !self.takes_at_once(b'`') {
-            return Err(Unread::Faulty);
-        }
-        repeated(alloc, &unescaped(alloc, inner)?, self.repeats()?)
+    pub fn piece(&mut self) -> Option<Vec<u8>> {
+        let mut text = Vec::new(self.alloc);
+        self.read_piece(&mut text)?;
+        Some(text)
+    }
+
+    fn read_piece(&mut self, text: &mut Vec<u8>) -> Option<()> {
+        self.expect(b'`')?;
+        let inner = self.part(Class::Text);
+        self.expect(b'`')?;
+        let count = self.repeats()?;
+        let mut bytes = Vec::new(self.alloc);
+        unescape(inner, &mut bytes)?;
+        repeat(&bytes, count, text)
     }
 }
 
-fn repeated(alloc: Global, piece: &[u8], count: i64) -> Result<Vec<u8>, Unread> {
-    let mut text = Vec::new(alloc);
+// Puts these so many times behind a list.
+fn repeat<T: Copy>(items: &[T], count: i64, list: &mut Vec<T>) -> Option<()> {
     for _ in 0..count {
-        text.extend_from_slice(piece)?;
+        list.extend_from_slice(items).ok()?;
     }
-    Ok(text)
+    Some(())
 }
 
-// What stands before this place, and what stands from there on; all of it before the end where
-// there is none.
-fn split(bytes: &[u8], at: Option<usize>) -> (&[u8], &[u8]) {
-    match at {
-        Some(at) if at <= bytes.len() => bytes.split_at(at),
-        _ => (bytes, &[]),
+// Puts these numbers behind sizes, if each of them is one.
+fn put_sizes(numbers: &[i64], sizes: &mut Vec<u32>) -> Option<()> {
+    for number in numbers {
+        sizes.push(u32::try_from(*number).ok()?).ok()?;
     }
-}
-
-fn is_of_word(byte: u8) -> bool {
-    byte.is_ascii_alphanumeric() || byte == b'_' || byte == b'-'
+    Some(())
 }
 
 // The number of these digits, or nothing where there are none or it is out of range.

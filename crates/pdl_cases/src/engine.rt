@@ -9,27 +9,23 @@
 //! `fresh` answers the arrays that can be lent, `lend x` the array, `read x` the same after `ready`,
 //! `live` how many arrays there are, `views x` whether it has views. With `marks` each call answers
 //! the arrays that can be lent after it, too.
-ghost use Rattle.std.specs.Prelude.{◌≡◌, ◌<◌, IfOk, IsTrue, OnOk};
+ghost use Rattle.std.specs.Prelude.{◌≡◌, ◌<◌, IfSome, IsTrue, OnSome};
 ghost use Rattle.pdl_world.specs.Formula.{is_well_formed};
-ghost use Rattle.pdl_world.specs.Sound.{IsLive};
 ghost use Rattle.pdl_cases.specs.Kept.{AreKept, IsKept};
 
 use crate::affine;
+use crate::answer::Answer;
 use crate::board::{Array, Board};
 use crate::choice::{self, Values};
-use crate::cursor::{Cursor, Unread};
+use crate::cursor::Cursor;
 use crate::numbers::TYPES;
-use crate::writing::write_list;
 use pdl_affine::Numbers;
 use pdl_buf::{Elements, Strided, strided_dims, strided_get, strided_type};
 use pdl_elem::wrap_all;
 use pdl_shape::{dims_list, elements_of};
 use pdl_world::Trans;
-use std::alloc::{AllocError, Global};
 use std::marker::Brand;
 use std::sync::ledger::{Blank, Ledger};
-
-type Answer = Result<Vec<u8>, Unread>;
 
 // The most calls of a line.
 const MOST_CALLS: usize = 1000;
@@ -76,55 +72,55 @@ const QUESTIONS: &[(&str, Question)] = &[
     ("views", Question::Views),
 ];
 
+// What stands between two answers.
+const BETWEEN: &str = "; ";
+
 // The letter of an array.
-fn letter(line: &mut Cursor<'_>) -> Result<u8, Unread> {
+fn letter(line: &mut Cursor<'_>) -> Option<u8> {
     match line.word() {
-        [letter] => Ok(*letter),
-        _ => Err(Unread::Faulty),
+        [letter] => Some(*letter),
+        _ => None,
     }
 }
 
 // The letter of a new array.
-fn new_letter(line: &mut Cursor<'_>) -> Result<u8, Unread> {
+fn new_letter(line: &mut Cursor<'_>) -> Option<u8> {
     let letter = letter(line)?;
-    if line.takes(b'=') {
-        Ok(letter)
-    } else {
-        Err(Unread::Faulty)
-    }
+    line.expect(b'=')?;
+    Some(letter)
 }
 
 // The array whose letter a line has next.
-fn array<L: Ledger>(board: &Board<L>, line: &mut Cursor<'_>) -> Result<Array, Unread>
+fn array<L: Ledger>(board: &Board<L>, line: &mut Cursor<'_>) -> Option<Array>
     requires { AreKept board.now.engine board.now.arrays.items }
-    ensures { IfOk result (IsKept board.now.engine) }
+    ensures { IfSome result (IsKept board.now.engine) }
 {
     board.find(letter(line)?)
 }
 
-fn indexed(alloc: Global, line: &mut Cursor<'_>) -> Result<Trans, Unread>
-    ensures { IfOk result (λ trans. IsTrue (is_well_formed trans)) }
+fn indexed(line: &mut Cursor<'_>) -> Option<Trans>
+    ensures { IfSome result (λ trans. IsTrue (is_well_formed trans)) }
 {
-    let Values { dims, numbers } = choice::read_values(alloc, line)?;
+    let Values { dims, numbers } = choice::read_values(line)?;
     let ind = Numbers::new(numbers);
-    Ok(Trans::Index { dims, ind })
+    Some(Trans::Index { dims, ind })
 }
 
-fn masked(alloc: Global, line: &mut Cursor<'_>) -> Result<Trans, Unread>
-    ensures { IfOk result (λ trans. IsTrue (is_well_formed trans)) }
+fn masked(line: &mut Cursor<'_>) -> Option<Trans>
+    ensures { IfSome result (λ trans. IsTrue (is_well_formed trans)) }
 {
-    let Values { dims, numbers } = choice::read_values(alloc, line)?;
+    let Values { dims, numbers } = choice::read_values(line)?;
     let _count = elements_of(&dims);
-    let places = choice::places(alloc, &numbers)?;
-    Ok(Trans::Where { dims, places })
+    let places = choice::places(line.alloc, &numbers)?;
+    Some(Trans::Where { dims, places })
 }
 
-fn windows(alloc: Global, line: &mut Cursor<'_>) -> Result<Trans, Unread>
-    ensures { IfOk result (λ trans. IsTrue (is_well_formed trans)) }
+fn windows(line: &mut Cursor<'_>) -> Option<Trans>
+    ensures { IfSome result (λ trans. IsTrue (is_well_formed trans)) }
 {
-    let Values { dims, numbers } = choice::read_values(alloc, line)?;
-    let (sizes, edge) = choice::sizes_and_edge(alloc, line)?;
-    Ok(Trans::Range {
+    let Values { dims, numbers } = choice::read_values(line)?;
+    let (sizes, edge) = choice::sizes_and_edge(line)?;
+    Some(Trans::Range {
         dims,
         ind: Numbers::new(numbers),
         sizes: Numbers::new(sizes),
@@ -133,73 +129,69 @@ fn windows(alloc: Global, line: &mut Cursor<'_>) -> Result<Trans, Unread>
 }
 
 // How a view shows its parent.
-fn transformation(alloc: Global, line: &mut Cursor<'_>) -> Result<Trans, Unread>
-    ensures { IfOk result (λ trans. IsTrue (is_well_formed trans)) }
+fn transformation(line: &mut Cursor<'_>) -> Option<Trans>
+    ensures { IfSome result (λ trans. IsTrue (is_well_formed trans)) }
 {
     if line.takes_word("index") {
-        return indexed(alloc, line);
+        return indexed(line);
     }
     if line.takes_word("where") {
-        return masked(alloc, line);
+        return masked(line);
     }
     if line.takes_word("range") {
-        return windows(alloc, line);
+        return windows(line);
     }
-    Ok(Trans::Affine(affine::transformation(alloc, line)?))
+    Some(Trans::Affine(affine::transformation(line)?))
 }
 
-fn make<L: Ledger>(board: &mut Board<L>, line: &mut Cursor<'_>) -> Result<(), Unread>
+fn make<L: Ledger>(board: &mut Board<L>, line: &mut Cursor<'_>) -> Option<()>
     requires { AreKept board.old.engine board.old.arrays.items }
-    ensures { OnOk result (AreKept board.new.engine board.new.arrays.items) }
+    ensures { OnSome result (AreKept board.new.engine board.new.arrays.items) }
 {
     let name = new_letter(line)?;
     let ty = line.named(TYPES)?;
-    let Values { dims, mut numbers } = choice::read_values(board.alloc, line)?;
+    let Values { dims, mut numbers } = choice::read_values(line)?;
     wrap_all(ty, &mut numbers);
     board.make(name, ty, &dims, Elements::new(numbers))
 }
 
-// Makes a view, and answers why there is none.
-fn view<L: Ledger>(board: &mut Board<L>, line: &mut Cursor<'_>) -> Answer
+// Makes a view, and says why there is none.
+fn view<L: Ledger>(board: &mut Board<L>, line: &mut Cursor<'_>, answer: &mut Answer) -> Option<()>
     requires { AreKept board.old.engine board.old.arrays.items }
-    ensures { OnOk result (AreKept board.new.engine board.new.arrays.items) }
+    ensures { OnSome result (AreKept board.new.engine board.new.arrays.items) }
 {
-    let alloc = board.alloc;
     let name = new_letter(line)?;
     let parent = array(board, line)?;
-    let trans = transformation(alloc, line)?;
-    match board.view(name, &parent, trans)? {
-        None => Ok(Vec::new(alloc)),
-        Some(fault) => Ok(format!(in alloc; "{fault:?}")?.into_bytes()),
+    let trans = transformation(line)?;
+    if let Some(fault) = board.view(name, &parent, trans)? {
+        answer.next(BETWEEN);
+        answer.debug(&fault);
     }
+    Some(())
 }
 
-fn assign<L: Ledger>(board: &mut Board<L>, line: &mut Cursor<'_>) -> Result<(), Unread>
+fn assign<L: Ledger>(board: &mut Board<L>, line: &mut Cursor<'_>) -> Option<()>
     requires { AreKept board.old.engine board.old.arrays.items }
-    ensures { OnOk result (AreKept board.new.engine board.new.arrays.items) }
+    ensures { OnSome result (AreKept board.new.engine board.new.arrays.items) }
 {
     let array = array(board, line)?;
-    let numbers = choice::elements(board.alloc, line)?;
+    let numbers = choice::elements(line)?;
     board.assign(&array, numbers)
 }
 
-fn reshape<L: Ledger>(board: &mut Board<L>, line: &mut Cursor<'_>) -> Result<(), Unread>
+fn reshape<L: Ledger>(board: &mut Board<L>, line: &mut Cursor<'_>) -> Option<()>
     requires { AreKept board.old.engine board.old.arrays.items }
-    ensures { OnOk result (AreKept board.new.engine board.new.arrays.items) }
+    ensures { OnSome result (AreKept board.new.engine board.new.arrays.items) }
 {
     let array = array(board, line)?;
-    let dims = choice::dims(board.alloc, line)?;
+    let dims = choice::dims(line)?;
     board.reshape(&array, &dims)
 }
 
 // A call of an array alone.
-fn change_one<L: Ledger>(
-    board: &mut Board<L>,
-    change: Change,
-    line: &mut Cursor<'_>,
-) -> Result<(), Unread>
+fn change_one<L: Ledger>(board: &mut Board<L>, change: Change, line: &mut Cursor<'_>) -> Option<()>
     requires { AreKept board.old.engine board.old.arrays.items }
-    ensures { OnOk result (AreKept board.new.engine board.new.arrays.items) }
+    ensures { OnSome result (AreKept board.new.engine board.new.arrays.items) }
 {
     let array = array(board, line)?;
     match change {
@@ -207,152 +199,164 @@ fn change_one<L: Ledger>(
         Change::Sever => board.sever(&array),
         Change::Hold => board.hold(&array),
         Change::Release => board.release(&array),
-        _ => Err(Unread::Faulty),
+        _ => None,
     }
 }
 
-// A call that changes arrays and answers nothing.
-fn change_only<L: Ledger>(
+// A call that changes arrays.
+fn make_change<L: Ledger>(
     board: &mut Board<L>,
-    change: Change,
     line: &mut Cursor<'_>,
-) -> Result<(), Unread>
+    answer: &mut Answer,
+) -> Option<()>
     requires { AreKept board.old.engine board.old.arrays.items }
-    ensures { OnOk result (AreKept board.new.engine board.new.arrays.items) }
+    ensures { OnSome result (AreKept board.new.engine board.new.arrays.items) }
 {
-    match change {
+    match line.named(CHANGES)? {
+        Change::View => view(board, line, answer),
         Change::Root => make(board, line),
         Change::Assign => assign(board, line),
         Change::Reshape => reshape(board, line),
-        _ => change_one(board, change, line),
-    }
-}
-
-// A call that changes arrays, and what it answers.
-fn changed<L: Ledger>(board: &mut Board<L>, change: Change, line: &mut Cursor<'_>) -> Answer
-    requires { AreKept board.old.engine board.old.arrays.items }
-    ensures { OnOk result (AreKept board.new.engine board.new.arrays.items) }
-{
-    match change {
-        Change::View => view(board, line),
-        _ => {
-            change_only(board, change, line)?;
-            Ok(Vec::new(board.alloc))
-        }
+        other => change_one(board, other, line),
     }
 }
 
 // The letters of the arrays that can be lent.
-fn fresh<L: Ledger>(board: &Board<L>) -> Answer
+fn say_fresh<L: Ledger>(board: &Board<L>, answer: &mut Answer)
     requires { AreKept board.now.engine board.now.arrays.items }
 {
-    let mut letters = Vec::new(board.alloc);
+    answer.next(BETWEEN);
+    let mut any = false;
     for array in &board.arrays {
         if board.engine.is_fresh(array.id) {
-            letters.push(array.name)?;
+            answer.show(&char::from(array.name));
+            any = true;
         }
     }
-    if letters.is_empty() {
-        letters.push(b'-')?;
+    if !any {
+        answer.say("-");
     }
-    Ok(letters)
 }
 
 // The type, the dimensions and the elements of what is lent.
-fn written(alloc: Global, window: &Strided<'_>) -> Result<Vec<u8>, AllocError> {
-    let mut answer = format!(in alloc; "{:?} ", strided_type(window))?.into_bytes();
-    write_list(alloc, &mut answer, dims_list(strided_dims(window)))?;
-    answer.push(b':')?;
+fn say_window(answer: &mut Answer, window: &Strided<'_>) {
+    answer.debug(&strided_type(window));
+    answer.say(" ");
+    answer.list(dims_list(strided_dims(window)));
+    answer.say(":");
     for position in 0..elements_of(strided_dims(window)) {
-        let element = strided_get(window, position);
-        answer.extend_from_slice(format!(in alloc; " {element}")?.as_bytes())?;
+        answer.tell(" ", &strided_get(window, position));
     }
-    Ok(answer)
 }
 
 // What is lent of an array.
-fn lent<L: Ledger>(board: &Board<L>, array: &Array) -> Answer
+fn say_lent<L: Ledger>(board: &Board<L>, array: &Array, answer: &mut Answer) -> Option<()>
     requires { IsKept board.now.engine array.now }
 {
     if !board.engine.is_fresh(array.id) {
-        return Err(Unread::Faulty);
+        return None;
     }
-    Ok(written(board.alloc, &board.engine.lend(array.id))?)
+    answer.next(BETWEEN);
+    say_window(answer, &board.engine.lend(array.id));
+    Some(())
 }
 
 // What is lent of an array that is made ready before.
-fn read<L: Ledger>(board: &mut Board<L>, line: &mut Cursor<'_>) -> Answer
+fn read<L: Ledger>(board: &mut Board<L>, line: &mut Cursor<'_>, answer: &mut Answer) -> Option<()>
     requires { AreKept board.old.engine board.old.arrays.items }
-    ensures { OnOk result (AreKept board.new.engine board.new.arrays.items) }
+    ensures { OnSome result (AreKept board.new.engine board.new.arrays.items) }
 {
     let array = array(board, line)?;
     board.ready(&array)?;
-    lent(board, &array)
+    say_lent(board, &array, answer)
 }
 
-// A call that tells something, and what it answers.
-fn told<L: Ledger>(board: &Board<L>, question: Question, line: &mut Cursor<'_>) -> Answer
+// A call that tells something of one array.
+fn tell_one<L: Ledger>(
+    board: &Board<L>,
+    question: Question,
+    line: &mut Cursor<'_>,
+    answer: &mut Answer,
+) -> Option<()>
+    requires { AreKept board.now.engine board.now.arrays.items }
+{
+    let array = array(board, line)?;
+    match question {
+        Question::Views => {
+            answer.next(BETWEEN);
+            answer.show(&board.engine.has_views(array.id));
+            Some(())
+        }
+        _ => say_lent(board, &array, answer),
+    }
+}
+
+// A call that tells something.
+fn tell<L: Ledger>(
+    board: &Board<L>,
+    question: Question,
+    line: &mut Cursor<'_>,
+    answer: &mut Answer,
+) -> Option<()>
     requires { AreKept board.now.engine board.now.arrays.items }
 {
     match question {
-        Question::Fresh => fresh(board),
+        Question::Fresh => {
+            say_fresh(board, answer);
+            Some(())
+        }
         Question::Live => {
-            let live = board.engine.live();
-            Ok(format!(in board.alloc; "{live}")?.into_bytes())
+            answer.next(BETWEEN);
+            answer.show(&board.engine.live());
+            Some(())
         }
-        Question::Views => {
-            let has_views = board.engine.has_views(array(board, line)?.id);
-            Ok(format!(in board.alloc; "{has_views}")?.into_bytes())
-        }
-        _ => lent(board, &array(board, line)?),
+        _ => tell_one(board, question, line, answer),
     }
 }
 
-// The next call, and what it answers.
-fn call<L: Ledger>(board: &mut Board<L>, line: &mut Cursor<'_>) -> Answer
+// Makes the next call, and says what it answers.
+fn call<L: Ledger>(board: &mut Board<L>, line: &mut Cursor<'_>, answer: &mut Answer) -> Option<()>
     requires { AreKept board.old.engine board.old.arrays.items }
-    ensures { OnOk result (AreKept board.new.engine board.new.arrays.items) }
+    ensures { OnSome result (AreKept board.new.engine board.new.arrays.items) }
 {
     match line.named(QUESTIONS) {
-        Ok(Question::Read) => read(board, line),
-        Ok(question) => told(board, question, line),
-        Err(_) => changed(board, line.named(CHANGES)?, line),
+        Some(Question::Read) => read(board, line, answer),
+        Some(question) => tell(board, question, line, answer),
+        None => make_change(board, line, answer),
     }
 }
 
-// Writes one more answer, if it says something.
-fn write_next(answer: &mut Vec<u8>, next: &[u8]) -> Result<(), AllocError> {
-    if next.is_empty() {
-        return Ok(());
+// Makes the calls of a line, and says what they answer.
+fn run_all<L: Ledger>(
+    board: &mut Board<L>,
+    line: &mut Cursor<'_>,
+    answer: &mut Answer,
+) -> Option<()>
+    requires { AreKept board.old.engine board.old.arrays.items }
+{
+    let marks = line.takes_word("marks");
+    for _ in 0..MOST_CALLS {
+        call(board, line, answer)?;
+        if marks {
+            say_fresh(board, answer);
+        }
+        if !line.takes(b';') {
+            return Some(());
+        }
     }
-    if !answer.is_empty() {
-        answer.extend_from_slice(b"; ")?;
-    }
-    answer.extend_from_slice(next)?;
-    Ok(())
+    None
 }
 
-fn run<L: Ledger>(alloc: Global, line: &mut Cursor<'_>, blank: Blank) -> Answer
+fn run<L: Ledger>(line: &mut Cursor<'_>, answer: &mut Answer, blank: Blank) -> Option<()>
     requires name { blank.name ≡ L.name }
     requires parts { blank.parts ≡ L.parts }
     requires some { 0 < blank.parts }
 {
-    let marks = line.takes_word("marks");
-    let mut board = Board::<L>::new(alloc, blank);
-    let mut answer = Vec::new(alloc);
-    for _ in 0..MOST_CALLS {
-        write_next(&mut answer, &call(&mut board, line)?)?;
-        if marks {
-            write_next(&mut answer, &fresh(&board)?)?;
-        }
-        if !line.takes(b';') {
-            return Ok(answer);
-        }
-    }
-    Err(Unread::Faulty)
+    let mut board = Board::<L>::new(line.alloc, blank);
+    run_all(&mut board, line, answer)
 }
 
 /// Makes the calls of a line.
-pub fn answer(alloc: Global, line: &mut Cursor<'_>) -> Answer {
-    run::<Brand>(alloc, line, Blank::new(1))
+pub fn engine_answer(line: &mut Cursor<'_>, answer: &mut Answer) -> Option<()> {
+    run::<Brand>(line, answer, Blank::new(1))
 }

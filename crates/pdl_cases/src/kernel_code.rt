@@ -1,144 +1,133 @@
 //! `kernel SIGNATURE CODE => STATEMENTS`, or the fault of the code. Operators stand first, and each
 //! statement ends with `;` or a block.
 
-use crate::cursor::{Cursor, Unread};
+ghost use Rattle.pdl_sig.specs.Refusals.{IsWellFormed};
+
+use crate::answer::Answer;
+use crate::cursor::Cursor;
 use pdl_code::{Entry, Expr, Stmt, read_code};
 use pdl_elem::BinaryOp;
-use pdl_sig::read_signature;
-use std::alloc::{AllocError, Global};
+use pdl_sig::{Signature, read_signature};
 
-type Written = Result<(), AllocError>;
-
-// A number behind a word, or alone where the word is empty.
-fn write_numbered(alloc: Global, out: &mut Vec<u8>, word: &str, number: usize) -> Written {
-    let text = format!(in alloc; "{word}{number}")?;
-    out.extend_from_slice(text.as_bytes())
-}
-
-#[cycle(write)]
-fn write_expr(alloc: Global, out: &mut Vec<u8>, expr: &Expr) -> Written {
+#[cycle(say)]
+fn say_expr(answer: &mut Answer, expr: &Expr) {
     match expr {
-        Expr::Number(n) => {
-            let text = format!(in alloc; "{n}")?;
-            out.extend_from_slice(text.as_bytes())
-        }
-        Expr::Size(dimension) => write_numbered(alloc, out, "size ", *dimension),
-        Expr::Index(dimension) => write_numbered(alloc, out, "index ", *dimension),
-        Expr::Local(slot) => write_numbered(alloc, out, "local ", *slot),
+        Expr::Number(number) => answer.show(number),
+        Expr::Size(dimension) => answer.tell("size ", dimension),
+        Expr::Index(dimension) => answer.tell("index ", dimension),
+        Expr::Local(slot) => answer.tell("local ", slot),
         Expr::Access(number, entries) => {
-            write_numbered(alloc, out, "at ", *number)?;
-            write_entries(alloc, out, entries)
+            answer.tell("at ", number);
+            say_entries(answer, entries);
         }
         Expr::Unary(op, inner) => {
-            let text = format!(in alloc; "({op:?} ")?;
-            out.extend_from_slice(text.as_bytes())?;
-            write_expr(alloc, out, inner)?;
-            out.extend_from_slice(b")")
+            answer.operator(op);
+            say_expr(answer, inner);
+            answer.say(")");
         }
         Expr::Binary(op, left, right) => {
-            let text = format!(in alloc; "({op:?} ")?;
-            out.extend_from_slice(text.as_bytes())?;
-            write_expr(alloc, out, left)?;
-            out.extend_from_slice(b" ")?;
-            write_expr(alloc, out, right)?;
-            out.extend_from_slice(b")")
+            answer.operator(op);
+            say_expr(answer, left);
+            answer.say(" ");
+            say_expr(answer, right);
+            answer.say(")");
         }
     }
 }
 
-#[cycle(write)]
-fn write_entries(alloc: Global, out: &mut Vec<u8>, entries: &[Entry]) -> Written {
-    out.extend_from_slice(b"[")?;
+#[cycle(say)]
+fn say_entries(answer: &mut Answer, entries: &[Entry]) {
+    answer.say("[");
     for entry in entries {
-        write_entry(alloc, out, entry)?;
+        say_entry(answer, entry);
     }
-    out.extend_from_slice(b"]")
+    answer.say("]");
 }
 
 // Each index ends with `,`.
-#[cycle(write)]
-fn write_entry(alloc: Global, out: &mut Vec<u8>, entry: &Entry) -> Written {
+#[cycle(say)]
+fn say_entry(answer: &mut Answer, entry: &Entry) {
     match entry {
         Entry::Given(place, expr) => {
-            write_numbered(alloc, out, "", *place)?;
-            out.extend_from_slice(b":")?;
-            write_expr(alloc, out, expr)?;
+            answer.tell("", place);
+            answer.say(":");
+            say_expr(answer, expr);
         }
         Entry::Looped(place, dimension) => {
-            write_numbered(alloc, out, "", *place)?;
-            write_numbered(alloc, out, ":index ", *dimension)?;
+            answer.tell("", place);
+            answer.tell(":index ", dimension);
         }
     }
-    out.extend_from_slice(b",")
+    answer.say(",");
 }
 
 // What a store puts: the operation, where there is one, and the number.
-fn write_put(alloc: Global, out: &mut Vec<u8>, op: Option<BinaryOp>, expr: &Expr) -> Written {
-    out.extend_from_slice(b" ")?;
+fn say_put(answer: &mut Answer, op: Option<BinaryOp>, expr: &Expr) {
+    answer.say(" ");
     if let Some(op) = op {
-        let text = format!(in alloc; "{op:?} ")?;
-        out.extend_from_slice(text.as_bytes())?;
+        answer.debug(&op);
+        answer.say(" ");
     }
-    write_expr(alloc, out, expr)?;
-    out.extend_from_slice(b";")
+    say_expr(answer, expr);
+    answer.say(";");
 }
 
-#[cycle(write_code)]
-fn write_stmt(alloc: Global, out: &mut Vec<u8>, stmt: &Stmt) -> Written {
+#[cycle(say_code)]
+fn say_stmt(answer: &mut Answer, stmt: &Stmt) {
     match stmt {
         Stmt::Loop(dimension, body) => {
-            write_numbered(alloc, out, "loop ", *dimension)?;
-            out.extend_from_slice(b" ")?;
-            write_block(alloc, out, body)
+            answer.tell("loop ", dimension);
+            say_block(answer, body);
         }
         Stmt::If(expr, whole, other) => {
-            out.extend_from_slice(b"if ")?;
-            write_expr(alloc, out, expr)?;
-            out.extend_from_slice(b" ")?;
-            write_block(alloc, out, whole)?;
-            out.extend_from_slice(b" ")?;
-            write_block(alloc, out, other)
+            answer.say("if ");
+            say_expr(answer, expr);
+            say_block(answer, whole);
+            say_block(answer, other);
         }
         Stmt::Keep(slot, ty, op, expr) => {
-            write_numbered(alloc, out, "local ", *slot)?;
-            let text = format!(in alloc; " {ty:?}")?;
-            out.extend_from_slice(text.as_bytes())?;
-            write_put(alloc, out, *op, expr)
+            answer.tell("local ", slot);
+            answer.say(" ");
+            answer.debug(ty);
+            say_put(answer, *op, expr);
         }
         Stmt::Put(number, entries, op, expr) => {
-            write_numbered(alloc, out, "put ", *number)?;
-            write_entries(alloc, out, entries)?;
-            write_put(alloc, out, *op, expr)
+            answer.tell("put ", number);
+            say_entries(answer, entries);
+            say_put(answer, *op, expr);
         }
     }
 }
 
-#[cycle(write_code)]
-fn write_block(alloc: Global, out: &mut Vec<u8>, stmts: &[Stmt]) -> Written {
-    out.extend_from_slice(b"{")?;
+// A block, and a blank before it where something stands there.
+#[cycle(say_code)]
+fn say_block(answer: &mut Answer, stmts: &[Stmt]) {
+    answer.next(" ");
+    answer.say("{");
     for stmt in stmts {
-        out.extend_from_slice(b" ")?;
-        write_stmt(alloc, out, stmt)?;
+        answer.say(" ");
+        say_stmt(answer, stmt);
     }
-    out.extend_from_slice(b" }")
+    answer.say(" }");
 }
 
 /// Reads the code of a line, for the signature of the line.
-pub fn answer(alloc: Global, line: &mut Cursor<'_>) -> Result<Vec<u8>, Unread> {
-    let signature = line.piece(alloc)?;
-    let text = line.text(alloc)?;
-    if text.len() > 65_536 {
-        return Err(Unread::Faulty);
+pub fn kernel_answer(line: &mut Cursor<'_>, answer: &mut Answer) -> Option<()> {
+    let text = line.piece()?;
+    match read_signature(line.alloc, &text) {
+        Ok(signature) => say_code(line, &signature, answer),
+        Err(_) => None,
     }
-    let Ok(signature) = read_signature(alloc, &signature) else {
-        return Err(Unread::Faulty);
-    };
-    match read_code(alloc, &signature, &text) {
-        Ok(code) => {
-            let mut out = Vec::new(alloc);
-            write_block(alloc, &mut out, code.stmts.as_slice())?;
-            Ok(out)
-        }
-        Err(fault) => Ok(format!(in alloc; "{fault:?}")?.into_bytes()),
+}
+
+// Reads the code that a line has next.
+fn say_code(line: &mut Cursor<'_>, signature: &Signature, answer: &mut Answer) -> Option<()>
+    requires { IsWellFormed signature.now }
+{
+    let text = line.short_text()?;
+    match read_code(line.alloc, signature, &text) {
+        Ok(code) => say_block(answer, code.stmts.as_slice()),
+        Err(fault) => answer.debug(&fault),
     }
+    Some(())
 }

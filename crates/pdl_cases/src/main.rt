@@ -1,8 +1,9 @@
-//! Runs the cases of data files, a case a line, and says which differ. Standard input names the
-//! files, a line each.
+//! Runs the cases of data files, a case a line, and the examples, and says which differ. Standard
+//! input names the files, a line each, and the examples with their statuses.
 #![tactic(auto)]
 
 mod affine;
+mod answer;
 mod arguments;
 mod board;
 mod choice;
@@ -16,19 +17,11 @@ mod slices;
 mod statement;
 mod tokens;
 mod tree;
-mod writing;
 
-use cursor::{Cursor, Unread};
-use std::alloc::Global;
+use answer::Answer;
+use cursor::Cursor;
 use std::process::ExitCode;
 use std::{fs, io};
-
-// How many cases were tried, and how many of them differ.
-#[derive(Clone, Copy)]
-struct Counts {
-    cases: u64,
-    differ: u64,
-}
 
 // The calls that a line can make.
 #[derive(Clone, Copy)]
@@ -78,91 +71,166 @@ const CALLS: &[(&str, Call)] = &[
     ("engine", Call::Engine),
 ];
 
-// What the call of a line answers.
-fn answer(alloc: Global, line: &mut Cursor<'_>) -> Result<Vec<u8>, Unread> {
+// Makes the call of a line, and says what it answers.
+fn make_call(line: &mut Cursor<'_>, answer: &mut Answer) -> Option<()> {
     match line.named(CALLS)? {
-        Call::Script => script::answer(alloc, line),
-        Call::Status => script::status_answer(alloc, line),
-        Call::Cut => tokens::cut(alloc, line),
-        Call::Tokens => tokens::answer(alloc, line),
-        Call::Lexemes => tokens::lexemes_answer(alloc, line),
-        Call::Form => statement::form_answer(alloc, line),
-        Call::Statement => statement::tree_answer(alloc, line),
-        Call::Kernel => kernel_code::answer(alloc, line),
-        Call::Slice => slices::answer(alloc, line),
-        Call::Plan => affine::plan_answer(alloc, line),
-        Call::Window => affine::window_answer(alloc, line),
-        Call::Index => choice::index_answer(alloc, line),
-        Call::Range => choice::range_answer(alloc, line),
-        Call::Where => choice::where_answer(alloc, line),
-        Call::Clump => choice::clump_answer(alloc, line),
-        Call::Which => choice::which_answer(alloc, line),
-        Call::Wrap => numbers::wrap_answer(alloc, line),
-        Call::Unary => numbers::unary_answer(alloc, line),
-        Call::Binary => numbers::binary_answer(alloc, line),
-        Call::Engine => engine::answer(alloc, line),
+        Call::Script => script::script_answer(line, answer),
+        Call::Status => script::status_answer(line, answer),
+        Call::Cut => tokens::cut(line, answer),
+        Call::Tokens => tokens::tokens_answer(line, answer),
+        Call::Lexemes => tokens::lexemes_answer(line, answer),
+        Call::Form => statement::form_answer(line, answer),
+        Call::Statement => statement::tree_answer(line, answer),
+        Call::Kernel => kernel_code::kernel_answer(line, answer),
+        Call::Slice => slices::slice_answer(line, answer),
+        Call::Plan => affine::plan_answer(line, answer),
+        Call::Window => affine::window_answer(line, answer),
+        Call::Index => choice::index_answer(line, answer),
+        Call::Range => choice::range_answer(line, answer),
+        Call::Where => choice::where_answer(line, answer),
+        Call::Clump => choice::clump_answer(line, answer),
+        Call::Which => choice::which_answer(line, answer),
+        Call::Wrap => numbers::wrap_answer(line, answer),
+        Call::Unary => numbers::unary_answer(line, answer),
+        Call::Binary => numbers::binary_answer(line, answer),
+        Call::Engine => engine::engine_answer(line, answer),
     }
 }
 
-// What came where it differs from what is expected, or nothing where it doesn't.
-fn difference(alloc: Global, line: &[u8]) -> Result<Option<Vec<u8>>, Unread> {
-    let mut line = Cursor::of(line);
-    let came = answer(alloc, &mut line)?;
-    if !line.takes(b'=') || !line.takes(b'>') {
-        return Err(Unread::Faulty);
+// Whether the call of a line answers what the line has behind its `=>`.
+fn agrees(line: &mut Cursor<'_>, answer: &mut Answer) -> bool {
+    if make_call(line, answer).is_none() || !answer.is_whole() {
+        answer.say(" (no answer)");
+        return false;
     }
-    Ok(if came.as_slice() == line.left() {
-        None
-    } else {
-        Some(came)
-    })
+    line.takes(b'=') && line.takes(b'>') && answer.text().as_bytes() == line.left()
 }
 
 // Tries one line, and says it where it differs.
-fn try_line(rt: &HostRuntime, name: &str, number: usize, line: &str) -> io::Result<bool> {
-    let came = match difference(rt.alloc(), line.as_bytes()) {
-        Ok(None) => return Ok(true),
-        Ok(Some(came)) => String::from_utf8_lossy(rt.alloc(), &came)?,
-        Err(fault) => format!(in rt.alloc(); "no answer: {fault:?}")?,
-    };
-    println!(rt; "{name}:{number}: {line}")?;
-    println!(rt; "    came: {came}")?;
+fn try_line(rt: &HostRuntime, name: &str, number: usize, text: &str) -> io::Result<bool> {
+    let mut line = Cursor::of(rt.alloc(), text.as_bytes());
+    let mut answer = Answer::new(rt.alloc());
+    if agrees(&mut line, &mut answer) {
+        return Ok(true);
+    }
+    let came = answer.text();
+    println!(rt; "{name}:{number}: {text}\n    came: {came}")?;
     Ok(false)
 }
 
-// Tries the cases of a file.
-fn try_file(rt: &HostRuntime, name: &str) -> io::Result<Counts> {
-    let text = fs::read_to_string(rt, name)?;
-    let mut counts = Counts {
-        cases: 0,
-        differ: 0,
-    };
+// How many cases were tried, and how many of them differ.
+#[derive(Clone, Copy)]
+struct Counts {
+    cases: u64,
+    differ: u64,
+}
+
+impl Counts {
+    fn none() -> Counts {
+        Counts {
+            cases: 0,
+            differ: 0,
+        }
+    }
+
+    fn add(&mut self, more: Counts) {
+        self.cases = self.cases.saturating_add(more.cases);
+        self.differ = self.differ.saturating_add(more.differ);
+    }
+
+    fn say(self, rt: &HostRuntime, name: &str) -> io::Result<()> {
+        let Counts { cases, differ } = self;
+        println!(rt; "{name}: {cases} cases, {differ} differ")
+    }
+}
+
+// Tries the cases of a text.
+fn try_lines(rt: &HostRuntime, name: &str, text: &str) -> io::Result<Counts> {
+    let mut counts = Counts::none();
     for (number, line) in text.lines().enumerate() {
         if line.is_empty() || line.starts_with('#') {
             continue;
         }
-        counts.cases = counts.cases.saturating_add(1);
-        if !try_line(rt, name, number.saturating_add(1), line)? {
-            counts.differ = counts.differ.saturating_add(1);
-        }
+        let agrees = try_line(rt, name, number.saturating_add(1), line)?;
+        counts.add(Counts {
+            cases: 1,
+            differ: u64::from(!agrees),
+        });
     }
-    println!(rt; "{name}: {} cases, {} differ", counts.cases, counts.differ)?;
     Ok(counts)
+}
+
+// Tries the cases of a file, and says how many there are.
+fn try_file(rt: &HostRuntime, name: &str) -> io::Result<Counts> {
+    let text = fs::read_to_string(rt, name)?;
+    let counts = try_lines(rt, name, text.as_str())?;
+    counts.say(rt, name)?;
+    Ok(counts)
+}
+
+// Whether a script ends with this status and prints this text.
+fn runs_so(script: &[u8], status: &str, text: &[u8], answer: &mut Answer) -> bool {
+    let mut wanted = Answer::new(answer.alloc);
+    wanted.say(status);
+    wanted.say(" ");
+    wanted.quoted(text);
+    let is_run = script::run_example(script, answer).is_some();
+    is_run && answer.is_whole() && wanted.is_whole() && answer.text() == wanted.text()
+}
+
+// Tries an example, and says what came where it differs.
+fn try_example(
+    rt: &HostRuntime,
+    name: &str,
+    status: &str,
+    script: &[u8],
+    text: &[u8],
+) -> io::Result<Counts> {
+    let mut answer = Answer::new(rt.alloc());
+    if runs_so(script, status, text, &mut answer) {
+        return Ok(Counts {
+            cases: 1,
+            differ: 0,
+        });
+    }
+    let came = answer.text();
+    println!(rt; "{name}: {status}\n    came: {came}")?;
+    Ok(Counts {
+        cases: 1,
+        differ: 1,
+    })
+}
+
+// Tries the example of this name: the script `NAME.pdl` prints the text `NAME.out`.
+fn try_example_file(rt: &HostRuntime, name: &str, status: &str) -> io::Result<Counts> {
+    let script = read(rt, name, "pdl")?;
+    let text = read(rt, name, "out")?;
+    try_example(rt, name, status, &script, &text)
+}
+
+fn read(rt: &HostRuntime, name: &str, ending: &str) -> io::Result<Vec<u8>> {
+    let path = format!(in rt.alloc(); "{name}.{ending}")?;
+    fs::read(rt, path.as_str())
+}
+
+// Tries the cases of the files of these names, a line each; where a status stands behind a name, the
+// example of that name.
+fn try_files(rt: &HostRuntime, names: &str) -> io::Result<Counts> {
+    let mut all = Counts::none();
+    for line in names.lines() {
+        all.add(match line.split_once(' ') {
+            Some((name, status)) => try_example_file(rt, name, status)?,
+            None => try_file(rt, line)?,
+        });
+    }
+    all.say(rt, "all")?;
+    Ok(all)
 }
 
 // Tries the cases of the files that standard input names, and answers whether none differs.
 fn try_all(rt: &HostRuntime) -> io::Result<bool> {
     let names = io::read_to_string(rt.alloc(), rt.stdin())?;
-    let mut all = Counts {
-        cases: 0,
-        differ: 0,
-    };
-    for name in names.lines() {
-        let counts = try_file(rt, name)?;
-        all.cases = all.cases.saturating_add(counts.cases);
-        all.differ = all.differ.saturating_add(counts.differ);
-    }
-    println!(rt; "all: {} cases, {} differ", all.cases, all.differ)?;
+    let all = try_files(rt, names.as_str())?;
     Ok(all.differ == 0)
 }
 

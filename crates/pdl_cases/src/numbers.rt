@@ -1,11 +1,9 @@
 //! `wrap TYPE N => N`, `unary OPERATOR TYPE N => N`, `binary TYPE N OPERATOR N => N`, or the fault.
 //! Types and operators are written as the crate names them, as `Longlong` and `Add`.
 
-use crate::cursor::{Cursor, Unread};
+use crate::answer::Answer;
+use crate::cursor::Cursor;
 use pdl_elem::{BinaryOp, Ty, UnaryOp, binary, unary, wrap};
-use std::alloc::Global;
-
-type Answer = Result<Vec<u8>, Unread>;
 
 /// The types.
 pub const TYPES: &[(&str, Ty)] = &[
@@ -42,28 +40,30 @@ const BINARY: &[(&str, BinaryOp)] = &[
 ];
 
 /// A number wrapped to a type.
-pub fn wrap_answer(alloc: Global, line: &mut Cursor<'_>) -> Answer {
+pub fn wrap_answer(line: &mut Cursor<'_>, answer: &mut Answer) -> Option<()> {
     let ty = line.named(TYPES)?;
-    let value = wrap(ty, i128::from(line.next_number()?));
-    Ok(format!(in alloc; "{value}")?.into_bytes())
+    answer.show(&wrap(ty, i128::from(line.number()?)));
+    Some(())
 }
 
 /// An operator on one number of a type.
-pub fn unary_answer(alloc: Global, line: &mut Cursor<'_>) -> Answer {
+pub fn unary_answer(line: &mut Cursor<'_>, answer: &mut Answer) -> Option<()> {
     let op = line.named(UNARY)?;
     let ty = line.named(TYPES)?;
-    let value = unary(op, ty, wrap(ty, i128::from(line.next_number()?)));
-    Ok(format!(in alloc; "{value}")?.into_bytes())
+    let value = unary(op, ty, wrap(ty, i128::from(line.number()?)));
+    answer.show(&value);
+    Some(())
 }
 
 /// An operator on two numbers of a type.
-pub fn binary_answer(alloc: Global, line: &mut Cursor<'_>) -> Answer {
+pub fn binary_answer(line: &mut Cursor<'_>, answer: &mut Answer) -> Option<()> {
     let ty = line.named(TYPES)?;
-    let left = wrap(ty, i128::from(line.next_number()?));
+    let left = wrap(ty, i128::from(line.number()?));
     let op = line.named(BINARY)?;
-    let right = wrap(ty, i128::from(line.next_number()?));
+    let right = wrap(ty, i128::from(line.number()?));
     match binary(op, ty, left, right) {
-        Ok(value) => Ok(format!(in alloc; "{value}")?.into_bytes()),
-        Err(fault) => Ok(format!(in alloc; "{fault:?}")?.into_bytes()),
+        Ok(value) => answer.show(&value),
+        Err(fault) => answer.debug(&fault),
     }
+    Some(())
 }

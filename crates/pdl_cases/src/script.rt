@@ -7,8 +7,8 @@
 //!
 //! `status STATUS => N`: the number of a status.
 
-use crate::cursor::{Cursor, Unread};
-use crate::escapes::write_quoted;
+use crate::answer::Answer;
+use crate::cursor::Cursor;
 use pdl_io::{MemSink, MemSource};
 use pdl_shell::{Status, run_shell};
 use std::alloc::Global;
@@ -23,85 +23,131 @@ struct Call {
     failing_writes: Vec<u64>,
 }
 
-fn number_of(line: &mut Cursor<'_>) -> Result<u64, Unread> {
-    match line.number() {
-        Some(number) if number >= 0 => Ok(number.cast_unsigned()),
-        _ => Err(Unread::Faulty),
-    }
+#[derive(Clone, Copy)]
+enum Setting {
+    Word,
+    Reads,
+    Room,
+    FailRead,
+    FailWrite,
 }
 
-fn size_of(line: &mut Cursor<'_>) -> Result<usize, Unread> {
+const SETTINGS: &[(&str, Setting)] = &[
+    ("word", Setting::Word),
+    ("reads", Setting::Reads),
+    ("room", Setting::Room),
+    ("fail-read", Setting::FailRead),
+    ("fail-write", Setting::FailWrite),
+];
+
+// A word of the command line.
+fn word(line: &mut Cursor<'_>) -> Option<String> {
+    let word = line.piece()?;
+    String::from_utf8(word).ok()
+}
+
+fn number_of(line: &mut Cursor<'_>) -> Option<u64> {
+    u64::try_from(line.number()?).ok()
+}
+
+fn size_of(line: &mut Cursor<'_>) -> Option<usize> {
     match number_of(line)? {
-        0 => Err(Unread::Faulty),
-        size => Ok(size as usize),
+        0 => None,
+        size => Some(size as usize),
     }
 }
 
-// Takes one setting, and says whether one was there.
-fn take_setting(alloc: Global, call: &mut Call, line: &mut Cursor<'_>) -> Result<bool, Unread> {
-    if line.takes_setting("word") {
-        let word = line.piece(alloc)?;
-        let Ok(word) = String::from_utf8(word) else {
-            return Err(Unread::Faulty);
-        };
-        call.words.push(word)?;
-    } else if line.takes_setting("reads") {
-        call.reads = Some(size_of(line)?);
-    } else if line.takes_setting("room") {
-        call.room = size_of(line)?;
-    } else if line.takes_setting("fail-read") {
-        call.failing_reads.push(number_of(line)?)?;
-    } else if line.takes_setting("fail-write") {
-        call.failing_writes.push(number_of(line)?)?;
-    } else {
-        return Ok(false);
+// Takes what one setting says.
+fn take_setting(setting: Setting, line: &mut Cursor<'_>, call: &mut Call) -> Option<()> {
+    match setting {
+        Setting::Word => call.words.push(word(line)?).ok(),
+        Setting::Reads => {
+            call.reads = Some(size_of(line)?);
+            Some(())
+        }
+        Setting::Room => {
+            call.room = size_of(line)?;
+            Some(())
+        }
+        Setting::FailRead => call.failing_reads.push(number_of(line)?).ok(),
+        Setting::FailWrite => call.failing_writes.push(number_of(line)?).ok(),
     }
-    Ok(true)
 }
 
-fn settings(alloc: Global, line: &mut Cursor<'_>) -> Result<Call, Unread> {
-    let mut call = Call {
+fn take_settings(line: &mut Cursor<'_>, call: &mut Call) -> Option<()> {
+    for _ in 0..100 {
+        match line.setting(SETTINGS) {
+            Some(setting) => take_setting(setting, line, call)?,
+            None => return Some(()),
+        }
+    }
+    None
+}
+
+fn no_settings(alloc: Global) -> Call {
+    Call {
         words: Vec::new(alloc),
         reads: None,
         room: 65_536,
         failing_reads: Vec::new(alloc),
         failing_writes: Vec::new(alloc),
-    };
-    for _ in 0..100 {
-        if !take_setting(alloc, &mut call, line)? {
-            return Ok(call);
-        }
     }
-    Err(Unread::Faulty)
 }
 
-// The status, and what was written.
-fn run(alloc: Global, call: &Call, script: &[u8], reads: usize) -> Result<Vec<u8>, Unread> {
-    let bytes = Vec::from_slice(alloc, script)?;
-    let failing = Vec::from_slice(alloc, &call.failing_reads)?;
-    let mut source = MemSource::new(bytes, reads.max(1), failing);
-    let failing = Vec::from_slice(alloc, &call.failing_writes)?;
-    let mut sink = MemSink::with_room(alloc, call.room, call.room.max(1), failing)?;
-    let status = run_shell(alloc, &call.words, &mut source, &mut sink);
-    let mut answer = Vec::new(alloc);
-    answer.extend_from_slice(format!(in alloc; "{status:?} ")?.as_bytes())?;
-    write_quoted(&mut answer, sink.bytes())?;
-    Ok(answer)
+fn source(alloc: Global, call: &Call, script: &[u8], reads: usize) -> Option<MemSource> {
+    let bytes = Vec::from_slice(alloc, script).ok()?;
+    let failing = Vec::from_slice(alloc, &call.failing_reads).ok()?;
+    Some(MemSource::new(bytes, reads.max(1), failing))
+}
+
+fn sink(alloc: Global, call: &Call) -> Option<MemSink> {
+    let failing = Vec::from_slice(alloc, &call.failing_writes).ok()?;
+    MemSink::with_room(alloc, call.room, call.room.max(1), failing).ok()
+}
+
+// Runs a script, and says the status and what was written.
+fn run(call: &Call, script: &[u8], reads: usize, answer: &mut Answer) -> Option<()> {
+    let mut source = source(answer.alloc, call, script, reads)?;
+    run_over(call, &mut source, answer)
+}
+
+fn run_over(call: &Call, source: &mut MemSource, answer: &mut Answer) -> Option<()> {
+    let mut sink = sink(answer.alloc, call)?;
+    let status = run_shell(answer.alloc, &call.words, source, &mut sink);
+    answer.debug(&status);
+    answer.say(" ");
+    answer.quoted(sink.bytes());
+    Some(())
+}
+
+/// Runs the script of an example.
+pub fn run_example(script: &[u8], answer: &mut Answer) -> Option<()> {
+    let call = no_settings(answer.alloc);
+    run(&call, script, 4096, answer)
 }
 
 /// Runs the script of a line.
-pub fn answer(alloc: Global, line: &mut Cursor<'_>) -> Result<Vec<u8>, Unread> {
-    let call = settings(alloc, line)?;
-    let script = line.text(alloc)?;
-    let mut answer = run(alloc, &call, &script, call.reads.unwrap_or(4096))?;
-    if call.reads.is_none() {
-        let other = run(alloc, &call, &script, 1)?;
-        if other != answer {
-            answer.extend_from_slice(b", but read byte by byte ")?;
-            answer.extend_from_slice(&other)?;
-        }
+pub fn script_answer(line: &mut Cursor<'_>, answer: &mut Answer) -> Option<()> {
+    let mut call = no_settings(line.alloc);
+    take_settings(line, &mut call)?;
+    run_script(line, &call, answer)
+}
+
+fn run_script(line: &mut Cursor<'_>, call: &Call, answer: &mut Answer) -> Option<()> {
+    let script = line.text()?;
+    match call.reads {
+        Some(reads) => run(call, &script, reads, answer),
+        None => run_twice(call, &script, answer),
     }
-    Ok(answer)
+}
+
+// What a script comes to, and what it comes to byte by byte where that differs.
+fn run_twice(call: &Call, script: &[u8], answer: &mut Answer) -> Option<()> {
+    run(call, script, 4096, answer)?;
+    let mut other = Answer::new(answer.alloc);
+    run(call, script, 1, &mut other)?;
+    answer.otherwise(", but read byte by byte ", &other);
+    Some(())
 }
 
 const STATUSES: &[(&str, Status)] = &[
@@ -115,7 +161,7 @@ const STATUSES: &[(&str, Status)] = &[
 ];
 
 /// The number of a line's status.
-pub fn status_answer(alloc: Global, line: &mut Cursor<'_>) -> Result<Vec<u8>, Unread> {
-    let number = line.named(STATUSES)?.number();
-    Ok(format!(in alloc; "{number}")?.into_bytes())
+pub fn status_answer(line: &mut Cursor<'_>, answer: &mut Answer) -> Option<()> {
+    answer.show(&line.named(STATUSES)?.number());
+    Some(())
 }

@@ -1,61 +1,46 @@
 //! `slice TEXT => ARGUMENTS`, or the fault of the slice text.
 
-use crate::cursor::{Cursor, Unread};
+use crate::answer::Answer;
+use crate::cursor::Cursor;
 use pdl_slices::{SliceArg, read_slice};
-use std::alloc::{AllocError, Global};
 
-// A number, or `-` where it is left out.
-fn number_or_none(alloc: Global, number: Option<i32>) -> Result<String, AllocError> {
+// Writes a number, or `-` where it is left out.
+fn say_or_none(answer: &mut Answer, number: Option<i32>) {
     match number {
-        Some(number) => format!(in alloc; "{number}"),
-        None => String::from_str(alloc, "-"),
+        Some(number) => answer.tell(" ", &number),
+        None => answer.say(" -"),
     }
 }
 
-fn span(
-    alloc: Global,
-    from: Option<i32>,
-    to: Option<i32>,
-    step: Option<i32>,
-) -> Result<String, AllocError> {
-    let from = number_or_none(alloc, from)?;
-    let to = number_or_none(alloc, to)?;
-    let step = number_or_none(alloc, step)?;
-    format!(in alloc; "Span {from} {to} {step}")
-}
-
-fn argument(alloc: Global, arg: SliceArg) -> Result<String, AllocError> {
+fn say_argument(answer: &mut Answer, arg: &SliceArg) {
     match arg {
-        SliceArg::Whole => String::from_str(alloc, "Whole"),
-        SliceArg::One(place) => format!(in alloc; "One {place}"),
-        SliceArg::Dropped(place) => format!(in alloc; "Dropped {place}"),
-        SliceArg::Dummy(size) => format!(in alloc; "Dummy {size}"),
-        SliceArg::Span { from, to, step } => span(alloc, from, to, step),
+        SliceArg::Whole => answer.say("Whole"),
+        SliceArg::One(place) => answer.tell("One ", place),
+        SliceArg::Dropped(place) => answer.tell("Dropped ", place),
+        SliceArg::Dummy(size) => answer.tell("Dummy ", size),
+        SliceArg::Span { from, to, step } => {
+            answer.say("Span");
+            say_or_none(answer, *from);
+            say_or_none(answer, *to);
+            say_or_none(answer, *step);
+        }
     }
 }
 
-fn arguments(alloc: Global, args: &[SliceArg]) -> Result<Vec<u8>, AllocError> {
-    if args.is_empty() {
-        return Ok(Vec::from_slice(alloc, b"none")?);
+fn say_arguments(answer: &mut Answer, args: &[SliceArg]) {
+    for arg in args {
+        answer.next(", ");
+        say_argument(answer, arg);
     }
-    let mut answer = Vec::new(alloc);
-    for (number, arg) in args.iter().enumerate() {
-        if number > 0 {
-            answer.extend_from_slice(b", ")?;
-        }
-        answer.extend_from_slice(argument(alloc, *arg)?.as_bytes())?;
-    }
-    Ok(answer)
+    answer.or_none();
 }
 
 /// Reads the slice text of a line.
-pub fn answer(alloc: Global, line: &mut Cursor<'_>) -> Result<Vec<u8>, Unread> {
-    let text = line.text(alloc)?;
-    if text.len() > 65_536 {
-        return Err(Unread::Faulty);
+pub fn slice_answer(line: &mut Cursor<'_>, answer: &mut Answer) -> Option<()> {
+    let text = line.short_text()?;
+    match read_slice(line.alloc, &text) {
+        Ok(args) => say_arguments(answer, args.as_slice()),
+        Err(fault) => answer.debug(&fault),
     }
-    match read_slice(alloc, &text) {
-        Ok(args) => Ok(arguments(alloc, args.as_slice())?),
-        Err(fault) => Ok(format!(in alloc; "{fault:?}")?.into_bytes()),
-    }
+    Some(())
 }

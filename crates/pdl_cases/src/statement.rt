@@ -1,20 +1,21 @@
 //! `form TEXT => FORM`: the form of a statement, or its fault.
 //! `statement TEXT => TREE`: what a statement says, or its fault.
 
-use crate::cursor::{Cursor, Unread};
-use crate::escapes::write_escaped;
-use crate::tree::write_statement;
+ghost use Rattle.std.specs.Prelude.{◌≤◌, length};
+
+use crate::answer::Answer;
+use crate::cursor::Cursor;
+use crate::tree::say_statement;
 use pdl_lex::{LexFault, tokens};
 use pdl_syntax::{ParseFault, Statement, parse};
-use std::alloc::{AllocError, Global};
+use std::alloc::Global;
 
 // The statement of a text, whose tokens are read first.
-fn read(alloc: Global, text: &[u8]) -> Result<Statement, ParseFault> {
-    if text.len() > 65_536 {
-        return Err(ParseFault::TooDeep);
-    }
+fn read(alloc: Global, text: &[u8]) -> Result<Statement, ParseFault>
+    requires { length text.now ≤ 65536 }
+{
     match tokens(alloc, text) {
-        Ok(found) => parse(alloc, text, found.as_slice()),
+        Ok(found) => parse(alloc, text, &found),
         Err(LexFault::NoMemory) => Err(ParseFault::NoMemory),
         Err(_) => Err(ParseFault::Syntax),
     }
@@ -50,28 +51,21 @@ fn fault_text(fault: ParseFault) -> &'static str {
 }
 
 /// The form of a line's statement.
-pub fn form_answer(alloc: Global, line: &mut Cursor<'_>) -> Result<Vec<u8>, Unread> {
-    let text = line.text(alloc)?;
-    match read(alloc, &text) {
-        Ok(statement) => Ok(Vec::from_slice(alloc, form(&statement).as_bytes())?),
-        Err(fault) => Ok(Vec::from_slice(alloc, fault_text(fault).as_bytes())?),
+pub fn form_answer(line: &mut Cursor<'_>, answer: &mut Answer) -> Option<()> {
+    let text = line.short_text()?;
+    match read(line.alloc, &text) {
+        Ok(statement) => answer.say(form(&statement)),
+        Err(fault) => answer.say(fault_text(fault)),
     }
-}
-
-// What a statement says.
-fn told(alloc: Global, statement: &Statement) -> Result<Vec<u8>, AllocError> {
-    let mut written = Vec::new(alloc);
-    write_statement(alloc, &mut written, statement)?;
-    let mut answer = Vec::new(alloc);
-    write_escaped(&mut answer, &written)?;
-    Ok(answer)
+    Some(())
 }
 
 /// What a line's statement says.
-pub fn tree_answer(alloc: Global, line: &mut Cursor<'_>) -> Result<Vec<u8>, Unread> {
-    let text = line.text(alloc)?;
-    match read(alloc, &text) {
-        Ok(statement) => Ok(told(alloc, &statement)?),
-        Err(fault) => Ok(Vec::from_slice(alloc, fault_text(fault).as_bytes())?),
+pub fn tree_answer(line: &mut Cursor<'_>, answer: &mut Answer) -> Option<()> {
+    let text = line.short_text()?;
+    match read(line.alloc, &text) {
+        Ok(statement) => say_statement(answer, &statement),
+        Err(fault) => answer.say(fault_text(fault)),
     }
+    Some(())
 }

@@ -6,146 +6,169 @@
 
 ghost use Rattle.std.specs.Prelude.{◌≤◌, length};
 
-use crate::cursor::{Cursor, Unread};
-use crate::escapes::write_quoted;
-use pdl_lex::{LexFault, Piece, StatementCutter, Token, cut_parts, tokens};
-use pdl_lexemes::lexemes;
-use std::alloc::{AllocError, Global};
+use crate::answer::Answer;
+use crate::cursor::Cursor;
+use pdl_lex::{Piece, StatementCutter, Token, cut_parts, tokens};
+use pdl_lexemes::{Lexeme, lexemes};
 
-type Answer = Result<Vec<u8>, Unread>;
-
-// The tokens of a text, or its fault.
-fn tokens_of(alloc: Global, text: &[u8]) -> Result<Result<Vec<Token>, LexFault>, Unread> {
-    if text.len() > 65_536 {
-        return Err(Unread::Faulty);
-    }
-    match tokens(alloc, text) {
-        Err(LexFault::NoMemory) => Err(Unread::NoMemory),
-        found => Ok(found),
-    }
-}
-
-// Writes one more of a list.
-fn write_next(answer: &mut Vec<u8>, next: &str) -> Result<(), AllocError> {
-    if !answer.is_empty() {
-        answer.extend_from_slice(b", ")?;
-    }
-    answer.extend_from_slice(next.as_bytes())?;
-    Ok(())
-}
-
-// The list, or `none` for one of nothing.
-fn or_none(alloc: Global, list: Vec<u8>) -> Answer {
-    if list.is_empty() {
-        Ok(Vec::from_slice(alloc, b"none")?)
-    } else {
-        Ok(list)
-    }
-}
+const OTHERWISE: &str = ", but cut otherwise ";
 
 /// The tokens of a line's text.
-pub fn answer(alloc: Global, line: &mut Cursor<'_>) -> Answer {
-    let text = line.text(alloc)?;
-    let found = match tokens_of(alloc, &text)? {
-        Ok(found) => found,
-        Err(fault) => return Ok(format!(in alloc; "{fault:?}")?.into_bytes()),
-    };
-    let mut answer = Vec::new(alloc);
-    for token in &found {
-        let next = format!(in alloc; "{:?} {} {}", token.kind, token.from, token.to)?;
-        write_next(&mut answer, next.as_str())?;
+pub fn tokens_answer(line: &mut Cursor<'_>, answer: &mut Answer) -> Option<()> {
+    let text = line.short_text()?;
+    match tokens(line.alloc, &text) {
+        Ok(found) => say_tokens(answer, &found),
+        Err(fault) => answer.debug(&fault),
     }
-    or_none(alloc, answer)
+    Some(())
+}
+
+fn say_tokens(answer: &mut Answer, found: &[Token]) {
+    for token in found {
+        answer.next(", ");
+        answer.debug(&token.kind);
+        answer.tell(" ", &token.from);
+        answer.tell(" ", &token.to);
+    }
+    answer.or_none();
 }
 
 /// The lexemes of a line's text.
-pub fn lexemes_answer(alloc: Global, line: &mut Cursor<'_>) -> Answer {
-    let text = line.text(alloc)?;
-    let Ok(found) = tokens_of(alloc, &text)? else {
-        return Err(Unread::Faulty);
-    };
-    let mut answer = Vec::new(alloc);
-    for lexeme in &lexemes(alloc, &text, &found)? {
-        let next = format!(in alloc; "{lexeme:?}")?;
-        write_next(&mut answer, next.as_str())?;
+pub fn lexemes_answer(line: &mut Cursor<'_>, answer: &mut Answer) -> Option<()> {
+    let text = line.short_text()?;
+    match tokens(line.alloc, &text) {
+        Ok(found) => say_lexemes_of(&text, &found, answer),
+        Err(_) => None,
     }
-    or_none(alloc, answer)
 }
 
-fn write_piece(alloc: Global, answer: &mut Vec<u8>, piece: &Piece) -> Result<(), AllocError> {
-    if !answer.is_empty() {
-        answer.extend_from_slice(b", ")?;
+fn say_lexemes_of(text: &[u8], found: &[Token], answer: &mut Answer) -> Option<()> {
+    match lexemes(answer.alloc, text, found) {
+        Ok(all) => {
+            say_lexemes(answer, &all);
+            Some(())
+        }
+        Err(_) => None,
     }
+}
+
+fn say_lexemes(answer: &mut Answer, all: &[Lexeme]) {
+    for lexeme in all {
+        answer.next(", ");
+        answer.debug(lexeme);
+    }
+    answer.or_none();
+}
+
+fn say_text(answer: &mut Answer, text: &[u8]) {
+    if text.len() <= 200 {
+        answer.quoted(text);
+    } else {
+        answer.tell("(", &text.len());
+        answer.say(" bytes)");
+    }
+}
+
+fn say_piece(answer: &mut Answer, piece: &Piece) {
     match piece {
         Piece::Whole(cut) => {
-            let text = cut.text.bytes();
-            answer.extend_from_slice(format!(in alloc; "{} ", cut.line)?.as_bytes())?;
-            if text.len() <= 200 {
-                return write_quoted(answer, text);
-            }
-            answer.extend_from_slice(format!(in alloc; "({} bytes)", text.len())?.as_bytes())?;
+            answer.tell("", &cut.line);
+            answer.say(" ");
+            say_text(answer, cut.text.bytes());
         }
         Piece::TooLong { line } => {
-            answer.extend_from_slice(format!(in alloc; "{line} too long")?.as_bytes())?;
+            answer.tell("", line);
+            answer.say(" too long");
         }
     }
-    Ok(())
 }
 
-fn written(alloc: Global, pieces: &[Piece]) -> Answer {
-    let mut answer = Vec::new(alloc);
+fn say_pieces(answer: &mut Answer, pieces: &[Piece]) {
     for piece in pieces {
-        write_piece(alloc, &mut answer, piece)?;
+        answer.next(", ");
+        say_piece(answer, piece);
     }
-    or_none(alloc, answer)
+    answer.or_none();
 }
 
-// The pieces of a script that is fed byte by byte.
-fn cut_bytes(alloc: Global, script: &[u8]) -> Result<Vec<Piece>, Unread>
+// Puts the pieces of a script that is fed byte by byte behind these.
+fn cut_bytes(script: &[u8], found: &mut Vec<Piece>) -> Option<()>
     requires { length script.now ≤ 1_000_000 }
 {
-    let mut cutter = StatementCutter::new(alloc);
-    let mut found = Vec::new(alloc);
+    let mut cutter = StatementCutter::new(*found.allocator());
     for byte in script {
         let Ok(fed) = cutter.feed(&[*byte]) else {
-            return Err(Unread::NoMemory);
+            return None;
         };
-        if let Some(piece) = fed.cut {
-            found.push(piece)?;
-        }
+        put(found, fed.cut)?;
     }
-    if let Some(piece) = cutter.end() {
-        found.push(piece)?;
+    put(found, cutter.end())
+}
+
+fn put(found: &mut Vec<Piece>, piece: Option<Piece>) -> Option<()> {
+    match piece {
+        Some(piece) => found.push(piece).ok(),
+        None => Some(()),
     }
-    Ok(found)
+}
+
+// The statements of a script byte by byte.
+fn cut_singly(script: &[u8], answer: &mut Answer) -> Option<()>
+    requires { length script.now ≤ 1_000_000 }
+{
+    let mut found = Vec::new(answer.alloc);
+    cut_bytes(script, &mut found)?;
+    say_pieces(answer, &found);
+    Some(())
 }
 
 // The statements of a script in two parts.
-fn cut_halves(alloc: Global, front: &[u8], back: &[u8]) -> Answer
+fn cut_halves(front: &[u8], back: &[u8], answer: &mut Answer) -> Option<()>
     requires front { length front.now ≤ 1_000_000 }
     requires back { length back.now ≤ 1_000_000 }
 {
-    match cut_parts(alloc, &[front, back]) {
-        Ok(found) => written(alloc, &found),
-        Err(_) => Err(Unread::NoMemory),
+    match cut_parts(answer.alloc, &[front, back]) {
+        Ok(found) => {
+            say_pieces(answer, &found);
+            Some(())
+        }
+        Err(_) => None,
     }
 }
 
 /// The statements of a line's script.
-pub fn cut(alloc: Global, line: &mut Cursor<'_>) -> Answer {
-    let script = line.text(alloc)?;
+pub fn cut(line: &mut Cursor<'_>, answer: &mut Answer) -> Option<()> {
+    let script = line.text()?;
     if script.len() > 1_000_000 {
-        return Err(Unread::Faulty);
+        return None;
     }
+    cut_all_ways(&script, answer)
+}
+
+// The statements of a script, and what comes of other parts where it differs.
+fn cut_all_ways(script: &[u8], answer: &mut Answer) -> Option<()>
+    requires { length script.now ≤ 1_000_000 }
+{
+    cut_halves(script, b"", answer)?;
+    compare_halves(script, answer)?;
+    compare_single(script, answer)
+}
+
+fn compare_halves(script: &[u8], answer: &mut Answer) -> Option<()>
+    requires { length script.now ≤ 1_000_000 }
+{
     let (front, back) = script.split_at(script.len() / 2);
-    let mut answer = cut_halves(alloc, &script, b"")?;
-    let halves = cut_halves(alloc, front, back)?;
-    let bytes = written(alloc, &cut_bytes(alloc, &script)?)?;
-    for other in [halves, bytes] {
-        if other != answer {
-            answer.extend_from_slice(b", but cut otherwise ")?;
-            answer.extend_from_slice(&other)?;
-        }
-    }
-    Ok(answer)
+    let mut other = Answer::new(answer.alloc);
+    cut_halves(front, back, &mut other)?;
+    answer.otherwise(OTHERWISE, &other);
+    Some(())
+}
+
+fn compare_single(script: &[u8], answer: &mut Answer) -> Option<()>
+    requires { length script.now ≤ 1_000_000 }
+{
+    let mut other = Answer::new(answer.alloc);
+    cut_singly(script, &mut other)?;
+    answer.otherwise(OTHERWISE, &other);
+    Some(())
 }

@@ -1,172 +1,157 @@
 //! Statements as texts: each part is written, operators first, and each argument ends with `;`.
 
-use pdl_elem::Name;
-use pdl_syntax::{Arg, AssignOp, Expr, Statement, ViewCall};
-use std::alloc::{AllocError, Global};
+use crate::answer::Answer;
+use pdl_buf::Made;
+use pdl_elem::{Name, type_name};
+use pdl_shape::dims_list;
+use pdl_syntax::{Arg, Expr, Statement, ViewCall};
 
-type Written = Result<(), AllocError>;
-
-fn write_text(out: &mut Vec<u8>, text: &[u8]) -> Written {
-    out.extend_from_slice(text)
-}
-
-fn write_number(alloc: Global, out: &mut Vec<u8>, n: i64) -> Written {
-    let text = format!(in alloc; "{n}")?;
-    out.extend_from_slice(text.as_bytes())
-}
-
-#[cycle(write)]
-pub fn write_expr(alloc: Global, out: &mut Vec<u8>, e: &Expr) -> Written {
-    match e {
-        Expr::Number(n) => write_number(alloc, out, *n),
-        Expr::Named(name) => write_text(out, name.bytes()),
-        Expr::List(made) => write_made(alloc, out, made),
-        Expr::Unary(op, a) => {
-            let word = format!(in alloc; "({op:?} ")?;
-            write_text(out, word.as_bytes())?;
-            write_expr(alloc, out, a)?;
-            write_text(out, b")")
+#[cycle(say)]
+fn say_expr(answer: &mut Answer, expr: &Expr) {
+    match expr {
+        Expr::Number(number) => answer.show(number),
+        Expr::Named(name) => answer.escaped(name.bytes()),
+        Expr::List(made) => say_made(answer, made),
+        Expr::Unary(op, inner) => {
+            answer.operator(op);
+            say_expr(answer, inner);
+            answer.say(")");
         }
-        Expr::Binary(op, a, b) => {
-            let word = format!(in alloc; "({op:?} ")?;
-            write_text(out, word.as_bytes())?;
-            write_expr(alloc, out, a)?;
-            write_text(out, b" ")?;
-            write_expr(alloc, out, b)?;
-            write_text(out, b")")
+        Expr::Binary(op, left, right) => {
+            answer.operator(op);
+            say_expr(answer, left);
+            answer.say(" ");
+            say_expr(answer, right);
+            answer.say(")");
         }
         Expr::Call(name, args) => {
-            write_text(out, name.bytes())?;
-            write_text(out, b"(")?;
+            answer.escaped(name.bytes());
+            answer.say("(");
             for arg in args {
-                write_arg(alloc, out, arg)?;
+                say_arg(answer, arg);
             }
-            write_text(out, b")")
+            answer.say(")");
         }
     }
 }
 
-#[cycle(write)]
-fn write_arg(alloc: Global, out: &mut Vec<u8>, arg: &Arg) -> Written {
+#[cycle(say)]
+fn say_arg(answer: &mut Answer, arg: &Arg) {
     match arg {
-        Arg::Value(e) => write_expr(alloc, out, e)?,
-        Arg::Str(text) => write_text(out, text.bytes())?,
-        Arg::OfType(ty) => write_text(out, pdl_elem::type_name(*ty).as_bytes())?,
+        Arg::Value(expr) => say_expr(answer, expr),
+        Arg::Str(text) => answer.escaped(text.bytes()),
+        Arg::OfType(ty) => answer.say(type_name(*ty)),
     }
-    write_text(out, b";")
+    answer.say(";");
 }
 
-fn write_made(alloc: Global, out: &mut Vec<u8>, made: &pdl_buf::Made) -> Written {
-    write_text(out, pdl_elem::type_name(made.ty).as_bytes())?;
-    for size in pdl_shape::dims_list(&made.dims) {
-        write_text(out, b" ")?;
-        write_number(alloc, out, i64::from(*size))?;
+fn say_made(answer: &mut Answer, made: &Made) {
+    answer.say(type_name(made.ty));
+    for size in dims_list(&made.dims) {
+        answer.tell(" ", size);
     }
-    write_text(out, b":")?;
-    for n in &made.elems.to_vec(alloc)? {
-        write_text(out, b" ")?;
-        write_number(alloc, out, *n)?;
+    answer.say(":");
+    match made.elems.to_vec(answer.alloc) {
+        Ok(numbers) => say_numbers(answer, &numbers),
+        Err(_) => answer.lacks(),
     }
-    Ok(())
 }
 
-fn write_args(alloc: Global, out: &mut Vec<u8>, args: &[Arg]) -> Written {
+fn say_numbers(answer: &mut Answer, numbers: &[i64]) {
+    for number in numbers {
+        answer.tell(" ", number);
+    }
+}
+
+fn say_args(answer: &mut Answer, args: &[Arg]) {
     for arg in args {
-        write_arg(alloc, out, arg)?;
+        say_arg(answer, arg);
     }
-    Ok(())
 }
 
-fn write_views(alloc: Global, out: &mut Vec<u8>, views: &[ViewCall]) -> Written {
+fn say_views(answer: &mut Answer, views: &[ViewCall]) {
     for view in views {
-        write_text(out, b"->")?;
-        write_text(out, view.method.bytes())?;
-        write_text(out, b"(")?;
-        write_args(alloc, out, view.args.as_slice())?;
-        write_text(out, b")")?;
+        answer.say("->");
+        answer.escaped(view.method.bytes());
+        answer.say("(");
+        say_args(answer, view.args.as_slice());
+        answer.say(")");
     }
-    Ok(())
 }
 
-fn write_names(out: &mut Vec<u8>, names: &[Name]) -> Written {
+fn say_names(answer: &mut Answer, names: &[Name]) {
     for name in names {
-        write_text(out, name.bytes())?;
-        write_text(out, b" ")?;
+        say_word(answer, name.bytes(), " ");
     }
-    Ok(())
 }
 
-fn write_sign(alloc: Global, out: &mut Vec<u8>, op: AssignOp) -> Written {
-    let word = format!(in alloc; " {op:?} ")?;
-    write_text(out, word.as_bytes())
+fn say_word(answer: &mut Answer, word: &[u8], behind: &str) {
+    answer.escaped(word);
+    answer.say(behind);
 }
 
-fn write_word(out: &mut Vec<u8>, word: &[u8], text: &[u8]) -> Written {
-    write_text(out, word)?;
-    write_text(out, text)
-}
-
-fn write_slot(alloc: Global, out: &mut Vec<u8>, slot: u64) -> Written {
-    let text = format!(in alloc; " {slot}")?;
-    out.extend_from_slice(text.as_bytes())
-}
-
-fn write_definition(out: &mut Vec<u8>, name: &[u8], signature: &[u8], code: &[u8]) -> Written {
-    write_word(out, b"define ", name)?;
-    write_word(out, b"|", signature)?;
-    write_word(out, b"|", code)
-}
-
-// Statements of a word and at most one part; the others are written by `write_statement`.
-fn write_short(alloc: Global, out: &mut Vec<u8>, statement: &Statement) -> Written {
+// Statements of a word and at most one part; the others are written by `say_statement`.
+fn say_short(answer: &mut Answer, statement: &Statement) {
     match statement {
-        Statement::ShowText { text } => write_word(out, b"text ", text.bytes()),
-        Statement::Sever { name } => write_word(out, b"sever ", name.bytes()),
-        Statement::Undef { name } => write_word(out, b"undef ", name.bytes()),
-        Statement::Vars => write_text(out, b"vars"),
-        Statement::Unwatch { slot } => {
-            write_text(out, b"unwatch")?;
-            write_slot(alloc, out, *slot)
-        }
-        _ => write_text(out, b"another"),
+        Statement::ShowText { text } => say_behind(answer, "text ", text.bytes()),
+        Statement::Sever { name } => say_behind(answer, "sever ", name.bytes()),
+        Statement::Undef { name } => say_behind(answer, "undef ", name.bytes()),
+        Statement::Vars => answer.say("vars"),
+        Statement::Unwatch { slot } => answer.tell("unwatch ", slot),
+        _ => answer.say("another"),
     }
 }
 
-pub fn write_statement(alloc: Global, out: &mut Vec<u8>, statement: &Statement) -> Written {
+fn say_behind(answer: &mut Answer, word: &str, text: &[u8]) {
+    answer.say(word);
+    answer.escaped(text);
+}
+
+/// Writes what a statement says.
+pub fn say_statement(answer: &mut Answer, statement: &Statement) {
     match statement {
         Statement::Bind { name, value, sever } => {
-            write_text(out, name.bytes())?;
-            write_text(out, if *sever { b" severed " } else { b" bound " })?;
-            write_expr(alloc, out, value)
+            say_word(
+                answer,
+                name.bytes(),
+                if *sever { " severed " } else { " bound " },
+            );
+            say_expr(answer, value);
         }
         Statement::BindList { names, value } => {
-            write_names(out, names.as_slice())?;
-            write_expr(alloc, out, value)
+            say_names(answer, names.as_slice());
+            say_expr(answer, value);
         }
         Statement::Assign { target, op, value } => {
-            write_text(out, target.name.bytes())?;
-            write_views(alloc, out, target.views.as_slice())?;
-            write_sign(alloc, out, *op)?;
-            write_expr(alloc, out, value)
+            answer.escaped(target.name.bytes());
+            say_views(answer, target.views.as_slice());
+            answer.say(" ");
+            answer.debug(op);
+            answer.say(" ");
+            say_expr(answer, value);
         }
         Statement::Show { value, info } => {
-            write_text(out, if *info { b"info " } else { b"show " })?;
-            write_expr(alloc, out, value)
+            answer.say(if *info { "info " } else { "show " });
+            say_expr(answer, value);
         }
         Statement::Reshape { name, sizes } => {
-            write_word(out, b"reshape ", name.bytes())?;
-            write_text(out, b" ")?;
-            write_args(alloc, out, sizes.as_slice())
+            say_behind(answer, "reshape ", name.bytes());
+            answer.say(" ");
+            say_args(answer, sizes.as_slice());
         }
         Statement::PpDef {
             name,
             signature,
             code,
-        } => write_definition(out, name.bytes(), signature.bytes(), code.bytes()),
-        Statement::Watch { name, slot } => {
-            write_word(out, b"watch ", name.bytes())?;
-            write_slot(alloc, out, *slot)
+        } => {
+            say_behind(answer, "define ", name.bytes());
+            say_behind(answer, "|", signature.bytes());
+            say_behind(answer, "|", code.bytes());
         }
-        _ => write_short(alloc, out, statement),
+        Statement::Watch { name, slot } => {
+            say_behind(answer, "watch ", name.bytes());
+            answer.tell(" ", slot);
+        }
+        _ => say_short(answer, statement),
     }
 }

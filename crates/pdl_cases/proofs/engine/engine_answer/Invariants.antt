@@ -1,4 +1,4 @@
-use Rattle.pdl_cases.proofs.engine.answer.Given as goal
+use Rattle.pdl_cases.proofs.engine.engine_answer.Given as goal
 
 -- the ledger is the one that was made here
 abbrev pub ghosts-run : goal.ghosts-run
