@@ -106,11 +106,18 @@ fn agrees(line: &mut Cursor<'_>, answer: &mut Answer) -> bool {
     line.takes(b'=') && line.takes(b'>') && answer.text().as_bytes() == line.left()
 }
 
+// Whether a line holds: its call answers what stands behind its `=>`; or, where the line begins with
+// `!`, it doesn't.
+fn holds(line: &mut Cursor<'_>, answer: &mut Answer) -> bool {
+    let must_differ = line.takes(b'!');
+    agrees(line, answer) != must_differ
+}
+
 // Tries one line, and says it where it differs.
 fn try_line(rt: &HostRuntime, name: &str, number: usize, text: &str) -> io::Result<bool> {
     let mut line = Cursor::of(rt.alloc(), text.as_bytes());
     let mut answer = Answer::new(rt.alloc());
-    if agrees(&mut line, &mut answer) {
+    if holds(&mut line, &mut answer) {
         return Ok(true);
     }
     let came = answer.text();
