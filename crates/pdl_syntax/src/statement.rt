@@ -51,8 +51,7 @@ impl<'s> Reader<'s> {
         ensures read { Gives tree_of result (reads expression_to_end_at self.now tokens.now) }
     {
         let (value, rest) = self.expression(tokens)?;
-        rest.end()?;
-        Ok(value)
+        ended(value, &rest)
     }
 
     // A postfix form before an arrow, this word and the end, or else an expression up to the end;
@@ -82,8 +81,7 @@ impl<'s> Reader<'s> {
         match tokens.after_keyword(word) {
             None => {
                 let (value, rest) = self.grown(7, first, tokens)?;
-                rest.end()?;
-                Ok((value, false))
+                Ok((ended(value, &rest)?, false))
             }
             Some(rest) => {
                 if rest.is_brackets() {
@@ -106,8 +104,7 @@ impl<'s> Reader<'s> {
         if !by_word && left.len() <= rest.len() {
             return Err(Refusal::Refused);
         }
-        rest.end()?;
-        Ok(value)
+        ended(value, &rest)
     }
 
     fn bind(&self, name: Span, tokens: &Lexemes<'_>) -> Result<Statement, Refusal>
@@ -271,6 +268,7 @@ impl<'s> Reader<'s> {
         self.definition(name, signature, code)
     }
 
+    // A definition of the three strings at these places.
     fn definition(&self, name: Span, signature: Span, code: Span) -> Result<Statement, Refusal>
         ensures ok { IfOk result
             (λ s. statement_of s ≡ texts_at self.now.source.now name signature code) }
@@ -285,6 +283,14 @@ impl<'s> Reader<'s> {
             code,
         })
     }
+}
+
+// A value behind which nothing is left.
+fn ended(value: Expr, rest: &Lexemes<'_>) -> Result<Expr, Refusal>
+    ensures read { Gives tree_of result (at_end (tree_of value) rest.now) }
+{
+    rest.end()?;
+    Ok(value)
 }
 
 fn vars(tokens: &Lexemes<'_>) -> Result<Statement, Refusal>
