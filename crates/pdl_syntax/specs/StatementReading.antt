@@ -23,11 +23,12 @@ abbrev pub sever_at : List ℕ → List Lexeme → Option StatementTree
 sever_at name ts = if is_brackets ts then Some (sever name) else None
 
 module _ (source : List ℕ) where
+  -- a definition of the three strings at these places
   abbrev pub texts_at : Span → Span → Span → StatementTree
   texts_at name signature code = pp_def (bytes_at source name) (bytes_at source signature)
       (bytes_at source code)
 
-  -- the three strings of a definition
+  -- a definition from its code on, and from its signature on
   abbrev pub code_at : Span → Span → List Lexeme → Option StatementTree
   code_at name signature ts =
       option_and_then (λ c. option_and_then (at_end (texts_at name signature c.0))
