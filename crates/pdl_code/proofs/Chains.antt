@@ -14,6 +14,10 @@ use Rattle.pdl_code.proofs.RawJoins.{join_join, code_join_join, code_join_done}
 pub one_less : (e c : ℕ) → c < e → e - c ≡ suc (e - (c + 1))
 one_less e c h = omega arith
 
+-- what a loop begins with
+pub begun : {A : Type 0} (g : ℕ → List Lexeme → A) (n m : ℕ) (ts us : List Lexeme) → n ≡ m → ts ≡ us → g (n - 0) ts ≡ g m us
+begun g n m ts us same copied = let e : n - 0 ≡ n = omega arith in ap (λ k. g k ts) (e ∙ same) ∙ ap (g m) copied
+
 module _ (inner : List Lexeme → Read RawTree) (l : ℕ) where
   pub chain_stop_at : (k : ℕ) (t : RawTree) (ts : List Lexeme) → operator_at l ts ≡ None → chain_at inner l k t ts ≡ Some (t, ts)
   unfolding chain_at
@@ -26,6 +30,14 @@ module _ (inner : List Lexeme → Read RawTree) (l : ℕ) where
   unfolding chain_at
   chain_turn_at k t ts us rest op x e h = rw e (rw h)
 
+  pub chain_fail_at : (k : ℕ) (t : RawTree) (ts us : List Lexeme) (op : BinaryOp) → operator_at l ts ≡ Some (op, us) → inner us ≡ None → chain_at inner l (suc k) t ts ≡ None
+  unfolding chain_at
+  chain_fail_at k t ts us op e h = rw e (rw h)
+
+  pub chain_last : (k : ℕ) (t : RawTree) (ts : List Lexeme) → k ≡ 0 → chain_at inner l k t ts ≡ Some (t, ts)
+  unfolding chain_at
+  chain_last k t ts e = rw e
+
 module _ (inner : List Lexeme → Read RawTree) (b : ℕ) where
   pub chain_stop : (k : ℕ) (t : RawTree) (ts : List Lexeme) → operator_at (b + 1) ts ≡ None → chain_at inner (suc b) k t ts ≡ Some (t, ts)
   chain_stop k t ts e = chain_stop_at inner (suc b) k t ts (rw add-one at e)
@@ -34,6 +46,9 @@ module _ (inner : List Lexeme → Read RawTree) (b : ℕ) where
       operator_at (b + 1) ts ≡ Some (op, us) → inner us ≡ Some (x, rest) →
       chain_at inner (suc b) (suc k) t ts ≡ chain_at inner (suc b) k (binary op t x) rest
   chain_turn k t ts us rest op x e h = chain_turn_at inner (suc b) k t ts us rest op x (rw add-one at e) h
+
+  pub chain_fail : (k : ℕ) (t : RawTree) (ts us : List Lexeme) (op : BinaryOp) → operator_at (b + 1) ts ≡ Some (op, us) → inner us ≡ None → chain_at inner (suc b) (suc k) t ts ≡ None
+  chain_fail k t ts us op e h = chain_fail_at inner (suc b) k t ts us op (rw add-one at e) h
 
 pub before_before : (a b : RawIndices) (o : Read RawIndices) → before (join_raw a b) o ≡ before a (before b o)
 before_before a b None = refl

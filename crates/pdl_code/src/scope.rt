@@ -1,5 +1,5 @@
 //! What names stand for at a place of the text.
-ghost use Rattle.std.specs.Prelude.{◌≡◌, ◌-◌, ◌+◌, ◌++◌, ◌∷◌, [], take, drop, get_or, nat_eq, bytes_eq, option_map, OnOk, IfErr};
+ghost use Rattle.std.specs.Prelude.{◌≡◌, ◌-◌, ◌+◌, ◌++◌, ◌∷◌, [], take, nat_eq, OnOk, IfErr};
 ghost use Rattle.pdl_code.specs.Fit.{argument_of};
 ghost use Rattle.pdl_code.specs.Refused.{is_input};
 ghost use Rattle.pdl_code.specs.Scope.{argument_place, axis_of, bare, bytes_of, dim_place, meant, place_by, slot_in};
