@@ -2,42 +2,36 @@
 #![tactic(auto)]
 
 mod arrays;
-mod choices;
-mod moves;
 mod operators;
-mod printing;
 mod reads;
 mod stopwatch;
-mod walks;
 mod words;
 
-use crate::words::{Subject, subject_named, type_named};
+use crate::stopwatch::Timing;
+use crate::words::{SUBJECTS, Subject, TYPES, named};
 use pdl_elem::Ty;
-use std::alloc::Global;
+use std::alloc::{AllocError, Global};
 use std::process::ExitCode;
 use std::rt::Clock;
 use std::{env, io};
 
 const USAGE: &str = "usage: pdl_bench [TYPE SUBJECT..]";
 
-// Times one subject, at a type where it has elements.
-fn time(
-    rt: &(impl Print + Clock),
-    alloc: Global,
-    ty: Ty,
-    word: &str,
-    subject: Subject,
-) -> io::Result<()> {
+// Times one subject at a type.
+fn time(clock: &impl Clock, alloc: Global, ty: Ty, subject: Subject) -> Result<Timing, AllocError> {
     match subject {
-        Subject::Operator(op) => operators::time(rt, alloc, word, op, ty),
-        Subject::Window(form) => reads::time(rt, alloc, word, form, ty),
-        Subject::Gather => moves::time_gather(rt, alloc, ty),
-        Subject::Scatter => moves::time_scatter(rt, alloc, ty),
-        Subject::Print => printing::time(rt, alloc, ty),
-        Subject::Walk => walks::time(rt, alloc),
-        Subject::Index => choices::time_index(rt, alloc),
-        Subject::Range => choices::time_ranges(rt, alloc),
+        Subject::Operator(op) => operators::time(clock, alloc, op, ty),
+        Subject::Window(form) => reads::time(clock, alloc, form, ty),
     }
+}
+
+// Times what a word names, and answers whether it names something.
+fn time_word(rt: &(impl Print + Clock), alloc: Global, ty: Ty, word: &str) -> io::Result<bool> {
+    let Some(subject) = named(SUBJECTS, word) else {
+        return Ok(false);
+    };
+    time(rt, alloc, ty, subject)?.report(rt, word)?;
+    Ok(true)
 }
 
 // Times what the words name, one by one, up to one that names nothing, and answers whether each
@@ -49,30 +43,34 @@ fn time_all(
     words: &[String],
 ) -> io::Result<bool> {
     for word in words {
-        match subject_named(word.as_str()) {
-            Some(subject) => time(rt, alloc, ty, word.as_str(), subject)?,
-            None => return Ok(false),
+        if !time_word(rt, alloc, ty, word.as_str())? {
+            return Ok(false);
         }
     }
     Ok(true)
 }
 
-// The same, where the first word names the type.
+// The same, where the program's name and the word of a type stand before them.
 fn time_words(rt: &(impl Print + Clock), alloc: Global, words: &[String]) -> io::Result<bool> {
-    let Some((first, rest)) = words.split_first() else {
+    let [_, first, rest @ ..] = words else {
         return Ok(true);
     };
-    match type_named(first.as_str()) {
+    match named(TYPES, first.as_str()) {
         Some(ty) => time_all(rt, alloc, ty, rest),
         None => Ok(false),
     }
 }
 
-fn main(rt: HostRuntime) -> io::Result<ExitCode> {
-    let words: Vec<String> = env::args(&rt)?.skip(1).collect(rt.alloc())?;
-    if time_words(&rt, rt.alloc(), &words)? {
+// Does what the words of the command line ask.
+fn answer(rt: &(impl Print + Clock), alloc: Global, words: &[String]) -> io::Result<ExitCode> {
+    if time_words(rt, alloc, words)? {
         return Ok(ExitCode::SUCCESS);
     }
     println!(rt; "{USAGE}")?;
     Ok(ExitCode::from(2))
+}
+
+fn main(rt: HostRuntime) -> io::Result<ExitCode> {
+    let words: Vec<String> = env::args(&rt)?.collect(rt.alloc())?;
+    answer(&rt, rt.alloc(), &words)
 }

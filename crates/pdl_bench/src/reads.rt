@@ -1,14 +1,13 @@
 //! Windows that are read in blocks.
 ghost use Rattle.std.specs.Prelude.{◌≡◌, length, IfOk};
-ghost use Rattle.pdl_shape.specs.Triple.{Reaches};
+ghost use Rattle.pdl_shape.specs.Triple.{IsTriple, Reaches};
 
-use crate::arrays::{filled, shape};
-use crate::stopwatch::{RUNS, Stopwatch};
-use pdl_buf::{Strided, strided, strided_dims, strided_read};
+use crate::arrays::filled;
+use crate::stopwatch::{RUNS, Timing, UNKNOWN, now, since};
+use pdl_buf::{Buf, Strided, strided, strided_dims, strided_read};
 use pdl_elem::Ty;
-use pdl_shape::{Triple, elements_of, triple_of, whole_triple};
-use std::alloc::Global;
-use std::io;
+use pdl_shape::{Triple, dims_of, elements_of, triple_of};
+use std::alloc::{AllocError, Global};
 use std::rt::Clock;
 
 /// How many elements the buffer has.
@@ -33,113 +32,86 @@ pub enum Form {
     Rows,
 }
 
-// All elements in order.
-fn in_order(alloc: Global) -> io::Result<Triple>
+// A window from the first element on.
+fn window(alloc: Global, incs: &[i32], sizes: &[u32]) -> Result<Triple, AllocError>
+    requires triple { IsTriple (record { offset = 0; incs = incs.now; dims = sizes.now }) }
+    requires inside { Reaches (record { offset = 0; incs = incs.now; dims = sizes.now }) 1048576 }
     ensures { IfOk result (λ triple. Reaches triple 1048576) }
 {
-    let dims = shape(alloc, &[COUNT])?;
-    Ok(whole_triple(alloc, &dims))
+    match dims_of(alloc, sizes) {
+        Ok(dims) => Ok(triple_of(alloc, 0, incs, &dims)),
+        Err(_) => Err(AllocError),
+    }
 }
 
-// Every second element.
-fn stepped(alloc: Global) -> io::Result<Triple>
-    ensures { IfOk result (λ triple. Reaches triple 1048576) }
-{
-    let dims = shape(alloc, &[524_288])?;
-    Ok(triple_of(alloc, 0, &[2], &dims))
-}
-
-// A plane with its rows as columns.
-fn turned(alloc: Global) -> io::Result<Triple>
-    ensures { IfOk result (λ triple. Reaches triple 1048576) }
-{
-    let dims = shape(alloc, &[1_024, 1_024])?;
-    Ok(triple_of(alloc, 0, &[1_024, 1], &dims))
-}
-
-// A stretched column.
-fn stretched(alloc: Global) -> io::Result<Triple>
-    ensures { IfOk result (λ triple. Reaches triple 1048576) }
-{
-    let dims = shape(alloc, &[1_024, 1_024])?;
-    Ok(triple_of(alloc, 0, &[0, 1], &dims))
-}
-
-// Rows of three elements.
-fn rows(alloc: Global) -> io::Result<Triple>
-    ensures { IfOk result (λ triple. Reaches triple 1048576) }
-{
-    let dims = shape(alloc, &[3, 262_144])?;
-    Ok(triple_of(alloc, 0, &[1, 4], &dims))
-}
-
-// The triple of a window.
-fn triple(alloc: Global, form: Form) -> io::Result<Triple>
+// The window of a form.
+fn window_as(alloc: Global, form: Form) -> Result<Triple, AllocError>
     ensures { IfOk result (λ triple. Reaches triple 1048576) }
 {
     match form {
-        Form::InOrder => in_order(alloc),
-        Form::Stepped => stepped(alloc),
-        Form::Turned => turned(alloc),
-        Form::Stretched => stretched(alloc),
-        Form::Rows => rows(alloc),
+        Form::InOrder => window(alloc, &[1], &[COUNT]),
+        Form::Stepped => window(alloc, &[2], &[524_288]),
+        Form::Turned => window(alloc, &[1_024, 1], &[1_024, 1_024]),
+        Form::Stretched => window(alloc, &[0, 1], &[1_024, 1_024]),
+        Form::Rows => window(alloc, &[1, 4], &[3, 262_144]),
     }
 }
 
 /// Times `strided_read` of a whole window, block by block.
-pub fn time(
-    rt: &(impl Print + Clock),
-    alloc: Global,
-    word: &str,
-    form: Form,
-    ty: Ty,
-) -> io::Result<()> {
-    let triple = triple(alloc, form)?;
-    time_triple(rt, alloc, word, ty, &triple)
+pub fn time(clock: &impl Clock, alloc: Global, form: Form, ty: Ty) -> Result<Timing, AllocError> {
+    let triple = window_as(alloc, form)?;
+    time_triple(clock, alloc, ty, &triple)
 }
 
 // Times the window of a triple.
 fn time_triple(
-    rt: &(impl Print + Clock),
+    clock: &impl Clock,
     alloc: Global,
-    word: &str,
     ty: Ty,
     triple: &Triple,
-) -> io::Result<()>
+) -> Result<Timing, AllocError>
     requires { Reaches triple.now 1048576 }
 {
     let buf = filled(alloc, ty, COUNT)?;
-    time_window(rt, alloc, word, &strided(&buf, triple))
+    time_buffer(clock, alloc, &buf, triple)
+}
+
+// The same on this buffer.
+fn time_buffer(
+    clock: &impl Clock,
+    alloc: Global,
+    buf: &Buf,
+    triple: &Triple,
+) -> Result<Timing, AllocError>
+    requires { Reaches triple.now (length buf.now.elems) }
+{
+    time_window(clock, alloc, &strided(buf, triple))
 }
 
 fn time_window(
-    rt: &(impl Print + Clock),
+    clock: &impl Clock,
     alloc: Global,
-    word: &str,
     window: &Strided<'_>,
-) -> io::Result<()> {
+) -> Result<Timing, AllocError> {
     let mut block = vec![in alloc; 0; BLOCK as usize]?;
-    let mut sum = 0;
-    let watch = read_timed(rt, window, &mut block, &mut sum);
-    watch.report(rt, word, elements_of(strided_dims(window)), sum)
+    Ok(time_reads(clock, window, &mut block))
 }
 
 // Reads the window in each run.
-fn read_timed(
-    clock: &impl Clock,
-    window: &Strided<'_>,
-    block: &mut [i64],
-    sum: &mut u64,
-) -> Stopwatch
+fn time_reads(clock: &impl Clock, window: &Strided<'_>, block: &mut [i64]) -> Timing
     requires { length block.old ≡ 512 }
 {
-    let mut watch = Stopwatch::new();
+    let mut timing = Timing {
+        count: elements_of(strided_dims(window)),
+        least: UNKNOWN,
+        sum: 0,
+    };
     for _run in 0..RUNS {
-        watch.start(clock);
-        *sum = read_all(window, block);
-        watch.stop(clock);
+        let start = now(clock);
+        timing.sum = read_all(window, block);
+        timing.least = timing.least.min(since(clock, start));
     }
-    watch
+    timing
 }
 
 // Reads the window block by block, and sums the last numbers of the blocks.

@@ -1,4 +1,4 @@
-//! The time of several runs of one piece of work.
+//! The least time of several runs of one piece of work.
 use std::io::{self, ErrorKind};
 use std::rt::Clock;
 use std::time::Instant;
@@ -6,44 +6,41 @@ use std::time::Instant;
 /// How many runs are timed.
 pub const RUNS: u32 = 9;
 
-/// The least time of the runs so far, in nanoseconds. A run whose time the clock doesn't tell counts
-/// for nothing, so that no loop over runs has to give up.
-#[derive(Drop)]
-pub struct Stopwatch {
-    start: Option<Instant>,
-    least: Option<u64>,
+/// What stands for a time that isn't known.
+pub const UNKNOWN: u64 = u64::MAX;
+
+/// What the clock says, if it says anything.
+pub fn now(clock: &impl Clock) -> Option<Instant> {
+    Instant::now(clock).ok()
 }
 
-impl Stopwatch {
-    pub fn new() -> Stopwatch {
-        Stopwatch {
-            start: None,
-            least: None,
-        }
+/// The nanoseconds since a run began. A time that the clock doesn't tell is unknown, so that no loop
+/// over runs has to give up.
+pub fn since(clock: &impl Clock, start: Option<Instant>) -> u64 {
+    let Some(start) = start else {
+        return UNKNOWN;
+    };
+    match start.elapsed(clock) {
+        Ok(time) => u64::try_from(time.as_nanos()).unwrap_or(UNKNOWN),
+        Err(_) => UNKNOWN,
     }
+}
 
-    /// A run begins.
-    pub fn start(&mut self, clock: &impl Clock) {
-        self.start = Instant::now(clock).ok();
-    }
+/// How many things each run did, the nanoseconds of the shortest run, and what came out of the work.
+#[derive(Clone, Copy)]
+pub struct Timing {
+    pub count: u32,
+    pub least: u64,
+    pub sum: u64,
+}
 
-    /// The run ends.
-    pub fn stop(&mut self, clock: &impl Clock) {
-        let Some(start) = self.start else {
-            return;
-        };
-        if let Ok(time) = start.elapsed(clock) {
-            let nanos = u64::try_from(time.as_nanos()).unwrap_or(u64::MAX);
-            self.least = Some(nanos.min(self.least.unwrap_or(u64::MAX)));
-        }
-    }
-
-    /// Prints the name, how many things each run did, the time of one of them in nanoseconds, and
-    /// what came out of the work.
-    pub fn report(&self, rt: &impl Print, name: &str, count: u32, sum: u64) -> io::Result<()> {
-        let Some(least) = self.least else {
+impl Timing {
+    /// Prints the name, the count, the time of one thing in nanoseconds, and the sum.
+    pub fn report(self, rt: &impl Print, name: &str) -> io::Result<()> {
+        let Timing { count, least, sum } = self;
+        if least == UNKNOWN {
             return Err(ErrorKind::Other.into());
-        };
+        }
         let hundredths = least.saturating_mul(100) / u64::from(count.max(1));
         let whole = hundredths / 100;
         let part = hundredths % 100;

@@ -7,15 +7,10 @@ use pdl_elem::{BinaryOp, Ty};
 pub enum Subject {
     Operator(BinaryOp),
     Window(Form),
-    Gather,
-    Scatter,
-    Print,
-    Walk,
-    Index,
-    Range,
 }
 
-const TYPES: &[(&str, Ty)] = &[
+/// The types by their words.
+pub const TYPES: &[(&str, Ty)] = &[
     ("byte", Ty::Byte),
     ("short", Ty::Short),
     ("ushort", Ty::Ushort),
@@ -23,7 +18,8 @@ const TYPES: &[(&str, Ty)] = &[
     ("longlong", Ty::Longlong),
 ];
 
-const SUBJECTS: &[(&str, Subject)] = &[
+/// What is timed, by its words.
+pub const SUBJECTS: &[(&str, Subject)] = &[
     ("add", Subject::Operator(BinaryOp::Add)),
     ("sub", Subject::Operator(BinaryOp::Sub)),
     ("mul", Subject::Operator(BinaryOp::Mul)),
@@ -45,28 +41,14 @@ const SUBJECTS: &[(&str, Subject)] = &[
     ("turned", Subject::Window(Form::Turned)),
     ("stretched", Subject::Window(Form::Stretched)),
     ("rows_of_3", Subject::Window(Form::Rows)),
-    ("gather", Subject::Gather),
-    ("scatter", Subject::Scatter),
-    ("print", Subject::Print),
-    ("walk", Subject::Walk),
-    ("index", Subject::Index),
-    ("range", Subject::Range),
 ];
 
-// What a word stands for in a table.
-fn named<T: Copy>(table: &[(&str, T)], word: &str) -> Option<T> {
+/// What a word stands for in a table.
+pub fn named<T: Copy>(table: &[(&str, T)], word: &str) -> Option<T> {
     for (name, value) in table {
         if *name == word {
             return Some(*value);
         }
     }
     None
-}
-
-pub fn type_named(word: &str) -> Option<Ty> {
-    named(TYPES, word)
-}
-
-pub fn subject_named(word: &str) -> Option<Subject> {
-    named(SUBJECTS, word)
 }

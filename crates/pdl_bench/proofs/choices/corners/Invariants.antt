@@ -1,6 +1,0 @@
-use Rattle.std.proofs.Common.{◌≡◌, length}
-use Rattle.pdl_bench.proofs.choices.corners.Given as goal
-
--- one number for each time round
-abbrev pub invariant-loop-i : goal.invariant-loop-i
-invariant-loop-i l = length l.corners.items ≡ l.i
