@@ -6,11 +6,12 @@ use Rattle.std.specs.Option.{IsSome}
 use Rattle.slab.specs.Slab.{Slab, get, ContainsKey, with_value}
 use Rattle.slab.specs.Slab.{Updates as Changes}
 use Rattle.slab.proofs.SlabLemmas.{Updates-with_value}
-use Rattle.pdl_nodes.specs.Numbered.{AllBelow, IsPut, Rises, value_at}
+use Rattle.pdl_nodes.specs.Numbered.{IsAbove, IsPut, Rises, value_at}
 use Rattle.pdl_nodes.specs.Row.{Row}
 use Rattle.pdl_nodes.specs.Rows.{Rows, row_at, has, each, other, without, NumbersBelow, Falls}
 use Rattle.pdl_nodes.specs.Table.{node_at, node_or, rows_of, IsTable}
 use Rattle.pdl_nodes.proofs.Finds.{same, differ, has_below, each_has, each_at, falls_each, row_stays, has_stays, has_gone, falls_stays}
+use Rattle.pdl_nodes.proofs.Numbers.{is_above}
 use Rattle.pdl_nodes.proofs.Slots.{Shows, shows, shown}
 
 pub seen : (t : Rows) (keys : List (ℕ × ℕ)) (nodes : Slab Row) → rows_of nodes keys ≡ t → IsTable keys nodes → Shows t keys nodes
@@ -75,8 +76,8 @@ updated_there : (keys new : List (ℕ × ℕ)) (id v : ℕ) (o : Option ℕ) →
 updated_there keys new id v o u n = u.others v (λ e. n (sym e))
 
 -- a number above all is above all that have keys
-pub keys_below : (t : Rows) (keys : List (ℕ × ℕ)) (nodes : Slab Row) (id : ℕ) → rows_of nodes keys ≡ t → IsTable keys nodes → NumbersBelow id t → AllBelow keys id
-keys_below t keys nodes id e i b v h = has_below t id v b (sym (is_there t keys nodes v e i) ∙ h)
+pub keys_below : (t : Rows) (keys : List (ℕ × ℕ)) (nodes : Slab Row) (id : ℕ) → rows_of nodes keys ≡ t → IsTable keys nodes → NumbersBelow id t → IsAbove id keys
+keys_below t keys nodes id e i b = is_above id keys (λ v h. has_below t id v b (sym (is_there t keys nodes v e i) ∙ h))
 
 -- one more node, in a slot that was empty
 pub joined : (t : Rows) (keys next : List (ℕ × ℕ)) (nodes new : Slab Row) (id key : ℕ) (r : Row) → rows_of nodes keys ≡ t → IsTable keys nodes → NumbersBelow id t → Rises next → IsPut keys next id (Some key) → get nodes key ≡ None → Changes nodes new key (Some r) → IsTable next new × (rows_of new next ≡ (id, r) ∷ t)

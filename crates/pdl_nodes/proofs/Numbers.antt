@@ -1,18 +1,18 @@
 -- What lists of numbers in rising order hold of a number, and what edits do.
-use Rattle.std.proofs.Common.{◌≡◌, ℕ, zero, suc, ◌<◌, ◌≤◌, ◌&&◌, Bool, true, false, List, [], ◌∷◌, ◌++◌, length, get_or, set, filter, is_some, Option, Some, None, IfNone, inl, inr, refl, sym, ◌∙◌, ap, subst, arith}
+use Rattle.std.proofs.Common.{◌≡◌, ℕ, zero, suc, ◌<◌, ◌≤◌, Bool, true, false, List, [], ◌∷◌, ◌++◌, length, get_or, set, filter, reverse, not, is_some, Option, Some, None, inl, inr, refl, sym, ◌∙◌, ap, subst, arith}
 use Rattle.std.proofs.lemmas.Bool.Decides.{eqb_tells, leb_tells}
-use Rattle.std.proofs.lemmas.List.{append_assoc}
-use Rattle.std.specs.BTreeMap.{BTreeMap, UpdatesBy, insert_entry}
+use Rattle.std.proofs.lemmas.List.{append_assoc, reverse-append}
+use Rattle.std.specs.BTreeMap.{BTreeMap, UpdatesBy, insert_entry, is_at}
 use Rattle.std.specs.BTreeMap.Range.{range_contains}
 use Rattle.std.specs.Cmp.{nat_cmp_is}
-use Rattle.std.specs.List.{remove}
+use Rattle.std.specs.List.{AllByRecursion, remove}
 use Rattle.std.specs.List.Sorted.{IsStrictlySortedBy}
-use Rattle.std.specs.Map.{keys_of}
+use Rattle.std.specs.Map.{keys_of, lookup}
 use Rattle.std.specs.Option.{option_or}
-use Rattle.std.specs.Ordering.{nat_cmp, is_eq, is_le}
+use Rattle.std.specs.Ordering.{flip_args, is_eq, is_lt, nat_cmp}
 use Rattle.std.specs.declared.cmp.Ordering.TheVariants.{Less, Equal, Greater}
 use Rattle.std.specs.declared.ops.Bound.TheVariants.{Included, Unbounded}
-use Rattle.pdl_nodes.specs.Numbered.{AllAbove, AllBelow, IsPlace, IsPut, Rises, first_from, value_at}
+use Rattle.pdl_nodes.specs.Numbered.{AllAbove, IsAbove, IsPlace, IsPut, Rises, first_from, value_at}
 
 -- the test of a number
 pub at_same : (v k : ℕ) → k ≡ v → is_eq (nat_cmp v k) ≡ true
@@ -36,10 +36,6 @@ is_less a b h = elim (eqb_tells a b) [
 pub or_none : {V : Type 0} (o : Option V) → option_or o None ≡ o
 or_none None = refl
 or_none (Some x) = refl
-
-pub if_none : {V : Type 0} {P : Type 0} (o : Option V) → (o ≡ None → P) → IfNone o P
-if_none None f = f refl
-if_none (Some x) f = tt
 
 module _ {V : Type 0} where
   none_or : (o : Option V) → (is_some o ≡ true → ⊥) → o ≡ None
@@ -68,6 +64,18 @@ module _ {V : Type 0} where
   all_above : (v : ℕ) (es : List (ℕ × V)) → ((u : ℕ) → is_some (value_at es u) ≡ true → v < u) → AllAbove v es
   all_above v [] h = tt
   all_above v (e ∷ es) h = (h e.0 (rw (at_same e.0 e.0 refl) refl), all_above v es (λ u g. h u (with_more e es u g)))
+
+  -- and numbers below it
+  value_below : (v u : ℕ) (es : List (ℕ × V)) → IsAbove v es → is_some (value_at es u) ≡ true → u < v
+  value_below v u [] a h = absurd (cc)
+  value_below v u (e ∷ es) a h = elim (eqb_tells e.0 u) [
+    | inl t ↦ omega (arith, t.1, a.0)
+    | inr t ↦ value_below v u es a.1 (rw (at_other u e.0 t.1) at h)
+  ]
+
+  pub is_above : (v : ℕ) (es : List (ℕ × V)) → ((u : ℕ) → is_some (value_at es u) ≡ true → u < v) → IsAbove v es
+  is_above v [] h = tt
+  is_above v (e ∷ es) h = (h e.0 (rw (at_same e.0 e.0 refl) refl), is_above v es (λ u g. h u (with_more e es u g)))
 
   -- what entries and those after them have
   pub value_append : (es fs : List (ℕ × V)) (v : ℕ) → value_at (es ++ fs) v ≡ option_or (value_at es v) (value_at fs v)
@@ -104,7 +112,7 @@ module _ {V : Type 0} where
         ];
       }
 
-  pub together : (es fs : List (ℕ × V)) → IsParted es fs → Rises (es ++ fs)
+  together : (es fs : List (ℕ × V)) → IsParted es fs → Rises (es ++ fs)
   together [] fs p = p.after
   together (e ∷ es) fs p = (
     above_append e.0 es fs p.before.0 (all_above e.0 fs (λ w g. p.apart e.0 w (rw (at_same e.0 e.0 refl) refl) g)),
@@ -119,7 +127,7 @@ module _ {V : Type 0} where
   none_before es fs v p h = none_or (value_at es v) (λ g. let l : v < v = p.apart v v g h in omega arith)
 
   -- an edit of the later ones, or of the earlier, at a number that they have
-  pub put_after : (es fs gs : List (ℕ × V)) (v : ℕ) (o : Option V) → IsParted es fs → is_some (value_at fs v) ≡ true → Rises gs → IsPut fs gs v o → IsPut (es ++ fs) (es ++ gs) v o × IsParted es gs
+  put_after : (es fs gs : List (ℕ × V)) (v : ℕ) (o : Option V) → IsParted es fs → is_some (value_at fs v) ≡ true → Rises gs → IsPut fs gs v o → IsPut (es ++ fs) (es ++ gs) v o × IsParted es gs
   put_after es fs gs v o p h r q = (
     record {
       here = value_append es gs v ∙ rw (none_before es fs v p h) q.here;
@@ -135,7 +143,7 @@ module _ {V : Type 0} where
     },
   )
 
-  pub put_before : (es gs fs : List (ℕ × V)) (v : ℕ) (o : Option V) → IsParted es fs → value_at fs v ≡ None → (is_some o ≡ true → is_some (value_at es v) ≡ true) → Rises gs → IsPut es gs v o → IsPut (es ++ fs) (gs ++ fs) v o × IsParted gs fs
+  put_before : (es gs fs : List (ℕ × V)) (v : ℕ) (o : Option V) → IsParted es fs → value_at fs v ≡ None → (is_some o ≡ true → is_some (value_at es v) ≡ true) → Rises gs → IsPut es gs v o → IsPut (es ++ fs) (gs ++ fs) v o × IsParted gs fs
   put_before es gs fs v o p z h r q = (
     record {
       here = value_append gs fs v ∙ ap (option_or (value_at gs v)) z ∙ or_none (value_at gs v) ∙ q.here;
@@ -152,9 +160,9 @@ module _ {V : Type 0} where
   )
 
   -- a number above all goes to the end
-  pub put_last : (es : List (ℕ × V)) (v : ℕ) (x : V) → Rises es → AllBelow es v → IsPut es (es ++ (v, x) ∷ []) v (Some x) × Rises (es ++ (v, x) ∷ [])
+  put_last : (es : List (ℕ × V)) (v : ℕ) (x : V) → Rises es → IsAbove v es → IsPut es (es ++ (v, x) ∷ []) v (Some x) × Rises (es ++ (v, x) ∷ [])
   put_last es v x r b =
-      let none : value_at es v ≡ None = none_or (value_at es v) (λ g. let l : v < v = b v g in omega arith) in (
+      let none : value_at es v ≡ None = none_or (value_at es v) (λ g. let l : v < v = value_below v v es b g in omega arith) in (
         record {
           here = value_append es ((v, x) ∷ []) v ∙ rw (none, at_same v v refl) refl;
           others = λ u n. value_append es ((v, x) ∷ []) u ∙ rw (at_other u v (λ y. n (sym y))) (or_none (value_at es u));
@@ -163,7 +171,7 @@ module _ {V : Type 0} where
           before = r;
           after = (tt, tt);
           apart = λ u w g h. elim (eqb_tells v w) [
-            | inl t ↦ (let l : u < v = b u g in omega (arith, t.1))
+            | inl t ↦ (let l : u < v = value_below v u es b g in omega (arith, t.1))
             | inr t ↦ (let z : false ≡ true = rw (at_other w v t.1) at h in absurd (cc))
           ];
         }),
@@ -189,7 +197,7 @@ module _ {V : Type 0} where
       let b : e.0 < v = not_first e es v i r.0 (place_below e es v i p) in
       rw (at_other v e.0 (λ (y : e.0 ≡ v). let z : ⊥ = omega (arith, y) in z)) (value_there es v i d r.1 (place_below e es v i p))
 
-  pub has_there : (es : List (ℕ × V)) (v i : ℕ) → Rises es → IsPlace es v i → is_some (value_at es v) ≡ true
+  has_there : (es : List (ℕ × V)) (v i : ℕ) → Rises es → IsPlace es v i → is_some (value_at es v) ≡ true
   has_there [] v i r p = absurd (omega (arith, p.in_range))
   has_there (e ∷ es) v i r p = ap is_some (value_there (e ∷ es) v i e r p)
 
@@ -220,7 +228,7 @@ module _ {V : Type 0} where
   }
 
   -- another value at a number's place
-  pub put_set : (es : List (ℕ × V)) (v i : ℕ) (x : V) → Rises es → IsPlace es v i → IsPut es (set es i (v, x)) v (Some x)
+  put_set : (es : List (ℕ × V)) (v i : ℕ) (x : V) → Rises es → IsPlace es v i → IsPut es (set es i (v, x)) v (Some x)
   put_set [] v i x r p = absurd (omega (arith, p.in_range))
   put_set (e ∷ es) v zero x r p = record {
     here = rw (at_same v v refl) refl;
@@ -235,7 +243,7 @@ module _ {V : Type 0} where
   above_set u (e ∷ es) v zero x a lt = (lt, a.1)
   above_set u (e ∷ es) v (suc i) x a lt = (a.0, above_set u es v i x a.1 lt)
 
-  pub rises_set : (es : List (ℕ × V)) (v i : ℕ) (x : V) → Rises es → IsPlace es v i → Rises (set es i (v, x))
+  rises_set : (es : List (ℕ × V)) (v i : ℕ) (x : V) → Rises es → IsPlace es v i → Rises (set es i (v, x))
   rises_set [] v i x r p = absurd (omega (arith, p.in_range))
   rises_set (e ∷ es) v zero x r p = (subst (λ n. AllAbove n es) (p.number e) r.0, r.1)
   rises_set (e ∷ es) v (suc i) x r p =
@@ -243,7 +251,7 @@ module _ {V : Type 0} where
       (above_set e.0 es v i x r.0 (not_first e es v i r.0 q), rises_set es v i x r.1 q)
 
   -- a number's entry taken out
-  pub put_removed : (es : List (ℕ × V)) (v i : ℕ) → Rises es → IsPlace es v i → IsPut es (remove es i) v None
+  put_removed : (es : List (ℕ × V)) (v i : ℕ) → Rises es → IsPlace es v i → IsPut es (remove es i) v None
   put_removed [] v i r p = absurd (omega (arith, p.in_range))
   put_removed (e ∷ es) v zero r p = record {
     here = none_below v es (subst (λ n. AllAbove n es) (p.number e) r.0);
@@ -259,31 +267,58 @@ module _ {V : Type 0} where
   above_removed u (e ∷ es) zero a = a.1
   above_removed u (e ∷ es) (suc i) a = (a.0, above_removed u es i a.1)
 
-  pub rises_removed : (es : List (ℕ × V)) (i : ℕ) → Rises es → Rises (remove es i)
+  rises_removed : (es : List (ℕ × V)) (i : ℕ) → Rises es → Rises (remove es i)
   rises_removed [] zero r = tt
   rises_removed [] (suc i) r = tt
   rises_removed (e ∷ es) zero r = r.1
   rises_removed (e ∷ es) (suc i) r = (above_removed e.0 es i r.0, rises_removed es i r.1)
 
-  -- keys that ascend
-  pub rises : (es : List (ℕ × V)) → IsStrictlySortedBy nat_cmp (keys_of es) → Rises es
+  -- the entries of a map whose highest number stands first, from the lowest on
+  turned : (e : ℕ × V) (es : List (ℕ × V)) → reverse (e ∷ es) ≡ reverse es ++ e ∷ []
+  turned e es = reverse-append (e ∷ []) es
+
+  -- what the map finds
+  pub value_turned : (es : List (ℕ × V)) (v : ℕ) → Rises (reverse es) → lookup (is_at (flip_args nat_cmp v)) es ≡ value_at (reverse es) v
+  value_turned [] v r = refl
+  value_turned (e ∷ es) v r =
+      let p : IsParted (reverse es) (e ∷ []) = parted (reverse es) (e ∷ []) (subst Rises (turned e es) r) in
+      let split : value_at (reverse (e ∷ es)) v ≡ option_or (value_at (reverse es) v) (value_at (e ∷ []) v) = ap (λ l. value_at l v) (turned e es) ∙ value_append (reverse es) (e ∷ []) v in
+      elim (eqb_tells e.0 v) [
+        | inl t ↦ (let has : value_at (e ∷ []) v ≡ Some e.1 = rw (at_same v e.0 t.1) refl in
+            let none : value_at (reverse es) v ≡ None = none_before (reverse es) (e ∷ []) v p (ap is_some has) in
+            rw (at_same e.0 v (sym t.1)) (sym (split ∙ ap (λ o. option_or o (value_at (e ∷ []) v)) none ∙ has)))
+        | inr t ↦ (let has : value_at (e ∷ []) v ≡ None = rw (at_other v e.0 t.1) refl in
+            rw (at_other e.0 v (λ y. t.1 (sym y))) (value_turned es v p.before ∙ sym (split ∙ ap (option_or (value_at (reverse es) v)) has ∙ or_none (value_at (reverse es) v))))
+      ]
+
+  lookup_below : (k : ℕ) (es : List (ℕ × V)) → AllByRecursion (λ y. nat_cmp y k ≡ Less) (keys_of es) → (u : ℕ) → is_some (lookup (is_at (flip_args nat_cmp u)) es) ≡ true → u < k
+  lookup_below k [] a u h = absurd (cc)
+  lookup_below k (e ∷ es) a u h = elim (eqb_tells e.0 u) [
+    | inl t ↦ (let l : e.0 < k = is_less e.0 k a.0 in omega (arith, t.1))
+    | inr t ↦ lookup_below k es a.1 u (rw (at_other e.0 u (λ y. t.1 (sym y))) at h)
+  ]
+
+  -- its keys
+  rises : (es : List (ℕ × V)) → IsStrictlySortedBy (flip_args nat_cmp) (keys_of es) → Rises (reverse es)
   unfolding IsStrictlySortedBy
   rises [] s = tt
-  rises (e ∷ es) s = (above e.0 es s.0, rises es s.1) where
-    above : (n : ℕ) (xs : List (ℕ × V)) → Rattle.std.specs.List.AllByRecursion (λ y. nat_cmp n y ≡ Less) (keys_of xs) → AllAbove n xs
-    above n [] a = tt
-    above n (x ∷ xs) a = (is_less n x.0 a.0, above n xs a.1)
+  rises ((k, x) ∷ es) s =
+      let r : Rises (reverse es) = rises es s.1 in
+      let b : IsAbove k (reverse es) = is_above k (reverse es) (λ u h. lookup_below k es s.0 u (ap is_some (value_turned es u r) ∙ h)) in
+      subst Rises (sym (turned (k, x) es)) (put_last (reverse es) k x r b).1
 
-  -- the first of the later ones goes to the end of the earlier
-  pub entry_last : (es fs : List (ℕ × V)) (k : ℕ) (x : V) → Rises (es ++ (k, x) ∷ fs) → insert_entry nat_cmp es k x ≡ es ++ (k, x) ∷ []
-  entry_last [] fs k x r = refl
-  entry_last (e ∷ es) fs k x r =
-      let b : AllAbove e.0 es × AllAbove e.0 ((k, x) ∷ fs) = above_both e.0 es ((k, x) ∷ fs) r.0 in
-      rw (sym (nat_cmp_is k e.0 Greater b.1.0)) (ap (λ l. e ∷ l) (entry_last es fs k x r.1))
+  -- the first of the later ones goes to the front of the map
+  entry_first : (es fs : List (ℕ × V)) (k : ℕ) (x : V) → Rises (reverse es ++ (k, x) ∷ fs) → insert_entry (flip_args nat_cmp) es k x ≡ (k, x) ∷ es
+  entry_first [] fs k x r = refl
+  entry_first (e ∷ es) fs k x r =
+      let p : IsParted (reverse (e ∷ es)) ((k, x) ∷ fs) = parted (reverse (e ∷ es)) ((k, x) ∷ fs) r in
+      let here : is_some (value_at (reverse (e ∷ es)) e.0) ≡ true = ap is_some (sym (value_turned (e ∷ es) e.0 p.before)) ∙ rw (at_same e.0 e.0 refl) refl in
+      let l : e.0 < k = p.apart e.0 k here (rw (at_same k k refl) refl) in
+      rw (sym (nat_cmp_is e.0 k Less l)) refl
 
-  pub first_moved : (es fs : List (ℕ × V)) (d : ℕ × V) → 0 < length fs → Rises (es ++ fs) → (let f = get_or fs 0 d in insert_entry nat_cmp es f.0 f.1 ++ remove fs 0 ≡ es ++ fs)
+  pub first_moved : (es fs : List (ℕ × V)) (d : ℕ × V) → 0 < length fs → Rises (reverse es ++ fs) → (let f = get_or fs 0 d in reverse (insert_entry (flip_args nat_cmp) es f.0 f.1) ++ remove fs 0 ≡ reverse es ++ fs)
   first_moved es [] d lt r = absurd (omega arith)
-  first_moved es ((k, x) ∷ fs) d lt r = ap (λ l. l ++ fs) (entry_last es fs k x r) ∙ append_assoc es ((k, x) ∷ []) fs
+  first_moved es ((k, x) ∷ fs) d lt r = ap (λ l. reverse l ++ fs) (entry_first es fs k x r) ∙ ap (λ l. l ++ fs) (turned (k, x) es) ∙ append_assoc (reverse es) ((k, x) ∷ []) fs
 
   -- the first number from v on
   pub first_append : (es fs : List (ℕ × V)) (v : ℕ) → first_from (es ++ fs) v ≡ option_or (first_from es v) (first_from fs v)
@@ -294,33 +329,78 @@ module _ {V : Type 0} where
   ]
 
   abbrev inside : ℕ → ℕ × V → Bool
-  inside v e = range_contains nat_cmp (Included v) Unbounded e.0
+  inside v e = range_contains (flip_args nat_cmp) Unbounded (Included v) e.0
 
   inside_true : (v : ℕ) (e : ℕ × V) → v ≤ e.0 → inside v e ≡ true
   inside_true v e l = elim (eqb_tells v e.0) [
-    | inl t ↦ ap (λ o. is_le o && true) (sym (nat_cmp_is v e.0 Equal t.1))
-    | inr t ↦ (let m : v < e.0 = omega (arith, l, t.1) in ap (λ o. is_le o && true) (sym (nat_cmp_is v e.0 Less m)))
+    | inl t ↦ ap (λ o. not (is_lt o)) (sym (nat_cmp_is e.0 v Equal (sym t.1)))
+    | inr t ↦ (let m : v < e.0 = omega (arith, l, t.1) in ap (λ o. not (is_lt o)) (sym (nat_cmp_is e.0 v Greater m)))
   ]
 
   inside_false : (v : ℕ) (e : ℕ × V) → e.0 < v → inside v e ≡ false
-  inside_false v e l = ap (λ o. is_le o && true) (sym (nat_cmp_is v e.0 Greater l))
+  inside_false v e l = ap (λ o. not (is_lt o)) (sym (nat_cmp_is e.0 v Less l))
 
-  pub first_between : (es rest : List (ℕ × V)) (v k : ℕ) (x : V) → filter (inside v) es ≡ (k, x) ∷ rest → first_from es v ≡ Some k
-  first_between [] rest v k x h = absurd (cc)
-  first_between (e ∷ es) rest v k x h = elim (leb_tells v e.0) [
-    | inl t ↦ (let f : e ∷ filter (inside v) es ≡ (k, x) ∷ rest = rw (inside_true v e t.1) at h in
-        let a : e ≡ (k, x) = cc in
-        rw t.0 (ap (λ p. Some p.0) a))
-    | inr t ↦ rw t.0 (first_between es rest v k x (rw (inside_false v e (omega (arith, t.1))) at h))
-  ]
+  -- what the map's first entry adds, which is its highest number
+  first_turned : (e : ℕ × V) (es : List (ℕ × V)) (v : ℕ) (o : Option ℕ) → first_from (e ∷ []) v ≡ o → first_from (reverse (e ∷ es)) v ≡ option_or (first_from (reverse es) v) o
+  first_turned e es v o h = ap (λ l. first_from l v) (turned e es) ∙ first_append (reverse es) (e ∷ []) v ∙ ap (option_or (first_from (reverse es) v)) h
 
-  pub none_between : (es : List (ℕ × V)) (v : ℕ) → filter (inside v) es ≡ [] → first_from es v ≡ None
+  pub none_between : (es : List (ℕ × V)) (v : ℕ) → filter (inside v) es ≡ [] → first_from (reverse es) v ≡ None
   none_between [] v h = refl
   none_between (e ∷ es) v h = elim (leb_tells v e.0) [
     | inl t ↦ (let f : e ∷ filter (inside v) es ≡ [] = rw (inside_true v e t.1) at h in absurd (cc))
-    | inr t ↦ rw t.0 (none_between es v (rw (inside_false v e (omega (arith, t.1))) at h))
+    | inr t ↦ first_turned e es v None (rw t.0 refl) ∙ or_none (first_from (reverse es) v) ∙ none_between es v (rw (inside_false v e (omega (arith, t.1))) at h)
   ]
 
-  -- what a map says of an edit
-  pub updated : (m n : BTreeMap ℕ V) (v : ℕ) (o : Option V) → UpdatesBy nat_cmp (nat_cmp v) m n o → IsPut m.entries n.entries v o
-  updated m n v o u = record { here = u.1; others = λ w d. u.2 w (at_other v w d) }
+  pub last_between : (es rest : List (ℕ × V)) (v k : ℕ) (x : V) → filter (inside v) es ≡ rest ++ (k, x) ∷ [] → first_from (reverse es) v ≡ Some k
+  last_between [] [] v k x h = absurd (cc)
+  last_between [] (r ∷ rest) v k x h = absurd (cc)
+  last_between (e ∷ es) [] v k x h = elim (leb_tells v e.0) [
+    | inl t ↦ (let f : e ∷ filter (inside v) es ≡ (k, x) ∷ [] = rw (inside_true v e t.1) at h in
+        let a : e ≡ (k, x) = cc in
+        let z : filter (inside v) es ≡ [] = cc in
+        first_turned e es v (Some e.0) (rw t.0 refl) ∙ ap (λ o. option_or o (Some e.0)) (none_between es v z) ∙ ap (λ p. Some p.0) a)
+    | inr t ↦ first_turned e es v None (rw t.0 refl) ∙ or_none (first_from (reverse es) v) ∙ last_between es [] v k x (rw (inside_false v e (omega (arith, t.1))) at h)
+  ]
+  last_between (e ∷ es) (r ∷ rest) v k x h = elim (leb_tells v e.0) [
+    | inl t ↦ (let f : e ∷ filter (inside v) es ≡ r ∷ (rest ++ (k, x) ∷ []) = rw (inside_true v e t.1) at h in
+        let z : filter (inside v) es ≡ rest ++ (k, x) ∷ [] = cc in
+        first_turned e es v (Some e.0) (rw t.0 refl) ∙ ap (λ o. option_or o (Some e.0)) (last_between es rest v k x z))
+    | inr t ↦ first_turned e es v None (rw t.0 refl) ∙ or_none (first_from (reverse es) v) ∙ last_between es (r ∷ rest) v k x (rw (inside_false v e (omega (arith, t.1))) at h)
+  ]
+
+  -- what the map says of a number, and of an edit
+  pub value_of : (es fs : List (ℕ × V)) (v k : ℕ) → k ≡ v → Rises (reverse es ++ fs) → lookup (is_at (flip_args nat_cmp k)) es ≡ value_at (reverse es) v
+  value_of es fs v k e r = value_turned es k (parted (reverse es) fs r).before ∙ ap (value_at (reverse es)) e
+
+  updated : (m n : BTreeMap ℕ V) (v k : ℕ) (o : Option V) → k ≡ v → Rises (reverse m.entries) → Rises (reverse n.entries) → UpdatesBy (flip_args nat_cmp) (flip_args nat_cmp k) m n o → IsPut (reverse m.entries) (reverse n.entries) v o
+  updated m n v k o e a b u = record {
+    here = ap (value_at (reverse n.entries)) (sym e) ∙ sym (value_turned n.entries k b) ∙ u.1;
+    others = λ w d. sym (value_turned n.entries w b) ∙ u.2 w (at_other w k (λ y. d (sym y ∙ e))) ∙ value_turned m.entries w a;
+  }
+
+  -- the newest get one more, a value of one changes or one goes, or the map is edited
+  pub put_pushed : (es fs gs old : List (ℕ × V)) (v : ℕ) (x : V) → es ++ fs ≡ old → Rises old → IsAbove v old → gs ≡ fs ++ (v, x) ∷ [] → IsPut old (es ++ gs) v (Some x) × Rises (es ++ gs)
+  put_pushed es fs gs old v x same r b g =
+      let eq : es ++ gs ≡ old ++ (v, x) ∷ [] = ap (λ l. es ++ l) g ∙ sym (append_assoc es fs ((v, x) ∷ [])) ∙ ap (λ l. l ++ (v, x) ∷ []) same in
+      let both = put_last old v x r b in
+      (subst (λ l. IsPut old l v (Some x)) (sym eq) both.0, subst Rises (sym eq) both.1)
+
+  pub put_newest : (es fs : List (ℕ × V)) (v i : ℕ) (x : V) → Rises (es ++ fs) → IsPlace fs v i → IsPut (es ++ fs) (es ++ set fs i (v, x)) v (Some x) × Rises (es ++ set fs i (v, x))
+  put_newest es fs v i x r q =
+      let p : IsParted es fs = parted es fs r in
+      let both = put_after es fs (set fs i (v, x)) v (Some x) p (has_there fs v i p.after q) (rises_set fs v i x p.after q) (put_set fs v i x p.after q) in
+      (both.0, together es (set fs i (v, x)) both.1)
+
+  pub remove_newest : (es fs : List (ℕ × V)) (v i : ℕ) → Rises (es ++ fs) → IsPlace fs v i → IsPut (es ++ fs) (es ++ remove fs i) v None × Rises (es ++ remove fs i)
+  remove_newest es fs v i r q =
+      let p : IsParted es fs = parted es fs r in
+      let both = put_after es fs (remove fs i) v None p (has_there fs v i p.after q) (rises_removed fs i p.after) (put_removed fs v i p.after q) in
+      (both.0, together es (remove fs i) both.1)
+
+  pub put_settled : (m n : BTreeMap ℕ V) (fs : List (ℕ × V)) (v k : ℕ) (o : Option V) → k ≡ v → Rises (reverse m.entries ++ fs) → value_at fs v ≡ None → (is_some o ≡ true → is_some (value_at (reverse m.entries) v) ≡ true)
+      → IsStrictlySortedBy (flip_args nat_cmp) (keys_of n.entries) → UpdatesBy (flip_args nat_cmp) (flip_args nat_cmp k) m n o → IsPut (reverse m.entries ++ fs) (reverse n.entries ++ fs) v o × Rises (reverse n.entries ++ fs)
+  put_settled m n fs v k o e r z h s u =
+      let p : IsParted (reverse m.entries) fs = parted (reverse m.entries) fs r in
+      let rs : Rises (reverse n.entries) = rises n.entries s in
+      let both = put_before (reverse m.entries) (reverse n.entries) fs v o p z h rs (updated m n v k o e p.before rs u) in
+      (both.0, together (reverse n.entries) fs both.1)

@@ -1,5 +1,5 @@
 -- Values by numbers, in rising order.
-use Rattle.std.specs.Prelude.{◌≡◌, ◌≢◌, ℕ, ◌<◌, nat_le, if◌then◌else◌, List, [], ◌∷◌, length, true, Option, Some, None, is_some, slice_index_or}
+use Rattle.std.specs.Prelude.{◌≡◌, ◌≢◌, ℕ, ◌<◌, nat_le, if◌then◌else◌, List, [], ◌∷◌, length, Option, Some, None, slice_index_or}
 use Rattle.std.specs.Ordering.{nat_cmp}
 use Rattle.std.specs.Map.{lookup}
 use Rattle.std.specs.BTreeMap.{is_at}
@@ -23,9 +23,10 @@ abbrev pub Rises : {V : Type 0} → List (ℕ × V) → Type 0
 Rises [] = Unit {0}
 Rises (e ∷ es) = AllAbove e.0 es × Rises es
 
--- each number that has a value is below v
-abbrev pub AllBelow : {V : Type 0} → List (ℕ × V) → ℕ → Type 0
-AllBelow es v = (u : ℕ) → is_some (value_at es u) ≡ true → u < v
+-- v is above each number
+abbrev pub IsAbove : {V : Type 0} → ℕ → List (ℕ × V) → Type 0
+IsAbove v [] = Unit {0}
+IsAbove v (e ∷ es) = (e.0 < v) × IsAbove v es
 
 -- v has what is said then, and each other number what it had
 pub record IsPut {V : Type 0} (old new : List (ℕ × V)) (v : ℕ) (o : Option V) : Type 0 where

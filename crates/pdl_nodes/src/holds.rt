@@ -1,7 +1,7 @@
 //! How often each number is held.
 ghost use Rattle.std.specs.Prelude.{◌≡◌, ◌≢◌, ℕ, ◌+◌, ◌-◌, ◌<◌, ◌^◌, ◌==◌, if◌then◌else◌, [], ◌∷◌, true, false, Some, None, OnOk, OnErr};
 ghost use Rattle.pdl_nodes.specs.Rows.{NumbersBelow, has, row_at};
-ghost use Rattle.pdl_nodes.specs.Numbered.{AllBelow};
+ghost use Rattle.pdl_nodes.specs.Numbered.{IsAbove};
 ghost use Rattle.pdl_nodes.specs.Holds.{hold_at, stands, count, going, with_going, goes_in, less_one, one_more, held_once, Beside};
 
 use crate::node::Node;
@@ -24,7 +24,6 @@ pub struct Holds {
 }
 
 impl Model for Holds {
-    ghost use Rattle.pdl_nodes.specs.Numbered.{AllBelow};
     ghost use Rattle.pdl_nodes.specs.Holds.{Counts};
 
     ghost Value = { Counts };
@@ -94,7 +93,7 @@ impl Holds {
 
     /// Holds a number above all others once.
     pub fn insert(&mut self, id: u64) -> Result<(), AllocError>
-        requires above { AllBelow self.old id }
+        requires above { IsAbove id self.old }
         ensures here { OnOk result (hold_at self.new id ≡ Some (held_once)) }
         ensures others { (v : ℕ) → v ≢ id → hold_at self.new v ≡ hold_at self.old v }
         ensures err { OnErr result (self.new ≡ self.old) }

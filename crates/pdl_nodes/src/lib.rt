@@ -5,6 +5,7 @@
 mod apart;
 mod children;
 mod cuts;
+mod descending;
 mod gathering;
 mod holds;
 mod laws;

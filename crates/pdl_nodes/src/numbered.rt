@@ -1,9 +1,10 @@
-//! Values by numbers: `std`'s ordered map, and before it the newest, which are asked for most and
-//! go soonest.
-ghost use Rattle.std.specs.Prelude.{◌≡◌, ◌≢◌, ℕ, ◌<◌, ◌≤◌, ◌++◌, List, [], length, is_some, IsSome, true, Some, None, IfSome, IfNone, OnOk, OnErr};
+//! Values by numbers: `std`'s ordered map, the highest number first, and before it the newest, which
+//! are asked for most and go soonest.
+ghost use Rattle.std.specs.Prelude.{◌≡◌, ℕ, ◌<◌, ◌≤◌, ◌++◌, List, [], length, reverse, is_some, IsSome, true, Some, None, IfSome, IfNone, OnOk, OnErr};
 ghost use Rattle.std.specs.Option.{option_copied};
-ghost use Rattle.pdl_nodes.specs.Numbered.{AllBelow, IsPlace, IsPut, Rises, first_from, most_newest, value_at};
+ghost use Rattle.pdl_nodes.specs.Numbered.{IsAbove, IsPlace, IsPut, Rises, first_from, most_newest, value_at};
 
+use crate::descending::Descending;
 use std::alloc::{AllocError, Global};
 use std::collections::BTreeMap;
 use std::marker::Model;
@@ -17,20 +18,20 @@ const MOST_NEWEST: usize = 8;
 /// and each removal beside 500 others takes hundreds of instructions.
 #[derive(Drop)]
 pub struct Numbered<V> {
-    settled: BTreeMap<u64, V>,
+    settled: BTreeMap<Descending, V>,
     newest: Vec<(u64, V)>,
 }
 
 impl<V> Model for Numbered<V> {
-    ghost use Rattle.std.specs.Prelude.{ℕ, ◌≤◌, List, ◌++◌, length};
+    ghost use Rattle.std.specs.Prelude.{ℕ, ◌≤◌, List, ◌++◌, length, reverse};
     ghost use Rattle.pdl_nodes.specs.Numbered.{Rises, most_newest};
 
     ghost Value = { List (ℕ × V) };
 
-    ghost view = { λ n. n.settled.entries ++ n.newest.items };
+    ghost view = { λ n. reverse n.settled.entries ++ n.newest.items };
 
     ghost invariant = { λ n.
-        Rises (n.settled.entries ++ n.newest.items) × (length n.newest.items ≤ most_newest) };
+        Rises (reverse n.settled.entries ++ n.newest.items) × (length n.newest.items ≤ most_newest) };
 }
 
 impl<V: Copy + Drop> Numbered<V> {
@@ -50,7 +51,7 @@ impl<V: Copy + Drop> Numbered<V> {
     {
         match place(&self.newest, id) {
             Some(at) => Some(&self.newest[at].1),
-            None => self.settled.get(&id),
+            None => self.settled.get(&Descending::of(id)),
         }
     }
 
@@ -78,7 +79,7 @@ impl<V: Copy + Drop> Numbered<V> {
             Some(at) => {
                 self.newest[at] = (id, value);
             }
-            None => match self.settled.get_mut(&id) {
+            None => match self.settled.get_mut(&Descending::of(id)) {
                 Some(kept) => {
                     *kept = value;
                 }
@@ -89,7 +90,7 @@ impl<V: Copy + Drop> Numbered<V> {
 
     /// Gives a number above all others a value.
     pub fn insert(&mut self, id: u64, value: V) -> Result<(), AllocError>
-        requires above { AllBelow self.old id }
+        requires above { IsAbove id self.old }
         ensures put { OnOk result (IsPut self.old self.new id (Some value)) }
         ensures rises { Rises self.new }
         ensures err { OnErr result (self.new ≡ self.old) }
@@ -111,7 +112,7 @@ impl<V: Copy + Drop> Numbered<V> {
                 let (_, taken) = self.newest.remove(at);
                 Some(taken)
             }
-            None => self.settled.remove(&id),
+            None => self.settled.remove(&Descending::of(id)),
         }
     }
 
@@ -119,8 +120,8 @@ impl<V: Copy + Drop> Numbered<V> {
     pub fn from(&self, id: u64) -> Option<u64>
         ensures { result ≡ first_from self.now id }
     {
-        match self.settled.range(id..).next() {
-            Some((first, _)) => Some(*first),
+        match self.settled.range(..=Descending::of(id)).next_back() {
+            Some((first, _)) => Some(first.number()),
             None => first_of(&self.newest, id),
         }
     }
@@ -140,13 +141,13 @@ impl<V: Copy + Drop> Index<u64> for Numbered<V> {
 
 /// Puts the oldest of the newest numbers into the map, where there is no room for one more.
 fn settle<V: Copy + Drop>(
-    settled: &mut BTreeMap<u64, V>,
+    settled: &mut BTreeMap<Descending, V>,
     newest: &mut Vec<(u64, V)>,
 ) -> Result<(), AllocError>
-    requires rises { Rises (settled.old.entries ++ newest.old.items) }
+    requires rises { Rises (reverse settled.old.entries ++ newest.old.items) }
     requires few { length newest.old.items ≤ most_newest }
-    ensures same { settled.new.entries ++ newest.new.items
-        ≡ settled.old.entries ++ newest.old.items }
+    ensures same { reverse settled.new.entries ++ newest.new.items
+        ≡ reverse settled.old.entries ++ newest.old.items }
     ensures room { OnOk result (length newest.new.items < most_newest) }
     ensures few { length newest.new.items ≤ most_newest }
 {
@@ -154,7 +155,7 @@ fn settle<V: Copy + Drop>(
         return Ok(());
     }
     let (id, value) = newest[0];
-    settled.insert(id, value)?;
+    settled.insert(Descending::of(id), value)?;
     newest.remove(0);
     Ok(())
 }

@@ -152,10 +152,6 @@ fn assign_at_root<L: Ledger>(
         root false) table.old }
     ensures counted { steps.new ≡ steps.old + length values.now }
 {
-    if id == root {
-        table.assign_root(root, values, steps);
-        return;
-    }
     put_at_root(table, root, base, id, values, steps);
     table.mark(root, root);
 }
@@ -187,10 +183,9 @@ fn assign_at_base<L: Ledger>(
     }
 }
 
-/// Assigns values to a fresh array. They wait in its base, where that is a
-/// view without repeats, and are put into the root otherwise. It takes a step for
-/// each value, and no memory.
-pub fn assign<L: Ledger>(table: &mut Table, id: u64, values: &[i64], steps: &mut Steps<L>)
+/// Assigns values to a fresh array by what its node says. They wait in its base, where that is a
+/// view without repeats, and are put into the root otherwise. It takes a step for each value.
+fn assign_at_target<L: Ledger>(table: &mut Table, id: u64, values: &[i64], steps: &mut Steps<L>)
     requires order { InOrder table.old }
     requires known { AreKnown table.old }
     requires live { has table.old id ≡ true }
@@ -211,4 +206,23 @@ pub fn assign<L: Ledger>(table: &mut Table, id: u64, values: &[i64], steps: &mut
     } else {
         assign_at_base(table, root, base, id, values, steps)
     }
+}
+
+/// Assigns values to a fresh array: to a root by one look-up, and to a view at its target. It takes
+/// a step for each value, and no memory.
+pub fn assign<L: Ledger>(table: &mut Table, id: u64, values: &[i64], steps: &mut Steps<L>)
+    requires order { InOrder table.old }
+    requires known { AreKnown table.old }
+    requires live { has table.old id ≡ true }
+    requires fresh { is_fresh_in table.old id ≡ true }
+    requires count { length values.now ≡ size_of (row_at table.old id).triple.dims }
+    requires in_range { All (InRange (row_at table.old id).ty) values.now }
+    ensures assigned { IsAssigned table.old id values.now table.new }
+    ensures waits { WaitsTarget table.old id table.new }
+    ensures counted { steps.new ≡ steps.old + length values.now }
+{
+    if table.assign_root(id, values, steps) {
+        return;
+    }
+    assign_at_target(table, id, values, steps)
 }

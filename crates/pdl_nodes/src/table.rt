@@ -1,7 +1,6 @@
-//! Nodes by their numbers: a slab, and the key of each number, in a list in rising order.
-ghost use Rattle.std.specs.Prelude.{◌≡◌, ◌≢◌, ℕ, ◌+◌, ◌-◌, ◌<◌, ◌^◌, ◌∷◌, if◌then◌else◌, [], true, false, length, All, is_none, is_some, Some, None, OnOk, OnErr};
+//! Nodes by their numbers: a slab, and the key of each number.
+ghost use Rattle.std.specs.Prelude.{◌≡◌, ◌≢◌, ℕ, ◌+◌, ◌-◌, ◌<◌, ◌^◌, ◌==◌, ◌∷◌, if◌then◌else◌, [], true, false, length, All, is_none, is_some, Some, None, OnOk, OnErr};
 ghost use Rattle.slab.specs.Slab.{HasRoomFor};
-ghost use Rattle.pdl_buf.specs.Window.{place_at};
 ghost use Rattle.pdl_elem.specs.Types.{InRange};
 ghost use Rattle.pdl_shape.specs.Places.{write};
 ghost use Rattle.pdl_shape.specs.Shape.{size_of};
@@ -9,7 +8,7 @@ ghost use Rattle.pdl_world.specs.Cut.{has_views};
 ghost use Rattle.pdl_nodes.specs.Assigned.{put_all};
 ghost use Rattle.pdl_nodes.specs.Children.{children, noted, one_of};
 ghost use Rattle.pdl_nodes.specs.Marked.{AreListed};
-ghost use Rattle.pdl_nodes.specs.Numbered.{AllBelow, IsPut, Rises, value_at};
+ghost use Rattle.pdl_nodes.specs.Numbered.{IsAbove, IsPut, Rises, value_at};
 ghost use Rattle.pdl_nodes.specs.Table.{IsTable, rows_of};
 ghost use Rattle.pdl_nodes.specs.Placed.{in_order, placed_by};
 ghost use Rattle.pdl_nodes.specs.Spots.{spots};
@@ -67,7 +66,7 @@ fn put_key(
     parent: Option<u64>,
 ) -> Result<(), AllocError>
     requires ordered { Rises keys.old }
-    requires above { AllBelow keys.old id }
+    requires above { IsAbove id keys.old }
     ensures ordered { Rises keys.new }
     ensures updates { OnOk result (IsPut keys.old keys.new id (Some key)) }
     ensures counted { OnOk result
@@ -94,7 +93,7 @@ fn make_room(
     parent: Option<u64>,
 ) -> Result<(), AllocError>
     requires ordered { Rises keys.old }
-    requires above { AllBelow keys.old id }
+    requires above { IsAbove id keys.old }
     ensures ordered { Rises keys.new }
     ensures room { OnOk result (HasRoomFor nodes.new 1) }
     ensures updates { OnOk result
@@ -408,22 +407,28 @@ impl Table {
     }
 
     /// Puts as many values into a root as it has positions, in order, and marks it alone of its
-    /// family, as `mark` does. It takes a step for each value.
-    pub fn assign_root<L: Ledger>(&mut self, id: u64, values: &[i64], steps: &mut Steps<L>)
+    /// family, as `mark` does, a step for each value. A view is left as it is. The answer says
+    /// whether it is a root.
+    pub fn assign_root<L: Ledger>(&mut self, id: u64, values: &[i64], steps: &mut Steps<L>) -> bool
         requires live { has self.old id ≡ true }
-        requires root { (row_at self.old id).root ≡ id }
-        requires buffered { is_buffered (row_at self.old id) ≡ true }
+        requires buffered { (row_at self.old id).root ≡ id
+            → is_buffered (row_at self.old id) ≡ true }
         requires paired { length values.now ≡ size_of (row_at self.old id).triple.dims }
         requires in_range { All (InRange (row_at self.old id).ty) values.now }
-        ensures put { self.new ≡ each (mark_in id id) (each (kept_in id (write
+        ensures root { result ≡ ((row_at self.old id).root == id) }
+        ensures put { self.new ≡ if result then each (mark_in id id) (each (kept_in id (write
             (in_order (size_of (row_at self.old id).triple.dims))
             values.now
-            (row_at self.old id).kept)) self.old) }
-        ensures counted { steps.new ≡ steps.old + length values.now }
+            (row_at self.old id).kept)) self.old) else self.old }
+        ensures counted { steps.new ≡ steps.old + (if result then length values.now else 0) }
     {
         let key = self.keys[id];
+        if self.nodes[key].root() != id {
+            return false;
+        }
         self.nodes[key].put_in_order(values, steps);
         mark_at(&self.keys, &mut self.nodes, &mut self.marked, id, id, key);
+        true
     }
 
     /// The oldest live number from this one on.

@@ -2,6 +2,7 @@ use Rattle.std.proofs.Common.{sym, ◌∙◌, ap}
 use Rattle.pdl_nodes.specs.Holds.{hold_at}
 use Rattle.pdl_nodes.specs.Rows.{without}
 use Rattle.pdl_nodes.proofs.Finds.{has_below}
+use Rattle.pdl_nodes.proofs.Numbers.{is_above}
 use Rattle.pdl_nodes.proofs.Reaches.{no_hold, beside_same}
 use Rattle.pdl_nodes.proofs.Rests.{without_newest}
 use Rattle.pdl_nodes.proofs.holds.insert.Goals as goal
@@ -13,7 +14,7 @@ pub insert-requires-clause-unmarked : goal.insert-requires-clause-unmarked
 insert-requires-clause-unmarked c = c.requires.unmarked
 
 pub insert-requires-2 : goal.insert-requires-2
-insert-requires-2 c = record { above = λ v h. has_below c.args.table.now c.args.id v c.requires.below (sym (c.requires.beside.numbers v) ∙ h) }
+insert-requires-2 c = record { above = is_above c.args.id c.args.holds.now (λ v h. has_below c.args.table.now c.args.id v c.requires.below (sym (c.requires.beside.numbers v) ∙ h)) }
 
 pub returns-in-Err-clause-err : goal.returns-in-Err-clause-err
 returns-in-Err-clause-err c = c.remove.ensures.rows ∙ ap (without c.args.id) c.in_ok-insert.ensures.ok ∙ without_newest c.args.id c.args.node c.args.table.now c.requires.below

@@ -1,58 +1,42 @@
-use Rattle.std.proofs.Common.{true, false, sym, ◌∙◌, ap, arith}
-use Rattle.pdl_nodes.specs.Row.{Row}
-use Rattle.pdl_nodes.specs.Rows.{row_at}
-use Rattle.pdl_nodes.proofs.Alikes.{root_live, base_live, assigned_root, assigned_base, target_root, target_repeats, flag_is, nothing_root, nothing_repeats}
-use Rattle.pdl_nodes.proofs.Lazy.{waits_root, waits_base}
+use Rattle.std.proofs.Common.{◌≡◌, ℕ, ℤ, true, false, List, Option, refl, sym, ◌∙◌, ap}
+use Rattle.pdl_shape.specs.Places.{write}
+use Rattle.pdl_shape.specs.Shape.{size_of}
+use Rattle.pdl_nodes.specs.Alike.{WaitsTarget, is_fresh_in}
+use Rattle.pdl_nodes.specs.Changes.{kept_in, mark_in}
+use Rattle.pdl_nodes.specs.Families.{InOrder}
+use Rattle.pdl_nodes.specs.Known.{AreKnown}
+use Rattle.pdl_nodes.specs.Late.{settle}
+use Rattle.pdl_nodes.specs.Outcomes.{IsAssigned}
+use Rattle.pdl_nodes.specs.Placed.{in_order}
+use Rattle.pdl_nodes.specs.Rows.{Rows, each, has, row_at}
+use Rattle.pdl_nodes.specs.Worlds.{IsRoot, latest, places_of}
+use Rattle.pdl_nodes.proofs.Alikes.{assigned_root, eqb-true, nothing_root, root_own, target_root}
+use Rattle.pdl_nodes.proofs.Assigning.{root_in_order, rooted_all}
+use Rattle.pdl_nodes.proofs.FamilyLemmas.{latest_none}
+use Rattle.pdl_nodes.proofs.Lazy.{waits_root}
+use Rattle.pdl_nodes.proofs.Origins.{root_buffered}
 use Rattle.pdl_nodes.proofs.push.assign.Goals as goal
 
-pub assign_at_root-requires-clause-root : goal.assign_at_root-requires-clause-root
-assign_at_root-requires-clause-root g c = root_live c.args.table.now c.root-root.result c.args.id c.requires.order.still c.requires.live (sym (c.root-root.ensures ∙ ap (λ (r : Row). r.root) c.node-node.ensures))
+-- values that were put into a fresh root in order are assigned to it
+assigned_itself : (rs new : Rows) (v : ℕ) (vs : List ℤ) → InOrder rs → AreKnown rs → has rs v ≡ true → is_fresh_in rs v ≡ true → (row_at rs v).root ≡ v
+    → new ≡ each (mark_in v v) (each (kept_in v (write (in_order (size_of (row_at rs v).triple.dims)) vs (row_at rs v).kept)) rs)
+    → IsAssigned rs v vs new × WaitsTarget rs v new
+assigned_itself rs new v vs o a h f e n =
+    let i : IsRoot rs v = (h, e) in
+    let own : (row_at rs v).base ≡ v = root_own rs v o.still i in
+    let nothing = nothing_root rs v v v o h e own (ap (λ x. (row_at rs x).mark) (sym own) ∙ f) refl in
+    let target = target_root rs v v v e own refl in
+    let settled : new ≡ each (settle v (write (places_of rs v) vs (latest rs v)) v false) rs =
+    n ∙ ap (λ (ps : List (Option ℕ)). each (mark_in v v) (each (kept_in v (write ps vs (row_at rs v).kept)) rs)) (sym (root_in_order rs v o.still i))
+    ∙ rooted_all rs v _ o.still i nothing
+    ∙ ap (λ es. each (settle v (write (places_of rs v) vs es) v false) rs) (sym (latest_none rs v nothing)) in
+    (assigned_root rs new v v vs o a h e target settled, waits_root rs new v v _ e target settled)
 
-pub assign_at_root-requires-clause-nothing : goal.assign_at_root-requires-clause-nothing
-assign_at_root-requires-clause-nothing g c = nothing_root c.args.table.now c.root-root.result c.base-base.result c.args.id c.requires.order c.requires.live (sym (c.root-root.ensures ∙ ap (λ (r : Row). r.root) c.node-node.ensures)) (sym (c.base-base.ensures ∙ ap (λ (r : Row). r.base) c.node-node.ensures)) (ap (λ x. (row_at c.args.table.now x).mark) (c.base-base.ensures ∙ ap (λ (r : Row). r.base) c.node-node.ensures) ∙ c.requires.fresh) c.if-base-root.true
+pub assign_root-requires-clause-buffered : goal.assign_root-requires-clause-buffered
+assign_root-requires-clause-buffered g c = λ e. root_buffered c.args.table.now c.requires.order.still c.args.id c.requires.live e
 
-pub node-requires : goal.node-requires
-node-requires g c = record { live = base_live c.args.table.now c.base-base.result c.args.id c.requires.order.still c.requires.live (sym (c.base-base.ensures ∙ ap (λ (r : Row). r.base) c.node-node.ensures)) }
+pub returns-then-assign_root-clause-assigned : goal.returns-then-assign_root-clause-assigned
+returns-then-assign_root-clause-assigned g c = (assigned_itself c.args.table.now c.assign_root.new.self c.args.id c.args.values.now c.requires.order c.requires.known c.requires.live c.requires.fresh (eqb-true (row_at c.args.table.now c.args.id).root c.args.id (sym c.if-assign_root.ensures.root)) c.if-assign_root.ensures.put).0
 
-pub assign_at_root-requires-then-repeats-clause-root : goal.assign_at_root-requires-then-repeats-clause-root
-assign_at_root-requires-then-repeats-clause-root g c = root_live c.args.table.now c.root-root.result c.args.id c.requires.order.still c.requires.live (sym (c.root-root.ensures ∙ ap (λ (r : Row). r.root) c.node-node.ensures))
-
-pub assign_at_root-requires-then-repeats-clause-nothing : goal.assign_at_root-requires-then-repeats-clause-nothing
-assign_at_root-requires-then-repeats-clause-nothing g c = nothing_repeats c.args.table.now c.root-root.result c.base-base.result c.args.id c.requires.order c.requires.live (sym (c.root-root.ensures ∙ ap (λ (r : Row). r.root) c.node-node.ensures)) (sym (c.base-base.ensures ∙ ap (λ (r : Row). r.base) c.node-node.ensures)) (ap (λ x. (row_at c.args.table.now x).mark) (c.base-base.ensures ∙ ap (λ (r : Row). r.base) c.node-node.ensures) ∙ c.requires.fresh) (sym (flag_is c.args.table.now c.root-root.result c.base-base.result c.args.id c.requires.order c.requires.live (sym (c.root-root.ensures ∙ ap (λ (r : Row). r.root) c.node-node.ensures)) (sym (c.base-base.ensures ∙ ap (λ (r : Row). r.base) c.node-node.ensures)) (ap (λ x. (row_at c.args.table.now x).mark) (c.base-base.ensures ∙ ap (λ (r : Row). r.base) c.node-node.ensures) ∙ c.requires.fresh)) ∙ ap (λ (r : Row). r.repeats) (sym c.node.ensures) ∙ sym c.repeats.ensures ∙ c.if-repeats.true)
-
-pub assign_at_base-requires-clause-through : goal.assign_at_base-requires-clause-through
-assign_at_base-requires-clause-through g c = record {
-  order = c.requires.order;
-  root = root_live c.args.table.now c.root-root.result c.args.id c.requires.order.still c.requires.live (sym (c.root-root.ensures ∙ ap (λ (r : Row). r.root) c.node-node.ensures));
-  live = c.requires.live;
-  base_is = (sym (c.base-base.ensures ∙ ap (λ (r : Row). r.base) c.node-node.ensures));
-  root_is = (sym (c.root-root.ensures ∙ ap (λ (r : Row). r.root) c.node-node.ensures));
-  marked = (ap (λ x. (row_at c.args.table.now x).mark) (c.base-base.ensures ∙ ap (λ (r : Row). r.base) c.node-node.ensures) ∙ c.requires.fresh);
-  once = (sym (flag_is c.args.table.now c.root-root.result c.base-base.result c.args.id c.requires.order c.requires.live (sym (c.root-root.ensures ∙ ap (λ (r : Row). r.root) c.node-node.ensures)) (sym (c.base-base.ensures ∙ ap (λ (r : Row). r.base) c.node-node.ensures)) (ap (λ x. (row_at c.args.table.now x).mark) (c.base-base.ensures ∙ ap (λ (r : Row). r.base) c.node-node.ensures) ∙ c.requires.fresh)) ∙ ap (λ (r : Row). r.repeats) (sym c.node.ensures) ∙ sym c.repeats.ensures ∙ c.if-repeats.false);
-}
-
-pub returns-then-base-root-clause-assigned : goal.returns-then-base-root-clause-assigned
-returns-then-base-root-clause-assigned g c = assigned_root c.args.table.now c.assign_at_root.new.table c.root-root.result c.args.id c.args.values.now c.requires.order c.requires.known c.requires.live (sym (c.root-root.ensures ∙ ap (λ (r : Row). r.root) c.node-node.ensures)) (target_root c.args.table.now c.root-root.result c.base-base.result c.args.id (sym (c.root-root.ensures ∙ ap (λ (r : Row). r.root) c.node-node.ensures)) (sym (c.base-base.ensures ∙ ap (λ (r : Row). r.base) c.node-node.ensures)) c.if-base-root.true) c.assign_at_root.ensures.settled
-
-pub returns-then-repeats-clause-assigned : goal.returns-then-repeats-clause-assigned
-returns-then-repeats-clause-assigned g c = assigned_root c.args.table.now c.assign_at_root-then-repeats.new.table c.root-root.result c.args.id c.args.values.now c.requires.order c.requires.known c.requires.live (sym (c.root-root.ensures ∙ ap (λ (r : Row). r.root) c.node-node.ensures)) (target_repeats c.args.table.now c.root-root.result c.base-base.result c.args.id true (sym (c.root-root.ensures ∙ ap (λ (r : Row). r.root) c.node-node.ensures)) (sym (c.base-base.ensures ∙ ap (λ (r : Row). r.base) c.node-node.ensures)) (sym (flag_is c.args.table.now c.root-root.result c.base-base.result c.args.id c.requires.order c.requires.live (sym (c.root-root.ensures ∙ ap (λ (r : Row). r.root) c.node-node.ensures)) (sym (c.base-base.ensures ∙ ap (λ (r : Row). r.base) c.node-node.ensures)) (ap (λ x. (row_at c.args.table.now x).mark) (c.base-base.ensures ∙ ap (λ (r : Row). r.base) c.node-node.ensures) ∙ c.requires.fresh)) ∙ ap (λ (r : Row). r.repeats) (sym c.node.ensures) ∙ sym c.repeats.ensures ∙ c.if-repeats.true)) c.assign_at_root-then-repeats.ensures.settled
-
-pub returns-else-repeats-clause-assigned : goal.returns-else-repeats-clause-assigned
-returns-else-repeats-clause-assigned g c = assigned_base c.args.table.now c.assign_at_base.new.table c.root-root.result c.base-base.result c.args.id c.args.values.now (record {
-  order = c.requires.order;
-  root = root_live c.args.table.now c.root-root.result c.args.id c.requires.order.still c.requires.live (sym (c.root-root.ensures ∙ ap (λ (r : Row). r.root) c.node-node.ensures));
-  live = c.requires.live;
-  base_is = (sym (c.base-base.ensures ∙ ap (λ (r : Row). r.base) c.node-node.ensures));
-  root_is = (sym (c.root-root.ensures ∙ ap (λ (r : Row). r.root) c.node-node.ensures));
-  marked = (ap (λ x. (row_at c.args.table.now x).mark) (c.base-base.ensures ∙ ap (λ (r : Row). r.base) c.node-node.ensures) ∙ c.requires.fresh);
-  once = (sym (flag_is c.args.table.now c.root-root.result c.base-base.result c.args.id c.requires.order c.requires.live (sym (c.root-root.ensures ∙ ap (λ (r : Row). r.root) c.node-node.ensures)) (sym (c.base-base.ensures ∙ ap (λ (r : Row). r.base) c.node-node.ensures)) (ap (λ x. (row_at c.args.table.now x).mark) (c.base-base.ensures ∙ ap (λ (r : Row). r.base) c.node-node.ensures) ∙ c.requires.fresh)) ∙ ap (λ (r : Row). r.repeats) (sym c.node.ensures) ∙ sym c.repeats.ensures ∙ c.if-repeats.false);
-}) c.requires.known c.if-base-root.false (target_repeats c.args.table.now c.root-root.result c.base-base.result c.args.id false (sym (c.root-root.ensures ∙ ap (λ (r : Row). r.root) c.node-node.ensures)) (sym (c.base-base.ensures ∙ ap (λ (r : Row). r.base) c.node-node.ensures)) (sym (flag_is c.args.table.now c.root-root.result c.base-base.result c.args.id c.requires.order c.requires.live (sym (c.root-root.ensures ∙ ap (λ (r : Row). r.root) c.node-node.ensures)) (sym (c.base-base.ensures ∙ ap (λ (r : Row). r.base) c.node-node.ensures)) (ap (λ x. (row_at c.args.table.now x).mark) (c.base-base.ensures ∙ ap (λ (r : Row). r.base) c.node-node.ensures) ∙ c.requires.fresh)) ∙ ap (λ (r : Row). r.repeats) (sym c.node.ensures) ∙ sym c.repeats.ensures ∙ c.if-repeats.false)) c.assign_at_base.ensures.awaits
-
-pub returns-then-base-root-clause-waits : goal.returns-then-base-root-clause-waits
-returns-then-base-root-clause-waits g c = waits_root c.args.table.now c.assign_at_root.new.table c.root-root.result c.args.id _ (sym (c.root-root.ensures ∙ ap (λ (r : Row). r.root) c.node-node.ensures)) (target_root c.args.table.now c.root-root.result c.base-base.result c.args.id (sym (c.root-root.ensures ∙ ap (λ (r : Row). r.root) c.node-node.ensures)) (sym (c.base-base.ensures ∙ ap (λ (r : Row). r.base) c.node-node.ensures)) c.if-base-root.true) c.assign_at_root.ensures.settled
-
-pub returns-then-repeats-clause-waits : goal.returns-then-repeats-clause-waits
-returns-then-repeats-clause-waits g c = waits_root c.args.table.now c.assign_at_root-then-repeats.new.table c.root-root.result c.args.id _ (sym (c.root-root.ensures ∙ ap (λ (r : Row). r.root) c.node-node.ensures)) (target_repeats c.args.table.now c.root-root.result c.base-base.result c.args.id true (sym (c.root-root.ensures ∙ ap (λ (r : Row). r.root) c.node-node.ensures)) (sym (c.base-base.ensures ∙ ap (λ (r : Row). r.base) c.node-node.ensures)) (sym (flag_is c.args.table.now c.root-root.result c.base-base.result c.args.id c.requires.order c.requires.live (sym (c.root-root.ensures ∙ ap (λ (r : Row). r.root) c.node-node.ensures)) (sym (c.base-base.ensures ∙ ap (λ (r : Row). r.base) c.node-node.ensures)) (ap (λ x. (row_at c.args.table.now x).mark) (c.base-base.ensures ∙ ap (λ (r : Row). r.base) c.node-node.ensures) ∙ c.requires.fresh)) ∙ ap (λ (r : Row). r.repeats) (sym c.node.ensures) ∙ sym c.repeats.ensures ∙ c.if-repeats.true)) c.assign_at_root-then-repeats.ensures.settled
-
-pub returns-else-repeats-clause-waits : goal.returns-else-repeats-clause-waits
-returns-else-repeats-clause-waits g c = waits_base c.args.table.now c.assign_at_base.new.table c.root-root.result c.base-base.result c.args.id _ (sym (c.root-root.ensures ∙ ap (λ (r : Row). r.root) c.node-node.ensures)) (target_repeats c.args.table.now c.root-root.result c.base-base.result c.args.id false (sym (c.root-root.ensures ∙ ap (λ (r : Row). r.root) c.node-node.ensures)) (sym (c.base-base.ensures ∙ ap (λ (r : Row). r.base) c.node-node.ensures)) (sym (flag_is c.args.table.now c.root-root.result c.base-base.result c.args.id c.requires.order c.requires.live (sym (c.root-root.ensures ∙ ap (λ (r : Row). r.root) c.node-node.ensures)) (sym (c.base-base.ensures ∙ ap (λ (r : Row). r.base) c.node-node.ensures)) (ap (λ x. (row_at c.args.table.now x).mark) (c.base-base.ensures ∙ ap (λ (r : Row). r.base) c.node-node.ensures) ∙ c.requires.fresh)) ∙ ap (λ (r : Row). r.repeats) (sym c.node.ensures) ∙ sym c.repeats.ensures ∙ c.if-repeats.false)) (λ e. omega (arith, e, c.if-base-root.false)) c.assign_at_base.ensures.awaits
+pub returns-then-assign_root-clause-waits : goal.returns-then-assign_root-clause-waits
+returns-then-assign_root-clause-waits g c = (assigned_itself c.args.table.now c.assign_root.new.self c.args.id c.args.values.now c.requires.order c.requires.known c.requires.live c.requires.fresh (eqb-true (row_at c.args.table.now c.args.id).root c.args.id (sym c.if-assign_root.ensures.root)) c.if-assign_root.ensures.put).1

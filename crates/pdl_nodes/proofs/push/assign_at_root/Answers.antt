@@ -1,13 +1,11 @@
-use Rattle.std.proofs.Common.{false, ℕ, All, List, Option, sym, ◌∙◌, ap, subst}
-use Rattle.pdl_elem.specs.Types.{InRange}
+use Rattle.std.proofs.Common.{false, sym, ◌∙◌, ap}
 use Rattle.pdl_shape.specs.Places.{write}
-use Rattle.pdl_shape.specs.Shape.{size_of}
 use Rattle.pdl_nodes.specs.Row.{Row, is_buffered}
 use Rattle.pdl_nodes.specs.Rows.{row_at, has, each}
-use Rattle.pdl_nodes.specs.Changes.{kept_in, mark_in}
+use Rattle.pdl_nodes.specs.Changes.{mark_in}
 use Rattle.pdl_nodes.specs.Late.{settle}
 use Rattle.pdl_nodes.specs.Worlds.{places_of}
-use Rattle.pdl_nodes.proofs.Assigning.{root_in_order, rooted_all}
+use Rattle.pdl_nodes.proofs.Assigning.{rooted_all}
 use Rattle.pdl_nodes.proofs.FamilyLemmas.{latest_none}
 use Rattle.pdl_nodes.proofs.Finds.{each_has, each_at}
 use Rattle.pdl_nodes.proofs.Origins.{root_buffered}
@@ -28,23 +26,5 @@ mark-requires-clause-buffered g c = ap (λ t. is_buffered (row_at t c.args.root)
 pub returns-clause-settled : goal.returns-clause-settled
 returns-clause-settled g c =
     c.mark.ensures ∙ ap (each (mark_in c.args.root c.args.root)) c.put_at_root.ensures.put
-    ∙ rooted_all c.args.table.now c.args.root _ c.requires.order.still c.requires.root c.requires.nothing
-    ∙ ap (λ es. each (settle c.args.root (write (places_of c.args.table.now c.args.id) c.args.values.now es) c.args.root false) c.args.table.now) (sym (latest_none c.args.table.now c.args.root c.requires.nothing))
-
--- the root itself
-pub assign_root-requires-clause-buffered : goal.assign_root-requires-clause-buffered
-assign_root-requires-clause-buffered g c = root_buffered c.args.table.now c.requires.order.still c.args.root c.requires.root.0 c.requires.root.1
-
-pub assign_root-requires-clause-paired : goal.assign_root-requires-clause-paired
-assign_root-requires-clause-paired g c = c.requires.count ∙ ap (λ v. size_of (row_at c.args.table.now v).triple.dims) c.if-id-root.true
-
-pub assign_root-requires-clause-in_range : goal.assign_root-requires-clause-in_range
-assign_root-requires-clause-in_range g c = subst (λ v. All (InRange (row_at c.args.table.now v).ty) c.args.values.now) c.if-id-root.true c.requires.in_range
-
-pub returns-then-id-root-clause-settled : goal.returns-then-id-root-clause-settled
-returns-then-id-root-clause-settled g c =
-    c.assign_root.ensures.put
-    ∙ ap (λ (ps : List (Option ℕ)). each (mark_in c.args.root c.args.root) (each (kept_in c.args.root (write ps c.args.values.now (row_at c.args.table.now c.args.root).kept)) c.args.table.now))
-    (sym (root_in_order c.args.table.now c.args.root c.requires.order.still c.requires.root) ∙ ap (places_of c.args.table.now) (sym c.if-id-root.true))
     ∙ rooted_all c.args.table.now c.args.root _ c.requires.order.still c.requires.root c.requires.nothing
     ∙ ap (λ es. each (settle c.args.root (write (places_of c.args.table.now c.args.id) c.args.values.now es) c.args.root false) c.args.table.now) (sym (latest_none c.args.table.now c.args.root c.requires.nothing))
