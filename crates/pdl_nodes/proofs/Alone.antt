@@ -1,5 +1,5 @@
 -- One hold less where nothing is loose: nothing goes, or one array alone, or it and some above it.
-use Rattle.std.proofs.Common.{◌≡◌, ◌≢◌, ℕ, ◌+◌, ◌-◌, ◌<◌, Bool, true, false, eqb, nat_lt, [], ◌∷◌, Option, Some, None, is_none, is_some, inl, inr, refl, sym, ◌∙◌, ap, subst, arith}
+use Rattle.std.proofs.Common.{◌≡◌, ◌≢◌, ℕ, ◌+◌, ◌-◌, ◌<◌, ◌||◌, Bool, true, false, eqb, nat_lt, [], ◌∷◌, Option, Some, None, is_none, is_some, inl, inr, refl, sym, ◌∙◌, ap, subst, arith}
 use Rattle.std.proofs.Math.Path.{fun_ext}
 use Rattle.std.proofs.lemmas.Bool.{cases_Bool}
 use Rattle.std.proofs.lemmas.Bool.Decides.{eqb_tells, leb_tells}
@@ -8,14 +8,14 @@ use Rattle.pdl_world.specs.Swept.{holds}
 use Rattle.pdl_nodes.specs.declared.holds.Hold.{Hold}
 use Rattle.pdl_nodes.specs.declared.origin.Origin.{Origin}
 use Rattle.pdl_nodes.specs.declared.origin.Origin.TheVariants.{Root, View}
-use Rattle.pdl_nodes.specs.Children.{children}
+use Rattle.pdl_nodes.specs.Children.{children, left, one_of}
 use Rattle.pdl_nodes.specs.Families.{IsWaiting, InOrder}
 use Rattle.pdl_nodes.specs.Going.{goes_from, going_at, going_size, going_sum}
 use Rattle.pdl_nodes.specs.Holds.{Counts, Beside, hold_at, is_held, stands, count, count_in, going, going_in, goes_in, less_one, after_release, count_after, with_going}
 use Rattle.pdl_nodes.specs.Known.{AreKnown}
-use Rattle.pdl_nodes.specs.Outcomes.{waiting_size}
+use Rattle.pdl_nodes.specs.Outcomes.{IsReady, waiting_size}
 use Rattle.pdl_nodes.specs.Released.{KeepsWaiting}
-use Rattle.pdl_nodes.specs.Risen.{AreMarked, AreTight, IsFewer, IsForgotten, IsLetGo, IsLoose, IsRisen, IsTight}
+use Rattle.pdl_nodes.specs.Risen.{AreMarked, AreTight, ComesFrom, GoesAlone, IsFewer, IsForgotten, IsLetGo, IsLoose, IsRisen, IsTight}
 use Rattle.pdl_nodes.specs.Row.{Row, parent_from, parent_of}
 use Rattle.pdl_nodes.specs.Rows.{Rows, row_at, has, other, reached, without}
 use Rattle.pdl_nodes.specs.Staying.{staying}
@@ -25,14 +25,15 @@ use Rattle.pdl_nodes.proofs.Counted.{views_counted}
 use Rattle.pdl_nodes.proofs.Finds.{differ, has_gone, has_stays, same}
 use Rattle.pdl_nodes.proofs.Goings.{stays_all}
 use Rattle.pdl_nodes.proofs.Gone.{IsSettledSo, beside_taken, let_go_as, let_go_is, starts_live, starts_tight, under_first}
-use Rattle.pdl_nodes.proofs.Leavings.{going_sums, has_staying}
-use Rattle.pdl_nodes.proofs.Lefts.{older_has}
-use Rattle.pdl_nodes.proofs.Letting.{fewer_then, letting_last, letting_none, loose_listed, marked_none}
+use Rattle.pdl_nodes.proofs.Leavings.{going_sums, has_staying, still_parents}
+use Rattle.pdl_nodes.proofs.Lefts.{left_all, left_less, no_one, older_has, one_is, told}
+use Rattle.pdl_nodes.proofs.FamilyLemmas.{still_falls}
+use Rattle.pdl_nodes.proofs.Letting.{fewer_then, letting_last, letting_none, loose_listed, marked_none, more_than, or_right}
 use Rattle.pdl_nodes.proofs.Paths.{parent_live}
 use Rattle.pdl_nodes.proofs.Reaches.{count_taken, none_of, staying_live, taken}
 use Rattle.pdl_nodes.proofs.Readied.{ready_same}
 use Rattle.pdl_nodes.proofs.Removing.{staying_all}
-use Rattle.pdl_nodes.proofs.Rising.{IsRising, fewer_same, none_less, noted_none, noted_some, rising_goes, rising_none, rising_room}
+use Rattle.pdl_nodes.proofs.Rising.{IsRising, fewer_same, no_both, none_less, noted_some, rising_goes, rising_none, rising_room}
 use Rattle.pdl_nodes.proofs.Numbers.{at_other, at_same}
 
 -- ---- where what waits stays, nothing is written back
@@ -89,12 +90,12 @@ kept_risen rs hs id s b t =
 all_stand : (rs : Rows) (hs : Counts) → Beside rs hs → rs ≡ staying (stands hs) rs
 all_stand rs hs b = sym (staying_live (stands hs) (λ v. true) rs (λ v h. b.numbers v ∙ h) ∙ staying_all rs)
 
-pub kept_let_go : (rs : Rows) (hs : Counts) (id : ℕ) → InOrder rs → AreKnown rs → Beside rs hs → AreTight [] rs hs → IsLetGo rs (count hs) rs hs
-kept_let_go rs hs id o a b t =
-    let_go_is (id ∷ []) rs rs rs hs hs hs o (kept_risen rs hs id o.still b t) (settled_so rs hs o a (waiting_stands rs hs o b)) (all_stand rs hs b) b (λ v. refl)
-
 pub kept_tells : (rs : Rows) (hs : Counts) (id v : ℕ) → InOrder rs → Beside rs hs → AreTight [] rs hs → has rs v ≡ true → stands hs v ≡ reached rs (is_held hs) v
 kept_tells rs hs id v o b t h = (kept_risen rs hs id o.still b t).tells v h
+
+pub kept_let_go : (rs : Rows) (hs : Counts) (id : ℕ) → InOrder rs → AreKnown rs → Beside rs hs → AreTight [] rs hs → IsLetGo rs (count hs) rs hs
+kept_let_go rs hs id o a b t =
+    let_go_is rs rs rs hs hs hs o (λ v y. refl) (λ v h. kept_tells rs hs id v o b t h) (settled_so rs hs o a (waiting_stands rs hs o b)) (all_stand rs hs b) b (λ v. refl)
 
 -- ---- one was forgotten that none held
 
@@ -110,6 +111,9 @@ none_here id gs = rw (at_same id id refl) refl
 
 none_there : (id : ℕ) (gs : Counts) (v : ℕ) → v ≢ id → hold_at (with_none id gs) v ≡ hold_at gs v
 none_there id gs v n = rw (at_other v id (λ e. n (sym e))) refl
+
+one_less : (rs : Rows) (gs : Counts) (id : ℕ) → Beside (without id rs) gs → without id rs ≡ staying (stands gs) rs
+one_less rs gs id b = staying_live (other id) (stands gs) rs (λ v h. has_staying (other id) rs v h ∙ sym (b.numbers v))
 
 is_other : (id v : ℕ) → v ≢ id → other id v ≡ true
 is_other id v n = rw (differ v id n) refl
@@ -152,12 +156,6 @@ none_goes rs gs id f =
 none_rising : (rs : Rows) (gs : Counts) (id : ℕ) → IsForgotten rs gs id → IsRising rs (with_none id gs) (with_none id gs) id (Some id)
 none_rising rs gs id f = rising_none rs (with_none id gs) id (marked_none rs (with_none id gs) (none_beside rs gs id f.live f.beside)) f.live
 
-root_rising : (rs : Rows) (gs : Counts) (id : ℕ) → IsForgotten rs gs id → parent_of (row_at rs id) ≡ None → IsRising rs (with_none id gs) gs id None
-root_rising rs gs id f e =
-    let P : Option ℕ → Type 0 = λ o. IsRising rs (with_none id gs) gs id o in
-    subst P e (rising_goes rs (with_none id gs) (with_none id gs) (with_none id gs) gs id (Some id) id f.still (none_rising rs gs id f) refl (none_goes rs gs id f)
-    (noted_none (λ n. n + 1) (with_none id gs) (parent_of (row_at rs id)) e) (none_now rs gs id f.beside) (λ v n. sym (none_there id gs v n)))
-
 parent_other : (rs : Rows) (id p : ℕ) → IsStill rs → has rs id ≡ true → parent_of (row_at rs id) ≡ Some p → p ≢ id
 parent_other rs id p s h e y = (let l : p < id = (parent_live rs id p s h e).1 in let z : ⊥ = omega (arith, l, y) in z)
 
@@ -199,11 +197,6 @@ risen_last rs gs new id f m w l =
     risen_as rs (with_none id gs) gs new id (λ v. none_count rs gs id v f.beside)
     (letting_last rs (with_none id gs) (with_none id gs) new [] [] id f.still b t (letting_none rs (with_none id gs) [] id b t) (λ v. refl) m w l)
 
-pub root_risen : (rs : Rows) (gs : Counts) (id : ℕ) → IsForgotten rs gs id → parent_of (row_at rs id) ≡ None → IsRisen (id ∷ []) rs gs gs
-root_risen rs gs id f e =
-    let i : IsRising rs (with_none id gs) gs id None = root_rising rs gs id f e in
-    risen_last rs gs gs id f i.marked i.fewer (λ v l. i.loose v l (λ z. absurd (cc)))
-
 pub view_risen : (rs : Rows) (gs mid new : Counts) (id p : ℕ) → IsForgotten rs gs id → IsRising rs (with_none id gs) mid id (Some p) → AreMarked rs new → IsFewer mid new → ((v : ℕ) → IsLoose rs new v → IsLoose rs mid v × (v ≢ p)) → IsRisen (id ∷ []) rs gs new
 view_risen rs gs mid new id p f i m w l =
     risen_last rs gs new id f m (fewer_then (with_none id gs) mid new i.fewer w)
@@ -216,7 +209,81 @@ start_live rs id h v l = elim (eqb_tells id v) [
   | inr y ↦ (let z : false ≡ true = rw y.0 at l in absurd (cc))
 ]
 
--- ---- a root that goes alone
+-- ---- one that goes alone: a root, or a view of an array that stays
+
+-- each other stands
+other_stands : (rs : Rows) (gs : Counts) (id v : ℕ) → Beside (without id rs) gs → v ≢ id → stands gs v ≡ has rs v
+other_stands rs gs id v b n = b.numbers v ∙ stays_there rs id v n
+
+pub alone_from : (rs : Rows) (gs : Counts) (id : ℕ) → Beside (without id rs) gs → ComesFrom (id ∷ []) rs gs
+alone_from rs gs id b v h g d = elim (eqb_tells id v) [
+  | inl y ↦ (let z : true ≡ false = rw y.0 at d in absurd (cc))
+  | inr y ↦ absurd (no_both (stands gs v) (other_stands rs gs id v b (λ q. y.1 (sym q)) ∙ h) g)
+]
+
+-- the views that are left of each: it is one of its parent's
+views_left : (rs : Rows) (gs : Counts) (id v : ℕ) → IsForgotten rs gs id → children rs v ≡ one_of (parent_of (row_at rs id)) v + left rs (stands gs) v
+views_left rs gs id v f =
+    let b : Beside rs (with_none id gs) = none_beside rs gs id f.live f.beside in
+    sym (left_all rs (stands (with_none id gs)) v (λ k h. b.numbers k ∙ h))
+    ∙ left_less rs (stands (with_none id gs)) (stands gs) id v (still_falls rs f.still) f.live (ap is_some (none_here id gs)) (ap is_some (none_now rs gs id f.beside))
+    (λ x n. ap is_some (sym (none_there id gs x n)))
+
+-- one that isn't held has a view that is left
+left_free : (rs : Rows) (gs : Counts) (id v : ℕ) → IsForgotten rs gs id → GoesAlone rs gs id → v ≢ id → has rs v ≡ true → is_held gs v ≡ false → 0 < left rs (stands gs) v
+left_free rs gs id v f a n h u =
+    let e : children rs v ≡ one_of (parent_of (row_at rs id)) v + left rs (stands gs) v = views_left rs gs id v f in
+    let c : 0 < children rs v = more_than (children rs v) (sym (views_counted rs v) ∙ f.tight v h (rw (differ id v (λ q. n (sym q))) refl) u) in
+    by (parent_of (row_at rs id)) refl e c where
+      by : (o : Option ℕ) → parent_of (row_at rs id) ≡ o → children rs v ≡ one_of (parent_of (row_at rs id)) v + left rs (stands gs) v → 0 < children rs v → 0 < left rs (stands gs) v
+      by None q e c = (let z : one_of (parent_of (row_at rs id)) v ≡ 0 = ap (λ o. one_of o v) q in omega (arith, e, c, z))
+      by (Some p) q e c = elim (eqb_tells p v) [
+        | inl y ↦ (let z : one_of (parent_of (row_at rs id)) v ≡ 1 = one_is (parent_of (row_at rs id)) v (q ∙ ap Some y.1) in
+            let m : 1 < children rs v = a v (q ∙ ap Some y.1) u in omega (arith, e, m, z))
+        | inr y ↦ (let z : one_of (parent_of (row_at rs id)) v ≡ 0 = no_one (parent_of (row_at rs id)) v (λ w. y.1 (let s : Some p ≡ Some v = sym q ∙ w in cc)) in omega (arith, e, c, z))
+      ]
+
+more_than_none : (n : ℕ) → 0 < n → nat_lt 0 n ≡ true
+more_than_none n l = elim (leb_tells 1 n) [ inl t ↦ t.0 | inr t ↦ absurd (omega (arith, l, t.1)) ]
+
+-- it has none
+none_left_of : (rs : Rows) (gs : Counts) (id : ℕ) → IsForgotten rs gs id → left rs (stands gs) id ≡ 0
+none_left_of rs gs id f =
+    let e : children rs id ≡ one_of (parent_of (row_at rs id)) id + left rs (stands gs) id = views_left rs gs id id f in
+    let c : children rs id ≡ 0 = none_less (children rs id) (sym (views_counted rs id) ∙ f.viewless) in
+    omega (arith, e, c)
+
+-- what stands is what the held arrays reach
+pub alone_tells : (rs : Rows) (gs : Counts) (id : ℕ) → IsForgotten rs gs id → GoesAlone rs gs id → (v : ℕ) → has rs v ≡ true → stands gs v ≡ reached rs (is_held gs) v
+alone_tells rs gs id f a = told rs (stands gs) (is_held gs) (still_falls rs f.still) (still_parents rs f.still) (λ v h. elim (eqb_tells v id) [
+  | inl y ↦ (let n : hold_at gs v ≡ None = ap (hold_at gs) y.1 ∙ none_now rs gs id f.beside in
+      let s : stands gs v ≡ false = ap is_some n in
+      let u : is_held gs v ≡ false = ap (λ o. nat_lt 0 (count_in o)) n in
+      let l : nat_lt 0 (left rs (stands gs) v) ≡ false = ap (λ x. nat_lt 0 (left rs (stands gs) x)) y.1 ∙ ap (nat_lt 0) (none_left_of rs gs id f) in
+      let w : false ≡ (is_held gs v || nat_lt 0 (left rs (stands gs) v)) = rw (u, l) refl in s ∙ w)
+  | inr y ↦ other_stands rs gs id v f.beside y.1 ∙ h ∙ elim (cases_Bool (is_held gs v)) [
+    | inl z ↦ (let w : true ≡ (is_held gs v || nat_lt 0 (left rs (stands gs) v)) = rw z refl in w)
+    | inr z ↦ or_right (is_held gs v) (nat_lt 0 (left rs (stands gs) v)) (more_than_none (left rs (stands gs) v) (left_free rs gs id v f a y.1 h z))
+  ]
+])
+
+-- the rows that were settled are counted as those before
+beside_settled : (rs mid : Rows) (gs : Counts) (id : ℕ) → IsReady rs mid → Beside (without id rs) gs → Beside (without id mid) gs
+beside_settled rs mid gs id k b = record {
+  numbers = λ v. b.numbers v ∙ elim (eqb_tells v id) [
+    | inl y ↦ ap (has (without id rs)) y.1 ∙ gone_here rs id ∙ sym (ap (has (without id mid)) y.1 ∙ gone_here mid id)
+    | inr y ↦ stays_there rs id v y.1 ∙ sym (k.alike.has_is v) ∙ sym (stays_there mid id v y.1)
+  ];
+  clear = b.clear;
+}
+
+pub alone_let_go : (rs mid new : Rows) (gs : Counts) (id : ℕ) → InOrder rs → IsForgotten rs gs id → GoesAlone rs gs id → IsSettledSo rs mid gs → new ≡ without id mid → IsLetGo rs (count gs) new gs
+alone_let_go rs mid new gs id o f a s n =
+    let b : Beside (without id mid) gs = beside_settled rs mid gs id s.kept f.beside in
+    let P : Rows → Type 0 = λ x. IsLetGo rs (count gs) x gs in
+    subst P (sym n) (let_go_is rs mid (without id mid) gs gs gs o (λ v y. refl) (alone_tells rs gs id f a) s (one_less mid gs id b) b (λ v. refl))
+
+-- ---- a root
 
 root_from : (k : ℕ) (r : Row) (rs : Rows) (o : Origin) → StillFrom rs k r o → parent_from o ≡ None → r.root ≡ k
 root_from k r rs Root s e = s.root_is
@@ -236,22 +303,19 @@ root_waits rs gs id o h e b r v i y z =
     let n : v ≢ id = λ q. w.not_root (q ∙ sym (own_root rs id o.still h e) ∙ ap (λ x. (row_at rs x).root) (sym q) ∙ w.of_root) in
     b.numbers v ∙ stays_there rs id v n ∙ w.live
 
-one_less : (rs : Rows) (gs : Counts) (id : ℕ) → Beside (without id rs) gs → without id rs ≡ staying (stands gs) rs
-one_less rs gs id b = staying_live (other id) (stands gs) rs (λ v h. has_staying (other id) rs v h ∙ sym (b.numbers v))
+-- it has nothing above it
+root_alone : (rs : Rows) (gs : Counts) (id : ℕ) → parent_of (row_at rs id) ≡ None → GoesAlone rs gs id
+root_alone rs gs id e = λ p q u. (let z : None ≡ Some p = sym e ∙ q in absurd (cc))
 
 pub root_let_go : (rs new : Rows) (gs : Counts) (id : ℕ) → InOrder rs → AreKnown rs → IsForgotten rs gs id → parent_of (row_at rs id) ≡ None → new ≡ without id rs → IsLetGo rs (count gs) new gs
 root_let_go rs new gs id o a f e n =
-    let P : Rows → Type 0 = λ x. IsLetGo rs (count gs) x gs in
-    subst P (sym n) (let_go_is (id ∷ []) rs rs (without id rs) gs gs gs o (root_risen rs gs id f e) (settled_so rs gs o a (root_waits rs gs id o f.live e f.beside)) (one_less rs gs id f.beside) f.beside (λ v. refl))
+    alone_let_go rs rs new gs id o f (root_alone rs gs id e) (settled_so rs gs o a (root_waits rs gs id o f.live e f.beside)) n
 
 -- ---- the holds after one was taken back
 
 less_count : (o : Option Hold) → count_in (less_one o) ≡ count_in o - 1
 less_count None = omega arith
 less_count (Some h) = refl
-
-more_than_none : (n : ℕ) → 0 < n → nat_lt 0 n ≡ true
-more_than_none n l = elim (leb_tells 1 n) [ inl t ↦ t.0 | inr t ↦ absurd (omega (arith, l, t.1)) ]
 
 not_one : (n : ℕ) → eqb n 1 ≡ false → 0 < n → 0 < n - 1
 not_one n e l = elim (eqb_tells n 1) [ inl t ↦ (let z : true ≡ false = sym t.0 ∙ e in absurd (cc)) | inr t ↦ omega (arith, l, t.1) ]
@@ -318,7 +382,7 @@ done_root rs new hs gs id s o a f e r n =
     record {
       gone = let_go_as rs (count gs) (count_after id hs) new gs e (root_let_go rs new gs id o a f p n);
       counted = no_steps (stands gs) rs s (root_waits rs gs id o f.live p f.beside)
-          ∙ ap (λ n. s + n) (going_sums rs (stands gs) (reached rs (after_release id hs)) o (λ v l. (root_risen rs gs id f p).tells v l ∙ ap (λ g. reached rs g v) (fun_ext (λ x. ap (nat_lt 0) (e x)))));
+          ∙ ap (λ n. s + n) (going_sums rs (stands gs) (reached rs (after_release id hs)) o (λ v l. alone_tells rs gs id f (root_alone rs gs id p) v l ∙ ap (λ g. reached rs g v) (fun_ext (λ x. ap (nat_lt 0) (e x)))));
     } where
       is_root : (q : Option ℕ) → is_none q ≡ true → q ≡ None
       is_root None y = refl

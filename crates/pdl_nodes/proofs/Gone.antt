@@ -15,7 +15,7 @@ use Rattle.pdl_nodes.specs.Going.{LeavesWaiting}
 use Rattle.pdl_nodes.specs.Holds.{Counts, Beside, hold_at, is_held, stands, count, count_in, going, going_in, less_one}
 use Rattle.pdl_nodes.specs.Outcomes.{IsReady}
 use Rattle.pdl_nodes.specs.Released.{KeepsWaiting}
-use Rattle.pdl_nodes.specs.Risen.{AreNoted, AreTight, ComesFrom, IsLetGo, IsParentOfGone, IsRisen, IsTight}
+use Rattle.pdl_nodes.specs.Risen.{AreNoted, AreTight, ComesFrom, IsLetGo, IsParentOfGone, IsTight}
 use Rattle.pdl_nodes.specs.Row.{parent_from}
 use Rattle.pdl_nodes.specs.Rows.{Rows, has, reached}
 use Rattle.pdl_nodes.specs.Sized.{AreSized}
@@ -116,21 +116,23 @@ pub record IsSettledSo (old mid : Rows) (hs : Counts) : Type 0 where
   pub waits : KeepsWaiting (stands hs) mid
   pub leaves : LeavesWaiting (stands hs) old mid
 
-risen_leaving : (starts : List ℕ) (old mid new : Rows) (hs h1 : Counts) → InOrder old → IsRisen starts old hs h1 → IsSettledSo old mid h1 → new ≡ staying (stands h1) mid → IsLeaving old mid new (reached old (is_held hs)) (stands h1)
-risen_leaving starts old mid new hs h1 o r s n = record {
+told_leaving : (old mid new : Rows) (hs h1 : Counts) → InOrder old → ((v : ℕ) → has old v ≡ true → stands h1 v ≡ reached old (is_held hs) v) → IsSettledSo old mid h1 → new ≡ staying (stands h1) mid → IsLeaving old mid new (reached old (is_held hs)) (stands h1)
+told_leaving old mid new hs h1 o t s n = record {
   kept = s.kept;
   sized = s.sized;
-  notes = r.tells;
+  notes = t;
   closed = reached_closed old (is_held hs) o.still;
   waits = s.waits;
   leaves = s.leaves;
   left = n;
 }
 
-pub let_go_is : (starts : List ℕ) (old mid new : Rows) (hs h1 gs : Counts) → InOrder old → IsRisen starts old hs h1 → IsSettledSo old mid h1 → new ≡ staying (stands h1) mid → Beside new gs → ((v : ℕ) → count gs v ≡ count h1 v) → IsLetGo old (count hs) new gs
-let_go_is starts old mid new hs h1 gs o r s n b c =
-    let l : IsLeaving old mid new (reached old (is_held hs)) (stands h1) = risen_leaving starts old mid new hs h1 o r s n in
-    let counts : (v : ℕ) → has new v ≡ true → count gs v ≡ count hs v = λ v h. c v ∙ r.counts v (stays (stands h1) mid v (ap (λ x. has x v) (sym n) ∙ h)) in
+-- h1 tells what stays, and is counted as before there
+pub let_go_is : (old mid new : Rows) (hs h1 gs : Counts) → InOrder old → ((v : ℕ) → stands h1 v ≡ true → count h1 v ≡ count hs v) → ((v : ℕ) → has old v ≡ true → stands h1 v ≡ reached old (is_held hs) v) → IsSettledSo old mid h1 → new ≡ staying (stands h1) mid → Beside new gs
+    → ((v : ℕ) → count gs v ≡ count h1 v) → IsLetGo old (count hs) new gs
+let_go_is old mid new hs h1 gs o e t s n b c =
+    let l : IsLeaving old mid new (reached old (is_held hs)) (stands h1) = told_leaving old mid new hs h1 o t s n in
+    let counts : (v : ℕ) → has new v ≡ true → count gs v ≡ count hs v = λ v h. c v ∙ e v (stays (stands h1) mid v (ap (λ x. has x v) (sym n) ∙ h)) in
     record {
       swept = λ held f. left_means old mid new (reached old (is_held hs)) (stands h1) held (is_held hs) o.still l refl f;
       left = is_left old mid new (reached old (is_held hs)) (stands h1) o l;

@@ -29,7 +29,7 @@ pub in_more : (a b : Bool) → b ≡ true → (a || b) ≡ true
 in_more true b e = refl
 in_more false b e = e
 
-more_than : (n : ℕ) → nat_lt 0 n ≡ true → 0 < n
+pub more_than : (n : ℕ) → nat_lt 0 n ≡ true → 0 < n
 more_than n h = elim (leb_tells 1 n) [ inl l ↦ omega (arith, l.1) | inr l ↦ (let z : false ≡ true = sym l.0 ∙ h in absurd (cc)) ]
 
 -- ---- the loop
@@ -105,7 +105,7 @@ spent_last rs h0 hs later rest id i e m f l = record {
 lt_zero : (n : ℕ) → n ≡ 0 → nat_lt 0 n ≡ false
 lt_zero n e = ap (nat_lt 0) e
 
-or_right : (a b : Bool) → b ≡ true → true ≡ (a || b)
+pub or_right : (a b : Bool) → b ≡ true → true ≡ (a || b)
 or_right true b e = refl
 or_right false b e = sym e
 

@@ -1,5 +1,5 @@
 -- What goes from arrays up, and what is left then.
-use Rattle.std.specs.Prelude.{◌≡◌, ℕ, ◌+◌, ◌<◌, nat_lt, true, false, List, [], ◌∷◌, Option, Some}
+use Rattle.std.specs.Prelude.{◌≡◌, ℕ, ◌+◌, ◌<◌, ◌≤◌, nat_lt, true, false, List, [], ◌∷◌, Option, Some}
 use Rattle.pdl_world.specs.Cut.{has_views}
 use Rattle.pdl_world.specs.Swept.{holds, sweep}
 use Rattle.pdl_nodes.specs.Children.{children, left}
@@ -68,6 +68,17 @@ pub record IsForgotten (rs : Rows) (hs : Counts) (v : ℕ) : Type 0 where
   pub viewless : has_views (shape rs) v ≡ false
   pub beside : Beside (without v rs) hs
   pub tight : AreTight (v ∷ []) rs hs
+
+-- what is above v stays without it: the parent, if there is one, is held, or has another view
+abbrev pub GoesAlone : Rows → Counts → (v : ℕ) → Type 0
+GoesAlone rs hs v =
+    (p : ℕ) → parent_of (row_at rs v) ≡ Some p → is_held hs p ≡ false → 1 < children rs p
+
+-- p is the parent of v, isn't held, and has no other view
+pub record IsLastOf (rs : Rows) (hs : Counts) (p v : ℕ) : Type 0 where
+  pub parent : parent_of (row_at rs v) ≡ Some p
+  pub free : is_held hs p ≡ false
+  pub only : children rs p ≤ 1
 
 -- a view of v goes
 pub record IsParentOfGone (rs : Rows) (hs : Counts) (v : ℕ) : Type 0 where

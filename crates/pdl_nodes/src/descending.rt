@@ -1,5 +1,5 @@
 //! Numbers as keys of an ordered map, the highest first.
-ghost use Rattle.std.specs.Prelude.{◌≡◌, Some, nat_eq};
+ghost use Rattle.std.specs.Prelude.{◌≡◌, ◌≤◌, Some, nat_eq};
 ghost use Rattle.std.proofs.Common.{◌∙◌, refl};
 ghost use Rattle.std.specs.Cmp.{back_total, nat_cmp_total, nat_eq_equiv, partial_equiv_from_equiv, po, unsigned_ties};
 ghost use Rattle.std.specs.Ordering.{flip_args, nat_cmp};
@@ -38,6 +38,22 @@ impl Descending {
     {
         self.number
     }
+
+    /// The order of a key to another that it doesn't stand behind. It stays a call: in line its
+    /// comparison would be joined with the one before it, and a look-up, which asks this once in
+    /// each of the map's nodes, would make both for every key that it passes.
+    #[cold]
+    #[inline(never)]
+    fn up_to(&self, other: &Descending) -> Ordering
+        requires { other.now ≤ self.now }
+        ensures { result ≡ nat_cmp other.now self.now }
+    {
+        if self.number == other.number {
+            Ordering::Equal
+        } else {
+            Ordering::Less
+        }
+    }
 }
 
 impl PartialEq for Descending {
@@ -74,6 +90,9 @@ impl Ord for Descending {
     ghost matches_eq = { λ x y. nat_eq_equiv.symm x y ∙ unsigned_ties y x };
 
     fn cmp(&self, other: &Descending) -> Ordering {
-        other.number.cmp(&self.number)
+        if self.number < other.number {
+            return Ordering::Greater;
+        }
+        self.up_to(other)
     }
 }

@@ -2,7 +2,7 @@
 ghost use Rattle.std.specs.Prelude.{◌≡◌, ◌≢◌, ℕ, ◌+◌, ◌-◌, ◌<◌, ◌^◌, ◌==◌, if◌then◌else◌, [], ◌∷◌, true, false, Some, None, OnOk, OnErr};
 ghost use Rattle.pdl_nodes.specs.Rows.{NumbersBelow, has, row_at};
 ghost use Rattle.pdl_nodes.specs.Numbered.{IsAbove};
-ghost use Rattle.pdl_nodes.specs.Holds.{hold_at, stands, count, going, with_going, goes_in, less_one, one_more, held_once, Beside};
+ghost use Rattle.pdl_nodes.specs.Holds.{hold_at, is_held, stands, count, going, with_going, goes_in, less_one, one_more, held_once, Beside};
 
 use crate::node::Node;
 use crate::numbered::Numbered;
@@ -58,6 +58,16 @@ impl Holds {
         self.by_number.has(id)
     }
 
+    /// Whether the number is held.
+    pub fn is_held(&self, id: u64) -> bool
+        ensures { result ≡ is_held self.now id }
+    {
+        match self.by_number.get(id) {
+            Some(hold) => hold.count > 0,
+            None => false,
+        }
+    }
+
     /// Notes that one view more goes, of an array of so many views.
     pub fn note(&mut self, id: u64, views: u64)
         requires { going self.old id < views }
@@ -65,14 +75,13 @@ impl Holds {
             ≡ with_going (going self.old id + 1) (hold_at self.old id) }
         ensures others { (v : ℕ) → v ≢ id → hold_at self.new v ≡ hold_at self.old v }
     {
-        match self.by_number.get(id) {
-            Some(held) => {
-                let mut hold = *held;
-                hold.going += 1;
-                self.by_number.set(id, hold);
-            }
-            None => {}
-        }
+        self.by_number.change(
+            id,
+            |hold| Hold {
+                going: hold.going + 1,
+                ..hold
+            },
+        );
     }
 
     /// Takes the note of one view back, which is gone.
@@ -81,14 +90,13 @@ impl Holds {
             ≡ with_going (going self.old id - 1) (hold_at self.old id) }
         ensures others { (v : ℕ) → v ≢ id → hold_at self.new v ≡ hold_at self.old v }
     {
-        match self.by_number.get(id) {
-            Some(held) => {
-                let mut hold = *held;
-                hold.going = hold.going.saturating_sub(1);
-                self.by_number.set(id, hold);
-            }
-            None => {}
-        }
+        self.by_number.change(
+            id,
+            |hold| Hold {
+                going: hold.going.saturating_sub(1),
+                ..hold
+            },
+        );
     }
 
     /// Holds a number above all others once.
@@ -108,14 +116,13 @@ impl Holds {
         ensures here { hold_at self.new id ≡ one_more (hold_at self.old id) }
         ensures others { (v : ℕ) → v ≢ id → hold_at self.new v ≡ hold_at self.old v }
     {
-        match self.by_number.get(id) {
-            Some(held) => {
-                let mut hold = *held;
-                hold.count += 1;
-                self.by_number.set(id, hold);
-            }
-            None => {}
-        }
+        self.by_number.change(
+            id,
+            |hold| Hold {
+                count: hold.count + 1,
+                ..hold
+            },
+        );
     }
 
     /// Takes one hold back.
@@ -124,14 +131,13 @@ impl Holds {
         ensures here { hold_at self.new id ≡ less_one (hold_at self.old id) }
         ensures others { (v : ℕ) → v ≢ id → hold_at self.new v ≡ hold_at self.old v }
     {
-        match self.by_number.get(id) {
-            Some(held) => {
-                let mut hold = *held;
-                hold.count -= 1;
-                self.by_number.set(id, hold);
-            }
-            None => {}
-        }
+        self.by_number.change(
+            id,
+            |hold| Hold {
+                count: hold.count - 1,
+                ..hold
+            },
+        );
     }
 
     /// Whether a number is held once.

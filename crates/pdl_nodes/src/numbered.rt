@@ -1,7 +1,7 @@
 //! Values by numbers: `std`'s ordered map, the highest number first, and before it the newest, which
 //! are asked for most and go soonest.
-ghost use Rattle.std.specs.Prelude.{◌≡◌, ℕ, ◌<◌, ◌≤◌, ◌++◌, List, [], length, reverse, is_some, IsSome, true, Some, None, IfSome, IfNone, OnOk, OnErr};
-ghost use Rattle.std.specs.Option.{option_copied};
+ghost use Rattle.std.specs.Prelude.{◌≡◌, ◌≢◌, ℕ, ◌<◌, ◌≤◌, ◌++◌, List, [], length, reverse, is_some, IsSome, IsSomeAnd, MatchOption, Some, None, IfSome, IfNone, OnOk, OnErr};
+ghost use Rattle.std.specs.Option.{ForSome, option_copied};
 ghost use Rattle.pdl_nodes.specs.Numbered.{IsAbove, IsPlace, IsPut, Rises, first_from, most_newest, value_at};
 
 use crate::descending::Descending;
@@ -69,19 +69,23 @@ impl<V: Copy + Drop> Numbered<V> {
         self.settled.len() + self.newest.len()
     }
 
-    /// Gives a number that has a value another one.
-    pub fn set(&mut self, id: u64, value: V)
-        requires { is_some (value_at self.old id) ≡ true }
-        ensures put { IsPut self.old self.new id (Some value) }
+    /// Gives a number that has a value the one that a call makes of it.
+    pub fn change<F: FnOnce(V) -> V>(&mut self, id: u64, by: F)
+        requires { ForSome (value_at self.old id) (F.pre by) }
+        ensures here { MatchOption (value_at self.old id)
+            (value_at self.new id ≡ None)
+            (λ x. IsSomeAnd (value_at self.new id) (F.post by x)) }
+        ensures others { (u : ℕ) → u ≢ id → value_at self.new u ≡ value_at self.old u }
         ensures rises { Rises self.new }
     {
         match place(&self.newest, id) {
             Some(at) => {
+                let value = by(self.newest[at].1);
                 self.newest[at] = (id, value);
             }
             None => match self.settled.get_mut(&Descending::of(id)) {
                 Some(kept) => {
-                    *kept = value;
+                    *kept = by(*kept);
                 }
                 None => {}
             },

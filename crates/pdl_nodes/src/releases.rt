@@ -19,7 +19,7 @@ ghost use Rattle.pdl_nodes.specs.Worlds.{IsRoot};
 use crate::holds::Holds;
 use crate::push::write_back;
 use crate::table::Table;
-use crate::upward::{let_parent_up, let_up, remove_up};
+use crate::upward::{goes_with, let_parent_up, let_up, remove_up};
 use pdl_buf::Steps;
 use std::sync::ledger::Ledger;
 
@@ -141,9 +141,17 @@ fn let_view_go<L: Ledger>(table: &mut Table, holds: &mut Holds, id: u64, steps: 
     ensures counted { steps.new ≡ steps.old
         + going_sum table.old (reached table.old (is_held holds.old)) table.old }
 {
-    let_parent_up(table, holds, id);
-    settle_all(table, holds, &[], id, steps);
-    remove_all(table, holds, &[], id);
+    match goes_with(table, holds, id) {
+        Some(parent) => {
+            let_parent_up(table, holds, id, parent);
+            settle_all(table, holds, &[], id, steps);
+            remove_all(table, holds, &[], id);
+        }
+        None => {
+            settle_all(table, holds, &[], id, steps);
+            table.remove(id);
+        }
+    }
 }
 
 /// Takes one hold back where no array is loose: then this one can go, and what is above it, and no

@@ -1,10 +1,11 @@
 //! What goes from one array up: taking its holds, which is the mark that it goes, and, once what
 //! waits was written back, its removal.
-ghost use Rattle.std.specs.Prelude.{◌≡◌, ◌≢◌, ℕ, ◌+◌, ◌-◌, ◌<◌, true, Some, [], ◌∷◌};
+ghost use Rattle.std.specs.Prelude.{◌≡◌, ◌≢◌, ℕ, ◌+◌, ◌-◌, ◌<◌, true, IfNone, IfSome, Some, [], ◌∷◌};
 ghost use Rattle.pdl_nodes.specs.Children.{children};
 ghost use Rattle.pdl_nodes.specs.Holds.{going};
-ghost use Rattle.pdl_nodes.specs.Risen.{AreMarked, AreNoted, IsFallen, IsFewer, IsForgotten, IsLoose, IsNoted, IsRisen, ParentsAreOlder};
-ghost use Rattle.pdl_nodes.specs.Rows.{Falls, has};
+ghost use Rattle.pdl_nodes.specs.Risen.{AreMarked, AreNoted, GoesAlone, IsFallen, IsFewer, IsForgotten, IsLastOf, IsLoose, IsNoted, IsRisen, ParentsAreOlder};
+ghost use Rattle.pdl_nodes.specs.Row.{parent_of};
+ghost use Rattle.pdl_nodes.specs.Rows.{Falls, has, row_at};
 ghost use Rattle.pdl_nodes.specs.Still.{IsStill};
 
 use crate::holds::Holds;
@@ -52,19 +53,33 @@ pub fn let_up(table: &Table, holds: &mut Holds, id: u64)
     }
 }
 
-/// Takes the holds from each array above this one that goes once it does. It has no views, and its
-/// own holds were forgotten.
-pub fn let_parent_up(table: &Table, holds: &mut Holds, id: u64)
-    requires { IsForgotten table.now holds.old id }
+/// The array above this one that goes with it, once this one does: it isn't held, and has no other
+/// view.
+pub fn goes_with(table: &Table, holds: &Holds, id: u64) -> Option<u64>
+    requires { has table.now id ≡ true }
+    ensures alone { IfNone result (GoesAlone table.now holds.now id) }
+    ensures parent { IfSome result (λ p. IsLastOf table.now holds.now p id) }
+{
+    let parent = table.node(id).parent()?;
+    if holds.is_held(parent) {
+        return None;
+    }
+    if table.children(parent) > 1 {
+        None
+    } else {
+        Some(parent)
+    }
+}
+
+/// Takes the holds from each array above this one, its parent first, that goes once it does. It has
+/// no views, and its own holds were forgotten.
+pub fn let_parent_up(table: &Table, holds: &mut Holds, id: u64, parent: u64)
+    requires forgotten { IsForgotten table.now holds.old id }
+    requires parent { parent_of (row_at table.now id) ≡ Some parent }
     ensures { IsRisen (id ∷ []) table.now holds.old holds.new }
 {
-    match table.node(id).parent() {
-        Some(parent) => {
-            holds.note(parent, table.children(parent));
-            let_up(table, holds, parent)
-        }
-        None => {}
-    }
+    holds.note(parent, table.children(parent));
+    let_up(table, holds, parent)
 }
 
 /// Removes an array that has no holds, and each above it that has none.

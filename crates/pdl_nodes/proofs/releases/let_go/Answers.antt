@@ -22,7 +22,7 @@ remove_all-requires-clause-from g c = comes_ready (c.args.id ∷ c.args.loose.no
 
 pub returns-clause-gone : goal.returns-clause-gone
 returns-clause-gone g c =
-    let_go_is (c.args.id ∷ c.args.loose.now) c.args.table.now c.settle_all.new.table c.remove_all.new.table c.args.holds.now c.let_all.new.holds c.remove_all.new.holds c.requires.order c.let_all.ensures
+    let_go_is c.args.table.now c.settle_all.new.table c.remove_all.new.table c.args.holds.now c.let_all.new.holds c.remove_all.new.holds c.requires.order c.let_all.ensures.counts c.let_all.ensures.tells
     (record { kept = c.settle_all.ensures.kept; sized = c.settle_all.ensures.sized; waits = c.settle_all.ensures.waits; leaves = c.settle_all.ensures.left })
     c.remove_all.ensures.rows c.remove_all.ensures.beside c.remove_all.ensures.counts
 
