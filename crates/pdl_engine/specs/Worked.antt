@@ -1,25 +1,26 @@
 -- Scripts of calls worked by hand: after each call the arrays that can be lent, what waits, and
--- the steps that the call took. They are those of the "Twelve tables of marks" of
--- crates/pdl_cases/data/engine.txt, in their order, and three of those on cut, reshaped and
--- released arrays; that file is run, and shows which arrays can be lent. Here `waits` and `steps`
--- are checked against what the clauses of the calls say of them; where a clause says "at most", a
--- script has the most. The arrays are numbered as they are made: x is 0, the next one 1.
-use Rattle.std.specs.Prelude.{◌≡◌, ℕ, ◌+◌, ◌==◌, not, if◌then◌else◌, List, [], ◌∷◌, length, map, filter, ℤ, pos, negsuc, Some, is_some}
+-- the steps that the call took. All three are as the clauses of the calls say: the fewest arrays
+-- that can be lent, and of `ready`, `sever` and `reshape`, which take "at most" so many steps, the
+-- most. Each script is also a line of crates/pdl_cases/data/engine.txt, which is run, and shows that
+-- the engine can lend these arrays and no others: first the "Twelve tables of marks", in their
+-- order. The arrays are numbered as they are made, from 0.
+use Rattle.std.specs.Prelude.{◌≡◌, ℕ, ◌+◌, ◌==◌, not, if◌then◌else◌, Bool, List, [], ◌∷◌, ◌++◌, length, map, reverse, filter, ℤ, pos, negsuc, Some, is_some, is_none}
+use Rattle.std.specs.List.{range_with_len}
 use Rattle.pdl_elem.specs.declared.Ty.TheVariants.{Long}
 use Rattle.pdl_buf.specs.Buffer.{count_moved}
 use Rattle.pdl_shape.specs.Shape.{size_of}
-use Rattle.pdl_slices.specs.declared.SliceArg.TheVariants.{Span}
+use Rattle.pdl_slices.specs.declared.SliceArg.TheVariants.{One, Span}
 use Rattle.pdl_affine.specs.declared.Affine.TheVariants.{Slice, Xchg, Clump}
 use Rattle.pdl_choice.specs.declared.edges.Edge.TheVariants.{Zero}
 use Rattle.pdl_world.specs.declared.Trans.{Trans}
 use Rattle.pdl_world.specs.declared.Trans.TheVariants.{Affine, Index, Range}
 use Rattle.pdl_world.specs.World as world
-use Rattle.pdl_world.specs.World.{World, ArrayDef, dims_in, look}
+use Rattle.pdl_world.specs.World.{World, ArrayDef, dims_in, elements, look}
 use Rattle.pdl_world.specs.Cut as cut
-use Rattle.pdl_world.specs.Paths.{root_of}
-use Rattle.pdl_world.specs.Swept.{sweep}
+use Rattle.pdl_world.specs.Paths.{path, root_of}
+use Rattle.pdl_world.specs.Swept.{holds, sweep}
 use Rattle.pdl_nodes.specs.Nodes.{pending_onto}
-use Rattle.pdl_engine.specs.State.{State, no_arrays, ready_steps, kept_back, one_less_at, held_among, holds_left, written_back}
+use Rattle.pdl_engine.specs.State.{State, no_arrays, is_fresh, base, target, waiting, ready_steps, kept_back, one_less_at, held_among, holds_left, written_back}
 
 pub data Call : Type 0 where
   make : (dims : List ℕ) (elems : List ℤ) → Call
@@ -31,9 +32,10 @@ pub data Call : Type 0 where
   release : (id : ℕ) → Call
 
 -- a call, and after it the arrays that can be lent, the views that wait, each with its root, and
--- the steps of the call
+-- the steps of the call; or the elements of an array that is lent, for which nothing moves
 pub data Line : Type 0 where
   after : Call → (lent : List ℕ) (waits : List (ℕ × ℕ)) (steps : ℕ) → Line
+  shows : (id : ℕ) (elems : List ℤ) → Line
 
 -- one array more, held once
 abbrev pub with_array : State → ArrayDef → State
@@ -83,12 +85,43 @@ steps_of s (release v) =
     let left = (state_after s (release v)).world in
     written_back s left left
 
--- the lines from a state on, with what waits and the steps as the clauses say
+-- those of other families than v's that can be lent
+abbrev pub others : State → ℕ → List ℕ
+others s v = filter (λ u. not (root_of s.world u == root_of s.world v)) s.fresh
+
+-- the arrays that a call leaves or makes such that they can be lent
+abbrev pub stay_fresh : State → Call → List ℕ
+stay_fresh s (make ds es) = s.fresh
+stay_fresh s (view p t) = s.fresh
+stay_fresh s (ready v) = path s.world v ++ s.fresh
+stay_fresh s (assign v vs) = target s.world v ∷ others s v
+stay_fresh s (sever v) = if root_of s.world v == v then s.fresh else others s v
+stay_fresh s (reshape v ds) = others s v
+stay_fresh s (release v) = s.fresh
+
+-- an array can be lent where its base can: a root where nothing waits in its family, and a view
+-- where a call leaves or makes it so
+abbrev pub is_lent : (stay : List ℕ) → State → ℕ → Bool
+is_lent stay s v =
+    let b = base s.world v in
+    if b == root_of s.world v then is_none (waiting s v) else holds stay b
+
+-- the arrays that can be lent in a state that a call left, oldest first
+abbrev pub lent_in : (stay : List ℕ) → State → List ℕ
+lent_in stay s = filter (is_lent stay s) (map (λ a. a.0) (reverse s.world))
+
+-- the elements of an array that can be lent
+abbrev pub shown : State → ℕ → List ℤ
+shown s v = if is_fresh s v then elements s.world v else []
+
+-- the lines from a state on as the clauses say
 abbrev pub worked_from : State → List Line → List Line
 worked_from s [] = []
 worked_from s (after c lent waits steps ∷ rest) =
-    let next = record (state_after s c) { fresh = lent } in
-    after c lent next.pending (steps_of s c) ∷ worked_from next rest
+    let left = state_after s c in
+    let next = record left { fresh = lent_in (stay_fresh s c) left } in
+    after c next.fresh next.pending (steps_of s c) ∷ worked_from next rest
+worked_from s (shows v es ∷ rest) = shows v (shown s v) ∷ worked_from s rest
 
 -- 0 1 2 3 4 5, of which five aren't 0
 abbrev pub to_five : List ℤ
@@ -269,13 +302,99 @@ waiting_goes =
     in_b_waits (
     after (release 1) (0 ∷ []) [] 3 ∷ [])
 
+-- x = 0 .. 3; b = x slice 0:2; c = x slice 1:2, which keep no elements and so owe none
+abbrev pub slices_overlap : List Line
+slices_overlap =
+    after (make (4 ∷ []) (whole_numbers (0 ∷ 1 ∷ 2 ∷ 3 ∷ []))) (0 ∷ []) [] 3
+    ∷ after (view 0 (span_of 0 2 1)) (0 ∷ 1 ∷ []) [] 0
+    ∷ after (view 0 (span_of 1 2 1)) (0 ∷ 1 ∷ 2 ∷ []) [] 0
+    ∷ after (ready 1) (0 ∷ 1 ∷ 2 ∷ []) [] 0
+    ∷ after (ready 2) (0 ∷ 1 ∷ 2 ∷ []) [] 0
+    ∷ after (assign 1 (whole_numbers (9 ∷ 9 ∷ 9 ∷ []))) (0 ∷ 1 ∷ 2 ∷ []) [] 3
+    ∷ after (ready 2) (0 ∷ 1 ∷ 2 ∷ []) [] 0
+    ∷ shows 2 (whole_numbers (9 ∷ 9 ∷ []))
+    ∷ after (ready 2) (0 ∷ 1 ∷ 2 ∷ []) [] 0 ∷ []
+
+-- b = x index 0 1 2; c = x index 1 2, the same places
+abbrev pub indexes_overlap : List Line
+indexes_overlap =
+    after (make (4 ∷ []) (whole_numbers (0 ∷ 1 ∷ 2 ∷ 3 ∷ []))) (0 ∷ []) [] 3
+    ∷ after (view 0 (index_at (0 ∷ 1 ∷ 2 ∷ []))) (0 ∷ []) [] 0
+    ∷ after (view 0 (index_at (1 ∷ 2 ∷ []))) (0 ∷ []) [] 0
+    ∷ after (ready 1) (0 ∷ 1 ∷ []) [] 3
+    ∷ after (ready 2) (0 ∷ 1 ∷ 2 ∷ []) [] 2
+    ∷ after (assign 1 (whole_numbers (9 ∷ 9 ∷ 9 ∷ []))) (1 ∷ []) ((0, 1) ∷ []) 3
+    ∷ after (ready 2) (0 ∷ 1 ∷ 2 ∷ []) [] 5
+    ∷ shows 2 (whole_numbers (9 ∷ 9 ∷ []))
+    ∷ after (ready 2) (0 ∷ 1 ∷ 2 ∷ []) [] 0 ∷ []
+
+-- y = x slice 0:3; z = y slice 1:2, which is lent as it is
+abbrev pub slice_of_slice_is_lent : List Line
+slice_of_slice_is_lent =
+    after (make (6 ∷ []) to_five) (0 ∷ []) [] 5
+    ∷ after (view 0 (span_of 0 3 1)) (0 ∷ 1 ∷ []) [] 0
+    ∷ after (view 1 (span_of 1 2 1)) (0 ∷ 1 ∷ 2 ∷ []) [] 0
+    ∷ shows 2 (whole_numbers (1 ∷ 2 ∷ []))
+    ∷ after (ready 2) (0 ∷ 1 ∷ 2 ∷ []) [] 0 ∷ []
+
+-- the three numbers from k on are assigned to b, and wait
+abbrev pub three_wait : ℕ → Line
+three_wait k = after (assign 1 (whole_numbers (range_with_len k 3))) (1 ∷ []) ((0, 1) ∷ []) 3
+
+-- x = 0 .. 9; b = x index 0 2 4, which is assigned to ten times before x is read
+abbrev pub choice_is_written_often : List Line
+choice_is_written_often =
+    after (make (10 ∷ []) (whole_numbers (range_with_len 0 10))) (0 ∷ []) [] 9
+    ∷ after (view 0 (index_at (0 ∷ 2 ∷ 4 ∷ []))) (0 ∷ []) [] 0
+    ∷ after (ready 1) (0 ∷ 1 ∷ []) [] 3
+    ∷ map three_wait (range_with_len 1 10) ++ (
+    after (ready 0) (0 ∷ 1 ∷ []) [] 3
+    ∷ after (ready 0) (0 ∷ 1 ∷ []) [] 0
+    ∷ shows 0 (whole_numbers (10 ∷ 1 ∷ 11 ∷ 3 ∷ 12 ∷ 5 ∷ 6 ∷ 7 ∷ 8 ∷ 9 ∷ []))
+    ∷ shows 1 (whole_numbers (10 ∷ 11 ∷ 12 ∷ [])) ∷ [])
+
+-- x = 0 1 2; v = x range -1 sizes 2 edge Zero; b = v index 0 0: both places of b are missing before
+-- v is cut, and are one place after it
+abbrev pub repeat_comes_by_cut : List Line
+repeat_comes_by_cut =
+    after (make (3 ∷ []) (whole_numbers (0 ∷ 1 ∷ 2 ∷ []))) (0 ∷ []) [] 2
+    ∷ after (view 0 (Range (1 ∷ []) (negsuc 0 ∷ []) (pos 2 ∷ []) Zero)) (0 ∷ []) [] 0
+    ∷ after (view 1 (index_at (0 ∷ 0 ∷ []))) (0 ∷ []) [] 0
+    ∷ after (ready 2) (0 ∷ 1 ∷ 2 ∷ []) [] 4
+    ∷ shows 2 (whole_numbers (0 ∷ 0 ∷ []))
+    ∷ after (sever 1) (0 ∷ 1 ∷ []) [] 2
+    ∷ after (ready 2) (0 ∷ 1 ∷ 2 ∷ []) [] 2
+    ∷ after (assign 2 (whole_numbers (5 ∷ 6 ∷ []))) (0 ∷ 1 ∷ []) [] 2
+    ∷ after (ready 1) (0 ∷ 1 ∷ []) [] 0
+    ∷ shows 1 (whole_numbers (6 ∷ 0 ∷ []))
+    ∷ after (ready 2) (0 ∷ 1 ∷ 2 ∷ []) [] 2
+    ∷ shows 2 (whole_numbers (6 ∷ 6 ∷ [])) ∷ []
+
+-- r of sizes 2 and 3; y = r xchg 0 1; u = y xchg 0 1; c = u clump -1; d = c slice 1: the clump
+-- joins before y is cut, and doesn't after it
+abbrev pub clump_parts_by_cut : List Line
+clump_parts_by_cut =
+    after (make (2 ∷ 3 ∷ []) to_five) (0 ∷ []) [] 5
+    ∷ after (view 0 (Affine (Xchg (pos 0) (pos 1)))) (0 ∷ 1 ∷ []) [] 0
+    ∷ after (view 1 (Affine (Xchg (pos 0) (pos 1)))) (0 ∷ 1 ∷ 2 ∷ []) [] 0
+    ∷ after (view 2 (Affine (Clump (negsuc 0)))) (0 ∷ 1 ∷ 2 ∷ 3 ∷ []) [] 0
+    ∷ after (sever 1) (0 ∷ 1 ∷ 2 ∷ []) [] 6
+    ∷ after (view 3 (Affine (Slice (One (pos 1) ∷ [])))) (0 ∷ 1 ∷ 2 ∷ []) [] 0
+    ∷ after (ready 4) (0 ∷ 1 ∷ 2 ∷ 3 ∷ 4 ∷ []) [] 6
+    ∷ after (assign 4 (whole_numbers (9 ∷ []))) (0 ∷ 3 ∷ 4 ∷ []) ((1, 3) ∷ []) 1
+    ∷ after (ready 1) (0 ∷ 1 ∷ 2 ∷ 3 ∷ 4 ∷ []) [] 6
+    ∷ shows 1 (whole_numbers (0 ∷ 2 ∷ 4 ∷ 9 ∷ 3 ∷ 5 ∷ []))
+    ∷ shows 0 to_five ∷ []
+
 abbrev pub scripts : List (List Line)
 scripts =
     sibling_is_read ∷ siblings_are_written ∷ slice_of_choice_is_written ∷ root_is_written
     ∷ slice_is_written ∷ place_is_twice ∷ place_of_choice_is_twice ∷ place_is_missing
     ∷ choice_of_choice_is_written ∷ two_families ∷ clump_is_written ∷ views_come_late
-    ∷ waiting_is_cut ∷ waiting_is_reshaped ∷ waiting_goes ∷ []
+    ∷ waiting_is_cut ∷ waiting_is_reshaped ∷ waiting_goes ∷ slices_overlap ∷ indexes_overlap
+    ∷ slice_of_slice_is_lent ∷ choice_is_written_often ∷ repeat_comes_by_cut ∷ clump_parts_by_cut
+    ∷ []
 
--- what waits and the steps are as the clauses say, at each line of each script
+-- each line of each script is as the clauses say
 abbrev pub ScriptsAreWorked : Type 0
 ScriptsAreWorked = map (worked_from no_arrays) scripts ≡ scripts
