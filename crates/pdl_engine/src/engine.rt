@@ -1,5 +1,5 @@
 //! The engine and its calls.
-ghost use Rattle.std.specs.Prelude.{◌≡◌, ◌≢◌, ℕ, ◌+◌, ◌<◌, ◌≤◌, ◌^◌, true, false, length, All, IfOk, IfErr, IsTrue, OnOk, OnErr, None};
+ghost use Rattle.std.specs.Prelude.{◌≡◌, ◌≢◌, ℕ, ◌+◌, ◌<◌, ◌≤◌, ◌^◌, true, false, length, All, IfOk, IfErr, IsTrue, OnOk, OnErr, None, is_ok};
 ghost use Rattle.pdl_buf.specs.Buffer.{count_moved};
 ghost use Rattle.pdl_buf.specs.Made.{IsMade};
 ghost use Rattle.pdl_elem.specs.Types.{InRange};
@@ -274,15 +274,15 @@ impl Engine {
         self.nodes.has_views(id)
     }
 
-    /// Cuts an array from its parent: it becomes a root with its elements,
-    /// which can be lent, and its own views stay with it. What waits in the family is written back
-    /// first. On a root it does nothing. Want of memory leaves the world, and what could be lent.
-    /// It takes at most the steps of
-    /// `ready`, and one for each element.
+    /// Cuts an array from its parent: it becomes a root with its elements, which can be lent, and its
+    /// own views stay with it. What waits in the family is written back first. On a root it does
+    /// nothing, and wants no memory. Want of memory leaves the world, and what could be lent. It takes
+    /// at most the steps of `ready`, and one for each element.
     pub fn sever<L: Ledger>(&mut self, id: ArrayId, steps: &mut Steps<L>) -> Result<(), NoMemory>
         requires { IsLive self.old.world id }
         ensures root { root_of self.old.world id ≡ id → self.new ≡ self.old }
         ensures spent { root_of self.old.world id ≡ id → steps.new ≡ steps.old }
+        ensures done { root_of self.old.world id ≡ id → is_ok result ≡ true }
         ensures ok { OnOk result (self.new.world ≡ sever self.old.world id) }
         ensures err { OnErr result (self.new.world ≡ self.old.world) }
         ensures family { ChangesFamily self.old id self.new }

@@ -307,7 +307,7 @@ pub ready_sized : (old first mid : Rows) (v : ℕ) → InOrder old → AreSized 
 ready_sized old first mid v o z s k = (let r : IsReady old mid = ready_then old first mid s.ready k in sized_alike old mid o.still r.order.still r.alike z)
 
 -- the steps of the two, and with those of a copy
-pub ready_steps : (old first : Rows) (v a b n : ℕ) → IsSettled old v first → a ≤ n + waiting_size old (waiting_of old v) → b ≤ a + outdated first v → b ≤ n + (outdated old v + waiting_size old (waiting_of old v))
+pub ready_steps : (old first : Rows) (v a b n : ℕ) → IsSettled old v first → a ≡ n + waiting_size old (waiting_of old v) → b ≤ a + outdated first v → b ≤ n + (outdated old v + waiting_size old (waiting_of old v))
 ready_steps old first v a b n s x y = (let l : outdated first v ≤ outdated old v = less_path old first v s.ready.alike s.ready.marks in omega (arith, l, x, y))
 
 pub all_steps : (old first mid : Rows) (v b c n : ℕ) → IsSettled old v first → IsKept first mid → b ≤ n + (outdated old v + waiting_size old (waiting_of old v)) → c ≤ b + size_of (row_at mid v).triple.dims

@@ -1,5 +1,5 @@
-//! Values by numbers: `std`'s ordered map, the highest number first, and before it the newest, which
-//! are asked for most and go soonest.
+//! Values by numbers: `std`'s ordered map, the highest number first, and before it the newest,
+//! which are asked for most and go soonest.
 ghost use Rattle.std.specs.Prelude.{◌≡◌, ◌≢◌, ℕ, ◌<◌, ◌≤◌, ◌++◌, List, [], length, reverse, is_some, IsSome, IsSomeAnd, MatchOption, Some, None, IfSome, IfNone, OnOk, OnErr};
 ghost use Rattle.std.specs.Option.{ForSome, option_copied};
 ghost use Rattle.pdl_nodes.specs.Numbered.{IsAbove, IsPlace, IsPut, Rises, first_from, most_newest, value_at};
@@ -31,7 +31,8 @@ impl<V> Model for Numbered<V> {
     ghost view = { λ n. reverse n.settled.entries ++ n.newest.items };
 
     ghost invariant = { λ n.
-        Rises (reverse n.settled.entries ++ n.newest.items) × (length n.newest.items ≤ most_newest) };
+        Rises (reverse n.settled.entries ++ n.newest.items)
+        × (length n.newest.items ≤ most_newest) };
 }
 
 impl<V: Copy + Drop> Numbered<V> {

@@ -18,7 +18,7 @@ pub fn settle<L: Ledger>(table: &mut Table, id: u64, steps: &mut Steps<L>)
     requires known { AreKnown table.old }
     requires live { has table.old id ≡ true }
     ensures settled { IsSettled table.old id table.new }
-    ensures counted { steps.new ≤ steps.old + waiting_size table.old (waiting_of table.old id) }
+    ensures counted { steps.new ≡ steps.old + waiting_size table.old (waiting_of table.old id) }
 {
     let root = table.node(id).root();
     match table.node(root).waiting() {

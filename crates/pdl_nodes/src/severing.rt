@@ -1,6 +1,6 @@
 //! Cutting arrays from their parents, and giving them other dimensions (PDL::Core, sever and
 //! reshape).
-ghost use Rattle.std.specs.Prelude.{◌≡◌, ◌≢◌, ℕ, ◌+◌, ◌-◌, ◌≤◌, ◌^◌, pos, true, false, length, replicate, All, IfOk, OnOk, OnErr};
+ghost use Rattle.std.specs.Prelude.{◌≡◌, ◌≢◌, ℕ, ◌+◌, ◌-◌, ◌≤◌, ◌^◌, pos, true, false, length, replicate, All, IfOk, OnOk, OnErr, is_ok};
 ghost use Rattle.pdl_elem.specs.Types.{InRange};
 ghost use Rattle.pdl_shape.specs.Shape.{size_of};
 ghost use Rattle.pdl_world.specs.Cut.{fitted, has_views, reshape, sever};
@@ -112,6 +112,7 @@ pub fn sever<L: Ledger>(
     requires small { NumbersBelow (2 ^ 64 - 1) table.old }
     ensures root { (row_at table.old id).root ≡ id → table.new ≡ table.old }
     ensures spent { (row_at table.old id).root ≡ id → steps.new ≡ steps.old }
+    ensures done { (row_at table.old id).root ≡ id → is_ok result ≡ true }
     ensures severed { ChangesRows table.old id table.new }
     ensures settled { (row_at table.old id).root ≢ id → RowsAreSettled table.old id table.new }
     ensures ok { OnOk result (world_of table.new ≡ sever (world_of table.old) id) }

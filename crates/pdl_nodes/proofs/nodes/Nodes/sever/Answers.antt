@@ -76,6 +76,11 @@ returns-clause-spent g c = λ q.
     let h : has c.self.inside.table c.args.id ≡ true = live_has c.self.inside.table c.args.id (subst (λ (s : State). IsLive s.world c.args.id) (sym c.self.view_is) c.requires) in
     c.sever.ensures.spent (sym (root_are c.self.inside.table c.args.id c.self.invariant.0.order.still h) ∙ ap (λ (s : State). root_of s.world c.args.id) c.self.view_is ∙ q)
 
+pub returns-clause-done : goal.returns-clause-done
+returns-clause-done g c = λ q.
+    let h : has c.self.inside.table c.args.id ≡ true = live_has c.self.inside.table c.args.id (subst (λ (s : State). IsLive s.world c.args.id) (sym c.self.view_is) c.requires) in
+    c.sever.ensures.done (sym (root_are c.self.inside.table c.args.id c.self.invariant.0.order.still h) ∙ ap (λ (s : State). root_of s.world c.args.id) c.self.view_is ∙ q)
+
 pub returns-clause-settled : goal.returns-clause-settled
 returns-clause-settled g c = λ q.
     let h : has c.self.inside.table c.args.id ≡ true = live_has c.self.inside.table c.args.id (subst (λ (s : State). IsLive s.world c.args.id) (sym c.self.view_is) c.requires) in
