@@ -236,16 +236,16 @@ impl Runner {
 
     // Ends the run: runs what is left, flushes the sink, and answers whether a statement faulted.
     pub(crate) fn finish<K: Sink, L: Ledger>(
-        mut self,
+        &mut self,
         is_cut: bool,
         sink: &mut K,
         steps: &mut Steps<L>,
     ) -> Result<bool, Stop>
-        requires { self.cutter.failed ≡ false }
+        requires { self.old.cutter.failed ≡ false }
         ensures finishes { IfOk result
-            (λ faulted. Finishes is_cut self (K.taken sink.old) faulted (K.taken sink.new)) }
+            (λ faulted. Finishes is_cut self.old (K.taken sink.old) faulted (K.taken sink.new)) }
         ensures stops { OnErr result
-            (FinishesShort is_cut self (K.taken sink.old) (K.taken sink.new)) }
+            (FinishesShort is_cut self.old (K.taken sink.old) (K.taken sink.new)) }
         ensures flushed { OnOk result (Says (K.is_flushed sink.new) true) }
         ensures tells { KeepsTelling (K.is_flushed sink.old) (K.is_flushed sink.new) }
         ensures cause { HasSinkCause (K.faults sink.old) (K.faults sink.new) result }

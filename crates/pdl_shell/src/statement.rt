@@ -65,7 +65,26 @@ fn run_text<L: Ledger>(
     ensures unprinted { IfErr result (λ e. IfFaulted e (out.new.items ≡ [])) }
 {
     let statement = read(alloc, text, rooms)?;
-    session.step(&statement, out, steps)?;
+    run_statement(session, &statement, out, steps)
+}
+
+// Runs a statement, and puts what it prints into `out`.
+fn run_statement<L: Ledger>(
+    session: &mut Session,
+    statement: &Statement,
+    out: &mut Vec<u8>,
+    steps: &mut Steps<L>,
+) -> Result<(), Unrun>
+    requires made { IsWellMade (statement_of statement.now) }
+    requires empty { out.old.items ≡ [] }
+    ensures ok { OnOk result (step_read session.old.state (Ok (statement_of statement.now))
+        ≡ Ok (session.new.state, out.new.items)) }
+    ensures fault { IfErr result
+        (IsFaultOf (step_read session.old.state (Ok (statement_of statement.now)))) }
+    ensures kept { IfErr result (λ e. IfFaulted e (session.new.state ≡ session.old.state)) }
+    ensures unprinted { IfErr result (λ e. IfFaulted e (out.new.items ≡ [])) }
+{
+    session.step(statement, out, steps)?;
     Ok(())
 }
 

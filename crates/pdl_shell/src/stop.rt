@@ -12,7 +12,7 @@ use pdl_syntax::ParseFault;
 use std::alloc::AllocError;
 
 // Why a run stops short.
-#[derive(Clone, Copy, PartialEq, Eq, Debug)]
+#[derive(Clone, Copy)]
 pub(crate) enum Stop {
     Source,
     Sink,
@@ -42,7 +42,7 @@ pub(crate) fn status_after(ran: Result<bool, Stop>) -> Status
 
 // Why a statement wasn't run: by a fault of its own, or for want of memory,
 // which stops the run short.
-#[derive(Clone, Copy, PartialEq, Eq, Debug)]
+#[derive(Clone, Copy)]
 pub(crate) enum Unrun {
     Faulted(Fault),
     NoMemory,

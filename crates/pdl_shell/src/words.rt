@@ -4,7 +4,7 @@ ghost use Rattle.std.specs.String.{string_bytes};
 ghost use Rattle.pdl_shell.specs.Command.{is_keep_going, is_generate, value_of, is_number_of_rounds, generating, generating_joined, command_of_one, command_of_two, command_of_three, command_of};
 
 // What the words ask for.
-#[derive(Clone, Copy, PartialEq, Eq, Debug)]
+#[derive(Clone, Copy)]
 pub(crate) enum Command {
     // To run the source's script, which goes on after faults or doesn't.
     Run { keep_going: bool },
