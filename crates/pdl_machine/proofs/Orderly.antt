@@ -22,7 +22,7 @@ use Rattle.pdl_ops.specs.Elementwise.{unary_each}
 use Rattle.pdl_machine.specs.Operators.{binary_each, values_for}
 use Rattle.pdl_kernel.specs.Kernels.{Kernel}
 use Rattle.pdl_machine.specs.Kernels.{kernel_outputs, defined}
-use Rattle.pdl_machine.specs.Calls.{outcome, Callee, builtin, kernel, callee_of, only_root, value_by, call_value}
+use Rattle.pdl_machine.specs.Calls.{outcome, Callee, builtin, kernel, callee_of, only_root, several, value_by, call_value}
 use Rattle.pdl_machine.specs.Value.{Taken, known, number_made, value_of, taken}
 use Rattle.pdl_world.specs.Swept.{parents}
 use Rattle.pdl_machine.specs.Step.{Stepped, bind_value, bound, roots_bound, outputs_bound, kernel_named, list_bound, target, assigned, assigning, after_printing, effect}
@@ -225,18 +225,16 @@ roots_fine s (x ∷ xs) (m ∷ ms) order =
     ok_then FineStep FineStep (bound s x (new_root s.arrays m)) (λ after. roots_bound after.0 xs ms)
     (bound_fine s x order (new_root s.arrays m) (root_fine s.arrays m (grows_self s order))) (λ p fine. roots_fine p.0 xs ms fine)
 
-many_fine : (s : State) (xs : List (List ℕ)) (t : Arrays × List Given) (k : Kernel) → IsInOrder s → FineTaken s.arrays t
-    → IfOk (and_then (kernel_outputs k (length xs) (all_seen t.0 t.1)) (roots_bound (with_arrays s t.0) xs)) FineStep
-many_fine s xs (b, given) k order fine =
-    ok_always FineStep (kernel_outputs k (length xs) (all_seen b given)) (roots_bound (with_arrays s b) xs) (λ ms. roots_fine (with_arrays s b) xs ms (state_fine s b order fine.0))
+many_fine : (s : State) (xs : List (List ℕ)) (t : Arrays × List Given) (c : Callee) → IsInOrder s → FineTaken s.arrays t
+    → IfOk (and_then (several (length xs) (all_seen t.0 t.1) c) (roots_bound (with_arrays s t.0) xs)) FineStep
+many_fine s xs (b, given) c order fine =
+    ok_always FineStep (several (length xs) (all_seen b given) c) (roots_bound (with_arrays s b) xs) (λ ms. roots_fine (with_arrays s b) xs ms (state_fine s b order fine.0))
 
 outputs_fine : (s : State) (xs : List (List ℕ)) (t : Arrays × List Given) (c : Callee) → IsInOrder s → FineTaken s.arrays t → IfOk (outputs_bound s xs t c) FineStep
 outputs_fine s (x ∷ []) (b, given) c order fine =
     bound_fine s x order (value_by b given c) (later s.arrays b fine.0 (value_by b given c) (value_by_fine b given c (self s.arrays b fine.0) fine.1))
-outputs_fine s [] t (builtin b) order fine = tt
-outputs_fine s (x ∷ y ∷ xs) t (builtin b) order fine = tt
-outputs_fine s [] t (kernel k) order fine = many_fine s [] t k order fine
-outputs_fine s (x ∷ y ∷ xs) t (kernel k) order fine = many_fine s (x ∷ y ∷ xs) t k order fine
+outputs_fine s [] t c order fine = many_fine s [] t c order fine
+outputs_fine s (x ∷ y ∷ xs) t c order fine = many_fine s (x ∷ y ∷ xs) t c order fine
 
 list_fine : (s : State) (xs : List (List ℕ)) (f : List ℕ) → IsInOrder s → (t : Arrays × List Given) → FineTaken s.arrays t → IfOk (list_bound s xs f t) FineStep
 list_fine s xs f order t fine = ok_always FineStep (callee_of s.names f) (outputs_bound s xs t) (λ c. outputs_fine s xs t c order fine)

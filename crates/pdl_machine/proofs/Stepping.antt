@@ -23,7 +23,7 @@ use Rattle.pdl_ops.specs.Elementwise.{unary_each}
 use Rattle.pdl_machine.specs.Operators.{binary_each, values_for}
 use Rattle.pdl_kernel.specs.Kernels.{Kernel}
 use Rattle.pdl_machine.specs.Kernels.{kernel_outputs, defined}
-use Rattle.pdl_machine.specs.Calls.{outcome, builtin_value, Callee, builtin, kernel, callee_of, only_root, value_by, call_value}
+use Rattle.pdl_machine.specs.Calls.{outcome, builtin_value, Callee, builtin, kernel, callee_of, only_root, several, value_by, call_value}
 use Rattle.pdl_machine.specs.Value.{Taken, known, number_made, value_of, taken}
 use Rattle.pdl_machine.specs.Tidy.{renumbered, with_numbers}
 use Rattle.pdl_machine.specs.Step.{Stepped, bind_value, bound, roots_bound, outputs_bound, kernel_named, list_bound, target, assigned, assigning, info_line, printed, after_printing, name_line, effect}
@@ -237,21 +237,19 @@ roots_alike g s t h (x ∷ xs) (m ∷ ms) =
     both_then (StepAlike g) (StepAlike g) (bound s x (new_root s.arrays m)) (bound t x (new_root t.arrays m)) (λ after. roots_bound after.0 xs ms) (λ after. roots_bound after.0 xs ms)
     (bound_alike g s t h x (new_root s.arrays m) (new_root t.arrays m) (root_alike g s.arrays t.arrays h.arrays m)) (λ p q alike. roots_alike g p.0 q.0 alike.0 xs ms)
 
--- the outputs of a kernel bound on both sides
-many_alike : (g : ℕ → ℕ) (s t : State) → StateAlike g s t → (xs : List (List ℕ)) (v w : Arrays × List Given) → TakenAlike g v w → (k : Kernel)
-    → Both (StepAlike g) (and_then (kernel_outputs k (length xs) (all_seen v.0 v.1)) (roots_bound (with_arrays s v.0) xs)) (and_then (kernel_outputs k (length xs) (all_seen w.0 w.1)) (roots_bound (with_arrays t w.0) xs))
-many_alike g s t h xs v w together k =
-    let given = kernel_outputs k (length xs) (all_seen v.0 v.1) in
-    let P : List Seen → Type 0 = λ x. Both (StepAlike g) (and_then given (roots_bound (with_arrays s v.0) xs)) (and_then (kernel_outputs k (length xs) x) (roots_bound (with_arrays t w.0) xs)) in
+-- outputs bound on both sides
+many_alike : (g : ℕ → ℕ) (s t : State) → StateAlike g s t → (xs : List (List ℕ)) (v w : Arrays × List Given) → TakenAlike g v w → (c : Callee)
+    → Both (StepAlike g) (and_then (several (length xs) (all_seen v.0 v.1) c) (roots_bound (with_arrays s v.0) xs)) (and_then (several (length xs) (all_seen w.0 w.1) c) (roots_bound (with_arrays t w.0) xs))
+many_alike g s t h xs v w together c =
+    let given = several (length xs) (all_seen v.0 v.1) c in
+    let P : List Seen → Type 0 = λ x. Both (StepAlike g) (and_then given (roots_bound (with_arrays s v.0) xs)) (and_then (several (length xs) x c) (roots_bound (with_arrays t w.0) xs)) in
     let alike : StateAlike g (with_arrays s v.0) (with_arrays t w.0) = record { arrays = together.0; names = h.names } in
     subst P (sym (taken_seen g v w together)) (both_same (StepAlike g) given (roots_bound (with_arrays s v.0) xs) (roots_bound (with_arrays t w.0) xs) (roots_alike g (with_arrays s v.0) (with_arrays t w.0) alike xs))
 
 outputs_alike : (g : ℕ → ℕ) (s t : State) → StateAlike g s t → (xs : List (List ℕ)) (v w : Arrays × List Given) → TakenAlike g v w → (c : Callee) → Both (StepAlike g) (outputs_bound s xs v c) (outputs_bound t xs w c)
 outputs_alike g s t h (x ∷ []) v w together c = bound_alike g s t h x (value_by v.0 v.1 c) (value_by w.0 w.1 c) (value_by_alike g v w together c)
-outputs_alike g s t h [] v w together (builtin b) = refl
-outputs_alike g s t h (x ∷ y ∷ xs) v w together (builtin b) = refl
-outputs_alike g s t h [] v w together (kernel k) = many_alike g s t h [] v w together k
-outputs_alike g s t h (x ∷ y ∷ xs) v w together (kernel k) = many_alike g s t h (x ∷ y ∷ xs) v w together k
+outputs_alike g s t h [] v w together c = many_alike g s t h [] v w together c
+outputs_alike g s t h (x ∷ y ∷ xs) v w together c = many_alike g s t h (x ∷ y ∷ xs) v w together c
 
 list_alike : (g : ℕ → ℕ) (s t : State) → StateAlike g s t → (xs : List (List ℕ)) (f : List ℕ) (v w : Arrays × List Given) → TakenAlike g v w → Both (StepAlike g) (list_bound s xs f v) (list_bound t xs f w)
 list_alike g s t h xs f v w together =

@@ -54,6 +54,18 @@ abbrev pub only_root : Arrays → List Made → Valued
 only_root a (m ∷ []) = new_root a m
 only_root a _ = Err WrongArguments
 
+-- the outputs of the kernel of a name
+abbrev pub outputs_of : Names → (name : List ℕ) → (wanted : ℕ) → List Seen →
+    Result (List Made) Fault
+outputs_of names f wanted given =
+    and_then (or_fault UnknownFunction (found names.kernels f)) (λ k.
+    kernel_outputs k wanted given)
+
+-- the outputs of a call where not one is wanted: a built-in call has one
+abbrev pub several : (wanted : ℕ) → List Seen → Callee → Result (List Made) Fault
+several wanted given (builtin b) = Err WrongArguments
+several wanted given (kernel k) = kernel_outputs k wanted given
+
 -- the value of a call where one is wanted
 abbrev pub value_by : Arrays → List Given → Callee → Valued
 value_by a given (builtin b) = builtin_value b a given

@@ -8,7 +8,7 @@ use Rattle.pdl_lexemes.specs.declared.AssignOp.{AssignOp}
 use Rattle.pdl_syntax.specs.Tree.{Tree, Args, named, call, none, value, text, of_type}
 use Rattle.pdl_syntax.specs.StatementTree.{StatementTree, View, bind, bind_list, assign, show, show_text, vars, pp_def}
 use Rattle.pdl_machine.specs.declared.fault.Fault.{Fault}
-use Rattle.pdl_machine.specs.declared.fault.Fault.TheVariants.{Syntax, WrongArguments}
+use Rattle.pdl_machine.specs.declared.fault.Fault.TheVariants.{Syntax}
 use Rattle.pdl_machine.specs.Then.{and_then}
 use Rattle.pdl_machine.specs.Names.{bind as bind_name, define}
 use Rattle.pdl_machine.specs.Arrays.{Arrays, array_in}
@@ -16,8 +16,8 @@ use Rattle.pdl_machine.specs.State.{State, with_arrays}
 use Rattle.pdl_machine.specs.Outcome.{Given, Valued, all_seen, new_root}
 use Rattle.pdl_machine.specs.Operators.{values_for}
 use Rattle.pdl_kernel.specs.Kernels.{Kernel}
-use Rattle.pdl_machine.specs.Kernels.{kernel_outputs, defined}
-use Rattle.pdl_machine.specs.Calls.{Callee, builtin, kernel, callee_of, value_by}
+use Rattle.pdl_machine.specs.Kernels.{defined}
+use Rattle.pdl_machine.specs.Calls.{Callee, callee_of, several, value_by}
 use Rattle.pdl_machine.specs.Value.{value_of, value_in, taken}
 use Rattle.pdl_machine.specs.Tidy.{tidy}
 
@@ -42,12 +42,11 @@ roots_bound s (x ∷ xs) (m ∷ ms) = and_then (bound s x (new_root s.arrays m))
     roots_bound after.0 xs ms)
 roots_bound s _ _ = Ok (s, [])
 
--- the outputs of a call bound to as many names; a built-in call has one
+-- the outputs of a call bound to as many names
 abbrev pub outputs_bound : State → List (List ℕ) → Arrays × List Given → Callee → Stepped
 outputs_bound s (x ∷ []) t c = bound s x (value_by t.0 t.1 c)
-outputs_bound s xs t (builtin b) = Err WrongArguments
-outputs_bound s xs t (kernel k) =
-    and_then (kernel_outputs k (length xs) (all_seen t.0 t.1)) (roots_bound (with_arrays s t.0) xs)
+outputs_bound s xs t c =
+    and_then (several (length xs) (all_seen t.0 t.1) c) (roots_bound (with_arrays s t.0) xs)
 
 -- the outputs of the call of a name bound to names
 abbrev pub list_bound : State → List (List ℕ) → List ℕ → Arrays × List Given → Stepped

@@ -8,7 +8,7 @@ use pdl_ops::Fill;
 use pdl_reduce::{Pairing, Reduction, Whole};
 
 /// What a new array tells of an array.
-#[derive(Clone, Copy, PartialEq, Eq, Debug)]
+#[derive(Clone, Copy)]
 pub enum Inquiry {
     /// `copy`: its type, dimensions and elements.
     Copy,
@@ -25,7 +25,7 @@ pub enum Inquiry {
 }
 
 /// How a view arranges the dimensions of its parent by numbers (PDL::Slices).
-#[derive(Clone, Copy, PartialEq, Eq, Debug)]
+#[derive(Clone, Copy)]
 pub enum Arrangement {
     /// `xchg`: two dimensions in each other's place.
     Xchg,
@@ -46,7 +46,7 @@ pub enum Arrangement {
 }
 
 /// A call that is built in.
-#[derive(Clone, Copy, PartialEq, Eq, Debug)]
+#[derive(Clone, Copy)]
 pub enum Builtin {
     /// A new array of an optional type word and a size per dimension.
     Filled(Fill),

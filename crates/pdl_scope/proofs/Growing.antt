@@ -65,9 +65,6 @@ pub readied : (names : Names) (e t : Engine) → SameArrays e t → state_in nam
 readied names e t s =
     ap (λ w. state_of names (record { world = w; next = t.next })) s.world ∙ ap (λ n. state_of names (record { world = e.world; next = n })) s.next
 
-pub both_readied : (names : Names) (e f t : Engine) → SameArrays e f → SameArrays f t → state_in names t ≡ state_in names e
-both_readied names e f t s u = readied names f t u ∙ readied names e f s
-
 -- the arrays after an assignment
 pub whole_assigned : LooksStay → NumbersStay → (names : Names) (e t : Engine) (v : ℕ) (vs : List ℤ) → IsWhole (state_in names e) → t.world ≡ assign e.world v vs → t.next ≡ e.next → IsSound t.world → IsWhole (state_in names t)
 whole_assigned looks stay names e t v vs whole world next sound =

@@ -1,10 +1,10 @@
 -- How calls change what holds the arrays of an engine.
-use Rattle.std.specs.Prelude.{◌≡◌, ◌⊎◌, ℕ, ◌+◌, List, [], ◌∷◌, ◌++◌, map}
-use Rattle.pdl_engine.specs.State.{State as Engine, count_at, one_more_at}
+use Rattle.std.specs.Prelude.{◌≡◌, ◌⊎◌, ℕ, List, [], ◌∷◌, ◌++◌}
+use Rattle.pdl_engine.specs.State.{State as Engine, one_more_at}
 use Rattle.pdl_machine.specs.Names.{Names}
 use Rattle.pdl_world.specs.Swept.{sweep}
 use Rattle.pdl_machine.specs.State.{held}
-use Rattle.pdl_scope.specs.Scope.{state_in, times, IsHeld}
+use Rattle.pdl_scope.specs.Scope.{state_in, IsHeld}
 
 -- an array is held once more, or the hold that it has at the end of the list is handed over
 abbrev pub IsHeldForName : (old : Engine) (leaving : List ℕ) (id : ℕ) (new : Engine) (left : List ℕ)

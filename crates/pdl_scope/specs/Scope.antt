@@ -35,7 +35,7 @@ made_in e v = array_in (arrays_of e) v
 abbrev pub shape_in : Engine → ℕ → ArgShape
 shape_in e v = shape_of (made_in e v)
 
--- arrays as a call sees them that takes nothing else
+-- what a call sees of these arrays
 abbrev pub arrays_seen : Arrays → List ℕ → List Seen
 arrays_seen a vs = map (λ v. array (array_in a v)) vs
 

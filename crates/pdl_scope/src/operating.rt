@@ -15,7 +15,7 @@ ghost use Rattle.pdl_scope.specs.Answers.{Answers, AnswersAs, Evaluates, Runs};
 ghost use Rattle.pdl_scope.specs.Scope.{Grows, arrays_of};
 
 use crate::fault::StepFault;
-use crate::reading::ready;
+use crate::reading::{ready, ready_two};
 use crate::scope::Scope;
 use pdl_buf::{Made, Steps};
 use pdl_elem::{BinaryOp, UnaryOp};
@@ -41,8 +41,7 @@ impl Scope {
     {
         ready(&mut self.engine, id, steps)?;
         let made = unary_each(self.alloc, op, &self.engine.lend(id))?;
-        let elems = made.elems;
-        self.make(made.ty, &made.dims, elems, steps)
+        self.adopt(made, steps)
     }
 
     /// The new array of an operator of two operands.
@@ -60,13 +59,9 @@ impl Scope {
             Evaluates (and_then wanted (new_root a)) self.new result }
         ensures grown { Grows self.old self.new }
     {
-        ready(&mut self.engine, left, steps)?;
-        ready(&mut self.engine, right, steps)?;
+        ready_two(&mut self.engine, left, right, steps)?;
         match operated(self.alloc, &self.engine, op, left, right) {
-            Ok(made) => {
-                let elems = made.elems;
-                self.make(made.ty, &made.dims, elems, steps)
-            }
+            Ok(made) => self.adopt(made, steps),
             Err(fault) => Err(fault),
         }
     }
@@ -86,8 +81,7 @@ impl Scope {
             Runs wanted self.old self.new [] [] result }
     {
         assignment_laws();
-        ready(&mut self.engine, target, steps)?;
-        ready(&mut self.engine, value, steps)?;
+        ready_two(&mut self.engine, target, value, steps)?;
         match written(self.alloc, &self.engine, sign, target, value) {
             Ok(values) => {
                 self.engine.assign(target, &values, steps);

@@ -131,6 +131,23 @@ pub(crate) fn ready<L: Ledger>(
     engine.ready(id, steps)
 }
 
+/// Makes two arrays ones that can be lent.
+pub(crate) fn ready_two<L: Ledger>(
+    engine: &mut Engine,
+    left: ArrayId,
+    right: ArrayId,
+    steps: &mut Steps<L>,
+) -> Result<(), AllocError>
+    requires left { IsLive engine.old.world left }
+    requires right { IsLive engine.old.world right }
+    ensures same { SameArrays engine.old engine.new }
+    ensures left_fresh { OnOk result (is_fresh engine.new left ≡ true) }
+    ensures right_fresh { OnOk result (is_fresh engine.new right ≡ true) }
+{
+    ready(engine, left, steps)?;
+    ready(engine, right, steps)
+}
+
 /// The elements that are shown.
 fn all_shown(alloc: Global, window: &Strided<'_>) -> Result<Vec<i64>, AllocError>
     ensures items { IfOk result (λ ns. ns.items ≡ window.now.elems) }

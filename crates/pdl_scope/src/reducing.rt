@@ -12,7 +12,7 @@ ghost use Rattle.pdl_machine.specs.Refused.{reduce_fault, or_named};
 ghost use Rattle.pdl_scope.specs.Answers.{Answers};
 
 use crate::fault::StepFault;
-use crate::reading::ready;
+use crate::reading::{ready, ready_two};
 use crate::scope::Scope;
 use pdl_buf::{Made, Steps};
 use pdl_engine::ArrayId;
@@ -70,8 +70,7 @@ impl Scope {
         ensures made { IfOk result (λ m. IsMade m.ty m.dims m.elems) }
         ensures same { self.new ≡ self.old }
     {
-        ready(&mut self.engine, left, steps)?;
-        ready(&mut self.engine, right, steps)?;
+        ready_two(&mut self.engine, left, right, steps)?;
         let engine = &self.engine;
         named(pair(self.alloc, kind, &engine.lend(left), &engine.lend(right)))
     }

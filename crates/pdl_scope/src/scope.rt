@@ -1,5 +1,5 @@
 //! Names, kernels and arrays.
-ghost use Rattle.std.specs.Prelude.{◌≡◌, ◌<◌, ◌≤◌, [], length, map, All, IfOk, IfSome, IsTrue, OnErr, OnOk, is_some, slice_get, Some};
+ghost use Rattle.std.specs.Prelude.{◌≡◌, ◌<◌, [], length, All, IfOk, IfSome, IsTrue, is_some, slice_get, Some};
 ghost use Rattle.pdl_shape.specs.Shape.{IsDims};
 ghost use Rattle.pdl_buf.specs.Made.{IsMade};
 ghost use Rattle.pdl_world.specs.Formula.{is_well_formed};
@@ -7,10 +7,8 @@ ghost use Rattle.pdl_world.specs.Refused.{view_refusal};
 ghost use Rattle.pdl_world.specs.World.{dims_in, ty_in};
 ghost use Rattle.pdl_world.specs.Sound.{IsLive};
 ghost use Rattle.pdl_world.specs.Swept.{sweep};
-ghost use Rattle.pdl_machine.specs.declared.fault.Fault.TheVariants.{UnknownFunction};
-ghost use Rattle.pdl_machine.specs.Kernels.{kernel_outputs};
-ghost use Rattle.pdl_machine.specs.Names.{found, names_limit, number_of};
-ghost use Rattle.pdl_machine.specs.Then.{and_then, or_fault};
+ghost use Rattle.pdl_machine.specs.Calls.{outputs_of};
+ghost use Rattle.pdl_machine.specs.Names.{found, number_of};
 ghost use Rattle.pdl_machine.specs.State.{no_names, held, with_world, IsWhole};
 ghost use Rattle.pdl_machine.specs.Tidy.{tidy};
 ghost use Rattle.pdl_machine.specs.Outcome.{new_root, new_view};
@@ -152,6 +150,20 @@ impl Scope {
         Ok(id)
     }
 
+    /// A new array of what was made for it, whose elements are taken over.
+    pub fn adopt<L: Ledger>(
+        &mut self,
+        made: Made,
+        steps: &mut Steps<L>,
+    ) -> Result<ArrayId, StepFault>
+        requires { IsMade made.ty made.dims made.elems }
+        ensures value { Evaluates (new_root self.old.arrays made) self.new result }
+        ensures grown { Grows self.old self.new }
+    {
+        let elems = made.elems;
+        self.make(made.ty, &made.dims, elems, steps)
+    }
+
     /// A new array like one that is kept elsewhere, whose elements are copied.
     pub fn make_like<L: Ledger>(
         &mut self,
@@ -263,10 +275,8 @@ impl Scope {
         steps: &mut Steps<L>,
     ) -> Result<Vec<Made>, StepFault>
         requires { All (IsLive self.old.arrays.world) ids.now }
-        ensures value { let kernel = found self.old.names.kernels name.now in
-            let seen = arrays_seen self.old.arrays ids.now in
-            let outputs = and_then (or_fault UnknownFunction kernel)
-            (λ k. kernel_outputs k wanted seen) in
+        ensures value { let seen = arrays_seen self.old.arrays ids.now in
+            let outputs = outputs_of self.old.names name.now wanted seen in
             AnswersAs (λ ms. ms.items) outputs result }
         ensures made { IfOk result (λ ms. All (λ m. IsMade m.ty m.dims m.elems) ms.items) }
         ensures same { self.new ≡ self.old }

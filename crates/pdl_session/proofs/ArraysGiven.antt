@@ -7,6 +7,7 @@ use Rattle.pdl_buf.specs.declared.made.Made.{Made}
 use Rattle.pdl_kernel.specs.Kernels.{Kernel}
 use Rattle.pdl_machine.specs.declared.fault.Fault.TheVariants.{UnknownFunction, WrongArguments}
 use Rattle.pdl_machine.specs.Arrays.{Arrays, array_in}
+use Rattle.pdl_machine.specs.Calls.{outputs_of}
 use Rattle.pdl_machine.specs.Kernels.{array_seen, called_on, kernel_outputs, outputs_count}
 use Rattle.pdl_machine.specs.Names.{Names, found}
 use Rattle.pdl_machine.specs.Outcome.{Seen, array}
@@ -19,7 +20,6 @@ use Rattle.pdl_scope.specs.Scope.{arrays_seen}
 use Rattle.pdl_session.specs.declared.given.Given.{Given}
 use Rattle.pdl_session.specs.declared.given.Given.TheVariants.{Array, Text, OfType}
 use Rattle.pdl_session.specs.Arguments.{all_seen_of, array_number, AreGivenLive}
-use Rattle.pdl_session.specs.Calls.{outputs_of}
 
 -- arguments that are all arrays are these
 all_arrays : (given : List Given) (ids : List ℕ) → all_of array_number given ≡ Some ids → given ≡ map Array ids

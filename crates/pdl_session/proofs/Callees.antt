@@ -7,14 +7,13 @@ use Rattle.pdl_machine.specs.declared.fault.Fault.{Fault}
 use Rattle.pdl_machine.specs.declared.fault.Fault.TheVariants.{UnknownFunction}
 use Rattle.pdl_machine.specs.Arrays.{Arrays}
 use Rattle.pdl_machine.specs.Builtin.{builtin_of}
-use Rattle.pdl_machine.specs.Calls.{callee_among, callee_of, only_root, value_by, call_value}
+use Rattle.pdl_machine.specs.Calls.{callee_among, callee_of, only_root, outputs_of, several, value_by, call_value}
 use Rattle.pdl_machine.specs.Kernels.{kernel_outputs}
 use Rattle.pdl_machine.specs.Names.{Names, found}
 use Rattle.pdl_machine.specs.Outcome.{Given as Argument, Seen, Valued}
 use Rattle.pdl_machine.specs.Then.{and_then, or_fault}
 use Rattle.pdl_session.specs.declared.given.Given.{Given}
 use Rattle.pdl_session.specs.Arguments.{arguments, all_seen_of}
-use Rattle.pdl_session.specs.Calls.{outputs_of, several}
 
 abbrev value_among : Option Kernel → Arrays → List Argument → Option Builtin → Valued
 value_among k a given b = and_then (or_fault UnknownFunction (callee_among b k)) (value_by a given)

@@ -11,7 +11,7 @@ use Rattle.pdl_machine.specs.Arrays.{Arrays}
 use Rattle.pdl_machine.specs.Then.{and_then}
 use Rattle.pdl_machine.specs.State.{State, with_arrays, IsWhole}
 use Rattle.pdl_machine.specs.Outcome.{Given as Argument, Seen, Valued}
-use Rattle.pdl_machine.specs.Calls.{Callee, builtin, kernel, callee_of, value_by, call_value}
+use Rattle.pdl_machine.specs.Calls.{Callee, callee_of, several, value_by, call_value}
 use Rattle.pdl_machine.specs.Value.{value_of, taken}
 use Rattle.pdl_machine.specs.Tidy.{tidy}
 use Rattle.pdl_machine.specs.Laws.{NewArraysUnseen}
@@ -20,7 +20,6 @@ use Rattle.pdl_scope.specs.declared.fault.StepFault.{StepFault}
 use Rattle.pdl_scope.specs.declared.fault.StepFault.TheVariants.{Script, NoMemory}
 use Rattle.pdl_session.specs.declared.given.Given.{Given}
 use Rattle.pdl_session.specs.Arguments.{arguments, all_seen_of}
-use Rattle.pdl_session.specs.Calls.{several}
 use Rattle.pdl_scope.specs.Scope.{Grows}
 use Rattle.pdl_scope.specs.Answers.{IsFault, IfScript, Prints, Runs}
 use Rattle.pdl_session.proofs.Facts.{first_fault, grows_trans, state_is}
@@ -75,10 +74,8 @@ several_is s xs f given many = by_callee (callee_of s.names f) xs many
         → and_then c (outputs_bound s xs (s.arrays, arguments given)) ≡ and_then (and_then c (several (length xs) (all_seen_of s.arrays given))) (roots_bound s xs)
     by_callee (Err e) xs many = refl
     by_callee (Ok c) (x ∷ []) many = absurd (many refl)
-    by_callee (Ok (builtin b)) [] many = refl
-    by_callee (Ok (builtin b)) (x ∷ y ∷ xs) many = refl
-    by_callee (Ok (kernel k)) [] many = refl
-    by_callee (Ok (kernel k)) (x ∷ y ∷ xs) many = refl
+    by_callee (Ok c) [] many = refl
+    by_callee (Ok c) (x ∷ y ∷ xs) many = refl
 
 pub runs_several : {T : Type 0} (r : Result T StepFault) (old mid new : State) (xs : List (List ℕ)) (f : List ℕ) (given : List Given) (wanted : ℕ) (ms : List Made) → length xs ≢ 1 → wanted ≡ length xs
     → and_then (callee_of old.names f) (several wanted (all_seen_of old.arrays given)) ≡ Ok ms → mid ≡ old → Runs (roots_bound mid xs ms) mid new [] [] r
@@ -98,10 +95,8 @@ list_same s a xs f t = by_call (callee_of s.names f) xs
     by_call : (x : Result Callee Fault) (xs : List (List ℕ)) → and_then x (outputs_bound (with_arrays s a) xs t) ≡ and_then x (outputs_bound s xs t)
     by_call (Err e) xs = refl
     by_call (Ok c) (x ∷ []) = refl
-    by_call (Ok (builtin b)) [] = refl
-    by_call (Ok (builtin b)) (x ∷ y ∷ xs) = refl
-    by_call (Ok (kernel k)) [] = refl
-    by_call (Ok (kernel k)) (x ∷ y ∷ xs) = refl
+    by_call (Ok c) [] = refl
+    by_call (Ok c) (x ∷ y ∷ xs) = refl
 
 -- a list binding, after its arguments came
 pub runs_list : {T : Type 0} (r : Result T StepFault) (old mid new : State) (xs : List (List ℕ)) (tree : Tree) (f : List ℕ) (args : Args) (given items : List Argument)

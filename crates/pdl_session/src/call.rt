@@ -4,14 +4,13 @@ ghost use Rattle.pdl_elem.specs.Types.{InRange};
 ghost use Rattle.pdl_lexemes.specs.Lists.{type_of};
 ghost use Rattle.pdl_buf.specs.Made.{IsMade};
 ghost use Rattle.pdl_machine.specs.declared.fault.Fault.TheVariants.{WrongArguments, UnknownFunction};
-ghost use Rattle.pdl_machine.specs.Calls.{outcome, builtin_value, callee_of, call_value, only_root};
+ghost use Rattle.pdl_machine.specs.Calls.{outcome, builtin_value, callee_of, call_value, only_root, outputs_of, several};
 ghost use Rattle.pdl_machine.specs.Outcome.{new_root, view_placed};
 ghost use Rattle.pdl_machine.specs.Then.{and_then};
 ghost use Rattle.pdl_machine.specs.Value.{number_made};
 ghost use Rattle.pdl_world.specs.Formula.{is_well_formed};
 ghost use Rattle.pdl_scope.specs.Answers.{AnswersAs, Evaluates};
 ghost use Rattle.pdl_session.specs.Arguments.{arguments, AreGivenLive, all_seen_of, outcome_of, IsOutcomeMade};
-ghost use Rattle.pdl_session.specs.Calls.{outputs_of, several};
 ghost use Rattle.pdl_scope.specs.Scope.{Grows};
 ghost use Rattle.std.specs.Prelude.{IsTrue};
 
@@ -155,10 +154,7 @@ pub fn builtin_call<L: Ledger>(
     ensures grown { Grows scope.old scope.new }
 {
     match outcome(scope, builtin, given, steps) {
-        Ok(Outcome::New(made)) => {
-            let elems = made.elems;
-            scope.make(made.ty, &made.dims, elems, steps)
-        }
+        Ok(Outcome::New(made)) => scope.adopt(made, steps),
         Ok(Outcome::View(trans)) => view_first(scope, given, trans),
         Err(fault) => Err(fault),
     }

@@ -15,8 +15,8 @@ pub returns-in-Ok-New-clause-value : goal.returns-in-Ok-New-clause-value
 unfolding placed
 returns-in-Ok-New-clause-value g c =
     let m = c.in-Ok-New.made in
-    evaluates c.args.builtin c.args.scope.now.arrays c.args.given.now (made m) c.make.new.self c.make.result (c.in-Ok-New.ensures.value ∙ ap placed c.in-Ok-New.field-0-is)
-    (subst (λ (s : State). Evaluates (new_root s.arrays m) c.make.new.self c.make.result) c.outcome.ensures.same c.make.ensures.value)
+    evaluates c.args.builtin c.args.scope.now.arrays c.args.given.now (made m) c.adopt.new.self c.adopt.result (c.in-Ok-New.ensures.value ∙ ap placed c.in-Ok-New.field-0-is)
+    (subst (λ (s : State). Evaluates (new_root s.arrays m) c.adopt.new.self c.adopt.result) c.outcome.ensures.same c.adopt.ensures.value)
 
 pub returns-in-Ok-View-clause-value : goal.returns-in-Ok-View-clause-value
 unfolding placed

@@ -1,12 +1,11 @@
 use Rattle.std.proofs.Common.{◌≡◌, None, sym, ap, subst, ◌∙◌}
 use Rattle.pdl_machine.specs.Builtin.{builtin_of}
-use Rattle.pdl_machine.specs.Calls.{only_root, call_value}
+use Rattle.pdl_machine.specs.Calls.{only_root, outputs_of, call_value}
 use Rattle.pdl_machine.specs.Outcome.{Valued}
 use Rattle.pdl_machine.specs.State.{State}
 use Rattle.pdl_machine.specs.Then.{and_then}
 use Rattle.pdl_scope.specs.Answers.{IsFault, Evaluates}
 use Rattle.pdl_session.specs.Arguments.{arguments, all_seen_of}
-use Rattle.pdl_session.specs.Calls.{outputs_of}
 use Rattle.pdl_session.proofs.Callees.{kernel_called}
 use Rattle.pdl_session.proofs.Facts.{hands_on, first_fault}
 use Rattle.pdl_session.proofs.call.call.Goals as goal

@@ -9,20 +9,20 @@ use Rattle.pdl_machine.specs.Then.{and_then}
 use Rattle.pdl_scope.specs.Answers.{IsFault, Evaluates}
 use Rattle.pdl_scope.specs.Scope.{names_in, arrays_of}
 use Rattle.pdl_scope.proofs.Faults.{not_made}
-use Rattle.pdl_scope.proofs.Growing.{both_readied}
+use Rattle.pdl_scope.proofs.Growing.{readied}
 use Rattle.pdl_scope.proofs.scope.Scope.binary.Goals as goal
 
 pub returns-in-Ok-clause-value : goal.returns-in-Ok-clause-value
 returns-in-Ok-clause-value g c =
-    let a = arrays_of c.ready-2.new.engine in
-    let same : a ≡ c.args.self.now.arrays = ap (λ (s : State). s.arrays) (both_readied (names_in c.self.inside.names c.self.inside.kernels) c.self.inside.engine c.ready.new.engine c.ready-2.new.engine c.ready.ensures.same c.ready-2.ensures.same ∙ c.self.view_is) in
-    let P : Arrays → Type 0 = λ b. Evaluates (and_then (binary_each c.args.op (array_in b c.args.left) (array_in b c.args.right)) (new_root b)) c.make.new.self c.make.result in
-    let Q : Result Made Fault → Type 0 = λ x. Evaluates (and_then x (new_root a)) c.make.new.self c.make.result in
-    subst P same (subst Q (sym c.in-Ok.ensures.value) c.make.ensures.value)
+    let a = arrays_of c.ready_two.new.engine in
+    let same : a ≡ c.args.self.now.arrays = ap (λ (s : State). s.arrays) (readied (names_in c.self.inside.names c.self.inside.kernels) c.self.inside.engine c.ready_two.new.engine c.ready_two.ensures.same ∙ c.self.view_is) in
+    let P : Arrays → Type 0 = λ b. Evaluates (and_then (binary_each c.args.op (array_in b c.args.left) (array_in b c.args.right)) (new_root b)) c.adopt.new.self c.adopt.result in
+    let Q : Result Made Fault → Type 0 = λ x. Evaluates (and_then x (new_root a)) c.adopt.new.self c.adopt.result in
+    subst P same (subst Q (sym c.in-Ok.ensures.value) c.adopt.ensures.value)
 
 pub returns-in-Err-clause-value : goal.returns-in-Err-clause-value
 returns-in-Err-clause-value g c =
-    let a = arrays_of c.ready-2.new.engine in
-    let same : a ≡ c.args.self.now.arrays = ap (λ (s : State). s.arrays) (both_readied (names_in c.self.inside.names c.self.inside.kernels) c.self.inside.engine c.ready.new.engine c.ready-2.new.engine c.ready.ensures.same c.ready-2.ensures.same ∙ c.self.view_is) in
+    let a = arrays_of c.ready_two.new.engine in
+    let same : a ≡ c.args.self.now.arrays = ap (λ (s : State). s.arrays) (readied (names_in c.self.inside.names c.self.inside.kernels) c.self.inside.engine c.ready_two.new.engine c.ready_two.ensures.same ∙ c.self.view_is) in
     let P : Arrays → Type 0 = λ b. IsFault (and_then (binary_each c.args.op (array_in b c.args.left) (array_in b c.args.right)) (new_root b)) c.in-Err.fault in
     subst P same (not_made (binary_each c.args.op (array_in a c.args.left) (array_in a c.args.right)) a c.in-Err.fault c.in-Err.ensures.value)

@@ -7,17 +7,17 @@ use Rattle.pdl_machine.specs.Refused.{reduce_fault, or_named}
 use Rattle.pdl_machine.specs.State.{State}
 use Rattle.pdl_scope.specs.Answers.{Answers}
 use Rattle.pdl_scope.specs.Scope.{arrays_of, names_in}
-use Rattle.pdl_scope.proofs.Growing.{both_readied}
+use Rattle.pdl_scope.proofs.Growing.{readied}
 use Rattle.pdl_scope.proofs.Reduced.{two_lent}
 use Rattle.pdl_scope.proofs.scope.Scope.paired.Goals as goal
 
 pub returns-clause-value : goal.returns-clause-value
 returns-clause-value g c =
     let f = paired c.args.kind in
-    let e = c.ready-2.new.engine in
+    let e = c.ready_two.new.engine in
     let a = c.args.self.now.arrays in
     let w = c.lend.result in
     let u = c.lend-2.result in
-    let same : arrays_of e ≡ a = ap (λ (s : State). s.arrays) (both_readied (names_in c.self.inside.names c.self.inside.kernels) c.self.inside.engine c.ready.new.engine e c.ready.ensures.same c.ready-2.ensures.same ∙ c.self.view_is) in
+    let same : arrays_of e ≡ a = ap (λ (s : State). s.arrays) (readied (names_in c.self.inside.names c.self.inside.kernels) c.self.inside.engine e c.ready_two.ensures.same ∙ c.self.view_is) in
     let P : Result Made ReduceRefusal → Type 0 = λ x. Answers (or_named reduce_fault x) c.named.result in
     subst P (sym (two_lent f a c.args.left c.args.right e w u same c.lend.ensures c.lend-2.ensures)) (c.named.ensures.value (f (array_of w) (array_of u)) c.pair-3.ensures.value)
