@@ -16,11 +16,10 @@ use Rattle.pdl_kernel.specs.declared.nested.Guard.{Guard}
 use Rattle.pdl_kernel.specs.declared.nested.Guard.TheVariants.{Always, Where}
 use Rattle.pdl_kernel.specs.declared.nested.Inner.{Inner}
 use Rattle.pdl_kernel.specs.declared.nested.Settled.{Settled}
-use Rattle.pdl_kernel.specs.declared.nested.Wants.TheVariants.{Known, Each}
 use Rattle.pdl_kernel.specs.declared.steady.Steady.{Steady}
 use Rattle.pdl_kernel.specs.Lines.{HasSameForm, IsCodePlan, IsServed, loops_at, turned}
 use Rattle.pdl_kernel.specs.Meaning.{Store, and_then, branch, run, turns, value}
-use Rattle.pdl_kernel.specs.Nested.{IsCourse, IsSettled, code_of_inner, guarded, guarded_turn, outer_turn, wanted, wants_of}
+use Rattle.pdl_kernel.specs.Nested.{IsCourse, IsSettled, code_of_inner, guarded, guarded_turn, holds, left_holds, outer_turn}
 use Rattle.pdl_kernel.specs.Sources.{IsCodeFree, Source, Work, store_of}
 use Rattle.pdl_kernel.specs.Steady.{IsSteady}
 use Rattle.pdl_kernel.proofs.Sweeping.{form_more, form_same, swept, then_done, turns_form, turns_more}
@@ -37,9 +36,9 @@ inner_free roles inner = by inner.guard
 pub turn_is : (l : Nest) (g : Guard) (code : Code) (c : Course) → IsCodePlan l code c.plan → size_in l.resolved.now.sizes l.inner ≡ c.count → c.count ≤ l.count → (j : ℕ) → j < l.turns → IsServed c.plan j → (w : Work) → HasSameForm l.frames.now w → (here : List ℕ)
     → here ≡ slice_set l.at.now l.outer (l.first + j)
     → run l.resolved.now here (guarded g (next (repeat l.inner code) done)) (store_of l.sources.now w)
-    ≡ and_then (guarded_turn (wanted l.resolved.now.sizes here (store_of l.sources.now w) (wants_of g)) c j w) (λ v. Ok (store_of l.sources.now v))
+    ≡ and_then (guarded_turn (holds l.resolved.now.sizes here (store_of l.sources.now w) g) c j w) (λ v. Ok (store_of l.sources.now v))
 turn_is l g code c h size few j jt served w form here is =
-    subst (λ at. run l.resolved.now at (guarded g loop) m ≡ and_then (guarded_turn (wanted l.resolved.now.sizes at m (wants_of g)) c j w) (λ v. Ok (store_of l.sources.now v))) (sym is) (by_guard g)
+    subst (λ at. run l.resolved.now at (guarded g loop) m ≡ and_then (guarded_turn (holds l.resolved.now.sizes at m g) c j w) (λ v. Ok (store_of l.sources.now v))) (sym is) (by_guard g)
   where
     at : List ℕ
     at = slice_set l.at.now l.outer (l.first + j)
@@ -65,12 +64,12 @@ turn_is l g code c h size few j jt served w form here is =
     by_value (Ok (negsuc n)) = by_loop
     by_value (Err d) = refl
 
-    by_guard : (g : Guard) → run l.resolved.now at (guarded g loop) m ≡ and_then (guarded_turn (wanted l.resolved.now.sizes at m (wants_of g)) c j w) (λ v. Ok (store_of l.sources.now v))
+    by_guard : (g : Guard) → run l.resolved.now at (guarded g loop) m ≡ and_then (guarded_turn (holds l.resolved.now.sizes at m g) c j w) (λ v. Ok (store_of l.sources.now v))
     by_guard Always = by_loop
     by_guard (Where e) = then_done (and_then (value l.resolved.now.sizes at m (tree_of e.now)) (λ x. branch x (run l.resolved.now at loop m) (Ok m))) ∙ by_value (value l.resolved.now.sizes at m (tree_of e.now))
 
 -- it keeps the form
-pub guarded_form : (wants : Result Bool Fault) (c : Course) (j : ℕ) (w now : Work) → guarded_turn wants c j w ≡ Ok now → HasSameForm w now
+pub guarded_form : (held : Result Bool Fault) (c : Course) (j : ℕ) (w now : Work) → guarded_turn held c j w ≡ Ok now → HasSameForm w now
 guarded_form (Ok true) c j w now e = turns_form c.plan j c.count 0 w now e
 guarded_form (Ok false) c j w now e = let is : w ≡ now = cc in subst (HasSameForm w) is (form_same w)
 guarded_form (Err d) c j w now e = cc
@@ -97,7 +96,7 @@ resume_by f g ss start first size n le keeps same (suc k) j all w form =
     by (Err d) is more = refl
 
 -- turns that change nothing
-pub turns_idle : {A : Type 0} (f : ℕ → A → Result A Fault) (m : A) → ((i : ℕ) → f i m ≡ Ok m) → (i n : ℕ) → turns f i n m ≡ Ok m
+turns_idle : {A : Type 0} (f : ℕ → A → Result A Fault) (m : A) → ((i : ℕ) → f i m ≡ Ok m) → (i n : ℕ) → turns f i n m ≡ Ok m
 turns_idle f m idle i zero = refl
 turns_idle f m idle i (suc n) = ap (λ r. and_then r (turns f (i + 1) n)) (idle i) ∙ turns_idle f m idle (i + 1) n
 
@@ -111,7 +110,7 @@ resumes f g ss start first size n le keeps same r is =
     ap (λ i. turns f i (size - i) (store_of ss start)) e ∙ resume_by f g ss start first size n le keeps same n 0 (omega arith) start (form_same start) ∙ ap (λ r. and_then r (λ v. turns f (first + n) (size - (first + n)) (store_of ss v))) is
 
 -- where a guard doesn't hold, its code does nothing
-unwanted : (r : Resolved) (at : List ℕ) (m : Store) (g : Guard) (code : Code) → wanted r.sizes at m (wants_of g) ≡ Ok false → run r at (guarded g code) m ≡ Ok m
+unwanted : (r : Resolved) (at : List ℕ) (m : Store) (g : Guard) (code : Code) → holds r.sizes at m g ≡ Ok false → run r at (guarded g code) m ≡ Ok m
 unwanted r at m Always code is = cc
 unwanted r at m (Where e) code is = then_done (and_then (value r.sizes at m (tree_of e.now)) (λ x. branch x (run r at code m) (Ok m))) ∙ by (value r.sizes at m (tree_of e.now)) is
   where
@@ -122,7 +121,7 @@ unwanted r at m (Where e) code is = then_done (and_then (value r.sizes at m (tre
     by (Err d) is = cc
 
 -- the loop resumes behind the turns at which the inner one isn't run
-pub passed_over : (r : Resolved) (at : List ℕ) (ss : List Source) (start : Work) (d : ℕ) (inner : Inner) (first : ℕ) (s : Settled) → IsSettled r.sizes at ss start d inner.guard first s → s.wants ≡ Known false
+pub passed_over : (r : Resolved) (at : List ℕ) (ss : List Source) (start : Work) (d : ℕ) (inner : Inner) (first : ℕ) (s : Settled) → IsSettled r.sizes at ss start d inner.guard first s → s.left ≡ None
     → let f : ℕ → Store → Result Store Fault = λ i now. run r (slice_set at d i) (code_of_inner inner) now in
     turns f first (size_in r.sizes d - first) (store_of ss start) ≡ turns f s.until (size_in r.sizes d - s.until) (store_of ss start)
 passed_over r at ss start d inner first s h never =
@@ -133,15 +132,15 @@ passed_over r at ss start d inner first s h never =
     (λ j jt w form.
     let at = slice_set at d (first + j) in
     let m = store_of ss w in
-    unwanted r at m inner.guard (next (repeat inner.dimension (code_of inner.body.now)) done) (h.same w form (first + j) (omega arith) (omega (arith, jt)) ∙ ap (wanted r.sizes at m) never))
+    unwanted r at m inner.guard (next (repeat inner.dimension (code_of inner.body.now)) done) (h.same w form (first + j) (omega arith) (omega (arith, jt)) ∙ ap (left_holds r.sizes at m) never))
     (Ok start) (turns_idle idle start (λ j. refl) 0 (s.until - first))
     ∙ ap (λ k. turns f k (size_in r.sizes d - k) (store_of ss start)) e
 
 -- a nest that goes by a plan, as far as its lines serve and its guard is known
 pub course_is : (l : Nest) (inner : Inner) (s : Settled) (c : Course) → IsCodePlan l (code_of inner.body.now) c.plan → l.inner ≡ inner.dimension → size_in l.resolved.now.sizes l.inner ≡ c.count → c.count ≤ l.count
-    → IsSettled l.resolved.now.sizes l.at.now l.sources.now l.frames.now l.outer inner.guard l.first s → c.wants ≡ s.wants → l.turns ≡ s.until - l.first → c.turns ≤ l.turns → ((j : ℕ) → j < c.turns → IsServed c.plan j)
+    → IsSettled l.resolved.now.sizes l.at.now l.sources.now l.frames.now l.outer inner.guard l.first s → s.left ≡ Some c.guard → l.turns ≡ s.until - l.first → c.turns ≤ l.turns → ((j : ℕ) → j < c.turns → IsServed c.plan j)
     → IsCourse l.resolved.now l.at.now l.sources.now l.frames.now l.outer inner l.first c
-course_is l inner s c h same size few settled wants some less served = record {
+course_is l inner s c h same size few settled left some less served = record {
   known = h.known;
   within = omega (arith, some, less, settled.lasts.0, settled.lasts.1);
   turn = λ w form j jt.
@@ -151,7 +150,7 @@ course_is l inner s c h same size few settled wants some less served = record {
       let is = settled.same w form (l.first + j) (omega arith) (omega (arith, jt, some, less, settled.lasts.0)) in
       ap (λ d. run l.resolved.now at (guarded inner.guard (next (repeat d code) done)) m) (sym same)
       ∙ turn_is l inner.guard code c h size few j (omega (arith, jt, less)) (served j jt) w form at refl
-      ∙ ap (λ b. and_then (guarded_turn b c j w) (λ v. Ok (store_of l.sources.now v))) (is ∙ ap (λ k. wanted l.resolved.now.sizes at m k) (sym wants));
+      ∙ ap (λ b. and_then (guarded_turn b c j w) (λ v. Ok (store_of l.sources.now v))) (is ∙ ap (left_holds l.resolved.now.sizes at m) left);
 }
 
 -- the loop resumes behind the turns of a course, or has their fault
@@ -163,16 +162,21 @@ course_resumes r at ss start d inner first c h done_by is =
     resumes _ (outer_turn r.sizes at ss d first c) ss start first (size_in r.sizes d) c.turns h.within (λ j w now e. guarded_form _ c j w now e) (λ j jt w form. h.turn w form j jt) done_by is
 
 -- a condition whose number stays
-pub condition_settled : (l : Nest) (e : Bor Expr) (first : ℕ) (s : Steady) (b : Bool) → l.outer ≡ l.inner → 1 ≤ l.turns → l.count ≡ size_in l.resolved.now.sizes l.inner → IsSteady l (tree_of e.now) first s → b ≡ branch s.number true false
-    → IsSettled l.resolved.now.sizes l.at.now l.sources.now l.frames.now l.inner (Where e) first (record { wants = Known b; until = s.until })
-condition_settled l e first s b alone some size steady is = record {
+pub condition_settled : (l : Nest) (e : Bor Expr) (first : ℕ) (s : Steady) (left : Option Guard) → l.outer ≡ l.inner → 1 ≤ l.turns → l.count ≡ size_in l.resolved.now.sizes l.inner → IsSteady l (tree_of e.now) first s → left ≡ branch s.number (Some Always) None
+    → IsSettled l.resolved.now.sizes l.at.now l.sources.now l.frames.now l.inner (Where e) first (record { left = left; until = s.until })
+condition_settled l e first s left alone some size steady is = record {
   lasts = (steady.lasts.0, omega (arith, steady.lasts.1, size));
   same = λ w form i fi iu.
       let sizes = l.resolved.now.sizes in
       let m = store_of l.sources.now w in
       let at : slice_set l.at.now l.inner i ≡ loops_at l 0 i = sym (ap (λ k. slice_set (slice_set l.at.now k (l.first + 0)) l.inner i) alone ∙ set-set l.at.now l.inner (l.first + 0) i) in
-      ap (λ a. wanted sizes a m (Each e)) at ∙ ap (λ r. and_then r (λ x. Ok (branch x true false))) (steady.number w form 0 (omega (arith, some)) i (omega (arith, iu, steady.lasts.1)) fi iu) ∙ ap Ok (sym is);
+      ap (λ a. holds sizes a m (Where e)) at ∙ ap (λ r. and_then r (λ x. Ok (branch x true false))) (steady.number w form 0 (omega (arith, some)) i (omega (arith, iu, steady.lasts.1)) fi iu) ∙ known sizes (slice_set l.at.now l.inner i) m s.number ∙ ap (left_holds sizes (slice_set l.at.now l.inner i) m) (sym is);
 }
+  where
+    known : (sizes at : List ℕ) (m : Store) (x : ℤ) → Ok (branch x true false) ≡ left_holds sizes at m (branch x (Some Always) None)
+    known sizes at m (pos zero) = refl
+    known sizes at m (pos (suc n)) = refl
+    known sizes at m (negsuc n) = refl
 
 -- code that is a loop, and one under a condition
 pub inner_always : (code : List Stmt) (r : Option Inner) → IfSome r (λ inner. inner.guard ≡ Always) → IfSome r (λ inner. code_of code ≡ next (repeat inner.dimension (code_of inner.body.now)) done) → IfSome r (λ inner. code_of code ≡ code_of_inner inner)

@@ -39,6 +39,13 @@ keep_above x y zero (suc (suc b)) f i u sa sb fi iu le up = absurd (omega (arith
 keep_above x y (suc zero) (suc (suc b)) f i u sa sb fi iu le up = absurd (omega (arith, sb))
 keep_above x y (suc (suc a)) b f i u sa sb fi iu le up = absurd (omega (arith, sa))
 
+-- where the lower one has come up, it is as far from the other as it was to come
+come_up : (x y w : ℤ) (a b f u : ℕ) → a ≤ 1 → b < a → pos u ≡ pos f +ℤ (((y +ℤ pos (b * f)) -ℤ (x +ℤ pos (a * f))) +ℤ w) → (x +ℤ pos (a * u)) ≡ ((y +ℤ pos (b * u)) +ℤ w)
+come_up x y w (suc zero) zero f u sa up e = omega (arith, ints, e)
+come_up x y w zero b f u sa up e = absurd (omega (arith, up))
+come_up x y w (suc zero) (suc b) f u sa up e = absurd (omega (arith, up))
+come_up x y w (suc (suc a)) b f u sa up e = absurd (omega (arith, sa))
+
 alone_at : (s : Slope) (i : ℕ) → number_at s 0 i ≡ s.number +ℤ pos (s.inner * i)
 alone_at s i = let e : s.outer * 0 + s.inner * i ≡ s.inner * i = omega arith in ap (λ n. s.number +ℤ pos n) e
 
@@ -53,6 +60,19 @@ stays_above a b f i u fi iu le up =
     is_not_below (number_at a 0 i) (number_at b 0 i)
     (let k = keep_above a.number b.number a.inner b.inner f i u a.small_inner b.small_inner fi iu (omega (arith, ints, le, alone_at a f, alone_at b f)) (λ h. omega (arith, ints, up h, alone_at a f, alone_at b f)) in
     omega (arith, ints, k, alone_at a i, alone_at b i))
+
+-- then the comparison changes
+pub comes_up : (a b : Slope) (f u : ℕ) → b.inner < a.inner → pos u ≡ pos f +ℤ (number_at b 0 f -ℤ number_at a 0 f) → truth (int_lt (number_at a 0 u) (number_at b 0 u)) ≡ pos 0
+comes_up a b f u up e =
+    is_not_below (number_at a 0 u) (number_at b 0 u)
+    (let k = come_up a.number b.number (pos 0) a.inner b.inner f u a.small_inner up (omega (arith, ints, e, alone_at a f, alone_at b f)) in
+    omega (arith, ints, k, alone_at a u, alone_at b u))
+
+pub comes_past : (a b : Slope) (f u : ℕ) → a.inner < b.inner → pos u ≡ pos f +ℤ ((number_at a 0 f -ℤ number_at b 0 f) +ℤ pos 1) → truth (int_lt (number_at a 0 u) (number_at b 0 u)) ≡ pos 1
+comes_past a b f u up e =
+    is_below (number_at a 0 u) (number_at b 0 u)
+    (let k = come_up b.number a.number (pos 1) b.inner a.inner f u b.small_inner up (omega (arith, ints, e, alone_at a f, alone_at b f)) in
+    omega (arith, ints, k, alone_at a u, alone_at b u))
 
 -- at most is not above
 pub at_most_is : (x y : ℤ) → truth (int_le x y) ≡ truth (int_eq (truth (int_lt y x)) (pos 0))
@@ -82,7 +102,7 @@ pub together_is : (l : Nest) (e x y : Tree) (op : BinaryOp) (a b : Steady) (firs
     → IfSome r (λ s. (operate op a.number b.number ≡ Ok s.number) × (s.until ≤ a.until) × (s.until ≤ b.until) × ((n : ℕ) → n ≤ a.until → n ≤ b.until → n ≤ s.until)) → IfSome r (IsSteady l e first)
 together_is l e x y op a b first None is left right both = tt
 together_is l e x y op a b first (Some s) is left right both = record {
-  lasts = (both.3 first left.lasts.0 right.lasts.0, omega (arith, both.1, left.lasts.1));
+  lasts = (both.3 (suc first) left.lasts.0 right.lasts.0, omega (arith, both.1, left.lasts.1));
   number = λ w form j jt i it fi iu.
       let sizes = l.resolved.now.sizes in
       let at = loops_at l j i in

@@ -1,5 +1,7 @@
 -- Conditions that stay as they are for many turns of a loop.
 use Rattle.std.specs.Prelude.{◌≡◌, ◌<◌, ◌≤◌, ℕ, ℤ, pos, negsuc, ◌≤ℤ◌, Ok}
+use Rattle.std.specs.Ordering.{int_eq}
+use Rattle.pdl_elem.specs.Operators.{truth}
 use Rattle.pdl_code.specs.Tree.{Tree}
 use Rattle.pdl_kernel.specs.declared.nest.Nest.{Nest}
 use Rattle.pdl_kernel.specs.declared.steady.Steady.{Steady}
@@ -7,9 +9,13 @@ use Rattle.pdl_kernel.specs.Lines.{AtEach}
 use Rattle.pdl_kernel.specs.Meaning.{value}
 use Rattle.pdl_kernel.specs.Sources.{store_of}
 
--- a turn that comes up to which something stays as it was at the first
+-- a later turn, up to which something stays as it was at the first
 abbrev pub Lasts : (first count until : ℕ) → Type 0
-Lasts first count until = (first ≤ until) × (until ≤ count)
+Lasts first count until = (first < until) × (until ≤ count)
+
+-- 1 for 0, and 0 for another number
+abbrev pub opposite : ℤ → ℤ
+opposite x = truth (int_eq x (pos 0))
 
 -- sums and differences of such numbers fit 128 bits
 abbrev pub IsWithin : ℤ → Type 0

@@ -1,13 +1,13 @@
 //! Loops whose body is a loop along lines, perhaps under a condition: the lines are found once for
 //! as many turns as they serve.
-ghost use Rattle.std.specs.Prelude.{◌≡◌, ◌<◌, ◌+◌, length, slice_set, IfNone, IfSome};
+ghost use Rattle.std.specs.Prelude.{◌≡◌, ◌<◌, ◌+◌, length, slice_set, IfNone, IfSome, None, Some};
 ghost use Rattle.pdl_sig.specs.Resolution.{size_in};
-ghost use Rattle.pdl_code.specs.TreeOf.{code_of};
+ghost use Rattle.pdl_code.specs.TreeOf.{code_of, tree_of};
 ghost use Rattle.pdl_code.specs.Tree.{done, next, repeat};
 ghost use Rattle.pdl_kernel.specs.Answers.{Becomes};
-ghost use Rattle.pdl_kernel.specs.Meaning.{and_then, run, turns};
-ghost use Rattle.pdl_kernel.specs.declared.nested.Guard.TheVariants.{Where};
-ghost use Rattle.pdl_kernel.specs.Nested.{IsCourse, IsSettled, Resumes, code_of_inner, guarded, guarded_turn, outer_turn, wanted};
+ghost use Rattle.pdl_kernel.specs.Meaning.{branch, run, turns};
+ghost use Rattle.pdl_kernel.specs.declared.nested.Guard.TheVariants.{Always, Where};
+ghost use Rattle.pdl_kernel.specs.Nested.{IsCourse, IsSettled, Resumes, code_of_inner, guarded_turn, is_met, outer_turn};
 ghost use Rattle.pdl_kernel.specs.Sources.{IsCodeFree, roles_of, store_of};
 
 use crate::axes::{MOST, set_index};
@@ -77,38 +77,23 @@ fn inner_of<'a>(code: &'a [Stmt]) -> Option<Inner<'a>>
     }
 }
 
-/// Whether a loop is run: as is known of the turns that come, or where a number isn't 0.
-#[derive(Clone, Copy)]
-pub enum Wants<'a> {
-    Known(bool),
-    Each(&'a Expr),
-}
-
-/// What is known of a guard up to a turn of the outer loop.
+/// What is known of a guard up to a turn of the outer loop: what is left of it to ask at each turn, or
+/// none where it doesn't hold.
 #[derive(Clone, Copy)]
 pub struct Settled<'a> {
-    pub wants: Wants<'a>,
+    pub left: Option<Guard<'a>>,
     pub until: u32,
 }
 
-/// Whether the loop is run.
+/// What is left of a condition whose number is known.
 #[inline(always)]
-fn wanted(
-    resolved: &Resolved,
-    sources: &[Source],
-    frames: &Frames,
-    at: &[u32; MOST],
-    wants: &Wants,
-) -> Result<bool, Fault>
-    ensures { let m = store_of sources.now frames.now in
-        result ≡ wanted resolved.now.sizes at.now m wants.now }
+fn always_where<'a>(number: i64) -> Option<Guard<'a>>
+    ensures { result ≡ branch number (Some Always) None }
 {
-    match wants {
-        Wants::Known(known) => Ok(*known),
-        Wants::Each(expr) => match value(resolved, sources, frames, at, expr) {
-            Ok(x) => Ok(x != 0),
-            Err(fault) => Err(fault),
-        },
+    if number == 0 {
+        None
+    } else {
+        Some(Guard::Always)
     }
 }
 
@@ -142,11 +127,11 @@ fn settle_condition<'a>(
     };
     match steady_number(&alone, expr, first) {
         Some(steady) => Settled {
-            wants: Wants::Known(steady.number != 0),
+            left: always_where(steady.number),
             until: steady.until,
         },
         None => Settled {
-            wants: Wants::Each(expr),
+            left: Some(Guard::Where(expr)),
             until: count,
         },
     }
@@ -170,7 +155,7 @@ fn settle_guard<'a>(
 {
     match guard {
         Guard::Always => Settled {
-            wants: Wants::Known(true),
+            left: Some(Guard::Always),
             until: size_in(resolved, dimension),
         },
         Guard::Where(expr) => settle_condition(
@@ -179,11 +164,11 @@ fn settle_guard<'a>(
     }
 }
 
-/// How so many turns of the outer loop go: whether the inner one is run, its plan, and how many
-/// turns it has.
+/// How so many turns of the outer loop go: what each asks before it runs the inner one, the plan of
+/// that one, and how many turns it has.
 #[derive(Clone, Copy)]
 pub struct Course<'a, 'b> {
-    pub wants: Wants<'b>,
+    pub guard: Guard<'b>,
     pub plan: Plan<'a>,
     pub turns: u32,
     pub count: u32,
@@ -200,17 +185,19 @@ fn course_of<'a, 'b>(
     dimension: usize,
     inner: &Inner<'b>,
     first: u32,
-    settled: &Settled<'b>,
+    guard: Guard<'b>,
+    until: u32,
 ) -> Option<Course<'a, 'b>>
+    requires named { dimension < 8 }
     requires free { IsCodeFree (roles_of sources.now) (code_of inner.now.body.now) }
     requires settled { IsSettled resolved.now.sizes at.now sources.now frames.now dimension
-        inner.now.guard first settled.now }
+        inner.now.guard first (record { left = Some guard; until = until }) }
     ensures goes { IfSome result (IsCourse resolved.now at.now sources.now frames.now dimension
         inner.now first) }
     ensures room { IfSome result (λ course. first + course.turns < 4294967296) }
 {
     let count = size_in(resolved, inner.dimension);
-    if dimension >= MOST || inner.dimension >= MOST || count == 0 {
+    if inner.dimension >= MOST || count == 0 {
         return None;
     }
     let nest = Nest {
@@ -220,37 +207,43 @@ fn course_of<'a, 'b>(
         at,
         outer: dimension,
         first,
-        turns: settled.until - first,
+        turns: until - first,
         inner: inner.dimension,
         count,
     };
     let plan = code_plan(&nest, inner.body)?;
     Some(Course {
-        wants: settled.wants,
+        guard,
         plan,
-        turns: turns_served(&plan, settled.until - first),
+        turns: turns_served(&plan, until - first),
         count,
     })
 }
 
-/// One turn of the outer loop.
+/// One turn of the outer loop, where a number isn't 0.
 #[inline(always)]
-fn turn_by(
+fn turn_where(
     resolved: &Resolved,
     sources: &[Source],
     frames: &mut Frames,
     at: &[u32; MOST],
+    expr: &Expr,
     course: &Course,
     outer: u32,
 ) -> Result<(), Fault>
     requires { course.now.plan.number < length frames.old.arrays }
-    ensures { let wants = wanted resolved.now.sizes at.now (store_of sources.now frames.old)
-        course.now.wants in
-        Becomes result frames.new (guarded_turn wants course.now outer frames.old) }
+    ensures { let holds = is_met resolved.now.sizes at.now (store_of sources.now frames.old)
+        (tree_of expr.now) in
+        Becomes result frames.new (guarded_turn holds course.now outer frames.old) }
 {
-    match wanted(resolved, sources, frames, at, &course.wants) {
-        Ok(true) => turns_by(frames, &course.plan, outer, course.count),
-        Ok(false) => Ok(()),
+    match value(resolved, sources, frames, at, expr) {
+        Ok(x) => {
+            if x == 0 {
+                Ok(())
+            } else {
+                turns_by(frames, &course.plan, outer, course.count)
+            }
+        }
         Err(fault) => Err(fault),
     }
 }
@@ -271,14 +264,13 @@ fn guarded_turns(
     ensures { let turn = outer_turn resolved.now.sizes at.now sources.now dimension first course.now
         in Becomes result frames.new (turns turn 0 course.now.turns frames.old) }
 {
-    match course.wants {
-        Wants::Known(true) => all_turns(frames, &course.plan, course.turns, course.count),
-        Wants::Known(false) => Ok(()),
-        Wants::Each(_) => {
+    match course.guard {
+        Guard::Always => all_turns(frames, &course.plan, course.turns, course.count),
+        Guard::Where(expr) => {
             let mut here = *at;
             for outer in 0..course.turns {
                 set_index(&mut here, dimension, first + outer);
-                match turn_by(resolved, sources, frames, &here, course, outer) {
+                match turn_where(resolved, sources, frames, &here, expr, course, outer) {
                     Ok(()) => {}
                     Err(fault) => return Err(fault),
                 }
@@ -299,11 +291,13 @@ fn planned_turns(
     dimension: usize,
     inner: &Inner,
     first: u32,
-    settled: &Settled,
+    guard: Guard,
+    until: u32,
 ) -> Option<Result<u32, Fault>>
+    requires named { dimension < 8 }
     requires free { IsCodeFree (roles_of sources.now) (code_of inner.now.body.now) }
     requires settled { IsSettled resolved.now.sizes at.now sources.now frames.old dimension
-        inner.now.guard first settled.now }
+        inner.now.guard first (record { left = Some guard; until = until }) }
     ensures resumes { IfSome result (Resumes
         (λ i now. run resolved.now (slice_set at.now dimension i) (code_of_inner inner.now) now)
         first (size_in resolved.now.sizes dimension)
@@ -311,7 +305,7 @@ fn planned_turns(
     ensures left { IfNone result (frames.new ≡ frames.old) }
 {
     match course_of(
-        resolved, sources, frames, at, dimension, inner, first, settled,
+        resolved, sources, frames, at, dimension, inner, first, guard, until,
     ) {
         Some(course) => {
             match guarded_turns(resolved, sources, frames, at, dimension, first, &course) {
@@ -348,10 +342,18 @@ fn inner_turns(
     }
     let guard = &inner.guard;
     let settled = settle_guard(resolved, sources, frames, at, dimension, guard, first);
-    match settled.wants {
-        Wants::Known(false) => Some(Ok(settled.until)),
-        _ => planned_turns(
-            resolved, sources, frames, at, dimension, inner, first, &settled,
+    match settled.left {
+        None => Some(Ok(settled.until)),
+        Some(left) => planned_turns(
+            resolved,
+            sources,
+            frames,
+            at,
+            dimension,
+            inner,
+            first,
+            left,
+            settled.until,
         ),
     }
 }

@@ -1,12 +1,11 @@
 //! Conditions that stay as they are for many turns of a loop.
 ghost use Rattle.std.specs.Prelude.{◌≡◌, ◌<◌, ◌≤◌, ◌*◌, ◌+ℤ◌, ◌≤ℤ◌, ℕ, pos, int_lt, IfSome, Ok};
-ghost use Rattle.std.specs.Ordering.{int_eq};
 ghost use Rattle.pdl_elem.specs.Operators.{truth};
 ghost use Rattle.pdl_code.specs.Tree.{binary};
 ghost use Rattle.pdl_code.specs.TreeOf.{tree_of};
 ghost use Rattle.pdl_kernel.specs.Lines.{number_at};
 ghost use Rattle.pdl_kernel.specs.Meaning.{operate};
-ghost use Rattle.pdl_kernel.specs.Steady.{IsSteady, IsWithin, Lasts};
+ghost use Rattle.pdl_kernel.specs.Steady.{IsSteady, IsWithin, Lasts, opposite};
 
 use crate::line::Slope;
 use crate::lines::{fewer, small_slope};
@@ -43,8 +42,8 @@ fn number_from(slope: &Slope, turn: u32) -> i128
 /// The turn that comes so many after one, or how many there are.
 #[inline(always)]
 fn turn_after(first: u32, wait: i128, count: u32) -> u32
-    requires within { first ≤ count }
-    requires later { pos 0 ≤ℤ wait }
+    requires within { first < count }
+    requires later { pos 1 ≤ℤ wait }
     ensures lasts { Lasts first count result }
     ensures after { pos result ≤ℤ (pos first +ℤ wait) }
     ensures most { result < count → pos result ≡ pos first +ℤ wait }
@@ -56,13 +55,16 @@ fn turn_after(first: u32, wait: i128, count: u32) -> u32
     }
 }
 
-/// Whether a number is below another (1, else 0), from a turn on.
+/// Whether a number is below another (1, else 0), from a turn on up to the one at which that changes.
 #[inline(always)]
 fn below(a: &Slope, b: &Slope, first: u32, count: u32) -> Steady
-    requires { first ≤ count }
+    requires { first < count }
     ensures lasts { Lasts first count result.until }
     ensures below { (i : ℕ) → first ≤ i → i < result.until →
         truth (int_lt (number_at a.now 0 i) (number_at b.now 0 i)) ≡ result.number }
+    ensures changes { result.until < count →
+        truth (int_lt (number_at a.now 0 result.until) (number_at b.now 0 result.until))
+        ≡ opposite result.number }
 {
     let x = number_from(a, first);
     let y = number_from(b, first);
@@ -86,7 +88,7 @@ fn below(a: &Slope, b: &Slope, first: u32, count: u32) -> Steady
 /// The opposite of a comparison.
 #[inline(always)]
 fn opposite(steady: &Steady) -> Steady
-    ensures { result ≡ record steady.now { number = truth (int_eq steady.now.number (pos 0)) } }
+    ensures { result ≡ record steady.now { number = opposite steady.now.number } }
 {
     Steady {
         number: i64::from(steady.number == 0),
@@ -94,13 +96,16 @@ fn opposite(steady: &Steady) -> Steady
     }
 }
 
-/// A comparison of two numbers, from a turn on.
+/// A comparison of two numbers, from a turn on up to the one at which it changes.
 #[inline(always)]
 fn compared(op: BinaryOp, a: &Slope, b: &Slope, first: u32, count: u32) -> Option<Steady>
-    requires { first ≤ count }
+    requires { first < count }
     ensures lasts { IfSome result (λ s. Lasts first count s.until) }
     ensures compared { IfSome result (λ s. (i : ℕ) → first ≤ i → i < s.until →
         operate op (number_at a.now 0 i) (number_at b.now 0 i) ≡ Ok s.number) }
+    ensures changes { IfSome result (λ s. s.until < count →
+        operate op (number_at a.now 0 s.until) (number_at b.now 0 s.until)
+        ≡ Ok (opposite s.number)) }
 {
     wrapping_laws();
     match op {

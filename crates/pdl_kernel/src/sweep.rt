@@ -157,6 +157,7 @@ pub fn code_plan<'a>(nest: &Nest<'a, '_>, code: &[Stmt]) -> Option<Plan<'a>>
 fn served(operand: &Operand, most: u32) -> u32
     ensures few { result ≤ most }
     ensures served { (j : ℕ) → j < result → Serves operand.now j }
+    ensures most { (j : ℕ) → j < most → Serves operand.now j → j < result }
 {
     match operand {
         Operand::Fixed(_) => most,
@@ -170,6 +171,7 @@ fn served(operand: &Operand, most: u32) -> u32
 pub fn turns_served(plan: &Plan, most: u32) -> u32
     ensures few { result ≤ most }
     ensures served { (j : ℕ) → j < result → IsServed plan.now j }
+    ensures most { (j : ℕ) → j < most → IsServed plan.now j → j < result }
 {
     let first = fewer(most, plan.line.turns);
     let second = served(&plan.value.left, first);
