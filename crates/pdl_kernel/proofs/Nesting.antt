@@ -19,7 +19,7 @@ use Rattle.pdl_kernel.specs.declared.nested.Settled.{Settled}
 use Rattle.pdl_kernel.specs.declared.steady.Steady.{Steady}
 use Rattle.pdl_kernel.specs.Lines.{HasSameForm, IsCodePlan, IsServed, loops_at, turned}
 use Rattle.pdl_kernel.specs.Meaning.{Store, and_then, branch, run, turns, value}
-use Rattle.pdl_kernel.specs.Nested.{IsCourse, IsSettled, code_of_inner, guarded, guarded_turn, holds, left_holds, outer_turn}
+use Rattle.pdl_kernel.specs.Nested.{IsCourse, IsSettled, code_of_inner, code_of_loop, guarded, guarded_turn, holds, left_holds, outer_turn}
 use Rattle.pdl_kernel.specs.Sources.{IsCodeFree, Source, Work, store_of}
 use Rattle.pdl_kernel.specs.Steady.{IsSteady}
 use Rattle.pdl_kernel.proofs.Sweeping.{form_more, form_same, swept, then_done, turns_form, turns_more}
@@ -28,45 +28,28 @@ use Rattle.pdl_kernel.proofs.Sweeping.{form_more, form_same, swept, then_done, t
 pub inner_free : (roles : List Role) (inner : Inner) → IsCodeFree roles (code_of_inner inner) → IsCodeFree roles (code_of inner.body.now)
 inner_free roles inner = by inner.guard
   where
-    by : (g : Guard) → IsCodeFree roles (guarded g (next (repeat inner.dimension (code_of inner.body.now)) done)) → IsCodeFree roles (code_of inner.body.now)
+    by : (g : Guard) → IsCodeFree roles (guarded g (code_of_loop inner)) → IsCodeFree roles (code_of inner.body.now)
     by Always h = h.0
     by (Where e) h = h.0.0.0
 
--- a turn of the outer loop goes by the plan
-pub turn_is : (l : Nest) (g : Guard) (code : Code) (c : Course) → IsCodePlan l code c.plan → size_in l.resolved.now.sizes l.inner ≡ c.count → c.count ≤ l.count → (j : ℕ) → j < l.turns → IsServed c.plan j → (w : Work) → HasSameForm l.frames.now w → (here : List ℕ)
-    → here ≡ slice_set l.at.now l.outer (l.first + j)
-    → run l.resolved.now here (guarded g (next (repeat l.inner code) done)) (store_of l.sources.now w)
-    ≡ and_then (guarded_turn (holds l.resolved.now.sizes here (store_of l.sources.now w) g) c j w) (λ v. Ok (store_of l.sources.now v))
-turn_is l g code c h size few j jt served w form here is =
-    subst (λ at. run l.resolved.now at (guarded g loop) m ≡ and_then (guarded_turn (holds l.resolved.now.sizes at m g) c j w) (λ v. Ok (store_of l.sources.now v))) (sym is) (by_guard g)
+-- a turn of the outer loop, whose guard stands before the inner one
+turn_is : (r : Resolved) (at : List ℕ) (ss : List Source) (code : Code) (c : Course) (j : ℕ) (w : Work) → run r at code (store_of ss w) ≡ and_then (turns (turned c.plan j) 0 c.count w) (λ v. Ok (store_of ss v))
+    → (g : Guard) → run r at (guarded g code) (store_of ss w) ≡ and_then (guarded_turn (holds r.sizes at (store_of ss w) g) c j w) (λ v. Ok (store_of ss v))
+turn_is r at ss code c j w whole = by
   where
-    at : List ℕ
-    at = slice_set l.at.now l.outer (l.first + j)
-
     m : Store
-    m = store_of l.sources.now w
+    m = store_of ss w
 
-    loop : Code
-    loop = next (repeat l.inner code) done
-
-    all : Result Store Fault
-    all = and_then (turns (turned c.plan j) 0 c.count w) (λ v. Ok (store_of l.sources.now v))
-
-    by_loop : run l.resolved.now at loop m ≡ all
-    by_loop = then_done (turns (λ i now. run l.resolved.now (loops_at l j i) code now) 0 (size_in l.resolved.now.sizes l.inner) m)
-        ∙ ap (λ n. turns (λ i now. run l.resolved.now (loops_at l j i) code now) 0 n m) size
-        ∙ swept l code c.plan h j jt served c.count 0 (omega (arith, few)) w form
-
-    by_value : (v : Result ℤ Fault) → and_then v (λ x. branch x (run l.resolved.now at loop m) (Ok m))
-        ≡ and_then (and_then (and_then v (λ x. Ok (branch x true false))) (λ b. if b then turns (turned c.plan j) 0 c.count w else Ok w)) (λ v. Ok (store_of l.sources.now v))
+    by_value : (v : Result ℤ Fault) → and_then v (λ x. branch x (run r at code m) (Ok m))
+        ≡ and_then (and_then (and_then v (λ x. Ok (branch x true false))) (λ b. if b then turns (turned c.plan j) 0 c.count w else Ok w)) (λ v. Ok (store_of ss v))
     by_value (Ok (pos zero)) = refl
-    by_value (Ok (pos (suc n))) = by_loop
-    by_value (Ok (negsuc n)) = by_loop
+    by_value (Ok (pos (suc n))) = whole
+    by_value (Ok (negsuc n)) = whole
     by_value (Err d) = refl
 
-    by_guard : (g : Guard) → run l.resolved.now at (guarded g loop) m ≡ and_then (guarded_turn (holds l.resolved.now.sizes at m g) c j w) (λ v. Ok (store_of l.sources.now v))
-    by_guard Always = by_loop
-    by_guard (Where e) = then_done (and_then (value l.resolved.now.sizes at m (tree_of e.now)) (λ x. branch x (run l.resolved.now at loop m) (Ok m))) ∙ by_value (value l.resolved.now.sizes at m (tree_of e.now))
+    by : (g : Guard) → run r at (guarded g code) m ≡ and_then (guarded_turn (holds r.sizes at m g) c j w) (λ v. Ok (store_of ss v))
+    by Always = whole
+    by (Where e) = then_done (and_then (value r.sizes at m (tree_of e.now)) (λ x. branch x (run r at code m) (Ok m))) ∙ by_value (value r.sizes at m (tree_of e.now))
 
 -- it keeps the form
 pub guarded_form : (held : Result Bool Fault) (c : Course) (j : ℕ) (w now : Work) → guarded_turn held c j w ≡ Ok now → HasSameForm w now
@@ -132,34 +115,39 @@ passed_over r at ss start d inner first s h never =
     (λ j jt w form.
     let at = slice_set at d (first + j) in
     let m = store_of ss w in
-    unwanted r at m inner.guard (next (repeat inner.dimension (code_of inner.body.now)) done) (h.same w form (first + j) (omega arith) (omega (arith, jt)) ∙ ap (left_holds r.sizes at m) never))
+    unwanted r at m inner.guard (code_of_loop inner) (h.same w form (first + j) (omega arith) (omega (arith, jt)) ∙ ap (left_holds r.sizes at m) never))
     (Ok start) (turns_idle idle start (λ j. refl) 0 (s.until - first))
     ∙ ap (λ k. turns f k (size_in r.sizes d - k) (store_of ss start)) e
 
--- a nest that goes by a plan, as far as its lines serve and its guard is known
-pub course_is : (l : Nest) (inner : Inner) (s : Settled) (c : Course) → IsCodePlan l (code_of inner.body.now) c.plan → l.inner ≡ inner.dimension → size_in l.resolved.now.sizes l.inner ≡ c.count → c.count ≤ l.count
-    → IsSettled l.resolved.now.sizes l.at.now l.sources.now l.frames.now l.outer inner.guard l.first s → s.left ≡ Some c.guard → l.turns ≡ s.until - l.first → c.turns ≤ l.turns → ((j : ℕ) → j < c.turns → IsServed c.plan j)
-    → IsCourse l.resolved.now l.at.now l.sources.now l.frames.now l.outer inner l.first c
-course_is l inner s c h same size few settled left some less served = record {
+-- an inner loop that goes by a plan, as far as its lines serve
+pub course_is : (l : Nest) (inner : Inner) (c : Course) → IsCodePlan l (code_of inner.body.now) c.plan → l.inner ≡ inner.dimension → size_in l.resolved.now.sizes l.inner ≡ c.count → c.count ≤ l.count
+    → c.turns ≤ l.turns → ((j : ℕ) → j < c.turns → IsServed c.plan j) → IsCourse l.resolved.now l.at.now l.sources.now l.frames.now l.outer inner l.first c
+course_is l inner c h same size few less served = record {
   known = h.known;
-  within = omega (arith, some, less, settled.lasts.0, settled.lasts.1);
   turn = λ w form j jt.
       let at = slice_set l.at.now l.outer (l.first + j) in
       let m = store_of l.sources.now w in
       let code = code_of inner.body.now in
-      let is = settled.same w form (l.first + j) (omega arith) (omega (arith, jt, some, less, settled.lasts.0)) in
-      ap (λ d. run l.resolved.now at (guarded inner.guard (next (repeat d code) done)) m) (sym same)
-      ∙ turn_is l inner.guard code c h size few j (omega (arith, jt, less)) (served j jt) w form at refl
-      ∙ ap (λ b. and_then (guarded_turn b c j w) (λ v. Ok (store_of l.sources.now v))) (is ∙ ap (left_holds l.resolved.now.sizes at m) left);
+      let f : ℕ → Store → Result Store Fault = λ i now. run l.resolved.now (loops_at l j i) code now in
+      ap (λ d. run l.resolved.now at (next (repeat d code) done) m) (sym same)
+      ∙ then_done (turns f 0 (size_in l.resolved.now.sizes l.inner) m)
+      ∙ ap (λ n. turns f 0 n m) size
+      ∙ swept l code c.plan h j (omega (arith, jt, less)) (served j jt) c.count 0 (omega (arith, few)) w form;
 }
 
--- the loop resumes behind the turns of a course, or has their fault
-pub course_resumes : (r : Resolved) (at : List ℕ) (ss : List Source) (start : Work) (d : ℕ) (inner : Inner) (first : ℕ) (c : Course) → IsCourse r at ss start d inner first c
-    → (done_by : Result Work Fault) → turns (outer_turn r.sizes at ss d first c) 0 c.turns start ≡ done_by
+-- the outer loop resumes behind the turns of a course, or has their fault
+pub course_resumes : (r : Resolved) (at : List ℕ) (ss : List Source) (start : Work) (d : ℕ) (inner : Inner) (first until : ℕ) (g : Guard) (c : Course)
+    → IsSettled r.sizes at ss start d inner.guard first (record { left = Some g; until = until }) → IsCourse r at ss start d inner first c → c.turns ≤ until - first
+    → (done_by : Result Work Fault) → turns (outer_turn r.sizes at ss d first g c) 0 c.turns start ≡ done_by
     → let f : ℕ → Store → Result Store Fault = λ i now. run r (slice_set at d i) (code_of_inner inner) now in
     turns f first (size_in r.sizes d - first) (store_of ss start) ≡ and_then done_by (λ v. turns f (first + c.turns) (size_in r.sizes d - (first + c.turns)) (store_of ss v))
-course_resumes r at ss start d inner first c h done_by is =
-    resumes _ (outer_turn r.sizes at ss d first c) ss start first (size_in r.sizes d) c.turns h.within (λ j w now e. guarded_form _ c j w now e) (λ j jt w form. h.turn w form j jt) done_by is
+course_resumes r at ss start d inner first until g c settled h few done_by is =
+    resumes _ (outer_turn r.sizes at ss d first g c) ss start first (size_in r.sizes d) c.turns (omega (arith, few, settled.lasts.0, settled.lasts.1)) (λ j w now e. guarded_form _ c j w now e)
+    (λ j jt w form.
+    let here = slice_set at d (first + j) in
+    turn_is r here ss (code_of_loop inner) c j w (h.turn w form j jt) inner.guard
+    ∙ ap (λ b. and_then (guarded_turn b c j w) (λ v. Ok (store_of ss v))) (settled.same w form (first + j) (omega arith) (omega (arith, jt, few, settled.lasts.0))))
+    done_by is
 
 -- a condition whose number stays
 pub condition_settled : (l : Nest) (e : Bor Expr) (first : ℕ) (s : Steady) (left : Option Guard) → l.outer ≡ l.inner → 1 ≤ l.turns → l.count ≡ size_in l.resolved.now.sizes l.inner → IsSteady l (tree_of e.now) first s → left ≡ branch s.number (Some Always) None
@@ -179,16 +167,16 @@ condition_settled l e first s left alone some size steady is = record {
     known sizes at m (negsuc n) = refl
 
 -- code that is a loop, and one under a condition
-pub inner_always : (code : List Stmt) (r : Option Inner) → IfSome r (λ inner. inner.guard ≡ Always) → IfSome r (λ inner. code_of code ≡ next (repeat inner.dimension (code_of inner.body.now)) done) → IfSome r (λ inner. code_of code ≡ code_of_inner inner)
+pub inner_always : (code : List Stmt) (r : Option Inner) → IfSome r (λ inner. inner.guard ≡ Always) → IfSome r (λ inner. code_of code ≡ code_of_loop inner) → IfSome r (λ inner. code_of code ≡ code_of_inner inner)
 inner_always code None g e = tt
-inner_always code (Some inner) g e = e ∙ ap (λ g. guarded g (next (repeat inner.dimension (code_of inner.body.now)) done)) (sym g)
+inner_always code (Some inner) g e = e ∙ ap (λ g. guarded g (code_of_loop inner)) (sym g)
 
 pub inner_where : (code whole other : List Stmt) (s : Stmt) (e : Guard) (t : Tree) (r : Option Inner) → code_of code ≡ next (step_of s) done → step_of s ≡ choose t (code_of whole) (code_of other) → length other ≡ 0 → ((c : Code) → guarded e c ≡ next (choose t c done) done)
-    → IfSome r (λ inner. inner.guard ≡ e) → IfSome r (λ inner. code_of whole ≡ next (repeat inner.dimension (code_of inner.body.now)) done) → IfSome r (λ inner. code_of code ≡ code_of_inner inner)
+    → IfSome r (λ inner. inner.guard ≡ e) → IfSome r (λ inner. code_of whole ≡ code_of_loop inner) → IfSome r (λ inner. code_of code ≡ code_of_inner inner)
 inner_where code whole other s e t None one is bare same g h = tt
 inner_where code whole other s e t (Some inner) one is bare same g h =
-    one ∙ ap (λ x. next x done) (is ∙ ap (choose t (code_of whole)) (none other bare) ∙ ap (λ c. choose t c done) h) ∙ sym (same (next (repeat inner.dimension (code_of inner.body.now)) done))
-    ∙ ap (λ g. guarded g (next (repeat inner.dimension (code_of inner.body.now)) done)) (sym g)
+    one ∙ ap (λ x. next x done) (is ∙ ap (choose t (code_of whole)) (none other bare) ∙ ap (λ c. choose t c done) h) ∙ sym (same (code_of_loop inner))
+    ∙ ap (λ g. guarded g (code_of_loop inner)) (sym g)
   where
     none : (xs : List Stmt) → length xs ≡ 0 → code_of xs ≡ done
     none [] b = refl

@@ -20,10 +20,13 @@ abbrev pub guarded : Guard → Code → Code
 guarded Always code = code
 guarded (Where e) code = next (choose (tree_of e.now) code done) done
 
--- the code that a loop stands in
+-- the code of a loop
+abbrev pub code_of_loop : Inner → Code
+code_of_loop inner = next (repeat inner.dimension (code_of inner.body.now)) done
+
+-- the same with its guard
 abbrev pub code_of_inner : Inner → Code
-code_of_inner inner =
-    guarded inner.guard (next (repeat inner.dimension (code_of inner.body.now)) done)
+code_of_inner inner = guarded inner.guard (code_of_loop inner)
 
 -- whether an expression's number isn't 0
 abbrev pub is_met : (sizes at : List ℕ) → Store → Tree → Result Bool Fault
@@ -53,19 +56,18 @@ guarded_turn held c j w =
     and_then held (λ b. if b then turns (turned c.plan j) 0 c.count w else Ok w)
 
 -- the same by its number from the first one on
-abbrev pub outer_turn : (sizes at : List ℕ) → List Source → (d first : ℕ) → Course →
+abbrev pub outer_turn : (sizes at : List ℕ) → List Source → (d first : ℕ) → Guard → Course →
     (outer : ℕ) → Work → Result Work Fault
-outer_turn sizes at ss d first c j w =
-    guarded_turn (holds sizes (slice_set at d (first + j)) (store_of ss w) c.guard) c j w
+outer_turn sizes at ss d first g c j w =
+    guarded_turn (holds sizes (slice_set at d (first + j)) (store_of ss w) g) c j w
 
--- the turns of the outer loop from the first on go so, whatever is assigned
+-- the inner loop goes so at the turns of the outer one from the first on, whatever is assigned
 pub record IsCourse (r : Resolved) (at : List ℕ) (ss : List Source) (before : Work) (d : ℕ)
     (inner : Inner) (first : ℕ) (c : Course) : Type 0 where
   pub known : c.plan.number < length before.arrays
-  pub within : first + c.turns ≤ size_in r.sizes d
   pub turn : (w : Work) → HasSameForm before w → (j : ℕ) → j < c.turns →
-      run r (slice_set at d (first + j)) (code_of_inner inner) (store_of ss w)
-      ≡ and_then (outer_turn r.sizes at ss d first c j w) (λ now. Ok (store_of ss now))
+      run r (slice_set at d (first + j)) (code_of_loop inner) (store_of ss w)
+      ≡ and_then (turns (turned c.plan j) 0 c.count w) (λ now. Ok (store_of ss now))
 
 -- f was done at the numbers from `first` on, up to the one that comes next or the first fault:
 -- what is left to do up to a size gives what all gives

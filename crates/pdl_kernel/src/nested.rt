@@ -1,13 +1,13 @@
 //! Loops whose body is a loop along lines, perhaps under a condition: the lines are found once for
 //! as many turns as they serve.
-ghost use Rattle.std.specs.Prelude.{◌≡◌, ◌<◌, ◌+◌, length, slice_set, IfNone, IfSome, None, Some};
+ghost use Rattle.std.specs.Prelude.{◌≡◌, ◌<◌, ◌≤◌, ◌+◌, ℕ, length, slice_set, IfNone, IfSome, None, Some};
 ghost use Rattle.pdl_sig.specs.Resolution.{size_in};
 ghost use Rattle.pdl_code.specs.TreeOf.{code_of, tree_of};
-ghost use Rattle.pdl_code.specs.Tree.{done, next, repeat};
 ghost use Rattle.pdl_kernel.specs.Answers.{Becomes};
+ghost use Rattle.pdl_kernel.specs.Lines.{IsServed};
 ghost use Rattle.pdl_kernel.specs.Meaning.{branch, run, turns};
 ghost use Rattle.pdl_kernel.specs.declared.nested.Guard.TheVariants.{Always, Where};
-ghost use Rattle.pdl_kernel.specs.Nested.{IsCourse, IsSettled, Resumes, code_of_inner, guarded_turn, is_met, outer_turn};
+ghost use Rattle.pdl_kernel.specs.Nested.{IsCourse, IsSettled, Resumes, code_of_inner, code_of_loop, guarded_turn, is_met, outer_turn};
 ghost use Rattle.pdl_kernel.specs.Sources.{IsCodeFree, roles_of, store_of};
 
 use crate::axes::{MOST, set_index};
@@ -41,8 +41,7 @@ pub struct Inner<'a> {
 #[inline(always)]
 fn loop_of<'a>(guard: Guard<'a>, code: &'a [Stmt]) -> Option<Inner<'a>>
     ensures guard { IfSome result (λ inner. inner.guard ≡ guard.entry) }
-    ensures code { IfSome result (λ inner.
-        code_of code.now ≡ next (repeat inner.dimension (code_of inner.body.now)) done) }
+    ensures code { IfSome result (λ inner. code_of code.now ≡ code_of_loop inner) }
 {
     if code.len() != 1 {
         return None;
@@ -164,37 +163,34 @@ fn settle_guard<'a>(
     }
 }
 
-/// How so many turns of the outer loop go: what each asks before it runs the inner one, the plan of
-/// that one, and how many turns it has.
+/// How the inner loop goes at so many turns of the outer one: its plan, and how many turns it has.
 #[derive(Clone, Copy)]
-pub struct Course<'a, 'b> {
-    pub guard: Guard<'b>,
+pub struct Course<'a> {
     pub plan: Plan<'a>,
     pub turns: u32,
     pub count: u32,
 }
 
-/// How the turns of the outer loop go from the first on, for as many as the lines serve and the
-/// guard is settled. None where there is no plan.
+/// How the inner loop goes at so many turns of the outer one from the first on, or at as many of them
+/// as the lines serve. None where there is no plan.
 #[inline(always)]
-fn course_of<'a, 'b>(
+fn course_of<'a>(
     resolved: &Resolved,
     sources: &'a [Source],
     frames: &Frames,
     at: &[u32; MOST],
     dimension: usize,
-    inner: &Inner<'b>,
+    inner: &Inner,
     first: u32,
-    guard: Guard<'b>,
-    until: u32,
-) -> Option<Course<'a, 'b>>
+    most: u32,
+) -> Option<Course<'a>>
     requires named { dimension < 8 }
     requires free { IsCodeFree (roles_of sources.now) (code_of inner.now.body.now) }
-    requires settled { IsSettled resolved.now.sizes at.now sources.now frames.now dimension
-        inner.now.guard first (record { left = Some guard; until = until }) }
     ensures goes { IfSome result (IsCourse resolved.now at.now sources.now frames.now dimension
         inner.now first) }
-    ensures room { IfSome result (λ course. first + course.turns < 4294967296) }
+    ensures few { IfSome result (λ course. course.turns ≤ most) }
+    ensures most { IfSome result (λ course. (j : ℕ) → j < most → IsServed course.plan j →
+        j < course.turns) }
 {
     let count = size_in(resolved, inner.dimension);
     if inner.dimension >= MOST || count == 0 {
@@ -207,17 +203,13 @@ fn course_of<'a, 'b>(
         at,
         outer: dimension,
         first,
-        turns: until - first,
+        turns: most,
         inner: inner.dimension,
         count,
     };
     let plan = code_plan(&nest, inner.body)?;
-    Some(Course {
-        guard,
-        plan,
-        turns: turns_served(&plan, until - first),
-        count,
-    })
+    let turns = turns_served(&plan, most);
+    Some(Course { plan, turns, count })
 }
 
 /// One turn of the outer loop, where a number isn't 0.
@@ -248,7 +240,7 @@ fn turn_where(
     }
 }
 
-/// The turns of the outer loop that go so.
+/// The turns of the outer loop at which the inner one goes so.
 #[inline(always)]
 fn guarded_turns(
     resolved: &Resolved,
@@ -257,14 +249,16 @@ fn guarded_turns(
     at: &[u32; MOST],
     dimension: usize,
     first: u32,
+    guard: Guard,
     course: &Course,
 ) -> Result<(), Fault>
     requires known { course.now.plan.number < length frames.old.arrays }
     requires room { first + course.now.turns < 4294967296 }
-    ensures { let turn = outer_turn resolved.now.sizes at.now sources.now dimension first course.now
-        in Becomes result frames.new (turns turn 0 course.now.turns frames.old) }
+    ensures { let turn = outer_turn resolved.now.sizes at.now sources.now dimension first
+        guard.entry course.now in
+        Becomes result frames.new (turns turn 0 course.now.turns frames.old) }
 {
-    match course.guard {
+    match guard {
         Guard::Always => all_turns(frames, &course.plan, course.turns, course.count),
         Guard::Where(expr) => {
             let mut here = *at;
@@ -304,11 +298,12 @@ fn planned_turns(
         (store_of sources.now frames.old) (store_of sources.now frames.new)) }
     ensures left { IfNone result (frames.new ≡ frames.old) }
 {
-    match course_of(
-        resolved, sources, frames, at, dimension, inner, first, guard, until,
-    ) {
+    let most = until - first;
+    match course_of(resolved, sources, frames, at, dimension, inner, first, most) {
         Some(course) => {
-            match guarded_turns(resolved, sources, frames, at, dimension, first, &course) {
+            match guarded_turns(
+                resolved, sources, frames, at, dimension, first, guard, &course,
+            ) {
                 Ok(()) => Some(Ok(first + course.turns)),
                 Err(fault) => Some(Err(fault)),
             }

@@ -4,4 +4,4 @@ use Rattle.pdl_kernel.proofs.nested.course_of.Goals as goal
 
 pub returns-clause-goes : goal.returns-clause-goes
 returns-clause-goes c =
-    course_is _ c.args.inner.now _ _ c.in_ok-plan.ensures refl (sym c.size_in-count.ensures) (omega arith) c.requires.settled refl refl c.turns_served.ensures.few c.turns_served.ensures.served
+    course_is _ c.args.inner.now _ c.in_ok-plan.ensures refl (sym c.size_in-count.ensures) (omega arith) c.turns_served-turns.ensures.few c.turns_served-turns.ensures.served

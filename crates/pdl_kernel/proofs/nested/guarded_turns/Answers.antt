@@ -17,10 +17,9 @@ loop-outer-preserved c =
     let w = c.loop-outer.frames in
     let now = c.turn_where.new.frames in
     let sizes = c.args.resolved.now.sizes in
-    let f = outer_turn sizes c.args.at.now ss d c.args.first k in
-    let is : k.guard ≡ Where c.in-Where.expr = c.in-Where.is in
+    let f = outer_turn sizes c.args.at.now ss d c.args.first c.args.guard k in
     let at : c.set_index.new.at ≡ slice_set c.args.at.now d (c.args.first + j) = c.set_index.ensures ∙ c.loop-outer.invariant.here (c.args.first + j) in
-    let one : f j w ≡ Ok now = ap (λ g. guarded_turn (holds sizes (slice_set c.args.at.now d (c.args.first + j)) (store_of ss w) g) k j w) is ∙ ap (λ at. guarded_turn (holds sizes at (store_of ss w) (Where c.in-Where.expr)) k j w) (sym at) ∙ c.in-Ok.ensures in
+    let one : f j w ≡ Ok now = ap (λ g. guarded_turn (holds sizes (slice_set c.args.at.now d (c.args.first + j)) (store_of ss w) g) k j w) c.in-Where.is ∙ ap (λ at. guarded_turn (holds sizes at (store_of ss w) (Where c.in-Where.expr)) k j w) (sym at) ∙ c.in-Ok.ensures in
     record {
       turns = sym (turns_more f j c.args.course.now.turns w (Ok now) (omega arith) one) ∙ c.loop-outer.invariant.turns;
       known = form_long w now (guarded_form _ k j w now one) ∙ c.loop-outer.invariant.known;
@@ -35,8 +34,7 @@ returns-in-Err c =
     let j = c.loop-outer.outer in
     let w = c.loop-outer.frames in
     let sizes = c.args.resolved.now.sizes in
-    let f = outer_turn sizes c.args.at.now ss d c.args.first k in
-    let is : k.guard ≡ Where c.in-Where.expr = c.in-Where.is in
+    let f = outer_turn sizes c.args.at.now ss d c.args.first c.args.guard k in
     let at : c.set_index.new.at ≡ slice_set c.args.at.now d (c.args.first + j) = c.set_index.ensures ∙ c.loop-outer.invariant.here (c.args.first + j) in
-    let one : f j w ≡ Err c.in-Err.fault = ap (λ g. guarded_turn (holds sizes (slice_set c.args.at.now d (c.args.first + j)) (store_of ss w) g) k j w) is ∙ ap (λ at. guarded_turn (holds sizes at (store_of ss w) (Where c.in-Where.expr)) k j w) (sym at) ∙ c.in-Err.ensures in
+    let one : f j w ≡ Err c.in-Err.fault = ap (λ g. guarded_turn (holds sizes (slice_set c.args.at.now d (c.args.first + j)) (store_of ss w) g) k j w) c.in-Where.is ∙ ap (λ at. guarded_turn (holds sizes at (store_of ss w) (Where c.in-Where.expr)) k j w) (sym at) ∙ c.in-Err.ensures in
     sym c.loop-outer.invariant.turns ∙ turns_more f j c.args.course.now.turns w (Err c.in-Err.fault) (omega arith) one
