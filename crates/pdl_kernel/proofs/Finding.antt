@@ -1,5 +1,5 @@
 -- The place of indices in a buffer.
-use Rattle.std.proofs.Common.{◌≡◌, ℕ, zero, suc, ◌+◌, ◌*◌, ◌/◌, ◌%◌, ◌<◌, ◌≤◌, ℤ, pos, negsuc, ◌<ℤ◌, ◌≤ℤ◌, List, [], ◌∷◌, length, drop, get_or, Some, None, Ok, refl, sym, ap, subst, ◌∙◌, arith, add-one}
+use Rattle.std.proofs.Common.{◌≡◌, ℕ, zero, suc, ◌+◌, ◌*◌, ◌<◌, ◌≤◌, ℤ, pos, negsuc, ◌<ℤ◌, ◌≤ℤ◌, List, [], ◌∷◌, length, drop, get_or, Some, None, Ok, refl, sym, ap, subst, ◌∙◌, arith, add-one}
 use Rattle.std.proofs.lemmas.Bool.Decides.{nat_tests}
 use Rattle.std.proofs.lemmas.Int.{ints}
 use borrow.Author.Tests.{ltb-true}
@@ -113,15 +113,6 @@ found_past (a ∷ axes) [] (suc k) q ka le = past axes k q (omega arith)
     past (a ∷ axes) (suc k) q ka = past axes k q (omega arith)
 found_past (a ∷ axes) (i ∷ is) (suc k) q ka le = found_past axes is k q (omega arith) (omega arith)
 
-dot_suc : (ss cs : List ℕ) (k d : ℕ) → k < length ss → k < length cs → dot (drop k ss) (drop k cs) ≡ get_or ss k d * get_or cs k d + dot (drop (suc k) ss) (drop (suc k) cs)
-dot_suc [] cs k d ks kc = absurd (omega arith)
-dot_suc (s ∷ ss) [] k d ks kc = absurd (omega arith)
-dot_suc (s ∷ ss) (c ∷ cs) zero d ks kc = refl
-dot_suc (s ∷ ss) (c ∷ cs) (suc k) d ks kc = dot_suc ss cs k d (omega arith) (omega arith)
-
-pub dot_at : (ss cs : List ℕ) (k d : ℕ) → k < length ss → k < length cs → dot (drop k ss) (drop k cs) ≡ get_or ss k d * get_or cs k d + dot (drop (k + 1) ss) (drop (k + 1) cs)
-dot_at ss cs k d ks kc = rw add-one (dot_suc ss cs k d ks kc)
-
 pub dot_none : (ss : List ℕ) → dot ss [] ≡ 0
 dot_none [] = refl
 dot_none (s ∷ ss) = refl
@@ -133,24 +124,3 @@ dot_past (s ∷ ss) [] (suc k) le = dot_none (drop k ss)
 dot_past ss (c ∷ cs) zero le = absurd (omega arith)
 dot_past [] (c ∷ cs) (suc k) le = refl
 dot_past (s ∷ ss) (c ∷ cs) (suc k) le = dot_past ss cs k (omega arith)
-
-reach_suc : (axes : List Axis) (k p : ℕ) (d : Axis) → k < length axes
-    → reach (drop k axes) (coordinates_of (sizes_of (drop k axes)) p) ≡ (get_or axes k d).step * (p % (get_or axes k d).size) + reach (drop (suc k) axes) (coordinates_of (sizes_of (drop (suc k) axes)) (p / (get_or axes k d).size))
-reach_suc [] k p d ka = absurd (omega arith)
-reach_suc (a ∷ axes) zero p d ka = refl
-reach_suc (a ∷ axes) (suc k) p d ka = reach_suc axes k p d (omega arith)
-
--- one coordinate of a position, and the rest
-pub reach_at : (axes : List Axis) (k p : ℕ) (d : Axis) → k < length axes
-    → reach (drop k axes) (coordinates_of (sizes_of (drop k axes)) p) ≡ (get_or axes k d).step * (p % (get_or axes k d).size) + reach (drop (k + 1) axes) (coordinates_of (sizes_of (drop (k + 1) axes)) (p / (get_or axes k d).size))
-reach_at axes k p d ka = rw add-one (reach_suc axes k p d ka)
-
-below_suc : PositionLaws → (axes : List Axis) (k p : ℕ) (d : Axis) → k < length axes → p < size_of (sizes_of (drop k axes))
-    → (0 < (get_or axes k d).size) × (p / (get_or axes k d).size < size_of (sizes_of (drop (suc k) axes)))
-below_suc laws [] k p d ka lt = absurd (omega arith)
-below_suc laws (a ∷ axes) zero p d ka lt = laws.quotient_below a.size (sizes_of axes) p lt
-below_suc laws (a ∷ axes) (suc k) p d ka lt = below_suc laws axes k p d (omega arith) lt
-
-pub below_at : PositionLaws → (axes : List Axis) (k p : ℕ) (d : Axis) → k < length axes → p < size_of (sizes_of (drop k axes))
-    → (0 < (get_or axes k d).size) × (p / (get_or axes k d).size < size_of (sizes_of (drop (k + 1) axes)))
-below_at laws axes k p d ka lt = rw add-one (below_suc laws axes k p d ka lt)

@@ -9,9 +9,8 @@ use Rattle.pdl_shape.specs.Shape.{extent, extent_limit}
 use Rattle.pdl_buf.specs.declared.made.Made.{Made}
 use Rattle.pdl_sig.specs.declared.Resolved.{Resolved}
 use Rattle.pdl_sig.specs.declared.SigArg.{SigArg}
-use Rattle.pdl_sig.specs.Resolution.{core_sizes, is_given, is_output, made, type_in}
+use Rattle.pdl_sig.specs.Resolution.{core_sizes, is_output, made, type_in}
 use Rattle.pdl_kernel.specs.declared.axes.Axis.{Axis}
-use Rattle.pdl_kernel.specs.Call.{first_given, with_given}
 use Rattle.pdl_kernel.specs.Parts.{Part}
 use Rattle.pdl_kernel.specs.Setup.{heads}
 use Rattle.pdl_kernel.specs.Sources.{HasBlocks, InOrder, IsBlockOf, Source, axes_of, ordered_axes, sizes_of, steps_from}
@@ -84,22 +83,6 @@ axes_suc (d ∷ ds) (s ∷ ss) (suc k) e lt = axes_suc ds ss k e (omega arith)
 
 pub axes_at : (ds ss : List ℕ) (k e : ℕ) → k < length ds → axes_of (drop k ds) (drop k ss) ≡ record { size = get_or ds k e; step = get_or ss k 0 } ∷ axes_of (drop (k + 1) ds) (drop (k + 1) ss)
 axes_at ds ss k e lt = rw add-one (axes_suc ds ss k e lt)
-
-with_suc : (args : List SigArg) (given : List Made) (k : ℕ) (d : SigArg) → k < length args
-    → with_given (drop k args) given ≡ (get_or args k d, first_given (is_given (get_or args k d).role) given) ∷ with_given (drop (suc k) args) (if is_given (get_or args k d).role then drop 1 given else given)
-with_suc [] given k d lt = absurd (omega arith)
-with_suc (a ∷ args) given zero d lt = refl
-with_suc (a ∷ args) given (suc k) d lt = with_suc args given k d (omega arith)
-
-pub with_at : (args : List SigArg) (given : List Made) (k : ℕ) (d : SigArg) → k < length args
-    → with_given (drop k args) given ≡ (get_or args k d, first_given (is_given (get_or args k d).role) given) ∷ with_given (drop (k + 1) args) (if is_given (get_or args k d).role then drop 1 given else given)
-with_at args given k d lt = rw add-one (with_suc args given k d lt)
-
-pub with_end : (args : List SigArg) (given : List Made) (k : ℕ) → length args ≤ k → with_given (drop k args) given ≡ []
-with_end [] given zero le = refl
-with_end [] given (suc k) le = refl
-with_end (a ∷ args) given zero le = absurd (omega arith)
-with_end (a ∷ args) given (suc k) le = with_end args given k (omega arith)
 
 -- one block more
 pub blocks_push : (ss : List Source) (bs : List Made) (s : Source) (b : Made) → HasBlocks ss bs → length bs ≡ length ss → IsBlockOf s b → HasBlocks (ss ++ s ∷ []) (bs ++ b ∷ [])
@@ -201,12 +184,3 @@ heads_output r args i d made now all head lt out is same more =
     let x : Part = record { number = i; ty = type_in r.generic a.ty; dims = core_sizes r.sizes a ++ r.broadcast; elems = [] } in
     let from : heads r i (drop i args) ≡ head ∷ rest = heads_at r args i d lt ∙ ap (λ (b : Bool). if b then x ∷ rest else rest) out ∙ ap (λ (p : Part). p ∷ rest) (sym is) in
     ap (λ (xs : List Part). xs ++ rest) more ∙ one_more made rest all head (heads r i (drop i args)) from same
-
-pub heads_other : (r : Resolved) (args : List SigArg) (i : ℕ) (d : SigArg) (made all : List Part) → i < length args → is_output (get_or args i d).role ≡ false
-    → made ++ heads r i (drop i args) ≡ all → made ++ heads r (i + 1) (drop (i + 1) args) ≡ all
-heads_other r args i d made all lt out same =
-    let a = get_or args i d in
-    let rest = heads r (i + 1) (drop (i + 1) args) in
-    let x : Part = record { number = i; ty = type_in r.generic a.ty; dims = core_sizes r.sizes a ++ r.broadcast; elems = [] } in
-    let from : heads r i (drop i args) ≡ rest = heads_at r args i d lt ∙ ap (λ (b : Bool). if b then x ∷ rest else rest) out in
-    ap (λ (xs : List Part). made ++ xs) (sym from) ∙ same

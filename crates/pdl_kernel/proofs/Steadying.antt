@@ -1,7 +1,6 @@
 -- Comparisons of numbers that rise along a loop.
 use Rattle.std.proofs.Common.{◌≡◌, ℕ, zero, suc, ◌+◌, ◌*◌, ◌<◌, ◌≤◌, ℤ, pos, ◌+ℤ◌, ◌-ℤ◌, ◌≤ℤ◌, Ok, Some, None, ap, ◌∙◌, arith}
-use Rattle.std.specs.Prelude.{Bool, true, false, ◌<ℤ◌, int_le, int_lt, not, IfSome, Option}
-use Rattle.std.specs.Ordering.{int_eq}
+use Rattle.std.specs.Prelude.{true, false, ◌<ℤ◌, int_lt, IfSome, Option}
 use Rattle.std.proofs.lemmas.Int.{ints}
 use Rattle.pdl_elem.specs.declared.BinaryOp.{BinaryOp}
 use Rattle.pdl_elem.specs.Operators.{truth}
@@ -73,14 +72,6 @@ comes_past a b f u up e =
     is_below (number_at a 0 u) (number_at b 0 u)
     (let k = come_up b.number a.number (pos 1) b.inner a.inner f u b.small_inner up (omega (arith, ints, e, alone_at a f, alone_at b f)) in
     omega (arith, ints, k, alone_at a u, alone_at b u))
-
--- at most is not above
-pub at_most_is : (x y : ℤ) → truth (int_le x y) ≡ truth (int_eq (truth (int_lt y x)) (pos 0))
-at_most_is x y = by (int_lt y x) (int_le x y) (grind (arith, ints))
-  where
-    by : (b c : Bool) → c ≡ not b → truth c ≡ truth (int_eq (truth b) (pos 0))
-    by true c e = ap truth e
-    by false c e = ap truth e
 
 -- a comparison of two expressions, in a loop alone
 pub comparison_is : (l : Nest) (op : BinaryOp) (x y : Tree) (a b : Slope) (first : ℕ) (r : Option Steady) → l.turns ≡ 1 → IsSlope l x a → IsSlope l y b → IfSome r (λ s. Lasts first l.count s.until)

@@ -24,12 +24,12 @@ pub access_led : (sizes at : List ℕ) (m : Store) (t : Tree) (a : ℕ) (is : In
 access_led sizes at m t a is None e leads = tt
 access_led sizes at m t a is (Some x) e leads = ap (value sizes at m) e ∙ leads
 
-pub chosen : {B : Type 0} (r : Result B Fault) (now m : Store) (call : Resolved) (at : List ℕ) (s : Step) (e : Tree) (whole other : Code) (x : ℤ) → s ≡ choose e whole other → value call.sizes at m e ≡ Ok x
+pub chosen : {B : Type 0} (r : Result B Fault) (now m : Store) (call : Resolved) (at : List ℕ) (s : Step) (e : Tree) (whole other : Code) (x : ℤ) (got : Result ℤ Fault) → s ≡ choose e whole other → got ≡ value call.sizes at m e → got ≡ Ok x
     → Becomes r now (branch x (run call at whole m) (run call at other m)) → Becomes r now (step call at s m)
-chosen r now m call at s e whole other x is ok h =
+chosen r now m call at s e whole other x got is found ok h =
     let P : Step → Type 0 = λ y. Becomes r now (step call at y m) in
     let Q : Result ℤ Fault → Type 0 = λ y. Becomes r now (and_then y (λ x. branch x (run call at whole m) (run call at other m))) in
-    subst P (sym is) (subst Q (sym ok) h)
+    subst P (sym is) (subst Q found (subst Q (sym ok) h))
 
 pub branch_whole : {A : Type 0} (x : ℤ) (whole other : A) → (x ≡ pos 0 → ⊥) → branch x whole other ≡ whole
 branch_whole (pos zero) whole other h = absurd (h refl)

@@ -52,8 +52,8 @@ step-returns-then-x-eq0 t c =
     let now = store_of c.args.sources.now c.run.new.frames in
     let P : List Stmt → Type 0 = λ xs. Becomes c.run.result now (run c.args.resolved.now c.args.at.now (code_of xs) m) in
     let Q : ℤ → Type 0 = λ x. Becomes c.run.result now (branch x (run c.args.resolved.now c.args.at.now (code_of c.in-If.whole.items) m) (run c.args.resolved.now c.args.at.now (code_of c.in-If.other.items) m)) in
-    chosen c.run.result now m c.args.resolved.now c.args.at.now (step_of c.args.stmt.now) (tree_of c.in-If.expr) (code_of c.in-If.whole.items) (code_of c.in-If.other.items) c.in-Ok.x
-    (if_tree c.args.stmt.now c.in-If.expr c.in-If.whole c.in-If.other c.in-If.is) (sym c.value.ensures ∙ c.in-Ok.is)
+    chosen c.run.result now m c.args.resolved.now c.args.at.now (step_of c.args.stmt.now) (tree_of c.in-If.expr) (code_of c.in-If.whole.items) (code_of c.in-If.other.items) c.in-Ok.x c.value.result
+    (if_tree c.args.stmt.now c.in-If.expr c.in-If.whole c.in-If.other c.in-If.is) c.value.ensures c.in-Ok.is
     (subst Q (sym z) (subst P c.deref-then-x-eq0.ensures.value c.run.ensures))
 
 pub step-returns-else-x-eq0 : goal.step-returns-else-x-eq0
@@ -63,8 +63,8 @@ step-returns-else-x-eq0 t c =
     let P : List Stmt → Type 0 = λ xs. Becomes c.run-else-x-eq0.result now (run c.args.resolved.now c.args.at.now (code_of xs) m) in
     let z : branch c.in-Ok.x (run c.args.resolved.now c.args.at.now (code_of c.in-If.whole.items) m) (run c.args.resolved.now c.args.at.now (code_of c.in-If.other.items) m) ≡ run c.args.resolved.now c.args.at.now (code_of c.in-If.whole.items) m = branch_whole c.in-Ok.x _ _ (λ e. c.if-x-eq0.false (ap (of_z w64) e)) in
     let Q : Result Store Fault → Type 0 = λ r. Becomes c.run-else-x-eq0.result now r in
-    chosen c.run-else-x-eq0.result now m c.args.resolved.now c.args.at.now (step_of c.args.stmt.now) (tree_of c.in-If.expr) (code_of c.in-If.whole.items) (code_of c.in-If.other.items) c.in-Ok.x
-    (if_tree c.args.stmt.now c.in-If.expr c.in-If.whole c.in-If.other c.in-If.is) (sym c.value.ensures ∙ c.in-Ok.is)
+    chosen c.run-else-x-eq0.result now m c.args.resolved.now c.args.at.now (step_of c.args.stmt.now) (tree_of c.in-If.expr) (code_of c.in-If.whole.items) (code_of c.in-If.other.items) c.in-Ok.x c.value.result
+    (if_tree c.args.stmt.now c.in-If.expr c.in-If.whole c.in-If.other c.in-If.is) c.value.ensures c.in-Ok.is
     (subst Q (sym z) (subst P c.deref-else-x-eq0.ensures.value c.run-else-x-eq0.ensures))
 
 pub each_turn-loop-i-preserved-then-i-first : goal.each_turn-loop-i-preserved-then-i-first
