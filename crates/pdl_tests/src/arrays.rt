@@ -1,13 +1,14 @@
 //! Arrays of given sizes and numbers, for the tests of the crates of arrays. Where memory is wanting
 //! the test ends here, so that it needs no `?`.
-ghost use Rattle.std.specs.Prelude.{◌≡◌, ◌<◌, [], ◌∷◌, length, All, IfOk};
+ghost use Rattle.std.specs.Prelude.{◌≡◌, ◌<◌, length, All, IfOk};
 ghost use Rattle.pdl_elem.specs.Types.{InRange};
 ghost use Rattle.pdl_shape.specs.Shape.{size_of};
+ghost use Rattle.pdl_shape.specs.Triple.{IsTriple, Reaches};
 
 use crate::comparing::{same, same_list};
 use pdl_buf::{Buf, Made, NoMemory, Strided, buf_of, new_steps, strided};
 use pdl_elem::Ty;
-use pdl_shape::{Dims, dims_list, dims_of, triple_of, whole_triple};
+use pdl_shape::{Dims, Triple, dims_list, dims_of, triple_of, whole_triple};
 use std::alloc::Global;
 use std::marker::Brand;
 use std::process::Abort;
@@ -56,13 +57,31 @@ pub fn whole<'a>(rt: &impl Abort, alloc: Global, buf: &'a Buf, sizes: &[u32]) ->
     strided(buf, &whole_triple(alloc, &dims))
 }
 
-/// A plane of two columns and three rows, with its columns as rows.
-pub fn turned<'a>(alloc: Global, buf: &'a Buf, dims: &Dims) -> Strided<'a>
-    requires count { length buf.now.elems ≡ 6 }
-    requires sizes { dims.now ≡ 3 ∷ 2 ∷ [] }
-    ensures { length result.elems ≡ 6 }
+/// The triple of these numbers.
+pub fn triple(rt: &impl Abort, alloc: Global, offset: u32, incs: &[i32], sizes: &[u32]) -> Triple
+    requires { IsTriple (record { offset = offset; incs = incs.now; dims = sizes.now }) }
+    ensures { result ≡ record { offset = offset; incs = incs.now; dims = sizes.now } }
 {
-    strided(buf, &triple_of(alloc, 0, &[2, 1], dims))
+    let dims = shape(rt, alloc, sizes);
+    triple_of(alloc, offset, incs, &dims)
+}
+
+/// What such a triple shows of a buffer.
+pub fn window<'a>(
+    rt: &impl Abort,
+    alloc: Global,
+    buf: &'a Buf,
+    offset: u32,
+    incs: &[i32],
+    sizes: &[u32],
+) -> Strided<'a>
+    requires triple { IsTriple (record { offset = offset; incs = incs.now; dims = sizes.now }) }
+    requires inside { Reaches (record { offset = offset; incs = incs.now; dims = sizes.now })
+        (length buf.now.elems) }
+    ensures count { length result.elems ≡ size_of sizes.now }
+    ensures kind { result.ty ≡ buf.now.ty }
+{
+    strided(buf, &triple(rt, alloc, offset, incs, sizes))
 }
 
 /// The array has this type, these sizes and these elements.

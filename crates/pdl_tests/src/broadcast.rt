@@ -1,39 +1,15 @@
 //! A walk whose places come from outside: NumPy's `broadcast_to` over arrays in Fortran order.
 //! The scripts of `pdl_cases` walk through many more.
-ghost use Rattle.std.specs.Prelude.{◌≡◌, ◌<◌, ◌++◌, [], ◌∷◌, length};
+ghost use Rattle.std.specs.Prelude.{◌≡◌, ◌<◌, ◌+◌, [], ◌∷◌, length};
 ghost use Rattle.pdl_shape.specs.Broadcast.{BroadcastsTo};
 ghost use Rattle.pdl_shape.specs.Shape.{size_of};
+ghost use Rattle.pdl_shape.specs.Triple.{IsTriple};
 
-use crate::arrays::shape;
+use crate::arrays::{shape, triple};
 use crate::comparing::same;
 use pdl_broadcast::*;
-use pdl_shape::{Dims, Triple, triple_of};
 use std::alloc::Global;
 use std::process::Abort;
-
-/// A plane with its columns as rows.
-fn turned(alloc: Global, dims: &Dims) -> Triple
-    requires { dims.now ≡ 3 ∷ 2 ∷ [] }
-    ensures { result.dims ≡ dims.now }
-{
-    triple_of(alloc, 0, &[2, 1], dims)
-}
-
-/// Three elements from the last to the first.
-fn reversed(alloc: Global, dims: &Dims) -> Triple
-    requires { dims.now ≡ 3 ∷ [] }
-    ensures { result.dims ≡ dims.now }
-{
-    triple_of(alloc, 2, &[-1], dims)
-}
-
-/// Two elements three places apart, along dimension 1.
-fn stepped(alloc: Global, dims: &Dims) -> Triple
-    requires { dims.now ≡ 1 ∷ 2 ∷ [] }
-    ensures { result.dims ≡ dims.now }
-{
-    triple_of(alloc, 1, &[0, 3], dims)
-}
 
 /// The three arguments of a walk stand at these places.
 fn stands_at(rt: &impl Abort, walk: &BroadcastWalk, places: [u32; 3])
@@ -56,24 +32,37 @@ fn follows(rt: &impl Abort, walk: &mut BroadcastWalk, want: &[[u32; 3]; 6])
 }
 
 /// Adds an argument to a walk that begins.
-fn add(rt: &impl Abort, walk: &mut BroadcastWalk, triple: &Triple)
+fn add(
+    rt: &impl Abort,
+    alloc: Global,
+    walk: &mut BroadcastWalk,
+    offset: u32,
+    incs: &[i32],
+    sizes: &[u32],
+)
     requires start { walk.old.index ≡ 0 }
-    requires stretched { BroadcastsTo triple.now.dims walk.old.dims }
-    ensures { walk.new ≡ record walk.old { triples = walk.old.triples ++ triple.now ∷ [] } }
+    requires triple { IsTriple (record { offset = offset; incs = incs.now; dims = sizes.now }) }
+    requires stretched { BroadcastsTo sizes.now walk.old.dims }
+    ensures dims { walk.new.dims ≡ walk.old.dims }
+    ensures start { walk.new.index ≡ 0 }
+    ensures count { length walk.new.triples ≡ length walk.old.triples + 1 }
 {
-    walk.add(triple).expect(rt, "memory");
+    walk.add(&triple(rt, alloc, offset, incs, sizes))
+        .expect(rt, "memory");
 }
 
-/// Walks through six coordinates with a turned, a reversed and a stepped argument.
-fn walk_windows(rt: &impl Abort, alloc: Global, want: &[[u32; 3]; 6]) {
+/// A walk through six coordinates.
+fn begun(rt: &impl Abort, alloc: Global) -> BroadcastWalk
+    ensures dims { result.dims ≡ 3 ∷ 2 ∷ [] }
+    ensures start { result.index ≡ 0 }
+    ensures none { length result.triples ≡ 0 }
+{
     let plane = shape(rt, alloc, &[3, 2]);
-    let mut walk = BroadcastWalk::new(alloc, &plane).expect(rt, "memory");
-    add(rt, &mut walk, &turned(alloc, &plane));
-    add(rt, &mut walk, &reversed(alloc, &shape(rt, alloc, &[3])));
-    add(rt, &mut walk, &stepped(alloc, &shape(rt, alloc, &[1, 2])));
-    follows(rt, &mut walk, want);
+    BroadcastWalk::new(alloc, &plane).expect(rt, "memory")
 }
 
+// A plane with its columns as rows; three elements from the last to the first; and two elements three
+// places apart, along dimension 1.
 #[test]
 fn windows(rt: HostRuntime) {
     let rt = &rt;
@@ -85,5 +74,9 @@ fn windows(rt: HostRuntime) {
         [3, 1, 4],
         [5, 0, 4],
     ];
-    walk_windows(rt, rt.alloc(), &want);
+    let mut walk = begun(rt, rt.alloc());
+    add(rt, rt.alloc(), &mut walk, 0, &[2, 1], &[3, 2]);
+    add(rt, rt.alloc(), &mut walk, 2, &[-1], &[3]);
+    add(rt, rt.alloc(), &mut walk, 1, &[0, 3], &[1, 2]);
+    follows(rt, &mut walk, &want);
 }

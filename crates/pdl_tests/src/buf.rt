@@ -1,12 +1,12 @@
 //! Each call once, with values worked out by hand.
 ghost use Rattle.std.specs.Prelude.{◌≡◌, ◌<◌, ◌≤◌, ◌+◌, [], ◌∷◌, length};
-ghost use Rattle.pdl_elem.specs.declared.Ty.TheVariants.{Short};
+ghost use Rattle.pdl_elem.specs.declared.Ty.TheVariants.{Byte, Short};
 
-use crate::arrays::{numbers, shape, turned};
+use crate::arrays::{numbers, shape, triple, window};
 use crate::comparing::{same, same_list};
 use pdl_buf::*;
 use pdl_elem::Ty;
-use pdl_shape::{Dims, dims_list, triple_of, whole_triple};
+use pdl_shape::{Dims, dims_list};
 use std::alloc::Global;
 use std::marker::Brand;
 use std::process::Abort;
@@ -27,28 +27,10 @@ fn keeps(rt: &impl Abort, buf: &Buf, want: [i64; 3])
 fn put<L: Ledger>(rt: &impl Abort, buf: &mut Buf, steps: &mut Steps<L>)
     requires three { length buf.old.elems ≡ 3 }
     requires kind { buf.old.ty ≡ Short }
-    ensures three { length buf.new.elems ≡ 3 }
-    ensures kind { buf.new.ty ≡ Short }
 {
     buf_set(buf, 1, 7, steps);
     scatter(buf, &[Some(1), Some(1), None], &[5, 6, 7], steps);
     keeps(rt, buf, [0, 6, 8]);
-}
-
-// The places 2, none and 1 of 0, 6, 8 are gathered.
-fn gather_whole<L: Ledger>(rt: &impl Abort, alloc: Global, buf: &Buf, steps: &mut Steps<L>)
-    requires three { length buf.now.elems ≡ 3 }
-    requires kind { buf.now.ty ≡ Short }
-{
-    let mut into = buf_of(alloc, Ty::Short, &[1, 1, 1], steps).expect(rt, "memory");
-    let triple = whole_triple(alloc, &shape(rt, alloc, &[3]));
-    gather(
-        &strided(buf, &triple),
-        &[Some(2), None, Some(1)],
-        &mut into,
-        steps,
-    );
-    keeps(rt, &into, [8, 0, 6]);
 }
 
 fn moved<L: Ledger>(rt: &impl Abort, alloc: Global, blank: Blank)
@@ -59,7 +41,6 @@ fn moved<L: Ledger>(rt: &impl Abort, alloc: Global, blank: Blank)
     let mut steps = new_steps::<L>(blank);
     let mut buf = buf_of(alloc, Ty::Short, &[0, 0, 8], &mut steps).expect(rt, "memory");
     put(rt, &mut buf, &mut steps);
-    gather_whole(rt, alloc, &buf, &mut steps);
 }
 
 #[test]
@@ -69,36 +50,11 @@ fn moves(rt: HostRuntime) {
 }
 
 // The place of the fifth element of a plane of two columns and three rows, with its columns as rows.
-fn turned_place(alloc: Global, dims: &Dims) -> u32
-    requires { dims.now ≡ 3 ∷ 2 ∷ [] }
-{
-    Placement::of(&triple_of(alloc, 0, &[2, 1], dims)).place(4)
-}
-
 #[test]
 fn places_positions(rt: HostRuntime) {
     let rt = &rt;
-    let plane = shape(rt, rt.alloc(), &[3, 2]);
-    same(rt, turned_place(rt.alloc(), &plane), 3);
-}
-
-// Six elements from the last to the first.
-fn reversed<'a>(alloc: Global, buf: &'a Buf, dims: &Dims) -> Strided<'a>
-    requires count { length buf.now.elems ≡ 6 }
-    requires sizes { dims.now ≡ 6 ∷ [] }
-    ensures { length result.elems ≡ 6 }
-{
-    strided(buf, &triple_of(alloc, 5, &[-1], dims))
-}
-
-// Every second of six elements, from the second on.
-fn stepped<'a>(alloc: Global, buf: &'a Buf, dims: &Dims) -> Strided<'a>
-    requires count { length buf.now.elems ≡ 6 }
-    requires sizes { dims.now ≡ 3 ∷ [] }
-    ensures count { length result.elems ≡ 3 }
-    ensures kind { result.ty ≡ buf.now.ty }
-{
-    strided(buf, &triple_of(alloc, 1, &[2], dims))
+    let turned = triple(rt, rt.alloc(), 0, &[2, 1], &[3, 2]);
+    same(rt, Placement::of(&turned).place(4), 3);
 }
 
 // Four elements from a position on.
@@ -114,32 +70,33 @@ fn four(window: &Strided<'_>, first: u32) -> [i64; 4]
 fn reads_turned_blocks(rt: HostRuntime) {
     let rt = &rt;
     let buf = numbers(rt, rt.alloc(), Ty::Byte, &[1, 2, 3, 4, 5, 6]);
-    let plane = shape(rt, rt.alloc(), &[3, 2]);
-    same(rt, four(&turned(rt.alloc(), &buf, &plane), 1), [3, 5, 2, 4]);
+    let turned = window(rt, rt.alloc(), &buf, 0, &[2, 1], &[3, 2]);
+    same(rt, four(&turned, 1), [3, 5, 2, 4]);
 }
 
-#[test]
-fn reads_reversed_blocks(rt: HostRuntime) {
-    let rt = &rt;
-    let buf = numbers(rt, rt.alloc(), Ty::Byte, &[1, 2, 3, 4, 5, 6]);
-    let row = shape(rt, rt.alloc(), &[6]);
-    same(rt, four(&reversed(rt.alloc(), &buf, &row), 2), [4, 3, 2, 1]);
+// Every second of six elements, from the second on.
+fn stepped<'a>(rt: &impl Abort, alloc: Global, buf: &'a Buf) -> Strided<'a>
+    requires { length buf.now.elems ≡ 6 }
+    ensures count { length result.elems ≡ 3 }
+    ensures kind { result.ty ≡ buf.now.ty }
+{
+    window(rt, alloc, buf, 1, &[2], &[3])
 }
 
 // The places 2, none and 0 of every second of the numbers from 1 to 6 are gathered.
 fn gather_stepped<L: Ledger>(
     rt: &impl Abort,
-    window: &Strided<'_>,
-    into: &mut Buf,
+    alloc: Global,
+    stepped: &Strided<'_>,
     steps: &mut Steps<L>,
 )
-    requires count { length window.now.elems ≡ 3 }
-    requires three { length into.old.elems ≡ 3 }
-    requires kind { window.now.ty ≡ into.old.ty }
+    requires count { length stepped.now.elems ≡ 3 }
+    requires kind { stepped.now.ty ≡ Byte }
 {
-    gather(window, &[Some(2), None, Some(0)], into, steps);
+    let mut into = buf_of(alloc, Ty::Byte, &[9, 9, 9], steps).expect(rt, "memory");
+    gather(stepped, &[Some(2), None, Some(0)], &mut into, steps);
     tick(steps);
-    keeps(rt, into, [6, 0, 2]);
+    keeps(rt, &into, [6, 0, 2]);
 }
 
 fn gathered_by_steps<L: Ledger>(rt: &impl Abort, alloc: Global, blank: Blank)
@@ -149,9 +106,7 @@ fn gathered_by_steps<L: Ledger>(rt: &impl Abort, alloc: Global, blank: Blank)
 {
     let mut steps = new_steps::<L>(blank);
     let buf = buf_of(alloc, Ty::Byte, &[1, 2, 3, 4, 5, 6], &mut steps).expect(rt, "memory");
-    let mut into = buf_of(alloc, Ty::Byte, &[9, 9, 9], &mut steps).expect(rt, "memory");
-    let window = stepped(alloc, &buf, &shape(rt, alloc, &[3]));
-    gather_stepped(rt, &window, &mut into, &mut steps);
+    gather_stepped(rt, alloc, &stepped(rt, alloc, &buf), &mut steps);
 }
 
 #[test]
@@ -173,29 +128,26 @@ fn is_described(rt: &impl Abort, window: &Strided<'_>)
 fn describes_windows(rt: HostRuntime) {
     let rt = &rt;
     let buf = numbers(rt, rt.alloc(), Ty::Byte, &[1, 2, 3, 4, 5, 6]);
-    let three = shape(rt, rt.alloc(), &[3]);
-    is_described(rt, &stepped(rt.alloc(), &buf, &three));
+    is_described(rt, &stepped(rt, rt.alloc(), &buf));
 }
 
 // Four elements of three in a column over a plane, from the second on.
-fn stretched_block(alloc: Global, buf: &Buf, column: &Dims, plane: &Dims) -> [i64; 4]
+fn stretched_block(rt: &impl Abort, alloc: Global, buf: &Buf, plane: &Dims) -> [i64; 4]
     requires count { length buf.now.elems ≡ 3 }
-    requires column { column.now ≡ 1 ∷ 3 ∷ [] }
     requires plane { plane.now ≡ 2 ∷ 3 ∷ [] }
 {
-    let window = strided(buf, &whole_triple(alloc, column));
-    four(&stretched(&window, plane), 1)
+    let column = strided(buf, &triple(rt, alloc, 0, &[0, 1], &[1, 3]));
+    four(&stretched(&column, plane), 1)
 }
 
 #[test]
 fn stretches(rt: HostRuntime) {
     let rt = &rt;
     let buf = numbers(rt, rt.alloc(), Ty::Byte, &[7, 8, 9]);
-    let column = shape(rt, rt.alloc(), &[1, 3]);
     let plane = shape(rt, rt.alloc(), &[2, 3]);
     same(
         rt,
-        stretched_block(rt.alloc(), &buf, &column, &plane),
+        stretched_block(rt, rt.alloc(), &buf, &plane),
         [7, 8, 8, 9],
     );
 }

@@ -9,8 +9,6 @@ mod broadcast;
 #[cfg(test)]
 mod buf;
 #[cfg(test)]
-mod code;
-#[cfg(test)]
 mod comparing;
 #[cfg(test)]
 mod elem;

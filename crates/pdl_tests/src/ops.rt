@@ -11,22 +11,27 @@ use pdl_ops::*;
 use std::alloc::Global;
 use std::process::Abort;
 
-// An operator on two arrays of these sizes.
+// An operator on an array and a buffer as one of these sizes.
 fn worked(
     rt: &impl Abort,
     alloc: Global,
     op: BinaryOp,
-    left: &Buf,
-    left_sizes: &[u32],
+    left: &Strided<'_>,
     right: &Buf,
-    right_sizes: &[u32],
+    sizes: &[u32],
 ) -> Result<Made, OpFault>
-    requires left { length left.now.elems ≡ size_of left_sizes.now }
-    requires right { length right.now.elems ≡ size_of right_sizes.now }
+    requires { length right.now.elems ≡ size_of sizes.now }
 {
-    let one = whole(rt, alloc, left, left_sizes);
-    let other = whole(rt, alloc, right, right_sizes);
-    elementwise(alloc, op, &one, &other)
+    elementwise(alloc, op, left, &whole(rt, alloc, right, sizes))
+}
+
+// Three bytes less two shorts, along dimensions 0 and 1.
+fn subtracts(rt: &impl Abort, alloc: Global, bytes: &Strided<'_>, shorts: &Buf)
+    requires { length shorts.now.elems ≡ 2 }
+{
+    let made = worked(rt, alloc, BinaryOp::Sub, bytes, shorts, &[1, 2]).expect(rt, "values");
+    let values = [240, -9, -8, -50, -299, -298];
+    is_array(rt, alloc, &made, Ty::Short, &[3, 2], &values);
 }
 
 #[test]
@@ -34,24 +39,19 @@ fn works_over_joined_dimensions(rt: HostRuntime) {
     let rt = &rt;
     let bytes = numbers(rt, rt.alloc(), Ty::Byte, &[250, 1, 2]);
     let shorts = numbers(rt, rt.alloc(), Ty::Short, &[10, 300]);
-    let made = worked(
+    subtracts(
         rt,
         rt.alloc(),
-        BinaryOp::Sub,
-        &bytes,
-        &[3],
+        &whole(rt, rt.alloc(), &bytes, &[3]),
         &shorts,
-        &[1, 2],
     );
-    let values = [240, -9, -8, -50, -299, -298];
-    is_array(
-        rt,
-        rt.alloc(),
-        &made.expect(rt, "values"),
-        Ty::Short,
-        &[3, 2],
-        &values,
-    );
+}
+
+// The fault of two numbers by three, along dimensions 0 and 1.
+fn divides(rt: &impl Abort, alloc: Global, two: &Strided<'_>, divisors: &Buf) -> Option<OpFault>
+    requires { length divisors.now.elems ≡ 3 }
+{
+    worked(rt, alloc, BinaryOp::Div, two, divisors, &[1, 3]).err()
 }
 
 #[test]
@@ -59,25 +59,13 @@ fn refuses_in_broadcast_order(rt: HostRuntime) {
     let rt = &rt;
     let two = numbers(rt, rt.alloc(), Ty::Long, &[7, -7]);
     let divisors = numbers(rt, rt.alloc(), Ty::Long, &[2, 0, 0]);
-    let made = worked(
+    let fault = divides(
         rt,
         rt.alloc(),
-        BinaryOp::Div,
-        &two,
-        &[2],
+        &whole(rt, rt.alloc(), &two, &[2]),
         &divisors,
-        &[1, 3],
     );
-    same(rt, made.err(), Some(OpFault::DivideByZero { place: 2 }));
-}
-
-#[test]
-fn refuses_other_sizes(rt: HostRuntime) {
-    let rt = &rt;
-    let two = numbers(rt, rt.alloc(), Ty::Long, &[7, -7]);
-    let divisors = numbers(rt, rt.alloc(), Ty::Long, &[2, 0, 0]);
-    let made = worked(rt, rt.alloc(), BinaryOp::Div, &two, &[2], &divisors, &[3]);
-    same(rt, made.err(), Some(OpFault::Mismatch));
+    same(rt, fault, Some(OpFault::DivideByZero { place: 2 }));
 }
 
 fn negates(rt: &impl Abort, alloc: Global, three: &Strided<'_>) {
@@ -107,14 +95,27 @@ fn fills(rt: HostRuntime) {
     is_array(rt, rt.alloc(), &made, Ty::Byte, &[2, 2], &[0, 0, 1, 1]);
 }
 
-// What three numbers keep when three numbers of dimensions 3, 1 and 1 are added to them.
-fn added(rt: &impl Abort, alloc: Global, row: &Buf, value: &Buf) -> Result<Vec<i64>, OpFault>
-    requires row { length row.now.elems ≡ 3 }
-    requires value { length value.now.elems ≡ 3 }
+// What a row keeps when three numbers of dimensions 3, 1 and 1 are added to it.
+fn added(
+    rt: &impl Abort,
+    alloc: Global,
+    row: &Strided<'_>,
+    value: &Buf,
+) -> Result<Vec<i64>, OpFault>
+    requires { length value.now.elems ≡ 3 }
 {
-    let target = whole(rt, alloc, row, &[3]);
     let further = whole(rt, alloc, value, &[3, 1, 1]);
-    values_for(alloc, AssignOp::With(BinaryOp::Add), &target, &further)
+    values_for(alloc, AssignOp::With(BinaryOp::Add), row, &further)
+}
+
+// Three shorts are added to three bytes.
+fn adds(rt: &impl Abort, alloc: Global, bytes: &Buf, shorts: &Buf)
+    requires bytes { length bytes.now.elems ≡ 3 }
+    requires shorts { length shorts.now.elems ≡ 3 }
+{
+    let row = whole(rt, alloc, bytes, &[3]);
+    let values = added(rt, alloc, &row, shorts).expect(rt, "values");
+    same_list(rt, values.as_slice(), &[4, 21, 46]);
 }
 
 #[test]
@@ -122,6 +123,5 @@ fn takes_further_sizes_of_one(rt: HostRuntime) {
     let rt = &rt;
     let bytes = numbers(rt, rt.alloc(), Ty::Byte, &[250, 1, 2]);
     let shorts = numbers(rt, rt.alloc(), Ty::Short, &[10, 20, 300]);
-    let values = added(rt, rt.alloc(), &bytes, &shorts).expect(rt, "values");
-    same_list(rt, values.as_slice(), &[4, 21, 46]);
+    adds(rt, rt.alloc(), &bytes, &shorts);
 }

@@ -1,18 +1,25 @@
 //! Each call once. The scripts of `pdl_cases` print many more.
-use crate::arrays::{numbers, shape, turned};
+use crate::arrays::{numbers, shape, window};
 use crate::comparing::same_list;
+use pdl_buf::Strided;
 use pdl_elem::Ty;
 use pdl_print::*;
+use std::alloc::Global;
+use std::process::Abort;
+
+// The plane is printed behind what the text has.
+fn is_printed(rt: &impl Abort, alloc: Global, plane: &Strided<'_>) {
+    let mut text = Vec::from_slice(alloc, b">").expect(rt, "memory");
+    write_array(plane, &mut text).expect(rt, "memory");
+    same_list(rt, &text, b">\n[\n [1 3 5]\n [2 4 6]\n]\n");
+}
 
 #[test]
 fn a_turned_plane(rt: HostRuntime) {
     let rt = &rt;
     let alloc = rt.alloc();
     let buf = numbers(rt, alloc, Ty::Byte, &[1, 2, 3, 4, 5, 6]);
-    let dims = shape(rt, alloc, &[3, 2]);
-    let mut text = Vec::from_slice(alloc, b">").expect(rt, "memory");
-    write_array(&turned(alloc, &buf, &dims), &mut text).expect(rt, "memory");
-    same_list(rt, &text, b">\n[\n [1 3 5]\n [2 4 6]\n]\n");
+    is_printed(rt, alloc, &window(rt, alloc, &buf, 0, &[2, 1], &[3, 2]));
 }
 
 #[test]

@@ -1,8 +1,6 @@
 //! Cases whose answers come from outside: NumPy's `ravel_multi_index` and `unravel_index` in
 //! Fortran order, its `broadcast_shapes` on reversed shapes, and products by hand.
-ghost use Rattle.std.specs.Prelude.{◌≡◌, [], ◌∷◌};
-
-use crate::arrays::shape;
+use crate::arrays::{shape, triple};
 use crate::comparing::{same, same_list};
 use pdl_shape::*;
 use std::alloc::Global;
@@ -145,17 +143,10 @@ fn windows(rt: HostRuntime) {
 }
 
 // Three elements as a row of one column, at every second place before the fifth.
-fn column(alloc: Global, dims: &Dims) -> Triple
-    requires { dims.now ≡ 1 ∷ 3 ∷ [] }
-    ensures { result.dims ≡ dims.now }
-{
-    triple_of(alloc, 4, &[0, -2], dims)
-}
-
 #[test]
 fn stretched_windows(rt: HostRuntime) {
     let rt = &rt;
-    let window = column(rt.alloc(), &shape(rt, rt.alloc(), &[1, 3]));
+    let window = triple(rt, rt.alloc(), 4, &[0, -2], &[1, 3]);
     let wide = shape(rt, rt.alloc(), &[5, 3, 2]);
     is_triple(
         rt,
