@@ -79,6 +79,7 @@ pub fn window<'a>(
     requires inside { Reaches (record { offset = offset; incs = incs.now; dims = sizes.now })
         (length buf.now.elems) }
     ensures count { length result.elems ≡ size_of sizes.now }
+    ensures dims { result.dims ≡ sizes.now }
     ensures kind { result.ty ≡ buf.now.ty }
 {
     strided(buf, &triple(rt, alloc, offset, incs, sizes))

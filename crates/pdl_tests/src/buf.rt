@@ -136,7 +136,7 @@ fn stretched_block(rt: &impl Abort, alloc: Global, buf: &Buf, plane: &Dims) -> [
     requires count { length buf.now.elems ≡ 3 }
     requires plane { plane.now ≡ 2 ∷ 3 ∷ [] }
 {
-    let column = strided(buf, &triple(rt, alloc, 0, &[0, 1], &[1, 3]));
+    let column = window(rt, alloc, buf, 0, &[0, 1], &[1, 3]);
     four(&stretched(&column, plane), 1)
 }
 
