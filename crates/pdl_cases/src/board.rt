@@ -106,7 +106,7 @@ impl<L: Ledger> Board<L> {
     }
 
     /// Puts numbers at the positions of an array that can be lent.
-    pub fn assign(&mut self, array: &Array, mut numbers: Vec<i64>) -> Option<()>
+    pub fn assign(&mut self, array: &Array, numbers: &mut [i64]) -> Option<()>
         requires kept { AreKept self.old.engine self.old.arrays.items }
         requires array { IsKept self.old.engine array.now }
         ensures { OnSome result (AreKept self.new.engine self.new.arrays.items) }
@@ -116,8 +116,8 @@ impl<L: Ledger> Board<L> {
         if numbers.len() != count || !self.engine.is_fresh(array.id) {
             return None;
         }
-        wrap_all(self.engine.ty(array.id), &mut numbers);
-        self.engine.assign(array.id, &numbers, &mut self.steps);
+        wrap_all(self.engine.ty(array.id), numbers);
+        self.engine.assign(array.id, numbers, &mut self.steps);
         Some(())
     }
 

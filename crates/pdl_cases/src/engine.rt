@@ -175,8 +175,8 @@ fn assign<L: Ledger>(board: &mut Board<L>, line: &mut Cursor<'_>) -> Option<()>
     ensures { OnSome result (AreKept board.new.engine board.new.arrays.items) }
 {
     let array = array(board, line)?;
-    let numbers = choice::elements(line)?;
-    board.assign(&array, numbers)
+    let mut numbers = choice::elements(line)?;
+    board.assign(&array, &mut numbers)
 }
 
 fn reshape<L: Ledger>(board: &mut Board<L>, line: &mut Cursor<'_>) -> Option<()>

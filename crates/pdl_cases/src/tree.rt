@@ -3,8 +3,9 @@
 use crate::answer::Answer;
 use pdl_buf::Made;
 use pdl_elem::{Name, type_name};
+use pdl_lexemes::AssignOp;
 use pdl_shape::dims_list;
-use pdl_syntax::{Arg, Expr, Statement, ViewCall};
+use pdl_syntax::{Arg, Expr, Statement, Target, ViewCall};
 
 #[cycle(say)]
 fn say_expr(answer: &mut Answer, expr: &Expr) {
@@ -107,29 +108,28 @@ fn say_behind(answer: &mut Answer, word: &str, text: &[u8]) {
     answer.escaped(text);
 }
 
+fn say_assignment(answer: &mut Answer, target: &Target, op: &AssignOp, value: &Expr) {
+    answer.escaped(target.name.bytes());
+    say_views(answer, target.views.as_slice());
+    answer.say(" ");
+    answer.debug(op);
+    answer.say(" ");
+    say_expr(answer, value);
+}
+
 /// Writes what a statement says.
 pub fn say_statement(answer: &mut Answer, statement: &Statement) {
     match statement {
         Statement::Bind { name, value, sever } => {
-            say_word(
-                answer,
-                name.bytes(),
-                if *sever { " severed " } else { " bound " },
-            );
+            let behind = if *sever { " severed " } else { " bound " };
+            say_word(answer, name.bytes(), behind);
             say_expr(answer, value);
         }
         Statement::BindList { names, value } => {
             say_names(answer, names.as_slice());
             say_expr(answer, value);
         }
-        Statement::Assign { target, op, value } => {
-            answer.escaped(target.name.bytes());
-            say_views(answer, target.views.as_slice());
-            answer.say(" ");
-            answer.debug(op);
-            answer.say(" ");
-            say_expr(answer, value);
-        }
+        Statement::Assign { target, op, value } => say_assignment(answer, target, op, value),
         Statement::Show { value, info } => {
             answer.say(if *info { "info " } else { "show " });
             say_expr(answer, value);
