@@ -9,7 +9,8 @@ import subprocess
 import sys
 from concurrent.futures import ThreadPoolExecutor
 
-MADE = '$x = sequence(5); $w = sequence(5); $i = pdl [1,3]; $j = pdl [0,1];'
+MADE = ('$x = sequence(5); $w = sequence(5); $i = pdl [1,3]; $j = pdl [0,1]; $a = $x->slice("1:3"); $b = $w->slice("1:3"); '
+        '$c = $x->index($i); $d = $w->index($i);')
 
 STATEMENTS = {
     'add_one': '$x += 1;',
@@ -48,6 +49,14 @@ STATEMENTS = {
     'where': '$x->where($x > 2) .= 1;',
     'where_mask': '$x->where($w) .= 1;',
     'range': '$x->range(pdl([1]),pdl([2])) .= 1;',
+    'kept_slice': '$a .= 1;',
+    'add_to_kept_slice': '$a += 1;',
+    'kept_slices': '$a .= $b;',
+    'add_kept_slices': '$z = $a + $b;',
+    'bind_kept_slice': '$z = $a;',
+    'kept_index': '$c .= 1;',
+    'kept_indexes': '$c .= $d;',
+    'add_kept_indexes': '$z = $c + $d;',
 }
 
 

@@ -5,7 +5,7 @@ ghost use Rattle.pdl_elem.specs.Types.{InRange};
 ghost use Rattle.pdl_shape.specs.Places.{write};
 ghost use Rattle.pdl_shape.specs.Shape.{size_of};
 ghost use Rattle.pdl_nodes.specs.Assigned.{put_all};
-ghost use Rattle.pdl_nodes.specs.Row.{parent_of, is_buffered, places_or};
+ghost use Rattle.pdl_nodes.specs.Row.{parent_of, is_buffered, places_or, shown_of};
 ghost use Rattle.pdl_nodes.specs.Changes.{or_known};
 ghost use Rattle.pdl_nodes.specs.Placed.{in_order, placed_by};
 ghost use Rattle.pdl_nodes.specs.Spots.{spots};
@@ -15,7 +15,7 @@ use crate::origin::Origin;
 use pdl_buf::{Buf, Steps, scatter_from};
 use pdl_choice::Places;
 use pdl_elem::Ty;
-use pdl_shape::{Triple, elements_of};
+use pdl_shape::{Triple, copy_triple, elements_of};
 use std::alloc::Global;
 use std::marker::Model;
 use std::sync::ledger::Ledger;
@@ -25,6 +25,15 @@ use std::sync::ledger::Ledger;
 pub struct Lifted {
     pub kept: Buf,
     pub places: Places,
+}
+
+/// Where the elements of an array stand: over its base, as a triple shows them, and in its root.
+#[derive(Drop)]
+pub struct Shown {
+    pub id: u64,
+    pub root: u64,
+    pub base: u64,
+    pub triple: Triple,
 }
 
 /// One array.
@@ -104,6 +113,18 @@ impl Node {
         ensures { result ≡ self.now.base }
     {
         self.base
+    }
+
+    /// Where the elements of the array of this number stand.
+    pub fn shown(&self, id: u64) -> Shown
+        ensures { result ≡ shown_of id self.now }
+    {
+        Shown {
+            id,
+            root: self.root,
+            base: self.base,
+            triple: copy_triple(&self.triple),
+        }
     }
 
     /// The triple over the base's elements.

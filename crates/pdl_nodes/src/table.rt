@@ -1,5 +1,5 @@
 //! Nodes by their numbers: a slab, and the key of each number.
-ghost use Rattle.std.specs.Prelude.{◌≡◌, ◌≢◌, ℕ, ◌+◌, ◌-◌, ◌<◌, ◌^◌, ◌==◌, ◌∷◌, if◌then◌else◌, [], true, false, length, All, is_none, is_some, Some, None, OnOk, OnErr};
+ghost use Rattle.std.specs.Prelude.{◌≡◌, ◌≢◌, ℕ, ◌+◌, ◌-◌, ◌<◌, ◌^◌, ◌==◌, ◌∷◌, if◌then◌else◌, [], true, false, length, All, is_none, is_some, Some, None, IfSome, OnOk, OnErr};
 ghost use Rattle.slab.specs.Slab.{HasRoomFor};
 ghost use Rattle.pdl_elem.specs.Types.{InRange};
 ghost use Rattle.pdl_shape.specs.Places.{write};
@@ -13,7 +13,7 @@ ghost use Rattle.pdl_nodes.specs.Table.{IsTable, rows_of};
 ghost use Rattle.pdl_nodes.specs.Placed.{in_order, placed_by};
 ghost use Rattle.pdl_nodes.specs.Spots.{spots};
 ghost use Rattle.pdl_nodes.specs.Rows.{NumbersBelow, row_at, has, each, without};
-ghost use Rattle.pdl_nodes.specs.Row.{is_buffered, parent_of, places_or};
+ghost use Rattle.pdl_nodes.specs.Row.{is_buffered, parent_of, places_or, shown_of};
 ghost use Rattle.pdl_nodes.specs.Changes.{kept_in, wait_in, fill_in, marked_in, mark_in};
 ghost use Rattle.pdl_nodes.specs.Cut.{CanCut, CanDerive, cut, derived_in, from, rooted_in};
 ghost use Rattle.pdl_nodes.specs.Known.{IsLiftable};
@@ -21,7 +21,7 @@ ghost use Rattle.pdl_nodes.specs.Worlds.{shape};
 
 use crate::children::Children;
 use crate::marked::{Marked, unmark, unmark_one};
-use crate::node::{Lifted, Node};
+use crate::node::{Lifted, Node, Shown};
 use crate::numbered::Numbered;
 use pdl_affine::{view_laws, window_laws};
 use pdl_buf::{Buf, Steps};
@@ -407,28 +407,36 @@ impl Table {
     }
 
     /// Puts as many values into a root as it has positions, in order, and marks it alone of its
-    /// family, as `mark` does, a step for each value. A view is left as it is. The answer says
-    /// whether it is a root.
-    pub fn assign_root<L: Ledger>(&mut self, id: u64, values: &[i64], steps: &mut Steps<L>) -> bool
+    /// family, as `mark` does, a step for each value. A view is left as it is, and the answer says
+    /// where its elements stand.
+    pub fn assign_root<L: Ledger>(
+        &mut self,
+        id: u64,
+        values: &[i64],
+        steps: &mut Steps<L>,
+    ) -> Option<Shown>
         requires live { has self.old id ≡ true }
         requires buffered { (row_at self.old id).root ≡ id
             → is_buffered (row_at self.old id) ≡ true }
         requires paired { length values.now ≡ size_of (row_at self.old id).triple.dims }
         requires in_range { All (InRange (row_at self.old id).ty) values.now }
-        ensures root { result ≡ ((row_at self.old id).root == id) }
-        ensures put { self.new ≡ if result then each (mark_in id id) (each (kept_in id (write
+        ensures root { is_none result ≡ ((row_at self.old id).root == id) }
+        ensures view { IfSome result (λ at. at ≡ shown_of id (row_at self.old id)) }
+        ensures put { self.new ≡ if is_none result then each (mark_in id id) (each (kept_in id (write
             (in_order (size_of (row_at self.old id).triple.dims))
             values.now
             (row_at self.old id).kept)) self.old) else self.old }
-        ensures counted { steps.new ≡ steps.old + (if result then length values.now else 0) }
+        ensures counted { steps.new
+            ≡ steps.old + (if is_none result then length values.now else 0) }
     {
         let key = self.keys[id];
-        if self.nodes[key].root() != id {
-            return false;
+        let node = &self.nodes[key];
+        if node.root() != id {
+            return Some(node.shown(id));
         }
         self.nodes[key].put_in_order(values, steps);
         mark_at(&self.keys, &mut self.nodes, &mut self.marked, id, id, key);
-        true
+        None
     }
 
     /// The oldest live number from this one on.

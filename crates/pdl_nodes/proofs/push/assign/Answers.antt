@@ -35,8 +35,8 @@ assigned_itself rs new v vs o a h f e n =
 pub assign_root-requires-clause-buffered : goal.assign_root-requires-clause-buffered
 assign_root-requires-clause-buffered g c = λ e. root_buffered c.args.table.now c.requires.order.still c.args.id c.requires.live e
 
-pub returns-then-assign_root-clause-assigned : goal.returns-then-assign_root-clause-assigned
-returns-then-assign_root-clause-assigned g c = (assigned_itself c.args.table.now c.assign_root.new.self c.args.id c.args.values.now c.requires.order c.requires.known c.requires.live c.requires.fresh (eqb-true (row_at c.args.table.now c.args.id).root c.args.id (sym c.if-assign_root.ensures.root)) c.if-assign_root.ensures.put).0
+pub returns-in-None-clause-assigned : goal.returns-in-None-clause-assigned
+returns-in-None-clause-assigned g c = (assigned_itself c.args.table.now c.assign_root.new.self c.args.id c.args.values.now c.requires.order c.requires.known c.requires.live c.requires.fresh (eqb-true (row_at c.args.table.now c.args.id).root c.args.id (sym c.in-None.ensures.root)) c.in-None.ensures.put).0
 
-pub returns-then-assign_root-clause-waits : goal.returns-then-assign_root-clause-waits
-returns-then-assign_root-clause-waits g c = (assigned_itself c.args.table.now c.assign_root.new.self c.args.id c.args.values.now c.requires.order c.requires.known c.requires.live c.requires.fresh (eqb-true (row_at c.args.table.now c.args.id).root c.args.id (sym c.if-assign_root.ensures.root)) c.if-assign_root.ensures.put).1
+pub returns-in-None-clause-waits : goal.returns-in-None-clause-waits
+returns-in-None-clause-waits g c = (assigned_itself c.args.table.now c.assign_root.new.self c.args.id c.args.values.now c.requires.order c.requires.known c.requires.live c.requires.fresh (eqb-true (row_at c.args.table.now c.args.id).root c.args.id (sym c.in-None.ensures.root)) c.in-None.ensures.put).1

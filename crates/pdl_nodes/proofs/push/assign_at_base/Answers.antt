@@ -1,6 +1,7 @@
 use Rattle.std.proofs.Common.{◌≡◌, ℕ, Bool, Option, Some, None, true, false, All, is_some, sym, ◌∙◌, ap, subst}
 use Rattle.pdl_elem.specs.declared.Ty.{Ty}
 use Rattle.pdl_elem.specs.Types.{InRange}
+use Rattle.pdl_nodes.specs.declared.node.Shown.{Shown}
 use Rattle.pdl_nodes.specs.Row.{Row, is_buffered}
 use Rattle.pdl_nodes.specs.Rows.{row_at, has, each}
 use Rattle.pdl_nodes.specs.Changes.{mark_in, wait_in}
@@ -18,49 +19,49 @@ none_not : (o : Option ℕ) (b : Bool) → is_some o ≡ not b → b ≡ false �
 none_not o b e f n = let c : false ≡ true = sym (ap is_some n) ∙ e ∙ ap not f in cc
 
 pub put_through-requires-clause-live : goal.put_through-requires-clause-live
-put_through-requires-clause-live g c = (liftable c.args.table.now c.args.root c.args.base c.requires.through.order c.requires.known c.requires.through.root c.requires.view (base_facts c.args.table.now c.args.root c.args.base c.args.id c.requires.through.order c.requires.through.root c.requires.through.live c.requires.through.base_is c.requires.through.root_is c.requires.through.marked).root_is c.requires.through.marked).live
+put_through-requires-clause-live g c = (liftable c.args.table.now c.args.at.now.root c.args.at.now.base c.requires.through.order c.requires.known c.requires.through.root c.requires.view (base_facts c.args.table.now c.args.at.now.root c.args.at.now.base c.args.at.now.id c.requires.through.order c.requires.through.root c.requires.through.live c.requires.through.base_is c.requires.through.root_is c.requires.through.marked).root_is c.requires.through.marked).live
 
 pub put_through-requires-clause-found : goal.put_through-requires-clause-found
-put_through-requires-clause-found g c = (liftable c.args.table.now c.args.root c.args.base c.requires.through.order c.requires.known c.requires.through.root c.requires.view (base_facts c.args.table.now c.args.root c.args.base c.args.id c.requires.through.order c.requires.through.root c.requires.through.live c.requires.through.base_is c.requires.through.root_is c.requires.through.marked).root_is c.requires.through.marked).found
+put_through-requires-clause-found g c = (liftable c.args.table.now c.args.at.now.root c.args.at.now.base c.requires.through.order c.requires.known c.requires.through.root c.requires.view (base_facts c.args.table.now c.args.at.now.root c.args.at.now.base c.args.at.now.id c.requires.through.order c.requires.through.root c.requires.through.live c.requires.through.base_is c.requires.through.root_is c.requires.through.marked).root_is c.requires.through.marked).found
 
 pub put_through-requires-clause-buffered : goal.put_through-requires-clause-buffered
-put_through-requires-clause-buffered g c = mark_buffered (row_at c.args.table.now c.args.base) c.requires.through.marked
+put_through-requires-clause-buffered g c = mark_buffered (row_at c.args.table.now c.args.at.now.base) c.requires.through.marked
 
 pub put_through-requires-clause-in_range : goal.put_through-requires-clause-in_range
 put_through-requires-clause-in_range g c =
-    let s : IsSeen c.args.table.now c.args.id = is_seen c.args.table.now c.requires.through.order.still c.args.id c.requires.through.live in
-    let y : (row_at c.args.table.now c.args.id).ty ≡ (row_at c.args.table.now c.args.base).ty = sym s.base_ty ∙ ap (λ b. (row_at c.args.table.now b).ty) c.requires.through.base_is in
+    let s : IsSeen c.args.table.now c.args.at.now.id = is_seen c.args.table.now c.requires.through.order.still c.args.at.now.id c.requires.through.live in
+    let y : (row_at c.args.table.now c.args.at.now.id).ty ≡ (row_at c.args.table.now c.args.at.now.base).ty = sym s.base_ty ∙ ap (λ b. (row_at c.args.table.now b).ty) c.requires.through.base_is in
     subst (λ (y : Ty). All (InRange y) c.args.values.now) y c.requires.in_range
 
-pub node-requires-2 : goal.node-requires-2
-node-requires-2 g c = record { live = ap (λ t. has t c.args.root) c.put_through.ensures.value ∙ each_has _ c.args.table.now c.args.root ∙ c.requires.through.root.0 }
+pub node-requires : goal.node-requires
+node-requires g c = record { live = ap (λ t. has t c.args.at.now.root) c.put_through.ensures.value ∙ each_has _ c.args.table.now c.args.at.now.root ∙ c.requires.through.root.0 }
 
 pub mark-requires-clause-root : goal.mark-requires-clause-root
-mark-requires-clause-root g c = ap (λ t. has t c.args.root) c.put_through.ensures.value ∙ each_has _ c.args.table.now c.args.root ∙ c.requires.through.root.0
+mark-requires-clause-root g c = ap (λ t. has t c.args.at.now.root) c.put_through.ensures.value ∙ each_has _ c.args.table.now c.args.at.now.root ∙ c.requires.through.root.0
 
 pub mark-requires-clause-live : goal.mark-requires-clause-live
-mark-requires-clause-live g c = ap (λ t. has t c.args.base) c.put_through.ensures.value ∙ each_has _ c.args.table.now c.args.base ∙ (base_facts c.args.table.now c.args.root c.args.base c.args.id c.requires.through.order c.requires.through.root c.requires.through.live c.requires.through.base_is c.requires.through.root_is c.requires.through.marked).live
+mark-requires-clause-live g c = ap (λ t. has t c.args.at.now.base) c.put_through.ensures.value ∙ each_has _ c.args.table.now c.args.at.now.base ∙ (base_facts c.args.table.now c.args.at.now.root c.args.at.now.base c.args.at.now.id c.requires.through.order c.requires.through.root c.requires.through.live c.requires.through.base_is c.requires.through.root_is c.requires.through.marked).live
 
 pub mark-requires-clause-family : goal.mark-requires-clause-family
-mark-requires-clause-family g c = ap (λ t. (row_at t c.args.base).root) c.put_through.ensures.value ∙ ap (λ (r : Row). r.root) (each_at _ c.args.table.now c.args.base (base_facts c.args.table.now c.args.root c.args.base c.args.id c.requires.through.order c.requires.through.root c.requires.through.live c.requires.through.base_is c.requires.through.root_is c.requires.through.marked).live) ∙ (base_facts c.args.table.now c.args.root c.args.base c.args.id c.requires.through.order c.requires.through.root c.requires.through.live c.requires.through.base_is c.requires.through.root_is c.requires.through.marked).root_is
+mark-requires-clause-family g c = ap (λ t. (row_at t c.args.at.now.base).root) c.put_through.ensures.value ∙ ap (λ (r : Row). r.root) (each_at _ c.args.table.now c.args.at.now.base (base_facts c.args.table.now c.args.at.now.root c.args.at.now.base c.args.at.now.id c.requires.through.order c.requires.through.root c.requires.through.live c.requires.through.base_is c.requires.through.root_is c.requires.through.marked).live) ∙ (base_facts c.args.table.now c.args.at.now.root c.args.at.now.base c.args.at.now.id c.requires.through.order c.requires.through.root c.requires.through.live c.requires.through.base_is c.requires.through.root_is c.requires.through.marked).root_is
 
 pub mark-requires-clause-marked : goal.mark-requires-clause-marked
-mark-requires-clause-marked g c = λ n. ap (λ t. (row_at t c.args.base).mark) c.put_through.ensures.value ∙ ap (λ (r : Row). r.mark) (each_at _ c.args.table.now c.args.base (base_facts c.args.table.now c.args.root c.args.base c.args.id c.requires.through.order c.requires.through.root c.requires.through.live c.requires.through.base_is c.requires.through.root_is c.requires.through.marked).live) ∙ c.requires.through.marked
+mark-requires-clause-marked g c = λ n. ap (λ t. (row_at t c.args.at.now.base).mark) c.put_through.ensures.value ∙ ap (λ (r : Row). r.mark) (each_at _ c.args.table.now c.args.at.now.base (base_facts c.args.table.now c.args.at.now.root c.args.at.now.base c.args.at.now.id c.requires.through.order c.requires.through.root c.requires.through.live c.requires.through.base_is c.requires.through.root_is c.requires.through.marked).live) ∙ c.requires.through.marked
 
 pub mark-requires-clause-buffered : goal.mark-requires-clause-buffered
-mark-requires-clause-buffered g c = ap (λ t. is_buffered (row_at t c.args.base)) c.put_through.ensures.value ∙ ap is_buffered (each_at _ c.args.table.now c.args.base (base_facts c.args.table.now c.args.root c.args.base c.args.id c.requires.through.order c.requires.through.root c.requires.through.live c.requires.through.base_is c.requires.through.root_is c.requires.through.marked).live) ∙ mark_buffered (row_at c.args.table.now c.args.base) c.requires.through.marked
+mark-requires-clause-buffered g c = ap (λ t. is_buffered (row_at t c.args.at.now.base)) c.put_through.ensures.value ∙ ap is_buffered (each_at _ c.args.table.now c.args.at.now.base (base_facts c.args.table.now c.args.at.now.root c.args.at.now.base c.args.at.now.id c.requires.through.order c.requires.through.root c.requires.through.live c.requires.through.base_is c.requires.through.root_is c.requires.through.marked).live) ∙ mark_buffered (row_at c.args.table.now c.args.at.now.base) c.requires.through.marked
 
 pub set_waiting-requires : goal.set_waiting-requires
-set_waiting-requires g c = record { live = ap (λ t. has t c.args.root) (c.mark.ensures ∙ ap (each _) c.put_through.ensures.value) ∙ each_has _ _ c.args.root ∙ each_has _ c.args.table.now c.args.root ∙ c.requires.through.root.0 }
+set_waiting-requires g c = record { live = ap (λ t. has t c.args.at.now.root) (c.mark.ensures ∙ ap (each _) c.put_through.ensures.value) ∙ each_has _ _ c.args.at.now.root ∙ each_has _ c.args.table.now c.args.at.now.root ∙ c.requires.through.root.0 }
 
 pub returns-then-is_none-clause-awaits : goal.returns-then-is_none-clause-awaits
 returns-then-is_none-clause-awaits g c =
-    c.set_waiting.ensures ∙ ap (each (wait_in c.args.root (Some c.args.base))) (c.mark.ensures ∙ ap (each (mark_in c.args.root c.args.base)) c.put_through.ensures.value)
-    ∙ based_all c.args.table.now c.args.root c.args.base _ c.requires.through.order.still (base_facts c.args.table.now c.args.root c.args.base c.args.id c.requires.through.order c.requires.through.root c.requires.through.live c.requires.through.base_is c.requires.through.root_is c.requires.through.marked).root_is
-    ∙ ap (λ ks. each (await c.args.root c.args.base ks) c.args.table.now) (through_known c.args.table.now c.args.root c.args.base c.args.id c.copy_triple-triple.result c.args.values.now (liftable c.args.table.now c.args.root c.args.base c.requires.through.order c.requires.known c.requires.through.root c.requires.view (base_facts c.args.table.now c.args.root c.args.base c.args.id c.requires.through.order c.requires.through.root c.requires.through.live c.requires.through.base_is c.requires.through.root_is c.requires.through.marked).root_is c.requires.through.marked) c.requires.through.base_is (c.copy_triple-triple.ensures ∙ c.triple.ensures ∙ ap (λ (r : Row). r.triple) c.node.ensures))
+    c.set_waiting.ensures ∙ ap (each (wait_in c.args.at.now.root (Some c.args.at.now.base))) (c.mark.ensures ∙ ap (each (mark_in c.args.at.now.root c.args.at.now.base)) c.put_through.ensures.value)
+    ∙ based_all c.args.table.now c.args.at.now.root c.args.at.now.base _ c.requires.through.order.still (base_facts c.args.table.now c.args.at.now.root c.args.at.now.base c.args.at.now.id c.requires.through.order c.requires.through.root c.requires.through.live c.requires.through.base_is c.requires.through.root_is c.requires.through.marked).root_is
+    ∙ ap (λ ks. each (await c.args.at.now.root c.args.at.now.base ks) c.args.table.now) (through_known c.args.table.now c.args.at.now.root c.args.at.now.base c.args.at.now.id c.args.at.now.triple c.args.values.now (liftable c.args.table.now c.args.at.now.root c.args.at.now.base c.requires.through.order c.requires.known c.requires.through.root c.requires.view (base_facts c.args.table.now c.args.at.now.root c.args.at.now.base c.args.at.now.id c.requires.through.order c.requires.through.root c.requires.through.live c.requires.through.base_is c.requires.through.root_is c.requires.through.marked).root_is c.requires.through.marked) c.requires.through.base_is (ap (λ (s : Shown). s.triple) c.requires.shown))
 
-pub returns-clause-awaits : goal.returns-clause-awaits
-returns-clause-awaits g c =
+pub returns-else-is_none-clause-awaits : goal.returns-else-is_none-clause-awaits
+returns-else-is_none-clause-awaits g c =
     c.put_through.ensures.value
-    ∙ again_all c.args.table.now c.args.root c.args.base _ c.requires.through.order c.requires.through.root c.requires.through.marked (base_facts c.args.table.now c.args.root c.args.base c.args.id c.requires.through.order c.requires.through.root c.requires.through.live c.requires.through.base_is c.requires.through.root_is c.requires.through.marked).root_is (λ e. none_not c.waiting.result c.is_none.result c.is_none.ensures c.if-is_none.false (c.waiting.ensures ∙ ap (λ (r : Row). r.waiting) c.node-2.ensures ∙ ap (λ t. (row_at t c.args.root).waiting) c.put_through.ensures.value ∙ ap (λ (r : Row). r.waiting) (each_at _ c.args.table.now c.args.root c.requires.through.root.0) ∙ e))
-    ∙ ap (λ ks. each (await c.args.root c.args.base ks) c.args.table.now) (through_known c.args.table.now c.args.root c.args.base c.args.id c.copy_triple-triple.result c.args.values.now (liftable c.args.table.now c.args.root c.args.base c.requires.through.order c.requires.known c.requires.through.root c.requires.view (base_facts c.args.table.now c.args.root c.args.base c.args.id c.requires.through.order c.requires.through.root c.requires.through.live c.requires.through.base_is c.requires.through.root_is c.requires.through.marked).root_is c.requires.through.marked) c.requires.through.base_is (c.copy_triple-triple.ensures ∙ c.triple.ensures ∙ ap (λ (r : Row). r.triple) c.node.ensures))
+    ∙ again_all c.args.table.now c.args.at.now.root c.args.at.now.base _ c.requires.through.order c.requires.through.root c.requires.through.marked (base_facts c.args.table.now c.args.at.now.root c.args.at.now.base c.args.at.now.id c.requires.through.order c.requires.through.root c.requires.through.live c.requires.through.base_is c.requires.through.root_is c.requires.through.marked).root_is (λ e. none_not c.waiting.result c.is_none.result c.is_none.ensures c.if-is_none.false (c.waiting.ensures ∙ ap (λ (r : Row). r.waiting) c.node.ensures ∙ ap (λ t. (row_at t c.args.at.now.root).waiting) c.put_through.ensures.value ∙ ap (λ (r : Row). r.waiting) (each_at _ c.args.table.now c.args.at.now.root c.requires.through.root.0) ∙ e))
+    ∙ ap (λ ks. each (await c.args.at.now.root c.args.at.now.base ks) c.args.table.now) (through_known c.args.table.now c.args.at.now.root c.args.at.now.base c.args.at.now.id c.args.at.now.triple c.args.values.now (liftable c.args.table.now c.args.at.now.root c.args.at.now.base c.requires.through.order c.requires.known c.requires.through.root c.requires.view (base_facts c.args.table.now c.args.at.now.root c.args.at.now.base c.args.at.now.id c.requires.through.order c.requires.through.root c.requires.through.live c.requires.through.base_is c.requires.through.root_is c.requires.through.marked).root_is c.requires.through.marked) c.requires.through.base_is (ap (λ (s : Shown). s.triple) c.requires.shown))

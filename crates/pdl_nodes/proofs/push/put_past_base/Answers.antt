@@ -2,6 +2,7 @@ use Rattle.std.proofs.Common.{◌≡◌, ℕ, List, Option, All, sym, ◌∙◌,
 use Rattle.pdl_elem.specs.declared.Ty.{Ty}
 use Rattle.pdl_elem.specs.Types.{InRange}
 use Rattle.pdl_shape.specs.Places.{write}
+use Rattle.pdl_nodes.specs.declared.node.Shown.{Shown}
 use Rattle.pdl_nodes.specs.Row.{Row}
 use Rattle.pdl_nodes.specs.Rows.{row_at, each}
 use Rattle.pdl_nodes.specs.Changes.{kept_in}
@@ -13,17 +14,17 @@ use Rattle.pdl_nodes.proofs.Seens.{IsSeen, is_seen}
 use Rattle.pdl_nodes.proofs.push.put_past_base.Goals as goal
 
 pub put_past-requires-clause-view : goal.put_past-requires-clause-view
-put_past-requires-clause-view g c = liftable c.args.table.now c.args.root c.args.base c.requires.order c.requires.known c.requires.root c.requires.view (base_root c.args.table.now c.args.root c.args.base c.args.id c.requires.order c.requires.live c.requires.over c.requires.family) c.requires.marked
+put_past-requires-clause-view g c = liftable c.args.table.now c.args.at.now.root c.args.at.now.base c.requires.order c.requires.known c.requires.root c.requires.view (base_root c.args.table.now c.args.at.now.root c.args.at.now.base c.args.at.now.id c.requires.order c.requires.live (sym (ap (λ (s : Shown). s.base) c.requires.shown)) (sym (ap (λ (s : Shown). s.root) c.requires.shown))) c.requires.marked
 
 pub put_past-requires-clause-in_range : goal.put_past-requires-clause-in_range
 put_past-requires-clause-in_range g c =
-    let s : IsSeen c.args.table.now c.args.id = is_seen c.args.table.now c.requires.order.still c.args.id c.requires.live in
-    let y : (row_at c.args.table.now c.args.id).ty ≡ (row_at c.args.table.now c.args.root).ty = sym s.root_ty ∙ ap (λ b. (row_at c.args.table.now b).ty) c.requires.family in
+    let s : IsSeen c.args.table.now c.args.at.now.id = is_seen c.args.table.now c.requires.order.still c.args.at.now.id c.requires.live in
+    let y : (row_at c.args.table.now c.args.at.now.id).ty ≡ (row_at c.args.table.now c.args.at.now.root).ty = sym s.root_ty ∙ ap (λ b. (row_at c.args.table.now b).ty) (sym (ap (λ (s : Shown). s.root) c.requires.shown)) in
     subst (λ (y : Ty). All (InRange y) c.args.values.now) y c.requires.in_range
 
 pub returns-clause-put : goal.returns-clause-put
 returns-clause-put g c =
-    let l : IsLiftable c.args.table.now c.args.root c.args.base = liftable c.args.table.now c.args.root c.args.base c.requires.order c.requires.known c.requires.root c.requires.view (base_root c.args.table.now c.args.root c.args.base c.args.id c.requires.order c.requires.live c.requires.over c.requires.family) c.requires.marked in
-    c.put_past.ensures.put ∙ ap (λ (ps : List (Option ℕ)). each (kept_in c.args.root (write ps c.args.values.now (row_at c.args.table.now c.args.root).kept)) c.args.table.now)
-    (ap (placed_by (row_at c.args.table.now c.args.base).places) (c.copy_triple-triple.ensures ∙ c.triple.ensures ∙ ap (λ (r : Row). r.triple) c.node.ensures)
-    ∙ over_found c.args.table.now c.args.base c.args.id (row_at c.args.table.now c.args.base).places c.requires.order.still c.requires.live c.requires.over l.found l.places)
+    let l : IsLiftable c.args.table.now c.args.at.now.root c.args.at.now.base = liftable c.args.table.now c.args.at.now.root c.args.at.now.base c.requires.order c.requires.known c.requires.root c.requires.view (base_root c.args.table.now c.args.at.now.root c.args.at.now.base c.args.at.now.id c.requires.order c.requires.live (sym (ap (λ (s : Shown). s.base) c.requires.shown)) (sym (ap (λ (s : Shown). s.root) c.requires.shown))) c.requires.marked in
+    c.put_past.ensures.put ∙ ap (λ (ps : List (Option ℕ)). each (kept_in c.args.at.now.root (write ps c.args.values.now (row_at c.args.table.now c.args.at.now.root).kept)) c.args.table.now)
+    (ap (placed_by (row_at c.args.table.now c.args.at.now.base).places) (ap (λ (s : Shown). s.triple) c.requires.shown)
+    ∙ over_found c.args.table.now c.args.at.now.base c.args.at.now.id (row_at c.args.table.now c.args.at.now.base).places c.requires.order.still c.requires.live (sym (ap (λ (s : Shown). s.base) c.requires.shown)) l.found l.places)

@@ -6,7 +6,7 @@ use Rattle.pdl_shape.specs.Shape.{size_of}
 use Rattle.pdl_nodes.specs.Changes.{kept_in, mark_in}
 use Rattle.pdl_nodes.specs.Numbered.{value_at}
 use Rattle.pdl_nodes.specs.Placed.{in_order}
-use Rattle.pdl_nodes.specs.Row.{Row, is_buffered}
+use Rattle.pdl_nodes.specs.Row.{Row, is_buffered, shown_of}
 use Rattle.pdl_nodes.specs.Rows.{Rows, each, has, row_at}
 use Rattle.pdl_nodes.specs.Table.{IsTable, rows_of}
 use Rattle.pdl_nodes.proofs.Calls.{has_key, node_is, changed_one}
@@ -33,20 +33,25 @@ index-key-requires g c = has_key c.args.self.now c.self.inside.keys c.self.insid
 -- a view
 pub returns-then-root-id-clause-root : goal.returns-then-root-id-clause-root
 returns-then-root-id-clause-root g c =
-    let row : c.index.result.now ≡ row_at c.args.self.now c.args.id = node_is c.args.self.now c.self.inside.keys c.self.inside.nodes c.args.id c.index-key.result.now c.index.result.now c.self.view_is c.self.invariant.0.0 c.index-key.ensures c.index.ensures in
+    let row : c.index-node.result.now ≡ row_at c.args.self.now c.args.id = node_is c.args.self.now c.self.inside.keys c.self.inside.nodes c.args.id c.index-key.result.now c.index-node.result.now c.self.view_is c.self.invariant.0.0 c.index-key.ensures c.index-node.ensures in
     sym (differ (row_at c.args.self.now c.args.id).root c.args.id (λ e. c.if-root-id.true (c.root.ensures ∙ ap (λ (r : Row). r.root) row ∙ e)))
+
+pub returns-then-root-id-clause-view : goal.returns-then-root-id-clause-view
+returns-then-root-id-clause-view g c =
+    let row : c.index-node.result.now ≡ row_at c.args.self.now c.args.id = node_is c.args.self.now c.self.inside.keys c.self.inside.nodes c.args.id c.index-key.result.now c.index-node.result.now c.self.view_is c.self.invariant.0.0 c.index-key.ensures c.index-node.ensures in
+    c.shown.ensures ∙ ap (shown_of c.args.id) row
 
 -- a root
 root_is : (t : Rows) (id root : ℕ) (r : Row) → r ≡ row_at t id → root ≡ r.root → root ≡ id → (row_at t id).root ≡ id
 root_is t id root r e g h = ap (λ (r : Row). r.root) (sym e) ∙ sym g ∙ h
 
 pub returns-clause-root : goal.returns-clause-root
-returns-clause-root g c = sym (same (row_at c.args.self.now c.args.id).root c.args.id (root_is c.args.self.now c.args.id c.root.result c.index.result.now (node_is c.args.self.now c.self.inside.keys c.self.inside.nodes c.args.id c.index-key.result.now c.index.result.now c.self.view_is c.self.invariant.0.0 c.index-key.ensures c.index.ensures) c.root.ensures c.if-root-id.false))
+returns-clause-root g c = sym (same (row_at c.args.self.now c.args.id).root c.args.id (root_is c.args.self.now c.args.id c.root.result c.index-node.result.now (node_is c.args.self.now c.self.inside.keys c.self.inside.nodes c.args.id c.index-key.result.now c.index-node.result.now c.self.view_is c.self.invariant.0.0 c.index-key.ensures c.index-node.ensures) c.root.ensures c.if-root-id.false))
 
 pub put_in_order-requires-clause-buffered : goal.put_in_order-requires-clause-buffered
 put_in_order-requires-clause-buffered g c =
-    let row : c.index.result.now ≡ row_at c.args.self.now c.args.id = node_is c.args.self.now c.self.inside.keys c.self.inside.nodes c.args.id c.index-key.result.now c.index.result.now c.self.view_is c.self.invariant.0.0 c.index-key.ensures c.index.ensures in
-    ap is_buffered (node_is c.args.self.now c.self.inside.keys c.self.inside.nodes c.args.id c.index-key.result.now c.index_mut.result.now c.self.view_is c.self.invariant.0.0 c.index-key.ensures c.index_mut.ensures.value) ∙ c.requires.buffered (root_is c.args.self.now c.args.id c.root.result c.index.result.now row c.root.ensures c.if-root-id.false)
+    let row : c.index-node.result.now ≡ row_at c.args.self.now c.args.id = node_is c.args.self.now c.self.inside.keys c.self.inside.nodes c.args.id c.index-key.result.now c.index-node.result.now c.self.view_is c.self.invariant.0.0 c.index-key.ensures c.index-node.ensures in
+    ap is_buffered (node_is c.args.self.now c.self.inside.keys c.self.inside.nodes c.args.id c.index-key.result.now c.index_mut.result.now c.self.view_is c.self.invariant.0.0 c.index-key.ensures c.index_mut.ensures.value) ∙ c.requires.buffered (root_is c.args.self.now c.args.id c.root.result c.index-node.result.now row c.root.ensures c.if-root-id.false)
 
 pub put_in_order-requires-clause-in_range : goal.put_in_order-requires-clause-in_range
 put_in_order-requires-clause-in_range g c = subst (λ (r : Row). All (InRange r.ty) c.args.values.now) (sym (node_is c.args.self.now c.self.inside.keys c.self.inside.nodes c.args.id c.index-key.result.now c.index_mut.result.now c.self.view_is c.self.invariant.0.0 c.index-key.ensures c.index_mut.ensures.value)) c.requires.in_range
@@ -56,8 +61,8 @@ put_in_order-requires-clause-paired g c = c.requires.paired ∙ ap (λ (r : Row)
 
 pub mark_at-requires : goal.mark_at-requires
 mark_at-requires g c =
-    let row : c.index.result.now ≡ row_at c.args.self.now c.args.id = node_is c.args.self.now c.self.inside.keys c.self.inside.nodes c.args.id c.index-key.result.now c.index.result.now c.self.view_is c.self.invariant.0.0 c.index-key.ensures c.index.ensures in
-    let own : (row_at c.args.self.now c.args.id).root ≡ c.args.id = root_is c.args.self.now c.args.id c.root.result c.index.result.now row c.root.ensures c.if-root-id.false in
+    let row : c.index-node.result.now ≡ row_at c.args.self.now c.args.id = node_is c.args.self.now c.self.inside.keys c.self.inside.nodes c.args.id c.index-key.result.now c.index-node.result.now c.self.view_is c.self.invariant.0.0 c.index-key.ensures c.index-node.ensures in
+    let own : (row_at c.args.self.now c.args.id).root ≡ c.args.id = root_is c.args.self.now c.args.id c.root.result c.index-node.result.now row c.root.ensures c.if-root-id.false in
     let f : ℕ → Row → Row = put_in c.args.self.now c.args.id c.args.values.now in
     let e = put_rows c.args.self.now c.self.inside.keys c.self.inside.nodes c.args.id c.index-key.result.now c.index_mut.result.now c.put_in_order.new.self c.args.values.now c.self.view_is c.self.invariant.0.0 c.index-key.ensures c.index_mut.ensures.value c.put_in_order.ensures.value in
     let kept = one_kept f c.args.self.now c.self.inside.keys c.self.inside.nodes c.self.inside.marked c.args.id c.index-key.result.now c.put_in_order.new.self c.self.view_is c.self.invariant.0 c.index-key.ensures e (record { marks = λ v r h. h; roots = λ v r. refl }) in
