@@ -9,6 +9,8 @@ mod broadcast;
 #[cfg(test)]
 mod buf;
 #[cfg(test)]
+mod code;
+#[cfg(test)]
 mod comparing;
 #[cfg(test)]
 mod elem;
