@@ -1,27 +1,33 @@
 -- Arguments are evaluated one after another.
-use Rattle.std.proofs.Common.{◌≡◌, ℕ, zero, suc, ◌+◌, ◌<◌, ◌≤◌, List, [], ◌∷◌, ◌++◌, length, take, drop, Ok, Err, refl, sym, ap, ◌∙◌, arith, Vec, Global}
-use Rattle.std.specs.Prelude.{slice_index_or}
+use Rattle.std.proofs.Common.{◌≡◌, ℕ, zero, suc, ◌+◌, ◌<◌, ◌≤◌, List, [], ◌∷◌, ◌++◌, length, take, drop, Option, Some, Ok, Err, refl, sym, ap, ap₂, subst, ◌∙◌, arith, Vec, Global}
+use Rattle.std.specs.Prelude.{Box, slice_index_or}
 use Rattle.std.proofs.lemmas.List.{take_more, take-append-drop}
 use Rattle.pdl_world.specs.World.{World}
 use Rattle.pdl_world.specs.Sound.{IsLive}
+use Rattle.pdl_buf.specs.declared.made.Made.{Made}
+use Rattle.pdl_elem.specs.declared.UnaryOp.{UnaryOp}
+use Rattle.pdl_elem.specs.declared.BinaryOp.{BinaryOp}
 use Rattle.pdl_syntax.specs.declared.tree.Arg.{Arg, Value, Str, OfType}
-use Rattle.pdl_syntax.specs.declared.tree.Expr.{Expr, Call}
+use Rattle.pdl_syntax.specs.declared.tree.Expr.{Expr, Named, List as Listed, Unary, Binary, Call}
 use Rattle.pdl_syntax.specs.Tree.{Tree, Args, number, named, literal, unary, binary, call, none, value, text, of_type}
 use Rattle.pdl_syntax.specs.TreeOf.{tree_of, args_of, argument_of}
 use Rattle.pdl_syntax.specs.WellMade.{AreArgArrays}
 use Rattle.pdl_machine.specs.declared.fault.Fault.{Fault}
-use Rattle.pdl_machine.specs.Names.{Names}
-use Rattle.pdl_machine.specs.Arrays.{Arrays}
+use Rattle.pdl_machine.specs.Names.{Names, number_of}
+use Rattle.pdl_ops.specs.Elementwise.{unary_each}
+use Rattle.pdl_machine.specs.Operators.{binary_each}
+use Rattle.pdl_machine.specs.Arrays.{Arrays, array_in}
 use Rattle.pdl_machine.specs.Then.{and_then}
-use Rattle.pdl_machine.specs.Outcome.{Given as Argument, Valued}
+use Rattle.pdl_machine.specs.Outcome.{Given as Argument, Valued, new_root}
 use Rattle.pdl_machine.specs.Calls.{call_value}
-use Rattle.pdl_machine.specs.Value.{Taken, value_of, taken}
+use Rattle.pdl_machine.specs.Value.{Taken, known, value_of, taken}
 use Rattle.pdl_scope.specs.declared.fault.StepFault.{StepFault}
 use Rattle.pdl_scope.specs.declared.fault.StepFault.TheVariants.{Script, NoMemory}
 use Rattle.pdl_scope.specs.Answers.{IsFault}
 use Rattle.pdl_session.specs.declared.given.Given.{Given}
 use Rattle.pdl_session.specs.declared.given.Given.TheVariants.{Array, Text, OfType as OfType'}
 use Rattle.pdl_session.specs.Arguments.{argument, arguments, IsGivenLive, AreGivenLive}
+use Rattle.pdl_session.proofs.Facts.{first_fault}
 
 abbrev pub with_given : Arrays → List Argument → Taken
 with_given a given = Ok (a, given)
@@ -65,6 +71,56 @@ call_is names mid a b f args given same h e k = ap called h ∙ ap (call_value n
 -- the tree of a call, by the law of such trees
 pub tree_is : (e : Expr) (f : List ℕ) (args : Vec Arg Global) (xs : List Arg) → tree_of (Call f args) ≡ call f (args_of args.items none) → e ≡ Call f args → xs ≡ args.items → tree_of e ≡ call f (args_of xs none)
 tree_is e f args xs law is items = ap tree_of is ∙ law ∙ ap (λ ys. call f (args_of ys none)) (sym items)
+
+-- the tree of an operator, by those of its operands
+pub unary_tree : (e x : Expr) (op : UnaryOp) (b : Box Expr Global) → e ≡ Unary op b → x ≡ b.value → tree_of e ≡ unary op (tree_of x)
+unary_tree e x op b is at = ap tree_of is ∙ ap (λ y. unary op (tree_of y)) (sym at)
+
+pub binary_tree : (e x y : Expr) (op : BinaryOp) (l r : Box Expr Global) → e ≡ Binary op l r → x ≡ l.value → y ≡ r.value → tree_of e ≡ binary op (tree_of x) (tree_of y)
+binary_tree e x y op l r is left right = ap tree_of is ∙ ap₂ (λ u v. binary op (tree_of u) (tree_of v)) (sym left) (sym right)
+
+-- what comes after an operand
+abbrev after_operand : UnaryOp → Arrays × ℕ → Valued
+after_operand op v = new_root v.0 (unary_each op (array_in v.0 v.1))
+
+abbrev after_right : BinaryOp → ℕ → Arrays × ℕ → Valued
+after_right op v u = and_then (binary_each op (array_in u.0 v) (array_in u.0 u.1)) (new_root u.0)
+
+abbrev after_left : Names → BinaryOp → Tree → Arrays × ℕ → Valued
+after_left names op t v = and_then (value_of names v.0 t) (after_right op v.1)
+
+-- the value of a name that is bound, and of a list
+pub named_is : (names : Names) (a : Arrays) (e : Expr) (x : List ℕ) (v : ℕ) (bound : Option ℕ) → e ≡ Named x → bound ≡ number_of names x → bound ≡ Some v → value_of names a (tree_of e) ≡ Ok (a, v)
+named_is names a e x v bound is looked found = ap (λ y. value_of names a (tree_of y)) is ∙ ap (known a) (sym looked ∙ found)
+
+pub list_is : (names : Names) (a : Arrays) (e : Expr) (m : Made) (b : Box Made Global) → e ≡ Listed b → m ≡ b.value → value_of names a (tree_of e) ≡ new_root a m
+list_is names a e m b is at = ap (λ y. value_of names a (tree_of y)) is ∙ ap (new_root a) (sym at)
+
+-- the value of an operator, by those of its operands
+pub unary_is : (names : Names) (a b : Arrays) (op : UnaryOp) (t s : Tree) (v : ℕ) → t ≡ unary op s → value_of names a s ≡ Ok (b, v) → value_of names a t ≡ after_operand op (b, v)
+unary_is names a b op t s v is h = ap (value_of names a) is ∙ ap (λ x. and_then x (after_operand op)) h
+
+pub binary_is : (names mid : Names) (a b d : Arrays) (op : BinaryOp) (t l r : Tree) (v u : ℕ) → t ≡ binary op l r → value_of names a l ≡ Ok (b, v) → mid ≡ names → value_of mid b r ≡ Ok (d, u)
+    → value_of names a t ≡ after_right op v (d, u)
+binary_is names mid a b d op t l r v u is first same second =
+    ap (value_of names a) is ∙ ap (λ x. and_then x (after_left names op r)) first ∙ ap (λ x. and_then x (after_right op v)) (ap (λ n. value_of n b r) (sym same) ∙ second)
+
+-- the fault of an operand is the operator's
+faults_as : (names : Names) (a : Arrays) (t s : Tree) (e : StepFault) → t ≡ s → IsFault (value_of names a s) e → IsFault (value_of names a t) e
+faults_as names a t s e is h = subst (λ y. IsFault (value_of names a y) e) (sym is) h
+
+pub unary_fault : (names : Names) (a : Arrays) (op : UnaryOp) (t s : Tree) (e : StepFault) → t ≡ unary op s → IsFault (value_of names a s) e → IsFault (value_of names a t) e
+unary_fault names a op t s e is h = faults_as names a t (unary op s) e is (first_fault (value_of names a s) (after_operand op) e h)
+
+pub left_fault : (names : Names) (a : Arrays) (op : BinaryOp) (t l r : Tree) (e : StepFault) → t ≡ binary op l r → IsFault (value_of names a l) e → IsFault (value_of names a t) e
+left_fault names a op t l r e is h = faults_as names a t (binary op l r) e is (first_fault (value_of names a l) (after_left names op r) e h)
+
+pub right_fault : (names mid : Names) (a b : Arrays) (op : BinaryOp) (t l r : Tree) (v : ℕ) (e : StepFault) → t ≡ binary op l r → value_of names a l ≡ Ok (b, v) → mid ≡ names → IsFault (value_of mid b r) e
+    → IsFault (value_of names a t) e
+right_fault names mid a b op t l r v e is first same h =
+    faults_as names a t (binary op l r) e is
+    (subst (λ x. IsFault x e) (sym (ap (λ x. and_then x (after_left names op r)) first))
+    (first_fault (value_of names b r) (after_right op v) e (subst (λ (n : Names). IsFault (value_of n b r) e) same h)))
 
 -- literals of one argument
 front_arrays : (rest : List Arg) (front : Args) → AreArgArrays (args_of rest front) → AreArgArrays front

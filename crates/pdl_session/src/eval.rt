@@ -21,7 +21,6 @@ use std::sync::ledger::Ledger;
 
 /// The array of an expression. New arrays may have come also where it is refused.
 #[cycle(eval)]
-#[tactic(auto, using(crate::proofs::Facts::grows_trans))]
 pub fn eval<L: Ledger>(
     scope: &mut Scope,
     value: &Expr,

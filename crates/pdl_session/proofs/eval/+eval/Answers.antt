@@ -1,4 +1,4 @@
-use Rattle.std.proofs.Common.{rules, ◌≡◌, [], ◌∷◌, ◌++◌, ◌+◌, ◌<◌, ◌≤◌, List, Ok, length, sym, ap, subst, ◌∙◌, arith, take}
+use Rattle.std.proofs.Common.{rules, ◌≡◌, [], ◌∷◌, ◌++◌, ◌+◌, ◌<◌, ◌≤◌, List, Ok, length, refl, sym, ap, subst, ◌∙◌, arith, take}
 use Rattle.pdl_syntax.specs.declared.tree.Arg.{Arg}
 use Rattle.pdl_syntax.specs.Tree.{Tree, none, call}
 use Rattle.pdl_syntax.specs.TreeOf.{tree_of, args_of, argument_of}
@@ -11,7 +11,7 @@ use Rattle.pdl_session.specs.declared.given.Given.{Given}
 use Rattle.pdl_scope.specs.Answers.{IsFault, Evaluates}
 use Rattle.pdl_session.specs.Arguments.{argument, arguments, AreGivenLive}
 use Rattle.pdl_session.proofs.Facts.{hands_on, handed_on, first_fault, grows_trans}
-use Rattle.pdl_session.proofs.Evals.{fault_at, arrays_at, weight, weights, weights_at, tree_is, with_given, call_is, arguments_snoc, live_snoc, given_still, args_more}
+use Rattle.pdl_session.proofs.Evals.{fault_at, arrays_at, weight, weights, weights_at, named_is, list_is, unary_tree, binary_tree, unary_is, binary_is, unary_fault, left_fault, right_fault, tree_is, with_given, call_is, arguments_snoc, live_snoc, given_still, args_more}
 use Rattle.pdl_session.proofs.eval.+eval.Goals as goal
 
 pub eval-take-requires : goal.eval-take-requires
@@ -45,6 +45,93 @@ eval-returns-in_err-given-in-Call-clause-value g t c =
     let all : IsFault (taken names a (args_of xs none)) f = c.in_err-given-in-Call.ensures.value a none (ap (λ gs. with_given a (arguments gs)) (sym c.new-none.ensures.items)) in
     let h : IsFault (value_of names a (tree_of c.args.value.now)) f = subst (λ (x : Tree). IsFault (value_of names a x) f) (sym e) (first_fault (taken names a (args_of xs none)) (λ x. call_value names c.in-Call.name x.0 x.1) f all) in
     hands_on _ c.take.new.scope f c.from_residual-in_err-given-in-Call.result c.from_residual-in_err-given-in-Call.ensures.1 h
+
+pub eval-returns-in-Some-clause-value : goal.eval-returns-in-Some-clause-value
+eval-returns-in-Some-clause-value g t c =
+    (named_is c.args.scope.now.names c.args.scope.now.arrays c.args.value.now _ c.in-Some.id c.number_of.result c.in-Named.is c.number_of.ensures.number c.in-Some.is, c.in-Some.ensures.live)
+
+pub eval-returns-in-List-clause-value : goal.eval-returns-in-List-clause-value
+eval-returns-in-List-clause-value g t c =
+    let e = list_is c.args.scope.now.names c.args.scope.now.arrays c.args.value.now c.deref.result.now _ c.in-List.is c.deref.ensures in
+    subst (λ (x : Valued). Evaluates x c.make_like.new.self c.make_like.result) (sym e) c.make_like.ensures.value
+
+pub eval-eval-requires : goal.eval-eval-requires
+eval-eval-requires g t c =
+    let e = unary_tree c.args.value.now c.deref-in-Unary.result.now c.in-Unary.op _ c.in-Unary.is c.deref-in-Unary.ensures in
+    let w = ap weight e in
+    λ κs within. (search (rules, w), (within, subst AreArrays e c.requires))
+
+pub eval-returns-in_ok-operand-in-Unary-clause-value : goal.eval-returns-in_ok-operand-in-Unary-clause-value
+eval-returns-in_ok-operand-in-Unary-clause-value g t c =
+    let x = c.deref-in-Unary.result.now in
+    let is = unary_tree c.args.value.now x c.in-Unary.op _ c.in-Unary.is c.deref-in-Unary.ensures in
+    let e = unary_is c.args.scope.now.names c.args.scope.now.arrays c.eval.new.scope.arrays c.in-Unary.op (tree_of c.args.value.now) (tree_of x) c.in_ok-operand-in-Unary.operand is c.in_ok-operand-in-Unary.ensures.value.0 in
+    subst (λ (v : Valued). Evaluates v c.unary.new.self c.unary.result) (sym e) c.unary.ensures.value
+
+pub eval-returns-in_ok-operand-in-Unary-clause-grown : goal.eval-returns-in_ok-operand-in-Unary-clause-grown
+eval-returns-in_ok-operand-in-Unary-clause-grown g t c = grows_trans c.args.scope.now c.eval.new.scope c.unary.new.self c.eval.ensures.grown c.unary.ensures.grown
+
+pub eval-returns-in_err-operand-in-Unary-clause-value : goal.eval-returns-in_err-operand-in-Unary-clause-value
+eval-returns-in_err-operand-in-Unary-clause-value g t c =
+    let x = c.deref-in-Unary.result.now in
+    let f = c.in_err-operand-in-Unary.field-0.0 in
+    let is = unary_tree c.args.value.now x c.in-Unary.op _ c.in-Unary.is c.deref-in-Unary.ensures in
+    hands_on _ c.eval.new.scope f c.from_residual.result c.from_residual.ensures.1
+    (unary_fault c.args.scope.now.names c.args.scope.now.arrays c.in-Unary.op (tree_of c.args.value.now) (tree_of x) f is c.in_err-operand-in-Unary.ensures.value)
+
+pub eval-eval-requires-in-Binary : goal.eval-eval-requires-in-Binary
+eval-eval-requires-in-Binary g t c =
+    let e = binary_tree c.args.value.now c.deref-in-Binary.result.now _ c.in-Binary.op _ _ c.in-Binary.is c.deref-in-Binary.ensures refl in
+    let w = ap weight e in
+    λ κs within. (search (rules, w), (within, (subst AreArrays e c.requires).0))
+
+pub eval-returns-in_err-left-in-Binary-clause-value : goal.eval-returns-in_err-left-in-Binary-clause-value
+eval-returns-in_err-left-in-Binary-clause-value g t c =
+    let x = c.deref-in-Binary.result.now in
+    let y = c.in-Binary.right.value in
+    let f = c.in_err-left-in-Binary.field-0.0 in
+    let is = binary_tree c.args.value.now x y c.in-Binary.op _ _ c.in-Binary.is c.deref-in-Binary.ensures refl in
+    hands_on _ c.eval-in-Binary.new.scope f c.from_residual-in_err-left-in-Binary.result c.from_residual-in_err-left-in-Binary.ensures.1
+    (left_fault c.args.scope.now.names c.args.scope.now.arrays c.in-Binary.op (tree_of c.args.value.now) (tree_of x) (tree_of y) f is c.in_err-left-in-Binary.ensures.value)
+
+pub eval-eval-requires-in-Binary-2 : goal.eval-eval-requires-in-Binary-2
+eval-eval-requires-in-Binary-2 g t c =
+    let e = binary_tree c.args.value.now c.deref-in-Binary.result.now c.deref-in-Binary-2.result.now c.in-Binary.op _ _ c.in-Binary.is c.deref-in-Binary.ensures c.deref-in-Binary-2.ensures in
+    let w = ap weight e in
+    λ κs within. (search (rules, w), (within, (subst AreArrays e c.requires).1))
+
+pub eval-returns-in_err-right-in-Binary-clause-value : goal.eval-returns-in_err-right-in-Binary-clause-value
+eval-returns-in_err-right-in-Binary-clause-value g t c =
+    let x = c.deref-in-Binary.result.now in
+    let y = c.deref-in-Binary-2.result.now in
+    let mid = c.eval-in-Binary.new.scope in
+    let f = c.in_err-right-in-Binary.field-0.0 in
+    let is = binary_tree c.args.value.now x y c.in-Binary.op _ _ c.in-Binary.is c.deref-in-Binary.ensures c.deref-in-Binary-2.ensures in
+    hands_on _ c.eval-in-Binary-2.new.scope f c.from_residual-in_err-right-in-Binary.result c.from_residual-in_err-right-in-Binary.ensures.1
+    (right_fault c.args.scope.now.names mid.names c.args.scope.now.arrays mid.arrays c.in-Binary.op (tree_of c.args.value.now) (tree_of x) (tree_of y) c.in_ok-left-in-Binary.left f is
+    c.in_ok-left-in-Binary.ensures.value.0 c.eval-in-Binary.ensures.grown.names c.in_err-right-in-Binary.ensures.value)
+
+pub eval-returns-in_err-right-in-Binary-clause-grown : goal.eval-returns-in_err-right-in-Binary-clause-grown
+eval-returns-in_err-right-in-Binary-clause-grown g t c = grows_trans c.args.scope.now c.eval-in-Binary.new.scope c.eval-in-Binary-2.new.scope c.eval-in-Binary.ensures.grown c.eval-in-Binary-2.ensures.grown
+
+pub eval-returns-in_ok-right-in-Binary-clause-value : goal.eval-returns-in_ok-right-in-Binary-clause-value
+eval-returns-in_ok-right-in-Binary-clause-value g t c =
+    let x = c.deref-in-Binary.result.now in
+    let y = c.deref-in-Binary-2.result.now in
+    let mid = c.eval-in-Binary.new.scope in
+    let late = c.eval-in-Binary-2.new.scope in
+    let is = binary_tree c.args.value.now x y c.in-Binary.op _ _ c.in-Binary.is c.deref-in-Binary.ensures c.deref-in-Binary-2.ensures in
+    let e = binary_is c.args.scope.now.names mid.names c.args.scope.now.arrays mid.arrays late.arrays c.in-Binary.op (tree_of c.args.value.now) (tree_of x) (tree_of y) c.in_ok-left-in-Binary.left c.in_ok-right-in-Binary.right is
+    c.in_ok-left-in-Binary.ensures.value.0 c.eval-in-Binary.ensures.grown.names c.in_ok-right-in-Binary.ensures.value.0 in
+    subst (λ (v : Valued). Evaluates v c.binary.new.self c.binary.result) (sym e) c.binary.ensures.value
+
+pub eval-returns-in_ok-right-in-Binary-clause-grown : goal.eval-returns-in_ok-right-in-Binary-clause-grown
+eval-returns-in_ok-right-in-Binary-clause-grown g t c =
+    let late = grows_trans c.args.scope.now c.eval-in-Binary.new.scope c.eval-in-Binary-2.new.scope c.eval-in-Binary.ensures.grown c.eval-in-Binary-2.ensures.grown in
+    grows_trans c.args.scope.now c.eval-in-Binary-2.new.scope c.binary.new.self late c.binary.ensures.grown
+
+pub eval-returns-in_ok-given-in-Call-clause-grown : goal.eval-returns-in_ok-given-in-Call-clause-grown
+eval-returns-in_ok-given-in-Call-clause-grown g t c = grows_trans c.args.scope.now c.take.new.scope c.call.new.scope c.take.ensures.grown c.call.ensures.grown
 
 pub take-take_one-requires : goal.take-take_one-requires
 take-take_one-requires g t c =
