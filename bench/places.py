@@ -1,6 +1,6 @@
 #!/usr/bin/env python3
-"""Counts the instructions of small statements with valgrind: beside no array but those of the statement, and beside 500 others, of
-which these are the newest, stand behind seven, stand in the middle, and are the oldest.
+"""Counts the instructions of small statements with valgrind: beside no arrays but the eight that they are made of, and beside
+500 others, where these are the newest, stand behind seven, stand in the middle, and are the oldest.
 
 bench/places.py PROGRAM [NAME..] counts those statements, or all of them. A statement's count is the difference of two scripts
 that repeat it 900 and 300 times."""
