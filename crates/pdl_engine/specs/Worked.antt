@@ -1,8 +1,8 @@
 -- Scripts of calls worked by hand: after each call the arrays that can be lent, what waits, and
 -- the steps that the call took. All three are as the clauses of the calls say: the fewest arrays
 -- that can be lent, and of `ready`, `sever` and `reshape`, which take "at most" so many steps, the
--- most. Each script is also a line of crates/pdl_cases/data/engine.txt, which is run, and shows that
--- the engine can lend these arrays and no others: first the "Twelve tables of marks", in their
+-- most. Each script is also a line of crates/pdl_cases/data/engine.txt, which is run, and shows
+-- that the engine can lend these arrays and no others: first the "Twelve tables of marks", in their
 -- order. The arrays are numbered as they are made, from 0.
 use Rattle.std.specs.Prelude.{◌≡◌, ℕ, ◌+◌, ◌==◌, not, if◌then◌else◌, Bool, List, [], ◌∷◌, ◌++◌, length, map, reverse, filter, ℤ, pos, negsuc, Some, is_some, is_none}
 use Rattle.std.specs.List.{range_with_len}

@@ -1,5 +1,5 @@
 //! The engine and its calls.
-ghost use Rattle.std.specs.Prelude.{◌≡◌, ◌≢◌, ℕ, ◌+◌, ◌<◌, ◌≤◌, ◌^◌, true, false, length, All, IfOk, IfErr, IsTrue, OnOk, OnErr, None, is_ok};
+ghost use Rattle.std.specs.Prelude.{◌≡◌, ◌≢◌, ℕ, ◌+◌, ◌<◌, ◌≤◌, ◌^◌, if◌then◌else◌, true, false, length, All, IfOk, IfErr, IsTrue, OnOk, OnErr, Some, None, is_ok};
 ghost use Rattle.pdl_buf.specs.Buffer.{count_moved};
 ghost use Rattle.pdl_buf.specs.Made.{IsMade};
 ghost use Rattle.pdl_elem.specs.Types.{InRange};
@@ -158,6 +158,14 @@ impl Engine {
         ensures { result ≡ shown_in self.now id }
     {
         self.nodes.lend(id)
+    }
+
+    /// An array's type, dimensions and elements, if it can be lent.
+    pub fn try_lend(&self, id: ArrayId) -> Option<Strided<'_>>
+        requires { IsLive self.now.world id }
+        ensures { result ≡ if is_fresh self.now id then Some (shown_in self.now id) else None }
+    {
+        self.nodes.try_lend(id)
     }
 
     /// A law: what can be lent of a family, and what waits in it (PDL::Dataflow).

@@ -1,5 +1,5 @@
 //! Kept arrays and their calls.
-ghost use Rattle.std.specs.Prelude.{◌≡◌, ◌≢◌, ℕ, ◌+◌, ◌<◌, ◌≤◌, ◌^◌, nat_lt, true, false, length, All, IfOk, IsTrue, OnOk, OnErr, None, is_ok};
+ghost use Rattle.std.specs.Prelude.{◌≡◌, ◌≢◌, ℕ, ◌+◌, ◌<◌, ◌≤◌, ◌^◌, if◌then◌else◌, nat_lt, true, false, length, All, IfOk, IsTrue, OnOk, OnErr, Some, None, is_ok};
 ghost use Rattle.pdl_buf.specs.Buffer.{count_moved};
 ghost use Rattle.pdl_buf.specs.Made.{IsMade};
 ghost use Rattle.pdl_elem.specs.Types.{InRange};
@@ -114,9 +114,24 @@ impl Nodes {
         requires fresh { is_fresh self.now id ≡ true }
         ensures { result ≡ shown_in self.now id }
     {
+        match self.try_lend(id) {
+            Some(window) => window,
+            None => unreachable!(),
+        }
+    }
+
+    /// An array's type, dimensions and elements, if it can be lent.
+    pub fn try_lend(&self, id: u64) -> Option<Strided<'_>>
+        requires { IsLive self.now.world id }
+        ensures { result ≡ if is_fresh self.now id then Some (shown_in self.now id) else None }
+    {
         shape_laws();
         let node = self.table.node(id);
-        strided(self.table.base_of(id, node).kept(), node.triple())
+        let base = self.table.base_of(id, node);
+        if !base.mark() {
+            return None;
+        }
+        Some(strided(base.kept(), node.triple()))
     }
 
     /// A law: what can be lent of a family, and what waits in it (PDL::Dataflow). It does nothing.

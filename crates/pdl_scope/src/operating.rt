@@ -1,10 +1,10 @@
 //! Operators and assignments on the arrays of a scope.
-ghost use Rattle.std.specs.Prelude.{◌≡◌, true, [], Ok, IfOk};
+ghost use Rattle.std.specs.Prelude.{◌≡◌, ◌&&◌, true, [], Ok, IfOk, IfSome, OnOk, is_some};
 ghost use Rattle.pdl_buf.specs.Made.{IsMade};
 ghost use Rattle.pdl_ops.specs.Elementwise.{unary_each};
 ghost use Rattle.pdl_world.specs.Sound.{IsLive};
 ghost use Rattle.pdl_world.specs.World.{dims_in, ty_in};
-ghost use Rattle.pdl_engine.specs.State.{is_fresh};
+ghost use Rattle.pdl_engine.specs.State.{is_fresh, SameArrays};
 ghost use Rattle.pdl_machine.specs.Arrays.{array_in};
 ghost use Rattle.pdl_machine.specs.Operators.{binary_each, values_for};
 ghost use Rattle.pdl_machine.specs.Outcome.{new_root};
@@ -81,8 +81,7 @@ impl Scope {
             Runs wanted self.old self.new [] [] result }
     {
         assignment_laws();
-        ready_two(&mut self.engine, target, value, steps)?;
-        match written(self.alloc, &self.engine, sign, target, value) {
+        match written(self.alloc, &mut self.engine, sign, target, value, steps) {
             Ok(values) => {
                 self.engine.assign(target, &values, steps);
                 Ok(())
@@ -114,23 +113,54 @@ fn operated(
     }
 }
 
-/// The values that an assignment writes, of arrays that can be lent.
-fn written(
+/// The values that an assignment writes, if both arrays can be lent already: then each of them is
+/// looked up once.
+fn written_at_once(
     alloc: Global,
     engine: &Engine,
     sign: AssignOp,
     target: ArrayId,
     value: ArrayId,
-) -> Result<Vec<i64>, StepFault>
+) -> Option<Result<Vec<i64>, StepFault>>
     requires target { IsLive engine.now.world target }
     requires value { IsLive engine.now.world value }
-    requires target_fresh { is_fresh engine.now target ≡ true }
-    requires value_fresh { is_fresh engine.now value ≡ true }
+    ensures fresh { is_some result ≡ (is_fresh engine.now target && is_fresh engine.now value) }
     ensures value { let a = arrays_of engine.now in
-        AnswersAs (λ vs. vs.items) (values_for sign (array_in a target) (array_in a value)) result }
+        let wanted = values_for sign (array_in a target) (array_in a value) in
+        IfSome result (λ r. AnswersAs (λ vs. vs.items) wanted r) }
     ensures made { let w = engine.now.world in
+        IfSome result (λ r. IfOk r (λ vs. IsMade (ty_in w target) (dims_in w target) vs.items)) }
+{
+    let into = engine.try_lend(target)?;
+    let from = engine.try_lend(value)?;
+    match values_for(alloc, sign, &into, &from) {
+        Ok(values) => Some(Ok(values)),
+        Err(fault) => Some(Err(StepFault::from(fault))),
+    }
+}
+
+/// The values that an assignment writes, after which its target can be lent.
+fn written<L: Ledger>(
+    alloc: Global,
+    engine: &mut Engine,
+    sign: AssignOp,
+    target: ArrayId,
+    value: ArrayId,
+    steps: &mut Steps<L>,
+) -> Result<Vec<i64>, StepFault>
+    requires target { IsLive engine.old.world target }
+    requires value { IsLive engine.old.world value }
+    ensures same { SameArrays engine.old engine.new }
+    ensures fresh { OnOk result (is_fresh engine.new target ≡ true) }
+    ensures value { let a = arrays_of engine.new in
+        AnswersAs (λ vs. vs.items) (values_for sign (array_in a target) (array_in a value)) result }
+    ensures made { let w = engine.new.world in
         IfOk result (λ vs. IsMade (ty_in w target) (dims_in w target) vs.items) }
 {
+    if let Some(found) = written_at_once(alloc, engine, sign, target, value) {
+        return found;
+    }
+    ready_two(engine, target, value, steps)?;
     let values = values_for(alloc, sign, &engine.lend(target), &engine.lend(value))?;
     Ok(values)
 }

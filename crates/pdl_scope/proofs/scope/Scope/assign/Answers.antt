@@ -8,18 +8,18 @@ use Rattle.pdl_scope.proofs.Growing.{readied, whole_assigned, values_written}
 use Rattle.pdl_scope.proofs.Held.{held_readied, held_assigned}
 use Rattle.pdl_scope.proofs.scope.Scope.assign.Goals as goal
 
-pub invariant_of-self-in-Ok : goal.invariant_of-self-in-Ok
-invariant_of-self-in-Ok g c =
+pub invariant_of-self : goal.invariant_of-self
+invariant_of-self g c =
     let names = names_in c.self.inside.names c.self.inside.kernels in
-    let e = c.ready_two.new.engine in
+    let e = c.written.new.engine in
     let held : IsHeld (state_in names e) e.holds c.self.inside.leaving.items =
-    held_readied names c.self.inside.engine e c.self.inside.leaving.items c.ready_two.ensures.same c.self.invariant in
+    held_readied names c.self.inside.engine e c.self.inside.leaving.items c.written.ensures.same c.self.invariant in
     held_assigned names e c.assign.new.self c.args.target c.deref.result.now c.self.inside.leaving.items held c.assign.ensures.world c.assign.ensures.holds
     (whole_assigned c.assignment_laws.ensures.looks c.assignment_laws.ensures.numbers names e c.assign.new.self c.args.target c.deref.result.now held.whole c.assign.ensures.world c.assign.ensures.next c.assign.ensures.sound)
 
 pub returns-in-Ok : goal.returns-in-Ok
 returns-in-Ok g c =
-    let same = readied (names_in c.self.inside.names c.self.inside.kernels) c.self.inside.engine c.ready_two.new.engine c.ready_two.ensures.same ∙ c.self.view_is in
+    let same = readied (names_in c.self.inside.names c.self.inside.kernels) c.self.inside.engine c.written.new.engine c.written.ensures.same ∙ c.self.view_is in
     let P : State → Type 0 = λ s. Prints (and_then (assigned c.args.sign s.arrays c.args.target c.args.value) (λ a. Ok (with_arrays s a, []))) (state_in (names_in c.self.inside.names c.self.inside.kernels) c.assign.new.self) [] [] in
-    subst P same (values_written c.args.sign (names_in c.self.inside.names c.self.inside.kernels) c.ready_two.new.engine c.assign.new.self c.args.target c.args.value c.in-Ok.values.items c.in-Ok.ensures.value
+    subst P same (values_written c.args.sign (names_in c.self.inside.names c.self.inside.kernels) c.written.new.engine c.assign.new.self c.args.target c.args.value c.in-Ok.values.items c.in-Ok.ensures.value
     (rw (sym c.deref.ensures.value) c.assign.ensures.world) c.assign.ensures.next)
