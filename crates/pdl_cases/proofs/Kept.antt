@@ -4,7 +4,8 @@ use Rattle.std.specs.Prelude.{IsSomeAnd}
 use Rattle.std.proofs.lemmas.Bool.{cases_Bool}
 use Rattle.std.proofs.lemmas.Bool.Decides.{eqb_tells}
 use Rattle.std.proofs.lemmas.List.Elements.{All-append, All-cons, All-nil}
-use Rattle.pdl_engine.specs.State.{State, Joins, SameArrays, ChangesFamily, count_at, one_more_at, one_less_at, held_among, holds_left, IsReleased}
+use Rattle.pdl_engine.specs.Held.{ChangesFamily, count_at, one_more_at, one_less_at, held_among, holds_left, IsReleased}
+use Rattle.pdl_engine.specs.State.{State, Joins, SameArrays}
 use Rattle.pdl_world.specs.Laws.{OlderStay, LiveLieBelow, NewIsLive}
 use Rattle.pdl_world.specs.Sound.{IsLive, IsSound}
 use Rattle.pdl_world.specs.SweepLaws.{ReachedAreSeenAsBefore}

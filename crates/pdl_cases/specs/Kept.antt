@@ -1,6 +1,7 @@
 -- Which arrays a case can name, and how often each is held.
 use Rattle.std.specs.Prelude.{◌≡◌, ℕ, ◌+◌, ◌-◌, ◌<◌, ◌==◌, if◌then◌else◌, Bool, List, All}
-use Rattle.pdl_engine.specs.State.{State, count_at}
+use Rattle.pdl_engine.specs.Held.{count_at}
+use Rattle.pdl_engine.specs.State.{State}
 use Rattle.pdl_world.specs.Sound.{IsLive, IsSound}
 use Rattle.pdl_cases.specs.declared.board.Array.{Array}
 

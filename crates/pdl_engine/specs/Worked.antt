@@ -19,8 +19,9 @@ use Rattle.pdl_world.specs.World.{World, ArrayDef, dims_in, elements, look}
 use Rattle.pdl_world.specs.Cut as cut
 use Rattle.pdl_world.specs.Paths.{path, root_of}
 use Rattle.pdl_world.specs.Swept.{holds, sweep}
-use Rattle.pdl_nodes.specs.Nodes.{pending_onto}
-use Rattle.pdl_engine.specs.State.{State, no_arrays, is_fresh, base, target, waiting, ready_steps, kept_back, one_less_at, held_among, holds_left, written_back}
+use Rattle.pdl_engine.specs.Held.{one_less_at, held_among, holds_left, written_back}
+use Rattle.pdl_engine.specs.State.{State, no_arrays, is_fresh, base, target, waiting, ready_steps, kept_back}
+use Rattle.pdl_engine.specs.StateOf.{pending_onto}
 
 pub data Call : Type 0 where
   make : (dims : List ℕ) (elems : List ℤ) → Call

@@ -1,26 +1,29 @@
 //! The engine and its calls.
-ghost use Rattle.std.specs.Prelude.{◌≡◌, ◌≢◌, ℕ, ◌+◌, ◌<◌, ◌≤◌, ◌^◌, if◌then◌else◌, true, false, length, All, IfOk, IfErr, IsTrue, OnOk, OnErr, Some, None, is_ok};
+ghost use Rattle.std.specs.Prelude.{◌≡◌, ◌≢◌, ℕ, ◌+◌, ◌<◌, ◌≤◌, ◌^◌, if◌then◌else◌, nat_lt, true, false, length, All, IfOk, IfErr, IsTrue, OnOk, OnErr, Some, None, is_ok};
 ghost use Rattle.pdl_buf.specs.Buffer.{count_moved};
 ghost use Rattle.pdl_buf.specs.Made.{IsMade};
 ghost use Rattle.pdl_elem.specs.Types.{InRange};
 ghost use Rattle.pdl_shape.specs.Shape.{IsDims, size_of};
 ghost use Rattle.pdl_world.specs.Cut.{has_views, reshape, sever};
 ghost use Rattle.pdl_world.specs.Formula.{is_well_formed};
-ghost use Rattle.pdl_world.specs.Paths.{root_of};
+ghost use Rattle.pdl_world.specs.Paths.{depth_limit, path, root_of};
 ghost use Rattle.pdl_world.specs.Refused.{view_refusal};
-ghost use Rattle.pdl_world.specs.World.{root, view, dims_in, ty_in, assign};
 ghost use Rattle.pdl_world.specs.Sound.{IsLive, IsSound};
+ghost use Rattle.pdl_world.specs.World.{assign, dims_in, root, ty_in, view};
 ghost use Rattle.pdl_nodes.specs.Sized.{IsLayout};
-ghost use Rattle.pdl_engine.specs.State.{AllHaveHolds, AreApart, ChangesFamily, FamilyIsSettled, IsReleased, count_at, holders, one_more_at, written_back, no_arrays, is_fresh, IsLazy, IsLentAs, Joins, Names, OthersWait, TargetWaits, PathIsFresh, SameArrays, StayFresh, TargetIsFresh, ready_steps, shown_in, waiting};
+ghost use Rattle.pdl_engine.specs.Faults.{Names};
+ghost use Rattle.pdl_engine.specs.Held.{AllHaveHolds, AreApart, ChangesFamily, FamilyIsSettled, IsReleased, count_at, holders, one_more_at, written_back};
+ghost use Rattle.pdl_engine.specs.State.{IsLazy, IsLentAs, Joins, OthersWait, PathIsFresh, SameArrays, StayFresh, TargetIsFresh, TargetWaits, is_fresh, no_arrays, ready_steps, shown_in, waiting};
 
+use crate::depth::is_deeper;
+use crate::faults::ViewFault;
 use crate::layouts::layout;
-use pdl_affine::PlanFault;
-use pdl_buf::{Elements, NoMemory, Steps, Strided};
-use pdl_choice::ChoiceFault;
+use crate::{readying, releases, severing};
+use pdl_buf::{Elements, NoMemory, Steps, Strided, buf_of_elements, strided};
 use pdl_elem::Ty;
-use pdl_nodes::{Layout, Nodes};
-use pdl_shape::Dims;
-use pdl_world::Trans;
+use pdl_nodes::{Holds, Layout, Table, insert, root_node, row_laws, view_node};
+use pdl_shape::{Dims, dims_list, shape_laws, triple_laws};
+use pdl_world::{Trans, assignment_laws, cut_laws, growth_laws, reshape_laws, sweep_laws};
 use std::alloc::{AllocError, Global};
 use std::marker::Model;
 use std::sync::ledger::Ledger;
@@ -28,84 +31,28 @@ use std::sync::ledger::Ledger;
 /// The number of an array, below 2^63. Numbers are never used again in one engine.
 pub type ArrayId = u64;
 
-/// Why there is no such view, in the order in which `view` answers these.
-#[derive(Clone, Copy, PartialEq, Eq, Debug)]
-pub enum ViewFault {
-    /// The parent hasn't the dimensions that the transformation needs.
-    BadDimension,
-    /// Dimensions that must fit don't.
-    Mismatch,
-    /// A number is outside its dimension.
-    OutOfRange,
-    /// The view would have more than 16 dimensions.
-    TooManyDims,
-    /// The view's sizes that aren't 0 would have a product above 1,048,576.
-    TooLarge,
-    /// The view's path to the root would have more than 64 views.
-    TooDeep,
-    /// There was no memory.
-    NoMemory,
-}
-
-impl From<AllocError> for ViewFault {
-    ghost use Rattle.pdl_engine.specs.declared.engine.ViewFault.{ViewFault};
-
-    ghost from_gives = { λ e fault. fault ≡ ViewFault.NoMemory };
-
-    fn from(_: AllocError) -> ViewFault {
-        ViewFault::NoMemory
-    }
-}
-
-impl From<PlanFault> for ViewFault {
-    ghost use Rattle.pdl_engine.specs.State.{of_plan};
-
-    ghost from_gives = { λ e fault. fault ≡ of_plan e };
-
-    fn from(fault: PlanFault) -> ViewFault {
-        match fault {
-            PlanFault::BadDimension => ViewFault::BadDimension,
-            PlanFault::OutOfRange => ViewFault::OutOfRange,
-            PlanFault::TooManyDims => ViewFault::TooManyDims,
-            PlanFault::TooLarge => ViewFault::TooLarge,
-            PlanFault::NoMemory => ViewFault::NoMemory,
-        }
-    }
-}
-
-impl From<ChoiceFault> for ViewFault {
-    ghost use Rattle.pdl_engine.specs.State.{of_choice};
-
-    ghost from_gives = { λ e fault. fault ≡ of_choice e };
-
-    fn from(fault: ChoiceFault) -> ViewFault {
-        match fault {
-            ChoiceFault::BadDimension => ViewFault::BadDimension,
-            ChoiceFault::Mismatch => ViewFault::Mismatch,
-            ChoiceFault::OutOfRange { .. } => ViewFault::OutOfRange,
-            ChoiceFault::TooManyDims => ViewFault::TooManyDims,
-            ChoiceFault::TooLarge => ViewFault::TooLarge,
-            ChoiceFault::NoMemory => ViewFault::NoMemory,
-        }
-    }
-}
-
-/// Arrays, each a root or a view of an older one.
+/// Arrays, each a root or a view of an older one. Each is held or has views, but for those that a
+/// cut may have left loose, which are listed until the next release.
 #[derive(Drop)]
 pub struct Engine {
     alloc: Global,
-    nodes: Nodes,
+    table: Table,
+    holds: Holds,
+    next: u64,
+    loose: Vec<u64>,
 }
 
 impl Model for Engine {
-    ghost use Rattle.pdl_world.specs.Sound.{IsSound};
+    ghost use Rattle.pdl_engine.specs.Loose.{IsTight};
     ghost use Rattle.pdl_engine.specs.State.{State};
+    ghost use Rattle.pdl_engine.specs.StateOf.{IsEngine, state_of};
 
     ghost Value = { State };
 
-    ghost view = { λ e. e.nodes };
+    ghost view = { λ n. state_of n.table n.holds n.next };
 
-    ghost invariant = { λ e. IsSound e.nodes.world };
+    ghost invariant = { λ n.
+        IsEngine n.table n.holds n.next × IsTight n.loose.items n.table n.holds };
 }
 
 impl Engine {
@@ -115,7 +62,10 @@ impl Engine {
     {
         Engine {
             alloc,
-            nodes: Nodes::new(alloc),
+            table: Table::new(alloc),
+            holds: Holds::new(alloc),
+            next: 0,
+            loose: Vec::new(alloc),
         }
     }
 
@@ -125,7 +75,11 @@ impl Engine {
         ensures now { result.now ≡ dims_in self.now.world id }
         ensures limits { IsDims result.now }
     {
-        self.nodes.dims(id)
+        row_laws();
+        let dims = &self.table.node(id).triple().dims;
+        // the limits of dimensions are known where they are listed
+        let _sizes = dims_list(dims);
+        dims
     }
 
     /// The type of an array's elements, which is its root's.
@@ -133,14 +87,25 @@ impl Engine {
         requires { IsLive self.now.world id }
         ensures { result ≡ ty_in self.now.world id }
     {
-        self.nodes.ty(id)
+        row_laws();
+        self.table.node(id).ty()
     }
 
     /// How many arrays there are.
     pub fn live(&self) -> u64
         ensures { result ≡ length self.now.world }
     {
-        self.nodes.live()
+        self.table.count() as u64
+    }
+
+    /// Whether an array has as many views on its path to the root as there may be, and one more
+    /// array: then no view of it may be.
+    fn is_deep(&self, id: ArrayId) -> bool
+        requires { IsLive self.now.world id }
+        ensures { result ≡ nat_lt depth_limit (length (path self.now.world id)) }
+    {
+        row_laws();
+        is_deeper(&self.table, id, 64)
     }
 
     /// Whether an array can be lent.
@@ -148,7 +113,8 @@ impl Engine {
         requires { IsLive self.now.world id }
         ensures { result ≡ is_fresh self.now id }
     {
-        self.nodes.is_fresh(id)
+        row_laws();
+        pdl_pull::is_fresh(&self.table, id)
     }
 
     /// An array's type, dimensions and elements. The array is one that can be lent.
@@ -157,7 +123,10 @@ impl Engine {
         requires fresh { is_fresh self.now id ≡ true }
         ensures { result ≡ shown_in self.now id }
     {
-        self.nodes.lend(id)
+        match self.try_lend(id) {
+            Some(window) => window,
+            None => unreachable!(),
+        }
     }
 
     /// An array's type, dimensions and elements, if it can be lent.
@@ -165,22 +134,33 @@ impl Engine {
         requires { IsLive self.now.world id }
         ensures { result ≡ if is_fresh self.now id then Some (shown_in self.now id) else None }
     {
-        self.nodes.try_lend(id)
+        row_laws();
+        shape_laws();
+        let node = self.table.node(id);
+        let base = self.table.base_of(id, node);
+        if !base.mark() {
+            return None;
+        }
+        Some(strided(base.kept(), node.triple()))
     }
 
-    /// A law: what can be lent of a family, and what waits in it (PDL::Dataflow).
+    /// A law: what can be lent of a family, and what waits in it (PDL::Dataflow). It does nothing.
     pub fn lazy_law(&self)
         ensures { IsLazy self.now }
     {
-        self.nodes.lazy_law()
+        row_laws();
+        // the invariant is known where a field is read
+        let _next = self.next;
     }
 
-    /// A law: each array has holds once, be it none, and nothing else has.
+    /// A law: each array has holds once, be it none, and nothing else has. It does nothing.
     pub fn holds_law(&self)
         ensures each { AllHaveHolds self.now }
         ensures once { AreApart (holders self.now.holds) }
     {
-        self.nodes.holds_law()
+        row_laws();
+        // the invariant is known where a field is read
+        let _next = self.next;
     }
 
     /// A new root of these dimensions and elements, which can be lent. It takes a step for each
@@ -200,7 +180,21 @@ impl Engine {
         ensures bounded { steps.new ≤ steps.old + count_moved elems }
         ensures sound { IsSound self.new.world }
     {
-        self.nodes.make(ty, dims, elems, steps)
+        row_laws();
+        growth_laws();
+        shape_laws();
+        triple_laws();
+        let id = self.next;
+        let Some(next) = id.checked_add(1) else {
+            return Err(AllocError);
+        };
+        // the limits of dimensions are known where they are listed
+        let _limits = dims_list(dims);
+        let kept = buf_of_elements(self.alloc, ty, elems, steps)?;
+        let node = root_node(self.alloc, id, ty, dims, kept);
+        insert(&mut self.table, &mut self.holds, id, node)?;
+        self.next = next;
+        Ok(id)
     }
 
     /// A new view of an array. Its transformation is well formed. It is refused exactly where the
@@ -217,11 +211,13 @@ impl Engine {
         ensures err { OnErr result (self.new ≡ self.old) }
         ensures sound { IsSound self.new.world }
     {
+        // the invariant is known where a field is read, and with it that the world is sound
+        let _next = self.next;
         let layout = self.layout_of(parent, &trans)?;
-        Ok(self.nodes.view(parent, trans, layout)?)
+        Ok(self.insert_view(parent, trans, layout)?)
     }
 
-    // The layout of a view of an array, where nothing refuses it.
+    /// The layout of a view of an array, where nothing refuses it.
     fn layout_of(&self, parent: ArrayId, trans: &Trans) -> Result<Layout, ViewFault>
         requires live { IsLive self.now.world parent }
         requires well_formed { IsTrue (is_well_formed trans.now) }
@@ -230,16 +226,44 @@ impl Engine {
         ensures refused { IfErr result
             (λ fault. Names fault (view_refusal self.now.world parent trans.now)) }
     {
-        let layout = layout(self.alloc, trans, self.nodes.dims(parent))?;
-        if self.nodes.is_deep(parent) {
+        let layout = layout(self.alloc, trans, self.dims(parent))?;
+        if self.is_deep(parent) {
             return Err(ViewFault::TooDeep);
         }
         Ok(layout)
     }
 
+    /// A new view of an array, of the layout that its transformation has on the parent.
+    fn insert_view(
+        &mut self,
+        parent: ArrayId,
+        trans: Trans,
+        layout: Layout,
+    ) -> Result<ArrayId, NoMemory>
+        requires live { IsLive self.old.world parent }
+        requires well_formed { IsTrue (is_well_formed trans) }
+        requires allowed { view_refusal self.old.world parent trans ≡ None }
+        requires layout { IsLayout trans (dims_in self.old.world parent) layout }
+        ensures made { IfOk result (λ id. Joins self.old id (view parent trans) self.new) }
+        ensures lent { IfOk result (λ id. IsLentAs self.old parent id self.new) }
+        ensures err { OnErr result (self.new ≡ self.old) }
+        ensures sound { IsSound self.new.world }
+    {
+        row_laws();
+        growth_laws();
+        let id = self.next;
+        let Some(next) = id.checked_add(1) else {
+            return Err(AllocError);
+        };
+        let above = self.table.node(parent);
+        let node = view_node(self.alloc, id, parent, trans, layout, above)?;
+        insert(&mut self.table, &mut self.holds, id, node)?;
+        self.next = next;
+        Ok(id)
+    }
+
     /// Makes an array and each array on its path to the root such that they can be lent. What waits
-    /// to be written back in its family is written back first. Want of memory
-    /// may leave some of them so.
+    /// in the family is written back first. Want of memory may leave some of them so.
     pub fn ready<L: Ledger>(&mut self, id: ArrayId, steps: &mut Steps<L>) -> Result<(), NoMemory>
         requires { IsLive self.old.world id }
         ensures same { SameArrays self.old self.new }
@@ -250,7 +274,8 @@ impl Engine {
         ensures others { OthersWait self.old id self.new }
         ensures counted { steps.new ≤ steps.old + ready_steps self.old id }
     {
-        self.nodes.ready(id, steps)
+        row_laws();
+        readying::ready(&mut self.table, self.alloc, id, steps)
     }
 
     /// Puts the values at the array's positions, in rising order. The array is one that can be
@@ -271,7 +296,9 @@ impl Engine {
         ensures waits { TargetWaits self.old id self.new }
         ensures counted { steps.new ≡ steps.old + length values.now }
     {
-        self.nodes.assign(id, values, steps)
+        row_laws();
+        assignment_laws();
+        pdl_push::assign(&mut self.table, id, values, steps)
     }
 
     /// Whether an array is the parent of a view.
@@ -279,13 +306,39 @@ impl Engine {
         requires { IsLive self.now.world id }
         ensures { result ≡ has_views self.now.world id }
     {
-        self.nodes.has_views(id)
+        self.table.has_views(id)
     }
 
-    /// Cuts an array from its parent: it becomes a root with its elements, which can be lent, and its
-    /// own views stay with it. What waits in the family is written back first. On a root it does
-    /// nothing, and wants no memory. Want of memory leaves the world, and what could be lent. It takes
-    /// at most the steps of `ready`, and one for each element.
+    /// Holds an array once more. A new array is held once.
+    pub fn hold(&mut self, id: ArrayId)
+        requires live { IsLive self.old.world id }
+        requires room { count_at self.old.holds id < 2 ^ 63 }
+        ensures { self.new ≡ record self.old { holds = one_more_at self.old.holds id } }
+    {
+        row_laws();
+        self.holds.hold(id);
+    }
+
+    /// Takes one hold of an array back. What no held array reaches by parents goes; what waits in a
+    /// view that goes is written back before, if its root stays. It takes a step for each element
+    /// that is written back, and no memory.
+    pub fn release<L: Ledger>(&mut self, id: ArrayId, steps: &mut Steps<L>)
+        requires { 0 < count_at self.old.holds id }
+        ensures released { IsReleased self.old id self.new }
+        ensures counted { steps.new ≡ steps.old
+            + written_back self.old self.new.world self.new.world }
+        ensures sound { IsSound self.new.world }
+    {
+        row_laws();
+        sweep_laws();
+        releases::release(&mut self.table, &mut self.holds, &self.loose, id, steps);
+        self.loose.clear();
+    }
+
+    /// Cuts an array from its parent: it becomes a root with its elements, which can be lent, and
+    /// its own views stay with it. What waits in the family is written back first. On a root it
+    /// does nothing, and wants no memory. Want of memory leaves the world, and what could be lent.
+    /// It takes at most the steps of `ready`, and one for each element.
     pub fn sever<L: Ledger>(&mut self, id: ArrayId, steps: &mut Steps<L>) -> Result<(), NoMemory>
         requires { IsLive self.old.world id }
         ensures root { root_of self.old.world id ≡ id → self.new ≡ self.old }
@@ -301,13 +354,15 @@ impl Engine {
             + (ready_steps self.old id + size_of (dims_in self.old.world id)) }
         ensures sound { IsSound self.new.world }
     {
-        self.nodes.sever(id, steps)
+        row_laws();
+        cut_laws();
+        severing::sever(&mut self.table, &mut self.loose, self.alloc, id, steps)
     }
 
-    /// Gives an array that has no views other dimensions: it becomes a root of
-    /// its first elements, in order, with zeros after them where there are fewer, and can be lent.
-    /// What waits in the family is written back first. Want of memory leaves the world, and what
-    /// could be lent. It takes at most the steps of `ready`, and one for each new element.
+    /// Gives an array that has no views other dimensions: it becomes a root of its first elements,
+    /// in order, with zeros after them where there are fewer, and can be lent. What waits in the
+    /// family is written back first. Want of memory leaves the world, and what could be lent. It
+    /// takes at most the steps of `ready`, and one for each new element.
     pub fn reshape<L: Ledger>(
         &mut self,
         id: ArrayId,
@@ -325,28 +380,17 @@ impl Engine {
         ensures counted { steps.new ≤ steps.old + (ready_steps self.old id + size_of dims.now) }
         ensures sound { IsSound self.new.world }
     {
-        self.nodes.reshape(id, dims, steps)
-    }
-
-    /// Holds an array once more. A new array is held once.
-    pub fn hold(&mut self, id: ArrayId)
-        requires live { IsLive self.old.world id }
-        requires room { count_at self.old.holds id < 2 ^ 63 }
-        ensures { self.new ≡ record self.old { holds = one_more_at self.old.holds id } }
-    {
-        self.nodes.hold(id);
-    }
-
-    /// Takes one hold of an array back. What no held array reaches by parents goes; what waits in a
-    /// view that goes is written back before, if its root stays. It takes a
-    /// step for each element that is written back, and no memory.
-    pub fn release<L: Ledger>(&mut self, id: ArrayId, steps: &mut Steps<L>)
-        requires { 0 < count_at self.old.holds id }
-        ensures released { IsReleased self.old id self.new }
-        ensures counted { steps.new ≡ steps.old
-            + written_back self.old self.new.world self.new.world }
-        ensures sound { IsSound self.new.world }
-    {
-        self.nodes.release(id, steps)
+        row_laws();
+        reshape_laws();
+        // the limits of dimensions are known where they are listed
+        let _limits = dims_list(dims);
+        severing::reshape(
+            &mut self.table,
+            &mut self.loose,
+            self.alloc,
+            id,
+            dims,
+            steps,
+        )
     }
 }

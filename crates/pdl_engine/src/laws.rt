@@ -1,4 +1,5 @@
 //! Laws of the engine.
+ghost use Rattle.pdl_engine.specs.HoldLaws.{CountedAreHeld, HeldAreCounted, OneLessCounts, OneMoreCounts, OthersDontCount, StayingCount};
 ghost use Rattle.pdl_engine.specs.Worked.{ScriptsAreWorked};
 
 /// Scripts of calls worked by hand: what can be lent and what waits after each call, and the steps
@@ -6,4 +7,15 @@ ghost use Rattle.pdl_engine.specs.Worked.{ScriptsAreWorked};
 /// it runs.
 pub fn worked_scripts()
     ensures { ScriptsAreWorked }
+{}
+
+/// What one hold more or less changes in a list of holds, what stays of one, and which arrays are
+/// counted as held. It does nothing: who calls it has them.
+pub fn hold_laws()
+    ensures more { OneMoreCounts }
+    ensures less { OneLessCounts }
+    ensures staying { StayingCount }
+    ensures held { CountedAreHeld }
+    ensures counted { HeldAreCounted }
+    ensures others { OthersDontCount }
 {}

@@ -6,9 +6,9 @@ ghost use Rattle.pdl_shape.specs.Shape.{size_of};
 ghost use Rattle.pdl_world.specs.Formula.{child_dims, is_well_formed};
 ghost use Rattle.pdl_world.specs.Refused.{refusal_at};
 ghost use Rattle.pdl_nodes.specs.Sized.{IsLayout};
-ghost use Rattle.pdl_engine.specs.State.{Names};
+ghost use Rattle.pdl_engine.specs.Faults.{Names};
 
-use crate::engine::ViewFault;
+use crate::faults::ViewFault;
 use pdl_affine::plan;
 use pdl_choice::{Choice, Edge, index, listed_places, range};
 use pdl_nodes::Layout;

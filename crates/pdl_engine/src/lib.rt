@@ -2,15 +2,20 @@
 //!
 //! An engine is seen as a world of arrays (`pdl_world`): each call says what the world is after it.
 //! Affine views keep no elements: they are shown over the elements of their base. Views that pick
-//! places keep a buffer, which is filled when it is read or written. What is
-//! assigned through such a view waits there, until another array of its family
-//! is read (`pdl_nodes`).
+//! places keep a buffer, which is filled when it is read or written (`pdl_pull`). What is assigned
+//! through such a view waits there, until another array of its family is read (`pdl_push`). How
+//! arrays are kept is the node table's (`pdl_nodes`).
 #![tactic(auto)]
 
+mod depth;
 mod engine;
+mod faults;
 mod laws;
 mod layouts;
+mod readying;
+mod releases;
+mod severing;
 
-pub use engine::{ArrayId, Engine, ViewFault};
-pub use laws::worked_scripts;
-pub use pdl_nodes::hold_laws;
+pub use engine::{ArrayId, Engine};
+pub use faults::ViewFault;
+pub use laws::{hold_laws, worked_scripts};

@@ -1,43 +1,38 @@
 -- One hold less where nothing is loose: nothing goes, or one array alone, or it and some above it.
-use Rattle.std.proofs.Common.{◌≡◌, ◌≢◌, ℕ, ◌+◌, ◌-◌, ◌<◌, ◌||◌, Bool, true, false, eqb, nat_lt, [], ◌∷◌, Option, Some, None, is_none, is_some, inl, inr, refl, sym, ◌∙◌, ap, subst, arith}
+use Rattle.std.proofs.Common.{◌≡◌, ◌≢◌, ℕ, ◌+◌, ◌<◌, ◌||◌, Bool, true, false, nat_lt, [], ◌∷◌, Option, Some, None, is_some, inl, inr, refl, sym, ◌∙◌, ap, subst, arith}
 use Rattle.std.proofs.Math.Path.{fun_ext}
-use Rattle.std.proofs.lemmas.Bool.{cases_Bool}
-use Rattle.std.proofs.lemmas.Bool.Decides.{eqb_tells, leb_tells}
-use Rattle.pdl_world.specs.Cut.{has_views}
-use Rattle.pdl_world.specs.Swept.{holds}
+use Rattle.std.proofs.lemmas.Bool.{cases_Bool, or_right, ltb-true, lt-ltb}
+use Rattle.std.proofs.lemmas.Bool.Decides.{eqb_tells}
 use Rattle.pdl_nodes.specs.declared.holds.Hold.{Hold}
-use Rattle.pdl_nodes.specs.declared.origin.Origin.{Origin}
-use Rattle.pdl_nodes.specs.declared.origin.Origin.TheVariants.{Root, View}
 use Rattle.pdl_nodes.specs.Children.{children, left, one_of}
 use Rattle.pdl_nodes.specs.Families.{IsWaiting, InOrder}
-use Rattle.pdl_nodes.specs.Going.{goes_from, going_at, going_size, going_sum}
-use Rattle.pdl_nodes.specs.Holds.{Counts, Beside, hold_at, is_held, stands, count, count_in, going, going_in, goes_in, less_one, after_release, count_after, with_going}
-use Rattle.pdl_nodes.specs.Known.{AreKnown}
-use Rattle.pdl_nodes.specs.Outcomes.{IsReady, waiting_size}
+use Rattle.pdl_nodes.specs.Going.{goes_from, going_at, going_sum}
+use Rattle.pdl_nodes.specs.Holds.{Counts, Beside, hold_at, is_held, stands, count, count_in, going, going_in, goes_in, with_going}
+use Rattle.pdl_nodes.specs.Outcomes.{IsReady}
 use Rattle.pdl_nodes.specs.Released.{KeepsWaiting}
-use Rattle.pdl_nodes.specs.Risen.{AreMarked, AreTight, ComesFrom, GoesAlone, IsFewer, IsForgotten, IsLetGo, IsLoose, IsRisen, IsTight}
-use Rattle.pdl_nodes.specs.Row.{Row, parent_from, parent_of}
+use Rattle.pdl_nodes.specs.Risen.{AreMarked, AreTight, ComesFrom, GoesAlone, IsFewer, IsForgotten, IsLetGo, IsLoose, IsRisen}
+use Rattle.pdl_nodes.specs.Row.{parent_of}
 use Rattle.pdl_nodes.specs.Rows.{Rows, row_at, has, other, reached, without}
 use Rattle.pdl_nodes.specs.Staying.{staying}
-use Rattle.pdl_nodes.specs.Still.{StillFrom, IsStill}
-use Rattle.pdl_nodes.specs.Worlds.{shape}
+use Rattle.pdl_nodes.specs.Still.{IsStill}
 use Rattle.pdl_nodes.proofs.Counted.{views_counted}
-use Rattle.pdl_nodes.proofs.Finds.{differ, has_gone, has_stays, same}
-use Rattle.pdl_nodes.proofs.Goings.{stays_all}
-use Rattle.pdl_nodes.proofs.Gone.{IsSettledSo, beside_taken, let_go_as, let_go_is, starts_live, starts_tight, under_first}
-use Rattle.pdl_nodes.proofs.Leavings.{going_sums, has_staying, still_parents}
-use Rattle.pdl_nodes.proofs.Lefts.{left_all, left_less, no_one, older_has, one_is, told}
 use Rattle.pdl_nodes.proofs.FamilyLemmas.{still_falls}
-use Rattle.pdl_nodes.proofs.Letting.{fewer_then, letting_last, letting_none, loose_listed, marked_none, more_than, or_right}
+use Rattle.pdl_nodes.proofs.Finds.{has_gone, has_stays}
+use Rattle.pdl_nodes.proofs.Gone.{let_go_is}
+use Rattle.pdl_nodes.proofs.Leavings.{has_staying, still_parents}
+use Rattle.pdl_nodes.proofs.Lefts.{left_all, left_less, no_one, one_is, told}
+use Rattle.pdl_nodes.proofs.Letting.{fewer_then, letting_last, letting_none, loose_listed, marked_none}
+use Rattle.pdl_nodes.proofs.Numbers.{at_other, at_same}
 use Rattle.pdl_nodes.proofs.Paths.{parent_live}
-use Rattle.pdl_nodes.proofs.Reaches.{count_taken, none_of, staying_live, taken}
-use Rattle.pdl_nodes.proofs.Readied.{ready_same}
+use Rattle.pdl_nodes.proofs.Reaches.{none_of, staying_live}
 use Rattle.pdl_nodes.proofs.Removing.{staying_all}
 use Rattle.pdl_nodes.proofs.Rising.{IsRising, fewer_same, no_both, none_less, noted_some, rising_goes, rising_none, rising_room}
-use Rattle.pdl_nodes.proofs.Numbers.{at_other, at_same}
+use Rattle.pdl_nodes.specs.Released.{GoingIsSettled}
+use Rattle.std.proofs.lemmas.Bool.{ne_eqb, eq-eqb}
+use Rattle.pdl_nodes.proofs.Origins.{own_root}
+use Rattle.pdl_nodes.proofs.Falling.{none_sum}
 
 -- ---- where what waits stays, nothing is written back
-
 goes_none : (t : ℕ → Bool) (o : Option ℕ) → ((v : ℕ) → o ≡ Some v → t v ≡ true) → goes_from t o ≡ None
 goes_none t None f = refl
 goes_none t (Some v) f = rw (f v refl) refl
@@ -51,35 +46,8 @@ none_going t rs r k h = elim (eqb_tells (row_at rs r).root r) [
   | inr a ↦ rw a.0 refl
 ]
 
-none_sum : (t : ℕ → Bool) (rs part : Rows) → KeepsWaiting t rs → ((v : ℕ) → has part v ≡ true → has rs v ≡ true) → going_sum rs t part ≡ 0
-none_sum t rs [] k h = refl
-none_sum t rs ((j, r) ∷ part) k h =
-    let a : going_size rs t j ≡ 0 = ap (waiting_size rs) (none_going t rs j k (h j (rw (same j j refl) refl))) in
-    let b : going_sum rs t part ≡ 0 = none_sum t rs part k (λ v g. h v (older_has j r part v g)) in
-    omega (arith, a, b)
-
 pub no_steps : (t : ℕ → Bool) (rs : Rows) (s : ℕ) → KeepsWaiting t rs → s ≡ s + going_sum rs t rs
-no_steps t rs s k = (let a : going_sum rs t rs ≡ 0 = none_sum t rs rs k (λ v h. h) in omega (arith, a))
-
-settled_so : (rs : Rows) (hs : Counts) → InOrder rs → AreKnown rs → KeepsWaiting (stands hs) rs → IsSettledSo rs rs hs
-settled_so rs hs o a k = record {
-  kept = ready_same rs o a;
-  sized = λ z. z;
-  waits = k;
-  leaves = λ r i y. stays_all (stands hs) (row_at rs r).waiting (λ v e. k r v i y e);
-}
-
--- ---- nothing goes
-
-pub waiting_stands : (rs : Rows) (hs : Counts) → InOrder rs → Beside rs hs → KeepsWaiting (stands hs) rs
-waiting_stands rs hs o b r v i y e = b.numbers v ∙ ((o.family r i).waits v e).live
-
--- the one that may be loose is held, or has views
-pub tight_one : (rs : Rows) (hs : Counts) (id : ℕ) → AreTight (id ∷ []) rs hs → (is_held hs id ≡ false → has_views (shape rs) id ≡ true) → AreTight [] rs hs
-tight_one rs hs id t f v h d u = elim (eqb_tells id v) [
-  | inl y ↦ ap (has_views (shape rs)) (sym y.1) ∙ f (ap (is_held hs) y.1 ∙ u)
-  | inr y ↦ t v h (rw y.0 refl) u
-]
+no_steps t rs s k = (let a : going_sum rs t rs ≡ 0 = none_sum rs t rs (λ r h. none_going t rs r k h) in omega (arith, a))
 
 kept_risen : (rs : Rows) (hs : Counts) (id : ℕ) → IsStill rs → Beside rs hs → AreTight [] rs hs → IsRisen (id ∷ []) rs hs hs
 kept_risen rs hs id s b t =
@@ -87,23 +55,18 @@ kept_risen rs hs id s b t =
     letting_last rs hs hs hs [] [] id s b one (letting_none rs hs [] id b one) (λ v. refl) (marked_none rs hs b) (fewer_same hs)
     (λ v l. (let z : false ≡ true = loose_listed rs hs [] v b t l in absurd (cc)))
 
-all_stand : (rs : Rows) (hs : Counts) → Beside rs hs → rs ≡ staying (stands hs) rs
+pub all_stand : (rs : Rows) (hs : Counts) → Beside rs hs → rs ≡ staying (stands hs) rs
 all_stand rs hs b = sym (staying_live (stands hs) (λ v. true) rs (λ v h. b.numbers v ∙ h) ∙ staying_all rs)
 
-pub kept_tells : (rs : Rows) (hs : Counts) (id v : ℕ) → InOrder rs → Beside rs hs → AreTight [] rs hs → has rs v ≡ true → stands hs v ≡ reached rs (is_held hs) v
-kept_tells rs hs id v o b t h = (kept_risen rs hs id o.still b t).tells v h
-
-pub kept_let_go : (rs : Rows) (hs : Counts) (id : ℕ) → InOrder rs → AreKnown rs → Beside rs hs → AreTight [] rs hs → IsLetGo rs (count hs) rs hs
-kept_let_go rs hs id o a b t =
-    let_go_is rs rs rs hs hs hs o (λ v y. refl) (λ v h. kept_tells rs hs id v o b t h) (settled_so rs hs o a (waiting_stands rs hs o b)) (all_stand rs hs b) b (λ v. refl)
+pub kept_tells : (rs : Rows) (hs : Counts) (v : ℕ) → InOrder rs → Beside rs hs → AreTight [] rs hs → has rs v ≡ true → stands hs v ≡ reached rs (is_held hs) v
+kept_tells rs hs v o b t h = (kept_risen rs hs v o.still b t).tells v h
 
 -- ---- one was forgotten that none held
-
 -- the holds before: none of it
-abbrev pub none_held : Hold
+abbrev none_held : Hold
 none_held = record { count = 0; going = 0 }
 
-abbrev pub with_none : ℕ → Counts → Counts
+abbrev with_none : ℕ → Counts → Counts
 with_none id gs = (id, none_held) ∷ gs
 
 none_here : (id : ℕ) (gs : Counts) → hold_at (with_none id gs) id ≡ Some none_held
@@ -116,10 +79,10 @@ one_less : (rs : Rows) (gs : Counts) (id : ℕ) → Beside (without id rs) gs �
 one_less rs gs id b = staying_live (other id) (stands gs) rs (λ v h. has_staying (other id) rs v h ∙ sym (b.numbers v))
 
 is_other : (id v : ℕ) → v ≢ id → other id v ≡ true
-is_other id v n = rw (differ v id n) refl
+is_other id v n = rw (ne_eqb v id n) refl
 
 gone_here : (rs : Rows) (id : ℕ) → has (without id rs) id ≡ false
-gone_here rs id = has_gone (other id) rs id (rw (same id id refl) refl)
+gone_here rs id = has_gone (other id) rs id (rw (eq-eqb id id refl) refl)
 
 stays_there : (rs : Rows) (id v : ℕ) → v ≢ id → has (without id rs) v ≡ has rs v
 stays_there rs id v n = has_stays (other id) rs v (is_other id v n)
@@ -202,15 +165,7 @@ view_risen rs gs mid new id p f i m w l =
     risen_last rs gs new id f m (fewer_then (with_none id gs) mid new i.fewer w)
     (λ v y. (let x : IsLoose rs mid v × (v ≢ p) = l v y in i.loose v x.0 (λ z. x.1 (let q : p ≡ v = cc in sym q))))
 
--- the only start is there
-pub start_live : (rs : Rows) (id : ℕ) → has rs id ≡ true → (v : ℕ) → holds (id ∷ []) v ≡ true → has rs v ≡ true
-start_live rs id h v l = elim (eqb_tells id v) [
-  | inl y ↦ ap (has rs) (sym y.1) ∙ h
-  | inr y ↦ (let z : false ≡ true = rw y.0 at l in absurd (cc))
-]
-
 -- ---- one that goes alone: a root, or a view of an array that stays
-
 -- each other stands
 other_stands : (rs : Rows) (gs : Counts) (id v : ℕ) → Beside (without id rs) gs → v ≢ id → stands gs v ≡ has rs v
 other_stands rs gs id v b n = b.numbers v ∙ stays_there rs id v n
@@ -233,7 +188,7 @@ views_left rs gs id v f =
 left_free : (rs : Rows) (gs : Counts) (id v : ℕ) → IsForgotten rs gs id → GoesAlone rs gs id → v ≢ id → has rs v ≡ true → is_held gs v ≡ false → 0 < left rs (stands gs) v
 left_free rs gs id v f a n h u =
     let e : children rs v ≡ one_of (parent_of (row_at rs id)) v + left rs (stands gs) v = views_left rs gs id v f in
-    let c : 0 < children rs v = more_than (children rs v) (sym (views_counted rs v) ∙ f.tight v h (rw (differ id v (λ q. n (sym q))) refl) u) in
+    let c : 0 < children rs v = ltb-true 0 (children rs v) (sym (views_counted rs v) ∙ f.tight v h (rw (ne_eqb id v (λ q. n (sym q))) refl) u) in
     by (parent_of (row_at rs id)) refl e c where
       by : (o : Option ℕ) → parent_of (row_at rs id) ≡ o → children rs v ≡ one_of (parent_of (row_at rs id)) v + left rs (stands gs) v → 0 < children rs v → 0 < left rs (stands gs) v
       by None q e c = (let z : one_of (parent_of (row_at rs id)) v ≡ 0 = ap (λ o. one_of o v) q in omega (arith, e, c, z))
@@ -242,9 +197,6 @@ left_free rs gs id v f a n h u =
             let m : 1 < children rs v = a v (q ∙ ap Some y.1) u in omega (arith, e, m, z))
         | inr y ↦ (let z : one_of (parent_of (row_at rs id)) v ≡ 0 = no_one (parent_of (row_at rs id)) v (λ w. y.1 (let s : Some p ≡ Some v = sym q ∙ w in cc)) in omega (arith, e, c, z))
       ]
-
-more_than_none : (n : ℕ) → 0 < n → nat_lt 0 n ≡ true
-more_than_none n l = elim (leb_tells 1 n) [ inl t ↦ t.0 | inr t ↦ absurd (omega (arith, l, t.1)) ]
 
 -- it has none
 none_left_of : (rs : Rows) (gs : Counts) (id : ℕ) → IsForgotten rs gs id → left rs (stands gs) id ≡ 0
@@ -263,7 +215,7 @@ alone_tells rs gs id f a = told rs (stands gs) (is_held gs) (still_falls rs f.st
       let w : false ≡ (is_held gs v || nat_lt 0 (left rs (stands gs) v)) = rw (u, l) refl in s ∙ w)
   | inr y ↦ other_stands rs gs id v f.beside y.1 ∙ h ∙ elim (cases_Bool (is_held gs v)) [
     | inl z ↦ (let w : true ≡ (is_held gs v || nat_lt 0 (left rs (stands gs) v)) = rw z refl in w)
-    | inr z ↦ or_right (is_held gs v) (nat_lt 0 (left rs (stands gs) v)) (more_than_none (left rs (stands gs) v) (left_free rs gs id v f a y.1 h z))
+    | inr z ↦ sym (or_right (is_held gs v) (nat_lt 0 (left rs (stands gs) v)) (lt-ltb 0 (left rs (stands gs) v) (left_free rs gs id v f a y.1 h z)))
   ]
 ])
 
@@ -277,24 +229,11 @@ beside_settled rs mid gs id k b = record {
   clear = b.clear;
 }
 
-pub alone_let_go : (rs mid new : Rows) (gs : Counts) (id : ℕ) → InOrder rs → IsForgotten rs gs id → GoesAlone rs gs id → IsSettledSo rs mid gs → new ≡ without id mid → IsLetGo rs (count gs) new gs
+pub alone_let_go : (rs mid new : Rows) (gs : Counts) (id : ℕ) → InOrder rs → IsForgotten rs gs id → GoesAlone rs gs id → GoingIsSettled rs mid gs → new ≡ without id mid → IsLetGo rs (count gs) new gs
 alone_let_go rs mid new gs id o f a s n =
     let b : Beside (without id mid) gs = beside_settled rs mid gs id s.kept f.beside in
     let P : Rows → Type 0 = λ x. IsLetGo rs (count gs) x gs in
     subst P (sym n) (let_go_is rs mid (without id mid) gs gs gs o (λ v y. refl) (alone_tells rs gs id f a) s (one_less mid gs id b) b (λ v. refl))
-
--- ---- a root
-
-root_from : (k : ℕ) (r : Row) (rs : Rows) (o : Origin) → StillFrom rs k r o → parent_from o ≡ None → r.root ≡ k
-root_from k r rs Root s e = s.root_is
-root_from k r rs (View p t y) s e = (let z : Some p ≡ None = e in absurd (cc))
-
-own_root : (rs : Rows) (v : ℕ) → IsStill rs → has rs v ≡ true → parent_of (row_at rs v) ≡ None → (row_at rs v).root ≡ v
-own_root [] v s h e = (let z : false ≡ true = h in absurd (cc))
-own_root ((k, r) ∷ rs) v s h e = elim (eqb_tells k v) [
-  | inl y ↦ rw y.0 (root_from k r rs r.origin s.1 (rw y.0 at e) ∙ y.1)
-  | inr y ↦ rw y.0 (own_root rs v s.2 (rw y.0 at h) (rw y.0 at e))
-]
 
 -- it waits in no family
 pub root_waits : (rs : Rows) (gs : Counts) (id : ℕ) → InOrder rs → has rs id ≡ true → parent_of (row_at rs id) ≡ None → Beside (without id rs) gs → KeepsWaiting (stands gs) rs
@@ -302,27 +241,6 @@ root_waits rs gs id o h e b r v i y z =
     let w : IsWaiting rs r v = (o.family r i).waits v z in
     let n : v ≢ id = λ q. w.not_root (q ∙ sym (own_root rs id o.still h e) ∙ ap (λ x. (row_at rs x).root) (sym q) ∙ w.of_root) in
     b.numbers v ∙ stays_there rs id v n ∙ w.live
-
--- it has nothing above it
-root_alone : (rs : Rows) (gs : Counts) (id : ℕ) → parent_of (row_at rs id) ≡ None → GoesAlone rs gs id
-root_alone rs gs id e = λ p q u. (let z : None ≡ Some p = sym e ∙ q in absurd (cc))
-
-pub root_let_go : (rs new : Rows) (gs : Counts) (id : ℕ) → InOrder rs → AreKnown rs → IsForgotten rs gs id → parent_of (row_at rs id) ≡ None → new ≡ without id rs → IsLetGo rs (count gs) new gs
-root_let_go rs new gs id o a f e n =
-    alone_let_go rs rs new gs id o f (root_alone rs gs id e) (settled_so rs gs o a (root_waits rs gs id o f.live e f.beside)) n
-
--- ---- the holds after one was taken back
-
-less_count : (o : Option Hold) → count_in (less_one o) ≡ count_in o - 1
-less_count None = omega arith
-less_count (Some h) = refl
-
-not_one : (n : ℕ) → eqb n 1 ≡ false → 0 < n → 0 < n - 1
-not_one n e l = elim (eqb_tells n 1) [ inl t ↦ (let z : true ≡ false = sym t.0 ∙ e in absurd (cc)) | inr t ↦ omega (arith, l, t.1) ]
-
--- it wasn't the last
-pub still_held : (hs gs : Counts) (id : ℕ) → 0 < count hs id → eqb (count hs id) 1 ≡ false → hold_at gs id ≡ less_one (hold_at hs id) → is_held gs id ≡ true
-still_held hs gs id l e h = more_than_none (count gs id) (subst (λ n. 0 < n) (sym (ap count_in h ∙ less_count (hold_at hs id))) (not_one (count hs id) e l))
 
 -- it was the last
 pub last_beside : (rs : Rows) (hs gs : Counts) (id : ℕ) → Beside rs hs → hold_at gs id ≡ None → ((v : ℕ) → v ≢ id → hold_at gs v ≡ hold_at hs v) → Beside (without id rs) gs
@@ -336,63 +254,3 @@ last_beside rs hs gs id b h o = record {
     | inr y ↦ ap going_in (o v y.1) ∙ b.clear v
   ];
 }
-
-pub last_count : (hs gs : Counts) (id v : ℕ) → eqb (count hs id) 1 ≡ true → hold_at gs id ≡ None → ((x : ℕ) → x ≢ id → hold_at gs x ≡ hold_at hs x) → count gs v ≡ count_after id hs v
-last_count hs gs id v e h o = elim (eqb_tells v id) [
-  | inl y ↦ (let one : count hs id ≡ 1 = elim (eqb_tells (count hs id) 1) [ inl t ↦ t.1 | inr t ↦ (let z : false ≡ true = sym t.0 ∙ e in absurd (cc)) ] in
-      let less : count_in (less_one (hold_at hs v)) ≡ 0 = less_count (hold_at hs v) ∙ (let d : count hs v ≡ 1 = ap (count hs) y.1 ∙ one in omega (arith, d)) in
-      rw y.0 (ap (count gs) y.1 ∙ ap count_in h ∙ sym less))
-  | inr y ↦ rw y.0 (ap count_in (o v y.1))
-]
-
--- ---- what a release leaves
-
-none_loose : (rs : Rows) (hs : Counts) → AreTight [] rs hs → IsTight [] rs hs
-none_loose rs hs t = record { live = λ v h. (let z : false ≡ true = h in absurd (cc)); tight = t }
-
--- what was let go, and at how many steps
-pub record IsDone (rs : Rows) (hs : Counts) (id s : ℕ) (new : Rows) (gs : Counts) (n : ℕ) : Type 0 where
-  pub gone : IsLetGo rs (count_after id hs) new gs
-  pub counted : n ≡ s + going_sum rs (reached rs (after_release id hs)) rs
-
-pub done_kept : (rs : Rows) (hs gs : Counts) (id s : ℕ) → InOrder rs → AreKnown rs → Beside rs hs → AreTight [] rs hs → hold_at gs id ≡ less_one (hold_at hs id) → ((v : ℕ) → v ≢ id → hold_at gs v ≡ hold_at hs v)
-    → (is_held gs id ≡ false → has_views (shape rs) id ≡ true) → IsDone rs hs id s rs gs s
-done_kept rs hs gs id s o a b0 t0 h u f =
-    let b : Beside rs gs = beside_taken rs hs gs id b0 h u in
-    let t : AreTight [] rs gs = tight_one rs gs id (starts_tight rs hs gs [] id u (none_loose rs hs t0)) f in
-    record {
-      gone = let_go_as rs (count gs) (count_after id hs) rs gs (λ v. count_taken hs gs id v h u) (kept_let_go rs gs id o a b t);
-      counted = no_steps (stands gs) rs s (waiting_stands rs gs o b)
-          ∙ ap (λ n. s + n) (going_sums rs (stands gs) (reached rs (after_release id hs)) o (λ v l. kept_tells rs gs id v o b t l ∙ taken rs hs gs id v h u));
-    }
-
--- the last hold of one without views was taken back
-pub is_forgotten : (rs : Rows) (hs gs : Counts) (id : ℕ) → IsStill rs → Beside rs hs → 0 < count hs id → AreTight [] rs hs → has_views (shape rs) id ≡ false → hold_at gs id ≡ None → ((v : ℕ) → v ≢ id → hold_at gs v ≡ hold_at hs v) → IsForgotten rs gs id
-is_forgotten rs hs gs id s b l t n h o = record {
-  still = s;
-  live = starts_live rs hs [] id b l (none_loose rs hs t) id (under_first id []);
-  viewless = n;
-  beside = last_beside rs hs gs id b h o;
-  tight = starts_tight rs hs gs [] id o (none_loose rs hs t);
-}
-
-pub done_root : (rs new : Rows) (hs gs : Counts) (id s : ℕ) → InOrder rs → AreKnown rs → IsForgotten rs gs id → ((v : ℕ) → count gs v ≡ count_after id hs v) → is_none (parent_of (row_at rs id)) ≡ true → new ≡ without id rs → IsDone rs hs id s new gs s
-done_root rs new hs gs id s o a f e r n =
-    let p : parent_of (row_at rs id) ≡ None = is_root (parent_of (row_at rs id)) r in
-    record {
-      gone = let_go_as rs (count gs) (count_after id hs) new gs e (root_let_go rs new gs id o a f p n);
-      counted = no_steps (stands gs) rs s (root_waits rs gs id o f.live p f.beside)
-          ∙ ap (λ n. s + n) (going_sums rs (stands gs) (reached rs (after_release id hs)) o (λ v l. alone_tells rs gs id f (root_alone rs gs id p) v l ∙ ap (λ g. reached rs g v) (fun_ext (λ x. ap (nat_lt 0) (e x)))));
-    } where
-      is_root : (q : Option ℕ) → is_none q ≡ true → q ≡ None
-      is_root None y = refl
-      is_root (Some x) y = (let z : false ≡ true = y in absurd (cc))
-
-pub done_view : (rs mid new : Rows) (hs gs later : Counts) (id s n : ℕ) → mid ≡ rs → ((v : ℕ) → count gs v ≡ count_after id hs v) → IsLetGo mid (count gs) new later → n ≡ s + going_sum mid (reached mid (is_held gs)) mid → IsDone rs hs id s new later n
-done_view rs mid new hs gs later id s n m e g c =
-    let P : Rows → Type 0 = λ x. IsLetGo x (count gs) new later in
-    record {
-      gone = let_go_as rs (count gs) (count_after id hs) new later e (subst P m g);
-      counted = c ∙ ap (λ x. s + going_sum x (reached x (is_held gs)) x) m
-          ∙ ap (λ g. s + going_sum rs (reached rs g) rs) (fun_ext (λ x. ap (nat_lt 0) (e x)));
-    }

@@ -1,7 +1,6 @@
 -- What the table's calls do to its rows.
 use Rattle.std.proofs.Common.{◌≡◌, ℕ, ◌<◌, true, false, List, ◌∷◌, Option, Some, None, is_some, inl, inr, refl, sym, ◌∙◌, ap, subst, arith}
 use Rattle.std.proofs.lemmas.Bool.Decides.{eqb_tells}
-use Rattle.std.specs.Prelude.{Result, Ok, Err, OnErr}
 use Rattle.std.specs.Option.{IsSome}
 use Rattle.slab.specs.Slab.{Slab, get, ContainsKey, with_value}
 use Rattle.slab.specs.Slab.{Updates as Changes}
@@ -10,9 +9,10 @@ use Rattle.pdl_nodes.specs.Numbered.{IsAbove, IsPut, Rises, value_at}
 use Rattle.pdl_nodes.specs.Row.{Row}
 use Rattle.pdl_nodes.specs.Rows.{Rows, row_at, has, each, other, without, NumbersBelow, Falls}
 use Rattle.pdl_nodes.specs.Table.{node_at, node_or, rows_of, IsTable}
-use Rattle.pdl_nodes.proofs.Finds.{same, differ, has_below, each_has, each_at, falls_each, row_stays, has_stays, has_gone, falls_stays}
+use Rattle.pdl_nodes.proofs.Finds.{has_below, each_has, each_at, falls_each, row_stays, has_stays, has_gone, falls_stays}
 use Rattle.pdl_nodes.proofs.Numbers.{is_above}
 use Rattle.pdl_nodes.proofs.Slots.{Shows, shows, shown}
+use Rattle.std.proofs.lemmas.Bool.{eq-eqb, ne_eqb}
 
 pub seen : (t : Rows) (keys : List (ℕ × ℕ)) (nodes : Slab Row) → rows_of nodes keys ≡ t → IsTable keys nodes → Shows t keys nodes
 seen t keys nodes e i = let P : Rows → Type 0 = λ x. Shows x keys nodes in subst P e (shows keys nodes i.ordered)
@@ -34,7 +34,7 @@ pub node_is : (t : Rows) (keys : List (ℕ × ℕ)) (nodes : Slab Row) (v k : �
 node_is t keys nodes v k r e i h g = sym ((seen t keys nodes e i).row v k h ∙ ap node_or g)
 
 -- other nodes of the same keys
-pub rewritten : (f : ℕ → Row → Row) (t : Rows) (keys : List (ℕ × ℕ)) (nodes new : Slab Row) → Rises keys → Shows t keys nodes → ((v k : ℕ) → value_at keys v ≡ Some k → node_at new k ≡ f v (node_at nodes k)) → rows_of new keys ≡ each f t
+rewritten : (f : ℕ → Row → Row) (t : Rows) (keys : List (ℕ × ℕ)) (nodes new : Slab Row) → Rises keys → Shows t keys nodes → ((v k : ℕ) → value_at keys v ≡ Some k → node_at new k ≡ f v (node_at nodes k)) → rows_of new keys ≡ each f t
 rewritten f t keys nodes new o s h = shown (each f t) keys new o (record {
   falls = falls_each f t s.falls;
   none = λ v e. each_has f t v ∙ s.none v e;
@@ -56,11 +56,6 @@ changed_one f t keys nodes id key r q e i h g c o =
 -- the rows of a table fall
 pub table_falls : (t : Rows) (keys : List (ℕ × ℕ)) (nodes : Slab Row) → rows_of nodes keys ≡ t → IsTable keys nodes → Falls t
 table_falls t keys nodes e i = (seen t keys nodes e i).falls
-
--- what is so holds on an Err
-pub on_err : {A E : Type 0} (r : Result A E) (P : Type 0) → P → OnErr r P
-on_err (Ok x) P p = tt
-on_err (Err e) P p = p
 
 -- the same rows
 pub unchanged : (t : Rows) (keys kept : List (ℕ × ℕ)) (nodes new : Slab Row) → rows_of nodes keys ≡ t → IsTable keys nodes → kept ≡ keys → ((k : ℕ) → get new k ≡ get nodes k) → rows_of new kept ≡ t
@@ -133,8 +128,8 @@ joined t keys next nodes new id key r e i b o u z c =
 pub gone : (t : Rows) (keys next : List (ℕ × ℕ)) (nodes new : Slab Row) (id key : ℕ) → rows_of nodes keys ≡ t → IsTable keys nodes → Rises next → value_at keys id ≡ Some key → IsPut keys next id None → Changes nodes new key None → rows_of new next ≡ without id t
 gone t keys next nodes new id key e i o h u c =
     let s : Shows t keys nodes = seen t keys nodes e i in
-    let it : other id id ≡ false = rw (same id id refl) refl in
-    let not_it : (v : ℕ) → (id ≡ v → ⊥) → other id v ≡ true = λ v n. rw (differ v id (λ y. n (sym y))) refl in
+    let it : other id id ≡ false = rw (eq-eqb id id refl) refl in
+    let not_it : (v : ℕ) → (id ≡ v → ⊥) → other id v ≡ true = λ v n. rw (ne_eqb v id (λ y. n (sym y))) refl in
     let old : (v k : ℕ) → value_at next v ≡ Some k → (id ≡ v → ⊥) × (value_at keys v ≡ Some k) = λ v k g. elim (eqb_tells id v) [
       | inl y ↦ (let x : None ≡ Some k = sym (updated_here keys next id v None u y.1) ∙ g in absurd (cc))
       | inr n ↦ (n.1, sym (updated_there keys next id v None u n.1) ∙ g)

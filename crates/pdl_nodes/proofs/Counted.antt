@@ -1,21 +1,20 @@
 -- How many views each array has, through the table's calls.
-use Rattle.std.proofs.Common.{◌≡◌, ℕ, ℤ, ◌+◌, ◌<◌, ◌||◌, eqb, true, false, List, [], ◌∷◌, Option, Some, nat_lt, inl, inr, refl, sym, ◌∙◌, ap, subst, arith}
+use Rattle.std.proofs.Common.{◌≡◌, ℕ, ℤ, ◌+◌, ◌<◌, ◌||◌, true, false, List, [], ◌∷◌, Option, Some, nat_lt, inl, inr, refl, sym, ◌∙◌, ap, subst, arith}
 use Rattle.std.proofs.lemmas.Bool.Decides.{eqb_tells, leb_tells}
 use Rattle.pdl_world.specs.Cut.{has_views}
 use Rattle.pdl_world.specs.Swept.{holds, parents}
-use Rattle.pdl_world.specs.World.{World, root, view}
 use Rattle.pdl_nodes.specs.declared.origin.Origin.{Origin}
 use Rattle.pdl_nodes.specs.declared.origin.Origin.TheVariants.{Root, View}
 use Rattle.pdl_nodes.specs.Children.{Noted, noted, one_of, children, AreCounted}
 use Rattle.pdl_nodes.specs.Cut.{derive, derived_in, rooted_in}
 use Rattle.pdl_nodes.specs.Row.{Row, parent_from, parent_of}
 use Rattle.pdl_nodes.specs.Rows.{Rows, row_at, has, each, without, NumbersBelow, Falls}
-use Rattle.pdl_nodes.specs.Worlds.{def_from, shape, with_elements}
-use Rattle.pdl_nodes.proofs.Finds.{same, differ}
+use Rattle.pdl_nodes.specs.Worlds.{def_from, shape}
 use Rattle.pdl_nodes.proofs.Rests.{without_here}
+use Rattle.std.proofs.lemmas.Bool.{eq-eqb, ne_eqb}
 
 -- no row gets another parent
-abbrev pub KeepsParent : (ℕ → Row → Row) → Type 0
+abbrev KeepsParent : (ℕ → Row → Row) → Type 0
 KeepsParent f = (k : ℕ) (r : Row) → parent_of (f k r) ≡ parent_of r
 
 children_each : (f : ℕ → Row → Row) (rs : Rows) (v : ℕ) → KeepsParent f → children (each f rs) v ≡ children rs v
@@ -41,7 +40,6 @@ derived_parent rs u k r = elim (eqb_tells k u) [ inl y ↦ rw y.0 (by_origin r.o
   by_origin (View p t y) = refl
 
 -- ---- one node more, and one less
-
 pub counted_joined : (t b : Rows) (id : ℕ) (r : Row) (c d : Noted) (p : Option ℕ) → b ≡ (id, r) ∷ t → p ≡ parent_of r → ((v : ℕ) → noted d v ≡ one_of p v + noted c v) → AreCounted t c → AreCounted b d
 counted_joined t b id r c d p e g n h v =
     n v ∙ ap (λ o. one_of o v + noted c v) g ∙ ap (λ m. one_of (parent_of r) v + m) (h v) ∙ sym (ap (λ x. children x v) e)
@@ -57,7 +55,7 @@ children_without ((k, r) ∷ rs) id v f h = elim (eqb_tells k id) [
 ]
 
 -- one less of what its parent has
-pub counted_less : (t b : Rows) (c d : Noted) (p o : Option ℕ) → ((v : ℕ) → children t v ≡ one_of o v + children b v) → p ≡ o → ((v : ℕ) → noted c v ≡ one_of p v + noted d v) → AreCounted t c → AreCounted b d
+counted_less : (t b : Rows) (c d : Noted) (p o : Option ℕ) → ((v : ℕ) → children t v ≡ one_of o v + children b v) → p ≡ o → ((v : ℕ) → noted c v ≡ one_of p v + noted d v) → AreCounted t c → AreCounted b d
 counted_less t b c d p o l e n h v =
     let e2 : one_of p v ≡ one_of o v = ap (λ x. one_of x v) e in
     omega (arith, e2, l v, n v, h v)
@@ -70,7 +68,7 @@ counted_gone t b id c d p e f l g n h =
 none_rooted : (rs : Rows) (id v : ℕ) (ds : List ℕ) (es : List ℤ) → NumbersBelow id rs → children (each (rooted_in id ds es) rs) v ≡ children rs v
 none_rooted [] id v ds es b = refl
 none_rooted ((k, r) ∷ rs) id v ds es b =
-    rw (differ k id (λ (e : k ≡ id). let z : ⊥ = omega (arith, b.0) in z)) (ap (λ n. one_of (parent_of r) v + n) (none_rooted rs id v ds es b.1))
+    rw (ne_eqb k id (λ (e : k ≡ id). let z : ⊥ = omega (arith, b.0) in z)) (ap (λ n. one_of (parent_of r) v + n) (none_rooted rs id v ds es b.1))
 
 children_rooted : (rs : Rows) (id v : ℕ) (ds : List ℕ) (es : List ℤ) → Falls rs → has rs id ≡ true → children rs v ≡ one_of (parent_of (row_at rs id)) v + children (each (rooted_in id ds es) rs) v
 children_rooted [] id v ds es f h = (let z : false ≡ true = h in absurd (cc))
@@ -89,7 +87,7 @@ counted_rooted t b id ds es c d p e f l g n h =
 -- a parent has a view
 pub parent_counted : (t : Rows) (id v : ℕ) (c : Noted) (p : Option ℕ) → Falls t → has t id ≡ true → p ≡ parent_of (row_at t id) → AreCounted t c → p ≡ Some v → 0 < noted c v
 parent_counted t id v c p f l g h e =
-    let one : one_of (parent_of (row_at t id)) v ≡ 1 = ap (λ o. one_of o v) (sym g ∙ e) ∙ (let z : one_of (Some v) v ≡ 1 = rw (same v v refl) refl in z) in
+    let one : one_of (parent_of (row_at t id)) v ≡ 1 = ap (λ o. one_of o v) (sym g ∙ e) ∙ (let z : one_of (Some v) v ≡ 1 = rw (eq-eqb v v refl) refl in z) in
     omega (arith, one, children_without t id v f l, h v)
 
 -- what was added was taken back
@@ -98,11 +96,10 @@ taken_back c d e p a b v = omega (arith, a v, b v)
 
 pub added : (c d : Noted) (p : Option ℕ) (v : ℕ) → ((v : ℕ) → noted d v ≡ one_of p v + noted c v) → p ≡ Some v → 0 < noted d v
 added c d p v a e =
-    let one : one_of p v ≡ 1 = ap (λ o. one_of o v) e ∙ (let z : one_of (Some v) v ≡ 1 = rw (same v v refl) refl in z) in
+    let one : one_of p v ≡ 1 = ap (λ o. one_of o v) e ∙ (let z : one_of (Some v) v ≡ 1 = rw (eq-eqb v v refl) refl in z) in
     omega (arith, one, a v)
 
 -- ---- whether there is a view
-
 first_view : (r : Row) (o : Origin) (v n : ℕ) → (holds (parents (def_from r.ty r.triple.dims o)) v || nat_lt 0 n) ≡ nat_lt 0 (one_of (parent_from o) v + n)
 first_view r Root v n = ap (nat_lt 0) (let z : n ≡ 0 + n = omega arith in z)
 first_view r (View p t y) v n = elim (eqb_tells p v) [
@@ -113,9 +110,3 @@ first_view r (View p t y) v n = elim (eqb_tells p v) [
 pub views_counted : (rs : Rows) (v : ℕ) → has_views (shape rs) v ≡ nat_lt 0 (children rs v)
 views_counted [] v = refl
 views_counted ((k, r) ∷ rs) v = ap (λ b. holds (parents (def_from r.ty r.triple.dims r.origin)) v || b) (views_counted rs v) ∙ first_view r r.origin v (children rs v)
-
--- elements are no views
-pub views_with : (f : ℕ → List ℤ) (w : World) (v : ℕ) → has_views (with_elements f w) v ≡ has_views w v
-views_with f [] v = refl
-views_with f ((k, root ty ds es) ∷ w) v = views_with f w v
-views_with f ((k, view p t) ∷ w) v = ap (λ b. (eqb p v || false) || b) (views_with f w v)

@@ -25,15 +25,17 @@ use Rattle.pdl_nodes.specs.Row.{root_row, Row}
 use Rattle.pdl_nodes.specs.Rows.{Rows, row_at, has, NumbersBelow}
 use Rattle.pdl_nodes.specs.Still.{base_over, triple_over, IsDerived, StillFrom, IsStill}
 use Rattle.pdl_nodes.specs.Worlds.{shape, def_from, def_of, places_of, latest, world_of, with_elements, IsRoot}
-use Rattle.pdl_nodes.proofs.CutRows.{CutLaws, IsCut, cut_has, cut_tail, cut_still, cut_sized, sized_at}
+use Rattle.pdl_nodes.proofs.CutRows.{LawsBelow, IsCut, cut_has, cut_tail, cut_still, cut_sized, sized_at}
 use Rattle.pdl_nodes.proofs.FamilyLemmas.{latest_none, with_roots}
-use Rattle.pdl_nodes.proofs.Finds.{same, differ, not_newest}
+use Rattle.pdl_nodes.proofs.Finds.{not_newest}
 use Rattle.pdl_nodes.proofs.Joins.{whole_once}
 use Rattle.pdl_nodes.proofs.Sames.{IsSame, IsSameFamily, latest_same, family_same}
-use Rattle.pdl_nodes.proofs.Seens.{IsSeen, is_seen, row_older, places_older}
-use Rattle.pdl_nodes.proofs.Settles.{root_shows}
+use Rattle.pdl_nodes.proofs.Seens.{is_seen, row_older, places_older}
+use Rattle.pdl_nodes.proofs.Elements.{root_shows}
 use Rattle.pdl_nodes.proofs.Shapes.{marked_live}
 use Rattle.pdl_nodes.proofs.WorldLemmas.{look_with}
+use Rattle.pdl_nodes.specs.Seen.{IsSeen}
+use Rattle.std.proofs.lemmas.Bool.{eq-eqb, ne_eqb}
 
 -- an array is as it was, and not in the family of the new root; or it is in that, and then it is that root or isn't
 -- marked, its places aren't known, and it keeps nothing
@@ -61,9 +63,9 @@ apart_from rs v ds es rt u c h e =
 -- the row of a view that is derived anew over the same row
 same_mark : (r : Row) (k : ℕ) (a : Row) (o : Option Triple) → r.root ≡ a.root → r.base ≡ base_over k a.base o → r.triple ≡ triple_over r.triple.dims o → view_under k a.root a.base r o ≡ r
 same_mark r k a o er eb et =
-    let m : cond (eqb a.root r.root) r.mark false ≡ r.mark = rw (same a.root r.root (sym er)) refl in
-    let p : cond (eqb a.root r.root) r.places None ≡ r.places = rw (same a.root r.root (sym er)) refl in
-    let n : cond (eqb a.root r.root) r.kept [] ≡ r.kept = rw (same a.root r.root (sym er)) refl in
+    let m : cond (eqb a.root r.root) r.mark false ≡ r.mark = rw (eq-eqb a.root r.root (sym er)) refl in
+    let p : cond (eqb a.root r.root) r.places None ≡ r.places = rw (eq-eqb a.root r.root (sym er)) refl in
+    let n : cond (eqb a.root r.root) r.kept [] ≡ r.kept = rw (eq-eqb a.root r.root (sym er)) refl in
     let under : ℕ → ℕ → Triple → List ℤ → Bool → Option (List (Option ℕ)) → Row = λ x b u ks y ps. record r { root = x; base = b; triple = u; kept = ks; mark = y; places = ps } in
     ap (λ x. under x (base_over k a.base o) (triple_over r.triple.dims o) (cond (eqb a.root r.root) r.kept []) (cond (eqb a.root r.root) r.mark false) (cond (eqb a.root r.root) r.places None)) (sym er)
     ∙ ap (λ b. under r.root b (triple_over r.triple.dims o) (cond (eqb a.root r.root) r.kept []) (cond (eqb a.root r.root) r.mark false) (cond (eqb a.root r.root) r.places None)) (sym eb)
@@ -76,11 +78,11 @@ pub same_row : (tail rs : Rows) (k : ℕ) (r : Row) (p : ℕ) (t : Trans) (y : L
 same_row tail rs k r p t y e d =
     ap (λ (a : Row). view_under k a.root a.base r (over t a.triple)) e ∙ same_mark r k (row_at rs p) (over t (row_at rs p).triple) d.root_is d.base_is d.triple_is
 
-head_view : CutLaws → (rs : Rows) (v : ℕ) (ds : List ℕ) (es : List ℤ) (rt k : ℕ) (r : Row) (p : ℕ) (t : Trans) (y : Layout) → IsCut rs v ds es rt → NumbersBelow k rs → r.origin ≡ View p t y → StillFrom rs k r (View p t y) → (k ≡ v → ⊥)
+head_view : LawsBelow → (rs : Rows) (v : ℕ) (ds : List ℕ) (es : List ℤ) (rt k : ℕ) (r : Row) (p : ℕ) (t : Trans) (y : Layout) → IsCut rs v ds es rt → NumbersBelow k rs → r.origin ≡ View p t y → StillFrom rs k r (View p t y) → (k ≡ v → ⊥)
     → After rs v ds es rt p → After ((k, r) ∷ rs) v ds es rt k
 head_view laws rs v ds es rt k r p t y c b e s nk (inl a) =
     let q : view_under k (row_at (cut rs v ds es) p).root (row_at (cut rs v ds es) p).base r (over t (row_at (cut rs v ds es) p).triple) ≡ r = same_row (cut rs v ds es) rs k r p t y a.row s.1 in
-    let x : cut ((k, r) ∷ rs) v ds es ≡ (k, r) ∷ cut rs v ds es = rw (differ k v nk) (ap (λ (z : Row). (k, z) ∷ cut rs v ds es) (ap (derive (cut rs v ds es) k r) e ∙ q)) in
+    let x : cut ((k, r) ∷ rs) v ds es ≡ (k, r) ∷ cut rs v ds es = rw (ne_eqb k v nk) (ap (λ (z : Row). (k, z) ∷ cut rs v ds es) (ap (derive (cut rs v ds es) k r) e ∙ q)) in
     let d : def_of r ≡ view p t = ap (def_from r.ty r.triple.dims) e in
     let s1 : IsSeen rs p = is_seen rs c.still p s.0 in
     let s2 : IsSeen (cut rs v ds es) p = is_seen (cut rs v ds es) (cut_still laws rs v ds es rt c) p (cut_has rs v ds es p ∙ s.0) in
@@ -88,62 +90,62 @@ head_view laws rs v ds es rt k r p t y c b e s nk (inl a) =
     ∙ ap (λ (z : Row). Some (record { root = z.root; ty = z.ty; dims = z.triple.dims; places = places_of (cut rs v ds es) p })) a.row
     ∙ ap (λ (z : List (Option ℕ)). Some (record { root = (row_at rs p).root; ty = (row_at rs p).ty; dims = (row_at rs p).triple.dims; places = z })) a.places ∙ sym s1.looks in
     inl (record {
-      row = ap (λ z. row_at z k) x ∙ rw (same k k refl) refl;
-      places = ap (λ z. places_of z k) x ∙ rw (d, same k k refl, lk) refl;
-      apart = λ h. (let g : r.root ≡ v = rw (same k k refl) at h in apart_from rs v ds es rt p c s.0 (sym s.1.root_is ∙ g));
+      row = ap (λ z. row_at z k) x ∙ rw (eq-eqb k k refl) refl;
+      places = ap (λ z. places_of z k) x ∙ rw (d, eq-eqb k k refl, lk) refl;
+      apart = λ h. (let g : r.root ≡ v = rw (eq-eqb k k refl) at h in apart_from rs v ds es rt p c s.0 (sym s.1.root_is ∙ g));
     })
 head_view laws rs v ds es rt k r p t y c b e s nk (inr a) =
-    let x : row_at (cut ((k, r) ∷ rs) v ds es) k ≡ view_under k (row_at (cut rs v ds es) p).root (row_at (cut rs v ds es) p).base r (over t (row_at (cut rs v ds es) p).triple) = rw (same k k refl, differ k v nk) (ap (derive (cut rs v ds es) k r) e) in
+    let x : row_at (cut ((k, r) ∷ rs) v ds es) k ≡ view_under k (row_at (cut rs v ds es) p).root (row_at (cut rs v ds es) p).base r (over t (row_at (cut rs v ds es) p).triple) = rw (eq-eqb k k refl, ne_eqb k v nk) (ap (derive (cut rs v ds es) k r) e) in
     let w : r.root ≡ rt = s.1.root_is ∙ a.was in
     let ne : (row_at (cut rs v ds es) p).root ≡ r.root → ⊥ = λ z. c.not_root (sym w ∙ sym z ∙ a.root_is) in
     inr (record {
       root_is = ap (λ z. z.root) x ∙ a.root_is;
-      unmarked = inr (ap (λ z. z.mark) x ∙ rw (differ (row_at (cut rs v ds es) p).root r.root ne) refl);
-      unlisted = ap (λ z. z.places) x ∙ rw (differ (row_at (cut rs v ds es) p).root r.root ne) refl;
-      bare = λ n. ap (λ z. z.kept) x ∙ rw (differ (row_at (cut rs v ds es) p).root r.root ne) refl;
-      was = rw (same k k refl) w;
+      unmarked = inr (ap (λ z. z.mark) x ∙ rw (ne_eqb (row_at (cut rs v ds es) p).root r.root ne) refl);
+      unlisted = ap (λ z. z.places) x ∙ rw (ne_eqb (row_at (cut rs v ds es) p).root r.root ne) refl;
+      bare = λ n. ap (λ z. z.kept) x ∙ rw (ne_eqb (row_at (cut rs v ds es) p).root r.root ne) refl;
+      was = rw (eq-eqb k k refl) w;
     })
 
 head_root : (rs : Rows) (v : ℕ) (ds : List ℕ) (es : List ℤ) (rt k : ℕ) (r : Row) → r.origin ≡ Root → StillFrom rs k r Root → (k ≡ v → ⊥) → After ((k, r) ∷ rs) v ds es rt k
 head_root rs v ds es rt k r e s nk =
-    let x : cut ((k, r) ∷ rs) v ds es ≡ (k, r) ∷ cut rs v ds es = rw (differ k v nk) (ap (λ (z : Row). (k, z) ∷ cut rs v ds es) (ap (derive (cut rs v ds es) k r) e)) in
+    let x : cut ((k, r) ∷ rs) v ds es ≡ (k, r) ∷ cut rs v ds es = rw (ne_eqb k v nk) (ap (λ (z : Row). (k, z) ∷ cut rs v ds es) (ap (derive (cut rs v ds es) k r) e)) in
     let d : def_of r ≡ root r.ty r.triple.dims [] = ap (def_from r.ty r.triple.dims) e in
     inl (record {
-      row = ap (λ z. row_at z k) x ∙ rw (same k k refl) refl;
-      places = ap (λ z. places_of z k) x ∙ rw (d, same k k refl) refl;
-      apart = λ h. nk (sym s.root_is ∙ (rw (same k k refl) at h));
+      row = ap (λ z. row_at z k) x ∙ rw (eq-eqb k k refl) refl;
+      places = ap (λ z. places_of z k) x ∙ rw (d, eq-eqb k k refl) refl;
+      apart = λ h. nk (sym s.root_is ∙ (rw (eq-eqb k k refl) at h));
     })
 
-head_from : CutLaws → (rs : Rows) (v : ℕ) (ds : List ℕ) (es : List ℤ) (rt k : ℕ) (r : Row) (o : Origin) → IsCut rs v ds es rt → NumbersBelow k rs → r.origin ≡ o → StillFrom rs k r o → (k ≡ v → ⊥)
+head_from : LawsBelow → (rs : Rows) (v : ℕ) (ds : List ℕ) (es : List ℤ) (rt k : ℕ) (r : Row) (o : Origin) → IsCut rs v ds es rt → NumbersBelow k rs → r.origin ≡ o → StillFrom rs k r o → (k ≡ v → ⊥)
     → ((u : ℕ) → has rs u ≡ true → After rs v ds es rt u) → After ((k, r) ∷ rs) v ds es rt k
 head_from laws rs v ds es rt k r Root c b e s nk f = head_root rs v ds es rt k r e s nk
 head_from laws rs v ds es rt k r (View p t y) c b e s nk f = head_view laws rs v ds es rt k r p t y c b e s nk (f p s.0)
 
 tail_from : (rs : Rows) (v : ℕ) (ds : List ℕ) (es : List ℤ) (rt k u : ℕ) (r : Row) → (k ≡ u → ⊥) → After rs v ds es rt u → After ((k, r) ∷ rs) v ds es rt u
 tail_from rs v ds es rt k u r n (inl a) = inl (record {
-  row = rw (differ k u n) a.row;
+  row = rw (ne_eqb k u n) a.row;
   places = places_older k (cond (eqb k v) (root_row k r.ty ds es) (derive (cut rs v ds es) k r r.origin)) (cut rs v ds es) u n ∙ a.places ∙ sym (places_older k r rs u n);
-  apart = λ h. a.apart (rw (differ k u n) at h);
+  apart = λ h. a.apart (rw (ne_eqb k u n) at h);
 })
 tail_from rs v ds es rt k u r n (inr a) = inr (record {
-  root_is = rw (differ k u n) a.root_is;
-  unmarked = rw (differ k u n) a.unmarked;
-  unlisted = rw (differ k u n) a.unlisted;
-  bare = rw (differ k u n) a.bare;
-  was = rw (differ k u n) a.was;
+  root_is = rw (ne_eqb k u n) a.root_is;
+  unmarked = rw (ne_eqb k u n) a.unmarked;
+  unlisted = rw (ne_eqb k u n) a.unlisted;
+  bare = rw (ne_eqb k u n) a.bare;
+  was = rw (ne_eqb k u n) a.was;
 })
 
 -- each array of a cut table
-pub after : CutLaws → (rs : Rows) (v : ℕ) (ds : List ℕ) (es : List ℤ) (rt : ℕ) → IsCut rs v ds es rt → (u : ℕ) → has rs u ≡ true → After rs v ds es rt u
+pub after : LawsBelow → (rs : Rows) (v : ℕ) (ds : List ℕ) (es : List ℤ) (rt : ℕ) → IsCut rs v ds es rt → (u : ℕ) → has rs u ≡ true → After rs v ds es rt u
 after laws [] v ds es rt c u h = (let z : false ≡ true = h in absurd (cc))
 after laws ((k, r) ∷ rs) v ds es rt c u h = elim (eqb_tells k u) [
   | inl t ↦ elim (cases_eq k v) [
     | inl y ↦ (let w : r.root ≡ rt = (let f : (row_at ((k, r) ∷ rs) u).root ≡ rt = c.root_is u h (sym t.1 ∙ y) in rw t.0 at f) in
         inr (record {
-          root_is = rw (t.0, same k v y) y;
+          root_is = rw (t.0, eq-eqb k v y) y;
           unmarked = inl (sym t.1 ∙ y);
-          unlisted = rw (t.0, same k v y) refl;
-          bare = rw (t.0, same k v y) (λ n. absurd (n t.1));
+          unlisted = rw (t.0, eq-eqb k v y) refl;
+          bare = rw (t.0, eq-eqb k v y) (λ n. absurd (n t.1));
           was = rw t.0 w;
         }))
     | inr y ↦ (let P : ℕ → Type 0 = λ x. After ((k, r) ∷ rs) v ds es rt x in
@@ -168,7 +170,7 @@ new_member rs v ds es rt b m g me (inr a) = elim a.unmarked [
   | inr e ↦ (let k : true ≡ false = sym m ∙ e in absurd (cc))
 ]
 
-cut_family_new : CutLaws → (rs : Rows) (v : ℕ) (ds : List ℕ) (es : List ℤ) (rt : ℕ) → IsCut rs v ds es rt → has rs v ≡ true → InFamily (cut rs v ds es) v
+cut_family_new : LawsBelow → (rs : Rows) (v : ℕ) (ds : List ℕ) (es : List ℤ) (rt : ℕ) → IsCut rs v ds es rt → has rs v ≡ true → InFamily (cut rs v ds es) v
 cut_family_new laws rs v ds es rt c h =
     let new : Rows = cut rs v ds es in
     let row : row_at (cut rs v ds es) v ≡ root_row v (row_at rs v).ty ds es = cut_row rs v ds es h in
@@ -210,7 +212,7 @@ as_same : (rs : Rows) (v : ℕ) (ds : List ℕ) (es : List ℤ) (u : ℕ) → Is
 as_same rs v ds es u a = record { row = a.row; places = a.places }
 
 -- a root but the new one, and its family
-old_family : CutLaws → (rs : Rows) (v : ℕ) (ds : List ℕ) (es : List ℤ) (rt r : ℕ) → IsCut rs v ds es rt → InOrder rs → (row_at rs rt).waiting ≡ None → IsRoot rs r → (r ≡ v → ⊥) → IsUntouched rs v ds es r → IsSameFamily rs (cut rs v ds es) r
+old_family : LawsBelow → (rs : Rows) (v : ℕ) (ds : List ℕ) (es : List ℤ) (rt r : ℕ) → IsCut rs v ds es rt → InOrder rs → (row_at rs rt).waiting ≡ None → IsRoot rs r → (r ≡ v → ⊥) → IsUntouched rs v ds es r → IsSameFamily rs (cut rs v ds es) r
 old_family laws rs v ds es rt r c o q i ne a = record {
   root = as_same rs v ds es r a;
   marked = λ b mk g. (let hb : has rs b ≡ true = sym (cut_has rs v ds es b) ∙ marked_live (cut rs v ds es) b mk in
@@ -219,14 +221,14 @@ old_family laws rs v ds es rt r c o q i ne a = record {
       (as_same rs v ds es w (old_waiting rs v ds es rt r w q e y.of_root (after laws rs v ds es rt c w y.live)), cut_has rs v ds es w ∙ y.live));
 }
 
-cut_family_old : CutLaws → (rs : Rows) (v : ℕ) (ds : List ℕ) (es : List ℤ) (rt r : ℕ) → IsCut rs v ds es rt → InOrder rs → (row_at rs rt).waiting ≡ None → IsRoot (cut rs v ds es) r → (r ≡ v → ⊥) → InFamily (cut rs v ds es) r
+cut_family_old : LawsBelow → (rs : Rows) (v : ℕ) (ds : List ℕ) (es : List ℤ) (rt r : ℕ) → IsCut rs v ds es rt → InOrder rs → (row_at rs rt).waiting ≡ None → IsRoot (cut rs v ds es) r → (r ≡ v → ⊥) → InFamily (cut rs v ds es) r
 cut_family_old laws rs v ds es rt r c o q i ne =
     let hr : has rs r ≡ true = sym (cut_has rs v ds es r) ∙ i.0 in
     let a : IsUntouched rs v ds es r = old_member rs v ds es rt r r i.1 ne (after laws rs v ds es rt c r hr) in
     let j : IsRoot rs r = (hr, ap (λ x. x.root) (sym a.row) ∙ i.1) in
     family_same rs (cut rs v ds es) r (old_family laws rs v ds es rt r c o q j ne a) (o.family r j)
 
-pub cut_order : CutLaws → (rs : Rows) (v : ℕ) (ds : List ℕ) (es : List ℤ) (rt : ℕ) → IsCut rs v ds es rt → InOrder rs → (row_at rs rt).waiting ≡ None → has rs v ≡ true → InOrder (cut rs v ds es)
+cut_order : LawsBelow → (rs : Rows) (v : ℕ) (ds : List ℕ) (es : List ℤ) (rt : ℕ) → IsCut rs v ds es rt → InOrder rs → (row_at rs rt).waiting ≡ None → has rs v ≡ true → InOrder (cut rs v ds es)
 cut_order laws rs v ds es rt c o q h = record {
   still = cut_still laws rs v ds es rt c;
   family = λ r i. elim (cases_eq r v) [
@@ -245,9 +247,9 @@ cut_shape : (rs : Rows) (v : ℕ) (ds : List ℕ) (es : List ℤ) (ty : Ty) → 
 cut_shape [] v ds es ty s f = refl
 cut_shape ((k, r) ∷ rs) v ds es ty s f =
     let tail : shape (cut rs v ds es) ≡ replaced (shape rs) v (root ty ds []) = cut_shape rs v ds es ty s.2 (λ u h e. (let n : k ≡ u → ⊥ = not_newest rs k u s.0 h in
-    ap (λ (x : Row). x.ty) (sym (row_older k r rs u n)) ∙ f u (rw (differ k u n) h) e)) in
+    ap (λ (x : Row). x.ty) (sym (row_older k r rs u n)) ∙ f u (rw (ne_eqb k u n) h) e)) in
     elim (eqb_tells k v) [
-      | inl y ↦ (let w : r.ty ≡ ty = (let g : (row_at ((k, r) ∷ rs) k).ty ≡ ty = f k (rw (same k k refl) refl) y.1 in rw (same k k refl) at g) in
+      | inl y ↦ (let w : r.ty ≡ ty = (let g : (row_at ((k, r) ∷ rs) k).ty ≡ ty = f k (rw (eq-eqb k k refl) refl) y.1 in rw (eq-eqb k k refl) at g) in
           rw y.0 (ap (λ x. (k, root x ds []) ∷ shape (cut rs v ds es)) w ∙ ap (λ x. (k, root ty ds []) ∷ x) tail))
       | inr y ↦ rw y.0 (ap (λ x. (k, x) ∷ shape (cut rs v ds es)) (derive_def (cut rs v ds es) k r r.origin refl) ∙ ap (λ x. (k, def_of r) ∷ x) tail)
     ]
@@ -273,12 +275,12 @@ root_stays [] v ds es s r i n = (let z : false ≡ true = i.0 in absurd (cc))
 root_stays ((k, q) ∷ rs) v ds es s r i n = elim (eqb_tells k r) [
   | inl t ↦ (let nk : k ≡ v → ⊥ = λ e. n (sym t.1 ∙ e) in
       let here : q.root ≡ k = rw t.0 at i.1 ∙ sym t.1 in
-      rw (t.0, differ k v nk) (root_from rs k q v ds es q.origin s.2 s.0 s.1 here ∙ t.1))
+      rw (t.0, ne_eqb k v nk) (root_from rs k q v ds es q.origin s.2 s.0 s.1 here ∙ t.1))
   | inr t ↦ rw t.0 (root_stays rs v ds es s.2 r (rw t.0 at i) n)
 ]
 
 -- the roots that were there keep their elements
-roots_keep : CutLaws → (rs : Rows) (v : ℕ) (ds : List ℕ) (es : List ℤ) (rt r : ℕ) → IsCut rs v ds es rt → InOrder rs → (row_at rs rt).waiting ≡ None → IsRoot rs r → After rs v ds es rt r → latest (cut rs v ds es) r ≡ latest rs r
+roots_keep : LawsBelow → (rs : Rows) (v : ℕ) (ds : List ℕ) (es : List ℤ) (rt r : ℕ) → IsCut rs v ds es rt → InOrder rs → (row_at rs rt).waiting ≡ None → IsRoot rs r → After rs v ds es rt r → latest (cut rs v ds es) r ≡ latest rs r
 roots_keep laws rs v ds es rt r c o q i (inl a) =
     latest_same rs (cut rs v ds es) r (old_family laws rs v ds es rt r c o q i (λ e. a.apart (i.1 ∙ e)) a)
 roots_keep laws rs v ds es rt r c o q i (inr a) =
@@ -290,7 +292,7 @@ latest_new rs v ds es h =
     let row : row_at (cut rs v ds es) v ≡ root_row v (row_at rs v).ty ds es = cut_row rs v ds es h in
     latest_none (cut rs v ds es) v (ap (λ x. x.waiting) row) ∙ ap (λ x. x.kept) row
 
-world_cut : CutLaws → (rs : Rows) (v : ℕ) (ds : List ℕ) (es : List ℤ) (rt : ℕ) → IsCut rs v ds es rt → InOrder rs → (row_at rs rt).waiting ≡ None → has rs v ≡ true
+world_cut : LawsBelow → (rs : Rows) (v : ℕ) (ds : List ℕ) (es : List ℤ) (rt : ℕ) → IsCut rs v ds es rt → InOrder rs → (row_at rs rt).waiting ≡ None → has rs v ≡ true
     → world_of (cut rs v ds es) ≡ replaced (world_of rs) v (root (row_at rs v).ty ds es)
 world_cut laws rs v ds es rt c o q h =
     let f : ℕ → List ℤ = latest (cut rs v ds es) in
@@ -318,7 +320,7 @@ is_cut rs v ds es c = record {
   count = c.count;
 }
 
-pub severs : CutLaws → CuttingSevers
+pub severs : LawsBelow → CuttingSevers
 severs laws = λ rs v ds es c e.
     let k : IsCut rs v ds es (row_at rs v).root = is_cut rs v ds es c in (
       cut_order laws rs v ds es (row_at rs v).root k c.order c.nothing c.live,
@@ -333,7 +335,7 @@ others_by : (rs : Rows) (v : ℕ) (ds : List ℕ) (es : List ℤ) (rt u : ℕ) �
 others_by rs v ds es rt u n (inl a) = a.row
 others_by rs v ds es rt u n (inr a) = absurd (n a.was)
 
-pub leaves_families : CutLaws → CuttingLeavesFamilies
+pub leaves_families : LawsBelow → CuttingLeavesFamilies
 leaves_families laws = λ rs v ds es c u h n. others_by rs v ds es (row_at rs v).root u n (after laws rs v ds es (row_at rs v).root (is_cut rs v ds es c) u h)
 
 -- what waits
@@ -345,7 +347,7 @@ cut_waiting : (rs : Rows) (v : ℕ) (ds : List ℕ) (es : List ℤ) (u : ℕ) �
     → (row_at (cut rs v ds es) u).waiting ≡ (row_at rs u).waiting
 cut_waiting [] v ds es u n = refl
 cut_waiting ((k, r) ∷ rs) v ds es u n = elim (eqb_tells k u) [
-  | inl t ↦ rw (t.0, differ k v (λ e. n (sym t.1 ∙ e))) (derive_waiting (cut rs v ds es) k r r.origin)
+  | inl t ↦ rw (t.0, ne_eqb k v (λ e. n (sym t.1 ∙ e))) (derive_waiting (cut rs v ds es) k r r.origin)
   | inr t ↦ rw t.0 (cut_waiting rs v ds es u n)
 ]
 
@@ -358,7 +360,7 @@ settled_by rs v ds es rt u h n w e (inl a) =
 settled_by rs v ds es rt u h n w e (inr a) =
     ap (λ x. (row_at (cut rs v ds es) x).waiting) a.root_is ∙ ap (λ x. x.waiting) (cut_row rs v ds es h)
 
-pub stays_settled : CutLaws → CutsStaySettled
+pub stays_settled : LawsBelow → CutsStaySettled
 stays_settled laws = λ rs v ds es c u h e.
     settled_by rs v ds es (row_at rs v).root u c.live c.not_root c.nothing e
     (after laws rs v ds es (row_at rs v).root (is_cut rs v ds es c) u h)
@@ -383,10 +385,10 @@ known_by rs v ds es rt u k (inr a) = record {
   bare = a.bare;
 }
 
-pub stays_known : CutLaws → CutsStayKnown
+pub stays_known : LawsBelow → CutsStayKnown
 stays_known laws = λ rs v ds es c k u h.
     let g : has rs u ≡ true = sym (cut_has rs v ds es u) ∙ h in
     known_by rs v ds es (row_at rs v).root u (k u g) (after laws rs v ds es (row_at rs v).root (is_cut rs v ds es c) u g)
 
-pub stays_sized : CutLaws → CutsStaySized
+pub stays_sized : LawsBelow → CutsStaySized
 stays_sized laws = λ rs v ds es c. cut_sized laws rs v ds es (row_at rs v).root (is_cut rs v ds es c)

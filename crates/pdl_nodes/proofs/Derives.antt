@@ -1,5 +1,5 @@
 -- The loop of a cut, which derives each newer row anew.
-use Rattle.std.proofs.Common.{◌≡◌, ℕ, ℤ, ◌+◌, ◌-◌, ◌<◌, ◌≤◌, true, false, eqb, cond, List, [], ◌∷◌, Option, Some, None, ◌⊎◌, inl, inr, refl, sym, ◌∙◌, ap, subst, arith}
+use Rattle.std.proofs.Common.{◌≡◌, ℕ, ℤ, ◌+◌, ◌-◌, ◌<◌, ◌≤◌, true, false, eqb, cond, List, [], ◌∷◌, Option, Some, None, inl, inr, refl, sym, ◌∙◌, ap, subst, arith}
 use Rattle.std.specs.Option.{option_map_or}
 use Rattle.std.proofs.lemmas.Bool.{cases_eq, cases_lt}
 use Rattle.std.proofs.lemmas.Bool.Decides.{eqb_tells}
@@ -13,25 +13,26 @@ use Rattle.pdl_nodes.specs.Rows.{Rows, row_at, has, each, NumbersBelow, Falls}
 use Rattle.pdl_nodes.specs.Sized.{IsLayout, LaidFrom, AreSized}
 use Rattle.pdl_nodes.specs.Still.{StillFrom, IsStill}
 use Rattle.pdl_nodes.proofs.CutOrder.{same_row, cut_row, is_cut}
-use Rattle.pdl_nodes.proofs.CutRows.{CutLaws, IsLike, cut_like}
+use Rattle.pdl_nodes.proofs.CutRows.{LawsBelow, IsLike, cut_like}
 use Rattle.pdl_nodes.proofs.FamilyLemmas.{still_falls}
-use Rattle.pdl_nodes.proofs.Finds.{same, differ, not_newest, has_below, each_has, each_at, falls_each}
+use Rattle.pdl_nodes.proofs.Finds.{not_newest, has_below, each_has, each_at, falls_each}
 use Rattle.pdl_nodes.proofs.Firsts.{IsFirst, is_first}
 use Rattle.pdl_nodes.proofs.Marks.{each_live, each_each}
 use Rattle.pdl_nodes.proofs.Seens.{row_older, has_older}
+use Rattle.std.proofs.lemmas.Bool.{eq-eqb, ne_eqb}
 
 -- the changes of one row
 pub rooted_here : (id : ℕ) (ds : List ℕ) (es : List ℤ) (r : Row) → root_row id r.ty ds es ≡ rooted_in id ds es id r
-rooted_here id ds es r = rw (same id id refl) refl
+rooted_here id ds es r = rw (eq-eqb id id refl) refl
 
 pub rooted_others : (id : ℕ) (ds : List ℕ) (es : List ℤ) (v : ℕ) (r : Row) → (v ≡ id → ⊥) → rooted_in id ds es v r ≡ r
-rooted_others id ds es v r n = rw (differ v id n) refl
+rooted_others id ds es v r n = rw (ne_eqb v id n) refl
 
-pub derived_here : (rs : Rows) (id : ℕ) (r : Row) → derive rs id r r.origin ≡ derived_in rs id id r
-derived_here rs id r = rw (same id id refl) refl
+derived_here : (rs : Rows) (id : ℕ) (r : Row) → derive rs id r r.origin ≡ derived_in rs id id r
+derived_here rs id r = rw (eq-eqb id id refl) refl
 
 pub derived_others : (rs : Rows) (id v : ℕ) (r : Row) → (v ≡ id → ⊥) → derived_in rs id v r ≡ r
-derived_others rs id v r n = rw (differ v id n) refl
+derived_others rs id v r n = rw (ne_eqb v id n) refl
 
 derive_none : (rs : Rows) (k : ℕ) (r : Row) (o : Origin) → parent_from o ≡ None → derive rs k r o ≡ r
 derive_none rs k r Root e = refl
@@ -41,15 +42,15 @@ each_id_by : (f : ℕ → Row → Row) (rs : Rows) → Falls rs → ((k : ℕ) �
 each_id_by f [] s h = refl
 each_id_by f ((k, r) ∷ rs) s h =
     let tail : each f rs ≡ rs = each_id_by f rs s.1 (λ v l. (let n : k ≡ v → ⊥ = not_newest rs k v s.0 l in
-    let e : f v (row_at ((k, r) ∷ rs) v) ≡ row_at ((k, r) ∷ rs) v = h v (rw (differ k v n) l) in rw (differ k v n) at e)) in
-    let here : f k (row_at ((k, r) ∷ rs) k) ≡ row_at ((k, r) ∷ rs) k = h k (rw (same k k refl) refl) in
-    let head : f k r ≡ r = rw (same k k refl) at here in
+    let e : f v (row_at ((k, r) ∷ rs) v) ≡ row_at ((k, r) ∷ rs) v = h v (rw (ne_eqb k v n) l) in rw (ne_eqb k v n) at e)) in
+    let here : f k (row_at ((k, r) ∷ rs) k) ≡ row_at ((k, r) ∷ rs) k = h k (rw (eq-eqb k k refl) refl) in
+    let head : f k r ≡ r = rw (eq-eqb k k refl) at here in
     cc
 
 pub derived_none : (rs : Rows) (id : ℕ) → Falls rs → parent_of (row_at rs id) ≡ None → rs ≡ each (derived_in rs id) rs
 derived_none rs id s n = sym (each_id_by (derived_in rs id) rs s (λ k h. elim (eqb_tells k id) [
   | inl t ↦ (let P : ℕ → Type 0 = λ x. derived_in rs id x (row_at rs x) ≡ row_at rs x in
-      subst P (sym t.1) (rw (same id id refl) (derive_none rs id (row_at rs id) (row_at rs id).origin n)))
+      subst P (sym t.1) (rw (eq-eqb id id refl) (derive_none rs id (row_at rs id) (row_at rs id).origin n)))
   | inr t ↦ rw t.0 refl
 ]))
 
@@ -79,16 +80,16 @@ cut_older [] s v ds es b u h = (let z : false ≡ true = h in absurd (cc))
 cut_older ((k, r) ∷ rs) s v ds es b u h =
     let n : k ≡ v → ⊥ = λ e. (let low : k < v = b.0 in let z : ⊥ = omega arith in z) in
     elim (eqb_tells k u) [
-      | inl t ↦ rw (t.0, differ k v n) (older_from rs (cut rs v ds es) k r r.origin s.0 s.1 (cut_older rs s.2 v ds es b.1))
+      | inl t ↦ rw (t.0, ne_eqb k v n) (older_from rs (cut rs v ds es) k r r.origin s.0 s.1 (cut_older rs s.2 v ds es b.1))
       | inr t ↦ rw t.0 (cut_older rs s.2 v ds es b.1 u (rw t.0 at h))
     ]
 
-pub cut_low : (rs : Rows) → IsStill rs → (v : ℕ) (ds : List ℕ) (es : List ℤ) (u : ℕ) → has rs u ≡ true → u < v → row_at (cut rs v ds es) u ≡ row_at rs u
+cut_low : (rs : Rows) → IsStill rs → (v : ℕ) (ds : List ℕ) (es : List ℤ) (u : ℕ) → has rs u ≡ true → u < v → row_at (cut rs v ds es) u ≡ row_at rs u
 cut_low [] s v ds es u h l = (let z : false ≡ true = h in absurd (cc))
 cut_low ((k, r) ∷ rs) s v ds es u h l = elim (eqb_tells k u) [
   | inl t ↦ (let n : k ≡ v → ⊥ = λ e. (let z : ⊥ = omega (arith, t.1) in z) in
       let b : NumbersBelow v rs = below_up rs k v (omega (arith, t.1)) s.0 in
-      rw (t.0, differ k v n) (older_from rs (cut rs v ds es) k r r.origin s.0 s.1 (cut_older rs s.2 v ds es b)))
+      rw (t.0, ne_eqb k v n) (older_from rs (cut rs v ds es) k r r.origin s.0 s.1 (cut_older rs s.2 v ds es b)))
   | inr t ↦ rw t.0 (cut_low rs s.2 v ds es u (rw t.0 at h) l)
 ] where
   below_up : (rs : Rows) (m n : ℕ) → m < n → NumbersBelow m rs → NumbersBelow n rs
@@ -132,10 +133,10 @@ cut_step [] s v ds es u h n = (let z : false ≡ true = h in absurd (cc))
 cut_step ((k, r) ∷ rs) s v ds es u h n = elim (cases_eq k u) [
   | inl t ↦ (let ne : k ≡ v → ⊥ = λ e. n (sym t ∙ e) in
       let q : Row = derive (cut rs v ds es) k r r.origin in
-      let x : cut ((k, r) ∷ rs) v ds es ≡ (k, derive (cut rs v ds es) k r r.origin) ∷ cut rs v ds es = rw (differ k v ne) refl in
+      let x : cut ((k, r) ∷ rs) v ds es ≡ (k, derive (cut rs v ds es) k r r.origin) ∷ cut rs v ds es = rw (ne_eqb k v ne) refl in
       let P : ℕ → Type 0 = λ z. row_at (cut ((k, r) ∷ rs) v ds es) z ≡ derive (cut ((k, r) ∷ rs) v ds es) z (row_at ((k, r) ∷ rs) z) (row_at ((k, r) ∷ rs) z).origin in
       let Q : Rows → Type 0 = λ z. row_at z k ≡ derive z k (row_at ((k, r) ∷ rs) k) (row_at ((k, r) ∷ rs) k).origin in
-      subst P t (subst Q (sym x) (rw (same k k refl) (step_here k r (derive (cut rs v ds es) k r r.origin) rs (cut rs v ds es) s.0 s.1))))
+      subst P t (subst Q (sym x) (rw (eq-eqb k k refl) (step_here k r (derive (cut rs v ds es) k r r.origin) rs (cut rs v ds es) s.0 s.1))))
   | inr t ↦ (let l : has rs u ≡ true = sym (has_older k r rs u t) ∙ h in
       let q : Row = cond (eqb k v) (root_row k r.ty ds es) (derive (cut rs v ds es) k r r.origin) in
       row_older k (cond (eqb k v) (root_row k r.ty ds es) (derive (cut rs v ds es) k r r.origin)) (cut rs v ds es) u t
@@ -153,7 +154,7 @@ each_cut ((k, r) ∷ rs) s v ds es =
     each_live (λ j x. row_at (cut ((k, r) ∷ rs) v ds es) j) (λ j x. row_at (cut rs v ds es) j) rs (still_falls rs s.2)
     (λ j h. row_older k (cond (eqb k v) (root_row k r.ty ds es) (derive (cut rs v ds es) k r r.origin)) (cut rs v ds es) j (not_newest rs k j s.0 h))
     ∙ each_cut rs s.2 v ds es in
-    let head : row_at (cut ((k, r) ∷ rs) v ds es) k ≡ cond (eqb k v) (root_row k r.ty ds es) (derive (cut rs v ds es) k r r.origin) = rw (same k k refl) refl in
+    let head : row_at (cut ((k, r) ∷ rs) v ds es) k ≡ cond (eqb k v) (root_row k r.ty ds es) (derive (cut rs v ds es) k r r.origin) = rw (eq-eqb k k refl) refl in
     cc
 
 -- the rows below i are those of the cut, the others are as they were; and the next is the first from i on
@@ -192,7 +193,7 @@ cutting_none t0 v ds es t next s h e b = record {
     | inl y ↦ rw y.0 (let P : ℕ → Type 0 = λ x. root_row v (row_at t0 x).ty ds es ≡ row_at (cut t0 v ds es) x in subst P (sym y.1) (sym (cut_row t0 v ds es h)))
     | inr y ↦ rw y.0 (sym (cut_low t0 s v ds es u g (omega (arith, y.1))))
   ];
-  rest = λ u g l. ap (λ x. row_at x u) e ∙ each_at (rooted_in v ds es) t0 u g ∙ rw (differ u v (λ y. (let z : ⊥ = omega arith in z))) refl;
+  rest = λ u g l. ap (λ x. row_at x u) e ∙ each_at (rooted_in v ds es) t0 u g ∙ rw (ne_eqb u v (λ y. (let z : ⊥ = omega arith in z))) refl;
 }
 
 -- the next number is live and newer, and the rows before it are done
@@ -211,15 +212,13 @@ is_at t0 v ds es t next id c e =
       live = f.1;
       newer = omega (arith, c.above, f.0);
       here = c.rest id f.1 f.0;
-      done = λ u h l. elim (low u c.bound) [
+      done = λ u h l. elim (cases_lt u c.bound) [
         | inl y ↦ c.done u h y
         | inr y ↦ (let z : id ≤ u = f.2 u h y in let w : ⊥ = omega arith in absurd w)
       ];
       rest = λ u h l. c.rest u h (let x : c.bound ≤ id = f.0 in omega arith);
       has_is = λ u. ap (λ r. has r u) c.rows ∙ each_has (λ k r. row_at t k) t0 u;
-    } where
-      low : (u n : ℕ) → (u < n) ⊎ (n ≤ u)
-      low u n = cases_lt u n
+    }
 
 pub cutting_live : (t0 : Rows) (v : ℕ) (ds : List ℕ) (es : List ℤ) (t : Rows) (next : Option ℕ) (id : ℕ) → IsCutting t0 v ds es t next → next ≡ Some id → has t id ≡ true
 cutting_live t0 v ds es t next id c e = let a : IsAt t0 v ds es t id = is_at t0 v ds es t next id c e in a.has_is id ∙ a.live
@@ -243,7 +242,7 @@ cutting_more t0 v ds es t new next later id s c e n b =
             subst P (sym y.1) (ap (λ (z : Row). derive t id z z.origin) a.here ∙ last))
         | inr y ↦ rw y.0 (a.done u g (omega (arith, y.1)))
       ];
-      rest = λ u g l. row u g ∙ rw (differ u id (λ y. (let z : ⊥ = omega arith in z))) (a.rest u g (omega arith));
+      rest = λ u g l. row u g ∙ rw (ne_eqb u id (λ y. (let z : ⊥ = omega arith in z))) (a.rest u g (omega arith));
     }
 
 pub cutting_done : (t0 : Rows) (v : ℕ) (ds : List ℕ) (es : List ℤ) (t : Rows) (next : Option ℕ) → IsStill t0 → IsCutting t0 v ds es t next → next ≡ None → t ≡ cut t0 v ds es
@@ -286,7 +285,7 @@ laid_at ((k, r) ∷ rs) s z u p h e = elim (eqb_tells k u) [
       rw (t.0, row_older k r rs p (not_newest rs k p s.0 a.live)) (laid_at rs s.2 z.1 u p l f))
 ]
 
-pub can_derive : CutLaws → (t0 : Rows) (v : ℕ) (ds : List ℕ) (es : List ℤ) (t : Rows) (next : Option ℕ) (id : ℕ) → CanCut t0 v ds es → IsCutting t0 v ds es t next → next ≡ Some id → CanDerive t id
+pub can_derive : LawsBelow → (t0 : Rows) (v : ℕ) (ds : List ℕ) (es : List ℤ) (t : Rows) (next : Option ℕ) (id : ℕ) → CanCut t0 v ds es → IsCutting t0 v ds es t next → next ≡ Some id → CanDerive t id
 can_derive laws t0 v ds es t next id k c e = λ p q.
     let a : IsAt t0 v ds es t id = is_at t0 v ds es t next id c e in
     let f : parent_of (row_at t0 id) ≡ Some p = ap parent_of (sym a.here) ∙ q in

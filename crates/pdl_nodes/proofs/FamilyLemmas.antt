@@ -19,22 +19,14 @@ use Rattle.pdl_nodes.specs.Rows.{Rows, row_at, has, each, NumbersBelow, Falls}
 use Rattle.pdl_nodes.specs.Worlds.{shape, def_from, def_of, places_in, places_of, latest, latest_from, world_of, with_elements, IsRoot}
 use Rattle.pdl_nodes.specs.Still.{own_places, base_over, triple_over, IsWhole, IsLaid, IsDerived, StillFrom, IsStill}
 use Rattle.pdl_nodes.specs.Families.{has_repeats, IsMarked, IsWaiting, InFamily, InOrder}
-use Rattle.pdl_nodes.proofs.Finds.{same, differ, not_newest, each_has, each_at, below_each}
+use Rattle.pdl_nodes.proofs.Finds.{not_newest, each_has, each_at, below_each}
+use Rattle.pdl_nodes.proofs.Seens.{is_seen}
 use Rattle.pdl_nodes.proofs.Shapes.{past_at, def_same, each_shape}
-use Rattle.pdl_nodes.proofs.Seens.{IsSeen, is_seen}
 use Rattle.pdl_nodes.proofs.WorldLemmas.{assign_with, elements_with}
-
--- a change that leaves what is derived
-pub record IsQuiet (f : ℕ → Row → Row) : Type 0 where
-  pub origin : (k : ℕ) (r : Row) → (f k r).origin ≡ r.origin
-  pub ty : (k : ℕ) (r : Row) → (f k r).ty ≡ r.ty
-  pub root : (k : ℕ) (r : Row) → (f k r).root ≡ r.root
-  pub base : (k : ℕ) (r : Row) → (f k r).base ≡ r.base
-  pub triple : (k : ℕ) (r : Row) → (f k r).triple ≡ r.triple
-
--- and all rows outside the family of rt
-pub record IsWithin (rt : ℕ) (f : ℕ → Row → Row) (rs : Rows) : Type 0 where
-  pub outside : (k : ℕ) → ((row_at rs k).root ≡ rt → ⊥) → f k (row_at rs k) ≡ row_at rs k
+use Rattle.pdl_nodes.specs.Seen.{IsSeen}
+use Rattle.std.proofs.lemmas.Bool.{eq-eqb, ne_eqb}
+use Rattle.pdl_nodes.specs.Quiet.{IsQuiet}
+use Rattle.pdl_nodes.specs.Quiet.{IsWithin}
 
 -- all that a derivation says of two rows stays with what they say of themselves
 derived_same : (k : ℕ) (a b r q : Row) (t : Trans) (y : Layout) → b.ty ≡ a.ty → b.root ≡ a.root → b.base ≡ a.base → b.triple ≡ a.triple → q.ty ≡ r.ty → q.root ≡ r.root → q.base ≡ r.base → q.triple ≡ r.triple → IsDerived k a r t y → IsDerived k b q t y
@@ -59,7 +51,7 @@ still_from f rs k r (View p t y) q s =
           (q.ty k r) (q.root k r) (q.base k r) (q.triple k r) s.1,
     )
 
-pub still_each : (f : ℕ → Row → Row) (rs : Rows) → IsQuiet f → IsStill rs → IsStill (each f rs)
+still_each : (f : ℕ → Row → Row) (rs : Rows) → IsQuiet f → IsStill rs → IsStill (each f rs)
 still_each f [] q s = tt
 still_each f ((k, r) ∷ rs) q s = (below_each f k rs s.0, (let P : Origin → Type 0 = λ o. StillFrom (each f rs) k (f k r) o in subst P (sym (q.origin k r)) (still_from f rs k r r.origin q s.1)), still_each f rs q s.2)
 
@@ -76,7 +68,7 @@ root_cases f rs v false h q = ap (λ x. x.root) (past_at (each f rs) v (each_has
 pub root_each : (f : ℕ → Row → Row) (rs : Rows) (v : ℕ) → IsQuiet f → (row_at (each f rs) v).root ≡ (row_at rs v).root
 root_each f rs v q = root_cases f rs v (has rs v) refl q
 
-pub is_root_each : (f : ℕ → Row → Row) (rs : Rows) (r : ℕ) → IsQuiet f → IsRoot (each f rs) r → IsRoot rs r
+is_root_each : (f : ℕ → Row → Row) (rs : Rows) (r : ℕ) → IsQuiet f → IsRoot (each f rs) r → IsRoot rs r
 is_root_each f rs r q i = (sym (each_has f rs r) ∙ i.0, sym (root_each f rs r q) ∙ i.1)
 
 other_cases : (rt : ℕ) (f : ℕ → Row → Row) (rs : Rows) (v : ℕ) (b : Bool) → has rs v ≡ b → IsWithin rt f rs → ((row_at rs v).root ≡ rt → ⊥) → row_at (each f rs) v ≡ row_at rs v
@@ -102,7 +94,7 @@ other_latest rt f rs r (Some v) e q w i m n =
     let u : row_at (each f rs) v ≡ row_at rs v = other_row rt f rs v w (λ h. n (sym (m.waits v e).of_root ∙ h)) in
     latest_some (each f rs) r v (ap (λ x. x.waiting) s ∙ e) ∙ rw (s, u, places_each f rs v q) (sym (latest_some rs r v e))
 
-pub latest_other : (rt : ℕ) (f : ℕ → Row → Row) (rs : Rows) (r : ℕ) → IsQuiet f → IsWithin rt f rs → IsRoot rs r → InFamily rs r → (r ≡ rt → ⊥) → latest (each f rs) r ≡ latest rs r
+latest_other : (rt : ℕ) (f : ℕ → Row → Row) (rs : Rows) (r : ℕ) → IsQuiet f → IsWithin rt f rs → IsRoot rs r → InFamily rs r → (r ≡ rt → ⊥) → latest (each f rs) r ≡ latest rs r
 latest_other rt f rs r q w i m n = other_latest rt f rs r (row_at rs r).waiting refl q w i m n
 
 -- another family stays in order
@@ -144,13 +136,13 @@ order_each rt f rs q w o m = record {
   ];
 }
 
-pub newer_root : (k : ℕ) (r : Row) (rs : Rows) (v : ℕ) → NumbersBelow k rs → IsRoot rs v → IsRoot ((k, r) ∷ rs) v
-newer_root k r rs v b i = let n : k ≡ v → ⊥ = not_newest rs k v b i.0 in rw (differ k v n) i
+newer_root : (k : ℕ) (r : Row) (rs : Rows) (v : ℕ) → NumbersBelow k rs → IsRoot rs v → IsRoot ((k, r) ∷ rs) v
+newer_root k r rs v b i = let n : k ≡ v → ⊥ = not_newest rs k v b i.0 in rw (ne_eqb k v n) i
 
 -- worlds over the same records are equal where their roots have equal elements
 roots_from : (f g : ℕ → List ℤ) (k : ℕ) (r : Row) (rs : Rows) (o : Origin) → StillFrom rs k r o → (IsRoot ((k, r) ∷ rs) k → f k ≡ g k) → (with_elements f (shape rs) ≡ with_elements g (shape rs)) → with_elements f ((k, def_from r.ty r.triple.dims o) ∷ shape rs) ≡ with_elements g ((k, def_from r.ty r.triple.dims o) ∷ shape rs)
 roots_from f g k r rs Root s h t =
-    let e : f k ≡ g k = h (rw (same k k refl) (refl, s.root_is)) in
+    let e : f k ≡ g k = h (rw (eq-eqb k k refl) (refl, s.root_is)) in
     cc
 roots_from f g k r rs (View p u y) s h t = ap (λ x. (k, view p u) ∷ x) t
 
@@ -159,14 +151,14 @@ with_roots f g [] s h = refl
 with_roots f g ((k, r) ∷ rs) s h = roots_from f g k r rs r.origin s.1 (h k) (with_roots f g rs s.2 (λ v i. h v (newer_root k r rs v s.0 i)))
 
 here_from : (f : ℕ → List ℤ) (k : ℕ) (r : Row) (rs : Rows) (o : Origin) → IsStill rs → NumbersBelow k rs → StillFrom rs k r o → r.root ≡ k → root_elements (with_elements f ((k, def_from r.ty r.triple.dims o) ∷ shape rs)) k ≡ f k
-here_from f k r rs Root i b s e = rw (same k k refl) refl
+here_from f k r rs Root i b s e = rw (eq-eqb k k refl) refl
 here_from f k r rs (View p u y) i b s e = absurd (not_newest rs k (row_at rs p).root b (is_seen rs i p s.0).root_has (sym e ∙ s.1.root_is))
 
 past_from : (f : ℕ → List ℤ) (k v : ℕ) (w : World) (ty : Ty) (ds : List ℕ) (o : Origin) → (k ≡ v → ⊥) → root_elements (with_elements f ((k, def_from ty ds o) ∷ w)) v ≡ root_elements (with_elements f w) v
-past_from f k v w ty ds Root h = rw (differ k v h) refl
+past_from f k v w ty ds Root h = rw (ne_eqb k v h) refl
 past_from f k v w ty ds (View p u y) h = refl
 
-pub root_elements_with : (f : ℕ → List ℤ) (rs : Rows) (v : ℕ) → IsStill rs → IsRoot rs v → root_elements (with_elements f (shape rs)) v ≡ f v
+root_elements_with : (f : ℕ → List ℤ) (rs : Rows) (v : ℕ) → IsStill rs → IsRoot rs v → root_elements (with_elements f (shape rs)) v ≡ f v
 root_elements_with f [] v s i = let n : false ≡ true = i.0 in cc
 root_elements_with f ((k, r) ∷ rs) v s i = elim (eqb_tells k v) [
   | inl t ↦ (let here : r.root ≡ k = rw t.0 at i.1 ∙ sym t.1 in subst (λ (x : ℕ). root_elements (with_elements f ((k, def_of r) ∷ shape rs)) x ≡ f x) t.1 (here_from f k r rs r.origin s.2 s.0 s.1 here))

@@ -7,10 +7,11 @@ use Rattle.pdl_nodes.specs.Cut.{from, or_newer}
 use Rattle.pdl_nodes.specs.Row.{Row}
 use Rattle.pdl_nodes.specs.Rows.{Rows, has, Falls}
 use Rattle.pdl_nodes.specs.Table.{rows_of, IsTable}
-use Rattle.pdl_nodes.proofs.Finds.{same, differ, has_below, not_newest, below_more}
-use Rattle.pdl_nodes.proofs.Slots.{Shows}
-use Rattle.pdl_nodes.proofs.Numbers.{at_other, at_same}
 use Rattle.pdl_nodes.proofs.Calls.{seen}
+use Rattle.pdl_nodes.proofs.Finds.{has_below, not_newest, below_more}
+use Rattle.pdl_nodes.proofs.Numbers.{at_other, at_same}
+use Rattle.pdl_nodes.proofs.Slots.{Shows}
+use Rattle.std.proofs.lemmas.Bool.{eq-eqb, ne_eqb}
 
 -- what the next number says of the live ones
 abbrev pub IsFirst : Rows → ℕ → Option ℕ → Type 0
@@ -20,7 +21,7 @@ IsFirst rs n (Some m) = (n ≤ m) × (has rs m ≡ true) × ((v : ℕ) → has r
 first_newer : (k n : ℕ) (r : Row) (rs : Rows) (o : Option ℕ) → n ≤ k → Falls ((k, r) ∷ rs) → IsFirst rs n o → IsFirst ((k, r) ∷ rs) n (or_newer o k)
 first_newer k n r rs None l f h = (
   l,
-  rw (same k k refl) refl,
+  rw (eq-eqb k k refl) refl,
   λ v g m. elim (eqb_tells k v) [
     | inl t ↦ omega (arith, t.1)
     | inr t ↦ absurd (h v (rw t.0 at g) m)
@@ -30,7 +31,7 @@ first_newer k n r rs (Some m) l f h =
     let d : k ≡ m → ⊥ = not_newest rs k m f.0 h.1 in
     let low : m < k = has_below rs k m f.0 h.1 in (
       h.0,
-      rw (differ k m d) h.1,
+      rw (ne_eqb k m d) h.1,
       λ v g x. elim (eqb_tells k v) [
         | inl t ↦ omega (arith, t.1, low)
         | inr t ↦ h.2 v (rw t.0 at g) x
@@ -44,7 +45,7 @@ first_older k n r rs l f = λ v g m. (let b : v < k + 1 = has_below ((k, r) ∷ 
 from_low : (rs : Rows) (k n : ℕ) → k < n → ((v : ℕ) → has rs v ≡ true → v < k) → from rs n ≡ None
 from_low [] k n l f = refl
 from_low ((j, r) ∷ rs) k n l f = elim (leb_tells n j) [
-  | inl t ↦ (let b : j < k = f j (rw (same j j refl) refl) in let z : ⊥ = omega (arith, t.1) in absurd z)
+  | inl t ↦ (let b : j < k = f j (rw (eq-eqb j j refl) refl) in let z : ⊥ = omega (arith, t.1) in absurd z)
   | inr t ↦ rw t.0 (from_low rs k n l (λ v h. elim (eqb_tells j v) [ inl y ↦ f v (rw y.0 refl) | inr y ↦ f v (rw y.0 h) ]))
 ]
 

@@ -1,8 +1,6 @@
 -- What is left once what no held array reaches was let go.
-use Rattle.std.proofs.Common.{◌≡◌, ◌≢◌, ℕ, ◌+◌, ◌<◌, ◌≤◌, ◌||◌, Bool, true, false, eqb, cond, nat_lt, suc, zero, List, [], ◌∷◌, length, get_or, drop, Option, Some, None, is_some, inl, inr, refl, sym, ◌∙◌, ap, subst, arith}
-use Rattle.std.proofs.Math.Path.{fun_ext}
-use Rattle.std.proofs.lemmas.Bool.{cases_Bool}
-use Rattle.std.proofs.lemmas.Bool.Decides.{eqb_tells}
+use Rattle.std.proofs.Common.{◌≡◌, ℕ, ◌+◌, ◌<◌, ◌≤◌, ◌||◌, Bool, true, false, eqb, cond, nat_lt, List, [], ◌∷◌, length, get_or, drop, Option, Some, None, is_some, inl, inr, refl, sym, ◌∙◌, ap, arith}
+use Rattle.std.proofs.lemmas.Bool.{cases_Bool, or_right, eq-eqb}
 use Rattle.pdl_world.specs.Cut.{has_views}
 use Rattle.pdl_world.specs.Swept.{holds}
 use Rattle.pdl_world.specs.World.{World, root, view}
@@ -11,32 +9,24 @@ use Rattle.pdl_nodes.specs.declared.origin.Origin.{Origin}
 use Rattle.pdl_nodes.specs.declared.origin.Origin.TheVariants.{Root, View}
 use Rattle.pdl_nodes.specs.Children.{children, left, one_of}
 use Rattle.pdl_nodes.specs.Families.{InOrder}
-use Rattle.pdl_nodes.specs.Going.{LeavesWaiting}
-use Rattle.pdl_nodes.specs.Holds.{Counts, Beside, hold_at, is_held, stands, count, count_in, going, going_in, less_one}
+use Rattle.pdl_nodes.specs.Holds.{Counts, Beside, hold_at, is_held, stands, count, going, going_in}
 use Rattle.pdl_nodes.specs.Outcomes.{IsReady}
-use Rattle.pdl_nodes.specs.Released.{KeepsWaiting}
-use Rattle.pdl_nodes.specs.Risen.{AreNoted, AreTight, ComesFrom, IsLetGo, IsParentOfGone, IsTight}
+use Rattle.pdl_nodes.specs.Risen.{AreNoted, IsLetGo}
 use Rattle.pdl_nodes.specs.Row.{parent_from}
 use Rattle.pdl_nodes.specs.Rows.{Rows, has, reached}
-use Rattle.pdl_nodes.specs.Sized.{AreSized}
 use Rattle.pdl_nodes.specs.Staying.{staying}
 use Rattle.pdl_nodes.specs.Still.{IsStill}
 use Rattle.pdl_nodes.specs.Worlds.{def_from, shape}
-use Rattle.pdl_nodes.proofs.Finds.{has_stays, same}
-use Rattle.pdl_nodes.proofs.Helds.{less_going, less_some}
+use Rattle.pdl_nodes.proofs.Finds.{has_stays}
 use Rattle.pdl_nodes.proofs.Leavings.{IsGone, IsLeaving, is_gone, is_left, left_means}
 use Rattle.pdl_nodes.proofs.Lefts.{left_all, none_if, reached_viewed}
-use Rattle.pdl_nodes.proofs.Letting.{holds_next, holds_end, in_more}
+use Rattle.pdl_nodes.proofs.Letting.{holds_next, holds_end}
 use Rattle.pdl_nodes.proofs.Removing.{IsRemoved}
 use Rattle.pdl_nodes.proofs.Stayings.{stays, shape_stays}
 use Rattle.pdl_nodes.proofs.Sweeps.{reached_closed}
-
--- ---- one number and those of a list
-
-pub in_list : (xs : List ℕ) (n d : ℕ) → n < length xs → holds xs (get_or xs n d) ≡ true
-in_list [] n d l = absurd (omega (arith, l))
-in_list (x ∷ xs) zero d l = rw (same x x refl) refl
-in_list (x ∷ xs) (suc n) d l = in_more (eqb x (get_or xs n d)) (holds xs (get_or xs n d)) (in_list xs n d (omega (arith, l)))
+use Rattle.pdl_nodes.specs.Released.{GoingIsSettled}
+use Rattle.std.proofs.lemmas.Bool.{eq-eqb}
+use Rattle.std.proofs.lemmas.List.Folds.{list_any_at}
 
 swap_or : (a b c : Bool) → (a || (b || c)) ≡ (b || (a || c))
 swap_or true true c = refl
@@ -50,13 +40,12 @@ pub under_end : (xs : List ℕ) (n id v : ℕ) → length xs ≤ n → holds (id
 under_end xs n id v l = ap (λ b. eqb id v || b) (holds_end xs n v l)
 
 pub under_first : (id : ℕ) (xs : List ℕ) → holds (id ∷ xs) id ≡ true
-under_first id xs = rw (same id id refl) refl
+under_first id xs = rw (eq-eqb id id refl) refl
 
 pub under_listed : (xs : List ℕ) (n d id : ℕ) → n < length xs → holds (id ∷ xs) (get_or xs n d) ≡ true
-under_listed xs n d id l = in_more (eqb id (get_or xs n d)) (holds xs (get_or xs n d)) (in_list xs n d l)
+under_listed xs n d id l = or_right (eqb id (get_or xs n d)) (holds xs (get_or xs n d)) (list_any_at (λ x. eqb x (get_or xs n d)) xs n d l (eq-eqb (get_or xs n d) (get_or xs n d) refl))
 
 -- ---- rows that mean the same
-
 abbrev left_in : World → (ℕ → Bool) → ℕ → ℕ
 left_in [] t v = 0
 left_in ((k, root ty ds es) ∷ w) t v = left_in w t v
@@ -80,13 +69,7 @@ pub noted_ready : (old mid : Rows) (hs : Counts) → IsReady old mid → AreNote
 noted_ready old mid hs k n = λ v y.
     children_ready old mid v k ∙ n v y ∙ ap (λ m. going hs v + m) (sym (left_ready old mid (stands hs) v k))
 
-pub comes_ready : (starts : List ℕ) (old mid : Rows) (hs : Counts) → IsReady old mid → ComesFrom starts old hs → ComesFrom starts mid hs
-comes_ready starts old mid hs k f = λ v h g d.
-    let i : IsParentOfGone old hs v = f v (sym (k.alike.has_is v) ∙ h) g d in
-    record { child = i.child; live = k.alike.has_is i.child ∙ i.live; gone = i.gone; parent = k.alike.parent_is i.child ∙ i.parent }
-
 -- ---- all that goes is gone
-
 clear_none : (o : Option Hold) → is_some o ≡ false → going_in o ≡ 0
 clear_none None h = refl
 clear_none (Some x) h = absurd (cc)
@@ -109,14 +92,7 @@ left_tight old mid new t h held s l e v y n =
     ∙ ap (λ u. has_views (shape (staying u old)) v) e
     ∙ reached_viewed old held v s hv (sym (ap (λ u. u v) e) ∙ tv) n
 
--- what was settled once the holds were taken from all that goes
-pub record IsSettledSo (old mid : Rows) (hs : Counts) : Type 0 where
-  pub kept : IsReady old mid
-  pub sized : AreSized old → AreSized mid
-  pub waits : KeepsWaiting (stands hs) mid
-  pub leaves : LeavesWaiting (stands hs) old mid
-
-told_leaving : (old mid new : Rows) (hs h1 : Counts) → InOrder old → ((v : ℕ) → has old v ≡ true → stands h1 v ≡ reached old (is_held hs) v) → IsSettledSo old mid h1 → new ≡ staying (stands h1) mid → IsLeaving old mid new (reached old (is_held hs)) (stands h1)
+told_leaving : (old mid new : Rows) (hs h1 : Counts) → InOrder old → ((v : ℕ) → has old v ≡ true → stands h1 v ≡ reached old (is_held hs) v) → GoingIsSettled old mid h1 → new ≡ staying (stands h1) mid → IsLeaving old mid new (reached old (is_held hs)) (stands h1)
 told_leaving old mid new hs h1 o t s n = record {
   kept = s.kept;
   sized = s.sized;
@@ -128,7 +104,7 @@ told_leaving old mid new hs h1 o t s n = record {
 }
 
 -- h1 tells what stays, and is counted as before there
-pub let_go_is : (old mid new : Rows) (hs h1 gs : Counts) → InOrder old → ((v : ℕ) → stands h1 v ≡ true → count h1 v ≡ count hs v) → ((v : ℕ) → has old v ≡ true → stands h1 v ≡ reached old (is_held hs) v) → IsSettledSo old mid h1 → new ≡ staying (stands h1) mid → Beside new gs
+pub let_go_is : (old mid new : Rows) (hs h1 gs : Counts) → InOrder old → ((v : ℕ) → stands h1 v ≡ true → count h1 v ≡ count hs v) → ((v : ℕ) → has old v ≡ true → stands h1 v ≡ reached old (is_held hs) v) → GoingIsSettled old mid h1 → new ≡ staying (stands h1) mid → Beside new gs
     → ((v : ℕ) → count gs v ≡ count h1 v) → IsLetGo old (count hs) new gs
 let_go_is old mid new hs h1 gs o e t s n b c =
     let l : IsLeaving old mid new (reached old (is_held hs)) (stands h1) = told_leaving old mid new hs h1 o t s n in
@@ -140,40 +116,3 @@ let_go_is old mid new hs h1 gs o e t s n b c =
       counts_are = counts;
       tight = λ v y d u. left_tight old mid new (reached old (is_held hs)) (stands h1) (is_held hs) o.still l refl v y (ap (nat_lt 0) (sym (counts v y)) ∙ u);
     }
-
--- held as often
-pub let_go_as : (old : Rows) (f g : ℕ → ℕ) (new : Rows) (gs : Counts) → ((v : ℕ) → f v ≡ g v) → IsLetGo old f new gs → IsLetGo old g new gs
-let_go_as old f g new gs e i = (let P : (ℕ → ℕ) → Type 0 = λ h. IsLetGo old h new gs in subst P (fun_ext e) i)
-
--- ---- one hold less
-
-pub beside_taken : (rs : Rows) (hs gs : Counts) (id : ℕ) → Beside rs hs → hold_at gs id ≡ less_one (hold_at hs id) → ((v : ℕ) → v ≢ id → hold_at gs v ≡ hold_at hs v) → Beside rs gs
-beside_taken rs hs gs id b e o = record {
-  numbers = λ v. elim (eqb_tells v id) [
-    | inl t ↦ ap (λ x. is_some (hold_at gs x)) t.1 ∙ ap is_some e ∙ less_some (hold_at hs id) ∙ ap (λ x. is_some (hold_at hs x)) (sym t.1) ∙ b.numbers v
-    | inr t ↦ ap is_some (o v t.1) ∙ b.numbers v
-  ];
-  clear = λ v. elim (eqb_tells v id) [
-    | inl t ↦ ap (going gs) t.1 ∙ ap going_in e ∙ less_going (hold_at hs id) ∙ ap (going hs) (sym t.1) ∙ b.clear v
-    | inr t ↦ ap going_in (o v t.1) ∙ b.clear v
-  ];
-}
-
--- what is held is there
-held_has : (rs : Rows) (hs : Counts) (id : ℕ) → Beside rs hs → 0 < count hs id → has rs id ≡ true
-held_has rs hs id b l = sym (b.numbers id) ∙ some_held (hold_at hs id) l where
-  some_held : (o : Option Hold) → 0 < count_in o → is_some o ≡ true
-  some_held None l = (let z : ⊥ = omega (arith, l) in absurd z)
-  some_held (Some h) l = refl
-
-pub starts_live : (rs : Rows) (hs : Counts) (loose : List ℕ) (id : ℕ) → Beside rs hs → 0 < count hs id → IsTight loose rs hs → (v : ℕ) → holds (id ∷ loose) v ≡ true → has rs v ≡ true
-starts_live rs hs loose id b l t v h = elim (eqb_tells id v) [
-  | inl y ↦ ap (has rs) (sym y.1) ∙ held_has rs hs id b l
-  | inr y ↦ t.live v (sym (ap (λ c. c || holds loose v) y.0) ∙ h)
-]
-
-pub starts_tight : (rs : Rows) (hs gs : Counts) (loose : List ℕ) (id : ℕ) → ((v : ℕ) → v ≢ id → hold_at gs v ≡ hold_at hs v) → IsTight loose rs hs → AreTight (id ∷ loose) rs gs
-starts_tight rs hs gs loose id o t v h d u = elim (eqb_tells id v) [
-  | inl y ↦ (let z : true ≡ false = sym (ap (λ c. c || holds loose v) y.0) ∙ d in absurd (cc))
-  | inr y ↦ t.tight v h (sym (ap (λ c. c || holds loose v) y.0) ∙ d) (sym (ap (λ x. nat_lt 0 (count_in x)) (o v (λ z. y.1 (sym z)))) ∙ u)
-]

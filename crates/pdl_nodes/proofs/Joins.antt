@@ -1,5 +1,5 @@
--- One more array keeps each family in order.
-use Rattle.std.proofs.Common.{◌≡◌, ℕ, suc, zero, ◌+◌, ◌<◌, true, false, ◌∷◌, length, map, Option, Some, None, inl, inr, refl, sym, ◌∙◌, ap, subst, arith}
+-- One more array: a new root is a new row, and a new row keeps each family in order.
+use Rattle.std.proofs.Common.{◌≡◌, ℕ, suc, zero, ◌+◌, ◌<◌, true, false, ◌∷◌, length, map, Option, Some, None, inl, inr, refl, sym, ◌∙◌, ap, subst, arith, ℤ, List}
 use Rattle.std.specs.List.{range_with_len}
 use Rattle.std.proofs.lemmas.Bool.{cases_eq}
 use Rattle.pdl_shape.specs.Shape.{size_of}
@@ -7,22 +7,27 @@ use Rattle.pdl_shape.specs.Places.{read}
 use Rattle.pdl_world.specs.World.{view}
 use Rattle.pdl_nodes.specs.declared.origin.Origin.{Origin}
 use Rattle.pdl_nodes.specs.declared.origin.Origin.TheVariants.{Root, View}
-use Rattle.pdl_nodes.specs.Row.{Row}
+use Rattle.pdl_nodes.specs.Row.{Row, root_row}
 use Rattle.pdl_nodes.specs.Rows.{Rows, row_at, has, NumbersBelow}
 use Rattle.pdl_nodes.specs.Worlds.{shape, def_from, places_of, latest, world_of, with_elements, IsRoot}
 use Rattle.pdl_nodes.specs.Still.{IsStill}
 use Rattle.pdl_nodes.specs.Families.{is_among, has_repeats, IsMarked, InFamily, InOrder}
 use Rattle.pdl_nodes.specs.Joined.{IsNew, joined_def, joined_from}
-use Rattle.pdl_nodes.proofs.Finds.{same, differ, not_newest}
-use Rattle.pdl_nodes.proofs.Shapes.{marked_live}
-use Rattle.pdl_nodes.proofs.Seens.{IsSeen, is_seen, row_older, has_older, places_older}
 use Rattle.pdl_nodes.proofs.FamilyLemmas.{latest_none, latest_some, with_roots}
+use Rattle.pdl_nodes.proofs.Finds.{not_newest}
 use Rattle.pdl_nodes.proofs.Sames.{family_same}
-use Rattle.pdl_nodes.proofs.Settles.{root_shows}
+use Rattle.pdl_nodes.proofs.Seens.{is_seen, row_older, has_older, places_older}
+use Rattle.pdl_nodes.proofs.Elements.{root_shows}
+use Rattle.pdl_nodes.proofs.Shapes.{marked_live}
+use Rattle.pdl_nodes.specs.Seen.{IsSeen}
+use Rattle.std.proofs.lemmas.Bool.{eq-eqb, ne_eqb}
+use Rattle.pdl_elem.specs.declared.Ty.{Ty}
+use Rattle.pdl_shape.specs.Laws.{PositionLaws, WholesAreInOrder}
+use Rattle.pdl_nodes.proofs.Laid.{whole_is}
 
 among_range : (q a n : ℕ) → q < a → is_among q (map Some (range_with_len a n)) ≡ false
 among_range q a zero h = refl
-among_range q a (suc n) h = rw (differ q a (λ (e : q ≡ a). let z : ⊥ = omega arith in z)) (among_range q (a + 1) n (omega arith))
+among_range q a (suc n) h = rw (ne_eqb q a (λ (e : q ≡ a). let z : ⊥ = omega arith in z)) (among_range q (a + 1) n (omega arith))
 
 -- a whole array has no repeats
 pub whole_once : (a n : ℕ) → has_repeats (map Some (range_with_len a n)) ≡ false
@@ -41,8 +46,8 @@ new_latest rs k r x (Some w) e b h m =
 -- a marked row of an older family is older
 old_marked : (rs : Rows) (k : ℕ) (r : Row) (x b : ℕ) → IsNew rs k r → (k ≡ x → ⊥) → (row_at ((k, r) ∷ rs) b).mark ≡ true → (row_at ((k, r) ∷ rs) b).root ≡ x → k ≡ b → ⊥
 old_marked rs k r x b i n m g e =
-    let m2 : r.mark ≡ true = rw (same k b e) at m in
-    let g2 : r.root ≡ x = rw (same k b e) at g in
+    let m2 : r.mark ≡ true = rw (eq-eqb k b e) at m in
+    let g2 : r.root ≡ x = rw (eq-eqb k b e) at g in
     let u : r.mark ≡ false = i.unmarked (λ y. n (sym y ∙ g2)) in
     let c : true ≡ false = sym m2 ∙ u in
     absurd (cc)
@@ -59,8 +64,8 @@ family_new : (rs : Rows) (k : ℕ) (r : Row) → IsNew rs k r → InOrder rs →
 family_new rs k r i o e =
     let ns : Rows = (k, r) ∷ rs in
     let st : IsStill ((k, r) ∷ rs) = (i.below, i.from, o.still) in
-    let row : row_at ((k, r) ∷ rs) k ≡ r = rw (same k k refl) refl in
-    let ri : IsRoot ((k, r) ∷ rs) k = (rw (same k k refl) refl, ap (λ x. x.root) row ∙ e) in
+    let row : row_at ((k, r) ∷ rs) k ≡ r = rw (eq-eqb k k refl) refl in
+    let ri : IsRoot ((k, r) ∷ rs) k = (rw (eq-eqb k k refl) refl, ap (λ x. x.root) row ∙ e) in
     let lt : latest ((k, r) ∷ rs) k ≡ r.kept = latest_none ((k, r) ∷ rs) k (ap (λ x. x.waiting) row ∙ i.nothing) ∙ ap (λ x. x.kept) row in
     let len : length r.kept ≡ (size_of (row_at ((k, r) ∷ rs) k).triple.dims) = i.count e ∙ sym (ap (λ x. size_of x.triple.dims) row) in
     let sn : IsSeen ((k, r) ∷ rs) k = is_seen ((k, r) ∷ rs) st k ri.0 in
@@ -94,7 +99,7 @@ pushed rs k r i o = record {
   still = (i.below, i.from, o.still);
   family = λ x j. elim (cases_eq k x) [
     | inl e ↦ (let P : ℕ → Type 0 = λ y. InFamily ((k, r) ∷ rs) y in
-        subst P e (family_new rs k r i o (let f : (row_at ((k, r) ∷ rs) x).root ≡ x = j.1 in (rw (same k x e) at f) ∙ sym e)))
+        subst P e (family_new rs k r i o (let f : (row_at ((k, r) ∷ rs) x).root ≡ x = j.1 in (rw (eq-eqb k x e) at f) ∙ sym e)))
     | inr n ↦ family_old rs k r x i o (older_root rs k r x n j) n
   ];
 }
@@ -109,5 +114,17 @@ joined_shape rs k r (View p u y) l t = ap (λ x. (k, view p u) ∷ x) t
 -- the world has one more record
 pub world_pushed : (rs : Rows) (k : ℕ) (r : Row) → IsNew rs k r → InOrder rs → world_of ((k, r) ∷ rs) ≡ (k, joined_def r) ∷ world_of rs
 world_pushed rs k r i o =
-    let row : row_at ((k, r) ∷ rs) k ≡ r = rw (same k k refl) refl in
+    let row : row_at ((k, r) ∷ rs) k ≡ r = rw (eq-eqb k k refl) refl in
     joined_shape rs k r r.origin (latest_none ((k, r) ∷ rs) k (ap (λ x. x.waiting) row ∙ i.nothing) ∙ ap (λ x. x.kept) row) (tail_world rs k r i o)
+
+pub new_root : PositionLaws → WholesAreInOrder → (rs : Rows) (k : ℕ) (ty : Ty) (ds : List ℕ) (es : List ℤ) → NumbersBelow k rs → length es ≡ size_of ds → IsNew rs k (root_row k ty ds es)
+new_root laws wholes rs k ty ds es b l = record {
+  below = b;
+  from = record { root_is = refl; base_is = refl; whole = whole_is laws wholes ds };
+  nothing = refl;
+  unmarked = λ n. absurd (n refl);
+  marked = λ e. refl;
+  own = λ e. refl;
+  flat = λ e. refl;
+  count = λ e. l;
+}

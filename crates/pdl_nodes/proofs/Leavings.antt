@@ -1,5 +1,5 @@
 -- What letting go leaves.
-use Rattle.std.proofs.Common.{◌≡◌, ℕ, ◌+◌, Bool, true, false, cond, List, [], ◌∷◌, Option, Some, None, is_some, inl, inr, refl, sym, ◌∙◌, ap, subst}
+use Rattle.std.proofs.Common.{◌≡◌, ℕ, Bool, true, false, cond, List, [], ◌∷◌, Option, Some, None, is_some, inl, inr, refl, sym, ◌∙◌, ap, subst}
 use Rattle.std.specs.List.{filter}
 use Rattle.std.proofs.Math.Path.{fun_ext}
 use Rattle.std.proofs.lemmas.Bool.{cases_Bool}
@@ -9,9 +9,9 @@ use Rattle.pdl_nodes.specs.declared.origin.Origin.{Origin}
 use Rattle.pdl_nodes.specs.declared.origin.Origin.TheVariants.{Root, View}
 use Rattle.pdl_nodes.specs.Alike.{numbers}
 use Rattle.pdl_nodes.specs.Families.{IsWaiting, InOrder, Means}
-use Rattle.pdl_nodes.specs.Going.{goes_from, going_at, going_size, going_sum, IsLeft, LeavesWaiting}
+use Rattle.pdl_nodes.specs.Going.{IsLeft, LeavesWaiting}
 use Rattle.pdl_nodes.specs.Known.{IsKnown, AreKnown}
-use Rattle.pdl_nodes.specs.Outcomes.{IsReady, waiting_of, waiting_size}
+use Rattle.pdl_nodes.specs.Outcomes.{IsReady, waiting_of}
 use Rattle.pdl_nodes.specs.Released.{KeepsWaiting}
 use Rattle.pdl_nodes.specs.Row.{Row, parent_from}
 use Rattle.pdl_nodes.specs.Rows.{Rows, row_at, has, reached, HasParent, HasParents}
@@ -20,11 +20,12 @@ use Rattle.pdl_nodes.specs.Staying.{staying, stays_from, KeepsParents}
 use Rattle.pdl_nodes.specs.Still.{StillFrom, IsStill}
 use Rattle.pdl_nodes.specs.Worlds.{IsRoot, shape, def_from, places_of, latest, world_of, with_elements}
 use Rattle.pdl_nodes.proofs.Alikes.{root_live}
-use Rattle.pdl_nodes.proofs.Finds.{row_stays, has_stays, same}
+use Rattle.pdl_nodes.proofs.Finds.{row_stays, has_stays}
 use Rattle.pdl_nodes.proofs.Reaches.{staying_live}
 use Rattle.pdl_nodes.proofs.Seens.{is_seen}
 use Rattle.pdl_nodes.proofs.Stayings.{stays, with_stays, places_stay, closed_tail}
 use Rattle.pdl_nodes.proofs.Sweeps.{order_stays, world_stays, sweep_is, sweep_with}
+use Rattle.std.proofs.lemmas.Bool.{eq-eqb}
 
 -- each parent is there
 parent_from_is : (rs : Rows) (k : ℕ) (r : Row) (o : Origin) → StillFrom rs k r o → HasParent rs (parent_from o)
@@ -102,7 +103,7 @@ sized_stays t [] c z = tt
 sized_stays t ((k, r) ∷ rs) c z =
     let tail : AreSized (staying t rs) = sized_stays t rs (closed_tail t k r r.origin (shape rs) c) z.1 in
     elim (cases_Bool (t k)) [
-      | inl y ↦ rw y (record { triple = z.0.triple; limits = z.0.limits; laid = laid_stays t k r rs r.origin y c z.0.laid }, tail)
+      | inl y ↦ rw y (record { within = z.0.within; laid = laid_stays t k r rs r.origin y c z.0.laid }, tail)
       | inr n ↦ rw n tail
     ]
 
@@ -118,7 +119,7 @@ numbers_stay t ((k, r) ∷ rs) = elim (cases_Bool (t k)) [
 filter_agree : (t u : ℕ → Bool) (rs : Rows) → ((v : ℕ) → has rs v ≡ true → t v ≡ u v) → filter t (numbers rs) ≡ filter u (numbers rs)
 filter_agree t u [] f = refl
 filter_agree t u ((k, r) ∷ rs) f =
-    let here : t k ≡ u k = f k (rw (same k k refl) refl) in
+    let here : t k ≡ u k = f k (rw (eq-eqb k k refl) refl) in
     let rest : filter t (numbers rs) ≡ filter u (numbers rs) = filter_agree t u rs (λ v h. f v (elim (eqb_tells k v) [ inl y ↦ rw y.0 refl | inr y ↦ rw y.0 h ])) in
     ap (λ b. cond b (k ∷ filter t (numbers rs)) (filter t (numbers rs))) here ∙ ap (λ ks. cond (u k) (k ∷ ks) ks) rest
 
@@ -131,7 +132,7 @@ has_staying t rs v h = elim (cases_Bool (t v)) [
   ])
 ]
 
-pub left_numbers : (t : ℕ → Bool) (rs : Rows) → numbers (staying t rs) ≡ filter (has (staying t rs)) (numbers rs)
+left_numbers : (t : ℕ → Bool) (rs : Rows) → numbers (staying t rs) ≡ filter (has (staying t rs)) (numbers rs)
 left_numbers t rs = numbers_stay t rs ∙ filter_agree t (has (staying t rs)) rs (has_staying t rs)
 
 -- what waits of what stays
@@ -177,24 +178,3 @@ pub is_left : (old mid new : Rows) (t h : ℕ → Bool) → InOrder old → IsLe
 is_left old mid new t h o l =
     let g : IsGone old mid new t = is_gone old mid new t h l in
     subst (IsLeft old) (sym g.stays_so) (staying_left t h old mid o l.kept l.sized g.closed (order_stays t mid g.closed g.waits l.kept.order).still l.notes l.leaves)
-
--- what goes is told by tests that agree on what is live
-goes_same : (t u : ℕ → Bool) (o : Option ℕ) → ((v : ℕ) → o ≡ Some v → t v ≡ u v) → goes_from t o ≡ goes_from u o
-goes_same t u None f = refl
-goes_same t u (Some v) f = ap (λ b. cond b None (Some v)) (f v refl)
-
-going_agree : (rs : Rows) (t u : ℕ → Bool) (r : ℕ) → InOrder rs → has rs r ≡ true → ((v : ℕ) → has rs v ≡ true → t v ≡ u v) → going_at rs t r ≡ going_at rs u r
-going_agree rs t u r o h e = elim (eqb_tells (row_at rs r).root r) [
-  | inl a ↦ rw a.0 (ap (λ b. cond b (goes_from t (row_at rs r).waiting) None) (e r h)
-      ∙ ap (λ x. cond (u r) x None) (goes_same t u (row_at rs r).waiting (λ v w. e v ((o.family r (h, a.1)).waits v w).live)))
-  | inr a ↦ rw a.0 refl
-]
-
-sum_agree : (rs : Rows) (t u : ℕ → Bool) (part : Rows) → InOrder rs → ((v : ℕ) → has part v ≡ true → has rs v ≡ true) → ((v : ℕ) → has rs v ≡ true → t v ≡ u v) → going_sum rs t part ≡ going_sum rs u part
-sum_agree rs t u [] o h e = refl
-sum_agree rs t u ((k, r) ∷ part) o h e =
-    ap (λ n. waiting_size rs n + going_sum rs t part) (going_agree rs t u k o (h k (rw (same k k refl) refl)) e)
-    ∙ ap (λ n. going_size rs u k + n) (sum_agree rs t u part o (λ v g. h v (elim (eqb_tells k v) [ inl y ↦ rw y.0 refl | inr y ↦ rw y.0 g ])) e)
-
-pub going_sums : (rs : Rows) (t u : ℕ → Bool) → InOrder rs → ((v : ℕ) → has rs v ≡ true → t v ≡ u v) → going_sum rs t rs ≡ going_sum rs u rs
-going_sums rs t u o e = sum_agree rs t u rs o (λ v h. h) e

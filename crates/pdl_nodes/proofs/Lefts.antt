@@ -11,33 +11,26 @@ use Rattle.pdl_nodes.specs.Still.{IsStill}
 use Rattle.pdl_nodes.specs.Worlds.{shape}
 use Rattle.pdl_nodes.proofs.Counted.{views_counted}
 use Rattle.pdl_nodes.proofs.FamilyLemmas.{still_falls}
-use Rattle.pdl_nodes.proofs.Finds.{same, differ, not_newest}
+use Rattle.pdl_nodes.proofs.Finds.{not_newest, older_has, head_has, newest_gone}
 use Rattle.pdl_nodes.proofs.Leavings.{still_parents}
 use Rattle.pdl_nodes.proofs.Rests.{not_parent}
 use Rattle.pdl_nodes.proofs.Seens.{row_older}
-
-pub older_has : (k : ℕ) (r : Row) (rs : Rows) (v : ℕ) → has rs v ≡ true → has ((k, r) ∷ rs) v ≡ true
-older_has k r rs v h = elim (eqb_tells k v) [ inl y ↦ rw y.0 refl | inr n ↦ rw n.0 h ]
-
-pub head_has : (k : ℕ) (r : Row) (rs : Rows) → has ((k, r) ∷ rs) k ≡ true
-head_has k r rs = rw (same k k refl) refl
-
-head_gone : (k : ℕ) (rs : Rows) → NumbersBelow k rs → has rs k ≡ false
-head_gone k rs b = elim (cases_Bool (has rs k)) [ inl y ↦ absurd (not_newest rs k k b y refl) | inr n ↦ n ]
+use Rattle.std.proofs.Math.Bool.{or-true, or-false}
+use Rattle.std.proofs.lemmas.Bool.{eq-eqb, ne_eqb}
 
 pub no_one : (o : Option ℕ) (v : ℕ) → (o ≡ Some v → ⊥) → one_of o v ≡ 0
 no_one None v n = refl
-no_one (Some q) v n = rw (differ q v (λ e. n (ap Some e))) refl
+no_one (Some q) v n = rw (ne_eqb q v (λ e. n (ap Some e))) refl
 
 pub one_is : (o : Option ℕ) (v : ℕ) → o ≡ Some v → one_of o v ≡ 1
-one_is o v e = ap (λ x. one_of x v) e ∙ (let z : one_of (Some v) v ≡ 1 = rw (same v v refl) refl in z)
+one_is o v e = ap (λ x. one_of x v) e ∙ (let z : one_of (Some v) v ≡ 1 = rw (eq-eqb v v refl) refl in z)
 
 pub none_if : (b : Bool) (n : ℕ) → n ≡ 0 → cond b n 0 ≡ 0
 none_if true n e = e
 none_if false n e = refl
 
 -- what isn't there has no views
-pub none_left : (rs : Rows) (t : ℕ → Bool) (v : ℕ) → HasParents rs → has rs v ≡ false → left rs t v ≡ 0
+none_left : (rs : Rows) (t : ℕ → Bool) (v : ℕ) → HasParents rs → has rs v ≡ false → left rs t v ≡ 0
 none_left [] t v p h = refl
 none_left ((k, r) ∷ rs) t v p h = elim (eqb_tells k v) [
   | inl y ↦ (let z : true ≡ false = rw y.0 at h in absurd (cc))
@@ -48,9 +41,9 @@ none_left ((k, r) ∷ rs) t v p h = elim (eqb_tells k v) [
 ]
 
 -- nor has the newest
-pub newest_left : (k : ℕ) (r : Row) (rs : Rows) (t : ℕ → Bool) → NumbersBelow k rs → HasParents ((k, r) ∷ rs) → left ((k, r) ∷ rs) t k ≡ 0
+newest_left : (k : ℕ) (r : Row) (rs : Rows) (t : ℕ → Bool) → NumbersBelow k rs → HasParents ((k, r) ∷ rs) → left ((k, r) ∷ rs) t k ≡ 0
 newest_left k r rs t b p =
-    let g : has rs k ≡ false = head_gone k rs b in
+    let g : has rs k ≡ false = newest_gone k rs b in
     let x : cond (t k) (one_of (parent_of r) k) 0 ≡ 0 = none_if (t k) (one_of (parent_of r) k) (no_one (parent_of r) k (not_parent rs (parent_of r) k p.0 g)) in
     let y : left rs t k ≡ 0 = none_left rs t k p.1 g in
     omega (arith, x, y)
@@ -86,10 +79,6 @@ lt_more n = elim (leb_tells 1 (1 + n)) [ inl l ↦ l.0 | inr l ↦ absurd (omega
 lt_none : (n : ℕ) → nat_lt 0 (0 + n) ≡ nat_lt 0 n
 lt_none n = ap (nat_lt 0) (let z : 0 + n ≡ n = omega arith in z)
 
-or_true : (b : Bool) → (b || true) ≡ true
-or_true true = refl
-or_true false = refl
-
 -- a view that is left holds its parent
 one_passed : (o : Option ℕ) (b : Bool) (held : ℕ → Bool) (x n : ℕ) → (held x || nat_lt 0 (cond b (one_of o x) 0 + n)) ≡ (passed o b held x || nat_lt 0 n)
 one_passed None true held x n = ap (λ c. held x || c) (lt_none n)
@@ -99,19 +88,15 @@ one_passed (Some q) false held x n = elim (eqb_tells q x) [
   | inr y ↦ rw y.0 (ap (λ c. held x || c) (lt_none n))
 ]
 one_passed (Some q) true held x n = elim (eqb_tells q x) [
-  | inl y ↦ rw y.0 (ap (λ c. held x || c) (lt_more n) ∙ or_true (held x))
+  | inl y ↦ rw y.0 (ap (λ c. held x || c) (lt_more n) ∙ or-true (held x))
   | inr y ↦ rw y.0 (ap (λ c. held x || c) (lt_none n))
 ]
-
-or_false : (b : Bool) → (b || false) ≡ b
-or_false true = refl
-or_false false = refl
 
 -- a test that holds exactly of what is held and of what has a view of which it holds tells what is reached
 pub told : (rs : Rows) (t held : ℕ → Bool) → Falls rs → HasParents rs → ((v : ℕ) → has rs v ≡ true → t v ≡ (held v || nat_lt 0 (left rs t v))) → (v : ℕ) → has rs v ≡ true → t v ≡ reached rs held v
 told [] t held f p e v h = (let z : false ≡ true = h in absurd (cc))
 told ((k, r) ∷ rs) t held f p e v h =
-    let here : t k ≡ held k = e k (head_has k r rs) ∙ ap (λ n. held k || nat_lt 0 n) (newest_left k r rs t f.0 p) ∙ or_false (held k) in
+    let here : t k ≡ held k = e k (head_has k r rs) ∙ ap (λ n. held k || nat_lt 0 n) (newest_left k r rs t f.0 p) ∙ or-false (held k) in
     elim (eqb_tells k v) [
       | inl y ↦ rw y.0 (ap t (sym y.1) ∙ here)
       | inr y ↦ rw y.0 (told rs t (passed (parent_of r) (held k) held) f.1 p.1
@@ -120,17 +105,17 @@ told ((k, r) ∷ rs) t held f p e v h =
     ]
 
 -- and what is reached is such a test
-pub reached_by : (rs : Rows) (held : ℕ → Bool) → Falls rs → HasParents rs → (v : ℕ) → has rs v ≡ true → reached rs held v ≡ (held v || nat_lt 0 (left rs (reached rs held) v))
+reached_by : (rs : Rows) (held : ℕ → Bool) → Falls rs → HasParents rs → (v : ℕ) → has rs v ≡ true → reached rs held v ≡ (held v || nat_lt 0 (left rs (reached rs held) v))
 reached_by [] held f p v h = (let z : false ≡ true = h in absurd (cc))
 reached_by ((k, r) ∷ rs) held f p v h =
     let t : ℕ → Bool = reached ((k, r) ∷ rs) held in
     let u : ℕ → Bool = reached rs (passed (parent_of r) (held k) held) in
-    let tk : reached ((k, r) ∷ rs) held k ≡ held k = rw (same k k refl) refl in
-    let older : (x : ℕ) → has rs x ≡ true → reached ((k, r) ∷ rs) held x ≡ u x = λ x g. rw (differ k x (not_newest rs k x f.0 g)) refl in
+    let tk : reached ((k, r) ∷ rs) held k ≡ held k = rw (eq-eqb k k refl) refl in
+    let older : (x : ℕ) → has rs x ≡ true → reached ((k, r) ∷ rs) held x ≡ u x = λ x g. rw (ne_eqb k x (not_newest rs k x f.0 g)) refl in
     elim (eqb_tells k v) [
       | inl y ↦ (let n : left ((k, r) ∷ rs) t k ≡ 0 = newest_left k r rs t f.0 p in
           let P : ℕ → Type 0 = λ x. t x ≡ (held x || nat_lt 0 (left ((k, r) ∷ rs) t x)) in
-          subst P y.1 (tk ∙ sym (ap (λ m. held k || nat_lt 0 m) n ∙ or_false (held k))))
+          subst P y.1 (tk ∙ sym (ap (λ m. held k || nat_lt 0 m) n ∙ or-false (held k))))
       | inr y ↦ (let g : has rs v ≡ true = rw y.0 at h in
           older v g
           ∙ reached_by rs (passed (parent_of r) (held k) held) f.1 p.1 v g
@@ -143,7 +128,7 @@ reached_by ((k, r) ∷ rs) held f p v h =
 pub left_some : (rs : Rows) (t : ℕ → Bool) (c v : ℕ) → Falls rs → has rs c ≡ true → t c ≡ true → parent_of (row_at rs c) ≡ Some v → 0 < left rs t v
 left_some rs t c v f h y e =
     let u : ℕ → Bool = λ x. cond (eqb x c) false (t x) in
-    let a : left rs t v ≡ one_of (parent_of (row_at rs c)) v + left rs u v = left_less rs t u c v f h y (rw (same c c refl) refl) (λ x d. rw (differ x c d) refl) in
+    let a : left rs t v ≡ one_of (parent_of (row_at rs c)) v + left rs u v = left_less rs t u c v f h y (rw (eq-eqb c c refl) refl) (λ x d. rw (ne_eqb x c d) refl) in
     let b : one_of (parent_of (row_at rs c)) v ≡ 1 = one_is (parent_of (row_at rs c)) v e in
     omega (arith, a, b)
 
@@ -156,7 +141,7 @@ pub record IsViewed (rs : Rows) (v : ℕ) : Type 0 where
 pub child_of : (rs : Rows) (v : ℕ) → Falls rs → 0 < children rs v → IsViewed rs v
 child_of [] v f l = absurd (omega (arith, l))
 child_of ((k, r) ∷ rs) v f l = elim (cases_Bool (is_one (parent_of r) v)) [
-  | inl y ↦ record { child = k; live = head_has k r rs; parent = ap parent_of (let z : row_at ((k, r) ∷ rs) k ≡ r = rw (same k k refl) refl in z) ∙ one_some (parent_of r) v y }
+  | inl y ↦ record { child = k; live = head_has k r rs; parent = ap parent_of (let z : row_at ((k, r) ∷ rs) k ≡ r = rw (eq-eqb k k refl) refl in z) ∙ one_some (parent_of r) v y }
   | inr n ↦ (let i : IsViewed rs v = child_of rs v f.1 (no_some (parent_of r) v (children rs v) n l) in
       record { child = i.child; live = older_has k r rs i.child i.live; parent = ap parent_of (row_older k r rs i.child (not_newest rs k i.child f.0 i.live)) ∙ i.parent })
 ] where

@@ -1,6 +1,6 @@
 -- Taking the holds from all that no held array reaches: from some arrays up.
-use Rattle.std.proofs.Common.{◌≡◌, ◌≢◌, ℕ, ◌+◌, ◌<◌, ◌≤◌, ◌||◌, Bool, true, false, eqb, List, ◌∷◌, length, get_or, drop, nat_lt, inl, inr, refl, sym, ◌∙◌, ap, arith}
-use Rattle.std.proofs.lemmas.Bool.{cases_Bool}
+use Rattle.std.proofs.Common.{◌≡◌, ◌≢◌, ℕ, ◌+◌, ◌<◌, ◌≤◌, ◌||◌, true, false, eqb, List, ◌∷◌, length, get_or, drop, nat_lt, inl, inr, refl, sym, ◌∙◌, ap, arith}
+use Rattle.std.proofs.lemmas.Bool.{cases_Bool, or_right, ltb-true}
 use Rattle.std.proofs.lemmas.Bool.Decides.{leb_tells}
 use Rattle.std.proofs.lemmas.List.{drop_all, drop_more}
 use Rattle.pdl_world.specs.Swept.{holds}
@@ -11,13 +11,12 @@ use Rattle.pdl_nodes.specs.Rows.{Rows, has, reached}
 use Rattle.pdl_nodes.specs.Still.{IsStill}
 use Rattle.pdl_nodes.proofs.Counted.{views_counted}
 use Rattle.pdl_nodes.proofs.FamilyLemmas.{still_falls}
-use Rattle.pdl_nodes.proofs.Finds.{differ}
 use Rattle.pdl_nodes.proofs.Leavings.{still_parents}
 use Rattle.pdl_nodes.proofs.Lefts.{IsViewed, child_of, left_all, left_some, told}
 use Rattle.pdl_nodes.proofs.Rising.{fewer_same, no_both}
+use Rattle.std.proofs.lemmas.Bool.{ne_eqb}
 
 -- ---- lists that a loop goes over
-
 -- what is in the rest is the next, or in what is left then
 pub holds_next : (xs : List ℕ) (n d v : ℕ) → n < length xs → holds (drop n xs) v ≡ (eqb (get_or xs n d) v || holds (drop (n + 1) xs) v)
 holds_next xs n d v l = ap (λ ys. holds ys v) (drop_more xs n d l)
@@ -25,15 +24,7 @@ holds_next xs n d v l = ap (λ ys. holds ys v) (drop_more xs n d l)
 pub holds_end : (xs : List ℕ) (n v : ℕ) → length xs ≤ n → holds (drop n xs) v ≡ false
 holds_end xs n v l = ap (λ ys. holds ys v) (drop_all n xs l)
 
-pub in_more : (a b : Bool) → b ≡ true → (a || b) ≡ true
-in_more true b e = refl
-in_more false b e = e
-
-pub more_than : (n : ℕ) → nat_lt 0 n ≡ true → 0 < n
-more_than n h = elim (leb_tells 1 n) [ inl l ↦ omega (arith, l.1) | inr l ↦ (let z : false ≡ true = sym l.0 ∙ h in absurd (cc)) ]
-
 -- ---- the loop
-
 -- all that is loose is still to come
 pub record IsLetting (rs : Rows) (h0 hs : Counts) (rest : List ℕ) (id : ℕ) : Type 0 where
   pub marked : AreMarked rs hs
@@ -53,7 +44,7 @@ loose_listed rs hs starts v b t l = elim (cases_Bool (holds starts v)) [
   | inl y ↦ y
   | inr n ↦ (let a : left rs (stands hs) v ≡ children rs v = left_all rs (stands hs) v (λ k g. b.numbers k ∙ g) in
       let c : left rs (stands hs) v ≡ 0 = l.viewless in
-      let m : 0 < children rs v = more_than (children rs v) (sym (views_counted rs v) ∙ t v (sym (b.numbers v) ∙ l.standing) n l.free) in
+      let m : 0 < children rs v = ltb-true 0 (children rs v) (sym (views_counted rs v) ∙ t v (sym (b.numbers v) ∙ l.standing) n l.free) in
       absurd (omega (arith, a, c, m)))
 ]
 
@@ -81,7 +72,7 @@ letting_more rs h0 hs later rest less id at i e m f l = record {
   marked = m;
   fewer = fewer_then h0 hs later i.fewer f;
   loose = λ v y. (let x : IsLoose rs hs v × (v ≢ at) = l v y in
-      let d : eqb at v ≡ false = differ at v (λ z. x.1 (sym z)) in
+      let d : eqb at v ≡ false = ne_eqb at v (λ z. x.1 (sym z)) in
       ap (λ b. eqb id v || b) (sym (e v ∙ ap (λ b. b || holds less v) d)) ∙ i.loose v x.0);
 }
 
@@ -97,29 +88,22 @@ spent_last rs h0 hs later rest id i e m f l = record {
   marked = m;
   fewer = fewer_then h0 hs later i.fewer f;
   none = λ v y. (let x : IsLoose rs hs v × (v ≢ id) = l v y in
-      let d : eqb id v ≡ false = differ id v (λ z. x.1 (sym z)) in
+      let d : eqb id v ≡ false = ne_eqb id v (λ z. x.1 (sym z)) in
       let z : (eqb id v || holds rest v) ≡ true = i.loose v x.0 in
       let w : false ≡ true = sym (ap (λ b. b || holds rest v) d ∙ e v) ∙ z in absurd (cc));
 }
-
-lt_zero : (n : ℕ) → n ≡ 0 → nat_lt 0 n ≡ false
-lt_zero n e = ap (nat_lt 0) e
-
-pub or_right : (a b : Bool) → b ≡ true → true ≡ (a || b)
-or_right true b e = refl
-or_right false b e = sym e
 
 spent_tells : (rs : Rows) (h0 hs : Counts) → IsStill rs → Beside rs h0 → IsSpent rs h0 hs → (v : ℕ) → has rs v ≡ true → stands hs v ≡ reached rs (is_held h0) v
 spent_tells rs h0 hs still b s = told rs (stands hs) (is_held h0) (still_falls rs still) (still_parents rs still) (λ v h. elim (cases_Bool (stands hs v)) [
   | inl y ↦ y ∙ elim (cases_Bool (is_held h0 v)) [
     | inl z ↦ (let w : true ≡ (is_held h0 v || nat_lt 0 (left rs (stands hs) v)) = rw z refl in w)
-    | inr z ↦ or_right (is_held h0 v) (nat_lt 0 (left rs (stands hs) v)) (elim (leb_tells 1 (left rs (stands hs) v)) [
+    | inr z ↦ sym (or_right (is_held h0 v) (nat_lt 0 (left rs (stands hs) v)) (elim (leb_tells 1 (left rs (stands hs) v)) [
       | inl t ↦ t.0
       | inr t ↦ absurd (s.none v (record { standing = y; free = ap (nat_lt 0) (s.fewer.counts v y) ∙ z; viewless = omega (arith, t.1) }))
-    ])
+    ]))
   ]
   | inr y ↦ y ∙ (let a : is_held h0 v ≡ false = s.fewer.free v (b.numbers v ∙ h) y in
-      let c : nat_lt 0 (left rs (stands hs) v) ≡ false = lt_zero (left rs (stands hs) v) (s.marked.spent v h y) in
+      let c : nat_lt 0 (left rs (stands hs) v) ≡ false = ap (nat_lt 0) (s.marked.spent v h y) in
       let w : false ≡ (is_held h0 v || nat_lt 0 (left rs (stands hs) v)) = rw (a, c) refl in w)
 ])
 
@@ -133,7 +117,7 @@ letting_last rs h0 hs later loose rest id still b t i e m f l =
       tells = spent_tells rs h0 later still b s;
       noted = s.marked.noted;
       from = λ v h y d. (let free : is_held h0 v ≡ false = s.fewer.free v (b.numbers v ∙ h) y in
-          let w : IsViewed rs v = child_of rs v (still_falls rs still) (more_than (children rs v) (sym (views_counted rs v) ∙ t v h d free)) in
+          let w : IsViewed rs v = child_of rs v (still_falls rs still) (ltb-true 0 (children rs v) (sym (views_counted rs v) ∙ t v h d free)) in
           record {
             child = w.child;
             live = w.live;

@@ -1,62 +1,43 @@
-pub mod Numbers
-pub mod Finds
-pub mod Slots
-pub mod Calls
-pub mod Rests
-pub mod Reaches
-pub mod Marks
-pub mod Listing
-pub mod Shapes
-pub mod Lists
-pub mod Counted
-pub mod Spotted
-pub mod WorldLemmas
-pub mod Laid
-pub mod Seens
-pub mod FamilyLemmas
-pub mod Settles
-pub mod Waits
-pub mod Sames
-pub mod Stayings
-pub mod Sweeps
-pub mod Joins
-pub mod Ups
-mod Moving
-mod Counting
-mod Lowered
+mod Numbers
+mod Finds
+mod Slots
+mod Calls
+mod Rests
+mod Reaches
+mod Marks
+mod Listing
+mod Shapes
+mod Counted
+mod Spotted
+mod WorldLemmas
+mod Laid
+mod Seens
 mod Origins
+mod FamilyLemmas
+mod Elements
+mod Sames
+mod Stayings
+mod Sweeps
+mod Joins
+mod Moving
+mod Lowered
 mod Liftings
-mod Assigning
+mod OverBases
 mod Alikes
-mod Filling
 mod Paths
-mod Gathered
-mod Readied
 mod Viewed
-mod Stating
-mod Growing
-mod Bounds
-mod Helds
-mod HoldLaws
-mod Changed
 mod Moved
-mod Fits
-mod Shaping
-mod Written
-pub mod CutRows
-pub mod Firsts
-pub mod Derives
-pub mod CutOrder
-pub mod Goings
-pub mod Leavings
-pub mod Reshapes
-pub mod Severs
-pub mod Lefts
-pub mod Rising
-pub mod Letting
-pub mod Falling
-pub mod Removing
+mod CutRows
+mod Firsts
+mod Derives
+mod CutOrder
+mod Leavings
+mod Reshapes
+mod Sizes
+mod Lefts
+mod Rising
+mod Letting
+mod Falling
+mod Removing
 mod Gone
 mod Alone
-mod Tight
-mod Lazy

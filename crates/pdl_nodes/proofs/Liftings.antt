@@ -1,51 +1,22 @@
 -- What is known when the kept elements of a marked view are taken out, while its root is written.
-use Rattle.std.proofs.Common.{◌≡◌, ℕ, ℤ, Bool, true, false, List, [], length, Option, Some, None, refl, sym, ◌∙◌, ap, subst}
+use Rattle.std.proofs.Common.{◌≡◌, ℕ, ℤ, Bool, true, false, List, [], Option, Some, None, refl, sym, ◌∙◌, ap, subst}
 use Rattle.slab.specs.Slab.{Slab, get, ContainsKey, with_value}
 use Rattle.pdl_buf.specs.Buffer.{TypedElements}
 use Rattle.pdl_nodes.specs.Numbered.{value_at}
 use Rattle.pdl_nodes.specs.Row.{Row}
-use Rattle.pdl_nodes.specs.Rows.{Rows, row_at, has, each}
+use Rattle.pdl_nodes.specs.Rows.{Rows, row_at, each}
 use Rattle.pdl_nodes.specs.declared.marked.Marked.{Marked}
 use Rattle.pdl_nodes.specs.Changes.{kept_in, lift_in, fill_in, or_known}
 use Rattle.pdl_nodes.specs.Marked.{AreListed}
 use Rattle.pdl_nodes.specs.Table.{rows_of, IsTable}
-use Rattle.pdl_nodes.specs.Known.{IsKnown, AreKnown, IsLiftable}
-use Rattle.pdl_nodes.specs.Worlds.{places_of, latest, IsRoot}
-use Rattle.pdl_nodes.specs.Families.{IsMarked, InOrder}
+use Rattle.pdl_nodes.specs.Known.{IsLiftable}
 use Rattle.pdl_nodes.proofs.Calls.{changed_one, node_is, table_falls}
 use Rattle.pdl_nodes.proofs.Finds.{each_has, each_at}
 use Rattle.pdl_nodes.proofs.Listing.{table_one, listed_each}
-use Rattle.pdl_nodes.proofs.Shapes.{marked_live}
-use Rattle.pdl_nodes.proofs.Marks.{lift_here, lift_others, kept_here, kept_others, fill_here, fill_others}
-use Rattle.pdl_nodes.proofs.Lists.{length_read}
 use Rattle.pdl_nodes.proofs.Lowered.{lowered}
-use Rattle.pdl_nodes.proofs.Origins.{root_buffered, view_parent}
-use Rattle.pdl_nodes.proofs.Seens.{IsSeen, is_seen}
-
-pub liftable : (rs : Rows) (rt b : ℕ) → InOrder rs → AreKnown rs → IsRoot rs rt → (b ≡ rt → ⊥) → (row_at rs b).root ≡ rt → (row_at rs b).mark ≡ true → IsLiftable rs rt b
-liftable rs rt b o k i n g m =
-    let live : has rs b ≡ true = marked_live rs b m in
-    let own : (row_at rs b).root ≡ b → ⊥ = λ e. n (sym e ∙ g) in
-    let a : IsMarked rs b = (o.family rt i).marked b m g in
-    let s : IsSeen rs b = is_seen rs o.still b live in
-    let x : IsKnown rs b = k b live in
-    record {
-      live = live;
-      view = view_parent rs o.still b live own;
-      found = x.found m own;
-      mark = m;
-      size = ap (λ (xs : List ℤ). length xs) a.shows ∙ length_read (places_of rs b) (latest rs (row_at rs b).root) ∙ s.count;
-      count = λ ps e. ap (λ (xs : List (Option ℕ)). length xs) (x.places ps e) ∙ s.count;
-      places = x.places;
-      same_type = sym s.root_ty ∙ ap (λ v. (row_at rs v).ty) g;
-      root_live = i.0;
-      root_buffered = root_buffered rs o.still rt i.0 i.1;
-      root_size = (o.family rt i).count;
-      apart = λ e. n (sym e);
-    }
+use Rattle.pdl_nodes.proofs.Marks.{lift_here, lift_others, kept_here, kept_others, fill_here, fill_others}
 
 -- ---- while it is out of a table, and the root is written
-
 rows_lifted : (t : Rows) (keys : List (ℕ × ℕ)) (nodes : Slab Row) (b key : ℕ) (r q : Row) → rows_of nodes keys ≡ t → IsTable keys nodes → value_at keys b ≡ Some key → get nodes key ≡ Some r
     → q ≡ record r { kept = []; mark = false; places = None } → rows_of (with_value nodes key q) keys ≡ each (lift_in b) t
 rows_lifted t keys nodes b key r q e i h g c = changed_one (lift_in b) t keys nodes b key r q e i h g (c ∙ lift_here b r) (lift_others b)

@@ -18,8 +18,9 @@ use Rattle.pdl_nodes.specs.Changes.{unmark_in, marked_in, mark_in, fill_in}
 use Rattle.pdl_nodes.specs.Marked.{listed, AreListed}
 use Rattle.pdl_nodes.specs.Table.{rows_of, IsTable}
 use Rattle.pdl_nodes.proofs.Calls.{changed_one, node_is}
-use Rattle.pdl_nodes.proofs.Finds.{same, differ, each_has, each_at, row_stays, has_stays, has_gone}
+use Rattle.pdl_nodes.proofs.Finds.{each_has, each_at, row_stays, has_stays, has_gone}
 use Rattle.pdl_nodes.proofs.Marks.{each_live, each_id, each_each, marked_here, marked_others}
+use Rattle.std.proofs.lemmas.Bool.{eq-eqb, ne_eqb}
 
 -- another node under the same key
 pub table_one : (keys : List (ℕ × ℕ)) (nodes : Slab Row) (id key : ℕ) (q : Row) → IsTable keys nodes → value_at keys id ≡ Some key → IsTable keys (with_value nodes key q)
@@ -40,7 +41,7 @@ pub record IsCalm (f : ℕ → Row → Row) : Type 0 where
   pub roots : (v : ℕ) (r : Row) → (f v r).root ≡ r.root
 
 -- the same change, where a row that is newly marked is listed
-pub listed_more : (f : ℕ → Row → Row) (t : Rows) (n : Marked) → ((v : ℕ) (r : Row) → (f v r).root ≡ r.root)
+listed_more : (f : ℕ → Row → Row) (t : Rows) (n : Marked) → ((v : ℕ) (r : Row) → (f v r).root ≡ r.root)
     → ((v : ℕ) → has t v ≡ true → (f v (row_at t v)).mark ≡ true → ((row_at t v).root ≡ v → ⊥) → has t (row_at t v).root ≡ true → holds (listed n (row_at t v).root) v ≡ true)
     → AreListed (each f t) n
 listed_more f t n roots a v h k w l =
@@ -54,12 +55,17 @@ pub listed_each : (f : ℕ → Row → Row) (t : Rows) (m : Marked) → IsCalm f
 listed_each f t m c a = listed_more f t m c.roots (λ v h k w l. a v h (c.marks v (row_at t v) k) w l)
 
 -- the table after one node was changed
+pub one_listed : (f : ℕ → Row → Row) (t : Rows) (keys : List (ℕ × ℕ)) (nodes : Slab Row) (m : Marked) (id key : ℕ) (q : Row) → rows_of nodes keys ≡ t
+    → IsTable keys nodes × AreListed (rows_of nodes keys) m → value_at keys id ≡ Some key
+    → rows_of (with_value nodes key q) keys ≡ each f t → (AreListed t m → AreListed (each f t) m) → IsTable keys (with_value nodes key q) × AreListed (rows_of (with_value nodes key q) keys) m
+one_listed f t keys nodes m id key q e i h g c =
+    let P : Rows → Type 0 = λ x. AreListed x m in
+    (table_one keys nodes id key q i.0 h, subst P (sym g) (c (subst P e i.1)))
+
 pub one_kept : (f : ℕ → Row → Row) (t : Rows) (keys : List (ℕ × ℕ)) (nodes : Slab Row) (m : Marked) (id key : ℕ) (q : Row) → rows_of nodes keys ≡ t
     → IsTable keys nodes × AreListed (rows_of nodes keys) m → value_at keys id ≡ Some key
     → rows_of (with_value nodes key q) keys ≡ each f t → IsCalm f → IsTable keys (with_value nodes key q) × AreListed (rows_of (with_value nodes key q) keys) m
-one_kept f t keys nodes m id key q e i h g c =
-    let P : Rows → Type 0 = λ x. AreListed x m in
-    (table_one keys nodes id key q i.0 h, subst P (sym g) (listed_each f t m c (subst P e i.1)))
+one_kept f t keys nodes m id key q e i h g c = one_listed f t keys nodes m id key q e i h g (listed_each f t m c)
 
 -- a root that is marked needs no list
 pub listed_root : (t : Rows) (m : Marked) (id : ℕ) → (row_at t id).root ≡ id → AreListed t m → AreListed (each (marked_in id) t) m
@@ -80,13 +86,12 @@ pub listed_stays : (t : Rows) (m n : Marked) → ((r v : ℕ) → holds (listed 
 listed_stays t m n stay a = λ v h k w l. stay (row_at t v).root v (a v h k w l)
 
 -- ---- taking marks away
-
 -- of one number that no row has, or that is the base
 pub absent_one : (rt b : ℕ) (t : Rows) (id : ℕ) → Falls t → has t id ≡ false → t ≡ each (unmark_in (id ∷ []) rt b) t
 absent_one rt b t id s h = sym (each_live (unmark_in (id ∷ []) rt b) (λ k r. r) t s (λ k l. other_row (eqb k b) k (row_at t k) (λ y. (let z : false ≡ true = sym h ∙ ap (has t) y ∙ l in absurd (cc)))) ∙ each_id t) where
   other_row : (n : Bool) (k : ℕ) (r : Row) → (id ≡ k → ⊥) → record r { mark = cond (not n && (holds (id ∷ []) k && eqb r.root rt)) false r.mark } ≡ r
   other_row true k r n = refl
-  other_row false k r n = rw (differ id k n) refl
+  other_row false k r n = rw (ne_eqb id k n) refl
 
 pub base_one : (rt b id : ℕ) (t : Rows) → id ≡ b → t ≡ each (unmark_in (id ∷ []) rt b) t
 base_one rt b id [] e = refl
@@ -94,17 +99,17 @@ base_one rt b id ((k, r) ∷ t) e = ap₂ (λ x y. (k, x) ∷ y) (row k r) (base
   row : (k : ℕ) (r : Row) → r ≡ unmark_in (id ∷ []) rt b k r
   row k r = elim (eqb_tells k b) [
     | inl y ↦ rw y.0 refl
-    | inr n ↦ rw (differ id k (λ x. n.1 (sym x ∙ e))) (rw n.0 refl)
+    | inr n ↦ rw (ne_eqb id k (λ x. n.1 (sym x ∙ e))) (rw n.0 refl)
   ]
 
 pub one_others : (rt b id v : ℕ) (r : Row) → (v ≡ id → ⊥) → unmark_in (id ∷ []) rt b v r ≡ r
 one_others rt b id v r n = row (eqb v b) where
   row : (m : Bool) → record r { mark = cond (not m && (holds (id ∷ []) v && eqb r.root rt)) false r.mark } ≡ r
   row true = refl
-  row false = rw (differ id v (λ e. n (sym e))) refl
+  row false = rw (ne_eqb id v (λ e. n (sym e))) refl
 
 pub one_here : (rt b id : ℕ) (r : Row) → (id ≡ b → ⊥) → record r { mark = cond (eqb r.root rt) false r.mark } ≡ unmark_in (id ∷ []) rt b id r
-one_here rt b id r n = rw (differ id b n, same id id refl) refl
+one_here rt b id r n = rw (ne_eqb id b n, eq-eqb id id refl) refl
 
 twice : (n x h g m : Bool) → cond (n && (h && g)) false (cond (n && ((x || false) && g)) false m) ≡ cond (n && ((x || h) && g)) false m
 twice false x h g m = refl
@@ -118,7 +123,7 @@ twice true false false true m = refl
 twice true false false false m = refl
 
 -- one number of the list more
-pub unmark_more : (rt b x : ℕ) (vs : List ℕ) (t : Rows) → each (unmark_in vs rt b) (each (unmark_in (x ∷ []) rt b) t) ≡ each (unmark_in (x ∷ vs) rt b) t
+unmark_more : (rt b x : ℕ) (vs : List ℕ) (t : Rows) → each (unmark_in vs rt b) (each (unmark_in (x ∷ []) rt b) t) ≡ each (unmark_in (x ∷ vs) rt b) t
 unmark_more rt b x vs [] = refl
 unmark_more rt b x vs ((k, r) ∷ t) =
     let head : unmark_in vs rt b k (unmark_in (x ∷ []) rt b k r) ≡ unmark_in (x ∷ vs) rt b k r = ap (λ m. record r { mark = m }) (twice (not (eqb k b)) (eqb x k) (holds vs k) (eqb r.root rt) r.mark) in
@@ -156,17 +161,17 @@ unlisted : (t : Rows) (m : Marked) (rt k : ℕ) (o : Bool) → AreListed t m →
 unlisted t m rt k false a i l e x h g = refl
 unlisted t m rt k true a i l e x h g =
     let r : (row_at t k).root ≡ rt = eqb-true (row_at t k).root rt g in
-    let n : (row_at t k).root ≡ k → ⊥ = λ y. (let z : false ≡ true = sym x ∙ same rt k (sym r ∙ y) in absurd (cc)) in
+    let n : (row_at t k).root ≡ k → ⊥ = λ y. (let z : false ≡ true = sym x ∙ eq-eqb rt k (sym r ∙ y) in absurd (cc)) in
     let y : holds (listed m (row_at t k).root) k ≡ true = a k l e n (ap (has t) r ∙ i) in
     let z : false ≡ true = sym h ∙ ap (λ v. holds (listed m v) k) (sym r) ∙ y in
     absurd (cc)
 
 -- the base keeps its mark
-pub unmark_base : (vs : List ℕ) (rt b : ℕ) (r : Row) → unmark_in vs rt b b r ≡ r
-unmark_base vs rt b r = rw (same b b refl) refl
+unmark_base : (vs : List ℕ) (rt b : ℕ) (r : Row) → unmark_in vs rt b b r ≡ r
+unmark_base vs rt b r = rw (eq-eqb b b refl) refl
 
 -- what is listed, and the root, lose their marks, and then the base is marked: so it is marked alone
-pub marked_alone : (t : Rows) (m : Marked) (rt b : ℕ) → Falls t → AreListed t m → has t rt ≡ true
+marked_alone : (t : Rows) (m : Marked) (rt b : ℕ) → Falls t → AreListed t m → has t rt ≡ true
     → each (marked_in b) (each (unmark_in (rt ∷ []) rt b) (each (unmark_in (listed m rt) rt b) t)) ≡ each (mark_in rt b) t
 marked_alone t m rt b s a i =
     ap (each (marked_in b)) (each_each (unmark_in (rt ∷ []) rt b) (unmark_in (listed m rt) rt b) t)
@@ -217,7 +222,6 @@ listed_alone t m n rt b a g live mark kept others = listed_more (mark_in rt b) t
 ])
 
 -- ---- one node more, and one less
-
 pub listed_joined : (t : Rows) (m : Marked) (id : ℕ) (r : Row) → NumbersBelow id t → ((v : ℕ) → has t v ≡ true → (row_at t v).root ≡ id → ⊥) → ((r.root ≡ id → ⊥) → r.mark ≡ false)
     → AreListed t m → AreListed ((id, r) ∷ t) m
 listed_joined t m id r b none unmarked a v h k w l = elim (eqb_tells id v) [
@@ -228,14 +232,14 @@ listed_joined t m id r b none unmarked a v h k w l = elim (eqb_tells id v) [
       let g : id ≡ (row_at t v).root → ⊥ = λ e. none v hv (sym e) in
       let kv : (row_at t v).mark ≡ true = ap (λ (x : Row). x.mark) (sym s) ∙ k in
       let lv : has ((id, r) ∷ t) (row_at t v).root ≡ true = ap (λ (x : Row). has ((id, r) ∷ t) x.root) (sym s) ∙ l in
-      ap (λ (x : Row). holds (listed m x.root) v) s ∙ a v hv kv (λ e. w (ap (λ (x : Row). x.root) s ∙ e)) (rw (differ id (row_at t v).root g) at lv))
+      ap (λ (x : Row). holds (listed m x.root) v) s ∙ a v hv kv (λ e. w (ap (λ (x : Row). x.root) s ∙ e)) (rw (ne_eqb id (row_at t v).root g) at lv))
 ]
 
 pub listed_gone : (t : Rows) (m n : Marked) (id : ℕ) → ((r v : ℕ) → (r ≡ id → ⊥) → (v ≡ id → ⊥) → holds (listed m r) v ≡ true → holds (listed n r) v ≡ true) → AreListed t m
     → AreListed (without id t) n
 listed_gone t m n id others a v h k w l =
-    let it : other id id ≡ false = rw (same id id refl) refl in
-    let not_it : (u : ℕ) → (u ≡ id → ⊥) → other id u ≡ true = λ u x. rw (differ u id x) refl in
+    let it : other id id ≡ false = rw (eq-eqb id id refl) refl in
+    let not_it : (u : ℕ) → (u ≡ id → ⊥) → other id u ≡ true = λ u x. rw (ne_eqb u id x) refl in
     let left : (u : ℕ) → has (without id t) u ≡ true → u ≡ id → ⊥ = λ u g y. (let z : false ≡ true = sym (has_gone (other id) t u (ap (other id) y ∙ it)) ∙ g in absurd (cc)) in
     let s : row_at (without id t) v ≡ row_at t v = row_stays (other id) t v (not_it v (left v h)) in
     let g : (row_at (without id t) v).root ≡ (row_at t v).root = ap (λ (x : Row). x.root) s in
@@ -249,4 +253,4 @@ pub pulled : (xs ys : List ℕ) (i x y id v : ℕ) → i < length xs → x ≡ g
 pulled xs ys i x y id v l a b e f n h =
     let z : x ≡ id = a ∙ get_or_default xs i x y l ∙ sym b ∙ e in
     let w : holds xs v ≡ (eqb x v || holds (swap_remove xs i x) v) = list_any-IsPermutation (λ k. eqb k v) xs (x ∷ swap_remove xs i x) (IsPermutation-swap_remove xs i x l a) in
-    ap (λ zs. holds zs v) f ∙ ap (λ b. b || holds (swap_remove xs i x) v) (sym (differ x v (λ k. n (sym k ∙ z)))) ∙ sym w ∙ h
+    ap (λ zs. holds zs v) f ∙ ap (λ b. b || holds (swap_remove xs i x) v) (sym (ne_eqb x v (λ k. n (sym k ∙ z)))) ∙ sym w ∙ h

@@ -1,11 +1,9 @@
 -- Which views are listed as marked, where rows come to other roots.
-use Rattle.std.proofs.Common.{◌≡◌, ℕ, ℤ, true, false, List, Option, Some, inl, inr, refl, sym, ◌∙◌, ap, subst}
+use Rattle.std.proofs.Common.{◌≡◌, ℕ, ℤ, true, false, List, Option, inl, inr, refl, sym, ◌∙◌, ap}
 use Rattle.std.proofs.lemmas.Bool.Decides.{eqb_tells}
-use Rattle.slab.specs.Slab.{Slab, with_value}
 use Rattle.pdl_shape.specs.Triple.{Triple}
 use Rattle.pdl_world.specs.Swept.{holds}
 use Rattle.pdl_world.specs.Windows.{over}
-use Rattle.pdl_nodes.specs.Numbered.{value_at}
 use Rattle.pdl_nodes.specs.declared.marked.Marked.{Marked}
 use Rattle.pdl_nodes.specs.declared.origin.Origin.{Origin}
 use Rattle.pdl_nodes.specs.declared.origin.Origin.TheVariants.{Root, View}
@@ -13,9 +11,7 @@ use Rattle.pdl_nodes.specs.Cut.{derive, derived_in, rooted_in, view_under}
 use Rattle.pdl_nodes.specs.Marked.{AreListed, listed}
 use Rattle.pdl_nodes.specs.Row.{Row}
 use Rattle.pdl_nodes.specs.Rows.{Rows, row_at, has, each}
-use Rattle.pdl_nodes.specs.Table.{rows_of, IsTable}
 use Rattle.pdl_nodes.proofs.Finds.{each_has, each_at}
-use Rattle.pdl_nodes.proofs.Listing.{table_one}
 
 -- what is still marked, and is no root, was so under the same root
 listed_moved : (f : ℕ → Row → Row) (t : Rows) (m : Marked) → ((v : ℕ) → has t v ≡ true → (f v (row_at t v)).mark ≡ true → ((f v (row_at t v)).root ≡ v → ⊥) → ((f v (row_at t v)).root ≡ (row_at t v).root) × ((row_at t v).mark ≡ true)) → AreListed t m → AreListed (each f t) m
@@ -49,11 +45,3 @@ listed_derived rs u t m a = listed_moved (derived_in rs u) t m (λ v h k w. elim
   | inl y ↦ rw y.0 (derive_is rs u (row_at t v) (row_at t v).origin (rw y.0 at k))
   | inr n ↦ rw n.0 (refl, (let e : (row_at t v).mark ≡ true = rw n.0 at k in e))
 ]) a
-
--- the table after one node was changed
-pub one_listed : (f : ℕ → Row → Row) (t : Rows) (keys : List (ℕ × ℕ)) (nodes : Slab Row) (m : Marked) (id key : ℕ) (q : Row) → rows_of nodes keys ≡ t
-    → IsTable keys nodes × AreListed (rows_of nodes keys) m → value_at keys id ≡ Some key
-    → rows_of (with_value nodes key q) keys ≡ each f t → (AreListed t m → AreListed (each f t) m) → IsTable keys (with_value nodes key q) × AreListed (rows_of (with_value nodes key q) keys) m
-one_listed f t keys nodes m id key q e i h g c =
-    let P : Rows → Type 0 = λ x. AreListed x m in
-    (table_one keys nodes id key q i.0 h, subst P (sym g) (c (subst P e i.1)))

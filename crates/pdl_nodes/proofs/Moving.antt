@@ -1,7 +1,6 @@
 -- Values that go through places.
-use Rattle.std.proofs.Common.{◌≡◌, ℕ, ℤ, ◌<◌, List, [], ◌∷◌, length, map, get_or, Option, Some, None, refl, sym, ◌∙◌, ap, arith}
+use Rattle.std.proofs.Common.{◌≡◌, ℕ, ℤ, List, [], ◌∷◌, length, map, Option, Some, None, refl, sym, ◌∙◌, ap}
 use Rattle.std.specs.List.{range_with_len}
-use Rattle.std.proofs.lemmas.List.FromFn.{length-map-range_with_len, get_or-map-range_with_len}
 use Rattle.std.proofs.lemmas.Simd.{map-map}
 use Rattle.pdl_shape.specs.Shape.{size_of}
 use Rattle.pdl_shape.specs.Places.{put, write}
@@ -10,14 +9,6 @@ use Rattle.pdl_buf.specs.Window.{place_at}
 use Rattle.pdl_nodes.specs.Assigned.{entry, put_all, put_at, put_seen, seen, seen_at}
 use Rattle.pdl_nodes.specs.Placed.{placed, placed_by}
 use Rattle.pdl_nodes.specs.Spots.{spots}
-
-pub length_placed : (known : Option (List (Option ℕ))) (t : Triple) → length (placed_by known t) ≡ size_of t.dims
-length_placed known t = ap (λ (xs : List (Option ℕ)). length xs) (map-map (placed known) (place_at t) (range_with_len 0 (size_of t.dims))) ∙ length-map-range_with_len (λ p. placed known (place_at t p)) 0 (size_of t.dims)
-
-pub placed_entry : (known : Option (List (Option ℕ))) (t : Triple) (i : ℕ) → i < size_of t.dims → get_or (placed_by known t) i None ≡ placed known (place_at t i)
-placed_entry known t i h =
-    ap (λ (xs : List (Option ℕ)). get_or xs i None) (map-map (placed known) (place_at t) (range_with_len 0 (size_of t.dims)))
-    ∙ get_or-map-range_with_len (λ p. placed known (place_at t p)) 0 (size_of t.dims) i i None h (omega arith)
 
 -- the places of a route over a base
 pub over_is : (known : Option (List (Option ℕ))) (t u : Triple) (vs es : List ℤ) → u ≡ t → length vs ≡ size_of t.dims

@@ -1,34 +1,21 @@
--- What held numbers reach, and the holds of one number more or less.
-use Rattle.std.proofs.Common.{◌≡◌, ◌≢◌, ℕ, Bool, true, false, nat_lt, [], ◌∷◌, Option, Some, None, is_some, inl, inr, refl, sym, ◌∙◌, ap}
-use Rattle.std.proofs.Math.Path.{fun_ext}
+-- Tests that agree on the rows that are there, and the holds of a number that isn't.
+use Rattle.std.proofs.Common.{◌≡◌, ◌≢◌, ℕ, Bool, true, false, [], ◌∷◌, Option, Some, None, is_some, inl, inr, refl, sym, ◌∙◌, ap}
 use Rattle.std.proofs.lemmas.Bool.{cases_Bool}
 use Rattle.std.proofs.lemmas.Bool.Decides.{eqb_tells}
 use Rattle.pdl_nodes.specs.declared.holds.Hold.{Hold}
 use Rattle.pdl_nodes.specs.Staying.{staying}
-use Rattle.pdl_nodes.specs.Rows.{Rows, has, NumbersBelow, reached}
-use Rattle.pdl_nodes.specs.Holds.{Counts, hold_at, count, count_in, count_after, going_in, is_held, Beside, less_one, after_release}
-use Rattle.pdl_nodes.proofs.Finds.{not_newest, same}
+use Rattle.pdl_nodes.specs.Rows.{Rows, has, NumbersBelow}
+use Rattle.pdl_nodes.specs.Holds.{Counts, hold_at, going_in, Beside}
+use Rattle.pdl_nodes.proofs.Finds.{not_newest}
+use Rattle.std.proofs.lemmas.Bool.{eq-eqb}
 
 -- tests that agree on the live numbers
 pub staying_live : (t u : ℕ → Bool) (rs : Rows) → ((v : ℕ) → has rs v ≡ true → t v ≡ u v) → staying t rs ≡ staying u rs
 staying_live t u [] e = refl
 staying_live t u ((k, r) ∷ rs) e =
     let tail : staying t rs ≡ staying u rs = staying_live t u rs (λ v h. e v (elim (eqb_tells k v) [ inl y ↦ rw y.0 refl | inr n ↦ rw n.0 h ])) in
-    let head : t k ≡ u k = e k (rw (same k k refl) refl) in
+    let head : t k ≡ u k = e k (rw (eq-eqb k k refl) refl) in
     rw (head, tail) refl
-
--- what is held once one hold was taken back
-pub count_taken : (hs later : Counts) (id v : ℕ) → hold_at later id ≡ less_one (hold_at hs id) → ((x : ℕ) → x ≢ id → hold_at later x ≡ hold_at hs x) → count later v ≡ count_after id hs v
-count_taken hs later id v h o = elim (eqb_tells v id) [
-  | inl e ↦ rw e.0 (ap count_in (ap (hold_at later) e.1 ∙ h ∙ ap (λ x. less_one (hold_at hs x)) (sym e.1)))
-  | inr e ↦ rw e.0 (ap count_in (o v e.1))
-]
-
-pub after_take : (hs later : Counts) (id v : ℕ) → hold_at later id ≡ less_one (hold_at hs id) → ((x : ℕ) → x ≢ id → hold_at later x ≡ hold_at hs x) → is_held later v ≡ after_release id hs v
-after_take hs later id v h o = ap (nat_lt 0) (count_taken hs later id v h o)
-
-pub taken : (t : Rows) (hs later : Counts) (id v : ℕ) → hold_at later id ≡ less_one (hold_at hs id) → ((x : ℕ) → x ≢ id → hold_at later x ≡ hold_at hs x) → reached t (is_held later) v ≡ reached t (after_release id hs) v
-taken t hs later id v h o = ap (λ f. reached t f v) (fun_ext (λ x. after_take hs later id x h o))
 
 pub none_of : (o : Option Hold) → is_some o ≡ false → o ≡ None
 none_of None h = refl

@@ -12,16 +12,16 @@ use Rattle.pdl_nodes.specs.Staying.{staying}
 use Rattle.pdl_nodes.specs.Still.{IsStill}
 use Rattle.pdl_nodes.proofs.Counted.{children_without}
 use Rattle.pdl_nodes.proofs.Falling.{climb}
-use Rattle.pdl_nodes.proofs.Finds.{same, differ, falls_stays, has_gone, has_stays, row_stays}
+use Rattle.pdl_nodes.proofs.Finds.{falls_stays, has_gone, has_stays, row_stays}
 use Rattle.pdl_nodes.proofs.Lefts.{left_all, left_same}
 use Rattle.pdl_nodes.proofs.Paths.{parent_live}
 use Rattle.pdl_nodes.proofs.Reaches.{staying_live}
 use Rattle.pdl_nodes.proofs.Rests.{size_of, without_here, without_none}
-use Rattle.pdl_nodes.proofs.Shapes.{past_at}
 use Rattle.pdl_nodes.proofs.Rising.{no_both, noted_stands, noted_count, noted_less}
+use Rattle.pdl_nodes.proofs.Shapes.{past_at}
+use Rattle.std.proofs.lemmas.Bool.{eq-eqb, ne_eqb}
 
 -- ---- rows of which some are left
-
 staying_twice : (t u : ℕ → Bool) (rs : Rows) → staying t (staying u rs) ≡ staying (λ v. u v && t v) rs
 staying_twice t u [] = refl
 staying_twice t u ((k, r) ∷ rs) = elim (cases_Bool (u k)) [
@@ -59,10 +59,10 @@ rows_then a b c x y =
     ∙ staying_live (λ v. has b v && has c v) (has c) a (λ v h. and_is (has b v) (has c v) (λ z. has_less b c v y z))
 
 without_has : (rs new : Rows) (at : ℕ) → new ≡ without at rs → has new at ≡ false
-without_has rs new at e = ap (λ x. has x at) e ∙ has_gone (other at) rs at (rw (same at at refl) refl)
+without_has rs new at e = ap (λ x. has x at) e ∙ has_gone (other at) rs at (rw (eq-eqb at at refl) refl)
 
 without_other : (rs new : Rows) (at v : ℕ) → new ≡ without at rs → v ≢ at → has new v ≡ has rs v
-without_other rs new at v e d = ap (λ x. has x v) e ∙ has_stays (other at) rs v (rw (differ v at d) refl)
+without_other rs new at v e d = ap (λ x. has x v) e ∙ has_stays (other at) rs v (rw (ne_eqb v at d) refl)
 
 rows_without : (rs new : Rows) (at : ℕ) → new ≡ without at rs → new ≡ staying (has new) rs
 rows_without rs new at e = e ∙ staying_live (other at) (has new) rs (λ v h. elim (eqb_tells v at) [
@@ -88,7 +88,6 @@ left_most ((k, r) ∷ rs) t v = (let l : left rs t v ≤ children rs v = left_mo
 ])
 
 -- ---- from one array up
-
 -- the next to be removed, if it goes and is there
 pub record IsFalling (id : ℕ) (t0 : Rows) (h0 : Counts) (table : Rows) (hs : Counts) (next : Option ℕ) : Type 0 where
   pub rows : table ≡ staying (has table) t0
@@ -241,7 +240,6 @@ falling_done id t0 h0 table hs i = record {
 }
 
 -- ---- from some arrays up
-
 pub record IsRemoving (rs : Rows) (h0 : Counts) (table : Rows) (hs : Counts) (rest loose : List ℕ) : Type 0 where
   pub rows : table ≡ staying (has table) rs
   pub keeps : (v : ℕ) → has rs v ≡ true → stands h0 v ≡ true → has table v ≡ true

@@ -1,8 +1,8 @@
 -- An array without views that becomes a root of other dimensions.
-use Rattle.std.proofs.Common.{◌≡◌, ℕ, ℤ, Bool, true, false, ◌||◌, eqb, cond, List, [], ◌∷◌, length, map, Some, None, is_some, option_and_then, inl, inr, refl, sym, ◌∙◌, ap, subst}
+use Rattle.std.proofs.Common.{◌≡◌, ℕ, ℤ, true, false, ◌||◌, eqb, cond, List, [], ◌∷◌, length, map, Some, None, is_some, option_and_then, inl, inr, refl, sym, ◌∙◌, ap, subst}
 use Rattle.std.specs.Option.{option_map_or}
 use Rattle.std.specs.List.{range_with_len}
-use Rattle.std.proofs.lemmas.Bool.{cases_eq}
+use Rattle.std.proofs.lemmas.Bool.{cases_eq, or_parts}
 use Rattle.std.proofs.lemmas.Bool.Decides.{eqb_tells}
 use Rattle.pdl_elem.specs.declared.Ty.{Ty}
 use Rattle.pdl_shape.specs.Places.{read}
@@ -22,37 +22,26 @@ use Rattle.pdl_nodes.specs.Sized.{IsLayout, LaidFrom, AreSized}
 use Rattle.pdl_nodes.specs.Still.{IsDerived, StillFrom, IsStill}
 use Rattle.pdl_nodes.specs.Worlds.{shape, def_from, def_of, places_in, places_of, latest, world_of, with_elements, IsRoot}
 use Rattle.pdl_nodes.proofs.CutOrder.{with_replaced, world_ty}
-use Rattle.pdl_nodes.proofs.CutRows.{CutLaws}
+use Rattle.pdl_nodes.proofs.CutRows.{LawsBelow}
 use Rattle.pdl_nodes.proofs.FamilyLemmas.{latest_none, with_roots}
-use Rattle.pdl_nodes.proofs.Finds.{same, differ, not_newest, each_has, each_at, below_each}
+use Rattle.pdl_nodes.proofs.Finds.{not_newest, each_has, each_at, below_each}
 use Rattle.pdl_nodes.proofs.Joins.{whole_once}
 use Rattle.pdl_nodes.proofs.Laid.{is_whole}
 use Rattle.pdl_nodes.proofs.Sames.{IsSame, IsSameFamily, latest_same, family_same}
-use Rattle.pdl_nodes.proofs.Seens.{IsSeen, is_seen, row_older, has_older}
-use Rattle.pdl_nodes.proofs.Settles.{root_shows}
+use Rattle.pdl_nodes.proofs.Seens.{is_seen, row_older, has_older, look_older}
+use Rattle.pdl_nodes.proofs.Elements.{root_shows}
 use Rattle.pdl_nodes.proofs.Shapes.{marked_live}
+use Rattle.pdl_nodes.specs.Seen.{IsSeen}
+use Rattle.std.proofs.lemmas.Bool.{eq-eqb, ne_eqb}
 
--- worlds in which an array has no views
-later : (a b : Bool) → (a || b) ≡ false → b ≡ false
-later true b h = cc
-later false b h = h
-
-first : (a b : Bool) → (a || b) ≡ false → a ≡ false
-first true b h = cc
-first false b h = refl
-
-pub tail_viewless : (k : ℕ) (d : ArrayDef) (w : World) (v : ℕ) → has_views ((k, d) ∷ w) v ≡ false → has_views w v ≡ false
-tail_viewless k d w v h = later _ (has_views w v) h
+tail_viewless : (k : ℕ) (d : ArrayDef) (w : World) (v : ℕ) → has_views ((k, d) ∷ w) v ≡ false → has_views w v ≡ false
+tail_viewless k d w v h = (or_parts _ (has_views w v) h).1
 
 unlike : (a b : ℕ) → a ≡ b → (eqb a b || false) ≡ false → ⊥
-unlike a b e h = (let z : true ≡ false = rw (same a b e) at h in cc)
+unlike a b e h = (let z : true ≡ false = rw (eq-eqb a b e) at h in cc)
 
-pub other_parent : (k p : ℕ) (t : Trans) (w : World) (v : ℕ) → has_views ((k, view p t) ∷ w) v ≡ false → p ≡ v → ⊥
-other_parent k p t w v h e = unlike p v e (first _ (has_views w v) h)
-
-look_past : (k : ℕ) (d : ArrayDef) (w : World) (u : ℕ) → (k ≡ u → ⊥) → look ((k, d) ∷ w) u ≡ look w u
-look_past k (root ty ds es) w u n = rw (differ k u n) refl
-look_past k (view p t) w u n = rw (differ k u n) refl
+other_parent : (k p : ℕ) (t : Trans) (w : World) (v : ℕ) → has_views ((k, view p t) ∷ w) v ≡ false → p ≡ v → ⊥
+other_parent k p t w v h e = unlike p v e (or_parts _ (has_views w v) h).0
 
 onward : (k p : ℕ) (t : Trans) (w : World) (v u : ℕ) → has_views ((k, view p t) ∷ w) v ≡ false → (u ≡ v → ⊥) → cond (eqb k u) p u ≡ v → ⊥
 onward k p t w v u g n e = elim (eqb_tells k u) [
@@ -64,29 +53,29 @@ look_beside : (w : World) (v u : ℕ) (new : ArrayDef) → has_views w v ≡ fal
 look_beside [] v u new h n = refl
 look_beside ((k, root ty ds es) ∷ w) v u new h n = elim (eqb_tells k v) [
   | inl y ↦ (let ne : k ≡ u → ⊥ = λ e. n (sym e ∙ y.1) in
-      rw y.0 (look_past k new (replaced w v new) u ne ∙ look_beside w v u new (tail_viewless k (root ty ds es) w v h) n ∙ sym (look_past k (root ty ds es) w u ne)))
+      rw y.0 (look_older k new (replaced w v new) u ne ∙ look_beside w v u new (tail_viewless k (root ty ds es) w v h) n ∙ sym (look_older k (root ty ds es) w u ne)))
   | inr y ↦ rw y.0 (ap (λ o. cond (eqb k u) (Some (look_of_root k ty ds)) o) (look_beside w v u new (tail_viewless k (root ty ds es) w v h) n))
 ]
 look_beside ((k, view p t) ∷ w) v u new h n = elim (eqb_tells k v) [
   | inl y ↦ (let ne : k ≡ u → ⊥ = λ e. n (sym e ∙ y.1) in
-      rw y.0 (look_past k new (replaced w v new) u ne ∙ look_beside w v u new (tail_viewless k (view p t) w v h) n ∙ sym (look_past k (view p t) w u ne)))
+      rw y.0 (look_older k new (replaced w v new) u ne ∙ look_beside w v u new (tail_viewless k (view p t) w v h) n ∙ sym (look_older k (view p t) w u ne)))
   | inr y ↦ rw y.0 (ap (λ o. cond (eqb k u) (option_and_then (through t) o) o) (look_beside w v (cond (eqb k u) p u) new (tail_viewless k (view p t) w v h) (onward k p t w v u h n)))
 ]
 
 -- the rows
-pub row_there : (rs : Rows) (v : ℕ) (ds : List ℕ) (es : List ℤ) (u : ℕ) → has rs u ≡ true → (u ≡ v → ⊥) → row_at (each (rooted_in v ds es) rs) u ≡ row_at rs u
-row_there rs v ds es u h n = each_at (rooted_in v ds es) rs u h ∙ rw (differ u v n) refl
+row_there : (rs : Rows) (v : ℕ) (ds : List ℕ) (es : List ℤ) (u : ℕ) → has rs u ≡ true → (u ≡ v → ⊥) → row_at (each (rooted_in v ds es) rs) u ≡ row_at rs u
+row_there rs v ds es u h n = each_at (rooted_in v ds es) rs u h ∙ rw (ne_eqb u v n) refl
 
 pub row_here : (rs : Rows) (v : ℕ) (ds : List ℕ) (es : List ℤ) → has rs v ≡ true → row_at (each (rooted_in v ds es) rs) v ≡ root_row v (row_at rs v).ty ds es
-row_here rs v ds es h = each_at (rooted_in v ds es) rs v h ∙ rw (same v v refl) refl
+row_here rs v ds es h = each_at (rooted_in v ds es) rs v h ∙ rw (eq-eqb v v refl) refl
 
-pub shape_reshaped : (rs : Rows) (v : ℕ) (ds : List ℕ) (es : List ℤ) (ty : Ty) → IsStill rs → ((u : ℕ) → has rs u ≡ true → u ≡ v → (row_at rs u).ty ≡ ty) → shape (each (rooted_in v ds es) rs) ≡ replaced (shape rs) v (root ty ds [])
+shape_reshaped : (rs : Rows) (v : ℕ) (ds : List ℕ) (es : List ℤ) (ty : Ty) → IsStill rs → ((u : ℕ) → has rs u ≡ true → u ≡ v → (row_at rs u).ty ≡ ty) → shape (each (rooted_in v ds es) rs) ≡ replaced (shape rs) v (root ty ds [])
 shape_reshaped [] v ds es ty s f = refl
 shape_reshaped ((k, r) ∷ rs) v ds es ty s f =
     let tail : shape (each (rooted_in v ds es) rs) ≡ replaced (shape rs) v (root ty ds []) = shape_reshaped rs v ds es ty s.2 (λ u h e. (let n : k ≡ u → ⊥ = not_newest rs k u s.0 h in
     ap (λ (x : Row). x.ty) (sym (row_older k r rs u n)) ∙ f u (has_older k r rs u n ∙ h) e)) in
     elim (eqb_tells k v) [
-      | inl y ↦ (let w : r.ty ≡ ty = (let g : (row_at ((k, r) ∷ rs) k).ty ≡ ty = f k (rw (same k k refl) refl) y.1 in rw (same k k refl) at g) in
+      | inl y ↦ (let w : r.ty ≡ ty = (let g : (row_at ((k, r) ∷ rs) k).ty ≡ ty = f k (rw (eq-eqb k k refl) refl) y.1 in rw (eq-eqb k k refl) at g) in
           rw y.0 (ap (λ x. (k, root x ds []) ∷ shape (each (rooted_in v ds es) rs)) w ∙ ap (λ x. (k, root ty ds []) ∷ x) tail))
       | inr y ↦ rw y.0 (ap (λ x. (k, def_of r) ∷ x) tail)
     ]
@@ -103,7 +92,7 @@ still_beside rs v ds es k r (View p t y) h s =
     let n : p ≡ v → ⊥ = other_parent k p t (shape rs) v h in
     (each_has (rooted_in v ds es) rs p ∙ s.0, (let P : Row → Type 0 = λ a. IsDerived k a r t y in subst P (sym (row_there rs v ds es p s.0 n)) s.1))
 
-pub still_reshaped : CutLaws → (rs : Rows) (v : ℕ) (ds : List ℕ) (es : List ℤ) → IsStill rs → has_views (shape rs) v ≡ false → IsStill (each (rooted_in v ds es) rs)
+still_reshaped : LawsBelow → (rs : Rows) (v : ℕ) (ds : List ℕ) (es : List ℤ) → IsStill rs → has_views (shape rs) v ≡ false → IsStill (each (rooted_in v ds es) rs)
 still_reshaped laws [] v ds es s h = tt
 still_reshaped laws ((k, r) ∷ rs) v ds es s h = (
   below_each (rooted_in v ds es) k rs s.0,
@@ -130,7 +119,7 @@ is_same : (rs : Rows) (v : ℕ) (ds : List ℕ) (es : List ℤ) (u : ℕ) → Is
 is_same rs v ds es u s h g n = record { row = row_there rs v ds es u g n; places = places_there rs v ds es u s h n }
 
 -- the family of the new root
-family_new : CutLaws → (rs : Rows) (v : ℕ) (ds : List ℕ) (es : List ℤ) → CanReshape rs v ds es → InFamily (each (rooted_in v ds es) rs) v
+family_new : LawsBelow → (rs : Rows) (v : ℕ) (ds : List ℕ) (es : List ℤ) → CanReshape rs v ds es → InFamily (each (rooted_in v ds es) rs) v
 family_new laws rs v ds es c =
     let new : Rows = each (rooted_in v ds es) rs in
     let row : row_at (each (rooted_in v ds es) rs) v ≡ root_row v (row_at rs v).ty ds es = row_here rs v ds es c.live in
@@ -181,7 +170,7 @@ old_root rs v ds es r n i =
     let h : has rs r ≡ true = sym (each_has (rooted_in v ds es) rs r) ∙ i.0 in
     (h, ap (λ x. x.root) (sym (row_there rs v ds es r h n)) ∙ i.1)
 
-order_reshaped : CutLaws → (rs : Rows) (v : ℕ) (ds : List ℕ) (es : List ℤ) → CanReshape rs v ds es → InOrder (each (rooted_in v ds es) rs)
+order_reshaped : LawsBelow → (rs : Rows) (v : ℕ) (ds : List ℕ) (es : List ℤ) → CanReshape rs v ds es → InOrder (each (rooted_in v ds es) rs)
 order_reshaped laws rs v ds es c = record {
   still = still_reshaped laws rs v ds es c.order.still c.viewless;
   family = λ r i. elim (cases_eq r v) [
@@ -220,9 +209,9 @@ world_reshaped rs v ds es c =
       | inl y ↦ rw y.0 (ap (latest (each (rooted_in v ds es) rs)) y.1 ∙ latest_new rs v ds es c.live)
       | inr y ↦ rw y.0 (latest_same rs (each (rooted_in v ds es) rs) r (old_family rs v ds es r c i y.1))
     ]))
-    ∙ replaced_over (either rs v es) (latest rs) (shape rs) v (root (row_at rs v).ty ds es) (λ k n. rw (differ k v n) refl)
+    ∙ replaced_over (either rs v es) (latest rs) (shape rs) v (root (row_at rs v).ty ds es) (λ k n. rw (ne_eqb k v n) refl)
 
-pub reshapes : CutLaws → ReshapingReshapes
+pub reshapes : LawsBelow → ReshapingReshapes
 reshapes laws = λ rs v ds es c e. (
   order_reshaped laws rs v ds es c,
   world_reshaped rs v ds es c
@@ -271,15 +260,15 @@ laid_beside rs v ds es k r (View p t y) h s l =
     let n : p ≡ v → ⊥ = other_parent k p t (shape rs) v h in
     (let P : Row → Type 0 = λ x. IsLayout t x.triple.dims y in subst P (sym (row_there rs v ds es p s.0 n)) l)
 
-sized_reshaped : CutLaws → (rs : Rows) (v : ℕ) (ds : List ℕ) (es : List ℤ) → IsStill rs → has_views (shape rs) v ≡ false → IsDims ds → AreSized rs → AreSized (each (rooted_in v ds es) rs)
+sized_reshaped : LawsBelow → (rs : Rows) (v : ℕ) (ds : List ℕ) (es : List ℤ) → IsStill rs → has_views (shape rs) v ≡ false → IsDims ds → AreSized rs → AreSized (each (rooted_in v ds es) rs)
 sized_reshaped laws [] v ds es s h d z = tt
 sized_reshaped laws ((k, r) ∷ rs) v ds es s h d z = (
   elim (eqb_tells k v) [
-    | inl y ↦ rw y.0 (record { triple = laws.wholes ds d; limits = d; laid = tt })
-    | inr y ↦ rw y.0 (record { triple = z.0.triple; limits = z.0.limits; laid = laid_beside rs v ds es k r r.origin h s.1 z.0.laid })
+    | inl y ↦ rw y.0 (record { within = record { triple = laws.wholes ds d; limits = d }; laid = tt })
+    | inr y ↦ rw y.0 (record { within = z.0.within; laid = laid_beside rs v ds es k r r.origin h s.1 z.0.laid })
   ],
   sized_reshaped laws rs v ds es s.2 (tail_viewless k (def_of r) (shape rs) v h) d z.1,
 )
 
-pub reshaped_sized : CutLaws → ReshapesStaySized
+pub reshaped_sized : LawsBelow → ReshapesStaySized
 reshaped_sized laws = λ rs v ds es c z. sized_reshaped laws rs v ds es c.order.still c.viewless c.limits z

@@ -9,20 +9,15 @@ use Rattle.pdl_nodes.specs.Row.{parent_of}
 use Rattle.pdl_nodes.specs.Rows.{Rows, row_at, has}
 use Rattle.pdl_nodes.specs.Still.{IsStill}
 use Rattle.pdl_nodes.proofs.FamilyLemmas.{still_falls}
-use Rattle.pdl_nodes.proofs.Finds.{same}
 use Rattle.pdl_nodes.proofs.Lefts.{left_less, left_some, no_one}
 use Rattle.pdl_nodes.proofs.Paths.{parent_live}
 use Rattle.pdl_nodes.proofs.Rests.{size_of}
-
-is_true : (b : Bool) → (b ≡ false → ⊥) → b ≡ true
-is_true true n = refl
-is_true false n = absurd (n refl)
+use Rattle.std.proofs.lemmas.Bool.{eq-eqb, true_from_ne_false}
 
 pub no_both : (b : Bool) → b ≡ true → b ≡ false → ⊥
 no_both b x y = (let z : true ≡ false = sym x ∙ y in absurd (cc))
 
 -- ---- what a note changes
-
 with_some : (n : ℕ) (o : Option Hold) → is_some (with_going n o) ≡ is_some o
 with_some n None = refl
 with_some n (Some h) = refl
@@ -50,7 +45,7 @@ noted_count f hs mid (Some q) v i = elim (eqb_tells q v) [
 ]
 
 -- one more, or one less, of the parent alone
-pub noted_more : (hs mid : Counts) (o : Option ℕ) (v : ℕ) → IsNoted (λ n. n + 1) hs mid o → stands hs v ≡ true → going mid v ≡ one_of o v + going hs v
+noted_more : (hs mid : Counts) (o : Option ℕ) (v : ℕ) → IsNoted (λ n. n + 1) hs mid o → stands hs v ≡ true → going mid v ≡ one_of o v + going hs v
 noted_more hs mid None v i s = (let e : going mid v ≡ going hs v = ap going_in (i.others v (λ e. absurd (cc))) in omega (arith, e))
 noted_more hs mid (Some q) v i s = elim (eqb_tells q v) [
   | inl y ↦ (let e : going mid v ≡ going hs v + 1 = ap going_in (i.here v (ap Some y.1)) ∙ with_is (going hs v + 1) (hold_at hs v) s in rw y.0 (omega (arith, e)))
@@ -74,7 +69,6 @@ noted_some f hs mid o q e h n = record {
 }
 
 -- ---- the walk
-
 -- the next array to look at; of the others none is loose that wasn't
 pub record IsRising (rs : Rows) (h0 hs : Counts) (id : ℕ) (next : Option ℕ) : Type 0 where
   pub marked : AreMarked rs hs
@@ -106,7 +100,7 @@ loose_goes rs hs at m l = by (hold_at hs at) refl where
       let g : h.going ≡ children rs at = (let a : children rs at ≡ going hs at + left rs (stands hs) at = m.noted at l.standing in
       let b : left rs (stands hs) at ≡ 0 = l.viewless in
       let d : h.going ≡ going hs at = ap going_in (sym e) in omega (arith, a, b, d)) in
-      rw (same h.count 0 c, same h.going (children rs at) g) refl
+      rw (eq-eqb h.count 0 c, eq-eqb h.going (children rs at) g) refl
 
 pub rising_stays : (rs : Rows) (h0 hs : Counts) (id : ℕ) (next : Option ℕ) (at : ℕ) → IsRising rs h0 hs id next → next ≡ Some at → goes_in (children rs at) (hold_at hs at) ≡ false → IsRising rs h0 hs id None
 rising_stays rs h0 hs id next at i e g = record {
@@ -118,7 +112,7 @@ rising_stays rs h0 hs id next at i e g = record {
       no_both (goes_in (children rs at) (hold_at hs at)) (loose_goes rs hs at i.marked (subst P (sym y) l)) g));
 }
 
-pub record IsFree (rs : Rows) (hs : Counts) (at : ℕ) : Type 0 where
+record IsFree (rs : Rows) (hs : Counts) (at : ℕ) : Type 0 where
   pub standing : stands hs at ≡ true
   pub free : count hs at ≡ 0
   pub spent : left rs (stands hs) at ≡ 0
@@ -140,7 +134,7 @@ is_free rs hs at m g = by (hold_at hs at) refl g where
   by (Some h) e y = zeros h e (eqb h.count 0) (eqb h.going (children rs at)) refl refl y
 
 -- a parent of one that stands does too, and not all its views are noted
-pub record IsRoomy (rs : Rows) (hs : Counts) (q : ℕ) : Type 0 where
+record IsRoomy (rs : Rows) (hs : Counts) (q : ℕ) : Type 0 where
   pub standing : stands hs q ≡ true
   pub room : going hs q < children rs q
 
@@ -148,7 +142,7 @@ roomy : (rs : Rows) (hs : Counts) (at q : ℕ) → IsStill rs → AreMarked rs h
 roomy rs hs at q still m s w =
     let u : (has rs q ≡ true) × (q < at) = parent_live rs at q still (m.numbers at s) w in
     let a : 0 < left rs (stands hs) q = left_some rs (stands hs) at q (still_falls rs still) (m.numbers at s) s w in
-    let y : stands hs q ≡ true = is_true (stands hs q) (λ z. (let n : left rs (stands hs) q ≡ 0 = m.spent q u.0 z in omega (arith, a, n))) in
+    let y : stands hs q ≡ true = true_from_ne_false (stands hs q) (λ z. (let n : left rs (stands hs) q ≡ 0 = m.spent q u.0 z in omega (arith, a, n))) in
     record { standing = y; room = (let c : children rs q ≡ going hs q + left rs (stands hs) q = m.noted q y in omega (arith, a, c)) }
 
 pub rising_room : (rs : Rows) (h0 hs : Counts) (id : ℕ) (next : Option ℕ) (at q : ℕ) → IsStill rs → IsRising rs h0 hs id next → next ≡ Some at → goes_in (children rs at) (hold_at hs at) ≡ true → parent_of (row_at rs at) ≡ Some q → going hs q < children rs q

@@ -1,4 +1,4 @@
--- What is derived of each array, and its places.
+-- What is derived of each array, its places, and the rows of views over those of their parents.
 use Rattle.std.proofs.Common.{◌≡◌, ℕ, ◌+◌, ◌<◌, Bool, true, false, List, [], ◌∷◌, length, map, Option, Some, None, option_and_then, Ok, inl, inr, refl, sym, ◌∙◌, ap, subst, arith}
 use Rattle.std.specs.List.{range_with_len}
 use Rattle.std.proofs.lemmas.Bool.Decides.{eqb_tells}
@@ -6,7 +6,7 @@ use Rattle.std.proofs.lemmas.List.{length-map}
 use Rattle.std.proofs.lemmas.List.FromFn.{length-map-range_with_len}
 use Rattle.pdl_elem.specs.declared.Ty.{Ty}
 use Rattle.pdl_shape.specs.Shape.{size_of}
-use Rattle.pdl_shape.specs.Places.{places_of as parent_places}
+use Rattle.pdl_shape.specs.Places.{AllBelow, places_of as parent_places}
 use Rattle.pdl_shape.specs.Triple.{Triple, whole_triple}
 use Rattle.pdl_world.specs.declared.Trans.{Trans}
 use Rattle.pdl_world.specs.Formula.{child_dims, source}
@@ -21,42 +21,24 @@ use Rattle.pdl_nodes.specs.Worlds.{shape, def_of, places_of}
 use Rattle.pdl_nodes.specs.Assigned.{entry}
 use Rattle.pdl_nodes.specs.Spots.{spots, Below}
 use Rattle.pdl_nodes.specs.Still.{own_places, base_over, triple_over, IsWhole, IsThroughBase, IsLaid, StillFrom, IsStill}
-use Rattle.pdl_nodes.proofs.Finds.{same, differ, has_below, not_newest}
-use Rattle.pdl_nodes.proofs.Lists.{AllIn}
+use Rattle.pdl_nodes.proofs.Finds.{has_below, not_newest}
 use Rattle.pdl_nodes.proofs.Spotted.{below_range, whole_in, whole_over, below_map, through_over, compose_in}
+use Rattle.pdl_nodes.specs.Seen.{IsSeen, IsViewAt}
+use Rattle.std.proofs.lemmas.Bool.{eq-eqb, ne_eqb}
 
-pub record IsSeen (rs : Rows) (v : ℕ) : Type 0 where
-  pub looks : look (shape rs) v ≡ Some (record { root = (row_at rs v).root; ty = (row_at rs v).ty; dims = (row_at rs v).triple.dims; places = places_of rs v })
-  pub windows : window (shape rs) v ≡ Some (record { base = (row_at rs v).base; triple = (row_at rs v).triple })
-  pub count : length (places_of rs v) ≡ size_of (row_at rs v).triple.dims
-  pub over : places_of rs v ≡ map (entry (places_of rs (row_at rs v).base)) (spots (row_at rs v).triple)
-  pub fits : Below (size_of (row_at rs (row_at rs v).base).triple.dims) (spots (row_at rs v).triple)
-  pub within : AllIn (size_of (row_at rs (row_at rs v).root).triple.dims) (places_of rs v)
-  pub base_has : has rs (row_at rs v).base ≡ true
-  pub base_low : (row_at rs v).base < v + 1
-  pub base_base : (row_at rs (row_at rs v).base).base ≡ (row_at rs v).base
-  pub base_root : (row_at rs (row_at rs v).base).root ≡ (row_at rs v).root
-  pub base_ty : (row_at rs (row_at rs v).base).ty ≡ (row_at rs v).ty
-  pub base_whole : IsWhole (row_at rs (row_at rs v).base).triple
-  pub root_has : has rs (row_at rs v).root ≡ true
-  pub root_root : (row_at rs (row_at rs v).root).root ≡ (row_at rs v).root
-  pub root_base : (row_at rs (row_at rs v).root).base ≡ (row_at rs v).root
-  pub root_ty : (row_at rs (row_at rs v).root).ty ≡ (row_at rs v).ty
-  pub root_places : places_of rs (row_at rs v).root ≡ map Some (range_with_len 0 (size_of (row_at rs (row_at rs v).root).triple.dims))
-
-look_older : (k : ℕ) (d : ArrayDef) (w : World) (v : ℕ) → (k ≡ v → ⊥) → look ((k, d) ∷ w) v ≡ look w v
-look_older k (root ty ds es) w v h = rw (differ k v h) refl
-look_older k (view p t) w v h = rw (differ k v h) refl
+pub look_older : (k : ℕ) (d : ArrayDef) (w : World) (v : ℕ) → (k ≡ v → ⊥) → look ((k, d) ∷ w) v ≡ look w v
+look_older k (root ty ds es) w v h = rw (ne_eqb k v h) refl
+look_older k (view p t) w v h = rw (ne_eqb k v h) refl
 
 window_older : (k : ℕ) (d : ArrayDef) (w : World) (v : ℕ) → (k ≡ v → ⊥) → window ((k, d) ∷ w) v ≡ window w v
-window_older k (root ty ds es) w v h = rw (differ k v h) refl
-window_older k (view p t) w v h = rw (differ k v h) refl
+window_older k (root ty ds es) w v h = rw (ne_eqb k v h) refl
+window_older k (view p t) w v h = rw (ne_eqb k v h) refl
 
 pub row_older : (k : ℕ) (r : Row) (rs : Rows) (v : ℕ) → (k ≡ v → ⊥) → row_at ((k, r) ∷ rs) v ≡ row_at rs v
-row_older k r rs v h = rw (differ k v h) refl
+row_older k r rs v h = rw (ne_eqb k v h) refl
 
 pub has_older : (k : ℕ) (r : Row) (rs : Rows) (v : ℕ) → (k ≡ v → ⊥) → has ((k, r) ∷ rs) v ≡ has rs v
-has_older k r rs v h = rw (differ k v h) refl
+has_older k r rs v h = rw (ne_eqb k v h) refl
 
 pub places_older : (k : ℕ) (r : Row) (rs : Rows) (v : ℕ) → (k ≡ v → ⊥) → places_of ((k, r) ∷ rs) v ≡ places_of rs v
 places_older k r rs v h = rw (look_older k (def_of r) (shape rs) v h) refl
@@ -68,7 +50,7 @@ record IsSeenAs (v : ℕ) (lk : Option Look) (wn : Option Window) (rv rb rt : Ro
   count : length pv ≡ size_of rv.triple.dims
   over : pv ≡ map (entry pb) (spots rv.triple)
   fits : Below (size_of rb.triple.dims) (spots rv.triple)
-  within : AllIn (size_of rt.triple.dims) pv
+  within : AllBelow (size_of rt.triple.dims) pv
   base_has : hb ≡ true
   base_low : rv.base < v + 1
   base_base : rb.base ≡ rv.base
@@ -89,7 +71,7 @@ older k r rs v b h s =
     let nv : k ≡ v → ⊥ = not_newest rs k v b h in
     let nb : k ≡ (row_at rs v).base → ⊥ = not_newest rs k (row_at rs v).base b s.base_has in
     let nr : k ≡ (row_at rs v).root → ⊥ = not_newest rs k (row_at rs v).root b s.root_has in
-    rw (look_older k (def_of r) (shape rs) v nv, window_older k (def_of r) (shape rs) v nv, differ k v nv, look_older k (def_of r) (shape rs) (row_at rs v).base nb, look_older k (def_of r) (shape rs) (row_at rs v).root nr, differ k (row_at rs v).base nb, differ k (row_at rs v).root nr) s
+    rw (look_older k (def_of r) (shape rs) v nv, window_older k (def_of r) (shape rs) v nv, ne_eqb k v nv, look_older k (def_of r) (shape rs) (row_at rs v).base nb, look_older k (def_of r) (shape rs) (row_at rs v).root nr, ne_eqb k (row_at rs v).base nb, ne_eqb k (row_at rs v).root nr) s
 
 -- with what it says of itself
 abbrev told : Row → Origin → Ty → ℕ → ℕ → Triple → Row
@@ -100,13 +82,13 @@ told_is r o ty rt b t eo ey er eb et =
     ap (λ x. told r x ty rt b t) (sym eo) ∙ ap (λ x. told r r.origin x rt b t) (sym ey) ∙ ap (λ x. told r r.origin r.ty x b t) (sym er) ∙ ap (λ x. told r r.origin r.ty r.root x t) (sym eb) ∙ ap (λ x. told r r.origin r.ty r.root r.base x) (sym et)
 
 newest_root : (k : ℕ) (ds : List ℕ) (r : Row) (rs : Rows) → IsWhole (whole_triple ds) → SeenAt ((k, told r Root r.ty k k (whole_triple ds)) ∷ rs) k
-newest_root k ds r rs w = rw (same k k refl, same k k refl) (record {
+newest_root k ds r rs w = rw (eq-eqb k k refl, eq-eqb k k refl) (record {
   looks = refl;
   windows = refl;
   count = length-map-range_with_len Some 0 (size_of ds);
   over = whole_over (map Some (range_with_len 0 (size_of ds))) (size_of ds) (length-map-range_with_len Some 0 (size_of ds)) ∙ ap (map (entry (map Some (range_with_len 0 (size_of ds))))) (sym w.in_order);
   fits = subst (λ (xs : List ℕ). Below (size_of ds) xs) (sym w.in_order) (below_range (size_of ds) 0 (size_of ds) (omega arith));
-  within = whole_in (size_of ds) 0 (size_of ds) (omega arith);
+  within = whole_in (size_of ds);
   base_has = refl;
   base_low = omega arith;
   base_base = refl;
@@ -126,7 +108,7 @@ newest_own k p t y ds r rs b a d o w =
     let l : Look = record { root = (row_at rs p).root; ty = (row_at rs p).ty; dims = (row_at rs p).triple.dims; places = places_of rs p } in
     let ps : List (Option ℕ) = parent_places ds l.dims (source t l.dims) in
     let count : length (through_places ps l.places) ≡ size_of ds = length-map ps (option_and_then (entry l.places)) ∙ length-map-range_with_len _ 0 (size_of ds) in
-    rw (same k k refl, same k k refl, a.looks, a.windows, o, d, look_older k (view p t) (shape rs) (row_at rs p).root nr, differ k (row_at rs p).root nr) (record {
+    rw (eq-eqb k k refl, eq-eqb k k refl, a.looks, a.windows, o, d, look_older k (view p t) (shape rs) (row_at rs p).root nr, ne_eqb k (row_at rs p).root nr) (record {
       looks = refl;
       windows = refl;
       count = count;
@@ -152,7 +134,7 @@ newest_over k p t y u r rs h b a d o w =
     let nr : k ≡ (row_at rs p).root → ⊥ = not_newest rs k (row_at rs p).root b a.root_has in
     let nb : k ≡ (row_at rs p).base → ⊥ = not_newest rs k (row_at rs p).base b a.base_has in
     let l : Look = record { root = (row_at rs p).root; ty = (row_at rs p).ty; dims = (row_at rs p).triple.dims; places = places_of rs p } in
-    rw (same k k refl, a.looks, a.windows, o, d, look_older k (view p t) (shape rs) (row_at rs p).base nb, look_older k (view p t) (shape rs) (row_at rs p).root nr, differ k (row_at rs p).base nb, differ k (row_at rs p).root nr) (record {
+    rw (eq-eqb k k refl, a.looks, a.windows, o, d, look_older k (view p t) (shape rs) (row_at rs p).base nb, look_older k (view p t) (shape rs) (row_at rs p).root nr, ne_eqb k (row_at rs p).base nb, ne_eqb k (row_at rs p).root nr) (record {
       looks = refl;
       windows = refl;
       count = length-map (parent_places u.dims l.dims (source t l.dims)) (option_and_then (entry l.places)) ∙ length-map-range_with_len _ 0 (size_of u.dims);
@@ -196,3 +178,23 @@ seen_at ((k, r) ∷ rs) i v h = elim (eqb_tells k v) [
 pub is_seen : (rs : Rows) → IsStill rs → (v : ℕ) → has rs v ≡ true → IsSeen rs v
 is_seen rs i v h = let s : SeenAt rs v = seen_at rs i v h in
     record { looks = s.looks; windows = s.windows; count = s.count; over = s.over; fits = s.fits; within = s.within; base_has = s.base_has; base_low = s.base_low; base_base = s.base_base; base_root = s.base_root; base_ty = s.base_ty; base_whole = s.base_whole; root_has = s.root_has; root_root = s.root_root; root_base = s.root_base; root_ty = s.root_ty; root_places = s.root_places }
+
+view_older : (k : ℕ) (r : Row) (rs : Rows) (v p : ℕ) (t : Trans) (y : Layout) → NumbersBelow k rs → has rs v ≡ true → IsViewAt rs v p t y → IsViewAt ((k, r) ∷ rs) v p t y
+view_older k r rs v p t y b h a =
+    let nv : k ≡ v → ⊥ = not_newest rs k v b h in
+    let np : k ≡ p → ⊥ = not_newest rs k p b a.live in
+    record { live = has_older k r rs p np ∙ a.live; older = a.older; derived = rw (ne_eqb k v nv, ne_eqb k p np) a.derived }
+
+view_newest : (k : ℕ) (r : Row) (rs : Rows) (p : ℕ) (t : Trans) (y : Layout) → NumbersBelow k rs → StillFrom rs k r (View p t y) → IsViewAt ((k, r) ∷ rs) k p t y
+view_newest k r rs p t y b s =
+    let np : k ≡ p → ⊥ = not_newest rs k p b s.0 in
+    record { live = has_older k r rs p np ∙ s.0; older = has_below rs k p b s.0; derived = rw (eq-eqb k k refl, ne_eqb k p np) s.1 }
+
+pub view_at : (rs : Rows) → IsStill rs → (v p : ℕ) (t : Trans) (y : Layout) → has rs v ≡ true → (row_at rs v).origin ≡ View p t y → IsViewAt rs v p t y
+view_at [] s v p t y h e = let x : false ≡ true = h in absurd (cc)
+view_at ((k, r) ∷ rs) s v p t y h e = elim (eqb_tells k v) [
+  | inl q ↦ (let o : r.origin ≡ View p t y = rw q.0 at e in
+      let f : StillFrom rs k r (View p t y) = subst (λ (x : Origin). StillFrom rs k r x) o s.1 in
+      subst (λ (x : ℕ). IsViewAt ((k, r) ∷ rs) x p t y) q.1 (view_newest k r rs p t y s.0 f))
+  | inr q ↦ (let l : has rs v ≡ true = rw q.0 at h in view_older k r rs v p t y s.0 l (view_at rs s.2 v p t y l (rw q.0 at e)))
+]

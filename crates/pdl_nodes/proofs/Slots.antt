@@ -1,5 +1,5 @@
--- The rows that a list of keys of a slab shows.
-use Rattle.std.proofs.Common.{◌≡◌, ℕ, Bool, true, false, List, [], ◌∷◌, Option, Some, None, inl, inr, refl, sym, ◌∙◌, ap, subst, arith}
+-- The rows that a list of keys of a slab shows, one for each key.
+use Rattle.std.proofs.Common.{◌≡◌, ℕ, Bool, true, false, List, [], ◌∷◌, Option, Some, None, inl, inr, refl, sym, ◌∙◌, ap, subst, arith, ◌+◌, length}
 use Rattle.std.proofs.lemmas.Bool.Decides.{eqb_tells}
 use Rattle.slab.specs.Slab.{Slab}
 use Rattle.pdl_nodes.specs.Numbered.{AllAbove, Rises, value_at}
@@ -75,3 +75,10 @@ shown rs keys nodes o s =
     rows_same (rows_of nodes keys) rs t.falls s.falls
     (λ v. (key_of keys v (value_at keys v) refl (rows_of nodes keys) rs nodes t s).0)
     (λ v l. (key_of keys v (value_at keys v) refl (rows_of nodes keys) rs nodes t s).1 l)
+
+length_onto : (w : Rows) (s : Slab Row) (es : List (ℕ × ℕ)) → length (rows_onto w s es) ≡ length w + length es
+length_onto w s [] = omega arith
+length_onto w s (e ∷ es) = length_onto ((e.0, node_at s e.1) ∷ w) s es ∙ (omega arith)
+
+pub length_rows : (s : Slab Row) (es : List (ℕ × ℕ)) → length (rows_of s es) ≡ length es
+length_rows s es = length_onto [] s es ∙ (omega arith)

@@ -2,18 +2,16 @@
 use Rattle.std.proofs.Common.{◌≡◌, ℕ, ℤ, Bool, true, eqb, cond, List, [], ◌∷◌, Some, option_and_then, inl, inr, refl, sym, ◌∙◌, ap}
 use Rattle.std.proofs.lemmas.Bool.{cases_Bool}
 use Rattle.std.proofs.lemmas.Bool.Decides.{eqb_tells}
-use Rattle.pdl_shape.specs.Triple.{whole_triple}
 use Rattle.pdl_world.specs.World.{World, root, view, look, look_of_root, through}
-use Rattle.pdl_world.specs.Paths.{path}
 use Rattle.pdl_nodes.specs.Staying.{staying, KeepsParents}
-use Rattle.pdl_world.specs.Windows.{window, narrowed}
 use Rattle.pdl_nodes.specs.declared.origin.Origin.{Origin}
 use Rattle.pdl_nodes.specs.declared.origin.Origin.TheVariants.{Root, View}
 use Rattle.pdl_nodes.specs.Row.{Row, parent_from}
 use Rattle.pdl_nodes.specs.Rows.{Rows, has}
 use Rattle.pdl_nodes.specs.Worlds.{shape, def_from, def_of, places_of, with_elements}
 use Rattle.pdl_nodes.specs.Still.{StillFrom, IsStill}
-use Rattle.pdl_nodes.proofs.Finds.{differ, other_than, row_stays, has_stays, below_stays}
+use Rattle.pdl_nodes.proofs.Finds.{other_than, row_stays, has_stays, below_stays}
+use Rattle.std.proofs.lemmas.Bool.{ne_eqb}
 
 -- what is still there stayed
 pub stays : (t : ℕ → Bool) (rs : Rows) (v : ℕ) → has (staying t rs) v ≡ true → t v ≡ true
@@ -51,39 +49,15 @@ onward t k p v c h = elim (eqb_tells k v) [
   | inr e ↦ rw e.0 h
 ]
 
-pub look_stays : (t : ℕ → Bool) (w : World) (v : ℕ) → KeepsParents t w → t v ≡ true → look (staying t w) v ≡ look w v
+look_stays : (t : ℕ → Bool) (w : World) (v : ℕ) → KeepsParents t w → t v ≡ true → look (staying t w) v ≡ look w v
 look_stays t [] v c h = refl
 look_stays t ((k, root ty n es) ∷ w) v c h = elim (cases_Bool (t k)) [
   | inl y ↦ rw y (ap (λ x. cond (eqb k v) (Some (look_of_root k ty n)) x) (look_stays t w v c h))
-  | inr m ↦ rw (m, differ k v (other_than t k v m h)) (look_stays t w v c h)
+  | inr m ↦ rw (m, ne_eqb k v (other_than t k v m h)) (look_stays t w v c h)
 ]
 look_stays t ((k, view p u) ∷ w) v c h = elim (cases_Bool (t k)) [
   | inl y ↦ rw y (ap (λ o. cond (eqb k v) (option_and_then (through u) o) o) (look_stays t w (cond (eqb k v) p v) c.1 (onward t k p v c.0 h)))
-  | inr m ↦ rw (m, differ k v (other_than t k v m h)) (look_stays t w v c.1 h)
-]
-
-pub window_stays : (t : ℕ → Bool) (w : World) (v : ℕ) → KeepsParents t w → t v ≡ true → window (staying t w) v ≡ window w v
-window_stays t [] v c h = refl
-window_stays t ((k, root ty n es) ∷ w) v c h = elim (cases_Bool (t k)) [
-  | inl y ↦ rw y (ap (λ x. cond (eqb k v) (Some (record { base = k; triple = whole_triple n })) x) (window_stays t w v c h))
-  | inr m ↦ rw (m, differ k v (other_than t k v m h)) (window_stays t w v c h)
-]
-window_stays t ((k, view p u) ∷ w) v c h = elim (cases_Bool (t k)) [
-  | inl y ↦ rw y (ap (λ o. cond (eqb k v) (option_and_then (narrowed k u) o) o) (window_stays t w (cond (eqb k v) p v) c.1 (onward t k p v c.0 h)))
-  | inr m ↦ rw (m, differ k v (other_than t k v m h)) (window_stays t w v c.1 h)
-]
-
-pub path_stays : (t : ℕ → Bool) (w : World) (v : ℕ) → KeepsParents t w → t v ≡ true → path (staying t w) v ≡ path w v
-path_stays t [] v c h = refl
-path_stays t ((k, root ty n es) ∷ w) v c h = elim (cases_Bool (t k)) [
-  | inl y ↦ rw y (ap (λ x. cond (eqb k v) (k ∷ []) x) (path_stays t w v c h))
-  | inr m ↦ rw (m, differ k v (other_than t k v m h)) (path_stays t w v c h)
-]
-path_stays t ((k, view p u) ∷ w) v c h = elim (cases_Bool (t k)) [
-  | inl y ↦ (let above : t k ≡ true → path (staying t w) p ≡ path w p = λ e. path_stays t w p c.1 (c.0 e) in
-      let older : path (staying t w) v ≡ path w v = path_stays t w v c.1 h in
-      rw (y, above y, older) refl)
-  | inr m ↦ rw (m, differ k v (other_than t k v m h)) (path_stays t w v c.1 h)
+  | inr m ↦ rw (m, ne_eqb k v (other_than t k v m h)) (look_stays t w v c.1 h)
 ]
 
 pub places_stay : (t : ℕ → Bool) (rs : Rows) (v : ℕ) → KeepsParents t (shape rs) → t v ≡ true → places_of (staying t rs) v ≡ places_of rs v

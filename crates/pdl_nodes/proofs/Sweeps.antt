@@ -14,12 +14,13 @@ use Rattle.pdl_nodes.specs.Worlds.{shape, def_from, def_of, latest, world_of, wi
 use Rattle.pdl_nodes.specs.Still.{StillFrom, IsStill}
 use Rattle.pdl_nodes.specs.Families.{IsWaiting, InOrder}
 use Rattle.pdl_nodes.specs.Released.{KeepsWaiting}
-use Rattle.pdl_nodes.proofs.Finds.{same, differ, not_newest, row_stays, has_stays}
-use Rattle.pdl_nodes.proofs.Shapes.{marked_live}
 use Rattle.pdl_nodes.proofs.FamilyLemmas.{with_roots}
+use Rattle.pdl_nodes.proofs.Finds.{not_newest, row_stays, has_stays, older_has}
 use Rattle.pdl_nodes.proofs.Reaches.{staying_live}
 use Rattle.pdl_nodes.proofs.Sames.{IsSame, IsSameFamily, latest_same, family_same}
+use Rattle.pdl_nodes.proofs.Shapes.{marked_live}
 use Rattle.pdl_nodes.proofs.Stayings.{stays, shape_stays, with_stays, places_stay, still_stays}
+use Rattle.std.proofs.lemmas.Bool.{eq-eqb, ne_eqb}
 
 is_same : (t : ℕ → Bool) (rs : Rows) (v : ℕ) → KeepsParents t (shape rs) → t v ≡ true → IsSame rs (staying t rs) v
 is_same t rs v c h = record { row = row_stays t rs v h; places = places_stay t rs v c h }
@@ -68,7 +69,7 @@ held_on (Some p) b held v h = elim (eqb_tells p v) [
 ]
 
 -- a held array is reached
-pub held_reached : (rs : Rows) (held : ℕ → Bool) (v : ℕ) → held v ≡ true → reached rs held v ≡ true
+held_reached : (rs : Rows) (held : ℕ → Bool) (v : ℕ) → held v ≡ true → reached rs held v ≡ true
 held_reached [] held v h = h
 held_reached ((k, r) ∷ rs) held v h = elim (eqb_tells k v) [
   | inl e ↦ rw e.0 (ap held e.1 ∙ h)
@@ -77,20 +78,17 @@ held_reached ((k, r) ∷ rs) held v h = elim (eqb_tells k v) [
 
 -- of an older array the rest of the table tells
 reached_older : (k : ℕ) (r : Row) (rs : Rows) (held : ℕ → Bool) (v : ℕ) → (k ≡ v → ⊥) → reached ((k, r) ∷ rs) held v ≡ reached rs (passed (parent_of r) (held k) held) v
-reached_older k r rs held v n = rw (differ k v n) refl
+reached_older k r rs held v n = rw (ne_eqb k v n) refl
 
 closed_from : (t u : ℕ → Bool) (rs : Rows) (k : ℕ) (r : Row) (o : Origin) → t k ≡ u k → ((p : ℕ) → has rs p ≡ true → t p ≡ u p) → StillFrom rs k r o → (KeepsParents t (shape rs) → KeepsParents u (shape rs)) → KeepsParents t ((k, def_from r.ty r.triple.dims o) ∷ shape rs) → KeepsParents u ((k, def_from r.ty r.triple.dims o) ∷ shape rs)
 closed_from t u rs k r Root ek e s f c = f c
 closed_from t u rs k r (View p z y) ek e s f c = (λ h. sym (e p s.0) ∙ c.0 (ek ∙ h), f c.1)
 
-newer_has : (k : ℕ) (r : Row) (rs : Rows) (v : ℕ) → has rs v ≡ true → has ((k, r) ∷ rs) v ≡ true
-newer_has k r rs v h = elim (eqb_tells k v) [ inl y ↦ rw y.0 refl | inr n ↦ rw n.0 h ]
-
 -- tests that agree on what is live
 closed_same : (t u : ℕ → Bool) (rs : Rows) → IsStill rs → ((v : ℕ) → has rs v ≡ true → t v ≡ u v) → KeepsParents t (shape rs) → KeepsParents u (shape rs)
 closed_same t u [] s e c = tt
 closed_same t u ((k, r) ∷ rs) s e c =
-    closed_from t u rs k r r.origin (e k (rw (same k k refl) refl)) (λ p h. e p (newer_has k r rs p h)) s.1 (λ d. closed_same t u rs s.2 (λ v h. e v (newer_has k r rs v h)) d) c
+    closed_from t u rs k r r.origin (e k (rw (eq-eqb k k refl) refl)) (λ p h. e p (older_has k r rs p h)) s.1 (λ d. closed_same t u rs s.2 (λ v h. e v (older_has k r rs v h)) d) c
 
 head_closed : (t held : ℕ → Bool) (k : ℕ) (r : Row) (rs : Rows) (o : Origin) → StillFrom rs k r o → t k ≡ held k → ((p : ℕ) → parent_from o ≡ Some p → has rs p ≡ true → held k ≡ true → t p ≡ true) → KeepsParents t (shape rs) → KeepsParents t ((k, def_from r.ty r.triple.dims o) ∷ shape rs)
 head_closed t held k r rs Root s e h c = c
@@ -100,18 +98,18 @@ head_closed t held k r rs (View p z y) s e h c = (λ g. h p refl s.0 (sym e ∙ 
 pub reached_closed : (rs : Rows) (held : ℕ → Bool) → IsStill rs → KeepsParents (reached rs held) (shape rs)
 reached_closed [] held s = tt
 reached_closed ((k, r) ∷ rs) held s =
-    head_closed (reached ((k, r) ∷ rs) held) held k r rs r.origin s.1 (rw (same k k refl) refl)
-    (λ p e l g. reached_older k r rs held p (not_newest rs k p s.0 l) ∙ held_reached rs (passed (parent_of r) (held k) held) p (ap (λ o. passed o (held k) held p) e ∙ rw (same p p refl, g) refl))
+    head_closed (reached ((k, r) ∷ rs) held) held k r rs r.origin s.1 (rw (eq-eqb k k refl) refl)
+    (λ p e l g. reached_older k r rs held p (not_newest rs k p s.0 l) ∙ held_reached rs (passed (parent_of r) (held k) held) p (ap (λ o. passed o (held k) held p) e ∙ rw (eq-eqb p p refl, g) refl))
     (closed_same (reached rs (passed (parent_of r) (held k) held)) (reached ((k, r) ∷ rs) held) rs s.2
     (λ v h. sym (reached_older k r rs held v (not_newest rs k v s.0 h)))
     (reached_closed rs (passed (parent_of r) (held k) held) s.2))
 
 -- the parents of what was passed are held too
-passed_holds : (held : List ℕ) (k v : ℕ) (ty : Ty) (ds : List ℕ) (o : Origin) (b : Bool) → holds (cond b (parents (def_from ty ds o) ++ held) held) v ≡ passed (parent_from o) b (holds held) v
-passed_holds held k v ty ds Root true = refl
-passed_holds held k v ty ds Root false = refl
-passed_holds held k v ty ds (View p t y) false = elim (eqb_tells p v) [ inl e ↦ rw e.0 refl | inr e ↦ rw e.0 refl ]
-passed_holds held k v ty ds (View p t y) true = elim (eqb_tells p v) [ inl e ↦ rw e.0 refl | inr e ↦ rw e.0 refl ]
+passed_holds : (held : List ℕ) (v : ℕ) (ty : Ty) (ds : List ℕ) (o : Origin) (b : Bool) → holds (cond b (parents (def_from ty ds o) ++ held) held) v ≡ passed (parent_from o) b (holds held) v
+passed_holds held v ty ds Root true = refl
+passed_holds held v ty ds Root false = refl
+passed_holds held v ty ds (View p t y) false = elim (eqb_tells p v) [ inl e ↦ rw e.0 refl | inr e ↦ rw e.0 refl ]
+passed_holds held v ty ds (View p t y) true = elim (eqb_tells p v) [ inl e ↦ rw e.0 refl | inr e ↦ rw e.0 refl ]
 
 -- one pass over the world finds what is reached
 pub sweep_is : (rs : Rows) (held : List ℕ) → IsStill rs → sweep (shape rs) held ≡ staying (reached rs (holds held)) (shape rs)
@@ -120,11 +118,11 @@ sweep_is ((k, r) ∷ rs) held s =
     let on : List ℕ = cond (holds held k) (parents (def_of r) ++ held) held in
     let t : ℕ → Bool = reached rs (holds on) in
     let u : ℕ → Bool = reached ((k, r) ∷ rs) (holds held) in
-    let same_test : holds on ≡ passed (parent_of r) (holds held k) (holds held) = fun_ext (λ v. passed_holds held k v r.ty r.triple.dims r.origin (holds held k)) in
+    let same_test : holds on ≡ passed (parent_of r) (holds held k) (holds held) = fun_ext (λ v. passed_holds held v r.ty r.triple.dims r.origin (holds held k)) in
     let agree : staying t rs ≡ staying u rs = staying_live t u rs (λ v h. ap (λ g. reached rs g v) same_test ∙ sym (reached_older k r rs (holds held) v (not_newest rs k v s.0 h))) in
     let tail : sweep (shape rs) on ≡ staying u (shape rs) = sweep_is rs on s.2 ∙ sym (shape_stays t rs) ∙ ap shape agree ∙ shape_stays u rs in
     ap (kept_onto (holds held k) (k, def_of r)) tail
-    ∙ ap (λ b. cond b ((k, def_of r) ∷ staying u (shape rs)) (staying u (shape rs))) (sym (let e : reached ((k, r) ∷ rs) (holds held) k ≡ holds held k = rw (same k k refl) refl in e))
+    ∙ ap (λ b. cond b ((k, def_of r) ∷ staying u (shape rs)) (staying u (shape rs))) (sym (let e : reached ((k, r) ∷ rs) (holds held) k ≡ holds held k = rw (eq-eqb k k refl) refl in e))
 
 kept_both : (f : ℕ → List ℤ) (b : Bool) (k : ℕ) (d e : ArrayDef) (x y : World) → x ≡ with_elements f y → ((z : World) → (k, d) ∷ with_elements f z ≡ with_elements f ((k, e) ∷ z)) → kept_onto b (k, d) x ≡ with_elements f (kept_onto b (k, e) y)
 kept_both f true k d e x y h c = ap (λ z. (k, d) ∷ z) h ∙ c y

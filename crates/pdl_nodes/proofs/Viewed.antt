@@ -14,13 +14,13 @@ use Rattle.pdl_nodes.specs.declared.origin.Layout.{Layout}
 use Rattle.pdl_nodes.specs.declared.origin.Layout.TheVariants.{Plan, Choice}
 use Rattle.pdl_nodes.specs.declared.origin.Origin.TheVariants.{View}
 use Rattle.pdl_nodes.specs.Cut.{view_under}
-use Rattle.pdl_nodes.specs.Nodes.{IsNewView}
 use Rattle.pdl_nodes.specs.Row.{Row}
 use Rattle.pdl_nodes.specs.Sized.{IsChosen, IsLayout, HasDims}
 use Rattle.pdl_nodes.specs.Still.{own_places, triple_over, IsOwn, IsLaid, IsDerived}
-use Rattle.pdl_nodes.proofs.CutRows.{CutLaws, triple_like}
-use Rattle.pdl_nodes.proofs.Finds.{same}
+use Rattle.pdl_nodes.proofs.CutRows.{LawsBelow, triple_like}
 use Rattle.pdl_nodes.proofs.Laid.{ViewLaws, is_whole, laid_affine}
+use Rattle.pdl_nodes.specs.Joined.{IsNewView}
+use Rattle.std.proofs.lemmas.Bool.{eq-eqb}
 
 -- the dimensions of a layout are the view's
 allowed : (t : Trans) (parent ds : List ℕ) (y : Layout) → IsLayout t parent y → HasDims y ds → child_dims t parent ≡ Ok ds
@@ -52,7 +52,7 @@ laid laws (trans.Range is ind ss edge) above ds (Plan p) i l d = absurd l
 laid laws (trans.Range is ind ss edge) above ds (Choice c) i l d = chosen laws (trans.Range is ind ss edge) above ds c l d
 
 -- the row of a view before it is shown over the base of its parent
-abbrev pub own_row : (k p : ℕ) (t : Trans) (y : Layout) (a : Row) (ds : List ℕ) → Row
+abbrev own_row : (k p : ℕ) (t : Trans) (y : Layout) (a : Row) (ds : List ℕ) → Row
 own_row k p t y a ds = record {
   origin = View p t y;
   ty = a.ty;
@@ -67,13 +67,13 @@ own_row k p t y a ds = record {
 }
 
 no_mark : (a : ℕ) → cond (eqb a a) false false ≡ false
-no_mark a = rw (same a a refl) refl
+no_mark a = rw (eq-eqb a a refl) refl
 
 no_places : (a : ℕ) (o : Option (List (Option ℕ))) → cond (eqb a a) o o ≡ o
-no_places a o = rw (same a a refl) refl
+no_places a o = rw (eq-eqb a a refl) refl
 
 -- a new view is derived of its parent
-pub new_view_row : CutLaws → (k p : ℕ) (t : Trans) (y : Layout) (a : Row) (ds : List ℕ) → IsTriple a.triple → IsLayout t a.triple.dims y → HasDims y ds → IsDims ds
+new_view_row : LawsBelow → (k p : ℕ) (t : Trans) (y : Layout) (a : Row) (ds : List ℕ) → IsTriple a.triple → IsLayout t a.triple.dims y → HasDims y ds → IsDims ds
     → IsNewView k p t a (view_under k a.root a.base (own_row k p t y a ds) (over t a.triple))
 new_view_row laws k p t y a ds i l d s =
     let o : Option Triple = over t a.triple in
@@ -98,10 +98,10 @@ new_view_row laws k p t y a ds i l d s =
       unmarked = no_mark a.root;
       nothing = refl;
       unlisted = no_places a.root None;
-      bare = rw (same a.root a.root refl) refl;
+      bare = rw (eq-eqb a.root a.root refl) refl;
     }
 
-pub new_node : CutLaws → (k p : ℕ) (t : Trans) (y : Layout) (a : Row) (ds : List ℕ) (ty : Ty) (rt b : ℕ) (u : Triple) (o : Option Triple) (n : Row)
+pub new_node : LawsBelow → (k p : ℕ) (t : Trans) (y : Layout) (a : Row) (ds : List ℕ) (ty : Ty) (rt b : ℕ) (u : Triple) (o : Option Triple) (n : Row)
     → ty ≡ a.ty → rt ≡ a.root → b ≡ a.base → u ≡ whole_triple ds → o ≡ over t a.triple → IsTriple a.triple → IsLayout t a.triple.dims y → HasDims y ds → IsDims ds
     → n ≡ view_under k rt b (record { origin = View p t y; ty = ty; root = rt; base = k; triple = u; kept = []; mark = false; repeats = false; places = None; waiting = None }) o
     → IsNewView k p t a n

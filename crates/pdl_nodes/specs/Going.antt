@@ -1,10 +1,10 @@
 -- What is written back before arrays go: the elements that wait in a view that goes while its root
 -- stays.
-use Rattle.std.specs.Prelude.{◌≡◌, ◌≢◌, ℕ, ◌+◌, ◌==◌, if◌then◌else◌, Bool, true, [], ◌∷◌, Option, Some, None}
+use Rattle.std.specs.Prelude.{◌≡◌, ℕ, ◌+◌, ◌==◌, if◌then◌else◌, Bool, true, false, [], ◌∷◌, Option, Some, None}
 use Rattle.std.specs.List.{filter}
 use Rattle.pdl_nodes.specs.Alike.{is_fresh_in, numbers}
 use Rattle.pdl_nodes.specs.Known.{AreKnown}
-use Rattle.pdl_nodes.specs.Outcomes.{IsReady, waiting_of, waiting_size}
+use Rattle.pdl_nodes.specs.Outcomes.{waiting_of, waiting_size}
 use Rattle.pdl_nodes.specs.Rows.{Rows, row_at, has}
 use Rattle.pdl_nodes.specs.Sized.{AreSized}
 use Rattle.pdl_nodes.specs.Staying.{stays_from}
@@ -27,6 +27,12 @@ going_at rs stays r =
     if (row_at rs r).root == r
     then (if stays r then goes_from stays (row_at rs r).waiting else None) else None
 
+-- the view v that waits in the family of the root r and goes
+pub record IsGoing (rs : Rows) (stays : ℕ → Bool) (r v : ℕ) : Type 0 where
+  pub root : (row_at rs r).root ≡ r
+  pub waits : (row_at rs r).waiting ≡ Some v
+  pub gone : stays v ≡ false
+
 -- how many elements wait in it
 abbrev pub going_size : Rows → (stays : ℕ → Bool) → ℕ → ℕ
 going_size rs stays r = waiting_size rs (going_at rs stays r)
@@ -35,16 +41,6 @@ going_size rs stays r = waiting_size rs (going_at rs stays r)
 abbrev pub going_sum : Rows → (stays : ℕ → Bool) → (part : Rows) → ℕ
 going_sum rs stays [] = 0
 going_sum rs stays ((k, r) ∷ part) = going_size rs stays k + going_sum rs stays part
-
--- what waited and goes in the family of r was written back, and other families wait as before
-pub record IsSettledAt (stays : ℕ → Bool) (old new : Rows) (r : ℕ) : Type 0 where
-  pub kept : IsReady old new
-  pub sized : AreSized old → AreSized new
-  pub here : going_at new stays r ≡ None
-  pub left :
-      IsRoot old r → stays r ≡ true
-      → (row_at new r).waiting ≡ stays_from stays (row_at old r).waiting
-  pub others : (u : ℕ) → u ≢ r → (row_at new u).waiting ≡ (row_at old u).waiting
 
 -- each array that is left stands in its place as it was, and can be lent if it could be; what
 -- waited waits if it is left

@@ -1,5 +1,5 @@
 -- How often each number is held.
-use Rattle.std.specs.Prelude.{◌≡◌, ℕ, ◌+◌, ◌-◌, ◌==◌, ◌&&◌, nat_lt, if◌then◌else◌, Bool, false, List, Option, Some, None, is_some}
+use Rattle.std.specs.Prelude.{◌≡◌, ℕ, ◌+◌, ◌-◌, ◌==◌, ◌&&◌, nat_lt, Bool, false, List, Option, Some, None, is_some}
 use Rattle.pdl_nodes.specs.declared.holds.Hold.{Hold}
 use Rattle.pdl_nodes.specs.Numbered.{value_at}
 use Rattle.pdl_nodes.specs.Rows.{Rows, has}
@@ -49,14 +49,6 @@ stands hs v = is_some (hold_at hs v)
 pub record Beside (rs : Rows) (hs : Counts) : Type 0 where
   pub numbers : (v : ℕ) → is_some (hold_at hs v) ≡ has rs v
   pub clear : (v : ℕ) → going hs v ≡ 0
-
--- how often a number is held once one hold of this number was taken back
-abbrev pub count_after : ℕ → Counts → ℕ → ℕ
-count_after id hs v = count_in (if v == id then less_one (hold_at hs v) else hold_at hs v)
-
--- what is held then
-abbrev pub after_release : ℕ → Counts → ℕ → Bool
-after_release id hs v = nat_lt 0 (count_after id hs v)
 
 abbrev pub one_more : Option Hold → Option Hold
 one_more None = None

@@ -11,7 +11,3 @@ owed own root fresh size = if own && not root then (if fresh then 0 else size) e
 abbrev pub size_if : (dims : ℕ → List ℕ) → (waiting : Option ℕ) → ℕ
 size_if dims None = 0
 size_if dims (Some v) = size_of (dims v)
-
--- the base, or the root where the base has repeats
-abbrev pub target_of : (repeats : Bool) → (root base : ℕ) → ℕ
-target_of repeats root base = if repeats then root else base

@@ -3,8 +3,6 @@ use Rattle.std.specs.Prelude.{ℕ, List, Option, Some, None, map}
 use Rattle.std.specs.List.{range_with_len}
 use Rattle.pdl_shape.specs.Triple.{Triple}
 use Rattle.pdl_nodes.specs.Assigned.{entry}
-use Rattle.pdl_nodes.specs.declared.origin.Layout.{Layout}
-use Rattle.pdl_nodes.specs.declared.origin.Layout.TheVariants.{Plan, Choice}
 use Rattle.pdl_nodes.specs.Spots.{spots}
 
 -- so many places, each position's its own
@@ -19,9 +17,3 @@ placed (Some ps) q = entry ps q
 -- the root's places that a triple shows over a base, in the order of positions
 abbrev pub placed_by : Option (List (Option ℕ)) → Triple → List (Option ℕ)
 placed_by known t = map (placed known) (spots t)
-
--- the parent's position at a position of a view that is its own base: a plan's is the position
--- itself
-abbrev pub own_at : Layout → ℕ → Option ℕ
-own_at (Plan p) i = Some i
-own_at (Choice c) i = entry c.places i

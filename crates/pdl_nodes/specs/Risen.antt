@@ -18,20 +18,6 @@ AreTight listed rs hs =
     (v : ℕ) → has rs v ≡ true → holds listed v ≡ false → is_held hs v ≡ false
     → has_views (shape rs) v ≡ true
 
--- and those that are listed are there
-pub record IsTight (listed : List ℕ) (rs : Rows) (hs : Counts) : Type 0 where
-  pub live : (v : ℕ) → holds listed v ≡ true → has rs v ≡ true
-  pub tight : AreTight listed rs hs
-
--- what was listed is, and at most the parent more
-pub record IsListed (old new : List ℕ) (parent : Option ℕ) : Type 0 where
-  pub stays : (v : ℕ) → holds old v ≡ true → holds new v ≡ true
-  pub only : (v : ℕ) → holds new v ≡ true → holds old v ≡ false → parent ≡ Some v
-
--- the parent is listed, if there is one
-abbrev pub ListsParent : (listed : List ℕ) → (parent : Option ℕ) → Type 0
-ListsParent listed parent = (p : ℕ) → parent ≡ Some p → holds listed p ≡ true
-
 -- of the parent, if there is one, this is done to how many views are noted
 pub record IsNoted (f : ℕ → ℕ) (old new : Counts) (parent : Option ℕ) : Type 0 where
   pub here :
@@ -75,7 +61,7 @@ GoesAlone rs hs v =
     (p : ℕ) → parent_of (row_at rs v) ≡ Some p → is_held hs p ≡ false → 1 < children rs p
 
 -- p is the parent of v, isn't held, and has no other view
-pub record IsLastOf (rs : Rows) (hs : Counts) (p v : ℕ) : Type 0 where
+pub record GoesWith (rs : Rows) (hs : Counts) (p v : ℕ) : Type 0 where
   pub parent : parent_of (row_at rs v) ≡ Some p
   pub free : is_held hs p ≡ false
   pub only : children rs p ≤ 1

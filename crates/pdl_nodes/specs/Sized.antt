@@ -44,11 +44,14 @@ abbrev pub LaidFrom : Rows → Origin → Type 0
 LaidFrom rs Root = Unit {0}
 LaidFrom rs (View p t y) = IsLayout t (row_at rs p).triple.dims y
 
--- the triple shows places of a buffer, the dimensions are within the limits, and a view has its
--- layout over its parent
-pub record IsSized (rs : Rows) (r : Row) : Type 0 where
+-- the triple shows places of a buffer, and the dimensions are within the limits
+pub record IsWithinLimits (r : Row) : Type 0 where
   pub triple : IsTriple r.triple
   pub limits : IsDims r.triple.dims
+
+-- the row is within them, and a view has its layout over its parent
+pub record IsSized (rs : Rows) (r : Row) : Type 0 where
+  pub within : IsWithinLimits r
   pub laid : LaidFrom rs r.origin
 
 abbrev pub AreSized : Rows → Type 0

@@ -73,7 +73,8 @@ impl Eq for Descending {
 impl PartialOrd for Descending {
     ghost partial_cmp = { λ x y. Some (flip_args nat_cmp x y) };
 
-    ghost laws = { po (back_total nat_cmp_total) (λ x y. nat_eq_equiv.symm x y ∙ unsigned_ties y x) };
+    ghost laws = { po (back_total nat_cmp_total)
+        (λ x y. nat_eq_equiv.symm x y ∙ unsigned_ties y x) };
 
     fn partial_cmp(&self, other: &Descending) -> Option<Ordering> {
         Some(self.cmp(other))

@@ -17,7 +17,7 @@ pub struct Hold {
     pub going: u64,
 }
 
-/// The holds by number.
+/// The holds by number. Contracts see the numbers with their holds.
 #[derive(Drop)]
 pub struct Holds {
     by_number: Numbered<Hold>,
@@ -177,7 +177,7 @@ impl Holds {
 }
 
 /// Keeps one more node, held once, under a number that is above all others and that no node has as
-/// its root. A view isn't marked.
+/// its root. A view isn't marked. Want of memory leaves the rows, and the holds of all numbers.
 pub fn insert(table: &mut Table, holds: &mut Holds, id: u64, node: Node) -> Result<(), AllocError>
     requires below { NumbersBelow id table.old }
     requires new_root { (v : ℕ) → has table.old v ≡ true → (row_at table.old v).root ≢ id }

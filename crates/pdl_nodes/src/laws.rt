@@ -1,15 +1,23 @@
 //! Laws of the definitions, for the proofs of the crates above.
 ghost use Rattle.pdl_nodes.specs.CutLaws.{CuttingSevers, CuttingLeavesFamilies, CutsStaySettled, CutsStayKnown, CutsStaySized};
-ghost use Rattle.pdl_nodes.specs.HoldLaws.{CountedAreHeld, HeldAreCounted, OneLessCounts, OneMoreCounts, OthersDontCount, StayingCount};
+ghost use Rattle.pdl_nodes.specs.RowLaws.{RowLaws};
 ghost use Rattle.pdl_nodes.specs.Reshaped.{ReshapingReshapes, ReshapingLeavesOthers, ReshapesStayKnown, ReshapesStaySized};
 
 use pdl_affine::{view_laws, window_laws};
 use pdl_shape::{shape_laws, triple_laws};
 
+/// What holds of all rows: by their numbers, of what their arrays are, of what changes leave, of a
+/// row that joins, and of arrays that go. It does nothing: who calls it has them.
+pub fn row_laws()
+    ensures { RowLaws }
+{
+    shape_laws()
+}
+
 /// What a cut does to rows in order and to their world (PDL::Core, sever): it is the cut of the
-/// world, it leaves the rows of other families, nothing waits in those that
-/// were of the array's, and what is known of places stays true. It does nothing:
-/// who calls it has them.
+/// world, it leaves the rows of other families, nothing waits in the families of those that were of
+/// the array's, what is known of places stays true, and rows keep what their types keep. It does
+/// nothing: who calls it has them.
 pub fn cut_row_laws()
     ensures severs { CuttingSevers }
     ensures families { CuttingLeavesFamilies }
@@ -24,8 +32,8 @@ pub fn cut_row_laws()
 }
 
 /// What other dimensions of an array without views do to rows in order and to their world
-/// (PDL::Core, reshape): it is the reshape of the world, it leaves all other
-/// rows, and what is known of places stays true. It does nothing: who calls it has them.
+/// (PDL::Core, reshape): it is the reshape of the world, it leaves all other rows, what is known of
+/// places stays true, and rows keep what their types keep. It does nothing: who calls it has them.
 pub fn reshape_row_laws()
     ensures reshapes { ReshapingReshapes }
     ensures others { ReshapingLeavesOthers }
@@ -37,14 +45,3 @@ pub fn reshape_row_laws()
     view_laws();
     window_laws()
 }
-
-/// What one hold more or less changes in a list of holds, what stays of one, and which arrays are
-/// counted as held. It does nothing: who calls it has them.
-pub fn hold_laws()
-    ensures more { OneMoreCounts }
-    ensures less { OneLessCounts }
-    ensures staying { StayingCount }
-    ensures held { CountedAreHeld }
-    ensures counted { HeldAreCounted }
-    ensures others { OthersDontCount }
-{}

@@ -70,8 +70,8 @@ impl<V: Copy + Drop> Numbered<V> {
         self.settled.len() + self.newest.len()
     }
 
-    /// Gives a number the value that a call makes of the one that it has; one without a value is left
-    /// so.
+    /// Gives a number the value that a call makes of the one that it has; one without a value is
+    /// left so.
     pub fn change<F: FnOnce(V) -> V>(&mut self, id: u64, by: F)
         requires { ForSome (value_at self.old id) (F.pre by) }
         ensures here { MatchOption (value_at self.old id)

@@ -32,7 +32,7 @@ use std::alloc::{AllocError, Global};
 use std::marker::Model;
 use std::sync::ledger::Ledger;
 
-/// Nodes by their numbers.
+/// The arrays that are kept, by their numbers. Contracts see them as rows, newest first.
 #[derive(Drop)]
 pub struct Table {
     keys: Numbered<usize>,
@@ -171,7 +171,7 @@ impl Table {
     }
 
     /// Keeps one more node, under a number that is above all others and that no node has as its
-    /// root. A view isn't marked.
+    /// root. A view isn't marked. Want of memory changes nothing.
     pub fn insert(&mut self, id: u64, node: Node) -> Result<(), AllocError>
         requires below { NumbersBelow id self.old }
         requires new_root { (v : ℕ) → has self.old v ≡ true → (row_at self.old v).root ≢ id }
@@ -231,7 +231,7 @@ impl Table {
     }
 
     /// Puts the elements that are kept of a marked view at its places in its root, in order. It
-    /// takes a step for each.
+    /// takes a step for each. Marks, and what waits, are left to the caller.
     pub fn put_back<L: Ledger>(&mut self, root: u64, id: u64, steps: &mut Steps<L>)
         requires view { IsLiftable self.old root id }
         ensures put { self.new ≡ each (kept_in root (write
@@ -250,7 +250,7 @@ impl Table {
     }
 
     /// Puts values at the places of a root that a triple shows over it, in order. It takes a step
-    /// for each value.
+    /// for each value. Marks are left to the caller, as by the next two calls.
     pub fn put_over<L: Ledger>(
         &mut self,
         root: u64,
@@ -321,7 +321,7 @@ impl Table {
         self.nodes[key].put_through(triple, values, steps);
     }
 
-    /// Notes what waits in the family of a root.
+    /// Notes the view that waits in the family of a root, or that none does.
     pub fn set_waiting(&mut self, id: u64, waiting: Option<u64>)
         requires live { has self.old id ≡ true }
         ensures { self.new ≡ each (wait_in id waiting) self.old }
@@ -330,8 +330,9 @@ impl Table {
         self.nodes[key].set_waiting(waiting);
     }
 
-    /// Keeps these elements in a node, which is marked. Places that were found now are known from
-    /// now on.
+    /// Keeps these elements in a node, which is marked then, and notes whether two of its positions
+    /// have one place. Places that were found now are known from now on. Want of memory changes
+    /// nothing.
     pub fn fill(
         &mut self,
         alloc: Global,
@@ -352,7 +353,7 @@ impl Table {
         Ok(())
     }
 
-    /// Marks a root.
+    /// Marks a root. No other node loses its mark.
     pub fn mark_root(&mut self, id: u64)
         requires live { has self.old id ≡ true }
         requires root { (row_at self.old id).root ≡ id }
@@ -422,10 +423,12 @@ impl Table {
         requires in_range { All (InRange (row_at self.old id).ty) values.now }
         ensures root { is_none result ≡ ((row_at self.old id).root == id) }
         ensures view { IfSome result (λ at. at ≡ shown_of id (row_at self.old id)) }
-        ensures put { self.new ≡ if is_none result then each (mark_in id id) (each (kept_in id (write
+        ensures put { self.new ≡ if is_none result
+            then each (mark_in id id) (each (kept_in id (write
             (in_order (size_of (row_at self.old id).triple.dims))
             values.now
-            (row_at self.old id).kept)) self.old) else self.old }
+            (row_at self.old id).kept)) self.old)
+            else self.old }
         ensures counted { steps.new
             ≡ steps.old + (if is_none result then length values.now else 0) }
     {
@@ -446,7 +449,8 @@ impl Table {
         self.keys.from(id)
     }
 
-    /// Makes a node a root of these dimensions and elements.
+    /// Makes a node a root of these dimensions and elements, which is marked. Its views, if it has
+    /// any, aren't derived anew: `cut` does so.
     pub fn become_root(&mut self, alloc: Global, id: u64, dims: &Dims, kept: Buf)
         requires live { has self.old id ≡ true }
         requires same_type { kept.ty ≡ (row_at self.old id).ty }

@@ -2,11 +2,13 @@
 //! waits was written back, its removal.
 ghost use Rattle.std.specs.Prelude.{◌≡◌, ◌≢◌, ℕ, ◌+◌, ◌-◌, ◌<◌, true, IfNone, IfSome, Some, [], ◌∷◌};
 ghost use Rattle.pdl_nodes.specs.Children.{children};
-ghost use Rattle.pdl_nodes.specs.Holds.{going};
-ghost use Rattle.pdl_nodes.specs.Risen.{AreMarked, AreNoted, GoesAlone, IsFallen, IsFewer, IsForgotten, IsLastOf, IsLoose, IsNoted, IsRisen, ParentsAreOlder};
+ghost use Rattle.pdl_nodes.specs.Holds.{going, is_held, stands, count, Beside};
+ghost use Rattle.pdl_nodes.specs.Risen.{AreMarked, AreNoted, GoesAlone, IsFallen, IsFewer, IsForgotten, GoesWith, IsLoose, IsNoted, IsRisen, ParentsAreOlder, AreTight, ComesFrom};
 ghost use Rattle.pdl_nodes.specs.Row.{parent_of};
 ghost use Rattle.pdl_nodes.specs.Rows.{Falls, has, row_at};
 ghost use Rattle.pdl_nodes.specs.Still.{IsStill};
+ghost use Rattle.pdl_world.specs.Swept.{holds as is_listed};
+ghost use Rattle.pdl_nodes.specs.Staying.{staying};
 
 use crate::holds::Holds;
 use crate::table::Table;
@@ -33,7 +35,7 @@ fn take_parent_note(holds: &mut Holds, parent: Option<u64>)
 }
 
 /// Takes the holds from an array that goes, and from each above it that goes then.
-pub fn let_up(table: &Table, holds: &mut Holds, id: u64)
+fn let_up(table: &Table, holds: &mut Holds, id: u64)
     requires still { IsStill table.now }
     requires live { has table.now id ≡ true }
     requires marked { AreMarked table.now holds.old }
@@ -58,7 +60,7 @@ pub fn let_up(table: &Table, holds: &mut Holds, id: u64)
 pub fn goes_with(table: &Table, holds: &Holds, id: u64) -> Option<u64>
     requires { has table.now id ≡ true }
     ensures alone { IfNone result (GoesAlone table.now holds.now id) }
-    ensures parent { IfSome result (λ p. IsLastOf table.now holds.now p id) }
+    ensures parent { IfSome result (λ p. GoesWith table.now holds.now p id) }
 {
     let parent = table.node(id).parent()?;
     if holds.is_held(parent) {
@@ -83,7 +85,7 @@ pub fn let_parent_up(table: &Table, holds: &mut Holds, id: u64, parent: u64)
 }
 
 /// Removes an array that has no holds, and each above it that has none.
-pub fn remove_up(table: &mut Table, holds: &mut Holds, id: u64)
+fn remove_up(table: &mut Table, holds: &mut Holds, id: u64)
     requires falls { Falls table.old }
     requires older { ParentsAreOlder table.old }
     requires noted { AreNoted table.old holds.old }
@@ -97,4 +99,34 @@ pub fn remove_up(table: &mut Table, holds: &mut Holds, id: u64)
             take_parent_note(holds, next);
         }
     }
+}
+
+/// Takes the holds from all that no held array reaches: from these arrays up.
+pub fn let_all(table: &Table, holds: &mut Holds, loose: &[u64], id: u64)
+    requires still { IsStill table.now }
+    requires beside { Beside table.now holds.old }
+    requires live { (v : ℕ) → is_listed (id ∷ loose.now) v ≡ true → has table.now v ≡ true }
+    requires tight { AreTight (id ∷ loose.now) table.now holds.old }
+    ensures { IsRisen (id ∷ loose.now) table.now holds.old holds.new }
+{
+    for start in loose.iter() {
+        let_up(table, holds, *start);
+    }
+    let_up(table, holds, id);
+}
+
+/// Removes all that has no holds.
+pub fn remove_all(table: &mut Table, holds: &mut Holds, loose: &[u64], id: u64)
+    requires still { IsStill table.old }
+    requires numbers { (v : ℕ) → stands holds.old v ≡ true → has table.old v ≡ true }
+    requires noted { AreNoted table.old holds.old }
+    requires from { ComesFrom (id ∷ loose.now) table.old holds.old }
+    ensures rows { table.new ≡ staying (stands holds.old) table.old }
+    ensures beside { Beside table.new holds.new }
+    ensures counts { (v : ℕ) → count holds.new v ≡ count holds.old v }
+{
+    for start in loose.iter() {
+        remove_up(table, holds, *start);
+    }
+    remove_up(table, holds, id);
 }

@@ -1,7 +1,7 @@
 //! The nodes of new roots and of new views.
 ghost use Rattle.std.specs.Prelude.{◌≡◌, IfOk};
 ghost use Rattle.pdl_shape.specs.Triple.{IsTriple};
-ghost use Rattle.pdl_nodes.specs.Nodes.{IsNewView};
+ghost use Rattle.pdl_nodes.specs.Joined.{IsNewView};
 ghost use Rattle.pdl_nodes.specs.Row.{root_row};
 ghost use Rattle.pdl_nodes.specs.Sized.{IsLayout};
 

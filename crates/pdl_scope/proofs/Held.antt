@@ -12,8 +12,9 @@ use Rattle.pdl_world.specs.Sound.{NumbersBelow, IsSound, IsLive}
 use Rattle.pdl_world.specs.Swept.{holds, parents, kept_onto, sweep, held_itself}
 use Rattle.pdl_world.specs.SweepLaws.{ReachedAreSeenAsBefore, NoNumberComes}
 use Rattle.pdl_world.specs.Laws.{OlderStay}
-use Rattle.pdl_nodes.specs.HoldLaws.{OneMoreCounts, OneLessCounts, StayingCount, CountedAreHeld, HeldAreCounted, OthersDontCount}
-use Rattle.pdl_engine.specs.State.{State as Engine, Joins, SameArrays, AllHaveHolds, AreApart, count_at, one_more_at, one_less_at, held_among, holders, IsReleased}
+use Rattle.pdl_engine.specs.HoldLaws.{OneMoreCounts, OneLessCounts, StayingCount, CountedAreHeld, HeldAreCounted, OthersDontCount}
+use Rattle.pdl_engine.specs.Held.{AllHaveHolds, AreApart, count_at, one_more_at, one_less_at, held_among, holders, IsReleased}
+use Rattle.pdl_engine.specs.State.{State as Engine, Joins, SameArrays}
 use Rattle.pdl_machine.specs.Names.{Named, Names, found, with_name, is_full_for, entered, names_limit}
 use Rattle.pdl_machine.specs.declared.fault.Fault.TheVariants.{TooManyNames}
 use Rattle.pdl_kernel.specs.Kernels.{Kernel}

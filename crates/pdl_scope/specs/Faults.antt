@@ -1,8 +1,8 @@
 -- The faults of the crates below as those of a statement: what a fault names has its name in the
 -- machine, and one that names nothing is want of memory.
 use Rattle.std.specs.Prelude.{Option, Some, None, option_map}
-use Rattle.pdl_engine.specs.declared.engine.ViewFault.{ViewFault}
-use Rattle.pdl_engine.specs.declared.engine.ViewFault.TheVariants as view
+use Rattle.pdl_engine.specs.declared.faults.ViewFault.{ViewFault}
+use Rattle.pdl_engine.specs.declared.faults.ViewFault.TheVariants as view
 use Rattle.pdl_ops.specs.declared.OpFault.{OpFault}
 use Rattle.pdl_ops.specs.Answers as operator
 use Rattle.pdl_reduce.specs.declared.ReduceFault.{ReduceFault}

@@ -1,6 +1,7 @@
 -- How calls change what holds the arrays of an engine.
 use Rattle.std.specs.Prelude.{◌≡◌, ◌⊎◌, ℕ, List, [], ◌∷◌, ◌++◌}
-use Rattle.pdl_engine.specs.State.{State as Engine, one_more_at}
+use Rattle.pdl_engine.specs.Held.{one_more_at}
+use Rattle.pdl_engine.specs.State.{State as Engine}
 use Rattle.pdl_machine.specs.Names.{Names}
 use Rattle.pdl_world.specs.Swept.{sweep}
 use Rattle.pdl_machine.specs.State.{held}

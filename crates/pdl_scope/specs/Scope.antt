@@ -5,7 +5,8 @@ use Rattle.pdl_buf.specs.declared.made.Made.{Made}
 use Rattle.pdl_world.specs.Sound.{IsLive}
 use Rattle.pdl_world.specs.Swept.{sweep}
 use Rattle.pdl_world.specs.World.{World}
-use Rattle.pdl_engine.specs.State.{State as Engine, count_at}
+use Rattle.pdl_engine.specs.Held.{count_at}
+use Rattle.pdl_engine.specs.State.{State as Engine}
 use Rattle.pdl_kernel.specs.Kernels.{Kernel}
 use Rattle.pdl_machine.specs.Names.{Named, Names, names_limit}
 use Rattle.pdl_sig.specs.declared.ArgShape.{ArgShape}

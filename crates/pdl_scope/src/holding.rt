@@ -3,7 +3,7 @@ ghost use Rattle.std.specs.Prelude.{◌≡◌, ℕ, ◌+◌, ◌<◌, ◌≤◌,
 ghost use Rattle.std.specs.Option.{option_to_list};
 ghost use Rattle.pdl_world.specs.Swept.{holds};
 ghost use Rattle.pdl_world.specs.Sound.{IsLive};
-ghost use Rattle.pdl_engine.specs.State.{count_at};
+ghost use Rattle.pdl_engine.specs.Held.{count_at};
 ghost use Rattle.pdl_machine.specs.Names.{Names};
 ghost use Rattle.pdl_scope.specs.Scope.{state_in, IsHeld};
 ghost use Rattle.pdl_scope.specs.Holding.{IsHeldBeside, IsHeldForName, LetsGo};

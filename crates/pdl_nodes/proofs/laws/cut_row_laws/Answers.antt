@@ -1,10 +1,10 @@
-use Rattle.pdl_nodes.proofs.CutOrder.{severs, leaves_families, stays_settled, stays_known, stays_sized}
-use Rattle.pdl_nodes.proofs.CutRows.{CutLaws}
 use Rattle.pdl_nodes.proofs.laws.cut_row_laws.Goals as goal
+use Rattle.pdl_nodes.proofs.CutOrder.{severs, leaves_families, stays_settled, stays_known, stays_sized}
+use Rattle.pdl_nodes.proofs.CutRows.{LawsBelow}
 
 pub returns : goal.returns
 returns c =
-    let laws : CutLaws = record {
+    let laws : LawsBelow = record {
       views = record {
         positions = c.shape_laws.ensures.positions;
         in_order = c.shape_laws.ensures.wholes;

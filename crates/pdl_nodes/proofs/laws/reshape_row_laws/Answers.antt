@@ -1,10 +1,10 @@
-use Rattle.pdl_nodes.proofs.Reshapes.{reshapes, leaves_others, reshaped_known, reshaped_sized}
-use Rattle.pdl_nodes.proofs.CutRows.{CutLaws}
 use Rattle.pdl_nodes.proofs.laws.reshape_row_laws.Goals as goal
+use Rattle.pdl_nodes.proofs.CutRows.{LawsBelow}
+use Rattle.pdl_nodes.proofs.Reshapes.{reshapes, leaves_others, reshaped_known, reshaped_sized}
 
 pub returns : goal.returns
 returns c =
-    let laws : CutLaws = record {
+    let laws : LawsBelow = record {
       views = record {
         positions = c.shape_laws.ensures.positions;
         in_order = c.shape_laws.ensures.wholes;

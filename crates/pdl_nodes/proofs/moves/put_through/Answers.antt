@@ -1,8 +1,8 @@
 -- A route through a base gives its positions that have a place.
 use Rattle.std.proofs.Common.{ap, ◌∙◌}
 use Rattle.pdl_buf.specs.Buffer.{TypedElements}
-use Rattle.pdl_nodes.proofs.Moving.{through_is}
 use Rattle.pdl_nodes.proofs.moves.put_through.Goals as goal
+use Rattle.pdl_nodes.proofs.Moving.{through_is}
 
 pub returns-clause-value : goal.returns-clause-value
 returns-clause-value g c =

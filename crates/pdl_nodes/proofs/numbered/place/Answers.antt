@@ -1,7 +1,7 @@
 use Rattle.std.proofs.Common.{arith}
+use Rattle.pdl_nodes.proofs.numbered.place.Goals as goal
 use Rattle.pdl_nodes.proofs.Numbers.{none_empty, none_low}
 use Rattle.pdl_nodes.proofs.numbered.place.Goals.{then-at-eq0-via-then-at-eq0, then-at-eq0-via-else-at-eq0+then-id-entries}
-use Rattle.pdl_nodes.proofs.numbered.place.Goals as goal
 
 -- nothing stands there, or all stand above
 pub returns-then-at-eq0-clause-absent : goal.returns-then-at-eq0-clause-absent

@@ -4,8 +4,8 @@ use Rattle.std.specs.BTreeMap.{insert_entry}
 use Rattle.std.specs.List.{remove}
 use Rattle.std.specs.Ordering.{flip_args, nat_cmp}
 use Rattle.pdl_nodes.specs.Numbered.{most_newest}
-use Rattle.pdl_nodes.proofs.Numbers.{first_moved}
 use Rattle.pdl_nodes.proofs.numbered.settle.Goals as goal
+use Rattle.pdl_nodes.proofs.Numbers.{first_moved}
 
 pub returns-clause-same : goal.returns-clause-same
 returns-clause-same g c =

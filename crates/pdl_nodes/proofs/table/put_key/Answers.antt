@@ -1,5 +1,5 @@
-use Rattle.pdl_nodes.proofs.Counted.{added, taken_back}
 use Rattle.pdl_nodes.proofs.table.put_key.Goals as goal
+use Rattle.pdl_nodes.proofs.Counted.{added, taken_back}
 
 pub take-requires : goal.take-requires
 take-requires c = record { counted = λ v e. added c.args.children.now c.add.new.self c.args.parent v c.in_ok-add.ensures.ok e }

@@ -2,16 +2,16 @@ use Rattle.std.proofs.Common.{◌∙◌, ap, subst, sym}
 use Rattle.pdl_world.specs.Windows.{over}
 use Rattle.pdl_world.specs.declared.Trans.{Trans}
 use Rattle.pdl_nodes.specs.declared.origin.Layout.{Layout}
-use Rattle.pdl_nodes.specs.Nodes.{IsNewView}
 use Rattle.pdl_nodes.specs.Row.{Row}
 use Rattle.pdl_nodes.specs.Sized.{HasDims, IsLayout}
-use Rattle.pdl_nodes.proofs.CutRows.{CutLaws}
-use Rattle.pdl_nodes.proofs.Viewed.{new_node}
 use Rattle.pdl_nodes.proofs.views.view_node.Goals as goal
+use Rattle.pdl_nodes.proofs.CutRows.{LawsBelow}
+use Rattle.pdl_nodes.proofs.Viewed.{new_node}
+use Rattle.pdl_nodes.specs.Joined.{IsNewView}
 
 pub returns : goal.returns
 returns c =
-    let laws : CutLaws = record {
+    let laws : LawsBelow = record {
       views = record {
         positions = c.shape_laws.ensures.positions;
         in_order = c.shape_laws.ensures.wholes;

@@ -1,8 +1,8 @@
-use Rattle.std.proofs.Common.{rules, ◌≡◌, ◌≤◌, ◌++◌, reverse, set, is_some, true, Some, None, sym, ◌∙◌, ap, subst}
+use Rattle.std.proofs.Common.{rules, ◌≡◌, ◌≤◌, ◌++◌, reverse, set, is_some, Some, None, sym, ◌∙◌, ap, subst}
 use Rattle.std.proofs.lemmas.List.{length-set}
 use Rattle.pdl_nodes.specs.Numbered.{IsPlace, Rises, most_newest, value_at}
-use Rattle.pdl_nodes.proofs.Numbers.{parted, put_newest, put_settled, value_after, value_before, value_of}
 use Rattle.pdl_nodes.proofs.numbered.Numbered.change.Goals as goal
+use Rattle.pdl_nodes.proofs.Numbers.{parted, put_newest, change_settled, value_after, value_before, value_of}
 
 pub place-requires : goal.place-requires
 place-requires g c = subst Rises (sym c.deref.ensures.value) (parted (reverse c.self.inside.settled.entries) c.self.inside.newest.items c.self.invariant.0).after
@@ -46,9 +46,8 @@ by-requires g c =
 pub invariant_of-self-in-Some-get_mut : goal.invariant_of-self-in-Some-get_mut
 invariant_of-self-in-Some-get_mut g c =
     let none : value_at c.self.inside.newest.items c.args.id ≡ None = subst (λ l. value_at l c.args.id ≡ None) c.deref.ensures.value c.in-None.ensures.absent in
-    let here : is_some (value_at (reverse c.self.inside.settled.entries) c.args.id) ≡ true = sym (ap is_some (c.in-Some-get_mut.ensures.value ∙ value_of c.self.inside.settled.entries c.self.inside.newest.items c.args.id c.of.result c.of.ensures c.self.invariant.0)) in
     let written = c.get_mut.follows.holds c.by.result in
-    let both = put_settled c.self.inside.settled (c.get_mut.follows.lender c.by.result) c.self.inside.newest.items c.args.id c.of.result (Some c.by.result) c.of.ensures c.self.invariant.0 none (λ h. here) written.4 (written.3 (ap is_some (value_of c.self.inside.settled.entries c.self.inside.newest.items c.args.id c.of.result c.of.ensures c.self.invariant.0) ∙ here)) in
+    let both = change_settled c.self.inside.settled (c.get_mut.follows.lender c.by.result) c.self.inside.newest.items c.args.id c.of.result c.in-Some-get_mut.kept.now c.by.result c.of.ensures c.self.invariant.0 none c.in-Some-get_mut.ensures.value written.4 (written.3 (sym (ap is_some c.in-Some-get_mut.ensures.value))) in
     (both.1, c.self.invariant.1)
 
 pub returns-in-Some-get_mut-clause-here : goal.returns-in-Some-get_mut-clause-here
@@ -59,24 +58,22 @@ returns-in-Some-get_mut-clause-here g c =
     let kept : Some c.in-Some-get_mut.kept.now ≡ value_at es c.args.id = c.in-Some-get_mut.ensures.value ∙ value_of c.self.inside.settled.entries fs c.args.id c.of.result c.of.ensures c.self.invariant.0 in
     let old : value_at c.args.self.now c.args.id ≡ Some c.in-Some-get_mut.kept.now = sym (kept ∙ sym (value_before es fs c.args.id none) ∙ ap (λ l. value_at l c.args.id) c.self.view_is) in
     let written = c.get_mut.follows.holds c.by.result in
-    let both = put_settled c.self.inside.settled (c.get_mut.follows.lender c.by.result) fs c.args.id c.of.result (Some c.by.result) c.of.ensures c.self.invariant.0 none (λ h. sym (ap is_some kept)) written.4 (written.3 (sym (ap is_some c.in-Some-get_mut.ensures.value))) in
+    let both = change_settled c.self.inside.settled (c.get_mut.follows.lender c.by.result) c.self.inside.newest.items c.args.id c.of.result c.in-Some-get_mut.kept.now c.by.result c.of.ensures c.self.invariant.0 none c.in-Some-get_mut.ensures.value written.4 (written.3 (sym (ap is_some c.in-Some-get_mut.ensures.value))) in
     let new : value_at (reverse (c.get_mut.follows.lender c.by.result).entries ++ fs) c.args.id ≡ Some c.by.result = both.0.here in
     rw (old, new) c.by.ensures
 
 pub returns-in-Some-get_mut-clause-others : goal.returns-in-Some-get_mut-clause-others
 returns-in-Some-get_mut-clause-others g c =
     let none : value_at c.self.inside.newest.items c.args.id ≡ None = subst (λ l. value_at l c.args.id ≡ None) c.deref.ensures.value c.in-None.ensures.absent in
-    let here : is_some (value_at (reverse c.self.inside.settled.entries) c.args.id) ≡ true = sym (ap is_some (c.in-Some-get_mut.ensures.value ∙ value_of c.self.inside.settled.entries c.self.inside.newest.items c.args.id c.of.result c.of.ensures c.self.invariant.0)) in
     let written = c.get_mut.follows.holds c.by.result in
-    let both = put_settled c.self.inside.settled (c.get_mut.follows.lender c.by.result) c.self.inside.newest.items c.args.id c.of.result (Some c.by.result) c.of.ensures c.self.invariant.0 none (λ h. here) written.4 (written.3 (ap is_some (value_of c.self.inside.settled.entries c.self.inside.newest.items c.args.id c.of.result c.of.ensures c.self.invariant.0) ∙ here)) in
+    let both = change_settled c.self.inside.settled (c.get_mut.follows.lender c.by.result) c.self.inside.newest.items c.args.id c.of.result c.in-Some-get_mut.kept.now c.by.result c.of.ensures c.self.invariant.0 none c.in-Some-get_mut.ensures.value written.4 (written.3 (sym (ap is_some c.in-Some-get_mut.ensures.value))) in
     λ u n. both.0.others u n ∙ ap (λ l. value_at l u) c.self.view_is
 
 pub returns-in-Some-get_mut-clause-rises : goal.returns-in-Some-get_mut-clause-rises
 returns-in-Some-get_mut-clause-rises g c =
     let none : value_at c.self.inside.newest.items c.args.id ≡ None = subst (λ l. value_at l c.args.id ≡ None) c.deref.ensures.value c.in-None.ensures.absent in
-    let here : is_some (value_at (reverse c.self.inside.settled.entries) c.args.id) ≡ true = sym (ap is_some (c.in-Some-get_mut.ensures.value ∙ value_of c.self.inside.settled.entries c.self.inside.newest.items c.args.id c.of.result c.of.ensures c.self.invariant.0)) in
     let written = c.get_mut.follows.holds c.by.result in
-    let both = put_settled c.self.inside.settled (c.get_mut.follows.lender c.by.result) c.self.inside.newest.items c.args.id c.of.result (Some c.by.result) c.of.ensures c.self.invariant.0 none (λ h. here) written.4 (written.3 (ap is_some (value_of c.self.inside.settled.entries c.self.inside.newest.items c.args.id c.of.result c.of.ensures c.self.invariant.0) ∙ here)) in
+    let both = change_settled c.self.inside.settled (c.get_mut.follows.lender c.by.result) c.self.inside.newest.items c.args.id c.of.result c.in-Some-get_mut.kept.now c.by.result c.of.ensures c.self.invariant.0 none c.in-Some-get_mut.ensures.value written.4 (written.3 (sym (ap is_some c.in-Some-get_mut.ensures.value))) in
     both.1
 
 -- none

@@ -1,8 +1,8 @@
 use Rattle.std.proofs.Common.{◌≡◌, reverse, Some, None, sym, ◌∙◌, ap, subst}
 use Rattle.std.specs.Option.{option_or}
 use Rattle.pdl_nodes.specs.Numbered.{first_from}
-use Rattle.pdl_nodes.proofs.Numbers.{first_append, last_between, none_between}
 use Rattle.pdl_nodes.proofs.numbered.Numbered.from.Goals as goal
+use Rattle.pdl_nodes.proofs.Numbers.{first_append, last_between, none_between}
 
 pub returns-in-Some : goal.returns-in-Some
 returns-in-Some g c =

@@ -1,8 +1,8 @@
 use Rattle.std.proofs.Common.{◌≤◌, [], ◌∷◌, length, reverse, sym, ◌∙◌, subst, arith}
 use Rattle.std.proofs.lemmas.List.{length-append}
 use Rattle.pdl_nodes.specs.Numbered.{Rises, most_newest}
-use Rattle.pdl_nodes.proofs.Numbers.{put_pushed}
 use Rattle.pdl_nodes.proofs.numbered.Numbered.insert.Goals as goal
+use Rattle.pdl_nodes.proofs.Numbers.{put_pushed}
 
 pub invariant_of-self-2 : goal.invariant_of-self-2
 invariant_of-self-2 g c = (

@@ -9,12 +9,13 @@ use Rattle.pdl_nodes.specs.Placed.{in_order}
 use Rattle.pdl_nodes.specs.Row.{Row, is_buffered, shown_of}
 use Rattle.pdl_nodes.specs.Rows.{Rows, each, has, row_at}
 use Rattle.pdl_nodes.specs.Table.{IsTable, rows_of}
+use Rattle.pdl_nodes.proofs.table.Table.assign_root.Goals as goal
 use Rattle.pdl_nodes.proofs.Calls.{has_key, node_is, changed_one}
 use Rattle.pdl_nodes.proofs.Counted.{counted_each}
-use Rattle.pdl_nodes.proofs.Finds.{differ, each_has, each_at, same}
+use Rattle.pdl_nodes.proofs.Finds.{each_has, each_at}
 use Rattle.pdl_nodes.proofs.Listing.{one_kept}
 use Rattle.pdl_nodes.proofs.Marks.{kept_here, kept_others}
-use Rattle.pdl_nodes.proofs.table.Table.assign_root.Goals as goal
+use Rattle.std.proofs.lemmas.Bool.{ne_eqb, eq-eqb}
 
 -- what a root keeps once values are put into it in order, and the rows then
 abbrev put_in : Rows → ℕ → List ℤ → ℕ → Row → Row
@@ -34,7 +35,7 @@ index-key-requires g c = has_key c.args.self.now c.self.inside.keys c.self.insid
 pub returns-then-root-id-clause-root : goal.returns-then-root-id-clause-root
 returns-then-root-id-clause-root g c =
     let row : c.index-node.result.now ≡ row_at c.args.self.now c.args.id = node_is c.args.self.now c.self.inside.keys c.self.inside.nodes c.args.id c.index-key.result.now c.index-node.result.now c.self.view_is c.self.invariant.0.0 c.index-key.ensures c.index-node.ensures in
-    sym (differ (row_at c.args.self.now c.args.id).root c.args.id (λ e. c.if-root-id.true (c.root.ensures ∙ ap (λ (r : Row). r.root) row ∙ e)))
+    sym (ne_eqb (row_at c.args.self.now c.args.id).root c.args.id (λ e. c.if-root-id.true (c.root.ensures ∙ ap (λ (r : Row). r.root) row ∙ e)))
 
 pub returns-then-root-id-clause-view : goal.returns-then-root-id-clause-view
 returns-then-root-id-clause-view g c =
@@ -46,7 +47,7 @@ root_is : (t : Rows) (id root : ℕ) (r : Row) → r ≡ row_at t id → root �
 root_is t id root r e g h = ap (λ (r : Row). r.root) (sym e) ∙ sym g ∙ h
 
 pub returns-clause-root : goal.returns-clause-root
-returns-clause-root g c = sym (same (row_at c.args.self.now c.args.id).root c.args.id (root_is c.args.self.now c.args.id c.root.result c.index-node.result.now (node_is c.args.self.now c.self.inside.keys c.self.inside.nodes c.args.id c.index-key.result.now c.index-node.result.now c.self.view_is c.self.invariant.0.0 c.index-key.ensures c.index-node.ensures) c.root.ensures c.if-root-id.false))
+returns-clause-root g c = sym (eq-eqb (row_at c.args.self.now c.args.id).root c.args.id (root_is c.args.self.now c.args.id c.root.result c.index-node.result.now (node_is c.args.self.now c.self.inside.keys c.self.inside.nodes c.args.id c.index-key.result.now c.index-node.result.now c.self.view_is c.self.invariant.0.0 c.index-key.ensures c.index-node.ensures) c.root.ensures c.if-root-id.false))
 
 pub put_in_order-requires-clause-buffered : goal.put_in_order-requires-clause-buffered
 put_in_order-requires-clause-buffered g c =

@@ -1,8 +1,8 @@
 use Rattle.std.proofs.Common.{◌<◌, arith}
-use Rattle.pdl_nodes.proofs.CutRows.{CutLaws}
+use Rattle.pdl_nodes.proofs.table.Table.cut.Goals as goal
+use Rattle.pdl_nodes.proofs.CutRows.{LawsBelow}
 use Rattle.pdl_nodes.proofs.Derives.{cutting_none, cutting_live, cutting_more, cutting_smaller, cutting_done, cutting_low, can_derive}
 use Rattle.pdl_nodes.proofs.Finds.{has_below}
-use Rattle.pdl_nodes.proofs.table.Table.cut.Goals as goal
 
 pub overflow_add-id : goal.overflow_add-id
 overflow_add-id c = let low : c.args.id < 18446744073709551615 = has_below c.args.self.now 18446744073709551615 c.args.id c.requires.small c.requires.can.live in omega arith
@@ -15,7 +15,7 @@ derive-requires-clause-live c = cutting_live c.args.self.now c.args.id c.args.di
 
 pub derive-requires-clause-can : goal.derive-requires-clause-can
 derive-requires-clause-can c =
-    let laws : CutLaws = record {
+    let laws : LawsBelow = record {
       views = record {
         positions = c.shape_laws.ensures.positions;
         in_order = c.shape_laws.ensures.wholes;

@@ -2,12 +2,13 @@ use Rattle.std.proofs.Common.{◌≡◌, Some, is_some, sym, ◌∙◌, ap}
 use Rattle.pdl_nodes.specs.Cut.{derived_in, over_from}
 use Rattle.pdl_nodes.specs.Row.{Row, parent_of}
 use Rattle.pdl_nodes.specs.Rows.{row_at}
-use Rattle.pdl_nodes.proofs.Calls.{has_key, node_is, changed_one, table_falls}
-use Rattle.pdl_nodes.proofs.Derives.{derived_by, derived_others, derived_none}
-use Rattle.pdl_nodes.proofs.Moved.{one_listed, listed_derived}
-use Rattle.pdl_nodes.proofs.Counted.{counted_each, derived_parent}
 use Rattle.pdl_nodes.specs.Table.{rows_of}
 use Rattle.pdl_nodes.proofs.table.Table.derive.Goals as goal
+use Rattle.pdl_nodes.proofs.Calls.{has_key, node_is, changed_one, table_falls}
+use Rattle.pdl_nodes.proofs.Counted.{counted_each, derived_parent}
+use Rattle.pdl_nodes.proofs.Derives.{derived_by, derived_others, derived_none}
+use Rattle.pdl_nodes.proofs.Moved.{listed_derived}
+use Rattle.pdl_nodes.proofs.Listing.{one_listed}
 
 pub index-key-requires : goal.index-key-requires
 index-key-requires c = has_key c.args.self.now c.self.inside.keys c.self.inside.nodes c.args.id c.self.view_is c.self.invariant.0.0 c.requires.live

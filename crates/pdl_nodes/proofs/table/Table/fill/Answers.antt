@@ -6,11 +6,11 @@ use Rattle.pdl_nodes.specs.Rows.{Rows, row_at, each}
 use Rattle.pdl_nodes.specs.Changes.{fill_in}
 use Rattle.pdl_nodes.specs.Marked.{AreListed, listed}
 use Rattle.pdl_nodes.specs.Table.{rows_of}
+use Rattle.pdl_nodes.proofs.table.Table.fill.Goals as goal
 use Rattle.pdl_nodes.proofs.Calls.{has_key, node_is, changed_one}
+use Rattle.pdl_nodes.proofs.Counted.{counted_each}
 use Rattle.pdl_nodes.proofs.Listing.{table_one, listed_filled, listed_stays}
 use Rattle.pdl_nodes.proofs.Marks.{fill_here, fill_others}
-use Rattle.pdl_nodes.proofs.Counted.{counted_each}
-use Rattle.pdl_nodes.proofs.table.Table.fill.Goals as goal
 
 pub index-key-requires : goal.index-key-requires
 index-key-requires c = has_key c.args.self.now c.self.inside.keys c.self.inside.nodes c.args.id c.self.view_is c.self.invariant.0.0 c.requires.live

@@ -3,10 +3,10 @@ use Rattle.slab.specs.Slab.{get}
 use Rattle.pdl_nodes.specs.Marked.{AreListed}
 use Rattle.pdl_nodes.specs.Rows.{Rows}
 use Rattle.pdl_nodes.specs.Table.{rows_of}
+use Rattle.pdl_nodes.proofs.table.Table.insert.Goals as goal
 use Rattle.pdl_nodes.proofs.Calls.{joined, keys_below, unchanged, vacant, filled, table_same}
 use Rattle.pdl_nodes.proofs.Counted.{counted_joined, counted_noted, counted_same}
 use Rattle.pdl_nodes.proofs.Listing.{listed_joined}
-use Rattle.pdl_nodes.proofs.table.Table.insert.Goals as goal
 
 pub make_room-requires : goal.make_room-requires
 make_room-requires c = record { ordered = c.self.invariant.0.0.ordered; above = keys_below c.args.self.now c.self.inside.keys c.self.inside.nodes c.args.id c.self.view_is c.self.invariant.0.0 c.requires.below }

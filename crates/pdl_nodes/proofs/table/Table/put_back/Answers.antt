@@ -4,11 +4,11 @@ use Rattle.pdl_shape.specs.Places.{write}
 use Rattle.pdl_nodes.specs.Row.{Row, parent_of, is_buffered, places_or}
 use Rattle.pdl_nodes.specs.Rows.{row_at, each}
 use Rattle.pdl_nodes.specs.Changes.{kept_in}
-use Rattle.pdl_nodes.proofs.Calls.{has_key, node_is}
-use Rattle.pdl_nodes.proofs.Liftings.{IsPutBack, lifted_root, root_written, back_type, put_back}
-use Rattle.pdl_nodes.proofs.Counted.{counted_each}
 use Rattle.pdl_nodes.specs.Table.{rows_of}
 use Rattle.pdl_nodes.proofs.table.Table.put_back.Goals as goal
+use Rattle.pdl_nodes.proofs.Calls.{has_key, node_is}
+use Rattle.pdl_nodes.proofs.Counted.{counted_each}
+use Rattle.pdl_nodes.proofs.Liftings.{IsPutBack, lifted_root, root_written, back_type, put_back}
 
 pub index-key-requires : goal.index-key-requires
 index-key-requires g c = has_key c.args.self.now c.self.inside.keys c.self.inside.nodes c.args.id c.self.view_is c.self.invariant.0.0 c.requires.view.live

@@ -7,11 +7,11 @@ use Rattle.pdl_nodes.specs.Changes.{kept_in}
 use Rattle.std.specs.Prelude.{All}
 use Rattle.pdl_elem.specs.Types.{InRange}
 use Rattle.pdl_nodes.specs.Placed.{placed_by}
-use Rattle.pdl_nodes.proofs.Calls.{has_key, node_is}
-use Rattle.pdl_nodes.proofs.Liftings.{IsPutBack, lifted_root, root_written, back_type, put_back}
-use Rattle.pdl_nodes.proofs.Counted.{counted_each}
 use Rattle.pdl_nodes.specs.Table.{rows_of}
 use Rattle.pdl_nodes.proofs.table.Table.put_past.Goals as goal
+use Rattle.pdl_nodes.proofs.Calls.{has_key, node_is}
+use Rattle.pdl_nodes.proofs.Counted.{counted_each}
+use Rattle.pdl_nodes.proofs.Liftings.{IsPutBack, lifted_root, root_written, back_type, put_back}
 
 pub index-key-requires : goal.index-key-requires
 index-key-requires g c = has_key c.args.self.now c.self.inside.keys c.self.inside.nodes c.args.base c.self.view_is c.self.invariant.0.0 c.requires.view.live

@@ -3,14 +3,14 @@ use Rattle.pdl_elem.specs.Types.{InRange}
 use Rattle.pdl_nodes.specs.Row.{Row, is_buffered, places_or}
 use Rattle.pdl_nodes.specs.Rows.{row_at}
 use Rattle.pdl_nodes.specs.Changes.{kept_in}
-use Rattle.pdl_nodes.proofs.Listing.{one_kept}
-use Rattle.pdl_nodes.proofs.Calls.{has_key, node_is, changed_one}
-use Rattle.pdl_nodes.proofs.Marks.{kept_here, kept_others}
 use Rattle.pdl_nodes.specs.Assigned.{put_all}
 use Rattle.pdl_nodes.specs.Spots.{spots}
-use Rattle.pdl_nodes.proofs.Counted.{counted_each}
 use Rattle.pdl_nodes.specs.Table.{rows_of}
 use Rattle.pdl_nodes.proofs.table.Table.put_through.Goals as goal
+use Rattle.pdl_nodes.proofs.Calls.{has_key, node_is, changed_one}
+use Rattle.pdl_nodes.proofs.Counted.{counted_each}
+use Rattle.pdl_nodes.proofs.Listing.{one_kept}
+use Rattle.pdl_nodes.proofs.Marks.{kept_here, kept_others}
 
 pub index-key-requires : goal.index-key-requires
 index-key-requires g c = has_key c.args.self.now c.self.inside.keys c.self.inside.nodes c.args.id c.self.view_is c.self.invariant.0.0 c.requires.live

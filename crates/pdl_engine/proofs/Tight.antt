@@ -1,0 +1,146 @@
+-- Each array is held or has views, but those that are listed.
+use Rattle.std.proofs.Common.{◌≡◌, true, false, [], ℕ, List, sym, subst, ◌∙◌, ap, nat_lt, ◌≢◌, ◌||◌, ◌∷◌, Some, inl, inr, refl, ◌+◌, Option, None, arith, ℤ, eqb, Result, Ok, Err}
+use Rattle.std.specs.Result.{OnOk, OnErr}
+use Rattle.std.proofs.Math.Bool.{or-true}
+use Rattle.std.proofs.lemmas.Bool.{ne_eqb, cases_Bool}
+use Rattle.std.proofs.lemmas.Bool.Decides.{eqb_tells, leb_tells}
+use Rattle.pdl_elem.specs.declared.Ty.{Ty}
+use Rattle.pdl_shape.specs.Shape.{size_of}
+use Rattle.pdl_world.specs.Cut.{has_views, replaced, fitted, reshape, sever}
+use Rattle.pdl_world.specs.Swept.{holds, parents}
+use Rattle.pdl_world.specs.World.{ArrayDef, root, World, elements, ty_in, dims_in}
+use Rattle.pdl_nodes.specs.Alike.{IsAlike}
+use Rattle.pdl_nodes.specs.Holds.{Counts, hold_at, count_in, is_held, held_once, one_more}
+use Rattle.pdl_nodes.specs.Risen.{AreTight}
+use Rattle.pdl_nodes.specs.Row.{Row, parent_from, parent_of}
+use Rattle.pdl_nodes.specs.RowLaws.{RowLaws}
+use Rattle.pdl_nodes.specs.Rows.{Rows, has, NumbersBelow, row_at, Falls}
+use Rattle.pdl_nodes.specs.Still.{IsStill}
+use Rattle.pdl_nodes.specs.Worlds.{def_of, def_from, shape, with_elements, latest, world_of}
+use Rattle.pdl_nodes.specs.declared.holds.Hold.{Hold}
+use Rattle.pdl_nodes.specs.declared.origin.Origin.{Origin}
+use Rattle.pdl_nodes.specs.declared.origin.Origin.TheVariants.{Root, View}
+use Rattle.pdl_engine.specs.Loose.{IsTight, IsListed, ListsParent}
+use Rattle.pdl_engine.specs.Severed.{ChangesRows}
+use Rattle.pdl_engine.proofs.Stating.{views_with}
+
+-- none is listed, and nothing that isn't held is without views
+pub none_loose : (rs : Rows) (hs : Counts) → AreTight [] rs hs → IsTight [] rs hs
+none_loose rs hs t = record { live = λ v h. (let z : false ≡ true = h in absurd (cc)); tight = t }
+
+pub tight_all : (rs : Rows) (hs : Counts) (listed : List ℕ) → listed ≡ [] → AreTight [] rs hs → IsTight listed rs hs
+tight_all rs hs listed e t = subst (λ (xs : List ℕ). IsTight xs rs hs) (sym e) (none_loose rs hs t)
+
+-- the same arrays
+pub tight_alike : (listed : List ℕ) (old new : Rows) (hs : Counts) → IsAlike old new → IsTight listed old hs → IsTight listed new hs
+tight_alike listed old new hs a t = record {
+  live = λ v h. a.has_is v ∙ t.live v h;
+  tight = λ v h d u. ap (λ w. has_views w v) a.shape_is ∙ t.tight v (sym (a.has_is v) ∙ h) d u;
+}
+
+held_as : (hs gs : Counts) (v : ℕ) → hold_at gs v ≡ hold_at hs v → is_held gs v ≡ false → is_held hs v ≡ false
+held_as hs gs v e u = sym (ap (λ x. nat_lt 0 (count_in x)) e) ∙ u
+
+-- one array more, which is held
+pub tight_grown : (listed : List ℕ) (rs : Rows) (hs gs : Counts) (k : ℕ) (r : Row) → hold_at gs k ≡ Some held_once → ((v : ℕ) → v ≢ k → hold_at gs v ≡ hold_at hs v) → IsTight listed rs hs → IsTight listed ((k, r) ∷ rs) gs
+tight_grown listed rs hs gs k r e o t = record {
+  live = λ v h. elim (eqb_tells k v) [ inl y ↦ rw y.0 refl | inr y ↦ rw y.0 (t.live v h) ];
+  tight = λ v h d u. elim (eqb_tells k v) [
+    | inl y ↦ (let z : true ≡ false = sym (ap (λ x. nat_lt 0 (count_in x)) (ap (hold_at gs) (sym y.1) ∙ e)) ∙ u in absurd (cc))
+    | inr y ↦ (let g : has rs v ≡ true = rw y.0 at h in
+        ap (λ b. holds (parents (def_of r)) v || b) (t.tight v g d (held_as hs gs v (o v (λ z. y.1 (sym z))) u)) ∙ or-true (holds (parents (def_of r)) v))
+  ];
+}
+
+-- none more, and the holds but of a number that isn't there
+pub tight_refused : (facts : RowLaws) → (listed : List ℕ) (rs new : Rows) (hs gs : Counts) (k : ℕ) → NumbersBelow k rs → new ≡ rs → ((v : ℕ) → v ≢ k → hold_at gs v ≡ hold_at hs v) → IsTight listed rs hs → IsTight listed new gs
+tight_refused facts listed rs new hs gs k b e o t = subst (λ (x : Rows). IsTight listed x gs) (sym e) (record {
+  live = t.live;
+  tight = λ v h d u. t.tight v h d (held_as hs gs v (o v (λ y. facts.numbers.not_newest rs k v b h (sym y))) u);
+})
+
+-- one hold more
+held_more : (o : Option Hold) → nat_lt 0 (count_in (one_more o)) ≡ false → nat_lt 0 (count_in o) ≡ false
+held_more None h = refl
+held_more (Some h) e = (let z : true ≡ false = sym (lt_more h.count) ∙ e in absurd (cc)) where
+  lt_more : (n : ℕ) → nat_lt 0 (n + 1) ≡ true
+  lt_more n = elim (leb_tells 1 (n + 1)) [ inl l ↦ l.0 | inr l ↦ absurd (omega (arith, l.1)) ]
+
+pub tight_more : (listed : List ℕ) (rs : Rows) (hs gs : Counts) (id : ℕ) → hold_at gs id ≡ one_more (hold_at hs id) → ((v : ℕ) → v ≢ id → hold_at gs v ≡ hold_at hs v) → IsTight listed rs hs → IsTight listed rs gs
+tight_more listed rs hs gs id e o t = record {
+  live = t.live;
+  tight = λ v h d u. t.tight v h d (elim (eqb_tells v id) [
+    | inl y ↦ held_more (hold_at hs v) (ap (λ x. nat_lt 0 (count_in (one_more (hold_at hs x)))) y.1 ∙ sym (ap (λ x. nat_lt 0 (count_in x)) (ap (hold_at gs) y.1 ∙ e)) ∙ u)
+    | inr y ↦ held_as hs gs v (o v y.1) u
+  ]);
+}
+
+-- an array that is a root now
+-- an entry that isn't there
+views_past : (f : ℕ → List ℤ) (rs : Rows) (id v : ℕ) (d : ArrayDef) → NumbersBelow id rs → has_views (replaced (with_elements f (shape rs)) id d) v ≡ has_views (shape rs) v
+views_past f [] id v d b = refl
+views_past f ((k, r) ∷ rs) id v d b = by (ne_eqb k id (λ (e : k ≡ id). let z : ⊥ = omega (arith, b.0) in z)) r.origin (views_past f rs id v d b.1) where
+  by : eqb k id ≡ false → (o : Origin) → has_views (replaced (with_elements f (shape rs)) id d) v ≡ has_views (shape rs) v → has_views (replaced (with_elements f ((k, def_from r.ty r.triple.dims o) ∷ shape rs)) id d) v ≡ has_views ((k, def_from r.ty r.triple.dims o) ∷ shape rs) v
+  by n Root e = rw n e
+  by n (View p t y) e = rw n (ap (λ b. (eqb p v || false) || b) e)
+
+views_rooted : (f : ℕ → List ℤ) (rs : Rows) (id v : ℕ) (ty : Ty) (ds : List ℕ) (es : List ℤ) → Falls rs → (parent_of (row_at rs id) ≡ Some v → ⊥) → has_views (replaced (with_elements f (shape rs)) id (root ty ds es)) v ≡ has_views (shape rs) v
+views_rooted f [] id v ty ds es b d = refl
+views_rooted f ((k, r) ∷ rs) id v ty ds es b d = elim (eqb_tells k id) [
+  | inl y ↦ (let rest : has_views (replaced (with_elements f (shape rs)) id (root ty ds es)) v ≡ has_views (shape rs) v = (let P : ℕ → Type 0 = λ x. has_views (replaced (with_elements f (shape rs)) x (root ty ds es)) v ≡ has_views (shape rs) v in subst P y.1 (views_past f rs k v (root ty ds es) b.0)) in
+      here y.0 r.origin (λ e. d (let row : row_at ((k, r) ∷ rs) id ≡ r = rw y.0 refl in ap parent_of row ∙ e)) rest)
+  | inr y ↦ (let rest : has_views (replaced (with_elements f (shape rs)) id (root ty ds es)) v ≡ has_views (shape rs) v = views_rooted f rs id v ty ds es b.1 (λ e. d (let row : row_at ((k, r) ∷ rs) id ≡ row_at rs id = rw y.0 refl in ap parent_of row ∙ e)) in
+      there y.0 r.origin rest)
+] where
+  here : eqb k id ≡ true → (o : Origin) → (parent_from o ≡ Some v → ⊥) → has_views (replaced (with_elements f (shape rs)) id (root ty ds es)) v ≡ has_views (shape rs) v
+      → has_views (replaced (with_elements f ((k, def_from r.ty r.triple.dims o) ∷ shape rs)) id (root ty ds es)) v ≡ has_views ((k, def_from r.ty r.triple.dims o) ∷ shape rs) v
+  here y Root n e = rw y e
+  here y (View p t l) n e = (let z : eqb p v ≡ false = ne_eqb p v (λ q. n (ap Some q)) in rw (y, z) e)
+
+  there : eqb k id ≡ false → (o : Origin) → has_views (replaced (with_elements f (shape rs)) id (root ty ds es)) v ≡ has_views (shape rs) v
+      → has_views (replaced (with_elements f ((k, def_from r.ty r.triple.dims o) ∷ shape rs)) id (root ty ds es)) v ≡ has_views ((k, def_from r.ty r.triple.dims o) ∷ shape rs) v
+  there n Root e = rw n e
+  there n (View p t l) e = rw n (ap (λ b. (eqb p v || false) || b) e)
+
+-- the views of rows that mean a world
+views_of : (rs : Rows) (w : World) (v : ℕ) → world_of rs ≡ w → has_views (shape rs) v ≡ has_views w v
+views_of rs w v e = sym (views_with (latest rs) (shape rs) v) ∙ ap (λ x. has_views x v) e
+
+listed_live : (facts : RowLaws) → (old new : Rows) (id : ℕ) (xs ys : List ℕ) (hs : Counts) → IsStill old → has old id ≡ true → ChangesRows old id new → IsListed xs ys (parent_of (row_at old id)) → IsTight xs old hs → (v : ℕ) → holds ys v ≡ true → has new v ≡ true
+listed_live facts old new id xs ys hs s h c l t v y = c.has_is v ∙ elim (cases_Bool (holds xs v)) [
+  | inl z ↦ t.live v z
+  | inr z ↦ (facts.seen.parent_live old id v s h (l.only v y z)).0
+]
+
+unlisted : (xs ys : List ℕ) (o : Option ℕ) (v : ℕ) → IsListed xs ys o → holds ys v ≡ false → holds xs v ≡ false
+unlisted xs ys o v l n = elim (cases_Bool (holds xs v)) [ inl y ↦ (let z : true ≡ false = sym (l.stays v y) ∙ n in absurd (cc)) | inr y ↦ y ]
+
+-- the world is the same
+tight_same : (facts : RowLaws) → (old new : Rows) (id : ℕ) (xs ys : List ℕ) (hs : Counts) → IsStill old → has old id ≡ true → ChangesRows old id new → IsListed xs ys (parent_of (row_at old id)) → world_of new ≡ world_of old → IsTight xs old hs → IsTight ys new hs
+tight_same facts old new id xs ys hs s h c l e t = record {
+  live = listed_live facts old new id xs ys hs s h c l t;
+  tight = λ v y d u. views_of new (world_of old) v e ∙ sym (views_of old (world_of old) v refl) ∙ t.tight v (sym (c.has_is v) ∙ y) (unlisted xs ys (parent_of (row_at old id)) v l d) u;
+}
+
+-- one array is a root, whose parent is listed
+tight_rooted : (facts : RowLaws) → (old new : Rows) (id : ℕ) (xs ys : List ℕ) (hs : Counts) (ty : Ty) (ds : List ℕ) (es : List ℤ) → IsStill old → has old id ≡ true → ChangesRows old id new → IsListed xs ys (parent_of (row_at old id)) → ListsParent ys (parent_of (row_at old id))
+    → world_of new ≡ replaced (world_of old) id (root ty ds es) → IsTight xs old hs → IsTight ys new hs
+tight_rooted facts old new id xs ys hs ty ds es s h c l p e t = record {
+  live = listed_live facts old new id xs ys hs s h c l t;
+  tight = λ v y d u. views_of new (replaced (world_of old) id (root ty ds es)) v e
+      ∙ views_rooted (latest old) old id v ty ds es (facts.seen.falls old s) (λ q. (let z : true ≡ false = sym (p v q) ∙ d in absurd (cc)))
+      ∙ t.tight v (sym (c.has_is v) ∙ y) (unlisted xs ys (parent_of (row_at old id)) v l d) u;
+}
+
+pub tight_reshaped : (facts : RowLaws) → {A E : Type 0} (old new : Rows) (id : ℕ) (xs ys : List ℕ) (hs : Counts) (ds : List ℕ) (r : Result A E) → IsStill old → has old id ≡ true → ChangesRows old id new → IsListed xs ys (parent_of (row_at old id))
+    → OnOk r (ListsParent ys (parent_of (row_at old id))) → OnOk r (world_of new ≡ reshape (world_of old) id ds) → OnErr r (world_of new ≡ world_of old) → IsTight xs old hs → IsTight ys new hs
+tight_reshaped facts old new id xs ys hs ds (Ok a) s h c l p e f t = tight_rooted facts old new id xs ys hs (ty_in (world_of old) id) ds (fitted (size_of ds) (elements (world_of old) id)) s h c l p e t
+tight_reshaped facts old new id xs ys hs ds (Err a) s h c l p e f t = tight_same facts old new id xs ys hs s h c l f t
+
+pub tight_severed : (facts : RowLaws) → {A E : Type 0} (old new : Rows) (id : ℕ) (xs ys : List ℕ) (hs : Counts) (r : Result A E) → IsStill old → has old id ≡ true → ChangesRows old id new → IsListed xs ys (parent_of (row_at old id))
+    → ((row_at old id).root ≡ id → new ≡ old) → OnOk r ((row_at old id).root ≢ id → ListsParent ys (parent_of (row_at old id))) → OnOk r (world_of new ≡ sever (world_of old) id) → OnErr r (world_of new ≡ world_of old) → IsTight xs old hs → IsTight ys new hs
+tight_severed facts old new id xs ys hs (Err a) s h c l n p e f t = tight_same facts old new id xs ys hs s h c l f t
+tight_severed facts old new id xs ys hs (Ok a) s h c l n p e f t = elim (eqb_tells (row_at old id).root id) [
+  | inl y ↦ tight_same facts old new id xs ys hs s h c l (ap world_of (n y.1)) t
+  | inr y ↦ tight_rooted facts old new id xs ys hs (ty_in (world_of old) id) (dims_in (world_of old) id) (elements (world_of old) id) s h c l (p y.1) e t
+]

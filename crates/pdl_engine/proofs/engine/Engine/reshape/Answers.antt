@@ -1,0 +1,67 @@
+use Rattle.std.proofs.Common.{◌≡◌, ◌+◌, true, sym, ◌∙◌, ap, subst, arith}
+use Rattle.std.proofs.lemmas.Result.{on_err_weaker, on_ok_weaker}
+use Rattle.pdl_world.specs.Cut.{has_views, reshape}
+use Rattle.pdl_world.specs.Sound.{IsLive}
+use Rattle.pdl_nodes.specs.Outcomes.{waiting_of}
+use Rattle.pdl_pull.specs.Outdated.{outdated as rows_outdated}
+use Rattle.pdl_nodes.specs.Outcomes.{waiting_size as rows_waiting_size}
+use Rattle.pdl_nodes.specs.Rows.{has}
+use Rattle.pdl_nodes.specs.Worlds.{latest, shape}
+use Rattle.pdl_engine.specs.Held.{ChangesFamily, FamilyIsSettled}
+use Rattle.pdl_engine.specs.State.{State, StayFresh, outdated, waiting, waiting_size}
+use Rattle.pdl_engine.specs.StateOf.{state_of}
+use Rattle.pdl_engine.proofs.Changed.{changed_engine, changed_settled, changed_state, refused_fresh, steps_are, reshaped_sound, reshaped_lent}
+use Rattle.pdl_engine.proofs.Stating.{views_with, live_has}
+use Rattle.pdl_engine.proofs.Tight.{tight_reshaped}
+use Rattle.pdl_engine.proofs.engine.Engine.reshape.Goals as goal
+
+pub reshape-requires-clause-live : goal.reshape-requires-clause-live
+reshape-requires-clause-live g c = live_has c.row_laws.ensures c.self.inside.table c.args.id (subst (λ (s : State). IsLive s.world c.args.id) (sym c.self.view_is) c.requires.live)
+
+pub reshape-requires-clause-viewless : goal.reshape-requires-clause-viewless
+reshape-requires-clause-viewless g c = sym (views_with (latest c.self.inside.table) (shape c.self.inside.table) c.args.id) ∙ ap (λ (s : State). has_views s.world c.args.id) c.self.view_is ∙ c.requires.viewless
+
+pub invariant_of-self : goal.invariant_of-self
+invariant_of-self g c = (
+  changed_engine c.self.inside.table c.reshape.new.table c.self.inside.holds c.self.inside.next c.args.id c.self.invariant.0 c.reshape.ensures.reshaped
+      (reshaped_sound c.reshape_laws.ensures.sound c.self.inside.table c.reshape.new.table c.args.id c.args.dims.now c.reshape.result c.self.invariant.0.sound (ap (λ (s : State). has_views s.world c.args.id) c.self.view_is ∙ c.requires.viewless) c.dims_list-limits.ensures.limits c.reshape.ensures.ok c.reshape.ensures.err),
+  tight_reshaped c.row_laws.ensures c.self.inside.table c.reshape.new.table c.args.id c.self.inside.loose.items c.reshape.new.loose.items c.self.inside.holds c.args.dims.now c.reshape.result c.self.invariant.0.order.still
+      (live_has c.row_laws.ensures c.self.inside.table c.args.id (subst (λ (s : State). IsLive s.world c.args.id) (sym c.self.view_is) c.requires.live))
+      c.reshape.ensures.reshaped c.reshape.ensures.listed c.reshape.ensures.parent c.reshape.ensures.ok c.reshape.ensures.err c.self.invariant.1,
+)
+
+pub returns-clause-ok : goal.returns-clause-ok
+returns-clause-ok g c = on_ok_weaker c.reshape.result (λ e. e ∙ ap (λ (s : State). reshape s.world c.args.id c.args.dims.now) c.self.view_is) c.reshape.ensures.ok
+
+pub returns-clause-err : goal.returns-clause-err
+returns-clause-err g c = on_err_weaker c.reshape.result (λ e. e ∙ ap (λ (s : State). s.world) c.self.view_is) c.reshape.ensures.err
+
+pub returns-clause-family : goal.returns-clause-family
+returns-clause-family g c =
+    subst (λ (s : State). ChangesFamily s c.args.id (state_of c.reshape.new.table c.self.inside.holds c.self.inside.next)) c.self.view_is
+    (changed_state c.row_laws.ensures c.self.inside.table c.reshape.new.table c.self.inside.holds c.self.inside.next c.args.id c.self.invariant.0
+    (live_has c.row_laws.ensures c.self.inside.table c.args.id (subst (λ (s : State). IsLive s.world c.args.id) (sym c.self.view_is) c.requires.live)) c.reshape.ensures.reshaped)
+
+pub returns-clause-stay : goal.returns-clause-stay
+returns-clause-stay g c = on_err_weaker c.reshape.result (λ f. subst (λ (s : State). StayFresh s (state_of c.reshape.new.table c.self.inside.holds c.self.inside.next)) c.self.view_is
+    (refused_fresh c.row_laws.ensures c.self.inside.table c.reshape.new.table c.self.inside.holds c.self.inside.next c.args.id c.self.invariant.0 c.reshape.ensures.reshaped f)) c.reshape.ensures.stay
+
+pub returns-clause-fresh : goal.returns-clause-fresh
+returns-clause-fresh g c = on_ok_weaker c.reshape.result (λ f. reshaped_lent c.row_laws.ensures c.self.inside.table c.reshape.new.table c.self.inside.holds c.self.inside.next c.args.id
+    (live_has c.row_laws.ensures c.self.inside.table c.args.id (subst (λ (s : State). IsLive s.world c.args.id) (sym c.self.view_is) c.requires.live)) c.reshape.ensures.reshaped f) c.reshape.ensures.fresh
+
+pub returns-clause-counted : goal.returns-clause-counted
+returns-clause-counted g c =
+    let h : has c.self.inside.table c.args.id ≡ true = live_has c.row_laws.ensures c.self.inside.table c.args.id (subst (λ (s : State). IsLive s.world c.args.id) (sym c.self.view_is) c.requires.live) in
+    let a : rows_outdated c.self.inside.table c.args.id + rows_waiting_size c.self.inside.table (waiting_of c.self.inside.table c.args.id) ≡ outdated c.args.self.now c.args.id + waiting_size c.args.self.now (waiting c.args.self.now c.args.id) =
+    steps_are c.row_laws.ensures c.self.inside.table c.self.inside.holds c.self.inside.next c.args.id c.self.invariant.0 h ∙ ap (λ (s : State). outdated s c.args.id + waiting_size s (waiting s c.args.id)) c.self.view_is in
+    omega (arith, a, c.reshape.ensures.counted)
+
+pub returns-clause-sound : goal.returns-clause-sound
+returns-clause-sound g c = reshaped_sound c.reshape_laws.ensures.sound c.self.inside.table c.reshape.new.table c.args.id c.args.dims.now c.reshape.result c.self.invariant.0.sound (ap (λ (s : State). has_views s.world c.args.id) c.self.view_is ∙ c.requires.viewless) c.dims_list-limits.ensures.limits c.reshape.ensures.ok c.reshape.ensures.err
+
+pub returns-clause-settled : goal.returns-clause-settled
+returns-clause-settled g c =
+    subst (λ (s : State). FamilyIsSettled s c.args.id (state_of c.reshape.new.table c.self.inside.holds c.self.inside.next)) c.self.view_is
+    (changed_settled c.row_laws.ensures c.self.inside.table c.reshape.new.table c.self.inside.holds c.self.inside.next c.args.id c.self.invariant.0
+    (live_has c.row_laws.ensures c.self.inside.table c.args.id (subst (λ (s : State). IsLive s.world c.args.id) (sym c.self.view_is) c.requires.live)) c.reshape.ensures.reshaped c.reshape.ensures.settled)

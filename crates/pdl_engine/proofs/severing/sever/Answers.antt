@@ -1,0 +1,148 @@
+use Rattle.std.proofs.Common.{◌≡◌, ◌+◌, ◌≤◌, sym, ◌∙◌, ap, subst, arith, ℕ, Option}
+use Rattle.pdl_shape.specs.Shape.{size_of}
+use Rattle.pdl_shape.specs.Triple.{Triple}
+use Rattle.pdl_buf.specs.Buffer.{TypedElements}
+use Rattle.pdl_world.specs.World.{elements}
+use Rattle.pdl_nodes.specs.Cut.{CanCut}
+use Rattle.pdl_nodes.specs.Outcomes.{waiting_of, waiting_size}
+use Rattle.pdl_pull.specs.Outdated.{outdated}
+use Rattle.pdl_nodes.specs.Row.{Row}
+use Rattle.pdl_nodes.specs.Worlds.{world_of}
+use Rattle.pdl_engine.specs.Loose.{ListsParent}
+use Rattle.pdl_engine.proofs.Readied.{ready_then, IsFreshly, others_on, settled_on, only_ready, freshly, ready_steps, below_ready, ready_fresh}
+use Rattle.pdl_engine.proofs.Results.{on_err}
+use Rattle.pdl_engine.proofs.Severs.{CutFacts, first_all, root_uncut, cut_settled, all_steps, cut_fresh, can_cut, was_cut, cut_world}
+use Rattle.pdl_engine.proofs.severing.sever.Goals as goal
+
+pub returns-then-root-id-clause-ok : goal.returns-then-root-id-clause-ok
+returns-then-root-id-clause-ok g c = root_uncut c.row_laws.ensures c.args.table.now c.args.id c.requires.order c.requires.live (ap (λ (r : Row). r.root) (sym c.node.ensures) ∙ sym c.root.ensures ∙ c.if-root-id.true)
+
+pub returns-in_err-refresh-clause-severed : goal.returns-in_err-refresh-clause-severed
+returns-in_err-refresh-clause-severed g c = only_ready c.row_laws.ensures c.args.table.now c.refresh.new.table c.args.id c.requires.order c.requires.sized (ready_then c.row_laws.ensures c.args.table.now c.settle.new.table c.refresh.new.table c.settle.ensures.settled.ready c.refresh.ensures.kept)
+    (others_on c.args.table.now c.settle.new.table c.refresh.new.table c.args.id c.settle.ensures.settled c.refresh.ensures.kept)
+
+pub returns-in_err-refresh-clause-counted : goal.returns-in_err-refresh-clause-counted
+returns-in_err-refresh-clause-counted g c =
+    let l : c.refresh.new.steps ≤ c.args.steps.now + (outdated c.args.table.now c.args.id + waiting_size c.args.table.now (waiting_of c.args.table.now c.args.id)) =
+    ready_steps c.row_laws.ensures c.args.table.now c.settle.new.table c.args.id c.settle.new.steps c.refresh.new.steps c.args.steps.now c.settle.ensures.settled c.settle.ensures.counted c.refresh.ensures.counted in
+    omega (arith, l)
+
+pub first_copied-requires-clause-fresh : goal.first_copied-requires-clause-fresh
+first_copied-requires-clause-fresh g c =
+    c.row_laws.ensures.seen.path_first c.refresh.new.table c.args.id c.refresh.ensures.kept.order.still (c.refresh.ensures.kept.alike.has_is c.args.id ∙ c.settle.ensures.settled.ready.alike.has_is c.args.id ∙ c.requires.live) c.in_ok-refresh.ensures.fresh
+
+pub returns-in_err-kept-clause-severed : goal.returns-in_err-kept-clause-severed
+returns-in_err-kept-clause-severed g c = only_ready c.row_laws.ensures c.args.table.now c.refresh.new.table c.args.id c.requires.order c.requires.sized (ready_then c.row_laws.ensures c.args.table.now c.settle.new.table c.refresh.new.table c.settle.ensures.settled.ready c.refresh.ensures.kept)
+    (others_on c.args.table.now c.settle.new.table c.refresh.new.table c.args.id c.settle.ensures.settled c.refresh.ensures.kept)
+
+pub returns-in_err-kept-clause-counted : goal.returns-in_err-kept-clause-counted
+returns-in_err-kept-clause-counted g c =
+    all_steps c.args.table.now c.settle.new.table c.refresh.new.table c.args.id c.refresh.new.steps c.first_copied.new.steps c.args.steps.now c.settle.ensures.settled c.refresh.ensures.kept
+    (ready_steps c.row_laws.ensures c.args.table.now c.settle.new.table c.args.id c.settle.new.steps c.refresh.new.steps c.args.steps.now c.settle.ensures.settled c.settle.ensures.counted c.refresh.ensures.counted) (subst (λ n. c.first_copied.new.steps ≤ c.refresh.new.steps + n) (c.elements_of-count.ensures.count ∙ ap size_of (c.copy_dims-dims.ensures ∙ ap (λ (t : Triple). t.dims) (c.behind-node.view_is ∙ c.triple.ensures ∙ ap (λ (r : Row). r.triple) c.node-2.ensures))) c.first_copied.ensures.counted)
+
+pub cut-requires-clause-can : goal.cut-requires-clause-can
+cut-requires-clause-can g c =
+    let es : c.in_ok-kept.kept.elems ≡ elements (world_of c.refresh.new.table) c.args.id =
+    first_all c.row_laws.ensures c.refresh.new.table c.args.id c.elements_of-count.result c.copy_dims-dims.result c.in_ok-kept.kept.elems c.refresh.ensures.kept.order.still
+    (c.refresh.ensures.kept.alike.has_is c.args.id ∙ c.settle.ensures.settled.ready.alike.has_is c.args.id ∙ c.requires.live)
+    c.elements_of-count.ensures.count (c.copy_dims-dims.ensures ∙ ap (λ (t : Triple). t.dims) (c.behind-node.view_is ∙ c.triple.ensures ∙ ap (λ (r : Row). r.triple) c.node-2.ensures)) (ap (λ (k : TypedElements). k.elems) c.in_ok-kept.ensures.value) in
+    let f : IsFreshly c.args.table.now c.refresh.new.table c.args.id = freshly c.row_laws.ensures c.args.table.now c.settle.new.table c.refresh.new.table c.args.id c.requires.order c.requires.sized c.requires.live c.settle.ensures.settled c.refresh.ensures.kept
+    (c.row_laws.ensures.seen.path_first c.refresh.new.table c.args.id c.refresh.ensures.kept.order.still (c.refresh.ensures.kept.alike.has_is c.args.id ∙ c.settle.ensures.settled.ready.alike.has_is c.args.id ∙ c.requires.live) c.in_ok-refresh.ensures.fresh) in
+    can_cut c.row_laws.ensures c.args.table.now c.refresh.new.table c.args.id c.copy_dims-dims.result c.in_ok-kept.kept.elems f
+    (λ r. c.if-root-id.false (c.root.ensures ∙ ap (λ (x : Row). x.root) c.node.ensures ∙ r))
+    (c.copy_dims-dims.ensures ∙ ap (λ (t : Triple). t.dims) (c.behind-node.view_is ∙ c.triple.ensures ∙ ap (λ (r : Row). r.triple) c.node-2.ensures))
+    es
+
+pub cut-requires-clause-small : goal.cut-requires-clause-small
+cut-requires-clause-small g c = below_ready c.args.table.now c.refresh.new.table 18446744073709551615 (ready_then c.row_laws.ensures c.args.table.now c.settle.new.table c.refresh.new.table c.settle.ensures.settled.ready c.refresh.ensures.kept) c.requires.small
+
+pub returns-clause-severed : goal.returns-clause-severed
+returns-clause-severed g c =
+    let es : c.in_ok-kept.kept.elems ≡ elements (world_of c.refresh.new.table) c.args.id =
+    first_all c.row_laws.ensures c.refresh.new.table c.args.id c.elements_of-count.result c.copy_dims-dims.result c.in_ok-kept.kept.elems c.refresh.ensures.kept.order.still
+    (c.refresh.ensures.kept.alike.has_is c.args.id ∙ c.settle.ensures.settled.ready.alike.has_is c.args.id ∙ c.requires.live)
+    c.elements_of-count.ensures.count (c.copy_dims-dims.ensures ∙ ap (λ (t : Triple). t.dims) (c.behind-node.view_is ∙ c.triple.ensures ∙ ap (λ (r : Row). r.triple) c.node-2.ensures)) (ap (λ (k : TypedElements). k.elems) c.in_ok-kept.ensures.value) in
+    let laws : CutFacts = record { severs = c.cut_row_laws.ensures.severs; families = c.cut_row_laws.ensures.families; settled = c.cut_row_laws.ensures.settled; known = c.cut_row_laws.ensures.known; sized = c.cut_row_laws.ensures.sized } in
+    let f : IsFreshly c.args.table.now c.refresh.new.table c.args.id = freshly c.row_laws.ensures c.args.table.now c.settle.new.table c.refresh.new.table c.args.id c.requires.order c.requires.sized c.requires.live c.settle.ensures.settled c.refresh.ensures.kept
+    (c.row_laws.ensures.seen.path_first c.refresh.new.table c.args.id c.refresh.ensures.kept.order.still (c.refresh.ensures.kept.alike.has_is c.args.id ∙ c.settle.ensures.settled.ready.alike.has_is c.args.id ∙ c.requires.live) c.in_ok-refresh.ensures.fresh) in
+    let can : CanCut c.refresh.new.table c.args.id c.copy_dims-dims.result c.in_ok-kept.kept.elems = can_cut c.row_laws.ensures c.args.table.now c.refresh.new.table c.args.id c.copy_dims-dims.result c.in_ok-kept.kept.elems f
+    (λ r. c.if-root-id.false (c.root.ensures ∙ ap (λ (x : Row). x.root) c.node.ensures ∙ r))
+    (c.copy_dims-dims.ensures ∙ ap (λ (t : Triple). t.dims) (c.behind-node.view_is ∙ c.triple.ensures ∙ ap (λ (r : Row). r.triple) c.node-2.ensures))
+    es in
+    was_cut c.row_laws.ensures laws c.args.table.now c.refresh.new.table c.cut.new.self c.args.id c.copy_dims-dims.result c.in_ok-kept.kept.elems c.requires.order c.requires.sized f can es c.cut.ensures
+
+pub returns-clause-ok : goal.returns-clause-ok
+returns-clause-ok g c =
+    let es : c.in_ok-kept.kept.elems ≡ elements (world_of c.refresh.new.table) c.args.id =
+    first_all c.row_laws.ensures c.refresh.new.table c.args.id c.elements_of-count.result c.copy_dims-dims.result c.in_ok-kept.kept.elems c.refresh.ensures.kept.order.still
+    (c.refresh.ensures.kept.alike.has_is c.args.id ∙ c.settle.ensures.settled.ready.alike.has_is c.args.id ∙ c.requires.live)
+    c.elements_of-count.ensures.count (c.copy_dims-dims.ensures ∙ ap (λ (t : Triple). t.dims) (c.behind-node.view_is ∙ c.triple.ensures ∙ ap (λ (r : Row). r.triple) c.node-2.ensures)) (ap (λ (k : TypedElements). k.elems) c.in_ok-kept.ensures.value) in
+    let laws : CutFacts = record { severs = c.cut_row_laws.ensures.severs; families = c.cut_row_laws.ensures.families; settled = c.cut_row_laws.ensures.settled; known = c.cut_row_laws.ensures.known; sized = c.cut_row_laws.ensures.sized } in
+    let f : IsFreshly c.args.table.now c.refresh.new.table c.args.id = freshly c.row_laws.ensures c.args.table.now c.settle.new.table c.refresh.new.table c.args.id c.requires.order c.requires.sized c.requires.live c.settle.ensures.settled c.refresh.ensures.kept
+    (c.row_laws.ensures.seen.path_first c.refresh.new.table c.args.id c.refresh.ensures.kept.order.still (c.refresh.ensures.kept.alike.has_is c.args.id ∙ c.settle.ensures.settled.ready.alike.has_is c.args.id ∙ c.requires.live) c.in_ok-refresh.ensures.fresh) in
+    let can : CanCut c.refresh.new.table c.args.id c.copy_dims-dims.result c.in_ok-kept.kept.elems = can_cut c.row_laws.ensures c.args.table.now c.refresh.new.table c.args.id c.copy_dims-dims.result c.in_ok-kept.kept.elems f
+    (λ r. c.if-root-id.false (c.root.ensures ∙ ap (λ (x : Row). x.root) c.node.ensures ∙ r))
+    (c.copy_dims-dims.ensures ∙ ap (λ (t : Triple). t.dims) (c.behind-node.view_is ∙ c.triple.ensures ∙ ap (λ (r : Row). r.triple) c.node-2.ensures))
+    es in
+    cut_world laws c.args.table.now c.refresh.new.table c.cut.new.self c.args.id c.copy_dims-dims.result c.in_ok-kept.kept.elems f can es c.cut.ensures
+
+pub returns-clause-counted : goal.returns-clause-counted
+returns-clause-counted g c =
+    all_steps c.args.table.now c.settle.new.table c.refresh.new.table c.args.id c.refresh.new.steps c.first_copied.new.steps c.args.steps.now c.settle.ensures.settled c.refresh.ensures.kept
+    (ready_steps c.row_laws.ensures c.args.table.now c.settle.new.table c.args.id c.settle.new.steps c.refresh.new.steps c.args.steps.now c.settle.ensures.settled c.settle.ensures.counted c.refresh.ensures.counted) (subst (λ n. c.first_copied.new.steps ≤ c.refresh.new.steps + n) (c.elements_of-count.ensures.count ∙ ap size_of (c.copy_dims-dims.ensures ∙ ap (λ (t : Triple). t.dims) (c.behind-node.view_is ∙ c.triple.ensures ∙ ap (λ (r : Row). r.triple) c.node-2.ensures))) c.first_copied.ensures.counted)
+
+pub returns-in_err-refresh-clause-stay : goal.returns-in_err-refresh-clause-stay
+returns-in_err-refresh-clause-stay g c = on_err c.from_residual.result _ (ready_fresh c.args.table.now c.refresh.new.table (ready_then c.row_laws.ensures c.args.table.now c.settle.new.table c.refresh.new.table c.settle.ensures.settled.ready c.refresh.ensures.kept))
+
+pub returns-in_err-kept-clause-stay : goal.returns-in_err-kept-clause-stay
+returns-in_err-kept-clause-stay g c = on_err c.from_residual-in_err-kept.result _ (ready_fresh c.args.table.now c.refresh.new.table (ready_then c.row_laws.ensures c.args.table.now c.settle.new.table c.refresh.new.table c.settle.ensures.settled.ready c.refresh.ensures.kept))
+
+pub returns-clause-fresh : goal.returns-clause-fresh
+returns-clause-fresh g c = λ n.
+    let f : IsFreshly c.args.table.now c.refresh.new.table c.args.id = freshly c.row_laws.ensures c.args.table.now c.settle.new.table c.refresh.new.table c.args.id c.requires.order c.requires.sized c.requires.live c.settle.ensures.settled c.refresh.ensures.kept
+    (c.row_laws.ensures.seen.path_first c.refresh.new.table c.args.id c.refresh.ensures.kept.order.still (c.refresh.ensures.kept.alike.has_is c.args.id ∙ c.settle.ensures.settled.ready.alike.has_is c.args.id ∙ c.requires.live) c.in_ok-refresh.ensures.fresh) in
+    cut_fresh c.row_laws.ensures c.args.table.now c.refresh.new.table c.cut.new.self c.args.id c.copy_dims-dims.result c.in_ok-kept.kept.elems f c.cut.ensures
+
+pub returns-in_err-refresh-clause-settled : goal.returns-in_err-refresh-clause-settled
+returns-in_err-refresh-clause-settled g c = λ n. settled_on c.args.table.now c.settle.new.table c.refresh.new.table c.args.id c.settle.ensures.settled c.refresh.ensures.kept
+
+pub returns-in_err-kept-clause-settled : goal.returns-in_err-kept-clause-settled
+returns-in_err-kept-clause-settled g c = λ n. settled_on c.args.table.now c.settle.new.table c.refresh.new.table c.args.id c.settle.ensures.settled c.refresh.ensures.kept
+
+pub returns-clause-settled : goal.returns-clause-settled
+returns-clause-settled g c = λ n.
+    let es : c.in_ok-kept.kept.elems ≡ elements (world_of c.refresh.new.table) c.args.id =
+    first_all c.row_laws.ensures c.refresh.new.table c.args.id c.elements_of-count.result c.copy_dims-dims.result c.in_ok-kept.kept.elems c.refresh.ensures.kept.order.still
+    (c.refresh.ensures.kept.alike.has_is c.args.id ∙ c.settle.ensures.settled.ready.alike.has_is c.args.id ∙ c.requires.live)
+    c.elements_of-count.ensures.count (c.copy_dims-dims.ensures ∙ ap (λ (t : Triple). t.dims) (c.behind-node.view_is ∙ c.triple.ensures ∙ ap (λ (r : Row). r.triple) c.node-2.ensures)) (ap (λ (k : TypedElements). k.elems) c.in_ok-kept.ensures.value) in
+    let laws : CutFacts = record { severs = c.cut_row_laws.ensures.severs; families = c.cut_row_laws.ensures.families; settled = c.cut_row_laws.ensures.settled; known = c.cut_row_laws.ensures.known; sized = c.cut_row_laws.ensures.sized } in
+    let f : IsFreshly c.args.table.now c.refresh.new.table c.args.id = freshly c.row_laws.ensures c.args.table.now c.settle.new.table c.refresh.new.table c.args.id c.requires.order c.requires.sized c.requires.live c.settle.ensures.settled c.refresh.ensures.kept
+    (c.row_laws.ensures.seen.path_first c.refresh.new.table c.args.id c.refresh.ensures.kept.order.still (c.refresh.ensures.kept.alike.has_is c.args.id ∙ c.settle.ensures.settled.ready.alike.has_is c.args.id ∙ c.requires.live) c.in_ok-refresh.ensures.fresh) in
+    let can : CanCut c.refresh.new.table c.args.id c.copy_dims-dims.result c.in_ok-kept.kept.elems = can_cut c.row_laws.ensures c.args.table.now c.refresh.new.table c.args.id c.copy_dims-dims.result c.in_ok-kept.kept.elems f n
+    (c.copy_dims-dims.ensures ∙ ap (λ (t : Triple). t.dims) (c.behind-node.view_is ∙ c.triple.ensures ∙ ap (λ (r : Row). r.triple) c.node-2.ensures))
+    es in
+    cut_settled laws c.args.table.now c.refresh.new.table c.cut.new.self c.args.id c.copy_dims-dims.result c.in_ok-kept.kept.elems f can c.cut.ensures
+
+pub returns-in_err-refresh-clause-root : goal.returns-in_err-refresh-clause-root
+returns-in_err-refresh-clause-root g c = λ r. absurd (c.if-root-id.false (c.root.ensures ∙ ap (λ (x : Row). x.root) c.node.ensures ∙ r))
+
+pub returns-in_err-refresh-clause-spent : goal.returns-in_err-refresh-clause-spent
+returns-in_err-refresh-clause-spent g c = λ r. absurd (c.if-root-id.false (c.root.ensures ∙ ap (λ (x : Row). x.root) c.node.ensures ∙ r))
+
+pub returns-in_err-kept-clause-root : goal.returns-in_err-kept-clause-root
+returns-in_err-kept-clause-root g c = λ r. absurd (c.if-root-id.false (c.root.ensures ∙ ap (λ (x : Row). x.root) c.node.ensures ∙ r))
+
+pub returns-in_err-kept-clause-spent : goal.returns-in_err-kept-clause-spent
+returns-in_err-kept-clause-spent g c = λ r. absurd (c.if-root-id.false (c.root.ensures ∙ ap (λ (x : Row). x.root) c.node.ensures ∙ r))
+
+pub returns-clause-root : goal.returns-clause-root
+returns-clause-root g c = λ r. absurd (c.if-root-id.false (c.root.ensures ∙ ap (λ (x : Row). x.root) c.node.ensures ∙ r))
+
+pub returns-clause-spent : goal.returns-clause-spent
+returns-clause-spent g c = λ r. absurd (c.if-root-id.false (c.root.ensures ∙ ap (λ (x : Row). x.root) c.node.ensures ∙ r))
+
+pub returns-then-root-id-clause-settled : goal.returns-then-root-id-clause-settled
+returns-then-root-id-clause-settled g c = λ n. absurd (n (ap (λ (r : Row). r.root) (sym c.node.ensures) ∙ sym c.root.ensures ∙ c.if-root-id.true))
+
+pub returns-clause-parent : goal.returns-clause-parent
+returns-clause-parent g c = λ n. subst (λ (o : Option ℕ). ListsParent c.first_copied.new.loose.items o) (c.refresh.ensures.kept.alike.parent_is c.args.id ∙ c.settle.ensures.settled.ready.alike.parent_is c.args.id) c.in_ok-kept.ensures.parent

@@ -1,0 +1,39 @@
+-- What one hold more or less changes, and which arrays are counted as held.
+use Rattle.std.specs.Prelude.{◌≡◌, ℕ, ◌+◌, ◌-◌, ◌<◌, ◌==◌, if◌then◌else◌, Bool, true, false, List}
+use Rattle.pdl_world.specs.Swept.{holds}
+use Rattle.pdl_nodes.specs.Staying.{staying}
+use Rattle.pdl_engine.specs.Held.{AreApart, count_at, one_more_at, one_less_at, held_among, holders}
+
+-- one hold more of v, which has holds, counts once more of v, and of no other
+abbrev pub OneMoreCounts : Type 0
+OneMoreCounts =
+    (hs : List (ℕ × ℕ)) (v u : ℕ) → holds (holders hs) v ≡ true
+    → count_at (one_more_at hs v) u ≡ count_at hs u + (if v == u then 1 else 0)
+
+-- one hold less of v counts once less of v, and of no other
+abbrev pub OneLessCounts : Type 0
+OneLessCounts =
+    (hs : List (ℕ × ℕ)) (v u : ℕ)
+    → count_at (one_less_at hs v) u ≡ count_at hs u - (if v == u then 1 else 0)
+
+-- what stays is counted as before, and nothing else is counted
+abbrev pub StayingCount : Type 0
+StayingCount =
+    (t : ℕ → Bool) (hs : List (ℕ × ℕ)) (u : ℕ)
+    → count_at (staying t hs) u ≡ (if t u then count_at hs u else 0)
+
+-- what is counted is held
+abbrev pub CountedAreHeld : Type 0
+CountedAreHeld =
+    (hs : List (ℕ × ℕ)) (u : ℕ) → 0 < count_at hs u → holds (held_among hs) u ≡ true
+
+-- what is held is counted, where no number stands twice
+abbrev pub HeldAreCounted : Type 0
+HeldAreCounted =
+    (hs : List (ℕ × ℕ)) (u : ℕ) → AreApart (holders hs) → holds (held_among hs) u ≡ true
+    → 0 < count_at hs u
+
+-- what has no holds isn't counted
+abbrev pub OthersDontCount : Type 0
+OthersDontCount =
+    (hs : List (ℕ × ℕ)) (u : ℕ) → holds (holders hs) u ≡ false → count_at hs u ≡ 0

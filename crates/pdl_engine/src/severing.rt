@@ -1,0 +1,183 @@
+//! Cutting arrays from their parents, and giving them other dimensions (PDL::Core, sever and
+//! reshape).
+ghost use Rattle.std.specs.Prelude.{◌≡◌, ◌≢◌, ℕ, ◌+◌, ◌-◌, ◌≤◌, ◌^◌, pos, true, false, length, replicate, All, IfOk, OnOk, OnErr, is_ok};
+ghost use Rattle.pdl_elem.specs.Types.{InRange};
+ghost use Rattle.pdl_shape.specs.Shape.{size_of};
+ghost use Rattle.pdl_world.specs.Cut.{fitted, has_views, reshape, sever};
+ghost use Rattle.pdl_world.specs.World.{elements};
+ghost use Rattle.pdl_nodes.specs.Alike.{is_fresh_in};
+ghost use Rattle.pdl_nodes.specs.Families.{InOrder};
+ghost use Rattle.pdl_nodes.specs.Known.{AreKnown};
+ghost use Rattle.pdl_nodes.specs.Outcomes.{waiting_of, waiting_size};
+ghost use Rattle.pdl_pull.specs.Outdated.{outdated};
+ghost use Rattle.pdl_nodes.specs.Row.{parent_of};
+ghost use Rattle.pdl_nodes.specs.Rows.{NumbersBelow, has, row_at};
+ghost use Rattle.pdl_nodes.specs.Sized.{AreSized};
+ghost use Rattle.pdl_nodes.specs.Worlds.{shape, world_of};
+ghost use Rattle.pdl_engine.specs.Loose.{IsListed, ListsParent};
+ghost use Rattle.pdl_engine.specs.Severed.{ChangesRows, RowsAreSettled, RowsStayFresh};
+
+use pdl_buf::{Buf, Steps, Strided, buf_of, strided, strided_dims, strided_read};
+use pdl_nodes::{Table, cut_row_laws, reshape_row_laws, row_laws};
+use pdl_pull::refresh;
+use pdl_push::settle;
+use pdl_shape::{Dims, copy_dims, dims_list, elements_of, shape_laws};
+use std::alloc::{AllocError, Global};
+use std::sync::ledger::Ledger;
+
+/// Reads the first elements that are shown over zeros, as many as there are places.
+fn read_first(window: &Strided<'_>, into: &mut [i64])
+    requires { into.old ≡ replicate (length into.old) (pos 0) }
+    ensures value { into.new ≡ fitted (length into.old) window.now.elems }
+    ensures in_range { All (InRange window.now.ty) into.new }
+{
+    let shown = elements_of(strided_dims(window)) as usize;
+    if shown < into.len() {
+        strided_read(window, 0, &mut into[..shown]);
+    } else {
+        strided_read(window, 0, into);
+    }
+}
+
+/// The first elements that are shown, with zeros after them where there are fewer than `count`.
+fn first_shown(alloc: Global, window: &Strided<'_>, count: u32) -> Result<Vec<i64>, AllocError>
+    ensures items { IfOk result (λ ns. ns.items ≡ fitted count window.now.elems) }
+    ensures in_range { IfOk result (λ ns. All (InRange window.now.ty) ns.items) }
+{
+    let mut numbers = vec![in alloc; 0; count as usize]?;
+    read_first(window, &mut numbers);
+    Ok(numbers)
+}
+
+/// Lists the parent of an array, if it has one: it may be loose once the array is cut from it.
+fn list_parent(table: &Table, loose: &mut Vec<u64>, id: u64) -> Result<(), AllocError>
+    requires live { has table.now id ≡ true }
+    ensures listed { IsListed loose.old.items loose.new.items (parent_of (row_at table.now id)) }
+    ensures parent { OnOk result (ListsParent loose.new.items (parent_of (row_at table.now id))) }
+{
+    match table.node(id).parent() {
+        Some(parent) => {
+            loose.push(parent)?;
+            Ok(())
+        }
+        None => Ok(()),
+    }
+}
+
+/// A buffer of the first elements of a fresh array, with zeros after them where there are fewer
+/// than `count`. It takes a step for each that isn't 0. The parent is listed before.
+fn first_copied<L: Ledger>(
+    table: &Table,
+    loose: &mut Vec<u64>,
+    alloc: Global,
+    id: u64,
+    count: u32,
+    steps: &mut Steps<L>,
+) -> Result<Buf, AllocError>
+    requires order { InOrder table.now }
+    requires live { has table.now id ≡ true }
+    requires fresh { is_fresh_in table.now id ≡ true }
+    ensures value { IfOk result (λ b. b ≡ record {
+      ty = (row_at table.now id).ty;
+      elems = fitted count (elements (world_of table.now) id);
+    }) }
+    ensures counted { steps.new ≤ steps.old + count }
+    ensures listed { IsListed loose.old.items loose.new.items (parent_of (row_at table.now id)) }
+    ensures parent { OnOk result (ListsParent loose.new.items (parent_of (row_at table.now id))) }
+{
+    row_laws();
+    shape_laws();
+    list_parent(table, loose, id)?;
+    let node = table.node(id);
+    let base = table.node(node.base());
+    let elements = first_shown(alloc, &strided(base.kept(), node.triple()), count)?;
+    buf_of(alloc, node.ty(), &elements, steps)
+}
+
+/// Cuts an array from its parent, which is listed: it becomes a root with its elements, and its own
+/// views stay with it. On a root it does nothing. Want of memory leaves the world as it was, and
+/// what could be lent. It takes the steps that make the array fresh, and one for each of its
+/// elements that isn't 0.
+pub fn sever<L: Ledger>(
+    table: &mut Table,
+    loose: &mut Vec<u64>,
+    alloc: Global,
+    id: u64,
+    steps: &mut Steps<L>,
+) -> Result<(), AllocError>
+    requires order { InOrder table.old }
+    requires known { AreKnown table.old }
+    requires sized { AreSized table.old }
+    requires live { has table.old id ≡ true }
+    requires small { NumbersBelow (2 ^ 64 - 1) table.old }
+    ensures root { (row_at table.old id).root ≡ id → table.new ≡ table.old }
+    ensures spent { (row_at table.old id).root ≡ id → steps.new ≡ steps.old }
+    ensures done { (row_at table.old id).root ≡ id → is_ok result ≡ true }
+    ensures severed { ChangesRows table.old id table.new }
+    ensures settled { (row_at table.old id).root ≢ id → RowsAreSettled table.old id table.new }
+    ensures ok { OnOk result (world_of table.new ≡ sever (world_of table.old) id) }
+    ensures err { OnErr result (world_of table.new ≡ world_of table.old) }
+    ensures stay { OnErr result (RowsStayFresh table.old table.new) }
+    ensures fresh { OnOk result
+        ((row_at table.old id).root ≢ id → is_fresh_in table.new id ≡ true) }
+    ensures counted { steps.new ≤ steps.old
+        + (outdated table.old id + waiting_size table.old (waiting_of table.old id)
+        + size_of (row_at table.old id).triple.dims) }
+    ensures listed { IsListed loose.old.items loose.new.items (parent_of (row_at table.old id)) }
+    ensures parent { OnOk result ((row_at table.old id).root ≢ id
+        → ListsParent loose.new.items (parent_of (row_at table.old id))) }
+{
+    row_laws();
+    cut_row_laws();
+    if table.node(id).root() == id {
+        return Ok(());
+    }
+    settle(table, id, steps);
+    refresh(table, alloc, id, steps)?;
+    let dims = copy_dims(&table.node(id).triple().dims);
+    let count = elements_of(&dims);
+    let kept = first_copied(table, loose, alloc, id, count, steps)?;
+    table.cut(alloc, id, &dims, kept);
+    Ok(())
+}
+
+/// Gives an array that has no views other dimensions: it becomes a root with its first elements, in
+/// order, and zeros after them where there are fewer. Its parent is listed. Want of memory leaves
+/// the world as it was, and what could be lent. It takes the steps that make the array fresh, and
+/// one for each of its new elements that isn't 0.
+pub fn reshape<L: Ledger>(
+    table: &mut Table,
+    loose: &mut Vec<u64>,
+    alloc: Global,
+    id: u64,
+    dims: &Dims,
+    steps: &mut Steps<L>,
+) -> Result<(), AllocError>
+    requires order { InOrder table.old }
+    requires known { AreKnown table.old }
+    requires sized { AreSized table.old }
+    requires live { has table.old id ≡ true }
+    requires viewless { has_views (shape table.old) id ≡ false }
+    ensures reshaped { ChangesRows table.old id table.new }
+    ensures settled { RowsAreSettled table.old id table.new }
+    ensures ok { OnOk result (world_of table.new ≡ reshape (world_of table.old) id dims.now) }
+    ensures err { OnErr result (world_of table.new ≡ world_of table.old) }
+    ensures stay { OnErr result (RowsStayFresh table.old table.new) }
+    ensures fresh { OnOk result (is_fresh_in table.new id ≡ true) }
+    ensures counted { steps.new ≤ steps.old
+        + (outdated table.old id + waiting_size table.old (waiting_of table.old id)
+        + size_of dims.now) }
+    ensures listed { IsListed loose.old.items loose.new.items (parent_of (row_at table.old id)) }
+    ensures parent { OnOk result (ListsParent loose.new.items (parent_of (row_at table.old id))) }
+{
+    row_laws();
+    reshape_row_laws();
+    // the limits of dimensions are known where they are listed
+    let _limits = dims_list(dims);
+    let count = elements_of(dims);
+    settle(table, id, steps);
+    refresh(table, alloc, id, steps)?;
+    let kept = first_copied(table, loose, alloc, id, count, steps)?;
+    table.become_root(alloc, id, dims, kept);
+    Ok(())
+}

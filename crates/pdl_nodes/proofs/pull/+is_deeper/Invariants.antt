@@ -1,4 +1,0 @@
-use Rattle.pdl_nodes.proofs.pull.+is_deeper.Given as goal
-
-abbrev pub decreases-is_deeper : goal.decreases-is_deeper
-decreases-is_deeper l = l.count

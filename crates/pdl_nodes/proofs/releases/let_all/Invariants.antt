@@ -1,6 +1,0 @@
-use Rattle.std.proofs.Common.{drop}
-use Rattle.pdl_nodes.proofs.Letting.{IsLetting}
-use Rattle.pdl_nodes.proofs.releases.let_all.Given as goal
-
-abbrev pub invariant-loop-start : goal.invariant-loop-start
-invariant-loop-start l = IsLetting l.table l.fn.holds l.holds (drop l.start-index l.loose) l.id

@@ -1,0 +1,52 @@
+-- Places that are gathered, one after the other.
+use Rattle.std.proofs.Common.{◌≡◌, ℕ, suc, zero, ◌+◌, ◌<◌, ◌≤◌, Bool, true, false, cond, List, [], ◌∷◌, ◌++◌, length, map, get_or, drop, Option, Some, None, option_and_then, refl, sym, ◌∙◌, ap, arith, add-one, drop-cons}
+use Rattle.std.specs.List.{range_with_len}
+use Rattle.std.proofs.lemmas.List.{get_or_past}
+use Rattle.std.proofs.lemmas.List.FromFn.{length-map-range_with_len, get_or-map-range_with_len, map-range_with_len_more}
+use Rattle.std.proofs.lemmas.Simd.{map-map}
+use Rattle.pdl_shape.specs.Shape.{size_of}
+use Rattle.pdl_shape.specs.Triple.{Triple}
+use Rattle.pdl_buf.specs.Window.{place_at}
+use Rattle.pdl_nodes.specs.Assigned.{entry}
+use Rattle.pdl_nodes.specs.Families.{is_among, has_repeats}
+use Rattle.pdl_nodes.specs.Placed.{placed, placed_by}
+
+among_repeats : (b x : Bool) → x ≡ true → cond b true x ≡ true
+among_repeats true x h = refl
+among_repeats false x h = h
+
+repeats_drop : (ps : List (Option ℕ)) (i : ℕ) → has_repeats (drop i ps) ≡ true → has_repeats ps ≡ true
+repeats_drop ps zero h = h
+repeats_drop [] (suc i) h = h
+repeats_drop (None ∷ ps) (suc i) h = repeats_drop ps i h
+repeats_drop (Some q ∷ ps) (suc i) h = among_repeats (is_among q ps) (has_repeats ps) (repeats_drop ps i h)
+
+-- a place that comes again later
+pub twice_here : (ps : List (Option ℕ)) (i j at : ℕ) → j ≡ i + 1 → i < length ps → get_or ps i None ≡ Some at → is_among at (drop j ps) ≡ true → true ≡ has_repeats ps
+twice_here ps i j at e h g a =
+    let d : drop i ps ≡ Some at ∷ drop (suc i) ps = drop-cons ps i None h ∙ ap (λ o. o ∷ drop (suc i) ps) g in
+    let b : is_among at (drop (suc i) ps) ≡ true = ap (λ k. is_among at (drop k ps)) (sym (e ∙ add-one i)) ∙ a in
+    let r : has_repeats (Some at ∷ drop (suc i) ps) ≡ true = rw b refl in
+    sym (repeats_drop ps i (ap has_repeats d ∙ r))
+
+-- what a triple shows over known places: how many places, and which
+length_placed : (known : Option (List (Option ℕ))) (t : Triple) → length (placed_by known t) ≡ size_of t.dims
+length_placed known t = ap (λ (xs : List (Option ℕ)). length xs) (map-map (placed known) (place_at t) (range_with_len 0 (size_of t.dims))) ∙ length-map-range_with_len (λ p. placed known (place_at t p)) 0 (size_of t.dims)
+
+placed_entry : (known : Option (List (Option ℕ))) (t : Triple) (i : ℕ) → i < size_of t.dims → get_or (placed_by known t) i None ≡ placed known (place_at t i)
+placed_entry known t i h =
+    ap (λ (xs : List (Option ℕ)). get_or xs i None) (map-map (placed known) (place_at t) (range_with_len 0 (size_of t.dims)))
+    ∙ get_or-map-range_with_len (λ p. placed known (place_at t p)) 0 (size_of t.dims) i i None h (omega arith)
+
+-- the place that is seen through a position
+pub through_is : (known : Option (List (Option ℕ))) (t : Triple) (o r : Option ℕ) (at q : ℕ) → o ≡ Some at → at < size_of t.dims → q ≡ place_at t at → r ≡ placed known q → r ≡ option_and_then (entry (placed_by known t)) o
+through_is known t o r at q e h s p =
+    p ∙ ap (placed known) s ∙ sym (placed_entry known t at h) ∙ ap (option_and_then (entry (placed_by known t))) (sym e)
+
+pub through_past : (known : Option (List (Option ℕ))) (t : Triple) (o : Option ℕ) (at : ℕ) → o ≡ Some at → size_of t.dims ≤ at → None ≡ option_and_then (entry (placed_by known t)) o
+through_past known t o at e h =
+    sym (get_or_past (placed_by known t) at None (omega (arith, length_placed known t))) ∙ ap (option_and_then (entry (placed_by known t))) (sym e)
+
+pub through_more : (f : ℕ → Option ℕ) (ps new : List (Option ℕ)) (i : ℕ) (q : Option ℕ) → ps ≡ map f (range_with_len 0 i) → new ≡ ps ++ q ∷ [] → q ≡ f i → new ≡ map f (range_with_len 0 (i + 1))
+through_more f ps new i q h e d =
+    e ∙ ap (λ l. l ++ q ∷ []) h ∙ ap (λ y. map f (range_with_len 0 i) ++ y ∷ []) d ∙ sym (map-range_with_len_more f 0 i i (omega arith))

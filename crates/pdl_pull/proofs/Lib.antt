@@ -1,0 +1,5 @@
+mod Gathered
+mod Found
+mod Paths
+mod Untouched
+mod Fills

@@ -1,0 +1,86 @@
+//! Places that are gathered for a view.
+ghost use Rattle.std.specs.List.{range_with_len};
+ghost use Rattle.std.specs.Prelude.{◌≡◌, ℕ, ◌+◌, ◌<◌, ◌≤◌, true, length, map, option_and_then, All, IfOk};
+ghost use Rattle.pdl_shape.specs.Places.{AllBelow};
+ghost use Rattle.pdl_shape.specs.Shape.{size_of};
+ghost use Rattle.pdl_nodes.specs.Assigned.{entry};
+ghost use Rattle.pdl_nodes.specs.Families.{has_repeats};
+ghost use Rattle.pdl_nodes.specs.Placed.{placed_by};
+ghost use Rattle.pdl_pull.specs.Gathered.{own_at};
+
+use pdl_buf::{NoMemory, Placement};
+use pdl_choice::Places;
+use pdl_nodes::{Layout, entry, placed};
+use pdl_shape::Triple;
+use std::alloc::Global;
+
+/// Whether two positions have the same place, in one pass from the last position on.
+pub fn has_twice(alloc: Global, places: &[Option<u32>], count: u32) -> Result<bool, NoMemory>
+    requires { AllBelow count places.now }
+    ensures { IfOk result (λ f. f ≡ has_repeats places.now) }
+{
+    let mut seen = vec![in alloc; false; count as usize]?;
+    let mut position = places.len();
+    while position > 0 {
+        position -= 1;
+        match places[position] {
+            Some(at) => {
+                if seen[at as usize] {
+                    return Ok(true);
+                }
+                seen[at as usize] = true;
+            }
+            None => {}
+        }
+    }
+    Ok(false)
+}
+
+/// The parent's position at a position of a view that is its own base.
+fn own_at(layout: &Layout, position: u32) -> Option<u32>
+    ensures { result ≡ own_at layout.now position }
+{
+    match layout {
+        Layout::Plan(_) => Some(position),
+        Layout::Choice(choice) => entry(choice.places.as_slice(), position),
+    }
+}
+
+/// The root's place at a position of an array that a triple shows over a base.
+fn place_through(
+    known: &Option<Places>,
+    shown: &Placement,
+    size: u32,
+    position: Option<u32>,
+) -> Option<u32>
+    requires { size ≡ size_of shown.now.dims }
+    ensures { result ≡ option_and_then (entry (placed_by known.now shown.now)) position }
+{
+    match position {
+        Some(at) if at < size => placed(known, shown.place(at)),
+        _ => None,
+    }
+}
+
+/// The root's places of a view over an array that a triple shows over a base.
+pub fn places_through(
+    alloc: Global,
+    layout: &Layout,
+    count: u32,
+    known: &Option<Places>,
+    triple: &Triple,
+    size: u32,
+) -> Result<Vec<Option<u32>>, NoMemory>
+    requires { size ≡ size_of triple.now.dims }
+    ensures { IfOk result (λ v. v.items ≡ map (λ p.
+        option_and_then (entry (placed_by known.now triple.now)) (own_at layout.now p))
+        (range_with_len 0 count)) }
+{
+    let shown = Placement::of(triple);
+    let mut places = Vec::with_capacity(alloc, count as usize)?;
+    for position in 0..count {
+        let own = own_at(layout, position);
+        places.push(place_through(known, &shown, size, own))?;
+    }
+    Ok(places)
+}

@@ -1,0 +1,9 @@
+//! Making arrays fresh: each view on an array's path that is outdated is filled with its
+//! elements of the root, from the root on (PDL::Dataflow).
+#![tactic(auto)]
+
+mod filling;
+mod gathering;
+mod refreshing;
+
+pub use refreshing::{is_fresh, refresh};

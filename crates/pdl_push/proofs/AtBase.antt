@@ -1,0 +1,146 @@
+-- Values that wait in a base: rows stay in order, and mean the world that is assigned.
+use Rattle.std.proofs.Common.{◌≡◌, ℕ, ℤ, true, false, eqb, cond, List, length, map, Option, Some, None, inl, inr, refl, sym, ◌∙◌, ap, subst}
+use Rattle.std.proofs.lemmas.Bool.{eq-eqb, ne_eqb}
+use Rattle.std.proofs.lemmas.Bool.Decides.{eqb_tells}
+use Rattle.std.proofs.lemmas.List.{length-map}
+use Rattle.pdl_shape.specs.Places.{AllBelow, read, write, element_at}
+use Rattle.pdl_shape.specs.Shape.{size_of}
+use Rattle.pdl_world.specs.World.{assign}
+use Rattle.pdl_nodes.specs.Assigned.{entry, put_all}
+use Rattle.pdl_nodes.specs.Families.{has_repeats, IsMarked, IsWaiting, InFamily, InOrder}
+use Rattle.pdl_nodes.specs.Quiet.{IsQuiet, IsWithin}
+use Rattle.pdl_nodes.specs.RowLaws.{RowLaws}
+use Rattle.pdl_nodes.specs.Rows.{Rows, row_at, has, each}
+use Rattle.pdl_nodes.specs.Seen.{IsSeen}
+use Rattle.pdl_nodes.specs.Spots.{spots, Below}
+use Rattle.pdl_nodes.specs.Worlds.{places_of, latest, world_of, IsRoot}
+use Rattle.pdl_push.specs.Late.{await, put_through, IsThrough}
+use Rattle.pdl_push.proofs.Puts.{write_read, write_all, read_all}
+
+pub await_quiet : (rt b : ℕ) (ks : List ℤ) → IsQuiet (await rt b ks)
+await_quiet rt b ks = record { origin = λ k r. refl; ty = λ k r. refl; root = λ k r. refl; base = λ k r. refl; triple = λ k r. refl }
+
+await_within : (rs : Rows) (rt b : ℕ) (ks : List ℤ) → (row_at rs rt).root ≡ rt → (row_at rs b).root ≡ rt → IsWithin rt (await rt b ks) rs
+await_within rs rt b ks h g = record {
+  outside = λ k n. rw (ne_eqb (row_at rs k).root rt n, ne_eqb k rt (λ e. n (ap (λ x. (row_at rs x).root) e ∙ h)), ne_eqb k b (λ e. n (ap (λ x. (row_at rs x).root) e ∙ g))) refl;
+}
+
+-- what a marked base keeps, written into the root, gives its latest elements
+writes_from : (facts : RowLaws) → (rs : Rows) (rt b : ℕ) (o : Option ℕ) → (row_at rs rt).waiting ≡ o → InFamily rs rt → (row_at rs b).mark ≡ true → (row_at rs b).root ≡ rt → write (places_of rs b) (row_at rs b).kept (row_at rs rt).kept ≡ latest rs rt
+writes_from facts rs rt b None e m h g =
+    let k : (row_at rs b).kept ≡ read (places_of rs b) (row_at rs rt).kept = (m.marked b h g).shows ∙ ap (λ r. read (places_of rs b) (latest rs r)) g ∙ ap (read (places_of rs b)) (facts.seen.latest_none rs rt e) in
+    ap (λ x. write (places_of rs b) x (row_at rs rt).kept) k ∙ write_read (places_of rs b) (row_at rs rt).kept ∙ sym (facts.seen.latest_none rs rt e)
+writes_from facts rs rt b (Some v) e m h g =
+    let n : b ≡ v = (m.waits v e).only b h g in
+    ap (λ x. write (places_of rs x) (row_at rs x).kept (row_at rs rt).kept) n ∙ sym (facts.seen.latest_some rs rt v e)
+
+kept_writes : (facts : RowLaws) → (rs : Rows) (rt b : ℕ) → InFamily rs rt → (row_at rs b).mark ≡ true → (row_at rs b).root ≡ rt → write (places_of rs b) (row_at rs b).kept (row_at rs rt).kept ≡ latest rs rt
+kept_writes facts rs rt b m h g = writes_from facts rs rt b (row_at rs rt).waiting refl m h g
+
+-- what is so of the marked base b of v, in the family of rt
+record BaseFacts (rs : Rows) (rt b v : ℕ) : Type 0 where
+  pub live : has rs b ≡ true
+  pub root_is : (row_at rs b).root ≡ rt
+  pub is_marked : IsMarked rs b
+  pub shows : (row_at rs b).kept ≡ read (places_of rs b) (latest rs rt)
+  pub count : length (row_at rs b).kept ≡ length (places_of rs b)
+  pub over : places_of rs v ≡ map (entry (places_of rs b)) (spots (row_at rs v).triple)
+  pub below : Below (length (places_of rs b)) (spots (row_at rs v).triple)
+  pub within : AllBelow (length (latest rs rt)) (places_of rs b)
+
+base_facts : (facts : RowLaws) → (rs : Rows) (rt b v : ℕ) → InOrder rs → IsRoot rs rt → has rs v ≡ true → (row_at rs v).base ≡ b → (row_at rs v).root ≡ rt → (row_at rs b).mark ≡ true → BaseFacts rs rt b v
+base_facts facts rs rt b v o i l eb er m =
+    let s : IsSeen rs v = facts.seen.is_seen rs o.still v l in
+    let lb : has rs b ≡ true = facts.numbers.marked_live rs b m in
+    let sb : IsSeen rs b = facts.seen.is_seen rs o.still b lb in
+    let rb : (row_at rs b).root ≡ rt = ap (λ x. (row_at rs x).root) (sym eb) ∙ s.base_root ∙ er in
+    let a : IsMarked rs b = (o.family rt i).marked b m rb in
+    let shows : (row_at rs b).kept ≡ read (places_of rs b) (latest rs rt) = a.shows ∙ ap (λ r. read (places_of rs b) (latest rs r)) rb in
+    record {
+      live = lb;
+      root_is = rb;
+      is_marked = a;
+      shows = shows;
+      count = ap length shows ∙ length-map (places_of rs b) (element_at (latest rs rt));
+      over = s.over ∙ ap (λ x. map (entry (places_of rs x)) (spots (row_at rs v).triple)) eb;
+      below = rw sb.count (let P : ℕ → Type 0 = λ x. Below (size_of (row_at rs x).triple.dims) (spots (row_at rs v).triple) in subst P eb s.fits);
+      within = (let P : ℕ → Type 0 = λ n. AllBelow n (places_of rs b) in subst P (ap (λ x. size_of (row_at rs x).triple.dims) rb ∙ sym (facts.seen.length_latest rs rt ∙ (o.family rt i).count)) sb.within);
+    }
+
+-- the latest elements are those with the values written at the places of v
+awaits_latest : (facts : RowLaws) → (rs : Rows) (rt b v : ℕ) (vs : List ℤ) → IsThrough rs rt b v → BaseFacts rs rt b v → (b ≡ rt → ⊥) → latest (each (await rt b (put_through rs v vs)) rs) rt ≡ write (places_of rs v) vs (latest rs rt)
+awaits_latest facts rs rt b v vs t f n =
+    let ks : List ℤ = put_through rs v vs in
+    let ns : Rows = each (await rt b ks) rs in
+    let row : row_at ns rt ≡ await rt b ks rt (row_at rs rt) = facts.numbers.each_at (await rt b ks) rs rt t.root.0 in
+    let base : row_at ns b ≡ await rt b ks b (row_at rs b) = facts.numbers.each_at (await rt b ks) rs b f.live in
+    let kb : (row_at ns b).kept ≡ ks = ap (λ r. r.kept) base ∙ rw (eq-eqb b b refl) refl in
+    let kr : (row_at ns rt).kept ≡ (row_at rs rt).kept = ap (λ r. r.kept) row ∙ rw (ne_eqb rt b (λ e. n (sym e))) refl in
+    facts.seen.latest_some ns rt b (ap (λ r. r.waiting) row ∙ rw (eq-eqb rt rt refl) refl)
+    ∙ ap (λ p. write p (row_at ns b).kept (row_at ns rt).kept) (facts.quiet.places_each (await rt b ks) rs b (await_quiet rt b ks))
+    ∙ ap (λ x. write (places_of rs b) x (row_at ns rt).kept) kb
+    ∙ ap (write (places_of rs b) ks) kr
+    ∙ ap (λ x. write (places_of rs b) (put_all (places_of rs x) (spots (row_at rs v).triple) vs (row_at rs x).kept) (row_at rs rt).kept) t.base_is
+    ∙ write_all (places_of rs b) (spots (row_at rs v).triple) vs (row_at rs b).kept (row_at rs rt).kept t.once f.count f.below
+    ∙ ap (λ x. write x vs (write (places_of rs b) (row_at rs b).kept (row_at rs rt).kept)) (sym f.over)
+    ∙ ap (write (places_of rs v) vs) (kept_writes facts rs rt b (t.order.family rt t.root) t.marked f.root_is)
+
+-- the base keeps what it shows of them
+put_shows : (rs : Rows) (rt b v : ℕ) (vs : List ℤ) → IsThrough rs rt b v → BaseFacts rs rt b v → put_through rs v vs ≡ read (places_of rs b) (write (places_of rs v) vs (latest rs rt))
+put_shows rs rt b v vs t f =
+    ap (λ x. put_all (places_of rs x) (spots (row_at rs v).triple) vs (row_at rs x).kept) t.base_is
+    ∙ read_all (places_of rs b) (spots (row_at rs v).triple) vs (row_at rs b).kept (latest rs rt) t.once f.within f.below f.shows
+    ∙ ap (λ x. read (places_of rs b) (write x vs (latest rs rt))) (sym f.over)
+
+-- the family is in order
+awaits_family : (facts : RowLaws) → (rs : Rows) (rt b v : ℕ) (vs : List ℤ) → IsThrough rs rt b v → BaseFacts rs rt b v → (b ≡ rt → ⊥) → InFamily (each (await rt b (put_through rs v vs)) rs) rt
+awaits_family facts rs rt b v vs t f n =
+    let ks : List ℤ = put_through rs v vs in
+    let ns : Rows = each (await rt b ks) rs in
+    let q : IsQuiet (await rt b ks) = await_quiet rt b ks in
+    let row : row_at ns rt ≡ await rt b ks rt (row_at rs rt) = facts.numbers.each_at (await rt b ks) rs rt t.root.0 in
+    let base : row_at ns b ≡ await rt b ks b (row_at rs b) = facts.numbers.each_at (await rt b ks) rs b f.live in
+    let kb : (row_at ns b).kept ≡ ks = ap (λ r. r.kept) base ∙ rw (eq-eqb b b refl) refl in
+    let rb : (row_at ns b).root ≡ rt = facts.quiet.root_each (await rt b ks) rs b q ∙ f.root_is in
+    let mb : (row_at ns b).mark ≡ true = ap (λ r. r.mark) base ∙ rw (eq-eqb (row_at rs b).root rt f.root_is, eq-eqb b b refl) refl in
+    let wait : (row_at ns rt).waiting ≡ Some b = ap (λ r. r.waiting) row ∙ rw (eq-eqb rt rt refl) refl in
+    let only : (x : ℕ) → (row_at ns x).mark ≡ true → (row_at ns x).root ≡ rt → x ≡ b = λ x h g. (
+    let lx : has rs x ≡ true = sym (facts.numbers.each_has (await rt b ks) rs x) ∙ facts.numbers.marked_live ns x h in
+    let rx : (row_at rs x).root ≡ rt = sym (facts.quiet.root_each (await rt b ks) rs x q) ∙ g in
+    let h2 : cond (eqb (row_at rs x).root rt) (cond (eqb x b) true (cond false (eqb x rt) false)) (row_at rs x).mark ≡ true = sym (ap (λ r. r.mark) (facts.numbers.each_at (await rt b ks) rs x lx)) ∙ h in
+    let h3 : cond (eqb x b) true false ≡ true = rw (eq-eqb (row_at rs x).root rt rx) at h2 in
+    elim (eqb_tells x b) [ inl y ↦ y.1 | inr y ↦ (let c : cond false true false ≡ true = rw y.0 at h3 in absurd (cc)) ]) in
+    record {
+      marked = λ x h g. (let e : x ≡ b = only x h g in
+          let a : IsMarked ns b = record {
+            own = ap (λ r. r.base) base ∙ f.is_marked.own;
+            shows = kb ∙ put_shows rs rt b v vs t f ∙ ap (read (places_of rs b)) (sym (awaits_latest facts rs rt b v vs t f n)) ∙ ap (λ r. read (places_of rs b) (latest ns r)) (sym rb) ∙ ap (λ p. read p (latest ns (row_at ns b).root)) (sym (facts.quiet.places_each (await rt b ks) rs b q));
+            flag = ap (λ r. r.repeats) base ∙ f.is_marked.flag ∙ ap has_repeats (sym (facts.quiet.places_each (await rt b ks) rs b q));
+          } in
+          let P : ℕ → Type 0 = λ y. IsMarked ns y in subst P (sym e) a);
+      waits = λ x h. (let e : Some b ≡ Some x = sym wait ∙ h in
+          let d : b ≡ x = cc in
+          let a : IsWaiting ns rt b = record {
+            live = facts.numbers.each_has (await rt b ks) rs b ∙ f.live;
+            marked = mb;
+            of_root = rb;
+            not_root = n;
+            once = ap has_repeats (facts.quiet.places_each (await rt b ks) rs b q) ∙ t.once;
+            only = only;
+          } in
+          let P : ℕ → Type 0 = λ y. IsWaiting ns rt y in subst P d a);
+      lasts = λ h. (let c : Some b ≡ None = sym wait ∙ h in absurd (cc));
+      count = ap (λ r. length r.kept) row ∙ rw (ne_eqb rt b (λ e. n (sym e))) ((t.order.family rt t.root).count ∙ sym (ap (λ r. size_of r.triple.dims) row));
+      flat = ap (λ r. r.repeats) row ∙ (t.order.family rt t.root).flat ∙ sym (ap has_repeats (facts.quiet.places_each (await rt b ks) rs rt q));
+    }
+
+-- so all rows are, and values that were assigned to v wait in its base
+pub awaited : (facts : RowLaws) → (rs : Rows) (rt b v : ℕ) (vs : List ℤ) → IsThrough rs rt b v → (b ≡ rt → ⊥) → InOrder (each (await rt b (put_through rs v vs)) rs)
+awaited facts rs rt b v vs t n =
+    let f : BaseFacts rs rt b v = base_facts facts rs rt b v t.order t.root t.live t.base_is t.root_is t.marked in
+    facts.quiet.order_each rt (await rt b (put_through rs v vs)) rs (await_quiet rt b (put_through rs v vs)) (await_within rs rt b (put_through rs v vs) t.root.1 f.root_is) t.order (awaits_family facts rs rt b v vs t f n)
+
+pub world_awaited : (facts : RowLaws) → (rs : Rows) (rt b v : ℕ) (vs : List ℤ) → IsThrough rs rt b v → (b ≡ rt → ⊥) → world_of (each (await rt b (put_through rs v vs)) rs) ≡ assign (world_of rs) v vs
+world_awaited facts rs rt b v vs t n =
+    let f : BaseFacts rs rt b v = base_facts facts rs rt b v t.order t.root t.live t.base_is t.root_is t.marked in
+    facts.quiet.world_assigned rt (await rt b (put_through rs v vs)) rs v vs (await_quiet rt b (put_through rs v vs)) (await_within rs rt b (put_through rs v vs) t.root.1 f.root_is) t.order t.live t.root_is (awaits_latest facts rs rt b v vs t f n)

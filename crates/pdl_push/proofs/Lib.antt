@@ -1,0 +1,10 @@
+mod Puts
+mod Known
+mod RowsAfter
+mod AtRoot
+mod AtBase
+mod Assigned
+mod Targets
+mod Routes
+mod Goings
+mod SettledAll

@@ -1,0 +1,9 @@
+//! Late write-back: values that are assigned to an array wait in its base. They are put into the
+//! root once an array of the family is read, or the base goes (PDL::Dataflow).
+#![tactic(auto)]
+
+mod assigning;
+mod settling;
+
+pub use assigning::assign;
+pub use settling::{settle, settle_all, write_back};
