@@ -78,6 +78,9 @@ last_count hs gs id v e h o = elim (eqb_tells v id) [
   | inr y ↦ rw y.0 (ap count_in (o v y.1))
 ]
 
+none_more : (s n : ℕ) → n ≡ 0 → s ≡ s + n
+none_more s n e = omega (arith, e)
+
 -- what was let go, and at how many steps
 pub record IsDone (rs : Rows) (hs : Counts) (id s : ℕ) (new : Rows) (gs : Counts) (n : ℕ) : Type 0 where
   pub gone : IsLetGo rs (count_after id hs) new gs
@@ -90,7 +93,7 @@ done_kept facts rs hs gs id s o a b0 t0 h u f =
     let t : AreTight [] rs gs = tight_one rs gs id (starts_tight rs hs gs [] id u (none_loose rs hs t0)) f in
     record {
       gone = let_go_as rs (count gs) (count_after id hs) rs gs (λ v. count_taken hs gs id v h u) (kept_let_go facts rs gs id o a b t);
-      counted = facts.leaving.no_steps (stands gs) rs s (waiting_stands rs gs o b)
+      counted = none_more s (going_sum rs (stands gs) rs) (facts.leaving.nothing_goes (stands gs) rs (waiting_stands rs gs o b))
           ∙ ap (λ n. s + n) (going_sums rs (stands gs) (reached rs (after_release id hs)) o (λ v l. facts.leaving.kept_tells rs gs v o b t l ∙ taken rs hs gs id v h u));
     }
 
@@ -109,7 +112,7 @@ done_root facts rs new hs gs id s o a f e r n =
     let p : parent_of (row_at rs id) ≡ None = is_root (parent_of (row_at rs id)) r in
     record {
       gone = let_go_as rs (count gs) (count_after id hs) new gs e (root_let_go facts rs new gs id o a f p n);
-      counted = facts.leaving.no_steps (stands gs) rs s (facts.leaving.root_waits rs gs id o f.live p f.beside)
+      counted = none_more s (going_sum rs (stands gs) rs) (facts.leaving.nothing_goes (stands gs) rs (facts.leaving.root_waits rs gs id o f.live p f.beside))
           ∙ ap (λ n. s + n) (going_sums rs (stands gs) (reached rs (after_release id hs)) o (λ v l. facts.leaving.alone_tells rs gs id f (root_alone rs gs id p) v l ∙ ap (λ g. reached rs g v) (fun_ext (λ x. ap (nat_lt 0) (e x)))));
     } where
       is_root : (q : Option ℕ) → is_none q ≡ true → q ≡ None

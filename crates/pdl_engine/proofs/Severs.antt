@@ -10,7 +10,7 @@ use Rattle.pdl_world.specs.Cut.{fitted, replaced, sever}
 use Rattle.pdl_world.specs.World.{elements, root, ArrayDef, view, ty_in, dims_in}
 use Rattle.pdl_nodes.specs.Alike.{numbers, is_fresh_in}
 use Rattle.pdl_nodes.specs.Cut.{cut, CanCut}
-use Rattle.pdl_nodes.specs.CutLaws.{CuttingSevers, CuttingLeavesFamilies, CutsStaySettled, CutsStayKnown, CutsStaySized}
+use Rattle.pdl_nodes.specs.CutLaws.{CuttingSevers, CuttingLeavesFamilies, CutsStaySettled, CutsStayKnown, CutsStaySized, CutsKeepNumbers, CutsMakeRoots}
 use Rattle.pdl_nodes.specs.Families.{InOrder}
 use Rattle.pdl_pull.specs.Filled.{IsKept}
 use Rattle.pdl_push.specs.Settled.{IsSettled}
@@ -80,6 +80,8 @@ pub record CutFacts : Type 0 where
   pub settled : CutsStaySettled
   pub known : CutsStayKnown
   pub sized : CutsStaySized
+  pub numbers : CutsKeepNumbers
+  pub roots : CutsMakeRoots
 
 -- and then cut
 pub can_cut : (facts : RowLaws) → (old mid : Rows) (v : ℕ) (ds : List ℕ) (es : List ℤ) → IsFreshly old mid v → ((row_at old v).root ≡ v → ⊥) → ds ≡ (row_at mid v).triple.dims → es ≡ elements (world_of mid) v → CanCut mid v ds es
@@ -106,7 +108,7 @@ was_cut facts laws old mid new v ds es o z f c e n =
       known = laws.known mid v ds es c f.ready.known;
       sized = laws.sized mid v ds es c;
       numbers_are = cut_numbers mid v ds es ∙ f.ready.alike.numbers_are;
-      has_is = λ u. facts.kept.cut_has mid v ds es u ∙ f.ready.alike.has_is u;
+      has_is = λ u. laws.numbers mid v ds es u ∙ f.ready.alike.has_is u;
       fresh = λ u h d m. (let g : has mid u ≡ true = f.ready.alike.has_is u ∙ h in
           let apart : (row_at mid u).root ≢ (row_at mid v).root = λ q. d (sym (f.ready.alike.root_is u) ∙ q ∙ f.ready.alike.root_is v) in
           let s : IsSeen mid u = facts.seen.is_seen mid f.ready.order.still u g in
@@ -122,9 +124,9 @@ was_cut facts laws old mid new v ds es o z f c e n =
     })
 
 -- the new root can be lent
-pub cut_fresh : (facts : RowLaws) → (old mid new : Rows) (v : ℕ) (ds : List ℕ) (es : List ℤ) → IsFreshly old mid v → new ≡ cut mid v ds es → is_fresh_in new v ≡ true
-cut_fresh facts old mid new v ds es f n =
-    let row : row_at (cut mid v ds es) v ≡ root_row v (row_at mid v).ty ds es = facts.kept.cut_row mid v ds es f.live in
+pub cut_fresh : CutsMakeRoots → (old mid new : Rows) (v : ℕ) (ds : List ℕ) (es : List ℤ) → IsFreshly old mid v → new ≡ cut mid v ds es → is_fresh_in new v ≡ true
+cut_fresh roots old mid new v ds es f n =
+    let row : row_at (cut mid v ds es) v ≡ root_row v (row_at mid v).ty ds es = roots mid v ds es f.live in
     ap (λ rs. is_fresh_in rs v) n ∙ ap (λ (r : Row). (row_at (cut mid v ds es) r.base).mark) row ∙ ap (λ (r : Row). r.mark) row
 
 -- nothing waits in either family

@@ -9,7 +9,7 @@ use Rattle.pdl_nodes.specs.Cut.{rooted_in}
 use Rattle.pdl_nodes.specs.Families.{InOrder}
 use Rattle.pdl_nodes.specs.Outcomes.{waiting_of, waiting_size}
 use Rattle.pdl_pull.specs.Outdated.{outdated}
-use Rattle.pdl_nodes.specs.Reshaped.{CanReshape, ReshapingReshapes, ReshapingLeavesOthers, ReshapesStayKnown, ReshapesStaySized}
+use Rattle.pdl_nodes.specs.Reshaped.{CanReshape, ReshapingReshapes, ReshapingLeavesOthers, ReshapesStayKnown, ReshapesStaySized, ReshapesMakeRoots}
 use Rattle.pdl_nodes.specs.Row.{Row, root_row}
 use Rattle.pdl_nodes.specs.RowLaws.{RowLaws}
 use Rattle.pdl_nodes.specs.Rows.{Rows, each, row_at, has}
@@ -71,14 +71,14 @@ reshaped_none facts mid v ds es r l h w = ap (λ (x : Row). x.waiting) (facts.nu
   | inr y ↦ rw y.0 w
 ]
 
-pub reshaped_settled : (facts : RowLaws) → (old mid new : Rows) (v : ℕ) (ds : List ℕ) (es : List ℤ) → IsFreshly old mid v → new ≡ each (rooted_in v ds es) mid → RowsAreSettled old v new
-reshaped_settled facts old mid new v ds es f n =
+pub reshaped_settled : (facts : RowLaws) → ReshapesMakeRoots → (old mid new : Rows) (v : ℕ) (ds : List ℕ) (es : List ℤ) → IsFreshly old mid v → new ≡ each (rooted_in v ds es) mid → RowsAreSettled old v new
+reshaped_settled facts roots old mid new v ds es f n =
     let P : Rows → Type 0 = λ x. RowsAreSettled old v x in
     let in_root : (u : ℕ) → has mid u ≡ true → (row_at mid u).root ≡ (row_at mid v).root → waiting_of (each (rooted_in v ds es) mid) u ≡ None = λ u g e.
     (let row : row_at (each (rooted_in v ds es) mid) u ≡ rooted_in v ds es u (row_at mid u) = facts.numbers.each_at (rooted_in v ds es) mid u g in
     elim (eqb_tells u v) [
       | inl y ↦ (let r : (row_at (each (rooted_in v ds es) mid) u).root ≡ v = ap (λ (x : Row). x.root) row ∙ rw y.0 refl in
-          ap (λ x. (row_at (each (rooted_in v ds es) mid) x).waiting) r ∙ ap (λ (x : Row). x.waiting) (facts.kept.row_here mid v ds es f.live))
+          ap (λ x. (row_at (each (rooted_in v ds es) mid) x).waiting) r ∙ ap (λ (x : Row). x.waiting) (roots mid v ds es f.live))
       | inr y ↦ (let r : (row_at (each (rooted_in v ds es) mid) u).root ≡ (row_at mid u).root = ap (λ (x : Row). x.root) row ∙ rw y.0 refl in
           ap (λ x. (row_at (each (rooted_in v ds es) mid) x).waiting) r
           ∙ reshaped_none facts mid v ds es (row_at mid u).root f.live (facts.seen.is_seen mid f.ready.order.still u g).root_has (ap (λ x. (row_at mid x).waiting) e ∙ f.nothing))
@@ -90,9 +90,9 @@ pub reshaped_world : ShapeFacts → (old mid new : Rows) (v : ℕ) (ds : List �
 reshaped_world laws old mid new v ds es f c e n = ap world_of n ∙ (laws.reshapes mid v ds es c e).1 ∙ ap (λ w. reshape w v ds) f.ready.world
 
 -- the new root can be lent
-pub reshaped_fresh : (facts : RowLaws) → (old mid new : Rows) (v : ℕ) (ds : List ℕ) (es : List ℤ) → IsFreshly old mid v → new ≡ each (rooted_in v ds es) mid → is_fresh_in new v ≡ true
-reshaped_fresh facts old mid new v ds es f n =
-    let row : row_at (each (rooted_in v ds es) mid) v ≡ root_row v (row_at mid v).ty ds es = facts.kept.row_here mid v ds es f.live in
+pub reshaped_fresh : ReshapesMakeRoots → (old mid new : Rows) (v : ℕ) (ds : List ℕ) (es : List ℤ) → IsFreshly old mid v → new ≡ each (rooted_in v ds es) mid → is_fresh_in new v ≡ true
+reshaped_fresh roots old mid new v ds es f n =
+    let row : row_at (each (rooted_in v ds es) mid) v ≡ root_row v (row_at mid v).ty ds es = roots mid v ds es f.live in
     ap (λ rs. is_fresh_in rs v) n ∙ ap (λ (r : Row). (row_at (each (rooted_in v ds es) mid) r.base).mark) row ∙ ap (λ (r : Row). r.mark) row
 
 -- the steps of making it fresh and of copying it

@@ -3,7 +3,7 @@
 //! An engine is seen as a world of arrays (`pdl_world`): each call says what the world is after it.
 //! Affine views keep no elements: they are shown over the elements of their base. Views that pick
 //! places keep a buffer, which is filled when it is read or written (`pdl_pull`). What is assigned
-//! through such a view waits there, until another array of its family is read (`pdl_push`). How
+//! through such a view waits there, until an array of its family is made ready (`pdl_push`). How
 //! arrays are kept is the node table's (`pdl_nodes`).
 #![tactic(auto)]
 

@@ -46,8 +46,8 @@ none_going t rs r k h = elim (eqb_tells (row_at rs r).root r) [
   | inr a ↦ rw a.0 refl
 ]
 
-pub no_steps : (t : ℕ → Bool) (rs : Rows) (s : ℕ) → KeepsWaiting t rs → s ≡ s + going_sum rs t rs
-no_steps t rs s k = (let a : going_sum rs t rs ≡ 0 = none_sum rs t rs (λ r h. none_going t rs r k h) in omega (arith, a))
+pub nothing_goes : (t : ℕ → Bool) (rs : Rows) → KeepsWaiting t rs → going_sum rs t rs ≡ 0
+nothing_goes t rs k = none_sum rs t rs (λ r h. none_going t rs r k h)
 
 kept_risen : (rs : Rows) (hs : Counts) (id : ℕ) → IsStill rs → Beside rs hs → AreTight [] rs hs → IsRisen (id ∷ []) rs hs hs
 kept_risen rs hs id s b t =

@@ -6,6 +6,7 @@ use Rattle.pdl_nodes.specs.Cut.{cut, CanCut}
 use Rattle.pdl_nodes.specs.Known.{AreKnown}
 use Rattle.pdl_nodes.specs.Families.{Means}
 use Rattle.pdl_nodes.specs.Outcomes.{waiting_of}
+use Rattle.pdl_nodes.specs.Row.{root_row}
 use Rattle.pdl_nodes.specs.Rows.{Rows, row_at, has}
 use Rattle.pdl_nodes.specs.Sized.{AreSized}
 use Rattle.pdl_nodes.specs.Worlds.{world_of}
@@ -41,3 +42,14 @@ CutsStayKnown =
 abbrev pub CutsStaySized : Type 0
 CutsStaySized =
     (rs : Rows) (v : ℕ) (ds : List ℕ) (es : List ℤ) → CanCut rs v ds es → AreSized (cut rs v ds es)
+
+-- the numbers stay
+abbrev pub CutsKeepNumbers : Type 0
+CutsKeepNumbers =
+    (rs : Rows) (v : ℕ) (ds : List ℕ) (es : List ℤ) (u : ℕ) → has (cut rs v ds es) u ≡ has rs u
+
+-- the array is a root of these dimensions and elements
+abbrev pub CutsMakeRoots : Type 0
+CutsMakeRoots =
+    (rs : Rows) (v : ℕ) (ds : List ℕ) (es : List ℤ) → has rs v ≡ true
+    → row_at (cut rs v ds es) v ≡ root_row v (row_at rs v).ty ds es

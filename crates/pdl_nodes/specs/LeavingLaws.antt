@@ -25,9 +25,8 @@ pub record LeavingLaws : Type 0 where
   pub none_sum :
       (w : Rows) (t : ℕ → Bool) (part : Rows)
       → ((r : ℕ) → has part r ≡ true → going_at w t r ≡ None) → going_sum w t part ≡ 0
-  -- where what waits stays with its root no step is taken
-  pub no_steps :
-      (t : ℕ → Bool) (rs : Rows) (s : ℕ) → KeepsWaiting t rs → s ≡ s + going_sum rs t rs
+  -- so is it where what waits stays with its root
+  pub nothing_goes : (t : ℕ → Bool) (rs : Rows) → KeepsWaiting t rs → going_sum rs t rs ≡ 0
   -- where nothing that waits goes in the families of the starts, from which all comes that goes, it
   -- does in none
   pub none_goes :

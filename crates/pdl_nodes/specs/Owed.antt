@@ -1,5 +1,4 @@
--- One rule for rows and for the state that they are seen as: what a view owes, how much waits, and
--- where values go.
+-- One rule for rows and for the state that they are seen as: what a view owes, and how much waits.
 use Rattle.std.specs.Prelude.{ℕ, ◌&&◌, not, if◌then◌else◌, Bool, List, Option, Some, None}
 use Rattle.pdl_shape.specs.Shape.{size_of}
 

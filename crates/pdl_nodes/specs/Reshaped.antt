@@ -6,6 +6,7 @@ use Rattle.pdl_world.specs.World.{elements}
 use Rattle.pdl_nodes.specs.Cut.{rooted_in}
 use Rattle.pdl_nodes.specs.Families.{InOrder, Means}
 use Rattle.pdl_nodes.specs.Known.{AreKnown}
+use Rattle.pdl_nodes.specs.Row.{root_row}
 use Rattle.pdl_nodes.specs.Rows.{Rows, row_at, has, each}
 use Rattle.pdl_nodes.specs.Sized.{AreSized}
 use Rattle.pdl_nodes.specs.Worlds.{shape, world_of}
@@ -45,3 +46,9 @@ abbrev pub ReshapesStaySized : Type 0
 ReshapesStaySized =
     (rs : Rows) (v : ℕ) (ds : List ℕ) (es : List ℤ) → CanReshape rs v ds es → AreSized rs
     → AreSized (each (rooted_in v ds es) rs)
+
+-- the array is a root of these dimensions and elements
+abbrev pub ReshapesMakeRoots : Type 0
+ReshapesMakeRoots =
+    (rs : Rows) (v : ℕ) (ds : List ℕ) (es : List ℤ) → has rs v ≡ true
+    → row_at (each (rooted_in v ds es) rs) v ≡ root_row v (row_at rs v).ty ds es

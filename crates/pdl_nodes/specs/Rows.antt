@@ -1,5 +1,5 @@
 -- The node table: rows by their numbers, newest first.
-use Rattle.std.specs.Prelude.{◌≡◌, ℕ, ◌<◌, ◌==◌, nat_lt, if◌then◌else◌, Bool, true, false, List, [], ◌∷◌, Option, Some, None}
+use Rattle.std.specs.Prelude.{◌≡◌, ℕ, ◌<◌, ◌==◌, if◌then◌else◌, Bool, true, false, List, [], ◌∷◌, Option, Some, None}
 use Rattle.pdl_elem.specs.declared.Ty.TheVariants.{Byte}
 use Rattle.pdl_nodes.specs.Staying.{staying, passed}
 use Rattle.pdl_nodes.specs.declared.origin.Origin.TheVariants.{Root}
@@ -47,11 +47,6 @@ Falls ((k, r) ∷ rs) = NumbersBelow k rs × Falls rs
 abbrev pub newest : Rows → Option ℕ
 newest [] = None
 newest ((k, r) ∷ rs) = Some k
-
--- the newest number below n
-abbrev pub below : Rows → ℕ → Option ℕ
-below [] n = None
-below ((k, r) ∷ rs) n = if nat_lt k n then Some k else below rs n
 
 -- with another row for each
 abbrev pub each : (ℕ → Row → Row) → Rows → Rows

@@ -1,13 +1,14 @@
 //! Laws of the definitions, for the proofs of the crates above.
-ghost use Rattle.pdl_nodes.specs.CutLaws.{CuttingSevers, CuttingLeavesFamilies, CutsStaySettled, CutsStayKnown, CutsStaySized};
+ghost use Rattle.pdl_nodes.specs.CutLaws.{CuttingSevers, CuttingLeavesFamilies, CutsStaySettled, CutsStayKnown, CutsStaySized, CutsKeepNumbers, CutsMakeRoots};
 ghost use Rattle.pdl_nodes.specs.RowLaws.{RowLaws};
-ghost use Rattle.pdl_nodes.specs.Reshaped.{ReshapingReshapes, ReshapingLeavesOthers, ReshapesStayKnown, ReshapesStaySized};
+ghost use Rattle.pdl_nodes.specs.Reshaped.{ReshapingReshapes, ReshapingLeavesOthers, ReshapesStayKnown, ReshapesStaySized, ReshapesMakeRoots};
 
 use pdl_affine::{view_laws, window_laws};
 use pdl_shape::{shape_laws, triple_laws};
 
 /// What holds of all rows: by their numbers, of what their arrays are, of what changes leave, of a
-/// row that joins, and of arrays that go. It does nothing: who calls it has them.
+/// change within one family, of a row that joins, and of arrays that go. It does nothing: who calls
+/// it has them.
 pub fn row_laws()
     ensures { RowLaws }
 {
@@ -24,6 +25,8 @@ pub fn cut_row_laws()
     ensures settled { CutsStaySettled }
     ensures known { CutsStayKnown }
     ensures sized { CutsStaySized }
+    ensures numbers { CutsKeepNumbers }
+    ensures roots { CutsMakeRoots }
 {
     shape_laws();
     triple_laws();
@@ -39,6 +42,7 @@ pub fn reshape_row_laws()
     ensures others { ReshapingLeavesOthers }
     ensures known { ReshapesStayKnown }
     ensures sized { ReshapesStaySized }
+    ensures roots { ReshapesMakeRoots }
 {
     shape_laws();
     triple_laws();

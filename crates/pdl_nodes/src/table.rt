@@ -312,7 +312,7 @@ impl Table {
         requires found { is_some (row_at self.old id).places ≡ true }
         requires paired { length values.now ≡ size_of triple.now.dims }
         requires in_range { All (InRange (row_at self.old id).ty) values.now }
-        ensures value { self.new
+        ensures put { self.new
             ≡ each (kept_in id (put_all (places_or (row_at self.old id).places) (spots triple.now)
             values.now (row_at self.old id).kept)) self.old }
         ensures counted { steps.new ≡ steps.old + length values.now }

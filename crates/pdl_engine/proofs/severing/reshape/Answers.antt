@@ -65,7 +65,7 @@ pub returns-clause-fresh : goal.returns-clause-fresh
 returns-clause-fresh g c =
     let f : IsFreshly c.args.table.now c.refresh.new.table c.args.id = freshly c.row_laws.ensures c.args.table.now c.settle.new.table c.refresh.new.table c.args.id c.requires.order c.requires.sized c.requires.live c.settle.ensures.settled c.refresh.ensures.kept
     (c.row_laws.ensures.seen.path_first c.refresh.new.table c.args.id c.refresh.ensures.kept.order.still (c.refresh.ensures.kept.alike.has_is c.args.id ∙ c.settle.ensures.settled.ready.alike.has_is c.args.id ∙ c.requires.live) c.in_ok-refresh.ensures.fresh) in
-    reshaped_fresh c.row_laws.ensures c.args.table.now c.refresh.new.table c.become_root.new.self c.args.id c.args.dims.now c.in_ok-kept.kept.elems f c.become_root.ensures
+    reshaped_fresh c.reshape_row_laws.ensures.roots c.args.table.now c.refresh.new.table c.become_root.new.self c.args.id c.args.dims.now c.in_ok-kept.kept.elems f c.become_root.ensures
 
 pub returns-clause-counted : goal.returns-clause-counted
 returns-clause-counted g c =
@@ -83,7 +83,7 @@ pub returns-clause-settled : goal.returns-clause-settled
 returns-clause-settled g c =
     let f : IsFreshly c.args.table.now c.refresh.new.table c.args.id = freshly c.row_laws.ensures c.args.table.now c.settle.new.table c.refresh.new.table c.args.id c.requires.order c.requires.sized c.requires.live c.settle.ensures.settled c.refresh.ensures.kept
     (c.row_laws.ensures.seen.path_first c.refresh.new.table c.args.id c.refresh.ensures.kept.order.still (c.refresh.ensures.kept.alike.has_is c.args.id ∙ c.settle.ensures.settled.ready.alike.has_is c.args.id ∙ c.requires.live) c.in_ok-refresh.ensures.fresh) in
-    reshaped_settled c.row_laws.ensures c.args.table.now c.refresh.new.table c.become_root.new.self c.args.id c.args.dims.now c.in_ok-kept.kept.elems f c.become_root.ensures
+    reshaped_settled c.row_laws.ensures c.reshape_row_laws.ensures.roots c.args.table.now c.refresh.new.table c.become_root.new.self c.args.id c.args.dims.now c.in_ok-kept.kept.elems f c.become_root.ensures
 
 pub returns-clause-parent : goal.returns-clause-parent
 returns-clause-parent g c = λ p e. c.in_ok-kept.ensures.parent p (c.refresh.ensures.kept.alike.parent_is c.args.id ∙ c.settle.ensures.settled.ready.alike.parent_is c.args.id ∙ e)

@@ -62,7 +62,7 @@ returns-clause-severed g c =
     first_all c.row_laws.ensures c.refresh.new.table c.args.id c.elements_of-count.result c.copy_dims-dims.result c.in_ok-kept.kept.elems c.refresh.ensures.kept.order.still
     (c.refresh.ensures.kept.alike.has_is c.args.id ∙ c.settle.ensures.settled.ready.alike.has_is c.args.id ∙ c.requires.live)
     c.elements_of-count.ensures.count (c.copy_dims-dims.ensures ∙ ap (λ (t : Triple). t.dims) (c.behind-node.view_is ∙ c.triple.ensures ∙ ap (λ (r : Row). r.triple) c.node-2.ensures)) (ap (λ (k : TypedElements). k.elems) c.in_ok-kept.ensures.value) in
-    let laws : CutFacts = record { severs = c.cut_row_laws.ensures.severs; families = c.cut_row_laws.ensures.families; settled = c.cut_row_laws.ensures.settled; known = c.cut_row_laws.ensures.known; sized = c.cut_row_laws.ensures.sized } in
+    let laws : CutFacts = record { severs = c.cut_row_laws.ensures.severs; families = c.cut_row_laws.ensures.families; settled = c.cut_row_laws.ensures.settled; known = c.cut_row_laws.ensures.known; sized = c.cut_row_laws.ensures.sized; numbers = c.cut_row_laws.ensures.numbers; roots = c.cut_row_laws.ensures.roots } in
     let f : IsFreshly c.args.table.now c.refresh.new.table c.args.id = freshly c.row_laws.ensures c.args.table.now c.settle.new.table c.refresh.new.table c.args.id c.requires.order c.requires.sized c.requires.live c.settle.ensures.settled c.refresh.ensures.kept
     (c.row_laws.ensures.seen.path_first c.refresh.new.table c.args.id c.refresh.ensures.kept.order.still (c.refresh.ensures.kept.alike.has_is c.args.id ∙ c.settle.ensures.settled.ready.alike.has_is c.args.id ∙ c.requires.live) c.in_ok-refresh.ensures.fresh) in
     let can : CanCut c.refresh.new.table c.args.id c.copy_dims-dims.result c.in_ok-kept.kept.elems = can_cut c.row_laws.ensures c.args.table.now c.refresh.new.table c.args.id c.copy_dims-dims.result c.in_ok-kept.kept.elems f
@@ -77,7 +77,7 @@ returns-clause-ok g c =
     first_all c.row_laws.ensures c.refresh.new.table c.args.id c.elements_of-count.result c.copy_dims-dims.result c.in_ok-kept.kept.elems c.refresh.ensures.kept.order.still
     (c.refresh.ensures.kept.alike.has_is c.args.id ∙ c.settle.ensures.settled.ready.alike.has_is c.args.id ∙ c.requires.live)
     c.elements_of-count.ensures.count (c.copy_dims-dims.ensures ∙ ap (λ (t : Triple). t.dims) (c.behind-node.view_is ∙ c.triple.ensures ∙ ap (λ (r : Row). r.triple) c.node-2.ensures)) (ap (λ (k : TypedElements). k.elems) c.in_ok-kept.ensures.value) in
-    let laws : CutFacts = record { severs = c.cut_row_laws.ensures.severs; families = c.cut_row_laws.ensures.families; settled = c.cut_row_laws.ensures.settled; known = c.cut_row_laws.ensures.known; sized = c.cut_row_laws.ensures.sized } in
+    let laws : CutFacts = record { severs = c.cut_row_laws.ensures.severs; families = c.cut_row_laws.ensures.families; settled = c.cut_row_laws.ensures.settled; known = c.cut_row_laws.ensures.known; sized = c.cut_row_laws.ensures.sized; numbers = c.cut_row_laws.ensures.numbers; roots = c.cut_row_laws.ensures.roots } in
     let f : IsFreshly c.args.table.now c.refresh.new.table c.args.id = freshly c.row_laws.ensures c.args.table.now c.settle.new.table c.refresh.new.table c.args.id c.requires.order c.requires.sized c.requires.live c.settle.ensures.settled c.refresh.ensures.kept
     (c.row_laws.ensures.seen.path_first c.refresh.new.table c.args.id c.refresh.ensures.kept.order.still (c.refresh.ensures.kept.alike.has_is c.args.id ∙ c.settle.ensures.settled.ready.alike.has_is c.args.id ∙ c.requires.live) c.in_ok-refresh.ensures.fresh) in
     let can : CanCut c.refresh.new.table c.args.id c.copy_dims-dims.result c.in_ok-kept.kept.elems = can_cut c.row_laws.ensures c.args.table.now c.refresh.new.table c.args.id c.copy_dims-dims.result c.in_ok-kept.kept.elems f
@@ -101,7 +101,7 @@ pub returns-clause-fresh : goal.returns-clause-fresh
 returns-clause-fresh g c = λ n.
     let f : IsFreshly c.args.table.now c.refresh.new.table c.args.id = freshly c.row_laws.ensures c.args.table.now c.settle.new.table c.refresh.new.table c.args.id c.requires.order c.requires.sized c.requires.live c.settle.ensures.settled c.refresh.ensures.kept
     (c.row_laws.ensures.seen.path_first c.refresh.new.table c.args.id c.refresh.ensures.kept.order.still (c.refresh.ensures.kept.alike.has_is c.args.id ∙ c.settle.ensures.settled.ready.alike.has_is c.args.id ∙ c.requires.live) c.in_ok-refresh.ensures.fresh) in
-    cut_fresh c.row_laws.ensures c.args.table.now c.refresh.new.table c.cut.new.self c.args.id c.copy_dims-dims.result c.in_ok-kept.kept.elems f c.cut.ensures
+    cut_fresh c.cut_row_laws.ensures.roots c.args.table.now c.refresh.new.table c.cut.new.self c.args.id c.copy_dims-dims.result c.in_ok-kept.kept.elems f c.cut.ensures
 
 pub returns-in_err-refresh-clause-settled : goal.returns-in_err-refresh-clause-settled
 returns-in_err-refresh-clause-settled g c = λ n. settled_on c.args.table.now c.settle.new.table c.refresh.new.table c.args.id c.settle.ensures.settled c.refresh.ensures.kept
@@ -115,7 +115,7 @@ returns-clause-settled g c = λ n.
     first_all c.row_laws.ensures c.refresh.new.table c.args.id c.elements_of-count.result c.copy_dims-dims.result c.in_ok-kept.kept.elems c.refresh.ensures.kept.order.still
     (c.refresh.ensures.kept.alike.has_is c.args.id ∙ c.settle.ensures.settled.ready.alike.has_is c.args.id ∙ c.requires.live)
     c.elements_of-count.ensures.count (c.copy_dims-dims.ensures ∙ ap (λ (t : Triple). t.dims) (c.behind-node.view_is ∙ c.triple.ensures ∙ ap (λ (r : Row). r.triple) c.node-2.ensures)) (ap (λ (k : TypedElements). k.elems) c.in_ok-kept.ensures.value) in
-    let laws : CutFacts = record { severs = c.cut_row_laws.ensures.severs; families = c.cut_row_laws.ensures.families; settled = c.cut_row_laws.ensures.settled; known = c.cut_row_laws.ensures.known; sized = c.cut_row_laws.ensures.sized } in
+    let laws : CutFacts = record { severs = c.cut_row_laws.ensures.severs; families = c.cut_row_laws.ensures.families; settled = c.cut_row_laws.ensures.settled; known = c.cut_row_laws.ensures.known; sized = c.cut_row_laws.ensures.sized; numbers = c.cut_row_laws.ensures.numbers; roots = c.cut_row_laws.ensures.roots } in
     let f : IsFreshly c.args.table.now c.refresh.new.table c.args.id = freshly c.row_laws.ensures c.args.table.now c.settle.new.table c.refresh.new.table c.args.id c.requires.order c.requires.sized c.requires.live c.settle.ensures.settled c.refresh.ensures.kept
     (c.row_laws.ensures.seen.path_first c.refresh.new.table c.args.id c.refresh.ensures.kept.order.still (c.refresh.ensures.kept.alike.has_is c.args.id ∙ c.settle.ensures.settled.ready.alike.has_is c.args.id ∙ c.requires.live) c.in_ok-refresh.ensures.fresh) in
     let can : CanCut c.refresh.new.table c.args.id c.copy_dims-dims.result c.in_ok-kept.kept.elems = can_cut c.row_laws.ensures c.args.table.now c.refresh.new.table c.args.id c.copy_dims-dims.result c.in_ok-kept.kept.elems f n

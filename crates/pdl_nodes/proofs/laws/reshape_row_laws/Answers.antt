@@ -1,6 +1,6 @@
 use Rattle.pdl_nodes.proofs.laws.reshape_row_laws.Goals as goal
 use Rattle.pdl_nodes.proofs.CutRows.{LawsBelow}
-use Rattle.pdl_nodes.proofs.Reshapes.{reshapes, leaves_others, reshaped_known, reshaped_sized}
+use Rattle.pdl_nodes.proofs.Reshapes.{reshapes, leaves_others, reshaped_known, reshaped_sized, row_here}
 
 pub returns : goal.returns
 returns c =
@@ -14,4 +14,4 @@ returns c =
       };
       wholes = c.triple_laws.ensures.wholes;
     } in
-    record { reshapes = reshapes laws; others = leaves_others; known = reshaped_known; sized = reshaped_sized laws }
+    record { reshapes = reshapes laws; others = leaves_others; known = reshaped_known; sized = reshaped_sized laws; roots = row_here }

@@ -1,8 +1,8 @@
 use Rattle.pdl_nodes.proofs.Alikes.{root_live, base_live, root_own, each_numbers, is_alike, each_past, ready_same, ready_trans}
-use Rattle.pdl_nodes.proofs.Alone.{no_steps, all_stand, kept_tells, last_beside, root_waits, alone_from, alone_tells, alone_let_go}
+use Rattle.pdl_nodes.proofs.Alone.{nothing_goes, all_stand, kept_tells, last_beside, root_waits, alone_from, alone_tells, alone_let_go}
 use Rattle.pdl_nodes.proofs.OverBases.{over_base, over_root, root_in_order}
-use Rattle.pdl_nodes.proofs.CutOrder.{cut_row, world_ty, world_dims}
-use Rattle.pdl_nodes.proofs.CutRows.{sized_at, cut_has}
+use Rattle.pdl_nodes.proofs.CutOrder.{world_ty, world_dims}
+use Rattle.pdl_nodes.proofs.CutRows.{sized_at}
 use Rattle.pdl_nodes.proofs.Falling.{none_goes, none_sum, stays_all, is_going}
 use Rattle.pdl_nodes.proofs.FamilyLemmas.{still_falls, elements_are, latest_none, latest_some, root_each, places_each, order_each, world_same, world_assigned}
 use Rattle.pdl_nodes.proofs.Finds.{each_has, each_at, has_below, below_more, not_newest, newest_gone}
@@ -10,7 +10,6 @@ use Rattle.pdl_nodes.proofs.Gone.{let_go_is, noted_ready, under_first, under_lis
 use Rattle.pdl_nodes.proofs.Joins.{pushed, world_pushed, new_root}
 use Rattle.pdl_nodes.proofs.Leavings.{sweep_stays}
 use Rattle.pdl_nodes.proofs.Paths.{parent_live, parent_root, path_is, path_first, fresh_stays, less_outdated}
-use Rattle.pdl_nodes.proofs.Reshapes.{row_here}
 use Rattle.pdl_nodes.proofs.Seens.{has_older, row_older, places_older, is_seen, view_at}
 use Rattle.pdl_nodes.proofs.Elements.{root_shows, length_latest, length_write}
 use Rattle.pdl_nodes.proofs.Sizes.{sized_alike}
@@ -71,9 +70,6 @@ returns c = record {
   };
   kept = record {
     sized_alike = sized_alike;
-    cut_has = cut_has;
-    cut_row = cut_row;
-    row_here = row_here;
     ready_same = ready_same;
     ready_trans = ready_trans;
     fresh_stays = fresh_stays;
@@ -99,7 +95,7 @@ returns c = record {
     none_goes = none_goes;
     is_going = is_going;
     none_sum = none_sum;
-    no_steps = no_steps;
+    nothing_goes = nothing_goes;
     stays_all = stays_all;
     all_stand = all_stand;
     kept_tells = kept_tells;

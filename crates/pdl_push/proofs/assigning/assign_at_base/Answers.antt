@@ -31,34 +31,34 @@ put_through-requires-clause-in_range g c =
     subst (λ (y : Ty). All (InRange y) c.args.values.now) y c.requires.in_range
 
 pub node-requires : goal.node-requires
-node-requires g c = record { live = ap (λ t. has t c.args.at.now.root) c.put_through.ensures.value ∙ c.row_laws.ensures.numbers.each_has _ c.args.table.now c.args.at.now.root ∙ c.requires.through.root.0 }
+node-requires g c = record { live = ap (λ t. has t c.args.at.now.root) c.put_through.ensures.put ∙ c.row_laws.ensures.numbers.each_has _ c.args.table.now c.args.at.now.root ∙ c.requires.through.root.0 }
 
 pub mark-requires-clause-root : goal.mark-requires-clause-root
-mark-requires-clause-root g c = ap (λ t. has t c.args.at.now.root) c.put_through.ensures.value ∙ c.row_laws.ensures.numbers.each_has _ c.args.table.now c.args.at.now.root ∙ c.requires.through.root.0
+mark-requires-clause-root g c = ap (λ t. has t c.args.at.now.root) c.put_through.ensures.put ∙ c.row_laws.ensures.numbers.each_has _ c.args.table.now c.args.at.now.root ∙ c.requires.through.root.0
 
 pub mark-requires-clause-live : goal.mark-requires-clause-live
-mark-requires-clause-live g c = ap (λ t. has t c.args.at.now.base) c.put_through.ensures.value ∙ c.row_laws.ensures.numbers.each_has _ c.args.table.now c.args.at.now.base ∙ (c.row_laws.ensures.seen.base_live c.args.table.now c.args.at.now.base c.args.at.now.id c.requires.through.order.still c.requires.through.live c.requires.through.base_is)
+mark-requires-clause-live g c = ap (λ t. has t c.args.at.now.base) c.put_through.ensures.put ∙ c.row_laws.ensures.numbers.each_has _ c.args.table.now c.args.at.now.base ∙ (c.row_laws.ensures.seen.base_live c.args.table.now c.args.at.now.base c.args.at.now.id c.requires.through.order.still c.requires.through.live c.requires.through.base_is)
 
 pub mark-requires-clause-family : goal.mark-requires-clause-family
-mark-requires-clause-family g c = ap (λ t. (row_at t c.args.at.now.base).root) c.put_through.ensures.value ∙ ap (λ (r : Row). r.root) (c.row_laws.ensures.numbers.each_at _ c.args.table.now c.args.at.now.base (c.row_laws.ensures.seen.base_live c.args.table.now c.args.at.now.base c.args.at.now.id c.requires.through.order.still c.requires.through.live c.requires.through.base_is)) ∙ (base_root c.row_laws.ensures c.args.table.now c.args.at.now.root c.args.at.now.base c.args.at.now.id c.requires.through.order c.requires.through.live c.requires.through.base_is c.requires.through.root_is)
+mark-requires-clause-family g c = ap (λ t. (row_at t c.args.at.now.base).root) c.put_through.ensures.put ∙ ap (λ (r : Row). r.root) (c.row_laws.ensures.numbers.each_at _ c.args.table.now c.args.at.now.base (c.row_laws.ensures.seen.base_live c.args.table.now c.args.at.now.base c.args.at.now.id c.requires.through.order.still c.requires.through.live c.requires.through.base_is)) ∙ (base_root c.row_laws.ensures c.args.table.now c.args.at.now.root c.args.at.now.base c.args.at.now.id c.requires.through.order c.requires.through.live c.requires.through.base_is c.requires.through.root_is)
 
 pub mark-requires-clause-marked : goal.mark-requires-clause-marked
-mark-requires-clause-marked g c = λ n. ap (λ t. (row_at t c.args.at.now.base).mark) c.put_through.ensures.value ∙ ap (λ (r : Row). r.mark) (c.row_laws.ensures.numbers.each_at _ c.args.table.now c.args.at.now.base (c.row_laws.ensures.seen.base_live c.args.table.now c.args.at.now.base c.args.at.now.id c.requires.through.order.still c.requires.through.live c.requires.through.base_is)) ∙ c.requires.through.marked
+mark-requires-clause-marked g c = λ n. ap (λ t. (row_at t c.args.at.now.base).mark) c.put_through.ensures.put ∙ ap (λ (r : Row). r.mark) (c.row_laws.ensures.numbers.each_at _ c.args.table.now c.args.at.now.base (c.row_laws.ensures.seen.base_live c.args.table.now c.args.at.now.base c.args.at.now.id c.requires.through.order.still c.requires.through.live c.requires.through.base_is)) ∙ c.requires.through.marked
 
 pub mark-requires-clause-buffered : goal.mark-requires-clause-buffered
-mark-requires-clause-buffered g c = ap (λ t. is_buffered (row_at t c.args.at.now.base)) c.put_through.ensures.value ∙ ap is_buffered (c.row_laws.ensures.numbers.each_at _ c.args.table.now c.args.at.now.base (c.row_laws.ensures.seen.base_live c.args.table.now c.args.at.now.base c.args.at.now.id c.requires.through.order.still c.requires.through.live c.requires.through.base_is)) ∙ c.row_laws.ensures.seen.mark_buffered (row_at c.args.table.now c.args.at.now.base) c.requires.through.marked
+mark-requires-clause-buffered g c = ap (λ t. is_buffered (row_at t c.args.at.now.base)) c.put_through.ensures.put ∙ ap is_buffered (c.row_laws.ensures.numbers.each_at _ c.args.table.now c.args.at.now.base (c.row_laws.ensures.seen.base_live c.args.table.now c.args.at.now.base c.args.at.now.id c.requires.through.order.still c.requires.through.live c.requires.through.base_is)) ∙ c.row_laws.ensures.seen.mark_buffered (row_at c.args.table.now c.args.at.now.base) c.requires.through.marked
 
 pub set_waiting-requires : goal.set_waiting-requires
-set_waiting-requires g c = record { live = ap (λ t. has t c.args.at.now.root) (c.mark.ensures ∙ ap (each _) c.put_through.ensures.value) ∙ c.row_laws.ensures.numbers.each_has _ _ c.args.at.now.root ∙ c.row_laws.ensures.numbers.each_has _ c.args.table.now c.args.at.now.root ∙ c.requires.through.root.0 }
+set_waiting-requires g c = record { live = ap (λ t. has t c.args.at.now.root) (c.mark.ensures ∙ ap (each _) c.put_through.ensures.put) ∙ c.row_laws.ensures.numbers.each_has _ _ c.args.at.now.root ∙ c.row_laws.ensures.numbers.each_has _ c.args.table.now c.args.at.now.root ∙ c.requires.through.root.0 }
 
 pub returns-then-is_none-clause-awaits : goal.returns-then-is_none-clause-awaits
 returns-then-is_none-clause-awaits g c =
-    c.set_waiting.ensures ∙ ap (each (wait_in c.args.at.now.root (Some c.args.at.now.base))) (c.mark.ensures ∙ ap (each (mark_in c.args.at.now.root c.args.at.now.base)) c.put_through.ensures.value)
+    c.set_waiting.ensures ∙ ap (each (wait_in c.args.at.now.root (Some c.args.at.now.base))) (c.mark.ensures ∙ ap (each (mark_in c.args.at.now.root c.args.at.now.base)) c.put_through.ensures.put)
     ∙ based_all c.row_laws.ensures c.args.table.now c.args.at.now.root c.args.at.now.base _ c.requires.through.order.still (base_root c.row_laws.ensures c.args.table.now c.args.at.now.root c.args.at.now.base c.args.at.now.id c.requires.through.order c.requires.through.live c.requires.through.base_is c.requires.through.root_is)
     ∙ ap (λ ks. each (await c.args.at.now.root c.args.at.now.base ks) c.args.table.now) (through_known c.args.table.now c.args.at.now.root c.args.at.now.base c.args.at.now.id c.args.at.now.triple c.args.values.now (liftable c.row_laws.ensures c.args.table.now c.args.at.now.root c.args.at.now.base c.requires.through.order c.requires.known c.requires.through.root c.requires.view (base_root c.row_laws.ensures c.args.table.now c.args.at.now.root c.args.at.now.base c.args.at.now.id c.requires.through.order c.requires.through.live c.requires.through.base_is c.requires.through.root_is) c.requires.through.marked) c.requires.through.base_is (ap (λ (s : Shown). s.triple) c.requires.shown))
 
 pub returns-else-is_none-clause-awaits : goal.returns-else-is_none-clause-awaits
 returns-else-is_none-clause-awaits g c =
-    c.put_through.ensures.value
-    ∙ again_all c.row_laws.ensures c.args.table.now c.args.at.now.root c.args.at.now.base _ c.requires.through.order c.requires.through.root c.requires.through.marked (base_root c.row_laws.ensures c.args.table.now c.args.at.now.root c.args.at.now.base c.args.at.now.id c.requires.through.order c.requires.through.live c.requires.through.base_is c.requires.through.root_is) (λ e. none_not c.waiting.result c.is_none.result c.is_none.ensures c.if-is_none.false (c.waiting.ensures ∙ ap (λ (r : Row). r.waiting) c.node.ensures ∙ ap (λ t. (row_at t c.args.at.now.root).waiting) c.put_through.ensures.value ∙ ap (λ (r : Row). r.waiting) (c.row_laws.ensures.numbers.each_at _ c.args.table.now c.args.at.now.root c.requires.through.root.0) ∙ e))
+    c.put_through.ensures.put
+    ∙ again_all c.row_laws.ensures c.args.table.now c.args.at.now.root c.args.at.now.base _ c.requires.through.order c.requires.through.root c.requires.through.marked (base_root c.row_laws.ensures c.args.table.now c.args.at.now.root c.args.at.now.base c.args.at.now.id c.requires.through.order c.requires.through.live c.requires.through.base_is c.requires.through.root_is) (λ e. none_not c.waiting.result c.is_none.result c.is_none.ensures c.if-is_none.false (c.waiting.ensures ∙ ap (λ (r : Row). r.waiting) c.node.ensures ∙ ap (λ t. (row_at t c.args.at.now.root).waiting) c.put_through.ensures.put ∙ ap (λ (r : Row). r.waiting) (c.row_laws.ensures.numbers.each_at _ c.args.table.now c.args.at.now.root c.requires.through.root.0) ∙ e))
     ∙ ap (λ ks. each (await c.args.at.now.root c.args.at.now.base ks) c.args.table.now) (through_known c.args.table.now c.args.at.now.root c.args.at.now.base c.args.at.now.id c.args.at.now.triple c.args.values.now (liftable c.row_laws.ensures c.args.table.now c.args.at.now.root c.args.at.now.base c.requires.through.order c.requires.known c.requires.through.root c.requires.view (base_root c.row_laws.ensures c.args.table.now c.args.at.now.root c.args.at.now.base c.args.at.now.id c.requires.through.order c.requires.through.live c.requires.through.base_is c.requires.through.root_is) c.requires.through.marked) c.requires.through.base_is (ap (λ (s : Shown). s.triple) c.requires.shown))

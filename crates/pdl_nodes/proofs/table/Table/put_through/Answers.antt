@@ -15,8 +15,8 @@ use Rattle.pdl_nodes.proofs.Marks.{kept_here, kept_others}
 pub index-key-requires : goal.index-key-requires
 index-key-requires g c = has_key c.args.self.now c.self.inside.keys c.self.inside.nodes c.args.id c.self.view_is c.self.invariant.0.0 c.requires.live
 
-pub returns-clause-value : goal.returns-clause-value
-returns-clause-value g c =
+pub returns-clause-put : goal.returns-clause-put
+returns-clause-put g c =
     let same : c.index_mut.result.now ≡ row_at c.args.self.now c.args.id = node_is c.args.self.now c.self.inside.keys c.self.inside.nodes c.args.id c.index-key.result.now c.index_mut.result.now c.self.view_is c.self.invariant.0.0 c.index-key.ensures c.index_mut.ensures.value in
     changed_one (kept_in c.args.id (put_all (places_or (row_at c.args.self.now c.args.id).places) (spots c.args.triple.now) c.args.values.now (row_at c.args.self.now c.args.id).kept)) c.args.self.now c.self.inside.keys c.self.inside.nodes c.args.id c.index-key.result.now c.index_mut.result.now c.put_through.new.self c.self.view_is c.self.invariant.0.0 c.index-key.ensures c.index_mut.ensures.value (c.put_through.ensures.value ∙ ap (λ (x : Row). record c.index_mut.result.now { kept = put_all (places_or x.places) (spots c.args.triple.now) c.args.values.now x.kept }) same ∙ kept_here c.args.id (put_all (places_or (row_at c.args.self.now c.args.id).places) (spots c.args.triple.now) c.args.values.now (row_at c.args.self.now c.args.id).kept) c.index_mut.result.now) (kept_others c.args.id (put_all (places_or (row_at c.args.self.now c.args.id).places) (spots c.args.triple.now) c.args.values.now (row_at c.args.self.now c.args.id).kept))
 
