@@ -6,3 +6,4 @@ pub mod Moves
 pub mod Endings
 pub mod Outcomes
 pub mod Meanings
+mod WrittenTexts

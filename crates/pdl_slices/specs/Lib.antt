@@ -3,3 +3,4 @@ pub mod Refusals
 pub mod SliceReading
 pub mod Collected
 pub mod Meaning
+pub mod Written

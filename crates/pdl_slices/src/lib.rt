@@ -4,6 +4,7 @@
 ghost use Rattle.std.specs.Prelude.{◌≡◌, ◌≢◌, ◌<◌, ◌^◌, ◌++◌, ◌∷◌, [], length, IfOk, IfErr, OnOk, OnErr, MatchResult};
 ghost use Rattle.pdl_slices.specs.Refusals.{IsRead, IsFaultOf};
 ghost use Rattle.pdl_slices.specs.Meaning.{TextsHaveOneMeaning};
+ghost use Rattle.pdl_slices.specs.Written.{WrittenTextsAreRead};
 ghost use Rattle.pdl_slices.specs.declared.SliceFault.{SliceFault};
 
 mod reader;
@@ -128,3 +129,11 @@ pub fn read_slice(alloc: Global, text: &[u8]) -> Result<SliceArgs, SliceFault>
 pub fn slice_meaning()
     ensures { TextsHaveOneMeaning }
 {}
+
+/// What is read of some text is read of the text that is written for it: `slice_text` in
+/// `specs/Written.antt`.
+pub fn written_slices()
+    ensures { WrittenTextsAreRead }
+{
+    slice_meaning();
+}

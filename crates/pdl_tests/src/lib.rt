@@ -32,3 +32,5 @@ mod reduce;
 mod shape;
 #[cfg(test)]
 mod sig;
+#[cfg(test)]
+mod watch;
