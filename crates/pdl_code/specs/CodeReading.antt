@@ -7,7 +7,7 @@ use Rattle.pdl_elem.specs.declared.UnaryOp.{UnaryOp}
 use Rattle.pdl_elem.specs.declared.UnaryOp.TheVariants.{Neg}
 use Rattle.pdl_lexemes.specs.Lists.{signed}
 use Rattle.pdl_lexemes.specs.ListReading.{choose as either}
-use Rattle.pdl_syntax.specs.Grammar.{level_of, many}
+use Rattle.pdl_lexemes.specs.Levels.{level_of, many}
 use Rattle.pdl_code.specs.declared.lexeme.Span.{Span}
 use Rattle.pdl_code.specs.declared.lexeme.WordKind.TheVariants.{Loop, If, Else, OfType, Plain}
 use Rattle.pdl_code.specs.declared.lexeme.NameKind.TheVariants.{Size, Generic}

@@ -6,7 +6,7 @@ use crate::left::Lexemes;
 use crate::lexeme::{Lexeme, NameKind, Span, WordKind};
 use crate::tree::LocalType;
 use pdl_elem::{BinaryOp, UnaryOp};
-use pdl_syntax::level_of;
+use pdl_lexemes::level_of;
 
 pub fn after_open<'a>(tokens: &Lexemes<'a>) -> Option<Lexemes<'a>>
     ensures rest { result ≡ after_open tokens.now }

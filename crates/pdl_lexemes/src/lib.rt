@@ -8,6 +8,7 @@ ghost use Rattle.pdl_lexemes.specs.Lists.{signed};
 mod checks;
 mod laws;
 mod left;
+mod levels;
 mod lexing;
 pub mod list;
 mod peek;
@@ -18,6 +19,7 @@ mod tables;
 pub use checks::has_large;
 pub use laws::{every_sign_is_known, lists_are_arrays, lists_are_their_grammar, ragged_is_scanned};
 pub use left::Lexemes;
+pub use levels::level_of;
 pub use lexing::{
     assignment_named, bytes, keyword_named, lexemes, number_of, operator_named, read_lexemes,
 };

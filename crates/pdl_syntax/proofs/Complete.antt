@@ -17,7 +17,8 @@ use Rattle.pdl_lexemes.specs.ListReading.{list_read, read_part}
 use Rattle.pdl_lexemes.specs.Laws.{ListsAreRead}
 use Rattle.pdl_lexemes.specs.Peeks.{after, method_at, prefix_at, quoted_at, type_at}
 use Rattle.pdl_syntax.specs.Tree.{Tree, Args, number, named, unary, binary, call, none, value, text, of_type}
-use Rattle.pdl_syntax.specs.Grammar.{Spells, Part, an_expr, a_postfix, a_primary, an_arg, some_args, closed_args, maybe_args, level_of, many, literal_of, same, joined, once, negated, prefixed, plain, bare, method, a_number, a_name, list, round_list, called, round, a_value, a_text, a_type, one, more, no_args, all_args, without, within}
+use Rattle.pdl_syntax.specs.Grammar.{Spells, Part, an_expr, a_postfix, a_primary, an_arg, some_args, closed_args, maybe_args, literal_of, same, joined, once, negated, prefixed, plain, bare, method, a_number, a_name, list, round_list, called, round, a_value, a_text, a_type, one, more, no_args, all_args, without, within}
+use Rattle.pdl_lexemes.specs.Levels.{level_of, many}
 use Rattle.pdl_syntax.specs.ExpressionReading.{expression, operator_at, limit_of, literal_at, chain_at, arg_at, more_at, closed_at, maybe_at, primary_at, methods_at, postfix_at, unary_at, level_at, reader}
 use Rattle.pdl_syntax.proofs.Peeks.{operator_here, operator_other}
 use Rattle.pdl_syntax.proofs.Turns.{chain_stop_at, chain_turn_at, methods_stop, methods_turn, more_stop, more_turn}

@@ -12,7 +12,7 @@ use Rattle.pdl_lexemes.specs.declared.Lexeme.TheVariants.{Word, Quoted, Open, Ar
 use Rattle.pdl_syntax.proofs.Options.{some_inj, none_some, then_elim}
 use Rattle.pdl_lexemes.specs.Peeks.{Read, after, method_at, quoted_at, type_at, type_step, word_at}
 use Rattle.pdl_syntax.specs.ExpressionReading.{operator_at, level_between}
-use Rattle.pdl_syntax.specs.Grammar.{level_of}
+use Rattle.pdl_lexemes.specs.Levels.{level_of}
 
 same_is : (a b : Lexeme) → lexeme.ghosts.eq a b ≡ true → b ≡ a
 same_is a b e = search rules

@@ -10,7 +10,8 @@ use Rattle.pdl_lexemes.specs.Lists.{signed}
 use Rattle.pdl_lexemes.specs.ListReading.{choose, list_read, ReadPart}
 use Rattle.pdl_lexemes.specs.Peeks.{Read, after, prefix_at, method_at, type_at, quoted_at}
 use Rattle.pdl_syntax.specs.Tree.{Tree, Args, number, named, unary, binary, call, none, value, text, of_type}
-use Rattle.pdl_syntax.specs.Grammar.{level_of, many, literal_of}
+use Rattle.pdl_syntax.specs.Grammar.{literal_of}
+use Rattle.pdl_lexemes.specs.Levels.{level_of, many}
 
 -- an operator of a level
 abbrev pub operator_at : ℕ → List Lexeme → Read BinaryOp

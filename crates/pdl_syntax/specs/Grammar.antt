@@ -1,7 +1,7 @@
 -- The grammar of expressions, one case a rule.
 use Rattle.std.specs.Prelude.{◌≡◌, ℕ, zero, suc, ℤ, List, [], ◌∷◌, Bool, true, false, Option, Some, unwrap_or, length}
 use Rattle.pdl_elem.specs.declared.BinaryOp.{BinaryOp}
-use Rattle.pdl_elem.specs.declared.BinaryOp.TheVariants.{Add, Sub, Mul, Div, Rem, Shl, Shr, Lt, Le, Gt, Ge, Eq, Ne, And, Or, Xor}
+use Rattle.pdl_elem.specs.declared.BinaryOp.TheVariants.{Sub}
 use Rattle.pdl_elem.specs.declared.UnaryOp.{UnaryOp}
 use Rattle.pdl_elem.specs.declared.UnaryOp.TheVariants.{Neg}
 use Rattle.pdl_elem.specs.declared.Ty.{Ty}
@@ -12,37 +12,9 @@ use Rattle.pdl_lexemes.specs.declared.Keyword.TheVariants.{Pdl}
 use Rattle.pdl_lexemes.specs.declared.Lexeme.{Lexeme}
 use Rattle.pdl_lexemes.specs.declared.Lexeme.TheVariants.{Name, Keyword, Word, Number, Quoted, Open, Close, Comma, Arrow, Operator, Prefix}
 use Rattle.pdl_lexemes.specs.Bytes.{bytes_at}
+use Rattle.pdl_lexemes.specs.Levels.{level_of, many}
 use Rattle.pdl_lexemes.specs.Lists.{signed, type_of, SpellsList, a_list}
 use Rattle.pdl_syntax.specs.Tree.{Tree, Args, number, named, literal, unary, binary, call, none, value, text, of_type}
-
--- the level of an operator: the lower one binds tighter
-abbrev pub level_of : BinaryOp → ℕ
-level_of Mul = 1
-level_of Div = 1
-level_of Rem = 1
-level_of Add = 2
-level_of Sub = 2
-level_of Shl = 3
-level_of Shr = 3
-level_of Lt = 4
-level_of Gt = 4
-level_of Le = 4
-level_of Ge = 4
-level_of Eq = 5
-level_of Ne = 5
-level_of And = 6
-level_of Or = 7
-level_of Xor = 7
-
--- whether a level has any number of operators, grouped to the left; the others have at most one
-abbrev pub many : ℕ → Bool
-many zero = true
-many (suc zero) = true
-many (suc (suc zero)) = true
-many (suc (suc (suc zero))) = true
-many (suc (suc (suc (suc zero)))) = false
-many (suc (suc (suc (suc (suc zero))))) = false
-many (suc (suc (suc (suc (suc (suc n)))))) = true
 
 -- the tree of a list literal; a ragged one, which is refused later, has a dimension that is
 -- too long for its numbers

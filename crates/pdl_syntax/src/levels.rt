@@ -1,26 +1,11 @@
-//! The levels of operators, and looks at an operator at the front.
+//! Looks at an operator at the front, by its level.
 
 ghost use Rattle.std.specs.Prelude.{◌≡◌, ◌<◌};
-ghost use Rattle.pdl_syntax.specs.Grammar.{level_of};
+ghost use Rattle.pdl_lexemes.specs.Levels.{level_of};
 ghost use Rattle.pdl_syntax.specs.ExpressionReading.{operator_at, level_between, limit_of};
 
 use pdl_elem::BinaryOp;
-use pdl_lexemes::{Lexeme, Lexemes};
-
-/// The level of an operator: the lower one binds tighter.
-pub fn level_of(op: BinaryOp) -> u8
-    ensures { result ≡ level_of op }
-{
-    match op {
-        BinaryOp::Mul | BinaryOp::Div | BinaryOp::Rem => 1,
-        BinaryOp::Add | BinaryOp::Sub => 2,
-        BinaryOp::Shl | BinaryOp::Shr => 3,
-        BinaryOp::Lt | BinaryOp::Gt | BinaryOp::Le | BinaryOp::Ge => 4,
-        BinaryOp::Eq | BinaryOp::Ne => 5,
-        BinaryOp::And => 6,
-        BinaryOp::Or | BinaryOp::Xor => 7,
-    }
-}
+use pdl_lexemes::{Lexeme, Lexemes, level_of};
 
 /// An operator of this level, and what follows it.
 pub fn operator<'a>(level: u8, tokens: &Lexemes<'a>) -> Option<(BinaryOp, Lexemes<'a>)>

@@ -18,7 +18,6 @@ pub use laws::{
     calls_are_trees, literals_are_arrays, one_statement, parsing_is_the_grammar,
     reading_is_the_grammar,
 };
-pub use levels::level_of;
 pub use parser::{ParseFault, parse, parse_within};
 pub use pdl_lexemes::AssignOp;
 pub use tree::{Arg, Expr, Statement, Target, ViewCall};
