@@ -4,3 +4,5 @@ pub mod Walking
 pub mod Spans
 pub mod Settled
 pub mod Joining
+pub mod Apart
+pub mod Written

@@ -38,7 +38,7 @@ none_from m n text none here k above within =
     (λ at. let same : k ≡ suc m = omega arith in subst (λ j. kind_of (take j text) ≡ None) (sym same) (here (omega arith)))
     (order (suc m) k)
 
-by_bool : {P : Type 0} (b : Bool) → (b ≡ true → P) → (b ≡ false → P) → P
+pub by_bool : {P : Type 0} (b : Bool) → (b ≡ true → P) → (b ≡ false → P) → P
 by_bool true when_true when_false = when_true refl
 by_bool false when_true when_false = when_false refl
 
@@ -72,7 +72,7 @@ closed-at quote (b ∷ bs) below =
     (λ same. let at : other_len quote (b ∷ bs) ≡ 0 = rw same in rw (at, same))
     (λ other. let more : other_len quote (b ∷ bs) ≡ suc (other_len quote bs) = prefix-yes (λ c. not (c == quote)) b bs (rw other) in rw (more, other) (closed-at quote bs (omega (arith, more))))
 
-differs-eqb : (k : ℕ) → (k ≡ 0 → ⊥) → (k == 0) ≡ false
+pub differs-eqb : (k : ℕ) → (k ≡ 0 → ⊥) → (k == 0) ≡ false
 differs-eqb k some = by_bool (k == 0) (λ same. absurd (some (eqb-true k 0 same))) (λ other. other)
 
 closed-not : (quote : ℕ) (bs : List ℕ) (k : ℕ) → k ≤ length bs → (k ≡ suc (other_len quote bs) → ⊥) → is_closed quote (take k bs) ≡ false
@@ -89,7 +89,7 @@ closed-not quote (b ∷ bs) (suc k) within differs =
     rw other (closed-not quote bs k (omega arith) (λ e. differs (ap suc (e ∙ sym more)))))
 
 -- no sign has more than three bytes
-sign-long : (text : List ℕ) (k : ℕ) → 3 < k → k ≤ length text → is_sign (take k text) ≡ false
+pub sign-long : (text : List ℕ) (k : ℕ) → 3 < k → k ≤ length text → is_sign (take k text) ≡ false
 sign-long (a ∷ b ∷ c ∷ d ∷ rest) (suc (suc (suc (suc k)))) long within = refl
 sign-long text k long within = absurd (omega arith)
 

@@ -4,5 +4,7 @@ pub mod Pieces
 pub mod Settled
 pub mod Joining
 pub mod Tokens
+pub mod Written
+pub mod Brackets
 pub mod Steps
 pub mod TokenReading

@@ -23,7 +23,7 @@ triples = codes "<<=" ∷ codes ">>=" ∷ []
 -- whether the whole text is one sign
 abbrev pub is_sign : List ℕ → Bool
 is_sign [] = false
-is_sign (a ∷ []) = list_any (λ b. a == b) (codes "()[],=+-*/%><&|^!~")
+is_sign (a ∷ []) = list_any (λ b. a == b) (codes "()[],:=+-*/%><&|^!~")
 is_sign (a ∷ b ∷ []) = list_any (bytes_eq (a ∷ b ∷ [])) pairs
 is_sign (a ∷ b ∷ c ∷ []) = list_any (bytes_eq (a ∷ b ∷ c ∷ [])) triples
 is_sign (a ∷ b ∷ c ∷ d ∷ rest) = false

@@ -2,6 +2,7 @@
 ghost use Rattle.pdl_lex.specs.Settled.{BeginThePieces, StaySettled};
 ghost use Rattle.pdl_lex.specs.Joining.{StatementsJoin, BlanksJoin, PartsJoin, DigitsStay};
 ghost use Rattle.pdl_lex.specs.Tokens.{TextsHaveOneMeaning, TokensAreSpans};
+ghost use Rattle.pdl_lex.specs.Written.{WrittenAreRead, TextsAreWritten, ApartAreLongest, QuotedAreStrings};
 
 /// The statements that bytes settle are the first ones of each script that begins with them
 /// (`begin`), and more bytes take none of them back (`stay`). The call
@@ -34,4 +35,15 @@ pub fn token_meaning()
 /// bytes. The call does nothing when it runs.
 pub fn tokens_are_spans()
     ensures { TokensAreSpans }
+{}
+
+/// Texts that are written token by token: such a text has these tokens (`read`), and each text that
+/// has tokens is written so (`all`). A token that can't join what follows it is the longest one
+/// where it stands (`longest`), and bytes between two quotes that they don't have are a string
+/// (`strings`). The call does nothing when it runs.
+pub fn written_laws()
+    ensures read { WrittenAreRead }
+    ensures all { TextsAreWritten }
+    ensures longest { ApartAreLongest }
+    ensures strings { QuotedAreStrings }
 {}

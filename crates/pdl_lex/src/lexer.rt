@@ -46,7 +46,7 @@ fn is_sign(text: &[u8]) -> bool
     ensures { result ≡ is_sign text.now }
 {
     match text {
-        b"(" | b")" | b"[" | b"]" | b"," | b"=" | b"!" | b"~" => true,
+        b"(" | b")" | b"[" | b"]" | b"," | b":" | b"=" | b"!" | b"~" => true,
         b"+" | b"-" | b"*" | b"/" | b"%" | b">" | b"<" | b"&" | b"|" | b"^" => true,
         b"->" | b"=>" | b">=" | b"<=" | b"==" | b"!=" | b"<<" | b">>" => true,
         b".=" | b"+=" | b"-=" | b"*=" | b"/=" | b"%=" | b"&=" | b"|=" | b"^=" => true,

@@ -8,7 +8,7 @@ mod lexer;
 mod parts;
 
 pub use cutter::{Mode, StatementCutter};
-pub use laws::{joining_laws, settled_laws, token_meaning, tokens_are_spans};
+pub use laws::{joining_laws, settled_laws, token_meaning, tokens_are_spans, written_laws};
 pub use lexer::{is_word, read_tokens, tokens};
 pub use parts::cut_parts;
 use std::alloc::{AllocError, AllocFailed};

@@ -7,3 +7,4 @@ pub mod Squares
 pub mod ListDims
 pub mod ListArrays
 pub mod Signs
+pub mod OpenBrackets

@@ -19,11 +19,11 @@ one_of same p x here (y ∷ ys) found all = of_tests (one_of same p x here ys) (
     of_tests later false true e k f g = later f g
     of_tests later a false e k f g = absurd (true≢false (sym g))
 
-byte_known : (a : ℕ) → list_any (λ b. a == b) (codes "()[],=+-*/%><&|^!~") ≡ true → is_known (a ∷ []) ≡ true
+byte_known : (a : ℕ) → list_any (λ b. a == b) (codes "()[],:=+-*/%><&|^!~") ≡ true → is_known (a ∷ []) ≡ true
 byte_known a found =
     one_of (λ b. a == b) (λ b. is_known (b ∷ [])) a
     (λ b same known. subst (λ c. is_known (c ∷ []) ≡ true) (sym (eqb-true a b same)) known)
-    (codes "()[],=+-*/%><&|^!~") found refl
+    (codes "()[],:=+-*/%><&|^!~") found refl
 
 text_known : (text : List ℕ) (texts : List (List ℕ)) → list_any (bytes_eq text) texts ≡ true → list_all is_known texts ≡ true → is_known text ≡ true
 text_known text texts found all =

@@ -2,13 +2,16 @@
 use Rattle.std.specs.Prelude.{◌≡◌, ◌↔◌, ◌≤◌, ℕ, ℤ, List, [], ◌∷◌, length, true, ◌||◌, Option, None, Some, unwrap_or, All, is_some}
 use Rattle.pdl_elem.specs.Types.{InRange}
 use Rattle.pdl_shape.specs.Shape.{size_of}
+use Rattle.pdl_lex.specs.declared.Token.{Token}
 use Rattle.pdl_lex.specs.Tokens.{is_sign}
+use Rattle.pdl_lex.specs.Written.{written}
+use Rattle.pdl_lex.specs.Brackets.{no_brackets, go_deep}
 use Rattle.pdl_lexemes.specs.declared.Lexeme.{Lexeme}
 use Rattle.pdl_lexemes.specs.declared.Lexeme.TheVariants.{OpenSquare}
 use Rattle.pdl_lexemes.specs.Lists.{SpellsList, a_list, type_of, HoldsRagged}
 use Rattle.pdl_lexemes.specs.ListReading.{read_part, list_read}
-use Rattle.pdl_lexemes.specs.Depth.{without_shape, ragged_in}
-use Rattle.pdl_lexemes.specs.Lexing.{found_in, operators, assignments, signs}
+use Rattle.pdl_lexemes.specs.Depth.{without_shape, ragged_in, is_too_deep}
+use Rattle.pdl_lexemes.specs.Lexing.{found_in, operators, assignments, signs, lexemes_of}
 use Rattle.pdl_lexemes.specs.Peeks.{after}
 
 -- a list literal is read exactly where the grammar spells it; it begins with `[`, and what
@@ -49,3 +52,9 @@ SignsAreKnown =
     (text : List ℕ) → is_sign text ≡ true →
     (is_some (found_in signs text) || is_some (found_in operators text)
     || is_some (found_in assignments text)) ≡ true
+
+-- where more than 64 brackets are open at a token, the lexemes go too deep
+abbrev pub BracketsAreCounted : Type 0
+BracketsAreCounted =
+    (text : List ℕ) (ts : List Token) → go_deep no_brackets (written text 0 ts) ≡ true →
+    is_too_deep (lexemes_of text ts) ≡ true

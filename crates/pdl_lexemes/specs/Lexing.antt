@@ -64,7 +64,7 @@ abbrev pub signs : List (List ℕ × Lexeme)
 signs =
     (codes "(", Open) ∷ (codes ")", Close) ∷ (codes "[", OpenSquare) ∷ (codes "]", CloseSquare)
     ∷ (codes ",", Comma) ∷ (codes "=", Equals) ∷ (codes "->", Arrow) ∷ (codes "=>", FatArrow)
-    ∷ (codes "!", Prefix Not) ∷ (codes "~", Prefix Complement) ∷ []
+    ∷ (codes "!", Prefix Not) ∷ (codes "~", Prefix Complement) ∷ (codes ":", Unknown) ∷ []
 
 -- the value of decimal digits, or 2 ^ 63 where it is above 9223372036854775807
 abbrev pub with_digit : ℕ → ℕ → ℕ

@@ -1,6 +1,6 @@
 //! What the definitions promise to the crates above.
 
-ghost use Rattle.pdl_lexemes.specs.Laws.{ListsAreRead, RaggedIsScanned, ListsAreArrays, SignsAreKnown};
+ghost use Rattle.pdl_lexemes.specs.Laws.{ListsAreRead, RaggedIsScanned, ListsAreArrays, SignsAreKnown, BracketsAreCounted};
 
 /// A list literal is read exactly where the grammar spells it.
 pub fn lists_are_their_grammar()
@@ -21,4 +21,9 @@ pub fn lists_are_arrays()
 /// Each sign that a text may have is a lexeme of the grammar.
 pub fn every_sign_is_known()
     ensures { SignsAreKnown }
+{}
+
+/// Where more than 64 brackets are open at a token of a text, its lexemes go too deep.
+pub fn brackets_are_counted()
+    ensures { BracketsAreCounted }
 {}

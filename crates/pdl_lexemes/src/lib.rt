@@ -17,7 +17,10 @@ pub mod sizes;
 mod tables;
 
 pub use checks::has_large;
-pub use laws::{every_sign_is_known, lists_are_arrays, lists_are_their_grammar, ragged_is_scanned};
+pub use laws::{
+    brackets_are_counted, every_sign_is_known, lists_are_arrays, lists_are_their_grammar,
+    ragged_is_scanned,
+};
 pub use left::Lexemes;
 pub use levels::level_of;
 pub use lexing::{
@@ -93,7 +96,7 @@ pub enum Lexeme {
     Operator(BinaryOp),
     /// `!` or `~`.
     Prefix(UnaryOp),
-    /// A sign that the grammar doesn't know.
+    /// A sign that no rule of the grammar has, as `:`.
     Unknown,
 }
 

@@ -91,6 +91,7 @@ pub(crate) const SIGNS: &[(&[u8], Lexeme)] = &[
     (b"=>", Lexeme::FatArrow),
     (b"!", Lexeme::Prefix(UnaryOp::Not)),
     (b"~", Lexeme::Prefix(UnaryOp::Complement)),
+    (b":", Lexeme::Unknown),
 ];
 
 /// What a table has for a text.

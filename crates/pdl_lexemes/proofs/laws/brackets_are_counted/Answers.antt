@@ -1,0 +1,5 @@
+use Rattle.pdl_lexemes.proofs.OpenBrackets.{brackets_are_counted}
+use Rattle.pdl_lexemes.proofs.laws.brackets_are_counted.Goals as goal
+
+pub returns : goal.returns
+returns c = brackets_are_counted
