@@ -2,10 +2,12 @@
 use Rattle.std.proofs.Common.{◌≡◌, ℕ, zero, suc, ◌+◌, ◌-◌, ◌*◌, ◌/◌, ◌%◌, ◌<◌, ◌≤◌, max, inl, inr, Bool, true, false, not, ◌&&◌, ◌||◌, List, [], ◌∷◌, ◌++◌, length, take, drop, nat_le, Option, Some, None, IsSome, ℤ, pos, ◌+ℤ◌, ◌*ℤ◌, ◌≤ℤ◌, ◌==◌, if◌then◌else◌, refl, sym, ap, ◌∙◌, subst, arith, eq-eqb}
 use Rattle.std.specs.List.{list_any}
 use Rattle.std.specs.Ordering.{int_eq}
-use Rattle.std.proofs.lemmas.Bool.{cases_eq}
+use Rattle.std.proofs.lemmas.Bool.{cases_eq, or_parts}
 use Rattle.std.proofs.lemmas.Bool.Decides.{nat_tests}
 use Rattle.std.proofs.lemmas.Int.{ints}
 use Rattle.std.proofs.lemmas.List.{map-append, take-append-drop, length-take-le, length-drop}
+use Rattle.std.proofs.Math.Nat.{zero-mod, zero-div}
+use Rattle.std.proofs.Math.IntN.{+ℤ_idl, +ℤ_assoc}
 use Rattle.pdl_shape.specs.Laws.{PositionLaws}
 use Rattle.pdl_shape.specs.Shape.{IsWithin, size_of, coordinates_of}
 use Rattle.pdl_shape.specs.Triple.{Triple, IsTriple, moved, spread, whole_incs, whole_triple}
@@ -24,36 +26,24 @@ within-append (d ∷ ds) es [] bs v w = absurd v
 within-append (d ∷ ds) es (c ∷ cs) bs v w = (v.0, within-append ds es cs bs v.1 w)
 
 moved-append : (xs ys : List ℤ) (cs bs : List ℕ) → length cs ≡ length xs → moved (xs ++ ys) (cs ++ bs) ≡ moved xs cs +ℤ moved ys bs
-moved-append [] ys [] bs h = begin (moved ys bs) where
-  begin : (z : ℤ) → z ≡ pos 0 +ℤ z
-  begin z = omega (arith, ints)
+moved-append [] ys [] bs h = sym (+ℤ_idl (moved ys bs))
 moved-append [] ys (c ∷ cs) bs h = absurd (omega arith)
 moved-append (x ∷ xs) ys [] bs h = absurd (omega arith)
-moved-append (x ∷ xs) ys (c ∷ cs) bs h = rw (moved-append xs ys cs bs (omega arith)) (joins (x *ℤ pos c) (moved xs cs) (moved ys bs)) where
-  joins : (a b c : ℤ) → a +ℤ (b +ℤ c) ≡ (a +ℤ b) +ℤ c
-  joins a b c = omega (arith, ints)
+moved-append (x ∷ xs) ys (c ∷ cs) bs h = rw (moved-append xs ys cs bs (omega arith)) (sym (+ℤ_assoc (x *ℤ pos c) (moved xs cs) (moved ys bs)))
 
 pub length-coordinates : (ds : List ℕ) (p : ℕ) → length (coordinates_of ds p) ≡ length ds
 length-coordinates [] p = refl
 length-coordinates (d ∷ ds) p = ap suc (length-coordinates ds (p / d))
 
 -- the coordinates at the first place are all 0
-first_remainder : (d : ℕ) → 0 % d ≡ 0
-first_remainder zero = refl
-first_remainder (suc d) = omega arith
-
-first_quotient : (d : ℕ) → 0 / d ≡ 0
-first_quotient zero = refl
-first_quotient (suc d) = omega arith
-
 first_filled : (ds : List ℕ) → IsWithin (filled ds) (coordinates_of ds 0)
 first_filled [] = tt
-first_filled (d ∷ ds) = (subst (λ n. n < max d 1) (sym (first_remainder d)) (omega arith), subst (λ n. IsWithin (filled ds) (coordinates_of ds n)) (sym (first_quotient d)) (first_filled ds))
+first_filled (d ∷ ds) = (subst (λ n. n < max d 1) (sym (zero-mod d)) (omega arith), subst (λ n. IsWithin (filled ds) (coordinates_of ds n)) (sym (zero-div d)) (first_filled ds))
 
 first_moved : (xs : List ℤ) (ds : List ℕ) → moved xs (coordinates_of ds 0) ≡ pos 0
 first_moved [] ds = refl
 first_moved (x ∷ xs) [] = refl
-first_moved (x ∷ xs) (d ∷ ds) = rw (first_remainder d, first_quotient d, first_moved xs ds) (omega (arith, ints))
+first_moved (x ∷ xs) (d ∷ ds) = rw (zero-mod d, zero-div d, first_moved xs ds) (omega (arith, ints))
 
 -- an empty size leaves no element
 empty_size : (ds : List ℕ) → list_any (λ d. d == 0) ds ≡ true → size_of ds ≡ 0
@@ -184,12 +174,6 @@ pub clump_window : (n : ℕ) (over t : Triple) (ds : List ℕ) → true ≡ do_j
 clump_window n over t ds j e h =
     ap Some (h ∙ ap (triple_showing (form_place (clumped n) over)) e) ∙ ap (λ b. if b then Some (triple_showing (form_place (clumped n) over) (sizes (clumped n) over.dims)) else None) j
 
-later : (a b : Bool) → (a || b) ≡ false → b ≡ false
-later a b h = grind arith
-
-first : (a b : Bool) → (a || b) ≡ false → a ≡ false
-first a b h = grind arith
-
 large : (d n : ℕ) → (d ≡ 1 → ⊥) → (d == 0) ≡ false → (if nat_le d 1 then pos 0 else pos n) ≡ pos n
 large d n o h = grind (arith, nat_tests)
 
@@ -199,11 +183,11 @@ whole_after a e [] some = refl
 whole_after a e (d ∷ ds) some = elim (cases_eq d 1) [
   | inl one ↦
       subst (λ b. is_chain ((pos a, e) ∷ (if not b then (if nat_le d 1 then pos 0 else pos (a * e), d) ∷ others (whole_incs (a * e * d) ds) ds else others (whole_incs (a * e * d) ds) ds)) ≡ true) (sym (is_one d one))
-      (subst (λ n. is_chain ((pos a, e) ∷ others (whole_incs n ds) ds) ≡ true) (ones (a * e) d one) (whole_after a e ds (later (d == 0) (list_any (λ d. d == 0) ds) some)))
+      (subst (λ n. is_chain ((pos a, e) ∷ others (whole_incs n ds) ds) ≡ true) (ones (a * e) d one) (whole_after a e ds (or_parts (d == 0) (list_any (λ d. d == 0) ds) some).1))
   | inr o ↦
       subst (λ b. is_chain ((pos a, e) ∷ (if not b then (if nat_le d 1 then pos 0 else pos (a * e), d) ∷ others (whole_incs (a * e * d) ds) ds else others (whole_incs (a * e * d) ds) ds)) ≡ true) (sym (not_one d o))
-      (subst (λ z. (int_eq z (pos a *ℤ pos e) && is_chain ((z, d) ∷ others (whole_incs (a * e * d) ds) ds)) ≡ true) (sym (large d (a * e) o (first (d == 0) (list_any (λ d. d == 0) ds) some)))
-      (next (a * e) (is_chain ((pos (a * e), d) ∷ others (whole_incs (a * e * d) ds) ds)) (whole_after (a * e) d ds (later (d == 0) (list_any (λ d. d == 0) ds) some))))
+      (subst (λ z. (int_eq z (pos a *ℤ pos e) && is_chain ((z, d) ∷ others (whole_incs (a * e * d) ds) ds)) ≡ true) (sym (large d (a * e) o (or_parts (d == 0) (list_any (λ d. d == 0) ds) some).0))
+      (next (a * e) (is_chain ((pos (a * e), d) ∷ others (whole_incs (a * e * d) ds) ds)) (whole_after (a * e) d ds (or_parts (d == 0) (list_any (λ d. d == 0) ds) some).1)))
 ] where
   ones : (n d : ℕ) → d ≡ 1 → n ≡ n * d
   ones n d h = rw h (omega arith)
@@ -216,11 +200,11 @@ whole_chain k [] some = refl
 whole_chain k (d ∷ ds) some = elim (cases_eq d 1) [
   | inl one ↦
       subst (λ b. is_chain (if not b then (if nat_le d 1 then pos 0 else pos k, d) ∷ others (whole_incs (k * d) ds) ds else others (whole_incs (k * d) ds) ds) ≡ true) (sym (is_one d one))
-      (whole_chain (k * d) ds (later (d == 0) (list_any (λ d. d == 0) ds) some))
+      (whole_chain (k * d) ds (or_parts (d == 0) (list_any (λ d. d == 0) ds) some).1)
   | inr o ↦
       subst (λ b. is_chain (if not b then (if nat_le d 1 then pos 0 else pos k, d) ∷ others (whole_incs (k * d) ds) ds else others (whole_incs (k * d) ds) ds) ≡ true) (sym (not_one d o))
-      (subst (λ z. is_chain ((z, d) ∷ others (whole_incs (k * d) ds) ds) ≡ true) (sym (large d k o (first (d == 0) (list_any (λ d. d == 0) ds) some)))
-      (whole_after k d ds (later (d == 0) (list_any (λ d. d == 0) ds) some)))
+      (subst (λ z. is_chain ((z, d) ∷ others (whole_incs (k * d) ds) ds) ≡ true) (sym (large d k o (or_parts (d == 0) (list_any (λ d. d == 0) ds) some).0))
+      (whole_after k d ds (or_parts (d == 0) (list_any (λ d. d == 0) ds) some).1))
 ]
 
 whole_joins : (k : ℕ) (ds : List ℕ) → do_join (whole_incs k ds) ds ≡ true

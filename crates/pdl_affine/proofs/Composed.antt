@@ -123,9 +123,6 @@ clump_order laws n ds (c ∷ cs) w =
     ∙ position_append (take n ds) (drop n ds) (coordinates_of (take n ds) c) cs (length-coordinates (take n ds) c)
     ∙ ap (λ p. p + size_of (take n ds) * position_of (drop n ds) cs) (laws.position_again (take n ds) c w.0)
 
-clash : (a : Option Triple) (t : Triple) → a ≡ Some t → a ≡ None → ⊥
-clash a t h k = cc
-
 -- a form without a triple is a clump
 windowless : PositionLaws → (form : Form) (over : Triple) (cs : List ℕ) → windowed form over ≡ None → IsWithin (sizes form over.dims) cs → position_of over.dims (form_source form over.dims cs) ≡ position_of (sizes form over.dims) cs
 windowless laws (sliced ls) over cs h w = cc

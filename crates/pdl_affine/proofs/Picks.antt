@@ -1,7 +1,7 @@
 -- The course of each dimension of the parent, for the views that pick whole dimensions.
 use Rattle.std.proofs.Common.{◌≡◌, ℕ, zero, suc, ◌+◌, ◌-◌, ◌<◌, ◌≤◌, max, inl, inr, Bool, true, false, not, ◌&&◌, ◌||◌, List, [], ◌∷◌, ◌++◌, filter, length, take, drop, get_or, replicate, insert, remove, swap, position, unwrap_or, Some, None, pos, ◌+ℤ◌, ◌*ℤ◌, nat_lt, nat_le, ◌==◌, if◌then◌else◌, refl, sym, ap, ◌∙◌, subst, arith, IsTrue, eq-eqb, length-append, get_or-take, zero-add, add-one, suc-le-suc}
 use Rattle.std.specs.List.{range_with_len, list_all, position_or_len, All}
-use Rattle.std.proofs.lemmas.Bool.{cases_eq, cases_lt}
+use Rattle.std.proofs.lemmas.Bool.{cases_eq, cases_lt, or_right}
 use Rattle.std.proofs.lemmas.Bool.Decides.{nat_tests}
 use Rattle.std.proofs.lemmas.Int.{ints}
 use Rattle.std.proofs.lemmas.List.{length-map, get_or-map, length-replicate, get_or_append_left, get_or_at, get_or-drop}
@@ -228,9 +228,7 @@ lowest_listed i [] = listed-here i []
 lowest_listed i (j ∷ is) = lower (lowest_listed j is) (nat_le i (lowest_of (j ∷ is))) where
   lower : lists (j ∷ is) (lowest_of (j ∷ is)) ≡ true → (b : Bool) → lists (i ∷ j ∷ is) (if b then i else lowest_of (j ∷ is)) ≡ true
   lower h true = listed-here i (j ∷ is)
-  lower h false = or_right (i == lowest_of (j ∷ is)) (lists (j ∷ is) (lowest_of (j ∷ is))) h where
-    or_right : (a b : Bool) → b ≡ true → (a || b) ≡ true
-    or_right a b h = grind arith
+  lower h false = or_right (i == lowest_of (j ∷ is)) (lists (j ∷ is) (lowest_of (j ∷ is))) h
 
 sizes_listed : (size : ℕ) (is ds : List ℕ) (i : ℕ) → list_all (λ j. get_or ds j 0 == size) is ≡ true → lists is i ≡ true → get_or ds i 0 ≡ size
 sizes_listed size is ds i all h =

@@ -12,9 +12,6 @@ left is i n = list_all (λ j. lists is j) (range_with_len i (n - i))
 pub left_step : (is : List ℕ) (i n : ℕ) → i < n → left is i n ≡ (lists is i && left is (i + 1) n)
 left_step is i n h = ap (λ k. list_all (λ j. lists is j) (range_with_len i k)) (let e : n - i ≡ suc (n - (i + 1)) = omega arith in e)
 
-pub left_end : (is : List ℕ) (i n : ℕ) → n ≤ i → left is i n ≡ true
-left_end is i n h = ap (λ k. list_all (λ j. lists is j) (range_with_len i k)) (let e : n - i ≡ 0 = omega arith in e)
-
 pub number_next : (all : Option (List ℕ)) (ks : List ℤ) (is : List ℕ) (n i : ℕ) (d : ℤ) → i < length ks → all ≡ places_before is (all_counted (drop i ks) n)
     → all ≡ places_before is (option_and_then (λ j. option_map (λ js. j ∷ js) (all_counted (drop (i + 1) ks) n)) (from_end (get_or ks i d) n))
 number_next all ks is n i d lt h =

@@ -4,6 +4,7 @@ use Rattle.std.proofs.Math.Nat.{mul-le-mul_left}
 use Rattle.std.proofs.lemmas.Bool.Decides.{nat_tests}
 use Rattle.std.proofs.lemmas.Int.{ints}
 use Rattle.std.proofs.lemmas.List.{length-map, get_or-map, get_or-drop}
+use Rattle.std.proofs.lemmas.Bool.{leb-true, leb-false}
 use Rattle.pdl_shape.specs.Laws.{PositionLaws}
 use Rattle.pdl_shape.specs.Shape.{IsWithin}
 use Rattle.pdl_slices.specs.declared.SliceArg.{SliceArg}
@@ -56,23 +57,15 @@ steps_within (suc s) c e l = let m : suc s * c ≤ suc s * (e / suc s) = mul-le-
 span_fits : (a b : ℕ) (step : Option ℤ) (d : ℕ) → a < d → b < d → LineFits (span_line a b step) d
 span_fits a b None d h k = by_order (nat_le a b) refl where
   by_order : (t : Bool) → nat_le a b ≡ t → Fits a (if t then pos 1 else negsuc 0) (distance a b + 1) d
-  by_order true e = rising a (distance a b + 1) 1 d h (λ c l. omega (arith, l, k, up a b e)) where
-    up : (a b : ℕ) → nat_le a b ≡ true → a ≤ b
-    up a b e = grind (arith, nat_tests)
-  by_order false e = falling a (distance a b + 1) 0 d h (λ c l. omega (arith, l, down a b e)) where
-    down : (a b : ℕ) → nat_le a b ≡ false → b ≤ a
-    down a b e = grind (arith, nat_tests)
+  by_order true e = rising a (distance a b + 1) 1 d h (λ c l. omega (arith, l, k, leb-true a b e))
+  by_order false e = falling a (distance a b + 1) 0 d h (λ c l. omega (arith, l, leb-false a b e))
 span_fits a b (Some (pos s)) d h k = by_order (nat_le a b) refl where
   by_order : (t : Bool) → nat_le a b ≡ t → Fits a (pos s) (if t then distance a b / s + 1 else 0) d
-  by_order true e = rising a (distance a b / s + 1) s d h (λ c l. omega (arith, k, up a b e, steps_within s c (distance a b) l)) where
-    up : (a b : ℕ) → nat_le a b ≡ true → a ≤ b
-    up a b e = grind (arith, nat_tests)
+  by_order true e = rising a (distance a b / s + 1) s d h (λ c l. omega (arith, k, leb-true a b e, steps_within s c (distance a b) l))
   by_order false e = rising a 0 s d h (λ c l. let z : c ≡ 0 = omega (arith, l) in subst (λ n. a + s * n < d) (sym z) (omega (arith, h)))
 span_fits a b (Some (negsuc s)) d h k = by_order (nat_le b a) refl where
   by_order : (t : Bool) → nat_le b a ≡ t → Fits a (negsuc s) (if t then distance a b / suc s + 1 else 0) d
-  by_order true e = falling a (distance a b / suc s + 1) s d h (λ c l. omega (arith, down a b e, steps_within (suc s) c (distance a b) l)) where
-    down : (a b : ℕ) → nat_le b a ≡ true → b ≤ a
-    down a b e = grind (arith, nat_tests)
+  by_order true e = falling a (distance a b / suc s + 1) s d h (λ c l. omega (arith, leb-true b a e, steps_within (suc s) c (distance a b) l))
   by_order false e = falling a 0 s d h (λ c l. let z : c ≡ 0 = omega (arith, l) in subst (λ n. suc s * n ≤ a) (sym z) (omega arith))
 
 -- a place by its number is there

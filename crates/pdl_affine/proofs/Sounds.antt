@@ -2,6 +2,7 @@
 use Rattle.std.proofs.Common.{◌≡◌, ℕ, zero, suc, ◌<◌, ◌≤◌, ◌&&◌, Bool, true, false, List, [], ◌∷◌, length, Option, Some, None, Ok, option_map, option_and_then, ℤ, pos, negsuc, nat_le, ◌==◌, if◌then◌else◌, refl, ap, subst, arith, IsTrue}
 use Rattle.std.specs.List.{All}
 use Rattle.std.proofs.lemmas.Bool.Decides.{nat_tests}
+use Rattle.std.proofs.lemmas.Bool.{and_parts}
 use Rattle.pdl_affine.specs.declared.Affine.{Affine}
 use Rattle.pdl_affine.specs.declared.Affine.TheVariants as affine
 use Rattle.pdl_shape.specs.Clump.{clump_count}
@@ -64,9 +65,6 @@ count_inside (negsuc k) n m h = inside k n m h where
   inside : (k n m : ℕ) → (if k == 0 then Some n else None) ≡ Some m → m ≤ n
   inside k n m h = grind (arith, nat_tests)
 
-right : (a b : Bool) → (a && b) ≡ true → b ≡ true
-right a b h = grind arith
-
 holds : (b : Bool) → b ≡ true → IsTrue b
 holds b h = grind arith
 
@@ -83,6 +81,6 @@ resolved_sound (affine.Reorder order) ds form h =
 resolved_sound (affine.Dummy place size) ds form h = inserted_sound ds (new_place place (length ds)) size form (form_is bad_dimension _ form h)
 resolved_sound (affine.Diagonal ks) ds form h =
     listed ds diagonal (λ is. is_distinct is && are_same_size is ds) (all_counted ks (length ds)) form
-    (λ is e t. (all_inside ks (length ds) is e, holds (are_same_size is ds) (right (is_distinct is) (are_same_size is ds) t))) (form_is bad_dimension _ form h)
+    (λ is e t. (all_inside ks (length ds) is e, holds (are_same_size is ds) (and_parts (is_distinct is) (are_same_size is ds) t).1)) (form_is bad_dimension _ form h)
 resolved_sound affine.Squeeze ds form h = let same : squeezed ≡ form = cc in subst (λ f. IsSound f ds) same tt
 resolved_sound (affine.Clump count) ds form h = clumped_sound ds (clump_count count (length ds)) form (λ n e. count_inside count (length ds) n e) (form_is bad_dimension _ form h)

@@ -4,6 +4,7 @@ use Rattle.std.specs.List.{range_with_len}
 use Rattle.std.proofs.lemmas.Int.{ints}
 use Rattle.std.proofs.lemmas.List.{length-map, get_or-map}
 use Rattle.std.proofs.lemmas.List.FromFn.{length-map-range_with_len, get_or-map-range_with_len}
+use Rattle.std.proofs.Math.IntN.{+ℤ_assoc}
 use Rattle.pdl_shape.specs.Laws.{PositionLaws}
 use Rattle.pdl_shape.specs.Shape.{IsWithin, extent_limit}
 use Rattle.pdl_shape.specs.Triple.{Triple, IsTriple, moved, spread}
@@ -82,16 +83,13 @@ courses_run laws form over ts o a = record {
       ap (λ z. pos over.offset +ℤ z)
       (moved-led over.incs ts (form_source form over.dims cs) cs (a.count ∙ sym o.paired) (λ i t lt. (a.each i t (omega (arith, o.paired))).line cs w)
       ∙ led-parts over.incs ts cs (length (sizes form over.dims)) (laws.as_many _ cs w ∙ length_filled (sizes form over.dims)))
-      ∙ joins (pos over.offset) (begun over.incs ts) _;
+      ∙ sym (+ℤ_assoc (pos over.offset) (begun over.incs ts) _);
   near = λ cs es v w.
       let n = moved_apart over.incs over.dims (each_of (length over.dims) (form_source form over.dims cs)) (each_of (length over.dims) (form_source form over.dims es)) (source_filled form over.dims ts cs a v) (source_filled form over.dims ts es a w) in
       apart (pos over.offset) _ _ _ _ (spread over.incs over.dims) (moved_each over.incs (length over.dims) (form_source form over.dims cs) o.paired) (moved_each over.incs (length over.dims) (form_source form over.dims es) o.paired) n;
   inside = λ cs w. (each_of (length over.dims) (form_source form over.dims cs), source_within form over.dims ts cs a w, ap (λ z. pos over.offset +ℤ z) (moved_each over.incs (length over.dims) (form_source form over.dims cs) o.paired));
   triple = o;
 } where
-  joins : (a b c : ℤ) → a +ℤ (b +ℤ c) ≡ (a +ℤ b) +ℤ c
-  joins a b c = omega (arith, ints)
-
   apart : (o p q p' q' : ℤ) (n : ℕ) → p ≡ p' → q ≡ q' → p' ≤ℤ (q' +ℤ pos n) → (o +ℤ p) ≤ℤ ((o +ℤ q) +ℤ pos n)
   apart o p q p' q' n h k l = omega (arith, ints)
 

@@ -2,7 +2,7 @@
 use Rattle.std.proofs.Common.{◌≡◌, ◌≢◌, ℕ, zero, suc, ◌+◌, ◌-◌, ◌*◌, ◌<◌, ◌≤◌, Bool, true, false, nat_lt, ◌==◌, ℤ, pos, unsigned_abs, ◌+ℤ◌, ◌-ℤ◌, ◌*ℤ◌, List, [], ◌∷◌, length, get_or, set, max, refl, ap, sym, ◌∙◌, subst, arith, lit≤, ⊎_elim, length-set, get_or-set_other, get_or-set_same, below_more, FitsSigned, w32, if◌then◌else◌}
 use Rattle.std.proofs.lemmas.Bool.Decides.{nat_tests}
 use Rattle.std.proofs.lemmas.Int.{fits_signed_from_abs, ints, unsigned_abs-mul}
-use Rattle.std.proofs.lemmas.Bool.{cases_eq, cases_lt}
+use Rattle.std.proofs.lemmas.Bool.{cases_eq, cases_lt, lt-ltb, le-ltb}
 use Rattle.std.proofs.Math.IntN.{+ℤ_assoc, +ℤ_comm, *ℤ_comm, *ℤ-zero, suc_ℤ-*ℤ}
 use Rattle.std.proofs.Math.Nat.{mul-le-mul, mul-le-mul_left}
 use Rattle.pdl_broadcast.specs.Cursor.{Jumps, next_of, rolled_of}
@@ -82,12 +82,6 @@ first_rolls i m n s t d j c b low high e = ⊎_elim (λ same. one same) (λ othe
         let last : d - 1 ≡ c = omega (arith, b other) in
         rw (is_one d other, above_one d (omega (arith, b other)), last) (omega (arith, ints, e, *ℤ-zero i))
 
-pub below_true : (a b : ℕ) → a < b → nat_lt a b ≡ true
-below_true a b h = grind (arith, nat_tests)
-
-pub below_false : (a b : ℕ) → b ≤ a → nat_lt a b ≡ false
-below_false a b h = grind (arith, nat_tests)
-
 pub left_over : (r n : ℕ) (t : Bool) → t ≡ false → (if t then 0 else suc r) < suc n → r < n
 left_over r n t e h = let P : Bool → Type 0 = λ b. (if b then 0 else suc r) < suc n in let k : suc r < suc n = subst P e h in omega arith
 
@@ -96,11 +90,11 @@ abbrev Moves : List ℤ → List ℕ → List ℕ → List ℕ → Type 0
 Moves is ds js cs = moved is (cut_to ds (next_of js cs)) ≡ moved is (cut_to ds cs) +ℤ (step_at is ds (rolled_of js cs) -ℤ turned_at is ds (rolled_of js cs))
 
 on_first : (i : ℤ) (is : List ℤ) (d : ℕ) (ds : List ℕ) (j : ℕ) (js : List ℕ) (c : ℕ) (cs : List ℕ) → (d ≢ 1 → d ≡ j) → c + 1 < j → Moves (i ∷ is) (d ∷ ds) (j ∷ js) (c ∷ cs)
-on_first i is d ds j js c cs b less = rw (below_true (c + 1) j less, turned_none (i ∷ is) (d ∷ ds)) (first_moves i (moved is (cut_to ds cs)) d j c b less)
+on_first i is d ds j js c cs b less = rw (lt-ltb (c + 1) j less, turned_none (i ∷ is) (d ∷ ds)) (first_moves i (moved is (cut_to ds cs)) d j c b less)
 
 over_first : (i : ℤ) (is : List ℤ) (d : ℕ) (ds : List ℕ) (j : ℕ) (js : List ℕ) (c : ℕ) (cs : List ℕ) → (d ≢ 1 → d ≡ j) → c < j → j ≤ c + 1 → rolled_of (j ∷ js) (c ∷ cs) < suc (length js) → (rolled_of js cs < length js → Moves is ds js cs) → Moves (i ∷ is) (d ∷ ds) (j ∷ js) (c ∷ cs)
 over_first i is d ds j js c cs b low more r rest =
-    let test : nat_lt (c + 1) j ≡ false = below_false (c + 1) j more in
+    let test : nat_lt (c + 1) j ≡ false = le-ltb (c + 1) j more in
     let left : rolled_of js cs < length js = left_over (rolled_of js cs) (length js) (nat_lt (c + 1) j) test r in
     rw (test, turned_first i is d ds (rolled_of js cs)) (first_rolls i (moved is (cut_to ds cs)) (moved is (cut_to ds (next_of js cs))) (step_at is ds (rolled_of js cs)) (turned_at is ds (rolled_of js cs)) d j c b low more (rest left))
 

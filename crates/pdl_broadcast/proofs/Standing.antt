@@ -2,7 +2,7 @@
 use Rattle.std.proofs.Common.{◌≡◌, ◌≢◌, ℕ, zero, suc, ◌+◌, ◌*◌, ◌<◌, ◌≤◌, Bool, true, false, nat_lt, ◌==◌, ℤ, pos, unsigned_abs, ◌+ℤ◌, ◌≤ℤ◌, List, [], ◌∷◌, ◌++◌, length, get_or, map, replicate, refl, ap, sym, ◌∙◌, subst, arith, ⊎_elim, slice_get, IfSome, if◌then◌else◌}
 use Rattle.std.specs.List.{AllZip}
 use Rattle.std.proofs.lemmas.Bool.Decides.{nat_tests}
-use Rattle.std.proofs.lemmas.Bool.{cases_lt}
+use Rattle.std.proofs.lemmas.Bool.{cases_lt, lt-ltb, le-ltb}
 use Rattle.std.proofs.Math.IntN.{+ℤ_assoc, *ℤ-zero}
 use Rattle.std.proofs.Math.Nat.{mul-le-mul}
 use Rattle.std.proofs.lemmas.Int.{ints}
@@ -12,7 +12,7 @@ use Rattle.pdl_shape.specs.Broadcast.{cut_to}
 use Rattle.pdl_shape.specs.Laws.{CutsWithin, PositionLaws}
 use Rattle.pdl_shape.specs.Shape.{IsWithin, position_of, size_of}
 use Rattle.pdl_shape.specs.Triple.{IsPlace, Triple, moved, place_of}
-use Rattle.pdl_broadcast.proofs.Jumping.{below_false, below_true, left_over}
+use Rattle.pdl_broadcast.proofs.Jumping.{left_over}
 
 -- the next coordinates lie within the sizes, one position further, where some dimension moves on
 pub record Further (ds cs : List ℕ) : Type 0 where
@@ -21,16 +21,16 @@ pub record Further (ds cs : List ℕ) : Type 0 where
 
 further_on : (d : ℕ) (ds : List ℕ) (c : ℕ) (cs : List ℕ) → IsWithin (d ∷ ds) (c ∷ cs) → c + 1 < d → Further (d ∷ ds) (c ∷ cs)
 further_on d ds c cs w less = record {
-  within = rw (below_true (c + 1) d less) (less, w.1);
-  further = rw (below_true (c + 1) d less) (omega arith);
+  within = rw (lt-ltb (c + 1) d less) (less, w.1);
+  further = rw (lt-ltb (c + 1) d less) (omega arith);
 }
 
 further_over : (d : ℕ) (ds : List ℕ) (c : ℕ) (cs : List ℕ) → IsWithin (d ∷ ds) (c ∷ cs) → d ≤ c + 1 → Further ds cs → Further (d ∷ ds) (c ∷ cs)
 further_over d ds c cs w more f =
     let last : c + 1 ≡ d = omega (arith, w.0) in
     record {
-      within = rw (below_false (c + 1) d more) (omega (arith, w.0), f.within);
-      further = rw (below_false (c + 1) d more, f.further) (omega arith);
+      within = rw (le-ltb (c + 1) d more) (omega (arith, w.0), f.within);
+      further = rw (le-ltb (c + 1) d more, f.further) (omega arith);
     }
 
 not_all : (r n : ℕ) (t : Bool) → t ≡ true → suc n ≤ (if t then 0 else suc r) → ⊥
@@ -45,19 +45,19 @@ last_over c d p s low high e = let last : d ≡ c + 1 = omega arith in rw (← e
 pub further : (ds cs : List ℕ) → IsWithin ds cs → rolled_of ds cs < length ds → Further ds cs
 further [] cs w r = absurd (omega arith)
 further (d ∷ ds) [] w r = absurd w
-further (d ∷ ds) (c ∷ cs) w r = ⊎_elim (λ less. further_on d ds c cs w less) (λ more. further_over d ds c cs w more (further ds cs w.1 (left_over (rolled_of ds cs) (length ds) (nat_lt (c + 1) d) (below_false (c + 1) d more) r))) (cases_lt (c + 1) d)
+further (d ∷ ds) (c ∷ cs) w r = ⊎_elim (λ less. further_on d ds c cs w less) (λ more. further_over d ds c cs w more (further ds cs w.1 (left_over (rolled_of ds cs) (length ds) (nat_lt (c + 1) d) (le-ltb (c + 1) d more) r))) (cases_lt (c + 1) d)
 
 -- where all dimensions roll over, the last position is left
 pub last_left : (ds cs : List ℕ) → IsWithin ds cs → length ds ≤ rolled_of ds cs → position_of ds cs + 1 ≡ size_of ds
 last_left [] [] w r = refl
 last_left [] (c ∷ cs) w r = absurd w
 last_left (d ∷ ds) [] w r = absurd w
-last_left (d ∷ ds) (c ∷ cs) w r = ⊎_elim (λ less. absurd (not_all (rolled_of ds cs) (length ds) (nat_lt (c + 1) d) (below_true (c + 1) d less) r)) (λ more. last_over c d (position_of ds cs) (size_of ds) w.0 more (last_left ds cs w.1 (all_left (rolled_of ds cs) (length ds) (nat_lt (c + 1) d) (below_false (c + 1) d more) r))) (cases_lt (c + 1) d)
+last_left (d ∷ ds) (c ∷ cs) w r = ⊎_elim (λ less. absurd (not_all (rolled_of ds cs) (length ds) (nat_lt (c + 1) d) (lt-ltb (c + 1) d less) r)) (λ more. last_over c d (position_of ds cs) (size_of ds) w.0 more (last_left ds cs w.1 (all_left (rolled_of ds cs) (length ds) (nat_lt (c + 1) d) (le-ltb (c + 1) d more) r))) (cases_lt (c + 1) d)
 
 pub next_length : PositionLaws → (ds cs : List ℕ) → IsWithin ds cs → length (next_of ds cs) ≡ length ds
 next_length laws [] cs w = refl
 next_length laws (d ∷ ds) [] w = absurd w
-next_length laws (d ∷ ds) (c ∷ cs) w = ⊎_elim (λ less. rw (below_true (c + 1) d less) (ap suc (laws.as_many ds cs w.1))) (λ more. rw (below_false (c + 1) d more) (ap suc (next_length laws ds cs w.1))) (cases_lt (c + 1) d)
+next_length laws (d ∷ ds) (c ∷ cs) w = ⊎_elim (λ less. rw (lt-ltb (c + 1) d less) (ap suc (laws.as_many ds cs w.1))) (λ more. rw (le-ltb (c + 1) d more) (ap suc (next_length laws ds cs w.1))) (cases_lt (c + 1) d)
 
 -- as many zeros as sizes are the first coordinates
 pub zeros_within : (ds : List ℕ) → size_of ds ≢ 0 → IsWithin ds (replicate (length ds) 0)

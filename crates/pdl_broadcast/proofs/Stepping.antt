@@ -13,9 +13,6 @@ pub record Rolled (i : ℕ) (now old ds : List ℕ) : Type 0 where
   pub moved : next_of ds old ≡ take i now ++ next_of (drop i ds) (drop i old)
   pub rolled : rolled_of ds old ≡ i + rolled_of (drop i ds) (drop i old)
 
-pub rolled_none : (old ds : List ℕ) → Rolled 0 old old ds
-rolled_none old ds = record { long = refl; rest = refl; moved = refl; rolled = omega arith }
-
 -- a coordinate is below its size
 pub within_at : (ds cs : List ℕ) (i : ℕ) → IsWithin ds cs → i < length ds → get_or cs i 0 < get_or ds i 0
 within_at [] cs i w h = absurd (omega arith)

@@ -4,10 +4,6 @@ use Rattle.std.proofs.Math.Seq.{take-add, take-append_seam}
 use Rattle.pdl_elem.specs.declared.Ty.{Ty}
 use Rattle.pdl_buf.specs.Buffer.{TypedElements}
 
--- a list that was written over whole
-pub written : (n : ℕ) (xs rest : List ℤ) → length xs ≡ n → take n (xs ++ rest) ≡ xs
-written n xs rest e = ap (λ (k : ℕ). take k (xs ++ rest)) (sym e) ∙ take-append_seam xs rest
-
 -- what is kept, with more numbers after the others
 abbrev pub and_more : TypedElements → List ℤ → TypedElements
 and_more k es = record { ty = k.ty; elems = k.elems ++ es }

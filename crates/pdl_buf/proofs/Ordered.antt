@@ -4,6 +4,7 @@ use Rattle.std.proofs.lemmas.Int.{ints}
 use Rattle.std.proofs.lemmas.List.{at_drop_more, drop_all}
 use Rattle.std.proofs.Math.Nat.{mul-le-mul, mul-le-mul_left, mul_assoc}
 use Rattle.std.specs.Int.RustNames.{unsigned_abs}
+use Rattle.pdl_lemmas.specs.Numbers.{product_within}
 use Rattle.pdl_shape.specs.Shape.{extent, size_of, coordinates_of, position_of}
 use Rattle.pdl_shape.specs.Triple.{Triple, moved}
 use Rattle.pdl_shape.specs.Laws.{PositionLaws, SizeLaws}
@@ -35,9 +36,6 @@ pub record Ordering (is : List ℤ) (ds : List ℕ) (k n : ℕ) : Type 0 where
 pub ordering_start : (is : List ℤ) (ds : List ℕ) → extent ds ≤ 1048576 → Ordering is ds 0 1
 ordering_start is ds h = record { small = omega (arith, h); rest = λ o. o }
 
-small_next : (n d e m : ℕ) → n * (max d 1 * e) ≤ m → n * d * e ≤ m
-small_next n d e m h = omega (arith, mul_assoc n d e, mul-le-mul_left n (mul-le-mul {n₁ = d} {m₁ = e} {n₂ = max d 1} {m₂ = e} (omega arith) (omega arith)))
-
 -- one dimension more
 pub ordering_next : (is : List ℤ) (ds : List ℕ) (k n : ℕ) → k < length is → k < length ds → (1 < get_or ds k 0 → get_or is k (pos 0) ≡ pos n)
     → Ordering is ds k n → Ordering is ds (k + 1) (n * get_or ds k 0)
@@ -45,7 +43,7 @@ ordering_next is ds k n hi hd f w =
     let d : ℕ = get_or ds k 0 in
     let z : ℤ = get_or is k (pos 0) in
     record {
-      small = small_next n d (extent (drop (k + 1) ds)) 1048576 (subst (λ (e : ℕ). n * e ≤ 1048576) (at_drop_more extent ds k 0 hd) w.small);
+      small = product_within n d (extent (drop (k + 1) ds)) 1048576 (subst (λ (e : ℕ). n * e ≤ 1048576) (at_drop_more extent ds k 0 hd) w.small);
       rest = λ o. w.rest
           (subst (λ (js : List ℤ). IsInOrder n js (drop k ds)) (sym (at_drop_more (λ xs. xs) is k (pos 0) hi))
           (subst (λ (es : List ℕ). IsInOrder n (z ∷ drop (k + 1) is) es) (sym (at_drop_more (λ xs. xs) ds k 0 hd))

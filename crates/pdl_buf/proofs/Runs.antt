@@ -142,10 +142,6 @@ pub first_some : PositionLaws → (ds : List ℕ) (p : ℕ) → p < size_of ds �
 first_some laws [] p h = omega arith
 first_some laws (d ∷ ds) p h = (laws.quotient_below d ds p h).0
 
-pub second_some : PositionLaws → (ds : List ℕ) (p : ℕ) → p < size_of ds → 0 < get_or ds 1 1
-second_some laws [] p h = omega arith
-second_some laws (d ∷ ds) p h = first_some laws ds (p / d) (laws.quotient_below d ds p h).1
-
 -- the place so many steps along dimension 1 after that of a position
 pub record Across (t : Triple) (n p j : ℕ) : Type 0 where
   pub is : pos (place_at t p) +ℤ get_or t.incs 1 (pos 0) *ℤ pos j ≡ pos (place_at t (across t.dims p j))

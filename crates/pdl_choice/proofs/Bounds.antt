@@ -21,10 +21,6 @@ rest_of extents parent n rest is fits =
       all_fits = omega arith;
     }
 
--- a place is below the number of elements
-pub place_below : (n s x r : ℕ) → x < n → r < s → x + n * r < n * s
-place_below n s x r hx hr = grind arith
-
 r≤s : (r s : ℕ) → r < s → r ≤ s
 r≤s r s h = omega arith
 

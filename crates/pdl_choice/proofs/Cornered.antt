@@ -6,14 +6,14 @@ use Rattle.std.proofs.Math.Seq.{take-append_seam, drop-append_seam}
 use Rattle.std.proofs.lemmas.List.{get_or-take, get_or-drop}
 use Rattle.std.proofs.lemmas.List.FromFn.{fill_by_all}
 use Rattle.std.proofs.lemmas.Nat.{mod_below, div-add-mod'}
+use Rattle.pdl_lemmas.specs.Lists.{map-range_same}
 use Rattle.pdl_shape.specs.Laws.{PositionLaws}
 use Rattle.pdl_shape.specs.Shape.{size_of, position_of, coordinates_of}
 use Rattle.pdl_choice.specs.declared.edges.Edge.{Edge}
 use Rattle.pdl_shape.specs.Places.{places_of}
 use Rattle.pdl_choice.specs.Range.{corner_len, corner_at, inner_dims, windowed_dims, window_sizes, window_source, range_source}
 use Rattle.pdl_choice.proofs.Bounds.{corner_fits}
-use Rattle.pdl_choice.proofs.Placed.{map-range_same}
-use Rattle.pdl_choice.proofs.Positions.{coordinates_of-append, size_of-append, length-coordinates_of}
+use Rattle.pdl_choice.proofs.Positions.{coordinates_of-append, size_of-append, length-coordinates_of, positive_left}
 use Rattle.pdl_choice.proofs.Reached.{length-corner}
 
 -- the numbers of a corner stand together in the index values
@@ -44,10 +44,6 @@ source_at positions edge parent ind_dims ind sizes windows q r is len below fits
     ∙ ap (λ (cs : List ℕ). window_source edge parent windows (corner_at ind_dims ind cs) (drop (length (drop 1 ind_dims)) (outer ++ inner))) front
     ∙ ap (λ (cs : List ℕ). window_source edge parent windows (corner_at ind_dims ind outer) cs) back
     ∙ ap (λ (vs : List ℤ). window_source edge parent windows vs inner) (corner_at-list positions ind_dims ind (length windows) q len below fits)
-
-positive_left : (n m p : ℕ) → p < n * m → 0 < n
-positive_left zero m p h = absurd (omega arith)
-positive_left (suc n) m p h = omega arith
 
 -- a position is one of a corner and one in its window
 position_at : PositionLaws → (edge : Edge) (parent ind_dims : List ℕ) (ind sizes : List ℤ) (windows : List ℕ) (corners p : ℕ)

@@ -4,13 +4,13 @@ use Rattle.std.specs.List.{range_with_len}
 use Rattle.std.proofs.lemmas.Bool.Decides.{nat_tests}
 use Rattle.std.proofs.lemmas.List.Elements.{All-push}
 use Rattle.std.proofs.lemmas.List.FromFn.{get_or-map-range_with_len, length-map-range_with_len}
+use Rattle.pdl_lemmas.specs.Numbers.{row_place_below}
 use Rattle.pdl_shape.specs.Laws.{CutsWithin, PositionLaws}
 use Rattle.pdl_shape.specs.Broadcast.{BroadcastsTo, cut_to}
 use Rattle.pdl_shape.specs.Shape.{IsWithin, size_of, position_of, coordinates_of}
 use Rattle.pdl_shape.specs.Counting.{from_end}
 use Rattle.pdl_shape.specs.Places.{AllBelow, IsBelow, places_of}
 use Rattle.pdl_choice.specs.Index.{index_source}
-use Rattle.pdl_choice.proofs.Bounds.{place_below}
 
 -- a place that lies in the array where there is one
 pub below_if : (m : ℕ) (o : Option ℕ) → IfSome o (λ p. p < m) → IsBelow m o
@@ -37,7 +37,7 @@ index_below positions cuts n rest ind_dims joined ind p whole ind_fits rest_fits
     let coordinates : IsWithin joined (coordinates_of joined p) = positions.coordinates_within joined p within in
     let at : position_of ind_dims (cut_to ind_dims (coordinates_of joined p)) < length ind =
     omega (arith, positions.position_below ind_dims _ (cuts ind_dims joined (coordinates_of joined p) ind_fits coordinates), whole) in
-    place_below n (size_of rest) _ _
+    row_place_below n (size_of rest) _ _
     (counted_below n _ (counted _ (pos 0) at))
     (positions.position_below rest _ (cuts rest joined (coordinates_of joined p) rest_fits coordinates))
 

@@ -1,6 +1,6 @@
 -- Sizes that stand within the limits of an array.
 use Rattle.std.proofs.Common.{subst, ◌≡◌, ◌⊎◌, inl, inr, ℕ, ◌*◌, ◌<◌, ◌≤◌, max, min, true, false, nat_lt, List, [], ◌∷◌, ◌++◌, length, length-append, length-drop, take, drop, map, refl, ap, sym, ◌∙◌, arith, Result, Ok, Err, IfOk, IfErr}
-use Rattle.std.proofs.Math.Nat.{mul-le-mul, mul_assoc}
+use Rattle.std.proofs.Math.Nat.{mul-le-mul, mul_assoc, le-mul_of_pos_right}
 use Rattle.std.proofs.lemmas.Bool.{cases_lt}
 use Rattle.std.proofs.lemmas.Bool.Decides.{nat_tests}
 use Rattle.std.proofs.lemmas.List.{take-append-drop, length-map}
@@ -20,9 +20,6 @@ extent-append (x ∷ xs) ys = ap (λ n. max x 1 * n) (extent-append xs ys) ∙ s
 self : (a : ℕ) → a ≤ a
 self a = omega arith
 
-pub one_factor : (a b : ℕ) → 0 < b → a ≤ a * b
-one_factor a b h = omega (arith, mul-le-mul {n₁ = a} {m₁ = 1} {n₂ = a} {m₂ = b} (self a) h)
-
 pub other_factor : (a b : ℕ) → 0 < a → b ≤ a * b
 other_factor a b h = omega (arith, mul-le-mul {n₁ = 1} {m₁ = b} {n₂ = a} {m₂ = b} h (omega arith))
 
@@ -30,7 +27,7 @@ other_factor a b h = omega (arith, mul-le-mul {n₁ = 1} {m₁ = b} {n₂ = a} {
 pub extent-take : SizeLaws → (n : ℕ) (ds : List ℕ) → extent (take n ds) ≤ extent ds
 extent-take extents n ds =
     let split : extent (take n ds) * extent (drop n ds) ≡ extent ds = sym (extent-append (take n ds) (drop n ds)) ∙ ap extent (take-append-drop n ds) in
-    omega (arith, one_factor (extent (take n ds)) (extent (drop n ds)) (extents.extent_above (drop n ds)))
+    omega (arith, le-mul_of_pos_right (extent (take n ds)) (extents.extent_above (drop n ds)))
 
 positive_product : (n m : ℕ) → n ≤ m → 0 < m → max n 1 ≤ m
 positive_product n m h p = omega arith
@@ -70,8 +67,8 @@ CappedCases ws = (map capped ws ≡ ws) ⊎ ((extent_limit < extent ws) × (exte
 
 capped_first : SizeLaws → (w : ℕ) (ws : List ℕ) → 4294967295 < w → CappedCases (w ∷ ws)
 capped_first extents w ws past = inr (
-  omega (arith, one_factor (max w 1) (extent ws) (extents.extent_above ws)),
-  omega (arith, one_factor (max (min w 4294967295) 1) (extent (map capped ws)) (extents.extent_above (map capped ws))),
+  omega (arith, le-mul_of_pos_right (max w 1) (extents.extent_above ws)),
+  omega (arith, le-mul_of_pos_right (max (min w 4294967295) 1) (extents.extent_above (map capped ws))),
 )
 
 capped_more : (w : ℕ) (ws : List ℕ) → w ≤ 4294967295 → CappedCases ws → CappedCases (w ∷ ws)
@@ -103,7 +100,7 @@ same_refusal xs ys same past_xs past_ys =
 past_middle : SizeLaws → (xs ys zs : List ℕ) → extent_limit < extent ys → extent_limit < extent (xs ++ (ys ++ zs))
 past_middle extents xs ys zs past =
     let whole : extent (xs ++ (ys ++ zs)) ≡ extent xs * (extent ys * extent zs) = extent-append xs (ys ++ zs) ∙ ap (λ n. extent xs * n) (extent-append ys zs) in
-    omega (arith, whole, one_factor (extent ys) (extent zs) (extents.extent_above zs), other_factor (extent xs) (extent ys * extent zs) (extents.extent_above xs))
+    omega (arith, whole, le-mul_of_pos_right (extent ys) (extents.extent_above zs), other_factor (extent xs) (extent ys * extent zs) (extents.extent_above xs))
 
 -- the limits refuse sizes alike where some stand at the largest number
 pub checked_dims-capped : SizeLaws → (xs ws zs : List ℕ) → checked_dims (xs ++ (map capped ws ++ zs)) ≡ checked_dims (xs ++ (ws ++ zs))

@@ -6,6 +6,7 @@ use Rattle.std.proofs.lemmas.List.FromFn.{filter_of_map_range_with_len_more, map
 use Rattle.std.proofs.lemmas.Bool.{cases_lt}
 use Rattle.std.proofs.lemmas.Bool.Decides.{nat_tests}
 use Rattle.std.proofs.lemmas.List.Sums.{position_or_len_is}
+use Rattle.pdl_lemmas.specs.Tests.{by_lt}
 use Rattle.pdl_choice.specs.Where.{is_set}
 
 -- the positions below i at which the mask is set
@@ -80,9 +81,6 @@ rounds_grow {X} f g xs ys m r d before added same =
     ∙ get_or-map-range_with_len g 0 m (k - m * r) (k - m * r) d (omega (arith, whole)) (omega arith)
     ∙ same (k - m * r) (omega (arith, whole))
     ∙ ap f (omega arith)))
-  where
-    by_lt : {P : Type 0} (a b : ℕ) → (a < b → P) → (b ≤ a → P) → P
-    by_lt a b left right = elim (cases_lt a b) [ inl below ↦ left below | inr past ↦ right past ]
 
 -- the first of n numbers that passes a test, where none before it does
 pub position-range : (p : ℕ → Bool) (n i : ℕ) → i < n → ((k : ℕ) → k < i → p k ≡ false) → p i ≡ true → position p (range_with_len 0 n) ≡ Some i

@@ -6,19 +6,14 @@ use Rattle.std.proofs.Math.Nat.{mod-eq_of_lt}
 use Rattle.std.proofs.lemmas.List.{take-append-drop, length-map, get_or-map}
 use Rattle.std.proofs.lemmas.List.FromFn.{fill_by_all, get_or-map-range_with_len, length-map-range_with_len}
 use Rattle.std.proofs.lemmas.Nat.{div_below, mod_below, div-add-mod'}
+use Rattle.pdl_lemmas.specs.Lists.{map-range_same}
 use Rattle.pdl_shape.specs.Laws.{PositionLaws}
 use Rattle.pdl_shape.specs.Shape.{size_of, position_of, coordinates_of}
 use Rattle.pdl_shape.specs.Places.{places_of}
 use Rattle.pdl_shape.specs.Clump.{clump_count}
 use Rattle.pdl_choice.specs.Clump.{clumped_source}
 use Rattle.pdl_choice.specs.Where.{where_source}
-use Rattle.pdl_choice.proofs.Positions.{position_of-append, size_of-append, length-coordinates_of}
-
--- lists of the same places
-pub map-range_same : {X : Type 0} (f g : ℕ → X) (n : ℕ) (d : X) → ((k : ℕ) → k < n → f k ≡ g k) → map f (range_with_len 0 n) ≡ map g (range_with_len 0 n)
-map-range_same f g n d same =
-    fill_by_all g (map f (range_with_len 0 n)) n d (length-map-range_with_len f 0 n)
-    (λ k below. get_or-map-range_with_len f 0 n k k d below (omega arith) ∙ same k below)
+use Rattle.pdl_choice.proofs.Positions.{position_of-append, size_of-append, length-coordinates_of, positive_left}
 
 -- a position within the joined dimensions and one within the others
 clump_place : PositionLaws → (front back : List ℕ) (p : ℕ) → p < size_of front * size_of back
@@ -29,10 +24,6 @@ clump_place positions front back p within =
     ∙ ap (λ n. n + size_of front * position_of back (coordinates_of back (p / size_of front))) (positions.position_again front (p % size_of front) (mod_below p (size_of front) some))
     ∙ ap (λ n. p % size_of front + size_of front * n) (positions.position_again back (p / size_of front) (div_below p (size_of front) (size_of back) some (omega arith)))
     ∙ omega (arith, div-add-mod' p (size_of front))
-  where
-    positive_left : (n m p : ℕ) → p < n * m → 0 < n
-    positive_left zero m p h = absurd (omega arith)
-    positive_left (suc n) m p h = omega arith
 
 -- a clump has each place of its parent once, in order
 pub clump_places : PositionLaws → (parent : List ℕ) (count : ℤ) (n total : ℕ) → Some n ≡ clump_count count (length parent) → total ≡ size_of parent

@@ -1,5 +1,5 @@
 -- Positions and coordinates of dimensions that stand one after another.
-use Rattle.std.proofs.Common.{◌≡◌, ℕ, suc, ◌+◌, ◌*◌, ◌/◌, ◌%◌, ◌<◌, List, [], ◌∷◌, ◌++◌, length, refl, ap, sym, ◌∙◌, arith}
+use Rattle.std.proofs.Common.{◌≡◌, ℕ, zero, suc, ◌+◌, ◌*◌, ◌/◌, ◌%◌, ◌<◌, List, [], ◌∷◌, ◌++◌, length, refl, ap, sym, ◌∙◌, arith}
 use Rattle.std.proofs.Math.Nat.{add-mul-div_left, add-mul-mod_self_left, mul_assoc}
 use Rattle.pdl_shape.specs.Laws.{PositionLaws}
 use Rattle.pdl_shape.specs.Shape.{size_of, position_of, coordinates_of}
@@ -35,3 +35,8 @@ coordinates_of-append positions (x ∷ xs) ys q r h =
     ap (λ n. n ∷ coordinates_of (xs ++ ys) ((q + x * size_of xs * r) / x)) here
     ∙ ap (λ n. q % x ∷ coordinates_of (xs ++ ys) n) there
     ∙ ap (λ cs. q % x ∷ cs) (coordinates_of-append positions xs ys (q / x) r (positions.quotient_below x xs q h).1)
+
+-- what is below a product has a first factor
+pub positive_left : (n m p : ℕ) → p < n * m → 0 < n
+positive_left zero m p h = absurd (omega arith)
+positive_left (suc n) m p h = omega arith

@@ -66,14 +66,6 @@ checked_dims-back extents front back es is =
 pub refused_as_well : (v w : Result (List ℕ) Refusal) (named : Option Refusal) → v ≡ w → Refuses w named → Refuses v named
 refused_as_well v w named e h = subst (λ u. Refuses u named) (sym e) h
 
--- sizes that don't fit are refused first
-pub misfit_refuses : (parent ind_dims : List ℕ) (ind sizes : List ℤ) (edge : Edge) (named : Option Refusal) (n : ℕ) → n ≡ corner_len ind_dims
-    → IfSome named (λ refusal. window_refusal (length parent) n sizes ≡ Some refusal) → Refuses (range_dims parent ind_dims ind sizes edge) named
-misfit_refuses parent ind_dims ind sizes edge None n e h = tt
-misfit_refuses parent ind_dims ind sizes edge (Some refusal) n e h =
-    let here : window_refusal (length parent) (corner_len ind_dims) sizes ≡ Some refusal = ap (λ m. window_refusal (length parent) m sizes) (sym e) ∙ h in
-    rw here refl
-
 -- a fault that tells no position tells none that is wrong
 pub nowhere_said : (o : Option ℕ) (P : ℕ → Type 0) → o ≡ None → IfSome o P
 nowhere_said None P e = tt

@@ -1,7 +1,7 @@
 -- The place of a position of a window, and the positions of a window in order.
 use Rattle.std.proofs.Common.{◌≡◌, ℕ, zero, suc, ◌+◌, ◌*◌, ◌/◌, ◌%◌, ◌<◌, ◌≤◌, max, min, List, [], ◌∷◌, ◌++◌, length, length-take, length-drop, length-append, take, drop, map, filter, refl, ap, sym, ◌∙◌, arith, Option, Some, None, ℤ, pos, ◌+ℤ◌}
 use Rattle.std.specs.Option.{option_map}
-use Rattle.std.proofs.Math.Nat.{mod-eq_of_lt}
+use Rattle.std.proofs.Math.Nat.{mod-eq_of_lt, le-mul_of_pos_right}
 use Rattle.std.proofs.lemmas.Int.{ints}
 use Rattle.std.proofs.lemmas.List.{length-map}
 use Rattle.std.proofs.lemmas.Nat.{div_below}
@@ -11,7 +11,7 @@ use Rattle.pdl_choice.specs.declared.edges.Edge.{Edge}
 use Rattle.pdl_choice.specs.Edges.{edge_coordinate}
 use Rattle.pdl_choice.specs.Range.{capped, inner_dims, is_positive, put_first, window_source}
 use Rattle.pdl_choice.specs.Rounds.{place_first, placed}
-use Rattle.pdl_choice.proofs.Limits.{extent-append, one_factor, other_factor}
+use Rattle.pdl_choice.proofs.Limits.{extent-append, other_factor}
 use Rattle.pdl_choice.proofs.Striding.{placed-nil}
 
 -- the place that a window's position has
@@ -83,7 +83,7 @@ pub rounds-capped : SizeLaws → (windows : List ℕ) → extent (filter is_posi
 rounds-capped extents [] h = refl
 rounds-capped extents (zero ∷ windows) h = ap (λ ws. 1 ∷ ws) (rounds-capped extents windows h)
 rounds-capped extents (suc w ∷ windows) h =
-    let first : max (suc w) 1 ≤ extent_limit = omega (arith, one_factor (max (suc w) 1) (extent (filter is_positive windows)) (extents.extent_above (filter is_positive windows))) in
+    let first : max (suc w) 1 ≤ extent_limit = omega (arith, le-mul_of_pos_right (max (suc w) 1) (extents.extent_above (filter is_positive windows))) in
     let rest : extent (filter is_positive windows) ≤ extent_limit = omega (arith, other_factor (max (suc w) 1) (extent (filter is_positive windows)) (omega arith)) in
     ap (λ n. n ∷ map (λ w. max (capped w) 1) windows) (stays (suc w) first) ∙ ap (λ ws. max (suc w) 1 ∷ ws) (rounds-capped extents windows rest)
   where
@@ -92,7 +92,7 @@ rounds-capped extents (suc w ∷ windows) h =
 
 pub inner_front : SizeLaws → (parent windows : List ℕ) → extent (inner_dims parent windows) ≤ extent_limit → extent (filter is_positive windows) ≤ extent_limit
 inner_front extents parent windows h =
-    omega (arith, extent-append (filter is_positive windows) (drop (length windows) parent), one_factor (extent (filter is_positive windows)) (extent (drop (length windows) parent)) (extents.extent_above (drop (length windows) parent)))
+    omega (arith, extent-append (filter is_positive windows) (drop (length windows) parent), le-mul_of_pos_right (extent (filter is_positive windows)) (extents.extent_above (drop (length windows) parent)))
 
 -- a corner that stands whole in the list has as many numbers as the window
 pub length-corner : (ind : List ℤ) (len at : ℕ) → len * at + len ≤ length ind → length (take len (drop (len * at) ind)) ≡ len

@@ -58,19 +58,6 @@ at_row positions cuts dims joined at r b h is =
       inside = λ c below. positions.position_below dims _ (cuts dims (by_rows joined) (c ∷ at) rows (below, w));
     }
 
--- the positions along a row lie evenly apart
-pub first_line : (dims : List ℕ) (d : ℕ) (ds at : List ℕ) (from step : ℕ) → dims ≡ d ∷ ds → from ≡ d * position_of ds (cut_to ds at) → step ≡ (if eqb d 1 then 0 else 1)
-    → (c : ℕ) → from + step * c ≡ position_of dims (cut_to dims (c ∷ at))
-first_line dims d ds at from step is from_is step_is c =
-    ap (λ n. n + step * c) from_is ∙ ap (λ n. d * position_of ds (cut_to ds at) + n * c) step_is ∙ line (eqb d 1) (d * position_of ds (cut_to ds at)) c ∙ ap (λ (es : List ℕ). position_of es (cut_to es (c ∷ at))) (sym is)
-  where
-    line : (b : Bool) (m c : ℕ) → m + (if b then 0 else 1) * c ≡ (if b then 0 else c) + m
-    line true m c = omega arith
-    line false m c = omega arith
-
-pub no_line : (dims at : List ℕ) → dims ≡ [] → (c : ℕ) → 0 + 0 * c ≡ position_of dims (cut_to dims (c ∷ at))
-no_line dims at is c = omega arith ∙ ap (λ (es : List ℕ). position_of es (cut_to es (c ∷ at))) (sym is)
-
 -- the place at a column of a row is that of its coordinates
 pub row_place-source : (parent ind_dims at : List ℕ) (ind : List ℤ) (ind_line rest_line : Line) (c : ℕ) → 0 < length parent
     → ((c : ℕ) → line_at ind_line c ≡ position_of ind_dims (cut_to ind_dims (c ∷ at)))

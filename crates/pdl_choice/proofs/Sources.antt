@@ -3,11 +3,12 @@ use Rattle.std.proofs.Common.{◌≡◌, inl, inr, ℕ, zero, suc, ◌+◌, ◌*
 use Rattle.std.specs.Cmp.Lexicographic.{pointwise}
 use Rattle.std.specs.List.{list_any, position_or_len, range_with_len}
 use Rattle.std.specs.Option.{option_map_or}
-use Rattle.std.proofs.lemmas.Bool.{cases_lt}
+use Rattle.std.proofs.lemmas.Bool.{cases_lt, not-true}
 use Rattle.std.proofs.lemmas.Bool.Decides.{nat_tests}
 use Rattle.std.proofs.lemmas.List.{length-map, length-replicate}
 use Rattle.std.proofs.lemmas.List.FromFn.{get_or-map-range_with_len, get_or-range_with_len, length-range_with_len, length-map-range_with_len}
 use Rattle.std.proofs.lemmas.List.Sums.{prefix_len_passes}
+use Rattle.pdl_lemmas.specs.Numbers.{row_place_below}
 use Rattle.pdl_shape.specs.Broadcast.{cut_to, join}
 use Rattle.pdl_shape.specs.Counting.{from_end}
 use Rattle.pdl_shape.specs.Laws.{CutsWithin, JoinsStretch, PositionLaws}
@@ -21,7 +22,6 @@ use Rattle.pdl_choice.specs.Edges.{CanPlace, edge_coordinate, edge_refuses, from
 use Rattle.pdl_choice.specs.Index.{first_outside, index_dims, index_source}
 use Rattle.pdl_choice.specs.Laws.{IndexSourcesLieWithin, RangeSourcesLieWithin, WhereSourcesLieWithin}
 use Rattle.pdl_choice.specs.Range.{AllAllowed, corner_at, corner_len, first_refused, inner_dims, is_negative, put_first, range_dims, range_source, window_refusal, window_sizes, window_source, windowed_dims}
-use Rattle.pdl_choice.proofs.Bounds.{place_below}
 use Rattle.pdl_choice.proofs.Cornered.{corner_size}
 use Rattle.pdl_choice.proofs.Inside.{counted_below}
 use Rattle.pdl_choice.proofs.MovingOn.{remainder}
@@ -37,10 +37,8 @@ none_passes test xs e k d h = elim (cases_lt (position_or_len test xs) (length x
       let here : nat_lt (position_or_len test xs) (length xs) ≡ true = grind (arith, nat_tests) in
       let some : position test xs ≡ Some (position_or_len test xs) = ap (λ b. if b then Some (position_or_len test xs) else None) here in
       cc
-  | inr past ↦ fails (test (get_or xs k d)) (prefix_len_passes (λ x. not (test x)) xs k d (omega (arith, past, h)))
-] where
-  fails : (b : Bool) → not b ≡ true → b ≡ false
-  fails b p = grind arith
+  | inr past ↦ not-true (test (get_or xs k d)) (prefix_len_passes (λ x. not (test x)) xs k d (omega (arith, past, h)))
+]
 
 -- ---- index
 
@@ -179,7 +177,7 @@ range_sources positions parent ind_dims ds cs ind sizes edge whole e w =
     (λ j h.
     let low : j < len = omega (arith, count, h) in
     let k : ℕ = j + len * q in
-    let inside : k < length ind = omega (arith, place_below len (size_of outer) j q low row, corner_size ind_dims, whole) in
+    let inside : k < length ind = omega (arith, row_place_below len (size_of outer) j q low row, corner_size ind_dims, whole) in
     let number : get_or (corner_at ind_dims ind (take (length outer) cs)) j (pos 0) ≡ get_or ind k (pos 0) = get_or-map-range_with_len (λ j. get_or ind (j + len * q) (pos 0)) 0 len j j (pos 0) low (zero-add j) in
     let here : k % length windows ≡ j = ap (λ n. k % n) count ∙ remainder j len q k low refl in
     ap (edge_refuses edge (get_or parent j 0) (get_or windows j 0)) number

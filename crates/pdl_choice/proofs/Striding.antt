@@ -3,6 +3,7 @@ use Rattle.std.proofs.Common.{◌≡◌, ℕ, ◌+◌, ◌*◌, ◌<◌, ◌≤�
 use Rattle.std.specs.Option.{option_map}
 use Rattle.std.proofs.Math.Nat.{mul-le-mul_left}
 use Rattle.std.proofs.lemmas.List.{at_drop_all, at_drop_more, take_more, take-append-drop}
+use Rattle.pdl_lemmas.specs.Numbers.{row_place_below}
 use Rattle.pdl_shape.specs.Laws.{SizeLaws}
 use Rattle.pdl_shape.specs.Shape.{extent, extent_limit, size_of}
 use Rattle.pdl_choice.specs.declared.edges.Edge.{Edge}
@@ -21,16 +22,6 @@ pub record Placing (j place stride : ℕ) (edge : Edge) (parent : List ℕ) (cor
   pub stride_is : stride ≡ size_of (take j parent)
   pub below : place < stride
 
-from_start : (o : Option ℕ) → o ≡ option_map (λ rest. 0 + 1 * rest) o
-from_start None = refl
-from_start (Some p) = ap Some (same p)
-  where
-    same : (p : ℕ) → p ≡ 0 + 1 * p
-    same p = omega arith
-
-pub placing_none : (edge : Edge) (parent : List ℕ) (corner : List ℤ) (at : List ℕ) → Placing 0 0 1 edge parent corner at
-placing_none edge parent corner at = record { whole = from_start (placed edge parent corner at); stride_is = refl; below = omega arith }
-
 -- the dimensions below the next one
 pub stride_more : (j stride : ℕ) (parent : List ℕ) → j < length parent → stride ≡ size_of (take j parent) → stride * get_or parent j 0 ≡ size_of (take (j + 1) parent)
 stride_more j stride parent h is =
@@ -44,14 +35,6 @@ stride_more j stride parent h is =
 
 pub stride_fits : SizeLaws → (j stride : ℕ) (parent : List ℕ) → extent parent ≤ extent_limit → stride ≡ size_of (take j parent) → stride ≤ extent_limit
 stride_fits extents j stride parent fits is = omega (arith, is, extents.size_within (take j parent), extent-take extents j parent)
-
-next_below : (x n : ℕ) → x < n → x + 1 ≤ n
-next_below x n h = omega arith
-
-pub stride_below : (place stride x n : ℕ) → place < stride → x < n → place + stride * x < stride * n
-stride_below place stride x n below h =
-    let more : stride * (x + 1) ≤ stride * n = mul-le-mul_left stride (next_below x n h) in
-    omega (arith, more)
 
 deeper : (place stride x n : ℕ) (o : Option ℕ) → option_map (λ rest. place + stride * rest) (option_map (λ p. x + n * p) o) ≡ option_map (λ rest. (place + stride * x) + stride * n * rest) o
 deeper place stride x n None = refl
@@ -78,26 +61,8 @@ placing_more j place stride x edge parent corner at fit paired h is inside p = r
       ∙ ap (option_map (λ rest. place + stride * rest)) (placed_at j edge parent corner at (omega arith) h (omega arith) ∙ ap (λ o. place_first (get_or parent j 0) o (placed edge (drop (j + 1) parent) (drop (j + 1) corner) (drop (j + 1) at))) (sym is))
       ∙ deeper place stride x (get_or parent j 0) (placed edge (drop (j + 1) parent) (drop (j + 1) corner) (drop (j + 1) at));
   stride_is = stride_more j stride parent (omega arith) p.stride_is;
-  below = stride_below place stride x (get_or parent j 0) p.below inside;
+  below = row_place_below stride (get_or parent j 0) place x p.below inside;
 }
-
--- a number beyond an edge that reads 0 leaves no place
-pub placing_stops : (j place stride : ℕ) (edge : Edge) (parent : List ℕ) (corner : List ℤ) (at : List ℕ)
-    → length corner ≤ length parent → length at ≡ length corner + 1 → j < length corner
-    → None ≡ edge_coordinate edge (get_or parent j 0) (get_or corner j (pos 0) +ℤ pos (get_or at j 0))
-    → Placing j place stride edge parent corner at → None ≡ placed edge parent corner at
-placing_stops j place stride edge parent corner at fit paired h is p =
-    sym (p.whole
-    ∙ ap (option_map (λ rest. place + stride * rest)) (placed_at j edge parent corner at (omega arith) h (omega arith) ∙ ap (λ o. place_first (get_or parent j 0) o (placed edge (drop (j + 1) parent) (drop (j + 1) corner) (drop (j + 1) at))) (sym is)))
-
--- all numbers of the corner are placed
-pub placing_all : (j place stride : ℕ) (edge : Edge) (parent : List ℕ) (corner : List ℤ) (at : List ℕ)
-    → j ≡ length corner → length at ≡ length corner + 1 → Placing j place stride edge parent corner at → Some (place + stride * get_or at j 0) ≡ placed edge parent corner at
-placing_all j place stride edge parent corner at end paired p =
-    sym (p.whole ∙ ap (option_map (λ rest. place + stride * rest))
-    (at_drop_all (λ vs. placed edge (drop j parent) vs (drop j at)) corner j (omega arith)
-    ∙ at_drop_more (λ cs. placed edge (drop j parent) [] cs) at j 0 (omega arith)
-    ∙ placed-nil edge (drop j parent) (get_or at j 0) (drop (j + 1) at)))
 
 -- and that place lies in the parent
 pub placing_ended : (j place stride : ℕ) (edge : Edge) (parent : List ℕ) (corner : List ℤ) (at : List ℕ)
@@ -107,4 +72,4 @@ placing_ended j place stride edge parent corner at end long within p =
     let same : j ≡ length corner = omega arith in
     let front : stride ≡ size_of (take (length corner) parent) = p.stride_is ∙ ap (λ n. size_of (take n parent)) same in
     let split : size_of (take (length corner) parent) * size_of (drop (length corner) parent) ≡ size_of parent = sym (size_of-append (take (length corner) parent) (drop (length corner) parent)) ∙ ap size_of (take-append-drop (length corner) parent) in
-    omega (arith, stride_below place stride (get_or at (length corner) 0) (size_of (drop (length corner) parent)) p.below within, ap (λ n. n * size_of (drop (length corner) parent)) front, split)
+    omega (arith, row_place_below stride (size_of (drop (length corner) parent)) place (get_or at (length corner) 0) p.below within, ap (λ n. n * size_of (drop (length corner) parent)) front, split)

@@ -1,6 +1,6 @@
 -- One position of the windows at all corners.
 use Rattle.std.proofs.Common.{◌≡◌, ℕ, zero, suc, ◌+◌, ◌-◌, ◌*◌, ◌/◌, ◌%◌, ◌<◌, ◌≤◌, max, false, not, nat_lt, nat_le, List, [], ◌∷◌, ◌++◌, length, drop, replicate, IsTrue, get_or, map, refl, ap, sym, ◌∙◌, subst, arith, ℤ, pos, negsuc, ◌+ℤ◌}
-use Rattle.std.proofs.Math.Nat.{div-eq_of_lt, mod-add-div, mod-eq_of_lt, mul-add-mod_self_left}
+use Rattle.std.proofs.Math.Nat.{div-eq_of_lt, mod-add-div, mod-eq_of_lt, mul-add-mod_self_left, zero-mod, zero-div}
 use Rattle.std.proofs.Math.Seq.{get_or-append_seam}
 use Rattle.std.proofs.lemmas.Bool.Decides.{nat_tests}
 use Rattle.std.proofs.lemmas.List.{get_or_append_left, get_or-map, length-map}
@@ -93,13 +93,6 @@ round_moved positions parent windows sizes old new r fit sizes_are h is moved =
     ∙ ap (λ (ds : List ℕ). coordinates_of ds (position_of ds old + 1)) sizes_are
     ∙ ap (λ (cs : List ℕ). coordinates_of (rounds parent windows) (position_of (rounds parent windows) cs + 1)) is
     ∙ ap (λ n. coordinates_of (rounds parent windows) (n + 1)) (positions.position_again (rounds parent windows) r (omega (arith, size_of-rounds parent windows fit)))
-
-zero-mod : (d : ℕ) → 0 % d ≡ 0
-zero-mod d = omega (arith, mod-add-div 0 d)
-
-zero-div : (d : ℕ) → 0 / d ≡ 0
-zero-div zero = refl
-zero-div (suc d) = div-eq_of_lt {n = 0} {m = suc d} (omega arith)
 
 -- the first coordinates
 pub zeros : (ds : List ℕ) → replicate (length ds) 0 ≡ coordinates_of ds 0

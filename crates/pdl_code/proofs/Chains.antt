@@ -1,7 +1,7 @@
 -- One turn of each chain.
 use Rattle.std.proofs.Common.{◌≡◌, ℕ, zero, suc, ◌+◌, ◌-◌, ◌<◌, List, [], ◌∷◌, Option, Some, None, refl, arith, add-one, sym, ap, ◌∙◌}
 use Rattle.pdl_elem.specs.declared.BinaryOp.{BinaryOp}
-use Rattle.pdl_code.proofs.Options.{some_inj, none_some, map_elim}
+use Rattle.pdl_lemmas.specs.Options.{some_inj, none_some, map_elim}
 use Rattle.pdl_lexemes.specs.declared.refusal.Refusal.{Refusal}
 use Rattle.pdl_lexemes.specs.declared.refusal.Refusal.TheVariants.{Refused, NoMemory}
 use Rattle.pdl_code.specs.declared.lexeme.Lexeme.{Lexeme}
@@ -10,9 +10,6 @@ use Rattle.pdl_code.specs.Join.{join_raw, join_raw_code}
 use Rattle.pdl_code.specs.Raw.{RawTree, RawIndices, RawCode, binary, done}
 use Rattle.pdl_code.specs.CodeReading.{Read, Kind, after_comma, after_semicolon, before, before_code, operator_at, chain_at, index_at, indices_at, level_at, limit_of, statement_at, code_at, ends}
 use Rattle.pdl_code.proofs.RawJoins.{join_join, code_join_join, code_join_done}
-
-pub one_less : (e c : ℕ) → c < e → e - c ≡ suc (e - (c + 1))
-one_less e c h = omega arith
 
 -- what a loop begins with
 pub begun : {A : Type 0} (g : ℕ → List Lexeme → A) (n m : ℕ) (ts us : List Lexeme) → n ≡ m → ts ≡ us → g (n - 0) ts ≡ g m us

@@ -1,7 +1,7 @@
 -- Each spelled statement is read.
 use Rattle.std.proofs.Common.{◌≡◌, ℕ, zero, suc, pos, ◌≤◌, ◌<◌, List, [], ◌∷◌, length, Option, Some, None, refl, ap, ◌∙◌, arith}
 use Rattle.pdl_elem.specs.declared.BinaryOp.{BinaryOp}
-use Rattle.pdl_code.proofs.Options.{none_some}
+use Rattle.pdl_lemmas.specs.Options.{none_some}
 use Rattle.pdl_code.specs.declared.lexeme.Span.{Span}
 use Rattle.pdl_code.specs.declared.lexeme.WordKind.{WordKind}
 use Rattle.pdl_code.specs.declared.lexeme.WordKind.TheVariants.{Loop, If, Else, OfType, Plain}

@@ -4,9 +4,9 @@ use Rattle.std.specs.Prelude.{Bool, true, false, not, ◌||◌, max, ◌==◌, i
 use Rattle.std.specs.List.{IsDistinct, AllByRecursion, list_any}
 use Rattle.std.proofs.lemmas.List.{get_or-set_same, get_or-set_other, length-set}
 use Rattle.std.proofs.lemmas.List.Folds.{list_any_at}
-use Rattle.std.proofs.lemmas.Bool.{ltb-false, ne_eqb}
+use Rattle.std.proofs.lemmas.Bool.{ltb-false, ne_eqb, false_from_ne_true, true≢false, or_parts}
 use Rattle.std.proofs.lemmas.Map.Steps.{length-le_from_distinct_below}
-use Rattle.pdl_code.proofs.Options.{some_inj, none_some, then_elim, map_elim}
+use Rattle.pdl_lemmas.specs.Options.{some_inj, none_some, then_elim, map_elim}
 use Rattle.pdl_sig.specs.declared.Role.{Role}
 use Rattle.pdl_sig.specs.declared.Role.TheVariants.{Input, Output, Both, Temp}
 use Rattle.pdl_sig.specs.declared.SigArg.{SigArg}
@@ -93,11 +93,8 @@ mark_step : (ds : List ℕ) (d j k : ℕ) (given : List Bool) (b : Bool) → nat
     → unmarked (d ∷ ds) j given ≡ suc (unmarked (d ∷ ds) j (slice_set given k true))
 mark_step ds d j k given true t within clear more = mark_here ds d j k given (eqb-true j k t) within clear
 mark_step ds d j k given false t within clear more =
-    let other : j ≡ k → ⊥ = λ e. true_false (sym (eq-eqb j k e) ∙ t) in
+    let other : j ≡ k → ⊥ = λ e. true≢false (sym (eq-eqb j k e) ∙ t) in
     mark_later ds d j k given other (more other)
-  where
-    true_false : true ≡ false → ⊥
-    true_false e = cc
 
 one_marked : (ds : List ℕ) (j k : ℕ) (given : List Bool) → j ≤ k → k < j + length ds → k < length given → get_or given k false ≡ false
     → unmarked ds j given ≡ suc (unmarked ds j (slice_set given k true))
@@ -131,19 +128,11 @@ unrefused false r e = refl
 to_distinct : (xs : List ℕ) → has_twice nat_eq xs ≡ false → IsDistinct eqb xs
 unfolding IsDistinct
 to_distinct [] e = tt
-to_distinct (x ∷ xs) e = (apart x xs (left (list_any (nat_eq x) xs) (has_twice nat_eq xs) e), to_distinct xs (right (list_any (nat_eq x) xs) (has_twice nat_eq xs) e))
+to_distinct (x ∷ xs) e = (apart x xs (or_parts (list_any (nat_eq x) xs) (has_twice nat_eq xs) e).0), to_distinct xs (or_parts (list_any (nat_eq x) xs) (has_twice nat_eq xs) e).1)
   where
-    left : (a b : Bool) → (a || b) ≡ false → a ≡ false
-    left true b e = cc
-    left false b e = refl
-
-    right : (a b : Bool) → (a || b) ≡ false → b ≡ false
-    right true b e = cc
-    right false b e = e
-
     apart : (x : ℕ) (ys : List ℕ) → list_any (nat_eq x) ys ≡ false → AllByRecursion (λ y. nat_eq x y ≡ false) ys
     apart x [] h = tt
-    apart x (y ∷ ys) h = (left (nat_eq x y) (list_any (nat_eq x) ys) h, apart x ys (right (nat_eq x y) (list_any (nat_eq x) ys) h))
+    apart x (y ∷ ys) h = ((or_parts (nat_eq x y) (list_any (nat_eq x) ys) h).0, apart x ys (or_parts (nat_eq x y) (list_any (nat_eq x) ys) h).1)
 
 -- what a signature that isn't refused says of its arguments
 allowed_tests : (a b c d : Bool) {A : Type 0} (x y : A) (rest : Option A) → (if a || b then Some x else (if c || d then Some y else rest)) ≡ None → (b ≡ false) × (c ≡ false)
@@ -151,10 +140,6 @@ allowed_tests true b c d x y rest e = absurd (none_some (sym e))
 allowed_tests false true c d x y rest e = absurd (none_some (sym e))
 allowed_tests false false true d x y rest e = absurd (none_some (sym e))
 allowed_tests false false false d x y rest e = (refl, refl)
-
-not_true : (b : Bool) → (b ≡ true → ⊥) → b ≡ false
-not_true true h = absurd (h refl)
-not_true false h = refl
 
 below_step : (x : ℕ) (xs : List ℕ) (n q : ℕ) (b : Bool) → nat_eq q x ≡ b → All (λ y. y < n) (x ∷ xs) → (list_any (nat_eq q) xs ≡ true → q < n) → (b || list_any (nat_eq q) xs) ≡ true → q < n
 below_step x xs n q true t all rest h = let first = all 0 0 (omega arith) in omega (arith, eqb-true q x t, first)
@@ -183,7 +168,7 @@ module _ (s : Signature) (w : IsWellFormed s) where
 
   dims_apart : (a : ℕ) → a < length s.args → has_twice nat_eq (argument_of s a).dims ≡ false
   dims_apart a lt =
-      not_true (has_twice nat_eq (argument_of s a).dims) (λ twice.
+      false_from_ne_true (has_twice nat_eq (argument_of s a).dims) (λ twice.
       let found = list_any_at (λ (x : SigArg). has_twice nat_eq x.dims) s.args a nobody lt twice in
       neither (has_twice has_one_name s.args) (list_any (λ (x : SigArg). has_twice nat_eq x.dims) s.args) tests.1 found)
 

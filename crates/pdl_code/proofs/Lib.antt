@@ -1,4 +1,3 @@
-pub mod Options
 pub mod Walking
 pub mod Joins
 pub mod Rows

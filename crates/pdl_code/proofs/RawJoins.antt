@@ -17,10 +17,6 @@ pub join_join : (a b c : RawIndices) → join_raw (join_raw a b) c ≡ join_raw 
 join_join none b c = refl
 join_join (along w e is) b c = ap (along w e) (join_join is b c)
 
-pub join_none : (a : RawIndices) → join_raw a none ≡ a
-join_none none = refl
-join_none (along w e is) = ap (along w e) (join_none is)
-
 pub stmt_push : (xs : List RawStmt) (s : RawStmt) → raw_code (xs ++ s ∷ []) ≡ join_raw_code (raw_code xs) (next (raw_step s) done)
 stmt_push [] s = refl
 stmt_push (x ∷ xs) s = ap (next (raw_step x)) (stmt_push xs s)

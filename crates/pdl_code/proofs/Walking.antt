@@ -36,21 +36,18 @@ unfolding lexed_from
 none_first b bs at blank token = rw (blank, token)
 
 -- the same at a place of a text
-rest_at : (text : List ℕ) (at : ℕ) → at < length text → drop at text ≡ get_or text at 0 ∷ drop (suc at) text
-rest_at text at below = drop-cons text at 0 below
-
 pub blank_at : (text : List ℕ) (at : ℕ) → at < length text → is_blank (get_or text at 0) ≡ true
     → lexed_from at 0 (drop at text) ≡ lexed_from (at + 1) 0 (drop (at + 1) text)
 blank_at text at below blank =
     let place : suc at ≡ at + 1 = omega arith in
-    ap (lexed_from at 0) (rest_at text at below) ∙ blank_first (get_or text at 0) (drop (suc at) text) at blank
+    ap (lexed_from at 0) (drop-cons text at 0 below) ∙ blank_first (get_or text at 0) (drop (suc at) text) at blank
     ∙ ap (λ p. lexed_from p 0 (drop p text)) place
 
 pub token_at : (text : List ℕ) (at n : ℕ) (l : Lexeme) → at < length text → is_blank (get_or text at 0) ≡ false
     → lexeme_at at (drop at text) ≡ Some (l, n) → 0 < n → lexed_from at 0 (drop at text) ≡ behind (l ∷ []) (lexed_from (at + n) 0 (drop (at + n) text))
 token_at text at zero l below blank token some = absurd (omega arith)
 token_at text at (suc n) l below blank token some =
-    let rest = rest_at text at below in
+    let rest = drop-cons text at 0 below in
     ap (lexed_from at 0) rest
     ∙ token_first (get_or text at 0) (drop (suc at) text) at l n blank (ap (lexeme_at at) (sym rest) ∙ token)
     ∙ ap (λ xs. behind (l ∷ []) (lexed_from (at + suc n) 0 xs)) (ap (drop (suc n)) (sym rest) ∙ drop-drop (suc n) at text)
@@ -58,7 +55,7 @@ token_at text at (suc n) l below blank token some =
 pub none_at : (text : List ℕ) (at : ℕ) → at < length text → is_blank (get_or text at 0) ≡ false → lexeme_at at (drop at text) ≡ None
     → lexed_from at 0 (drop at text) ≡ record { lexemes = []; whole = false }
 none_at text at below blank token =
-    let rest = rest_at text at below in
+    let rest = drop-cons text at 0 below in
     ap (lexed_from at 0) rest ∙ none_first (get_or text at 0) (drop (suc at) text) at blank (ap (lexeme_at at) (sym rest) ∙ token)
 
 -- one more token was found
@@ -67,10 +64,6 @@ found_more found l r r' e = ap (behind found) e ∙ behind_behind found (l ∷ [
 
 pub found_last : (found : List Lexeme) (r : Lexed) → r ≡ record { lexemes = []; whole = false } → behind found r ≡ record { lexemes = found; whole = false }
 found_last found r e = ap (behind found) e ∙ ap (λ xs. record { lexemes = xs; whole = false }) (append-nil found)
-
--- what a slice from a place on holds
-pub rest : (text : List ℕ) (at : ℕ) → take (length text - at) (drop at text) ≡ drop at text
-rest text at = take_all (length text - at) (drop at text) (omega (arith, length-drop at text))
 
 -- the walk begins and ends
 pub at_start : (text : List ℕ) (found : List Lexeme) → found ≡ [] → behind found (lexed_from 0 0 text) ≡ lexed text

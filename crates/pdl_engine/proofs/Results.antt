@@ -6,11 +6,6 @@ use Rattle.std.proofs.lemmas.List.Sums.{count_by-le-length}
 use Rattle.pdl_elem.specs.declared.Ty.{Ty}
 use Rattle.pdl_buf.specs.Buffer.{TypedElements, count_moved}
 
--- what is so holds on an Err
-pub on_err : {A E : Type 0} (r : Result A E) (P : Type 0) → P → OnErr r P
-on_err (Ok x) P p = tt
-on_err (Err e) P p = p
-
 -- a buffer of this type and these elements
 pub made_of : {E : Type 0} (r : Result TypedElements E) (ty uy : Ty) (es fs : List ℤ) → ty ≡ uy → es ≡ fs → IfOk r (λ b. b ≡ record { ty = ty; elems = es }) → IfOk r (λ b. b ≡ record { ty = uy; elems = fs })
 made_of (Err e) ty uy es fs a b h = tt

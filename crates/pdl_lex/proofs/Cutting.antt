@@ -4,6 +4,7 @@ use Rattle.std.specs.Prelude.{Result, Ok, Err, OnErr, Option, Some, None, option
 use Rattle.std.proofs.lemmas.List.{drop_all, take_more}
 use Rattle.std.specs.List.{list_all, prefix_len}
 use Rattle.std.proofs.lemmas.List.Sums.{sum_by-append, prefix_len-le-length}
+use Rattle.pdl_lemmas.specs.Tests.{by_test}
 use Rattle.pdl_lex.proofs.Longest.{list_all-front}
 use Rattle.pdl_lex.specs.Bytes.{newlines, is_newline}
 use Rattle.pdl_lex.specs.declared.cutter.Mode.{Mode}
@@ -23,10 +24,6 @@ chunks-some m (b ∷ bs) =
       | true ↦ ([], chunks Code bs, refl)
       | false ↦ (b ∷ inner.0, inner.1, rw inner.2)
     ]
-
-by_bool : {P : Type 0} (b : Bool) → (b ≡ true → P) → (b ≡ false → P) → P
-by_bool true yes' no' = yes' refl
-by_bool false yes' no' = no' refl
 
 empty_from_idle : (text : List ℕ) → (length text == 0) ≡ true → text ≡ []
 empty_from_idle [] idle = refl
@@ -70,10 +67,10 @@ module _ (k : Bool) (s : State) (b : ℕ) (c : List ℕ) (e : is_end s.mode b �
 
   pub begun-step : settled_piece k (begun_piece s (b ∷ c)) ≡ option_to_list (cut_at s b) ++ settled_piece k (begun_piece (next s b) c)
   begun-step =
-      by_bool s.over step-over (λ over.
-      by_bool (is_idle s)
-      (λ idle. by_bool (is_between s.mode b) (step-between over idle) (step-first over idle))
-      (λ idle. by_bool (is_full s) (step-full over idle) (step-grown over idle)))
+      by_test s.over step-over (λ over.
+      by_test (is_idle s)
+      (λ idle. by_test (is_between s.mode b) (step-between over idle) (step-first over idle))
+      (λ idle. by_test (is_full s) (step-full over idle) (step-grown over idle)))
 
 -- a byte that ends no statement leaves the mode and the line as the definitions say
 next-mode : (s : State) (b : ℕ) → is_end s.mode b ≡ false → (next s b).mode ≡ mode_after s.mode b
@@ -87,7 +84,7 @@ is_end-newlines Single b e = cc
 
 -- each byte counts its newline, and itself
 pub next-line : (s : State) (b : ℕ) → (next s b).line ≡ s.line + newlines (b ∷ [])
-next-line s b = by_bool (is_end s.mode b) (λ e. rw (e, is_end-newlines s.mode b e, add-zero)) (λ e. grind arith)
+next-line s b = by_test (is_end s.mode b) (λ e. rw (e, is_end-newlines s.mode b e, add-zero)) (λ e. grind arith)
 
 -- after the end of a statement the rest is numbered from its line on
 fresh-chunks : (last : Bool) (s : State) (cs : List (List ℕ)) → s.mode ≡ Code → s.text ≡ [] → s.over ≡ false → from_chunks last s cs ≡ numbered last s.line cs
@@ -101,8 +98,8 @@ start-pieces last bytes = fresh-chunks last start_state (chunks Code bytes) refl
 -- what an ended chunk leaves of the statement that it ends
 begun_piece-end : (s : State) → length s.text ≤ statement_limit → settled_piece true (begun_piece s []) ≡ option_to_list (begun s)
 begun_piece-end s fits =
-    by_bool s.over (λ over. rw over) (λ over.
-    by_bool (is_idle s) (λ idle. rw (over, idle)) (λ idle.
+    by_test s.over (λ over. rw over) (λ over.
+    by_test (is_idle s) (λ idle. rw (over, idle)) (λ idle.
     let whole : text_piece s.start (s.text ++ []) ≡ Whole (record { text = s.text; line = s.start }) = ap (text_piece s.start) (append-nil s.text) ∙ text_piece-whole s.start s.text fits in
     rw (over, idle, whole)))
 
@@ -140,7 +137,7 @@ goes_on last s b bs e =
 
 -- one byte at the front: its piece, and then what the cutter after it has still to answer
 pub from_chunks-step : (last : Bool) (s : State) (b : ℕ) (bs : List ℕ) → length s.text ≤ statement_limit → from_chunks last s (chunks s.mode (b ∷ bs)) ≡ option_to_list (cut_at s b) ++ from_chunks last (next s b) (chunks (next s b).mode bs)
-from_chunks-step last s b bs fits = by_bool (is_end s.mode b) (ends last s b bs fits) (goes_on last s b bs)
+from_chunks-step last s b bs fits = by_test (is_end s.mode b) (ends last s b bs fits) (goes_on last s b bs)
 
 next-fits : (s : State) (b : ℕ) → Fits s → Fits (next s b)
 next-fits s b fits = grind (arith, length-append {A = ℕ})
@@ -173,8 +170,8 @@ quiet-take s (b ∷ bs) t (suc k) quiet = let rest = quiet-take (next s b) bs t 
 -- nothing is settled before the first byte, and none of these bytes settles a piece
 settled-nothing : (s : State) → Fits s → settled_from s [] ≡ []
 settled-nothing s fits =
-    by_bool s.over (λ over. rw over) (λ over.
-    by_bool (is_idle s) (λ idle. rw (over, idle)) (λ idle.
+    by_test s.over (λ over. rw over) (λ over.
+    by_test (is_idle s) (λ idle. rw (over, idle)) (λ idle.
     let whole : text_piece s.start (s.text ++ []) ≡ Whole (record { text = s.text; line = s.start }) = ap (text_piece s.start) (append-nil s.text) ∙ text_piece-whole s.start s.text fits in
     rw (over, idle, whole)))
 
@@ -185,14 +182,6 @@ quiet-settled s bs t fits quiet =
 -- what `feed` says, from the bytes up to the first that completes a piece
 abbrev pub Reached : State → List ℕ → ℕ → Option Piece → State → Type 0
 Reached s bs used cut t = Fits s × Reaches s bs used cut t
-
-pub reached-within : (s : State) (bs : List ℕ) (used : ℕ) (cut : Option Piece) (t : State) → Reached s bs used cut t → used ≤ length bs
-reached-within s bs used None t r = omega arith
-reached-within s bs used (Some piece) t r = omega arith
-
-pub reached-some : (s : State) (bs : List ℕ) (used : ℕ) (cut : Option Piece) (t : State) → Reached s bs used cut t → 0 < length bs → 0 < used
-reached-some s bs used None t r some = omega arith
-reached-some s bs used (Some piece) t r some = omega arith
 
 pub reached-line : (s : State) (bs : List ℕ) (used : ℕ) (cut : Option Piece) (t : State) → Reached s bs used cut t → t.line ≡ s.line + newlines (take used bs)
 reached-line s bs used None t r =
@@ -244,7 +233,7 @@ plain-end Double b plain = grind arith
 plain-end Single b plain = grind arith
 
 not_full : (s : State) → length s.text < statement_limit → is_full s ≡ false
-not_full s room = by_bool (is_full s) (λ full. absurd (omega (arith, eqb-true (length s.text) statement_limit full))) (λ e. e)
+not_full s room = by_test (is_full s) (λ full. absurd (omega (arith, eqb-true (length s.text) statement_limit full))) (λ e. e)
 
 extended-nil : (s : State) → s ≡ extended s []
 extended-nil s = rw (append-nil s.text, add-zero s.taken)
@@ -263,11 +252,11 @@ plain-next s b over idle full plain =
 pub plain-quiet : (bs : List ℕ) (s : State) → s.over ≡ false → is_idle s ≡ false → length s.text + length bs ≤ statement_limit → list_all (is_plain s.mode) bs ≡ true → IsQuiet s bs (extended s bs)
 plain-quiet [] s over idle room plain = extended-nil s
 plain-quiet (b ∷ bs) s over idle room plain =
-    by_bool (is_plain s.mode b)
+    by_test (is_plain s.mode b)
     (λ here.
     let more : list_all (is_plain s.mode) bs ≡ true = rw here at plain in
     let one = plain-next s b over idle (not_full s (omega arith)) here in
-    let busy : is_idle (extended s (b ∷ [])) ≡ false = by_bool (is_idle (extended s (b ∷ []))) (λ e. absurd (omega (arith, eqb-true _ _ e, length-append s.text (b ∷ [])))) (λ e. e) in
+    let busy : is_idle (extended s (b ∷ [])) ≡ false = by_test (is_idle (extended s (b ∷ []))) (λ e. absurd (omega (arith, eqb-true _ _ e, length-append s.text (b ∷ [])))) (λ e. e) in
     let rest : IsQuiet (extended s (b ∷ [])) bs (extended (extended s (b ∷ [])) bs) = plain-quiet bs (extended s (b ∷ [])) over busy (omega (arith, length-append s.text (b ∷ []))) more in
     (one.0, rw (one.1, ← extended-cons s b bs) rest))
     (λ other. let never : false ≡ true = rw other at plain in absurd (cc))
@@ -293,7 +282,7 @@ length-take-at_most (suc n) (x ∷ xs) = omega (arith, length-take-at_most n xs)
 -- what `extend` does to a begun statement
 pub extend-quiet : (s : State) (part front text : List ℕ) (n room : ℕ) → s.over ≡ false → 0 < length s.text → front ≡ take room part → length s.text + room ≤ statement_limit → n ≡ prefix_len (is_plain s.mode) front → text ≡ s.text ++ take n front → IsQuiet s (take n part) (record s { text = text; taken = s.taken + n })
 extend-quiet s part front text n room over some is_front fits is_len is_text =
-    let idle : is_idle s ≡ false = by_bool (is_idle s) (λ e. absurd (omega (arith, eqb-true (length s.text) 0 e))) (λ e. e) in
+    let idle : is_idle s ≡ false = by_test (is_idle s) (λ e. absurd (omega (arith, eqb-true (length s.text) 0 e))) (λ e. e) in
     let within : n ≤ length front = rw is_len (prefix_len-le-length (is_plain s.mode) front) in
     let at_most : length front ≤ room = rw is_front (length-take-at_most room part) in
     let size : length (take n front) ≡ n = length-take-le n front within in
@@ -333,8 +322,3 @@ failed-at s bs used t line taken below quiet count is_line is_taken =
     let before : t.line ≡ s.line + newlines (take used bs) = quiet-line s (take used bs) t quiet in
     let sum : newlines (take (used + 1) bs) ≡ newlines (take used bs) + newlines (get_or bs used 0 ∷ []) = ap newlines front ∙ newlines-append (take used bs) (get_or bs used 0 ∷ []) in
     rw more (omega (arith, before, sum, is_line))
-
--- what holds, holds after an error
-pub on_err : {T E : Type 0} (r : Result T E) {P : Type 0} → P → OnErr r P
-on_err (Ok x) p = tt
-on_err (Err e) p = p

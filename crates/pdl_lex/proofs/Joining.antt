@@ -2,6 +2,7 @@
 use Rattle.std.proofs.Common.{◌≡◌, ℕ, ◌+◌, ◌≤◌, Bool, true, false, cond, List, [], ◌∷◌, ◌++◌, Some, None, refl, sym, ◌∙◌, ap, subst, arith, eqb-true, true≢false}
 use Rattle.std.specs.Prelude.{◌==◌, option_and_then}
 use Rattle.std.proofs.lemmas.Bool.{ne_eqb}
+use Rattle.pdl_lemmas.specs.Tests.{by_test}
 use Rattle.pdl_lex.specs.Bytes.{is_blank, newlines}
 use Rattle.pdl_lex.specs.declared.cutter.Mode.{Mode}
 use Rattle.pdl_lex.specs.declared.cutter.Mode.TheVariants.{Code, Comment, Double, Single}
@@ -70,16 +71,12 @@ record Passed (b : ℕ) : Type 0 where
   stays : mode_after Code b ≡ Code
   between : is_between Code b ≡ true
 
-by_bool : {P : Type 0} (b : Bool) → (b ≡ true → P) → (b ≡ false → P) → P
-by_bool true when_true when_false = when_true refl
-by_bool false when_true when_false = when_false refl
-
 blank-passed : (b : ℕ) → is_blank b ≡ true → Passed b
 blank-passed b blank =
-    by_bool (b == 32) (λ e. is 32 e (record { no_end = refl; stays = refl; between = refl })) (λ not_space.
-    by_bool (b == 9) (λ e. is 9 e (record { no_end = refl; stays = refl; between = refl })) (λ not_tab.
-    by_bool (b == 10) (λ e. is 10 e (record { no_end = refl; stays = refl; between = refl })) (λ not_newline.
-    by_bool (b == 13) (λ e. is 13 e (record { no_end = refl; stays = refl; between = refl })) (λ not_return.
+    by_test (b == 32) (λ e. is 32 e (record { no_end = refl; stays = refl; between = refl })) (λ not_space.
+    by_test (b == 9) (λ e. is 9 e (record { no_end = refl; stays = refl; between = refl })) (λ not_tab.
+    by_test (b == 10) (λ e. is 10 e (record { no_end = refl; stays = refl; between = refl })) (λ not_newline.
+    by_test (b == 13) (λ e. is 13 e (record { no_end = refl; stays = refl; between = refl })) (λ not_return.
     let none : false ≡ true = rw (not_space, not_tab, not_newline, not_return) at blank in absurd (true≢false (sym none))))))
   where
     is : (c : ℕ) → (b == c) ≡ true → Passed c → Passed b

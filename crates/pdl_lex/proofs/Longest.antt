@@ -6,6 +6,7 @@ use Rattle.std.proofs.str.Laws.{order}
 use Rattle.std.specs.Prelude.{Some, None, nat_lt, nat_le, not, ◌==◌}
 use Rattle.std.specs.List.{list_all, prefix_len}
 use Rattle.std.specs.Char.{is_ascii_digit}
+use Rattle.pdl_lemmas.specs.Tests.{by_test}
 use Rattle.pdl_lex.specs.Bytes.{is_quote, is_letter, is_word_byte}
 use Rattle.pdl_lex.specs.Tokens.{is_sign, is_closed, only_where, kind_of, longest, token_at}
 use Rattle.pdl_lex.specs.TokenReading.{word_len, digits_len, other_len, name_after, string_after, begins_sign, sign_at, read_at}
@@ -38,10 +39,6 @@ none_from m n text none here k above within =
     (λ at. let same : k ≡ suc m = omega arith in subst (λ j. kind_of (take j text) ≡ None) (sym same) (here (omega arith)))
     (order (suc m) k)
 
-pub by_bool : {P : Type 0} (b : Bool) → (b ≡ true → P) → (b ≡ false → P) → P
-by_bool true when_true when_false = when_true refl
-by_bool false when_true when_false = when_false refl
-
 one_add : (n : ℕ) → 1 + n ≡ suc n
 one_add n = omega arith
 
@@ -54,13 +51,13 @@ module _ (p : ℕ → Bool) where
 
   pub list_all-front : (xs : List ℕ) → list_all p (take (prefix_len p xs) xs) ≡ true
   list_all-front [] = refl
-  list_all-front (x ∷ xs) = by_bool (p x) (λ passes. rw (prefix-yes x xs passes, passes) (list_all-front xs)) (λ fails. rw (prefix-no x xs fails))
+  list_all-front (x ∷ xs) = by_test (p x) (λ passes. rw (prefix-yes x xs passes, passes) (list_all-front xs)) (λ fails. rw (prefix-no x xs fails))
 
   all-past : (xs : List ℕ) (k : ℕ) → prefix_len p xs < k → k ≤ length xs → list_all p (take k xs) ≡ false
   all-past xs zero past within = absurd (omega arith)
   all-past [] (suc k) past within = absurd (omega arith)
   all-past (x ∷ xs) (suc k) past within =
-      by_bool (p x)
+      by_test (p x)
       (λ passes. rw passes (all-past xs k (omega (arith, prefix-yes x xs passes)) (omega arith)))
       (λ fails. rw fails)
 
@@ -68,18 +65,18 @@ module _ (p : ℕ → Bool) where
 closed-at : (quote : ℕ) (bs : List ℕ) → other_len quote bs < length bs → is_closed quote (take (suc (other_len quote bs)) bs) ≡ true
 closed-at quote [] below = absurd (omega arith)
 closed-at quote (b ∷ bs) below =
-    by_bool (b == quote)
+    by_test (b == quote)
     (λ same. let at : other_len quote (b ∷ bs) ≡ 0 = rw same in rw (at, same))
     (λ other. let more : other_len quote (b ∷ bs) ≡ suc (other_len quote bs) = prefix-yes (λ c. not (c == quote)) b bs (rw other) in rw (more, other) (closed-at quote bs (omega (arith, more))))
 
 pub differs-eqb : (k : ℕ) → (k ≡ 0 → ⊥) → (k == 0) ≡ false
-differs-eqb k some = by_bool (k == 0) (λ same. absurd (some (eqb-true k 0 same))) (λ other. other)
+differs-eqb k some = by_test (k == 0) (λ same. absurd (some (eqb-true k 0 same))) (λ other. other)
 
 closed-not : (quote : ℕ) (bs : List ℕ) (k : ℕ) → k ≤ length bs → (k ≡ suc (other_len quote bs) → ⊥) → is_closed quote (take k bs) ≡ false
 closed-not quote bs zero within differs = refl
 closed-not quote [] (suc k) within differs = refl
 closed-not quote (b ∷ bs) (suc k) within differs =
-    by_bool (b == quote)
+    by_test (b == quote)
     (λ same.
     let at : other_len quote (b ∷ bs) ≡ 0 = rw same in
     let some : (k ≡ 0 → ⊥) = λ none. differs (ap suc (none ∙ sym at)) in
@@ -95,13 +92,13 @@ sign-long text k long within = absurd (omega arith)
 
 begins-yes : (n : ℕ) (text : List ℕ) → begins_sign n text ≡ true → (n ≤ length text) × (is_sign (take n text) ≡ true)
 begins-yes n text begins =
-    by_bool (nat_le n (length text))
+    by_test (nat_le n (length text))
     (λ fits. (leb-true n (length text) fits, rw fits at begins))
     (λ short. let never : false ≡ true = rw short at begins in absurd (cc))
 
 begins-no : (n : ℕ) (text : List ℕ) → begins_sign n text ≡ false → n ≤ length text → is_sign (take n text) ≡ false
 begins-no n text begins within =
-    by_bool (nat_le n (length text))
+    by_test (nat_le n (length text))
     (λ fits. rw fits at begins)
     (λ short. absurd (omega (arith, leb-false n (length text) short)))
 
@@ -136,7 +133,7 @@ module _ (b : ℕ) (bs : List ℕ) where
   string-longest : is_letter b ≡ false → (b == 36) ≡ false → (b == 48) ≡ false → is_ascii_digit b ≡ false → is_quote b ≡ true → token_at (b ∷ bs) ≡ string_after b bs
   unfolding token_at
   string-longest letter dollar at_zero digit quote =
-      by_bool (nat_lt (other_len b bs) (length bs))
+      by_test (nat_lt (other_len b bs) (length bs))
       (λ closed.
       let below : other_len b bs < length bs = ltb-true (other_len b bs) (length bs) closed in
       let size : other_len b bs + 2 ≡ suc (suc (other_len b bs)) = omega arith in
@@ -159,15 +156,15 @@ module _ (b : ℕ) (bs : List ℕ) where
       let fails : (j : ℕ) → is_sign (take (suc j) text) ≡ false → kind_of (take (suc j) text) ≡ None = λ j no_sign. sign j ∙ ap (λ v. only_where v Sign) no_sign in
       let fits : (j : ℕ) → is_sign (take (suc j) text) ≡ true → kind_of (take (suc j) text) ≡ Some Sign = λ j is. sign j ∙ ap (λ v. only_where v Sign) is in
       let above_three : NoneAbove 3 n text = none_above 3 n text (λ j above below. fails j (sign-long text (suc j) (omega arith) (omega arith))) in
-      by_bool (begins_sign 3 text)
+      by_test (begins_sign 3 text)
       (λ three. rw three (longest_is n 3 text Sign (omega arith) (begins-yes 3 text three).0 (fits 2 (begins-yes 3 text three).1) above_three))
       (λ no_three.
       let above_two : NoneAbove 2 n text = none_from 2 n text above_three (λ within. fails 2 (begins-no 3 text no_three within)) in
-      by_bool (begins_sign 2 text)
+      by_test (begins_sign 2 text)
       (λ two. rw (no_three, two) (longest_is n 2 text Sign (omega arith) (begins-yes 2 text two).0 (fits 1 (begins-yes 2 text two).1) above_two))
       (λ no_two.
       let above_one : NoneAbove 1 n text = none_from 1 n text above_two (λ within. fails 1 (begins-no 2 text no_two within)) in
-      by_bool (begins_sign 1 text)
+      by_test (begins_sign 1 text)
       (λ one. rw (no_three, no_two, one) (longest_is n 1 text Sign (omega arith) (begins-yes 1 text one).0 (fits 0 (begins-yes 1 text one).1) above_one))
       (λ no_one.
       let above_none : NoneAbove 0 n text = none_from 0 n text above_one (λ within. fails 0 (begins-no 1 text no_one within)) in
@@ -191,7 +188,7 @@ name-longest b (c ∷ cs) letter dollar =
     let text : List ℕ = b ∷ c ∷ cs in
     let name_past : is_letter c ≡ true → (j : ℕ) → 2 + word_len cs ≤ j → j < length text → kind_of (take (suc j) text) ≡ None = name-past b c cs letter dollar in
     let no_name : is_letter c ≡ false → (j : ℕ) → kind_of (take (suc j) text) ≡ None = name-none b c cs letter dollar in
-    by_bool (is_letter c)
+    by_test (is_letter c)
     (λ first. rw first (longest_is (length text) (2 + word_len cs) text Name (omega arith) (omega (arith, prefix_len-le-length is_word_byte cs))
     (let size : 2 + word_len cs ≡ suc (suc (word_len cs)) = omega arith in rw (size, letter, dollar, first, list_all-front is_word_byte cs))
     (none_above (2 + word_len cs) (length text) text (name_past first))))
@@ -205,10 +202,10 @@ nothing-longest = refl
 pub read-longest : (text : List ℕ) → read_at text ≡ token_at text
 read-longest [] = sym nothing-longest
 read-longest (b ∷ bs) =
-    by_bool (is_letter b) (λ letter. rw letter (sym (word-longest b bs letter))) (λ letter.
-    by_bool (b == 36) (λ dollar. rw (letter, dollar) (sym (name-longest b bs letter dollar))) (λ dollar.
-    by_bool (b == 48) (λ at_zero. rw (letter, dollar, at_zero) (sym (zero-longest b bs letter dollar at_zero))) (λ at_zero.
-    by_bool (is_ascii_digit b) (λ digit. rw (letter, dollar, at_zero, digit) (sym (digits-longest b bs letter dollar at_zero digit))) (λ digit.
-    by_bool (is_quote b)
+    by_test (is_letter b) (λ letter. rw letter (sym (word-longest b bs letter))) (λ letter.
+    by_test (b == 36) (λ dollar. rw (letter, dollar) (sym (name-longest b bs letter dollar))) (λ dollar.
+    by_test (b == 48) (λ at_zero. rw (letter, dollar, at_zero) (sym (zero-longest b bs letter dollar at_zero))) (λ at_zero.
+    by_test (is_ascii_digit b) (λ digit. rw (letter, dollar, at_zero, digit) (sym (digits-longest b bs letter dollar at_zero digit))) (λ digit.
+    by_test (is_quote b)
     (λ quote. rw (letter, dollar, at_zero, digit, quote) (sym (string-longest b bs letter dollar at_zero digit quote)))
     (λ quote. rw (letter, dollar, at_zero, digit, quote) (sym (sign-longest b bs letter dollar at_zero digit quote)))))))

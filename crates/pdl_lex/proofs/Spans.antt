@@ -4,6 +4,7 @@ use Rattle.std.proofs.lemmas.List.Sums.{prefix_len-le-length}
 use Rattle.std.proofs.str.Laws.{order}
 use Rattle.std.specs.Prelude.{◌==◌, Option, Some, None, Result, Ok, Err, not}
 use Rattle.std.specs.List.{prefix_len}
+use Rattle.pdl_lemmas.specs.Tests.{by_test}
 use Rattle.pdl_lex.specs.declared.LexFault.{LexFault}
 use Rattle.pdl_lex.specs.declared.Token.{Token}
 use Rattle.pdl_lex.specs.declared.TokenKind.{TokenKind}
@@ -55,10 +56,6 @@ token_found : (text : List ℕ) (kind : TokenKind) (m : ℕ) → token_at text �
 unfolding token_at
 token_found text kind m h = longest_found (length text) text kind m h
 
-by_bool : {P : Type 0} (b : Bool) → (b ≡ true → P) → (b ≡ false → P) → P
-by_bool true when_true when_false = when_true refl
-by_bool false when_true when_false = when_false refl
-
 -- how long a comment is, without its newline
 abbrev line_len : List ℕ → ℕ
 line_len bs = prefix_len (λ c. not (is_newline c)) bs
@@ -66,7 +63,7 @@ line_len bs = prefix_len (λ c. not (is_newline c)) bs
 line-ends : (bs : List ℕ) → is_line_end (drop (line_len bs) bs) ≡ true
 line-ends [] = refl
 line-ends (b ∷ bs) =
-    by_bool (is_newline b)
+    by_test (is_newline b)
     (λ newline.
     let none : line_len (b ∷ bs) ≡ 0 = prefix-no (λ c. not (is_newline c)) b bs (rw newline) in
     subst (λ k. is_line_end (drop k (b ∷ bs)) ≡ true) (sym none) newline)
@@ -151,8 +148,8 @@ module _ (n : ℕ) (shorter : (at : ℕ) (text : List ℕ) → length text ≤ n
 
   first-means : (at b : ℕ) (bs : List ℕ) → length bs ≤ n → MeansFrom at (b ∷ bs) (toks_from at 0 (b ∷ bs))
   first-means at b bs few =
-      by_bool (is_blank b) (λ blank. blank-means at b bs few blank) (λ blank.
-      by_bool (is_hash b) (λ hash. comment-means at b bs few blank hash) (λ hash.
+      by_test (is_blank b) (λ blank. blank-means at b bs few blank) (λ blank.
+      by_test (is_hash b) (λ hash. comment-means at b bs few blank hash) (λ hash.
       found-means at b bs (token_at (b ∷ bs)) few blank hash refl))
 
 nothing-left : (at : ℕ) → MeansFrom at [] (toks_from at 0 [])
@@ -207,17 +204,17 @@ none_at b c same none = subst begins_none (sym (eqb-true b c same)) none
 
 none_at_blank : (b : ℕ) → is_blank b ≡ true → begins_none b
 none_at_blank b blank =
-    by_bool (b == 32) (λ e. none_at b 32 e none_at_space) (λ not_space.
-    by_bool (b == 9) (λ e. none_at b 9 e none_at_tab) (λ not_tab.
-    by_bool (b == 10) (λ e. none_at b 10 e none_at_newline) (λ not_newline.
-    by_bool (b == 13) (λ e. none_at b 13 e none_at_return) (λ not_return.
+    by_test (b == 32) (λ e. none_at b 32 e none_at_space) (λ not_space.
+    by_test (b == 9) (λ e. none_at b 9 e none_at_tab) (λ not_tab.
+    by_test (b == 10) (λ e. none_at b 10 e none_at_newline) (λ not_newline.
+    by_test (b == 13) (λ e. none_at b 13 e none_at_return) (λ not_return.
     let none : false ≡ true = rw (not_space, not_tab, not_newline, not_return) at blank in absurd (true≢false (sym none))))))
 
 -- so where a token begins there is no gap
 no_gap : (b : ℕ) (bs rest : List ℕ) (kind : TokenKind) → kind_of (b ∷ bs) ≡ Some kind → gap_at (b ∷ rest) ≡ 0
 no_gap b bs rest kind is =
-    by_bool (is_blank b) (λ blank. let none = none_at_blank b blank bs in absurd (cc)) (λ blank.
-    by_bool (is_hash b) (λ hash. let none = none_at b 35 hash none_at_hash bs in absurd (cc)) (λ hash. rw (blank, hash)))
+    by_test (is_blank b) (λ blank. let none = none_at_blank b blank bs in absurd (cc)) (λ blank.
+    by_test (is_hash b) (λ hash. let none = none_at b 35 hash none_at_hash bs in absurd (cc)) (λ hash. rw (blank, hash)))
 
 hash_no_blank : (b : ℕ) → is_hash b ≡ true → is_blank b ≡ false
 hash_no_blank b hash = let is : b ≡ 35 = eqb-true b 35 hash in rw is
@@ -226,7 +223,7 @@ one_line : (line rest : List ℕ) → is_one_line line ≡ true → is_line_end 
 one_line [] [] one end = refl
 one_line [] (b ∷ bs) one end = prefix-no (λ c. not (is_newline c)) b bs (rw end)
 one_line (b ∷ bs) rest one end =
-    by_bool (is_newline b)
+    by_test (is_newline b)
     (λ newline. let none : false ≡ true = rw newline at one in absurd (true≢false (sym none)))
     (λ other. let others : is_one_line bs ≡ true = rw other at one in prefix-yes (λ c. not (is_newline c)) b (bs ++ rest) (rw other) ∙ ap suc (one_line bs rest others end))
 

@@ -44,13 +44,10 @@ unfolding toks_from
 none-first b bs at gap token = rw (gap, token)
 
 -- the same at a place of a text
-rest-at : (text : List ℕ) (at : ℕ) → at < length text → drop at text ≡ get_or text at 0 ∷ drop (suc at) text
-rest-at text at below = drop-cons text at 0 below
-
 pub gap-at : (text : List ℕ) (at n : ℕ) → at < length text → 0 < n → n ≡ gap_at (drop at text) → toks_from at 0 (drop at text) ≡ toks_from (at + n) 0 (drop (at + n) text)
 gap-at text at zero below some gap = absurd (omega arith)
 gap-at text at (suc n) below some gap =
-    let rest = rest-at text at below in
+    let rest = drop-cons text at 0 below in
     ap (toks_from at 0) rest
     ∙ gap-first (get_or text at 0) (drop (suc at) text) at n (ap gap_at (sym rest) ∙ sym gap)
     ∙ ap (λ xs. toks_from (at + suc n) 0 (drop (suc n) xs)) (sym rest)
@@ -59,23 +56,19 @@ gap-at text at (suc n) below some gap =
 pub token-at : (text : List ℕ) (at n : ℕ) (kind : TokenKind) → at < length text → gap_at (drop at text) ≡ 0 → token_at (drop at text) ≡ Some (kind, n) → 0 < n → toks_from at 0 (drop at text) ≡ after_tokens (record { kind = kind; from = at; to = at + n } ∷ []) (toks_from (at + n) 0 (drop (at + n) text))
 token-at text at zero kind below gap token some = absurd (omega arith)
 token-at text at (suc n) kind below gap token some =
-    let rest = rest-at text at below in
+    let rest = drop-cons text at 0 below in
     ap (toks_from at 0) rest
     ∙ token-first (get_or text at 0) (drop (suc at) text) at kind n (ap gap_at (sym rest) ∙ gap) (ap token_at (sym rest) ∙ token)
     ∙ ap (λ xs. after_tokens (record { kind = kind; from = at; to = at + suc n } ∷ []) (toks_from (at + suc n) 0 xs)) (ap (drop (suc n)) (sym rest) ∙ drop-drop (suc n) at text)
 
 pub none-at : (text : List ℕ) (at : ℕ) → at < length text → gap_at (drop at text) ≡ 0 → token_at (drop at text) ≡ None → toks_from at 0 (drop at text) ≡ Err (fault_of at (get_or text at 0))
 none-at text at below gap token =
-    let rest = rest-at text at below in
+    let rest = drop-cons text at 0 below in
     ap (toks_from at 0) rest ∙ none-first (get_or text at 0) (drop (suc at) text) at (ap gap_at (sym rest) ∙ gap) (ap token_at (sym rest) ∙ token)
 
 -- one more token was found
 pub found-more : (found : List Token) (t : Token) (r r' : Result (List Token) LexFault) → r ≡ after_tokens (t ∷ []) r' → after_tokens found r ≡ after_tokens (found ++ t ∷ []) r'
 found-more found t r r' e = ap (after_tokens found) e ∙ after-after found (t ∷ []) r'
-
--- what a slice from a place on holds
-pub rest : (text : List ℕ) (at : ℕ) → take (length text - at) (drop at text) ≡ drop at text
-rest text at = take_all (length text - at) (drop at text) (omega (arith, length-drop at text))
 
 -- the walk begins and ends
 pub at-start : (text : List ℕ) (found : List Token) → found ≡ [] → after_tokens found (toks_from 0 0 text) ≡ toks text

@@ -1,4 +1,3 @@
-pub mod Options
 pub mod ListTurns
 pub mod ListSound
 pub mod ListComplete

@@ -4,13 +4,14 @@ use Rattle.std.proofs.lemmas.Int.{ints}
 use Rattle.std.specs.List.{list_any}
 use Rattle.std.proofs.lemmas.List.Elements.{All-nil, All-cons, All-push, All-weaker}
 use Rattle.std.proofs.lemmas.Bool.Decides.{nat_tests}
+use Rattle.std.proofs.lemmas.Bool.{or_parts, leb-true}
 use Rattle.pdl_elem.specs.declared.Ty.TheVariants.{Long, Longlong}
 use Rattle.pdl_elem.specs.Types.{InRange}
 use Rattle.pdl_shape.specs.Shape.{size_of}
 use Rattle.pdl_lexemes.specs.declared.Lexeme.{Lexeme}
 use Rattle.pdl_lexemes.specs.Laws.{FillsArray}
 use Rattle.pdl_lexemes.specs.Lists.{signed, shared, with_length, type_of, ListPart, SpellsList, an_item, some_items, a_list, number, minus, nested, first, more, empty, filled}
-use Rattle.pdl_lexemes.proofs.Options.{none_some, some_inj, map_elim}
+use Rattle.pdl_lemmas.specs.Options.{none_some, some_inj, map_elim}
 use Rattle.pdl_lexemes.proofs.ListDims.{shared_is}
 
 -- a number of 63 bits and a sign
@@ -21,14 +22,11 @@ record SignedIs (n : ℕ) (z : ℤ) : Type 0 where
   small : n ≤ 9223372036854775807
   value : z ≡ pos n
 
-small_test : (n : ℕ) → nat_le n 9223372036854775807 ≡ true → n ≤ 9223372036854775807
-small_test n t = grind (arith, nat_tests)
-
 signed_is : (n : ℕ) (z : ℤ) → signed n ≡ Some z → SignedIs n z
 signed_is n z e = of_test (nat_le n 9223372036854775807) refl e
   where
     of_test : (b : Bool) → nat_le n 9223372036854775807 ≡ b → (if b then Some (pos n) else None) ≡ Some z → SignedIs n z
-    of_test true t k = record { small = small_test n t; value = sym (some_inj k) }
+    of_test true t k = record { small = leb-true n 9223372036854775807 t; value = sym (some_inj k) }
     of_test false t k = absurd (none_some k)
 
 fits_signed : (n : ℕ) (z : ℤ) → signed n ≡ Some z → Fits63 z
@@ -106,14 +104,10 @@ is_wide z = nat_lt 2147483647 (nat_abs z)
 not_wide : (n : ℕ) → nat_lt 2147483647 n ≡ false → n ≤ 2147483647
 not_wide n t = grind (arith, nat_tests)
 
-or_false : (a b : Bool) → (a || b) ≡ false → (a ≡ false) × (b ≡ false)
-or_false true b e = absurd (true≢false e)
-or_false false b e = (refl, e)
-
 none_wide : (es : List ℤ) → list_any is_wide es ≡ false → All (InRange Long) es
 none_wide [] e = All-nil (InRange Long)
 none_wide (z ∷ es) e =
-    let parts = or_false (is_wide z) (list_any is_wide es) e in
+    let parts = or_parts (is_wide z) (list_any is_wide es) e in
     All-cons (InRange Long) z es (in_long z (not_wide (nat_abs z) parts.0)) (none_wide es parts.1)
 
 typed : (es : List ℤ) → All Fits63 es → All (InRange (type_of es)) es

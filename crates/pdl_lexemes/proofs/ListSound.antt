@@ -6,7 +6,7 @@ use Rattle.pdl_lexemes.specs.declared.Lexeme.{Lexeme}
 use Rattle.pdl_lexemes.specs.declared.Lexeme.TheVariants.{Number, OpenSquare, CloseSquare, Comma, Operator}
 use Rattle.pdl_lexemes.specs.Lists.{signed, shared, with_length, SpellsList, an_item, some_items, a_list, number, minus, nested, first, more, empty, filled}
 use Rattle.pdl_lexemes.specs.ListReading.{ReadPart, read_part, closed, number_item, item_at, items_at, filled_at, inside_at, list_at, list_reader}
-use Rattle.pdl_lexemes.proofs.Options.{some_inj, none_some, then_elim, map_elim, choose_elim}
+use Rattle.pdl_lemmas.specs.Options.{some_inj, none_some, then_elim, map_elim, choose_elim}
 use Rattle.pdl_lexemes.specs.Peeks.{after, minus_step, number_at, signed_number_at}
 
 same_is : (a b : Lexeme) → lexeme.ghosts.eq a b ≡ true → b ≡ a

@@ -6,9 +6,6 @@ use Rattle.pdl_lexemes.specs.ListReading.{ReadPart, read_part, items_at, item_at
 use Rattle.pdl_lexemes.specs.declared.Lexeme.TheVariants.{Comma}
 use Rattle.pdl_lexemes.specs.Peeks.{after}
 
-pub one_less : (e c : ℕ) → c < e → e - c ≡ suc (e - (c + 1))
-one_less e c h = omega arith
-
 module _ (list_of : List ℤ → List Lexeme → Option ReadPart) where
   pub items_stop : (k n : ℕ) (p : ReadPart) → after Comma p.rest ≡ None → items_at list_of k n p ≡ Some (n, p)
   unfolding items_at

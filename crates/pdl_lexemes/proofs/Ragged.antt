@@ -7,14 +7,10 @@ use Rattle.pdl_lexemes.specs.Lists.{ListPart, SpellsList, an_item, some_items, a
 use Rattle.pdl_lexemes.specs.ListReading.{ReadPart, read_part, list_reader, list_read}
 use Rattle.pdl_lexemes.specs.Depth.{ragged_in, reads_ragged, without_shape}
 use Rattle.pdl_lexemes.proofs.ListSound.{reader_sound}
-use Rattle.pdl_lexemes.proofs.Options.{map_elim}
+use Rattle.pdl_lemmas.specs.Options.{map_elim}
 use Rattle.pdl_lexemes.specs.Peeks.{after}
 use Rattle.pdl_lexemes.proofs.ListComplete.{list_found, list_opens}
 use Rattle.pdl_lexemes.proofs.ListDims.{shared_is}
-
--- the scan ends where a list is ragged, and goes on behind a place where none is
-pub scan_here : (t : Lexeme) (ts : List Lexeme) → reads_ragged (list_read (t ∷ ts)) ≡ true → ragged_in (t ∷ ts) ≡ true
-scan_here t ts e = rw e
 
 pub scan_on : (t : Lexeme) (ts : List Lexeme) → reads_ragged (list_read (t ∷ ts)) ≡ false → ragged_in (t ∷ ts) ≡ ragged_in ts
 scan_on t ts e = rw e

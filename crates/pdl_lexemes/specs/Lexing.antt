@@ -1,5 +1,6 @@
 -- The lexeme that a token is.
 use Rattle.std.specs.Prelude.{ℕ, ◌+◌, ◌-◌, ◌*◌, min, List, [], ◌∷◌, map, fold, Option, Some, None, if◌then◌else◌, codes, bytes_eq}
+use Rattle.pdl_lemmas.specs.Options.{choose}
 use Rattle.pdl_elem.specs.declared.BinaryOp.{BinaryOp}
 use Rattle.pdl_elem.specs.declared.BinaryOp.TheVariants.{Add, Sub, Mul, Div, Rem, Shl, Shr, Lt, Le, Gt, Ge, Eq, Ne, And, Or, Xor}
 use Rattle.pdl_elem.specs.declared.UnaryOp.TheVariants.{Not, Complement}
@@ -17,7 +18,6 @@ use Rattle.pdl_lexemes.specs.declared.WordKind.TheVariants.{OfType, View, Pars, 
 use Rattle.pdl_lexemes.specs.declared.Lexeme.{Lexeme}
 use Rattle.pdl_lexemes.specs.declared.Lexeme.TheVariants.{Name, Keyword, Word, Number, Quoted, Open, Close, OpenSquare, CloseSquare, Comma, Equals, Arrow, FatArrow, Assign, Operator, Prefix, Unknown}
 use Rattle.pdl_lexemes.specs.Bytes.{bytes_at}
-use Rattle.pdl_lexemes.specs.ListReading.{choose}
 
 -- what a table has for a text
 abbrev pub found_in : {A : Type 0} → List (List ℕ × A) → List ℕ → Option A

@@ -1,5 +1,6 @@
 -- How a list literal is read: the one way in which its lexemes spell it, if there is one.
 use Rattle.std.specs.Prelude.{ℕ, zero, suc, ℤ, List, [], ◌∷◌, ◌++◌, length, Option, Some, None, option_map, option_and_then}
+use Rattle.pdl_lemmas.specs.Options.{choose}
 use Rattle.pdl_lexemes.specs.declared.Lexeme.{Lexeme}
 use Rattle.pdl_lexemes.specs.declared.Lexeme.TheVariants.{OpenSquare, CloseSquare, Comma}
 use Rattle.pdl_lexemes.specs.Lists.{shared, with_length}
@@ -13,11 +14,6 @@ pub record ReadPart : Type 0 where
 
 abbrev pub read_part : Option (List ℕ) → List ℤ → List Lexeme → ReadPart
 read_part shape elems rest = record { shape = shape; elems = elems; rest = rest }
-
--- a value where there is none, else what is made of it
-abbrev pub choose : {A B : Type 0} → B → (A → B) → Option A → B
-choose d f None = d
-choose d f (Some x) = f x
 
 -- the number of items read, with them
 abbrev pub counted : ℕ → ReadPart → ℕ × ReadPart

@@ -2,6 +2,7 @@
 use Rattle.std.proofs.Common.{◌≡◌, ◌≢◌, ℕ, ◌+◌, ◌-◌, ◌<◌, ◌≤◌, List, [], ◌∷◌, ◌++◌, length, map, Bool, true, false, Option, inl, inr, refl, sym, ap, subst, ◌∙◌, arith, eqb-true, eq-eqb}
 use Rattle.std.specs.Prelude.{◌==◌, if◌then◌else◌, IsSomeAnd}
 use Rattle.std.proofs.lemmas.Bool.{cases_lt}
+use Rattle.pdl_lemmas.specs.Tests.{by_test}
 use Rattle.pdl_world.specs.World.{World, ArrayDef, root, view, Look}
 use Rattle.pdl_world.specs.Sound.{NumbersBelow, IsSound, IsLive, IsAllowed}
 use Rattle.pdl_world.specs.Swept.{holds, parents, kept_onto, sweep}
@@ -9,7 +10,7 @@ use Rattle.pdl_kernel.specs.Kernels.{Kernel}
 use Rattle.pdl_machine.specs.Names.{Named, Names}
 use Rattle.pdl_machine.specs.State.{State, held, AreLive, IsWhole}
 use Rattle.pdl_machine.specs.Tidy.{older, with_parent, renumber, renumbered, tidy}
-use Rattle.pdl_machine.proofs.Renamed.{by_test, IsApart, Renames, empty, more, same, look-other, StateAlike}
+use Rattle.pdl_machine.proofs.Renamed.{IsApart, Renames, empty, more, same, look-other, StateAlike}
 use Rattle.pdl_machine.proofs.Tidying.{renamed}
 
 -- whether the world has the number

@@ -2,6 +2,7 @@
 use Rattle.std.proofs.Common.{◌≡◌, ℕ, ℤ, ◌+◌, ◌≤◌, List, [], ◌∷◌, ◌++◌, length, map, Bool, true, false, Option, Some, None, Result, Ok, Err, refl, sym, ap, subst, ◌∙◌, arith, eq-eqb, nat_eq}
 use Rattle.std.specs.Prelude.{◌==◌, if◌then◌else◌, IfOk, IfSome}
 use Rattle.std.specs.Cmp.Lexicographic.{pointwise}
+use Rattle.pdl_lemmas.specs.Tests.{by_test}
 use Rattle.pdl_buf.specs.declared.made.Made.{Made}
 use Rattle.pdl_world.specs.declared.Trans.{Trans}
 use Rattle.pdl_shape.specs.Places.{write}
@@ -26,7 +27,6 @@ use Rattle.pdl_machine.specs.Calls.{outcome, Callee, builtin, kernel, callee_of,
 use Rattle.pdl_machine.specs.Value.{Taken, known, number_made, value_of, taken}
 use Rattle.pdl_world.specs.Swept.{parents}
 use Rattle.pdl_machine.specs.Step.{Stepped, bind_value, bound, roots_bound, outputs_bound, kernel_named, list_bound, target, assigned, assigning, after_printing, effect}
-use Rattle.pdl_machine.proofs.Renamed.{by_test}
 use Rattle.pdl_machine.proofs.Numbering.{in_world, AreIn, IsOrderly, IsInOrder}
 
 ok_then : {A B : Type 0} (P : A → Type 0) (Q : B → Type 0) (x : Result A Fault) (f : A → Result B Fault) → IfOk x P → ((a : A) → P a → IfOk (f a) Q) → IfOk (and_then x f) Q

@@ -3,6 +3,7 @@
 use Rattle.std.proofs.Common.{◌≡◌, ◌≢◌, ℕ, ℤ, ◌+◌, ◌≤◌, suc, List, [], ◌∷◌, length, Bool, true, false, Option, Some, None, Result, Ok, Err, refl, sym, ap, subst, ◌∙◌, arith, eqb-true, eq-eqb}
 use Rattle.std.specs.Prelude.{◌==◌, if◌then◌else◌, option_map, option_and_then}
 use Rattle.std.specs.Option.{option_map_or}
+use Rattle.pdl_lemmas.specs.Tests.{by_test}
 use Rattle.pdl_elem.specs.declared.Ty.{Ty}
 use Rattle.pdl_elem.specs.declared.Ty.TheVariants.{Byte}
 use Rattle.pdl_buf.specs.declared.made.Made.{Made}
@@ -16,10 +17,6 @@ use Rattle.pdl_world.specs.World.{World, ArrayDef, root, view, Look, look, throu
 use Rattle.pdl_machine.specs.Arrays.{Arrays, array_in, with_new}
 use Rattle.pdl_machine.specs.State.{State}
 use Rattle.pdl_machine.specs.Tidy.{with_parent, with_numbers}
-
-pub by_test : {G : Type 0} (b : Bool) → (b ≡ true → G) → (b ≡ false → G) → G
-by_test true holds fails = holds refl
-by_test false holds fails = fails refl
 
 -- other numbers for the same arrays: different ones stay different
 abbrev pub IsApart : (ℕ → ℕ) → Type 0

@@ -3,16 +3,13 @@ use Rattle.std.proofs.Common.{◌≡◌, ℕ, zero, suc, ◌+◌, ◌-◌, ◌<�
 use Rattle.std.specs.Prelude.{nat_lt}
 use Rattle.std.proofs.lemmas.Bool.{ltb-true, ltb-false, le-ltb}
 use Rattle.std.proofs.lemmas.List.{map-append}
+use Rattle.pdl_lemmas.specs.Tests.{by_test}
 use Rattle.pdl_lex.specs.Bytes.{newlines}
 use Rattle.pdl_lex.specs.Limits.{script_limit}
 use Rattle.pdl_lex.specs.Pieces.{Mark, statement, script_too_long, pieces, settled, script_marks}
 use Rattle.pdl_lex.specs.Settled.{BeginThePieces, StaySettled}
 use Rattle.pdl_machine.specs.Run.{after_marks, start, run, settled_marks, so_far}
 use Rattle.pdl_machine.proofs.RunLemmas.{printed_stays, goes_on, limit_ends}
-
-by_bool : {P : Type 0} (b : Bool) → (b ≡ true → P) → (b ≡ false → P) → P
-by_bool true when_true when_false = when_true refl
-by_bool false when_true when_false = when_false refl
 
 -- the first bytes of what two parts give together
 take_over : (n : ℕ) (xs ys : List ℕ) → length xs ≤ n → take n (xs ++ ys) ≡ xs ++ take (n - length xs) ys
@@ -54,8 +51,8 @@ module _ (begin : BeginThePieces) (stay : StaySettled) (keep : Bool) (bytes more
 
   pub so_far-front : Front
   so_far-front =
-      by_bool (nat_lt script_limit (length bytes)) past_limit (λ near.
-      by_bool (nat_lt script_limit (length (bytes ++ more))) (cut_at_limit near) (within_limit near))
+      by_test (nat_lt script_limit (length bytes)) past_limit (λ near.
+      by_test (nat_lt script_limit (length (bytes ++ more))) (cut_at_limit near) (within_limit near))
 
   abbrev Grown : Type 0
   Grown = (ms : List Mark) × (so_far keep (bytes ++ more) ≡ after_marks keep (so_far keep bytes) ms)
@@ -78,7 +75,7 @@ module _ (begin : BeginThePieces) (stay : StaySettled) (keep : Bool) (bytes more
       (map statement rest.0, rw (near, all_near) (ap (after_marks keep start) marks ∙ goes_on keep start (map statement (settled bytes)) (map statement rest.0)))
 
   pub so_far-grows : Grown
-  so_far-grows = by_bool (nat_lt script_limit (length (bytes ++ more))) grown_past grown_within
+  so_far-grows = by_test (nat_lt script_limit (length (bytes ++ more))) grown_past grown_within
 
   pub so_far-printed : (text : List ℕ) × ((run keep (bytes ++ more)).printed ≡ (so_far keep bytes).printed ++ text)
   so_far-printed =
@@ -89,5 +86,5 @@ module _ (begin : BeginThePieces) (stay : StaySettled) (keep : Bool) (bytes more
 pub so_far-all : (keep : Bool) (bytes : List ℕ) → settled bytes ≡ pieces bytes → so_far keep bytes ≡ run keep bytes
 so_far-all keep bytes is =
     let same : settled_marks bytes ≡ script_marks bytes =
-    by_bool (nat_lt script_limit (length bytes)) (λ far. rw far refl) (λ near. rw near (ap (map statement) is)) in
+    by_test (nat_lt script_limit (length bytes)) (λ far. rw far refl) (λ near. rw near (ap (map statement) is)) in
     ap (after_marks keep start) same

@@ -4,6 +4,7 @@ use Rattle.std.proofs.Common.{◌≡◌, ℕ, ℤ, suc, List, [], ◌∷◌, ◌
 use Rattle.std.specs.Prelude.{if◌then◌else◌, option_map, is_none, not, ◌&&◌, nat_lt}
 use Rattle.std.specs.List.{flat_map}
 use Rattle.std.specs.Cmp.Lexicographic.{pointwise}
+use Rattle.pdl_lemmas.specs.Tests.{by_test}
 use Rattle.pdl_buf.specs.declared.made.Made.{Made}
 use Rattle.pdl_world.specs.declared.Trans.{Trans}
 use Rattle.pdl_world.specs.Refused.{NoView, view_refusal}
@@ -27,7 +28,7 @@ use Rattle.pdl_machine.specs.Calls.{outcome, builtin_value, Callee, builtin, ker
 use Rattle.pdl_machine.specs.Value.{Taken, known, number_made, value_of, taken}
 use Rattle.pdl_machine.specs.Tidy.{renumbered, with_numbers}
 use Rattle.pdl_machine.specs.Step.{Stepped, bind_value, bound, roots_bound, outputs_bound, kernel_named, list_bound, target, assigned, assigning, info_line, printed, after_printing, name_line, effect}
-use Rattle.pdl_machine.proofs.Renamed.{by_test, AreAlike, StateAlike, view_refusal_renamed, assign_renamed, array_alike, new_alike}
+use Rattle.pdl_machine.proofs.Renamed.{AreAlike, StateAlike, view_refusal_renamed, assign_renamed, array_alike, new_alike}
 use Rattle.pdl_machine.proofs.Both.{Both, both_then, both_same}
 
 -- a value on both sides

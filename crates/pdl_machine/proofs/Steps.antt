@@ -1,6 +1,7 @@
 -- The laws of steps.
 use Rattle.std.proofs.Common.{◌≡◌, ℕ, List, [], ◌∷◌, ◌++◌, map, Bool, true, false, Option, Some, None, Ok, Err, inl, inr, refl, sym, ap, subst, ◌∙◌, arith, eqb-true}
 use Rattle.std.specs.Prelude.{◌==◌, if◌then◌else◌, option_map, IfOk}
+use Rattle.pdl_lemmas.specs.Tests.{by_test}
 use Rattle.pdl_world.specs.declared.Trans.{Trans}
 use Rattle.pdl_world.specs.World.{World, ArrayDef, root, view}
 use Rattle.pdl_world.specs.Sound.{NumbersBelow, IsSound}
@@ -12,7 +13,7 @@ use Rattle.pdl_machine.specs.State.{State, held, AreLive}
 use Rattle.pdl_machine.specs.Tidy.{with_parent, numbered, tidy}
 use Rattle.pdl_machine.specs.Step.{Stepped, effect, tidied}
 use Rattle.pdl_machine.specs.Laws.{StepsAlike, NewArraysUnseen, AreAllReached, StepsLeaveReached, TidyingShowsTheSame}
-use Rattle.pdl_machine.proofs.Renamed.{by_test, IsApart, StateAlike, array_alike}
+use Rattle.pdl_machine.proofs.Renamed.{IsApart, StateAlike, array_alike}
 use Rattle.pdl_machine.proofs.Both.{Both}
 use Rattle.pdl_machine.proofs.Stepping.{StepAlike, effect_alike, number_of_alike}
 use Rattle.pdl_machine.proofs.Tidying.{renamed, holds_renamed, held_renamed, tidy_alike}

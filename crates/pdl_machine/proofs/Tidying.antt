@@ -1,6 +1,7 @@
 -- States that differ in numbers, and in arrays that only one has, are the same once they are tidied.
 use Rattle.std.proofs.Common.{◌≡◌, ◌≢◌, ℕ, suc, List, [], ◌∷◌, ◌++◌, length, map, Bool, true, false, refl, sym, ap, subst, ◌∙◌, eqb-true}
 use Rattle.std.specs.Prelude.{◌==◌, ◌||◌, if◌then◌else◌}
+use Rattle.pdl_lemmas.specs.Tests.{by_test}
 use Rattle.pdl_world.specs.World.{World, ArrayDef, root, view}
 use Rattle.pdl_kernel.specs.Kernels.{Kernel}
 use Rattle.pdl_machine.specs.Names.{Named, Names}
@@ -8,7 +9,7 @@ use Rattle.pdl_machine.specs.State.{State, held}
 use Rattle.pdl_machine.specs.Laws.{LettingGoUnseen, SweepsByFewer}
 use Rattle.pdl_world.specs.Swept.{holds, parents, kept_onto, sweep}
 use Rattle.pdl_machine.specs.Tidy.{older, with_parent, renumber, renumbered, with_numbers, tidy}
-use Rattle.pdl_machine.proofs.Renamed.{by_test, IsApart, same_test, Renames, empty, more, same, StateAlike}
+use Rattle.pdl_machine.proofs.Renamed.{IsApart, same_test, Renames, empty, more, same, StateAlike}
 
 -- a world under other numbers
 abbrev pub renamed : (ℕ → ℕ) → World → World

@@ -1,7 +1,7 @@
 -- One hold less where nothing is loose: nothing goes, or one array alone, or it and some above it.
 use Rattle.std.proofs.Common.{◌≡◌, ◌≢◌, ℕ, ◌+◌, ◌<◌, ◌||◌, Bool, true, false, nat_lt, [], ◌∷◌, Option, Some, None, is_some, inl, inr, refl, sym, ◌∙◌, ap, subst, arith}
 use Rattle.std.proofs.Math.Path.{fun_ext}
-use Rattle.std.proofs.lemmas.Bool.{cases_Bool, or_right, ltb-true, lt-ltb}
+use Rattle.std.proofs.lemmas.Bool.{cases_Bool, or_right, ltb-true, lt-ltb, both_ways}
 use Rattle.std.proofs.lemmas.Bool.Decides.{eqb_tells}
 use Rattle.pdl_nodes.specs.declared.holds.Hold.{Hold}
 use Rattle.pdl_nodes.specs.Children.{children, left, one_of}
@@ -26,7 +26,7 @@ use Rattle.pdl_nodes.proofs.Numbers.{at_other, at_same}
 use Rattle.pdl_nodes.proofs.Paths.{parent_live}
 use Rattle.pdl_nodes.proofs.Reaches.{none_of, staying_live}
 use Rattle.pdl_nodes.proofs.Removing.{staying_all}
-use Rattle.pdl_nodes.proofs.Rising.{IsRising, fewer_same, no_both, none_less, noted_some, rising_goes, rising_none, rising_room}
+use Rattle.pdl_nodes.proofs.Rising.{IsRising, fewer_same, none_less, noted_some, rising_goes, rising_none, rising_room}
 use Rattle.pdl_nodes.specs.Released.{GoingIsSettled}
 use Rattle.std.proofs.lemmas.Bool.{ne_eqb, eq-eqb}
 use Rattle.pdl_nodes.proofs.Origins.{own_root}
@@ -173,7 +173,7 @@ other_stands rs gs id v b n = b.numbers v ∙ stays_there rs id v n
 pub alone_from : (rs : Rows) (gs : Counts) (id : ℕ) → Beside (without id rs) gs → ComesFrom (id ∷ []) rs gs
 alone_from rs gs id b v h g d = elim (eqb_tells id v) [
   | inl y ↦ (let z : true ≡ false = rw y.0 at d in absurd (cc))
-  | inr y ↦ absurd (no_both (stands gs v) (other_stands rs gs id v b (λ q. y.1 (sym q)) ∙ h) g)
+  | inr y ↦ absurd (both_ways (stands gs v) g (other_stands rs gs id v b (λ q. y.1 (sym q)) ∙ h))
 ]
 
 -- the views that are left of each: it is one of its parent's

@@ -1,6 +1,6 @@
 -- Taking the holds from all that no held array reaches: from some arrays up.
 use Rattle.std.proofs.Common.{◌≡◌, ◌≢◌, ℕ, ◌+◌, ◌<◌, ◌≤◌, ◌||◌, true, false, eqb, List, ◌∷◌, length, get_or, drop, nat_lt, inl, inr, refl, sym, ◌∙◌, ap, arith}
-use Rattle.std.proofs.lemmas.Bool.{cases_Bool, or_right, ltb-true}
+use Rattle.std.proofs.lemmas.Bool.{cases_Bool, or_right, ltb-true, both_ways}
 use Rattle.std.proofs.lemmas.Bool.Decides.{leb_tells}
 use Rattle.std.proofs.lemmas.List.{drop_all, drop_more}
 use Rattle.pdl_world.specs.Swept.{holds}
@@ -13,7 +13,7 @@ use Rattle.pdl_nodes.proofs.Counted.{views_counted}
 use Rattle.pdl_nodes.proofs.FamilyLemmas.{still_falls}
 use Rattle.pdl_nodes.proofs.Leavings.{still_parents}
 use Rattle.pdl_nodes.proofs.Lefts.{IsViewed, child_of, left_all, left_some, told}
-use Rattle.pdl_nodes.proofs.Rising.{fewer_same, no_both}
+use Rattle.pdl_nodes.proofs.Rising.{fewer_same}
 use Rattle.std.proofs.lemmas.Bool.{ne_eqb}
 
 -- ---- lists that a loop goes over
@@ -34,7 +34,7 @@ pub record IsLetting (rs : Rows) (h0 hs : Counts) (rest : List ℕ) (id : ℕ) :
 pub marked_none : (rs : Rows) (hs : Counts) → Beside rs hs → AreMarked rs hs
 marked_none rs hs b = record {
   numbers = λ v e. sym (b.numbers v) ∙ e;
-  spent = λ v h e. absurd (no_both (stands hs v) (b.numbers v ∙ h) e);
+  spent = λ v h e. absurd (both_ways (stands hs v) e (b.numbers v ∙ h));
   noted = λ v e. (let a : left rs (stands hs) v ≡ children rs v = left_all rs (stands hs) v (λ k g. b.numbers k ∙ g) in
       let c : going hs v ≡ 0 = b.clear v in omega (arith, a, c));
 }

@@ -1,6 +1,6 @@
 -- Removing what has no holds, from some arrays up.
 use Rattle.std.proofs.Common.{◌≡◌, ◌≢◌, ℕ, ◌+◌, ◌-◌, ◌<◌, ◌≤◌, ◌&&◌, ◌||◌, not, Bool, true, false, eqb, cond, List, [], ◌∷◌, Option, Some, None, is_some, inl, inr, refl, sym, ◌∙◌, ap, subst, arith}
-use Rattle.std.proofs.lemmas.Bool.{cases_Bool}
+use Rattle.std.proofs.lemmas.Bool.{cases_Bool, both_ways}
 use Rattle.std.proofs.lemmas.Bool.Decides.{eqb_tells}
 use Rattle.pdl_world.specs.Swept.{holds}
 use Rattle.pdl_nodes.specs.Children.{children, left, one_of}
@@ -17,7 +17,7 @@ use Rattle.pdl_nodes.proofs.Lefts.{left_all, left_same}
 use Rattle.pdl_nodes.proofs.Paths.{parent_live}
 use Rattle.pdl_nodes.proofs.Reaches.{staying_live}
 use Rattle.pdl_nodes.proofs.Rests.{size_of, without_here, without_none}
-use Rattle.pdl_nodes.proofs.Rising.{no_both, noted_stands, noted_count, noted_less}
+use Rattle.pdl_nodes.proofs.Rising.{noted_stands, noted_count, noted_less}
 use Rattle.pdl_nodes.proofs.Shapes.{past_at}
 use Rattle.std.proofs.lemmas.Bool.{eq-eqb, ne_eqb}
 
@@ -46,7 +46,7 @@ row_less : (rs left : Rows) (v : ℕ) → left ≡ staying (has left) rs → has
 row_less rs left v e h = ap (λ x. row_at x v) e ∙ row_stays (has left) rs v h
 
 gone_less : (rs left : Rows) (v : ℕ) → left ≡ staying (has left) rs → has rs v ≡ false → has left v ≡ false
-gone_less rs left v e h = elim (cases_Bool (has left v)) [ inl y ↦ absurd (no_both (has rs v) (has_less rs left v e y) h) | inr y ↦ y ]
+gone_less rs left v e h = elim (cases_Bool (has left v)) [ inl y ↦ absurd (both_ways (has rs v) h (has_less rs left v e y)) | inr y ↦ y ]
 
 and_is : (a b : Bool) → (b ≡ true → a ≡ true) → (a && b) ≡ b
 and_is true b f = refl
@@ -107,7 +107,7 @@ falling_none id rs hs n = record {
   standing = λ v. refl;
   counts = λ v. refl;
   first = λ d s. absurd (d refl);
-  climbs = λ c p h g. absurd (no_both (has rs c) h g);
+  climbs = λ c p h g. absurd (both_ways (has rs c) g h);
   noted = n;
 }
 
@@ -184,7 +184,7 @@ falling_goes id t0 h0 table new hs gs next at f i e g n k =
     let away_at : (v : ℕ) → at ≡ v → has new v ≡ false = λ v y. sym (ap (has new) y) ∙ away in
     record {
       rows = rows_then t0 table new i.rows (rows_without table new at n);
-      keeps = λ v h s. without_other table new at v n (λ y. no_both (stands hs v) (i.standing v ∙ s) (ap (stands hs) y ∙ x.gone)) ∙ i.keeps v h s;
+      keeps = λ v h s. without_other table new at v n (λ y. both_ways (stands hs v) (ap (stands hs) y ∙ x.gone) (i.standing v ∙ s)) ∙ i.keeps v h s;
       standing = λ v. noted_stands (λ n. n - 1) hs gs (parent_of (row_at table at)) v k ∙ i.standing v;
       counts = λ v. noted_count (λ n. n - 1) hs gs (parent_of (row_at table at)) v k ∙ i.counts v;
       first = λ d s. elim (eqb_tells at id) [
@@ -257,8 +257,8 @@ removing_none rs hs loose n = record {
   keeps = λ v h s. h;
   standing = λ v. refl;
   counts = λ v. refl;
-  done = λ u h d. absurd (no_both (holds loose u) h d);
-  climbs = λ c p h g. absurd (no_both (has rs c) h g);
+  done = λ u h d. absurd (both_ways (holds loose u) d h);
+  climbs = λ c p h g. absurd (both_ways (has rs c) g h);
   noted = n;
 }
 
@@ -306,7 +306,7 @@ removed_all rs h0 table hs starts s n f i =
     let all : (v : ℕ) → stands hs v ≡ has table v = λ v. elim (cases_Bool (has rs v)) [
       | inl y ↦ i.standing v ∙ sym (there v y)
       | inr y ↦ i.standing v ∙ elim (cases_Bool (stands h0 v)) [
-        | inl z ↦ absurd (no_both (has rs v) (n v z) y)
+        | inl z ↦ absurd (both_ways (has rs v) y (n v z))
         | inr z ↦ z ∙ sym (gone_less rs table v i.rows y)
       ]
     ] in

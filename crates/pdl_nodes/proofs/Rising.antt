@@ -12,10 +12,7 @@ use Rattle.pdl_nodes.proofs.FamilyLemmas.{still_falls}
 use Rattle.pdl_nodes.proofs.Lefts.{left_less, left_some, no_one}
 use Rattle.pdl_nodes.proofs.Paths.{parent_live}
 use Rattle.pdl_nodes.proofs.Rests.{size_of}
-use Rattle.std.proofs.lemmas.Bool.{eq-eqb, true_from_ne_false}
-
-pub no_both : (b : Bool) → b ≡ true → b ≡ false → ⊥
-no_both b x y = (let z : true ≡ false = sym x ∙ y in absurd (cc))
+use Rattle.std.proofs.lemmas.Bool.{eq-eqb, true_from_ne_false, both_ways}
 
 -- ---- what a note changes
 with_some : (n : ℕ) (o : Option Hold) → is_some (with_going n o) ≡ is_some o
@@ -77,7 +74,7 @@ pub record IsRising (rs : Rows) (h0 hs : Counts) (id : ℕ) (next : Option ℕ) 
   pub loose : (v : ℕ) → IsLoose rs hs v → (next ≡ Some v → ⊥) → IsLoose rs h0 v × (v ≢ id)
 
 pub fewer_same : (hs : Counts) → IsFewer hs hs
-fewer_same hs = record { standing = λ v e. e; counts = λ v e. refl; free = λ v e n. absurd (no_both (stands hs v) e n) }
+fewer_same hs = record { standing = λ v e. e; counts = λ v e. refl; free = λ v e n. absurd (both_ways (stands hs v) n e) }
 
 pub rising_none : (rs : Rows) (hs : Counts) (id : ℕ) → AreMarked rs hs → has rs id ≡ true → IsRising rs hs hs id (Some id)
 rising_none rs hs id m h = record {
@@ -109,7 +106,7 @@ rising_stays rs h0 hs id next at i e g = record {
   live = λ v n. absurd (cc);
   loose = λ v l n. i.loose v l (λ z. (let y : at ≡ v = (let w : Some at ≡ Some v = sym e ∙ z in cc) in
       let P : ℕ → Type 0 = λ x. IsLoose rs hs x in
-      no_both (goes_in (children rs at) (hold_at hs at)) (loose_goes rs hs at i.marked (subst P (sym y) l)) g));
+      both_ways (goes_in (children rs at) (hold_at hs at)) g (loose_goes rs hs at i.marked (subst P (sym y) l))));
 }
 
 record IsFree (rs : Rows) (hs : Counts) (at : ℕ) : Type 0 where
@@ -158,7 +155,7 @@ rising_goes rs h0 hs mid later id next at still i e g k n o =
     let p : Option ℕ = parent_of (row_at rs at) in
     let away : stands later at ≡ false = ap is_some n in
     let others : (v : ℕ) → v ≢ at → stands later v ≡ stands hs v = λ v d. ap is_some (o v d) ∙ noted_stands (λ n. n + 1) hs mid (parent_of (row_at rs at)) v k in
-    let is_other : (v : ℕ) → stands later v ≡ true → v ≢ at = λ v y z. no_both (stands later at) (ap (stands later) (sym z) ∙ y) away in
+    let is_other : (v : ℕ) → stands later v ≡ true → v ≢ at = λ v y z. both_ways (stands later at) away (ap (stands later) (sym z) ∙ y) in
     let before : (v : ℕ) → stands later v ≡ true → stands hs v ≡ true = λ v y. sym (others v (is_other v y)) ∙ y in
     let counts : (v : ℕ) → stands later v ≡ true → count later v ≡ count hs v = λ v y. ap count_in (o v (is_other v y)) ∙ noted_count (λ n. n + 1) hs mid (parent_of (row_at rs at)) v k in
     let less : (v : ℕ) → left rs (stands hs) v ≡ one_of (parent_of (row_at rs at)) v + left rs (stands later) v = λ v. left_less rs (stands hs) (stands later) at v (still_falls rs still) l s away others in

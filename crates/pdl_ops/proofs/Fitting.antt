@@ -6,6 +6,7 @@ use Rattle.std.proofs.lemmas.Bool.Decides.{nat_tests}
 use Rattle.std.proofs.lemmas.List.{ext_get_or}
 use Rattle.std.proofs.Math.Nat.{mod-one}
 use Rattle.std.proofs.lemmas.List.FromFn.{length-map-range_with_len, get_or-map-range_with_len}
+use Rattle.std.proofs.lemmas.Bool.{and_parts, cases_Bool}
 use Rattle.pdl_shape.specs.Broadcast.{cut_to, join, join_cons, join_size}
 use Rattle.pdl_shape.specs.Joined.{joined_dims, checked_join}
 use Rattle.pdl_shape.specs.Laws.{PositionLaws}
@@ -20,11 +21,6 @@ padded [] ts = ts
 padded (d ∷ ds) [] = d ∷ ds
 padded (d ∷ ds) (t ∷ ts) = t ∷ padded ds ts
 
--- both parts of a test
-both : (p q : Bool) → (p && q) ≡ true → (p ≡ true) × (q ≡ true)
-both true q e = (refl, e)
-both false q e = absurd (cc)
-
 is_one : (d : ℕ) → (d == 1) ≡ true → d ≡ 1
 is_one d e = grind (arith, nat_tests, e)
 
@@ -35,26 +31,26 @@ pub fits_join : (ds ts : List ℕ) → fits ds ts ≡ true → join ds ts ≡ So
 fits_join [] ts e = refl
 fits_join (d ∷ ds) [] e = refl
 fits_join (d ∷ ds) (t ∷ ts) e =
-    let parts = both (d == 1 || d == t) (fits ds ts) e in
+    let parts = and_parts (d == 1 || d == t) (fits ds ts) e in
     ap₂ join_cons (fits_size d t parts.0) (fits_join ds ts parts.1)
 
 ones_extent : (ds : List ℕ) → fits ds [] ≡ true → extent ds ≡ 1
 ones_extent [] e = refl
-ones_extent (d ∷ ds) e = let parts = both (d == 1) (fits ds []) e in ap₂ (λ (n m : ℕ). max n 1 * m) (is_one d parts.0) (ones_extent ds parts.1)
+ones_extent (d ∷ ds) e = let parts = and_parts (d == 1) (fits ds []) e in ap₂ (λ (n m : ℕ). max n 1 * m) (is_one d parts.0) (ones_extent ds parts.1)
 
 padded_extent : (ds ts : List ℕ) → fits ds ts ≡ true → extent (padded ds ts) ≡ extent ts
 padded_extent [] ts e = refl
 padded_extent (d ∷ ds) [] e = ones_extent (d ∷ ds) e
-padded_extent (d ∷ ds) (t ∷ ts) e = let parts = both (d == 1 || d == t) (fits ds ts) e in ap (λ (n : ℕ). max t 1 * n) (padded_extent ds ts parts.1)
+padded_extent (d ∷ ds) (t ∷ ts) e = let parts = and_parts (d == 1 || d == t) (fits ds ts) e in ap (λ (n : ℕ). max t 1 * n) (padded_extent ds ts parts.1)
 
 ones_size : (ds : List ℕ) → fits ds [] ≡ true → size_of ds ≡ 1
 ones_size [] e = refl
-ones_size (d ∷ ds) e = let parts = both (d == 1) (fits ds []) e in ap₂ (λ (n m : ℕ). n * m) (is_one d parts.0) (ones_size ds parts.1)
+ones_size (d ∷ ds) e = let parts = and_parts (d == 1) (fits ds []) e in ap₂ (λ (n m : ℕ). n * m) (is_one d parts.0) (ones_size ds parts.1)
 
 pub padded_size : (ds ts : List ℕ) → fits ds ts ≡ true → size_of (padded ds ts) ≡ size_of ts
 padded_size [] ts e = refl
 padded_size (d ∷ ds) [] e = ones_size (d ∷ ds) e
-padded_size (d ∷ ds) (t ∷ ts) e = let parts = both (d == 1 || d == t) (fits ds ts) e in ap (λ (n : ℕ). t * n) (padded_size ds ts parts.1)
+padded_size (d ∷ ds) (t ∷ ts) e = let parts = and_parts (d == 1 || d == t) (fits ds ts) e in ap (λ (n : ℕ). t * n) (padded_size ds ts parts.1)
 
 small_join : (js : List ℕ) → extent js ≤ 1048576 → checked_join (Some js) ≡ Ok js
 small_join js h = grind (arith, nat_tests, h)
@@ -77,7 +73,7 @@ joined_never ds ts xs ys refusal e h p q j =
 ones_position : (ds : List ℕ) (p : ℕ) → fits ds [] ≡ true → position_of ds (cut_to ds (coordinates_of ds p)) ≡ 0
 ones_position [] p e = refl
 ones_position (d ∷ ds) p e =
-    let parts = both (d == 1) (fits ds []) e in
+    let parts = and_parts (d == 1) (fits ds []) e in
     let rest : position_of ds (cut_to ds (coordinates_of ds (p / d))) ≡ 0 = ones_position ds (p / d) parts.1 in
     let first : (if d == 1 then 0 else p % d) ≡ 0 = ap (λ (b : Bool). if b then 0 else p % d) parts.0 in
     ap₂ (λ (n m : ℕ). n + d * m) first rest ∙ omega arith
@@ -86,7 +82,7 @@ padded_position : (ds ts : List ℕ) (p : ℕ) → fits ds ts ≡ true → stret
 padded_position [] ts p e = refl
 padded_position (d ∷ ds) [] p e = ones_position (d ∷ ds) p e
 padded_position (d ∷ ds) (t ∷ ts) p e =
-    let parts = both (d == 1 || d == t) (fits ds ts) e in
+    let parts = and_parts (d == 1 || d == t) (fits ds ts) e in
     ap (λ (n : ℕ). (if d == 1 then 0 else p % t) + d * n) (padded_position ds ts (p / t) parts.1)
 
 pub padded_stretched : (ds ts : List ℕ) (es : List ℤ) → fits ds ts ≡ true → stretched ds (padded ds ts) es ≡ stretched ds ts es
@@ -125,12 +121,8 @@ uncut : (ds : List ℕ) (p : ℕ) → cut_to ds (coordinates_of ds p) ≡ coordi
 uncut [] p = refl
 uncut (d ∷ ds) p = ap₂ (λ (c : ℕ) (cs : List ℕ). c ∷ cs) (along d) (uncut ds (p / d))
   where
-    is_it : (b : Bool) → (b ≡ true) ⊎ (b ≡ false)
-    is_it true = inl refl
-    is_it false = inr refl
-
     along : (d : ℕ) → (if d == 1 then 0 else p % d) ≡ p % d
-    along d = elim (is_it (d == 1)) as (λ x. (if d == 1 then 0 else p % d) ≡ p % d) [
+    along d = elim (cases_Bool (d == 1)) as (λ x. (if d == 1 then 0 else p % d) ≡ p % d) [
       | inl one ↦ ap (λ (b : Bool). if b then 0 else p % d) one ∙ sym (ap (λ (n : ℕ). p % n) (is_one d one) ∙ mod-one p)
       | inr other ↦ ap (λ (b : Bool). if b then 0 else p % d) other
     ]

@@ -16,10 +16,6 @@ use Rattle.pdl_ops.proofs.Zeros.{zero_none, zero_after, zero_before}
 pub block_map : (f : ℤ → ℤ) (xs : List ℤ) (k n : ℕ) → map f (take n (drop k xs)) ≡ take n (drop k (map f xs))
 block_map f xs k n = sym (take-map f n (drop k xs)) ∙ ap (take n) (sym (drop-map f k xs))
 
--- a list that was written over whole
-pub written : (n : ℕ) (xs rest : List ℤ) → length xs ≡ n → take n (xs ++ rest) ≡ xs
-written n xs rest e = ap (λ (k : ℕ). take k (xs ++ rest)) (sym e) ∙ take-append_seam xs rest
-
 -- ---- one list, changed
 
 -- the first k elements are changed

@@ -5,21 +5,10 @@ use Rattle.std.proofs.lemmas.List.Folds.{prefix_len-append}
 use Rattle.std.proofs.lemmas.List.Sums.{prefix_len-le-length}
 use Rattle.std.specs.Prelude.{Bool, true, false, not, position, if◌then◌else◌}
 use Rattle.std.specs.Ordering.{int_eq}
+use Rattle.pdl_lemmas.specs.Lists.{position_none, position_after, position_before}
 use Rattle.pdl_elem.specs.declared.BinaryOp.{BinaryOp}
 use Rattle.pdl_elem.specs.Blocks.{zero_at}
 use Rattle.pdl_elem.specs.Operators.{divides}
-
-position_none : (t : ℤ → Bool) (us vs : List ℤ) → position t us ≡ None → position t vs ≡ None → position t (us ++ vs) ≡ None
-position_none t us vs e f = grind (arith, nat_tests, length-append us vs, prefix_len-append (λ x. not (t x)) us vs, prefix_len-le-length (λ x. not (t x)) us, prefix_len-le-length (λ x. not (t x)) vs, e, f)
-
-position_after : (t : ℤ → Bool) (us vs : List ℤ) (p : ℕ) → position t us ≡ None → position t vs ≡ Some p → position t (us ++ vs) ≡ Some (length us + p)
-position_after t us vs p e f = grind (arith, nat_tests, length-append us vs, prefix_len-append (λ x. not (t x)) us vs, prefix_len-le-length (λ x. not (t x)) us, prefix_len-le-length (λ x. not (t x)) vs, e, f)
-
-position_before : (t : ℤ → Bool) (us vs : List ℤ) (p : ℕ) → position t us ≡ Some p → position t (us ++ vs) ≡ Some p
-position_before t us vs p e = grind (arith, nat_tests, length-append us vs, prefix_len-append (λ x. not (t x)) us vs, prefix_len-le-length (λ x. not (t x)) us, e)
-
-position_within : (t : ℤ → Bool) (us : List ℤ) (p : ℕ) → position t us ≡ Some p → p < length us
-position_within t us p e = grind (arith, nat_tests, e)
 
 -- a test for 0, where it is asked for
 abbrev tested : Bool → List ℤ → Option ℕ
@@ -37,10 +26,6 @@ tested_before : (b : Bool) (us vs : List ℤ) (p : ℕ) → tested b us ≡ Some
 tested_before true us vs p e = position_before _ us vs p e
 tested_before false us vs p e = absurd (cc)
 
-tested_within : (b : Bool) (us : List ℤ) (p : ℕ) → tested b us ≡ Some p → p < length us
-tested_within true us p e = position_within _ us p e
-tested_within false us p e = absurd (cc)
-
 -- no divisor in either part
 pub zero_none : (op : BinaryOp) (us vs : List ℤ) → zero_at op us ≡ None → zero_at op vs ≡ None → zero_at op (us ++ vs) ≡ None
 zero_none op us vs e f = tested_none (divides op) us vs e f
@@ -52,7 +37,3 @@ zero_after op us vs p e f = tested_after (divides op) us vs p e f
 -- the first one in the first part
 pub zero_before : (op : BinaryOp) (us vs : List ℤ) (p : ℕ) → zero_at op us ≡ Some p → zero_at op (us ++ vs) ≡ Some p
 zero_before op us vs p e = tested_before (divides op) us vs p e
-
--- it stands in the list
-pub zero_within : (op : BinaryOp) (us : List ℤ) (p : ℕ) → zero_at op us ≡ Some p → p < length us
-zero_within op us p e = tested_within (divides op) us p e

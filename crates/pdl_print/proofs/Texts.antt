@@ -124,11 +124,6 @@ join_one c f (x ∷ xs) d h = refl
 pub closed : (old start inner close : List ℕ) → ((old ++ start) ++ inner) ++ close ≡ old ++ ((start ++ inner) ++ close)
 closed old start inner close = append_assoc (old ++ start) inner close ∙ append_assoc old start (inner ++ close) ∙ ap (λ t. old ++ t) (sym (append_assoc start inner close))
 
--- a fact of a call's success gives another
-pub on_ok : {A E : Type 0} (r : Result A E) (P Q : Type 0) → (P → Q) → OnOk r P → OnOk r Q
-on_ok (Ok x) P Q f h = f h
-on_ok (Err e) P Q f h = tt
-
 pub taken_all : (xs : List ℤ) (i : ℕ) → length xs ≤ i → take i xs ≡ xs
 taken_all [] zero h = refl
 taken_all [] (suc i) h = refl

@@ -10,6 +10,7 @@ use Rattle.std.proofs.lemmas.List.Elements.{All-append}
 use Rattle.std.proofs.lemmas.List.Folds.{prefix_len-append, list_all-append, list_any-append}
 use Rattle.std.proofs.lemmas.List.Sums.{fold-append, prefix_len-le-length}
 use Rattle.std.proofs.Math.Seq.{take-add}
+use Rattle.pdl_lemmas.specs.Lists.{position_none, position_after, position_before}
 use Rattle.pdl_reduce.specs.Folds.{at_prefixes, first_place}
 use Rattle.pdl_reduce.proofs.Running.{running, running_append, running_is}
 
@@ -42,15 +43,6 @@ made_next f w a s xs old made next first k n e m g =
     ∙ ap (λ zs. old ++ zs) (sym (map-append w (running f a us) (running f (fold f a us) vs)) ∙ ap (map w) (sym (running_append f a us vs) ∙ ap (running f a) (sym (block_more xs first k n))))
 
 -- ---- the first place of a number
-
-position_none : (t : ℤ → Bool) (us vs : List ℤ) → position t us ≡ None → position t vs ≡ None → position t (us ++ vs) ≡ None
-position_none t us vs e f = grind (arith, nat_tests, length-append us vs, prefix_len-append (λ x. not (t x)) us vs, prefix_len-le-length (λ x. not (t x)) us, prefix_len-le-length (λ x. not (t x)) vs, e, f)
-
-position_after : (t : ℤ → Bool) (us vs : List ℤ) (p : ℕ) → position t us ≡ None → position t vs ≡ Some p → position t (us ++ vs) ≡ Some (length us + p)
-position_after t us vs p e f = grind (arith, nat_tests, length-append us vs, prefix_len-append (λ x. not (t x)) us vs, prefix_len-le-length (λ x. not (t x)) us, prefix_len-le-length (λ x. not (t x)) vs, e, f)
-
-position_before : (t : ℤ → Bool) (us vs : List ℤ) (p : ℕ) → position t us ≡ Some p → position t (us ++ vs) ≡ Some p
-position_before t us vs p e = grind (arith, nat_tests, length-append us vs, prefix_len-append (λ x. not (t x)) us vs, prefix_len-le-length (λ x. not (t x)) us, e)
 
 pub none_next : (t : ℤ → Bool) (xs : List ℤ) (first k n : ℕ) → position t (take k (drop first xs)) ≡ None → position t (take n (drop (first + k) xs)) ≡ None
     → position t (take (k + n) (drop first xs)) ≡ None

@@ -42,13 +42,6 @@ range_more f a n ys l h =
           sym (get_or-append_right us ys a k (pos 0) size high ∙ h (k - a) inside ∙ ap f back)
     ])
 
--- the row and the column of a place
-pub row_of : (i w j : ℕ) → j < w → (i * w + j) / w ≡ i
-row_of i w j h = div-mul-add i w j h
-
-pub column_of : (i w j : ℕ) → j < w → (i * w + j) % w ≡ j
-column_of i w j h = mod-mul-add i w j h
-
 -- ---- a column of one number
 
 cut_below : (d k : ℕ) → k < d → cut d k ≡ k

@@ -4,11 +4,12 @@ use Rattle.std.specs.Prelude.{IfSome}
 use Rattle.std.specs.List.{range_with_len}
 use Rattle.std.proofs.lemmas.Int.{ints}
 use Rattle.std.proofs.lemmas.List.FromFn.{length-map-range_with_len, get_or-map-range_with_len}
+use Rattle.std.proofs.lemmas.Nat.{div-mul-add, mod-mul-add}
 use Rattle.pdl_elem.specs.declared.Ty.{Ty}
 use Rattle.pdl_elem.specs.Numbers.{wrapped}
 use Rattle.pdl_reduce.specs.declared.matrices.Sizes.{Sizes}
 use Rattle.pdl_reduce.specs.Blocks.{block_at, product_at, products_at}
-use Rattle.pdl_reduce.proofs.Matrix.{range_more, row_of, column_of}
+use Rattle.pdl_reduce.proofs.Matrix.{range_more}
 use Rattle.pdl_shape.specs.Broadcast.{cut_to}
 use Rattle.pdl_shape.specs.Laws.{PositionLaws, WholesAreInOrder}
 use Rattle.pdl_shape.specs.Shape.{IsWithin, coordinates_of, size_of}
@@ -43,7 +44,7 @@ products_more ty s les res ls rs joined q lb rb e f =
     let element : (j : ℕ) → j < n → get_or new j (pos 0) ≡ P (q * n + j) = λ j h.
     get_or-map-range_with_len (product_at ty s lb rb) 0 n j j (pos 0) h (omega arith)
     ∙ ap₂ (λ (us vs : List ℤ). product_at ty s us vs j) e f
-    ∙ sym (ap₂ at (row_of q n j h) (column_of q n j h)) in
+    ∙ sym (ap₂ at (div-mul-add q n j h) (mod-mul-add q n j h)) in
     ap (λ (m : ℕ). map P (range_with_len 0 m)) more ∙ range_more P (q * n) n new (length-map-range_with_len (product_at ty s lb rb) 0 n) element
 
 -- a block as it was read

@@ -2,8 +2,9 @@
 use Rattle.std.proofs.Common.{◌≡◌, ℕ, ◌+◌, ◌*◌, ◌/◌, ◌%◌, ◌<◌, ℤ, pos, ◌+ℤ◌, ◌*ℤ◌, List, ◌∷◌, length, drop, get_or, arith, refl, ap, ap₂, sym, ◌∙◌}
 use Rattle.std.proofs.lemmas.Int.{ints}
 use Rattle.std.proofs.lemmas.Bool.Decides.{nat_tests}
-use Rattle.std.proofs.Math.IntN.{*ℤ_comm}
+use Rattle.std.proofs.Math.IntN.{*ℤ_comm, +ℤ_idl}
 use Rattle.std.proofs.Math.Nat.{div-one, mod-one, mul_comm}
+use Rattle.pdl_lemmas.specs.Numbers.{row_place_below}
 use Rattle.pdl_elem.specs.declared.Ty.{Ty}
 use Rattle.pdl_elem.specs.Numbers.{wrapped}
 use Rattle.pdl_shape.specs.Broadcast.{BroadcastsTo}
@@ -51,9 +52,6 @@ two_element p ty a bs q k i n c inside m size e below =
 cut_below : (x j : ℕ) → j < x → cut x j ≡ j
 cut_below x j h = grind (arith, nat_tests, h)
 
-within : (x h c i : ℕ) → c < x → i < h → c + x * i < x * h
-within x h c i cx ih = omega (arith, row_inside i h x ih, mul_comm x i, mul_comm x h, cx)
-
 -- ---- inner
 
 inner_at : Positions → (ty : Ty) (a b : Made) (bs : List ℕ) (n q : ℕ) → q < size_of bs → Meets a (drop 1 a.dims) bs (get_or a.dims 0 1 * 1) → Meets b (drop 1 b.dims) bs (1 * get_or b.dims 0 1)
@@ -82,9 +80,6 @@ inner_is laws ty a b bs n ma mb da db p inside =
 
 -- ---- outer
 
-zero_first : (z : ℤ) → z ≡ pos 0 +ℤ z
-zero_first z = omega (arith, ints)
-
 pub outer_is : Positions → (ty : Ty) (a b : Made) (bs : List ℕ) (n : ℕ) → Meets a (drop 1 a.dims) bs (get_or a.dims 0 1 * 1) → Meets b (drop 1 b.dims) bs (1 * get_or b.dims 0 1)
     → (p : ℕ) → p < size_of bs * (get_or b.dims 0 1 * get_or a.dims 0 1)
     → wrapped ty (paired_at Outer n (broadcast_element ty a) (broadcast_element ty b) (coordinates_of (get_or a.dims 0 1 ∷ get_or b.dims 0 1 ∷ bs) p))
@@ -105,7 +100,7 @@ outer_is laws ty a b bs n ma mb p inside =
     let u : ℤ = get_or (block_at ty (x * 1) a.elems (drop 1 a.dims) bs q) (j + x * 0) (pos 0) in
     let v : ℤ = get_or (block_at ty (1 * y) b.elems (drop 1 b.dims) bs q) (0 + 1 * i) (pos 0) in
     ap (λ (r : ℕ). product r (p / x % y) (p % x)) here.plane ∙ ap₂ (λ (u v : ℕ). product q u v) here.row here.column
-    ∙ ap (wrapped ty) (ap₂ (λ (m n : ℤ). m *ℤ n) right left ∙ *ℤ_comm u v ∙ zero_first (v *ℤ u))
+    ∙ ap (wrapped ty) (ap₂ (λ (m n : ℤ). m *ℤ n) right left ∙ *ℤ_comm u v ∙ sym (+ℤ_idl (v *ℤ u)))
 
 -- ---- matmult
 
@@ -129,6 +124,6 @@ matmult_is laws ty a b bs n ma mb da db p inside =
     ≡ sum_at (sizes_of Matmult n a.dims b.dims) (block_at ty (x * h) a.elems (drop 2 a.dims) bs q) (block_at ty (w * y) b.elems (drop 2 b.dims) bs q) n i j =
     sum_agree _ _ n (λ k below.
     ap₂ (λ (u v : ℤ). u *ℤ v)
-    (two_element laws ty a bs q k i (x * h) (cut x k + x * i) at.plane ma refl (ap (λ (m : ℕ). cut x k + x * m) (sym (cut_below h i at.row))) (within x h (cut x k) i (da k below) at.row))
-    (two_element laws ty b bs q j k (w * y) (j + w * cut y k) at.plane mb refl (ap (λ (m : ℕ). m + w * cut y k) (sym (cut_below w j at.column))) (within w y j (cut y k) at.column (db k below)))) in
+    (two_element laws ty a bs q k i (x * h) (cut x k + x * i) at.plane ma refl (ap (λ (m : ℕ). cut x k + x * m) (sym (cut_below h i at.row))) (row_place_below x h (cut x k) i (da k below) at.row))
+    (two_element laws ty b bs q j k (w * y) (j + w * cut y k) at.plane mb refl (ap (λ (m : ℕ). m + w * cut y k) (sym (cut_below w j at.column))) (row_place_below w y j (cut y k) at.column (db k below)))) in
     ap (λ (r : ℕ). sum r (p / w % h) (p % w)) here.plane ∙ ap₂ (λ (u v : ℕ). sum q u v) here.row here.column ∙ ap (wrapped ty) terms

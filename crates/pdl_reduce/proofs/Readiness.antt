@@ -2,7 +2,8 @@
 use Rattle.std.proofs.Common.{◌≡◌, ℕ, ◌*◌, ◌<◌, ◌≤◌, max, ℤ, List, [], ◌∷◌, length, map, drop, get_or, arith, Option, Some, Result, Ok, Err, refl, ap, ap₂, sym, subst, ◌∙◌}
 use Rattle.std.specs.Prelude.{Bool, false, nat_lt, if◌then◌else◌, slice_index_or, IsOk, IfOk}
 use Rattle.std.specs.List.{range_with_len}
-use Rattle.std.proofs.Math.Nat.{mul-le-mul_right, mul_comm}
+use Rattle.std.proofs.Math.Nat.{mul-le-mul_right, mul_comm, le-mul_of_pos_right}
+use Rattle.std.proofs.lemmas.Nat.{mul-le}
 use Rattle.pdl_elem.specs.declared.Ty.{Ty}
 use Rattle.pdl_elem.specs.Numbers.{wrapped}
 use Rattle.pdl_shape.specs.Broadcast.{BroadcastsTo, join}
@@ -33,22 +34,16 @@ split_two [] = refl
 split_two (d ∷ []) = omega arith
 split_two (d ∷ e ∷ ds) = omega arith
 
-times_some : (m e : ℕ) → 0 < e → m ≤ m * e
-times_some m e h = omega (arith, mul-le-mul_right m h, mul_comm e m)
-
-both_larger : (a b c d : ℕ) → a ≤ c → b ≤ d → a * b ≤ c * d
-both_larger a b c d h k = omega (arith, mul-le-mul_right b h, mul-le-mul_right c k, mul_comm b c, mul_comm d c)
-
 first_within : SizeLaws → (ds : List ℕ) → get_or ds 0 1 ≤ extent ds
 first_within laws [] = omega arith
-first_within laws (d ∷ ds) = omega (arith, times_some (max d 1) (extent ds) (laws.extent_above ds))
+first_within laws (d ∷ ds) = omega (arith, le-mul_of_pos_right (max d 1) (laws.extent_above ds))
 
 two_within : SizeLaws → (ds : List ℕ) → get_or ds 0 1 * get_or ds 1 1 ≤ extent ds
 two_within laws [] = omega arith
 two_within laws (d ∷ []) = omega arith
 two_within laws (d ∷ e ∷ ds) =
-    let second : e ≤ max e 1 * extent ds = omega (arith, times_some (max e 1) (extent ds) (laws.extent_above ds)) in
-    both_larger d e (max d 1) (max e 1 * extent ds) (omega arith) second
+    let second : e ≤ max e 1 * extent ds = omega (arith, le-mul_of_pos_right (max e 1) (laws.extent_above ds)) in
+    mul-le d e (max d 1) (max e 1 * extent ds) (omega arith) second
 
 -- ---- arrays
 

@@ -3,6 +3,7 @@ use Rattle.std.proofs.Common.{◌≡◌, ℕ, ◌*◌, ◌<◌, List, [], ◌∷
 use Rattle.std.specs.Prelude.{Bool, true, false, not, ◌&&◌, ◌||◌, ◌==◌, nat_lt, if◌then◌else◌, option_and_then, slice_index_or}
 use Rattle.std.specs.List.{list_any}
 use Rattle.std.proofs.lemmas.Bool.Decides.{nat_tests}
+use Rattle.std.proofs.lemmas.Bool.{or_parts}
 use Rattle.pdl_shape.specs.Broadcast.{join}
 use Rattle.pdl_shape.specs.Shape.{extent, extent_limit, size_of}
 use Rattle.pdl_sig.specs.declared.ArgShape.{ArgShape}
@@ -21,10 +22,6 @@ use Rattle.pdl_reduce.specs.Blocks.{cut, sizes_of}
 past : {A E : Type 0} (b : Bool) (e : E) (y : Result A E) (x : A) → (if b then Err e else y) ≡ Ok x → (b ≡ false) × (y ≡ Ok x)
 past true e y x h = absurd (cc)
 past false e y x h = (refl, h)
-
-neither : (b c : Bool) → (b || c) ≡ false → (b ≡ false) × (c ≡ false)
-neither true c h = absurd (cc)
-neither false c h = (refl, h)
 
 pub record Found (args : List SigArg) (given : List ArgShape) (sizes : List ℕ) (r : Resolved) : Type 0 where
   pub fit : list_any (is_unfit sizes) (cores (handed args given)) ≡ false
@@ -45,7 +42,7 @@ found_by args given sizes r (Some bs) fit j h =
     record {
       fit = fit;
       joined = j ∙ ap Some b;
-      small = subst (λ (xs : List ℕ). nat_lt extent_limit (extent xs) ≡ false) b (neither _ _ s.0).0;
+      small = subst (λ (xs : List ℕ). nat_lt extent_limit (extent xs) ≡ false) b (or_parts _ _ s.0).0;
       same = sym e ∙ ap (solution args given sizes) b;
     }
 
@@ -80,7 +77,7 @@ pub fit_deep : (x n k : ℕ) → (not (x == 1) && not (x == n)) ≡ false → k 
 fit_deep x n k h below = grind (arith, nat_tests, h, below)
 
 pub both_fit : (b c : Bool) → (b || (c || false)) ≡ false → (b ≡ false) × (c ≡ false)
-both_fit b c h = let p : _ = neither b (c || false) h in (p.0, (neither c false p.1).0)
+both_fit b c h = let p : _ = or_parts b (c || false) h in (p.0, (or_parts c false p.1).0)
 
 -- ---- what the pairings resolve to
 
@@ -98,10 +95,10 @@ any_two p c d h = both_fit (p c) (p d) h
 
 any_four : (p : ℕ × ℕ → Bool) (c d e f : ℕ × ℕ) → list_any p (c ∷ d ∷ e ∷ f ∷ []) ≡ false → (p c ≡ false) × (p f ≡ false)
 any_four p c d e f h =
-    let first : _ = neither (p c) (list_any p (d ∷ e ∷ f ∷ [])) h in
-    let second : _ = neither (p d) (list_any p (e ∷ f ∷ [])) first.1 in
-    let third : _ = neither (p e) (list_any p (f ∷ [])) second.1 in
-    (first.0, (neither (p f) false third.1).0)
+    let first : _ = or_parts (p c) (list_any p (d ∷ e ∷ f ∷ [])) h in
+    let second : _ = or_parts (p d) (list_any p (e ∷ f ∷ [])) first.1 in
+    let third : _ = or_parts (p e) (list_any p (f ∷ [])) second.1 in
+    (first.0, (or_parts (p f) false third.1).0)
 
 pub known_inner : (s t : Ty) (a b : List ℕ) (r : Resolved) → resolution inner (record { ty = s; dims = a } ∷ record { ty = t; dims = b } ∷ []) ≡ Ok r
     → Known Inner a b (drop 1 a) (drop 1 b) r.broadcast (sizes_of Inner (slice_index_or r.sizes 0 1) a b) r

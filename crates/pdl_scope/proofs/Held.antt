@@ -6,6 +6,7 @@ use Rattle.std.specs.Option.{option_to_list}
 use Rattle.std.proofs.lemmas.List.{append-nil, drop_all, drop_more}
 use Rattle.std.proofs.lemmas.Bool.{cases_lt}
 use Rattle.std.proofs.lemmas.Bool.Decides.{nat_tests}
+use Rattle.pdl_lemmas.specs.Tests.{by_test}
 use Rattle.pdl_shape.specs.Places.{write}
 use Rattle.pdl_world.specs.World.{World, ArrayDef, Look, root, view, look, assign, assign_through, set_elements, root_elements}
 use Rattle.pdl_world.specs.Sound.{NumbersBelow, IsSound, IsLive}
@@ -24,10 +25,6 @@ use Rattle.pdl_scope.specs.Scope.{state_in, names_in, times, KeepsAll, IsHeld}
 use Rattle.pdl_scope.proofs.Bindings.{live_bound, bound_is, length_after, whole_defined}
 use Rattle.pdl_scope.proofs.Growing.{came, readied}
 use Rattle.pdl_scope.specs.Holding.{IsHeldForName, LetsGo}
-
-by_test : {P : Type 0} (b : Bool) → (b ≡ true → P) → (b ≡ false → P) → P
-by_test true t f = t refl
-by_test false t f = f refl
 
 -- the arrays of names
 abbrev pub numbers : Named ℕ → List ℕ

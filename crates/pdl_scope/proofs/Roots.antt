@@ -5,6 +5,7 @@ use Rattle.std.specs.Cmp.Lexicographic.{pointwise, same_text}
 use Rattle.std.specs.Result.{IsErrAnd}
 use Rattle.std.proofs.lemmas.Bool.Decides.{nat_tests}
 use Rattle.std.proofs.lemmas.List.{drop_more, take_all}
+use Rattle.pdl_lemmas.specs.Tests.{by_test}
 use Rattle.pdl_buf.specs.declared.made.Made.{Made}
 use Rattle.pdl_machine.specs.declared.fault.Fault.TheVariants.{TooManyNames}
 use Rattle.pdl_world.specs.World.{root}
@@ -21,10 +22,6 @@ use Rattle.pdl_scope.specs.Room.{is_among, new_among, has_room}
 use Rattle.pdl_scope.specs.Scope.{Grows}
 use Rattle.pdl_scope.proofs.Bindings.{length_after}
 use Rattle.pdl_scope.proofs.Held.{few_bound}
-
-by_test : {P : Type 0} (b : Bool) → (b ≡ true → P) → (b ≡ false → P) → P
-by_test true t f = t refl
-by_test false t f = f refl
 
 abbrev same : List ℕ → List ℕ → Bool
 same x y = pointwise nat_eq x y

@@ -3,6 +3,7 @@ use Rattle.std.proofs.Common.{◌≡◌, ℕ, ℤ, pos, negsuc, ◌<◌, Bool, t
 use Rattle.std.specs.Prelude.{option_map, nat_lt, if◌then◌else◌}
 use Rattle.std.proofs.lemmas.Bool.Decides.{nat_tests}
 use Rattle.std.proofs.lemmas.List.{length-map}
+use Rattle.pdl_lemmas.specs.Tests.{by_test}
 use Rattle.pdl_shape.specs.Refusals.{Refusal, too_many_dims, too_large as extent_too_large}
 use Rattle.pdl_shape.specs.Shape.{extent}
 use Rattle.pdl_shape.specs.Limits.{checked_dims}
@@ -16,10 +17,6 @@ use Rattle.pdl_scope.specs.declared.fault.StepFault.TheVariants.{Script, NoMemor
 use Rattle.pdl_scope.specs.Answers.{IsFault}
 use Rattle.pdl_session.specs.Sizes.{clamped_size}
 use Rattle.pdl_session.proofs.Sizes.{ExtentsAbove, first_small, rest_small}
-
-by_test : {G : Type 0} (b : Bool) → (b ≡ true → G) → (b ≡ false → G) → G
-by_test true holds fails = holds refl
-by_test false holds fails = fails refl
 
 abbrev cut : ℕ → ℕ
 cut n = if nat_lt 4294967295 n then 4294967295 else n

@@ -47,12 +47,6 @@ pub ran : (old new : Runner) (m : Mark) (text : List ℕ) → mark_step old.sess
     → (text ≡ mark_text old.session.state m) × ((printed : List ℕ) → after_mark old.keep_going (progress old printed) m ≡ progress new (printed ++ mark_text old.session.state m))
 ran old new m text is faulted ended = rw (is, faulted, ended) (refl, λ printed. refl)
 
--- a statement that faulted, with the line of its fault
-pub refused : (old new : Runner) (m : Mark) (e : Fault) → mark_step old.session.state m ≡ Err e → new.session.state ≡ old.session.state
-    → new.faulted ≡ true → new.ended ≡ fault_ends old.keep_going m
-    → (fault_line (line_of m) e ≡ mark_text old.session.state m) × ((printed : List ℕ) → after_mark old.keep_going (progress old printed) m ≡ progress new (printed ++ mark_text old.session.state m))
-refused old new m e is same faulted ended = rw (is, same, faulted, ended) (refl, λ printed. refl)
-
 -- the statements that are left once bytes are fed that complete a piece or none
 pub marks_left-fed : (follows : Behind) (old new : State) (piece : Option Piece) (bytes rest more : List ℕ)
     → to_come old (bytes ++ more) ≡ option_to_list piece ++ to_come new (rest ++ more)
@@ -155,14 +149,6 @@ stops_before stays old bytes taken before printed so_far follows more =
 pub carries_nothing : (old : Runner) (bytes : List ℕ) (taken : Option (List ℕ)) → Carries bytes old taken bytes old taken
 carries_nothing old bytes taken before printed so_far = (printed, so_far, λ follows more. refl)
 
--- one part of the bytes after another
-pub carries_then : (a b c : Runner) (bytes mid rest : List ℕ) (ta tb tc : Option (List ℕ))
-    → Carries bytes a ta mid b tb → Carries mid b tb rest c tc → Carries bytes a ta rest c tc
-carries_then a b c bytes mid rest ta tb tc first then' before printed so_far =
-    let p = first before printed so_far in
-    let q = then' before p.0 p.1 in
-    (q.0, q.1, λ follows more. p.2 follows more ∙ q.2 follows more)
-
 -- bytes that are all run over, and then more of them
 pub carries_on : (a b c : Runner) (xs ys : List ℕ) (ta tb tc : Option (List ℕ))
     → Carries xs a ta [] b tb → Carries ys b tb [] c tc → Carries (xs ++ ys) a ta [] c tc
@@ -216,45 +202,9 @@ feeds old new cut piece bytes used is stream settled lines = record {
   line = lines_split old.line new.line used bytes lines;
 }
 
--- what holds, holds if there is an error
-pub on_err : {T E P : Type 0} (r : Result T E) → P → OnErr r P
-on_err (Ok x) p = tt
-on_err (Err e) p = p
-
 pub on_ok : {T E P : Type 0} (r : Result T E) → P → OnOk r P
 on_ok (Ok x) p = p
 on_ok (Err e) p = tt
-
--- no piece of the unfinished statement is settled: it would be answered at its end if it were whole
-pub unfinished : (s : State) (last : Option Piece) → last ≡ begun s → option_to_list last ≡ to_come s [] → settled_from s [] ≡ []
-unfinished s last is comes = unfinished_piece (begun_piece s []) s.over (length s.text == 0) s.text s.start (sym is) comes
-  where
-    unfinished_piece : (found : Option Piece) (over idle : Bool) (text : List ℕ) (start : ℕ)
-        → cond over None (cond idle None (Some (Whole (record { text = text; line = start })))) ≡ last
-        → option_to_list last ≡ settled_piece true found ++ []
-        → settled_piece false found ++ [] ≡ []
-    unfinished_piece None over idle text start is comes = refl
-    unfinished_piece (Some (Whole cut)) over idle text start is comes = refl
-    unfinished_piece (Some (TooLong line)) true idle text start is comes = cc
-    unfinished_piece (Some (TooLong line)) false true text start is comes = cc
-    unfinished_piece (Some (TooLong line)) false false text start is comes = cc
-
--- where the script goes on past its limit, only that is left
-pub too_long_left : (s : State) (last : Option Piece) → last ≡ begun s → option_to_list last ≡ to_come s [] → marks_left past_limit s [] ≡ script_too_long s.line ∷ []
-too_long_left s last is comes =
-    ap (λ ps. map statement ps ++ script_too_long (s.line + 0) ∷ []) (unfinished s last is comes) ∙ ap (λ n. script_too_long n ∷ []) (add-zero s.line)
-
--- the run is at its end where a fault has ended it
-pub finishes_ended : (stays : EndedStays) (is_cut : Bool) (old : Runner) (taken : Option (List ℕ)) → old.ended ≡ true → Finishes is_cut old taken old.faulted taken
-finishes_ended stays is_cut old taken ended before printed so_far =
-    let comes : outcome (behind is_cut) old printed [] ≡ progress old printed = stays old.keep_going (progress old printed) (marks_left (behind is_cut) old.cutter []) ended in
-    (rw comes so_far, rw comes refl)
-
--- or where no statement has begun
-pub finishes_none : (is_cut : Bool) (old : Runner) (taken : Option (List ℕ)) → [] ≡ marks_left (behind is_cut) old.cutter [] → Finishes is_cut old taken old.faulted taken
-finishes_none is_cut old taken none before printed so_far =
-    let comes : outcome (behind is_cut) old printed [] ≡ progress old printed = ap (after_marks old.keep_going (progress old printed)) (sym none) in
-    (rw comes so_far, rw comes refl)
 
 last_mark : (is_cut : Bool) (old : Runner) (m : Mark) (printed : List ℕ) → old.ended ≡ false → m ∷ [] ≡ marks_left (behind is_cut) old.cutter []
     → outcome (behind is_cut) old printed [] ≡ after_mark old.keep_going (progress old printed) m
@@ -277,13 +227,6 @@ pub short_in_mark : (stays : PrintedStays) (is_cut : Bool) (old : Runner) (m : M
     → FinishesShort is_cut old taken now
 short_in_mark stays is_cut old m taken now running last wrote before printed so_far =
     rw (last_mark is_cut old m printed running last) (prefix_in_mark stays old.keep_going (progress old printed) m [] before taken now so_far wrote)
-
--- what was finished stays so where the sink keeps what it took
-pub finishes_kept : (is_cut : Bool) (old : Runner) (taken mid now : Option (List ℕ)) (faulted : Bool)
-    → Finishes is_cut old taken faulted mid → Keeps mid now → Finishes is_cut old taken faulted now
-finishes_kept is_cut old taken mid now faulted done kept before printed so_far =
-    let f = done before printed so_far in
-    (appends_kept before mid now (outcome (behind is_cut) old printed []).printed f.0 kept, f.1)
 
 pub short_kept : (is_cut : Bool) (old : Runner) (taken mid now : Option (List ℕ)) (faulted : Bool)
     → Finishes is_cut old taken faulted mid → Keeps mid now → FinishesShort is_cut old taken now

@@ -2,10 +2,11 @@
 use Rattle.std.proofs.Common.{◌≡◌, ℕ, ◌+◌, ◌-◌, ◌<◌, ◌≤◌, ◌⊎◌, inl, inr, min, List, [], ◌++◌, map, length, take, drop, Bool, true, false, Option, Some, None, Result, Ok, Err, refl, sym, ◌∙◌, ap, subst, arith, append-nil, length-append, take-append-drop}
 use Rattle.std.specs.Prelude.{nat_lt, IfOk, IfErr, OnErr, IsErr, cond}
 use Rattle.std.specs.Result.{IsErrAnd}
-use Rattle.std.proofs.lemmas.Bool.{ltb-true, ltb-false, lt-ltb, le-ltb, both_ways}
+use Rattle.std.proofs.lemmas.Bool.{ltb-true, ltb-false, lt-ltb, le-ltb, both_ways, false_from_ne_true}
 use Rattle.std.proofs.lemmas.List.{take_all, take-append-le, take-take, length-take, length-take-le}
 use Rattle.std.proofs.Math.Seq.{take-append-add}
 use Rattle.std.specs.Io.KnownBytes.{Appends, Consumes, Keeps, IsAtEnd}
+use Rattle.pdl_lemmas.specs.Tests.{by_lt}
 use Rattle.pdl_io.specs.Told.{AppendsPrefix}
 use Rattle.pdl_lex.specs.Limits.{script_limit}
 use Rattle.pdl_lex.specs.Pieces.{statement, settled, settled_from, script_marks}
@@ -21,19 +22,17 @@ use Rattle.pdl_shell.specs.Pace.{Behind, end_of_input, past_limit, unknown, behi
 use Rattle.pdl_shell.specs.Course.{progress, outcome, IsFresh, Carries, StopsShort, Finishes, FinishesShort, Comes}
 use Rattle.pdl_shell.specs.Taken.{StopsSoon, ComesTo, Reads}
 use Rattle.pdl_shell.proofs.Carrying.{carries_nothing, carries_on, stops_on}
-use Rattle.pdl_shell.proofs.Whole.{appends_nothing, consumes_then, consumes_kept, consumes_nothing, takes_at_most, by_order}
+use Rattle.pdl_shell.proofs.Whole.{appends_nothing, consumes_then, consumes_kept, consumes_nothing, takes_at_most}
 
 -- the first bytes of what two parts give together
 take_of_two : (n : ℕ) (xs ys : List ℕ) → take n (xs ++ ys) ≡ take n xs ++ take (n - length xs) ys
 take_of_two n xs ys =
-    by_order n (length xs)
-    (λ near.
-    let none : n - length xs ≡ 0 = omega (arith, near) in
-    take-append-le n xs ys near ∙ sym (append-nil (take n xs)) ∙ ap (λ k. take n xs ++ take k ys) (sym none))
-    (λ far.
+    by_lt (length xs) n (λ far.
     let more : n ≡ length xs + (n - length xs) = omega (arith, far) in
     let whole : take n xs ≡ xs = take_all n xs (omega (arith, far)) in
-    ap (λ k. take k (xs ++ ys)) more ∙ take-append-add xs ys (n - length xs) ∙ ap (λ zs. zs ++ take (n - length xs) ys) (sym whole))
+    ap (λ k. take k (xs ++ ys)) more ∙ take-append-add xs ys (n - length xs) ∙ ap (λ zs. zs ++ take (n - length xs) ys) (sym whole)) (λ near.
+    let none : n - length xs ≡ 0 = omega (arith, near) in
+    take-append-le n xs ys near ∙ sym (append-nil (take n xs)) ∙ ap (λ k. take n xs ++ take k ys) (sym none))
 
 no_some : {P : Type 0} (xs : List ℕ) → None ≡ Some xs → P
 no_some xs is = absurd (none_is xs is)
@@ -60,18 +59,12 @@ none_at_end (Some bs) rest end is =
 run_is : (runner : Runner) → IsFresh runner → (script : List ℕ)
     → run runner.keep_going script ≡ outcome (behind (nat_lt script_limit (length script))) runner [] (take script_limit script)
 run_is runner fresh script =
-    by_order (length script) script_limit
-    (λ near. rw (le-ltb script_limit (length script) near, take_all script_limit script near) (sym (fresh.whole script)))
-    (λ far. rw (lt-ltb script_limit (length script) far) (sym (fresh.limited (take script_limit script))))
-
-not_true : (b : Bool) → (b ≡ true → ⊥) → b ≡ false
-not_true true never = absurd (never refl)
-not_true false never = refl
+    by_lt script_limit (length script) (λ far. rw (lt-ltb script_limit (length script) far) (sym (fresh.limited (take script_limit script)))) (λ near. rw (le-ltb script_limit (length script) near, take_all script_limit script near) (sym (fresh.whole script)))
 
 -- bytes that don't end the run have no front that does
 front_running : SoFarGrows → EndedStays → (keep : Bool) (xs ys : List ℕ) → (so_far keep (xs ++ ys)).ended ≡ false → (so_far keep xs).ended ≡ false
 front_running grows stays keep xs ys running =
-    not_true (so_far keep xs).ended (λ ended.
+    false_from_ne_true (so_far keep xs).ended (λ ended.
     let grown = grows keep xs ys in
     let same : so_far keep (xs ++ ys) ≡ so_far keep xs = grown.1 ∙ stays keep (so_far keep xs) grown.0 ended in
     both_ways _ running (ap (λ p. p.ended) same ∙ ended))
@@ -106,15 +99,13 @@ handed_is : (within count room : ℕ) (into others : List ℕ) → within ≡ mi
 handed_is within count room into others is fits =
     let inside : within ≤ length into = omega (arith, is, fits) in
     take-append-le within into others inside
-    ∙ by_order count room
-    (λ near.
+    ∙ by_lt room count (λ far.
+    let part : within ≡ room = omega (arith, is, far) in
+    let below : room ≤ count = omega (arith, far) in
+    ap (λ n. take n into) part ∙ sym (take-take room count into below)) (λ near.
     let all : within ≡ count = omega (arith, is, near) in
     let short : length (take count into) ≤ room = rw (length-take-le count into fits) near in
     ap (λ n. take n into) all ∙ sym (take_all room (take count into) short))
-    (λ far.
-    let part : within ≡ room = omega (arith, is, far) in
-    let below : room ≤ count = omega (arith, far) in
-    ap (λ n. take n into) part ∙ sym (take-take room count into below))
 
 -- more bytes are taken, within the limit and while nothing has ended the run: so many, of which these are handed to the runner
 pub record Took (count : ℕ) (now : Runner) (left_now left_then : Option (List ℕ)) (part handed : List ℕ) (size : ℕ) : Type 0 where
@@ -149,18 +140,6 @@ pub reads_stopped : (result : Result Bool Stop) (stop : Stop) → IsErrAnd resul
     → Reads keep (status_of_stop stop) left left_then taken final → IfErr result (λ e. Reads keep (status_of_stop e) left left_then taken final)
 reads_stopped (Ok x) stop is keep left left_then taken final reads = cc
 reads_stopped (Err e) stop is keep left left_then taken final reads = subst (λ (s : Stop). Reads keep (status_of_stop s) left left_then taken final) (sym is) reads
-
--- before the first byte
-pub comes_first : (first : Runner) → IsFresh first → (left taken : Option (List ℕ)) → Comes first left taken 0 first left taken
-comes_first first fresh left taken = record {
-  bytes = [];
-  counted = refl;
-  all = consumes_nothing left;
-  within = omega arith;
-  carried = carries_nothing first [] taken;
-  none_left = fresh.none_left;
-  soon = refl;
-}
 
 module _ (first now : Runner) (left taken : Option (List ℕ)) (count : ℕ) (left_now taken_now : Option (List ℕ)) (fresh : IsFresh first)
     (came : Comes first left taken count now left_now taken_now) where

@@ -49,14 +49,6 @@ rest_after (Some bs) (Some cs) seen bytes taken is =
 pub takes_at_most : (most : ℕ) (old new : Option (List ℕ)) (seen : List ℕ) → Consumes old new seen → length seen ≤ most → TakesAtMost most old new
 takes_at_most most old new seen taken within = record { count = length seen; within = within; rest = λ bytes is. rest_after old new seen bytes taken is }
 
--- a number is at most another, or above it
-pub by_order : {P : Type 0} (a b : ℕ) → (a ≤ b → P) → (b < a → P) → P
-by_order a b near far = by_bool (ltb b a) (λ e. far (ltb-true b a e)) (λ e. near (ltb-false b a e))
-  where
-    by_bool : {P : Type 0} (b : Bool) → (b ≡ true → P) → (b ≡ false → P) → P
-    by_bool true yes' no' = yes' refl
-    by_bool false yes' no' = no' refl
-
 -- what a status says of the run
 pub gives_after : (result : Result Bool Stop) (whole : Progress) (before now : Option (List ℕ)) → Writes result whole before now
     → Gives (status_after result) (ending_of_run whole) before now

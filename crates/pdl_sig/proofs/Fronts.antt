@@ -3,16 +3,9 @@ use Rattle.std.proofs.Common.{◌≡◌, ℕ, zero, suc, ◌+◌, ◌-◌, ◌*�
 use Rattle.std.specs.List.{list_all, prefix_len}
 use Rattle.std.specs.Char.{is_ascii_digit}
 use Rattle.std.proofs.lemmas.List.{at_drop_more}
+use Rattle.std.proofs.lemmas.Bool.{and_parts}
 use Rattle.pdl_lex.specs.Bytes.{is_blank, is_letter, is_word_byte}
 use Rattle.pdl_sig.specs.Grammar.{past_blanks, begins, value_after}
-
-pub both_first : (a b : Bool) → (a && b) ≡ true → a ≡ true
-both_first true b h = refl
-both_first false b h = h
-
-pub both_second : (a b : Bool) → (a && b) ≡ true → b ≡ true
-both_second true b h = h
-both_second false b h = cc
 
 none_front : (p : ℕ → Bool) (t : List ℕ) → begins p t ≡ false → prefix_len p t ≡ 0
 none_front p [] h = refl
@@ -22,8 +15,8 @@ none_front p (b ∷ t) h = ap (λ k. cond k (1 + prefix_len p t) 0) h
 pub front_all : (p : ℕ → Bool) (w t : List ℕ) → list_all p w ≡ true → begins p t ≡ false → prefix_len p (w ++ t) ≡ length w
 front_all p [] t h e = none_front p t e
 front_all p (b ∷ w) t h e =
-    let rest : prefix_len p (w ++ t) ≡ length w = front_all p w t (both_second (p b) (list_all p w) h) e in
-    ap (λ k. cond k (1 + prefix_len p (w ++ t)) 0) (both_first (p b) (list_all p w) h) ∙ omega arith
+    let rest : prefix_len p (w ++ t) ≡ length w = front_all p w t (and_parts (p b) (list_all p w) h).1 e in
+    ap (λ k. cond k (1 + prefix_len p (w ++ t)) 0) (and_parts (p b) (list_all p w) h).0 ∙ omega arith
 
 all_by : (p : ℕ → Bool) (b : ℕ) (s : List ℕ) (k : Bool) → p b ≡ k → list_all p (take (prefix_len p s) s) ≡ true → list_all p (take (cond k (1 + prefix_len p s) 0) (b ∷ s)) ≡ true
 all_by p b s false e h = refl
@@ -56,16 +49,6 @@ pub past_shorter : (s : List ℕ) → length (past_blanks s) ≤ length s
 past_shorter [] = omega arith
 past_shorter (b ∷ s) = shorter_by b s (is_blank b) (past_shorter s)
 
--- past a blank there are the same blanks to pass
-pub past_more : (s : List ℕ) (i : ℕ) (b : ℕ) → i < length s → b ≡ get_or s i 0 → is_blank b ≡ true → past_blanks (drop (i + 1) s) ≡ past_blanks (drop i s)
-past_more s i b h e k =
-    sym (at_drop_more past_blanks s i 0 h ∙ ap (λ c. if is_blank c then past_blanks (drop (i + 1) s) else c ∷ drop (i + 1) s) (sym e) ∙ ap (λ t. if t then past_blanks (drop (i + 1) s) else b ∷ drop (i + 1) s) k)
-
-pub past_none : (s : List ℕ) (i : ℕ) (b : ℕ) → i < length s → b ≡ get_or s i 0 → is_blank b ≡ false → past_blanks (drop i s) ≡ drop i s
-past_none s i b h e k =
-    at_drop_more past_blanks s i 0 h ∙ ap (λ c. if is_blank c then past_blanks (drop (i + 1) s) else c ∷ drop (i + 1) s) (sym e) ∙ ap (λ t. if t then past_blanks (drop (i + 1) s) else b ∷ drop (i + 1) s) k
-    ∙ ap (λ c. c ∷ drop (i + 1) s) e ∙ sym (at_drop_more (λ rest. rest) s i 0 h)
-
 -- a word goes on with a letter
 pub letter_goes_on : (b : ℕ) → is_letter b ≡ true → is_word_byte b ≡ true
 letter_goes_on b h = grind arith
@@ -86,8 +69,3 @@ value_more n new c digits i d total h e k p =
     ∙ ap (λ x. min (value_after (10 * n + (x - 48)) (drop (i + 1) digits)) c) e
     ∙ sym (at_drop_more (λ rest. min (value_after n rest) c) digits i 0 h)
     ∙ p
-
-pub digit_at : (digits : List ℕ) (i d : ℕ) → i < length digits → d ≡ get_or digits i 0 → list_all is_ascii_digit digits ≡ true → is_ascii_digit d ≡ true
-digit_at [] i d h e k = absurd (omega arith)
-digit_at (x ∷ xs) zero d h e k = ap is_ascii_digit e ∙ both_first (is_ascii_digit x) (list_all is_ascii_digit xs) k
-digit_at (x ∷ xs) (suc i) d h e k = digit_at xs i d (omega arith) e (both_second (is_ascii_digit x) (list_all is_ascii_digit xs) k)

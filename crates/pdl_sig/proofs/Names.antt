@@ -4,28 +4,10 @@ use Rattle.std.specs.Prelude.{bytes_eq}
 use Rattle.std.specs.List.{list_any, position_or_len}
 use Rattle.std.proofs.lemmas.List.Folds.{list_any-append}
 use Rattle.std.proofs.lemmas.Slice.Eq.{bytes_eq-Decides}
+use Rattle.std.proofs.lemmas.Bool.{or_parts, or_right, or_left, or_from}
 use Rattle.pdl_sig.specs.declared.written.WrittenDim.{WrittenDim}
 use Rattle.pdl_sig.specs.declared.written.WrittenArg.{WrittenArg}
 use Rattle.pdl_sig.specs.Refusals.{has_name, with_name, names_after, all_names, has_twice}
-
-either : (a b : Bool) → b ≡ true → (a || b) ≡ true
-either true b h = refl
-either false b h = h
-
-either_first : (a b : Bool) → a ≡ true → (a || b) ≡ true
-either_first true b h = refl
-either_first false b h = cc
-
-pub first_not : (a b : Bool) → (a || b) ≡ false → a ≡ false
-first_not false b h = refl
-first_not true b h = h
-
-pub second_not : (a b : Bool) → (a || b) ≡ false → b ≡ false
-second_not false b h = h
-second_not true b h = cc
-
-neither : (a b : Bool) → a ≡ false → b ≡ false → (a || b) ≡ false
-neither a b h k = ap₂ (λ x y. x || y) h k
 
 pub same_name : (w : List ℕ) → bytes_eq w w ≡ true
 same_name w = (bytes_eq-Decides w w).1 refl
@@ -43,14 +25,14 @@ turned v w h = turned_by v w (bytes_eq v w) refl h
 -- a word that was added is among the names, and the others stay
 by_with : (names : List (List ℕ)) (w : List ℕ) (k : Bool) → has_name names w ≡ k → has_name (if k then names else names ++ w ∷ []) w ≡ true
 by_with names w true e = e
-by_with names w false e = list_any-append (bytes_eq w) names (w ∷ []) ∙ either _ _ (either_first _ _ (same_name w))
+by_with names w false e = list_any-append (bytes_eq w) names (w ∷ []) ∙ or_right _ _ (or_left _ _ (same_name w))
 
 has_with : (names : List (List ℕ)) (w : List ℕ) → has_name (with_name names w) w ≡ true
 has_with names w = by_with names w (has_name names w) refl
 
 by_kept : (names : List (List ℕ)) (v w : List ℕ) (k : Bool) → has_name names v ≡ true → has_name (if k then names else names ++ w ∷ []) v ≡ true
 by_kept names v w true h = h
-by_kept names v w false h = list_any-append (bytes_eq v) names (w ∷ []) ∙ either_first _ _ h
+by_kept names v w false h = list_any-append (bytes_eq v) names (w ∷ []) ∙ or_left _ _ h
 
 kept_with : (names : List (List ℕ)) (v w : List ℕ) → has_name names v ≡ true → has_name (with_name names w) v ≡ true
 kept_with names v w h = by_kept names v w (has_name names w) h
@@ -89,9 +71,9 @@ number_below w (x ∷ names) h = below_by w x names (bytes_eq w x) h (λ g. numb
 twice_push : (names : List (List ℕ)) (w : List ℕ) → has_twice bytes_eq names ≡ false → has_name names w ≡ false → has_twice bytes_eq (names ++ w ∷ []) ≡ false
 twice_push [] w h k = refl
 twice_push (x ∷ names) w h k =
-    neither _ _
-    (list_any-append (bytes_eq x) names (w ∷ []) ∙ neither _ _ (first_not (list_any (bytes_eq x) names) (has_twice bytes_eq names) h) (neither _ false (turned x w (first_not (bytes_eq w x) (list_any (bytes_eq w) names) k)) refl))
-    (twice_push names w (second_not (list_any (bytes_eq x) names) (has_twice bytes_eq names) h) (second_not (bytes_eq w x) (list_any (bytes_eq w) names) k))
+    or_from _ _
+    (list_any-append (bytes_eq x) names (w ∷ []) ∙ or_from _ _ (or_parts (list_any (bytes_eq x) names) (has_twice bytes_eq names) h).0 (or_from _ false (turned x w (or_parts (bytes_eq w x) (list_any (bytes_eq w) names) k).0) refl))
+    (twice_push names w (or_parts (list_any (bytes_eq x) names) (has_twice bytes_eq names) h).1 (or_parts (bytes_eq w x) (list_any (bytes_eq w) names) k).1)
 
 by_twice : (names : List (List ℕ)) (w : List ℕ) (k : Bool) → has_name names w ≡ k → has_twice bytes_eq names ≡ false → has_twice bytes_eq (if k then names else names ++ w ∷ []) ≡ false
 by_twice names w true e h = h
@@ -104,9 +86,3 @@ twice_after names (d ∷ ds) h = twice_after (with_name names d.name) ds (by_twi
 pub twice_all : (names : List (List ℕ)) (args : List WrittenArg) → has_twice bytes_eq names ≡ false → has_twice bytes_eq (all_names names args) ≡ false
 twice_all names [] h = h
 twice_all names (a ∷ args) h = twice_all (names_after names a.dims) args (twice_after names a.dims h)
-
--- an element of a list that was mapped
-pub map_at : {A B : Type 0} (f : A → B) (xs : List A) (k : ℕ) (d : B) (e : A) → k < length xs → get_or (map f xs) k d ≡ f (get_or xs k e)
-map_at f [] k d e h = absurd (omega arith)
-map_at f (x ∷ xs) zero d e h = refl
-map_at f (x ∷ xs) (suc k) d e h = map_at f xs k d e (omega arith)

@@ -2,6 +2,7 @@
 use Rattle.std.proofs.Common.{◌≡◌, ◌≢◌, ℕ, zero, suc, ◌+◌, ◌<◌, ◌==◌, Bool, true, false, not, ◌&&◌, ◌||◌, List, [], ◌∷◌, length, get_or, All, Option, Some, None, Result, Ok, Err, IfOk, refl, ap, sym, ◌∙◌, subst, arith, zero-add, eqb-true, if◌then◌else◌}
 use Rattle.std.specs.List.{list_any, Contains}
 use Rattle.std.specs.Option.{unwrap_or}
+use Rattle.std.proofs.lemmas.Bool.{or_parts}
 use Rattle.pdl_sig.specs.declared.SigArg.{SigArg}
 use Rattle.pdl_sig.specs.declared.Signature.{Signature}
 use Rattle.pdl_sig.specs.declared.ArgShape.{ArgShape}
@@ -57,19 +58,11 @@ fits_by x s a true e f h n = eqb-true x s f
 fits_by x s true false e f h n = absurd (n (eqb-true x 1 e))
 fits_by x s false false e f h n = cc
 
-first_off : (a b : Bool) → (a || b) ≡ false → a ≡ false
-first_off false b h = refl
-first_off true b h = h
-
-second_off : (a b : Bool) → (a || b) ≡ false → b ≡ false
-second_off false b h = h
-second_off true b h = cc
-
 all_fit : (sizes : List ℕ) (cs : List (ℕ × ℕ)) → list_any (is_unfit sizes) cs ≡ false → All (Fits sizes) cs
 all_fit sizes [] h k d p = absurd (omega arith)
 all_fit sizes (c ∷ cs) h zero d p =
-    fits_by c.1 (size_in sizes c.0) (c.1 == 1) (c.1 == size_in sizes c.0) refl refl (first_off (is_unfit sizes c) (list_any (is_unfit sizes) cs) h)
-all_fit sizes (c ∷ cs) h (suc k) d p = all_fit sizes cs (second_off (is_unfit sizes c) (list_any (is_unfit sizes) cs) h) k d (omega arith)
+    fits_by c.1 (size_in sizes c.0) (c.1 == 1) (c.1 == size_in sizes c.0) refl refl (or_parts (is_unfit sizes c) (list_any (is_unfit sizes) cs) h).0
+all_fit sizes (c ∷ cs) h (suc k) d p = all_fit sizes cs (or_parts (is_unfit sizes c) (list_any (is_unfit sizes) cs) h).1 k d (omega arith)
 
 -- the named sizes and the joined dimensions solve the equations
 solution_solves : (signature : Signature) (given : List ArgShape) (broadcast : List ℕ) → list_any (is_unfit (named_sizes signature given)) (cores (handed signature.args given)) ≡ false

@@ -1,5 +1,6 @@
 -- What is read is spelled.
 use Rattle.std.proofs.Common.{◌≡◌, ℕ, zero, suc, Bool, true, false, List, [], ◌∷◌, length, Option, Some, None, refl, ap, ◌∙◌, subst, if◌then◌else◌}
+use Rattle.std.proofs.lemmas.Option.{same_Some}
 use Rattle.pdl_elem.specs.declared.Ty.{Ty}
 use Rattle.pdl_sig.specs.declared.Role.{Role}
 use Rattle.pdl_sig.specs.declared.Role.TheVariants.{Input}
@@ -9,9 +10,6 @@ use Rattle.pdl_sig.specs.declared.written.WrittenArg.{WrittenArg}
 use Rattle.pdl_sig.specs.Grammar.{past_blanks, Sign, Word, Typed, untyped, of_type, at_least_type, Marked, input_role, marked_role, Dim, unfixed_dim, fixed_dim, Dims, last_dim, next_dim, Bracketed, no_dims, some_dims, Arg, whole_arg, Args, last_arg, ended_arg, next_arg, type_of, role_of, is_arg_word, is_dim_word}
 use Rattle.pdl_sig.specs.SignatureReading.{is_empty, is_end, sign_at, word_at, number_at, at_least, typed_as, typed_by, typed_at, role_before, role_in, marked_by, marked_at, size_before, sized_by, sized_at, dim_of, dim_by, dim_at, before_dims, dims_by, dims_after, dims_at, bracket_by, bracket_after, bracket_at, arg_of, arg_named, arg_marked, arg_at, before_args, only_arg, args_past, args_by, args_after, args_at}
 use Rattle.pdl_sig.proofs.Tokens.{sign_stands, word_stands, number_stands}
-
-some_is : {A : Type 0} (x y : A) → Some x ≡ Some y → x ≡ y
-some_is x y h = cc
 
 -- an argument's type
 least_spelled : (s w t : List ℕ) (ty : Ty) (o : Option (List ℕ)) → Word w s t → type_of w ≡ Some ty → sign_at 43 t ≡ o → Typed (at_least ty t o).0 s (at_least ty t o).1
@@ -36,7 +34,7 @@ role_spelled : (s t w u : List ℕ) (o : Option Role) (p : Option (List ℕ)) (r
 role_spelled s t w u None p r v k l e f h = cc
 role_spelled s t w u (Some q) None r v k l e f h = cc
 role_spelled s t w u (Some q) (Some x) r v k l e f h =
-    let same = some_is {A = Role × List ℕ} (q, x) (r, v) h in
+    let same = same_Some {A = Role × List ℕ} (q, x) (r, v) h in
     marked_role r w s t u v k l (e ∙ ap (λ (y : Role × List ℕ). Some y.0) same) (sign_stands 93 u v (f ∙ ap (λ (y : Role × List ℕ). Some y.1) same))
 
 in_spelled : (s t : List ℕ) (o : Option (List ℕ × List ℕ)) (r : Role) (v : List ℕ) → Sign 91 s t → word_at t ≡ o → role_in o ≡ Some (r, v) → Marked r s v
@@ -45,7 +43,7 @@ in_spelled s t (Some (w, u)) r v k e h = role_spelled s t w u (role_of w) (sign_
 
 marked_by_spelled : (s : List ℕ) (o : Option (List ℕ)) (r : Role) (v : List ℕ) → sign_at 91 s ≡ o → marked_by s o ≡ Some (r, v) → Marked r s v
 marked_by_spelled s None r v e h =
-    let same = some_is {A = Role × List ℕ} (Input, s) (r, v) h in
+    let same = same_Some {A = Role × List ℕ} (Input, s) (r, v) h in
     let P : Role × List ℕ → Type 0 = λ x. Marked x.0 s x.1 in
     subst P same (input_role s)
 marked_by_spelled s (Some t) r v e h = in_spelled s t (word_at t) r v (sign_stands 91 s t e) refl h
@@ -59,7 +57,7 @@ number_spelled : (w s t u v : List ℕ) (d : WrittenDim) (o : Option (ℕ × Lis
     → dim_of w (size_before o) ≡ Some (d, v) → Dim d s v
 number_spelled w s t u v d None k e g n h = cc
 number_spelled w s t u v d (Some (n, x)) k e g f h =
-    let same = some_is {A = WrittenDim × List ℕ} (record { name = w; size = Some n }, x) (d, v) h in
+    let same = same_Some {A = WrittenDim × List ℕ} (record { name = w; size = Some n }, x) (d, v) h in
     let P : WrittenDim × List ℕ → Type 0 = λ y. Dim y.0 s y.1 in
     let found = number_stands n u x f in
     subst P same (fixed_dim n w s t u x k e g found.number found.limit)
@@ -67,7 +65,7 @@ number_spelled w s t u v d (Some (n, x)) k e g f h =
 size_spelled : (w s t v : List ℕ) (d : WrittenDim) (o : Option (List ℕ)) → Word w s t → is_dim_word w ≡ true → sign_at 61 t ≡ o
     → dim_of w (sized_by t o) ≡ Some (d, v) → Dim d s v
 size_spelled w s t v d None k e g h =
-    let same = some_is {A = WrittenDim × List ℕ} (record { name = w; size = None }, t) (d, v) h in
+    let same = same_Some {A = WrittenDim × List ℕ} (record { name = w; size = None }, t) (d, v) h in
     let P : WrittenDim × List ℕ → Type 0 = λ y. Dim y.0 s y.1 in
     subst P same (unfixed_dim w s t k e)
 size_spelled w s t v d (Some u) k e g h = number_spelled w s t u v d (number_at u) k e (sign_stands 61 t u g) refl h
@@ -90,7 +88,7 @@ more_spelled : (d : WrittenDim) (s t u v : List ℕ) (ds : List WrittenDim) (o :
     → ((x : List ℕ) (es : List WrittenDim) → o ≡ Some (es, x) → Dims es u x) → before_dims d o ≡ Some (ds, v) → Dims ds s v
 more_spelled d s t u v ds None k g f h = cc
 more_spelled d s t u v ds (Some (es, x)) k g f h =
-    let same = some_is {A = List WrittenDim × List ℕ} (d ∷ es, x) (ds, v) h in
+    let same = same_Some {A = List WrittenDim × List ℕ} (d ∷ es, x) (ds, v) h in
     let P : List WrittenDim × List ℕ → Type 0 = λ y. Dims y.0 s y.1 in
     subst P same (next_dim d es s t u x k g (f x es refl))
 
@@ -99,7 +97,7 @@ dims_by_spelled : (more : List ℕ → Option (List WrittenDim × List ℕ)) (f 
 dims_by_spelled more f d s t v ds (Some u) p k g q h = more_spelled d s t u v ds (more u) k (sign_stands 44 t u g) (λ x es e. f u x es e) h
 dims_by_spelled more f d s t v ds None None k g q h = cc
 dims_by_spelled more f d s t v ds None (Some u) k g q h =
-    let same = some_is {A = List WrittenDim × List ℕ} (d ∷ [], u) (ds, v) h in
+    let same = same_Some {A = List WrittenDim × List ℕ} (d ∷ [], u) (ds, v) h in
     let P : List WrittenDim × List ℕ → Type 0 = λ y. Dims y.0 s y.1 in
     subst P same (last_dim d s t u k (sign_stands 41 t u q))
 
@@ -116,7 +114,7 @@ dims_spelled (suc n) s v ds h = dims_after_spelled (dims_at n) (λ x y es e. dim
 bracket_by_spelled : (s t v : List ℕ) (ds : List WrittenDim) (o : Option (List ℕ)) → Sign 40 s t → sign_at 41 t ≡ o → bracket_by t o ≡ Some (ds, v) → Bracketed ds s v
 bracket_by_spelled s t v ds None k e h = some_dims ds s t v k (dims_spelled (length t) t v ds h)
 bracket_by_spelled s t v ds (Some u) k e h =
-    let same = some_is {A = List WrittenDim × List ℕ} ([], u) (ds, v) h in
+    let same = same_Some {A = List WrittenDim × List ℕ} ([], u) (ds, v) h in
     let P : List WrittenDim × List ℕ → Type 0 = λ y. Bracketed y.0 s y.1 in
     subst P same (no_dims s t u k (sign_stands 41 t u e))
 
@@ -133,7 +131,7 @@ arg_of_spelled : (ty : ArgType) (r : Role) (w s t u v x : List ℕ) (a : Written
     → bracket_at v ≡ o → arg_of ty r w o ≡ Some (a, x) → Arg a s x
 arg_of_spelled ty r w s t u v x a None k l m e b h = cc
 arg_of_spelled ty r w s t u v x a (Some (ds, y)) k l m e b h =
-    let same = some_is {A = WrittenArg × List ℕ} (record { name = w; role = r; ty = ty; dims = ds }, y) (a, x) h in
+    let same = same_Some {A = WrittenArg × List ℕ} (record { name = w; role = r; ty = ty; dims = ds }, y) (a, x) h in
     let P : WrittenArg × List ℕ → Type 0 = λ z. Arg z.0 s z.1 in
     subst P same (whole_arg ty r w ds s t u v y k l m e (bracket_spelled v y ds b))
 
@@ -167,14 +165,14 @@ more_args_spelled : (a : WrittenArg) (all : List WrittenArg) (s t u : List ℕ) 
     → ((more : List WrittenArg) → o ≡ Some more → Args more u) → before_args a o ≡ Some all → Args all s
 more_args_spelled a all s t u None k g f h = cc
 more_args_spelled a all s t u (Some more) k g f h =
-    let same = some_is (a ∷ more) all h in
+    let same = same_Some (a ∷ more) all h in
     let P : List WrittenArg → Type 0 = λ x. Args x s in
     subst P same (next_arg a more s t u k g (f more refl))
 
 past_spelled : (more : List ℕ → Option (List WrittenArg)) (f : (s : List ℕ) (all : List WrittenArg) → more s ≡ Some all → Args all s) (a : WrittenArg) (all : List WrittenArg) (s t u : List ℕ) (k : Bool) → Arg a s t → Sign 59 t u → is_end u ≡ k
     → args_past more a u k ≡ Some all → Args all s
 past_spelled more f a all s t u true k g e h =
-    let same = some_is (a ∷ []) all h in
+    let same = same_Some (a ∷ []) all h in
     let P : List WrittenArg → Type 0 = λ x. Args x s in
     subst P same (ended_arg a s t u k g (end_is u e))
 past_spelled more f a all s t u false k g e h = more_args_spelled a all s t u (more u) k g (λ x q. f u x q) h
@@ -182,7 +180,7 @@ past_spelled more f a all s t u false k g e h = more_args_spelled a all s t u (m
 only_spelled : (a : WrittenArg) (all : List WrittenArg) (s t : List ℕ) (k : Bool) → Arg a s t → is_end t ≡ k → only_arg a k ≡ Some all → Args all s
 only_spelled a all s t false k e h = cc
 only_spelled a all s t true k e h =
-    let same = some_is (a ∷ []) all h in
+    let same = same_Some (a ∷ []) all h in
     let P : List WrittenArg → Type 0 = λ x. Args x s in
     subst P same (last_arg a s t k (end_is t e))
 

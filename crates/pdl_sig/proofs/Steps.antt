@@ -13,17 +13,6 @@ use Rattle.pdl_shape.specs.Broadcast.{join}
 pub left_at : {X : Type 0} (xs : List X) (i : ℕ) (x : X) → i < length xs → x ≡ get_or xs i x → drop i xs ≡ x ∷ drop (i + 1) xs
 left_at xs i x h e = at_drop_more (λ rest. rest) xs i x h ∙ ap (λ y. y ∷ drop (i + 1) xs) (sym e)
 
--- the inputs from an argument on
-pub inputs_given : (args : List SigArg) (i : ℕ) (a : SigArg) → i < length args → a ≡ get_or args i a → is_given a.role ≡ true → inputs (drop i args) ≡ a ∷ inputs (drop (i + 1) args)
-inputs_given args i a h e g = ap inputs (left_at args i a h e) ∙ ap (λ t. cond t (a ∷ inputs (drop (i + 1) args)) (inputs (drop (i + 1) args))) g
-
-pub inputs_other : (args : List SigArg) (i : ℕ) (a : SigArg) → i < length args → a ≡ get_or args i a → is_given a.role ≡ false → inputs (drop i args) ≡ inputs (drop (i + 1) args)
-inputs_other args i a h e g = ap inputs (left_at args i a h e) ∙ ap (λ t. cond t (a ∷ inputs (drop (i + 1) args)) (inputs (drop (i + 1) args))) g
-
-zip_none : {A B : Type 0} (xs : List A) → zip {X = B} xs [] ≡ []
-zip_none [] = refl
-zip_none (x ∷ xs) = refl
-
 -- what is left of the handed arguments
 abbrev pub left : List SigArg → List ArgShape → ℕ → List (SigArg × ArgShape)
 left args given i = zip (drop i (inputs args)) (drop i given)
@@ -40,9 +29,6 @@ left_found args given i a g f =
     let h : i < length given = f.inside in
     let n : length given ≡ length (inputs args) = f.count in
     ap₂ (λ xs ys. zip xs ys) (left_at (inputs args) i a (omega arith) f.arg) (left_at given i g h f.shape)
-
-pub left_none : (args : List SigArg) (given : List ArgShape) (i : ℕ) → length given ≤ i → left args given i ≡ []
-left_none args given i h = at_drop_all (λ ys. zip (drop i (inputs args)) ys) given i h ∙ zip_none (drop i (inputs args))
 
 -- one more argument's type
 pub highest_more : (args : List SigArg) (given : List ArgShape) (i : ℕ) (a : SigArg) (g : ArgShape) (found more total : Option Ty) → Found args given i a g
@@ -68,45 +54,10 @@ pushed found new x rest total all e f h = ap (λ xs. xs ++ all) e ∙ append_ass
 pub joined_lists : {X : Type 0} (found new part rest total all : List X) → new ≡ found ++ part → rest ≡ part ++ all → found ++ rest ≡ total → new ++ all ≡ total
 joined_lists found new part rest total all e f h = ap (λ xs. xs ++ all) e ∙ append_assoc found part all ∙ ap (λ xs. found ++ xs) (sym f) ∙ h
 
--- a test that fails of all of a list fails of each
-pub none_at : {X : Type 0} (p : X → Bool) (xs : List X) (i : ℕ) (x : X) → i < length xs → x ≡ get_or xs i x → list_any p xs ≡ false → p x ≡ false
-none_at p [] i x h e n = absurd (omega arith)
-none_at p (y ∷ ys) zero x h e n = ap p e ∙ neither_first (p y) (list_any p ys) n where
-  neither_first : (b c : Bool) → (b || c) ≡ false → b ≡ false
-  neither_first false c k = refl
-  neither_first true c k = k
-none_at p (y ∷ ys) (suc i) x h e n = none_at p ys i x (omega arith) e (neither_second (p y) (list_any p ys) n) where
-  neither_second : (b c : Bool) → (b || c) ≡ false → c ≡ false
-  neither_second false c k = k
-  neither_second true false k = refl
-  neither_second true true k = k
-
 -- the input for which the code looks is so many inputs further on
 pub record Seeks (args : List SigArg) (i left place : ℕ) : Type 0 where
   pub more : left < length (inputs (drop i args))
   pub same : (other : SigArg) → get_or (inputs (drop i args)) left other ≡ get_or (inputs args) place other
-
-pub seeks_found : (args : List SigArg) (i left place : ℕ) (a : SigArg) → i < length args → a ≡ get_or args i a → is_given a.role ≡ true → left ≡ 0
-    → Seeks args i left place → (other : SigArg) → a ≡ get_or (inputs args) place other
-seeks_found args i left place a h e g z s other =
-    sym (ap₂ (λ xs k. get_or xs k other) (inputs_given args i a h e g) z) ∙ s.same other
-
-pub seeks_next : (args : List SigArg) (i left new place : ℕ) (a : SigArg) → i < length args → a ≡ get_or args i a → is_given a.role ≡ true → left ≡ suc new
-    → Seeks args i left place → Seeks args (i + 1) new place
-seeks_next args i left new place a h e g z s = record {
-  more = omega (arith, s.more, ap length (inputs_given args i a h e g));
-  same = λ other. sym (ap₂ (λ xs k. get_or xs k other) (inputs_given args i a h e g) z) ∙ s.same other;
-}
-
-pub seeks_other : (args : List SigArg) (i left place : ℕ) (a : SigArg) → i < length args → a ≡ get_or args i a → is_given a.role ≡ false
-    → Seeks args i left place → Seeks args (i + 1) left place
-seeks_other args i left place a h e g s = record {
-  more = omega (arith, s.more, ap length (inputs_other args i a h e g));
-  same = λ other. sym (ap (λ xs. get_or xs left other) (inputs_other args i a h e g)) ∙ s.same other;
-}
-
-pub seeks_end : (args : List SigArg) (i left place : ℕ) → length args ≤ i → Seeks args i left place → ⊥
-seeks_end args i left place h s = absurd (omega (arith, s.more, at_drop_all (λ rest. length (inputs rest)) args i h))
 
 -- one more argument's dimensions join, or never do
 pub joined_next : (args : List SigArg) (given : List ArgShape) (i : ℕ) (a : SigArg) (g : ArgShape) (joined o more : List ℕ) (total : Option (List ℕ)) → Found args given i a g

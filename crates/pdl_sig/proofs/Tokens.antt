@@ -5,11 +5,13 @@ use Rattle.std.specs.Char.{is_ascii_digit}
 use Rattle.std.proofs.Math.Seq.{take-append_seam, drop-append_seam}
 use Rattle.std.proofs.lemmas.Bool.Decides.{nat_tests}
 use Rattle.std.proofs.lemmas.List.{length-append}
+use Rattle.std.proofs.lemmas.Option.{same_Some}
+use Rattle.std.proofs.lemmas.Bool.{and_parts}
 use Rattle.pdl_lex.specs.Bytes.{is_letter, is_word_byte}
 use Rattle.pdl_lex.specs.Tokens.{is_word}
 use Rattle.pdl_sig.specs.Grammar.{past_blanks, begins, Sign, Word, Number, value_after, is_number, size_limit}
 use Rattle.pdl_sig.specs.SignatureReading.{sign_in, sign_at, word_in, word_at, in_limit, where_number, number_of_digits, number_in, number_at}
-use Rattle.pdl_sig.proofs.Fronts.{both_first, both_second, front_all, all_front, front_stops, past_shorter, letter_goes_on}
+use Rattle.pdl_sig.proofs.Fronts.{front_all, all_front, front_stops, past_shorter, letter_goes_on}
 
 pub sign_read : (b : ℕ) (s t : List ℕ) → Sign b s t → sign_at b s ≡ Some t
 unfolding sign_at
@@ -47,7 +49,7 @@ other_byte b c h e = different (c == b) refl where
 
 word_front : (b : ℕ) (w t : List ℕ) → is_word w ≡ true → is_letter b ≡ false → sign_in b (w ++ t) ≡ None
 word_front b [] t h e = cc
-word_front b (c ∷ w) t h e = ap (λ x. if x then Some (w ++ t) else None) (other_byte b c (both_first (is_letter c) (list_all is_word_byte w) h) e)
+word_front b (c ∷ w) t h e = ap (λ x. if x then Some (w ++ t) else None) (other_byte b c (and_parts (is_letter c) (list_all is_word_byte w) h).0 e)
 
 pub no_sign_word : (b : ℕ) (w s t : List ℕ) → Word w s t → is_letter b ≡ false → sign_at b s ≡ None
 unfolding sign_at
@@ -64,11 +66,11 @@ no_word_end s e = ap word_in e
 -- a word
 word_all : (w : List ℕ) → is_word w ≡ true → list_all is_word_byte w ≡ true
 word_all [] h = cc
-word_all (b ∷ w) h = ap₂ (λ x y. x && y) (letter_goes_on b (both_first (is_letter b) (list_all is_word_byte w) h)) (both_second (is_letter b) (list_all is_word_byte w) h)
+word_all (b ∷ w) h = ap₂ (λ x y. x && y) (letter_goes_on b (and_parts (is_letter b) (list_all is_word_byte w) h).0) (and_parts (is_letter b) (list_all is_word_byte w) h).1
 
 word_begins : (w t : List ℕ) → is_word w ≡ true → begins is_letter (w ++ t) ≡ true
 word_begins [] t h = cc
-word_begins (b ∷ w) t h = both_first (is_letter b) (list_all is_word_byte w) h
+word_begins (b ∷ w) t h = (and_parts (is_letter b) (list_all is_word_byte w) h).0
 
 -- the front of so many elements, and what is left
 abbrev parted : List ℕ → ℕ → List ℕ × List ℕ
@@ -125,9 +127,6 @@ number_some (b ∷ w) h = omega arith
 pub number_shorter : (n : ℕ) (s t : List ℕ) → Number n s t → length t < length s
 number_shorter n s t k = omega (arith, past_shorter s, ap length k.stands, length-append k.digits t, number_some k.digits k.number)
 
-some_is : {A : Type 0} (x y : A) → Some x ≡ Some y → x ≡ y
-some_is x y h = cc
-
 allowed : (n m : ℕ) (t : List ℕ) → n ≡ m → n ≤ 1048576 → in_limit m t (nat_lt 1048576 m) ≡ Some (n, t)
 allowed n m t e h =
     let small : nat_lt 1048576 m ≡ false = grind (arith, nat_tests) in
@@ -155,7 +154,7 @@ record Digits (n m : ℕ) (v t : List ℕ) : Type 0 where
 value_is : (n m : ℕ) (t v : List ℕ) (k : Bool) → nat_lt 1048576 m ≡ k → in_limit m v k ≡ Some (n, t) → Digits n m v t
 value_is n m t v true e h = cc
 value_is n m t v false e h =
-    let inner = some_is {A = ℕ × List ℕ} (m, v) (n, t) h in
+    let inner = same_Some {A = ℕ × List ℕ} (m, v) (n, t) h in
     record { limit = grind (arith, nat_tests, e); value = sym (ap (λ (x : ℕ × List ℕ). x.0) inner); rest = ap (λ (x : ℕ × List ℕ). x.1) inner }
 
 digits_are : (n m : ℕ) (v t : List ℕ) (k : Bool) → where_number m v k ≡ Some (n, t) → (k ≡ true) × Digits n m v t

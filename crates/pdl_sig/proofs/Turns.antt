@@ -1,5 +1,6 @@
 -- The turns of the loops over dimensions and over arguments.
 use Rattle.std.proofs.Common.{◌≡◌, ℕ, suc, ◌+◌, ◌-◌, ◌<◌, ◌≤◌, true, false, List, [], ◌∷◌, ◌++◌, length, Option, Some, None, refl, ap, ap₂, sym, ◌∙◌, arith, append_assoc}
+use Rattle.pdl_lemmas.specs.Numbers.{one_less}
 use Rattle.pdl_sig.specs.declared.written.WrittenDim.{WrittenDim}
 use Rattle.pdl_sig.specs.declared.written.WrittenArg.{WrittenArg}
 use Rattle.pdl_sig.specs.SignatureReading.{is_end, sign_at, dim_at, before_dims, dims_by, dims_after, dims_at, arg_at, before_args, only_arg, args_past, args_by, args_after, args_at}
@@ -17,10 +18,6 @@ dims_none : (n : ℕ) (s : List ℕ) → n ≡ 0 → dims_at n s ≡ None
 unfolding dims_at
 dims_none n s e = ap (λ k. dims_at k s) e
 
-pub no_dims_yet : (o : Option (List WrittenDim × List ℕ)) → after_dims [] o ≡ o
-no_dims_yet None = refl
-no_dims_yet (Some x) = refl
-
 after_before : (ds new : List WrittenDim) (d : WrittenDim) (o : Option (List WrittenDim × List ℕ)) → new ≡ ds ++ d ∷ [] → after_dims new o ≡ after_dims ds (before_dims d o)
 after_before ds new d None e = refl
 after_before ds new d (Some x) e = ap (λ es. Some (es ++ x.0, x.1)) e ∙ ap (λ es. Some (es, x.1)) (append_assoc ds (d ∷ []) x.0)
@@ -29,16 +26,13 @@ after_before ds new d (Some x) e = ap (λ es. Some (es ++ x.0, x.1)) e ∙ ap (�
 pub record DimsLeft (i end : ℕ) (s : List ℕ) (ds : List WrittenDim) (total : Option (List WrittenDim × List ℕ)) : Type 0 where
   pub left : after_dims ds (dims_at (end - i) s) ≡ total
 
-turn : (i end : ℕ) → i < end → end - i ≡ suc (end - (i + 1))
-turn i end h = omega arith
-
 pub dims_next : (i end : ℕ) (s t u : List ℕ) (ds new : List WrittenDim) (d : WrittenDim) (total : Option (List WrittenDim × List ℕ)) → i < end
     → Some (d, t) ≡ dim_at s → Some u ≡ sign_at 44 t → new ≡ ds ++ d ∷ [] → DimsLeft i end s ds total → DimsLeft (i + 1) end u new total
 dims_next i end s t u ds new d total h k g e l = record {
   left = after_before ds new d (dims_at (end - (i + 1)) u) e
       ∙ ap (λ o. after_dims ds (dims_by (dims_at (end - (i + 1))) d o (sign_at 41 t))) g
       ∙ ap (λ o. after_dims ds (dims_after (dims_at (end - (i + 1))) o)) k
-      ∙ sym (ap (after_dims ds) (dims_step (end - i) (end - (i + 1)) s (turn i end h)))
+      ∙ sym (ap (after_dims ds) (dims_step (end - i) (end - (i + 1)) s (one_less end i h)))
       ∙ l.left;
 }
 
@@ -48,7 +42,7 @@ dims_closed i end s t u ds new d total h k g q e l =
     ap (λ es. Some (es, u)) e
     ∙ ap₂ (λ o p. after_dims ds (dims_by (dims_at (end - (i + 1))) d o p)) g q
     ∙ ap (λ o. after_dims ds (dims_after (dims_at (end - (i + 1))) o)) k
-    ∙ sym (ap (after_dims ds) (dims_step (end - i) (end - (i + 1)) s (turn i end h)))
+    ∙ sym (ap (after_dims ds) (dims_step (end - i) (end - (i + 1)) s (one_less end i h)))
     ∙ l.left
 
 pub dims_open : (i end : ℕ) (s t : List ℕ) (ds : List WrittenDim) (d : WrittenDim) (total : Option (List WrittenDim × List ℕ)) → i < end
@@ -56,21 +50,18 @@ pub dims_open : (i end : ℕ) (s t : List ℕ) (ds : List WrittenDim) (d : Writt
 dims_open i end s t ds d total h k g q l =
     ap₂ (λ o p. after_dims ds (dims_by (dims_at (end - (i + 1))) d o p)) g q
     ∙ ap (λ o. after_dims ds (dims_after (dims_at (end - (i + 1))) o)) k
-    ∙ sym (ap (after_dims ds) (dims_step (end - i) (end - (i + 1)) s (turn i end h)))
+    ∙ sym (ap (after_dims ds) (dims_step (end - i) (end - (i + 1)) s (one_less end i h)))
     ∙ l.left
 
 pub dims_broken : (i end : ℕ) (s : List ℕ) (ds : List WrittenDim) (total : Option (List WrittenDim × List ℕ)) → i < end
     → None ≡ dim_at s → DimsLeft i end s ds total → None ≡ total
 dims_broken i end s ds total h k l =
     ap (λ o. after_dims ds (dims_after (dims_at (end - (i + 1))) o)) k
-    ∙ sym (ap (after_dims ds) (dims_step (end - i) (end - (i + 1)) s (turn i end h)))
+    ∙ sym (ap (after_dims ds) (dims_step (end - i) (end - (i + 1)) s (one_less end i h)))
     ∙ l.left
 
 pub dims_out : (i end : ℕ) (s : List ℕ) (ds : List WrittenDim) (total : Option (List WrittenDim × List ℕ)) → end ≤ i → DimsLeft i end s ds total → None ≡ total
 dims_out i end s ds total h l = sym (ap (after_dims ds) (dims_none (end - i) s (omega arith))) ∙ l.left
-
-pub dims_first : (s : List ℕ) (ds : List WrittenDim) → ds ≡ [] → DimsLeft 0 (length s) s ds (dims_at (length s) s)
-dims_first s ds e = record { left = ap (λ es. after_dims es (dims_at (length s - 0) s)) e ∙ no_dims_yet (dims_at (length s - 0) s) ∙ ap (λ n. dims_at n s) (omega arith) }
 
 -- the arguments so far, before those that are read
 abbrev pub after_args : List WrittenArg → Option (List WrittenArg) → Option (List WrittenArg)
@@ -84,10 +75,6 @@ args_step n m s e = ap (λ k. args_at k s) e
 args_none : (n : ℕ) (s : List ℕ) → n ≡ 0 → args_at n s ≡ None
 unfolding args_at
 args_none n s e = ap (λ k. args_at k s) e
-
-pub no_args_yet : (o : Option (List WrittenArg)) → after_args [] o ≡ o
-no_args_yet None = refl
-no_args_yet (Some x) = refl
 
 args_before : (args new : List WrittenArg) (a : WrittenArg) (o : Option (List WrittenArg)) → new ≡ args ++ a ∷ [] → after_args new o ≡ after_args args (before_args a o)
 args_before args new a None e = refl
@@ -107,7 +94,7 @@ taken_is : (i end : ℕ) (s t : List ℕ) (args new : List WrittenArg) (a : Writ
     → after_args args (args_by (args_at (end - (i + 1))) a t (sign_at 59 t)) ≡ total
 taken_is i end s t args new a total k =
     ap (λ o. after_args args (args_after (args_at (end - (i + 1))) o)) k.arg
-    ∙ sym (ap (after_args args) (args_step (end - i) (end - (i + 1)) s (turn i end k.inside)))
+    ∙ sym (ap (after_args args) (args_step (end - i) (end - (i + 1)) s (one_less end i k.inside)))
     ∙ k.before.left
 
 pub args_next : (i end : ℕ) (s t u : List ℕ) (args new : List WrittenArg) (a : WrittenArg) (total : Option (List WrittenArg)) → Taken i end s t args new a total
@@ -145,11 +132,8 @@ args_rest i end s t args new a total k g e =
 pub args_broken : (i end : ℕ) (s : List ℕ) (args : List WrittenArg) (total : Option (List WrittenArg)) → i < end → None ≡ arg_at s → ArgsLeft i end s args total → None ≡ total
 args_broken i end s args total h k l =
     ap (λ o. after_args args (args_after (args_at (end - (i + 1))) o)) k
-    ∙ sym (ap (after_args args) (args_step (end - i) (end - (i + 1)) s (turn i end h)))
+    ∙ sym (ap (after_args args) (args_step (end - i) (end - (i + 1)) s (one_less end i h)))
     ∙ l.left
 
 pub args_out : (i end : ℕ) (s : List ℕ) (args : List WrittenArg) (total : Option (List WrittenArg)) → end ≤ i → ArgsLeft i end s args total → None ≡ total
 args_out i end s args total h l = sym (ap (after_args args) (args_none (end - i) s (omega arith))) ∙ l.left
-
-pub args_first : (s : List ℕ) (args : List WrittenArg) → args ≡ [] → ArgsLeft 0 (length s) s args (args_at (length s) s)
-args_first s args e = record { left = ap (λ es. after_args es (args_at (length s - 0) s)) e ∙ no_args_yet (args_at (length s - 0) s) ∙ ap (λ n. args_at n s) (omega arith) }

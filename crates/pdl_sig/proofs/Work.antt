@@ -30,6 +30,3 @@ work_more w new m sizes i s c total h e k n p =
     ∙ ap (λ x. min x c) (mul_assoc w m (extent (drop (i + 1) sizes)) ∙ ap (λ x. w * (x * extent (drop (i + 1) sizes))) (k ∙ ap (λ y. max y 1) e))
     ∙ sym (at_drop_more (λ rest. min (w * extent rest) c) sizes i 0 h)
     ∙ p
-
-pub work_all : (w : ℕ) (sizes : List ℕ) (i c total : ℕ) → length sizes ≤ i → min (w * extent (drop i sizes)) c ≡ total → min w c ≡ total
-work_all w sizes i c total h p = omega (arith, sym (at_drop_all (λ rest. min (w * extent rest) c) sizes i h) ∙ p)

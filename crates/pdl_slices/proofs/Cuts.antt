@@ -2,6 +2,7 @@
 use Rattle.std.proofs.Common.{◌≡◌, ℕ, zero, suc, ◌+◌, ◌*◌, min, Bool, true, false, ◌||◌, ◌==◌, List, [], ◌∷◌, map, ℤ, pos, negsuc, neg_ℤ, nat_abs, Option, Some, None, option_map, if◌then◌else◌, refl, ap, ap₂, ◌∙◌, arith}
 use Rattle.std.specs.List.{list_any}
 use Rattle.std.proofs.lemmas.List.{length-map}
+use Rattle.std.proofs.lemmas.Bool.{or_parts}
 use Rattle.pdl_slices.specs.declared.SliceArg.{SliceArg}
 use Rattle.pdl_slices.specs.declared.SliceArg.TheVariants.{Whole, One, Dropped, Dummy, Span}
 use Rattle.pdl_slices.specs.declared.SliceFault.{SliceFault}
@@ -89,18 +90,14 @@ has_zero_step-cut (Dropped n) = refl
 has_zero_step-cut (Dummy n) = refl
 has_zero_step-cut (Span from to step) = is_zero-cut step
 
-neither : (b c : Bool) → (b || c) ≡ false → (b ≡ false) × (c ≡ false)
-neither false c h = (refl, h)
-neither true c h = cc
-
 pub cut_arg-allowed : (a : SliceArg) → has_large_number a ≡ false → cut_arg a ≡ a
 cut_arg-allowed Whole h = refl
 cut_arg-allowed (One n) h = ap One (cut-allowed n h)
 cut_arg-allowed (Dropped n) h = ap Dropped (cut-allowed n h)
 cut_arg-allowed (Dummy n) h = ap Dummy (cut_size-allowed n h)
 cut_arg-allowed (Span from to step) h =
-    let both = neither (is_large_end from || is_large_end to) (is_large_end step) h in
-    let ends = neither (is_large_end from) (is_large_end to) both.0 in
+    let both = or_parts (is_large_end from || is_large_end to) (is_large_end step) h in
+    let ends = or_parts (is_large_end from) (is_large_end to) both.0 in
     ap (λ f. Span f (cut_end to) (cut_end step)) (cut_end-allowed from ends.0) ∙ ap₂ (λ t u. Span from t u) (cut_end-allowed to ends.1) (cut_end-allowed step both.1)
 
 -- a test that doesn't see the cut finds the same in the cut list
@@ -116,7 +113,7 @@ refusal-cut args =
 pub cut-list-allowed : (args : List SliceArg) → list_any has_large_number args ≡ false → map cut_arg args ≡ args
 cut-list-allowed [] h = refl
 cut-list-allowed (a ∷ args) h =
-    let parts = neither (has_large_number a) (list_any has_large_number args) h in
+    let parts = or_parts (has_large_number a) (list_any has_large_number args) h in
     ap₂ (λ b bs. b ∷ bs) (cut_arg-allowed a parts.0) (cut-list-allowed args parts.1)
 
 allowed_large : (b c d : Bool) (f g h : SliceFault) → (if b then Some f else (if c then Some g else (if d then Some h else None))) ≡ None → c ≡ false

@@ -1,6 +1,8 @@
 -- What the machine says at the end of a text, and where it stops before.
 use Rattle.std.proofs.Common.{◌≡◌, ℕ, suc, ◌+◌, ◌-◌, ◌<◌, true, false, List, [], ◌∷◌, ◌++◌, map, length, take, drop, get_or, ℤ, pos, Option, Some, None, option_map, if◌then◌else◌, IsTrue, refl, sym, ap, ◌∙◌, subst, arith, append_assoc, take-suc, take-add, take-append-drop, le_refl}
 use Rattle.std.proofs.Math.Seq.{take_all}
+use Rattle.std.proofs.lemmas.Option.{same_Some}
+use Rattle.std.proofs.lemmas.Bool.{true≢false}
 use Rattle.pdl_slices.specs.declared.SliceArg.{SliceArg}
 use Rattle.pdl_slices.specs.declared.SliceArg.TheVariants.{Whole, One, Dropped, Dummy, Span}
 use Rattle.pdl_slices.specs.declared.reading.Kind.TheVariants.{Close}
@@ -14,7 +16,7 @@ use Rattle.pdl_slices.specs.Refusals.{IsBadText}
 use Rattle.pdl_slices.specs.SliceReading.{kind_of, number_in, takes_number, takes_sign, ending_argument, Stage, first_place, stage_after, run, is_first, finished, first_stage}
 use Rattle.pdl_slices.proofs.Cuts.{cut_arg}
 use Rattle.pdl_slices.proofs.Spelled.{at, run-None, run-append, run-blanks_before, sign_takes, Has, Closes, closes_has, run-sign, run-args}
-use Rattle.pdl_slices.proofs.Sound.{some_is, map_is, PartReads, waits, signs, counts, counts_down, after, after_sign, SlotReads, single, bracket, bracketed, size, to, by}
+use Rattle.pdl_slices.proofs.Sound.{map_is, PartReads, waits, signs, counts, counts_down, after, after_sign, SlotReads, single, bracket, bracketed, size, to, by}
 use Rattle.pdl_slices.proofs.Moves.{DoneReads, none_done, some_done, StageReads, stage_args, run_first}
 
 -- the text spells arguments, of which these are the cut ones
@@ -53,7 +55,7 @@ first_blanks p w r h =
 
 -- over blanks alone the machine stays at its first stage
 blanks_first : (s : Stage) (w : List ℕ) → run (Some first_stage) w ≡ Some s → Blanks w → first_stage ≡ s
-blanks_first s w h bs = some_is first_stage s (sym (run-blanks_before [] Single w bs) ∙ h)
+blanks_first s w h bs = same_Some first_stage s (sym (run-blanks_before [] Single w bs) ∙ h)
 
 listed_end : (s : Stage) (cs : List SliceArg) (w : List ℕ) → run (Some first_stage) w ≡ Some s → (first_stage ≡ s → ⊥)
     → option_map (λ a. s.done ++ a ∷ []) (ending_argument s.place) ≡ Some cs → ReadsText cs w
@@ -67,12 +69,9 @@ pub finished_reads : (d : List SliceArg) (p : Place) (cs : List SliceArg) (w : L
     → finished (record { done = d; place = p }) ≡ Some cs → ReadsText cs w
 finished_reads [] p cs w r h =
     let go = elim (is_first p) as (λ t. is_first p ≡ t → (if t then Some [] else option_map (λ a. a ∷ []) (ending_argument p)) ≡ Some cs → ReadsText cs w) [
-      | true ↦ λ e k. record { args = []; spelled = blanks_alone w (first_blanks p w (run_first w _ r) e); cut_is = some_is [] cs k }
-      | false ↦ λ e k. listed_end (record { done = []; place = p }) cs w r (λ same. no_first (ap (λ s. is_first s.place) same ∙ e)) k
+      | true ↦ λ e k. record { args = []; spelled = blanks_alone w (first_blanks p w (run_first w _ r) e); cut_is = same_Some [] cs k }
+      | false ↦ λ e k. listed_end (record { done = []; place = p }) cs w r (λ same. true≢false (ap (λ s. is_first s.place) same ∙ e)) k
     ] in go refl h
-  where
-    no_first : true ≡ false → ⊥
-    no_first e = cc
 finished_reads (b ∷ d) p cs w r h =
     listed_end (record { done = b ∷ d; place = p }) cs w r (λ same. no_cons (ap (λ s. s.done) same)) h
   where
@@ -224,7 +223,7 @@ pub bad_end : (text : List ℕ) (s : Stage) → run (Some first_stage) text ≡ 
 bad_end text s h stops = record {
   unspelled = λ all x.
       let end = spelled_finishes all text x in
-      let same = some_is s end.last (sym h ∙ end.reached) in
+      let same = same_Some s end.last (sym h ∙ end.reached) in
       contradicts (sym stops ∙ ap finished same ∙ end.answers);
   place = record {
     within = le_refl (length text);

@@ -2,6 +2,7 @@
 use Rattle.std.proofs.Common.{◌≡◌, ◌↔◌, ℕ, suc, ◌<◌, ◌≤◌, List, [], ◌∷◌, map, length, take, drop, get_or, Option, Some, None, Result, Ok, Err, IfOk, IfErr, refl, sym, ap, ◌∙◌, subst, arith, take-suc, drop-cons, length-drop, ⊎_elim}
 use Rattle.std.proofs.Math.Seq.{take_all}
 use Rattle.std.proofs.str.Laws.{order}
+use Rattle.std.proofs.lemmas.Option.{same_Some}
 use Rattle.pdl_slices.specs.declared.SliceArg.{SliceArg}
 use Rattle.pdl_slices.specs.declared.SliceFault.{SliceFault}
 use Rattle.pdl_slices.specs.declared.SliceFault.TheVariants.{BadText, TooManyArgs, NumberTooLarge, ZeroStep, NoMemory}
@@ -10,7 +11,6 @@ use Rattle.pdl_slices.specs.Refusals.{refusal, IsRead, IsBadText, IsRefused, IsF
 use Rattle.pdl_slices.specs.SliceReading.{kind_of, Stage, first_stage, stage_after, run, finished}
 use Rattle.pdl_slices.specs.Meaning.{verdict_on, or_bad_text, read_on, slice_of}
 use Rattle.pdl_slices.proofs.Cuts.{cut_arg, refusal-cut, cut-allowed_list}
-use Rattle.pdl_slices.proofs.Sound.{some_is}
 use Rattle.pdl_slices.proofs.Spelled.{run-append}
 use Rattle.pdl_slices.proofs.Endings.{spelled_finishes, bad_byte, bad_end}
 use Rattle.pdl_slices.proofs.Outcomes.{verdict_reads}
@@ -57,7 +57,7 @@ same_cut : (text : List ℕ) (a b : List SliceArg) → Spells a text → Spells 
 same_cut text a b x y =
     let p = spelled_finishes a text x in
     let q = spelled_finishes b text y in
-    some_is _ _ (sym p.answers ∙ ap finished (some_is _ _ (sym p.reached ∙ q.reached)) ∙ q.answers)
+    same_Some _ _ (sym p.answers ∙ ap finished (same_Some _ _ (sym p.reached ∙ q.reached)) ∙ q.answers)
 
 same_refusal : (text : List ℕ) (a b : List SliceArg) → Spells a text → Spells b text → refusal a ≡ refusal b
 same_refusal text a b x y = sym (refusal-cut a) ∙ ap refusal (same_cut text a b x y) ∙ refusal-cut b
@@ -96,7 +96,7 @@ same_fault text f g h k =
     (λ (all, (x, e)). absurd (bad.unspelled all x)))
     (λ (all, (x, e)). cases_fault text g k
     (λ j as' worse. absurd (worse.unspelled all x))
-    (λ (all', (y, d)). some_is f g (sym e ∙ same_refusal text all all' x y ∙ d)))
+    (λ (all', (y, d)). same_Some f g (sym e ∙ same_refusal text all all' x y ∙ d)))
 
 same_meaning : (text : List ℕ) (a b : Result (List SliceArg) SliceFault) → Means text a → Means text b → a ≡ b
 same_meaning text (Ok a) (Ok b) h k =

@@ -1,6 +1,7 @@
 -- What the machine has read, byte by byte.
 use Rattle.std.proofs.Common.{◌≡◌, ℕ, List, [], ◌∷◌, ◌++◌, map, ℤ, Option, Some, None, option_map, option_and_then, refl, sym, ap, ap₂, ◌∙◌, subst, append_assoc, append-nil}
 use Rattle.std.proofs.lemmas.List.{map-append}
+use Rattle.std.proofs.lemmas.Option.{same_Some}
 use Rattle.pdl_slices.specs.declared.SliceArg.{SliceArg}
 use Rattle.pdl_slices.specs.declared.reading.Kind.{Kind}
 use Rattle.pdl_slices.specs.declared.reading.Kind.TheVariants.{Blank, Digit, Minus, Open, Close, Star, Colon, Comma, Other}
@@ -14,7 +15,7 @@ use Rattle.pdl_slices.specs.SliceReading.{kind_of, number_in, part_after_blank, 
 use Rattle.pdl_slices.proofs.Cuts.{cut, cut_end, cut_arg}
 use Rattle.pdl_slices.proofs.Bytes.{Fact, fact}
 use Rattle.pdl_slices.proofs.Spelled.{run-None, single_colon, to_colon}
-use Rattle.pdl_slices.proofs.Sound.{some_is, map_is, and_then_is, if_is, PartReads, waits, part_blank, part_digit, part_minus, ReadsField, field_of, blanks_of, SlotReads, single, bracket, bracketed, size, to, by, ReadsArg, arg_reads}
+use Rattle.pdl_slices.proofs.Sound.{map_is, and_then_is, if_is, PartReads, waits, part_blank, part_digit, part_minus, ReadsField, field_of, blanks_of, SlotReads, single, bracket, bracketed, size, to, by, ReadsArg, arg_reads}
 
 bracket_closes : (s : List ℕ) (p : NumberSoFar) (v : List ℕ) (z : Option ℤ) (b : ℕ) (q : Slot) → Blanks s → ReadsField z v → slot_after Bracket z Close ≡ Some q → b ≡ 41
     → SlotReads q ((s ++ 40 ∷ []) ++ v ++ b ∷ [])
@@ -22,24 +23,24 @@ bracket_closes s p v z b q bs f h e = closes f.number f.spelled (ap (λ y. slot_
   closes : (y : Option ℤ) → Field y v → slot_after Bracket (cut_end y) Close ≡ Some q → SlotReads q ((s ++ 40 ∷ []) ++ v ++ b ∷ [])
   closes None g k = cc
   closes (Some n) g k =
-      subst (λ o. SlotReads o ((s ++ 40 ∷ []) ++ v ++ b ∷ [])) (some_is _ _ k)
+      subst (λ o. SlotReads o ((s ++ 40 ∷ []) ++ v ++ b ∷ [])) (same_Some _ _ k)
       (subst (SlotReads (Bracketed (cut n))) (ap₂ (λ w c. w ++ c ∷ []) (sym (append_assoc s (40 ∷ []) v)) (sym e)) (bracketed n s v bs g))
 
 -- a bracket, a star or a colon ends what is read of a number, and begins the next slot
 sign_reads : (s q : Slot) (p : NumberSoFar) (x : Option ℤ) (k : Kind) (b : ℕ) (o v : List ℕ) → SlotReads s o → PartReads s p v → number_in p ≡ Some x
     → slot_after s x k ≡ Some q → Fact k b → SlotReads q (o ++ v ++ b ∷ [])
 sign_reads s q p None Open b o v single r h e f =
-    subst (λ c. SlotReads q (v ++ c ∷ [])) (sym f) (subst (λ t. SlotReads t (v ++ 40 ∷ [])) (some_is _ _ e) (bracket v (blanks_of Single p v r h)))
+    subst (λ c. SlotReads q (v ++ c ∷ [])) (sym f) (subst (λ t. SlotReads t (v ++ 40 ∷ [])) (same_Some _ _ e) (bracket v (blanks_of Single p v r h)))
 sign_reads s q p None Star b o v single r h e f =
-    subst (λ c. SlotReads q (v ++ c ∷ [])) (sym f) (subst (λ t. SlotReads t (v ++ 42 ∷ [])) (some_is _ _ e) (size v (blanks_of Single p v r h)))
+    subst (λ c. SlotReads q (v ++ c ∷ [])) (sym f) (subst (λ t. SlotReads t (v ++ 42 ∷ [])) (same_Some _ _ e) (size v (blanks_of Single p v r h)))
 sign_reads s q p x Colon b o v single r h e f =
     let g = field_of Single p x v r h in
     subst (λ c. SlotReads q (v ++ c ∷ [])) (sym f)
-    (subst (λ t. SlotReads t (v ++ 58 ∷ [])) (ap To g.cut_is ∙ some_is _ _ (sym (single_colon x) ∙ e)) (to g.number v g.spelled))
+    (subst (λ t. SlotReads t (v ++ 58 ∷ [])) (ap To g.cut_is ∙ same_Some _ _ (sym (single_colon x) ∙ e)) (to g.number v g.spelled))
 sign_reads s q p x Close b o v (bracket t bs) r h e f = bracket_closes t p v x b q bs (field_of Bracket p x v r h) e f
 sign_reads s q p y Colon b o v (to x t g) r h e f =
     let k = field_of (To (cut_end x)) p y v r h in
-    subst (λ u. SlotReads u (t ++ 58 ∷ [] ++ v ++ b ∷ [])) (ap (By (cut_end x)) k.cut_is ∙ some_is _ _ (sym (to_colon (cut_end x) y) ∙ e))
+    subst (λ u. SlotReads u (t ++ 58 ∷ [] ++ v ++ b ∷ [])) (ap (By (cut_end x)) k.cut_is ∙ same_Some _ _ (sym (to_colon (cut_end x) y) ∙ e))
     (subst (SlotReads (By (cut_end x) (cut_end k.number))) (ap₂ (λ w c. w ++ c ∷ []) (sym (append_assoc t (58 ∷ []) v)) (sym f)) (by x k.number t v g k.spelled))
 sign_reads s q p None k b o v single r h e f = cc
 sign_reads s q p (Some z') k b o v single r h e f = cc
@@ -191,7 +192,7 @@ stage_reads s t w b Other r f h = byte_reads s t w b Other r f h
 
 -- what the machine reads adds to the stage's bytes
 pub run_reads : (v u : List ℕ) (s t : Stage) → StageReads s u → run (Some s) v ≡ Some t → StageReads t (u ++ v)
-run_reads [] u s t r h = subst (λ w. StageReads t w) (sym (append-nil u)) (subst (λ q. StageReads q u) (some_is s t h) r)
+run_reads [] u s t r h = subst (λ w. StageReads t w) (sym (append-nil u)) (subst (λ q. StageReads q u) (same_Some s t h) r)
 run_reads (b ∷ v) u s t r h =
     let go = elim (stage_after s (kind_of b)) as (λ o. stage_after s (kind_of b) ≡ o → run o v ≡ Some t → StageReads t (u ++ b ∷ v)) [
       | None ↦ λ e k. absurd (none_is t (sym (run-None v) ∙ k))

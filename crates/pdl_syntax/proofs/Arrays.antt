@@ -3,10 +3,11 @@ use Rattle.std.proofs.Common.{◌≡◌, ◌≤◌, ◌*◌, ℕ, suc, ℤ, pos,
 use Rattle.std.proofs.lemmas.Int.{ints}
 use Rattle.std.proofs.lemmas.List.Elements.{All-nil, All-push}
 use Rattle.std.proofs.lemmas.Bool.Decides.{nat_tests}
+use Rattle.std.proofs.lemmas.Bool.{or_parts, not-false, leb-true}
 use Rattle.pdl_lexemes.specs.declared.Lexeme.{Lexeme}
 use Rattle.pdl_lexemes.specs.Lists.{signed}
 use Rattle.pdl_lexemes.specs.Laws.{FillsArray, ListsAreArrays}
-use Rattle.pdl_syntax.proofs.Options.{none_some, some_inj}
+use Rattle.pdl_lemmas.specs.Options.{none_some, some_inj}
 use Rattle.pdl_syntax.specs.Tree.{Tree, Args, none, value}
 use Rattle.pdl_syntax.specs.Ragged.{is_ragged, are_ragged, in_views, in_statement}
 use Rattle.pdl_syntax.proofs.Raggedness.{any_last}
@@ -19,14 +20,11 @@ record SignedIs (n : ℕ) (z : ℤ) : Type 0 where
   small : n ≤ 9223372036854775807
   value : z ≡ pos n
 
-small_test : (n : ℕ) → nat_le n 9223372036854775807 ≡ true → n ≤ 9223372036854775807
-small_test n t = grind (arith, nat_tests)
-
 signed_is : (n : ℕ) (z : ℤ) → signed n ≡ Some z → SignedIs n z
 signed_is n z e = of_test (nat_le n 9223372036854775807) refl e
   where
     of_test : (b : Bool) → nat_le n 9223372036854775807 ≡ b → (if b then Some (pos n) else None) ≡ Some z → SignedIs n z
-    of_test true t k = record { small = small_test n t; value = sym (some_inj k) }
+    of_test true t k = record { small = leb-true n 9223372036854775807 t; value = sym (some_inj k) }
     of_test false t k = absurd (none_some k)
 
 is_count : (n : ℕ) (z : ℤ) → signed n ≡ Some z → IsCount z
@@ -35,17 +33,9 @@ is_count n z e =
     let small = s.small in
     subst IsCount (sym s.value) (record { least = omega (arith, ints); most = omega (arith, ints) })
 
-pub or_false : (a b : Bool) → (a || b) ≡ false → (a ≡ false) × (b ≡ false)
-or_false true b e = absurd (true≢false e)
-or_false false b e = (refl, e)
-
-not_false : (b : Bool) → not b ≡ false → b ≡ true
-not_false true e = refl
-not_false false e = absurd (true≢false e)
-
 literal_array : (shape : Option (List ℕ)) (es : List ℤ) → FillsArray shape es → is_ragged (literal_of shape es) ≡ false → AreArrays (literal_of shape es)
 literal_array None es fills e =
-    let same : length es ≡ suc (length es) * 1 = eqb-true (length es) (suc (length es) * 1) (not_false (nat_eq (length es) (suc (length es) * 1)) e) in
+    let same : length es ≡ suc (length es) * 1 = eqb-true (length es) (suc (length es) * 1) (not-false (nat_eq (length es) (suc (length es) * 1)) e) in
     absurd (omega (arith, same))
 literal_array (Some d) es fills e = record { count = fills.count; in_range = fills.in_range }
 
@@ -66,7 +56,7 @@ Holds (closed_args front all) = AddsArrays front all
 Holds (maybe_args front all) = AddsArrays front all
 
 both_arrays : (a b : Tree) → HasArrays a → HasArrays b → (is_ragged a || is_ragged b) ≡ false → AreArrays a × AreArrays b
-both_arrays a b h k e = let parts = or_false (is_ragged a) (is_ragged b) e in (h parts.0, k parts.1)
+both_arrays a b h k e = let parts = or_parts (is_ragged a) (is_ragged b) e in (h parts.0, k parts.1)
 
 method_arrays : (t : Tree) (args : Args) → HasArrays t → AddsArrays (value none t) args → are_ragged args ≡ false → AreArgArrays args
 method_arrays t args h k e = let more = k e in more.1 (tt, h more.0)
@@ -86,7 +76,7 @@ arrays lists (list {shape = shape} {elems = elems} h) = literal_array shape elem
 arrays lists (round_list {shape = shape} {elems = elems} h) = literal_array shape elems (lists _ _ shape elems h)
 arrays lists (called h) = let k = arrays lists h in λ e. (k e).1 tt
 arrays lists (round h) = arrays lists h
-arrays lists (a_value {front = front} {t = t} h) = let k = arrays lists h in λ e. let parts = or_false (are_ragged front) (is_ragged t) e in (parts.0, λ all. (all, k parts.1))
+arrays lists (a_value {front = front} {t = t} h) = let k = arrays lists h in λ e. let parts = or_parts (are_ragged front) (is_ragged t) e in (parts.0, λ all. (all, k parts.1))
 arrays lists a_text = λ e. (e, λ all. all)
 arrays lists a_type = λ e. (e, λ all. all)
 arrays lists (one h) = arrays lists h
@@ -102,7 +92,7 @@ ViewArrays v = AreArgArrays v.1
 views_arrays : ListsAreArrays → {source : List ℕ} {front views : List View} {ts rest : List Lexeme} → SpellsViews source front views ts rest → in_views views ≡ false → All ViewArrays front → All ViewArrays views
 views_arrays lists no_views e all = all
 views_arrays lists (one_view {views = views} {w = w} {args = args} h k) e all =
-    let parts = or_false (in_views views) (are_ragged args) (sym (any_last (λ v. are_ragged v.1) views _) ∙ e) in
+    let parts = or_parts (in_views views) (are_ragged args) (sym (any_last (λ v. are_ragged v.1) views _) ∙ e) in
     All-push ViewArrays views _ (views_arrays lists h parts.0 all) ((arrays lists k parts.1).1 tt)
 
 called_arrays : ListsAreArrays → {source : List ℕ} {t : Tree} {ts : List Lexeme} → SpellsCalled source t ts → HasArrays t
@@ -119,7 +109,7 @@ pub statement_arrays : ListsAreArrays → {source : List ℕ} {s : StatementTree
 statement_arrays lists (binds h) e = binding_arrays lists h e
 statement_arrays lists (my_binds h) e = binding_arrays lists h e
 statement_arrays lists (assigns {views = views} {t = t} v h) e =
-    let parts = or_false (in_views views) (is_ragged t) e in
+    let parts = or_parts (in_views views) (is_ragged t) e in
     (views_arrays lists v parts.0 (All-nil ViewArrays), arrays lists h parts.1)
 statement_arrays lists shows_text e = tt
 statement_arrays lists (shows h) e = arrays lists h e

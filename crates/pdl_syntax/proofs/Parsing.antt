@@ -1,5 +1,6 @@
 -- The answers of the parser, from its steps, and what they mean.
 use Rattle.std.proofs.Common.{◌≡◌, ℕ, suc, ◌+◌, List, [], ◌∷◌, length, Bool, true, false, Option, Some, None, Result, Ok, Err, IfOk, refl, ap, sym, ◌∙◌, subst, true≢false, add-one}
+use Rattle.pdl_lemmas.specs.Tests.{by_test}
 use Rattle.pdl_lex.specs.declared.Token.{Token}
 use Rattle.pdl_lexemes.specs.declared.Lexeme.{Lexeme}
 use Rattle.pdl_lexemes.specs.Laws.{ListsAreRead, ListsAreArrays, RaggedIsScanned}
@@ -20,10 +21,6 @@ use Rattle.pdl_syntax.specs.Statements.{SpellsStatement}
 use Rattle.pdl_syntax.specs.Ragged.{in_statement}
 use Rattle.pdl_syntax.proofs.Raggedness.{statement_scanned}
 use Rattle.pdl_syntax.proofs.StatementComplete.{statement_found, statement_spelled}
-
-by_bool : {G : Type 0} (b : Bool) → (b ≡ true → G) → (b ≡ false → G) → G
-by_bool true yes' no' = yes' refl
-by_bool false yes' no' = no' refl
 
 -- behind the checks of depth and of numbers, what is read decides
 after_checks : (source : List ℕ) (ts : List Lexeme) (o : Option StatementTree) → is_too_deep ts ≡ false → has_large ts ≡ false →
@@ -49,7 +46,7 @@ module _ (lists : ListsAreRead) (arrays : ListsAreArrays) (scan : RaggedIsScanne
   is_found source ts s h r = sym (statement_scanned scan arrays h) ∙ (scan.held ts).1 r
 
   not_ragged : (source : List ℕ) (ts : List Lexeme) (s : StatementTree) → SpellsStatement source s ts → (HoldsRagged ts → ⊥) → in_statement s ≡ false
-  not_ragged source ts s h none = by_bool (in_statement s) (λ e. absurd (none (is_held source ts s h e))) (λ e. e)
+  not_ragged source ts s h none = by_test (in_statement s) (λ e. absurd (none (is_held source ts s h e))) (λ e. e)
 
   unread_none : (source : List ℕ) (ts : List Lexeme) → ((s : StatementTree) → read_statement source ts ≡ Some s → ⊥) → (o : Option StatementTree) → read_statement source ts ≡ o → o ≡ None
   unread_none source ts h None e = refl
@@ -90,7 +87,7 @@ module _ (lists : ListsAreRead) (arrays : ListsAreArrays) (scan : RaggedIsScanne
       never e = cc
   ragged_or_found source ts (Some s) d l e =
       let spelled : SpellsStatement source s ts = statement_spelled lists source ts s e in
-      by_bool (in_statement s)
+      by_test (in_statement s)
       (λ g. rw g (record {
         passes = record { not_deep = d; not_large = l };
         statement = s;
@@ -106,8 +103,8 @@ module _ (lists : ListsAreRead) (arrays : ListsAreArrays) (scan : RaggedIsScanne
   -- what the checks say is meant
   checked_means : (source : List ℕ) (ts : List Lexeme) → Means source ts (checked_lexemes source ts)
   checked_means source ts =
-      by_bool (is_too_deep ts) (λ d. rw d d) (λ d.
-      by_bool (has_large ts) (λ l. rw (d, l) (record { not_deep = d; large = l })) (λ l.
+      by_test (is_too_deep ts) (λ d. rw d d) (λ d.
+      by_test (has_large ts) (λ l. rw (d, l) (record { not_deep = d; large = l })) (λ l.
       rw (d, l) (ragged_or_found source ts (read_statement source ts) d l refl)))
 
   pub parsed_means : TokensAreParsed

@@ -9,7 +9,7 @@ use Rattle.pdl_lexemes.specs.declared.WordKind.TheVariants.{OfType}
 use Rattle.pdl_lexemes.specs.contracts.LexemePartialEq.TheImpl as lexeme
 use Rattle.pdl_lexemes.specs.declared.Lexeme.{Lexeme}
 use Rattle.pdl_lexemes.specs.declared.Lexeme.TheVariants.{Word, Quoted, Open, Arrow, Operator}
-use Rattle.pdl_syntax.proofs.Options.{some_inj, none_some, then_elim}
+use Rattle.pdl_lemmas.specs.Options.{some_inj, none_some, then_elim}
 use Rattle.pdl_lexemes.specs.Peeks.{Read, after, method_at, quoted_at, type_at, type_step, word_at}
 use Rattle.pdl_syntax.specs.ExpressionReading.{operator_at, level_between}
 use Rattle.pdl_lexemes.specs.Levels.{level_of}

@@ -11,7 +11,7 @@ use Rattle.pdl_lexemes.specs.declared.Lexeme.TheVariants.{Name, Keyword, Word, N
 use Rattle.pdl_lexemes.specs.Bytes.{bytes_at}
 use Rattle.pdl_lexemes.specs.Lists.{signed}
 use Rattle.pdl_lexemes.specs.ListReading.{list_read}
-use Rattle.pdl_syntax.proofs.Options.{some_inj, none_some, then_elim, map_elim, choose_elim}
+use Rattle.pdl_lemmas.specs.Options.{some_inj, none_some, then_elim, map_elim, choose_elim}
 use Rattle.pdl_lexemes.specs.Laws.{ListsAreRead}
 use Rattle.pdl_lexemes.specs.Peeks.{Read, after, method_at, prefix_at, quoted_at, type_at}
 use Rattle.pdl_syntax.specs.Tree.{Tree, Args, unary, binary, call, none, value, text, of_type}

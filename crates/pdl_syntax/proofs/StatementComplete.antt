@@ -11,9 +11,8 @@ use Rattle.pdl_lexemes.specs.declared.Lexeme.{Lexeme}
 use Rattle.pdl_lexemes.specs.declared.Lexeme.TheVariants.{Name, Keyword, Word, Number, Quoted, Open, Close, Comma, Equals, Arrow, Assign}
 use Rattle.pdl_lexemes.specs.Bytes.{bytes_at}
 use Rattle.pdl_lexemes.specs.Lists.{signed}
-use Rattle.pdl_lexemes.specs.ListReading.{choose}
 use Rattle.pdl_lexemes.specs.Laws.{ListsAreRead}
-use Rattle.pdl_syntax.proofs.Options.{some_inj, then_elim}
+use Rattle.pdl_lemmas.specs.Options.{some_inj, then_elim, choose}
 use Rattle.pdl_lexemes.specs.Peeks.{Read, after, after_keyword, after_reshape, after_label, begins_word, is_brackets, prefix_at, quoted_at, slot_at, view_at}
 use Rattle.pdl_syntax.specs.Tree.{Tree, Args, call, none, value}
 use Rattle.pdl_syntax.specs.Grammar.{Spells, an_expr, a_postfix, called}

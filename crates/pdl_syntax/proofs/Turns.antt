@@ -9,9 +9,6 @@ use Rattle.pdl_lexemes.specs.Peeks.{Read, after, method_at}
 use Rattle.pdl_syntax.specs.Tree.{Tree, Args, binary, call, value, none}
 use Rattle.pdl_syntax.specs.ExpressionReading.{Kind, operator_at, chain_at, methods_at, more_at, maybe_at, arg_at}
 
-pub one_less : (e c : ℕ) → c < e → e - c ≡ suc (e - (c + 1))
-one_less e c h = omega arith
-
 -- what a loop begins with
 pub begun : {A : Type 0} (g : ℕ → List Lexeme → A) (n m : ℕ) (ts us : List Lexeme) → n ≡ m → ts ≡ us → g (n - 0) ts ≡ g m us
 begun g n m ts us same copied = let e : n - 0 ≡ n = omega arith in ap (λ k. g k ts) (e ∙ same) ∙ ap (g m) copied

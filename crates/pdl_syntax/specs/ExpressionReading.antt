@@ -1,5 +1,6 @@
 -- How an expression is read: the one way in which its lexemes spell it, if there is one.
 use Rattle.std.specs.Prelude.{ℕ, zero, suc, ℤ, nat_eq, nat_lt, nat_le, ◌&&◌, List, [], ◌∷◌, length, Option, Some, None, option_map, option_and_then, if◌then◌else◌}
+use Rattle.pdl_lemmas.specs.Options.{choose}
 use Rattle.pdl_elem.specs.declared.BinaryOp.{BinaryOp}
 use Rattle.pdl_lexemes.specs.declared.Span.{Span}
 use Rattle.pdl_lexemes.specs.declared.Keyword.TheVariants.{Pdl}
@@ -7,7 +8,7 @@ use Rattle.pdl_lexemes.specs.declared.Lexeme.{Lexeme}
 use Rattle.pdl_lexemes.specs.declared.Lexeme.TheVariants.{Name, Keyword, Word, Number, Open, Close, Operator, Comma}
 use Rattle.pdl_lexemes.specs.Bytes.{bytes_at}
 use Rattle.pdl_lexemes.specs.Lists.{signed}
-use Rattle.pdl_lexemes.specs.ListReading.{choose, list_read, ReadPart}
+use Rattle.pdl_lexemes.specs.ListReading.{list_read, ReadPart}
 use Rattle.pdl_lexemes.specs.Peeks.{Read, after, prefix_at, method_at, type_at, quoted_at}
 use Rattle.pdl_syntax.specs.Tree.{Tree, Args, number, named, unary, binary, call, none, value, text, of_type}
 use Rattle.pdl_syntax.specs.Grammar.{literal_of}

@@ -1,5 +1,6 @@
 -- How a statement is read: the one way in which its lexemes spell it, if there is one.
 use Rattle.std.specs.Prelude.{ℕ, zero, suc, nat_lt, List, [], ◌∷◌, ◌++◌, length, Bool, true, false, ◌||◌, Option, Some, None, option_map, option_and_then, if◌then◌else◌}
+use Rattle.pdl_lemmas.specs.Options.{choose}
 use Rattle.pdl_lexemes.specs.declared.Span.{Span}
 use Rattle.pdl_lexemes.specs.declared.WordKind.TheVariants.{Pars, Code}
 use Rattle.pdl_lexemes.specs.declared.Keyword.{Keyword as AnyKeyword}
@@ -7,7 +8,6 @@ use Rattle.pdl_lexemes.specs.declared.Keyword.TheVariants.{My, Print, Undef, Var
 use Rattle.pdl_lexemes.specs.declared.Lexeme.{Lexeme}
 use Rattle.pdl_lexemes.specs.declared.Lexeme.TheVariants.{Name, Keyword, Open, Close, Equals, Comma}
 use Rattle.pdl_lexemes.specs.Bytes.{bytes_at}
-use Rattle.pdl_lexemes.specs.ListReading.{choose}
 use Rattle.pdl_lexemes.specs.Peeks.{Read, after, after_keyword, after_reshape, after_names, after_label, prefix_at, quoted_at, name_at, view_at, assign_at, slot_at, is_brackets, begins_word}
 use Rattle.pdl_syntax.specs.Tree.{Tree, none}
 use Rattle.pdl_syntax.specs.ExpressionReading.{Kind, expression, maybe_at, closed_at, primary_at, methods_at, postfix_at, grown_at, reader}

@@ -7,6 +7,7 @@ use Rattle.std.proofs.lemmas.Bool.Decides.{eqb_tells}
 use Rattle.std.proofs.lemmas.Int.{ints}
 use Rattle.std.proofs.lemmas.List.{get_or-map}
 use Rattle.std.proofs.lemmas.List.FromFn.{length-map-range_with_len, get_or-map-range_with_len}
+use Rattle.pdl_lemmas.specs.Numbers.{pos-lt}
 use Rattle.pdl_shape.specs.Laws.{PositionLaws, SizeLaws, WholesAreInOrder, WholesAreTriples}
 use Rattle.pdl_shape.specs.Places.{place_in, places_of}
 use Rattle.pdl_shape.specs.Refusals.{Refusal}
@@ -74,9 +75,6 @@ older k d w v x b n s =
     let m : k ≡ x.base → ⊥ = λ e. absurd (omega (arith, low, e)) in
     rw (look_older k d w v n, look_older k d w x.base m, window_older k d w x.base m) s
 
-below : (a n : ℕ) → a < n → pos a <ℤ pos n
-below a n h = omega (arith, ints)
-
 -- an array over itself
 own_array : Facts → (v : ℕ) (l : Look) → IsDims l.dims → ShownAs v (record { base = v; triple = whole_triple l.dims }) (Some l) (Some l) (Some (record { base = v; triple = whole_triple l.dims }))
 own_array f v l d = record {
@@ -84,7 +82,7 @@ own_array f v l d = record {
   own_is = refl;
   dims_are = refl;
   is_triple = f.triples l.dims d;
-  reaches = λ cs h. rw (f.wholes l.dims cs h) (below (position_of l.dims cs) (size_of l.dims) (f.positions.position_below l.dims cs h));
+  reaches = λ cs h. rw (f.wholes l.dims cs h) (pos-lt (position_of l.dims cs) (size_of l.dims) (f.positions.position_below l.dims cs h));
   places = λ cs i h e. (let same : pos (position_of l.dims cs) ≡ pos i = sym (f.wholes l.dims cs h) ∙ e in
       let z : position_of l.dims cs ≡ i = cc in ap (entry l.places) z);
 }

@@ -3,7 +3,7 @@ use Rattle.std.proofs.Common.{◌≡◌, ℕ, ℤ, suc, ◌<◌, ◌≤◌, ◌+
 use Rattle.std.specs.Prelude.{nat_eq}
 use Rattle.std.specs.Option.{option_map_or}
 use Rattle.std.specs.Cmp.Lexicographic.{same_text, pointwise}
-use Rattle.std.proofs.lemmas.Bool.{cases_Bool}
+use Rattle.std.proofs.lemmas.Bool.{cases_Bool, and_parts}
 use Rattle.std.proofs.lemmas.Bool.Decides.{nat_tests}
 use Rattle.std.proofs.lemmas.List.{length-map}
 use Rattle.std.proofs.lemmas.List.FromFn.{length-map-range_with_len}
@@ -61,16 +61,12 @@ ranged : (o : Option Refusal) (at : Option ℕ) (es ds : List ℕ) → option_ma
 ranged (Some e) at es ds h = cc
 ranged None at es ds h = inside at es ds h
 
-both : (a b : Bool) → (a && b) ≡ true → (a ≡ true) × (b ≡ true)
-both true b h = (refl, h)
-both false b h = cc
-
 -- places that rise below n are at most n
 rising : (a n : ℕ) (ps : List ℕ) → rises a n ps ≡ true → length ps ≤ n - a
 rising a n [] h = omega arith
 rising a n (p ∷ ps) h =
-    let one = both (nat_le a p && nat_lt p n) (rises (p + 1) n ps) h in
-    let two = both (nat_le a p) (nat_lt p n) one.0 in
+    let one = and_parts (nat_le a p && nat_lt p n) (rises (p + 1) n ps) h in
+    let two = and_parts (nat_le a p) (nat_lt p n) one.0 in
     next (length ps) (low two.0) (high two.1) (rising (p + 1) n ps one.1) where
       low : nat_le a p ≡ true → a ≤ p
       low e = grind (arith, nat_tests)

@@ -1,7 +1,7 @@
 -- The laws of cuts and of other dimensions.
 use Rattle.std.proofs.Common.{◌≡◌, ◌≢◌, ℕ, ℤ, pos, ◌<◌, Bool, true, false, ◌||◌, ◌⊎◌, inl, inr, List, [], ◌∷◌, length, get_or, All, Option, Some, None, IsSomeAnd, refl, sym, ◌∙◌, ap, subst, arith}
 use Rattle.std.specs.Option.{option_map_or}
-use Rattle.std.proofs.lemmas.Bool.{cases_eq, cases_lt, eq-eqb}
+use Rattle.std.proofs.lemmas.Bool.{cases_eq, cases_lt, eq-eqb, or_right, or_left, or_cases, both_ways}
 use Rattle.std.proofs.lemmas.Bool.Decides.{eqb_tells}
 use Rattle.std.proofs.lemmas.Int.{ints}
 use Rattle.std.proofs.lemmas.List.{length-map, get_or_past}
@@ -116,15 +116,12 @@ cuts_are_roots = λ w v l s h.
     subst P (sym (severed w v l h)) (record { look_is = y.look_is; path_is = y.path_is })
 
 -- other arrays
-clash : (b : Bool) → b ≡ true → b ≡ false → ⊥
-clash b t f = cc
-
 as_before : (w : World) (u : ℕ) → IsSeenAsBefore w w u
 as_before w u = record { look_is = refl; elems_are = refl; path_is = refl }
 
 others_by : (w : World) (v u : ℕ) (l : Look) → After w (cut_of w v l) v u l → holds (path w u) v ≡ false → IsSeenAsBefore w (cut_of w v l) u
 others_by w v u l (inl a) h = seen_as_before w (cut_of w v l) u a.0
-others_by w v u l (inr a) h = absurd (clash (holds (path w u) v) a.0 h)
+others_by w v u l (inr a) h = absurd (both_ways (holds (path w u) v) h a.0)
 
 others_cases : (w : World) (v u : ℕ) (o : Option Look) → look w v ≡ o → IsSound w → holds (path w u) v ≡ false → IsSeenAsBefore w (sever w v) u
 others_cases w v u None e s h = (let P : World → Type 0 = λ x. IsSeenAsBefore w x u in
@@ -149,7 +146,7 @@ pub cuts_leave_families : CutsLeaveFamilies
 cuts_leave_families = λ w v u s h. families_cases w v u (look w v) refl s h
 
 views_by : (w : World) (v u : ℕ) (l : Look) → After w (cut_of w v l) v u l → holds (path w u) v ≡ true → IsViewOfCut w (cut_of w v l) v u l
-views_by w v u l (inl a) h = absurd (clash (holds (path w u) v) h a.1)
+views_by w v u l (inl a) h = absurd (both_ways (holds (path w u) v) a.1 h)
 views_by w v u l (inr a) h = a.1
 
 pub cuts_take_their_views : CutsTakeTheirViews
@@ -266,26 +263,14 @@ reshapes_leave_numbers = λ w v ds s n. record {
 }
 
 -- the parent of a view
-found_later : (a b : Bool) → b ≡ true → (a || b) ≡ true
-found_later true b h = refl
-found_later false b h = h
-
-found_first : (a b : Bool) → a ≡ true → (a || b) ≡ true
-found_first true b h = refl
-found_first false b h = cc
-
 is_parent : (d : ArrayDef) (v : ℕ) (t : Trans) → d ≡ view v t → holds (parents d) v ≡ true
 is_parent d v t e = (let P : ArrayDef → Type 0 = λ x. holds (parents x) v ≡ true in
     let here : P (view v t) = rw (eq-eqb v v refl) refl in subst P (sym e) here)
 
 views_found : (w : World) (v u : ℕ) (t : Trans) → Has w u (view v t) → has_views w v ≡ true
 views_found [] v u t h = absurd h
-views_found ((k, d) ∷ w) v u t (inl y) = found_first (holds (parents d) v) (has_views w v) (is_parent d v t y.1)
-views_found ((k, d) ∷ w) v u t (inr y) = found_later (holds (parents d) v) (has_views w v) (views_found w v u t y)
-
-either_way : (a b : Bool) → (a || b) ≡ true → (a ≡ true) ⊎ (b ≡ true)
-either_way true b h = inl refl
-either_way false b h = inr h
+views_found ((k, d) ∷ w) v u t (inl y) = or_left (holds (parents d) v) (has_views w v) (is_parent d v t y.1)
+views_found ((k, d) ∷ w) v u t (inr y) = or_right (holds (parents d) v) (has_views w v) (views_found w v u t y)
 
 parent_is : (d : ArrayDef) (v : ℕ) → holds (parents d) v ≡ true → (t : Trans) × (d ≡ view v t)
 parent_is (root ty ds es) v h = cc
@@ -296,7 +281,7 @@ parent_is (view p t) v h = elim (eqb_tells p v) [
 
 views_there : (w : World) (v : ℕ) → has_views w v ≡ true → (u : ℕ) × (t : Trans) × Has w u (view v t)
 views_there [] v h = cc
-views_there ((k, d) ∷ w) v h = elim (either_way (holds (parents d) v) (has_views w v) h) [
+views_there ((k, d) ∷ w) v h = elim (or_cases (holds (parents d) v) (has_views w v) h) [
   | inl y ↦ (let q = parent_is d v y in (k, q.0, inl (refl, q.1)))
   | inr y ↦ (let q = views_there w v y in (q.0, q.1, inr q.2))
 ]

@@ -1,6 +1,6 @@
 -- What a sweep keeps, and how that is seen.
 use Rattle.std.proofs.Common.{◌≡◌, ℕ, ◌<◌, ◌+◌, Bool, true, false, if◌then◌else◌, inl, inr, List, [], ◌∷◌, ◌++◌, refl, sym, ◌∙◌, ap, subst, arith}
-use Rattle.std.proofs.lemmas.Bool.{cases_eq, eq-eqb}
+use Rattle.std.proofs.lemmas.Bool.{cases_eq, eq-eqb, both_ways}
 use Rattle.std.proofs.lemmas.Bool.Decides.{eqb_tells}
 use Rattle.pdl_world.specs.declared.Trans.{Trans}
 use Rattle.pdl_world.specs.Sound.{NumbersBelow, IsAllowed, IsSound, IsLive}
@@ -14,9 +14,6 @@ use Rattle.pdl_world.proofs.Stays.{Stays, stays_under, stays_without, newest_sta
 -- what the arrays behind one are held by, where it is kept or not
 abbrev held_behind : Bool → ArrayDef → List ℕ → List ℕ
 held_behind keeps d held = if keeps then parents d ++ held else held
-
-clash : (b : Bool) → b ≡ true → b ≡ false → ⊥
-clash b t f = cc
 
 more_held : (d : ArrayDef) (held : List ℕ) (k : ℕ) → holds held k ≡ true → holds (parents d ++ held) k ≡ true
 more_held (root ty ds es) held k h = h
@@ -85,7 +82,7 @@ held_are_kept ((j, e) ∷ w) held k d there h = by_keeps (λ hs i q. held_are_ke
         → Has (kept_onto keeps (j, e) (sweep w (held_behind keeps e held))) k d
     by_keeps rest true is (inl same) = inl same
     by_keeps rest true is (inr i) = inr (rest (parents e ++ held) i (more_held e held k h))
-    by_keeps rest false is (inl same) = absurd (clash (holds held j) (ap (holds held) same.0 ∙ h) is)
+    by_keeps rest false is (inl same) = absurd (both_ways (holds held j) is (ap (holds held) same.0 ∙ h))
     by_keeps rest false is (inr i) = rest held i h
 
 has_below : (w : World) (n k : ℕ) (d : ArrayDef) → NumbersBelow n w → Has w k d → k < n
@@ -118,7 +115,7 @@ reached_behind : (w : World) (held : List ℕ) (j : ℕ) (e : ArrayDef) → IsSo
 reached_behind w held j e s true is v (held_itself v' h) n = held_itself v' (more_held e held v' h)
 reached_behind w held j e s false is v (held_itself v' h) n = held_itself v' h
 reached_behind w held j e s true is v (parent_of k v' t (inl same) r) n = held_itself v' (parent_held e v' t held same.1)
-reached_behind w held j e s false is v (parent_of k v' t (inl same) r) n = absurd (clash (holds held j) (newest_held w held j e s k r same.0) is)
+reached_behind w held j e s false is v (parent_of k v' t (inl same) r) n = absurd (both_ways (holds held j) is (newest_held w held j e s k r same.0))
 reached_behind w held j e s keeps is v (parent_of k v' t (inr i) r) n =
     let low : k < j = has_below w j k (view v' t) s.0 i in
     parent_of k v' t i (reached_behind w held j e s keeps is k r (omega arith))
@@ -133,7 +130,7 @@ reached_are_kept ((j, e) ∷ w) held k d s there r = by_keeps (λ hs i q. reache
     by_keeps rest true is (inr i) =
         let low : k < j = has_below w j k d s.0 i in
         inr (rest (parents e ++ held) i (reached_behind w held j e s true is k r (omega arith)))
-    by_keeps rest false is (inl same) = absurd (clash (holds held j) (newest_held w held j e s k r same.0) is)
+    by_keeps rest false is (inl same) = absurd (both_ways (holds held j) is (newest_held w held j e s k r same.0))
     by_keeps rest false is (inr i) =
         let low : k < j = has_below w j k d s.0 i in
         rest held i (reached_behind w held j e s false is k r (omega arith))
@@ -158,7 +155,7 @@ stays ((j, e) ∷ w) held v s r = by_keeps (λ hs u q. stays w hs u s.2 q) (hold
       | inr n ↦ stays_under w (sweep w (parents e ++ held)) j e v s.0 n (rest (parents e ++ held) v (reached_behind w held j e s true is v r n))
     ]
     by_keeps rest false is = elim (cases_eq j v) [
-      | inl same ↦ absurd (clash (holds held j) (newest_held w held j e s v r same) is)
+      | inl same ↦ absurd (both_ways (holds held j) is (newest_held w held j e s v r same))
       | inr n ↦ stays_without w (sweep w held) j e v s.0 n (rest held v (reached_behind w held j e s false is v r n))
     ]
 

@@ -1,14 +1,15 @@
 use Rattle.std.proofs.Common.{rules, arith, SFits, w64, ◌+◌, get_or, pos, to_z-of_z}
-use Rattle.pdl_choice.proofs.Striding.{placing_more, placing_ended, stride_below, stride_more, stride_fits}
+use Rattle.pdl_lemmas.specs.Numbers.{row_place_below}
+use Rattle.pdl_choice.proofs.Striding.{placing_more, placing_ended, stride_more, stride_fits}
 use Rattle.pdl_choice.proofs.windows.corner_place.Goals as goal
 
 pub overflow_mul-place : goal.overflow_mul-place
 overflow_mul-place c =
-    omega (arith, stride_below c.loop-number.place c.loop-number.stride c.in_ok-place.field-0 _ c.loop-number.invariant.below c.in_ok-place.ensures.bound, stride_fits c.shape_laws.ensures.sizes (c.loop-number.number + 1) _ c.args.parent.now c.requires.bounded (stride_more c.loop-number.number c.loop-number.stride c.args.parent.now (omega arith) c.loop-number.invariant.stride_is))
+    omega (arith, row_place_below c.loop-number.stride _ c.loop-number.place c.in_ok-place.field-0 c.loop-number.invariant.below c.in_ok-place.ensures.bound, stride_fits c.shape_laws.ensures.sizes (c.loop-number.number + 1) _ c.args.parent.now c.requires.bounded (stride_more c.loop-number.number c.loop-number.stride c.args.parent.now (omega arith) c.loop-number.invariant.stride_is))
 
 pub overflow_add-place : goal.overflow_add-place
 overflow_add-place c =
-    omega (arith, stride_below c.loop-number.place c.loop-number.stride c.in_ok-place.field-0 _ c.loop-number.invariant.below c.in_ok-place.ensures.bound, stride_fits c.shape_laws.ensures.sizes (c.loop-number.number + 1) _ c.args.parent.now c.requires.bounded (stride_more c.loop-number.number c.loop-number.stride c.args.parent.now (omega arith) c.loop-number.invariant.stride_is))
+    omega (arith, row_place_below c.loop-number.stride _ c.loop-number.place c.in_ok-place.field-0 c.loop-number.invariant.below c.in_ok-place.ensures.bound, stride_fits c.shape_laws.ensures.sizes (c.loop-number.number + 1) _ c.args.parent.now c.requires.bounded (stride_more c.loop-number.number c.loop-number.stride c.args.parent.now (omega arith) c.loop-number.invariant.stride_is))
 
 pub overflow_mul-stride : goal.overflow_mul-stride
 overflow_mul-stride c =

@@ -1,4 +1,6 @@
-use Rattle.std.proofs.Common.{◌≡◌, ◌+◌, ◌≤◌, ◌∙◌, ap, subst, arith}
+use Rattle.std.proofs.Common.{◌≡◌, ◌+◌, ◌≤◌, ◌∙◌, ap, subst, arith, ℕ, Option}
+use Rattle.pdl_engine.specs.Loose.{IsListed}
+use Rattle.pdl_lemmas.specs.Results.{on_err}
 use Rattle.pdl_shape.specs.Shape.{size_of}
 use Rattle.pdl_buf.specs.Buffer.{TypedElements}
 use Rattle.pdl_world.specs.Cut.{fitted}
@@ -8,7 +10,6 @@ use Rattle.pdl_nodes.specs.Outcomes.{waiting_of, waiting_size}
 use Rattle.pdl_nodes.specs.Reshaped.{CanReshape}
 use Rattle.pdl_nodes.specs.Worlds.{world_of}
 use Rattle.pdl_engine.proofs.Readied.{ready_then, IsFreshly, others_on, settled_on, only_ready, freshly, ready_steps, ready_fresh}
-use Rattle.pdl_engine.proofs.Results.{on_err}
 use Rattle.pdl_engine.proofs.Shaping.{ShapeFacts, can_reshape, was_reshaped, reshaped_world, reshaped_fresh, reshaped_settled, reshape_steps}
 use Rattle.pdl_engine.proofs.severing.reshape.Goals as goal
 
@@ -17,7 +18,7 @@ returns-in_err-refresh-clause-reshaped g c = only_ready c.row_laws.ensures c.arg
     (others_on c.args.table.now c.settle.new.table c.refresh.new.table c.args.id c.settle.ensures.settled c.refresh.ensures.kept)
 
 pub returns-in_err-refresh-clause-stay : goal.returns-in_err-refresh-clause-stay
-returns-in_err-refresh-clause-stay g c = on_err c.from_residual.result _ (ready_fresh c.args.table.now c.refresh.new.table (ready_then c.row_laws.ensures c.args.table.now c.settle.new.table c.refresh.new.table c.settle.ensures.settled.ready c.refresh.ensures.kept))
+returns-in_err-refresh-clause-stay g c = on_err c.from_residual.result (ready_fresh c.args.table.now c.refresh.new.table (ready_then c.row_laws.ensures c.args.table.now c.settle.new.table c.refresh.new.table c.settle.ensures.settled.ready c.refresh.ensures.kept))
 
 pub returns-in_err-refresh-clause-counted : goal.returns-in_err-refresh-clause-counted
 returns-in_err-refresh-clause-counted g c =
@@ -33,7 +34,7 @@ returns-in_err-kept-clause-reshaped g c = only_ready c.row_laws.ensures c.args.t
     (others_on c.args.table.now c.settle.new.table c.refresh.new.table c.args.id c.settle.ensures.settled c.refresh.ensures.kept)
 
 pub returns-in_err-kept-clause-stay : goal.returns-in_err-kept-clause-stay
-returns-in_err-kept-clause-stay g c = on_err c.from_residual-in_err-kept.result _ (ready_fresh c.args.table.now c.refresh.new.table (ready_then c.row_laws.ensures c.args.table.now c.settle.new.table c.refresh.new.table c.settle.ensures.settled.ready c.refresh.ensures.kept))
+returns-in_err-kept-clause-stay g c = on_err c.from_residual-in_err-kept.result (ready_fresh c.args.table.now c.refresh.new.table (ready_then c.row_laws.ensures c.args.table.now c.settle.new.table c.refresh.new.table c.settle.ensures.settled.ready c.refresh.ensures.kept))
 
 pub returns-in_err-kept-clause-counted : goal.returns-in_err-kept-clause-counted
 returns-in_err-kept-clause-counted g c =
@@ -87,3 +88,21 @@ returns-clause-settled g c =
 
 pub returns-clause-parent : goal.returns-clause-parent
 returns-clause-parent g c = λ p e. c.in_ok-kept.ensures.parent p (c.refresh.ensures.kept.alike.parent_is c.args.id ∙ c.settle.ensures.settled.ready.alike.parent_is c.args.id ∙ e)
+
+pub refresh-requires-clause-live : goal.refresh-requires-clause-live
+refresh-requires-clause-live g c = c.settle.ensures.settled.ready.alike.has_is c.args.id ∙ c.requires.live
+
+pub first_copied-requires-clause-live : goal.first_copied-requires-clause-live
+first_copied-requires-clause-live g c = c.refresh.ensures.kept.alike.has_is c.args.id ∙ c.settle.ensures.settled.ready.alike.has_is c.args.id ∙ c.requires.live
+
+pub become_root-requires-clause-live : goal.become_root-requires-clause-live
+become_root-requires-clause-live g c = c.refresh.ensures.kept.alike.has_is c.args.id ∙ c.settle.ensures.settled.ready.alike.has_is c.args.id ∙ c.requires.live
+
+pub first_copied-requires-clause-order : goal.first_copied-requires-clause-order
+first_copied-requires-clause-order g c = c.refresh.ensures.kept.order
+
+pub returns-clause-listed : goal.returns-clause-listed
+returns-clause-listed g c = subst (λ (o : Option ℕ). IsListed c.args.loose.now.items c.first_copied.new.loose.items o) (c.refresh.ensures.kept.alike.parent_is c.args.id ∙ c.settle.ensures.settled.ready.alike.parent_is c.args.id) c.first_copied.ensures.listed
+
+pub returns-in_err-kept-clause-listed : goal.returns-in_err-kept-clause-listed
+returns-in_err-kept-clause-listed g c = subst (λ (o : Option ℕ). IsListed c.args.loose.now.items c.first_copied.new.loose.items o) (c.refresh.ensures.kept.alike.parent_is c.args.id ∙ c.settle.ensures.settled.ready.alike.parent_is c.args.id) c.first_copied.ensures.listed

@@ -1,4 +1,5 @@
 use Rattle.std.proofs.Common.{◌≡◌, ◌+◌, ◌≤◌, sym, ◌∙◌, ap, subst, arith, ℕ, Option}
+use Rattle.pdl_lemmas.specs.Results.{on_err}
 use Rattle.pdl_shape.specs.Shape.{size_of}
 use Rattle.pdl_shape.specs.Triple.{Triple}
 use Rattle.pdl_buf.specs.Buffer.{TypedElements}
@@ -8,9 +9,8 @@ use Rattle.pdl_nodes.specs.Outcomes.{waiting_of, waiting_size}
 use Rattle.pdl_pull.specs.Outdated.{outdated}
 use Rattle.pdl_nodes.specs.Row.{Row}
 use Rattle.pdl_nodes.specs.Worlds.{world_of}
-use Rattle.pdl_engine.specs.Loose.{ListsParent}
+use Rattle.pdl_engine.specs.Loose.{ListsParent, IsListed}
 use Rattle.pdl_engine.proofs.Readied.{ready_then, IsFreshly, others_on, settled_on, only_ready, freshly, ready_steps, below_ready, ready_fresh}
-use Rattle.pdl_engine.proofs.Results.{on_err}
 use Rattle.pdl_engine.proofs.Severs.{CutFacts, first_all, root_uncut, cut_settled, all_steps, cut_fresh, can_cut, was_cut, cut_world}
 use Rattle.pdl_engine.proofs.severing.sever.Goals as goal
 
@@ -92,10 +92,10 @@ returns-clause-counted g c =
     (ready_steps c.row_laws.ensures c.args.table.now c.settle.new.table c.args.id c.settle.new.steps c.refresh.new.steps c.args.steps.now c.settle.ensures.settled c.settle.ensures.counted c.refresh.ensures.counted) (subst (λ n. c.first_copied.new.steps ≤ c.refresh.new.steps + n) (c.elements_of-count.ensures.count ∙ ap size_of (c.copy_dims-dims.ensures ∙ ap (λ (t : Triple). t.dims) (c.behind-node.view_is ∙ c.triple.ensures ∙ ap (λ (r : Row). r.triple) c.node-2.ensures))) c.first_copied.ensures.counted)
 
 pub returns-in_err-refresh-clause-stay : goal.returns-in_err-refresh-clause-stay
-returns-in_err-refresh-clause-stay g c = on_err c.from_residual.result _ (ready_fresh c.args.table.now c.refresh.new.table (ready_then c.row_laws.ensures c.args.table.now c.settle.new.table c.refresh.new.table c.settle.ensures.settled.ready c.refresh.ensures.kept))
+returns-in_err-refresh-clause-stay g c = on_err c.from_residual.result (ready_fresh c.args.table.now c.refresh.new.table (ready_then c.row_laws.ensures c.args.table.now c.settle.new.table c.refresh.new.table c.settle.ensures.settled.ready c.refresh.ensures.kept))
 
 pub returns-in_err-kept-clause-stay : goal.returns-in_err-kept-clause-stay
-returns-in_err-kept-clause-stay g c = on_err c.from_residual-in_err-kept.result _ (ready_fresh c.args.table.now c.refresh.new.table (ready_then c.row_laws.ensures c.args.table.now c.settle.new.table c.refresh.new.table c.settle.ensures.settled.ready c.refresh.ensures.kept))
+returns-in_err-kept-clause-stay g c = on_err c.from_residual-in_err-kept.result (ready_fresh c.args.table.now c.refresh.new.table (ready_then c.row_laws.ensures c.args.table.now c.settle.new.table c.refresh.new.table c.settle.ensures.settled.ready c.refresh.ensures.kept))
 
 pub returns-clause-fresh : goal.returns-clause-fresh
 returns-clause-fresh g c = λ n.
@@ -146,3 +146,18 @@ returns-then-root-id-clause-settled g c = λ n. absurd (n (ap (λ (r : Row). r.r
 
 pub returns-clause-parent : goal.returns-clause-parent
 returns-clause-parent g c = λ n. subst (λ (o : Option ℕ). ListsParent c.first_copied.new.loose.items o) (c.refresh.ensures.kept.alike.parent_is c.args.id ∙ c.settle.ensures.settled.ready.alike.parent_is c.args.id) c.in_ok-kept.ensures.parent
+
+pub refresh-requires-clause-live : goal.refresh-requires-clause-live
+refresh-requires-clause-live g c = c.settle.ensures.settled.ready.alike.has_is c.args.id ∙ c.requires.live
+
+pub first_copied-requires-clause-live : goal.first_copied-requires-clause-live
+first_copied-requires-clause-live g c = c.refresh.ensures.kept.alike.has_is c.args.id ∙ c.settle.ensures.settled.ready.alike.has_is c.args.id ∙ c.requires.live
+
+pub first_copied-requires-clause-order : goal.first_copied-requires-clause-order
+first_copied-requires-clause-order g c = c.refresh.ensures.kept.order
+
+pub returns-clause-listed : goal.returns-clause-listed
+returns-clause-listed g c = subst (λ (o : Option ℕ). IsListed c.args.loose.now.items c.first_copied.new.loose.items o) (c.refresh.ensures.kept.alike.parent_is c.args.id ∙ c.settle.ensures.settled.ready.alike.parent_is c.args.id) c.first_copied.ensures.listed
+
+pub returns-in_err-kept-clause-listed : goal.returns-in_err-kept-clause-listed
+returns-in_err-kept-clause-listed g c = subst (λ (o : Option ℕ). IsListed c.args.loose.now.items c.first_copied.new.loose.items o) (c.refresh.ensures.kept.alike.parent_is c.args.id ∙ c.settle.ensures.settled.ready.alike.parent_is c.args.id) c.first_copied.ensures.listed

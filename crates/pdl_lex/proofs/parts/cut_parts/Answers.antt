@@ -12,12 +12,6 @@ bytes_more xs f i d h =
     ap (flat_map f) (take_more xs i d h) ∙ flat_map-append f (take i xs) (get_or xs i d ∷ [])
     ∙ ap (λ t. flat_map f (take i xs) ++ t) (append-nil (f (get_or xs i d)))
 
-count_more : {B : Type 0} (xs : List B) (f : B → ℕ) (i : ℕ) (d : B) → i < length xs → sum_by f (take (i + 1) xs) ≡ sum_by f (take i xs) + f (get_or xs i d)
-count_more xs f i d h = sum_by_more f xs i d h
-
-count_within : {B : Type 0} (xs : List B) (f : B → ℕ) (i : ℕ) (d : B) → i < length xs → sum_by f (take i xs) + f (get_or xs i d) ≤ sum_by f xs
-count_within xs f i d h = sum_by_more_le f xs i d h
-
 pub loop-part-init : goal.loop-part-init
 loop-part-init c =
     record {
@@ -32,7 +26,7 @@ cut_part-requires-clause-room c =
       arith,
       c.requires,
       c.loop-part.invariant.count,
-      count_within c.args.parts.now (λ part. length part.now) c.loop-part.part-index (record { ref_ptr = (0, 0); now = [] }) c.loop-part-test.true,
+      sum_by_more_le (λ part. length part.now) c.args.parts.now c.loop-part.part-index (record { ref_ptr = (0, 0); now = [] }) c.loop-part-test.true,
     )
 
 pub loop-part-preserved : goal.loop-part-preserved
@@ -48,7 +42,7 @@ loop-part-preserved c =
       works = c.in_ok-cut_part.ensures.works;
       count =
           c.in_ok-cut_part.ensures.count ∙ ap (λ (n : ℕ). n + length part) c.loop-part.invariant.count
-          ∙ sym (count_more c.args.parts.now (λ part. length part.now) i (record { ref_ptr = (0, 0); now = [] }) c.loop-part-test.true);
+          ∙ sym (sum_by_more (λ part. length part.now) c.args.parts.now i (record { ref_ptr = (0, 0); now = [] }) c.loop-part-test.true);
     }
 
 pub returns : goal.returns

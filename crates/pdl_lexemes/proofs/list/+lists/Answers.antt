@@ -1,7 +1,8 @@
 use Rattle.std.proofs.Common.{◌∙◌, ◌-◌, ◌+◌, sym, ap, arith, add-one}
+use Rattle.pdl_lemmas.specs.Numbers.{one_less}
 use Rattle.pdl_lexemes.specs.ListReading.{read_part, list_reader, items_at}
 use Rattle.pdl_lexemes.specs.Lists.{shared}
-use Rattle.pdl_lexemes.proofs.ListTurns.{one_less, items_turn}
+use Rattle.pdl_lexemes.proofs.ListTurns.{items_turn}
 use Rattle.pdl_lexemes.proofs.list.+lists.Goals as goal
 
 pub items-loop-preserved : goal.items-loop-preserved

@@ -1,11 +1,12 @@
 -- One block more is changed, and all are at the end.
 use Rattle.std.proofs.Common.{◌≡◌, ℕ, ◌<◌, ℤ, List, length, length-append, take, drop, map, All, arith, ap, ap₂, sym, subst, ◌∙◌}
+use Rattle.pdl_lemmas.specs.Lists.{take_written}
 use Rattle.pdl_buf.specs.Buffer.{TypedElements}
 use Rattle.pdl_elem.specs.declared.Ty.{Ty}
 use Rattle.pdl_elem.specs.Types.{InRange}
 use Rattle.pdl_shape.specs.Shape.{size_of}
 use Rattle.pdl_ops.specs.Changes.{changed, changed_type}
-use Rattle.pdl_ops.proofs.Parts.{changed_all, changed_more, written}
+use Rattle.pdl_ops.proofs.Parts.{changed_all, changed_more}
 use Rattle.pdl_ops.proofs.changes.changed_elements.Goals as goal
 
 pub loop-done-preserved : goal.loop-done-preserved
@@ -15,9 +16,9 @@ loop-done-preserved c =
     let n : ℕ = c.len-done.result in
     let es : List ℤ = c.args.a.now.elems in
     let read_length : length c.strided_read.new.into ≡ b = omega arith in
-    let read : c.deref_mut-in-loop-done.result.now ≡ c.strided_read.new.into = c.deref_mut-in-loop-done.ensures.value ∙ written _ _ _ read_length in
+    let read : c.deref_mut-in-loop-done.result.now ≡ c.strided_read.new.into = c.deref_mut-in-loop-done.ensures.value ∙ take_written _ _ _ read_length in
     let changed_length : length c.change_block.new.numbers ≡ b = omega arith in
-    let block : c.deref.result.now ≡ c.change_block.new.numbers = c.deref.ensures.value ∙ written _ _ _ changed_length in
+    let block : c.deref.result.now ≡ c.change_block.new.numbers = c.deref.ensures.value ∙ take_written _ _ _ changed_length in
     let size : length c.deref_mut.result.now ≡ n = omega arith in
     let numbers : c.deref_mut-in-loop-done.result.now ≡ take n (drop k es) = read ∙ c.strided_read.ensures.value ∙ ap (λ (m : ℕ). take m (drop k es)) size in
     let e : c.deref.result.now ≡ map (changed c.args.change c.args.a.now.ty) (take n (drop k es)) =
@@ -41,14 +42,14 @@ strided_read-requires c =
 pub change_block-requires : goal.change_block-requires
 change_block-requires c =
     let read_length : length c.strided_read.new.into ≡ c.truncate.new.self.len = omega arith in
-    let read : c.deref_mut-in-loop-done.result.now ≡ c.strided_read.new.into = c.deref_mut-in-loop-done.ensures.value ∙ written _ _ _ read_length in
+    let read : c.deref_mut-in-loop-done.result.now ≡ c.strided_read.new.into = c.deref_mut-in-loop-done.ensures.value ∙ take_written _ _ _ read_length in
     subst (λ (ty : Ty). All (InRange ty) c.deref_mut-in-loop-done.result.now) (sym c.strided_type.ensures)
     (subst (All (InRange c.args.a.now.ty)) (sym read) c.strided_read.ensures.in_range)
 
 pub extend-requires : goal.extend-requires
 extend-requires c =
     let changed_length : length c.change_block.new.numbers ≡ c.truncate.new.self.len = omega arith in
-    let block : c.deref.result.now ≡ c.change_block.new.numbers = c.deref.ensures.value ∙ written _ _ _ changed_length in
+    let block : c.deref.result.now ≡ c.change_block.new.numbers = c.deref.ensures.value ∙ take_written _ _ _ changed_length in
     subst (λ (ty : Ty). All (InRange ty) c.deref.result.now) (sym c.loop-done.invariant.ty)
     (subst (All (InRange (changed_type c.args.change c.args.a.now.ty))) (sym block)
     (subst (λ (ty : Ty). All (InRange (changed_type c.args.change ty)) c.change_block.new.numbers) c.strided_type.ensures c.change_block.ensures.in_range))

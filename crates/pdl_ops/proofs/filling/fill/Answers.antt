@@ -3,6 +3,7 @@ use Rattle.std.proofs.Common.{◌≡◌, ℕ, ◌+◌, ◌<◌, ◌≤◌, ℤ, 
 use Rattle.std.proofs.lemmas.List.{length-map}
 use Rattle.std.proofs.lemmas.List.FromFn.{length-map-range_with_len}
 use Rattle.std.specs.List.{range_with_len}
+use Rattle.pdl_lemmas.specs.Lists.{take_written}
 use Rattle.pdl_buf.specs.Buffer.{TypedElements}
 use Rattle.pdl_elem.specs.Numbers.{wrapped}
 use Rattle.pdl_elem.specs.Types.{InRange}
@@ -12,7 +13,7 @@ use Rattle.pdl_shape.specs.Shape.{size_of}
 use Rattle.pdl_ops.specs.Fills.{fill_element}
 use Rattle.pdl_ops.specs.declared.fills.Fill.{Fill}
 use Rattle.pdl_ops.proofs.Lists.{map_twice, part_of_range}
-use Rattle.pdl_ops.proofs.Parts.{changed_all, changed_more, written}
+use Rattle.pdl_ops.proofs.Parts.{changed_all, changed_more}
 use Rattle.pdl_ops.proofs.Results.{made_same}
 use Rattle.pdl_ops.proofs.filling.fill.Goals as goal
 
@@ -38,9 +39,9 @@ loop-done-preserved c =
     let filled : c.fill_block.new.into ≡ take n (drop k xs) =
     c.fill_block.ensures.value ∙ ap (λ (m : ℕ). map (λ (i : ℕ). pos (fill_element c.args.kind ds (k + i))) (range_with_len 0 m)) size
     ∙ part_of_range (λ p. pos (fill_element c.args.kind ds p)) (size_of ds) k n inside in
-    let numbers : c.deref_mut-in-loop-done.result.now ≡ take n (drop k xs) = c.deref_mut-in-loop-done.ensures.value ∙ written _ _ _ filled_length ∙ filled in
+    let numbers : c.deref_mut-in-loop-done.result.now ≡ take n (drop k xs) = c.deref_mut-in-loop-done.ensures.value ∙ take_written _ _ _ filled_length ∙ filled in
     let wrapped_length : length c.rewrap.new.numbers ≡ b = omega arith in
-    let block : c.deref.result.now ≡ c.rewrap.new.numbers = c.deref.ensures.value ∙ written _ _ _ wrapped_length in
+    let block : c.deref.result.now ≡ c.rewrap.new.numbers = c.deref.ensures.value ∙ take_written _ _ _ wrapped_length in
     let made : c.deref.result.now ≡ map (wrapped ty) (take n (drop k xs)) = block ∙ c.rewrap.ensures.value ∙ ap (map (wrapped ty)) numbers in
     record {
       inside = omega (arith, inside, c.elements_of-count.ensures.count, ap size_of c.dims_list-sizes.ensures.list);
@@ -85,11 +86,11 @@ fill_block-requires c =
 pub rewrap-requires : goal.rewrap-requires
 rewrap-requires c =
     let filled_length : length c.fill_block.new.into ≡ c.truncate.new.self.len = omega arith in
-    let numbers : c.deref_mut-in-loop-done.result.now ≡ c.fill_block.new.into = c.deref_mut-in-loop-done.ensures.value ∙ written _ _ _ filled_length in
+    let numbers : c.deref_mut-in-loop-done.result.now ≡ c.fill_block.new.into = c.deref_mut-in-loop-done.ensures.value ∙ take_written _ _ _ filled_length in
     subst (All (InRange Long)) (sym numbers) c.fill_block.ensures.in_range
 
 pub extend-requires : goal.extend-requires
 extend-requires c =
     let wrapped_length : length c.rewrap.new.numbers ≡ c.truncate.new.self.len = omega arith in
-    let block : c.deref.result.now ≡ c.rewrap.new.numbers = c.deref.ensures.value ∙ written _ _ _ wrapped_length in
+    let block : c.deref.result.now ≡ c.rewrap.new.numbers = c.deref.ensures.value ∙ take_written _ _ _ wrapped_length in
     subst (λ (ty : Ty). All (InRange ty) c.deref.result.now) (sym c.loop-done.invariant.ty) (subst (All (InRange c.args.ty)) (sym block) c.rewrap.ensures.in_range)

@@ -2,10 +2,11 @@
 use Rattle.std.proofs.Common.{◌≡◌, ℕ, ℤ, List, ◌+◌, ◌-◌, ◌*◌, ◌/◌, ◌≤◌, ◌<◌, ◌++◌, ◌∷◌, [], length, take, drop, get_or, arith, refl, ap, sym, ◌∙◌, subst, append_assoc}
 use Rattle.std.specs.Prelude.{flat_map}
 use Rattle.std.proofs.Math.Nat.{mul-le-mul_right}
+use Rattle.std.proofs.lemmas.Result.{on_ok_weaker}
 use Rattle.pdl_shape.specs.Shape.{size_of}
 use Rattle.pdl_print.specs.Printed.{block, pieces, spaces}
 use Rattle.pdl_print.proofs.Fronts.{begins_then, begins_with}
-use Rattle.pdl_print.proofs.Texts.{Members, members_of, member_more, block_plane, block_around, length_from, on_ok, closed}
+use Rattle.pdl_print.proofs.Texts.{Members, members_of, member_more, block_plane, block_around, length_from, closed}
 use Rattle.pdl_print.proofs.pieces.+push_block.Goals as goal
 
 -- what holds of a block's members, whose number was read
@@ -25,11 +26,9 @@ push_plane-requires-clause-some t c = (members_at c.args.elems.now.dims c.args.a
 pub returns-then-around-eq0-clause-ok : goal.returns-then-around-eq0-clause-ok
 returns-then-around-eq0-clause-ok t c =
     let m = members_at c.args.elems.now.dims c.args.around c.args.count c.members_of-members.result c.members_of-members.ensures c.requires.dims c.requires.count c.requires.some in
-    on_ok c.push_plane.result _ _
-    (λ e. e ∙ ap (λ (x : List ℕ). c.args.into.now.items ++ x)
+    on_ok_weaker c.push_plane.result (λ e. e ∙ ap (λ (x : List ℕ). c.args.into.now.items ++ x)
     (block_plane c.args.elems.now.dims c.args.around c.args.indent c.args.first c.args.count c.members_of-members.result (c.args.count / c.members_of-members.result) c.args.elems.now.elems
-    c.if-around-eq0.true c.members_of-members.ensures refl m.whole c.requires.within))
-    c.push_plane.ensures.ok
+    c.if-around-eq0.true c.members_of-members.ensures refl m.whole c.requires.within)) c.push_plane.ensures.ok
 
 pub push_block-requires : goal.push_block-requires
 push_block-requires t c =
@@ -71,13 +70,11 @@ returns-clause-ok t c =
     let inner : List ℕ = flat_map f (pieces c.members_of-members.result size part) in
     let nonzero : c.args.around ≡ 0 → ⊥ = c.if-around-eq0.false in
     let all : c.loop-member.member ≡ c.members_of-members.result = omega (arith, c.loop-member-test.false, c.loop-member.auto.member-end) in
-    on_ok c.push_bracket-2.result _ _
-    (λ e. e ∙ ap (λ (x : List ℕ). x ++ (spaces c.args.indent ++ close)) (c.loop-member.invariant ∙ ap (λ (k : ℕ). (old ++ start) ++ flat_map f (pieces k size part)) all)
+    on_ok_weaker c.push_bracket-2.result (λ e. e ∙ ap (λ (x : List ℕ). x ++ (spaces c.args.indent ++ close)) (c.loop-member.invariant ∙ ap (λ (k : ℕ). (old ++ start) ++ flat_map f (pieces k size part)) all)
     ∙ closed old start inner (spaces c.args.indent ++ close)
     ∙ ap (λ (x : List ℕ). old ++ x) (sym (append_assoc (start ++ inner) (spaces c.args.indent) close)
     ∙ block_around ds c.args.around c.args.indent c.members_of-members.result size part (omega arith) c.members_of-members.ensures
-    (ap (λ (k : ℕ). k / c.members_of-members.result) (sym (length_from c.args.elems.now.elems c.args.first c.args.count c.requires.within)))))
-    c.push_bracket-2.ensures.ok
+    (ap (λ (k : ℕ). k / c.members_of-members.result) (sym (length_from c.args.elems.now.elems c.args.first c.args.count c.requires.within))))) c.push_bracket-2.ensures.ok
 
 pub returns-in_err-push_block-clause-front : goal.returns-in_err-push_block-clause-front
 returns-in_err-push_block-clause-front t c =

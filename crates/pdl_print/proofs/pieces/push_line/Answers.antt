@@ -3,9 +3,10 @@ use Rattle.std.proofs.Common.{◌≡◌, ℕ, ℤ, pos, List, ◌<◌, ◌++◌,
 use Rattle.std.proofs.lemmas.Int.{to_z-of_z}
 use Rattle.std.specs.Int.{w64}
 use Rattle.std.specs.List.{join_with_byte}
+use Rattle.std.proofs.lemmas.Result.{on_ok_weaker}
 use Rattle.pdl_print.specs.Printed.{aligned, spaces}
 use Rattle.pdl_print.proofs.Fronts.{begins_by, begins_then, begins_with}
-use Rattle.pdl_print.proofs.Texts.{join_one, join_more, grown, closed, on_ok, taken_all}
+use Rattle.pdl_print.proofs.Texts.{join_one, join_more, grown, closed, taken_all}
 use Rattle.pdl_print.proofs.pieces.push_line.Goals as goal
 
 pub loop-i-init : goal.loop-i-init
@@ -38,10 +39,8 @@ returns-clause-ok c =
     let start : List ℕ = spaces c.args.indent ++ 91 ∷ [] in
     let close : List ℕ = 93 ∷ 10 ∷ [] in
     let all : take c.loop-i.i es ≡ es = taken_all es c.loop-i.i (omega (arith, c.loop-i-test.false)) in
-    on_ok c.push_bracket-2.result _ _
-    (λ e. e ∙ ap (λ (t : List ℕ). t ++ close) (c.loop-i.invariant ∙ ap (λ (xs : List ℤ). (c.args.into.now.items ++ start) ++ join_with_byte 32 (map (aligned c.args.width) xs)) all)
-    ∙ closed c.args.into.now.items start (join_with_byte 32 (map (aligned c.args.width) es)) close)
-    c.push_bracket-2.ensures.ok
+    on_ok_weaker c.push_bracket-2.result (λ e. e ∙ ap (λ (t : List ℕ). t ++ close) (c.loop-i.invariant ∙ ap (λ (xs : List ℤ). (c.args.into.now.items ++ start) ++ join_with_byte 32 (map (aligned c.args.width) xs)) all)
+    ∙ closed c.args.into.now.items start (join_with_byte 32 (map (aligned c.args.width) es)) close) c.push_bracket-2.ensures.ok
 
 pub returns-in_err-push-clause-front : goal.returns-in_err-push-clause-front
 returns-in_err-push-clause-front c = begins_with c.args.into.now.items _ _ _ (c.in_err-push.ensures.items ∙ c.loop-i.invariant)

@@ -2,10 +2,11 @@
 use Rattle.std.proofs.Common.{◌≡◌, ◌<◌, ◌+◌, ◌*◌, ◌++◌, ℕ, ℤ, pos, List, map, get_or, length, arith, ap, ap₂, sym, ◌∙◌, append_assoc}
 use Rattle.std.specs.List.{range_with_len}
 use Rattle.std.proofs.lemmas.List.{length-map, get_or-map}
+use Rattle.std.proofs.lemmas.Nat.{div-mul-add, mod-mul-add}
 use Rattle.pdl_buf.specs.Buffer.{TypedElements}
 use Rattle.pdl_elem.specs.Numbers.{wrapped}
 use Rattle.pdl_reduce.specs.Blocks.{product_at, sum_at}
-use Rattle.pdl_reduce.proofs.Matrix.{range_more, row_of, column_of}
+use Rattle.pdl_reduce.proofs.Matrix.{range_more}
 use Rattle.pdl_reduce.proofs.matrices.add_product.Goals as goal
 
 pub loop-i-preserved : goal.loop-i-preserved
@@ -25,7 +26,7 @@ loop-i-preserved c =
     ∙ get_or-map (wrapped c.args.ty) row j (pos 0) (pos 0) (omega (arith, width, h))
     ∙ ap (wrapped c.args.ty) (c.set_row.ensures j h)
     ∙ c.wrapping_laws.ensures.late c.args.ty (sum_at s left right s.depth i j)
-    ∙ sym (ap₂ (λ (r q : ℕ). wrapped c.args.ty (sum_at s left right s.depth r q)) (row_of i s.width j h) (column_of i s.width j h)) in
+    ∙ sym (ap₂ (λ (r q : ℕ). wrapped c.args.ty (sum_at s left right s.depth r q)) (div-mul-add i s.width j h) (mod-mul-add i s.width j h)) in
     let more : i * s.width + s.width ≡ (i + 1) * s.width = omega arith in
     record {
       width = size;

@@ -2,7 +2,7 @@ use Rattle.std.proofs.Common.{◌≡◌, ℕ, [], ◌++◌, take, drop, false, s
 use Rattle.std.proofs.lemmas.Bool.{le-ltb}
 use Rattle.std.proofs.lemmas.List.{length-take}
 use Rattle.std.specs.Io.KnownBytes.{Consumes}
-use Rattle.pdl_shell.proofs.Carrying.{on_err}
+use Rattle.pdl_lemmas.specs.Results.{on_err}
 use Rattle.pdl_shell.proofs.Parts.{took, reads_failed, prefix_failed, at_most_failed, comes_kept, at_most, at_most_short, comes_on, prefix_short, reads_short, reads_stopped}
 use Rattle.pdl_shell.proofs.reading.read_parts.Goals as goal
 

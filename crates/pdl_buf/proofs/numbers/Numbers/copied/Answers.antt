@@ -1,7 +1,8 @@
 -- One block more is copied.
 use Rattle.std.proofs.Common.{◌≡◌, ℕ, ◌<◌, ℤ, List, length, take, drop, arith, ap, ◌∙◌}
+use Rattle.pdl_lemmas.specs.Lists.{take_written}
 use Rattle.pdl_buf.specs.Numbers.{elements_in}
-use Rattle.pdl_buf.proofs.Moved.{kept_more, written}
+use Rattle.pdl_buf.proofs.Moved.{kept_more}
 use Rattle.pdl_buf.proofs.numbers.Numbers.copied.Goals as goal
 
 pub loop-done-preserved : goal.loop-done-preserved
@@ -12,7 +13,7 @@ loop-done-preserved c =
     let read_length : length c.read_from.new.into ≡ c.truncate.new.self.len = omega arith in
     let size : length c.deref_mut.result.now ≡ n = omega arith in
     let read : c.read_from.new.into ≡ take n (drop k es) = c.read_from.ensures ∙ ap (λ (m : ℕ). take m (drop k es)) size in
-    let block : c.deref.result.now ≡ c.read_from.new.into = c.deref.ensures.value ∙ written _ _ _ read_length in
+    let block : c.deref.result.now ≡ c.read_from.new.into = c.deref.ensures.value ∙ take_written _ _ _ read_length in
     let some : 0 < c.truncate.new.self.len = omega (arith, c.loop-done.invariant.some c.loop-done-test.true) in
     record {
       inside = omega arith;

@@ -1,10 +1,11 @@
 -- One block more is gathered.
 use Rattle.std.proofs.Common.{◌≡◌, ℕ, ◌+◌, ◌<◌, ℤ, List, length, take, drop, arith, ap, ◌∙◌}
 use Rattle.std.specs.Prelude.{◌-◌, Option}
+use Rattle.pdl_lemmas.specs.Lists.{take_written}
 use Rattle.pdl_shape.specs.Places.{element_at, read}
 use Rattle.pdl_buf.specs.Numbers.{elements_in}
 use Rattle.pdl_buf.proofs.Lists.{block_map}
-use Rattle.pdl_buf.proofs.Moved.{kept_more, written}
+use Rattle.pdl_buf.proofs.Moved.{kept_more}
 use Rattle.pdl_buf.proofs.numbers.Numbers.gathered.Goals as goal
 
 pub loop-done-preserved : goal.loop-done-preserved
@@ -17,7 +18,7 @@ loop-done-preserved c =
     let size : k + n - k ≡ n = omega arith in
     let part : c.read_at.new.into ≡ take n (drop k (read ps es)) =
     c.read_at.ensures.value ∙ ap (λ (m : ℕ). read (take m (drop k ps)) es) size ∙ block_map (element_at es) ps k n in
-    let block : c.deref.result.now ≡ c.read_at.new.into = c.deref.ensures.value ∙ written _ _ _ read_length in
+    let block : c.deref.result.now ≡ c.read_at.new.into = c.deref.ensures.value ∙ take_written _ _ _ read_length in
     let some : 0 < c.truncate.new.self.len = omega (arith, c.loop-done.invariant.some c.loop-done-test.true) in
     record {
       inside = omega arith;

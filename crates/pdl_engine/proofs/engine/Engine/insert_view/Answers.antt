@@ -1,4 +1,5 @@
 use Rattle.std.proofs.Common.{◌≡◌, ℕ, true, List, ◌∷◌, sym, ◌∙◌, ap, subst, arith}
+use Rattle.pdl_lemmas.specs.Results.{on_err}
 use Rattle.pdl_shape.specs.Triple.{IsTriple}
 use Rattle.pdl_world.specs.Refused.{view_refusal}
 use Rattle.pdl_world.specs.Sound.{IsLive, IsSound}
@@ -14,7 +15,6 @@ use Rattle.pdl_engine.specs.State.{State, IsLentAs, Joins}
 use Rattle.pdl_engine.specs.StateOf.{state_of, IsEngine}
 use Rattle.pdl_engine.proofs.Growing.{IsGrown, grown_engine, refused_engine, grown_state, new_view, view_grown, view_def, err_state, below_world, no_root}
 use Rattle.pdl_engine.proofs.Lazy.{lent_as}
-use Rattle.pdl_engine.proofs.Results.{on_err}
 use Rattle.pdl_engine.proofs.Stating.{live_has}
 use Rattle.pdl_engine.proofs.Tight.{tight_grown, tight_refused}
 use Rattle.pdl_engine.proofs.engine.Engine.insert_view.Goals as goal
@@ -35,7 +35,7 @@ pub view_node-requires-clause-triple : goal.view_node-requires-clause-triple
 view_node-requires-clause-triple c = subst (λ (r : Row). IsTriple r.triple) (sym c.node-above.ensures) (c.row_laws.ensures.seen.sized_at c.self.inside.table c.self.invariant.0.sized c.args.parent (live_has c.row_laws.ensures c.self.inside.table c.args.parent (subst (λ (w : World). IsLive w c.args.parent) (sym (ap (λ (s : State). s.world) c.self.view_is)) c.requires.live))).triple
 
 pub returns-in_err-insert-clause-err : goal.returns-in_err-insert-clause-err
-returns-in_err-insert-clause-err c = on_err c.from_residual-in_err-insert.result _ (err_state c.self.inside.table c.insert.new.table c.self.inside.holds c.insert.new.holds c.self.inside.next c.self.invariant.0.below c.in_err-insert.ensures.err c.insert.ensures.others ∙ c.self.view_is)
+returns-in_err-insert-clause-err c = on_err c.from_residual-in_err-insert.result (err_state c.self.inside.table c.insert.new.table c.self.inside.holds c.insert.new.holds c.self.inside.next c.self.invariant.0.below c.in_err-insert.ensures.err c.insert.ensures.others ∙ c.self.view_is)
 
 pub invariant_of-self : goal.invariant_of-self
 invariant_of-self c = (

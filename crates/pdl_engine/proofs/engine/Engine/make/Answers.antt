@@ -1,4 +1,5 @@
 use Rattle.std.proofs.Common.{◌≡◌, ◌∷◌, refl, sym, ◌∙◌, ap, subst, arith}
+use Rattle.pdl_lemmas.specs.Results.{on_err}
 use Rattle.pdl_buf.specs.Buffer.{TypedElements}
 use Rattle.pdl_world.specs.Sound.{IsSound}
 use Rattle.pdl_world.specs.World.{ArrayDef, root}
@@ -10,7 +11,6 @@ use Rattle.pdl_engine.specs.Loose.{IsTight}
 use Rattle.pdl_engine.specs.State.{State, Joins}
 use Rattle.pdl_engine.specs.StateOf.{state_of, IsEngine}
 use Rattle.pdl_engine.proofs.Growing.{IsGrown, root_grown, grown_engine, refused_engine, grown_state, err_state, below_world, no_root}
-use Rattle.pdl_engine.proofs.Results.{on_err}
 use Rattle.pdl_engine.proofs.Tight.{tight_grown, tight_refused}
 use Rattle.pdl_engine.proofs.engine.Engine.make.Goals as goal
 
@@ -21,7 +21,7 @@ pub insert-requires-clause-unmarked : goal.insert-requires-clause-unmarked
 insert-requires-clause-unmarked g c = λ n. absurd (n (ap (λ (r : Row). r.root) c.root_node-node.ensures))
 
 pub returns-in_err-insert-clause-err : goal.returns-in_err-insert-clause-err
-returns-in_err-insert-clause-err g c = on_err c.from_residual-in_err-insert.result _ (err_state c.self.inside.table c.insert.new.table c.self.inside.holds c.insert.new.holds c.self.inside.next c.self.invariant.0.below c.in_err-insert.ensures.err c.insert.ensures.others ∙ c.self.view_is)
+returns-in_err-insert-clause-err g c = on_err c.from_residual-in_err-insert.result (err_state c.self.inside.table c.insert.new.table c.self.inside.holds c.insert.new.holds c.self.inside.next c.self.invariant.0.below c.in_err-insert.ensures.err c.insert.ensures.others ∙ c.self.view_is)
 
 pub invariant_of-self : goal.invariant_of-self
 invariant_of-self g c = (

@@ -1,7 +1,8 @@
 use Rattle.std.proofs.Common.{◌+◌, arith, ap, ◌∙◌, sym, rules, take, length, length-drop, subst}
+use Rattle.pdl_lemmas.specs.Results.{on_err}
+use Rattle.pdl_lemmas.specs.Lists.{take_rest}
 use Rattle.pdl_lex.specs.Steps.{IsQuiet}
-use Rattle.pdl_lex.proofs.Cutting.{quiet-next, quiet-further, failed-at, on_err}
-use Rattle.pdl_lex.proofs.Walking.{rest}
+use Rattle.pdl_lex.proofs.Cutting.{quiet-next, quiet-further, failed-at}
 use Rattle.pdl_lex.proofs.cutter.StatementCutter.scan.Goals as goal
 
 pub loop-used-preserved : goal.loop-used-preserved
@@ -10,8 +11,8 @@ loop-used-preserved c =
     let used = c.loop-used.used in
     let one : IsQuiet c.args.self.now (take (used + 1) piece) c.take.new.self = quiet-next _ _ _ _ _ c.loop-used-test.true c.loop-used.invariant.quiet (sym c.in_ok-cut.ensures.cut ∙ c.in_default.is) c.in_ok-cut.ensures.after in
     record {
-      within = omega (arith, c.in_ok-used.ensures.within, ap length (rest piece (used + 1)), length-drop (used + 1) piece);
-      quiet = quiet-further _ _ (used + 1) c.in_ok-used.field-0 _ _ one (subst (λ xs. IsQuiet c.take.new.self (take c.in_ok-used.field-0 xs) c.extend.new.self) (rest piece (used + 1)) c.in_ok-used.ensures.quiet);
+      within = omega (arith, c.in_ok-used.ensures.within, ap length (take_rest piece (used + 1)), length-drop (used + 1) piece);
+      quiet = quiet-further _ _ (used + 1) c.in_ok-used.field-0 _ _ one (subst (λ xs. IsQuiet c.take.new.self (take c.in_ok-used.field-0 xs) c.extend.new.self) (take_rest piece (used + 1)) c.in_ok-used.ensures.quiet);
       works = search rules;
       count = omega (arith, c.in_ok-used.ensures.count, c.take.ensures.taken);
     }

@@ -1,4 +1,5 @@
-use Rattle.pdl_shell.proofs.Carrying.{on_err, short_kept}
+use Rattle.pdl_lemmas.specs.Results.{on_err}
+use Rattle.pdl_shell.proofs.Carrying.{short_kept}
 use Rattle.pdl_shell.proofs.runner.Runner.finish.Goals as goal
 
 pub returns-in_err-flush-clause-stops : goal.returns-in_err-flush-clause-stops

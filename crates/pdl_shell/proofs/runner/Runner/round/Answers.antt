@@ -1,8 +1,9 @@
 use Rattle.std.proofs.Common.{List, ℕ, Some, None, drop, refl, subst, sym}
+use Rattle.pdl_lemmas.specs.Results.{on_err}
 use Rattle.pdl_lex.specs.Pieces.{State}
 use Rattle.pdl_shell.specs.declared.runner.Runner.{Runner}
 use Rattle.pdl_shell.specs.Course.{Carries}
-use Rattle.pdl_shell.proofs.Carrying.{Feeds, feeds, on_err, stops_before, stops_in_piece, carries_quiet, carries_piece}
+use Rattle.pdl_shell.proofs.Carrying.{Feeds, feeds, stops_before, stops_in_piece, carries_quiet, carries_piece}
 use Rattle.pdl_shell.proofs.runner.Runner.round.Goals as goal
 
 pub returns-in_err-fed-clause-stops : goal.returns-in_err-fed-clause-stops

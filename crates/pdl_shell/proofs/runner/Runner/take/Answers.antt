@@ -1,7 +1,8 @@
 use Rattle.std.proofs.Common.{List, ℕ, drop, subst}
 use Rattle.std.proofs.lemmas.List.{take_rest, drop_all}
+use Rattle.pdl_lemmas.specs.Results.{on_err}
 use Rattle.pdl_shell.specs.Course.{StopsShort, Carries}
-use Rattle.pdl_shell.proofs.Carrying.{on_err, stops_then, carries_ended}
+use Rattle.pdl_shell.proofs.Carrying.{stops_then, carries_ended}
 use Rattle.pdl_shell.proofs.runner.Runner.take.Goals as goal
 use Rattle.pdl_shell.proofs.runner.Runner.take.Goals.{then-taking-test+else-not-self, else-taking-test}
 

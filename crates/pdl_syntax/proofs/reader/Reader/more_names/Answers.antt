@@ -1,6 +1,6 @@
 use Rattle.std.proofs.Common.{◌∙◌, ◌-◌, ◌+◌, sym, ap}
+use Rattle.pdl_lemmas.specs.Numbers.{one_less}
 use Rattle.pdl_syntax.specs.StatementReading.{names_at}
-use Rattle.pdl_syntax.proofs.Turns.{one_less}
 use Rattle.pdl_syntax.proofs.StatementTurns.{names_stop_at, names_next, names_fail}
 use Rattle.pdl_syntax.proofs.reader.Reader.more_names.Goals as goal
 

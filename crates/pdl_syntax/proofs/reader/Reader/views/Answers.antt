@@ -1,11 +1,11 @@
 use Rattle.std.proofs.Common.{◌∙◌, ◌-◌, ◌+◌, [], length, map, sym, ap}
 use Rattle.std.proofs.lemmas.Result.{err_from_is_err_and}
+use Rattle.pdl_lemmas.specs.Numbers.{one_less}
 use Rattle.pdl_syntax.specs.ExpressionReading.{reader, maybe_at}
 use Rattle.pdl_syntax.specs.StatementReading.{views_at}
 use Rattle.pdl_syntax.specs.StatementTree.{view_of}
 use Rattle.pdl_syntax.specs.Tree.{none}
 use Rattle.pdl_syntax.specs.TreeOf.{args_of}
-use Rattle.pdl_syntax.proofs.Turns.{one_less}
 use Rattle.pdl_syntax.proofs.StatementTurns.{views_stop_at, views_next, views_fail, pass_on}
 use Rattle.pdl_syntax.proofs.reader.Reader.views.Goals as goal
 

@@ -1,0 +1,5 @@
+pub mod Tests
+pub mod Options
+pub mod Results
+pub mod Numbers
+pub mod Lists
