@@ -1,6 +1,7 @@
 -- Places within the limits of an array.
 use Rattle.std.proofs.Common.{◌≡◌, ℕ, ◌+◌, ◌*◌, ◌<◌, ◌≤◌, List, ◌∷◌, max, arith, subst}
 use Rattle.std.proofs.Math.Nat.{mul-le-mul, mul-le-mul_left}
+use Rattle.std.proofs.Math.Numerals.{add-one-le}
 use Rattle.pdl_shape.specs.Laws.{SizeLaws}
 use Rattle.pdl_shape.specs.Shape.{extent, extent_limit, size_of}
 
@@ -27,11 +28,8 @@ r≤s r s h = omega arith
 pub times_below : (n s r : ℕ) → r < s → n * s ≤ extent_limit → n * r ≤ extent_limit
 times_below n s r hr fits = omega (arith, mul-le-mul_left n (r≤s r s hr))
 
-below_next : (a b : ℕ) → a < b → a + 1 ≤ b
-below_next a b h = omega arith
-
 -- the numbers of each corner stand in the list of all
 pub corner_fits : (len at corners n : ℕ) → at < corners → n ≡ len * corners → len * at + len ≤ n
 corner_fits len at corners n below is =
-    let whole : len * (at + 1) ≤ len * corners = mul-le-mul_left len (below_next at corners below) in
+    let whole : len * (at + 1) ≤ len * corners = mul-le-mul_left len (add-one-le below) in
     omega (arith, whole)

@@ -17,9 +17,6 @@ pub extent-append : (xs ys : List ℕ) → extent (xs ++ ys) ≡ extent xs * ext
 extent-append [] ys = omega arith
 extent-append (x ∷ xs) ys = ap (λ n. max x 1 * n) (extent-append xs ys) ∙ sym (mul_assoc (max x 1) (extent xs) (extent ys))
 
-self : (a : ℕ) → a ≤ a
-self a = omega arith
-
 pub other_factor : (a b : ℕ) → 0 < a → b ≤ a * b
 other_factor a b h = omega (arith, mul-le-mul {n₁ = 1} {m₁ = b} {n₂ = a} {m₂ = b} h (omega arith))
 

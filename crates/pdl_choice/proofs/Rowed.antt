@@ -6,6 +6,7 @@ use Rattle.pdl_shape.specs.Broadcast.{BroadcastsTo, cut_to}
 use Rattle.pdl_shape.specs.Shape.{IsWithin, extent, extent_limit, size_of, position_of, coordinates_of}
 use Rattle.pdl_choice.specs.declared.indices.Line.{Line}
 use Rattle.std.specs.Option.{unwrap_or}
+use Rattle.std.proofs.Math.Numerals.{add-one-le}
 use Rattle.pdl_shape.specs.Counting.{from_end}
 use Rattle.pdl_choice.specs.Index.{index_source}
 use Rattle.pdl_choice.specs.Rounds.{line_at, row_place}
@@ -86,11 +87,8 @@ line_inside dims joined at line row is c h = subst (λ n. n < size_of dims) (sym
 
 place_fits : (n s p : ℕ) → p < s → n * s ≤ extent_limit → n * p + n ≤ extent_limit
 place_fits n s p h fits =
-    let more : n * (p + 1) ≤ n * s = mul-le-mul_left n (next p s h) in
+    let more : n * (p + 1) ≤ n * s = mul-le-mul_left n (add-one-le h) in
     omega (arith, more)
-  where
-    next : (p s : ℕ) → p < s → p + 1 ≤ s
-    next p s h = omega arith
 
 -- the places of a row stay within the limits
 pub rows_fit : SizeLaws → (parent : List ℕ) (p : ℕ) → extent parent ≤ extent_limit → p < size_of (drop 1 parent) → get_or parent 0 1 * p + get_or parent 0 1 ≤ extent_limit

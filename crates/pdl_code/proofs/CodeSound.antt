@@ -1,7 +1,6 @@
 -- What the reader of statements takes is spelled.
 use Rattle.std.proofs.Common.{◌≡◌, ℕ, zero, suc, pos, List, [], ◌∷◌, length, Some, None, Bool, true, false, nat_eq, eqb-true, if◌then◌else◌, option_map, option_and_then, refl, ap, sym, ◌∙◌, subst}
-use Rattle.pdl_lexemes.specs.ListReading.{choose as either}
-use Rattle.pdl_lemmas.specs.Options.{some_inj, none_some, then_elim, map_elim, choose_elim}
+use Rattle.pdl_lemmas.specs.Options.{some_inj, none_some, then_elim, map_elim, choose_elim, choose as either}
 use Rattle.pdl_code.specs.declared.lexeme.Span.{Span}
 use Rattle.pdl_code.specs.declared.lexeme.WordKind.TheVariants.{Plain}
 use Rattle.pdl_code.specs.declared.lexeme.Lexeme.{Lexeme}

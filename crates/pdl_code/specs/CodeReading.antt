@@ -1,12 +1,12 @@
 -- How kernel code is read: the one way in which its tokens spell it, if there is one. Only private
 -- functions speak of this.
 use Rattle.std.specs.Prelude.{ℕ, zero, suc, ℤ, pos, nat_eq, List, [], ◌∷◌, length, Option, Some, None, option_map, option_and_then, if◌then◌else◌}
+use Rattle.pdl_lemmas.specs.Options.{choose as either}
 use Rattle.pdl_elem.specs.declared.BinaryOp.{BinaryOp}
 use Rattle.pdl_elem.specs.declared.BinaryOp.TheVariants.{Sub}
 use Rattle.pdl_elem.specs.declared.UnaryOp.{UnaryOp}
 use Rattle.pdl_elem.specs.declared.UnaryOp.TheVariants.{Neg}
 use Rattle.pdl_lexemes.specs.Lists.{signed}
-use Rattle.pdl_lexemes.specs.ListReading.{choose as either}
 use Rattle.pdl_lexemes.specs.Levels.{level_of, many}
 use Rattle.pdl_code.specs.declared.lexeme.Span.{Span}
 use Rattle.pdl_code.specs.declared.lexeme.WordKind.TheVariants.{Loop, If, Else, OfType, Plain}

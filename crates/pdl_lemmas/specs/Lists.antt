@@ -1,7 +1,7 @@
 -- Parts of lists, and the first place that passes a test.
 use Rattle.std.specs.Prelude.{Bool, not, position}
 use Rattle.std.specs.List.{range_with_len}
-use Rattle.std.proofs.Common.{◌≡◌, ℕ, ◌+◌, ◌-◌, ◌<◌, List, ◌++◌, length, take, drop, map, take_all, length-drop, length-append, Some, None, ap, sym, ◌∙◌, arith}
+use Rattle.std.proofs.Common.{◌≡◌, ℕ, ◌+◌, ◌<◌, List, ◌++◌, length, take, map, length-append, Some, None, ap, sym, ◌∙◌, arith}
 use Rattle.std.proofs.Math.Seq.{take-append_seam}
 use Rattle.std.proofs.lemmas.Bool.Decides.{nat_tests}
 use Rattle.std.proofs.lemmas.List.Folds.{prefix_len-append}
@@ -11,10 +11,6 @@ use Rattle.std.proofs.lemmas.List.Sums.{prefix_len-le-length}
 -- a list that was written over whole
 pub take_written : {A : Type 0} (n : ℕ) (xs rest : List A) → length xs ≡ n → take n (xs ++ rest) ≡ xs
 take_written n xs rest e = ap (λ (k : ℕ). take k (xs ++ rest)) (sym e) ∙ take-append_seam xs rest
-
--- what a slice from a place on holds
-pub take_rest : {A : Type 0} (xs : List A) (at : ℕ) → take (length xs - at) (drop at xs) ≡ drop at xs
-take_rest xs at = take_all (length xs - at) (drop at xs) (omega (arith, length-drop at xs))
 
 -- two functions that agree at each number below n
 pub map-range_same : {X : Type 0} (f g : ℕ → X) (n : ℕ) (d : X) → ((k : ℕ) → k < n → f k ≡ g k) → map f (range_with_len 0 n) ≡ map g (range_with_len 0 n)

@@ -1,6 +1,6 @@
 -- Numbers: what is left of a count, and products.
-use Rattle.std.proofs.Common.{◌≡◌, ℕ, zero, suc, ◌+◌, ◌-◌, ◌*◌, ◌/◌, ◌%◌, ◌<◌, ◌≤◌, ℤ, pos, ◌+ℤ◌, ◌<ℤ◌, max, refl, arith}
-use Rattle.std.proofs.Math.Nat.{mul-le-mul, mul-le-mul_left, mul-le-mul_right, mul_assoc, mul_comm}
+use Rattle.std.proofs.Common.{◌≡◌, ℕ, suc, ◌+◌, ◌-◌, ◌*◌, ◌<◌, ◌≤◌, pos, ◌<ℤ◌, max, arith}
+use Rattle.std.proofs.Math.Nat.{mul-le-mul, mul-le-mul_left, mul_assoc}
 use Rattle.std.proofs.lemmas.Int.{ints}
 
 -- one step of a count that ends at e

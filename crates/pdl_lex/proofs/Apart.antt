@@ -4,12 +4,13 @@ use Rattle.std.proofs.Math.Dec.{eqb-suc-zero}
 use Rattle.std.specs.Prelude.{Some, not, ◌==◌, ◌&&◌, bytes_eq}
 use Rattle.std.specs.List.{list_all}
 use Rattle.std.specs.Char.{is_ascii_digit}
+use Rattle.pdl_lemmas.specs.Tests.{by_test}
 use Rattle.pdl_lex.specs.Bytes.{is_quote, is_letter, is_word_byte}
 use Rattle.pdl_lex.specs.Tokens.{is_sign, is_word, is_closed, only_where, kind_of, IsLongest}
 use Rattle.pdl_lex.specs.declared.TokenKind.{TokenKind}
 use Rattle.pdl_lex.specs.declared.TokenKind.TheVariants.{Name, Word, Number, Str, Sign}
 use Rattle.pdl_lex.specs.Written.{joins, quoted}
-use Rattle.pdl_lex.proofs.Longest.{by_bool, sign-long}
+use Rattle.pdl_lex.proofs.Longest.{sign-long}
 
 -- what a token of a kind says of the test on its bytes
 fits_kind : (fits : Bool) (K kind : TokenKind) → only_where fits K ≡ Some kind → (fits ≡ true) × (K ≡ kind)
@@ -23,7 +24,7 @@ all_broken : (p : ℕ → Bool) (bs : List ℕ) (c : ℕ) (rest : List ℕ) (k :
 all_broken p bs c rest zero fails above = absurd (omega arith)
 all_broken p [] c rest (suc k) fails above = rw fails
 all_broken p (b ∷ bs) c rest (suc k) fails above =
-    by_bool (p b)
+    by_test (p b)
     (λ passes. rw passes (all_broken p bs c rest k fails (omega arith)))
     (λ broken. rw broken)
 
@@ -32,12 +33,12 @@ closed_no_longer : (quote : ℕ) (bs more : List ℕ) (k : ℕ) → is_closed qu
 closed_no_longer quote bs more zero closed above within = absurd (omega arith)
 closed_no_longer quote [] more (suc k) closed above within = absurd (cc)
 closed_no_longer quote (b ∷ bs) more (suc k) closed above within =
-    by_bool (b == quote)
+    by_test (b == quote)
     (λ same. rw same (some_left (bs ++ more) k (omega arith) (omega arith)))
     (λ other. rw other (closed_no_longer quote bs more k (rw other at closed) (omega arith) (omega arith)))
   where
     never : (n : ℕ) → (suc n == 0) ≡ false
-    never n = by_bool (suc n == 0) (λ same. absurd (omega (arith, eqb-true (suc n) 0 same))) (λ other. other)
+    never n = by_test (suc n == 0) (λ same. absurd (omega (arith, eqb-true (suc n) 0 same))) (λ other. other)
 
     some_left : (xs : List ℕ) (k : ℕ) → 0 < k → k ≤ length xs → (length (take k xs) == 0) ≡ false
     some_left xs zero above within = absurd (omega arith)
@@ -47,8 +48,8 @@ closed_no_longer quote (b ∷ bs) more (suc k) closed above within =
 -- two bytes that are these are a sign, so three that begin with them aren't the issue
 same_two : (a b x y : ℕ) → is_sign (x ∷ y ∷ []) ≡ true → is_sign (a ∷ b ∷ []) ≡ false → ((a == x) && (b == y)) ≡ false
 same_two a b x y sign none =
-    by_bool (a == x)
-    (λ first. by_bool (b == y)
+    by_test (a == x)
+    (λ first. by_test (b == y)
     (λ second. absurd (cc_of (subst (λ n. is_sign (n ∷ y ∷ []) ≡ false) (eqb-true a x first) (subst (λ n. is_sign (a ∷ n ∷ []) ≡ false) (eqb-true b y second) none))))
     (λ other. rw (first, other)))
     (λ other. rw other)
@@ -58,7 +59,7 @@ same_two a b x y sign none =
 
 third_too : (a b c x y z : ℕ) → ((a == x) && (b == y)) ≡ false → bytes_eq (a ∷ b ∷ c ∷ []) (x ∷ y ∷ z ∷ []) ≡ false
 third_too a b c x y z none =
-    by_bool (a == x)
+    by_test (a == x)
     (λ first. let second : (b == y) ≡ false = rw first at none in rw (first, second))
     (λ other. rw other)
 
@@ -88,7 +89,7 @@ word_no_longer : (bs : List ℕ) (c : ℕ) (rest : List ℕ) (k : ℕ) → is_wo
 word_no_longer [] c rest k is apart above = absurd (cc)
 word_no_longer (b ∷ bs) c rest zero is apart above = absurd (omega arith)
 word_no_longer (b ∷ bs) c rest (suc k) is apart above =
-    by_bool (is_letter b)
+    by_test (is_letter b)
     (λ letter. rw letter (all_broken is_word_byte bs c rest k apart (omega arith)))
     (λ other. rw other)
 
@@ -104,22 +105,22 @@ longer kind [] (c ∷ rest) is apart k above within = absurd (cc)
 longer kind (b ∷ bs) (c ∷ rest) is apart zero above within = absurd (omega arith)
 longer kind (b ∷ bs) (c ∷ rest) is apart (suc k) above within =
     let apart_of : (K : TokenKind) → K ≡ kind → joins K (b ∷ bs) (c ∷ rest) ≡ false = λ K same. subst (λ j. joins j (b ∷ bs) (c ∷ rest) ≡ false) (sym same) apart in
-    by_bool (is_letter b)
+    by_test (is_letter b)
     (λ letter.
     let f = fits_kind (list_all is_word_byte bs) Word kind (rw letter at is) in
     rw (letter, all_broken is_word_byte bs c rest k (apart_of Word f.1) (omega arith)))
-    (λ no_letter. by_bool (b == 36)
+    (λ no_letter. by_test (b == 36)
     (λ dollar.
     let f = fits_kind (is_word bs) Name kind (rw (no_letter, dollar) at is) in
     rw (no_letter, dollar, word_no_longer bs c rest k f.0 (apart_of Name f.1) (omega arith)))
-    (λ no_dollar. by_bool (b == 48)
+    (λ no_dollar. by_test (b == 48)
     (λ nought.
     rw (no_letter, no_dollar, nought, nothing_more (bs ++ c ∷ rest) k (omega arith) (omega (arith, length-append bs (c ∷ rest)))))
-    (λ no_nought. by_bool (is_ascii_digit b)
+    (λ no_nought. by_test (is_ascii_digit b)
     (λ digit.
     let f = fits_kind (list_all is_ascii_digit bs) Number kind (rw (no_letter, no_dollar, no_nought, digit) at is) in
     rw (no_letter, no_dollar, no_nought, digit, all_broken is_ascii_digit bs c rest k (apart_of Number f.1) (omega arith)))
-    (λ no_digit. by_bool (is_quote b)
+    (λ no_digit. by_test (is_quote b)
     (λ quote.
     let f = fits_kind (is_closed b bs) Str kind (rw (no_letter, no_dollar, no_nought, no_digit, quote) at is) in
     rw (no_letter, no_dollar, no_nought, no_digit, quote, closed_no_longer b bs (c ∷ rest) k f.0 (omega arith) (omega arith)))
@@ -131,17 +132,17 @@ longer kind (b ∷ bs) (c ∷ rest) is apart (suc k) above within =
 closed_is : (quote : ℕ) (inside : List ℕ) → list_all (λ b. not (b == quote)) inside ≡ true → is_closed quote (inside ++ quote ∷ []) ≡ true
 closed_is quote [] none = rw (same_self quote) where
   same_self : (n : ℕ) → (n == n) ≡ true
-  same_self n = by_bool (n == n) (λ same. same) (λ other. absurd (differs n other)) where
+  same_self n = by_test (n == n) (λ same. same) (λ other. absurd (differs n other)) where
     differs : (n : ℕ) → (n == n) ≡ false → ⊥
     differs n other = grind arith
 closed_is quote (b ∷ bs) none =
-    by_bool (b == quote)
+    by_test (b == quote)
     (λ same. let never : false ≡ true = rw same at none in absurd (cc))
     (λ other. rw other (closed_is quote bs (rw other at none)))
 
 pub string_kind : (quote : ℕ) (inside : List ℕ) → is_quote quote ≡ true → list_all (λ b. not (b == quote)) inside ≡ true → kind_of (quoted quote inside) ≡ Some Str
 string_kind quote inside is none =
-    by_bool (quote == 34)
+    by_test (quote == 34)
     (λ double. subst (λ q. kind_of (q ∷ (inside ++ q ∷ [])) ≡ Some Str) (sym (eqb-true quote 34 double)) (rw (closed_is 34 inside (subst (λ q. list_all (λ b. not (b == q)) inside ≡ true) (eqb-true quote 34 double) none))))
     (λ other.
     let single : (quote == 39) ≡ true = rw other at is in

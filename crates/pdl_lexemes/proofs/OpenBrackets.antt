@@ -2,6 +2,7 @@
 use Rattle.std.proofs.Common.{◌≡◌, ℕ, suc, pred, ◌+◌, Bool, true, false, List, [], ◌∷◌, refl, sym, ◌∙◌, ap, ap₂, arith, if◌then◌else◌, true≢false}
 use Rattle.std.specs.Prelude.{not, nat_lt, nat_eq, Option, Some, None, codes, bytes_eq}
 use Rattle.std.specs.List.{list_all}
+use Rattle.pdl_lemmas.specs.Tests.{by_test}
 use Rattle.pdl_lex.specs.declared.Token.{Token}
 use Rattle.pdl_lex.specs.declared.TokenKind.{TokenKind}
 use Rattle.pdl_lex.specs.declared.TokenKind.TheVariants.{Name as IsName, Word as IsWord, Number as IsNumber, Str as IsStr, Sign as IsSign}
@@ -16,15 +17,10 @@ use Rattle.pdl_lexemes.specs.declared.Span.{Span}
 use Rattle.pdl_lexemes.specs.declared.Lexeme.{Lexeme}
 use Rattle.pdl_lexemes.specs.declared.Lexeme.TheVariants.{Keyword, Word, Open, Close, OpenSquare, CloseSquare, Arrow, Assign, Operator, Prefix, Unknown}
 use Rattle.pdl_lexemes.specs.Bytes.{bytes_at}
-use Rattle.pdl_lexemes.specs.ListReading.{choose}
 use Rattle.pdl_lexemes.specs.Lexing.{found_in, signs, operators, assignments, sign_of, span_of, of_kind, lexeme_of, lexemes_of}
 use Rattle.pdl_lexemes.specs.Depth.{with_operator, counted_to, is_beyond, goes_beyond, no_counts}
 use Rattle.pdl_lexemes.specs.Laws.{BracketsAreCounted}
-use Rattle.pdl_lexemes.proofs.Options.{some_inj, none_some}
-
-by_bool : {P : Type 0} (b : Bool) → (b ≡ true → P) → (b ≡ false → P) → P
-by_bool true when_true when_false = when_true refl
-by_bool false when_true when_false = when_false refl
+use Rattle.pdl_lemmas.specs.Options.{some_inj, none_some, choose}
 
 -- the same brackets are open
 record Same (c : Counts) (now : Brackets) : Type 0 where
@@ -40,7 +36,7 @@ is_bracket _ = false
 
 operator_same : (c : Counts) (now : Brackets) → Same c now → Same (with_operator c) now
 operator_same c now s =
-    by_bool (nat_eq c.square 0)
+    by_test (nat_eq c.square 0)
     (λ outside. rw outside (record { round = s.round; square = s.square }))
     (λ inside. rw inside s)
 
@@ -65,9 +61,9 @@ no_bracket : (table : List (List ℕ × Lexeme)) (text : List ℕ) → list_all 
     (l : Lexeme) → found_in table text ≡ Some l → is_bracket l ≡ false
 no_bracket [] text all l found = absurd (none_some found)
 no_bracket (entry ∷ table) text all l found =
-    by_bool (is_bracket entry.1)
+    by_test (is_bracket entry.1)
     (λ bracket. let never : false ≡ true = rw bracket at all in absurd (true≢false (sym never)))
-    (λ other. by_bool (bytes_eq text entry.0)
+    (λ other. by_test (bytes_eq text entry.0)
     (λ here. let same : Some entry.1 ≡ Some l = rw here at found in ap is_bracket (sym (some_inj same)) ∙ other)
     (λ further. no_bracket table text (rw other at all) l (rw further at found)))
 
@@ -86,13 +82,13 @@ without_four _ = []
 sign_same : (c : Counts) (now : Brackets) (text : List ℕ) → Same c now → Same (counted_to c (sign_of text)) (behind_sign now text)
 unfolding without_four
 sign_same c now text s =
-    by_bool (bytes_eq text (codes "("))
+    by_test (bytes_eq text (codes "("))
     (λ is. rw is (record { round = suc_same s.round; square = s.square }))
-    (λ no1. by_bool (bytes_eq text (codes ")"))
+    (λ no1. by_test (bytes_eq text (codes ")"))
     (λ is. rw (no1, is) (record { round = ap pred s.round; square = s.square }))
-    (λ no2. by_bool (bytes_eq text (codes "["))
+    (λ no2. by_test (bytes_eq text (codes "["))
     (λ is. rw (no1, no2, is) (record { round = s.round; square = suc_same s.square }))
-    (λ no3. by_bool (bytes_eq text (codes "]"))
+    (λ no3. by_test (bytes_eq text (codes "]"))
     (λ is. rw (no1, no2, no3, is) (record { round = s.round; square = ap pred s.square }))
     (λ no4. rw (no1, no2, no3, no4)
     (other_same c now
@@ -113,7 +109,7 @@ kind_same c now source t IsStr s = s
 kind_same c now source t IsSign s = sign_same c now (bytes_at source (span_of t)) s
 
 beyond_then : (c : Counts) (ts : List Lexeme) → goes_beyond c ts ≡ true → (if is_beyond c then true else goes_beyond c ts) ≡ true
-beyond_then c ts e = by_bool (is_beyond c) (λ is. rw is refl) (λ not_yet. rw not_yet e)
+beyond_then c ts e = by_test (is_beyond c) (λ is. rw is refl) (λ not_yet. rw not_yet e)
 
 deep : (source : List ℕ) (at : ℕ) (ts : List Token) (c : Counts) (now : Brackets) → Same c now → go_deep now (written source at ts) ≡ true →
     goes_beyond c (lexemes_of source ts) ≡ true
@@ -123,7 +119,7 @@ deep source at (t ∷ ts) c now s e =
     let then' = behind_kind now t.kind (bytes_at source (span_of t)) in
     let s' = kind_same c now source t t.kind s in
     let sum : (counted_to c (lexeme_of source t)).round + (counted_to c (lexeme_of source t)).square ≡ then'.round + then'.square = ap₂ (λ m n. m + n) s'.round s'.square in
-    by_bool (nat_lt 64 (then'.round + then'.square))
+    by_test (nat_lt 64 (then'.round + then'.square))
     (λ many. let is : nat_lt 64 ((counted_to c (lexeme_of source t)).round + (counted_to c (lexeme_of source t)).square) ≡ true = ap (nat_lt 64) sum ∙ many in rw is refl)
     (λ few. beyond_then (counted_to c (lexeme_of source t)) (lexemes_of source ts) (deep source t.to ts (counted_to c (lexeme_of source t)) then' s' (rw few at e)))
 

@@ -1,5 +1,5 @@
 -- What the machine has read, in the grammar's words.
-use Rattle.std.proofs.Common.{◌≡◌, ℕ, ◌+◌, ◌-◌, ◌*◌, Bool, true, false, List, [], ◌∷◌, ◌++◌, ℤ, pos, neg_ℤ, Option, Some, None, option_map, option_and_then, unwrap_or, if◌then◌else◌, IsTrue, refl, sym, ap, ◌∙◌, subst, append_assoc, append-nil}
+use Rattle.std.proofs.Common.{◌≡◌, ℕ, ◌+◌, ◌-◌, ◌*◌, Bool, true, false, List, [], ◌∷◌, ◌++◌, ℤ, pos, neg_ℤ, Option, Some, None, option_map, option_and_then, if◌then◌else◌, IsTrue, refl, sym, ap, ◌∙◌, subst, append_assoc, append-nil}
 use Rattle.pdl_slices.specs.declared.SliceArg.{SliceArg}
 use Rattle.pdl_slices.specs.declared.SliceArg.TheVariants.{Whole, One, Dropped, Dummy, Span}
 use Rattle.pdl_slices.specs.declared.reading.Slot.{Slot}

@@ -1,9 +1,9 @@
 -- Slice texts that are written are read.
-use Rattle.std.proofs.Common.{◌≡◌, ◌↔◌, ℕ, zero, suc, ◌+◌, ◌-◌, ◌*◌, ◌<◌, ◌≤◌, ◌^◌, Bool, true, false, List, [], ◌∷◌, ◌++◌, length, refl, sym, ◌∙◌, ap, ap₂, subst, arith, map, get_or, append_assoc, eqb-true, inl, inr, ℤ, pos, negsuc, nat_abs, neg_ℤ}
-use Rattle.std.proofs.lemmas.Bool.{ltb-false, cases_Bool}
+use Rattle.std.proofs.Common.{◌≡◌, ℕ, zero, suc, ◌+◌, ◌-◌, ◌*◌, ◌<◌, ◌≤◌, Bool, true, false, List, [], ◌∷◌, ◌++◌, refl, sym, ◌∙◌, ap, ap₂, subst, arith, map, get_or, append_assoc, eqb-true, inl, inr, ℤ, pos, negsuc, nat_abs}
+use Rattle.std.proofs.lemmas.Bool.{ltb-false, cases_Bool, or_parts}
 use Rattle.std.proofs.lemmas.List.{append-nil}
 use Rattle.std.proofs.lemmas.List.Folds.{list_all-append}
-use Rattle.std.specs.Prelude.{Option, Some, None, Result, Ok, Err, ◌==◌, ◌||◌, ◌&&◌, is_some, decimal}
+use Rattle.std.specs.Prelude.{Option, Some, None, Ok, ◌==◌, ◌||◌, ◌&&◌, is_some, decimal}
 use Rattle.std.specs.Fmt.{digits, signed_decimal}
 use Rattle.std.specs.List.{list_all, list_any}
 use Rattle.std.specs.Char.{is_ascii_digit}
@@ -12,10 +12,9 @@ use Rattle.std.proofs.lemmas.Fmt.{decimal-digits_of}
 use Rattle.std.proofs.lemmas.Int.Digits.{first_digits_of, all_below_base_digits_of, number_digits_of}
 use Rattle.pdl_slices.specs.declared.SliceArg.{SliceArg}
 use Rattle.pdl_slices.specs.declared.SliceArg.TheVariants.{Whole, One, Dropped, Dummy, Span}
-use Rattle.pdl_slices.specs.declared.SliceFault.{SliceFault}
 use Rattle.pdl_slices.specs.Grammar.{is_blank, Blanks, no_blank, blank_after, Digits, one_digit, digit_after, Number, plain, minus, Field, left_out, given, Arg, nothing, one, dropped, colon, span, stepped, sized, star, Args, one_arg, arg_after, Spells, blanks_alone, listed}
-use Rattle.pdl_slices.specs.Refusals.{is_large, is_large_end, has_large_number, has_zero_step, refusal, IsRead}
-use Rattle.pdl_slices.specs.Meaning.{slice_of, TextsHaveOneMeaning}
+use Rattle.pdl_slices.specs.Refusals.{is_large, is_large_end, has_large_number, refusal, IsRead}
+use Rattle.pdl_slices.specs.Meaning.{TextsHaveOneMeaning}
 use Rattle.pdl_slices.specs.Written.{end_text, step_text, arg_text, more_text, slice_text, WrittenTextsAreRead}
 
 digit_is : (d : ℕ) → d < 10 → is_ascii_digit (48 + d) ≡ true
@@ -81,22 +80,18 @@ abbrev AllWritable : List SliceArg → Type 0
 AllWritable [] = Unit {0}
 AllWritable (a ∷ args) = IsWritable a × AllWritable args
 
-or_false : (a b : Bool) → (a || b) ≡ false → (a ≡ false) × (b ≡ false)
-or_false true b h = absurd (cc)
-or_false false b h = (refl, h)
-
 arg_spelled : (a : SliceArg) → IsWritable a → has_large_number a ≡ false → Arg a (arg_text a)
 arg_spelled Whole can small = colon [] [] (left_out [] no_blank) (left_out [] no_blank)
 arg_spelled (One n) can small = one n (signed_decimal n) (field_spelled n (ltb-false 2147483647 (nat_abs n) small))
 arg_spelled (Dropped n) can small = dropped n [] (signed_decimal n) [] no_blank (field_spelled n (ltb-false 2147483647 (nat_abs n) small)) no_blank
 arg_spelled (Dummy n) can small = subst (λ t. Arg (Dummy n) (42 ∷ t)) (append-nil (decimal n)) (sized n [] [] (decimal n) [] no_blank no_blank (decimal_spelled n (ltb-false 2147483647 n small)) no_blank)
 arg_spelled (Span from to None) can small =
-    let parts = or_false (is_large_end from || is_large_end to) false small in
-    let ends = or_false (is_large_end from) (is_large_end to) parts.0 in
+    let parts = or_parts (is_large_end from || is_large_end to) false small in
+    let ends = or_parts (is_large_end from) (is_large_end to) parts.0 in
     subst (λ t. Arg (Span from to None) (end_text from ++ 58 ∷ t)) (sym (append-nil (end_text to))) (span from to (end_text from) (end_text to) (end_spelled from ends.0) (end_spelled to ends.1) can)
 arg_spelled (Span from to (Some step)) can small =
-    let parts = or_false (is_large_end from || is_large_end to) (is_large (nat_abs step)) small in
-    let ends = or_false (is_large_end from) (is_large_end to) parts.0 in
+    let parts = or_parts (is_large_end from || is_large_end to) (is_large (nat_abs step)) small in
+    let ends = or_parts (is_large_end from) (is_large_end to) parts.0 in
     subst (Arg (Span from to (Some step))) (append_assoc (end_text from) (58 ∷ end_text to) (58 ∷ signed_decimal step))
     (stepped from to step (end_text from) (end_text to) (signed_decimal step) (end_spelled from ends.0) (end_spelled to ends.1) (field_spelled step (ltb-false 2147483647 (nat_abs step) parts.1)))
 
@@ -104,7 +99,7 @@ arg_spelled (Span from to (Some step)) can small =
 args_on : (done rest : List SliceArg) (s : List ℕ) → Args done s → AllWritable rest → list_any has_large_number rest ≡ false → Args (done ++ rest) (s ++ more_text rest)
 args_on done [] s spelled can small = subst (λ as'. Args as' (s ++ [])) (sym (append-nil done)) (subst (Args done) (sym (append-nil s)) spelled)
 args_on done (a ∷ rest) s spelled can small =
-    let parts = or_false (has_large_number a) (list_any has_large_number rest) small in
+    let parts = or_parts (has_large_number a) (list_any has_large_number rest) small in
     subst (λ as'. Args as' (s ++ 44 ∷ (arg_text a ++ more_text rest))) (append_assoc done (a ∷ []) rest)
     (subst (λ t. Args ((done ++ a ∷ []) ++ rest) t) (append_assoc s (44 ∷ arg_text a) (more_text rest))
     (args_on (done ++ a ∷ []) rest (s ++ 44 ∷ arg_text a) (arg_after done a s (arg_text a) spelled (arg_spelled a can.0 parts.0)) can.1 parts.1))
@@ -181,7 +176,7 @@ not_large args allowed =
 written : (args : List SliceArg) → AllWritable args → list_any has_large_number args ≡ false → Spells args (slice_text args)
 written [] can small = blanks_alone [] no_blank
 written (a ∷ args) can small =
-    let parts = or_false (has_large_number a) (list_any has_large_number args) small in
+    let parts = or_parts (has_large_number a) (list_any has_large_number args) small in
     listed (a ∷ args) (arg_text a ++ more_text args) (text_no_blank a args parts.0)
     (args_on (a ∷ []) args (arg_text a) (one_arg a (arg_text a) (arg_spelled a can.0 parts.0)) can.1 parts.1)
 

@@ -1,5 +1,5 @@
 use Rattle.std.proofs.Common.{◌≡◌, ap, sym, ◌∙◌, drop, Some, None}
-use Rattle.pdl_lemmas.specs.Lists.{take_rest}
+use Rattle.std.proofs.lemmas.List.{take_rest}
 use Rattle.pdl_code.specs.Lexing.{behind, lexeme_at}
 use Rattle.pdl_code.proofs.Walking.{blank_at, token_at, none_at, found_more, found_last}
 use Rattle.pdl_code.proofs.lexing.take_lexeme.Goals as goal
