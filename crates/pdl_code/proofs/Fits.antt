@@ -128,7 +128,7 @@ unrefused false r e = refl
 to_distinct : (xs : List ℕ) → has_twice nat_eq xs ≡ false → IsDistinct eqb xs
 unfolding IsDistinct
 to_distinct [] e = tt
-to_distinct (x ∷ xs) e = (apart x xs (or_parts (list_any (nat_eq x) xs) (has_twice nat_eq xs) e).0), to_distinct xs (or_parts (list_any (nat_eq x) xs) (has_twice nat_eq xs) e).1)
+to_distinct (x ∷ xs) e = (apart x xs (or_parts (list_any (nat_eq x) xs) (has_twice nat_eq xs) e).0, to_distinct xs (or_parts (list_any (nat_eq x) xs) (has_twice nat_eq xs) e).1)
   where
     apart : (x : ℕ) (ys : List ℕ) → list_any (nat_eq x) ys ≡ false → AllByRecursion (λ y. nat_eq x y ≡ false) ys
     apart x [] h = tt
