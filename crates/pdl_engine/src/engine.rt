@@ -298,7 +298,7 @@ impl Engine {
     {
         row_laws();
         assignment_laws();
-        pdl_push::assign(&mut self.table, id, values, steps)
+        pdl_push::assign(&mut self.table, id, 0, values, steps)
     }
 
     /// Whether an array is the parent of a view.

@@ -1,5 +1,5 @@
 -- What a change of one family leaves.
-use Rattle.std.proofs.Common.{◌≡◌, ℕ, ℤ, Bool, true, false, eqb, cond, List, [], ◌∷◌, Option, Some, None, inl, inr, refl, sym, ◌∙◌, ap, subst}
+use Rattle.std.proofs.Common.{drop, ◌≡◌, ℕ, ℤ, Bool, true, false, eqb, cond, List, [], ◌∷◌, Option, Some, None, inl, inr, refl, sym, ◌∙◌, ap, subst}
 use Rattle.std.proofs.lemmas.Bool.{cases_eq}
 use Rattle.std.proofs.lemmas.Bool.Decides.{eqb_tells}
 use Rattle.std.specs.Prelude.{Ok}
@@ -9,6 +9,7 @@ use Rattle.pdl_shape.specs.Places.{places_of as parent_places}
 use Rattle.pdl_shape.specs.Triple.{Triple}
 use Rattle.pdl_world.specs.declared.Trans.{Trans}
 use Rattle.pdl_world.specs.Formula.{child_dims, source}
+use Rattle.pdl_nodes.specs.Parts.{assign_part}
 use Rattle.pdl_world.specs.World.{World, view, root_elements, elements, assign}
 use Rattle.pdl_world.specs.Windows.{over}
 use Rattle.pdl_nodes.specs.declared.origin.Layout.{Layout}
@@ -180,15 +181,15 @@ world_same rt f rs q w o h =
       | inr n ↦ latest_other rt f rs k q w i (o.family k i) n
     ])
 
-pub world_assigned : (rt : ℕ) (f : ℕ → Row → Row) (rs : Rows) (v : ℕ) (vs : List ℤ) → IsQuiet f → IsWithin rt f rs → InOrder rs → has rs v ≡ true → (row_at rs v).root ≡ rt → latest (each f rs) rt ≡ write (places_of rs v) vs (latest rs rt) → world_of (each f rs) ≡ assign (world_of rs) v vs
-world_assigned rt f rs v vs q w o l e h =
+pub world_assigned : (rt : ℕ) (f : ℕ → Row → Row) (rs : Rows) (v first : ℕ) (vs : List ℤ) → IsQuiet f → IsWithin rt f rs → InOrder rs → has rs v ≡ true → (row_at rs v).root ≡ rt → latest (each f rs) rt ≡ write (drop first (places_of rs v)) vs (latest rs rt) → world_of (each f rs) ≡ assign_part (world_of rs) v first vs
+world_assigned rt f rs v first vs q w o l e h =
     let s : IsSeen rs v = is_seen rs o.still v l in
     ap (λ x. with_elements (latest (each f rs)) x) (shape_each f rs q)
-    ∙ with_roots (latest (each f rs)) (λ k. cond (eqb k (row_at rs v).root) (write (places_of rs v) vs (latest rs (row_at rs v).root)) (latest rs k)) rs o.still (λ k i. elim (eqb_tells k (row_at rs v).root) [
-      | inl t ↦ rw t.0 (ap (latest (each f rs)) (t.1 ∙ e) ∙ h ∙ ap (λ x. write (places_of rs v) vs (latest rs x)) (sym e))
+    ∙ with_roots (latest (each f rs)) (λ k. cond (eqb k (row_at rs v).root) (write (drop first (places_of rs v)) vs (latest rs (row_at rs v).root)) (latest rs k)) rs o.still (λ k i. elim (eqb_tells k (row_at rs v).root) [
+      | inl t ↦ rw t.0 (ap (latest (each f rs)) (t.1 ∙ e) ∙ h ∙ ap (λ x. write (drop first (places_of rs v)) vs (latest rs x)) (sym e))
       | inr t ↦ rw t.0 (latest_other rt f rs k q w i (o.family k i) (λ g. t.1 (g ∙ sym e)))
     ])
-    ∙ sym (assign_with (latest rs) (shape rs) v _ vs s.looks (root_elements_with (latest rs) rs (row_at rs v).root o.still (s.root_has, s.root_root)))
+    ∙ sym (assign_with (latest rs) (shape rs) v _ first vs s.looks (root_elements_with (latest rs) rs (row_at rs v).root o.still (s.root_has, s.root_root)))
 
 pub still_falls : (rs : Rows) → IsStill rs → Falls rs
 still_falls [] s = tt

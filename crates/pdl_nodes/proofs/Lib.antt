@@ -22,6 +22,7 @@ mod Joins
 mod Moving
 mod Lowered
 mod Liftings
+mod Writes
 mod OverBases
 mod Alikes
 mod Paths

@@ -1,20 +1,74 @@
 -- What is known when the kept elements of a marked view are taken out, while its root is written.
-use Rattle.std.proofs.Common.{◌≡◌, ℕ, ℤ, Bool, true, false, List, [], Option, Some, None, refl, sym, ◌∙◌, ap, subst}
+use Rattle.std.proofs.Common.{◌≡◌, ℕ, ℤ, Bool, true, false, List, [], length, Option, Some, None, is_some, refl, sym, ◌∙◌, ap, subst}
 use Rattle.slab.specs.Slab.{Slab, get, ContainsKey, with_value}
 use Rattle.pdl_buf.specs.Buffer.{TypedElements}
 use Rattle.pdl_nodes.specs.Numbered.{value_at}
-use Rattle.pdl_nodes.specs.Row.{Row}
-use Rattle.pdl_nodes.specs.Rows.{Rows, row_at, each}
+use Rattle.pdl_nodes.specs.Row.{Row, is_buffered, parent_of, places_or}
+use Rattle.pdl_nodes.specs.Rows.{Rows, row_at, has, each}
 use Rattle.pdl_nodes.specs.declared.marked.Marked.{Marked}
 use Rattle.pdl_nodes.specs.Changes.{kept_in, lift_in, fill_in, or_known}
 use Rattle.pdl_nodes.specs.Marked.{AreListed}
 use Rattle.pdl_nodes.specs.Table.{rows_of, IsTable}
-use Rattle.pdl_nodes.specs.Known.{IsLiftable}
+use Rattle.pdl_nodes.specs.Families.{InOrder, IsMarked, IsWaiting}
+use Rattle.pdl_nodes.specs.Known.{AreKnown, IsKnown}
+use Rattle.pdl_nodes.specs.Seen.{IsSeen}
+use Rattle.pdl_nodes.specs.Worlds.{IsRoot, latest, places_of}
+use Rattle.pdl_shape.specs.Places.{element_at}
+use Rattle.pdl_shape.specs.Shape.{size_of}
+use Rattle.std.proofs.lemmas.List.{length-map}
 use Rattle.pdl_nodes.proofs.Calls.{changed_one, node_is, table_falls}
 use Rattle.pdl_nodes.proofs.Finds.{each_has, each_at}
 use Rattle.pdl_nodes.proofs.Listing.{table_one, listed_each}
 use Rattle.pdl_nodes.proofs.Lowered.{lowered}
 use Rattle.pdl_nodes.proofs.Marks.{lift_here, lift_others, kept_here, kept_others, fill_here, fill_others}
+use Rattle.pdl_nodes.proofs.Origins.{root_buffered, view_parent}
+use Rattle.pdl_nodes.proofs.Seens.{is_seen}
+
+-- b is a marked view over the root rt, its places are known, and both have as many elements as
+-- their dimensions say
+pub record IsLiftable (rs : Rows) (rt b : ℕ) : Type 0 where
+  pub live : has rs b ≡ true
+  pub view : is_some (parent_of (row_at rs b)) ≡ true
+  pub found : is_some (row_at rs b).places ≡ true
+  pub mark : (row_at rs b).mark ≡ true
+  pub size : length (row_at rs b).kept ≡ size_of (row_at rs b).triple.dims
+  pub count :
+      (ps : List (Option ℕ)) → (row_at rs b).places ≡ Some ps
+      → length ps ≡ size_of (row_at rs b).triple.dims
+  pub places : (ps : List (Option ℕ)) → (row_at rs b).places ≡ Some ps → ps ≡ places_of rs b
+  pub same_type : (row_at rs b).ty ≡ (row_at rs rt).ty
+  pub root_live : has rs rt ≡ true
+  pub root_buffered : is_buffered (row_at rs rt) ≡ true
+  pub root_size : length (row_at rs rt).kept ≡ size_of (row_at rs rt).triple.dims
+  pub apart : rt ≡ b → ⊥
+
+-- so is a view that waits
+pub liftable : (rs : Rows) (rt b : ℕ) → InOrder rs → AreKnown rs → IsRoot rs rt → (row_at rs rt).waiting ≡ Some b → IsLiftable rs rt b
+liftable rs rt b o k i e =
+    let w : IsWaiting rs rt b = (o.family rt i).waits b e in
+    let own : (row_at rs b).root ≡ b → ⊥ = λ y. w.not_root (sym y ∙ w.of_root) in
+    let a : IsMarked rs b = (o.family rt i).marked b w.marked w.of_root in
+    let s : IsSeen rs b = is_seen rs o.still b w.live in
+    let x : IsKnown rs b = k b w.live in
+    record {
+      live = w.live;
+      view = view_parent rs o.still b w.live own;
+      found = x.found w.marked own;
+      mark = w.marked;
+      size = ap (λ (xs : List ℤ). length xs) a.shows ∙ length-map (places_of rs b) (element_at (latest rs (row_at rs b).root)) ∙ s.count;
+      count = λ ps e. ap (λ (xs : List (Option ℕ)). length xs) (x.places ps e) ∙ s.count;
+      places = x.places;
+      same_type = sym s.root_ty ∙ ap (λ v. (row_at rs v).ty) w.of_root;
+      root_live = i.0;
+      root_buffered = root_buffered rs o.still rt i.0 i.1;
+      root_size = (o.family rt i).count;
+      apart = λ y. w.not_root (sym y);
+    }
+
+-- the places that are known, where they are
+pub known_or : (o : Option (List (Option ℕ))) (qs : List (Option ℕ)) → is_some o ≡ true → ((ps : List (Option ℕ)) → o ≡ Some ps → ps ≡ qs) → places_or o ≡ qs
+known_or None qs h e = absurd (cc)
+known_or (Some ps) qs h e = e ps refl
 
 -- ---- while it is out of a table, and the root is written
 rows_lifted : (t : Rows) (keys : List (ℕ × ℕ)) (nodes : Slab Row) (b key : ℕ) (r q : Row) → rows_of nodes keys ≡ t → IsTable keys nodes → value_at keys b ≡ Some key → get nodes key ≡ Some r

@@ -1,38 +1,47 @@
--- Values that go through places.
-use Rattle.std.proofs.Common.{◌≡◌, ℕ, ℤ, List, [], ◌∷◌, length, map, Option, Some, None, refl, sym, ◌∙◌, ap}
+-- Values that go through places, from a position on.
+use Rattle.std.proofs.Common.{suc, zero, ◌≡◌, ◌+◌, ◌-◌, ◌<◌, ◌≤◌, min, ℕ, ℤ, List, [], ◌∷◌, length, take, drop, map, get_or, Option, Some, None, refl, sym, ◌∙◌, ap, arith}
 use Rattle.std.specs.List.{range_with_len}
+use Rattle.std.proofs.lemmas.List.{ext_get_or, get_or-take, get_or-drop, length-take-le, length-drop, length-map, drop-map}
+use Rattle.std.proofs.lemmas.List.FromFn.{length-map-range_with_len, get_or-map-range_with_len}
 use Rattle.std.proofs.lemmas.Simd.{map-map}
 use Rattle.pdl_shape.specs.Shape.{size_of}
 use Rattle.pdl_shape.specs.Places.{put, write}
 use Rattle.pdl_shape.specs.Triple.{Triple}
 use Rattle.pdl_buf.specs.Window.{place_at}
-use Rattle.pdl_nodes.specs.Assigned.{entry, put_all, put_at, put_seen, seen, seen_at}
-use Rattle.pdl_nodes.specs.Placed.{placed, placed_by}
 use Rattle.pdl_nodes.specs.Spots.{spots}
 
--- the places of a route over a base
-pub over_is : (known : Option (List (Option ℕ))) (t u : Triple) (vs es : List ℤ) → u ≡ t → length vs ≡ size_of t.dims
-    → write (map (λ p. placed known (place_at u p)) (range_with_len 0 (length vs))) vs es ≡ write (placed_by known t) vs es
-over_is known t u vs es s l =
-    ap (λ (w : Triple). write (map (λ p. placed known (place_at w p)) (range_with_len 0 (length vs))) vs es) s
-    ∙ ap (λ (n : ℕ). write (map (λ p. placed known (place_at t p)) (range_with_len 0 n)) vs es) l
-    ∙ ap (λ (ps : List (Option ℕ)). write ps vs es) (sym (map-map (placed known) (place_at t) (range_with_len 0 (size_of t.dims))))
+-- as many places as values are written
+write_few : (ps : List (Option ℕ)) (vs es : List ℤ) → write (take (length vs) ps) vs es ≡ write ps vs es
+write_few [] [] es = refl
+write_few [] (x ∷ vs) es = refl
+write_few (p ∷ ps) [] es = refl
+write_few (p ∷ ps) (x ∷ vs) es = write_few ps vs (put p x es)
 
-put_one : (o : Option ℕ) (i : ℕ) (x : ℤ) (ks : List ℤ) → put_at o i x ks ≡ put (seen_at o i) x ks
-put_one None i x ks = refl
-put_one (Some q) i x ks = refl
+-- the places of so many positions from one on are those of a route that begins there
+places_from : (f : ℕ → Option ℕ) (size first n : ℕ) → first + n ≤ size → map (λ p. f (first + p)) (range_with_len 0 n) ≡ take n (drop first (map f (range_with_len 0 size)))
+places_from f size first n h =
+    let all : List (Option ℕ) = map f (range_with_len 0 size) in
+    let long : length all ≡ size = length-map-range_with_len f 0 size in
+    let rest : length (drop first all) ≡ size - first = length-drop first all ∙ ap (λ k. k - first) long in
+    let some : length (take n (drop first all)) ≡ n = length-take-le n (drop first all) (omega (arith, rest)) in
+    let g : ℕ → Option ℕ = λ p. f (first + p) in
+    let many : length (map g (range_with_len 0 n)) ≡ n = length-map-range_with_len g 0 n in
+    ext_get_or None (map g (range_with_len 0 n)) (take n (drop first all)) (many ∙ sym some) (λ i l.
+    let low : i < n = omega (arith, many) in
+    get_or-map-range_with_len g 0 n i i None low (omega arith)
+    ∙ sym (get_or-map-range_with_len f 0 size (first + i) (first + i) None (omega arith) (omega arith))
+    ∙ sym (get_or-drop first all i None)
+    ∙ sym (get_or-take n (drop first all) i None low))
 
--- values that go through a base are written at its positions that have a place
-put_writes : (ps : List (Option ℕ)) (is : List ℕ) (vs ks : List ℤ) → put_all ps is vs ks ≡ write (map (seen ps) is) vs ks
-put_writes ps [] vs ks = refl
-put_writes ps (i ∷ is) [] ks = refl
-put_writes ps (i ∷ is) (x ∷ vs) ks =
-    put_writes ps is vs (put_seen ps i x ks) ∙ ap (λ (ls : List ℤ). write (map (seen ps) is) vs ls) (put_one (entry ps i) i x ks)
+-- what a route from a position on writes
+pub from_is : (f : ℕ → Option ℕ) (size first : ℕ) (vs es : List ℤ) → first + length vs ≤ size → write (map (λ p. f (first + p)) (range_with_len 0 (length vs))) vs es ≡ write (drop first (map f (range_with_len 0 size))) vs es
+from_is f size first vs es h =
+    ap (λ ps. write ps vs es) (places_from f size first (length vs) h) ∙ write_few (drop first (map f (range_with_len 0 size))) vs es
 
-pub through_is : (ps : List (Option ℕ)) (t u : Triple) (vs es : List ℤ) → u ≡ t → length vs ≡ size_of t.dims
-    → write (map (λ p. seen ps (place_at u p)) (range_with_len 0 (length vs))) vs es ≡ put_all ps (spots t) vs es
-through_is ps t u vs es s l =
-    ap (λ (w : Triple). write (map (λ p. seen ps (place_at w p)) (range_with_len 0 (length vs))) vs es) s
-    ∙ ap (λ (n : ℕ). write (map (λ p. seen ps (place_at t p)) (range_with_len 0 n)) vs es) l
-    ∙ ap (λ (qs : List (Option ℕ)). write qs vs es) (sym (map-map (seen ps) (place_at t) (range_with_len 0 (size_of t.dims))))
-    ∙ sym (put_writes ps (spots t) vs es)
+-- what a route writes that goes by a triple
+pub route_is : (f : ℕ → Option ℕ) (t u : Triple) (first : ℕ) (vs es : List ℤ) → u ≡ t → first + length vs ≤ size_of t.dims
+    → write (map (λ p. f (place_at u (first + p))) (range_with_len 0 (length vs))) vs es ≡ write (drop first (map f (spots t))) vs es
+route_is f t u first vs es s l =
+    ap (λ (w : Triple). write (map (λ p. f (place_at w (first + p))) (range_with_len 0 (length vs))) vs es) s
+    ∙ from_is (λ p. f (place_at t p)) (size_of t.dims) first vs es l
+    ∙ ap (λ (ps : List (Option ℕ)). write (drop first ps) vs es) (sym (map-map f (place_at t) (range_with_len 0 (size_of t.dims))))

@@ -33,4 +33,6 @@ pub mod NumberLaws
 pub mod SeenLaws
 pub mod RowLaws
 pub mod Quiet
+pub mod Parts
+pub mod Put
 pub mod QuietLaws

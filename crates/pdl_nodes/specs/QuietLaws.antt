@@ -1,8 +1,8 @@
 -- Laws of changes that leave what is derived of each row, within one family: an assignment,
 -- writing back and filling are such changes.
-use Rattle.std.specs.Prelude.{◌≡◌, ℕ, ℤ, List, true}
+use Rattle.std.specs.Prelude.{drop, ◌≡◌, ℕ, ℤ, List, true}
 use Rattle.pdl_shape.specs.Places.{write}
-use Rattle.pdl_world.specs.World.{assign}
+use Rattle.pdl_nodes.specs.Parts.{assign_part}
 use Rattle.pdl_nodes.specs.Alike.{IsAlike}
 use Rattle.pdl_nodes.specs.Families.{InFamily, InOrder}
 use Rattle.pdl_nodes.specs.Quiet.{IsQuiet, IsWithin}
@@ -31,7 +31,7 @@ pub record QuietLaws : Type 0 where
       → latest (each f rs) rt ≡ latest rs rt → world_of (each f rs) ≡ world_of rs
   -- or the world in which values are assigned to an array of it, where its root has these then
   pub world_assigned :
-      (rt : ℕ) (f : ℕ → Row → Row) (rs : Rows) (v : ℕ) (vs : List ℤ) → IsQuiet f
+      (rt : ℕ) (f : ℕ → Row → Row) (rs : Rows) (v : ℕ) (first : ℕ) (vs : List ℤ) → IsQuiet f
       → IsWithin rt f rs → InOrder rs → has rs v ≡ true → (row_at rs v).root ≡ rt
-      → latest (each f rs) rt ≡ write (places_of rs v) vs (latest rs rt)
-      → world_of (each f rs) ≡ assign (world_of rs) v vs
+      → latest (each f rs) rt ≡ write (drop first (places_of rs v)) vs (latest rs rt)
+      → world_of (each f rs) ≡ assign_part (world_of rs) v first vs

@@ -4,6 +4,8 @@ use Rattle.std.specs.Option.{ForSome}
 use Rattle.pdl_elem.specs.declared.Ty.{Ty}
 use Rattle.pdl_shape.specs.Triple.{Triple, whole_triple}
 use Rattle.pdl_buf.specs.Buffer.{TypedElements}
+use Rattle.pdl_nodes.specs.declared.node.Goal.{Goal}
+use Rattle.pdl_nodes.specs.declared.node.Goal.TheVariants as goal
 use Rattle.pdl_nodes.specs.declared.node.Shown.{Shown}
 use Rattle.pdl_nodes.specs.declared.origin.Origin.{Origin}
 use Rattle.pdl_nodes.specs.declared.origin.Origin.TheVariants.{Root, View}
@@ -35,6 +37,11 @@ parent_of r = parent_from r.origin
 -- where the elements of v stand
 abbrev pub shown_of : (v : ℕ) → Row → Shown
 shown_of v r = record { id = v; root = r.root; base = r.base; triple = r.triple }
+
+-- the number of the array whose elements values are put into
+abbrev pub goal_of : Goal → Shown → ℕ
+goal_of goal.Root s = s.root
+goal_of goal.Base s = s.base
 
 -- the elements of a buffer, if there is one
 abbrev pub elements_or : Option TypedElements → List ℤ

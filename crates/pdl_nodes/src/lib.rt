@@ -22,7 +22,7 @@ pub use apart::Apart;
 pub use holds::{Hold, Holds, insert};
 pub use laws::{cut_row_laws, reshape_row_laws, row_laws};
 pub use moves::{entry, placed};
-pub use node::{Node, Shown};
+pub use node::{Goal, Node, Shown};
 pub use origin::{Layout, Origin};
 pub use table::Table;
 pub use upward::{goes_with, let_all, let_parent_up, remove_all};

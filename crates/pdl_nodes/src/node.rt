@@ -1,18 +1,16 @@
 //! What is kept of one array.
-ghost use Rattle.std.specs.Prelude.{◌≡◌, ℕ, ◌+◌, ◌<◌, ◌^◌, ◌==◌, ◌&&◌, if◌then◌else◌, [], length, All, is_some, true, false, Some, None};
-ghost use Rattle.pdl_buf.specs.Window.{place_at};
+ghost use Rattle.std.specs.Prelude.{◌≡◌, ℕ, ◌+◌, ◌<◌, ◌≤◌, ◌^◌, ◌==◌, if◌then◌else◌, [], drop, length, map, All, is_some, true, false, Some, None};
+ghost use Rattle.std.specs.List.{range_with_len};
 ghost use Rattle.pdl_elem.specs.Types.{InRange};
 ghost use Rattle.pdl_shape.specs.Places.{write};
 ghost use Rattle.pdl_shape.specs.Shape.{size_of};
-ghost use Rattle.pdl_nodes.specs.Assigned.{put_all};
-ghost use Rattle.pdl_nodes.specs.Row.{parent_of, is_buffered, places_or, shown_of};
+ghost use Rattle.pdl_nodes.specs.Row.{goal_of, parent_of, is_buffered, shown_of};
 ghost use Rattle.pdl_nodes.specs.Changes.{or_known};
-ghost use Rattle.pdl_nodes.specs.Placed.{in_order, placed_by};
-ghost use Rattle.pdl_nodes.specs.Spots.{spots};
+ghost use Rattle.pdl_nodes.specs.Placed.{goes_by, in_order};
 
-use crate::moves;
+use crate::moves::{InOrder, OverBase, ThroughBase};
 use crate::origin::Origin;
-use pdl_buf::{Buf, Steps, scatter_from};
+use pdl_buf::{Buf, Placement, Route, Steps, scatter_by, scatter_from};
 use pdl_choice::Places;
 use pdl_elem::Ty;
 use pdl_shape::{Triple, copy_triple, elements_of};
@@ -34,6 +32,25 @@ pub struct Shown {
     pub root: u64,
     pub base: u64,
     pub triple: Triple,
+}
+
+/// Where values of an array are put: into its root, or into its base, where they wait.
+#[derive(Clone, Copy)]
+pub enum Goal {
+    Root,
+    Base,
+}
+
+impl Shown {
+    /// The number of the array whose elements values are put into.
+    pub fn number(&self, goal: Goal) -> u64
+        ensures { result ≡ goal_of goal self.now }
+    {
+        match goal {
+            Goal::Root => self.root,
+            Goal::Base => self.base,
+        }
+    }
 }
 
 /// One array.
@@ -224,68 +241,119 @@ impl Node {
         }
     }
 
-    /// Puts values at places of what is kept that a triple shows over a base, in order. It takes a
-    /// step for each value.
-    pub fn put_over<L: Ledger>(
+    /// Puts values at the places that a route gives to the first positions into what is kept, in
+    /// order. It takes a step for each value.
+    pub(crate) fn put_by<R: Route, L: Ledger>(
         &mut self,
-        known: &Option<Places>,
-        triple: &Triple,
+        route: &R,
         values: &[i64],
         steps: &mut Steps<L>,
     )
         requires buffered { is_buffered self.old ≡ true }
-        requires paired { length values.now ≡ size_of triple.now.dims }
+        requires few { length values.now ≤ R.count route.now }
+        requires small { length values.now < 2 ^ 32 }
         requires in_range { All (InRange self.old.ty) values.now }
-        ensures value { self.new ≡ record self.old
-            { kept = write (placed_by known.now triple.now) values.now self.old.kept } }
+        ensures value { let places = map (R.goes_to route.now) (range_with_len 0 (length values.now)) in
+            self.new ≡ record self.old { kept = write places values.now self.old.kept } }
         ensures counted { steps.new ≡ steps.old + length values.now }
     {
         match &mut self.kept {
-            Some(kept) => moves::put_over(kept, known, triple, values, steps),
+            Some(kept) => scatter_by(kept, route, values, steps),
             None => unreachable!(),
         }
     }
 
-    /// Puts as many values as it has positions into what is kept, in order. It takes a step for
-    /// each.
-    pub fn put_in_order<L: Ledger>(&mut self, values: &[i64], steps: &mut Steps<L>)
+    /// Puts values for the positions from one on that a triple shows over a base, of which these
+    /// places are known, into what is kept of the goal. It takes a step for each value.
+    pub(crate) fn put<L: Ledger>(
+        &mut self,
+        goal: Goal,
+        known: &Option<Places>,
+        triple: &Triple,
+        first: u32,
+        values: &[i64],
+        steps: &mut Steps<L>,
+    )
         requires buffered { is_buffered self.old ≡ true }
-        requires paired { length values.now ≡ size_of self.old.triple.dims }
-        requires in_range { All (InRange self.old.ty) values.now }
-        ensures value { self.new ≡ record self.old
-            { kept = write (in_order (size_of self.old.triple.dims)) values.now self.old.kept } }
-        ensures counted { steps.new ≡ steps.old + length values.now }
-    {
-        let count = elements_of(&self.triple.dims);
-        match &mut self.kept {
-            Some(kept) => moves::put_in_order(kept, count, values, steps),
-            None => unreachable!(),
-        }
-    }
-
-    /// Puts values at the positions that a triple shows and that have a place, in order. It takes a
-    /// step for each value.
-    pub fn put_through<L: Ledger>(&mut self, triple: &Triple, values: &[i64], steps: &mut Steps<L>)
-        requires buffered { is_buffered self.old ≡ true }
-        requires found { is_some self.old.places ≡ true }
-        requires paired { length values.now ≡ size_of triple.now.dims }
+        requires within { first + length values.now ≤ size_of triple.now.dims }
         requires in_range { All (InRange self.old.ty) values.now }
         ensures value { self.new ≡ record self.old {
-          kept = put_all (places_or self.old.places) (spots triple.now) values.now
+          kept = write (drop first (goes_by goal known.now triple.now)) values.now
               self.old.kept;
         } }
         ensures counted { steps.new ≡ steps.old + length values.now }
     {
-        match (&mut self.kept, &self.places) {
-            (Some(kept), Some(places)) => moves::put_through(
-                kept,
-                places.as_slice(),
-                triple,
+        let _count = elements_of(&triple.dims);
+        let placement = Placement::of(triple);
+        match goal {
+            Goal::Root => self.put_by(
+                &OverBase {
+                    placement,
+                    known,
+                    first,
+                },
                 values,
                 steps,
             ),
-            _ => unreachable!(),
+            Goal::Base => match known {
+                None => self.put_by(
+                    &OverBase {
+                        placement,
+                        known,
+                        first,
+                    },
+                    values,
+                    steps,
+                ),
+                Some(places) => {
+                    let places = places.as_slice();
+                    self.put_by(
+                        &ThroughBase {
+                            placement,
+                            places,
+                            first,
+                        },
+                        values,
+                        steps,
+                    )
+                }
+            },
         }
+    }
+
+    /// Puts values for the positions from one on into what is kept of an array that is its own
+    /// base, in order. It takes a step for each value.
+    pub(crate) fn put_in_order<L: Ledger>(
+        &mut self,
+        first: u32,
+        values: &[i64],
+        steps: &mut Steps<L>,
+    )
+        requires buffered { is_buffered self.old ≡ true }
+        requires within { first + length values.now ≤ size_of self.old.triple.dims }
+        requires in_range { All (InRange self.old.ty) values.now }
+        ensures value { let places = in_order (size_of self.old.triple.dims) in
+            self.new ≡ record self.old
+            { kept = write (drop first places) values.now self.old.kept } }
+        ensures counted { steps.new ≡ steps.old + length values.now }
+    {
+        let count = elements_of(&self.triple.dims);
+        self.put_by(&InOrder { first, count }, values, steps)
+    }
+
+    /// Takes the places out that are known.
+    pub(crate) fn take_places(&mut self) -> Option<Places>
+        ensures places { result ≡ self.old.places }
+        ensures left { self.new ≡ record self.old { places = None } }
+    {
+        self.places.take()
+    }
+
+    /// Knows these places.
+    pub(crate) fn set_places(&mut self, places: Option<Places>)
+        ensures { self.new ≡ record self.old { places = places } }
+    {
+        self.places = places;
     }
 
     /// Is marked. A base has a buffer.

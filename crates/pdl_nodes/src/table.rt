@@ -1,32 +1,31 @@
 //! Nodes by their numbers: a slab, and the key of each number.
-ghost use Rattle.std.specs.Prelude.{◌≡◌, ◌≢◌, ℕ, ◌+◌, ◌-◌, ◌<◌, ◌^◌, ◌==◌, ◌∷◌, if◌then◌else◌, [], true, false, length, All, is_none, is_some, Some, None, IfSome, OnOk, OnErr};
+ghost use Rattle.std.specs.Prelude.{◌≡◌, ◌≢◌, ℕ, ◌+◌, ◌-◌, ◌<◌, ◌^◌, ◌==◌, ◌∷◌, if◌then◌else◌, [], true, false, length, is_none, Some, None, IfSome, OnOk, OnErr};
+ghost use Rattle.std.specs.Option.{IsSome};
 ghost use Rattle.slab.specs.Slab.{HasRoomFor};
-ghost use Rattle.pdl_elem.specs.Types.{InRange};
-ghost use Rattle.pdl_shape.specs.Places.{write};
 ghost use Rattle.pdl_shape.specs.Shape.{size_of};
 ghost use Rattle.pdl_world.specs.Cut.{has_views};
-ghost use Rattle.pdl_nodes.specs.Assigned.{put_all};
 ghost use Rattle.pdl_nodes.specs.Children.{children, noted, one_of};
 ghost use Rattle.pdl_nodes.specs.Marked.{AreListed};
 ghost use Rattle.pdl_nodes.specs.Numbered.{IsAbove, IsPut, Rises, value_at};
 ghost use Rattle.pdl_nodes.specs.Table.{IsTable, rows_of};
-ghost use Rattle.pdl_nodes.specs.Placed.{in_order, placed_by};
-ghost use Rattle.pdl_nodes.specs.Spots.{spots};
 ghost use Rattle.pdl_nodes.specs.Rows.{NumbersBelow, row_at, has, each, without};
-ghost use Rattle.pdl_nodes.specs.Row.{is_buffered, parent_of, places_or, shown_of};
+ghost use Rattle.pdl_nodes.specs.Row.{is_buffered, parent_of, shown_of};
 ghost use Rattle.pdl_nodes.specs.Changes.{kept_in, wait_in, fill_in, marked_in, mark_in};
 ghost use Rattle.pdl_nodes.specs.Cut.{CanCut, CanDerive, cut, derived_in, from, rooted_in};
-ghost use Rattle.pdl_nodes.specs.Known.{IsLiftable};
-ghost use Rattle.pdl_nodes.specs.Worlds.{shape};
+ghost use Rattle.pdl_nodes.specs.Families.{InOrder};
+ghost use Rattle.pdl_nodes.specs.Known.{AreKnown};
+ghost use Rattle.pdl_nodes.specs.Put.{IsWrite, put_in};
+ghost use Rattle.pdl_nodes.specs.Worlds.{IsRoot, latest, shape};
+ghost use Rattle.pdl_nodes.specs.declared.node.Goal.TheVariants.{Root};
 
 use crate::children::Children;
 use crate::marked::{Marked, unmark, unmark_one};
-use crate::node::{Lifted, Node, Shown};
+use crate::node::{Goal, Lifted, Node, Shown};
 use crate::numbered::Numbered;
 use pdl_affine::{view_laws, window_laws};
 use pdl_buf::{Buf, Steps};
 use pdl_choice::Places;
-use pdl_shape::{Dims, Triple, shape_laws, triple_laws};
+use pdl_shape::{Dims, shape_laws, triple_laws};
 use slab::Slab;
 use std::alloc::{AllocError, Global};
 use std::marker::Model;
@@ -139,6 +138,15 @@ fn mark_at(
     marked.keep(root, base);
 }
 
+/// The key of an array where that of another is at hand: if it is another it is looked up.
+fn key_of(keys: &Numbered<usize>, other: u64, key: usize, id: u64) -> usize
+    requires other { value_at keys.now other ≡ Some key }
+    requires live { IsSome (value_at keys.now id) }
+    ensures { value_at keys.now id ≡ Some result }
+{
+    if id == other { key } else { keys[id] }
+}
+
 impl Table {
     /// No nodes.
     pub fn new(alloc: Global) -> Table
@@ -230,14 +238,14 @@ impl Table {
         true
     }
 
-    /// Puts the elements that are kept of a marked view at its places in its root, in order. It
-    /// takes a step for each. Marks, and what waits, are left to the caller.
+    /// Puts the elements that wait in the family of a root into it, in order. It takes a step for
+    /// each. Marks, and what waits, are left to the caller.
     pub fn put_back<L: Ledger>(&mut self, root: u64, id: u64, steps: &mut Steps<L>)
-        requires view { IsLiftable self.old root id }
-        ensures put { self.new ≡ each (kept_in root (write
-            (places_or (row_at self.old id).places)
-            (row_at self.old id).kept
-            (row_at self.old root).kept)) self.old }
+        requires order { InOrder self.old }
+        requires known { AreKnown self.old }
+        requires root { IsRoot self.old root }
+        requires waits { (row_at self.old root).waiting ≡ Some id }
+        ensures put { self.new ≡ each (kept_in root (latest self.old root)) self.old }
         ensures counted { steps.new ≡ steps.old + size_of (row_at self.old id).triple.dims }
     {
         let key = self.keys[id];
@@ -249,76 +257,26 @@ impl Table {
         self.nodes[key].fill(kept, repeats, Some(places));
     }
 
-    /// Puts values at the places of a root that a triple shows over it, in order. It takes a step
-    /// for each value. Marks are left to the caller, as by the next two calls.
-    pub fn put_over<L: Ledger>(
+    /// Puts values for the positions of an array from one on into its root or its base, in order.
+    /// It takes a step for each value. Marks, and what waits, are left to the caller.
+    pub fn put<L: Ledger>(
         &mut self,
-        root: u64,
-        triple: &Triple,
+        at: &Shown,
+        goal: Goal,
+        first: u32,
         values: &[i64],
         steps: &mut Steps<L>,
     )
-        requires live { has self.old root ≡ true }
-        requires buffered { is_buffered (row_at self.old root) ≡ true }
-        requires paired { length values.now ≡ size_of triple.now.dims }
-        requires in_range { All (InRange (row_at self.old root).ty) values.now }
-        ensures put { self.new ≡ each (kept_in root (write (placed_by None triple.now) values.now
-            (row_at self.old root).kept)) self.old }
+        requires write { IsWrite self.old at.now.id first values.now }
+        requires shown { at.now ≡ shown_of at.now.id (row_at self.old at.now.id) }
+        ensures put { self.new ≡ each (put_in goal self.old at.now.id first values.now) self.old }
         ensures counted { steps.new ≡ steps.old + length values.now }
     {
-        let key = self.keys[root];
-        self.nodes[key].put_over(&None, triple, values, steps);
-    }
-
-    /// Puts values at the places of a root that a triple shows over a marked view of it, in order.
-    /// It takes a step for each value.
-    pub fn put_past<L: Ledger>(
-        &mut self,
-        root: u64,
-        base: u64,
-        triple: &Triple,
-        values: &[i64],
-        steps: &mut Steps<L>,
-    )
-        requires view { IsLiftable self.old root base }
-        requires paired { length values.now ≡ size_of triple.now.dims }
-        requires in_range { All (InRange (row_at self.old root).ty) values.now }
-        ensures put { self.new ≡ each (kept_in root (write
-            (placed_by (row_at self.old base).places triple.now)
-            values.now
-            (row_at self.old root).kept)) self.old }
-        ensures counted { steps.new ≡ steps.old + length values.now }
-    {
-        let key = self.keys[base];
-        let repeats = self.nodes[key].repeats();
-        let Lifted { kept, places } = self.nodes[key].lift();
-        let known = Some(places);
-        let at = self.keys[root];
-        self.nodes[at].put_over(&known, triple, values, steps);
-        self.nodes[key].fill(kept, repeats, known);
-    }
-
-    /// Puts values at the positions of a node that a triple shows and that have a place, in order.
-    /// It takes a step for each value.
-    pub fn put_through<L: Ledger>(
-        &mut self,
-        id: u64,
-        triple: &Triple,
-        values: &[i64],
-        steps: &mut Steps<L>,
-    )
-        requires live { has self.old id ≡ true }
-        requires buffered { is_buffered (row_at self.old id) ≡ true }
-        requires found { is_some (row_at self.old id).places ≡ true }
-        requires paired { length values.now ≡ size_of triple.now.dims }
-        requires in_range { All (InRange (row_at self.old id).ty) values.now }
-        ensures put { self.new
-            ≡ each (kept_in id (put_all (places_or (row_at self.old id).places) (spots triple.now)
-            values.now (row_at self.old id).kept)) self.old }
-        ensures counted { steps.new ≡ steps.old + length values.now }
-    {
-        let key = self.keys[id];
-        self.nodes[key].put_through(triple, values, steps);
+        let base = self.keys[at.base];
+        let into = key_of(&self.keys, at.base, base, at.number(goal));
+        let known = self.nodes[base].take_places();
+        self.nodes[into].put(goal, &known, &at.triple, first, values, steps);
+        self.nodes[base].set_places(known);
     }
 
     /// Notes the view that waits in the family of a root, or that none does.
@@ -407,27 +365,21 @@ impl Table {
         );
     }
 
-    /// Puts as many values into a root as it has positions, in order, and marks it alone of its
+    /// Puts values for the positions from one on into a root, in order, and marks it alone of its
     /// family, as `mark` does, a step for each value. A view is left as it is, and the answer says
     /// where its elements stand.
-    pub fn assign_root<L: Ledger>(
+    pub fn put_root<L: Ledger>(
         &mut self,
         id: u64,
+        first: u32,
         values: &[i64],
         steps: &mut Steps<L>,
     ) -> Option<Shown>
-        requires live { has self.old id ≡ true }
-        requires buffered { (row_at self.old id).root ≡ id
-            → is_buffered (row_at self.old id) ≡ true }
-        requires paired { length values.now ≡ size_of (row_at self.old id).triple.dims }
-        requires in_range { All (InRange (row_at self.old id).ty) values.now }
+        requires { IsWrite self.old id first values.now }
         ensures root { is_none result ≡ ((row_at self.old id).root == id) }
         ensures view { IfSome result (λ at. at ≡ shown_of id (row_at self.old id)) }
         ensures put { self.new ≡ if is_none result
-            then each (mark_in id id) (each (kept_in id (write
-            (in_order (size_of (row_at self.old id).triple.dims))
-            values.now
-            (row_at self.old id).kept)) self.old)
+            then each (mark_in id id) (each (put_in Root self.old id first values.now) self.old)
             else self.old }
         ensures counted { steps.new
             ≡ steps.old + (if is_none result then length values.now else 0) }
@@ -437,7 +389,7 @@ impl Table {
         if node.root() != id {
             return Some(node.shown(id));
         }
-        self.nodes[key].put_in_order(values, steps);
+        self.nodes[key].put_in_order(first, values, steps);
         mark_at(&self.keys, &mut self.nodes, &mut self.marked, id, id, key);
         None
     }

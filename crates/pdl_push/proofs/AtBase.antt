@@ -1,21 +1,33 @@
 -- Values that wait in a base: rows stay in order, and mean the world that is assigned.
-use Rattle.std.proofs.Common.{◌≡◌, ℕ, ℤ, true, false, eqb, cond, List, length, map, Option, Some, None, inl, inr, refl, sym, ◌∙◌, ap, subst}
+use Rattle.std.proofs.Common.{suc, zero, [], ◌∷◌, drop, ◌≡◌, ℕ, ℤ, true, false, eqb, cond, List, length, map, Option, Some, None, inl, inr, refl, sym, ◌∙◌, ap, subst}
 use Rattle.std.proofs.lemmas.Bool.{eq-eqb, ne_eqb}
 use Rattle.std.proofs.lemmas.Bool.Decides.{eqb_tells}
-use Rattle.std.proofs.lemmas.List.{length-map}
+use Rattle.std.proofs.lemmas.List.{length-map, drop-map}
 use Rattle.pdl_shape.specs.Places.{AllBelow, read, write, element_at}
 use Rattle.pdl_shape.specs.Shape.{size_of}
-use Rattle.pdl_world.specs.World.{assign}
-use Rattle.pdl_nodes.specs.Assigned.{entry, put_all}
+use Rattle.pdl_nodes.specs.Assigned.{entry, seen}
 use Rattle.pdl_nodes.specs.Families.{has_repeats, IsMarked, IsWaiting, InFamily, InOrder}
+use Rattle.pdl_nodes.specs.Parts.{assign_part}
+use Rattle.pdl_nodes.specs.Put.{put_at}
 use Rattle.pdl_nodes.specs.Quiet.{IsQuiet, IsWithin}
 use Rattle.pdl_nodes.specs.RowLaws.{RowLaws}
 use Rattle.pdl_nodes.specs.Rows.{Rows, row_at, has, each}
 use Rattle.pdl_nodes.specs.Seen.{IsSeen}
 use Rattle.pdl_nodes.specs.Spots.{spots, Below}
+use Rattle.pdl_nodes.specs.declared.node.Goal.TheVariants.{Base}
 use Rattle.pdl_nodes.specs.Worlds.{places_of, latest, world_of, IsRoot}
-use Rattle.pdl_push.specs.Late.{await, put_through, IsThrough}
+use Rattle.pdl_push.specs.Late.{await}
 use Rattle.pdl_push.proofs.Puts.{write_read, write_all, read_all}
+
+-- v is shown over the marked base b without repeats, in the family of the root rt
+pub record IsThrough (rs : Rows) (rt b v : ℕ) : Type 0 where
+  pub order : InOrder rs
+  pub root : IsRoot rs rt
+  pub live : has rs v ≡ true
+  pub base_is : (row_at rs v).base ≡ b
+  pub root_is : (row_at rs v).root ≡ rt
+  pub marked : (row_at rs b).mark ≡ true
+  pub once : has_repeats (places_of rs b) ≡ false
 
 pub await_quiet : (rt b : ℕ) (ks : List ℤ) → IsQuiet (await rt b ks)
 await_quiet rt b ks = record { origin = λ k r. refl; ty = λ k r. refl; root = λ k r. refl; base = λ k r. refl; triple = λ k r. refl }
@@ -67,10 +79,25 @@ base_facts facts rs rt b v o i l eb er m =
       within = (let P : ℕ → Type 0 = λ n. AllBelow n (places_of rs b) in subst P (ap (λ x. size_of (row_at rs x).triple.dims) rb ∙ sym (facts.seen.length_latest rs rt ∙ (o.family rt i).count)) sb.within);
     }
 
+-- what holds of the base's places that are shown holds of those from a position on
+below_drop : (n first : ℕ) (is : List ℕ) → Below n is → Below n (drop first is)
+below_drop n zero is h = h
+below_drop n (suc k) [] h = h
+below_drop n (suc k) (i ∷ is) h = below_drop n k is h.1
+
+over_drop : (rs : Rows) (b v first : ℕ) → places_of rs v ≡ map (entry (places_of rs b)) (spots (row_at rs v).triple) → drop first (places_of rs v) ≡ map (entry (places_of rs b)) (drop first (spots (row_at rs v).triple))
+over_drop rs b v first e = ap (drop first) e ∙ drop-map (entry (places_of rs b)) first (spots (row_at rs v).triple)
+
+-- what the base keeps then
+put_shown : (rs : Rows) (b v first : ℕ) (vs : List ℤ) → (row_at rs v).base ≡ b → put_at Base rs v first vs ≡ write (map (seen (places_of rs b)) (drop first (spots (row_at rs v).triple))) vs (row_at rs b).kept
+put_shown rs b v first vs e =
+    ap (λ x. write (drop first (map (seen (places_of rs x)) (spots (row_at rs v).triple))) vs (row_at rs x).kept) e
+    ∙ ap (λ (ps : List (Option ℕ)). write ps vs (row_at rs b).kept) (drop-map (seen (places_of rs b)) first (spots (row_at rs v).triple))
+
 -- the latest elements are those with the values written at the places of v
-awaits_latest : (facts : RowLaws) → (rs : Rows) (rt b v : ℕ) (vs : List ℤ) → IsThrough rs rt b v → BaseFacts rs rt b v → (b ≡ rt → ⊥) → latest (each (await rt b (put_through rs v vs)) rs) rt ≡ write (places_of rs v) vs (latest rs rt)
-awaits_latest facts rs rt b v vs t f n =
-    let ks : List ℤ = put_through rs v vs in
+awaits_latest : (facts : RowLaws) → (rs : Rows) (rt b v first : ℕ) (vs : List ℤ) → IsThrough rs rt b v → BaseFacts rs rt b v → (b ≡ rt → ⊥) → latest (each (await rt b (put_at Base rs v first vs)) rs) rt ≡ write (drop first (places_of rs v)) vs (latest rs rt)
+awaits_latest facts rs rt b v first vs t f n =
+    let ks : List ℤ = put_at Base rs v first vs in
     let ns : Rows = each (await rt b ks) rs in
     let row : row_at ns rt ≡ await rt b ks rt (row_at rs rt) = facts.numbers.each_at (await rt b ks) rs rt t.root.0 in
     let base : row_at ns b ≡ await rt b ks b (row_at rs b) = facts.numbers.each_at (await rt b ks) rs b f.live in
@@ -80,22 +107,22 @@ awaits_latest facts rs rt b v vs t f n =
     ∙ ap (λ p. write p (row_at ns b).kept (row_at ns rt).kept) (facts.quiet.places_each (await rt b ks) rs b (await_quiet rt b ks))
     ∙ ap (λ x. write (places_of rs b) x (row_at ns rt).kept) kb
     ∙ ap (write (places_of rs b) ks) kr
-    ∙ ap (λ x. write (places_of rs b) (put_all (places_of rs x) (spots (row_at rs v).triple) vs (row_at rs x).kept) (row_at rs rt).kept) t.base_is
-    ∙ write_all (places_of rs b) (spots (row_at rs v).triple) vs (row_at rs b).kept (row_at rs rt).kept t.once f.count f.below
-    ∙ ap (λ x. write x vs (write (places_of rs b) (row_at rs b).kept (row_at rs rt).kept)) (sym f.over)
-    ∙ ap (write (places_of rs v) vs) (kept_writes facts rs rt b (t.order.family rt t.root) t.marked f.root_is)
+    ∙ ap (λ x. write (places_of rs b) x (row_at rs rt).kept) (put_shown rs b v first vs t.base_is)
+    ∙ write_all (places_of rs b) (drop first (spots (row_at rs v).triple)) vs (row_at rs b).kept (row_at rs rt).kept t.once f.count (below_drop (length (places_of rs b)) first (spots (row_at rs v).triple) f.below)
+    ∙ ap (λ x. write x vs (write (places_of rs b) (row_at rs b).kept (row_at rs rt).kept)) (sym (over_drop rs b v first f.over))
+    ∙ ap (write (drop first (places_of rs v)) vs) (kept_writes facts rs rt b (t.order.family rt t.root) t.marked f.root_is)
 
 -- the base keeps what it shows of them
-put_shows : (rs : Rows) (rt b v : ℕ) (vs : List ℤ) → IsThrough rs rt b v → BaseFacts rs rt b v → put_through rs v vs ≡ read (places_of rs b) (write (places_of rs v) vs (latest rs rt))
-put_shows rs rt b v vs t f =
-    ap (λ x. put_all (places_of rs x) (spots (row_at rs v).triple) vs (row_at rs x).kept) t.base_is
-    ∙ read_all (places_of rs b) (spots (row_at rs v).triple) vs (row_at rs b).kept (latest rs rt) t.once f.within f.below f.shows
-    ∙ ap (λ x. read (places_of rs b) (write x vs (latest rs rt))) (sym f.over)
+put_shows : (rs : Rows) (rt b v first : ℕ) (vs : List ℤ) → IsThrough rs rt b v → BaseFacts rs rt b v → put_at Base rs v first vs ≡ read (places_of rs b) (write (drop first (places_of rs v)) vs (latest rs rt))
+put_shows rs rt b v first vs t f =
+    put_shown rs b v first vs t.base_is
+    ∙ read_all (places_of rs b) (drop first (spots (row_at rs v).triple)) vs (row_at rs b).kept (latest rs rt) t.once f.within (below_drop (length (places_of rs b)) first (spots (row_at rs v).triple) f.below) f.shows
+    ∙ ap (λ x. read (places_of rs b) (write x vs (latest rs rt))) (sym (over_drop rs b v first f.over))
 
 -- the family is in order
-awaits_family : (facts : RowLaws) → (rs : Rows) (rt b v : ℕ) (vs : List ℤ) → IsThrough rs rt b v → BaseFacts rs rt b v → (b ≡ rt → ⊥) → InFamily (each (await rt b (put_through rs v vs)) rs) rt
-awaits_family facts rs rt b v vs t f n =
-    let ks : List ℤ = put_through rs v vs in
+awaits_family : (facts : RowLaws) → (rs : Rows) (rt b v first : ℕ) (vs : List ℤ) → IsThrough rs rt b v → BaseFacts rs rt b v → (b ≡ rt → ⊥) → InFamily (each (await rt b (put_at Base rs v first vs)) rs) rt
+awaits_family facts rs rt b v first vs t f n =
+    let ks : List ℤ = put_at Base rs v first vs in
     let ns : Rows = each (await rt b ks) rs in
     let q : IsQuiet (await rt b ks) = await_quiet rt b ks in
     let row : row_at ns rt ≡ await rt b ks rt (row_at rs rt) = facts.numbers.each_at (await rt b ks) rs rt t.root.0 in
@@ -114,7 +141,7 @@ awaits_family facts rs rt b v vs t f n =
       marked = λ x h g. (let e : x ≡ b = only x h g in
           let a : IsMarked ns b = record {
             own = ap (λ r. r.base) base ∙ f.is_marked.own;
-            shows = kb ∙ put_shows rs rt b v vs t f ∙ ap (read (places_of rs b)) (sym (awaits_latest facts rs rt b v vs t f n)) ∙ ap (λ r. read (places_of rs b) (latest ns r)) (sym rb) ∙ ap (λ p. read p (latest ns (row_at ns b).root)) (sym (facts.quiet.places_each (await rt b ks) rs b q));
+            shows = kb ∙ put_shows rs rt b v first vs t f ∙ ap (read (places_of rs b)) (sym (awaits_latest facts rs rt b v first vs t f n)) ∙ ap (λ r. read (places_of rs b) (latest ns r)) (sym rb) ∙ ap (λ p. read p (latest ns (row_at ns b).root)) (sym (facts.quiet.places_each (await rt b ks) rs b q));
             flag = ap (λ r. r.repeats) base ∙ f.is_marked.flag ∙ ap has_repeats (sym (facts.quiet.places_each (await rt b ks) rs b q));
           } in
           let P : ℕ → Type 0 = λ y. IsMarked ns y in subst P (sym e) a);
@@ -135,12 +162,12 @@ awaits_family facts rs rt b v vs t f n =
     }
 
 -- so all rows are, and values that were assigned to v wait in its base
-pub awaited : (facts : RowLaws) → (rs : Rows) (rt b v : ℕ) (vs : List ℤ) → IsThrough rs rt b v → (b ≡ rt → ⊥) → InOrder (each (await rt b (put_through rs v vs)) rs)
-awaited facts rs rt b v vs t n =
+pub awaited : (facts : RowLaws) → (rs : Rows) (rt b v first : ℕ) (vs : List ℤ) → IsThrough rs rt b v → (b ≡ rt → ⊥) → InOrder (each (await rt b (put_at Base rs v first vs)) rs)
+awaited facts rs rt b v first vs t n =
     let f : BaseFacts rs rt b v = base_facts facts rs rt b v t.order t.root t.live t.base_is t.root_is t.marked in
-    facts.quiet.order_each rt (await rt b (put_through rs v vs)) rs (await_quiet rt b (put_through rs v vs)) (await_within rs rt b (put_through rs v vs) t.root.1 f.root_is) t.order (awaits_family facts rs rt b v vs t f n)
+    facts.quiet.order_each rt (await rt b (put_at Base rs v first vs)) rs (await_quiet rt b (put_at Base rs v first vs)) (await_within rs rt b (put_at Base rs v first vs) t.root.1 f.root_is) t.order (awaits_family facts rs rt b v first vs t f n)
 
-pub world_awaited : (facts : RowLaws) → (rs : Rows) (rt b v : ℕ) (vs : List ℤ) → IsThrough rs rt b v → (b ≡ rt → ⊥) → world_of (each (await rt b (put_through rs v vs)) rs) ≡ assign (world_of rs) v vs
-world_awaited facts rs rt b v vs t n =
+pub world_awaited : (facts : RowLaws) → (rs : Rows) (rt b v first : ℕ) (vs : List ℤ) → IsThrough rs rt b v → (b ≡ rt → ⊥) → world_of (each (await rt b (put_at Base rs v first vs)) rs) ≡ assign_part (world_of rs) v first vs
+world_awaited facts rs rt b v first vs t n =
     let f : BaseFacts rs rt b v = base_facts facts rs rt b v t.order t.root t.live t.base_is t.root_is t.marked in
-    facts.quiet.world_assigned rt (await rt b (put_through rs v vs)) rs v vs (await_quiet rt b (put_through rs v vs)) (await_within rs rt b (put_through rs v vs) t.root.1 f.root_is) t.order t.live t.root_is (awaits_latest facts rs rt b v vs t f n)
+    facts.quiet.world_assigned rt (await rt b (put_at Base rs v first vs)) rs v first vs (await_quiet rt b (put_at Base rs v first vs)) (await_within rs rt b (put_at Base rs v first vs) t.root.1 f.root_is) t.order t.live t.root_is (awaits_latest facts rs rt b v first vs t f n)

@@ -1,15 +1,15 @@
 -- The root is written: rows stay in order, and mean the world that is assigned, or the same where what waited is
 -- written back.
-use Rattle.std.proofs.Common.{◌≡◌, ℕ, ℤ, Bool, true, false, eqb, cond, List, length, Some, None, inl, inr, refl, sym, ◌∙◌, ap, subst}
+use Rattle.std.proofs.Common.{drop, ◌≡◌, ℕ, ℤ, Bool, true, false, eqb, cond, List, length, Some, None, inl, inr, refl, sym, ◌∙◌, ap, subst}
 use Rattle.std.proofs.lemmas.Bool.{eq-eqb, ne_eqb, eqb-true}
 use Rattle.std.proofs.lemmas.Bool.Decides.{eqb_tells}
 use Rattle.pdl_shape.specs.Places.{read, write}
 use Rattle.pdl_shape.specs.Shape.{size_of}
-use Rattle.pdl_world.specs.World.{assign}
 use Rattle.pdl_nodes.specs.Alike.{KeepsMarks}
 use Rattle.pdl_nodes.specs.Families.{has_repeats, IsMarked, IsWaiting, InFamily, InOrder}
 use Rattle.pdl_nodes.specs.Known.{AreKnown}
 use Rattle.pdl_nodes.specs.Outcomes.{IsReady}
+use Rattle.pdl_nodes.specs.Parts.{assign_part}
 use Rattle.pdl_nodes.specs.Quiet.{IsQuiet, IsWithin}
 use Rattle.pdl_nodes.specs.RowLaws.{RowLaws}
 use Rattle.pdl_nodes.specs.Rows.{Rows, row_at, has, each}
@@ -105,14 +105,14 @@ world_back : (facts : RowLaws) → (rs : Rows) (rt v : ℕ) → InOrder rs → I
 world_back facts rs rt v o i = facts.quiet.world_same rt (settle rt (latest rs rt) v true) rs (settle_quiet rt (latest rs rt) v true) (settle_within rs rt (latest rs rt) v true i.1) o (settled_latest facts rs rt (latest rs rt) v true i)
 
 -- values were written at the places of an array, and the root alone is marked: they are assigned to it
-pub rooted : (facts : RowLaws) → (rs : Rows) (rt v : ℕ) (vs : List ℤ) → InOrder rs → IsRoot rs rt → InOrder (each (settle rt (write (places_of rs v) vs (latest rs rt)) rt false) rs)
-rooted facts rs rt v vs o i =
-    settled facts rs rt (write (places_of rs v) vs (latest rs rt)) rt false o i (facts.seen.length_write (places_of rs v) vs (latest rs rt) ∙ facts.seen.length_latest rs rt ∙ (o.family rt i).count) (λ n. absurd (n refl)) (rw (eq-eqb rt rt refl) refl)
+pub rooted : (facts : RowLaws) → (rs : Rows) (rt v first : ℕ) (vs : List ℤ) → InOrder rs → IsRoot rs rt → InOrder (each (settle rt (write (drop first (places_of rs v)) vs (latest rs rt)) rt false) rs)
+rooted facts rs rt v first vs o i =
+    settled facts rs rt (write (drop first (places_of rs v)) vs (latest rs rt)) rt false o i (facts.seen.length_write (drop first (places_of rs v)) vs (latest rs rt) ∙ facts.seen.length_latest rs rt ∙ (o.family rt i).count) (λ n. absurd (n refl)) (rw (eq-eqb rt rt refl) refl)
 
-pub world_rooted : (facts : RowLaws) → (rs : Rows) (rt v : ℕ) (vs : List ℤ) → InOrder rs → IsRoot rs rt → has rs v ≡ true → (row_at rs v).root ≡ rt → world_of (each (settle rt (write (places_of rs v) vs (latest rs rt)) rt false) rs) ≡ assign (world_of rs) v vs
-world_rooted facts rs rt v vs o i l e =
-    let es : List ℤ = write (places_of rs v) vs (latest rs rt) in
-    facts.quiet.world_assigned rt (settle rt es rt false) rs v vs (settle_quiet rt es rt false) (settle_within rs rt es rt false i.1) o l e (settled_latest facts rs rt es rt false i)
+pub world_rooted : (facts : RowLaws) → (rs : Rows) (rt v first : ℕ) (vs : List ℤ) → InOrder rs → IsRoot rs rt → has rs v ≡ true → (row_at rs v).root ≡ rt → world_of (each (settle rt (write (drop first (places_of rs v)) vs (latest rs rt)) rt false) rs) ≡ assign_part (world_of rs) v first vs
+world_rooted facts rs rt v first vs o i l e =
+    let es : List ℤ = write (drop first (places_of rs v)) vs (latest rs rt) in
+    facts.quiet.world_assigned rt (settle rt es rt false) rs v first vs (settle_quiet rt es rt false) (settle_within rs rt es rt false i.1) o l e (settled_latest facts rs rt es rt false i)
 
 -- where the base that waited was marked alone, no mark is lost by writing it back, and the root's alone is new
 stays_mark : (t x y m : Bool) → (t ≡ true → m ≡ x) → m ≡ true → cond t (cond x true (cond true y false)) m ≡ true

@@ -5,6 +5,5 @@ mod AtRoot
 mod AtBase
 mod Assigned
 mod Targets
-mod Routes
 mod Goings
 mod SettledAll

@@ -4,7 +4,7 @@ use Rattle.std.proofs.lemmas.Bool.{eqb-false}
 use Rattle.std.proofs.lemmas.List.{length-set, get_or-set_same, get_or-set_other, set-set, set_comm, set-get_or}
 use Rattle.std.proofs.lemmas.List.Elements.{All-head, All-tail}
 use Rattle.pdl_shape.specs.Places.{AllBelow, IsBelow, read, put, write}
-use Rattle.pdl_nodes.specs.Assigned.{entry, put_at, put_seen, put_all}
+use Rattle.pdl_nodes.specs.Assigned.{entry, seen, seen_at}
 use Rattle.pdl_nodes.specs.Families.{is_among, has_repeats}
 use Rattle.pdl_nodes.specs.Spots.{Below}
 
@@ -16,10 +16,6 @@ neither false x h = (refl, h)
 length_put : (p : Option ℕ) (x : ℤ) (es : List ℤ) → length (put p x es) ≡ length es
 length_put None x es = refl
 length_put (Some i) x es = length-set es i x
-
-length_put_at : (o : Option ℕ) (i : ℕ) (x : ℤ) (ks : List ℤ) → length (put_at o i x ks) ≡ length ks
-length_put_at None i x ks = refl
-length_put_at (Some q) i x ks = length-set ks i x
 
 -- the first value is put first
 write_first : (p : Option ℕ) (ps : List (Option ℕ)) (x : ℤ) (vs es : List ℤ) → write (p ∷ ps) (x ∷ vs) es ≡ write ps vs (put p x es)
@@ -53,20 +49,20 @@ write_set (None ∷ ps) (k ∷ ks) es (suc i) x h l b = write_set ps ks es i x h
 write_set (Some q ∷ ps) (k ∷ ks) es (suc i) x h l b =
     write_set ps ks (slice_set es q k) i x (neither (is_among q ps) (has_repeats ps) h).1 (omega arith) (omega arith)
 
-seen_cases : (ps : List (Option ℕ)) (ks es : List ℤ) (i : ℕ) (x : ℤ) (o : Option ℕ) → entry ps i ≡ o → write ps (slice_set ks i x) es ≡ put (entry ps i) x (write ps ks es) → write ps (put_at o i x ks) es ≡ put o x (write ps ks es)
+seen_cases : (ps : List (Option ℕ)) (ks es : List ℤ) (i : ℕ) (x : ℤ) (o : Option ℕ) → entry ps i ≡ o → write ps (slice_set ks i x) es ≡ put (entry ps i) x (write ps ks es) → write ps (put (seen_at o i) x ks) es ≡ put o x (write ps ks es)
 seen_cases ps ks es i x None e h = refl
 seen_cases ps ks es i x (Some q) e h = h ∙ ap (λ o. put o x (write ps ks es)) e
 
 -- so is one that is put where there is a place
-write_seen : (ps : List (Option ℕ)) (ks es : List ℤ) (i : ℕ) (x : ℤ) → has_repeats ps ≡ false → length ks ≡ length ps → i < length ps → write ps (put_seen ps i x ks) es ≡ put (entry ps i) x (write ps ks es)
+write_seen : (ps : List (Option ℕ)) (ks es : List ℤ) (i : ℕ) (x : ℤ) → has_repeats ps ≡ false → length ks ≡ length ps → i < length ps → write ps (put (seen ps i) x ks) es ≡ put (entry ps i) x (write ps ks es)
 write_seen ps ks es i x h l b = seen_cases ps ks es i x (entry ps i) refl (write_set ps ks es i x h l b)
 
 -- values that are put into what a base keeps and then written are those written at their places
-pub write_all : (ps : List (Option ℕ)) (is : List ℕ) (vs ks es : List ℤ) → has_repeats ps ≡ false → length ks ≡ length ps → Below (length ps) is → write ps (put_all ps is vs ks) es ≡ write (map (entry ps) is) vs (write ps ks es)
+pub write_all : (ps : List (Option ℕ)) (is : List ℕ) (vs ks es : List ℤ) → has_repeats ps ≡ false → length ks ≡ length ps → Below (length ps) is → write ps (write (map (seen ps) is) vs ks) es ≡ write (map (entry ps) is) vs (write ps ks es)
 write_all ps [] vs ks es h l b = refl
 write_all ps (i ∷ is) [] ks es h l b = refl
 write_all ps (i ∷ is) (x ∷ vs) ks es h l b =
-    write_all ps is vs (put_seen ps i x ks) es h (length_put_at (entry ps i) i x ks ∙ l) b.1
+    write_all ps is vs (put (seen ps i) x ks) es h (length_put (seen ps i) x ks ∙ l) b.1
     ∙ ap (λ e. write (map (entry ps) is) vs e) (write_seen ps ks es i x h l b.0)
     ∙ sym (write_first (entry ps i) (map (entry ps) is) x vs (write ps ks es))
 
@@ -93,12 +89,12 @@ put_beside : (es : List ℤ) (q : ℕ) (x : ℤ) (o : Option ℕ) → ((j : ℕ)
 put_beside es q x None h = refl
 put_beside es q x (Some j) h = get_or-set_other es j q x (pos 0) (λ e. h j refl (sym e))
 
-put_at_more : (o : Option ℕ) (i : ℕ) (x k : ℤ) (ks : List ℤ) → put_at o (suc i) x (k ∷ ks) ≡ k ∷ put_at o i x ks
-put_at_more None i x k ks = refl
-put_at_more (Some q) i x k ks = refl
+put_more : (o : Option ℕ) (i : ℕ) (x k : ℤ) (ks : List ℤ) → put (seen_at o (suc i)) x (k ∷ ks) ≡ k ∷ put (seen_at o i) x ks
+put_more None i x k ks = refl
+put_more (Some q) i x k ks = refl
 
 -- what is read after one value was put at the place of a position
-read_seen : (ps : List (Option ℕ)) (es : List ℤ) (i : ℕ) (x : ℤ) → has_repeats ps ≡ false → AllBelow (length es) ps → i < length ps → read ps (put (entry ps i) x es) ≡ put_seen ps i x (read ps es)
+read_seen : (ps : List (Option ℕ)) (es : List ℤ) (i : ℕ) (x : ℤ) → has_repeats ps ≡ false → AllBelow (length es) ps → i < length ps → read ps (put (entry ps i) x es) ≡ put (seen ps i) x (read ps es)
 read_seen [] es i x h a b = absurd (omega arith)
 read_seen (None ∷ ps) es zero x h a b = refl
 read_seen (Some q ∷ ps) es zero x h a b =
@@ -106,19 +102,19 @@ read_seen (Some q ∷ ps) es zero x h a b =
     let head : get_or (slice_set es q x) q (pos 0) ≡ x = get_or-set_same es q x (pos 0) (All-head (IsBelow (length es)) (Some q) ps a) in
     cc
 read_seen (None ∷ ps) es (suc i) x h a b =
-    ap (λ r. pos 0 ∷ r) (read_seen ps es i x h (All-tail (IsBelow (length es)) None ps a) (omega arith)) ∙ sym (put_at_more (entry ps i) i x (pos 0) (read ps es))
+    ap (λ r. pos 0 ∷ r) (read_seen ps es i x h (All-tail (IsBelow (length es)) None ps a) (omega arith)) ∙ sym (put_more (entry ps i) i x (pos 0) (read ps es))
 read_seen (Some q ∷ ps) es (suc i) x h a b =
     let n = neither (is_among q ps) (has_repeats ps) h in
     let head : get_or (put (entry ps i) x es) q (pos 0) ≡ get_or es q (pos 0) = put_beside es q x (entry ps i) (λ j e. among_entry ps q i j n.0 e) in
-    let tail : read ps (put (entry ps i) x es) ≡ put_seen ps i x (read ps es) = read_seen ps es i x n.1 (All-tail (IsBelow (length es)) (Some q) ps a) (omega arith) in
-    let both : get_or (put (entry ps i) x es) q (pos 0) ∷ read ps (put (entry ps i) x es) ≡ get_or es q (pos 0) ∷ put_seen ps i x (read ps es) = cc in
-    both ∙ sym (put_at_more (entry ps i) i x (get_or es q (pos 0)) (read ps es))
+    let tail : read ps (put (entry ps i) x es) ≡ put (seen ps i) x (read ps es) = read_seen ps es i x n.1 (All-tail (IsBelow (length es)) (Some q) ps a) (omega arith) in
+    let both : get_or (put (entry ps i) x es) q (pos 0) ∷ read ps (put (entry ps i) x es) ≡ get_or es q (pos 0) ∷ put (seen ps i) x (read ps es) = cc in
+    both ∙ sym (put_more (entry ps i) i x (get_or es q (pos 0)) (read ps es))
 
 -- what a base keeps with values put in is what is read once they were written at their places
-pub read_all : (ps : List (Option ℕ)) (is : List ℕ) (vs ks es : List ℤ) → has_repeats ps ≡ false → AllBelow (length es) ps → Below (length ps) is → ks ≡ read ps es → put_all ps is vs ks ≡ read ps (write (map (entry ps) is) vs es)
+pub read_all : (ps : List (Option ℕ)) (is : List ℕ) (vs ks es : List ℤ) → has_repeats ps ≡ false → AllBelow (length es) ps → Below (length ps) is → ks ≡ read ps es → write (map (seen ps) is) vs ks ≡ read ps (write (map (entry ps) is) vs es)
 read_all ps [] vs ks es h a b e = e
 read_all ps (i ∷ is) [] ks es h a b e = e
 read_all ps (i ∷ is) (x ∷ vs) ks es h a b e =
-    read_all ps is vs (put_seen ps i x ks) (put (entry ps i) x es) h (let P : ℕ → Type 0 = λ n. AllBelow n ps in rw (length_put (entry ps i) x es) a) b.1
-    (ap (λ k. put_seen ps i x k) e ∙ sym (read_seen ps es i x h a b.0))
+    read_all ps is vs (put (seen ps i) x ks) (put (entry ps i) x es) h (let P : ℕ → Type 0 = λ n. AllBelow n ps in rw (length_put (entry ps i) x es) a) b.1
+    (ap (λ k. put (seen ps i) x k) e ∙ sym (read_seen ps es i x h a b.0))
     ∙ ap (read ps) (sym (write_first (entry ps i) (map (entry ps) is) x vs es))

@@ -1,7 +1,8 @@
 -- Where assigned values are put, and what waits before and after.
-use Rattle.std.proofs.Common.{◌≡◌, ℕ, Bool, true, false, cond, None, refl, sym, ◌∙◌, ap, Option, Some, ℤ, eqb, List}
-use Rattle.std.proofs.lemmas.Bool.{eq-eqb, ne_eqb}
+use Rattle.std.proofs.Common.{◌≡◌, ℕ, Bool, true, false, cond, None, inl, inr, refl, sym, ◌∙◌, ap, Option, Some, ℤ, eqb, List}
+use Rattle.std.proofs.lemmas.Bool.{cases_Bool, eq-eqb, ne_eqb}
 use Rattle.pdl_nodes.specs.Families.{has_repeats, InOrder, IsWaiting, InFamily}
+use Rattle.pdl_nodes.specs.Put.{IsWrite}
 use Rattle.pdl_nodes.specs.Row.{Row}
 use Rattle.pdl_nodes.specs.RowLaws.{RowLaws}
 use Rattle.pdl_nodes.specs.Rows.{Rows, row_at, has, each}
@@ -46,6 +47,20 @@ nothing_repeats facts rs rt b v o h e g m d =
     let i : IsRoot rs rt = facts.seen.root_live rs rt v o.still h e in
     none_waits rs rt b (row_at rs rt).waiting refl (o.family rt i) m (ap (λ x. (row_at rs x).root) (sym g) ∙ (facts.seen.is_seen rs o.still v h).base_root ∙ e)
     (λ u w y. (let c : true ≡ false = sym d ∙ ap (λ x. has_repeats (places_of rs x)) y ∙ w.once in cc))
+
+-- so nothing waits where the root is the target
+pub nothing_target : (facts : RowLaws) → (rs : Rows) (v first : ℕ) (vs : List ℤ) → IsWrite rs v first vs → target rs v ≡ (row_at rs v).root → (row_at rs (row_at rs v).root).waiting ≡ None
+nothing_target facts rs v first vs w t = elim (cases_Bool (has_repeats (places_of rs (row_at rs v).base))) [
+  | inl y ↦ nothing_repeats facts rs (row_at rs v).root (row_at rs v).base v w.order w.live refl refl w.fresh y
+  | inr n ↦ nothing_root facts rs (row_at rs v).root (row_at rs v).base v w.order w.live refl refl w.fresh (sym (target_repeats rs (row_at rs v).root (row_at rs v).base v false refl refl n) ∙ t)
+]
+
+-- and a base that is the target has no repeats
+pub once_target : (rs : Rows) (v : ℕ) → target rs v ≡ (row_at rs v).base → ((row_at rs v).base ≡ (row_at rs v).root → ⊥) → has_repeats (places_of rs (row_at rs v).base) ≡ false
+once_target rs v t d = elim (cases_Bool (has_repeats (places_of rs (row_at rs v).base))) [
+  | inl y ↦ absurd (d (sym t ∙ target_repeats rs (row_at rs v).root (row_at rs v).base v true refl refl y))
+  | inr n ↦ n
+]
 
 -- ---- what waits after an assignment
 -- nothing, once they were put into the root

@@ -1,9 +1,9 @@
 -- Where values go that are assigned, and what an assignment leaves.
 use Rattle.std.specs.Prelude.{◌≡◌, ℕ, ℤ, ◌==◌, true, List, Some, None, if◌then◌else◌, Bool}
-use Rattle.pdl_world.specs.World.{assign}
 use Rattle.pdl_nodes.specs.Alike.{IsAlike}
 use Rattle.pdl_nodes.specs.Families.{InOrder, has_repeats}
 use Rattle.pdl_nodes.specs.Known.{AreKnown}
+use Rattle.pdl_nodes.specs.Parts.{assign_part}
 use Rattle.pdl_nodes.specs.Rows.{Rows, row_at, has}
 use Rattle.pdl_nodes.specs.Worlds.{world_of, places_of}
 
@@ -27,10 +27,10 @@ MarksTarget old v new =
     else (row_at old u).mark)
 
 -- values were assigned to v: in the world, and in the family the target alone is marked
-pub record IsAssigned (old : Rows) (v : ℕ) (vs : List ℤ) (new : Rows) : Type 0 where
+pub record IsAssigned (old : Rows) (v first : ℕ) (vs : List ℤ) (new : Rows) : Type 0 where
   pub order : InOrder new
   pub known : AreKnown new
-  pub world : world_of new ≡ assign (world_of old) v vs
+  pub world : world_of new ≡ assign_part (world_of old) v first vs
   pub alike : IsAlike old new
   pub marks : MarksTarget old v new
 

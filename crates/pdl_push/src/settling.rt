@@ -1,10 +1,8 @@
 //! Writing back: what waits in a base is put into the root, before an array of the family is read
 //! and before the base goes (PDL::Dataflow).
-ghost use Rattle.std.specs.Prelude.{◌≡◌, ◌≢◌, ◌+◌, true, Some, None, ℕ, ◌<◌, ◌∷◌};
-ghost use Rattle.pdl_shape.specs.Places.{write};
+ghost use Rattle.std.specs.Prelude.{◌≡◌, ◌+◌, true, Some, None, ℕ, ◌<◌, ◌∷◌};
 ghost use Rattle.pdl_shape.specs.Shape.{size_of};
 ghost use Rattle.pdl_world.specs.Swept.{holds as is_listed};
-ghost use Rattle.pdl_nodes.specs.Changes.{kept_in};
 ghost use Rattle.pdl_nodes.specs.Families.{InOrder};
 ghost use Rattle.pdl_nodes.specs.Going.{going_at, going_size, going_sum, LeavesWaiting};
 ghost use Rattle.pdl_nodes.specs.Holds.{stands};
@@ -14,29 +12,13 @@ ghost use Rattle.pdl_nodes.specs.Released.{KeepsWaiting};
 ghost use Rattle.pdl_nodes.specs.Risen.{ComesFrom};
 ghost use Rattle.pdl_nodes.specs.Rows.{each, has, row_at};
 ghost use Rattle.pdl_nodes.specs.Sized.{AreSized};
-ghost use Rattle.pdl_nodes.specs.Worlds.{IsRoot, latest, places_of};
+ghost use Rattle.pdl_nodes.specs.Worlds.{IsRoot, latest};
 ghost use Rattle.pdl_push.specs.Late.{settle};
 ghost use Rattle.pdl_push.specs.Settled.{IsSettledAt, IsSettled};
 
 use pdl_buf::Steps;
 use pdl_nodes::{Holds, Table, row_laws};
 use std::sync::ledger::Ledger;
-
-/// Puts the elements that are kept of a marked view into its root. It takes a step for each.
-fn put_back<L: Ledger>(table: &mut Table, root: u64, id: u64, steps: &mut Steps<L>)
-    requires order { InOrder table.old }
-    requires known { AreKnown table.old }
-    requires root { IsRoot table.old root }
-    requires view { id ≢ root }
-    requires family { (row_at table.old id).root ≡ root }
-    requires marked { (row_at table.old id).mark ≡ true }
-    ensures put { table.new ≡ each (kept_in root (write (places_of table.old id)
-        (row_at table.old id).kept (row_at table.old root).kept)) table.old }
-    ensures counted { steps.new ≡ steps.old + size_of (row_at table.old id).triple.dims }
-{
-    row_laws();
-    table.put_back(root, id, steps);
-}
 
 /// Writes the elements that wait in the family of a root back into it. It takes a step for each.
 pub fn write_back<L: Ledger>(table: &mut Table, root: u64, id: u64, steps: &mut Steps<L>)
@@ -48,7 +30,7 @@ pub fn write_back<L: Ledger>(table: &mut Table, root: u64, id: u64, steps: &mut 
     ensures counted { steps.new ≡ steps.old + size_of (row_at table.old id).triple.dims }
 {
     row_laws();
-    put_back(table, root, id, steps);
+    table.put_back(root, id, steps);
     table.mark_root(root);
     table.set_waiting(root, None);
 }

@@ -7,15 +7,6 @@ use Rattle.pdl_push.specs.Late.{settle}
 use Rattle.pdl_push.proofs.RowsAfter.{written}
 use Rattle.pdl_push.proofs.settling.write_back.Goals as goal
 
-pub put_back-requires-clause-view : goal.put_back-requires-clause-view
-put_back-requires-clause-view g c = ((c.requires.order.family c.args.root c.requires.root).waits c.args.id c.requires.waits).not_root
-
-pub put_back-requires-clause-family : goal.put_back-requires-clause-family
-put_back-requires-clause-family g c = ((c.requires.order.family c.args.root c.requires.root).waits c.args.id c.requires.waits).of_root
-
-pub put_back-requires-clause-marked : goal.put_back-requires-clause-marked
-put_back-requires-clause-marked g c = ((c.requires.order.family c.args.root c.requires.root).waits c.args.id c.requires.waits).marked
-
 pub mark_root-requires-clause-live : goal.mark_root-requires-clause-live
 mark_root-requires-clause-live g c = ap (λ t. has t c.args.root) c.put_back.ensures.put ∙ c.row_laws.ensures.numbers.each_has _ c.args.table.now c.args.root ∙ c.requires.root.0
 
@@ -33,4 +24,3 @@ returns-clause-settled g c =
     let w : IsWaiting c.args.table.now c.args.root c.args.id = (c.requires.order.family c.args.root c.requires.root).waits c.args.id c.requires.waits in
     c.set_waiting.ensures ∙ ap (each (wait_in c.args.root _)) (c.mark_root.ensures ∙ ap (each (marked_in c.args.root)) c.put_back.ensures.put)
     ∙ written c.row_laws.ensures c.args.table.now c.args.root c.args.id _ c.requires.order.still c.requires.root w
-    ∙ ap (λ es. each (settle c.args.root es c.args.id true) c.args.table.now) (sym (c.row_laws.ensures.seen.latest_some c.args.table.now c.args.root c.args.id c.requires.waits))

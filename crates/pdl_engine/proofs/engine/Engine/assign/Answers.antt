@@ -1,11 +1,12 @@
-use Rattle.std.proofs.Common.{◌≡◌, All, true, sym, ◌∙◌, ap, subst}
+use Rattle.std.proofs.Common.{arith, ◌≡◌, ℤ, List, Option, Some, None, All, true, refl, sym, ◌∙◌, ap, subst}
 use Rattle.pdl_elem.specs.Types.{InRange}
 use Rattle.pdl_elem.specs.declared.Ty.{Ty}
 use Rattle.pdl_shape.specs.Shape.{size_of}
 use Rattle.pdl_world.specs.Paths.{root_of}
 use Rattle.pdl_world.specs.Sound.{IsLive, IsSound}
 use Rattle.pdl_world.specs.Swept.{holds}
-use Rattle.pdl_world.specs.World.{World, dims_in, ty_in}
+use Rattle.pdl_world.specs.World.{World, Look, assign, assign_through, dims_in, look, ty_in}
+use Rattle.pdl_nodes.specs.Parts.{assign_part_through}
 use Rattle.pdl_nodes.specs.Rows.{has}
 use Rattle.pdl_nodes.specs.Worlds.{world_of}
 use Rattle.pdl_engine.specs.State.{State, TargetIsFresh, TargetWaits}
@@ -17,17 +18,25 @@ use Rattle.pdl_engine.proofs.Stating.{live_has, root_are, fresh_is, fresh_live, 
 use Rattle.pdl_engine.proofs.Tight.{tight_alike}
 use Rattle.pdl_engine.proofs.engine.Engine.assign.Goals as goal
 
-pub assign-requires-clause-live : goal.assign-requires-clause-live
-assign-requires-clause-live g c = (live_has c.row_laws.ensures c.self.inside.table c.args.id (subst (λ (w : World). IsLive w c.args.id) (sym (ap (λ (s : State). s.world) c.self.view_is)) c.requires.live))
+-- an assignment to all positions is one from the first on
+whole : (w : World) (o : Option Look) (vs : List ℤ) → assign_part_through w o 0 vs ≡ assign_through w o vs
+whole w None vs = refl
+whole w (Some l) vs = refl
 
-pub assign-requires-clause-fresh : goal.assign-requires-clause-fresh
-assign-requires-clause-fresh g c = (sym (fresh_is c.row_laws.ensures c.self.inside.table c.args.id c.self.invariant.0.order.still (live_has c.row_laws.ensures c.self.inside.table c.args.id (subst (λ (w : World). IsLive w c.args.id) (sym (ap (λ (s : State). s.world) c.self.view_is)) c.requires.live))) ∙ ap (λ (s : State). holds s.fresh c.args.id) c.self.view_is ∙ c.requires.fresh)
+pub assign-requires : goal.assign-requires
+assign-requires g c = record {
+  order = c.self.invariant.0.order;
+  known = c.self.invariant.0.known;
+  live = (live_has c.row_laws.ensures c.self.inside.table c.args.id (subst (λ (w : World). IsLive w c.args.id) (sym (ap (λ (s : State). s.world) c.self.view_is)) c.requires.live));
+  fresh = (sym (fresh_is c.row_laws.ensures c.self.inside.table c.args.id c.self.invariant.0.order.still (live_has c.row_laws.ensures c.self.inside.table c.args.id (subst (λ (w : World). IsLive w c.args.id) (sym (ap (λ (s : State). s.world) c.self.view_is)) c.requires.live))) ∙ ap (λ (s : State). holds s.fresh c.args.id) c.self.view_is ∙ c.requires.fresh);
+  within = omega (arith, c.requires.count, ap size_of (ap (λ w. dims_in w c.args.id) (sym (ap (λ (s : State). s.world) c.self.view_is)) ∙ c.row_laws.ensures.seen.dims_are c.self.inside.table c.args.id c.self.invariant.0.order.still (live_has c.row_laws.ensures c.self.inside.table c.args.id (subst (λ (w : World). IsLive w c.args.id) (sym (ap (λ (s : State). s.world) c.self.view_is)) c.requires.live))));
+  in_range = subst (λ (y : Ty). All (InRange y) c.args.values.now) (ap (λ w. ty_in w c.args.id) (sym (ap (λ (s : State). s.world) c.self.view_is)) ∙ c.row_laws.ensures.seen.ty_are c.self.inside.table c.args.id c.self.invariant.0.order.still (live_has c.row_laws.ensures c.self.inside.table c.args.id (subst (λ (w : World). IsLive w c.args.id) (sym (ap (λ (s : State). s.world) c.self.view_is)) c.requires.live))) c.requires.in_range;
+}
 
-pub assign-requires-clause-count : goal.assign-requires-clause-count
-assign-requires-clause-count g c = c.requires.count ∙ ap size_of (ap (λ w. dims_in w c.args.id) (sym (ap (λ (s : State). s.world) c.self.view_is)) ∙ c.row_laws.ensures.seen.dims_are c.self.inside.table c.args.id c.self.invariant.0.order.still (live_has c.row_laws.ensures c.self.inside.table c.args.id (subst (λ (w : World). IsLive w c.args.id) (sym (ap (λ (s : State). s.world) c.self.view_is)) c.requires.live)))
-
-pub assign-requires-clause-in_range : goal.assign-requires-clause-in_range
-assign-requires-clause-in_range g c = subst (λ (y : Ty). All (InRange y) c.args.values.now) (ap (λ w. ty_in w c.args.id) (sym (ap (λ (s : State). s.world) c.self.view_is)) ∙ c.row_laws.ensures.seen.ty_are c.self.inside.table c.args.id c.self.invariant.0.order.still (live_has c.row_laws.ensures c.self.inside.table c.args.id (subst (λ (w : World). IsLive w c.args.id) (sym (ap (λ (s : State). s.world) c.self.view_is)) c.requires.live))) c.requires.in_range
+pub returns-clause-world : goal.returns-clause-world
+returns-clause-world g c =
+    c.assign.ensures.assigned.world ∙ whole (world_of c.self.inside.table) (look (world_of c.self.inside.table) c.args.id) c.args.values.now
+    ∙ ap (λ (s : State). assign s.world c.args.id c.args.values.now) c.self.view_is
 
 pub invariant_of-self : goal.invariant_of-self
 invariant_of-self g c = (
@@ -35,7 +44,7 @@ invariant_of-self g c = (
     order = c.assign.ensures.assigned.order;
     known = c.assign.ensures.assigned.known;
     sized = c.row_laws.ensures.kept.sized_alike c.self.inside.table c.assign.new.table c.self.invariant.0.order.still c.assign.ensures.assigned.order.still c.assign.ensures.assigned.alike c.self.invariant.0.sized;
-    sound = subst (λ (w : World). IsSound w) (sym c.assign.ensures.assigned.world) (c.assignment_laws.ensures.sound (world_of c.self.inside.table) c.args.id c.args.values.now c.self.invariant.0.sound (subst (λ (w : World). All (InRange (ty_in w c.args.id)) c.args.values.now) (sym (ap (λ (s : State). s.world) c.self.view_is)) c.requires.in_range));
+    sound = subst (λ (w : World). IsSound w) (sym (c.assign.ensures.assigned.world ∙ whole (world_of c.self.inside.table) (look (world_of c.self.inside.table) c.args.id) c.args.values.now)) (c.assignment_laws.ensures.sound (world_of c.self.inside.table) c.args.id c.args.values.now c.self.invariant.0.sound (subst (λ (w : World). All (InRange (ty_in w c.args.id)) c.args.values.now) (sym (ap (λ (s : State). s.world) c.self.view_is)) c.requires.in_range));
     beside = beside_alike c.self.inside.table c.assign.new.table c.self.inside.holds c.assign.ensures.assigned.alike c.self.invariant.0.beside;
     below = below_alike c.self.inside.table c.assign.new.table c.self.inside.next c.assign.ensures.assigned.alike.numbers_are c.self.invariant.0.below;
     room = c.self.invariant.0.room;
