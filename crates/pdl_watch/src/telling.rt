@@ -1,5 +1,5 @@
 //! Slots of watchers that are told or finished one after another.
-ghost use Rattle.std.specs.Prelude.{◌≡◌, ◌<◌, ◌≤◌, length, slice_set, None, [], ◌∷◌, true, false, OnOk, OnErr, IsTrue, option_map, map, is_some};
+ghost use Rattle.std.specs.Prelude.{◌≡◌, ◌↔◌, ◌<◌, ◌≤◌, length, slice_set, None, [], ◌∷◌, true, false, OnOk, OnErr, IsTrue, option_map, map, is_some};
 ghost use Rattle.pdl_io.specs.Counts.{Rose};
 ghost use Rattle.pdl_watch.specs.Watched.{Watched, told_more, ended, Leaves};
 ghost use Rattle.pdl_watch.specs.Slots.{ToldPart, SlotToldPart, SlotRose, SlotMissed, IsOpen, AreOpen, slots_by, all_told, all_ended, ended_where, lists_of, ToldShort, EndedShort, EndsShort, slot};
@@ -115,7 +115,7 @@ pub fn end_slot<W: Watcher>(slots: &mut Vec<Option<W>>, k: usize) -> Result<(), 
 
 // Whether the watcher of a slot, if it has one, isn't finished.
 fn is_open<W: Watcher>(slot: &Option<W>) -> bool
-    ensures { result ≡ true → IsOpen (option_map W.seen slot.now) }
+    ensures { IsTrue result ↔ IsOpen (option_map W.seen slot.now) }
 {
     match slot {
         Some(w) => !w.is_finished(),
@@ -125,7 +125,7 @@ fn is_open<W: Watcher>(slot: &Option<W>) -> bool
 
 // Whether none of these watchers is finished.
 fn all_open<W: Watcher>(slots: &[Option<W>]) -> bool
-    ensures { result ≡ true → AreOpen (slots_by W.seen slots.now) }
+    ensures { IsTrue result ↔ AreOpen (slots_by W.seen slots.now) }
 {
     for slot in slots {
         if !is_open(slot) {
@@ -137,7 +137,7 @@ fn all_open<W: Watcher>(slots: &[Option<W>]) -> bool
 
 /// Whether no watcher is finished.
 pub fn are_open<W: Watcher>(slots: &Vec<Option<W>>) -> bool
-    ensures { result ≡ true → AreOpen (slots_by W.seen slots.now.items) }
+    ensures { IsTrue result ↔ AreOpen (slots_by W.seen slots.now.items) }
 {
     all_open(slots)
 }
