@@ -5,10 +5,10 @@ use Rattle.pdl_lemmas.specs.Options.{some_inj, none_some, map_elim}
 use Rattle.pdl_lexemes.specs.declared.refusal.Refusal.{Refusal}
 use Rattle.pdl_lexemes.specs.declared.refusal.Refusal.TheVariants.{Refused, NoMemory}
 use Rattle.pdl_code.specs.declared.lexeme.Lexeme.{Lexeme}
-use Rattle.pdl_code.specs.declared.lexeme.Lexeme.TheVariants.{BlockClose}
+use Rattle.pdl_code.specs.declared.lexeme.Lexeme.TheVariants.{BlockClose, Comma, Semicolon}
 use Rattle.pdl_code.specs.Join.{join_raw, join_raw_code}
 use Rattle.pdl_code.specs.Raw.{RawTree, RawIndices, RawCode, binary, done}
-use Rattle.pdl_code.specs.CodeReading.{Read, Kind, after_comma, after_semicolon, before, before_code, operator_at, chain_at, index_at, indices_at, level_at, limit_of, statement_at, code_at, ends}
+use Rattle.pdl_code.specs.CodeReading.{Read, after, Kind, before, before_code, operator_at, chain_at, index_at, indices_at, level_at, limit_of, statement_at, code_at, ends}
 use Rattle.pdl_code.proofs.RawJoins.{join_join, code_join_join, code_join_done}
 
 -- what a loop begins with
@@ -65,12 +65,12 @@ module _ (f : Kind → List Lexeme → Read RawTree) where
       level_at f n ts ≡ chain_at (level_at f (n - 1)) (suc (n - 1)) (limit_of (suc (n - 1)) rest) t rest
   level_above n ts rest t ne e = level_up n (n - 1) ts rest t (omega arith) e
 
-  pub indices_stop : (k : ℕ) (ts us : List Lexeme) (is : RawIndices) → index_at f ts ≡ Some (is, us) → after_comma us ≡ None →
+  pub indices_stop : (k : ℕ) (ts us : List Lexeme) (is : RawIndices) → index_at f ts ≡ Some (is, us) → after Comma us ≡ None →
       indices_at f (suc k) ts ≡ Some (is, us)
   unfolding indices_at
   indices_stop k ts us is e h = rw e (rw h)
 
-  pub indices_next : (k : ℕ) (ts us vs : List Lexeme) (is : RawIndices) → index_at f ts ≡ Some (is, us) → after_comma us ≡ Some vs →
+  pub indices_next : (k : ℕ) (ts us vs : List Lexeme) (is : RawIndices) → index_at f ts ≡ Some (is, us) → after Comma us ≡ Some vs →
       indices_at f (suc k) ts ≡ before is (indices_at f k vs)
   unfolding indices_at
   indices_next k ts us vs is e h = rw e (rw h)
@@ -80,17 +80,17 @@ module _ (f : Kind → List Lexeme → Read RawTree) where
   indices_fail k ts e = rw e
 
   -- the same behind what was found before: `all` is what was found with the index that is read
-  pub found_stop : (k : ℕ) (ts us : List Lexeme) (found all : RawIndices) → before found (index_at f ts) ≡ Some (all, us) → after_comma us ≡ None →
+  pub found_stop : (k : ℕ) (ts us : List Lexeme) (found all : RawIndices) → before found (index_at f ts) ≡ Some (all, us) → after Comma us ≡ None →
       before found (indices_at f (suc k) ts) ≡ Some (all, us)
   found_stop k ts us found all e h =
       map_elim (before found (indices_at f (suc k) ts) ≡ Some (all, us)) (λ y. (join_raw found y.0, y.1)) (index_at f ts) e
-      (λ x read is. ap (before found) (indices_stop k ts x.1 x.0 read (ap (λ (z : RawIndices × List Lexeme). after_comma z.1) is ∙ h)) ∙ ap Some is)
+      (λ x read is. ap (before found) (indices_stop k ts x.1 x.0 read (ap (λ (z : RawIndices × List Lexeme). after Comma z.1) is ∙ h)) ∙ ap Some is)
 
-  pub found_next : (k : ℕ) (ts us vs : List Lexeme) (found all : RawIndices) → before found (index_at f ts) ≡ Some (all, us) → after_comma us ≡ Some vs →
+  pub found_next : (k : ℕ) (ts us vs : List Lexeme) (found all : RawIndices) → before found (index_at f ts) ≡ Some (all, us) → after Comma us ≡ Some vs →
       before found (indices_at f (suc k) ts) ≡ before all (indices_at f k vs)
   found_next k ts us vs found all e h =
       map_elim (before found (indices_at f (suc k) ts) ≡ before all (indices_at f k vs)) (λ y. (join_raw found y.0, y.1)) (index_at f ts) e
-      (λ x read is. ap (before found) (indices_next k ts x.1 vs x.0 read (ap (λ (z : RawIndices × List Lexeme). after_comma z.1) is ∙ h))
+      (λ x read is. ap (before found) (indices_next k ts x.1 vs x.0 read (ap (λ (z : RawIndices × List Lexeme). after Comma z.1) is ∙ h))
       ∙ sym (before_before found x.0 (indices_at f k vs)) ∙ ap (λ (z : RawIndices × List Lexeme). before z.0 (indices_at f k vs)) is)
 
   pub found_fail : (k : ℕ) (ts : List Lexeme) (found : RawIndices) → before found (index_at f ts) ≡ None → before found (indices_at f (suc k) ts) ≡ None
@@ -145,7 +145,7 @@ pass_on Refused a b h k = k h
 pass_on NoMemory a b h k = tt
 
 module _ (g : List Lexeme → Read RawCode) where
-  pub semicolon_read : (ts us : List Lexeme) (found : RawCode) → after_semicolon ts ≡ Some us → before_code found (statement_at g ts) ≡ Some (found, us)
+  pub semicolon_read : (ts us : List Lexeme) (found : RawCode) → after Semicolon ts ≡ Some us → before_code found (statement_at g ts) ≡ Some (found, us)
   unfolding statement_at
   semicolon_read ts us found e = rw e (ap (λ c. Some (c, us)) (code_join_done found))
 

@@ -10,13 +10,13 @@ use Rattle.pdl_code.specs.declared.lexeme.Lexeme.TheVariants.{Word, Open, Close,
 use Rattle.pdl_code.specs.declared.tree.LocalType.{LocalType}
 use Rattle.pdl_code.specs.Grammar.{Spells, an_expr, an_access, SpellsType, type_word, generic_type, Block, a_step, some_code, an_else, SpellsBlock, a_loop, a_choice, without_else, with_else, a_declaration, a_valued_declaration, a_word_assignment, an_access_assignment, no_code, empty_statement, a_statement, assigned}
 use Rattle.pdl_code.specs.Raw.{RawTree, RawIndices, RawStep, RawCode, number, repeat, choose, declare, set, put, done, next}
-use Rattle.pdl_code.specs.CodeReading.{access_at, after_block_open, after_else, after_if, after_open, after_semicolon, assignment_at, block_at, choice_at, code_at, code_reader, declared_at, else_at, ended_at, ends, expr_at, initial_at, loop_at, plain_at, put_at, read_code, reader, statement_at, step_at, word_at}
+use Rattle.pdl_code.specs.CodeReading.{access_at, after, after_else, after_if, assignment_at, block_at, choice_at, code_at, code_reader, declared_at, else_at, ended_at, ends, expr_at, initial_at, loop_at, plain_at, put_at, read_code, reader, statement_at, step_at, word_at}
 use Rattle.pdl_code.proofs.Complete.{AccessStart, begins, complete, ends_close, ends_semicolon, read_expression, shorter}
 
 -- the sign of an assignment
 record Sign (s : Lexeme) : Type 0 where
-  no_open : (us : List Lexeme) → after_open (s ∷ us) ≡ None
-  no_block : (us : List Lexeme) → after_block_open (s ∷ us) ≡ None
+  no_open : (us : List Lexeme) → after Open (s ∷ us) ≡ None
+  no_block : (us : List Lexeme) → after BlockOpen (s ∷ us) ≡ None
   no_word : (us : List Lexeme) → plain_at (s ∷ us) ≡ None
 
 sign_of : (s : Lexeme) (op : Option BinaryOp) → assigned s ≡ Some op → Sign s
@@ -28,7 +28,7 @@ sign_of _ op e = absurd (none_some e)
 pub record StepStart (ts : List Lexeme) : Type 0 where
   pub no_else : after_else ts ≡ None
   pub goes_on : ends ts ≡ None
-  pub no_semicolon : after_semicolon ts ≡ None
+  pub no_semicolon : after Semicolon ts ≡ None
 
 type_start : {ty : LocalType} {ts us : List Lexeme} → SpellsType ty ts us → StepStart ts
 type_start type_word = record { no_else = refl; goes_on = refl; no_semicolon = refl }
@@ -39,7 +39,7 @@ word_else Else w s ts i = i.no_block ts
 word_else _ w s ts i = refl
 
 access_start : {ts rest : List Lexeme} → AccessStart ts rest → StepStart ts
-access_start a = record { no_else = ap after_else a.is; goes_on = ap ends a.is; no_semicolon = ap after_semicolon a.is }
+access_start a = record { no_else = ap after_else a.is; goes_on = ap ends a.is; no_semicolon = ap (after Semicolon) a.is }
 
 -- code that ends here, and no `else`
 ends_else : (rest : List Lexeme) → ends rest ≡ Some rest → after_else rest ≡ None

@@ -4,13 +4,13 @@ use Rattle.pdl_lemmas.specs.Options.{some_inj, none_some, then_elim, map_elim, c
 use Rattle.pdl_code.specs.declared.lexeme.Span.{Span}
 use Rattle.pdl_code.specs.declared.lexeme.WordKind.TheVariants.{Plain}
 use Rattle.pdl_code.specs.declared.lexeme.Lexeme.{Lexeme}
-use Rattle.pdl_code.specs.declared.lexeme.Lexeme.TheVariants.{Word, BlockClose, Semicolon}
+use Rattle.pdl_code.specs.declared.lexeme.Lexeme.TheVariants.{Word, BlockClose, Semicolon, Equals}
 use Rattle.pdl_code.specs.Grammar.{Spells, an_expr, an_access, SpellsType, a_step, some_code, an_else, SpellsBlock, a_loop, a_choice, without_else, with_else, a_declaration, a_valued_declaration, a_word_assignment, an_access_assignment, no_code, empty_statement, a_statement}
 use Rattle.pdl_code.specs.Join.{join_raw_code}
 use Rattle.pdl_code.specs.Raw.{RawTree, RawStep, RawCode, number, repeat, choose, declare, set, put, done, next}
-use Rattle.pdl_code.specs.CodeReading.{Read, Declared, access_at, after_block_close, after_condition, after_else, after_equals, after_if, after_semicolon, assignment_at, at_end, before_code, block_at, body_at, branches_at, choice_at, code_at, code_reader, declaration_at, declared_at, else_at, ended_at, ends, expr_at, initial_at, loop_at, one_step, put_at, put_sign, read_code, reader, set_sign, sign_at, statement_at, step_at, expression, word_at}
+use Rattle.pdl_code.specs.CodeReading.{Read, after, Declared, access_at, after_condition, after_else, after_if, assignment_at, at_end, before_code, block_at, body_at, branches_at, choice_at, code_at, code_reader, declaration_at, declared_at, else_at, ended_at, ends, expr_at, initial_at, loop_at, one_step, put_at, put_sign, read_code, reader, set_sign, sign_at, statement_at, step_at, expression, word_at}
 use Rattle.pdl_code.proofs.Chains.{ends_is}
-use Rattle.pdl_code.proofs.Peeks.{block_close_is, condition_is, declared_is, else_is, equals_is, if_is, loop_is, semicolon_is, sign_is, word_is}
+use Rattle.pdl_code.proofs.Peeks.{after_is, condition_is, declared_is, else_is, if_is, loop_is, sign_is, word_is}
 use Rattle.pdl_code.proofs.Sound.{access_sound, reader_sound}
 
 abbrev TakenStep : List Lexeme → RawStep × List Lexeme → Type 0
@@ -29,9 +29,9 @@ expr_sound ts x e = reader_sound (suc (length ts)) expression ts x e
 ended_sound : (ts : List Lexeme) (x : RawTree × List Lexeme) → ended_at ts ≡ Some x → TakenEnded ts x
 unfolding ended_at
 ended_sound ts x e =
-    then_elim (TakenEnded ts x) (λ y. option_map (λ us. (y.0, us)) (after_semicolon y.1)) (expr_at ts) e
-    (λ y h k. map_elim (TakenEnded ts x) (λ us. (y.0, us)) (after_semicolon y.1) k
-    (λ us c is. subst (TakenEnded ts) is (subst (Spells (an_expr 7 y.0) ts) (semicolon_is y.1 c) (expr_sound ts y h))))
+    then_elim (TakenEnded ts x) (λ y. option_map (λ us. (y.0, us)) (after Semicolon y.1)) (expr_at ts) e
+    (λ y h k. map_elim (TakenEnded ts x) (λ us. (y.0, us)) (after Semicolon y.1) k
+    (λ us c is. subst (TakenEnded ts) is (subst (Spells (an_expr 7 y.0) ts) (after_is Semicolon y.1 c) (expr_sound ts y h))))
 
 -- what stands behind a declaration's word
 initial_sound : (d : Declared) (ts : List Lexeme) (x : RawTree × List Lexeme) → initial_at d.rest ≡ Some x → (left : List Lexeme) → SpellsType d.ty ts left → left ≡ Word Plain d.word ∷ d.rest
@@ -39,11 +39,11 @@ initial_sound : (d : Declared) (ts : List Lexeme) (x : RawTree × List Lexeme) �
 unfolding initial_at
 initial_sound d ts x e left spelled is =
     let P = SpellsBlock (a_step (declare d.ty d.word x.0)) ts x.1 in
-    choose_elim P (option_map (λ us. (number (pos 0), us)) (after_semicolon d.rest)) ended_at (after_equals d.rest) e
-    (λ h k. map_elim P (λ us. (number (pos 0), us)) (after_semicolon d.rest) k
+    choose_elim P (option_map (λ us. (number (pos 0), us)) (after Semicolon d.rest)) ended_at (after Equals d.rest) e
+    (λ h k. map_elim P (λ us. (number (pos 0), us)) (after Semicolon d.rest) k
     (λ us c at. subst (λ (y : RawTree × List Lexeme). SpellsBlock (a_step (declare d.ty d.word y.0)) ts y.1) at
-    (a_declaration (subst (SpellsType d.ty ts) (is ∙ ap (λ vs. Word Plain d.word ∷ vs) (semicolon_is d.rest c)) spelled))))
-    (λ us h k. a_valued_declaration (subst (SpellsType d.ty ts) (is ∙ ap (λ vs. Word Plain d.word ∷ vs) (equals_is d.rest h)) spelled) (ended_sound us x k))
+    (a_declaration (subst (SpellsType d.ty ts) (is ∙ ap (λ vs. Word Plain d.word ∷ vs) (after_is Semicolon d.rest c)) spelled))))
+    (λ us h k. a_valued_declaration (subst (SpellsType d.ty ts) (is ∙ ap (λ vs. Word Plain d.word ∷ vs) (after_is Equals d.rest h)) spelled) (ended_sound us x k))
 
 declaration_sound : (ts : List Lexeme) (d : Declared) (x : RawStep × List Lexeme) → declared_at ts ≡ Some d → declaration_at d ≡ Some x → TakenStep ts x
 declaration_sound ts d x h e =
@@ -83,10 +83,10 @@ module _ (g : List Lexeme → Read RawCode) (sound : (ts : List Lexeme) (x : Raw
   block_sound : (ts : List Lexeme) (x : RawCode × List Lexeme) → block_at g ts ≡ Some x → SpellsBlock (some_code x.0) ts (BlockClose ∷ x.1)
   unfolding block_at
   block_sound ts x e =
-      then_elim (SpellsBlock (some_code x.0) ts (BlockClose ∷ x.1)) (λ y. option_map (λ us. (y.0, us)) (after_block_close y.1)) (g ts) e
-      (λ y h k. map_elim (SpellsBlock (some_code x.0) ts (BlockClose ∷ x.1)) (λ us. (y.0, us)) (after_block_close y.1) k
+      then_elim (SpellsBlock (some_code x.0) ts (BlockClose ∷ x.1)) (λ y. option_map (λ us. (y.0, us)) (after BlockClose y.1)) (g ts) e
+      (λ y h k. map_elim (SpellsBlock (some_code x.0) ts (BlockClose ∷ x.1)) (λ us. (y.0, us)) (after BlockClose y.1) k
       (λ us c is. subst (λ (z : RawCode × List Lexeme). SpellsBlock (some_code z.0) ts (BlockClose ∷ z.1)) is
-      (subst (SpellsBlock (some_code y.0) ts) (block_close_is y.1 c) (sound ts y h))))
+      (subst (SpellsBlock (some_code y.0) ts) (after_is BlockClose y.1 c) (sound ts y h))))
 
   body_sound : (ts : List Lexeme) (w : Span × List Lexeme) (x : RawStep × List Lexeme) → loop_at ts ≡ Some w → body_at g w ≡ Some x → TakenStep ts x
   body_sound ts w x h e =
@@ -131,12 +131,12 @@ module _ (g : List Lexeme → Read RawCode) (sound : (ts : List Lexeme) (x : Raw
   unfolding statement_at
   statement_sound ts x c rest e h =
       let P = SpellsBlock (some_code (join_raw_code x.0 c)) ts rest in
-      choose_elim P (one_step g ts) (λ us. Some (done, us)) (after_semicolon ts) e
+      choose_elim P (one_step g ts) (λ us. Some (done, us)) (after Semicolon ts) e
       (λ m k. map_elim P (λ y. (next y.0 done, y.1)) (step_at g ts) k
       (λ y r is. subst (λ (z : RawCode × List Lexeme). SpellsBlock (some_code c) z.1 rest → SpellsBlock (some_code (join_raw_code z.0 c)) ts rest) is
       (λ more. a_statement (step_sound ts y r) more) h))
       (λ us m k. subst (λ (z : RawCode × List Lexeme). SpellsBlock (some_code c) z.1 rest → SpellsBlock (some_code (join_raw_code z.0 c)) ts rest) (some_inj k)
-      (λ more. subst (λ vs. SpellsBlock (some_code c) vs rest) (sym (semicolon_is ts m)) (empty_statement more)) h)
+      (λ more. subst (λ vs. SpellsBlock (some_code c) vs rest) (sym (after_is Semicolon ts m)) (empty_statement more)) h)
 
   code_sound : (k : ℕ) (ts : List Lexeme) (x : RawCode × List Lexeme) → code_at g k ts ≡ Some x → TakenCode ts x
   unfolding code_at

@@ -14,7 +14,7 @@ use Rattle.pdl_code.specs.declared.lexeme.Lexeme.{Lexeme}
 use Rattle.pdl_code.specs.declared.lexeme.Lexeme.TheVariants.{Name, Word, Number, Open, Close, Semicolon, Comma, FatArrow, Operator, Prefix}
 use Rattle.pdl_code.specs.Grammar.{Part, an_expr, a_primary, an_access, some_indices, Spells, same, joined, once, negated, prefixed, plain, a_number, a_word, a_size, an_element, round, looped_access, given_access, last_index, next_index}
 use Rattle.pdl_code.specs.Raw.{RawTree, RawIndices, number, size, named, access, unary, binary, none, along}
-use Rattle.pdl_code.specs.CodeReading.{expression, access_at, after_comma, chain_at, close_at, declared_at, given_at, indices_at, level_at, limit_of, operator_at, plain_at, prefix_at, primary_at, reader, size_at, unary_at}
+use Rattle.pdl_code.specs.CodeReading.{expression, after, access_at, chain_at, close_at, declared_at, given_at, indices_at, level_at, limit_of, operator_at, plain_at, prefix_at, primary_at, reader, size_at, unary_at}
 use Rattle.pdl_code.proofs.Chains.{chain_stop_at, chain_turn_at}
 use Rattle.pdl_code.proofs.Peeks.{operator_here, operator_other}
 
@@ -137,7 +137,7 @@ Complete (an_expr (suc l) t) ts rest = (n : ℕ) → length ts ≤ n → Ends l 
 Complete (a_primary t) ts rest = (n : ℕ) → length ts ≤ n → primary_at (reader n) ts ≡ Some (t, rest)
 Complete (an_access w is at) ts rest = (n : ℕ) → length ts ≤ n → access_at (reader n) ts ≡ Some ((w, is, at), rest)
 Complete (some_indices is) ts rest =
-    (n k : ℕ) → length ts < n → length ts ≤ k → Ends 7 rest → after_comma rest ≡ None → indices_at (reader n) k ts ≡ Some (is, rest)
+    (n k : ℕ) → length ts < n → length ts ≤ k → Ends 7 rest → after Comma rest ≡ None → indices_at (reader n) k ts ≡ Some (is, rest)
 
 -- an expression behind which nothing of it follows
 finished : (l : ℕ) (t : RawTree) (ts rest : List Lexeme) → Complete (an_expr l t) ts rest → (n : ℕ) → length ts ≤ n → Ends l rest →
@@ -251,7 +251,7 @@ read_given : (n : ℕ) (kind : NameKind) (w : Span) (is : RawIndices) (at : ℕ)
 read_given n kind w is at ts rest i h le =
     given_here n kind w is at ts rest (ap close_at i.is) (h n (length ts) (omega (arith, le)) (omega arith) (ends_close 7 at rest) refl)
 
-read_last : (n k : ℕ) (kind : WordKind) (w : Span) (t : RawTree) (ts rest : List Lexeme) → suc (suc (length ts)) ≤ k → after_comma rest ≡ None → reader n expression ts ≡ Some (t, rest)
+read_last : (n k : ℕ) (kind : WordKind) (w : Span) (t : RawTree) (ts rest : List Lexeme) → suc (suc (length ts)) ≤ k → after Comma rest ≡ None → reader n expression ts ≡ Some (t, rest)
     → indices_at (reader n) k (Word kind w ∷ FatArrow ∷ ts) ≡ Some (along w t none, rest)
 unfolding indices_at
 read_last n zero kind w t ts rest le e h = absurd (omega (arith, le))

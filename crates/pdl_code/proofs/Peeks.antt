@@ -1,10 +1,13 @@
 -- What a look at the front says of it.
-use Rattle.std.proofs.Common.{◌≡◌, ℕ, List, [], ◌∷◌, Option, Some, None, Bool, true, false, nat_eq, if◌then◌else◌, refl, sym, ap, ◌∙◌, subst, eqb-true, eq-eqb}
+use Rattle.std.proofs.Common.{rules, ◌≡◌, ℕ, List, [], ◌∷◌, Option, Some, None, Bool, true, false, nat_eq, if◌then◌else◌, refl, sym, ap, ◌∙◌, subst, eqb-true, eq-eqb}
 use Rattle.std.specs.Prelude.{option_map, option_and_then}
 use Rattle.pdl_elem.specs.declared.BinaryOp.{BinaryOp}
 use Rattle.pdl_lemmas.specs.Options.{some_inj, none_some, then_elim, map_elim, choose_elim}
 use Rattle.pdl_lexemes.specs.Levels.{level_of}
 use Rattle.pdl_code.specs.declared.lexeme.Span.{Span}
+use Rattle.pdl_code.specs.contracts.lexeme.LexemePartialEq.TheImpl as lexeme
+use Rattle.pdl_code.specs.contracts.lexeme.NameKindPartialEq.TheImpl as name_kind
+use Rattle.pdl_code.specs.contracts.lexeme.WordKindPartialEq.TheImpl as word_kind
 use Rattle.pdl_code.specs.declared.lexeme.WordKind.{WordKind}
 use Rattle.pdl_code.specs.declared.lexeme.WordKind.TheVariants.{Loop, If, Else, OfType, Plain}
 use Rattle.pdl_code.specs.declared.lexeme.NameKind.{NameKind}
@@ -14,42 +17,19 @@ use Rattle.pdl_code.specs.declared.lexeme.Lexeme.TheVariants.{Name, Word, Open, 
 use Rattle.pdl_code.specs.declared.tree.LocalType.{LocalType}
 use Rattle.pdl_code.specs.declared.tree.LocalType.TheVariants.{Generic as OfGeneric}
 use Rattle.pdl_code.specs.Grammar.{SpellsType, type_word, generic_type, assigned}
-use Rattle.pdl_code.specs.CodeReading.{Read, Declared, after_open, after_close, after_block_open, after_block_close, after_semicolon, after_comma, after_equals, after_fat_arrow, after_loop_word, after_if_word, after_else_word, after_size_name, after_generic_name, close_at, word_at, plain_at, name_at, type_word_at, generic_at, type_at, operator_at, sign_at, closed_word, bracketed_word, size_at, index_word, access_name, declared_word, declared_at, loop_word, loop_at, after_if, after_else, after_condition}
+use Rattle.pdl_code.specs.CodeReading.{Read, after, after_word, after_name, Declared, after_close, close_at, word_at, plain_at, name_at, type_word_at, generic_at, type_at, operator_at, sign_at, closed_word, bracketed_word, size_at, index_word, access_name, declared_word, declared_at, loop_word, loop_at, after_if, after_else, after_condition}
 
-pub open_is : (ts : List Lexeme) {us : List Lexeme} → after_open ts ≡ Some us → ts ≡ Open ∷ us
-open_is [] e = absurd (none_some e)
-open_is (Open ∷ ts) e = ap (λ x. Open ∷ x) (some_inj e)
-open_is (_ ∷ ts) e = absurd (none_some e)
+same_is : (a b : Lexeme) → lexeme.ghosts.eq a b ≡ true → b ≡ a
+same_is a b e = search rules
 
-pub block_open_is : (ts : List Lexeme) {us : List Lexeme} → after_block_open ts ≡ Some us → ts ≡ BlockOpen ∷ us
-block_open_is [] e = absurd (none_some e)
-block_open_is (BlockOpen ∷ ts) e = ap (λ x. BlockOpen ∷ x) (some_inj e)
-block_open_is (_ ∷ ts) e = absurd (none_some e)
-
-pub block_close_is : (ts : List Lexeme) {us : List Lexeme} → after_block_close ts ≡ Some us → ts ≡ BlockClose ∷ us
-block_close_is [] e = absurd (none_some e)
-block_close_is (BlockClose ∷ ts) e = ap (λ x. BlockClose ∷ x) (some_inj e)
-block_close_is (_ ∷ ts) e = absurd (none_some e)
-
-pub semicolon_is : (ts : List Lexeme) {us : List Lexeme} → after_semicolon ts ≡ Some us → ts ≡ Semicolon ∷ us
-semicolon_is [] e = absurd (none_some e)
-semicolon_is (Semicolon ∷ ts) e = ap (λ x. Semicolon ∷ x) (some_inj e)
-semicolon_is (_ ∷ ts) e = absurd (none_some e)
-
-pub comma_is : (ts : List Lexeme) {us : List Lexeme} → after_comma ts ≡ Some us → ts ≡ Comma ∷ us
-comma_is [] e = absurd (none_some e)
-comma_is (Comma ∷ ts) e = ap (λ x. Comma ∷ x) (some_inj e)
-comma_is (_ ∷ ts) e = absurd (none_some e)
-
-pub equals_is : (ts : List Lexeme) {us : List Lexeme} → after_equals ts ≡ Some us → ts ≡ Equals ∷ us
-equals_is [] e = absurd (none_some e)
-equals_is (Equals ∷ ts) e = ap (λ x. Equals ∷ x) (some_inj e)
-equals_is (_ ∷ ts) e = absurd (none_some e)
-
-pub fat_arrow_is : (ts : List Lexeme) {us : List Lexeme} → after_fat_arrow ts ≡ Some us → ts ≡ FatArrow ∷ us
-fat_arrow_is [] e = absurd (none_some e)
-fat_arrow_is (FatArrow ∷ ts) e = ap (λ x. FatArrow ∷ x) (some_inj e)
-fat_arrow_is (_ ∷ ts) e = absurd (none_some e)
+-- what follows a sign stands behind it
+pub after_is : (sign : Lexeme) (ts : List Lexeme) {us : List Lexeme} → after sign ts ≡ Some us → ts ≡ sign ∷ us
+after_is sign [] e = absurd (none_some e)
+after_is sign (t ∷ ts) {us = us} e = of_test (lexeme.ghosts.eq sign t) refl e
+  where
+    of_test : (b : Bool) → lexeme.ghosts.eq sign t ≡ b → (if b then Some ts else None) ≡ Some us → t ∷ ts ≡ sign ∷ us
+    of_test true same k = ap (λ x. x ∷ ts) (same_is sign t same) ∙ ap (λ x. sign ∷ x) (some_inj k)
+    of_test false same k = absurd (none_some k)
 
 pub close_is : (ts : List Lexeme) (x : ℕ × List Lexeme) → close_at ts ≡ Some x → ts ≡ Close x.0 ∷ x.1
 close_is [] x e = absurd (none_some e)
@@ -71,35 +51,29 @@ pub record Here (first : Span → Lexeme) (ts us : List Lexeme) : Type 0 where
   pub span : Span
   pub is : ts ≡ first span ∷ us
 
-pub loop_word_is : (ts : List Lexeme) {us : List Lexeme} → after_loop_word ts ≡ Some us → Here (Word Loop) ts us
-loop_word_is [] e = absurd (none_some e)
-loop_word_is (Word Loop v ∷ ts) e = record { span = v; is = ap (λ x. Word Loop v ∷ x) (some_inj e) }
-loop_word_is (Word _ v ∷ ts) e = absurd (none_some e)
-loop_word_is (_ ∷ ts) e = absurd (none_some e)
+same_word : (a b : WordKind) → word_kind.ghosts.eq a b ≡ true → b ≡ a
+same_word a b e = search rules
 
-pub if_word_is : (ts : List Lexeme) {us : List Lexeme} → after_if_word ts ≡ Some us → Here (Word If) ts us
-if_word_is [] e = absurd (none_some e)
-if_word_is (Word If v ∷ ts) e = record { span = v; is = ap (λ x. Word If v ∷ x) (some_inj e) }
-if_word_is (Word _ v ∷ ts) e = absurd (none_some e)
-if_word_is (_ ∷ ts) e = absurd (none_some e)
+same_name : (a b : NameKind) → name_kind.ghosts.eq a b ≡ true → b ≡ a
+same_name a b e = search rules
 
-pub else_word_is : (ts : List Lexeme) {us : List Lexeme} → after_else_word ts ≡ Some us → Here (Word Else) ts us
-else_word_is [] e = absurd (none_some e)
-else_word_is (Word Else v ∷ ts) e = record { span = v; is = ap (λ x. Word Else v ∷ x) (some_inj e) }
-else_word_is (Word _ v ∷ ts) e = absurd (none_some e)
-else_word_is (_ ∷ ts) e = absurd (none_some e)
+pub after_word_is : (kind : WordKind) (ts : List Lexeme) {us : List Lexeme} → after_word kind ts ≡ Some us → Here (Word kind) ts us
+after_word_is kind [] e = absurd (none_some e)
+after_word_is kind (Word k v ∷ ts) {us = us} e = of_test (word_kind.ghosts.eq kind k) refl e
+  where
+    of_test : (b : Bool) → word_kind.ghosts.eq kind k ≡ b → (if b then Some ts else None) ≡ Some us → Here (Word kind) (Word k v ∷ ts) us
+    of_test true same h = record { span = v; is = ap (λ x. Word x v ∷ ts) (same_word kind k same) ∙ ap (λ x. Word kind v ∷ x) (some_inj h) }
+    of_test false same h = absurd (none_some h)
+after_word_is kind (_ ∷ ts) e = absurd (none_some e)
 
-pub size_name_is : (ts : List Lexeme) {us : List Lexeme} → after_size_name ts ≡ Some us → Here (Name Size) ts us
-size_name_is [] e = absurd (none_some e)
-size_name_is (Name Size v ∷ ts) e = record { span = v; is = ap (λ x. Name Size v ∷ x) (some_inj e) }
-size_name_is (Name _ v ∷ ts) e = absurd (none_some e)
-size_name_is (_ ∷ ts) e = absurd (none_some e)
-
-pub generic_name_is : (ts : List Lexeme) {us : List Lexeme} → after_generic_name ts ≡ Some us → Here (Name Generic) ts us
-generic_name_is [] e = absurd (none_some e)
-generic_name_is (Name Generic v ∷ ts) e = record { span = v; is = ap (λ x. Name Generic v ∷ x) (some_inj e) }
-generic_name_is (Name _ v ∷ ts) e = absurd (none_some e)
-generic_name_is (_ ∷ ts) e = absurd (none_some e)
+pub after_name_is : (kind : NameKind) (ts : List Lexeme) {us : List Lexeme} → after_name kind ts ≡ Some us → Here (Name kind) ts us
+after_name_is kind [] e = absurd (none_some e)
+after_name_is kind (Name k v ∷ ts) {us = us} e = of_test (name_kind.ghosts.eq kind k) refl e
+  where
+    of_test : (b : Bool) → name_kind.ghosts.eq kind k ≡ b → (if b then Some ts else None) ≡ Some us → Here (Name kind) (Name k v ∷ ts) us
+    of_test true same h = record { span = v; is = ap (λ x. Name x v ∷ ts) (same_name kind k same) ∙ ap (λ x. Name kind v ∷ x) (some_inj h) }
+    of_test false same h = absurd (none_some h)
+after_name_is kind (_ ∷ ts) e = absurd (none_some e)
 
 -- a word of some kind
 pub record WordHere (ts : List Lexeme) (x : Span × List Lexeme) : Type 0 where
@@ -137,12 +111,12 @@ generic_is : (ts : List Lexeme) (x : LocalType × List Lexeme) → generic_at ts
 generic_is ts x e =
     map_elim (SpellsType x.0 ts x.1) (λ us. (OfGeneric, us)) _ e
     (λ us h is. then_elim (SpellsType x.0 ts x.1) after_close _ h
-    (λ vs k c. then_elim (SpellsType x.0 ts x.1) after_open _ k
+    (λ vs k c. then_elim (SpellsType x.0 ts x.1) (after Open) _ k
     (λ ws g o.
-    let n = generic_name_is ts g in
+    let n = after_name_is Generic ts g in
     let b = closed_is vs us c in
     subst (λ y. SpellsType y.0 ts y.1) is
-    (subst (λ zs. SpellsType OfGeneric zs us) (sym (n.is ∙ ap (λ zs. Name Generic n.span ∷ zs) (open_is ws o ∙ ap (λ zs. Open ∷ zs) b.is))) generic_type))))
+    (subst (λ zs. SpellsType OfGeneric zs us) (sym (n.is ∙ ap (λ zs. Name Generic n.span ∷ zs) (after_is Open ws o ∙ ap (λ zs. Open ∷ zs) b.is))) generic_type))))
 
 pub type_is : (ts : List Lexeme) (x : LocalType × List Lexeme) → type_at ts ≡ Some x → SpellsType x.0 ts x.1
 type_is ts x e =
@@ -206,14 +180,14 @@ pub record BracketedHere (ts : List Lexeme) (x : Span × List Lexeme) : Type 0 w
 
 pub bracketed_is : (ts : List Lexeme) (x : Span × List Lexeme) → bracketed_word ts ≡ Some x → BracketedHere ts x
 bracketed_is ts x e =
-    then_elim (BracketedHere ts x) (λ us. option_and_then closed_word (word_at us)) (after_open ts) e
+    then_elim (BracketedHere ts x) (λ us. option_and_then closed_word (word_at us)) (after Open ts) e
     (λ us o h. then_elim (BracketedHere ts x) closed_word (word_at us) h
     (λ y w k. map_elim (BracketedHere ts x) (λ vs. (y.0, vs)) (after_close y.1) k
     (λ vs c is.
     let v = word_is us y w in
     let b = closed_is y.1 vs c in
     subst (BracketedHere ts) is
-    (record { kind = v.kind; place = b.place; is = open_is ts o ∙ ap (λ zs. Open ∷ zs) (v.is ∙ ap (λ zs. Word v.kind y.0 ∷ zs) b.is) }))))
+    (record { kind = v.kind; place = b.place; is = after_is Open ts o ∙ ap (λ zs. Open ∷ zs) (v.is ∙ ap (λ zs. Word v.kind y.0 ∷ zs) b.is) }))))
 
 pub record SizeHere (ts : List Lexeme) (x : Span × List Lexeme) : Type 0 where
   pub name : Span
@@ -223,8 +197,8 @@ pub record SizeHere (ts : List Lexeme) (x : Span × List Lexeme) : Type 0 where
 
 pub size_is : (ts : List Lexeme) (x : Span × List Lexeme) → size_at ts ≡ Some x → SizeHere ts x
 size_is ts x e =
-    then_elim (SizeHere ts x) bracketed_word (after_size_name ts) e
-    (λ us n h. let v = size_name_is ts n in let b = bracketed_is us x h in
+    then_elim (SizeHere ts x) bracketed_word (after_name Size ts) e
+    (λ us n h. let v = after_name_is Size ts n in let b = bracketed_is us x h in
     record { name = v.span; kind = b.kind; place = b.place; is = v.is ∙ ap (λ zs. Name Size v.span ∷ zs) b.is })
 
 pub record IndexHere (ts : List Lexeme) (x : Span × List Lexeme) : Type 0 where
@@ -233,10 +207,10 @@ pub record IndexHere (ts : List Lexeme) (x : Span × List Lexeme) : Type 0 where
 
 pub index_is : (ts : List Lexeme) (x : Span × List Lexeme) → index_word ts ≡ Some x → IndexHere ts x
 index_is ts x e =
-    then_elim (IndexHere ts x) (λ y. option_map (λ us. (y.0, us)) (after_fat_arrow y.1)) (word_at ts) e
-    (λ y w h. map_elim (IndexHere ts x) (λ us. (y.0, us)) (after_fat_arrow y.1) h
+    then_elim (IndexHere ts x) (λ y. option_map (λ us. (y.0, us)) (after FatArrow y.1)) (word_at ts) e
+    (λ y w h. map_elim (IndexHere ts x) (λ us. (y.0, us)) (after FatArrow y.1) h
     (λ us a is. let v = word_is ts y w in
-    subst (IndexHere ts) is (record { kind = v.kind; is = v.is ∙ ap (λ zs. Word v.kind y.0 ∷ zs) (fat_arrow_is y.1 a) })))
+    subst (IndexHere ts) is (record { kind = v.kind; is = v.is ∙ ap (λ zs. Word v.kind y.0 ∷ zs) (after_is FatArrow y.1 a) })))
 
 pub record AccessHere (ts : List Lexeme) (x : Span × List Lexeme) : Type 0 where
   pub kind : NameKind
@@ -244,10 +218,10 @@ pub record AccessHere (ts : List Lexeme) (x : Span × List Lexeme) : Type 0 wher
 
 pub access_is : (ts : List Lexeme) (x : Span × List Lexeme) → access_name ts ≡ Some x → AccessHere ts x
 access_is ts x e =
-    then_elim (AccessHere ts x) (λ y. option_map (λ us. (y.0, us)) (after_open y.1)) (name_at ts) e
-    (λ y w h. map_elim (AccessHere ts x) (λ us. (y.0, us)) (after_open y.1) h
+    then_elim (AccessHere ts x) (λ y. option_map (λ us. (y.0, us)) (after Open y.1)) (name_at ts) e
+    (λ y w h. map_elim (AccessHere ts x) (λ us. (y.0, us)) (after Open y.1) h
     (λ us a is. let v = name_is ts y w in
-    subst (AccessHere ts) is (record { kind = v.kind; is = v.is ∙ ap (λ zs. Name v.kind y.0 ∷ zs) (open_is y.1 a) })))
+    subst (AccessHere ts) is (record { kind = v.kind; is = v.is ∙ ap (λ zs. Name v.kind y.0 ∷ zs) (after_is Open y.1 a) })))
 
 -- the head of a loop
 pub record LoopHere (ts : List Lexeme) (x : Span × List Lexeme) : Type 0 where
@@ -258,18 +232,18 @@ pub record LoopHere (ts : List Lexeme) (x : Span × List Lexeme) : Type 0 where
 
 pub loop_is : (ts : List Lexeme) (x : Span × List Lexeme) → loop_at ts ≡ Some x → LoopHere ts x
 loop_is ts x e =
-    then_elim (LoopHere ts x) (λ us. option_and_then loop_word (bracketed_word us)) (after_loop_word ts) e
+    then_elim (LoopHere ts x) (λ us. option_and_then loop_word (bracketed_word us)) (after_word Loop ts) e
     (λ us l h. then_elim (LoopHere ts x) loop_word (bracketed_word us) h
-    (λ y b k. map_elim (LoopHere ts x) (λ vs. (y.0, vs)) (after_block_open y.1) k
+    (λ y b k. map_elim (LoopHere ts x) (λ vs. (y.0, vs)) (after BlockOpen y.1) k
     (λ vs o is.
-    let v = loop_word_is ts l in
+    let v = after_word_is Loop ts l in
     let w = bracketed_is us y b in
     subst (LoopHere ts) is
     (record {
       first = v.span;
       kind = w.kind;
       place = w.place;
-      is = v.is ∙ ap (λ zs. Word Loop v.span ∷ zs) (w.is ∙ ap (λ zs. Open ∷ Word w.kind y.0 ∷ Close w.place ∷ zs) (block_open_is y.1 o));
+      is = v.is ∙ ap (λ zs. Word Loop v.span ∷ zs) (w.is ∙ ap (λ zs. Open ∷ Word w.kind y.0 ∷ Close w.place ∷ zs) (after_is BlockOpen y.1 o));
     }))))
 
 -- `if (`, `else %{` and `) %{`
@@ -279,8 +253,8 @@ pub record IfHere (ts us : List Lexeme) : Type 0 where
 
 pub if_is : (ts us : List Lexeme) → after_if ts ≡ Some us → IfHere ts us
 if_is ts us e =
-    then_elim (IfHere ts us) after_open (after_if_word ts) e
-    (λ vs w o. let v = if_word_is ts w in record { first = v.span; is = v.is ∙ ap (λ zs. Word If v.span ∷ zs) (open_is vs o) })
+    then_elim (IfHere ts us) (after Open) (after_word If ts) e
+    (λ vs w o. let v = after_word_is If ts w in record { first = v.span; is = v.is ∙ ap (λ zs. Word If v.span ∷ zs) (after_is Open vs o) })
 
 pub record ElseHere (ts us : List Lexeme) : Type 0 where
   pub first : Span
@@ -288,8 +262,8 @@ pub record ElseHere (ts us : List Lexeme) : Type 0 where
 
 pub else_is : (ts us : List Lexeme) → after_else ts ≡ Some us → ElseHere ts us
 else_is ts us e =
-    then_elim (ElseHere ts us) after_block_open (after_else_word ts) e
-    (λ vs w o. let v = else_word_is ts w in record { first = v.span; is = v.is ∙ ap (λ zs. Word Else v.span ∷ zs) (block_open_is vs o) })
+    then_elim (ElseHere ts us) (after BlockOpen) (after_word Else ts) e
+    (λ vs w o. let v = after_word_is Else ts w in record { first = v.span; is = v.is ∙ ap (λ zs. Word Else v.span ∷ zs) (after_is BlockOpen vs o) })
 
 pub record ConditionHere (ts us : List Lexeme) : Type 0 where
   pub place : ℕ
@@ -297,5 +271,5 @@ pub record ConditionHere (ts us : List Lexeme) : Type 0 where
 
 pub condition_is : (ts us : List Lexeme) → after_condition ts ≡ Some us → ConditionHere ts us
 condition_is ts us e =
-    then_elim (ConditionHere ts us) after_block_open (after_close ts) e
-    (λ vs c o. let b = closed_is ts vs c in record { place = b.place; is = b.is ∙ ap (λ zs. Close b.place ∷ zs) (block_open_is vs o) })
+    then_elim (ConditionHere ts us) (after BlockOpen) (after_close ts) e
+    (λ vs c o. let b = closed_is ts vs c in record { place = b.place; is = b.is ∙ ap (λ zs. Close b.place ∷ zs) (after_is BlockOpen vs o) })

@@ -14,8 +14,8 @@ use Rattle.pdl_code.specs.declared.lexeme.Lexeme.TheVariants.{Name, Word, Number
 use Rattle.pdl_code.specs.Grammar.{Part, an_expr, a_primary, an_access, some_indices, Spells, same, joined, once, negated, prefixed, plain, a_number, a_word, a_size, an_element, round, looped_access, given_access, last_index, next_index}
 use Rattle.pdl_code.specs.Join.{join_raw}
 use Rattle.pdl_code.specs.Raw.{RawTree, RawIndices, size, access, unary, binary, none, along}
-use Rattle.pdl_code.specs.CodeReading.{Read, Kind, expression, operand, access_at, access_name, after_close, after_comma, before, chain_at, close_at, closed_at, element_at, given_at, index_at, index_word, indices_at, level_at, limit_of, name_first, number_before, operator_at, prefix_at, primary_at, reader, round_at, size_at, unary_at}
-use Rattle.pdl_code.proofs.Peeks.{access_is, close_is, closed_is, comma_is, index_is, operator_is, size_is}
+use Rattle.pdl_code.specs.CodeReading.{Read, after, Kind, expression, operand, access_at, access_name, after_close, before, chain_at, close_at, closed_at, element_at, given_at, index_at, index_word, indices_at, level_at, limit_of, name_first, number_before, operator_at, prefix_at, primary_at, reader, round_at, size_at, unary_at}
+use Rattle.pdl_code.proofs.Peeks.{access_is, close_is, closed_is, after_is, index_is, operator_is, size_is}
 
 -- what each kind of reading spells
 abbrev pub part_of : Kind → RawTree → Part
@@ -69,12 +69,12 @@ module _ (f : Kind → List Lexeme → Read RawTree)
   unfolding indices_at
   indices_sound zero ts x e = absurd (none_some e)
   indices_sound (suc k) ts x e =
-      then_elim (TakenIndices ts x) (λ y. either (Some y) (λ us. before y.0 (indices_at f k us)) (after_comma y.1)) (index_at f ts) e
+      then_elim (TakenIndices ts x) (λ y. either (Some y) (λ us. before y.0 (indices_at f k us)) (after Comma y.1)) (index_at f ts) e
       (λ y h d. let i = index_sound ts y h in
-      choose_elim (TakenIndices ts x) (Some y) (λ us. before y.0 (indices_at f k us)) (after_comma y.1) d
+      choose_elim (TakenIndices ts x) (Some y) (λ us. before y.0 (indices_at f k us)) (after Comma y.1) d
       (λ c is. subst (TakenIndices ts) (some_inj is) (last_sound ts y i))
       (λ us c r. map_elim (TakenIndices ts x) (λ z. (join_raw y.0 z.0, z.1)) (indices_at f k us) r
-      (λ z m is. subst (TakenIndices ts) is (next_sound ts us y z i (comma_is y.1 c) (indices_sound k us z m)))))
+      (λ z m is. subst (TakenIndices ts) is (next_sound ts us y z i (after_is Comma y.1 c) (indices_sound k us z m)))))
 
   given_sound : (kind : NameKind) (w : Span) (ts : List Lexeme) (x : (RawIndices × ℕ) × List Lexeme) → given_at f ts ≡ Some x → TakenGiven kind w ts x
   unfolding given_at

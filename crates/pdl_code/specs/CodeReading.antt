@@ -9,6 +9,11 @@ use Rattle.pdl_elem.specs.declared.UnaryOp.TheVariants.{Neg}
 use Rattle.pdl_lexemes.specs.Lists.{signed}
 use Rattle.pdl_lexemes.specs.Levels.{level_of, many}
 use Rattle.pdl_code.specs.declared.lexeme.Span.{Span}
+use Rattle.pdl_code.specs.contracts.lexeme.LexemePartialEq.TheImpl as lexeme
+use Rattle.pdl_code.specs.contracts.lexeme.NameKindPartialEq.TheImpl as name_kind
+use Rattle.pdl_code.specs.contracts.lexeme.WordKindPartialEq.TheImpl as word_kind
+use Rattle.pdl_code.specs.declared.lexeme.NameKind.{NameKind}
+use Rattle.pdl_code.specs.declared.lexeme.WordKind.{WordKind}
 use Rattle.pdl_code.specs.declared.lexeme.WordKind.TheVariants.{Loop, If, Else, OfType, Plain}
 use Rattle.pdl_code.specs.declared.lexeme.NameKind.TheVariants.{Size, Generic}
 use Rattle.pdl_code.specs.declared.lexeme.Lexeme.{Lexeme}
@@ -23,10 +28,18 @@ use Rattle.pdl_code.specs.Raw.{RawTree, RawIndices, RawStep, RawCode, number, si
 abbrev pub Read : Type 0 → Type 0
 Read A = Option (A × List Lexeme)
 
--- what follows a sign
-abbrev pub after_open : List Lexeme → Option (List Lexeme)
-after_open (Open ∷ ts) = Some ts
-after_open _ = None
+-- what follows a sign, a word of a kind, a name of a kind
+abbrev pub after : Lexeme → List Lexeme → Option (List Lexeme)
+after sign [] = None
+after sign (t ∷ ts) = if lexeme.ghosts.eq sign t then Some ts else None
+
+abbrev pub after_word : WordKind → List Lexeme → Option (List Lexeme)
+after_word kind (Word k v ∷ ts) = if word_kind.ghosts.eq kind k then Some ts else None
+after_word kind _ = None
+
+abbrev pub after_name : NameKind → List Lexeme → Option (List Lexeme)
+after_name kind (Name k v ∷ ts) = if name_kind.ghosts.eq kind k then Some ts else None
+after_name kind _ = None
 
 abbrev pub close_at : List Lexeme → Read ℕ
 close_at (Close at ∷ ts) = Some (at, ts)
@@ -34,43 +47,6 @@ close_at _ = None
 
 abbrev pub after_close : List Lexeme → Option (List Lexeme)
 after_close ts = option_map (λ x. x.1) (close_at ts)
-
-abbrev pub after_block_open : List Lexeme → Option (List Lexeme)
-after_block_open (BlockOpen ∷ ts) = Some ts
-after_block_open _ = None
-
-abbrev pub after_block_close : List Lexeme → Option (List Lexeme)
-after_block_close (BlockClose ∷ ts) = Some ts
-after_block_close _ = None
-
-abbrev pub after_semicolon : List Lexeme → Option (List Lexeme)
-after_semicolon (Semicolon ∷ ts) = Some ts
-after_semicolon _ = None
-
-abbrev pub after_comma : List Lexeme → Option (List Lexeme)
-after_comma (Comma ∷ ts) = Some ts
-after_comma _ = None
-
-abbrev pub after_equals : List Lexeme → Option (List Lexeme)
-after_equals (Equals ∷ ts) = Some ts
-after_equals _ = None
-
-abbrev pub after_fat_arrow : List Lexeme → Option (List Lexeme)
-after_fat_arrow (FatArrow ∷ ts) = Some ts
-after_fat_arrow _ = None
-
--- what follows a word of a kind
-abbrev pub after_loop_word : List Lexeme → Option (List Lexeme)
-after_loop_word (Word Loop v ∷ ts) = Some ts
-after_loop_word _ = None
-
-abbrev pub after_if_word : List Lexeme → Option (List Lexeme)
-after_if_word (Word If v ∷ ts) = Some ts
-after_if_word _ = None
-
-abbrev pub after_else_word : List Lexeme → Option (List Lexeme)
-after_else_word (Word Else v ∷ ts) = Some ts
-after_else_word _ = None
 
 -- a word, a word that isn't reserved, and a name
 abbrev pub word_at : List Lexeme → Read Span
@@ -84,10 +60,6 @@ plain_at _ = None
 abbrev pub name_at : List Lexeme → Read Span
 name_at (Name kind w ∷ ts) = Some (w, ts)
 name_at _ = None
-
-abbrev pub after_size_name : List Lexeme → Option (List Lexeme)
-after_size_name (Name Size v ∷ ts) = Some ts
-after_size_name _ = None
 
 -- a prefix operator
 abbrev pub prefix_at : List Lexeme → Read UnaryOp
@@ -114,33 +86,29 @@ abbrev pub closed_word : Span × List Lexeme → Read Span
 closed_word x = option_map (λ us. (x.0, us)) (after_close x.1)
 
 abbrev pub bracketed_word : List Lexeme → Read Span
-bracketed_word ts = option_and_then (λ us. option_and_then closed_word (word_at us)) (after_open ts)
+bracketed_word ts = option_and_then (λ us. option_and_then closed_word (word_at us)) (after Open ts)
 
 abbrev pub size_at : List Lexeme → Read Span
-size_at ts = option_and_then bracketed_word (after_size_name ts)
+size_at ts = option_and_then bracketed_word (after_name Size ts)
 
 -- the word of an index, before its `=>`
 abbrev pub index_word : List Lexeme → Read Span
-index_word ts = option_and_then (λ x. option_map (λ us. (x.0, us)) (after_fat_arrow x.1))
+index_word ts = option_and_then (λ x. option_map (λ us. (x.0, us)) (after FatArrow x.1))
     (word_at ts)
 
 -- an argument's name, before what its brackets hold
 abbrev pub access_name : List Lexeme → Read Span
-access_name ts = option_and_then (λ x. option_map (λ us. (x.0, us)) (after_open x.1)) (name_at ts)
+access_name ts = option_and_then (λ x. option_map (λ us. (x.0, us)) (after Open x.1)) (name_at ts)
 
 -- the type of a declaration
 abbrev pub type_word_at : List Lexeme → Read LocalType
 type_word_at (Word (OfType ty) v ∷ ts) = Some (ty, ts)
 type_word_at _ = None
 
-abbrev pub after_generic_name : List Lexeme → Option (List Lexeme)
-after_generic_name (Name Generic v ∷ ts) = Some ts
-after_generic_name _ = None
-
 abbrev pub generic_at : List Lexeme → Read LocalType
 generic_at ts =
     option_map (λ us. (OfGeneric, us)) (option_and_then after_close
-    (option_and_then after_open (after_generic_name ts)))
+    (option_and_then (after Open) (after_name Generic ts)))
 
 abbrev pub type_at : List Lexeme → Read LocalType
 type_at ts = either (generic_at ts) (λ x. Some x) (type_word_at ts)
@@ -159,21 +127,21 @@ declared_at ts = option_and_then declared_word (type_at ts)
 
 -- the word of a loop, before its code
 abbrev pub loop_word : Span × List Lexeme → Read Span
-loop_word x = option_map (λ us. (x.0, us)) (after_block_open x.1)
+loop_word x = option_map (λ us. (x.0, us)) (after BlockOpen x.1)
 
 abbrev pub loop_at : List Lexeme → Read Span
 loop_at ts = option_and_then (λ us. option_and_then loop_word (bracketed_word us))
-    (after_loop_word ts)
+    (after_word Loop ts)
 
 abbrev pub after_if : List Lexeme → Option (List Lexeme)
-after_if ts = option_and_then after_open (after_if_word ts)
+after_if ts = option_and_then (after Open) (after_word If ts)
 
 abbrev pub after_else : List Lexeme → Option (List Lexeme)
-after_else ts = option_and_then after_block_open (after_else_word ts)
+after_else ts = option_and_then (after BlockOpen) (after_word Else ts)
 
 -- what follows `) %{`
 abbrev pub after_condition : List Lexeme → Option (List Lexeme)
-after_condition ts = option_and_then after_block_open (after_close ts)
+after_condition ts = option_and_then (after BlockOpen) (after_close ts)
 
 -- a number's value, with what follows it
 abbrev pub number_before : List Lexeme → ℤ → RawTree × List Lexeme
@@ -212,7 +180,7 @@ module _ (f : Kind → List Lexeme → Read RawTree) where
   unfoldable pub indices_at : ℕ → List Lexeme → Read RawIndices
   indices_at zero ts = None
   indices_at (suc k) ts =
-      option_and_then (λ x. either (Some x) (λ us. before x.0 (indices_at k us)) (after_comma x.1))
+      option_and_then (λ x. either (Some x) (λ us. before x.0 (indices_at k us)) (after Comma x.1))
       (index_at ts)
 
   -- what an access's brackets hold, with the place of the closing one
@@ -269,12 +237,12 @@ expr_at ts = reader (suc (length ts)) expression ts
 
 -- an expression and `;`
 unfoldable pub ended_at : List Lexeme → Read RawTree
-ended_at ts = option_and_then (λ x. option_map (λ us. (x.0, us)) (after_semicolon x.1)) (expr_at ts)
+ended_at ts = option_and_then (λ x. option_map (λ us. (x.0, us)) (after Semicolon x.1)) (expr_at ts)
 
 -- what stands behind a declaration's word
 unfoldable pub initial_at : List Lexeme → Read RawTree
 initial_at ts =
-    either (option_map (λ us. (number (pos 0), us)) (after_semicolon ts)) ended_at (after_equals ts)
+    either (option_map (λ us. (number (pos 0), us)) (after Semicolon ts)) ended_at (after Equals ts)
 
 abbrev pub declaration_at : Declared → Read RawStep
 declaration_at d = option_map (λ x. (declare d.ty d.word x.0, x.1)) (initial_at d.rest)
@@ -298,7 +266,7 @@ assignment_at ts = either (put_at ts) set_sign (word_at ts)
 module _ (g : List Lexeme → Read RawCode) where
   -- code and `%}`
   unfoldable pub block_at : List Lexeme → Read RawCode
-  block_at ts = option_and_then (λ x. option_map (λ us. (x.0, us)) (after_block_close x.1)) (g ts)
+  block_at ts = option_and_then (λ x. option_map (λ us. (x.0, us)) (after BlockClose x.1)) (g ts)
 
   abbrev pub body_at : Span × List Lexeme → Read RawStep
   body_at w = option_map (λ x. (repeat w.0 x.0, x.1)) (block_at w.1)
@@ -324,7 +292,7 @@ module _ (g : List Lexeme → Read RawCode) where
   one_step ts = option_map (λ x. (next x.0 done, x.1)) (step_at ts)
 
   unfoldable pub statement_at : List Lexeme → Read RawCode
-  statement_at ts = either (one_step ts) (λ us. Some (done, us)) (after_semicolon ts)
+  statement_at ts = either (one_step ts) (λ us. Some (done, us)) (after Semicolon ts)
 
 -- whether code ends here: nothing is left, or `%}` comes
 abbrev pub ends : List Lexeme → Option (List Lexeme)

@@ -196,7 +196,7 @@ fn indices<'a>(alloc: Global, fuel: usize, tokens: &Lexemes<'a>) -> Read<'a, Vec
     let mut rest = tokens.copy();
     for _ in 0..tokens.len() {
         let (all, after) = index(alloc, fuel, found, &rest)?;
-        match peek::after_comma(&after) {
+        match peek::after(Lexeme::Comma, &after) {
             None => return Ok((all, after)),
             Some(next) => {
                 found = all;

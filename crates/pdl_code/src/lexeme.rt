@@ -4,14 +4,14 @@ use crate::LocalType;
 use pdl_elem::{BinaryOp, UnaryOp};
 
 /// The bytes of a kernel's text from `from` on and before `to`.
-#[derive(Clone, Copy)]
+#[derive(Clone, Copy, PartialEq, Eq)]
 pub struct Span {
     pub from: u32,
     pub to: u32,
 }
 
 /// What a word is besides a name. All but the plain ones are reserved.
-#[derive(Clone, Copy)]
+#[derive(Clone, Copy, PartialEq, Eq)]
 pub enum WordKind {
     Loop,
     If,
@@ -22,7 +22,7 @@ pub enum WordKind {
 }
 
 /// What `$` and a word are besides an argument.
-#[derive(Clone, Copy)]
+#[derive(Clone, Copy, PartialEq, Eq)]
 pub enum NameKind {
     /// `$SIZE`
     Size,
@@ -32,7 +32,7 @@ pub enum NameKind {
 }
 
 /// A token as the grammar reads it.
-#[derive(Clone, Copy)]
+#[derive(Clone, Copy, PartialEq, Eq)]
 pub enum Lexeme {
     /// `$` and a word, the `$` among the bytes.
     Name(NameKind, Span),

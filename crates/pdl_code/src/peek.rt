@@ -1,6 +1,6 @@
 //! Looks at the front of what is left, each with what follows.
 ghost use Rattle.std.specs.Prelude.{◌≡◌, option_map};
-ghost use Rattle.pdl_code.specs.CodeReading.{access_name, after_block_close, after_block_open, after_close, after_comma, after_condition, after_else, after_else_word, after_equals, after_fat_arrow, after_generic_name, after_if, after_if_word, after_loop_word, after_open, after_semicolon, after_size_name, bracketed_word, close_at, declared_at, ends, generic_at, index_word, loop_at, name_at, operator_at, plain_at, prefix_at, sign_at, size_at, type_at, type_word_at, word_at};
+ghost use Rattle.pdl_code.specs.CodeReading.{after, after_word, after_name, access_name, after_close, after_condition, after_else, after_if, bracketed_word, close_at, declared_at, ends, generic_at, index_word, loop_at, name_at, operator_at, plain_at, prefix_at, sign_at, size_at, type_at, type_word_at, word_at};
 
 use crate::left::Lexemes;
 use crate::lexeme::{Lexeme, NameKind, Span, WordKind};
@@ -8,11 +8,32 @@ use crate::tree::LocalType;
 use pdl_elem::{BinaryOp, UnaryOp};
 use pdl_lexemes::level_of;
 
-pub fn after_open<'a>(tokens: &Lexemes<'a>) -> Option<Lexemes<'a>>
-    ensures rest { result ≡ after_open tokens.now }
+/// What follows this sign.
+pub fn after<'a>(sign: Lexeme, tokens: &Lexemes<'a>) -> Option<Lexemes<'a>>
+    ensures rest { result ≡ after sign tokens.now }
 {
     match tokens.split_first() {
-        Some((Lexeme::Open, rest)) => Some(rest),
+        None => None,
+        Some((first, rest)) => if sign == first { Some(rest) } else { None },
+    }
+}
+
+// What follows a word of this kind.
+fn after_word<'a>(kind: WordKind, tokens: &Lexemes<'a>) -> Option<Lexemes<'a>>
+    ensures rest { result ≡ after_word kind tokens.now }
+{
+    match tokens.split_first() {
+        Some((Lexeme::Word(first, _), rest)) => if kind == first { Some(rest) } else { None },
+        _ => None,
+    }
+}
+
+// What follows a name of this kind.
+fn after_name<'a>(kind: NameKind, tokens: &Lexemes<'a>) -> Option<Lexemes<'a>>
+    ensures rest { result ≡ after_name kind tokens.now }
+{
+    match tokens.split_first() {
+        Some((Lexeme::Name(first, _), rest)) => if kind == first { Some(rest) } else { None },
         _ => None,
     }
 }
@@ -32,105 +53,6 @@ pub fn after_close<'a>(tokens: &Lexemes<'a>) -> Option<Lexemes<'a>>
     match close(tokens) {
         Some((_, rest)) => Some(rest),
         None => None,
-    }
-}
-
-pub fn after_block_open<'a>(tokens: &Lexemes<'a>) -> Option<Lexemes<'a>>
-    ensures rest { result ≡ after_block_open tokens.now }
-{
-    match tokens.split_first() {
-        Some((Lexeme::BlockOpen, rest)) => Some(rest),
-        _ => None,
-    }
-}
-
-pub fn after_block_close<'a>(tokens: &Lexemes<'a>) -> Option<Lexemes<'a>>
-    ensures rest { result ≡ after_block_close tokens.now }
-{
-    match tokens.split_first() {
-        Some((Lexeme::BlockClose, rest)) => Some(rest),
-        _ => None,
-    }
-}
-
-pub fn after_semicolon<'a>(tokens: &Lexemes<'a>) -> Option<Lexemes<'a>>
-    ensures rest { result ≡ after_semicolon tokens.now }
-{
-    match tokens.split_first() {
-        Some((Lexeme::Semicolon, rest)) => Some(rest),
-        _ => None,
-    }
-}
-
-pub fn after_comma<'a>(tokens: &Lexemes<'a>) -> Option<Lexemes<'a>>
-    ensures rest { result ≡ after_comma tokens.now }
-{
-    match tokens.split_first() {
-        Some((Lexeme::Comma, rest)) => Some(rest),
-        _ => None,
-    }
-}
-
-pub fn after_equals<'a>(tokens: &Lexemes<'a>) -> Option<Lexemes<'a>>
-    ensures rest { result ≡ after_equals tokens.now }
-{
-    match tokens.split_first() {
-        Some((Lexeme::Equals, rest)) => Some(rest),
-        _ => None,
-    }
-}
-
-pub fn after_fat_arrow<'a>(tokens: &Lexemes<'a>) -> Option<Lexemes<'a>>
-    ensures rest { result ≡ after_fat_arrow tokens.now }
-{
-    match tokens.split_first() {
-        Some((Lexeme::FatArrow, rest)) => Some(rest),
-        _ => None,
-    }
-}
-
-pub fn after_loop_word<'a>(tokens: &Lexemes<'a>) -> Option<Lexemes<'a>>
-    ensures rest { result ≡ after_loop_word tokens.now }
-{
-    match tokens.split_first() {
-        Some((Lexeme::Word(WordKind::Loop, _), rest)) => Some(rest),
-        _ => None,
-    }
-}
-
-pub fn after_if_word<'a>(tokens: &Lexemes<'a>) -> Option<Lexemes<'a>>
-    ensures rest { result ≡ after_if_word tokens.now }
-{
-    match tokens.split_first() {
-        Some((Lexeme::Word(WordKind::If, _), rest)) => Some(rest),
-        _ => None,
-    }
-}
-
-pub fn after_else_word<'a>(tokens: &Lexemes<'a>) -> Option<Lexemes<'a>>
-    ensures rest { result ≡ after_else_word tokens.now }
-{
-    match tokens.split_first() {
-        Some((Lexeme::Word(WordKind::Else, _), rest)) => Some(rest),
-        _ => None,
-    }
-}
-
-pub fn after_size_name<'a>(tokens: &Lexemes<'a>) -> Option<Lexemes<'a>>
-    ensures rest { result ≡ after_size_name tokens.now }
-{
-    match tokens.split_first() {
-        Some((Lexeme::Name(NameKind::Size, _), rest)) => Some(rest),
-        _ => None,
-    }
-}
-
-pub fn after_generic_name<'a>(tokens: &Lexemes<'a>) -> Option<Lexemes<'a>>
-    ensures rest { result ≡ after_generic_name tokens.now }
-{
-    match tokens.split_first() {
-        Some((Lexeme::Name(NameKind::Generic, _), rest)) => Some(rest),
-        _ => None,
     }
 }
 
@@ -211,7 +133,7 @@ pub fn sign<'a>(tokens: &Lexemes<'a>) -> Option<(Option<BinaryOp>, Lexemes<'a>)>
 fn bracketed_word<'a>(tokens: &Lexemes<'a>) -> Option<(Span, Lexemes<'a>)>
     ensures read { result ≡ bracketed_word tokens.now }
 {
-    let rest = after_open(tokens)?;
+    let rest = after(Lexeme::Open, tokens)?;
     let (span, rest) = word(&rest)?;
     let rest = after_close(&rest)?;
     Some((span, rest))
@@ -221,7 +143,7 @@ fn bracketed_word<'a>(tokens: &Lexemes<'a>) -> Option<(Span, Lexemes<'a>)>
 pub fn size<'a>(tokens: &Lexemes<'a>) -> Option<(Span, Lexemes<'a>)>
     ensures read { result ≡ size_at tokens.now }
 {
-    let rest = after_size_name(tokens)?;
+    let rest = after_name(NameKind::Size, tokens)?;
     bracketed_word(&rest)
 }
 
@@ -230,7 +152,7 @@ pub fn index_word<'a>(tokens: &Lexemes<'a>) -> Option<(Span, Lexemes<'a>)>
     ensures read { result ≡ index_word tokens.now }
 {
     let (span, rest) = word(tokens)?;
-    let rest = after_fat_arrow(&rest)?;
+    let rest = after(Lexeme::FatArrow, &rest)?;
     Some((span, rest))
 }
 
@@ -239,7 +161,7 @@ pub fn access_name<'a>(tokens: &Lexemes<'a>) -> Option<(Span, Lexemes<'a>)>
     ensures read { result ≡ access_name tokens.now }
 {
     let (span, rest) = name(tokens)?;
-    let rest = after_open(&rest)?;
+    let rest = after(Lexeme::Open, &rest)?;
     Some((span, rest))
 }
 
@@ -247,8 +169,8 @@ pub fn access_name<'a>(tokens: &Lexemes<'a>) -> Option<(Span, Lexemes<'a>)>
 fn generic<'a>(tokens: &Lexemes<'a>) -> Option<(LocalType, Lexemes<'a>)>
     ensures read { result ≡ generic_at tokens.now }
 {
-    let rest = after_generic_name(tokens)?;
-    let rest = after_open(&rest)?;
+    let rest = after_name(NameKind::Generic, tokens)?;
+    let rest = after(Lexeme::Open, &rest)?;
     let rest = after_close(&rest)?;
     Some((LocalType::Generic, rest))
 }
@@ -276,9 +198,9 @@ pub fn declared<'a>(tokens: &Lexemes<'a>) -> Option<(LocalType, Span, Lexemes<'a
 pub fn loop_head<'a>(tokens: &Lexemes<'a>) -> Option<(Span, Lexemes<'a>)>
     ensures read { result ≡ loop_at tokens.now }
 {
-    let rest = after_loop_word(tokens)?;
+    let rest = after_word(WordKind::Loop, tokens)?;
     let (span, rest) = bracketed_word(&rest)?;
-    let rest = after_block_open(&rest)?;
+    let rest = after(Lexeme::BlockOpen, &rest)?;
     Some((span, rest))
 }
 
@@ -286,16 +208,16 @@ pub fn loop_head<'a>(tokens: &Lexemes<'a>) -> Option<(Span, Lexemes<'a>)>
 pub fn after_if<'a>(tokens: &Lexemes<'a>) -> Option<Lexemes<'a>>
     ensures rest { result ≡ after_if tokens.now }
 {
-    let rest = after_if_word(tokens)?;
-    after_open(&rest)
+    let rest = after_word(WordKind::If, tokens)?;
+    after(Lexeme::Open, &rest)
 }
 
 /// What follows `else %{`.
 pub fn after_else<'a>(tokens: &Lexemes<'a>) -> Option<Lexemes<'a>>
     ensures rest { result ≡ after_else tokens.now }
 {
-    let rest = after_else_word(tokens)?;
-    after_block_open(&rest)
+    let rest = after_word(WordKind::Else, tokens)?;
+    after(Lexeme::BlockOpen, &rest)
 }
 
 /// What follows `) %{`.
@@ -303,7 +225,7 @@ pub fn after_condition<'a>(tokens: &Lexemes<'a>) -> Option<Lexemes<'a>>
     ensures rest { result ≡ after_condition tokens.now }
 {
     let rest = after_close(tokens)?;
-    after_block_open(&rest)
+    after(Lexeme::BlockOpen, &rest)
 }
 
 /// The same tokens, where code ends: nothing is left, or `%}` comes.

@@ -7,7 +7,7 @@ ghost use Rattle.pdl_code.specs.CodeReading.{assignment_at, before_code, block_a
 
 use crate::expr::{self, Read};
 use crate::left::Lexemes;
-use crate::lexeme::Span;
+use crate::lexeme::{Lexeme, Span};
 use crate::raw::{RawExpr, RawStmt};
 use crate::{peek, raw_build};
 use pdl_lexemes::Refusal;
@@ -19,7 +19,7 @@ fn ended<'a>(alloc: Global, tokens: &Lexemes<'a>) -> Read<'a, RawExpr>
     ensures read { Gives (λ x. (raw_of x.0, x.1)) result (ended_at tokens.now) }
 {
     let (value, rest) = expr::expr(alloc, tokens)?;
-    let rest = peek::after_semicolon(&rest).ok_or(Refusal::Refused)?;
+    let rest = peek::after(Lexeme::Semicolon, &rest).ok_or(Refusal::Refused)?;
     Ok((value, rest))
 }
 
@@ -28,10 +28,10 @@ fn ended<'a>(alloc: Global, tokens: &Lexemes<'a>) -> Read<'a, RawExpr>
 fn initial<'a>(alloc: Global, tokens: &Lexemes<'a>) -> Read<'a, RawExpr>
     ensures read { Gives (λ x. (raw_of x.0, x.1)) result (initial_at tokens.now) }
 {
-    match peek::after_equals(tokens) {
+    match peek::after(Lexeme::Equals, tokens) {
         Some(rest) => ended(alloc, &rest),
         None => {
-            let rest = peek::after_semicolon(tokens).ok_or(Refusal::Refused)?;
+            let rest = peek::after(Lexeme::Semicolon, tokens).ok_or(Refusal::Refused)?;
             Ok((RawExpr::Number(0), rest))
         }
     }
@@ -112,7 +112,7 @@ fn statement<'a>(
     ensures read { Gives (λ x. (raw_code x.0.items, x.1)) result
         (before_code (raw_code found.items) (statement_at (code_reader fuel) tokens.now)) }
 {
-    if let Some(rest) = peek::after_semicolon(tokens) {
+    if let Some(rest) = peek::after(Lexeme::Semicolon, tokens) {
         return Ok((found, rest));
     }
     let (stmt, rest) = step(alloc, fuel, tokens)?;
@@ -172,7 +172,7 @@ fn block<'a>(alloc: Global, fuel: usize, tokens: &Lexemes<'a>) -> Read<'a, Vec<R
         (block_at (code_reader fuel) tokens.now) }
 {
     let (body, rest) = code(alloc, fuel, tokens)?;
-    let rest = peek::after_block_close(&rest).ok_or(Refusal::Refused)?;
+    let rest = peek::after(Lexeme::BlockClose, &rest).ok_or(Refusal::Refused)?;
     Ok((body, rest))
 }
 
