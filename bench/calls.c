@@ -57,17 +57,21 @@ struct window { const char *name; void (*read)(int); int count; };
         for (int64_t i = 0; i < BLOCK; i++) { a[i] = (T)(i * 7919 + 1); b[i] = (T)(i * 2 + 1); } \
     }
 
+TYPE(int8_t)
 TYPE(uint8_t)
 TYPE(int16_t)
 TYPE(uint16_t)
 TYPE(int32_t)
+TYPE(uint32_t)
 TYPE(int64_t)
 
 static const struct type { const char *name; void (*fill)(void); const struct operation *operations; const struct window *windows; } types[] = {
+    {"sbyte", fill_int8_t, operations_int8_t, windows_int8_t},
     {"byte", fill_uint8_t, operations_uint8_t, windows_uint8_t},
     {"short", fill_int16_t, operations_int16_t, windows_int16_t},
     {"ushort", fill_uint16_t, operations_uint16_t, windows_uint16_t},
     {"long", fill_int32_t, operations_int32_t, windows_int32_t},
+    {"ulong", fill_uint32_t, operations_uint32_t, windows_uint32_t},
     {"longlong", fill_int64_t, operations_int64_t, windows_int64_t},
 };
 

@@ -11,10 +11,12 @@ pub enum Subject {
 
 /// The types by their words.
 pub const TYPES: &[(&str, Ty)] = &[
+    ("sbyte", Ty::Sbyte),
     ("byte", Ty::Byte),
     ("short", Ty::Short),
     ("ushort", Ty::Ushort),
     ("long", Ty::Long),
+    ("ulong", Ty::Ulong),
     ("longlong", Ty::Longlong),
 ];
 

@@ -5,10 +5,7 @@ ghost use Rattle.pdl_shape.specs.Broadcast.{BroadcastsTo};
 ghost use Rattle.pdl_shape.specs.Shape.{IsWithin, dims_limit, extent, extent_limit};
 ghost use Rattle.pdl_shape.specs.Triple.{spread};
 
-use pdl_shape::shape_laws;
-
-/// The most dimensions of a walk.
-pub(crate) const MOST_DIMS: usize = 16;
+use pdl_shape::{MOST_DIMS, shape_laws};
 
 /// An argument's place, and for each dimension how far the place jumps when that dimension moves on
 /// and all before it roll over.

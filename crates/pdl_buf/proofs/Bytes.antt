@@ -9,13 +9,15 @@ use Rattle.std.proofs.lemmas.Int.{ints}
 use Rattle.std.proofs.lemmas.Nat.{from_le_bytes-to_le_bytes_2, from_le_bytes-to_le_bytes_4, from_le_bytes-to_le_bytes_8}
 use Rattle.std.specs.Int.{w8, to_le_bytes, from_le_bytes}
 use Rattle.pdl_elem.specs.declared.Ty.{Ty}
-use Rattle.pdl_elem.specs.declared.Ty.TheVariants.{Byte, Short, Ushort, Long, Longlong}
+use Rattle.pdl_elem.specs.declared.Ty.TheVariants.{Sbyte, Byte, Short, Ushort, Long, Ulong, Longlong}
 use Rattle.pdl_elem.specs.Types.{InRange}
 use Rattle.pdl_elem.specs.Numbers.{count_of, wrapped, pattern}
 use Rattle.pdl_buf.specs.Bytes.{bytes_of, number_of, IsPacked, ArePacked}
 
 -- a number of the type is what its pattern is wrapped to
 pattern_again : (t : Ty) (n : ℤ) → InRange t n → wrapped t (pos (pattern t n)) ≡ n
+pattern_again Sbyte (pos n) r = omega (arith, ints, r.0, r.1)
+pattern_again Sbyte (negsuc n) r = omega (arith, ints, r.0, r.1)
 pattern_again Byte (pos n) r = omega (arith, ints, r.0, r.1)
 pattern_again Byte (negsuc n) r = absurd (omega (arith, ints, r.0, r.1))
 pattern_again Short (pos n) r = omega (arith, ints, r.0, r.1)
@@ -24,11 +26,15 @@ pattern_again Ushort (pos n) r = omega (arith, ints, r.0, r.1)
 pattern_again Ushort (negsuc n) r = absurd (omega (arith, ints, r.0, r.1))
 pattern_again Long (pos n) r = omega (arith, ints, r.0, r.1)
 pattern_again Long (negsuc n) r = omega (arith, ints, r.0, r.1)
+pattern_again Ulong (pos n) r = omega (arith, ints, r.0, r.1)
+pattern_again Ulong (negsuc n) r = absurd (omega (arith, ints, r.0, r.1))
 pattern_again Longlong (pos n) r = omega (arith, ints, r.0, r.1)
 pattern_again Longlong (negsuc n) r = omega (arith, ints, r.0, r.1)
 
 -- a pattern fits the word
 pattern_small : (t : Ty) (n : ℤ) → pattern t n < count_of t
+pattern_small Sbyte (pos n) = omega arith
+pattern_small Sbyte (negsuc n) = omega arith
 pattern_small Byte (pos n) = omega arith
 pattern_small Byte (negsuc n) = omega arith
 pattern_small Short (pos n) = omega arith
@@ -37,6 +43,8 @@ pattern_small Ushort (pos n) = omega arith
 pattern_small Ushort (negsuc n) = omega arith
 pattern_small Long (pos n) = omega arith
 pattern_small Long (negsuc n) = omega arith
+pattern_small Ulong (pos n) = omega arith
+pattern_small Ulong (negsuc n) = omega arith
 pattern_small Longlong (pos n) = omega arith
 pattern_small Longlong (negsuc n) = omega arith
 
@@ -44,10 +52,12 @@ one_byte : (n : ℕ) → n < 256 → from_le_bytes w8 (to_le_bytes w8 n) ≡ n
 one_byte n h = omega arith
 
 word_again : (t : Ty) (n : ℤ) → number_of t (bytes_of t n) ≡ wrapped t (pos (pattern t n))
+word_again Sbyte n = ap (λ k. wrapped Sbyte (pos k)) (one_byte (pattern Sbyte n) (pattern_small Sbyte n))
 word_again Byte n = ap (λ k. wrapped Byte (pos k)) (one_byte (pattern Byte n) (pattern_small Byte n))
 word_again Short n = ap (λ k. wrapped Short (pos k)) (from_le_bytes-to_le_bytes_2 (pattern Short n) (pattern_small Short n))
 word_again Ushort n = ap (λ k. wrapped Ushort (pos k)) (from_le_bytes-to_le_bytes_2 (pattern Ushort n) (pattern_small Ushort n))
 word_again Long n = ap (λ k. wrapped Long (pos k)) (from_le_bytes-to_le_bytes_4 (pattern Long n) (pattern_small Long n))
+word_again Ulong n = ap (λ k. wrapped Ulong (pos k)) (from_le_bytes-to_le_bytes_4 (pattern Ulong n) (pattern_small Ulong n))
 word_again Longlong n = ap (λ k. wrapped Longlong (pos k)) (from_le_bytes-to_le_bytes_8 (pattern Longlong n) (pattern_small Longlong n))
 
 pub number_again : (t : Ty) (n : ℤ) → InRange t n → number_of t (bytes_of t n) ≡ n

@@ -2,15 +2,17 @@
 use Rattle.std.specs.Prelude.{◌≡◌, ℕ, ℤ, pos, List, All}
 use Rattle.std.specs.Int.{Width, w8, w16, w32, w64, to_le_bytes, from_le_bytes}
 use Rattle.pdl_elem.specs.declared.Ty.{Ty}
-use Rattle.pdl_elem.specs.declared.Ty.TheVariants.{Byte, Short, Ushort, Long, Longlong}
+use Rattle.pdl_elem.specs.declared.Ty.TheVariants.{Sbyte, Byte, Short, Ushort, Long, Ulong, Longlong}
 use Rattle.pdl_elem.specs.Numbers.{wrapped, pattern}
 
 -- the machine word that is as wide as the type
 abbrev pub word_of : Ty → Width
+word_of Sbyte = w8
 word_of Byte = w8
 word_of Short = w16
 word_of Ushort = w16
 word_of Long = w32
+word_of Ulong = w32
 word_of Longlong = w64
 
 -- a number's bytes at the type

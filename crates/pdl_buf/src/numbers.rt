@@ -12,7 +12,7 @@ ghost use Rattle.pdl_buf.specs.Reads.{HasRead, HasReadAcross, LieAcross, across}
 ghost use Rattle.pdl_buf.specs.Window.{shown_through};
 
 use crate::across::read_across;
-use crate::packed::{AtByte, AtLong, AtLonglong, AtShort, AtUshort, Packed};
+use crate::packed::{AtByte, AtLong, AtLonglong, AtSbyte, AtShort, AtUlong, AtUshort, Packed};
 use crate::placement::Placement;
 use crate::reads::read_block;
 use crate::routes::Route;
@@ -25,10 +25,12 @@ const BLOCK: usize = 512;
 /// Numbers of one type.
 #[derive(Debug, Drop)]
 pub(crate) enum Numbers {
+    Sbytes(Packed<AtSbyte, 1>),
     Bytes(Packed<AtByte, 1>),
     Shorts(Packed<AtShort, 2>),
     Ushorts(Packed<AtUshort, 2>),
     Longs(Packed<AtLong, 4>),
+    Ulongs(Packed<AtUlong, 4>),
     Longlongs(Packed<AtLonglong, 8>),
 }
 
@@ -38,10 +40,12 @@ impl Numbers {
         ensures { IfOk result (λ kept. elements_in kept ≡ record { ty = ty; elems = [] }) }
     {
         Ok(match ty {
+            Ty::Sbyte => Numbers::Sbytes(Packed::with_room(alloc, count)?),
             Ty::Byte => Numbers::Bytes(Packed::with_room(alloc, count)?),
             Ty::Short => Numbers::Shorts(Packed::with_room(alloc, count)?),
             Ty::Ushort => Numbers::Ushorts(Packed::with_room(alloc, count)?),
             Ty::Long => Numbers::Longs(Packed::with_room(alloc, count)?),
+            Ty::Ulong => Numbers::Ulongs(Packed::with_room(alloc, count)?),
             Ty::Longlong => Numbers::Longlongs(Packed::with_room(alloc, count)?),
         })
     }
@@ -54,10 +58,12 @@ impl Numbers {
         ensures err { OnErr result (elements_in self.new ≡ elements_in self.old) }
     {
         match self {
+            Numbers::Sbytes(packed) => packed.extend(numbers),
             Numbers::Bytes(packed) => packed.extend(numbers),
             Numbers::Shorts(packed) => packed.extend(numbers),
             Numbers::Ushorts(packed) => packed.extend(numbers),
             Numbers::Longs(packed) => packed.extend(numbers),
+            Numbers::Ulongs(packed) => packed.extend(numbers),
             Numbers::Longlongs(packed) => packed.extend(numbers),
         }
     }
@@ -100,10 +106,12 @@ impl Numbers {
         ensures { result ≡ length (elements_in self.now).elems }
     {
         match self {
+            Numbers::Sbytes(packed) => packed.len(),
             Numbers::Bytes(packed) => packed.len(),
             Numbers::Shorts(packed) => packed.len(),
             Numbers::Ushorts(packed) => packed.len(),
             Numbers::Longs(packed) => packed.len(),
+            Numbers::Ulongs(packed) => packed.len(),
             Numbers::Longlongs(packed) => packed.len(),
         }
     }
@@ -114,10 +122,12 @@ impl Numbers {
         ensures { into.new ≡ take (length into.old) (drop start (elements_in self.now).elems) }
     {
         match self {
+            Numbers::Sbytes(packed) => packed.read_from(start, into),
             Numbers::Bytes(packed) => packed.read_from(start, into),
             Numbers::Shorts(packed) => packed.read_from(start, into),
             Numbers::Ushorts(packed) => packed.read_from(start, into),
             Numbers::Longs(packed) => packed.read_from(start, into),
+            Numbers::Ulongs(packed) => packed.read_from(start, into),
             Numbers::Longlongs(packed) => packed.read_from(start, into),
         }
     }
@@ -127,10 +137,12 @@ impl Numbers {
         ensures { result ≡ count_moved (elements_in self.now).elems }
     {
         match self {
+            Numbers::Sbytes(packed) => packed.moved(),
             Numbers::Bytes(packed) => packed.moved(),
             Numbers::Shorts(packed) => packed.moved(),
             Numbers::Ushorts(packed) => packed.moved(),
             Numbers::Longs(packed) => packed.moved(),
+            Numbers::Ulongs(packed) => packed.moved(),
             Numbers::Longlongs(packed) => packed.moved(),
         }
     }
@@ -140,10 +152,12 @@ impl Numbers {
         ensures { result ≡ (elements_in self.now).ty }
     {
         match self {
+            Numbers::Sbytes(_) => Ty::Sbyte,
             Numbers::Bytes(_) => Ty::Byte,
             Numbers::Shorts(_) => Ty::Short,
             Numbers::Ushorts(_) => Ty::Ushort,
             Numbers::Longs(_) => Ty::Long,
+            Numbers::Ulongs(_) => Ty::Ulong,
             Numbers::Longlongs(_) => Ty::Longlong,
         }
     }
@@ -155,10 +169,12 @@ impl Numbers {
         ensures in_range { InRange (elements_in self.now).ty result }
     {
         match self {
+            Numbers::Sbytes(packed) => packed.get(place),
             Numbers::Bytes(packed) => packed.get(place),
             Numbers::Shorts(packed) => packed.get(place),
             Numbers::Ushorts(packed) => packed.get(place),
             Numbers::Longs(packed) => packed.get(place),
+            Numbers::Ulongs(packed) => packed.get(place),
             Numbers::Longlongs(packed) => packed.get(place),
         }
     }
@@ -172,10 +188,12 @@ impl Numbers {
             { elems = slice_set (elements_in self.old).elems place number } }
     {
         match self {
+            Numbers::Sbytes(packed) => packed.set(place, number),
             Numbers::Bytes(packed) => packed.set(place, number),
             Numbers::Shorts(packed) => packed.set(place, number),
             Numbers::Ushorts(packed) => packed.set(place, number),
             Numbers::Longs(packed) => packed.set(place, number),
+            Numbers::Ulongs(packed) => packed.set(place, number),
             Numbers::Longlongs(packed) => packed.set(place, number),
         }
     }
@@ -186,10 +204,12 @@ impl Numbers {
             result.now ≡ flat_map (bytes_of kept.ty) kept.elems }
     {
         match self {
+            Numbers::Sbytes(packed) => packed.bytes(),
             Numbers::Bytes(packed) => packed.bytes(),
             Numbers::Shorts(packed) => packed.bytes(),
             Numbers::Ushorts(packed) => packed.bytes(),
             Numbers::Longs(packed) => packed.bytes(),
+            Numbers::Ulongs(packed) => packed.bytes(),
             Numbers::Longlongs(packed) => packed.bytes(),
         }
     }
@@ -206,12 +226,16 @@ impl Numbers {
             elements_in self.new ≡ record (elements_in self.old) { elems = elems } }
     {
         match (self, from) {
+            (Numbers::Sbytes(into), Numbers::Sbytes(from)) => into.gather(from, placement, places),
             (Numbers::Bytes(into), Numbers::Bytes(from)) => into.gather(from, placement, places),
             (Numbers::Shorts(into), Numbers::Shorts(from)) => into.gather(from, placement, places),
             (Numbers::Ushorts(into), Numbers::Ushorts(from)) => into.gather(
                 from, placement, places,
             ),
             (Numbers::Longs(into), Numbers::Longs(from)) => into.gather(from, placement, places),
+            (Numbers::Ulongs(into), Numbers::Ulongs(from)) => {
+                into.gather(from, placement, places)
+            }
             (Numbers::Longlongs(into), Numbers::Longlongs(from)) => {
                 into.gather(from, placement, places)
             }
@@ -230,10 +254,12 @@ impl Numbers {
             { elems = write places.now values.now (elements_in self.old).elems } }
     {
         match self {
+            Numbers::Sbytes(packed) => packed.scatter(places, values),
             Numbers::Bytes(packed) => packed.scatter(places, values),
             Numbers::Shorts(packed) => packed.scatter(places, values),
             Numbers::Ushorts(packed) => packed.scatter(places, values),
             Numbers::Longs(packed) => packed.scatter(places, values),
+            Numbers::Ulongs(packed) => packed.scatter(places, values),
             Numbers::Longlongs(packed) => packed.scatter(places, values),
         }
     }
@@ -248,10 +274,12 @@ impl Numbers {
             elements_in self.new ≡ record old { elems = elems } }
     {
         match (self, from) {
+            (Numbers::Sbytes(into), Numbers::Sbytes(from)) => into.scatter_from(places, from),
             (Numbers::Bytes(into), Numbers::Bytes(from)) => into.scatter_from(places, from),
             (Numbers::Shorts(into), Numbers::Shorts(from)) => into.scatter_from(places, from),
             (Numbers::Ushorts(into), Numbers::Ushorts(from)) => into.scatter_from(places, from),
             (Numbers::Longs(into), Numbers::Longs(from)) => into.scatter_from(places, from),
+            (Numbers::Ulongs(into), Numbers::Ulongs(from)) => into.scatter_from(places, from),
             (Numbers::Longlongs(into), Numbers::Longlongs(from)) => into.scatter_from(places, from),
             _ => {}
         }
@@ -268,10 +296,12 @@ impl Numbers {
             elements_in self.new ≡ record old { elems = write places values.now old.elems } }
     {
         match self {
+            Numbers::Sbytes(packed) => packed.put_by(route, values),
             Numbers::Bytes(packed) => packed.put_by(route, values),
             Numbers::Shorts(packed) => packed.put_by(route, values),
             Numbers::Ushorts(packed) => packed.put_by(route, values),
             Numbers::Longs(packed) => packed.put_by(route, values),
+            Numbers::Ulongs(packed) => packed.put_by(route, values),
             Numbers::Longlongs(packed) => packed.put_by(route, values),
         }
     }
@@ -283,10 +313,12 @@ impl Numbers {
         ensures in_range { All (InRange (elements_in self.now).ty) into.new }
     {
         match self {
+            Numbers::Sbytes(packed) => packed.read_at(places, into),
             Numbers::Bytes(packed) => packed.read_at(places, into),
             Numbers::Shorts(packed) => packed.read_at(places, into),
             Numbers::Ushorts(packed) => packed.read_at(places, into),
             Numbers::Longs(packed) => packed.read_at(places, into),
+            Numbers::Ulongs(packed) => packed.read_at(places, into),
             Numbers::Longlongs(packed) => packed.read_at(places, into),
         }
     }
@@ -324,10 +356,12 @@ impl Numbers {
         ensures in_range { All (InRange (elements_in self.now).ty) into.new }
     {
         match self {
+            Numbers::Sbytes(packed) => read_block(packed, placement, first, into),
             Numbers::Bytes(packed) => read_block(packed, placement, first, into),
             Numbers::Shorts(packed) => read_block(packed, placement, first, into),
             Numbers::Ushorts(packed) => read_block(packed, placement, first, into),
             Numbers::Longs(packed) => read_block(packed, placement, first, into),
+            Numbers::Ulongs(packed) => read_block(packed, placement, first, into),
             Numbers::Longlongs(packed) => read_block(packed, placement, first, into),
         }
     }
@@ -345,10 +379,12 @@ impl Numbers {
         ensures in_range { All (InRange (elements_in self.now).ty) into.new }
     {
         match self {
+            Numbers::Sbytes(packed) => read_across(packed, placement, first, into),
             Numbers::Bytes(packed) => read_across(packed, placement, first, into),
             Numbers::Shorts(packed) => read_across(packed, placement, first, into),
             Numbers::Ushorts(packed) => read_across(packed, placement, first, into),
             Numbers::Longs(packed) => read_across(packed, placement, first, into),
+            Numbers::Ulongs(packed) => read_across(packed, placement, first, into),
             Numbers::Longlongs(packed) => read_across(packed, placement, first, into),
         }
     }

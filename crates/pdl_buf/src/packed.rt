@@ -3,7 +3,7 @@ ghost use Rattle.std.specs.Prelude.{◌≡◌, ◌<◌, ◌≤◌, ◌+◌, ◌^
 ghost use Rattle.std.specs.List.{flat_map, range_with_len};
 ghost use Rattle.std.proofs.Common.{rules};
 ghost use Rattle.pdl_elem.specs.declared.Ty.{Ty};
-ghost use Rattle.pdl_elem.specs.declared.Ty.TheVariants.{Byte, Short, Ushort, Long, Longlong};
+ghost use Rattle.pdl_elem.specs.declared.Ty.TheVariants.{Sbyte, Byte, Short, Ushort, Long, Ulong, Longlong};
 ghost use Rattle.pdl_elem.specs.Types.{InRange};
 ghost use Rattle.pdl_shape.specs.Places.{AllBelow, IsBelow, element_at, put, read, write};
 ghost use Rattle.pdl_shape.specs.Shape.{size_of};
@@ -33,6 +33,23 @@ pub(crate) trait PackedType<const N: usize> {
         ensures { result ≡ number_of ty bytes.now };
 
     ghost narrow: { N ≤ 8 };
+}
+
+#[derive(Debug)]
+pub(crate) struct AtSbyte;
+
+impl PackedType<1> for AtSbyte {
+    ghost ty = { Sbyte };
+
+    ghost narrow = { Prim.search rules };
+
+    fn pack(number: i64) -> [u8; 1] {
+        (number as i8).to_le_bytes()
+    }
+
+    fn unpack(bytes: &[u8; 1]) -> i64 {
+        wrap(Ty::Sbyte, i128::from(u8::from_le_bytes(*bytes)))
+    }
 }
 
 #[derive(Debug)]
@@ -100,6 +117,23 @@ impl PackedType<4> for AtLong {
 
     fn unpack(bytes: &[u8; 4]) -> i64 {
         wrap(Ty::Long, i128::from(u32::from_le_bytes(*bytes)))
+    }
+}
+
+#[derive(Debug)]
+pub(crate) struct AtUlong;
+
+impl PackedType<4> for AtUlong {
+    ghost ty = { Ulong };
+
+    ghost narrow = { Prim.search rules };
+
+    fn pack(number: i64) -> [u8; 4] {
+        (number as u32).to_le_bytes()
+    }
+
+    fn unpack(bytes: &[u8; 4]) -> i64 {
+        wrap(Ty::Ulong, i128::from(u32::from_le_bytes(*bytes)))
     }
 }
 

@@ -16,10 +16,12 @@ impl Numbers {
         ensures { All (InRange (elements_in self.now).ty) (elements_in self.now).elems }
     {
         match self {
+            Numbers::Sbytes(packed) => packed.are_in_range(),
             Numbers::Bytes(packed) => packed.are_in_range(),
             Numbers::Shorts(packed) => packed.are_in_range(),
             Numbers::Ushorts(packed) => packed.are_in_range(),
             Numbers::Longs(packed) => packed.are_in_range(),
+            Numbers::Ulongs(packed) => packed.are_in_range(),
             Numbers::Longlongs(packed) => packed.are_in_range(),
         }
     }

@@ -90,10 +90,12 @@ impl Numbers {
             IfSome result (λ sum. sum ≡ int_wrap w64 (fold (λ sum x. sum +ℤ x) (pos 0) xs)) }
     {
         match self {
+            Numbers::Sbytes(packed) => sum_where_in_order(packed, placement, first, count),
             Numbers::Bytes(packed) => sum_where_in_order(packed, placement, first, count),
             Numbers::Shorts(packed) => sum_where_in_order(packed, placement, first, count),
             Numbers::Ushorts(packed) => sum_where_in_order(packed, placement, first, count),
             Numbers::Longs(packed) => sum_where_in_order(packed, placement, first, count),
+            Numbers::Ulongs(packed) => sum_where_in_order(packed, placement, first, count),
             Numbers::Longlongs(packed) => sum_where_in_order(packed, placement, first, count),
         }
     }

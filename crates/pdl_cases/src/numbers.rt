@@ -7,10 +7,12 @@ use pdl_elem::{BinaryOp, Ty, UnaryOp, binary, unary, wrap};
 
 /// The types.
 pub const TYPES: &[(&str, Ty)] = &[
+    ("Sbyte", Ty::Sbyte),
     ("Byte", Ty::Byte),
     ("Short", Ty::Short),
     ("Ushort", Ty::Ushort),
     ("Long", Ty::Long),
+    ("Ulong", Ty::Ulong),
     ("Longlong", Ty::Longlong),
 ];
 

@@ -1,14 +1,18 @@
 -- The tokens of kernel code (PDL::PP, Code): at each place the longest one,
 -- with blanks between them.
-use Rattle.std.specs.Prelude.{ℕ, zero, suc, pred, ◌+◌, ◌==◌, nat_le, nat_lt, Bool, true, false, if◌then◌else◌, List, [], ◌∷◌, ◌++◌, length, take, Option, Some, None, option_map, codes, bytes_eq}
+use Rattle.std.specs.Prelude.{ℕ, zero, suc, pred, ◌+◌, ◌==◌, nat_le, nat_lt, Bool, true, false, if◌then◌else◌, List, [], ◌∷◌, ◌++◌, length, take, Option, Some, None, option_map, codes}
 use Rattle.std.specs.List.{prefix_len}
 use Rattle.std.specs.Char.{is_ascii_digit}
 use Rattle.pdl_lemmas.specs.Options.{choose}
 use Rattle.pdl_elem.specs.declared.UnaryOp.TheVariants.{Not, Complement}
+use Rattle.pdl_elem.specs.Tables.{found_in}
 use Rattle.pdl_lex.specs.Bytes.{is_blank, is_letter, is_word_byte}
+use Rattle.pdl_sig.specs.Grammar.{reserved}
+use Rattle.pdl_sig.specs.declared.Reserved.{Reserved}
+use Rattle.pdl_sig.specs.declared.Reserved.TheVariants as words
 use Rattle.pdl_lexemes.specs.declared.AssignOp.{AssignOp}
 use Rattle.pdl_lexemes.specs.declared.AssignOp.TheVariants.{Set, With}
-use Rattle.pdl_lexemes.specs.Lexing.{found_in, operators, assignments, number_of}
+use Rattle.pdl_lexemes.specs.Lexing.{operators, assignments, number_of}
 use Rattle.pdl_code.specs.declared.lexeme.Span.{Span}
 use Rattle.pdl_code.specs.declared.lexeme.WordKind.{WordKind}
 use Rattle.pdl_code.specs.declared.lexeme.WordKind.TheVariants.{Loop, If, Else, OfType, Plain}
@@ -18,23 +22,25 @@ use Rattle.pdl_code.specs.declared.lexeme.Lexeme.{Lexeme}
 use Rattle.pdl_code.specs.declared.lexeme.Lexeme.TheVariants.{Name, Word, Number, Open, Close, BlockOpen, BlockClose, Semicolon, Comma, Equals, FatArrow, Assign, Operator, Prefix, Arrow, Unused}
 use Rattle.pdl_code.specs.declared.tree.LocalType.TheVariants.{Long, Longlong}
 
--- what a table has for a text, or what others have
-abbrev pub found_or : {A : Type 0} → A → List (List ℕ × A) → List ℕ → A
-found_or other [] text = other
-found_or other (entry ∷ rest) text =
-    if bytes_eq text entry.0 then entry.1 else found_or other rest text
+-- what a reserved word begins
+abbrev pub kind_of : Reserved → WordKind
+kind_of words.Loop = Loop
+kind_of words.If = If
+kind_of words.Else = Else
+kind_of words.LongLocal = OfType Long
+kind_of words.LonglongLocal = OfType Longlong
 
--- the reserved words
+-- what a word is besides a name
 abbrev pub word_kind : List ℕ → WordKind
-word_kind =
-    found_or Plain
-    ((codes "loop", Loop) ∷ (codes "if", If) ∷ (codes "else", Else) ∷ (codes "int", OfType Long)
-    ∷ (codes "long", OfType Long)
-    ∷ (codes "longlong", OfType Longlong) ∷ [])
+word_kind text = choose Plain kind_of (found_in reserved text)
 
 -- the names that are no argument's
+abbrev pub name_kinds : List (List ℕ × NameKind)
+name_kinds = (codes "$SIZE", Size) ∷ (codes "$GENERIC", Generic) ∷ []
+
+-- what `$` and a word are besides an argument
 abbrev pub name_kind : List ℕ → NameKind
-name_kind = found_or PlainName ((codes "$SIZE", Size) ∷ (codes "$GENERIC", Generic) ∷ [])
+name_kind text = choose PlainName (λ k. k) (found_in name_kinds text)
 
 -- the signs but those of operators on two values and of assignments; the closing bracket has its
 -- place

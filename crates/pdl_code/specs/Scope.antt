@@ -1,6 +1,7 @@
 -- What names stand for at a place of the text.
 use Rattle.std.specs.Prelude.{ℕ, suc, ◌+◌, ◌-◌, nat_eq, bytes_eq, if◌then◌else◌, Bool, true, false, List, [], ◌∷◌, take, drop, slice_set, replicate, Option, Some, None, option_map, option_and_then}
 use Rattle.pdl_sig.specs.declared.Signature.{Signature}
+use Rattle.pdl_sig.specs.Refusals.{names_limit}
 use Rattle.pdl_code.specs.declared.lexeme.Span.{Span}
 use Rattle.pdl_code.specs.declared.scope.Local.{Local}
 use Rattle.pdl_code.specs.declared.scope.Meant.{Meant}
@@ -57,10 +58,9 @@ meant source s locals w = or_local (slot_in source locals (bytes_of source w))
 abbrev pub within : Scope → ℕ → Scope
 within s d = record s { loops = slice_set s.loops d true }
 
--- for each dimension of a signature or of an argument, of which there are at
--- most eight: none is marked
+-- for each dimension of a signature or of an argument: none is marked
 abbrev pub no_flags : List Bool
-no_flags = replicate 8 false
+no_flags = replicate names_limit false
 
 -- nothing is declared and no loop is open
 abbrev pub top : Scope

@@ -11,11 +11,11 @@ use crate::build::{if_stmt, loop_stmt, with_stmt};
 use crate::fault::KernelFault;
 use crate::lexeme::Span;
 use crate::raw::{RawEntry, RawExpr, RawStmt};
-use crate::resolve::{MOST, indices, is_marked, mark, tree};
+use crate::resolve::{indices, is_marked, mark, tree};
 use crate::scope::{Local, Meant, argument, cut, declare, dim, dims_of, is_input, meaning};
 use crate::tree::{LocalType, Stmt};
 use pdl_elem::BinaryOp;
-use pdl_sig::Signature;
+use pdl_sig::{MOST_NAMES, Signature};
 use std::alloc::Global;
 
 // The declared type of a local.
@@ -34,7 +34,7 @@ fn declaration(
     source: &[u8],
     signature: &Signature,
     locals: &mut Vec<Local>,
-    loops: &[bool; MOST],
+    loops: &[bool; MOST_NAMES],
     ty: LocalType,
     word: Span,
     expr: &RawExpr,
@@ -64,7 +64,7 @@ fn word_assignment(
     source: &[u8],
     signature: &Signature,
     locals: &[Local],
-    loops: &[bool; MOST],
+    loops: &[bool; MOST_NAMES],
     word: Span,
     op: Option<BinaryOp>,
     expr: &RawExpr,
@@ -88,7 +88,7 @@ fn access_assignment(
     source: &[u8],
     signature: &Signature,
     locals: &[Local],
-    loops: &[bool; MOST],
+    loops: &[bool; MOST_NAMES],
     name: Span,
     given: &[RawEntry],
     close: u32,
@@ -119,7 +119,7 @@ fn access_assignment(
 fn loop_dim(
     source: &[u8],
     signature: &Signature,
-    loops: &[bool; MOST],
+    loops: &[bool; MOST_NAMES],
     word: Span,
 ) -> Result<usize, KernelFault>
     ensures gives { let place = dim_place signature.now (bytes_of source.now word) in
@@ -147,7 +147,7 @@ fn stmt(
     source: &[u8],
     signature: &Signature,
     locals: &mut Vec<Local>,
-    loops: &[bool; MOST],
+    loops: &[bool; MOST_NAMES],
     raw: &RawStmt,
 ) -> Result<Stmt, KernelFault>
     ensures gives { Agrees step_of result (resolve_step source.now signature.now
@@ -203,7 +203,7 @@ fn block(
     source: &[u8],
     signature: &Signature,
     locals: &mut Vec<Local>,
-    loops: &[bool; MOST],
+    loops: &[bool; MOST_NAMES],
     raw: &[RawStmt],
 ) -> Result<Vec<Stmt>, KernelFault>
     ensures gives { Agrees (λ v. code_of v.items) result
@@ -239,5 +239,12 @@ pub fn resolved(
         (code_code source.now signature.now top (raw_code raw.now))) }
 {
     let mut locals = Vec::new(alloc);
-    block(alloc, source, signature, &mut locals, &[false; MOST], raw)
+    block(
+        alloc,
+        source,
+        signature,
+        &mut locals,
+        &[false; MOST_NAMES],
+        raw,
+    )
 }

@@ -1,6 +1,6 @@
 //! The tokens of kernel code.
 ghost use Rattle.std.specs.Prelude.{◌≡◌, ◌∷◌, ◌++◌, [], OnOk, ◌≤◌, ◌<◌, ◌+◌, ◌^◌, length, drop, IfOk, IfErr, IfSome, None, false};
-ghost use Rattle.pdl_lexemes.specs.Lexing.{found_in};
+ghost use Rattle.pdl_elem.specs.Tables.{found_in};
 ghost use Rattle.pdl_code.specs.Lexing.{assignment, behind, lexed, lexed_from, lexeme_at, name_kind, name_len, number_len, sign_at, sign_named, sign_of, signs, span_at, word_kind, word_len};
 
 use crate::fault::KernelFault;
@@ -9,6 +9,7 @@ use crate::tree::LocalType;
 use pdl_elem::UnaryOp;
 use pdl_lex::bytes::{digits_len, is_blank, is_letter, word_len as word_bytes};
 use pdl_lexemes::{AssignOp, assignment_named, number_of, operator_named};
+use pdl_sig::{Reserved, reserved_word};
 use std::alloc::{AllocError, Global};
 
 /// The tokens of a text up to the first byte that begins none.
@@ -75,14 +76,13 @@ fn number_len(text: &[u8]) -> usize
 fn word_kind(text: &[u8]) -> WordKind
     ensures { result ≡ word_kind text.now }
 {
-    match text {
-        b"loop" => WordKind::Loop,
-        b"if" => WordKind::If,
-        b"else" => WordKind::Else,
-        b"int" => WordKind::OfType(LocalType::Long),
-        b"long" => WordKind::OfType(LocalType::Long),
-        b"longlong" => WordKind::OfType(LocalType::Longlong),
-        _ => WordKind::Plain,
+    match reserved_word(text) {
+        Some(Reserved::Loop) => WordKind::Loop,
+        Some(Reserved::If) => WordKind::If,
+        Some(Reserved::Else) => WordKind::Else,
+        Some(Reserved::LongLocal) => WordKind::OfType(LocalType::Long),
+        Some(Reserved::LonglongLocal) => WordKind::OfType(LocalType::Longlong),
+        None => WordKind::Plain,
     }
 }
 

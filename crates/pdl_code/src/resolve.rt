@@ -15,24 +15,21 @@ use crate::lexeme::Span;
 use crate::raw::{RawEntry, RawExpr};
 use crate::scope::{Local, Meant, argument, axis, dim, dims_of, meaning};
 use crate::tree::{Entry, Expr};
-use pdl_sig::Signature;
+use pdl_sig::{MOST_NAMES, Signature};
 use std::alloc::Global;
 
-/// A signature has at most so many names of dimensions.
-pub const MOST: usize = 8;
-
 /// Whether a dimension is marked.
-pub fn is_marked(flags: &[bool; MOST], k: usize) -> bool
+pub fn is_marked(flags: &[bool; MOST_NAMES], k: usize) -> bool
     ensures { result ≡ get_or flags.now k false }
 {
-    if k < MOST { flags[k] } else { false }
+    if k < MOST_NAMES { flags[k] } else { false }
 }
 
 /// Marks a dimension.
-pub fn mark(flags: &mut [bool; MOST], k: usize)
+pub fn mark(flags: &mut [bool; MOST_NAMES], k: usize)
     ensures { flags.new ≡ slice_set flags.old k true }
 {
-    if k < MOST {
+    if k < MOST_NAMES {
         flags[k] = true;
     }
 }
@@ -53,7 +50,7 @@ fn named(
     source: &[u8],
     signature: &Signature,
     locals: &[Local],
-    loops: &[bool; MOST],
+    loops: &[bool; MOST_NAMES],
     word: Span,
 ) -> Result<Expr, KernelFault>
     ensures { Agrees tree_of result (answer (primary_wrong loops.now word
@@ -78,7 +75,7 @@ fn place(
     source: &[u8],
     signature: &Signature,
     dims: &[u8],
-    given: &[bool; MOST],
+    given: &[bool; MOST_NAMES],
     word: Span,
 ) -> Result<usize, KernelFault>
     ensures given { Agrees (λ k. k) result (answer (axis_wrong word given.now
@@ -100,7 +97,7 @@ fn place(
 }
 
 // Whether some dimension is neither given nor looped.
-fn lacks_one(dims: &[u8], given: &[bool; MOST], loops: &[bool; MOST]) -> bool
+fn lacks_one(dims: &[u8], given: &[bool; MOST_NAMES], loops: &[bool; MOST_NAMES]) -> bool
     ensures { result ≡ lacks loops.now dims.now 0 given.now }
 {
     for (k, d) in dims.iter().enumerate() {
@@ -116,7 +113,7 @@ fn with_loop(
     found: Vec<Entry>,
     k: usize,
     d: usize,
-    given: &[bool; MOST],
+    given: &[bool; MOST_NAMES],
 ) -> Result<Vec<Entry>, KernelFault>
     ensures { Agrees (λ v. indices_of v.items) result
         (Ok (join (indices_of found.items) (one_loop given.now k d))) }
@@ -132,7 +129,7 @@ fn with_loop(
 fn with_loops(
     mut found: Vec<Entry>,
     dims: &[u8],
-    given: &[bool; MOST],
+    given: &[bool; MOST_NAMES],
 ) -> Result<Vec<Entry>, KernelFault>
     ensures { Agrees (λ v. indices_of v.items) result
         (Ok (join (indices_of found.items) (looped dims.now 0 given.now))) }
@@ -153,7 +150,7 @@ pub fn tree(
     source: &[u8],
     signature: &Signature,
     locals: &[Local],
-    loops: &[bool; MOST],
+    loops: &[bool; MOST_NAMES],
     raw: &RawExpr,
 ) -> Result<Expr, KernelFault>
     ensures { Agrees tree_of result (resolve_tree source.now signature.now
@@ -196,7 +193,7 @@ pub fn indices(
     source: &[u8],
     signature: &Signature,
     locals: &[Local],
-    loops: &[bool; MOST],
+    loops: &[bool; MOST_NAMES],
     dims: &[u8],
     given: &[RawEntry],
     close: u32,
@@ -205,7 +202,7 @@ pub fn indices(
         (record { locals = locals.now; loops = loops.now }) dims.now no_flags close
         (raw_indices given.now)) }
 {
-    let mut flags = [false; MOST];
+    let mut flags = [false; MOST_NAMES];
     let mut found = Vec::new(alloc);
     for one in given {
         match one {

@@ -7,24 +7,28 @@ use Rattle.std.proofs.Math.Path.{ap₂}
 use Rattle.std.specs.Int.Bits.{and_lt, or_lt, xor_lt, and_self, and_zero_r, or_self, or_zero_r, xor_self, xor_zero_r}
 use Rattle.std.specs.Int.{cast_signed, cast_unsigned, w64}
 use Rattle.pdl_elem.specs.declared.Ty.{Ty}
-use Rattle.pdl_elem.specs.declared.Ty.TheVariants.{Byte, Short, Ushort, Long, Longlong}
+use Rattle.pdl_elem.specs.declared.Ty.TheVariants.{Sbyte, Byte, Short, Ushort, Long, Ulong, Longlong}
 use Rattle.pdl_elem.specs.Types.{InRange}
 use Rattle.pdl_elem.proofs.Wrapping.{top_half}
 
 -- below which bit the numbers of the type differ
 abbrev below : Ty → ℕ
+below Sbyte = 7
 below Byte = 8
 below Short = 15
 below Ushort = 16
 below Long = 31
+below Ulong = 32
 below Longlong = 63
 
 -- what a negative number's word has from that bit on
 abbrev above_negative : Ty → ℕ
+above_negative Sbyte = 144115188075855871
 above_negative Byte = 0
 above_negative Short = 562949953421311
 above_negative Ushort = 0
 above_negative Long = 8589934591
+above_negative Ulong = 0
 above_negative Longlong = 1
 
 -- no bit, or the bits m
@@ -35,7 +39,9 @@ abbrev IsExtended : Ty → ℕ → Type 0
 IsExtended t x = IsEither (above_negative t) (x / 2 ^ below t)
 
 extended_word : (t : Ty) (a : ℤ) → InRange t a → IsExtended t (cast_unsigned w64 a)
+extended_word Sbyte (pos n) h = inl (omega (arith, ints, h.1))
 extended_word Byte (pos n) h = inl (omega (arith, ints, h.1))
+extended_word Sbyte (negsuc n) h = inr (omega (arith, ints, h.0))
 extended_word Byte (negsuc n) h = absurd (omega (arith, ints, h.0))
 extended_word Short (pos n) h = inl (omega (arith, ints, h.1))
 extended_word Short (negsuc n) h = inr (omega (arith, ints, h.0))
@@ -43,29 +49,37 @@ extended_word Ushort (pos n) h = inl (omega (arith, ints, h.1))
 extended_word Ushort (negsuc n) h = absurd (omega (arith, ints, h.0))
 extended_word Long (pos n) h = inl (omega (arith, ints, h.1))
 extended_word Long (negsuc n) h = inr (omega (arith, ints, h.0))
+extended_word Ulong (pos n) h = inl (omega (arith, ints, h.1))
 extended_word Longlong (pos n) h = inl (omega (arith, ints, h.1))
+extended_word Ulong (negsuc n) h = absurd (omega (arith, ints, h.0))
 extended_word Longlong (negsuc n) h = inr (omega (arith, ints, h.0))
 
 word_below : (t : Ty) (a : ℤ) → InRange t a → cast_unsigned w64 a < 2 ^ 64
+word_below Sbyte (pos n) h = omega (arith, ints, h.1)
 word_below Byte (pos n) h = omega (arith, ints, h.1)
 word_below Short (pos n) h = omega (arith, ints, h.1)
 word_below Ushort (pos n) h = omega (arith, ints, h.1)
 word_below Long (pos n) h = omega (arith, ints, h.1)
+word_below Ulong (pos n) h = omega (arith, ints, h.1)
 word_below Longlong (pos n) h = omega (arith, ints, h.1)
 word_below t (negsuc n) h = omega arith
 
 low_in_range : (t : Ty) (x : ℕ) → x / 2 ^ below t ≡ 0 → InRange t (pos x)
+low_in_range Sbyte x e = (omega (arith, ints), omega (arith, ints))
 low_in_range Byte x e = (omega (arith, ints), omega (arith, ints))
 low_in_range Short x e = (omega (arith, ints), omega (arith, ints))
 low_in_range Ushort x e = (omega (arith, ints), omega (arith, ints))
 low_in_range Long x e = (omega (arith, ints), omega (arith, ints))
+low_in_range Ulong x e = (omega (arith, ints), omega (arith, ints))
 low_in_range Longlong x e = (omega (arith, ints), omega (arith, ints))
 
 low_below : (t : Ty) (x : ℕ) → x / 2 ^ below t ≡ 0 → x < 9223372036854775808
+low_below Sbyte x e = omega arith
 low_below Byte x e = omega arith
 low_below Short x e = omega arith
 low_below Ushort x e = omega arith
 low_below Long x e = omega arith
+low_below Ulong x e = omega arith
 low_below Longlong x e = omega arith
 
 from_low : (t : Ty) (x : ℕ) → x / 2 ^ below t ≡ 0 → InRange t (cast_signed w64 x)
@@ -76,8 +90,10 @@ from_high t x h k r = subst (InRange t) (sym (top_half x h k)) r
 
 extended_in_range : (t : Ty) (x : ℕ) → x < 2 ^ 64 → IsExtended t x → InRange t (cast_signed w64 x)
 extended_in_range t x h (inl e) = from_low t x e
+extended_in_range Sbyte x h (inr e) = from_high Sbyte x (omega arith) (omega arith) (omega (arith, ints), omega (arith, ints))
 extended_in_range Byte x h (inr e) = from_low Byte x e
 extended_in_range Ushort x h (inr e) = from_low Ushort x e
+extended_in_range Ulong x h (inr e) = from_low Ulong x e
 extended_in_range Short x h (inr e) = from_high Short x (omega arith) (omega arith) (omega (arith, ints), omega (arith, ints))
 extended_in_range Long x h (inr e) = from_high Long x (omega arith) (omega arith) (omega (arith, ints), omega (arith, ints))
 extended_in_range Longlong x h (inr e) = from_high Longlong x (omega arith) (omega arith) (omega (arith, ints), omega (arith, ints))

@@ -4,7 +4,7 @@ use Rattle.std.proofs.lemmas.Int.{ints}
 use Rattle.std.proofs.lemmas.Nat.{div-add-mod'}
 use Rattle.std.proofs.Math.Nat.{mod-lt}
 use Rattle.pdl_elem.specs.declared.Ty.{Ty}
-use Rattle.pdl_elem.specs.declared.Ty.TheVariants.{Byte, Short, Ushort, Long, Longlong}
+use Rattle.pdl_elem.specs.declared.Ty.TheVariants.{Sbyte, Byte, Short, Ushort, Long, Ulong, Longlong}
 use Rattle.pdl_elem.specs.Types.{InRange}
 use Rattle.pdl_elem.specs.Numbers.{wrapped, WrapsTo}
 use Rattle.pdl_elem.specs.Operators.{modulo}
@@ -12,10 +12,12 @@ use Rattle.pdl_elem.proofs.Wrapping.{wraps}
 
 -- there is one number that another is wrapped to
 pub wrapped_only : (t : Ty) (z r : ℤ) → WrapsTo t z r → r ≡ wrapped t z
+wrapped_only Sbyte z r h = let w = wraps Sbyte z in omega (arith, ints, w.in_range.0, w.in_range.1, w.congruent.1, h.in_range.0, h.in_range.1, h.congruent.1)
 wrapped_only Byte z r h = let w = wraps Byte z in omega (arith, ints, w.in_range.0, w.in_range.1, w.congruent.1, h.in_range.0, h.in_range.1, h.congruent.1)
 wrapped_only Short z r h = let w = wraps Short z in omega (arith, ints, w.in_range.0, w.in_range.1, w.congruent.1, h.in_range.0, h.in_range.1, h.congruent.1)
 wrapped_only Ushort z r h = let w = wraps Ushort z in omega (arith, ints, w.in_range.0, w.in_range.1, w.congruent.1, h.in_range.0, h.in_range.1, h.congruent.1)
 wrapped_only Long z r h = let w = wraps Long z in omega (arith, ints, w.in_range.0, w.in_range.1, w.congruent.1, h.in_range.0, h.in_range.1, h.congruent.1)
+wrapped_only Ulong z r h = let w = wraps Ulong z in omega (arith, ints, w.in_range.0, w.in_range.1, w.congruent.1, h.in_range.0, h.in_range.1, h.congruent.1)
 wrapped_only Longlong z r h = let w = wraps Longlong z in omega (arith, ints, w.in_range.0, w.in_range.1, w.congruent.1, h.in_range.0, h.in_range.1, h.congruent.1)
 
 pub wrapped_same : (t : Ty) (n : ℤ) → InRange t n → wrapped t n ≡ n
@@ -23,11 +25,13 @@ wrapped_same t n h = sym (wrapped_only t n n (record { in_range = h; congruent =
 
 -- ---- what a division leaves
 
-zero_in_range : (t : Ty) → InRange t (pos 0)
+pub zero_in_range : (t : Ty) → InRange t (pos 0)
+zero_in_range Sbyte = (record { le = tt }, record { le = tt })
 zero_in_range Byte = (record { le = tt }, record { le = tt })
 zero_in_range Short = (record { le = tt }, record { le = tt })
 zero_in_range Ushort = (record { le = tt }, record { le = tt })
 zero_in_range Long = (record { le = tt }, record { le = tt })
+zero_in_range Ulong = (record { le = tt }, record { le = tt })
 zero_in_range Longlong = (record { le = tt }, record { le = tt })
 
 modulo_above : (a : ℤ) (b : ℕ) → (pos 0 ≤ℤ modulo a (pos (suc b))) × (modulo a (pos (suc b)) ≤ℤ pos (suc b))

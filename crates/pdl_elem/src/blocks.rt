@@ -38,10 +38,12 @@ fn pairs_at<O: KnownOp>(ty: Ty, a: &[i64], b: &[i64], into: &mut [i64])
     ensures in_range { All (InRange (binary_result O.op ty ty)) into.new }
 {
     match ty {
+        Ty::Sbyte => pairs::<O, AtSbyte>(a, b, into),
         Ty::Byte => pairs::<O, AtByte>(a, b, into),
         Ty::Short => pairs::<O, AtShort>(a, b, into),
         Ty::Ushort => pairs::<O, AtUshort>(a, b, into),
         Ty::Long => pairs::<O, AtLong>(a, b, into),
+        Ty::Ulong => pairs::<O, AtUlong>(a, b, into),
         Ty::Longlong => pairs::<O, AtLonglong>(a, b, into),
     }
 }
@@ -120,10 +122,12 @@ fn singles_at<O: KnownUnary>(ty: Ty, numbers: &mut [i64])
     ensures in_range { All (InRange (unary_result O.op ty)) numbers.new }
 {
     match ty {
+        Ty::Sbyte => singles::<O, AtSbyte>(numbers),
         Ty::Byte => singles::<O, AtByte>(numbers),
         Ty::Short => singles::<O, AtShort>(numbers),
         Ty::Ushort => singles::<O, AtUshort>(numbers),
         Ty::Long => singles::<O, AtLong>(numbers),
+        Ty::Ulong => singles::<O, AtUlong>(numbers),
         Ty::Longlong => singles::<O, AtLonglong>(numbers),
     }
 }
@@ -158,10 +162,12 @@ pub fn wrap_all(ty: Ty, numbers: &mut [i64])
     ensures in_range { All (InRange ty) numbers.new }
 {
     match ty {
+        Ty::Sbyte => wraps::<AtSbyte>(numbers),
         Ty::Byte => wraps::<AtByte>(numbers),
         Ty::Short => wraps::<AtShort>(numbers),
         Ty::Ushort => wraps::<AtUshort>(numbers),
         Ty::Long => wraps::<AtLong>(numbers),
+        Ty::Ulong => wraps::<AtUlong>(numbers),
         Ty::Longlong => wraps::<AtLonglong>(numbers),
     }
 }

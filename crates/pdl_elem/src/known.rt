@@ -3,7 +3,7 @@ ghost use Rattle.std.specs.Prelude.{◌≡◌};
 ghost use Rattle.pdl_elem.specs.declared.BinaryOp.{BinaryOp};
 ghost use Rattle.pdl_elem.specs.declared.BinaryOp.TheVariants.{Add, Sub, Mul, Div, Rem, Shl, Shr, Lt, Le, Gt, Ge, Eq, Ne, And, Or, Xor};
 ghost use Rattle.pdl_elem.specs.declared.Ty.{Ty};
-ghost use Rattle.pdl_elem.specs.declared.Ty.TheVariants.{Byte, Short, Ushort, Long, Longlong};
+ghost use Rattle.pdl_elem.specs.declared.Ty.TheVariants.{Sbyte, Byte, Short, Ushort, Long, Ulong, Longlong};
 ghost use Rattle.pdl_elem.specs.declared.UnaryOp.{UnaryOp};
 ghost use Rattle.pdl_elem.specs.declared.UnaryOp.TheVariants.{Neg, Not, Complement};
 
@@ -31,6 +31,16 @@ pub trait KnownUnary {
 
     fn known() -> UnaryOp
         ensures { result ≡ op };
+}
+
+pub struct AtSbyte;
+
+impl KnownType for AtSbyte {
+    ghost ty = { Sbyte };
+
+    fn known() -> Ty {
+        Ty::Sbyte
+    }
 }
 
 pub struct AtByte;
@@ -70,6 +80,16 @@ impl KnownType for AtLong {
 
     fn known() -> Ty {
         Ty::Long
+    }
+}
+
+pub struct AtUlong;
+
+impl KnownType for AtUlong {
+    ghost ty = { Ulong };
+
+    fn known() -> Ty {
+        Ty::Ulong
     }
 }
 

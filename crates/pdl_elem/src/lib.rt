@@ -1,4 +1,4 @@
-//! The five whole-number element types of an array, how a number is wrapped to a type, and the
+//! The seven whole-number element types of an array, how a number is wrapped to a type, and the
 //! operators on numbers of one type, one by one and in blocks (PDL::Ops, PDL::Core on types).
 #![tactic(auto)]
 
@@ -6,32 +6,40 @@ mod blocks;
 mod items;
 mod known;
 mod laws;
+mod naming;
 mod operators;
 mod strings;
+mod tables;
 mod words;
 
 pub use blocks::{binary_all, unary_all, wrap_all};
 pub use items::Items;
 pub use laws::wrapping_laws;
-pub use operators::{binary, binary_type, promote, type_name, unary, unary_type, wrap};
+pub use naming::{type_name, type_named, type_word};
+pub use operators::{binary, binary_type, promote, unary, unary_type, wrap};
 pub use strings::{Name, Text};
+pub use tables::found_in;
 
 /// An element type. The order of the variants is the order of rank: of two types the later one is
 /// the one that both are converted to.
 ///
 /// | Type | Range |
 /// |---|---|
+/// | `Sbyte` | -128 to 127 |
 /// | `Byte` | 0 to 255 |
 /// | `Short` | -32768 to 32767 |
 /// | `Ushort` | 0 to 65535 |
 /// | `Long` | -2147483648 to 2147483647 |
+/// | `Ulong` | 0 to 4294967295 |
 /// | `Longlong` | -9223372036854775808 to 9223372036854775807 |
 #[derive(Clone, Copy, PartialEq, Eq, Debug)]
 pub enum Ty {
+    Sbyte,
     Byte,
     Short,
     Ushort,
     Long,
+    Ulong,
     Longlong,
 }
 

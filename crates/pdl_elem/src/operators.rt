@@ -3,7 +3,7 @@ ghost use Rattle.std.specs.Prelude.{◌≡◌, ◌≢◌, ◌↔◌, ℤ, pos, I
 ghost use Rattle.std.specs.Result.{result_ok};
 ghost use Rattle.pdl_elem.specs.Numbers.{wrapped, WrapsTo};
 ghost use Rattle.pdl_elem.specs.Operators.{unary_value, binary_value, divides, value_of};
-ghost use Rattle.pdl_elem.specs.Types.{InRange, promoted, unary_result, binary_result, name_of};
+ghost use Rattle.pdl_elem.specs.Types.{InRange, promoted, unary_result, binary_result};
 
 use crate::words::{
     bitwise_and, bitwise_or, bitwise_xor, complement, difference, low_word, narrow, negative,
@@ -36,19 +36,6 @@ pub fn binary_type(op: BinaryOp, a: Ty, b: Ty) -> Ty
         BinaryOp::Lt | BinaryOp::Le | BinaryOp::Gt | BinaryOp::Ge | BinaryOp::Eq | BinaryOp::Ne =>
             Ty::Byte,
         _ => promote(a, b),
-    }
-}
-
-/// The type's name as `info` prints it.
-pub fn type_name(ty: Ty) -> &'static str
-    ensures { result.now ≡ name_of ty }
-{
-    match ty {
-        Ty::Byte => "Byte",
-        Ty::Short => "Short",
-        Ty::Ushort => "Ushort",
-        Ty::Long => "Long",
-        Ty::Longlong => "LongLong",
     }
 }
 

@@ -7,7 +7,6 @@ use Rattle.std.proofs.lemmas.List.{ext_get_or, get_or_append_left, get_or-append
 use Rattle.std.proofs.lemmas.List.Elements.{All-append, All-get_or}
 use Rattle.std.proofs.lemmas.List.FromFn.{get_or-map-range_with_len, length-map-range_with_len}
 use Rattle.pdl_elem.specs.declared.Ty.{Ty}
-use Rattle.pdl_elem.specs.declared.Ty.TheVariants.{Byte, Short, Ushort, Long, Longlong}
 use Rattle.pdl_elem.specs.Laws.{WrappingLaws}
 use Rattle.pdl_elem.specs.Types.{InRange}
 use Rattle.pdl_shape.specs.Laws.{PositionLaws}
@@ -36,15 +35,8 @@ pub record IsShaped (r : Resolved) (a : SigArg) (m : Made) : Type 0 where
   pub count : length m.elems ≡ size_of (core_sizes r.sizes a)
   pub ranged : IsRanged m
 
-zero_in_range : WrappingLaws → (ty : Ty) → InRange ty (pos 0)
-zero_in_range laws Byte = laws.in_range Byte (pos 0)
-zero_in_range laws Short = laws.in_range Short (pos 0)
-zero_in_range laws Ushort = laws.in_range Ushort (pos 0)
-zero_in_range laws Long = laws.in_range Long (pos 0)
-zero_in_range laws Longlong = laws.in_range Longlong (pos 0)
-
 start_in_range : WrappingLaws → (ty : Ty) (given : Option Made) (cs : List ℕ) → InRange ty (start_element ty given cs)
-start_in_range laws ty None cs = zero_in_range laws ty
+start_in_range laws ty None cs = laws.zero ty
 start_in_range laws ty (Some g) cs = laws.in_range ty _
 
 all_map : {X Y : Type 0} (P : Y → Type 0) (f : X → Y) → ((x : X) → P (f x)) → (xs : List X) → All P (map f xs)

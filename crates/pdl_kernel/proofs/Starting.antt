@@ -5,7 +5,7 @@ use Rattle.std.specs.List.{range_with_len}
 use Rattle.std.proofs.Math.ListN.{get_or-map}
 use Rattle.std.proofs.lemmas.List.{length-map}
 use Rattle.pdl_elem.specs.declared.Ty.{Ty}
-use Rattle.pdl_elem.specs.declared.Ty.TheVariants.{Byte, Short, Ushort, Long, Longlong}
+use Rattle.pdl_elem.specs.declared.Ty.TheVariants.{Sbyte, Byte, Short, Ushort, Long, Ulong, Longlong}
 use Rattle.pdl_elem.specs.Numbers.{wrapped}
 use Rattle.pdl_shape.specs.Broadcast.{cut_to}
 use Rattle.pdl_shape.specs.Shape.{coordinates_of, position_of, size_of}
@@ -63,10 +63,12 @@ coordinates_long [] p = refl
 coordinates_long (d ∷ ds) p = ap suc (coordinates_long ds _)
 
 zero_stays : (ty : Ty) → wrapped ty (pos 0) ≡ pos 0
+zero_stays Sbyte = refl
 zero_stays Byte = refl
 zero_stays Short = refl
 zero_stays Ushort = refl
 zero_stays Long = refl
+zero_stays Ulong = refl
 zero_stays Longlong = refl
 
 map_same : {X Y : Type 0} (f g : X → Y) → ((x : X) → f x ≡ g x) → (xs : List X) → map f xs ≡ map g xs

@@ -17,7 +17,8 @@ use Rattle.pdl_lexemes.specs.declared.Span.{Span}
 use Rattle.pdl_lexemes.specs.declared.Lexeme.{Lexeme}
 use Rattle.pdl_lexemes.specs.declared.Lexeme.TheVariants.{Keyword, Word, Open, Close, OpenSquare, CloseSquare, Arrow, Assign, Operator, Prefix, Unknown}
 use Rattle.pdl_lexemes.specs.Bytes.{bytes_at}
-use Rattle.pdl_lexemes.specs.Lexing.{found_in, signs, operators, assignments, sign_of, span_of, of_kind, lexeme_of, lexemes_of}
+use Rattle.pdl_elem.specs.Tables.{found_in}
+use Rattle.pdl_lexemes.specs.Lexing.{signs, operators, assignments, sign_of, span_of, of_kind, lexeme_of, lexemes_of}
 use Rattle.pdl_lexemes.specs.Depth.{with_operator, counted_to, is_beyond, goes_beyond, no_counts}
 use Rattle.pdl_lexemes.specs.Laws.{BracketsAreCounted}
 use Rattle.pdl_lemmas.specs.Options.{some_inj, none_some, choose}

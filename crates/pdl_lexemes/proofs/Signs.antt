@@ -4,7 +4,8 @@ use Rattle.std.specs.Prelude.{is_some, codes, bytes_eq}
 use Rattle.std.specs.List.{list_any, list_all}
 use Rattle.std.proofs.lemmas.Slice.Eq.{bytes_eq-Decides}
 use Rattle.pdl_lex.specs.Tokens.{is_sign, pairs, triples}
-use Rattle.pdl_lexemes.specs.Lexing.{found_in, operators, assignments, signs}
+use Rattle.pdl_elem.specs.Tables.{found_in}
+use Rattle.pdl_lexemes.specs.Lexing.{operators, assignments, signs}
 
 abbrev is_known : List ℕ → Bool
 is_known text = is_some (found_in signs text) || is_some (found_in operators text) || is_some (found_in assignments text)

@@ -1,5 +1,6 @@
 -- What the definitions promise to the crates above. Each is the contract of a public function.
 use Rattle.std.specs.Prelude.{◌≡◌, ◌↔◌, ◌≤◌, ℕ, ℤ, List, [], ◌∷◌, length, true, ◌||◌, Option, None, Some, unwrap_or, All, is_some}
+use Rattle.pdl_elem.specs.Tables.{found_in}
 use Rattle.pdl_elem.specs.Types.{InRange}
 use Rattle.pdl_shape.specs.Shape.{size_of}
 use Rattle.pdl_lex.specs.declared.Token.{Token}
@@ -11,7 +12,7 @@ use Rattle.pdl_lexemes.specs.declared.Lexeme.TheVariants.{OpenSquare}
 use Rattle.pdl_lexemes.specs.Lists.{SpellsList, a_list, type_of, HoldsRagged}
 use Rattle.pdl_lexemes.specs.ListReading.{read_part, list_read}
 use Rattle.pdl_lexemes.specs.Depth.{without_shape, ragged_in, is_too_deep}
-use Rattle.pdl_lexemes.specs.Lexing.{found_in, operators, assignments, signs, lexemes_of}
+use Rattle.pdl_lexemes.specs.Lexing.{operators, assignments, signs, lexemes_of}
 use Rattle.pdl_lexemes.specs.Peeks.{after}
 
 -- a list literal is read exactly where the grammar spells it; it begins with `[`, and what

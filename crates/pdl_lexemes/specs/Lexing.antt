@@ -1,10 +1,11 @@
 -- The lexeme that a token is.
-use Rattle.std.specs.Prelude.{ℕ, ◌+◌, ◌-◌, ◌*◌, min, List, [], ◌∷◌, map, fold, Option, Some, None, if◌then◌else◌, codes, bytes_eq}
+use Rattle.std.specs.Prelude.{ℕ, ◌+◌, ◌-◌, ◌*◌, min, List, [], ◌∷◌, map, fold, codes}
 use Rattle.pdl_lemmas.specs.Options.{choose}
 use Rattle.pdl_elem.specs.declared.BinaryOp.{BinaryOp}
 use Rattle.pdl_elem.specs.declared.BinaryOp.TheVariants.{Add, Sub, Mul, Div, Rem, Shl, Shr, Lt, Le, Gt, Ge, Eq, Ne, And, Or, Xor}
 use Rattle.pdl_elem.specs.declared.UnaryOp.TheVariants.{Not, Complement}
-use Rattle.pdl_elem.specs.declared.Ty.TheVariants.{Byte, Short, Ushort, Long, Longlong}
+use Rattle.pdl_elem.specs.Tables.{found_in}
+use Rattle.pdl_elem.specs.Types.{type_named}
 use Rattle.pdl_lex.specs.declared.Token.{Token}
 use Rattle.pdl_lex.specs.declared.TokenKind.{TokenKind}
 use Rattle.pdl_lex.specs.declared.TokenKind.TheVariants.{Name as IsName, Word as IsWord, Number as IsNumber, Str as IsStr, Sign as IsSign}
@@ -19,11 +20,6 @@ use Rattle.pdl_lexemes.specs.declared.Lexeme.{Lexeme}
 use Rattle.pdl_lexemes.specs.declared.Lexeme.TheVariants.{Name, Keyword, Word, Number, Quoted, Open, Close, OpenSquare, CloseSquare, Comma, Equals, Arrow, FatArrow, Assign, Operator, Prefix, Unknown}
 use Rattle.pdl_lexemes.specs.Bytes.{bytes_at}
 
--- what a table has for a text
-abbrev pub found_in : {A : Type 0} → List (List ℕ × A) → List ℕ → Option A
-found_in [] text = None
-found_in (entry ∷ rest) text = if bytes_eq text entry.0 then Some entry.1 else found_in rest text
-
 -- the words that name no call
 abbrev pub keywords : List (List ℕ × Key)
 keywords =
@@ -32,12 +28,10 @@ keywords =
     ∷ (codes "unwatch", Unwatch) ∷ (codes "pdl", Pdl) ∷ (codes "info", Info)
     ∷ (codes "sever", Sever) ∷ (codes "reshape", Reshape) ∷ []
 
--- the words that are something beside the name of a call
+-- the words beside those of the types that are something beside the name of a call
 abbrev pub word_kinds : List (List ℕ × WordKind)
 word_kinds =
-    (codes "byte", OfType Byte) ∷ (codes "short", OfType Short) ∷ (codes "ushort", OfType Ushort)
-    ∷ (codes "long", OfType Long) ∷ (codes "longlong", OfType Longlong)
-    ∷ (codes "slice", View) ∷ (codes "xchg", View) ∷ (codes "mv", View) ∷ (codes "reorder", View)
+    (codes "slice", View) ∷ (codes "xchg", View) ∷ (codes "mv", View) ∷ (codes "reorder", View)
     ∷ (codes "diagonal", View) ∷ (codes "dummy", View) ∷ (codes "clump", View)
     ∷ (codes "squeeze", View) ∷ (codes "flat", View) ∷ (codes "index", View)
     ∷ (codes "where", View) ∷ (codes "range", View) ∷ (codes "Pars", Pars) ∷ (codes "Code", Code)
@@ -73,11 +67,15 @@ with_digit n digit = min (10 * n + (digit - 48)) 9223372036854775808
 abbrev pub number_of : List ℕ → ℕ
 number_of digits = fold with_digit 0 digits
 
+-- what a word is beside the name of a call
+abbrev pub kind_of_word : List ℕ → WordKind
+kind_of_word text =
+    choose (choose Plain (λ k. k) (found_in word_kinds text)) (λ ty. OfType ty) (type_named text)
+
 -- a word as a keyword, or as the name of a call
 abbrev pub word_of : List ℕ → Span → Lexeme
 word_of text span =
-    choose (Word (choose Plain (λ k. k) (found_in word_kinds text)) span) (λ k.
-    Keyword k) (found_in keywords text)
+    choose (Word (kind_of_word text) span) (λ k. Keyword k) (found_in keywords text)
 
 -- a sign; a text that is none, which no token has, is a lexeme that no rule of the grammar has
 abbrev pub sign_of : List ℕ → Lexeme

@@ -1,12 +1,13 @@
 //! Tokens as lexemes.
 
 ghost use Rattle.std.specs.Prelude.{◌≡◌, ◌≤◌, IfOk, OnOk};
+ghost use Rattle.pdl_elem.specs.Tables.{found_in};
 ghost use Rattle.pdl_lexemes.specs.Bytes.{bytes_at};
-ghost use Rattle.pdl_lexemes.specs.Lexing.{found_in, keywords, operators, assignments, word_of, sign_of, number_of, with_digit, lexeme_of, lexemes_of};
+ghost use Rattle.pdl_lexemes.specs.Lexing.{keywords, operators, assignments, kind_of_word, word_of, sign_of, number_of, with_digit, lexeme_of, lexemes_of};
 
-use crate::tables::{ASSIGNMENTS, KEYWORDS, OPERATORS, SIGNS, WORD_KINDS, found_in};
+use crate::tables::{ASSIGNMENTS, KEYWORDS, OPERATORS, SIGNS, WORD_KINDS};
 use crate::{AssignOp, Keyword, Lexeme, Span, WordKind};
-use pdl_elem::BinaryOp;
+use pdl_elem::{BinaryOp, found_in, type_named};
 use pdl_lex::{Token, TokenKind};
 use std::alloc::{AllocError, Global};
 
@@ -26,15 +27,24 @@ pub fn keyword_named(text: &[u8]) -> Option<Keyword>
     found_in(KEYWORDS, text)
 }
 
+fn kind_of_word(text: &[u8]) -> WordKind
+    ensures { result ≡ kind_of_word text.now }
+{
+    match type_named(text) {
+        Some(ty) => WordKind::OfType(ty),
+        None => match found_in(WORD_KINDS, text) {
+            Some(kind) => kind,
+            None => WordKind::Plain,
+        },
+    }
+}
+
 fn word(text: &[u8], span: Span) -> Lexeme
     ensures { result ≡ word_of text.now span }
 {
     match keyword_named(text) {
         Some(keyword) => Lexeme::Keyword(keyword),
-        None => match found_in(WORD_KINDS, text) {
-            Some(kind) => Lexeme::Word(kind, span),
-            None => Lexeme::Word(WordKind::Plain, span),
-        },
+        None => Lexeme::Word(kind_of_word(text), span),
     }
 }
 

@@ -28,7 +28,6 @@ pub use lexing::{
 };
 use pdl_elem::{BinaryOp, Ty, UnaryOp};
 pub use refusal::Refusal;
-pub use tables::found_in;
 
 /// The sign of an assignment: `.=`, or an operator followed by `=`.
 #[derive(Clone, Copy, PartialEq, Eq, Debug)]

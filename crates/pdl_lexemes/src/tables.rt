@@ -1,9 +1,7 @@
-//! Tables of texts, and those of the words and the signs of the language.
-ghost use Rattle.std.specs.Prelude.{◌≡◌, map};
-ghost use Rattle.pdl_lexemes.specs.Lexing.{found_in};
+//! The words and the signs of the language.
 
 use crate::{AssignOp, Keyword, Lexeme, WordKind};
-use pdl_elem::{BinaryOp, Ty, UnaryOp};
+use pdl_elem::{BinaryOp, UnaryOp};
 
 /// The words that name no call.
 pub(crate) const KEYWORDS: &[(&[u8], Keyword)] = &[
@@ -21,13 +19,8 @@ pub(crate) const KEYWORDS: &[(&[u8], Keyword)] = &[
     (b"reshape", Keyword::Reshape),
 ];
 
-/// The words that are something beside the name of a call.
+/// The words beside those of the types that are something beside the name of a call.
 pub(crate) const WORD_KINDS: &[(&[u8], WordKind)] = &[
-    (b"byte", WordKind::OfType(Ty::Byte)),
-    (b"short", WordKind::OfType(Ty::Short)),
-    (b"ushort", WordKind::OfType(Ty::Ushort)),
-    (b"long", WordKind::OfType(Ty::Long)),
-    (b"longlong", WordKind::OfType(Ty::Longlong)),
     (b"slice", WordKind::View),
     (b"xchg", WordKind::View),
     (b"mv", WordKind::View),
@@ -93,15 +86,3 @@ pub(crate) const SIGNS: &[(&[u8], Lexeme)] = &[
     (b"~", Lexeme::Prefix(UnaryOp::Complement)),
     (b":", Lexeme::Unknown),
 ];
-
-/// What a table has for a text.
-pub fn found_in<T: Copy>(table: &[(&[u8], T)], text: &[u8]) -> Option<T>
-    ensures { result ≡ found_in (map (λ entry. (entry.0.now, entry.1)) table.now) text.now }
-{
-    for (entry, meaning) in table {
-        if text == *entry {
-            return Some(*meaning);
-        }
-    }
-    None
-}

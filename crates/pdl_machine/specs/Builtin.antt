@@ -1,7 +1,8 @@
 -- Which names are those of built-in calls.
-use Rattle.std.specs.Prelude.{ℕ, List, [], ◌∷◌, ◌++◌, codes, Option}
-use Rattle.pdl_elem.specs.declared.Ty.TheVariants.{Byte, Short, Ushort, Long, Longlong}
-use Rattle.pdl_lexemes.specs.Lexing.{found_in}
+use Rattle.std.specs.Prelude.{ℕ, List, [], ◌∷◌, ◌++◌, codes, Option, Some}
+use Rattle.pdl_elem.specs.Tables.{found_in}
+use Rattle.pdl_elem.specs.Types.{type_named}
+use Rattle.pdl_lemmas.specs.Options.{choose}
 use Rattle.pdl_ops.specs.declared.fills.Fill.TheVariants.{Zeroes, Ones, Sequence, Xvals, Yvals}
 use Rattle.pdl_reduce.specs.declared.Reduction.TheVariants.{Sumover, Prodover, Maximum, Minimum, MaximumInd, MinimumInd, Cumusumover, Cumuprodover}
 use Rattle.pdl_reduce.specs.declared.Whole.TheVariants.{Sum, Prod, Max, Min, All, Any}
@@ -36,16 +37,11 @@ fills =
     ∷ (codes "sequence", Filled Sequence)
     ∷ (codes "xvals", Filled Xvals) ∷ (codes "yvals", Filled Yvals) ∷ []
 
--- new arrays that tell something of an array
+-- new arrays that tell something of an array, beside its conversions
 abbrev pub inquiries : List (List ℕ × Builtin)
 inquiries =
-    (codes "byte", Told (Convert Byte)) ∷ (codes "short", Told (Convert Short))
-    ∷ (codes "ushort", Told (Convert Ushort))
-    ∷ (codes "long", Told (Convert Long)) ∷ (codes "longlong", Told (Convert Longlong))
-    ∷ (codes "copy", Told Copy)
-    ∷ (codes "nelem", Told Nelem) ∷ (codes "ndims", Told Ndims) ∷ (codes "shape", Told Shape)
-    ∷ (codes "which", Told Which)
-    ∷ (codes "dim", Dim) ∷ []
+    (codes "copy", Told Copy) ∷ (codes "nelem", Told Nelem) ∷ (codes "ndims", Told Ndims)
+    ∷ (codes "shape", Told Shape) ∷ (codes "which", Told Which) ∷ (codes "dim", Dim) ∷ []
 
 -- views
 abbrev pub views : List (List ℕ × Builtin)
@@ -58,10 +54,11 @@ views =
     ∷ (codes "where", Where)
     ∷ (codes "range", Range) ∷ []
 
--- the built-in calls by their names
+-- the built-in calls by their names, but for the conversions
 abbrev pub builtins : List (List ℕ × Builtin)
 builtins = fills ++ inquiries ++ views ++ reductions ++ wholes_and_products
 
--- the built-in call of this name, if there is one
+-- the built-in call of this name, if there is one: a type's word converts to the type
 abbrev pub builtin_of : List ℕ → Option Builtin
-builtin_of name = found_in builtins name
+builtin_of name =
+    choose (found_in builtins name) (λ ty. Some (Told (Convert ty))) (type_named name)

@@ -9,7 +9,8 @@ use Rattle.pdl_kernel.specs.Kernels.{Kernel, kernel_in}
 use Rattle.pdl_kernel.specs.declared.faults.Fault.{Fault as CodeFault}
 use Rattle.pdl_kernel.specs.declared.faults.Fault.TheVariants.{DivideByZero as Divides, IndexOutOfRange as PastTheEnd}
 use Rattle.pdl_lex.specs.Tokens.{is_word}
-use Rattle.pdl_lexemes.specs.Lexing.{found_in, keywords}
+use Rattle.pdl_elem.specs.Tables.{found_in}
+use Rattle.pdl_lexemes.specs.Lexing.{keywords}
 use Rattle.pdl_sig.specs.Given.{shape_of}
 use Rattle.pdl_sig.specs.declared.SigFault.{SigFault}
 use Rattle.pdl_sig.specs.declared.Signature.{Signature}

@@ -2,8 +2,7 @@
 ghost use Rattle.std.specs.Prelude.{◌≡◌};
 ghost use Rattle.pdl_machine.specs.Builtin.{builtin_of};
 
-use pdl_elem::Ty;
-use pdl_lexemes::found_in;
+use pdl_elem::{Ty, found_in, type_named};
 use pdl_ops::Fill;
 use pdl_reduce::{Pairing, Reduction, Whole};
 
@@ -72,7 +71,7 @@ pub enum Builtin {
     Paired(Pairing),
 }
 
-/// The built-in calls by their names.
+/// The built-in calls by their names, but for the conversions.
 const BUILTINS: &[(&[u8], Builtin)] = &[
     // New arrays by sizes.
     (b"zeroes", Builtin::Filled(Fill::Zeroes)),
@@ -80,12 +79,7 @@ const BUILTINS: &[(&[u8], Builtin)] = &[
     (b"sequence", Builtin::Filled(Fill::Sequence)),
     (b"xvals", Builtin::Filled(Fill::Xvals)),
     (b"yvals", Builtin::Filled(Fill::Yvals)),
-    // New arrays that tell something of an array.
-    (b"byte", Builtin::Told(Inquiry::Convert(Ty::Byte))),
-    (b"short", Builtin::Told(Inquiry::Convert(Ty::Short))),
-    (b"ushort", Builtin::Told(Inquiry::Convert(Ty::Ushort))),
-    (b"long", Builtin::Told(Inquiry::Convert(Ty::Long))),
-    (b"longlong", Builtin::Told(Inquiry::Convert(Ty::Longlong))),
+    // New arrays that tell something of an array, beside its conversions.
     (b"copy", Builtin::Told(Inquiry::Copy)),
     (b"nelem", Builtin::Told(Inquiry::Nelem)),
     (b"ndims", Builtin::Told(Inquiry::Ndims)),
@@ -130,5 +124,8 @@ const BUILTINS: &[(&[u8], Builtin)] = &[
 pub fn builtin_named(name: &[u8]) -> Option<Builtin>
     ensures { result ≡ builtin_of name.now }
 {
-    found_in(BUILTINS, name)
+    match type_named(name) {
+        Some(ty) => Some(Builtin::Told(Inquiry::Convert(ty))),
+        None => found_in(BUILTINS, name),
+    }
 }

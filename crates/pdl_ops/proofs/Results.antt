@@ -1,12 +1,12 @@
 -- What the parts of an answer are as a whole.
 use Rattle.std.proofs.Common.{◌≡◌, ◌≤◌, ℕ, ℤ, List, length, map, Result, Ok, Err, Option, Some, None, refl, ap, ap₂, sym, subst, ◌∙◌}
-use Rattle.std.specs.Prelude.{Bool, true, if◌then◌else◌}
+use Rattle.std.specs.Prelude.{Bool, true, false, nat_lt, if◌then◌else◌}
 use Rattle.std.proofs.lemmas.List.FromFn.{length-map-range_with_len}
 use Rattle.pdl_elem.specs.declared.BinaryOp.{BinaryOp}
 use Rattle.pdl_elem.specs.declared.Ty.{Ty}
-use Rattle.pdl_elem.specs.declared.Ty.TheVariants.{Byte, Short, Ushort, Long, Longlong}
+use Rattle.pdl_elem.specs.declared.Ty.TheVariants.{Byte}
 use Rattle.pdl_elem.specs.Numbers.{wrapped}
-use Rattle.pdl_elem.specs.Types.{promoted, binary_result, compares}
+use Rattle.pdl_elem.specs.Types.{rank, promoted, binary_result, compares}
 use Rattle.pdl_shape.specs.Joined.{joined_dims}
 use Rattle.pdl_shape.specs.Refusals.{Refusal, mismatch}
 use Rattle.pdl_shape.specs.Laws.{PositionLaws}
@@ -31,12 +31,12 @@ pub joined_ok : (r : Result (List ℕ) Refusal) (js : List ℕ) → or_refused r
 joined_ok (Ok ds) js e = let same : ds ≡ js = cc in ap Ok same
 joined_ok (Err refusal) js e = absurd (cc)
 
+either_same : (b : Bool) (t : Ty) → (if b then t else t) ≡ t
+either_same true t = refl
+either_same false t = refl
+
 promoted_same : (t : Ty) → promoted t t ≡ t
-promoted_same Byte = refl
-promoted_same Short = refl
-promoted_same Ushort = refl
-promoted_same Long = refl
-promoted_same Longlong = refl
+promoted_same t = either_same (nat_lt (rank t) (rank t)) t
 
 -- the type of a result at the type of higher rank
 pub result_at : (op : BinaryOp) (a b : Ty) → binary_result op (promoted a b) (promoted a b) ≡ binary_result op a b

@@ -7,11 +7,11 @@ ghost use Rattle.pdl_elem.specs.declared.Ty.TheVariants.{Long};
 ghost use Rattle.pdl_shape.specs.Shape.{extent_limit, size_of};
 ghost use Rattle.pdl_ops.specs.Fills.{fill_element, filled};
 
-use crate::fills::{Fill, element, next_coordinates, size_along};
+use crate::fills::{Fill, element, next_coordinates};
 use crate::operands::{BLOCK, rewrap};
 use pdl_buf::{Elements, Made, Packing};
 use pdl_elem::Ty;
-use pdl_shape::{Dims, copy_dims, dims_list, elements_of};
+use pdl_shape::{Dims, copy_dims, dims_list, elements_of, size_along};
 use std::alloc::{AllocError, Global};
 
 /// Sets each number to the element at its position, which is counted from `first` on, before it is

@@ -18,17 +18,6 @@ pub enum Fill {
     Yvals,
 }
 
-/// The size along a dimension, and 1 where there is none.
-pub(crate) fn size_along(sizes: &[u32], dimension: usize) -> u32
-    ensures { result ≡ get_or sizes.now dimension 1 }
-{
-    if dimension < sizes.len() {
-        sizes[dimension]
-    } else {
-        1
-    }
-}
-
 /// The coordinates along dimensions 0 and 1, of these sizes, of the position that comes next. It
 /// takes no division.
 pub(crate) fn next_coordinates(width: u32, height: u32, x: u32, y: u32) -> (u32, u32)

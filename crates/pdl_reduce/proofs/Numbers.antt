@@ -8,7 +8,7 @@ use Rattle.std.proofs.lemmas.Int.{int_max_is, int_min_is, int_wrap-add_left, int
 use Rattle.std.proofs.lemmas.List.{get_or-drop, get_or-take}
 use Rattle.std.proofs.lemmas.List.Elements.{All-head, All-tail}
 use Rattle.pdl_elem.specs.declared.Ty.{Ty}
-use Rattle.pdl_elem.specs.declared.Ty.TheVariants.{Byte, Short, Ushort, Long, Longlong}
+use Rattle.pdl_elem.specs.declared.Ty.TheVariants.{Longlong}
 use Rattle.pdl_elem.specs.Laws.{WrappingLaws}
 use Rattle.pdl_elem.specs.Numbers.{wrapped}
 use Rattle.pdl_elem.specs.Types.{InRange, highest, lowest}
@@ -85,20 +85,12 @@ pub least_in : (P : ℤ → Type 0) (s : ℤ) (xs : List ℤ) → P s → All P 
 least_in P s [] p h = p
 least_in P s (x ∷ xs) p h = least_in P (int_min s x) xs (either P (int_lt x s) x s (All-head P x xs h) p) (All-tail P x xs h)
 
--- each number of a type is one of longlong
-in_longlong : (ty : Ty) (x : ℤ) → InRange ty x → InRange Longlong x
-in_longlong Byte x h = omega (arith, ints, h.0, h.1)
-in_longlong Short x h = omega (arith, ints, h.0, h.1)
-in_longlong Ushort x h = omega (arith, ints, h.0, h.1)
-in_longlong Long x h = omega (arith, ints, h.0, h.1)
-in_longlong Longlong x h = h
-
 -- the greatest may be looked for from the least machine number on, and the least from the greatest one on
 pub greatest_from : WrappingLaws → (ty : Ty) (xs : List ℤ) → 0 < length xs → All (InRange ty) xs → wrapped ty (fold int_max (lowest Longlong) xs) ≡ greatest xs
 greatest_from laws ty [] some all = absurd (omega (arith, some))
 greatest_from laws ty (x ∷ xs) some all =
     let first : InRange ty x = All-head (InRange ty) x xs all in
-    let above : lowest Longlong ≤ℤ x = (in_longlong ty x first).0 in
+    let above : lowest Longlong ≤ℤ x = (laws.widest ty x first).0 in
     let from_first : int_max (lowest Longlong) x ≡ x = omega (arith, ints, int_max_is (lowest Longlong) x, above) in
     ap (λ (z : ℤ). wrapped ty (fold int_max z xs)) from_first
     ∙ laws.same ty (fold int_max x xs) (greatest_in (InRange ty) x xs first (All-tail (InRange ty) x xs all))
@@ -107,7 +99,7 @@ pub least_from : WrappingLaws → (ty : Ty) (xs : List ℤ) → 0 < length xs �
 least_from laws ty [] some all = absurd (omega (arith, some))
 least_from laws ty (x ∷ xs) some all =
     let first : InRange ty x = All-head (InRange ty) x xs all in
-    let below : x ≤ℤ highest Longlong = (in_longlong ty x first).1 in
+    let below : x ≤ℤ highest Longlong = (laws.widest ty x first).1 in
     let from_first : int_min (highest Longlong) x ≡ x = omega (arith, ints, int_min_is (highest Longlong) x, below) in
     ap (λ (z : ℤ). wrapped ty (fold int_min z xs)) from_first
     ∙ laws.same ty (fold int_min x xs) (least_in (InRange ty) x xs first (All-tail (InRange ty) x xs all))

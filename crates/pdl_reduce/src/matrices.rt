@@ -9,6 +9,7 @@ ghost use Rattle.pdl_reduce.specs.Pairings.{sum_below};
 
 use crate::collected::Collected;
 use pdl_elem::{Ty, wrap_all, wrapping_laws};
+use pdl_shape::size_along;
 use std::alloc::AllocError;
 
 /// The sizes of two blocks as matrices: the left one has `height` rows and the right one `width`
@@ -27,11 +28,7 @@ pub(crate) struct Sizes {
 pub(crate) fn size_at(sizes: &[u32], dimension: usize) -> usize
     ensures { result ≡ get_or sizes.now dimension 1 }
 {
-    if dimension < sizes.len() {
-        sizes[dimension] as usize
-    } else {
-        1
-    }
+    size_along(sizes, dimension) as usize
 }
 
 /// The coordinate that is used along a size.

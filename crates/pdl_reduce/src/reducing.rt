@@ -3,7 +3,7 @@ ghost use Rattle.std.specs.Prelude.{◌≡◌, ◌<◌, ◌≤◌, ◌*◌, ℕ,
 ghost use Rattle.std.specs.List.{flat_map, range_with_len};
 ghost use Rattle.pdl_buf.specs.Made.{IsMade, array_of};
 ghost use Rattle.pdl_elem.specs.Types.{InRange};
-ghost use Rattle.pdl_shape.specs.Shape.{IsDims, extent_limit, size_of};
+ghost use Rattle.pdl_shape.specs.Shape.{extent_limit, size_of};
 ghost use Rattle.pdl_reduce.specs.Answers.{Answers};
 ghost use Rattle.pdl_reduce.specs.Across.{come_to};
 ghost use Rattle.pdl_reduce.specs.Reductions.{answer, flat, is_extreme, lists, reduced, reduced_dims, reduced_row, reduced_type, whole_reduced, width};
@@ -19,7 +19,9 @@ use pdl_buf::{
     strided_type,
 };
 use pdl_elem::{Ty, wrapping_laws};
-use pdl_shape::{Dims, copy_dims, dims_list, dims_of, elements_of, shape_laws};
+use pdl_shape::{
+    Dims, copy_dims, dims_list, dims_within, elements_of, shape_laws, size_along, sizes_after,
+};
 use std::alloc::{AllocError, Global};
 
 /// Whether the reduction looks for an extreme.
@@ -48,29 +50,7 @@ fn reduced_type(kind: Reduction, ty: Ty) -> Ty
 fn width(sizes: &[u32]) -> u32
     ensures { result ≡ width sizes.now }
 {
-    if sizes.is_empty() { 1 } else { sizes[0] }
-}
-
-/// The sizes after so many.
-fn sizes_after(sizes: &[u32], count: usize) -> &[u32]
-    ensures { result.now ≡ drop count sizes.now }
-{
-    if count < sizes.len() {
-        &sizes[count..]
-    } else {
-        &[]
-    }
-}
-
-/// Sizes within the limits, as dimensions.
-pub(crate) fn dims_within(alloc: Global, sizes: &[u32]) -> Dims
-    requires { IsDims sizes.now }
-    ensures { result ≡ sizes.now }
-{
-    match dims_of(alloc, sizes) {
-        Ok(dims) => dims,
-        Err(_) => unreachable!(),
-    }
+    size_along(sizes, 0)
 }
 
 /// The dimensions after so many.

@@ -4,8 +4,7 @@ ghost use Rattle.pdl_shape.specs.Broadcast.{BroadcastsTo, cut_to};
 ghost use Rattle.pdl_shape.specs.Shape.{IsWithin};
 ghost use Rattle.pdl_shape.specs.Triple.{Reaches, place_of};
 
-use crate::joins::size_or_one;
-use crate::sizes::{Dims, copy_dims, dims_list};
+use crate::sizes::{Dims, copy_dims, dims_list, size_along};
 use crate::triples::{Incs, Triple, incs_list};
 use smallvec::SmallVec;
 
@@ -16,7 +15,7 @@ fn stretched_increment(sizes: &[u32], incs: &[i32], dimension: usize) -> i32
     ensures { result ≡ (if slice_index_or sizes.now dimension 1 == 1 then pos 0
         else slice_index_or incs.now dimension (pos 0)) }
 {
-    if size_or_one(sizes, dimension) == 1 {
+    if size_along(sizes, dimension) == 1 {
         0
     } else {
         incs[dimension]

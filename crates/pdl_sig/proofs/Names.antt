@@ -1,5 +1,5 @@
 -- The names of a signature: each word of a dimension is among them, once.
-use Rattle.std.proofs.Common.{◌≡◌, ℕ, zero, suc, ◌+◌, ◌<◌, Bool, true, false, not, cond, ◌||◌, List, [], ◌∷◌, ◌++◌, length, map, get_or, refl, ap₂, sym, ◌∙◌, arith, if◌then◌else◌}
+use Rattle.std.proofs.Common.{◌≡◌, ℕ, zero, suc, ◌+◌, ◌<◌, ◌≤◌, Bool, true, false, not, cond, ◌||◌, List, [], ◌∷◌, ◌++◌, length, length-append, map, get_or, refl, ap₂, sym, ◌∙◌, arith, if◌then◌else◌}
 use Rattle.std.specs.Prelude.{bytes_eq}
 use Rattle.std.specs.List.{list_any, position_or_len}
 use Rattle.std.proofs.lemmas.List.Folds.{list_any-append}
@@ -49,6 +49,33 @@ has_after names (d ∷ ds) (suc j) e h = has_after (with_name names d.name) ds j
 kept_all : (names : List (List ℕ)) (args : List WrittenArg) (v : List ℕ) → has_name names v ≡ true → has_name (all_names names args) v ≡ true
 kept_all names [] v h = h
 kept_all names (a ∷ args) v h = kept_all (names_after names a.dims) args v (kept_after names a.dims v h)
+
+-- ---- no name goes
+
+long_with : (names : List (List ℕ)) (w : List ℕ) (k : Bool) → length names ≤ length (if k then names else names ++ w ∷ [])
+long_with names w true = omega arith
+long_with names w false = omega (arith, length-append names (w ∷ []))
+
+long_after : (names : List (List ℕ)) (ds : List WrittenDim) → length names ≤ length (names_after names ds)
+long_after names [] = omega arith
+long_after names (d ∷ ds) = omega (arith, long_with names d.name (has_name names d.name), long_after (with_name names d.name) ds)
+
+long_all : (names : List (List ℕ)) (args : List WrittenArg) → length names ≤ length (all_names names args)
+long_all names [] = omega arith
+long_all names (a ∷ args) = omega (arith, long_after names a.dims, long_all (names_after names a.dims) args)
+
+one_more : (names : List (List ℕ)) (w : List ℕ) (k : Bool) → k ≡ false → length names < length (if k then names else names ++ w ∷ [])
+one_more names w true e = absurd cc
+one_more names w false e = omega (arith, length-append names (w ∷ []))
+
+-- one word more than there may be, and those behind it
+pub past_dims : (n : ℕ) (names : List (List ℕ)) (d : WrittenDim) (ds : List WrittenDim) → n ≤ length names → has_name names d.name ≡ false
+    → n < length (names_after names (d ∷ ds))
+past_dims n names d ds few new = omega (arith, few, one_more names d.name (has_name names d.name) new, long_after (with_name names d.name) ds)
+
+pub past_args : (n : ℕ) (names : List (List ℕ)) (a : WrittenArg) (args : List WrittenArg) → n < length (names_after names a.dims)
+    → n < length (all_names names (a ∷ args))
+past_args n names a args many = omega (arith, many, long_all (names_after names a.dims) args)
 
 -- the word of each dimension is among the names
 pub has_all : (names : List (List ℕ)) (args : List WrittenArg) (i j : ℕ) (b : WrittenArg) (e : WrittenDim) → i < length args → j < length (get_or args i b).dims

@@ -1,6 +1,8 @@
 -- From what is read to what `read_signature` answers.
-use Rattle.std.proofs.Common.{◌≡◌, ℕ, Bool, true, false, ◌||◌, not, nat_lt, List, [], length, Option, Some, None, refl, ap, ap₂, sym, ◌∙◌, arith, if◌then◌else◌}
+use Rattle.std.proofs.Common.{◌≡◌, ℕ, ◌<◌, Bool, true, false, ◌||◌, not, nat_lt, List, [], length, Option, Some, None, refl, ap, ap₂, sym, ◌∙◌, arith, if◌then◌else◌}
 use Rattle.std.specs.List.{list_any}
+use Rattle.std.proofs.lemmas.Bool.{or_right}
+use Rattle.std.proofs.lemmas.Bool.Decides.{nat_tests}
 use Rattle.std.proofs.lemmas.List.{length-map}
 use Rattle.pdl_sig.specs.declared.Signature.{Signature}
 use Rattle.pdl_sig.specs.declared.SigFault.{SigFault}
@@ -81,6 +83,10 @@ too_many text args names e n h =
       spelled = args_spelled (length text) text args (sym e);
       first = rw many refl;
     }
+
+pub too_many_names : (text : List ℕ) (args : List WrittenArg) → Some args ≡ read_args text → 8 < length (all_names [] args) → IsRefused text TooManyNames
+too_many_names text args e many =
+    too_many text args (all_names [] args) e refl (or_right (nat_lt 16 (length args)) (nat_lt 8 (length (all_names [] args))) (grind (arith, nat_tests, many)))
 
 pub only_one : (signature other : Signature) (text : List ℕ) → Signs signature text → Signs other text → signature ≡ other
 only_one signature other text s o =

@@ -1,13 +1,17 @@
 -- The grammar of signatures (PDL::PP, Signatures): what is spelled by a text, from its bytes up to
 -- a rest of them.
 -- Blanks may stand before each token, and the longest token is taken.
-use Rattle.std.specs.Prelude.{◌≡◌, ℕ, ◌+◌, ◌-◌, ◌*◌, ◌≤◌, ◌==◌, Bool, false, not, ◌&&◌, ◌||◌, List, [], ◌∷◌, ◌++◌, length, Option, Some, None, is_some, IsTrue, codes, bytes_eq, if◌then◌else◌}
+use Rattle.std.specs.Prelude.{◌≡◌, ℕ, ◌+◌, ◌-◌, ◌*◌, ◌≤◌, ◌==◌, Bool, false, not, ◌&&◌, ◌||◌, List, [], ◌∷◌, ◌++◌, length, Option, Some, None, is_none, is_some, IsTrue, codes, bytes_eq, if◌then◌else◌}
 use Rattle.std.specs.List.{list_any, list_all}
 use Rattle.std.specs.Char.{is_ascii_digit}
 use Rattle.pdl_elem.specs.declared.Ty.{Ty}
-use Rattle.pdl_elem.specs.declared.Ty.TheVariants.{Byte, Short, Ushort, Long, Longlong}
+use Rattle.pdl_elem.specs.declared.Ty.TheVariants.{Long}
+use Rattle.pdl_elem.specs.Tables.{found_in}
+use Rattle.pdl_elem.specs.Types.{type_named}
 use Rattle.pdl_lex.specs.Bytes.{is_blank, is_word_byte}
 use Rattle.pdl_lex.specs.Tokens.{is_word}
+use Rattle.pdl_sig.specs.declared.Reserved.{Reserved}
+use Rattle.pdl_sig.specs.declared.Reserved.TheVariants.{Loop, If, Else, LongLocal, LonglongLocal}
 use Rattle.pdl_sig.specs.declared.Role.{Role}
 use Rattle.pdl_sig.specs.declared.Role.TheVariants.{Input, Output, Both, Temp}
 use Rattle.pdl_sig.specs.declared.ArgType.{ArgType}
@@ -58,38 +62,28 @@ pub record Number (n : ℕ) (s t : List ℕ) : Type 0 where
 abbrev pub size_limit : ℕ
 size_limit = 1048576
 
--- the type of a type word
+-- the type of a type word; `int` is long
 abbrev pub type_of : List ℕ → Option Ty
-type_of w =
-    if bytes_eq w (codes "byte") then Some Byte
-    else (if bytes_eq w (codes "short") then Some Short
-    else (if bytes_eq w (codes "ushort") then Some Ushort
-    else (if bytes_eq w (codes "int") then Some Long
-    else (if bytes_eq w (codes "long") then Some Long
-    else (if bytes_eq w (codes "longlong") then Some Longlong
-    else None)))))
+type_of w = if bytes_eq w (codes "int") then Some Long else type_named w
 
 -- the role of a word in square brackets
 abbrev pub role_of : List ℕ → Option Role
-role_of w =
-    if bytes_eq w (codes "o") then Some Output
-    else (if bytes_eq w (codes "t") then Some Temp
-    else (if bytes_eq w (codes "io") then Some Both
-    else None))
+role_of w = found_in ((codes "o", Output) ∷ (codes "t", Temp) ∷ (codes "io", Both) ∷ []) w
 
 -- whether the word may name an argument
 abbrev pub is_arg_word : List ℕ → Bool
 is_arg_word w =
     not (is_some (type_of w)) && not (list_any (bytes_eq w) (codes "SIZE" ∷ codes "GENERIC" ∷ []))
 
--- the words that are reserved in kernel code
-abbrev pub reserved : List (List ℕ)
+-- the words that are reserved in kernel code; `int` is long
+abbrev pub reserved : List (List ℕ × Reserved)
 reserved =
-    codes "loop" ∷ codes "if" ∷ codes "else" ∷ codes "int" ∷ codes "long" ∷ codes "longlong" ∷ []
+    (codes "loop", Loop) ∷ (codes "if", If) ∷ (codes "else", Else) ∷ (codes "int", LongLocal)
+    ∷ (codes "long", LongLocal) ∷ (codes "longlong", LonglongLocal) ∷ []
 
 -- whether the word may name a dimension
 abbrev pub is_dim_word : List ℕ → Bool
-is_dim_word w = not (list_any (bytes_eq w) reserved)
+is_dim_word w = is_none (found_in reserved w)
 
 -- a type word, with a `+` or without one, or nothing
 pub data Typed : ArgType → List ℕ → List ℕ → Type 0 where

@@ -8,6 +8,7 @@ use Rattle.pdl_sig.specs.declared.SigFault.{SigFault}
 use Rattle.pdl_sig.specs.declared.SigFault.TheVariants.{BadText, TooManyNames, TwiceNamed, NoOutput, OpenSize, NoMemory}
 use Rattle.pdl_sig.specs.declared.written.WrittenDim.{WrittenDim}
 use Rattle.pdl_sig.specs.declared.written.WrittenArg.{WrittenArg}
+use Rattle.pdl_sig.specs.declared.refusing.TheConstants.{MOST_ARGS, MOST_NAMES}
 use Rattle.pdl_sig.specs.Grammar.{Args, is_arg_word, is_dim_word, size_limit}
 use Rattle.pdl_sig.specs.Resolution.{is_given, is_output}
 use Rattle.pdl_lex.specs.Tokens.{is_word}
@@ -72,10 +73,10 @@ signature_of args = record {
 
 -- at most so many arguments, and so many names of dimensions
 abbrev pub args_limit : ℕ
-args_limit = 16
+args_limit = MOST_ARGS
 
 abbrev pub names_limit : ℕ
-names_limit = 8
+names_limit = MOST_NAMES
 
 -- whether something stands twice in a list
 abbrev pub has_twice : {X : Type 0} → (X → X → Bool) → List X → Bool

@@ -1,26 +1,20 @@
 //! The core dimensions of the given arguments, and the sizes of the named dimensions.
 ghost use Rattle.std.specs.Prelude.{◌≡◌, ◌++◌, length, OnOk, IfOk};
-ghost use Rattle.pdl_sig.specs.Resolution.{inputs, core, cores, handed, found_size, sizes_from, size_in, is_unfit, core_sizes, padded};
+ghost use Rattle.pdl_sig.specs.Resolution.{inputs, core, cores, handed, found_size, sizes_from, is_unfit, core_sizes, padded};
 
 use crate::inputs::input;
 use crate::{ArgShape, SigArg};
-use pdl_shape::dims_list;
+use pdl_shape::{dims_list, size_along};
 use std::alloc::{AllocError, Global};
 
 /// A core dimension by its number, with the size that a given shape has there.
 pub type Core = (u8, u32);
 
-fn size_or_one(sizes: &[u32], place: usize) -> u32
-    ensures { result ≡ size_in sizes.now place }
-{
-    if place < sizes.len() { sizes[place] } else { 1 }
-}
-
 fn add_core(found: &mut Vec<Core>, dims: &[u8], sizes: &[u32]) -> Result<(), AllocError>
     ensures { OnOk result (found.new.items ≡ found.old.items ++ core dims.now sizes.now) }
 {
     for (place, dimension) in dims.iter().enumerate() {
-        found.push((*dimension, size_or_one(sizes, place)))?;
+        found.push((*dimension, size_along(sizes, place)))?;
     }
     Ok(())
 }
@@ -73,7 +67,7 @@ pub fn named_sizes(
 pub fn is_unfit(sizes: &[u32], core: Core) -> bool
     ensures { result ≡ is_unfit sizes.now core }
 {
-    core.1 != 1 && core.1 != size_or_one(sizes, usize::from(core.0))
+    core.1 != 1 && core.1 != size_along(sizes, usize::from(core.0))
 }
 
 /// The core sizes of an argument.
@@ -83,7 +77,7 @@ pub fn core_sizes(alloc: Global, sizes: &[u32], arg: &SigArg) -> Result<Vec<u32>
     arg.dims
         .as_slice()
         .iter()
-        .map(|number| size_or_one(sizes, usize::from(*number)))
+        .map(|number| size_along(sizes, usize::from(*number)))
         .collect(alloc)
 }
 
@@ -93,7 +87,7 @@ pub fn padded(alloc: Global, dims: &[u8], sizes: &[u32]) -> Result<Vec<u32>, All
 {
     let mut found = Vec::new(alloc);
     for (place, _) in dims.iter().enumerate() {
-        found.push(size_or_one(sizes, place))?;
+        found.push(size_along(sizes, place))?;
     }
     Ok(found)
 }

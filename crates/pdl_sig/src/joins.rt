@@ -1,35 +1,13 @@
 //! The broadcast dimensions of a call.
-ghost use Rattle.std.specs.Prelude.{◌≡◌, ◌≤◌, [], length, max, drop, IfSome, slice_index_or, IfOk, option_map};
-ghost use Rattle.pdl_shape.specs.Broadcast.{join, join_size};
+ghost use Rattle.std.specs.Prelude.{◌≡◌, ◌≤◌, [], length, max, IfSome, IfOk, option_map};
+ghost use Rattle.pdl_shape.specs.Broadcast.{join};
 ghost use Rattle.pdl_shape.specs.Shape.{dims_limit};
 ghost use Rattle.pdl_sig.specs.Resolution.{inputs, handed, joined_with};
 
 use crate::inputs::input;
 use crate::{ArgShape, SigArg};
-use pdl_shape::dims_list;
+use pdl_shape::{dims_list, join_sizes, size_along, sizes_after};
 use std::alloc::{AllocError, Global};
-
-fn size_or_one(sizes: &[u32], dimension: usize) -> u32
-    ensures { result ≡ slice_index_or sizes.now dimension 1 }
-{
-    if dimension < sizes.len() {
-        sizes[dimension]
-    } else {
-        1
-    }
-}
-
-fn join_sizes(a: u32, b: u32) -> Option<u32>
-    ensures { result ≡ join_size a b }
-{
-    if a == 1 {
-        Some(b)
-    } else if b == 1 || a == b {
-        Some(a)
-    } else {
-        None
-    }
-}
 
 /// What two lists of sizes join to, where they do.
 fn join(alloc: Global, a: &[u32], b: &[u32]) -> Result<Option<Vec<u32>>, AllocError>
@@ -40,23 +18,12 @@ fn join(alloc: Global, a: &[u32], b: &[u32]) -> Result<Option<Vec<u32>>, AllocEr
     let mut joined = Vec::new(alloc);
     let count = a.len().max(b.len());
     for dimension in 0..count {
-        match join_sizes(size_or_one(a, dimension), size_or_one(b, dimension)) {
+        match join_sizes(size_along(a, dimension), size_along(b, dimension)) {
             Some(size) => joined.push(size)?,
             None => return Ok(None),
         }
     }
     Ok(Some(joined))
-}
-
-/// The sizes after the core ones.
-pub fn outer(sizes: &[u32], count: usize) -> &[u32]
-    ensures { result.now ≡ drop count sizes.now }
-{
-    if count < sizes.len() {
-        &sizes[count..]
-    } else {
-        &[]
-    }
 }
 
 /// The broadcast dimensions: those after the core ones of all given arguments, joined.
@@ -76,7 +43,7 @@ pub fn broadcast(
         match join(
             alloc,
             joined.as_slice(),
-            outer(dims_list(&shape.dims), count),
+            sizes_after(dims_list(&shape.dims), count),
         )? {
             Some(more) => joined = more,
             None => return Ok(None),

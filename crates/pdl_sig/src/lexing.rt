@@ -1,18 +1,29 @@
 //! The tokens of signatures. Each function takes a text, and answers what stands at its front with
 //! the text after it.
-ghost use Rattle.std.specs.Prelude.{◌≡◌, ◌≤◌, ◌||◌, if◌then◌else◌, bytes_eq, Some, length, min, option_map, IsTrue};
+ghost use Rattle.std.specs.Prelude.{◌≡◌, ◌≤◌, length, min, option_map, IsTrue};
 ghost use Rattle.std.specs.List.{list_all};
 ghost use Rattle.std.specs.Char.{is_ascii_digit};
+ghost use Rattle.pdl_elem.specs.Tables.{found_in};
 ghost use Rattle.pdl_lex.specs.Bytes.{is_letter};
-ghost use Rattle.pdl_sig.specs.Grammar.{past_blanks, begins, value_after, is_number, type_of, role_of, is_arg_word, is_dim_word};
+ghost use Rattle.pdl_sig.specs.Grammar.{past_blanks, begins, value_after, is_number, type_of, role_of, reserved, is_arg_word, is_dim_word};
 ghost use Rattle.pdl_sig.specs.SignatureReading.{is_end, sign_at, word_at, number_at};
 
-use crate::Role;
-use pdl_elem::Ty;
+use crate::{Reserved, Role};
+use pdl_elem::{Ty, found_in, type_named};
 use pdl_lex::bytes::{digits_len, is_blank, is_letter, word_len};
 
 /// The largest number that a dimension is fixed to.
 const MOST_SIZE: u32 = 1_048_576;
+
+/// The words that are reserved in kernel code.
+const RESERVED: &[(&[u8], Reserved)] = &[
+    (b"loop", Reserved::Loop),
+    (b"if", Reserved::If),
+    (b"else", Reserved::Else),
+    (b"int", Reserved::LongLocal),
+    (b"long", Reserved::LongLocal),
+    (b"longlong", Reserved::LonglongLocal),
+];
 
 /// The text past its blanks.
 fn past_blanks(text: &[u8]) -> &[u8]
@@ -104,60 +115,45 @@ pub fn number(text: &[u8]) -> Option<(u32, &[u8])>
     Some((value, rest))
 }
 
-/// The value for this word, where the text is the word, and else the other one.
-fn or_found<T: Copy>(text: &[u8], word: &[u8], value: T, other: Option<T>) -> Option<T>
-    ensures { result ≡ (if bytes_eq text.now word.now then Some value else other) }
-{
-    if text == word { Some(value) } else { other }
-}
-
-/// Whether the text is the word, or some word before it.
-fn or_is(text: &[u8], word: &[u8], other: bool) -> bool
-    ensures { result ≡ (bytes_eq text.now word.now || other) }
-{
-    text == word || other
-}
-
-/// The type of a type word.
+/// The type of a type word; `int` is long.
 pub fn type_of(word: &[u8]) -> Option<Ty>
     ensures { result ≡ type_of word.now }
 {
-    let found = None;
-    let found = or_found(word, b"longlong", Ty::Longlong, found);
-    let found = or_found(word, b"long", Ty::Long, found);
-    let found = or_found(word, b"int", Ty::Long, found);
-    let found = or_found(word, b"ushort", Ty::Ushort, found);
-    let found = or_found(word, b"short", Ty::Short, found);
-    or_found(word, b"byte", Ty::Byte, found)
+    match word {
+        b"int" => Some(Ty::Long),
+        _ => type_named(word),
+    }
 }
 
 /// The role of a word in square brackets.
 pub fn role_of(word: &[u8]) -> Option<Role>
     ensures { result ≡ role_of word.now }
 {
-    let found = None;
-    let found = or_found(word, b"io", Role::Both, found);
-    let found = or_found(word, b"t", Role::Temp, found);
-    or_found(word, b"o", Role::Output, found)
+    match word {
+        b"o" => Some(Role::Output),
+        b"t" => Some(Role::Temp),
+        b"io" => Some(Role::Both),
+        _ => None,
+    }
 }
 
 /// Whether the word may name an argument.
 pub fn is_arg_word(word: &[u8]) -> bool
     ensures { result ≡ is_arg_word word.now }
 {
-    let found = or_is(word, b"GENERIC", false);
-    type_of(word).is_none() && !or_is(word, b"SIZE", found)
+    type_of(word).is_none() && word != b"SIZE".as_slice() && word != b"GENERIC".as_slice()
+}
+
+/// What a word is that is reserved in kernel code.
+pub fn reserved_word(word: &[u8]) -> Option<Reserved>
+    ensures { result ≡ found_in reserved word.now }
+{
+    found_in(RESERVED, word)
 }
 
 /// Whether the word may name a dimension: it isn't reserved in kernel code.
 pub fn is_dim_word(word: &[u8]) -> bool
     ensures { result ≡ is_dim_word word.now }
 {
-    let found = false;
-    let found = or_is(word, b"longlong", found);
-    let found = or_is(word, b"long", found);
-    let found = or_is(word, b"int", found);
-    let found = or_is(word, b"else", found);
-    let found = or_is(word, b"if", found);
-    !or_is(word, b"loop", found)
+    reserved_word(word).is_none()
 }

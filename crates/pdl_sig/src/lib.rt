@@ -16,8 +16,10 @@ mod signing;
 pub mod written;
 
 pub use inputs::is_output;
+pub use lexing::reserved_word;
 use pdl_elem::{Items, Name, Ty};
 use pdl_shape::Dims;
+pub use refusing::{MOST_ARGS, MOST_NAMES};
 pub use resolving::resolve;
 pub use signing::read_signature;
 use std::alloc::AllocError;
@@ -44,6 +46,21 @@ pub enum ArgType {
     Fixed(Ty),
     /// A type word and `+`: the higher one of that type and the generic type.
     AtLeast(Ty),
+}
+
+/// What a word is that is reserved in kernel code.
+#[derive(Clone, Copy)]
+pub enum Reserved {
+    /// `loop`
+    Loop,
+    /// `if`
+    If,
+    /// `else`
+    Else,
+    /// `int` or `long`: a local of this type is declared.
+    LongLocal,
+    /// `longlong`: a local of this type is declared.
+    LonglongLocal,
 }
 
 /// One argument of a signature.

@@ -1,7 +1,8 @@
 //! From the arguments as they are written to the signature, with its names and numbers.
-ghost use Rattle.std.specs.Prelude.{◌≡◌, ◌≤◌, [], length, map, OnOk, IfOk};
+ghost use Rattle.std.specs.Prelude.{◌≡◌, ◌<◌, ◌≤◌, [], length, map, None, false, IfOk, IfSome, IsTrue};
 ghost use Rattle.pdl_sig.specs.Refusals.{has_name, names_after, names_limit, all_names, number_of, numbered, size_for, fixed_among, fixed_in, signature_of};
 
+use crate::refusing::MOST_NAMES;
 use crate::written::{WrittenArg, WrittenDim};
 use crate::{SigArg, Signature};
 use pdl_elem::{Items, Name};
@@ -13,26 +14,40 @@ fn has_name(names: &[Name], word: &Name) -> bool
     names.iter().any(|name| word == name)
 }
 
-fn add_names(names: &mut Vec<Name>, dims: &[WrittenDim]) -> Result<(), AllocError>
-    ensures { OnOk result (names.new.items ≡ names_after names.old.items dims.now) }
+// Adds the words of dimensions, and answers whether there was room for all of them: it stops at the
+// first one that is too many.
+fn add_names(names: &mut Vec<Name>, dims: &[WrittenDim]) -> Result<bool, AllocError>
+    ensures few { IfOk result (λ room. IsTrue room →
+        names.new.items ≡ names_after names.old.items dims.now) }
+    ensures many { IfOk result (λ room. room ≡ false →
+        names_limit < length (names_after names.old.items dims.now)) }
 {
     for dim in dims {
         if !has_name(names.as_slice(), &dim.name) {
+            if names.len() >= MOST_NAMES {
+                return Ok(false);
+            }
             names.push(dim.name.clone()?)?;
         }
     }
-    Ok(())
+    Ok(true)
 }
 
-/// The words of all dimensions, each once, in the order in which they first stand.
-pub fn all_names(alloc: Global, args: &[WrittenArg]) -> Result<Vec<Name>, AllocError>
-    ensures { IfOk result (λ names. names.items ≡ all_names [] args.now) }
+/// The words of all dimensions, each once, in the order in which they first stand. `None` where
+/// there are more than 8: it compares each word with at most so many.
+pub fn all_names(alloc: Global, args: &[WrittenArg]) -> Result<Option<Vec<Name>>, AllocError>
+    ensures few { IfOk result (λ found. IfSome found (λ names.
+        names.items ≡ all_names [] args.now)) }
+    ensures many { IfOk result (λ found. found ≡ None →
+        names_limit < length (all_names [] args.now)) }
 {
     let mut names = Vec::new(alloc);
     for arg in args {
-        add_names(&mut names, arg.dims.as_slice())?;
+        if !add_names(&mut names, arg.dims.as_slice())? {
+            return Ok(None);
+        }
     }
-    Ok(names)
+    Ok(Some(names))
 }
 
 fn number_of(names: &[Name], word: &Name) -> usize

@@ -10,7 +10,7 @@ use crate::written::{WrittenArg, WrittenDim};
 use crate::{SigArg, SigFault, Signature};
 
 /// The most arguments of a signature.
-const MOST_ARGS: usize = 16;
+pub const MOST_ARGS: usize = 16;
 
 /// The most names of dimensions in a signature.
 pub const MOST_NAMES: usize = 8;

@@ -8,10 +8,10 @@ ghost use Rattle.pdl_sig.specs.Resolution.{inputs, is_unfit, type_in, resolved_b
 use crate::cores::{Core, cores, is_unfit, named_sizes};
 use crate::inputs::{count_inputs, generic_type, type_in};
 use crate::joins::broadcast;
-use crate::shapes::{any_stretched, any_too_large, any_too_many, dims, is_too_much, shapes};
+use crate::shapes::{any_stretched, any_too_large, any_too_many, is_too_much, shapes};
 use crate::{ArgShape, ResolveFault, Resolved, SigArg, Signature};
 use pdl_elem::{Items, Ty};
-use pdl_shape::size;
+use pdl_shape::{dims_within, size};
 use std::alloc::{AllocError, Global};
 
 /// Whether some core size is neither 1 nor its dimension's size.
@@ -53,7 +53,7 @@ fn resolved_by(
         generic,
         types: Items::new(types(alloc, generic, args)?),
         sizes: Items::new(Vec::from_slice(alloc, sizes)?),
-        broadcast: dims(alloc, broadcast),
+        broadcast: dims_within(alloc, broadcast),
         shapes: Items::new(shapes(alloc, sizes, broadcast, args, given)?),
     })
 }

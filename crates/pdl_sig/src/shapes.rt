@@ -6,13 +6,9 @@ ghost use Rattle.pdl_sig.specs.Resolution.{inputs, handed, work_limit, is_both, 
 
 use crate::cores::{core_sizes, padded};
 use crate::inputs::{input, is_given};
-use crate::joins::outer;
 use crate::{ArgShape, Role, SigArg};
-use pdl_shape::{Dims, copy_dims, dims_list, dims_of, size};
+use pdl_shape::{Dims, MOST_DIMS, copy_dims, dims_list, dims_within, size, sizes_after};
 use std::alloc::{AllocError, Global};
-
-/// The most dimensions of an array.
-const MOST_DIMS: usize = 16;
 
 /// The most work that a call does.
 const MOST_WORK: u64 = 16_777_216;
@@ -48,7 +44,7 @@ fn is_stretched(
     }
     let dims = arg.dims.as_slice();
     let given = dims_list(&shape.dims);
-    let given = followed(padded(alloc, dims, given)?, outer(given, dims.len()))?;
+    let given = followed(padded(alloc, dims, given)?, sizes_after(given, dims.len()))?;
     let wanted = followed(core_sizes(alloc, sizes, arg)?, broadcast)?;
     Ok(given.as_slice() != wanted.as_slice())
 }
@@ -136,17 +132,6 @@ pub fn is_too_much(count: u32, sizes: &[u32]) -> bool
     work > MOST_WORK
 }
 
-/// Sizes within the limits, as dimensions.
-pub fn dims(alloc: Global, sizes: &[u32]) -> Dims
-    requires { IsDims sizes.now }
-    ensures { result ≡ sizes.now }
-{
-    match dims_of(alloc, sizes) {
-        Ok(dims) => dims,
-        Err(_) => unreachable!(),
-    }
-}
-
 /// The shape of an argument: the given one of an input, else the one that the call makes.
 fn shape_of(
     alloc: Global,
@@ -163,7 +148,7 @@ fn shape_of(
         return Ok(copy_dims(&given[0].dims));
     }
     let made = made_for(alloc, sizes, broadcast, arg)?;
-    Ok(dims(alloc, made.as_slice()))
+    Ok(dims_within(alloc, made.as_slice()))
 }
 
 /// What is left of the given shapes after an argument of this role.

@@ -22,7 +22,9 @@ pub fn read_signature(alloc: Global, text: &[u8]) -> Result<Signature, SigFault>
     let Some(args) = args(alloc, text)? else {
         return Err(SigFault::BadText);
     };
-    let names = all_names(alloc, args.as_slice())?;
+    let Some(names) = all_names(alloc, args.as_slice())? else {
+        return Err(SigFault::TooManyNames);
+    };
     if are_too_many(args.len(), names.len()) {
         return Err(SigFault::TooManyNames);
     }

@@ -14,7 +14,7 @@ use pdl_buf::{Elements, Made};
 use pdl_elem::Ty;
 use pdl_lexemes::list::Row;
 use pdl_lexemes::{Lexeme, Lexemes, Refusal, list};
-use pdl_shape::{Dims, dims_of};
+use pdl_shape::{Dims, dims_within};
 use std::alloc::{AllocError, Global};
 
 /// A list literal behind `pdl`, in round brackets or without.
@@ -45,7 +45,7 @@ fn list_expr(alloc: Global, row: Row) -> Result<Expr, AllocError>
     let Row { shape, elems } = row;
     let ty = type_of(elems.as_slice());
     let dims = match shape {
-        Some(sizes) => dims(alloc, sizes.list()),
+        Some(sizes) => dims_within(alloc, sizes.list()),
         None => too_long(alloc, elems.len()),
     };
     let made = Made {
@@ -63,17 +63,7 @@ fn too_long(alloc: Global, count: usize) -> Dims
     requires { IsDims (suc count ∷ []) }
     ensures { result ≡ suc count ∷ [] }
 {
-    dims(alloc, &[count as u32 + 1])
-}
-
-fn dims(alloc: Global, sizes: &[u32]) -> Dims
-    requires { IsDims sizes.now }
-    ensures { result ≡ sizes.now }
-{
-    match dims_of(alloc, sizes) {
-        Ok(dims) => dims,
-        Err(_) => unreachable!(),
-    }
+    dims_within(alloc, &[count as u32 + 1])
 }
 
 fn type_of(elems: &[i64]) -> Ty

@@ -7,8 +7,9 @@ use Rattle.std.proofs.lemmas.Int.{ints}
 use Rattle.std.proofs.lemmas.List.{length-map, get_or_past}
 use Rattle.std.proofs.lemmas.List.Elements.{All-map}
 use Rattle.pdl_elem.specs.declared.Ty.{Ty}
-use Rattle.pdl_elem.specs.declared.Ty.TheVariants.{Byte, Short, Ushort, Long, Longlong}
+use Rattle.pdl_elem.specs.declared.Ty.TheVariants.{Byte}
 use Rattle.pdl_elem.specs.Types.{InRange}
+use Rattle.pdl_elem.specs.Laws.{WrappingLaws}
 use Rattle.pdl_shape.specs.Laws.{SizeLaws}
 use Rattle.pdl_shape.specs.Places.{element_at, read}
 use Rattle.pdl_shape.specs.Shape.{IsDims, size_of}
@@ -155,38 +156,31 @@ cuts_take_their_views = λ w v u l s e h.
     subst P (sym (severed w v l e)) (views_by w v u l (after w v u l (elements w v) s e) h)
 
 -- soundness
-zero_in : (ty : Ty) → InRange ty (pos 0)
-zero_in Byte = (omega (arith, ints), omega (arith, ints))
-zero_in Short = (omega (arith, ints), omega (arith, ints))
-zero_in Ushort = (omega (arith, ints), omega (arith, ints))
-zero_in Long = (omega (arith, ints), omega (arith, ints))
-zero_in Longlong = (omega (arith, ints), omega (arith, ints))
-
-one_in : (ty : Ty) (es : List ℤ) (p : Option ℕ) → All (InRange ty) es → InRange ty (element_at es p)
-one_in ty es None a = zero_in ty
-one_in ty es (Some i) a = elim (cases_lt i (length es)) [
+one_in : WrappingLaws → (ty : Ty) (es : List ℤ) (p : Option ℕ) → All (InRange ty) es → InRange ty (element_at es p)
+one_in wraps ty es None a = wraps.zero ty
+one_in wraps ty es (Some i) a = elim (cases_lt i (length es)) [
   | inl low ↦ a i (pos 0) low
-  | inr past ↦ subst (InRange ty) (sym (get_or_past es i (pos 0) past)) (zero_in ty)
+  | inr past ↦ subst (InRange ty) (sym (get_or_past es i (pos 0) past)) (wraps.zero ty)
 ]
 
-read_in : (ty : Ty) (ps : List (Option ℕ)) (es : List ℤ) → All (InRange ty) es → All (InRange ty) (read ps es)
-read_in ty ps es a = All-map (InRange ty) (element_at es) ps (λ k d h. one_in ty es (get_or ps k d) a)
+read_in : WrappingLaws → (ty : Ty) (ps : List (Option ℕ)) (es : List ℤ) → All (InRange ty) es → All (InRange ty) (read ps es)
+read_in wraps ty ps es a = All-map (InRange ty) (element_at es) ps (λ k d h. one_in wraps ty es (get_or ps k d) a)
 
-elements_in : (w : World) (v : ℕ) (l : Look) → IsSound w → look w v ≡ Some l → All (InRange l.ty) (elements w v)
-elements_in w v l s h = subst (All (InRange l.ty)) (sym (elements_seen w v l h)) (read_in l.ty l.places (root_elements w l.root) (seen_in_range w v l s h))
+elements_in : WrappingLaws → (w : World) (v : ℕ) (l : Look) → IsSound w → look w v ≡ Some l → All (InRange l.ty) (elements w v)
+elements_in wraps w v l s h = subst (All (InRange l.ty)) (sym (elements_seen w v l h)) (read_in wraps l.ty l.places (root_elements w l.root) (seen_in_range w v l s h))
 
-made : (w : World) (v : ℕ) (l : Look) → IsSound w → look w v ≡ Some l → IsMade l.ty l.dims (elements w v)
-made w v l s h = record {
+made : WrappingLaws → (w : World) (v : ℕ) (l : Look) → IsSound w → look w v ≡ Some l → IsMade l.ty l.dims (elements w v)
+made wraps w v l s h = record {
   count = ap length (elements_seen w v l h) ∙ length-map l.places (element_at (root_elements w l.root)) ∙ look_count w v l h;
-  in_range = elements_in w v l s h;
+  in_range = elements_in wraps w v l s h;
 }
 
-sound_cases : SizeLaws → (w : World) (v : ℕ) (o : Option Look) → look w v ≡ o → IsSound w → IsSound (sever w v)
-sound_cases laws w v None h s = subst IsSound (sym (dead_is w v (root (ty_in w v) (dims_in w v) (elements w v)) s h)) s
-sound_cases laws w v (Some l) h s = subst IsSound (sym (severed w v l h)) (cut_sound w v l (elements w v) s h (look_dims laws w v l s h, made w v l s h))
+sound_cases : SizeLaws → WrappingLaws → (w : World) (v : ℕ) (o : Option Look) → look w v ≡ o → IsSound w → IsSound (sever w v)
+sound_cases laws wraps w v None h s = subst IsSound (sym (dead_is w v (root (ty_in w v) (dims_in w v) (elements w v)) s h)) s
+sound_cases laws wraps w v (Some l) h s = subst IsSound (sym (severed w v l h)) (cut_sound w v l (elements w v) s h (look_dims laws w v l s h, made wraps w v l s h))
 
-pub cuts_soundly : SizeLaws → CutsSoundly
-cuts_soundly laws = λ w v s. sound_cases laws w v (look w v) refl s
+pub cuts_soundly : SizeLaws → WrappingLaws → CutsSoundly
+cuts_soundly laws wraps = λ w v s. sound_cases laws wraps w v (look w v) refl s
 
 -- the same numbers
 same_live : (new : World) (u : ℕ) (o : Option Look) → look new u ≡ o → IsSomeAnd o (λ m. Unit {0}) → IsLive new u
@@ -231,18 +225,18 @@ reshaped_is_seen = λ w v l ds h.
 pub reshapes_leave_others : ReshapesLeaveOthers
 reshapes_leave_others = λ w v u ds s h n. seen_as_before w (reshape w v ds) u (others_stay w v u (root (ty_in w v) ds (new_elements w v ds)) s h n)
 
-remade : (w : World) (v : ℕ) (l : Look) (ds : List ℕ) → IsSound w → look w v ≡ Some l → IsMade l.ty ds (new_elements w v ds)
-remade w v l ds s h = record {
+remade : WrappingLaws → (w : World) (v : ℕ) (l : Look) (ds : List ℕ) → IsSound w → look w v ≡ Some l → IsMade l.ty ds (new_elements w v ds)
+remade wraps w v l ds s h = record {
   count = (is_fitted (size_of ds) (elements w v)).count;
-  in_range = all_fitted (InRange l.ty) (size_of ds) (elements w v) (zero_in l.ty) (elements_in w v l s h);
+  in_range = all_fitted (InRange l.ty) (size_of ds) (elements w v) (wraps.zero l.ty) (elements_in wraps w v l s h);
 }
 
-reshape_cases : (w : World) (v : ℕ) (ds : List ℕ) (o : Option Look) → look w v ≡ o → IsSound w → has_views w v ≡ false → IsDims ds → IsSound (reshape w v ds)
-reshape_cases w v ds None h s n d = subst IsSound (sym (dead_is w v (root (ty_in w v) ds (new_elements w v ds)) s h)) s
-reshape_cases w v ds (Some l) h s n d = subst IsSound (sym (reshaped w v l ds h)) (reshaped_sound w v l.ty ds (new_elements w v ds) s n (d, remade w v l ds s h))
+reshape_cases : WrappingLaws → (w : World) (v : ℕ) (ds : List ℕ) (o : Option Look) → look w v ≡ o → IsSound w → has_views w v ≡ false → IsDims ds → IsSound (reshape w v ds)
+reshape_cases wraps w v ds None h s n d = subst IsSound (sym (dead_is w v (root (ty_in w v) ds (new_elements w v ds)) s h)) s
+reshape_cases wraps w v ds (Some l) h s n d = subst IsSound (sym (reshaped w v l ds h)) (reshaped_sound w v l.ty ds (new_elements w v ds) s n (d, remade wraps w v l ds s h))
 
-pub reshapes_soundly : ReshapesSoundly
-reshapes_soundly = λ w v ds s n d. reshape_cases w v ds (look w v) refl s n d
+pub reshapes_soundly : WrappingLaws → ReshapesSoundly
+reshapes_soundly wraps = λ w v ds s n d. reshape_cases wraps w v ds (look w v) refl s n d
 
 reshape_live : (w : World) (v u : ℕ) (ds : List ℕ) → IsSound w → has_views w v ≡ false → IsLive w u → (o : Option Look) → look w u ≡ o → IsLive (reshape w v ds) u
 reshape_live w v u ds s n h None e = absurd (live_none (look w u) e h)

@@ -16,6 +16,7 @@ ghost use Rattle.pdl_world.specs.SweepLaws.{KeptWereReached, ReachedAreKept, Hel
 
 use pdl_affine::{Affine, Numbers, view_laws, window_laws};
 use pdl_choice::{Edge, Positions};
+use pdl_elem::wrapping_laws;
 use pdl_shape::{Dims, shape_laws, triple_laws};
 
 /// How a view shows its parent.
@@ -110,7 +111,8 @@ pub fn cut_laws()
     ensures sound { CutsSoundly }
     ensures numbers { CutsLeaveNumbers }
 {
-    shape_laws()
+    shape_laws();
+    wrapping_laws()
 }
 
 /// The laws of other dimensions (PDL::Core, reshape), for an array that is no
@@ -124,7 +126,9 @@ pub fn reshape_laws()
     ensures others { ReshapesLeaveOthers }
     ensures sound { ReshapesSoundly }
     ensures numbers { ReshapesLeaveNumbers }
-{}
+{
+    wrapping_laws()
+}
 
 /// How arrays of a sound world are shown over their bases (PDL::API, affine transformations). Each
 /// live array has a window: its base, which is its own base and shows its elements in order, and

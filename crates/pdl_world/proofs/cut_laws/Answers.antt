@@ -20,7 +20,7 @@ pub returns-clause-views : goal.returns-clause-views
 returns-clause-views c = cuts_take_their_views
 
 pub returns-clause-sound : goal.returns-clause-sound
-returns-clause-sound c = cuts_soundly c.shape_laws.ensures.sizes
+returns-clause-sound c = cuts_soundly c.shape_laws.ensures.sizes c.wrapping_laws.ensures
 
 pub returns-clause-numbers : goal.returns-clause-numbers
 returns-clause-numbers c = cuts_leave_numbers

@@ -12,7 +12,7 @@ pub returns-clause-others : goal.returns-clause-others
 returns-clause-others c = reshapes_leave_others
 
 pub returns-clause-sound : goal.returns-clause-sound
-returns-clause-sound c = reshapes_soundly
+returns-clause-sound c = reshapes_soundly c.wrapping_laws.ensures
 
 pub returns-clause-numbers : goal.returns-clause-numbers
 returns-clause-numbers c = reshapes_leave_numbers

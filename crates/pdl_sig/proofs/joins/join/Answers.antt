@@ -9,8 +9,8 @@ loop-dimension-preserved c =
     (record {
       inside = c.loop-dimension-test.true;
       count_is = c.max-count.ensures;
-      first = c.size_or_one.ensures;
-      second = c.size_or_one-in-loop-dimension.ensures;
+      first = c.size_along.ensures;
+      second = c.size_along-in-loop-dimension.ensures;
       joined = sym c.join_sizes.ensures ∙ c.in-Some.is;
     }) c.loop-dimension.invariant
 
@@ -23,8 +23,8 @@ returns-in-None-clause-joined c =
     (record {
       inside = c.loop-dimension-test.true;
       count_is = c.max-count.ensures;
-      first = c.size_or_one.ensures;
-      second = c.size_or_one-in-loop-dimension.ensures;
+      first = c.size_along.ensures;
+      second = c.size_along-in-loop-dimension.ensures;
       joined = sym c.join_sizes.ensures ∙ c.in-None.is;
     }) c.loop-dimension.invariant
 

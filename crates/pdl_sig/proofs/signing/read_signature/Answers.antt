@@ -1,7 +1,7 @@
-use Rattle.std.proofs.Common.{List, [], ap, ◌∙◌, rules}
+use Rattle.std.proofs.Common.{◌<◌, List, [], length, ap, subst, ◌∙◌, rules}
 use Rattle.pdl_sig.specs.declared.written.WrittenArg.{WrittenArg}
 use Rattle.pdl_sig.specs.Refusals.{all_names, signature_of, is_fixed_again, refusal}
-use Rattle.pdl_sig.proofs.Signatures.{bad_text, too_many, refused, signs}
+use Rattle.pdl_sig.proofs.Signatures.{bad_text, too_many, too_many_names, refused, signs}
 use Rattle.pdl_sig.proofs.WellFormed.{well_formed}
 use Rattle.pdl_sig.proofs.signing.read_signature.Goals as goal
 
@@ -10,8 +10,13 @@ returns-in_default-clause-refused c = bad_text c.args.text.now (search rules)
 
 pub returns-then-are_too_many-clause-refused : goal.returns-then-are_too_many-clause-refused
 returns-then-are_too_many-clause-refused c =
-    too_many c.args.text.now c.in-Some.args.items c.in_ok-names.names.items (rw c.in-Some.is at c.in_ok-args.ensures)
-    (c.in_ok-names.ensures ∙ ap (λ (xs : List WrittenArg). all_names [] xs) c.as_slice.ensures.value) (search rules)
+    too_many c.args.text.now c.in-Some.args.items c.in-Some-2.names.items (rw c.in-Some.is at c.in_ok-args.ensures)
+    ((rw c.in-Some-2.is at c.in_ok-names.ensures.few) ∙ ap (λ (xs : List WrittenArg). all_names [] xs) c.as_slice.ensures.value) (search rules)
+
+pub returns-in_default-2-clause-refused : goal.returns-in_default-2-clause-refused
+returns-in_default-2-clause-refused c =
+    too_many_names c.args.text.now c.in-Some.args.items (rw c.in-Some.is at c.in_ok-args.ensures)
+    (subst (λ (xs : List WrittenArg). 8 < length (all_names [] xs)) c.as_slice.ensures.value (c.in_ok-names.ensures.many c.in_default-2.is))
 
 pub returns-in-Some-refusal-clause-refused : goal.returns-in-Some-refusal-clause-refused
 returns-in-Some-refusal-clause-refused c =

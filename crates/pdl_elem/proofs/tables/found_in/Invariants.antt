@@ -1,6 +1,6 @@
 use Rattle.std.proofs.Common.{◌≡◌, drop, map}
-use Rattle.pdl_lexemes.specs.Lexing.{found_in}
-use Rattle.pdl_lexemes.proofs.tables.found_in.Given as goal
+use Rattle.pdl_elem.specs.Tables.{found_in}
+use Rattle.pdl_elem.proofs.tables.found_in.Given as goal
 
 abbrev pub invariant-loop-entry : goal.invariant-loop-entry
 invariant-loop-entry g l =
