@@ -1,4 +1,5 @@
 -- Code of which no name is refused fits its signature.
+use borrow.Author.Count.{below_more}
 use Rattle.std.proofs.Common.{◌≡◌, ◌≢◌, ℕ, zero, suc, ◌+◌, ◌<◌, ◌≤◌, List, [], ◌∷◌, ◌++◌, length, get_or, refl, sym, ap, subst, ◌∙◌, arith, eqb, eqb-true, eq-eqb, nat_eq}
 use Rattle.std.specs.Prelude.{Bool, true, false, not, ◌||◌, max, ◌==◌, if◌then◌else◌, nat_lt, Option, Some, None, option_map, slice_set, All}
 use Rattle.std.specs.List.{IsDistinct, AllByRecursion, list_any}
@@ -19,7 +20,7 @@ use Rattle.pdl_code.specs.declared.fault.KernelFault.TheVariants.{UnknownDim, Wr
 use Rattle.pdl_code.specs.declared.lexeme.Span.{Span}
 use Rattle.pdl_code.specs.declared.scope.Meant.{Meant}
 use Rattle.pdl_code.specs.declared.scope.Meant.TheVariants.{InSlot, Dim, Unknown}
-use Rattle.pdl_code.specs.Fit.{argument_of, nobody, places_of, IsAccessFit, IsTreeFit, AreIndicesFit, IsStepFit, IsCodeFit, locals_after, step_locals, code_locals}
+use Rattle.pdl_code.specs.Fit.{argument_of, nobody, places_of, IsAccessFit, IsTreeFit, AreIndicesFit, IsLeft, IsStepFit, IsCodeFit, locals_after, step_locals, code_locals}
 use Rattle.pdl_code.specs.Tree.{Tree, Indices, index, along as cons, size as size_tree}
 use Rattle.pdl_code.specs.Raw.{RawTree, RawIndices, RawStep, RawCode, number, size, named, access, unary, binary, none, along, repeat, choose, declare, set, put, done, next}
 use Rattle.pdl_code.specs.Refused.{argument_at, axis_wrong, behind_name, code_code, code_wrongs, index_code, index_wrongs, is_input, loop_wrong, looped, mark, meant_tree, named_argument, named_dim, no_dim, or_zero, primary_wrong, scope_after, slot_of, step_code, step_wrongs, target_wrong, tree_code, tree_wrongs, when}
@@ -111,6 +112,30 @@ looped_step ds d k given false rest = ap (λ n. suc n) rest
 looped_count : (ds : List ℕ) (k : ℕ) (given : List Bool) → length (places_of (looped ds k given)) ≡ unmarked ds k given
 looped_count [] k given = refl
 looped_count (d ∷ ds) k given = looped_step ds d k given (get_or given k false) (looped_count ds (k + 1) given)
+
+looped_same : (ds : List ℕ) (j k : ℕ) (given : List Bool) → k < j → looped ds j (slice_set given k true) ≡ looped ds j given
+looped_same [] j k given lt = refl
+looped_same (d ∷ ds) j k given lt =
+    ap (λ b. if b then looped ds (j + 1) (slice_set given k true) else cons j (index d) (looped ds (j + 1) (slice_set given k true)))
+    (get_or-set_other given k j true false (λ e. omega (arith, e, lt)))
+    ∙ ap (λ is. if get_or given j false then is else cons j (index d) is) (looped_same ds (j + 1) k given (omega (arith, lt)))
+
+left_step : (n j d : ℕ) (ds : List ℕ) (given : List Bool) (b : Bool) → j < n → get_or given j false ≡ b → (b ≡ true → IsLeft n given (looped ds (j + 1) given))
+    → (b ≡ false → IsLeft n (slice_set given j true) (looped ds (j + 1) given)) → IsLeft n given (if b then looped ds (j + 1) given else cons j (index d) (looped ds (j + 1) given))
+left_step n j d ds given true lt at whole other = whole refl
+left_step n j d ds given false lt at whole other = (lt, at, other refl)
+
+-- the dimensions that aren't given have one index each
+looped_left : (n : ℕ) (ds : List ℕ) (j : ℕ) (given : List Bool) → n ≡ j + length ds → length given ≡ 8 → n ≤ 8 → ((k : ℕ) → k < j → get_or given k false ≡ true)
+    → IsLeft n given (looped ds j given)
+looped_left n [] j given same eight few before = λ k lt. before k (omega (arith, lt, same))
+looped_left n (d ∷ ds) j given same eight few before =
+    left_step n j d ds given (get_or given j false) (omega (arith, same)) refl
+    (λ t. looped_left n ds (j + 1) given (omega (arith, same)) eight few (below_more (λ k. get_or given k false ≡ true) j before t))
+    (λ f. subst (IsLeft n (slice_set given j true)) (looped_same ds (j + 1) j given (omega arith))
+    (looped_left n ds (j + 1) (slice_set given j true) (omega (arith, same)) (length-set given j true ∙ eight) few
+    (below_more (λ k. get_or (slice_set given j true) k false ≡ true) j (λ k lt. get_or-set_other given j k true false (λ e. omega (arith, e, lt)) ∙ before k lt)
+    (get_or-set_same given j true false (omega (arith, same, eight, few))))))
 
 -- a role that is no input's
 not_input : (r : Role) → is_input r ≡ false → r ≢ Input
@@ -220,6 +245,7 @@ module _ (source : List ℕ) (s : Signature) (wf : IsWellFormed s) where
   pub record Fits (n : ℕ) (ds : List ℕ) (given : List Bool) (is : Indices) : Type 0 where
     pub count : length (places_of is) ≡ unmarked ds 0 given
     pub fit : AreIndicesFit s n (length ds) is
+    pub left : IsLeft (length ds) given is
 
   along_fits : (n : ℕ) (ds : List ℕ) (given : List Bool) (w : Span) (e : Tree) (f : List Bool → Indices) (ws : List KernelFault) (rs : List Bool → List KernelFault) (p : Option ℕ)
       → axis_of s ds (bytes_of source w) ≡ p → axis_wrong w given p ++ (ws ++ rs (mark given p)) ≡ [] → length given ≡ 8 → length ds ≤ 8
@@ -233,6 +259,7 @@ module _ (source : List ℕ) (s : Signature) (wf : IsWellFormed s) where
       record {
         count = ap (λ m. suc m) found.count ∙ sym (one_marked ds 0 k given (omega arith) (omega (arith, below)) (omega (arith, below, few, eight)) clear);
         fit = (below, tree (first_none ws (rs (slice_set given k true)) inner), found.fit);
+        left = (below, clear, found.left);
       }
 
   no_mark : (i : ℕ) → get_or no_flags i false ≡ false
@@ -255,7 +282,7 @@ module _ (source : List ℕ) (s : Signature) (wf : IsWellFormed s) where
       let below = place_below _ s.args a at in
       let ds = (argument_of s a).dims in
       let found = rest ds wrongs (rank_within s wf a below) (dims_below s wf a below) in
-      (below, found.count ∙ none_marked ds 0 no_flags no_mark, found.fit)
+      (below, found.count ∙ none_marked ds 0 no_flags no_mark, found.fit, found.left)
 
   mutual
     pub tree_fits : (c : Scope) (t : RawTree) → tree_wrongs source s c t ≡ [] → IsTreeFit s (length c.locals) (tree_code source s c t)
@@ -272,7 +299,7 @@ module _ (source : List ℕ) (s : Signature) (wf : IsWellFormed s) where
     pub index_fits : (c : Scope) (ds : List ℕ) (given : List Bool) (at : ℕ) (is : RawIndices) → index_wrongs source s c ds given at is ≡ [] → length given ≡ 8 → length ds ≤ 8
         → All (λ d. d < length s.names) ds → Fits (length c.locals) ds given (index_code source s c ds given is)
     index_fits c ds given at none e eight few all =
-        record { count = looped_count ds 0 given; fit = looped_fits (length c.locals) (length ds) ds 0 given (omega arith) all }
+        record { count = looped_count ds 0 given; fit = looped_fits (length c.locals) (length ds) ds 0 given (omega arith) all; left = looped_left (length ds) ds 0 given (omega arith) eight few (λ k lt. absurd (omega (arith, lt))) }
     index_fits c ds given at (along w t rest) e eight few all =
         along_fits (length c.locals) ds given w (tree_code source s c t) (λ g. index_code source s c ds g rest) (tree_wrongs source s c t) (λ g. index_wrongs source s c ds g at rest)
         (axis_of s ds (bytes_of source w)) refl e eight few (λ h. tree_fits c t h) (λ g h k. index_fits c ds g at rest h k few all)

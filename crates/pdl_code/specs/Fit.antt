@@ -1,10 +1,11 @@
 -- What a reader promises of code: it speaks of what the signature has and of visible locals alone,
 -- and assigns to no input.
-use Rattle.std.specs.Prelude.{◌≡◌, ◌≢◌, ℕ, suc, ◌<◌, ◌≤◌, ◌==◌, max, List, [], ◌∷◌, length, get_or, if◌then◌else◌}
+use Rattle.std.specs.Prelude.{◌≡◌, ◌≢◌, ℕ, suc, ◌<◌, ◌≤◌, ◌==◌, max, Bool, true, false, List, [], ◌∷◌, length, get_or, replicate, slice_set, if◌then◌else◌}
 use Rattle.pdl_sig.specs.declared.Role.TheVariants.{Input}
 use Rattle.pdl_sig.specs.declared.ArgType.TheVariants.{Generic}
 use Rattle.pdl_sig.specs.declared.SigArg.{SigArg}
 use Rattle.pdl_sig.specs.declared.Signature.{Signature}
+use Rattle.pdl_sig.specs.Refusals.{names_limit}
 use Rattle.pdl_code.specs.Tree.{Tree, Indices, Step, Code, number, size, index, local, access, unary, binary, none, along, repeat, choose, keep, put, done, next}
 
 -- an argument of the signature
@@ -23,6 +24,16 @@ abbrev pub places_of : Indices → List ℕ
 places_of none = []
 places_of (along k e rest) = k ∷ places_of rest
 
+-- each of so many dimensions that isn't marked yet has one index, and each marked one has none
+abbrev pub IsLeft : (rank : ℕ) → (marks : List Bool) → Indices → Type 0
+IsLeft n marks none = (k : ℕ) → k < n → get_or marks k false ≡ true
+IsLeft n marks (along k e rest) = (k < n) × (get_or marks k false ≡ false) ×
+    IsLeft n (slice_set marks k true) rest
+
+-- one index for each of so many dimensions, of which a signature names at most `names_limit`
+abbrev pub IsEachOnce : (rank : ℕ) → Indices → Type 0
+IsEachOnce n is = IsLeft n (replicate names_limit false) is
+
 abbrev mutual
   -- an expression among n visible locals
   pub IsTreeFit : Signature → ℕ → Tree → Type 0
@@ -31,7 +42,7 @@ abbrev mutual
   IsTreeFit s n (index d) = d < length s.names
   IsTreeFit s n (local k) = k < n
   IsTreeFit s n (access a is) = (a < length s.args) × (length (places_of is) ≡ rank_of s a) ×
-      AreIndicesFit s n (rank_of s a) is
+      AreIndicesFit s n (rank_of s a) is × IsEachOnce (rank_of s a) is
   IsTreeFit s n (unary op e) = IsTreeFit s n e
   IsTreeFit s n (binary op x y) = IsTreeFit s n x × IsTreeFit s n y
 
@@ -44,7 +55,7 @@ abbrev mutual
 -- an access to an argument: as many indices as it has dimensions
 abbrev pub IsAccessFit : Signature → ℕ → ℕ → Indices → Type 0
 IsAccessFit s n a is = (a < length s.args) × (length (places_of is) ≡ rank_of s a) ×
-    AreIndicesFit s n (rank_of s a) is
+    AreIndicesFit s n (rank_of s a) is × IsEachOnce (rank_of s a) is
 
 -- how many locals are visible after a statement: a declaration is a store to the next slot
 abbrev pub locals_after : ℕ → Step → ℕ

@@ -1,7 +1,7 @@
--- The blocks of all broadcast places, one behind the other, are an output by coordinates.
+-- What code leaves at all broadcast places, one behind the other, is an output by coordinates.
 use Rattle.std.proofs.Common.{◌≡◌, ℕ, zero, suc, ◌+◌, ◌*◌, ◌<◌, ℤ, pos, List, [], ◌∷◌, ◌++◌, map, length, take, drop, replicate, get_or, Ok, refl, sym, ap, subst, ◌∙◌, arith}
 use Rattle.std.specs.Prelude.{Bool, true, false, if◌then◌else◌, All, Option, Some, None, Result}
-use Rattle.std.specs.List.{flat_map, range_with_len}
+use Rattle.std.specs.List.{AllZip, flat_map, range_with_len}
 use Rattle.std.proofs.Math.ListN.{get_or-map}
 use Rattle.std.proofs.lemmas.List.{ext_get_or, get_or_append_left, get_or-append-add, length-append, length-map, length-replicate}
 use Rattle.std.proofs.lemmas.List.Elements.{All-append, All-get_or}
@@ -16,16 +16,20 @@ use Rattle.pdl_buf.specs.declared.made.Made.{Made}
 use Rattle.pdl_sig.specs.Refusals.{names_limit}
 use Rattle.pdl_sig.specs.Resolution.{core_sizes, is_given, is_output, size_in, type_in}
 use Rattle.pdl_sig.specs.declared.Resolved.{Resolved}
+use Rattle.pdl_sig.specs.declared.Role.{Role}
 use Rattle.pdl_sig.specs.declared.SigArg.{SigArg}
 use Rattle.pdl_code.specs.Fit.{code_locals}
 use Rattle.pdl_code.specs.Tree.{Code}
 use Rattle.pdl_kernel.specs.declared.faults.Fault.{Fault}
 use Rattle.pdl_kernel.specs.Arrays.{element}
 use Rattle.pdl_kernel.specs.Call.{first_given, outcome, output, output_element, outputs, start_element, started, stores_from, with_given}
+use Rattle.pdl_kernel.specs.Collecting.{left_in}
 use Rattle.pdl_kernel.specs.Meaning.{Store, argument, nothing}
-use Rattle.pdl_kernel.specs.Parts.{gathered}
-use Rattle.pdl_kernel.specs.Setup.{heads, made_of}
+use Rattle.pdl_kernel.specs.Places.{blank as none}
+use Rattle.pdl_kernel.specs.Setup.{IsShapeOf, outputs_in}
+use Rattle.pdl_kernel.specs.Window.{Window}
 use Rattle.pdl_kernel.proofs.Gathering.{begins}
+use Rattle.pdl_kernel.proofs.Laying.{made_output, size_parts}
 use Rattle.pdl_kernel.proofs.Kept.{HasForm, IsRanged, StaysRanged, blank, blank_store, form_is_kept, get_ranged, range_is_kept, run_relates}
 
 -- an argument at a broadcast place: its type and dimensions, as many elements as these say, in the type's range
@@ -85,13 +89,7 @@ left_shaped laws args code r given p m is k d lt =
       ranged = get_ranged m.arguments k ranged;
     }
 
--- the stores of n places are n, and each is that of its place
-pub stores_long : (f : ℕ → Result Store Fault) (n p : ℕ) (ms : List Store) → stores_from f p n ≡ Ok ms → length ms ≡ n
-stores_long f zero p ms e = let none : ms ≡ [] = cc in ap length none
-stores_long f (suc n) p ms e =
-    let b = begins p (f p) (stores_from f (p + 1) n) ms e in
-    ap (length {A = Store}) b.both ∙ ap suc (stores_long f n (p + 1) b.others b.are)
-
+-- each store of n places is that of its place
 pub stores_hold : (P : Store → Type 0) (f : ℕ → Result Store Fault) → ((p : ℕ) (m : Store) → f p ≡ Ok m → P m) → (n p : ℕ) (ms : List Store) → stores_from f p n ≡ Ok ms → All P ms
 stores_hold P f each zero p ms e = let none : ms ≡ [] = cc in subst (All P) (sym none) (λ i d lt. absurd (omega arith))
 stores_hold P f each (suc n) p ms e =
@@ -103,7 +101,7 @@ stores_hold P f each (suc n) p ms e =
     both m ms h rest zero d lt = h
     both m ms h rest (suc i) d lt = rest i d (omega arith)
 
--- blocks of one length, one behind the other
+-- lists of one length, one behind the other
 flat_length : (s : ℕ) (f : Store → List ℤ) (ms : List Store) → All (λ m. length (f m) ≡ s) ms → length (flat_map f ms) ≡ s * length ms
 flat_length s f [] h = omega arith
 flat_length s f (m ∷ ms) h =
@@ -138,11 +136,7 @@ within_parts [] ys cs w = (tt, w)
 within_parts (x ∷ xs) ys [] w = absurd w
 within_parts (x ∷ xs) ys (c ∷ cs) w = let rest = within_parts xs ys cs w.1 in ((w.0, rest.0), rest.1)
 
-size_parts : (xs ys : List ℕ) → size_of (xs ++ ys) ≡ size_of xs * size_of ys
-size_parts [] ys = omega arith
-size_parts (x ∷ xs) ys = let rest : size_of (xs ++ ys) ≡ size_of xs * size_of ys = size_parts xs ys in rw rest (grind arith)
-
--- the blocks are the elements of the output
+-- what is left is the elements of the output
 elements_are : PositionLaws → (r : Resolved) (ms : List Store) (k : ℕ) (a : SigArg) → length ms ≡ size_of r.broadcast → All (λ m. IsShaped r a (argument m k)) ms
     → flat_map (λ m. (argument m k).elems) ms ≡ (output r ms k a).elems
 elements_are laws r ms k a count shaped =
@@ -193,24 +187,43 @@ shaped_first r ms a k h = let e : k + 0 ≡ k = omega arith in subst (λ n. All 
 shaped_next : (r : Resolved) (ms : List Store) (a : SigArg) (k i : ℕ) → All (λ m. IsShaped r a (argument m (k + suc i))) ms → All (λ m. IsShaped r a (argument m (k + 1 + i))) ms
 shaped_next r ms a k i h = let e : k + suc i ≡ k + 1 + i = omega arith in subst (λ n. All (λ m. IsShaped r a (argument m n)) ms) e h
 
-output_is : PositionLaws → (r : Resolved) (ms : List Store) (a : SigArg) (args : List SigArg) (k : ℕ) → length ms ≡ size_of r.broadcast → All (λ m. IsShaped r a (argument m k)) ms
-    → map made_of (map (gathered ms) (heads r (k + 1) args)) ≡ outputs r ms (k + 1) args → (b : Bool)
-    → map made_of (map (gathered ms) (if b then record { number = k; ty = type_in r.generic a.ty; dims = core_sizes r.sizes a ++ r.broadcast; elems = [] } ∷ heads r (k + 1) args else heads r (k + 1) args))
-    ≡ (if b then output r ms k a ∷ outputs r ms (k + 1) args else outputs r ms (k + 1) args)
-output_is laws r ms a args k count here rest false = rest
-output_is laws r ms a args k count here rest true =
-    ap (λ (es : List ℤ). let m : Made = record { ty = type_in r.generic a.ty; dims = core_sizes r.sizes a ++ r.broadcast; elems = es } in m ∷ map made_of (map (gathered ms) (heads r (k + 1) args))) (elements_are laws r ms k a count here)
-    ∙ ap (λ xs. output r ms k a ∷ xs) rest
+-- an argument when the code has run at each broadcast place
+pub record IsEnd (r : Resolved) (ms : List Store) (k : ℕ) (a : SigArg) (w : Window) : Type 0 where
+  pub role : w.role ≡ a.role
+  pub ty : w.ty ≡ type_in r.generic a.ty
+  pub elems : is_output a.role ≡ true → w.elems ≡ left_in k ms
+
+end_is : PositionLaws → (r : Resolved) (ms : List Store) (k : ℕ) (a : SigArg) (w : Window) (dims : List ℕ) (rest : List Made) → length ms ≡ size_of r.broadcast → All (λ m. IsShaped r a (argument m k)) ms → IsEnd r ms k a w → IsShapeOf r a dims
+    → (b : Bool) → is_output a.role ≡ b → (if b then record { ty = w.ty; dims = dims; elems = w.elems } ∷ rest else rest) ≡ (if b then output r ms k a ∷ rest else rest)
+end_is laws r ms k a w dims rest count shaped h shape false out = refl
+end_is laws r ms k a w dims rest count shaped h shape true out =
+    let made = made_output a.role (core_sizes r.sizes a) r.broadcast out in
+    let M : Ty → List ℕ → List ℤ → List Made = λ t ds es. record { ty = t; dims = ds; elems = es } ∷ rest in
+    ap (λ t. M t dims w.elems) h.ty ∙ ap (λ ds. M (type_in r.generic a.ty) ds w.elems) (shape made.0 ∙ made.1)
+    ∙ ap (M (type_in r.generic a.ty) (core_sizes r.sizes a ++ r.broadcast)) (h.elems out ∙ elements_are laws r ms k a count shaped)
+
+end_first : (r : Resolved) (ms : List Store) (k : ℕ) (a : SigArg) (w : Window) → IsEnd r ms (k + 0) a w → IsEnd r ms k a w
+end_first r ms k a w h = let e : k + 0 ≡ k = omega arith in subst (λ n. IsEnd r ms n a w) e h
+
+end_next : (r : Resolved) (ms : List Store) (k i : ℕ) (a : SigArg) (w : Window) → IsEnd r ms (k + suc i) a w → IsEnd r ms (k + 1 + i) a w
+end_next r ms k i a w h = let e : k + suc i ≡ k + 1 + i = omega arith in subst (λ n. IsEnd r ms n a w) e h
 
 -- all outputs
-pub outputs_are : PositionLaws → (r : Resolved) (ms : List Store) (args : List SigArg) (k : ℕ) → length ms ≡ size_of r.broadcast
+pub outputs_are : PositionLaws → (r : Resolved) (ms : List Store) (args : List SigArg) (dims : List (List ℕ)) (ws : List Window) (k : ℕ) → length ms ≡ size_of r.broadcast
     → ((i : ℕ) (d : SigArg) → i < length args → All (λ m. IsShaped r (get_or args i d) (argument m (k + i))) ms)
-    → map made_of (map (gathered ms) (heads r k args)) ≡ outputs r ms k args
-outputs_are laws r ms [] k count shaped = refl
-outputs_are laws r ms (a ∷ args) k count shaped =
-    output_is laws r ms a args k count (shaped_first r ms a k (shaped 0 a (omega arith)))
-    (outputs_are laws r ms args (k + 1) count (λ i d lt. shaped_next r ms (get_or args i d) k i (shaped (suc i) d (omega arith))))
-    (is_output a.role)
+    → AllZip (IsShapeOf r) args dims → length ws ≡ length args
+    → ((i : ℕ) (d : SigArg) → i < length args → IsEnd r ms (k + i) (get_or args i d) (get_or ws i none)) → outputs_in dims ws ≡ outputs r ms k args
+outputs_are laws r ms [] [] ws k count shaped shapes long ends = refl
+outputs_are laws r ms [] (d ∷ dims) ws k count shaped shapes long ends = absurd shapes
+outputs_are laws r ms (a ∷ args) [] ws k count shaped shapes long ends = absurd shapes
+outputs_are laws r ms (a ∷ args) (d ∷ dims) [] k count shaped shapes long ends = absurd (omega (arith, long))
+outputs_are laws r ms (a ∷ args) (d ∷ dims) (w ∷ ws) k count shaped shapes long ends =
+    let h = end_first r ms k a w (ends 0 a (omega arith)) in
+    let W : List Made → List Made = λ rest. (if is_output w.role then record { ty = w.ty; dims = d; elems = w.elems } ∷ rest else rest) in
+    ap W (outputs_are laws r ms args dims ws (k + 1) count (λ i e lt. shaped_next r ms (get_or args i e) k i (shaped (suc i) e (omega (arith, lt)))) shapes.1 (omega (arith, long))
+    (λ i e lt. end_next r ms k i (get_or args i e) (get_or ws i none) (ends (suc i) e (omega (arith, lt)))))
+    ∙ ap (λ (x : Role). (if is_output x then record { ty = w.ty; dims = d; elems = w.elems } ∷ outputs r ms (k + 1) args else outputs r ms (k + 1) args)) h.role
+    ∙ end_is laws r ms k a w d (outputs r ms (k + 1) args) count (shaped_first r ms a k (shaped 0 a (omega arith))) h shapes.0 (is_output a.role) refl
 
 first_made : PositionLaws → (r : Resolved) (ms : List Store) (a : SigArg) (args : List SigArg) (k : ℕ) → length ms ≡ size_of r.broadcast → All (λ m. IsShaped r a (argument m k)) ms
     → All (λ (m : Made). IsMade m.ty m.dims m.elems) (outputs r ms (k + 1) args) → (b : Bool)

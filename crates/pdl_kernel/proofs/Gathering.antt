@@ -1,13 +1,11 @@
 -- The stores of broadcast places, one place after the other.
-use Rattle.std.proofs.Common.{◌≡◌, ℕ, zero, suc, ◌+◌, ◌<◌, ℤ, List, [], ◌∷◌, ◌++◌, map, Ok, Err, refl, sym, ap, subst, ◌∙◌, arith, append-nil}
-use Rattle.std.specs.Prelude.{All, Result}
-use Rattle.std.specs.List.{flat_map}
-use Rattle.std.proofs.lemmas.List.{append_assoc}
-use Rattle.std.proofs.lemmas.List.Concat.{flat_map-append}
+use Rattle.std.proofs.Common.{◌≡◌, ℕ, zero, suc, ◌+◌, ◌<◌, List, [], ◌∷◌, ◌++◌, length, Ok, Err, refl, sym, ap, subst, ◌∙◌, arith}
+use Rattle.std.specs.Prelude.{Result}
 use Rattle.pdl_kernel.specs.declared.faults.Fault.{Fault}
 use Rattle.pdl_kernel.specs.Call.{PlacedFault, fault_at, store_before, stores_from}
-use Rattle.pdl_kernel.specs.Meaning.{Store, argument}
-use Rattle.pdl_kernel.specs.Parts.{Collected, Part, appended, gathered}
+use Rattle.pdl_kernel.specs.Collecting.{AreCollected, Collected}
+use Rattle.pdl_kernel.specs.Meaning.{Store}
+use Rattle.pdl_kernel.specs.Window.{Window}
 
 -- the first store and the others
 pub record Begins (r : Result Store Fault) (rest : Result (List Store) PlacedFault) (stores : List Store) : Type 0 where
@@ -42,49 +40,33 @@ stores_fault f (suc n) (suc k) p q stores d at lt e is =
     let more = stores_fault f n k (p + 1) q b.others d (omega arith) (omega arith) b.are is in
     ap (λ r. store_before p r (stores_from f (p + 1) k)) b.is ∙ ap (store_before p (Ok b.first)) more
 
-gathered_once : (m : Store) (stores : List Store) (part : Part) → appended m (gathered stores part) ≡ gathered (stores ++ m ∷ []) part
-gathered_once m stores part =
-    let g : Store → List ℤ = λ m. (argument m part.number).elems in
-    let e : (part.elems ++ flat_map g stores) ++ g m ≡ part.elems ++ flat_map g (stores ++ m ∷ []) =
-    append_assoc part.elems (flat_map g stores) (g m) ∙ ap (λ zs. part.elems ++ zs) (ap (λ zs. flat_map g stores ++ zs) (sym (append-nil (g m))) ∙ sym (flat_map-append g stores (m ∷ []))) in
-    ap (λ (zs : List ℤ). record part { elems = zs }) e
+-- the stores of n places are n,
+pub stores_long : (f : ℕ → Result Store Fault) (n p : ℕ) (ms : List Store) → stores_from f p n ≡ Ok ms → length ms ≡ n
+stores_long f zero p ms e = let none : ms ≡ [] = cc in ap length none
+stores_long f (suc n) p ms e =
+    let b = begins p (f p) (stores_from f (p + 1) n) ms e in
+    ap (length {A = Store}) b.both ∙ ap suc (stores_long f n (p + 1) b.others b.are)
 
-all_gathered : (m : Store) (stores : List Store) (parts : List Part) → map (appended m) (map (gathered stores) parts) ≡ map (gathered (stores ++ m ∷ [])) parts
-all_gathered m stores [] = refl
-all_gathered m stores (p ∷ parts) = ap (λ q. q ∷ map (appended m) (map (gathered stores) parts)) (gathered_once m stores p) ∙ ap (λ qs. gathered (stores ++ m ∷ []) p ∷ qs) (all_gathered m stores parts)
-
--- what the places before this one gave
-pub record IsGathered (f : ℕ → Result Store Fault) (place : ℕ) (before now : List Part) : Type 0 where
+-- what the places before this one left
+pub record IsBehind (f : ℕ → Result Store Fault) (place : ℕ) (was now : List Window) : Type 0 where
   pub stores : List Store
   pub are : stores_from f 0 place ≡ Ok stores
-  pub parts : now ≡ map (gathered stores) before
+  pub collected : AreCollected stores was now
 
-none_gathered : (parts : List Part) → parts ≡ map (gathered []) parts
-none_gathered [] = refl
-none_gathered (p ∷ parts) =
-    let e : p.elems ≡ p.elems ++ [] = sym (append-nil p.elems) in
-    ap (λ (zs : List ℤ). record p { elems = zs } ∷ parts) e ∙ ap (λ qs. gathered [] p ∷ qs) (none_gathered parts)
+pub behind_count : (f : ℕ → Result Store Fault) (place : ℕ) (was now : List Window) (h : IsBehind f place was now) → length h.stores ≡ place
+behind_count f place was now h = stores_long f place 0 h.stores h.are
 
-pub gathered_first : (f : ℕ → Result Store Fault) (parts : List Part) → IsGathered f 0 parts parts
-gathered_first f parts = record { stores = []; are = refl; parts = none_gathered parts }
-
-pub gathered_more : (f : ℕ → Result Store Fault) (place : ℕ) (before now after : List Part) (m : Store) → IsGathered f place before now → f place ≡ Ok m → after ≡ map (appended m) now → IsGathered f (place + 1) before after
-gathered_more f place before now after m h is more = record {
+pub behind_more : (f : ℕ → Result Store Fault) (place : ℕ) (was now after : List Window) (m : Store) (h : IsBehind f place was now) → f place ≡ Ok m → AreCollected (h.stores ++ m ∷ []) was after → IsBehind f (place + 1) was after
+behind_more f place was now after m h is more = record {
   stores = h.stores ++ m ∷ [];
   are = (let e : place + 1 ≡ suc place = omega arith in ap (stores_from f 0) e) ∙ stores_more f place 0 place h.stores m (omega arith) h.are is;
-  parts = more ∙ ap (map (appended m)) h.parts ∙ all_gathered m h.stores before;
+  collected = more;
 }
 
-pub gathered_fault : (f : ℕ → Result Store Fault) (place count : ℕ) (before now : List Part) (d : Fault) → place < count → IsGathered f place before now → f place ≡ Err d → stores_from f 0 count ≡ Err (fault_at place d)
-gathered_fault f place count before now d lt h is = stores_fault f place count 0 place h.stores d (omega arith) lt h.are is
+pub behind_fault : (f : ℕ → Result Store Fault) (place count : ℕ) (was now : List Window) (d : Fault) → place < count → IsBehind f place was now → f place ≡ Err d → stores_from f 0 count ≡ Err (fault_at place d)
+behind_fault f place count was now d lt h is = stores_fault f place count 0 place h.stores d (omega arith) lt h.are is
 
-pub collected_all : (f : ℕ → Result Store Fault) (place count : ℕ) (before now : List Part) → place ≡ count → IsGathered f place before now → Collected (Ok tt) before now (stores_from f 0 count)
-collected_all f place count before now same h =
-    let P : Result (List Store) PlacedFault → Type 0 = λ r. Collected (Ok tt) before now r in
-    subst P (sym (ap (stores_from f 0) (sym same) ∙ h.are)) h.parts
-
--- the parts stay those of arguments that aren't inputs
-pub gathered_free : (P : ℕ → Type 0) (stores : List Store) (parts : List Part) → All (λ (p : Part). P p.number) parts → All (λ (p : Part). P p.number) (map (gathered stores) parts)
-gathered_free P stores [] h i d lt = absurd (omega arith)
-gathered_free P stores (p ∷ parts) h zero d lt = h zero d (omega arith)
-gathered_free P stores (p ∷ parts) h (suc i) d lt = gathered_free P stores parts (λ j e lt'. h (suc j) e (omega arith)) i d (omega arith)
+pub behind_all : (f : ℕ → Result Store Fault) (place count : ℕ) (was now : List Window) → place ≡ count → IsBehind f place was now → Collected (Ok tt) was now (stores_from f 0 count)
+behind_all f place count was now same h =
+    let P : Result (List Store) PlacedFault → Type 0 = λ r. Collected (Ok tt) was now r in
+    subst P (sym (ap (stores_from f 0) (sym same) ∙ h.are)) h.collected

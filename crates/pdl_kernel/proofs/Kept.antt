@@ -56,15 +56,15 @@ module _ (R : Store → Store → Type 0) (h : IsKept R) where
   branch_relates m (negsuc n) a b ka kb = ka
 
   mutual
-    pub step_relates : (r : Resolved) (s : Step) (at : List ℕ) (m : Store) → Relates m (step r at s m)
-    step_relates r (repeat d body) at m = turns_relate _ (λ i now. run_relates r body (slice_set at d i) now) _ 0 m
-    step_relates r (choose e whole other) at m = after m (value r.sizes at m e) _ (λ x. branch_relates m x _ _ (run_relates r whole at m) (run_relates r other at m))
-    step_relates r (keep k ty op e) at m = after m (value r.sizes at m e) _ (λ x. after m (changed op (get_or m.locals k (pos 0)) x) _ (λ y. at_once m _ (h.keep m (local_type r.generic ty) k y)))
-    step_relates r (put a is op e) at m = after m (value r.sizes at m e) _ (λ x. after m (indices r.sizes at m is start) _ (λ found. assign_relates m a op x (coordinates_in (argument m a).dims found)))
+    pub step_relates : (r : Resolved) (s : Step) (loops : List ℕ) (m : Store) → Relates m (step r loops s m)
+    step_relates r (repeat d body) loops m = turns_relate _ (λ i now. run_relates r body (slice_set loops d i) now) _ 0 m
+    step_relates r (choose e whole other) loops m = after m (value r.sizes loops m e) _ (λ x. branch_relates m x _ _ (run_relates r whole loops m) (run_relates r other loops m))
+    step_relates r (keep k ty op e) loops m = after m (value r.sizes loops m e) _ (λ x. after m (changed op (get_or m.locals k (pos 0)) x) _ (λ y. at_once m _ (h.keep m (local_type r.generic ty) k y)))
+    step_relates r (put a is op e) loops m = after m (value r.sizes loops m e) _ (λ x. after m (indices r.sizes loops m is start) _ (λ found. assign_relates m a op x (coordinates_in (argument m a).dims found)))
 
-    pub run_relates : (r : Resolved) (c : Code) (at : List ℕ) (m : Store) → Relates m (run r at c m)
-    run_relates r done at m = at_once m m (h.same m)
-    run_relates r (next s rest) at m = then_more m (step r at s m) (run r at rest) (step_relates r s at m) (λ now. run_relates r rest at now)
+    pub run_relates : (r : Resolved) (c : Code) (loops : List ℕ) (m : Store) → Relates m (run r loops c m)
+    run_relates r done loops m = at_once m m (h.same m)
+    run_relates r (next s rest) loops m = then_more m (step r loops s m) (run r loops rest) (step_relates r s loops m) (λ now. run_relates r rest loops now)
 
 -- an array of zeros
 abbrev pub blank : Made → Made

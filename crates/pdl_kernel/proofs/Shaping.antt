@@ -1,24 +1,23 @@
--- What a resolution and a fit kernel give: the shapes of arguments, and which of them code may change.
-use Rattle.std.proofs.Common.{◌≡◌, ◌≢◌, ℕ, zero, suc, ◌+◌, ◌<◌, List, [], ◌∷◌, ◌++◌, map, length, drop, get_or, refl, sym, ap, ◌∙◌, arith}
-use Rattle.std.specs.Prelude.{Bool, true, false, if◌then◌else◌, All}
+-- What a resolution and a fit kernel give: the shapes of arguments, and code over arguments of their kinds.
+use Rattle.std.proofs.Common.{◌≡◌, ◌≢◌, ℕ, zero, suc, ◌<◌, List, [], ◌∷◌, map, length, drop, get_or, refl, sym, ap, subst, ◌∙◌, arith}
+use Rattle.std.specs.Prelude.{true, if◌then◌else◌}
 use Rattle.std.specs.List.{AllZip}
-use Rattle.std.proofs.Math.ListN.{get_or-map}
+use Rattle.std.proofs.lemmas.List.{length-map}
 use Rattle.pdl_buf.specs.declared.made.Made.{Made}
-use Rattle.pdl_sig.specs.Resolution.{core_sizes, given_after, is_given, is_output, made, made_for, shape_of, shapes, type_in}
+use Rattle.pdl_sig.specs.Resolution.{core_sizes, given_after, is_given, made_for, shape_of, shapes, size_in}
 use Rattle.pdl_sig.specs.declared.ArgShape.{ArgShape}
 use Rattle.pdl_sig.specs.declared.Resolved.{Resolved}
 use Rattle.pdl_sig.specs.declared.Role.{Role}
 use Rattle.pdl_sig.specs.declared.Role.TheVariants.{Input, Output, Both, Temp}
 use Rattle.pdl_sig.specs.declared.SigArg.{SigArg}
 use Rattle.pdl_sig.specs.declared.Signature.{Signature}
-use Rattle.pdl_code.specs.Fit.{IsCodeFit, IsStepFit, locals_after}
-use Rattle.pdl_code.specs.Tree.{Step, Code, repeat, choose, keep, put, done, next}
+use Rattle.pdl_code.specs.Fit.{AreIndicesFit, IsCodeFit, IsEachOnce, IsStepFit, IsTreeFit, argument_of, locals_after, rank_of}
+use Rattle.pdl_code.specs.Tree.{Tree, Indices, Step, Code, number, size, index, local, access, unary, binary, none, along, repeat, choose, keep, put, done, next}
 use Rattle.pdl_kernel.specs.Call.{with_given}
-use Rattle.pdl_kernel.specs.Parts.{Part}
-use Rattle.pdl_kernel.specs.Setup.{IsFront, IsShapeOf, heads, source_of}
-use Rattle.pdl_kernel.specs.Sources.{IsCodeFree, IsFree, IsStepFree}
-use Rattle.pdl_kernel.proofs.Laying.{made_front, made_output}
-use Rattle.pdl_kernel.proofs.Starting.{axes_sizes}
+use Rattle.pdl_kernel.specs.Over.{AreIndicesOver, IsCodeOver, IsStepOver, IsTreeOver}
+use Rattle.pdl_kernel.specs.Places.{Kind, is_written, kind_of, rest_of}
+use Rattle.pdl_kernel.specs.Setup.{IsShapeOf, window_of}
+use Rattle.pdl_kernel.proofs.Laying.{axes_long}
 
 shape_made : (role : Role) (given : List ArgShape) (made : List ℕ) → role ≢ Input → shape_of role given made ≡ made
 shape_made Input given made h = absurd (h refl)
@@ -30,38 +29,67 @@ pub shapes_are : (r : Resolved) (args : List SigArg) (given : List ArgShape) →
 shapes_are r [] given = tt
 shapes_are r (a ∷ args) given = (shape_made a.role given (made_for r.sizes r.broadcast a), shapes_are r args (given_after a.role given))
 
-pub fronts_are : (r : Resolved) (args : List SigArg) (given : List Made) (ss : List (List ℕ)) → AllZip (IsShapeOf r) args ss → AllZip IsFront (map (source_of r) (with_given args given)) ss
-fronts_are r [] given [] h = tt
-fronts_are r [] given (s ∷ ss) h = absurd h
-fronts_are r (a ∷ args) given [] h = absurd h
-fronts_are r (a ∷ args) given (s ∷ ss) h = (
-  λ free. let f = made_front a.role (core_sizes r.sizes a) r.broadcast free in (f.0, h.0 free ∙ f.1 ∙ ap (λ (ds : List ℕ). ds ++ f.0) (sym (axes_sizes (core_sizes r.sizes a) _))),
-  fronts_are r args (if is_given a.role then drop 1 given else given) ss h.1,
-)
+written : (r : Role) → r ≢ Input → is_written r ≡ true
+written Input h = absurd (h refl)
+written Output h = refl
+written Both h = refl
+written Temp h = refl
 
-mutual
-  step_free : (s : Signature) (step : Step) (n : ℕ) → IsStepFit s n step → IsStepFree (map (λ a. a.role) s.args) step
-  step_free s (repeat d body) n h = code_free s body n h.1
-  step_free s (choose e whole other) n h = (code_free s whole n h.1, code_free s other n h.2)
-  step_free s (keep k ty op e) n h = tt
-  step_free s (put a is op e) n h = λ same. h.0 (sym (get_or-map (λ (x : SigArg). x.role) s.args a _) ∙ same)
+-- an argument of the signature has a kind: its role, and as many dimensions
+pub record AreKinds (s : Signature) (ks : List Kind) : Type 0 where
+  pub count : length ks ≡ length s.args
+  pub role : (a : ℕ) (d : Kind) → a < length s.args → (get_or ks a d).role ≡ (argument_of s a).role
+  pub rank : (a : ℕ) (d : Kind) → a < length s.args → length (get_or ks a d).axes ≡ rank_of s a
 
-  pub code_free : (s : Signature) (code : Code) (n : ℕ) → IsCodeFit s n code → IsCodeFree (map (λ a. a.role) s.args) code
-  code_free s done n h = tt
-  code_free s (next step rest) n h = (step_free s step n h.0, code_free s rest (locals_after n step) h.1)
+module _ (s : Signature) (ks : List Kind) (h : AreKinds s ks) where
+  mutual
+    tree_over : (t : Tree) (n : ℕ) → IsTreeFit s n t → IsTreeOver ks t
+    tree_over (number z) n f = tt
+    tree_over (size d) n f = tt
+    tree_over (index d) n f = tt
+    tree_over (local k) n f = tt
+    tree_over (access a is) n f =
+        (omega (arith, f.0, h.count), (λ d. subst (λ m. IsEachOnce m is) (sym (h.rank a d f.0)) f.3, indices_over is n (rank_of s a) f.2))
+    tree_over (unary op e) n f = tree_over e n f
+    tree_over (binary op x y) n f = (tree_over x n f.0, tree_over y n f.1)
 
--- outputs are arguments that code may change
-head_free : (r : Resolved) (all : List Role) (a : SigArg) (args : List SigArg) (k : ℕ) → get_or all k Input ≡ a.role → All (λ (p : Part). IsFree all p.number) (heads r (k + 1) args)
-    → (b : Bool) → is_output a.role ≡ b
-    → All (λ (p : Part). IsFree all p.number) (if b then record { number = k; ty = type_in r.generic a.ty; dims = core_sizes r.sizes a ++ r.broadcast; elems = [] } ∷ heads r (k + 1) args else heads r (k + 1) args)
-head_free r all a args k is rest false out i d lt = rest i d lt
-head_free r all a args k is rest true out zero d lt = λ same. (made_output a.role [] [] out).0 (sym is ∙ same)
-head_free r all a args k is rest true out (suc i) d lt = rest i d (omega arith)
+    indices_over : (is : Indices) (n rank : ℕ) → AreIndicesFit s n rank is → AreIndicesOver ks is
+    indices_over none n rank f = tt
+    indices_over (along k e rest) n rank f = (tree_over e n f.1, indices_over rest n rank f.2)
 
-pub heads_free : (r : Resolved) (all : List Role) (args : List SigArg) (k : ℕ) → ((i : ℕ) (d : SigArg) → i < length args → get_or all (k + i) Input ≡ (get_or args i d).role)
-    → All (λ (p : Part). IsFree all p.number) (heads r k args)
-heads_free r all [] k h i d lt = absurd (omega arith)
-heads_free r all (a ∷ args) k h i d lt =
-    head_free r all a args k ((let e : k ≡ k + 0 = omega arith in ap (λ n. get_or all n Input) e) ∙ h 0 a (omega arith))
-    (heads_free r all args (k + 1) (λ i d lt. (let e : k + 1 + i ≡ k + suc i = omega arith in ap (λ n. get_or all n Input) e) ∙ h (suc i) d (omega arith)))
-    (is_output a.role) refl i d lt
+  mutual
+    step_over : (step : Step) (n : ℕ) → IsStepFit s n step → IsStepOver ks step
+    step_over (repeat d body) n f = code_over body n f.1
+    step_over (choose e whole other) n f = (tree_over e n f.0, (code_over whole n f.1, code_over other n f.2))
+    step_over (keep k ty op e) n f = tree_over e n f.1
+    step_over (put a is op e) n f =
+        (λ d. ap is_written (h.role a d f.1.0) ∙ written (argument_of s a).role f.0, (tree_over (access a is) n f.1, tree_over e n f.2))
+
+    pub code_over : (code : Code) (n : ℕ) → IsCodeFit s n code → IsCodeOver ks code
+    code_over done n f = tt
+    code_over (next step rest) n f = (step_over step n f.0, code_over rest (locals_after n step) f.1)
+
+abbrev kinds_in : Resolved → List SigArg → List Made → List Kind
+kinds_in r args given = map kind_of (map rest_of (map (window_of r) (with_given args given)))
+
+kinds_long : (r : Resolved) (args : List SigArg) (given : List Made) → length (kinds_in r args given) ≡ length args
+kinds_long r [] given = refl
+kinds_long r (a ∷ args) given = ap suc (kinds_long r args (if is_given a.role then drop 1 given else given))
+
+kind_role : (r : Resolved) (args : List SigArg) (given : List Made) (k : ℕ) (d : Kind) (e : SigArg) → k < length args → (get_or (kinds_in r args given) k d).role ≡ (get_or args k e).role
+kind_role r [] given k d e lt = absurd (omega (arith, lt))
+kind_role r (a ∷ args) given zero d e lt = refl
+kind_role r (a ∷ args) given (suc k) d e lt = kind_role r args (if is_given a.role then drop 1 given else given) k d e (omega (arith, lt))
+
+kind_rank : (r : Resolved) (args : List SigArg) (given : List Made) (k : ℕ) (d : Kind) (e : SigArg) → k < length args → length (get_or (kinds_in r args given) k d).axes ≡ length (get_or args k e).dims
+kind_rank r [] given k d e lt = absurd (omega (arith, lt))
+kind_rank r (a ∷ args) given zero d e lt = axes_long (core_sizes r.sizes a) _ ∙ length-map a.dims (size_in r.sizes)
+kind_rank r (a ∷ args) given (suc k) d e lt = kind_rank r args (if is_given a.role then drop 1 given else given) k d e (omega (arith, lt))
+
+-- the kinds of the windows that are set up
+pub kinds_are : (r : Resolved) (s : Signature) (given : List Made) → AreKinds s (kinds_in r s.args given)
+kinds_are r s given = record {
+  count = kinds_long r s.args given;
+  role = λ a d lt. kind_role r s.args given a d _ lt;
+  rank = λ a d lt. kind_rank r s.args given a d _ lt;
+}

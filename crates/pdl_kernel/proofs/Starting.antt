@@ -1,47 +1,38 @@
--- What the sources show is what the arguments of a call start with.
-use Rattle.std.proofs.Common.{◌≡◌, ℕ, zero, suc, ◌+◌, ◌*◌, ℤ, pos, List, [], ◌∷◌, ◌++◌, map, length, drop, replicate, get_or, refl, sym, ap, ap₂, ◌∙◌, arith}
-use Rattle.std.specs.Prelude.{Bool, true, false, ◌==◌, if◌then◌else◌, Option, Some, None, Result}
+-- Arguments as they are laid out show what the arguments of a call start with.
+use Rattle.std.proofs.Common.{◌≡◌, ℕ, zero, suc, ◌+◌, ◌*◌, ◌<◌, ℤ, pos, List, [], ◌∷◌, ◌++◌, map, length, drop, replicate, get_or, refl, sym, ap, ap₂, ◌∙◌, arith}
+use Rattle.std.specs.Prelude.{true, All, if◌then◌else◌, Option, Some, None, Result}
 use Rattle.std.specs.List.{range_with_len}
 use Rattle.std.proofs.Math.ListN.{get_or-map}
-use Rattle.std.proofs.lemmas.List.{length-map}
+use Rattle.std.proofs.lemmas.List.{drop_all, length-map}
+use Rattle.std.proofs.lemmas.List.FromFn.{get_or-map-range_with_len, length-map-range_with_len}
 use Rattle.pdl_elem.specs.declared.Ty.{Ty}
 use Rattle.pdl_elem.specs.declared.Ty.TheVariants.{Sbyte, Byte, Short, Ushort, Long, Ulong, Longlong}
 use Rattle.pdl_elem.specs.Numbers.{wrapped}
 use Rattle.pdl_shape.specs.Broadcast.{cut_to}
-use Rattle.pdl_shape.specs.Shape.{coordinates_of, position_of, size_of}
+use Rattle.pdl_shape.specs.Laws.{PositionLaws}
+use Rattle.pdl_shape.specs.Shape.{IsWithin, coordinates_of, position_of, size_of}
 use Rattle.pdl_buf.specs.declared.made.Made.{Made}
 use Rattle.pdl_sig.specs.Refusals.{names_limit}
-use Rattle.pdl_sig.specs.Resolution.{core_sizes, is_given, size_in, type_in}
+use Rattle.pdl_sig.specs.Resolution.{core_sizes, is_given, is_output, made, made_for, size_in, type_in}
 use Rattle.pdl_sig.specs.declared.Resolved.{Resolved}
+use Rattle.pdl_sig.specs.declared.Role.{Role}
+use Rattle.pdl_sig.specs.declared.Role.TheVariants.{Input, Output, Both, Temp}
 use Rattle.pdl_sig.specs.declared.SigArg.{SigArg}
 use Rattle.pdl_code.specs.Fit.{code_locals}
 use Rattle.pdl_code.specs.Tree.{Code}
 use Rattle.pdl_kernel.specs.declared.faults.Fault.{Fault}
-use Rattle.pdl_kernel.specs.Call.{outcome, start_element, started, store_before, stores_from, with_given}
+use Rattle.pdl_kernel.specs.declared.scene.Scene.{Scene}
+use Rattle.pdl_kernel.specs.Call.{first_given, outcome, start_element, started, store_before, stores_from, with_given}
+use Rattle.pdl_kernel.specs.Collecting.{IsLaid}
 use Rattle.pdl_kernel.specs.Meaning.{Store, run}
-use Rattle.pdl_kernel.specs.Setup.{given_elems, given_steps, source_of}
-use Rattle.pdl_kernel.specs.Sources.{Source, axes_of, dot, element_seen, left_in_order, moved_to, reach, roles_of, array_of_source, sizes_of, steps_from}
+use Rattle.pdl_kernel.specs.Places.{array_seen, axes_of, begun_at, cleared, count_of, dot, reach, sizes_of, strides_from}
+use Rattle.pdl_kernel.specs.Scenes.{left_in_order}
+use Rattle.pdl_kernel.specs.Setup.{elems_with, given_elems, given_strides, start_elems, strides_with, window_of}
+use Rattle.pdl_kernel.proofs.Collecting.{output_written}
+use Rattle.pdl_kernel.proofs.Finding.{stretch, uncut}
+use Rattle.pdl_kernel.proofs.Laying.{axes_sizes, laid_in_order, size_parts, strides_long, zeros_are}
 
--- steps of a given array, 0 along a size of 1, lead to the place that broadcasting names
-stretch : (n : ℕ) (gs cs : List ℕ) → dot (steps_from n gs) cs ≡ n * position_of gs (cut_to gs cs)
-stretch n [] cs = omega arith
-stretch n (g ∷ gs) [] = omega arith
-stretch n (g ∷ gs) (c ∷ cs) = by (g == 1) refl (stretch (n * g) gs cs)
-  where
-    by : (b : Bool) → (g == 1) ≡ b → dot (steps_from (n * g) gs) cs ≡ (n * g) * position_of gs (cut_to gs cs)
-        → (if b then 0 else n) * c + dot (steps_from (n * g) gs) cs ≡ n * ((if b then 0 else c) + g * position_of gs (cut_to gs cs))
-    by true one rest = rw rest (grind arith)
-    by false other rest = rw rest (grind arith)
-
-pub axes_sizes : (ds ss : List ℕ) → sizes_of (axes_of ds ss) ≡ ds
-axes_sizes [] ss = refl
-axes_sizes (d ∷ ds) [] = ap (λ xs. d ∷ xs) (axes_sizes ds [])
-axes_sizes (d ∷ ds) (s ∷ ss) = ap (λ xs. d ∷ xs) (axes_sizes ds ss)
-
-dot_none : (bs : List ℕ) → dot [] bs ≡ 0
-dot_none bs = refl
-
--- core steps and outer steps
+-- core strides and outer strides
 reach_parts : (core ss cs bs : List ℕ) → length cs ≡ length core → dot (drop (length core) ss) bs + reach (axes_of core ss) cs ≡ dot ss (cs ++ bs)
 reach_parts [] ss [] bs n = omega arith
 reach_parts [] ss (c ∷ cs) bs n = absurd (omega (arith, n))
@@ -71,56 +62,177 @@ zero_stays Long = refl
 zero_stays Ulong = refl
 zero_stays Longlong = refl
 
-map_same : {X Y : Type 0} (f g : X → Y) → ((x : X) → f x ≡ g x) → (xs : List X) → map f xs ≡ map g xs
-map_same f g each [] = refl
-map_same f g each (x ∷ xs) = ap (λ ys. f x ∷ ys) (map_same f g each xs) ∙ ap (λ y. y ∷ map g xs) (each x)
+map_in_range : {X : Type 0} (f g : ℕ → X) (a n : ℕ) → ((q : ℕ) → q < a + n → f q ≡ g q) → map f (range_with_len a n) ≡ map g (range_with_len a n)
+map_in_range f g a zero each = refl
+map_in_range f g a (suc n) each =
+    ap (λ y. y ∷ map f (range_with_len (a + 1) n)) (each a (omega arith)) ∙ ap (λ ys. g a ∷ ys) (map_in_range f g (a + 1) n (λ q lt. each q (omega (arith, lt))))
 
--- the element of a source is what the argument starts with
-element_is : (ty : Ty) (core : List ℕ) (n : ℕ) (given : Option Made) (bs : List ℕ) (p : ℕ) → n ≡ length core
-    → element_seen (dot (drop n (given_steps given)) bs) (axes_of core (given_steps given)) (given_elems ty given) p ≡ start_element ty given (coordinates_of core p ++ bs)
-element_is ty core n None bs p count = refl
-element_is ty core n (Some g) bs p count =
-    let ss = steps_from 1 g.dims in
+-- an argument of core sizes, at broadcast coordinates, by its strides and its elements
+abbrev shown_with : Ty → (core : List ℕ) → (rank : ℕ) → (bs strides : List ℕ) → List ℤ → Made
+shown_with ty core n bs ss es = array_seen (record { role = Input; ty = ty; axes = axes_of core ss; outer = []; elems = es; start = dot (drop n ss) bs })
+
+shown_is : (ty : Ty) (core : List ℕ) (n : ℕ) (bs ss : List ℕ) (es : List ℤ) (f : ℕ → ℤ)
+    → ((q : ℕ) → q < size_of core → get_or es (dot (drop n ss) bs + reach (axes_of core ss) (coordinates_of core q)) (pos 0) ≡ f q)
+    → ◌≡◌ {A = Made} (shown_with ty core n bs ss es) (record { ty = ty; dims = core; elems = map f (range_with_len 0 (size_of core)) })
+shown_is ty core n bs ss es f each =
     let axes = axes_of core ss in
+    let seen : List ℕ → ℕ → ℤ = λ ds p. get_or es (dot (drop n ss) bs + reach axes (coordinates_of ds p)) (pos 0) in
+    let elems : map (seen (sizes_of axes)) (range_with_len 0 (size_of (sizes_of axes))) ≡ map f (range_with_len 0 (size_of core)) =
+    ap (λ (ds : List ℕ). map (seen ds) (range_with_len 0 (size_of ds))) (axes_sizes core ss)
+    ∙ map_in_range (seen core) f 0 (size_of core) (λ q lt. each q (omega (arith, lt))) in
+    ap₂ (λ (ds : List ℕ) (es : List ℤ). let m : Made = record { ty = ty; dims = ds; elems = es } in m) (axes_sizes core ss) elems
+
+-- the element of an input
+input_element : (ty : Ty) (core : List ℕ) (n : ℕ) (given : Option Made) (bs : List ℕ) (p : ℕ) → n ≡ length core
+    → get_or (given_elems ty given) (dot (drop n (given_strides given)) bs + reach (axes_of core (given_strides given)) (coordinates_of core p)) (pos 0) ≡ start_element ty given (coordinates_of core p ++ bs)
+input_element ty core n None bs p count = refl
+input_element ty core n (Some g) bs p count =
+    let ss = strides_from 1 g.dims in
     let cs = coordinates_of core p in
-    let at : dot (drop n ss) bs + reach axes (coordinates_of (sizes_of axes) p) ≡ position_of g.dims (cut_to g.dims (cs ++ bs)) =
-    ap (λ (ds : List ℕ). dot (drop n ss) bs + reach axes (coordinates_of ds p)) (axes_sizes core ss)
-    ∙ ap (λ (k : ℕ). dot (drop k ss) bs + reach axes cs) count
+    let at : dot (drop n ss) bs + reach (axes_of core ss) cs ≡ position_of g.dims (cut_to g.dims (cs ++ bs)) =
+    ap (λ (k : ℕ). dot (drop k ss) bs + reach (axes_of core ss) cs) count
     ∙ reach_parts core ss cs bs (coordinates_long core p)
     ∙ (let e = stretch 1 g.dims (cs ++ bs) in omega (arith, e)) in
     ap (λ (i : ℕ). get_or (map (wrapped ty) g.elems) i (pos 0)) at
     ∙ ap (get_or (map (wrapped ty) g.elems) (position_of g.dims (cut_to g.dims (cs ++ bs)))) (sym (zero_stays ty))
     ∙ get_or-map (wrapped ty) g.elems (position_of g.dims (cut_to g.dims (cs ++ bs))) (pos 0)
 
-source_shown : (r : Resolved) (bs : List ℕ) (a : SigArg × Option Made) → array_of_source (moved_to bs (source_of r a)) ≡ started r bs a
-source_shown r bs a =
-    let ty = type_in r.generic a.0.ty in
-    let core = core_sizes r.sizes a.0 in
-    let ss = given_steps a.1 in
-    let axes = axes_of core ss in
-    let count : length a.0.dims ≡ length core = sym (length-map a.0.dims (size_in r.sizes)) in
-    let seen = element_seen (dot (drop (length a.0.dims) ss) bs) axes (given_elems ty a.1) in
-    let elems : map seen (range_with_len 0 (size_of (sizes_of axes))) ≡ map (λ q. start_element ty a.1 (coordinates_of core q ++ bs)) (range_with_len 0 (size_of core)) =
-    ap (λ (ds : List ℕ). map seen (range_with_len 0 (size_of ds))) (axes_sizes core ss)
-    ∙ map_same seen (λ q. start_element ty a.1 (coordinates_of core q ++ bs)) (λ q. element_is ty core (length a.0.dims) a.1 bs q count) (range_with_len 0 (size_of core)) in
-    ap₂ (λ (ds : List ℕ) (es : List ℤ). let m : Made = record { ty = ty; dims = ds; elems = es } in m) (axes_sizes core ss) elems
+within_both : (xs ys cs bs : List ℕ) → IsWithin xs cs → IsWithin ys bs → IsWithin (xs ++ ys) (cs ++ bs)
+within_both [] ys [] bs w v = v
+within_both [] ys (c ∷ cs) bs w v = absurd w
+within_both (x ∷ xs) ys [] bs w v = absurd w
+within_both (x ∷ xs) ys (c ∷ cs) bs w v = (w.0, within_both xs ys cs bs w.1 v)
 
-sources_shown : (r : Resolved) (bs : List ℕ) (pairs : List (SigArg × Option Made)) → map (λ s. array_of_source (moved_to bs s)) (map (source_of r) pairs) ≡ map (started r bs) pairs
-sources_shown r bs [] = refl
-sources_shown r bs (a ∷ pairs) = ap (λ m. m ∷ map (λ s. array_of_source (moved_to bs s)) (map (source_of r) pairs)) (source_shown r bs a) ∙ ap (λ ms. started r bs a ∷ ms) (sources_shown r bs pairs)
+-- the element of an output
+output_element : PositionLaws → (ty : Ty) (core broadcast : List ℕ) (n : ℕ) (given : Option Made) (bs : List ℕ) (q : ℕ) → n ≡ length core → IsWithin broadcast bs → q < size_of core
+    → (let ss = strides_from 1 (core ++ broadcast) in get_or (start_elems ty (core ++ broadcast) given) (dot (drop n ss) bs + reach (axes_of core ss) (coordinates_of core q)) (pos 0)) ≡ start_element ty given (coordinates_of core q ++ bs)
+output_element laws ty core broadcast n given bs q count inside lt =
+    let shape = core ++ broadcast in
+    let ss = strides_from 1 shape in
+    let cs = coordinates_of core q in
+    let w : IsWithin shape (cs ++ bs) = within_both core broadcast cs bs (laws.coordinates_within core q lt) inside in
+    let p = position_of shape (cs ++ bs) in
+    let at : dot (drop n ss) bs + reach (axes_of core ss) cs ≡ p =
+    ap (λ (k : ℕ). dot (drop k ss) bs + reach (axes_of core ss) cs) count
+    ∙ reach_parts core ss cs bs (coordinates_long core q)
+    ∙ (let e = stretch 1 shape (cs ++ bs) in let z : dot ss (cs ++ bs) ≡ position_of shape (cut_to shape (cs ++ bs)) = omega (arith, e) in z)
+    ∙ ap (position_of shape) (uncut shape (cs ++ bs) w) in
+    let f : ℕ → ℤ = λ i. start_element ty given (coordinates_of shape i) in
+    ap (λ (i : ℕ). get_or (start_elems ty shape given) i (pos 0)) at
+    ∙ get_or-map-range_with_len f 0 (size_of shape) p p (pos 0) (laws.position_below shape (cs ++ bs) w) (omega arith)
+    ∙ ap (start_element ty given) (laws.coordinates_again shape (cs ++ bs) w)
+
+zero_anywhere : (n i : ℕ) → get_or (replicate n (pos 0)) i (pos 0) ≡ pos 0
+zero_anywhere zero i = refl
+zero_anywhere (suc n) zero = refl
+zero_anywhere (suc n) (suc i) = zero_anywhere n i
+
+pub given_none : (r : Role) (given : List Made) → r ≡ Temp → first_given (is_given r) given ≡ None
+given_none r given e = ap (λ (x : Role). first_given (is_given x) given) e
+
+module _ (laws : PositionLaws) (r : Resolved) (a : SigArg) (given : Option Made) (none : a.role ≡ Temp → given ≡ None) where
+  abbrev ty : Ty
+  ty = type_in r.generic a.ty
+
+  abbrev core : List ℕ
+  core = core_sizes r.sizes a
+
+  rank : length a.dims ≡ length core
+  rank = sym (length-map a.dims (size_in r.sizes))
+
+  abbrev At : (coordinates : List ℕ) → Role → Made
+  At bs x = shown_with ty core (length a.dims) bs (strides_with x (made x core r.broadcast) given) (cleared x (elems_with x ty (made x core r.broadcast) given))
+
+  output_shown : (bs : List ℕ) → IsWithin r.broadcast bs → shown_with ty core (length a.dims) bs (strides_from 1 (core ++ r.broadcast)) (start_elems ty (core ++ r.broadcast) given) ≡ started r bs (a, given)
+  output_shown bs inside = shown_is ty core (length a.dims) bs (strides_from 1 (core ++ r.broadcast)) (start_elems ty (core ++ r.broadcast) given) (λ q. start_element ty given (coordinates_of core q ++ bs))
+      (λ q lt. output_element laws ty core r.broadcast (length a.dims) given bs q rank inside lt)
+
+  -- what an argument shows at broadcast coordinates
+  pub window_shown : (bs : List ℕ) → IsWithin r.broadcast bs → array_seen (begun_at bs (window_of r (a, given))) ≡ started r bs (a, given)
+  window_shown bs inside = by a.role refl
+    where
+      by : (x : Role) → a.role ≡ x → array_seen (begun_at bs (window_of r (a, given))) ≡ started r bs (a, given)
+      by Input e = ap (At bs) e ∙ shown_is ty core (length a.dims) bs (given_strides given) (given_elems ty given) (λ q. start_element ty given (coordinates_of core q ++ bs)) (λ q lt. input_element ty core (length a.dims) given bs q rank)
+      by Output e = ap (At bs) e ∙ output_shown bs inside
+      by Both e = ap (At bs) e ∙ output_shown bs inside
+      by Temp e = ap (At bs) e ∙ shown_is ty core (length a.dims) bs (strides_from 1 core) (replicate (length (start_elems ty core given)) (pos 0)) (λ q. start_element ty given (coordinates_of core q ++ bs))
+          (λ q lt. zero_anywhere (length (start_elems ty core given)) (dot (drop (length a.dims) (strides_from 1 core)) bs + reach (axes_of core (strides_from 1 core)) (coordinates_of core q))
+          ∙ sym (ap (λ g. start_element ty g (coordinates_of core q ++ bs)) (none e)))
+
+  output_shape : (x : Role) → is_output x ≡ true → made x core r.broadcast ≡ core ++ r.broadcast
+  output_shape Input h = cc
+  output_shape Output h = refl
+  output_shape Both h = refl
+  output_shape Temp h = cc
+
+  output_strides : (x : Role) (shape : List ℕ) → is_output x ≡ true → strides_with x shape given ≡ strides_from 1 shape
+  output_strides Input shape h = cc
+  output_strides Output shape h = refl
+  output_strides Both shape h = refl
+  output_strides Temp shape h = cc
+
+  output_elems : (x : Role) (shape : List ℕ) → is_output x ≡ true → elems_with x ty shape given ≡ start_elems ty shape given
+  output_elems Input shape h = cc
+  output_elems Output shape h = refl
+  output_elems Both shape h = refl
+  output_elems Temp shape h = cc
+
+  outer_strides : (n : ℕ) (ds rest : List ℕ) → drop (length ds) (strides_from n (ds ++ rest)) ≡ strides_from (n * size_of ds) rest
+  outer_strides n [] rest = let e : n ≡ n * 1 = omega arith in ap (λ k. strides_from k rest) e
+  outer_strides n (d ∷ ds) rest = outer_strides (n * d) ds rest ∙ (let e : (n * d) * size_of ds ≡ n * (d * size_of ds) = grind arith in ap (λ k. strides_from k rest) e)
+
+  counted : count_of (window_of r (a, given)) ≡ size_of core
+  counted = ap size_of (axes_sizes core (strides_with a.role (made_for r.sizes r.broadcast a) given))
+
+  -- an argument is laid out over the broadcast places
+  pub window_laid : IsLaid r.broadcast (window_of r (a, given))
+  window_laid = record {
+    in_order = λ out. laid_in_order a.role core r.broadcast (made_for r.sizes r.broadcast a) given (output_written a.role out) (λ free. refl);
+    behind = λ out p lt.
+        let bs = coordinates_of r.broadcast p in
+        let ss : strides_with a.role (made_for r.sizes r.broadcast a) given ≡ strides_from 1 (core ++ r.broadcast) = output_strides a.role (made_for r.sizes r.broadcast a) out ∙ ap (strides_from 1) (output_shape a.role out) in
+        let one : 1 * size_of core ≡ size_of core = omega arith in
+        let outer : drop (length a.dims) (strides_with a.role (made_for r.sizes r.broadcast a) given) ≡ strides_from (size_of core) r.broadcast =
+        ap (λ k. drop k (strides_with a.role (made_for r.sizes r.broadcast a) given)) rank ∙ ap (drop (length core)) ss ∙ outer_strides 1 core r.broadcast ∙ ap (λ k. strides_from k r.broadcast) one in
+        ap (λ os. dot os bs) outer ∙ stretch (size_of core) r.broadcast bs
+        ∙ ap (λ cs. size_of core * position_of r.broadcast cs) (uncut r.broadcast bs (laws.coordinates_within r.broadcast p lt))
+        ∙ ap (λ k. size_of core * k) (laws.position_again r.broadcast p lt) ∙ ap (λ k. k * p) (sym counted);
+    filled = λ out.
+        ap (length {A = ℤ}) (output_elems a.role (made_for r.sizes r.broadcast a) out) ∙ length-map-range_with_len (λ q. start_element ty given (coordinates_of (made_for r.sizes r.broadcast a) q)) 0 (size_of (made_for r.sizes r.broadcast a))
+        ∙ ap size_of (output_shape a.role out) ∙ size_parts core r.broadcast ∙ ap (λ k. k * size_of r.broadcast) (sym counted);
+    still = λ temp.
+        ap (λ (x : Role). drop (length a.dims) (strides_with x (made x core r.broadcast) given)) temp
+        ∙ drop_all (length a.dims) (strides_from 1 core) (omega (arith, rank, strides_long 1 core));
+    zeros = λ temp.
+        ap (λ (x : Role). elems_with x ty (made x core r.broadcast) given) temp ∙ ap (start_elems ty core) (none temp)
+        ∙ sym (zeros_are ty core (count_of (window_of r (a, given))) counted);
+  }
+
+-- all arguments show what they start with
+windows_shown : PositionLaws → (r : Resolved) (bs : List ℕ) → IsWithin r.broadcast bs → (args : List SigArg) (given : List Made)
+    → map (λ w. array_seen (begun_at bs w)) (map (window_of r) (with_given args given)) ≡ map (started r bs) (with_given args given)
+windows_shown laws r bs inside [] given = refl
+windows_shown laws r bs inside (a ∷ args) given =
+    let rest = if is_given a.role then drop 1 given else given in
+    ap (λ m. m ∷ map (λ w. array_seen (begun_at bs w)) (map (window_of r) (with_given args rest))) (window_shown laws r a (first_given (is_given a.role) given) (given_none a.role given) bs inside)
+    ∙ ap (λ ms. started r bs (a, first_given (is_given a.role) given) ∷ ms) (windows_shown laws r bs inside args rest)
+
+pub windows_laid : PositionLaws → (r : Resolved) (args : List SigArg) (given : List Made) → All (IsLaid r.broadcast) (map (window_of r) (with_given args given))
+windows_laid laws r [] given i d lt = absurd (omega (arith, lt))
+windows_laid laws r (a ∷ args) given zero d lt = window_laid laws r a (first_given (is_given a.role) given) (given_none a.role given)
+windows_laid laws r (a ∷ args) given (suc i) d lt = windows_laid laws r args (if is_given a.role then drop 1 given else given) i d (omega (arith, lt))
 
 -- what the walk finds at a place is what the definition says
-pub outcome_is : (args : List SigArg) (code : Code) (r : Resolved) (given : List Made) (sources : List Source) (n p : ℕ) → sources ≡ map (source_of r) (with_given args given) → n ≡ code_locals 0 code
-    → left_in_order r code sources n p ≡ outcome args code r given p
-outcome_is args code r given sources n p are count =
-    ap (λ (ss : List Source). left_in_order r code ss n p) are
-    ∙ ap (λ (k : ℕ). left_in_order r code (map (source_of r) (with_given args given)) k p) count
-    ∙ ap (λ (ms : List Made). run r (replicate names_limit 0) code (record { arguments = ms; locals = replicate (code_locals 0 code) (pos 0) })) (sources_shown r (coordinates_of r.broadcast p) (with_given args given))
+pub outcome_is : PositionLaws → (args : List SigArg) (code : Code) (r : Resolved) (given : List Made) (s : Scene) (p : ℕ) → p < size_of r.broadcast
+    → s.arguments.items ≡ map (window_of r) (with_given args given) → length s.locals.items ≡ code_locals 0 code → left_in_order r code s p ≡ outcome args code r given p
+outcome_is laws args code r given s p lt are count =
+    let bs = coordinates_of r.broadcast p in
+    let R : List Made → ℕ → Result Store Fault = λ ms k. run r (replicate names_limit 0) code (record { arguments = ms; locals = replicate k (pos 0) }) in
+    ap (λ ws. R (map (λ w. array_seen (begun_at bs w)) ws) (length s.locals.items)) are
+    ∙ ap (R (map (λ w. array_seen (begun_at bs w)) (map (window_of r) (with_given args given)))) count
+    ∙ ap (λ ms. R ms (code_locals 0 code)) (windows_shown laws r bs (laws.coordinates_within r.broadcast p lt) args given)
 
-pub stores_same : (f g : ℕ → Result Store Fault) → ((p : ℕ) → f p ≡ g p) → (n p : ℕ) → stores_from f p n ≡ stores_from g p n
-stores_same f g each zero p = refl
-stores_same f g each (suc n) p = ap (λ x. store_before p x (stores_from f (p + 1) n)) (each p) ∙ ap (store_before p (g p)) (stores_same f g each n (p + 1))
-
-pub roles_are : (r : Resolved) (args : List SigArg) (given : List Made) → roles_of (map (source_of r) (with_given args given)) ≡ map (λ a. a.role) args
-roles_are r [] given = refl
-roles_are r (a ∷ args) given = ap (λ rs. a.role ∷ rs) (roles_are r args (if is_given a.role then drop 1 given else given))
+pub stores_same : (f g : ℕ → Result Store Fault) (n p : ℕ) → ((q : ℕ) → q < p + n → f q ≡ g q) → stores_from f p n ≡ stores_from g p n
+stores_same f g zero p each = refl
+stores_same f g (suc n) p each =
+    ap (λ x. store_before p x (stores_from f (p + 1) n)) (each p (omega arith)) ∙ ap (store_before p (g p)) (stores_same f g n (p + 1) (λ q lt. each q (omega (arith, lt))))

@@ -4,7 +4,7 @@ use Rattle.pdl_code.specs.Tree.{Step, Code, repeat, choose, keep, put, done, nex
 
 abbrev mutual
   pub step_weight : Step → ℕ
-  step_weight (repeat d body) = code_weight body + 5
+  step_weight (repeat d body) = code_weight body + 4
   step_weight (choose e whole other) = code_weight whole + code_weight other + 2
   step_weight (keep k kind op e) = 1
   step_weight (put a is op e) = 1

@@ -13,17 +13,10 @@ coordinates_in (d ∷ ds) (negsuc i ∷ is) = None
 coordinates_in (d ∷ ds) (pos i ∷ is) =
     if nat_lt i d then option_map (λ cs. i ∷ cs) (coordinates_in ds is) else None
 
--- the position of the element at indices, where each is from 0 to its size less 1
-abbrev pub position_in : Made → (indices : List ℤ) → Option ℕ
-position_in a is = option_map (position_of a.dims) (coordinates_in a.dims is)
-
 -- the element at coordinates
 abbrev pub element : Made → List ℕ → ℤ
 element a cs = get_or a.elems (position_of a.dims cs) (pos 0)
 
--- with a number, wrapped to the argument's type, at a position, and at coordinates
-abbrev pub stored_at : Made → (position : ℕ) → ℤ → Made
-stored_at a p x = record a { elems = slice_set a.elems p (wrapped a.ty x) }
-
+-- with a number, wrapped to the argument's type, at coordinates
 abbrev pub stored : Made → List ℕ → ℤ → Made
-stored a cs x = stored_at a (position_of a.dims cs) x
+stored a cs x = record a { elems = slice_set a.elems (position_of a.dims cs) (wrapped a.ty x) }

@@ -15,7 +15,7 @@ use Rattle.pdl_code.specs.declared.tree.LocalType.TheVariants.{Long, Longlong, G
 use Rattle.pdl_code.specs.Tree.{Tree, Indices, Step, Code, number, size, index, local, access, unary, binary, none, along, repeat, choose, keep, put, done, next}
 use Rattle.pdl_kernel.specs.declared.faults.Fault.{Fault}
 use Rattle.pdl_kernel.specs.declared.faults.Fault.TheVariants.{DivideByZero, IndexOutOfRange}
-use Rattle.pdl_kernel.specs.Arrays.{coordinates_in, element, stored, stored_at}
+use Rattle.pdl_kernel.specs.Arrays.{coordinates_in, element, stored}
 
 -- a number for each argument and core coordinates, and for each local
 pub record Store : Type 0 where
@@ -52,8 +52,8 @@ nothing = record { ty = Byte; dims = []; elems = [] }
 abbrev pub argument : Store → ℕ → Made
 argument m a = get_or m.arguments a nothing
 
-abbrev pub or_range : Option (List ℕ) → Result (List ℕ) Fault
-or_range (Some cs) = Ok cs
+abbrev pub or_range : {A : Type 0} → Option A → Result A Fault
+or_range (Some x) = Ok x
 or_range None = Err IndexOutOfRange
 
 -- the element at indices
@@ -66,11 +66,6 @@ assigned a op x is =
     and_then (or_range (coordinates_in a.dims is)) (λ cs.
     and_then (changed op (element a cs) x) (λ y. Ok (stored a cs y)))
 
--- after an assignment of a number to the element at a position
-abbrev pub assigned_at : Made → Option BinaryOp → ℤ → (position : ℕ) → Result Made Fault
-assigned_at a op x p = and_then (changed op (get_or a.elems p (pos 0)) x) (λ y.
-    Ok (stored_at a p y))
-
 -- a store with another array for an argument
 abbrev pub with_argument : Store → ℕ → Made → Result Store Fault
 with_argument m k a = Ok (record m { arguments = slice_set m.arguments k a })
@@ -80,24 +75,24 @@ abbrev pub start : List ℤ
 start = replicate names_limit (pos 0)
 
 abbrev mutual
-  -- the number of an expression, where `at` has the index of the loop over each dimension
-  pub value : (sizes at : List ℕ) → Store → Tree → Result ℤ Fault
-  value sizes at m (number n) = Ok n
-  value sizes at m (size d) = Ok (pos (size_in sizes d))
-  value sizes at m (index d) = Ok (pos (get_or at d 0))
-  value sizes at m (local k) = Ok (get_or m.locals k (pos 0))
-  value sizes at m (access a is) = and_then (indices sizes at m is start)
+  -- the number of an expression, where `loops` has the index of the loop over each dimension
+  pub value : (sizes loops : List ℕ) → Store → Tree → Result ℤ Fault
+  value sizes loops m (number n) = Ok n
+  value sizes loops m (size d) = Ok (pos (size_in sizes d))
+  value sizes loops m (index d) = Ok (pos (get_or loops d 0))
+  value sizes loops m (local k) = Ok (get_or m.locals k (pos 0))
+  value sizes loops m (access a is) = and_then (indices sizes loops m is start)
       (element_at (argument m a))
-  value sizes at m (unary op e) = and_then (value sizes at m e) (λ x.
+  value sizes loops m (unary op e) = and_then (value sizes loops m e) (λ x.
       Ok (unary_value op LonglongTy x))
-  value sizes at m (binary op e f) = and_then (value sizes at m e) (λ x.
-      and_then (value sizes at m f) (operate op x))
+  value sizes loops m (binary op e f) = and_then (value sizes loops m e) (λ x.
+      and_then (value sizes loops m f) (operate op x))
 
   -- indices, each put at the place of its dimension, in the order in which they stand
-  pub indices : (sizes at : List ℕ) → Store → Indices → List ℤ → Result (List ℤ) Fault
-  indices sizes at m none is = Ok is
-  indices sizes at m (along k e rest) is =
-      and_then (value sizes at m e) (λ i. indices sizes at m rest (slice_set is k i))
+  pub indices : (sizes loops : List ℕ) → Store → Indices → List ℤ → Result (List ℤ) Fault
+  indices sizes loops m none is = Ok is
+  indices sizes loops m (along k e rest) is =
+      and_then (value sizes loops m e) (λ i. indices sizes loops m rest (slice_set is k i))
 
 -- f at the n numbers from i on, until a fault
 abbrev pub turns : {A : Type 0} → (ℕ → A → Result A Fault) → (i n : ℕ) → A → Result A Fault
@@ -115,20 +110,20 @@ kept ty k m x = record m { locals = slice_set m.locals k (wrapped ty x) }
 
 abbrev mutual
   -- one statement: the right side first, then the indices, then the operation
-  pub step : Resolved → (at : List ℕ) → Step → Store → Result Store Fault
-  step r at (repeat d body) m = turns (λ i now. run r (slice_set at d i) body now)
+  pub step : Resolved → (loops : List ℕ) → Step → Store → Result Store Fault
+  step r loops (repeat d body) m = turns (λ i now. run r (slice_set loops d i) body now)
       0 (size_in r.sizes d) m
-  step r at (choose e whole other) m =
-      and_then (value r.sizes at m e) (λ x. branch x (run r at whole m) (run r at other m))
-  step r at (keep k ty op e) m =
-      and_then (value r.sizes at m e) (λ x.
+  step r loops (choose e whole other) m =
+      and_then (value r.sizes loops m e) (λ x. branch x (run r loops whole m) (run r loops other m))
+  step r loops (keep k ty op e) m =
+      and_then (value r.sizes loops m e) (λ x.
       and_then (changed op (get_or m.locals k (pos 0)) x) (λ y.
       Ok (kept (local_type r.generic ty) k m y)))
-  step r at (put a is op e) m =
-      and_then (value r.sizes at m e) (λ x. and_then (indices r.sizes at m is start) (λ is.
+  step r loops (put a is op e) m =
+      and_then (value r.sizes loops m e) (λ x. and_then (indices r.sizes loops m is start) (λ is.
       and_then (assigned (argument m a) op x is) (with_argument m a)))
 
   -- statements one after another
-  pub run : Resolved → (at : List ℕ) → Code → Store → Result Store Fault
-  run r at done m = Ok m
-  run r at (next s rest) m = and_then (step r at s m) (run r at rest)
+  pub run : Resolved → (loops : List ℕ) → Code → Store → Result Store Fault
+  run r loops done m = Ok m
+  run r loops (next s rest) m = and_then (step r loops s m) (run r loops rest)

@@ -1,69 +1,20 @@
 //! Places in flat buffers.
-ghost use Rattle.std.specs.Prelude.{◌≡◌, ◌≤◌, ◌<◌, get_or, slice_set, length, pos, All, IfSome};
-ghost use Rattle.pdl_shape.specs.Shape.{extent_limit, size_of, coordinates_of};
-ghost use Rattle.pdl_kernel.specs.Sources.{IsSmall, dot, found, reach, sizes_of};
-
-use pdl_shape::shape_laws;
+ghost use Rattle.std.specs.Prelude.{◌≡◌, ◌≤◌, ◌<◌, ◌+◌, ℕ, get_or, slice_set, length, pos, All, IfNone, IfSome};
+ghost use Rattle.pdl_shape.specs.Shape.{extent_limit};
+ghost use Rattle.pdl_kernel.specs.Places.{IsSmall, dot, moved};
 
 /// A core dimension of an argument: its size, and how far one step along it goes in the buffer.
 #[derive(Clone, Copy, Debug)]
 pub struct Axis {
     pub size: u32,
-    pub step: u32,
+    pub stride: u32,
 }
 
-/// Where the elements of an argument lie: in a buffer, from a place on.
-#[derive(Clone, Copy)]
-pub struct Layout<'a> {
-    pub axes: &'a [Axis],
-    pub start: usize,
-    pub elems: &'a [i64],
-}
-
-/// The most dimensions that a signature names, and so the most that an argument has.
-pub const MOST: usize = 8;
-
-/// The place of indices in a buffer, from a place on. None where one is out of range.
-pub fn find(axes: &[Axis], start: usize, at: &[i64; MOST]) -> Option<usize>
-    requires small { All IsSmall axes.now }
-    requires start { start ≤ 1152921504606846976 }
-    ensures { result ≡ found axes.now at.now start }
-{
-    let mut place = start;
-    for (k, axis) in axes.iter().enumerate() {
-        if k >= MOST {
-            return None;
-        }
-        let index = at[k];
-        if index < 0 || index >= i64::from(axis.size) {
-            return None;
-        }
-        place += axis.step as usize * index as usize;
-    }
-    Some(place)
-}
-
-/// The index of the loop over a dimension.
+/// An index, where it is from 0 to a size less 1.
 #[inline(always)]
-pub fn loop_index(at: &[u32; MOST], dimension: usize) -> u32
-    ensures { result ≡ get_or at.now dimension 0 }
-{
-    if dimension < MOST { at[dimension] } else { 0 }
-}
-
-/// Sets the index of the loop over a dimension.
-pub fn set_index(at: &mut [u32; MOST], dimension: usize, i: u32)
-    ensures { at.new ≡ slice_set at.old dimension i }
-{
-    if dimension < MOST {
-        at[dimension] = i;
-    }
-}
-
-/// An index along a dimension of a size, where it is in range.
-#[inline(always)]
-pub fn index_within(index: i64, size: u32) -> Option<u32>
-    ensures { IfSome result (λ i. (i < size) × (index ≡ pos i)) }
+fn index_within(index: i64, size: u32) -> Option<u32>
+    ensures some { IfSome result (λ i. (i < size) × (index ≡ pos i)) }
+    ensures none { IfNone result ((i : ℕ) → index ≡ pos i → size ≤ i) }
 {
     if index < 0 || index >= i64::from(size) {
         None
@@ -72,43 +23,46 @@ pub fn index_within(index: i64, size: u32) -> Option<u32>
     }
 }
 
-/// The steps times the coordinates.
-pub fn offset(steps: &[u32], at: &[u32]) -> usize
-    requires few { length steps.now ≤ 16 }
-    requires small { All (λ s. s ≤ extent_limit) steps.now }
-    ensures value { result ≡ dot steps.now at.now }
-    ensures bound { result ≤ 1152921504606846976 }
+/// A place behind another one: an index along a dimension further, where that is in range.
+#[inline(always)]
+pub fn moved(axes: &[Axis], place: Option<usize>, dimension: usize, index: i64) -> Option<usize>
+    requires small { All IsSmall axes.now }
+    requires near { IfSome place (λ q. q ≤ 2305843009213693952) }
+    ensures value { result ≡ moved axes.now dimension index place }
+    ensures bound { (limit : ℕ) → IfSome place (λ p. p ≤ limit) →
+        IfSome result (λ q. q ≤ limit + 4503599627370496) }
 {
-    let mut sum = 0;
-    for (k, step) in steps.iter().enumerate() {
-        if k >= at.len() {
-            return sum;
-        }
-        sum += *step as usize * at[k] as usize;
+    match place {
+        None => None,
+        Some(place) => match axes.get(dimension) {
+            None => None,
+            Some(axis) => match index_within(index, axis.size) {
+                None => None,
+                Some(index) => Some(place + axis.stride as usize * index as usize),
+            },
+        },
     }
-    sum
 }
 
-/// How far a position of dimensions lies behind the first one.
-pub fn reach(axes: &[Axis], position: usize) -> usize
-    requires few { length axes.now ≤ 256 }
-    requires small { All IsSmall axes.now }
-    requires within { position < size_of (sizes_of axes.now) }
-    ensures value { result ≡ reach axes.now (coordinates_of (sizes_of axes.now) position) }
+/// The strides times the coordinates.
+pub fn offset(strides: &[u32], coordinates: &[u32]) -> usize
+    requires few { length strides.now ≤ 16 }
+    requires small { All (λ s. s ≤ extent_limit) strides.now }
+    ensures value { result ≡ dot strides.now coordinates.now }
     ensures bound { result ≤ 1152921504606846976 }
 {
-    shape_laws();
     let mut sum = 0;
-    let mut rest = position;
-    for axis in axes {
-        let size = axis.size as usize;
-        sum += axis.step as usize * (rest % size);
-        rest /= size;
+    for (k, stride) in strides.iter().enumerate() {
+        if k >= coordinates.len() {
+            return sum;
+        }
+        sum += *stride as usize * coordinates[k] as usize;
     }
     sum
 }
 
 /// The element of a buffer at a place, and 0 past its end.
+#[inline(always)]
 pub fn element_in(elems: &[i64], place: usize) -> i64
     ensures { result ≡ get_or elems.now place (pos 0) }
 {
@@ -118,9 +72,10 @@ pub fn element_in(elems: &[i64], place: usize) -> i64
     }
 }
 
-/// Puts a number at a position.
-pub fn put_at(elems: &mut [i64], place: usize, x: i64)
-    ensures { elems.new ≡ slice_set elems.old place x }
+/// Puts a number at a place of a buffer.
+#[inline(always)]
+pub fn set_in(elems: &mut Vec<i64>, place: usize, x: i64)
+    ensures { elems.new.items ≡ slice_set elems.old.items place x }
 {
     if place < elems.len() {
         elems[place] = x;

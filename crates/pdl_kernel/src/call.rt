@@ -6,10 +6,10 @@ ghost use Rattle.pdl_kernel.specs.Call.{called};
 ghost use Rattle.pdl_kernel.specs.Runs.{IsResolved};
 
 use crate::faults::RunFault;
-use crate::frame::Frames;
 use crate::given::Given;
 use crate::kernel::{Kernel, kernel_signature};
-use crate::setup::{frames, outputs, parts, sources};
+use crate::scene::Scene;
+use crate::setup::{arguments, outputs};
 use crate::walk::collect;
 use pdl_buf::Made;
 use pdl_elem::wrapping_laws;
@@ -34,21 +34,15 @@ pub fn call(
     shape_laws();
     wrapping_laws();
     let args = kernel_signature(kernel).args.as_slice();
-    let mut sources = sources(alloc, resolved, args, given)?;
-    let mut frames = Frames {
-        arrays: frames(alloc, &sources, resolved.shapes.as_slice())?,
+    let mut scene = Scene {
+        arguments: arguments(alloc, resolved, args, given)?,
         locals: vec![in alloc; 0; kernel.locals()]?,
     };
-    let mut parts = parts(alloc, resolved, args)?;
-    match collect(
-        alloc,
-        resolved,
-        &mut sources,
-        &mut frames,
-        kernel.stmts(),
-        &mut parts,
-    ) {
-        Ok(()) => Ok(outputs(alloc, parts)?),
+    match collect(alloc, resolved, &mut scene, kernel.stmts()) {
+        Ok(()) => {
+            let Scene { arguments, .. } = scene;
+            Ok(outputs(alloc, resolved.shapes.as_slice(), arguments)?)
+        }
         Err(fault) => Err(fault),
     }
 }

@@ -2,27 +2,18 @@
 //! (PDL::PP). What the code means, and calls over broadcast arguments.
 #![tactic(auto)]
 
+mod argument;
 mod axes;
 mod call;
-mod elementwise;
 mod eval;
 mod faults;
-mod frame;
 mod given;
 mod kernel;
-mod line;
-mod lines;
-mod memory;
-mod nest;
-mod nested;
 mod operations;
-mod part;
 mod run;
+mod scene;
 mod setup;
-mod source;
-mod steady;
 mod steps;
-mod sweep;
 mod walk;
 
 pub use faults::{Fault, RunFault};

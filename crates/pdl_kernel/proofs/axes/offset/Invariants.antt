@@ -1,9 +1,9 @@
 use Rattle.std.proofs.Common.{◌≡◌, ◌≤◌, ◌+◌, ◌*◌, drop}
-use Rattle.pdl_kernel.specs.Sources.{dot}
+use Rattle.pdl_kernel.specs.Places.{dot}
 use Rattle.pdl_kernel.proofs.axes.offset.Given as goal
 
 abbrev pub invariant-loop-k : goal.invariant-loop-k
 invariant-loop-k l = record {
-  same : l.sum + dot (drop l.k l.steps) (drop l.k l.at) ≡ dot l.steps l.at;
+  same : l.sum + dot (drop l.k l.strides) (drop l.k l.coordinates) ≡ dot l.strides l.coordinates;
   bound : l.sum ≤ l.k * 4503599627370496;
 }

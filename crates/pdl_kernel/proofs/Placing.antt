@@ -1,0 +1,86 @@
+-- What code leaves in all arguments at one broadcast place after the other.
+use Rattle.std.proofs.Common.{◌≡◌, ℕ, zero, suc, ◌<◌, pos, List, [], ◌∷◌, ◌++◌, length, map, replicate, get_or, Ok, refl, sym, ap, subst, ◌∙◌, arith}
+use Rattle.std.specs.Prelude.{All}
+use Rattle.std.proofs.lemmas.List.{get_or-map, length-map, length-replicate}
+use Rattle.pdl_shape.specs.Laws.{PositionLaws}
+use Rattle.pdl_shape.specs.Shape.{coordinates_of, size_of}
+use Rattle.pdl_sig.specs.declared.Resolved.{Resolved}
+use Rattle.pdl_sig.specs.Refusals.{names_limit}
+use Rattle.pdl_code.specs.Tree.{Code}
+use Rattle.pdl_kernel.specs.declared.scene.Scene.{Scene}
+use Rattle.pdl_kernel.specs.Collecting.{AreCollected, IsLaid}
+use Rattle.pdl_kernel.specs.Meaning.{Store, nothing, run}
+use Rattle.pdl_kernel.specs.Places.{IsWhole, Rest, array_seen, begun_at, blank, kind_of, rest_of}
+use Rattle.pdl_kernel.specs.Scenes.{kinds_of, rests_at, rests_of, starting, store_of}
+use Rattle.pdl_kernel.specs.Window.{Window}
+use Rattle.pdl_kernel.proofs.Collecting.{collected_more, shown_again, whole_there}
+use Rattle.pdl_kernel.proofs.Kept.{HasForm, blank_store, form_is_kept, run_relates}
+
+kinds_stay : (bs : List ℕ) (ws : List Window) → map kind_of (map (λ w. rest_of (begun_at bs w)) ws) ≡ map kind_of (map rest_of ws)
+kinds_stay bs [] = refl
+kinds_stay bs (w ∷ ws) = ap (λ ks. kind_of (rest_of w) ∷ ks) (kinds_stay bs ws)
+
+-- windows that move stay windows of their kinds
+pub kinds_at : (bs : List ℕ) (s : Scene) (rs : List Rest) → rs ≡ rests_at bs s → map kind_of rs ≡ kinds_of s
+kinds_at bs s rs e = ap (map kind_of) e ∙ kinds_stay bs s.arguments.items
+
+map_alike : {X Y : Type 0} (f : X → Y) (d : X) (xs ys : List X) → length xs ≡ length ys → ((k : ℕ) → k < length ys → f (get_or xs k d) ≡ f (get_or ys k d)) → map f xs ≡ map f ys
+map_alike f d [] [] n each = refl
+map_alike f d [] (y ∷ ys) n each = absurd (omega (arith, n))
+map_alike f d (x ∷ xs) [] n each = absurd (omega (arith, n))
+map_alike f d (x ∷ xs) (y ∷ ys) n each =
+    ap (λ z. z ∷ map f xs) (each 0 (omega arith)) ∙ ap (λ zs. f y ∷ zs) (map_alike f d xs ys (omega (arith, n)) (λ k lt. each (suc k) (omega (arith, lt))))
+
+all_by : {X : Type 0} (P : X → Type 0) (d : X) (xs : List X) → ((k : ℕ) → k < length xs → P (get_or xs k d)) → All P xs
+all_by P d [] each i e lt = absurd (omega (arith, lt))
+all_by P d (x ∷ xs) each zero e lt = each 0 (omega arith)
+all_by P d (x ∷ xs) each (suc i) e lt = all_by P d xs (λ k below. each (suc k) (omega (arith, below))) i e (omega (arith, lt))
+
+-- before any code ran
+pub none_collected : (ws : List Window) → AreCollected [] ws ws
+none_collected ws = record {
+  count = refl;
+  argument = λ k lt. record { form = refl; room = refl; input = λ h. refl; each = omega arith; output = λ h. refl };
+}
+
+module _ (laws : PositionLaws) (broadcast : List ℕ) (ms : List Store) (was : List Window) (now : Scene) (laid : All (IsLaid broadcast) was) (h : AreCollected ms was now.arguments.items) (p : ℕ) (count : length ms ≡ p) (inside : p < size_of broadcast) where
+  abbrev bs : List ℕ
+  bs = coordinates_of broadcast p
+
+  -- code finds what it would have found first
+  pub shown_all : map (λ w. array_seen (begun_at bs w)) now.arguments.items ≡ map (λ w. array_seen (begun_at bs w)) was
+  shown_all = map_alike (λ w. array_seen (begun_at bs w)) blank now.arguments.items was h.count
+      (λ k lt. shown_again laws broadcast k ms (get_or was k blank) (get_or now.arguments.items k blank) (laid k blank lt) (h.argument k lt) p count inside)
+
+  pub whole_all : All IsWhole (rests_at bs now)
+  whole_all =
+      let f : Window → Rest = λ w. rest_of (begun_at bs w) in
+      all_by IsWhole (f blank) (map f now.arguments.items) (λ k lt.
+      let below : k < length now.arguments.items = omega (arith, lt, length-map now.arguments.items f) in
+      let mine : k < length was = omega (arith, below, h.count) in
+      subst IsWhole (sym (get_or-map f now.arguments.items k blank (f blank) below))
+      (whole_there laws broadcast k ms (get_or was k blank) (get_or now.arguments.items k blank) (laid k blank mine) (h.argument k mine) p count inside))
+
+  -- after the code ran there
+  pub collected_all : (after : Scene) → rests_of after ≡ rests_at bs now → AreCollected (ms ++ store_of after ∷ []) was after.arguments.items
+  collected_all after kept =
+      let f : Window → Rest = λ w. rest_of (begun_at bs w) in
+      let long : length after.arguments.items ≡ length now.arguments.items =
+      sym (length-map after.arguments.items rest_of) ∙ ap (length {A = Rest}) kept ∙ length-map now.arguments.items f in
+      record {
+        count = long ∙ h.count;
+        argument = λ k lt.
+            let there : k < length after.arguments.items = omega (arith, lt, long, h.count) in
+            let here : k < length now.arguments.items = omega (arith, there, long) in
+            let rest : rest_of (get_or after.arguments.items k blank) ≡ f (get_or now.arguments.items k blank) =
+            sym (get_or-map rest_of after.arguments.items k blank (f blank) there) ∙ ap (λ rs. get_or rs k (f blank)) kept ∙ get_or-map f now.arguments.items k blank (f blank) here in
+            collected_more laws broadcast k ms (get_or was k blank) (get_or now.arguments.items k blank) (laid k blank lt) (h.argument k lt) p count inside
+            (store_of after) (get_or after.arguments.items k blank) rest (get_or-map array_seen after.arguments.items k blank nothing there);
+      }
+
+-- as many locals as before
+pub locals_kept : (r : Resolved) (code : Code) (bs : List ℕ) (s after : Scene) → run r (replicate names_limit 0) code (starting bs s) ≡ Ok (store_of after) → length after.locals.items ≡ length s.locals.items
+locals_kept r code bs s after ran =
+    let form : blank_store (store_of after) ≡ blank_store (starting bs s) = run_relates HasForm form_is_kept r code (replicate names_limit 0) (starting bs s) (store_of after) ran in
+    let n = length s.locals.items in
+    sym (length-replicate (length after.locals.items) (pos 0)) ∙ ap (λ (m : Store). length m.locals) form ∙ length-replicate (length (replicate n (pos 0))) (pos 0) ∙ length-replicate n (pos 0)

@@ -1,7 +1,0 @@
-use Rattle.std.proofs.Common.{◌≡◌, ◌++◌, drop, map}
-use Rattle.pdl_kernel.specs.Call.{with_given}
-use Rattle.pdl_kernel.specs.Setup.{source_of}
-use Rattle.pdl_kernel.proofs.setup.sources.Given as goal
-
-abbrev pub invariant-loop-k : goal.invariant-loop-k
-invariant-loop-k l = l.sources.items ++ map (source_of l.resolved) (with_given (drop l.k l.args) l.given.items) ≡ map (source_of l.resolved) (with_given l.args l.fn.given.items)
