@@ -1,23 +1,20 @@
 -- What composed triples show.
-use Rattle.std.proofs.Common.{◌≡◌, ℕ, zero, suc, ◌+◌, ◌*◌, ◌<◌, Bool, true, false, if◌then◌else◌, List, [], ◌∷◌, ◌++◌, length, map, take, drop, get_or, ℤ, pos, Option, Some, None, Result, Ok, Err, refl, sym, ap, ◌∙◌, subst, arith}
-use Rattle.std.specs.List.{range_with_len}
-use Rattle.std.proofs.lemmas.Bool.{cases_Bool}
+use Rattle.std.proofs.Common.{◌≡◌, ℕ, zero, suc, ◌+◌, ◌*◌, ◌<◌, Bool, true, false, if◌then◌else◌, List, [], ◌∷◌, ◌++◌, length, take, drop, get_or, ℤ, Some, None, Result, Ok, Err, refl, sym, ap, ◌∙◌, subst, arith}
 use Rattle.std.proofs.lemmas.List.{take-append-drop}
-use Rattle.pdl_shape.specs.Clump.{clump_source}
 use Rattle.pdl_shape.specs.Laws.{PositionLaws}
 use Rattle.pdl_shape.specs.Refusals.{Refusal}
 use Rattle.pdl_shape.specs.Shape.{IsWithin, position_of, coordinates_of, size_of}
 use Rattle.pdl_shape.specs.Triple.{IsTriple, Triple, place_of}
 use Rattle.pdl_affine.specs.declared.Affine.{Affine}
 use Rattle.pdl_affine.specs.declared.forms.Course.{Course}
-use Rattle.pdl_affine.specs.Courses.{IsSound, IsStraight, IsCourse, AreCourses}
+use Rattle.pdl_affine.specs.Courses.{IsSound, IsStraight, IsCourse}
 use Rattle.pdl_affine.specs.Laws.{IsViewOver, ComposedShowViews, UncomposedAreInOrder}
 use Rattle.pdl_affine.specs.Views.{Form, sliced, exchanged, shifted, arranged, inserted, diagonal, squeezed, clumped, resolved, sizes, form_source, form_dims, dims, source}
-use Rattle.pdl_affine.specs.Windows.{Shows, is_window, windowed, composed, form_place, base_place, triple_showing}
+use Rattle.pdl_affine.specs.Windows.{Shows, is_window, windowed, composed, form_place, triple_showing}
 use Rattle.pdl_affine.proofs.Clumps.{clump_run, length-coordinates}
 use Rattle.pdl_affine.proofs.Inside.{checked_is}
 use Rattle.pdl_affine.proofs.Picks.{exchanged_course, shifted_course, arranged_course, inserted_course, diagonal_course, squeezed_course}
-use Rattle.pdl_affine.proofs.Shown.{Runs, shown-is, shows, is_triple, triple_at}
+use Rattle.pdl_affine.proofs.Shown.{Runs, shown-is, shows, is_triple}
 use Rattle.pdl_affine.proofs.SliceCourses.{sliced_course}
 use Rattle.pdl_affine.proofs.Sounds.{resolved_sound, true_is}
 use Rattle.pdl_affine.proofs.Sourced.{courses_run}

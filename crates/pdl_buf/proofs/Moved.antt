@@ -1,6 +1,6 @@
 -- A list that is kept part by part.
-use Rattle.std.proofs.Common.{◌≡◌, ℕ, ◌+◌, ℤ, List, ◌++◌, length, take, drop, ap, ap₂, sym, ◌∙◌}
-use Rattle.std.proofs.Math.Seq.{take-add, take-append_seam}
+use Rattle.std.proofs.Common.{◌≡◌, ℕ, ◌+◌, ℤ, List, ◌++◌, take, drop, ap, ap₂, sym, ◌∙◌}
+use Rattle.std.proofs.Math.Seq.{take-add}
 use Rattle.pdl_elem.specs.declared.Ty.{Ty}
 use Rattle.pdl_buf.specs.Buffer.{TypedElements}
 

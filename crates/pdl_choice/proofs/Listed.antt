@@ -1,9 +1,8 @@
 -- Lists of places that grow by one position at a time.
-use Rattle.std.proofs.Common.{◌-◌, ◌*◌, ◌≤◌, inl, inr, append_assoc, ◌≡◌, ◌≢◌, ℕ, ◌+◌, ◌<◌, Bool, cond, length-append, List, [], ◌∷◌, ◌++◌, length, get_or, map, refl, zero-add, ap, sym, ◌∙◌, arith, true, false, ℤ, pos, negsuc, zero, suc, Some, None, position, nat_lt}
+use Rattle.std.proofs.Common.{◌-◌, ◌*◌, append_assoc, ◌≡◌, ◌≢◌, ℕ, ◌+◌, ◌<◌, Bool, cond, length-append, List, [], ◌∷◌, ◌++◌, length, get_or, map, refl, zero-add, ap, sym, ◌∙◌, arith, true, false, ℤ, pos, negsuc, zero, suc, Some, None, position, nat_lt}
 use Rattle.std.specs.List.{range_with_len, filter, position_or_len}
 use Rattle.std.proofs.lemmas.List.{get_or_append_left, get_or-append_right, map-id, map-append, append-nil}
 use Rattle.std.proofs.lemmas.List.FromFn.{filter_of_map_range_with_len_more, map-range_with_len_more, length-range_with_len, get_or-range_with_len, fill_by_all, length-map-range_with_len, get_or-map-range_with_len}
-use Rattle.std.proofs.lemmas.Bool.{cases_lt}
 use Rattle.std.proofs.lemmas.Bool.Decides.{nat_tests}
 use Rattle.std.proofs.lemmas.List.Sums.{position_or_len_is}
 use Rattle.pdl_lemmas.specs.Tests.{by_lt}

@@ -1,10 +1,10 @@
 -- The places of whole views.
-use Rattle.std.proofs.Common.{◌≡◌, ℕ, zero, suc, ◌+◌, ◌*◌, ◌/◌, ◌%◌, ◌<◌, List, [], ◌∷◌, ◌++◌, length, take, drop, get_or, map, ap, sym, ◌∙◌, arith, Option, Some, None, ℤ}
+use Rattle.std.proofs.Common.{◌≡◌, ℕ, ◌+◌, ◌*◌, ◌/◌, ◌%◌, ◌<◌, List, [], ◌∷◌, ◌++◌, length, take, drop, get_or, map, ap, sym, ◌∙◌, arith, Option, Some, None, ℤ}
 use Rattle.std.specs.Option.{unwrap_or}
 use Rattle.std.specs.List.{range_with_len}
 use Rattle.std.proofs.Math.Nat.{mod-eq_of_lt}
 use Rattle.std.proofs.lemmas.List.{take-append-drop, length-map, get_or-map}
-use Rattle.std.proofs.lemmas.List.FromFn.{fill_by_all, get_or-map-range_with_len, length-map-range_with_len}
+use Rattle.std.proofs.lemmas.List.FromFn.{fill_by_all}
 use Rattle.std.proofs.lemmas.Nat.{div_below, mod_below, div-add-mod'}
 use Rattle.pdl_lemmas.specs.Lists.{map-range_same}
 use Rattle.pdl_shape.specs.Laws.{PositionLaws}

@@ -1,5 +1,5 @@
 -- The places of an index view, row by row.
-use Rattle.std.proofs.Common.{Option, ◌≡◌, ℕ, ◌+◌, ◌*◌, ◌/◌, ◌<◌, ◌≤◌, eqb, true, false, if◌then◌else◌, List, [], ◌∷◌, Bool, length, get_or, drop, refl, ap, sym, ◌∙◌, subst, arith, Some, ℤ, pos}
+use Rattle.std.proofs.Common.{Option, ◌≡◌, ℕ, ◌+◌, ◌*◌, ◌/◌, ◌<◌, ◌≤◌, List, [], ◌∷◌, length, get_or, drop, refl, ap, sym, ◌∙◌, subst, arith, Some, ℤ, pos}
 use Rattle.std.proofs.Math.Nat.{mul-le-mul_left}
 use Rattle.pdl_shape.specs.Laws.{CutsWithin, PositionLaws, SizeLaws}
 use Rattle.pdl_shape.specs.Broadcast.{BroadcastsTo, cut_to}

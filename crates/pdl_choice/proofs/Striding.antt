@@ -1,8 +1,7 @@
 -- The place of a corner, one of its numbers after another.
 use Rattle.std.proofs.Common.{◌≡◌, ℕ, ◌+◌, ◌*◌, ◌<◌, ◌≤◌, List, [], ◌∷◌, length, take, drop, get_or, refl, ap, sym, ◌∙◌, arith, Option, Some, None, ℤ, pos, ◌+ℤ◌}
 use Rattle.std.specs.Option.{option_map}
-use Rattle.std.proofs.Math.Nat.{mul-le-mul_left}
-use Rattle.std.proofs.lemmas.List.{at_drop_all, at_drop_more, take_more, take-append-drop}
+use Rattle.std.proofs.lemmas.List.{at_drop_more, take_more, take-append-drop}
 use Rattle.pdl_lemmas.specs.Numbers.{row_place_below}
 use Rattle.pdl_shape.specs.Laws.{SizeLaws}
 use Rattle.pdl_shape.specs.Shape.{extent, extent_limit, size_of}

@@ -1,6 +1,6 @@
 -- One position of the windows at all corners.
-use Rattle.std.proofs.Common.{◌≡◌, ℕ, zero, suc, ◌+◌, ◌-◌, ◌*◌, ◌/◌, ◌%◌, ◌<◌, ◌≤◌, max, false, not, nat_lt, nat_le, List, [], ◌∷◌, ◌++◌, length, drop, replicate, IsTrue, get_or, map, refl, ap, sym, ◌∙◌, subst, arith, ℤ, pos, negsuc, ◌+ℤ◌}
-use Rattle.std.proofs.Math.Nat.{div-eq_of_lt, mod-add-div, mod-eq_of_lt, mul-add-mod_self_left, zero-mod, zero-div}
+use Rattle.std.proofs.Common.{◌≡◌, ℕ, ◌+◌, ◌-◌, ◌*◌, ◌/◌, ◌%◌, ◌<◌, ◌≤◌, max, false, not, nat_lt, nat_le, List, [], ◌∷◌, ◌++◌, length, drop, replicate, IsTrue, get_or, map, refl, ap, sym, ◌∙◌, subst, arith, ℤ, pos, negsuc, ◌+ℤ◌}
+use Rattle.std.proofs.Math.Nat.{mod-eq_of_lt, mul-add-mod_self_left, zero-mod, zero-div}
 use Rattle.std.proofs.Math.Seq.{get_or-append_seam}
 use Rattle.std.proofs.lemmas.Bool.Decides.{nat_tests}
 use Rattle.std.proofs.lemmas.List.{get_or_append_left, get_or-map, length-map}

@@ -1,5 +1,5 @@
 -- One turn of each chain.
-use Rattle.std.proofs.Common.{◌≡◌, ℕ, zero, suc, ◌+◌, ◌-◌, ◌<◌, List, [], ◌∷◌, Option, Some, None, refl, arith, add-one, sym, ap, ◌∙◌}
+use Rattle.std.proofs.Common.{◌≡◌, ℕ, zero, suc, ◌+◌, ◌-◌, List, [], ◌∷◌, Option, Some, None, refl, arith, add-one, sym, ap, ◌∙◌}
 use Rattle.pdl_elem.specs.declared.BinaryOp.{BinaryOp}
 use Rattle.pdl_lemmas.specs.Options.{some_inj, none_some, map_elim}
 use Rattle.pdl_lexemes.specs.declared.refusal.Refusal.{Refusal}

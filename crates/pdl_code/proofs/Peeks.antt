@@ -13,7 +13,7 @@ use Rattle.pdl_code.specs.declared.lexeme.WordKind.TheVariants.{Loop, If, Else, 
 use Rattle.pdl_code.specs.declared.lexeme.NameKind.{NameKind}
 use Rattle.pdl_code.specs.declared.lexeme.NameKind.TheVariants.{Size, Generic}
 use Rattle.pdl_code.specs.declared.lexeme.Lexeme.{Lexeme}
-use Rattle.pdl_code.specs.declared.lexeme.Lexeme.TheVariants.{Name, Word, Open, Close, BlockOpen, BlockClose, Semicolon, Comma, Equals, FatArrow, Operator}
+use Rattle.pdl_code.specs.declared.lexeme.Lexeme.TheVariants.{Name, Word, Open, Close, BlockOpen, FatArrow, Operator}
 use Rattle.pdl_code.specs.declared.tree.LocalType.{LocalType}
 use Rattle.pdl_code.specs.declared.tree.LocalType.TheVariants.{Generic as OfGeneric}
 use Rattle.pdl_code.specs.Grammar.{SpellsType, type_word, generic_type, assigned}

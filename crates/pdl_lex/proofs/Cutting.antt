@@ -1,6 +1,6 @@
 -- The pieces still to come, byte by byte.
 use Rattle.std.proofs.Common.{◌≡◌, ℕ, zero, suc, ◌+◌, ◌-◌, ◌<◌, ◌≤◌, Bool, true, false, cond, List, [], ◌∷◌, ◌++◌, length, refl, sym, ◌∙◌, ap, subst, arith, append_assoc, length-append, eqb-true, append-nil, add-zero, take, drop, take-take, take_all, drop-cons, get_or, add-one, take-append-drop, take-add, length-take-le}
-use Rattle.std.specs.Prelude.{Result, Ok, Err, OnErr, Option, Some, None, option_to_list, if◌then◌else◌, ◌==◌}
+use Rattle.std.specs.Prelude.{Option, Some, None, option_to_list, if◌then◌else◌, ◌==◌}
 use Rattle.std.proofs.lemmas.List.{drop_all, take_more}
 use Rattle.std.specs.List.{list_all, prefix_len}
 use Rattle.std.proofs.lemmas.List.Sums.{sum_by-append, prefix_len-le-length}

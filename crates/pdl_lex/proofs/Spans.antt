@@ -1,5 +1,5 @@
 -- What a text is: its tokens with their spans, or the fault of the first byte at which none begins.
-use Rattle.std.proofs.Common.{◌≡◌, ◌↔◌, ℕ, zero, suc, ◌+◌, ◌<◌, ◌≤◌, Bool, true, false, List, [], ◌∷◌, ◌++◌, length, refl, sym, ap, ◌∙◌, subst, arith, take, drop, ⊎_elim, take-append-drop, length-take-le, length-append, eqb-true, true≢false}
+use Rattle.std.proofs.Common.{◌≡◌, ◌↔◌, ℕ, zero, suc, ◌+◌, ◌<◌, ◌≤◌, true, false, List, [], ◌∷◌, ◌++◌, length, refl, sym, ap, ◌∙◌, subst, arith, take, drop, ⊎_elim, take-append-drop, length-take-le, length-append, eqb-true, true≢false}
 use Rattle.std.proofs.lemmas.List.Sums.{prefix_len-le-length}
 use Rattle.std.proofs.str.Laws.{order}
 use Rattle.std.specs.Prelude.{◌==◌, Option, Some, None, Result, Ok, Err, not}

@@ -1,5 +1,5 @@
 -- The tokens from a place on, item by item.
-use Rattle.std.proofs.Common.{◌≡◌, ℕ, zero, suc, ◌+◌, ◌-◌, ◌<◌, ◌≤◌, true, List, [], ◌∷◌, ◌++◌, length, refl, sym, ◌∙◌, ap, arith, take, drop, append_assoc, get_or, add-zero, lt-ltb, drop-cons, drop-drop, take_all, length-drop, append-nil}
+use Rattle.std.proofs.Common.{◌≡◌, ℕ, zero, suc, ◌+◌, ◌<◌, ◌≤◌, true, List, [], ◌∷◌, ◌++◌, length, refl, sym, ◌∙◌, ap, arith, drop, append_assoc, get_or, add-zero, lt-ltb, drop-cons, drop-drop, append-nil}
 use Rattle.std.proofs.lemmas.List.{drop_all}
 use Rattle.std.specs.Prelude.{Some, None, Result, Ok, Err, nat_lt}
 use Rattle.pdl_lex.specs.declared.LexFault.{LexFault}

@@ -1,5 +1,5 @@
 -- Spelled list literals are arrays.
-use Rattle.std.proofs.Common.{◌≡◌, ◌≤◌, ◌+◌, ◌*◌, ℕ, zero, suc, ℤ, pos, negsuc, neg_ℤ, nat_abs, nat_le, nat_lt, List, [], ◌∷◌, ◌++◌, length, length-append, All, Bool, true, false, ◌||◌, if◌then◌else◌, Option, Some, None, refl, sym, subst, arith, true≢false}
+use Rattle.std.proofs.Common.{◌≡◌, ◌≤◌, ◌+◌, ◌*◌, ℕ, zero, suc, ℤ, pos, negsuc, neg_ℤ, nat_abs, nat_le, nat_lt, List, [], ◌∷◌, ◌++◌, length, length-append, All, Bool, true, false, if◌then◌else◌, Option, Some, None, refl, sym, subst, arith}
 use Rattle.std.proofs.lemmas.Int.{ints}
 use Rattle.std.specs.List.{list_any}
 use Rattle.std.proofs.lemmas.List.Elements.{All-nil, All-cons, All-push, All-weaker}

@@ -1,5 +1,5 @@
 -- One turn of the chain of a list's items.
-use Rattle.std.proofs.Common.{◌≡◌, ℕ, ℤ, zero, suc, ◌+◌, ◌-◌, ◌<◌, List, Option, Some, None, refl, arith}
+use Rattle.std.proofs.Common.{◌≡◌, ℕ, ℤ, zero, suc, List, Option, Some, None, refl}
 use Rattle.pdl_lexemes.specs.declared.Lexeme.{Lexeme}
 use Rattle.pdl_lexemes.specs.Lists.{shared}
 use Rattle.pdl_lexemes.specs.ListReading.{ReadPart, read_part, items_at, item_at}

@@ -2,7 +2,7 @@
 use Rattle.std.proofs.Common.{◌≡◌, ℕ, ◌+◌, ◌≤◌, ℤ, List, ◌++◌, length, take, drop, map, All, arith, Some, None, Ok, Err, ap, ap₂, sym, subst, ◌∙◌, take-append-drop}
 use Rattle.std.proofs.lemmas.List.{take-map, drop-map, take_all, length-take-le}
 use Rattle.std.proofs.lemmas.List.Elements.{All-append}
-use Rattle.std.proofs.Math.Seq.{take-add, take-append_seam}
+use Rattle.std.proofs.Math.Seq.{take-add}
 use Rattle.pdl_elem.specs.declared.BinaryOp.{BinaryOp}
 use Rattle.pdl_elem.specs.declared.Ty.{Ty}
 use Rattle.pdl_elem.specs.Blocks.{pairwise, zero_at}

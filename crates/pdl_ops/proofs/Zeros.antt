@@ -1,9 +1,6 @@
 -- Where the first divisor 0 stands in a list that is read in blocks.
-use Rattle.std.proofs.Common.{◌≡◌, ℕ, ◌+◌, ◌<◌, ℤ, pos, List, ◌++◌, length, arith, Option, Some, None, length-append}
-use Rattle.std.proofs.lemmas.Bool.Decides.{nat_tests}
-use Rattle.std.proofs.lemmas.List.Folds.{prefix_len-append}
-use Rattle.std.proofs.lemmas.List.Sums.{prefix_len-le-length}
-use Rattle.std.specs.Prelude.{Bool, true, false, not, position, if◌then◌else◌}
+use Rattle.std.proofs.Common.{◌≡◌, ℕ, ◌+◌, ℤ, pos, List, ◌++◌, length, Option, Some, None}
+use Rattle.std.specs.Prelude.{Bool, true, false, position, if◌then◌else◌}
 use Rattle.std.specs.Ordering.{int_eq}
 use Rattle.pdl_lemmas.specs.Lists.{position_none, position_after, position_before}
 use Rattle.pdl_elem.specs.declared.BinaryOp.{BinaryOp}

@@ -10,7 +10,6 @@ use Rattle.std.proofs.Math.Nat.{mul_assoc, mul_comm, add-zero}
 use Rattle.std.proofs.lemmas.Nat.{div-mul-add}
 use Rattle.pdl_shape.specs.Shape.{size_of}
 use Rattle.pdl_print.specs.Printed.{pieces, lines, block, bracketed}
-use Rattle.std.specs.Prelude.{Result, Ok, Err, OnOk}
 
 -- ---- joining
 

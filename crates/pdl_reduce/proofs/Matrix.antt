@@ -1,5 +1,5 @@
 -- One product more of a sum, and one row more of a product.
-use Rattle.std.proofs.Common.{◌≡◌, ℕ, ◌+◌, ◌-◌, ◌*◌, ◌/◌, ◌%◌, ◌<◌, ℤ, pos, ◌+ℤ◌, List, [], ◌∷◌, ◌++◌, slice_set, length, map, get_or, take, drop, ◌≤◌, ◌*ℤ◌, arith, ap, ap₂, sym, ◌∙◌, inl, inr, length-append}
+use Rattle.std.proofs.Common.{◌≡◌, ℕ, ◌+◌, ◌-◌, ◌*◌, ◌<◌, ℤ, pos, ◌+ℤ◌, List, [], ◌∷◌, ◌++◌, slice_set, length, map, get_or, take, drop, ◌≤◌, ◌*ℤ◌, arith, ap, ap₂, sym, ◌∙◌, inl, inr, length-append}
 use Rattle.std.specs.Int.{int_wrap, w64}
 use Rattle.std.specs.List.{range_with_len}
 use Rattle.std.proofs.lemmas.Bool.{cases_lt}
@@ -8,7 +8,6 @@ use Rattle.std.proofs.lemmas.Bool.Decides.{nat_tests}
 use Rattle.std.proofs.lemmas.List.{ext_get_or, get_or_append_left, get_or-append_right, get_or-take, get_or-drop, length-take-le, length-drop}
 use Rattle.std.proofs.lemmas.List.FromFn.{length-map-range_with_len, get_or-map-range_with_len, map-range_with_len_more}
 use Rattle.std.proofs.lemmas.List.Sums.{fold_push}
-use Rattle.std.proofs.lemmas.Nat.{div-mul-add, mod-mul-add}
 use Rattle.pdl_reduce.specs.Folds.{total}
 use Rattle.pdl_reduce.specs.Pairings.{sum_below}
 use Rattle.pdl_reduce.specs.Blocks.{cut, left_at, right_at, sum_at}

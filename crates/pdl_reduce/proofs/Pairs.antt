@@ -1,9 +1,8 @@
 -- Each pairing by the blocks of its arrays.
 use Rattle.std.proofs.Common.{◌≡◌, ℕ, ◌+◌, ◌*◌, ◌/◌, ◌%◌, ◌<◌, ℤ, pos, ◌+ℤ◌, ◌*ℤ◌, List, ◌∷◌, length, drop, get_or, arith, refl, ap, ap₂, sym, ◌∙◌}
-use Rattle.std.proofs.lemmas.Int.{ints}
 use Rattle.std.proofs.lemmas.Bool.Decides.{nat_tests}
 use Rattle.std.proofs.Math.IntN.{*ℤ_comm, +ℤ_idl}
-use Rattle.std.proofs.Math.Nat.{div-one, mod-one, mul_comm}
+use Rattle.std.proofs.Math.Nat.{div-one, mod-one}
 use Rattle.pdl_lemmas.specs.Numbers.{row_place_below}
 use Rattle.pdl_elem.specs.declared.Ty.{Ty}
 use Rattle.pdl_elem.specs.Numbers.{wrapped}
@@ -17,7 +16,6 @@ use Rattle.pdl_reduce.specs.Blocks.{block_at, cut, products_at, sizes_of, sum_at
 use Rattle.pdl_reduce.specs.Pairings.{paired_at, sum_below}
 use Rattle.pdl_buf.specs.Made.{broadcast_element}
 use Rattle.pdl_reduce.specs.declared.Pairing.TheVariants.{Inner, Outer, Matmult}
-use Rattle.pdl_reduce.proofs.Results.{row_inside}
 use Rattle.pdl_reduce.proofs.Paired.{one_core, two_cores, in_block, sum_agree, split, Split, place, Place}
 
 -- the laws of positions

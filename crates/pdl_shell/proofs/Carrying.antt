@@ -1,19 +1,16 @@
 -- A run is carried on: what the pieces that are fed leave of it, and what it has printed at the least.
-use Rattle.std.proofs.Common.{◌≡◌, ℕ, ◌+◌, List, [], ◌∷◌, ◌++◌, map, length, take, drop, Bool, true, false, cond, Option, Some, None, Result, Ok, Err, OnErr, option_to_list, refl, sym, ◌∙◌, ap, subst, arith, append_assoc, append-nil, add-zero}
-use Rattle.std.specs.Prelude.{◌==◌, OnOk}
+use Rattle.std.proofs.Common.{◌≡◌, ℕ, ◌+◌, List, [], ◌∷◌, ◌++◌, map, take, drop, Bool, true, false, cond, Option, Some, None, Result, Ok, Err, OnErr, option_to_list, refl, sym, ◌∙◌, ap, subst, arith, append_assoc, append-nil}
+use Rattle.std.specs.Prelude.{OnOk}
 use Rattle.pdl_shell.specs.declared.stop.Stop.{Stop}
 use Rattle.std.proofs.lemmas.List.{map-append, take-append-drop}
 use Rattle.std.proofs.lemmas.List.Sums.{sum_by-append}
 use Rattle.std.specs.Io.KnownBytes.{Appends, Keeps}
 use Rattle.pdl_io.specs.Told.{IsPrefix, AppendsPrefix}
 use Rattle.pdl_lex.specs.Bytes.{newlines, is_newline}
-use Rattle.pdl_lex.specs.Pieces.{State, Mark, statement, script_too_long, to_come, settled_from, begun_piece, settled_piece}
-use Rattle.pdl_lex.specs.Steps.{begun}
+use Rattle.pdl_lex.specs.Pieces.{State, Mark, statement, script_too_long, to_come, settled_from}
 use Rattle.pdl_lex.specs.declared.Piece.{Piece}
-use Rattle.pdl_lex.specs.declared.Piece.TheVariants.{Whole, TooLong}
-use Rattle.pdl_machine.specs.declared.fault.Fault.{Fault}
 use Rattle.pdl_machine.specs.Step.{Stepped}
-use Rattle.pdl_machine.specs.Run.{Progress, mark_step, line_of, fault_ends, text_after, fault_line, after, after_mark, after_marks}
+use Rattle.pdl_machine.specs.Run.{Progress, mark_step, line_of, fault_ends, text_after, after, after_mark, after_marks}
 use Rattle.pdl_machine.specs.RunLaws.{EndedStays, PrintedStays}
 use Rattle.pdl_shell.specs.declared.runner.Runner.{Runner}
 use Rattle.pdl_shell.specs.Pace.{Behind, end_of_input, past_limit, unknown, behind, marks_left, mark_text}
@@ -144,10 +141,6 @@ stops_in_piece stays old new piece bytes rest taken now fed running wrote before
 pub stops_before : (stays : PrintedStays) (old : Runner) (bytes : List ℕ) (taken : Option (List ℕ)) → StopsShort bytes old taken taken
 stops_before stays old bytes taken before printed so_far follows more =
     (printed, stays old.keep_going (progress old printed) (marks_left follows old.cutter (bytes ++ more)), so_far)
-
--- nothing is fed
-pub carries_nothing : (old : Runner) (bytes : List ℕ) (taken : Option (List ℕ)) → Carries bytes old taken bytes old taken
-carries_nothing old bytes taken before printed so_far = (printed, so_far, λ follows more. refl)
 
 -- bytes that are all run over, and then more of them
 pub carries_on : (a b c : Runner) (xs ys : List ℕ) (ta tb tc : Option (List ℕ))

@@ -21,8 +21,8 @@ use Rattle.pdl_shell.specs.Stops.{HasSinkCause, Writes}
 use Rattle.pdl_shell.specs.Pace.{Behind, end_of_input, past_limit, unknown, behind, marks_left}
 use Rattle.pdl_shell.specs.Course.{progress, outcome, IsFresh, Carries, StopsShort, Finishes, FinishesShort, Comes}
 use Rattle.pdl_shell.specs.Taken.{StopsSoon, ComesTo, Reads}
-use Rattle.pdl_shell.proofs.Carrying.{carries_nothing, carries_on, stops_on}
-use Rattle.pdl_shell.proofs.Whole.{appends_nothing, consumes_then, consumes_kept, consumes_nothing, takes_at_most}
+use Rattle.pdl_shell.proofs.Carrying.{carries_on, stops_on}
+use Rattle.pdl_shell.proofs.Whole.{appends_nothing, consumes_then, consumes_kept, takes_at_most}
 
 -- the first bytes of what two parts give together
 take_of_two : (n : ℕ) (xs ys : List ℕ) → take n (xs ++ ys) ≡ take n xs ++ take (n - length xs) ys

@@ -1,7 +1,5 @@
 -- What was taken and written, and what an answer says of a run.
-use Rattle.std.proofs.Common.{◌≡◌, ℕ, ◌<◌, ◌≤◌, List, [], ◌++◌, length, drop, Bool, true, false, Option, Some, None, Result, Ok, Err, refl, sym, ◌∙◌, ap, subst, append_assoc, append-nil}
-use Rattle.std.proofs.lemmas.Bool.{ltb-true, ltb-false}
-use Rattle.std.proofs.Math.Dec.{ltb}
+use Rattle.std.proofs.Common.{◌≡◌, ℕ, ◌≤◌, List, [], ◌++◌, length, drop, Bool, true, false, Option, Some, None, Result, Ok, Err, refl, sym, ◌∙◌, ap, subst, append_assoc, append-nil}
 use Rattle.std.specs.Prelude.{◌≢◌, OnOk}
 use Rattle.std.proofs.Math.Seq.{drop-append_seam}
 use Rattle.std.specs.Io.KnownBytes.{Appends, Consumes, Keeps}
@@ -33,10 +31,6 @@ consumes_kept None mid new xs first kept = tt
 consumes_kept (Some bs) None new xs first kept = absurd first
 consumes_kept (Some bs) (Some cs) None xs first kept = absurd kept
 consumes_kept (Some bs) (Some cs) (Some ds) xs first kept = first ∙ ap (λ u. xs ++ u) (sym kept)
-
-pub consumes_nothing : (old : Option (List ℕ)) → Consumes old old []
-consumes_nothing None = tt
-consumes_nothing (Some bs) = refl
 
 rest_after : (old new : Option (List ℕ)) (seen bytes : List ℕ) → Consumes old new seen → old ≡ Some bytes → new ≡ Some (drop (length seen) bytes)
 rest_after None new seen bytes taken is = cc

@@ -1,12 +1,12 @@
 -- Lists and pairs of lists, one element after another.
-use Rattle.std.proofs.Common.{◌≡◌, ℕ, zero, suc, ◌+◌, ◌<◌, ◌≤◌, Bool, true, false, cond, ◌||◌, List, [], ◌∷◌, ◌++◌, length, get_or, drop, Option, Some, None, option_and_then, refl, ap, ap₂, sym, ◌∙◌, inl, inr, arith, append_assoc}
+use Rattle.std.proofs.Common.{◌≡◌, ℕ, ◌+◌, ◌<◌, Bool, true, false, ◌||◌, List, [], ◌∷◌, ◌++◌, length, get_or, drop, Option, Some, None, option_and_then, ap, ap₂, sym, ◌∙◌, inl, inr, arith, append_assoc}
 use Rattle.std.specs.List.{list_any, zip}
 use Rattle.std.proofs.lemmas.Bool.{cases_lt}
 use Rattle.std.proofs.lemmas.List.{at_drop_all, at_drop_more, get_or_past}
 use Rattle.pdl_elem.specs.declared.Ty.{Ty}
 use Rattle.pdl_sig.specs.declared.SigArg.{SigArg}
 use Rattle.pdl_sig.specs.declared.ArgShape.{ArgShape}
-use Rattle.pdl_sig.specs.Resolution.{is_given, inputs, higher, highest_from, core, outer, joined_with}
+use Rattle.pdl_sig.specs.Resolution.{inputs, higher, highest_from, core, outer, joined_with}
 use Rattle.pdl_shape.specs.Broadcast.{join}
 
 -- what is left of a list from an element on

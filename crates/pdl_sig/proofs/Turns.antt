@@ -1,5 +1,5 @@
 -- The turns of the loops over dimensions and over arguments.
-use Rattle.std.proofs.Common.{◌≡◌, ℕ, suc, ◌+◌, ◌-◌, ◌<◌, ◌≤◌, true, false, List, [], ◌∷◌, ◌++◌, length, Option, Some, None, refl, ap, ap₂, sym, ◌∙◌, arith, append_assoc}
+use Rattle.std.proofs.Common.{◌≡◌, ℕ, suc, ◌+◌, ◌-◌, ◌<◌, ◌≤◌, true, false, List, [], ◌∷◌, ◌++◌, Option, Some, None, refl, ap, ap₂, sym, ◌∙◌, arith, append_assoc}
 use Rattle.pdl_lemmas.specs.Numbers.{one_less}
 use Rattle.pdl_sig.specs.declared.written.WrittenDim.{WrittenDim}
 use Rattle.pdl_sig.specs.declared.written.WrittenArg.{WrittenArg}

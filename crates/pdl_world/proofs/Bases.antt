@@ -1,17 +1,15 @@
 -- How arrays are shown over their bases.
-use Rattle.std.proofs.Common.{◌≡◌, ◌⊎◌, ℕ, ℤ, pos, ◌<ℤ◌, ◌<◌, ◌≤◌, List, [], ◌∷◌, length, map, get_or, Option, Some, None, option_and_then, option_map, IsOk, IsSomeAnd, Result, Ok, Err, inl, inr, refl, sym, ◌∙◌, ap, subst, arith}
+use Rattle.std.proofs.Common.{◌≡◌, ◌⊎◌, ℕ, ℤ, pos, ◌<◌, ◌≤◌, List, [], ◌∷◌, length, Option, Some, None, option_and_then, IsOk, IsSomeAnd, Result, Ok, Err, inl, inr, refl, sym, ◌∙◌, ap, subst, arith}
 use Rattle.std.specs.Option.{option_map_or}
-use Rattle.std.specs.List.{range_with_len}
 use Rattle.std.proofs.lemmas.Bool.{cases_lt, eq-eqb, ne_eqb}
 use Rattle.std.proofs.lemmas.Bool.Decides.{eqb_tells}
-use Rattle.std.proofs.lemmas.Int.{ints}
 use Rattle.std.proofs.lemmas.List.{get_or-map}
 use Rattle.std.proofs.lemmas.List.FromFn.{length-map-range_with_len, get_or-map-range_with_len}
 use Rattle.pdl_lemmas.specs.Numbers.{pos-lt}
 use Rattle.pdl_shape.specs.Laws.{PositionLaws, SizeLaws, WholesAreInOrder, WholesAreTriples}
 use Rattle.pdl_shape.specs.Places.{place_in, places_of}
 use Rattle.pdl_shape.specs.Refusals.{Refusal}
-use Rattle.pdl_shape.specs.Shape.{IsDims, IsWithin, position_of, coordinates_of, size_of}
+use Rattle.pdl_shape.specs.Shape.{IsDims, IsWithin, position_of, size_of}
 use Rattle.pdl_shape.specs.Triple.{IsTriple, Reaches, Triple, place_of, whole_triple}
 use Rattle.pdl_affine.specs.declared.Affine.{Affine}
 use Rattle.pdl_affine.specs.Laws.{ComposedShowViews, IsViewOver, SourcesLieWithin}
@@ -24,11 +22,11 @@ use Rattle.pdl_elem.specs.declared.Ty.{Ty}
 use Rattle.pdl_world.specs.Paths.{path}
 use Rattle.pdl_world.specs.Sound.{NumbersBelow, IsLive, IsSound}
 use Rattle.pdl_world.specs.Windows.{Window, narrowed, over, own_window, window, window_over}
-use Rattle.pdl_world.specs.WindowLaws.{IsShownOver, LiveHaveWindows, WindowsShowArrays}
-use Rattle.pdl_world.specs.World.{World, ArrayDef, root, view, Look, look_of_root, look, entry, seen_through, through, through_places}
+use Rattle.pdl_world.specs.WindowLaws.{LiveHaveWindows, WindowsShowArrays}
+use Rattle.pdl_world.specs.World.{World, ArrayDef, root, view, Look, look_of_root, look, entry, through, through_places}
 use Rattle.pdl_world.proofs.Dimensions.{IsThrough, look_dims, through_is}
 use Rattle.pdl_world.proofs.Proved.{new_live, ok_of}
-use Rattle.pdl_world.proofs.Looks.{HasRoot, IsShown, look_older, look_root, look_view, through_root}
+use Rattle.pdl_world.proofs.Looks.{HasRoot, IsShown, look_older, look_view, through_root}
 
 -- what these proofs take from the layers below
 pub record Facts : Type 0 where

@@ -161,3 +161,6 @@ returns-clause-listed g c = subst (λ (o : Option ℕ). IsListed c.args.loose.no
 
 pub returns-in_err-kept-clause-listed : goal.returns-in_err-kept-clause-listed
 returns-in_err-kept-clause-listed g c = subst (λ (o : Option ℕ). IsListed c.args.loose.now.items c.first_copied.new.loose.items o) (c.refresh.ensures.kept.alike.parent_is c.args.id ∙ c.settle.ensures.settled.ready.alike.parent_is c.args.id) c.first_copied.ensures.listed
+
+pub cut-requires-clause-same_type : goal.cut-requires-clause-same_type
+cut-requires-clause-same_type g c = ap (λ (k : TypedElements). k.ty) c.in_ok-kept.ensures.value

@@ -3,7 +3,7 @@ use Rattle.std.proofs.Common.{◌≡◌, ℕ, ◌+◌, ◌<◌, List, ap, sym, �
 use Rattle.std.proofs.lemmas.Grind.{flat_map-append}
 use Rattle.std.proofs.lemmas.List.{take_more}
 use Rattle.std.proofs.lemmas.List.Sums.{sum_by_more, sum_by_more_le}
-use Rattle.std.specs.Prelude.{flat_map, sum_by, length, ◌≤◌}
+use Rattle.std.specs.Prelude.{flat_map, length, ◌≤◌}
 use Rattle.pdl_lex.specs.Pieces.{pieces, to_come}
 use Rattle.pdl_lex.proofs.parts.cut_parts.Goals as goal
 

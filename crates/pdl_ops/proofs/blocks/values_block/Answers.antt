@@ -1,6 +1,5 @@
 -- The values stand before the operands, each as long as the block.
-use Rattle.std.proofs.Common.{◌≡◌, ℕ, ℤ, List, ◌++◌, length, length-append, take, All, arith, ap, ap₂, sym, subst, ◌∙◌, Result, Ok, Err}
-use Rattle.std.specs.Result.{OnOk}
+use Rattle.std.proofs.Common.{◌≡◌, ℕ, ◌++◌, length, length-append, take, All, arith, ap, ap₂, sym, subst, ◌∙◌}
 use Rattle.std.proofs.lemmas.Result.{on_ok_weaker}
 use Rattle.pdl_lemmas.specs.Lists.{take_written}
 use Rattle.pdl_elem.specs.Blocks.{pairwise, zero_at}

@@ -1,5 +1,5 @@
 -- Rows between two brackets.
-use Rattle.std.proofs.Common.{ℕ, ℤ, List, ◌+◌, ◌*◌, ◌++◌, ◌∷◌, [], take, drop, ap, sym, ◌∙◌, append_assoc}
+use Rattle.std.proofs.Common.{ℕ, List, ◌+◌, ◌*◌, ◌++◌, ◌∷◌, [], take, drop, ap, sym, ◌∙◌, append_assoc}
 use Rattle.std.proofs.lemmas.Result.{on_ok_weaker}
 use Rattle.pdl_print.specs.Printed.{lines, spaces}
 use Rattle.pdl_print.proofs.Fronts.{begins_then}
