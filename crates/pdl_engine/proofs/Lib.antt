@@ -1,6 +1,7 @@
 mod Results
 mod Refusals
 mod Fits
+mod Packs
 mod Stating
 mod Deeper
 mod Lending

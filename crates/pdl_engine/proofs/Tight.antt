@@ -123,22 +123,22 @@ tight_same facts old new id xs ys hs s h c l e t = record {
 }
 
 -- one array is a root, whose parent is listed
-tight_rooted : (facts : RowLaws) → (old new : Rows) (id : ℕ) (xs ys : List ℕ) (hs : Counts) (ty : Ty) (ds : List ℕ) (es : List ℤ) → IsStill old → has old id ≡ true → ChangesRows old id new → IsListed xs ys (parent_of (row_at old id)) → ListsParent ys (parent_of (row_at old id))
+tight_rooted : (facts : RowLaws) → (old new : Rows) (id : ℕ) (xs ys : List ℕ) (hs : Counts) (ty : Ty) (ds : List ℕ) (es : List ℤ) → IsStill old → has old id ≡ true → ChangesRows old id new → IsListed xs ys (parent_of (row_at old id)) → ListsParent hs ys (parent_of (row_at old id))
     → world_of new ≡ replaced (world_of old) id (root ty ds es) → IsTight xs old hs → IsTight ys new hs
 tight_rooted facts old new id xs ys hs ty ds es s h c l p e t = record {
   live = listed_live facts old new id xs ys hs s h c l t;
   tight = λ v y d u. views_of new (replaced (world_of old) id (root ty ds es)) v e
-      ∙ views_rooted (latest old) old id v ty ds es (facts.seen.falls old s) (λ q. (let z : true ≡ false = sym (p v q) ∙ d in absurd (cc)))
+      ∙ views_rooted (latest old) old id v ty ds es (facts.seen.falls old s) (λ q. (let z : true ≡ false = sym (p v q u) ∙ d in absurd (cc)))
       ∙ t.tight v (sym (c.has_is v) ∙ y) (unlisted xs ys (parent_of (row_at old id)) v l d) u;
 }
 
 pub tight_reshaped : (facts : RowLaws) → {A E : Type 0} (old new : Rows) (id : ℕ) (xs ys : List ℕ) (hs : Counts) (ds : List ℕ) (r : Result A E) → IsStill old → has old id ≡ true → ChangesRows old id new → IsListed xs ys (parent_of (row_at old id))
-    → OnOk r (ListsParent ys (parent_of (row_at old id))) → OnOk r (world_of new ≡ reshape (world_of old) id ds) → OnErr r (world_of new ≡ world_of old) → IsTight xs old hs → IsTight ys new hs
+    → OnOk r (ListsParent hs ys (parent_of (row_at old id))) → OnOk r (world_of new ≡ reshape (world_of old) id ds) → OnErr r (world_of new ≡ world_of old) → IsTight xs old hs → IsTight ys new hs
 tight_reshaped facts old new id xs ys hs ds (Ok a) s h c l p e f t = tight_rooted facts old new id xs ys hs (ty_in (world_of old) id) ds (fitted (size_of ds) (elements (world_of old) id)) s h c l p e t
 tight_reshaped facts old new id xs ys hs ds (Err a) s h c l p e f t = tight_same facts old new id xs ys hs s h c l f t
 
 pub tight_severed : (facts : RowLaws) → {A E : Type 0} (old new : Rows) (id : ℕ) (xs ys : List ℕ) (hs : Counts) (r : Result A E) → IsStill old → has old id ≡ true → ChangesRows old id new → IsListed xs ys (parent_of (row_at old id))
-    → ((row_at old id).root ≡ id → new ≡ old) → OnOk r ((row_at old id).root ≢ id → ListsParent ys (parent_of (row_at old id))) → OnOk r (world_of new ≡ sever (world_of old) id) → OnErr r (world_of new ≡ world_of old) → IsTight xs old hs → IsTight ys new hs
+    → ((row_at old id).root ≡ id → new ≡ old) → OnOk r ((row_at old id).root ≢ id → ListsParent hs ys (parent_of (row_at old id))) → OnOk r (world_of new ≡ sever (world_of old) id) → OnErr r (world_of new ≡ world_of old) → IsTight xs old hs → IsTight ys new hs
 tight_severed facts old new id xs ys hs (Err a) s h c l n p e f t = tight_same facts old new id xs ys hs s h c l f t
 tight_severed facts old new id xs ys hs (Ok a) s h c l n p e f t = elim (eqb_tells (row_at old id).root id) [
   | inl y ↦ tight_same facts old new id xs ys hs s h c l (ap world_of (n y.1)) t

@@ -1,7 +1,7 @@
 -- Which arrays may be loose: those that a cut left, which are listed until the next release.
 use Rattle.std.specs.Prelude.{◌≡◌, ℕ, true, false, List, Option, Some}
 use Rattle.pdl_world.specs.Swept.{holds}
-use Rattle.pdl_nodes.specs.Holds.{Counts}
+use Rattle.pdl_nodes.specs.Holds.{Counts, is_held}
 use Rattle.pdl_nodes.specs.Risen.{AreTight}
 use Rattle.pdl_nodes.specs.Rows.{Rows, has}
 
@@ -15,6 +15,7 @@ pub record IsListed (old new : List ℕ) (parent : Option ℕ) : Type 0 where
   pub stays : (v : ℕ) → holds old v ≡ true → holds new v ≡ true
   pub only : (v : ℕ) → holds new v ≡ true → holds old v ≡ false → parent ≡ Some v
 
--- the parent is listed, if there is one
-abbrev pub ListsParent : (listed : List ℕ) → (parent : Option ℕ) → Type 0
-ListsParent listed parent = (p : ℕ) → parent ≡ Some p → holds listed p ≡ true
+-- the parent is listed, if there is one and it isn't held
+abbrev pub ListsParent : Counts → (listed : List ℕ) → (parent : Option ℕ) → Type 0
+ListsParent hs listed parent =
+    (p : ℕ) → parent ≡ Some p → is_held hs p ≡ false → holds listed p ≡ true

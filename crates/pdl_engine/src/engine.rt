@@ -356,7 +356,14 @@ impl Engine {
     {
         row_laws();
         cut_laws();
-        severing::sever(&mut self.table, &mut self.loose, self.alloc, id, steps)
+        severing::sever(
+            &mut self.table,
+            &self.holds,
+            &mut self.loose,
+            self.alloc,
+            id,
+            steps,
+        )
     }
 
     /// Gives an array that has no views other dimensions: it becomes a root of its first elements,
@@ -386,6 +393,7 @@ impl Engine {
         let _limits = dims_list(dims);
         severing::reshape(
             &mut self.table,
+            &self.holds,
             &mut self.loose,
             self.alloc,
             id,

@@ -1,6 +1,6 @@
 //! Cutting arrays from their parents, and giving them other dimensions (PDL::Core, sever and
 //! reshape).
-ghost use Rattle.std.specs.Prelude.{◌≡◌, ◌≢◌, ℕ, ◌+◌, ◌-◌, ◌≤◌, ◌^◌, pos, true, false, length, replicate, All, IfOk, OnOk, OnErr, is_ok};
+ghost use Rattle.std.specs.Prelude.{◌≡◌, ◌≢◌, ℕ, ◌+◌, ◌-◌, ◌≤◌, ◌^◌, ◌++◌, pos, true, false, length, take, drop, replicate, All, IfOk, OnOk, OnErr, is_ok};
 ghost use Rattle.pdl_elem.specs.Types.{InRange};
 ghost use Rattle.pdl_shape.specs.Shape.{size_of};
 ghost use Rattle.pdl_world.specs.Cut.{fitted, has_views, reshape, sever};
@@ -17,48 +17,109 @@ ghost use Rattle.pdl_nodes.specs.Worlds.{shape, world_of};
 ghost use Rattle.pdl_engine.specs.Loose.{IsListed, ListsParent};
 ghost use Rattle.pdl_engine.specs.Severed.{ChangesRows, RowsAreSettled, RowsStayFresh};
 
-use pdl_buf::{Buf, Steps, Strided, buf_of, strided, strided_dims, strided_read};
-use pdl_nodes::{Table, cut_row_laws, reshape_row_laws, row_laws};
+use pdl_buf::{
+    Buf, Elements, Packing, Steps, Strided, buf_of_elements, strided, strided_dims, strided_read,
+    strided_type,
+};
+use pdl_nodes::{Holds, Table, cut_row_laws, reshape_row_laws, row_laws};
 use pdl_pull::refresh;
 use pdl_push::settle;
 use pdl_shape::{Dims, copy_dims, dims_list, elements_of, shape_laws};
 use std::alloc::{AllocError, Global};
 use std::sync::ledger::Ledger;
 
-/// Reads the first elements that are shown over zeros, as many as there are places.
-fn read_first(window: &Strided<'_>, into: &mut [i64])
-    requires { into.old ≡ replicate (length into.old) (pos 0) }
-    ensures value { into.new ≡ fitted (length into.old) window.now.elems }
-    ensures in_range { All (InRange window.now.ty) into.new }
+/// How many elements are read at once.
+const BLOCK: usize = 512;
+
+/// Packs the elements that are shown from one on, as many as the block is long.
+fn pack_block(
+    window: &Strided<'_>,
+    first: u32,
+    block: &mut [i64],
+    packing: &mut Packing,
+) -> Result<(), AllocError>
+    requires same_type { packing.old.ty ≡ window.now.ty }
+    requires within { first + length block.old ≤ length window.now.elems }
+    ensures length { length block.new ≡ length block.old }
+    ensures same_type { OnOk result (packing.new.ty ≡ packing.old.ty) }
+    ensures ok { OnOk result (packing.new.elems
+        ≡ packing.old.elems ++ take (length block.old) (drop first window.now.elems)) }
 {
-    let shown = elements_of(strided_dims(window)) as usize;
-    if shown < into.len() {
-        strided_read(window, 0, &mut into[..shown]);
-    } else {
-        strided_read(window, 0, into);
+    strided_read(window, first, block);
+    packing.extend(block)
+}
+
+/// Packs the first elements that are shown, block by block.
+fn pack_shown(window: &Strided<'_>, count: u32, packing: &mut Packing) -> Result<(), AllocError>
+    requires same_type { packing.old.ty ≡ window.now.ty }
+    requires within { count ≤ length window.now.elems }
+    ensures same_type { OnOk result (packing.new.ty ≡ packing.old.ty) }
+    ensures ok { OnOk result (packing.new.elems
+        ≡ packing.old.elems ++ take count window.now.elems) }
+{
+    let all = count as usize;
+    let mut block = [0; BLOCK];
+    let mut done = 0;
+    while done < all {
+        let size = (all - done).min(BLOCK);
+        pack_block(window, done as u32, &mut block[..size], packing)?;
+        done += size;
     }
+    Ok(())
 }
 
-/// The first elements that are shown, with zeros after them where there are fewer than `count`.
-fn first_shown(alloc: Global, window: &Strided<'_>, count: u32) -> Result<Vec<i64>, AllocError>
-    ensures items { IfOk result (λ ns. ns.items ≡ fitted count window.now.elems) }
-    ensures in_range { IfOk result (λ ns. All (InRange window.now.ty) ns.items) }
+/// Packs so many zeros, block by block.
+fn pack_zeros(alloc: Global, count: u32, packing: &mut Packing) -> Result<(), AllocError>
+    ensures same_type { OnOk result (packing.new.ty ≡ packing.old.ty) }
+    ensures ok { OnOk result (packing.new.elems
+        ≡ packing.old.elems ++ replicate count (pos 0)) }
 {
-    let mut numbers = vec![in alloc; 0; count as usize]?;
-    read_first(window, &mut numbers);
-    Ok(numbers)
+    let all = count as usize;
+    let zeros = vec![in alloc; 0; all.min(BLOCK)]?;
+    let mut done = 0;
+    while done < all {
+        let size = (all - done).min(BLOCK);
+        packing.extend(&zeros[..size])?;
+        done += size;
+    }
+    Ok(())
 }
 
-/// Lists the parent of an array, if it has one: it may be loose once the array is cut from it.
-fn list_parent(table: &Table, loose: &mut Vec<u64>, id: u64) -> Result<(), AllocError>
+/// The first elements that are shown, with zeros after them where there are fewer than `count`, in
+/// the width of their type.
+fn first_shown(alloc: Global, window: &Strided<'_>, count: u32) -> Result<Elements, AllocError>
+    ensures items { IfOk result (λ ns. ns ≡ fitted count window.now.elems) }
+    ensures in_range { IfOk result (λ ns. All (InRange window.now.ty) ns) }
+{
+    let shown = elements_of(strided_dims(window)).min(count);
+    let mut packing = Packing::new(alloc, strided_type(window), count as usize)?;
+    pack_shown(window, shown, &mut packing)?;
+    pack_zeros(alloc, count - shown, &mut packing)?;
+    packing.are_in_range();
+    Ok(Elements::packed(packing))
+}
+
+/// Lists the parent of an array, if it has one that isn't held: it may be loose once the array is
+/// cut from it.
+fn list_parent(
+    table: &Table,
+    holds: &Holds,
+    loose: &mut Vec<u64>,
+    id: u64,
+) -> Result<(), AllocError>
     requires live { has table.now id ≡ true }
     ensures listed { IsListed loose.old.items loose.new.items (parent_of (row_at table.now id)) }
-    ensures parent { OnOk result (ListsParent loose.new.items (parent_of (row_at table.now id))) }
+    ensures parent { OnOk result
+        (ListsParent holds.now loose.new.items (parent_of (row_at table.now id))) }
 {
     match table.node(id).parent() {
         Some(parent) => {
-            loose.push(parent)?;
-            Ok(())
+            if holds.is_held(parent) {
+                Ok(())
+            } else {
+                loose.push(parent)?;
+                Ok(())
+            }
         }
         None => Ok(()),
     }
@@ -68,6 +129,7 @@ fn list_parent(table: &Table, loose: &mut Vec<u64>, id: u64) -> Result<(), Alloc
 /// than `count`. It takes a step for each that isn't 0. The parent is listed before.
 fn first_copied<L: Ledger>(
     table: &Table,
+    holds: &Holds,
     loose: &mut Vec<u64>,
     alloc: Global,
     id: u64,
@@ -83,15 +145,15 @@ fn first_copied<L: Ledger>(
     }) }
     ensures counted { steps.new ≤ steps.old + count }
     ensures listed { IsListed loose.old.items loose.new.items (parent_of (row_at table.now id)) }
-    ensures parent { OnOk result (ListsParent loose.new.items (parent_of (row_at table.now id))) }
+    ensures parent { OnOk result (ListsParent holds.now loose.new.items (parent_of (row_at table.now id))) }
 {
     row_laws();
     shape_laws();
-    list_parent(table, loose, id)?;
+    list_parent(table, holds, loose, id)?;
     let node = table.node(id);
     let base = table.node(node.base());
     let elements = first_shown(alloc, &strided(base.kept(), node.triple()), count)?;
-    buf_of(alloc, node.ty(), &elements, steps)
+    buf_of_elements(alloc, node.ty(), elements, steps)
 }
 
 /// Cuts an array from its parent, which is listed: it becomes a root with its elements, and its own
@@ -100,6 +162,7 @@ fn first_copied<L: Ledger>(
 /// elements that isn't 0.
 pub fn sever<L: Ledger>(
     table: &mut Table,
+    holds: &Holds,
     loose: &mut Vec<u64>,
     alloc: Global,
     id: u64,
@@ -125,7 +188,7 @@ pub fn sever<L: Ledger>(
         + size_of (row_at table.old id).triple.dims) }
     ensures listed { IsListed loose.old.items loose.new.items (parent_of (row_at table.old id)) }
     ensures parent { OnOk result ((row_at table.old id).root ≢ id
-        → ListsParent loose.new.items (parent_of (row_at table.old id))) }
+        → ListsParent holds.now loose.new.items (parent_of (row_at table.old id))) }
 {
     row_laws();
     cut_row_laws();
@@ -136,7 +199,7 @@ pub fn sever<L: Ledger>(
     refresh(table, alloc, id, steps)?;
     let dims = copy_dims(&table.node(id).triple().dims);
     let count = elements_of(&dims);
-    let kept = first_copied(table, loose, alloc, id, count, steps)?;
+    let kept = first_copied(table, holds, loose, alloc, id, count, steps)?;
     table.cut(alloc, id, &dims, kept);
     Ok(())
 }
@@ -147,6 +210,7 @@ pub fn sever<L: Ledger>(
 /// one for each of its new elements that isn't 0.
 pub fn reshape<L: Ledger>(
     table: &mut Table,
+    holds: &Holds,
     loose: &mut Vec<u64>,
     alloc: Global,
     id: u64,
@@ -168,7 +232,7 @@ pub fn reshape<L: Ledger>(
         + (outdated table.old id + waiting_size table.old (waiting_of table.old id)
         + size_of dims.now) }
     ensures listed { IsListed loose.old.items loose.new.items (parent_of (row_at table.old id)) }
-    ensures parent { OnOk result (ListsParent loose.new.items (parent_of (row_at table.old id))) }
+    ensures parent { OnOk result (ListsParent holds.now loose.new.items (parent_of (row_at table.old id))) }
 {
     row_laws();
     reshape_row_laws();
@@ -177,7 +241,7 @@ pub fn reshape<L: Ledger>(
     let count = elements_of(dims);
     settle(table, id, steps);
     refresh(table, alloc, id, steps)?;
-    let kept = first_copied(table, loose, alloc, id, count, steps)?;
+    let kept = first_copied(table, holds, loose, alloc, id, count, steps)?;
     table.become_root(alloc, id, dims, kept);
     Ok(())
 }

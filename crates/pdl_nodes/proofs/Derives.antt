@@ -12,12 +12,12 @@ use Rattle.pdl_nodes.specs.Row.{root_row, Row, parent_from, parent_of}
 use Rattle.pdl_nodes.specs.Rows.{Rows, row_at, has, each, NumbersBelow, Falls}
 use Rattle.pdl_nodes.specs.Sized.{IsLayout, LaidFrom, AreSized}
 use Rattle.pdl_nodes.specs.Still.{StillFrom, IsStill}
-use Rattle.pdl_nodes.proofs.CutOrder.{same_row, cut_row, is_cut}
+use Rattle.pdl_nodes.proofs.CutOrder.{same_row, cut_row, is_cut, leaves_families}
 use Rattle.pdl_nodes.proofs.CutRows.{LawsBelow, IsLike, cut_like}
 use Rattle.pdl_nodes.proofs.FamilyLemmas.{still_falls}
 use Rattle.pdl_nodes.proofs.Finds.{not_newest, has_below, each_has, each_at, falls_each}
 use Rattle.pdl_nodes.proofs.Firsts.{IsFirst, is_first}
-use Rattle.pdl_nodes.proofs.Marks.{each_live, each_each}
+use Rattle.pdl_nodes.proofs.Marks.{each_live, each_each, each_id}
 use Rattle.pdl_nodes.proofs.Seens.{row_older, has_older}
 use Rattle.std.proofs.lemmas.Bool.{eq-eqb, ne_eqb}
 
@@ -244,6 +244,23 @@ cutting_more t0 v ds es t new next later id s c e n b =
       ];
       rest = λ u g l. row u g ∙ rw (ne_eqb u id (λ y. (let z : ⊥ = omega arith in z))) (a.rest u g (omega arith));
     }
+
+-- one that is of another family is derived anew as it is
+pub derives_same : LawsBelow → (t0 : Rows) (v : ℕ) (ds : List ℕ) (es : List ℤ) (t : Rows) (next : Option ℕ) (id : ℕ) → CanCut t0 v ds es → IsCutting t0 v ds es t next → next ≡ Some id
+    → ((row_at t id).root ≡ (row_at t0 v).root → ⊥) → each (derived_in t id) t ≡ t
+derives_same laws t0 v ds es t next id k c e n =
+    let s : IsStill t0 = k.order.still in
+    let a : IsAt t0 v ds es t id = is_at t0 v ds es t next id c e in
+    let ne : id ≡ v → ⊥ = λ y. (let x : v < id = a.newer in let z : ⊥ = omega arith in z) in
+    let falls : Falls t = subst (λ (x : Rows). Falls x) (sym c.rows) (falls_each (λ k r. row_at t k) t0 (still_falls t0 s)) in
+    let last : derive t id (row_at t0 id) (row_at t0 id).origin ≡ row_at (cut t0 v ds es) id =
+    derive_same t (cut t0 v ds es) id (row_at t0 id) (row_at t0 id).origin (λ p q. (let w : HasAbove t0 id p = has_above t0 s id p a.live q in a.done p w.live w.older)) ∙ sym (cut_step t0 s v ds es id a.live ne) in
+    let same : derive t id (row_at t id) (row_at t id).origin ≡ row_at t id =
+    ap (λ (z : Row). derive t id z z.origin) a.here ∙ last ∙ leaves_families laws t0 v ds es k id a.live (λ y. n (ap (λ (r : Row). r.root) a.here ∙ y)) ∙ sym a.here in
+    each_live (derived_in t id) (λ k r. r) t falls (λ u h. elim (eqb_tells u id) [
+      | inl y ↦ rw y.0 (let P : ℕ → Type 0 = λ x. derive t id (row_at t x) (row_at t x).origin ≡ row_at t x in subst P (sym y.1) same)
+      | inr y ↦ rw y.0 refl
+    ]) ∙ each_id t
 
 pub cutting_done : (t0 : Rows) (v : ℕ) (ds : List ℕ) (es : List ℤ) (t : Rows) (next : Option ℕ) → IsStill t0 → IsCutting t0 v ds es t next → next ≡ None → t ≡ cut t0 v ds es
 cutting_done t0 v ds es t next s c e =

@@ -10,7 +10,7 @@ use Rattle.pdl_shape.specs.Triple.{Triple}
 use Rattle.pdl_world.specs.declared.Trans.{Trans}
 use Rattle.pdl_world.specs.Formula.{child_dims, source}
 use Rattle.pdl_nodes.specs.Parts.{assign_part}
-use Rattle.pdl_world.specs.World.{World, view, root_elements, elements, assign}
+use Rattle.pdl_world.specs.World.{World, view, root_elements, elements}
 use Rattle.pdl_world.specs.Windows.{over}
 use Rattle.pdl_nodes.specs.declared.origin.Layout.{Layout}
 use Rattle.pdl_nodes.specs.declared.origin.Origin.{Origin}

@@ -1,8 +1,12 @@
 -- The places of an array over its root, and over another base.
-use Rattle.std.proofs.Common.{◌≡◌, ℕ, true, List, [], ◌∷◌, map, Option, Some, None, refl, sym, ◌∙◌, ap, subst, arith}
+use Rattle.std.proofs.Common.{◌≡◌, ℕ, true, false, List, [], ◌∷◌, map, Option, Some, None, is_some, inl, inr, refl, sym, ◌∙◌, ap, subst, arith}
+use Rattle.std.proofs.lemmas.Bool.{cases_eq}
 use Rattle.std.specs.List.{range_with_len}
 use Rattle.std.proofs.lemmas.List.FromFn.{get_or-map-range_with_len}
 use Rattle.pdl_shape.specs.Shape.{size_of}
+use Rattle.pdl_nodes.specs.Alike.{is_fresh_in}
+use Rattle.pdl_nodes.specs.Families.{InOrder}
+use Rattle.pdl_nodes.specs.Known.{AreKnown}
 use Rattle.pdl_nodes.specs.Rows.{Rows, row_at, has}
 use Rattle.pdl_nodes.specs.Assigned.{entry}
 use Rattle.pdl_nodes.specs.Placed.{in_order, placed, placed_by}
@@ -36,3 +40,18 @@ over_root rs rt v s h i e =
 pub over_base : (rs : Rows) (b v : ℕ) (ps : List (Option ℕ)) → IsStill rs → has rs v ≡ true → (row_at rs v).base ≡ b → ps ≡ places_of rs b → places_of rs v ≡ placed_by (Some ps) (row_at rs v).triple
 over_base rs b v ps s h e k =
     (is_seen rs s v h).over ∙ ap (λ x. map (entry (places_of rs x)) (spots (row_at rs v).triple)) e ∙ ap (λ (qs : List (Option ℕ)). map (entry qs) (spots (row_at rs v).triple)) (sym k)
+
+-- so those of an array that can be lent are had of what is known of its base
+known_from : (rs : Rows) (v : ℕ) (o : Option (List (Option ℕ))) → (row_at rs (row_at rs v).base).places ≡ o → InOrder rs → AreKnown rs → has rs v ≡ true → is_fresh_in rs v ≡ true → placed_by o (row_at rs v).triple ≡ places_of rs v
+known_from rs v None e o a h f =
+    let s : IsSeen rs v = is_seen rs o.still v h in
+    elim (cases_eq (row_at rs (row_at rs v).base).root (row_at rs v).base) [
+      | inl y ↦ sym (over_root rs (row_at rs v).base v o.still h (s.base_has, y) refl)
+      | inr n ↦ (let c : false ≡ true = sym (ap is_some e) ∙ (a (row_at rs v).base s.base_has).found f n in absurd (cc))
+    ]
+known_from rs v (Some ps) e o a h f =
+    let s : IsSeen rs v = is_seen rs o.still v h in
+    sym (over_base rs (row_at rs v).base v ps o.still h refl ((a (row_at rs v).base s.base_has).places ps e))
+
+pub over_known : (rs : Rows) (v : ℕ) → InOrder rs → AreKnown rs → has rs v ≡ true → is_fresh_in rs v ≡ true → placed_by (row_at rs (row_at rs v).base).places (row_at rs v).triple ≡ places_of rs v
+over_known rs v o a h f = known_from rs v (row_at rs (row_at rs v).base).places refl o a h f

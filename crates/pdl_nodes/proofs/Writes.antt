@@ -1,17 +1,14 @@
 -- Values are put into the root or the base of an array, while the places of its base are out of the table.
-use Rattle.std.proofs.Common.{◌≡◌, ℕ, ℤ, true, false, eqb, cond, List, [], ◌∷◌, drop, map, Option, Some, None, is_some, inl, inr, refl, sym, ◌∙◌, ap, subst}
-use Rattle.std.proofs.lemmas.Bool.{cases_eq, eq-eqb, ne_eqb}
+use Rattle.std.proofs.Common.{◌≡◌, ℕ, ℤ, true, eqb, cond, List, [], ◌∷◌, drop, map, Option, Some, None, inl, inr, refl, sym, ◌∙◌, ap, subst}
+use Rattle.std.proofs.lemmas.Bool.{eq-eqb, ne_eqb}
 use Rattle.std.proofs.lemmas.Bool.Decides.{eqb_tells}
 use Rattle.slab.specs.Slab.{Slab, get, ContainsKey, with_value}
 use Rattle.pdl_shape.specs.Places.{write}
-use Rattle.pdl_nodes.specs.Alike.{is_fresh_in}
 use Rattle.pdl_nodes.specs.Assigned.{entry, seen_at}
 use Rattle.pdl_nodes.specs.Changes.{kept_in}
-use Rattle.pdl_nodes.specs.Families.{InOrder}
-use Rattle.pdl_nodes.specs.Known.{AreKnown}
 use Rattle.pdl_nodes.specs.Marked.{AreListed}
 use Rattle.pdl_nodes.specs.Numbered.{value_at}
-use Rattle.pdl_nodes.specs.Placed.{goes_by, placed, placed_by}
+use Rattle.pdl_nodes.specs.Placed.{goes_by, placed}
 use Rattle.pdl_nodes.specs.Put.{IsWrite, goal_at, places_at, put_at}
 use Rattle.pdl_nodes.specs.Row.{Row, goal_of, is_buffered, shown_of}
 use Rattle.pdl_nodes.specs.Rows.{Rows, row_at, has, each, Falls}
@@ -29,26 +26,11 @@ use Rattle.pdl_nodes.proofs.Liftings.{IsPutBack}
 use Rattle.pdl_nodes.proofs.Listing.{table_one, listed_each}
 use Rattle.pdl_nodes.proofs.Marks.{each_each, each_live, kept_here, kept_others}
 use Rattle.pdl_nodes.proofs.Origins.{root_buffered}
-use Rattle.pdl_nodes.proofs.OverBases.{over_base, over_root}
+use Rattle.pdl_nodes.proofs.OverBases.{over_known}
 use Rattle.pdl_nodes.proofs.Seens.{is_seen}
 use Rattle.pdl_nodes.proofs.Shapes.{mark_buffered}
 
 -- ---- where values go
--- the places of an array over what is known of its marked base
-known_from : (rs : Rows) (v : ℕ) (o : Option (List (Option ℕ))) → (row_at rs (row_at rs v).base).places ≡ o → InOrder rs → AreKnown rs → has rs v ≡ true → is_fresh_in rs v ≡ true → placed_by o (row_at rs v).triple ≡ places_of rs v
-known_from rs v None e o a h f =
-    let s : IsSeen rs v = is_seen rs o.still v h in
-    elim (cases_eq (row_at rs (row_at rs v).base).root (row_at rs v).base) [
-      | inl y ↦ sym (over_root rs (row_at rs v).base v o.still h (s.base_has, y) refl)
-      | inr n ↦ (let c : false ≡ true = sym (ap is_some e) ∙ (a (row_at rs v).base s.base_has).found f n in absurd (cc))
-    ]
-known_from rs v (Some ps) e o a h f =
-    let s : IsSeen rs v = is_seen rs o.still v h in
-    sym (over_base rs (row_at rs v).base v ps o.still h refl ((a (row_at rs v).base s.base_has).places ps e))
-
-known_places : (rs : Rows) (v first : ℕ) (vs : List ℤ) → IsWrite rs v first vs → placed_by (row_at rs (row_at rs v).base).places (row_at rs v).triple ≡ places_of rs v
-known_places rs v first vs w = known_from rs v (row_at rs (row_at rs v).base).places refl w.order w.known w.live w.fresh
-
 seen_same : (f g : ℕ → Option ℕ) (is : List ℕ) → map f is ≡ map g is → map (λ q. seen_at (f q) q) is ≡ map (λ q. seen_at (g q) q) is
 seen_same f g [] e = refl
 seen_same f g (i ∷ is) e =
@@ -72,7 +54,7 @@ aimed Root rs v first vs w =
       live = s.root_has;
       buffered = root_buffered rs w.order.still (row_at rs v).root s.root_has s.root_root;
       ty_is = sym s.root_ty;
-      places = known_places rs v first vs w;
+      places = over_known rs v w.order w.known w.live w.fresh;
     }
 aimed Base rs v first vs w =
     let s : IsSeen rs v = is_seen rs w.order.still v w.live in
@@ -80,7 +62,7 @@ aimed Base rs v first vs w =
       live = s.base_has;
       buffered = mark_buffered (row_at rs (row_at rs v).base) w.fresh;
       ty_is = sym s.base_ty;
-      places = seen_same (placed (row_at rs (row_at rs v).base).places) (entry (places_of rs (row_at rs v).base)) (spots (row_at rs v).triple) (known_places rs v first vs w ∙ s.over);
+      places = seen_same (placed (row_at rs (row_at rs v).base).places) (entry (places_of rs (row_at rs v).base)) (spots (row_at rs v).triple) (over_known rs v w.order w.known w.live w.fresh ∙ s.over);
     }
 
 -- what is so of the array that values go into, where it is found by what is shown of v

@@ -1,9 +1,11 @@
 -- Laws of rows that are still: what the row of an array says of it.
 use Rattle.std.specs.List.{range_with_len}
-use Rattle.std.specs.Prelude.{◌≡◌, ◌+◌, ◌<◌, ◌≤◌, ◌∷◌, ℕ, ℤ, List, Option, Some, None, true, length, map, ◌≢◌, is_some}
+use Rattle.std.specs.Prelude.{◌≡◌, ◌+◌, ◌<◌, ◌≤◌, ◌∷◌, ℕ, ℤ, List, Option, Some, None, true, length, map}
 use Rattle.pdl_nodes.specs.Alike.{is_fresh_in}
+use Rattle.pdl_nodes.specs.Families.{InOrder}
+use Rattle.pdl_nodes.specs.Known.{AreKnown}
 use Rattle.pdl_nodes.specs.Outcomes.{PathIsFresh}
-use Rattle.pdl_nodes.specs.Placed.{in_order, placed_by}
+use Rattle.pdl_nodes.specs.Placed.{placed_by}
 use Rattle.pdl_nodes.specs.Row.{Row, is_buffered, parent_of}
 use Rattle.pdl_nodes.specs.Rows.{Falls, Rows, has, row_at}
 use Rattle.pdl_nodes.specs.Seen.{IsSeen, IsViewAt, path_from}
@@ -34,10 +36,6 @@ pub record SeenLaws : Type 0 where
   pub parentless :
       (rs : Rows) (v : ℕ) → IsStill rs → has rs v ≡ true → parent_of (row_at rs v) ≡ None
       → (row_at rs v).root ≡ v
-  -- another one has a parent
-  pub view_parent :
-      (rs : Rows) → IsStill rs → (v : ℕ) → has rs v ≡ true → (row_at rs v).root ≢ v
-      → is_some (parent_of (row_at rs v)) ≡ true
   -- the base of an array is there
   pub base_live :
       (rs : Rows) (b v : ℕ) → IsStill rs → has rs v ≡ true → (row_at rs v).base ≡ b
@@ -62,19 +60,11 @@ pub record SeenLaws : Type 0 where
   pub path_first :
       (rs : Rows) (v : ℕ) → IsStill rs → has rs v ≡ true → PathIsFresh rs v
       → is_fresh_in rs v ≡ true
-  -- the places of a root are all that it has, in order
-  pub root_in_order :
-      (rs : Rows) (rt : ℕ) → IsStill rs → IsRoot rs rt
-      → places_of rs rt ≡ in_order (size_of (row_at rs rt).triple.dims)
-  -- those of an array that is shown over its root are those that its triple shows
-  pub over_root :
-      (rs : Rows) (rt v : ℕ) → IsStill rs → has rs v ≡ true → IsRoot rs rt
-      → (row_at rs v).base ≡ rt → places_of rs v ≡ placed_by None (row_at rs v).triple
-  -- and those of one that is shown over another base are the places of that at these
-  pub over_base :
-      (rs : Rows) (b v : ℕ) (ps : List (Option ℕ)) → IsStill rs → has rs v ≡ true
-      → (row_at rs v).base ≡ b → ps ≡ places_of rs b
-      → places_of rs v ≡ placed_by (Some ps) (row_at rs v).triple
+  -- the places of an array that can be lent are those that its triple shows over what is known of
+  -- its base
+  pub over_known :
+      (rs : Rows) (v : ℕ) → InOrder rs → AreKnown rs → has rs v ≡ true → is_fresh_in rs v ≡ true
+      → placed_by (row_at rs (row_at rs v).base).places (row_at rs v).triple ≡ places_of rs v
   -- the elements of an array are read at its places, from the latest of its root
   pub elements_are :
       (rs : Rows) (v : ℕ) → IsStill rs → has rs v ≡ true

@@ -435,8 +435,22 @@ impl Table {
         }
     }
 
+    /// Derives a view anew from its parent if it is of the family of this root. In another family
+    /// there is nothing to derive.
+    fn derive_in(&mut self, alloc: Global, root: u64, id: u64)
+        requires live { has self.old id ≡ true }
+        requires can { CanDerive self.old id }
+        requires others { (row_at self.old id).root ≢ root
+            → each (derived_in self.old id) self.old ≡ self.old }
+        ensures { self.new ≡ each (derived_in self.old id) self.old }
+    {
+        if self.node(id).root() == root {
+            self.derive(alloc, id);
+        }
+    }
+
     /// Cuts a view from its parent: it becomes a root with these elements, and what is derived of
-    /// each newer node is derived anew.
+    /// each newer node of its family is derived anew.
     pub fn cut(&mut self, alloc: Global, id: u64, dims: &Dims, kept: Buf)
         requires can { CanCut self.old id dims.now kept.elems }
         requires same_type { kept.ty ≡ (row_at self.old id).ty }
@@ -447,10 +461,11 @@ impl Table {
         triple_laws();
         view_laws();
         window_laws();
+        let root = self.node(id).root();
         self.become_root(alloc, id, dims, kept);
         let mut next = self.from(id + 1);
         while let Some(newer) = next {
-            self.derive(alloc, newer);
+            self.derive_in(alloc, root, newer);
             next = self.from(newer + 1);
         }
     }

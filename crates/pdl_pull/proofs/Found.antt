@@ -14,7 +14,7 @@ use Rattle.pdl_world.specs.World.{Look}
 use Rattle.pdl_world.specs.declared.Trans.{Trans}
 use Rattle.pdl_nodes.specs.Assigned.{entry}
 use Rattle.pdl_nodes.specs.Families.{InOrder}
-use Rattle.pdl_nodes.specs.Known.{IsKnown, AreKnown}
+use Rattle.pdl_nodes.specs.Known.{AreKnown}
 use Rattle.pdl_nodes.specs.Placed.{placed_by}
 use Rattle.pdl_nodes.specs.Row.{Row}
 use Rattle.pdl_nodes.specs.RowLaws.{RowLaws}
@@ -73,16 +73,10 @@ place_up facts rs b p i t y s h e o l =
     ap (λ ps. entry ps i) (through_parent facts rs b p t y s h o ∙ ap (map (option_and_then (entry (places_of rs p)))) w.places)
     ∙ get_or-map (option_and_then (entry (places_of rs p))) (own_places (row_at rs b).triple.dims y) i None None (omega (arith, len))
 
--- what is known of the places of a marked base gives those of an array that is shown over it
-by_known : (facts : RowLaws) → (rs : Rows) (c p : ℕ) (o : Option (List (Option ℕ))) → (row_at rs c).places ≡ o → InOrder rs → IsKnown rs c → has rs c ≡ true → has rs p ≡ true → (row_at rs p).base ≡ c → (row_at rs c).mark ≡ true → placed_by o (row_at rs p).triple ≡ places_of rs p
-by_known facts rs c p (Some ps) e i k hc h b m = sym (facts.seen.over_base rs c p ps i.still h b (k.places ps e))
-by_known facts rs c p None e i k hc h b m = elim (cases_eq (row_at rs c).root c) [
-  | inl r ↦ sym (facts.seen.over_root rs c p i.still h (hc, r) b)
-  | inr n ↦ (let x : false ≡ true = sym (ap is_some e) ∙ k.found m n in absurd (cc))
-]
-
+-- the places of an array over what is known of its marked base
 pub over_known : (facts : RowLaws) → (rs : Rows) (c p : ℕ) → InOrder rs → AreKnown rs → has rs p ≡ true → (row_at rs p).base ≡ c → (row_at rs c).mark ≡ true → placed_by (row_at rs c).places (row_at rs p).triple ≡ places_of rs p
-over_known facts rs c p i k h b m = by_known facts rs c p (row_at rs c).places refl i (k c (facts.seen.base_live rs c p i.still h b)) (facts.seen.base_live rs c p i.still h b) h b m
+over_known facts rs c p i k h b m =
+    ap (λ x. placed_by (row_at rs x).places (row_at rs p).triple) (sym b) ∙ facts.seen.over_known rs p i k h (ap (λ x. (row_at rs x).mark) b ∙ m)
 
 -- the entries of a view's own places
 own_is : (ds : List ℕ) (y : Layout) (i : ℕ) → i < size_of ds → own_at y i ≡ entry (own_places ds y) i

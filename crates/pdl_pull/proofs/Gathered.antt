@@ -1,6 +1,7 @@
 -- Places that are gathered, one after the other.
-use Rattle.std.proofs.Common.{◌≡◌, ℕ, suc, zero, ◌+◌, ◌<◌, ◌≤◌, Bool, true, false, cond, List, [], ◌∷◌, ◌++◌, length, map, get_or, drop, Option, Some, None, option_and_then, refl, sym, ◌∙◌, ap, arith, add-one, drop-cons}
+use Rattle.std.proofs.Common.{◌≡◌, ℕ, suc, zero, ◌+◌, ◌<◌, ◌≤◌, Bool, true, false, cond, eqb, List, [], ◌∷◌, ◌++◌, length, map, get_or, drop, Option, Some, None, option_and_then, refl, sym, ◌∙◌, ap, arith, add-one, drop-cons}
 use Rattle.std.specs.List.{range_with_len}
+use Rattle.std.proofs.lemmas.Bool.{eq-eqb}
 use Rattle.std.proofs.lemmas.List.{get_or_past}
 use Rattle.std.proofs.lemmas.List.FromFn.{length-map-range_with_len, get_or-map-range_with_len, map-range_with_len_more}
 use Rattle.std.proofs.lemmas.Simd.{map-map}
@@ -28,6 +29,19 @@ twice_here ps i j at e h g a =
     let b : is_among at (drop (suc i) ps) ≡ true = ap (λ k. is_among at (drop k ps)) (sym (e ∙ add-one i)) ∙ a in
     let r : has_repeats (Some at ∷ drop (suc i) ps) ≡ true = rw b refl in
     sym (repeats_drop ps i (ap has_repeats d ∙ r))
+
+-- a place that stands at a position
+among_drop : (at : ℕ) (ps : List (Option ℕ)) (i : ℕ) → is_among at (drop i ps) ≡ true → is_among at ps ≡ true
+among_drop at ps zero h = h
+among_drop at [] (suc i) h = h
+among_drop at (None ∷ ps) (suc i) h = among_drop at ps i h
+among_drop at (Some q ∷ ps) (suc i) h = among_repeats (eqb at q) (is_among at ps) (among_drop at ps i h)
+
+pub among_here : (ps : List (Option ℕ)) (i at other : ℕ) → i < length ps → get_or ps i None ≡ Some other → other ≡ at → true ≡ is_among at ps
+among_here ps i at other h g e =
+    let d : drop i ps ≡ Some other ∷ drop (suc i) ps = drop-cons ps i None h ∙ ap (λ o. o ∷ drop (suc i) ps) g in
+    let r : is_among at (Some other ∷ drop (suc i) ps) ≡ true = rw (eq-eqb at other (sym e)) refl in
+    sym (among_drop at ps i (ap (is_among at) d ∙ r))
 
 -- what a triple shows over known places: how many places, and which
 length_placed : (known : Option (List (Option ℕ))) (t : Triple) → length (placed_by known t) ≡ size_of t.dims

@@ -4,7 +4,7 @@ ghost use Rattle.std.specs.Prelude.{◌≡◌, ℕ, ◌+◌, ◌<◌, ◌≤◌,
 ghost use Rattle.pdl_shape.specs.Places.{AllBelow};
 ghost use Rattle.pdl_shape.specs.Shape.{size_of};
 ghost use Rattle.pdl_nodes.specs.Assigned.{entry};
-ghost use Rattle.pdl_nodes.specs.Families.{has_repeats};
+ghost use Rattle.pdl_nodes.specs.Families.{has_repeats, is_among};
 ghost use Rattle.pdl_nodes.specs.Placed.{placed_by};
 ghost use Rattle.pdl_pull.specs.Gathered.{own_at};
 
@@ -14,8 +14,64 @@ use pdl_nodes::{Layout, entry, placed};
 use pdl_shape::Triple;
 use std::alloc::Global;
 
-/// Whether two positions have the same place, in one pass from the last position on.
+/// Whether a place is among these.
+fn is_among(at: u32, places: &[Option<u32>]) -> bool
+    ensures { result ≡ is_among at places.now }
+{
+    let mut left = places.len();
+    while left > 0 {
+        left -= 1;
+        match places[left] {
+            Some(other) => {
+                if other == at {
+                    return true;
+                }
+            }
+            None => {}
+        }
+    }
+    false
+}
+
+/// Whether two positions have the same place: each place is looked for among the later ones.
+fn has_twice_of_few(places: &[Option<u32>]) -> bool
+    ensures { result ≡ has_repeats places.now }
+{
+    let mut from = places.len();
+    while from > 0 {
+        from -= 1;
+        match places[from] {
+            Some(at) => {
+                if is_among(at, &places[from + 1..]) {
+                    return true;
+                }
+            }
+            None => {}
+        }
+    }
+    false
+}
+
+/// Whether comparing each pair of so many positions costs no more than a note for each element of
+/// the root.
+fn are_few(positions: usize, count: u32) -> bool {
+    positions <= 1024 && positions * positions <= count as usize
+}
+
+/// Whether two positions have the same place: a few by comparing them, and more in one pass from
+/// the last position on, over a list as long as the root.
 pub fn has_twice(alloc: Global, places: &[Option<u32>], count: u32) -> Result<bool, NoMemory>
+    requires { AllBelow count places.now }
+    ensures { IfOk result (λ f. f ≡ has_repeats places.now) }
+{
+    if are_few(places.len(), count) {
+        return Ok(has_twice_of_few(places));
+    }
+    has_twice_of_many(alloc, places, count)
+}
+
+/// Whether two positions have the same place, in one pass from the last position on.
+fn has_twice_of_many(alloc: Global, places: &[Option<u32>], count: u32) -> Result<bool, NoMemory>
     requires { AllBelow count places.now }
     ensures { IfOk result (λ f. f ≡ has_repeats places.now) }
 {

@@ -145,7 +145,7 @@ pub returns-then-root-id-clause-settled : goal.returns-then-root-id-clause-settl
 returns-then-root-id-clause-settled g c = λ n. absurd (n (ap (λ (r : Row). r.root) (sym c.node.ensures) ∙ sym c.root.ensures ∙ c.if-root-id.true))
 
 pub returns-clause-parent : goal.returns-clause-parent
-returns-clause-parent g c = λ n. subst (λ (o : Option ℕ). ListsParent c.first_copied.new.loose.items o) (c.refresh.ensures.kept.alike.parent_is c.args.id ∙ c.settle.ensures.settled.ready.alike.parent_is c.args.id) c.in_ok-kept.ensures.parent
+returns-clause-parent g c = λ n. subst (λ (o : Option ℕ). ListsParent c.args.holds.now c.first_copied.new.loose.items o) (c.refresh.ensures.kept.alike.parent_is c.args.id ∙ c.settle.ensures.settled.ready.alike.parent_is c.args.id) c.in_ok-kept.ensures.parent
 
 pub refresh-requires-clause-live : goal.refresh-requires-clause-live
 refresh-requires-clause-live g c = c.settle.ensures.settled.ready.alike.has_is c.args.id ∙ c.requires.live

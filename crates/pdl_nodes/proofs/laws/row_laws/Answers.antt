@@ -1,6 +1,6 @@
 use Rattle.pdl_nodes.proofs.Alikes.{root_live, base_live, root_own, each_numbers, is_alike, each_past, ready_same, ready_trans}
 use Rattle.pdl_nodes.proofs.Alone.{nothing_goes, all_stand, kept_tells, last_beside, root_waits, alone_from, alone_tells, alone_let_go}
-use Rattle.pdl_nodes.proofs.OverBases.{over_base, over_root, root_in_order}
+use Rattle.pdl_nodes.proofs.OverBases.{over_known}
 use Rattle.pdl_nodes.proofs.CutOrder.{world_ty, world_dims}
 use Rattle.pdl_nodes.proofs.CutRows.{sized_at}
 use Rattle.pdl_nodes.proofs.Falling.{none_goes, none_sum, stays_all, is_going}
@@ -16,7 +16,7 @@ use Rattle.pdl_nodes.proofs.Sizes.{sized_alike}
 use Rattle.pdl_nodes.proofs.Shapes.{marked_live, mark_buffered}
 use Rattle.pdl_nodes.proofs.Spotted.{below_at}
 use Rattle.pdl_nodes.proofs.WorldLemmas.{look_with}
-use Rattle.pdl_nodes.proofs.Origins.{own_root, view_parent, root_buffered}
+use Rattle.pdl_nodes.proofs.Origins.{own_root, root_buffered}
 use Rattle.pdl_nodes.proofs.Marks.{each_each, each_live}
 use Rattle.pdl_nodes.proofs.laws.row_laws.Goals as goal
 
@@ -45,15 +45,12 @@ returns c = record {
     base_live = base_live;
     root_own = root_own;
     parentless = own_root;
-    view_parent = view_parent;
     parent_live = parent_live;
     parent_root = parent_root;
     view_at = view_at;
     path_is = path_is;
     path_first = path_first;
-    over_base = over_base;
-    over_root = over_root;
-    root_in_order = root_in_order;
+    over_known = over_known;
     elements_are = elements_are;
     ty_are = world_ty;
     dims_are = world_dims;

@@ -1,4 +1,4 @@
-use Rattle.std.proofs.Common.{ℕ, ℤ, List, Option, None, Some, drop, map, sym, ◌∙◌, ap}
+use Rattle.std.proofs.Common.{ℕ, ℤ, List, Option, drop, map, sym, ◌∙◌, ap}
 use Rattle.pdl_shape.specs.Places.{write}
 use Rattle.pdl_nodes.specs.Assigned.{seen}
 use Rattle.pdl_nodes.specs.Placed.{goes_by, placed}

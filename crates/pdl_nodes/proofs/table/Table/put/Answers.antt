@@ -1,4 +1,4 @@
-use Rattle.std.proofs.Common.{◌≡◌, ◌+◌, ◌≤◌, ℕ, All, drop, length, refl, sym, ◌∙◌, ap, subst}
+use Rattle.std.proofs.Common.{◌+◌, ◌≤◌, All, drop, length, refl, sym, ◌∙◌, ap, subst}
 use Rattle.pdl_elem.specs.Types.{InRange}
 use Rattle.pdl_elem.specs.declared.Ty.{Ty}
 use Rattle.pdl_shape.specs.Places.{write}

@@ -1,6 +1,6 @@
 use Rattle.std.proofs.Common.{◌≡◌, ◌<◌, ◌≤◌, ℕ, false, length, get_or, drop}
 use Rattle.pdl_nodes.specs.Families.{is_among, has_repeats}
-use Rattle.pdl_pull.proofs.gathering.has_twice.Given as goal
+use Rattle.pdl_pull.proofs.gathering.has_twice_of_many.Given as goal
 
 abbrev pub invariant-loop-position : goal.invariant-loop-position
 invariant-loop-position l = record {

@@ -2,7 +2,7 @@ use Rattle.std.proofs.Common.{◌<◌, ◌∙◌, sym, false, ℕ, Option, Some,
 use Rattle.std.proofs.lemmas.List.{get_or_default}
 use Rattle.pdl_shape.specs.Places.{IsBelow}
 use Rattle.pdl_pull.proofs.Gathered.{twice_here}
-use Rattle.pdl_pull.proofs.gathering.has_twice.Goals as goal
+use Rattle.pdl_pull.proofs.gathering.has_twice_of_many.Goals as goal
 
 pub returns-then-index : goal.returns-then-index
 returns-then-index c =
