@@ -21,13 +21,11 @@ use Rattle.pdl_sig.specs.declared.SigArg.{SigArg}
 use Rattle.pdl_code.specs.Fit.{code_locals}
 use Rattle.pdl_code.specs.Tree.{Code}
 use Rattle.pdl_kernel.specs.declared.faults.Fault.{Fault}
-use Rattle.pdl_kernel.specs.Arrays.{element}
 use Rattle.pdl_kernel.specs.Call.{first_given, outcome, output, output_element, outputs, start_element, started, stores_from, with_given}
 use Rattle.pdl_kernel.specs.Collecting.{left_in}
-use Rattle.pdl_kernel.specs.Meaning.{Store, argument, nothing}
-use Rattle.pdl_kernel.specs.Places.{blank as none}
+use Rattle.pdl_kernel.specs.Meaning.{Store, argument, element, nothing}
+use Rattle.pdl_kernel.specs.Places.{Window, blank as none}
 use Rattle.pdl_kernel.specs.Setup.{IsShapeOf, outputs_in}
-use Rattle.pdl_kernel.specs.Window.{Window}
 use Rattle.pdl_kernel.proofs.Gathering.{begins}
 use Rattle.pdl_kernel.proofs.Laying.{made_output, size_parts}
 use Rattle.pdl_kernel.proofs.Kept.{HasForm, IsRanged, StaysRanged, blank, blank_store, form_is_kept, get_ranged, range_is_kept, run_relates}

@@ -21,10 +21,9 @@ use Rattle.pdl_kernel.specs.Call.{PlacedFault, first_given, outcome, outputs, ou
 use Rattle.pdl_kernel.specs.Meaning.{Store, argument}
 use Rattle.pdl_kernel.specs.declared.scene.Scene.{Scene}
 use Rattle.pdl_kernel.specs.Collecting.{AreCollected, Collected, left_in}
-use Rattle.pdl_kernel.specs.Places.{blank, count_of}
+use Rattle.pdl_kernel.specs.Places.{Window, blank, count_of}
 use Rattle.pdl_kernel.specs.Scenes.{left_in_order}
 use Rattle.pdl_kernel.specs.Setup.{IsShapeOf, outputs_in, window_of}
-use Rattle.pdl_kernel.specs.Window.{Window}
 use Rattle.pdl_kernel.proofs.Answering.{IsEnd, IsShaped, left_shaped, outputs_are, outputs_made, stores_hold}
 use Rattle.pdl_kernel.proofs.Gathering.{stores_long}
 use Rattle.pdl_kernel.proofs.Starting.{outcome_is, stores_same, window_laid, given_none}
@@ -86,26 +85,43 @@ module _ (laws : PositionLaws) (wraps : WrappingLaws) (args : List SigArg) (code
       outputs_are laws r ms args dims now 0 count (shaped ms e) shapes long
       (λ i d lt. let z : i ≡ 0 + i = omega arith in subst (λ n. IsEnd r ms n (get_or args i d) (get_or now i blank)) z (ends laws r args given ms was now are h count i d lt))
 
-  pub outputs_right : (was now : List Window) (dims : List (List ℕ)) (made : List Made) (x : Result (List Store) PlacedFault) → Wanted ≡ x → was ≡ map (window_of r) (with_given args given) → Collected (Ok tt) was now x → AllZip (IsShapeOf r) args dims
+  outputs_right : (was now : List Window) (dims : List (List ℕ)) (made : List Made) (x : Result (List Store) PlacedFault) → Wanted ≡ x → was ≡ map (window_of r) (with_given args given) → Collected (Ok tt) was now x → AllZip (IsShapeOf r) args dims
       → made ≡ outputs_in dims now → outputs_of r args x ≡ Ok made
   outputs_right was now dims made (Ok ms) e are h shapes is = ap Ok (sym (is ∙ all_are was now dims ms e are h shapes))
   outputs_right was now dims made (Err f) e are h shapes is = absurd h
 
-  pub outputs_whole : (was now : List Window) (dims : List (List ℕ)) (made : List Made) (x : Result (List Store) PlacedFault) → Wanted ≡ x → was ≡ map (window_of r) (with_given args given) → Collected (Ok tt) was now x → AllZip (IsShapeOf r) args dims
+  outputs_whole : (was now : List Window) (dims : List (List ℕ)) (made : List Made) (x : Result (List Store) PlacedFault) → Wanted ≡ x → was ≡ map (window_of r) (with_given args given) → Collected (Ok tt) was now x → AllZip (IsShapeOf r) args dims
       → made ≡ outputs_in dims now → All (λ (m : Made). IsMade m.ty m.dims m.elems) made
   outputs_whole was now dims made (Ok ms) e are h shapes is =
       let count = stores_long (outcome args code r given) (size_of r.broadcast) 0 ms e in
       subst (All (λ (m : Made). IsMade m.ty m.dims m.elems)) (sym (is ∙ all_are was now dims ms e are h shapes)) (outputs_made laws r ms args 0 count (shaped ms e))
   outputs_whole was now dims made (Err f) e are h shapes is = absurd h
 
-  pub fault_right : (f : RunFault) (was now : List Window) (x : Result (List Store) PlacedFault) → Collected (Err f) was now x → Answers (outputs_of r args x) (Err f)
+  fault_right : (f : RunFault) (was now : List Window) (x : Result (List Store) PlacedFault) → Collected (Err f) was now x → Answers (outputs_of r args x) (Err f)
   fault_right NoMemory was now x h = tt
   fault_right (DivideByZero p) was now x h = ap (outputs_of r args) h
   fault_right (IndexOutOfRange p) was now x h = ap (outputs_of r args) h
 
   -- the walk goes over what the definition says
-  pub collected_as : (stmts : Code) (s : Scene) → stmts ≡ code → s.arguments.items ≡ map (window_of r) (with_given args given) → length s.locals.items ≡ code_locals 0 code
+  collected_as : (stmts : Code) (s : Scene) → stmts ≡ code → s.arguments.items ≡ map (window_of r) (with_given args given) → length s.locals.items ≡ code_locals 0 code
       → stores_from (left_in_order r stmts s) 0 (size_of r.broadcast) ≡ Wanted
   collected_as stmts s same are count =
       ap (λ (c : Code). stores_from (left_in_order r c s) 0 (size_of r.broadcast)) same
-      ∙ stores_same (left_in_order r code s) (outcome args code r given) (size_of r.broadcast) 0 (λ p lt. outcome_is laws args code r given s p (omega (arith, lt)) are count)
+      ∙ stores_same (left_in_order r code s) (outcome args code r given) (size_of r.broadcast) 0 (λ p lt. outcome_is laws wraps args code r given s p (omega (arith, lt)) are count)
+
+  -- what is handed out is what the definition says
+  pub answers_as : (stmts : Code) (s : Scene) (now : List Window) (dims : List (List ℕ)) (made : List Made) → stmts ≡ code → s.arguments.items ≡ map (window_of r) (with_given args given) → length s.locals.items ≡ code_locals 0 code
+      → Collected (Ok tt) s.arguments.items now (stores_from (left_in_order r stmts s) 0 (size_of r.broadcast)) → AllZip (IsShapeOf r) args dims → made ≡ outputs_in dims now
+      → (outputs_of r args Wanted ≡ Ok made) × All (λ (m : Made). IsMade m.ty m.dims m.elems) made
+  answers_as stmts s now dims made same are locals h shapes is =
+      let x = stores_from (left_in_order r stmts s) 0 (size_of r.broadcast) in
+      let e = collected_as stmts s same are locals in (
+        ap (outputs_of r args) (sym e) ∙ outputs_right s.arguments.items now dims made x (sym e) are h shapes is,
+        outputs_whole s.arguments.items now dims made x (sym e) are h shapes is,
+      )
+
+  pub faults_as : (stmts : Code) (s : Scene) (now : List Window) (f : RunFault) → stmts ≡ code → s.arguments.items ≡ map (window_of r) (with_given args given) → length s.locals.items ≡ code_locals 0 code
+      → Collected (Err f) s.arguments.items now (stores_from (left_in_order r stmts s) 0 (size_of r.broadcast)) → Answers (outputs_of r args Wanted) (Err f)
+  faults_as stmts s now f same are locals h =
+      subst (λ (y : Result (List Store) PlacedFault). Answers (outputs_of r args y) (Err f)) (collected_as stmts s same are locals)
+      (fault_right f s.arguments.items now (stores_from (left_in_order r stmts s) 0 (size_of r.broadcast)) h)

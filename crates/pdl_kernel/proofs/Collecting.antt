@@ -15,8 +15,7 @@ use Rattle.pdl_sig.specs.declared.Role.TheVariants.{Input, Output, Both, Temp}
 use Rattle.pdl_sig.specs.Resolution.{is_output}
 use Rattle.pdl_kernel.specs.Collecting.{IsCollected, IsLaid, form_of, left_in}
 use Rattle.pdl_kernel.specs.Meaning.{Store, argument}
-use Rattle.pdl_kernel.specs.Places.{IsWhole, Rest, array_seen, begun_at, cleared, count_of, dot, element_seen, is_written, rest_of, sizes_of}
-use Rattle.pdl_kernel.specs.Window.{Window}
+use Rattle.pdl_kernel.specs.Places.{IsWhole, Rest, Window, array_seen, begun_at, cleared, count_of, dot, element_seen, is_written, rest_of, sizes_of}
 use Rattle.pdl_kernel.proofs.Filling.{given_there, more_there}
 
 -- a window with these elements at broadcast coordinates

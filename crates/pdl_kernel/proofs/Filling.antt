@@ -6,8 +6,7 @@ use Rattle.std.proofs.lemmas.List.{append_assoc, drop-drop, ext_get_or, get_or-d
 use Rattle.std.proofs.lemmas.List.FromFn.{get_or-map-range_with_len, length-map-range_with_len}
 use Rattle.std.proofs.Math.Seq.{drop-append-add, take-append_seam}
 use Rattle.pdl_shape.specs.Laws.{PositionLaws}
-use Rattle.pdl_kernel.specs.Places.{AreInOrder, IsWhole, Rest, array_seen, before_of, behind_of, count_of, element_seen, is_written, rest_of}
-use Rattle.pdl_kernel.specs.Window.{Window}
+use Rattle.pdl_kernel.specs.Places.{AreInOrder, IsWhole, Rest, Window, array_seen, before_of, behind_of, count_of, element_seen, is_written, rest_of}
 use Rattle.pdl_kernel.proofs.Windows.{seen_in_order}
 
 -- a window in order shows a stretch of its buffer

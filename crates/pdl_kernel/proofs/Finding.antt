@@ -7,10 +7,8 @@ use Rattle.pdl_shape.specs.Broadcast.{cut_to}
 use Rattle.pdl_shape.specs.Laws.{PositionLaws}
 use Rattle.pdl_shape.specs.Shape.{IsWithin, position_of, size_of}
 use Rattle.pdl_kernel.specs.declared.axes.Axis.{Axis}
-use Rattle.pdl_kernel.specs.Arrays.{coordinates_in, element}
-use Rattle.pdl_kernel.specs.Meaning.{and_then, element_at, or_range}
-use Rattle.pdl_kernel.specs.Places.{AreInOrder, array_seen, dot, element_seen, found, reach, sizes_of, strides_from, strides_of}
-use Rattle.pdl_kernel.specs.Window.{Window}
+use Rattle.pdl_kernel.specs.Meaning.{and_then, coordinates_in, element, element_at, or_range}
+use Rattle.pdl_kernel.specs.Places.{AreInOrder, Window, array_seen, dot, element_seen, found, reach, sizes_of, strides_from, strides_of}
 
 if_more : (axes : List Axis) (a : Axis) (i q : ℕ) (here : Option ℕ) (cs : Option (List ℕ)) → here ≡ option_map (λ cs. q + a.stride * i + reach axes cs) cs
     → (b : Bool) → (if b then here else None) ≡ option_map (λ cs. q + reach (a ∷ axes) cs) (if b then option_map (λ cs. i ∷ cs) cs else None)

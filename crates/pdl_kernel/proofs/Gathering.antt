@@ -5,7 +5,7 @@ use Rattle.pdl_kernel.specs.declared.faults.Fault.{Fault}
 use Rattle.pdl_kernel.specs.Call.{PlacedFault, fault_at, store_before, stores_from}
 use Rattle.pdl_kernel.specs.Collecting.{AreCollected, Collected}
 use Rattle.pdl_kernel.specs.Meaning.{Store}
-use Rattle.pdl_kernel.specs.Window.{Window}
+use Rattle.pdl_kernel.specs.Places.{Window}
 
 -- the first store and the others
 pub record Begins (r : Result Store Fault) (rest : Result (List Store) PlacedFault) (stores : List Store) : Type 0 where

@@ -11,8 +11,7 @@ use Rattle.pdl_elem.specs.declared.BinaryOp.{BinaryOp}
 use Rattle.pdl_buf.specs.declared.made.Made.{Made}
 use Rattle.pdl_sig.specs.declared.Resolved.{Resolved}
 use Rattle.pdl_kernel.specs.declared.faults.Fault.{Fault}
-use Rattle.pdl_kernel.specs.Arrays.{coordinates_in, element, stored}
-use Rattle.pdl_kernel.specs.Meaning.{Store, and_then, argument, branch, changed, indices, kept, local_type, nothing, or_range, run, start, step, turns, value, with_argument}
+use Rattle.pdl_kernel.specs.Meaning.{Store, and_then, argument, branch, changed, coordinates_in, element, indices, kept, local_type, nothing, or_range, run, start, step, stored, turns, value, with_argument}
 use Rattle.pdl_code.specs.Tree.{Step, Code, repeat, choose, keep, put, done, next}
 
 -- a relation of stores that one assignment keeps

@@ -15,9 +15,8 @@ use Rattle.pdl_sig.specs.declared.SigArg.{SigArg}
 use Rattle.pdl_sig.specs.Resolution.{is_given, is_output, made, made_for}
 use Rattle.pdl_kernel.specs.declared.axes.Axis.{Axis}
 use Rattle.pdl_kernel.specs.Call.{first_given, with_given}
-use Rattle.pdl_kernel.specs.Places.{AreInOrder, axes_of, is_written, sizes_of, strides_from, strides_of}
-use Rattle.pdl_kernel.specs.Setup.{IsShapeOf, elems_with, start_elems, strides_with, window_with}
-use Rattle.pdl_kernel.specs.Window.{Window}
+use Rattle.pdl_kernel.specs.Places.{AreInOrder, Window, axes_of, is_written, sizes_of, strides_from, strides_of}
+use Rattle.pdl_kernel.specs.Setup.{IsShapeOf, elems_with, given_elems, given_strides, start_elems, strides_with, window_with}
 
 -- a first element more
 pub one_more : {X : Type 0} (made rest all : List X) (x : X) (from : List X) → from ≡ x ∷ rest → made ++ from ≡ all → (made ++ x ∷ []) ++ rest ≡ all
@@ -140,11 +139,11 @@ not_input Output h e = cc
 not_input Both h e = cc
 not_input Temp h e = cc
 
-written_strides : (r : Role) (shape : List ℕ) (given : Option Made) → is_written r ≡ true → strides_with r shape given ≡ strides_from 1 shape
-written_strides Input shape given h = cc
-written_strides Output shape given h = refl
-written_strides Both shape given h = refl
-written_strides Temp shape given h = refl
+pub written_strides : (r : Role) (shape : List ℕ) (given : Option Made) → is_written r ≡ true → strides_with r shape given ≡ strides_from 1 shape
+written_strides r shape given h = ap (λ (b : Bool). if b then strides_from 1 shape else given_strides given) h
+
+pub written_elems : (r : Role) (ty : Ty) (shape : List ℕ) (given : Option Made) → is_written r ≡ true → elems_with r ty shape given ≡ start_elems ty shape given
+written_elems r ty shape given h = ap (λ (b : Bool). if b then start_elems ty shape given else given_elems ty given) h
 
 pub laid_in_order : (r : Role) (core broadcast shape : List ℕ) (given : Option Made) → is_written r ≡ true → (r ≢ Input → shape ≡ made r core broadcast) → AreInOrder (axes_of core (strides_with r shape given))
 laid_in_order r core broadcast shape given written is =

@@ -1,19 +1,21 @@
 -- What code leaves in all arguments at one broadcast place after the other.
 use Rattle.std.proofs.Common.{◌≡◌, ℕ, zero, suc, ◌<◌, pos, List, [], ◌∷◌, ◌++◌, length, map, replicate, get_or, Ok, refl, sym, ap, subst, ◌∙◌, arith}
-use Rattle.std.specs.Prelude.{All}
+use Rattle.std.specs.Prelude.{All, Result}
 use Rattle.std.proofs.lemmas.List.{get_or-map, length-map, length-replicate}
 use Rattle.pdl_shape.specs.Laws.{PositionLaws}
 use Rattle.pdl_shape.specs.Shape.{coordinates_of, size_of}
+use Rattle.pdl_buf.specs.declared.made.Made.{Made}
 use Rattle.pdl_sig.specs.declared.Resolved.{Resolved}
 use Rattle.pdl_sig.specs.Refusals.{names_limit}
 use Rattle.pdl_code.specs.Tree.{Code}
+use Rattle.pdl_kernel.specs.declared.faults.Fault.{Fault}
 use Rattle.pdl_kernel.specs.declared.scene.Scene.{Scene}
 use Rattle.pdl_kernel.specs.Collecting.{AreCollected, IsLaid}
 use Rattle.pdl_kernel.specs.Meaning.{Store, nothing, run}
-use Rattle.pdl_kernel.specs.Places.{IsWhole, Rest, array_seen, begun_at, blank, kind_of, rest_of}
-use Rattle.pdl_kernel.specs.Scenes.{kinds_of, rests_at, rests_of, starting, store_of}
-use Rattle.pdl_kernel.specs.Window.{Window}
+use Rattle.pdl_kernel.specs.Places.{IsWhole, Rest, Window, array_seen, begun_at, blank, kind_of, rest_of}
+use Rattle.pdl_kernel.specs.Scenes.{kinds_of, left_in_order, rests_at, rests_of, starting, store_of}
 use Rattle.pdl_kernel.proofs.Collecting.{collected_more, shown_again, whole_there}
+use Rattle.pdl_kernel.proofs.Gathering.{IsBehind, behind_count}
 use Rattle.pdl_kernel.proofs.Kept.{HasForm, blank_store, form_is_kept, run_relates}
 
 kinds_stay : (bs : List ℕ) (ws : List Window) → map kind_of (map (λ w. rest_of (begun_at bs w)) ws) ≡ map kind_of (map rest_of ws)
@@ -48,7 +50,7 @@ module _ (laws : PositionLaws) (broadcast : List ℕ) (ms : List Store) (was : L
   bs = coordinates_of broadcast p
 
   -- code finds what it would have found first
-  pub shown_all : map (λ w. array_seen (begun_at bs w)) now.arguments.items ≡ map (λ w. array_seen (begun_at bs w)) was
+  shown_all : map (λ w. array_seen (begun_at bs w)) now.arguments.items ≡ map (λ w. array_seen (begun_at bs w)) was
   shown_all = map_alike (λ w. array_seen (begun_at bs w)) blank now.arguments.items was h.count
       (λ k lt. shown_again laws broadcast k ms (get_or was k blank) (get_or now.arguments.items k blank) (laid k blank lt) (h.argument k lt) p count inside)
 
@@ -84,3 +86,13 @@ locals_kept r code bs s after ran =
     let form : blank_store (store_of after) ≡ blank_store (starting bs s) = run_relates HasForm form_is_kept r code (replicate names_limit 0) (starting bs s) (store_of after) ran in
     let n = length s.locals.items in
     sym (length-replicate (length after.locals.items) (pos 0)) ∙ ap (λ (m : Store). length m.locals) form ∙ length-replicate (length (replicate n (pos 0))) (pos 0) ∙ length-replicate n (pos 0)
+
+-- what code leaves at a place, after the places before it
+pub place_left : PositionLaws → (r : Resolved) (code : Code) (was now : Scene) (place : ℕ) (at : List ℕ) → All (IsLaid r.broadcast) was.arguments.items → (h : IsBehind (left_in_order r code was) place was.arguments.items now.arguments.items)
+    → length now.locals.items ≡ length was.locals.items → place < size_of r.broadcast → at ≡ coordinates_of r.broadcast place
+    → run r (replicate names_limit 0) code (starting at now) ≡ left_in_order r code was place
+place_left laws r code was now place at laid h locals lt is =
+    let R : List Made → ℕ → Result Store Fault = λ xs k. run r (replicate names_limit 0) code (record { arguments = xs; locals = replicate k (pos 0) }) in
+    ap (λ bs. run r (replicate names_limit 0) code (starting bs now)) is
+    ∙ ap (λ xs. R xs (length now.locals.items)) (shown_all laws r.broadcast h.stores was.arguments.items now laid h.collected place (behind_count _ place _ _ h) lt)
+    ∙ ap (R (map (λ w. array_seen (begun_at (coordinates_of r.broadcast place) w)) was.arguments.items)) locals

@@ -13,11 +13,9 @@ use Rattle.pdl_kernel.specs.declared.faults.Fault.{Fault}
 use Rattle.pdl_kernel.specs.declared.faults.Fault.TheVariants.{IndexOutOfRange}
 use Rattle.pdl_kernel.specs.declared.scene.Scene.{Scene}
 use Rattle.pdl_kernel.specs.Answers.{Becomes}
-use Rattle.pdl_kernel.specs.Arrays.{coordinates_in, element, stored}
-use Rattle.pdl_kernel.specs.Meaning.{Store, and_then, argument, assigned, changed, element_at, indices, nothing, or_range, start, value, with_argument}
-use Rattle.pdl_kernel.specs.Places.{IsSound, IsWhole, Kind, array_seen, blank, found, is_written, kind_of, put_in, reach, rest_of, sizes_of}
+use Rattle.pdl_kernel.specs.Meaning.{Store, and_then, argument, assigned, changed, coordinates_in, element, element_at, indices, nothing, or_range, start, stored, value, with_argument}
+use Rattle.pdl_kernel.specs.Places.{IsSound, IsWhole, Kind, Window, array_seen, blank, found, is_written, kind_of, put_in, reach, rest_of, sizes_of}
 use Rattle.pdl_kernel.specs.Scenes.{kinds_of, rests_of, store_of}
-use Rattle.pdl_kernel.specs.Window.{Window}
 use Rattle.pdl_kernel.proofs.Finding.{element_found, found_is}
 use Rattle.pdl_kernel.proofs.Windows.{assigned_found, rest_put}
 

@@ -6,7 +6,7 @@ use Rattle.std.proofs.Math.ListN.{get_or-map}
 use Rattle.std.proofs.lemmas.List.{drop_all, length-map}
 use Rattle.std.proofs.lemmas.List.FromFn.{get_or-map-range_with_len, length-map-range_with_len}
 use Rattle.pdl_elem.specs.declared.Ty.{Ty}
-use Rattle.pdl_elem.specs.declared.Ty.TheVariants.{Sbyte, Byte, Short, Ushort, Long, Ulong, Longlong}
+use Rattle.pdl_elem.specs.Laws.{WrappingLaws}
 use Rattle.pdl_elem.specs.Numbers.{wrapped}
 use Rattle.pdl_shape.specs.Broadcast.{cut_to}
 use Rattle.pdl_shape.specs.Laws.{PositionLaws}
@@ -30,7 +30,7 @@ use Rattle.pdl_kernel.specs.Scenes.{left_in_order}
 use Rattle.pdl_kernel.specs.Setup.{elems_with, given_elems, given_strides, start_elems, strides_with, window_of}
 use Rattle.pdl_kernel.proofs.Collecting.{output_written}
 use Rattle.pdl_kernel.proofs.Finding.{stretch, uncut}
-use Rattle.pdl_kernel.proofs.Laying.{axes_sizes, laid_in_order, size_parts, strides_long, zeros_are}
+use Rattle.pdl_kernel.proofs.Laying.{axes_sizes, laid_in_order, made_output, size_parts, strides_long, written_elems, written_strides, zeros_are}
 
 -- core strides and outer strides
 reach_parts : (core ss cs bs : List ℕ) → length cs ≡ length core → dot (drop (length core) ss) bs + reach (axes_of core ss) cs ≡ dot ss (cs ++ bs)
@@ -53,15 +53,6 @@ coordinates_long : (ds : List ℕ) (p : ℕ) → length (coordinates_of ds p) �
 coordinates_long [] p = refl
 coordinates_long (d ∷ ds) p = ap suc (coordinates_long ds _)
 
-zero_stays : (ty : Ty) → wrapped ty (pos 0) ≡ pos 0
-zero_stays Sbyte = refl
-zero_stays Byte = refl
-zero_stays Short = refl
-zero_stays Ushort = refl
-zero_stays Long = refl
-zero_stays Ulong = refl
-zero_stays Longlong = refl
-
 map_in_range : {X : Type 0} (f g : ℕ → X) (a n : ℕ) → ((q : ℕ) → q < a + n → f q ≡ g q) → map f (range_with_len a n) ≡ map g (range_with_len a n)
 map_in_range f g a zero each = refl
 map_in_range f g a (suc n) each =
@@ -83,10 +74,10 @@ shown_is ty core n bs ss es f each =
     ap₂ (λ (ds : List ℕ) (es : List ℤ). let m : Made = record { ty = ty; dims = ds; elems = es } in m) (axes_sizes core ss) elems
 
 -- the element of an input
-input_element : (ty : Ty) (core : List ℕ) (n : ℕ) (given : Option Made) (bs : List ℕ) (p : ℕ) → n ≡ length core
+input_element : WrappingLaws → (ty : Ty) (core : List ℕ) (n : ℕ) (given : Option Made) (bs : List ℕ) (p : ℕ) → n ≡ length core
     → get_or (given_elems ty given) (dot (drop n (given_strides given)) bs + reach (axes_of core (given_strides given)) (coordinates_of core p)) (pos 0) ≡ start_element ty given (coordinates_of core p ++ bs)
-input_element ty core n None bs p count = refl
-input_element ty core n (Some g) bs p count =
+input_element wraps ty core n None bs p count = refl
+input_element wraps ty core n (Some g) bs p count =
     let ss = strides_from 1 g.dims in
     let cs = coordinates_of core p in
     let at : dot (drop n ss) bs + reach (axes_of core ss) cs ≡ position_of g.dims (cut_to g.dims (cs ++ bs)) =
@@ -94,7 +85,7 @@ input_element ty core n (Some g) bs p count =
     ∙ reach_parts core ss cs bs (coordinates_long core p)
     ∙ (let e = stretch 1 g.dims (cs ++ bs) in omega (arith, e)) in
     ap (λ (i : ℕ). get_or (map (wrapped ty) g.elems) i (pos 0)) at
-    ∙ ap (get_or (map (wrapped ty) g.elems) (position_of g.dims (cut_to g.dims (cs ++ bs)))) (sym (zero_stays ty))
+    ∙ ap (get_or (map (wrapped ty) g.elems) (position_of g.dims (cut_to g.dims (cs ++ bs)))) (sym (wraps.same ty (pos 0) (wraps.zero ty)))
     ∙ get_or-map (wrapped ty) g.elems (position_of g.dims (cut_to g.dims (cs ++ bs))) (pos 0)
 
 within_both : (xs ys cs bs : List ℕ) → IsWithin xs cs → IsWithin ys bs → IsWithin (xs ++ ys) (cs ++ bs)
@@ -148,34 +139,16 @@ module _ (laws : PositionLaws) (r : Resolved) (a : SigArg) (given : Option Made)
       (λ q lt. output_element laws ty core r.broadcast (length a.dims) given bs q rank inside lt)
 
   -- what an argument shows at broadcast coordinates
-  pub window_shown : (bs : List ℕ) → IsWithin r.broadcast bs → array_seen (begun_at bs (window_of r (a, given))) ≡ started r bs (a, given)
-  window_shown bs inside = by a.role refl
+  pub window_shown : WrappingLaws → (bs : List ℕ) → IsWithin r.broadcast bs → array_seen (begun_at bs (window_of r (a, given))) ≡ started r bs (a, given)
+  window_shown wraps bs inside = by a.role refl
     where
       by : (x : Role) → a.role ≡ x → array_seen (begun_at bs (window_of r (a, given))) ≡ started r bs (a, given)
-      by Input e = ap (At bs) e ∙ shown_is ty core (length a.dims) bs (given_strides given) (given_elems ty given) (λ q. start_element ty given (coordinates_of core q ++ bs)) (λ q lt. input_element ty core (length a.dims) given bs q rank)
+      by Input e = ap (At bs) e ∙ shown_is ty core (length a.dims) bs (given_strides given) (given_elems ty given) (λ q. start_element ty given (coordinates_of core q ++ bs)) (λ q lt. input_element wraps ty core (length a.dims) given bs q rank)
       by Output e = ap (At bs) e ∙ output_shown bs inside
       by Both e = ap (At bs) e ∙ output_shown bs inside
       by Temp e = ap (At bs) e ∙ shown_is ty core (length a.dims) bs (strides_from 1 core) (replicate (length (start_elems ty core given)) (pos 0)) (λ q. start_element ty given (coordinates_of core q ++ bs))
           (λ q lt. zero_anywhere (length (start_elems ty core given)) (dot (drop (length a.dims) (strides_from 1 core)) bs + reach (axes_of core (strides_from 1 core)) (coordinates_of core q))
           ∙ sym (ap (λ g. start_element ty g (coordinates_of core q ++ bs)) (none e)))
-
-  output_shape : (x : Role) → is_output x ≡ true → made x core r.broadcast ≡ core ++ r.broadcast
-  output_shape Input h = cc
-  output_shape Output h = refl
-  output_shape Both h = refl
-  output_shape Temp h = cc
-
-  output_strides : (x : Role) (shape : List ℕ) → is_output x ≡ true → strides_with x shape given ≡ strides_from 1 shape
-  output_strides Input shape h = cc
-  output_strides Output shape h = refl
-  output_strides Both shape h = refl
-  output_strides Temp shape h = cc
-
-  output_elems : (x : Role) (shape : List ℕ) → is_output x ≡ true → elems_with x ty shape given ≡ start_elems ty shape given
-  output_elems Input shape h = cc
-  output_elems Output shape h = refl
-  output_elems Both shape h = refl
-  output_elems Temp shape h = cc
 
   outer_strides : (n : ℕ) (ds rest : List ℕ) → drop (length ds) (strides_from n (ds ++ rest)) ≡ strides_from (n * size_of ds) rest
   outer_strides n [] rest = let e : n ≡ n * 1 = omega arith in ap (λ k. strides_from k rest) e
@@ -190,7 +163,7 @@ module _ (laws : PositionLaws) (r : Resolved) (a : SigArg) (given : Option Made)
     in_order = λ out. laid_in_order a.role core r.broadcast (made_for r.sizes r.broadcast a) given (output_written a.role out) (λ free. refl);
     behind = λ out p lt.
         let bs = coordinates_of r.broadcast p in
-        let ss : strides_with a.role (made_for r.sizes r.broadcast a) given ≡ strides_from 1 (core ++ r.broadcast) = output_strides a.role (made_for r.sizes r.broadcast a) out ∙ ap (strides_from 1) (output_shape a.role out) in
+        let ss : strides_with a.role (made_for r.sizes r.broadcast a) given ≡ strides_from 1 (core ++ r.broadcast) = written_strides a.role (made_for r.sizes r.broadcast a) given (output_written a.role out) ∙ ap (strides_from 1) (made_output a.role core r.broadcast out).1 in
         let one : 1 * size_of core ≡ size_of core = omega arith in
         let outer : drop (length a.dims) (strides_with a.role (made_for r.sizes r.broadcast a) given) ≡ strides_from (size_of core) r.broadcast =
         ap (λ k. drop k (strides_with a.role (made_for r.sizes r.broadcast a) given)) rank ∙ ap (drop (length core)) ss ∙ outer_strides 1 core r.broadcast ∙ ap (λ k. strides_from k r.broadcast) one in
@@ -198,8 +171,8 @@ module _ (laws : PositionLaws) (r : Resolved) (a : SigArg) (given : Option Made)
         ∙ ap (λ cs. size_of core * position_of r.broadcast cs) (uncut r.broadcast bs (laws.coordinates_within r.broadcast p lt))
         ∙ ap (λ k. size_of core * k) (laws.position_again r.broadcast p lt) ∙ ap (λ k. k * p) (sym counted);
     filled = λ out.
-        ap (length {A = ℤ}) (output_elems a.role (made_for r.sizes r.broadcast a) out) ∙ length-map-range_with_len (λ q. start_element ty given (coordinates_of (made_for r.sizes r.broadcast a) q)) 0 (size_of (made_for r.sizes r.broadcast a))
-        ∙ ap size_of (output_shape a.role out) ∙ size_parts core r.broadcast ∙ ap (λ k. k * size_of r.broadcast) (sym counted);
+        ap (length {A = ℤ}) (written_elems a.role ty (made_for r.sizes r.broadcast a) given (output_written a.role out)) ∙ length-map-range_with_len (λ q. start_element ty given (coordinates_of (made_for r.sizes r.broadcast a) q)) 0 (size_of (made_for r.sizes r.broadcast a))
+        ∙ ap size_of (made_output a.role core r.broadcast out).1 ∙ size_parts core r.broadcast ∙ ap (λ k. k * size_of r.broadcast) (sym counted);
     still = λ temp.
         ap (λ (x : Role). drop (length a.dims) (strides_with x (made x core r.broadcast) given)) temp
         ∙ drop_all (length a.dims) (strides_from 1 core) (omega (arith, rank, strides_long 1 core));
@@ -209,13 +182,13 @@ module _ (laws : PositionLaws) (r : Resolved) (a : SigArg) (given : Option Made)
   }
 
 -- all arguments show what they start with
-windows_shown : PositionLaws → (r : Resolved) (bs : List ℕ) → IsWithin r.broadcast bs → (args : List SigArg) (given : List Made)
+windows_shown : PositionLaws → WrappingLaws → (r : Resolved) (bs : List ℕ) → IsWithin r.broadcast bs → (args : List SigArg) (given : List Made)
     → map (λ w. array_seen (begun_at bs w)) (map (window_of r) (with_given args given)) ≡ map (started r bs) (with_given args given)
-windows_shown laws r bs inside [] given = refl
-windows_shown laws r bs inside (a ∷ args) given =
+windows_shown laws wraps r bs inside [] given = refl
+windows_shown laws wraps r bs inside (a ∷ args) given =
     let rest = if is_given a.role then drop 1 given else given in
-    ap (λ m. m ∷ map (λ w. array_seen (begun_at bs w)) (map (window_of r) (with_given args rest))) (window_shown laws r a (first_given (is_given a.role) given) (given_none a.role given) bs inside)
-    ∙ ap (λ ms. started r bs (a, first_given (is_given a.role) given) ∷ ms) (windows_shown laws r bs inside args rest)
+    ap (λ m. m ∷ map (λ w. array_seen (begun_at bs w)) (map (window_of r) (with_given args rest))) (window_shown laws r a (first_given (is_given a.role) given) (given_none a.role given) wraps bs inside)
+    ∙ ap (λ ms. started r bs (a, first_given (is_given a.role) given) ∷ ms) (windows_shown laws wraps r bs inside args rest)
 
 pub windows_laid : PositionLaws → (r : Resolved) (args : List SigArg) (given : List Made) → All (IsLaid r.broadcast) (map (window_of r) (with_given args given))
 windows_laid laws r [] given i d lt = absurd (omega (arith, lt))
@@ -223,14 +196,14 @@ windows_laid laws r (a ∷ args) given zero d lt = window_laid laws r a (first_g
 windows_laid laws r (a ∷ args) given (suc i) d lt = windows_laid laws r args (if is_given a.role then drop 1 given else given) i d (omega (arith, lt))
 
 -- what the walk finds at a place is what the definition says
-pub outcome_is : PositionLaws → (args : List SigArg) (code : Code) (r : Resolved) (given : List Made) (s : Scene) (p : ℕ) → p < size_of r.broadcast
+pub outcome_is : PositionLaws → WrappingLaws → (args : List SigArg) (code : Code) (r : Resolved) (given : List Made) (s : Scene) (p : ℕ) → p < size_of r.broadcast
     → s.arguments.items ≡ map (window_of r) (with_given args given) → length s.locals.items ≡ code_locals 0 code → left_in_order r code s p ≡ outcome args code r given p
-outcome_is laws args code r given s p lt are count =
+outcome_is laws wraps args code r given s p lt are count =
     let bs = coordinates_of r.broadcast p in
     let R : List Made → ℕ → Result Store Fault = λ ms k. run r (replicate names_limit 0) code (record { arguments = ms; locals = replicate k (pos 0) }) in
     ap (λ ws. R (map (λ w. array_seen (begun_at bs w)) ws) (length s.locals.items)) are
     ∙ ap (R (map (λ w. array_seen (begun_at bs w)) (map (window_of r) (with_given args given)))) count
-    ∙ ap (λ ms. R ms (code_locals 0 code)) (windows_shown laws r bs (laws.coordinates_within r.broadcast p lt) args given)
+    ∙ ap (λ ms. R ms (code_locals 0 code)) (windows_shown laws wraps r bs (laws.coordinates_within r.broadcast p lt) args given)
 
 pub stores_same : (f g : ℕ → Result Store Fault) (n p : ℕ) → ((q : ℕ) → q < p + n → f q ≡ g q) → stores_from f p n ≡ stores_from g p n
 stores_same f g zero p each = refl

@@ -233,12 +233,12 @@ past_end (e ∷ es) zero le = absurd (omega arith)
 past_end (e ∷ es) (suc i) le = past_end es i (omega (arith, le))
 
 -- all indices lead to a place
-pub walked : (sizes loops : List ℕ) (m : Store) (axes : List Axis) (es : List Entry) (i q : ℕ) (x : Option ℕ) → IsEachOnce (length axes) (indices_of es) → length es ≤ i
+pub walked : (sizes loops : List ℕ) (m : Store) (axes own : List Axis) (es : List Entry) (i q : ℕ) (x : Option ℕ) → axes ≡ own → IsEachOnce (length own) (indices_of es) → length es ≤ i
     → walk sizes loops m axes (indices_of (drop i es)) x ≡ walk sizes loops m axes (indices_of es) (Some q)
-    → or_range x ≡ and_then (indices sizes loops m (indices_of es) start) (λ js. or_range (found axes js q))
-walked sizes loops m axes es i q x each le rest =
+    → or_range x ≡ and_then (indices sizes loops m (indices_of es) start) (λ js. or_range (found own js q))
+walked sizes loops m axes own es i q x same each le rest =
     let last : Ok x ≡ walk sizes loops m axes (indices_of (drop i es)) x = sym (ap (λ is. walk sizes loops m axes is x) (past_end es i le)) in
-    found_out axes q (indices sizes loops m (indices_of es) start) x (sym (last ∙ rest ∙ walk_is sizes loops m axes (indices_of es) q each))
+    found_out own q (indices sizes loops m (indices_of es) start) x (sym (last ∙ rest ∙ ap (λ xs. walk sizes loops m xs (indices_of es) (Some q)) same ∙ walk_is sizes loops m own (indices_of es) q each))
 
 entry_next : (es : List Entry) (i : ℕ) (g : Entry) → i < length es → indices_of (drop i es) ≡ entry_of (get_or es i g) (indices_of (drop (suc i) es))
 entry_next [] i g lt = absurd (omega arith)
@@ -246,14 +246,14 @@ entry_next (e ∷ es) zero g lt = refl
 entry_next (e ∷ es) (suc i) g lt = entry_next es i g (omega (arith, lt))
 
 -- a fault of an index
-pub walked_fault : (sizes loops : List ℕ) (m : Store) (axes : List Axis) (es : List Entry) (i k q : ℕ) (x : Option ℕ) (g : Entry) (e : Expr) (f : Fault) → IsEachOnce (length axes) (indices_of es) → i < length es
+pub walked_fault : (sizes loops : List ℕ) (m : Store) (axes own : List Axis) (es : List Entry) (i k q : ℕ) (x : Option ℕ) (g : Entry) (e : Expr) (f : Fault) → axes ≡ own → IsEachOnce (length own) (indices_of es) → i < length es
     → g ≡ get_or es i g → g ≡ Given k e → value sizes loops m (tree_of e) ≡ Err f
     → walk sizes loops m axes (indices_of (drop i es)) x ≡ walk sizes loops m axes (indices_of es) (Some q)
-    → Err f ≡ and_then (indices sizes loops m (indices_of es) start) (λ js. or_range (found axes js q))
-walked_fault sizes loops m axes es i k q x g e f each lt item given err rest =
+    → Err f ≡ and_then (indices sizes loops m (indices_of es) start) (λ js. or_range (found own js q))
+walked_fault sizes loops m axes own es i k q x g e f same each lt item given err rest =
     let here : indices_of (drop i es) ≡ along k (tree_of e) (indices_of (drop (suc i) es)) = entry_next es i g lt ∙ ap (λ h. entry_of h (indices_of (drop (suc i) es))) (sym item ∙ given) in
     let stop : walk sizes loops m axes (indices_of (drop i es)) x ≡ Err f = ap (λ is. walk sizes loops m axes is x) here ∙ ap (λ r. and_then r (λ j. walk sizes loops m axes (indices_of (drop (suc i) es)) (moved axes k j x))) err in
-    fault_out axes q (indices sizes loops m (indices_of es) start) f (sym (sym stop ∙ rest ∙ walk_is sizes loops m axes (indices_of es) q each))
+    fault_out own q (indices sizes loops m (indices_of es) start) f (sym (sym stop ∙ rest ∙ ap (λ xs. walk sizes loops m xs (indices_of es) (Some q)) same ∙ walk_is sizes loops m own (indices_of es) q each))
 
 item_next : (es : List Entry) (i k : ℕ) (e : Tree) (g : Entry) → i < length es → g ≡ get_or es i g → ((rest : Indices) → entry_of g rest ≡ along k e rest)
     → indices_of (drop i es) ≡ along k e (indices_of (drop (i + 1) es))

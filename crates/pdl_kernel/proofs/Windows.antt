@@ -12,10 +12,8 @@ use Rattle.pdl_shape.specs.Laws.{PositionLaws}
 use Rattle.pdl_shape.specs.Shape.{IsWithin, coordinates_of, position_of}
 use Rattle.pdl_buf.specs.declared.made.Made.{Made}
 use Rattle.pdl_kernel.specs.declared.faults.Fault.{Fault}
-use Rattle.pdl_kernel.specs.Arrays.{coordinates_in, element, stored}
-use Rattle.pdl_kernel.specs.Meaning.{and_then, assigned, changed, or_range}
-use Rattle.pdl_kernel.specs.Places.{AreInOrder, IsSound, IsWhole, Rest, array_seen, before_of, behind_of, count_of, element_seen, found, is_written, put_in, reach, rest_of, sizes_of}
-use Rattle.pdl_kernel.specs.Window.{Window}
+use Rattle.pdl_kernel.specs.Meaning.{and_then, assigned, changed, coordinates_in, element, or_range, stored}
+use Rattle.pdl_kernel.specs.Places.{AreInOrder, IsSound, IsWhole, Rest, Window, array_seen, before_of, behind_of, count_of, element_seen, found, is_written, put_in, reach, rest_of, sizes_of}
 use Rattle.pdl_kernel.proofs.Finding.{element_is, place_found, reach_in_order}
 
 -- a window in order shows the elements from its start on

@@ -16,8 +16,7 @@ use Rattle.pdl_kernel.specs.declared.faults.Fault.{Fault}
 use Rattle.pdl_kernel.specs.declared.faults.Fault.TheVariants.{DivideByZero as Divides, IndexOutOfRange as OutOfRange}
 use Rattle.pdl_kernel.specs.declared.faults.RunFault.{RunFault}
 use Rattle.pdl_kernel.specs.declared.faults.RunFault.TheVariants.{DivideByZero, IndexOutOfRange, NoMemory}
-use Rattle.pdl_kernel.specs.Arrays.{element}
-use Rattle.pdl_kernel.specs.Meaning.{Store, argument, run}
+use Rattle.pdl_kernel.specs.Meaning.{Store, argument, element, run}
 
 -- the first of the given arrays, where one is given
 abbrev pub first_given : Bool → List Made → Option Made

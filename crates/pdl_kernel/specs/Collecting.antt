@@ -7,8 +7,7 @@ use Rattle.pdl_sig.specs.Resolution.{is_output}
 use Rattle.pdl_kernel.specs.declared.faults.RunFault.{RunFault}
 use Rattle.pdl_kernel.specs.Call.{PlacedFault, fault_named}
 use Rattle.pdl_kernel.specs.Meaning.{Store, argument}
-use Rattle.pdl_kernel.specs.Places.{AreInOrder, blank, count_of, dot}
-use Rattle.pdl_kernel.specs.Window.{Window}
+use Rattle.pdl_kernel.specs.Places.{AreInOrder, Window, blank, count_of, dot}
 
 -- the windows of an output are in order and lie one behind the other, dimension 0 of the broadcast
 -- fastest, and fill its buffer; a temporary is one window of zeros

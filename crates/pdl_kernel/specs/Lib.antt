@@ -1,5 +1,4 @@
 pub mod Answers
-pub mod Arrays
 pub mod Call
 pub mod Coding
 pub mod Collecting
@@ -10,4 +9,3 @@ pub mod Places
 pub mod Runs
 pub mod Scenes
 pub mod Setup
-pub mod Window

@@ -1,10 +1,11 @@
 -- The meaning of kernel code (PDL::PP, Code): from a store to a store or a fault, by
 -- recursion on the code.
-use Rattle.std.specs.Prelude.{ℕ, zero, suc, ◌+◌, ℤ, pos, List, [], get_or, slice_set, replicate, Option, Some, None, Result, Ok, Err}
+use Rattle.std.specs.Prelude.{ℕ, zero, suc, ◌+◌, ℤ, pos, List, [], get_or, slice_set, replicate, Option, Some, None, Result, Ok, Err, nat_lt, if◌then◌else◌, ◌∷◌, negsuc, option_map}
 use Rattle.pdl_elem.specs.declared.Ty.{Ty}
 use Rattle.pdl_elem.specs.declared.Ty.TheVariants.{Byte, Long as LongTy, Longlong as LonglongTy}
 use Rattle.pdl_elem.specs.declared.BinaryOp.{BinaryOp}
 use Rattle.pdl_elem.specs.Numbers.{wrapped}
+use Rattle.pdl_shape.specs.Shape.{position_of}
 use Rattle.pdl_elem.specs.Operators.{unary_value, binary_value}
 use Rattle.pdl_buf.specs.declared.made.Made.{Made}
 use Rattle.pdl_sig.specs.declared.Resolved.{Resolved}
@@ -15,7 +16,22 @@ use Rattle.pdl_code.specs.declared.tree.LocalType.TheVariants.{Long, Longlong, G
 use Rattle.pdl_code.specs.Tree.{Tree, Indices, Step, Code, number, size, index, local, access, unary, binary, none, along, repeat, choose, keep, put, done, next}
 use Rattle.pdl_kernel.specs.declared.faults.Fault.{Fault}
 use Rattle.pdl_kernel.specs.declared.faults.Fault.TheVariants.{DivideByZero, IndexOutOfRange}
-use Rattle.pdl_kernel.specs.Arrays.{coordinates_in, element, stored}
+
+-- the coordinates that indices are, where each is from 0 to its size less 1
+abbrev pub coordinates_in : (sizes : List ℕ) → (indices : List ℤ) → Option (List ℕ)
+coordinates_in [] is = Some []
+coordinates_in (d ∷ ds) [] = None
+coordinates_in (d ∷ ds) (negsuc i ∷ is) = None
+coordinates_in (d ∷ ds) (pos i ∷ is) =
+    if nat_lt i d then option_map (λ cs. i ∷ cs) (coordinates_in ds is) else None
+
+-- the element at coordinates
+abbrev pub element : Made → List ℕ → ℤ
+element a cs = get_or a.elems (position_of a.dims cs) (pos 0)
+
+-- with a number, wrapped to the argument's type, at coordinates
+abbrev pub stored : Made → List ℕ → ℤ → Made
+stored a cs x = record a { elems = slice_set a.elems (position_of a.dims cs) (wrapped a.ty x) }
 
 -- a number for each argument and core coordinates, and for each local
 pub record Store : Type 0 where

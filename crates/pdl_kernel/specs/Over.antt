@@ -20,10 +20,6 @@ abbrev mutual
   AreIndicesOver ks none = Unit {0}
   AreIndicesOver ks (along k e rest) = IsTreeOver ks e × AreIndicesOver ks rest
 
--- an access to an argument
-abbrev pub IsAccessOver : List Kind → ℕ → Indices → Type 0
-IsAccessOver ks a is = IsTreeOver ks (access a is)
-
 abbrev mutual
   pub IsStepOver : List Kind → Step → Type 0
   IsStepOver ks (repeat d body) = IsCodeOver ks body
@@ -31,7 +27,7 @@ abbrev mutual
       (IsCodeOver ks whole × IsCodeOver ks other)
   IsStepOver ks (keep k ty op e) = IsTreeOver ks e
   IsStepOver ks (put a is op e) = ((d : Kind) → is_written (get_or ks a d).role ≡ true) ×
-      (IsAccessOver ks a is × IsTreeOver ks e)
+      (IsTreeOver ks (access a is) × IsTreeOver ks e)
 
   pub IsCodeOver : List Kind → Code → Type 0
   IsCodeOver ks done = Unit {0}

@@ -8,9 +8,18 @@ use Rattle.pdl_elem.specs.Numbers.{wrapped}
 use Rattle.pdl_shape.specs.Shape.{dims_limit, extent_limit, size_of, coordinates_of}
 use Rattle.pdl_buf.specs.declared.made.Made.{Made}
 use Rattle.pdl_sig.specs.declared.Role.{Role}
-use Rattle.pdl_sig.specs.declared.Role.TheVariants.{Input, Output, Both, Temp}
+use Rattle.pdl_sig.specs.declared.Role.TheVariants.{Input, Temp}
 use Rattle.pdl_kernel.specs.declared.axes.Axis.{Axis}
-use Rattle.pdl_kernel.specs.Window.{Window}
+
+-- an argument: its core dimensions, its strides along the broadcast dimensions, all its elements,
+-- and the place of the first one that is seen
+pub record Window : Type 0 where
+  pub role : Role
+  pub ty : Ty
+  pub axes : List Axis
+  pub outer : List ℕ
+  pub elems : List ℤ
+  pub start : ℕ
 
 -- the sizes of dimensions, and their strides
 abbrev pub sizes_of : List Axis → List ℕ
@@ -65,9 +74,7 @@ moved axes k i (Some q) = moved_along (slice_get axes k) i q
 -- whether code may write an argument of this role
 abbrev pub is_written : Role → Bool
 is_written Input = false
-is_written Output = true
-is_written Both = true
-is_written Temp = true
+is_written _ = true
 
 -- no window at all
 abbrev pub blank : Window
@@ -154,10 +161,8 @@ kind_of r = record { role = r.role; axes = r.axes }
 
 -- the elements with which a place begins: a temporary's are 0
 abbrev pub cleared : Role → List ℤ → List ℤ
-cleared Input es = es
-cleared Output es = es
-cleared Both es = es
 cleared Temp es = replicate (length es) (pos 0)
+cleared _ es = es
 
 -- at broadcast coordinates
 abbrev pub begun_at : (coordinates : List ℕ) → Window → Window

@@ -7,12 +7,11 @@ use Rattle.pdl_shape.specs.Shape.{coordinates_of, size_of}
 use Rattle.pdl_buf.specs.declared.made.Made.{Made}
 use Rattle.pdl_sig.specs.declared.Resolved.{Resolved}
 use Rattle.pdl_sig.specs.declared.Role.{Role}
-use Rattle.pdl_sig.specs.declared.Role.TheVariants.{Input, Output, Both, Temp}
+use Rattle.pdl_sig.specs.declared.Role.TheVariants.{Input}
 use Rattle.pdl_sig.specs.declared.SigArg.{SigArg}
 use Rattle.pdl_sig.specs.Resolution.{is_output, core_sizes, made_for, type_in}
 use Rattle.pdl_kernel.specs.Call.{start_element}
-use Rattle.pdl_kernel.specs.Places.{axes_of, strides_from}
-use Rattle.pdl_kernel.specs.Window.{Window}
+use Rattle.pdl_kernel.specs.Places.{Window, axes_of, is_written, strides_from}
 
 -- the strides of what is given
 abbrev pub given_strides : Option Made → List ℕ
@@ -32,16 +31,10 @@ start_elems ty shape given =
 -- the strides and the elements of an argument: an input is where it is given, and each other one is
 -- an array of its shape
 abbrev pub strides_with : Role → (shape : List ℕ) → Option Made → List ℕ
-strides_with Input shape given = given_strides given
-strides_with Output shape given = strides_from 1 shape
-strides_with Both shape given = strides_from 1 shape
-strides_with Temp shape given = strides_from 1 shape
+strides_with r shape given = if is_written r then strides_from 1 shape else given_strides given
 
 abbrev pub elems_with : Role → Ty → (shape : List ℕ) → Option Made → List ℤ
-elems_with Input ty shape given = given_elems ty given
-elems_with Output ty shape given = start_elems ty shape given
-elems_with Both ty shape given = start_elems ty shape given
-elems_with Temp ty shape given = start_elems ty shape given
+elems_with r ty shape given = if is_written r then start_elems ty shape given else given_elems ty given
 
 -- an argument of a type, of core sizes and of a shape
 abbrev pub window_with : Ty → (core shape : List ℕ) → SigArg → Option Made → Window

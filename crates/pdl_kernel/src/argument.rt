@@ -26,8 +26,7 @@ pub struct Argument {
 }
 
 impl Model for Argument {
-    ghost use Rattle.pdl_kernel.specs.Places.{IsSound};
-    ghost use Rattle.pdl_kernel.specs.Window.{Window};
+    ghost use Rattle.pdl_kernel.specs.Places.{IsSound, Window};
 
     ghost Value = { Window };
 

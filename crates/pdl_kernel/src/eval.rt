@@ -12,18 +12,18 @@ use crate::argument::Argument;
 use crate::axes::moved;
 use crate::faults::Fault;
 use crate::operations::operate;
-use crate::scene::{MOST, Scene, argument_at, local, loop_index, size_in};
+use crate::scene::{Scene, argument_at, local, loop_index, size_in};
 use pdl_code::{Entry, Expr};
 use pdl_elem::{Ty, unary};
 use pdl_shape::shape_laws;
-use pdl_sig::Resolved;
+use pdl_sig::{MOST_NAMES, Resolved};
 
 /// The number of an expression, or its first fault.
 #[cycle(eval)]
 pub fn value(
     resolved: &Resolved,
     scene: &Scene,
-    loops: &[u32; MOST],
+    loops: &[u32; MOST_NAMES],
     expr: &Expr,
 ) -> Result<i64, Fault>
     requires { IsTreeOver (kinds_of scene.now) (tree_of expr.now) }
@@ -55,7 +55,7 @@ pub fn value(
 pub fn operand(
     resolved: &Resolved,
     scene: &Scene,
-    loops: &[u32; MOST],
+    loops: &[u32; MOST_NAMES],
     expr: &Expr,
 ) -> Result<i64, Fault>
     requires { IsTreeOver (kinds_of scene.now) (tree_of expr.now) }
@@ -76,7 +76,7 @@ pub fn operand(
 pub fn outermost(
     resolved: &Resolved,
     scene: &Scene,
-    loops: &[u32; MOST],
+    loops: &[u32; MOST_NAMES],
     expr: &Expr,
 ) -> Result<i64, Fault>
     requires { IsTreeOver (kinds_of scene.now) (tree_of expr.now) }
@@ -100,7 +100,7 @@ pub fn outermost(
 fn element(
     resolved: &Resolved,
     scene: &Scene,
-    loops: &[u32; MOST],
+    loops: &[u32; MOST_NAMES],
     number: usize,
     entries: &[Entry],
 ) -> Result<i64, Fault>
@@ -124,7 +124,7 @@ fn element(
 pub fn place(
     resolved: &Resolved,
     scene: &Scene,
-    loops: &[u32; MOST],
+    loops: &[u32; MOST_NAMES],
     argument: &Argument,
     entries: &[Entry],
 ) -> Result<usize, Fault>

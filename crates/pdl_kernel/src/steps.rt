@@ -1,21 +1,22 @@
 //! Statements, run in order. It takes no memory.
 ghost use Rattle.std.specs.Prelude.{◌≡◌, slice_set, get_or, pos, true, All, Ok, OnOk};
 ghost use Rattle.pdl_sig.specs.Resolution.{size_in};
+ghost use Rattle.pdl_code.specs.Tree.{access};
 ghost use Rattle.pdl_code.specs.TreeOf.{code_of, indices_of, step_of};
 ghost use Rattle.pdl_kernel.specs.Answers.{Becomes};
 ghost use Rattle.pdl_kernel.specs.Meaning.{and_then, argument, assigned, changed, indices, kept, local_type, run, start, step, turns, with_argument};
-ghost use Rattle.pdl_kernel.specs.Over.{IsAccessOver, IsCodeOver, IsStepOver};
+ghost use Rattle.pdl_kernel.specs.Over.{IsCodeOver, IsStepOver, IsTreeOver};
 ghost use Rattle.pdl_kernel.specs.Places.{IsWhole, Kind, is_written};
 ghost use Rattle.pdl_kernel.specs.Scenes.{kinds_of, rests_of, store_of};
 
 use crate::eval::{outermost, place, value};
 use crate::faults::Fault;
 use crate::operations::change;
-use crate::scene::{MOST, Scene, argument_at, assign_in, keep_local, local, set_index, size_in};
+use crate::scene::{Scene, argument_at, assign_in, keep_local, local, set_index, size_in};
 use pdl_code::{Entry, LocalType, Stmt};
 use pdl_elem::{BinaryOp, Ty};
 use pdl_shape::shape_laws;
-use pdl_sig::Resolved;
+use pdl_sig::{MOST_NAMES, Resolved};
 
 /// The type of a local.
 fn local_type(generic: Ty, ty: LocalType) -> Ty
@@ -33,7 +34,7 @@ fn local_type(generic: Ty, ty: LocalType) -> Ty
 fn step(
     resolved: &Resolved,
     scene: &mut Scene,
-    loops: &[u32; MOST],
+    loops: &[u32; MOST_NAMES],
     stmt: &Stmt,
 ) -> Result<(), Fault>
     requires over { IsStepOver (kinds_of scene.old) (step_of stmt.now) }
@@ -71,7 +72,7 @@ fn step(
 fn step_in_line(
     resolved: &Resolved,
     scene: &mut Scene,
-    loops: &[u32; MOST],
+    loops: &[u32; MOST_NAMES],
     stmt: &Stmt,
 ) -> Result<(), Fault>
     requires over { IsStepOver (kinds_of scene.old) (step_of stmt.now) }
@@ -118,14 +119,14 @@ fn keep(
 fn put(
     resolved: &Resolved,
     scene: &mut Scene,
-    loops: &[u32; MOST],
+    loops: &[u32; MOST_NAMES],
     number: usize,
     entries: &[Entry],
     op: Option<BinaryOp>,
     x: i64,
 ) -> Result<(), Fault>
     requires written { (d : Kind) → is_written (get_or (kinds_of scene.old) number d).role ≡ true }
-    requires over { IsAccessOver (kinds_of scene.old) number (indices_of entries.now) }
+    requires over { IsTreeOver (kinds_of scene.old) (access number (indices_of entries.now)) }
     requires whole { All IsWhole (rests_of scene.old) }
     ensures store { let m = store_of scene.old in
         Becomes result (store_of scene.new)
@@ -145,7 +146,7 @@ fn put(
 fn repeat(
     resolved: &Resolved,
     scene: &mut Scene,
-    loops: &[u32; MOST],
+    loops: &[u32; MOST_NAMES],
     dimension: usize,
     body: &[Stmt],
 ) -> Result<(), Fault>
@@ -173,7 +174,7 @@ fn repeat(
 fn turn(
     resolved: &Resolved,
     scene: &mut Scene,
-    loops: &[u32; MOST],
+    loops: &[u32; MOST_NAMES],
     code: &[Stmt],
 ) -> Result<(), Fault>
     requires over { IsCodeOver (kinds_of scene.old) (code_of code.now) }
@@ -196,7 +197,7 @@ fn turn(
 pub fn run(
     resolved: &Resolved,
     scene: &mut Scene,
-    loops: &[u32; MOST],
+    loops: &[u32; MOST_NAMES],
     code: &[Stmt],
 ) -> Result<(), Fault>
     requires over { IsCodeOver (kinds_of scene.old) (code_of code.now) }

@@ -13,12 +13,12 @@ ghost use Rattle.pdl_kernel.specs.Scenes.{kinds_of, left_in_order, rests_at, res
 
 use crate::argument::Argument;
 use crate::faults::{Fault, RunFault};
-use crate::scene::{MOST, Scene};
+use crate::scene::Scene;
 use crate::steps::run;
 use pdl_broadcast::BroadcastWalk;
 use pdl_code::Stmt;
 use pdl_shape::{elements_of, shape_laws};
-use pdl_sig::Resolved;
+use pdl_sig::{MOST_NAMES, Resolved};
 use std::alloc::Global;
 
 /// The windows at other broadcast coordinates.
@@ -61,7 +61,7 @@ fn at_place(
     ensures rests { OnOk result (rests_of scene.new ≡ rests_at coordinates.now scene.old) }
 {
     start_at(scene, coordinates);
-    run(resolved, scene, &[0; MOST], code)
+    run(resolved, scene, &[0; MOST_NAMES], code)
 }
 
 /// A fault of code, with the broadcast place that has it.

@@ -11,11 +11,10 @@ use Rattle.pdl_kernel.specs.Call.{PlacedFault, outcome, outputs_of, stores_from,
 use Rattle.pdl_kernel.specs.Collecting.{IsLaid}
 use Rattle.pdl_kernel.specs.Meaning.{Store}
 use Rattle.pdl_kernel.specs.Over.{IsCodeOver}
-use Rattle.pdl_kernel.specs.Places.{kind_of, rest_of}
+use Rattle.pdl_kernel.specs.Places.{Window, kind_of, rest_of}
 use Rattle.pdl_kernel.specs.Scenes.{left_in_order}
 use Rattle.pdl_kernel.specs.Setup.{IsShapeOf, outputs_in, window_of}
-use Rattle.pdl_kernel.specs.Window.{Window}
-use Rattle.pdl_kernel.proofs.Calling.{collected_as, collected_long, fault_right, outputs_right, outputs_whole, set_up_long}
+use Rattle.pdl_kernel.proofs.Calling.{answers_as, collected_long, faults_as, set_up_long}
 use Rattle.pdl_kernel.proofs.Shaping.{code_over, kinds_are, shapes_are}
 use Rattle.pdl_kernel.proofs.Starting.{windows_laid}
 use Rattle.pdl_kernel.proofs.Zips.{zip_length}
@@ -62,8 +61,8 @@ outputs-requires c =
     let n = collected_long c.in_ok-arguments.field-0.items c.collect.new.scene.arguments.items _ c.in-Ok.ensures in
     n ∙ ap (length {A = Window}) windows ∙ set_up_long r k.signature.args given ∙ sym (zip_length (IsShapeOf r) k.signature.args r.shapes shapes) ∙ sym (ap (length {A = List ℕ}) c.as_slice.ensures)
 
-pub returns-in_ok-outputs-in-Ok-clause-outputs : goal.returns-in_ok-outputs-in-Ok-clause-outputs
-returns-in_ok-outputs-in-Ok-clause-outputs c =
+pub returns-in_ok-outputs-in-Ok : goal.returns-in_ok-outputs-in-Ok
+returns-in_ok-outputs-in-Ok c =
     let r = c.args.resolved.now in
     let k = c.args.kernel.now in
     let given = c.args.given.now.items in
@@ -71,35 +70,13 @@ returns-in_ok-outputs-in-Ok-clause-outputs c =
     let solves = c.resolutions_solve.ensures k.signature c.requires.shapes r c.requires.resolves in
     let shapes : AllZip (IsShapeOf r) k.signature.args r.shapes = subst (AllZip (IsShapeOf r) k.signature.args) (sym solves.shapes_are) (shapes_are r k.signature.args c.requires.shapes) in
     let windows : c.in_ok-arguments.field-0.items ≡ map (window_of r) (with_given k.signature.args given) = c.in_ok-arguments.ensures ∙ ap (λ (xs : List SigArg). map (window_of r) (with_given xs given)) args in
-    let laws = c.shape_laws.ensures.positions in
-    let wraps = c.wrapping_laws.ensures in
     let scene : Scene = record { arguments = c.in_ok-arguments.field-0; locals = c.in_ok-vec.field-0 } in
     let long : length c.in_ok-vec.field-0.items ≡ c.locals.result = search rules in
-    let x : Result (List Store) PlacedFault = stores_from (left_in_order r (code_of c.stmts.result.now) scene) 0 (size_of r.broadcast) in
-    let wanted : x ≡ stores_from (outcome k.signature.args k.code r given) 0 (size_of r.broadcast) =
-    collected_as laws wraps k.signature.args k.code r given (code_of c.stmts.result.now) scene c.stmts.ensures.code windows (long ∙ c.locals.ensures) in
-    let made = c.in_ok-outputs-in-Ok.ensures ∙ ap (λ (ds : List (List ℕ)). outputs_in ds c.collect.new.scene.arguments.items) c.as_slice.ensures in
-    ap (outputs_of r k.signature.args) (sym wanted)
-    ∙ outputs_right laws wraps k.signature.args k.code r given c.in_ok-arguments.field-0.items c.collect.new.scene.arguments.items r.shapes c.in_ok-outputs-in-Ok.field-0.items x (sym wanted) windows c.in-Ok.ensures shapes made
-
-pub returns-in_ok-outputs-in-Ok-clause-made : goal.returns-in_ok-outputs-in-Ok-clause-made
-returns-in_ok-outputs-in-Ok-clause-made c =
-    let r = c.args.resolved.now in
-    let k = c.args.kernel.now in
-    let given = c.args.given.now.items in
-    let args : c.as_slice-args.result.now ≡ k.signature.args = c.as_slice-args.ensures ∙ ap (λ (s : Signature). s.args) c.kernel_signature.ensures in
-    let solves = c.resolutions_solve.ensures k.signature c.requires.shapes r c.requires.resolves in
-    let shapes : AllZip (IsShapeOf r) k.signature.args r.shapes = subst (AllZip (IsShapeOf r) k.signature.args) (sym solves.shapes_are) (shapes_are r k.signature.args c.requires.shapes) in
-    let windows : c.in_ok-arguments.field-0.items ≡ map (window_of r) (with_given k.signature.args given) = c.in_ok-arguments.ensures ∙ ap (λ (xs : List SigArg). map (window_of r) (with_given xs given)) args in
-    let laws = c.shape_laws.ensures.positions in
-    let wraps = c.wrapping_laws.ensures in
-    let scene : Scene = record { arguments = c.in_ok-arguments.field-0; locals = c.in_ok-vec.field-0 } in
-    let long : length c.in_ok-vec.field-0.items ≡ c.locals.result = search rules in
-    let x : Result (List Store) PlacedFault = stores_from (left_in_order r (code_of c.stmts.result.now) scene) 0 (size_of r.broadcast) in
-    let wanted : x ≡ stores_from (outcome k.signature.args k.code r given) 0 (size_of r.broadcast) =
-    collected_as laws wraps k.signature.args k.code r given (code_of c.stmts.result.now) scene c.stmts.ensures.code windows (long ∙ c.locals.ensures) in
-    let made = c.in_ok-outputs-in-Ok.ensures ∙ ap (λ (ds : List (List ℕ)). outputs_in ds c.collect.new.scene.arguments.items) c.as_slice.ensures in
-    outputs_whole laws wraps k.signature.args k.code r given c.in_ok-arguments.field-0.items c.collect.new.scene.arguments.items r.shapes c.in_ok-outputs-in-Ok.field-0.items x (sym wanted) windows c.in-Ok.ensures shapes made
+    let now = c.collect.new.scene.arguments.items in
+    let made = c.in_ok-outputs-in-Ok.ensures ∙ ap (λ (ds : List (List ℕ)). outputs_in ds now) c.as_slice.ensures in
+    let both = answers_as c.shape_laws.ensures.positions c.wrapping_laws.ensures k.signature.args k.code r given (code_of c.stmts.result.now) scene now r.shapes c.in_ok-outputs-in-Ok.field-0.items
+    c.stmts.ensures.code windows (long ∙ c.locals.ensures) c.in-Ok.ensures shapes made in
+    record { outputs = both.0; made = both.1 }
 
 pub returns-in-Err-clause-outputs : goal.returns-in-Err-clause-outputs
 returns-in-Err-clause-outputs c =
@@ -108,12 +85,7 @@ returns-in-Err-clause-outputs c =
     let given = c.args.given.now.items in
     let args : c.as_slice-args.result.now ≡ k.signature.args = c.as_slice-args.ensures ∙ ap (λ (s : Signature). s.args) c.kernel_signature.ensures in
     let windows : c.in_ok-arguments.field-0.items ≡ map (window_of r) (with_given k.signature.args given) = c.in_ok-arguments.ensures ∙ ap (λ (xs : List SigArg). map (window_of r) (with_given xs given)) args in
-    let laws = c.shape_laws.ensures.positions in
-    let wraps = c.wrapping_laws.ensures in
     let scene : Scene = record { arguments = c.in_ok-arguments.field-0; locals = c.in_ok-vec.field-0 } in
     let long : length c.in_ok-vec.field-0.items ≡ c.locals.result = search rules in
-    let x : Result (List Store) PlacedFault = stores_from (left_in_order r (code_of c.stmts.result.now) scene) 0 (size_of r.broadcast) in
-    let wanted : x ≡ stores_from (outcome k.signature.args k.code r given) 0 (size_of r.broadcast) =
-    collected_as laws wraps k.signature.args k.code r given (code_of c.stmts.result.now) scene c.stmts.ensures.code windows (long ∙ c.locals.ensures) in
-    subst (λ (y : Result (List Store) PlacedFault). Answers (outputs_of r k.signature.args y) (Err c.in-Err.fault)) wanted
-    (fault_right laws wraps k.signature.args k.code r given c.in-Err.fault c.in_ok-arguments.field-0.items c.collect.new.scene.arguments.items x c.in-Err.ensures)
+    faults_as c.shape_laws.ensures.positions c.wrapping_laws.ensures k.signature.args k.code r given (code_of c.stmts.result.now) scene c.collect.new.scene.arguments.items c.in-Err.fault
+    c.stmts.ensures.code windows (long ∙ c.locals.ensures) c.in-Err.ensures

@@ -1,12 +1,8 @@
-use Rattle.std.proofs.Common.{refl, ◌≡◌, ◌+◌, ◌*◌, Ok, Err, sym, ap, subst, ◌∙◌, rules, arith, w64, get_or, pos, of_z, to_z, drop, ◌<◌, length, List}
+use Rattle.std.proofs.Common.{refl, ◌≡◌, ◌+◌, ◌*◌, Ok, sym, ap, subst, ◌∙◌, rules, arith, w64, get_or, pos, of_z, to_z, drop, ◌<◌, length}
 use mir.Val.{SFits}
 use Rattle.std.proofs.lemmas.Int.{to_z-of_z}
-use Rattle.pdl_code.specs.Fit.{IsEachOnce}
 use Rattle.pdl_kernel.specs.Over.{IsTreeOver}
-use Rattle.pdl_kernel.specs.Meaning.{and_then, indices, or_range, start, value}
-use Rattle.pdl_kernel.specs.Places.{found}
-use Rattle.pdl_kernel.specs.declared.axes.Axis.{Axis}
-use Rattle.pdl_kernel.specs.declared.faults.Fault.TheVariants.{IndexOutOfRange}
+use Rattle.pdl_kernel.specs.Meaning.{and_then, or_range, value}
 use Rattle.pdl_kernel.specs.Scenes.{kinds_of, store_of}
 use Rattle.pdl_code.specs.Tree.{access, index}
 use Rattle.pdl_code.specs.TreeOf.{indices_of, tree_of}
@@ -72,33 +68,16 @@ place-value-requires t c =
 
 pub place-returns-in-Err-clause-value : goal.place-returns-in-Err-clause-value
 place-returns-in-Err-clause-value t c =
-    let m = store_of c.args.scene.now in
-    let w = c.args.argument.now in
-    let axes = c.axes-axes.ensures.axes in
-    let each : IsEachOnce (length c.axes-axes.result.now) (indices_of c.args.entries.now) = subst (λ (xs : List Axis). IsEachOnce (length xs) (indices_of c.args.entries.now)) (sym axes) c.requires.each in
-    let back : Err c.in-Err.fault ≡ and_then (indices c.args.resolved.now.sizes c.args.loops.now m (indices_of c.args.entries.now) start) (λ js. or_range (found c.axes-axes.result.now js w.start)) =
-    walked_fault c.args.resolved.now.sizes c.args.loops.now m c.axes-axes.result.now c.args.entries.now c.loop-entry.entry-index c.in-Given.dimension w.start c.loop-entry.place _ c.in-Given.expr c.in-Err.fault each (search rules) c.entry-item.is c.in-Given.is (search rules) c.loop-entry.invariant.rest in
-    subst (λ (xs : List Axis). Err c.in-Err.fault ≡ and_then (indices c.args.resolved.now.sizes c.args.loops.now m (indices_of c.args.entries.now) start) (λ js. or_range (found xs js w.start))) axes back
+    walked_fault c.args.resolved.now.sizes c.args.loops.now (store_of c.args.scene.now) c.axes-axes.result.now c.args.argument.now.axes c.args.entries.now c.loop-entry.entry-index c.in-Given.dimension c.args.argument.now.start c.loop-entry.place _ c.in-Given.expr c.in-Err.fault
+    c.axes-axes.ensures.axes c.requires.each (search rules) c.entry-item.is c.in-Given.is (search rules) c.loop-entry.invariant.rest
 
 pub place-returns-in-Some-clause-value : goal.place-returns-in-Some-clause-value
 place-returns-in-Some-clause-value t c =
-    let m = store_of c.args.scene.now in
-    let w = c.args.argument.now in
-    let axes = c.axes-axes.ensures.axes in
-    let each : IsEachOnce (length c.axes-axes.result.now) (indices_of c.args.entries.now) = subst (λ (xs : List Axis). IsEachOnce (length xs) (indices_of c.args.entries.now)) (sym axes) c.requires.each in
-    let back : Ok c.in-Some.place ≡ and_then (indices c.args.resolved.now.sizes c.args.loops.now m (indices_of c.args.entries.now) start) (λ js. or_range (found c.axes-axes.result.now js w.start)) =
-    ap or_range (sym c.in-Some.is) ∙ walked c.args.resolved.now.sizes c.args.loops.now m c.axes-axes.result.now c.args.entries.now c.loop-entry.entry-index w.start c.loop-entry.place each (search rules) c.loop-entry.invariant.rest in
-    subst (λ (xs : List Axis). Ok c.in-Some.place ≡ and_then (indices c.args.resolved.now.sizes c.args.loops.now m (indices_of c.args.entries.now) start) (λ js. or_range (found xs js w.start))) axes back
+    ap or_range (sym c.in-Some.is) ∙ walked c.args.resolved.now.sizes c.args.loops.now (store_of c.args.scene.now) c.axes-axes.result.now c.args.argument.now.axes c.args.entries.now c.loop-entry.entry-index c.args.argument.now.start c.loop-entry.place c.axes-axes.ensures.axes c.requires.each (search rules) c.loop-entry.invariant.rest
 
 pub place-returns-in-None-clause-value : goal.place-returns-in-None-clause-value
 place-returns-in-None-clause-value t c =
-    let m = store_of c.args.scene.now in
-    let w = c.args.argument.now in
-    let axes = c.axes-axes.ensures.axes in
-    let each : IsEachOnce (length c.axes-axes.result.now) (indices_of c.args.entries.now) = subst (λ (xs : List Axis). IsEachOnce (length xs) (indices_of c.args.entries.now)) (sym axes) c.requires.each in
-    let back : Err IndexOutOfRange ≡ and_then (indices c.args.resolved.now.sizes c.args.loops.now m (indices_of c.args.entries.now) start) (λ js. or_range (found c.axes-axes.result.now js w.start)) =
-    ap or_range (sym c.in-None.is) ∙ walked c.args.resolved.now.sizes c.args.loops.now m c.axes-axes.result.now c.args.entries.now c.loop-entry.entry-index w.start c.loop-entry.place each (search rules) c.loop-entry.invariant.rest in
-    subst (λ (xs : List Axis). Err IndexOutOfRange ≡ and_then (indices c.args.resolved.now.sizes c.args.loops.now m (indices_of c.args.entries.now) start) (λ js. or_range (found xs js w.start))) axes back
+    ap or_range (sym c.in-None.is) ∙ walked c.args.resolved.now.sizes c.args.loops.now (store_of c.args.scene.now) c.axes-axes.result.now c.args.argument.now.axes c.args.entries.now c.loop-entry.entry-index c.args.argument.now.start c.loop-entry.place c.axes-axes.ensures.axes c.requires.each (search rules) c.loop-entry.invariant.rest
 
 pub value-element-requires : goal.value-element-requires
 value-element-requires t c =

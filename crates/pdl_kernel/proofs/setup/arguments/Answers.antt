@@ -2,13 +2,13 @@ use Rattle.std.proofs.Common.{◌≡◌, ◌+◌, ◌++◌, ◌∷◌, ℕ, List
 use Rattle.std.specs.Prelude.{Option, if◌then◌else◌}
 use Rattle.std.proofs.lemmas.List.{get_or-map}
 use Rattle.pdl_elem.specs.declared.Ty.{Ty}
-use Rattle.pdl_elem.specs.declared.Ty.TheVariants.{Byte}
+use Rattle.pdl_elem.specs.declared.Ty.TheVariants.{Sbyte}
 use Rattle.pdl_buf.specs.declared.made.Made.{Made}
 use Rattle.pdl_sig.specs.declared.SigArg.{SigArg}
 use Rattle.pdl_sig.specs.Resolution.{core_sizes, is_given, type_in}
 use Rattle.pdl_kernel.specs.Call.{first_given, with_given}
 use Rattle.pdl_kernel.specs.Setup.{IsShapeOf, window_of, window_with}
-use Rattle.pdl_kernel.specs.Window.{Window}
+use Rattle.pdl_kernel.specs.Places.{Window}
 use Rattle.pdl_kernel.proofs.Laying.{one_more, window_shaped, with_given_at}
 use Rattle.pdl_kernel.proofs.Zips.{zip_get, zip_length}
 use Rattle.pdl_kernel.proofs.setup.arguments.Goals as goal
@@ -40,8 +40,8 @@ loop-k-preserved c =
     let is : shape ≡ get_or r.shapes k shape = c.index-as_slice-k.is ∙ ap (λ (xs : List (List ℕ)). get_or xs k shape) c.as_slice.ensures in
     let shaped : IsShapeOf r a shape = subst (λ (b : SigArg). IsShapeOf r b shape) (sym c.index-args-k.is) (subst (IsShapeOf r (get_or c.args.args.now k a)) (sym is) h) in
     let f = λ (b : SigArg). type_in r.generic b.ty in
-    let ty : get_or c.as_slice-in-loop-k.result.now k Byte ≡ f a =
-    ap (λ (ts : List Ty). get_or ts k Byte) (c.as_slice-in-loop-k.ensures ∙ c.requires.types) ∙ get_or-map f c.args.args.now k a Byte (omega arith) ∙ ap f (sym c.index-args-k.is) in
+    let ty : get_or c.as_slice-in-loop-k.result.now k Sbyte ≡ f a =
+    ap (λ (ts : List Ty). get_or ts k Sbyte) (c.as_slice-in-loop-k.ensures ∙ c.requires.types) ∙ get_or-map f c.args.args.now k a Sbyte (omega arith) ∙ ap f (sym c.index-args-k.is) in
     let argument : x ≡ window_of r (a, one) =
     c.in_ok-argument.ensures ∙ ap (λ (t : Ty). window_with t (core_sizes r.sizes a) shape a one) ty ∙ window_shaped r (f a) (core_sizes r.sizes a) a shape one shaped in
     let rest = with_given (drop (k + 1) c.args.args.now) c.take_given-one.new.given.items in

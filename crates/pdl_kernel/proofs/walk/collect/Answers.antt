@@ -11,7 +11,7 @@ use Rattle.pdl_kernel.specs.Over.{IsCodeOver}
 use Rattle.pdl_kernel.specs.Places.{IsWhole, Kind}
 use Rattle.pdl_kernel.specs.Scenes.{left_in_order, rests_at, rests_of, starting, store_of}
 use Rattle.pdl_kernel.proofs.Gathering.{behind_all, behind_count, behind_fault, behind_more}
-use Rattle.pdl_kernel.proofs.Placing.{collected_all, kinds_at, locals_kept, none_collected, shown_all, whole_all}
+use Rattle.pdl_kernel.proofs.Placing.{collected_all, kinds_at, locals_kept, none_collected, place_left, whole_all}
 use Rattle.pdl_kernel.proofs.walk.collect.Goals as goal
 use Rattle.pdl_kernel.proofs.walk.collect.Goals.{At-loop-place}
 
@@ -47,12 +47,7 @@ returns-in-Err c =
     let f = left_in_order r (code_of c.args.code.now) c.args.scene.now in
     let n = size_of r.broadcast in
     let lt : c.loop-place.place < n = omega (arith, c.loop-place-test.true, c.elements_of-place-end.ensures.count) in
-    let bs = c.coordinates.ensures ∙ ap standing_at inv.walk in
-    let shown = shown_all c.shape_laws.ensures.positions r.broadcast inv.behind.stores c.args.scene.now.arguments.items c.loop-place.scene c.requires.laid inv.behind.collected c.loop-place.place (behind_count _ c.loop-place.place _ _ inv.behind) lt in
-    let here : run r (replicate names_limit 0) (code_of c.args.code.now) (starting c.coordinates.result.now c.loop-place.scene) ≡ f c.loop-place.place =
-    ap (λ xs. run r (replicate names_limit 0) (code_of c.args.code.now) (starting xs c.loop-place.scene)) bs
-    ∙ ap (λ (xs : List Made). run r (replicate names_limit 0) (code_of c.args.code.now) (record { arguments = xs; locals = replicate (length c.loop-place.scene.locals.items) (pos 0) })) shown
-    ∙ ap (λ k. run r (replicate names_limit 0) (code_of c.args.code.now) (record { arguments = (starting (coordinates_of r.broadcast c.loop-place.place) c.args.scene.now).arguments; locals = replicate k (pos 0) })) inv.locals in
+    let here = place_left c.shape_laws.ensures.positions r (code_of c.args.code.now) c.args.scene.now c.loop-place.scene c.loop-place.place c.coordinates.result.now c.requires.laid inv.behind inv.locals lt (c.coordinates.ensures ∙ ap standing_at inv.walk) in
     let P : Option PlacedFault → Type 0 = λ o. IfSome o (λ placed. stores_from f 0 n ≡ Err placed) in
     subst P (sym c.fault_at.ensures)
     (behind_fault f c.loop-place.place n c.args.scene.now.arguments.items c.loop-place.scene.arguments.items c.in-Err.fault lt inv.behind (sym here ∙ c.in-Err.ensures.store))
@@ -61,27 +56,21 @@ pub loop-place-preserved : goal.loop-place-preserved
 loop-place-preserved c =
     let inv = c.loop-place.invariant in
     let r = c.args.resolved.now in
-    let f = left_in_order r (code_of c.args.code.now) c.args.scene.now in
-    let n = size_of r.broadcast in
     let place = c.loop-place.place in
-    let lt : place < n = omega (arith, c.loop-place-test.true, c.elements_of-place-end.ensures.count) in
-    let bs = c.coordinates.ensures ∙ ap standing_at inv.walk in
-    let count = behind_count _ place _ _ inv.behind in
+    let code = code_of c.args.code.now in
     let laws = c.shape_laws.ensures.positions in
-    let shown = shown_all laws r.broadcast inv.behind.stores c.args.scene.now.arguments.items c.loop-place.scene c.requires.laid inv.behind.collected place count lt in
-    let here : run r (replicate names_limit 0) (code_of c.args.code.now) (starting c.coordinates.result.now c.loop-place.scene) ≡ f place =
-    ap (λ xs. run r (replicate names_limit 0) (code_of c.args.code.now) (starting xs c.loop-place.scene)) bs
-    ∙ ap (λ (xs : List Made). run r (replicate names_limit 0) (code_of c.args.code.now) (record { arguments = xs; locals = replicate (length c.loop-place.scene.locals.items) (pos 0) })) shown
-    ∙ ap (λ k. run r (replicate names_limit 0) (code_of c.args.code.now) (record { arguments = (starting (coordinates_of r.broadcast place) c.args.scene.now).arguments; locals = replicate k (pos 0) })) inv.locals in
+    let lt : place < size_of r.broadcast = omega (arith, c.loop-place-test.true, c.elements_of-place-end.ensures.count) in
+    let bs = c.coordinates.ensures ∙ ap standing_at inv.walk in
+    let here = place_left laws r code c.args.scene.now c.loop-place.scene place c.coordinates.result.now c.requires.laid inv.behind inv.locals lt bs in
     let after = c.at_place.new.scene in
     let rests : rests_of after ≡ rests_at (coordinates_of r.broadcast place) c.loop-place.scene = c.in-Ok.ensures.rests ∙ ap (λ xs. rests_at xs c.loop-place.scene) bs in
     record {
       walk = c.next.ensures ∙ ap moved_on inv.walk;
       kinds = kinds_at (coordinates_of r.broadcast place) c.loop-place.scene (rests_of after) rests ∙ inv.kinds;
-      locals = locals_kept r (code_of c.args.code.now) c.coordinates.result.now c.loop-place.scene after c.in-Ok.ensures.store ∙ inv.locals;
+      locals = locals_kept r code c.coordinates.result.now c.loop-place.scene after c.in-Ok.ensures.store ∙ inv.locals;
       bound = omega (arith, lt);
-      behind = behind_more f place c.args.scene.now.arguments.items c.loop-place.scene.arguments.items after.arguments.items (store_of after) inv.behind (sym here ∙ c.in-Ok.ensures.store)
-          (collected_all laws r.broadcast inv.behind.stores c.args.scene.now.arguments.items c.loop-place.scene c.requires.laid inv.behind.collected place count lt after rests);
+      behind = behind_more (left_in_order r code c.args.scene.now) place c.args.scene.now.arguments.items c.loop-place.scene.arguments.items after.arguments.items (store_of after) inv.behind (sym here ∙ c.in-Ok.ensures.store)
+          (collected_all laws r.broadcast inv.behind.stores c.args.scene.now.arguments.items c.loop-place.scene c.requires.laid inv.behind.collected place (behind_count _ place _ _ inv.behind) lt after rests);
     }
 
 pub returns : goal.returns
