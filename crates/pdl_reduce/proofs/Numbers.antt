@@ -8,7 +8,7 @@ use Rattle.std.proofs.lemmas.Int.{int_max_is, int_min_is, int_wrap-add_left, int
 use Rattle.std.proofs.lemmas.List.{get_or-drop, get_or-take}
 use Rattle.std.proofs.lemmas.List.Elements.{All-head, All-tail}
 use Rattle.pdl_elem.specs.declared.Ty.{Ty}
-use Rattle.pdl_elem.specs.declared.Ty.TheVariants.{Longlong}
+use Rattle.pdl_elem.specs.declared.Ty.TheVariants.{Long, Longlong}
 use Rattle.pdl_elem.specs.Laws.{WrappingLaws}
 use Rattle.pdl_elem.specs.Numbers.{wrapped}
 use Rattle.pdl_elem.specs.Types.{InRange, highest, lowest}
