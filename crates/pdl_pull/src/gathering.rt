@@ -53,9 +53,9 @@ fn has_twice_of_few(places: &[Option<u32>]) -> bool
 }
 
 /// Whether comparing each pair of so many positions costs no more than a note for each element of
-/// the root.
+/// the root: a note is some sixteen times as cheap as a pair, since notes are cleared in blocks.
 fn are_few(positions: usize, count: u32) -> bool {
-    positions <= 1024 && positions * positions <= count as usize
+    positions <= 256 && 16 * positions * positions <= count as usize
 }
 
 /// Whether two positions have the same place: a few by comparing them, and more in one pass from

@@ -59,6 +59,24 @@ fn a_notice_is_written_as_a_line(rt: HostRuntime) {
     same(rt, watcher.is_finished(), true);
 }
 
+// How a line watcher over a sink with this failing call is told and finished: the line of 40 bytes
+// takes the calls 0 to 7, and the flush is one more.
+fn tells_and_finishes(rt: &impl Abort, alloc: Global, failing: u64, answer: Result<(), Failed>) {
+    let failing = Vec::from_slice(alloc, &[failing]).expect(rt, "memory");
+    let sink = MemSink::with_room(alloc, 100, 5, failing).expect(rt, "memory");
+    let mut watcher = LineWatcher::new(alloc, 0, sink).expect(rt, "memory");
+    same(rt, watcher.tell(&change()), Ok(()));
+    assert!(rt; !watcher.is_finished());
+    same(rt, watcher.finish(), answer);
+}
+
+#[test]
+fn telling_is_one_line_and_finishing_one_flush(rt: HostRuntime) {
+    let rt = &rt;
+    tells_and_finishes(rt, rt.alloc(), 8, Err(Failed));
+    tells_and_finishes(rt, rt.alloc(), 9, Ok(()));
+}
+
 // A list of one change for slot 0.
 fn for_slot_0(rt: &impl Abort, alloc: Global) -> Vec<Vec<Notice>> {
     let mut notices = Vec::new(alloc);
@@ -94,4 +112,17 @@ fn a_boxed_watcher_is_told_and_dropped(rt: HostRuntime) {
     assert!(rt; are_open(&slots));
     same(rt, end_slot(&mut slots, 0), Ok(()));
     assert!(rt; slots[0].is_none());
+}
+
+#[test]
+fn a_slot_keeps_a_watcher_that_fails_to_finish(rt: HostRuntime) {
+    let rt = &rt;
+    let alloc = rt.alloc();
+    let mut slots: Vec<Option<Recorder>> = Vec::new(alloc);
+    let failing = Vec::from_slice(alloc, &[0]).expect(rt, "memory");
+    let recorder = Recorder::with_room(alloc, 8, failing).expect(rt, "memory");
+    slots.push(Some(recorder)).expect(rt, "memory");
+    assert!(rt; are_open(&slots));
+    same(rt, end_slot(&mut slots, 0), Err(Failed));
+    assert!(rt; slots[0].is_some());
 }

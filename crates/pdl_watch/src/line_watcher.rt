@@ -1,8 +1,8 @@
 //! A watcher that writes a line for each notice.
 ghost use Rattle.std.specs.Prelude.{◌≡◌, ◌≤◌, [], ◌∷◌, false, true, None, Some, min, ◌+◌, IfOk, OnOk, OnErr, vec_capacity};
-ghost use Rattle.std.specs.Io.KnownBytes.{Appends};
+ghost use Rattle.std.specs.Io.KnownBytes.{Appends, Keeps};
 ghost use Rattle.pdl_io.specs.Counts.{HasCause, next_count};
-ghost use Rattle.pdl_io.specs.Told.{AppendsPrefix};
+ghost use Rattle.pdl_io.specs.Told.{AppendsPrefix, Says};
 ghost use Rattle.pdl_watch.specs.NoticeLine.{notice_line};
 
 use crate::line::{ROOM, make_line};
@@ -31,6 +31,8 @@ impl<K: Sink + Drop> LineWatcher<K> {
         ensures sink { IfOk result (λ w. sink_of w ≡ sink) }
         ensures slot { IfOk result (λ w. slot_of w ≡ slot) }
         ensures open { IfOk result (λ w. is_ended w ≡ false) }
+        ensures untold { IfOk result (λ w. told_count w ≡ 0) }
+        ensures nothing { IfOk result (λ w. newest_of w ≡ None) }
     {
         let line = Vec::with_capacity(alloc, ROOM)?;
         Ok(LineWatcher {
@@ -79,8 +81,13 @@ impl<K: Sink + Drop> Watcher for LineWatcher<K> {
             (watched K.faults self.old) (watched K.faults self.new) result }
         ensures counted { OnOk result (told_count self.new ≡ next_count (told_count self.old)) }
         ensures newest { OnOk result (newest_of self.new ≡ Some notice.now) }
+        ensures uncounted { OnErr result (told_count self.new ≡ told_count self.old) }
+        ensures same { OnErr result (newest_of self.new ≡ newest_of self.old) }
+        ensures slot { slot_of self.new ≡ slot_of self.old }
         ensures whole { OnOk result (Appends (K.taken (sink_of self.old)) (K.taken (sink_of self.new))
             (notice_line (slot_of self.old) notice.now)) }
+        ensures prefix { OnErr result (AppendsPrefix (K.taken (sink_of self.old))
+            (K.taken (sink_of self.new)) (notice_line (slot_of self.old) notice.now)) }
     {
         self.line(notice)?;
         count_one(&mut self.told);
@@ -88,7 +95,16 @@ impl<K: Sink + Drop> Watcher for LineWatcher<K> {
         Ok(())
     }
 
-    fn finish(&mut self) -> Result<(), Failed> {
+    fn finish(&mut self) -> Result<(), Failed>
+        requires { is_ended self.old ≡ false }
+        ensures leaves { Leaves (ended (watched K.faults self.old)) (watched K.faults self.old)
+            (watched K.faults self.new) result }
+        ensures bytes { Keeps (K.taken (sink_of self.old)) (K.taken (sink_of self.new)) }
+        ensures flushed { OnOk result (Says (K.is_flushed (sink_of self.new)) true) }
+        ensures slot { slot_of self.new ≡ slot_of self.old }
+        ensures told { told_count self.new ≡ told_count self.old }
+        ensures newest { newest_of self.new ≡ newest_of self.old }
+    {
         self.sink.flush()?;
         self.finished = true;
         Ok(())
