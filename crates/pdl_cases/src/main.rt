@@ -11,6 +11,7 @@ mod cursor;
 mod engine;
 mod escapes;
 mod kernel_code;
+mod nice;
 mod numbers;
 mod script;
 mod slices;
@@ -34,6 +35,7 @@ enum Call {
     Form,
     Statement,
     Kernel,
+    Nice,
     Slice,
     Plan,
     Window,
@@ -57,6 +59,7 @@ const CALLS: &[(&str, Call)] = &[
     ("form", Call::Form),
     ("statement", Call::Statement),
     ("kernel", Call::Kernel),
+    ("nice", Call::Nice),
     ("slice", Call::Slice),
     ("plan", Call::Plan),
     ("window", Call::Window),
@@ -82,6 +85,7 @@ fn make_call(line: &mut Cursor<'_>, answer: &mut Answer) -> Option<()> {
         Call::Form => statement::form_answer(line, answer),
         Call::Statement => statement::tree_answer(line, answer),
         Call::Kernel => kernel_code::kernel_answer(line, answer),
+        Call::Nice => nice::nice_answer(line, answer),
         Call::Slice => slices::slice_answer(line, answer),
         Call::Plan => affine::plan_answer(line, answer),
         Call::Window => affine::window_answer(line, answer),

@@ -60,7 +60,8 @@ fn say_lexemes(answer: &mut Answer, all: &[Lexeme]) {
     answer.or_none();
 }
 
-fn say_text(answer: &mut Answer, text: &[u8]) {
+/// Says a text, or how many bytes it has where these are more than 200.
+pub fn say_text(answer: &mut Answer, text: &[u8]) {
     if text.len() <= 200 {
         answer.quoted(text);
     } else {

@@ -62,6 +62,7 @@ fn write_flat(
     requires empty { into.old.items ≡ [] }
     ensures ok { OnOk result (text_or (end_behind text.now 0 tokens.now)
         (plain_tokens (written text.now 0 tokens.now)) ≡ Ok into.new.items) }
+    ensures within { OnOk result (length into.new.items ≤ statement_limit) }
     ensures refused { IfErr result (λ fault. IfSome (refusal_of fault) (λ refusal.
         text_or (end_behind text.now 0 tokens.now)
         (plain_tokens (written text.now 0 tokens.now)) ≡ Err refusal)) }
@@ -88,6 +89,7 @@ pub fn write_plain(
     requires tokens { toks text.now ≡ Ok tokens.now }
     requires small { length text.now ≤ statement_limit }
     ensures ok { OnOk result (plain_of text.now tokens.now ≡ Ok into.new.items) }
+    ensures within { OnOk result (length into.new.items ≤ statement_limit) }
     ensures refused { IfErr result (λ fault. IfSome (refusal_of fault) (λ refusal.
         plain_of text.now tokens.now ≡ Err refusal)) }
 {
@@ -117,6 +119,7 @@ pub fn plain(alloc: Global, text: &[u8], tokens: &[Token]) -> Result<Vec<u8>, Ni
     requires tokens { toks text.now ≡ Ok tokens.now }
     requires small { length text.now ≤ statement_limit }
     ensures ok { IfOk result (λ plain. plain_of text.now tokens.now ≡ Ok plain.items) }
+    ensures within { IfOk result (λ plain. length plain.items ≤ statement_limit) }
     ensures refused { IfErr result (λ fault. IfSome (refusal_of fault) (λ refusal.
         plain_of text.now tokens.now ≡ Err refusal)) }
 {

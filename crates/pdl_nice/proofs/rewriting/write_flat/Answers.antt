@@ -22,3 +22,9 @@ returns-clause-ok c =
     c.write_tokens.new.into.items c.write_end.new.into.items c.requires.empty
     (something_written c.in_ok-write_tokens.field-0 c.args.into.now.items c.write_tokens.new.into.items _ c.if-not-branch.false c.in_ok-write_tokens.ensures.written)
     c.in_ok-write_end.ensures (omega (arith, short, size))
+
+pub returns-clause-within : goal.returns-clause-within
+returns-clause-within c =
+    let short = c.if-len-gt-STATEMENT_LIMIT.false in
+    let size : c.len.result ≡ length c.write_end.new.into.items = c.len.ensures ∙ c.write_end.new.into.ok.0 in
+    omega (arith, short, size)

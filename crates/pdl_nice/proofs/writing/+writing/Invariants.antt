@@ -5,7 +5,8 @@ use Rattle.pdl_nice.specs.Adding.{shown}
 use Rattle.pdl_nice.specs.Writing.{onto, text_behind, values_text}
 use Rattle.pdl_nice.proofs.writing.+writing.Given as goal
 
--- a call for the same tokens takes fewer: of the whole text, of a nice part, of its expressions, of one
+-- what a call has left: four times its tokens, and a rest by which the functions that hand on all of
+-- them stand in the order in which they call each other
 abbrev pub decreases-write_nice : goal.decreases-write_nice
 decreases-write_nice l = 4 * (length l.tokens.now - l.at)
 
