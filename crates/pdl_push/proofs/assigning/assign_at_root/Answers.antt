@@ -1,4 +1,4 @@
-use Rattle.std.proofs.Common.{◌≡◌, sym, ◌∙◌, ap}
+use Rattle.std.proofs.Common.{◌∙◌, ap}
 use Rattle.pdl_nodes.specs.Changes.{mark_in}
 use Rattle.pdl_nodes.specs.Put.{put_in}
 use Rattle.pdl_nodes.specs.Row.{Row, is_buffered}

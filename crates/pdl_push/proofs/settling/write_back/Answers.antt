@@ -1,9 +1,8 @@
-use Rattle.std.proofs.Common.{true, sym, ◌∙◌, ap}
+use Rattle.std.proofs.Common.{◌∙◌, ap}
 use Rattle.pdl_nodes.specs.Changes.{marked_in, wait_in}
 use Rattle.pdl_nodes.specs.Families.{IsWaiting}
 use Rattle.pdl_nodes.specs.Row.{Row, is_buffered}
 use Rattle.pdl_nodes.specs.Rows.{row_at, has, each}
-use Rattle.pdl_push.specs.Late.{settle}
 use Rattle.pdl_push.proofs.RowsAfter.{written}
 use Rattle.pdl_push.proofs.settling.write_back.Goals as goal
 
