@@ -78,7 +78,7 @@ fn any_fixed_again(args: &[WrittenArg], dims: &[WrittenDim]) -> bool
 }
 
 /// Whether a dimension is fixed to another number than the first one for its word.
-pub fn is_fixed_again(args: &[WrittenArg]) -> bool
+fn is_fixed_again(args: &[WrittenArg]) -> bool
     ensures { result ≡ is_fixed_again args.now }
 {
     args.iter()
@@ -115,14 +115,15 @@ pub fn are_too_many(args: usize, names: usize) -> bool
     args > MOST_ARGS || names > MOST_NAMES
 }
 
-/// The first refusal of a signature, in which a dimension was fixed again or not.
-pub fn refusal(signature: &Signature, fixed_again: bool) -> Option<SigFault>
-    ensures { result ≡ refusal signature.now fixed_again }
+/// The first refusal of the signature of arguments as they are written.
+pub fn refusal(signature: &Signature, written: &[WrittenArg]) -> Option<SigFault>
+    ensures { result ≡ refusal signature.now (is_fixed_again written.now) }
 {
     let args = signature.args.as_slice();
     if are_too_many(args.len(), signature.names.as_slice().len()) {
         Some(SigFault::TooManyNames)
-    } else if is_twice_named(args) || fixed_again {
+    } else if is_twice_named(args) || is_fixed_again(written) {
+        // (asked last, and so of few: by then no argument names a dimension twice)
         Some(SigFault::TwiceNamed)
     } else if !has_output(args) {
         Some(SigFault::NoOutput)

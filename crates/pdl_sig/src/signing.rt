@@ -4,7 +4,7 @@ ghost use Rattle.pdl_sig.specs.Refusals.{Signs, IsWellFormed, IsFaultOf};
 
 use crate::naming::{all_names, signature_of};
 use crate::reading::args;
-use crate::refusing::{are_too_many, is_fixed_again, refusal};
+use crate::refusing::{are_too_many, refusal};
 use crate::{SigFault, Signature};
 use std::alloc::Global;
 
@@ -29,7 +29,7 @@ pub fn read_signature(alloc: Global, text: &[u8]) -> Result<Signature, SigFault>
         return Err(SigFault::TooManyNames);
     }
     let signature = signature_of(alloc, args.as_slice(), names)?;
-    match refusal(&signature, is_fixed_again(args.as_slice())) {
+    match refusal(&signature, args.as_slice()) {
         Some(fault) => Err(fault),
         None => Ok(signature),
     }

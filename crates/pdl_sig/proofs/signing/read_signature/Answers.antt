@@ -24,7 +24,7 @@ returns-in-Some-refusal-clause-refused c =
     (record {
       read = rw c.in-Some.is at c.in_ok-args.ensures;
       meant = c.in_ok-signature.ensures ∙ ap signature_of c.as_slice-2.ensures.value;
-      first_is = c.in-Some-refusal.ensures ∙ ap (refusal c.in_ok-signature.signature) (c.is_fixed_again.ensures ∙ ap is_fixed_again c.as_slice-3.ensures.value);
+      first_is = c.in-Some-refusal.ensures ∙ ap (refusal c.in_ok-signature.signature) (ap is_fixed_again c.as_slice-3.ensures.value);
     })
 
 pub returns-clause-read : goal.returns-clause-read
@@ -33,7 +33,7 @@ returns-clause-read c =
     (record {
       read = rw c.in-Some.is at c.in_ok-args.ensures;
       meant = c.in_ok-signature.ensures ∙ ap signature_of c.as_slice-2.ensures.value;
-      first_is = c.in-None.ensures ∙ ap (refusal c.in_ok-signature.signature) (c.is_fixed_again.ensures ∙ ap is_fixed_again c.as_slice-3.ensures.value);
+      first_is = c.in-None.ensures ∙ ap (refusal c.in_ok-signature.signature) (ap is_fixed_again c.as_slice-3.ensures.value);
     })
 
 pub returns-clause-well_formed : goal.returns-clause-well_formed
