@@ -1,20 +1,21 @@
 -- States to which nothing but new arrays came.
-use Rattle.std.proofs.Common.{◌≡◌, ℕ, ℤ, ◌+◌, ◌≤◌, List, [], ◌∷◌, Option, Result, Ok, refl, sym, ap, subst, ◌∙◌, arith}
+use Rattle.std.proofs.Common.{◌≡◌, ℕ, ℤ, ◌+◌, ◌≤◌, List, [], ◌∷◌, ◌++◌, map, Option, Result, Ok, refl, sym, ap, subst, ◌∙◌, arith}
 use Rattle.std.specs.Prelude.{IsSomeAnd}
 use Rattle.pdl_world.specs.World.{World, ArrayDef, Look, assign}
 use Rattle.pdl_world.specs.Sound.{NumbersBelow, IsSound, IsLive}
 use Rattle.pdl_world.specs.Laws.{OlderStay, LooksStay, NumbersStay}
 use Rattle.pdl_engine.specs.State.{State as Engine, Joins, SameArrays}
-use Rattle.pdl_machine.specs.Names.{Names}
+use Rattle.pdl_machine.specs.Names.{Named, Names}
 use Rattle.pdl_lexemes.specs.declared.AssignOp.{AssignOp}
 use Rattle.pdl_machine.specs.declared.fault.Fault.{Fault}
 use Rattle.pdl_machine.specs.Arrays.{Arrays, with_new, array_in}
 use Rattle.pdl_machine.specs.Operators.{values_for}
 use Rattle.pdl_machine.specs.Step.{assigned}
+use Rattle.pdl_machine.specs.Laws.{AreGrown}
 use Rattle.pdl_machine.specs.Then.{and_then}
 use Rattle.pdl_machine.specs.State.{State, with_arrays, held, AreLive, IsWhole}
 use Rattle.pdl_scope.specs.Answers.{Prints}
-use Rattle.pdl_scope.specs.Scope.{arrays_of, state_in, Grows}
+use Rattle.pdl_scope.specs.Scope.{Scope, arrays_of, scope_in, state_in, Grows}
 
 abbrev state_of : Names → Arrays → State
 state_of names a = record { names = names; arrays = a }
@@ -27,10 +28,16 @@ pub still_live : (w u : World) → ((v : ℕ) → IsLive w v → IsLive u v) →
 still_live w u still [] live = tt
 still_live w u still (v ∷ vs) live = (still v live.0, still_live w u still vs live.1)
 
+-- the arrays of names that are bound later can be looked at, and so can the next one
+pub live_too : (s mid : Scope) (more : Named ℕ) (x : List ℕ) (id : ℕ) → Grows s mid → AreLive s.arrays.world (map (λ n. n.1) more) → IsLive mid.arrays.world id → AreLive mid.arrays.world (map (λ n. n.1) (more ++ (x, id) ∷ []))
+live_too s mid [] x id g live last = (last, tt)
+live_too s mid (n ∷ more) x id g live last = (g.still n.1 live.0, live_too s mid more x id g live.1 last)
+
 -- what comes of a new array
 pub record IsJoined (names : Names) (a : Arrays) (p : Arrays × ℕ) : Type 0 where
   pub whole : IsWhole (state_of names p.0)
-  pub grown : Grows (state_of names a) (state_of names p.0)
+  pub grown : AreGrown a p.0
+  pub still : (v : ℕ) → IsLive a.world v → IsLive p.0.world v
 
 joined : OlderStay → (names : Names) (a : Arrays) (d : ArrayDef) → IsWhole (state_of names a) → IsSound ((a.next, d) ∷ a.world) → IsJoined names a (with_new a d)
 joined older names a d whole sound =
@@ -42,7 +49,8 @@ joined older names a d whole sound =
         below = (omega arith, below_more a.world a.next (a.next + 1) (omega arith) whole.below);
         live = still_live a.world ((a.next, d) ∷ a.world) still (held (state_of names a)) whole.live;
       };
-      grown = record { names = refl; arrays = record { more = (a.next, d) ∷ []; is = refl }; still = still };
+      grown = record { more = (a.next, d) ∷ []; is = refl };
+      still = still;
     }
 
 abbrev numbered : World → ℕ → ℕ → Arrays × ℕ
@@ -60,7 +68,16 @@ came older names e t d id whole is sound =
     let j : with_new (arrays_of e) d ≡ (arrays_of t, id) = joins e t d id is in
     subst (λ (p : Arrays × ℕ). IsJoined names (arrays_of e) p) j (joined older names (arrays_of e) d whole (subst S (sym j) sound))
 
+-- and nothing else
+pub grown : OlderStay → (names : Names) (e t : Engine) (d : ArrayDef) (id : ℕ) → IsWhole (state_in names e) → Joins e id d t → IsSound t.world → Grows (scope_in names e) (scope_in names t)
+grown older names e t d id whole is sound =
+    let j = came older names e t d id whole is sound in
+    record { names = refl; arrays = j.grown; still = j.still; stay = is.stay }
+
 -- arrays that may be lent now are the same arrays
+pub readied_arrays : (e t : Engine) → SameArrays e t → arrays_of t ≡ arrays_of e
+readied_arrays e t s = ap (λ w. record { world = w; next = t.next }) s.world ∙ ap (λ n. record { world = e.world; next = n }) s.next
+
 pub readied : (names : Names) (e t : Engine) → SameArrays e t → state_in names t ≡ state_in names e
 readied names e t s =
     ap (λ w. state_of names (record { world = w; next = t.next })) s.world ∙ ap (λ n. state_of names (record { world = e.world; next = n })) s.next

@@ -24,7 +24,7 @@ use Rattle.pdl_machine.specs.State.{State, held, with_world, AreLive, IsWhole}
 use Rattle.pdl_scope.specs.Scope.{state_in, names_in, times, KeepsAll, IsHeld}
 use Rattle.pdl_scope.proofs.Bindings.{live_bound, bound_is, length_after, whole_defined}
 use Rattle.pdl_scope.proofs.Growing.{came, readied}
-use Rattle.pdl_scope.specs.Holding.{IsHeldForName, LetsGo}
+use Rattle.pdl_scope.specs.Holding.{IsHeldForName, SameButHolds, LetsGo}
 
 -- the arrays of names
 abbrev pub numbers : Named ℕ → List ℕ
@@ -341,6 +341,11 @@ held_bound one_more names kernels e t x v leaving left have h live few is = by_w
         let E : Engine → Type 0 = λ y. IsHeld (state_in (names_in (with_name names x v) kernels) y) y.holds (left ++ gives_up) in
         let known : holds (holders e.holds) v ≡ true = have v ∙ some_live e.world v live in
         subst E (sym more.0) (held_now (one_more_at e.holds v) (λ u. (let c = one_more e.holds v u known in omega arith)) (λ u. (let c = one_more e.holds v u known in let l = ap (λ us. times us u) more.1 in omega arith)))
+
+-- an array that is held for a name is all that differs
+pub same_but_holds : (e t : Engine) (v : ℕ) (leaving left : List ℕ) → IsHeldForName e leaving v t left → SameButHolds e t
+same_but_holds e t v leaving left (inl handed) = let P : Engine → Type 0 = λ y. y ≡ record e { holds = y.holds } in subst P (sym handed.0) refl
+same_but_holds e t v leaving left (inr more) = let P : Engine → Type 0 = λ y. y ≡ record e { holds = y.holds } in subst P (sym more.0) refl
 
 -- there is room for one hold more
 pub room_for : (names : Named ℕ) (kernels : Named Kernel) (e : Engine) (leaving : List ℕ) (v : ℕ) → IsHeld (state_in (names_in names kernels) e) e.holds leaving → count_at e.holds v ≤ names_limit + length leaving

@@ -1,5 +1,5 @@
 -- New arrays bound to names in order, where there is room for all of them.
-use Rattle.std.proofs.Common.{◌≡◌, ℕ, zero, suc, ◌+◌, ◌-◌, ◌<◌, ◌≤◌, Bool, true, false, List, [], ◌∷◌, length, take, drop, get_or, Result, Ok, Err, nat_eq, nat_lt, refl, sym, ap, subst, ◌∙◌, arith}
+use Rattle.std.proofs.Common.{◌≡◌, ℕ, zero, suc, ◌+◌, ◌-◌, ◌<◌, ◌≤◌, Bool, true, false, List, [], ◌∷◌, ◌++◌, length, take, drop, get_or, Result, Ok, Err, nat_eq, nat_lt, refl, sym, ap, subst, ◌∙◌, arith}
 use Rattle.std.specs.Prelude.{not, ◌||◌, is_some, is_none, if◌then◌else◌, Option, Some, None}
 use Rattle.std.specs.Cmp.Lexicographic.{pointwise, same_text}
 use Rattle.std.specs.Result.{IsErrAnd}
@@ -17,9 +17,9 @@ use Rattle.pdl_machine.specs.Step.{Stepped, bind_value, bound, roots_bound}
 use Rattle.pdl_machine.specs.Then.{and_then}
 use Rattle.pdl_scope.specs.declared.fault.StepFault.{StepFault}
 use Rattle.pdl_scope.specs.declared.fault.StepFault.TheVariants.{Script, NoMemory}
-use Rattle.pdl_scope.specs.Answers.{IsFault, Prints, IfScript, IsKept, Runs}
-use Rattle.pdl_scope.specs.Room.{is_among, new_among, has_room}
-use Rattle.pdl_scope.specs.Scope.{Grows}
+use Rattle.pdl_scope.specs.Answers.{IsFault, Prints, IsKept, Runs}
+use Rattle.pdl_scope.specs.Room.{with_names, is_among, new_among, has_room}
+use Rattle.pdl_scope.specs.Scope.{Scope, Grows}
 use Rattle.pdl_scope.proofs.Bindings.{length_after}
 use Rattle.pdl_scope.proofs.Held.{few_bound}
 
@@ -28,6 +28,31 @@ same x y = pointwise nat_eq x y
 
 abbrev one_if : Bool → ℕ
 one_if b = if b then 1 else 0
+
+-- one name more, and many
+with_all : {A : Type 0} (names front back : Named A) → with_names names (front ++ back) ≡ with_names (with_names names front) back
+with_all names [] back = refl
+with_all names (n ∷ front) back = with_all (with_name names n.0 n.1) front back
+
+pub with_one_more : {A : Type 0} (names more : Named A) (x : List ℕ) (v : A) → with_names names (more ++ (x, v) ∷ []) ≡ with_name (with_names names more) x v
+with_one_more names more x v = with_all names more ((x, v) ∷ [])
+
+-- names that are bound don't get fewer
+with_many : {A : Type 0} (names more : Named A) → length names ≤ length (with_names names more)
+with_many names [] = omega arith
+with_many names (n ∷ more) =
+    let l = length_after names n.0 n.1 in
+    let rest = with_many (with_name names n.0 n.1) more in
+    omega arith
+
+-- one more is one longer
+pub one_longer : {A : Type 0} (more : Named A) (n : List ℕ × A) → length (more ++ n ∷ []) ≡ length more + 1
+one_longer [] n = refl
+one_longer (m ∷ more) n = let rest = one_longer more n in omega arith
+
+-- where all fit, the first one does
+pub first_fits : (names more : Named ℕ) (x : List ℕ) (v : ℕ) → length (with_names names ((x, v) ∷ more)) ≤ names_limit → length (with_name names x v) ≤ names_limit
+first_fits names more x v few = let rest = with_many (with_name names x v) more in omega arith
 
 -- which names are known after a binding
 known_after : {A : Type 0} (names : Named A) (x y : List ℕ) (v : A) → is_some (found (with_name names x v) y) ≡ (same y x || is_some (found names y))
@@ -161,30 +186,30 @@ left_is s xs ms i x m within there here it =
 -- the array came, and there is room for its name
 pub record IsNext (s mid : State) (x : List ℕ) (m : Made) (id : ℕ) : Type 0 where
   pub made : new_root s.arrays m ≡ Ok (mid.arrays, id)
-  pub grown : Grows s mid
+  pub named : mid.names ≡ s.names
   pub free : is_full_for names_limit s.names.arrays x ≡ false
 
 pub binds : (s mid : State) (x : List ℕ) (m : Made) (id : ℕ) → IsNext s mid x m id → bind_value mid x (mid.arrays, id) ≡ Ok (with_bound mid x id, [])
 binds s mid x m id next =
     let F : Names → Type 0 = λ names. is_full_for names_limit names.arrays x ≡ false in
-    is_bound mid x id (subst F (sym next.grown.names) next.free)
+    is_bound mid x id (subst F (sym next.named) next.free)
 
 value_is : (s mid : State) (x : List ℕ) (m : Made) (id : ℕ) → IsNext s mid x m id → bound s x (new_root s.arrays m) ≡ Ok (with_bound mid x id, [])
 value_is s mid x m id next =
     let B : Names → Stepped = λ names. and_then (bind names x id) (λ after. Ok (record { names = after; arrays = mid.arrays }, [])) in
-    ap (bound s x) next.made ∙ ap B (sym next.grown.names) ∙ binds s mid x m id next
+    ap (bound s x) next.made ∙ ap B (sym next.named) ∙ binds s mid x m id next
 
 -- the state is that with the name
 pub bound_so : (s mid new : State) (x : List ℕ) (m : Made) (id : ℕ) → IsNext s mid x m id → Prints (bind_value mid x (mid.arrays, id)) new [] [] → new ≡ with_bound mid x id
 bound_so s mid new x m id next h = let P : Stepped → Type 0 = λ r. Prints r new [] [] in (subst P (binds s mid x m id next) h).0
 
--- what can't be refused has no fault but want of memory
-pub never_refused : {A T : Type 0} (a : A) (wanted : Stepped) (old new : State) (r : Result T StepFault) (f : StepFault) → IsErrAnd r (λ e. e ≡ f) → IsFault (Ok a) f → Runs wanted old new [] [] r
-never_refused a wanted old new (Ok x) f is h = absurd is
-never_refused {A = A} a wanted old new (Err e) f is h = by_fault e f is h
+-- what can't be refused has no fault but want of memory, which keeps all as it was but for new arrays
+pub never_refused : {A T : Type 0} (a : A) (wanted : Stepped) (old new : Scope) (r : Result T StepFault) (f : StepFault) → IsErrAnd r (λ e. e ≡ f) → IsFault (Ok a) f → Grows old new → Runs wanted old new [] [] r
+never_refused a wanted old new (Ok x) f is h g = absurd is
+never_refused {A = A} a wanted old new (Err e) f is h g = (by_fault e f is h, record { grown = g; printed = refl })
   where
-    by_fault : (e f : StepFault) → e ≡ f → IsFault (Ok a) f → IsFault wanted e × IfScript e (IsKept old new [] [])
-    by_fault NoMemory f is h = (tt, tt)
+    by_fault : (e f : StepFault) → e ≡ f → IsFault (Ok a) f → IsFault wanted e
+    by_fault NoMemory f is h = tt
     by_fault (Script e) f is h = let P : StepFault → Type 0 = IsFault (Ok a) in let k : Ok a ≡ Err e = subst P (sym is) h in cc
 
 pub roots_more : (old s mid new : State) (xs : List (List ℕ)) (ms : List Made) (i : ℕ) (x : List ℕ) (m : Made) (id : ℕ) → i < length xs → i < length ms → x ≡ get_or xs i x → m ≡ get_or ms i m
@@ -193,12 +218,28 @@ roots_more old s mid new xs ms i x m id within there here it so_far next is =
     so_far ∙ left_is s xs ms i x m within there here it ∙ ap (then_bound (drop (i + 1) xs) (drop (i + 1) ms)) (value_is s mid x m id next) ∙ ap (λ t. left t xs ms (i + 1)) (sym is)
 
 -- there is room for the others still
-pub room_left : (s mid new : State) (x : List ℕ) (xs : List (List ℕ)) (id : ℕ) → Grows s mid → new ≡ with_bound mid x id → length s.names.arrays + new_among s.names.arrays (x ∷ xs) ≤ names_limit
+pub room_left : (s mid new : State) (x : List ℕ) (xs : List (List ℕ)) (id : ℕ) → mid.names ≡ s.names → new ≡ with_bound mid x id → length s.names.arrays + new_among s.names.arrays (x ∷ xs) ≤ names_limit
     → length new.names.arrays + new_among new.names.arrays xs ≤ names_limit
-room_left s mid new x xs id g is room =
+room_left s mid new x xs id named is room =
     let R : Named ℕ → Type 0 = λ names. length names + new_among names xs ≤ names_limit in
     let stays = room_stays s.names.arrays x id xs in
-    subst R (sym (ap (λ (t : State). t.names.arrays) is ∙ ap (λ (names : Names). with_name names.arrays x id) g.names)) (omega (arith, stays, room))
+    subst R (sym (ap (λ (t : State). t.names.arrays) is ∙ ap (λ (names : Names). with_name names.arrays x id) named)) (omega (arith, stays, room))
+
+-- a state with more names, which are bound to arrays that it has
+abbrev pub named_too : State → Named ℕ → State
+named_too s more = record s { names = record s.names { arrays = with_names s.names.arrays more } }
+
+-- the next array came to a state whose names are bound later
+pub named_next : (s mid : State) (more : Named ℕ) (x : List ℕ) (m : Made) (id : ℕ) (rest : List (List ℕ)) → new_root s.arrays m ≡ Ok (mid.arrays, id) → mid.names ≡ s.names
+    → length (with_names s.names.arrays more) + new_among (with_names s.names.arrays more) (x ∷ rest) ≤ names_limit → IsNext (named_too s more) (named_too mid more) x m id
+named_next s mid more x m id rest made named room = record {
+  made = made;
+  named = ap (λ (n : Names). record n { arrays = with_names n.arrays more }) named;
+  free = fits_first (with_names s.names.arrays more) x id rest room;
+}
+
+pub named_is : (mid : State) (more : Named ℕ) (x : List ℕ) (id : ℕ) → named_too mid (more ++ (x, id) ∷ []) ≡ with_bound (named_too mid more) x id
+named_is mid more x id = ap (λ ns. record mid { names = record mid.names { arrays = ns } }) (with_one_more mid.names.arrays more x id)
 
 no_more : (s : State) (xs : List (List ℕ)) → roots_bound s xs [] ≡ Ok (s, [])
 no_more s [] = refl

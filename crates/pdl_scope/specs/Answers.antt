@@ -7,7 +7,7 @@ use Rattle.pdl_machine.specs.State.{State}
 use Rattle.pdl_machine.specs.Step.{Stepped}
 use Rattle.pdl_scope.specs.declared.fault.StepFault.{StepFault}
 use Rattle.pdl_scope.specs.declared.fault.StepFault.TheVariants.{Script, NoMemory}
-use Rattle.pdl_scope.specs.Scope.{Grows}
+use Rattle.pdl_scope.specs.Scope.{Scope, machine, Grows}
 
 -- a fault of the script is the one that is wanted; want of memory says nothing
 abbrev pub IsFault : {U : Type 0} → Result U Fault → StepFault → Type 0
@@ -24,7 +24,7 @@ abbrev pub Answers : {T : Type 0} → Result T Fault → Result T StepFault → 
 Answers wanted result = AnswersAs (λ x. x) wanted result
 
 -- the answer is the wanted array, which is there, and the arrays are the wanted ones
-abbrev pub Evaluates : Valued → State → Result ℕ StepFault → Type 0
+abbrev pub Evaluates : Valued → Scope → Result ℕ StepFault → Type 0
 Evaluates wanted new (Ok v) = (wanted ≡ Ok (new.arrays, v)) × IsLive new.arrays.world v
 Evaluates wanted new (Err e) = IsFault wanted e
 
@@ -33,19 +33,13 @@ abbrev pub Prints : Stepped → State → List ℕ → List ℕ → Type 0
 Prints (Ok (s, t)) new old_out new_out = (new ≡ s) × (new_out ≡ old_out ++ t)
 Prints (Err e) new old_out new_out = ⊥
 
--- the fact, where the fault is the script's
-abbrev pub IfScript : StepFault → Type 0 → Type 0
-IfScript (Script e) p = p
-IfScript NoMemory p = Unit {0}
-
--- What is left after a fault: nothing but new arrays came, and nothing was printed.
-pub record IsKept (old new : State) (old_out new_out : List ℕ) : Type 0 where
+-- What a refusal leaves: nothing but new arrays came, and nothing was printed.
+pub record IsKept (old new : Scope) (old_out new_out : List ℕ) : Type 0 where
   pub grown : Grows old new
   pub printed : new_out ≡ old_out
 
--- a statement did what is wanted, or its fault kept all as it was
-abbrev pub Runs : {T : Type 0} → Stepped → State → State → List ℕ → List ℕ →
+-- a statement did what is wanted, or its refusal kept all as it was, want of memory too
+abbrev pub Runs : {T : Type 0} → Stepped → Scope → Scope → List ℕ → List ℕ →
     Result T StepFault → Type 0
-Runs wanted old new old_out new_out (Ok x) = Prints wanted new old_out new_out
-Runs wanted old new old_out new_out (Err e) = IsFault wanted e ×
-    IfScript e (IsKept old new old_out new_out)
+Runs wanted old new old_out new_out (Ok x) = Prints wanted (machine new) old_out new_out
+Runs wanted old new old_out new_out (Err e) = IsFault wanted e × IsKept old new old_out new_out

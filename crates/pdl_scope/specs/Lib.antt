@@ -3,3 +3,4 @@ pub mod Answers
 pub mod Faults
 pub mod Holding
 pub mod Room
+pub mod Growth

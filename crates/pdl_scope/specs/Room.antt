@@ -1,8 +1,18 @@
--- Room for names.
+-- Names that are bound, and room for more of them.
 use Rattle.std.specs.Prelude.{ℕ, nat_eq, nat_lt, Bool, not, ◌+◌, ◌||◌, if◌then◌else◌, List, [], ◌∷◌, length, is_some}
 use Rattle.std.specs.Cmp.Lexicographic.{pointwise}
 use Rattle.std.specs.List.{list_any}
-use Rattle.pdl_machine.specs.Names.{Named, found, names_limit}
+use Rattle.pdl_machine.specs.Names.{Named, found, with_name, names_limit}
+
+-- What is seen of the names of arrays: the names, and for how many new ones memory is taken.
+pub record Table : Type 0 where
+  pub entries : Named ℕ
+  pub spare : ℕ
+
+-- with all of these, one after another
+abbrev pub with_names : {A : Type 0} → Named A → Named A → Named A
+with_names names [] = names
+with_names names (n ∷ more) = with_names (with_name names n.0 n.1) more
 
 -- whether the name is among these
 abbrev pub is_among : List (List ℕ) → List ℕ → Bool

@@ -6,7 +6,7 @@ use Rattle.pdl_world.specs.Sound.{IsLive}
 use Rattle.pdl_world.specs.Swept.{sweep}
 use Rattle.pdl_world.specs.World.{World}
 use Rattle.pdl_engine.specs.Held.{count_at}
-use Rattle.pdl_engine.specs.State.{State as Engine}
+use Rattle.pdl_engine.specs.State.{State as Engine, StayFresh}
 use Rattle.pdl_kernel.specs.Kernels.{Kernel}
 use Rattle.pdl_machine.specs.Names.{Named, Names, names_limit}
 use Rattle.pdl_sig.specs.declared.ArgShape.{ArgShape}
@@ -23,6 +23,41 @@ arrays_of e = record { world = e.world; next = e.next }
 -- arrays and kernels by their names
 abbrev pub names_in : Named ℕ → Named Kernel → Names
 names_in arrays kernels = record { arrays = arrays; kernels = kernels }
+
+-- Which of an engine's arrays can be lent, what waits to be written back, and how often each array
+-- is held.
+pub record Lent : Type 0 where
+  pub fresh : List ℕ
+  pub pending : List (ℕ × ℕ)
+  pub holds : List (ℕ × ℕ)
+
+-- What a scope is seen as: names, arrays, and what its engine can lend of them.
+pub record Scope : Type 0 where
+  pub names : Names
+  pub arrays : Arrays
+  pub lent : Lent
+
+-- the engine of a scope
+abbrev pub engine_of : Scope → Engine
+engine_of s = record {
+  world = s.arrays.world;
+  fresh = s.lent.fresh;
+  pending = s.lent.pending;
+  holds = s.lent.holds;
+  next = s.arrays.next;
+}
+
+-- the machine's state
+abbrev pub machine : Scope → State
+machine s = record { names = s.names; arrays = s.arrays }
+
+-- what the engine can lend, and how often it holds
+abbrev pub lent_by : Engine → Lent
+lent_by e = record { fresh = e.fresh; pending = e.pending; holds = e.holds }
+
+-- names with an engine
+abbrev pub scope_in : Names → Engine → Scope
+scope_in names e = record { names = names; arrays = arrays_of e; lent = lent_by e }
 
 -- names with the engine's arrays as a state of the machine
 abbrev pub state_in : Names → Engine → State
@@ -44,11 +79,19 @@ arrays_seen a vs = map (λ v. array (array_in a v)) vs
 abbrev pub array_of : Ty → List ℕ → List ℤ → Made
 array_of ty ds es = record { ty = ty; dims = ds; elems = es }
 
--- The names are the same, nothing but new arrays came, and each array that was there is there.
-pub record Grows (old new : State) : Type 0 where
+-- Names and arrays are the same, and each array that could be lent can be lent still.
+pub record OnlyReads (old new : Scope) : Type 0 where
+  pub names : new.names ≡ old.names
+  pub arrays : new.arrays ≡ old.arrays
+  pub stay : StayFresh (engine_of old) (engine_of new)
+
+-- The names are the same, nothing but new arrays came, each array that was there is there, and each
+-- that could be lent can be lent still.
+pub record Grows (old new : Scope) : Type 0 where
   pub names : new.names ≡ old.names
   pub arrays : AreGrown old.arrays new.arrays
   pub still : (v : ℕ) → IsLive old.arrays.world v → IsLive new.arrays.world v
+  pub stay : StayFresh (engine_of old) (engine_of new)
 
 -- how often v stands in the list
 abbrev pub times : List ℕ → ℕ → ℕ

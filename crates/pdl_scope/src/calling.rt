@@ -2,7 +2,7 @@
 ghost use Rattle.std.specs.Prelude.{◌≡◌, ◌≤◌, true, [], length, map, All, IfOk, OnOk, Ok};
 ghost use Rattle.std.specs.List.{filter};
 ghost use Rattle.pdl_buf.specs.Made.{IsMade};
-ghost use Rattle.pdl_engine.specs.State.{is_fresh, SameArrays};
+ghost use Rattle.pdl_engine.specs.State.{is_fresh, SameArrays, StayFresh};
 ghost use Rattle.pdl_sig.specs.Resolution.{is_output, resolution};
 ghost use Rattle.pdl_sig.specs.declared.SigArg.{SigArg};
 ghost use Rattle.pdl_world.specs.Sound.{IsLive};
@@ -36,6 +36,7 @@ pub(crate) fn kernel_outputs<L: Ledger>(
         AnswersAs (λ ms. ms.items) (kernel_outputs kernel.now wanted seen) result }
     ensures made { IfOk result (λ ms. All (λ m. IsMade m.ty m.dims m.elems) ms.items) }
     ensures same { SameArrays engine.old engine.new }
+    ensures stay { StayFresh engine.old engine.new }
 {
     if outputs_count(kernel_signature(kernel)) != wanted {
         return Err(StepFault::Script(Fault::WrongArguments));
@@ -71,6 +72,7 @@ fn ready_all<L: Ledger>(
 ) -> Result<(), AllocError>
     requires { All (IsLive engine.old.world) ids.now }
     ensures same { SameArrays engine.old engine.new }
+    ensures stay { StayFresh engine.old engine.new }
     ensures fresh { OnOk result (All (λ v. is_fresh engine.new v ≡ true) ids.now) }
 {
     for id in ids {

@@ -4,11 +4,15 @@ ghost use Rattle.std.specs.Option.{option_to_list};
 ghost use Rattle.pdl_world.specs.Swept.{holds};
 ghost use Rattle.pdl_world.specs.Sound.{IsLive};
 ghost use Rattle.pdl_engine.specs.Held.{count_at};
-ghost use Rattle.pdl_machine.specs.Names.{Names};
+ghost use Rattle.pdl_machine.specs.Names.{Names as AllNames, with_name, names_limit};
+ghost use Rattle.pdl_machine.specs.State.{AreLive};
+ghost use Rattle.pdl_scope.specs.Room.{with_names};
 ghost use Rattle.pdl_scope.specs.Scope.{state_in, IsHeld};
-ghost use Rattle.pdl_scope.specs.Holding.{IsHeldBeside, IsHeldForName, LetsGo};
+ghost use Rattle.pdl_scope.specs.Holding.{IsHeldBeside, IsHeldFor, IsHeldForName, SameButHolds, LetsGo};
 
+use crate::names::Names;
 use pdl_buf::Steps;
+use pdl_elem::Name;
 use pdl_engine::{ArrayId, Engine, hold_laws};
 use pdl_machine::numbering_laws;
 use pdl_world::sweep_laws;
@@ -17,7 +21,8 @@ use std::sync::ledger::Ledger;
 /// Notes an array at the end of a list that has room for it.
 pub(crate) fn note(list: &mut Vec<ArrayId>, id: ArrayId)
     requires { length list.old.items < vec_capacity list.old }
-    ensures { list.new.items ≡ list.old.items ++ id ∷ [] }
+    ensures items { list.new.items ≡ list.old.items ++ id ∷ [] }
+    ensures room { vec_capacity list.old ≤ vec_capacity list.new }
 {
     match list.push(id) {
         Ok(()) => (),
@@ -28,7 +33,8 @@ pub(crate) fn note(list: &mut Vec<ArrayId>, id: ArrayId)
 /// Notes an array, if there is one, at the end of a list that has room for it.
 pub(crate) fn note_some(list: &mut Vec<ArrayId>, id: Option<ArrayId>)
     requires { length list.old.items < vec_capacity list.old }
-    ensures { list.new.items ≡ list.old.items ++ option_to_list id }
+    ensures items { list.new.items ≡ list.old.items ++ option_to_list id }
+    ensures room { vec_capacity list.old ≤ vec_capacity list.new }
 {
     if let Some(id) = id {
         note(list, id);
@@ -63,10 +69,62 @@ pub(crate) fn hold_for_name(engine: &mut Engine, leaving: &mut Vec<ArrayId>, id:
     }
 }
 
+/// Binds a name to an array, which is held for it, and notes the one that the name gives up. All
+/// room for it was taken before.
+fn bind_one(
+    engine: &mut Engine,
+    names: &mut Names,
+    leaving: &mut Vec<ArrayId>,
+    name: Name,
+    id: ArrayId,
+)
+    requires live { IsLive engine.old.world id }
+    requires spare { 0 < names.old.spare }
+    requires room { length leaving.old.items < vec_capacity leaving.old }
+    requires few { length (with_name names.old.entries name id) ≤ names_limit }
+    requires small { length leaving.old.items < 2 ^ 62 }
+    requires held { IsHeldFor names.old.entries engine.old leaving.old.items }
+    ensures names { names.new.entries ≡ with_name names.old.entries name id }
+    ensures same { SameButHolds engine.old engine.new }
+    ensures held { IsHeldFor names.new.entries engine.new leaving.new.items }
+    ensures spare { names.old.spare ≤ names.new.spare + 1 }
+    ensures count { length leaving.new.items ≤ length leaving.old.items + 1 }
+    ensures room { vec_capacity leaving.old ≤ vec_capacity leaving.new }
+{
+    hold_laws();
+    engine.holds_law();
+    hold_for_name(engine, leaving, id);
+    let had = names.put(name, id);
+    note_some(leaving, had);
+}
+
+/// Binds names to arrays in order. All room for it was taken before.
+pub(crate) fn bind_all(
+    engine: &mut Engine,
+    names: &mut Names,
+    leaving: &mut Vec<ArrayId>,
+    mut bound: Vec<(Name, ArrayId)>,
+)
+    requires live { AreLive engine.old.world (map (λ n. n.1) bound.items) }
+    requires spare { length bound.items ≤ names.old.spare }
+    requires room { length leaving.old.items + length bound.items ≤ vec_capacity leaving.old }
+    requires small { length leaving.old.items + length bound.items < 2 ^ 62 }
+    requires few { length (with_names names.old.entries bound.items) ≤ names_limit }
+    requires held { IsHeldFor names.old.entries engine.old leaving.old.items }
+    ensures names { names.new.entries ≡ with_names names.old.entries bound.items }
+    ensures same { SameButHolds engine.old engine.new }
+    ensures held { IsHeldFor names.new.entries engine.new leaving.new.items }
+{
+    bound.reverse();
+    while let Some((name, id)) = bound.pop() {
+        bind_one(engine, names, leaving, name, id);
+    }
+}
+
 /// Takes one hold back for each place in a list. That is unseen where names hold all the others.
 pub(crate) fn release_all<L: Ledger>(engine: &mut Engine, leaving: &[ArrayId], steps: &mut Steps<L>)
     requires { IsHeldBeside engine.old leaving.now }
-    ensures { (names : Names) → IsHeld (state_in names engine.old) engine.old.holds leaving.now →
+    ensures { (names : AllNames) → IsHeld (state_in names engine.old) engine.old.holds leaving.now →
         LetsGo names engine.old engine.new [] }
 {
     sweep_laws();

@@ -1,5 +1,5 @@
 //! The names that arrays are bound to.
-ghost use Rattle.std.specs.Prelude.{◌≡◌, ◌<◌, ◌≤◌, [], length, slice_get, Some, None, Ok, IfOk, IfErr, IfSome, IfNone, OnOk, OnErr};
+ghost use Rattle.std.specs.Prelude.{◌≡◌, ◌+◌, ◌<◌, ◌≤◌, [], length, slice_get, Some, None, Ok, IfOk, IfErr, IfSome, IfNone, OnOk, OnErr};
 ghost use Rattle.pdl_machine.specs.declared.fault.Fault.TheVariants.{TooManyNames};
 ghost use Rattle.pdl_machine.specs.Names.{found, entered, with_name, names_limit};
 ghost use Rattle.pdl_scope.specs.Answers.{IsFault};
@@ -10,7 +10,7 @@ use indexmap::IndexMap;
 use pdl_elem::Name;
 use pdl_engine::ArrayId;
 use pdl_machine::Fault;
-use std::alloc::Global;
+use std::alloc::{AllocError, Global};
 use std::marker::Model;
 
 /// At most so many names are bound at once.
@@ -23,18 +23,18 @@ pub struct Names {
 }
 
 impl Model for Names {
-    ghost use Rattle.std.specs.Prelude.{ℕ};
-    ghost use Rattle.pdl_machine.specs.Names.{Named};
+    ghost use Rattle.indexmap.specs.IndexMap.{spare};
+    ghost use Rattle.pdl_scope.specs.Room.{Table};
 
-    ghost Value = { Named ℕ };
+    ghost Value = { Table };
 
-    ghost view = { λ n. n.arrays.entries };
+    ghost view = { λ n. record { entries = n.arrays.entries; spare = spare n.arrays } };
 }
 
 impl Names {
     /// No names.
     pub fn new(alloc: Global) -> Names
-        ensures { result ≡ [] }
+        ensures { result.entries ≡ [] }
     {
         Names {
             arrays: IndexMap::new(alloc),
@@ -43,7 +43,7 @@ impl Names {
 
     /// The array of a name.
     pub fn get(&self, name: &Name) -> Option<ArrayId>
-        ensures { result ≡ found self.now name.now }
+        ensures { result ≡ found self.now.entries name.now }
     {
         self.arrays.get(name).copied()
     }
@@ -51,12 +51,12 @@ impl Names {
     /// Binds a name to an array, with `TooManyNames` where it is new and 512 are bound. It answers
     /// the array that a known name gives up.
     pub fn bind(&mut self, name: &Name, id: ArrayId) -> Result<Option<ArrayId>, StepFault>
-        ensures ok { let wanted = entered names_limit TooManyNames self.old name.now id in
-            OnOk result (wanted ≡ Ok self.new) }
-        ensures given_up { IfOk result (λ had. had ≡ found self.old name.now) }
-        ensures fault { let wanted = entered names_limit TooManyNames self.old name.now id in
+        ensures ok { let wanted = entered names_limit TooManyNames self.old.entries name.now id in
+            OnOk result (wanted ≡ Ok self.new.entries) }
+        ensures given_up { IfOk result (λ had. had ≡ found self.old.entries name.now) }
+        ensures fault { let wanted = entered names_limit TooManyNames self.old.entries name.now id in
             IfErr result (IsFault wanted) }
-        ensures err { OnErr result (self.new ≡ self.old) }
+        ensures err { OnErr result (self.new.entries ≡ self.old.entries) }
     {
         match self.rebind(name, id) {
             Some(had) => Ok(Some(had)),
@@ -66,9 +66,9 @@ impl Names {
 
     /// Binds a known name to another array, and answers the one that it gives up.
     fn rebind(&mut self, name: &Name, id: ArrayId) -> Option<ArrayId>
-        ensures given_up { result ≡ found self.old name.now }
-        ensures known { IfSome result (λ had. self.new ≡ with_name self.old name.now id) }
-        ensures unknown { IfNone result (self.new ≡ self.old) }
+        ensures given_up { result ≡ found self.old.entries name.now }
+        ensures known { IfSome result (λ had. self.new.entries ≡ with_name self.old.entries name.now id) }
+        ensures unknown { IfNone result (self.new.entries ≡ self.old.entries) }
     {
         let index = match self.arrays.get_index_of(name) {
             Some(index) => index,
@@ -86,13 +86,13 @@ impl Names {
 
     /// Binds a name that isn't bound, with `TooManyNames` where 512 are.
     fn bind_new(&mut self, name: &Name, id: ArrayId) -> Result<Option<ArrayId>, StepFault>
-        requires { found self.old name.now ≡ None }
-        ensures ok { let wanted = entered names_limit TooManyNames self.old name.now id in
-            OnOk result (wanted ≡ Ok self.new) }
+        requires { found self.old.entries name.now ≡ None }
+        ensures ok { let wanted = entered names_limit TooManyNames self.old.entries name.now id in
+            OnOk result (wanted ≡ Ok self.new.entries) }
         ensures given_up { IfOk result (λ had. had ≡ None) }
-        ensures fault { let wanted = entered names_limit TooManyNames self.old name.now id in
+        ensures fault { let wanted = entered names_limit TooManyNames self.old.entries name.now id in
             IfErr result (IsFault wanted) }
-        ensures err { OnErr result (self.new ≡ self.old) }
+        ensures err { OnErr result (self.new.entries ≡ self.old.entries) }
     {
         if self.arrays.len() >= MOST_NAMES {
             return Err(StepFault::Script(Fault::TooManyNames));
@@ -103,17 +103,39 @@ impl Names {
         }
     }
 
+    /// Takes the memory of so many new names.
+    pub fn reserve(&mut self, count: usize) -> Result<(), AllocError>
+        ensures names { self.new.entries ≡ self.old.entries }
+        ensures spare { OnOk result (count ≤ self.new.spare) }
+    {
+        self.arrays.reserve(count)
+    }
+
+    /// Binds a name to an array, and answers the one that a known name gives up. The memory of a
+    /// new name was taken before.
+    pub fn put(&mut self, name: Name, id: ArrayId) -> Option<ArrayId>
+        requires { 0 < self.old.spare }
+        ensures given_up { result ≡ found self.old.entries name }
+        ensures names { self.new.entries ≡ with_name self.old.entries name id }
+        ensures spare { self.old.spare ≤ self.new.spare + 1 }
+    {
+        match self.arrays.insert(name, id) {
+            Ok(had) => had,
+            Err(_) => unreachable!(),
+        }
+    }
+
     /// Whether there is room for these names: with the new ones among them at most 512 are bound.
     pub fn has_room(&self, bound: &[Name]) -> bool
-        requires { length self.now ≤ names_limit }
-        ensures { result ≡ has_room self.now bound.now }
+        requires { length self.now.entries ≤ names_limit }
+        ensures { result ≡ has_room self.now.entries bound.now }
     {
         self.new_among(bound) <= MOST_NAMES - self.arrays.len()
     }
 
     /// How many of these names are new, each counted once.
     fn new_among(&self, bound: &[Name]) -> usize
-        ensures count { result ≡ new_among self.now bound.now }
+        ensures count { result ≡ new_among self.now.entries bound.now }
         ensures within { result ≤ length bound.now }
     {
         match bound {
@@ -128,15 +150,15 @@ impl Names {
 
     /// How many names are bound.
     pub fn len(&self) -> usize
-        ensures { result ≡ length self.now }
+        ensures { result ≡ length self.now.entries }
     {
         self.arrays.len()
     }
 
     /// The name at a place in the order of the first bindings, with its array.
     pub fn entry(&self, index: usize) -> (&Name, ArrayId)
-        requires { index < length self.now }
-        ensures { slice_get self.now index ≡ Some (result.0.now, result.1) }
+        requires { index < length self.now.entries }
+        ensures { slice_get self.now.entries index ≡ Some (result.0.now, result.1) }
     {
         match self.arrays.get_index(index) {
             Some((name, id)) => (name, *id),

@@ -4,7 +4,7 @@ ghost use Rattle.pdl_buf.specs.Made.{IsMade};
 ghost use Rattle.pdl_ops.specs.Elementwise.{unary_each};
 ghost use Rattle.pdl_world.specs.Sound.{IsLive};
 ghost use Rattle.pdl_world.specs.World.{dims_in, ty_in};
-ghost use Rattle.pdl_engine.specs.State.{is_fresh, SameArrays};
+ghost use Rattle.pdl_engine.specs.State.{is_fresh, SameArrays, StayFresh};
 ghost use Rattle.pdl_machine.specs.Arrays.{array_in};
 ghost use Rattle.pdl_machine.specs.Operators.{binary_each, values_for};
 ghost use Rattle.pdl_machine.specs.Outcome.{new_root};
@@ -12,7 +12,7 @@ ghost use Rattle.pdl_machine.specs.Step.{assigned};
 ghost use Rattle.pdl_machine.specs.State.{with_arrays};
 ghost use Rattle.pdl_machine.specs.Then.{and_then};
 ghost use Rattle.pdl_scope.specs.Answers.{Answers, AnswersAs, Evaluates, Runs};
-ghost use Rattle.pdl_scope.specs.Scope.{Grows, arrays_of};
+ghost use Rattle.pdl_scope.specs.Scope.{machine, Grows, arrays_of};
 
 use crate::fault::StepFault;
 use crate::reading::{ready, ready_two};
@@ -77,7 +77,7 @@ impl Scope {
         requires target { IsLive self.old.arrays.world target }
         requires value { IsLive self.old.arrays.world value }
         ensures { let values = assigned sign self.old.arrays target value in
-            let wanted = and_then values (λ a. Ok (with_arrays self.old a, [])) in
+            let wanted = and_then values (λ a. Ok (with_arrays (machine self.old) a, [])) in
             Runs wanted self.old self.new [] [] result }
     {
         assignment_laws();
@@ -151,6 +151,7 @@ fn written<L: Ledger>(
     requires target { IsLive engine.old.world target }
     requires value { IsLive engine.old.world value }
     ensures same { SameArrays engine.old engine.new }
+    ensures stay { StayFresh engine.old engine.new }
     ensures fresh { OnOk result (is_fresh engine.new target ≡ true) }
     ensures value { let a = arrays_of engine.new in
         AnswersAs (λ vs. vs.items) (values_for sign (array_in a target) (array_in a value)) result }

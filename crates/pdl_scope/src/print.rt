@@ -3,7 +3,9 @@ ghost use Rattle.std.specs.Prelude.{◌≡◌, ◌++◌, OnOk};
 ghost use Rattle.std.specs.List.{flat_map};
 ghost use Rattle.pdl_world.specs.Sound.{IsLive};
 ghost use Rattle.pdl_machine.specs.Arrays.{array_in};
+ghost use Rattle.pdl_print.specs.Pieces.{Begins};
 ghost use Rattle.pdl_machine.specs.Step.{printed, info_line, name_line};
+ghost use Rattle.pdl_scope.specs.Scope.{OnlyReads};
 
 use crate::reading::ready;
 use crate::scope::Scope;
@@ -15,7 +17,7 @@ use std::alloc::AllocError;
 use std::sync::ledger::Ledger;
 
 impl Scope {
-    /// Prints an array, or its info line.
+    /// Prints an array, or its info line. A part of it may stand in `out` after want of memory.
     pub fn print<L: Ledger>(
         &mut self,
         id: ArrayId,
@@ -26,7 +28,8 @@ impl Scope {
         requires { IsLive self.old.arrays.world id }
         ensures text { let text = printed info (array_in self.old.arrays id) in
             OnOk result (out.new.items ≡ out.old.items ++ text) }
-        ensures same { self.new ≡ self.old }
+        ensures front { Begins out.old.items out.new.items }
+        ensures same { OnlyReads self.old self.new }
     {
         if info {
             return self.print_info(id, out);
@@ -38,17 +41,20 @@ impl Scope {
     /// Prints the info line of an array.
     fn print_info(&self, id: ArrayId, out: &mut Vec<u8>) -> Result<(), AllocError>
         requires { IsLive self.now.arrays.world id }
-        ensures { let text = info_line (array_in self.now.arrays id) in
+        ensures text { let text = info_line (array_in self.now.arrays id) in
             OnOk result (out.new.items ≡ out.old.items ++ text) }
+        ensures front { Begins out.old.items out.new.items }
     {
         info_text(self.ty(id), self.dims(id), out)?;
         Ok(out.push(b'\n')?)
     }
 
-    /// Prints a line with each name and the info of its array.
+    /// Prints a line with each name and the info of its array. A part of them may stand in `out`
+    /// after want of memory.
     pub fn print_names(&self, out: &mut Vec<u8>) -> Result<(), AllocError>
-        ensures { let text = flat_map (name_line self.now.arrays) self.now.names.arrays in
+        ensures text { let text = flat_map (name_line self.now.arrays) self.now.names.arrays in
             OnOk result (out.new.items ≡ out.old.items ++ text) }
+        ensures front { Begins out.old.items out.new.items }
     {
         for index in 0..self.len() {
             let (name, id) = self.entry(index);
@@ -60,8 +66,9 @@ impl Scope {
     /// Prints a line with a name and the info of its array.
     fn print_name(&self, name: &Name, id: ArrayId, out: &mut Vec<u8>) -> Result<(), AllocError>
         requires { IsLive self.now.arrays.world id }
-        ensures { let text = name_line self.now.arrays (name.now, id) in
+        ensures text { let text = name_line self.now.arrays (name.now, id) in
             OnOk result (out.new.items ≡ out.old.items ++ text) }
+        ensures front { Begins out.old.items out.new.items }
     {
         out.extend_from_slice(name.bytes())?;
         out.push(b' ')?;

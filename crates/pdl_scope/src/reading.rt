@@ -10,6 +10,7 @@ ghost use Rattle.pdl_world.specs.Sound.{IsLive};
 ghost use Rattle.pdl_machine.specs.Arrays.{array_in};
 ghost use Rattle.pdl_machine.specs.Fills.{only};
 ghost use Rattle.pdl_engine.specs.State.{is_fresh, SameArrays, StayFresh};
+ghost use Rattle.pdl_scope.specs.Scope.{OnlyReads};
 
 use crate::scope::Scope;
 use pdl_buf::{Elements, Made, Steps, Strided, strided_dims, strided_get, strided_read};
@@ -34,7 +35,7 @@ impl Scope {
             IfOk result (λ ns. All (InRange ty) ns.items) }
         ensures count { let dims = dims_in self.old.arrays.world id in
             IfOk result (λ ns. length ns.items ≡ size_of dims) }
-        ensures same { self.new ≡ self.old }
+        ensures same { OnlyReads self.old self.new }
     {
         ready(&mut self.engine, id, steps)?;
         all_shown(self.alloc, &self.engine.lend(id))
@@ -48,7 +49,7 @@ impl Scope {
     ) -> Result<Option<i64>, AllocError>
         requires { IsLive self.old.arrays.world id }
         ensures number { IfOk result (λ n. n ≡ only (elements self.old.arrays.world id)) }
-        ensures same { self.new ≡ self.old }
+        ensures same { OnlyReads self.old self.new }
     {
         if elements_of(self.engine.dims(id)) != 1 {
             return Ok(None);
@@ -66,7 +67,7 @@ impl Scope {
         requires { IsLive self.old.arrays.world id }
         ensures value { IfOk result (λ m. m ≡ array_in self.old.arrays id) }
         ensures made { IfOk result (λ m. IsMade m.ty m.dims m.elems) }
-        ensures same { self.new ≡ self.old }
+        ensures same { OnlyReads self.old self.new }
     {
         let elems = self.numbers(id, steps)?;
         Ok(Made {
@@ -86,7 +87,7 @@ impl Scope {
         requires { IsLive self.old.arrays.world id }
         ensures value { IfOk result (λ m. m ≡ converted ty (array_in self.old.arrays id)) }
         ensures made { IfOk result (λ m. IsMade m.ty m.dims m.elems) }
-        ensures same { self.new ≡ self.old }
+        ensures same { OnlyReads self.old self.new }
     {
         ready(&mut self.engine, id, steps)?;
         convert(self.alloc, ty, &self.engine.lend(id))
@@ -106,7 +107,7 @@ impl Scope {
             IfOk result (λ ps. length ps ≤ count) }
         ensures below { let count = size_of (dims_in self.old.arrays.world id) in
             IfOk result (λ ps. All (λ p. p < count) ps) }
-        ensures same { self.new ≡ self.old }
+        ensures same { OnlyReads self.old self.new }
     {
         let _count = elements_of(self.dims(id));
         let numbers = self.numbers(id, steps)?;
@@ -141,6 +142,7 @@ pub(crate) fn ready_two<L: Ledger>(
     requires left { IsLive engine.old.world left }
     requires right { IsLive engine.old.world right }
     ensures same { SameArrays engine.old engine.new }
+    ensures stay { StayFresh engine.old engine.new }
     ensures left_fresh { OnOk result (is_fresh engine.new left ≡ true) }
     ensures right_fresh { OnOk result (is_fresh engine.new right ≡ true) }
 {

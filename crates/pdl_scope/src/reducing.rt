@@ -10,6 +10,7 @@ ghost use Rattle.pdl_world.specs.Sound.{IsLive};
 ghost use Rattle.pdl_machine.specs.Arrays.{array_in};
 ghost use Rattle.pdl_machine.specs.Refused.{reduce_fault, or_named};
 ghost use Rattle.pdl_scope.specs.Answers.{Answers};
+ghost use Rattle.pdl_scope.specs.Scope.{OnlyReads};
 
 use crate::fault::StepFault;
 use crate::reading::{ready, ready_two};
@@ -31,7 +32,7 @@ impl Scope {
         ensures value { let wanted = reduced kind (array_in self.old.arrays id) in
             Answers (or_named reduce_fault wanted) result }
         ensures made { IfOk result (λ m. IsMade m.ty m.dims m.elems) }
-        ensures same { self.new ≡ self.old }
+        ensures same { OnlyReads self.old self.new }
     {
         ready(&mut self.engine, id, steps)?;
         named(reduce(self.alloc, kind, &self.engine.lend(id)))
@@ -48,7 +49,7 @@ impl Scope {
         ensures value { let wanted = whole_reduced kind (array_in self.old.arrays id) in
             Answers (or_named reduce_fault wanted) result }
         ensures made { IfOk result (λ m. IsMade m.ty m.dims m.elems) }
-        ensures same { self.new ≡ self.old }
+        ensures same { OnlyReads self.old self.new }
     {
         ready(&mut self.engine, id, steps)?;
         named(reduce_whole(self.alloc, kind, &self.engine.lend(id)))
@@ -68,7 +69,7 @@ impl Scope {
             let wanted = paired kind (array_in a left) (array_in a right) in
             Answers (or_named reduce_fault wanted) result }
         ensures made { IfOk result (λ m. IsMade m.ty m.dims m.elems) }
-        ensures same { self.new ≡ self.old }
+        ensures same { OnlyReads self.old self.new }
     {
         ready_two(&mut self.engine, left, right, steps)?;
         let engine = &self.engine;

@@ -7,18 +7,19 @@ ghost use Rattle.pdl_world.specs.Refused.{view_refusal};
 ghost use Rattle.pdl_world.specs.World.{dims_in, ty_in};
 ghost use Rattle.pdl_world.specs.Sound.{IsLive};
 ghost use Rattle.pdl_world.specs.Swept.{sweep};
+ghost use Rattle.pdl_engine.specs.State.{no_arrays};
 ghost use Rattle.pdl_machine.specs.Calls.{outputs_of};
-ghost use Rattle.pdl_machine.specs.Names.{found, number_of};
-ghost use Rattle.pdl_machine.specs.State.{no_names, held, with_world, IsWhole};
+ghost use Rattle.pdl_machine.specs.Names.{found, nothing_named, number_of};
+ghost use Rattle.pdl_machine.specs.State.{held, with_world, IsWhole};
 ghost use Rattle.pdl_machine.specs.Tidy.{tidy};
 ghost use Rattle.pdl_machine.specs.Outcome.{new_root, new_view};
 ghost use Rattle.pdl_machine.specs.Step.{bind_value, roots_bound, kernel_named};
-ghost use Rattle.pdl_scope.specs.Scope.{Grows, array_of, arrays_seen};
+ghost use Rattle.pdl_scope.specs.Scope.{machine, scope_in, Grows, OnlyReads, array_of, arrays_seen};
 ghost use Rattle.pdl_scope.specs.Answers.{AnswersAs, Evaluates, Runs};
 
 use crate::calling::kernel_outputs;
 use crate::fault::StepFault;
-use crate::holding::{hold_for_name, note, note_some, release_all};
+use crate::holding::{bind_all, hold_for_name, note, note_some, release_all};
 use crate::kernels::Kernels;
 use crate::names::Names;
 use pdl_buf::{Elements, Made, Steps};
@@ -33,7 +34,7 @@ use std::marker::Model;
 use std::sync::ledger::Ledger;
 
 /// Names, kernels, and an engine that keeps the arrays that names reach, and those of the
-/// statement that runs. It is seen as a state of the eager machine.
+/// statement that runs. It is seen as its names, its arrays, and what its engine can lend of them.
 #[derive(Drop)]
 pub struct Scope {
     pub(crate) alloc: Global,
@@ -46,25 +47,24 @@ pub struct Scope {
 }
 
 impl Model for Scope {
-    ghost use Rattle.pdl_machine.specs.State.{State};
     ghost use Rattle.std.specs.Coded.{codes};
     ghost use Rattle.pdl_kernel.specs.Coding.{coded_code};
-    ghost use Rattle.pdl_scope.specs.Scope.{names_in, state_in, IsHeld};
+    ghost use Rattle.pdl_scope.specs.Scope.{names_in, scope_in, state_in, IsHeld, Scope as Seen};
 
-    ghost Value = { State };
+    ghost Value = { Seen };
 
     ghost coded = { Prim.hlevel (codes, coded_code) };
 
-    ghost view = { λ s. state_in (names_in s.names s.kernels) s.engine };
+    ghost view = { λ s. scope_in (names_in s.names.entries s.kernels) s.engine };
 
     ghost invariant = { λ s.
-        IsHeld (state_in (names_in s.names s.kernels) s.engine) s.engine.holds s.leaving.items };
+        IsHeld (state_in (names_in s.names.entries s.kernels) s.engine) s.engine.holds s.leaving.items };
 }
 
 impl Scope {
     /// No names, no kernels and no arrays.
     pub fn new(alloc: Global) -> Scope
-        ensures { result ≡ no_names }
+        ensures { result ≡ scope_in nothing_named no_arrays }
     {
         Scope {
             alloc,
@@ -77,7 +77,7 @@ impl Scope {
 
     /// Each scope is whole. The call does nothing when it runs.
     pub fn whole(&self)
-        ensures { IsWhole self.now }
+        ensures { IsWhole (machine self.now) }
     {
         let _alloc = self.alloc;
     }
@@ -198,7 +198,7 @@ impl Scope {
     /// Binds a name to an array, with `TooManyNames` where it is new and 512 are bound.
     pub fn bind(&mut self, name: &Name, id: ArrayId) -> Result<(), StepFault>
         requires { IsLive self.old.arrays.world id }
-        ensures { let wanted = bind_value self.old name.now (self.old.arrays, id) in
+        ensures { let wanted = bind_value (machine self.old) name.now (self.old.arrays, id) in
             Runs wanted self.old self.new [] [] result }
     {
         hold_laws();
@@ -218,17 +218,23 @@ impl Scope {
         steps: &mut Steps<L>,
     ) -> Result<(), StepFault>
         requires { All (λ m. IsMade m.ty m.dims m.elems) outputs.now }
-        ensures { let wanted = roots_bound self.old bound.now outputs.now in
+        ensures { let wanted = roots_bound (machine self.old) bound.now outputs.now in
             Runs wanted self.old self.new [] [] result }
     {
         let count = bound.len().min(outputs.len());
         if !self.names.has_room(&bound[..count]) {
             return Err(StepFault::Script(Fault::TooManyNames));
         }
+        // all that wants memory comes before the first name is bound
+        let mut made = Vec::with_capacity(self.alloc, count)?;
         for i in 0..count {
+            let name = bound[i].clone()?;
             let id = self.make_like(&outputs[i], steps)?;
-            self.bind(&bound[i], id)?;
+            made.push((name, id))?;
         }
+        self.names.reserve(count)?;
+        self.leaving.reserve(count)?;
+        bind_all(&mut self.engine, &mut self.names, &mut self.leaving, made);
         Ok(())
     }
 
@@ -236,8 +242,8 @@ impl Scope {
     /// left when the state is tidied is the same.
     pub fn let_go<L: Ledger>(&mut self, steps: &mut Steps<L>)
         ensures gone { let w = self.old.arrays.world in
-            self.new ≡ with_world self.old (sweep w (held self.old)) }
-        ensures unseen { tidy self.new ≡ tidy self.old }
+            machine self.new ≡ with_world (machine self.old) (sweep w (held (machine self.old))) }
+        ensures unseen { tidy (machine self.new) ≡ tidy (machine self.old) }
     {
         numbering_laws();
         release_all(&mut self.engine, &self.leaving, steps);
@@ -253,7 +259,7 @@ impl Scope {
 
     /// Defines a kernel of a name, with `TooManyKernels` where it is new and 256 are there.
     pub fn define(&mut self, name: Name, kernel: Kernel) -> Result<(), StepFault>
-        ensures { let wanted = kernel_named self.old name kernel in
+        ensures { let wanted = kernel_named (machine self.old) name kernel in
             Runs wanted self.old self.new [] [] result }
     {
         self.kernels.define(name, kernel)
@@ -279,7 +285,7 @@ impl Scope {
             let outputs = outputs_of self.old.names name.now wanted seen in
             AnswersAs (λ ms. ms.items) outputs result }
         ensures made { IfOk result (λ ms. All (λ m. IsMade m.ty m.dims m.elems) ms.items) }
-        ensures same { self.new ≡ self.old }
+        ensures same { OnlyReads self.old self.new }
     {
         match self.kernels.get(name) {
             Some(kernel) => kernel_outputs(

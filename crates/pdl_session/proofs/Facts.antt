@@ -9,32 +9,23 @@ use Rattle.pdl_machine.specs.Step.{Stepped}
 use Rattle.pdl_machine.specs.Then.{and_then}
 use Rattle.pdl_scope.specs.declared.fault.StepFault.{StepFault}
 use Rattle.pdl_scope.specs.declared.fault.StepFault.TheVariants.{Script, NoMemory}
-use Rattle.pdl_scope.specs.Answers.{IsFault, AnswersAs, Evaluates, IfScript, IsKept, Runs}
-use Rattle.pdl_scope.specs.Scope.{Grows}
-
--- nothing came
-pub grows_refl : (s : State) → Grows s s
-grows_refl s =
-    record { names = refl; arrays = record { more = []; is = refl }; still = λ v live. live }
+use Rattle.pdl_scope.specs.Answers.{IsFault, AnswersAs, Evaluates, Runs}
+use Rattle.pdl_scope.specs.Scope.{Scope, machine, OnlyReads, Grows}
+use Rattle.pdl_scope.specs.Growth as growth
 
 -- arrays came, and then others
-pub grows_trans : (a b c : State) → Grows a b → Grows b c → Grows a c
-grows_trans a b c g h =
-    let all : (h.arrays.more ++ g.arrays.more) ++ a.arrays.world ≡ h.arrays.more ++ (g.arrays.more ++ a.arrays.world) = rw append_assoc refl in
-    let is = h.arrays.is ∙ ap (λ w. h.arrays.more ++ w) g.arrays.is ∙ sym all in
-    record { names = h.names ∙ g.names; arrays = record { more = h.arrays.more ++ g.arrays.more; is = is }; still = λ v live. h.still v (g.still v live) }
+pub grows_trans : (a b c : Scope) → Grows a b → Grows b c → Grows a c
+grows_trans a b c g h = growth.grows_trans a b c g h
+
+-- arrays were read, and then others
+pub reads_trans : (a b c : Scope) → OnlyReads a b → OnlyReads b c → OnlyReads a c
+reads_trans a b c g h = growth.reads_trans a b c g h
 
 -- the arrays are all that differs
-pub state_is : (old new : State) → Grows old new → new ≡ with_arrays old new.arrays
+pub state_is : (old new : Scope) → Grows old new → machine new ≡ with_arrays (machine old) new.arrays
 state_is old new g =
     let named : Names → State = λ names. record { names = names; arrays = new.arrays } in
     ap named g.names
-
--- what a fault leaves where nothing but new arrays came and nothing was printed
-pub kept_at : (e : StepFault) (old new : State) (out : List ℕ) → Grows old new
-    → IfScript e (IsKept old new out out)
-kept_at (Script e) old new out g = record { grown = g; printed = refl }
-kept_at NoMemory old new out g = tt
 
 -- the fault of a first step is that of both
 pub first_fault : {A B : Type 0} (x : Result A Fault) (f : A → Result B Fault) (e : StepFault)
@@ -49,11 +40,11 @@ pub handed_on : {T U : Type 0} (seen : T → U) (wanted : Result U Fault) (f : S
 handed_on seen wanted f (Ok x) e h = absurd e
 handed_on seen wanted f (Err g) e h = subst (λ x. IsFault wanted x) (sym e) h
 
-pub hands_on : (wanted : Valued) (new : State) (f : StepFault) (r : Result ℕ StepFault) → IsErrAnd r (λ e. e ≡ f) → IsFault wanted f → Evaluates wanted new r
+pub hands_on : (wanted : Valued) (new : Scope) (f : StepFault) (r : Result ℕ StepFault) → IsErrAnd r (λ e. e ≡ f) → IsFault wanted f → Evaluates wanted new r
 hands_on wanted new f (Ok x) e h = absurd e
 hands_on wanted new f (Err g) e h = subst (λ x. IsFault wanted x) (sym e) h
 
 -- and as the statement's, which keeps all as it was but for new arrays
-pub ends_at : {T : Type 0} (wanted : Stepped) (old new : State) (out : List ℕ) (f : StepFault) (r : Result T StepFault) → IsErrAnd r (λ e. e ≡ f) → IsFault wanted f → Grows old new → Runs wanted old new out out r
+pub ends_at : {T : Type 0} (wanted : Stepped) (old new : Scope) (out : List ℕ) (f : StepFault) (r : Result T StepFault) → IsErrAnd r (λ e. e ≡ f) → IsFault wanted f → Grows old new → Runs wanted old new out out r
 ends_at wanted old new out f (Ok x) e h g = absurd e
-ends_at wanted old new out f (Err x) e h g = (subst (λ y. IsFault wanted y) (sym e) h, kept_at x old new out g)
+ends_at wanted old new out f (Err x) e h g = (subst (λ y. IsFault wanted y) (sym e) h, record { grown = g; printed = refl })

@@ -1,6 +1,7 @@
 -- What a statement does, from what its parts do.
 use Rattle.std.proofs.Common.{◌≡◌, ◌≢◌, ℕ, length, get_or, arith, List, [], ◌∷◌, Result, Ok, Err, refl, sym, ap, subst, ◌∙◌}
-use Rattle.std.specs.Prelude.{IfErr}
+use Rattle.std.specs.Prelude.{◌++◌, take, OnErr}
+use Rattle.std.proofs.lemmas.List.{append-nil, take_at}
 use Rattle.pdl_buf.specs.declared.made.Made.{Made}
 use Rattle.pdl_lexemes.specs.declared.AssignOp.{AssignOp}
 use Rattle.pdl_syntax.specs.Tree.{Tree, Args, call}
@@ -17,25 +18,26 @@ use Rattle.pdl_machine.specs.Tidy.{tidy}
 use Rattle.pdl_machine.specs.Laws.{NewArraysUnseen}
 use Rattle.pdl_machine.specs.Step.{Stepped, bind_value, bound, roots_bound, outputs_bound, list_bound, assigned, assigning, effect}
 use Rattle.pdl_scope.specs.declared.fault.StepFault.{StepFault}
-use Rattle.pdl_scope.specs.declared.fault.StepFault.TheVariants.{Script, NoMemory}
 use Rattle.pdl_session.specs.declared.given.Given.{Given}
 use Rattle.pdl_session.specs.Arguments.{arguments, all_seen_of}
-use Rattle.pdl_scope.specs.Scope.{Grows}
-use Rattle.pdl_scope.specs.Answers.{IsFault, IfScript, Prints, Runs}
-use Rattle.pdl_session.proofs.Facts.{first_fault, grows_trans, state_is}
+use Rattle.pdl_scope.specs.Scope.{Scope, machine, OnlyReads, Grows}
+use Rattle.pdl_scope.specs.Answers.{IsFault, Prints, Runs}
+use Rattle.pdl_print.specs.Pieces.{Begins}
+use Rattle.pdl_session.specs.Performed.{Performs}
+use Rattle.pdl_scope.specs.Growth.{grows_trans, unread, reads_grow}
+use Rattle.pdl_session.proofs.Facts.{first_fault, state_is}
 
 -- a statement that goes on from where new arrays came
-pub runs_from : {T : Type 0} (r : Result T StepFault) (x y : Stepped) (old mid new : State) (o n : List ℕ) → y ≡ x → Grows old mid → Runs x mid new o n r → Runs y old new o n r
-runs_from (Ok u) x y old mid new o n e g h = let P : Stepped → Type 0 = λ z. Prints z new o n in subst P (sym e) h
-runs_from (Err (Script f)) x y old mid new o n e g h = (e ∙ h.0, record { grown = grows_trans old mid new g h.1.grown; printed = h.1.printed })
-runs_from (Err NoMemory) x y old mid new o n e g h = (tt, tt)
+pub runs_from : {T : Type 0} (r : Result T StepFault) (x y : Stepped) (old mid new : Scope) (o n : List ℕ) → y ≡ x → Grows old mid → Runs x mid new o n r → Runs y old new o n r
+runs_from (Ok u) x y old mid new o n e g h = let P : Stepped → Type 0 = λ z. Prints z (machine new) o n in subst P (sym e) h
+runs_from (Err f) x y old mid new o n e g h = (let F : Stepped → Type 0 = λ z. IsFault z f in subst F (sym e) h.0, record { grown = grows_trans old mid new g h.1.grown; printed = h.1.printed })
 
 -- a binding, after its value came
-pub runs_bound : {T : Type 0} (r : Result T StepFault) (old mid new : State) (x : List ℕ) (valued : Valued) (id : ℕ) → valued ≡ Ok (mid.arrays, id) → Grows old mid
-    → Runs (bind_value mid x (mid.arrays, id)) mid new [] [] r → Runs (bound old x valued) old new [] [] r
+pub runs_bound : {T : Type 0} (r : Result T StepFault) (old mid new : Scope) (x : List ℕ) (valued : Valued) (id : ℕ) → valued ≡ Ok (mid.arrays, id) → Grows old mid
+    → Runs (bind_value (machine mid) x (mid.arrays, id)) mid new [] [] r → Runs (bound (machine old) x valued) old new [] [] r
 runs_bound r old mid new x valued id is g h =
     let next : Names → Stepped = λ names. and_then (bind names x id) (λ after. Ok (record { names = after; arrays = mid.arrays }, [])) in
-    runs_from r (bind_value mid x (mid.arrays, id)) (bound old x valued) old mid new [] [] (ap (λ v. and_then v (bind_value old x)) is ∙ ap next (sym g.names)) g h
+    runs_from r (bind_value (machine mid) x (mid.arrays, id)) (bound (machine old) x valued) old mid new [] [] (ap (λ v. and_then v (bind_value (machine old) x)) is ∙ ap next (sym g.names)) g h
 
 -- the one output of a call, bound to one name
 one_output : (s : State) (x f : List ℕ) (t : Arrays × List Argument) → list_bound s (x ∷ []) f t ≡ bound s x (call_value s.names f t.0 t.1)
@@ -45,13 +47,13 @@ one_output s x f t = by_callee (callee_of s.names f)
     by_callee (Ok c) = refl
     by_callee (Err e) = refl
 
-pub runs_output : {T : Type 0} (r : Result T StepFault) (old mid new : State) (xs : List (List ℕ)) (x f : List ℕ) (given : List Argument) (id : ℕ) → length xs ≡ 1 → x ≡ get_or xs 0 x
-    → call_value old.names f old.arrays given ≡ Ok (mid.arrays, id) → Grows old mid → Runs (bind_value mid x (mid.arrays, id)) mid new [] [] r → Runs (list_bound old xs f (old.arrays, given)) old new [] [] r
+pub runs_output : {T : Type 0} (r : Result T StepFault) (old mid new : Scope) (xs : List (List ℕ)) (x f : List ℕ) (given : List Argument) (id : ℕ) → length xs ≡ 1 → x ≡ get_or xs 0 x
+    → call_value old.names f old.arrays given ≡ Ok (mid.arrays, id) → Grows old mid → Runs (bind_value (machine mid) x (mid.arrays, id)) mid new [] [] r → Runs (list_bound (machine old) xs f (old.arrays, given)) old new [] [] r
 runs_output r old mid new [] x f given id one first output g h = absurd (omega arith)
 runs_output r old mid new (y ∷ z ∷ xs) x f given id one first output g h = absurd (omega arith)
 runs_output r old mid new (y ∷ []) x f given id one first output g h =
-    let e : list_bound old (y ∷ []) f (old.arrays, given) ≡ bound old x (call_value old.names f old.arrays given) =
-    ap (λ n. list_bound old (n ∷ []) f (old.arrays, given)) (sym first) ∙ one_output old x f (old.arrays, given) in
+    let e : list_bound (machine old) (y ∷ []) f (old.arrays, given) ≡ bound (machine old) x (call_value old.names f old.arrays given) =
+    ap (λ n. list_bound (machine old) (n ∷ []) f (old.arrays, given)) (sym first) ∙ one_output (machine old) x f (old.arrays, given) in
     subst (λ (s : Stepped). Runs s old new [] [] r) (sym e) (runs_bound r old mid new x (call_value old.names f old.arrays given) id output g h)
 
 pub output_refused : (old : State) (xs : List (List ℕ)) (f : List ℕ) (given : List Argument) (e : StepFault) → length xs ≡ 1 → IsFault (call_value old.names f old.arrays given) e
@@ -77,12 +79,14 @@ several_is s xs f given many = by_callee (callee_of s.names f) xs many
     by_callee (Ok c) [] many = refl
     by_callee (Ok c) (x ∷ y ∷ xs) many = refl
 
-pub runs_several : {T : Type 0} (r : Result T StepFault) (old mid new : State) (xs : List (List ℕ)) (f : List ℕ) (given : List Given) (wanted : ℕ) (ms : List Made) → length xs ≢ 1 → wanted ≡ length xs
-    → and_then (callee_of old.names f) (several wanted (all_seen_of old.arrays given)) ≡ Ok ms → mid ≡ old → Runs (roots_bound mid xs ms) mid new [] [] r
-    → Runs (list_bound old xs f (old.arrays, arguments given)) old new [] [] r
+pub runs_several : {T : Type 0} (r : Result T StepFault) (old mid new : Scope) (xs : List (List ℕ)) (f : List ℕ) (given : List Given) (wanted : ℕ) (ms : List Made) → length xs ≢ 1 → wanted ≡ length xs
+    → and_then (callee_of old.names f) (several wanted (all_seen_of old.arrays given)) ≡ Ok ms → OnlyReads old mid → Runs (roots_bound (machine mid) xs ms) mid new [] [] r
+    → Runs (list_bound (machine old) xs f (old.arrays, arguments given)) old new [] [] r
 runs_several r old mid new xs f given wanted ms many count output same h =
-    let all : outputs_for old xs f (all_seen_of old.arrays given) ≡ Ok ms = ap (λ n. and_then (callee_of old.names f) (several n (all_seen_of old.arrays given))) (sym count) ∙ output in
-    subst (λ (y : Stepped). Runs y old new [] [] r) (sym (several_is old xs f given many ∙ ap (λ o. and_then o (roots_bound old xs)) all)) (subst (λ (s : State). Runs (roots_bound s xs ms) s new [] [] r) same h)
+    let all : outputs_for (machine old) xs f (all_seen_of old.arrays given) ≡ Ok ms = ap (λ n. and_then (callee_of old.names f) (several n (all_seen_of old.arrays given))) (sym count) ∙ output in
+    let is : list_bound (machine old) xs f (old.arrays, arguments given) ≡ roots_bound (machine mid) xs ms =
+    several_is (machine old) xs f given many ∙ ap (λ o. and_then o (roots_bound (machine old) xs)) all ∙ ap (λ (s : State). roots_bound s xs ms) (sym (unread old mid same)) in
+    runs_from r (roots_bound (machine mid) xs ms) (list_bound (machine old) xs f (old.arrays, arguments given)) old mid new [] [] is (reads_grow old mid same) h
 
 pub several_refused : (old : State) (xs : List (List ℕ)) (f : List ℕ) (given : List Given) (wanted : ℕ) (e : StepFault) → length xs ≢ 1 → wanted ≡ length xs
     → IsFault (and_then (callee_of old.names f) (several wanted (all_seen_of old.arrays given))) e → IsFault (list_bound old xs f (old.arrays, arguments given)) e
@@ -99,42 +103,52 @@ list_same s a xs f t = by_call (callee_of s.names f) xs
     by_call (Ok c) (x ∷ y ∷ xs) = refl
 
 -- a list binding, after its arguments came
-pub runs_list : {T : Type 0} (r : Result T StepFault) (old mid new : State) (xs : List (List ℕ)) (tree : Tree) (f : List ℕ) (args : Args) (given items : List Argument)
+pub runs_list : {T : Type 0} (r : Result T StepFault) (old mid new : Scope) (xs : List (List ℕ)) (tree : Tree) (f : List ℕ) (args : Args) (given items : List Argument)
     → tree ≡ call f args → taken old.names old.arrays args ≡ Ok (mid.arrays, given) → items ≡ given → Grows old mid
-    → Runs (list_bound mid xs f (mid.arrays, items)) mid new [] [] r → Runs (effect old (bind_list xs tree)) old new [] [] r
+    → Runs (list_bound (machine mid) xs f (mid.arrays, items)) mid new [] [] r → Runs (effect (machine old) (bind_list xs tree)) old new [] [] r
 runs_list r old mid new xs tree f args given items is taken_so same g h =
-    let a : effect old (bind_list xs tree) ≡ list_bound old xs f (mid.arrays, items) =
-    ap (λ e. effect old (bind_list xs e)) is ∙ ap (λ t. and_then t (list_bound old xs f)) taken_so ∙ ap (λ gs. list_bound old xs f (mid.arrays, gs)) (sym same) in
-    let b : list_bound mid xs f (mid.arrays, items) ≡ list_bound old xs f (mid.arrays, items) =
-    ap (λ s. list_bound s xs f (mid.arrays, items)) (state_is old mid g) ∙ list_same old mid.arrays xs f (mid.arrays, items) in
-    runs_from r (list_bound mid xs f (mid.arrays, items)) (effect old (bind_list xs tree)) old mid new [] [] (a ∙ sym b) g h
+    let s = machine old in
+    let a : effect s (bind_list xs tree) ≡ list_bound s xs f (mid.arrays, items) =
+    ap (λ e. effect s (bind_list xs e)) is ∙ ap (λ t. and_then t (list_bound s xs f)) taken_so ∙ ap (λ gs. list_bound s xs f (mid.arrays, gs)) (sym same) in
+    let b : list_bound (machine mid) xs f (mid.arrays, items) ≡ list_bound s xs f (mid.arrays, items) =
+    ap (λ t. list_bound t xs f (mid.arrays, items)) (state_is old mid g) ∙ list_same s mid.arrays xs f (mid.arrays, items) in
+    runs_from r (list_bound (machine mid) xs f (mid.arrays, items)) (effect s (bind_list xs tree)) old mid new [] [] (a ∙ sym b) g h
 
 pub list_refused : (old : State) (xs : List (List ℕ)) (tree : Tree) (f : List ℕ) (args : Args) (e : StepFault) → tree ≡ call f args → IsFault (taken old.names old.arrays args) e
     → IsFault (effect old (bind_list xs tree)) e
 list_refused old xs tree f args e is h = subst (λ x. IsFault (effect old (bind_list xs x)) e) (sym is) (first_fault (taken old.names old.arrays args) (list_bound old xs f) e h)
 
 -- an assignment, after its target and its right side came
-pub runs_assigned : {T : Type 0} (r : Result T StepFault) (old mid late new : State) (to e : Tree) (sign : AssignOp) (v u : ℕ) → value_of old.names old.arrays to ≡ Ok (mid.arrays, v) → value_of mid.names mid.arrays e ≡ Ok (late.arrays, u)
-    → Grows old mid → Grows mid late → Runs (and_then (assigned sign late.arrays v u) (λ a. Ok (with_arrays late a, []))) late new [] [] r → Runs (assigning old to sign e) old new [] [] r
+pub runs_assigned : {T : Type 0} (r : Result T StepFault) (old mid late new : Scope) (to e : Tree) (sign : AssignOp) (v u : ℕ) → value_of old.names old.arrays to ≡ Ok (mid.arrays, v) → value_of mid.names mid.arrays e ≡ Ok (late.arrays, u)
+    → Grows old mid → Grows mid late → Runs (and_then (assigned sign late.arrays v u) (λ a. Ok (with_arrays (machine late) a, []))) late new [] [] r → Runs (assigning (machine old) to sign e) old new [] [] r
 runs_assigned r old mid late new to e sign v u target_is value_is g h ran =
     let value : Names → Valued = λ names. value_of names mid.arrays e in
-    let from_value : Valued → Stepped = λ x. and_then x (λ u. and_then (assigned sign u.0 v u.1) (λ a. Ok (with_arrays old a, []))) in
-    let from_target : Valued → Stepped = λ x. and_then x (λ w. and_then (value_of old.names w.0 e) (λ u. and_then (assigned sign u.0 w.1 u.1) (λ a. Ok (with_arrays old a, [])))) in
+    let from_value : Valued → Stepped = λ x. and_then x (λ u. and_then (assigned sign u.0 v u.1) (λ a. Ok (with_arrays (machine old) a, []))) in
+    let from_target : Valued → Stepped = λ x. and_then x (λ w. and_then (value_of old.names w.0 e) (λ u. and_then (assigned sign u.0 w.1 u.1) (λ a. Ok (with_arrays (machine old) a, [])))) in
     let written : Names → Stepped = λ names. and_then (assigned sign late.arrays v u) (λ a. Ok (record { names = names; arrays = a }, [])) in
-    let is : assigning old to sign e ≡ and_then (assigned sign late.arrays v u) (λ a. Ok (with_arrays late a, [])) =
+    let is : assigning (machine old) to sign e ≡ and_then (assigned sign late.arrays v u) (λ a. Ok (with_arrays (machine late) a, [])) =
     ap from_target target_is ∙ ap from_value (ap value (sym g.names) ∙ value_is) ∙ ap written (sym (h.names ∙ g.names)) in
-    runs_from r (and_then (assigned sign late.arrays v u) (λ a. Ok (with_arrays late a, []))) (assigning old to sign e) old late new [] [] is (grows_trans old mid late g h) ran
+    runs_from r (and_then (assigned sign late.arrays v u) (λ a. Ok (with_arrays (machine late) a, []))) (assigning (machine old) to sign e) old late new [] [] is (grows_trans old mid late g h) ran
 
-pub assigned_refused : (old mid : State) (to e : Tree) (sign : AssignOp) (v : ℕ) (f : StepFault) → value_of old.names old.arrays to ≡ Ok (mid.arrays, v) → IsFault (value_of mid.names mid.arrays e) f → Grows old mid
-    → IsFault (assigning old to sign e) f
+pub assigned_refused : (old mid : Scope) (to e : Tree) (sign : AssignOp) (v : ℕ) (f : StepFault) → value_of old.names old.arrays to ≡ Ok (mid.arrays, v) → IsFault (value_of mid.names mid.arrays e) f → Grows old mid
+    → IsFault (assigning (machine old) to sign e) f
 assigned_refused old mid to e sign v f target_is refused g =
-    let from_target : Valued → Stepped = λ x. and_then x (λ w. and_then (value_of old.names w.0 e) (λ u. and_then (assigned sign u.0 w.1 u.1) (λ a. Ok (with_arrays old a, [])))) in
-    subst (λ x. IsFault x f) (sym (ap from_target target_is)) (first_fault (value_of old.names mid.arrays e) (λ u. and_then (assigned sign u.0 v u.1) (λ a. Ok (with_arrays old a, []))) f (subst (λ (names : Names). IsFault (value_of names mid.arrays e) f) g.names refused))
+    let from_target : Valued → Stepped = λ x. and_then x (λ w. and_then (value_of old.names w.0 e) (λ u. and_then (assigned sign u.0 w.1 u.1) (λ a. Ok (with_arrays (machine old) a, [])))) in
+    subst (λ x. IsFault x f) (sym (ap from_target target_is)) (first_fault (value_of old.names mid.arrays e) (λ u. and_then (assigned sign u.0 v u.1) (λ a. Ok (with_arrays (machine old) a, []))) f (subst (λ (names : Names). IsFault (value_of names mid.arrays e) f) g.names refused))
 
--- what a session is seen as stays after a script's fault
-pub kept_seen : {T : Type 0} (r : Result T StepFault) (x : Stepped) (old new left seen : State) (o n : List ℕ) → NewArraysUnseen → IsWhole old → IsWhole new → tidy left ≡ tidy new → tidy old ≡ seen → Runs x old new o n r
-    → IfErr r (λ e. IfScript e (tidy left ≡ seen))
+-- what a session is seen as stays where a statement is refused
+pub kept_seen : {T : Type 0} (r : Result T StepFault) (x : Stepped) (old new : Scope) (left seen : State) (o n : List ℕ) → NewArraysUnseen → IsWhole (machine old) → IsWhole (machine new) → tidy left ≡ tidy (machine new) → tidy (machine old) ≡ seen → Runs x old new o n r
+    → OnErr r (tidy left ≡ seen)
 kept_seen (Ok u) x old new left seen o n unseen whole after gone is h = tt
-kept_seen (Err NoMemory) x old new left seen o n unseen whole after gone is h = tt
-kept_seen (Err (Script e)) x old new left seen o n unseen whole after gone is h =
-    gone ∙ ap tidy (state_is old new h.1.grown) ∙ unseen old new.arrays h.1.grown.arrays after.sound whole.live ∙ is
+kept_seen (Err e) x old new left seen o n unseen whole after gone is h =
+    gone ∙ ap tidy (state_is old new h.1.grown) ∙ unseen (machine old) new.arrays h.1.grown.arrays after.sound whole.live ∙ is
+
+-- what a refused statement printed is cut back
+pub cut_front : (front text : List ℕ) → Begins front text → take (length front) text ≡ front
+cut_front front text b = ap (take (length front)) b.is ∙ take_at front b.rest _ refl
+
+-- a statement that prints nothing leaves the text
+pub silent : {T : Type 0} (r : Result T StepFault) (wanted : Stepped) (old new : Scope) (out : List ℕ) → Runs wanted old new [] [] r → Performs wanted old new out out r
+silent (Ok x) (Ok (s, t)) old new out h = (h.0, sym (append-nil out) ∙ ap (λ z. out ++ z) h.1)
+silent (Ok x) (Err e) old new out h = absurd h
+silent (Err f) wanted old new out h = (h.0, record { grown = h.1.grown; front = record { rest = []; is = sym (append-nil out) } })

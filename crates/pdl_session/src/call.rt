@@ -11,7 +11,7 @@ ghost use Rattle.pdl_machine.specs.Value.{number_made};
 ghost use Rattle.pdl_world.specs.Formula.{is_well_formed};
 ghost use Rattle.pdl_scope.specs.Answers.{AnswersAs, Evaluates};
 ghost use Rattle.pdl_session.specs.Arguments.{arguments, AreGivenLive, all_seen_of, outcome_of, IsOutcomeMade};
-ghost use Rattle.pdl_scope.specs.Scope.{Grows};
+ghost use Rattle.pdl_scope.specs.Scope.{Grows, OnlyReads};
 ghost use Rattle.std.specs.Prelude.{IsTrue};
 
 use crate::fill::filled;
@@ -85,7 +85,7 @@ pub fn several<L: Ledger>(
         let outputs = and_then (callee_of scope.old.names name.now) (several wanted seen) in
         AnswersAs (λ ms. ms.items) outputs result }
     ensures made { IfOk result (λ ms. All (λ m. IsMade m.ty m.dims m.elems) ms.items) }
-    ensures same { scope.new ≡ scope.old }
+    ensures same { OnlyReads scope.old scope.new }
 {
     match builtin_named(name.bytes()) {
         Some(_) => Err(StepFault::Script(Fault::WrongArguments)),
@@ -106,7 +106,7 @@ fn kernel_outputs<L: Ledger>(
         let outputs = outputs_of scope.old.names name.now wanted seen in
         AnswersAs (λ ms. ms.items) outputs result }
     ensures made { IfOk result (λ ms. All (λ m. IsMade m.ty m.dims m.elems) ms.items) }
-    ensures same { scope.new ≡ scope.old }
+    ensures same { OnlyReads scope.old scope.new }
 {
     match arrays_given(scope.alloc(), given)? {
         Some(ids) => scope.kernel_outputs(name, wanted, &ids, steps),
@@ -188,7 +188,7 @@ fn outcome<L: Ledger>(
     ensures value { let wanted = outcome builtin (all_seen_of scope.old.arrays given.now) in
         AnswersAs outcome_of wanted result }
     ensures made { IfOk result IsOutcomeMade }
-    ensures same { scope.new ≡ scope.old }
+    ensures same { OnlyReads scope.old scope.new }
 {
     match builtin {
         Builtin::Filled(fill) => filled(scope, fill, given, steps),

@@ -4,6 +4,7 @@ ghost use Rattle.pdl_syntax.specs.StatementTree.{pp_def};
 ghost use Rattle.pdl_machine.specs.Kernels.{can_name, defined};
 ghost use Rattle.pdl_machine.specs.Step.{effect};
 ghost use Rattle.pdl_scope.specs.Answers.{AnswersAs, Runs};
+ghost use Rattle.pdl_scope.specs.Scope.{machine};
 
 use pdl_elem::{Name, Text};
 use pdl_kernel::{Kernel, read_kernel};
@@ -22,7 +23,7 @@ pub fn define_kernel(
     signature: &Text,
     code: &Text,
 ) -> Result<(), StepFault>
-    ensures { let wanted = effect scope.old (pp_def name.now signature.now code.now) in
+    ensures { let wanted = effect (machine scope.old) (pp_def name.now signature.now code.now) in
         Runs wanted scope.old scope.new [] [] result }
 {
     let kernel = kernel_defined(scope.alloc(), name.bytes(), signature.bytes(), code.bytes())?;

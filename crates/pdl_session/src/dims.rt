@@ -6,6 +6,7 @@ ghost use Rattle.pdl_machine.specs.declared.fault.Fault.TheVariants.{BadDimensio
 ghost use Rattle.pdl_scope.specs.Answers.{Answers, AnswersAs};
 ghost use Rattle.pdl_session.specs.Arguments.{seen_of, all_seen_of, IsGivenLive, AreGivenLive};
 ghost use Rattle.pdl_session.specs.Sizes.{clamped_size};
+ghost use Rattle.pdl_scope.specs.Scope.{OnlyReads};
 
 use crate::given::Given;
 use pdl_buf::Steps;
@@ -23,7 +24,7 @@ pub fn number_in<L: Ledger>(
 ) -> Result<Option<i64>, AllocError>
     requires { IsGivenLive scope.old.arrays.world given.now }
     ensures number { IfOk result (λ n. n ≡ number_in (seen_of scope.old.arrays given.now)) }
-    ensures same { scope.new ≡ scope.old }
+    ensures same { OnlyReads scope.old scope.new }
 {
     match given {
         Given::Array(id) => scope.only_number(*id, steps),
@@ -32,6 +33,7 @@ pub fn number_in<L: Ledger>(
 }
 
 /// The numbers that arguments are.
+#[tactic(auto, using(crate::proofs::Facts::reads_trans))]
 pub fn numbers_in<L: Ledger>(
     scope: &mut Scope,
     given: &[Given],
@@ -40,7 +42,7 @@ pub fn numbers_in<L: Ledger>(
     requires { AreGivenLive scope.old.arrays.world given.now }
     ensures value { let wanted = numbers_in (all_seen_of scope.old.arrays given.now) in
         AnswersAs (λ ns. ns.items) wanted result }
-    ensures same { scope.new ≡ scope.old }
+    ensures same { OnlyReads scope.old scope.new }
 {
     let mut found = Vec::new(scope.alloc());
     for one in given {

@@ -5,6 +5,7 @@ ghost use Rattle.pdl_machine.specs.Fills.{fill_outcome, type_given, after_type};
 ghost use Rattle.pdl_world.specs.World.{World};
 ghost use Rattle.pdl_scope.specs.Answers.{AnswersAs};
 ghost use Rattle.pdl_session.specs.Arguments.{all_seen_of, AreGivenLive, outcome_of, IsOutcomeMade};
+ghost use Rattle.pdl_scope.specs.Scope.{OnlyReads};
 
 use crate::dims::{dims_for, numbers_in};
 use crate::given::Given;
@@ -26,7 +27,7 @@ pub fn filled<L: Ledger>(
     ensures value { let wanted = fill_outcome kind (all_seen_of scope.old.arrays given.now) in
         AnswersAs outcome_of wanted result }
     ensures made { IfOk result IsOutcomeMade }
-    ensures same { scope.new ≡ scope.old }
+    ensures same { OnlyReads scope.old scope.new }
 {
     let (ty, sizes) = typed(given);
     let sizes = match numbers_in(scope, sizes, steps) {

@@ -8,6 +8,7 @@ ghost use Rattle.pdl_machine.specs.Outcome.{made};
 ghost use Rattle.pdl_machine.specs.Then.{and_then};
 ghost use Rattle.pdl_scope.specs.Answers.{AnswersAs};
 ghost use Rattle.pdl_session.specs.Arguments.{all_seen_of, AreGivenLive, outcome_of, IsOutcomeMade};
+ghost use Rattle.pdl_scope.specs.Scope.{OnlyReads};
 
 use crate::dims::number_in;
 use crate::given::Given;
@@ -33,7 +34,7 @@ pub fn inquiry<L: Ledger>(
     ensures value { let seen = all_seen_of scope.old.arrays given.now in
         AnswersAs outcome_of (inquiry_outcome inquiry seen) result }
     ensures made { IfOk result IsOutcomeMade }
-    ensures same { scope.new ≡ scope.old }
+    ensures same { OnlyReads scope.old scope.new }
 {
     match one_array(given) {
         Some(id) => match told(scope, inquiry, id, steps) {
@@ -54,7 +55,7 @@ fn told<L: Ledger>(
     requires { IsLive scope.old.arrays.world id }
     ensures value { IfOk result (λ m. m ≡ told inquiry (array_in scope.old.arrays id)) }
     ensures made { IfOk result (λ m. IsMade m.ty m.dims m.elems) }
-    ensures same { scope.new ≡ scope.old }
+    ensures same { OnlyReads scope.old scope.new }
 {
     shape_laws();
     let count = elements_of(scope.dims(id));
@@ -81,7 +82,7 @@ pub fn dim<L: Ledger>(
     ensures value { let seen = all_seen_of scope.old.arrays given.now in
         AnswersAs outcome_of (dim_outcome seen) result }
     ensures made { IfOk result IsOutcomeMade }
-    ensures same { scope.new ≡ scope.old }
+    ensures same { OnlyReads scope.old scope.new }
 {
     match array_and_one(given) {
         Some((id, place)) => match number_in(scope, &place, steps)? {

@@ -10,6 +10,7 @@ ghost use Rattle.pdl_machine.specs.Reductions.{of_one, of_two};
 ghost use Rattle.pdl_machine.specs.Then.{and_then};
 ghost use Rattle.pdl_scope.specs.Answers.{Answers, AnswersAs};
 ghost use Rattle.pdl_session.specs.Arguments.{all_seen_of, AreGivenLive, outcome_of, IsOutcomeMade};
+ghost use Rattle.pdl_scope.specs.Scope.{OnlyReads};
 
 use crate::given::Given;
 use crate::outcome::Outcome;
@@ -31,7 +32,7 @@ pub fn reduced<L: Ledger>(
     ensures value { let seen = all_seen_of scope.old.arrays given.now in
         AnswersAs outcome_of (of_one (reduced kind) seen) result }
     ensures made { IfOk result IsOutcomeMade }
-    ensures same { scope.new ≡ scope.old }
+    ensures same { OnlyReads scope.old scope.new }
 {
     match one_array(given) {
         Some(id) => new_array(scope.reduced(kind, id, steps)),
@@ -50,7 +51,7 @@ pub fn reduced_whole<L: Ledger>(
     ensures value { let seen = all_seen_of scope.old.arrays given.now in
         AnswersAs outcome_of (of_one (whole_reduced kind) seen) result }
     ensures made { IfOk result IsOutcomeMade }
-    ensures same { scope.new ≡ scope.old }
+    ensures same { OnlyReads scope.old scope.new }
 {
     match one_array(given) {
         Some(id) => new_array(scope.reduced_whole(kind, id, steps)),
@@ -69,7 +70,7 @@ pub fn paired<L: Ledger>(
     ensures value { let seen = all_seen_of scope.old.arrays given.now in
         AnswersAs outcome_of (of_two (paired kind) seen) result }
     ensures made { IfOk result IsOutcomeMade }
-    ensures same { scope.new ≡ scope.old }
+    ensures same { OnlyReads scope.old scope.new }
 {
     match two_arrays(given) {
         Some((left, right)) => new_array(scope.paired(kind, left, right, steps)),

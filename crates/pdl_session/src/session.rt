@@ -1,10 +1,10 @@
 //! A session.
-ghost use Rattle.std.specs.Prelude.{◌≡◌, ◌+◌, length, min, OnOk, IfErr};
+ghost use Rattle.std.specs.Prelude.{◌≡◌, ◌+◌, length, min, OnOk, OnErr, IfErr};
 ghost use Rattle.pdl_syntax.specs.StatementTree.{statement_of};
 ghost use Rattle.pdl_syntax.specs.WellMade.{IsWellMade};
 ghost use Rattle.pdl_machine.specs.Step.{step};
 ghost use Rattle.pdl_session.specs.Session.{no_steps};
-ghost use Rattle.pdl_scope.specs.Answers.{IsFault, IfScript, Prints};
+ghost use Rattle.pdl_scope.specs.Answers.{IsFault, Prints};
 
 use crate::statement::run;
 use pdl_buf::Steps;
@@ -21,7 +21,7 @@ use std::sync::ledger::Ledger;
 #[derive(Drop)]
 pub struct Session {
     scope: Scope,
-    steps: u64,
+    calls: u64,
 }
 
 impl Model for Session {
@@ -29,16 +29,16 @@ impl Model for Session {
     ghost use Rattle.pdl_kernel.specs.Coding.{coded_code};
     ghost use Rattle.pdl_machine.specs.Tidy.{tidy};
     ghost use Rattle.pdl_machine.specs.State.{held};
-    ghost use Rattle.pdl_scope.specs.Scope.{KeepsAll};
+    ghost use Rattle.pdl_scope.specs.Scope.{machine, KeepsAll};
     ghost use Rattle.pdl_session.specs.Session.{Session as Seen};
 
     ghost Value = { Seen };
 
     ghost coded = { Prim.hlevel (codes, coded_code) };
 
-    ghost view = { λ s. record { state = tidy s.scope; done = s.steps } };
+    ghost view = { λ s. record { state = tidy (machine s.scope); done = s.calls } };
 
-    ghost invariant = { λ s. KeepsAll s.scope.arrays.world (held s.scope) };
+    ghost invariant = { λ s. KeepsAll s.scope.arrays.world (held (machine s.scope)) };
 }
 
 impl Session {
@@ -48,7 +48,7 @@ impl Session {
     {
         Session {
             scope: Scope::new(alloc),
-            steps: 0,
+            calls: 0,
         }
     }
 
@@ -60,8 +60,8 @@ impl Session {
     }
 
     /// Runs one statement, and adds the text that it prints to `out`. `Script`
-    /// names the fault of the statement, and leaves the state and `out` as they were. After
-    /// `NoMemory` the session may only be dropped. Each call is counted, a refused one too.
+    /// names the fault of the statement. A refusal leaves the state and `out` as they were, be it
+    /// by a fault or by want of memory. Each call is counted, a refused one too.
     /// `steps` counts the elements that are moved.
     pub fn step<L: Ledger>(
         &mut self,
@@ -73,12 +73,12 @@ impl Session {
         ensures ok { let wanted = step self.old.state (statement_of statement.now) in
             OnOk result (Prints wanted self.new.state out.old.items out.new.items) }
         ensures fault { IfErr result (IsFault (step self.old.state (statement_of statement.now))) }
-        ensures kept { IfErr result (λ e. IfScript e (self.new.state ≡ self.old.state)) }
-        ensures unprinted { IfErr result (λ e. IfScript e (out.new.items ≡ out.old.items)) }
-        ensures counted { self.new.done ≡ min (self.old.done + 1) 18446744073709551615 }
+        ensures kept { OnErr result (self.new.state ≡ self.old.state) }
+        ensures unprinted { OnErr result (out.new.items ≡ out.old.items) }
+        ensures numbered { self.new.done ≡ min (self.old.done + 1) 18446744073709551615 }
     {
         numbering_laws();
-        self.steps = self.steps.saturating_add(1);
+        self.calls = self.calls.saturating_add(1);
         self.scope.whole();
         let ran = run(&mut self.scope, statement, out, steps);
         self.scope.whole();

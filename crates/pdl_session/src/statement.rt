@@ -6,7 +6,10 @@ ghost use Rattle.pdl_syntax.specs.WellMade.{AreArrays, AreArgArrays, IsWellMade}
 ghost use Rattle.pdl_machine.specs.Then.{and_then};
 ghost use Rattle.pdl_machine.specs.Value.{value_of};
 ghost use Rattle.pdl_machine.specs.Step.{bound, list_bound, target, assigning, after_printing, effect, newline};
+ghost use Rattle.pdl_print.specs.Pieces.{Begins};
 ghost use Rattle.pdl_scope.specs.Answers.{Runs};
+ghost use Rattle.pdl_scope.specs.Scope.{machine};
+ghost use Rattle.pdl_session.specs.Performed.{Performs};
 ghost use Rattle.pdl_session.specs.Arguments.{arguments, AreGivenLive};
 
 use crate::call::{call, several};
@@ -32,7 +35,7 @@ fn bind_value<L: Ledger>(
 ) -> Result<(), StepFault>
     requires { AreArrays (tree_of value.now) }
     ensures { let valued = value_of scope.old.names scope.old.arrays (tree_of value.now) in
-        Runs (bound scope.old name.now valued) scope.old scope.new [] [] result }
+        Runs (bound (machine scope.old) name.now valued) scope.old scope.new [] [] result }
 {
     let id = eval(scope, value, steps)?;
     scope.bind(name, id)
@@ -48,7 +51,7 @@ fn bind_outputs<L: Ledger>(
 ) -> Result<(), StepFault>
     requires { AreGivenLive scope.old.arrays.world given.now }
     ensures { let args = arguments given.now in
-        let wanted = list_bound scope.old bound.now function.now (scope.old.arrays, args) in
+        let wanted = list_bound (machine scope.old) bound.now function.now (scope.old.arrays, args) in
         Runs wanted scope.old scope.new [] [] result }
 {
     if bound.len() != 1 {
@@ -67,7 +70,7 @@ fn bind_list<L: Ledger>(
     steps: &mut Steps<L>,
 ) -> Result<(), StepFault>
     requires { AreArrays (tree_of value.now) }
-    ensures { let wanted = effect scope.old (bind_list' bound.now (tree_of value.now)) in
+    ensures { let wanted = effect (machine scope.old) (bind_list' bound.now (tree_of value.now)) in
         Runs wanted scope.old scope.new [] [] result }
 {
     calls_are_trees();
@@ -92,7 +95,7 @@ fn assign_value<L: Ledger>(
     requires views { All (λ v. AreArgArrays v.1) (map view_of to.now.views.items) }
     requires made { AreArrays (tree_of value.now) }
     ensures { let place = target to.now.name (map view_of to.now.views.items) in
-        let wanted = assigning scope.old place sign (tree_of value.now) in
+        let wanted = assigning (machine scope.old) place sign (tree_of value.now) in
         Runs wanted scope.old scope.new [] [] result }
 {
     let to = target(scope, to, steps)?;
@@ -100,7 +103,7 @@ fn assign_value<L: Ledger>(
     scope.assign(sign, to, from, steps)
 }
 
-/// Prints a value, or its info.
+/// Prints a value, or its info. A part of the text may stand in `out` after want of memory.
 fn show<L: Ledger>(
     scope: &mut Scope,
     value: &Expr,
@@ -110,22 +113,25 @@ fn show<L: Ledger>(
 ) -> Result<(), StepFault>
     requires { AreArrays (tree_of value.now) }
     ensures { let valued = value_of scope.old.names scope.old.arrays (tree_of value.now) in
-        let wanted = and_then valued (λ v. Ok (after_printing scope.old info v)) in
-        Runs wanted scope.old scope.new out.old.items out.new.items result }
+        let wanted = and_then valued (λ v. Ok (after_printing (machine scope.old) info v)) in
+        Performs wanted scope.old scope.new out.old.items out.new.items result }
 {
     let id = eval(scope, value, steps)?;
     Ok(scope.print(id, info, out, steps)?)
 }
 
-/// Prints a text and a newline.
+/// Prints a text and a newline. A part of them may stand in `out` after want of memory.
 fn print_text(text: &[u8], out: &mut Vec<u8>) -> Result<(), AllocError>
-    ensures { OnOk result (out.new.items ≡ out.old.items ++ (text.now ++ newline)) }
+    ensures text { OnOk result (out.new.items ≡ out.old.items ++ (text.now ++ newline)) }
+    ensures front { Begins out.old.items out.new.items }
 {
     out.extend_from_slice(text)?;
     Ok(out.push(b'\n')?)
 }
 
-/// Runs one statement. A fault leaves names and `out` as they were; new arrays may have come.
+/// Runs one statement. Where it is refused, names and `out` are as they were, be it by a fault or
+/// by want of memory; new arrays may have come.
+#[tactic(auto, using(crate::proofs::Statements::cut_front))]
 pub fn run<L: Ledger>(
     scope: &mut Scope,
     statement: &Statement,
@@ -133,8 +139,29 @@ pub fn run<L: Ledger>(
     steps: &mut Steps<L>,
 ) -> Result<(), StepFault>
     requires { IsWellMade (statement_of statement.now) }
-    ensures { let wanted = effect scope.old (statement_of statement.now) in
+    ensures { let wanted = effect (machine scope.old) (statement_of statement.now) in
         Runs wanted scope.old scope.new out.old.items out.new.items result }
+{
+    let mark = out.len();
+    match perform(scope, statement, out, steps) {
+        Ok(()) => Ok(()),
+        Err(fault) => {
+            out.truncate(mark);
+            Err(fault)
+        }
+    }
+}
+
+/// Does what a statement says. A part of its text may stand in `out` where it is refused.
+fn perform<L: Ledger>(
+    scope: &mut Scope,
+    statement: &Statement,
+    out: &mut Vec<u8>,
+    steps: &mut Steps<L>,
+) -> Result<(), StepFault>
+    requires { IsWellMade (statement_of statement.now) }
+    ensures { let wanted = effect (machine scope.old) (statement_of statement.now) in
+        Performs wanted scope.old scope.new out.old.items out.new.items result }
 {
     match statement {
         Statement::Bind {

@@ -2,7 +2,7 @@ pub mod Number
 pub mod Command
 pub mod Generated
 pub mod Summary
-pub mod Unrun
+pub mod Unread
 pub mod Marks
 pub mod Stops
 pub mod Answers

@@ -2,12 +2,12 @@
 use crate::mark::Mark;
 use crate::output::{flush, write_text};
 use crate::statement::{Rooms, push_fault_line, run_mark};
-use crate::stop::{Stop, Unrun};
+use crate::stop::Stop;
 use pdl_buf::Steps;
 use pdl_io::Sink;
 use pdl_lex::StatementCutter;
 use pdl_machine::run_laws;
-use pdl_session::Session;
+use pdl_session::{Session, StepFault};
 use std::alloc::{AllocError, Global};
 use std::sync::ledger::Ledger;
 
@@ -82,13 +82,13 @@ impl Runner {
         );
         match ran {
             Ok(()) => Ok(()),
-            Err(Unrun::Faulted(fault)) => {
+            Err(StepFault::Script(fault)) => {
                 push_fault_line(self.alloc, &mut self.text, mark.line(), fault)?;
                 self.faulted = true;
                 self.ended = mark.fault_ends(self.keep_going);
                 Ok(())
             }
-            Err(Unrun::NoMemory) => Err(AllocError),
+            Err(StepFault::NoMemory) => Err(AllocError),
         }
     }
 

@@ -1,20 +1,20 @@
 //! One statement of a script: what it does to the session and prints, or why it wasn't run.
-ghost use Rattle.std.specs.Prelude.{◌≡◌, ◌≤◌, ◌++◌, [], length, Ok, IfOk, IfErr, OnOk};
+ghost use Rattle.std.specs.Prelude.{◌≡◌, ◌≤◌, ◌++◌, [], length, Ok, IfOk, IfErr, OnOk, OnErr};
 ghost use Rattle.pdl_lex.specs.Limits.{statement_limit};
 ghost use Rattle.pdl_syntax.specs.StatementTree.{statement_of};
 ghost use Rattle.pdl_syntax.specs.WellMade.{IsWellMade};
 ghost use Rattle.pdl_machine.specs.Run.{reads, step_read, mark_step, fault_line};
 ghost use Rattle.pdl_shell.specs.Marks.{mark_of};
-ghost use Rattle.pdl_shell.specs.Unrun.{IsFaultOf, IfFaulted};
+ghost use Rattle.pdl_scope.specs.Answers.{IsFault};
+ghost use Rattle.pdl_shell.specs.Unread.{of_lexing, of_parsing};
 
 use crate::mark::Mark;
-use crate::stop::Unrun;
 use pdl_buf::Steps;
-use pdl_lex::{Piece, Token, read_tokens};
+use pdl_lex::{LexFault, Piece, Token, read_tokens};
 use pdl_lexemes::Lexeme;
 use pdl_machine::{Fault, fault_text, reads_law};
-use pdl_session::Session;
-use pdl_syntax::{Statement, parse_within};
+use pdl_session::{Session, StepFault};
+use pdl_syntax::{ParseFault, Statement, parse_within};
 use std::alloc::{AllocError, Global};
 use std::sync::ledger::Ledger;
 
@@ -35,16 +35,43 @@ impl Rooms {
 }
 
 // The statement that a text is, or why it is none.
-fn read(alloc: Global, text: &[u8], rooms: &mut Rooms) -> Result<Statement, Unrun>
+fn read(alloc: Global, text: &[u8], rooms: &mut Rooms) -> Result<Statement, StepFault>
     requires { length text.now ≤ statement_limit }
     ensures ok { IfOk result (λ s. reads text.now ≡ Ok (statement_of s)) }
     ensures well_made { IfOk result (λ s. IsWellMade (statement_of s)) }
-    ensures fault { IfErr result (IsFaultOf (reads text.now)) }
+    ensures fault { IfErr result (IsFault (reads text.now)) }
 {
     reads_law();
-    read_tokens(text, &mut rooms.tokens)?;
-    let statement = parse_within(alloc, text, &rooms.tokens, &mut rooms.lexemes)?;
-    Ok(statement)
+    match read_tokens(text, &mut rooms.tokens) {
+        Ok(()) => match parse_within(alloc, text, &rooms.tokens, &mut rooms.lexemes) {
+            Ok(statement) => Ok(statement),
+            Err(fault) => Err(of_parsing(fault)),
+        },
+        Err(fault) => Err(of_lexing(fault)),
+    }
+}
+
+// Why a text without tokens is no statement.
+fn of_lexing(fault: LexFault) -> StepFault
+    ensures { result ≡ of_lexing fault }
+{
+    match fault {
+        LexFault::BadByte { .. } | LexFault::OpenString { .. } => StepFault::Script(Fault::Syntax),
+        LexFault::NoMemory => StepFault::NoMemory,
+    }
+}
+
+// Why tokens are no statement's.
+fn of_parsing(fault: ParseFault) -> StepFault
+    ensures { result ≡ of_parsing fault }
+{
+    match fault {
+        ParseFault::TooDeep => StepFault::Script(Fault::TooDeep),
+        ParseFault::NumberTooLarge => StepFault::Script(Fault::NumberTooLarge),
+        ParseFault::Syntax => StepFault::Script(Fault::Syntax),
+        ParseFault::Ragged => StepFault::Script(Fault::Ragged),
+        ParseFault::NoMemory => StepFault::NoMemory,
+    }
 }
 
 // Runs the statement of a text, and puts what it prints into `out`.
@@ -55,14 +82,14 @@ fn run_text<L: Ledger>(
     rooms: &mut Rooms,
     out: &mut Vec<u8>,
     steps: &mut Steps<L>,
-) -> Result<(), Unrun>
+) -> Result<(), StepFault>
     requires within { length text.now ≤ statement_limit }
     requires empty { out.old.items ≡ [] }
     ensures ok { OnOk result
         (step_read session.old.state (reads text.now) ≡ Ok (session.new.state, out.new.items)) }
-    ensures fault { IfErr result (IsFaultOf (step_read session.old.state (reads text.now))) }
-    ensures kept { IfErr result (λ e. IfFaulted e (session.new.state ≡ session.old.state)) }
-    ensures unprinted { IfErr result (λ e. IfFaulted e (out.new.items ≡ [])) }
+    ensures fault { IfErr result (IsFault (step_read session.old.state (reads text.now))) }
+    ensures kept { OnErr result (session.new.state ≡ session.old.state) }
+    ensures unprinted { OnErr result (out.new.items ≡ []) }
 {
     let statement = read(alloc, text, rooms)?;
     run_statement(session, &statement, out, steps)
@@ -74,18 +101,17 @@ fn run_statement<L: Ledger>(
     statement: &Statement,
     out: &mut Vec<u8>,
     steps: &mut Steps<L>,
-) -> Result<(), Unrun>
+) -> Result<(), StepFault>
     requires made { IsWellMade (statement_of statement.now) }
     requires empty { out.old.items ≡ [] }
     ensures ok { OnOk result (step_read session.old.state (Ok (statement_of statement.now))
         ≡ Ok (session.new.state, out.new.items)) }
     ensures fault { IfErr result
-        (IsFaultOf (step_read session.old.state (Ok (statement_of statement.now)))) }
-    ensures kept { IfErr result (λ e. IfFaulted e (session.new.state ≡ session.old.state)) }
-    ensures unprinted { IfErr result (λ e. IfFaulted e (out.new.items ≡ [])) }
+        (IsFault (step_read session.old.state (Ok (statement_of statement.now)))) }
+    ensures kept { OnErr result (session.new.state ≡ session.old.state) }
+    ensures unprinted { OnErr result (out.new.items ≡ []) }
 {
-    session.step(statement, out, steps)?;
-    Ok(())
+    session.step(statement, out, steps)
 }
 
 // Runs a statement of the script, and leaves in `out` what it prints: nothing where it wasn't run.
@@ -96,12 +122,12 @@ pub(crate) fn run_mark<L: Ledger>(
     rooms: &mut Rooms,
     out: &mut Vec<u8>,
     steps: &mut Steps<L>,
-) -> Result<(), Unrun>
+) -> Result<(), StepFault>
     ensures ok { OnOk result
         (mark_step session.old.state (mark_of mark.now) ≡ Ok (session.new.state, out.new.items)) }
-    ensures fault { IfErr result (IsFaultOf (mark_step session.old.state (mark_of mark.now))) }
-    ensures kept { IfErr result (λ e. IfFaulted e (session.new.state ≡ session.old.state)) }
-    ensures unprinted { IfErr result (λ e. IfFaulted e (out.new.items ≡ [])) }
+    ensures fault { IfErr result (IsFault (mark_step session.old.state (mark_of mark.now))) }
+    ensures kept { OnErr result (session.new.state ≡ session.old.state) }
+    ensures unprinted { OnErr result (out.new.items ≡ []) }
 {
     out.clear();
     match mark {
@@ -113,8 +139,8 @@ pub(crate) fn run_mark<L: Ledger>(
             out,
             steps,
         ),
-        Mark::Statement(Piece::TooLong { .. }) => Err(Unrun::Faulted(Fault::StatementTooLong)),
-        Mark::ScriptTooLong(_) => Err(Unrun::Faulted(Fault::ScriptTooLong)),
+        Mark::Statement(Piece::TooLong { .. }) => Err(StepFault::Script(Fault::StatementTooLong)),
+        Mark::ScriptTooLong(_) => Err(StepFault::Script(Fault::ScriptTooLong)),
     }
 }
 

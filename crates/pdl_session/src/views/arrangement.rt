@@ -6,6 +6,7 @@ ghost use Rattle.pdl_machine.specs.Views.{arranged, arrangement_outcome};
 ghost use Rattle.pdl_machine.specs.declared.builtin.Arrangement.TheVariants.{Dummy};
 ghost use Rattle.pdl_scope.specs.Answers.{AnswersAs};
 ghost use Rattle.pdl_session.specs.Arguments.{all_seen_of, AreGivenLive, outcome_of, IsOutcomeMade};
+ghost use Rattle.pdl_scope.specs.Scope.{OnlyReads};
 
 use crate::dims::numbers_in;
 use crate::given::Given;
@@ -28,7 +29,7 @@ pub fn arrangement<L: Ledger>(
     ensures value { let seen = all_seen_of scope.old.arrays given.now in
         AnswersAs outcome_of (arrangement_outcome word seen) result }
     ensures made { IfOk result IsOutcomeMade }
-    ensures same { scope.new ≡ scope.old }
+    ensures same { OnlyReads scope.old scope.new }
 {
     match given.split_first() {
         Some((Given::Array(_), rest)) => match numbers_in(scope, rest, steps) {

@@ -7,6 +7,7 @@ ghost use Rattle.pdl_machine.specs.Views.{edge_of, index_outcome, where_outcome,
 ghost use Rattle.pdl_scope.specs.Answers.{AnswersAs};
 ghost use Rattle.pdl_session.specs.Arguments.{all_seen_of, AreGivenLive, outcome_of, IsOutcomeMade};
 ghost use Rattle.pdl_session.specs.Calls.{windows};
+ghost use Rattle.pdl_scope.specs.Scope.{OnlyReads};
 
 use crate::given::Given;
 use crate::outcome::Outcome;
@@ -31,7 +32,7 @@ pub fn index<L: Ledger>(
     ensures value { let seen = all_seen_of scope.old.arrays given.now in
         AnswersAs outcome_of (index_outcome seen) result }
     ensures made { IfOk result IsOutcomeMade }
-    ensures same { scope.new ≡ scope.old }
+    ensures same { OnlyReads scope.old scope.new }
 {
     match second_array(given) {
         Some(id) => {
@@ -55,7 +56,7 @@ pub fn masked<L: Ledger>(
     ensures value { let seen = all_seen_of scope.old.arrays given.now in
         AnswersAs outcome_of (where_outcome seen) result }
     ensures made { IfOk result IsOutcomeMade }
-    ensures same { scope.new ≡ scope.old }
+    ensures same { OnlyReads scope.old scope.new }
 {
     match second_array(given) {
         Some(id) => {
@@ -79,7 +80,7 @@ pub fn range<L: Ledger>(
     ensures value { let seen = all_seen_of scope.old.arrays given.now in
         AnswersAs outcome_of (range_outcome seen) result }
     ensures made { IfOk result IsOutcomeMade }
-    ensures same { scope.new ≡ scope.old }
+    ensures same { OnlyReads scope.old scope.new }
 {
     match two_and_more(given) {
         Some((ind, rest)) => windows_at(scope, ind, rest, steps),
@@ -88,6 +89,7 @@ pub fn range<L: Ledger>(
 }
 
 /// Windows at the corners that an index lists.
+#[tactic(auto, using(crate::proofs::Facts::reads_trans))]
 fn windows_at<L: Ledger>(
     scope: &mut Scope,
     ind: ArrayId,
@@ -99,7 +101,7 @@ fn windows_at<L: Ledger>(
     ensures value { let corners = array_in scope.old.arrays ind in
         AnswersAs outcome_of (range_by corners (all_seen_of scope.old.arrays rest.now)) result }
     ensures made { IfOk result IsOutcomeMade }
-    ensures same { scope.new ≡ scope.old }
+    ensures same { OnlyReads scope.old scope.new }
 {
     let (sizes, edge) = match window_parts(scope, rest, steps) {
         Ok(parts) => parts,
@@ -115,6 +117,7 @@ fn windows_at<L: Ledger>(
 }
 
 /// The sizes of windows, else one 0, and what stands beyond the edges, else a refusal.
+#[tactic(auto, using(crate::proofs::Facts::reads_trans))]
 fn window_parts<L: Ledger>(
     scope: &mut Scope,
     rest: &[Given],
@@ -124,7 +127,7 @@ fn window_parts<L: Ledger>(
     ensures value { (corners : Made) →
         let wanted = range_by corners (all_seen_of scope.old.arrays rest.now) in
         AnswersAs (λ parts. windows corners parts.0.items parts.1) wanted result }
-    ensures same { scope.new ≡ scope.old }
+    ensures same { OnlyReads scope.old scope.new }
 {
     match few_arrays(rest) {
         Some((None, _)) => Ok((vec![in scope.alloc(); 0; 1]?, Edge::Refuse)),

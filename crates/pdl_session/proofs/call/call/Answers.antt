@@ -2,7 +2,7 @@ use Rattle.std.proofs.Common.{◌≡◌, None, sym, ap, subst, ◌∙◌}
 use Rattle.pdl_machine.specs.Builtin.{builtin_of}
 use Rattle.pdl_machine.specs.Calls.{only_root, outputs_of, call_value}
 use Rattle.pdl_machine.specs.Outcome.{Valued}
-use Rattle.pdl_machine.specs.State.{State}
+use Rattle.pdl_machine.specs.Arrays.{Arrays}
 use Rattle.pdl_machine.specs.Then.{and_then}
 use Rattle.pdl_scope.specs.Answers.{IsFault, Evaluates}
 use Rattle.pdl_session.specs.Arguments.{arguments, all_seen_of}
@@ -29,5 +29,5 @@ returns-in_ok-outputs-in-None-clause-value g c =
     let none : builtin_of f ≡ None = ap builtin_of (sym c.bytes.ensures) ∙ sym c.builtin_named.ensures ∙ c.in-None.is in
     let is : call_value names f a (arguments c.args.given.now) ≡ only_root c.kernel_outputs.new.scope.arrays ms =
     kernel_called names f a c.args.given.now none ∙ ap (λ o. and_then o (only_root a)) c.in_ok-outputs-in-None.ensures.value ∙ ap (only_root a) (sym c.deref.ensures.value)
-    ∙ ap (λ (s : State). only_root s.arrays ms) (sym c.kernel_outputs.ensures.same) in
+    ∙ ap (λ (a : Arrays). only_root a ms) (sym c.kernel_outputs.ensures.same.arrays) in
     subst (λ (v : Valued). Evaluates v c.only_root.new.scope c.only_root.result) (sym is) c.only_root.ensures.value

@@ -1,11 +1,11 @@
 use Rattle.std.proofs.Common.{List, [], length, refl, sym, subst}
 use Rattle.pdl_buf.specs.declared.made.Made.{Made}
-use Rattle.pdl_machine.specs.State.{State}
 use Rattle.pdl_machine.specs.Step.{roots_bound}
-use Rattle.pdl_scope.specs.Scope.{Grows}
+use Rattle.pdl_scope.specs.Scope.{machine}
+use Rattle.pdl_scope.specs.Growth.{reads_grow}
 use Rattle.pdl_scope.specs.Answers.{Runs}
 use Rattle.pdl_session.specs.Arguments.{arguments}
-use Rattle.pdl_session.proofs.Facts.{ends_at, grows_refl}
+use Rattle.pdl_session.proofs.Facts.{ends_at}
 use Rattle.pdl_session.proofs.Statements.{runs_output, output_refused, runs_several, several_refused}
 use Rattle.pdl_session.proofs.statement.bind_outputs.Goals as goal
 
@@ -15,15 +15,15 @@ returns-in_err-outputs g c =
     let xs = c.args.bound.now in
     let f = c.in_err-outputs.field-0.0 in
     ends_at _ _ _ _ f c.from_residual.result c.from_residual.ensures.1
-    (several_refused s xs c.args.function.now c.args.given.now (length xs) f c.if-bound-ne1.true refl c.in_err-outputs.ensures.value)
-    (subst (λ (t : State). Grows s t) (sym c.several.ensures.same) (grows_refl s))
+    (several_refused (machine s) xs c.args.function.now c.args.given.now (length xs) f c.if-bound-ne1.true refl c.in_err-outputs.ensures.value)
+    (reads_grow s c.several.new.scope c.several.ensures.same)
 
 pub returns-then-bound-ne1 : goal.returns-then-bound-ne1
 returns-then-bound-ne1 g c =
     let s = c.args.scope.now in
     let xs = c.args.bound.now in
     runs_several c.bind_roots.result s c.several.new.scope c.bind_roots.new.self xs c.args.function.now c.args.given.now (length xs) c.in_ok-outputs.outputs.items c.if-bound-ne1.true refl
-    c.in_ok-outputs.ensures.value c.several.ensures.same (subst (λ (ms : List Made). Runs (roots_bound c.several.new.scope xs ms) c.several.new.scope c.bind_roots.new.self [] [] c.bind_roots.result) c.deref.ensures.value c.bind_roots.ensures)
+    c.in_ok-outputs.ensures.value c.several.ensures.same (subst (λ (ms : List Made). Runs (roots_bound (machine c.several.new.scope) xs ms) c.several.new.scope c.bind_roots.new.self [] [] c.bind_roots.result) c.deref.ensures.value c.bind_roots.ensures)
 
 pub returns-in_err-id : goal.returns-in_err-id
 returns-in_err-id g c =
@@ -31,7 +31,7 @@ returns-in_err-id g c =
     let given = arguments c.args.given.now in
     let f = c.in_err-id.field-0.0 in
     ends_at _ _ _ _ f c.from_residual-in_err-id.result c.from_residual-in_err-id.ensures.1
-    (output_refused s c.args.bound.now c.args.function.now given f c.if-bound-ne1.false c.in_err-id.ensures.value) c.call.ensures.grown
+    (output_refused (machine s) c.args.bound.now c.args.function.now given f c.if-bound-ne1.false c.in_err-id.ensures.value) c.call.ensures.grown
 
 pub returns : goal.returns
 returns g c =

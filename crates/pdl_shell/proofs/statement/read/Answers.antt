@@ -20,9 +20,9 @@ read_as one text tokens meant found means =
     one text (as_read meant)
     (subst (λ (r : Result (List Token) LexFault). MeansAt text r (as_read meant)) (sym found) (record { meant = meant; means = means; named = refl }))
 
-pub returns-clause-ok : goal.returns-clause-ok
+pub returns-in-Ok-parse_within-clause-ok : goal.returns-in-Ok-parse_within-clause-ok
 unfolding found_tokens
-returns-clause-ok c =
+returns-in-Ok-parse_within-clause-ok c =
     let text = c.args.text.now in
-    let t : toks text ≡ Ok c.deref.result.now = c.in_ok-read_tokens.ensures.exact ∙ ap found_tokens (sym c.deref.ensures.value) in
-    read_as c.reads_law.ensures.one text c.deref.result.now (Ok (statement_of c.in_ok-statement.statement)) t c.in_ok-statement.ensures.exact
+    let t : toks text ≡ Ok c.deref.result.now = c.in-Ok.ensures.exact ∙ ap found_tokens (sym c.deref.ensures.value) in
+    read_as c.reads_law.ensures.one text c.deref.result.now (Ok (statement_of c.in-Ok-parse_within.statement)) t c.in-Ok-parse_within.ensures.exact

@@ -12,7 +12,7 @@ or_true false = refl
 
 pub returns-then-known-clause-count : goal.returns-then-known-clause-count
 returns-then-known-clause-count t c =
-    let names = c.args.self.now in
+    let names = c.args.self.now.entries in
     let xs = c.args.bound.now in
     let x = c.first-item.result in
     let told : (is_some (found names x) || is_among (take (length xs - 1) (drop 1 xs)) x) ≡ true = elim c.if-is_some.branch [
@@ -25,7 +25,7 @@ returns-then-known-clause-count t c =
 
 pub returns-else-known-clause-count : goal.returns-else-known-clause-count
 returns-else-known-clause-count t c =
-    let names = c.args.self.now in
+    let names = c.args.self.now.entries in
     let xs = c.args.bound.now in
     let x = c.first-item.result in
     let told : (is_some (found names x) || is_among (take (length xs - 1) (drop 1 xs)) x) ≡ false = elim c.if-is_some.branch [

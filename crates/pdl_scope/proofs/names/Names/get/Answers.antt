@@ -1,7 +1,8 @@
 use Rattle.std.proofs.Common.{ap, ◌∙◌}
 use Rattle.pdl_machine.specs.Names.{found}
+use Rattle.pdl_scope.specs.Room.{Table}
 use Rattle.pdl_scope.proofs.Bindings.{number_found}
 use Rattle.pdl_scope.proofs.names.Names.get.Goals as goal
 
 pub returns : goal.returns
-returns c = c.copied.ensures ∙ c.get.ensures.value ∙ number_found c.self.inside.arrays.entries c.args.name.now ∙ ap (λ b. found b c.args.name.now) c.self.view_is
+returns c = c.copied.ensures ∙ c.get.ensures.value ∙ number_found c.self.inside.arrays.entries c.args.name.now ∙ ap (λ (t : Table). found t.entries c.args.name.now) c.self.view_is

@@ -4,18 +4,17 @@ use Rattle.pdl_machine.specs.declared.fault.Fault.{Fault}
 use Rattle.pdl_machine.specs.Arrays.{Arrays, array_in}
 use Rattle.pdl_machine.specs.Operators.{binary_each}
 use Rattle.pdl_machine.specs.Outcome.{new_root}
-use Rattle.pdl_machine.specs.State.{State}
 use Rattle.pdl_machine.specs.Then.{and_then}
 use Rattle.pdl_scope.specs.Answers.{IsFault, Evaluates}
-use Rattle.pdl_scope.specs.Scope.{names_in, arrays_of}
+use Rattle.pdl_scope.specs.Scope.{arrays_of, Scope as Seen}
 use Rattle.pdl_scope.proofs.Faults.{not_made}
-use Rattle.pdl_scope.proofs.Growing.{readied}
+use Rattle.pdl_scope.proofs.Growing.{readied_arrays}
 use Rattle.pdl_scope.proofs.scope.Scope.binary.Goals as goal
 
 pub returns-in-Ok-clause-value : goal.returns-in-Ok-clause-value
 returns-in-Ok-clause-value g c =
     let a = arrays_of c.ready_two.new.engine in
-    let same : a ≡ c.args.self.now.arrays = ap (λ (s : State). s.arrays) (readied (names_in c.self.inside.names c.self.inside.kernels) c.self.inside.engine c.ready_two.new.engine c.ready_two.ensures.same ∙ c.self.view_is) in
+    let same : a ≡ c.args.self.now.arrays = readied_arrays c.self.inside.engine c.ready_two.new.engine c.ready_two.ensures.same ∙ ap (λ (s : Seen). s.arrays) c.self.view_is in
     let P : Arrays → Type 0 = λ b. Evaluates (and_then (binary_each c.args.op (array_in b c.args.left) (array_in b c.args.right)) (new_root b)) c.adopt.new.self c.adopt.result in
     let Q : Result Made Fault → Type 0 = λ x. Evaluates (and_then x (new_root a)) c.adopt.new.self c.adopt.result in
     subst P same (subst Q (sym c.in-Ok.ensures.value) c.adopt.ensures.value)
@@ -23,6 +22,6 @@ returns-in-Ok-clause-value g c =
 pub returns-in-Err-clause-value : goal.returns-in-Err-clause-value
 returns-in-Err-clause-value g c =
     let a = arrays_of c.ready_two.new.engine in
-    let same : a ≡ c.args.self.now.arrays = ap (λ (s : State). s.arrays) (readied (names_in c.self.inside.names c.self.inside.kernels) c.self.inside.engine c.ready_two.new.engine c.ready_two.ensures.same ∙ c.self.view_is) in
+    let same : a ≡ c.args.self.now.arrays = readied_arrays c.self.inside.engine c.ready_two.new.engine c.ready_two.ensures.same ∙ ap (λ (s : Seen). s.arrays) c.self.view_is in
     let P : Arrays → Type 0 = λ b. IsFault (and_then (binary_each c.args.op (array_in b c.args.left) (array_in b c.args.right)) (new_root b)) c.in-Err.fault in
     subst P same (not_made (binary_each c.args.op (array_in a c.args.left) (array_in a c.args.right)) a c.in-Err.fault c.in-Err.ensures.value)

@@ -2,7 +2,7 @@ use Rattle.std.proofs.Common.{ℕ, List, sym, ap, subst, ◌∙◌}
 use Rattle.pdl_world.specs.Swept.{sweep}
 use Rattle.pdl_machine.specs.State.{State, held, with_world}
 use Rattle.pdl_machine.specs.Tidy.{tidy}
-use Rattle.pdl_scope.specs.Scope.{names_in, state_in, IsHeld}
+use Rattle.pdl_scope.specs.Scope.{machine, names_in, state_in, IsHeld, Scope as Seen}
 use Rattle.pdl_scope.proofs.Held.{all_gone}
 use Rattle.pdl_scope.proofs.scope.Scope.let_go.Goals as goal
 
@@ -11,24 +11,24 @@ swept s = with_world s (sweep s.arrays.world (held s))
 
 pub release_all-requires : goal.release_all-requires
 release_all-requires g c =
-    let names = names_in c.self.inside.names c.self.inside.kernels in
+    let names = names_in c.self.inside.names.entries c.self.inside.kernels in
     let P : List ℕ → Type 0 = λ vs. IsHeld (state_in names c.self.inside.engine) c.self.inside.engine.holds vs in
     record { names = names; held = subst P (sym c.deref.ensures.value) c.self.invariant }
 
 pub invariant_of-self : goal.invariant_of-self
 invariant_of-self g c =
-    let names = names_in c.self.inside.names c.self.inside.kernels in
+    let names = names_in c.self.inside.names.entries c.self.inside.kernels in
     let P : List ℕ → Type 0 = λ vs. IsHeld (state_in names c.self.inside.engine) c.self.inside.engine.holds vs in
     let Q : List ℕ → Type 0 = λ vs. IsHeld (state_in names c.release_all.new.engine) c.release_all.new.engine.holds vs in
     subst Q (sym c.clear.ensures.items) (c.release_all.ensures names (subst P (sym c.deref.ensures.value) c.self.invariant)).is_held
 
 pub returns-clause-gone : goal.returns-clause-gone
 returns-clause-gone g c =
-    let names = names_in c.self.inside.names c.self.inside.kernels in
+    let names = names_in c.self.inside.names.entries c.self.inside.kernels in
     let P : List ℕ → Type 0 = λ vs. IsHeld (state_in names c.self.inside.engine) c.self.inside.engine.holds vs in
-    all_gone names c.self.inside.engine c.release_all.new.engine (c.release_all.ensures names (subst P (sym c.deref.ensures.value) c.self.invariant)) ∙ ap swept c.self.view_is
+    all_gone names c.self.inside.engine c.release_all.new.engine (c.release_all.ensures names (subst P (sym c.deref.ensures.value) c.self.invariant)) ∙ ap (λ (s : Seen). swept (machine s)) c.self.view_is
 
 pub returns-clause-unseen : goal.returns-clause-unseen
 returns-clause-unseen g c =
-    let s = c.args.self.now in
+    let s = machine c.args.self.now in
     ap tidy (returns-clause-gone g c) ∙ c.numbering_laws.ensures.gone s (held s) (λ v is. is)

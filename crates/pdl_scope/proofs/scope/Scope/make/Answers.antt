@@ -1,18 +1,17 @@
 use Rattle.std.proofs.Common.{List, ℕ, ◌∷◌, [], ◌++◌, ap, subst, ◌∙◌}
 use Rattle.pdl_world.specs.World.{root}
-use Rattle.pdl_machine.specs.State.{State}
-use Rattle.pdl_scope.specs.Scope.{names_in, state_in, Grows}
-use Rattle.pdl_scope.proofs.Growing.{came}
+use Rattle.pdl_scope.specs.Scope.{Scope as Seen, names_in, scope_in, Grows}
+use Rattle.pdl_scope.proofs.Growing.{grown}
 use Rattle.pdl_scope.proofs.Held.{held_new}
 use Rattle.pdl_scope.proofs.scope.Scope.make.Goals as goal
 
 pub invariant_of-self-2 : goal.invariant_of-self-2
 invariant_of-self-2 g c =
-    held_new c.growth_laws.ensures.older c.hold_laws.ensures.others (names_in c.self.inside.names c.self.inside.kernels) c.self.inside.engine c.make.new.self (root c.args.ty c.args.dims.now c.args.elems) c.in_ok-id.id c.self.inside.leaving.items _
-    c.holds_law.ensures.each c.self.invariant c.in_ok-id.ensures.made c.make.ensures.sound (c.note.ensures ∙ ap (λ (vs : List ℕ). vs ++ c.in_ok-id.id ∷ []) c.in_ok-reserve.ensures.items)
+    held_new c.growth_laws.ensures.older c.hold_laws.ensures.others (names_in c.self.inside.names.entries c.self.inside.kernels) c.self.inside.engine c.make.new.self (root c.args.ty c.args.dims.now c.args.elems) c.in_ok-id.id c.self.inside.leaving.items _
+    c.holds_law.ensures.each c.self.invariant c.in_ok-id.ensures.made c.make.ensures.sound (c.note.ensures.items ∙ ap (λ (vs : List ℕ). vs ++ c.in_ok-id.id ∷ []) c.in_ok-reserve.ensures.items)
 
 pub returns-clause-grown : goal.returns-clause-grown
 returns-clause-grown g c =
-    let names = names_in c.self.inside.names c.self.inside.kernels in
-    let P : State → Type 0 = λ s. Grows s (state_in names c.make.new.self) in
-    subst P c.self.view_is (came c.growth_laws.ensures.older names c.self.inside.engine c.make.new.self (root c.args.ty c.args.dims.now c.args.elems) c.in_ok-id.id c.self.invariant.whole c.in_ok-id.ensures.made c.make.ensures.sound).grown
+    let names = names_in c.self.inside.names.entries c.self.inside.kernels in
+    let P : Seen → Type 0 = λ s. Grows s (scope_in names c.make.new.self) in
+    subst P c.self.view_is (grown c.growth_laws.ensures.older names c.self.inside.engine c.make.new.self (root c.args.ty c.args.dims.now c.args.elems) c.in_ok-id.id c.self.invariant.whole c.in_ok-id.ensures.made c.make.ensures.sound)

@@ -4,10 +4,9 @@ use Rattle.pdl_buf.specs.Made.{array_of}
 use Rattle.pdl_reduce.specs.Refusals.{ReduceRefusal}
 use Rattle.pdl_reduce.specs.Reductions.{whole_reduced}
 use Rattle.pdl_machine.specs.Refused.{reduce_fault, or_named}
-use Rattle.pdl_machine.specs.State.{State}
 use Rattle.pdl_scope.specs.Answers.{Answers}
-use Rattle.pdl_scope.specs.Scope.{arrays_of, names_in}
-use Rattle.pdl_scope.proofs.Growing.{readied}
+use Rattle.pdl_scope.specs.Scope.{arrays_of, Scope as Seen}
+use Rattle.pdl_scope.proofs.Growing.{readied_arrays}
 use Rattle.pdl_scope.proofs.Reduced.{one_lent}
 use Rattle.pdl_scope.proofs.scope.Scope.reduced_whole.Goals as goal
 
@@ -16,6 +15,6 @@ returns-clause-value g c =
     let f = whole_reduced c.args.kind in
     let e = c.ready.new.engine in
     let a = c.args.self.now.arrays in
-    let same : arrays_of e ≡ a = ap (λ (s : State). s.arrays) (readied (names_in c.self.inside.names c.self.inside.kernels) c.self.inside.engine e c.ready.ensures.same ∙ c.self.view_is) in
+    let same : arrays_of e ≡ a = readied_arrays c.self.inside.engine e c.ready.ensures.same ∙ ap (λ (s : Seen). s.arrays) c.self.view_is in
     let P : Result Made ReduceRefusal → Type 0 = λ x. Answers (or_named reduce_fault x) c.named.result in
     subst P (sym (one_lent f a c.args.id e c.lend.result same c.lend.ensures)) (c.named.ensures.value (f (array_of c.lend.result)) c.reduce_whole-2.ensures.value)

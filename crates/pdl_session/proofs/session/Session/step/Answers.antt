@@ -1,6 +1,7 @@
 use Rattle.std.proofs.Common.{ap}
 use Rattle.pdl_syntax.specs.StatementTree.{statement_of}
 use Rattle.pdl_machine.specs.Step.{effect}
+use Rattle.pdl_scope.specs.Scope.{machine}
 use Rattle.pdl_session.specs.Session.{Session}
 use Rattle.pdl_session.proofs.Statements.{kept_seen}
 use Rattle.pdl_session.proofs.Tidied.{tidied_after}
@@ -8,8 +9,8 @@ use Rattle.pdl_session.proofs.session.Session.step.Goals as goal
 
 pub returns-clause-kept : goal.returns-clause-kept
 returns-clause-kept g c =
-    kept_seen c.run-ran.result (effect c.self.inside.scope (statement_of c.args.statement.now)) c.self.inside.scope c.run-ran.new.scope c.let_go.new.self c.args.self.now.state c.args.out.now.items c.run-ran.new.out.items
+    kept_seen c.run-ran.result (effect (machine c.self.inside.scope) (statement_of c.args.statement.now)) c.self.inside.scope c.run-ran.new.scope (machine c.let_go.new.self) c.args.self.now.state c.args.out.now.items c.run-ran.new.out.items
     c.numbering_laws.ensures.unseen c.whole.ensures c.whole-2.ensures c.let_go.ensures.unseen (ap (λ (s : Session). s.state) c.self.view_is) c.run-ran.ensures
 
 pub invariant_of-self : goal.invariant_of-self
-invariant_of-self g c = tidied_after c.run-ran.new.scope c.let_go.new.self c.numbering_laws.ensures.again c.let_go.ensures.gone
+invariant_of-self g c = tidied_after (machine c.run-ran.new.scope) (machine c.let_go.new.self) c.numbering_laws.ensures.again c.let_go.ensures.gone

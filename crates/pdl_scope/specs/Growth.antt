@@ -1,0 +1,56 @@
+-- What follows at once of how scopes change: nothing changes by itself, and one change may follow
+-- another.
+use Rattle.std.proofs.Common.{◌≡◌, [], ◌++◌, append_assoc, refl, sym, ap, subst, ◌∙◌}
+use Rattle.pdl_world.specs.Sound.{IsLive}
+use Rattle.pdl_machine.specs.Arrays.{Arrays}
+use Rattle.pdl_machine.specs.Names.{Names}
+use Rattle.pdl_scope.specs.Scope.{Scope, machine, OnlyReads, Grows}
+
+-- nothing was read
+pub reads_refl : (s : Scope) → OnlyReads s s
+reads_refl s = record { names = refl; arrays = refl; stay = λ v is. is }
+
+-- arrays were read, and then others
+pub reads_trans : (a b c : Scope) → OnlyReads a b → OnlyReads b c → OnlyReads a c
+reads_trans a b c g h = record {
+  names = h.names ∙ g.names;
+  arrays = h.arrays ∙ g.arrays;
+  stay = λ v is. h.stay v (g.stay v is);
+}
+
+-- the machine sees nothing of it
+pub unread : (a b : Scope) → OnlyReads a b → machine b ≡ machine a
+unread a b g =
+    ap (λ (n : Names). record { names = n; arrays = b.arrays }) g.names
+    ∙ ap (λ (r : Arrays). record { names = a.names; arrays = r }) g.arrays
+
+-- and nothing came
+pub reads_grow : (a b : Scope) → OnlyReads a b → Grows a b
+reads_grow a b g = record {
+  names = g.names;
+  arrays = record { more = []; is = ap (λ (r : Arrays). r.world) g.arrays };
+  still = λ v live. (let P : Arrays → Type 0 = λ r. IsLive r.world v in subst P (sym g.arrays) live);
+  stay = g.stay;
+}
+
+-- nothing came
+pub grows_refl : (s : Scope) → Grows s s
+grows_refl s = record {
+  names = refl;
+  arrays = record { more = []; is = refl };
+  still = λ v live. live;
+  stay = λ v is. is;
+}
+
+-- arrays came, and then others
+pub grows_trans : (a b c : Scope) → Grows a b → Grows b c → Grows a c
+grows_trans a b c g h = record {
+  names = h.names ∙ g.names;
+  arrays = record {
+    more = h.arrays.more ++ g.arrays.more;
+    is = h.arrays.is ∙ ap (λ w. h.arrays.more ++ w) g.arrays.is
+        ∙ sym (append_assoc h.arrays.more g.arrays.more a.arrays.world);
+  };
+  still = λ v live. h.still v (g.still v live);
+  stay = λ v is. h.stay v (g.stay v is);
+}

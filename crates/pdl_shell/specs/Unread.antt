@@ -1,0 +1,21 @@
+-- Why a text is no statement, as what a statement's refusal is.
+use Rattle.pdl_lex.specs.declared.LexFault.{LexFault}
+use Rattle.pdl_lex.specs.declared.LexFault.TheVariants as lexing
+use Rattle.pdl_syntax.specs.declared.parser.ParseFault.{ParseFault}
+use Rattle.pdl_syntax.specs.declared.parser.ParseFault.TheVariants as parsing
+use Rattle.pdl_machine.specs.declared.fault.Fault.TheVariants.{Syntax, TooDeep, NumberTooLarge, Ragged}
+use Rattle.pdl_scope.specs.declared.fault.StepFault.{StepFault}
+use Rattle.pdl_scope.specs.declared.fault.StepFault.TheVariants.{Script, NoMemory}
+
+-- a text without tokens is a syntax error
+abbrev pub of_lexing : LexFault → StepFault
+of_lexing (lexing.BadByte at) = Script Syntax
+of_lexing (lexing.OpenString at) = Script Syntax
+of_lexing lexing.NoMemory = NoMemory
+
+abbrev pub of_parsing : ParseFault → StepFault
+of_parsing parsing.TooDeep = Script TooDeep
+of_parsing parsing.NumberTooLarge = Script NumberTooLarge
+of_parsing parsing.Syntax = Script Syntax
+of_parsing parsing.Ragged = Script Ragged
+of_parsing parsing.NoMemory = NoMemory
