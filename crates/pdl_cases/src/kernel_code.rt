@@ -5,17 +5,23 @@ ghost use Rattle.pdl_sig.specs.Refusals.{IsWellFormed};
 
 use crate::answer::Answer;
 use crate::cursor::Cursor;
-use pdl_code::{Entry, Expr, Stmt, read_code};
+use pdl_code::{Entry, Expr, Stmt, Variable, read_code};
 use pdl_elem::BinaryOp;
 use pdl_sig::{Signature, read_signature};
+
+fn say_word(answer: &mut Answer, word: &Variable) {
+    match word {
+        Variable::Slot(slot) => answer.tell("local ", slot),
+        Variable::Index(dimension) => answer.tell("index ", dimension),
+    }
+}
 
 #[cycle(say)]
 fn say_expr(answer: &mut Answer, expr: &Expr) {
     match expr {
         Expr::Number(number) => answer.show(number),
         Expr::Size(dimension) => answer.tell("size ", dimension),
-        Expr::Index(dimension) => answer.tell("index ", dimension),
-        Expr::Local(slot) => answer.tell("local ", slot),
+        Expr::Named(word) => say_word(answer, word),
         Expr::Access(number, entries) => {
             answer.tell("at ", number);
             say_entries(answer, entries);
@@ -53,9 +59,10 @@ fn say_entry(answer: &mut Answer, entry: &Entry) {
             answer.say(":");
             say_expr(answer, expr);
         }
-        Entry::Looped(place, dimension) => {
+        Entry::Looped(place, word) => {
             answer.tell("", place);
-            answer.tell(":index ", dimension);
+            answer.say(":");
+            say_word(answer, word);
         }
     }
     answer.say(",");
@@ -85,10 +92,10 @@ fn say_stmt(answer: &mut Answer, stmt: &Stmt) {
             say_block(answer, whole);
             say_block(answer, other);
         }
-        Stmt::Keep(slot, ty, op, expr) => {
-            answer.tell("local ", slot);
+        Stmt::Keep(kept, op, expr) => {
+            answer.tell("local ", &kept.slot);
             answer.say(" ");
-            answer.debug(ty);
+            answer.debug(&kept.ty);
             say_put(answer, *op, expr);
         }
         Stmt::Put(number, entries, op, expr) => {

@@ -6,33 +6,32 @@ use Rattle.pdl_sig.specs.declared.Signature.{Signature}
 use Rattle.pdl_code.specs.declared.fault.KernelFault.{KernelFault}
 use Rattle.pdl_code.specs.declared.fault.KernelFault.TheVariants.{TooDeep, BadText, UnknownArgument, WriteToInput, UnknownDim, NestedSame, NoMemory}
 use Rattle.pdl_code.specs.declared.lexeme.Span.{Span}
-use Rattle.pdl_code.specs.declared.raw.RawStmt.{RawStmt}
 use Rattle.pdl_code.specs.declared.scope.Local.{Local}
 use Rattle.pdl_code.specs.Join.{join_code}
-use Rattle.pdl_code.specs.Raw.{RawTree, RawStep, RawCode, repeat, choose, declare, set, put, next}
-use Rattle.pdl_code.specs.RawOf.{raw_code, raw_step}
+use Rattle.pdl_code.specs.declared.names.Target.TheVariants.{New, Named}
+use Rattle.pdl_code.specs.Tree.{RawTree, RawStep, RawCode, repeat, choose, keep, put, next, Tree, Step, Code, done}
+use Rattle.pdl_code.specs.TreeOf.{code_of, step_of, RawStmt}
 use Rattle.pdl_code.specs.Refused.{answer, loop_wrong, named_dim, or_zero, scope_after, when}
 use Rattle.pdl_code.specs.Resolving.{◌>>=◌, Agrees, resolve_tree, resolve_step, resolve_code}
 use Rattle.pdl_code.specs.Scope.{Scope, within}
-use Rattle.pdl_code.specs.Tree.{Tree, Step, Code, repeat as loop, choose as branches, done as end, next as then_step}
 use Rattle.pdl_code.proofs.Joins.{code_join_join, code_join_done}
 
 abbrev pub and_code : Code → Result Code KernelFault → Result Code KernelFault
 and_code c r = r >>= λ rest. Ok (join_code c rest)
 
-joined : (c : Code) (a : Step) (r : Result Code KernelFault) → and_code (join_code c (then_step a end)) r ≡ and_code c (r >>= λ rest. Ok (then_step a rest))
-joined c a (Ok rest) = ap Ok (code_join_join c (then_step a end) rest)
+joined : (c : Code) (a : Step) (r : Result Code KernelFault) → and_code (join_code c (next a done)) r ≡ and_code c (r >>= λ rest. Ok (next a rest))
+joined c a (Ok rest) = ap Ok (code_join_join c (next a done) rest)
 joined c a (Err e) = refl
 
 -- no code is there yet
-pub code_none : (r : Result Code KernelFault) → and_code end r ≡ r
+pub code_none : (r : Result Code KernelFault) → and_code done r ≡ r
 code_none (Ok rest) = refl
 code_none (Err e) = refl
 
-pub cut : (xs : List RawStmt) (i : ℕ) (x : RawStmt) → i < length xs → x ≡ get_or xs i x → raw_code (drop i xs) ≡ next (raw_step x) (raw_code (drop (i + 1) xs))
+pub cut : (xs : List RawStmt) (i : ℕ) (x : RawStmt) → i < length xs → x ≡ get_or xs i x → code_of (drop i xs) ≡ next (step_of x) (code_of (drop (i + 1) xs))
 cut xs i x lt at =
     let c : drop i xs ≡ get_or xs i x ∷ drop (i + 1) xs = rw add-one (drop-cons xs i x lt) in
-    ap raw_code (c ∙ ap (λ y. y ∷ drop (i + 1) xs) (sym at))
+    ap code_of (c ∙ ap (λ y. y ∷ drop (i + 1) xs) (sym at))
 
 abbrev pub visible : List Local → List Bool → Scope
 visible ls loops = record { locals = ls; loops = loops }
@@ -46,7 +45,7 @@ same_fronts : (a : ℕ) (v now : List Local) → a ≤ length v → now ≡ v �
 same_fronts a v now le e = record { same = ap (take a) e; count = subst (λ xs. a ≤ length xs) (sym e) le }
 
 pub fronts : (a : ℕ) (v now : List Local) (loops : List Bool) (t : RawStep) → a ≤ length v → visible now loops ≡ scope_after (visible v loops) t → Fronts a v now
-fronts a v now loops (declare ty w e) le is =
+fronts a v now loops (keep (New ty w) op e) le is =
     let n : now ≡ v ++ record { word = w; ty = ty } ∷ [] = ap (λ (x : Scope). x.locals) is in
     record {
       same = ap (take a) n ∙ take-append-le a v (record { word = w; ty = ty } ∷ []) le;
@@ -54,8 +53,8 @@ fronts a v now loops (declare ty w e) le is =
     }
 fronts a v now loops (repeat w body) le is = same_fronts a v now le (ap (λ (x : Scope). x.locals) is)
 fronts a v now loops (choose e x y) le is = same_fronts a v now le (ap (λ (x : Scope). x.locals) is)
-fronts a v now loops (set w op e) le is = same_fronts a v now le (ap (λ (x : Scope). x.locals) is)
-fronts a v now loops (put w is at op e) le h = same_fronts a v now le (ap (λ (x : Scope). x.locals) h)
+fronts a v now loops (keep (Named w) op e) le is = same_fronts a v now le (ap (λ (x : Scope). x.locals) is)
+fronts a v now loops (put o is op e) le h = same_fronts a v now le (ap (λ (x : Scope). x.locals) h)
 
 -- a refusal of a part is one of the whole, as `f` says
 pub pass_on : {A B X Y : Type 0} (v : X → A) (view : Y → B) (r : KernelFault) (part : Result A KernelFault) (whole : Result B KernelFault)
@@ -70,70 +69,70 @@ pass_on v view (NestedSame x) part whole f e = f (NestedSame x) e
 
 module _ (source : List ℕ) (s : Signature) where
   -- one statement more
-  pub code_turn : (c now : Scope) (xs : List RawStmt) (i : ℕ) (x : RawStmt) (code more : Code) (a : Step) → i < length xs → x ≡ get_or xs i x → now ≡ scope_after c (raw_step x) → resolve_step source s c (raw_step x) ≡ Ok a
-      → more ≡ join_code code (then_step a end)
-      → and_code more (resolve_code source s now (raw_code (drop (i + 1) xs))) ≡ and_code code (resolve_code source s c (raw_code (drop i xs)))
+  pub code_turn : (c now : Scope) (xs : List RawStmt) (i : ℕ) (x : RawStmt) (code more : Code) (a : Step) → i < length xs → x ≡ get_or xs i x → now ≡ scope_after c (step_of x) → resolve_step source s c (step_of x) ≡ Ok a
+      → more ≡ join_code code (next a done)
+      → and_code more (resolve_code source s now (code_of (drop (i + 1) xs))) ≡ and_code code (resolve_code source s c (code_of (drop i xs)))
   code_turn c now xs i x code more a lt at after step is =
-      let R : Scope → Result Code KernelFault = λ z. resolve_code source s z (raw_code (drop (i + 1) xs)) in
-      let one : resolve_code source s c (raw_code (drop i xs)) ≡ (R (scope_after c (raw_step x)) >>= λ rest. Ok (then_step a rest)) =
-      ap (resolve_code source s c) (cut xs i x lt at) ∙ ap (λ r. r >>= λ a. R (scope_after c (raw_step x)) >>= λ rest. Ok (then_step a rest)) step in
-      ap (λ m. and_code m (R now)) is ∙ ap (λ z. and_code (join_code code (then_step a end)) (R z)) after ∙ joined code a (R (scope_after c (raw_step x))) ∙ sym (ap (and_code code) one)
+      let R : Scope → Result Code KernelFault = λ z. resolve_code source s z (code_of (drop (i + 1) xs)) in
+      let one : resolve_code source s c (code_of (drop i xs)) ≡ (R (scope_after c (step_of x)) >>= λ rest. Ok (next a rest)) =
+      ap (resolve_code source s c) (cut xs i x lt at) ∙ ap (λ r. r >>= λ a. R (scope_after c (step_of x)) >>= λ rest. Ok (next a rest)) step in
+      ap (λ m. and_code m (R now)) is ∙ ap (λ z. and_code (join_code code (next a done)) (R z)) after ∙ joined code a (R (scope_after c (step_of x))) ∙ sym (ap (and_code code) one)
 
-  pub code_fault : (c : Scope) (xs : List RawStmt) (i : ℕ) (x : RawStmt) (code : Code) (all : Result Code KernelFault) (f : KernelFault) → i < length xs → x ≡ get_or xs i x → and_code code (resolve_code source s c (raw_code (drop i xs))) ≡ all
-      → resolve_step source s c (raw_step x) ≡ Err f → all ≡ Err f
+  pub code_fault : (c : Scope) (xs : List RawStmt) (i : ℕ) (x : RawStmt) (code : Code) (all : Result Code KernelFault) (f : KernelFault) → i < length xs → x ≡ get_or xs i x → and_code code (resolve_code source s c (code_of (drop i xs))) ≡ all
+      → resolve_step source s c (step_of x) ≡ Err f → all ≡ Err f
   code_fault c xs i x code all f lt at e step =
-      sym e ∙ ap (and_code code) (ap (resolve_code source s c) (cut xs i x lt at) ∙ ap (λ r. r >>= λ a. resolve_code source s (scope_after c (raw_step x)) (raw_code (drop (i + 1) xs)) >>= λ rest. Ok (then_step a rest)) step)
+      sym e ∙ ap (and_code code) (ap (resolve_code source s c) (cut xs i x lt at) ∙ ap (λ r. r >>= λ a. resolve_code source s (scope_after c (step_of x)) (code_of (drop (i + 1) xs)) >>= λ rest. Ok (next a rest)) step)
 
-  pub code_end : (c : Scope) (xs : List RawStmt) (i : ℕ) (code : Code) (all : Result Code KernelFault) → length xs ≤ i → and_code code (resolve_code source s c (raw_code (drop i xs))) ≡ all → all ≡ Ok code
-  code_end c xs i code all le e = sym e ∙ ap (λ ys. and_code code (resolve_code source s c (raw_code ys))) (drop_all i xs le) ∙ ap Ok (code_join_done code)
+  pub code_end : (c : Scope) (xs : List RawStmt) (i : ℕ) (code : Code) (all : Result Code KernelFault) → length xs ≤ i → and_code code (resolve_code source s c (code_of (drop i xs))) ≡ all → all ≡ Ok code
+  code_end c xs i code all le e = sym e ∙ ap (λ ys. and_code code (resolve_code source s c (code_of ys))) (drop_all i xs le) ∙ ap Ok (code_join_done code)
 
   loop_is : (v : List Local) (loops : List Bool) (t : RawStep) (w : Span) (body : RawCode) (d : ℕ) → t ≡ repeat w body → named_dim source s w ≡ Some d → get_or loops d false ≡ false
-      → resolve_step source s (visible v loops) t ≡ (resolve_code source s (visible v (slice_set loops d true)) body >>= λ c. Ok (loop d c))
+      → resolve_step source s (visible v loops) t ≡ (resolve_code source s (visible v (slice_set loops d true)) body >>= λ c. Ok (repeat d c))
   loop_is v loops t w body d e placed closed =
-      let P : Option ℕ → Result Step KernelFault = λ p. answer (loop_wrong loops w p) (or_zero p) >>= λ d. resolve_code source s (within (visible v loops) (or_zero p)) body >>= λ c. Ok (loop d c) in
-      let Q : Bool → Result Step KernelFault = λ b. answer (when b (NestedSame w.from)) d >>= λ d'. resolve_code source s (visible v (slice_set loops d true)) body >>= λ c. Ok (loop d' c) in
+      let P : Option ℕ → Result Step KernelFault = λ p. answer (loop_wrong loops w p) (or_zero p) >>= λ d. resolve_code source s (within (visible v loops) (or_zero p)) body >>= λ c. Ok (repeat d c) in
+      let Q : Bool → Result Step KernelFault = λ b. answer (when b (NestedSame w.from)) d >>= λ d'. resolve_code source s (visible v (slice_set loops d true)) body >>= λ c. Ok (repeat d' c) in
       ap (resolve_step source s (visible v loops)) e ∙ ap P placed ∙ ap Q closed
 
   pub loop_ok : (v : List Local) (loops inner : List Bool) (t : RawStep) (w : Span) (body : RawCode) (d : ℕ) (c : Code) (a : Step) → t ≡ repeat w body → named_dim source s w ≡ Some d → get_or loops d false ≡ false → inner ≡ slice_set loops d true
-      → resolve_code source s (visible v inner) body ≡ Ok c → a ≡ loop d c → resolve_step source s (visible v loops) t ≡ Ok a
+      → resolve_code source s (visible v inner) body ≡ Ok c → a ≡ repeat d c → resolve_step source s (visible v loops) t ≡ Ok a
   loop_ok v loops inner t w body d c a e placed flag is ok made =
-      loop_is v loops t w body d e placed flag ∙ ap (λ ls. resolve_code source s (visible v ls) body >>= λ c. Ok (loop d c)) (sym is) ∙ ap (λ r. r >>= λ c. Ok (loop d c)) ok ∙ ap Ok (sym made)
+      loop_is v loops t w body d e placed flag ∙ ap (λ ls. resolve_code source s (visible v ls) body >>= λ c. Ok (repeat d c)) (sym is) ∙ ap (λ r. r >>= λ c. Ok (repeat d c)) ok ∙ ap Ok (sym made)
 
   pub loop_err : (v : List Local) (loops inner : List Bool) (t : RawStep) (w : Span) (body : RawCode) (d : ℕ) → t ≡ repeat w body → named_dim source s w ≡ Some d → get_or loops d false ≡ false → inner ≡ slice_set loops d true
       → (x : KernelFault) → resolve_code source s (visible v inner) body ≡ Err x → resolve_step source s (visible v loops) t ≡ Err x
   loop_err v loops inner t w body d e placed flag is x err =
-      loop_is v loops t w body d e placed flag ∙ ap (λ ls. resolve_code source s (visible v ls) body >>= λ c. Ok (loop d c)) (sym is) ∙ ap (λ r. r >>= λ c. Ok (loop d c)) err
+      loop_is v loops t w body d e placed flag ∙ ap (λ ls. resolve_code source s (visible v ls) body >>= λ c. Ok (repeat d c)) (sym is) ∙ ap (λ r. r >>= λ c. Ok (repeat d c)) err
 
   -- a loop over a dimension that is refused
   pub loop_refused : (c : Scope) (t : RawStep) (w : Span) (body : RawCode) → t ≡ repeat w body
       → (x : KernelFault) → answer (loop_wrong c.loops w (named_dim source s w)) (or_zero (named_dim source s w)) ≡ Err x → resolve_step source s c t ≡ Err x
   loop_refused c t w body e x err =
       ap (resolve_step source s c) e
-      ∙ ap (λ r. r >>= λ d. resolve_code source s (within c (or_zero (named_dim source s w))) body >>= λ b. Ok (loop d b)) err
+      ∙ ap (λ r. r >>= λ d. resolve_code source s (within c (or_zero (named_dim source s w))) body >>= λ b. Ok (repeat d b)) err
 
   choice_is : (c : Scope) (t : RawStep) (e : RawTree) (a b : RawCode) (x : Tree) → t ≡ choose e a b → resolve_tree source s c e ≡ Ok x
-      → resolve_step source s c t ≡ (resolve_code source s c a >>= λ p. resolve_code source s c b >>= λ q. Ok (branches x p q))
+      → resolve_step source s c t ≡ (resolve_code source s c a >>= λ p. resolve_code source s c b >>= λ q. Ok (choose x p q))
   choice_is c t e a b x is found =
-      ap (resolve_step source s c) is ∙ ap (λ r. r >>= λ x. resolve_code source s c a >>= λ p. resolve_code source s c b >>= λ q. Ok (branches x p q)) found
+      ap (resolve_step source s c) is ∙ ap (λ r. r >>= λ x. resolve_code source s c a >>= λ p. resolve_code source s c b >>= λ q. Ok (choose x p q)) found
 
   pub choice_ok : (v w : List Local) (loops : List Bool) (t : RawStep) (e : RawTree) (a b : RawCode) (x : Tree) (p q : Code) (r : Step) → t ≡ choose e a b → resolve_tree source s (visible v loops) e ≡ Ok x
-      → resolve_code source s (visible v loops) a ≡ Ok p → w ≡ v → resolve_code source s (visible w loops) b ≡ Ok q → r ≡ branches x p q → resolve_step source s (visible v loops) t ≡ Ok r
+      → resolve_code source s (visible v loops) a ≡ Ok p → w ≡ v → resolve_code source s (visible w loops) b ≡ Ok q → r ≡ choose x p q → resolve_step source s (visible v loops) t ≡ Ok r
   choice_ok v w loops t e a b x p q r is found first same second made =
-      choice_is (visible v loops) t e a b x is found ∙ ap (λ y. y >>= λ p. resolve_code source s (visible v loops) b >>= λ q. Ok (branches x p q)) first
-      ∙ ap (λ y. y >>= λ q. Ok (branches x p q)) (ap (λ ls. resolve_code source s (visible ls loops) b) (sym same) ∙ second) ∙ ap Ok (sym made)
+      choice_is (visible v loops) t e a b x is found ∙ ap (λ y. y >>= λ p. resolve_code source s (visible v loops) b >>= λ q. Ok (choose x p q)) first
+      ∙ ap (λ y. y >>= λ q. Ok (choose x p q)) (ap (λ ls. resolve_code source s (visible ls loops) b) (sym same) ∙ second) ∙ ap Ok (sym made)
 
   pub choice_err_first : (v : List Local) (loops : List Bool) (t : RawStep) (e : RawTree) (a b : RawCode) (x : Tree) → t ≡ choose e a b → resolve_tree source s (visible v loops) e ≡ Ok x
       → (y : KernelFault) → resolve_code source s (visible v loops) a ≡ Err y → resolve_step source s (visible v loops) t ≡ Err y
   choice_err_first v loops t e a b x is found y first =
-      choice_is (visible v loops) t e a b x is found ∙ ap (λ y. y >>= λ p. resolve_code source s (visible v loops) b >>= λ q. Ok (branches x p q)) first
+      choice_is (visible v loops) t e a b x is found ∙ ap (λ y. y >>= λ p. resolve_code source s (visible v loops) b >>= λ q. Ok (choose x p q)) first
 
   pub choice_err_second : (v w : List Local) (loops : List Bool) (t : RawStep) (e : RawTree) (a b : RawCode) (x : Tree) (p : Code) → t ≡ choose e a b → resolve_tree source s (visible v loops) e ≡ Ok x
       → resolve_code source s (visible v loops) a ≡ Ok p → w ≡ v → (y : KernelFault) → resolve_code source s (visible w loops) b ≡ Err y → resolve_step source s (visible v loops) t ≡ Err y
   choice_err_second v w loops t e a b x p is found first same y second =
-      choice_is (visible v loops) t e a b x is found ∙ ap (λ y. y >>= λ p. resolve_code source s (visible v loops) b >>= λ q. Ok (branches x p q)) first
-      ∙ ap (λ y. y >>= λ q. Ok (branches x p q)) (ap (λ ls. resolve_code source s (visible ls loops) b) (sym same) ∙ second)
+      choice_is (visible v loops) t e a b x is found ∙ ap (λ y. y >>= λ p. resolve_code source s (visible v loops) b >>= λ q. Ok (choose x p q)) first
+      ∙ ap (λ y. y >>= λ q. Ok (choose x p q)) (ap (λ ls. resolve_code source s (visible ls loops) b) (sym same) ∙ second)
 
   -- a condition that is refused
   pub choice_refused : (c : Scope) (t : RawStep) (e : RawTree) (a b : RawCode) → t ≡ choose e a b → (x : KernelFault) → resolve_tree source s c e ≡ Err x → resolve_step source s c t ≡ Err x
   choice_refused c t e a b is x err =
-      ap (resolve_step source s c) is ∙ ap (λ r. r >>= λ x. resolve_code source s c a >>= λ p. resolve_code source s c b >>= λ q. Ok (branches x p q)) err
+      ap (resolve_step source s c) is ∙ ap (λ r. r >>= λ x. resolve_code source s c a >>= λ p. resolve_code source s c b >>= λ q. Ok (choose x p q)) err

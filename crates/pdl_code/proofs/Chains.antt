@@ -6,10 +6,10 @@ use Rattle.pdl_lexemes.specs.declared.refusal.Refusal.{Refusal}
 use Rattle.pdl_lexemes.specs.declared.refusal.Refusal.TheVariants.{Refused, NoMemory}
 use Rattle.pdl_code.specs.declared.lexeme.Lexeme.{Lexeme}
 use Rattle.pdl_code.specs.declared.lexeme.Lexeme.TheVariants.{BlockClose, Comma, Semicolon}
-use Rattle.pdl_code.specs.Join.{join_raw, join_raw_code}
-use Rattle.pdl_code.specs.Raw.{RawTree, RawIndices, RawCode, binary, done}
+use Rattle.pdl_code.specs.Join.{join, join_code}
+use Rattle.pdl_code.specs.Tree.{RawTree, RawIndices, RawCode, binary, done}
 use Rattle.pdl_code.specs.CodeReading.{Read, after, Kind, before, before_code, operator_at, chain_at, index_at, indices_at, level_at, limit_of, statement_at, code_at, ends}
-use Rattle.pdl_code.proofs.RawJoins.{join_join, code_join_join, code_join_done}
+use Rattle.pdl_code.proofs.Joins.{join_join, code_join_join, code_join_done}
 
 -- what a loop begins with
 pub begun : {A : Type 0} (g : ℕ → List Lexeme → A) (n m : ℕ) (ts us : List Lexeme) → n ≡ m → ts ≡ us → g (n - 0) ts ≡ g m us
@@ -47,11 +47,11 @@ module _ (inner : List Lexeme → Read RawTree) (b : ℕ) where
   pub chain_fail : (k : ℕ) (t : RawTree) (ts us : List Lexeme) (op : BinaryOp) → operator_at (b + 1) ts ≡ Some (op, us) → inner us ≡ None → chain_at inner (suc b) (suc k) t ts ≡ None
   chain_fail k t ts us op e h = chain_fail_at inner (suc b) k t ts us op (rw add-one at e) h
 
-pub before_before : (a b : RawIndices) (o : Read RawIndices) → before (join_raw a b) o ≡ before a (before b o)
+pub before_before : (a b : RawIndices) (o : Read RawIndices) → before (join a b) o ≡ before a (before b o)
 before_before a b None = refl
 before_before a b (Some y) = ap (λ is. Some (is, y.1)) (join_join a b y.0)
 
-pub before_before_code : (a b : RawCode) (o : Read RawCode) → before_code (join_raw_code a b) o ≡ before_code a (before_code b o)
+pub before_before_code : (a b : RawCode) (o : Read RawCode) → before_code (join_code a b) o ≡ before_code a (before_code b o)
 before_before_code a b None = refl
 before_before_code a b (Some y) = ap (λ c. Some (c, y.1)) (code_join_join a b y.0)
 
@@ -83,13 +83,13 @@ module _ (f : Kind → List Lexeme → Read RawTree) where
   pub found_stop : (k : ℕ) (ts us : List Lexeme) (found all : RawIndices) → before found (index_at f ts) ≡ Some (all, us) → after Comma us ≡ None →
       before found (indices_at f (suc k) ts) ≡ Some (all, us)
   found_stop k ts us found all e h =
-      map_elim (before found (indices_at f (suc k) ts) ≡ Some (all, us)) (λ y. (join_raw found y.0, y.1)) (index_at f ts) e
+      map_elim (before found (indices_at f (suc k) ts) ≡ Some (all, us)) (λ y. (join found y.0, y.1)) (index_at f ts) e
       (λ x read is. ap (before found) (indices_stop k ts x.1 x.0 read (ap (λ (z : RawIndices × List Lexeme). after Comma z.1) is ∙ h)) ∙ ap Some is)
 
   pub found_next : (k : ℕ) (ts us vs : List Lexeme) (found all : RawIndices) → before found (index_at f ts) ≡ Some (all, us) → after Comma us ≡ Some vs →
       before found (indices_at f (suc k) ts) ≡ before all (indices_at f k vs)
   found_next k ts us vs found all e h =
-      map_elim (before found (indices_at f (suc k) ts) ≡ before all (indices_at f k vs)) (λ y. (join_raw found y.0, y.1)) (index_at f ts) e
+      map_elim (before found (indices_at f (suc k) ts) ≡ before all (indices_at f k vs)) (λ y. (join found y.0, y.1)) (index_at f ts) e
       (λ x read is. ap (before found) (indices_next k ts x.1 vs x.0 read (ap (λ (z : RawIndices × List Lexeme). after Comma z.1) is ∙ h))
       ∙ sym (before_before found x.0 (indices_at f k vs)) ∙ ap (λ (z : RawIndices × List Lexeme). before z.0 (indices_at f k vs)) is)
 
@@ -117,7 +117,7 @@ module _ (g : List Lexeme → Read RawCode) where
   pub found_statement : (k : ℕ) (ts us : List Lexeme) (found all : RawCode) → ends ts ≡ None → before_code found (statement_at g ts) ≡ Some (all, us) →
       before_code found (code_at g (suc k) ts) ≡ before_code all (code_at g k us)
   found_statement k ts us found all over e =
-      map_elim (before_code found (code_at g (suc k) ts) ≡ before_code all (code_at g k us)) (λ y. (join_raw_code found y.0, y.1)) (statement_at g ts) e
+      map_elim (before_code found (code_at g (suc k) ts) ≡ before_code all (code_at g k us)) (λ y. (join_code found y.0, y.1)) (statement_at g ts) e
       (λ x read is. ap (before_code found) (code_next k ts x.1 x.0 over read)
       ∙ sym (before_before_code found x.0 (code_at g k x.1)) ∙ ap (λ (z : RawCode × List Lexeme). before_code z.0 (code_at g k z.1)) is)
 

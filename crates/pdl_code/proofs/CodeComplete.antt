@@ -7,9 +7,10 @@ use Rattle.pdl_code.specs.declared.lexeme.WordKind.{WordKind}
 use Rattle.pdl_code.specs.declared.lexeme.WordKind.TheVariants.{Loop, If, Else, OfType, Plain}
 use Rattle.pdl_code.specs.declared.lexeme.Lexeme.{Lexeme}
 use Rattle.pdl_code.specs.declared.lexeme.Lexeme.TheVariants.{Word, Open, Close, BlockOpen, BlockClose, Semicolon, Equals, Assign}
-use Rattle.pdl_code.specs.declared.tree.LocalType.{LocalType}
+use Rattle.pdl_code.specs.declared.names.LocalType.{LocalType}
 use Rattle.pdl_code.specs.Grammar.{Spells, an_expr, an_access, SpellsType, type_word, generic_type, Block, a_step, some_code, an_else, SpellsBlock, a_loop, a_choice, without_else, with_else, a_declaration, a_valued_declaration, a_word_assignment, an_access_assignment, no_code, empty_statement, a_statement, assigned}
-use Rattle.pdl_code.specs.Raw.{RawTree, RawIndices, RawStep, RawCode, number, repeat, choose, declare, set, put, done, next}
+use Rattle.pdl_code.specs.declared.names.Target.TheVariants.{New, Named}
+use Rattle.pdl_code.specs.Tree.{RawTree, RawIndices, RawStep, RawCode, number, repeat, choose, keep, put, done, next, called}
 use Rattle.pdl_code.specs.CodeReading.{access_at, after, after_else, after_if, assignment_at, block_at, choice_at, code_at, code_reader, declared_at, else_at, ended_at, ends, expr_at, initial_at, loop_at, plain_at, put_at, read_code, reader, statement_at, step_at, word_at}
 use Rattle.pdl_code.proofs.Complete.{AccessStart, begins, complete, ends_close, ends_semicolon, read_expression, shorter}
 
@@ -115,7 +116,7 @@ no_if type_word = refl
 no_if generic_type = refl
 
 read_declaration : (n : ℕ) (ty : LocalType) (w : Span) (t : RawTree) (ts us rest : List Lexeme) → SpellsType ty ts (Word Plain w ∷ us) → initial_at us ≡ Some (t, rest)
-    → step_at (code_reader n) ts ≡ Some (declare ty w t, rest)
+    → step_at (code_reader n) ts ≡ Some (keep (New ty w) None t, rest)
 unfolding step_at
 read_declaration n ty w t ts us rest h k = rw (no_loop h) (rw (no_if h) (rw (declared_here w us h refl) (rw k)))
 
@@ -141,7 +142,7 @@ word_declared (OfType ty) w s ts i = rw (i.no_word ts) refl
 word_declared _ w s ts i = refl
 
 read_set : (n : ℕ) (kind : WordKind) (w : Span) (s : Lexeme) (op : Option BinaryOp) (t : RawTree) (ts rest : List Lexeme) → Sign s → assigned s ≡ Some op → ended_at ts ≡ Some (t, rest)
-    → step_at (code_reader n) (Word kind w ∷ s ∷ ts) ≡ Some (set w op t, rest)
+    → step_at (code_reader n) (Word kind w ∷ s ∷ ts) ≡ Some (keep (Named w) op t, rest)
 unfolding step_at assignment_at
 read_set n kind w s op t ts rest i e h =
     rw (word_loop kind w s ts i) (rw (word_if kind w s ts i) (rw (word_declared kind w s ts i) (rw e (rw h))))
@@ -151,12 +152,12 @@ unfolding step_at assignment_at
 assigned_access n ts a b c d = rw a (rw b (rw c (rw d refl)))
 
 put_here : (w : Span) (is : RawIndices) (at : ℕ) (s : Lexeme) (op : Option BinaryOp) (t : RawTree) (ts us rest : List Lexeme) → access_at (reader (suc (length ts))) ts ≡ Some ((w, is, at), s ∷ us)
-    → assigned s ≡ Some op → ended_at us ≡ Some (t, rest) → put_at ts ≡ Some (put w is at op t, rest)
+    → assigned s ≡ Some op → ended_at us ≡ Some (t, rest) → put_at ts ≡ Some (put (called w at) is op t, rest)
 unfolding put_at
 put_here w is at s op t ts us rest h e k = rw h (rw e (rw k))
 
 read_put : (n : ℕ) (w : Span) (is : RawIndices) (at : ℕ) (s : Lexeme) (op : Option BinaryOp) (t : RawTree) (ts us rest : List Lexeme) → Spells (an_access w is at) ts (s ∷ us)
-    → assigned s ≡ Some op → ended_at us ≡ Some (t, rest) → step_at (code_reader n) ts ≡ Some (put w is at op t, rest)
+    → assigned s ≡ Some op → ended_at us ≡ Some (t, rest) → step_at (code_reader n) ts ≡ Some (put (called w at) is op t, rest)
 read_put n w is at s op t ts us rest h e k =
     let a = begins h in
     let i = sign_of s op e in

@@ -6,8 +6,9 @@ use Rattle.pdl_code.specs.declared.lexeme.WordKind.TheVariants.{Plain}
 use Rattle.pdl_code.specs.declared.lexeme.Lexeme.{Lexeme}
 use Rattle.pdl_code.specs.declared.lexeme.Lexeme.TheVariants.{Word, BlockClose, Semicolon, Equals}
 use Rattle.pdl_code.specs.Grammar.{Spells, an_expr, an_access, SpellsType, a_step, some_code, an_else, SpellsBlock, a_loop, a_choice, without_else, with_else, a_declaration, a_valued_declaration, a_word_assignment, an_access_assignment, no_code, empty_statement, a_statement}
-use Rattle.pdl_code.specs.Join.{join_raw_code}
-use Rattle.pdl_code.specs.Raw.{RawTree, RawStep, RawCode, number, repeat, choose, declare, set, put, done, next}
+use Rattle.pdl_code.specs.Join.{join_code}
+use Rattle.pdl_code.specs.declared.names.Target.TheVariants.{New, Named}
+use Rattle.pdl_code.specs.Tree.{RawTree, RawStep, RawCode, number, repeat, choose, keep, put, done, next, called}
 use Rattle.pdl_code.specs.CodeReading.{Read, after, Declared, access_at, after_condition, after_else, after_if, assignment_at, at_end, before_code, block_at, body_at, branches_at, choice_at, code_at, code_reader, declaration_at, declared_at, else_at, ended_at, ends, expr_at, initial_at, loop_at, one_step, put_at, put_sign, read_code, reader, set_sign, sign_at, statement_at, step_at, expression, word_at}
 use Rattle.pdl_code.proofs.Chains.{ends_is}
 use Rattle.pdl_code.proofs.Peeks.{after_is, condition_is, declared_is, else_is, if_is, loop_is, sign_is, word_is}
@@ -35,30 +36,30 @@ ended_sound ts x e =
 
 -- what stands behind a declaration's word
 initial_sound : (d : Declared) (ts : List Lexeme) (x : RawTree × List Lexeme) → initial_at d.rest ≡ Some x → (left : List Lexeme) → SpellsType d.ty ts left → left ≡ Word Plain d.word ∷ d.rest
-    → SpellsBlock (a_step (declare d.ty d.word x.0)) ts x.1
+    → SpellsBlock (a_step (keep (New d.ty d.word) None x.0)) ts x.1
 unfolding initial_at
 initial_sound d ts x e left spelled is =
-    let P = SpellsBlock (a_step (declare d.ty d.word x.0)) ts x.1 in
+    let P = SpellsBlock (a_step (keep (New d.ty d.word) None x.0)) ts x.1 in
     choose_elim P (option_map (λ us. (number (pos 0), us)) (after Semicolon d.rest)) ended_at (after Equals d.rest) e
     (λ h k. map_elim P (λ us. (number (pos 0), us)) (after Semicolon d.rest) k
-    (λ us c at. subst (λ (y : RawTree × List Lexeme). SpellsBlock (a_step (declare d.ty d.word y.0)) ts y.1) at
+    (λ us c at. subst (λ (y : RawTree × List Lexeme). SpellsBlock (a_step (keep (New d.ty d.word) None y.0)) ts y.1) at
     (a_declaration (subst (SpellsType d.ty ts) (is ∙ ap (λ vs. Word Plain d.word ∷ vs) (after_is Semicolon d.rest c)) spelled))))
     (λ us h k. a_valued_declaration (subst (SpellsType d.ty ts) (is ∙ ap (λ vs. Word Plain d.word ∷ vs) (after_is Equals d.rest h)) spelled) (ended_sound us x k))
 
 declaration_sound : (ts : List Lexeme) (d : Declared) (x : RawStep × List Lexeme) → declared_at ts ≡ Some d → declaration_at d ≡ Some x → TakenStep ts x
 declaration_sound ts d x h e =
     let here = declared_is ts d h in
-    map_elim (TakenStep ts x) (λ y. (declare d.ty d.word y.0, y.1)) (initial_at d.rest) e
+    map_elim (TakenStep ts x) (λ y. (keep (New d.ty d.word) None y.0, y.1)) (initial_at d.rest) e
     (λ y k is. subst (TakenStep ts) is (initial_sound d ts y k here.left here.spelled here.is))
 
 set_sound : (ts : List Lexeme) (w : Span × List Lexeme) (x : RawStep × List Lexeme) → word_at ts ≡ Some w → set_sign w ≡ Some x → TakenStep ts x
 set_sound ts w x h e =
     let v = word_is ts w h in
-    then_elim (TakenStep ts x) (λ s. option_map (λ y. (set w.0 s.0 y.0, y.1)) (ended_at s.1)) (sign_at w.1) e
-    (λ s k r. map_elim (TakenStep ts x) (λ y. (set w.0 s.0 y.0, y.1)) (ended_at s.1) r
+    then_elim (TakenStep ts x) (λ s. option_map (λ y. (keep (Named w.0) s.0 y.0, y.1)) (ended_at s.1)) (sign_at w.1) e
+    (λ s k r. map_elim (TakenStep ts x) (λ y. (keep (Named w.0) s.0 y.0, y.1)) (ended_at s.1) r
     (λ y m is. let i = sign_is w.1 s k in
     subst (TakenStep ts) is
-    (subst (λ us. SpellsBlock (a_step (set w.0 s.0 y.0)) us y.1) (sym (v.is ∙ ap (λ us. Word v.kind w.0 ∷ us) i.is))
+    (subst (λ us. SpellsBlock (a_step (keep (Named w.0) s.0 y.0)) us y.1) (sym (v.is ∙ ap (λ us. Word v.kind w.0 ∷ us) i.is))
     (a_word_assignment i.assigns (ended_sound s.1 y m)))))
 
 put_sound : (ts : List Lexeme) (x : RawStep × List Lexeme) → put_at ts ≡ Some x → TakenStep ts x
@@ -66,8 +67,8 @@ unfolding put_at
 put_sound ts x e =
     let n = suc (length ts) in
     then_elim (TakenStep ts x) put_sign (access_at (reader n) ts) e
-    (λ a h k. then_elim (TakenStep ts x) (λ s. option_map (λ y. (put a.0.0 a.0.1 a.0.2 s.0 y.0, y.1)) (ended_at s.1)) (sign_at a.1) k
-    (λ s g r. map_elim (TakenStep ts x) (λ y. (put a.0.0 a.0.1 a.0.2 s.0 y.0, y.1)) (ended_at s.1) r
+    (λ a h k. then_elim (TakenStep ts x) (λ s. option_map (λ y. (put (called a.0.0 a.0.2) a.0.1 s.0 y.0, y.1)) (ended_at s.1)) (sign_at a.1) k
+    (λ s g r. map_elim (TakenStep ts x) (λ y. (put (called a.0.0 a.0.2) a.0.1 s.0 y.0, y.1)) (ended_at s.1) r
     (λ y m is. let i = sign_is a.1 s g in
     subst (TakenStep ts) is
     (an_access_assignment (subst (Spells (an_access a.0.0 a.0.1 a.0.2) ts) i.is (access_sound (reader n) (reader_sound n) ts a h)) i.assigns (ended_sound s.1 y m)))))
@@ -127,15 +128,15 @@ module _ (g : List Lexeme → Read RawCode) (sound : (ts : List Lexeme) (x : Raw
 
   -- a statement before code
   statement_sound : (ts : List Lexeme) (x : RawCode × List Lexeme) (c : RawCode) (rest : List Lexeme) → statement_at g ts ≡ Some x → SpellsBlock (some_code c) x.1 rest
-      → SpellsBlock (some_code (join_raw_code x.0 c)) ts rest
+      → SpellsBlock (some_code (join_code x.0 c)) ts rest
   unfolding statement_at
   statement_sound ts x c rest e h =
-      let P = SpellsBlock (some_code (join_raw_code x.0 c)) ts rest in
+      let P = SpellsBlock (some_code (join_code x.0 c)) ts rest in
       choose_elim P (one_step g ts) (λ us. Some (done, us)) (after Semicolon ts) e
       (λ m k. map_elim P (λ y. (next y.0 done, y.1)) (step_at g ts) k
-      (λ y r is. subst (λ (z : RawCode × List Lexeme). SpellsBlock (some_code c) z.1 rest → SpellsBlock (some_code (join_raw_code z.0 c)) ts rest) is
+      (λ y r is. subst (λ (z : RawCode × List Lexeme). SpellsBlock (some_code c) z.1 rest → SpellsBlock (some_code (join_code z.0 c)) ts rest) is
       (λ more. a_statement (step_sound ts y r) more) h))
-      (λ us m k. subst (λ (z : RawCode × List Lexeme). SpellsBlock (some_code c) z.1 rest → SpellsBlock (some_code (join_raw_code z.0 c)) ts rest) (some_inj k)
+      (λ us m k. subst (λ (z : RawCode × List Lexeme). SpellsBlock (some_code c) z.1 rest → SpellsBlock (some_code (join_code z.0 c)) ts rest) (some_inj k)
       (λ more. subst (λ vs. SpellsBlock (some_code c) vs rest) (sym (after_is Semicolon ts m)) (empty_statement more)) h)
 
   code_sound : (k : ℕ) (ts : List Lexeme) (x : RawCode × List Lexeme) → code_at g k ts ≡ Some x → TakenCode ts x
@@ -144,7 +145,7 @@ module _ (g : List Lexeme → Read RawCode) (sound : (ts : List Lexeme) (x : Raw
   code_sound (suc k) ts x e =
       choose_elim (TakenCode ts x) (option_and_then (λ y. before_code y.0 (code_at g k y.1)) (statement_at g ts)) (λ us. Some (done, us)) (ends ts) e
       (λ m d. then_elim (TakenCode ts x) (λ y. before_code y.0 (code_at g k y.1)) (statement_at g ts) d
-      (λ y h r. map_elim (TakenCode ts x) (λ z. (join_raw_code y.0 z.0, z.1)) (code_at g k y.1) r
+      (λ y h r. map_elim (TakenCode ts x) (λ z. (join_code y.0 z.0, z.1)) (code_at g k y.1) r
       (λ z o is. subst (TakenCode ts) is (statement_sound ts y z.0 z.1 h (code_sound k y.1 z o)))))
       (λ us m d. subst (TakenCode ts) (some_inj d) (subst (SpellsBlock (some_code done) ts) (sym (ends_is ts us m)) no_code))
 

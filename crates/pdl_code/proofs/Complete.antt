@@ -13,7 +13,7 @@ use Rattle.pdl_code.specs.declared.lexeme.NameKind.TheVariants.{Size, Generic}
 use Rattle.pdl_code.specs.declared.lexeme.Lexeme.{Lexeme}
 use Rattle.pdl_code.specs.declared.lexeme.Lexeme.TheVariants.{Name, Word, Number, Open, Close, Semicolon, Comma, FatArrow, Operator, Prefix}
 use Rattle.pdl_code.specs.Grammar.{Part, an_expr, a_primary, an_access, some_indices, Spells, same, joined, once, negated, prefixed, plain, a_number, a_word, a_size, an_element, round, looped_access, given_access, last_index, next_index}
-use Rattle.pdl_code.specs.Raw.{RawTree, RawIndices, number, size, named, access, unary, binary, none, along}
+use Rattle.pdl_code.specs.Tree.{RawTree, RawIndices, number, size, named, access, unary, binary, none, along, called}
 use Rattle.pdl_code.specs.CodeReading.{expression, after, access_at, chain_at, close_at, declared_at, given_at, indices_at, level_at, limit_of, operator_at, plain_at, prefix_at, primary_at, reader, size_at, unary_at}
 use Rattle.pdl_code.proofs.Chains.{chain_stop_at, chain_turn_at}
 use Rattle.pdl_code.proofs.Peeks.{operator_here, operator_other}
@@ -216,12 +216,12 @@ unfolding primary_at
 read_size n v w kind at rest = refl
 
 element_here : (n : ℕ) (kind : NameKind) (name : Span) (left rest : List Lexeme) (w : Span) (is : RawIndices) (at : ℕ) → size_at (Name kind name ∷ left) ≡ None
-    → access_at (reader n) (Name kind name ∷ left) ≡ Some ((w, is, at), rest) → primary_at (reader n) (Name kind name ∷ left) ≡ Some (access w is at, rest)
+    → access_at (reader n) (Name kind name ∷ left) ≡ Some ((w, is, at), rest) → primary_at (reader n) (Name kind name ∷ left) ≡ Some (access (called w at) is, rest)
 unfolding primary_at
 element_here n kind name left rest w is at e h = rw e (rw h)
 
 read_element : (n : ℕ) (w : Span) (is : RawIndices) (at : ℕ) (ts rest : List Lexeme) → AccessStart ts rest → access_at (reader n) ts ≡ Some ((w, is, at), rest)
-    → primary_at (reader n) ts ≡ Some (access w is at, rest)
+    → primary_at (reader n) ts ≡ Some (access (called w at) is, rest)
 read_element n w is at ts rest a h =
     ap (primary_at (reader n)) a.is ∙ element_here n a.kind a.name a.left rest w is at (ap size_at (sym a.is) ∙ a.no_size) (ap (access_at (reader n)) (sym a.is) ∙ h)
 

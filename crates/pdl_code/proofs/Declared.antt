@@ -6,10 +6,10 @@ use Rattle.std.specs.Prelude.{Bool, true, false, ◌||◌, max, Result}
 use Rattle.pdl_sig.specs.declared.Signature.{Signature}
 use Rattle.pdl_code.specs.declared.fault.KernelFault.{KernelFault}
 use Rattle.pdl_code.specs.Declaring.{counted, declared_code, declared_step, raw_after, raw_locals, raw_step_locals}
-use Rattle.pdl_code.specs.declared.raw.RawStmt.{RawStmt}
 use Rattle.pdl_code.specs.declared.scope.Local.{Local}
-use Rattle.pdl_code.specs.RawOf.{raw_code, raw_step}
-use Rattle.pdl_code.specs.Raw.{RawTree, RawStep, RawCode, repeat, choose, declare, set, put, done, next}
+use Rattle.pdl_code.specs.TreeOf.{code_of, step_of, RawStmt}
+use Rattle.pdl_code.specs.declared.names.Target.TheVariants.{New, Named}
+use Rattle.pdl_code.specs.Tree.{RawTree, RawStep, RawCode, repeat, choose, keep, put, done, next}
 use Rattle.pdl_code.specs.Refused.{code_declares, scope_after, step_declares}
 use Rattle.pdl_code.specs.Resolving.{◌>>=◌}
 use Rattle.pdl_code.specs.Scope.{Scope, no_flags}
@@ -23,20 +23,20 @@ both false false n m a b e h = ap (λ r. r >>= λ x. b >>= λ y. Ok (max x y)) e
 
 -- how many are visible after a statement
 pub after_count : (c : Scope) (t : RawStep) → length (scope_after c t).locals ≡ raw_after (length c.locals) t
-after_count c (declare ty w e) = length-append c.locals (record { word = w; ty = ty } ∷ []) ∙ add-one (length c.locals)
+after_count c (keep (New ty w) op e) = length-append c.locals (record { word = w; ty = ty } ∷ []) ∙ add-one (length c.locals)
 after_count c (repeat w body) = refl
 after_count c (choose e whole other) = refl
-after_count c (set w op e) = refl
-after_count c (put w is at op e) = refl
+after_count c (keep (Named w) op e) = refl
+after_count c (put o is op e) = refl
 
 module _ (source : List ℕ) (s : Signature) where
   mutual
     pub step_law : (c : Scope) (t : RawStep) → declared_step source s c t ≡ counted (step_declares source s c t) (raw_step_locals (length c.locals) t)
     step_law c (repeat w body) = code_law c body
     step_law c (choose e whole other) = both (code_declares source s c whole) (code_declares source s c other) _ _ _ _ (code_law c whole) (code_law c other)
-    step_law c (declare ty w e) = refl
-    step_law c (set w op e) = refl
-    step_law c (put w is at op e) = refl
+    step_law c (keep (New ty w) op e) = refl
+    step_law c (keep (Named w) op e) = refl
+    step_law c (put o is op e) = refl
 
     pub code_law : (c : Scope) (t : RawCode) → declared_code source s c t ≡ counted (code_declares source s c t) (raw_locals (length c.locals) t)
     code_law c done = refl
@@ -70,23 +70,23 @@ and_both n a (Err e) = refl
 
 module _ (source : List ℕ) (s : Signature) where
   -- one statement more
-  pub most_turn : (c now : Scope) (xs : List RawStmt) (i : ℕ) (x : RawStmt) (n a m : ℕ) → i < length xs → x ≡ get_or xs i x → now ≡ scope_after c (raw_step x)
-      → declared_step source s c (raw_step x) ≡ Ok a → m ≡ max n a
-      → and_most m (declared_code source s now (raw_code (drop (i + 1) xs))) ≡ and_most n (declared_code source s c (raw_code (drop i xs)))
+  pub most_turn : (c now : Scope) (xs : List RawStmt) (i : ℕ) (x : RawStmt) (n a m : ℕ) → i < length xs → x ≡ get_or xs i x → now ≡ scope_after c (step_of x)
+      → declared_step source s c (step_of x) ≡ Ok a → m ≡ max n a
+      → and_most m (declared_code source s now (code_of (drop (i + 1) xs))) ≡ and_most n (declared_code source s c (code_of (drop i xs)))
   most_turn c now xs i x n a m lt at after step is =
-      let R : Scope → Result ℕ KernelFault = λ z. declared_code source s z (raw_code (drop (i + 1) xs)) in
-      let one : declared_code source s c (raw_code (drop i xs)) ≡ (R (scope_after c (raw_step x)) >>= λ b. Ok (max a b)) =
-      ap (declared_code source s c) (cut xs i x lt at) ∙ ap (λ r. r >>= λ a. R (scope_after c (raw_step x)) >>= λ b. Ok (max a b)) step in
-      ap (λ k. and_most k (R now)) is ∙ ap (λ z. and_most (max n a) (R z)) after ∙ and_both n a (R (scope_after c (raw_step x))) ∙ sym (ap (and_most n) one)
+      let R : Scope → Result ℕ KernelFault = λ z. declared_code source s z (code_of (drop (i + 1) xs)) in
+      let one : declared_code source s c (code_of (drop i xs)) ≡ (R (scope_after c (step_of x)) >>= λ b. Ok (max a b)) =
+      ap (declared_code source s c) (cut xs i x lt at) ∙ ap (λ r. r >>= λ a. R (scope_after c (step_of x)) >>= λ b. Ok (max a b)) step in
+      ap (λ k. and_most k (R now)) is ∙ ap (λ z. and_most (max n a) (R z)) after ∙ and_both n a (R (scope_after c (step_of x))) ∙ sym (ap (and_most n) one)
 
   pub most_fault : (c : Scope) (xs : List RawStmt) (i : ℕ) (x : RawStmt) (n : ℕ) (all : Result ℕ KernelFault) (f : KernelFault) → i < length xs → x ≡ get_or xs i x
-      → and_most n (declared_code source s c (raw_code (drop i xs))) ≡ all → declared_step source s c (raw_step x) ≡ Err f → all ≡ Err f
+      → and_most n (declared_code source s c (code_of (drop i xs))) ≡ all → declared_step source s c (step_of x) ≡ Err f → all ≡ Err f
   most_fault c xs i x n all f lt at e step =
-      sym e ∙ ap (and_most n) (ap (declared_code source s c) (cut xs i x lt at) ∙ ap (λ r. r >>= λ a. declared_code source s (scope_after c (raw_step x)) (raw_code (drop (i + 1) xs)) >>= λ b. Ok (max a b)) step)
+      sym e ∙ ap (and_most n) (ap (declared_code source s c) (cut xs i x lt at) ∙ ap (λ r. r >>= λ a. declared_code source s (scope_after c (step_of x)) (code_of (drop (i + 1) xs)) >>= λ b. Ok (max a b)) step)
 
   pub most_end : (c : Scope) (xs : List RawStmt) (i : ℕ) (n : ℕ) (all : Result ℕ KernelFault) → length xs ≤ i
-      → and_most n (declared_code source s c (raw_code (drop i xs))) ≡ all → all ≡ Ok (max n (length c.locals))
-  most_end c xs i n all le e = sym e ∙ ap (λ ys. and_most n (declared_code source s c (raw_code ys))) (drop_all i xs le)
+      → and_most n (declared_code source s c (code_of (drop i xs))) ≡ all → all ≡ Ok (max n (length c.locals))
+  most_end c xs i n all le e = sym e ∙ ap (λ ys. and_most n (declared_code source s c (code_of ys))) (drop_all i xs le)
 
   pub branches_ok : (v w : List Local) (t : RawStep) (e : RawTree) (a b : RawCode) (p q r : ℕ) → t ≡ choose e a b
       → declared_code source s (visible v no_flags) a ≡ Ok p → w ≡ v → declared_code source s (visible w no_flags) b ≡ Ok q → r ≡ max p q

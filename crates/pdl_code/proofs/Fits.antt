@@ -21,8 +21,9 @@ use Rattle.pdl_code.specs.declared.lexeme.Span.{Span}
 use Rattle.pdl_code.specs.declared.scope.Meant.{Meant}
 use Rattle.pdl_code.specs.declared.scope.Meant.TheVariants.{InSlot, Dim, Unknown}
 use Rattle.pdl_code.specs.Fit.{argument_of, nobody, places_of, IsAccessFit, IsTreeFit, AreIndicesFit, IsLeft, IsStepFit, IsCodeFit, locals_after, step_locals, code_locals}
-use Rattle.pdl_code.specs.Tree.{Tree, Indices, index, along as cons, size as size_tree}
-use Rattle.pdl_code.specs.Raw.{RawTree, RawIndices, RawStep, RawCode, number, size, named, access, unary, binary, none, along, repeat, choose, declare, set, put, done, next}
+use Rattle.pdl_code.specs.declared.names.Target.TheVariants.{New, Named}
+use Rattle.pdl_code.specs.declared.names.Variable.TheVariants.{Index}
+use Rattle.pdl_code.specs.Tree.{Tree, Indices, named, along, size, RawTree, RawIndices, RawStep, RawCode, number, access, unary, binary, none, repeat, choose, keep, put, done, next}
 use Rattle.pdl_code.specs.Refused.{argument_at, axis_wrong, behind_name, code_code, code_wrongs, index_code, index_wrongs, is_input, loop_wrong, looped, mark, meant_tree, named_argument, named_dim, no_dim, or_zero, primary_wrong, scope_after, slot_of, step_code, step_wrongs, target_wrong, tree_code, tree_wrongs, when}
 use Rattle.pdl_code.specs.Scope.{Scope, axis_of, bytes_of, dim_place, meant, no_flags, or_local, place_by, slot_in, within}
 use Rattle.pdl_code.specs.Declaring.{raw_after, raw_locals, raw_step_locals}
@@ -105,7 +106,7 @@ one_marked (d ∷ ds) j k given le lt within clear =
     (λ other. one_marked ds (j + 1) k given (omega (arith, le, other)) (omega (arith, lt)) within clear)
 
 looped_step : (ds : List ℕ) (d k : ℕ) (given : List Bool) (b : Bool) → length (places_of (looped ds (k + 1) given)) ≡ unmarked ds (k + 1) given
-    → length (places_of (if b then looped ds (k + 1) given else cons k (index d) (looped ds (k + 1) given))) ≡ (if b then unmarked ds (k + 1) given else suc (unmarked ds (k + 1) given))
+    → length (places_of (if b then looped ds (k + 1) given else along k (named (Index d)) (looped ds (k + 1) given))) ≡ (if b then unmarked ds (k + 1) given else suc (unmarked ds (k + 1) given))
 looped_step ds d k given true rest = rest
 looped_step ds d k given false rest = ap (λ n. suc n) rest
 
@@ -116,12 +117,12 @@ looped_count (d ∷ ds) k given = looped_step ds d k given (get_or given k false
 looped_same : (ds : List ℕ) (j k : ℕ) (given : List Bool) → k < j → looped ds j (slice_set given k true) ≡ looped ds j given
 looped_same [] j k given lt = refl
 looped_same (d ∷ ds) j k given lt =
-    ap (λ b. if b then looped ds (j + 1) (slice_set given k true) else cons j (index d) (looped ds (j + 1) (slice_set given k true)))
+    ap (λ b. if b then looped ds (j + 1) (slice_set given k true) else along j (named (Index d)) (looped ds (j + 1) (slice_set given k true)))
     (get_or-set_other given k j true false (λ e. omega (arith, e, lt)))
-    ∙ ap (λ is. if get_or given j false then is else cons j (index d) is) (looped_same ds (j + 1) k given (omega (arith, lt)))
+    ∙ ap (λ is. if get_or given j false then is else along j (named (Index d)) is) (looped_same ds (j + 1) k given (omega (arith, lt)))
 
 left_step : (n j d : ℕ) (ds : List ℕ) (given : List Bool) (b : Bool) → j < n → get_or given j false ≡ b → (b ≡ true → IsLeft n given (looped ds (j + 1) given))
-    → (b ≡ false → IsLeft n (slice_set given j true) (looped ds (j + 1) given)) → IsLeft n given (if b then looped ds (j + 1) given else cons j (index d) (looped ds (j + 1) given))
+    → (b ≡ false → IsLeft n (slice_set given j true) (looped ds (j + 1) given)) → IsLeft n given (if b then looped ds (j + 1) given else along j (named (Index d)) (looped ds (j + 1) given))
 left_step n j d ds given true lt at whole other = whole refl
 left_step n j d ds given false lt at whole other = (lt, at, other refl)
 
@@ -217,7 +218,7 @@ module _ (source : List ℕ) (s : Signature) (wf : IsWellFormed s) where
   slot_below : (c : Scope) (w : Span) (k : ℕ) → meant source s c.locals w ≡ InSlot k → k < length c.locals
   slot_below c w k e = place_below _ c.locals k (meant_slot (slot_in source c.locals (bytes_of source w)) (dim_place s (bytes_of source w)) k e)
 
-  size_fits : (n : ℕ) (w : Span) (p : Option ℕ) → named_dim source s w ≡ p → no_dim w p ≡ [] → IsTreeFit s n (size_tree (or_zero p))
+  size_fits : (n : ℕ) (w : Span) (p : Option ℕ) → named_dim source s w ≡ p → no_dim w p ≡ [] → IsTreeFit s n (size (or_zero p))
   size_fits n w None at e = cc
   size_fits n w (Some d) at e = place_below _ s.names d at
 
@@ -231,7 +232,7 @@ module _ (source : List ℕ) (s : Signature) (wf : IsWellFormed s) where
 
   -- the indices of loops
   looped_step_fits : (n rank d k : ℕ) (ds : List ℕ) (given : List Bool) (b : Bool) → k < rank → d < length s.names → AreIndicesFit s n rank (looped ds (k + 1) given)
-      → AreIndicesFit s n rank (if b then looped ds (k + 1) given else cons k (index d) (looped ds (k + 1) given))
+      → AreIndicesFit s n rank (if b then looped ds (k + 1) given else along k (named (Index d)) (looped ds (k + 1) given))
   looped_step_fits n rank d k ds given true lt below rest = rest
   looped_step_fits n rank d k ds given false lt below rest = (lt, below, rest)
 
@@ -249,7 +250,7 @@ module _ (source : List ℕ) (s : Signature) (wf : IsWellFormed s) where
 
   along_fits : (n : ℕ) (ds : List ℕ) (given : List Bool) (w : Span) (e : Tree) (f : List Bool → Indices) (ws : List KernelFault) (rs : List Bool → List KernelFault) (p : Option ℕ)
       → axis_of s ds (bytes_of source w) ≡ p → axis_wrong w given p ++ (ws ++ rs (mark given p)) ≡ [] → length given ≡ 8 → length ds ≤ 8
-      → (ws ≡ [] → IsTreeFit s n e) → ((g : List Bool) → rs g ≡ [] → length g ≡ 8 → Fits n ds g (f g)) → Fits n ds given (cons (or_zero p) e (f (mark given p)))
+      → (ws ≡ [] → IsTreeFit s n e) → ((g : List Bool) → rs g ≡ [] → length g ≡ 8 → Fits n ds g (f g)) → Fits n ds given (along (or_zero p) e (f (mark given p)))
   along_fits n ds given w e f ws rs None at wrongs eight few tree rest = cc
   along_fits n ds given w e f ws rs (Some k) at wrongs eight few tree rest =
       let below = axis_below ds (bytes_of source w) k at in
@@ -289,9 +290,9 @@ module _ (source : List ℕ) (s : Signature) (wf : IsWellFormed s) where
     tree_fits c (number z) e = tt
     tree_fits c (size w) e = size_fits (length c.locals) w (named_dim source s w) refl e
     tree_fits c (named w) e = word_fits c w (meant source s c.locals w) refl e
-    tree_fits c (access w is at) e =
-        access_fits (length c.locals) w (λ ds. index_code source s c ds no_flags is) (λ ds. index_wrongs source s c ds no_flags at is) (named_argument source s w) refl e
-        (λ ds h few all. index_fits c ds no_flags at is h refl few all)
+    tree_fits c (access o is) e =
+        access_fits (length c.locals) o.name (λ ds. index_code source s c ds no_flags is) (λ ds. index_wrongs source s c ds no_flags o.close is) (named_argument source s o.name) refl e
+        (λ ds h few all. index_fits c ds no_flags o.close is h refl few all)
     tree_fits c (unary op x) e = tree_fits c x e
     tree_fits c (binary op x y) e =
         (tree_fits c x (first_none (tree_wrongs source s c x) (tree_wrongs source s c y) e), tree_fits c y (second_none (tree_wrongs source s c x) (tree_wrongs source s c y) e))
@@ -332,11 +333,11 @@ module _ (source : List ℕ) (s : Signature) (wf : IsWellFormed s) where
   locals_is : (c : Scope) (t : RawStep) → step_wrongs source s c t ≡ [] → locals_after (length c.locals) (step_code source s c t) ≡ raw_after (length c.locals) t
   locals_is c (repeat w body) e = refl
   locals_is c (choose x whole other) e = refl
-  locals_is c (declare ty w x) e = one_more (length c.locals)
-  locals_is c (set w op x) e =
+  locals_is c (keep (New ty w) op x) e = one_more (length c.locals)
+  locals_is c (keep (Named w) op x) e =
       let m = meant source s c.locals w in
       kept (length c.locals) (slot_of m) (target_fits c w m refl (first_none (target_wrong w m) (tree_wrongs source s c x) e))
-  locals_is c (put w is at op x) e = refl
+  locals_is c (put o is op x) e = refl
 
   mutual
     pub step_fits : (c : Scope) (t : RawStep) → step_wrongs source s c t ≡ [] → IsStepFit s (length c.locals) (step_code source s c t)
@@ -350,18 +351,18 @@ module _ (source : List ℕ) (s : Signature) (wf : IsWellFormed s) where
         let q = code_wrongs source s c other in
         let both = second_none a (p ++ q) e in
         (tree_fits c x (first_none a (p ++ q) e), code_fits c whole (first_none p q both), code_fits c other (second_none p q both))
-    step_fits c (declare ty w x) e = (omega arith, tree_fits c x e)
-    step_fits c (set w op x) e =
+    step_fits c (keep (New ty w) op x) e = (omega arith, tree_fits c x e)
+    step_fits c (keep (Named w) op x) e =
         let m = meant source s c.locals w in
         let below = target_fits c w m refl (first_none (target_wrong w m) (tree_wrongs source s c x) e) in
         (omega (arith, below), tree_fits c x (second_none (target_wrong w m) (tree_wrongs source s c x) e))
-    step_fits c (put w is at op x) e =
-        let p = named_argument source s w in
-        let name = behind_name w p (when (is_input (argument_at s p).role) (WriteToInput w.from) ++ index_wrongs source s c (argument_at s p).dims no_flags at is) in
-        let role = put_role w (λ q. index_wrongs source s c (argument_at s q).dims no_flags at is) p (first_none name (tree_wrongs source s c x) e) in (
+    step_fits c (put o is op x) e =
+        let p = named_argument source s o.name in
+        let name = behind_name o.name p (when (is_input (argument_at s p).role) (WriteToInput o.name.from) ++ index_wrongs source s c (argument_at s p).dims no_flags o.close is) in
+        let role = put_role o.name (λ q. index_wrongs source s c (argument_at s q).dims no_flags o.close is) p (first_none name (tree_wrongs source s c x) e) in (
           role.0,
-          access_fits (length c.locals) w (λ ds. index_code source s c ds no_flags is) (λ ds. index_wrongs source s c ds no_flags at is) p refl role.1
-              (λ ds h few all. index_fits c ds no_flags at is h refl few all),
+          access_fits (length c.locals) o.name (λ ds. index_code source s c ds no_flags is) (λ ds. index_wrongs source s c ds no_flags o.close is) p refl role.1
+              (λ ds h few all. index_fits c ds no_flags o.close is h refl few all),
           tree_fits c x (second_none name (tree_wrongs source s c x) e),
         )
 
@@ -386,9 +387,9 @@ module _ (source : List ℕ) (s : Signature) (wf : IsWellFormed s) where
         let both = second_none a (p ++ q) e in
         let n = length c.locals in
         ap (λ m. max m (raw_locals n other)) (code_count c whole (first_none p q both)) ∙ ap (max (code_locals n (code_code source s c whole))) (code_count c other (second_none p q both))
-    step_count c (declare ty w x) e = sym (one_more (length c.locals))
-    step_count c (set w op x) e = sym (locals_is c (set w op x) e)
-    step_count c (put w is at op x) e = refl
+    step_count c (keep (New ty w) op x) e = sym (one_more (length c.locals))
+    step_count c (keep (Named w) op x) e = sym (locals_is c (keep (Named w) op x) e)
+    step_count c (put o is op x) e = refl
 
     pub code_count : (c : Scope) (t : RawCode) → code_wrongs source s c t ≡ [] → raw_locals (length c.locals) t ≡ code_locals (length c.locals) (code_code source s c t)
     code_count c done e = refl

@@ -1,8 +1,6 @@
 pub mod Walking
 pub mod Joins
 pub mod Rows
-pub mod RawRows
-pub mod RawJoins
 pub mod Turns
 pub mod Refusing
 pub mod Blocks

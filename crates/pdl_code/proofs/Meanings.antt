@@ -12,12 +12,11 @@ use Rattle.pdl_code.specs.Depth.{is_too_deep}
 use Rattle.pdl_code.specs.Fit.{IsFit, code_locals}
 use Rattle.pdl_code.specs.Lexing.{Lexed, lexed, lexed_from, lexed_then, lexeme_at}
 use Rattle.pdl_code.specs.Meaning.{IsFault, code_in, judged, meant_by, spelled_by}
-use Rattle.pdl_code.specs.Raw.{RawCode}
+use Rattle.pdl_code.specs.Tree.{RawCode, Code}
 use Rattle.pdl_code.specs.CodeReading.{read_code}
 use Rattle.pdl_code.specs.Refused.{answer, code_code, code_declares, code_wrongs}
 use Rattle.pdl_code.specs.Resolving.{Agrees, or_bad}
 use Rattle.pdl_code.specs.Scope.{top}
-use Rattle.pdl_code.specs.Tree.{Code}
 use Rattle.pdl_code.proofs.Fits.{code_count, code_fits}
 
 -- a text has no more tokens than bytes

@@ -14,8 +14,8 @@ use Rattle.pdl_code.specs.declared.lexeme.NameKind.{NameKind}
 use Rattle.pdl_code.specs.declared.lexeme.NameKind.TheVariants.{Size, Generic}
 use Rattle.pdl_code.specs.declared.lexeme.Lexeme.{Lexeme}
 use Rattle.pdl_code.specs.declared.lexeme.Lexeme.TheVariants.{Name, Word, Open, Close, BlockOpen, FatArrow, Operator}
-use Rattle.pdl_code.specs.declared.tree.LocalType.{LocalType}
-use Rattle.pdl_code.specs.declared.tree.LocalType.TheVariants.{Generic as OfGeneric}
+use Rattle.pdl_code.specs.declared.names.LocalType.{LocalType}
+use Rattle.pdl_code.specs.declared.names.LocalType.TheVariants.{Generic as OfGeneric}
 use Rattle.pdl_code.specs.Grammar.{SpellsType, type_word, generic_type, assigned}
 use Rattle.pdl_code.specs.CodeReading.{Read, after, after_word, after_name, Declared, after_close, close_at, word_at, plain_at, name_at, type_word_at, generic_at, type_at, operator_at, sign_at, closed_word, bracketed_word, size_at, index_word, access_name, declared_word, declared_at, loop_word, loop_at, after_if, after_else, after_condition}
 

@@ -5,8 +5,8 @@ use Rattle.pdl_sig.specs.declared.Signature.{Signature}
 use Rattle.pdl_code.specs.declared.fault.KernelFault.{KernelFault}
 use Rattle.pdl_code.specs.declared.fault.KernelFault.TheVariants.{WriteToInput}
 use Rattle.pdl_code.specs.declared.lexeme.Span.{Span}
-use Rattle.pdl_code.specs.Tree.{access as access_tree, unary as unary_tree, binary as binary_tree, along as cons, repeat as loop, choose as branches, keep, put as store, next as then_step}
-use Rattle.pdl_code.specs.Raw.{RawTree, RawIndices, RawStep, RawCode, number, size, named, access, unary, binary, none, along, repeat, choose, declare, set, put, done, next}
+use Rattle.pdl_code.specs.declared.names.Target.TheVariants.{New, Named}
+use Rattle.pdl_code.specs.Tree.{access, unary, binary, along, repeat, choose, keep, put, next, RawTree, RawIndices, RawStep, RawCode, number, size, named, none, done}
 use Rattle.pdl_code.specs.Scope.{Scope, axis_of, bytes_of, meant, no_flags, within}
 use Rattle.pdl_code.specs.Refused.{answer, argument_at, axis_wrong, behind_name, code_code, code_wrongs, index_code, index_wrongs, type_at, is_input, loop_wrong, mark, named_argument, named_dim, or_zero, scope_after, slot_of, step_code, step_wrongs, target_wrong, tree_code, tree_wrongs, when}
 use Rattle.pdl_code.specs.Resolving.{◌>>=◌, known, checked, resolve_tree, resolve_indices, resolve_step, resolve_code}
@@ -35,12 +35,12 @@ module _ (source : List ℕ) (s : Signature) where
     tree_law c (number z) = refl
     tree_law c (size w) = refl
     tree_law c (named w) = refl
-    tree_law c (access w is at) =
-        let a = named_argument source s w in
+    tree_law c (access o is) =
+        let a = named_argument source s o.name in
         let ds = (argument_at s a).dims in
-        behind w a _ _ _ (made (index_wrongs source s c ds no_flags at is) _ (access_tree (or_zero a)) _ (index_law c ds no_flags at is))
-    tree_law c (unary op e) = made (tree_wrongs source s c e) (tree_code source s c e) (unary_tree op) _ (tree_law c e)
-    tree_law c (binary op x y) = before (tree_wrongs source s c x) (tree_wrongs source s c y) (tree_code source s c x) _ _ _ (tree_law c x) (made (tree_wrongs source s c y) (tree_code source s c y) (binary_tree op (tree_code source s c x)) _ (tree_law c y))
+        behind o.name a _ _ _ (made (index_wrongs source s c ds no_flags o.close is) _ (access (or_zero a)) _ (index_law c ds no_flags o.close is))
+    tree_law c (unary op e) = made (tree_wrongs source s c e) (tree_code source s c e) (unary op) _ (tree_law c e)
+    tree_law c (binary op x y) = before (tree_wrongs source s c x) (tree_wrongs source s c y) (tree_code source s c x) _ _ _ (tree_law c x) (made (tree_wrongs source s c y) (tree_code source s c y) (binary op (tree_code source s c x)) _ (tree_law c y))
 
     pub index_law : (c : Scope) (ds : List ℕ) (given : List Bool) (at : ℕ) (is : RawIndices) → resolve_indices source s c ds given at is ≡ answer (index_wrongs source s c ds given at is) (index_code source s c ds given is)
     index_law c ds given at none = refl
@@ -48,29 +48,29 @@ module _ (source : List ℕ) (s : Signature) where
         let k = axis_of s ds (bytes_of source w) in
         before (axis_wrong w given k) _ (or_zero k) _ _ _ refl
         (before (tree_wrongs source s c e) _ (tree_code source s c e) _ _ _ (tree_law c e)
-        (made (index_wrongs source s c ds (mark given k) at rest) _ (cons (or_zero k) (tree_code source s c e)) _ (index_law c ds (mark given k) at rest)))
+        (made (index_wrongs source s c ds (mark given k) at rest) _ (along (or_zero k) (tree_code source s c e)) _ (index_law c ds (mark given k) at rest)))
 
   mutual
     pub step_law : (c : Scope) (t : RawStep) → resolve_step source s c t ≡ answer (step_wrongs source s c t) (step_code source s c t)
     step_law c (repeat w body) =
         let d = named_dim source s w in
-        before (loop_wrong c.loops w d) _ (or_zero d) _ _ _ refl (made (code_wrongs source s (within c (or_zero d)) body) _ (loop (or_zero d)) _ (code_law (within c (or_zero d)) body))
+        before (loop_wrong c.loops w d) _ (or_zero d) _ _ _ refl (made (code_wrongs source s (within c (or_zero d)) body) _ (repeat (or_zero d)) _ (code_law (within c (or_zero d)) body))
     step_law c (choose e whole other) =
         before (tree_wrongs source s c e) _ (tree_code source s c e) _ _ _ (tree_law c e)
-        (before (code_wrongs source s c whole) _ (code_code source s c whole) _ _ _ (code_law c whole) (made (code_wrongs source s c other) _ (branches (tree_code source s c e) (code_code source s c whole)) _ (code_law c other)))
-    step_law c (declare ty w e) = made (tree_wrongs source s c e) _ (keep (length c.locals) ty None) _ (tree_law c e)
-    step_law c (set w op e) =
+        (before (code_wrongs source s c whole) _ (code_code source s c whole) _ _ _ (code_law c whole) (made (code_wrongs source s c other) _ (choose (tree_code source s c e) (code_code source s c whole)) _ (code_law c other)))
+    step_law c (keep (New ty w) op e) = made (tree_wrongs source s c e) _ (keep (record { slot = length c.locals; ty = ty }) op) _ (tree_law c e)
+    step_law c (keep (Named w) op e) =
         let k = slot_of (meant source s c.locals w) in
-        before (target_wrong w (meant source s c.locals w)) _ k _ _ _ refl (made (tree_wrongs source s c e) _ (keep k (type_at c.locals k) op) _ (tree_law c e))
-    step_law c (put w is at op e) =
-        let a = named_argument source s w in
+        before (target_wrong w (meant source s c.locals w)) _ k _ _ _ refl (made (tree_wrongs source s c e) _ (keep (record { slot = k; ty = type_at c.locals k }) op) _ (tree_law c e))
+    step_law c (put o is op e) =
+        let a = named_argument source s o.name in
         let ds = (argument_at s a).dims in
-        let input = when (is_input (argument_at s a).role) (WriteToInput w.from) in
-        before (behind_name w a (input ++ index_wrongs source s c ds no_flags at is)) _ (index_code source s c ds no_flags is) _ _ _
-        (behind w a _ _ _ (check input _ _ _ (index_law c ds no_flags at is)))
-        (made (tree_wrongs source s c e) _ (store (or_zero a) (index_code source s c ds no_flags is) op) _ (tree_law c e))
+        let input = when (is_input (argument_at s a).role) (WriteToInput o.name.from) in
+        before (behind_name o.name a (input ++ index_wrongs source s c ds no_flags o.close is)) _ (index_code source s c ds no_flags is) _ _ _
+        (behind o.name a _ _ _ (check input _ _ _ (index_law c ds no_flags o.close is)))
+        (made (tree_wrongs source s c e) _ (put (or_zero a) (index_code source s c ds no_flags is) op) _ (tree_law c e))
 
     pub code_law : (c : Scope) (t : RawCode) → resolve_code source s c t ≡ answer (code_wrongs source s c t) (code_code source s c t)
     code_law c done = refl
     code_law c (next t rest) =
-        before (step_wrongs source s c t) _ (step_code source s c t) _ _ _ (step_law c t) (made (code_wrongs source s (scope_after c t) rest) _ (then_step (step_code source s c t)) _ (code_law (scope_after c t) rest))
+        before (step_wrongs source s c t) _ (step_code source s c t) _ _ _ (step_law c t) (made (code_wrongs source s (scope_after c t) rest) _ (next (step_code source s c t)) _ (code_law (scope_after c t) rest))

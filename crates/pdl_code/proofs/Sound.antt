@@ -12,8 +12,8 @@ use Rattle.pdl_code.specs.declared.lexeme.NameKind.{NameKind}
 use Rattle.pdl_code.specs.declared.lexeme.Lexeme.{Lexeme}
 use Rattle.pdl_code.specs.declared.lexeme.Lexeme.TheVariants.{Name, Word, Number, Open, Comma, FatArrow, Operator, Prefix}
 use Rattle.pdl_code.specs.Grammar.{Part, an_expr, a_primary, an_access, some_indices, Spells, same, joined, once, negated, prefixed, plain, a_number, a_word, a_size, an_element, round, looped_access, given_access, last_index, next_index}
-use Rattle.pdl_code.specs.Join.{join_raw}
-use Rattle.pdl_code.specs.Raw.{RawTree, RawIndices, size, access, unary, binary, none, along}
+use Rattle.pdl_code.specs.Join.{join}
+use Rattle.pdl_code.specs.Tree.{RawTree, RawIndices, size, access, unary, binary, none, along, called}
 use Rattle.pdl_code.specs.CodeReading.{Read, after, Kind, expression, operand, access_at, access_name, after_close, before, chain_at, close_at, closed_at, element_at, given_at, index_at, index_word, indices_at, level_at, limit_of, name_first, number_before, operator_at, prefix_at, primary_at, reader, round_at, size_at, unary_at}
 use Rattle.pdl_code.proofs.Peeks.{access_is, close_is, closed_is, after_is, index_is, operator_is, size_is}
 
@@ -50,9 +50,9 @@ last_sound ts y i =
     subst (λ is. Spells (some_indices is) ts y.1) (sym i.indices)
     (subst (λ us. Spells (some_indices (along i.word i.tree none)) us y.1) (sym i.is) (last_index i.spelled))
 
-next_sound : (ts us : List Lexeme) (y z : RawIndices × List Lexeme) → IndexRead ts y → y.1 ≡ Comma ∷ us → TakenIndices us z → Spells (some_indices (join_raw y.0 z.0)) ts z.1
+next_sound : (ts us : List Lexeme) (y z : RawIndices × List Lexeme) → IndexRead ts y → y.1 ≡ Comma ∷ us → TakenIndices us z → Spells (some_indices (join y.0 z.0)) ts z.1
 next_sound ts us y z i c h =
-    subst (λ is. Spells (some_indices (join_raw is z.0)) ts z.1) (sym i.indices)
+    subst (λ is. Spells (some_indices (join is z.0)) ts z.1) (sym i.indices)
     (subst (λ vs. Spells (some_indices (along i.word i.tree z.0)) vs z.1) (sym i.is) (next_index (subst (Spells (an_expr 7 i.tree) i.left) c i.spelled) h))
 
 module _ (f : Kind → List Lexeme → Read RawTree)
@@ -73,7 +73,7 @@ module _ (f : Kind → List Lexeme → Read RawTree)
       (λ y h d. let i = index_sound ts y h in
       choose_elim (TakenIndices ts x) (Some y) (λ us. before y.0 (indices_at f k us)) (after Comma y.1) d
       (λ c is. subst (TakenIndices ts) (some_inj is) (last_sound ts y i))
-      (λ us c r. map_elim (TakenIndices ts x) (λ z. (join_raw y.0 z.0, z.1)) (indices_at f k us) r
+      (λ us c r. map_elim (TakenIndices ts x) (λ z. (join y.0 z.0, z.1)) (indices_at f k us) r
       (λ z m is. subst (TakenIndices ts) is (next_sound ts us y z i (after_is Comma y.1 c) (indices_sound k us z m)))))
 
   given_sound : (kind : NameKind) (w : Span) (ts : List Lexeme) (x : (RawIndices × ℕ) × List Lexeme) → given_at f ts ≡ Some x → TakenGiven kind w ts x
@@ -105,7 +105,7 @@ module _ (f : Kind → List Lexeme → Read RawTree)
   name_sound : (ts : List Lexeme) (x : RawTree × List Lexeme) → name_first f ts ≡ Some x → Taken a_primary ts x
   name_sound ts x e =
       choose_elim (Taken a_primary ts x) (element_at f ts) (λ y. Some (size y.0, y.1)) (size_at ts) e
-      (λ h k. map_elim (Taken a_primary ts x) (λ y. (access y.0.0 y.0.1 y.0.2, y.1)) (access_at f ts) k
+      (λ h k. map_elim (Taken a_primary ts x) (λ y. (access (called y.0.0 y.0.2) y.0.1, y.1)) (access_at f ts) k
       (λ y m is. subst (Taken a_primary ts) is (an_element (access_sound ts y m))))
       (λ y h k. let n = size_is ts y h in
       subst (Taken a_primary ts) (some_inj k) (subst (λ us. Spells (a_primary (size y.0)) us y.1) (sym n.is) a_size))

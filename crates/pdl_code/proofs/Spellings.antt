@@ -12,12 +12,12 @@ use Rattle.pdl_code.specs.Depth.{is_too_deep}
 use Rattle.pdl_code.specs.Grammar.{SpellsBlock, some_code}
 use Rattle.pdl_code.specs.Lexing.{Lexed, lexed}
 use Rattle.pdl_code.specs.Meaning.{code_in, meant_by, spelled_by}
-use Rattle.pdl_code.specs.Raw.{RawTree, RawIndices, RawStep, RawCode, number, size, named, access, unary, binary, none, along, repeat, choose, declare, set, put, done, next}
+use Rattle.pdl_code.specs.declared.names.Target.TheVariants.{New, Named}
+use Rattle.pdl_code.specs.Tree.{RawTree, RawIndices, RawStep, RawCode, number, size, named, access, unary, binary, none, along, repeat, choose, keep, put, done, next, Code}
 use Rattle.pdl_code.specs.CodeReading.{read_code}
 use Rattle.pdl_code.specs.Refused.{answer, argument_at, axis_wrong, behind_name, code_code, code_declares, code_wrongs, index_wrongs, is_input, lacks, loop_wrong, mark, named_argument, named_dim, no_dim, or_zero, primary_wrong, scope_after, step_wrongs, target_wrong, tree_wrongs, when}
 use Rattle.pdl_code.specs.Scope.{Scope, axis_of, bytes_of, meant, no_flags, top, within}
 use Rattle.pdl_code.specs.Spelled.{Codes, IsBad, Means, Refuses, Spelled, Stands}
-use Rattle.pdl_code.specs.Tree.{Code}
 use Rattle.pdl_code.proofs.CodeComplete.{all_read}
 use Rattle.pdl_code.proofs.CodeSound.{all_sound}
 use Rattle.pdl_code.proofs.Meanings.{meant_in, too_deep}
@@ -73,9 +73,9 @@ module _ (source : List ℕ) (s : Signature) where
     of_tree c (number z) = tt
     of_tree c (size w) = of_dim w (named_dim source s w)
     of_tree c (named w) = of_primary c.loops w (meant source s c.locals w)
-    of_tree c (access w is at) =
-        let a = named_argument source s w in
-        of_behind w a _ (of_indices c (argument_at s a).dims no_flags at is)
+    of_tree c (access o is) =
+        let a = named_argument source s o.name in
+        of_behind o.name a _ (of_indices c (argument_at s a).dims no_flags o.close is)
     of_tree c (unary op e) = of_tree c e
     of_tree c (binary op x y) = of_both (tree_wrongs source s c x) (tree_wrongs source s c y) (of_tree c x) (of_tree c y)
 
@@ -92,14 +92,14 @@ module _ (source : List ℕ) (s : Signature) where
         of_both (loop_wrong c.loops w d) _ (of_loop c.loops w d) (of_code (within c (or_zero d)) body)
     of_step c (choose e whole other) =
         of_both (tree_wrongs source s c e) _ (of_tree c e) (of_both (code_wrongs source s c whole) _ (of_code c whole) (of_code c other))
-    of_step c (declare ty w e) = of_tree c e
-    of_step c (set w op e) = of_both (target_wrong w (meant source s c.locals w)) _ (of_target w (meant source s c.locals w)) (of_tree c e)
-    of_step c (put w is at op e) =
-        let a = named_argument source s w in
-        let input = when (is_input (argument_at s a).role) (WriteToInput w.from) in
-        let given = index_wrongs source s c (argument_at s a).dims no_flags at is in
-        of_both (behind_name w a (input ++ given)) _
-        (of_behind w a (input ++ given) (of_both input given (of_when (is_input (argument_at s a).role) (WriteToInput w.from) tt) (of_indices c (argument_at s a).dims no_flags at is)))
+    of_step c (keep (New ty w) op e) = of_tree c e
+    of_step c (keep (Named w) op e) = of_both (target_wrong w (meant source s c.locals w)) _ (of_target w (meant source s c.locals w)) (of_tree c e)
+    of_step c (put o is op e) =
+        let a = named_argument source s o.name in
+        let input = when (is_input (argument_at s a).role) (WriteToInput o.name.from) in
+        let given = index_wrongs source s c (argument_at s a).dims no_flags o.close is in
+        of_both (behind_name o.name a (input ++ given)) _
+        (of_behind o.name a (input ++ given) (of_both input given (of_when (is_input (argument_at s a).role) (WriteToInput o.name.from) tt) (of_indices c (argument_at s a).dims no_flags o.close is)))
         (of_tree c e)
 
     of_code : (c : Scope) (t : RawCode) → OfNames (code_wrongs source s c t)

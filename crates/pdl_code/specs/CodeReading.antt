@@ -18,11 +18,12 @@ use Rattle.pdl_code.specs.declared.lexeme.WordKind.TheVariants.{Loop, If, Else, 
 use Rattle.pdl_code.specs.declared.lexeme.NameKind.TheVariants.{Size, Generic}
 use Rattle.pdl_code.specs.declared.lexeme.Lexeme.{Lexeme}
 use Rattle.pdl_code.specs.declared.lexeme.Lexeme.TheVariants.{Name, Word, Number, Open, Close, BlockOpen, BlockClose, Semicolon, Comma, Equals, FatArrow, Operator, Prefix}
-use Rattle.pdl_code.specs.declared.tree.LocalType.{LocalType}
-use Rattle.pdl_code.specs.declared.tree.LocalType.TheVariants.{Generic as OfGeneric}
+use Rattle.pdl_code.specs.declared.names.LocalType.{LocalType}
+use Rattle.pdl_code.specs.declared.names.LocalType.TheVariants.{Generic as OfGeneric}
 use Rattle.pdl_code.specs.Grammar.{assigned}
-use Rattle.pdl_code.specs.Join.{join_raw, join_raw_code}
-use Rattle.pdl_code.specs.Raw.{RawTree, RawIndices, RawStep, RawCode, number, size, named, access, unary, binary, none, along, repeat, choose, declare, set, put, done, next}
+use Rattle.pdl_code.specs.Join.{join, join_code}
+use Rattle.pdl_code.specs.declared.names.Target.TheVariants.{New, Named}
+use Rattle.pdl_code.specs.Tree.{called, RawTree, RawIndices, RawStep, RawCode, number, size, named, access, unary, binary, none, along, repeat, choose, keep, put, done, next}
 
 -- what is read from the front, and what follows it
 abbrev pub Read : Type 0 → Type 0
@@ -154,10 +155,10 @@ pub data Kind : Type 0 where
 
 -- what was found, before what is read
 abbrev pub before : RawIndices → Read RawIndices → Read RawIndices
-before is o = option_map (λ y. (join_raw is y.0, y.1)) o
+before is o = option_map (λ y. (join is y.0, y.1)) o
 
 abbrev pub before_code : RawCode → Read RawCode → Read RawCode
-before_code c o = option_map (λ y. (join_raw_code c y.0, y.1)) o
+before_code c o = option_map (λ y. (join_code c y.0, y.1)) o
 
 -- the further operators of level `suc l`, at most k of them, where `inner` reads
 -- what stands between them
@@ -197,7 +198,7 @@ module _ (f : Kind → List Lexeme → Read RawTree) where
       (access_name ts)
 
   abbrev pub element_at : List Lexeme → Read RawTree
-  element_at ts = option_map (λ x. (access x.0.0 x.0.1 x.0.2, x.1)) (access_at ts)
+  element_at ts = option_map (λ x. (access (called x.0.0 x.0.2) x.0.1, x.1)) (access_at ts)
 
   abbrev pub round_at : List Lexeme → Read RawTree
   round_at ts =
@@ -245,15 +246,15 @@ initial_at ts =
     either (option_map (λ us. (number (pos 0), us)) (after Semicolon ts)) ended_at (after Equals ts)
 
 abbrev pub declaration_at : Declared → Read RawStep
-declaration_at d = option_map (λ x. (declare d.ty d.word x.0, x.1)) (initial_at d.rest)
+declaration_at d = option_map (λ x. (keep (New d.ty d.word) None x.0, x.1)) (initial_at d.rest)
 
 -- an assignment to a word
 abbrev pub set_sign : Span × List Lexeme → Read RawStep
-set_sign w = option_and_then (λ s. option_map (λ x. (set w.0 s.0 x.0, x.1)) (ended_at s.1))
+set_sign w = option_and_then (λ s. option_map (λ x. (keep (Named w.0) s.0 x.0, x.1)) (ended_at s.1))
     (sign_at w.1)
 
 abbrev pub put_sign : (Span × RawIndices × ℕ) × List Lexeme → Read RawStep
-put_sign a = option_and_then (λ s. option_map (λ x. (put a.0.0 a.0.1 a.0.2 s.0 x.0, x.1))
+put_sign a = option_and_then (λ s. option_map (λ x. (put (called a.0.0 a.0.2) a.0.1 s.0 x.0, x.1))
     (ended_at s.1)) (sign_at a.1)
 
 -- an assignment to an access

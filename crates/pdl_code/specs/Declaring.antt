@@ -6,7 +6,8 @@ use Rattle.pdl_code.specs.declared.fault.KernelFault.{KernelFault}
 use Rattle.pdl_code.specs.declared.fault.KernelFault.TheVariants.{BadText}
 use Rattle.pdl_code.specs.declared.lexeme.Span.{Span}
 use Rattle.pdl_code.specs.declared.scope.Local.{Local}
-use Rattle.pdl_code.specs.Raw.{RawStep, RawCode, repeat, choose, declare, set, put, done, next}
+use Rattle.pdl_code.specs.declared.names.Target.TheVariants.{New, Named}
+use Rattle.pdl_code.specs.Tree.{RawStep, RawCode, repeat, choose, keep, put, done, next}
 use Rattle.pdl_code.specs.Refused.{named_dim, scope_after}
 use Rattle.pdl_code.specs.Resolving.{◌>>=◌}
 use Rattle.pdl_code.specs.Scope.{Scope, bytes_of, slot_in}
@@ -21,9 +22,9 @@ abbrev mutual
   pub raw_step_locals : ℕ → RawStep → ℕ
   raw_step_locals n (repeat w body) = raw_locals n body
   raw_step_locals n (choose e whole other) = max (raw_locals n whole) (raw_locals n other)
-  raw_step_locals n (declare ty w e) = suc n
-  raw_step_locals n (set w op e) = n
-  raw_step_locals n (put w is at op e) = n
+  raw_step_locals n (keep (New ty w) op e) = suc n
+  raw_step_locals n (keep (Named w) op e) = n
+  raw_step_locals n (put o is op e) = n
 
   pub raw_locals : ℕ → RawCode → ℕ
   raw_locals n done = n
@@ -31,7 +32,7 @@ abbrev mutual
 
   -- how many are visible after a statement
   pub raw_after : ℕ → RawStep → ℕ
-  raw_after n (declare ty w e) = suc n
+  raw_after n (keep (New ty w) op e) = suc n
   raw_after n _ = n
 
 module _ (source : List ℕ) (s : Signature) where
@@ -45,9 +46,9 @@ module _ (source : List ℕ) (s : Signature) where
     declared_step c (repeat w body) = declared_code c body
     declared_step c (choose e whole other) =
         declared_code c whole >>= λ a. declared_code c other >>= λ b. Ok (max a b)
-    declared_step c (declare ty w e) = counted (is_taken c.locals w) (suc (length c.locals))
-    declared_step c (set w op e) = Ok (length c.locals)
-    declared_step c (put w is at op e) = Ok (length c.locals)
+    declared_step c (keep (New ty w) op e) = counted (is_taken c.locals w) (suc (length c.locals))
+    declared_step c (keep (Named w) op e) = Ok (length c.locals)
+    declared_step c (put o is op e) = Ok (length c.locals)
 
     pub declared_code : Scope → RawCode → Result ℕ KernelFault
     declared_code c done = Ok (length c.locals)

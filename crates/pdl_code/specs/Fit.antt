@@ -6,7 +6,8 @@ use Rattle.pdl_sig.specs.declared.ArgType.TheVariants.{Generic}
 use Rattle.pdl_sig.specs.declared.SigArg.{SigArg}
 use Rattle.pdl_sig.specs.declared.Signature.{Signature}
 use Rattle.pdl_sig.specs.Refusals.{names_limit}
-use Rattle.pdl_code.specs.Tree.{Tree, Indices, Step, Code, number, size, index, local, access, unary, binary, none, along, repeat, choose, keep, put, done, next}
+use Rattle.pdl_code.specs.declared.names.Variable.TheVariants.{Slot, Index}
+use Rattle.pdl_code.specs.Tree.{Tree, Indices, Step, Code, number, size, named, access, unary, binary, none, along, repeat, choose, keep, put, done, next}
 
 -- an argument of the signature
 abbrev pub nobody : SigArg
@@ -39,8 +40,8 @@ abbrev mutual
   pub IsTreeFit : Signature → ℕ → Tree → Type 0
   IsTreeFit s n (number z) = Unit {0}
   IsTreeFit s n (size d) = d < length s.names
-  IsTreeFit s n (index d) = d < length s.names
-  IsTreeFit s n (local k) = k < n
+  IsTreeFit s n (named (Index d)) = d < length s.names
+  IsTreeFit s n (named (Slot k)) = k < n
   IsTreeFit s n (access a is) = (a < length s.args) × (length (places_of is) ≡ rank_of s a) ×
       AreIndicesFit s n (rank_of s a) is × IsEachOnce (rank_of s a) is
   IsTreeFit s n (unary op e) = IsTreeFit s n e
@@ -61,7 +62,7 @@ IsAccessFit s n a is = (a < length s.args) × (length (places_of is) ≡ rank_of
 abbrev pub locals_after : ℕ → Step → ℕ
 locals_after n (repeat d body) = n
 locals_after n (choose e whole other) = n
-locals_after n (keep k ty op e) = if k == n then suc n else n
+locals_after n (keep t op e) = if t.slot == n then suc n else n
 locals_after n (put a is op e) = n
 
 abbrev mutual
@@ -70,7 +71,7 @@ abbrev mutual
   pub IsStepFit : Signature → ℕ → Step → Type 0
   IsStepFit s n (repeat d body) = (d < length s.names) × IsCodeFit s n body
   IsStepFit s n (choose e whole other) = IsTreeFit s n e × IsCodeFit s n whole × IsCodeFit s n other
-  IsStepFit s n (keep k ty op e) = (k ≤ n) × IsTreeFit s n e
+  IsStepFit s n (keep t op e) = (t.slot ≤ n) × IsTreeFit s n e
   IsStepFit s n (put a is op e) = ((argument_of s a).role ≢ Input) ×
       IsAccessFit s n a is × IsTreeFit s n e
 
@@ -88,7 +89,7 @@ abbrev mutual
   pub step_locals : ℕ → Step → ℕ
   step_locals n (repeat d body) = code_locals n body
   step_locals n (choose e whole other) = max (code_locals n whole) (code_locals n other)
-  step_locals n (keep k ty op e) = locals_after n (keep k ty op e)
+  step_locals n (keep t op e) = locals_after n (keep t op e)
   step_locals n (put a is op e) = n
 
   -- how many locals are visible at once, at most, in statements among n of them

@@ -14,9 +14,10 @@ use Rattle.pdl_code.specs.declared.lexeme.NameKind.{NameKind}
 use Rattle.pdl_code.specs.declared.lexeme.NameKind.TheVariants.{Size, Generic}
 use Rattle.pdl_code.specs.declared.lexeme.Lexeme.{Lexeme}
 use Rattle.pdl_code.specs.declared.lexeme.Lexeme.TheVariants.{Name, Word, Number, Open, Close, BlockOpen, BlockClose, Semicolon, Comma, Equals, FatArrow, Assign, Operator, Prefix}
-use Rattle.pdl_code.specs.declared.tree.LocalType.{LocalType}
-use Rattle.pdl_code.specs.declared.tree.LocalType.TheVariants.{Generic as OfGeneric}
-use Rattle.pdl_code.specs.Raw.{RawTree, RawIndices, RawStep, RawCode, number, size, named, access, unary, binary, none, along, repeat, choose, declare, set, put, done, next}
+use Rattle.pdl_code.specs.declared.names.LocalType.{LocalType}
+use Rattle.pdl_code.specs.declared.names.LocalType.TheVariants.{Generic as OfGeneric}
+use Rattle.pdl_code.specs.declared.names.Target.TheVariants.{New, Named}
+use Rattle.pdl_code.specs.Tree.{called, RawTree, RawIndices, RawStep, RawCode, number, size, named, access, unary, binary, none, along, repeat, choose, keep, put, done, next}
 
 -- what a part of an expression is: an expression of a level, a primary, an argument's name with
 -- its indices and the place of the closing bracket, and one or more indices
@@ -49,7 +50,7 @@ pub data Spells : Part → List Lexeme → List Lexeme → Type 0 where
   a_size : {v w : Span} {kind : WordKind} {at : ℕ} {rest : List Lexeme}
       → Spells (a_primary (size w)) (Name Size v ∷ Open ∷ Word kind w ∷ Close at ∷ rest) rest
   an_element : {w : Span} {is : RawIndices} {at : ℕ} {ts rest : List Lexeme}
-      → Spells (an_access w is at) ts rest → Spells (a_primary (access w is at)) ts rest
+      → Spells (an_access w is at) ts rest → Spells (a_primary (access (called w at) is)) ts rest
   round : {t : RawTree} {at : ℕ} {ts rest : List Lexeme}
       → Spells (an_expr 7 t) ts (Close at ∷ rest) → Spells (a_primary t) (Open ∷ ts) rest
   looped_access : {kind : NameKind} {w : Span} {at : ℕ} {rest : List Lexeme}
@@ -101,19 +102,19 @@ pub data SpellsBlock : Block → List Lexeme → List Lexeme → Type 0 where
   -- a declared word isn't reserved
   a_declaration : {ty : LocalType} {w : Span} {ts rest : List Lexeme}
       → SpellsType ty ts (Word Plain w ∷ Semicolon ∷ rest) →
-      SpellsBlock (a_step (declare ty w (number (pos 0)))) ts rest
+      SpellsBlock (a_step (keep (New ty w) None (number (pos 0)))) ts rest
   a_valued_declaration : {ty : LocalType} {w : Span} {t : RawTree} {ts us rest : List Lexeme}
       → SpellsType ty ts (Word Plain w ∷ Equals ∷ us) → Spells (an_expr 7 t) us (Semicolon ∷ rest)
-      → SpellsBlock (a_step (declare ty w t)) ts rest
+      → SpellsBlock (a_step (keep (New ty w) None t)) ts rest
   a_word_assignment : {kind : WordKind} {w : Span} {s : Lexeme} {op : Option BinaryOp} {t : RawTree}
       {ts rest : List Lexeme}
       → assigned s ≡ Some op → Spells (an_expr 7 t) ts (Semicolon ∷ rest)
-      → SpellsBlock (a_step (set w op t)) (Word kind w ∷ s ∷ ts) rest
+      → SpellsBlock (a_step (keep (Named w) op t)) (Word kind w ∷ s ∷ ts) rest
   an_access_assignment : {w : Span} {is : RawIndices} {at : ℕ} {s : Lexeme} {op : Option BinaryOp}
       {t : RawTree} {ts us rest : List Lexeme}
       → Spells (an_access w is at) ts (s ∷ us) → assigned s ≡ Some op →
       Spells (an_expr 7 t) us (Semicolon ∷ rest)
-      → SpellsBlock (a_step (put w is at op t)) ts rest
+      → SpellsBlock (a_step (put (called w at) is op t)) ts rest
   no_code : {rest : List Lexeme} → SpellsBlock (some_code done) rest rest
   empty_statement : {c : RawCode} {ts rest : List Lexeme}
       → SpellsBlock (some_code c) ts rest → SpellsBlock (some_code c) (Semicolon ∷ ts) rest

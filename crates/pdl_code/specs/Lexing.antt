@@ -20,7 +20,7 @@ use Rattle.pdl_code.specs.declared.lexeme.NameKind.{NameKind}
 use Rattle.pdl_code.specs.declared.lexeme.NameKind.TheVariants.{Size, Generic, Plain as PlainName}
 use Rattle.pdl_code.specs.declared.lexeme.Lexeme.{Lexeme}
 use Rattle.pdl_code.specs.declared.lexeme.Lexeme.TheVariants.{Name, Word, Number, Open, Close, BlockOpen, BlockClose, Semicolon, Comma, Equals, FatArrow, Assign, Operator, Prefix, Arrow, Unused}
-use Rattle.pdl_code.specs.declared.tree.LocalType.TheVariants.{Long, Longlong}
+use Rattle.pdl_code.specs.declared.names.LocalType.TheVariants.{Long, Longlong}
 
 -- what a reserved word begins
 abbrev pub kind_of : Reserved → WordKind

@@ -1,7 +1,5 @@
 pub mod Tree
 pub mod TreeOf
-pub mod Raw
-pub mod RawOf
 pub mod Lexing
 pub mod Depth
 pub mod Grammar

@@ -5,11 +5,10 @@ use Rattle.pdl_code.specs.declared.fault.KernelFault.{KernelFault}
 use Rattle.pdl_code.specs.declared.fault.KernelFault.TheVariants.{TooDeep, BadText, NoMemory}
 use Rattle.pdl_code.specs.Depth.{is_too_deep}
 use Rattle.pdl_code.specs.Lexing.{Lexed, lexed}
-use Rattle.pdl_code.specs.Raw.{RawCode}
+use Rattle.pdl_code.specs.Tree.{RawCode, Code}
 use Rattle.pdl_code.specs.CodeReading.{read_code}
 use Rattle.pdl_code.specs.Refused.{answer, code_code, code_declares, code_wrongs}
 use Rattle.pdl_code.specs.Scope.{top}
-use Rattle.pdl_code.specs.Tree.{Code}
 
 -- what the tokens spell, where each byte belongs to a token or is a blank
 abbrev pub spelled_by : Lexed → Option RawCode

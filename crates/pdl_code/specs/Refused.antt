@@ -11,11 +11,12 @@ use Rattle.pdl_code.specs.declared.lexeme.Span.{Span}
 use Rattle.pdl_code.specs.declared.scope.Local.{Local}
 use Rattle.pdl_code.specs.declared.scope.Meant.{Meant}
 use Rattle.pdl_code.specs.declared.scope.Meant.TheVariants.{InSlot, Dim, Unknown}
-use Rattle.pdl_code.specs.declared.tree.LocalType.{LocalType}
-use Rattle.pdl_code.specs.declared.tree.LocalType.TheVariants.{Longlong}
+use Rattle.pdl_code.specs.declared.names.LocalType.{LocalType}
+use Rattle.pdl_code.specs.declared.names.LocalType.TheVariants.{Longlong}
 use Rattle.pdl_code.specs.Fit.{argument_of}
-use Rattle.pdl_code.specs.Tree.{Tree, Indices, Step, Code, number as num, size as size_tree, index, local, access as access_tree, unary as unary_tree, binary as binary_tree, none as nil, along as cons, repeat as loop, choose as branches, keep, put as store, done as end, next as then_step}
-use Rattle.pdl_code.specs.Raw.{RawTree, RawIndices, RawStep, RawCode, number, size, named, access, unary, binary, none, along, repeat, choose, declare, set, put, done, next}
+use Rattle.pdl_code.specs.declared.names.Target.TheVariants.{New, Named}
+use Rattle.pdl_code.specs.declared.names.Variable.TheVariants.{Slot, Index}
+use Rattle.pdl_code.specs.Tree.{Tree, Indices, Step, Code, number, size, named, access, unary, binary, none, along, repeat, choose, keep, put, done, next, RawTree, RawIndices, RawStep, RawCode}
 use Rattle.pdl_code.specs.Scope.{Scope, argument_place, axis_of, bare, bytes_of, dim_place, meant, no_flags, slot_in, within}
 
 abbrev pub or_zero : Option ℕ → ℕ
@@ -76,15 +77,15 @@ loop_wrong loops w (Some d) = when (get_or loops d false) (NestedSame w.from)
 
 -- the dimensions that aren't given, at the indices of their loops
 abbrev pub looped : List ℕ → ℕ → List Bool → Indices
-looped [] k given = nil
+looped [] k given = none
 looped (d ∷ ds) k given =
     if get_or given k false then looped ds (k + 1) given
-    else cons k (index d) (looped ds (k + 1) given)
+    else along k (named (Index d)) (looped ds (k + 1) given)
 
 abbrev pub meant_tree : Meant → Tree
-meant_tree (InSlot k) = local k
-meant_tree (Dim d) = index d
-meant_tree Unknown = num (pos 0)
+meant_tree (InSlot k) = named (Slot k)
+meant_tree (Dim d) = named (Index d)
+meant_tree Unknown = number (pos 0)
 
 abbrev pub slot_of : Meant → ℕ
 slot_of (InSlot k) = k
@@ -103,7 +104,7 @@ argument_at s p = argument_of s (or_zero p)
 
 -- the scope after a statement: a declared word is visible to the end of its block
 abbrev pub scope_after : Scope → RawStep → Scope
-scope_after c (declare ty w e) = record c { locals = c.locals ++ record { word = w; ty = ty } ∷ [] }
+scope_after c (keep (New ty w) op e) = record c { locals = c.locals ++ record { word = w; ty = ty } ∷ [] }
 scope_after c _ = c
 
 module _ (source : List ℕ) (s : Signature) where
@@ -120,9 +121,9 @@ module _ (source : List ℕ) (s : Signature) where
     tree_wrongs c (number z) = []
     tree_wrongs c (size w) = no_dim w (named_dim w)
     tree_wrongs c (named w) = primary_wrong c.loops w (meant source s c.locals w)
-    tree_wrongs c (access w is at) =
-        behind_name w (named_argument w)
-        (index_wrongs c (argument_at s (named_argument w)).dims no_flags at is)
+    tree_wrongs c (access o is) =
+        behind_name o.name (named_argument o.name)
+        (index_wrongs c (argument_at s (named_argument o.name)).dims no_flags o.close is)
     tree_wrongs c (unary op e) = tree_wrongs c e
     tree_wrongs c (binary op x y) = tree_wrongs c x ++ tree_wrongs c y
 
@@ -139,12 +140,13 @@ module _ (source : List ℕ) (s : Signature) where
         ++ code_wrongs (within c (or_zero (named_dim w))) body
     step_wrongs c (choose e whole other) =
         tree_wrongs c e ++ (code_wrongs c whole ++ code_wrongs c other)
-    step_wrongs c (declare ty w e) = tree_wrongs c e
-    step_wrongs c (set w op e) = target_wrong w (meant source s c.locals w) ++ tree_wrongs c e
-    step_wrongs c (put w is at op e) =
-        let a = argument_at s (named_argument w) in
-        behind_name w (named_argument w)
-        (when (is_input a.role) (WriteToInput w.from) ++ index_wrongs c a.dims no_flags at is)
+    step_wrongs c (keep (New ty w) op e) = tree_wrongs c e
+    step_wrongs c (keep (Named w) op e) = target_wrong w (meant source s c.locals w) ++ tree_wrongs c e
+    step_wrongs c (put o is op e) =
+        let a = argument_at s (named_argument o.name) in
+        behind_name o.name (named_argument o.name)
+        (when (is_input a.role) (WriteToInput o.name.from)
+        ++ index_wrongs c a.dims no_flags o.close is)
         ++ tree_wrongs c e
 
     pub code_wrongs : Scope → RawCode → List KernelFault
@@ -154,49 +156,50 @@ module _ (source : List ℕ) (s : Signature) where
   abbrev mutual
     -- the code of an expression whose names aren't refused
     pub tree_code : Scope → RawTree → Tree
-    tree_code c (number z) = num z
-    tree_code c (size w) = size_tree (or_zero (named_dim w))
+    tree_code c (number z) = number z
+    tree_code c (size w) = size (or_zero (named_dim w))
     tree_code c (named w) = meant_tree (meant source s c.locals w)
-    tree_code c (access w is at) =
-        access_tree (or_zero (named_argument w))
-        (index_code c (argument_at s (named_argument w)).dims no_flags is)
-    tree_code c (unary op e) = unary_tree op (tree_code c e)
-    tree_code c (binary op x y) = binary_tree op (tree_code c x) (tree_code c y)
+    tree_code c (access o is) =
+        access (or_zero (named_argument o.name))
+        (index_code c (argument_at s (named_argument o.name)).dims no_flags is)
+    tree_code c (unary op e) = unary op (tree_code c e)
+    tree_code c (binary op x y) = binary op (tree_code c x) (tree_code c y)
 
     pub index_code : Scope → List ℕ → List Bool → RawIndices → Indices
     index_code c ds given none = looped ds 0 given
     index_code c ds given (along w e rest) =
         let k = axis_of s ds (bytes_of source w) in
-        cons (or_zero k) (tree_code c e) (index_code c ds (mark given k) rest)
+        along (or_zero k) (tree_code c e) (index_code c ds (mark given k) rest)
 
   abbrev mutual
     -- the code of a statement whose names aren't refused
     pub step_code : Scope → RawStep → Step
-    step_code c (repeat w body) = loop (or_zero (named_dim w))
+    step_code c (repeat w body) = repeat (or_zero (named_dim w))
         (code_code (within c (or_zero (named_dim w))) body)
     step_code c (choose e whole other) =
-        branches (tree_code c e) (code_code c whole) (code_code c other)
-    step_code c (declare ty w e) = keep (length c.locals) ty None (tree_code c e)
-    step_code c (set w op e) =
+        choose (tree_code c e) (code_code c whole) (code_code c other)
+    step_code c (keep (New ty w) op e) =
+        keep (record { slot = length c.locals; ty = ty }) op (tree_code c e)
+    step_code c (keep (Named w) op e) =
         let k = slot_of (meant source s c.locals w) in
-        keep k (type_at c.locals k) op (tree_code c e)
-    step_code c (put w is at op e) =
-        store (or_zero (named_argument w))
-        (index_code c (argument_at s (named_argument w)).dims no_flags is) op (tree_code c e)
+        keep (record { slot = k; ty = type_at c.locals k }) op (tree_code c e)
+    step_code c (put o is op e) =
+        put (or_zero (named_argument o.name))
+        (index_code c (argument_at s (named_argument o.name)).dims no_flags is) op (tree_code c e)
 
     pub code_code : Scope → RawCode → Code
-    code_code c done = end
-    code_code c (next t rest) = then_step (step_code c t) (code_code (scope_after c t) rest)
+    code_code c done = done
+    code_code c (next t rest) = next (step_code c t) (code_code (scope_after c t) rest)
 
   abbrev mutual
     -- whether a statement declares a word that is a dimension or a visible local
     pub step_declares : Scope → RawStep → Bool
     step_declares c (repeat w body) = code_declares c body
     step_declares c (choose e whole other) = code_declares c whole || code_declares c other
-    step_declares c (declare ty w e) = is_some (slot_in source c.locals (bytes_of source w))
+    step_declares c (keep (New ty w) op e) = is_some (slot_in source c.locals (bytes_of source w))
         || is_some (named_dim w)
-    step_declares c (set w op e) = false
-    step_declares c (put w is at op e) = false
+    step_declares c (keep (Named w) op e) = false
+    step_declares c (put o is op e) = false
 
     pub code_declares : Scope → RawCode → Bool
     code_declares c done = false

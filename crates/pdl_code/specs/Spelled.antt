@@ -8,10 +8,9 @@ use Rattle.pdl_code.specs.Depth.{is_too_deep}
 use Rattle.pdl_code.specs.Grammar.{SpellsBlock, some_code}
 use Rattle.pdl_code.specs.Lexing.{lexed}
 use Rattle.pdl_code.specs.Meaning.{code_in}
-use Rattle.pdl_code.specs.Raw.{RawCode}
+use Rattle.pdl_code.specs.Tree.{RawCode, Code}
 use Rattle.pdl_code.specs.Refused.{code_code, code_declares, code_wrongs}
 use Rattle.pdl_code.specs.Scope.{top}
-use Rattle.pdl_code.specs.Tree.{Code}
 
 -- a text is tokens and blanks, and its tokens spell this code, in which names stand as they are
 pub record Spelled (raw : RawCode) (text : List ℕ) : Type 0 where

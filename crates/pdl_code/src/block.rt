@@ -1,19 +1,18 @@
 //! Resolving the names of statements. A declared word is visible to the end of its block.
 ghost use Rattle.std.specs.Prelude.{◌≡◌, ◌≤◌, ◌++◌, ◌∷◌, [], take, length, get_or, OnOk, IfOk, IfErr, Some, false, max};
-ghost use Rattle.pdl_code.specs.Raw.{declare as declare', set, put};
-ghost use Rattle.pdl_code.specs.RawOf.{raw_code, raw_indices, raw_of, raw_step};
+ghost use Rattle.pdl_code.specs.declared.names.Target.TheVariants.{New, Named};
+ghost use Rattle.pdl_code.specs.Tree.{keep, put};
+ghost use Rattle.pdl_code.specs.TreeOf.{code_of, indices_of, tree_of, step_of};
 ghost use Rattle.pdl_code.specs.Refused.{answer, code_code, code_declares, code_wrongs, loop_wrong, or_zero, scope_after, step_declares, type_at};
 ghost use Rattle.pdl_code.specs.Resolving.{Agrees, resolve_code, resolve_step};
 ghost use Rattle.pdl_code.specs.Scope.{Scope, bytes_of, dim_place, top};
-ghost use Rattle.pdl_code.specs.TreeOf.{code_of, step_of};
 
 use crate::build::{if_stmt, loop_stmt, with_stmt};
 use crate::fault::KernelFault;
 use crate::lexeme::Span;
-use crate::raw::{RawEntry, RawExpr, RawStmt};
+use crate::names::{Called, Kept, LocalType, RawEntry, RawExpr, RawStmt, Stmt, Target};
 use crate::resolve::{indices, is_marked, mark, tree};
 use crate::scope::{Local, Meant, argument, cut, declare, dim, dims_of, is_input, meaning};
-use crate::tree::{LocalType, Stmt};
 use pdl_elem::BinaryOp;
 use pdl_sig::{MOST_NAMES, Signature};
 use std::alloc::Global;
@@ -37,20 +36,21 @@ fn declaration(
     loops: &[bool; MOST_NAMES],
     ty: LocalType,
     word: Span,
+    op: Option<BinaryOp>,
     expr: &RawExpr,
 ) -> Result<Stmt, KernelFault>
     ensures gives { let c : Scope = record { locals = locals.old.items; loops = loops.now } in
         Agrees step_of result
-        (resolve_step source.now signature.now c (declare' ty word (raw_of expr.now))) }
+        (resolve_step source.now signature.now c (keep (New ty word) op (tree_of expr.now))) }
     ensures after { let c : Scope = record { locals = locals.old.items; loops = loops.now } in
         OnOk result (record { locals = locals.new.items; loops = loops.now }
-        ≡ scope_after c (declare' ty word (raw_of expr.now))) }
+        ≡ scope_after c (keep (New ty word) op (tree_of expr.now))) }
 {
     match tree(alloc, source, signature, locals.as_slice(), loops, expr) {
         Ok(e) => {
             let slot = locals.len();
             match declare(locals, word, ty) {
-                Ok(()) => Ok(Stmt::Keep(slot, ty, None, e)),
+                Ok(()) => Ok(Stmt::Keep(Kept { slot, ty }, op, e)),
                 Err(fault) => Err(fault),
             }
         }
@@ -70,15 +70,47 @@ fn word_assignment(
     expr: &RawExpr,
 ) -> Result<Stmt, KernelFault>
     ensures { Agrees step_of result (resolve_step source.now signature.now
-        (record { locals = locals.now; loops = loops.now }) (set word op (raw_of expr.now))) }
+        (record { locals = locals.now; loops = loops.now }) (keep (Named word) op (tree_of expr.now))) }
 {
     match meaning(source, signature, locals, word) {
         Meant::InSlot(k) => match tree(alloc, source, signature, locals, loops, expr) {
-            Ok(e) => Ok(Stmt::Keep(k, type_at(locals, k), op, e)),
+            Ok(e) => {
+                let ty = type_at(locals, k);
+                Ok(Stmt::Keep(Kept { slot: k, ty }, op, e))
+            }
             Err(fault) => Err(fault),
         },
         Meant::Dim(_) => Err(KernelFault::WriteToInput { at: word.from }),
         Meant::Unknown => Err(KernelFault::UnknownArgument { at: word.from }),
+    }
+}
+
+/// A store to a word.
+fn store(
+    alloc: Global,
+    source: &[u8],
+    signature: &Signature,
+    locals: &mut Vec<Local>,
+    loops: &[bool; MOST_NAMES],
+    target: Target,
+    op: Option<BinaryOp>,
+    expr: &RawExpr,
+) -> Result<Stmt, KernelFault>
+    ensures gives { let c : Scope = record { locals = locals.old.items; loops = loops.now } in
+        Agrees step_of result
+        (resolve_step source.now signature.now c (keep target op (tree_of expr.now))) }
+    ensures after { let c : Scope = record { locals = locals.old.items; loops = loops.now } in
+        OnOk result (record { locals = locals.new.items; loops = loops.now }
+        ≡ scope_after c (keep target op (tree_of expr.now))) }
+{
+    match target {
+        Target::New(ty, word) => {
+            declaration(alloc, source, signature, locals, loops, ty, word, op, expr)
+        }
+        Target::Named(word) => {
+            let seen = locals.as_slice();
+            word_assignment(alloc, source, signature, seen, loops, word, op, expr)
+        }
     }
 }
 
@@ -89,16 +121,16 @@ fn access_assignment(
     signature: &Signature,
     locals: &[Local],
     loops: &[bool; MOST_NAMES],
-    name: Span,
+    called: Called,
     given: &[RawEntry],
-    close: u32,
     op: Option<BinaryOp>,
     expr: &RawExpr,
 ) -> Result<Stmt, KernelFault>
     ensures { Agrees step_of result (resolve_step source.now signature.now
         (record { locals = locals.now; loops = loops.now })
-        (put name (raw_indices given.now) close op (raw_of expr.now))) }
+        (put called (indices_of given.now) op (tree_of expr.now))) }
 {
+    let name = called.name;
     let Some(number) = argument(source, signature, name) else {
         return Err(KernelFault::UnknownArgument { at: name.from });
     };
@@ -106,7 +138,16 @@ fn access_assignment(
         return Err(KernelFault::WriteToInput { at: name.from });
     }
     let dims = dims_of(signature, number);
-    match indices(alloc, source, signature, locals, loops, dims, given, close) {
+    match indices(
+        alloc,
+        source,
+        signature,
+        locals,
+        loops,
+        dims,
+        given,
+        called.close,
+    ) {
         Ok(found) => match tree(alloc, source, signature, locals, loops, expr) {
             Ok(e) => Ok(Stmt::Put(number, found, op, e)),
             Err(fault) => Err(fault),
@@ -151,10 +192,10 @@ fn stmt(
     raw: &RawStmt,
 ) -> Result<Stmt, KernelFault>
     ensures gives { Agrees step_of result (resolve_step source.now signature.now
-        (record { locals = locals.old.items; loops = loops.now }) (raw_step raw.now)) }
+        (record { locals = locals.old.items; loops = loops.now }) (step_of raw.now)) }
     ensures after { OnOk result (record { locals = locals.new.items; loops = loops.now }
         ≡ scope_after (record { locals = locals.old.items; loops = loops.now })
-        (raw_step raw.now)) }
+        (step_of raw.now)) }
 {
     match raw {
         RawStmt::Loop(word, body) => match loop_dim(source, signature, loops, *word) {
@@ -180,17 +221,13 @@ fn stmt(
                 Err(fault) => Err(fault),
             }
         }
-        RawStmt::Declare(ty, word, expr) => {
-            declaration(alloc, source, signature, locals, loops, *ty, *word, expr)
+        RawStmt::Keep(target, op, expr) => {
+            store(alloc, source, signature, locals, loops, *target, *op, expr)
         }
-        RawStmt::Set(word, op, expr) => {
-            let seen = locals.as_slice();
-            word_assignment(alloc, source, signature, seen, loops, *word, *op, expr)
-        }
-        RawStmt::Put(name, given, close, op, expr) => {
+        RawStmt::Put(called, given, op, expr) => {
             let seen = locals.as_slice();
             access_assignment(
-                alloc, source, signature, seen, loops, *name, given, *close, *op, expr,
+                alloc, source, signature, seen, loops, *called, given, *op, expr,
             )
         }
     }
@@ -208,7 +245,7 @@ fn block(
 ) -> Result<Vec<Stmt>, KernelFault>
     ensures gives { Agrees (λ v. code_of v.items) result
         (resolve_code source.now signature.now
-        (record { locals = locals.old.items; loops = loops.now }) (raw_code raw.now)) }
+        (record { locals = locals.old.items; loops = loops.now }) (code_of raw.now)) }
     ensures same { OnOk result (locals.new.items ≡ locals.old.items) }
 {
     let count = locals.len();
@@ -217,7 +254,7 @@ fn block(
         match stmt(alloc, source, signature, locals, loops, one) {
             Ok(s) => match with_stmt(code, s) {
                 Ok(more) => code = more,
-                Err(fault) => return Err(fault),
+                Err(_) => return Err(KernelFault::NoMemory),
             },
             Err(fault) => return Err(fault),
         }
@@ -235,8 +272,8 @@ pub fn resolved(
     raw: &[RawStmt],
 ) -> Result<Vec<Stmt>, KernelFault>
     ensures { Agrees (λ v. code_of v.items) result
-        (answer (code_wrongs source.now signature.now top (raw_code raw.now))
-        (code_code source.now signature.now top (raw_code raw.now))) }
+        (answer (code_wrongs source.now signature.now top (code_of raw.now))
+        (code_code source.now signature.now top (code_of raw.now))) }
 {
     let mut locals = Vec::new(alloc);
     block(

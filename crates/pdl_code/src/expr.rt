@@ -2,16 +2,17 @@
 ghost use Rattle.std.specs.Prelude.{◌≡◌, ◌≤◌, ◌<◌, ℕ, suc, length, option_map, List};
 ghost use Rattle.pdl_code.specs.declared.lexeme.Lexeme.{Lexeme};
 ghost use Rattle.pdl_code.specs.declared.lexeme.Span.{Span};
-ghost use Rattle.pdl_code.specs.Raw.{RawIndices};
+ghost use Rattle.pdl_code.specs.Tree.{RawIndices};
 ghost use Rattle.pdl_lexemes.specs.ReadAnswers.{Gives};
 ghost use Rattle.pdl_lexemes.specs.Lists.{signed};
-ghost use Rattle.pdl_code.specs.RawOf.{raw_indices, raw_of};
+ghost use Rattle.pdl_code.specs.TreeOf.{indices_of, tree_of};
 ghost use Rattle.pdl_code.specs.CodeReading.{access_at, before, chain_at, element_at, expr_at, expression, given_at, index_at, indices_at, level_at, limit_of, name_first, number_before, operand, primary_at, reader, round_at, unary_at};
 
 use crate::left::Lexemes;
 use crate::lexeme::{Lexeme, Span};
-use crate::raw::{RawEntry, RawExpr};
-use crate::{peek, raw_build};
+use crate::names::{Called, RawEntry, RawExpr};
+use crate::tree::Entry;
+use crate::{build, peek};
 use pdl_lexemes::Refusal;
 use std::alloc::Global;
 
@@ -22,7 +23,7 @@ pub type Read<'a, T> = Result<(T, Lexemes<'a>), Refusal>;
 #[cycle(parser)]
 #[tactic(auto, unfolding(crate::specs::CodeReading::reader))]
 pub fn expression<'a>(alloc: Global, fuel: usize, tokens: &Lexemes<'a>) -> Read<'a, RawExpr>
-    ensures read { Gives (λ x. (raw_of x.0, x.1)) result (reader fuel expression tokens.now) }
+    ensures read { Gives (λ x. (tree_of x.0, x.1)) result (reader fuel expression tokens.now) }
 {
     if fuel == 0 {
         return Err(Refusal::Refused);
@@ -33,7 +34,7 @@ pub fn expression<'a>(alloc: Global, fuel: usize, tokens: &Lexemes<'a>) -> Read<
 #[cycle(parser)]
 #[tactic(auto, unfolding(crate::specs::CodeReading::reader))]
 fn operand<'a>(alloc: Global, fuel: usize, tokens: &Lexemes<'a>) -> Read<'a, RawExpr>
-    ensures read { Gives (λ x. (raw_of x.0, x.1)) result (reader fuel operand tokens.now) }
+    ensures read { Gives (λ x. (tree_of x.0, x.1)) result (reader fuel operand tokens.now) }
 {
     if fuel == 0 {
         return Err(Refusal::Refused);
@@ -45,7 +46,7 @@ fn operand<'a>(alloc: Global, fuel: usize, tokens: &Lexemes<'a>) -> Read<'a, Raw
 #[tactic(auto, unfolding(crate::specs::CodeReading::level_at))]
 fn level_expr<'a>(alloc: Global, fuel: usize, level: u8, tokens: &Lexemes<'a>) -> Read<'a, RawExpr>
     requires level { level ≤ 7 }
-    ensures read { Gives (λ x. (raw_of x.0, x.1)) result (level_at (reader fuel) level tokens.now) }
+    ensures read { Gives (λ x. (tree_of x.0, x.1)) result (level_at (reader fuel) level tokens.now) }
 {
     if level == 0 {
         return unary(alloc, fuel, tokens);
@@ -64,9 +65,9 @@ fn chain<'a>(
     tokens: &Lexemes<'a>,
 ) -> Read<'a, RawExpr>
     requires level { below < 7 }
-    ensures read { Gives (λ x. (raw_of x.0, x.1)) result
+    ensures read { Gives (λ x. (tree_of x.0, x.1)) result
         (chain_at (level_at (reader fuel) below) (suc below) (limit_of (suc below) tokens.now)
-        (raw_of first) tokens.now) }
+        (tree_of first) tokens.now) }
 {
     let mut left = first;
     let mut rest = tokens.copy();
@@ -75,7 +76,7 @@ fn chain<'a>(
             None => return Ok((left, rest)),
             Some((op, after)) => {
                 let (right, after) = level_expr(alloc, fuel, below, &after)?;
-                left = raw_build::binary_expr(alloc, op, left, right)?;
+                left = build::binary_expr(alloc, op, left, right)?;
                 rest = after;
             }
         }
@@ -97,13 +98,13 @@ fn limit(level: u8, tokens: &Lexemes<'_>) -> usize
 #[cycle(parser)]
 #[tactic(auto, unfolding(crate::specs::CodeReading::unary_at))]
 fn unary<'a>(alloc: Global, fuel: usize, tokens: &Lexemes<'a>) -> Read<'a, RawExpr>
-    ensures read { Gives (λ x. (raw_of x.0, x.1)) result (unary_at (reader fuel) tokens.now) }
+    ensures read { Gives (λ x. (tree_of x.0, x.1)) result (unary_at (reader fuel) tokens.now) }
 {
     match peek::prefix(tokens) {
         None => primary(alloc, fuel, tokens),
         Some((op, rest)) => {
             let (a, rest) = operand(alloc, fuel, &rest)?;
-            Ok((raw_build::unary_expr(alloc, op, a)?, rest))
+            Ok((build::unary_expr(alloc, op, a)?, rest))
         }
     }
 }
@@ -111,7 +112,7 @@ fn unary<'a>(alloc: Global, fuel: usize, tokens: &Lexemes<'a>) -> Read<'a, RawEx
 #[cycle(parser)]
 #[tactic(auto, unfolding(crate::specs::CodeReading::primary_at))]
 fn primary<'a>(alloc: Global, fuel: usize, tokens: &Lexemes<'a>) -> Read<'a, RawExpr>
-    ensures read { Gives (λ x. (raw_of x.0, x.1)) result (primary_at (reader fuel) tokens.now) }
+    ensures read { Gives (λ x. (tree_of x.0, x.1)) result (primary_at (reader fuel) tokens.now) }
 {
     match tokens.split_first() {
         Some((Lexeme::Number(n), rest)) => number(n, rest),
@@ -123,7 +124,7 @@ fn primary<'a>(alloc: Global, fuel: usize, tokens: &Lexemes<'a>) -> Read<'a, Raw
 }
 
 fn number<'a>(n: u64, rest: Lexemes<'a>) -> Read<'a, RawExpr>
-    ensures read { Gives (λ x. (raw_of x.0, x.1)) result
+    ensures read { Gives (λ x. (tree_of x.0, x.1)) result
         (option_map (number_before rest.entry) (signed n)) }
 {
     match pdl_lexemes::signed(n) {
@@ -134,7 +135,7 @@ fn number<'a>(n: u64, rest: Lexemes<'a>) -> Read<'a, RawExpr>
 
 #[cycle(parser)]
 fn round<'a>(alloc: Global, fuel: usize, tokens: &Lexemes<'a>) -> Read<'a, RawExpr>
-    ensures read { Gives (λ x. (raw_of x.0, x.1)) result (round_at (reader fuel) tokens.now) }
+    ensures read { Gives (λ x. (tree_of x.0, x.1)) result (round_at (reader fuel) tokens.now) }
 {
     let (inner, rest) = expression(alloc, fuel, tokens)?;
     let rest = peek::after_close(&rest).ok_or(Refusal::Refused)?;
@@ -144,13 +145,13 @@ fn round<'a>(alloc: Global, fuel: usize, tokens: &Lexemes<'a>) -> Read<'a, RawEx
 // What begins with a name: `$SIZE(word)`, or an access.
 #[cycle(parser)]
 fn named<'a>(alloc: Global, fuel: usize, tokens: &Lexemes<'a>) -> Read<'a, RawExpr>
-    ensures read { Gives (λ x. (raw_of x.0, x.1)) result (name_first (reader fuel) tokens.now) }
+    ensures read { Gives (λ x. (tree_of x.0, x.1)) result (name_first (reader fuel) tokens.now) }
 {
     match peek::size(tokens) {
         Some((word, rest)) => Ok((RawExpr::Size(word), rest)),
         None => {
             let ((name, given, close), rest) = access(alloc, fuel, tokens)?;
-            Ok((raw_build::access_expr(name, given, close), rest))
+            Ok((build::access_expr(Called { name, close }, given), rest))
         }
     }
 }
@@ -163,7 +164,7 @@ pub fn access<'a>(
     tokens: &Lexemes<'a>,
 ) -> Read<'a, (Span, Vec<RawEntry>, u32)>
     ensures read { Gives {B = (Span × RawIndices × ℕ) × List Lexeme} (λ x.
-        ((x.0.0, raw_indices x.0.1.items, x.0.2), x.1)) result
+        ((x.0.0, indices_of x.0.1.items, x.0.2), x.1)) result
         (access_at (reader fuel) tokens.now) }
 {
     let (name, rest) = peek::access_name(tokens).ok_or(Refusal::Refused)?;
@@ -176,7 +177,7 @@ pub fn access<'a>(
 #[tactic(auto, unfolding(crate::specs::CodeReading::given_at))]
 fn given<'a>(alloc: Global, fuel: usize, tokens: &Lexemes<'a>) -> Read<'a, (Vec<RawEntry>, u32)>
     ensures read { Gives {B = (RawIndices × ℕ) × List Lexeme} (λ x.
-        ((raw_indices x.0.0.items, x.0.1), x.1)) result (given_at (reader fuel) tokens.now) }
+        ((indices_of x.0.0.items, x.0.1), x.1)) result (given_at (reader fuel) tokens.now) }
 {
     if let Some((close, rest)) = peek::close(tokens) {
         return Ok(((Vec::new(alloc), close), rest));
@@ -189,7 +190,7 @@ fn given<'a>(alloc: Global, fuel: usize, tokens: &Lexemes<'a>) -> Read<'a, (Vec<
 #[cycle(parser)]
 #[tactic(auto, unfolding(crate::specs::CodeReading::indices_at))]
 fn indices<'a>(alloc: Global, fuel: usize, tokens: &Lexemes<'a>) -> Read<'a, Vec<RawEntry>>
-    ensures read { Gives (λ x. (raw_indices x.0.items, x.1)) result
+    ensures read { Gives (λ x. (indices_of x.0.items, x.1)) result
         (indices_at (reader fuel) (length tokens.now) tokens.now) }
 {
     let mut found = Vec::new(alloc);
@@ -215,17 +216,17 @@ fn index<'a>(
     found: Vec<RawEntry>,
     tokens: &Lexemes<'a>,
 ) -> Read<'a, Vec<RawEntry>>
-    ensures read { Gives (λ x. (raw_indices x.0.items, x.1)) result
-        (before (raw_indices found.items) (index_at (reader fuel) tokens.now)) }
+    ensures read { Gives (λ x. (indices_of x.0.items, x.1)) result
+        (before (indices_of found.items) (index_at (reader fuel) tokens.now)) }
 {
     let (word, rest) = peek::index_word(tokens).ok_or(Refusal::Refused)?;
     let (e, rest) = expression(alloc, fuel, &rest)?;
-    Ok((raw_build::with_entry(found, word, e)?, rest))
+    Ok((build::with_entry(found, Entry::Given(word, e))?, rest))
 }
 
 /// A whole expression.
 pub fn expr<'a>(alloc: Global, tokens: &Lexemes<'a>) -> Read<'a, RawExpr>
-    ensures read { Gives (λ x. (raw_of x.0, x.1)) result (expr_at tokens.now) }
+    ensures read { Gives (λ x. (tree_of x.0, x.1)) result (expr_at tokens.now) }
 {
     expression(alloc, tokens.len() + 1, tokens)
 }

@@ -1,6 +1,6 @@
 //! The tokens of kernel code, with their words, signs and numbers told apart once.
 
-use crate::LocalType;
+use crate::names::LocalType;
 use pdl_elem::{BinaryOp, UnaryOp};
 
 /// The bytes of a kernel's text from `from` on and before `to`.

@@ -5,7 +5,7 @@ ghost use Rattle.pdl_code.specs.Lexing.{assignment, behind, lexed, lexed_from, l
 
 use crate::fault::KernelFault;
 use crate::lexeme::{Lexeme, NameKind, Span, WordKind};
-use crate::tree::LocalType;
+use crate::names::LocalType;
 use pdl_elem::UnaryOp;
 use pdl_lex::bytes::{digits_len, is_blank, is_letter, word_len as word_bytes};
 use pdl_lexemes::{AssignOp, assignment_named, number_of, operator_named};

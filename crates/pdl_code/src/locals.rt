@@ -1,14 +1,14 @@
 //! What code declares: no word that is a dimension or a visible local, and so many locals.
 ghost use Rattle.std.specs.Prelude.{◌≡◌, OnOk};
 ghost use Rattle.pdl_code.specs.Declaring.{counted, declared_code, declared_step, is_taken, raw_locals};
-ghost use Rattle.pdl_code.specs.RawOf.{raw_code, raw_step};
+ghost use Rattle.pdl_code.specs.TreeOf.{code_of, step_of};
 ghost use Rattle.pdl_code.specs.Refused.{code_declares, scope_after};
 ghost use Rattle.pdl_code.specs.Resolving.{Agrees};
 ghost use Rattle.pdl_code.specs.Scope.{no_flags, top};
 
 use crate::fault::KernelFault;
 use crate::lexeme::Span;
-use crate::raw::RawStmt;
+use crate::names::{RawStmt, Target};
 use crate::scope::{Local, cut, declare, dim, slot};
 use pdl_sig::Signature;
 use std::alloc::Global;
@@ -28,9 +28,9 @@ fn stmt_locals(
     raw: &RawStmt,
 ) -> Result<usize, KernelFault>
     ensures gives { Agrees (λ n. n) result (declared_step source.now signature.now
-        (record { locals = locals.old.items; loops = no_flags }) (raw_step raw.now)) }
+        (record { locals = locals.old.items; loops = no_flags }) (step_of raw.now)) }
     ensures after { OnOk result (record { locals = locals.new.items; loops = no_flags }
-        ≡ scope_after (record { locals = locals.old.items; loops = no_flags }) (raw_step raw.now)) }
+        ≡ scope_after (record { locals = locals.old.items; loops = no_flags }) (step_of raw.now)) }
 {
     match raw {
         RawStmt::Loop(_, body) => code_locals(source, signature, locals, body),
@@ -41,7 +41,7 @@ fn stmt_locals(
             },
             Err(fault) => Err(fault),
         },
-        RawStmt::Declare(ty, word, _) => {
+        RawStmt::Keep(Target::New(ty, word), _, _) => {
             if is_taken(source, signature, locals.as_slice(), *word) {
                 Err(KernelFault::BadText)
             } else {
@@ -51,8 +51,8 @@ fn stmt_locals(
                 }
             }
         }
-        RawStmt::Set(_, _, _) => Ok(locals.len()),
-        RawStmt::Put(_, _, _, _, _) => Ok(locals.len()),
+        RawStmt::Keep(Target::Named(_), _, _) => Ok(locals.len()),
+        RawStmt::Put(_, _, _, _) => Ok(locals.len()),
     }
 }
 
@@ -65,7 +65,7 @@ fn code_locals(
     raw: &[RawStmt],
 ) -> Result<usize, KernelFault>
     ensures gives { Agrees (λ n. n) result (declared_code source.now signature.now
-        (record { locals = locals.old.items; loops = no_flags }) (raw_code raw.now)) }
+        (record { locals = locals.old.items; loops = no_flags }) (code_of raw.now)) }
     ensures same { OnOk result (locals.new.items ≡ locals.old.items) }
 {
     let count = locals.len();
@@ -90,7 +90,7 @@ pub fn declared(
     raw: &[RawStmt],
 ) -> Result<usize, KernelFault>
     ensures { Agrees (λ n. n) result (counted (code_declares source.now signature.now top
-        (raw_code raw.now)) (raw_locals 0 (raw_code raw.now))) }
+        (code_of raw.now)) (raw_locals 0 (code_of raw.now))) }
 {
     let mut locals = Vec::new(alloc);
     code_locals(source, signature, &mut locals, raw)

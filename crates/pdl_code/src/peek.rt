@@ -4,7 +4,7 @@ ghost use Rattle.pdl_code.specs.CodeReading.{after, after_word, after_name, acce
 
 use crate::left::Lexemes;
 use crate::lexeme::{Lexeme, NameKind, Span, WordKind};
-use crate::tree::LocalType;
+use crate::names::LocalType;
 use pdl_elem::{BinaryOp, UnaryOp};
 use pdl_lexemes::level_of;
 

@@ -3,10 +3,9 @@ ghost use Rattle.std.specs.Prelude.{◌≡◌, ◌<◌, ◌^◌, length, IfOk, I
 ghost use Rattle.pdl_sig.specs.Refusals.{IsWellFormed};
 ghost use Rattle.pdl_code.specs.Fit.{IsFit, code_locals};
 ghost use Rattle.pdl_code.specs.Meaning.{code_in, judged, IsFault};
-ghost use Rattle.pdl_code.specs.RawOf.{raw_code};
+ghost use Rattle.pdl_code.specs.TreeOf.{code_of};
 ghost use Rattle.pdl_code.specs.CodeReading.{read_code};
 ghost use Rattle.pdl_code.specs.Resolving.{Agrees, or_bad};
-ghost use Rattle.pdl_code.specs.TreeOf.{code_of};
 
 use crate::block::resolved;
 use crate::depth::is_too_deep;
@@ -15,9 +14,8 @@ use crate::left::Lexemes;
 use crate::lexeme::Lexeme;
 use crate::lexing::read_lexemes;
 use crate::locals::declared;
-use crate::raw::RawStmt;
+use crate::names::{KernelCode, RawStmt};
 use crate::stmts::parse;
-use crate::tree::KernelCode;
 use pdl_elem::Items;
 use pdl_lexemes::Refusal;
 use pdl_sig::Signature;
@@ -26,7 +24,7 @@ use std::alloc::Global;
 // What tokens spell.
 fn parsed(alloc: Global, tokens: &[Lexeme]) -> Result<Vec<RawStmt>, KernelFault>
     requires small { length tokens.now < 2 ^ 32 }
-    ensures { Agrees (λ v. raw_code v.items) result (or_bad (read_code tokens.now)) }
+    ensures { Agrees (λ v. code_of v.items) result (or_bad (read_code tokens.now)) }
 {
     match parse(alloc, &Lexemes::of(tokens)) {
         Ok(raw) => Ok(raw),
@@ -44,7 +42,7 @@ fn judged(
 ) -> Result<KernelCode, KernelFault>
     requires well_formed { IsWellFormed signature.now }
     ensures read { Agrees (λ c. code_of c.stmts) result
-        (judged signature.now text.now (raw_code raw.now)) }
+        (judged signature.now text.now (code_of raw.now)) }
     ensures fit { IfOk result (λ c. IsFit signature.now (code_of c.stmts)) }
     ensures locals { IfOk result (λ c. c.locals ≡ code_locals 0 (code_of c.stmts)) }
 {

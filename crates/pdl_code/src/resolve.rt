@@ -2,19 +2,17 @@
 ghost use Rattle.std.specs.Prelude.{◌≡◌, Ok, false, true, get_or, slice_set, IfOk, Some};
 ghost use Rattle.pdl_code.specs.Fit.{argument_of};
 ghost use Rattle.pdl_code.specs.Join.{join, one_loop};
-ghost use Rattle.pdl_code.specs.RawOf.{raw_indices, raw_of};
+ghost use Rattle.pdl_code.specs.TreeOf.{dimension_of, index_of, indices_of, tree_of};
 ghost use Rattle.pdl_code.specs.Refused.{answer, axis_wrong, lacks, looped, meant_tree, named_dim, no_dim, or_zero, primary_wrong};
 ghost use Rattle.pdl_code.specs.Resolving.{Agrees, resolve_indices, resolve_tree};
 ghost use Rattle.pdl_code.specs.Scope.{axis_of, bytes_of, meant, no_flags};
-ghost use Rattle.pdl_code.specs.Tree.{size as size_of_dim};
-ghost use Rattle.pdl_code.specs.TreeOf.{indices_of, tree_of};
+ghost use Rattle.pdl_code.specs.Tree.{access as access_of, size as size_of_dim};
 
-use crate::build::{binary_expr, unary_expr, with_given, with_looped};
+use crate::build::{access_expr, binary_expr, unary_expr, with_entry};
 use crate::fault::KernelFault;
 use crate::lexeme::Span;
-use crate::raw::{RawEntry, RawExpr};
+use crate::names::{Called, Entry, Expr, RawEntry, RawExpr, Variable};
 use crate::scope::{Local, Meant, argument, axis, dim, dims_of, meaning};
-use crate::tree::{Entry, Expr};
 use pdl_sig::{MOST_NAMES, Signature};
 use std::alloc::Global;
 
@@ -58,10 +56,10 @@ fn named(
         (meant_tree (meant source.now signature.now locals.now word))) }
 {
     match meaning(source, signature, locals, word) {
-        Meant::InSlot(k) => Ok(Expr::Local(k)),
+        Meant::InSlot(k) => Ok(Expr::Named(Variable::Slot(k))),
         Meant::Dim(d) => {
             if is_marked(loops, d) {
-                Ok(Expr::Index(d))
+                Ok(Expr::Named(Variable::Index(d)))
             } else {
                 Err(KernelFault::UnknownDim { at: word.from })
             }
@@ -96,6 +94,16 @@ fn place(
     }
 }
 
+// The word of an index.
+fn dimension_of(entry: &RawEntry) -> Span
+    ensures { result ≡ dimension_of entry.now }
+{
+    match entry {
+        RawEntry::Given(word, _) => *word,
+        RawEntry::Looped(word, _) => *word,
+    }
+}
+
 // Whether some dimension is neither given nor looped.
 fn lacks_one(dims: &[u8], given: &[bool; MOST_NAMES], loops: &[bool; MOST_NAMES]) -> bool
     ensures { result ≡ lacks loops.now dims.now 0 given.now }
@@ -121,7 +129,10 @@ fn with_loop(
     if is_marked(given, k) {
         Ok(found)
     } else {
-        with_looped(found, k, d)
+        match with_entry(found, Entry::Looped(k, Variable::Index(d))) {
+            Ok(more) => Ok(more),
+            Err(_) => Err(KernelFault::NoMemory),
+        }
     }
 }
 
@@ -154,35 +165,90 @@ pub fn tree(
     raw: &RawExpr,
 ) -> Result<Expr, KernelFault>
     ensures { Agrees tree_of result (resolve_tree source.now signature.now
-        (record { locals = locals.now; loops = loops.now }) (raw_of raw.now)) }
+        (record { locals = locals.now; loops = loops.now }) (tree_of raw.now)) }
 {
     match raw {
         RawExpr::Number(n) => Ok(Expr::Number(*n)),
         RawExpr::Size(word) => size(source, signature, *word),
         RawExpr::Named(word) => named(source, signature, locals, loops, *word),
-        RawExpr::Access(name, given, close) => match argument(source, signature, *name) {
-            None => Err(KernelFault::UnknownArgument { at: name.from }),
-            Some(number) => {
-                let dims = dims_of(signature, number);
-                match indices(alloc, source, signature, locals, loops, dims, given, *close) {
-                    Ok(found) => Ok(Expr::Access(number, found)),
-                    Err(fault) => Err(fault),
-                }
-            }
-        },
+        RawExpr::Access(called, given) => {
+            access(alloc, source, signature, locals, loops, *called, given)
+        }
         RawExpr::Unary(op, inner) => match tree(alloc, source, signature, locals, loops, inner) {
-            Ok(a) => unary_expr(alloc, *op, a),
+            Ok(a) => match unary_expr(alloc, *op, a) {
+                Ok(e) => Ok(e),
+                Err(_) => Err(KernelFault::NoMemory),
+            },
             Err(fault) => Err(fault),
         },
         RawExpr::Binary(op, left, right) => {
             match tree(alloc, source, signature, locals, loops, left) {
                 Ok(a) => match tree(alloc, source, signature, locals, loops, right) {
-                    Ok(b) => binary_expr(alloc, *op, a, b),
+                    Ok(b) => match binary_expr(alloc, *op, a, b) {
+                        Ok(e) => Ok(e),
+                        Err(_) => Err(KernelFault::NoMemory),
+                    },
                     Err(fault) => Err(fault),
                 },
                 Err(fault) => Err(fault),
             }
         }
+    }
+}
+
+// An access.
+#[cycle(resolve)]
+fn access(
+    alloc: Global,
+    source: &[u8],
+    signature: &Signature,
+    locals: &[Local],
+    loops: &[bool; MOST_NAMES],
+    called: Called,
+    given: &[RawEntry],
+) -> Result<Expr, KernelFault>
+    ensures { Agrees tree_of result (resolve_tree source.now signature.now
+        (record { locals = locals.now; loops = loops.now })
+        (access_of called (indices_of given.now))) }
+{
+    let name = called.name;
+    match argument(source, signature, name) {
+        None => Err(KernelFault::UnknownArgument { at: name.from }),
+        Some(number) => {
+            let dims = dims_of(signature, number);
+            match indices(
+                alloc,
+                source,
+                signature,
+                locals,
+                loops,
+                dims,
+                given,
+                called.close,
+            ) {
+                Ok(found) => Ok(access_expr(number, found)),
+                Err(fault) => Err(fault),
+            }
+        }
+    }
+}
+
+// An index.
+#[cycle(resolve)]
+fn index(
+    alloc: Global,
+    source: &[u8],
+    signature: &Signature,
+    locals: &[Local],
+    loops: &[bool; MOST_NAMES],
+    entry: &RawEntry,
+) -> Result<Expr, KernelFault>
+    ensures { Agrees tree_of result (resolve_tree source.now signature.now
+        (record { locals = locals.now; loops = loops.now }) (index_of entry.now)) }
+{
+    match entry {
+        RawEntry::Given(_, expr) => tree(alloc, source, signature, locals, loops, expr),
+        RawEntry::Looped(_, word) => named(source, signature, locals, loops, *word),
     }
 }
 
@@ -200,26 +266,23 @@ pub fn indices(
 ) -> Result<Vec<Entry>, KernelFault>
     ensures { Agrees (λ v. indices_of v.items) result (resolve_indices source.now signature.now
         (record { locals = locals.now; loops = loops.now }) dims.now no_flags close
-        (raw_indices given.now)) }
+        (indices_of given.now)) }
 {
     let mut flags = [false; MOST_NAMES];
     let mut found = Vec::new(alloc);
     for one in given {
-        match one {
-            RawEntry::Along(word, expr) => match place(source, signature, dims, &flags, *word) {
-                Ok(k) => match tree(alloc, source, signature, locals, loops, expr) {
-                    Ok(e) => match with_given(found, k, e) {
-                        Ok(more) => {
-                            found = more;
-                            mark(&mut flags, k);
-                        }
-                        Err(fault) => return Err(fault),
-                    },
-                    Err(fault) => return Err(fault),
+        match place(source, signature, dims, &flags, dimension_of(one)) {
+            Ok(k) => match index(alloc, source, signature, locals, loops, one) {
+                Ok(e) => match with_entry(found, Entry::Given(k, e)) {
+                    Ok(more) => {
+                        found = more;
+                        mark(&mut flags, k);
+                    }
+                    Err(_) => return Err(KernelFault::NoMemory),
                 },
                 Err(fault) => return Err(fault),
             },
-            RawEntry::Blank => {}
+            Err(fault) => return Err(fault),
         }
     }
     if lacks_one(dims, &flags, loops) {

@@ -6,7 +6,7 @@ ghost use Rattle.pdl_code.specs.Scope.{argument_place, axis_of, bare, bytes_of, 
 
 use crate::fault::KernelFault;
 use crate::lexeme::Span;
-use crate::tree::LocalType;
+use crate::names::LocalType;
 use pdl_sig::{Role, Signature};
 
 /// A visible local: the word that declares it, and its type.

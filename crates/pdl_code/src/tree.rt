@@ -1,65 +1,43 @@
-//! Kernel code whose names are resolved. An argument is its number in the signature, a dimension
-//! its number among the signature's names, and a local its slot.
+//! The tree of kernel code, over how names stand in it: a word of an expression `W`, an argument
+//! `A`, a dimension `D`, and a word that is stored to `S`. `names` has the two ways.
 
-use pdl_elem::{BinaryOp, Items, UnaryOp};
+use pdl_elem::{BinaryOp, UnaryOp};
 
-/// One index of an access. The first number is the place of its dimension in the argument.
+/// An index of an access, behind its dimension.
 #[cycle(expr)]
 #[derive(Drop)]
-pub enum Entry {
+pub enum Entry<W, A, D> {
     /// An index that the text gives.
-    Given(usize, Expr),
-    /// The index of the loop over a dimension, by the dimension's number among the signature's
-    /// names.
-    Looped(usize, usize),
+    Given(D, Expr<W, A, D>),
+    /// The index of the loop over the dimension, which no text gives.
+    Looped(D, W),
 }
 
 /// An expression. Every number of it is a longlong.
 #[cycle(expr)]
 #[derive(Drop)]
-pub enum Expr {
+pub enum Expr<W, A, D> {
     /// From 0 to 9223372036854775807.
     Number(i64),
     /// The size of a dimension, `$SIZE(n)`.
-    Size(usize),
-    /// The index of the loop over a dimension.
-    Index(usize),
-    /// A local, by its slot.
-    Local(usize),
+    Size(D),
+    /// A local, or the index of a loop.
+    Named(W),
     /// An element of an argument. The given indices come first, in the order of the text.
-    Access(usize, Vec<Entry>),
-    Unary(UnaryOp, Box<Expr>),
-    Binary(BinaryOp, Box<Expr>, Box<Expr>),
-}
-
-/// The declared type of a local.
-#[derive(Clone, Copy, PartialEq, Eq, Debug)]
-pub enum LocalType {
-    /// `int` or `long`
-    Long,
-    /// `longlong`
-    Longlong,
-    /// `$GENERIC()`: the call's generic type.
-    Generic,
+    Access(A, Vec<Entry<W, A, D>>),
+    Unary(UnaryOp, Box<Expr<W, A, D>>),
+    Binary(BinaryOp, Box<Expr<W, A, D>>, Box<Expr<W, A, D>>),
 }
 
 /// A statement.
 #[derive(Drop)]
-pub enum Stmt {
+pub enum Stmt<W, A, D, S> {
     /// The code at each index of a dimension, `loop(n) %{ .. %}`.
-    Loop(usize, Vec<Stmt>),
+    Loop(D, Vec<Stmt<W, A, D, S>>),
     /// `if (e) %{ .. %} else %{ .. %}`
-    If(Expr, Vec<Stmt>, Vec<Stmt>),
-    /// A store to a local. A declaration is one to the next slot, of 0 where it has no value.
-    Keep(usize, LocalType, Option<BinaryOp>, Expr),
+    If(Expr<W, A, D>, Vec<Stmt<W, A, D, S>>, Vec<Stmt<W, A, D, S>>),
+    /// A store to a local. A declaration is one, of 0 where it has no value.
+    Keep(S, Option<BinaryOp>, Expr<W, A, D>),
     /// A store to an element of an argument.
-    Put(usize, Vec<Entry>, Option<BinaryOp>, Expr),
-}
-
-/// The code of a kernel.
-#[derive(Drop)]
-pub struct KernelCode {
-    pub stmts: Items<Stmt>,
-    /// How many locals are visible at once, at most. Every slot is below it.
-    pub locals: usize,
+    Put(A, Vec<Entry<W, A, D>>, Option<BinaryOp>, Expr<W, A, D>),
 }

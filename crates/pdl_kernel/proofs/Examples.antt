@@ -7,7 +7,8 @@ use Rattle.pdl_buf.specs.declared.made.Made.{Made}
 use Rattle.pdl_sig.specs.declared.Role.TheVariants.{Input, Output}
 use Rattle.pdl_sig.specs.declared.Resolved.{Resolved}
 use Rattle.pdl_sig.specs.Known.{generic_arg}
-use Rattle.pdl_code.specs.Tree.{number, index, access, binary, none, along, repeat, put, done, next}
+use Rattle.pdl_code.specs.declared.names.Variable.TheVariants.{Index}
+use Rattle.pdl_code.specs.Tree.{number, named, access, binary, none, along, repeat, put, done, next}
 use Rattle.pdl_kernel.specs.declared.faults.Fault.TheVariants.{DivideByZero, IndexOutOfRange}
 use Rattle.pdl_kernel.specs.Call.{called, fault_at}
 use Rattle.pdl_kernel.specs.Kernels.{Kernel}
@@ -23,7 +24,7 @@ tot = record {
     names = codes "n" ∷ [];
     fixed = None ∷ [];
   };
-  code = next (repeat 0 (next (put 1 none (Some Add) (access 0 (along 0 (index 0) none))) done)) done;
+  code = next (repeat 0 (next (put 1 none (Some Add) (access 0 (along 0 (named (Index 0)) none))) done)) done;
 }
 
 abbrev rows : Resolved
@@ -62,7 +63,7 @@ shift = record {
     names = codes "n" ∷ [];
     fixed = None ∷ [];
   };
-  code = next (repeat 0 (next (put 1 (along 0 (index 0) none) None (access 0 (along 0 (binary Add (index 0) (number (pos 1))) none))) done)) done;
+  code = next (repeat 0 (next (put 1 (along 0 (named (Index 0)) none) None (access 0 (along 0 (binary Add (named (Index 0)) (number (pos 1))) none))) done)) done;
 }
 
 abbrev row : Resolved

@@ -58,7 +58,7 @@ module _ (R : Store → Store → Type 0) (h : IsKept R) where
     pub step_relates : (r : Resolved) (s : Step) (loops : List ℕ) (m : Store) → Relates m (step r loops s m)
     step_relates r (repeat d body) loops m = turns_relate _ (λ i now. run_relates r body (slice_set loops d i) now) _ 0 m
     step_relates r (choose e whole other) loops m = after m (value r.sizes loops m e) _ (λ x. branch_relates m x _ _ (run_relates r whole loops m) (run_relates r other loops m))
-    step_relates r (keep k ty op e) loops m = after m (value r.sizes loops m e) _ (λ x. after m (changed op (get_or m.locals k (pos 0)) x) _ (λ y. at_once m _ (h.keep m (local_type r.generic ty) k y)))
+    step_relates r (keep t op e) loops m = after m (value r.sizes loops m e) _ (λ x. after m (changed op (get_or m.locals t.slot (pos 0)) x) _ (λ y. at_once m _ (h.keep m (local_type r.generic t.ty) t.slot y)))
     step_relates r (put a is op e) loops m = after m (value r.sizes loops m e) _ (λ x. after m (indices r.sizes loops m is start) _ (λ found. assign_relates m a op x (coordinates_in (argument m a).dims found)))
 
     pub run_relates : (r : Resolved) (c : Code) (loops : List ℕ) (m : Store) → Relates m (run r loops c m)

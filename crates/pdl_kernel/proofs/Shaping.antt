@@ -12,7 +12,7 @@ use Rattle.pdl_sig.specs.declared.Role.TheVariants.{Input, Output, Both, Temp}
 use Rattle.pdl_sig.specs.declared.SigArg.{SigArg}
 use Rattle.pdl_sig.specs.declared.Signature.{Signature}
 use Rattle.pdl_code.specs.Fit.{AreIndicesFit, IsCodeFit, IsEachOnce, IsStepFit, IsTreeFit, argument_of, locals_after, rank_of}
-use Rattle.pdl_code.specs.Tree.{Tree, Indices, Step, Code, number, size, index, local, access, unary, binary, none, along, repeat, choose, keep, put, done, next}
+use Rattle.pdl_code.specs.Tree.{Tree, Indices, Step, Code, number, size, named, access, unary, binary, none, along, repeat, choose, keep, put, done, next}
 use Rattle.pdl_kernel.specs.Call.{with_given}
 use Rattle.pdl_kernel.specs.Over.{AreIndicesOver, IsCodeOver, IsStepOver, IsTreeOver}
 use Rattle.pdl_kernel.specs.Places.{Kind, is_written, kind_of, rest_of}
@@ -46,8 +46,7 @@ module _ (s : Signature) (ks : List Kind) (h : AreKinds s ks) where
     tree_over : (t : Tree) (n : ℕ) → IsTreeFit s n t → IsTreeOver ks t
     tree_over (number z) n f = tt
     tree_over (size d) n f = tt
-    tree_over (index d) n f = tt
-    tree_over (local k) n f = tt
+    tree_over (named w) n f = tt
     tree_over (access a is) n f =
         (omega (arith, f.0, h.count), (λ d. subst (λ m. IsEachOnce m is) (sym (h.rank a d f.0)) f.3, indices_over is n (rank_of s a) f.2))
     tree_over (unary op e) n f = tree_over e n f
@@ -61,7 +60,7 @@ module _ (s : Signature) (ks : List Kind) (h : AreKinds s ks) where
     step_over : (step : Step) (n : ℕ) → IsStepFit s n step → IsStepOver ks step
     step_over (repeat d body) n f = code_over body n f.1
     step_over (choose e whole other) n f = (tree_over e n f.0, (code_over whole n f.1, code_over other n f.2))
-    step_over (keep k ty op e) n f = tree_over e n f.1
+    step_over (keep t op e) n f = tree_over e n f.1
     step_over (put a is op e) n f =
         (λ d. ap is_written (h.role a d f.1.0) ∙ written (argument_of s a).role f.0, (tree_over (access a is) n f.1, tree_over e n f.2))
 

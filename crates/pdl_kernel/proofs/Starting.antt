@@ -1,6 +1,6 @@
 -- Arguments as they are laid out show what the arguments of a call start with.
 use Rattle.std.proofs.Common.{◌≡◌, ℕ, zero, suc, ◌+◌, ◌*◌, ◌<◌, ℤ, pos, List, [], ◌∷◌, ◌++◌, map, length, drop, replicate, get_or, refl, sym, ap, ap₂, ◌∙◌, arith}
-use Rattle.std.specs.Prelude.{true, All, if◌then◌else◌, Option, Some, None, Result}
+use Rattle.std.specs.Prelude.{All, if◌then◌else◌, Option, Some, None, Result}
 use Rattle.std.specs.List.{range_with_len}
 use Rattle.std.proofs.Math.ListN.{get_or-map}
 use Rattle.std.proofs.lemmas.List.{drop_all, length-map}
@@ -13,7 +13,7 @@ use Rattle.pdl_shape.specs.Laws.{PositionLaws}
 use Rattle.pdl_shape.specs.Shape.{IsWithin, coordinates_of, position_of, size_of}
 use Rattle.pdl_buf.specs.declared.made.Made.{Made}
 use Rattle.pdl_sig.specs.Refusals.{names_limit}
-use Rattle.pdl_sig.specs.Resolution.{core_sizes, is_given, is_output, made, made_for, size_in, type_in}
+use Rattle.pdl_sig.specs.Resolution.{core_sizes, is_given, made, made_for, size_in, type_in}
 use Rattle.pdl_sig.specs.declared.Resolved.{Resolved}
 use Rattle.pdl_sig.specs.declared.Role.{Role}
 use Rattle.pdl_sig.specs.declared.Role.TheVariants.{Input, Output, Both, Temp}

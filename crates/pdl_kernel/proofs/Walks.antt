@@ -7,10 +7,10 @@ use Rattle.std.proofs.lemmas.Bool.{cases_eq, cases_lt}
 use Rattle.std.proofs.lemmas.List.Sums.{sum_by-set}
 use mathlib.Core.Logic.{inl, inr}
 use Rattle.pdl_sig.specs.Refusals.{names_limit}
-use Rattle.pdl_code.specs.declared.tree.Entry.{Entry, Given, Looped}
-use Rattle.pdl_code.specs.declared.tree.Expr.{Expr}
-use Rattle.pdl_code.specs.Tree.{Tree, Indices, access, along, binary, index, local, none, number, size, unary}
-use Rattle.pdl_code.specs.TreeOf.{entry_of, indices_of, tree_of}
+use Rattle.pdl_code.specs.declared.names.Variable.{Variable}
+use Rattle.pdl_code.specs.declared.tree.Entry.{Given, Looped}
+use Rattle.pdl_code.specs.Tree.{Tree, Indices, access, along, binary, none, number, size, named, unary}
+use Rattle.pdl_code.specs.TreeOf.{KernelEntry, KernelExpr, entry_of, indices_of, tree_of}
 use Rattle.pdl_kernel.specs.declared.axes.Axis.{Axis}
 use Rattle.pdl_kernel.specs.declared.faults.Fault.{Fault}
 use Rattle.pdl_code.specs.Fit.{IsEachOnce, IsLeft, places_of}
@@ -226,27 +226,27 @@ near_more None s i e h = tt
 near_more (Some q) None i e h = cc
 near_more (Some q) (Some p) i e h = let same : q ≡ p = cc in omega (arith, same, h)
 
-past_end : (es : List Entry) (i : ℕ) → length es ≤ i → indices_of (drop i es) ≡ none
+past_end : (es : List KernelEntry) (i : ℕ) → length es ≤ i → indices_of (drop i es) ≡ none
 past_end [] zero le = refl
 past_end [] (suc i) le = refl
 past_end (e ∷ es) zero le = absurd (omega arith)
 past_end (e ∷ es) (suc i) le = past_end es i (omega (arith, le))
 
 -- all indices lead to a place
-pub walked : (sizes loops : List ℕ) (m : Store) (axes own : List Axis) (es : List Entry) (i q : ℕ) (x : Option ℕ) → axes ≡ own → IsEachOnce (length own) (indices_of es) → length es ≤ i
+pub walked : (sizes loops : List ℕ) (m : Store) (axes own : List Axis) (es : List KernelEntry) (i q : ℕ) (x : Option ℕ) → axes ≡ own → IsEachOnce (length own) (indices_of es) → length es ≤ i
     → walk sizes loops m axes (indices_of (drop i es)) x ≡ walk sizes loops m axes (indices_of es) (Some q)
     → or_range x ≡ and_then (indices sizes loops m (indices_of es) start) (λ js. or_range (found own js q))
 walked sizes loops m axes own es i q x same each le rest =
     let last : Ok x ≡ walk sizes loops m axes (indices_of (drop i es)) x = sym (ap (λ is. walk sizes loops m axes is x) (past_end es i le)) in
     found_out own q (indices sizes loops m (indices_of es) start) x (sym (last ∙ rest ∙ ap (λ xs. walk sizes loops m xs (indices_of es) (Some q)) same ∙ walk_is sizes loops m own (indices_of es) q each))
 
-entry_next : (es : List Entry) (i : ℕ) (g : Entry) → i < length es → indices_of (drop i es) ≡ entry_of (get_or es i g) (indices_of (drop (suc i) es))
+entry_next : (es : List KernelEntry) (i : ℕ) (g : KernelEntry) → i < length es → indices_of (drop i es) ≡ entry_of (get_or es i g) (indices_of (drop (suc i) es))
 entry_next [] i g lt = absurd (omega arith)
 entry_next (e ∷ es) zero g lt = refl
 entry_next (e ∷ es) (suc i) g lt = entry_next es i g (omega (arith, lt))
 
 -- a fault of an index
-pub walked_fault : (sizes loops : List ℕ) (m : Store) (axes own : List Axis) (es : List Entry) (i k q : ℕ) (x : Option ℕ) (g : Entry) (e : Expr) (f : Fault) → axes ≡ own → IsEachOnce (length own) (indices_of es) → i < length es
+pub walked_fault : (sizes loops : List ℕ) (m : Store) (axes own : List Axis) (es : List KernelEntry) (i k q : ℕ) (x : Option ℕ) (g : KernelEntry) (e : KernelExpr) (f : Fault) → axes ≡ own → IsEachOnce (length own) (indices_of es) → i < length es
     → g ≡ get_or es i g → g ≡ Given k e → value sizes loops m (tree_of e) ≡ Err f
     → walk sizes loops m axes (indices_of (drop i es)) x ≡ walk sizes loops m axes (indices_of es) (Some q)
     → Err f ≡ and_then (indices sizes loops m (indices_of es) start) (λ js. or_range (found own js q))
@@ -255,17 +255,17 @@ walked_fault sizes loops m axes own es i k q x g e f same each lt item given err
     let stop : walk sizes loops m axes (indices_of (drop i es)) x ≡ Err f = ap (λ is. walk sizes loops m axes is x) here ∙ ap (λ r. and_then r (λ j. walk sizes loops m axes (indices_of (drop (suc i) es)) (moved axes k j x))) err in
     fault_out own q (indices sizes loops m (indices_of es) start) f (sym (sym stop ∙ rest ∙ ap (λ xs. walk sizes loops m xs (indices_of es) (Some q)) same ∙ walk_is sizes loops m own (indices_of es) q each))
 
-item_next : (es : List Entry) (i k : ℕ) (e : Tree) (g : Entry) → i < length es → g ≡ get_or es i g → ((rest : Indices) → entry_of g rest ≡ along k e rest)
+item_next : (es : List KernelEntry) (i k : ℕ) (e : Tree) (g : KernelEntry) → i < length es → g ≡ get_or es i g → ((rest : Indices) → entry_of g rest ≡ along k e rest)
     → indices_of (drop i es) ≡ along k e (indices_of (drop (i + 1) es))
 item_next es i k e g lt item here =
     entry_next es i g lt ∙ ap (λ h. entry_of h (indices_of (drop (suc i) es))) (sym item) ∙ here (indices_of (drop (suc i) es))
     ∙ (let one : suc i ≡ i + 1 = omega arith in ap (λ n. along k e (indices_of (drop n es))) one)
 
-pub given_next : (es : List Entry) (i k : ℕ) (e : Expr) (g : Entry) → i < length es → g ≡ get_or es i g → g ≡ Given k e → indices_of (drop i es) ≡ along k (tree_of e) (indices_of (drop (i + 1) es))
+pub given_next : (es : List KernelEntry) (i k : ℕ) (e : KernelExpr) (g : KernelEntry) → i < length es → g ≡ get_or es i g → g ≡ Given k e → indices_of (drop i es) ≡ along k (tree_of e) (indices_of (drop (i + 1) es))
 given_next es i k e g lt item is = item_next es i k (tree_of e) g lt item (λ rest. ap (λ h. entry_of h rest) is)
 
-pub looped_next : (es : List Entry) (i k d : ℕ) (g : Entry) → i < length es → g ≡ get_or es i g → g ≡ Looped k d → indices_of (drop i es) ≡ along k (index d) (indices_of (drop (i + 1) es))
-looped_next es i k d g lt item is = item_next es i k (index d) g lt item (λ rest. ap (λ h. entry_of h rest) is)
+pub looped_next : (es : List KernelEntry) (i k : ℕ) (w : Variable) (g : KernelEntry) → i < length es → g ≡ get_or es i g → g ≡ Looped k w → indices_of (drop i es) ≡ along k (named w) (indices_of (drop (i + 1) es))
+looped_next es i k w g lt item is = item_next es i k (named w) g lt item (λ rest. ap (λ h. entry_of h rest) is)
 
 -- one index more
 pub walked_more : (sizes loops : List ℕ) (m : Store) (axes : List Axis) (here rest : Indices) (k : ℕ) (e : Tree) (j : ℤ) (x y : Option ℕ) (all : Result (Option ℕ) Fault) → here ≡ along k e rest → value sizes loops m e ≡ Ok j
@@ -281,8 +281,7 @@ abbrev mutual
   pub tree_weight : Tree → ℕ
   tree_weight (number z) = 1
   tree_weight (size d) = 1
-  tree_weight (index d) = 1
-  tree_weight (local k) = 1
+  tree_weight (named w) = 1
   tree_weight (access a is) = indices_weight is + 1
   tree_weight (unary op e) = tree_weight e + 1
   tree_weight (binary op x y) = tree_weight x + tree_weight y + 1
@@ -291,7 +290,7 @@ abbrev mutual
   indices_weight none = 0
   indices_weight (along k e rest) = tree_weight e + 1 + indices_weight rest
 
-entries_counted : (es : List Entry) → length (places_of (indices_of es)) ≡ length es
+entries_counted : (es : List KernelEntry) → length (places_of (indices_of es)) ≡ length es
 entries_counted [] = refl
 entries_counted (Given k e ∷ es) = ap suc (entries_counted es)
 entries_counted (Looped k d ∷ es) = ap suc (entries_counted es)
@@ -310,5 +309,5 @@ left_few n marks (along k e rest) h =
     let here : free (get_or marks k false) ≡ 1 = ap free h.1 in
     omega (arith, more, set, here)
 
-pub few_entries : (n : ℕ) (es : List Entry) → IsEachOnce n (indices_of es) → length es ≤ 8
+pub few_entries : (n : ℕ) (es : List KernelEntry) → IsEachOnce n (indices_of es) → length es ≤ 8
 few_entries n es h = let m : length (places_of (indices_of es)) ≤ 8 = left_few n (replicate names_limit false) (indices_of es) h in subst (λ k. k ≤ 8) (entries_counted es) m

@@ -6,7 +6,7 @@ abbrev mutual
   pub step_weight : Step → ℕ
   step_weight (repeat d body) = code_weight body + 4
   step_weight (choose e whole other) = code_weight whole + code_weight other + 2
-  step_weight (keep k kind op e) = 1
+  step_weight (keep t op e) = 1
   step_weight (put a is op e) = 1
 
   pub code_weight : Code → ℕ

@@ -6,12 +6,13 @@ use base.Stored.{coded_unit}
 use mathlib.Core.Logic.{inl, inr}
 use Rattle.pdl_elem.specs.contracts.UnaryOp as unary_op
 use Rattle.pdl_elem.specs.contracts.BinaryOp as binary_op
-use Rattle.pdl_code.specs.contracts.tree.LocalType as local_type
+use Rattle.pdl_code.specs.contracts.names.LocalType as local_type
 use Rattle.std.proofs.Common.{◌∙◌, ap, refl}
 use Rattle.pdl_elem.specs.declared.UnaryOp.{UnaryOp}
 use Rattle.pdl_elem.specs.declared.BinaryOp.{BinaryOp}
-use Rattle.pdl_code.specs.declared.tree.LocalType.{LocalType}
-use Rattle.pdl_code.specs.Tree.{Tree, Indices, Step, Code, number, size, index, local, access, unary, binary, none, along, repeat, choose, keep, put, done, next}
+use Rattle.pdl_code.specs.declared.names.LocalType.{LocalType}
+use Rattle.pdl_code.specs.declared.names.Variable.TheVariants.{Slot, Index}
+use Rattle.pdl_code.specs.Tree.{Tree, Indices, Step, Code, number, size, named, access, unary, binary, none, along, repeat, choose, keep, put, done, next}
 
 -- a mark: what a part of code is, apart from the parts that it is made of
 pub data Mark : Type 0 where
@@ -115,8 +116,8 @@ abbrev mutual
   pub tree_marks : Tree → List Mark → List Mark
   tree_marks (number z) ms = a_number z ∷ ms
   tree_marks (size d) ms = a_size d ∷ ms
-  tree_marks (index d) ms = an_index d ∷ ms
-  tree_marks (local k) ms = a_local k ∷ ms
+  tree_marks (named (Index d)) ms = an_index d ∷ ms
+  tree_marks (named (Slot k)) ms = a_local k ∷ ms
   tree_marks (access a is) ms = indices_marks is (an_access a ∷ ms)
   tree_marks (unary op e) ms = tree_marks e (a_unary op ∷ ms)
   tree_marks (binary op e f) ms = tree_marks e (tree_marks f (a_binary op ∷ ms))
@@ -130,7 +131,7 @@ abbrev mutual
   step_marks (repeat d body) ms = code_marks body (a_loop d ∷ ms)
   step_marks (choose e whole other) ms =
       tree_marks e (code_marks whole (code_marks other (a_choice ∷ ms)))
-  step_marks (keep k ty op e) ms = tree_marks e (a_keep k ty op ∷ ms)
+  step_marks (keep t op e) ms = tree_marks e (a_keep t.slot t.ty op ∷ ms)
   step_marks (put a is op e) ms = tree_marks e (indices_marks is (a_put a op ∷ ms))
 
   pub code_marks : Code → List Mark → List Mark
@@ -186,7 +187,7 @@ take_choose _ _ s = s
 
 abbrev pub take_keep : ℕ → LocalType → Option BinaryOp → List Tree → Stacks → Stacks
 take_keep k ty op [] s = s
-take_keep k ty op (e ∷ rest) s = push_step (keep k ty op e) (record s { trees = rest })
+take_keep k ty op (e ∷ rest) s = push_step (keep (record { slot = k; ty = ty }) op e) (record s { trees = rest })
 
 abbrev pub take_put : ℕ → Option BinaryOp → List Tree → List Indices → Stacks → Stacks
 take_put a op (e ∷ trees) (is ∷ rest) s =
@@ -201,8 +202,8 @@ take_next _ _ s = s
 abbrev pub read_mark : Mark → Stacks → Stacks
 read_mark (a_number z) s = push_tree (number z) s
 read_mark (a_size n) s = push_tree (size n) s
-read_mark (an_index n) s = push_tree (index n) s
-read_mark (a_local n) s = push_tree (local n) s
+read_mark (an_index n) s = push_tree (named (Index n)) s
+read_mark (a_local n) s = push_tree (named (Slot n)) s
 read_mark (an_access n) s = take_access n s.indices s
 read_mark (a_unary u) s = take_unary u s.trees s
 read_mark (a_binary b) s = take_binary b s.trees s
@@ -224,8 +225,8 @@ mutual
       read_marks (tree_marks t ms) s ≡ read_marks ms (push_tree t s)
   tree_again (number z) ms s = refl
   tree_again (size d) ms s = refl
-  tree_again (index d) ms s = refl
-  tree_again (local k) ms s = refl
+  tree_again (named (Index d)) ms s = refl
+  tree_again (named (Slot k)) ms s = refl
   tree_again (access a is) ms s = indices_again is _ s
   tree_again (unary op e) ms s = tree_again e _ s
   tree_again (binary op e f) ms s = tree_again e _ s ∙ tree_again f _ (push_tree e s)
@@ -242,7 +243,7 @@ mutual
   step_again (choose e whole other) ms s =
       tree_again e _ s ∙ (code_again whole _ (push_tree e s)
       ∙ code_again other _ (push_code whole (push_tree e s)))
-  step_again (keep k ty op e) ms s = tree_again e _ s
+  step_again (keep t op e) ms s = tree_again e _ s
   step_again (put a is op e) ms s = tree_again e _ s ∙ indices_again is _ (push_tree e s)
 
   pub code_again : (c : Code) (ms : List Mark) (s : Stacks) →

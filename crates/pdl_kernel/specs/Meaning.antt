@@ -11,9 +11,11 @@ use Rattle.pdl_buf.specs.declared.made.Made.{Made}
 use Rattle.pdl_sig.specs.declared.Resolved.{Resolved}
 use Rattle.pdl_sig.specs.Refusals.{names_limit}
 use Rattle.pdl_sig.specs.Resolution.{size_in}
-use Rattle.pdl_code.specs.declared.tree.LocalType.{LocalType}
-use Rattle.pdl_code.specs.declared.tree.LocalType.TheVariants.{Long, Longlong, Generic}
-use Rattle.pdl_code.specs.Tree.{Tree, Indices, Step, Code, number, size, index, local, access, unary, binary, none, along, repeat, choose, keep, put, done, next}
+use Rattle.pdl_code.specs.declared.names.LocalType.{LocalType}
+use Rattle.pdl_code.specs.declared.names.LocalType.TheVariants.{Long, Longlong, Generic}
+use Rattle.pdl_code.specs.declared.names.Variable.{Variable}
+use Rattle.pdl_code.specs.declared.names.Variable.TheVariants.{Slot, Index}
+use Rattle.pdl_code.specs.Tree.{Tree, Indices, Step, Code, number, size, named, access, unary, binary, none, along, repeat, choose, keep, put, done, next}
 use Rattle.pdl_kernel.specs.declared.faults.Fault.{Fault}
 use Rattle.pdl_kernel.specs.declared.faults.Fault.TheVariants.{DivideByZero, IndexOutOfRange}
 
@@ -90,13 +92,17 @@ with_argument m k a = Ok (record m { arguments = slice_set m.arguments k a })
 abbrev pub start : List ℤ
 start = replicate names_limit (pos 0)
 
+-- the number of a word: a local, or the index of a loop
+abbrev pub number_of : (loops : List ℕ) → Store → Variable → ℤ
+number_of loops m (Slot k) = get_or m.locals k (pos 0)
+number_of loops m (Index d) = pos (get_or loops d 0)
+
 abbrev mutual
   -- the number of an expression, where `loops` has the index of the loop over each dimension
   pub value : (sizes loops : List ℕ) → Store → Tree → Result ℤ Fault
   value sizes loops m (number n) = Ok n
   value sizes loops m (size d) = Ok (pos (size_in sizes d))
-  value sizes loops m (index d) = Ok (pos (get_or loops d 0))
-  value sizes loops m (local k) = Ok (get_or m.locals k (pos 0))
+  value sizes loops m (named w) = Ok (number_of loops m w)
   value sizes loops m (access a is) = and_then (indices sizes loops m is start)
       (element_at (argument m a))
   value sizes loops m (unary op e) = and_then (value sizes loops m e) (λ x.
@@ -131,10 +137,10 @@ abbrev mutual
       0 (size_in r.sizes d) m
   step r loops (choose e whole other) m =
       and_then (value r.sizes loops m e) (λ x. branch x (run r loops whole m) (run r loops other m))
-  step r loops (keep k ty op e) m =
+  step r loops (keep t op e) m =
       and_then (value r.sizes loops m e) (λ x.
-      and_then (changed op (get_or m.locals k (pos 0)) x) (λ y.
-      Ok (kept (local_type r.generic ty) k m y)))
+      and_then (changed op (get_or m.locals t.slot (pos 0)) x) (λ y.
+      Ok (kept (local_type r.generic t.ty) t.slot m y)))
   step r loops (put a is op e) m =
       and_then (value r.sizes loops m e) (λ x. and_then (indices r.sizes loops m is start) (λ is.
       and_then (assigned (argument m a) op x is) (with_argument m a)))

@@ -3,7 +3,7 @@ ghost use Rattle.std.specs.Prelude.{◌≡◌, length};
 ghost use Rattle.pdl_code.specs.Fit.{IsEachOnce};
 ghost use Rattle.pdl_code.specs.Tree.{access};
 ghost use Rattle.pdl_code.specs.TreeOf.{indices_of, tree_of};
-ghost use Rattle.pdl_kernel.specs.Meaning.{and_then, indices, or_range, start, value};
+ghost use Rattle.pdl_kernel.specs.Meaning.{and_then, indices, number_of, or_range, start, value};
 ghost use Rattle.pdl_kernel.specs.Over.{AreIndicesOver, IsTreeOver};
 ghost use Rattle.pdl_kernel.specs.Places.{IsSound, found};
 ghost use Rattle.pdl_kernel.specs.Scenes.{kinds_of, store_of};
@@ -13,10 +13,21 @@ use crate::axes::moved;
 use crate::faults::Fault;
 use crate::operations::operate;
 use crate::scene::{Scene, argument_at, local, loop_index, size_in};
-use pdl_code::{Entry, Expr};
+use pdl_code::{Entry, Expr, Variable, rows_are_trees};
 use pdl_elem::{Ty, unary};
 use pdl_shape::shape_laws;
 use pdl_sig::{MOST_NAMES, Resolved};
+
+/// The number of a word: a local, or the index of a loop.
+#[inline(always)]
+fn named(scene: &Scene, loops: &[u32; MOST_NAMES], word: Variable) -> i64
+    ensures { result ≡ number_of loops.now (store_of scene.now) word }
+{
+    match word {
+        Variable::Slot(slot) => local(scene, slot),
+        Variable::Index(dimension) => i64::from(loop_index(loops, dimension)),
+    }
+}
 
 /// The number of an expression, or its first fault.
 #[cycle(eval)]
@@ -29,11 +40,11 @@ pub fn value(
     requires { IsTreeOver (kinds_of scene.now) (tree_of expr.now) }
     ensures { result ≡ value resolved.now.sizes loops.now (store_of scene.now) (tree_of expr.now) }
 {
+    rows_are_trees();
     match expr {
         Expr::Number(n) => Ok(*n),
         Expr::Size(dimension) => Ok(i64::from(size_in(resolved, *dimension))),
-        Expr::Index(dimension) => Ok(i64::from(loop_index(loops, *dimension))),
-        Expr::Local(slot) => Ok(local(scene, *slot)),
+        Expr::Named(word) => Ok(named(scene, loops, *word)),
         Expr::Access(number, entries) => element(resolved, scene, loops, *number, entries),
         Expr::Unary(op, inner) => match operand(resolved, scene, loops, inner) {
             Ok(a) => Ok(unary(*op, Ty::Longlong, a)),
@@ -61,11 +72,11 @@ pub fn operand(
     requires { IsTreeOver (kinds_of scene.now) (tree_of expr.now) }
     ensures { result ≡ value resolved.now.sizes loops.now (store_of scene.now) (tree_of expr.now) }
 {
+    rows_are_trees();
     match expr {
         Expr::Number(n) => Ok(*n),
         Expr::Size(dimension) => Ok(i64::from(size_in(resolved, *dimension))),
-        Expr::Index(dimension) => Ok(i64::from(loop_index(loops, *dimension))),
-        Expr::Local(slot) => Ok(local(scene, *slot)),
+        Expr::Named(word) => Ok(named(scene, loops, *word)),
         Expr::Access(number, entries) => element(resolved, scene, loops, *number, entries),
         Expr::Unary(_, _) | Expr::Binary(_, _, _) => value(resolved, scene, loops, expr),
     }
@@ -140,7 +151,7 @@ pub fn place(
     for entry in entries {
         match entry {
             Entry::Looped(dimension, word) => {
-                place = moved(axes, place, *dimension, i64::from(loop_index(loops, *word)));
+                place = moved(axes, place, *dimension, named(scene, loops, *word));
             }
             Entry::Given(dimension, expr) => match value(resolved, scene, loops, expr) {
                 Ok(index) => place = moved(axes, place, *dimension, index),

@@ -13,7 +13,7 @@ use crate::eval::{outermost, place, value};
 use crate::faults::Fault;
 use crate::operations::change;
 use crate::scene::{Scene, argument_at, assign_in, keep_local, local, set_index, size_in};
-use pdl_code::{Entry, LocalType, Stmt};
+use pdl_code::{Entry, Kept, LocalType, Stmt, rows_are_trees};
 use pdl_elem::{BinaryOp, Ty};
 use pdl_shape::shape_laws;
 use pdl_sig::{MOST_NAMES, Resolved};
@@ -43,6 +43,7 @@ fn step(
         (step resolved.now loops.now (step_of stmt.now) (store_of scene.old)) }
     ensures rests { OnOk result (rests_of scene.new ≡ rests_of scene.old) }
 {
+    rows_are_trees();
     match stmt {
         Stmt::Loop(dimension, body) => repeat(resolved, scene, loops, *dimension, body),
         Stmt::If(expr, whole, other) => match value(resolved, scene, loops, expr) {
@@ -55,8 +56,8 @@ fn step(
             }
             Err(fault) => Err(fault),
         },
-        Stmt::Keep(slot, ty, op, expr) => match value(resolved, scene, loops, expr) {
-            Ok(x) => keep(resolved, scene, *slot, *ty, *op, x),
+        Stmt::Keep(target, op, expr) => match value(resolved, scene, loops, expr) {
+            Ok(x) => keep(resolved, scene, *target, *op, x),
             Err(fault) => Err(fault),
         },
         Stmt::Put(number, entries, op, expr) => match value(resolved, scene, loops, expr) {
@@ -94,20 +95,24 @@ fn step_in_line(
 fn keep(
     resolved: &Resolved,
     scene: &mut Scene,
-    slot: usize,
-    ty: LocalType,
+    target: Kept,
     op: Option<BinaryOp>,
     x: i64,
 ) -> Result<(), Fault>
     ensures store { let m = store_of scene.old in
         Becomes result (store_of scene.new)
-        (and_then (changed op (get_or m.locals slot (pos 0)) x)
-        (λ y. Ok (kept (local_type resolved.now.generic ty) slot m y))) }
+        (and_then (changed op (get_or m.locals target.slot (pos 0)) x)
+        (λ y. Ok (kept (local_type resolved.now.generic target.ty) target.slot m y))) }
     ensures rests { OnOk result (rests_of scene.new ≡ rests_of scene.old) }
 {
-    match change(op, local(scene, slot), x) {
+    match change(op, local(scene, target.slot), x) {
         Ok(y) => {
-            keep_local(scene, local_type(resolved.generic, ty), slot, y);
+            keep_local(
+                scene,
+                local_type(resolved.generic, target.ty),
+                target.slot,
+                y,
+            );
             Ok(())
         }
         Err(fault) => Err(fault),

@@ -2,4 +2,4 @@ use Rattle.pdl_code.proofs.Rows.{step_of_loop}
 use Rattle.pdl_code.proofs.build.loop_stmt.Goals as goal
 
 pub returns : goal.returns
-returns c = step_of_loop c.args.d c.args.body
+returns g c = step_of_loop c.args.dimension c.args.body

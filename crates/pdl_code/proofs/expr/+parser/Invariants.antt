@@ -1,7 +1,7 @@
 -- Each call goes down in the fuel, or with the same fuel in the rank of its part.
 use Rattle.std.proofs.Common.{◌≡◌, suc, ◌+◌, ◌-◌, ◌*◌, length}
-use Rattle.pdl_code.specs.Raw.{RawTree, RawIndices}
-use Rattle.pdl_code.specs.RawOf.{raw_of, raw_indices}
+use Rattle.pdl_code.specs.Tree.{RawTree, RawIndices}
+use Rattle.pdl_code.specs.TreeOf.{tree_of, indices_of}
 use Rattle.pdl_code.specs.CodeReading.{Read, before, reader, level_at, chain_at, limit_of, indices_at}
 use Rattle.pdl_code.proofs.expr.+parser.Given as goal
 
@@ -48,10 +48,10 @@ decreases-chain l = 32 * l.fuel + 9 + 2 * l.below
 abbrev pub invariant-chain-loop : goal.invariant-chain-loop
 invariant-chain-loop l =
     let inner = level_at (reader l.fuel) l.below in
-    Turns RawTree (chain_at inner (suc l.below) (l.end - l.counter) (raw_of l.left) l.rest)
-    (chain_at inner (suc l.below) (limit_of (suc l.below) l.tokens) (raw_of l.fn.first) l.tokens)
+    Turns RawTree (chain_at inner (suc l.below) (l.end - l.counter) (tree_of l.left) l.rest)
+    (chain_at inner (suc l.below) (limit_of (suc l.below) l.tokens) (tree_of l.fn.first) l.tokens)
 
 abbrev pub invariant-indices-loop : goal.invariant-indices-loop
 invariant-indices-loop l =
     let f = reader l.fuel in
-    Turns RawIndices (before (raw_indices l.found.items) (indices_at f (l.end - l.counter) l.rest)) (indices_at f (length l.tokens) l.tokens)
+    Turns RawIndices (before (indices_of l.found.items) (indices_at f (l.end - l.counter) l.rest)) (indices_at f (length l.tokens) l.tokens)

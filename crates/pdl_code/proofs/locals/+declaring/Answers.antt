@@ -2,12 +2,12 @@ use Rattle.std.proofs.Common.{◌≡◌, ℕ, length, refl, sym, ap, ◌∙◌, 
 use Rattle.std.proofs.lemmas.List.{take_all}
 use Rattle.std.specs.Prelude.{max}
 use Rattle.pdl_code.specs.Declaring.{declared_step}
-use Rattle.pdl_code.specs.RawOf.{raw_code, raw_of, raw_step}
+use Rattle.pdl_code.specs.TreeOf.{code_of, tree_of, step_of}
 use Rattle.pdl_code.specs.Resolving.{Agrees}
 use Rattle.pdl_code.specs.Scope.{no_flags}
 use Rattle.pdl_code.proofs.Blocks.{fronts, pass_on, visible}
 use Rattle.pdl_code.proofs.Declared.{branches_err_first, branches_err_second, branches_ok, most_end, most_fault, most_none, most_turn}
-use Rattle.pdl_code.proofs.RawRows.{if_tree, loop_tree, same_parts}
+use Rattle.pdl_code.proofs.Rows.{if_tree, loop_tree, same_parts}
 use Rattle.pdl_code.proofs.locals.+declaring.Goals as goal
 
 pub stmt_locals-returns-in-Loop-clause-gives : goal.stmt_locals-returns-in-Loop-clause-gives
@@ -18,23 +18,23 @@ stmt_locals-returns-in-Loop-clause-gives t c =
 
 pub stmt_locals-returns-in-Ok-code_locals-clause-gives : goal.stmt_locals-returns-in-Ok-code_locals-clause-gives
 stmt_locals-returns-in-Ok-code_locals-clause-gives t c =
-    branches_ok c.args.source.now c.args.signature.now c.args.locals.now.items c.code_locals-in-If.new.locals.items _ (raw_of c.in-If.field-0) (raw_code c.deref-in-If.result.now) (raw_code c.deref-in-Ok.result.now) c.in-Ok.first c.in-Ok-code_locals.second c.max.result
-    (if_tree c.args.raw.now c.in-If.field-0 c.in-If.whole c.in-If.other c.in-If.is ∙ same_parts (raw_of c.in-If.field-0) c.deref-in-If.ensures.value c.deref-in-Ok.ensures.value)
+    branches_ok c.args.source.now c.args.signature.now c.args.locals.now.items c.code_locals-in-If.new.locals.items _ (tree_of c.in-If.field-0) (code_of c.deref-in-If.result.now) (code_of c.deref-in-Ok.result.now) c.in-Ok.first c.in-Ok-code_locals.second c.max.result
+    (if_tree c.args.raw.now c.in-If.field-0 c.in-If.whole c.in-If.other c.in-If.is ∙ same_parts (tree_of c.in-If.field-0) c.deref-in-If.ensures.value c.deref-in-Ok.ensures.value)
     c.in-Ok.ensures.gives c.in-Ok.ensures.same c.in-Ok-code_locals.ensures.gives c.max.ensures
 
 pub stmt_locals-returns-in-Err-code_locals-clause-gives : goal.stmt_locals-returns-in-Err-code_locals-clause-gives
 stmt_locals-returns-in-Err-code_locals-clause-gives t c =
     pass_on (λ n. n) (λ n. n) c.in-Err-code_locals.fault _ _
-    (branches_err_second c.args.source.now c.args.signature.now c.args.locals.now.items c.code_locals-in-If.new.locals.items _ (raw_of c.in-If.field-0) (raw_code c.deref-in-If.result.now) (raw_code c.deref-in-Ok.result.now) c.in-Ok.first
-    (if_tree c.args.raw.now c.in-If.field-0 c.in-If.whole c.in-If.other c.in-If.is ∙ same_parts (raw_of c.in-If.field-0) c.deref-in-If.ensures.value c.deref-in-Ok.ensures.value)
+    (branches_err_second c.args.source.now c.args.signature.now c.args.locals.now.items c.code_locals-in-If.new.locals.items _ (tree_of c.in-If.field-0) (code_of c.deref-in-If.result.now) (code_of c.deref-in-Ok.result.now) c.in-Ok.first
+    (if_tree c.args.raw.now c.in-If.field-0 c.in-If.whole c.in-If.other c.in-If.is ∙ same_parts (tree_of c.in-If.field-0) c.deref-in-If.ensures.value c.deref-in-Ok.ensures.value)
     c.in-Ok.ensures.gives c.in-Ok.ensures.same)
     c.in-Err-code_locals.ensures.gives
 
 pub stmt_locals-returns-in-Err-clause-gives : goal.stmt_locals-returns-in-Err-clause-gives
 stmt_locals-returns-in-Err-clause-gives t c =
     pass_on (λ n. n) (λ n. n) c.in-Err.fault _ _
-    (branches_err_first c.args.source.now c.args.signature.now c.args.locals.now.items _ (raw_of c.in-If.field-0) (raw_code c.deref-in-If.result.now) (raw_code c.in-If.other.items)
-    (if_tree c.args.raw.now c.in-If.field-0 c.in-If.whole c.in-If.other c.in-If.is ∙ same_parts (raw_of c.in-If.field-0) c.deref-in-If.ensures.value refl))
+    (branches_err_first c.args.source.now c.args.signature.now c.args.locals.now.items _ (tree_of c.in-If.field-0) (code_of c.deref-in-If.result.now) (code_of c.in-If.other.items)
+    (if_tree c.args.raw.now c.in-If.field-0 c.in-If.whole c.in-If.other c.in-If.is ∙ same_parts (tree_of c.in-If.field-0) c.deref-in-If.ensures.value refl))
     c.in-Err.ensures.gives
 
 pub code_locals-loop-one-init : goal.code_locals-loop-one-init
@@ -43,7 +43,7 @@ code_locals-loop-one-init t c = record { rest = most_none _; fronts = record { s
 pub code_locals-loop-one-preserved : goal.code_locals-loop-one-preserved
 code_locals-loop-one-preserved t c =
     let old = c.loop-one.invariant.fronts in
-    let grown = fronts _ c.loop-one.locals.items c.stmt_locals.new.locals.items no_flags (raw_step c.one-item.result) old.count c.in-Ok.ensures.after in
+    let grown = fronts _ c.loop-one.locals.items c.stmt_locals.new.locals.items no_flags (step_of c.one-item.result) old.count c.in-Ok.ensures.after in
     let more : c.max-most.result ≡ max c.loop-one.most c.in-Ok.n = grind (arith, c.max-most.ensures) in
     record {
       rest = most_turn c.args.source.now c.args.signature.now (visible c.loop-one.locals.items no_flags) (visible c.stmt_locals.new.locals.items no_flags) c.args.raw.now c.loop-one.one-index c.one-item.result c.loop-one.most c.in-Ok.n c.max-most.result

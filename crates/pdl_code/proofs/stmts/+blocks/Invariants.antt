@@ -1,7 +1,7 @@
 -- Each call goes down in the fuel, or with the same fuel in the rank of its part.
 use Rattle.std.proofs.Common.{◌≡◌, ◌+◌, ◌-◌, ◌*◌, length}
-use Rattle.pdl_code.specs.Raw.{RawCode}
-use Rattle.pdl_code.specs.RawOf.{raw_code}
+use Rattle.pdl_code.specs.Tree.{RawCode}
+use Rattle.pdl_code.specs.TreeOf.{code_of}
 use Rattle.pdl_code.specs.CodeReading.{Read, before_code, code_at, code_reader}
 use Rattle.pdl_code.proofs.stmts.+blocks.Given as goal
 
@@ -33,4 +33,4 @@ decreases-statements l = 8 * l.fuel + 6
 abbrev pub invariant-statements-loop : goal.invariant-statements-loop
 invariant-statements-loop l =
     let g = code_reader l.fuel in
-    Turns (before_code (raw_code l.found.items) (code_at g (l.end - l.counter) l.rest)) (code_at g (length l.tokens) l.tokens)
+    Turns (before_code (code_of l.found.items) (code_at g (l.end - l.counter) l.rest)) (code_at g (length l.tokens) l.tokens)

@@ -1,18 +1,14 @@
-use Rattle.std.proofs.Common.{rules, ◌≡◌, ℕ, List, map, length, ap, sym, ◌∙◌, subst, Err}
-use Rattle.std.specs.Prelude.{All, Result}
+use Rattle.std.proofs.Common.{rules, ◌≡◌, ℕ, List, map, length, ap, sym, ◌∙◌, subst}
+use Rattle.std.specs.Prelude.{All}
 use Rattle.std.specs.List.{AllZip}
-use Rattle.pdl_shape.specs.Shape.{size_of}
 use Rattle.pdl_sig.specs.declared.SigArg.{SigArg}
 use Rattle.pdl_sig.specs.declared.Signature.{Signature}
 use Rattle.pdl_code.specs.TreeOf.{code_of}
 use Rattle.pdl_kernel.specs.declared.scene.Scene.{Scene}
-use Rattle.pdl_kernel.specs.Answers.{Answers}
-use Rattle.pdl_kernel.specs.Call.{PlacedFault, outcome, outputs_of, stores_from, with_given}
+use Rattle.pdl_kernel.specs.Call.{with_given}
 use Rattle.pdl_kernel.specs.Collecting.{IsLaid}
-use Rattle.pdl_kernel.specs.Meaning.{Store}
 use Rattle.pdl_kernel.specs.Over.{IsCodeOver}
 use Rattle.pdl_kernel.specs.Places.{Window, kind_of, rest_of}
-use Rattle.pdl_kernel.specs.Scenes.{left_in_order}
 use Rattle.pdl_kernel.specs.Setup.{IsShapeOf, outputs_in, window_of}
 use Rattle.pdl_kernel.proofs.Calling.{answers_as, collected_long, faults_as, set_up_long}
 use Rattle.pdl_kernel.proofs.Shaping.{code_over, kinds_are, shapes_are}

@@ -2,9 +2,9 @@ use Rattle.std.proofs.Common.{refl, ◌≡◌, ◌+◌, ◌*◌, Ok, sym, ap, su
 use mir.Val.{SFits}
 use Rattle.std.proofs.lemmas.Int.{to_z-of_z}
 use Rattle.pdl_kernel.specs.Over.{IsTreeOver}
-use Rattle.pdl_kernel.specs.Meaning.{and_then, or_range, value}
+use Rattle.pdl_kernel.specs.Meaning.{and_then, number_of, or_range, value}
 use Rattle.pdl_kernel.specs.Scenes.{kinds_of, store_of}
-use Rattle.pdl_code.specs.Tree.{access, index}
+use Rattle.pdl_code.specs.Tree.{access, named}
 use Rattle.pdl_code.specs.TreeOf.{indices_of, tree_of}
 use Rattle.pdl_kernel.proofs.Rows.{access_tree}
 use Rattle.pdl_kernel.proofs.Scenery.{access_is, each_is}
@@ -31,9 +31,9 @@ place-loop-entry-preserved t c =
       | place-in-Looped w ↦
           let word = w.in-Looped.word in
           let here = looped_next es i w.in-Looped.dimension word c.entry-item.result lt c.entry-item.is w.in-Looped.is in
-          let fits : SFits w64 w.from.result = search rules in
-          let number : to_z w64 (of_z w64 w.from.result) ≡ pos (get_or c.args.loops.now word 0) = to_z-of_z w64 w.from.result fits ∙ search rules in
-          let ok : value c.args.resolved.now.sizes c.args.loops.now m (index word) ≡ Ok (to_z w64 (of_z w64 w.from.result)) = ap Ok (sym number) in
+          let fits : SFits w64 w.named.result = search rules in
+          let number : to_z w64 (of_z w64 w.named.result) ≡ number_of c.args.loops.now m word = to_z-of_z w64 w.named.result fits ∙ w.named.ensures in
+          let ok : value c.args.resolved.now.sizes c.args.loops.now m (named word) ≡ Ok (to_z w64 (of_z w64 w.named.result)) = ap Ok (sym number) in
           record {
             rest = walked_more c.args.resolved.now.sizes c.args.loops.now m c.axes-axes.result.now _ _ _ _ _ c.loop-entry.place c.match-entry.place _ here ok (w.place-is ∙ w.moved-place.ensures.value) c.loop-entry.invariant.rest;
             over = (rest_over (kinds_of c.args.scene.now) _ _ _ _ here c.loop-entry.invariant.over).1;
@@ -82,27 +82,27 @@ place-returns-in-None-clause-value t c =
 pub value-element-requires : goal.value-element-requires
 value-element-requires t c =
     let is = indices_of c.deref.result.now in
-    let e : tree_of c.args.expr.now ≡ access c.in-Access.number is = access_tree c.args.expr.now c.in-Access.number c.in-Access.entries c.deref.result.now c.in-Access.is c.deref.ensures.value in
+    let e : tree_of c.args.expr.now ≡ access c.in-Access.number is = access_tree c.args.expr.now c.in-Access.number c.in-Access.entries c.deref.result.now (c.rows_are_trees.ensures.access c.in-Access.number c.in-Access.entries) c.in-Access.is c.deref.ensures.value in
     let w : tree_weight (tree_of c.args.expr.now) ≡ indices_weight is + 1 = ap tree_weight e in
     (search (rules, w), subst (IsTreeOver (kinds_of c.args.scene.now)) e c.requires)
 
 pub value-returns-in-Access : goal.value-returns-in-Access
 value-returns-in-Access t c =
     let is = indices_of c.deref.result.now in
-    let e : tree_of c.args.expr.now ≡ access c.in-Access.number is = access_tree c.args.expr.now c.in-Access.number c.in-Access.entries c.deref.result.now c.in-Access.is c.deref.ensures.value in
+    let e : tree_of c.args.expr.now ≡ access c.in-Access.number is = access_tree c.args.expr.now c.in-Access.number c.in-Access.entries c.deref.result.now (c.rows_are_trees.ensures.access c.in-Access.number c.in-Access.entries) c.in-Access.is c.deref.ensures.value in
     c.element.ensures ∙ sym (ap (value c.args.resolved.now.sizes c.args.loops.now (store_of c.args.scene.now)) e)
 
 pub operand-element-requires : goal.operand-element-requires
 operand-element-requires t c =
     let is = indices_of c.deref.result.now in
-    let e : tree_of c.args.expr.now ≡ access c.in-Access.number is = access_tree c.args.expr.now c.in-Access.number c.in-Access.entries c.deref.result.now c.in-Access.is c.deref.ensures.value in
+    let e : tree_of c.args.expr.now ≡ access c.in-Access.number is = access_tree c.args.expr.now c.in-Access.number c.in-Access.entries c.deref.result.now (c.rows_are_trees.ensures.access c.in-Access.number c.in-Access.entries) c.in-Access.is c.deref.ensures.value in
     let w : tree_weight (tree_of c.args.expr.now) ≡ indices_weight is + 1 = ap tree_weight e in
     (search (rules, w), subst (IsTreeOver (kinds_of c.args.scene.now)) e c.requires)
 
 pub operand-returns-in-Access : goal.operand-returns-in-Access
 operand-returns-in-Access t c =
     let is = indices_of c.deref.result.now in
-    let e : tree_of c.args.expr.now ≡ access c.in-Access.number is = access_tree c.args.expr.now c.in-Access.number c.in-Access.entries c.deref.result.now c.in-Access.is c.deref.ensures.value in
+    let e : tree_of c.args.expr.now ≡ access c.in-Access.number is = access_tree c.args.expr.now c.in-Access.number c.in-Access.entries c.deref.result.now (c.rows_are_trees.ensures.access c.in-Access.number c.in-Access.entries) c.in-Access.is c.deref.ensures.value in
     c.element.ensures ∙ sym (ap (value c.args.resolved.now.sizes c.args.loops.now (store_of c.args.scene.now)) e)
 
 pub element-place-requires : goal.element-place-requires

@@ -1,15 +1,12 @@
-use Rattle.std.proofs.Common.{◌≡◌, ◌<◌, ◌+◌, [], List, Err, ap, sym, ◌∙◌, subst, arith, length, pos, replicate, refl}
+use Rattle.std.proofs.Common.{◌≡◌, ◌<◌, ◌+◌, [], List, Err, ap, sym, ◌∙◌, subst, arith, refl}
 use Rattle.std.specs.Prelude.{All, IfSome, Option}
 use Rattle.pdl_broadcast.specs.Walk.{Walk, standing_at}
-use Rattle.pdl_buf.specs.declared.made.Made.{Made}
 use Rattle.pdl_code.specs.TreeOf.{code_of}
 use Rattle.pdl_shape.specs.Shape.{coordinates_of, size_of}
-use Rattle.pdl_sig.specs.Refusals.{names_limit}
 use Rattle.pdl_kernel.specs.Call.{PlacedFault, stores_from}
-use Rattle.pdl_kernel.specs.Meaning.{run}
 use Rattle.pdl_kernel.specs.Over.{IsCodeOver}
 use Rattle.pdl_kernel.specs.Places.{IsWhole, Kind}
-use Rattle.pdl_kernel.specs.Scenes.{left_in_order, rests_at, rests_of, starting, store_of}
+use Rattle.pdl_kernel.specs.Scenes.{left_in_order, rests_at, rests_of, store_of}
 use Rattle.pdl_kernel.proofs.Gathering.{behind_all, behind_count, behind_fault, behind_more}
 use Rattle.pdl_kernel.proofs.Placing.{collected_all, kinds_at, locals_kept, none_collected, place_left, whole_all}
 use Rattle.pdl_kernel.proofs.walk.collect.Goals as goal
