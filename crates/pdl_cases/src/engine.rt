@@ -7,7 +7,7 @@
 //! refused, which has its fault.
 //!
 //! `fresh` answers the arrays that can be lent, `lend x` the array, `read x` the same after `ready`,
-//! `live` how many arrays there are, `views x` whether it has views. With `marks` each call answers
+//! `live` how many arrays there are, `views x` whether it has views, `parent x` its parent. With `marks` each call answers
 //! the arrays that can be lent after it, too.
 ghost use Rattle.std.specs.Prelude.{◌≡◌, ◌<◌, IfSome, IsTrue, OnSome};
 ghost use Rattle.pdl_world.specs.Formula.{is_well_formed};
@@ -22,6 +22,7 @@ use crate::numbers::TYPES;
 use pdl_affine::Numbers;
 use pdl_buf::{Elements, Strided, strided_dims, strided_get, strided_type};
 use pdl_elem::wrap_all;
+use pdl_engine::ArrayId;
 use pdl_shape::{dims_list, elements_of};
 use pdl_world::Trans;
 use std::marker::Brand;
@@ -62,6 +63,7 @@ enum Question {
     Read,
     Live,
     Views,
+    Parent,
 }
 
 const QUESTIONS: &[(&str, Question)] = &[
@@ -70,6 +72,7 @@ const QUESTIONS: &[(&str, Question)] = &[
     ("read", Question::Read),
     ("live", Question::Live),
     ("views", Question::Views),
+    ("parent", Question::Parent),
 ];
 
 // What stands between two answers.
@@ -271,6 +274,27 @@ fn read<L: Ledger>(board: &mut Board<L>, line: &mut Cursor<'_>, answer: &mut Ans
     say_lent(board, &array, answer)
 }
 
+// The letter of an array's parent: `-` for a root, and `?` where the parent has none.
+fn say_parent<L: Ledger>(board: &Board<L>, array: &Array, answer: &mut Answer)
+    requires { IsKept board.now.engine array.now }
+{
+    answer.next(BETWEEN);
+    match board.engine.parent(array.id) {
+        None => answer.say("-"),
+        Some(parent) => say_letter(&board.arrays, parent, answer),
+    }
+}
+
+fn say_letter(arrays: &[Array], id: ArrayId, answer: &mut Answer) {
+    for array in arrays {
+        if array.id == id {
+            answer.show(&char::from(array.name));
+            return;
+        }
+    }
+    answer.say("?");
+}
+
 // A call that tells something of one array.
 fn tell_one<L: Ledger>(
     board: &Board<L>,
@@ -285,6 +309,10 @@ fn tell_one<L: Ledger>(
         Question::Views => {
             answer.next(BETWEEN);
             answer.show(&board.engine.has_views(array.id));
+            Some(())
+        }
+        Question::Parent => {
+            say_parent(board, &array, answer);
             Some(())
         }
         _ => say_lent(board, &array, answer),

@@ -5,12 +5,14 @@ use Rattle.std.specs.Prelude.{IsSomeAnd}
 use Rattle.std.proofs.lemmas.Bool.{ne_eqb, cases_Bool, eq-eqb}
 use Rattle.std.proofs.lemmas.Bool.Decides.{eqb_tells}
 use Rattle.pdl_world.specs.Cut.{has_views}
-use Rattle.pdl_world.specs.Paths.{path, root_of}
+use Rattle.pdl_elem.specs.declared.Ty.{Ty}
+use Rattle.pdl_world.specs.Paths.{path, parent_in, root_of}
 use Rattle.pdl_world.specs.Sound.{IsLive}
 use Rattle.pdl_world.specs.Swept.{holds}
 use Rattle.pdl_world.specs.World.{World, root, view, ArrayDef, look, Look}
 use Rattle.pdl_nodes.specs.Alike.{is_fresh_in, numbers}
 use Rattle.pdl_nodes.specs.Holds.{Counts, count}
+use Rattle.pdl_nodes.specs.Row.{parent_from, parent_of}
 use Rattle.pdl_nodes.specs.RowLaws.{RowLaws}
 use Rattle.pdl_nodes.specs.Rows.{Rows, has, row_at, NumbersBelow, Falls}
 use Rattle.pdl_nodes.specs.Still.{IsStill, StillFrom}
@@ -32,6 +34,23 @@ path_with f ((k, view p t) ∷ w) v =
     let a : path (with_elements f w) p ≡ path w p = path_with f w p in
     let b : path (with_elements f w) v ≡ path w v = path_with f w v in
     ap (λ x. cond (eqb k v) (k ∷ x) (path (with_elements f w) v)) a ∙ ap (λ x. cond (eqb k v) (k ∷ path w p) x) b
+
+pub parent_with : (f : ℕ → List ℤ) (w : World) (v : ℕ) → parent_in (with_elements f w) v ≡ parent_in w v
+parent_with f [] v = refl
+parent_with f ((k, root ty ds es) ∷ w) v = ap (λ x. cond (eqb k v) None x) (parent_with f w v)
+parent_with f ((k, view p t) ∷ w) v = ap (λ x. cond (eqb k v) (Some p) x) (parent_with f w v)
+
+newest_parent : (k : ℕ) (ty : Ty) (ds : List ℕ) (o : Origin) (w : World) (v : ℕ) → parent_in ((k, def_from ty ds o) ∷ w) v ≡ cond (eqb k v) (parent_from o) (parent_in w v)
+newest_parent k ty ds Root w v = refl
+newest_parent k ty ds (View p t y) w v = refl
+
+-- the parent that the row says
+pub parent_is : (rs : Rows) (v : ℕ) → parent_in (shape rs) v ≡ parent_of (row_at rs v)
+parent_is [] v = refl
+parent_is ((k, r) ∷ rs) v = newest_parent k r.ty r.triple.dims r.origin (shape rs) v ∙ elim (eqb_tells k v) [
+  | inl t ↦ rw t.0 refl
+  | inr t ↦ rw t.0 (parent_is rs v)
+]
 
 no_look : (rs : Rows) (v : ℕ) → has rs v ≡ false → look (shape rs) v ≡ None
 no_look [] v h = refl

@@ -6,7 +6,7 @@ ghost use Rattle.pdl_elem.specs.Types.{InRange};
 ghost use Rattle.pdl_shape.specs.Shape.{IsDims, size_of};
 ghost use Rattle.pdl_world.specs.Cut.{has_views, reshape, sever};
 ghost use Rattle.pdl_world.specs.Formula.{is_well_formed};
-ghost use Rattle.pdl_world.specs.Paths.{depth_limit, path, root_of};
+ghost use Rattle.pdl_world.specs.Paths.{depth_limit, parent_in, path, root_of};
 ghost use Rattle.pdl_world.specs.Refused.{view_refusal};
 ghost use Rattle.pdl_world.specs.Sound.{IsLive, IsSound};
 ghost use Rattle.pdl_world.specs.World.{assign, dims_in, root, ty_in, view};
@@ -299,6 +299,15 @@ impl Engine {
         row_laws();
         assignment_laws();
         pdl_push::assign(&mut self.table, id, 0, values, steps)
+    }
+
+    /// The parent of a view, or nothing for a root.
+    pub fn parent(&self, id: ArrayId) -> Option<ArrayId>
+        requires { IsLive self.now.world id }
+        ensures { result ≡ parent_in self.now.world id }
+    {
+        row_laws();
+        self.table.node(id).parent()
     }
 
     /// Whether an array is the parent of a view.

@@ -227,3 +227,55 @@ fn a_text_ends_at_a_failed_write(rt: HostRuntime) {
     same(rt, asked.length.get(), 8);
     same(rt, asked.flushes.get(), 0);
 }
+
+// A writer of which those calls fail whose bits are set, from the lowest on.
+#[derive(Drop)]
+struct Chosen<'a> {
+    failing: &'a Cell<u32>,
+}
+
+impl Chosen<'_> {
+    fn answer(&self) -> io::Result<()> {
+        let failing = self.failing.get();
+        self.failing.set(failing / 2);
+        if failing % 2 == 1 {
+            return Err(io::Error::from(ErrorKind::Other));
+        }
+        Ok(())
+    }
+}
+
+impl Write for Chosen<'_> {
+    fn write(&mut self, buf: &[u8]) -> io::Result<usize> {
+        self.answer()?;
+        Ok(buf.len())
+    }
+
+    fn flush(&mut self) -> io::Result<()> {
+        self.answer()
+    }
+}
+
+fn answer<T: Drop>(fails: bool, value: T) -> Result<T, Failed> {
+    if fails {
+        return Err(Failed);
+    }
+    Ok(value)
+}
+
+// Two writes and two flushes fail where the writer's do, whatever failed before.
+fn fails_where_its_writer_does(rt: &impl Abort, failing: u32) {
+    let left = Cell::new(failing);
+    let mut sink = WriteSink::new(Chosen { failing: &left });
+    same(rt, sink.write(b"ab"), answer(failing % 2 == 1, 2));
+    same(rt, sink.flush(), answer(failing / 2 % 2 == 1, ()));
+    same(rt, sink.write(b"c"), answer(failing / 4 % 2 == 1, 1));
+    same(rt, sink.flush(), answer(failing / 8 == 1, ()));
+}
+
+#[test]
+fn a_sink_fails_where_its_writer_does(rt: HostRuntime) {
+    for failing in 0..16 {
+        fails_where_its_writer_does(&rt, failing);
+    }
+}

@@ -8,5 +8,6 @@ pub mod Replaces
 pub mod Dimensions
 pub mod Cuts
 pub mod Severs
+pub mod Keeping
 pub mod Bases
 pub mod Repeats

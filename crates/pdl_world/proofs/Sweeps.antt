@@ -15,7 +15,7 @@ use Rattle.pdl_world.proofs.Stays.{Stays, stays_under, stays_without, newest_sta
 abbrev held_behind : Bool → ArrayDef → List ℕ → List ℕ
 held_behind keeps d held = if keeps then parents d ++ held else held
 
-more_held : (d : ArrayDef) (held : List ℕ) (k : ℕ) → holds held k ≡ true → holds (parents d ++ held) k ≡ true
+pub more_held : (d : ArrayDef) (held : List ℕ) (k : ℕ) → holds held k ≡ true → holds (parents d ++ held) k ≡ true
 more_held (root ty ds es) held k h = h
 more_held (view p t) held k h = elim (eqb_tells p k) [
   | inl e ↦ rw e.0 refl

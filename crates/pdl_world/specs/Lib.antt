@@ -8,5 +8,6 @@ pub mod Cut
 pub mod Laws
 pub mod SweepLaws
 pub mod CutLaws
+pub mod KeepingLaws
 pub mod Windows
 pub mod WindowLaws

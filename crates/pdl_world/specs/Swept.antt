@@ -23,6 +23,10 @@ sweep ((k, d) ∷ w) held =
     let keeps = holds held k in
     kept_onto keeps (k, d) (sweep w (if keeps then parents d ++ held else held))
 
+-- a sweep by these keeps all arrays
+abbrev pub KeepsAll : World → List ℕ → Type 0
+KeepsAll w held = sweep w held ≡ w
+
 -- the world has this array under this number
 abbrev pub Has : World → ℕ → ArrayDef → Type 0
 Has [] k d = ⊥

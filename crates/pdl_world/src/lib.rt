@@ -11,6 +11,7 @@ ghost use Rattle.pdl_world.specs.Laws.{PlacesLieWithin, RootsAreInRange, LiveLie
 ghost use Rattle.pdl_world.specs.Laws.{NewIsLive, NewRootIsSeen, NewRootIsWhole, NewRootHasPath, NewViewIsSeen, NewViewHasPath};
 ghost use Rattle.pdl_world.specs.CutLaws.{CutsLeaveElements, CutsAreRoots, RootsAreUncut, CutsLeaveOthers, CutsLeaveFamilies, CutsTakeTheirViews, CutsSoundly, CutsLeaveNumbers};
 ghost use Rattle.pdl_world.specs.CutLaws.{ViewsAreFound, FittedIsFitted, ReshapedIsSeen, ReshapesLeaveOthers, ReshapesSoundly, ReshapesLeaveNumbers};
+ghost use Rattle.pdl_world.specs.KeepingLaws.{NewestKeepsAll, NewestIsKept, MoreKeepAll, AssignsKeepAll, CutsKeepAll, ReshapesKeepAll, ParentsAreLive};
 ghost use Rattle.pdl_world.specs.WindowLaws.{WindowsShowArrays, LiveHaveWindows, RepeatsHavePositions, PositionsRepeat};
 ghost use Rattle.pdl_world.specs.SweepLaws.{KeptWereReached, ReachedAreKept, HeldAreKept, ReachedAreSeenAsBefore, SweepsSoundly, NoNumberComes, NewGoesUnheld};
 
@@ -95,6 +96,20 @@ pub fn sweep_laws()
     ensures sound { SweepsSoundly }
     ensures numbers { NoNumberComes }
     ensures new { NewGoesUnheld }
+{}
+
+/// The laws of held arrays that keep all of a world. They keep it with a newest array exactly where
+/// that one is held, and its parent beside them keeps the others; so do more of them, and after an
+/// assignment. In a sound world they keep all after a cut and with other dimensions if the parent of
+/// the array is among them; this parent is live.
+pub fn keeping_laws()
+    ensures newest { NewestKeepsAll }
+    ensures kept { NewestIsKept }
+    ensures more { MoreKeepAll }
+    ensures assigned { AssignsKeepAll }
+    ensures cut { CutsKeepAll }
+    ensures reshaped { ReshapesKeepAll }
+    ensures parents { ParentsAreLive }
 {}
 
 /// The laws of a cut (PDL::Core, sever). Each array shows the type, the dimensions and the elements
