@@ -14,6 +14,7 @@ mod kernel_code;
 mod nice;
 mod numbers;
 mod script;
+mod session;
 mod slices;
 mod statement;
 mod tokens;
@@ -28,6 +29,7 @@ use std::{fs, io};
 #[derive(Clone, Copy)]
 enum Call {
     Script,
+    Session,
     Status,
     Cut,
     Tokens,
@@ -52,6 +54,7 @@ enum Call {
 
 const CALLS: &[(&str, Call)] = &[
     ("script", Call::Script),
+    ("session", Call::Session),
     ("status", Call::Status),
     ("cut", Call::Cut),
     ("tokens", Call::Tokens),
@@ -78,6 +81,7 @@ const CALLS: &[(&str, Call)] = &[
 fn make_call(line: &mut Cursor<'_>, answer: &mut Answer) -> Option<()> {
     match line.named(CALLS)? {
         Call::Script => script::script_answer(line, answer),
+        Call::Session => session::session_answer(line, answer),
         Call::Status => script::status_answer(line, answer),
         Call::Cut => tokens::cut(line, answer),
         Call::Tokens => tokens::tokens_answer(line, answer),

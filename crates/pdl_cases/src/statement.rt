@@ -1,7 +1,9 @@
 //! `form TEXT => FORM`: the form of a statement, or its fault.
 //! `statement TEXT => TREE`: what a statement says, or its fault.
 
-ghost use Rattle.std.specs.Prelude.{◌≤◌, length};
+ghost use Rattle.std.specs.Prelude.{◌≤◌, length, IfOk};
+ghost use Rattle.pdl_syntax.specs.StatementTree.{statement_of};
+ghost use Rattle.pdl_syntax.specs.WellMade.{IsWellMade};
 
 use crate::answer::Answer;
 use crate::cursor::Cursor;
@@ -10,9 +12,10 @@ use pdl_lex::{LexFault, tokens};
 use pdl_syntax::{ParseFault, Statement, parse};
 use std::alloc::Global;
 
-// The statement of a text, whose tokens are read first.
-fn read(alloc: Global, text: &[u8]) -> Result<Statement, ParseFault>
+/// The statement of a text, whose tokens are read first.
+pub fn read(alloc: Global, text: &[u8]) -> Result<Statement, ParseFault>
     requires { length text.now ≤ 65536 }
+    ensures { IfOk result (λ s. IsWellMade (statement_of s)) }
 {
     match tokens(alloc, text) {
         Ok(found) => parse(alloc, text, &found),
@@ -40,7 +43,8 @@ fn form(statement: &Statement) -> &'static str {
     }
 }
 
-fn fault_text(fault: ParseFault) -> &'static str {
+/// Why a text is no statement.
+pub fn refused(fault: ParseFault) -> &'static str {
     match fault {
         ParseFault::TooDeep => "too deep",
         ParseFault::NumberTooLarge => "number too large",
@@ -55,7 +59,7 @@ pub fn form_answer(line: &mut Cursor<'_>, answer: &mut Answer) -> Option<()> {
     let text = line.short_text()?;
     match read(line.alloc, &text) {
         Ok(statement) => answer.say(form(&statement)),
-        Err(fault) => answer.say(fault_text(fault)),
+        Err(fault) => answer.say(refused(fault)),
     }
     Some(())
 }
@@ -65,7 +69,7 @@ pub fn tree_answer(line: &mut Cursor<'_>, answer: &mut Answer) -> Option<()> {
     let text = line.short_text()?;
     match read(line.alloc, &text) {
         Ok(statement) => say_statement(answer, &statement),
-        Err(fault) => answer.say(fault_text(fault)),
+        Err(fault) => answer.say(refused(fault)),
     }
     Some(())
 }

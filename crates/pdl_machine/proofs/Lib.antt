@@ -1,6 +1,7 @@
 pub mod Renamed
 pub mod Both
 pub mod Stepping
+pub mod Effects
 pub mod Tidying
 pub mod Numbering
 pub mod Orderly

@@ -8,7 +8,7 @@ use Rattle.pdl_world.specs.Sound.{NumbersBelow, IsSound, IsLive, IsAllowed}
 use Rattle.pdl_world.specs.Swept.{holds, parents, kept_onto, sweep}
 use Rattle.pdl_kernel.specs.Kernels.{Kernel}
 use Rattle.pdl_machine.specs.Names.{Named, Names}
-use Rattle.pdl_machine.specs.State.{State, held, AreLive, IsWhole}
+use Rattle.pdl_machine.specs.State.{State, held, IsSwept, AreLive, IsWhole}
 use Rattle.pdl_machine.specs.Tidy.{older, with_parent, renumber, renumbered, tidy}
 use Rattle.pdl_machine.proofs.Renamed.{IsApart, Renames, empty, more, same, look-other, StateAlike}
 use Rattle.pdl_machine.proofs.Tidying.{renamed}
@@ -183,22 +183,22 @@ record Restores (g : ℕ → ℕ) (f : ℕ → ℕ) (w u : World) : Type 0 where
 
 -- what is swept, numbered anew, has the arrays of w under their former numbers, and no others are kept
 record IsRestored (g : ℕ → ℕ) (w u : World) : Type 0 where
-  all : Renames g (renumber u) w
+  some : Renames g false (renumber u) w
   kept : u ≡ renamed g (renumber u)
 
 restored_parent : (g f : ℕ → ℕ) (u : World) (v : ℕ) → ((i : ℕ) → i < length u → g i ≡ former u f i) → in_world u v ≡ true → g (older u v) ≡ v
 restored_parent g f u v inside there = inside (older u v) (older_within u v there) ∙ former_older u f v there
 
 restored : (g f : ℕ → ℕ) (w : World) (hs : List ℕ) → IsOrderly w → Restores g f w (sweep w hs) → IsRestored g w (sweep w hs)
-restored g f [] hs sound h = record { all = empty; kept = refl }
+restored g f [] hs sound h = record { some = empty; kept = refl }
 restored g f ((k, d) ∷ w) hs sound h = by_keeps (λ hs' h'. restored g f w hs' sound.2 h') (holds hs k) h
   where
     on_top : (u : World) → (g (length u) ≡ k) → with_parent g (with_parent (older u) d) ≡ d → IsRestored g w u → IsRestored g ((k, d) ∷ w) ((k, d) ∷ u)
     on_top u at def rest =
-        let P : ℕ → Type 0 = λ n. Renames g ((length u, with_parent (older u) d) ∷ renumber u) ((n, d) ∷ w) in
-        let Q : ArrayDef → Type 0 = λ x. Renames g ((length u, with_parent (older u) d) ∷ renumber u) ((g (length u), x) ∷ w) in
+        let P : ℕ → Type 0 = λ n. Renames g false ((length u, with_parent (older u) d) ∷ renumber u) ((n, d) ∷ w) in
+        let Q : ArrayDef → Type 0 = λ x. Renames g false ((length u, with_parent (older u) d) ∷ renumber u) ((g (length u), x) ∷ w) in
         record {
-          all = subst P at (subst Q def (same (length u) (with_parent (older u) d) rest.all));
+          some = subst P at (subst Q def (same (length u) (with_parent (older u) d) rest.some));
           kept = both (sym at) (sym def) rest.kept;
         }
       where
@@ -241,7 +241,7 @@ restored g f ((k, d) ∷ w) hs sound h = by_keeps (λ hs' h'. restored g f w hs'
           | inl lt ↦ (let b : former u f i < k = former_below u f k i (NumbersBelow-sweep k w hs sound.0) lt in let s : g i ≡ former u f i = h.inside i lt in omega arith)
           | inr le ↦ (let b : h.bound ≤ g i = h.above i le in let b' : k < h.bound = h.below.0 in omega arith)
         ] in
-        record { all = more k d left r.all; kept = r.kept }
+        record { some = more k d left r.some; kept = r.kept }
 
 -- arrays' names beside these kernels
 abbrev pub named : List (List ℕ × Kernel) → Named ℕ → Names
@@ -287,7 +287,7 @@ pub former_apart : (s : State) → IsInOrder s → IsApart (former_numbers s)
 former_apart s order = before_apart (sweep s.arrays.world (held s)) s.arrays.next (InOrder-sweep s.arrays.world (held s) order.orderly) (NumbersBelow-sweep s.arrays.next s.arrays.world (held s) order.below)
 
 -- a state and the tidied one are alike
-pub tidied_alike : (s : State) → IsInOrder s → StateAlike (former_numbers s) (tidy s) s
+pub tidied_alike : (s : State) → IsInOrder s → StateAlike false (former_numbers s) (tidy s) s
 tidied_alike s order =
     let u = sweep s.arrays.world (held s) in
     let f = past u s.arrays.next in
@@ -295,9 +295,23 @@ tidied_alike s order =
     record {
       arrays = record {
         apart = former_apart s order;
-        world = (restored (former_numbers s) f s.arrays.world (held s) order.orderly h).all;
+        world = (restored (former_numbers s) f s.arrays.world (held s) order.orderly h).some;
         next = (let e : before u s.arrays.next (length u) ≡ f (length u) = former_past u f (length u) (omega arith) in omega arith);
         on = λ i le. omega (arith, former_past u f i le, former_past u f (i + 1) (omega arith));
       };
       names = ap (named s.names.kernels) (names_restored (former_numbers s) f s.arrays.world (held s) s.names.arrays h.inside order.inside (λ v t. t));
     }
+
+-- a world under other numbers has all of its arrays
+all_renamed : (g : ℕ → ℕ) (w : World) → Renames g true w (renamed g w)
+all_renamed g [] = empty
+all_renamed g ((i, d) ∷ w) = same i d (all_renamed g w)
+
+-- where nothing is left over, the tidied state has all arrays
+pub swept_alike : (s : State) → IsInOrder s → IsSwept s → StateAlike true (former_numbers s) (tidy s) s
+swept_alike s order swept =
+    let g = former_numbers s in
+    let h : StateAlike false g (tidy s) s = tidied_alike s order in
+    let P : World → Type 0 = λ w. Renames g true (tidy s).arrays.world w in
+    let all : P s.arrays.world = subst P (sym (swept_is s order) ∙ swept) (all_renamed g (tidy s).arrays.world) in
+    record { arrays = record { apart = h.arrays.apart; world = all; next = h.arrays.next; on = h.arrays.on }; names = h.names }

@@ -3,30 +3,34 @@ use Rattle.std.proofs.Common.{◌≡◌, ℕ, ℤ, ◌+◌, ◌≤◌, List, [],
 use Rattle.std.specs.Prelude.{◌==◌, if◌then◌else◌, IfOk, IfSome}
 use Rattle.std.specs.Cmp.Lexicographic.{pointwise}
 use Rattle.pdl_lemmas.specs.Tests.{by_test}
+use Rattle.pdl_elem.specs.declared.Ty.{Ty}
+use Rattle.pdl_shape.specs.Shape.{size_of}
 use Rattle.pdl_buf.specs.declared.made.Made.{Made}
 use Rattle.pdl_world.specs.declared.Trans.{Trans}
 use Rattle.pdl_shape.specs.Places.{write}
 use Rattle.pdl_world.specs.Refused.{NoView, view_refusal}
-use Rattle.pdl_world.specs.World.{World, ArrayDef, root, view, Look, look, set_elements, root_elements, assign as assign_in, assign_through}
+use Rattle.pdl_world.specs.World.{World, ArrayDef, root, view, Look, look, set_elements, root_elements, assign as assign_in, assign_through, ty_in, dims_in, elements}
+use Rattle.pdl_world.specs.Cut.{replaced, rooted, reshape, fitted, has_views}
 use Rattle.pdl_world.specs.Sound.{NumbersBelow}
 use Rattle.pdl_lexemes.specs.declared.AssignOp.{AssignOp}
 use Rattle.pdl_syntax.specs.Tree.{Tree, Args, number, named, literal, unary, binary, call, none, value, text, of_type}
-use Rattle.pdl_syntax.specs.StatementTree.{StatementTree, bind, bind_list, assign, show, show_text, sever, reshape, undef, vars, pp_def, watch, unwatch}
+use Rattle.pdl_syntax.specs.StatementTree.{StatementTree, bind, bind_list, assign, show, show_text, sever, reshape as reshapes, undef, vars, pp_def, watch, unwatch}
 use Rattle.pdl_machine.specs.declared.fault.Fault.{Fault}
-use Rattle.pdl_machine.specs.declared.fault.Fault.TheVariants.{TooManyNames, TooManyKernels}
+use Rattle.pdl_machine.specs.declared.fault.Fault.TheVariants.{TooManyNames, TooManyKernels, StillConnected}
 use Rattle.pdl_machine.specs.Then.{and_then}
-use Rattle.pdl_machine.specs.Names.{Named, Names, found, number_of, with_name, is_full_for, bind as bind_name, names_limit, kernels_limit}
+use Rattle.pdl_machine.specs.Names.{Named, Names, found, number_of, with_name, without_name, bound_to, unbind, is_full_for, bind as bind_name, names_limit, kernels_limit}
 use Rattle.pdl_machine.specs.Arrays.{Arrays, array_in, with_new}
 use Rattle.pdl_machine.specs.State.{State, with_arrays, held}
 use Rattle.pdl_machine.specs.Outcome.{array, string, type_word, Given, all_seen, Outcome, made, viewed, Valued, new_root, new_view, view_placed, placed}
 use Rattle.pdl_ops.specs.Elementwise.{unary_each}
 use Rattle.pdl_machine.specs.Operators.{binary_each, values_for}
 use Rattle.pdl_kernel.specs.Kernels.{Kernel}
+use Rattle.pdl_machine.specs.Cuts.{cut, severed, dims_given, reshaped}
 use Rattle.pdl_machine.specs.Kernels.{kernel_outputs, defined}
 use Rattle.pdl_machine.specs.Calls.{outcome, Callee, builtin, kernel, callee_of, only_root, several, value_by, call_value}
 use Rattle.pdl_machine.specs.Value.{Taken, known, number_made, value_of, taken}
 use Rattle.pdl_world.specs.Swept.{parents}
-use Rattle.pdl_machine.specs.Step.{Stepped, bind_value, bound, roots_bound, outputs_bound, kernel_named, list_bound, target, assigned, assigning, after_printing, effect}
+use Rattle.pdl_machine.specs.Step.{Stepped, bind_value, bound, roots_bound, outputs_bound, kernel_named, list_bound, several_bound, target, assigned, assigning, after_printing, severing, reshaping, effect}
 use Rattle.pdl_machine.proofs.Numbering.{in_world, AreIn, IsOrderly, IsInOrder}
 
 ok_then : {A B : Type 0} (P : A → Type 0) (Q : B → Type 0) (x : Result A Fault) (f : A → Result B Fault) → IfOk x P → ((a : A) → P a → IfOk (f a) Q) → IfOk (and_then x f) Q
@@ -281,25 +285,90 @@ assigning_fine s to sign e order =
     last : Arrays → Result Arrays Fault → Stepped
     last a x = and_then x (λ b. Ok (with_arrays s b, []))
 
+below_replaced : (n : ℕ) (w : World) (v : ℕ) (new : ArrayDef) → NumbersBelow n w → NumbersBelow n (replaced w v new)
+below_replaced n [] v new below = tt
+below_replaced n ((k, d) ∷ w) v new below = (below.0, below_replaced n w v new below.1)
+
+in_world-replaced : (w : World) (r v : ℕ) (new : ArrayDef) → in_world (replaced w r new) v ≡ in_world w v
+in_world-replaced [] r v new = refl
+in_world-replaced ((k, d) ∷ w) r v new = ap (λ b. if k == v then true else b) (in_world-replaced w r v new)
+
+orderly_replaced : (w : World) (v : ℕ) (ty : Ty) (ds : List ℕ) (es : List ℤ) → IsOrderly w → IsOrderly (replaced w v (root ty ds es))
+orderly_replaced [] v ty ds es order = tt
+orderly_replaced ((k, d) ∷ w) v ty ds es order =
+    let P : ArrayDef → Type 0 = λ x. AreIn (replaced w v (root ty ds es)) (parents x) in
+    (below_replaced k w v (root ty ds es) order.0, by_test (k == v) (λ is. rw is tt) (λ other. rw other (inside d order.1)), orderly_replaced w v ty ds es order.2)
+  where
+    inside : (d : ArrayDef) → AreIn w (parents d) → AreIn (replaced w v (root ty ds es)) (parents d)
+    inside (root t s e) h = tt
+    inside (view p t) h = (in_world-replaced w v p (root ty ds es) ∙ h.0, tt)
+
+-- an array becomes a root
+rooted_fine : (a : Arrays) (v : ℕ) (ds : List ℕ) (es : List ℤ) → Grows a a → Grows a (record a { world = rooted a.world v ds es })
+rooted_fine a v ds es g = record {
+  orderly = orderly_replaced a.world v (ty_in a.world v) ds es g.orderly;
+  below = below_replaced a.next a.world v (root (ty_in a.world v) ds es) g.below;
+  still = λ u there. in_world-replaced a.world v u (root (ty_in a.world v) ds es) ∙ there;
+}
+
+cut_fine : (a : Arrays) (v : ℕ) → Grows a a → Grows a (cut a v)
+cut_fine a v g = rooted_fine a v (dims_in a.world v) (elements a.world v) g
+
+severed_fine : (a : Arrays) (valued : Valued) → IfOk valued (FineValue a) → IfOk (severed valued) (FineValue a)
+severed_fine a valued fine =
+    ok_then (FineValue a) (FineValue a) valued (λ v. Ok (cut v.0 v.1, v.1)) fine (λ v here.
+    let g : Grows v.0 (cut v.0 v.1) = cut_fine v.0 v.1 (self a v.0 here.0) in
+    (grows_trans a v.0 (cut v.0 v.1) here.0 g, g.still v.1 here.1))
+
+reshaping_fine : (s : State) (v : ℕ) → IsInOrder s → (t : Arrays × List Given) → FineTaken s.arrays t → IfOk (reshaping s v t) FineStep
+reshaping_fine s v order (b, given) fine =
+    ok_always FineStep (dims_given (b, given)) (λ ds. and_then (reshaped b v ds) (λ a. Ok (with_arrays s a, []))) (λ ds. by_views ds (has_views b.world v))
+  where
+    by_views : (ds : List ℕ) (x : Bool) → IfOk (and_then (if x then Err StillConnected else Ok (record b { world = reshape b.world v ds })) (λ a. Ok (with_arrays s a, []))) FineStep
+    by_views ds true = tt
+    by_views ds false =
+        let other : Arrays = record b { world = reshape b.world v ds } in
+        state_fine s other order (grows_trans s.arrays b other fine.0 (rooted_fine b v ds (fitted (size_of ds) (elements b.world v)) (self s.arrays b fine.0)))
+
+without_in : (w : World) (names : Named ℕ) (x : List ℕ) → AreIn w (map (λ n. n.1) names) → AreIn w (map (λ n. n.1) (without_name names x))
+without_in w [] x h = tt
+without_in w (n ∷ names) x h =
+    let P : Bool → Type 0 = λ b. AreIn w (map (λ n. n.1) (if b then names else n ∷ without_name names x)) in
+    by_test (pointwise nat_eq x n.0) (λ same. subst P (sym same) h.1) (λ other. subst P (sym other) (h.0, without_in w names x h.1))
+
+unbind_fine : (s : State) (x : List ℕ) → IsInOrder s → IfOk (and_then (unbind s.names x) (λ names. Ok (record s { names = names }, []))) FineStep
+unbind_fine s x order = by_number (bound_to s.names x)
+  where
+    by_number : (o : Result ℕ Fault) → IfOk (and_then (and_then o (λ v. Ok (record s.names { arrays = without_name s.names.arrays x }))) (λ names. Ok (record s { names = names }, []))) FineStep
+    by_number (Err e) = tt
+    by_number (Ok v) = record { orderly = order.orderly; below = order.below; inside = without_in s.arrays.world s.names.arrays x order.inside }
+
+several_fine : (s : State) (xs : List (List ℕ)) → IsInOrder s → (e : Tree) → IfOk (several_bound s xs e) FineStep
+several_fine s xs order (call f args) =
+    ok_then (FineTaken s.arrays) FineStep (taken s.names s.arrays args) (list_bound s xs f) (taken_fine s.names args s.arrays (grows_self s order) order.inside) (list_fine s xs f order)
+several_fine s xs order (number n) = tt
+several_fine s xs order (named x) = tt
+several_fine s xs order (literal ty ds es) = tt
+several_fine s xs order (unary op e) = tt
+several_fine s xs order (binary op e f) = tt
+
 -- a statement leaves a state in order
 pub effect_in_order : (s : State) → IsInOrder s → (statement : StatementTree) → IfOk (effect s statement) (λ x. IsInOrder x.0)
 effect_in_order s order (bind x e false) = bound_fine s x order (value_of s.names s.arrays e) (state_value_fine s order e)
-effect_in_order s order (bind x e true) = tt
-effect_in_order s order (bind_list xs (call f args)) =
-    ok_then (FineTaken s.arrays) FineStep (taken s.names s.arrays args) (list_bound s xs f) (taken_fine s.names args s.arrays (grows_self s order) order.inside) (list_fine s xs f order)
-effect_in_order s order (bind_list xs (number n)) = tt
-effect_in_order s order (bind_list xs (named x)) = tt
-effect_in_order s order (bind_list xs (literal ty ds es)) = tt
-effect_in_order s order (bind_list xs (unary op e)) = tt
-effect_in_order s order (bind_list xs (binary op e f)) = tt
+effect_in_order s order (bind x e true) =
+    bound_fine s x order (severed (value_of s.names s.arrays e)) (severed_fine s.arrays (value_of s.names s.arrays e) (state_value_fine s order e))
+effect_in_order s order (bind_list xs e) = several_fine s xs order e
 effect_in_order s order (assign x views sign e) = assigning_fine s (target x views) sign e order
 effect_in_order s order (show e is_info) =
     ok_then (FineValue s.arrays) FineStep (value_of s.names s.arrays e) (λ v. Ok (after_printing s is_info v)) (state_value_fine s order e) (λ v fine. state_fine s v.0 order fine.0)
 effect_in_order s order (show_text t) = order
+effect_in_order s order (sever x) =
+    ok_always FineStep (bound_to s.names x) (severing s) (λ v. state_fine s (cut s.arrays v) order (cut_fine s.arrays v (grows_self s order)))
+effect_in_order s order (reshapes x sizes) =
+    ok_always FineStep (bound_to s.names x) (λ v. and_then (taken s.names s.arrays sizes) (reshaping s v)) (λ v.
+    ok_then (FineTaken s.arrays) FineStep (taken s.names s.arrays sizes) (reshaping s v) (taken_fine s.names sizes s.arrays (grows_self s order) order.inside) (reshaping_fine s v order))
+effect_in_order s order (undef x) = unbind_fine s x order
 effect_in_order s order vars = order
-effect_in_order s order (sever x) = tt
-effect_in_order s order (reshape x args) = tt
-effect_in_order s order (undef x) = tt
 effect_in_order s order (pp_def f a b) = ok_always FineStep (defined f a b) (kernel_named s f) (λ k. define_fine s f k order)
 effect_in_order s order (watch x k) = tt
 effect_in_order s order (unwatch k) = tt

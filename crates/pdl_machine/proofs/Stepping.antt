@@ -1,5 +1,4 @@
--- A statement does the same with arrays that differ in their numbers, and in arrays that only one
--- side has.
+-- Values, bindings and what is printed are the same with arrays that differ in their numbers.
 use Rattle.std.proofs.Common.{◌≡◌, ℕ, ℤ, suc, List, [], ◌∷◌, ◌++◌, length, Bool, true, false, Option, Some, None, Result, Ok, Err, codes, refl, sym, ap, subst, ◌∙◌, nat_eq}
 use Rattle.std.specs.Prelude.{if◌then◌else◌, option_map, is_none, not, ◌&&◌, nat_lt}
 use Rattle.std.specs.List.{flat_map}
@@ -11,7 +10,6 @@ use Rattle.pdl_world.specs.Refused.{NoView, view_refusal}
 use Rattle.pdl_world.specs.World.{root, view, assign as assign_in}
 use Rattle.pdl_lexemes.specs.declared.AssignOp.{AssignOp}
 use Rattle.pdl_syntax.specs.Tree.{Tree, Args, number, named, literal, unary, binary, call, none, value, text, of_type}
-use Rattle.pdl_syntax.specs.StatementTree.{StatementTree, bind, bind_list, assign, show, show_text, sever, reshape, undef, vars, pp_def, watch, unwatch}
 use Rattle.pdl_machine.specs.declared.fault.Fault.{Fault}
 use Rattle.pdl_machine.specs.declared.fault.Fault.TheVariants.{TooManyNames, TooManyKernels}
 use Rattle.pdl_machine.specs.declared.builtin.Builtin.{Builtin}
@@ -23,17 +21,17 @@ use Rattle.pdl_machine.specs.Outcome.{array, string, type_word, Given, Seen, see
 use Rattle.pdl_ops.specs.Elementwise.{unary_each}
 use Rattle.pdl_machine.specs.Operators.{binary_each, values_for}
 use Rattle.pdl_kernel.specs.Kernels.{Kernel}
-use Rattle.pdl_machine.specs.Kernels.{kernel_outputs, defined}
+use Rattle.pdl_machine.specs.Kernels.{kernel_outputs}
 use Rattle.pdl_machine.specs.Calls.{outcome, builtin_value, Callee, builtin, kernel, callee_of, only_root, several, value_by, call_value}
 use Rattle.pdl_machine.specs.Value.{Taken, known, number_made, value_of, taken}
 use Rattle.pdl_machine.specs.Tidy.{renumbered, with_numbers}
-use Rattle.pdl_machine.specs.Step.{Stepped, bind_value, bound, roots_bound, outputs_bound, kernel_named, list_bound, target, assigned, assigning, info_line, printed, after_printing, name_line, effect}
+use Rattle.pdl_machine.specs.Step.{Stepped, bind_value, bound, roots_bound, outputs_bound, kernel_named, list_bound, assigned, assigning, info_line, printed, after_printing, name_line}
 use Rattle.pdl_machine.proofs.Renamed.{AreAlike, StateAlike, view_refusal_renamed, assign_renamed, array_alike, new_alike}
 use Rattle.pdl_machine.proofs.Both.{Both, both_then, both_same}
 
 -- a value on both sides
 abbrev pub ValueAlike : (ℕ → ℕ) → Arrays × ℕ → Arrays × ℕ → Type 0
-ValueAlike g (a, v) (b, u) = AreAlike g a b × (u ≡ g v)
+ValueAlike g (a, v) (b, u) = AreAlike true g a b × (u ≡ g v)
 
 abbrev pub given_by : (ℕ → ℕ) → Given → Given
 given_by g (array v) = array (g v)
@@ -46,27 +44,27 @@ all_given_by g (x ∷ given) = given_by g x ∷ all_given_by g given
 
 -- arguments on both sides
 abbrev pub TakenAlike : (ℕ → ℕ) → Arrays × List Given → Arrays × List Given → Type 0
-TakenAlike g (a, given) (b, others) = AreAlike g a b × (others ≡ all_given_by g given)
+TakenAlike g (a, given) (b, others) = AreAlike true g a b × (others ≡ all_given_by g given)
 
-seen_alike : (g : ℕ → ℕ) (a b : Arrays) → AreAlike g a b → (x : Given) → seen b (given_by g x) ≡ seen a x
+seen_alike : (g : ℕ → ℕ) (a b : Arrays) → AreAlike true g a b → (x : Given) → seen b (given_by g x) ≡ seen a x
 seen_alike g a b h (array v) = ap array (array_alike g a b h v)
 seen_alike g a b h (string t) = refl
 seen_alike g a b h (type_word ty) = refl
 
 -- a call sees the same of its arguments
-all_seen_alike : (g : ℕ → ℕ) (a b : Arrays) → AreAlike g a b → (given : List Given) → all_seen b (all_given_by g given) ≡ all_seen a given
+all_seen_alike : (g : ℕ → ℕ) (a b : Arrays) → AreAlike true g a b → (given : List Given) → all_seen b (all_given_by g given) ≡ all_seen a given
 all_seen_alike g a b h [] = refl
 all_seen_alike g a b h (x ∷ given) =
     ap (λ s. s ∷ all_seen b (all_given_by g given)) (seen_alike g a b h x) ∙ ap (λ rest. seen a x ∷ rest) (all_seen_alike g a b h given)
 
-root_alike : (g : ℕ → ℕ) (a b : Arrays) → AreAlike g a b → (m : Made) → Both (ValueAlike g) (new_root a m) (new_root b m)
+root_alike : (g : ℕ → ℕ) (a b : Arrays) → AreAlike true g a b → (m : Made) → Both (ValueAlike g) (new_root a m) (new_root b m)
 root_alike g a b h m = (new_alike g a b h (root m.ty m.dims m.elems), h.next)
 
-view_alike : (g : ℕ → ℕ) (a b : Arrays) → AreAlike g a b → (v : ℕ) (t : Trans) (x : Option NoView) → Both (ValueAlike g) (new_view a v t x) (new_view b (g v) t x)
+view_alike : (g : ℕ → ℕ) (a b : Arrays) → AreAlike true g a b → (v : ℕ) (t : Trans) (x : Option NoView) → Both (ValueAlike g) (new_view a v t x) (new_view b (g v) t x)
 view_alike g a b h v t None = (new_alike g a b h (view v t), h.next)
 view_alike g a b h v t (Some reason) = refl
 
-viewed_alike : (g : ℕ → ℕ) (a b : Arrays) → AreAlike g a b → (given : List Given) (t : Trans) → Both (ValueAlike g) (view_placed a given t) (view_placed b (all_given_by g given) t)
+viewed_alike : (g : ℕ → ℕ) (a b : Arrays) → AreAlike true g a b → (given : List Given) (t : Trans) → Both (ValueAlike g) (view_placed a given t) (view_placed b (all_given_by g given) t)
 viewed_alike g a b h [] t = refl
 viewed_alike g a b h (array v ∷ given) t =
     let P : Option NoView → Type 0 = λ reason. Both (ValueAlike g) (view_placed a (array v ∷ given) t) (new_view b (g v) t reason) in
@@ -75,7 +73,7 @@ viewed_alike g a b h (string s ∷ given) t = refl
 viewed_alike g a b h (type_word ty ∷ given) t = refl
 
 -- the same outcome is placed on both sides
-placed_alike : (g : ℕ → ℕ) (a b : Arrays) → AreAlike g a b → (given : List Given) (x : Result Outcome Fault) → Both (ValueAlike g) (placed a given x) (placed b (all_given_by g given) x)
+placed_alike : (g : ℕ → ℕ) (a b : Arrays) → AreAlike true g a b → (given : List Given) (x : Result Outcome Fault) → Both (ValueAlike g) (placed a given x) (placed b (all_given_by g given) x)
 placed_alike g a b h given (Err e) = refl
 placed_alike g a b h given (Ok (made m)) = root_alike g a b h m
 placed_alike g a b h given (Ok (viewed t)) = viewed_alike g a b h given t
@@ -87,10 +85,10 @@ builtin_alike g f (a, given) (b, others) h =
     subst P (sym h.1) (subst Q (sym (all_seen_alike g a b h.0 given)) (placed_alike g a b h.0 given (outcome f (all_seen a given))))
 
 -- and so it does where they were evaluated
-taken_seen : (g : ℕ → ℕ) (t u : Arrays × List Given) → TakenAlike g t u → all_seen u.0 u.1 ≡ all_seen t.0 t.1
+pub taken_seen : (g : ℕ → ℕ) (t u : Arrays × List Given) → TakenAlike g t u → all_seen u.0 u.1 ≡ all_seen t.0 t.1
 taken_seen g (a, given) (b, others) h = ap (all_seen b) h.1 ∙ all_seen_alike g a b h.0 given
 
-only_alike : (g : ℕ → ℕ) (a b : Arrays) → AreAlike g a b → (ms : List Made) → Both (ValueAlike g) (only_root a ms) (only_root b ms)
+only_alike : (g : ℕ → ℕ) (a b : Arrays) → AreAlike true g a b → (ms : List Made) → Both (ValueAlike g) (only_root a ms) (only_root b ms)
 only_alike g a b h [] = refl
 only_alike g a b h (m ∷ []) = root_alike g a b h m
 only_alike g a b h (m ∷ n ∷ ms) = refl
@@ -112,12 +110,12 @@ given_snoc g (y ∷ given) x = ap (λ rest. given_by g y ∷ rest) (given_snoc g
 abbrev with_argument : Arrays → List Given → Given → Taken
 with_argument a given x = Ok (a, given ++ x ∷ [])
 
-more_alike : (g : ℕ → ℕ) (a b : Arrays) (given others : List Given) (x y : Given) → AreAlike g a b → others ≡ all_given_by g given → y ≡ given_by g x
+more_alike : (g : ℕ → ℕ) (a b : Arrays) (given others : List Given) (x y : Given) → AreAlike true g a b → others ≡ all_given_by g given → y ≡ given_by g x
     → Both (TakenAlike g) (with_argument a given x) (with_argument b others y)
 more_alike g a b given others x y h same_front same =
     (h, ap (λ o. o ++ y ∷ []) same_front ∙ ap (λ z. all_given_by g given ++ z ∷ []) same ∙ sym (given_snoc g given x))
 
-found_alike : (g : ℕ → ℕ) (names : Named ℕ) (x : List ℕ) → found (renumbered g names) x ≡ option_map g (found names x)
+pub found_alike : (g : ℕ → ℕ) (names : Named ℕ) (x : List ℕ) → found (renumbered g names) x ≡ option_map g (found names x)
 found_alike g [] x = refl
 found_alike g (n ∷ names) x =
     by_test (pointwise nat_eq x n.0) (λ same. rw same refl) (λ other. rw other (found_alike g names x))
@@ -125,7 +123,7 @@ found_alike g (n ∷ names) x =
 pub number_of_alike : (g : ℕ → ℕ) (names : Names) (x : List ℕ) → number_of (with_numbers g names) x ≡ option_map g (number_of names x)
 number_of_alike g names x = found_alike g names.arrays x
 
-known_alike : (g : ℕ → ℕ) (a b : Arrays) → AreAlike g a b → (o : Option ℕ) → Both (ValueAlike g) (known a o) (known b (option_map g o))
+known_alike : (g : ℕ → ℕ) (a b : Arrays) → AreAlike true g a b → (o : Option ℕ) → Both (ValueAlike g) (known a o) (known b (option_map g o))
 known_alike g a b h None = refl
 known_alike g a b h (Some v) = (h, refl)
 
@@ -147,7 +145,7 @@ binary_alike g f v w (a, x) (b, y) same h =
 
 mutual
   -- values are the same
-  pub value_alike : (g : ℕ → ℕ) (names : Names) (e : Tree) (a b : Arrays) → AreAlike g a b → Both (ValueAlike g) (value_of names a e) (value_of (with_numbers g names) b e)
+  pub value_alike : (g : ℕ → ℕ) (names : Names) (e : Tree) (a b : Arrays) → AreAlike true g a b → Both (ValueAlike g) (value_of names a e) (value_of (with_numbers g names) b e)
   value_alike g names (number n) a b h = root_alike g a b h (number_made n)
   value_alike g names (named x) a b h =
       let P : Option ℕ → Type 0 = λ o. Both (ValueAlike g) (known a (number_of names x)) (known b o) in
@@ -169,7 +167,7 @@ mutual
       (taken_alike g names args a b h) (call_alike g names f)
 
   -- and so are arguments
-  pub taken_alike : (g : ℕ → ℕ) (names : Names) (args : Args) (a b : Arrays) → AreAlike g a b → Both (TakenAlike g) (taken names a args) (taken (with_numbers g names) b args)
+  pub taken_alike : (g : ℕ → ℕ) (names : Names) (args : Args) (a b : Arrays) → AreAlike true g a b → Both (TakenAlike g) (taken names a args) (taken (with_numbers g names) b args)
   taken_alike g names none a b h = (h, refl)
   taken_alike g names (value front e) a b h =
       both_then (TakenAlike g) (TakenAlike g) (taken names a front) (taken (with_numbers g names) b front)
@@ -186,7 +184,7 @@ mutual
 
 -- a state and what was printed, on both sides
 abbrev pub StepAlike : (ℕ → ℕ) → State × List ℕ → State × List ℕ → Type 0
-StepAlike g (s, printed) (t, other) = StateAlike g s t × (printed ≡ other)
+StepAlike g (s, printed) (t, other) = StateAlike true g s t × (printed ≡ other)
 
 length-numbers : (g : ℕ → ℕ) (names : Named ℕ) → length (renumbered g names) ≡ length names
 length-numbers g [] = refl
@@ -220,7 +218,7 @@ bind_alike g names x v =
     by_room true = refl
     by_room false = ap other (with_name_alike g names.arrays x v)
 
-bind_value_alike : (g : ℕ → ℕ) (s t : State) → StateAlike g s t → (x : List ℕ) (v w : Arrays × ℕ) → ValueAlike g v w → Both (StepAlike g) (bind_value s x v) (bind_value t x w)
+bind_value_alike : (g : ℕ → ℕ) (s t : State) → StateAlike true g s t → (x : List ℕ) (v w : Arrays × ℕ) → ValueAlike g v w → Both (StepAlike g) (bind_value s x v) (bind_value t x w)
 bind_value_alike g s t h x (a, v) (b, w) together =
     let P : Names → Type 0 = λ n. Both (λ n m. m ≡ with_numbers g n) (bind_name s.names x v) (bind_name n x w) in
     let Q : ℕ → Type 0 = λ u. Both (λ n m. m ≡ with_numbers g n) (bind_name s.names x v) (bind_name (with_numbers g s.names) x u) in
@@ -228,10 +226,10 @@ bind_value_alike g s t h x (a, v) (b, w) together =
     both_then (λ n m. m ≡ with_numbers g n) (StepAlike g) (bind_name s.names x v) (bind_name t.names x w) (λ n. Ok (record s { names = n; arrays = a }, [])) (λ n. Ok (record t { names = n; arrays = b }, []))
     names (λ n m same. (record { arrays = together.0; names = same }, refl))
 
-bound_alike : (g : ℕ → ℕ) (s t : State) → StateAlike g s t → (x : List ℕ) (v w : Valued) → Both (ValueAlike g) v w → Both (StepAlike g) (bound s x v) (bound t x w)
+pub bound_alike : (g : ℕ → ℕ) (s t : State) → StateAlike true g s t → (x : List ℕ) (v w : Valued) → Both (ValueAlike g) v w → Both (StepAlike g) (bound s x v) (bound t x w)
 bound_alike g s t h x v w together = both_then (ValueAlike g) (StepAlike g) v w (bind_value s x) (bind_value t x) together (bind_value_alike g s t h x)
 
-roots_alike : (g : ℕ → ℕ) (s t : State) → StateAlike g s t → (xs : List (List ℕ)) (ms : List Made) → Both (StepAlike g) (roots_bound s xs ms) (roots_bound t xs ms)
+roots_alike : (g : ℕ → ℕ) (s t : State) → StateAlike true g s t → (xs : List (List ℕ)) (ms : List Made) → Both (StepAlike g) (roots_bound s xs ms) (roots_bound t xs ms)
 roots_alike g s t h [] ms = (h, refl)
 roots_alike g s t h (x ∷ xs) [] = (h, refl)
 roots_alike g s t h (x ∷ xs) (m ∷ ms) =
@@ -239,71 +237,77 @@ roots_alike g s t h (x ∷ xs) (m ∷ ms) =
     (bound_alike g s t h x (new_root s.arrays m) (new_root t.arrays m) (root_alike g s.arrays t.arrays h.arrays m)) (λ p q alike. roots_alike g p.0 q.0 alike.0 xs ms)
 
 -- outputs bound on both sides
-many_alike : (g : ℕ → ℕ) (s t : State) → StateAlike g s t → (xs : List (List ℕ)) (v w : Arrays × List Given) → TakenAlike g v w → (c : Callee)
+many_alike : (g : ℕ → ℕ) (s t : State) → StateAlike true g s t → (xs : List (List ℕ)) (v w : Arrays × List Given) → TakenAlike g v w → (c : Callee)
     → Both (StepAlike g) (and_then (several (length xs) (all_seen v.0 v.1) c) (roots_bound (with_arrays s v.0) xs)) (and_then (several (length xs) (all_seen w.0 w.1) c) (roots_bound (with_arrays t w.0) xs))
 many_alike g s t h xs v w together c =
     let given = several (length xs) (all_seen v.0 v.1) c in
     let P : List Seen → Type 0 = λ x. Both (StepAlike g) (and_then given (roots_bound (with_arrays s v.0) xs)) (and_then (several (length xs) x c) (roots_bound (with_arrays t w.0) xs)) in
-    let alike : StateAlike g (with_arrays s v.0) (with_arrays t w.0) = record { arrays = together.0; names = h.names } in
+    let alike : StateAlike true g (with_arrays s v.0) (with_arrays t w.0) = record { arrays = together.0; names = h.names } in
     subst P (sym (taken_seen g v w together)) (both_same (StepAlike g) given (roots_bound (with_arrays s v.0) xs) (roots_bound (with_arrays t w.0) xs) (roots_alike g (with_arrays s v.0) (with_arrays t w.0) alike xs))
 
-outputs_alike : (g : ℕ → ℕ) (s t : State) → StateAlike g s t → (xs : List (List ℕ)) (v w : Arrays × List Given) → TakenAlike g v w → (c : Callee) → Both (StepAlike g) (outputs_bound s xs v c) (outputs_bound t xs w c)
+outputs_alike : (g : ℕ → ℕ) (s t : State) → StateAlike true g s t → (xs : List (List ℕ)) (v w : Arrays × List Given) → TakenAlike g v w → (c : Callee) → Both (StepAlike g) (outputs_bound s xs v c) (outputs_bound t xs w c)
 outputs_alike g s t h (x ∷ []) v w together c = bound_alike g s t h x (value_by v.0 v.1 c) (value_by w.0 w.1 c) (value_by_alike g v w together c)
 outputs_alike g s t h [] v w together c = many_alike g s t h [] v w together c
 outputs_alike g s t h (x ∷ y ∷ xs) v w together c = many_alike g s t h (x ∷ y ∷ xs) v w together c
 
-list_alike : (g : ℕ → ℕ) (s t : State) → StateAlike g s t → (xs : List (List ℕ)) (f : List ℕ) (v w : Arrays × List Given) → TakenAlike g v w → Both (StepAlike g) (list_bound s xs f v) (list_bound t xs f w)
+pub list_alike : (g : ℕ → ℕ) (s t : State) → StateAlike true g s t → (xs : List (List ℕ)) (f : List ℕ) (v w : Arrays × List Given) → TakenAlike g v w → Both (StepAlike g) (list_bound s xs f v) (list_bound t xs f w)
 list_alike g s t h xs f v w together =
     let P : Names → Type 0 = λ names. Both (StepAlike g) (list_bound s xs f v) (and_then (callee_of names f) (outputs_bound t xs w)) in
     subst P (sym h.names) (both_same (StepAlike g) (callee_of s.names f) (outputs_bound s xs v) (outputs_bound t xs w) (outputs_alike g s t h xs v w together))
 
 -- the state's value on both sides
-state_value_alike : (g : ℕ → ℕ) (s t : State) → StateAlike g s t → (e : Tree) → Both (ValueAlike g) (value_of s.names s.arrays e) (value_of t.names t.arrays e)
+pub state_value_alike : (g : ℕ → ℕ) (s t : State) → StateAlike true g s t → (e : Tree) → Both (ValueAlike g) (value_of s.names s.arrays e) (value_of t.names t.arrays e)
 state_value_alike g s t h e =
     let P : Names → Type 0 = λ n. Both (ValueAlike g) (value_of s.names s.arrays e) (value_of n t.arrays e) in
     subst P (sym h.names) (value_alike g s.names e s.arrays t.arrays h.arrays)
 
-arrays_assigned_alike : (g : ℕ → ℕ) (a b : Arrays) → AreAlike g a b → (v : ℕ) (vs : List ℤ) → AreAlike g (record a { world = assign_in a.world v vs }) (record b { world = assign_in b.world (g v) vs })
+-- and arguments
+pub state_taken_alike : (g : ℕ → ℕ) (s t : State) → StateAlike true g s t → (args : Args) → Both (TakenAlike g) (taken s.names s.arrays args) (taken t.names t.arrays args)
+state_taken_alike g s t h args =
+    let P : Names → Type 0 = λ n. Both (TakenAlike g) (taken s.names s.arrays args) (taken n t.arrays args) in
+    subst P (sym h.names) (taken_alike g s.names args s.arrays t.arrays h.arrays)
+
+arrays_assigned_alike : (g : ℕ → ℕ) (a b : Arrays) → AreAlike true g a b → (v : ℕ) (vs : List ℤ) → AreAlike true g (record a { world = assign_in a.world v vs }) (record b { world = assign_in b.world (g v) vs })
 arrays_assigned_alike g a b h v vs = record { apart = h.apart; world = assign_renamed g h.apart h.world v vs; next = h.next; on = h.on }
 
-assigned_alike : (g : ℕ → ℕ) (sign : AssignOp) (a b : Arrays) → AreAlike g a b → (v w u x : ℕ) → w ≡ g v → x ≡ g u → Both (AreAlike g) (assigned sign a v u) (assigned sign b w x)
+assigned_alike : (g : ℕ → ℕ) (sign : AssignOp) (a b : Arrays) → AreAlike true g a b → (v w u x : ℕ) → w ≡ g v → x ≡ g u → Both (AreAlike true g) (assigned sign a v u) (assigned sign b w x)
 assigned_alike g sign a b h v w u x same_v same_u =
     let right : array_in b x ≡ array_in a u = ap (array_in b) same_u ∙ array_alike g a b h u in
     let left : array_in b (g v) ≡ array_in a v = array_alike g a b h v in
     let write : ℕ → List ℤ → Result Arrays Fault = λ i values. Ok (record b { world = assign_in b.world i values }) in
-    let P : Result (List ℤ) Fault → Type 0 = λ r. Both (AreAlike g) (assigned sign a v u) (and_then r (write (g v))) in
-    let Q : ℕ → Type 0 = λ i. Both (AreAlike g) (assigned sign a v u) (and_then (values_for sign (array_in b i) (array_in b x)) (write i)) in
+    let P : Result (List ℤ) Fault → Type 0 = λ r. Both (AreAlike true g) (assigned sign a v u) (and_then r (write (g v))) in
+    let Q : ℕ → Type 0 = λ i. Both (AreAlike true g) (assigned sign a v u) (and_then (values_for sign (array_in b i) (array_in b x)) (write i)) in
     subst Q (sym same_v) (subst P (sym (ap (λ m. values_for sign m (array_in b x)) left ∙ ap (values_for sign (array_in a v)) right))
-    (both_same (AreAlike g) (values_for sign (array_in a v) (array_in a u)) (λ values. Ok (record a { world = assign_in a.world v values })) (write (g v))
+    (both_same (AreAlike true g) (values_for sign (array_in a v) (array_in a u)) (λ values. Ok (record a { world = assign_in a.world v values })) (write (g v))
     (λ values. arrays_assigned_alike g a b h v values)))
 
-assigning_alike : (g : ℕ → ℕ) (s t : State) → StateAlike g s t → (to : Tree) (sign : AssignOp) (e : Tree) → Both (StepAlike g) (assigning s to sign e) (assigning t to sign e)
+pub assigning_alike : (g : ℕ → ℕ) (s t : State) → StateAlike true g s t → (to : Tree) (sign : AssignOp) (e : Tree) → Both (StepAlike g) (assigning s to sign e) (assigning t to sign e)
 assigning_alike g s t h to sign e =
     both_then (ValueAlike g) (StepAlike g) (value_of s.names s.arrays to) (value_of t.names t.arrays to) (λ v. and_then (value_of s.names v.0 e) (last s v.1)) (λ v. and_then (value_of t.names v.0 e) (last t v.1))
     (state_value_alike g s t h to) (λ v w both.
     both_then (ValueAlike g) (StepAlike g) (value_of s.names v.0 e) (value_of t.names w.0 e) (last s v.1) (last t w.1)
     (right v.0 w.0 both.0) (λ u x both_right.
-    both_then (AreAlike g) (StepAlike g) (assigned sign u.0 v.1 u.1) (assigned sign x.0 w.1 x.1) (λ a. Ok (with_arrays s a, [])) (λ a. Ok (with_arrays t a, []))
+    both_then (AreAlike true g) (StepAlike g) (assigned sign u.0 v.1 u.1) (assigned sign x.0 w.1 x.1) (λ a. Ok (with_arrays s a, [])) (λ a. Ok (with_arrays t a, []))
     (assigned_alike g sign u.0 x.0 both_right.0 v.1 w.1 u.1 x.1 both.1 both_right.1) (λ a b alike. (record { arrays = alike; names = h.names }, refl))))
   where
     last : State → ℕ → Arrays × ℕ → Stepped
     last s v u = and_then (assigned sign u.0 v u.1) (λ a. Ok (with_arrays s a, []))
 
-    right : (a b : Arrays) → AreAlike g a b → Both (ValueAlike g) (value_of s.names a e) (value_of t.names b e)
+    right : (a b : Arrays) → AreAlike true g a b → Both (ValueAlike g) (value_of s.names a e) (value_of t.names b e)
     right a b alike = let P : Names → Type 0 = λ n. Both (ValueAlike g) (value_of s.names a e) (value_of n b e) in subst P (sym h.names) (value_alike g s.names e a b alike)
 
-shown_alike : (g : ℕ → ℕ) (s t : State) → StateAlike g s t → (is_info : Bool) (v w : Arrays × ℕ) → ValueAlike g v w → StepAlike g (after_printing s is_info v) (after_printing t is_info w)
+pub shown_alike : (g : ℕ → ℕ) (s t : State) → StateAlike true g s t → (is_info : Bool) (v w : Arrays × ℕ) → ValueAlike g v w → StepAlike g (after_printing s is_info v) (after_printing t is_info w)
 shown_alike g s t h is_info (a, v) (b, w) both =
     (record { arrays = both.0; names = h.names }, ap (printed is_info) (sym (ap (array_in b) both.1 ∙ array_alike g a b both.0 v)))
 
-lines_alike : (g : ℕ → ℕ) (a b : Arrays) → AreAlike g a b → (names : Named ℕ) → flat_map (name_line a) names ≡ flat_map (name_line b) (renumbered g names)
+pub lines_alike : (g : ℕ → ℕ) (a b : Arrays) → AreAlike true g a b → (names : Named ℕ) → flat_map (name_line a) names ≡ flat_map (name_line b) (renumbered g names)
 lines_alike g a b h [] = refl
 lines_alike g a b h (n ∷ names) =
     ap (λ m. (n.0 ++ codes " " ++ info_line m) ++ flat_map (name_line a) names) (sym (array_alike g a b h n.1))
     ∙ ap (λ t. name_line b (n.0, g n.1) ++ t) (lines_alike g a b h names)
 
 -- the definition of a kernel on both sides
-define_alike : (g : ℕ → ℕ) (s t : State) → StateAlike g s t → (f : List ℕ) (k : Kernel) → Both (StepAlike g) (kernel_named s f k) (kernel_named t f k)
+pub define_alike : (g : ℕ → ℕ) (s t : State) → StateAlike true g s t → (f : List ℕ) (k : Kernel) → Both (StepAlike g) (kernel_named s f k) (kernel_named t f k)
 define_alike g s t h f k =
     let P : Names → Type 0 = λ names. Both (StepAlike g) (kernel_named s f k) (and_then (define names f k) (λ after. Ok (record t { names = after }, []))) in
     subst P (sym h.names) (by_room (is_full_for kernels_limit s.names.kernels f))
@@ -316,29 +320,3 @@ define_alike g s t h f k =
         (step_of t (with_numbers g s.names) (if b then Err TooManyKernels else Ok (with_name s.names.kernels f k)))
     by_room true = refl
     by_room false = (record { arrays = h.arrays; names = refl }, refl)
-
--- a statement does the same on both sides
-pub effect_alike : (g : ℕ → ℕ) (s t : State) → StateAlike g s t → (statement : StatementTree) → Both (StepAlike g) (effect s statement) (effect t statement)
-effect_alike g s t h (bind x e false) = bound_alike g s t h x (value_of s.names s.arrays e) (value_of t.names t.arrays e) (state_value_alike g s t h e)
-effect_alike g s t h (bind x e true) = refl
-effect_alike g s t h (bind_list xs (call f args)) =
-    let P : Names → Type 0 = λ n. Both (TakenAlike g) (taken s.names s.arrays args) (taken n t.arrays args) in
-    both_then (TakenAlike g) (StepAlike g) (taken s.names s.arrays args) (taken t.names t.arrays args) (list_bound s xs f) (list_bound t xs f)
-    (subst P (sym h.names) (taken_alike g s.names args s.arrays t.arrays h.arrays)) (list_alike g s t h xs f)
-effect_alike g s t h (bind_list xs (number n)) = refl
-effect_alike g s t h (bind_list xs (named x)) = refl
-effect_alike g s t h (bind_list xs (literal ty ds es)) = refl
-effect_alike g s t h (bind_list xs (unary op e)) = refl
-effect_alike g s t h (bind_list xs (binary op e f)) = refl
-effect_alike g s t h (assign x views sign e) = assigning_alike g s t h (target x views) sign e
-effect_alike g s t h (show e is_info) =
-    both_then (ValueAlike g) (StepAlike g) (value_of s.names s.arrays e) (value_of t.names t.arrays e) (λ v. Ok (after_printing s is_info v)) (λ v. Ok (after_printing t is_info v))
-    (state_value_alike g s t h e) (shown_alike g s t h is_info)
-effect_alike g s t h (show_text x) = (h, refl)
-effect_alike g s t h vars = (h, lines_alike g s.arrays t.arrays h.arrays s.names.arrays ∙ ap (λ names. flat_map (name_line t.arrays) names.arrays) (sym h.names))
-effect_alike g s t h (sever x) = refl
-effect_alike g s t h (reshape x args) = refl
-effect_alike g s t h (undef x) = refl
-effect_alike g s t h (pp_def f a b) = both_same (StepAlike g) (defined f a b) (kernel_named s f) (kernel_named t f) (define_alike g s t h f)
-effect_alike g s t h (watch x k) = refl
-effect_alike g s t h (unwatch k) = refl

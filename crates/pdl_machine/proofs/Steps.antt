@@ -15,9 +15,10 @@ use Rattle.pdl_machine.specs.Step.{Stepped, effect, tidied}
 use Rattle.pdl_machine.specs.Laws.{StepsAlike, NewArraysUnseen, AreAllReached, StepsLeaveReached, TidyingShowsTheSame}
 use Rattle.pdl_machine.proofs.Renamed.{IsApart, StateAlike, array_alike}
 use Rattle.pdl_machine.proofs.Both.{Both}
-use Rattle.pdl_machine.proofs.Stepping.{StepAlike, effect_alike, number_of_alike}
+use Rattle.pdl_machine.proofs.Stepping.{StepAlike, number_of_alike}
+use Rattle.pdl_machine.proofs.Effects.{effect_alike}
 use Rattle.pdl_machine.proofs.Tidying.{renamed, holds_renamed, held_renamed, tidy_alike}
-use Rattle.pdl_machine.proofs.Numbering.{in_world, live_inside, IsInOrder, in_order, former_numbers, former_apart, swept_is, tidied_alike}
+use Rattle.pdl_machine.proofs.Numbering.{in_world, live_inside, IsInOrder, in_order, former_numbers, former_apart, swept_is, tidied_alike, swept_alike}
 use Rattle.pdl_machine.proofs.Orderly.{effect_in_order}
 
 -- steps that are alike are the same once they are tidied
@@ -34,20 +35,20 @@ steps_alike g (Err e) (Err f) h = ap fault (sym h)
     fault e = Err e
 
 pub steps_are_alike : StepsAlike
-steps_are_alike s statement whole =
+steps_are_alike s statement whole swept =
     let same : tidied (effect s statement) ≡ tidied (effect (tidy s) statement) =
-    steps_alike (former_numbers s) (effect (tidy s) statement) (effect s statement) (effect_alike (former_numbers s) (tidy s) s (tidied_alike s (in_order s whole)) statement) in
+    steps_alike (former_numbers s) (effect (tidy s) statement) (effect s statement) (effect_alike (former_numbers s) (tidy s) s (swept_alike s (in_order s whole) swept) statement) in
     sym same
 
 -- what is seen through the tidied state is what was seen
 pub tidying_shows_the_same : TidyingShowsTheSame
 tidying_shows_the_same s x whole =
     let g = former_numbers s in
-    let h : StateAlike g (tidy s) s = tidied_alike s (in_order s whole) in
+    let h : StateAlike false g (tidy s) s = tidied_alike s (in_order s whole) in
     let name : number_of s.names x ≡ option_map g (number_of (tidy s).names x) = ap (λ names. number_of names x) h.names ∙ number_of_alike g (tidy s).names x in
     sym (ap (option_map (array_in s.arrays)) name ∙ by_number g h (number_of (tidy s).names x))
   where
-    by_number : (g : ℕ → ℕ) → StateAlike g (tidy s) s → (o : Option ℕ) → option_map (array_in s.arrays) (option_map g o) ≡ option_map (array_in (tidy s).arrays) o
+    by_number : (g : ℕ → ℕ) → StateAlike false g (tidy s) s → (o : Option ℕ) → option_map (array_in s.arrays) (option_map g o) ≡ option_map (array_in (tidy s).arrays) o
     by_number g h None = refl
     by_number g h (Some v) = ap Some (array_alike g (tidy s).arrays s.arrays h.arrays v)
 

@@ -31,12 +31,12 @@ parents_renamed g (root ty ds es) hs = refl
 parents_renamed g (view p t) hs = refl
 
 -- both are swept alike, and arrays that only one has go
-pub sweep_renamed : (g : ℕ → ℕ) → IsApart g → {w u : World} → Renames g w u → (hs : List ℕ) → sweep u (map g hs) ≡ renamed g (sweep w hs)
+pub sweep_renamed : (g : ℕ → ℕ) → IsApart g → {all : Bool} {w u : World} → Renames g all w u → (hs : List ℕ) → sweep u (map g hs) ≡ renamed g (sweep w hs)
 sweep_renamed g apart empty hs = refl
-sweep_renamed g apart (more {w} {u} k d left r) hs =
+sweep_renamed g apart (more {w = w} {u = u} k d left r) hs =
     let P : Bool → Type 0 = λ keeps. kept_onto keeps (k, d) (sweep u (if keeps then parents d ++ map g hs else map g hs)) ≡ renamed g (sweep w hs) in
     subst P (sym (holds_never g hs k left)) (sweep_renamed g apart r hs)
-sweep_renamed g apart (same {w} {u} i d r) hs =
+sweep_renamed g apart (same {w = w} {u = u} i d r) hs =
     let P : Bool → Type 0 = λ keeps. kept_onto keeps (g i, with_parent g d) (sweep u (if keeps then parents (with_parent g d) ++ map g hs else map g hs)) ≡ renamed g (sweep ((i, d) ∷ w) hs) in
     subst P (sym (holds_renamed g apart hs i)) (by_keeps (sweep_renamed g apart r) (holds hs i))
   where
@@ -88,7 +88,7 @@ abbrev beside : Named Kernel → Named ℕ → Names
 beside ks bound = record { arrays = bound; kernels = ks }
 
 -- states that are alike are the same once they are tidied
-pub tidy_alike : (g : ℕ → ℕ) (s t : State) → StateAlike g s t → tidy t ≡ tidy s
+pub tidy_alike : {all : Bool} (g : ℕ → ℕ) (s t : State) → StateAlike all g s t → tidy t ≡ tidy s
 tidy_alike g s t h =
     let apart : IsApart g = h.arrays.apart in
     let u : World = sweep s.arrays.world (held s) in

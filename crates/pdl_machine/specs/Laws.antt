@@ -7,13 +7,13 @@ use Rattle.pdl_world.specs.Swept.{holds, sweep, Has, IsReached}
 use Rattle.pdl_syntax.specs.StatementTree.{StatementTree}
 use Rattle.pdl_machine.specs.Names.{number_of}
 use Rattle.pdl_machine.specs.Arrays.{Arrays, array_in}
-use Rattle.pdl_machine.specs.State.{State, with_arrays, with_world, held, AreLive, IsWhole}
+use Rattle.pdl_machine.specs.State.{State, with_arrays, with_world, held, IsSwept, AreLive, IsWhole}
 use Rattle.pdl_machine.specs.Tidy.{tidy}
 use Rattle.pdl_machine.specs.Step.{step}
 
--- a step from the swept and renumbered state is the step
+-- where nothing is left over, a step from the renumbered state is the step
 abbrev pub StepsAlike : Type 0
-StepsAlike = (s : State) (statement : StatementTree) → IsWhole s →
+StepsAlike = (s : State) (statement : StatementTree) → IsWhole s → IsSwept s →
     step (tidy s) statement ≡ step s statement
 
 -- nothing but new arrays came

@@ -8,6 +8,7 @@ pub mod Kernels
 pub mod Names
 pub mod State
 pub mod Fills
+pub mod Cuts
 pub mod Inquiries
 pub mod Views
 pub mod Reductions
@@ -18,6 +19,7 @@ pub mod Tidy
 pub mod Step
 pub mod Laws
 pub mod Worked
+pub mod WorkedCuts
 pub mod Parsed
 pub mod Run
 pub mod StatementMeaning

@@ -3,9 +3,9 @@
 use Rattle.std.specs.Prelude.{ℕ, nat_eq, List, [], ◌∷◌, length, nat_lt, Bool, not, ◌&&◌, Option, Some, None, is_none, if◌then◌else◌, Result, Ok, Err}
 use Rattle.std.specs.Cmp.Lexicographic.{pointwise}
 use Rattle.pdl_machine.specs.declared.fault.Fault.{Fault}
-use Rattle.pdl_machine.specs.declared.fault.Fault.TheVariants.{TooManyNames, TooManyKernels}
+use Rattle.pdl_machine.specs.declared.fault.Fault.TheVariants.{UnknownName, TooManyNames, TooManyKernels}
 use Rattle.pdl_kernel.specs.Kernels.{Kernel}
-use Rattle.pdl_machine.specs.Then.{and_then}
+use Rattle.pdl_machine.specs.Then.{and_then, or_fault}
 
 -- things by their names
 abbrev pub Named : Type 0 → Type 0
@@ -21,6 +21,12 @@ abbrev pub with_name : {A : Type 0} → Named A → List ℕ → A → Named A
 with_name [] x a = (x, a) ∷ []
 with_name (n ∷ names) x a = if pointwise nat_eq x n.0 then (n.0, a) ∷ names
     else n ∷ with_name names x a
+
+-- without the one of this name; the others keep their order
+abbrev pub without_name : {A : Type 0} → Named A → List ℕ → Named A
+without_name [] x = []
+without_name (n ∷ names) x = if pointwise nat_eq x n.0 then names
+    else n ∷ without_name names x
 
 -- whether there is no room for a name: it is new, and there are as many as may be
 abbrev pub is_full_for : {A : Type 0} → (limit : ℕ) → Named A → List ℕ → Bool
@@ -52,10 +58,19 @@ kernels_limit = 256
 abbrev pub number_of : Names → List ℕ → Option ℕ
 number_of names x = found names.arrays x
 
+-- the array of a name, or that it isn't bound
+abbrev pub bound_to : Names → List ℕ → Result ℕ Fault
+bound_to names x = or_fault UnknownName (number_of names x)
+
 -- the names after a binding, or that there are too many
 abbrev pub bind : Names → List ℕ → ℕ → Result Names Fault
 bind names x v = and_then (entered names_limit TooManyNames names.arrays x v) (λ arrays.
     Ok (record names { arrays = arrays }))
+
+-- the names without one of them, or that it isn't bound
+abbrev pub unbind : Names → List ℕ → Result Names Fault
+unbind names x = and_then (bound_to names x) (λ v.
+    Ok (record names { arrays = without_name names.arrays x }))
 
 -- the names after the definition of a kernel, or that there are too many
 abbrev pub define : Names → List ℕ → Kernel → Result Names Fault

@@ -1,7 +1,8 @@
 -- The state of a machine between two statements.
-use Rattle.std.specs.Prelude.{ℕ, List, [], ◌∷◌, map}
+use Rattle.std.specs.Prelude.{◌≡◌, ℕ, List, [], ◌∷◌, map}
 use Rattle.pdl_world.specs.World.{World}
 use Rattle.pdl_world.specs.Sound.{NumbersBelow, IsSound, IsLive}
+use Rattle.pdl_world.specs.Swept.{sweep}
 use Rattle.pdl_machine.specs.Names.{Names, nothing_named}
 use Rattle.pdl_machine.specs.Arrays.{Arrays, no_arrays}
 
@@ -25,6 +26,14 @@ with_world s w = with_arrays s (record s.arrays { world = w })
 -- the arrays that the state holds by itself: those that names are bound to
 abbrev pub held : State → List ℕ
 held s = map (λ n. n.1) s.names.arrays
+
+-- the arrays that the state keeps: those that what it holds reaches by parents
+abbrev pub kept : State → World
+kept s = sweep s.arrays.world (held s)
+
+-- nothing is left over: all arrays are kept
+abbrev pub IsSwept : State → Type 0
+IsSwept s = kept s ≡ s.arrays.world
 
 -- each of these arrays can be looked at
 abbrev pub AreLive : World → List ℕ → Type 0

@@ -6,17 +6,18 @@ use Rattle.pdl_world.specs.World.{assign as assign_in}
 use Rattle.pdl_print.specs.Printed.{array_text, info}
 use Rattle.pdl_lexemes.specs.declared.AssignOp.{AssignOp}
 use Rattle.pdl_syntax.specs.Tree.{Tree, Args, named, call, none, value, text, of_type}
-use Rattle.pdl_syntax.specs.StatementTree.{StatementTree, View, bind, bind_list, assign, show, show_text, vars, pp_def}
+use Rattle.pdl_syntax.specs.StatementTree.{StatementTree, View, bind, bind_list, assign, show, show_text, sever, reshape, undef, vars, pp_def, watch, unwatch}
 use Rattle.pdl_machine.specs.declared.fault.Fault.{Fault}
 use Rattle.pdl_machine.specs.declared.fault.Fault.TheVariants.{Syntax}
 use Rattle.pdl_machine.specs.Then.{and_then}
-use Rattle.pdl_machine.specs.Names.{bind as bind_name, define}
+use Rattle.pdl_machine.specs.Names.{bind as bind_name, unbind, bound_to, define}
 use Rattle.pdl_machine.specs.Arrays.{Arrays, array_in}
 use Rattle.pdl_machine.specs.State.{State, with_arrays}
 use Rattle.pdl_machine.specs.Outcome.{Given, Valued, all_seen, new_root}
 use Rattle.pdl_machine.specs.Operators.{values_for}
 use Rattle.pdl_kernel.specs.Kernels.{Kernel}
 use Rattle.pdl_machine.specs.Kernels.{defined}
+use Rattle.pdl_machine.specs.Cuts.{cut, severed, dims_given, reshaped}
 use Rattle.pdl_machine.specs.Calls.{Callee, callee_of, several, value_by}
 use Rattle.pdl_machine.specs.Value.{value_of, value_in, taken}
 use Rattle.pdl_machine.specs.Tidy.{tidy}
@@ -51,6 +52,11 @@ outputs_bound s xs t c =
 -- the outputs of the call of a name bound to names
 abbrev pub list_bound : State → List (List ℕ) → List ℕ → Arrays × List Given → Stepped
 list_bound s xs f t = and_then (callee_of s.names f) (outputs_bound s xs t)
+
+-- the outputs of a call bound to names in order; nothing else has outputs
+abbrev pub several_bound : State → List (List ℕ) → Tree → Stepped
+several_bound s xs (call f args) = and_then (taken s.names s.arrays args) (list_bound s xs f)
+several_bound s xs _ = Err Syntax
 
 -- arguments behind a first one
 abbrev pub behind : Tree → Args → Args
@@ -96,17 +102,37 @@ name_line a n = n.0 ++ codes " " ++ info_line (array_in a n.1)
 abbrev pub kernel_named : State → List ℕ → Kernel → Stepped
 kernel_named s f k = and_then (define s.names f k) (λ names. Ok (record s { names = names }, []))
 
--- what a statement does before the arrays that nothing reaches are let go; a form that isn't
--- built is a syntax error
+-- an array cut from its parent
+abbrev pub severing : State → ℕ → Stepped
+severing s v = Ok (with_arrays s (cut s.arrays v), [])
+
+-- an array with the dimensions that arguments give
+abbrev pub reshaping : State → ℕ → Arrays × List Given → Stepped
+reshaping s v t =
+    and_then (dims_given t) (λ ds.
+    and_then (reshaped t.0 v ds) (λ a. Ok (with_arrays s a, [])))
+
+-- forms of statements that aren't built: each of them is a syntax error
+abbrev pub not_built : Stepped
+not_built = Err Syntax
+
+-- what a statement does before the arrays that nothing reaches are let go
 abbrev pub effect : State → StatementTree → Stepped
 effect s (bind x e false) = bound s x (value_in s e)
-effect s (bind_list xs (call f args)) = and_then (taken s.names s.arrays args) (list_bound s xs f)
+effect s (bind x e true) = bound s x (severed (value_in s e))
+effect s (bind_list xs e) = several_bound s xs e
 effect s (assign x views sign e) = assigning s (target x views) sign e
 effect s (show e is_info) = and_then (value_in s e) (λ v. Ok (after_printing s is_info v))
 effect s (show_text t) = Ok (s, t ++ newline)
+effect s (sever x) = and_then (bound_to s.names x) (severing s)
+effect s (reshape x sizes) =
+    and_then (bound_to s.names x) (λ v.
+    and_then (taken s.names s.arrays sizes) (reshaping s v))
+effect s (undef x) = and_then (unbind s.names x) (λ names. Ok (record s { names = names }, []))
 effect s vars = Ok (s, flat_map (name_line s.arrays) s.names.arrays)
 effect s (pp_def f signature code) = and_then (defined f signature code) (kernel_named s f)
-effect s _ = Err Syntax
+effect s (watch x slot) = not_built
+effect s (unwatch slot) = not_built
 
 abbrev pub tidied : Stepped → Stepped
 tidied stepped = and_then stepped (λ after. Ok (tidy after.0, after.1))

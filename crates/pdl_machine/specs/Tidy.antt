@@ -1,9 +1,8 @@
 -- What is left of a state after a statement: the arrays that it reaches, numbered anew.
 use Rattle.std.specs.Prelude.{ℕ, ◌==◌, [], ◌∷◌, length, if◌then◌else◌}
 use Rattle.pdl_world.specs.World.{World, ArrayDef, root, view}
-use Rattle.pdl_world.specs.Swept.{sweep}
 use Rattle.pdl_machine.specs.Names.{Named, Names}
-use Rattle.pdl_machine.specs.State.{State, held}
+use Rattle.pdl_machine.specs.State.{State, with_arrays, kept}
 
 -- how many arrays of the world are older than this one
 abbrev pub older : World → ℕ → ℕ
@@ -28,14 +27,15 @@ renumbered f (n ∷ names) = (n.0, f n.1) ∷ renumbered f names
 abbrev pub with_numbers : (ℕ → ℕ) → Names → Names
 with_numbers f names = record names { arrays = renumbered f names.arrays }
 
+-- the state with other numbers in all that names arrays
+abbrev pub map_numbers : (ℕ → ℕ) → State → State
+map_numbers f s = record s { names = with_numbers f s.names }
+
 -- a state whose arrays are these, numbered anew
 abbrev pub numbered : State → World → State
-numbered s w = record s {
-  names = with_numbers (older w) s.names;
-  arrays =
-      record { world = renumber w; next = length w };
-}
+numbered s w = with_arrays (map_numbers (older w) s)
+    (record { world = renumber w; next = length w })
 
 -- the state without the arrays that it doesn't reach, numbered anew
 abbrev pub tidy : State → State
-tidy s = numbered s (sweep s.arrays.world (held s))
+tidy s = numbered s (kept s)

@@ -1,12 +1,15 @@
 //! Laws of the machine.
 ghost use Rattle.pdl_machine.specs.Worked.{ASliceIsWrittenThrough, ASliceEndsWithin};
+ghost use Rattle.pdl_machine.specs.WorkedCuts.{ACutTakesItsViews, ACutGivesPlaces, ACutPartsAClump, ABindingCutsTheArray, ANameIsGivenUp, OtherDimensions, OtherDimensionsAreRefused};
 ghost use Rattle.pdl_machine.specs.Laws.{StepsAlike, NewArraysUnseen, LettingGoUnseen, SweepsByFewer, StepsLeaveReached, TidyingShowsTheSame};
 
-/// The laws of numbers and of arrays that nothing reaches: a step from the swept and renumbered
-/// state is the step (`alike`), new arrays that nothing reaches are unseen (`unseen`), and so is
-/// letting go of arrays while all that the state holds is held (`gone`). So code may number its
-/// arrays as it likes, and let them go when it likes: also one after another, since a sweep by
-/// fewer after one by more is the sweep by fewer (`again`). The call does nothing when it runs.
+/// The laws of numbers and of arrays that nothing reaches. Where nothing is left over, a step from
+/// the renumbered state is the step (`alike`): so code may number its arrays as it likes. New arrays
+/// that nothing reaches are unseen in the tidied state (`unseen`), and so is letting go of arrays
+/// while all that the state holds is held (`gone`), also one after another: a sweep by
+/// fewer after one by more is the sweep by fewer (`again`). An array that is left over can be seen
+/// by the next statement, since a view of an array refuses it other dimensions: so code lets go
+/// what nothing reaches at the end of each. The call does nothing when it runs.
 pub fn numbering_laws()
     ensures alike { StepsAlike }
     ensures unseen { NewArraysUnseen }
@@ -26,4 +29,16 @@ pub fn reaching_laws()
 pub fn worked_scripts()
     ensures through { ASliceIsWrittenThrough }
     ensures within { ASliceEndsWithin }
+{}
+
+/// Scripts of cuts, other dimensions and names that are given up, worked by hand. The call does
+/// nothing when it runs.
+pub fn worked_cuts()
+    ensures views { ACutTakesItsViews }
+    ensures places { ACutGivesPlaces }
+    ensures clump { ACutPartsAClump }
+    ensures bound { ABindingCutsTheArray }
+    ensures given_up { ANameIsGivenUp }
+    ensures dimensions { OtherDimensions }
+    ensures refused { OtherDimensionsAreRefused }
 {}

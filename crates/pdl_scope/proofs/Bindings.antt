@@ -5,7 +5,7 @@ use Rattle.std.specs.Option.{option_copied}
 use Rattle.std.specs.Cmp.Lexicographic.{pointwise}
 use Rattle.std.proofs.lemmas.Bool.Decides.{nat_tests}
 use Rattle.std.specs.Map.{lookup, keys_of}
-use Rattle.indexmap.specs.IndexMap.{insert_entry, set_value_at}
+use Rattle.indexmap.specs.IndexMap.{insert_entry, set_value_at, shift_remove_entry}
 use Rattle.std.specs.List.{position_or_len}
 use Rattle.std.proofs.lemmas.List.{length-map}
 use Rattle.pdl_world.specs.World.{World}
@@ -15,7 +15,7 @@ use Rattle.pdl_machine.specs.State.{AreLive, IsWhole}
 use Rattle.pdl_kernel.specs.Kernels.{Kernel}
 use Rattle.pdl_machine.specs.declared.fault.Fault.{Fault}
 use Rattle.pdl_scope.specs.Scope.{names_in, state_in}
-use Rattle.pdl_machine.specs.Names.{Named, found, with_name, is_full_for, entered}
+use Rattle.pdl_machine.specs.Names.{Named, found, with_name, without_name, is_full_for, entered}
 
 pub number_found : {A : Type 0} (names : Named A) (x : List ℕ) → lookup (pointwise nat_eq x) names ≡ found names x
 number_found [] x = refl
@@ -24,6 +24,10 @@ number_found (n ∷ names) x = ap (λ o. if pointwise nat_eq x n.0 then Some n.1
 pub name_inserted : {A : Type 0} (names : Named A) (x : List ℕ) (v : A) → insert_entry (pointwise nat_eq) names x v ≡ with_name names x v
 name_inserted [] x v = refl
 name_inserted (n ∷ names) x v = ap (λ r. if pointwise nat_eq x n.0 then (n.0, v) ∷ names else n ∷ r) (name_inserted names x v)
+
+pub name_removed : {A : Type 0} (names : Named A) (x : List ℕ) → shift_remove_entry (pointwise nat_eq x) names ≡ without_name names x
+name_removed [] x = refl
+name_removed (n ∷ names) x = ap (λ r. if pointwise nat_eq x n.0 then names else n ∷ r) (name_removed names x)
 
 pub bind_free : {A : Type 0} (limit : ℕ) (fault : Fault) (names new : Named A) (x y : List ℕ) (v : A) (full : Bool) → full ≡ is_full_for limit names x → full ≡ false → y ≡ x → new ≡ insert_entry (pointwise nat_eq) names y v → entered limit fault names x v ≡ Ok new
 bind_free limit fault names new x y v full e h same ok =

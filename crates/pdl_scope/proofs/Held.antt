@@ -7,10 +7,10 @@ use Rattle.std.proofs.lemmas.List.{append-nil, drop_all, drop_more}
 use Rattle.std.proofs.lemmas.Bool.{cases_lt}
 use Rattle.std.proofs.lemmas.Bool.Decides.{nat_tests}
 use Rattle.pdl_lemmas.specs.Tests.{by_test}
-use Rattle.pdl_shape.specs.Places.{write}
-use Rattle.pdl_world.specs.World.{World, ArrayDef, Look, root, view, look, assign, assign_through, set_elements, root_elements}
+use Rattle.pdl_world.specs.World.{World, ArrayDef, Look, root, view, look, assign}
 use Rattle.pdl_world.specs.Sound.{NumbersBelow, IsSound, IsLive}
-use Rattle.pdl_world.specs.Swept.{holds, parents, kept_onto, sweep, held_itself}
+use Rattle.pdl_world.specs.KeepingLaws.{NewestKeepsAll, MoreKeepAll, AssignsKeepAll}
+use Rattle.pdl_world.specs.Swept.{holds, parents, sweep, held_itself, KeepsAll}
 use Rattle.pdl_world.specs.SweepLaws.{ReachedAreSeenAsBefore, NoNumberComes}
 use Rattle.pdl_world.specs.Laws.{OlderStay}
 use Rattle.pdl_engine.specs.HoldLaws.{OneMoreCounts, OneLessCounts, StayingCount, CountedAreHeld, HeldAreCounted, OthersDontCount}
@@ -21,7 +21,7 @@ use Rattle.pdl_machine.specs.declared.fault.Fault.TheVariants.{TooManyNames}
 use Rattle.pdl_kernel.specs.Kernels.{Kernel}
 use Rattle.pdl_machine.specs.Laws.{SweepsByFewer}
 use Rattle.pdl_machine.specs.State.{State, held, with_world, AreLive, IsWhole}
-use Rattle.pdl_scope.specs.Scope.{state_in, names_in, times, KeepsAll, IsHeld}
+use Rattle.pdl_scope.specs.Scope.{state_in, names_in, times, IsHeld}
 use Rattle.pdl_scope.proofs.Bindings.{live_bound, bound_is, length_after, whole_defined}
 use Rattle.pdl_scope.proofs.Growing.{came, readied}
 use Rattle.pdl_scope.specs.Holding.{IsHeldForName, SameButHolds, LetsGo}
@@ -54,79 +54,21 @@ times_held [] v some = absurd (omega arith)
 times_held (u ∷ vs) v some = by_test (u == v) (λ is. rw is refl) (λ other. let s : 0 < times vs v = (let t = rw other at some in omega arith) in rw other (times_held vs v s))
 
 -- what is in a list is there at least once
-held_times : (vs : List ℕ) (v : ℕ) → holds vs v ≡ true → 0 < times vs v
+pub held_times : (vs : List ℕ) (v : ℕ) → holds vs v ≡ true → 0 < times vs v
 held_times [] v h = cc
 held_times (u ∷ vs) v h = by_test (u == v) (λ is. rw is (omega arith)) (λ other. rw other (let rest : 0 < times vs v = held_times vs v (rw other at h) in omega arith))
 
 -- two lists together hold what stands in one of them
-both_hold : (vs us : List ℕ) (v : ℕ) → 0 < times vs v + times us v → holds (vs ++ us) v ≡ true
+pub both_hold : (vs us : List ℕ) (v : ℕ) → 0 < times vs v + times us v → holds (vs ++ us) v ≡ true
 both_hold vs us v some = times_held (vs ++ us) v (let m = times_more vs us v in omega arith)
 
-held_by_both : (vs us : List ℕ) (v : ℕ) → holds (vs ++ us) v ≡ true → 0 < times vs v + times us v
+pub held_by_both : (vs us : List ℕ) (v : ℕ) → holds (vs ++ us) v ≡ true → 0 < times vs v + times us v
 held_by_both vs us v h = let t = held_times (vs ++ us) v h in let m = times_more vs us v in omega arith
 
 -- what keeps all, and more, keeps all
 more_held : (d : ArrayDef) (many : List ℕ) (v : ℕ) → holds many v ≡ true → holds (parents d ++ many) v ≡ true
 more_held (root ty ds es) many v t = t
 more_held (view p u) many v t = by_test (p == v) (λ same. rw same refl) (λ other. rw other t)
-
--- a sweep adds nothing
-swept_few : (w : World) (many : List ℕ) → length (sweep w many) ≤ length w
-swept_few [] many = omega arith
-swept_few ((k, d) ∷ w) many = by_kept (λ m. swept_few w m) (holds many k)
-  where
-    by_kept : ((m : List ℕ) → length (sweep w m) ≤ length w) → (kept : Bool) → length (kept_onto kept (k, d) (sweep w (if kept then parents d ++ many else many))) ≤ suc (length w)
-    by_kept rest true = let r = rest (parents d ++ many) in omega arith
-    by_kept rest false = let r = rest many in omega arith
-
--- all is kept where the newest array is held, and all others are kept with its parent held too
-front_keeps : (k : ℕ) (d : ArrayDef) (w : World) (many : List ℕ) → holds many k ≡ true → KeepsAll w (parents d ++ many) → KeepsAll ((k, d) ∷ w) many
-front_keeps k d w many first rest = by_kept (holds many k) first
-  where
-    by_kept : (kept : Bool) → kept ≡ true → kept_onto kept (k, d) (sweep w (if kept then parents d ++ many else many)) ≡ (k, d) ∷ w
-    by_kept true is = ap (λ u. (k, d) ∷ u) rest
-    by_kept false is = absurd (cc)
-
--- and only there
-front_kept : (k : ℕ) (d : ArrayDef) (w : World) (many : List ℕ) → KeepsAll ((k, d) ∷ w) many → (holds many k ≡ true) × KeepsAll w (parents d ++ many)
-front_kept k d w many keeps = by_kept (holds many k) refl keeps
-  where
-    rest_is : (a b : ℕ × ArrayDef) (u t : World) → a ∷ u ≡ b ∷ t → u ≡ t
-    rest_is a b u t e = cc
-
-    by_kept : (kept : Bool) → holds many k ≡ kept → kept_onto kept (k, d) (sweep w (if kept then parents d ++ many else many)) ≡ (k, d) ∷ w → (holds many k ≡ true) × KeepsAll w (parents d ++ many)
-    by_kept true is e = (is, rest_is (k, d) (k, d) (sweep w (parents d ++ many)) w e)
-    by_kept false is e =
-        let more : length (sweep w many) ≡ suc (length w) = ap length e in
-        let few = swept_few w many in
-        absurd (omega arith)
-
-keeps_more : (w : World) (few many : List ℕ) → ((v : ℕ) → holds few v ≡ true → holds many v ≡ true) → KeepsAll w few → KeepsAll w many
-keeps_more [] few many h keeps = refl
-keeps_more ((k, d) ∷ w) few many h keeps =
-    let front = front_kept k d w few keeps in
-    front_keeps k d w many (h k front.0) (keeps_more w (parents d ++ few) (parents d ++ many) (both d) front.1)
-  where
-    both : (d : ArrayDef) (v : ℕ) → holds (parents d ++ few) v ≡ true → holds (parents d ++ many) v ≡ true
-    both (root ty ds es) v t = h v t
-    both (view p u) v t = by_test (p == v) (λ same. rw same refl) (λ other. rw other (h v (rw other at t)))
-
--- elements are no matter of a sweep
-keeps_assigned : (w : World) (v : ℕ) (vs : List ℤ) (many : List ℕ) → KeepsAll w many → KeepsAll (assign w v vs) many
-keeps_assigned w v vs many keeps = by_look (look w v)
-  where
-    set : (w : World) (r : ℕ) (es : List ℤ) (many : List ℕ) → KeepsAll w many → KeepsAll (set_elements w r es) many
-    set [] r es many k = refl
-    set ((n, root ty ds old) ∷ w) r es many k =
-        let front = front_kept n (root ty ds old) w many k in
-        front_keeps n (root ty ds (if n == r then es else old)) (set_elements w r es) many front.0 (set w r es many front.1)
-    set ((n, view p t) ∷ w) r es many k =
-        let front = front_kept n (view p t) w many k in
-        front_keeps n (view p t) (set_elements w r es) many front.0 (set w r es (p ∷ many) front.1)
-
-    by_look : (o : Option Look) → KeepsAll (assign_through w o vs) many
-    by_look None = keeps
-    by_look (Some l) = set w l.root (write l.places vs (root_elements w l.root)) many keeps
 
 -- the same arrays have holds after one hold less
 holders_less : (hs : List (ℕ × ℕ)) (v : ℕ) → holders (one_less_at hs v) ≡ holders hs
@@ -171,9 +113,9 @@ counted_known : OthersDontCount → (hs : List (ℕ × ℕ)) (v : ℕ) → 0 < c
 counted_known others hs v some = by_test (holds (holders hs) v) (λ t. t) (λ f. absurd (let none = others hs v f in omega arith))
 
 -- a new array is noted
-pub held_new : OlderStay → OthersDontCount → (names : Names) (e t : Engine) (d : ArrayDef) (id : ℕ) (leaving left : List ℕ) → AllHaveHolds e → IsHeld (state_in names e) e.holds leaving → Joins e id d t → IsSound t.world → left ≡ leaving ++ id ∷ []
+pub held_new : OlderStay → OthersDontCount → NewestKeepsAll → MoreKeepAll → (names : Names) (e t : Engine) (d : ArrayDef) (id : ℕ) (leaving left : List ℕ) → AllHaveHolds e → IsHeld (state_in names e) e.holds leaving → Joins e id d t → IsSound t.world → left ≡ leaving ++ id ∷ []
     → IsHeld (state_in names t) t.holds left
-held_new older others names e t d id leaving left have h j sound noted = record {
+held_new older others newest more names e t d id leaving left have h j sound noted = record {
   whole = (came older names e t d id h.whole j sound).whole;
   few = h.few;
   counts = λ v. (let C : List (ℕ × ℕ) → Type 0 = λ hs. count_at hs v ≡ times (numbers names.arrays) v + times left v in
@@ -199,17 +141,17 @@ held_new older others names e t d id leaving left have h j sound noted = record 
         more_held d (numbers names.arrays ++ after) v (both_hold (numbers names.arrays) after v (let m = times_more leaving (id ∷ []) v in omega arith))
 
     kept : KeepsAll ((id, d) ∷ e.world) (numbers names.arrays ++ after)
-    kept = front_keeps id d e.world (numbers names.arrays ++ after) first_held (keeps_more e.world (numbers names.arrays ++ leaving) (parents d ++ (numbers names.arrays ++ after)) still_held h.reached)
+    kept = newest e.world id d (numbers names.arrays ++ after) first_held (more e.world (numbers names.arrays ++ leaving) (parents d ++ (numbers names.arrays ++ after)) still_held h.reached)
 
     count : (v : ℕ) → count_at ((id, 1) ∷ e.holds) v ≡ times (numbers names.arrays) v + times (leaving ++ id ∷ []) v
     count v = by_test (id == v)
         (λ is. let same : id ≡ v = eqb-true id v is in
         let none : look e.world v ≡ None = unlooked e.world e.next v h.whole.below (let number = j.number in omega arith) in
         let zero : count_at e.holds v ≡ 0 = others e.holds v (have v ∙ ap is_some none) in
-        let more : times (leaving ++ id ∷ []) v ≡ times leaving v + 1 = times_more leaving (id ∷ []) v ∙ one is in
+        let added : times (leaving ++ id ∷ []) v ≡ times leaving v + 1 = times_more leaving (id ∷ []) v ∙ one is in
         let before = h.counts v in
         rw is (omega arith))
-        (λ other. let more : times (leaving ++ id ∷ []) v ≡ times leaving v + 0 = times_more leaving (id ∷ []) v ∙ none other in
+        (λ other. let added : times (leaving ++ id ∷ []) v ≡ times leaving v + 0 = times_more leaving (id ∷ []) v ∙ none other in
         let before = h.counts v in
         rw other (omega arith))
       where
@@ -232,6 +174,7 @@ state_of names w n = record { names = names; arrays = record { world = w; next =
 
 -- the laws of holds
 pub record Laws : Type 0 where
+  pub more : MoreKeepAll
   pub reached : ReachedAreSeenAsBefore
   pub numbered : NoNumberComes
   pub again : SweepsByFewer
@@ -254,7 +197,7 @@ let_go_one laws names e t v vs have apart h r sound = record {
     few = h.few;
     counts = count;
     reached = (let W : World → Type 0 = λ w. KeepsAll w (numbers names.arrays ++ vs) in
-        subst W (sym r.world) (keeps_more (sweep e.world many) many (numbers names.arrays ++ vs) left_held (laws.again e.world many many (λ u is. is))));
+        subst W (sym r.world) (laws.more (sweep e.world many) many (numbers names.arrays ++ vs) left_held (laws.again e.world many many (λ u is. is))));
   };
   next = r.next;
   swept = ap (λ w. sweep w (numbers names.arrays)) r.world ∙ laws.again e.world many (numbers names.arrays) covers;
@@ -309,9 +252,9 @@ names_times (n ∷ names) x v u = by_name (pointwise nat_eq x n.0) (names_times 
     by_name false rest = omega arith
 
 -- a name is bound to an array, which is held for it
-pub held_bound : OneMoreCounts → (names : Named ℕ) (kernels : Named Kernel) (e t : Engine) (x : List ℕ) (v : ℕ) (leaving left : List ℕ) → AllHaveHolds e → IsHeld (state_in (names_in names kernels) e) e.holds leaving → IsLive e.world v
+pub held_bound : OneMoreCounts → MoreKeepAll → (names : Named ℕ) (kernels : Named Kernel) (e t : Engine) (x : List ℕ) (v : ℕ) (leaving left : List ℕ) → AllHaveHolds e → IsHeld (state_in (names_in names kernels) e) e.holds leaving → IsLive e.world v
     → length (with_name names x v) ≤ names_limit → IsHeldForName e leaving v t left → IsHeld (state_in (names_in (with_name names x v) kernels) t) t.holds (left ++ option_to_list (found names x))
-held_bound one_more names kernels e t x v leaving left have h live few is = by_way is
+held_bound one_more keeping names kernels e t x v leaving left have h live few is = by_way is
   where
     gives_up : List ℕ
     gives_up = option_to_list (found names x)
@@ -325,7 +268,7 @@ held_bound one_more names kernels e t x v leaving left have h live few is = by_w
       whole = record { sound = h.whole.sound; below = h.whole.below; live = live_bound e.world names x v h.whole.live live };
       few = few;
       counts = counts;
-      reached = keeps_more e.world (numbers names ++ leaving) (numbers (with_name names x v) ++ after)
+      reached = keeping e.world (numbers names ++ leaving) (numbers (with_name names x v) ++ after)
           (λ u t. both_hold (numbers (with_name names x v)) after u (let some = held_by_both (numbers names) leaving u t in let b = h.counts u in let c = counts u in let l = least u in omega arith)) h.reached;
     }
       where
@@ -417,13 +360,13 @@ held_readied names e t leaving s h =
     subst Q (sym s.holds) (subst P (sym (readied names e t s)) h)
 
 -- after an assignment
-pub held_assigned : (names : Names) (e t : Engine) (v : ℕ) (vs : List ℤ) (leaving : List ℕ) → IsHeld (state_in names e) e.holds leaving → t.world ≡ assign e.world v vs → t.holds ≡ e.holds → IsWhole (state_in names t)
+pub held_assigned : AssignsKeepAll → (names : Names) (e t : Engine) (v : ℕ) (vs : List ℤ) (leaving : List ℕ) → IsHeld (state_in names e) e.holds leaving → t.world ≡ assign e.world v vs → t.holds ≡ e.holds → IsWhole (state_in names t)
     → IsHeld (state_in names t) t.holds leaving
-held_assigned names e t v vs leaving h world same whole = record {
+held_assigned assigned names e t v vs leaving h world same whole = record {
   whole = whole;
   few = h.few;
   counts = λ u. (ap (λ hs. count_at hs u) same ∙ h.counts u);
-  reached = (let W : World → Type 0 = λ w. KeepsAll w (numbers names.arrays ++ leaving) in subst W (sym world) (keeps_assigned e.world v vs (numbers names.arrays ++ leaving) h.reached));
+  reached = (let W : World → Type 0 = λ w. KeepsAll w (numbers names.arrays ++ leaving) in subst W (sym world) (assigned e.world v vs (numbers names.arrays ++ leaving) h.reached));
 }
 
 -- and beside other kernels

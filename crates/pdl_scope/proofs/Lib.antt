@@ -7,3 +7,4 @@ pub mod Reduced
 pub mod Printing
 pub mod Roots
 pub mod Held
+pub mod Cuts

@@ -17,7 +17,7 @@ use Rattle.pdl_machine.specs.Step.{Stepped, bind_value, bound, roots_bound}
 use Rattle.pdl_machine.specs.Then.{and_then}
 use Rattle.pdl_scope.specs.declared.fault.StepFault.{StepFault}
 use Rattle.pdl_scope.specs.declared.fault.StepFault.TheVariants.{Script, NoMemory}
-use Rattle.pdl_scope.specs.Answers.{IsFault, Prints, IsKept, Runs}
+use Rattle.pdl_scope.specs.Answers.{IsFault, Prints, Runs}
 use Rattle.pdl_scope.specs.Room.{with_names, is_among, new_among, has_room}
 use Rattle.pdl_scope.specs.Scope.{Scope, Grows}
 use Rattle.pdl_scope.proofs.Bindings.{length_after}

@@ -27,6 +27,13 @@ pub record IsHeldBeside (e : Engine) (leaving : List ℕ) : Type 0 where
   pub names : Names
   pub held : IsHeld (state_in names e) e.holds leaving
 
+-- whatever the names are, the arrays are held as names and the list of those that leave hold them
+-- after a change, where they were before
+abbrev pub StaysHeld : (old : Engine) (leaving : List ℕ) (new : Engine) (left : List ℕ) → Type 0
+StaysHeld old leaving new left =
+    (names : Names) → IsHeld (state_in names old) old.holds leaving
+    → IsHeld (state_in names new) new.holds left
+
 -- arrays were let go, and what names reach is there: these leave still
 pub record LetsGo (names : Names) (old new : Engine) (leaving : List ℕ) : Type 0 where
   pub is_held : IsHeld (state_in names new) new.holds leaving

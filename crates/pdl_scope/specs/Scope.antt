@@ -3,8 +3,7 @@ use Rattle.std.specs.Prelude.{◌≡◌, ℕ, ◌+◌, ◌≤◌, ◌==◌, if�
 use Rattle.pdl_elem.specs.declared.Ty.{Ty}
 use Rattle.pdl_buf.specs.declared.made.Made.{Made}
 use Rattle.pdl_world.specs.Sound.{IsLive}
-use Rattle.pdl_world.specs.Swept.{sweep}
-use Rattle.pdl_world.specs.World.{World}
+use Rattle.pdl_world.specs.Swept.{KeepsAll}
 use Rattle.pdl_engine.specs.Held.{count_at}
 use Rattle.pdl_engine.specs.State.{State as Engine, StayFresh}
 use Rattle.pdl_kernel.specs.Kernels.{Kernel}
@@ -97,10 +96,6 @@ pub record Grows (old new : Scope) : Type 0 where
 abbrev pub times : List ℕ → ℕ → ℕ
 times [] v = 0
 times (u ∷ us) v = (if u == v then 1 else 0) + times us v
-
--- a sweep by these keeps all
-abbrev pub KeepsAll : World → List ℕ → Type 0
-KeepsAll w many = sweep w many ≡ w
 
 -- The state is whole; at most so many names are bound; each array is held once for each name of it,
 -- and once for each place in the list of those that leave when the statement ends; and nothing is

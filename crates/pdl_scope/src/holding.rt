@@ -1,6 +1,7 @@
 //! How often a scope holds its arrays.
-ghost use Rattle.std.specs.Prelude.{◌≡◌, ℕ, ◌+◌, ◌<◌, ◌≤◌, ◌^◌, [], ◌∷◌, ◌++◌, length, map, true, false, vec_capacity, All, IsTrue};
+ghost use Rattle.std.specs.Prelude.{◌≡◌, ℕ, ◌+◌, ◌<◌, ◌≤◌, ◌^◌, [], ◌∷◌, ◌++◌, length, map, true, false, vec_capacity, All, IfSome, IsTrue};
 ghost use Rattle.std.specs.Option.{option_to_list};
+ghost use Rattle.pdl_world.specs.Paths.{parent_in};
 ghost use Rattle.pdl_world.specs.Swept.{holds};
 ghost use Rattle.pdl_world.specs.Sound.{IsLive};
 ghost use Rattle.pdl_engine.specs.Held.{count_at};
@@ -8,14 +9,14 @@ ghost use Rattle.pdl_machine.specs.Names.{Names as AllNames, with_name, names_li
 ghost use Rattle.pdl_machine.specs.State.{AreLive};
 ghost use Rattle.pdl_scope.specs.Room.{with_names};
 ghost use Rattle.pdl_scope.specs.Scope.{state_in, IsHeld};
-ghost use Rattle.pdl_scope.specs.Holding.{IsHeldBeside, IsHeldFor, IsHeldForName, SameButHolds, LetsGo};
+ghost use Rattle.pdl_scope.specs.Holding.{IsHeldBeside, IsHeldFor, IsHeldForName, SameButHolds, StaysHeld, LetsGo};
 
 use crate::names::Names;
 use pdl_buf::Steps;
 use pdl_elem::Name;
 use pdl_engine::{ArrayId, Engine, hold_laws};
 use pdl_machine::numbering_laws;
-use pdl_world::sweep_laws;
+use pdl_world::{keeping_laws, sweep_laws};
 use std::sync::ledger::Ledger;
 
 /// Notes an array at the end of a list that has room for it.
@@ -69,9 +70,31 @@ pub(crate) fn hold_for_name(engine: &mut Engine, leaving: &mut Vec<ArrayId>, id:
     }
 }
 
+/// Holds the parent of an array, if there is one, until the statement ends.
+pub(crate) fn hold_parent(engine: &mut Engine, leaving: &mut Vec<ArrayId>, id: ArrayId)
+    requires live { IsLive engine.old.world id }
+    requires room { length leaving.old.items < vec_capacity leaving.old }
+    requires small { length leaving.old.items < 2 ^ 62 }
+    requires held { IsHeldBeside engine.old leaving.old.items }
+    ensures same { SameButHolds engine.old engine.new }
+    ensures parent { let parent = parent_in engine.old.world id in
+        IfSome parent (λ p. holds leaving.new.items p ≡ true) }
+    ensures held { StaysHeld engine.old leaving.old.items engine.new leaving.new.items }
+    ensures count { length leaving.new.items ≤ length leaving.old.items + 1 }
+    ensures room { vec_capacity leaving.old ≤ vec_capacity leaving.new }
+{
+    keeping_laws();
+    hold_laws();
+    engine.holds_law();
+    if let Some(parent) = engine.parent(id) {
+        engine.hold(parent);
+        note(leaving, parent);
+    }
+}
+
 /// Binds a name to an array, which is held for it, and notes the one that the name gives up. All
 /// room for it was taken before.
-fn bind_one(
+pub(crate) fn bind_one(
     engine: &mut Engine,
     names: &mut Names,
     leaving: &mut Vec<ArrayId>,
@@ -91,6 +114,7 @@ fn bind_one(
     ensures count { length leaving.new.items ≤ length leaving.old.items + 1 }
     ensures room { vec_capacity leaving.old ≤ vec_capacity leaving.new }
 {
+    keeping_laws();
     hold_laws();
     engine.holds_law();
     hold_for_name(engine, leaving, id);
@@ -128,6 +152,7 @@ pub(crate) fn release_all<L: Ledger>(engine: &mut Engine, leaving: &[ArrayId], s
         LetsGo names engine.old engine.new [] }
 {
     sweep_laws();
+    keeping_laws();
     numbering_laws();
     hold_laws();
     for id in leaving {

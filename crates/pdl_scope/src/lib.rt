@@ -4,6 +4,7 @@
 #![tactic(auto)]
 
 mod calling;
+mod cutting;
 mod fault;
 mod holding;
 mod kernels;

@@ -1,7 +1,7 @@
 //! The names that arrays are bound to.
 ghost use Rattle.std.specs.Prelude.{◌≡◌, ◌+◌, ◌<◌, ◌≤◌, [], length, slice_get, Some, None, Ok, IfOk, IfErr, IfSome, IfNone, OnOk, OnErr};
 ghost use Rattle.pdl_machine.specs.declared.fault.Fault.TheVariants.{TooManyNames};
-ghost use Rattle.pdl_machine.specs.Names.{found, entered, with_name, names_limit};
+ghost use Rattle.pdl_machine.specs.Names.{found, entered, is_full_for, with_name, without_name, names_limit};
 ghost use Rattle.pdl_scope.specs.Answers.{IsFault};
 ghost use Rattle.pdl_scope.specs.Room.{new_among, has_room};
 
@@ -101,6 +101,22 @@ impl Names {
             Ok(_) => Ok(None),
             Err(_) => Err(StepFault::NoMemory),
         }
+    }
+
+    /// Takes a name away, and answers the array that it gives up, if it is bound.
+    pub fn remove(&mut self, name: &Name) -> Option<ArrayId>
+        ensures given_up { result ≡ found self.old.entries name.now }
+        ensures names { self.new.entries ≡ without_name self.old.entries name.now }
+        ensures unknown { IfNone result (self.new.entries ≡ self.old.entries) }
+    {
+        self.arrays.shift_remove(name)
+    }
+
+    /// Whether there is no room for a name: it is new, and 512 are bound.
+    pub fn is_full_for(&self, name: &Name) -> bool
+        ensures { result ≡ is_full_for names_limit self.now.entries name.now }
+    {
+        self.arrays.len() >= MOST_NAMES && self.arrays.get(name).is_none()
     }
 
     /// Takes the memory of so many new names.

@@ -22,7 +22,7 @@ use pdl_elem::{BinaryOp, UnaryOp};
 use pdl_engine::{ArrayId, Engine};
 use pdl_lexemes::AssignOp;
 use pdl_ops::{elementwise, unary_each, values_for};
-use pdl_world::assignment_laws;
+use pdl_world::{assignment_laws, keeping_laws};
 use std::alloc::Global;
 use std::sync::ledger::Ledger;
 
@@ -81,6 +81,7 @@ impl Scope {
             Runs wanted self.old self.new [] [] result }
     {
         assignment_laws();
+        keeping_laws();
         match written(self.alloc, &mut self.engine, sign, target, value, steps) {
             Ok(values) => {
                 self.engine.assign(target, &values, steps);

@@ -28,7 +28,7 @@ use pdl_engine::{ArrayId, Engine, hold_laws};
 use pdl_kernel::Kernel;
 use pdl_machine::{Fault, numbering_laws};
 use pdl_shape::Dims;
-use pdl_world::{Trans, growth_laws};
+use pdl_world::{Trans, growth_laws, keeping_laws};
 use std::alloc::Global;
 use std::marker::Model;
 use std::sync::ledger::Ledger;
@@ -38,12 +38,12 @@ use std::sync::ledger::Ledger;
 #[derive(Drop)]
 pub struct Scope {
     pub(crate) alloc: Global,
-    names: Names,
+    pub(crate) names: Names,
     kernels: Kernels,
     pub(crate) engine: Engine,
     /// Arrays that are held once more until the statement ends: those that it made, and those that
     /// a name gave up.
-    leaving: Vec<ArrayId>,
+    pub(crate) leaving: Vec<ArrayId>,
 }
 
 impl Model for Scope {
@@ -142,6 +142,7 @@ impl Scope {
         ensures grown { Grows self.old self.new }
     {
         growth_laws();
+        keeping_laws();
         hold_laws();
         self.engine.holds_law();
         self.leaving.reserve(1)?;
@@ -187,6 +188,7 @@ impl Scope {
         ensures grown { Grows self.old self.new }
     {
         growth_laws();
+        keeping_laws();
         hold_laws();
         self.engine.holds_law();
         self.leaving.reserve(1)?;
@@ -201,6 +203,7 @@ impl Scope {
         ensures { let wanted = bind_value (machine self.old) name.now (self.old.arrays, id) in
             Runs wanted self.old self.new [] [] result }
     {
+        keeping_laws();
         hold_laws();
         self.engine.holds_law();
         self.leaving.reserve(1)?;

@@ -13,3 +13,4 @@ pub mod Callees
 pub mod Statements
 pub mod Definitions
 pub mod Tidied
+pub mod Cutting

@@ -13,6 +13,7 @@ mod given;
 mod inquiry;
 mod outcome;
 mod reducing;
+mod resizing;
 mod session;
 mod shapes;
 mod statement;

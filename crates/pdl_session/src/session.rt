@@ -28,8 +28,8 @@ impl Model for Session {
     ghost use Rattle.std.specs.Coded.{codes};
     ghost use Rattle.pdl_kernel.specs.Coding.{coded_code};
     ghost use Rattle.pdl_machine.specs.Tidy.{tidy};
-    ghost use Rattle.pdl_machine.specs.State.{held};
-    ghost use Rattle.pdl_scope.specs.Scope.{machine, KeepsAll};
+    ghost use Rattle.pdl_machine.specs.State.{IsSwept};
+    ghost use Rattle.pdl_scope.specs.Scope.{machine};
     ghost use Rattle.pdl_session.specs.Session.{Session as Seen};
 
     ghost Value = { Seen };
@@ -38,7 +38,7 @@ impl Model for Session {
 
     ghost view = { λ s. record { state = tidy (machine s.scope); done = s.calls } };
 
-    ghost invariant = { λ s. KeepsAll s.scope.arrays.world (held (machine s.scope)) };
+    ghost invariant = { λ s. IsSwept (machine s.scope) };
 }
 
 impl Session {

@@ -1,9 +1,10 @@
 //! What each statement does.
 ghost use Rattle.std.specs.Prelude.{◌≡◌, [], ◌++◌, map, All, Ok, OnOk};
 ghost use Rattle.pdl_syntax.specs.TreeOf.{tree_of};
-ghost use Rattle.pdl_syntax.specs.StatementTree.{statement_of, bind_list as bind_list', view_of};
+ghost use Rattle.pdl_syntax.specs.StatementTree.{statement_of, bind_list as bind_list', sever as sever', view_of};
 ghost use Rattle.pdl_syntax.specs.WellMade.{AreArrays, AreArgArrays, IsWellMade};
 ghost use Rattle.pdl_machine.specs.Then.{and_then};
+ghost use Rattle.pdl_machine.specs.Cuts.{severed};
 ghost use Rattle.pdl_machine.specs.Value.{value_of};
 ghost use Rattle.pdl_machine.specs.Step.{bound, list_bound, target, assigning, after_printing, effect, newline};
 ghost use Rattle.pdl_print.specs.Pieces.{Begins};
@@ -16,6 +17,7 @@ use crate::call::{call, several};
 use crate::defining::define_kernel;
 use crate::eval::{eval, take};
 use crate::given::Given;
+use crate::resizing::reshape;
 use crate::target::target;
 use pdl_buf::Steps;
 use pdl_elem::Name;
@@ -39,6 +41,33 @@ fn bind_value<L: Ledger>(
 {
     let id = eval(scope, value, steps)?;
     scope.bind(name, id)
+}
+
+/// Binds a name to a value that is cut from its parent.
+fn bind_severed<L: Ledger>(
+    scope: &mut Scope,
+    name: &Name,
+    value: &Expr,
+    steps: &mut Steps<L>,
+) -> Result<(), StepFault>
+    requires { AreArrays (tree_of value.now) }
+    ensures { let valued = value_of scope.old.names scope.old.arrays (tree_of value.now) in
+        let wanted = bound (machine scope.old) name.now (severed valued) in
+        Runs wanted scope.old scope.new [] [] result }
+{
+    let id = eval(scope, value, steps)?;
+    scope.bind_severed(name, id, steps)
+}
+
+/// Cuts the array of a name from its parent.
+fn sever<L: Ledger>(scope: &mut Scope, name: &Name, steps: &mut Steps<L>) -> Result<(), StepFault>
+    ensures { let wanted = effect (machine scope.old) (sever' name.now) in
+        Runs wanted scope.old scope.new [] [] result }
+{
+    match scope.number_of(name) {
+        Some(id) => scope.sever(id, steps),
+        None => Err(StepFault::Script(Fault::UnknownName)),
+    }
 }
 
 /// Binds the outputs of the call of a name, whose arguments were evaluated, to a list of names.
@@ -169,16 +198,26 @@ fn perform<L: Ledger>(
             value,
             sever: false,
         } => bind_value(scope, name, value, steps),
+        Statement::Bind {
+            name,
+            value,
+            sever: true,
+        } => bind_severed(scope, name, value, steps),
         Statement::BindList { names, value } => bind_list(scope, names, value, steps),
         Statement::Assign { target, op, value } => assign_value(scope, target, *op, value, steps),
         Statement::Show { value, info } => show(scope, value, *info, out, steps),
         Statement::ShowText { text } => Ok(print_text(text.bytes(), out)?),
+        Statement::Sever { name } => sever(scope, name, steps),
+        Statement::Reshape { name, sizes } => reshape(scope, name, sizes, steps),
+        Statement::Undef { name } => scope.undef(name),
         Statement::Vars => Ok(scope.print_names(out)?),
         Statement::PpDef {
             name,
             signature,
             code,
         } => define_kernel(scope, name, signature, code),
-        _ => Err(StepFault::Script(Fault::Syntax)),
+        Statement::Watch { .. } | Statement::Unwatch { .. } => {
+            Err(StepFault::Script(Fault::Syntax))
+        }
     }
 }

@@ -13,7 +13,7 @@ use Rattle.pdl_syntax.proofs.Raggedness.{any_last}
 use Rattle.pdl_syntax.specs.Grammar.{literal_of, Spells, Part, an_expr, a_postfix, a_primary, an_arg, some_args, closed_args, maybe_args, same, joined, once, negated, prefixed, plain, bare, method, a_number, a_name, list, round_list, called, round, a_value, a_text, a_type, one, more as more_args, no_args, all_args, without, within}
 use Rattle.pdl_syntax.specs.StatementTree.{StatementTree, View}
 use Rattle.pdl_syntax.specs.Statements.{SpellsViews, no_views, one_view, SpellsCalled, by_word, by_method, SpellsBinding, binds_value, binds_severed, binds_names, SpellsStatement, binds, my_binds, assigns, shows_text, shows, shows_info, severs, reshapes, undefs, lists_names, defines, watches, unwatches}
-use Rattle.pdl_syntax.specs.WellMade.{IsCount, AreArrays, AreArgArrays, IsWellMade}
+use Rattle.pdl_syntax.specs.WellMade.{IsCount, AreArrays, AreArgArrays, IsCall, IsWellMade}
 
 record SignedIs (n : ℕ) (z : ℤ) : Type 0 where
   small : n ≤ 9223372036854775807
@@ -98,10 +98,14 @@ called_arrays : ListsAreArrays → {source : List ℕ} {t : Tree} {ts : List Lex
 called_arrays lists (by_word h) = let k = arrays lists h in λ e. (k e).1 tt
 called_arrays lists (by_method {t = t} {args = args} h k) = method_arrays t args (arrays lists h) (arrays lists k)
 
+called_calls : {source : List ℕ} {t : Tree} {ts : List Lexeme} → SpellsCalled source t ts → IsCall t
+called_calls (by_word h) = tt
+called_calls (by_method h k) = tt
+
 binding_arrays : ListsAreArrays → {source : List ℕ} {s : StatementTree} {ts : List Lexeme} → SpellsBinding source s ts → in_statement s ≡ false → IsWellMade s
 binding_arrays lists (binds_value h) e = arrays lists h e
 binding_arrays lists (binds_severed h b) e = arrays lists h e
-binding_arrays lists (binds_names h c) e = called_arrays lists c e
+binding_arrays lists (binds_names h c) e = (called_calls c, called_arrays lists c e)
 
 -- the literals of a spelled statement without ragged lists are arrays
 pub statement_arrays : ListsAreArrays → {source : List ℕ} {s : StatementTree} {ts : List Lexeme} → SpellsStatement source s ts → in_statement s ≡ false → IsWellMade s

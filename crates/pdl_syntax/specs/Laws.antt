@@ -29,8 +29,8 @@ TokensAreParsed =
     (text : List ℕ) (tokens : List Token) (answer : Result StatementTree NoStatement)
     → (parsed text tokens ≡ answer) ↔ Means text (lexemes_of text tokens) answer
 
--- the list literals of a spelled statement without ragged ones are arrays, and
--- its numbers are from 0 up
+-- the list literals of a spelled statement without ragged ones are arrays, its numbers
+-- are from 0 up, and what several names are bound to is a call
 abbrev pub LiteralsAreArrays : Type 0
 LiteralsAreArrays =
     (source : List ℕ) (lexemes : List Lexeme) (s : StatementTree)

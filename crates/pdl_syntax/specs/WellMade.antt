@@ -1,5 +1,5 @@
 -- The list literals of a statement are arrays: as many numbers as their dimensions
--- say, all of their type.
+-- say, all of their type; and the value of a list binding is a call.
 use Rattle.std.specs.Prelude.{◌≤ℤ◌, ℤ, pos, All}
 use Rattle.pdl_buf.specs.Made.{IsMade}
 use Rattle.pdl_syntax.specs.Tree.{Tree, Args, number, named, literal, unary, binary, call, none, value, text, of_type}
@@ -26,10 +26,15 @@ abbrev mutual
   AreArgArrays (text front s) = AreArgArrays front
   AreArgArrays (of_type front ty) = AreArgArrays front
 
--- each literal in a statement is an array
+-- the expression is a call
+abbrev pub IsCall : Tree → Type 0
+IsCall (call name args) = Unit {0}
+IsCall _ = ⊥
+
+-- each literal in a statement is an array, and what several names are bound to is a call
 abbrev pub IsWellMade : StatementTree → Type 0
 IsWellMade (bind name t severs) = AreArrays t
-IsWellMade (bind_list names t) = AreArrays t
+IsWellMade (bind_list names t) = IsCall t × AreArrays t
 IsWellMade (assign name views op t) = All (λ v. AreArgArrays v.1) views × AreArrays t
 IsWellMade (show t info) = AreArrays t
 IsWellMade (show_text s) = Unit {0}

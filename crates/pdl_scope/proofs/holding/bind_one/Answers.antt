@@ -22,4 +22,4 @@ returns-clause-held c =
     let N : Named ℕ → Type 0 = λ ns. IsHeldFor ns t (left ++ option_to_list (found names x)) in
     let L : List ℕ → Type 0 = λ vs. IsHeldFor c.put-had.new.self.entries t vs in
     subst L (sym (c.note_some.ensures.items ∙ ap (λ o. left ++ option_to_list o) c.put-had.ensures.given_up))
-    (subst N (sym c.put-had.ensures.names) (held_bound c.hold_laws.ensures.more names [] c.args.engine.now t x c.args.id c.args.leaving.now.items left c.holds_law.ensures.each c.requires.held c.requires.live c.requires.few c.hold_for_name.ensures.held))
+    (subst N (sym c.put-had.ensures.names) (held_bound c.hold_laws.ensures.more c.keeping_laws.ensures.more names [] c.args.engine.now t x c.args.id c.args.leaving.now.items left c.holds_law.ensures.each c.requires.held c.requires.live c.requires.few c.hold_for_name.ensures.held))

@@ -11,6 +11,7 @@ release-requires g c =
 pub loop-id-preserved : goal.loop-id-preserved
 loop-id-preserved g c = λ names held.
     lets_go_more (record {
+      more = c.keeping_laws.ensures.more;
       reached = c.sweep_laws.ensures.seen;
       numbered = c.sweep_laws.ensures.numbers;
       again = c.numbering_laws.ensures.again;

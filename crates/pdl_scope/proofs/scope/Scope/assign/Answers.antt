@@ -3,7 +3,7 @@ use Rattle.pdl_machine.specs.State.{State, with_arrays}
 use Rattle.pdl_machine.specs.Step.{assigned}
 use Rattle.pdl_machine.specs.Then.{and_then}
 use Rattle.pdl_scope.specs.Answers.{Prints}
-use Rattle.pdl_scope.specs.Scope.{machine, names_in, state_in, IsHeld, Scope as Seen}
+use Rattle.pdl_scope.specs.Scope.{machine, names_in, state_in, IsHeld}
 use Rattle.pdl_scope.proofs.Growing.{readied, whole_assigned, values_written}
 use Rattle.pdl_scope.proofs.Held.{held_readied, held_assigned}
 use Rattle.pdl_scope.proofs.scope.Scope.assign.Goals as goal
@@ -14,7 +14,7 @@ invariant_of-self g c =
     let e = c.written.new.engine in
     let held : IsHeld (state_in names e) e.holds c.self.inside.leaving.items =
     held_readied names c.self.inside.engine e c.self.inside.leaving.items c.written.ensures.same c.self.invariant in
-    held_assigned names e c.assign.new.self c.args.target c.deref.result.now c.self.inside.leaving.items held c.assign.ensures.world c.assign.ensures.holds
+    held_assigned c.keeping_laws.ensures.assigned names e c.assign.new.self c.args.target c.deref.result.now c.self.inside.leaving.items held c.assign.ensures.world c.assign.ensures.holds
     (whole_assigned c.assignment_laws.ensures.looks c.assignment_laws.ensures.numbers names e c.assign.new.self c.args.target c.deref.result.now held.whole c.assign.ensures.world c.assign.ensures.next c.assign.ensures.sound)
 
 pub returns-in-Ok : goal.returns-in-Ok

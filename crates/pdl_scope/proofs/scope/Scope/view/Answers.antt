@@ -7,7 +7,7 @@ use Rattle.pdl_scope.proofs.scope.Scope.view.Goals as goal
 
 pub invariant_of-self-2 : goal.invariant_of-self-2
 invariant_of-self-2 c =
-    held_new c.growth_laws.ensures.older c.hold_laws.ensures.others (names_in c.self.inside.names.entries c.self.inside.kernels) c.self.inside.engine c.view.new.self (view c.args.parent c.args.trans) c.in_ok-id.id c.self.inside.leaving.items _
+    held_new c.growth_laws.ensures.older c.hold_laws.ensures.others c.keeping_laws.ensures.newest c.keeping_laws.ensures.more (names_in c.self.inside.names.entries c.self.inside.kernels) c.self.inside.engine c.view.new.self (view c.args.parent c.args.trans) c.in_ok-id.id c.self.inside.leaving.items _
     c.holds_law.ensures.each c.self.invariant c.in_ok-id.ensures.made c.view.ensures.sound (c.note.ensures.items ∙ ap (λ (vs : List ℕ). vs ++ c.in_ok-id.id ∷ []) c.in_ok-reserve.ensures.items)
 
 pub returns-clause-grown : goal.returns-clause-grown

@@ -1,0 +1,131 @@
+-- A statement does the same with arrays that differ in their numbers.
+use Rattle.std.proofs.Common.{◌≡◌, ℕ, List, [], ◌∷◌, Bool, true, false, Option, Some, None, Result, Ok, Err, refl, sym, ap, subst, ◌∙◌, nat_eq}
+use Rattle.std.specs.Prelude.{if◌then◌else◌, option_map}
+use Rattle.std.specs.List.{flat_map}
+use Rattle.std.specs.Cmp.Lexicographic.{pointwise}
+use Rattle.pdl_lemmas.specs.Tests.{by_test}
+use Rattle.pdl_world.specs.Cut.{has_views, reshape}
+use Rattle.pdl_syntax.specs.Tree.{Tree, number, named, literal, unary, binary, call}
+use Rattle.pdl_syntax.specs.StatementTree.{StatementTree, bind, bind_list, assign, show, show_text, sever, reshape as reshapes, undef, vars, pp_def, watch, unwatch}
+use Rattle.pdl_machine.specs.declared.fault.Fault.{Fault}
+use Rattle.pdl_machine.specs.declared.fault.Fault.TheVariants.{UnknownName, StillConnected}
+use Rattle.pdl_machine.specs.Then.{and_then, or_fault}
+use Rattle.pdl_machine.specs.Names.{Named, Names, number_of, without_name, bound_to, unbind}
+use Rattle.pdl_machine.specs.Arrays.{Arrays}
+use Rattle.pdl_machine.specs.State.{State, with_arrays}
+use Rattle.pdl_machine.specs.Outcome.{Given, Valued}
+use Rattle.pdl_machine.specs.Fills.{numbers_in, dims_for}
+use Rattle.pdl_machine.specs.Cuts.{cut, severed, dims_given, reshaped}
+use Rattle.pdl_machine.specs.Kernels.{defined}
+use Rattle.pdl_machine.specs.Value.{value_of, taken}
+use Rattle.pdl_machine.specs.Tidy.{renumbered, with_numbers}
+use Rattle.pdl_machine.specs.Step.{Stepped, list_bound, several_bound, target, after_printing, name_line, kernel_named, severing, reshaping, effect}
+use Rattle.pdl_machine.proofs.Renamed.{AreAlike, StateAlike, sever_renamed, reshape_renamed, has_views_renamed}
+use Rattle.pdl_machine.proofs.Both.{Both, both_then, both_same}
+use Rattle.pdl_machine.proofs.Stepping.{ValueAlike, TakenAlike, StepAlike, taken_seen, number_of_alike, bound_alike, list_alike, state_value_alike, state_taken_alike, assigning_alike, shown_alike, lines_alike, define_alike}
+
+-- a cut on both sides
+cut_alike : (g : ℕ → ℕ) (a b : Arrays) → AreAlike true g a b → (v u : ℕ) → u ≡ g v → AreAlike true g (cut a v) (cut b u)
+cut_alike g a b h v u same =
+    let P : ℕ → Type 0 = λ i. AreAlike true g (cut a v) (cut b i) in
+    subst P (sym same) (record { apart = h.apart; world = sever_renamed g h.apart h.world v; next = h.next; on = h.on })
+
+severed_alike : (g : ℕ → ℕ) (x y : Valued) → Both (ValueAlike g) x y → Both (ValueAlike g) (severed x) (severed y)
+severed_alike g x y h =
+    both_then (ValueAlike g) (ValueAlike g) x y (λ v. Ok (cut v.0 v.1, v.1)) (λ v. Ok (cut v.0 v.1, v.1)) h
+    (λ v u alike. (cut_alike g v.0 u.0 alike.0 v.1 u.1 alike.1, alike.1))
+
+-- the array of a name on both sides
+abbrev NumberAlike : (ℕ → ℕ) → ℕ → ℕ → Type 0
+NumberAlike g v u = u ≡ g v
+
+bound_to_alike : (g : ℕ → ℕ) (s t : State) → StateAlike true g s t → (x : List ℕ) → Both (NumberAlike g) (bound_to s.names x) (bound_to t.names x)
+bound_to_alike g s t h x =
+    let P : Option ℕ → Type 0 = λ o. Both (NumberAlike g) (bound_to s.names x) (or_fault UnknownName o) in
+    let number : number_of t.names x ≡ option_map g (number_of s.names x) = ap (λ n. number_of n x) h.names ∙ number_of_alike g s.names x in
+    subst P (sym number) (by_number (number_of s.names x))
+  where
+    by_number : (o : Option ℕ) → Both (NumberAlike g) (or_fault UnknownName o) (or_fault UnknownName (option_map g o))
+    by_number None = refl
+    by_number (Some v) = refl
+
+severing_alike : (g : ℕ → ℕ) (s t : State) → StateAlike true g s t → (v u : ℕ) → u ≡ g v → Both (StepAlike g) (severing s v) (severing t u)
+severing_alike g s t h v u same = (record { arrays = cut_alike g s.arrays t.arrays h.arrays v u same; names = h.names }, refl)
+
+-- other dimensions on both sides
+reshaped_alike : (g : ℕ → ℕ) (a b : Arrays) → AreAlike true g a b → (v u : ℕ) → u ≡ g v → (ds : List ℕ) → Both (AreAlike true g) (reshaped a v ds) (reshaped b u ds)
+reshaped_alike g a b h v u same ds =
+    let P : ℕ → Type 0 = λ i. Both (AreAlike true g) (reshaped a v ds) (reshaped b i ds) in
+    let Q : Bool → Type 0 = λ x. Both (AreAlike true g) (reshaped a v ds) (if x then Err StillConnected else Ok (other b (g v))) in
+    subst P (sym same) (subst Q (sym (has_views_renamed g h.apart h.world v)) (by_views (has_views a.world v)))
+  where
+    other : Arrays → ℕ → Arrays
+    other a v = record a { world = reshape a.world v ds }
+
+    by_views : (x : Bool) → Both (AreAlike true g) (if x then Err StillConnected else Ok (other a v)) (if x then Err StillConnected else Ok (other b (g v)))
+    by_views true = refl
+    by_views false = record { apart = h.apart; world = reshape_renamed g h.apart h.world v ds; next = h.next; on = h.on }
+
+reshaping_alike : (g : ℕ → ℕ) (s t : State) → StateAlike true g s t → (v u : ℕ) → u ≡ g v → (x y : Arrays × List Given) → TakenAlike g x y → Both (StepAlike g) (reshaping s v x) (reshaping t u y)
+reshaping_alike g s t h v u same x y taken =
+    let last : State → ℕ → Arrays → List ℕ → Stepped = λ s v a ds. and_then (reshaped a v ds) (λ b. Ok (with_arrays s b, [])) in
+    let P : Result (List ℕ) Fault → Type 0 = λ ds. Both (StepAlike g) (reshaping s v x) (and_then ds (last t u y.0)) in
+    subst P (ap (λ seen. and_then (numbers_in seen) dims_for) (sym (taken_seen g x y taken))) (both_same (StepAlike g) (dims_given x) (last s v x.0) (last t u y.0) (λ ds.
+    both_then (AreAlike true g) (StepAlike g) (reshaped x.0 v ds) (reshaped y.0 u ds) (λ a. Ok (with_arrays s a, [])) (λ a. Ok (with_arrays t a, []))
+    (reshaped_alike g x.0 y.0 taken.0 v u same ds) (λ a b alike. (record { arrays = alike; names = h.names }, refl))))
+
+-- a name less on both sides
+without_alike : (g : ℕ → ℕ) (names : Named ℕ) (x : List ℕ) → without_name (renumbered g names) x ≡ renumbered g (without_name names x)
+without_alike g [] x = refl
+without_alike g (n ∷ names) x =
+    by_test (pointwise nat_eq x n.0) (λ same. rw same refl) (λ other. rw other (ap (λ y. (n.0, g n.1) ∷ y) (without_alike g names x)))
+
+unbind_alike : (g : ℕ → ℕ) (s t : State) → StateAlike true g s t → (x : List ℕ)
+    → Both (StepAlike g) (and_then (unbind s.names x) (λ names. Ok (record s { names = names }, []))) (and_then (unbind t.names x) (λ names. Ok (record t { names = names }, [])))
+unbind_alike g s t h x =
+    both_then (λ n m. m ≡ with_numbers g n) (StepAlike g) (unbind s.names x) (unbind t.names x) (λ names. Ok (record s { names = names }, [])) (λ names. Ok (record t { names = names }, []))
+    (both_then (NumberAlike g) (λ n m. m ≡ with_numbers g n) (bound_to s.names x) (bound_to t.names x) (λ v. Ok (without s.names)) (λ v. Ok (without t.names))
+    (bound_to_alike g s t h x) (λ v u same. ap without h.names ∙ ap (λ arrays. beside s.names arrays) (without_alike g s.names.arrays x)))
+    (λ n m same. (record { arrays = h.arrays; names = same }, refl))
+  where
+    beside : Names → Named ℕ → Names
+    beside names arrays = record names { arrays = arrays }
+
+    without : Names → Names
+    without names = record names { arrays = without_name names.arrays x }
+
+-- names of the outputs of an expression on both sides
+several_alike : (g : ℕ → ℕ) (s t : State) → StateAlike true g s t → (xs : List (List ℕ)) (e : Tree) → Both (StepAlike g) (several_bound s xs e) (several_bound t xs e)
+several_alike g s t h xs (call f args) =
+    both_then (TakenAlike g) (StepAlike g) (taken s.names s.arrays args) (taken t.names t.arrays args) (list_bound s xs f) (list_bound t xs f)
+    (state_taken_alike g s t h args) (list_alike g s t h xs f)
+several_alike g s t h xs (number n) = refl
+several_alike g s t h xs (named x) = refl
+several_alike g s t h xs (literal ty ds es) = refl
+several_alike g s t h xs (unary op e) = refl
+several_alike g s t h xs (binary op e f) = refl
+
+-- a statement does the same on both sides
+pub effect_alike : (g : ℕ → ℕ) (s t : State) → StateAlike true g s t → (statement : StatementTree) → Both (StepAlike g) (effect s statement) (effect t statement)
+effect_alike g s t h (bind x e false) = bound_alike g s t h x (value_of s.names s.arrays e) (value_of t.names t.arrays e) (state_value_alike g s t h e)
+effect_alike g s t h (bind x e true) =
+    bound_alike g s t h x (severed (value_of s.names s.arrays e)) (severed (value_of t.names t.arrays e))
+    (severed_alike g (value_of s.names s.arrays e) (value_of t.names t.arrays e) (state_value_alike g s t h e))
+effect_alike g s t h (bind_list xs e) = several_alike g s t h xs e
+effect_alike g s t h (assign x views sign e) = assigning_alike g s t h (target x views) sign e
+effect_alike g s t h (show e is_info) =
+    both_then (ValueAlike g) (StepAlike g) (value_of s.names s.arrays e) (value_of t.names t.arrays e) (λ v. Ok (after_printing s is_info v)) (λ v. Ok (after_printing t is_info v))
+    (state_value_alike g s t h e) (shown_alike g s t h is_info)
+effect_alike g s t h (show_text x) = (h, refl)
+effect_alike g s t h (sever x) =
+    both_then (NumberAlike g) (StepAlike g) (bound_to s.names x) (bound_to t.names x) (severing s) (severing t) (bound_to_alike g s t h x) (severing_alike g s t h)
+effect_alike g s t h (reshapes x sizes) =
+    both_then (NumberAlike g) (StepAlike g) (bound_to s.names x) (bound_to t.names x) (λ v. and_then (taken s.names s.arrays sizes) (reshaping s v)) (λ u. and_then (taken t.names t.arrays sizes) (reshaping t u))
+    (bound_to_alike g s t h x) (λ v u same.
+    both_then (TakenAlike g) (StepAlike g) (taken s.names s.arrays sizes) (taken t.names t.arrays sizes) (reshaping s v) (reshaping t u)
+    (state_taken_alike g s t h sizes) (reshaping_alike g s t h v u same))
+effect_alike g s t h (undef x) = unbind_alike g s t h x
+effect_alike g s t h vars = (h, lines_alike g s.arrays t.arrays h.arrays s.names.arrays ∙ ap (λ names. flat_map (name_line t.arrays) names.arrays) (sym h.names))
+effect_alike g s t h (pp_def f a b) = both_same (StepAlike g) (defined f a b) (kernel_named s f) (kernel_named t f) (define_alike g s t h f)
+effect_alike g s t h (watch x k) = refl
+effect_alike g s t h (unwatch k) = refl

@@ -1,0 +1,27 @@
+-- Arrays that become roots: cut from their parents, or of other dimensions
+-- (PDL::Core: sever, reshape).
+use Rattle.std.specs.Prelude.{ℕ, List, if◌then◌else◌, Result, Ok, Err}
+use Rattle.pdl_world.specs.Cut.{sever, has_views, reshape}
+use Rattle.pdl_machine.specs.declared.fault.Fault.{Fault}
+use Rattle.pdl_machine.specs.declared.fault.Fault.TheVariants.{StillConnected}
+use Rattle.pdl_machine.specs.Then.{and_then}
+use Rattle.pdl_machine.specs.Arrays.{Arrays}
+use Rattle.pdl_machine.specs.Fills.{numbers_in, dims_for}
+use Rattle.pdl_machine.specs.Outcome.{Given, Valued, all_seen}
+
+-- the arrays after this one was cut from its parent
+abbrev pub cut : Arrays → ℕ → Arrays
+cut a v = record a { world = sever a.world v }
+
+-- a value that is cut from its parent: the array itself, and no copy
+abbrev pub severed : Valued → Valued
+severed valued = and_then valued (λ v. Ok (cut v.0 v.1, v.1))
+
+-- the dimensions of the sizes that arguments are
+abbrev pub dims_given : Arrays × List Given → Result (List ℕ) Fault
+dims_given t = and_then (numbers_in (all_seen t.0 t.1)) dims_for
+
+-- the arrays after this one got other dimensions, which one with views is refused
+abbrev pub reshaped : Arrays → ℕ → List ℕ → Result Arrays Fault
+reshaped a v ds = if has_views a.world v then Err StillConnected
+    else Ok (record a { world = reshape a.world v ds })

@@ -1,0 +1,109 @@
+use Rattle.std.proofs.Common.{rules, ◌≡◌, ◌<◌, ◌≤◌, ◌^◌, List, ℕ, [], length, Err, refl, sym, ap, subst, ◌∙◌, arith}
+use Rattle.pdl_world.specs.Cut.{sever}
+use Rattle.pdl_world.specs.Sound.{IsLive}
+use Rattle.pdl_world.specs.World.{World}
+use Rattle.pdl_machine.specs.Arrays.{Arrays}
+use Rattle.pdl_machine.specs.Cuts.{cut}
+use Rattle.pdl_machine.specs.Names.{Named, with_name, names_limit}
+use Rattle.pdl_machine.specs.declared.fault.Fault.TheVariants.{TooManyNames}
+use Rattle.pdl_machine.specs.State.{State}
+use Rattle.pdl_machine.specs.Step.{Stepped, bind_value}
+use Rattle.pdl_scope.specs.Answers.{Prints}
+use Rattle.pdl_scope.specs.Growth.{grows_refl}
+use Rattle.pdl_scope.specs.Scope.{arrays_of, machine, names_in, scope_in, state_in, Grows, Scope as Seen}
+use Rattle.pdl_scope.proofs.Cuts.{kept_so, held_same, made_so, unbindable, bindable, fits_bound}
+use Rattle.pdl_scope.proofs.Held.{held_defined}
+use Rattle.pdl_scope.proofs.scope.Scope.bind_severed.Goals as goal
+
+pub cut_apart-requires-clause-small : goal.cut_apart-requires-clause-small
+cut_apart-requires-clause-small g c =
+    let leaving : length c.self.inside.leaving.items < 2 ^ 61 = omega (arith, c.self.inside.leaving.ok, c.self.inside.leaving.small) in
+    let items : length c.reserve-2.new.self.items ≡ length c.self.inside.leaving.items = ap length c.in_ok-reserve-2.ensures.items in
+    omega (arith, leaving, items)
+
+pub cut_apart-requires-clause-held : goal.cut_apart-requires-clause-held
+cut_apart-requires-clause-held g c =
+    let ks = c.self.inside.kernels in
+    let names = c.reserve.new.self.entries in
+    let held = held_same c.self.inside.names.entries names ks c.self.inside.engine c.self.inside.leaving.items c.reserve-2.new.self.items c.reserve.ensures.names c.in_ok-reserve-2.ensures.items c.self.invariant in
+    record { names = names_in names ks; held = held }
+
+pub bind_one-requires-clause-live : goal.bind_one-requires-clause-live
+bind_one-requires-clause-live g c =
+    let v = c.args.id in
+    let w = c.self.inside.engine.world in
+    let S : Seen → Type 0 = λ s. IsLive s.arrays.world v in
+    let W : World → Type 0 = λ w. IsLive w v in
+    subst W (sym c.in_ok-cut_apart.ensures.ok) ((c.cut_laws.ensures.numbers w v c.self.invariant.whole.sound).live v (subst S (sym c.self.view_is) c.requires))
+
+pub bind_one-requires-clause-few : goal.bind_one-requires-clause-few
+bind_one-requires-clause-few g c =
+    let names = c.self.inside.names.entries in
+    let x = c.args.name.now in
+    let v = c.args.id in
+    let fits = fits_bound names x v (sym c.is_full_for.ensures ∙ c.if-is_full_for.false) c.self.invariant.few in
+    let X : List ℕ → Type 0 = λ y. length (with_name names y v) ≤ names_limit in
+    let N : Named ℕ → Type 0 = λ ns. length (with_name ns c.in_ok-name.name v) ≤ names_limit in
+    subst N (sym c.reserve.ensures.names) (subst X (sym c.in_ok-name.ensures.cases) fits)
+
+pub bind_one-requires-clause-small : goal.bind_one-requires-clause-small
+bind_one-requires-clause-small g c =
+    let leaving : length c.self.inside.leaving.items < 2 ^ 61 = omega (arith, c.self.inside.leaving.ok, c.self.inside.leaving.small) in
+    let items : length c.reserve-2.new.self.items ≡ length c.self.inside.leaving.items = ap length c.in_ok-reserve-2.ensures.items in
+    omega (arith, leaving, items, c.cut_apart.ensures.count)
+
+pub bind_one-requires-clause-held : goal.bind_one-requires-clause-held
+bind_one-requires-clause-held g c =
+    let ks = c.self.inside.kernels in
+    let names = c.reserve.new.self.entries in
+    let held = held_same c.self.inside.names.entries names ks c.self.inside.engine c.self.inside.leaving.items c.reserve-2.new.self.items c.reserve.ensures.names c.in_ok-reserve-2.ensures.items c.self.invariant in
+    held_defined names ks [] c.cut_apart.new.engine c.cut_apart.new.leaving.items (c.cut_apart.ensures.held (names_in names ks) held)
+
+pub invariant_of-self-in_err-cut_apart : goal.invariant_of-self-in_err-cut_apart
+invariant_of-self-in_err-cut_apart g c =
+    let ks = c.self.inside.kernels in
+    let names = c.reserve.new.self.entries in
+    c.cut_apart.ensures.held (names_in names ks) (held_same c.self.inside.names.entries names ks c.self.inside.engine c.self.inside.leaving.items c.reserve-2.new.self.items c.reserve.ensures.names c.in_ok-reserve-2.ensures.items c.self.invariant)
+
+pub invariant_of-self-2 : goal.invariant_of-self-2
+invariant_of-self-2 g c =
+    held_defined c.bind_one.new.names.entries [] c.self.inside.kernels c.bind_one.new.engine c.bind_one.new.leaving.items c.bind_one.ensures.held
+
+pub returns-then-is_full_for : goal.returns-then-is_full_for
+returns-then-is_full_for g c =
+    let x = c.args.name.now in
+    let v = c.args.id in
+    let P : Seen → Type 0 = λ s. bind_value (machine s) x (cut s.arrays v, v) ≡ Err TooManyNames in
+    let names = names_in c.self.inside.names.entries c.self.inside.kernels in
+    let s = state_in names c.self.inside.engine in (
+      subst P c.self.view_is (unbindable s x (cut s.arrays v, v) (sym c.is_full_for.ensures ∙ c.if-is_full_for.true)),
+      record { grown = grows_refl c.args.self.now; printed = refl },
+    )
+
+pub returns : goal.returns
+returns g c =
+    let ks = c.self.inside.kernels in
+    let names = c.self.inside.names.entries in
+    let x = c.args.name.now in
+    let v = c.args.id in
+    let e = c.self.inside.engine in
+    let t = c.cut_apart.new.engine in
+    let after = c.bind_one.new.names.entries in
+    let end = arrays_of c.bind_one.new.engine in
+    let named : Named ℕ → Arrays → State = λ ns a. record { names = names_in ns ks; arrays = a } in
+    let made : after ≡ with_name names x v = c.bind_one.ensures.names ∙ ap (λ ns. with_name ns c.in_ok-name.name v) c.reserve.ensures.names ∙ ap (λ y. with_name names y v) c.in_ok-name.ensures.cases in
+    let is : named after end ≡ named (with_name names x v) (cut (arrays_of e) v) =
+    ap (λ ns. named ns end) made ∙ ap (named (with_name names x v)) (ap arrays_of c.bind_one.ensures.same ∙ made_so e t (sever e.world v) c.in_ok-cut_apart.ensures.ok c.cut_apart.ensures.next) in
+    let P : Seen → Type 0 = λ s. Prints (bind_value (machine s) x (cut s.arrays v, v)) (named after end) [] [] in
+    let Q : Stepped → Type 0 = λ r. Prints r (named after end) [] [] in
+    subst P c.self.view_is (subst Q (sym (bindable (named names (arrays_of e)) x (cut (arrays_of e) v, v) (sym c.is_full_for.ensures ∙ c.if-is_full_for.false))) (is, refl))
+
+pub returns-in_err-cut_apart : goal.returns-in_err-cut_apart
+returns-in_err-cut_apart g c =
+    let ks = c.self.inside.kernels in
+    let names = names_in c.self.inside.names.entries ks in
+    let t = c.cut_apart.new.engine in
+    let P : Seen → Type 0 = λ s. Grows s (scope_in (names_in c.reserve.new.self.entries ks) t) in
+    let N : Named ℕ → Type 0 = λ ns. Grows (scope_in names c.self.inside.engine) (scope_in (names_in ns ks) t) in
+    let grown = subst P c.self.view_is (subst N (sym c.reserve.ensures.names) (kept_so names c.self.inside.engine t c.in_err-cut_apart.ensures.err c.cut_apart.ensures.next c.in_err-cut_apart.ensures.stay)) in
+    search rules

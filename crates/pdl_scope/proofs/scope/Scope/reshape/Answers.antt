@@ -1,0 +1,54 @@
+use Rattle.std.proofs.Common.{rules, ◌≡◌, ◌<◌, ◌^◌, List, ℕ, [], length, Ok, refl, sym, ap, subst, ◌∙◌, arith}
+use Rattle.pdl_world.specs.Cut.{reshape}
+use Rattle.pdl_machine.specs.Arrays.{Arrays}
+use Rattle.pdl_machine.specs.Cuts.{reshaped}
+use Rattle.pdl_machine.specs.State.{State, with_arrays}
+use Rattle.pdl_machine.specs.Step.{Stepped}
+use Rattle.pdl_machine.specs.Then.{and_then}
+use Rattle.pdl_scope.specs.Answers.{Prints}
+use Rattle.pdl_scope.specs.Scope.{arrays_of, machine, names_in, scope_in, state_in, IsHeld, Grows, Scope as Seen}
+use Rattle.pdl_scope.proofs.Cuts.{kept_so, made_so, reshape_made}
+use Rattle.pdl_scope.proofs.scope.Scope.reshape.Goals as goal
+
+pub laid_anew-requires-clause-small : goal.laid_anew-requires-clause-small
+laid_anew-requires-clause-small g c =
+    let leaving : length c.self.inside.leaving.items < 2 ^ 61 = omega (arith, c.self.inside.leaving.ok, c.self.inside.leaving.small) in
+    let items : length c.reserve.new.self.items ≡ length c.self.inside.leaving.items = ap length c.in_ok-reserve.ensures.items in
+    omega (arith, leaving, items)
+
+pub laid_anew-requires-clause-held : goal.laid_anew-requires-clause-held
+laid_anew-requires-clause-held g c =
+    let names = names_in c.self.inside.names.entries c.self.inside.kernels in
+    let P : List ℕ → Type 0 = λ vs. IsHeld (state_in names c.self.inside.engine) c.self.inside.engine.holds vs in
+    record { names = names; held = subst P (sym c.in_ok-reserve.ensures.items) c.self.invariant }
+
+pub invariant_of-self-2 : goal.invariant_of-self-2
+invariant_of-self-2 g c =
+    let names = names_in c.self.inside.names.entries c.self.inside.kernels in
+    let P : List ℕ → Type 0 = λ vs. IsHeld (state_in names c.self.inside.engine) c.self.inside.engine.holds vs in
+    c.laid_anew.ensures.held names (subst P (sym c.in_ok-reserve.ensures.items) c.self.invariant)
+
+pub returns : goal.returns
+returns g c =
+    let v = c.args.id in
+    let ds = c.args.dims.now in
+    let e = c.self.inside.engine in
+    let t = c.laid_anew.new.engine in
+    let state : Arrays → State = λ a. record { names = names_in c.self.inside.names.entries c.self.inside.kernels; arrays = a } in
+    let P : Seen → Type 0 = λ s. Prints (and_then (reshaped s.arrays v ds) (λ a. Ok (with_arrays (machine s) a, []))) (state (arrays_of t)) [] [] in
+    let Q : Stepped → Type 0 = λ r. Prints r (state (arrays_of t)) [] [] in
+    subst P c.self.view_is (subst Q (sym (reshape_made (state (arrays_of e)) v ds (sym c.has_views.ensures ∙ c.if-has_views.false)))
+    (ap state (made_so e t (reshape e.world v ds) c.in_ok-laid_anew.ensures.ok c.laid_anew.ensures.next), refl))
+
+pub returns-in_err-laid_anew : goal.returns-in_err-laid_anew
+returns-in_err-laid_anew g c =
+    let names = names_in c.self.inside.names.entries c.self.inside.kernels in
+    let P : Seen → Type 0 = λ s. Grows s (scope_in names c.laid_anew.new.engine) in
+    let grown = subst P c.self.view_is (kept_so names c.self.inside.engine c.laid_anew.new.engine c.in_err-laid_anew.ensures.err c.laid_anew.ensures.next c.in_err-laid_anew.ensures.stay) in
+    search rules
+
+pub invariant_of-self-in_err-laid_anew : goal.invariant_of-self-in_err-laid_anew
+invariant_of-self-in_err-laid_anew g c =
+    let names = names_in c.self.inside.names.entries c.self.inside.kernels in
+    let P : List ℕ → Type 0 = λ vs. IsHeld (state_in names c.self.inside.engine) c.self.inside.engine.holds vs in
+    c.laid_anew.ensures.held names (subst P (sym c.in_ok-reserve.ensures.items) c.self.invariant)

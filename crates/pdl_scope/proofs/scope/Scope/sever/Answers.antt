@@ -1,0 +1,49 @@
+use Rattle.std.proofs.Common.{rules, ◌≡◌, ◌<◌, ◌^◌, List, ℕ, [], length, refl, sym, ap, subst, arith}
+use Rattle.pdl_world.specs.Cut.{sever}
+use Rattle.pdl_machine.specs.Arrays.{Arrays}
+use Rattle.pdl_machine.specs.State.{State}
+use Rattle.pdl_machine.specs.Step.{severing}
+use Rattle.pdl_scope.specs.Answers.{Prints}
+use Rattle.pdl_scope.specs.Scope.{arrays_of, machine, names_in, scope_in, state_in, IsHeld, Grows, Scope as Seen}
+use Rattle.pdl_scope.proofs.Cuts.{kept_so, made_so}
+use Rattle.pdl_scope.proofs.scope.Scope.sever.Goals as goal
+
+pub cut_apart-requires-clause-small : goal.cut_apart-requires-clause-small
+cut_apart-requires-clause-small g c =
+    let leaving : length c.self.inside.leaving.items < 2 ^ 61 = omega (arith, c.self.inside.leaving.ok, c.self.inside.leaving.small) in
+    let items : length c.reserve.new.self.items ≡ length c.self.inside.leaving.items = ap length c.in_ok-reserve.ensures.items in
+    omega (arith, leaving, items)
+
+pub cut_apart-requires-clause-held : goal.cut_apart-requires-clause-held
+cut_apart-requires-clause-held g c =
+    let names = names_in c.self.inside.names.entries c.self.inside.kernels in
+    let P : List ℕ → Type 0 = λ vs. IsHeld (state_in names c.self.inside.engine) c.self.inside.engine.holds vs in
+    record { names = names; held = subst P (sym c.in_ok-reserve.ensures.items) c.self.invariant }
+
+pub invariant_of-self-2 : goal.invariant_of-self-2
+invariant_of-self-2 g c =
+    let names = names_in c.self.inside.names.entries c.self.inside.kernels in
+    let P : List ℕ → Type 0 = λ vs. IsHeld (state_in names c.self.inside.engine) c.self.inside.engine.holds vs in
+    c.cut_apart.ensures.held names (subst P (sym c.in_ok-reserve.ensures.items) c.self.invariant)
+
+pub returns : goal.returns
+returns g c =
+    let v = c.args.id in
+    let e = c.self.inside.engine in
+    let t = c.cut_apart.new.engine in
+    let state : Arrays → State = λ a. record { names = names_in c.self.inside.names.entries c.self.inside.kernels; arrays = a } in
+    let P : Seen → Type 0 = λ s. Prints (severing (machine s) v) (state (arrays_of t)) [] [] in
+    subst P c.self.view_is (ap state (made_so e t (sever e.world v) c.in_ok-cut_apart.ensures.ok c.cut_apart.ensures.next), refl)
+
+pub returns-in_err-cut_apart : goal.returns-in_err-cut_apart
+returns-in_err-cut_apart g c =
+    let names = names_in c.self.inside.names.entries c.self.inside.kernels in
+    let P : Seen → Type 0 = λ s. Grows s (scope_in names c.cut_apart.new.engine) in
+    let grown = subst P c.self.view_is (kept_so names c.self.inside.engine c.cut_apart.new.engine c.in_err-cut_apart.ensures.err c.cut_apart.ensures.next c.in_err-cut_apart.ensures.stay) in
+    search rules
+
+pub invariant_of-self-in_err-cut_apart : goal.invariant_of-self-in_err-cut_apart
+invariant_of-self-in_err-cut_apart g c =
+    let names = names_in c.self.inside.names.entries c.self.inside.kernels in
+    let P : List ℕ → Type 0 = λ vs. IsHeld (state_in names c.self.inside.engine) c.self.inside.engine.holds vs in
+    c.cut_apart.ensures.held names (subst P (sym c.in_ok-reserve.ensures.items) c.self.invariant)

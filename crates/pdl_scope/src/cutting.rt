@@ -1,0 +1,154 @@
+//! Arrays that are cut from their parents or get other dimensions, and names that are taken away.
+ghost use Rattle.std.specs.Prelude.{◌≡◌, ◌+◌, ◌<◌, ◌≤◌, ◌^◌, [], length, false, vec_capacity, Ok, OnOk, OnErr};
+ghost use Rattle.pdl_world.specs.Cut.{has_views, sever, reshape};
+ghost use Rattle.pdl_world.specs.Sound.{IsLive};
+ghost use Rattle.pdl_engine.specs.State.{StayFresh};
+ghost use Rattle.pdl_syntax.specs.StatementTree.{undef as undef'};
+ghost use Rattle.pdl_machine.specs.Cuts.{cut, reshaped};
+ghost use Rattle.pdl_machine.specs.State.{with_arrays};
+ghost use Rattle.pdl_machine.specs.Step.{bind_value, effect, severing};
+ghost use Rattle.pdl_machine.specs.Then.{and_then};
+ghost use Rattle.pdl_scope.specs.Answers.{Runs};
+ghost use Rattle.pdl_scope.specs.Holding.{IsHeldBeside, StaysHeld};
+ghost use Rattle.pdl_scope.specs.Scope.{machine};
+
+use crate::fault::StepFault;
+use crate::holding::{bind_one, hold_parent, note};
+use crate::scope::Scope;
+use pdl_buf::Steps;
+use pdl_elem::Name;
+use pdl_engine::{ArrayId, Engine};
+use pdl_machine::Fault;
+use pdl_shape::Dims;
+use pdl_world::{cut_laws, keeping_laws, reshape_laws};
+use std::alloc::AllocError;
+use std::sync::ledger::Ledger;
+
+impl Scope {
+    /// Cuts an array from its parent. The parent is kept until the statement ends.
+    pub fn sever<L: Ledger>(&mut self, id: ArrayId, steps: &mut Steps<L>) -> Result<(), StepFault>
+        requires { IsLive self.old.arrays.world id }
+        ensures { Runs (severing (machine self.old) id) self.old self.new [] [] result }
+    {
+        self.leaving.reserve(1)?;
+        Ok(cut_apart(&mut self.engine, &mut self.leaving, id, steps)?)
+    }
+
+    /// Cuts an array from its parent and binds a name to it, with `TooManyNames` where the name is
+    /// new and 512 are bound. All room is taken before the cut.
+    pub fn bind_severed<L: Ledger>(
+        &mut self,
+        name: &Name,
+        id: ArrayId,
+        steps: &mut Steps<L>,
+    ) -> Result<(), StepFault>
+        requires { IsLive self.old.arrays.world id }
+        ensures { let arrays = cut self.old.arrays id in
+            let wanted = bind_value (machine self.old) name.now (arrays, id) in
+            Runs wanted self.old self.new [] [] result }
+    {
+        if self.names.is_full_for(name) {
+            return Err(StepFault::Script(Fault::TooManyNames));
+        }
+        cut_laws();
+        let name = name.clone()?;
+        self.names.reserve(1)?;
+        self.leaving.reserve(2)?;
+        cut_apart(&mut self.engine, &mut self.leaving, id, steps)?;
+        bind_one(
+            &mut self.engine,
+            &mut self.names,
+            &mut self.leaving,
+            name,
+            id,
+        );
+        Ok(())
+    }
+
+    /// Gives an array other dimensions, with `StillConnected` where it has views. The parent that
+    /// it may have is kept until the statement ends.
+    pub fn reshape<L: Ledger>(
+        &mut self,
+        id: ArrayId,
+        dims: &Dims,
+        steps: &mut Steps<L>,
+    ) -> Result<(), StepFault>
+        requires { IsLive self.old.arrays.world id }
+        ensures { let arrays = reshaped self.old.arrays id dims.now in
+            let wanted = and_then arrays (λ a. Ok (with_arrays (machine self.old) a, [])) in
+            Runs wanted self.old self.new [] [] result }
+    {
+        if self.engine.has_views(id) {
+            return Err(StepFault::Script(Fault::StillConnected));
+        }
+        self.leaving.reserve(1)?;
+        Ok(laid_anew(&mut self.engine, &mut self.leaving, id, dims, steps)?)
+    }
+
+    /// Takes a name away, with `UnknownName` where it isn't bound. Its array is kept until the
+    /// statement ends.
+    pub fn undef(&mut self, name: &Name) -> Result<(), StepFault>
+        ensures { let wanted = effect (machine self.old) (undef' name.now) in
+            Runs wanted self.old self.new [] [] result }
+    {
+        keeping_laws();
+        self.leaving.reserve(1)?;
+        match self.names.remove(name) {
+            Some(had) => {
+                note(&mut self.leaving, had);
+                Ok(())
+            }
+            None => Err(StepFault::Script(Fault::UnknownName)),
+        }
+    }
+}
+
+/// Cuts an array from its parent, which is held beside it.
+fn cut_apart<L: Ledger>(
+    engine: &mut Engine,
+    leaving: &mut Vec<ArrayId>,
+    id: ArrayId,
+    steps: &mut Steps<L>,
+) -> Result<(), AllocError>
+    requires live { IsLive engine.old.world id }
+    requires room { length leaving.old.items < vec_capacity leaving.old }
+    requires small { length leaving.old.items < 2 ^ 62 }
+    requires held { IsHeldBeside engine.old leaving.old.items }
+    ensures ok { OnOk result (engine.new.world ≡ sever engine.old.world id) }
+    ensures err { OnErr result (engine.new.world ≡ engine.old.world) }
+    ensures next { engine.new.next ≡ engine.old.next }
+    ensures stay { OnErr result (StayFresh engine.old engine.new) }
+    ensures held { StaysHeld engine.old leaving.old.items engine.new leaving.new.items }
+    ensures count { length leaving.new.items ≤ length leaving.old.items + 1 }
+    ensures room { vec_capacity leaving.old ≤ vec_capacity leaving.new }
+{
+    cut_laws();
+    keeping_laws();
+    hold_parent(engine, leaving, id);
+    engine.sever(id, steps)
+}
+
+/// Gives an array without views other dimensions, and holds the parent that it may have.
+fn laid_anew<L: Ledger>(
+    engine: &mut Engine,
+    leaving: &mut Vec<ArrayId>,
+    id: ArrayId,
+    dims: &Dims,
+    steps: &mut Steps<L>,
+) -> Result<(), AllocError>
+    requires live { IsLive engine.old.world id }
+    requires viewless { has_views engine.old.world id ≡ false }
+    requires room { length leaving.old.items < vec_capacity leaving.old }
+    requires small { length leaving.old.items < 2 ^ 62 }
+    requires held { IsHeldBeside engine.old leaving.old.items }
+    ensures ok { OnOk result (engine.new.world ≡ reshape engine.old.world id dims.now) }
+    ensures err { OnErr result (engine.new.world ≡ engine.old.world) }
+    ensures next { engine.new.next ≡ engine.old.next }
+    ensures stay { OnErr result (StayFresh engine.old engine.new) }
+    ensures held { StaysHeld engine.old leaving.old.items engine.new leaving.new.items }
+{
+    reshape_laws();
+    keeping_laws();
+    hold_parent(engine, leaving, id);
+    engine.reshape(id, dims, steps)
+}

@@ -1,0 +1,60 @@
+//! Other dimensions of an array.
+ghost use Rattle.std.specs.Prelude.{◌≡◌, []};
+ghost use Rattle.pdl_syntax.specs.StatementTree.{reshape as reshape'};
+ghost use Rattle.pdl_syntax.specs.Tree.{none};
+ghost use Rattle.pdl_syntax.specs.TreeOf.{args_of};
+ghost use Rattle.pdl_syntax.specs.WellMade.{AreArgArrays};
+ghost use Rattle.pdl_world.specs.Sound.{IsLive};
+ghost use Rattle.pdl_machine.specs.Step.{effect, reshaping};
+ghost use Rattle.pdl_scope.specs.Answers.{Runs};
+ghost use Rattle.pdl_scope.specs.Scope.{machine};
+ghost use Rattle.pdl_session.specs.Arguments.{arguments, AreGivenLive};
+
+use crate::dims::{dims_for, numbers_in};
+use crate::eval::take;
+use crate::given::Given;
+use pdl_buf::Steps;
+use pdl_elem::Name;
+use pdl_engine::ArrayId;
+use pdl_machine::Fault;
+use pdl_scope::{Scope, StepFault};
+use pdl_syntax::Arg;
+use std::sync::ledger::Ledger;
+
+/// Gives the array of a name the dimensions of these sizes.
+pub fn reshape<L: Ledger>(
+    scope: &mut Scope,
+    name: &Name,
+    sizes: &[Arg],
+    steps: &mut Steps<L>,
+) -> Result<(), StepFault>
+    requires { AreArgArrays (args_of sizes.now none) }
+    ensures { let wanted = effect (machine scope.old) (reshape' name.now (args_of sizes.now none)) in
+        Runs wanted scope.old scope.new [] [] result }
+{
+    match scope.number_of(name) {
+        Some(id) => {
+            let none = Vec::new(scope.alloc());
+            let given = take(scope, none, sizes, steps)?;
+            resized(scope, id, &given, steps)
+        }
+        None => Err(StepFault::Script(Fault::UnknownName)),
+    }
+}
+
+/// Gives an array the dimensions of the sizes that arguments are.
+fn resized<L: Ledger>(
+    scope: &mut Scope,
+    id: ArrayId,
+    sizes: &[Given],
+    steps: &mut Steps<L>,
+) -> Result<(), StepFault>
+    requires live { IsLive scope.old.arrays.world id }
+    requires sizes { AreGivenLive scope.old.arrays.world sizes.now }
+    ensures { let taken = (scope.old.arrays, arguments sizes.now) in
+        Runs (reshaping (machine scope.old) id taken) scope.old scope.new [] [] result }
+{
+    let numbers = numbers_in(scope, sizes, steps)?;
+    let dims = dims_for(scope.alloc(), &numbers)?;
+    scope.reshape(id, &dims, steps)
+}
