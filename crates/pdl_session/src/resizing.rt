@@ -51,8 +51,9 @@ fn resized<L: Ledger>(
 ) -> Result<(), StepFault>
     requires live { IsLive scope.old.arrays.world id }
     requires sizes { AreGivenLive scope.old.arrays.world sizes.now }
-    ensures { let taken = (scope.old.arrays, arguments sizes.now) in
-        Runs (reshaping (machine scope.old) id taken) scope.old scope.new [] [] result }
+    ensures { let given = arguments sizes.now in
+        let wanted = reshaping (machine scope.old) id (scope.old.arrays, given) in
+        Runs wanted scope.old scope.new [] [] result }
 {
     let numbers = numbers_in(scope, sizes, steps)?;
     let dims = dims_for(scope.alloc(), &numbers)?;

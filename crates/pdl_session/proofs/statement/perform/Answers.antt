@@ -1,7 +1,8 @@
-use Rattle.std.proofs.Common.{sym, subst}
+use Rattle.std.proofs.Common.{ℕ, List, sym, subst}
 use Rattle.pdl_syntax.specs.declared.tree.Statement.{Statement}
-use Rattle.pdl_syntax.specs.StatementTree.{pp_def, statement_of}
-use Rattle.pdl_machine.specs.Step.{effect}
+use Rattle.pdl_syntax.specs.StatementTree.{bind_list, pp_def, statement_of}
+use Rattle.pdl_syntax.specs.TreeOf.{tree_of}
+use Rattle.pdl_machine.specs.Step.{Stepped, effect}
 use Rattle.pdl_scope.specs.Scope.{machine}
 use Rattle.pdl_session.specs.Performed.{Performs}
 use Rattle.pdl_session.proofs.Statements.{silent}
@@ -16,3 +17,13 @@ returns-in-PpDef g c =
     let s = c.args.scope.now in
     let P : Statement → Type 0 = λ t. Performs (effect (machine s) (statement_of t)) s c.define_kernel.new.scope c.args.out.now.items c.args.out.now.items c.define_kernel.result in
     subst P (sym c.in-PpDef.is) (silent c.define_kernel.result (effect (machine s) (pp_def c.in-PpDef.name c.in-PpDef.signature c.in-PpDef.code)) s c.define_kernel.new.scope c.args.out.now.items c.define_kernel.ensures)
+
+pub returns-in-BindList : goal.returns-in-BindList
+returns-in-BindList g c =
+    let s = c.args.scope.now in
+    let t = c.bind_list.new.scope in
+    let out = c.args.out.now.items in
+    let wanted : List (List ℕ) → Stepped = λ xs. effect (machine s) (bind_list xs (tree_of c.in-BindList.value)) in
+    let P : Statement → Type 0 = λ z. Performs (effect (machine s) (statement_of z)) s t out out c.bind_list.result in
+    let Q : List (List ℕ) → Type 0 = λ xs. Performs (wanted xs) s t out out c.bind_list.result in
+    subst P (sym c.in-BindList.is) (subst Q c.deref.ensures.value (silent c.bind_list.result (wanted c.deref.result.now) s t out c.bind_list.ensures))
