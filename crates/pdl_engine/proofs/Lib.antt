@@ -19,3 +19,5 @@ mod Changed
 mod Written
 mod Tight
 mod Lazy
+mod Places
+mod Foreseen

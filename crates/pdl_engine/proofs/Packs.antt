@@ -1,5 +1,5 @@
 -- Elements that are packed block by block.
-use Rattle.std.proofs.Common.{◌≡◌, ◌+◌, ◌-◌, ◌≤◌, ◌++◌, ℕ, ℤ, pos, List, [], length, take, drop, min, replicate, inl, inr, refl, sym, ◌∙◌, ap, arith}
+use Rattle.std.proofs.Common.{◌≡◌, ◌+◌, ◌-◌, ◌≤◌, ◌++◌, ℕ, ℤ, pos, List, length, take, drop, min, replicate, inl, inr, refl, sym, ◌∙◌, ap, arith}
 use Rattle.std.proofs.Math.Seq.{take-add, take-length}
 use Rattle.std.proofs.lemmas.Bool.Decides.{leb_tells}
 use Rattle.std.proofs.lemmas.List.{append-nil, append_assoc, drop-replicate, take-append-le, take-replicate}

@@ -70,7 +70,7 @@ live_has facts rs v l = elim (cases_Bool (has rs v)) [
       absurd (let x : IsSomeAnd None (λ (l : Look). Unit {0}) = subst P (facts.seen.look_with (latest rs) (shape rs) v ∙ no_look rs v t) l in x))
 ]
 
-look_is : (facts : RowLaws) → (rs : Rows) (v : ℕ) → IsStill rs → has rs v ≡ true → look (world_of rs) v ≡ Some (record { root = (row_at rs v).root; ty = (row_at rs v).ty; dims = (row_at rs v).triple.dims; places = places_of rs v })
+pub look_is : (facts : RowLaws) → (rs : Rows) (v : ℕ) → IsStill rs → has rs v ≡ true → look (world_of rs) v ≡ Some (record { root = (row_at rs v).root; ty = (row_at rs v).ty; dims = (row_at rs v).triple.dims; places = places_of rs v })
 look_is facts rs v s h = facts.seen.look_with (latest rs) (shape rs) v ∙ (facts.seen.is_seen rs s v h).looks
 
 pub has_live : (facts : RowLaws) → (rs : Rows) (v : ℕ) → IsStill rs → has rs v ≡ true → IsLive (world_of rs) v

@@ -7,3 +7,4 @@ pub mod Worked
 pub mod Severed
 pub mod Loose
 pub mod Taken
+pub mod Foreseen

@@ -9,7 +9,7 @@ ghost use Rattle.pdl_world.specs.Formula.{is_well_formed};
 ghost use Rattle.pdl_world.specs.Paths.{depth_limit, parent_in, path, root_of};
 ghost use Rattle.pdl_world.specs.Refused.{view_refusal};
 ghost use Rattle.pdl_world.specs.Sound.{IsLive, IsSound};
-ghost use Rattle.pdl_world.specs.World.{assign, dims_in, root, ty_in, view};
+ghost use Rattle.pdl_world.specs.World.{assign, dims_in, elements, root, ty_in, view};
 ghost use Rattle.pdl_nodes.specs.Sized.{IsLayout};
 ghost use Rattle.pdl_engine.specs.Faults.{Names};
 ghost use Rattle.pdl_engine.specs.Held.{AllHaveHolds, AreApart, ChangesFamily, FamilyIsSettled, IsReleased, count_at, holders, one_more_at, written_back};
@@ -17,6 +17,7 @@ ghost use Rattle.pdl_engine.specs.State.{IsLazy, IsLentAs, Joins, OthersWait, Pa
 
 use crate::depth::is_deeper;
 use crate::faults::ViewFault;
+use crate::foreseeing::foreseen;
 use crate::layouts::layout;
 use crate::{readying, releases, severing};
 use pdl_buf::{Elements, NoMemory, Steps, Strided, buf_of_elements, strided};
@@ -299,6 +300,56 @@ impl Engine {
         row_laws();
         assignment_laws();
         pdl_push::assign(&mut self.table, id, 0, values, steps)
+    }
+
+    /// The elements that an array would have if these values, one for each position, were assigned
+    /// to the target, which can be lent (PDL::Dataflow). As `ready` does, it makes the array one
+    /// that can be lent, after what waits in its family was written back, and takes these steps
+    /// alone. The arrays stay, and what could be lent can be lent, so the values can be assigned
+    /// afterwards; so it is where memory was wanted, which is the only refusal.
+    pub fn foresee<L: Ledger>(
+        &mut self,
+        target: ArrayId,
+        values: &[i64],
+        seen: ArrayId,
+        steps: &mut Steps<L>,
+    ) -> Result<Vec<i64>, NoMemory>
+        requires live { IsLive self.old.world target }
+        requires fresh { is_fresh self.old target ≡ true }
+        requires count { length values.now ≡ size_of (dims_in self.old.world target) }
+        requires in_range { All (InRange (ty_in self.old.world target)) values.now }
+        requires seen { IsLive self.old.world seen }
+        ensures value { IfOk result
+            (λ ns. ns.items ≡ elements (assign self.old.world target values.now) seen) }
+        ensures same { SameArrays self.old self.new }
+        ensures stay { StayFresh self.old self.new }
+        ensures itself { OnOk result (is_fresh self.new seen ≡ true) }
+        ensures settled { waiting self.new seen ≡ None }
+        ensures others { OthersWait self.old seen self.new }
+        ensures counted { steps.new ≤ steps.old + ready_steps self.old seen }
+    {
+        self.ready(seen, steps)?;
+        self.foreseen_now(target, values, seen)
+    }
+
+    /// What `foresee` answers, where nothing waits in the family of the array and it can be lent.
+    fn foreseen_now(
+        &self,
+        target: ArrayId,
+        values: &[i64],
+        seen: ArrayId,
+    ) -> Result<Vec<i64>, NoMemory>
+        requires live { IsLive self.now.world target }
+        requires fresh { is_fresh self.now target ≡ true }
+        requires count { length values.now ≡ size_of (dims_in self.now.world target) }
+        requires seen { IsLive self.now.world seen }
+        requires seen_fresh { is_fresh self.now seen ≡ true }
+        requires settled { waiting self.now seen ≡ None }
+        ensures { IfOk result
+            (λ ns. ns.items ≡ elements (assign self.now.world target values.now) seen) }
+    {
+        row_laws();
+        foreseen(&self.table, self.alloc, target, values, seen)
     }
 
     /// The parent of a view, or nothing for a root.

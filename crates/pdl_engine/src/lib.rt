@@ -10,6 +10,7 @@
 mod depth;
 mod engine;
 mod faults;
+mod foreseeing;
 mod laws;
 mod layouts;
 mod readying;
@@ -18,4 +19,5 @@ mod severing;
 
 pub use engine::{ArrayId, Engine};
 pub use faults::ViewFault;
+pub use foreseeing::all_shown;
 pub use laws::{hold_laws, worked_scripts};
