@@ -21,3 +21,4 @@ mod Tight
 mod Lazy
 mod Places
 mod Foreseen
+mod Unwritten

@@ -1,8 +1,11 @@
--- What one hold more or less changes, and which arrays are counted as held.
-use Rattle.std.specs.Prelude.{◌≡◌, ℕ, ◌+◌, ◌-◌, ◌<◌, ◌==◌, if◌then◌else◌, Bool, true, false, List}
-use Rattle.pdl_world.specs.Swept.{holds}
+-- What one hold more or less changes, which arrays are counted as held, and where letting go writes
+-- nothing back.
+use Rattle.std.specs.Prelude.{◌≡◌, ℕ, ◌+◌, ◌-◌, ◌<◌, ◌==◌, if◌then◌else◌, Bool, true, false, List, Some, is_some}
+use Rattle.pdl_world.specs.Swept.{Has, holds}
+use Rattle.pdl_world.specs.World.{ArrayDef, World, look}
 use Rattle.pdl_nodes.specs.Staying.{staying}
-use Rattle.pdl_engine.specs.Held.{AreApart, count_at, one_more_at, one_less_at, held_among, holders}
+use Rattle.pdl_engine.specs.Held.{AreApart, count_at, one_more_at, one_less_at, held_among, holders, written_back}
+use Rattle.pdl_engine.specs.State.{State, waiting_at}
 
 -- one hold more of v, which has holds, counts once more of v, and of no other
 abbrev pub OneMoreCounts : Type 0
@@ -37,3 +40,11 @@ HeldAreCounted =
 abbrev pub OthersDontCount : Type 0
 OthersDontCount =
     (hs : List (ℕ × ℕ)) (u : ℕ) → holds (holders hs) u ≡ false → count_at hs u ≡ 0
+
+-- where each view is left whose elements wait for one of these roots, nothing is written back
+abbrev pub NothingIsWritten : Type 0
+NothingIsWritten =
+    (s : State) (new part : World)
+    → ((r b : ℕ) (d : ArrayDef) → Has part r d → waiting_at s.pending r ≡ Some b
+    → is_some (look new b) ≡ true)
+    → written_back s new part ≡ 0

@@ -1,5 +1,5 @@
 //! Laws of the engine.
-ghost use Rattle.pdl_engine.specs.HoldLaws.{CountedAreHeld, HeldAreCounted, OneLessCounts, OneMoreCounts, OthersDontCount, StayingCount};
+ghost use Rattle.pdl_engine.specs.HoldLaws.{CountedAreHeld, HeldAreCounted, OneLessCounts, NothingIsWritten, OneMoreCounts, OthersDontCount, StayingCount};
 ghost use Rattle.pdl_engine.specs.Worked.{ScriptsAreWorked};
 
 /// Scripts of calls worked by hand: what can be lent and what waits after each call, and the steps
@@ -9,8 +9,9 @@ pub fn worked_scripts()
     ensures { ScriptsAreWorked }
 {}
 
-/// What one hold more or less changes in a list of holds, what stays of one, and which arrays are
-/// counted as held. It does nothing: who calls it has them.
+/// What one hold more or less changes in a list of holds, what stays of one, which arrays are
+/// counted as held, and where letting go writes nothing back. It does nothing: who calls it has
+/// them.
 pub fn hold_laws()
     ensures more { OneMoreCounts }
     ensures less { OneLessCounts }
@@ -18,4 +19,5 @@ pub fn hold_laws()
     ensures held { CountedAreHeld }
     ensures counted { HeldAreCounted }
     ensures others { OthersDontCount }
+    ensures unwritten { NothingIsWritten }
 {}

@@ -1,3 +1,4 @@
+use Rattle.pdl_engine.proofs.Unwritten.{unwritten}
 use Rattle.pdl_engine.proofs.HoldLaws.{counted, held, one_less, one_more, stay, uncounted}
 use Rattle.pdl_engine.proofs.laws.hold_laws.Goals as goal
 
@@ -18,3 +19,6 @@ returns-clause-counted c = held
 
 pub returns-clause-others : goal.returns-clause-others
 returns-clause-others c = uncounted
+
+pub returns-clause-unwritten : goal.returns-clause-unwritten
+returns-clause-unwritten c = unwritten
