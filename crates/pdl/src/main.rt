@@ -1,8 +1,11 @@
-//! The program `pdl`: runs the script on standard input, and writes what it prints to standard output.
+//! The program `pdl`: runs the script on standard input, and writes what it prints to standard output,
+//! and what its eight watchers are told to standard error.
 #![tactic(auto)]
 
 use pdl_io::{ReadSource, WriteSink};
 use pdl_shell::{Status, run_shell};
+use pdl_watch::{LineWatcher, Watcher, are_open};
+use std::alloc::AllocError;
 use std::env;
 use std::io::{self, ErrorKind};
 use std::process::ExitCode;
@@ -21,12 +24,32 @@ fn words(rt: &HostRuntime) -> io::Result<Vec<String>> {
     }
 }
 
-// Runs the script on standard input.
-fn answer(rt: &HostRuntime) -> Status {
+// How many slots of watchers there are: from 0 on.
+const SLOTS: u64 = 8;
+
+// The most slots that the call takes.
+const MOST_SLOTS: usize = 1024;
+
+// Runs the script on standard input, with a watcher in each slot.
+fn watched(rt: &HostRuntime, words: &[String]) -> Result<Status, AllocError> {
+    let alloc = rt.alloc();
+    let mut watchers: Vec<Option<Box<dyn Watcher>>> = Vec::new(alloc);
+    for slot in 0..SLOTS {
+        let watcher = LineWatcher::new(alloc, slot, WriteSink::new(rt.stderr()))?;
+        watchers.push(Some(Box::new(alloc, watcher)?))?;
+    }
+    // The conditions of the call, which hold of new watchers.
+    if !are_open(&watchers) || watchers.len() > MOST_SLOTS {
+        return Err(AllocError);
+    }
     let mut source = ReadSource::new(rt.stdin());
     let mut sink = WriteSink::new(rt.stdout());
+    Ok(run_shell(alloc, words, &mut source, &mut sink, &mut watchers))
+}
+
+fn answer(rt: &HostRuntime) -> Status {
     match words(rt) {
-        Ok(words) => run_shell(rt.alloc(), &words, &mut source, &mut sink),
+        Ok(words) => watched(rt, &words).unwrap_or(Status::NoMemory),
         Err(_) => Status::NoMemory,
     }
 }

@@ -133,6 +133,12 @@ impl Answer {
         self.say("`");
     }
 
+    /// Writes what stands in another answer.
+    pub fn join(&mut self, other: &Answer) {
+        self.is_whole &= other.is_whole;
+        self.say(other.text.as_str());
+    }
+
     /// Writes what came in another way, where it differs.
     pub fn otherwise(&mut self, way: &str, other: &Answer) {
         self.is_whole &= other.is_whole;

@@ -19,6 +19,7 @@ mod slices;
 mod statement;
 mod tokens;
 mod tree;
+mod watchers;
 
 use answer::Answer;
 use cursor::Cursor;
@@ -183,31 +184,47 @@ fn try_file(rt: &HostRuntime, name: &str) -> io::Result<Counts> {
     Ok(counts)
 }
 
-// Whether a script ends with this status and prints this text.
-fn runs_so(script: &[u8], status: &str, text: &[u8], answer: &mut Answer) -> bool {
-    let mut wanted = Answer::new(answer.alloc);
-    wanted.say(status);
-    wanted.say(" ");
-    wanted.quoted(text);
+// What an example has to come to: its status, the text that it prints, and the lines of its watchers.
+#[derive(Clone, Copy)]
+struct Wanted<'a> {
+    status: &'a str,
+    text: &'a [u8],
+    lines: &'a [u8],
+}
+
+impl Wanted<'_> {
+    fn say(&self, answer: &mut Answer) {
+        answer.say(self.status);
+        answer.say(" ");
+        answer.quoted(self.text);
+        answer.say(" ");
+        answer.quoted(self.lines);
+    }
+}
+
+// Whether a script comes to this.
+fn runs_so(script: &[u8], wanted: &Wanted<'_>, answer: &mut Answer) -> bool {
+    let mut said = Answer::new(answer.alloc);
+    wanted.say(&mut said);
     let is_run = script::run_example(script, answer).is_some();
-    is_run && answer.is_whole() && wanted.is_whole() && answer.text() == wanted.text()
+    is_run && answer.is_whole() && said.is_whole() && answer.text() == said.text()
 }
 
 // Tries an example, and says what came where it differs.
 fn try_example(
     rt: &HostRuntime,
     name: &str,
-    status: &str,
     script: &[u8],
-    text: &[u8],
+    wanted: &Wanted<'_>,
 ) -> io::Result<Counts> {
     let mut answer = Answer::new(rt.alloc());
-    if runs_so(script, status, text, &mut answer) {
+    if runs_so(script, wanted, &mut answer) {
         return Ok(Counts {
             cases: 1,
             differ: 0,
         });
     }
+    let status = wanted.status;
     let came = answer.text();
     println!(rt; "{name}: {status}\n    came: {came}")?;
     Ok(Counts {
@@ -216,16 +233,32 @@ fn try_example(
     })
 }
 
-// Tries the example of this name: the script `NAME.pdl` prints the text `NAME.out`.
+// Tries the example of this name: the script `NAME.pdl` prints the text `NAME.out`, and its watchers
+// the lines `NAME.err`, if there are any.
 fn try_example_file(rt: &HostRuntime, name: &str, status: &str) -> io::Result<Counts> {
     let script = read(rt, name, "pdl")?;
     let text = read(rt, name, "out")?;
-    try_example(rt, name, status, &script, &text)
+    let lines = read_if_there(rt, name, "err")?;
+    let wanted = Wanted {
+        status,
+        text: &text,
+        lines: &lines,
+    };
+    try_example(rt, name, &script, &wanted)
 }
 
 fn read(rt: &HostRuntime, name: &str, ending: &str) -> io::Result<Vec<u8>> {
     let path = format!(in rt.alloc(); "{name}.{ending}")?;
     fs::read(rt, path.as_str())
+}
+
+fn read_if_there(rt: &HostRuntime, name: &str, ending: &str) -> io::Result<Vec<u8>> {
+    let path = format!(in rt.alloc(); "{name}.{ending}")?;
+    if fs::exists(rt, path.as_str())? {
+        fs::read(rt, path.as_str())
+    } else {
+        Ok(Vec::new(rt.alloc()))
+    }
 }
 
 // Tries the cases of the files of these names, a line each; where a status stands behind a name, the

@@ -1,26 +1,33 @@
-//! `script [word=W ..] [reads=N] [room=N] [fail-read=N ..] [fail-write=N ..] TEXT => STATUS TEXT`
+//! `script [word=W ..] [reads=N] [room=N] [fail-read=N ..] [fail-write=N ..] [slots=ROOMS]
+//! [fail-call=SLOT,N ..] TEXT => STATUS TEXT`
 //!
 //! A script is run with these words of the command line. The source gives at most N bytes a read;
 //! where none are said the script is run twice, with 4096 bytes a read and with 1, and both must
 //! agree. Reads, and writes and flushes together, are numbered from 0. The sink has room for 65,536
-//! bytes, or for N. The answer is the status and the text that was written.
+//! bytes, or for N. The answer is the status and the text that was written, and with slots what their
+//! watchers were told (`watchers.rt`).
 //!
 //! `status STATUS => N`: the number of a status.
+ghost use Rattle.std.specs.Prelude.{◌≤◌, length};
+ghost use Rattle.pdl_watch.specs.Slots.{AreOpen, slots_by};
 
 use crate::answer::Answer;
 use crate::cursor::Cursor;
+use crate::watchers::{Slots, Subject, run_as_program, run_with};
 use pdl_io::{MemSink, MemSource};
 use pdl_shell::{Status, run_shell};
+use pdl_watch::Watcher;
 use std::alloc::Global;
 
-// How a script is run.
+/// How a script is run.
 #[derive(Drop)]
-struct Call {
+pub struct Call {
     words: Vec<String>,
     reads: Option<usize>,
     room: usize,
     failing_reads: Vec<u64>,
     failing_writes: Vec<u64>,
+    slots: Slots,
 }
 
 #[derive(Clone, Copy)]
@@ -30,6 +37,8 @@ enum Setting {
     Room,
     FailRead,
     FailWrite,
+    Slots,
+    FailCall,
 }
 
 const SETTINGS: &[(&str, Setting)] = &[
@@ -38,6 +47,8 @@ const SETTINGS: &[(&str, Setting)] = &[
     ("room", Setting::Room),
     ("fail-read", Setting::FailRead),
     ("fail-write", Setting::FailWrite),
+    ("slots", Setting::Slots),
+    ("fail-call", Setting::FailCall),
 ];
 
 // A word of the command line.
@@ -71,6 +82,8 @@ fn take_setting(setting: Setting, line: &mut Cursor<'_>, call: &mut Call) -> Opt
         }
         Setting::FailRead => call.failing_reads.push(number_of(line)?).ok(),
         Setting::FailWrite => call.failing_writes.push(number_of(line)?).ok(),
+        Setting::Slots => call.slots.take_rooms(line),
+        Setting::FailCall => call.slots.take_failing(line),
     }
 }
 
@@ -91,6 +104,7 @@ fn no_settings(alloc: Global) -> Call {
         room: 65_536,
         failing_reads: Vec::new(alloc),
         failing_writes: Vec::new(alloc),
+        slots: Slots::new(alloc),
     }
 }
 
@@ -105,25 +119,35 @@ fn sink(alloc: Global, call: &Call) -> Option<MemSink> {
     MemSink::with_room(alloc, call.room, call.room.max(1), failing).ok()
 }
 
-// Runs a script, and says the status and what was written.
-fn run(call: &Call, script: &[u8], reads: usize, answer: &mut Answer) -> Option<()> {
-    let mut source = source(answer.alloc, call, script, reads)?;
-    run_over(call, &mut source, answer)
-}
-
-fn run_over(call: &Call, source: &mut MemSource, answer: &mut Answer) -> Option<()> {
+/// Runs the script that a source gives over slots, and says the status and what was written.
+pub fn run_over(
+    call: &Call,
+    mut source: MemSource,
+    watchers: &mut Vec<Option<Box<dyn Watcher>>>,
+    answer: &mut Answer,
+) -> Option<()>
+    requires open { AreOpen (slots_by (λ b. seen b) watchers.old.items) }
+    requires few { length watchers.old.items ≤ 1024 }
+{
     let mut sink = sink(answer.alloc, call)?;
-    let status = run_shell(answer.alloc, &call.words, source, &mut sink);
+    let status = run_shell(answer.alloc, &call.words, &mut source, &mut sink, watchers);
     answer.debug(&status);
     answer.say(" ");
     answer.quoted(sink.bytes());
     Some(())
 }
 
-/// Runs the script of an example.
+// Runs a script over the slots that are said.
+fn run(call: &Call, script: &[u8], reads: usize, answer: &mut Answer) -> Option<()> {
+    let source = source(answer.alloc, call, script, reads)?;
+    run_with(&call.slots, Subject::Script(call, source), answer)
+}
+
+/// Runs the script of an example, and says the lines of its watchers too.
 pub fn run_example(script: &[u8], answer: &mut Answer) -> Option<()> {
     let call = no_settings(answer.alloc);
-    run(&call, script, 4096, answer)
+    let source = source(answer.alloc, &call, script, 4096)?;
+    run_as_program(&call, source, answer)
 }
 
 /// Runs the script of a line.

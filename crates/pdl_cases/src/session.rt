@@ -1,17 +1,22 @@
-//! `session SCRIPT => LIVE`: how many arrays a session has after the statements of a script. A
-//! statement that is refused has its fault said before.
-ghost use Rattle.std.specs.Prelude.{◌≡◌, ◌≤◌, ◌<◌, length};
+//! `session [slots=ROOMS] [fail-call=SLOT,N ..] SCRIPT => LIVE`: how many arrays a session has after the
+//! statements of a script. A statement that is refused has its fault said before; one at which a watcher
+//! fails ends the session. With slots, what their watchers were told (`watchers.rt`).
+ghost use Rattle.std.specs.Prelude.{◌≡◌, ◌≤◌, ◌<◌, length, true};
 ghost use Rattle.pdl_syntax.specs.StatementTree.{statement_of};
 ghost use Rattle.pdl_syntax.specs.WellMade.{IsWellMade};
+ghost use Rattle.pdl_session.specs.Watching.{AreServed};
+ghost use Rattle.pdl_watch.specs.Slots.{AreOpen, slots_by};
 
 use crate::answer::Answer;
 use crate::cursor::Cursor;
 use crate::statement::{read, refused};
+use crate::watchers::{Slots, Subject, run_with};
 use pdl_buf::{Steps, new_steps};
 use pdl_lex::{Piece, cut_parts};
 use pdl_machine::fault_text;
 use pdl_session::{Session, StepFault};
 use pdl_syntax::Statement;
+use pdl_watch::Watcher;
 use std::marker::Brand;
 use std::sync::ledger::{Blank, Ledger};
 
@@ -23,73 +28,150 @@ fn say_fault(answer: &mut Answer, fault: &str) {
     answer.say(fault);
 }
 
-// Runs a statement, and says its fault.
+// Runs a statement, and says its fault. Answers whether the session goes on.
+#[tactic(auto, using(crate::proofs::Served::served_still))]
 fn step<L: Ledger>(
     session: &mut Session,
     statement: &Statement,
+    number: u64,
+    watchers: &mut Vec<Option<Box<dyn Watcher>>>,
     steps: &mut Steps<L>,
     answer: &mut Answer,
-)
-    requires { IsWellMade (statement_of statement.now) }
+) -> bool
+    requires made { IsWellMade (statement_of statement.now) }
+    requires served { AreServed session.old.state.watches
+        (slots_by (λ b. seen b) watchers.old.items) }
+    ensures { result ≡ true →
+        AreServed session.new.state.watches (slots_by (λ b. seen b) watchers.new.items) }
 {
     let mut printed = Vec::new(answer.alloc);
-    match session.step(statement, &mut printed, steps) {
-        Ok(()) => {}
-        Err(StepFault::Script(fault)) => say_fault(answer, fault_text(fault)),
-        Err(StepFault::NoMemory) => answer.lacks(),
+    match session.step(statement, number, &mut printed, watchers, steps) {
+        Ok(()) => true,
+        Err(StepFault::Script(fault)) => {
+            say_fault(answer, fault_text(fault));
+            true
+        }
+        Err(StepFault::Watcher) => {
+            say_fault(answer, "a watcher failed");
+            false
+        }
+        Err(StepFault::NoMemory) => {
+            answer.lacks();
+            false
+        }
     }
 }
 
-// Runs the statement of a text, and says its fault.
+// Runs the statement of a text, and says its fault. Answers whether the session goes on.
 fn run_text<L: Ledger>(
     session: &mut Session,
     text: &[u8],
+    number: u64,
+    watchers: &mut Vec<Option<Box<dyn Watcher>>>,
     steps: &mut Steps<L>,
     answer: &mut Answer,
-)
-    requires { length text.now ≤ 65536 }
+) -> bool
+    requires small { length text.now ≤ 65536 }
+    requires served { AreServed session.old.state.watches
+        (slots_by (λ b. seen b) watchers.old.items) }
+    ensures { result ≡ true →
+        AreServed session.new.state.watches (slots_by (λ b. seen b) watchers.new.items) }
 {
     match read(answer.alloc, text) {
-        Ok(statement) => step(session, &statement, steps, answer),
-        Err(fault) => say_fault(answer, refused(fault)),
+        Ok(statement) => step(session, &statement, number, watchers, steps, answer),
+        Err(fault) => {
+            say_fault(answer, refused(fault));
+            true
+        }
     }
 }
 
 fn run_piece<L: Ledger>(
     session: &mut Session,
     piece: &Piece,
+    number: u64,
+    watchers: &mut Vec<Option<Box<dyn Watcher>>>,
     steps: &mut Steps<L>,
     answer: &mut Answer,
-) {
+) -> bool
+    requires { AreServed session.old.state.watches (slots_by (λ b. seen b) watchers.old.items) }
+    ensures { result ≡ true →
+        AreServed session.new.state.watches (slots_by (λ b. seen b) watchers.new.items) }
+{
     match piece {
-        Piece::Whole(cut) => run_text(session, cut.text.bytes(), steps, answer),
-        Piece::TooLong { .. } => say_fault(answer, "too long"),
+        Piece::Whole(cut) => run_text(session, cut.text.bytes(), number, watchers, steps, answer),
+        Piece::TooLong { .. } => {
+            say_fault(answer, "too long");
+            true
+        }
     }
 }
 
 // Runs the statements, and says how many arrays there are then.
-fn run_pieces<L: Ledger>(pieces: &[Piece], answer: &mut Answer, blank: Blank)
+#[tactic(auto, using(crate::proofs::Served::served_first))]
+fn run_pieces<L: Ledger>(
+    pieces: &[Piece],
+    watchers: &mut Vec<Option<Box<dyn Watcher>>>,
+    answer: &mut Answer,
+    blank: Blank,
+)
+    requires open { AreOpen (slots_by (λ b. seen b) watchers.old.items) }
+    requires few { length watchers.old.items ≤ 1024 }
     requires name { blank.name ≡ L.name }
     requires parts { blank.parts ≡ L.parts }
     requires some { 0 < blank.parts }
 {
     let mut session = Session::new(answer.alloc);
     let mut steps = new_steps::<L>(blank);
-    for piece in pieces {
-        run_piece(&mut session, piece, &mut steps, answer);
+    for (index, piece) in pieces.iter().enumerate() {
+        let number = (index as u64).saturating_add(1);
+        if !run_piece(&mut session, piece, number, watchers, &mut steps, answer) {
+            return;
+        }
     }
     answer.next(BETWEEN);
     answer.show(&session.live());
 }
 
+/// Runs the statements of a session over slots.
+pub fn run_over(
+    pieces: &[Piece],
+    watchers: &mut Vec<Option<Box<dyn Watcher>>>,
+    answer: &mut Answer,
+) -> Option<()>
+    requires open { AreOpen (slots_by (λ b. seen b) watchers.old.items) }
+    requires few { length watchers.old.items ≤ 1024 }
+{
+    run_pieces::<Brand>(pieces, watchers, answer, Blank::new(1));
+    Some(())
+}
+
+#[derive(Clone, Copy)]
+enum Setting {
+    Slots,
+    FailCall,
+}
+
+const SETTINGS: &[(&str, Setting)] = &[("slots", Setting::Slots), ("fail-call", Setting::FailCall)];
+
+fn take_settings(line: &mut Cursor<'_>, slots: &mut Slots) -> Option<()> {
+    for _ in 0..100 {
+        match line.setting(SETTINGS) {
+            Some(Setting::Slots) => slots.take_rooms(line)?,
+            Some(Setting::FailCall) => slots.take_failing(line)?,
+            None => return Some(()),
+        }
+    }
+    None
+}
+
 /// Runs the script of a line.
 pub fn session_answer(line: &mut Cursor<'_>, answer: &mut Answer) -> Option<()> {
+    let mut slots = Slots::new(line.alloc);
+    take_settings(line, &mut slots)?;
     let script = line.short_text()?;
     match cut_parts(answer.alloc, &[&script]) {
-        Ok(pieces) => {
-            run_pieces::<Brand>(&pieces, answer, Blank::new(1));
-            Some(())
-        }
+        Ok(pieces) => run_with(&slots, Subject::Session(&pieces), answer),
         Err(_) => None,
     }
 }

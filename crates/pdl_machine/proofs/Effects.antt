@@ -1,27 +1,32 @@
 -- A statement does the same with arrays that differ in their numbers.
-use Rattle.std.proofs.Common.{◌≡◌, ℕ, List, [], ◌∷◌, Bool, true, false, Option, Some, None, Result, Ok, Err, refl, sym, ap, subst, ◌∙◌, nat_eq}
-use Rattle.std.specs.Prelude.{if◌then◌else◌, option_map}
+use Rattle.std.proofs.Common.{◌≡◌, ℕ, List, [], ◌∷◌, map, Bool, true, false, Option, Some, None, Result, Ok, Err, refl, sym, ap, subst, ◌∙◌, nat_eq}
+use Rattle.std.specs.Prelude.{if◌then◌else◌, option_map, ◌||◌, ◌&&◌, is_none}
 use Rattle.std.specs.List.{flat_map}
 use Rattle.std.specs.Cmp.Lexicographic.{pointwise}
 use Rattle.pdl_lemmas.specs.Tests.{by_test}
 use Rattle.pdl_world.specs.Cut.{has_views, reshape}
+use Rattle.pdl_world.specs.Swept.{holds}
 use Rattle.pdl_syntax.specs.Tree.{Tree, number, named, literal, unary, binary, call}
 use Rattle.pdl_syntax.specs.StatementTree.{StatementTree, bind, bind_list, assign, show, show_text, sever, reshape as reshapes, undef, vars, pp_def, watch, unwatch}
 use Rattle.pdl_machine.specs.declared.fault.Fault.{Fault}
-use Rattle.pdl_machine.specs.declared.fault.Fault.TheVariants.{UnknownName, StillConnected}
+use Rattle.pdl_machine.specs.declared.fault.Fault.TheVariants.{UnknownName, StillConnected, BadWatcher}
 use Rattle.pdl_machine.specs.Then.{and_then, or_fault}
 use Rattle.pdl_machine.specs.Names.{Named, Names, number_of, without_name, bound_to, unbind}
 use Rattle.pdl_machine.specs.Arrays.{Arrays}
 use Rattle.pdl_machine.specs.State.{State, with_arrays}
 use Rattle.pdl_machine.specs.Outcome.{Given, Valued}
 use Rattle.pdl_machine.specs.Fills.{numbers_in, dims_for}
-use Rattle.pdl_machine.specs.Cuts.{cut, severed, dims_given, reshaped}
+use Rattle.std.proofs.lemmas.List.{map-set}
+use Rattle.pdl_machine.specs.Cuts.{cut, severed, dims_given, is_connected, reshaped}
+use Rattle.pdl_machine.specs.Watches.{Watches, watch_of, attached, attach, detach, is_present, attaching, detaching}
 use Rattle.pdl_machine.specs.Kernels.{defined}
 use Rattle.pdl_machine.specs.Value.{value_of, taken}
 use Rattle.pdl_machine.specs.Tidy.{renumbered, with_numbers}
-use Rattle.pdl_machine.specs.Step.{Stepped, list_bound, several_bound, target, after_printing, name_line, kernel_named, severing, reshaping, effect}
+use Rattle.pdl_machine.specs.Step.{Stepped, list_bound, several_bound, target, after_printing, name_line, kernel_named, severing, reshaping, watching, unwatching, effect}
 use Rattle.pdl_machine.proofs.Renamed.{AreAlike, StateAlike, sever_renamed, reshape_renamed, has_views_renamed}
 use Rattle.pdl_machine.proofs.Both.{Both, both_then, both_same}
+use Rattle.pdl_machine.proofs.WatchLemmas.{is_none-map, watch_of_renamed, attached_renamed, attach_renamed}
+use Rattle.pdl_machine.proofs.Tidying.{holds_renamed}
 use Rattle.pdl_machine.proofs.Stepping.{ValueAlike, TakenAlike, StepAlike, taken_seen, number_of_alike, bound_alike, list_alike, state_value_alike, state_taken_alike, assigning_alike, shown_alike, lines_alike, define_alike}
 
 -- a cut on both sides
@@ -50,14 +55,22 @@ bound_to_alike g s t h x =
     by_number (Some v) = refl
 
 severing_alike : (g : ℕ → ℕ) (s t : State) → StateAlike true g s t → (v u : ℕ) → u ≡ g v → Both (StepAlike g) (severing s v) (severing t u)
-severing_alike g s t h v u same = (record { arrays = cut_alike g s.arrays t.arrays h.arrays v u same; names = h.names }, refl)
+severing_alike g s t h v u same = (record { arrays = cut_alike g s.arrays t.arrays h.arrays v u same; names = h.names; watches = h.watches }, refl)
+
+-- the same arrays are connected on both sides
+connected_alike : (g : ℕ → ℕ) (a b : Arrays) → AreAlike true g a b → (ws : Watches) (v : ℕ) → is_connected (map (option_map g) ws) b.world (g v) ≡ is_connected ws a.world v
+connected_alike g a b h ws v =
+    ap (λ x. x || holds (attached (map (option_map g) ws)) (g v)) (has_views_renamed g h.apart h.world v)
+    ∙ ap (λ vs. has_views a.world v || holds vs (g v)) (attached_renamed g ws)
+    ∙ ap (λ x. has_views a.world v || x) (holds_renamed g h.apart (attached ws) v)
 
 -- other dimensions on both sides
-reshaped_alike : (g : ℕ → ℕ) (a b : Arrays) → AreAlike true g a b → (v u : ℕ) → u ≡ g v → (ds : List ℕ) → Both (AreAlike true g) (reshaped a v ds) (reshaped b u ds)
-reshaped_alike g a b h v u same ds =
-    let P : ℕ → Type 0 = λ i. Both (AreAlike true g) (reshaped a v ds) (reshaped b i ds) in
-    let Q : Bool → Type 0 = λ x. Both (AreAlike true g) (reshaped a v ds) (if x then Err StillConnected else Ok (other b (g v))) in
-    subst P (sym same) (subst Q (sym (has_views_renamed g h.apart h.world v)) (by_views (has_views a.world v)))
+reshaped_alike : (g : ℕ → ℕ) (ws : Watches) (a b : Arrays) → AreAlike true g a b → (v u : ℕ) → u ≡ g v → (ds : List ℕ)
+    → Both (AreAlike true g) (reshaped ws a v ds) (reshaped (map (option_map g) ws) b u ds)
+reshaped_alike g ws a b h v u same ds =
+    let P : ℕ → Type 0 = λ i. Both (AreAlike true g) (reshaped ws a v ds) (reshaped (map (option_map g) ws) b i ds) in
+    let Q : Bool → Type 0 = λ x. Both (AreAlike true g) (reshaped ws a v ds) (if x then Err StillConnected else Ok (other b (g v))) in
+    subst P (sym same) (subst Q (sym (connected_alike g a b h ws v)) (by_views (is_connected ws a.world v)))
   where
     other : Arrays → ℕ → Arrays
     other a v = record a { world = reshape a.world v ds }
@@ -68,11 +81,12 @@ reshaped_alike g a b h v u same ds =
 
 reshaping_alike : (g : ℕ → ℕ) (s t : State) → StateAlike true g s t → (v u : ℕ) → u ≡ g v → (x y : Arrays × List Given) → TakenAlike g x y → Both (StepAlike g) (reshaping s v x) (reshaping t u y)
 reshaping_alike g s t h v u same x y taken =
-    let last : State → ℕ → Arrays → List ℕ → Stepped = λ s v a ds. and_then (reshaped a v ds) (λ b. Ok (with_arrays s b, [])) in
+    let last : State → ℕ → Arrays → List ℕ → Stepped = λ s v a ds. and_then (reshaped s.watches a v ds) (λ b. Ok (with_arrays s b, [])) in
+    let W : List ℕ → Watches → Type 0 = λ ds ws. Both (AreAlike true g) (reshaped s.watches x.0 v ds) (reshaped ws y.0 u ds) in
     let P : Result (List ℕ) Fault → Type 0 = λ ds. Both (StepAlike g) (reshaping s v x) (and_then ds (last t u y.0)) in
     subst P (ap (λ seen. and_then (numbers_in seen) dims_for) (sym (taken_seen g x y taken))) (both_same (StepAlike g) (dims_given x) (last s v x.0) (last t u y.0) (λ ds.
-    both_then (AreAlike true g) (StepAlike g) (reshaped x.0 v ds) (reshaped y.0 u ds) (λ a. Ok (with_arrays s a, [])) (λ a. Ok (with_arrays t a, []))
-    (reshaped_alike g x.0 y.0 taken.0 v u same ds) (λ a b alike. (record { arrays = alike; names = h.names }, refl))))
+    both_then (AreAlike true g) (StepAlike g) (reshaped s.watches x.0 v ds) (reshaped t.watches y.0 u ds) (λ a. Ok (with_arrays s a, [])) (λ a. Ok (with_arrays t a, []))
+    (subst (W ds) (sym h.watches) (reshaped_alike g s.watches x.0 y.0 taken.0 v u same ds)) (λ a b alike. (record { arrays = alike; names = h.names; watches = h.watches }, refl))))
 
 -- a name less on both sides
 without_alike : (g : ℕ → ℕ) (names : Named ℕ) (x : List ℕ) → without_name (renumbered g names) x ≡ renumbered g (without_name names x)
@@ -86,7 +100,7 @@ unbind_alike g s t h x =
     both_then (λ n m. m ≡ with_numbers g n) (StepAlike g) (unbind s.names x) (unbind t.names x) (λ names. Ok (record s { names = names }, [])) (λ names. Ok (record t { names = names }, []))
     (both_then (NumberAlike g) (λ n m. m ≡ with_numbers g n) (bound_to s.names x) (bound_to t.names x) (λ v. Ok (without s.names)) (λ v. Ok (without t.names))
     (bound_to_alike g s t h x) (λ v u same. ap without h.names ∙ ap (λ arrays. beside s.names arrays) (without_alike g s.names.arrays x)))
-    (λ n m same. (record { arrays = h.arrays; names = same }, refl))
+    (λ n m same. (record { arrays = h.arrays; names = same; watches = h.watches }, refl))
   where
     beside : Names → Named ℕ → Names
     beside names arrays = record names { arrays = arrays }
@@ -105,27 +119,66 @@ several_alike g s t h xs (literal ty ds es) = refl
 several_alike g s t h xs (unary op e) = refl
 several_alike g s t h xs (binary op e f) = refl
 
+-- a slot attached on both sides
+attaching_alike : (present : List Bool) (g : ℕ → ℕ) (ws : Watches) (k v : ℕ) → Both (λ us xs. xs ≡ map (option_map g) us) (attaching present ws k v) (attaching present (map (option_map g) ws) k (g v))
+attaching_alike present g ws k v =
+    let P : Bool → Type 0 = λ b. Both (λ us xs. xs ≡ map (option_map g) us) (attaching present ws k v)
+    (if is_present present k && b then Ok (attach (map (option_map g) ws) k (g v)) else Err BadWatcher) in
+    subst P (sym (ap is_none (watch_of_renamed g ws k) ∙ is_none-map g (watch_of ws k))) (by_room (is_present present k && is_none (watch_of ws k)))
+  where
+    by_room : (b : Bool) → Both (λ us xs. xs ≡ map (option_map g) us) (if b then Ok (attach ws k v) else Err BadWatcher) (if b then Ok (attach (map (option_map g) ws) k (g v)) else Err BadWatcher)
+    by_room true = attach_renamed g ws k v
+    by_room false = refl
+
+detaching_alike : (g : ℕ → ℕ) (ws : Watches) (k : ℕ) → Both (λ us xs. xs ≡ map (option_map g) us) (detaching ws k) (detaching (map (option_map g) ws) k)
+detaching_alike g ws k =
+    let P : Bool → Type 0 = λ b. Both (λ us xs. xs ≡ map (option_map g) us) (detaching ws k) (if b then Err BadWatcher else Ok (detach (map (option_map g) ws) k)) in
+    subst P (sym (ap is_none (watch_of_renamed g ws k) ∙ is_none-map g (watch_of ws k))) (by_slot (is_none (watch_of ws k)))
+  where
+    by_slot : (b : Bool) → Both (λ us xs. xs ≡ map (option_map g) us) (if b then Err BadWatcher else Ok (detach ws k)) (if b then Err BadWatcher else Ok (detach (map (option_map g) ws) k))
+    by_slot true = refl
+    by_slot false = sym (map-set (option_map g) ws k None)
+
+-- other watches on both sides
+watches_alike : (g : ℕ → ℕ) (s t : State) → StateAlike true g s t → (x y : Result Watches Fault) → Both (λ us xs. xs ≡ map (option_map g) us) x y
+    → Both (StepAlike g) (and_then x (λ ws. Ok (record s { watches = ws }, []))) (and_then y (λ ws. Ok (record t { watches = ws }, [])))
+watches_alike g s t h x y both =
+    both_then (λ us xs. xs ≡ map (option_map g) us) (StepAlike g) x y (λ ws. Ok (record s { watches = ws }, [])) (λ ws. Ok (record t { watches = ws }, []))
+    both (λ us xs same. (record { arrays = h.arrays; names = h.names; watches = same }, refl))
+
+watching_alike : (present : List Bool) (g : ℕ → ℕ) (s t : State) → StateAlike true g s t → (k v u : ℕ) → u ≡ g v → Both (StepAlike g) (watching present s k v) (watching present t k u)
+watching_alike present g s t h k v u same =
+    let P : Watches → ℕ → Type 0 = λ ws i. Both (λ us xs. xs ≡ map (option_map g) us) (attaching present s.watches k v) (attaching present ws k i) in
+    watches_alike g s t h (attaching present s.watches k v) (attaching present t.watches k u)
+    (subst (P t.watches) (sym same) (subst (λ (ws : Watches). P ws (g v)) (sym h.watches) (attaching_alike present g s.watches k v)))
+
+unwatching_alike : (g : ℕ → ℕ) (s t : State) → StateAlike true g s t → (k : ℕ) → Both (StepAlike g) (unwatching s k) (unwatching t k)
+unwatching_alike g s t h k =
+    let P : Watches → Type 0 = λ ws. Both (λ us xs. xs ≡ map (option_map g) us) (detaching s.watches k) (detaching ws k) in
+    watches_alike g s t h (detaching s.watches k) (detaching t.watches k) (subst P (sym h.watches) (detaching_alike g s.watches k))
+
 -- a statement does the same on both sides
-pub effect_alike : (g : ℕ → ℕ) (s t : State) → StateAlike true g s t → (statement : StatementTree) → Both (StepAlike g) (effect s statement) (effect t statement)
-effect_alike g s t h (bind x e false) = bound_alike g s t h x (value_of s.names s.arrays e) (value_of t.names t.arrays e) (state_value_alike g s t h e)
-effect_alike g s t h (bind x e true) =
+pub effect_alike : (present : List Bool) (g : ℕ → ℕ) (s t : State) → StateAlike true g s t → (statement : StatementTree) → Both (StepAlike g) (effect present s statement) (effect present t statement)
+effect_alike present g s t h (bind x e false) = bound_alike g s t h x (value_of s.names s.arrays e) (value_of t.names t.arrays e) (state_value_alike g s t h e)
+effect_alike present g s t h (bind x e true) =
     bound_alike g s t h x (severed (value_of s.names s.arrays e)) (severed (value_of t.names t.arrays e))
     (severed_alike g (value_of s.names s.arrays e) (value_of t.names t.arrays e) (state_value_alike g s t h e))
-effect_alike g s t h (bind_list xs e) = several_alike g s t h xs e
-effect_alike g s t h (assign x views sign e) = assigning_alike g s t h (target x views) sign e
-effect_alike g s t h (show e is_info) =
+effect_alike present g s t h (bind_list xs e) = several_alike g s t h xs e
+effect_alike present g s t h (assign x views sign e) = assigning_alike g s t h (target x views) sign e
+effect_alike present g s t h (show e is_info) =
     both_then (ValueAlike g) (StepAlike g) (value_of s.names s.arrays e) (value_of t.names t.arrays e) (λ v. Ok (after_printing s is_info v)) (λ v. Ok (after_printing t is_info v))
     (state_value_alike g s t h e) (shown_alike g s t h is_info)
-effect_alike g s t h (show_text x) = (h, refl)
-effect_alike g s t h (sever x) =
+effect_alike present g s t h (show_text x) = (h, refl)
+effect_alike present g s t h (sever x) =
     both_then (NumberAlike g) (StepAlike g) (bound_to s.names x) (bound_to t.names x) (severing s) (severing t) (bound_to_alike g s t h x) (severing_alike g s t h)
-effect_alike g s t h (reshapes x sizes) =
+effect_alike present g s t h (reshapes x sizes) =
     both_then (NumberAlike g) (StepAlike g) (bound_to s.names x) (bound_to t.names x) (λ v. and_then (taken s.names s.arrays sizes) (reshaping s v)) (λ u. and_then (taken t.names t.arrays sizes) (reshaping t u))
     (bound_to_alike g s t h x) (λ v u same.
     both_then (TakenAlike g) (StepAlike g) (taken s.names s.arrays sizes) (taken t.names t.arrays sizes) (reshaping s v) (reshaping t u)
     (state_taken_alike g s t h sizes) (reshaping_alike g s t h v u same))
-effect_alike g s t h (undef x) = unbind_alike g s t h x
-effect_alike g s t h vars = (h, lines_alike g s.arrays t.arrays h.arrays s.names.arrays ∙ ap (λ names. flat_map (name_line t.arrays) names.arrays) (sym h.names))
-effect_alike g s t h (pp_def f a b) = both_same (StepAlike g) (defined f a b) (kernel_named s f) (kernel_named t f) (define_alike g s t h f)
-effect_alike g s t h (watch x k) = refl
-effect_alike g s t h (unwatch k) = refl
+effect_alike present g s t h (undef x) = unbind_alike g s t h x
+effect_alike present g s t h vars = (h, lines_alike g s.arrays t.arrays h.arrays s.names.arrays ∙ ap (λ names. flat_map (name_line t.arrays) names.arrays) (sym h.names))
+effect_alike present g s t h (pp_def f a b) = both_same (StepAlike g) (defined f a b) (kernel_named s f) (kernel_named t f) (define_alike g s t h f)
+effect_alike present g s t h (watch x k) =
+    both_then (NumberAlike g) (StepAlike g) (bound_to s.names x) (bound_to t.names x) (watching present s k) (watching present t k) (bound_to_alike g s t h x) (watching_alike present g s t h k)
+effect_alike present g s t h (unwatch k) = unwatching_alike g s t h k

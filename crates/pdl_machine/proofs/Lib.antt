@@ -1,3 +1,4 @@
+pub mod WatchLemmas
 pub mod Renamed
 pub mod Both
 pub mod Stepping
@@ -5,7 +6,11 @@ pub mod Effects
 pub mod Tidying
 pub mod Numbering
 pub mod Orderly
+pub mod Watching
+pub mod Quiet
 pub mod Steps
+pub mod Presence
+pub mod Counted
 pub mod MeaningLemmas
 pub mod RunLemmas
 pub mod SoFar

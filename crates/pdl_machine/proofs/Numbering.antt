@@ -1,6 +1,6 @@
 -- Each whole state is alike to its tidied one, by the number that each array had before.
-use Rattle.std.proofs.Common.{◌≡◌, ◌≢◌, ℕ, ◌+◌, ◌-◌, ◌<◌, ◌≤◌, List, [], ◌∷◌, ◌++◌, length, map, Bool, true, false, Option, inl, inr, refl, sym, ap, subst, ◌∙◌, arith, eqb-true, eq-eqb}
-use Rattle.std.specs.Prelude.{◌==◌, if◌then◌else◌, IsSomeAnd}
+use Rattle.std.proofs.Common.{◌≡◌, ◌≢◌, ℕ, ◌+◌, ◌-◌, ◌<◌, ◌≤◌, List, [], ◌∷◌, ◌++◌, length, map, Bool, true, false, Option, Some, None, inl, inr, refl, sym, ap, subst, ◌∙◌, arith, eqb-true, eq-eqb}
+use Rattle.std.specs.Prelude.{◌==◌, if◌then◌else◌, option_map, IsSomeAnd}
 use Rattle.std.proofs.lemmas.Bool.{cases_lt}
 use Rattle.pdl_lemmas.specs.Tests.{by_test}
 use Rattle.pdl_world.specs.World.{World, ArrayDef, root, view, Look}
@@ -9,6 +9,7 @@ use Rattle.pdl_world.specs.Swept.{holds, parents, kept_onto, sweep}
 use Rattle.pdl_kernel.specs.Kernels.{Kernel}
 use Rattle.pdl_machine.specs.Names.{Named, Names}
 use Rattle.pdl_machine.specs.State.{State, held, IsSwept, AreLive, IsWhole}
+use Rattle.pdl_machine.specs.Watches.{Watches, attached}
 use Rattle.pdl_machine.specs.Tidy.{older, with_parent, renumber, renumbered, tidy}
 use Rattle.pdl_machine.proofs.Renamed.{IsApart, Renames, empty, more, same, look-other, StateAlike}
 use Rattle.pdl_machine.proofs.Tidying.{renamed}
@@ -258,14 +259,54 @@ names_restored g f w hs (n ∷ names) inside live all_held =
     let rest : names ≡ renumbered g (renumbered (older (sweep w hs)) names) = names_restored g f w hs names inside live.1 (λ v h. all_held v (by_test (n.1 == v) (λ same. rw same refl) (λ other. rw other h))) in
     ap (λ v. (n.0, v) ∷ names) (sym (restored_parent g f (sweep w hs) n.1 inside there)) ∙ ap (λ r. (n.0, g (older (sweep w hs) n.1)) ∷ r) rest
 
--- numbers are in order, and all that names reach is there
+-- the arrays that names are bound to
+abbrev pub bound_in : Names → List ℕ
+bound_in names = map (λ n. n.1) names.arrays
+
+-- numbers are in order, and all that names and watches reach is there
 pub record IsInOrder (s : State) : Type 0 where
   pub orderly : IsOrderly s.arrays.world
   pub below : NumbersBelow s.arrays.next s.arrays.world
-  pub inside : AreIn s.arrays.world (held s)
+  pub inside : AreIn s.arrays.world (bound_in s.names)
+  pub watched : AreIn s.arrays.world (attached s.watches)
+
+front_in : (w : World) (vs us : List ℕ) → AreIn w (vs ++ us) → AreIn w vs
+front_in w [] us h = tt
+front_in w (v ∷ vs) us h = (h.0, front_in w vs us h.1)
+
+back_in : (w : World) (vs us : List ℕ) → AreIn w (vs ++ us) → AreIn w us
+back_in w [] us h = h
+back_in w (v ∷ vs) us h = back_in w vs us h.1
 
 pub in_order : (s : State) → IsWhole s → IsInOrder s
-in_order s whole = record { orderly = orderly_sound s.arrays.world whole.sound; below = whole.below; inside = live_in s.arrays.world (held s) whole.live }
+in_order s whole =
+    let all : AreIn s.arrays.world (held s) = live_in s.arrays.world (held s) whole.live in
+    record {
+      orderly = orderly_sound s.arrays.world whole.sound;
+      below = whole.below;
+      inside = front_in s.arrays.world (bound_in s.names) (attached s.watches) all;
+      watched = back_in s.arrays.world (bound_in s.names) (attached s.watches) all;
+    }
+
+pub holds_front : (vs us : List ℕ) (k : ℕ) → holds vs k ≡ true → holds (vs ++ us) k ≡ true
+holds_front [] us k h = cc
+holds_front (v ∷ vs) us k h = by_test (v == k) (λ same. rw same refl) (λ other. let t : holds vs k ≡ true = rw other at h in rw other (holds_front vs us k t))
+
+pub holds_back : (vs us : List ℕ) (k : ℕ) → holds us k ≡ true → holds (vs ++ us) k ≡ true
+holds_back [] us k h = h
+holds_back (v ∷ vs) us k h = by_test (v == k) (λ same. rw same refl) (λ other. rw other (holds_back vs us k h))
+
+-- watches with the new numbers, and then with the former ones
+watches_restored : (g f : ℕ → ℕ) (w : World) (hs : List ℕ) (ws : Watches) → ((i : ℕ) → i < length (sweep w hs) → g i ≡ former (sweep w hs) f i)
+    → AreIn w (attached ws) → ((v : ℕ) → holds (attached ws) v ≡ true → holds hs v ≡ true) → ws ≡ map (option_map g) (map (option_map (older (sweep w hs))) ws)
+watches_restored g f w hs [] inside there all_held = refl
+watches_restored g f w hs (None ∷ ws) inside there all_held = ap (λ (us : Watches). None ∷ us) (watches_restored g f w hs ws inside there all_held)
+watches_restored g f w hs (Some v ∷ ws) inside there all_held =
+    let self : (v == v) ≡ true = eq-eqb v v refl in
+    let t : holds (v ∷ attached ws) v ≡ true = rw self refl in
+    let kept : in_world (sweep w hs) v ≡ true = held_kept w hs v there.0 (all_held v t) in
+    let rest : ws ≡ map (option_map g) (map (option_map (older (sweep w hs))) ws) = watches_restored g f w hs ws inside there.1 (λ u h. all_held u (by_test (v == u) (λ same. rw same refl) (λ other. rw other h))) in
+    ap (λ (u : ℕ). Some u ∷ ws) (sym (restored_parent g f (sweep w hs) v inside kept)) ∙ ap (λ (us : Watches). Some (g (older (sweep w hs) v)) ∷ us) rest
 
 -- the former numbers of a state's arrays
 abbrev pub former_numbers : State → ℕ → ℕ
@@ -299,7 +340,8 @@ tidied_alike s order =
         next = (let e : before u s.arrays.next (length u) ≡ f (length u) = former_past u f (length u) (omega arith) in omega arith);
         on = λ i le. omega (arith, former_past u f i le, former_past u f (i + 1) (omega arith));
       };
-      names = ap (named s.names.kernels) (names_restored (former_numbers s) f s.arrays.world (held s) s.names.arrays h.inside order.inside (λ v t. t));
+      names = ap (named s.names.kernels) (names_restored (former_numbers s) f s.arrays.world (held s) s.names.arrays h.inside order.inside (holds_front (bound_in s.names) (attached s.watches)));
+      watches = watches_restored (former_numbers s) f s.arrays.world (held s) s.watches h.inside order.watched (holds_back (bound_in s.names) (attached s.watches));
     }
 
 -- a world under other numbers has all of its arrays
@@ -314,4 +356,4 @@ swept_alike s order swept =
     let h : StateAlike false g (tidy s) s = tidied_alike s order in
     let P : World → Type 0 = λ w. Renames g true (tidy s).arrays.world w in
     let all : P s.arrays.world = subst P (sym (swept_is s order) ∙ swept) (all_renamed g (tidy s).arrays.world) in
-    record { arrays = record { apart = h.arrays.apart; world = all; next = h.arrays.next; on = h.arrays.on }; names = h.names }
+    record { arrays = record { apart = h.arrays.apart; world = all; next = h.arrays.next; on = h.arrays.on }; names = h.names; watches = h.watches }

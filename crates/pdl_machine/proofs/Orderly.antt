@@ -1,6 +1,6 @@
 -- A statement leaves numbers in order, and all that names reach in the world.
-use Rattle.std.proofs.Common.{◌≡◌, ℕ, ℤ, ◌+◌, ◌≤◌, List, [], ◌∷◌, ◌++◌, length, map, Bool, true, false, Option, Some, None, Result, Ok, Err, refl, sym, ap, subst, ◌∙◌, arith, eq-eqb, nat_eq}
-use Rattle.std.specs.Prelude.{◌==◌, if◌then◌else◌, IfOk, IfSome}
+use Rattle.std.proofs.Common.{◌≡◌, ℕ, zero, suc, ℤ, ◌+◌, ◌≤◌, List, [], ◌∷◌, ◌++◌, length, map, Bool, true, false, Option, Some, None, Result, Ok, Err, refl, sym, ap, subst, ◌∙◌, arith, eq-eqb, nat_eq, append_assoc}
+use Rattle.std.specs.Prelude.{◌==◌, ◌&&◌, if◌then◌else◌, is_none, slice_set, IfOk, IfSome}
 use Rattle.std.specs.Cmp.Lexicographic.{pointwise}
 use Rattle.pdl_lemmas.specs.Tests.{by_test}
 use Rattle.pdl_elem.specs.declared.Ty.{Ty}
@@ -10,42 +10,45 @@ use Rattle.pdl_world.specs.declared.Trans.{Trans}
 use Rattle.pdl_shape.specs.Places.{write}
 use Rattle.pdl_world.specs.Refused.{NoView, view_refusal}
 use Rattle.pdl_world.specs.World.{World, ArrayDef, root, view, Look, look, set_elements, root_elements, assign as assign_in, assign_through, ty_in, dims_in, elements}
-use Rattle.pdl_world.specs.Cut.{replaced, rooted, reshape, fitted, has_views}
+use Rattle.pdl_world.specs.Cut.{replaced, rooted, reshape, fitted}
 use Rattle.pdl_world.specs.Sound.{NumbersBelow}
 use Rattle.pdl_lexemes.specs.declared.AssignOp.{AssignOp}
 use Rattle.pdl_syntax.specs.Tree.{Tree, Args, number, named, literal, unary, binary, call, none, value, text, of_type}
 use Rattle.pdl_syntax.specs.StatementTree.{StatementTree, bind, bind_list, assign, show, show_text, sever, reshape as reshapes, undef, vars, pp_def, watch, unwatch}
 use Rattle.pdl_machine.specs.declared.fault.Fault.{Fault}
-use Rattle.pdl_machine.specs.declared.fault.Fault.TheVariants.{TooManyNames, TooManyKernels, StillConnected}
-use Rattle.pdl_machine.specs.Then.{and_then}
+use Rattle.pdl_machine.specs.declared.fault.Fault.TheVariants.{UnknownName, TooManyNames, TooManyKernels, StillConnected, BadWatcher}
+use Rattle.pdl_machine.specs.Then.{and_then, or_fault}
 use Rattle.pdl_machine.specs.Names.{Named, Names, found, number_of, with_name, without_name, bound_to, unbind, is_full_for, bind as bind_name, names_limit, kernels_limit}
 use Rattle.pdl_machine.specs.Arrays.{Arrays, array_in, with_new}
-use Rattle.pdl_machine.specs.State.{State, with_arrays, held}
+use Rattle.pdl_machine.specs.State.{State, with_arrays}
+use Rattle.pdl_machine.specs.Watches.{Watches, watch_of, attached, padded, attach, detach, is_present}
+use Rattle.pdl_machine.specs.Laws.{AreGrown}
 use Rattle.pdl_machine.specs.Outcome.{array, string, type_word, Given, all_seen, Outcome, made, viewed, Valued, new_root, new_view, view_placed, placed}
 use Rattle.pdl_ops.specs.Elementwise.{unary_each}
 use Rattle.pdl_machine.specs.Operators.{binary_each, values_for}
 use Rattle.pdl_kernel.specs.Kernels.{Kernel}
-use Rattle.pdl_machine.specs.Cuts.{cut, severed, dims_given, reshaped}
+use Rattle.pdl_machine.specs.Cuts.{cut, severed, dims_given, is_connected, reshaped}
 use Rattle.pdl_machine.specs.Kernels.{kernel_outputs, defined}
 use Rattle.pdl_machine.specs.Calls.{outcome, Callee, builtin, kernel, callee_of, only_root, several, value_by, call_value}
 use Rattle.pdl_machine.specs.Value.{Taken, known, number_made, value_of, taken}
 use Rattle.pdl_world.specs.Swept.{parents}
-use Rattle.pdl_machine.specs.Step.{Stepped, bind_value, bound, roots_bound, outputs_bound, kernel_named, list_bound, several_bound, target, assigned, assigning, after_printing, severing, reshaping, effect}
-use Rattle.pdl_machine.proofs.Numbering.{in_world, AreIn, IsOrderly, IsInOrder}
+use Rattle.pdl_machine.specs.Step.{Stepped, bind_value, bound, roots_bound, outputs_bound, kernel_named, list_bound, several_bound, target, assigned, assigning, after_printing, severing, reshaping, watching, unwatching, effect}
+use Rattle.pdl_machine.proofs.Numbering.{in_world, AreIn, IsOrderly, bound_in, IsInOrder}
+use Rattle.pdl_machine.proofs.WatchLemmas.{attached_padded}
 
-ok_then : {A B : Type 0} (P : A → Type 0) (Q : B → Type 0) (x : Result A Fault) (f : A → Result B Fault) → IfOk x P → ((a : A) → P a → IfOk (f a) Q) → IfOk (and_then x f) Q
+pub ok_then : {A B : Type 0} (P : A → Type 0) (Q : B → Type 0) (x : Result A Fault) (f : A → Result B Fault) → IfOk x P → ((a : A) → P a → IfOk (f a) Q) → IfOk (and_then x f) Q
 ok_then P Q (Ok a) f h next = next a h
 ok_then P Q (Err e) f h next = tt
 
-ok_always : {A B : Type 0} (Q : B → Type 0) (x : Result A Fault) (f : A → Result B Fault) → ((a : A) → IfOk (f a) Q) → IfOk (and_then x f) Q
+pub ok_always : {A B : Type 0} (Q : B → Type 0) (x : Result A Fault) (f : A → Result B Fault) → ((a : A) → IfOk (f a) Q) → IfOk (and_then x f) Q
 ok_always Q (Ok a) f next = next a
 ok_always Q (Err e) f next = tt
 
 -- b is in order, and has what a had
-record Grows (a b : Arrays) : Type 0 where
-  orderly : IsOrderly b.world
-  below : NumbersBelow b.next b.world
-  still : (v : ℕ) → in_world a.world v ≡ true → in_world b.world v ≡ true
+pub record Grows (a b : Arrays) : Type 0 where
+  pub orderly : IsOrderly b.world
+  pub below : NumbersBelow b.next b.world
+  pub still : (v : ℕ) → in_world a.world v ≡ true → in_world b.world v ≡ true
 
 grows_trans : (a b c : Arrays) → Grows a b → Grows b c → Grows a c
 grows_trans a b c g h = record { orderly = h.orderly; below = h.below; still = λ v there. h.still v (g.still v there) }
@@ -55,8 +58,25 @@ still_in a b g [] h = tt
 still_in a b g (v ∷ vs) h = (g.still v h.0, still_in a b g vs h.1)
 
 -- a value that is there
-abbrev FineValue : Arrays → Arrays × ℕ → Type 0
-FineValue a (b, v) = Grows a b × (in_world b.world v ≡ true)
+abbrev pub FineValue : Arrays → Arrays × ℕ → Type 0
+FineValue a (b, v) = Grows a b × (in_world b.world v ≡ true) × AreGrown a b
+
+pub grown_self : (a : Arrays) → AreGrown a a
+grown_self a = record { more = []; is = refl }
+
+pub grown_trans : (a b c : Arrays) → AreGrown a b → AreGrown b c → AreGrown a c
+grown_trans a b c g h = record {
+  more = h.more ++ g.more;
+  is = h.is ∙ ap (λ (w : World). h.more ++ w) g.is ∙ sym (append_assoc h.more g.more a.world);
+}
+
+-- an array that is there, where others may be cut
+abbrev ThereIn : Arrays → Arrays × ℕ → Type 0
+ThereIn a (b, v) = Grows a b × (in_world b.world v ≡ true)
+
+value_there : (a : Arrays) (x : Valued) → IfOk x (FineValue a) → IfOk x (ThereIn a)
+value_there a (Ok v) fine = (fine.0, fine.1)
+value_there a (Err e) fine = tt
 
 abbrev IsGivenIn : World → Given → Type 0
 IsGivenIn w (array v) = in_world w v ≡ true
@@ -68,8 +88,8 @@ AreGivenIn w [] = Unit {0}
 AreGivenIn w (g ∷ given) = IsGivenIn w g × AreGivenIn w given
 
 -- arguments that are there
-abbrev FineTaken : Arrays → Arrays × List Given → Type 0
-FineTaken a (b, given) = Grows a b × AreGivenIn b.world given
+abbrev pub FineTaken : Arrays → Arrays × List Given → Type 0
+FineTaken a (b, given) = Grows a b × AreGivenIn b.world given × AreGrown a b
 
 below_more : (w : World) (m n : ℕ) → m ≤ n → NumbersBelow m w → NumbersBelow n w
 below_more [] m n h b = tt
@@ -83,13 +103,14 @@ new_fine a d g inside = (
     still = λ v there. by_test (a.next == v) (λ same. rw same refl) (λ other. rw other there);
   },
   (let self : (a.next == a.next) ≡ true = eq-eqb a.next a.next refl in rw self refl),
+  record { more = (a.next, d) ∷ []; is = refl },
 )
 
 -- in order as it is
-self : (a b : Arrays) → Grows a b → Grows b b
+pub self : (a b : Arrays) → Grows a b → Grows b b
 self a b g = record { orderly = g.orderly; below = g.below; still = λ v there. there }
 
-root_fine : (a : Arrays) (m : Made) → Grows a a → IfOk (new_root a m) (FineValue a)
+pub root_fine : (a : Arrays) (m : Made) → Grows a a → IfOk (new_root a m) (FineValue a)
 root_fine a m g = new_fine a (root m.ty m.dims m.elems) g tt
 
 view_fine : (a : Arrays) (given : List Given) (t : Trans) → Grows a a → AreGivenIn a.world given → IfOk (view_placed a given t) (FineValue a)
@@ -108,22 +129,22 @@ placed_fine a given (Ok (made m)) g h = root_fine a m g
 placed_fine a given (Ok (viewed t)) g h = view_fine a given t g h
 
 -- a value from other arrays on, which came from a
-later : (a b : Arrays) → Grows a b → (x : Valued) → IfOk x (FineValue b) → IfOk x (FineValue a)
-later a b g (Ok (c, v)) h = (grows_trans a b c g h.0, h.1)
-later a b g (Err e) h = tt
+pub later : (a b : Arrays) → Grows a b → AreGrown a b → (x : Valued) → IfOk x (FineValue b) → IfOk x (FineValue a)
+later a b g grown (Ok (c, v)) h = (grows_trans a b c g h.0, h.1, grown_trans a b c grown h.2)
+later a b g grown (Err e) h = tt
 
 only_fine : (a : Arrays) (ms : List Made) → Grows a a → IfOk (only_root a ms) (FineValue a)
 only_fine a [] g = tt
 only_fine a (m ∷ []) g = root_fine a m g
 only_fine a (m ∷ n ∷ ms) g = tt
 
-value_by_fine : (a : Arrays) (given : List Given) (c : Callee) → Grows a a → AreGivenIn a.world given → IfOk (value_by a given c) (FineValue a)
+pub value_by_fine : (a : Arrays) (given : List Given) (c : Callee) → Grows a a → AreGivenIn a.world given → IfOk (value_by a given c) (FineValue a)
 value_by_fine a given (builtin b) g h = placed_fine a given (outcome b (all_seen a given)) g h
 value_by_fine a given (kernel k) g h = ok_always (FineValue a) (kernel_outputs k 1 (all_seen a given)) (only_root a) (λ ms. only_fine a ms g)
 
 call_fine : (names : Names) (f : List ℕ) (a : Arrays) (t : Arrays × List Given) → FineTaken a t → IfOk (call_value names f t.0 t.1) (FineValue a)
 call_fine names f a (b, given) h =
-    later a b h.0 (call_value names f b given)
+    later a b h.0 h.2 (call_value names f b given)
     (ok_always (FineValue b) (callee_of names f) (value_by b given) (λ c. value_by_fine b given c (self a b h.0) h.1))
 
 given_still : (a b : Arrays) → Grows a b → (given : List Given) → AreGivenIn a.world given → AreGivenIn b.world given
@@ -144,54 +165,59 @@ named_in w (n ∷ names) x h =
 
 known_fine : (a : Arrays) (o : Option ℕ) → Grows a a → IfSome o (λ v. in_world a.world v ≡ true) → IfOk (known a o) (FineValue a)
 known_fine a None g h = tt
-known_fine a (Some v) g h = (g, h)
+known_fine a (Some v) g h = (g, h, grown_self a)
 
 with_argument : Arrays → List Given → Given → Taken
 with_argument a given x = Ok (a, given ++ x ∷ [])
 
 mutual
-  value_fine : (names : Names) (e : Tree) (a : Arrays) → Grows a a → AreIn a.world (map (λ n. n.1) names.arrays) → IfOk (value_of names a e) (FineValue a)
+  pub value_fine : (names : Names) (e : Tree) (a : Arrays) → Grows a a → AreIn a.world (map (λ n. n.1) names.arrays) → IfOk (value_of names a e) (FineValue a)
   value_fine names (number n) a g h = root_fine a (number_made n) g
   value_fine names (named x) a g h = known_fine a (number_of names x) g (named_in a.world names.arrays x h)
   value_fine names (literal ty ds es) a g h = root_fine a (record { ty = ty; dims = ds; elems = es }) g
   value_fine names (unary op e) a g h =
       ok_then (FineValue a) (FineValue a) (value_of names a e) (λ v. new_root v.0 (unary_each op (array_in v.0 v.1)))
-      (value_fine names e a g h) (λ v fine. later a v.0 fine.0 (new_root v.0 (unary_each op (array_in v.0 v.1))) (root_fine v.0 (unary_each op (array_in v.0 v.1)) (self a v.0 fine.0)))
+      (value_fine names e a g h) (λ v fine. later a v.0 fine.0 fine.2 (new_root v.0 (unary_each op (array_in v.0 v.1))) (root_fine v.0 (unary_each op (array_in v.0 v.1)) (self a v.0 fine.0)))
   value_fine names (binary op e f) a g h =
       ok_then (FineValue a) (FineValue a) (value_of names a e) (λ v. and_then (value_of names v.0 f) (λ u. and_then (binary_each op (array_in u.0 v.1) (array_in u.0 u.1)) (new_root u.0)))
       (value_fine names e a g h) (λ v fine.
-      later a v.0 fine.0 (and_then (value_of names v.0 f) (λ u. and_then (binary_each op (array_in u.0 v.1) (array_in u.0 u.1)) (new_root u.0)))
+      later a v.0 fine.0 fine.2 (and_then (value_of names v.0 f) (λ u. and_then (binary_each op (array_in u.0 v.1) (array_in u.0 u.1)) (new_root u.0)))
       (ok_then (FineValue v.0) (FineValue v.0) (value_of names v.0 f) (λ u. and_then (binary_each op (array_in u.0 v.1) (array_in u.0 u.1)) (new_root u.0))
       (value_fine names f v.0 (self a v.0 fine.0) (still_in a v.0 fine.0 (map (λ n. n.1) names.arrays) h)) (λ u right.
-      later v.0 u.0 right.0 (and_then (binary_each op (array_in u.0 v.1) (array_in u.0 u.1)) (new_root u.0))
+      later v.0 u.0 right.0 right.2 (and_then (binary_each op (array_in u.0 v.1) (array_in u.0 u.1)) (new_root u.0))
       (ok_always (FineValue u.0) (binary_each op (array_in u.0 v.1) (array_in u.0 u.1)) (new_root u.0) (λ m. root_fine u.0 m (self v.0 u.0 right.0))))))
   value_fine names (call f args) a g h =
       ok_then (FineTaken a) (FineValue a) (taken names a args) (λ t. call_value names f t.0 t.1) (taken_fine names args a g h) (call_fine names f a)
 
-  taken_fine : (names : Names) (args : Args) (a : Arrays) → Grows a a → AreIn a.world (map (λ n. n.1) names.arrays) → IfOk (taken names a args) (FineTaken a)
-  taken_fine names none a g h = (g, tt)
+  pub taken_fine : (names : Names) (args : Args) (a : Arrays) → Grows a a → AreIn a.world (map (λ n. n.1) names.arrays) → IfOk (taken names a args) (FineTaken a)
+  taken_fine names none a g h = (g, tt, grown_self a)
   taken_fine names (value front e) a g h =
       ok_then (FineTaken a) (FineTaken a) (taken names a front) (λ t. and_then (value_of names t.0 e) (λ v. Ok (v.0, t.1 ++ array v.1 ∷ [])))
       (taken_fine names front a g h) (λ t fine.
       ok_then (FineValue t.0) (FineTaken a) (value_of names t.0 e) (λ v. Ok (v.0, t.1 ++ array v.1 ∷ []))
       (value_fine names e t.0 (self a t.0 fine.0) (still_in a t.0 fine.0 (map (λ n. n.1) names.arrays) h)) (λ v here.
-      (grows_trans a t.0 v.0 fine.0 here.0, given_more v.0.world t.1 (array v.1) (given_still t.0 v.0 here.0 t.1 fine.1) here.1)))
+      (grows_trans a t.0 v.0 fine.0 here.0, given_more v.0.world t.1 (array v.1) (given_still t.0 v.0 here.0 t.1 fine.1) here.1, grown_trans a t.0 v.0 fine.2 here.2)))
   taken_fine names (text front t) a g h =
-      ok_then (FineTaken a) (FineTaken a) (taken names a front) (λ x. Ok (x.0, x.1 ++ string t ∷ [])) (taken_fine names front a g h) (λ x fine. (fine.0, given_more x.0.world x.1 (string t) fine.1 tt))
+      ok_then (FineTaken a) (FineTaken a) (taken names a front) (λ x. Ok (x.0, x.1 ++ string t ∷ [])) (taken_fine names front a g h) (λ x fine. (fine.0, given_more x.0.world x.1 (string t) fine.1 tt, fine.2))
   taken_fine names (of_type front ty) a g h =
-      ok_then (FineTaken a) (FineTaken a) (taken names a front) (λ x. Ok (x.0, x.1 ++ type_word ty ∷ [])) (taken_fine names front a g h) (λ x fine. (fine.0, given_more x.0.world x.1 (type_word ty) fine.1 tt))
+      ok_then (FineTaken a) (FineTaken a) (taken names a front) (λ x. Ok (x.0, x.1 ++ type_word ty ∷ [])) (taken_fine names front a g h) (λ x fine. (fine.0, given_more x.0.world x.1 (type_word ty) fine.1 tt, fine.2))
 
 -- a state in order, with what is printed
 abbrev FineStep : State × List ℕ → Type 0
 FineStep p = IsInOrder p.0
 
 state_fine : (s : State) (a : Arrays) → IsInOrder s → Grows s.arrays a → IsInOrder (with_arrays s a)
-state_fine s a order g = record { orderly = g.orderly; below = g.below; inside = still_in s.arrays a g (held s) order.inside }
+state_fine s a order g = record {
+  orderly = g.orderly;
+  below = g.below;
+  inside = still_in s.arrays a g (bound_in s.names) order.inside;
+  watched = still_in s.arrays a g (attached s.watches) order.watched;
+}
 
-grows_self : (s : State) → IsInOrder s → Grows s.arrays s.arrays
+pub grows_self : (s : State) → IsInOrder s → Grows s.arrays s.arrays
 grows_self s order = record { orderly = order.orderly; below = order.below; still = λ v there. there }
 
-state_value_fine : (s : State) → IsInOrder s → (e : Tree) → IfOk (value_of s.names s.arrays e) (FineValue s.arrays)
+pub state_value_fine : (s : State) → IsInOrder s → (e : Tree) → IfOk (value_of s.names s.arrays e) (FineValue s.arrays)
 state_value_fine s order e = value_fine s.names e s.arrays (grows_self s order) order.inside
 
 with_name_in : (w : World) (names : Named ℕ) (x : List ℕ) (v : ℕ) → AreIn w (map (λ n. n.1) names) → in_world w v ≡ true → AreIn w (map (λ n. n.1) (with_name names x v))
@@ -213,21 +239,26 @@ define_fine s f k order = by_room (is_full_for kernels_limit s.names.kernels f)
   where
     by_room : (b : Bool) → IfOk (and_then (and_then (if b then Err TooManyKernels else Ok (with_name s.names.kernels f k)) (λ kernels. Ok (record s.names { kernels = kernels }))) (λ names. Ok (record s { names = names }, []))) FineStep
     by_room true = tt
-    by_room false = record { orderly = order.orderly; below = order.below; inside = order.inside }
+    by_room false = record { orderly = order.orderly; below = order.below; inside = order.inside; watched = order.watched }
 
-bound_fine : (s : State) (x : List ℕ) → IsInOrder s → (valued : Valued) → IfOk valued (FineValue s.arrays) → IfOk (bound s x valued) FineStep
+bound_fine : (s : State) (x : List ℕ) → IsInOrder s → (valued : Valued) → IfOk valued (ThereIn s.arrays) → IfOk (bound s x valued) FineStep
 bound_fine s x order valued fine =
-    ok_then (FineValue s.arrays) FineStep valued (bind_value s x) fine (λ v here.
-    ok_then (λ after. AreIn v.0.world (map (λ n. n.1) after.arrays)) FineStep (bind_name s.names x v.1) (λ names. Ok (record s { names = names; arrays = v.0 }, []))
-    (bind_fine v.0.world s.names x v.1 (still_in s.arrays v.0 here.0 (held s) order.inside) here.1)
-    (λ names inside. record { orderly = here.0.orderly; below = here.0.below; inside = inside }))
+    ok_then (ThereIn s.arrays) FineStep valued (bind_value s x) fine (λ v here.
+    ok_then (λ after. AreIn v.0.world (bound_in after)) FineStep (bind_name s.names x v.1) (λ names. Ok (record s { names = names; arrays = v.0 }, []))
+    (bind_fine v.0.world s.names x v.1 (still_in s.arrays v.0 here.0 (bound_in s.names) order.inside) here.1)
+    (λ names inside. record {
+      orderly = here.0.orderly;
+      below = here.0.below;
+      inside = inside;
+      watched = still_in s.arrays v.0 here.0 (attached s.watches) order.watched;
+    }))
 
 roots_fine : (s : State) (xs : List (List ℕ)) (ms : List Made) → IsInOrder s → IfOk (roots_bound s xs ms) FineStep
 roots_fine s [] ms order = order
 roots_fine s (x ∷ xs) [] order = order
 roots_fine s (x ∷ xs) (m ∷ ms) order =
     ok_then FineStep FineStep (bound s x (new_root s.arrays m)) (λ after. roots_bound after.0 xs ms)
-    (bound_fine s x order (new_root s.arrays m) (root_fine s.arrays m (grows_self s order))) (λ p fine. roots_fine p.0 xs ms fine)
+    (bound_fine s x order (new_root s.arrays m) (value_there s.arrays (new_root s.arrays m) (root_fine s.arrays m (grows_self s order)))) (λ p fine. roots_fine p.0 xs ms fine)
 
 many_fine : (s : State) (xs : List (List ℕ)) (t : Arrays × List Given) (c : Callee) → IsInOrder s → FineTaken s.arrays t
     → IfOk (and_then (several (length xs) (all_seen t.0 t.1) c) (roots_bound (with_arrays s t.0) xs)) FineStep
@@ -236,7 +267,8 @@ many_fine s xs (b, given) c order fine =
 
 outputs_fine : (s : State) (xs : List (List ℕ)) (t : Arrays × List Given) (c : Callee) → IsInOrder s → FineTaken s.arrays t → IfOk (outputs_bound s xs t c) FineStep
 outputs_fine s (x ∷ []) (b, given) c order fine =
-    bound_fine s x order (value_by b given c) (later s.arrays b fine.0 (value_by b given c) (value_by_fine b given c (self s.arrays b fine.0) fine.1))
+    bound_fine s x order (value_by b given c) (value_there s.arrays (value_by b given c)
+    (later s.arrays b fine.0 fine.2 (value_by b given c) (value_by_fine b given c (self s.arrays b fine.0) fine.1)))
 outputs_fine s [] t c order fine = many_fine s [] t c order fine
 outputs_fine s (x ∷ y ∷ xs) t c order fine = many_fine s (x ∷ y ∷ xs) t c order fine
 
@@ -276,7 +308,7 @@ assigning_fine s to sign e order =
     ok_then (FineValue s.arrays) FineStep (value_of s.names s.arrays to) (λ v. and_then (value_of s.names v.0 e) (λ u. last u.0 (assigned sign u.0 v.1 u.1)))
     (state_value_fine s order to) (λ v fine.
     ok_then (FineValue v.0) FineStep (value_of s.names v.0 e) (λ u. last u.0 (assigned sign u.0 v.1 u.1))
-    (value_fine s.names e v.0 (self s.arrays v.0 fine.0) (still_in s.arrays v.0 fine.0 (held s) order.inside)) (λ u right.
+    (value_fine s.names e v.0 (self s.arrays v.0 fine.0) (still_in s.arrays v.0 fine.0 (bound_in s.names) order.inside)) (λ u right.
     ok_then (Grows s.arrays) FineStep (assigned sign u.0 v.1 u.1) (λ a. Ok (with_arrays s a, []))
     (ok_always (Grows s.arrays) (values_for sign (array_in u.0 v.1) (array_in u.0 u.1)) (λ values. Ok (record u.0 { world = assign_in u.0.world v.1 values })) (λ values.
     grows_trans s.arrays u.0 (record u.0 { world = assign_in u.0.world v.1 values }) (grows_trans s.arrays v.0 u.0 fine.0 right.0) (assign_fine u.0 v.1 values (self v.0 u.0 right.0))))
@@ -293,7 +325,7 @@ in_world-replaced : (w : World) (r v : ℕ) (new : ArrayDef) → in_world (repla
 in_world-replaced [] r v new = refl
 in_world-replaced ((k, d) ∷ w) r v new = ap (λ b. if k == v then true else b) (in_world-replaced w r v new)
 
-orderly_replaced : (w : World) (v : ℕ) (ty : Ty) (ds : List ℕ) (es : List ℤ) → IsOrderly w → IsOrderly (replaced w v (root ty ds es))
+pub orderly_replaced : (w : World) (v : ℕ) (ty : Ty) (ds : List ℕ) (es : List ℤ) → IsOrderly w → IsOrderly (replaced w v (root ty ds es))
 orderly_replaced [] v ty ds es order = tt
 orderly_replaced ((k, d) ∷ w) v ty ds es order =
     let P : ArrayDef → Type 0 = λ x. AreIn (replaced w v (root ty ds es)) (parents x) in
@@ -314,15 +346,15 @@ rooted_fine a v ds es g = record {
 cut_fine : (a : Arrays) (v : ℕ) → Grows a a → Grows a (cut a v)
 cut_fine a v g = rooted_fine a v (dims_in a.world v) (elements a.world v) g
 
-severed_fine : (a : Arrays) (valued : Valued) → IfOk valued (FineValue a) → IfOk (severed valued) (FineValue a)
+severed_fine : (a : Arrays) (valued : Valued) → IfOk valued (FineValue a) → IfOk (severed valued) (ThereIn a)
 severed_fine a valued fine =
-    ok_then (FineValue a) (FineValue a) valued (λ v. Ok (cut v.0 v.1, v.1)) fine (λ v here.
+    ok_then (FineValue a) (ThereIn a) valued (λ v. Ok (cut v.0 v.1, v.1)) fine (λ v here.
     let g : Grows v.0 (cut v.0 v.1) = cut_fine v.0 v.1 (self a v.0 here.0) in
     (grows_trans a v.0 (cut v.0 v.1) here.0 g, g.still v.1 here.1))
 
 reshaping_fine : (s : State) (v : ℕ) → IsInOrder s → (t : Arrays × List Given) → FineTaken s.arrays t → IfOk (reshaping s v t) FineStep
 reshaping_fine s v order (b, given) fine =
-    ok_always FineStep (dims_given (b, given)) (λ ds. and_then (reshaped b v ds) (λ a. Ok (with_arrays s a, []))) (λ ds. by_views ds (has_views b.world v))
+    ok_always FineStep (dims_given (b, given)) (λ ds. and_then (reshaped s.watches b v ds) (λ a. Ok (with_arrays s a, []))) (λ ds. by_views ds (is_connected s.watches b.world v))
   where
     by_views : (ds : List ℕ) (x : Bool) → IfOk (and_then (if x then Err StillConnected else Ok (record b { world = reshape b.world v ds })) (λ a. Ok (with_arrays s a, []))) FineStep
     by_views ds true = tt
@@ -341,7 +373,7 @@ unbind_fine s x order = by_number (bound_to s.names x)
   where
     by_number : (o : Result ℕ Fault) → IfOk (and_then (and_then o (λ v. Ok (record s.names { arrays = without_name s.names.arrays x }))) (λ names. Ok (record s { names = names }, []))) FineStep
     by_number (Err e) = tt
-    by_number (Ok v) = record { orderly = order.orderly; below = order.below; inside = without_in s.arrays.world s.names.arrays x order.inside }
+    by_number (Ok v) = record { orderly = order.orderly; below = order.below; inside = without_in s.arrays.world s.names.arrays x order.inside; watched = order.watched }
 
 several_fine : (s : State) (xs : List (List ℕ)) → IsInOrder s → (e : Tree) → IfOk (several_bound s xs e) FineStep
 several_fine s xs order (call f args) =
@@ -352,23 +384,64 @@ several_fine s xs order (literal ty ds es) = tt
 several_fine s xs order (unary op e) = tt
 several_fine s xs order (binary op e f) = tt
 
+-- the entry of a slot, where what it is attached to is there
+set_in : (w : World) (ws : Watches) (k : ℕ) (o : Option ℕ) → AreIn w (attached ws) → IfSome o (λ v. in_world w v ≡ true) → AreIn w (attached (slice_set ws k o))
+set_in w [] k o h here = tt
+set_in w (None ∷ ws) zero None h here = h
+set_in w (None ∷ ws) zero (Some v) h here = (here, h)
+set_in w (Some u ∷ ws) zero None h here = h.1
+set_in w (Some u ∷ ws) zero (Some v) h here = (here, h.1)
+set_in w (None ∷ ws) (suc k) o h here = set_in w ws k o h here
+set_in w (Some u ∷ ws) (suc k) o h here = (h.0, set_in w ws k o h.1 here)
+
+-- other watches of arrays that are there
+rewatched_fine : (s : State) → IsInOrder s → (ws : Watches) → AreIn s.arrays.world (attached ws) → FineStep (record s { watches = ws }, [])
+rewatched_fine s order ws there = record { orderly = order.orderly; below = order.below; inside = order.inside; watched = there }
+
+watching_fine : (present : List Bool) (s : State) (k v : ℕ) → IsInOrder s → in_world s.arrays.world v ≡ true → IfOk (watching present s k v) FineStep
+watching_fine present s k v order here = by_room (is_present present k && is_none (watch_of s.watches k))
+  where
+    padded_in : AreIn s.arrays.world (attached (padded s.watches (k + 1)))
+    padded_in = subst (AreIn s.arrays.world) (sym (attached_padded s.watches (k + 1))) order.watched
+
+    by_room : (b : Bool) → IfOk (and_then (if b then Ok (attach s.watches k v) else Err BadWatcher) (λ ws. Ok (record s { watches = ws }, []))) FineStep
+    by_room true = rewatched_fine s order (attach s.watches k v) (set_in s.arrays.world (padded s.watches (k + 1)) k (Some v) padded_in here)
+    by_room false = tt
+
+unwatching_fine : (s : State) (k : ℕ) → IsInOrder s → IfOk (unwatching s k) FineStep
+unwatching_fine s k order = by_slot (is_none (watch_of s.watches k))
+  where
+    by_slot : (b : Bool) → IfOk (and_then (if b then Err BadWatcher else Ok (detach s.watches k)) (λ ws. Ok (record s { watches = ws }, []))) FineStep
+    by_slot true = tt
+    by_slot false = rewatched_fine s order (detach s.watches k) (set_in s.arrays.world s.watches k None order.watched tt)
+
+-- the array of a name is there
+pub bound_to_fine : (s : State) (x : List ℕ) → IsInOrder s → IfOk (bound_to s.names x) (λ v. in_world s.arrays.world v ≡ true)
+bound_to_fine s x order = by_number (number_of s.names x) (named_in s.arrays.world s.names.arrays x order.inside)
+  where
+    by_number : (o : Option ℕ) → IfSome o (λ v. in_world s.arrays.world v ≡ true) → IfOk (or_fault UnknownName o) (λ v. in_world s.arrays.world v ≡ true)
+    by_number None h = tt
+    by_number (Some v) h = h
+
 -- a statement leaves a state in order
-pub effect_in_order : (s : State) → IsInOrder s → (statement : StatementTree) → IfOk (effect s statement) (λ x. IsInOrder x.0)
-effect_in_order s order (bind x e false) = bound_fine s x order (value_of s.names s.arrays e) (state_value_fine s order e)
-effect_in_order s order (bind x e true) =
+pub effect_in_order : (present : List Bool) (s : State) → IsInOrder s → (statement : StatementTree) → IfOk (effect present s statement) (λ x. IsInOrder x.0)
+effect_in_order present s order (bind x e false) =
+    bound_fine s x order (value_of s.names s.arrays e) (value_there s.arrays (value_of s.names s.arrays e) (state_value_fine s order e))
+effect_in_order present s order (bind x e true) =
     bound_fine s x order (severed (value_of s.names s.arrays e)) (severed_fine s.arrays (value_of s.names s.arrays e) (state_value_fine s order e))
-effect_in_order s order (bind_list xs e) = several_fine s xs order e
-effect_in_order s order (assign x views sign e) = assigning_fine s (target x views) sign e order
-effect_in_order s order (show e is_info) =
+effect_in_order present s order (bind_list xs e) = several_fine s xs order e
+effect_in_order present s order (assign x views sign e) = assigning_fine s (target x views) sign e order
+effect_in_order present s order (show e is_info) =
     ok_then (FineValue s.arrays) FineStep (value_of s.names s.arrays e) (λ v. Ok (after_printing s is_info v)) (state_value_fine s order e) (λ v fine. state_fine s v.0 order fine.0)
-effect_in_order s order (show_text t) = order
-effect_in_order s order (sever x) =
+effect_in_order present s order (show_text t) = order
+effect_in_order present s order (sever x) =
     ok_always FineStep (bound_to s.names x) (severing s) (λ v. state_fine s (cut s.arrays v) order (cut_fine s.arrays v (grows_self s order)))
-effect_in_order s order (reshapes x sizes) =
+effect_in_order present s order (reshapes x sizes) =
     ok_always FineStep (bound_to s.names x) (λ v. and_then (taken s.names s.arrays sizes) (reshaping s v)) (λ v.
     ok_then (FineTaken s.arrays) FineStep (taken s.names s.arrays sizes) (reshaping s v) (taken_fine s.names sizes s.arrays (grows_self s order) order.inside) (reshaping_fine s v order))
-effect_in_order s order (undef x) = unbind_fine s x order
-effect_in_order s order vars = order
-effect_in_order s order (pp_def f a b) = ok_always FineStep (defined f a b) (kernel_named s f) (λ k. define_fine s f k order)
-effect_in_order s order (watch x k) = tt
-effect_in_order s order (unwatch k) = tt
+effect_in_order present s order (undef x) = unbind_fine s x order
+effect_in_order present s order vars = order
+effect_in_order present s order (pp_def f a b) = ok_always FineStep (defined f a b) (kernel_named s f) (λ k. define_fine s f k order)
+effect_in_order present s order (watch x k) =
+    ok_then (λ v. in_world s.arrays.world v ≡ true) FineStep (bound_to s.names x) (watching present s k) (bound_to_fine s x order) (λ v here. watching_fine present s k v order here)
+effect_in_order present s order (unwatch k) = unwatching_fine s k order

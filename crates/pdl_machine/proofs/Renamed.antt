@@ -1,6 +1,6 @@
 -- Two worlds that differ in the numbers of their arrays, and in arrays that only one of them has,
 -- show the same.
-use Rattle.std.proofs.Common.{◌≡◌, ◌≢◌, ℕ, ℤ, ◌+◌, ◌≤◌, suc, List, [], ◌∷◌, length, Bool, true, false, Option, Some, None, Result, Ok, Err, refl, sym, ap, subst, ◌∙◌, arith, eqb-true, eq-eqb}
+use Rattle.std.proofs.Common.{◌≡◌, ◌≢◌, ℕ, ℤ, ◌+◌, ◌≤◌, suc, List, [], ◌∷◌, length, map, Bool, true, false, Option, Some, None, Result, Ok, Err, refl, sym, ap, subst, ◌∙◌, arith, eqb-true, eq-eqb}
 use Rattle.std.specs.Prelude.{◌==◌, ◌||◌, if◌then◌else◌, option_map, option_and_then}
 use Rattle.std.specs.Option.{option_map_or}
 use Rattle.pdl_lemmas.specs.Tests.{by_test}
@@ -218,7 +218,8 @@ new_alike {all} g a b h d = record {
   on = λ i le. h.on i (omega arith);
 }
 
--- and names have their arrays under the other numbers
+-- and names and watches have their arrays under the other numbers
 pub record StateAlike (all : Bool) (g : ℕ → ℕ) (s t : State) : Type 0 where
   pub arrays : AreAlike all g s.arrays t.arrays
   pub names : t.names ≡ with_numbers g s.names
+  pub watches : t.watches ≡ map (option_map g) s.watches

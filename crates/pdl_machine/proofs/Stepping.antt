@@ -27,6 +27,7 @@ use Rattle.pdl_machine.specs.Value.{Taken, known, number_made, value_of, taken}
 use Rattle.pdl_machine.specs.Tidy.{renumbered, with_numbers}
 use Rattle.pdl_machine.specs.Step.{Stepped, bind_value, bound, roots_bound, outputs_bound, kernel_named, list_bound, assigned, assigning, info_line, printed, after_printing, name_line}
 use Rattle.pdl_machine.proofs.Renamed.{AreAlike, StateAlike, view_refusal_renamed, assign_renamed, array_alike, new_alike}
+use Rattle.pdl_machine.proofs.WatchLemmas.{is_none-map}
 use Rattle.pdl_machine.proofs.Both.{Both, both_then, both_same}
 
 -- a value on both sides
@@ -190,10 +191,6 @@ length-numbers : (g : ℕ → ℕ) (names : Named ℕ) → length (renumbered g 
 length-numbers g [] = refl
 length-numbers g (n ∷ names) = ap suc (length-numbers g names)
 
-is_none-map : (g : ℕ → ℕ) (o : Option ℕ) → is_none (option_map g o) ≡ is_none o
-is_none-map g None = refl
-is_none-map g (Some v) = refl
-
 with_name_alike : (g : ℕ → ℕ) (names : Named ℕ) (x : List ℕ) (v : ℕ) → with_name (renumbered g names) x (g v) ≡ renumbered g (with_name names x v)
 with_name_alike g [] x v = refl
 with_name_alike g (n ∷ names) x v =
@@ -224,7 +221,7 @@ bind_value_alike g s t h x (a, v) (b, w) together =
     let Q : ℕ → Type 0 = λ u. Both (λ n m. m ≡ with_numbers g n) (bind_name s.names x v) (bind_name (with_numbers g s.names) x u) in
     let names : Both (λ n m. m ≡ with_numbers g n) (bind_name s.names x v) (bind_name t.names x w) = subst P (sym h.names) (subst Q (sym together.1) (bind_alike g s.names x v)) in
     both_then (λ n m. m ≡ with_numbers g n) (StepAlike g) (bind_name s.names x v) (bind_name t.names x w) (λ n. Ok (record s { names = n; arrays = a }, [])) (λ n. Ok (record t { names = n; arrays = b }, []))
-    names (λ n m same. (record { arrays = together.0; names = same }, refl))
+    names (λ n m same. (record { arrays = together.0; names = same; watches = h.watches }, refl))
 
 pub bound_alike : (g : ℕ → ℕ) (s t : State) → StateAlike true g s t → (x : List ℕ) (v w : Valued) → Both (ValueAlike g) v w → Both (StepAlike g) (bound s x v) (bound t x w)
 bound_alike g s t h x v w together = both_then (ValueAlike g) (StepAlike g) v w (bind_value s x) (bind_value t x) together (bind_value_alike g s t h x)
@@ -242,7 +239,7 @@ many_alike : (g : ℕ → ℕ) (s t : State) → StateAlike true g s t → (xs :
 many_alike g s t h xs v w together c =
     let given = several (length xs) (all_seen v.0 v.1) c in
     let P : List Seen → Type 0 = λ x. Both (StepAlike g) (and_then given (roots_bound (with_arrays s v.0) xs)) (and_then (several (length xs) x c) (roots_bound (with_arrays t w.0) xs)) in
-    let alike : StateAlike true g (with_arrays s v.0) (with_arrays t w.0) = record { arrays = together.0; names = h.names } in
+    let alike : StateAlike true g (with_arrays s v.0) (with_arrays t w.0) = record { arrays = together.0; names = h.names; watches = h.watches } in
     subst P (sym (taken_seen g v w together)) (both_same (StepAlike g) given (roots_bound (with_arrays s v.0) xs) (roots_bound (with_arrays t w.0) xs) (roots_alike g (with_arrays s v.0) (with_arrays t w.0) alike xs))
 
 outputs_alike : (g : ℕ → ℕ) (s t : State) → StateAlike true g s t → (xs : List (List ℕ)) (v w : Arrays × List Given) → TakenAlike g v w → (c : Callee) → Both (StepAlike g) (outputs_bound s xs v c) (outputs_bound t xs w c)
@@ -288,7 +285,7 @@ assigning_alike g s t h to sign e =
     both_then (ValueAlike g) (StepAlike g) (value_of s.names v.0 e) (value_of t.names w.0 e) (last s v.1) (last t w.1)
     (right v.0 w.0 both.0) (λ u x both_right.
     both_then (AreAlike true g) (StepAlike g) (assigned sign u.0 v.1 u.1) (assigned sign x.0 w.1 x.1) (λ a. Ok (with_arrays s a, [])) (λ a. Ok (with_arrays t a, []))
-    (assigned_alike g sign u.0 x.0 both_right.0 v.1 w.1 u.1 x.1 both.1 both_right.1) (λ a b alike. (record { arrays = alike; names = h.names }, refl))))
+    (assigned_alike g sign u.0 x.0 both_right.0 v.1 w.1 u.1 x.1 both.1 both_right.1) (λ a b alike. (record { arrays = alike; names = h.names; watches = h.watches }, refl))))
   where
     last : State → ℕ → Arrays × ℕ → Stepped
     last s v u = and_then (assigned sign u.0 v u.1) (λ a. Ok (with_arrays s a, []))
@@ -298,7 +295,7 @@ assigning_alike g s t h to sign e =
 
 pub shown_alike : (g : ℕ → ℕ) (s t : State) → StateAlike true g s t → (is_info : Bool) (v w : Arrays × ℕ) → ValueAlike g v w → StepAlike g (after_printing s is_info v) (after_printing t is_info w)
 shown_alike g s t h is_info (a, v) (b, w) both =
-    (record { arrays = both.0; names = h.names }, ap (printed is_info) (sym (ap (array_in b) both.1 ∙ array_alike g a b both.0 v)))
+    (record { arrays = both.0; names = h.names; watches = h.watches }, ap (printed is_info) (sym (ap (array_in b) both.1 ∙ array_alike g a b both.0 v)))
 
 pub lines_alike : (g : ℕ → ℕ) (a b : Arrays) → AreAlike true g a b → (names : Named ℕ) → flat_map (name_line a) names ≡ flat_map (name_line b) (renumbered g names)
 lines_alike g a b h [] = refl
@@ -319,4 +316,4 @@ define_alike g s t h f k =
         (step_of s s.names (if b then Err TooManyKernels else Ok (with_name s.names.kernels f k)))
         (step_of t (with_numbers g s.names) (if b then Err TooManyKernels else Ok (with_name s.names.kernels f k)))
     by_room true = refl
-    by_room false = (record { arrays = h.arrays; names = refl }, refl)
+    by_room false = (record { arrays = h.arrays; names = refl; watches = h.watches }, refl)

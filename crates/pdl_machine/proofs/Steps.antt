@@ -1,44 +1,71 @@
 -- The laws of steps.
-use Rattle.std.proofs.Common.{◌≡◌, ℕ, List, [], ◌∷◌, ◌++◌, map, Bool, true, false, Option, Some, None, Ok, Err, inl, inr, refl, sym, ap, subst, ◌∙◌, arith, eqb-true}
+use Rattle.std.proofs.Common.{◌≡◌, ℕ, ℤ, List, [], ◌∷◌, ◌++◌, map, Bool, true, false, Option, Some, None, Result, Ok, Err, inl, inr, refl, sym, ap, subst, ◌∙◌, arith, eqb-true}
 use Rattle.std.specs.Prelude.{◌==◌, if◌then◌else◌, option_map, IfOk}
 use Rattle.pdl_lemmas.specs.Tests.{by_test}
 use Rattle.pdl_world.specs.declared.Trans.{Trans}
-use Rattle.pdl_world.specs.World.{World, ArrayDef, root, view}
+use Rattle.pdl_world.specs.World.{World, ArrayDef, root, view, elements}
 use Rattle.pdl_world.specs.Sound.{NumbersBelow, IsSound}
 use Rattle.pdl_world.specs.Swept.{holds, parents, kept_onto, sweep, Has, IsReached, held_itself, parent_of}
 use Rattle.pdl_machine.specs.declared.fault.Fault.{Fault}
 use Rattle.pdl_machine.specs.Names.{number_of}
-use Rattle.pdl_machine.specs.Arrays.{array_in}
+use Rattle.pdl_machine.specs.Arrays.{Arrays, array_in}
+use Rattle.pdl_machine.specs.Then.{and_then}
+use Rattle.pdl_machine.specs.Watches.{Watches, notices}
+use Rattle.pdl_watch.specs.declared.notice.Notice.{Notice}
+use Rattle.pdl_watch.specs.Changes.{changes}
+use Rattle.pdl_syntax.specs.StatementTree.{StatementTree}
 use Rattle.pdl_machine.specs.State.{State, held, AreLive}
 use Rattle.pdl_machine.specs.Tidy.{with_parent, numbered, tidy}
-use Rattle.pdl_machine.specs.Step.{Stepped, effect, tidied}
+use Rattle.pdl_machine.specs.Step.{Stepped, Done, left, done, effect}
 use Rattle.pdl_machine.specs.Laws.{StepsAlike, NewArraysUnseen, AreAllReached, StepsLeaveReached, TidyingShowsTheSame}
-use Rattle.pdl_machine.proofs.Renamed.{IsApart, StateAlike, array_alike}
+use Rattle.pdl_machine.proofs.Renamed.{IsApart, AreAlike, StateAlike, elements_renamed, array_alike}
 use Rattle.pdl_machine.proofs.Both.{Both}
 use Rattle.pdl_machine.proofs.Stepping.{StepAlike, number_of_alike}
 use Rattle.pdl_machine.proofs.Effects.{effect_alike}
-use Rattle.pdl_machine.proofs.Tidying.{renamed, holds_renamed, held_renamed, tidy_alike}
+use Rattle.pdl_machine.proofs.Tidying.{renamed, holds_renamed, held_alike, tidy_alike}
 use Rattle.pdl_machine.proofs.Numbering.{in_world, live_inside, IsInOrder, in_order, former_numbers, former_apart, swept_is, tidied_alike, swept_alike}
 use Rattle.pdl_machine.proofs.Orderly.{effect_in_order}
 
--- steps that are alike are the same once they are tidied
-steps_alike : (g : ℕ → ℕ) (x y : Stepped) → Both (StepAlike g) x y → tidied y ≡ tidied x
-steps_alike g (Ok (s, text)) (Ok (t, other)) h = ap (λ z. pair z other) (tidy_alike g s t h.0) ∙ ap (pair (tidy s)) (sym h.1)
+-- the same is told of arrays under other numbers
+notices_alike : {all : Bool} (number : ℕ) (g : ℕ → ℕ) (a b c d : Arrays) → AreAlike all g a b → AreAlike all g c d → (ws : Watches)
+    → notices number b.world d.world (map (option_map g) ws) ≡ notices number a.world c.world ws
+notices_alike number g a b c d h k [] = refl
+notices_alike number g a b c d h k (None ∷ ws) = ap (λ (all : List (List Notice)). [] ∷ all) (notices_alike number g a b c d h k ws)
+notices_alike number g a b c d h k (Some v ∷ ws) =
+    let rest : List (List Notice) = notices number b.world d.world (map (option_map g) ws) in
+    ap (λ (es : List ℤ). changes number es (elements d.world (g v)) ∷ rest) (elements_renamed g h.apart h.world v)
+    ∙ ap (λ (es : List ℤ). changes number (elements a.world v) es ∷ rest) (elements_renamed g k.apart k.world v)
+    ∙ ap (λ (all : List (List Notice)). changes number (elements a.world v) (elements c.world v) ∷ all) (notices_alike number g a b c d h k ws)
+
+-- what an effect comes to
+abbrev finished : (number : ℕ) (present : List Bool) → State → StatementTree → Stepped → Result Done Fault
+finished number present s statement x = and_then x (λ after. Ok (done number present s statement after))
+
+abbrev done_of : State → List ℕ → List (List Notice) → List Bool → Result Done Fault
+done_of s text told present = Ok (record { state = s; text = text; told = told; present = present })
+
+-- effects that are alike come to the same
+steps_alike : (number : ℕ) (present : List Bool) (g : ℕ → ℕ) (s t : State) → StateAlike true g s t → (statement : StatementTree) (x y : Stepped) → Both (StepAlike g) x y
+    → finished number present t statement y ≡ finished number present s statement x
+steps_alike number present g s t before statement (Ok (a, text)) (Ok (b, other)) h =
+    let told : notices number t.arrays.world b.arrays.world b.watches ≡ notices number s.arrays.world a.arrays.world a.watches =
+    ap (notices number t.arrays.world b.arrays.world) h.0.watches ∙ notices_alike number g s.arrays t.arrays a.arrays b.arrays before.arrays h.0.arrays a.watches in
+    all_same (tidy_alike g a b h.0) (sym h.1) told
   where
-    pair : State → List ℕ → Stepped
-    pair s t = Ok (s, t)
-steps_alike g (Ok (s, text)) (Err f) h = absurd h
-steps_alike g (Err e) (Ok (t, other)) h = absurd h
-steps_alike g (Err e) (Err f) h = ap fault (sym h)
+    all_same : {u v : State} {xs ys : List ℕ} {ns ms : List (List Notice)} → u ≡ v → xs ≡ ys → ns ≡ ms → done_of u xs ns (left present statement) ≡ done_of v ys ms (left present statement)
+    all_same p q r = cc
+steps_alike number present g s t before statement (Ok (a, text)) (Err f) h = absurd h
+steps_alike number present g s t before statement (Err e) (Ok (b, other)) h = absurd h
+steps_alike number present g s t before statement (Err e) (Err f) h = ap fault (sym h)
   where
-    fault : Fault → Stepped
+    fault : Fault → Result Done Fault
     fault e = Err e
 
 pub steps_are_alike : StepsAlike
-steps_are_alike s statement whole swept =
-    let same : tidied (effect s statement) ≡ tidied (effect (tidy s) statement) =
-    steps_alike (former_numbers s) (effect (tidy s) statement) (effect s statement) (effect_alike (former_numbers s) (tidy s) s (swept_alike s (in_order s whole) swept) statement) in
-    sym same
+steps_are_alike number present s statement whole swept =
+    let g = former_numbers s in
+    let alike : StateAlike true g (tidy s) s = swept_alike s (in_order s whole) swept in
+    sym (steps_alike number present g (tidy s) s alike statement (effect present (tidy s) statement) (effect present s statement) (effect_alike present g (tidy s) s alike statement))
 
 -- what is seen through the tidied state is what was seen
 pub tidying_shows_the_same : TidyingShowsTheSame
@@ -136,19 +163,20 @@ reached_back g apart w hs k (parent_of v p t there r) i same =
 tidied_reached : (s : State) → IsInOrder s → AreAllReached (tidy s)
 tidied_reached s order k d there =
     let g = former_numbers s in
-    let held_is : held s ≡ map g (held (tidy s)) = ap (λ names. map (λ n. n.1) names.arrays) (tidied_alike s order).names ∙ held_renamed g (tidy s).names.arrays in
+    let held_is : held s ≡ map g (held (tidy s)) = held_alike g (tidy s) s (tidied_alike s order) in
     let P : World → Type 0 = λ u. Has u (g k) (with_parent g d) → IsReached u (held s) (g k) in
     let Q : List ℕ → Type 0 = λ hs. IsReached (renamed g (tidy s).arrays.world) hs (g k) in
     let in_renamed = subst P (swept_is s order) (swept_reached s.arrays.world (held s) (g k) (with_parent g d)) (has_renamed g (tidy s).arrays.world k d there) in
     reached_back g (former_apart s order) (tidy s).arrays.world (held (tidy s)) (g k) (subst Q held_is in_renamed) k refl
 
 pub steps_leave_reached : StepsLeaveReached
-steps_leave_reached s after statement printed whole is = by_effect (effect s statement) (effect_in_order s (in_order s whole) statement) is
+steps_leave_reached number present s statement came whole is =
+    by_effect (effect present s statement) (effect_in_order present s (in_order s whole) statement) is
   where
-    state_in : State → Stepped → State
-    state_in other (Ok p) = p.0
+    state_in : State → Result Done Fault → State
+    state_in other (Ok d) = d.state
     state_in other (Err e) = other
 
-    by_effect : (x : Stepped) → IfOk x (λ t. IsInOrder t.0) → tidied x ≡ Ok (after, printed) → AreAllReached after
-    by_effect (Ok (t, text)) order is = let e : tidy t ≡ after = ap (state_in after) is in subst AreAllReached e (tidied_reached t order)
+    by_effect : (x : Stepped) → IfOk x (λ t. IsInOrder t.0) → finished number present s statement x ≡ Ok came → AreAllReached came.state
+    by_effect (Ok (t, text)) order is = let e : tidy t ≡ came.state = ap (state_in came.state) is in subst AreAllReached e (tidied_reached t order)
     by_effect (Err f) order is = cc

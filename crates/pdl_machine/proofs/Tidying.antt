@@ -1,6 +1,6 @@
 -- States that differ in numbers, and in arrays that only one has, are the same once they are tidied.
-use Rattle.std.proofs.Common.{◌≡◌, ◌≢◌, ℕ, suc, List, [], ◌∷◌, ◌++◌, length, map, Bool, true, false, refl, sym, ap, subst, ◌∙◌, eqb-true}
-use Rattle.std.specs.Prelude.{◌==◌, ◌||◌, if◌then◌else◌}
+use Rattle.std.proofs.Common.{◌≡◌, ◌≢◌, ℕ, suc, List, [], ◌∷◌, ◌++◌, length, map, Bool, true, false, Some, None, refl, sym, ap, subst, ◌∙◌, eqb-true}
+use Rattle.std.specs.Prelude.{◌==◌, ◌||◌, if◌then◌else◌, option_map}
 use Rattle.pdl_lemmas.specs.Tests.{by_test}
 use Rattle.pdl_world.specs.World.{World, ArrayDef, root, view}
 use Rattle.pdl_kernel.specs.Kernels.{Kernel}
@@ -9,6 +9,9 @@ use Rattle.pdl_machine.specs.State.{State, held}
 use Rattle.pdl_machine.specs.Laws.{LettingGoUnseen, SweepsByFewer}
 use Rattle.pdl_world.specs.Swept.{holds, parents, kept_onto, sweep}
 use Rattle.pdl_machine.specs.Tidy.{older, with_parent, renumber, renumbered, with_numbers, tidy}
+use Rattle.std.proofs.lemmas.List.{map-append}
+use Rattle.pdl_machine.specs.Watches.{Watches, attached}
+use Rattle.pdl_machine.proofs.WatchLemmas.{attached_renamed}
 use Rattle.pdl_machine.proofs.Renamed.{IsApart, same_test, Renames, empty, more, same, StateAlike}
 
 -- a world under other numbers
@@ -80,8 +83,23 @@ pub held_renamed : (g : ℕ → ℕ) (names : Named ℕ) → map (λ n. n.1) (re
 held_renamed g [] = refl
 held_renamed g (n ∷ names) = ap (λ rest. g n.1 ∷ rest) (held_renamed g names)
 
-abbrev pub state_of : Names → World → ℕ → State
-state_of names w n = record { names = names; arrays = record { world = w; next = n } }
+-- and all that a state holds
+pub held_alike : {all : Bool} (g : ℕ → ℕ) (s t : State) → StateAlike all g s t → held t ≡ map g (held s)
+held_alike g s t h =
+    ap (λ (vs : List ℕ). vs ++ attached t.watches) (ap (λ (names : Names). map (λ n. n.1) names.arrays) h.names ∙ held_renamed g s.names.arrays)
+    ∙ ap (λ (ws : Watches). map g (map (λ n. n.1) s.names.arrays) ++ attached ws) h.watches
+    ∙ ap (λ (vs : List ℕ). map g (map (λ n. n.1) s.names.arrays) ++ vs) (attached_renamed g s.watches)
+    ∙ sym (map-append g (map (λ n. n.1) s.names.arrays) (attached s.watches))
+
+watches_renamed : (g : ℕ → ℕ) → IsApart g → (w : World) (ws : Watches) → map (option_map (older (renamed g w))) (map (option_map g) ws) ≡ map (option_map (older w)) ws
+watches_renamed g apart w [] = refl
+watches_renamed g apart w (None ∷ ws) = ap (λ (us : Watches). None ∷ us) (watches_renamed g apart w ws)
+watches_renamed g apart w (Some v ∷ ws) =
+    ap (λ (u : ℕ). Some u ∷ map (option_map (older (renamed g w))) (map (option_map g) ws)) (older_renamed g apart w v)
+    ∙ ap (λ (us : Watches). Some (older w v) ∷ us) (watches_renamed g apart w ws)
+
+abbrev pub state_of : Names → World → ℕ → Watches → State
+state_of names w n ws = record { names = names; arrays = record { world = w; next = n }; watches = ws }
 
 -- arrays' names beside kernels
 abbrev beside : Named Kernel → Named ℕ → Names
@@ -92,16 +110,18 @@ pub tidy_alike : {all : Bool} (g : ℕ → ℕ) (s t : State) → StateAlike all
 tidy_alike g s t h =
     let apart : IsApart g = h.arrays.apart in
     let u : World = sweep s.arrays.world (held s) in
-    let held_same : held t ≡ map g (held s) = ap (λ names. map (λ n. n.1) names.arrays) h.names ∙ held_renamed g s.names.arrays in
+    let held_same : held t ≡ map g (held s) = held_alike g s t h in
     let swept : sweep t.arrays.world (held t) ≡ renamed g u = ap (sweep t.arrays.world) held_same ∙ sweep_renamed g apart h.arrays.world (held s) in
     let names : with_numbers (older (sweep t.arrays.world (held t))) t.names ≡ with_numbers (older u) s.names =
     ap (λ w. with_numbers (older w) t.names) swept ∙ ap (with_numbers (older (renamed g u))) h.names ∙ ap (beside s.names.kernels) (names_renamed g apart u s.names.arrays) in
     let world : renumber (sweep t.arrays.world (held t)) ≡ renumber u = ap renumber swept ∙ renumber_renamed g apart u in
     let next : length (sweep t.arrays.world (held t)) ≡ length u = ap length swept ∙ length-renamed g u in
-    all_same names world next
+    let watches : map (option_map (older (sweep t.arrays.world (held t)))) t.watches ≡ map (option_map (older u)) s.watches =
+    ap (λ (w : World). map (option_map (older w)) t.watches) swept ∙ ap (λ (ws : Watches). map (option_map (older (renamed g u))) ws) h.watches ∙ watches_renamed g apart u s.watches in
+    all_same names world next watches
   where
-    all_same : {n m : Names} {w x : World} {k l : ℕ} → n ≡ m → w ≡ x → k ≡ l → state_of n w k ≡ state_of m x l
-    all_same p q r = cc
+    all_same : {n m : Names} {w x : World} {k l : ℕ} {ws xs : Watches} → n ≡ m → w ≡ x → k ≡ l → ws ≡ xs → state_of n w k ws ≡ state_of m x l xs
+    all_same p q r o = cc
 
 -- a sweep by fewer after a sweep by more is the sweep by fewer
 pub sweep_again : SweepsByFewer
@@ -127,7 +147,7 @@ sweep_again ((k, d) ∷ w) many few h = by_keeps (λ m f i. sweep_again w m f i)
     by_keeps rest false false a b = rest many few h
 
 abbrev numbered_by : State → World → State
-numbered_by s w = state_of (with_numbers (older w) s.names) (renumber w) (length w)
+numbered_by s w = state_of (with_numbers (older w) s.names) (renumber w) (length w) (map (option_map (older w)) s.watches)
 
 pub letting_go_is_unseen : LettingGoUnseen
 letting_go_is_unseen = λ s many h. ap (numbered_by s) (sweep_again s.arrays.world many (held s) h)

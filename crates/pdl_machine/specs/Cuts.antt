@@ -1,11 +1,14 @@
 -- Arrays that become roots: cut from their parents, or of other dimensions
 -- (PDL::Core: sever, reshape).
-use Rattle.std.specs.Prelude.{ℕ, List, if◌then◌else◌, Result, Ok, Err}
+use Rattle.std.specs.Prelude.{ℕ, List, Bool, ◌||◌, if◌then◌else◌, Result, Ok, Err}
+use Rattle.pdl_world.specs.World.{World}
 use Rattle.pdl_world.specs.Cut.{sever, has_views, reshape}
+use Rattle.pdl_world.specs.Swept.{holds}
 use Rattle.pdl_machine.specs.declared.fault.Fault.{Fault}
 use Rattle.pdl_machine.specs.declared.fault.Fault.TheVariants.{StillConnected}
 use Rattle.pdl_machine.specs.Then.{and_then}
 use Rattle.pdl_machine.specs.Arrays.{Arrays}
+use Rattle.pdl_machine.specs.Watches.{Watches, attached}
 use Rattle.pdl_machine.specs.Fills.{numbers_in, dims_for}
 use Rattle.pdl_machine.specs.Outcome.{Given, Valued, all_seen}
 
@@ -21,7 +24,11 @@ severed valued = and_then valued (λ v. Ok (cut v.0 v.1, v.1))
 abbrev pub dims_given : Arrays × List Given → Result (List ℕ) Fault
 dims_given t = and_then (numbers_in (all_seen t.0 t.1)) dims_for
 
--- the arrays after this one got other dimensions, which one with views is refused
-abbrev pub reshaped : Arrays → ℕ → List ℕ → Result Arrays Fault
-reshaped a v ds = if has_views a.world v then Err StillConnected
+-- whether an array is a view of this one, or a watcher is attached to it
+abbrev pub is_connected : Watches → World → ℕ → Bool
+is_connected watches w v = has_views w v || holds (attached watches) v
+
+-- the arrays after this one got other dimensions, which one that is connected is refused
+abbrev pub reshaped : Watches → Arrays → ℕ → List ℕ → Result Arrays Fault
+reshaped watches a v ds = if is_connected watches a.world v then Err StillConnected
     else Ok (record a { world = reshape a.world v ds })

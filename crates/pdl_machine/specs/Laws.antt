@@ -1,20 +1,22 @@
 -- What holds of every step, whatever numbers its arrays have.
-use Rattle.std.specs.Prelude.{◌≡◌, ℕ, true, List, ◌++◌, Option, option_map, Ok}
+use Rattle.std.specs.Prelude.{◌≡◌, ℕ, Bool, true, List, ◌++◌, Option, option_map, Ok}
 use Rattle.pdl_buf.specs.declared.made.Made.{Made}
 use Rattle.pdl_world.specs.World.{World, ArrayDef}
 use Rattle.pdl_world.specs.Sound.{IsSound}
 use Rattle.pdl_world.specs.Swept.{holds, sweep, Has, IsReached}
-use Rattle.pdl_syntax.specs.StatementTree.{StatementTree}
+use Rattle.pdl_syntax.specs.StatementTree.{StatementTree, assign}
+use Rattle.pdl_watch.specs.Slots.{IsQuiet, IsBelow}
 use Rattle.pdl_machine.specs.Names.{number_of}
 use Rattle.pdl_machine.specs.Arrays.{Arrays, array_in}
 use Rattle.pdl_machine.specs.State.{State, with_arrays, with_world, held, IsSwept, AreLive, IsWhole}
 use Rattle.pdl_machine.specs.Tidy.{tidy}
-use Rattle.pdl_machine.specs.Step.{step}
+use Rattle.pdl_machine.specs.Watches.{Watches, attached, AreThere, notices}
+use Rattle.pdl_machine.specs.Step.{Done, effect, step}
 
 -- where nothing is left over, a step from the renumbered state is the step
 abbrev pub StepsAlike : Type 0
-StepsAlike = (s : State) (statement : StatementTree) → IsWhole s → IsSwept s →
-    step (tidy s) statement ≡ step s statement
+StepsAlike = (number : ℕ) (present : List Bool) (s : State) (statement : StatementTree) →
+    IsWhole s → IsSwept s → step number present (tidy s) statement ≡ step number present s statement
 
 -- nothing but new arrays came
 pub record AreGrown (old new : Arrays) : Type 0 where
@@ -45,8 +47,9 @@ AreAllReached s = (k : ℕ) (d : ArrayDef) → Has s.arrays.world k d →
 
 -- after a step each array that is left is reached
 abbrev pub StepsLeaveReached : Type 0
-StepsLeaveReached = (s after : State) (statement : StatementTree) (printed : List ℕ) → IsWhole s →
-    step s statement ≡ Ok (after, printed) → AreAllReached after
+StepsLeaveReached = (number : ℕ) (present : List Bool) (s : State) (statement : StatementTree)
+    (done : Done) → IsWhole s →
+    step number present s statement ≡ Ok done → AreAllReached done.state
 
 -- what a name shows, if it is bound
 abbrev pub shown_by : State → List ℕ → Option Made
@@ -55,3 +58,32 @@ shown_by s x = option_map (array_in s.arrays) (number_of s.names x)
 -- letting arrays go and numbering the others anew changes nothing that a name shows
 abbrev pub TidyingShowsTheSame : Type 0
 TidyingShowsTheSame = (s : State) (x : List ℕ) → IsWhole s → shown_by (tidy s) x ≡ shown_by s x
+
+-- a statement that assigns
+abbrev pub Assigns : StatementTree → Type 0
+Assigns (assign x views sign e) = Unit {0}
+Assigns _ = ⊥
+
+-- watchers are told of assignments alone: of any other statement each slot has no notices
+abbrev pub OnlyAssignmentsTell : Type 0
+OnlyAssignmentsTell = (number : ℕ) (present : List Bool) (s : State) (statement : StatementTree)
+    (after : State × List ℕ) → IsWhole s → (Assigns statement → ⊥) →
+    effect present s statement ≡ Ok after →
+    IsQuiet (notices number s.arrays.world after.0.arrays.world after.0.watches)
+
+-- what slots are told doesn't depend on new arrays that came before the change
+abbrev pub GrowingTellsTheSame : Type 0
+GrowingTellsTheSame = (number : ℕ) (old mid : Arrays) (new : World) (ws : Watches) →
+    AreGrown old mid → IsSound mid.world → AreLive old.world (attached ws) →
+    notices number mid.world new ws ≡ notices number old.world new ws
+
+-- after a step each attached slot has a watcher, where it was so before
+abbrev pub StepsKeepThere : Type 0
+StepsKeepThere = (number : ℕ) (present : List Bool) (s : State) (statement : StatementTree)
+    (done : Done) → AreThere present s.watches →
+    step number present s statement ≡ Ok done → AreThere done.present done.state.watches
+
+-- a step gives no slot a watcher
+abbrev pub StepsGiveNone : Type 0
+StepsGiveNone = (number : ℕ) (present : List Bool) (s : State) (statement : StatementTree)
+    (done : Done) → step number present s statement ≡ Ok done → IsBelow done.present present

@@ -6,6 +6,7 @@ pub mod Arrays
 pub mod Outcome
 pub mod Kernels
 pub mod Names
+pub mod Watches
 pub mod State
 pub mod Fills
 pub mod Cuts
@@ -20,6 +21,7 @@ pub mod Step
 pub mod Laws
 pub mod Worked
 pub mod WorkedCuts
+pub mod WorkedWatches
 pub mod Parsed
 pub mod Run
 pub mod StatementMeaning

@@ -1,4 +1,5 @@
--- A run: the steps by a script's statements in order, and all that is printed.
+-- A run: the steps by a script's statements in order, all that is printed, and all that watchers are
+-- told.
 use Rattle.std.specs.Prelude.{ℕ, List, [], ◌∷◌, ◌++◌, length, map, nat_lt, Bool, true, false, not, Result, Ok, Err, codes, decimal, if◌then◌else◌}
 use Rattle.pdl_lex.specs.declared.Token.{Token}
 use Rattle.pdl_lex.specs.declared.LexFault.{LexFault}
@@ -6,6 +7,9 @@ use Rattle.pdl_lex.specs.declared.Piece.TheVariants.{Whole, TooLong}
 use Rattle.pdl_lex.specs.Limits.{script_limit}
 use Rattle.pdl_lex.specs.Tokens.{toks}
 use Rattle.pdl_lex.specs.Pieces.{Mark, statement, script_too_long, settled, script_marks}
+use Rattle.pdl_io.specs.Counts.{next_count}
+use Rattle.pdl_watch.specs.declared.notice.Notice.{Notice}
+use Rattle.pdl_watch.specs.Slots.{joined}
 use Rattle.pdl_machine.specs.declared.fault.Fault.{Fault}
 use Rattle.pdl_machine.specs.declared.fault.Fault.TheVariants.{Syntax, StatementTooLong, ScriptTooLong}
 use Rattle.pdl_machine.specs.Fault.{text_of}
@@ -13,7 +17,7 @@ use Rattle.pdl_syntax.specs.StatementTree.{StatementTree}
 use Rattle.pdl_syntax.specs.Parsed.{parsed}
 use Rattle.pdl_machine.specs.Parsed.{as_read}
 use Rattle.pdl_machine.specs.State.{State, no_names}
-use Rattle.pdl_machine.specs.Step.{Stepped, step, newline}
+use Rattle.pdl_machine.specs.Step.{Done, step, newline}
 
 abbrev pub reads_tokens : List ℕ → Result (List Token) LexFault → Result StatementTree Fault
 reads_tokens text (Err e) = Err Syntax
@@ -23,27 +27,38 @@ reads_tokens text (Ok tokens) = as_read (parsed text tokens)
 abbrev pub reads : (text : List ℕ) → Result StatementTree Fault
 reads text = reads_tokens text (toks text)
 
--- How far a run has come: the state, all that was printed, whether a fault came, and
--- whether one has ended it.
+-- What a run is given: whether it goes on after the fault of a statement, and which slots have a
+-- watcher.
+pub record Terms : Type 0 where
+  pub keep : Bool
+  pub present : List Bool
+
+-- How far a run has come: the state, all that was printed, whether a fault came, and whether one has
+-- ended it; how many statements there were, a count that stays at 2^64 - 1; all notices of each slot;
+-- and which slots have a watcher still.
 pub record Progress : Type 0 where
   pub state : State
   pub printed : List ℕ
   pub faulted : Bool
   pub ended : Bool
+  pub count : ℕ
+  pub told : List (List Notice)
+  pub present : List Bool
 
 -- the line that names a fault, with the line of the statement's first byte
 abbrev pub fault_line : (line : ℕ) → Fault → List ℕ
 fault_line line e = codes "pdl: line " ++ decimal line ++ codes ": " ++ text_of e ++ newline
 
-abbrev pub step_read : State → Result StatementTree Fault → Stepped
-step_read s (Err e) = Err e
-step_read s (Ok tree) = step s tree
+abbrev pub step_read : (number : ℕ) → (present : List Bool) → State → Result StatementTree Fault →
+    Result Done Fault
+step_read number present s (Err e) = Err e
+step_read number present s (Ok tree) = step number present s tree
 
--- what a statement comes to from a state: a new state and its text, or a fault
-abbrev pub mark_step : State → Mark → Stepped
-mark_step s (statement (Whole cut)) = step_read s (reads cut.text)
-mark_step s (statement (TooLong line)) = Err StatementTooLong
-mark_step s (script_too_long line) = Err ScriptTooLong
+-- what the statement of this number comes to from a state, or its fault
+abbrev pub mark_step : (number : ℕ) → (present : List Bool) → State → Mark → Result Done Fault
+mark_step number present s (statement (Whole cut)) = step_read number present s (reads cut.text)
+mark_step number present s (statement (TooLong line)) = Err StatementTooLong
+mark_step number present s (script_too_long line) = Err ScriptTooLong
 
 -- the line on which a statement begins, or on which the script is too long
 abbrev pub line_of : Mark → ℕ
@@ -57,32 +72,54 @@ fault_ends keep (statement piece) = not keep
 fault_ends keep (script_too_long line) = true
 
 -- what a statement of this line prints: its text, or the line of its fault
-abbrev pub text_after : (line : ℕ) → Stepped → List ℕ
-text_after line (Ok (s, text)) = text
+abbrev pub text_after : (line : ℕ) → Result Done Fault → List ℕ
+text_after line (Ok done) = done.text
 text_after line (Err e) = fault_line line e
+
+-- with one statement more, a count that stays at 2^64 - 1
+abbrev pub counted : Progress → Progress
+counted p = record p { count = next_count p.count }
 
 -- the progress after a statement of this line; a fault leaves the state as it was, and ends the
 -- run where it does that
-abbrev pub after : (ends : Bool) → Progress → (line : ℕ) → Stepped → Progress
-after ends p line (Ok (s, text)) = record p { state = s; printed = p.printed ++ text }
+abbrev pub after : (ends : Bool) → Progress → (line : ℕ) → Result Done Fault → Progress
+after ends p line (Ok done) = record p {
+  state = done.state;
+  printed = p.printed ++ done.text;
+  told = joined p.told done.told;
+  present = done.present;
+}
 after ends p line (Err e) =
     record p { printed = p.printed ++ fault_line line e; faulted = true; ended = ends }
 
-abbrev pub after_mark : (keep : Bool) → Progress → Mark → Progress
-after_mark keep p m = after (fault_ends keep m) p (line_of m) (mark_step p.state m)
+-- what the next statement comes to: its number is the count with it
+abbrev pub next_step : Progress → Mark → Result Done Fault
+next_step p m = mark_step (next_count p.count) p.present p.state m
+
+abbrev pub after_mark : Terms → Progress → Mark → Progress
+after_mark terms p m = after (fault_ends terms.keep m) (counted p) (line_of m) (next_step p m)
 
 -- the progress after these statements, or after the fault that ends the run
-abbrev pub after_marks : (keep : Bool) → Progress → List Mark → Progress
-after_marks keep p [] = p
-after_marks keep p (m ∷ ms) = if p.ended then p else after_marks keep (after_mark keep p m) ms
+abbrev pub after_marks : Terms → Progress → List Mark → Progress
+after_marks terms p [] = p
+after_marks terms p (m ∷ ms) =
+    if p.ended then p else after_marks terms (after_mark terms p m) ms
 
 -- a run before its first statement
-abbrev pub start : Progress
-start = record { state = no_names; printed = []; faulted = false; ended = false }
+abbrev pub start : Terms → Progress
+start terms = record {
+  state = no_names;
+  printed = [];
+  faulted = false;
+  ended = false;
+  count = 0;
+  told = [];
+  present = terms.present;
+}
 
--- the run of a script; `keep` says that it goes on after a statement's fault
-abbrev pub run : (keep : Bool) → (script : List ℕ) → Progress
-run keep script = after_marks keep start (script_marks script)
+-- the run of a script
+abbrev pub run : Terms → (script : List ℕ) → Progress
+run terms script = after_marks terms (start terms) (script_marks script)
 
 -- the statements that these bytes settle, whatever follows them
 abbrev pub settled_marks : (bytes : List ℕ) → List Mark
@@ -90,5 +127,5 @@ settled_marks bytes = if nat_lt script_limit (length bytes) then script_marks by
     else map statement (settled bytes)
 
 -- how far a run has come by these bytes
-abbrev pub so_far : (keep : Bool) → (bytes : List ℕ) → Progress
-so_far keep bytes = after_marks keep start (settled_marks bytes)
+abbrev pub so_far : Terms → (bytes : List ℕ) → Progress
+so_far terms bytes = after_marks terms (start terms) (settled_marks bytes)

@@ -1,5 +1,5 @@
--- One step: what a statement does to a state, and what it prints.
-use Rattle.std.specs.Prelude.{ℕ, List, [], ◌∷◌, ◌++◌, length, fold, Bool, true, false, Result, Ok, Err, codes}
+-- One step: what a statement does to a state, what it prints, and what watchers are told.
+use Rattle.std.specs.Prelude.{ℕ, List, [], ◌∷◌, ◌++◌, length, fold, slice_set, Bool, true, false, Result, Ok, Err, codes}
 use Rattle.std.specs.List.{flat_map}
 use Rattle.pdl_buf.specs.declared.made.Made.{Made}
 use Rattle.pdl_world.specs.World.{assign as assign_in}
@@ -7,12 +7,14 @@ use Rattle.pdl_print.specs.Printed.{array_text, info}
 use Rattle.pdl_lexemes.specs.declared.AssignOp.{AssignOp}
 use Rattle.pdl_syntax.specs.Tree.{Tree, Args, named, call, none, value, text, of_type}
 use Rattle.pdl_syntax.specs.StatementTree.{StatementTree, View, bind, bind_list, assign, show, show_text, sever, reshape, undef, vars, pp_def, watch, unwatch}
+use Rattle.pdl_watch.specs.declared.notice.Notice.{Notice}
 use Rattle.pdl_machine.specs.declared.fault.Fault.{Fault}
 use Rattle.pdl_machine.specs.declared.fault.Fault.TheVariants.{Syntax}
 use Rattle.pdl_machine.specs.Then.{and_then}
 use Rattle.pdl_machine.specs.Names.{bind as bind_name, unbind, bound_to, define}
 use Rattle.pdl_machine.specs.Arrays.{Arrays, array_in}
 use Rattle.pdl_machine.specs.State.{State, with_arrays}
+use Rattle.pdl_machine.specs.Watches.{attaching, detaching, notices}
 use Rattle.pdl_machine.specs.Outcome.{Given, Valued, all_seen, new_root}
 use Rattle.pdl_machine.specs.Operators.{values_for}
 use Rattle.pdl_kernel.specs.Kernels.{Kernel}
@@ -110,34 +112,64 @@ severing s v = Ok (with_arrays s (cut s.arrays v), [])
 abbrev pub reshaping : State → ℕ → Arrays × List Given → Stepped
 reshaping s v t =
     and_then (dims_given t) (λ ds.
-    and_then (reshaped t.0 v ds) (λ a. Ok (with_arrays s a, [])))
+    and_then (reshaped s.watches t.0 v ds) (λ a. Ok (with_arrays s a, [])))
 
--- forms of statements that aren't built: each of them is a syntax error
-abbrev pub not_built : Stepped
-not_built = Err Syntax
+-- the watcher of a slot attached to an array, which is no change of it
+abbrev pub watching : (present : List Bool) → State → (slot : ℕ) → (v : ℕ) → Stepped
+watching present s slot v = and_then (attaching present s.watches slot v) (λ watches.
+    Ok (record s { watches = watches }, []))
 
--- what a statement does before the arrays that nothing reaches are let go
-abbrev pub effect : State → StatementTree → Stepped
-effect s (bind x e false) = bound s x (value_in s e)
-effect s (bind x e true) = bound s x (severed (value_in s e))
-effect s (bind_list xs e) = several_bound s xs e
-effect s (assign x views sign e) = assigning s (target x views) sign e
-effect s (show e is_info) = and_then (value_in s e) (λ v. Ok (after_printing s is_info v))
-effect s (show_text t) = Ok (s, t ++ newline)
-effect s (sever x) = and_then (bound_to s.names x) (severing s)
-effect s (reshape x sizes) =
+-- the watcher of a slot not attached any more
+abbrev pub unwatching : State → (slot : ℕ) → Stepped
+unwatching s slot = and_then (detaching s.watches slot) (λ watches.
+    Ok (record s { watches = watches }, []))
+
+-- what a statement does before the arrays that nothing reaches are let go; `present` says which
+-- slots have a watcher
+abbrev pub effect : (present : List Bool) → State → StatementTree → Stepped
+effect present s (bind x e false) = bound s x (value_in s e)
+effect present s (bind x e true) = bound s x (severed (value_in s e))
+effect present s (bind_list xs e) = several_bound s xs e
+effect present s (assign x views sign e) = assigning s (target x views) sign e
+effect present s (show e is_info) = and_then (value_in s e) (λ v. Ok (after_printing s is_info v))
+effect present s (show_text t) = Ok (s, t ++ newline)
+effect present s (sever x) = and_then (bound_to s.names x) (severing s)
+effect present s (reshape x sizes) =
     and_then (bound_to s.names x) (λ v.
     and_then (taken s.names s.arrays sizes) (reshaping s v))
-effect s (undef x) = and_then (unbind s.names x) (λ names. Ok (record s { names = names }, []))
-effect s vars = Ok (s, flat_map (name_line s.arrays) s.names.arrays)
-effect s (pp_def f signature code) = and_then (defined f signature code) (kernel_named s f)
-effect s (watch x slot) = not_built
-effect s (unwatch slot) = not_built
+effect present s (undef x) =
+    and_then (unbind s.names x) (λ names. Ok (record s { names = names }, []))
+effect present s vars = Ok (s, flat_map (name_line s.arrays) s.names.arrays)
+effect present s (pp_def f signature code) = and_then (defined f signature code) (kernel_named s f)
+effect present s (watch x slot) = and_then (bound_to s.names x) (watching present s slot)
+effect present s (unwatch slot) = unwatching s slot
 
-abbrev pub tidied : Stepped → Stepped
-tidied stepped = and_then stepped (λ after. Ok (tidy after.0, after.1))
+-- which slots have a watcher after a statement: `unwatch` takes the one of its slot
+abbrev pub left : (present : List Bool) → StatementTree → List Bool
+left present (unwatch slot) = slice_set present slot false
+left present _ = present
 
--- one step: the state after the statement and what it prints, or the fault that
--- leaves the state as it was
-abbrev pub step : State → StatementTree → Stepped
-step s statement = tidied (effect s statement)
+-- What a statement comes to: the state, what is printed, the notices of each slot, and which slots
+-- have a watcher then.
+pub record Done : Type 0 where
+  pub state : State
+  pub text : List ℕ
+  pub told : List (List Notice)
+  pub present : List Bool
+
+-- what the effect of a statement comes to: notices are of the arrays before they are numbered
+-- anew, and of the slots that are attached after it
+abbrev pub done : (number : ℕ) → (present : List Bool) → State → StatementTree → State × List ℕ →
+    Done
+done number present s statement after = record {
+  state = tidy after.0;
+  text = after.1;
+  told = notices number s.arrays.world after.0.arrays.world after.0.watches;
+  present = left present statement;
+}
+
+-- one step by the statement of this number: what it comes to, or the fault that leaves the state
+-- as it was
+abbrev pub step : (number : ℕ) → (present : List Bool) → State → StatementTree → Result Done Fault
+step number present s statement =
+    and_then (effect present s statement) (λ after. Ok (done number present s statement after))

@@ -1,5 +1,5 @@
 -- What is left of a state after a statement: the arrays that it reaches, numbered anew.
-use Rattle.std.specs.Prelude.{ℕ, ◌==◌, [], ◌∷◌, length, if◌then◌else◌}
+use Rattle.std.specs.Prelude.{ℕ, ◌==◌, [], ◌∷◌, map, length, option_map, if◌then◌else◌}
 use Rattle.pdl_world.specs.World.{World, ArrayDef, root, view}
 use Rattle.pdl_machine.specs.Names.{Named, Names}
 use Rattle.pdl_machine.specs.State.{State, with_arrays, kept}
@@ -29,7 +29,8 @@ with_numbers f names = record names { arrays = renumbered f names.arrays }
 
 -- the state with other numbers in all that names arrays
 abbrev pub map_numbers : (ℕ → ℕ) → State → State
-map_numbers f s = record s { names = with_numbers f s.names }
+map_numbers f s =
+    record s { names = with_numbers f s.names; watches = map (option_map f) s.watches }
 
 -- a state whose arrays are these, numbered anew
 abbrev pub numbered : State → World → State

@@ -9,12 +9,11 @@ use Rattle.pdl_syntax.specs.StatementTree.{StatementTree, bind, assign, sever, r
 use Rattle.pdl_machine.specs.declared.fault.Fault.{Fault}
 use Rattle.pdl_machine.specs.declared.fault.Fault.TheVariants.{UnknownName, WrongArguments, BadDimension, TooManyDims, TooLarge, StillConnected}
 use Rattle.pdl_machine.specs.Then.{and_then}
-use Rattle.pdl_machine.specs.State.{no_names}
 use Rattle.pdl_machine.specs.Worked.{after_all, shown_after, sequence_to, sliced}
 
 -- how many arrays there are after statements
 abbrev pub live_after : List StatementTree → Result ℕ Fault
-live_after xs = and_then (after_all no_names xs) (λ s. Ok (length s.arrays.world))
+live_after xs = and_then (after_all xs) (λ s. Ok (length s.arrays.world))
 
 -- a long array
 abbrev pub long_array : (dims : List ℕ) → (elems : List ℤ) → Option Made

@@ -5,7 +5,7 @@ ghost use Rattle.pdl_machine.specs.Fault.{text_of};
 /// Why a statement or a script was refused, in the order of their numbers from 1.
 #[derive(Clone, Copy, PartialEq, Eq, Debug)]
 pub enum Fault {
-    /// The text isn't a statement, or one of a form that isn't built.
+    /// The text isn't a statement.
     Syntax,
     /// A statement's text has more than 65,536 bytes.
     StatementTooLong,
@@ -50,9 +50,9 @@ pub enum Fault {
     BadKernel,
     /// One call would do too much work.
     TooMuchWork,
-    /// The array still has views.
+    /// The array still has views, or is watched.
     StillConnected,
-    /// There is no such watcher to attach or to finish.
+    /// A slot that has no watcher, or is attached already; or, to finish one, that isn't attached.
     BadWatcher,
 }
 

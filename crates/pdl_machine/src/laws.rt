@@ -1,7 +1,11 @@
 //! Laws of the machine.
 ghost use Rattle.pdl_machine.specs.Worked.{ASliceIsWrittenThrough, ASliceEndsWithin};
 ghost use Rattle.pdl_machine.specs.WorkedCuts.{ACutTakesItsViews, ACutGivesPlaces, ACutPartsAClump, ABindingCutsTheArray, ANameIsGivenUp, OtherDimensions, OtherDimensionsAreRefused};
+ghost use Rattle.pdl_machine.specs.WorkedWatches.{AViewTells, AWatchKeepsItsArray, ASlotIsGivenUp, WatchersAreRefused};
 ghost use Rattle.pdl_machine.specs.Laws.{StepsAlike, NewArraysUnseen, LettingGoUnseen, SweepsByFewer, StepsLeaveReached, TidyingShowsTheSame};
+ghost use Rattle.pdl_machine.specs.Laws.{OnlyAssignmentsTell, GrowingTellsTheSame, StepsGiveNone, StepsKeepThere};
+
+use pdl_world::{cut_laws, growth_laws, reshape_laws};
 
 /// The laws of numbers and of arrays that nothing reaches. Where nothing is left over, a step from
 /// the renumbered state is the step (`alike`): so code may number its arrays as it likes. New arrays
@@ -17,7 +21,7 @@ pub fn numbering_laws()
     ensures again { SweepsByFewer }
 {}
 
-/// The laws of the arrays that a step keeps: each of them is reached from a name, directly or
+/// The laws of the arrays that a step keeps: each of them is reached from a name or a watch, directly or
 /// through views, and letting the others go changes nothing that a name
 /// shows. The call does nothing when it runs.
 pub fn reaching_laws()
@@ -42,3 +46,26 @@ pub fn worked_cuts()
     ensures dimensions { OtherDimensions }
     ensures refused { OtherDimensionsAreRefused }
 {}
+
+/// Scripts of watchers, worked by hand: what each slot is told, which arrays stay for them, and
+/// each refusal. The call does nothing when it runs.
+pub fn worked_watches()
+    ensures view { AViewTells }
+    ensures kept { AWatchKeepsItsArray }
+    ensures given_up { ASlotIsGivenUp }
+    ensures refused { WatchersAreRefused }
+{}
+
+/// The laws of watchers. Only an assignment tells them anything
+/// (`assignments`), and new arrays that come before its change are not seen in that (`growing`). A step gives no slot a watcher (`none_comes`), and where each attached slot has
+/// one before a step, so it is after it (`there`). The call does nothing when it runs.
+pub fn watching_laws()
+    ensures assignments { OnlyAssignmentsTell }
+    ensures growing { GrowingTellsTheSame }
+    ensures none_comes { StepsGiveNone }
+    ensures there { StepsKeepThere }
+{
+    growth_laws();
+    cut_laws();
+    reshape_laws()
+}

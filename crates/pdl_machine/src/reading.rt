@@ -1,6 +1,6 @@
 //! Laws of what a text is read as, and of runs.
 ghost use Rattle.pdl_machine.specs.StatementMeaning.{ReadsItsMeaning, MeansOneThing};
-ghost use Rattle.pdl_machine.specs.RunLaws.{EndedStays, PrintedStays, FaultStays, GoesOn, FirstFaultEnds, EndedByAFault, TooLongEnds, LimitEnds, SoFarIsAFront, SoFarIsPrinted, SoFarGrows, SoFarIsAll};
+ghost use Rattle.pdl_machine.specs.RunLaws.{EndedStays, PrintedStays, ToldStays, EachIsCounted, NoticesAreNumbered, NoneComes, NoneComesInARun, StayThere, AreThereInARun, FaultStays, GoesOn, FirstFaultEnds, EndedByAFault, TooLongEnds, LimitEnds, SoFarIsAFront, SoFarIsPrinted, SoFarIsTold, SoFarGrows, SoFarIsAll};
 
 use pdl_lex::settled_laws;
 use pdl_syntax::parsing_is_the_grammar;
@@ -16,10 +16,20 @@ pub fn reads_law()
 
 /// The laws of runs: a fault that ends a run ends it, and nothing else does; what was
 /// printed stays, a fault that came is remembered, and only the bytes up to the one past the limit
-/// of a script count. The call does nothing when it runs.
+/// of a script count. What watchers were told stays too (`told`). Each statement is counted
+/// (`counted`), and its notices have that number (`numbered`). No slot gets a watcher
+/// (`none_comes`, `none_in_a_run`), and each that is attached has one (`there`, `there_in_a_run`).
+/// The call does nothing when it runs.
 pub fn run_laws()
     ensures ended { EndedStays }
     ensures printed { PrintedStays }
+    ensures told { ToldStays }
+    ensures counted { EachIsCounted }
+    ensures numbered { NoticesAreNumbered }
+    ensures none_comes { NoneComes }
+    ensures none_in_a_run { NoneComesInARun }
+    ensures there { StayThere }
+    ensures there_in_a_run { AreThereInARun }
     ensures faulted { FaultStays }
     ensures goes_on { GoesOn }
     ensures first_fault { FirstFaultEnds }
@@ -30,11 +40,13 @@ pub fn run_laws()
 
 /// How far a run has come by the first bytes of a script: whatever bytes follow, it goes on
 /// from there (`goes_on`), and what it has printed by then is the front of all that it prints
-/// (`printed`); more bytes carry it on from there (`grows`), and bytes that settle all of their
-/// statements run to their end (`all`). The call does nothing when it runs.
+/// (`printed`), and what watchers were told by then is the front of all of it (`told`); more bytes
+/// carry it on from there (`grows`), and bytes that settle all of their statements run to their
+/// end (`all`). The call does nothing when it runs.
 pub fn so_far_laws()
     ensures goes_on { SoFarIsAFront }
     ensures printed { SoFarIsPrinted }
+    ensures told { SoFarIsTold }
     ensures grows { SoFarGrows }
     ensures all { SoFarIsAll }
 {

@@ -1,5 +1,5 @@
 -- The names' map as the list of names.
-use Rattle.std.proofs.Common.{◌≡◌, ℕ, zero, suc, ◌+◌, ◌<◌, ◌≤◌, Bool, true, false, List, [], ◌∷◌, length, nat_eq, Option, Some, None, Ok, Err, Bor, refl, sym, ap, subst, ◌∙◌, arith}
+use Rattle.std.proofs.Common.{◌≡◌, ℕ, zero, suc, ◌+◌, ◌<◌, ◌≤◌, Bool, true, false, List, [], ◌∷◌, ◌++◌, length, nat_eq, Option, Some, None, Ok, Err, Bor, refl, sym, ap, subst, ◌∙◌, arith}
 use Rattle.std.specs.Prelude.{map, position, IfSome, slice_get, nat_lt, not, ◌&&◌, is_some, is_none, if◌then◌else◌}
 use Rattle.std.specs.Option.{option_copied}
 use Rattle.std.specs.Cmp.Lexicographic.{pointwise}
@@ -12,6 +12,7 @@ use Rattle.pdl_world.specs.World.{World}
 use Rattle.pdl_world.specs.Sound.{IsLive}
 use Rattle.pdl_engine.specs.State.{State as Engine}
 use Rattle.pdl_machine.specs.State.{AreLive, IsWhole}
+use Rattle.pdl_machine.specs.Watches.{Watches}
 use Rattle.pdl_kernel.specs.Kernels.{Kernel}
 use Rattle.pdl_machine.specs.declared.fault.Fault.{Fault}
 use Rattle.pdl_scope.specs.Scope.{names_in, state_in}
@@ -101,35 +102,35 @@ full_told limit names x count o none c here told many =
     right true = refl
     right false = refl
 
--- each name's array can be looked at after a binding to one that can
-pub live_bound : (w : World) (names : Named ℕ) (x : List ℕ) (v : ℕ) → AreLive w (map (λ n. n.1) names) → IsLive w v → AreLive w (map (λ n. n.1) (with_name names x v))
-live_bound w [] x v live l = (l, tt)
-live_bound w (n ∷ names) x v live l = by_name (pointwise nat_eq x n.0) (live_bound w names x v live.1 l)
+-- each name's array, and each of these others, can be looked at after a binding to one that can
+pub live_bound : (w : World) (names : Named ℕ) (others : List ℕ) (x : List ℕ) (v : ℕ) → AreLive w (map (λ n. n.1) names ++ others) → IsLive w v → AreLive w (map (λ n. n.1) (with_name names x v) ++ others)
+live_bound w [] others x v live l = (l, live)
+live_bound w (n ∷ names) others x v live l = by_name (pointwise nat_eq x n.0) (live_bound w names others x v live.1 l)
   where
-    by_name : (same : Bool) → AreLive w (map (λ n. n.1) (with_name names x v)) → AreLive w (map (λ n. n.1) (if same then (n.0, v) ∷ names else n ∷ with_name names x v))
+    by_name : (same : Bool) → AreLive w (map (λ n. n.1) (with_name names x v) ++ others) → AreLive w (map (λ n. n.1) (if same then (n.0, v) ∷ names else n ∷ with_name names x v) ++ others)
     by_name true rest = (l, live.1)
     by_name false rest = (live.0, rest)
 
 -- and so can the array of a name
-pub live_found : (w : World) (names : Named ℕ) (x : List ℕ) → AreLive w (map (λ n. n.1) names) → IfSome (found names x) (IsLive w)
-live_found w [] x live = tt
-live_found w (n ∷ names) x live = by_name (pointwise nat_eq x n.0) (live_found w names x live.1)
+pub live_found : (w : World) (names : Named ℕ) (others : List ℕ) (x : List ℕ) → AreLive w (map (λ n. n.1) names ++ others) → IfSome (found names x) (IsLive w)
+live_found w [] others x live = tt
+live_found w (n ∷ names) others x live = by_name (pointwise nat_eq x n.0) (live_found w names others x live.1)
   where
     by_name : (same : Bool) → IfSome (found names x) (IsLive w) → IfSome (if same then Some n.1 else found names x) (IsLive w)
     by_name true rest = live.0
     by_name false rest = rest
 
 -- and that of the name at a place
-pub live_entry : (w : World) (names : Named ℕ) (i : ℕ) (x : List ℕ) (v : ℕ) → AreLive w (map (λ n. n.1) names) → slice_get names i ≡ Some (x, v) → IsLive w v
-live_entry w [] i x v live h = cc
-live_entry w (n ∷ names) zero x v live h =
+pub live_entry : (w : World) (names : Named ℕ) (others : List ℕ) (i : ℕ) (x : List ℕ) (v : ℕ) → AreLive w (map (λ n. n.1) names ++ others) → slice_get names i ≡ Some (x, v) → IsLive w v
+live_entry w [] others i x v live h = cc
+live_entry w (n ∷ names) others zero x v live h =
     let e : n ≡ (x, v) = entry_is n (x, v) h in
     let P : List ℕ × ℕ → Type 0 = λ m. IsLive w m.1 in
     subst P e live.0
   where
     entry_is : (a b : List ℕ × ℕ) → Some a ≡ Some b → a ≡ b
     entry_is a b h = cc
-live_entry w (n ∷ names) (suc i) x v live h = live_entry w names i x v live.1 h
+live_entry w (n ∷ names) others (suc i) x v live h = live_entry w names others i x v live.1 h
 
 -- names that were bound are the names with the binding
 pub bound_is : {A : Type 0} (limit : ℕ) (fault : Fault) (names new : Named A) (x : List ℕ) (v : A) → entered limit fault names x v ≡ Ok new → new ≡ with_name names x v
@@ -150,5 +151,5 @@ length_after (n ∷ names) x v = by_name (pointwise nat_eq x n.0) (length_after 
     by_name false rest = omega arith
 
 -- a state is whole with other kernels
-pub whole_defined : (names : Named ℕ) (kernels after : Named Kernel) (e : Engine) → IsWhole (state_in (names_in names kernels) e) → IsWhole (state_in (names_in names after) e)
-whole_defined names kernels after e whole = record { sound = whole.sound; below = whole.below; live = whole.live }
+pub whole_defined : (names : Named ℕ) (kernels after : Named Kernel) (ws : Watches) (e : Engine) → IsWhole (state_in (names_in names kernels) ws e) → IsWhole (state_in (names_in names after) ws e)
+whole_defined names kernels after ws e whole = record { sound = whole.sound; below = whole.below; live = whole.live }

@@ -18,46 +18,47 @@ use Rattle.pdl_kernel.specs.Kernels.{Kernel}
 use Rattle.pdl_machine.specs.Names.{Named, Names, found, with_name, without_name, is_full_for, names_limit}
 use Rattle.pdl_machine.specs.declared.fault.Fault.TheVariants.{UnknownName, TooManyNames}
 use Rattle.pdl_machine.specs.State.{State, with_arrays, AreLive}
-use Rattle.pdl_machine.specs.Step.{bind_value, effect}
+use Rattle.pdl_machine.specs.Step.{Stepped, bind_value}
+use Rattle.pdl_machine.specs.Watches.{Watches, attached}
 use Rattle.pdl_machine.specs.Arrays.{Arrays}
 use Rattle.pdl_machine.specs.Cuts.{reshaped}
 use Rattle.pdl_machine.specs.Then.{and_then, or_fault}
-use Rattle.pdl_syntax.specs.StatementTree.{undef}
 use Rattle.pdl_scope.specs.Scope.{arrays_of, scope_in, state_in, names_in, times, Grows, IsHeld}
 use Rattle.pdl_scope.specs.Growth.{reads_grow}
 use Rattle.pdl_scope.proofs.Growing.{still_live}
-use Rattle.pdl_scope.proofs.Held.{numbers, times_more, held_times, both_hold, held_by_both, some_live, few_bound, held_readied}
+use Rattle.pdl_scope.proofs.Held.{numbers, held_by, times_more, held_times, both_hold, held_by_both, some_live, few_bound, held_readied}
 
 -- after a change that keeps all
-pub held_changed : (names : Names) (e t : Engine) (leaving : List ℕ) → IsHeld (state_in names e) e.holds leaving → HasSameNumbers e.world t.world → IsSound t.world → t.holds ≡ e.holds → t.next ≡ e.next
-    → KeepsAll t.world (numbers names.arrays ++ leaving) → IsHeld (state_in names t) t.holds leaving
-held_changed names e t leaving h same sound holds next keeps = record {
+pub held_changed : (names : Names) (ws : Watches) (e t : Engine) (leaving : List ℕ) → IsHeld (state_in names ws e) e.holds leaving → HasSameNumbers e.world t.world → IsSound t.world → t.holds ≡ e.holds → t.next ≡ e.next
+    → KeepsAll t.world (held_by names ws ++ leaving) → IsHeld (state_in names ws t) t.holds leaving
+held_changed names ws e t leaving h same sound holds next keeps = record {
   whole = record {
     sound = sound;
     below = subst (λ n. NumbersBelow n t.world) (sym next) (same.below e.next h.whole.below);
-    live = still_live e.world t.world same.live (numbers names.arrays) h.whole.live;
+    live = still_live e.world t.world same.live (held_by names ws) h.whole.live;
   };
   few = h.few;
+  slots = h.slots;
   counts = λ v. (ap (λ hs. count_at hs v) holds ∙ h.counts v);
   reached = keeps;
 }
 
 -- so also where the change is refused
-pub held_after : {T E : Type 0} (r : Result T E) (names : Names) (e t : Engine) (new : World) (leaving : List ℕ) → IsHeld (state_in names e) e.holds leaving → HasSameNumbers e.world new → KeepsAll new (numbers names.arrays ++ leaving)
-    → OnOk r (t.world ≡ new) → OnErr r (t.world ≡ e.world) → t.holds ≡ e.holds → t.next ≡ e.next → IsSound t.world → IsHeld (state_in names t) t.holds leaving
-held_after (Ok u) names e t new leaving h same keeps done kept holds next sound =
-    held_changed names e t leaving h (subst (HasSameNumbers e.world) (sym done) same) sound holds next (let P : World → Type 0 = λ w. KeepsAll w (numbers names.arrays ++ leaving) in subst P (sym done) keeps)
-held_after (Err f) names e t new leaving h same keeps done kept holds next sound = held_readied names e t leaving (record { world = kept; holds = holds; next = next }) h
+pub held_after : {T E : Type 0} (r : Result T E) (names : Names) (ws : Watches) (e t : Engine) (new : World) (leaving : List ℕ) → IsHeld (state_in names ws e) e.holds leaving → HasSameNumbers e.world new → KeepsAll new (held_by names ws ++ leaving)
+    → OnOk r (t.world ≡ new) → OnErr r (t.world ≡ e.world) → t.holds ≡ e.holds → t.next ≡ e.next → IsSound t.world → IsHeld (state_in names ws t) t.holds leaving
+held_after (Ok u) names ws e t new leaving h same keeps done kept holds next sound =
+    held_changed names ws e t leaving h (subst (HasSameNumbers e.world) (sym done) same) sound holds next (let P : World → Type 0 = λ w. KeepsAll w (held_by names ws ++ leaving) in subst P (sym done) keeps)
+held_after (Err f) names ws e t new leaving h same keeps done kept holds next sound = held_readied names ws e t leaving (record { world = kept; holds = holds; next = next }) h
 
 -- the parent of an array is there
 pub parent_lives : ParentsAreLive → (w : World) (v p : ℕ) → IsSound w → parent_in w v ≡ Some p → IsLive w p
 parent_lives live w v p sound is = let P : Option ℕ → Type 0 = λ o. IfSome o (IsLive w) in subst P is (live w v sound)
 
 -- the same names, and the same arrays that leave
-pub held_same : (names after : Named ℕ) (kernels : Named Kernel) (e : Engine) (leaving left : List ℕ) → after ≡ names → left ≡ leaving → IsHeld (state_in (names_in names kernels) e) e.holds leaving → IsHeld (state_in (names_in after kernels) e) e.holds left
-held_same names after kernels e leaving left same kept h =
-    let N : Named ℕ → Type 0 = λ ns. IsHeld (state_in (names_in ns kernels) e) e.holds leaving in
-    let L : List ℕ → Type 0 = λ vs. IsHeld (state_in (names_in after kernels) e) e.holds vs in
+pub held_same : (names after : Named ℕ) (kernels : Named Kernel) (ws : Watches) (e : Engine) (leaving left : List ℕ) → after ≡ names → left ≡ leaving → IsHeld (state_in (names_in names kernels) ws e) e.holds leaving → IsHeld (state_in (names_in after kernels) ws e) e.holds left
+held_same names after kernels ws e leaving left same kept h =
+    let N : Named ℕ → Type 0 = λ ns. IsHeld (state_in (names_in ns kernels) ws e) e.holds leaving in
+    let L : List ℕ → Type 0 = λ vs. IsHeld (state_in (names_in after kernels) ws e) e.holds vs in
     subst L (sym kept) (subst N (sym same) h)
 
 -- what leaves is held beside names
@@ -73,14 +74,15 @@ noted_last leaving v =
     both_hold leaving (v ∷ []) v (omega arith)
 
 -- one more hold, for the array that is noted
-pub held_noted : OneMoreCounts → MoreKeepAll → (names : Names) (e : Engine) (v : ℕ) (leaving : List ℕ) → AllHaveHolds e → IsHeld (state_in names e) e.holds leaving → IsLive e.world v
-    → IsHeld (state_in names (record e { holds = one_more_at e.holds v })) (one_more_at e.holds v) (leaving ++ v ∷ [])
-held_noted one_more keeping names e v leaving have h live = record {
+pub held_noted : OneMoreCounts → MoreKeepAll → (names : Names) (ws : Watches) (e : Engine) (v : ℕ) (leaving : List ℕ) → AllHaveHolds e → IsHeld (state_in names ws e) e.holds leaving → IsLive e.world v
+    → IsHeld (state_in names ws (record e { holds = one_more_at e.holds v })) (one_more_at e.holds v) (leaving ++ v ∷ [])
+held_noted one_more keeping names ws e v leaving have h live = record {
   whole = h.whole;
   few = h.few;
+  slots = h.slots;
   counts = λ u. (let c = one_more e.holds v u known in let b = h.counts u in let m = times_more leaving (v ∷ []) u in omega arith);
-  reached = keeping e.world (numbers names.arrays ++ leaving) (numbers names.arrays ++ (leaving ++ v ∷ []))
-      (λ u t. both_hold (numbers names.arrays) (leaving ++ v ∷ []) u (let some = held_by_both (numbers names.arrays) leaving u t in let m = times_more leaving (v ∷ []) u in omega arith)) h.reached;
+  reached = keeping e.world (held_by names ws ++ leaving) (held_by names ws ++ (leaving ++ v ∷ []))
+      (λ u t. both_hold (held_by names ws) (leaving ++ v ∷ []) u (let some = held_by_both (held_by names ws) leaving u t in let m = times_more leaving (v ∷ []) u in omega arith)) h.reached;
 }
   where
     known : holds (holders e.holds) v ≡ true
@@ -104,45 +106,60 @@ few_without (n ∷ names) x = by_name (pointwise nat_eq x n.0) (few_without name
     by_name true rest = omega arith
     by_name false rest = omega arith
 
-live_without : (w : World) (names : Named ℕ) (x : List ℕ) → AreLive w (numbers names) → AreLive w (numbers (without_name names x))
-live_without w [] x live = tt
-live_without w (n ∷ names) x live = by_name (pointwise nat_eq x n.0) (live_without w names x live.1)
+live_without : (w : World) (names : Named ℕ) (others x : List ℕ) → AreLive w (numbers names ++ others) → AreLive w (numbers (without_name names x) ++ others)
+live_without w [] others x live = live
+live_without w (n ∷ names) others x live = by_name (pointwise nat_eq x n.0) (live_without w names others x live.1)
   where
-    by_name : (same : Bool) → AreLive w (numbers (without_name names x)) → AreLive w (numbers (if same then names else n ∷ without_name names x))
+    by_name : (same : Bool) → AreLive w (numbers (without_name names x) ++ others) → AreLive w (numbers (if same then names else n ∷ without_name names x) ++ others)
     by_name true rest = live.1
     by_name false rest = (live.0, rest)
 
 -- a name goes, and its array leaves
-pub held_unbound : MoreKeepAll → (names : Named ℕ) (kernels : Named Kernel) (e : Engine) (x : List ℕ) (leaving : List ℕ) → IsHeld (state_in (names_in names kernels) e) e.holds leaving
-    → IsHeld (state_in (names_in (without_name names x) kernels) e) e.holds (leaving ++ option_to_list (found names x))
-held_unbound keeping names kernels e x leaving h = record {
-  whole = record { sound = h.whole.sound; below = h.whole.below; live = live_without e.world names x h.whole.live };
+pub held_unbound : MoreKeepAll → (names : Named ℕ) (kernels : Named Kernel) (ws : Watches) (e : Engine) (x : List ℕ) (leaving : List ℕ) → IsHeld (state_in (names_in names kernels) ws e) e.holds leaving
+    → IsHeld (state_in (names_in (without_name names x) kernels) ws e) e.holds (leaving ++ option_to_list (found names x))
+held_unbound keeping names kernels ws e x leaving h = record {
+  whole = record { sound = h.whole.sound; below = h.whole.below; live = live_without e.world names (attached ws) x h.whole.live };
   few = (let f = few_without names x in let g : length names ≤ names_limit = h.few in omega arith);
+  slots = h.slots;
   counts = counts;
-  reached = keeping e.world (numbers names ++ leaving) (numbers (without_name names x) ++ after)
-      (λ u t. both_hold (numbers (without_name names x)) after u (let some = held_by_both (numbers names) leaving u t in let b = h.counts u in let c = counts u in omega arith)) h.reached;
+  reached = keeping e.world (before_all ++ leaving) (left_all ++ after)
+      (λ u t. both_hold left_all after u (let some = held_by_both before_all leaving u t in let b = h.counts u in let c = counts u in omega arith)) h.reached;
 }
   where
     after : List ℕ
     after = leaving ++ option_to_list (found names x)
 
-    counts : (u : ℕ) → count_at e.holds u ≡ times (numbers (without_name names x)) u + times after u
-    counts u = let b = h.counts u in let n = times_without names x u in let l = times_more leaving (option_to_list (found names x)) u in omega arith
+    before_all : List ℕ
+    before_all = held_by (names_in names kernels) ws
+
+    left_all : List ℕ
+    left_all = held_by (names_in (without_name names x) kernels) ws
+
+    counts : (u : ℕ) → count_at e.holds u ≡ times left_all u + times after u
+    counts u =
+        let b = h.counts u in
+        let n = times_without names x u in
+        let l = times_more leaving (option_to_list (found names x)) u in
+        let p = times_more (numbers names) (attached ws) u in
+        let q = times_more (numbers (without_name names x)) (attached ws) u in
+        omega arith
+
+-- what taking a name away comes to, by the array that it gives up
+abbrev pub given_up_by : State → List ℕ → Option ℕ → Stepped
+given_up_by s x o = and_then (and_then (or_fault UnknownName o) (λ v. Ok (record s.names { arrays = without_name s.names.arrays x }))) (λ names. Ok (record s { names = names }, []))
 
 -- a name that is bound goes
-pub undone : (s : State) (x : List ℕ) (v : ℕ) → found s.names.arrays x ≡ Some v → effect s (undef x) ≡ Ok (record s { names = record s.names { arrays = without_name s.names.arrays x } }, [])
-undone s x v is = ap (λ o. and_then (and_then (or_fault UnknownName o) (λ v. Ok (record s.names { arrays = without_name s.names.arrays x }))) (λ names. Ok (record s { names = names }, []))) is
-
-pub never_bound : (s : State) (x : List ℕ) → found s.names.arrays x ≡ None → effect s (undef x) ≡ Err UnknownName
-never_bound s x is = ap (λ o. and_then (and_then (or_fault UnknownName o) (λ v. Ok (record s.names { arrays = without_name s.names.arrays x }))) (λ names. Ok (record s { names = names }, []))) is
+pub undone : (s : State) (x : List ℕ) (v : ℕ) → found s.names.arrays x ≡ Some v
+    → given_up_by s x (found s.names.arrays x) ≡ Ok (record s { names = record s.names { arrays = without_name s.names.arrays x } }, [])
+undone s x v is = ap (given_up_by s x) is
 
 -- arrays that are the same, whatever else their engine does
 same_arrays : (e t : Engine) → t.world ≡ e.world → t.next ≡ e.next → arrays_of t ≡ arrays_of e
 same_arrays e t world next = ap (λ w. record { world = w; next = t.next }) world ∙ ap (λ n. record { world = e.world; next = n }) next
 
 -- a change that was refused kept all
-pub kept_so : (names : Names) (e t : Engine) → t.world ≡ e.world → t.next ≡ e.next → StayFresh e t → Grows (scope_in names e) (scope_in names t)
-kept_so names e t world next stay = reads_grow (scope_in names e) (scope_in names t) (record { names = refl; arrays = same_arrays e t world next; stay = stay })
+pub kept_so : (names : Names) (ws : Watches) (e t : Engine) → t.world ≡ e.world → t.next ≡ e.next → StayFresh e t → Grows (scope_in names ws e) (scope_in names ws t)
+kept_so names ws e t world next stay = reads_grow (scope_in names ws e) (scope_in names ws t) (record { names = refl; arrays = same_arrays e t world next; watches = refl; stay = stay })
 
 -- one that was made changed the world alone
 pub made_so : (e t : Engine) (new : World) → t.world ≡ new → t.next ≡ e.next → arrays_of t ≡ record (arrays_of e) { world = new }
@@ -153,13 +170,13 @@ pub unbindable : (s : State) (x : List ℕ) (v : Arrays × ℕ) → is_full_for 
 unbindable s x v full = rw full refl
 
 pub bindable : (s : State) (x : List ℕ) (v : Arrays × ℕ) → is_full_for names_limit s.names.arrays x ≡ false
-    → bind_value s x v ≡ Ok (record { names = record s.names { arrays = with_name s.names.arrays x v.1 }; arrays = v.0 }, [])
+    → bind_value s x v ≡ Ok (record s { names = record s.names { arrays = with_name s.names.arrays x v.1 }; arrays = v.0 }, [])
 bindable s x v free = rw free refl
 
--- other dimensions of an array without views, and of one with views
-pub reshape_made : (s : State) (v : ℕ) (ds : List ℕ) → has_views s.arrays.world v ≡ false
-    → and_then {B = State × List ℕ} (reshaped s.arrays v ds) (λ a. Ok (with_arrays s a, [])) ≡ Ok (with_arrays s (record s.arrays { world = reshape s.arrays.world v ds }), [])
-reshape_made s v ds none = rw none refl
+-- other dimensions of an array that isn't connected
+pub reshape_made : (s : State) (v : ℕ) (ds : List ℕ) → has_views s.arrays.world v ≡ false → holds (attached s.watches) v ≡ false
+    → and_then {B = State × List ℕ} (reshaped s.watches s.arrays v ds) (λ a. Ok (with_arrays s a, [])) ≡ Ok (with_arrays s (record s.arrays { world = reshape s.arrays.world v ds }), [])
+reshape_made s v ds none free = rw (none, free) refl
 
 -- and there are no more names than may be
 pub fits_bound : (names : Named ℕ) (x : List ℕ) (v : ℕ) → is_full_for names_limit names x ≡ false → length names ≤ names_limit → length (with_name names x v) ≤ names_limit

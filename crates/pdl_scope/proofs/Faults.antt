@@ -13,29 +13,29 @@ use Rattle.pdl_machine.specs.Operators.{binary_each}
 use Rattle.pdl_machine.specs.Outcome.{new_root}
 use Rattle.pdl_machine.specs.Refused.{operator_fault, or_named}
 use Rattle.pdl_machine.specs.declared.fault.Fault.{Fault}
-use Rattle.pdl_scope.specs.declared.fault.StepFault.{StepFault}
+use Rattle.pdl_scope.specs.declared.fault.ScopeFault.{ScopeFault}
 use Rattle.pdl_machine.specs.Then.{and_then}
-use Rattle.pdl_scope.specs.declared.fault.StepFault.TheVariants as step
+use Rattle.pdl_scope.specs.declared.fault.ScopeFault.TheVariants as fault
 use Rattle.pdl_scope.specs.Answers.{IsFault}
-use Rattle.pdl_scope.specs.Faults.{of_operator, step_fault}
+use Rattle.pdl_scope.specs.Faults.{of_operator, scope_fault}
 
 -- what a fault names refuses a statement, by its name in the machine
-pub named_fault : {A E : Type 0} (name : E → Fault) (wanted : Result A E) (reason : Option E) → IfSome reason (λ e. wanted ≡ Err e) → IsFault (or_named name wanted) (step_fault (option_map name reason))
+pub named_fault : {A E : Type 0} (name : E → Fault) (wanted : Result A E) (reason : Option E) → IfSome reason (λ e. wanted ≡ Err e) → IsFault (or_named name wanted) (scope_fault (option_map name reason))
 named_fault name wanted None h = tt
 named_fault name wanted (Some e) h = ap (or_named name) h
 
 -- also where something else would come of it
 pub named_first : {A B E : Type 0} (name : E → Fault) (wanted : Result A E) (next : A → Result B Fault) (reason : Option E) → IfSome reason (λ e. wanted ≡ Err e)
-    → IsFault (and_then (or_named name wanted) next) (step_fault (option_map name reason))
+    → IsFault (and_then (or_named name wanted) next) (scope_fault (option_map name reason))
 named_first name wanted next None h = tt
 named_first name wanted next (Some e) h = ap (λ x. and_then (or_named name x) next) h
 
 -- no new array comes of a fault
-pub not_made : (wanted : Result Made Fault) (a : Arrays) (e : StepFault) → IsFault wanted e → IsFault (and_then wanted (new_root a)) e
-not_made wanted a (step.Script e) h = ap (λ x. and_then x (new_root a)) h
-not_made wanted a step.NoMemory h = tt
+pub not_made : (wanted : Result Made Fault) (a : Arrays) (e : ScopeFault) → IsFault wanted e → IsFault (and_then wanted (new_root a)) e
+not_made wanted a (fault.Script e) h = ap (λ x. and_then x (new_root a)) h
+not_made wanted a fault.NoMemory h = tt
 
-refused : {A : Type 0} (wanted same : Result A OpRefusal) (named : Option OpRefusal) → same ≡ wanted → IsRefused wanted named → IsFault (or_named operator_fault same) (step_fault (option_map operator_fault named))
+refused : {A : Type 0} (wanted same : Result A OpRefusal) (named : Option OpRefusal) → same ≡ wanted → IsRefused wanted named → IsFault (or_named operator_fault same) (scope_fault (option_map operator_fault named))
 refused wanted same (Some refusal) e h = ap (or_named operator_fault) (e ∙ h)
 refused wanted same None e h = tt
 

@@ -26,7 +26,7 @@ use Rattle.pdl_sig.specs.Given.{shape_of}
 use Rattle.pdl_machine.specs.Outcome.{array}
 use Rattle.pdl_machine.specs.Refused.{or_named}
 use Rattle.pdl_machine.specs.Then.{and_more, all_of, and_then, or_fault}
-use Rattle.pdl_scope.specs.declared.fault.StepFault.{StepFault}
+use Rattle.pdl_scope.specs.declared.fault.ScopeFault.{ScopeFault}
 use Rattle.pdl_scope.specs.Answers.{AnswersAs, IsFault}
 use Rattle.pdl_scope.specs.Faults.{of_resolve, of_run}
 use Rattle.pdl_scope.proofs.Faults.{named_fault, named_first}
@@ -48,10 +48,10 @@ call_is k e ids signature shapes same seen =
     ∙ ap (λ s. call_by k (map (made_in e) ids) (resolution s shapes)) (sym same)
 
 -- the arguments don't resolve
-pub call_refused : (k : Kernel) (e : Engine) (ids : List ℕ) (signature : Signature) (shapes : List ArgShape) (f : ResolveFault) (fault : StepFault) → signature ≡ k.signature → shapes ≡ map (shape_in e) ids
+pub call_refused : (k : Kernel) (e : Engine) (ids : List ℕ) (signature : Signature) (shapes : List ArgShape) (f : ResolveFault) (fault : ScopeFault) → signature ≡ k.signature → shapes ≡ map (shape_in e) ids
     → Resolves (resolution signature shapes) (Err f) → fault ≡ of_resolve f → IsFault (called_on k (map (made_in e) ids)) fault
 call_refused k e ids signature shapes f fault same seen h is =
-    let P : StepFault → Type 0 = λ x. IsFault (called_on k (map (made_in e) ids)) x in
+    let P : ScopeFault → Type 0 = λ x. IsFault (called_on k (map (made_in e) ids)) x in
     let Q : Result (List Made) Fault → Type 0 = λ x. IsFault x (of_resolve f) in
     let refused = named_first resolve_fault (resolution signature shapes) (λ resolved. or_named run_fault (called k resolved (map (made_in e) ids))) (reason_named f) (IfSome_then (reason_named f) h (λ x is. sym is)) in
     subst P (sym is) (subst Q (sym (call_is k e ids signature shapes same seen)) refused)
@@ -76,10 +76,10 @@ pub call_done : (k : Kernel) (e : Engine) (ids : List ℕ) (resolved : Resolved)
 call_done k e ids resolved r outputs g h = called_by k e ids resolved r g ∙ ap (or_named run_fault) h
 
 -- the fault of a call
-pub call_faulted : (k : Kernel) (e : Engine) (ids : List ℕ) (resolved : Resolved) (r : Run) (f : RunFault) (fault : StepFault) → IsGiven k e ids resolved r
+pub call_faulted : (k : Kernel) (e : Engine) (ids : List ℕ) (resolved : Resolved) (r : Run) (f : RunFault) (fault : ScopeFault) → IsGiven k e ids resolved r
     → IfSome (fault_named f) (λ placed. called r.kernel r.resolved r.given ≡ Err placed) → fault ≡ of_run f → IsFault (called_on k (map (made_in e) ids)) fault
 call_faulted k e ids resolved r f fault g h is =
-    let P : StepFault → Type 0 = λ x. IsFault (called_on k (map (made_in e) ids)) x in
+    let P : ScopeFault → Type 0 = λ x. IsFault (called_on k (map (made_in e) ids)) x in
     let Q : Result (List Made) Fault → Type 0 = λ x. IsFault x (of_run f) in
     subst P (sym is) (subst Q (sym (called_by k e ids resolved r g)) (named_fault run_fault (called r.kernel r.resolved r.given) (fault_named f) h))
 
@@ -146,7 +146,7 @@ same_made e t s = ap (λ w. made_by w t.next) s.world ∙ ap (made_by e.world) s
     made_by w next v = array_in (record { world = w; next = next }) v
 
 -- the answer for arrays that were made ready is that for the arrays
-pub all_given : (k : Kernel) (wanted count : ℕ) (e t : Engine) (ids : List ℕ) (r : Result (Vec Made Global) StepFault) → count ≡ outputs_count k.signature → count ≡ wanted
+pub all_given : (k : Kernel) (wanted count : ℕ) (e t : Engine) (ids : List ℕ) (r : Result (Vec Made Global) ScopeFault) → count ≡ outputs_count k.signature → count ≡ wanted
     → SameArrays e t → AnswersAs (λ ms. ms.items) (called_on k (map (made_in t) ids)) r → AnswersAs (λ ms. ms.items) (kernel_outputs k wanted (arrays_seen (arrays_of e) ids)) r
 all_given k wanted count e t ids r is same arrays h =
     let P : Result (List Made) Fault → Type 0 = λ x. AnswersAs (λ (ms : Vec Made Global). ms.items) x r in

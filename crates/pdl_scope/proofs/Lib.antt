@@ -7,4 +7,5 @@ pub mod Reduced
 pub mod Printing
 pub mod Roots
 pub mod Held
+pub mod Watched
 pub mod Cuts

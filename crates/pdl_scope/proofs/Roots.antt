@@ -13,10 +13,11 @@ use Rattle.pdl_machine.specs.Arrays.{with_new}
 use Rattle.pdl_machine.specs.Names.{Named, Names, found, with_name, is_full_for, entered, bind, names_limit}
 use Rattle.pdl_machine.specs.Outcome.{new_root}
 use Rattle.pdl_machine.specs.State.{State}
+use Rattle.pdl_machine.specs.Watches.{Watches}
 use Rattle.pdl_machine.specs.Step.{Stepped, bind_value, bound, roots_bound}
 use Rattle.pdl_machine.specs.Then.{and_then}
-use Rattle.pdl_scope.specs.declared.fault.StepFault.{StepFault}
-use Rattle.pdl_scope.specs.declared.fault.StepFault.TheVariants.{Script, NoMemory}
+use Rattle.pdl_scope.specs.declared.fault.ScopeFault.{ScopeFault}
+use Rattle.pdl_scope.specs.declared.fault.ScopeFault.TheVariants.{Script, NoMemory}
 use Rattle.pdl_scope.specs.Answers.{IsFault, Prints, Runs}
 use Rattle.pdl_scope.specs.Room.{with_names, is_among, new_among, has_room}
 use Rattle.pdl_scope.specs.Scope.{Scope, Grows}
@@ -150,7 +151,7 @@ some_too_many names xs room is told = by_count (length names + new_among names x
 
 -- the state after a binding for which there is room
 abbrev with_bound : State → List ℕ → ℕ → State
-with_bound s x id = record { names = record { arrays = with_name s.names.arrays x id; kernels = s.names.kernels }; arrays = s.arrays }
+with_bound s x id = record s { names = record s.names { arrays = with_name s.names.arrays x id } }
 
 is_bound : (s : State) (x : List ℕ) (id : ℕ) → is_full_for names_limit s.names.arrays x ≡ false → bind_value s x (s.arrays, id) ≡ Ok (with_bound s x id, [])
 is_bound s x id free = rw free refl
@@ -169,7 +170,7 @@ none_fit s [] ms (suc n) within few many = absurd (omega arith)
 none_fit s (x ∷ xs) [] (suc n) within few many = absurd (omega arith)
 none_fit s (x ∷ xs) (m ∷ ms) (suc n) within few many = by_test (is_full_for names_limit s.names.arrays x)
     (λ full. rw full refl)
-    (λ free. let mid : State = record { names = s.names; arrays = (with_new s.arrays (root m.ty m.dims m.elems)).0 } in
+    (λ free. let mid : State = record s { arrays = (with_new s.arrays (root m.ty m.dims m.elems)).0 } in
     let id : ℕ = s.arrays.next in
     let held : entered names_limit TooManyNames s.names.arrays x id ≡ Ok (with_name s.names.arrays x id) = rw free refl in
     let stays = room_stays s.names.arrays x id (take n xs) in
@@ -187,6 +188,7 @@ left_is s xs ms i x m within there here it =
 pub record IsNext (s mid : State) (x : List ℕ) (m : Made) (id : ℕ) : Type 0 where
   pub made : new_root s.arrays m ≡ Ok (mid.arrays, id)
   pub named : mid.names ≡ s.names
+  pub watched : mid.watches ≡ s.watches
   pub free : is_full_for names_limit s.names.arrays x ≡ false
 
 pub binds : (s mid : State) (x : List ℕ) (m : Made) (id : ℕ) → IsNext s mid x m id → bind_value mid x (mid.arrays, id) ≡ Ok (with_bound mid x id, [])
@@ -196,21 +198,21 @@ binds s mid x m id next =
 
 value_is : (s mid : State) (x : List ℕ) (m : Made) (id : ℕ) → IsNext s mid x m id → bound s x (new_root s.arrays m) ≡ Ok (with_bound mid x id, [])
 value_is s mid x m id next =
-    let B : Names → Stepped = λ names. and_then (bind names x id) (λ after. Ok (record { names = after; arrays = mid.arrays }, [])) in
-    ap (bound s x) next.made ∙ ap B (sym next.named) ∙ binds s mid x m id next
+    let B : Names → Watches → Stepped = λ names ws. and_then (bind names x id) (λ after. Ok (record { names = after; arrays = mid.arrays; watches = ws }, [])) in
+    ap (bound s x) next.made ∙ ap (λ names. B names s.watches) (sym next.named) ∙ ap (B mid.names) (sym next.watched) ∙ binds s mid x m id next
 
 -- the state is that with the name
 pub bound_so : (s mid new : State) (x : List ℕ) (m : Made) (id : ℕ) → IsNext s mid x m id → Prints (bind_value mid x (mid.arrays, id)) new [] [] → new ≡ with_bound mid x id
 bound_so s mid new x m id next h = let P : Stepped → Type 0 = λ r. Prints r new [] [] in (subst P (binds s mid x m id next) h).0
 
 -- what can't be refused has no fault but want of memory, which keeps all as it was but for new arrays
-pub never_refused : {A T : Type 0} (a : A) (wanted : Stepped) (old new : Scope) (r : Result T StepFault) (f : StepFault) → IsErrAnd r (λ e. e ≡ f) → IsFault (Ok a) f → Grows old new → Runs wanted old new [] [] r
+pub never_refused : {A T : Type 0} (a : A) (wanted : Stepped) (old new : Scope) (r : Result T ScopeFault) (f : ScopeFault) → IsErrAnd r (λ e. e ≡ f) → IsFault (Ok a) f → Grows old new → Runs wanted old new [] [] r
 never_refused a wanted old new (Ok x) f is h g = absurd is
 never_refused {A = A} a wanted old new (Err e) f is h g = (by_fault e f is h, record { grown = g; printed = refl })
   where
-    by_fault : (e f : StepFault) → e ≡ f → IsFault (Ok a) f → IsFault wanted e
+    by_fault : (e f : ScopeFault) → e ≡ f → IsFault (Ok a) f → IsFault wanted e
     by_fault NoMemory f is h = tt
-    by_fault (Script e) f is h = let P : StepFault → Type 0 = IsFault (Ok a) in let k : Ok a ≡ Err e = subst P (sym is) h in cc
+    by_fault (Script e) f is h = let P : ScopeFault → Type 0 = IsFault (Ok a) in let k : Ok a ≡ Err e = subst P (sym is) h in cc
 
 pub roots_more : (old s mid new : State) (xs : List (List ℕ)) (ms : List Made) (i : ℕ) (x : List ℕ) (m : Made) (id : ℕ) → i < length xs → i < length ms → x ≡ get_or xs i x → m ≡ get_or ms i m
     → roots_bound old xs ms ≡ left s xs ms i → IsNext s mid x m id → new ≡ with_bound mid x id → roots_bound old xs ms ≡ left new xs ms (i + 1)
@@ -230,11 +232,12 @@ abbrev pub named_too : State → Named ℕ → State
 named_too s more = record s { names = record s.names { arrays = with_names s.names.arrays more } }
 
 -- the next array came to a state whose names are bound later
-pub named_next : (s mid : State) (more : Named ℕ) (x : List ℕ) (m : Made) (id : ℕ) (rest : List (List ℕ)) → new_root s.arrays m ≡ Ok (mid.arrays, id) → mid.names ≡ s.names
+pub named_next : (s mid : State) (more : Named ℕ) (x : List ℕ) (m : Made) (id : ℕ) (rest : List (List ℕ)) → new_root s.arrays m ≡ Ok (mid.arrays, id) → mid.names ≡ s.names → mid.watches ≡ s.watches
     → length (with_names s.names.arrays more) + new_among (with_names s.names.arrays more) (x ∷ rest) ≤ names_limit → IsNext (named_too s more) (named_too mid more) x m id
-named_next s mid more x m id rest made named room = record {
+named_next s mid more x m id rest made named watched room = record {
   made = made;
   named = ap (λ (n : Names). record n { arrays = with_names n.arrays more }) named;
+  watched = watched;
   free = fits_first (with_names s.names.arrays more) x id rest room;
 }
 

@@ -5,26 +5,26 @@ use Rattle.pdl_machine.specs.declared.fault.Fault.{Fault}
 use Rattle.pdl_machine.specs.Outcome.{Valued}
 use Rattle.pdl_machine.specs.State.{State}
 use Rattle.pdl_machine.specs.Step.{Stepped}
-use Rattle.pdl_scope.specs.declared.fault.StepFault.{StepFault}
-use Rattle.pdl_scope.specs.declared.fault.StepFault.TheVariants.{Script, NoMemory}
+use Rattle.pdl_scope.specs.declared.fault.ScopeFault.{ScopeFault}
+use Rattle.pdl_scope.specs.declared.fault.ScopeFault.TheVariants.{Script, NoMemory}
 use Rattle.pdl_scope.specs.Scope.{Scope, machine, Grows}
 
 -- a fault of the script is the one that is wanted; want of memory says nothing
-abbrev pub IsFault : {U : Type 0} → Result U Fault → StepFault → Type 0
+abbrev pub IsFault : {U : Type 0} → Result U Fault → ScopeFault → Type 0
 IsFault wanted (Script e) = wanted ≡ Err e
 IsFault wanted NoMemory = Unit {0}
 
 -- the answer, by what it stands for, is the wanted one
-abbrev pub AnswersAs : {T U : Type 0} → (T → U) → Result U Fault → Result T StepFault → Type 0
+abbrev pub AnswersAs : {T U : Type 0} → (T → U) → Result U Fault → Result T ScopeFault → Type 0
 AnswersAs seen wanted (Ok x) = wanted ≡ Ok (seen x)
 AnswersAs seen wanted (Err e) = IsFault wanted e
 
 -- the answer is the wanted one
-abbrev pub Answers : {T : Type 0} → Result T Fault → Result T StepFault → Type 0
+abbrev pub Answers : {T : Type 0} → Result T Fault → Result T ScopeFault → Type 0
 Answers wanted result = AnswersAs (λ x. x) wanted result
 
 -- the answer is the wanted array, which is there, and the arrays are the wanted ones
-abbrev pub Evaluates : Valued → Scope → Result ℕ StepFault → Type 0
+abbrev pub Evaluates : Valued → Scope → Result ℕ ScopeFault → Type 0
 Evaluates wanted new (Ok v) = (wanted ≡ Ok (new.arrays, v)) × IsLive new.arrays.world v
 Evaluates wanted new (Err e) = IsFault wanted e
 
@@ -40,6 +40,6 @@ pub record IsKept (old new : Scope) (old_out new_out : List ℕ) : Type 0 where
 
 -- a statement did what is wanted, or its refusal kept all as it was, want of memory too
 abbrev pub Runs : {T : Type 0} → Stepped → Scope → Scope → List ℕ → List ℕ →
-    Result T StepFault → Type 0
+    Result T ScopeFault → Type 0
 Runs wanted old new old_out new_out (Ok x) = Prints wanted (machine new) old_out new_out
 Runs wanted old new old_out new_out (Err e) = IsFault wanted e × IsKept old new old_out new_out

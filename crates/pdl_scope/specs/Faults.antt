@@ -21,16 +21,16 @@ use Rattle.pdl_machine.specs.Kernels.{resolve_fault, run_fault}
 use Rattle.pdl_machine.specs.Refused.{operator_fault, reduce_fault}
 use Rattle.pdl_machine.specs.declared.fault.Fault.{Fault}
 use Rattle.pdl_machine.specs.declared.fault.Fault.TheVariants.{BadSignature, BadKernel, BadDimension, Mismatch, OutOfRange, TooManyDims, TooLarge, TooDeep, BadSlice}
-use Rattle.pdl_scope.specs.declared.fault.StepFault.{StepFault}
-use Rattle.pdl_scope.specs.declared.fault.StepFault.TheVariants.{Script, NoMemory}
+use Rattle.pdl_scope.specs.declared.fault.ScopeFault.{ScopeFault}
+use Rattle.pdl_scope.specs.declared.fault.ScopeFault.TheVariants.{Script, NoMemory}
 
 -- the fault of the script, or want of memory where there is none
-abbrev pub step_fault : Option Fault → StepFault
-step_fault None = NoMemory
-step_fault (Some fault) = Script fault
+abbrev pub scope_fault : Option Fault → ScopeFault
+scope_fault None = NoMemory
+scope_fault (Some fault) = Script fault
 
 -- why there is no view
-abbrev pub of_view : ViewFault → StepFault
+abbrev pub of_view : ViewFault → ScopeFault
 of_view view.BadDimension = Script BadDimension
 of_view view.Mismatch = Script Mismatch
 of_view view.OutOfRange = Script OutOfRange
@@ -40,15 +40,15 @@ of_view view.TooDeep = Script TooDeep
 of_view view.NoMemory = NoMemory
 
 -- why an operator has no values
-abbrev pub of_operator : OpFault → StepFault
-of_operator fault = step_fault (option_map operator_fault (operator.refusal_named fault))
+abbrev pub of_operator : OpFault → ScopeFault
+of_operator fault = scope_fault (option_map operator_fault (operator.refusal_named fault))
 
 -- why a reduction or a product of two arrays has no result
-abbrev pub of_reduce : ReduceFault → StepFault
-of_reduce fault = step_fault (option_map reduce_fault (reduce.refusal_named fault))
+abbrev pub of_reduce : ReduceFault → ScopeFault
+of_reduce fault = scope_fault (option_map reduce_fault (reduce.refusal_named fault))
 
 -- why a text is no slice's
-abbrev pub of_slice : SliceFault → StepFault
+abbrev pub of_slice : SliceFault → ScopeFault
 of_slice (slice.BadText at) = Script BadSlice
 of_slice slice.TooManyArgs = Script BadSlice
 of_slice slice.NumberTooLarge = Script BadSlice
@@ -56,19 +56,19 @@ of_slice slice.ZeroStep = Script BadSlice
 of_slice slice.NoMemory = NoMemory
 
 -- why arguments don't resolve
-abbrev pub of_resolve : ResolveFault → StepFault
-of_resolve fault = step_fault (option_map resolve_fault (reason_named fault))
+abbrev pub of_resolve : ResolveFault → ScopeFault
+of_resolve fault = scope_fault (option_map resolve_fault (reason_named fault))
 
 -- why a kernel has no outputs
-abbrev pub of_run : RunFault → StepFault
-of_run fault = step_fault (option_map run_fault (fault_named fault))
+abbrev pub of_run : RunFault → ScopeFault
+of_run fault = scope_fault (option_map run_fault (fault_named fault))
 
 -- why a text is no signature
-abbrev pub of_signature : SigFault → StepFault
+abbrev pub of_signature : SigFault → ScopeFault
 of_signature signature.NoMemory = NoMemory
 of_signature _ = Script BadSignature
 
 -- why a text is no kernel's code
-abbrev pub of_code : KernelFault → StepFault
+abbrev pub of_code : KernelFault → ScopeFault
 of_code code.NoMemory = NoMemory
 of_code _ = Script BadKernel

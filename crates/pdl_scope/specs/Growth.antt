@@ -4,31 +4,35 @@ use Rattle.std.proofs.Common.{◌≡◌, [], ◌++◌, append_assoc, refl, sym, 
 use Rattle.pdl_world.specs.Sound.{IsLive}
 use Rattle.pdl_machine.specs.Arrays.{Arrays}
 use Rattle.pdl_machine.specs.Names.{Names}
+use Rattle.pdl_machine.specs.Watches.{Watches}
 use Rattle.pdl_scope.specs.Scope.{Scope, machine, OnlyReads, Grows}
 
 -- nothing was read
 pub reads_refl : (s : Scope) → OnlyReads s s
-reads_refl s = record { names = refl; arrays = refl; stay = λ v is. is }
+reads_refl s = record { names = refl; arrays = refl; watches = refl; stay = λ v is. is }
 
 -- arrays were read, and then others
 pub reads_trans : (a b c : Scope) → OnlyReads a b → OnlyReads b c → OnlyReads a c
 reads_trans a b c g h = record {
   names = h.names ∙ g.names;
   arrays = h.arrays ∙ g.arrays;
+  watches = h.watches ∙ g.watches;
   stay = λ v is. h.stay v (g.stay v is);
 }
 
 -- the machine sees nothing of it
 pub unread : (a b : Scope) → OnlyReads a b → machine b ≡ machine a
 unread a b g =
-    ap (λ (n : Names). record { names = n; arrays = b.arrays }) g.names
-    ∙ ap (λ (r : Arrays). record { names = a.names; arrays = r }) g.arrays
+    ap (λ (n : Names). record { names = n; arrays = b.arrays; watches = b.watches }) g.names
+    ∙ ap (λ (r : Arrays). record { names = a.names; arrays = r; watches = b.watches }) g.arrays
+    ∙ ap (λ (ws : Watches). record { names = a.names; arrays = a.arrays; watches = ws }) g.watches
 
 -- and nothing came
 pub reads_grow : (a b : Scope) → OnlyReads a b → Grows a b
 reads_grow a b g = record {
   names = g.names;
   arrays = record { more = []; is = ap (λ (r : Arrays). r.world) g.arrays };
+  watches = g.watches;
   still = λ v live. (let P : Arrays → Type 0 = λ r. IsLive r.world v in subst P (sym g.arrays) live);
   stay = g.stay;
 }
@@ -38,6 +42,7 @@ pub grows_refl : (s : Scope) → Grows s s
 grows_refl s = record {
   names = refl;
   arrays = record { more = []; is = refl };
+  watches = refl;
   still = λ v live. live;
   stay = λ v is. is;
 }
@@ -51,6 +56,7 @@ grows_trans a b c g h = record {
     is = h.arrays.is ∙ ap (λ w. h.arrays.more ++ w) g.arrays.is
         ∙ sym (append_assoc h.arrays.more g.arrays.more a.arrays.world);
   };
+  watches = h.watches ∙ g.watches;
   still = λ v live. h.still v (g.still v live);
   stay = λ v is. h.stay v (g.stay v is);
 }

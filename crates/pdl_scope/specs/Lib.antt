@@ -4,3 +4,4 @@ pub mod Faults
 pub mod Holding
 pub mod Room
 pub mod Growth
+pub mod Assigning

@@ -10,7 +10,7 @@ ghost use Rattle.pdl_machine.specs.Kernels.{called_on, kernel_outputs, outputs_c
 ghost use Rattle.pdl_scope.specs.Answers.{AnswersAs};
 ghost use Rattle.pdl_scope.specs.Scope.{arrays_of, arrays_seen, made_in, shape_in};
 
-use crate::fault::StepFault;
+use crate::fault::ScopeFault;
 use crate::reading::ready;
 use pdl_buf::{Made, Steps};
 use pdl_engine::{ArrayId, Engine};
@@ -30,7 +30,7 @@ pub(crate) fn kernel_outputs<L: Ledger>(
     wanted: usize,
     ids: &[ArrayId],
     steps: &mut Steps<L>,
-) -> Result<Vec<Made>, StepFault>
+) -> Result<Vec<Made>, ScopeFault>
     requires { All (IsLive engine.old.world) ids.now }
     ensures value { let seen = arrays_seen (arrays_of engine.old) ids.now in
         AnswersAs (λ ms. ms.items) (kernel_outputs kernel.now wanted seen) result }
@@ -39,7 +39,7 @@ pub(crate) fn kernel_outputs<L: Ledger>(
     ensures stay { StayFresh engine.old engine.new }
 {
     if outputs_count(kernel_signature(kernel)) != wanted {
-        return Err(StepFault::Script(Fault::WrongArguments));
+        return Err(ScopeFault::Script(Fault::WrongArguments));
     }
     ready_all(engine, ids, steps)?;
     called_on(alloc, kernel, engine, ids)
@@ -87,7 +87,7 @@ fn called_on(
     kernel: &Kernel,
     engine: &Engine,
     ids: &[ArrayId],
-) -> Result<Vec<Made>, StepFault>
+) -> Result<Vec<Made>, ScopeFault>
     requires live { All (IsLive engine.now.world) ids.now }
     requires fresh { All (λ v. is_fresh engine.now v ≡ true) ids.now }
     ensures value { let arrays = map (made_in engine.now) ids.now in
@@ -97,13 +97,13 @@ fn called_on(
     let shapes = shapes_of(alloc, engine, ids)?;
     let resolved = match resolve(alloc, kernel_signature(kernel), &shapes) {
         Ok(resolved) => resolved,
-        Err(fault) => return Err(StepFault::from(fault)),
+        Err(fault) => return Err(ScopeFault::from(fault)),
     };
     let mut run = KernelRun::begin(alloc, kernel, resolved)?;
     give_all(&mut run, engine, ids)?;
     match run.finish() {
         Ok(outputs) => Ok(outputs),
-        Err(fault) => Err(StepFault::from(fault)),
+        Err(fault) => Err(ScopeFault::from(fault)),
     }
 }
 

@@ -3,18 +3,19 @@ ghost use Rattle.std.specs.Prelude.{◌≡◌, ◌+◌, ◌<◌, ◌≤◌, ◌^
 ghost use Rattle.pdl_world.specs.Cut.{has_views, sever, reshape};
 ghost use Rattle.pdl_world.specs.Sound.{IsLive};
 ghost use Rattle.pdl_engine.specs.State.{StayFresh};
-ghost use Rattle.pdl_syntax.specs.StatementTree.{undef as undef'};
 ghost use Rattle.pdl_machine.specs.Cuts.{cut, reshaped};
 ghost use Rattle.pdl_machine.specs.State.{with_arrays};
-ghost use Rattle.pdl_machine.specs.Step.{bind_value, effect, severing};
+ghost use Rattle.pdl_machine.specs.Names.{unbind, Names};
+ghost use Rattle.pdl_machine.specs.Step.{bind_value, severing};
 ghost use Rattle.pdl_machine.specs.Then.{and_then};
 ghost use Rattle.pdl_scope.specs.Answers.{Runs};
 ghost use Rattle.pdl_scope.specs.Holding.{IsHeldBeside, StaysHeld};
 ghost use Rattle.pdl_scope.specs.Scope.{machine};
 
-use crate::fault::StepFault;
+use crate::fault::ScopeFault;
 use crate::holding::{bind_one, hold_parent, note};
 use crate::scope::Scope;
+use crate::watching::is_watched;
 use pdl_buf::Steps;
 use pdl_elem::Name;
 use pdl_engine::{ArrayId, Engine};
@@ -26,7 +27,7 @@ use std::sync::ledger::Ledger;
 
 impl Scope {
     /// Cuts an array from its parent. The parent is kept until the statement ends.
-    pub fn sever<L: Ledger>(&mut self, id: ArrayId, steps: &mut Steps<L>) -> Result<(), StepFault>
+    pub fn sever<L: Ledger>(&mut self, id: ArrayId, steps: &mut Steps<L>) -> Result<(), ScopeFault>
         requires { IsLive self.old.arrays.world id }
         ensures { Runs (severing (machine self.old) id) self.old self.new [] [] result }
     {
@@ -41,14 +42,14 @@ impl Scope {
         name: &Name,
         id: ArrayId,
         steps: &mut Steps<L>,
-    ) -> Result<(), StepFault>
+    ) -> Result<(), ScopeFault>
         requires { IsLive self.old.arrays.world id }
         ensures { let arrays = cut self.old.arrays id in
             let wanted = bind_value (machine self.old) name.now (arrays, id) in
             Runs wanted self.old self.new [] [] result }
     {
         if self.names.is_full_for(name) {
-            return Err(StepFault::Script(Fault::TooManyNames));
+            return Err(ScopeFault::Script(Fault::TooManyNames));
         }
         cut_laws();
         let name = name.clone()?;
@@ -65,21 +66,21 @@ impl Scope {
         Ok(())
     }
 
-    /// Gives an array other dimensions, with `StillConnected` where it has views. The parent that
-    /// it may have is kept until the statement ends.
+    /// Gives an array other dimensions, with `StillConnected` where it has views or a watcher is
+    /// attached to it. The parent that it may have is kept until the statement ends.
     pub fn reshape<L: Ledger>(
         &mut self,
         id: ArrayId,
         dims: &Dims,
         steps: &mut Steps<L>,
-    ) -> Result<(), StepFault>
+    ) -> Result<(), ScopeFault>
         requires { IsLive self.old.arrays.world id }
-        ensures { let arrays = reshaped self.old.arrays id dims.now in
+        ensures { let arrays = reshaped self.old.watches self.old.arrays id dims.now in
             let wanted = and_then arrays (λ a. Ok (with_arrays (machine self.old) a, [])) in
             Runs wanted self.old self.new [] [] result }
     {
-        if self.engine.has_views(id) {
-            return Err(StepFault::Script(Fault::StillConnected));
+        if self.engine.has_views(id) || is_watched(&self.watches, id) {
+            return Err(ScopeFault::Script(Fault::StillConnected));
         }
         self.leaving.reserve(1)?;
         Ok(laid_anew(&mut self.engine, &mut self.leaving, id, dims, steps)?)
@@ -87,8 +88,10 @@ impl Scope {
 
     /// Takes a name away, with `UnknownName` where it isn't bound. Its array is kept until the
     /// statement ends.
-    pub fn undef(&mut self, name: &Name) -> Result<(), StepFault>
-        ensures { let wanted = effect (machine self.old) (undef' name.now) in
+    pub fn undef(&mut self, name: &Name) -> Result<(), ScopeFault>
+        ensures { let names = unbind self.old.names name.now in
+            let after = λ (ns : Names). record (machine self.old) { names = ns } in
+            let wanted = and_then names (λ ns. Ok (after ns, [])) in
             Runs wanted self.old self.new [] [] result }
     {
         keeping_laws();
@@ -98,7 +101,7 @@ impl Scope {
                 note(&mut self.leaving, had);
                 Ok(())
             }
-            None => Err(StepFault::Script(Fault::UnknownName)),
+            None => Err(ScopeFault::Script(Fault::UnknownName)),
         }
     }
 }

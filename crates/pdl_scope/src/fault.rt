@@ -1,4 +1,4 @@
-//! Why a call gave nothing.
+//! Why a call of a scope gave nothing.
 use pdl_engine::ViewFault;
 use pdl_kernel::{KernelFault, RunFault};
 use pdl_machine::Fault;
@@ -8,166 +8,166 @@ use pdl_sig::{ResolveFault, SigFault};
 use pdl_slices::SliceFault;
 use std::alloc::{AllocError, AllocFailed};
 
-/// Why a call gave nothing.
+/// Why a call gave nothing. What it leaves then is said at the call, and is the same for both.
 #[derive(Clone, Copy, PartialEq, Eq, Debug)]
-pub enum StepFault {
-    /// The script's fault. What it leaves is said at the call.
+pub enum ScopeFault {
+    /// The script's fault.
     Script(Fault),
-    /// There was no memory. What was asked may only be dropped.
+    /// There was no memory.
     NoMemory,
 }
 
-impl From<AllocError> for StepFault {
+impl From<AllocError> for ScopeFault {
     ghost use Rattle.std.specs.Prelude.{◌≡◌};
-    ghost use Rattle.pdl_scope.specs.declared.fault.StepFault.TheVariants.{NoMemory};
+    ghost use Rattle.pdl_scope.specs.declared.fault.ScopeFault.TheVariants.{NoMemory};
 
     ghost from_gives = { λ _ fault. fault ≡ NoMemory };
 
-    fn from(_: AllocError) -> StepFault {
-        StepFault::NoMemory
+    fn from(_: AllocError) -> ScopeFault {
+        ScopeFault::NoMemory
     }
 }
 
-impl<T: Drop> From<AllocFailed<T>> for StepFault {
+impl<T: Drop> From<AllocFailed<T>> for ScopeFault {
     ghost use Rattle.std.specs.Prelude.{◌≡◌};
-    ghost use Rattle.pdl_scope.specs.declared.fault.StepFault.TheVariants.{NoMemory};
+    ghost use Rattle.pdl_scope.specs.declared.fault.ScopeFault.TheVariants.{NoMemory};
 
     ghost from_gives = { λ _ fault. fault ≡ NoMemory };
 
-    fn from(_: AllocFailed<T>) -> StepFault {
-        StepFault::NoMemory
+    fn from(_: AllocFailed<T>) -> ScopeFault {
+        ScopeFault::NoMemory
     }
 }
 
-impl From<ViewFault> for StepFault {
+impl From<ViewFault> for ScopeFault {
     ghost use Rattle.std.specs.Prelude.{◌≡◌};
     ghost use Rattle.pdl_scope.specs.Faults.{of_view};
 
     ghost from_gives = { λ refused fault. fault ≡ of_view refused };
 
-    fn from(refused: ViewFault) -> StepFault {
+    fn from(refused: ViewFault) -> ScopeFault {
         match refused {
-            ViewFault::BadDimension => StepFault::Script(Fault::BadDimension),
-            ViewFault::Mismatch => StepFault::Script(Fault::Mismatch),
-            ViewFault::OutOfRange => StepFault::Script(Fault::OutOfRange),
-            ViewFault::TooManyDims => StepFault::Script(Fault::TooManyDims),
-            ViewFault::TooLarge => StepFault::Script(Fault::TooLarge),
-            ViewFault::TooDeep => StepFault::Script(Fault::TooDeep),
-            ViewFault::NoMemory => StepFault::NoMemory,
+            ViewFault::BadDimension => ScopeFault::Script(Fault::BadDimension),
+            ViewFault::Mismatch => ScopeFault::Script(Fault::Mismatch),
+            ViewFault::OutOfRange => ScopeFault::Script(Fault::OutOfRange),
+            ViewFault::TooManyDims => ScopeFault::Script(Fault::TooManyDims),
+            ViewFault::TooLarge => ScopeFault::Script(Fault::TooLarge),
+            ViewFault::TooDeep => ScopeFault::Script(Fault::TooDeep),
+            ViewFault::NoMemory => ScopeFault::NoMemory,
         }
     }
 }
 
-impl From<OpFault> for StepFault {
+impl From<OpFault> for ScopeFault {
     ghost use Rattle.std.specs.Prelude.{◌≡◌};
     ghost use Rattle.pdl_scope.specs.Faults.{of_operator};
 
     ghost from_gives = { λ refused fault. fault ≡ of_operator refused };
 
-    fn from(refused: OpFault) -> StepFault {
+    fn from(refused: OpFault) -> ScopeFault {
         match refused {
-            OpFault::Mismatch => StepFault::Script(Fault::Mismatch),
-            OpFault::TooLarge => StepFault::Script(Fault::TooLarge),
-            OpFault::DivideByZero { .. } => StepFault::Script(Fault::DivideByZero),
-            OpFault::NoMemory => StepFault::NoMemory,
+            OpFault::Mismatch => ScopeFault::Script(Fault::Mismatch),
+            OpFault::TooLarge => ScopeFault::Script(Fault::TooLarge),
+            OpFault::DivideByZero { .. } => ScopeFault::Script(Fault::DivideByZero),
+            OpFault::NoMemory => ScopeFault::NoMemory,
         }
     }
 }
 
-impl From<ReduceFault> for StepFault {
+impl From<ReduceFault> for ScopeFault {
     ghost use Rattle.std.specs.Prelude.{◌≡◌};
     ghost use Rattle.pdl_scope.specs.Faults.{of_reduce};
 
     ghost from_gives = { λ refused fault. fault ≡ of_reduce refused };
 
-    fn from(refused: ReduceFault) -> StepFault {
+    fn from(refused: ReduceFault) -> ScopeFault {
         match refused {
-            ReduceFault::Mismatch => StepFault::Script(Fault::Mismatch),
-            ReduceFault::TooManyDims => StepFault::Script(Fault::TooManyDims),
-            ReduceFault::TooLarge => StepFault::Script(Fault::TooLarge),
-            ReduceFault::TooMuchWork => StepFault::Script(Fault::TooMuchWork),
-            ReduceFault::EmptyReduce => StepFault::Script(Fault::EmptyReduce),
-            ReduceFault::NoMemory => StepFault::NoMemory,
+            ReduceFault::Mismatch => ScopeFault::Script(Fault::Mismatch),
+            ReduceFault::TooManyDims => ScopeFault::Script(Fault::TooManyDims),
+            ReduceFault::TooLarge => ScopeFault::Script(Fault::TooLarge),
+            ReduceFault::TooMuchWork => ScopeFault::Script(Fault::TooMuchWork),
+            ReduceFault::EmptyReduce => ScopeFault::Script(Fault::EmptyReduce),
+            ReduceFault::NoMemory => ScopeFault::NoMemory,
         }
     }
 }
 
-impl From<SliceFault> for StepFault {
+impl From<SliceFault> for ScopeFault {
     ghost use Rattle.std.specs.Prelude.{◌≡◌};
     ghost use Rattle.pdl_scope.specs.Faults.{of_slice};
 
     ghost from_gives = { λ refused fault. fault ≡ of_slice refused };
 
-    fn from(refused: SliceFault) -> StepFault {
+    fn from(refused: SliceFault) -> ScopeFault {
         match refused {
-            SliceFault::BadText { .. } => StepFault::Script(Fault::BadSlice),
-            SliceFault::TooManyArgs => StepFault::Script(Fault::BadSlice),
-            SliceFault::NumberTooLarge => StepFault::Script(Fault::BadSlice),
-            SliceFault::ZeroStep => StepFault::Script(Fault::BadSlice),
-            SliceFault::NoMemory => StepFault::NoMemory,
+            SliceFault::BadText { .. } => ScopeFault::Script(Fault::BadSlice),
+            SliceFault::TooManyArgs => ScopeFault::Script(Fault::BadSlice),
+            SliceFault::NumberTooLarge => ScopeFault::Script(Fault::BadSlice),
+            SliceFault::ZeroStep => ScopeFault::Script(Fault::BadSlice),
+            SliceFault::NoMemory => ScopeFault::NoMemory,
         }
     }
 }
 
-impl From<ResolveFault> for StepFault {
+impl From<ResolveFault> for ScopeFault {
     ghost use Rattle.std.specs.Prelude.{◌≡◌};
     ghost use Rattle.pdl_scope.specs.Faults.{of_resolve};
 
     ghost from_gives = { λ refused fault. fault ≡ of_resolve refused };
 
-    fn from(refused: ResolveFault) -> StepFault {
+    fn from(refused: ResolveFault) -> ScopeFault {
         match refused {
-            ResolveFault::ArgCount => StepFault::Script(Fault::WrongArguments),
-            ResolveFault::CoreMismatch => StepFault::Script(Fault::Mismatch),
-            ResolveFault::BroadcastMismatch => StepFault::Script(Fault::Mismatch),
-            ResolveFault::StretchedInOut => StepFault::Script(Fault::Mismatch),
-            ResolveFault::TooManyDims => StepFault::Script(Fault::TooManyDims),
-            ResolveFault::TooLarge => StepFault::Script(Fault::TooLarge),
-            ResolveFault::TooMuchWork => StepFault::Script(Fault::TooMuchWork),
-            ResolveFault::NoMemory => StepFault::NoMemory,
+            ResolveFault::ArgCount => ScopeFault::Script(Fault::WrongArguments),
+            ResolveFault::CoreMismatch => ScopeFault::Script(Fault::Mismatch),
+            ResolveFault::BroadcastMismatch => ScopeFault::Script(Fault::Mismatch),
+            ResolveFault::StretchedInOut => ScopeFault::Script(Fault::Mismatch),
+            ResolveFault::TooManyDims => ScopeFault::Script(Fault::TooManyDims),
+            ResolveFault::TooLarge => ScopeFault::Script(Fault::TooLarge),
+            ResolveFault::TooMuchWork => ScopeFault::Script(Fault::TooMuchWork),
+            ResolveFault::NoMemory => ScopeFault::NoMemory,
         }
     }
 }
 
-impl From<RunFault> for StepFault {
+impl From<RunFault> for ScopeFault {
     ghost use Rattle.std.specs.Prelude.{◌≡◌};
     ghost use Rattle.pdl_scope.specs.Faults.{of_run};
 
     ghost from_gives = { λ refused fault. fault ≡ of_run refused };
 
-    fn from(refused: RunFault) -> StepFault {
+    fn from(refused: RunFault) -> ScopeFault {
         match refused {
-            RunFault::DivideByZero { .. } => StepFault::Script(Fault::DivideByZero),
-            RunFault::IndexOutOfRange { .. } => StepFault::Script(Fault::OutOfRange),
-            RunFault::NoMemory => StepFault::NoMemory,
+            RunFault::DivideByZero { .. } => ScopeFault::Script(Fault::DivideByZero),
+            RunFault::IndexOutOfRange { .. } => ScopeFault::Script(Fault::OutOfRange),
+            RunFault::NoMemory => ScopeFault::NoMemory,
         }
     }
 }
 
-impl From<SigFault> for StepFault {
+impl From<SigFault> for ScopeFault {
     ghost use Rattle.std.specs.Prelude.{◌≡◌};
     ghost use Rattle.pdl_scope.specs.Faults.{of_signature};
 
     ghost from_gives = { λ refused fault. fault ≡ of_signature refused };
 
-    fn from(refused: SigFault) -> StepFault {
+    fn from(refused: SigFault) -> ScopeFault {
         match refused {
-            SigFault::NoMemory => StepFault::NoMemory,
-            _ => StepFault::Script(Fault::BadSignature),
+            SigFault::NoMemory => ScopeFault::NoMemory,
+            _ => ScopeFault::Script(Fault::BadSignature),
         }
     }
 }
 
-impl From<KernelFault> for StepFault {
+impl From<KernelFault> for ScopeFault {
     ghost use Rattle.std.specs.Prelude.{◌≡◌};
     ghost use Rattle.pdl_scope.specs.Faults.{of_code};
 
     ghost from_gives = { λ refused fault. fault ≡ of_code refused };
 
-    fn from(refused: KernelFault) -> StepFault {
+    fn from(refused: KernelFault) -> ScopeFault {
         match refused {
-            KernelFault::NoMemory => StepFault::NoMemory,
-            _ => StepFault::Script(Fault::BadKernel),
+            KernelFault::NoMemory => ScopeFault::NoMemory,
+            _ => ScopeFault::Script(Fault::BadKernel),
         }
     }
 }

@@ -7,9 +7,10 @@ ghost use Rattle.pdl_world.specs.Sound.{IsLive};
 ghost use Rattle.pdl_engine.specs.Held.{count_at};
 ghost use Rattle.pdl_machine.specs.Names.{Names as AllNames, with_name, names_limit};
 ghost use Rattle.pdl_machine.specs.State.{AreLive};
+ghost use Rattle.pdl_machine.specs.Watches.{Watches};
 ghost use Rattle.pdl_scope.specs.Room.{with_names};
 ghost use Rattle.pdl_scope.specs.Scope.{state_in, IsHeld};
-ghost use Rattle.pdl_scope.specs.Holding.{IsHeldBeside, IsHeldFor, IsHeldForName, SameButHolds, StaysHeld, LetsGo};
+ghost use Rattle.pdl_scope.specs.Holding.{IsHeldBeside, IsHeldForName, IsHeldWith, SameButHolds, StaysHeld, StaysHeldFor, LetsGo};
 
 use crate::names::Names;
 use pdl_buf::Steps;
@@ -106,10 +107,11 @@ pub(crate) fn bind_one(
     requires room { length leaving.old.items < vec_capacity leaving.old }
     requires few { length (with_name names.old.entries name id) ≤ names_limit }
     requires small { length leaving.old.items < 2 ^ 62 }
-    requires held { IsHeldFor names.old.entries engine.old leaving.old.items }
+    requires held { IsHeldWith names.old.entries engine.old leaving.old.items }
     ensures names { names.new.entries ≡ with_name names.old.entries name id }
     ensures same { SameButHolds engine.old engine.new }
-    ensures held { IsHeldFor names.new.entries engine.new leaving.new.items }
+    ensures held { StaysHeldFor names.old.entries engine.old leaving.old.items
+        names.new.entries engine.new leaving.new.items }
     ensures spare { names.old.spare ≤ names.new.spare + 1 }
     ensures count { length leaving.new.items ≤ length leaving.old.items + 1 }
     ensures room { vec_capacity leaving.old ≤ vec_capacity leaving.new }
@@ -134,10 +136,11 @@ pub(crate) fn bind_all(
     requires room { length leaving.old.items + length bound.items ≤ vec_capacity leaving.old }
     requires small { length leaving.old.items + length bound.items < 2 ^ 62 }
     requires few { length (with_names names.old.entries bound.items) ≤ names_limit }
-    requires held { IsHeldFor names.old.entries engine.old leaving.old.items }
+    requires held { IsHeldWith names.old.entries engine.old leaving.old.items }
     ensures names { names.new.entries ≡ with_names names.old.entries bound.items }
     ensures same { SameButHolds engine.old engine.new }
-    ensures held { IsHeldFor names.new.entries engine.new leaving.new.items }
+    ensures held { StaysHeldFor names.old.entries engine.old leaving.old.items
+        names.new.entries engine.new leaving.new.items }
 {
     bound.reverse();
     while let Some((name, id)) = bound.pop() {
@@ -145,11 +148,13 @@ pub(crate) fn bind_all(
     }
 }
 
-/// Takes one hold back for each place in a list. That is unseen where names hold all the others.
+/// Takes one hold back for each place in a list. That is unseen where names and watches hold all
+/// the others.
 pub(crate) fn release_all<L: Ledger>(engine: &mut Engine, leaving: &[ArrayId], steps: &mut Steps<L>)
     requires { IsHeldBeside engine.old leaving.now }
-    ensures { (names : AllNames) → IsHeld (state_in names engine.old) engine.old.holds leaving.now →
-        LetsGo names engine.old engine.new [] }
+    ensures { (names : AllNames) (watches : Watches) →
+        IsHeld (state_in names watches engine.old) engine.old.holds leaving.now →
+        LetsGo names watches engine.old engine.new [] }
 {
     sweep_laws();
     keeping_laws();

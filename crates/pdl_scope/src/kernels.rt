@@ -4,7 +4,7 @@ ghost use Rattle.pdl_machine.specs.declared.fault.Fault.TheVariants.{TooManyKern
 ghost use Rattle.pdl_machine.specs.Names.{found, entered, is_full_for, kernels_limit};
 ghost use Rattle.pdl_scope.specs.Answers.{IsFault};
 
-use crate::fault::StepFault;
+use crate::fault::ScopeFault;
 use indexmap::IndexMap;
 use pdl_elem::Name;
 use pdl_kernel::Kernel;
@@ -53,7 +53,7 @@ impl Kernels {
 
     /// Defines a kernel of a name, with `TooManyKernels` where it is new and 256 are there. A known
     /// kernel is defined anew.
-    pub fn define(&mut self, name: Name, kernel: Kernel) -> Result<(), StepFault>
+    pub fn define(&mut self, name: Name, kernel: Kernel) -> Result<(), ScopeFault>
         ensures ok { let wanted = entered kernels_limit TooManyKernels self.old name kernel in
             OnOk result (wanted ≡ Ok self.new) }
         ensures fault { let wanted = entered kernels_limit TooManyKernels self.old name kernel in
@@ -61,11 +61,11 @@ impl Kernels {
         ensures err { OnErr result (self.new ≡ self.old) }
     {
         if self.is_full_for(&name) {
-            return Err(StepFault::Script(Fault::TooManyKernels));
+            return Err(ScopeFault::Script(Fault::TooManyKernels));
         }
         match self.kernels.insert(name, kernel) {
             Ok(_) => Ok(()),
-            Err(_) => Err(StepFault::NoMemory),
+            Err(_) => Err(ScopeFault::NoMemory),
         }
     }
 

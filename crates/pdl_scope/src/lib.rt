@@ -1,6 +1,6 @@
-//! A scope: what a session keeps. It has names, kernels and arrays, is seen as a state of the eager
-//! machine (`pdl_machine`), and each change of it is one call, whose contract is the machine's
-//! definition. It knows arrays by their numbers alone.
+//! A scope: what a session keeps. It has names, kernels, arrays and the slots of watchers, is seen
+//! as a state of the eager machine (`pdl_machine`), and each change of it is one call, whose contract
+//! is the machine's definition. It knows arrays by their numbers alone, and watchers by their slots.
 #![tactic(auto)]
 
 mod calling;
@@ -14,6 +14,7 @@ mod print;
 mod reading;
 mod reducing;
 mod scope;
+mod watching;
 
-pub use fault::StepFault;
+pub use fault::ScopeFault;
 pub use scope::Scope;

@@ -5,7 +5,7 @@ ghost use Rattle.pdl_machine.specs.Names.{found, entered, is_full_for, with_name
 ghost use Rattle.pdl_scope.specs.Answers.{IsFault};
 ghost use Rattle.pdl_scope.specs.Room.{new_among, has_room};
 
-use crate::fault::StepFault;
+use crate::fault::ScopeFault;
 use indexmap::IndexMap;
 use pdl_elem::Name;
 use pdl_engine::ArrayId;
@@ -50,7 +50,7 @@ impl Names {
 
     /// Binds a name to an array, with `TooManyNames` where it is new and 512 are bound. It answers
     /// the array that a known name gives up.
-    pub fn bind(&mut self, name: &Name, id: ArrayId) -> Result<Option<ArrayId>, StepFault>
+    pub fn bind(&mut self, name: &Name, id: ArrayId) -> Result<Option<ArrayId>, ScopeFault>
         ensures ok { let wanted = entered names_limit TooManyNames self.old.entries name.now id in
             OnOk result (wanted ≡ Ok self.new.entries) }
         ensures given_up { IfOk result (λ had. had ≡ found self.old.entries name.now) }
@@ -85,7 +85,7 @@ impl Names {
     }
 
     /// Binds a name that isn't bound, with `TooManyNames` where 512 are.
-    fn bind_new(&mut self, name: &Name, id: ArrayId) -> Result<Option<ArrayId>, StepFault>
+    fn bind_new(&mut self, name: &Name, id: ArrayId) -> Result<Option<ArrayId>, ScopeFault>
         requires { found self.old.entries name.now ≡ None }
         ensures ok { let wanted = entered names_limit TooManyNames self.old.entries name.now id in
             OnOk result (wanted ≡ Ok self.new.entries) }
@@ -95,11 +95,11 @@ impl Names {
         ensures err { OnErr result (self.new.entries ≡ self.old.entries) }
     {
         if self.arrays.len() >= MOST_NAMES {
-            return Err(StepFault::Script(Fault::TooManyNames));
+            return Err(ScopeFault::Script(Fault::TooManyNames));
         }
         match self.arrays.insert(name.clone()?, id) {
             Ok(_) => Ok(None),
-            Err(_) => Err(StepFault::NoMemory),
+            Err(_) => Err(ScopeFault::NoMemory),
         }
     }
 

@@ -11,17 +11,21 @@ ghost use Rattle.pdl_machine.specs.Outcome.{new_root};
 ghost use Rattle.pdl_machine.specs.Step.{assigned};
 ghost use Rattle.pdl_machine.specs.State.{with_arrays};
 ghost use Rattle.pdl_machine.specs.Then.{and_then};
+ghost use Rattle.pdl_machine.specs.Watches.{notices};
+ghost use Rattle.pdl_watch.specs.Slots.{lists_of};
 ghost use Rattle.pdl_scope.specs.Answers.{Answers, AnswersAs, Evaluates, Runs};
 ghost use Rattle.pdl_scope.specs.Scope.{machine, Grows, arrays_of};
 
-use crate::fault::StepFault;
+use crate::fault::ScopeFault;
 use crate::reading::{ready, ready_two};
 use crate::scope::Scope;
+use crate::watching::foreseen;
 use pdl_buf::{Made, Steps};
 use pdl_elem::{BinaryOp, UnaryOp};
 use pdl_engine::{ArrayId, Engine};
 use pdl_lexemes::AssignOp;
 use pdl_ops::{elementwise, unary_each, values_for};
+use pdl_watch::Notice;
 use pdl_world::{assignment_laws, keeping_laws};
 use std::alloc::Global;
 use std::sync::ledger::Ledger;
@@ -33,7 +37,7 @@ impl Scope {
         op: UnaryOp,
         id: ArrayId,
         steps: &mut Steps<L>,
-    ) -> Result<ArrayId, StepFault>
+    ) -> Result<ArrayId, ScopeFault>
         requires { IsLive self.old.arrays.world id }
         ensures value { let wanted = unary_each op (array_in self.old.arrays id) in
             Evaluates (new_root self.old.arrays wanted) self.new result }
@@ -51,7 +55,7 @@ impl Scope {
         left: ArrayId,
         right: ArrayId,
         steps: &mut Steps<L>,
-    ) -> Result<ArrayId, StepFault>
+    ) -> Result<ArrayId, ScopeFault>
         requires left { IsLive self.old.arrays.world left }
         requires right { IsLive self.old.arrays.world right }
         ensures value { let a = self.old.arrays in
@@ -66,29 +70,43 @@ impl Scope {
         }
     }
 
-    /// Assigns an array to another one by a sign: all values are found before one is written.
+    /// Assigns an array to another one by a sign, and answers by slots what watchers are to be
+    /// told: a notice of this number for each position at which the array of the slot changed. All
+    /// values and all notices are found before one value is written, which takes no memory.
     pub fn assign<L: Ledger>(
         &mut self,
         sign: AssignOp,
         target: ArrayId,
         value: ArrayId,
+        number: u64,
         steps: &mut Steps<L>,
-    ) -> Result<(), StepFault>
+    ) -> Result<Vec<Vec<Notice>>, ScopeFault>
         requires target { IsLive self.old.arrays.world target }
         requires value { IsLive self.old.arrays.world value }
-        ensures { let values = assigned sign self.old.arrays target value in
+        ensures runs { let values = assigned sign self.old.arrays target value in
             let wanted = and_then values (λ a. Ok (with_arrays (machine self.old) a, [])) in
             Runs wanted self.old self.new [] [] result }
+        ensures told { let before = self.old.arrays.world in
+            let wanted = notices number before self.new.arrays.world self.old.watches in
+            IfOk result (λ all. lists_of all.items ≡ wanted) }
     {
         assignment_laws();
         keeping_laws();
-        match written(self.alloc, &mut self.engine, sign, target, value, steps) {
-            Ok(values) => {
-                self.engine.assign(target, &values, steps);
-                Ok(())
-            }
-            Err(fault) => Err(fault),
-        }
+        let values = match written(self.alloc, &mut self.engine, sign, target, value, steps) {
+            Ok(values) => values,
+            Err(fault) => return Err(fault),
+        };
+        let all = foreseen(
+            self.alloc,
+            &mut self.engine,
+            number,
+            target,
+            &values,
+            &self.watches,
+            steps,
+        )?;
+        self.engine.assign(target, &values, steps);
+        Ok(all)
     }
 }
 
@@ -99,7 +117,7 @@ fn operated(
     op: BinaryOp,
     left: ArrayId,
     right: ArrayId,
-) -> Result<Made, StepFault>
+) -> Result<Made, ScopeFault>
     requires left { IsLive engine.now.world left }
     requires right { IsLive engine.now.world right }
     requires left_fresh { is_fresh engine.now left ≡ true }
@@ -110,7 +128,7 @@ fn operated(
 {
     match elementwise(alloc, op, &engine.lend(left), &engine.lend(right)) {
         Ok(made) => Ok(made),
-        Err(fault) => Err(StepFault::from(fault)),
+        Err(fault) => Err(ScopeFault::from(fault)),
     }
 }
 
@@ -122,7 +140,7 @@ fn written_at_once(
     sign: AssignOp,
     target: ArrayId,
     value: ArrayId,
-) -> Option<Result<Vec<i64>, StepFault>>
+) -> Option<Result<Vec<i64>, ScopeFault>>
     requires target { IsLive engine.now.world target }
     requires value { IsLive engine.now.world value }
     ensures fresh { is_some result ≡ (is_fresh engine.now target && is_fresh engine.now value) }
@@ -136,7 +154,7 @@ fn written_at_once(
     let from = engine.try_lend(value)?;
     match values_for(alloc, sign, &into, &from) {
         Ok(values) => Some(Ok(values)),
-        Err(fault) => Some(Err(StepFault::from(fault))),
+        Err(fault) => Some(Err(ScopeFault::from(fault))),
     }
 }
 
@@ -148,7 +166,7 @@ fn written<L: Ledger>(
     target: ArrayId,
     value: ArrayId,
     steps: &mut Steps<L>,
-) -> Result<Vec<i64>, StepFault>
+) -> Result<Vec<i64>, ScopeFault>
     requires target { IsLive engine.old.world target }
     requires value { IsLive engine.old.world value }
     ensures same { SameArrays engine.old engine.new }

@@ -151,7 +151,7 @@ pub(crate) fn ready_two<L: Ledger>(
 }
 
 /// The elements that are shown.
-fn all_shown(alloc: Global, window: &Strided<'_>) -> Result<Vec<i64>, AllocError>
+pub(crate) fn all_shown(alloc: Global, window: &Strided<'_>) -> Result<Vec<i64>, AllocError>
     ensures items { IfOk result (λ ns. ns.items ≡ window.now.elems) }
     ensures in_range { IfOk result (λ ns. All (InRange window.now.ty) ns.items) }
     ensures count { IfOk result (λ ns. length ns.items ≡ size_of window.now.dims) }

@@ -12,7 +12,7 @@ ghost use Rattle.pdl_machine.specs.Refused.{reduce_fault, or_named};
 ghost use Rattle.pdl_scope.specs.Answers.{Answers};
 ghost use Rattle.pdl_scope.specs.Scope.{OnlyReads};
 
-use crate::fault::StepFault;
+use crate::fault::ScopeFault;
 use crate::reading::{ready, ready_two};
 use crate::scope::Scope;
 use pdl_buf::{Made, Steps};
@@ -27,7 +27,7 @@ impl Scope {
         kind: Reduction,
         id: ArrayId,
         steps: &mut Steps<L>,
-    ) -> Result<Made, StepFault>
+    ) -> Result<Made, ScopeFault>
         requires { IsLive self.old.arrays.world id }
         ensures value { let wanted = reduced kind (array_in self.old.arrays id) in
             Answers (or_named reduce_fault wanted) result }
@@ -44,7 +44,7 @@ impl Scope {
         kind: Whole,
         id: ArrayId,
         steps: &mut Steps<L>,
-    ) -> Result<Made, StepFault>
+    ) -> Result<Made, ScopeFault>
         requires { IsLive self.old.arrays.world id }
         ensures value { let wanted = whole_reduced kind (array_in self.old.arrays id) in
             Answers (or_named reduce_fault wanted) result }
@@ -62,7 +62,7 @@ impl Scope {
         left: ArrayId,
         right: ArrayId,
         steps: &mut Steps<L>,
-    ) -> Result<Made, StepFault>
+    ) -> Result<Made, ScopeFault>
         requires left { IsLive self.old.arrays.world left }
         requires right { IsLive self.old.arrays.world right }
         ensures value { let a = self.old.arrays in
@@ -78,7 +78,7 @@ impl Scope {
 }
 
 /// What a reduction gave, with its refusal by the name of a script's fault.
-fn named(reduction: Result<Made, ReduceFault>) -> Result<Made, StepFault>
+fn named(reduction: Result<Made, ReduceFault>) -> Result<Made, ScopeFault>
     ensures value { (wanted : Result Made ReduceRefusal) → reduce.Answers wanted reduction →
         Answers (or_named reduce_fault wanted) result }
     ensures made { IfOk reduction (λ m. IsMade m.ty m.dims m.elems) →
@@ -86,6 +86,6 @@ fn named(reduction: Result<Made, ReduceFault>) -> Result<Made, StepFault>
 {
     match reduction {
         Ok(made) => Ok(made),
-        Err(fault) => Err(StepFault::from(fault)),
+        Err(fault) => Err(ScopeFault::from(fault)),
     }
 }

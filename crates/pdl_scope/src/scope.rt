@@ -1,4 +1,4 @@
-//! Names, kernels and arrays.
+//! Names, kernels, arrays, and which of these watchers are attached to.
 ghost use Rattle.std.specs.Prelude.{◌≡◌, ◌<◌, [], length, All, IfOk, IfSome, IsTrue, is_some, slice_get, Some};
 ghost use Rattle.pdl_shape.specs.Shape.{IsDims};
 ghost use Rattle.pdl_buf.specs.Made.{IsMade};
@@ -6,11 +6,10 @@ ghost use Rattle.pdl_world.specs.Formula.{is_well_formed};
 ghost use Rattle.pdl_world.specs.Refused.{view_refusal};
 ghost use Rattle.pdl_world.specs.World.{dims_in, ty_in};
 ghost use Rattle.pdl_world.specs.Sound.{IsLive};
-ghost use Rattle.pdl_world.specs.Swept.{sweep};
 ghost use Rattle.pdl_engine.specs.State.{no_arrays};
 ghost use Rattle.pdl_machine.specs.Calls.{outputs_of};
 ghost use Rattle.pdl_machine.specs.Names.{found, nothing_named, number_of};
-ghost use Rattle.pdl_machine.specs.State.{held, with_world, IsWhole};
+ghost use Rattle.pdl_machine.specs.State.{kept, with_world, IsWhole};
 ghost use Rattle.pdl_machine.specs.Tidy.{tidy};
 ghost use Rattle.pdl_machine.specs.Outcome.{new_root, new_view};
 ghost use Rattle.pdl_machine.specs.Step.{bind_value, roots_bound, kernel_named};
@@ -18,7 +17,7 @@ ghost use Rattle.pdl_scope.specs.Scope.{machine, scope_in, Grows, OnlyReads, arr
 ghost use Rattle.pdl_scope.specs.Answers.{AnswersAs, Evaluates, Runs};
 
 use crate::calling::kernel_outputs;
-use crate::fault::StepFault;
+use crate::fault::ScopeFault;
 use crate::holding::{bind_all, hold_for_name, note, note_some, release_all};
 use crate::kernels::Kernels;
 use crate::names::Names;
@@ -33,14 +32,17 @@ use std::alloc::Global;
 use std::marker::Model;
 use std::sync::ledger::Ledger;
 
-/// Names, kernels, and an engine that keeps the arrays that names reach, and those of the
-/// statement that runs. It is seen as its names, its arrays, and what its engine can lend of them.
+/// Names, kernels, the slots of watchers, and an engine that keeps the arrays that names and
+/// attached slots reach, and those of the statement that runs. It is seen as its names, its arrays,
+/// the arrays that slots are attached to, and what its engine can lend.
 #[derive(Drop)]
 pub struct Scope {
     pub(crate) alloc: Global,
     pub(crate) names: Names,
     kernels: Kernels,
     pub(crate) engine: Engine,
+    /// By slots the array that the slot's watcher is attached to, which is held once more for it.
+    pub(crate) watches: Vec<Option<ArrayId>>,
     /// Arrays that are held once more until the statement ends: those that it made, and those that
     /// a name gave up.
     pub(crate) leaving: Vec<ArrayId>,
@@ -55,22 +57,23 @@ impl Model for Scope {
 
     ghost coded = { Prim.hlevel (codes, coded_code) };
 
-    ghost view = { λ s. scope_in (names_in s.names.entries s.kernels) s.engine };
+    ghost view = { λ s. scope_in (names_in s.names.entries s.kernels) s.watches.items s.engine };
 
-    ghost invariant = { λ s.
-        IsHeld (state_in (names_in s.names.entries s.kernels) s.engine) s.engine.holds s.leaving.items };
+    ghost invariant = { λ s. let names = names_in s.names.entries s.kernels in
+        IsHeld (state_in names s.watches.items s.engine) s.engine.holds s.leaving.items };
 }
 
 impl Scope {
-    /// No names, no kernels and no arrays.
+    /// No names, no kernels, no arrays, and no slot attached.
     pub fn new(alloc: Global) -> Scope
-        ensures { result ≡ scope_in nothing_named no_arrays }
+        ensures { result ≡ scope_in nothing_named [] no_arrays }
     {
         Scope {
             alloc,
             names: Names::new(alloc),
             kernels: Kernels::new(alloc),
             engine: Engine::new(alloc),
+            watches: Vec::new(alloc),
             leaving: Vec::new(alloc),
         }
     }
@@ -135,7 +138,7 @@ impl Scope {
         dims: &Dims,
         elems: Elements,
         steps: &mut Steps<L>,
-    ) -> Result<ArrayId, StepFault>
+    ) -> Result<ArrayId, ScopeFault>
         requires { IsMade ty dims.now elems }
         ensures value { let wanted = new_root self.old.arrays (array_of ty dims.now elems) in
             Evaluates wanted self.new result }
@@ -156,7 +159,7 @@ impl Scope {
         &mut self,
         made: Made,
         steps: &mut Steps<L>,
-    ) -> Result<ArrayId, StepFault>
+    ) -> Result<ArrayId, ScopeFault>
         requires { IsMade made.ty made.dims made.elems }
         ensures value { Evaluates (new_root self.old.arrays made) self.new result }
         ensures grown { Grows self.old self.new }
@@ -170,7 +173,7 @@ impl Scope {
         &mut self,
         made: &Made,
         steps: &mut Steps<L>,
-    ) -> Result<ArrayId, StepFault>
+    ) -> Result<ArrayId, ScopeFault>
         requires { IsMade made.now.ty made.now.dims made.now.elems }
         ensures value { Evaluates (new_root self.old.arrays made.now) self.new result }
         ensures grown { Grows self.old self.new }
@@ -180,7 +183,7 @@ impl Scope {
     }
 
     /// A new view of an array, whose transformation is well formed.
-    pub fn view(&mut self, parent: ArrayId, trans: Trans) -> Result<ArrayId, StepFault>
+    pub fn view(&mut self, parent: ArrayId, trans: Trans) -> Result<ArrayId, ScopeFault>
         requires live { IsLive self.old.arrays.world parent }
         requires well_formed { IsTrue (is_well_formed trans) }
         ensures value { let refusal = view_refusal self.old.arrays.world parent trans in
@@ -198,7 +201,7 @@ impl Scope {
     }
 
     /// Binds a name to an array, with `TooManyNames` where it is new and 512 are bound.
-    pub fn bind(&mut self, name: &Name, id: ArrayId) -> Result<(), StepFault>
+    pub fn bind(&mut self, name: &Name, id: ArrayId) -> Result<(), ScopeFault>
         requires { IsLive self.old.arrays.world id }
         ensures { let wanted = bind_value (machine self.old) name.now (self.old.arrays, id) in
             Runs wanted self.old self.new [] [] result }
@@ -219,14 +222,14 @@ impl Scope {
         bound: &[Name],
         outputs: &[Made],
         steps: &mut Steps<L>,
-    ) -> Result<(), StepFault>
+    ) -> Result<(), ScopeFault>
         requires { All (λ m. IsMade m.ty m.dims m.elems) outputs.now }
         ensures { let wanted = roots_bound (machine self.old) bound.now outputs.now in
             Runs wanted self.old self.new [] [] result }
     {
         let count = bound.len().min(outputs.len());
         if !self.names.has_room(&bound[..count]) {
-            return Err(StepFault::Script(Fault::TooManyNames));
+            return Err(ScopeFault::Script(Fault::TooManyNames));
         }
         // all that wants memory comes before the first name is bound
         let mut made = Vec::with_capacity(self.alloc, count)?;
@@ -241,11 +244,10 @@ impl Scope {
         Ok(())
     }
 
-    /// Takes back the holds that end with a statement, so that what no name reaches goes. What is
-    /// left when the state is tidied is the same.
+    /// Takes back the holds that end with a statement, so that what no name and no watcher reaches
+    /// goes. What is left when the state is tidied is the same.
     pub fn let_go<L: Ledger>(&mut self, steps: &mut Steps<L>)
-        ensures gone { let w = self.old.arrays.world in
-            machine self.new ≡ with_world (machine self.old) (sweep w (held (machine self.old))) }
+        ensures gone { machine self.new ≡ with_world (machine self.old) (kept (machine self.old)) }
         ensures unseen { tidy (machine self.new) ≡ tidy (machine self.old) }
     {
         numbering_laws();
@@ -261,7 +263,7 @@ impl Scope {
     }
 
     /// Defines a kernel of a name, with `TooManyKernels` where it is new and 256 are there.
-    pub fn define(&mut self, name: Name, kernel: Kernel) -> Result<(), StepFault>
+    pub fn define(&mut self, name: Name, kernel: Kernel) -> Result<(), ScopeFault>
         ensures { let wanted = kernel_named (machine self.old) name kernel in
             Runs wanted self.old self.new [] [] result }
     {
@@ -282,7 +284,7 @@ impl Scope {
         wanted: usize,
         ids: &[ArrayId],
         steps: &mut Steps<L>,
-    ) -> Result<Vec<Made>, StepFault>
+    ) -> Result<Vec<Made>, ScopeFault>
         requires { All (IsLive self.old.arrays.world) ids.now }
         ensures value { let seen = arrays_seen self.old.arrays ids.now in
             let outputs = outputs_of self.old.names name.now wanted seen in
@@ -299,7 +301,7 @@ impl Scope {
                 ids,
                 steps,
             ),
-            None => Err(StepFault::Script(Fault::UnknownFunction)),
+            None => Err(ScopeFault::Script(Fault::UnknownFunction)),
         }
     }
 }

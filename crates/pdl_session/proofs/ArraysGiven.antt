@@ -14,7 +14,7 @@ use Rattle.pdl_machine.specs.Outcome.{Seen, array}
 use Rattle.pdl_machine.specs.Then.{and_more, all_of, and_then, or_fault}
 use Rattle.pdl_world.specs.World.{World}
 use Rattle.pdl_world.specs.Sound.{IsLive}
-use Rattle.pdl_scope.specs.declared.fault.StepFault.{StepFault}
+use Rattle.pdl_scope.specs.declared.fault.ScopeFault.{ScopeFault}
 use Rattle.pdl_scope.specs.Answers.{AnswersAs}
 use Rattle.pdl_scope.specs.Scope.{arrays_seen}
 use Rattle.pdl_session.specs.declared.given.Given.{Given}
@@ -57,7 +57,7 @@ seen_as_arrays a [] = refl
 seen_as_arrays a (v ∷ ids) = ap (λ seen. array (array_in a v) ∷ seen) (seen_as_arrays a ids)
 
 -- the answer for the arrays is that for the arguments
-pub outputs_given : (names : Names) (f : List ℕ) (wanted : ℕ) (a : Arrays) (given : List Given) (ids : List ℕ) (r : Result (Vec Made Global) StepFault) → all_of array_number given ≡ Some ids
+pub outputs_given : (names : Names) (f : List ℕ) (wanted : ℕ) (a : Arrays) (given : List Given) (ids : List ℕ) (r : Result (Vec Made Global) ScopeFault) → all_of array_number given ≡ Some ids
     → AnswersAs (λ ms. ms.items) (outputs_of names f wanted (arrays_seen a ids)) r → AnswersAs (λ ms. ms.items) (outputs_of names f wanted (all_seen_of a given)) r
 outputs_given names f wanted a given ids r all h =
     subst (λ (seen : List Seen). AnswersAs (λ (ms : Vec Made Global). ms.items) (outputs_of names f wanted seen) r) (sym (ap (all_seen_of a) (all_arrays given ids all) ∙ seen_as_arrays a ids)) h

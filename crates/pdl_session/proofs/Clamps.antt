@@ -12,8 +12,8 @@ use Rattle.pdl_machine.specs.declared.fault.Fault.TheVariants.{BadDimension}
 use Rattle.pdl_machine.specs.Then.{and_then, or_fault, all_of}
 use Rattle.pdl_machine.specs.Fills.{size, dims_for}
 use Rattle.pdl_machine.specs.Refused.{shape_fault, or_named}
-use Rattle.pdl_scope.specs.declared.fault.StepFault.{StepFault}
-use Rattle.pdl_scope.specs.declared.fault.StepFault.TheVariants.{Script, NoMemory}
+use Rattle.pdl_scope.specs.declared.fault.ScopeFault.{ScopeFault}
+use Rattle.pdl_scope.specs.declared.fault.ScopeFault.TheVariants.{Script, NoMemory}
 use Rattle.pdl_scope.specs.Answers.{IsFault}
 use Rattle.pdl_session.specs.Sizes.{clamped_size}
 use Rattle.pdl_session.proofs.Sizes.{ExtentsAbove, first_small, rest_small}
@@ -80,6 +80,6 @@ pub dims_found : ExtentsAbove → (ns : List ℤ) (ds list : List ℕ) (r : Resu
 dims_found above ns ds list r e same h = dims_alike above ns ∙ ap checked_after e ∙ ap (λ l. or_named shape_fault (checked_dims l)) (sym same) ∙ ap (or_named shape_fault) (sym h)
 
 -- a size below 0 is the fault
-pub dims_refused : ExtentsAbove → (ns : List ℤ) (e : StepFault) → IsFault (or_fault BadDimension (all_of clamped_size ns)) e → IsFault (dims_for ns) e
+pub dims_refused : ExtentsAbove → (ns : List ℤ) (e : ScopeFault) → IsFault (or_fault BadDimension (all_of clamped_size ns)) e → IsFault (dims_for ns) e
 dims_refused above ns (Script e) h = dims_alike above ns ∙ ap checked_after h
 dims_refused above ns NoMemory h = tt

@@ -21,8 +21,8 @@ use Rattle.pdl_machine.specs.Then.{and_then}
 use Rattle.pdl_machine.specs.Outcome.{Given as Argument, Valued, new_root}
 use Rattle.pdl_machine.specs.Calls.{call_value}
 use Rattle.pdl_machine.specs.Value.{Taken, known, value_of, taken}
-use Rattle.pdl_scope.specs.declared.fault.StepFault.{StepFault}
-use Rattle.pdl_scope.specs.declared.fault.StepFault.TheVariants.{Script, NoMemory}
+use Rattle.pdl_scope.specs.declared.fault.ScopeFault.{ScopeFault}
+use Rattle.pdl_scope.specs.declared.fault.ScopeFault.TheVariants.{Script, NoMemory}
 use Rattle.pdl_scope.specs.Answers.{IsFault}
 use Rattle.pdl_session.specs.declared.given.Given.{Given}
 use Rattle.pdl_session.specs.declared.given.Given.TheVariants.{Array, Text, OfType as OfType'}
@@ -52,7 +52,7 @@ args_more args front i a lt at =
     ap (λ xs. args_of xs front) (take_more args i a lt) ∙ args_of_append (take i args) (slice_index_or args i a ∷ []) front ∙ ap (λ x. argument_of x (args_of (take i args) front)) (sym at)
 
 -- the fault of one argument is that of all
-pub fault_at : (names : Names) (w : Arrays) (args : List Arg) (front : Args) (i : ℕ) (a : Arg) (e : StepFault) → i < length args → a ≡ slice_index_or args i a
+pub fault_at : (names : Names) (w : Arrays) (args : List Arg) (front : Args) (i : ℕ) (a : Arg) (e : ScopeFault) → i < length args → a ≡ slice_index_or args i a
     → IsFault (taken names w (argument_of a (args_of (take i args) front))) e → IsFault (taken names w (args_of args front)) e
 fault_at names w args front i a NoMemory lt at h = tt
 fault_at names w args front i a (Script f) lt at h =
@@ -106,16 +106,16 @@ binary_is names mid a b d op t l r v u is first same second =
     ap (value_of names a) is ∙ ap (λ x. and_then x (after_left names op r)) first ∙ ap (λ x. and_then x (after_right op v)) (ap (λ n. value_of n b r) (sym same) ∙ second)
 
 -- the fault of an operand is the operator's
-faults_as : (names : Names) (a : Arrays) (t s : Tree) (e : StepFault) → t ≡ s → IsFault (value_of names a s) e → IsFault (value_of names a t) e
+faults_as : (names : Names) (a : Arrays) (t s : Tree) (e : ScopeFault) → t ≡ s → IsFault (value_of names a s) e → IsFault (value_of names a t) e
 faults_as names a t s e is h = subst (λ y. IsFault (value_of names a y) e) (sym is) h
 
-pub unary_fault : (names : Names) (a : Arrays) (op : UnaryOp) (t s : Tree) (e : StepFault) → t ≡ unary op s → IsFault (value_of names a s) e → IsFault (value_of names a t) e
+pub unary_fault : (names : Names) (a : Arrays) (op : UnaryOp) (t s : Tree) (e : ScopeFault) → t ≡ unary op s → IsFault (value_of names a s) e → IsFault (value_of names a t) e
 unary_fault names a op t s e is h = faults_as names a t (unary op s) e is (first_fault (value_of names a s) (after_operand op) e h)
 
-pub left_fault : (names : Names) (a : Arrays) (op : BinaryOp) (t l r : Tree) (e : StepFault) → t ≡ binary op l r → IsFault (value_of names a l) e → IsFault (value_of names a t) e
+pub left_fault : (names : Names) (a : Arrays) (op : BinaryOp) (t l r : Tree) (e : ScopeFault) → t ≡ binary op l r → IsFault (value_of names a l) e → IsFault (value_of names a t) e
 left_fault names a op t l r e is h = faults_as names a t (binary op l r) e is (first_fault (value_of names a l) (after_left names op r) e h)
 
-pub right_fault : (names mid : Names) (a b : Arrays) (op : BinaryOp) (t l r : Tree) (v : ℕ) (e : StepFault) → t ≡ binary op l r → value_of names a l ≡ Ok (b, v) → mid ≡ names → IsFault (value_of mid b r) e
+pub right_fault : (names mid : Names) (a b : Arrays) (op : BinaryOp) (t l r : Tree) (v : ℕ) (e : ScopeFault) → t ≡ binary op l r → value_of names a l ≡ Ok (b, v) → mid ≡ names → IsFault (value_of mid b r) e
     → IsFault (value_of names a t) e
 right_fault names mid a b op t l r v e is first same h =
     faults_as names a t (binary op l r) e is

@@ -14,3 +14,8 @@ pub mod Statements
 pub mod Definitions
 pub mod Tidied
 pub mod Cutting
+pub mod Assigning
+pub mod Present
+pub mod Advances
+pub mod Heard
+pub mod Closing

@@ -7,7 +7,7 @@ use Rattle.pdl_machine.specs.declared.fault.Fault.TheVariants.{WrongArguments}
 use Rattle.pdl_machine.specs.Arrays.{Arrays, array_in}
 use Rattle.pdl_machine.specs.Outcome.{Outcome as Placed}
 use Rattle.pdl_machine.specs.Reductions.{made_or_fault, of_one, of_two}
-use Rattle.pdl_scope.specs.declared.fault.StepFault.{StepFault}
+use Rattle.pdl_scope.specs.declared.fault.ScopeFault.{ScopeFault}
 use Rattle.pdl_scope.specs.Answers.{AnswersAs}
 use Rattle.pdl_session.specs.declared.outcome.Outcome.{Outcome}
 use Rattle.pdl_session.specs.declared.given.Given.{Given}
@@ -42,11 +42,11 @@ two_is f a (Text t ∷ rest) = refl
 two_is f a (OfType ty ∷ rest) = refl
 
 -- what comes of the array that stands alone
-pub one_given : (f : Made → Result Made ReduceRefusal) (a : Arrays) (given : List Given) (v : ℕ) (r : Result Outcome StepFault) → Some v ≡ one_array given → AnswersAs outcome_of (by_one f a (Some v)) r
+pub one_given : (f : Made → Result Made ReduceRefusal) (a : Arrays) (given : List Given) (v : ℕ) (r : Result Outcome ScopeFault) → Some v ≡ one_array given → AnswersAs outcome_of (by_one f a (Some v)) r
     → AnswersAs outcome_of (of_one f (all_seen_of a given)) r
 one_given f a given v r shape h = let P : Result Placed Fault → Type 0 = λ x. AnswersAs outcome_of x r in subst P (sym (one_is f a given ∙ ap (by_one f a) (sym shape))) h
 
 -- and of two
-pub two_given : (f : Made → Made → Result Made ReduceRefusal) (a : Arrays) (given : List Given) (p : ℕ × ℕ) (r : Result Outcome StepFault) → Some p ≡ two_arrays given → AnswersAs outcome_of (by_two f a (Some p)) r
+pub two_given : (f : Made → Made → Result Made ReduceRefusal) (a : Arrays) (given : List Given) (p : ℕ × ℕ) (r : Result Outcome ScopeFault) → Some p ≡ two_arrays given → AnswersAs outcome_of (by_two f a (Some p)) r
     → AnswersAs outcome_of (of_two f (all_seen_of a given)) r
 two_given f a given p r shape h = let P : Result Placed Fault → Type 0 = λ x. AnswersAs outcome_of x r in subst P (sym (two_is f a given ∙ ap (by_two f a) (sym shape))) h

@@ -7,7 +7,7 @@ use Rattle.pdl_lexemes.specs.declared.AssignOp.{AssignOp}
 use Rattle.pdl_syntax.specs.Tree.{Tree, Args, call}
 use Rattle.pdl_syntax.specs.StatementTree.{bind_list}
 use Rattle.pdl_machine.specs.declared.fault.Fault.{Fault}
-use Rattle.pdl_machine.specs.Names.{Names, bind}
+use Rattle.pdl_machine.specs.Names.{Names}
 use Rattle.pdl_machine.specs.Arrays.{Arrays}
 use Rattle.pdl_machine.specs.Then.{and_then}
 use Rattle.pdl_machine.specs.State.{State, with_arrays, IsWhole}
@@ -17,7 +17,7 @@ use Rattle.pdl_machine.specs.Value.{value_of, taken}
 use Rattle.pdl_machine.specs.Tidy.{tidy}
 use Rattle.pdl_machine.specs.Laws.{NewArraysUnseen}
 use Rattle.pdl_machine.specs.Step.{Stepped, bind_value, bound, roots_bound, outputs_bound, list_bound, assigned, assigning, effect}
-use Rattle.pdl_scope.specs.declared.fault.StepFault.{StepFault}
+use Rattle.pdl_scope.specs.declared.fault.ScopeFault.{ScopeFault}
 use Rattle.pdl_session.specs.declared.given.Given.{Given}
 use Rattle.pdl_session.specs.Arguments.{arguments, all_seen_of}
 use Rattle.pdl_scope.specs.Scope.{Scope, machine, OnlyReads, Grows}
@@ -28,16 +28,16 @@ use Rattle.pdl_scope.specs.Growth.{grows_trans, unread, reads_grow}
 use Rattle.pdl_session.proofs.Facts.{first_fault, state_is}
 
 -- a statement that goes on from where new arrays came
-pub runs_from : {T : Type 0} (r : Result T StepFault) (x y : Stepped) (old mid new : Scope) (o n : List ℕ) → y ≡ x → Grows old mid → Runs x mid new o n r → Runs y old new o n r
+pub runs_from : {T : Type 0} (r : Result T ScopeFault) (x y : Stepped) (old mid new : Scope) (o n : List ℕ) → y ≡ x → Grows old mid → Runs x mid new o n r → Runs y old new o n r
 runs_from (Ok u) x y old mid new o n e g h = let P : Stepped → Type 0 = λ z. Prints z (machine new) o n in subst P (sym e) h
 runs_from (Err f) x y old mid new o n e g h = (let F : Stepped → Type 0 = λ z. IsFault z f in subst F (sym e) h.0, record { grown = grows_trans old mid new g h.1.grown; printed = h.1.printed })
 
 -- a binding, after its value came
-pub runs_bound : {T : Type 0} (r : Result T StepFault) (old mid new : Scope) (x : List ℕ) (valued : Valued) (id : ℕ) → valued ≡ Ok (mid.arrays, id) → Grows old mid
+pub runs_bound : {T : Type 0} (r : Result T ScopeFault) (old mid new : Scope) (x : List ℕ) (valued : Valued) (id : ℕ) → valued ≡ Ok (mid.arrays, id) → Grows old mid
     → Runs (bind_value (machine mid) x (mid.arrays, id)) mid new [] [] r → Runs (bound (machine old) x valued) old new [] [] r
 runs_bound r old mid new x valued id is g h =
-    let next : Names → Stepped = λ names. and_then (bind names x id) (λ after. Ok (record { names = after; arrays = mid.arrays }, [])) in
-    runs_from r (bind_value (machine mid) x (mid.arrays, id)) (bound (machine old) x valued) old mid new [] [] (ap (λ v. and_then v (bind_value (machine old) x)) is ∙ ap next (sym g.names)) g h
+    let next : State → Stepped = λ s. bind_value s x (mid.arrays, id) in
+    runs_from r (bind_value (machine mid) x (mid.arrays, id)) (bound (machine old) x valued) old mid new [] [] (ap (λ v. and_then v (bind_value (machine old) x)) is ∙ ap next (sym (state_is old mid g))) g h
 
 -- the one output of a call, bound to one name
 one_output : (s : State) (x f : List ℕ) (t : Arrays × List Argument) → list_bound s (x ∷ []) f t ≡ bound s x (call_value s.names f t.0 t.1)
@@ -47,7 +47,7 @@ one_output s x f t = by_callee (callee_of s.names f)
     by_callee (Ok c) = refl
     by_callee (Err e) = refl
 
-pub runs_output : {T : Type 0} (r : Result T StepFault) (old mid new : Scope) (xs : List (List ℕ)) (x f : List ℕ) (given : List Argument) (id : ℕ) → length xs ≡ 1 → x ≡ get_or xs 0 x
+pub runs_output : {T : Type 0} (r : Result T ScopeFault) (old mid new : Scope) (xs : List (List ℕ)) (x f : List ℕ) (given : List Argument) (id : ℕ) → length xs ≡ 1 → x ≡ get_or xs 0 x
     → call_value old.names f old.arrays given ≡ Ok (mid.arrays, id) → Grows old mid → Runs (bind_value (machine mid) x (mid.arrays, id)) mid new [] [] r → Runs (list_bound (machine old) xs f (old.arrays, given)) old new [] [] r
 runs_output r old mid new [] x f given id one first output g h = absurd (omega arith)
 runs_output r old mid new (y ∷ z ∷ xs) x f given id one first output g h = absurd (omega arith)
@@ -56,7 +56,7 @@ runs_output r old mid new (y ∷ []) x f given id one first output g h =
     ap (λ n. list_bound (machine old) (n ∷ []) f (old.arrays, given)) (sym first) ∙ one_output (machine old) x f (old.arrays, given) in
     subst (λ (s : Stepped). Runs s old new [] [] r) (sym e) (runs_bound r old mid new x (call_value old.names f old.arrays given) id output g h)
 
-pub output_refused : (old : State) (xs : List (List ℕ)) (f : List ℕ) (given : List Argument) (e : StepFault) → length xs ≡ 1 → IsFault (call_value old.names f old.arrays given) e
+pub output_refused : (old : State) (xs : List (List ℕ)) (f : List ℕ) (given : List Argument) (e : ScopeFault) → length xs ≡ 1 → IsFault (call_value old.names f old.arrays given) e
     → IsFault (list_bound old xs f (old.arrays, given)) e
 output_refused old [] f given e one h = absurd (omega arith)
 output_refused old (x ∷ y ∷ xs) f given e one h = absurd (omega arith)
@@ -79,7 +79,7 @@ several_is s xs f given many = by_callee (callee_of s.names f) xs many
     by_callee (Ok c) [] many = refl
     by_callee (Ok c) (x ∷ y ∷ xs) many = refl
 
-pub runs_several : {T : Type 0} (r : Result T StepFault) (old mid new : Scope) (xs : List (List ℕ)) (f : List ℕ) (given : List Given) (wanted : ℕ) (ms : List Made) → length xs ≢ 1 → wanted ≡ length xs
+pub runs_several : {T : Type 0} (r : Result T ScopeFault) (old mid new : Scope) (xs : List (List ℕ)) (f : List ℕ) (given : List Given) (wanted : ℕ) (ms : List Made) → length xs ≢ 1 → wanted ≡ length xs
     → and_then (callee_of old.names f) (several wanted (all_seen_of old.arrays given)) ≡ Ok ms → OnlyReads old mid → Runs (roots_bound (machine mid) xs ms) mid new [] [] r
     → Runs (list_bound (machine old) xs f (old.arrays, arguments given)) old new [] [] r
 runs_several r old mid new xs f given wanted ms many count output same h =
@@ -88,7 +88,7 @@ runs_several r old mid new xs f given wanted ms many count output same h =
     several_is (machine old) xs f given many ∙ ap (λ o. and_then o (roots_bound (machine old) xs)) all ∙ ap (λ (s : State). roots_bound s xs ms) (sym (unread old mid same)) in
     runs_from r (roots_bound (machine mid) xs ms) (list_bound (machine old) xs f (old.arrays, arguments given)) old mid new [] [] is (reads_grow old mid same) h
 
-pub several_refused : (old : State) (xs : List (List ℕ)) (f : List ℕ) (given : List Given) (wanted : ℕ) (e : StepFault) → length xs ≢ 1 → wanted ≡ length xs
+pub several_refused : (old : State) (xs : List (List ℕ)) (f : List ℕ) (given : List Given) (wanted : ℕ) (e : ScopeFault) → length xs ≢ 1 → wanted ≡ length xs
     → IsFault (and_then (callee_of old.names f) (several wanted (all_seen_of old.arrays given))) e → IsFault (list_bound old xs f (old.arrays, arguments given)) e
 several_refused old xs f given wanted e many count h =
     subst (λ y. IsFault y e) (sym (several_is old xs f given many)) (first_fault (outputs_for old xs f (all_seen_of old.arrays given)) (roots_bound old xs) e (subst (λ (n : ℕ). IsFault (and_then (callee_of old.names f) (several n (all_seen_of old.arrays given))) e) count h))
@@ -103,41 +103,41 @@ list_same s a xs f t = by_call (callee_of s.names f) xs
     by_call (Ok c) (x ∷ y ∷ xs) = refl
 
 -- a list binding, after its arguments came
-pub runs_list : {T : Type 0} (r : Result T StepFault) (old mid new : Scope) (xs : List (List ℕ)) (tree : Tree) (f : List ℕ) (args : Args) (given items : List Argument)
+pub runs_list : {T : Type 0} (r : Result T ScopeFault) (old mid new : Scope) (xs : List (List ℕ)) (tree : Tree) (f : List ℕ) (args : Args) (given items : List Argument)
     → tree ≡ call f args → taken old.names old.arrays args ≡ Ok (mid.arrays, given) → items ≡ given → Grows old mid
-    → Runs (list_bound (machine mid) xs f (mid.arrays, items)) mid new [] [] r → Runs (effect (machine old) (bind_list xs tree)) old new [] [] r
+    → Runs (list_bound (machine mid) xs f (mid.arrays, items)) mid new [] [] r → Runs (effect [] (machine old) (bind_list xs tree)) old new [] [] r
 runs_list r old mid new xs tree f args given items is taken_so same g h =
     let s = machine old in
-    let a : effect s (bind_list xs tree) ≡ list_bound s xs f (mid.arrays, items) =
-    ap (λ e. effect s (bind_list xs e)) is ∙ ap (λ t. and_then t (list_bound s xs f)) taken_so ∙ ap (λ gs. list_bound s xs f (mid.arrays, gs)) (sym same) in
+    let a : effect [] s (bind_list xs tree) ≡ list_bound s xs f (mid.arrays, items) =
+    ap (λ e. effect [] s (bind_list xs e)) is ∙ ap (λ t. and_then t (list_bound s xs f)) taken_so ∙ ap (λ gs. list_bound s xs f (mid.arrays, gs)) (sym same) in
     let b : list_bound (machine mid) xs f (mid.arrays, items) ≡ list_bound s xs f (mid.arrays, items) =
     ap (λ t. list_bound t xs f (mid.arrays, items)) (state_is old mid g) ∙ list_same s mid.arrays xs f (mid.arrays, items) in
-    runs_from r (list_bound (machine mid) xs f (mid.arrays, items)) (effect s (bind_list xs tree)) old mid new [] [] (a ∙ sym b) g h
+    runs_from r (list_bound (machine mid) xs f (mid.arrays, items)) (effect [] s (bind_list xs tree)) old mid new [] [] (a ∙ sym b) g h
 
-pub list_refused : (old : State) (xs : List (List ℕ)) (tree : Tree) (f : List ℕ) (args : Args) (e : StepFault) → tree ≡ call f args → IsFault (taken old.names old.arrays args) e
-    → IsFault (effect old (bind_list xs tree)) e
-list_refused old xs tree f args e is h = subst (λ x. IsFault (effect old (bind_list xs x)) e) (sym is) (first_fault (taken old.names old.arrays args) (list_bound old xs f) e h)
+pub list_refused : (old : State) (xs : List (List ℕ)) (tree : Tree) (f : List ℕ) (args : Args) (e : ScopeFault) → tree ≡ call f args → IsFault (taken old.names old.arrays args) e
+    → IsFault (effect [] old (bind_list xs tree)) e
+list_refused old xs tree f args e is h = subst (λ x. IsFault (effect [] old (bind_list xs x)) e) (sym is) (first_fault (taken old.names old.arrays args) (list_bound old xs f) e h)
 
 -- an assignment, after its target and its right side came
-pub runs_assigned : {T : Type 0} (r : Result T StepFault) (old mid late new : Scope) (to e : Tree) (sign : AssignOp) (v u : ℕ) → value_of old.names old.arrays to ≡ Ok (mid.arrays, v) → value_of mid.names mid.arrays e ≡ Ok (late.arrays, u)
+pub runs_assigned : {T : Type 0} (r : Result T ScopeFault) (old mid late new : Scope) (to e : Tree) (sign : AssignOp) (v u : ℕ) → value_of old.names old.arrays to ≡ Ok (mid.arrays, v) → value_of mid.names mid.arrays e ≡ Ok (late.arrays, u)
     → Grows old mid → Grows mid late → Runs (and_then (assigned sign late.arrays v u) (λ a. Ok (with_arrays (machine late) a, []))) late new [] [] r → Runs (assigning (machine old) to sign e) old new [] [] r
 runs_assigned r old mid late new to e sign v u target_is value_is g h ran =
     let value : Names → Valued = λ names. value_of names mid.arrays e in
     let from_value : Valued → Stepped = λ x. and_then x (λ u. and_then (assigned sign u.0 v u.1) (λ a. Ok (with_arrays (machine old) a, []))) in
     let from_target : Valued → Stepped = λ x. and_then x (λ w. and_then (value_of old.names w.0 e) (λ u. and_then (assigned sign u.0 w.1 u.1) (λ a. Ok (with_arrays (machine old) a, [])))) in
-    let written : Names → Stepped = λ names. and_then (assigned sign late.arrays v u) (λ a. Ok (record { names = names; arrays = a }, [])) in
+    let written : State → Stepped = λ s. and_then (assigned sign late.arrays v u) (λ a. Ok (with_arrays s a, [])) in
     let is : assigning (machine old) to sign e ≡ and_then (assigned sign late.arrays v u) (λ a. Ok (with_arrays (machine late) a, [])) =
-    ap from_target target_is ∙ ap from_value (ap value (sym g.names) ∙ value_is) ∙ ap written (sym (h.names ∙ g.names)) in
+    ap from_target target_is ∙ ap from_value (ap value (sym g.names) ∙ value_is) ∙ ap written (sym (state_is old late (grows_trans old mid late g h))) in
     runs_from r (and_then (assigned sign late.arrays v u) (λ a. Ok (with_arrays (machine late) a, []))) (assigning (machine old) to sign e) old late new [] [] is (grows_trans old mid late g h) ran
 
-pub assigned_refused : (old mid : Scope) (to e : Tree) (sign : AssignOp) (v : ℕ) (f : StepFault) → value_of old.names old.arrays to ≡ Ok (mid.arrays, v) → IsFault (value_of mid.names mid.arrays e) f → Grows old mid
+pub assigned_refused : (old mid : Scope) (to e : Tree) (sign : AssignOp) (v : ℕ) (f : ScopeFault) → value_of old.names old.arrays to ≡ Ok (mid.arrays, v) → IsFault (value_of mid.names mid.arrays e) f → Grows old mid
     → IsFault (assigning (machine old) to sign e) f
 assigned_refused old mid to e sign v f target_is refused g =
     let from_target : Valued → Stepped = λ x. and_then x (λ w. and_then (value_of old.names w.0 e) (λ u. and_then (assigned sign u.0 w.1 u.1) (λ a. Ok (with_arrays (machine old) a, [])))) in
     subst (λ x. IsFault x f) (sym (ap from_target target_is)) (first_fault (value_of old.names mid.arrays e) (λ u. and_then (assigned sign u.0 v u.1) (λ a. Ok (with_arrays (machine old) a, []))) f (subst (λ (names : Names). IsFault (value_of names mid.arrays e) f) g.names refused))
 
 -- what a session is seen as stays where a statement is refused
-pub kept_seen : {T : Type 0} (r : Result T StepFault) (x : Stepped) (old new : Scope) (left seen : State) (o n : List ℕ) → NewArraysUnseen → IsWhole (machine old) → IsWhole (machine new) → tidy left ≡ tidy (machine new) → tidy (machine old) ≡ seen → Runs x old new o n r
+pub kept_seen : {T : Type 0} (r : Result T ScopeFault) (x : Stepped) (old new : Scope) (left seen : State) (o n : List ℕ) → NewArraysUnseen → IsWhole (machine old) → IsWhole (machine new) → tidy left ≡ tidy (machine new) → tidy (machine old) ≡ seen → Runs x old new o n r
     → OnErr r (tidy left ≡ seen)
 kept_seen (Ok u) x old new left seen o n unseen whole after gone is h = tt
 kept_seen (Err e) x old new left seen o n unseen whole after gone is h =
@@ -148,7 +148,7 @@ pub cut_front : (front text : List ℕ) → Begins front text → take (length f
 cut_front front text b = ap (take (length front)) b.is ∙ take_at front b.rest _ refl
 
 -- a statement that prints nothing leaves the text
-pub silent : {T : Type 0} (r : Result T StepFault) (wanted : Stepped) (old new : Scope) (out : List ℕ) → Runs wanted old new [] [] r → Performs wanted old new out out r
+pub silent : {T : Type 0} (r : Result T ScopeFault) (wanted : Stepped) (old new : Scope) (out : List ℕ) → Runs wanted old new [] [] r → Performs wanted old new out out r
 silent (Ok x) (Ok (s, t)) old new out h = (h.0, sym (append-nil out) ∙ ap (λ z. out ++ z) h.1)
 silent (Ok x) (Err e) old new out h = absurd h
 silent (Err f) wanted old new out h = (h.0, record { grown = h.1.grown; front = record { rest = []; is = sym (append-nil out) } })

@@ -17,8 +17,8 @@ use Rattle.pdl_session.specs.declared.given.Given.{Given}
 use Rattle.pdl_session.specs.declared.given.Given.TheVariants.{Array}
 use Rattle.pdl_session.specs.Arguments.{arguments}
 use Rattle.pdl_session.proofs.Evals.{with_given}
-use Rattle.pdl_scope.specs.declared.fault.StepFault.{StepFault}
-use Rattle.pdl_scope.specs.declared.fault.StepFault.TheVariants.{Script, NoMemory}
+use Rattle.pdl_scope.specs.declared.fault.ScopeFault.{ScopeFault}
+use Rattle.pdl_scope.specs.declared.fault.ScopeFault.TheVariants.{Script, NoMemory}
 use Rattle.pdl_scope.specs.Answers.{IsFault}
 
 -- arguments behind a first one are those after it
@@ -52,7 +52,7 @@ target_more x views i v lt at =
     appended x vs ws = ap (target x) (map-append view_of vs ws) ∙ fold-append called (named x) (map view_of vs) (map view_of ws)
 
 -- the fault of one view is the target's
-pub fault_at : (names : Names) (a : Arrays) (x : List ℕ) (views : List ViewCall) (i : ℕ) (e : StepFault)
+pub fault_at : (names : Names) (a : Arrays) (x : List ℕ) (views : List ViewCall) (i : ℕ) (e : ScopeFault)
     → IsFault (value_of names a (target x (map view_of (take i views)))) e → IsFault (value_of names a (target x (map view_of views))) e
 fault_at names a x views i NoMemory h = tt
 fault_at names a x views i (Script f) h =

@@ -3,3 +3,7 @@ pub mod Calls
 pub mod Arguments
 pub mod Sizes
 pub mod Performed
+pub mod Faults
+pub mod News
+pub mod Watching
+pub mod Advanced

@@ -27,7 +27,7 @@ use pdl_buf::{Elements, Made, Steps};
 use pdl_elem::{Name, Ty};
 use pdl_engine::ArrayId;
 use pdl_machine::{Builtin, Fault, builtin_named};
-use pdl_scope::{Scope, StepFault};
+use pdl_scope::{Scope, ScopeFault};
 use pdl_shape::dims_of;
 use pdl_world::Trans;
 use std::sync::ledger::Ledger;
@@ -37,7 +37,7 @@ pub fn number_array<L: Ledger>(
     scope: &mut Scope,
     number: i64,
     steps: &mut Steps<L>,
-) -> Result<ArrayId, StepFault>
+) -> Result<ArrayId, ScopeFault>
     ensures value { Evaluates (new_root scope.old.arrays (number_made number)) scope.new result }
     ensures grown { Grows scope.old scope.new }
 {
@@ -56,7 +56,7 @@ pub fn call<L: Ledger>(
     name: &Name,
     given: &[Given],
     steps: &mut Steps<L>,
-) -> Result<ArrayId, StepFault>
+) -> Result<ArrayId, ScopeFault>
     requires { AreGivenLive scope.old.arrays.world given.now }
     ensures value { let seen = arguments given.now in
         let wanted = call_value scope.old.names name.now scope.old.arrays seen in
@@ -79,7 +79,7 @@ pub fn several<L: Ledger>(
     wanted: usize,
     given: &[Given],
     steps: &mut Steps<L>,
-) -> Result<Vec<Made>, StepFault>
+) -> Result<Vec<Made>, ScopeFault>
     requires { AreGivenLive scope.old.arrays.world given.now }
     ensures value { let seen = all_seen_of scope.old.arrays given.now in
         let outputs = and_then (callee_of scope.old.names name.now) (several wanted seen) in
@@ -88,7 +88,7 @@ pub fn several<L: Ledger>(
     ensures same { OnlyReads scope.old scope.new }
 {
     match builtin_named(name.bytes()) {
-        Some(_) => Err(StepFault::Script(Fault::WrongArguments)),
+        Some(_) => Err(ScopeFault::Script(Fault::WrongArguments)),
         None => kernel_outputs(scope, name, wanted, given, steps),
     }
 }
@@ -100,7 +100,7 @@ fn kernel_outputs<L: Ledger>(
     wanted: usize,
     given: &[Given],
     steps: &mut Steps<L>,
-) -> Result<Vec<Made>, StepFault>
+) -> Result<Vec<Made>, ScopeFault>
     requires { AreGivenLive scope.old.arrays.world given.now }
     ensures value { let seen = all_seen_of scope.old.arrays given.now in
         let outputs = outputs_of scope.old.names name.now wanted seen in
@@ -110,7 +110,7 @@ fn kernel_outputs<L: Ledger>(
 {
     match arrays_given(scope.alloc(), given)? {
         Some(ids) => scope.kernel_outputs(name, wanted, &ids, steps),
-        None => Err(StepFault::Script(not_arrays(scope.has_kernel(name)))),
+        None => Err(ScopeFault::Script(not_arrays(scope.has_kernel(name)))),
     }
 }
 
@@ -130,14 +130,14 @@ fn only_root<L: Ledger>(
     scope: &mut Scope,
     outputs: &[Made],
     steps: &mut Steps<L>,
-) -> Result<ArrayId, StepFault>
+) -> Result<ArrayId, ScopeFault>
     requires { All (λ m. IsMade m.ty m.dims m.elems) outputs.now }
     ensures value { Evaluates (only_root scope.old.arrays outputs.now) scope.new result }
     ensures grown { Grows scope.old scope.new }
 {
     match outputs {
         [made] => scope.make_like(made, steps),
-        _ => Err(StepFault::Script(Fault::WrongArguments)),
+        _ => Err(ScopeFault::Script(Fault::WrongArguments)),
     }
 }
 
@@ -147,7 +147,7 @@ pub fn builtin_call<L: Ledger>(
     builtin: Builtin,
     given: &[Given],
     steps: &mut Steps<L>,
-) -> Result<ArrayId, StepFault>
+) -> Result<ArrayId, ScopeFault>
     requires { AreGivenLive scope.old.arrays.world given.now }
     ensures value { let wanted = builtin_value builtin scope.old.arrays (arguments given.now) in
         Evaluates wanted scope.new result }
@@ -161,7 +161,7 @@ pub fn builtin_call<L: Ledger>(
 }
 
 /// A view of the array that stands first.
-fn view_first(scope: &mut Scope, given: &[Given], trans: Trans) -> Result<ArrayId, StepFault>
+fn view_first(scope: &mut Scope, given: &[Given], trans: Trans) -> Result<ArrayId, ScopeFault>
     requires live { AreGivenLive scope.old.arrays.world given.now }
     requires well_formed { IsTrue (is_well_formed trans) }
     ensures value { let wanted = view_placed scope.old.arrays (arguments given.now) trans in
@@ -172,7 +172,7 @@ fn view_first(scope: &mut Scope, given: &[Given], trans: Trans) -> Result<ArrayI
         Some(Given::Array(id)) => scope.view(*id, trans),
         _ => {
             drop(trans);
-            Err(StepFault::Script(Fault::WrongArguments))
+            Err(ScopeFault::Script(Fault::WrongArguments))
         }
     }
 }
@@ -183,7 +183,7 @@ fn outcome<L: Ledger>(
     builtin: Builtin,
     given: &[Given],
     steps: &mut Steps<L>,
-) -> Result<Outcome, StepFault>
+) -> Result<Outcome, ScopeFault>
     requires { AreGivenLive scope.old.arrays.world given.now }
     ensures value { let wanted = outcome builtin (all_seen_of scope.old.arrays given.now) in
         AnswersAs outcome_of wanted result }

@@ -11,7 +11,7 @@ use pdl_kernel::{Kernel, read_kernel};
 use pdl_lex::is_word;
 use pdl_lexemes::keyword_named;
 use pdl_machine::{Fault, builtin_named};
-use pdl_scope::{Scope, StepFault};
+use pdl_scope::{Scope, ScopeFault};
 use pdl_sig::laws::signature_meaning;
 use pdl_sig::read_signature;
 use std::alloc::Global;
@@ -22,8 +22,8 @@ pub fn define_kernel(
     name: &Text,
     signature: &Text,
     code: &Text,
-) -> Result<(), StepFault>
-    ensures { let wanted = effect (machine scope.old) (pp_def name.now signature.now code.now) in
+) -> Result<(), ScopeFault>
+    ensures { let wanted = effect [] (machine scope.old) (pp_def name.now signature.now code.now) in
         Runs wanted scope.old scope.new [] [] result }
 {
     let kernel = kernel_defined(scope.alloc(), name.bytes(), signature.bytes(), code.bytes())?;
@@ -37,16 +37,16 @@ fn kernel_defined(
     name: &[u8],
     signature: &[u8],
     code: &[u8],
-) -> Result<Kernel, StepFault>
+) -> Result<Kernel, ScopeFault>
     ensures { AnswersAs (λ k. k) (defined name.now signature.now code.now) result }
 {
     signature_meaning();
     if !can_name(name) {
-        return Err(StepFault::Script(Fault::WrongArguments));
+        return Err(ScopeFault::Script(Fault::WrongArguments));
     }
     let signature = read_signature(alloc, signature)?;
     if code.len() > u32::MAX as usize {
-        return Err(StepFault::NoMemory);
+        return Err(ScopeFault::NoMemory);
     }
     Ok(read_kernel(alloc, signature, code)?)
 }

@@ -11,7 +11,7 @@ ghost use Rattle.pdl_scope.specs.Scope.{OnlyReads};
 use crate::given::Given;
 use pdl_buf::Steps;
 use pdl_machine::Fault;
-use pdl_scope::{Scope, StepFault};
+use pdl_scope::{Scope, ScopeFault};
 use pdl_shape::{Dims, ShapeFault, dims_of, shape_laws};
 use std::alloc::{AllocError, Global};
 use std::sync::ledger::Ledger;
@@ -38,7 +38,7 @@ pub fn numbers_in<L: Ledger>(
     scope: &mut Scope,
     given: &[Given],
     steps: &mut Steps<L>,
-) -> Result<Vec<i64>, StepFault>
+) -> Result<Vec<i64>, ScopeFault>
     requires { AreGivenLive scope.old.arrays.world given.now }
     ensures value { let wanted = numbers_in (all_seen_of scope.old.arrays given.now) in
         AnswersAs (λ ns. ns.items) wanted result }
@@ -48,14 +48,14 @@ pub fn numbers_in<L: Ledger>(
     for one in given {
         match number_in(scope, one, steps)? {
             Some(number) => found.push(number)?,
-            None => return Err(StepFault::Script(Fault::WrongArguments)),
+            None => return Err(ScopeFault::Script(Fault::WrongArguments)),
         }
     }
     Ok(found)
 }
 
 /// Dimensions of these sizes: `BadDimension` for one below 0, then `TooManyDims`, then `TooLarge`.
-pub fn dims_for(alloc: Global, numbers: &[i64]) -> Result<Dims, StepFault>
+pub fn dims_for(alloc: Global, numbers: &[i64]) -> Result<Dims, ScopeFault>
     ensures { Answers (dims_for numbers.now) result }
 {
     shape_laws();
@@ -65,14 +65,14 @@ pub fn dims_for(alloc: Global, numbers: &[i64]) -> Result<Dims, StepFault>
     };
     match dims_of(alloc, &sizes) {
         Ok(dims) => Ok(dims),
-        Err(ShapeFault::Mismatch) => Err(StepFault::Script(Fault::Mismatch)),
-        Err(ShapeFault::TooManyDims) => Err(StepFault::Script(Fault::TooManyDims)),
-        Err(ShapeFault::TooLarge) => Err(StepFault::Script(Fault::TooLarge)),
+        Err(ShapeFault::Mismatch) => Err(ScopeFault::Script(Fault::Mismatch)),
+        Err(ShapeFault::TooManyDims) => Err(ScopeFault::Script(Fault::TooManyDims)),
+        Err(ShapeFault::TooLarge) => Err(ScopeFault::Script(Fault::TooLarge)),
     }
 }
 
 /// The sizes, where one that is too large for any array stays too large.
-fn clamped(alloc: Global, numbers: &[i64]) -> Result<Vec<u32>, StepFault>
+fn clamped(alloc: Global, numbers: &[i64]) -> Result<Vec<u32>, ScopeFault>
     ensures { let wanted = or_fault BadDimension (all_of clamped_size numbers.now) in
         AnswersAs (λ ds. ds.items) wanted result }
 {
@@ -80,7 +80,7 @@ fn clamped(alloc: Global, numbers: &[i64]) -> Result<Vec<u32>, StepFault>
     for &number in numbers {
         match clamp(number) {
             Some(size) => sizes.push(size)?,
-            None => return Err(StepFault::Script(Fault::BadDimension)),
+            None => return Err(ScopeFault::Script(Fault::BadDimension)),
         }
     }
     Ok(sizes)

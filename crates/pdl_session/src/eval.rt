@@ -15,7 +15,7 @@ use crate::given::Given;
 use pdl_buf::Steps;
 use pdl_engine::ArrayId;
 use pdl_machine::Fault;
-use pdl_scope::{Scope, StepFault};
+use pdl_scope::{Scope, ScopeFault};
 use pdl_syntax::{Arg, Expr, calls_are_trees};
 use std::sync::ledger::Ledger;
 
@@ -25,7 +25,7 @@ pub fn eval<L: Ledger>(
     scope: &mut Scope,
     value: &Expr,
     steps: &mut Steps<L>,
-) -> Result<ArrayId, StepFault>
+) -> Result<ArrayId, ScopeFault>
     requires { AreArrays (tree_of value.now) }
     ensures value { let wanted = value_of scope.old.names scope.old.arrays (tree_of value.now) in
         Evaluates wanted scope.new result }
@@ -36,7 +36,7 @@ pub fn eval<L: Ledger>(
         Expr::Number(number) => number_array(scope, *number, steps),
         Expr::Named(name) => match scope.number_of(name) {
             Some(id) => Ok(id),
-            None => Err(StepFault::Script(Fault::UnknownName)),
+            None => Err(ScopeFault::Script(Fault::UnknownName)),
         },
         Expr::List(made) => scope.make_like(made, steps),
         Expr::Unary(op, operand) => {
@@ -64,7 +64,7 @@ pub fn take<'a, L: Ledger>(
     mut given: Vec<Given<'a>>,
     args: &'a [Arg],
     steps: &mut Steps<L>,
-) -> Result<Vec<Given<'a>>, StepFault>
+) -> Result<Vec<Given<'a>>, ScopeFault>
     requires made { AreArgArrays (args_of args.now none) }
     requires live { AreGivenLive scope.old.arrays.world given.items }
     ensures value { (a : Arrays) (front : Args) →
@@ -87,7 +87,7 @@ fn take_one<'a, L: Ledger>(
     scope: &mut Scope,
     arg: &'a Arg,
     steps: &mut Steps<L>,
-) -> Result<Given<'a>, StepFault>
+) -> Result<Given<'a>, ScopeFault>
     requires { AreArgArrays (argument_of arg.now none) }
     ensures value { (a : Arrays) (front : Args) (given : List Argument) →
         taken scope.old.names a front ≡ Ok (scope.old.arrays, given) →

@@ -13,7 +13,7 @@ use crate::outcome::Outcome;
 use pdl_buf::Steps;
 use pdl_elem::Ty;
 use pdl_ops::{Fill, fill};
-use pdl_scope::{Scope, StepFault};
+use pdl_scope::{Scope, ScopeFault};
 use std::sync::ledger::Ledger;
 
 /// A fill of an optional type word, else long, and a size per dimension.
@@ -22,7 +22,7 @@ pub fn filled<L: Ledger>(
     kind: Fill,
     given: &[Given],
     steps: &mut Steps<L>,
-) -> Result<Outcome, StepFault>
+) -> Result<Outcome, ScopeFault>
     requires { AreGivenLive scope.old.arrays.world given.now }
     ensures value { let wanted = fill_outcome kind (all_seen_of scope.old.arrays given.now) in
         AnswersAs outcome_of wanted result }
@@ -40,7 +40,7 @@ pub fn filled<L: Ledger>(
     };
     match fill(scope.alloc(), kind, ty, &dims) {
         Ok(made) => Ok(Outcome::New(made)),
-        Err(_) => Err(StepFault::NoMemory),
+        Err(_) => Err(ScopeFault::NoMemory),
     }
 }
 

@@ -18,7 +18,7 @@ use pdl_buf::{Elements, Made, Steps};
 use pdl_elem::Ty;
 use pdl_engine::ArrayId;
 use pdl_machine::{Fault, Inquiry};
-use pdl_scope::{Scope, StepFault};
+use pdl_scope::{Scope, ScopeFault};
 use pdl_shape::{dims_list, dims_of, elements_of, from_end, shape_laws};
 use std::alloc::{AllocError, Global};
 use std::sync::ledger::Ledger;
@@ -29,7 +29,7 @@ pub fn inquiry<L: Ledger>(
     inquiry: Inquiry,
     given: &[Given],
     steps: &mut Steps<L>,
-) -> Result<Outcome, StepFault>
+) -> Result<Outcome, ScopeFault>
     requires { AreGivenLive scope.old.arrays.world given.now }
     ensures value { let seen = all_seen_of scope.old.arrays given.now in
         AnswersAs outcome_of (inquiry_outcome inquiry seen) result }
@@ -39,9 +39,9 @@ pub fn inquiry<L: Ledger>(
     match one_array(given) {
         Some(id) => match told(scope, inquiry, id, steps) {
             Ok(made) => Ok(Outcome::New(made)),
-            Err(_) => Err(StepFault::NoMemory),
+            Err(_) => Err(ScopeFault::NoMemory),
         },
-        None => Err(StepFault::Script(Fault::WrongArguments)),
+        None => Err(ScopeFault::Script(Fault::WrongArguments)),
     }
 }
 
@@ -77,7 +77,7 @@ pub fn dim<L: Ledger>(
     scope: &mut Scope,
     given: &[Given],
     steps: &mut Steps<L>,
-) -> Result<Outcome, StepFault>
+) -> Result<Outcome, ScopeFault>
     requires { AreGivenLive scope.old.arrays.world given.now }
     ensures value { let seen = all_seen_of scope.old.arrays given.now in
         AnswersAs outcome_of (dim_outcome seen) result }
@@ -87,14 +87,14 @@ pub fn dim<L: Ledger>(
     match array_and_one(given) {
         Some((id, place)) => match number_in(scope, &place, steps)? {
             Some(number) => size_at(scope, id, number),
-            None => Err(StepFault::Script(Fault::WrongArguments)),
+            None => Err(ScopeFault::Script(Fault::WrongArguments)),
         },
-        None => Err(StepFault::Script(Fault::WrongArguments)),
+        None => Err(ScopeFault::Script(Fault::WrongArguments)),
     }
 }
 
 /// The size of the dimension of this number, which counts from the end where it is below 0.
-fn size_at(scope: &Scope, id: ArrayId, number: i64) -> Result<Outcome, StepFault>
+fn size_at(scope: &Scope, id: ArrayId, number: i64) -> Result<Outcome, ScopeFault>
     requires { IsLive scope.now.arrays.world id }
     ensures value { let dims = (array_in scope.now.arrays id).dims in
         let wanted = and_then (size_at dims number) (λ n. Ok (made (long_number n))) in
@@ -106,9 +106,9 @@ fn size_at(scope: &Scope, id: ArrayId, number: i64) -> Result<Outcome, StepFault
     match from_end(number, sizes.len()) {
         Some(place) => match long_number(scope.alloc(), sizes[place]) {
             Ok(made) => Ok(Outcome::New(made)),
-            Err(_) => Err(StepFault::NoMemory),
+            Err(_) => Err(ScopeFault::NoMemory),
         },
-        None => Err(StepFault::Script(Fault::BadDimension)),
+        None => Err(ScopeFault::Script(Fault::BadDimension)),
     }
 }
 

@@ -1,16 +1,19 @@
-//! A session: runs a script's statements, one at a time, over a scope of names, kernels and arrays.
+//! A session: runs a script's statements, one at a time, over a scope of names, kernels and arrays,
+//! and tells watchers what each changed.
 //!
 //! A session is seen as the state of the eager machine (`pdl_machine`), and one step of it is the
-//! machine's step: the same state afterwards, the same text, the same fault.
+//! machine's step: the same state afterwards, the same text, the same notices, the same fault.
 #![tactic(auto)]
 
 mod call;
 mod defining;
 mod dims;
 mod eval;
+mod fault;
 mod fill;
 mod given;
 mod inquiry;
+mod news;
 mod outcome;
 mod reducing;
 mod resizing;
@@ -19,6 +22,7 @@ mod shapes;
 mod statement;
 mod target;
 mod views;
+mod watching;
 
-pub use pdl_scope::StepFault;
+pub use fault::{StepFault, WatcherFailed};
 pub use session::Session;

@@ -18,7 +18,7 @@ use crate::shapes::{one_array, two_arrays};
 use pdl_buf::{Made, Steps};
 use pdl_machine::Fault;
 use pdl_reduce::{Pairing, Reduction, Whole};
-use pdl_scope::{Scope, StepFault};
+use pdl_scope::{Scope, ScopeFault};
 use std::sync::ledger::Ledger;
 
 /// A reduction of one array along dimension 0.
@@ -27,7 +27,7 @@ pub fn reduced<L: Ledger>(
     kind: Reduction,
     given: &[Given],
     steps: &mut Steps<L>,
-) -> Result<Outcome, StepFault>
+) -> Result<Outcome, ScopeFault>
     requires { AreGivenLive scope.old.arrays.world given.now }
     ensures value { let seen = all_seen_of scope.old.arrays given.now in
         AnswersAs outcome_of (of_one (reduced kind) seen) result }
@@ -36,7 +36,7 @@ pub fn reduced<L: Ledger>(
 {
     match one_array(given) {
         Some(id) => new_array(scope.reduced(kind, id, steps)),
-        None => Err(StepFault::Script(Fault::WrongArguments)),
+        None => Err(ScopeFault::Script(Fault::WrongArguments)),
     }
 }
 
@@ -46,7 +46,7 @@ pub fn reduced_whole<L: Ledger>(
     kind: Whole,
     given: &[Given],
     steps: &mut Steps<L>,
-) -> Result<Outcome, StepFault>
+) -> Result<Outcome, ScopeFault>
     requires { AreGivenLive scope.old.arrays.world given.now }
     ensures value { let seen = all_seen_of scope.old.arrays given.now in
         AnswersAs outcome_of (of_one (whole_reduced kind) seen) result }
@@ -55,7 +55,7 @@ pub fn reduced_whole<L: Ledger>(
 {
     match one_array(given) {
         Some(id) => new_array(scope.reduced_whole(kind, id, steps)),
-        None => Err(StepFault::Script(Fault::WrongArguments)),
+        None => Err(ScopeFault::Script(Fault::WrongArguments)),
     }
 }
 
@@ -65,7 +65,7 @@ pub fn paired<L: Ledger>(
     kind: Pairing,
     given: &[Given],
     steps: &mut Steps<L>,
-) -> Result<Outcome, StepFault>
+) -> Result<Outcome, ScopeFault>
     requires { AreGivenLive scope.old.arrays.world given.now }
     ensures value { let seen = all_seen_of scope.old.arrays given.now in
         AnswersAs outcome_of (of_two (paired kind) seen) result }
@@ -74,12 +74,12 @@ pub fn paired<L: Ledger>(
 {
     match two_arrays(given) {
         Some((left, right)) => new_array(scope.paired(kind, left, right, steps)),
-        None => Err(StepFault::Script(Fault::WrongArguments)),
+        None => Err(ScopeFault::Script(Fault::WrongArguments)),
     }
 }
 
 /// The outcome that is a new array.
-fn new_array(found: Result<Made, StepFault>) -> Result<Outcome, StepFault>
+fn new_array(found: Result<Made, ScopeFault>) -> Result<Outcome, ScopeFault>
     ensures value { (wanted : Result Made Fault) → Answers wanted found →
         AnswersAs outcome_of (and_then wanted (λ m. Ok (made m))) result }
     ensures made { IfOk found (λ m. IsMade m.ty m.dims m.elems) → IfOk result IsOutcomeMade }

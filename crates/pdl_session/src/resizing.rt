@@ -17,7 +17,7 @@ use pdl_buf::Steps;
 use pdl_elem::Name;
 use pdl_engine::ArrayId;
 use pdl_machine::Fault;
-use pdl_scope::{Scope, StepFault};
+use pdl_scope::{Scope, ScopeFault};
 use pdl_syntax::Arg;
 use std::sync::ledger::Ledger;
 
@@ -27,9 +27,10 @@ pub fn reshape<L: Ledger>(
     name: &Name,
     sizes: &[Arg],
     steps: &mut Steps<L>,
-) -> Result<(), StepFault>
+) -> Result<(), ScopeFault>
     requires { AreArgArrays (args_of sizes.now none) }
-    ensures { let wanted = effect (machine scope.old) (reshape' name.now (args_of sizes.now none)) in
+    ensures { let form = reshape' name.now (args_of sizes.now none) in
+        let wanted = effect [] (machine scope.old) form in
         Runs wanted scope.old scope.new [] [] result }
 {
     match scope.number_of(name) {
@@ -38,7 +39,7 @@ pub fn reshape<L: Ledger>(
             let given = take(scope, none, sizes, steps)?;
             resized(scope, id, &given, steps)
         }
-        None => Err(StepFault::Script(Fault::UnknownName)),
+        None => Err(ScopeFault::Script(Fault::UnknownName)),
     }
 }
 
@@ -48,7 +49,7 @@ fn resized<L: Ledger>(
     id: ArrayId,
     sizes: &[Given],
     steps: &mut Steps<L>,
-) -> Result<(), StepFault>
+) -> Result<(), ScopeFault>
     requires live { IsLive scope.old.arrays.world id }
     requires sizes { AreGivenLive scope.old.arrays.world sizes.now }
     ensures { let given = arguments sizes.now in

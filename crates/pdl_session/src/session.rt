@@ -1,23 +1,33 @@
 //! A session.
-ghost use Rattle.std.specs.Prelude.{◌≡◌, ◌+◌, length, min, OnOk, OnErr, IfErr};
+ghost use Rattle.std.specs.Prelude.{◌≡◌, ◌+◌, ◌≤◌, length, min, IfErr, IfOk, OnOk, OnErr};
 ghost use Rattle.pdl_syntax.specs.StatementTree.{statement_of};
 ghost use Rattle.pdl_syntax.specs.WellMade.{IsWellMade};
+ghost use Rattle.pdl_watch.specs.Slots.{slots_by, present_in, all_ended, EndedShort};
 ghost use Rattle.pdl_machine.specs.Step.{step};
+ghost use Rattle.pdl_scope.specs.Answers.{IsFault};
+ghost use Rattle.pdl_scope.specs.Scope.{slots_limit};
+ghost use Rattle.pdl_session.specs.Advanced.{HasAdvanced};
+ghost use Rattle.pdl_session.specs.Faults.{IfWatcher, UnlessWatcher};
 ghost use Rattle.pdl_session.specs.Session.{no_steps};
-ghost use Rattle.pdl_scope.specs.Answers.{IsFault, Prints};
+ghost use Rattle.pdl_session.specs.Watching.{AreServed, HasDone, HasRun, IsRefusal};
 
+use crate::fault::{StepFault, WatcherFailed};
+use crate::news::News;
 use crate::statement::run;
+use crate::watching::{finish, hear};
 use pdl_buf::Steps;
-use pdl_machine::numbering_laws;
-use pdl_scope::{Scope, StepFault};
+use pdl_machine::{numbering_laws, watching_laws};
+use pdl_scope::{Scope, ScopeFault};
 use pdl_syntax::Statement;
+use pdl_watch::{Watcher, slot_laws};
 use std::alloc::Global;
 use std::marker::Model;
 use std::sync::ledger::Ledger;
 
-/// The names and arrays of a script, between two statements. It is seen as the state of the eager
-/// machine, which is the names with the arrays that they reach, numbered
-/// anew; and as how many calls of `step` there were. No other array is kept.
+/// The names, arrays and attached slots of a script, between two statements. It is seen as the
+/// state of the eager machine, which is the names and the slots with the arrays that they reach,
+/// numbered anew; and as how many calls of `step` there were. No other array is kept. The watchers
+/// are the caller's.
 #[derive(Drop)]
 pub struct Session {
     scope: Scope,
@@ -42,7 +52,7 @@ impl Model for Session {
 }
 
 impl Session {
-    /// No names and no arrays.
+    /// No names, no arrays, and no slot attached.
     pub fn new(alloc: Global) -> Session
         ensures { result ≡ no_steps }
     {
@@ -52,37 +62,165 @@ impl Session {
         }
     }
 
-    /// How many arrays there are: just those that names reach.
+    /// How many arrays there are: just those that names and attached slots reach.
     pub fn live(&self) -> u64
         ensures { result ≡ length self.now.state.arrays.world }
     {
         self.scope.live()
     }
 
-    /// Runs one statement, and adds the text that it prints to `out`. `Script`
-    /// names the fault of the statement. A refusal leaves the state and `out` as they were, be it
-    /// by a fault or by want of memory. Each call is counted, a refused one too.
-    /// `steps` counts the elements that are moved.
+    /// Runs the statement of this number, adds the text that it prints to `out`, and tells the
+    /// watchers of slots what changed of the arrays that these are attached to, slot after slot.
+    /// `watch` attaches the watcher of a slot that has one; `unwatch` finishes the watcher of its
+    /// slot and drops it. A refusal by a fault or by want of memory leaves the state, `out` and the
+    /// watchers as they were: nobody is told before all memory is taken. After a watcher's failure
+    /// the session may only be dropped. Each call is counted, a refused one too. `steps` counts
+    /// the elements that are moved.
     pub fn step<L: Ledger>(
         &mut self,
         statement: &Statement,
+        number: u64,
         out: &mut Vec<u8>,
+        watchers: &mut Vec<Option<Box<dyn Watcher>>>,
         steps: &mut Steps<L>,
     ) -> Result<(), StepFault>
-        requires { IsWellMade (statement_of statement.now) }
-        ensures ok { let wanted = step self.old.state (statement_of statement.now) in
-            OnOk result (Prints wanted self.new.state out.old.items out.new.items) }
-        ensures fault { IfErr result (IsFault (step self.old.state (statement_of statement.now))) }
+        requires made { IsWellMade (statement_of statement.now) }
+        requires served { let slots = slots_by (λ b. seen b) watchers.old.items in
+            AreServed self.old.state.watches slots }
+        ensures ok { let slots = slots_by (λ b. seen b) watchers.old.items in
+            let tree = statement_of statement.now in
+            let wanted = step number (present_in slots) self.old.state tree in
+            OnOk result (HasDone wanted self.new.state out.old.items out.new.items
+            slots (slots_by (λ b. seen b) watchers.new.items)) }
+        ensures fault { let slots = slots_by (λ b. seen b) watchers.old.items in
+            let tree = statement_of statement.now in
+            let wanted = step number (present_in slots) self.old.state tree in
+            IfErr result (IsRefusal wanted slots (slots_by (λ b. seen b) watchers.new.items)) }
+        ensures ran { let slots = slots_by (λ b. seen b) watchers.old.items in
+            let tree = statement_of statement.now in
+            let wanted = step number (present_in slots) self.old.state tree in
+            IfErr result (λ e. IfWatcher e
+            (HasRun wanted self.new.state out.old.items out.new.items)) }
+        ensures kept { IfErr result (λ e. UnlessWatcher e (self.new.state ≡ self.old.state)) }
+        ensures unprinted { IfErr result (λ e. UnlessWatcher e (out.new.items ≡ out.old.items)) }
+        ensures untold { let slots = slots_by (λ b. seen b) watchers.old.items in
+            let now = slots_by (λ b. seen b) watchers.new.items in
+            IfErr result (λ e. UnlessWatcher e (now ≡ slots)) }
+        ensures served { let slots = slots_by (λ b. seen b) watchers.new.items in
+            OnOk result (AreServed self.new.state.watches slots) }
+        ensures numbered { self.new.done ≡ min (self.old.done + 1) 18446744073709551615 }
+    {
+        self.step_over(statement, number, out, watchers, steps)
+    }
+
+    /// The same over watchers of any kind.
+    pub fn step_over<W: Watcher, L: Ledger>(
+        &mut self,
+        statement: &Statement,
+        number: u64,
+        out: &mut Vec<u8>,
+        watchers: &mut Vec<Option<W>>,
+        steps: &mut Steps<L>,
+    ) -> Result<(), StepFault>
+        requires made { IsWellMade (statement_of statement.now) }
+        requires served { AreServed self.old.state.watches (slots_by W.seen watchers.old.items) }
+        ensures ok { let slots = slots_by W.seen watchers.old.items in
+            let tree = statement_of statement.now in
+            let wanted = step number (present_in slots) self.old.state tree in
+            OnOk result (HasDone wanted self.new.state out.old.items out.new.items
+            slots (slots_by W.seen watchers.new.items)) }
+        ensures fault { let slots = slots_by W.seen watchers.old.items in
+            let tree = statement_of statement.now in
+            let wanted = step number (present_in slots) self.old.state tree in
+            IfErr result (IsRefusal wanted slots (slots_by W.seen watchers.new.items)) }
+        ensures ran { let slots = slots_by W.seen watchers.old.items in
+            let tree = statement_of statement.now in
+            let wanted = step number (present_in slots) self.old.state tree in
+            IfErr result (λ e. IfWatcher e
+            (HasRun wanted self.new.state out.old.items out.new.items)) }
+        ensures kept { IfErr result (λ e. UnlessWatcher e (self.new.state ≡ self.old.state)) }
+        ensures unprinted { IfErr result (λ e. UnlessWatcher e (out.new.items ≡ out.old.items)) }
+        ensures untold { let slots = slots_by W.seen watchers.old.items in
+            IfErr result (λ e. UnlessWatcher e (slots_by W.seen watchers.new.items ≡ slots)) }
+        ensures served { let slots = slots_by W.seen watchers.new.items in
+            OnOk result (AreServed self.new.state.watches slots) }
+        ensures numbered { self.new.done ≡ min (self.old.done + 1) 18446744073709551615 }
+    {
+        slot_laws();
+        watching_laws();
+        match self.advance(statement, number, watchers, out, steps) {
+            Ok(news) => match hear(watchers, &news) {
+                Ok(()) => Ok(()),
+                Err(_) => Err(StepFault::Watcher),
+            },
+            Err(fault) => Err(StepFault::from(fault)),
+        }
+    }
+
+    /// Runs the statement of this number, and answers what watchers are to hear of it.
+    fn advance<W: Watcher, L: Ledger>(
+        &mut self,
+        statement: &Statement,
+        number: u64,
+        watchers: &Vec<Option<W>>,
+        out: &mut Vec<u8>,
+        steps: &mut Steps<L>,
+    ) -> Result<News, ScopeFault>
+        requires made { IsWellMade (statement_of statement.now) }
+        requires few { length watchers.now.items ≤ slots_limit }
+        ensures ok { let present = present_in (slots_by W.seen watchers.now.items) in
+            IfOk result (HasAdvanced number present self.old.state self.new.state
+            (statement_of statement.now) out.old.items out.new.items) }
+        ensures fault { let present = present_in (slots_by W.seen watchers.now.items) in
+            let wanted = step number present self.old.state (statement_of statement.now) in
+            IfErr result (IsFault wanted) }
         ensures kept { OnErr result (self.new.state ≡ self.old.state) }
         ensures unprinted { OnErr result (out.new.items ≡ out.old.items) }
         ensures numbered { self.new.done ≡ min (self.old.done + 1) 18446744073709551615 }
     {
         numbering_laws();
+        watching_laws();
         self.calls = self.calls.saturating_add(1);
         self.scope.whole();
-        let ran = run(&mut self.scope, statement, out, steps);
+        let ran = run(&mut self.scope, statement, number, watchers, out, steps);
         self.scope.whole();
         self.scope.let_go(steps);
         ran
+    }
+
+    /// Finishes the watchers of the attached slots, in rising order of slots, until one fails. It
+    /// takes no memory.
+    pub fn close(
+        &mut self,
+        watchers: &mut Vec<Option<Box<dyn Watcher>>>,
+    ) -> Result<(), WatcherFailed>
+        requires { let slots = slots_by (λ b. seen b) watchers.old.items in
+            AreServed self.old.state.watches slots }
+        ensures ok { let slots = slots_by (λ b. seen b) watchers.old.items in
+            OnOk result (slots_by (λ b. seen b) watchers.new.items
+            ≡ all_ended slots self.old.state.watches) }
+        ensures short { let slots = slots_by (λ b. seen b) watchers.old.items in
+            OnErr result (EndedShort slots self.old.state.watches
+            (slots_by (λ b. seen b) watchers.new.items)) }
+        ensures same { self.new ≡ self.old }
+    {
+        self.close_over(watchers)
+    }
+
+    /// The same over watchers of any kind.
+    pub fn close_over<W: Watcher>(
+        &mut self,
+        watchers: &mut Vec<Option<W>>,
+    ) -> Result<(), WatcherFailed>
+        requires { AreServed self.old.state.watches (slots_by W.seen watchers.old.items) }
+        ensures ok { let slots = slots_by W.seen watchers.old.items in
+            OnOk result (slots_by W.seen watchers.new.items
+            ≡ all_ended slots self.old.state.watches) }
+        ensures short { let slots = slots_by W.seen watchers.old.items in
+            OnErr result (EndedShort slots self.old.state.watches
+            (slots_by W.seen watchers.new.items)) }
+        ensures same { self.new ≡ self.old }
+    {
+        finish(watchers, self.scope.watches())
     }
 }

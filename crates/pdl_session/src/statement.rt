@@ -1,5 +1,5 @@
 //! What each statement does.
-ghost use Rattle.std.specs.Prelude.{◌≡◌, [], ◌++◌, map, All, Ok, OnOk};
+ghost use Rattle.std.specs.Prelude.{◌≡◌, ◌≤◌, [], ◌++◌, length, map, All, Ok, OnOk, IfOk};
 ghost use Rattle.pdl_syntax.specs.TreeOf.{tree_of};
 ghost use Rattle.pdl_syntax.specs.StatementTree.{statement_of, bind_list as bind_list', sever as sever', view_of};
 ghost use Rattle.pdl_syntax.specs.WellMade.{AreArrays, AreArgArrays, IsWellMade};
@@ -7,9 +7,13 @@ ghost use Rattle.pdl_machine.specs.Then.{and_then};
 ghost use Rattle.pdl_machine.specs.Cuts.{severed};
 ghost use Rattle.pdl_machine.specs.Value.{value_of};
 ghost use Rattle.pdl_machine.specs.Step.{bound, list_bound, target, assigning, after_printing, effect, newline};
+ghost use Rattle.pdl_machine.specs.Watches.{notices};
 ghost use Rattle.pdl_print.specs.Pieces.{Begins};
+ghost use Rattle.pdl_watch.specs.Slots.{lists_of, present_in, slots_by};
 ghost use Rattle.pdl_scope.specs.Answers.{Runs};
-ghost use Rattle.pdl_scope.specs.Scope.{machine};
+ghost use Rattle.pdl_scope.specs.Scope.{machine, slots_limit};
+ghost use Rattle.pdl_session.specs.News.{IsNewsOf};
+ghost use Rattle.pdl_session.specs.declared.news.News.TheVariants.{Nothing};
 ghost use Rattle.pdl_session.specs.Performed.{Performs};
 ghost use Rattle.pdl_session.specs.Arguments.{arguments, AreGivenLive};
 
@@ -17,14 +21,17 @@ use crate::call::{call, several};
 use crate::defining::define_kernel;
 use crate::eval::{eval, take};
 use crate::given::Given;
+use crate::news::News;
 use crate::resizing::reshape;
 use crate::target::target;
+use crate::watching::{unwatch, watch};
 use pdl_buf::Steps;
 use pdl_elem::Name;
 use pdl_lexemes::AssignOp;
-use pdl_machine::Fault;
-use pdl_scope::{Scope, StepFault};
+use pdl_machine::{Fault, watching_laws};
+use pdl_scope::{Scope, ScopeFault};
 use pdl_syntax::{Expr, Statement, Target, calls_are_trees};
+use pdl_watch::{Notice, Watcher};
 use std::alloc::AllocError;
 use std::sync::ledger::Ledger;
 
@@ -34,7 +41,7 @@ fn bind_value<L: Ledger>(
     name: &Name,
     value: &Expr,
     steps: &mut Steps<L>,
-) -> Result<(), StepFault>
+) -> Result<(), ScopeFault>
     requires { AreArrays (tree_of value.now) }
     ensures { let valued = value_of scope.old.names scope.old.arrays (tree_of value.now) in
         Runs (bound (machine scope.old) name.now valued) scope.old scope.new [] [] result }
@@ -49,7 +56,7 @@ fn bind_severed<L: Ledger>(
     name: &Name,
     value: &Expr,
     steps: &mut Steps<L>,
-) -> Result<(), StepFault>
+) -> Result<(), ScopeFault>
     requires { AreArrays (tree_of value.now) }
     ensures { let valued = value_of scope.old.names scope.old.arrays (tree_of value.now) in
         let wanted = bound (machine scope.old) name.now (severed valued) in
@@ -60,13 +67,13 @@ fn bind_severed<L: Ledger>(
 }
 
 /// Cuts the array of a name from its parent.
-fn sever<L: Ledger>(scope: &mut Scope, name: &Name, steps: &mut Steps<L>) -> Result<(), StepFault>
-    ensures { let wanted = effect (machine scope.old) (sever' name.now) in
+fn sever<L: Ledger>(scope: &mut Scope, name: &Name, steps: &mut Steps<L>) -> Result<(), ScopeFault>
+    ensures { let wanted = effect [] (machine scope.old) (sever' name.now) in
         Runs wanted scope.old scope.new [] [] result }
 {
     match scope.number_of(name) {
         Some(id) => scope.sever(id, steps),
-        None => Err(StepFault::Script(Fault::UnknownName)),
+        None => Err(ScopeFault::Script(Fault::UnknownName)),
     }
 }
 
@@ -77,7 +84,7 @@ fn bind_outputs<L: Ledger>(
     function: &Name,
     given: &[Given],
     steps: &mut Steps<L>,
-) -> Result<(), StepFault>
+) -> Result<(), ScopeFault>
     requires { AreGivenLive scope.old.arrays.world given.now }
     ensures { let args = arguments given.now in
         let wanted = list_bound (machine scope.old) bound.now function.now (scope.old.arrays, args) in
@@ -97,9 +104,10 @@ fn bind_list<L: Ledger>(
     bound: &[Name],
     value: &Expr,
     steps: &mut Steps<L>,
-) -> Result<(), StepFault>
+) -> Result<(), ScopeFault>
     requires { AreArrays (tree_of value.now) }
-    ensures { let wanted = effect (machine scope.old) (bind_list' bound.now (tree_of value.now)) in
+    ensures { let form = bind_list' bound.now (tree_of value.now) in
+        let wanted = effect [] (machine scope.old) form in
         Runs wanted scope.old scope.new [] [] result }
 {
     calls_are_trees();
@@ -109,27 +117,35 @@ fn bind_list<L: Ledger>(
             let given = take(scope, none, args, steps)?;
             bind_outputs(scope, bound, function, &given, steps)
         }
-        _ => Err(StepFault::Script(Fault::Syntax)),
+        _ => Err(ScopeFault::Script(Fault::Syntax)),
     }
 }
 
-/// Assigns by a sign: the target's array comes first, then the value's.
+/// Assigns by a sign: the target's array comes first, then the value's. The answer is what watchers
+/// are to be told, by slots.
 fn assign_value<L: Ledger>(
     scope: &mut Scope,
     to: &Target,
     sign: AssignOp,
     value: &Expr,
+    number: u64,
     steps: &mut Steps<L>,
-) -> Result<(), StepFault>
+) -> Result<Vec<Vec<Notice>>, ScopeFault>
     requires views { All (λ v. AreArgArrays v.1) (map view_of to.now.views.items) }
     requires made { AreArrays (tree_of value.now) }
-    ensures { let place = target to.now.name (map view_of to.now.views.items) in
+    ensures runs { let place = target to.now.name (map view_of to.now.views.items) in
         let wanted = assigning (machine scope.old) place sign (tree_of value.now) in
         Runs wanted scope.old scope.new [] [] result }
+    ensures told { let w = scope.old.arrays.world in
+        let wanted = notices number w scope.new.arrays.world scope.new.watches in
+        IfOk result (λ all. lists_of all.items ≡ wanted) }
 {
+    watching_laws();
+    scope.whole();
     let to = target(scope, to, steps)?;
     let from = eval(scope, value, steps)?;
-    scope.assign(sign, to, from, steps)
+    scope.whole();
+    scope.assign(sign, to, from, number, steps)
 }
 
 /// Prints a value, or its info. A part of the text may stand in `out` after want of memory.
@@ -139,7 +155,7 @@ fn show<L: Ledger>(
     info: bool,
     out: &mut Vec<u8>,
     steps: &mut Steps<L>,
-) -> Result<(), StepFault>
+) -> Result<(), ScopeFault>
     requires { AreArrays (tree_of value.now) }
     ensures { let valued = value_of scope.old.names scope.old.arrays (tree_of value.now) in
         let wanted = and_then valued (λ v. Ok (after_printing (machine scope.old) info v)) in
@@ -158,22 +174,31 @@ fn print_text(text: &[u8], out: &mut Vec<u8>) -> Result<(), AllocError>
     Ok(out.push(b'\n')?)
 }
 
-/// Runs one statement. Where it is refused, names and `out` are as they were, be it by a fault or
+/// Runs one statement, and answers what watchers are to hear of it; which slots have one decides
+/// what can be attached. Where it is refused, names and `out` are as they were, be it by a fault or
 /// by want of memory; new arrays may have come.
 #[tactic(auto, using(crate::proofs::Statements::cut_front))]
-pub fn run<L: Ledger>(
+pub fn run<W: Watcher, L: Ledger>(
     scope: &mut Scope,
     statement: &Statement,
+    number: u64,
+    watchers: &Vec<Option<W>>,
     out: &mut Vec<u8>,
     steps: &mut Steps<L>,
-) -> Result<(), StepFault>
-    requires { IsWellMade (statement_of statement.now) }
-    ensures { let wanted = effect (machine scope.old) (statement_of statement.now) in
+) -> Result<News, ScopeFault>
+    requires made { IsWellMade (statement_of statement.now) }
+    requires few { length watchers.now.items ≤ slots_limit }
+    ensures runs { let present = present_in (slots_by W.seen watchers.now.items) in
+        let wanted = effect present (machine scope.old) (statement_of statement.now) in
         Runs wanted scope.old scope.new out.old.items out.new.items result }
+    ensures news { let w = scope.old.arrays.world in
+        let told = notices number w scope.new.arrays.world scope.new.watches in
+        IfOk result (IsNewsOf (statement_of statement.now) told) }
 {
     let mark = out.len();
-    match perform(scope, statement, out, steps) {
-        Ok(()) => Ok(()),
+    let mut news = News::Nothing;
+    match perform(scope, statement, number, watchers, &mut news, out, steps) {
+        Ok(()) => Ok(news),
         Err(fault) => {
             out.truncate(mark);
             Err(fault)
@@ -181,16 +206,26 @@ pub fn run<L: Ledger>(
     }
 }
 
-/// Does what a statement says. A part of its text may stand in `out` where it is refused.
-fn perform<L: Ledger>(
+/// Does what a statement says, and puts what watchers are to hear in place of nothing. A part of
+/// its text may stand in `out` where it is refused.
+fn perform<W: Watcher, L: Ledger>(
     scope: &mut Scope,
     statement: &Statement,
+    number: u64,
+    watchers: &Vec<Option<W>>,
+    news: &mut News,
     out: &mut Vec<u8>,
     steps: &mut Steps<L>,
-) -> Result<(), StepFault>
-    requires { IsWellMade (statement_of statement.now) }
-    ensures { let wanted = effect (machine scope.old) (statement_of statement.now) in
+) -> Result<(), ScopeFault>
+    requires made { IsWellMade (statement_of statement.now) }
+    requires few { length watchers.now.items ≤ slots_limit }
+    requires nothing { news.old ≡ Nothing }
+    ensures performs { let present = present_in (slots_by W.seen watchers.now.items) in
+        let wanted = effect present (machine scope.old) (statement_of statement.now) in
         Performs wanted scope.old scope.new out.old.items out.new.items result }
+    ensures news { let w = scope.old.arrays.world in
+        let told = notices number w scope.new.arrays.world scope.new.watches in
+        OnOk result (IsNewsOf (statement_of statement.now) told news.new) }
 {
     match statement {
         Statement::Bind {
@@ -204,7 +239,11 @@ fn perform<L: Ledger>(
             sever: true,
         } => bind_severed(scope, name, value, steps),
         Statement::BindList { names, value } => bind_list(scope, names, value, steps),
-        Statement::Assign { target, op, value } => assign_value(scope, target, *op, value, steps),
+        Statement::Assign { target, op, value } => {
+            let all = assign_value(scope, target, *op, value, number, steps)?;
+            *news = News::Notices(all);
+            Ok(())
+        }
         Statement::Show { value, info } => show(scope, value, *info, out, steps),
         Statement::ShowText { text } => Ok(print_text(text.bytes(), out)?),
         Statement::Sever { name } => sever(scope, name, steps),
@@ -216,8 +255,10 @@ fn perform<L: Ledger>(
             signature,
             code,
         } => define_kernel(scope, name, signature, code),
-        Statement::Watch { .. } | Statement::Unwatch { .. } => {
-            Err(StepFault::Script(Fault::Syntax))
+        Statement::Watch { name, slot } => watch(scope, name, *slot, watchers),
+        Statement::Unwatch { slot } => {
+            *news = News::End(*slot as usize);
+            unwatch(scope, *slot)
         }
     }
 }

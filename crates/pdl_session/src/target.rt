@@ -16,7 +16,7 @@ use crate::given::Given;
 use pdl_buf::Steps;
 use pdl_engine::ArrayId;
 use pdl_machine::Fault;
-use pdl_scope::{Scope, StepFault};
+use pdl_scope::{Scope, ScopeFault};
 use pdl_syntax::{Target, ViewCall};
 use std::sync::ledger::Ledger;
 
@@ -26,7 +26,7 @@ pub fn target<L: Ledger>(
     scope: &mut Scope,
     target: &Target,
     steps: &mut Steps<L>,
-) -> Result<ArrayId, StepFault>
+) -> Result<ArrayId, ScopeFault>
     requires { All (λ v. AreArgArrays v.1) (map view_of target.now.views.items) }
     ensures value { let tree = target' target.now.name (map view_of target.now.views.items) in
         Evaluates (value_of scope.old.names scope.old.arrays tree) scope.new result }
@@ -34,7 +34,7 @@ pub fn target<L: Ledger>(
 {
     let mut id = match scope.number_of(&target.name) {
         Some(id) => id,
-        None => return Err(StepFault::Script(Fault::UnknownName)),
+        None => return Err(ScopeFault::Script(Fault::UnknownName)),
     };
     for view in &target.views {
         id = call_on(scope, id, view, steps)?;
@@ -49,7 +49,7 @@ fn call_on<L: Ledger>(
     id: ArrayId,
     view: &ViewCall,
     steps: &mut Steps<L>,
-) -> Result<ArrayId, StepFault>
+) -> Result<ArrayId, ScopeFault>
     requires live { IsLive scope.old.arrays.world id }
     requires made { AreArgArrays (view_of view.now).1 }
     ensures value { (a : Arrays) (of : Tree) →

@@ -1,48 +1,48 @@
--- A run is carried on: what the pieces that are fed leave of it, and what it has printed at the least.
-use Rattle.std.proofs.Common.{◌≡◌, ℕ, ◌+◌, List, [], ◌∷◌, ◌++◌, map, take, drop, Bool, true, false, cond, Option, Some, None, Result, Ok, Err, OnErr, option_to_list, refl, sym, ◌∙◌, ap, subst, arith, append_assoc, append-nil}
-use Rattle.std.specs.Prelude.{OnOk}
-use Rattle.pdl_shell.specs.declared.stop.Stop.{Stop}
+-- A run is carried on: what the pieces that are fed leave of it, and what it has given out at the least.
+use Rattle.std.proofs.Common.{◌≡◌, ℕ, ◌+◌, List, [], ◌∷◌, ◌++◌, map, take, drop, Bool, true, false, cond, Option, Some, None, inl, inr, Result, Ok, Err, option_to_list, refl, sym, ◌∙◌, ap, subst, arith, append_assoc}
+use Rattle.std.specs.Prelude.{OnOk, IfErr}
+use Rattle.std.specs.Result.{IsErrAnd}
 use Rattle.std.proofs.lemmas.List.{map-append, take-append-drop}
 use Rattle.std.proofs.lemmas.List.Sums.{sum_by-append}
-use Rattle.std.specs.Io.KnownBytes.{Appends, Keeps}
-use Rattle.pdl_io.specs.Told.{IsPrefix, AppendsPrefix}
 use Rattle.pdl_lex.specs.Bytes.{newlines, is_newline}
 use Rattle.pdl_lex.specs.Pieces.{State, Mark, statement, script_too_long, to_come, settled_from}
 use Rattle.pdl_lex.specs.declared.Piece.{Piece}
-use Rattle.pdl_machine.specs.Step.{Stepped}
-use Rattle.pdl_machine.specs.Run.{Progress, mark_step, line_of, fault_ends, text_after, after, after_mark, after_marks}
-use Rattle.pdl_machine.specs.RunLaws.{EndedStays, PrintedStays}
+use Rattle.std.specs.Io.KnownBytes.{Keeps}
+use Rattle.pdl_io.specs.Told.{Says}
+use Rattle.pdl_watch.specs.Slots.{Slots, all_told, all_ended, emptied, EndedShort}
+use Rattle.pdl_machine.specs.Watches.{Watches}
+use Rattle.pdl_machine.specs.State.{State as MachineState}
+use Rattle.pdl_machine.specs.Run.{Terms, Progress, after_mark, after_marks}
 use Rattle.pdl_shell.specs.declared.runner.Runner.{Runner}
-use Rattle.pdl_shell.specs.Pace.{Behind, end_of_input, past_limit, unknown, behind, marks_left, mark_text}
-use Rattle.pdl_shell.specs.Course.{progress, outcome, Carries, StopsShort, Finishes, FinishesShort}
+use Rattle.pdl_shell.specs.declared.stop.Stop.{Stop}
+use Rattle.pdl_shell.specs.declared.stop.Stop.TheVariants.{Source, Sink, Watcher, NoMemory}
+use Rattle.pdl_shell.specs.Outside.{Outlets, CountsStay}
+use Rattle.pdl_shell.specs.Answers.{HeardShort, IsShort, ending_of_run}
+use Rattle.pdl_shell.specs.Stops.{HasSinkCause, Leaves}
+use Rattle.pdl_shell.specs.Pace.{Behind, end_of_input, past_limit, unknown, behind, marks_left, outcome}
+use Rattle.pdl_shell.specs.CourseLaws.{Laws}
+use Rattle.pdl_shell.specs.Course.{Stands, Runs, RunsShort, Carries, StopsShort, Finishes, FinishesShort, Ends}
+use Rattle.pdl_shell.proofs.SlotsHeard.{counts_then, counts_ended, one_rose}
+use Rattle.pdl_shell.proofs.Taking.{appends_kept, is_prefix-refl}
+use Rattle.pdl_shell.proofs.Following.{after_marks-cons, short_marks, short_stands, counts_follow, heard_follows, sink_fails}
+
+-- what follows where there is no error, and where there is one
+pub ok_then : {T P Q : Type 0} (result : Result T Stop) → (P → Q) → OnOk result P → OnOk result Q
+ok_then (Ok x) f p = f p
+ok_then (Err e) f p = tt
+
+pub err_then : {T : Type 0} {P Q : Stop → Type 0} (result : Result T Stop) → ((stop : Stop) → P stop → Q stop) → IfErr result P → IfErr result Q
+err_then (Ok x) f p = tt
+err_then (Err e) f p = f e p
+
+pub stops_result : {T : Type 0} (result : Result T Stop) (stop : Stop) → IsErrAnd result (λ e. e ≡ stop) → (bytes : List ℕ) (old : Runner) (out now : Outlets)
+    → StopsShort bytes old out stop now → IfErr result (λ s. StopsShort bytes old out s now)
+stops_result (Ok x) stop is bytes old out now short = absurd is
+stops_result (Err e) stop is bytes old out now short = subst (λ (s : Stop). StopsShort bytes old out s now) (sym is) short
 
 -- newlines of two texts, one after the other
 pub newlines-append : (xs ys : List ℕ) → newlines (xs ++ ys) ≡ newlines xs + newlines ys
 newlines-append xs ys = sum_by-append (λ x. cond (is_newline x) 1 0) xs ys
-
--- before a fault has ended the run the next statement is run
-pub after_marks-cons : (keep : Bool) (p : Progress) (m : Mark) (ms : List Mark) → p.ended ≡ false → after_marks keep p (m ∷ ms) ≡ after_marks keep (after_mark keep p m) ms
-after_marks-cons keep p m ms running = rw running refl
-
-pub is_prefix-refl : (xs : List ℕ) → IsPrefix xs xs
-is_prefix-refl xs = ([], sym (append-nil xs))
-
-pub is_prefix-trans : (xs ys zs : List ℕ) → IsPrefix xs ys → IsPrefix ys zs → IsPrefix xs zs
-is_prefix-trans xs ys zs p q = (p.0 ++ q.0, q.1 ∙ ap (λ u. u ++ q.0) p.1 ∙ append_assoc xs p.0 q.0)
-
--- a statement's text is put at the end of what was printed
-after-printed : (ends : Bool) (p : Progress) (line : ℕ) (r : Stepped) → (after ends p line r).printed ≡ p.printed ++ text_after line r
-after-printed ends p line (Ok (s, text)) = refl
-after-printed ends p line (Err e) = refl
-
-pub after_mark-printed : (keep : Bool) (p : Progress) (m : Mark) → (after_mark keep p m).printed ≡ p.printed ++ mark_text p.state m
-after_mark-printed keep p m = after-printed (fault_ends keep m) p (line_of m) (mark_step p.state m)
-
--- a statement that was run, with what it prints
-pub ran : (old new : Runner) (m : Mark) (text : List ℕ) → mark_step old.session.state m ≡ Ok (new.session.state, text)
-    → new.faulted ≡ old.faulted → new.ended ≡ old.ended
-    → (text ≡ mark_text old.session.state m) × ((printed : List ℕ) → after_mark old.keep_going (progress old printed) m ≡ progress new (printed ++ mark_text old.session.state m))
-ran old new m text is faulted ended = rw (is, faulted, ended) (refl, λ printed. refl)
 
 -- the statements that are left once bytes are fed that complete a piece or none
 pub marks_left-fed : (follows : Behind) (old new : State) (piece : Option Piece) (bytes rest more : List ℕ)
@@ -68,113 +68,140 @@ pub record Feeds (old new : State) (piece : Option Piece) (bytes rest : List ℕ
   pub settled : (more : List ℕ) → settled_from old (bytes ++ more) ≡ option_to_list piece ++ settled_from new (rest ++ more)
   pub line : old.line + newlines bytes ≡ new.line + newlines rest
 
+marks_fed : (follows : Behind) (old new : State) (piece : Option Piece) (bytes rest more : List ℕ) → Feeds old new piece bytes rest
+    → marks_left follows old (bytes ++ more) ≡ map statement (option_to_list piece) ++ marks_left follows new (rest ++ more)
+marks_fed follows old new piece bytes rest more fed = marks_left-fed follows old new piece bytes rest more (fed.stream more) (fed.settled more) fed.line
+
+-- a runner with another cutter follows the same run
+pub stands_same : (terms : Terms) (first : Outlets) (old new : Runner) (now : Outlets) (run : Progress) → new ≡ record old { cutter = new.cutter }
+    → Stands terms first old now run → Stands terms first new now run
+stands_same terms first old new now run same s = subst (λ (r : Runner). Stands terms first r now run) (sym same) (record {
+  follows = record {
+    keep = s.follows.keep;
+    state = s.follows.state;
+    faulted = s.follows.faulted;
+    ended = s.follows.ended;
+    count = s.follows.count;
+    slots = s.follows.slots;
+    present = s.follows.present;
+  };
+  text = s.text;
+  faults = s.faults;
+})
+
 -- bytes that complete no piece carry the run on
-pub carries_quiet : (old new : Runner) (bytes rest : List ℕ) (taken : Option (List ℕ))
+pub carries_quiet : (old new : Runner) (bytes rest : List ℕ) (out : Outlets)
     → Feeds old.cutter new.cutter None bytes rest
     → new ≡ record old { cutter = new.cutter }
-    → Carries bytes old taken rest new taken
-carries_quiet old new bytes rest taken fed same before printed so_far = (
-  printed,
-  so_far,
-  λ follows more.
-      ap (after_marks old.keep_going (progress old printed)) (marks_left-fed follows old.cutter new.cutter None bytes rest more (fed.stream more) (fed.settled more) fed.line)
-      ∙ ap (λ (r : Runner). after_marks r.keep_going (progress r printed) (marks_left follows new.cutter (rest ++ more))) (sym same),
-)
+    → Carries bytes old out rest new out
+carries_quiet old new bytes rest out fed same = record {
+  on = λ terms first run s. (
+    run,
+    stands_same terms first old new out run same s,
+    λ follows more. ap (after_marks terms run) (marks_fed follows old.cutter new.cutter None bytes rest more fed),
+  );
+}
 
--- bytes taken, and then more of them
-pub appends_then : (before taken now : Option (List ℕ)) (xs ys : List ℕ) → Appends before taken xs → Appends taken now ys → Appends before now (xs ++ ys)
-appends_then None taken now xs ys first then' = tt
-appends_then (Some bs) None now xs ys first then' = absurd first
-appends_then (Some bs) (Some cs) None xs ys first then' = absurd then'
-appends_then (Some bs) (Some cs) (Some ds) xs ys first then' = then' ∙ ap (λ u. u ++ ys) first ∙ append_assoc bs xs ys
+fed_piece : (terms : Terms) (follows : Behind) (old new : State) (run : Progress) (piece : Piece) (bytes rest more : List ℕ)
+    → Feeds old new (Some piece) bytes rest → run.ended ≡ false
+    → outcome terms follows old run (bytes ++ more) ≡ outcome terms follows new (after_mark terms run (statement piece)) (rest ++ more)
+fed_piece terms follows old new run piece bytes rest more fed running =
+    ap (after_marks terms run) (marks_fed follows old new (Some piece) bytes rest more fed)
+    ∙ after_marks-cons terms run (statement piece) (marks_left follows new (rest ++ more)) running
 
--- bytes taken stay taken
-pub appends_kept : (before taken now : Option (List ℕ)) (xs : List ℕ) → Appends before taken xs → Keeps taken now → Appends before now xs
-appends_kept None taken now xs first kept = tt
-appends_kept (Some bs) None now xs first kept = absurd first
-appends_kept (Some bs) (Some cs) None xs first kept = absurd kept
-appends_kept (Some bs) (Some cs) (Some ds) xs first kept = kept ∙ first
+-- a statement that is completed and run carries the run on; it is run with the cutter that the bytes left
+pub carries_piece : (old mid new : Runner) (piece : Piece) (bytes rest : List ℕ) (out now : Outlets)
+    → Feeds old.cutter new.cutter (Some piece) bytes rest → old.ended ≡ false → mid ≡ record old { cutter = mid.cutter }
+    → Runs (statement piece) mid out new now
+    → Carries bytes old out rest new now
+carries_piece old mid new piece bytes rest out now fed running same ran = record {
+  on = λ terms first run s. (
+    after_mark terms run (statement piece),
+    ran.stands terms first run (stands_same terms first old mid out run same s),
+    λ follows more. fed_piece terms follows old.cutter new.cutter run piece bytes rest more fed (s.follows.ended ∙ running),
+  );
+}
 
--- a statement that is completed and run carries the run on
-pub carries_piece : (old new : Runner) (piece : Piece) (bytes rest : List ℕ) (taken now : Option (List ℕ))
-    → Feeds old.cutter new.cutter (Some piece) bytes rest
-    → old.ended ≡ false → new.keep_going ≡ old.keep_going
-    → ((printed : List ℕ) → after_mark old.keep_going (progress old printed) (statement piece) ≡ progress new (printed ++ mark_text old.session.state (statement piece)))
-    → Appends taken now (mark_text old.session.state (statement piece))
-    → Carries bytes old taken rest new now
-carries_piece old new piece bytes rest taken now fed running keep ran wrote before printed so_far = (
-  printed ++ mark_text old.session.state (statement piece),
-  appends_then before taken now printed (mark_text old.session.state (statement piece)) so_far wrote,
-  λ follows more.
-      ap (after_marks old.keep_going (progress old printed)) (marks_left-fed follows old.cutter new.cutter (Some piece) bytes rest more (fed.stream more) (fed.settled more) fed.line)
-      ∙ after_marks-cons old.keep_going (progress old printed) (statement piece) (marks_left follows new.cutter (rest ++ more)) running
-      ∙ ap (λ p. after_marks old.keep_going p (marks_left follows new.cutter (rest ++ more))) (ran printed)
-      ∙ ap (λ k. after_marks k (progress new (printed ++ mark_text old.session.state (statement piece))) (marks_left follows new.cutter (rest ++ more))) (sym keep),
-)
+-- the run stops short in a statement that is completed
+pub stops_in_piece : Laws → (old mid : Runner) (piece : Piece) (bytes rest : List ℕ) (out : Outlets) (stop : Stop) (now : Outlets)
+    → Feeds old.cutter mid.cutter (Some piece) bytes rest → old.ended ≡ false → mid ≡ record old { cutter = mid.cutter }
+    → RunsShort (statement piece) mid out stop now
+    → StopsShort bytes old out stop now
+stops_in_piece laws old mid piece bytes rest out stop now fed running same ran = record {
+  short = λ terms first run s follows more.
+      let after : Progress = after_mark terms run (statement piece) in
+      subst (λ (p : Progress). IsShort (ending_of_run p) first now)
+      (sym (fed_piece terms follows old.cutter mid.cutter run piece bytes rest more fed (s.follows.ended ∙ running)))
+      (short_marks laws terms first now after (marks_left follows mid.cutter (rest ++ more))
+      (ran.short terms first run (stands_same terms first old mid out run same s)));
+  fails = λ terms first run s. ran.fails terms first run (stands_same terms first old mid out run same s);
+}
 
--- what was printed before and a prefix of a statement's text are a prefix of what the run comes to
-pub prefix_in_mark : (stays : PrintedStays) (keep : Bool) (p : Progress) (m : Mark) (ms : List Mark) (before taken now : Option (List ℕ))
-    → Appends before taken p.printed → AppendsPrefix taken now (mark_text p.state m)
-    → AppendsPrefix before now (after_marks keep (after_mark keep p m) ms).printed
-prefix_in_mark stays keep p m ms before taken now so_far wrote =
-    let text : List ℕ = mark_text p.state m in
-    let longer : p.printed ++ text ≡ (p.printed ++ wrote.0) ++ wrote.1.0 = ap (λ u. p.printed ++ u) wrote.1.1 ∙ sym (append_assoc p.printed wrote.0 wrote.1.0) in (
-      p.printed ++ wrote.0,
-      is_prefix-trans _ _ _ (wrote.1.0, after_mark-printed keep p m ∙ longer) (stays keep (after_mark keep p m) ms),
-      appends_then before taken now p.printed wrote.0 so_far wrote.2,
-    )
-
--- the run stops short while the text of a completed statement is written
-pub stops_in_piece : (stays : PrintedStays) (old : Runner) (new : State) (piece : Piece) (bytes rest : List ℕ) (taken now : Option (List ℕ))
-    → Feeds old.cutter new (Some piece) bytes rest
-    → old.ended ≡ false
-    → AppendsPrefix taken now (mark_text old.session.state (statement piece))
-    → StopsShort bytes old taken now
-stops_in_piece stays old new piece bytes rest taken now fed running wrote before printed so_far follows more =
-    let ms : List Mark = marks_left follows new (rest ++ more) in
-    let comes : outcome follows old printed (bytes ++ more) ≡ after_marks old.keep_going (after_mark old.keep_going (progress old printed) (statement piece)) ms =
-    ap (after_marks old.keep_going (progress old printed)) (marks_left-fed follows old.cutter new (Some piece) bytes rest more (fed.stream more) (fed.settled more) fed.line)
-    ∙ after_marks-cons old.keep_going (progress old printed) (statement piece) ms running in
-    subst (λ (p : Progress). AppendsPrefix before now p.printed) (sym comes) (prefix_in_mark stays old.keep_going (progress old printed) (statement piece) ms before taken now so_far wrote)
-
--- the run stops short before anything more is written
-pub stops_before : (stays : PrintedStays) (old : Runner) (bytes : List ℕ) (taken : Option (List ℕ)) → StopsShort bytes old taken taken
-stops_before stays old bytes taken before printed so_far follows more =
-    (printed, stays old.keep_going (progress old printed) (marks_left follows old.cutter (bytes ++ more)), so_far)
+-- the run stops short for want of memory before anything more is given out
+pub stops_before : Laws → (old : Runner) (bytes : List ℕ) (out : Outlets) → StopsShort bytes old out NoMemory out
+stops_before laws old bytes out = record {
+  short = λ terms first run s follows more.
+      short_marks laws terms first out run (marks_left follows old.cutter (bytes ++ more)) (short_stands laws terms first old out run s);
+  fails = λ terms first run s. (s.faults, counts_follow laws terms first.slots old out.slots run s.follows);
+}
 
 -- bytes that are all run over, and then more of them
-pub carries_on : (a b c : Runner) (xs ys : List ℕ) (ta tb tc : Option (List ℕ))
-    → Carries xs a ta [] b tb → Carries ys b tb [] c tc → Carries (xs ++ ys) a ta [] c tc
-carries_on a b c xs ys ta tb tc first then' before printed so_far =
-    let p = first before printed so_far in
-    let q = then' before p.0 p.1 in
-    (q.0, q.1, λ follows more. ap (outcome follows a printed) (append_assoc xs ys more) ∙ p.2 follows (ys ++ more) ∙ q.2 follows more)
+pub carries_on : (a b c : Runner) (xs ys : List ℕ) (oa ob oc : Outlets)
+    → Carries xs a oa [] b ob → Carries ys b ob [] c oc → Carries (xs ++ ys) a oa [] c oc
+carries_on a b c xs ys oa ob oc one two = record {
+  on = λ terms first run s.
+      let p = one.on terms first run s in
+      let q = two.on terms first p.0 p.1 in
+      (q.0, q.1, λ follows more. ap (outcome terms follows a.cutter run) (append_assoc xs ys more) ∙ p.2 follows (ys ++ more) ∙ q.2 follows more);
+}
 
-pub stops_on : (a b : Runner) (xs ys : List ℕ) (ta tb tc : Option (List ℕ))
-    → Carries xs a ta [] b tb → StopsShort ys b tb tc → StopsShort (xs ++ ys) a ta tc
-stops_on a b xs ys ta tb tc first then' before printed so_far follows more =
-    let p = first before printed so_far in
-    let comes : outcome follows a printed ((xs ++ ys) ++ more) ≡ outcome follows b p.0 (ys ++ more) =
-    ap (outcome follows a printed) (append_assoc xs ys more) ∙ p.2 follows (ys ++ more) in
-    subst (λ (o : Progress). AppendsPrefix before tc o.printed) (sym comes) (then' before p.0 p.1 follows more)
+pub stops_on : (a b : Runner) (xs ys : List ℕ) (oa ob : Outlets) (stop : Stop) (oc : Outlets)
+    → Carries xs a oa [] b ob → StopsShort ys b ob stop oc → StopsShort (xs ++ ys) a oa stop oc
+stops_on a b xs ys oa ob stop oc one two = record {
+  short = λ terms first run s follows more.
+      let p = one.on terms first run s in
+      let comes : outcome terms follows a.cutter run ((xs ++ ys) ++ more) ≡ outcome terms follows b.cutter p.0 (ys ++ more) =
+      ap (outcome terms follows a.cutter run) (append_assoc xs ys more) ∙ p.2 follows (ys ++ more) in
+      subst (λ (o : Progress). IsShort (ending_of_run o) first oc) (sym comes) (two.short terms first p.0 p.1 follows more);
+  fails = λ terms first run s. let p = one.on terms first run s in two.fails terms first p.0 p.1;
+}
 
-pub stops_then : (a b : Runner) (bytes mid : List ℕ) (ta tb tc : Option (List ℕ))
-    → Carries bytes a ta mid b tb → StopsShort mid b tb tc → StopsShort bytes a ta tc
-stops_then a b bytes mid ta tb tc first then' before printed so_far follows more =
-    let p = first before printed so_far in
-    subst (λ (o : Progress). AppendsPrefix before tc o.printed) (sym (p.2 follows more)) (then' before p.0 p.1 follows more)
+pub stops_then : (a b : Runner) (bytes mid : List ℕ) (oa ob : Outlets) (stop : Stop) (oc : Outlets)
+    → Carries bytes a oa mid b ob → StopsShort mid b ob stop oc → StopsShort bytes a oa stop oc
+stops_then a b bytes mid oa ob stop oc one two = record {
+  short = λ terms first run s follows more.
+      let p = one.on terms first run s in
+      subst (λ (o : Progress). IsShort (ending_of_run o) first oc) (sym (p.2 follows more)) (two.short terms first p.0 p.1 follows more);
+  fails = λ terms first run s. let p = one.on terms first run s in two.fails terms first p.0 p.1;
+}
+
+pub carries_then : (a b c : Runner) (bytes mid rest : List ℕ) (oa ob oc : Outlets)
+    → Carries bytes a oa mid b ob → Carries mid b ob rest c oc → Carries bytes a oa rest c oc
+carries_then a b c bytes mid rest oa ob oc one two = record {
+  on = λ terms first run s.
+      let p = one.on terms first run s in
+      let q = two.on terms first p.0 p.1 in
+      (q.0, q.1, λ follows more. p.2 follows more ∙ q.2 follows more);
+}
+
+-- no byte is run over
+pub carries_nothing : (a : Runner) (bytes : List ℕ) (out : Outlets) → Carries bytes a out bytes a out
+carries_nothing a bytes out = record { on = λ terms first run s. (run, s, λ follows more. refl) }
 
 -- once a fault has ended the run, the bytes that are left don't count
-pub carries_ended : (stays : EndedStays) (a b : Runner) (bytes rest : List ℕ) (ta tb : Option (List ℕ))
-    → Carries bytes a ta rest b tb → b.ended ≡ true → Carries bytes a ta [] b tb
-carries_ended stays a b bytes rest ta tb first ended before printed so_far =
-    let p = first before printed so_far in (
-      p.0,
-      p.1,
-      λ follows more. p.2 follows more
-          ∙ stays b.keep_going (progress b p.0) (marks_left follows b.cutter (rest ++ more)) ended
-          ∙ sym (stays b.keep_going (progress b p.0) (marks_left follows b.cutter more) ended),
-    )
+pub carries_ended : Laws → (a b : Runner) (bytes rest : List ℕ) (oa ob : Outlets)
+    → Carries bytes a oa rest b ob → b.ended ≡ true → Carries bytes a oa [] b ob
+carries_ended laws a b bytes rest oa ob one ended = record {
+  on = λ terms first run s.
+      let p = one.on terms first run s in
+      let over : p.0.ended ≡ true = p.1.follows.ended ∙ ended in (
+        p.0,
+        p.1,
+        λ follows more. p.2 follows more
+            ∙ laws.ended terms p.0 (marks_left follows b.cutter (rest ++ more)) over
+            ∙ sym (laws.ended terms p.0 (marks_left follows b.cutter more) over),
+      );
+}
 
 -- the lines of the bytes that were taken and of those that are left
 pub lines_split : (before now used : ℕ) (bytes : List ℕ) → now ≡ before + newlines (take used bytes) → before + newlines bytes ≡ now + newlines (drop used bytes)
@@ -195,54 +222,124 @@ feeds old new cut piece bytes used is stream settled lines = record {
   line = lines_split old.line new.line used bytes lines;
 }
 
-pub on_ok : {T E P : Type 0} (r : Result T E) → P → OnOk r P
-on_ok (Ok x) p = p
-on_ok (Err e) p = tt
-
-last_mark : (is_cut : Bool) (old : Runner) (m : Mark) (printed : List ℕ) → old.ended ≡ false → m ∷ [] ≡ marks_left (behind is_cut) old.cutter []
-    → outcome (behind is_cut) old printed [] ≡ after_mark old.keep_going (progress old printed) m
-last_mark is_cut old m printed running last =
-    ap (after_marks old.keep_going (progress old printed)) (sym last) ∙ after_marks-cons old.keep_going (progress old printed) m [] running
-
 -- what is left is run
-pub finishes_mark : (is_cut : Bool) (old new : Runner) (m : Mark) (taken now : Option (List ℕ))
-    → old.ended ≡ false → m ∷ [] ≡ marks_left (behind is_cut) old.cutter []
-    → ((printed : List ℕ) → after_mark old.keep_going (progress old printed) m ≡ progress new (printed ++ mark_text old.session.state m))
-    → Appends taken now (mark_text old.session.state m)
-    → Finishes is_cut old taken new.faulted now
-finishes_mark is_cut old new m taken now running last ran wrote before printed so_far =
-    let comes : outcome (behind is_cut) old printed [] ≡ progress new (printed ++ mark_text old.session.state m) = last_mark is_cut old m printed running last ∙ ran printed in
-    (rw comes (appends_then before taken now printed (mark_text old.session.state m) so_far wrote), rw comes refl)
+last_mark : (terms : Terms) (is_cut : Bool) (cutter : State) (m : Mark) (run : Progress) → run.ended ≡ false → m ∷ [] ≡ marks_left (behind is_cut) cutter []
+    → outcome terms (behind is_cut) cutter run [] ≡ after_mark terms run m
+last_mark terms is_cut cutter m run running last = ap (after_marks terms run) (sym last) ∙ after_marks-cons terms run m [] running
 
-pub short_in_mark : (stays : PrintedStays) (is_cut : Bool) (old : Runner) (m : Mark) (taken now : Option (List ℕ))
-    → old.ended ≡ false → m ∷ [] ≡ marks_left (behind is_cut) old.cutter []
-    → AppendsPrefix taken now (mark_text old.session.state m)
-    → FinishesShort is_cut old taken now
-short_in_mark stays is_cut old m taken now running last wrote before printed so_far =
-    rw (last_mark is_cut old m printed running last) (prefix_in_mark stays old.keep_going (progress old printed) m [] before taken now so_far wrote)
+pub finishes_ended : Laws → (is_cut : Bool) (old : Runner) (out : Outlets) → old.ended ≡ true → Finishes is_cut old out old out
+finishes_ended laws is_cut old out ended = record {
+  stands = λ terms first run s.
+      subst (λ (p : Progress). Stands terms first old out p) (sym (laws.ended terms run (marks_left (behind is_cut) old.cutter []) (s.follows.ended ∙ ended))) s;
+}
 
-pub short_kept : (is_cut : Bool) (old : Runner) (taken mid now : Option (List ℕ)) (faulted : Bool)
-    → Finishes is_cut old taken faulted mid → Keeps mid now → FinishesShort is_cut old taken now
-short_kept is_cut old taken mid now faulted done kept before printed so_far =
-    let f = done before printed so_far in
-    ((outcome (behind is_cut) old printed []).printed, is_prefix-refl (outcome (behind is_cut) old printed []).printed, appends_kept before mid now (outcome (behind is_cut) old printed []).printed f.0 kept)
+pub finishes_none : (is_cut : Bool) (old new : Runner) (out : Outlets) → [] ≡ marks_left (behind is_cut) old.cutter []
+    → new ≡ record old { cutter = new.cutter } → Finishes is_cut old out new out
+finishes_none is_cut old new out none same = record {
+  stands = λ terms first run s.
+      subst (λ (p : Progress). Stands terms first new out p) (ap (after_marks terms run) none) (stands_same terms first old new out run same s);
+}
 
--- what is left is run from a runner that is the old one but for its cutter
-pub last_finishes : (result : Result (Unit {0}) Stop) (is_cut : Bool) (old mid new : Runner) (m : Mark) (taken now : Option (List ℕ))
-    → old.ended ≡ false → m ∷ [] ≡ marks_left (behind is_cut) old.cutter [] → mid ≡ record old { cutter = mid.cutter }
-    → OnOk result ((printed : List ℕ) → after_mark mid.keep_going (progress mid printed) m ≡ progress new (printed ++ mark_text mid.session.state m))
-    → OnOk result (Appends taken now (mark_text mid.session.state m))
-    → OnOk result (Finishes is_cut old taken new.faulted now)
-last_finishes (Ok x) is_cut old mid new m taken now running last same ran wrote =
-    let step : (printed : List ℕ) → after_mark old.keep_going (progress old printed) m ≡ progress new (printed ++ mark_text old.session.state m) =
-    subst (λ (r : Runner). (printed : List ℕ) → after_mark r.keep_going (progress r printed) m ≡ progress new (printed ++ mark_text r.session.state m)) same ran in
-    finishes_mark is_cut old new m taken now running last step (subst (λ (r : Runner). Appends taken now (mark_text r.session.state m)) same wrote)
-last_finishes (Err e) is_cut old mid new m taken now running last same ran wrote = tt
+pub finishes_mark : (is_cut : Bool) (old mid new : Runner) (m : Mark) (out now : Outlets) → old.ended ≡ false → m ∷ [] ≡ marks_left (behind is_cut) old.cutter []
+    → mid ≡ record old { cutter = mid.cutter } → Runs m mid out new now → Finishes is_cut old out new now
+finishes_mark is_cut old mid new m out now running last same ran = record {
+  stands = λ terms first run s.
+      subst (λ (p : Progress). Stands terms first new now p) (sym (last_mark terms is_cut old.cutter m run (s.follows.ended ∙ running) last))
+      (ran.stands terms first run (stands_same terms first old mid out run same s));
+}
 
-pub last_short : (stays : PrintedStays) (result : Result (Unit {0}) Stop) (is_cut : Bool) (old mid : Runner) (m : Mark) (taken now : Option (List ℕ))
-    → old.ended ≡ false → m ∷ [] ≡ marks_left (behind is_cut) old.cutter [] → mid ≡ record old { cutter = mid.cutter }
-    → OnErr result (AppendsPrefix taken now (mark_text mid.session.state m))
-    → OnErr result (FinishesShort is_cut old taken now)
-last_short stays (Ok x) is_cut old mid m taken now running last same wrote = tt
-last_short stays (Err e) is_cut old mid m taken now running last same wrote =
-    short_in_mark stays is_cut old m taken now running last (subst (λ (r : Runner). AppendsPrefix taken now (mark_text r.session.state m)) same wrote)
+pub finishes_short : (is_cut : Bool) (old mid : Runner) (m : Mark) (out : Outlets) (stop : Stop) (now : Outlets) → old.ended ≡ false
+    → m ∷ [] ≡ marks_left (behind is_cut) old.cutter [] → mid ≡ record old { cutter = mid.cutter } → RunsShort m mid out stop now
+    → FinishesShort is_cut old out stop now
+finishes_short is_cut old mid m out stop now running last same ran = record {
+  short = λ terms first run s.
+      subst (λ (p : Progress). IsShort (ending_of_run p) first now) (sym (last_mark terms is_cut old.cutter m run (s.follows.ended ∙ running) last))
+      (ran.short terms first run (stands_same terms first old mid out run same s));
+  fails = λ terms first run s. ran.fails terms first run (stands_same terms first old mid out run same s);
+}
+
+leaves_short : (stop : Stop) (run : Progress) (first now : Outlets) → IsShort (ending_of_run run) first now → Leaves (Err stop) run first now
+leaves_short Source run first now short = short
+leaves_short Sink run first now short = short
+leaves_short Watcher run first now short = inl short
+leaves_short NoMemory run first now short = short
+
+-- where it stopped, what holds of the stop holds of the result
+pub ends_stopped : (is_cut : Bool) (old : Runner) (out : Outlets) (result : Result Bool Stop) (stop : Stop) (now : Outlets) → IsErrAnd result (λ e. e ≡ stop)
+    → Ends is_cut old out (Err stop) now → Ends is_cut old out result now
+ends_stopped is_cut old out (Ok x) stop now is ends = absurd is
+ends_stopped is_cut old out (Err e) stop now is ends = subst (λ (s : Stop). Ends is_cut old out (Err s) now) (sym is) ends
+
+-- the run stopped short in what was left
+pub ends_short : (is_cut : Bool) (old : Runner) (out : Outlets) (stop : Stop) (now : Outlets) → FinishesShort is_cut old out stop now
+    → Ends is_cut old out (Err stop) now
+ends_short is_cut old out stop now short = record {
+  leaves = λ terms first run s. leaves_short stop (outcome terms (behind is_cut) old.cutter run []) first now (short.short terms first run s);
+  fails = short.fails;
+}
+
+-- the sink couldn't be flushed
+pub ends_unflushed : Laws → (is_cut : Bool) (old new : Runner) (out mid : Outlets) (stop : Stop) (now : Outlets) → Finishes is_cut old out new mid
+    → Keeps mid.taken now.taken → now.slots ≡ mid.slots → HasSinkCause {T = Unit {0}} mid.faults now.faults (Err stop)
+    → Ends is_cut old out (Err stop) now
+ends_unflushed laws is_cut old new out mid stop now done kept same cause = record {
+  leaves = λ terms first run s.
+      let last : Progress = outcome terms (behind is_cut) old.cutter run [] in
+      let stood = done.stands terms first run s in
+      leaves_short stop last first now (record {
+        text = (last.printed, is_prefix-refl last.printed, appends_kept first.taken mid.taken now.taken last.printed stood.text kept);
+        slots = subst (λ (ss : Slots). HeardShort first.slots last.told last.present ss) (sym same) (heard_follows laws terms first.slots new mid.slots last stood.follows);
+      });
+  fails = λ terms first run s.
+      let last : Progress = outcome terms (behind is_cut) old.cutter run [] in
+      let stood = done.stands terms first run s in
+      sink_fails stop first mid now cause stood.faults (subst (λ (ss : Slots). CountsStay first.slots ss) (sym same) (counts_follow laws terms first.slots new mid.slots last stood.follows));
+}
+
+-- all was written, told and flushed, and the watchers that are attached are finished
+pub ends_whole : Laws → (is_cut : Bool) (old new : Runner) (out mid now : Outlets) → Finishes is_cut old out new mid
+    → Keeps mid.taken now.taken → now.faults ≡ mid.faults → now.slots ≡ all_ended mid.slots new.session.state.watches
+    → Ends is_cut old out (Ok new.faulted) now
+ends_whole laws is_cut old new out mid now done kept quiet closed = record {
+  leaves = λ terms first run s.
+      let last : Progress = outcome terms (behind is_cut) old.cutter run [] in
+      let stood = done.stands terms first run s in (
+        sym stood.follows.faulted,
+        record {
+          text = appends_kept first.taken mid.taken now.taken last.printed stood.text kept;
+          slots = closed ∙ ap (λ (ss : Slots). all_ended ss new.session.state.watches) stood.follows.slots
+              ∙ ap (λ (ws : Watches). all_ended (emptied (all_told first.slots last.told) last.present) ws) (sym (ap (λ (s : MachineState). s.watches) stood.follows.state));
+        },
+      );
+  fails = λ terms first run s.
+      let last : Progress = outcome terms (behind is_cut) old.cutter run [] in
+      let stood = done.stands terms first run s in (
+        quiet ∙ stood.faults,
+        subst (λ (ss : Slots). CountsStay first.slots ss) (sym closed)
+            (counts_then first.slots mid.slots (all_ended mid.slots new.session.state.watches)
+            (counts_follow laws terms first.slots new mid.slots last stood.follows) (counts_ended mid.slots new.session.state.watches)),
+      );
+}
+
+-- one of them couldn't be finished
+pub ends_unclosed : Laws → (is_cut : Bool) (old new : Runner) (out mid now : Outlets) → Finishes is_cut old out new mid
+    → Keeps mid.taken now.taken → Says now.flushed true → now.faults ≡ mid.faults → EndedShort mid.slots new.session.state.watches now.slots
+    → Ends is_cut old out (Err Watcher) now
+ends_unclosed laws is_cut old new out mid now done kept flushed quiet short = record {
+  leaves = λ terms first run s.
+      let last : Progress = outcome terms (behind is_cut) old.cutter run [] in
+      let stood = done.stands terms first run s in
+      inr (record {
+        text = appends_kept first.taken mid.taken now.taken last.printed stood.text kept;
+        flushed = flushed;
+        slots = subst (λ (ws : Watches). EndedShort (emptied (all_told first.slots last.told) last.present) ws now.slots) (sym (ap (λ (s : MachineState). s.watches) stood.follows.state))
+            (subst (λ (ss : Slots). EndedShort ss new.session.state.watches now.slots) stood.follows.slots short);
+      });
+  fails = λ terms first run s.
+      let last : Progress = outcome terms (behind is_cut) old.cutter run [] in
+      let stood = done.stands terms first run s in (
+        one_rose first.slots mid.slots now.slots (counts_follow laws terms first.slots new mid.slots last stood.follows)
+            (laws.ended_one mid.slots new.session.state.watches now.slots short),
+        quiet ∙ stood.faults,
+      );
+}

@@ -1,6 +1,11 @@
-pub mod Carrying
-pub mod Whole
 pub mod WordLemmas
 pub mod Texts
 pub mod StatementCount
+pub mod SlotsHeard
+pub mod Taking
+pub mod Ran
+pub mod Following
+pub mod Carrying
 pub mod Parts
+pub mod Whole
+pub mod HeadlineLemmas

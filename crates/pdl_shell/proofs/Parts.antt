@@ -1,28 +1,32 @@
 -- A run that takes its script in parts: what the bytes taken say of the run of the whole script.
 use Rattle.std.proofs.Common.{◌≡◌, ℕ, ◌+◌, ◌-◌, ◌<◌, ◌≤◌, ◌⊎◌, inl, inr, min, List, [], ◌++◌, map, length, take, drop, Bool, true, false, Option, Some, None, Result, Ok, Err, refl, sym, ◌∙◌, ap, subst, arith, append-nil, length-append, take-append-drop}
-use Rattle.std.specs.Prelude.{nat_lt, IfOk, IfErr, OnErr, IsErr, cond}
+use Rattle.std.specs.Prelude.{nat_lt, IfErr, cond}
 use Rattle.std.specs.Result.{IsErrAnd}
 use Rattle.std.proofs.lemmas.Bool.{ltb-true, ltb-false, lt-ltb, le-ltb, both_ways, false_from_ne_true}
 use Rattle.std.proofs.lemmas.List.{take_all, take-append-le, take-take, length-take, length-take-le}
 use Rattle.std.proofs.Math.Seq.{take-append-add}
-use Rattle.std.specs.Io.KnownBytes.{Appends, Consumes, Keeps, IsAtEnd}
+use Rattle.std.specs.Io.KnownBytes.{Consumes, Keeps, IsAtEnd}
 use Rattle.pdl_lemmas.specs.Tests.{by_lt}
-use Rattle.pdl_io.specs.Told.{AppendsPrefix}
 use Rattle.pdl_lex.specs.Limits.{script_limit}
 use Rattle.pdl_lex.specs.Pieces.{statement, settled, settled_from, script_marks}
-use Rattle.pdl_machine.specs.Run.{Progress, start, run, so_far, after_marks, settled_marks}
-use Rattle.pdl_machine.specs.RunLaws.{EndedStays, PrintedStays, EndedByAFault, TooLongEnds, SoFarGrows}
+use Rattle.pdl_watch.specs.Slots.{Slots, emptied, present_in}
+use Rattle.pdl_machine.specs.Run.{Terms, Progress, start, run, so_far, after_marks, settled_marks}
+use Rattle.pdl_machine.specs.RunLaws.{EndedStays, EndedByAFault, TooLongEnds, SoFarGrows}
 use Rattle.pdl_shell.specs.declared.runner.Runner.{Runner}
 use Rattle.pdl_shell.specs.declared.stop.Stop.{Stop}
-use Rattle.pdl_shell.specs.declared.stop.Stop.TheVariants.{Source, Sink, NoMemory as NoRoom}
+use Rattle.pdl_shell.specs.declared.stop.Stop.TheVariants.{Source, Sink, Watcher, NoMemory as NoRoom}
 use Rattle.pdl_shell.specs.declared.status.Status.TheVariants.{SourceFault}
-use Rattle.pdl_shell.specs.Answers.{TakesAtMost, status_after, status_of_stop}
-use Rattle.pdl_shell.specs.Stops.{HasSinkCause, Writes}
-use Rattle.pdl_shell.specs.Pace.{Behind, end_of_input, past_limit, unknown, behind, marks_left}
-use Rattle.pdl_shell.specs.Course.{progress, outcome, IsFresh, Carries, StopsShort, Finishes, FinishesShort, Comes}
-use Rattle.pdl_shell.specs.Taken.{StopsSoon, ComesTo, Reads}
+use Rattle.pdl_shell.specs.Outside.{Outlets, Outside, NoneFailed}
+use Rattle.pdl_shell.specs.Answers.{IsShort, HasReason, TakesAtMost, ending_of_run, status_after, status_of_stop}
+use Rattle.pdl_shell.specs.Stops.{Fails, HasCauses, Leaves}
+use Rattle.pdl_shell.specs.Pace.{Behind, end_of_input, past_limit, unknown, behind, marks_left, outcome}
+use Rattle.pdl_shell.specs.CourseLaws.{Laws}
+use Rattle.pdl_shell.specs.Course.{IsFresh, Stands, Carries, StopsShort, FailsWith, Ends, Comes}
+use Rattle.pdl_shell.specs.Taken.{StopsSoon, ComesTo, Reads, terms_for}
+use Rattle.pdl_shell.proofs.SlotsHeard.{none_told, below_same}
+use Rattle.pdl_shell.proofs.Taking.{appends_nothing, consumes_then, consumes_kept, takes_at_most}
+use Rattle.pdl_shell.proofs.Following.{short_marks, short_stands, counts_follow}
 use Rattle.pdl_shell.proofs.Carrying.{carries_on, stops_on}
-use Rattle.pdl_shell.proofs.Whole.{appends_nothing, consumes_then, consumes_kept, takes_at_most}
 
 -- the first bytes of what two parts give together
 take_of_two : (n : ℕ) (xs ys : List ℕ) → take n (xs ++ ys) ≡ take n xs ++ take (n - length xs) ys
@@ -56,28 +60,30 @@ none_at_end (Some bs) rest end is =
     sym same ∙ end
 
 -- the run of a script is what a fresh runner comes to by the bytes up to its limit
-run_is : (runner : Runner) → IsFresh runner → (script : List ℕ)
-    → run runner.keep_going script ≡ outcome (behind (nat_lt script_limit (length script))) runner [] (take script_limit script)
-run_is runner fresh script =
-    by_lt script_limit (length script) (λ far. rw (lt-ltb script_limit (length script) far) (sym (fresh.limited (take script_limit script)))) (λ near. rw (le-ltb script_limit (length script) near, take_all script_limit script near) (sym (fresh.whole script)))
+run_is : (runner : Runner) → IsFresh runner → (terms : Terms) (script : List ℕ)
+    → run terms script ≡ outcome terms (behind (nat_lt script_limit (length script))) runner.cutter (start terms) (take script_limit script)
+run_is runner fresh terms script =
+    by_lt script_limit (length script) (λ far.
+    rw (lt-ltb script_limit (length script) far) (sym (ap (after_marks terms (start terms)) (fresh.limited (take script_limit script))))) (λ near.
+    rw (le-ltb script_limit (length script) near, take_all script_limit script near) (sym (ap (after_marks terms (start terms)) (fresh.whole script))))
 
 -- bytes that don't end the run have no front that does
-front_running : SoFarGrows → EndedStays → (keep : Bool) (xs ys : List ℕ) → (so_far keep (xs ++ ys)).ended ≡ false → (so_far keep xs).ended ≡ false
-front_running grows stays keep xs ys running =
-    false_from_ne_true (so_far keep xs).ended (λ ended.
-    let grown = grows keep xs ys in
-    let same : so_far keep (xs ++ ys) ≡ so_far keep xs = grown.1 ∙ stays keep (so_far keep xs) grown.0 ended in
+front_running : SoFarGrows → EndedStays → (terms : Terms) (xs ys : List ℕ) → (so_far terms (xs ++ ys)).ended ≡ false → (so_far terms xs).ended ≡ false
+front_running grows stays terms xs ys running =
+    false_from_ne_true (so_far terms xs).ended (λ ended.
+    let grown = grows terms xs ys in
+    let same : so_far terms (xs ++ ys) ≡ so_far terms xs = grown.1 ∙ stays terms (so_far terms xs) grown.0 ended in
     both_ways _ running (ap (λ p. p.ended) same ∙ ended))
 
-soon_after : SoFarGrows → EndedStays → (keep : Bool) (bytes part : List ℕ) → (so_far keep bytes).ended ≡ false → length part ≤ 4096
-    → StopsSoon keep (bytes ++ part)
-soon_after grows stays keep bytes part running short =
+soon_after : SoFarGrows → EndedStays → (terms : Terms) (bytes part : List ℕ) → (so_far terms bytes).ended ≡ false → length part ≤ 4096
+    → StopsSoon terms (bytes ++ part)
+soon_after grows stays terms bytes part running short =
     let k : ℕ = length (bytes ++ part) - 4096 in
     let within : k ≤ length bytes = grind (arith, length-append {A = ℕ}) in
     let front : take k (bytes ++ part) ≡ take k bytes = take-append-le k bytes part within in
-    let split : (so_far keep (take k bytes ++ drop k bytes)).ended ≡ false =
-    ap (λ u. (so_far keep u).ended) (take-append-drop k bytes) ∙ running in
-    ap (λ u. (so_far keep u).ended) front ∙ front_running grows stays keep (take k bytes) (drop k bytes) split
+    let split : (so_far terms (take k bytes ++ drop k bytes)).ended ≡ false =
+    ap (λ u. (so_far terms u).ended) (take-append-drop k bytes) ∙ running in
+    ap (λ u. (so_far terms u).ended) front ∙ front_running grows stays terms (take k bytes) (drop k bytes) split
 
 -- why no more bytes are taken: the one past the limit has come, or the source is at its end, or the run is ended
 abbrev pub IsTaken : (is_cut : Bool) (count : ℕ) (now : Runner) (left_now : Option (List ℕ)) → Type 0
@@ -135,155 +141,191 @@ took count size within most into array now left_now left_then near running fits 
       more = more;
     }
 
--- where a part stopped, what holds of its stop holds of the result
-pub reads_stopped : (result : Result Bool Stop) (stop : Stop) → IsErrAnd result (λ e. e ≡ stop) → (keep : Bool) (left left_then taken final : Option (List ℕ))
-    → Reads keep (status_of_stop stop) left left_then taken final → IfErr result (λ e. Reads keep (status_of_stop e) left left_then taken final)
-reads_stopped (Ok x) stop is keep left left_then taken final reads = cc
-reads_stopped (Err e) stop is keep left left_then taken final reads = subst (λ (s : Stop). Reads keep (status_of_stop s) left left_then taken final) (sym is) reads
+-- a stop has its reason, where the source's count stayed
+pub reason_of_stop : (stop : Stop) (left left_then : Option (List ℕ)) (faults faults_then : ℕ) (out final : Outlets) → faults_then ≡ faults → Fails stop out final
+    → HasReason (status_of_stop stop) (record { left = left; faults = faults; out = out }) (record { left = left_then; faults = faults_then; out = final })
+reason_of_stop Source left left_then faults faults_then out final same fails = absurd fails
+reason_of_stop Sink left left_then faults faults_then out final same fails = (fails.0, same, fails.1)
+reason_of_stop Watcher left left_then faults faults_then out final same fails = (fails.0, same, fails.1)
+reason_of_stop NoRoom left left_then faults faults_then out final same fails = (same, fails)
 
-module _ (first now : Runner) (left taken : Option (List ℕ)) (count : ℕ) (left_now taken_now : Option (List ℕ)) (fresh : IsFresh first)
-    (came : Comes first left taken count now left_now taken_now) where
-  -- what was printed
-  abbrev printed : List ℕ
-  printed = (came.carried taken [] (appends_nothing taken)).0
+pub causes_of : (result : Result Bool Stop) (left left_then : Option (List ℕ)) (faults faults_then : ℕ) (out final : Outlets) → faults_then ≡ faults
+    → FailsWith result out final
+    → HasCauses (record { left = left; faults = faults; out = out }) (record { left = left_then; faults = faults_then; out = final }) result
+causes_of (Ok x) left left_then faults faults_then out final same fails = (same, fails)
+causes_of (Err stop) left left_then faults faults_then out final same fails = reason_of_stop stop left left_then faults faults_then out final same fails
 
-  wrote : Appends taken taken_now printed
-  wrote = (came.carried taken [] (appends_nothing taken)).1
+pub causes_stopped : (result : Result Bool Stop) (stop : Stop) → IsErrAnd result (λ e. e ≡ stop) → (old new : Outside) → HasReason (status_of_stop stop) old new
+    → HasCauses old new result
+causes_stopped (Ok x) stop is old new reason = absurd is
+causes_stopped (Err e) stop is old new reason = subst (λ (s : Stop). HasReason (status_of_stop s) old new) (sym is) reason
 
-  over_limit : (follows : Behind) (more : List ℕ) → outcome follows first [] (take script_limit came.bytes ++ more) ≡ outcome follows now printed more
-  over_limit = (came.carried taken [] (appends_nothing taken)).2
+module _ (laws : Laws) (first now : Runner) (left : Option (List ℕ)) (out : Outlets) (count : ℕ) (left_now : Option (List ℕ)) (out_now : Outlets)
+    (fresh : IsFresh first) (came : Comes first left out count now left_now out_now) where
+  abbrev terms : Terms
+  terms = terms_for first.keep_going out.slots
+
+  at_start : Stands terms out first out (start terms)
+  at_start = record {
+    follows = record {
+      keep = refl;
+      state = sym fresh.state;
+      faulted = sym fresh.unfaulted;
+      ended = sym fresh.running;
+      count = sym fresh.uncounted;
+      slots = sym (ap (λ (ss : Slots). emptied ss (present_in out.slots)) (none_told out.slots) ∙ laws.none out.slots);
+      present = below_same (present_in out.slots);
+    };
+    text = appends_nothing out.taken;
+    faults = refl;
+  }
+
+  -- how far the run has come
+  abbrev here : Progress
+  here = (came.carried.on terms out (start terms) at_start).0
+
+  stood : Stands terms out now out_now here
+  stood = (came.carried.on terms out (start terms) at_start).1
+
+  over_limit : (follows : Behind) (more : List ℕ)
+      → outcome terms follows first.cutter (start terms) (take script_limit came.bytes ++ more) ≡ outcome terms follows now.cutter here more
+  over_limit = (came.carried.on terms out (start terms) at_start).2
+
+  pub none_failed : NoneFailed out out_now
+  none_failed = (stood.faults, counts_follow laws terms out.slots now out_now.slots here stood.follows)
 
   -- the run of a script that begins with the bytes taken goes on from here
-  goes_on : (rest : List ℕ) → run first.keep_going (came.bytes ++ rest)
-      ≡ outcome (behind (nat_lt script_limit (length (came.bytes ++ rest)))) now printed (take (script_limit - length came.bytes) rest)
+  goes_on : (rest : List ℕ) → run terms (came.bytes ++ rest)
+      ≡ outcome terms (behind (nat_lt script_limit (length (came.bytes ++ rest)))) now.cutter here (take (script_limit - length came.bytes) rest)
   goes_on rest =
       let follows : Behind = behind (nat_lt script_limit (length (came.bytes ++ rest))) in
-      run_is first fresh (came.bytes ++ rest)
-      ∙ ap (outcome follows first []) (take_of_two script_limit came.bytes rest)
+      run_is first fresh terms (came.bytes ++ rest)
+      ∙ ap (outcome terms follows first.cutter (start terms)) (take_of_two script_limit came.bytes rest)
       ∙ over_limit follows (take (script_limit - length came.bytes) rest)
 
   -- how far the bytes taken bring it
-  so_far_is : count ≤ script_limit → so_far first.keep_going came.bytes ≡ progress now printed
+  so_far_is : count ≤ script_limit → so_far terms came.bytes ≡ here
   so_far_is near =
       let fits : length came.bytes ≤ script_limit = rw came.counted near in
       let test : nat_lt script_limit (length came.bytes) ≡ false = le-ltb script_limit (length came.bytes) fits in
-      let unended : so_far first.keep_going came.bytes ≡ outcome unknown first [] came.bytes = rw test (sym (fresh.unended came.bytes)) in
+      let unended : so_far terms came.bytes ≡ outcome terms unknown first.cutter (start terms) came.bytes =
+      rw test (sym (ap (after_marks terms (start terms)) (fresh.unended came.bytes))) in
       let whole : take script_limit came.bytes ++ [] ≡ came.bytes = append-nil (take script_limit came.bytes) ∙ take_all script_limit came.bytes fits in
       unended
-      ∙ ap (outcome unknown first []) (sym whole)
+      ∙ ap (outcome terms unknown first.cutter (start terms)) (sym whole)
       ∙ over_limit unknown []
-      ∙ ap (λ ps. after_marks now.keep_going (progress now printed) (map statement ps)) came.none_left
+      ∙ ap (λ ps. after_marks terms here (map statement ps)) came.none_left
 
   -- the byte past the limit has come
-  past : script_limit < count → (rest : List ℕ) → run first.keep_going (came.bytes ++ rest) ≡ outcome past_limit now printed []
+  past : script_limit < count → (rest : List ℕ) → run terms (came.bytes ++ rest) ≡ outcome terms past_limit now.cutter here []
   past over rest =
       let counted : length came.bytes ≡ count = came.counted in
       let far : nat_lt script_limit (length (came.bytes ++ rest)) ≡ true =
       lt-ltb script_limit (length (came.bytes ++ rest)) (grind (arith, length-append {A = ℕ}, counted, over)) in
       let none : script_limit - length came.bytes ≡ 0 = omega (arith, counted, over) in
       goes_on rest
-      ∙ ap (λ t. outcome (behind t) now printed (take (script_limit - length came.bytes) rest)) far
-      ∙ ap (λ k. outcome past_limit now printed (take k rest)) none
+      ∙ ap (λ t. outcome terms (behind t) now.cutter here (take (script_limit - length came.bytes) rest)) far
+      ∙ ap (λ k. outcome terms past_limit now.cutter here (take k rest)) none
 
   -- the source is at its end
-  at_end : count ≤ script_limit → (rest : List ℕ) → rest ≡ [] → run first.keep_going (came.bytes ++ rest) ≡ outcome end_of_input now printed []
+  at_end : count ≤ script_limit → (rest : List ℕ) → rest ≡ [] → run terms (came.bytes ++ rest) ≡ outcome terms end_of_input now.cutter here []
   at_end near rest none =
       let whole : came.bytes ++ rest ≡ came.bytes = ap (λ u. came.bytes ++ u) none ∙ append-nil came.bytes in
       let fits : length (came.bytes ++ rest) ≤ script_limit = rw (whole, came.counted) near in
       let test : nat_lt script_limit (length (came.bytes ++ rest)) ≡ false = le-ltb script_limit (length (came.bytes ++ rest)) fits in
       goes_on rest
-      ∙ ap (λ t. outcome (behind t) now printed (take (script_limit - length came.bytes) rest)) test
-      ∙ ap (λ u. outcome end_of_input now printed (take (script_limit - length came.bytes) u)) none
-      ∙ ap (outcome end_of_input now printed) (take_all (script_limit - length came.bytes) [] (omega arith))
+      ∙ ap (λ t. outcome terms (behind t) now.cutter here (take (script_limit - length came.bytes) rest)) test
+      ∙ ap (λ u. outcome terms end_of_input now.cutter here (take (script_limit - length came.bytes) u)) none
+      ∙ ap (outcome terms end_of_input now.cutter here) (take_all (script_limit - length came.bytes) [] (omega arith))
 
   -- a fault has ended the run
-  at_fault : EndedStays → now.ended ≡ true → (rest : List ℕ) → run first.keep_going (came.bytes ++ rest) ≡ outcome end_of_input now printed []
+  at_fault : EndedStays → now.ended ≡ true → (rest : List ℕ) → run terms (came.bytes ++ rest) ≡ outcome terms end_of_input now.cutter here []
   at_fault stays ended rest =
+      let over : here.ended ≡ true = stood.follows.ended ∙ ended in
       goes_on rest
-      ∙ stays now.keep_going (progress now printed) (marks_left (behind (nat_lt script_limit (length (came.bytes ++ rest)))) now.cutter (take (script_limit - length came.bytes) rest)) ended
-      ∙ sym (stays now.keep_going (progress now printed) (marks_left end_of_input now.cutter []) ended)
+      ∙ stays terms here (marks_left (behind (nat_lt script_limit (length (came.bytes ++ rest)))) now.cutter (take (script_limit - length came.bytes) rest)) over
+      ∙ sym (stays terms here (marks_left end_of_input now.cutter []) over)
 
   -- what the run of the source's script comes to once no more of it is taken
   run_last : EndedStays → (is_cut : Bool) → IsTaken is_cut count now left_now → (script : List ℕ) → left ≡ Some script
-      → run first.keep_going script ≡ outcome (behind is_cut) now printed []
+      → run terms script ≡ outcome terms (behind is_cut) now.cutter here []
   run_last stays true over script is =
       let s = rest_of left left_now came.bytes script came.all is in
-      ap (run first.keep_going) s.1 ∙ past over s.0
+      ap (run terms) s.1 ∙ past over s.0
   run_last stays false (near, inl end) script is =
       let s = rest_of left left_now came.bytes script came.all is in
-      ap (run first.keep_going) s.1 ∙ at_end near s.0 (none_at_end left_now s.0 end s.2)
+      ap (run terms) s.1 ∙ at_end near s.0 (none_at_end left_now s.0 end s.2)
   run_last stays false (near, inr ended) script is =
       let s = rest_of left left_now came.bytes script came.all is in
-      ap (run first.keep_going) s.1 ∙ at_fault stays ended s.0
+      ap (run terms) s.1 ∙ at_fault stays ended s.0
 
   -- the run came to its end, or stopped short there
-  pub writes_parts : EndedStays → (is_cut : Bool) → IsTaken is_cut count now left_now → (result : Result Bool Stop) (final : Option (List ℕ))
-      → IfOk result (λ faulted. Finishes is_cut now taken_now faulted final) → OnErr result (FinishesShort is_cut now taken_now final)
-      → (script : List ℕ) → left ≡ Some script → Writes result (run first.keep_going script) taken final
-  writes_parts stays is_cut over (Ok faulted) final done short script is =
-      let f = done taken printed wrote in
-      rw (run_last stays is_cut over script is) (f.1, f.0)
-  writes_parts stays is_cut over (Err stop) final done short script is =
-      rw (run_last stays is_cut over script is) (short taken printed wrote)
+  pub leaves_parts : EndedStays → (is_cut : Bool) → IsTaken is_cut count now left_now → (result : Result Bool Stop) (final : Outlets)
+      → Ends is_cut now out_now result final → (script : List ℕ) → left ≡ Some script → Leaves result (run terms script) out final
+  leaves_parts stays is_cut over result final ends script is =
+      subst (λ (p : Progress). Leaves result p out final) (sym (run_last stays is_cut over script is)) (ends.leaves terms out here stood)
+
+  pub fails_parts : (is_cut : Bool) (result : Result Bool Stop) (final : Outlets) → Ends is_cut now out_now result final → FailsWith result out final
+  fails_parts is_cut result final ends = ends.fails terms out here stood
 
   -- a run that a fault has ended faulted
-  ended_faulted : EndedByAFault → count ≤ script_limit → now.ended ≡ true → now.faulted ≡ true
+  ended_faulted : EndedByAFault → count ≤ script_limit → now.ended ≡ true → here.faulted ≡ true
   ended_faulted by_fault near ended =
-      let same : so_far first.keep_going came.bytes ≡ progress now printed = so_far_is near in
-      sym (ap (λ p. p.faulted) same) ∙ by_fault first.keep_going (settled_marks came.bytes) (ap (λ p. p.ended) same ∙ ended)
+      let same : so_far terms came.bytes ≡ here = so_far_is near in
+      sym (ap (λ p. p.faulted) same) ∙ by_fault terms (settled_marks came.bytes) (ap (λ p. p.ended) same ∙ stood.follows.ended ∙ ended)
 
-  past_faulted : EndedByAFault → TooLongEnds → script_limit < count → (outcome past_limit now printed []).faulted ≡ true
+  past_faulted : EndedByAFault → TooLongEnds → script_limit < count → (outcome terms past_limit now.cutter here []).faulted ≡ true
   past_faulted by_fault too_long over =
       let script : List ℕ = came.bytes ++ [] in
       let counted : length came.bytes ≡ count = came.counted in
       let far : script_limit < length script = grind (arith, length-append {A = ℕ}, counted, over) in
-      sym (ap (λ p. p.faulted) (past over [])) ∙ by_fault first.keep_going (script_marks script) (too_long first.keep_going script far)
+      sym (ap (λ p. p.faulted) (past over [])) ∙ by_fault terms (script_marks script) (too_long terms script far)
 
-  past_ended : TooLongEnds → script_limit < count → (so_far first.keep_going came.bytes).ended ≡ true
+  past_ended : TooLongEnds → script_limit < count → (so_far terms came.bytes).ended ≡ true
   past_ended too_long over =
       let far : script_limit < length came.bytes = rw came.counted over in
-      ap (λ t. (after_marks first.keep_going start (cond t (script_marks came.bytes) (map statement (settled came.bytes)))).ended) (lt-ltb script_limit (length came.bytes) far)
-      ∙ too_long first.keep_going came.bytes far
+      ap (λ t. (after_marks terms (start terms) (cond t (script_marks came.bytes) (map statement (settled came.bytes)))).ended) (lt-ltb script_limit (length came.bytes) far)
+      ∙ too_long terms came.bytes far
 
-  comes_faulted : TooLongEnds → (is_cut : Bool) → IsTaken is_cut count now left_now
-      → IsAtEnd left_now ⊎ ((so_far first.keep_going came.bytes).ended ≡ true)
+  comes_faulted : TooLongEnds → (is_cut : Bool) → IsTaken is_cut count now left_now → IsAtEnd left_now ⊎ ((so_far terms came.bytes).ended ≡ true)
   comes_faulted too_long true over = inr (past_ended too_long over)
   comes_faulted too_long false (near, inl end) = inl end
-  comes_faulted too_long false (near, inr ended) = inr (ap (λ p. p.ended) (so_far_is near) ∙ ended)
+  comes_faulted too_long false (near, inr ended) = inr (ap (λ p. p.ended) (so_far_is near) ∙ stood.follows.ended ∙ ended)
 
   comes_done : EndedStays → EndedByAFault → TooLongEnds → (is_cut : Bool) → IsTaken is_cut count now left_now
-      → (final : Option (List ℕ)) → Finishes is_cut now taken_now false final → IsAtEnd left_now
-  comes_done stays by_fault too_long true over final done =
-      absurd (both_ways _ (sym (done taken printed wrote).1) (past_faulted by_fault too_long over))
-  comes_done stays by_fault too_long false (near, inl end) final done = end
-  comes_done stays by_fault too_long false (near, inr ended) final done =
-      let last : outcome end_of_input now printed [] ≡ progress now printed =
-      stays now.keep_going (progress now printed) (marks_left end_of_input now.cutter []) ended in
-      absurd (both_ways now.faulted (sym ((done taken printed wrote).1 ∙ ap (λ p. p.faulted) last)) (ended_faulted by_fault near ended))
+      → false ≡ (outcome terms (behind is_cut) now.cutter here []).faulted → IsAtEnd left_now
+  comes_done stays by_fault too_long true over done = absurd (both_ways _ (sym done) (past_faulted by_fault too_long over))
+  comes_done stays by_fault too_long false (near, inl end) done = end
+  comes_done stays by_fault too_long false (near, inr ended) done =
+      let last : outcome terms end_of_input now.cutter here [] ≡ here =
+      stays terms here (marks_left end_of_input now.cutter []) (stood.follows.ended ∙ ended) in
+      absurd (both_ways here.faulted (sym (done ∙ ap (λ p. p.faulted) last)) (ended_faulted by_fault near ended))
 
   comes_to : EndedStays → EndedByAFault → TooLongEnds → (is_cut : Bool) → IsTaken is_cut count now left_now
-      → (result : Result Bool Stop) (final : Option (List ℕ)) (before after : ℕ) → HasSinkCause before after result
-      → IfOk result (λ faulted. Finishes is_cut now taken_now faulted final)
-      → ComesTo (status_after result) (so_far first.keep_going came.bytes) left_now taken final
-  comes_to stays by_fault too_long is_cut over (Ok true) final before after cause done = comes_faulted too_long is_cut over
-  comes_to stays by_fault too_long is_cut over (Ok false) final before after cause done = comes_done stays by_fault too_long is_cut over final done
-  comes_to stays by_fault too_long is_cut over (Err Source) final before after cause done = absurd cause
-  comes_to stays by_fault too_long is_cut over (Err Sink) final before after cause done = tt
-  comes_to stays by_fault too_long is_cut over (Err NoRoom) final before after cause done = tt
+      → (result : Result Bool Stop) (faults faults_now : ℕ) (final : Outlets) → FailsWith result out final
+      → Leaves result (outcome terms (behind is_cut) now.cutter here []) out final
+      → ComesTo (status_after result) (so_far terms came.bytes) (record { left = left; faults = faults; out = out })
+      (record { left = left_now; faults = faults_now; out = final })
+  comes_to stays by_fault too_long is_cut over (Ok true) faults faults_now final fails leaves = comes_faulted too_long is_cut over
+  comes_to stays by_fault too_long is_cut over (Ok false) faults faults_now final fails leaves = comes_done stays by_fault too_long is_cut over leaves.0
+  comes_to stays by_fault too_long is_cut over (Err Source) faults faults_now final fails leaves = absurd fails
+  comes_to stays by_fault too_long is_cut over (Err Sink) faults faults_now final fails leaves = tt
+  comes_to stays by_fault too_long is_cut over (Err Watcher) faults faults_now final fails leaves = tt
+  comes_to stays by_fault too_long is_cut over (Err NoRoom) faults faults_now final fails leaves = tt
 
   pub reads_parts : EndedStays → EndedByAFault → TooLongEnds → (is_cut : Bool) → IsTaken is_cut count now left_now
-      → (result : Result Bool Stop) (final : Option (List ℕ)) (before after : ℕ) → HasSinkCause before after result
-      → IfOk result (λ faulted. Finishes is_cut now taken_now faulted final)
-      → Reads first.keep_going (status_after result) left left_now taken final
-  reads_parts stays by_fault too_long is_cut over result final before after cause done = record {
+      → (result : Result Bool Stop) (faults faults_now : ℕ) (final : Outlets) → Ends is_cut now out_now result final
+      → Reads first.keep_going (status_after result) (record { left = left; faults = faults; out = out })
+      (record { left = left_now; faults = faults_now; out = final })
+  reads_parts stays by_fault too_long is_cut over result faults faults_now final ends = record {
     taken = came.bytes;
     all = came.all;
     soon = came.soon;
-    so_far = comes_to stays by_fault too_long is_cut over result final before after cause done;
+    so_far = comes_to stays by_fault too_long is_cut over result faults faults_now final (ends.fails terms out here stood) (ends.leaves terms out here stood);
   }
 
   -- no byte came
-  pub comes_kept : (left_then : Option (List ℕ)) → Consumes left_now left_then [] → Comes first left taken count now left_then taken_now
+  pub comes_kept : (left_then : Option (List ℕ)) → Consumes left_now left_then [] → Comes first left out count now left_then out_now
   comes_kept left_then none = record {
     bytes = came.bytes;
     counted = came.counted;
@@ -298,29 +340,31 @@ module _ (first now : Runner) (left taken : Option (List ℕ)) (count : ℕ) (le
   at_most = takes_at_most (script_limit + 1) left left_now came.bytes came.all (rw came.counted came.within)
 
   -- the source fails
-  pub reads_failed : count ≤ script_limit → now.ended ≡ false → (left_then : Option (List ℕ)) → Keeps left_now left_then
-      → Reads first.keep_going SourceFault left left_then taken taken_now
-  reads_failed near running left_then kept =
-      let same : so_far first.keep_going came.bytes ≡ progress now printed = so_far_is near in
+  pub reads_failed : count ≤ script_limit → now.ended ≡ false → (left_then : Option (List ℕ)) (faults faults_then : ℕ) → Keeps left_now left_then
+      → Reads first.keep_going SourceFault (record { left = left; faults = faults; out = out })
+      (record { left = left_then; faults = faults_then; out = out_now })
+  reads_failed near running left_then faults faults_then kept =
+      let same : so_far terms came.bytes ≡ here = so_far_is near in
       record {
         taken = came.bytes;
         all = consumes_kept left left_now left_then came.bytes came.all kept;
         soon = came.soon;
-        so_far = (rw same wrote, ap (λ p. p.ended) same ∙ running);
+        so_far = subst (λ (p : Progress). ComesTo SourceFault p (record { left = left; faults = faults; out = out })
+            (record { left = left_then; faults = faults_then; out = out_now })) (sym same) (stood.text, stood.follows.slots, stood.follows.ended ∙ running);
       }
 
   pub at_most_failed : (left_then : Option (List ℕ)) → Keeps left_now left_then → TakesAtMost (script_limit + 1) left left_then
   at_most_failed left_then kept =
       takes_at_most (script_limit + 1) left left_then came.bytes (consumes_kept left left_now left_then came.bytes came.all kept) (rw came.counted came.within)
 
-  pub prefix_failed : PrintedStays → (script : List ℕ) → left ≡ Some script → AppendsPrefix taken taken_now (run first.keep_going script).printed
-  prefix_failed stays script is =
+  pub short_failed : (script : List ℕ) → left ≡ Some script → IsShort (ending_of_run (run terms script)) out out_now
+  short_failed script is =
       let s = rest_of left left_now came.bytes script came.all is in
       let follows : Behind = behind (nat_lt script_limit (length (came.bytes ++ s.0))) in
       let rest : List ℕ = take (script_limit - length came.bytes) s.0 in
-      let comes : run first.keep_going script ≡ outcome follows now printed rest = ap (run first.keep_going) s.1 ∙ goes_on s.0 in
-      subst (λ (p : Progress). AppendsPrefix taken taken_now p.printed) (sym comes)
-      (printed, stays now.keep_going (progress now printed) (marks_left follows now.cutter rest), wrote)
+      let comes : run terms script ≡ outcome terms follows now.cutter here rest = ap (run terms) s.1 ∙ goes_on s.0 in
+      subst (λ (p : Progress). IsShort (ending_of_run p) out out_now) (sym comes)
+      (short_marks laws terms out out_now here (marks_left follows now.cutter rest) (short_stands laws terms out now out_now here stood))
 
   -- more bytes are taken
   module _ (grows : SoFarGrows) (stays : EndedStays) (left_then : Option (List ℕ)) (part handed : List ℕ) (size : ℕ)
@@ -334,10 +378,10 @@ module _ (first now : Runner) (left taken : Option (List ℕ)) (count : ℕ) (le
     both_length : length both ≡ count + size
     both_length = length-append came.bytes part ∙ ap (λ n. n + length part) came.counted ∙ ap (λ n. count + n) step.sized
 
-    soon_taken : StopsSoon first.keep_going both
+    soon_taken : StopsSoon terms both
     soon_taken =
         let fits : length part ≤ 4096 = rw step.sized step.short in
-        soon_after grows stays first.keep_going came.bytes part (ap (λ p. p.ended) (so_far_is step.near) ∙ step.running) fits
+        soon_after grows stays terms came.bytes part (ap (λ p. p.ended) (so_far_is step.near) ∙ stood.follows.ended ∙ step.running) fits
 
     both_handed : take script_limit both ≡ take script_limit came.bytes ++ handed
     both_handed =
@@ -349,60 +393,72 @@ module _ (first now : Runner) (left taken : Option (List ℕ)) (count : ℕ) (le
     at_most_short = takes_at_most (script_limit + 1) left left_then both all_taken (rw both_length step.within)
 
     -- they are run over
-    pub comes_on : (new : Runner) (taken_then : Option (List ℕ)) → Carries handed now taken_now [] new taken_then → settled_from new.cutter [] ≡ []
-        → Comes first left taken (count + size) new left_then taken_then
-    comes_on new taken_then carried none_left =
-        let joined : Carries (take script_limit came.bytes ++ handed) first taken [] new taken_then =
-        carries_on first now new (take script_limit came.bytes) handed taken taken_now taken_then came.carried carried in
+    pub comes_on : (new : Runner) (out_then : Outlets) → Carries handed now out_now [] new out_then → settled_from new.cutter [] ≡ []
+        → Comes first left out (count + size) new left_then out_then
+    comes_on new out_then carried none_left =
+        let joined : Carries (take script_limit came.bytes ++ handed) first out [] new out_then =
+        carries_on first now new (take script_limit came.bytes) handed out out_now out_then came.carried carried in
         record {
           bytes = both;
           counted = both_length;
           all = all_taken;
           within = step.within;
-          carried = subst (λ (u : List ℕ). Carries u first taken [] new taken_then) (sym both_handed) joined;
+          carried = subst (λ (u : List ℕ). Carries u first out [] new out_then) (sym both_handed) joined;
           none_left = none_left;
           soon = soon_taken;
         }
 
     -- the run stops short over them
-    pub prefix_short : (final : Option (List ℕ)) → StopsShort handed now taken_now final
-        → (script : List ℕ) → left ≡ Some script → AppendsPrefix taken final (run first.keep_going script).printed
-    prefix_short final stopped script is_left =
+    pub short_parts : (stop : Stop) (final : Outlets) → StopsShort handed now out_now stop final
+        → (script : List ℕ) → left ≡ Some script → IsShort (ending_of_run (run terms script)) out final
+    short_parts stop final stopped script is_left =
         let s = rest_of left left_then both script all_taken is_left in
         let follows : Behind = behind (nat_lt script_limit (length script)) in
         let behind_both : List ℕ = take (script_limit - length both) s.0 in
         let bytes_are : take script_limit script ≡ (take script_limit came.bytes ++ handed) ++ behind_both =
         ap (take script_limit) s.1 ∙ take_of_two script_limit both s.0 ∙ ap (λ u. u ++ behind_both) both_handed in
-        let comes : run first.keep_going script ≡ outcome follows first [] ((take script_limit came.bytes ++ handed) ++ behind_both) =
-        run_is first fresh script ∙ ap (outcome follows first []) bytes_are in
-        let joined : StopsShort (take script_limit came.bytes ++ handed) first taken final =
-        stops_on first now (take script_limit came.bytes) handed taken taken_now final came.carried stopped in
-        subst (λ (p : Progress). AppendsPrefix taken final p.printed) (sym comes) (joined taken [] (appends_nothing taken) follows behind_both)
+        let comes : run terms script ≡ outcome terms follows first.cutter (start terms) ((take script_limit came.bytes ++ handed) ++ behind_both) =
+        run_is first fresh terms script ∙ ap (outcome terms follows first.cutter (start terms)) bytes_are in
+        let joined : StopsShort (take script_limit came.bytes ++ handed) first out stop final =
+        stops_on first now (take script_limit came.bytes) handed out out_now stop final came.carried stopped in
+        subst (λ (p : Progress). IsShort (ending_of_run p) out final) (sym comes) (joined.short terms out (start terms) at_start follows behind_both)
 
-    pub reads_short : (stop : Stop) (final : Option (List ℕ)) (before after : ℕ) → HasSinkCause {T = Unit {0}} before after (Err stop)
-        → Reads first.keep_going (status_of_stop stop) left left_then taken final
-    reads_short stop final before after cause = record {
+    pub fails_parts_short : (stop : Stop) (final : Outlets) → StopsShort handed now out_now stop final → Fails stop out final
+    fails_parts_short stop final stopped = stopped.fails terms out here stood
+
+    pub reads_short : (stop : Stop) (faults faults_then : ℕ) (final : Outlets) → Fails stop out final
+        → Reads first.keep_going (status_of_stop stop) (record { left = left; faults = faults; out = out })
+        (record { left = left_then; faults = faults_then; out = final })
+    reads_short stop faults faults_then final fails = record {
       taken = both;
       all = all_taken;
       soon = soon_taken;
-      so_far = for_sink stop cause;
+      so_far = for_stop stop fails;
     }
       where
-        for_sink : (stop : Stop) → HasSinkCause {T = Unit {0}} before after (Err stop) → ComesTo (status_of_stop stop) (so_far first.keep_going both) left_then taken final
-        for_sink Source cause = absurd cause
-        for_sink Sink cause = tt
-        for_sink NoRoom cause = tt
+        for_stop : (stop : Stop) → Fails stop out final
+            → ComesTo (status_of_stop stop) (so_far terms both) (record { left = left; faults = faults; out = out })
+            (record { left = left_then; faults = faults_then; out = final })
+        for_stop Source fails = absurd fails
+        for_stop Sink fails = tt
+        for_stop Watcher fails = tt
+        for_stop NoRoom fails = tt
 
 -- a part stopped short before the end
-pub writes_short : (result : Result Bool Stop) → IsErr result → (given keep : Bool) → given ≡ keep → (script : List ℕ) (before now : Option (List ℕ))
-    → AppendsPrefix before now (run given script).printed → Writes result (run keep script) before now
-writes_short (Ok faulted) failed given keep same script before now wrote = cc
-writes_short (Err stop) failed given keep same script before now wrote = subst (λ (k : Bool). AppendsPrefix before now (run k script).printed) same wrote
+pub leaves_stopped : (result : Result Bool Stop) (stop : Stop) → IsErrAnd result (λ e. e ≡ stop) → (p : Progress) (out final : Outlets)
+    → IsShort (ending_of_run p) out final → Leaves result p out final
+leaves_stopped (Ok faulted) stop is p out final short = absurd is
+leaves_stopped (Err Source) stop is p out final short = short
+leaves_stopped (Err Sink) stop is p out final short = short
+leaves_stopped (Err Watcher) stop is p out final short = inl short
+leaves_stopped (Err NoRoom) stop is p out final short = short
 
-pub reads_after : (result : Result Bool Stop) (stop : Stop) → IsErrAnd result (λ e. e ≡ stop) → (given keep : Bool) → given ≡ keep
-    → (left left_now taken now : Option (List ℕ)) → Reads given (status_of_stop stop) left left_now taken now
-    → Reads keep (status_after result) left left_now taken now
-reads_after (Ok x) stop is given keep same left left_now taken now reads = absurd is
-reads_after (Err e) stop is given keep same left left_now taken now reads =
-    subst (λ (s : Stop). Reads keep (status_of_stop s) left left_now taken now) (sym is)
-    (subst (λ (k : Bool). Reads k (status_of_stop stop) left left_now taken now) same reads)
+pub reads_result : {T : Type 0} (result : Result T Stop) (stop : Stop) → IsErrAnd result (λ e. e ≡ stop) → (keep : Bool) (old new : Outside)
+    → Reads keep (status_of_stop stop) old new → IfErr result (λ s. Reads keep (status_of_stop s) old new)
+reads_result (Ok x) stop is keep old new reads = absurd is
+reads_result (Err e) stop is keep old new reads = subst (λ (s : Stop). Reads keep (status_of_stop s) old new) (sym is) reads
+
+pub reads_stopped : (result : Result Bool Stop) (stop : Stop) → IsErrAnd result (λ e. e ≡ stop) → (keep : Bool) (old new : Outside)
+    → Reads keep (status_of_stop stop) old new → Reads keep (status_after result) old new
+reads_stopped (Ok x) stop is keep old new reads = absurd is
+reads_stopped (Err e) stop is keep old new reads = subst (λ (s : Stop). Reads keep (status_of_stop s) old new) (sym is) reads

@@ -1,73 +1,38 @@
--- What was taken and written, and what an answer says of a run.
-use Rattle.std.proofs.Common.{◌≡◌, ℕ, ◌≤◌, List, [], ◌++◌, length, drop, Bool, true, false, Option, Some, None, Result, Ok, Err, refl, sym, ◌∙◌, ap, subst, append_assoc, append-nil}
+-- What an answer says of a run.
+use Rattle.std.proofs.Common.{◌≡◌, ℕ, List, [], Bool, true, false, Option, Some, Result, Ok, Err, length, refl, sym, ◌∙◌, ap, subst}
 use Rattle.std.specs.Prelude.{◌≢◌, OnOk}
-use Rattle.std.proofs.Math.Seq.{drop-append_seam}
-use Rattle.std.specs.Io.KnownBytes.{Appends, Consumes, Keeps}
-use Rattle.pdl_io.specs.Counts.{Rose}
-use Rattle.pdl_io.specs.Told.{Says}
+use Rattle.std.specs.Io.KnownBytes.{Appends}
+use Rattle.pdl_io.specs.Told.{Says, AppendsPrefix}
+use Rattle.pdl_watch.specs.Slots.{Slots, emptied, present_in}
+use Rattle.pdl_watch.specs.SlotLaws.{NoneIsEmptied}
 use Rattle.pdl_machine.specs.Run.{Progress}
-use Rattle.pdl_shell.specs.declared.words.Command.TheVariants.{Run}
+use Rattle.pdl_shell.specs.declared.words.Command.{Command}
+use Rattle.pdl_shell.specs.declared.words.Command.TheVariants.{Run, Generate}
 use Rattle.pdl_shell.specs.declared.stop.Stop.{Stop}
-use Rattle.pdl_shell.specs.declared.stop.Stop.TheVariants.{Source, Sink, NoMemory as NoRoom}
+use Rattle.pdl_shell.specs.declared.stop.Stop.TheVariants.{Source, Sink, Watcher, NoMemory as NoRoom}
 use Rattle.pdl_shell.specs.declared.status.Status.{Status}
 use Rattle.pdl_shell.specs.declared.status.Status.TheVariants.{Done, ScriptFault, Usage, SourceFault, SinkFault, WatcherFault, NoMemory}
-use Rattle.pdl_shell.specs.Answers.{IsAnswer, Counts, TakesAtMost, ending_of_run, Gives, CanAnswer, HasReason, IsUndisturbed, status_after}
-use Rattle.pdl_shell.specs.Stops.{HasSinkCause, HasCauses, Writes}
-
--- nothing taken yet
-pub appends_nothing : (taken : Option (List ℕ)) → Appends taken taken []
-appends_nothing None = tt
-appends_nothing (Some xs) = sym (append-nil xs)
-
--- bytes consumed, and then more of them
-pub consumes_then : (old mid new : Option (List ℕ)) (xs ys : List ℕ) → Consumes old mid xs → Consumes mid new ys → Consumes old new (xs ++ ys)
-consumes_then None mid new xs ys first then' = tt
-consumes_then (Some bs) None new xs ys first then' = absurd first
-consumes_then (Some bs) (Some cs) None xs ys first then' = absurd then'
-consumes_then (Some bs) (Some cs) (Some ds) xs ys first then' = first ∙ ap (λ u. xs ++ u) then' ∙ sym (append_assoc xs ys ds)
-
-pub consumes_kept : (old mid new : Option (List ℕ)) (xs : List ℕ) → Consumes old mid xs → Keeps mid new → Consumes old new xs
-consumes_kept None mid new xs first kept = tt
-consumes_kept (Some bs) None new xs first kept = absurd first
-consumes_kept (Some bs) (Some cs) None xs first kept = absurd kept
-consumes_kept (Some bs) (Some cs) (Some ds) xs first kept = first ∙ ap (λ u. xs ++ u) (sym kept)
-
-rest_after : (old new : Option (List ℕ)) (seen bytes : List ℕ) → Consumes old new seen → old ≡ Some bytes → new ≡ Some (drop (length seen) bytes)
-rest_after None new seen bytes taken is = cc
-rest_after (Some bs) None seen bytes taken is = absurd taken
-rest_after (Some bs) (Some cs) seen bytes taken is =
-    let same : bs ≡ bytes = cc in
-    rw (← same, taken, drop-append_seam) refl
-
--- what was consumed are the first bytes
-pub takes_at_most : (most : ℕ) (old new : Option (List ℕ)) (seen : List ℕ) → Consumes old new seen → length seen ≤ most → TakesAtMost most old new
-takes_at_most most old new seen taken within = record { count = length seen; within = within; rest = λ bytes is. rest_after old new seen bytes taken is }
+use Rattle.pdl_shell.specs.Outside.{Outlets, Outside}
+use Rattle.pdl_shell.specs.Answers.{CameToItsEnd, Ending, IsWhole, IsShort, HeardShort, Gives, CanAnswer, HasReason, IsUndisturbed, ending, aside, ending_of_run, slots_after, status_of_stop, status_after}
+use Rattle.pdl_shell.specs.Taken.{Reads}
+use Rattle.pdl_shell.specs.Stops.{HasSinkCause, HasCauses, Leaves}
+use Rattle.pdl_shell.proofs.SlotsHeard.{counts_same, none_told, none_ended, heard_by}
 
 -- what a status says of the run
-pub gives_after : (result : Result Bool Stop) (whole : Progress) (before now : Option (List ℕ)) → Writes result whole before now
-    → Gives (status_after result) (ending_of_run whole) before now
-gives_after (Ok true) whole before now wrote = (rw (← wrote.0) refl, wrote.1)
-gives_after (Ok false) whole before now wrote = (rw (← wrote.0) refl, wrote.1)
-gives_after (Err Source) whole before now wrote = wrote
-gives_after (Err Sink) whole before now wrote = wrote
-gives_after (Err NoRoom) whole before now wrote = wrote
+pub gives_after : (result : Result Bool Stop) (whole : Progress) (old new : Outlets) → Leaves result whole old new
+    → Gives (status_after result) (ending_of_run whole) old new
+gives_after (Ok true) whole old new left = (rw (← left.0) refl, left.1)
+gives_after (Ok false) whole old new left = (rw (← left.0) refl, left.1)
+gives_after (Err Source) whole old new left = left
+gives_after (Err Sink) whole old new left = left
+gives_after (Err Watcher) whole old new left = left
+gives_after (Err NoRoom) whole old new left = left
 
 -- and of the counts
-pub reason_after : (result : Result Bool Stop) (before now : Counts) → HasCauses before now result → HasReason (status_after result) before now
-reason_after (Ok true) before now causes = causes
-reason_after (Ok false) before now causes = causes
-reason_after (Err stop) before now causes = causes
-
--- of what comes behind a part that left all counts as they were
-pub causes_then : (result : Result Bool Stop) (source source_now before mid after : ℕ)
-    → ◌≡◌ {A = Counts} (record { source = source_now; sink = mid }) (record { source = source; sink = before })
-    → HasSinkCause mid after result
-    → HasCauses (record { source = source; sink = before }) (record { source = source_now; sink = after }) result
-causes_then (Ok x) source source_now before mid after same cause = rw cause same
-causes_then (Err Source) source source_now before mid after same cause = absurd cause
-causes_then (Err Sink) source source_now before mid after same cause =
-    (subst (λ (n : ℕ). Rose n after) (ap (λ (c : Counts). c.sink) same) cause, ap (λ (c : Counts). c.source) same)
-causes_then (Err NoRoom) source source_now before mid after same cause = rw cause same
+pub reason_after : (result : Result Bool Stop) (old new : Outside) → HasCauses old new result → HasReason (status_after result) old new
+reason_after (Ok true) old new causes = causes
+reason_after (Ok false) old new causes = causes
+reason_after (Err stop) old new causes = causes
 
 -- and of how the run can be answered, and of the sink
 pub answers_after : (result : Result Bool Stop) (keep : Bool) → CanAnswer (Some (Run keep)) (status_after result)
@@ -75,23 +40,90 @@ answers_after (Ok true) keep = tt
 answers_after (Ok false) keep = tt
 answers_after (Err Source) keep = tt
 answers_after (Err Sink) keep = tt
+answers_after (Err Watcher) keep = tt
 answers_after (Err NoRoom) keep = tt
 
-pub flushed_after : (result : Result Bool Stop) (told : Option Bool) → OnOk result (Says told true) → IsAnswer (status_after result) → Says told true
-flushed_after (Ok x) told flushed answered = flushed
-flushed_after (Err Source) told flushed answered = absurd answered
-flushed_after (Err Sink) told flushed answered = absurd answered
-flushed_after (Err NoRoom) told flushed answered = absurd answered
+pub flushed_after : (result : Result Bool Stop) (told : Option Bool) → OnOk result (Says told true) → CameToItsEnd (status_after result) → Says told true
+flushed_after (Ok x) told flushed ended = flushed
+flushed_after (Err Source) told flushed ended = absurd ended
+flushed_after (Err Sink) told flushed ended = absurd ended
+flushed_after (Err Watcher) told flushed ended = absurd ended
+flushed_after (Err NoRoom) told flushed ended = absurd ended
 
--- a call that doesn't read its source comes to its end where the sink's count didn't rise
-pub quiet_complete : (status : Status) (source before now : ℕ) → (status ≡ SourceFault → ⊥)
-    → HasReason status (record { source = source; sink = before }) (record { source = source; sink = now })
-    → IsUndisturbed (record { source = source; sink = before }) (record { source = source; sink = now })
-    → status ≢ NoMemory → IsAnswer status
-quiet_complete Done source before now unread reason quiet memory = tt
-quiet_complete ScriptFault source before now unread reason quiet memory = tt
-quiet_complete Usage source before now unread reason quiet memory = tt
-quiet_complete SourceFault source before now unread reason quiet memory = absurd (unread refl)
-quiet_complete SinkFault source before now unread reason quiet memory = quiet.sink reason.0
-quiet_complete WatcherFault source before now unread reason quiet memory = absurd reason
-quiet_complete NoMemory source before now unread reason quiet memory = absurd (memory refl)
+-- what is said of one status, or of one command, is said of the same
+pub gives_by : (wanted status : Status) → status ≡ wanted → (e : Ending) (old new : Outlets) → Gives wanted e old new → Gives status e old new
+gives_by wanted status is e old new gives = subst (λ (s : Status). Gives s e old new) (sym is) gives
+
+pub reads_by : (wanted status : Status) → status ≡ wanted → (keep : Bool) (old new : Outside) → Reads keep wanted old new → Reads keep status old new
+reads_by wanted status is keep old new reads = subst (λ (s : Status). Reads keep s old new) (sym is) reads
+
+pub reason_by : (wanted status : Status) → status ≡ wanted → (old new : Outside) → HasReason wanted old new → HasReason status old new
+reason_by wanted status is old new reason = subst (λ (s : Status). HasReason s old new) (sym is) reason
+
+pub reads_keep : (a b : Bool) → a ≡ b → (status : Status) (old new : Outside) → Reads a status old new → Reads b status old new
+reads_keep a b same status old new reads = subst (λ (k : Bool). Reads k status old new) same reads
+
+pub gives_command : (a b : Option Command) → a ≡ b → (status : Status) (script : List ℕ) (slots : Slots) (old new : Outlets)
+    → Gives status (ending a (present_in slots) script) old new → Gives status (ending b (present_in slots) script) old new
+gives_command a b same status script slots old new gives = subst (λ (o : Option Command). Gives status (ending o (present_in slots) script) old new) same gives
+
+-- a call came to its end where no count rose
+pub quiet_complete : (status : Status) (old new : Outside) → HasReason status old new → IsUndisturbed old new → status ≢ NoMemory → CameToItsEnd status
+quiet_complete Done old new reason quiet memory = tt
+quiet_complete ScriptFault old new reason quiet memory = tt
+quiet_complete Usage old new reason quiet memory = tt
+quiet_complete SourceFault old new reason quiet memory = quiet.source reason.0
+quiet_complete SinkFault old new reason quiet memory = quiet.sink reason.0
+quiet_complete WatcherFault old new reason quiet memory = quiet.watchers reason.0.at reason.0.rose
+quiet_complete NoMemory old new reason quiet memory = absurd (memory refl)
+
+-- a call that runs no script of the source leaves the slots as they are
+aside_same : NoneIsEmptied → (status : Status) (text : List ℕ) (slots : Slots) → slots_after (aside status text (present_in slots)) slots ≡ slots
+aside_same none status text slots =
+    none_ended _ ∙ ap (λ (ss : Slots). emptied ss (present_in slots)) (none_told slots) ∙ none slots
+
+pub aside_whole : NoneIsEmptied → (status : Status) (text : List ℕ) (slots : Slots) (old new : Option (List ℕ)) (flushed flushed' : Option Bool) (faults faults' : ℕ)
+    → Appends old new text
+    → IsWhole (aside status text (present_in slots)) (record { taken = old; flushed = flushed; faults = faults; slots = slots })
+    (record { taken = new; flushed = flushed'; faults = faults'; slots = slots })
+aside_whole none status text slots old new flushed flushed' faults faults' wrote = record { text = wrote; slots = sym (aside_same none status text slots) }
+
+pub aside_short : NoneIsEmptied → (status : Status) (text : List ℕ) (slots : Slots) (old new : Option (List ℕ)) (flushed flushed' : Option Bool) (faults faults' : ℕ)
+    → AppendsPrefix old new text
+    → IsShort (aside status text (present_in slots)) (record { taken = old; flushed = flushed; faults = faults; slots = slots })
+    (record { taken = new; flushed = flushed'; faults = faults'; slots = slots })
+aside_short none status text slots old new flushed flushed' faults faults' wrote =
+    let same = ap (λ (ss : Slots). emptied ss (present_in slots)) (none_told slots) ∙ none slots in
+    record {
+      text = wrote;
+      slots = subst (λ (ss : Slots). HeardShort slots [] (present_in slots) ss) same (heard_by slots [] (present_in slots) (ap length same));
+    }
+
+-- a summary that couldn't be written
+pub aside_stops : NoneIsEmptied → (stop : Stop) (status : Status) (text : List ℕ) (slots : Slots) (old new : Option (List ℕ)) (flushed flushed' : Option Bool) (faults faults' : ℕ)
+    → HasSinkCause {T = Unit {0}} faults faults' (Err stop) → AppendsPrefix old new text
+    → Gives (status_of_stop stop) (aside status text (present_in slots)) (record { taken = old; flushed = flushed; faults = faults; slots = slots })
+    (record { taken = new; flushed = flushed'; faults = faults'; slots = slots })
+aside_stops none Source status text slots old new flushed flushed' faults faults' cause wrote = absurd cause
+aside_stops none Sink status text slots old new flushed flushed' faults faults' cause wrote =
+    aside_short none status text slots old new flushed flushed' faults faults' wrote
+aside_stops none Watcher status text slots old new flushed flushed' faults faults' cause wrote = absurd cause
+aside_stops none NoRoom status text slots old new flushed flushed' faults faults' cause wrote =
+    aside_short none status text slots old new flushed flushed' faults faults' wrote
+
+pub aside_reason : (stop : Stop) (left : Option (List ℕ)) (reads : ℕ) (slots : Slots) (old new : Option (List ℕ)) (flushed flushed' : Option Bool) (faults faults' : ℕ)
+    → HasSinkCause {T = Unit {0}} faults faults' (Err stop)
+    → HasReason (status_of_stop stop)
+    (record { left = left; faults = reads; out = record { taken = old; flushed = flushed; faults = faults; slots = slots } })
+    (record { left = left; faults = reads; out = record { taken = new; flushed = flushed'; faults = faults'; slots = slots } })
+aside_reason Source left reads slots old new flushed flushed' faults faults' cause = absurd cause
+aside_reason Sink left reads slots old new flushed flushed' faults faults' cause = (cause, refl, counts_same slots)
+aside_reason Watcher left reads slots old new flushed flushed' faults faults' cause = absurd cause
+aside_reason NoRoom left reads slots old new flushed flushed' faults faults' cause = (refl, (cause, counts_same slots))
+
+pub aside_answers : (stop : Stop) (keep : Bool) (rounds faults faults' : ℕ) → HasSinkCause {T = Unit {0}} faults faults' (Err stop)
+    → CanAnswer (Some (Generate keep rounds)) (status_of_stop stop)
+aside_answers Source keep rounds faults faults' cause = absurd cause
+aside_answers Sink keep rounds faults faults' cause = tt
+aside_answers Watcher keep rounds faults faults' cause = absurd cause
+aside_answers NoRoom keep rounds faults faults' cause = tt

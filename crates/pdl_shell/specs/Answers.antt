@@ -1,54 +1,114 @@
--- What each status of a call says of the run, of what was written, and of the counts of faults.
-use Rattle.std.specs.Prelude.{◌≡◌, ℕ, ◌≤◌, ⊤, List, drop, Option, Some, None, Bool, Result, Ok, Err, if◌then◌else◌}
+-- What each status of a call says of the run, of what was written and told, and of the counts of faults.
+use Rattle.std.specs.Prelude.{◌≡◌, ℕ, ◌≤◌, ⊤, ◌⊎◌, List, [], length, drop, Option, Some, None, Bool, true, Result, Ok, Err, if◌then◌else◌}
 use Rattle.std.specs.Io.KnownBytes.{Appends}
 use Rattle.pdl_io.specs.Counts.{Rose}
-use Rattle.pdl_io.specs.Told.{AppendsPrefix}
+use Rattle.pdl_io.specs.Told.{Says, AppendsPrefix}
+use Rattle.pdl_watch.specs.declared.notice.Notice.{Notice}
+use Rattle.pdl_watch.specs.Watched.{Watched}
+use Rattle.pdl_watch.specs.Slots.{Slots, slot, notices_of, all_told, all_ended, emptied, ToldPart, SlotRose, EndedShort}
+use Rattle.pdl_machine.specs.Watches.{Watches, is_present}
 use Rattle.pdl_machine.specs.Run.{Progress, run}
 use Rattle.pdl_shell.specs.Command.{usage_line}
 use Rattle.pdl_shell.specs.Summary.{summary}
+use Rattle.pdl_shell.specs.Outside.{Outlets, Outside, CountsStay, OneRose, NoneFailed}
 use Rattle.pdl_shell.specs.declared.words.Command.{Command}
 use Rattle.pdl_shell.specs.declared.words.Command.TheVariants.{Run, Generate}
 use Rattle.pdl_shell.specs.declared.stop.Stop.{Stop}
-use Rattle.pdl_shell.specs.declared.stop.Stop.TheVariants.{Source, Sink, NoMemory as NoRoom}
+use Rattle.pdl_shell.specs.declared.stop.Stop.TheVariants.{Source, Sink, Watcher, NoMemory as NoRoom}
 use Rattle.pdl_shell.specs.declared.status.Status.{Status}
 use Rattle.pdl_shell.specs.declared.status.Status.TheVariants.{Done, ScriptFault, Usage, SourceFault, SinkFault, WatcherFault, NoMemory}
 
 -- the call came to its end
-abbrev pub IsAnswer : Status → Type 0
-IsAnswer Done = ⊤
-IsAnswer ScriptFault = ⊤
-IsAnswer Usage = ⊤
-IsAnswer SourceFault = ⊥
-IsAnswer SinkFault = ⊥
-IsAnswer WatcherFault = ⊥
-IsAnswer NoMemory = ⊥
+abbrev pub CameToItsEnd : Status → Type 0
+CameToItsEnd Done = ⊤
+CameToItsEnd ScriptFault = ⊤
+CameToItsEnd Usage = ⊤
+CameToItsEnd SourceFault = ⊥
+CameToItsEnd SinkFault = ⊥
+CameToItsEnd WatcherFault = ⊥
+CameToItsEnd NoMemory = ⊥
 
--- what a call comes to, unless it stops short: how it ends, and all that it writes
+-- What a call comes to, unless it stops short: how it ends, all that it writes, the notices of each
+-- slot, which slots have a watcher at the end, and which arrays slots are attached to then.
 pub record Ending : Type 0 where
   pub status : Status
   pub text : List ℕ
+  pub told : List (List Notice)
+  pub present : List Bool
+  pub watches : Watches
 
 abbrev pub ending_of_run : Progress → Ending
-ending_of_run run = record
-    { status = if run.faulted then ScriptFault else Done; text = run.printed }
+ending_of_run run = record {
+  status = if run.faulted then ScriptFault else Done;
+  text = run.printed;
+  told = run.told;
+  present = run.present;
+  watches = run.state.watches;
+}
 
--- what a call comes to with what its words ask for, and with the script that the source has
-abbrev pub ending : Option Command → (script : List ℕ) → Ending
-ending None script = record { status = Usage; text = usage_line }
-ending (Some (Run keep)) script = ending_of_run (run keep script)
-ending (Some (Generate keep rounds)) script = record { status = Done; text = summary keep rounds }
+-- an ending without a run of the source's script, which leaves all slots as they are
+abbrev pub aside : Status → (text : List ℕ) → (present : List Bool) → Ending
+aside status text present =
+    record { status = status; text = text; told = []; present = present; watches = [] }
 
--- what was written, from what the sink had taken before the call and has now:
--- at the end the ending's whole text, and the status is the ending's; where the call stopped
--- short, a prefix of that text
-abbrev pub Gives : Status → Ending → Option (List ℕ) → Option (List ℕ) → Type 0
-Gives Done ending old new = (Done ≡ ending.status) × Appends old new ending.text
-Gives ScriptFault ending old new = (ScriptFault ≡ ending.status) × Appends old new ending.text
-Gives Usage ending old new = (Usage ≡ ending.status) × Appends old new ending.text
-Gives SourceFault ending old new = AppendsPrefix old new ending.text
-Gives SinkFault ending old new = AppendsPrefix old new ending.text
-Gives WatcherFault ending old new = ⊥
-Gives NoMemory ending old new = AppendsPrefix old new ending.text
+-- what a call comes to with what its words ask for, with the slots that have a watcher, and with the
+-- script that the source has
+abbrev pub ending : Option Command → (present : List Bool) → (script : List ℕ) → Ending
+ending None present script = aside Usage usage_line present
+ending (Some (Run keep)) present script =
+    ending_of_run (run (record { keep = keep; present = present }) script)
+ending (Some (Generate keep rounds)) present script = aside Done (summary keep rounds) present
+
+-- the slots once each watcher was told its notices, and those are gone that the script gave up
+abbrev pub told_by : Ending → Slots → Slots
+told_by ending slots = emptied (all_told slots ending.told) ending.present
+
+-- and once those are finished that are attached at the end
+abbrev pub slots_after : Ending → Slots → Slots
+slots_after ending slots = all_ended (told_by ending slots) ending.watches
+
+-- A slot at a stop: its watcher was told a front of these notices and isn't newly finished, or is
+-- gone, which only a watcher is that the script gives up.
+abbrev pub SlotHears : List Notice → (stays : Bool) → Option Watched → Option Watched → Type 0
+SlotHears ns stays None None = Unit {0}
+SlotHears ns stays None (Some now) = ⊥
+SlotHears ns stays (Some old) None = ¬ (stays ≡ true)
+SlotHears ns stays (Some old) (Some now) = ToldPart ns old now
+
+-- so for each slot
+pub record HeardShort (old : Slots) (told : List (List Notice)) (present : List Bool) (now : Slots)
+    : Type 0 where
+  pub long : length now ≡ length old
+  pub each : (k : ℕ) →
+      SlotHears (notices_of told k) (is_present present k) (slot old k) (slot now k)
+
+-- the call came to its end: the sink took the whole text, and each slot is as the ending has it
+pub record IsWhole (ending : Ending) (old new : Outlets) : Type 0 where
+  pub text : Appends old.taken new.taken ending.text
+  pub slots : new.slots ≡ slots_after ending old.slots
+
+-- it stopped short: the sink took a prefix of the text, and each watcher was told a front of its
+-- notices; none is finished
+pub record IsShort (ending : Ending) (old new : Outlets) : Type 0 where
+  pub text : AppendsPrefix old.taken new.taken ending.text
+  pub slots : HeardShort old.slots ending.told ending.present new.slots
+
+-- it stopped short at the very end, when a watcher couldn't be finished: all was written, flushed and
+-- told by then, and those of the slots before are finished
+pub record ClosesShort (ending : Ending) (old new : Outlets) : Type 0 where
+  pub text : Appends old.taken new.taken ending.text
+  pub flushed : Says new.flushed true
+  pub slots : EndedShort (told_by ending old.slots) ending.watches new.slots
+
+-- what was written and told, from what is seen of sink and slots before the call and after it
+abbrev pub Gives : Status → Ending → Outlets → Outlets → Type 0
+Gives Done ending old new = (Done ≡ ending.status) × IsWhole ending old new
+Gives ScriptFault ending old new = (ScriptFault ≡ ending.status) × IsWhole ending old new
+Gives Usage ending old new = (Usage ≡ ending.status) × IsWhole ending old new
+Gives SourceFault ending old new = IsShort ending old new
+Gives SinkFault ending old new = IsShort ending old new
+Gives WatcherFault ending old new = IsShort ending old new ⊎ ClosesShort ending old new
+Gives NoMemory ending old new = IsShort ending old new
 
 -- the statuses that words which ask for this can be answered by
 abbrev pub CanAnswer : Option Command → Status → Type 0
@@ -56,27 +116,28 @@ CanAnswer None Usage = ⊤
 CanAnswer None SinkFault = ⊤
 CanAnswer None _ = ⊥
 CanAnswer (Some (Run keep)) Usage = ⊥
-CanAnswer (Some (Run keep)) WatcherFault = ⊥
 CanAnswer (Some (Run keep)) _ = ⊤
 CanAnswer (Some (Generate keep rounds)) Done = ⊤
 CanAnswer (Some (Generate keep rounds)) SinkFault = ⊤
 CanAnswer (Some (Generate keep rounds)) NoMemory = ⊤
 CanAnswer (Some (Generate keep rounds)) _ = ⊥
 
--- the counts of faults of the source and of the sink
-pub record Counts : Type 0 where
-  pub source : ℕ
-  pub sink : ℕ
+-- every count of faults is as it was
+abbrev pub AllQuiet : Outside → Outside → Type 0
+AllQuiet old new = (new.faults ≡ old.faults) × NoneFailed old.out new.out
 
--- a fault of the source or the sink is answered only where its count rose; every other count stayed
-abbrev pub HasReason : Status → Counts → Counts → Type 0
-HasReason Done old new = new ≡ old
-HasReason ScriptFault old new = new ≡ old
-HasReason Usage old new = new ≡ old
-HasReason SourceFault old new = Rose old.source new.source × (new.sink ≡ old.sink)
-HasReason SinkFault old new = Rose old.sink new.sink × (new.source ≡ old.source)
-HasReason WatcherFault old new = ⊥
-HasReason NoMemory old new = new ≡ old
+-- A fault of the source, the sink or a watcher is answered only where its count rose; every other
+-- count stayed.
+abbrev pub HasReason : Status → Outside → Outside → Type 0
+HasReason Done old new = AllQuiet old new
+HasReason ScriptFault old new = AllQuiet old new
+HasReason Usage old new = AllQuiet old new
+HasReason SourceFault old new = Rose old.faults new.faults × NoneFailed old.out new.out
+HasReason SinkFault old new = Rose old.out.faults new.out.faults
+    × (new.faults ≡ old.faults) × CountsStay old.out.slots new.out.slots
+HasReason WatcherFault old new = OneRose old.out.slots new.out.slots
+    × (new.faults ≡ old.faults) × (new.out.faults ≡ old.out.faults)
+HasReason NoMemory old new = AllQuiet old new
 
 -- from the bytes that the source had left, the first ones were taken, and at most so many
 pub record TakesAtMost (most : ℕ) (old new : Option (List ℕ)) : Type 0 where
@@ -85,14 +146,16 @@ pub record TakesAtMost (most : ℕ) (old new : Option (List ℕ)) : Type 0 where
   pub rest : (bytes : List ℕ) → old ≡ Some bytes → new ≡ Some (drop count bytes)
 
 -- no count rose
-pub record IsUndisturbed (old new : Counts) : Type 0 where
-  pub source : ¬ Rose old.source new.source
-  pub sink : ¬ Rose old.sink new.sink
+pub record IsUndisturbed (old new : Outside) : Type 0 where
+  pub source : ¬ Rose old.faults new.faults
+  pub sink : ¬ Rose old.out.faults new.out.faults
+  pub watchers : (k : ℕ) → ¬ SlotRose (slot old.out.slots k) (slot new.out.slots k)
 
 -- the status of a run that stopped short
 abbrev pub status_of_stop : Stop → Status
 status_of_stop Source = SourceFault
 status_of_stop Sink = SinkFault
+status_of_stop Watcher = WatcherFault
 status_of_stop NoRoom = NoMemory
 
 -- the status of a run that came to its end, faulted or not, or stopped short

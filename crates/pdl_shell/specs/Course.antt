@@ -1,82 +1,137 @@
--- How a runner carries a run on. The runner has no memory of what was printed: that the sink took.
-use Rattle.std.specs.Prelude.{◌≡◌, ℕ, ◌+◌, ◌≤◌, List, [], ◌∷◌, ◌++◌, length, take, map, Option, Bool}
+-- How a runner carries a run on. The runner has no memory of what was printed and told: that the sink
+-- and the watchers took.
+use Rattle.std.specs.Prelude.{◌≡◌, ℕ, ◌+◌, ◌≤◌, List, [], ◌∷◌, ◌++◌, length, take, map, Option, Bool, false, Result, Ok, Err}
 use Rattle.std.specs.Io.KnownBytes.{Appends, Consumes}
-use Rattle.pdl_io.specs.Told.{AppendsPrefix}
 use Rattle.pdl_lex.specs.Bytes.{newlines}
 use Rattle.pdl_lex.specs.Limits.{script_limit}
-use Rattle.pdl_lex.specs.Pieces.{statement, script_too_long, pieces, settled, settled_from}
-use Rattle.pdl_machine.specs.Run.{Progress, start, after_marks}
+use Rattle.pdl_lex.specs.Pieces.{Mark, statement, script_too_long, pieces, settled, settled_from}
+use Rattle.pdl_watch.specs.Slots.{Slots, all_told, present_in, emptied, IsBelow}
+use Rattle.pdl_machine.specs.State.{no_names}
+use Rattle.pdl_machine.specs.Run.{Terms, Progress, after_mark}
 use Rattle.pdl_shell.specs.declared.runner.Runner.{Runner}
-use Rattle.pdl_shell.specs.Pace.{Behind, end_of_input, past_limit, unknown, behind, marks_left}
-use Rattle.pdl_shell.specs.Taken.{StopsSoon}
-
--- the run so far, which has printed this
-abbrev pub progress : Runner → (printed : List ℕ) → Progress
-progress runner printed =
-    record {
-      state = runner.session.state;
-      printed = printed;
-      faulted = runner.faulted;
-      ended = runner.ended;
-    }
-
--- what the run comes to, with these bytes left of the script and this behind them
-abbrev pub outcome : Behind → Runner → (printed bytes : List ℕ) → Progress
-outcome follows runner printed bytes =
-    after_marks runner.keep_going (progress runner printed) (marks_left follows runner.cutter bytes)
+use Rattle.pdl_shell.specs.declared.stop.Stop.{Stop}
+use Rattle.pdl_shell.specs.Outside.{Outlets, NoneFailed}
+use Rattle.pdl_shell.specs.Answers.{HeardShort, IsShort, ending_of_run}
+use Rattle.pdl_shell.specs.Stops.{SlotsFail, Fails, Leaves}
+use Rattle.pdl_shell.specs.Pace.{Behind, end_of_input, past_limit, unknown, behind, marks_left, outcome}
+use Rattle.pdl_shell.specs.Taken.{StopsSoon, terms_for}
 
 -- a runner before the first byte of a script
 pub record IsFresh (runner : Runner) : Type 0 where
-  pub whole : (bytes : List ℕ) → outcome end_of_input runner [] bytes
-      ≡ after_marks runner.keep_going start (map statement (pieces bytes))
-  pub limited : (bytes : List ℕ) → outcome past_limit runner [] bytes
-      ≡ after_marks runner.keep_going start (map statement (settled bytes)
-      ++ script_too_long (1 + newlines bytes) ∷ [])
-  pub unended : (bytes : List ℕ) → outcome unknown runner [] bytes
-      ≡ after_marks runner.keep_going start (map statement (settled bytes))
+  pub state : runner.session.state ≡ no_names
+  pub unfaulted : runner.faulted ≡ false
+  pub running : runner.ended ≡ false
+  pub uncounted : runner.count ≡ 0
+  pub whole : (bytes : List ℕ) → marks_left end_of_input runner.cutter bytes
+      ≡ map statement (pieces bytes)
+  pub limited : (bytes : List ℕ) → marks_left past_limit runner.cutter bytes
+      ≡ map statement (settled bytes) ++ script_too_long (1 + newlines bytes) ∷ []
+  pub unended : (bytes : List ℕ) → marks_left unknown runner.cutter bytes
+      ≡ map statement (settled bytes)
   pub none_left : settled_from runner.cutter [] ≡ []
 
+-- The runner has brought a run so far, whose slots were the first ones at its start: each watcher was
+-- told all of its notices up to now, and those are gone that the script gave up.
+pub record Follows (terms : Terms) (first : Slots) (runner : Runner) (now : Slots) (run : Progress)
+    : Type 0 where
+  pub keep : terms.keep ≡ runner.keep_going
+  pub state : run.state ≡ runner.session.state
+  pub faulted : run.faulted ≡ runner.faulted
+  pub ended : run.ended ≡ runner.ended
+  pub count : run.count ≡ runner.count
+  pub slots : now ≡ emptied (all_told first run.told) run.present
+  pub present : IsBelow run.present (present_in first)
+
+-- and the sink took what it printed
+pub record Stands (terms : Terms) (first : Outlets) (runner : Runner) (now : Outlets) (run : Progress)
+    : Type 0 where
+  pub follows : Follows terms first.slots runner now.slots run
+  pub text : Appends first.taken now.taken run.printed
+  pub faults : now.faults ≡ first.faults
+
+-- a runner ran a statement, and has its text at hand, whatever ran before it
+pub record Answers (mark : Mark) (old : Runner) (slots : Slots) (new : Runner) (now : Slots)
+    : Type 0 where
+  pub follows : (terms : Terms) (first : Slots) (run : Progress) →
+      Follows terms first old slots run → Follows terms first new now (after_mark terms run mark)
+  pub text : (terms : Terms) (first : Slots) (run : Progress) → Follows terms first old slots run →
+      (after_mark terms run mark).printed ≡ run.printed ++ new.text.items
+
+-- or stopped short of that
+pub record AnswersShort (mark : Mark) (old : Runner) (slots : Slots) (stop : Stop) (now : Slots)
+    : Type 0 where
+  pub heard : (terms : Terms) (first : Slots) (run : Progress) → Follows terms first old slots run →
+      let after = after_mark terms run mark in HeardShort first after.told after.present now
+  pub fails : (terms : Terms) (first : Slots) (run : Progress) → Follows terms first old slots run →
+      SlotsFail stop first now
+
+-- a runner ran a statement, and its text is written
+pub record Runs (mark : Mark) (old : Runner) (out : Outlets) (new : Runner) (now : Outlets)
+    : Type 0 where
+  pub stands : (terms : Terms) (first : Outlets) (run : Progress) →
+      Stands terms first old out run → Stands terms first new now (after_mark terms run mark)
+
+-- or stopped short of that
+pub record RunsShort (mark : Mark) (old : Runner) (out : Outlets) (stop : Stop) (now : Outlets)
+    : Type 0 where
+  pub short : (terms : Terms) (first : Outlets) (run : Progress) → Stands terms first old out run →
+      IsShort (ending_of_run (after_mark terms run mark)) first now
+  pub fails : (terms : Terms) (first : Outlets) (run : Progress) → Stands terms first old out run →
+      Fails stop first now
+
 -- Over these bytes the runner came to a new one, and of the bytes this rest is
--- still to come. Whatever was printed before and whatever follows, the run comes to the same, and
--- the sink took what was printed.
-abbrev pub Carries : (bytes : List ℕ) (old : Runner) (taken : Option (List ℕ))
-    (rest : List ℕ) (new : Runner) (now : Option (List ℕ)) → Type 0
-Carries bytes old taken rest new now =
-    (before : Option (List ℕ)) (printed : List ℕ) → Appends before taken printed →
-    (printed_now : List ℕ) × Appends before now printed_now
-    × ((follows : Behind) (more : List ℕ) → outcome follows old printed (bytes ++ more)
-    ≡ outcome follows new printed_now (rest ++ more))
+-- still to come. Whatever ran before and whatever follows, the run comes to the same.
+pub record Carries (bytes : List ℕ) (old : Runner) (out : Outlets)
+    (rest : List ℕ) (new : Runner) (now : Outlets) : Type 0 where
+  pub on : (terms : Terms) (first : Outlets) (run : Progress) → Stands terms first old out run →
+      (run_now : Progress) × Stands terms first new now run_now
+      × ((follows : Behind) (more : List ℕ) → outcome terms follows old.cutter run (bytes ++ more)
+      ≡ outcome terms follows new.cutter run_now (rest ++ more))
 
--- The run stopped short over these bytes: whatever follows, the sink took a
--- prefix of what it prints.
-abbrev pub StopsShort : (bytes : List ℕ) (old : Runner) (taken now : Option (List ℕ)) → Type 0
-StopsShort bytes old taken now =
-    (before : Option (List ℕ)) (printed : List ℕ) → Appends before taken printed →
-    (follows : Behind) (more : List ℕ) →
-    AppendsPrefix before now (outcome follows old printed (bytes ++ more)).printed
+-- The run stopped short over these bytes, whatever ran before and whatever follows.
+pub record StopsShort (bytes : List ℕ) (old : Runner) (out : Outlets) (stop : Stop) (now : Outlets)
+    : Type 0 where
+  pub short : (terms : Terms) (first : Outlets) (run : Progress) → Stands terms first old out run →
+      (follows : Behind) (more : List ℕ) →
+      IsShort (ending_of_run (outcome terms follows old.cutter run (bytes ++ more))) first now
+  pub fails : (terms : Terms) (first : Outlets) (run : Progress) → Stands terms first old out run →
+      Fails stop first now
 
--- The run came to its end, with no bytes left of the script, or none up to its limit.
-abbrev pub Finishes : (is_cut : Bool) (old : Runner) (taken : Option (List ℕ))
-    (faulted : Bool) (now : Option (List ℕ)) → Type 0
-Finishes is_cut old taken faulted now =
-    (before : Option (List ℕ)) (printed : List ℕ) → Appends before taken printed →
-    let last = outcome (behind is_cut) old printed [] in
-    Appends before now last.printed × (faulted ≡ last.faulted)
+-- What is left was run, with no bytes left of the script, or none up to its limit.
+pub record Finishes (is_cut : Bool) (old : Runner) (out : Outlets) (new : Runner) (now : Outlets)
+    : Type 0 where
+  pub stands : (terms : Terms) (first : Outlets) (run : Progress) → Stands terms first old out run →
+      Stands terms first new now (outcome terms (behind is_cut) old.cutter run [])
 
--- The run stopped short at its end.
-abbrev pub FinishesShort : (is_cut : Bool) (old : Runner) (taken now : Option (List ℕ)) → Type 0
-FinishesShort is_cut old taken now =
-    (before : Option (List ℕ)) (printed : List ℕ) → Appends before taken printed →
-    AppendsPrefix before now (outcome (behind is_cut) old printed []).printed
+-- The run stopped short of that.
+pub record FinishesShort (is_cut : Bool) (old : Runner) (out : Outlets) (stop : Stop) (now : Outlets)
+    : Type 0 where
+  pub short : (terms : Terms) (first : Outlets) (run : Progress) → Stands terms first old out run →
+      IsShort (ending_of_run (outcome terms (behind is_cut) old.cutter run [])) first now
+  pub fails : (terms : Terms) (first : Outlets) (run : Progress) → Stands terms first old out run →
+      Fails stop first now
+
+-- no call failed, or the one that the run stopped for
+abbrev pub FailsWith : Result Bool Stop → Outlets → Outlets → Type 0
+FailsWith (Ok faulted) old now = NoneFailed old now
+FailsWith (Err stop) old now = Fails stop old now
+
+-- The run came to its very end, or stopped short there.
+pub record Ends (is_cut : Bool) (old : Runner) (out : Outlets) (result : Result Bool Stop)
+    (now : Outlets) : Type 0 where
+  pub leaves : (terms : Terms) (first : Outlets) (run : Progress) → Stands terms first old out run →
+      Leaves result (outcome terms (behind is_cut) old.cutter run []) first now
+  pub fails : (terms : Terms) (first : Outlets) (run : Progress) → Stands terms first old out run →
+      FailsWith result first now
 
 -- From a fresh runner the run came to this one by so many bytes of the source. The one past the
 -- limit of a script was taken, but not run over.
-pub record Comes (first : Runner) (left taken : Option (List ℕ)) (count : ℕ)
-    (now : Runner) (left_now taken_now : Option (List ℕ)) : Type 0 where
+pub record Comes (first : Runner) (left : Option (List ℕ)) (out : Outlets) (count : ℕ)
+    (now : Runner) (left_now : Option (List ℕ)) (out_now : Outlets) : Type 0 where
   pub bytes : List ℕ
   pub counted : length bytes ≡ count
   pub all : Consumes left left_now bytes
   pub within : count ≤ script_limit + 1
-  pub carried : Carries (take script_limit bytes) first taken [] now taken_now
+  pub carried : Carries (take script_limit bytes) first out [] now out_now
   pub none_left : settled_from now.cutter [] ≡ []
-  pub soon : StopsSoon first.keep_going bytes
+  pub soon : StopsSoon (terms_for first.keep_going out.slots) bytes

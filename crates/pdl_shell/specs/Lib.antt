@@ -4,8 +4,12 @@ pub mod Generated
 pub mod Summary
 pub mod Unread
 pub mod Marks
-pub mod Stops
+pub mod Ran
+pub mod Outside
 pub mod Answers
+pub mod Stops
 pub mod Taken
 pub mod Pace
+pub mod CourseLaws
 pub mod Course
+pub mod Headline

@@ -2,8 +2,7 @@
 use Rattle.std.specs.Prelude.{ℕ, ◌+◌, List, [], ◌∷◌, ◌++◌, map, Bool, true, false}
 use Rattle.pdl_lex.specs.Bytes.{newlines}
 use Rattle.pdl_lex.specs.Pieces.{State, Mark, statement, script_too_long, to_come, settled_from}
-use Rattle.pdl_machine.specs.State.{State as MachineState}
-use Rattle.pdl_machine.specs.Run.{text_after, line_of, mark_step}
+use Rattle.pdl_machine.specs.Run.{Terms, Progress, after_marks}
 
 -- what stands behind the bytes that are left of a script, as far as they are at hand: the
 -- end of input, a byte past the limit of a script, or what isn't known yet
@@ -24,6 +23,6 @@ marks_left past_limit cutter bytes =
     map statement (settled_from cutter bytes) ++ script_too_long (cutter.line + newlines bytes) ∷ []
 marks_left unknown cutter bytes = map statement (settled_from cutter bytes)
 
--- what one statement prints
-abbrev pub mark_text : MachineState → Mark → List ℕ
-mark_text state mark = text_after (line_of mark) (mark_step state mark)
+-- what a run comes to that has come this far, where these bytes are left
+abbrev pub outcome : Terms → Behind → State → Progress → (bytes : List ℕ) → Progress
+outcome terms follows cutter run bytes = after_marks terms run (marks_left follows cutter bytes)

@@ -1,7 +1,7 @@
 -- What a run of the generated script comes to.
-use Rattle.std.specs.Prelude.{ℕ, List, ◌++◌, Bool, length, sum, codes, decimal}
+use Rattle.std.specs.Prelude.{ℕ, List, [], ◌++◌, Bool, length, sum, codes, decimal}
 use Rattle.pdl_lex.specs.Pieces.{pieces}
-use Rattle.pdl_machine.specs.Run.{run}
+use Rattle.pdl_machine.specs.Run.{Terms, run}
 use Rattle.pdl_machine.specs.Step.{newline}
 use Rattle.pdl_shell.specs.Generated.{generated_script}
 
@@ -11,9 +11,12 @@ summary_line statements printed =
     codes "statements " ++ decimal statements ++ codes " bytes " ++ decimal (length printed)
     ++ codes " sum " ++ decimal (sum printed) ++ newline
 
--- the line for the generated script of so many rounds, of which the run goes on
--- after faults or doesn't
+-- a run that goes on after faults or doesn't, and has no watchers
+abbrev pub unwatched : (keep_going : Bool) → Terms
+unwatched keep = record { keep = keep; present = [] }
+
+-- the line for the generated script of so many rounds
 abbrev pub summary : (keep_going : Bool) → (rounds : ℕ) → List ℕ
 summary keep rounds =
     let script = generated_script rounds in
-    summary_line (length (pieces script)) (run keep script).printed
+    summary_line (length (pieces script)) (run (unwatched keep) script).printed

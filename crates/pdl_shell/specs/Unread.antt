@@ -1,11 +1,13 @@
 -- Why a text is no statement, as what a statement's refusal is.
+use Rattle.std.specs.Prelude.{◌≡◌, Result, Err}
 use Rattle.pdl_lex.specs.declared.LexFault.{LexFault}
 use Rattle.pdl_lex.specs.declared.LexFault.TheVariants as lexing
 use Rattle.pdl_syntax.specs.declared.parser.ParseFault.{ParseFault}
 use Rattle.pdl_syntax.specs.declared.parser.ParseFault.TheVariants as parsing
+use Rattle.pdl_machine.specs.declared.fault.Fault.{Fault}
 use Rattle.pdl_machine.specs.declared.fault.Fault.TheVariants.{Syntax, TooDeep, NumberTooLarge, Ragged}
-use Rattle.pdl_scope.specs.declared.fault.StepFault.{StepFault}
-use Rattle.pdl_scope.specs.declared.fault.StepFault.TheVariants.{Script, NoMemory}
+use Rattle.pdl_session.specs.declared.fault.StepFault.{StepFault}
+use Rattle.pdl_session.specs.declared.fault.StepFault.TheVariants.{Script, Watcher, NoMemory}
 
 -- a text without tokens is a syntax error
 abbrev pub of_lexing : LexFault → StepFault
@@ -19,3 +21,9 @@ of_parsing parsing.NumberTooLarge = Script NumberTooLarge
 of_parsing parsing.Syntax = Script Syntax
 of_parsing parsing.Ragged = Script Ragged
 of_parsing parsing.NoMemory = NoMemory
+
+-- a fault of the script is the one that is wanted, want of memory says nothing, and no watcher is asked
+abbrev pub IsFault : {U : Type 0} → Result U Fault → StepFault → Type 0
+IsFault wanted (Script e) = wanted ≡ Err e
+IsFault wanted Watcher = ⊥
+IsFault wanted NoMemory = Unit {0}

@@ -3,6 +3,7 @@
 #![tactic(auto)]
 
 mod generated;
+mod laws;
 mod mark;
 mod output;
 mod reading;
@@ -14,5 +15,6 @@ mod stop;
 mod summary;
 mod words;
 
+pub use laws::headline_laws;
 pub use run::run_shell;
 pub use status::Status;

@@ -1,19 +1,24 @@
 //! Reads a script in parts, and runs each statement as soon as it is whole.
 ghost use Rattle.std.specs.Prelude.{◌≡◌, ℕ, ◌+◌, nat_lt, false, List, Some, IfOk, OnOk, OnErr, IfErr};
 ghost use Rattle.std.specs.Io.KnownBytes.{IsAtEnd};
-ghost use Rattle.pdl_io.specs.Told.{KeepsTelling, AppendsPrefix};
+ghost use Rattle.pdl_io.specs.Told.{KeepsTelling};
 ghost use Rattle.pdl_lex.specs.Limits.{script_limit};
+ghost use Rattle.pdl_watch.specs.Slots.{slots_by};
 ghost use Rattle.pdl_machine.specs.Run.{run};
-ghost use Rattle.pdl_shell.specs.Answers.{TakesAtMost, status_of_stop};
+ghost use Rattle.pdl_session.specs.Watching.{AreServed};
+ghost use Rattle.pdl_shell.specs.Outside.{outlets, outside};
+ghost use Rattle.pdl_shell.specs.Answers.{IsShort, TakesAtMost, ending_of_run, status_of_stop};
 ghost use Rattle.pdl_shell.specs.Course.{IsFresh, Comes};
 ghost use Rattle.pdl_shell.specs.Stops.{HasCauses};
-ghost use Rattle.pdl_shell.specs.Taken.{Reads};
+ghost use Rattle.pdl_shell.specs.Taken.{Reads, terms_for};
 
+use crate::laws::course_laws;
 use crate::runner::Runner;
 use crate::stop::Stop;
 use pdl_buf::Steps;
 use pdl_io::{Sink, Source};
 use pdl_machine::{run_laws, so_far_laws};
+use pdl_watch::Watcher;
 use std::sync::ledger::Ledger;
 
 // The most bytes of a script.
@@ -25,32 +30,48 @@ const PART: usize = 4096;
 // Takes the source's bytes in parts, and runs each statement when its last byte is
 // there: to the end of the source, or until a fault ends the run, or up to and with the byte past
 // the limit of a script. Answers whether that one came.
-pub(crate) fn read_parts<S: Source, K: Sink, L: Ledger>(
+pub(crate) fn read_parts<S: Source, K: Sink, W: Watcher, L: Ledger>(
     runner: &mut Runner,
     source: &mut S,
     sink: &mut K,
+    watchers: &mut Vec<Option<W>>,
     steps: &mut Steps<L>,
 ) -> Result<bool, Stop>
     requires fresh { IsFresh runner.old }
     requires ready { (runner.old.cutter.failed ≡ false) × (runner.old.cutter.taken ≡ 0) }
-    ensures comes { IfOk result (λ is_cut. (count : ℕ) ×
-        Comes runner.old (S.left source.old) (K.taken sink.old) count
-        runner.new (S.left source.new) (K.taken sink.new) ×
-        (is_cut ≡ nat_lt script_limit count)) }
+    requires served { AreServed runner.old.session.state.watches
+        (slots_by W.seen watchers.old.items) }
+    ensures comes { IfOk result (λ is_cut. (count : ℕ) × Comes runner.old (S.left source.old)
+        (outlets K.taken K.is_flushed K.faults sink.old (slots_by W.seen watchers.old.items))
+        count runner.new (S.left source.new)
+        (outlets K.taken K.is_flushed K.faults sink.new (slots_by W.seen watchers.new.items))
+        × (is_cut ≡ nat_lt script_limit count)) }
     ensures end { IfOk result (λ is_cut. is_cut ≡ false → runner.new.ended ≡ false →
         IsAtEnd (S.left source.new)) }
     ensures stops { (script : List ℕ) → S.left source.old ≡ Some script →
-        let whole = (run runner.old.keep_going script).printed in
-        OnErr result (AppendsPrefix (K.taken sink.old) (K.taken sink.new) whole) }
+        let slots = slots_by W.seen watchers.old.items in
+        let whole = run (terms_for runner.old.keep_going slots) script in
+        OnErr result (IsShort (ending_of_run whole)
+        (outlets K.taken K.is_flushed K.faults sink.old slots)
+        (outlets K.taken K.is_flushed K.faults sink.new (slots_by W.seen watchers.new.items))) }
     ensures reads { IfErr result (λ stop. Reads runner.old.keep_going (status_of_stop stop)
-        (S.left source.old) (S.left source.new) (K.taken sink.old) (K.taken sink.new)) }
+        (outside S.left S.faults source.old
+        (outlets K.taken K.is_flushed K.faults sink.old (slots_by W.seen watchers.old.items)))
+        (outside S.left S.faults source.new
+        (outlets K.taken K.is_flushed K.faults sink.new (slots_by W.seen watchers.new.items)))) }
     ensures at_most { TakesAtMost (script_limit + 1) (S.left source.old) (S.left source.new) }
     ensures works { OnOk result (runner.new.cutter.failed ≡ false) }
+    ensures served { OnOk result (AreServed runner.new.session.state.watches
+        (slots_by W.seen watchers.new.items)) }
     ensures tells { KeepsTelling (K.is_flushed sink.old) (K.is_flushed sink.new) }
     ensures causes { HasCauses
-        (record { source = S.faults source.old; sink = K.faults sink.old })
-        (record { source = S.faults source.new; sink = K.faults sink.new }) result }
+        (outside S.left S.faults source.old
+        (outlets K.taken K.is_flushed K.faults sink.old (slots_by W.seen watchers.old.items)))
+        (outside S.left S.faults source.new
+        (outlets K.taken K.is_flushed K.faults sink.new (slots_by W.seen watchers.new.items)))
+        result }
 {
+    course_laws();
     run_laws();
     so_far_laws();
     let mut part = [0u8; PART];
@@ -65,7 +86,7 @@ pub(crate) fn read_parts<S: Source, K: Sink, L: Ledger>(
             return Ok(false);
         }
         let within = count.min(SCRIPT_LIMIT - taken);
-        runner.take(&part[..within], sink, steps)?;
+        runner.take(&part[..within], sink, watchers, steps)?;
         taken += count;
     }
     Ok(taken > SCRIPT_LIMIT)

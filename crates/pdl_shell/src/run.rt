@@ -1,16 +1,20 @@
 //! The call that runs a script.
-ghost use Rattle.std.specs.Prelude.{◌≡◌, ◌≢◌, ℕ, ◌+◌, ◌<◌, List, map, Bool, true, false, Some, None, OnOk, OnErr};
+ghost use Rattle.std.specs.Prelude.{◌≡◌, ◌≢◌, ℕ, ◌+◌, ◌<◌, ◌≤◌, List, length, map, Bool, true, false, Option, Some, None, OnOk, OnErr};
 ghost use Rattle.std.specs.Io.KnownBytes.{Appends};
 ghost use Rattle.std.specs.String.{string_bytes};
 ghost use Rattle.pdl_io.specs.Counts.{HasCause};
 ghost use Rattle.pdl_io.specs.Told.{Says, KeepsTelling, AppendsPrefix};
 ghost use Rattle.pdl_lex.specs.Limits.{script_limit};
+ghost use Rattle.pdl_watch.specs.Slots.{Slots, slots_by, present_in, AreOpen};
 ghost use Rattle.pdl_machine.specs.Run.{run};
+ghost use Rattle.pdl_scope.specs.Scope.{slots_limit};
 ghost use Rattle.pdl_shell.specs.Command.{command_of, reads_source, usage_line};
-ghost use Rattle.pdl_shell.specs.Stops.{HasCauses, Writes};
-ghost use Rattle.pdl_shell.specs.Answers.{IsAnswer, ending, ending_of_run, Gives, CanAnswer, HasReason, TakesAtMost, IsUndisturbed, status_after};
-ghost use Rattle.pdl_shell.specs.Taken.{Reads};
+ghost use Rattle.pdl_shell.specs.Outside.{outlets, outside};
+ghost use Rattle.pdl_shell.specs.Stops.{HasCauses, Leaves};
+ghost use Rattle.pdl_shell.specs.Answers.{CameToItsEnd, ending, ending_of_run, Gives, CanAnswer, HasReason, TakesAtMost, IsUndisturbed, status_after};
+ghost use Rattle.pdl_shell.specs.Taken.{Reads, terms_for};
 
+use crate::laws::course_laws;
 use crate::reading::read_parts;
 use crate::runner::Runner;
 use crate::status::Status;
@@ -20,6 +24,7 @@ use crate::words::{Command, read_words};
 use pdl_buf::new_steps;
 use pdl_io::{Failed, Sink, Source, write_all};
 use pdl_machine::run_laws;
+use pdl_watch::{Watcher, slot_laws};
 use std::alloc::Global;
 use std::marker::Brand;
 use std::sync::ledger::{Blank, Ledger};
@@ -29,54 +34,78 @@ const USAGE_LINE: &[u8] = b"usage: pdl [--keep-going] [--generate N]\n";
 
 // Runs the script that the source gives: each statement as soon as it is whole, and
 // at the end what is left.
-fn run_parts<S: Source, K: Sink, L: Ledger>(
+fn run_parts<S: Source, K: Sink, W: Watcher, L: Ledger>(
     alloc: Global,
     keep_going: bool,
     source: &mut S,
     sink: &mut K,
+    watchers: &mut Vec<Option<W>>,
     blank: Blank,
 ) -> Result<bool, Stop>
     requires name { blank.name ≡ L.name }
     requires parts { blank.parts ≡ L.parts }
     requires some { 0 < blank.parts }
-    ensures writes { (script : List ℕ) → S.left source.old ≡ Some script →
-        Writes result (run keep_going script) (K.taken sink.old) (K.taken sink.new) }
+    requires unfinished { AreOpen (slots_by W.seen watchers.old.items) }
+    requires few { length watchers.old.items ≤ slots_limit }
+    ensures leaves { (script : List ℕ) → S.left source.old ≡ Some script →
+        let slots = slots_by W.seen watchers.old.items in
+        Leaves result (run (terms_for keep_going slots) script)
+        (outlets K.taken K.is_flushed K.faults sink.old slots)
+        (outlets K.taken K.is_flushed K.faults sink.new (slots_by W.seen watchers.new.items)) }
     ensures reads { Reads keep_going (status_after result)
-        (S.left source.old) (S.left source.new) (K.taken sink.old) (K.taken sink.new) }
+        (outside S.left S.faults source.old
+        (outlets K.taken K.is_flushed K.faults sink.old (slots_by W.seen watchers.old.items)))
+        (outside S.left S.faults source.new
+        (outlets K.taken K.is_flushed K.faults sink.new (slots_by W.seen watchers.new.items))) }
     ensures at_most { TakesAtMost (script_limit + 1) (S.left source.old) (S.left source.new) }
     ensures causes { HasCauses
-        (record { source = S.faults source.old; sink = K.faults sink.old })
-        (record { source = S.faults source.new; sink = K.faults sink.new }) result }
+        (outside S.left S.faults source.old
+        (outlets K.taken K.is_flushed K.faults sink.old (slots_by W.seen watchers.old.items)))
+        (outside S.left S.faults source.new
+        (outlets K.taken K.is_flushed K.faults sink.new (slots_by W.seen watchers.new.items)))
+        result }
     ensures flushed { OnOk result (Says (K.is_flushed sink.new) true) }
     ensures tells { KeepsTelling (K.is_flushed sink.old) (K.is_flushed sink.new) }
 {
+    course_laws();
     run_laws();
     let mut runner = Runner::new(alloc, keep_going);
     let mut steps = new_steps::<L>(blank);
-    let is_cut = read_parts(&mut runner, source, sink, &mut steps)?;
-    runner.finish(is_cut, sink, &mut steps)
+    let is_cut = read_parts(&mut runner, source, sink, watchers, &mut steps)?;
+    runner.finish(is_cut, sink, watchers, &mut steps)
 }
 
 // Runs the script that the source gives, and answers the status.
-pub(crate) fn run_script<S: Source, K: Sink>(
+pub(crate) fn run_script<S: Source, K: Sink, W: Watcher>(
     alloc: Global,
     keep_going: bool,
     source: &mut S,
     sink: &mut K,
+    watchers: &mut Vec<Option<W>>,
 ) -> Status
+    requires unfinished { AreOpen (slots_by W.seen watchers.old.items) }
+    requires few { length watchers.old.items ≤ slots_limit }
     ensures model { (script : List ℕ) → S.left source.old ≡ Some script →
-        Gives result (ending_of_run (run keep_going script)) (K.taken sink.old) (K.taken sink.new) }
+        let slots = slots_by W.seen watchers.old.items in
+        Gives result (ending_of_run (run (terms_for keep_going slots) script))
+        (outlets K.taken K.is_flushed K.faults sink.old slots)
+        (outlets K.taken K.is_flushed K.faults sink.new (slots_by W.seen watchers.new.items)) }
     ensures answers { CanAnswer (Some (Command.Run keep_going)) result }
     ensures reads { Reads keep_going result
-        (S.left source.old) (S.left source.new) (K.taken sink.old) (K.taken sink.new) }
+        (outside S.left S.faults source.old
+        (outlets K.taken K.is_flushed K.faults sink.old (slots_by W.seen watchers.old.items)))
+        (outside S.left S.faults source.new
+        (outlets K.taken K.is_flushed K.faults sink.new (slots_by W.seen watchers.new.items))) }
     ensures at_most { TakesAtMost (script_limit + 1) (S.left source.old) (S.left source.new) }
     ensures reason { HasReason result
-        (record { source = S.faults source.old; sink = K.faults sink.old })
-        (record { source = S.faults source.new; sink = K.faults sink.new }) }
-    ensures flushed { IsAnswer result → Says (K.is_flushed sink.new) true }
+        (outside S.left S.faults source.old
+        (outlets K.taken K.is_flushed K.faults sink.old (slots_by W.seen watchers.old.items)))
+        (outside S.left S.faults source.new
+        (outlets K.taken K.is_flushed K.faults sink.new (slots_by W.seen watchers.new.items))) }
+    ensures flushed { CameToItsEnd result → Says (K.is_flushed sink.new) true }
     ensures tells { KeepsTelling (K.is_flushed sink.old) (K.is_flushed sink.new) }
 {
-    let ran = run_parts::<S, K, Brand>(alloc, keep_going, source, sink, Blank::new(1));
+    let ran = run_parts::<S, K, W, Brand>(alloc, keep_going, source, sink, watchers, Blank::new(1));
     status_after(ran)
 }
 
@@ -94,15 +123,26 @@ fn write_usage<K: Sink>(sink: &mut K) -> Result<(), Failed>
 
 // Answers words that are no spelling of the command.
 fn usage<K: Sink>(sink: &mut K) -> Status
-    ensures model { (script : List ℕ) →
-        Gives result (ending None script) (K.taken sink.old) (K.taken sink.new) }
+    ensures model { (script : List ℕ) (slots : Slots) →
+        Gives result (ending None (present_in slots) script)
+        (outlets K.taken K.is_flushed K.faults sink.old slots)
+        (outlets K.taken K.is_flushed K.faults sink.new slots) }
     ensures answers { CanAnswer None result }
-    ensures reason { (faults : ℕ) → HasReason result
-        (record { source = faults; sink = K.faults sink.old })
-        (record { source = faults; sink = K.faults sink.new }) }
-    ensures flushed { IsAnswer result → Says (K.is_flushed sink.new) true }
+    ensures reason { (left : Option (List ℕ)) (faults : ℕ) (slots : Slots) → HasReason result
+        (record {
+          left = left;
+          faults = faults;
+          out = outlets K.taken K.is_flushed K.faults sink.old slots;
+        })
+        (record {
+          left = left;
+          faults = faults;
+          out = outlets K.taken K.is_flushed K.faults sink.new slots;
+        }) }
+    ensures flushed { CameToItsEnd result → Says (K.is_flushed sink.new) true }
     ensures tells { KeepsTelling (K.is_flushed sink.old) (K.is_flushed sink.new) }
 {
+    slot_laws();
     match write_usage(sink) {
         Ok(()) => Status::Usage,
         Err(_) => Status::SinkFault,
@@ -124,42 +164,65 @@ fn usage<K: Sink>(sink: &mut K) -> Status
 /// line of its fault. The first fault ends the run, unless it is to keep going, and no more is
 /// read then; that the script is too long always ends it. At the end the sink is flushed.
 ///
-/// What is written and the status are those of the ending that the words ask for; where the call
-/// stops short, a prefix is written (`model`), and where the source fails, just what the statements
-/// print that were whole by then (`reads`). A fault of the source or the sink is answered only
-/// where its count rose in this call (`reason`). After one, or where memory is wanting, the call
-/// ends at once. It takes no memory where the words are no spelling.
+/// The statements `watch` and `unwatch` attach the watchers of these slots to arrays, and let them
+/// go. After each statement those that are attached are told what it changed. Once the sink is flushed
+/// those that are attached then are finished, slot by slot; they stay in their slots. With
+/// `--generate`, and where the words are no spelling, no watcher is touched (`unwatched`). No watcher
+/// may be finished before, and there are at most 1,024 slots.
+///
+/// What is written and told and the status are those of the ending that the words ask for; where the
+/// call stops short, a prefix is written and a front is told (`model`), and where the source fails,
+/// just what the statements print and tell that were whole by then (`reads`). A fault of the source,
+/// the sink or a watcher is answered only where its count rose in this call (`reason`). After one, or
+/// where memory is wanting, the call ends at once: no watcher is called any more. It takes no memory
+/// where the words are no spelling.
 pub fn run_shell<S: Source, K: Sink>(
     alloc: Global,
     words: &[String],
     source: &mut S,
     sink: &mut K,
+    watchers: &mut Vec<Option<Box<dyn Watcher>>>,
 ) -> Status
+    requires unfinished { AreOpen (slots_by (λ b. seen b) watchers.old.items) }
+    requires few { length watchers.old.items ≤ slots_limit }
     ensures model { (script : List ℕ) →
         (reads_source (command_of (map string_bytes words.now)) ≡ true →
         S.left source.old ≡ Some script) →
-        Gives result (ending (command_of (map string_bytes words.now)) script)
-        (K.taken sink.old) (K.taken sink.new) }
+        let slots = slots_by (λ b. seen b) watchers.old.items in
+        Gives result (ending (command_of (map string_bytes words.now)) (present_in slots) script)
+        (outlets K.taken K.is_flushed K.faults sink.old slots)
+        (outlets K.taken K.is_flushed K.faults sink.new
+        (slots_by (λ b. seen b) watchers.new.items)) }
     ensures answers { CanAnswer (command_of (map string_bytes words.now)) result }
     ensures unread { reads_source (command_of (map string_bytes words.now)) ≡ false →
         source.new ≡ source.old }
+    ensures unwatched { reads_source (command_of (map string_bytes words.now)) ≡ false →
+        watchers.new ≡ watchers.old }
     ensures reads { (keep : Bool) →
-        command_of (map string_bytes words.now) ≡ Some (Command.Run keep) →
-        Reads keep result
-        (S.left source.old) (S.left source.new) (K.taken sink.old) (K.taken sink.new) }
+        command_of (map string_bytes words.now) ≡ Some (Command.Run keep) → Reads keep result
+        (outside S.left S.faults source.old (outlets K.taken K.is_flushed K.faults sink.old
+        (slots_by (λ b. seen b) watchers.old.items)))
+        (outside S.left S.faults source.new (outlets K.taken K.is_flushed K.faults sink.new
+        (slots_by (λ b. seen b) watchers.new.items))) }
     ensures at_most { TakesAtMost (script_limit + 1) (S.left source.old) (S.left source.new) }
     ensures reason { HasReason result
-        (record { source = S.faults source.old; sink = K.faults sink.old })
-        (record { source = S.faults source.new; sink = K.faults sink.new }) }
+        (outside S.left S.faults source.old (outlets K.taken K.is_flushed K.faults sink.old
+        (slots_by (λ b. seen b) watchers.old.items)))
+        (outside S.left S.faults source.new (outlets K.taken K.is_flushed K.faults sink.new
+        (slots_by (λ b. seen b) watchers.new.items))) }
     ensures complete { IsUndisturbed
-        (record { source = S.faults source.old; sink = K.faults sink.old })
-        (record { source = S.faults source.new; sink = K.faults sink.new }) →
-        result ≢ Status.NoMemory → IsAnswer result }
-    ensures flushed { IsAnswer result → Says (K.is_flushed sink.new) true }
+        (outside S.left S.faults source.old (outlets K.taken K.is_flushed K.faults sink.old
+        (slots_by (λ b. seen b) watchers.old.items)))
+        (outside S.left S.faults source.new (outlets K.taken K.is_flushed K.faults sink.new
+        (slots_by (λ b. seen b) watchers.new.items))) →
+        result ≢ Status.NoMemory → CameToItsEnd result }
+    ensures flushed { CameToItsEnd result → Says (K.is_flushed sink.new) true }
     ensures tells { KeepsTelling (K.is_flushed sink.old) (K.is_flushed sink.new) }
 {
     match read_words(words) {
-        Some(Command::Run { keep_going }) => run_script(alloc, keep_going, source, sink),
+        Some(Command::Run { keep_going }) => {
+            run_script(alloc, keep_going, source, sink, watchers)
+        }
         Some(Command::Generate { keep_going, rounds }) => {
             summarize(alloc, keep_going, rounds, sink)
         }

@@ -1,14 +1,15 @@
 //! Carries a run on over bytes of the script.
+use crate::laws::course_laws;
 use crate::mark::Mark;
 use crate::output::{flush, write_text};
 use crate::statement::{Rooms, push_fault_line, run_mark};
 use crate::stop::Stop;
 use pdl_buf::Steps;
-use pdl_io::Sink;
+use pdl_io::{Sink, count_one};
 use pdl_lex::StatementCutter;
-use pdl_machine::run_laws;
 use pdl_session::{Session, StepFault};
-use std::alloc::{AllocError, Global};
+use pdl_watch::Watcher;
+use std::alloc::Global;
 use std::sync::ledger::Ledger;
 
 // A run on its way.
@@ -24,18 +25,20 @@ pub(crate) struct Runner {
     faulted: bool,
     // Whether a fault has ended the run.
     ended: bool,
+    // How many statements there were, a count that stays at 2^64 - 1.
+    count: u64,
 }
 
 impl Runner {
-    ghost use Rattle.std.specs.Prelude.{◌≡◌, ℕ, ◌+◌, ◌<◌, ◌≤◌, ◌^◌, ◌++◌, ◌∷◌, [], List, Bool, true, false, length, drop, map, option_to_list, Err, OnOk, OnErr, IfOk};
-    ghost use Rattle.std.specs.Io.KnownBytes.{Appends};
-    ghost use Rattle.pdl_io.specs.Told.{Says, KeepsTelling, AppendsPrefix};
+    ghost use Rattle.std.specs.Prelude.{◌≡◌, ℕ, ◌+◌, ◌<◌, ◌≤◌, ◌^◌, [], true, false, length, drop, map, option_to_list, OnOk, OnErr, IfOk, IfErr};
+    ghost use Rattle.pdl_io.specs.Told.{Says, KeepsTelling};
     ghost use Rattle.pdl_lex.specs.Pieces.{settled_from};
-    ghost use Rattle.pdl_machine.specs.Run.{after_mark};
-    ghost use Rattle.pdl_shell.specs.Stops.{HasSinkCause};
+    ghost use Rattle.pdl_watch.specs.Slots.{slots_by};
+    ghost use Rattle.pdl_session.specs.Watching.{AreServed};
+    ghost use Rattle.pdl_shell.specs.Outside.{outlets};
     ghost use Rattle.pdl_shell.specs.Marks.{mark_of};
-    ghost use Rattle.pdl_shell.specs.Pace.{behind, marks_left, mark_text};
-    ghost use Rattle.pdl_shell.specs.Course.{progress, IsFresh, Carries, StopsShort, Finishes, FinishesShort};
+    ghost use Rattle.pdl_shell.specs.Pace.{behind, marks_left};
+    ghost use Rattle.pdl_shell.specs.Course.{IsFresh, Answers, AnswersShort, Runs, RunsShort, Carries, StopsShort, Finishes, FinishesShort, Ends};
 
     // A run before its first statement.
     pub(crate) fn new(alloc: Global, keep_going: bool) -> Runner
@@ -52,6 +55,7 @@ impl Runner {
             keep_going,
             faulted: false,
             ended: false,
+            count: 0,
         }
     }
 
@@ -63,21 +67,35 @@ impl Runner {
     }
 
     // Runs a statement, and leaves in `text` what it prints, or the line of its fault.
-    fn answer<L: Ledger>(&mut self, mark: &Mark, steps: &mut Steps<L>) -> Result<(), AllocError>
+    fn answer<W: Watcher, L: Ledger>(
+        &mut self,
+        mark: &Mark,
+        watchers: &mut Vec<Option<W>>,
+        steps: &mut Steps<L>,
+    ) -> Result<(), Stop>
+        requires running { self.old.ended ≡ false }
+        requires served { AreServed self.old.session.state.watches
+            (slots_by W.seen watchers.old.items) }
         ensures cutter { self.new.cutter ≡ self.old.cutter }
-        ensures step { OnOk result ((printed : List ℕ) →
-            after_mark self.old.keep_going (progress self.old printed) (mark_of mark.now)
-            ≡ progress self.new (printed ++ mark_text self.old.session.state (mark_of mark.now))) }
-        ensures keep { self.new.keep_going ≡ self.old.keep_going }
-        ensures text { OnOk result
-            (self.new.text.items ≡ mark_text self.old.session.state (mark_of mark.now)) }
+        ensures ran { OnOk result (Answers (mark_of mark.now)
+            self.old (slots_by W.seen watchers.old.items)
+            self.new (slots_by W.seen watchers.new.items)) }
+        ensures short { IfErr result (λ stop. AnswersShort (mark_of mark.now)
+            self.old (slots_by W.seen watchers.old.items)
+            stop (slots_by W.seen watchers.new.items)) }
+        ensures served { OnOk result (AreServed self.new.session.state.watches
+            (slots_by W.seen watchers.new.items)) }
     {
+        course_laws();
+        count_one(&mut self.count);
         let ran = run_mark(
             self.alloc,
             &mut self.session,
             mark,
+            self.count,
             &mut self.rooms,
             &mut self.text,
+            watchers,
             steps,
         );
         match ran {
@@ -88,30 +106,37 @@ impl Runner {
                 self.ended = mark.fault_ends(self.keep_going);
                 Ok(())
             }
-            Err(StepFault::NoMemory) => Err(AllocError),
+            Err(StepFault::Watcher) => Err(Stop::Watcher),
+            Err(StepFault::NoMemory) => Err(Stop::NoMemory),
         }
     }
 
     // Runs a statement, and writes what it prints, or the line of its fault.
-    fn run<K: Sink, L: Ledger>(
+    fn run<K: Sink, W: Watcher, L: Ledger>(
         &mut self,
         mark: &Mark,
         sink: &mut K,
+        watchers: &mut Vec<Option<W>>,
         steps: &mut Steps<L>,
     ) -> Result<(), Stop>
+        requires running { self.old.ended ≡ false }
+        requires served { AreServed self.old.session.state.watches
+            (slots_by W.seen watchers.old.items) }
         ensures cutter { self.new.cutter ≡ self.old.cutter }
-        ensures keep { self.new.keep_going ≡ self.old.keep_going }
-        ensures step { OnOk result ((printed : List ℕ) →
-            after_mark self.old.keep_going (progress self.old printed) (mark_of mark.now)
-            ≡ progress self.new (printed ++ mark_text self.old.session.state (mark_of mark.now))) }
-        ensures whole { OnOk result (Appends (K.taken sink.old) (K.taken sink.new)
-            (mark_text self.old.session.state (mark_of mark.now))) }
-        ensures prefix { OnErr result (AppendsPrefix (K.taken sink.old) (K.taken sink.new)
-            (mark_text self.old.session.state (mark_of mark.now))) }
+        ensures ran { OnOk result (Runs (mark_of mark.now) self.old
+            (outlets K.taken K.is_flushed K.faults sink.old (slots_by W.seen watchers.old.items))
+            self.new
+            (outlets K.taken K.is_flushed K.faults sink.new (slots_by W.seen watchers.new.items))) }
+        ensures short { IfErr result (λ stop. RunsShort (mark_of mark.now) self.old
+            (outlets K.taken K.is_flushed K.faults sink.old (slots_by W.seen watchers.old.items))
+            stop
+            (outlets K.taken K.is_flushed K.faults sink.new (slots_by W.seen watchers.new.items))) }
+        ensures served { OnOk result (AreServed self.new.session.state.watches
+            (slots_by W.seen watchers.new.items)) }
         ensures tells { KeepsTelling (K.is_flushed sink.old) (K.is_flushed sink.new) }
-        ensures cause { HasSinkCause (K.faults sink.old) (K.faults sink.new) result }
     {
-        self.answer(mark, steps)?;
+        course_laws();
+        self.answer(mark, watchers, steps)?;
         write_text(sink, &self.text)
     }
 
@@ -126,34 +151,42 @@ impl Runner {
 
     // Feeds bytes to the cutter once, runs the piece that they complete, if
     // any, and answers how many bytes were taken.
-    fn round<K: Sink, L: Ledger>(
+    fn round<K: Sink, W: Watcher, L: Ledger>(
         &mut self,
         bytes: &[u8],
         sink: &mut K,
+        watchers: &mut Vec<Option<W>>,
         steps: &mut Steps<L>,
     ) -> Result<usize, Stop>
         requires running { self.old.ended ≡ false }
         requires room { self.old.cutter.taken + length bytes.now < 2 ^ 63 }
         requires some { 0 < length bytes.now }
+        requires served { AreServed self.old.session.state.watches
+            (slots_by W.seen watchers.old.items) }
         ensures used { IfOk result (λ used. (0 < used) × (used ≤ length bytes.now)) }
-        ensures carries { IfOk result (λ used. Carries bytes.now self.old (K.taken sink.old)
-            (drop used bytes.now) self.new (K.taken sink.new)) }
-        ensures stops { OnErr result
-            (StopsShort bytes.now self.old (K.taken sink.old) (K.taken sink.new)) }
+        ensures carries { IfOk result (λ used. Carries bytes.now self.old
+            (outlets K.taken K.is_flushed K.faults sink.old (slots_by W.seen watchers.old.items))
+            (drop used bytes.now) self.new
+            (outlets K.taken K.is_flushed K.faults sink.new (slots_by W.seen watchers.new.items))) }
+        ensures stops { IfErr result (λ stop. StopsShort bytes.now self.old
+            (outlets K.taken K.is_flushed K.faults sink.old (slots_by W.seen watchers.old.items))
+            stop
+            (outlets K.taken K.is_flushed K.faults sink.new (slots_by W.seen watchers.new.items))) }
         ensures works { OnOk result (self.new.cutter.failed ≡ false) }
         ensures none_left { OnOk result (settled_from self.new.cutter [] ≡ []) }
         ensures count { IfOk result (λ used. self.new.cutter.taken ≡ self.old.cutter.taken + used) }
+        ensures served { OnOk result (AreServed self.new.session.state.watches
+            (slots_by W.seen watchers.new.items)) }
         ensures tells { KeepsTelling (K.is_flushed sink.old) (K.is_flushed sink.new) }
-        ensures cause { HasSinkCause (K.faults sink.old) (K.faults sink.new) result }
     {
-        run_laws();
+        course_laws();
         let fed = self.cutter.feed(bytes)?;
         let used = fed.used;
         match fed.cut {
             None => Ok(used),
             Some(piece) => {
                 let mark = Mark::Statement(piece);
-                self.run(&mark, sink, steps)?;
+                self.run(&mark, sink, watchers, steps)?;
                 self.keep_room(mark);
                 Ok(used)
             }
@@ -162,31 +195,39 @@ impl Runner {
 
     // Takes bytes of the script, and runs each statement that they complete, until a
     // fault ends the run. No statement that is whole is left then.
-    pub(crate) fn take<K: Sink, L: Ledger>(
+    pub(crate) fn take<K: Sink, W: Watcher, L: Ledger>(
         &mut self,
         bytes: &[u8],
         sink: &mut K,
+        watchers: &mut Vec<Option<W>>,
         steps: &mut Steps<L>,
     ) -> Result<(), Stop>
         requires works { self.old.cutter.failed ≡ false }
         requires none_left { settled_from self.old.cutter [] ≡ [] }
         requires room { self.old.cutter.taken + length bytes.now < 2 ^ 63 }
-        ensures carries { OnOk result
-            (Carries bytes.now self.old (K.taken sink.old) [] self.new (K.taken sink.new)) }
-        ensures stops { OnErr result
-            (StopsShort bytes.now self.old (K.taken sink.old) (K.taken sink.new)) }
+        requires served { AreServed self.old.session.state.watches
+            (slots_by W.seen watchers.old.items) }
+        ensures carries { OnOk result (Carries bytes.now self.old
+            (outlets K.taken K.is_flushed K.faults sink.old (slots_by W.seen watchers.old.items))
+            [] self.new
+            (outlets K.taken K.is_flushed K.faults sink.new (slots_by W.seen watchers.new.items))) }
+        ensures stops { IfErr result (λ stop. StopsShort bytes.now self.old
+            (outlets K.taken K.is_flushed K.faults sink.old (slots_by W.seen watchers.old.items))
+            stop
+            (outlets K.taken K.is_flushed K.faults sink.new (slots_by W.seen watchers.new.items))) }
         ensures works { OnOk result (self.new.cutter.failed ≡ false) }
         ensures none_left { OnOk result (settled_from self.new.cutter [] ≡ []) }
         ensures count { OnOk result
             (self.new.cutter.taken ≤ self.old.cutter.taken + length bytes.now) }
+        ensures served { OnOk result (AreServed self.new.session.state.watches
+            (slots_by W.seen watchers.new.items)) }
         ensures tells { KeepsTelling (K.is_flushed sink.old) (K.is_flushed sink.new) }
-        ensures cause { HasSinkCause (K.faults sink.old) (K.faults sink.new) result }
     {
+        course_laws();
         let mut used = 0;
         'taking: while used < bytes.len() && !self.ended {
-            used += self.round(&bytes[used..], sink, steps)?;
+            used += self.round(&bytes[used..], sink, watchers, steps)?;
         }
-        run_laws();
         Ok(())
     }
 
@@ -210,48 +251,61 @@ impl Runner {
     }
 
     // Runs what is left where no bytes are.
-    fn run_last<K: Sink, L: Ledger>(
+    fn run_last<K: Sink, W: Watcher, L: Ledger>(
         &mut self,
         is_cut: bool,
         sink: &mut K,
+        watchers: &mut Vec<Option<W>>,
         steps: &mut Steps<L>,
     ) -> Result<(), Stop>
-        requires { self.old.cutter.failed ≡ false }
-        ensures finishes { OnOk result
-            (Finishes is_cut self.old (K.taken sink.old) self.new.faulted (K.taken sink.new)) }
-        ensures stops { OnErr result
-            (FinishesShort is_cut self.old (K.taken sink.old) (K.taken sink.new)) }
+        requires works { self.old.cutter.failed ≡ false }
+        requires served { AreServed self.old.session.state.watches
+            (slots_by W.seen watchers.old.items) }
+        ensures finishes { OnOk result (Finishes is_cut self.old
+            (outlets K.taken K.is_flushed K.faults sink.old (slots_by W.seen watchers.old.items))
+            self.new
+            (outlets K.taken K.is_flushed K.faults sink.new (slots_by W.seen watchers.new.items))) }
+        ensures stops { IfErr result (λ stop. FinishesShort is_cut self.old
+            (outlets K.taken K.is_flushed K.faults sink.old (slots_by W.seen watchers.old.items))
+            stop
+            (outlets K.taken K.is_flushed K.faults sink.new (slots_by W.seen watchers.new.items))) }
+        ensures served { OnOk result (AreServed self.new.session.state.watches
+            (slots_by W.seen watchers.new.items)) }
         ensures tells { KeepsTelling (K.is_flushed sink.old) (K.is_flushed sink.new) }
-        ensures cause { HasSinkCause (K.faults sink.old) (K.faults sink.new) result }
     {
-        run_laws();
+        course_laws();
         if self.ended {
             return Ok(());
         }
         match self.last(is_cut) {
             None => Ok(()),
-            Some(mark) => self.run(&mark, sink, steps),
+            Some(mark) => self.run(&mark, sink, watchers, steps),
         }
     }
 
-    // Ends the run: runs what is left, flushes the sink, and answers whether a statement faulted.
-    pub(crate) fn finish<K: Sink, L: Ledger>(
+    // Ends the run: runs what is left, flushes the sink, finishes the watchers that are attached, and
+    // answers whether a statement faulted.
+    pub(crate) fn finish<K: Sink, W: Watcher, L: Ledger>(
         &mut self,
         is_cut: bool,
         sink: &mut K,
+        watchers: &mut Vec<Option<W>>,
         steps: &mut Steps<L>,
     ) -> Result<bool, Stop>
-        requires { self.old.cutter.failed ≡ false }
-        ensures finishes { IfOk result
-            (λ faulted. Finishes is_cut self.old (K.taken sink.old) faulted (K.taken sink.new)) }
-        ensures stops { OnErr result
-            (FinishesShort is_cut self.old (K.taken sink.old) (K.taken sink.new)) }
+        requires works { self.old.cutter.failed ≡ false }
+        requires served { AreServed self.old.session.state.watches
+            (slots_by W.seen watchers.old.items) }
+        ensures ends { Ends is_cut self.old
+            (outlets K.taken K.is_flushed K.faults sink.old (slots_by W.seen watchers.old.items))
+            result
+            (outlets K.taken K.is_flushed K.faults sink.new (slots_by W.seen watchers.new.items)) }
         ensures flushed { OnOk result (Says (K.is_flushed sink.new) true) }
         ensures tells { KeepsTelling (K.is_flushed sink.old) (K.is_flushed sink.new) }
-        ensures cause { HasSinkCause (K.faults sink.old) (K.faults sink.new) result }
     {
-        self.run_last(is_cut, sink, steps)?;
+        course_laws();
+        self.run_last(is_cut, sink, watchers, steps)?;
         flush(sink)?;
+        self.session.close_over(watchers)?;
         Ok(self.faulted)
     }
 }

@@ -1,12 +1,14 @@
 //! One statement of a script: what it does to the session and prints, or why it wasn't run.
 ghost use Rattle.std.specs.Prelude.{◌≡◌, ◌≤◌, ◌++◌, [], length, Ok, IfOk, IfErr, OnOk, OnErr};
 ghost use Rattle.pdl_lex.specs.Limits.{statement_limit};
+ghost use Rattle.pdl_watch.specs.Slots.{slots_by, present_in};
 ghost use Rattle.pdl_syntax.specs.StatementTree.{statement_of};
 ghost use Rattle.pdl_syntax.specs.WellMade.{IsWellMade};
 ghost use Rattle.pdl_machine.specs.Run.{reads, step_read, mark_step, fault_line};
+ghost use Rattle.pdl_session.specs.Watching.{AreServed};
 ghost use Rattle.pdl_shell.specs.Marks.{mark_of};
-ghost use Rattle.pdl_scope.specs.Answers.{IsFault};
-ghost use Rattle.pdl_shell.specs.Unread.{of_lexing, of_parsing};
+ghost use Rattle.pdl_shell.specs.Ran.{Leaves, AreServedAfter};
+ghost use Rattle.pdl_shell.specs.Unread.{IsFault, of_lexing, of_parsing};
 
 use crate::mark::Mark;
 use pdl_buf::Steps;
@@ -15,6 +17,7 @@ use pdl_lexemes::Lexeme;
 use pdl_machine::{Fault, fault_text, reads_law};
 use pdl_session::{Session, StepFault};
 use pdl_syntax::{ParseFault, Statement, parse_within};
+use pdl_watch::Watcher;
 use std::alloc::{AllocError, Global};
 use std::sync::ledger::Ledger;
 
@@ -74,60 +77,73 @@ fn of_parsing(fault: ParseFault) -> StepFault
     }
 }
 
-// Runs the statement of a text, and puts what it prints into `out`.
-fn run_text<L: Ledger>(
+// Runs the statement of a text, which has this number, and puts what it prints into `out`.
+fn run_text<W: Watcher, L: Ledger>(
     alloc: Global,
     session: &mut Session,
     text: &[u8],
+    number: u64,
     rooms: &mut Rooms,
     out: &mut Vec<u8>,
+    watchers: &mut Vec<Option<W>>,
     steps: &mut Steps<L>,
 ) -> Result<(), StepFault>
     requires within { length text.now ≤ statement_limit }
     requires empty { out.old.items ≡ [] }
-    ensures ok { OnOk result
-        (step_read session.old.state (reads text.now) ≡ Ok (session.new.state, out.new.items)) }
-    ensures fault { IfErr result (IsFault (step_read session.old.state (reads text.now))) }
-    ensures kept { OnErr result (session.new.state ≡ session.old.state) }
-    ensures unprinted { OnErr result (out.new.items ≡ []) }
+    requires served { AreServed session.old.state.watches (slots_by W.seen watchers.old.items) }
+    ensures ran { let slots = slots_by W.seen watchers.old.items in
+        let wanted = step_read number (present_in slots) session.old.state (reads text.now) in
+        Leaves wanted session.old.state slots result session.new.state out.new.items
+        (slots_by W.seen watchers.new.items) }
+    ensures served { AreServedAfter result session.new.state.watches
+        (slots_by W.seen watchers.new.items) }
 {
     let statement = read(alloc, text, rooms)?;
-    run_statement(session, &statement, out, steps)
+    run_statement(session, &statement, number, out, watchers, steps)
 }
 
-// Runs a statement, and puts what it prints into `out`.
-fn run_statement<L: Ledger>(
+// Runs a statement, which has this number, and puts what it prints into `out`.
+fn run_statement<W: Watcher, L: Ledger>(
     session: &mut Session,
     statement: &Statement,
+    number: u64,
     out: &mut Vec<u8>,
+    watchers: &mut Vec<Option<W>>,
     steps: &mut Steps<L>,
 ) -> Result<(), StepFault>
     requires made { IsWellMade (statement_of statement.now) }
     requires empty { out.old.items ≡ [] }
-    ensures ok { OnOk result (step_read session.old.state (Ok (statement_of statement.now))
-        ≡ Ok (session.new.state, out.new.items)) }
-    ensures fault { IfErr result
-        (IsFault (step_read session.old.state (Ok (statement_of statement.now)))) }
-    ensures kept { OnErr result (session.new.state ≡ session.old.state) }
-    ensures unprinted { OnErr result (out.new.items ≡ []) }
+    requires served { AreServed session.old.state.watches (slots_by W.seen watchers.old.items) }
+    ensures ran { let slots = slots_by W.seen watchers.old.items in
+        let wanted = step_read number (present_in slots) session.old.state
+        (Ok (statement_of statement.now)) in
+        Leaves wanted session.old.state slots result session.new.state out.new.items
+        (slots_by W.seen watchers.new.items) }
+    ensures served { AreServedAfter result session.new.state.watches
+        (slots_by W.seen watchers.new.items) }
 {
-    session.step(statement, out, steps)
+    session.step_over(statement, number, out, watchers, steps)
 }
 
-// Runs a statement of the script, and leaves in `out` what it prints: nothing where it wasn't run.
-pub(crate) fn run_mark<L: Ledger>(
+// Runs a statement of the script, which has this number, and leaves in `out` what it prints: nothing
+// where it wasn't run.
+pub(crate) fn run_mark<W: Watcher, L: Ledger>(
     alloc: Global,
     session: &mut Session,
     mark: &Mark,
+    number: u64,
     rooms: &mut Rooms,
     out: &mut Vec<u8>,
+    watchers: &mut Vec<Option<W>>,
     steps: &mut Steps<L>,
 ) -> Result<(), StepFault>
-    ensures ok { OnOk result
-        (mark_step session.old.state (mark_of mark.now) ≡ Ok (session.new.state, out.new.items)) }
-    ensures fault { IfErr result (IsFault (mark_step session.old.state (mark_of mark.now))) }
-    ensures kept { OnErr result (session.new.state ≡ session.old.state) }
-    ensures unprinted { OnErr result (out.new.items ≡ []) }
+    requires served { AreServed session.old.state.watches (slots_by W.seen watchers.old.items) }
+    ensures ran { let slots = slots_by W.seen watchers.old.items in
+        let wanted = mark_step number (present_in slots) session.old.state (mark_of mark.now) in
+        Leaves wanted session.old.state slots result session.new.state out.new.items
+        (slots_by W.seen watchers.new.items) }
+    ensures served { AreServedAfter result session.new.state.watches
+        (slots_by W.seen watchers.new.items) }
 {
     out.clear();
     match mark {
@@ -135,8 +151,10 @@ pub(crate) fn run_mark<L: Ledger>(
             alloc,
             session,
             cut.text.bytes(),
+            number,
             rooms,
             out,
+            watchers,
             steps,
         ),
         Mark::Statement(Piece::TooLong { .. }) => Err(StepFault::Script(Fault::StatementTooLong)),

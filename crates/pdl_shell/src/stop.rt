@@ -1,9 +1,10 @@
 //! Why a run stops short.
 ghost use Rattle.std.specs.Prelude.{◌≡◌};
-ghost use Rattle.pdl_shell.specs.declared.stop.Stop.TheVariants.{NoMemory};
+ghost use Rattle.pdl_shell.specs.declared.stop.Stop.TheVariants.{Watcher, NoMemory};
 ghost use Rattle.pdl_shell.specs.Answers.{status_after};
 
 use crate::status::Status;
+use pdl_session::WatcherFailed;
 use std::alloc::AllocError;
 
 // Why a run stops short.
@@ -11,6 +12,7 @@ use std::alloc::AllocError;
 pub(crate) enum Stop {
     Source,
     Sink,
+    Watcher,
     NoMemory,
 }
 
@@ -19,6 +21,14 @@ impl From<AllocError> for Stop {
 
     fn from(_error: AllocError) -> Stop {
         Stop::NoMemory
+    }
+}
+
+impl From<WatcherFailed> for Stop {
+    ghost from_gives = { λ _ e. e ≡ Watcher };
+
+    fn from(_error: WatcherFailed) -> Stop {
+        Stop::Watcher
     }
 }
 
@@ -31,6 +41,7 @@ pub(crate) fn status_after(ran: Result<bool, Stop>) -> Status
         Ok(true) => Status::ScriptFault,
         Err(Stop::Source) => Status::SourceFault,
         Err(Stop::Sink) => Status::SinkFault,
+        Err(Stop::Watcher) => Status::WatcherFault,
         Err(Stop::NoMemory) => Status::NoMemory,
     }
 }

@@ -1,5 +1,5 @@
 //! The run of the generated script, of which one line is written.
-ghost use Rattle.std.specs.Prelude.{◌≡◌, ℕ, ◌==◌, ◌+◌, ◌≤◌, List, length, false, true, Some, IfOk, OnOk, OnErr, if◌then◌else◌};
+ghost use Rattle.std.specs.Prelude.{◌≡◌, ℕ, ◌==◌, Option, ◌+◌, ◌≤◌, List, length, false, true, Some, IfOk, OnOk, OnErr, if◌then◌else◌};
 ghost use Rattle.std.specs.Io.KnownBytes.{Appends};
 ghost use Rattle.std.specs.String.{string_bytes};
 ghost use Rattle.pdl_io.specs.Told.{Says, KeepsTelling, AppendsPrefix};
@@ -7,9 +7,11 @@ ghost use Rattle.pdl_lex.specs.Pieces.{pieces};
 ghost use Rattle.pdl_machine.specs.Run.{run};
 ghost use Rattle.pdl_shell.specs.declared.words.Command.TheVariants.{Generate};
 ghost use Rattle.pdl_shell.specs.Generated.{generated_script};
-ghost use Rattle.pdl_shell.specs.Summary.{summary};
+ghost use Rattle.pdl_watch.specs.Slots.{Slots, present_in};
+ghost use Rattle.pdl_shell.specs.Outside.{outlets};
+ghost use Rattle.pdl_shell.specs.Summary.{unwatched, summary};
 ghost use Rattle.pdl_shell.specs.Stops.{HasSinkCause};
-ghost use Rattle.pdl_shell.specs.Answers.{IsAnswer, ending, Gives, CanAnswer, HasReason};
+ghost use Rattle.pdl_shell.specs.Answers.{CameToItsEnd, ending, Gives, CanAnswer, HasReason};
 
 use crate::generated::generated_script;
 use crate::output::{flush, write_text};
@@ -18,6 +20,7 @@ use crate::status::Status;
 use crate::stop::{Stop, status_after};
 use pdl_io::{CountSink, MemSource, Sink};
 use pdl_lex::joining_laws;
+use pdl_watch::{Recorder, slot_laws};
 use std::alloc::{AllocError, Global};
 
 // The most bytes of the generated script that a read gives: as many as are asked for.
@@ -36,15 +39,16 @@ fn statement_count(rounds: u16) -> u64
 }
 
 // Runs the generated script of so many rounds, and counts what it prints. A text
-// that is too long to be counted is answered as want of memory.
+// that is too long to be counted is answered as want of memory. Nobody watches.
 fn count_printed(alloc: Global, keep_going: bool, rounds: u16) -> Result<CountSink, AllocError>
-    ensures { let ran = run keep_going (generated_script rounds) in
+    ensures { let ran = run (unwatched keep_going) (generated_script rounds) in
         IfOk result (λ counted. counted.bytes ≡ ran.printed) }
 {
     let script = generated_script(alloc, rounds)?;
     let mut source = MemSource::new(script, MOST, Vec::new(alloc));
     let mut printed = CountSink::new();
-    match run_script(alloc, keep_going, &mut source, &mut printed) {
+    let mut nobody: Vec<Option<Recorder>> = Vec::new(alloc);
+    match run_script(alloc, keep_going, &mut source, &mut printed, &mut nobody) {
         Status::Done => Ok(printed),
         Status::ScriptFault => Ok(printed),
         _ => Err(AllocError),
@@ -90,16 +94,26 @@ pub(crate) fn summarize<K: Sink>(
     rounds: u16,
     sink: &mut K,
 ) -> Status
-    ensures model { (script : List ℕ) →
-        let wanted = ending (Some (Generate keep_going rounds)) script in
-        Gives result wanted (K.taken sink.old) (K.taken sink.new) }
+    ensures model { (script : List ℕ) (slots : Slots) →
+        let wanted = ending (Some (Generate keep_going rounds)) (present_in slots) script in
+        Gives result wanted (outlets K.taken K.is_flushed K.faults sink.old slots)
+        (outlets K.taken K.is_flushed K.faults sink.new slots) }
     ensures answers { CanAnswer (Some (Generate keep_going rounds)) result }
-    ensures reason { (faults : ℕ) → HasReason result
-        (record { source = faults; sink = K.faults sink.old })
-        (record { source = faults; sink = K.faults sink.new }) }
-    ensures flushed { IsAnswer result → Says (K.is_flushed sink.new) true }
+    ensures reason { (left : Option (List ℕ)) (faults : ℕ) (slots : Slots) → HasReason result
+        (record {
+          left = left;
+          faults = faults;
+          out = outlets K.taken K.is_flushed K.faults sink.old slots;
+        })
+        (record {
+          left = left;
+          faults = faults;
+          out = outlets K.taken K.is_flushed K.faults sink.new slots;
+        }) }
+    ensures flushed { CameToItsEnd result → Says (K.is_flushed sink.new) true }
     ensures tells { KeepsTelling (K.is_flushed sink.old) (K.is_flushed sink.new) }
 {
+    slot_laws();
     match write_summary(alloc, keep_going, rounds, sink) {
         Ok(()) => Status::Done,
         Err(stop) => status_after(Err(stop)),

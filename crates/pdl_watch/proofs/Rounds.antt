@@ -6,8 +6,8 @@ use Rattle.std.proofs.lemmas.Bool.{cases_lt}
 use Rattle.std.specs.Global.{Global}
 use Rattle.pdl_watch.specs.declared.notice.Notice.{Notice}
 use Rattle.pdl_watch.specs.Watched.{Watched, told_more}
-use Rattle.pdl_watch.specs.Slots.{Slots, slots_by, lists_of, changed, ended_where, slot, SlotToldPart, SlotRose, SlotMissed, ToldShort, EndedShort, EndsShort, IsOpen, AreOpen}
-use Rattle.pdl_watch.proofs.SlotLemmas.{next_slot, one_more, enough, told_short, open_all}
+use Rattle.pdl_watch.specs.Slots.{Slots, slots_by, lists_of, changed, ended_where, slot, StopsAt, StopsInTurn, SlotMissed, EndedShort, EndsShort, IsOpen, AreOpen}
+use Rattle.pdl_watch.proofs.SlotLemmas.{next_slot, one_more, enough, open_all}
 
 -- so far the first k slots were changed
 pub record SoFar {W A : Type 0} (see : W → Watched) (f : A → Watched → Watched) (start items : List (Option W)) (xs : List A) (k : ℕ) : Type 0 where
@@ -69,16 +69,17 @@ now_set : {W A : Type 0} → (see : W → Watched) (f : A → Watched → Watche
 now_set see f start items xs k new so_far =
     map-set (option_map see) items k new ∙ ap (λ (ss : Slots). set ss k (option_map see new)) so_far.now
 
-pub next_told_short : {W : Type 0} → (see : W → Watched) (start items : List (Option W)) (all : List (List Notice)) (k : ℕ)
+pub next_stops : {W : Type 0} → (see : W → Watched) (start items : List (Option W)) (all : List (List Notice)) (k : ℕ)
     (w new : Option W) (ns : List Notice) → IsNext see told_more start items all k w ns
-    → SlotToldPart ns (option_map see w) (option_map see new) → SlotRose (option_map see w) (option_map see new)
-    → ToldShort (slots_by see start) all (slots_by see (set items k new))
-next_told_short see start items all k w new ns next part rose =
-    subst (λ (ss : Slots). ToldShort (slots_by see start) all ss) (sym (now_set see told_more start items all k new next.so_far))
-    (told_short (slots_by see start) all k (option_map see new) (long_seen see start k next.inside)
-    (subst (λ (ms : List Notice). SlotToldPart ms (slot (slots_by see start) k) (option_map see new)) (next.for_it ∙ get_or_default all k ns [] next.there)
-    (subst (λ (s : Option Watched). SlotToldPart ns s (option_map see new)) next.seen part))
-    (subst (λ (s : Option Watched). SlotRose s (option_map see new)) next.seen rose))
+    → StopsAt ns (option_map see w) (option_map see new)
+    → StopsInTurn (slots_by see start) all (slots_by see (set items k new))
+next_stops see start items all k w new ns next stops = record {
+  at = k;
+  watcher = option_map see new;
+  stops = subst (λ (ms : List Notice). StopsAt ms (slot (slots_by see start) k) (option_map see new)) (next.for_it ∙ get_or_default all k ns [] next.there)
+      (subst (λ (s : Option Watched). StopsAt ns s (option_map see new)) next.seen stops);
+  before = now_set see told_more start items all k new next.so_far;
+}
 
 pub next_ended_short : {W : Type 0} → (see : W → Watched) (start items : List (Option W)) (watches : List (Option ℕ)) (k : ℕ)
     (w new : Option W) (b : Option ℕ) → IsNext see ended_where start items watches k w b

@@ -13,7 +13,7 @@ mod telling;
 mod watcher;
 
 pub use comparing::changes;
-pub use laws::telling_laws;
+pub use laws::{slot_laws, telling_laws};
 pub use line_watcher::LineWatcher;
 pub use notice::Notice;
 pub use recorder::Recorder;

@@ -1,8 +1,7 @@
 //! Slots of watchers that are told or finished one after another.
-ghost use Rattle.std.specs.Prelude.{◌≡◌, ◌↔◌, ◌<◌, ◌≤◌, length, slice_set, None, [], ◌∷◌, true, false, OnOk, OnErr, IsTrue, option_map, map, is_some};
-ghost use Rattle.pdl_io.specs.Counts.{Rose};
+ghost use Rattle.std.specs.Prelude.{◌≡◌, ◌↔◌, ◌<◌, ◌≤◌, length, slice_set, Some, None, [], ◌∷◌, true, false, OnOk, OnErr, IsTrue, option_map, map, is_some};
 ghost use Rattle.pdl_watch.specs.Watched.{Watched, told_more, ended, Leaves};
-ghost use Rattle.pdl_watch.specs.Slots.{ToldPart, SlotToldPart, SlotRose, SlotMissed, IsOpen, AreOpen, slots_by, all_told, all_ended, ended_where, lists_of, ToldShort, EndedShort, EndsShort, slot};
+ghost use Rattle.pdl_watch.specs.Slots.{StopsAt, StopsInTurn, SlotMissed, IsOpen, AreOpen, slots_by, all_told, all_ended, ended_where, lists_of, ToldShort, EndedShort, EndsShort, slot};
 
 use crate::notice::Notice;
 use crate::watcher::Watcher;
@@ -12,8 +11,8 @@ use pdl_io::Failed;
 fn tell_each<W: Watcher>(w: &mut W, notices: &[Notice]) -> Result<(), Failed>
     requires { (W.seen w.old).finished ≡ false }
     ensures ok { OnOk result (W.seen w.new ≡ told_more notices.now (W.seen w.old)) }
-    ensures part { OnErr result (ToldPart notices.now (W.seen w.old) (W.seen w.new)) }
-    ensures rose { OnErr result (Rose (W.seen w.old).misses (W.seen w.new).misses) }
+    ensures stops { OnErr result
+        (StopsAt notices.now (Some (W.seen w.old)) (Some (W.seen w.new))) }
 {
     'telling: for notice in notices {
         w.tell(notice)?;
@@ -26,10 +25,8 @@ fn tell_slot<W: Watcher>(slot: &mut Option<W>, notices: &[Notice]) -> Result<(),
     requires { IsOpen (option_map W.seen slot.old) }
     ensures ok { OnOk result (option_map W.seen slot.new
         ≡ option_map (told_more notices.now) (option_map W.seen slot.old)) }
-    ensures part { OnErr result
-        (SlotToldPart notices.now (option_map W.seen slot.old) (option_map W.seen slot.new)) }
-    ensures rose { OnErr result
-        (SlotRose (option_map W.seen slot.old) (option_map W.seen slot.new)) }
+    ensures stops { OnErr result
+        (StopsAt notices.now (option_map W.seen slot.old) (option_map W.seen slot.new)) }
 {
     match slot {
         Some(w) => tell_each(w, notices),
@@ -37,11 +34,13 @@ fn tell_slot<W: Watcher>(slot: &mut Option<W>, notices: &[Notice]) -> Result<(),
     }
 }
 
-/// Tells the watcher of each slot the notices of that slot, in order, until a call fails.
+/// Tells the watcher of each slot the notices of that slot, slot after slot, until a call fails.
 pub fn tell_all<W: Watcher>(slots: &mut Vec<Option<W>>, all: &[Vec<Notice>]) -> Result<(), Failed>
     requires { AreOpen (slots_by W.seen slots.old.items) }
     ensures ok { OnOk result (slots_by W.seen slots.new.items
         ≡ all_told (slots_by W.seen slots.old.items) (lists_of all.now)) }
+    ensures turn { OnErr result (StopsInTurn (slots_by W.seen slots.old.items) (lists_of all.now)
+        (slots_by W.seen slots.new.items)) }
     ensures short { OnErr result (ToldShort (slots_by W.seen slots.old.items) (lists_of all.now)
         (slots_by W.seen slots.new.items)) }
 {

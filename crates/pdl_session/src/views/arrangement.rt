@@ -14,7 +14,7 @@ use crate::outcome::Outcome;
 use pdl_affine::{Affine, Numbers};
 use pdl_buf::Steps;
 use pdl_machine::{Arrangement, Fault};
-use pdl_scope::{Scope, StepFault};
+use pdl_scope::{Scope, ScopeFault};
 use pdl_world::Trans;
 use std::sync::ledger::Ledger;
 
@@ -24,7 +24,7 @@ pub fn arrangement<L: Ledger>(
     word: Arrangement,
     given: &[Given],
     steps: &mut Steps<L>,
-) -> Result<Outcome, StepFault>
+) -> Result<Outcome, ScopeFault>
     requires { AreGivenLive scope.old.arrays.world given.now }
     ensures value { let seen = all_seen_of scope.old.arrays given.now in
         AnswersAs outcome_of (arrangement_outcome word seen) result }
@@ -35,11 +35,11 @@ pub fn arrangement<L: Ledger>(
         Some((Given::Array(_), rest)) => match numbers_in(scope, rest, steps) {
             Ok(numbers) => match arranged(word, numbers) {
                 Some(affine) => Ok(Outcome::View(Trans::Affine(affine))),
-                None => Err(StepFault::Script(Fault::WrongArguments)),
+                None => Err(ScopeFault::Script(Fault::WrongArguments)),
             },
             Err(fault) => Err(fault),
         },
-        _ => Err(StepFault::Script(Fault::WrongArguments)),
+        _ => Err(ScopeFault::Script(Fault::WrongArguments)),
     }
 }
 

@@ -17,7 +17,7 @@ use pdl_buf::Steps;
 use pdl_choice::Edge;
 use pdl_engine::ArrayId;
 use pdl_machine::Fault;
-use pdl_scope::{Scope, StepFault};
+use pdl_scope::{Scope, ScopeFault};
 use pdl_shape::copy_dims;
 use pdl_world::Trans;
 use std::sync::ledger::Ledger;
@@ -27,7 +27,7 @@ pub fn index<L: Ledger>(
     scope: &mut Scope,
     given: &[Given],
     steps: &mut Steps<L>,
-) -> Result<Outcome, StepFault>
+) -> Result<Outcome, ScopeFault>
     requires { AreGivenLive scope.old.arrays.world given.now }
     ensures value { let seen = all_seen_of scope.old.arrays given.now in
         AnswersAs outcome_of (index_outcome seen) result }
@@ -42,7 +42,7 @@ pub fn index<L: Ledger>(
                 ind: Numbers::new(numbers),
             }))
         }
-        None => Err(StepFault::Script(Fault::WrongArguments)),
+        None => Err(ScopeFault::Script(Fault::WrongArguments)),
     }
 }
 
@@ -51,7 +51,7 @@ pub fn masked<L: Ledger>(
     scope: &mut Scope,
     given: &[Given],
     steps: &mut Steps<L>,
-) -> Result<Outcome, StepFault>
+) -> Result<Outcome, ScopeFault>
     requires { AreGivenLive scope.old.arrays.world given.now }
     ensures value { let seen = all_seen_of scope.old.arrays given.now in
         AnswersAs outcome_of (where_outcome seen) result }
@@ -66,7 +66,7 @@ pub fn masked<L: Ledger>(
                 places,
             }))
         }
-        None => Err(StepFault::Script(Fault::WrongArguments)),
+        None => Err(ScopeFault::Script(Fault::WrongArguments)),
     }
 }
 
@@ -75,7 +75,7 @@ pub fn range<L: Ledger>(
     scope: &mut Scope,
     given: &[Given],
     steps: &mut Steps<L>,
-) -> Result<Outcome, StepFault>
+) -> Result<Outcome, ScopeFault>
     requires { AreGivenLive scope.old.arrays.world given.now }
     ensures value { let seen = all_seen_of scope.old.arrays given.now in
         AnswersAs outcome_of (range_outcome seen) result }
@@ -84,7 +84,7 @@ pub fn range<L: Ledger>(
 {
     match two_and_more(given) {
         Some((ind, rest)) => windows_at(scope, ind, rest, steps),
-        None => Err(StepFault::Script(Fault::WrongArguments)),
+        None => Err(ScopeFault::Script(Fault::WrongArguments)),
     }
 }
 
@@ -95,7 +95,7 @@ fn windows_at<L: Ledger>(
     ind: ArrayId,
     rest: &[Given],
     steps: &mut Steps<L>,
-) -> Result<Outcome, StepFault>
+) -> Result<Outcome, ScopeFault>
     requires ind { IsLive scope.old.arrays.world ind }
     requires rest { AreGivenLive scope.old.arrays.world rest.now }
     ensures value { let corners = array_in scope.old.arrays ind in
@@ -122,7 +122,7 @@ fn window_parts<L: Ledger>(
     scope: &mut Scope,
     rest: &[Given],
     steps: &mut Steps<L>,
-) -> Result<(Vec<i64>, Edge), StepFault>
+) -> Result<(Vec<i64>, Edge), ScopeFault>
     requires { AreGivenLive scope.old.arrays.world rest.now }
     ensures value { (corners : Made) →
         let wanted = range_by corners (all_seen_of scope.old.arrays rest.now) in
@@ -135,11 +135,11 @@ fn window_parts<L: Ledger>(
         Some((Some(sizes), Some(edge))) => match scope.only_number(edge, steps)? {
             Some(number) => match edge_of(number) {
                 Some(edge) => Ok((scope.numbers(sizes, steps)?, edge)),
-                None => Err(StepFault::Script(Fault::WrongArguments)),
+                None => Err(ScopeFault::Script(Fault::WrongArguments)),
             },
-            None => Err(StepFault::Script(Fault::WrongArguments)),
+            None => Err(ScopeFault::Script(Fault::WrongArguments)),
         },
-        None => Err(StepFault::Script(Fault::WrongArguments)),
+        None => Err(ScopeFault::Script(Fault::WrongArguments)),
     }
 }
 

@@ -10,32 +10,32 @@ use crate::outcome::Outcome;
 use crate::shapes::array_and_text;
 use pdl_affine::Affine;
 use pdl_machine::Fault;
-use pdl_scope::StepFault;
+use pdl_scope::ScopeFault;
 use pdl_slices::{read_slice, slice_meaning};
 use pdl_world::Trans;
 use std::alloc::Global;
 
 /// `slice`: an array and a text.
-pub fn slice(alloc: Global, given: &[Given]) -> Result<Outcome, StepFault>
+pub fn slice(alloc: Global, given: &[Given]) -> Result<Outcome, ScopeFault>
     ensures value { (a : Arrays) →
         AnswersAs outcome_of (slice_outcome (all_seen_of a given.now)) result }
     ensures made { IfOk result IsOutcomeMade }
 {
     match array_and_text(given) {
         Some(text) => sliced(alloc, text),
-        None => Err(StepFault::Script(Fault::WrongArguments)),
+        None => Err(ScopeFault::Script(Fault::WrongArguments)),
     }
 }
 
 /// A view by a text. Texts of statements are far shorter than 4 GiB, which is more
 /// than a slice's may have.
-fn sliced(alloc: Global, text: &[u8]) -> Result<Outcome, StepFault>
+fn sliced(alloc: Global, text: &[u8]) -> Result<Outcome, ScopeFault>
     ensures value { AnswersAs outcome_of (slice_by text.now) result }
     ensures made { IfOk result IsOutcomeMade }
 {
     slice_meaning();
     if text.len() > u32::MAX as usize {
-        return Err(StepFault::NoMemory);
+        return Err(ScopeFault::NoMemory);
     }
     let args = read_slice(alloc, text)?;
     Ok(Outcome::View(Trans::Affine(Affine::Slice(args))))

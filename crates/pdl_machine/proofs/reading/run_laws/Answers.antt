@@ -1,3 +1,5 @@
+use Rattle.pdl_machine.proofs.Presence.{told_stays, none_comes, none_comes_in_a_run, stay_there, are_there_in_a_run}
+use Rattle.pdl_machine.proofs.Counted.{each_is_counted, notices_are_numbered}
 use Rattle.pdl_machine.proofs.RunLemmas.{ended_stays, printed_stays, fault_stays, goes_on, first_fault, ended_by_fault, too_long_ends, limit_ends}
 use Rattle.pdl_machine.proofs.reading.run_laws.Goals as goal
 
@@ -6,6 +8,27 @@ returns-clause-ended c = ended_stays
 
 pub returns-clause-printed : goal.returns-clause-printed
 returns-clause-printed c = printed_stays
+
+pub returns-clause-told : goal.returns-clause-told
+returns-clause-told c = told_stays
+
+pub returns-clause-counted : goal.returns-clause-counted
+returns-clause-counted c = each_is_counted
+
+pub returns-clause-numbered : goal.returns-clause-numbered
+returns-clause-numbered c = notices_are_numbered
+
+pub returns-clause-none_comes : goal.returns-clause-none_comes
+returns-clause-none_comes c = none_comes
+
+pub returns-clause-none_in_a_run : goal.returns-clause-none_in_a_run
+returns-clause-none_in_a_run c = none_comes_in_a_run
+
+pub returns-clause-there : goal.returns-clause-there
+returns-clause-there c = stay_there
+
+pub returns-clause-there_in_a_run : goal.returns-clause-there_in_a_run
+returns-clause-there_in_a_run c = are_there_in_a_run
 
 pub returns-clause-faulted : goal.returns-clause-faulted
 returns-clause-faulted c = fault_stays

@@ -6,17 +6,17 @@ use Rattle.pdl_world.specs.Swept.{holds}
 use Rattle.pdl_world.specs.World.{World}
 use Rattle.pdl_engine.specs.State.{State as Engine}
 use Rattle.pdl_scope.proofs.Cuts.{held_after, noted_held}
-use Rattle.pdl_scope.proofs.Held.{numbers}
+use Rattle.pdl_scope.proofs.Held.{held_by}
 use Rattle.pdl_scope.proofs.cutting.cut_apart.Goals as goal
 
 pub returns-clause-held : goal.returns-clause-held
-returns-clause-held g c = λ names held.
+returns-clause-held g c = λ names ws held.
     let e = c.hold_parent.new.engine in
     let left = c.hold_parent.new.leaving.items in
     let v = c.args.id in
-    let h = c.hold_parent.ensures.held names held in
+    let h = c.hold_parent.ensures.held names ws held in
     let P : World → Type 0 = λ w. IfSome (parent_in w v) (λ p. holds left p ≡ true) in
     let parent : P e.world = subst P (sym (ap (λ (s : Engine). s.world) c.hold_parent.ensures.same)) c.hold_parent.ensures.parent in
-    held_after c.sever.result names e c.sever.new.self (sever e.world v) left h (c.cut_laws.ensures.numbers e.world v h.whole.sound)
-    (c.keeping_laws.ensures.cut e.world v (numbers names.arrays ++ left) h.whole.sound h.reached (noted_held (numbers names.arrays) left (parent_in e.world v) parent))
+    held_after c.sever.result names ws e c.sever.new.self (sever e.world v) left h (c.cut_laws.ensures.numbers e.world v h.whole.sound)
+    (c.keeping_laws.ensures.cut e.world v (held_by names ws ++ left) h.whole.sound h.reached (noted_held (held_by names ws) left (parent_in e.world v) parent))
     c.sever.ensures.ok c.sever.ensures.err c.sever.ensures.family.holds c.sever.ensures.family.next c.sever.ensures.sound

@@ -6,20 +6,20 @@ use Rattle.pdl_world.specs.Swept.{holds}
 use Rattle.pdl_world.specs.World.{World}
 use Rattle.pdl_engine.specs.State.{State as Engine}
 use Rattle.pdl_scope.proofs.Cuts.{held_after, noted_held}
-use Rattle.pdl_scope.proofs.Held.{numbers}
+use Rattle.pdl_scope.proofs.Held.{held_by}
 use Rattle.pdl_scope.proofs.cutting.laid_anew.Goals as goal
 
 pub returns-clause-held : goal.returns-clause-held
-returns-clause-held g c = λ names held.
+returns-clause-held g c = λ names ws held.
     let e = c.hold_parent.new.engine in
     let left = c.hold_parent.new.leaving.items in
     let v = c.args.id in
     let ds = c.args.dims.now in
-    let h = c.hold_parent.ensures.held names held in
+    let h = c.hold_parent.ensures.held names ws held in
     let world_is = ap (λ (s : Engine). s.world) c.hold_parent.ensures.same in
     let P : World → Type 0 = λ w. IfSome (parent_in w v) (λ p. holds left p ≡ true) in
     let V : World → Type 0 = λ w. has_views w v ≡ false in
     let parent : P e.world = subst P (sym world_is) c.hold_parent.ensures.parent in
-    held_after c.reshape.result names e c.reshape.new.self (reshape e.world v ds) left h (c.reshape_laws.ensures.numbers e.world v ds h.whole.sound (subst V (sym world_is) c.requires.viewless))
-    (c.keeping_laws.ensures.reshaped e.world v ds (numbers names.arrays ++ left) h.whole.sound h.reached (noted_held (numbers names.arrays) left (parent_in e.world v) parent))
+    held_after c.reshape.result names ws e c.reshape.new.self (reshape e.world v ds) left h (c.reshape_laws.ensures.numbers e.world v ds h.whole.sound (subst V (sym world_is) c.requires.viewless))
+    (c.keeping_laws.ensures.reshaped e.world v ds (held_by names ws ++ left) h.whole.sound h.reached (noted_held (held_by names ws) left (parent_in e.world v) parent))
     c.reshape.ensures.ok c.reshape.ensures.err c.reshape.ensures.family.holds c.reshape.ensures.family.next c.reshape.ensures.sound

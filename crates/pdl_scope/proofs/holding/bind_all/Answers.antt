@@ -16,3 +16,8 @@ bind_one-requires-clause-few c =
     let P : Named ℕ → Type 0 = λ names. length names ≤ names_limit in
     first_fits c.loop-name.names.entries rest x v
     (subst P (sym c.loop-name.invariant.names ∙ ap (with_names c.loop-name.names.entries) popped) c.requires.few)
+
+pub bind_one-requires-clause-held : goal.bind_one-requires-clause-held
+bind_one-requires-clause-held c =
+    let ws = c.requires.held.watches in
+    record { watches = ws; held = c.loop-name.invariant.held ws c.requires.held.held }

@@ -1,7 +1,7 @@
 use Rattle.std.proofs.Common.{◌≡◌, ◌+◌, ◌<◌, ◌≤◌, ◌^◌, length, map, reverse}
 use Rattle.std.specs.Prelude.{vec_capacity}
 use Rattle.pdl_machine.specs.State.{AreLive}
-use Rattle.pdl_scope.specs.Holding.{IsHeldFor, SameButHolds}
+use Rattle.pdl_scope.specs.Holding.{SameButHolds, StaysHeldFor}
 use Rattle.pdl_scope.specs.Room.{with_names}
 use Rattle.pdl_scope.proofs.holding.bind_all.Given as goal
 
@@ -11,7 +11,7 @@ invariant-loop-name l = record {
   names : with_names l.names.entries (reverse l.bound.items) ≡ with_names l.fn.names.entries l.fn.bound.items;
   live : AreLive l.fn.engine.world (map (λ n. n.1) (reverse l.bound.items));
   same : SameButHolds l.fn.engine l.engine;
-  held : IsHeldFor l.names.entries l.engine l.leaving.items;
+  held : StaysHeldFor l.fn.names.entries l.fn.engine l.fn.leaving.items l.names.entries l.engine l.leaving.items;
   spare : length l.bound.items ≤ l.names.spare;
   room : length l.leaving.items + length l.bound.items ≤ vec_capacity l.leaving;
   small : length l.leaving.items + length l.bound.items < 2 ^ 62;

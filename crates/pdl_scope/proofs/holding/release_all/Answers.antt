@@ -2,14 +2,14 @@ use Rattle.pdl_scope.proofs.Held.{lets_go_refl, lets_go_more, all_let_go, next_c
 use Rattle.pdl_scope.proofs.holding.release_all.Goals as goal
 
 pub loop-id-init : goal.loop-id-init
-loop-id-init g c = λ names held. lets_go_refl names c.args.engine.now c.args.leaving.now held
+loop-id-init g c = λ names ws held. lets_go_refl names ws c.args.engine.now c.args.leaving.now held
 
 pub release-requires : goal.release-requires
 release-requires g c =
-    next_counted c.args.engine.now c.loop-id.engine c.args.leaving.now c.loop-id.id-index c.requires.names c.loop-id-test.true (c.loop-id.invariant c.requires.names c.requires.held)
+    next_counted c.args.engine.now c.loop-id.engine c.args.leaving.now c.loop-id.id-index c.requires.names c.requires.watches c.loop-id-test.true (c.loop-id.invariant c.requires.names c.requires.watches c.requires.held)
 
 pub loop-id-preserved : goal.loop-id-preserved
-loop-id-preserved g c = λ names held.
+loop-id-preserved g c = λ names ws held.
     lets_go_more (record {
       more = c.keeping_laws.ensures.more;
       reached = c.sweep_laws.ensures.seen;
@@ -20,8 +20,8 @@ loop-id-preserved g c = λ names held.
       held = c.hold_laws.ensures.held;
       counted = c.hold_laws.ensures.counted;
       others = c.hold_laws.ensures.others;
-    }) names c.args.engine.now c.loop-id.engine c.release.new.self c.args.leaving.now c.loop-id.id-index c.loop-id-test.true c.holds_law.ensures.each c.holds_law.ensures.once
-    (c.loop-id.invariant names held) c.release.ensures.released c.release.ensures.sound
+    }) names ws c.args.engine.now c.loop-id.engine c.release.new.self c.args.leaving.now c.loop-id.id-index c.loop-id-test.true c.holds_law.ensures.each c.holds_law.ensures.once
+    (c.loop-id.invariant names ws held) c.release.ensures.released c.release.ensures.sound
 
 pub returns : goal.returns
-returns g c = λ names held. all_let_go names c.args.engine.now c.loop-id.engine c.args.leaving.now c.loop-id.id-index c.loop-id-test.false (c.loop-id.invariant names held)
+returns g c = λ names ws held. all_let_go names ws c.args.engine.now c.loop-id.engine c.args.leaving.now c.loop-id.id-index c.loop-id-test.false (c.loop-id.invariant names ws held)

@@ -1,4 +1,4 @@
-use Rattle.std.proofs.Common.{◌≡◌, drop}
+use Rattle.std.proofs.Common.{drop}
 use Rattle.pdl_machine.specs.Fills.{number_in}
 use Rattle.pdl_scope.specs.Scope.{OnlyReads}
 use Rattle.pdl_session.specs.Arguments.{seen_of, AreGivenLive}

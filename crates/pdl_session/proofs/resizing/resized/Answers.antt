@@ -1,4 +1,4 @@
-use Rattle.std.proofs.Common.{List, ℤ, Result, Ok, sym, ap, subst, ◌∙◌, ◌≡◌}
+use Rattle.std.proofs.Common.{Ok, sym, ap, ◌∙◌, ◌≡◌}
 use Rattle.pdl_machine.specs.Fills.{numbers_in}
 use Rattle.pdl_session.specs.Arguments.{all_seen_of}
 use Rattle.pdl_scope.specs.Growth.{reads_grow}

@@ -1,21 +1,28 @@
 use Rattle.std.specs.Prelude.{map}
 use Rattle.pdl_syntax.specs.TreeOf.{tree_of}
 use Rattle.pdl_syntax.specs.StatementTree.{view_of}
-use Rattle.pdl_machine.specs.Step.{target}
+use Rattle.pdl_machine.specs.Step.{target, assigned}
 use Rattle.pdl_session.proofs.Facts.{ends_at, grows_trans}
+use Rattle.pdl_session.proofs.Assigning.{assigned_told}
 use Rattle.pdl_session.proofs.Statements.{runs_assigned, assigned_refused}
 use Rattle.pdl_session.proofs.statement.assign_value.Goals as goal
 
-pub returns : goal.returns
-returns g c =
+pub returns-clause-runs : goal.returns-clause-runs
+returns-clause-runs g c =
     runs_assigned c.assign.result c.args.scope.now c.target.new.scope c.eval.new.scope c.assign.new.self (target c.args.to.now.name (map view_of c.args.to.now.views.items)) (tree_of c.args.value.now) c.args.sign c.in_ok-to.to c.in_ok-from.from
-    c.in_ok-to.ensures.value.0 c.in_ok-from.ensures.value.0 c.target.ensures.grown c.eval.ensures.grown c.assign.ensures
+    c.in_ok-to.ensures.value.0 c.in_ok-from.ensures.value.0 c.target.ensures.grown c.eval.ensures.grown c.assign.ensures.runs
 
-pub returns-in_err-from : goal.returns-in_err-from
-returns-in_err-from g c =
+pub returns-in_err-from-clause-runs : goal.returns-in_err-from-clause-runs
+returns-in_err-from-clause-runs g c =
     let s = c.args.scope.now in
     let to = target c.args.to.now.name (map view_of c.args.to.now.views.items) in
     let f = c.in_err-from.field-0.0 in
     ends_at _ _ _ _ f c.from_residual-in_err-from.result c.from_residual-in_err-from.ensures.1
     (assigned_refused s c.target.new.scope to (tree_of c.args.value.now) c.args.sign c.in_ok-to.to f c.in_ok-to.ensures.value.0 c.in_err-from.ensures.value c.target.ensures.grown)
     (grows_trans s c.target.new.scope c.eval.new.scope c.target.ensures.grown c.eval.ensures.grown)
+
+pub returns-clause-told : goal.returns-clause-told
+returns-clause-told g c =
+    assigned_told c.assign.result c.args.number c.args.scope.now c.eval.new.scope c.assign.new.self (assigned c.args.sign c.eval.new.scope.arrays c.in_ok-to.to c.in_ok-from.from)
+    c.watching_laws.ensures.growing c.whole.ensures c.whole-2.ensures (grows_trans c.args.scope.now c.target.new.scope c.eval.new.scope c.target.ensures.grown c.eval.ensures.grown)
+    c.assign.ensures.runs c.assign.ensures.told

@@ -1,4 +1,4 @@
-use Rattle.std.proofs.Common.{List, [], length, refl, sym, subst}
+use Rattle.std.proofs.Common.{List, [], length, refl, subst}
 use Rattle.pdl_buf.specs.declared.made.Made.{Made}
 use Rattle.pdl_machine.specs.Step.{roots_bound}
 use Rattle.pdl_scope.specs.Scope.{machine}

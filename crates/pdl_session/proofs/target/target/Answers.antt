@@ -8,7 +8,7 @@ use Rattle.pdl_machine.specs.declared.fault.Fault.TheVariants.{UnknownName}
 use Rattle.pdl_machine.specs.Names.{Names}
 use Rattle.pdl_machine.specs.Step.{target}
 use Rattle.pdl_machine.specs.Value.{known, value_of}
-use Rattle.pdl_scope.specs.declared.fault.StepFault.TheVariants.{Script}
+use Rattle.pdl_scope.specs.declared.fault.ScopeFault.TheVariants.{Script}
 use Rattle.pdl_scope.specs.Answers.{IsFault}
 use Rattle.pdl_session.proofs.Facts.{hands_on, grows_trans}
 use Rattle.pdl_session.proofs.Targets.{called, target_more, fault_at}

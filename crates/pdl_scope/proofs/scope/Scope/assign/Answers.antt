@@ -1,25 +1,59 @@
 use Rattle.std.proofs.Common.{[], Ok, sym, ap, subst, ◌∙◌}
-use Rattle.pdl_machine.specs.State.{State, with_arrays}
+use Rattle.pdl_world.specs.World.{World, assign}
+use Rattle.pdl_machine.specs.State.{State, with_arrays, AreLive}
 use Rattle.pdl_machine.specs.Step.{assigned}
 use Rattle.pdl_machine.specs.Then.{and_then}
+use Rattle.pdl_machine.specs.Watches.{Watches, attached, notices}
 use Rattle.pdl_scope.specs.Answers.{Prints}
-use Rattle.pdl_scope.specs.Scope.{machine, names_in, state_in, IsHeld}
+use Rattle.pdl_scope.specs.Scope.{machine, names_in, state_in, IsHeld, Scope as Seen}
 use Rattle.pdl_scope.proofs.Growing.{readied, whole_assigned, values_written}
-use Rattle.pdl_scope.proofs.Held.{held_readied, held_assigned}
+use Rattle.pdl_scope.proofs.Held.{numbers, held_readied, held_assigned}
+use Rattle.pdl_scope.proofs.Watched.{live_back}
 use Rattle.pdl_scope.proofs.scope.Scope.assign.Goals as goal
 
-pub invariant_of-self : goal.invariant_of-self
-invariant_of-self g c =
-    let names = names_in c.self.inside.names.entries c.self.inside.kernels in
-    let e = c.written.new.engine in
-    let held : IsHeld (state_in names e) e.holds c.self.inside.leaving.items =
-    held_readied names c.self.inside.engine e c.self.inside.leaving.items c.written.ensures.same c.self.invariant in
-    held_assigned c.keeping_laws.ensures.assigned names e c.assign.new.self c.args.target c.deref.result.now c.self.inside.leaving.items held c.assign.ensures.world c.assign.ensures.holds
-    (whole_assigned c.assignment_laws.ensures.looks c.assignment_laws.ensures.numbers names e c.assign.new.self c.args.target c.deref.result.now held.whole c.assign.ensures.world c.assign.ensures.next c.assign.ensures.sound)
+pub foreseen-requires-clause-watched : goal.foreseen-requires-clause-watched
+foreseen-requires-clause-watched g c =
+    let ws = c.self.inside.watches.items in
+    let w = c.self.inside.engine.world in
+    let L : World → Type 0 = λ u. AreLive u (attached ws) in
+    let W : Watches → Type 0 = λ us. AreLive c.written.new.engine.world (attached us) in
+    subst W (sym c.deref-2.ensures.value) (subst L (sym c.written.ensures.same.world) (live_back w (numbers c.self.inside.names.entries) (attached ws) c.self.invariant.whole.live))
 
-pub returns-in-Ok : goal.returns-in-Ok
-returns-in-Ok g c =
-    let same = readied (names_in c.self.inside.names.entries c.self.inside.kernels) c.self.inside.engine c.written.new.engine c.written.ensures.same ∙ ap machine c.self.view_is in
-    let P : State → Type 0 = λ s. Prints (and_then (assigned c.args.sign s.arrays c.args.target c.args.value) (λ a. Ok (with_arrays s a, []))) (state_in (names_in c.self.inside.names.entries c.self.inside.kernels) c.assign.new.self) [] [] in
-    subst P same (values_written c.args.sign (names_in c.self.inside.names.entries c.self.inside.kernels) c.written.new.engine c.assign.new.self c.args.target c.args.value c.in-Ok.values.items c.in-Ok.ensures.value
-    (rw (sym c.deref.ensures.value) c.assign.ensures.world) c.assign.ensures.next)
+pub invariant_of-self-2 : goal.invariant_of-self-2
+invariant_of-self-2 g c =
+    let names = names_in c.self.inside.names.entries c.self.inside.kernels in
+    let ws = c.self.inside.watches.items in
+    let e = c.foreseen.new.engine in
+    let leaving = c.self.inside.leaving.items in
+    let found = held_readied names ws c.self.inside.engine c.written.new.engine leaving c.written.ensures.same c.self.invariant in
+    let held : IsHeld (state_in names ws e) e.holds leaving = held_readied names ws c.written.new.engine e leaving c.foreseen.ensures.same found in
+    held_assigned c.keeping_laws.ensures.assigned names ws e c.assign.new.self c.args.target c.deref-3.result.now leaving held c.assign.ensures.world c.assign.ensures.holds
+    (whole_assigned c.assignment_laws.ensures.looks c.assignment_laws.ensures.numbers names ws e c.assign.new.self c.args.target c.deref-3.result.now held.whole c.assign.ensures.world c.assign.ensures.next c.assign.ensures.sound)
+
+pub returns-clause-runs : goal.returns-clause-runs
+returns-clause-runs g c =
+    let names = names_in c.self.inside.names.entries c.self.inside.kernels in
+    let ws = c.self.inside.watches.items in
+    let e = c.written.new.engine in
+    let v = c.args.target in
+    let values = c.in-Ok.values.items in
+    let same = readied names ws c.self.inside.engine e c.written.ensures.same ∙ ap machine c.self.view_is in
+    let world = c.assign.ensures.world ∙ ap (assign c.foreseen.new.engine.world v) c.deref-3.ensures.value ∙ ap (λ w. assign w v values) c.foreseen.ensures.same.world in
+    let P : State → Type 0 = λ s. Prints (and_then (assigned c.args.sign s.arrays v c.args.value) (λ a. Ok (with_arrays s a, []))) (state_in names ws c.assign.new.self) [] [] in
+    subst P same (values_written c.args.sign names ws e c.assign.new.self v c.args.value values c.in-Ok.ensures.value world (c.assign.ensures.next ∙ c.foreseen.ensures.same.next))
+
+pub returns-clause-told : goal.returns-clause-told
+returns-clause-told g c =
+    let ws = c.self.inside.watches.items in
+    let w = c.written.new.engine.world in
+    let v = c.args.target in
+    let n = c.args.number in
+    let values = c.in-Ok.values.items in
+    let new = c.assign.new.self.world in
+    let world = c.assign.ensures.world ∙ ap (assign c.foreseen.new.engine.world v) c.deref-3.ensures.value ∙ ap (λ u. assign u v values) c.foreseen.ensures.same.world in
+    c.in_ok-all.ensures.told
+    ∙ ap (λ vs. notices n w (assign w v vs) c.deref-2.result.now) c.deref.ensures.value
+    ∙ ap (λ (us : Watches). notices n w (assign w v values) us) c.deref-2.ensures.value
+    ∙ ap (λ (u : World). notices n w u ws) (sym world)
+    ∙ ap (λ (u : World). notices n u new ws) (c.written.ensures.same.world ∙ ap (λ (s : Seen). s.arrays.world) c.self.view_is)
+    ∙ ap (λ (us : Watches). notices n c.args.self.now.arrays.world new us) (ap (λ (s : Seen). s.watches) c.self.view_is)

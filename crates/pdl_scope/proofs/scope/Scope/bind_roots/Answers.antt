@@ -8,7 +8,9 @@ use Rattle.pdl_scope.specs.Growth.{grows_refl, grows_trans}
 use Rattle.pdl_scope.specs.Room.{with_names, new_among}
 use Rattle.pdl_scope.specs.Answers.{Prints}
 use Rattle.pdl_scope.specs.Scope.{arrays_of, machine, names_in, Grows, Scope as Seen}
+use Rattle.pdl_scope.proofs.Cuts.{held_same}
 use Rattle.pdl_scope.proofs.Growing.{live_too}
+use Rattle.pdl_scope.proofs.Held.{held_defined}
 use Rattle.pdl_scope.proofs.Roots.{IsNext, left, fits_all, some_too_many, none_fit, named_too, named_next, named_is, one_longer, roots_more, roots_done, room_left, never_refused}
 use Rattle.pdl_scope.proofs.scope.Scope.bind_roots.Goals as goal
 
@@ -54,7 +56,7 @@ loop-i-preserved g c =
     let now = named_too (machine s) more in
     let R : List (List ℕ) → Type 0 = λ ys. length now.names.arrays + new_among now.names.arrays ys ≤ names_limit in
     let room : R (x ∷ rest) = subst R (rest_is xs c.min-count.result i x (omega arith) (omega arith) c.index-bound-i.is) c.loop-i.invariant.room in
-    let next : IsNext now (named_too (machine mid) more) x m id = named_next (machine s) (machine mid) more x m id rest c.in_ok-id.ensures.value.0 c.make_like.ensures.grown.names room in
+    let next : IsNext now (named_too (machine mid) more) x m id = named_next (machine s) (machine mid) more x m id rest c.in_ok-id.ensures.value.0 c.make_like.ensures.grown.names c.make_like.ensures.grown.watches room in
     let is = named_is (machine mid) more x id in
     let M : Named ℕ → Type 0 = λ all. let names = with_names (names_of mid) all in length names + new_among names rest ≤ names_limit in
     let L : Named ℕ → Type 0 = λ all. AreLive mid.arrays.world (map (λ n. n.1) all) in
@@ -106,9 +108,19 @@ returns g c =
     let old = c.self-2.inside.names.entries in
     let P : Stepped → Type 0 = λ r. Prints r (named_too (machine c.loop-i.self) more) [] [] in
     let end : c.loop-i.i < length xs → length ms ≤ c.loop-i.i = λ within. omega (arith, c.min-count.ensures) in
-    let named : Named ℕ → Arrays → State = λ ns a. record { names = names_in ns c.self-2.inside.kernels; arrays = a } in
+    let named : Named ℕ → Arrays → State = λ ns a. record { names = names_in ns c.self-2.inside.kernels; arrays = a; watches = c.self-2.inside.watches.items } in
     let is : named c.bind_all.new.names.entries (arrays_of c.bind_all.new.engine) ≡ named_too (machine c.loop-i.self) more =
     ap (λ ns. named ns (arrays_of c.bind_all.new.engine)) (c.bind_all.ensures.names ∙ ap (λ ns. with_names ns more) c.reserve.ensures.names) ∙ ap (named (with_names old more)) (ap arrays_of c.bind_all.ensures.same)
     ∙ ap (λ (z : Seen). named_too (machine z) more) c.self-2.view_is in
     let Q : State → Type 0 = λ z. Prints (roots_bound (machine c.args.self.now) xs ms) z [] [] in
     subst Q (sym is) (subst P (sym (c.loop-i.invariant.so_far ∙ roots_done (named_too (machine c.loop-i.self) more) xs ms c.loop-i.i end)) (refl, refl))
+
+pub invariant_of-self-2 : goal.invariant_of-self-2
+invariant_of-self-2 g c =
+    let ks = c.self-2.inside.kernels in
+    let ws = c.self-2.inside.watches.items in
+    let e = c.self-2.inside.engine in
+    let names = c.reserve.new.self.entries in
+    let leaving = c.reserve-2.new.self.items in
+    let held = held_same c.self-2.inside.names.entries names ks ws e c.self-2.inside.leaving.items leaving c.reserve.ensures.names c.reserve-2.ensures.items c.self-2.invariant in
+    held_defined c.bind_all.new.names.entries [] ks ws c.bind_all.new.engine c.bind_all.new.leaving.items (c.bind_all.ensures.held ws (held_defined names ks [] ws e leaving held))

@@ -24,9 +24,10 @@ cut_apart-requires-clause-small g c =
 pub cut_apart-requires-clause-held : goal.cut_apart-requires-clause-held
 cut_apart-requires-clause-held g c =
     let ks = c.self.inside.kernels in
+    let ws = c.self.inside.watches.items in
     let names = c.reserve.new.self.entries in
-    let held = held_same c.self.inside.names.entries names ks c.self.inside.engine c.self.inside.leaving.items c.reserve-2.new.self.items c.reserve.ensures.names c.in_ok-reserve-2.ensures.items c.self.invariant in
-    record { names = names_in names ks; held = held }
+    let held = held_same c.self.inside.names.entries names ks ws c.self.inside.engine c.self.inside.leaving.items c.reserve-2.new.self.items c.reserve.ensures.names c.in_ok-reserve-2.ensures.items c.self.invariant in
+    record { names = names_in names ks; watches = ws; held = held }
 
 pub bind_one-requires-clause-live : goal.bind_one-requires-clause-live
 bind_one-requires-clause-live g c =
@@ -55,19 +56,26 @@ bind_one-requires-clause-small g c =
 pub bind_one-requires-clause-held : goal.bind_one-requires-clause-held
 bind_one-requires-clause-held g c =
     let ks = c.self.inside.kernels in
+    let ws = c.self.inside.watches.items in
     let names = c.reserve.new.self.entries in
-    let held = held_same c.self.inside.names.entries names ks c.self.inside.engine c.self.inside.leaving.items c.reserve-2.new.self.items c.reserve.ensures.names c.in_ok-reserve-2.ensures.items c.self.invariant in
-    held_defined names ks [] c.cut_apart.new.engine c.cut_apart.new.leaving.items (c.cut_apart.ensures.held (names_in names ks) held)
+    let held = held_same c.self.inside.names.entries names ks ws c.self.inside.engine c.self.inside.leaving.items c.reserve-2.new.self.items c.reserve.ensures.names c.in_ok-reserve-2.ensures.items c.self.invariant in
+    record { watches = ws; held = held_defined names ks [] ws c.cut_apart.new.engine c.cut_apart.new.leaving.items (c.cut_apart.ensures.held (names_in names ks) ws held) }
 
 pub invariant_of-self-in_err-cut_apart : goal.invariant_of-self-in_err-cut_apart
 invariant_of-self-in_err-cut_apart g c =
     let ks = c.self.inside.kernels in
+    let ws = c.self.inside.watches.items in
     let names = c.reserve.new.self.entries in
-    c.cut_apart.ensures.held (names_in names ks) (held_same c.self.inside.names.entries names ks c.self.inside.engine c.self.inside.leaving.items c.reserve-2.new.self.items c.reserve.ensures.names c.in_ok-reserve-2.ensures.items c.self.invariant)
+    c.cut_apart.ensures.held (names_in names ks) ws (held_same c.self.inside.names.entries names ks ws c.self.inside.engine c.self.inside.leaving.items c.reserve-2.new.self.items c.reserve.ensures.names c.in_ok-reserve-2.ensures.items c.self.invariant)
 
 pub invariant_of-self-2 : goal.invariant_of-self-2
 invariant_of-self-2 g c =
-    held_defined c.bind_one.new.names.entries [] c.self.inside.kernels c.bind_one.new.engine c.bind_one.new.leaving.items c.bind_one.ensures.held
+    let ks = c.self.inside.kernels in
+    let ws = c.self.inside.watches.items in
+    let names = c.reserve.new.self.entries in
+    let held = held_same c.self.inside.names.entries names ks ws c.self.inside.engine c.self.inside.leaving.items c.reserve-2.new.self.items c.reserve.ensures.names c.in_ok-reserve-2.ensures.items c.self.invariant in
+    let apart = held_defined names ks [] ws c.cut_apart.new.engine c.cut_apart.new.leaving.items (c.cut_apart.ensures.held (names_in names ks) ws held) in
+    held_defined c.bind_one.new.names.entries [] ks ws c.bind_one.new.engine c.bind_one.new.leaving.items (c.bind_one.ensures.held ws apart)
 
 pub returns-then-is_full_for : goal.returns-then-is_full_for
 returns-then-is_full_for g c =
@@ -75,7 +83,7 @@ returns-then-is_full_for g c =
     let v = c.args.id in
     let P : Seen → Type 0 = λ s. bind_value (machine s) x (cut s.arrays v, v) ≡ Err TooManyNames in
     let names = names_in c.self.inside.names.entries c.self.inside.kernels in
-    let s = state_in names c.self.inside.engine in (
+    let s = state_in names c.self.inside.watches.items c.self.inside.engine in (
       subst P c.self.view_is (unbindable s x (cut s.arrays v, v) (sym c.is_full_for.ensures ∙ c.if-is_full_for.true)),
       record { grown = grows_refl c.args.self.now; printed = refl },
     )
@@ -83,6 +91,7 @@ returns-then-is_full_for g c =
 pub returns : goal.returns
 returns g c =
     let ks = c.self.inside.kernels in
+    let ws = c.self.inside.watches.items in
     let names = c.self.inside.names.entries in
     let x = c.args.name.now in
     let v = c.args.id in
@@ -90,7 +99,7 @@ returns g c =
     let t = c.cut_apart.new.engine in
     let after = c.bind_one.new.names.entries in
     let end = arrays_of c.bind_one.new.engine in
-    let named : Named ℕ → Arrays → State = λ ns a. record { names = names_in ns ks; arrays = a } in
+    let named : Named ℕ → Arrays → State = λ ns a. record { names = names_in ns ks; arrays = a; watches = ws } in
     let made : after ≡ with_name names x v = c.bind_one.ensures.names ∙ ap (λ ns. with_name ns c.in_ok-name.name v) c.reserve.ensures.names ∙ ap (λ y. with_name names y v) c.in_ok-name.ensures.cases in
     let is : named after end ≡ named (with_name names x v) (cut (arrays_of e) v) =
     ap (λ ns. named ns end) made ∙ ap (named (with_name names x v)) (ap arrays_of c.bind_one.ensures.same ∙ made_so e t (sever e.world v) c.in_ok-cut_apart.ensures.ok c.cut_apart.ensures.next) in
@@ -101,9 +110,10 @@ returns g c =
 pub returns-in_err-cut_apart : goal.returns-in_err-cut_apart
 returns-in_err-cut_apart g c =
     let ks = c.self.inside.kernels in
+    let ws = c.self.inside.watches.items in
     let names = names_in c.self.inside.names.entries ks in
     let t = c.cut_apart.new.engine in
-    let P : Seen → Type 0 = λ s. Grows s (scope_in (names_in c.reserve.new.self.entries ks) t) in
-    let N : Named ℕ → Type 0 = λ ns. Grows (scope_in names c.self.inside.engine) (scope_in (names_in ns ks) t) in
-    let grown = subst P c.self.view_is (subst N (sym c.reserve.ensures.names) (kept_so names c.self.inside.engine t c.in_err-cut_apart.ensures.err c.cut_apart.ensures.next c.in_err-cut_apart.ensures.stay)) in
+    let P : Seen → Type 0 = λ s. Grows s (scope_in (names_in c.reserve.new.self.entries ks) ws t) in
+    let N : Named ℕ → Type 0 = λ ns. Grows (scope_in names ws c.self.inside.engine) (scope_in (names_in ns ks) ws t) in
+    let grown = subst P c.self.view_is (subst N (sym c.reserve.ensures.names) (kept_so names ws c.self.inside.engine t c.in_err-cut_apart.ensures.err c.cut_apart.ensures.next c.in_err-cut_apart.ensures.stay)) in
     search rules

@@ -1,5 +1,7 @@
-use Rattle.std.proofs.Common.{rules, ◌≡◌, ◌<◌, ◌^◌, List, ℕ, [], length, Ok, refl, sym, ap, subst, ◌∙◌, arith}
+use Rattle.std.proofs.Common.{rules, ◌≡◌, ◌<◌, ◌^◌, List, ℕ, [], length, false, Ok, refl, sym, ap, subst, ◌∙◌, arith}
 use Rattle.pdl_world.specs.Cut.{reshape}
+use Rattle.pdl_world.specs.Swept.{holds}
+use Rattle.pdl_machine.specs.Watches.{attached}
 use Rattle.pdl_machine.specs.Arrays.{Arrays}
 use Rattle.pdl_machine.specs.Cuts.{reshaped}
 use Rattle.pdl_machine.specs.State.{State, with_arrays}
@@ -19,14 +21,16 @@ laid_anew-requires-clause-small g c =
 pub laid_anew-requires-clause-held : goal.laid_anew-requires-clause-held
 laid_anew-requires-clause-held g c =
     let names = names_in c.self.inside.names.entries c.self.inside.kernels in
-    let P : List ℕ → Type 0 = λ vs. IsHeld (state_in names c.self.inside.engine) c.self.inside.engine.holds vs in
-    record { names = names; held = subst P (sym c.in_ok-reserve.ensures.items) c.self.invariant }
+    let ws = c.self.inside.watches.items in
+    let P : List ℕ → Type 0 = λ vs. IsHeld (state_in names ws c.self.inside.engine) c.self.inside.engine.holds vs in
+    record { names = names; watches = ws; held = subst P (sym c.in_ok-reserve.ensures.items) c.self.invariant }
 
 pub invariant_of-self-2 : goal.invariant_of-self-2
 invariant_of-self-2 g c =
     let names = names_in c.self.inside.names.entries c.self.inside.kernels in
-    let P : List ℕ → Type 0 = λ vs. IsHeld (state_in names c.self.inside.engine) c.self.inside.engine.holds vs in
-    c.laid_anew.ensures.held names (subst P (sym c.in_ok-reserve.ensures.items) c.self.invariant)
+    let ws = c.self.inside.watches.items in
+    let P : List ℕ → Type 0 = λ vs. IsHeld (state_in names ws c.self.inside.engine) c.self.inside.engine.holds vs in
+    c.laid_anew.ensures.held names ws (subst P (sym c.in_ok-reserve.ensures.items) c.self.invariant)
 
 pub returns : goal.returns
 returns g c =
@@ -34,21 +38,24 @@ returns g c =
     let ds = c.args.dims.now in
     let e = c.self.inside.engine in
     let t = c.laid_anew.new.engine in
-    let state : Arrays → State = λ a. record { names = names_in c.self.inside.names.entries c.self.inside.kernels; arrays = a } in
-    let P : Seen → Type 0 = λ s. Prints (and_then (reshaped s.arrays v ds) (λ a. Ok (with_arrays (machine s) a, []))) (state (arrays_of t)) [] [] in
+    let state : Arrays → State = λ a. record { names = names_in c.self.inside.names.entries c.self.inside.kernels; arrays = a; watches = c.self.inside.watches.items } in
+    let P : Seen → Type 0 = λ s. Prints (and_then (reshaped s.watches s.arrays v ds) (λ a. Ok (with_arrays (machine s) a, []))) (state (arrays_of t)) [] [] in
     let Q : Stepped → Type 0 = λ r. Prints r (state (arrays_of t)) [] [] in
-    subst P c.self.view_is (subst Q (sym (reshape_made (state (arrays_of e)) v ds (sym c.has_views.ensures ∙ c.if-has_views.false)))
+    let free : holds (attached c.self.inside.watches.items) v ≡ false = ap (λ ws. holds (attached ws) v) (sym c.deref.ensures.value) ∙ sym c.is_watched.ensures ∙ c.if-is_watched.false in
+    subst P c.self.view_is (subst Q (sym (reshape_made (state (arrays_of e)) v ds (sym c.has_views.ensures ∙ c.if-has_views.false) free))
     (ap state (made_so e t (reshape e.world v ds) c.in_ok-laid_anew.ensures.ok c.laid_anew.ensures.next), refl))
 
 pub returns-in_err-laid_anew : goal.returns-in_err-laid_anew
 returns-in_err-laid_anew g c =
     let names = names_in c.self.inside.names.entries c.self.inside.kernels in
-    let P : Seen → Type 0 = λ s. Grows s (scope_in names c.laid_anew.new.engine) in
-    let grown = subst P c.self.view_is (kept_so names c.self.inside.engine c.laid_anew.new.engine c.in_err-laid_anew.ensures.err c.laid_anew.ensures.next c.in_err-laid_anew.ensures.stay) in
+    let ws = c.self.inside.watches.items in
+    let P : Seen → Type 0 = λ s. Grows s (scope_in names ws c.laid_anew.new.engine) in
+    let grown = subst P c.self.view_is (kept_so names ws c.self.inside.engine c.laid_anew.new.engine c.in_err-laid_anew.ensures.err c.laid_anew.ensures.next c.in_err-laid_anew.ensures.stay) in
     search rules
 
 pub invariant_of-self-in_err-laid_anew : goal.invariant_of-self-in_err-laid_anew
 invariant_of-self-in_err-laid_anew g c =
     let names = names_in c.self.inside.names.entries c.self.inside.kernels in
-    let P : List ℕ → Type 0 = λ vs. IsHeld (state_in names c.self.inside.engine) c.self.inside.engine.holds vs in
-    c.laid_anew.ensures.held names (subst P (sym c.in_ok-reserve.ensures.items) c.self.invariant)
+    let ws = c.self.inside.watches.items in
+    let P : List ℕ → Type 0 = λ vs. IsHeld (state_in names ws c.self.inside.engine) c.self.inside.engine.holds vs in
+    c.laid_anew.ensures.held names ws (subst P (sym c.in_ok-reserve.ensures.items) c.self.invariant)

@@ -17,33 +17,37 @@ cut_apart-requires-clause-small g c =
 pub cut_apart-requires-clause-held : goal.cut_apart-requires-clause-held
 cut_apart-requires-clause-held g c =
     let names = names_in c.self.inside.names.entries c.self.inside.kernels in
-    let P : List ℕ → Type 0 = λ vs. IsHeld (state_in names c.self.inside.engine) c.self.inside.engine.holds vs in
-    record { names = names; held = subst P (sym c.in_ok-reserve.ensures.items) c.self.invariant }
+    let ws = c.self.inside.watches.items in
+    let P : List ℕ → Type 0 = λ vs. IsHeld (state_in names ws c.self.inside.engine) c.self.inside.engine.holds vs in
+    record { names = names; watches = ws; held = subst P (sym c.in_ok-reserve.ensures.items) c.self.invariant }
 
 pub invariant_of-self-2 : goal.invariant_of-self-2
 invariant_of-self-2 g c =
     let names = names_in c.self.inside.names.entries c.self.inside.kernels in
-    let P : List ℕ → Type 0 = λ vs. IsHeld (state_in names c.self.inside.engine) c.self.inside.engine.holds vs in
-    c.cut_apart.ensures.held names (subst P (sym c.in_ok-reserve.ensures.items) c.self.invariant)
+    let ws = c.self.inside.watches.items in
+    let P : List ℕ → Type 0 = λ vs. IsHeld (state_in names ws c.self.inside.engine) c.self.inside.engine.holds vs in
+    c.cut_apart.ensures.held names ws (subst P (sym c.in_ok-reserve.ensures.items) c.self.invariant)
 
 pub returns : goal.returns
 returns g c =
     let v = c.args.id in
     let e = c.self.inside.engine in
     let t = c.cut_apart.new.engine in
-    let state : Arrays → State = λ a. record { names = names_in c.self.inside.names.entries c.self.inside.kernels; arrays = a } in
+    let state : Arrays → State = λ a. record { names = names_in c.self.inside.names.entries c.self.inside.kernels; arrays = a; watches = c.self.inside.watches.items } in
     let P : Seen → Type 0 = λ s. Prints (severing (machine s) v) (state (arrays_of t)) [] [] in
     subst P c.self.view_is (ap state (made_so e t (sever e.world v) c.in_ok-cut_apart.ensures.ok c.cut_apart.ensures.next), refl)
 
 pub returns-in_err-cut_apart : goal.returns-in_err-cut_apart
 returns-in_err-cut_apart g c =
     let names = names_in c.self.inside.names.entries c.self.inside.kernels in
-    let P : Seen → Type 0 = λ s. Grows s (scope_in names c.cut_apart.new.engine) in
-    let grown = subst P c.self.view_is (kept_so names c.self.inside.engine c.cut_apart.new.engine c.in_err-cut_apart.ensures.err c.cut_apart.ensures.next c.in_err-cut_apart.ensures.stay) in
+    let ws = c.self.inside.watches.items in
+    let P : Seen → Type 0 = λ s. Grows s (scope_in names ws c.cut_apart.new.engine) in
+    let grown = subst P c.self.view_is (kept_so names ws c.self.inside.engine c.cut_apart.new.engine c.in_err-cut_apart.ensures.err c.cut_apart.ensures.next c.in_err-cut_apart.ensures.stay) in
     search rules
 
 pub invariant_of-self-in_err-cut_apart : goal.invariant_of-self-in_err-cut_apart
 invariant_of-self-in_err-cut_apart g c =
     let names = names_in c.self.inside.names.entries c.self.inside.kernels in
-    let P : List ℕ → Type 0 = λ vs. IsHeld (state_in names c.self.inside.engine) c.self.inside.engine.holds vs in
-    c.cut_apart.ensures.held names (subst P (sym c.in_ok-reserve.ensures.items) c.self.invariant)
+    let ws = c.self.inside.watches.items in
+    let P : List ℕ → Type 0 = λ vs. IsHeld (state_in names ws c.self.inside.engine) c.self.inside.engine.holds vs in
+    c.cut_apart.ensures.held names ws (subst P (sym c.in_ok-reserve.ensures.items) c.self.invariant)

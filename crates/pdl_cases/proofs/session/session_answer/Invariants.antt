@@ -1,5 +1,0 @@
-use Rattle.pdl_cases.proofs.session.session_answer.Given as goal
-
--- the ledger is the one that was made here
-abbrev pub ghosts-run_pieces : goal.ghosts-run_pieces
-ghosts-run_pieces a = record { name = a.blank.name; parts = a.blank.parts }

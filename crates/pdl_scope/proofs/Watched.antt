@@ -1,0 +1,171 @@
+-- Arrays that watchers are attached to, and what watchers are to be told.
+use Rattle.std.proofs.Common.{◌≡◌, ℕ, zero, suc, ◌+◌, ◌-◌, ◌<◌, ◌≤◌, Bool, true, false, List, [], ◌∷◌, ◌++◌, length, get_or, Option, Some, None, refl, ap, subst, ◌∙◌, arith, eqb-true}
+use Rattle.std.specs.Prelude.{◌==◌, ◌||◌, if◌then◌else◌, replicate, slice_set, IfSome, IsSome}
+use Rattle.std.specs.List.{list_any}
+use Rattle.std.specs.Option.{option_to_list}
+use Rattle.std.proofs.lemmas.List.{length-append, length-replicate, length-set}
+use Rattle.pdl_lemmas.specs.Tests.{by_test}
+use Rattle.pdl_world.specs.World.{World}
+use Rattle.pdl_world.specs.Sound.{IsLive}
+use Rattle.pdl_world.specs.Swept.{holds}
+use Rattle.pdl_world.specs.KeepingLaws.{MoreKeepAll}
+use Rattle.pdl_engine.specs.HoldLaws.{OneMoreCounts}
+use Rattle.pdl_engine.specs.Held.{AllHaveHolds, count_at, one_more_at, holders}
+use Rattle.pdl_engine.specs.State.{State as Engine}
+use Rattle.pdl_machine.specs.Names.{Names}
+use Rattle.pdl_machine.specs.State.{AreLive}
+use Rattle.pdl_machine.specs.Watches.{Watches, watch_of, attached, padded, attach, detach}
+use Rattle.pdl_scope.specs.Scope.{state_in, slots_limit, times, IsHeld}
+use Rattle.pdl_scope.proofs.Held.{held_by, numbers, times_more, both_hold, held_by_both, all_live, some_live}
+
+abbrev one_if : Bool → ℕ
+one_if b = if b then 1 else 0
+
+-- an array that is counted among live ones is live
+live_counted : (w : World) (vs : List ℕ) (u : ℕ) → AreLive w vs → 0 < times vs u → IsLive w u
+live_counted w [] u live some = absurd (omega arith)
+live_counted w (v ∷ vs) u live some = by_test (v == u)
+    (λ is. (let P : ℕ → Type 0 = IsLive w in subst P (eqb-true v u is) live.0))
+    (λ other. live_counted w vs u live.1 (let t = rw other at some in omega arith))
+
+-- slots that aren't attached attach no array
+none_attached : (n : ℕ) → attached (replicate n None) ≡ []
+none_attached zero = refl
+none_attached (suc n) = none_attached n
+
+attached_front : (ws more : Watches) → attached (ws ++ more) ≡ attached ws ++ attached more
+attached_front [] more = refl
+attached_front (None ∷ ws) more = attached_front ws more
+attached_front (Some v ∷ ws) more = ap (λ vs. v ∷ vs) (attached_front ws more)
+
+-- a list with entries for more slots attaches the same arrays, as often
+padded_times : (ws : Watches) (count u : ℕ) → times (attached (padded ws count)) u ≡ times (attached ws) u
+padded_times ws count u =
+    let rest : Watches = replicate (count - length ws) None in
+    let none : times (attached rest) u ≡ 0 = ap (λ vs. times vs u) (none_attached (count - length ws)) in
+    let all = ap (λ vs. times vs u) (attached_front ws rest) ∙ times_more (attached ws) (attached rest) u in
+    omega (arith, all, none)
+
+-- a slot gets another entry: its array before is given up
+times_set : (ws : Watches) (k u : ℕ) (o : Option ℕ) → k < length ws
+    → times (attached (slice_set ws k o)) u + times (option_to_list (get_or ws k None)) u ≡ times (attached ws) u + times (option_to_list o) u
+times_set [] k u o lt = absurd (omega arith)
+times_set (None ∷ ws) zero u None lt = refl
+times_set (None ∷ ws) zero u (Some v) lt = omega arith
+times_set (Some w ∷ ws) zero u None lt = omega arith
+times_set (Some w ∷ ws) zero u (Some v) lt = omega arith
+times_set (None ∷ ws) (suc k) u o lt = times_set ws k u o (omega arith)
+times_set (Some w ∷ ws) (suc k) u o lt = (let rest = times_set ws k u o (omega arith) in omega arith)
+
+padded_long : (ws : Watches) (count : ℕ) → length (padded ws count) ≡ length ws + (count - length ws)
+padded_long ws count =
+    let a : length (padded ws count) ≡ length ws + length (replicate {A = Option ℕ} (count - length ws) None) = length-append ws (replicate (count - length ws) None) in
+    let b : length (replicate {A = Option ℕ} (count - length ws) None) ≡ count - length ws = length-replicate (count - length ws) None in
+    omega (arith, a, b)
+
+none_at : (n k : ℕ) → get_or {A = Option ℕ} (replicate n None) k None ≡ None
+none_at zero k = refl
+none_at (suc n) zero = refl
+none_at (suc n) (suc k) = none_at n k
+
+-- a slot that isn't attached isn't attached in the longer list
+padded_free : (ws : Watches) (n k : ℕ) → watch_of ws k ≡ None → watch_of (ws ++ replicate n None) k ≡ None
+padded_free [] n k free = none_at n k
+padded_free (w ∷ ws) n zero free = free
+padded_free (w ∷ ws) n (suc k) free = padded_free ws n k free
+
+-- one more array where a slot that isn't attached gets one
+pub times_attached : (ws : Watches) (k v u : ℕ) → watch_of ws k ≡ None → times (attached (attach ws k v)) u ≡ times (attached ws) u + one_if (v == u)
+times_attached ws k v u free =
+    let long = padded_long ws (k + 1) in
+    let within : k < length (padded ws (k + 1)) = omega (arith, long) in
+    let set = times_set (padded ws (k + 1)) k u (Some v) within in
+    let none : times (option_to_list (get_or (padded ws (k + 1)) k None)) u ≡ 0 = ap (λ o. times (option_to_list o) u) (padded_free ws (k + 1 - length ws) k free) in
+    let same = padded_times ws (k + 1) u in
+    omega (arith, set, none, same)
+
+-- and one fewer where a slot isn't attached any more
+pub times_detached : (ws : Watches) (k u : ℕ) → k < length ws → times (attached (detach ws k)) u + times (option_to_list (watch_of ws k)) u ≡ times (attached ws) u
+times_detached ws k u lt = let set = times_set ws k u None lt in omega (arith, set)
+
+-- the lists stay short
+pub attached_long : (ws : Watches) (k v : ℕ) → k < slots_limit → length ws ≤ slots_limit → length (attach ws k v) ≤ slots_limit
+attached_long ws k v small few =
+    let a : length (attach ws k v) ≡ length (padded ws (k + 1)) = length-set (padded ws (k + 1)) k (Some v) in
+    let b = padded_long ws (k + 1) in
+    omega (arith, a, b)
+
+-- slot k of a list is one of the first k + 1
+pub attached_within : (ws : Watches) (k : ℕ) → IsSome (watch_of ws k) → k < length ws
+attached_within [] k some = absurd (cc)
+attached_within (w ∷ ws) zero some = omega arith
+attached_within (w ∷ ws) (suc k) some = let rest = attached_within ws k some in omega arith
+
+-- other watches, and others that leave, which hold what was held
+held_moved : MoreKeepAll → (names : Names) (ws after : Watches) (e : Engine) (hs : List (ℕ × ℕ)) (leaving left : List ℕ) → IsHeld (state_in names ws e) e.holds leaving → length after ≤ slots_limit
+    → ((u : ℕ) → count_at hs u ≡ times (held_by names after) u + times left u) → ((u : ℕ) → count_at e.holds u ≤ count_at hs u) → ((u : ℕ) → 0 < times (held_by names after) u → IsLive e.world u)
+    → IsHeld (state_in names after e) hs left
+held_moved keeping names ws after e hs leaving left h few counts least live = record {
+  whole = record { sound = h.whole.sound; below = h.whole.below; live = all_live e.world (held_by names after) live };
+  few = h.few;
+  slots = few;
+  counts = counts;
+  reached = keeping e.world (held_by names ws ++ leaving) (held_by names after ++ left)
+      (λ u t. both_hold (held_by names after) left u (let some = held_by_both (held_by names ws) leaving u t in let b = h.counts u in let c = counts u in let l = least u in omega arith)) h.reached;
+}
+
+-- a slot is attached to an array, which is held once more
+pub held_attached : OneMoreCounts → MoreKeepAll → (names : Names) (ws : Watches) (e : Engine) (k v : ℕ) (leaving : List ℕ) → AllHaveHolds e → IsHeld (state_in names ws e) e.holds leaving → IsLive e.world v
+    → k < slots_limit → watch_of ws k ≡ None → IsHeld (state_in names (attach ws k v) e) (one_more_at e.holds v) leaving
+held_attached one_more keeping names ws e k v leaving have h live small free =
+    held_moved keeping names ws (attach ws k v) e (one_more_at e.holds v) leaving leaving h (attached_long ws k v small h.slots)
+    (λ u. (let c = one_more e.holds v u known in let b = h.counts u in let m = more u in omega arith))
+    (λ u. (let c = one_more e.holds v u known in omega arith))
+    (λ u some. by_test (v == u)
+    (λ is. (let P : ℕ → Type 0 = IsLive e.world in subst P (eqb-true v u is) live))
+    (λ other. live_counted e.world (held_by names ws) u h.whole.live (let m = rw other at (more u) in omega arith)))
+  where
+    known : holds (holders e.holds) v ≡ true
+    known = have v ∙ some_live e.world v live
+
+    more : (u : ℕ) → times (held_by names (attach ws k v)) u ≡ times (held_by names ws) u + one_if (v == u)
+    more u =
+        let t = times_attached ws k v u free in
+        let a = times_more (numbers names.arrays) (attached (attach ws k v)) u in
+        let b = times_more (numbers names.arrays) (attached ws) u in
+        omega (arith, t, a, b)
+
+-- a slot isn't attached any more, and its array leaves
+pub held_detached : MoreKeepAll → (names : Names) (ws : Watches) (e : Engine) (k : ℕ) (leaving : List ℕ) → IsHeld (state_in names ws e) e.holds leaving → k < length ws
+    → IsHeld (state_in names (detach ws k) e) e.holds (leaving ++ option_to_list (watch_of ws k))
+held_detached keeping names ws e k leaving h lt =
+    held_moved keeping names ws (detach ws k) e e.holds leaving (leaving ++ option_to_list (watch_of ws k)) h (let l : length (detach ws k) ≡ length ws = length-set ws k None in let few : length ws ≤ slots_limit = h.slots in omega (arith, l))
+    (λ u. (let b = h.counts u in let f = fewer u in let m = times_more leaving (option_to_list (watch_of ws k)) u in omega arith))
+    (λ u. omega arith)
+    (λ u some. live_counted e.world (held_by names ws) u h.whole.live (let f = fewer u in omega arith))
+  where
+    fewer : (u : ℕ) → times (held_by names (detach ws k)) u + times (option_to_list (watch_of ws k)) u ≡ times (held_by names ws) u
+    fewer u =
+        let t = times_detached ws k u lt in
+        let a = times_more (numbers names.arrays) (attached (detach ws k)) u in
+        let b = times_more (numbers names.arrays) (attached ws) u in
+        omega (arith, t, a, b)
+
+-- the arrays of watches are live among all that is held
+pub live_back : (w : World) (vs us : List ℕ) → AreLive w (vs ++ us) → AreLive w us
+live_back w [] us live = live
+live_back w (v ∷ vs) us live = live_back w vs us live.1
+
+-- and so is that of each slot
+pub live_watch : (w : World) (ws : Watches) (k : ℕ) → AreLive w (attached ws) → IfSome (get_or ws k None) (IsLive w)
+live_watch w [] k live = tt
+live_watch w (None ∷ ws) zero live = tt
+live_watch w (Some v ∷ ws) zero live = live.0
+live_watch w (None ∷ ws) (suc k) live = live_watch w ws k live
+live_watch w (Some v ∷ ws) (suc k) live = live_watch w ws k live.1
+
+-- whether a slot is attached to an array, told by each slot
+pub watched_is : (ws : Watches) (v : ℕ) (eq : Option ℕ → Bool) → eq None ≡ false → ((u : ℕ) → eq (Some u) ≡ (u == v)) → list_any eq ws ≡ holds (attached ws) v
+watched_is [] v eq none some = refl
+watched_is (None ∷ ws) v eq none some = ap (λ b. b || list_any eq ws) none ∙ watched_is ws v eq none some
+watched_is (Some u ∷ ws) v eq none some = ap (λ b. b || list_any eq ws) (some u) ∙ ap (λ b. (u == v) || b) (watched_is ws v eq none some)

@@ -1,0 +1,27 @@
+use Rattle.pdl_syntax.specs.StatementTree.{statement_of}
+use Rattle.pdl_watch.specs.Slots.{slots_by}
+use Rattle.pdl_session.proofs.Heard.{has_done, has_run, stops_step, served_after}
+use Rattle.pdl_session.proofs.session.Session.step_over.Goals as goal
+
+pub returns-in-Ok-hear-clause-ok : goal.returns-in-Ok-hear-clause-ok
+returns-in-Ok-hear-clause-ok g c =
+    let laws = c.slot_laws.ensures in
+    has_done (slots_by g.W.Watcher.seen c.args.watchers.now.items) (slots_by g.W.Watcher.seen c.hear.new.watchers.items)
+    laws.quiet laws.keeps laws.none laws.ended c.in-Ok.ensures.ok c.in-Ok-hear.ensures.ok
+
+pub returns-in-Ok-hear-clause-served : goal.returns-in-Ok-hear-clause-served
+returns-in-Ok-hear-clause-served g c =
+    let laws = c.slot_laws.ensures in
+    served_after c.args.number c.args.self.now.state c.advance.new.self.state (statement_of c.args.statement.now) (slots_by g.W.Watcher.seen c.args.watchers.now.items) (slots_by g.W.Watcher.seen c.hear.new.watchers.items)
+    laws.keeps laws.leaves laws.told_long laws.long laws.told_open laws.open c.watching_laws.ensures.none_comes c.watching_laws.ensures.there c.requires.served
+    (has_done (slots_by g.W.Watcher.seen c.args.watchers.now.items) (slots_by g.W.Watcher.seen c.hear.new.watchers.items)
+    laws.quiet laws.keeps laws.none laws.ended c.in-Ok.ensures.ok c.in-Ok-hear.ensures.ok)
+
+pub returns-in-Ok-clause-fault : goal.returns-in-Ok-clause-fault
+returns-in-Ok-clause-fault g c =
+    let laws = c.slot_laws.ensures in
+    stops_step (slots_by g.W.Watcher.seen c.args.watchers.now.items) (slots_by g.W.Watcher.seen c.hear.new.watchers.items)
+    laws.stops laws.stops_one laws.ends laws.ends_one c.in-Ok.ensures.ok c.in-Err-hear.ensures.short
+
+pub returns-in-Ok-clause-ran : goal.returns-in-Ok-clause-ran
+returns-in-Ok-clause-ran g c = has_run (slots_by g.W.Watcher.seen c.args.watchers.now.items) c.in-Ok.ensures.ok

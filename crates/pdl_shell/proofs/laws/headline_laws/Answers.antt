@@ -1,0 +1,26 @@
+use Rattle.pdl_shell.proofs.HeadlineLemmas.{ends_quiet, memory_quiet, watcher_rises, source_leaves, done_reads, done_writes}
+use Rattle.pdl_shell.proofs.laws.headline_laws.Goals as goal
+
+pub returns-clause-quiet : goal.returns-clause-quiet
+returns-clause-quiet c = ends_quiet
+
+pub returns-clause-memory : goal.returns-clause-memory
+returns-clause-memory c = memory_quiet
+
+pub returns-clause-source : goal.returns-clause-source
+returns-clause-source c old new reason = (reason.0, reason.1.0)
+
+pub returns-clause-sink : goal.returns-clause-sink
+returns-clause-sink c old new reason = (reason.0, reason.1)
+
+pub returns-clause-watcher : goal.returns-clause-watcher
+returns-clause-watcher c = watcher_rises
+
+pub returns-clause-leaves : goal.returns-clause-leaves
+returns-clause-leaves c = source_leaves
+
+pub returns-clause-reads : goal.returns-clause-reads
+returns-clause-reads c = done_reads
+
+pub returns-clause-writes : goal.returns-clause-writes
+returns-clause-writes c = done_writes

@@ -1,0 +1,20 @@
+-- What the course of a run rests on.
+use Rattle.pdl_watch.specs.Slots.{TellsTwice}
+use Rattle.pdl_watch.specs.SlotLaws.{TellingKeepsAll, EmptyingLeaves, NoneIsEmptied, EmptyingAndTelling, EmptiedTwice, TellingKeepsLength, EmptyingKeepsLength, EndingMissesOne}
+use Rattle.pdl_machine.specs.RunLaws.{EndedStays, PrintedStays, ToldStays, NoneComes}
+
+-- the laws of slots and of runs that every step of a run is proved by
+pub record Laws : Type 0 where
+  pub keeps : TellingKeepsAll
+  pub leaves : EmptyingLeaves
+  pub none : NoneIsEmptied
+  pub beside : EmptyingAndTelling
+  pub twice : EmptiedTwice
+  pub told_long : TellingKeepsLength
+  pub long : EmptyingKeepsLength
+  pub ended_one : EndingMissesOne
+  pub told_twice : TellsTwice
+  pub ended : EndedStays
+  pub printed : PrintedStays
+  pub told : ToldStays
+  pub none_comes : NoneComes

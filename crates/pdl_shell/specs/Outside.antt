@@ -1,0 +1,51 @@
+-- What is outside of a run, as far as it is seen: the source, the sink and the slots of watchers.
+use Rattle.std.specs.Prelude.{◌≡◌, ◌≢◌, ℕ, Bool, List, Option, Some, None}
+use Rattle.pdl_watch.specs.Watched.{Watched}
+use Rattle.pdl_watch.specs.Slots.{Slots, slot, SlotRose}
+
+-- Where a run gives out what it prints and what it tells: the bytes that the sink took and whether it
+-- is flushed, as far as the sink tells these, how many of its calls failed, and the slots.
+pub record Outlets : Type 0 where
+  pub taken : Option (List ℕ)
+  pub flushed : Option Bool
+  pub faults : ℕ
+  pub slots : Slots
+
+-- what is seen of a sink, with these slots
+abbrev pub outlets : {K : Type 0} → (taken : K → Option (List ℕ)) → (flushed : K → Option Bool) →
+    (faults : K → ℕ) → (sink : K) → Slots → Outlets
+outlets taken flushed faults sink slots =
+    record { taken = taken sink; flushed = flushed sink; faults = faults sink; slots = slots }
+
+-- And where its script comes from: the bytes that the source has left, as far as it tells them, and
+-- how many of its calls failed.
+pub record Outside : Type 0 where
+  pub left : Option (List ℕ)
+  pub faults : ℕ
+  pub out : Outlets
+
+-- what is seen of a source, with these outlets
+abbrev pub outside : {S : Type 0} → (left : S → Option (List ℕ)) → (faults : S → ℕ) →
+    (source : S) → Outlets → Outside
+outside left faults source out = record { left = left source; faults = faults source; out = out }
+
+-- the watcher of a slot has its count of failed calls as it was, or is gone
+abbrev pub CountStays : Option Watched → Option Watched → Type 0
+CountStays None None = Unit {0}
+CountStays None (Some now) = ⊥
+CountStays (Some old) None = Unit {0}
+CountStays (Some old) (Some now) = now.misses ≡ old.misses
+
+-- so for each slot
+abbrev pub CountsStay : Slots → Slots → Type 0
+CountsStay old now = (k : ℕ) → CountStays (slot old k) (slot now k)
+
+-- the count of one slot's watcher rose, and those of all others stayed
+pub record OneRose (old now : Slots) : Type 0 where
+  pub at : ℕ
+  pub rose : SlotRose (slot old at) (slot now at)
+  pub others : (k : ℕ) → k ≢ at → CountStays (slot old k) (slot now k)
+
+-- no call of the sink or of a watcher failed
+abbrev pub NoneFailed : Outlets → Outlets → Type 0
+NoneFailed old now = (now.faults ≡ old.faults) × CountsStay old.slots now.slots
