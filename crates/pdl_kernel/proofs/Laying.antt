@@ -1,20 +1,20 @@
 -- How arguments are laid out: strides and axes, one after the other.
-use Rattle.std.proofs.Common.{◌≡◌, ◌≢◌, ℕ, zero, suc, ◌+◌, ◌*◌, ◌<◌, ◌≤◌, ℤ, pos, max, List, [], ◌∷◌, ◌++◌, length, map, drop, replicate, get_or, None, refl, sym, ap, subst, ◌∙◌, arith, add-one, append-nil}
+use Rattle.std.proofs.Common.{◌≡◌, ◌≢◌, ℕ, zero, suc, ◌+◌, ◌*◌, ◌<◌, ◌≤◌, ℤ, pos, List, [], ◌∷◌, ◌++◌, length, drop, replicate, get_or, None, refl, sym, ap, ap₂, subst, ◌∙◌, arith, append-nil}
 use Rattle.std.specs.Prelude.{Bool, true, false, if◌then◌else◌, ◌==◌, All, Option}
 use Rattle.std.specs.List.{range_with_len}
-use Rattle.std.proofs.lemmas.List.{append_assoc}
+use Rattle.std.proofs.lemmas.List.{append_assoc, at_drop_more, drop-drop, get_or-drop}
 use Rattle.std.proofs.lemmas.List.FromFn.{length-range_with_len}
-use Rattle.std.proofs.Math.Nat.{mul-le-mul_left, mul-le-mul}
+use Rattle.std.proofs.lemmas.Simd.{splat_is_map}
+use Rattle.std.proofs.Math.Nat.{mul-le-mul_left}
 use Rattle.pdl_elem.specs.declared.Ty.{Ty}
-use Rattle.pdl_shape.specs.Shape.{extent, extent_limit, size_of}
+use Rattle.pdl_shape.specs.Shape.{extent_limit, size_of}
 use Rattle.pdl_buf.specs.declared.made.Made.{Made}
 use Rattle.pdl_sig.specs.declared.Resolved.{Resolved}
 use Rattle.pdl_sig.specs.declared.Role.{Role}
 use Rattle.pdl_sig.specs.declared.Role.TheVariants.{Input, Output, Both, Temp}
 use Rattle.pdl_sig.specs.declared.SigArg.{SigArg}
-use Rattle.pdl_sig.specs.Resolution.{is_given, is_output, made, made_for}
+use Rattle.pdl_sig.specs.Resolution.{is_output, made, made_for}
 use Rattle.pdl_kernel.specs.declared.axes.Axis.{Axis}
-use Rattle.pdl_kernel.specs.Call.{first_given, with_given}
 use Rattle.pdl_kernel.specs.Places.{AreInOrder, Window, axes_of, is_written, sizes_of, strides_from, strides_of}
 use Rattle.pdl_kernel.specs.Setup.{IsShapeOf, elems_with, given_elems, given_strides, start_elems, strides_with, window_with}
 
@@ -22,54 +22,16 @@ use Rattle.pdl_kernel.specs.Setup.{IsShapeOf, elems_with, given_elems, given_str
 pub one_more : {X : Type 0} (made rest all : List X) (x : X) (from : List X) → from ≡ x ∷ rest → made ++ from ≡ all → (made ++ x ∷ []) ++ rest ≡ all
 one_more made rest all x from is same = append_assoc made (x ∷ []) rest ∙ ap (λ ys. made ++ ys) (sym is) ∙ same
 
-strides_suc : (n : ℕ) (ds : List ℕ) (i d : ℕ) → i < length ds → strides_from n (drop i ds) ≡ (if get_or ds i d == 1 then 0 else n) ∷ strides_from (n * get_or ds i d) (drop (suc i) ds)
-strides_suc n [] i d lt = absurd (omega arith)
-strides_suc n (x ∷ ds) zero d lt = refl
-strides_suc n (x ∷ ds) (suc i) d lt = strides_suc n ds i d (omega arith)
-
-pub strides_at : (n : ℕ) (ds : List ℕ) (i d : ℕ) → i < length ds → strides_from n (drop i ds) ≡ (if get_or ds i d == 1 then 0 else n) ∷ strides_from (n * get_or ds i d) (drop (i + 1) ds)
-strides_at n ds i d lt = rw add-one (strides_suc n ds i d lt)
-
-extent_suc : (ds : List ℕ) (i d : ℕ) → i < length ds → extent (drop i ds) ≡ max (get_or ds i d) 1 * extent (drop (suc i) ds)
-extent_suc [] i d lt = absurd (omega arith)
-extent_suc (x ∷ ds) zero d lt = refl
-extent_suc (x ∷ ds) (suc i) d lt = extent_suc ds i d (omega arith)
-
-pub extent_at : (ds : List ℕ) (i d : ℕ) → i < length ds → extent (drop i ds) ≡ max (get_or ds i d) 1 * extent (drop (i + 1) ds)
-extent_at ds i d lt = rw add-one (extent_suc ds i d lt)
-
-at_most : (d : ℕ) → d ≤ max d 1
-at_most d = omega arith
-
--- a stride times a size stays within the extent
-pub stride_within : (n d e : ℕ) → n * (max d 1 * e) ≤ extent_limit → (n * d) * e ≤ extent_limit
-stride_within n d e h =
-    let a : d * e ≤ max d 1 * e = mul-le-mul (at_most d) (omega arith) in
-    let b : n * (d * e) ≤ n * (max d 1 * e) = mul-le-mul_left n a in
-    let c : (n * d) * e ≡ n * (d * e) = grind arith in
-    omega (arith, b, c, h)
-
 pub stride_small : (n e : ℕ) → 0 < e → n * e ≤ extent_limit → n ≤ extent_limit
 stride_small n e some h =
     let a : n * 1 ≤ n * e = mul-le-mul_left n some in
     omega (arith, a, h)
 
-axes_suc : (ds ss : List ℕ) (k e : ℕ) → k < length ds → axes_of (drop k ds) (drop k ss) ≡ record { size = get_or ds k e; stride = get_or ss k 0 } ∷ axes_of (drop (suc k) ds) (drop (suc k) ss)
-axes_suc [] ss k e lt = absurd (omega arith)
-axes_suc (d ∷ ds) [] zero e lt = refl
-axes_suc (d ∷ ds) (s ∷ ss) zero e lt = refl
-axes_suc (d ∷ ds) [] (suc k) e lt = ap (λ xs. axes_of (drop k ds) xs) (none k) ∙ axes_suc ds [] k e (omega arith) ∙ same
-  where
-    none : (k : ℕ) → [] ≡ drop {A = ℕ} k []
-    none zero = refl
-    none (suc k) = refl
-
-    same : ◌≡◌ {A = List Axis} (record { size = get_or ds k e; stride = get_or [] k 0 } ∷ axes_of (drop (suc k) ds) (drop (suc k) [])) (record { size = get_or ds k e; stride = get_or [] (suc k) 0 } ∷ axes_of (drop (suc k) ds) (drop (suc (suc k)) []))
-    same = refl
-axes_suc (d ∷ ds) (s ∷ ss) (suc k) e lt = axes_suc ds ss k e (omega arith)
-
 pub axes_at : (ds ss : List ℕ) (k e : ℕ) → k < length ds → axes_of (drop k ds) (drop k ss) ≡ record { size = get_or ds k e; stride = get_or ss k 0 } ∷ axes_of (drop (k + 1) ds) (drop (k + 1) ss)
-axes_at ds ss k e lt = rw add-one (axes_suc ds ss k e lt)
+axes_at ds ss k e lt =
+    let first : get_or (drop k ss) 0 0 ≡ get_or ss k 0 = get_or-drop k ss 0 0 ∙ (let z : k + 0 ≡ k = omega arith in ap (λ j. get_or ss j 0) z) in
+    at_drop_more (λ xs. axes_of xs (drop k ss)) ds k e lt
+    ∙ ap₂ (λ (n : ℕ) (ts : List ℕ). let a : Axis = record { size = get_or ds k e; stride = n } in a ∷ axes_of (drop (k + 1) ds) ts) first (drop-drop 1 k ss)
 
 pub strides_long : (n : ℕ) (ds : List ℕ) → length (strides_from n ds) ≡ length ds
 strides_long n [] = refl
@@ -77,8 +39,7 @@ strides_long n (d ∷ ds) = ap suc (strides_long (n * d) ds)
 
 pub axes_long : (ds ss : List ℕ) → length (axes_of ds ss) ≡ length ds
 axes_long [] ss = refl
-axes_long (d ∷ ds) [] = ap suc (axes_long ds [])
-axes_long (d ∷ ds) (s ∷ ss) = ap suc (axes_long ds ss)
+axes_long (d ∷ ds) ss = ap suc (axes_long ds (drop 1 ss))
 
 -- a stride or nowhere
 pub along_small : (d n : ℕ) → n ≤ extent_limit → (if d == 1 then 0 else n) ≤ extent_limit
@@ -94,30 +55,13 @@ small_at [] k h = omega arith
 small_at (s ∷ ss) zero h = h 0 0 (omega arith)
 small_at (s ∷ ss) (suc k) h = small_at ss k (λ i d lt. h (suc i) d (omega arith))
 
--- past the first numbers, small ones stay
-pub small_past : (ss : List ℕ) (k : ℕ) → All (λ s. s ≤ extent_limit) ss → All (λ s. s ≤ extent_limit) (drop k ss)
-small_past ss zero h = h
-small_past [] (suc k) h = h
-small_past (s ∷ ss) (suc k) h = small_past ss k (λ i d lt. h (suc i) d (omega arith))
-
-pub drop_short : (ss : List ℕ) (k n : ℕ) → length ss ≤ n → length (drop k ss) ≤ n
-drop_short ss zero n h = h
-drop_short [] (suc k) n h = omega arith
-drop_short (s ∷ ss) (suc k) n h = drop_short ss k n (omega (arith, h))
-
-constant : {X : Type 0} (z : ℤ) (xs : List X) → map (λ x. z) xs ≡ replicate (length xs) z
-constant z [] = refl
-constant z (x ∷ xs) = ap (λ zs. z ∷ zs) (constant z xs)
-
 -- zeros are what an argument starts with for which nothing is given
 pub zeros_are : (ty : Ty) (shape : List ℕ) (n : ℕ) → n ≡ size_of shape → replicate n (pos 0) ≡ start_elems ty shape None
-zeros_are ty shape n same =
-    ap (λ k. replicate k (pos 0)) (same ∙ sym (length-range_with_len 0 (size_of shape))) ∙ sym (constant (pos 0) (range_with_len 0 (size_of shape)))
+zeros_are ty shape n same = splat_is_map (range_with_len 0 (size_of shape)) n (pos 0) (length-range_with_len 0 (size_of shape) ∙ sym same)
 
 pub axes_sizes : (ds ss : List ℕ) → sizes_of (axes_of ds ss) ≡ ds
 axes_sizes [] ss = refl
-axes_sizes (d ∷ ds) [] = ap (λ xs. d ∷ xs) (axes_sizes ds [])
-axes_sizes (d ∷ ds) (s ∷ ss) = ap (λ xs. d ∷ xs) (axes_sizes ds ss)
+axes_sizes (d ∷ ds) ss = ap (λ xs. d ∷ xs) (axes_sizes ds (drop 1 ss))
 
 front_strides : (n : ℕ) (core rest : List ℕ) → strides_of (axes_of core (strides_from n (core ++ rest))) ≡ strides_from n core
 front_strides n [] rest = refl
@@ -134,10 +78,7 @@ shape_front Both core broadcast h = (broadcast, refl)
 shape_front Temp core broadcast h = ([], sym (append-nil core))
 
 pub not_input : (r : Role) → is_written r ≡ true → r ≢ Input
-not_input Input h e = cc
-not_input Output h e = cc
-not_input Both h e = cc
-not_input Temp h e = cc
+not_input r h e = let no : is_written r ≡ false = ap is_written e in cc
 
 pub written_strides : (r : Role) (shape : List ℕ) (given : Option Made) → is_written r ≡ true → strides_with r shape given ≡ strides_from 1 shape
 written_strides r shape given h = ap (λ (b : Bool). if b then strides_from 1 shape else given_strides given) h
@@ -166,16 +107,6 @@ window_shaped r ty core a shape given is = by a.role refl
     by Output e = ap (λ s. window_with ty core s a given) (is (λ i. cc))
     by Both e = ap (λ s. window_with ty core s a given) (is (λ i. cc))
     by Temp e = ap (λ s. window_with ty core s a given) (is (λ i. cc))
-
-with_given_suc : (args : List SigArg) (given : List Made) (k : ℕ) (d : SigArg) → k < length args
-    → with_given (drop k args) given ≡ (get_or args k d, first_given (is_given (get_or args k d).role) given) ∷ with_given (drop (suc k) args) (if is_given (get_or args k d).role then drop 1 given else given)
-with_given_suc [] given k d lt = absurd (omega (arith, lt))
-with_given_suc (a ∷ args) given zero d lt = refl
-with_given_suc (a ∷ args) given (suc k) d lt = with_given_suc args given k d (omega (arith, lt))
-
-pub with_given_at : (args : List SigArg) (given : List Made) (k : ℕ) (d : SigArg) → k < length args
-    → with_given (drop k args) given ≡ (get_or args k d, first_given (is_given (get_or args k d).role) given) ∷ with_given (drop (k + 1) args) (if is_given (get_or args k d).role then drop 1 given else given)
-with_given_at args given k d lt = rw add-one (with_given_suc args given k d lt)
 
 pub size_parts : (xs ys : List ℕ) → size_of (xs ++ ys) ≡ size_of xs * size_of ys
 size_parts [] ys = omega arith

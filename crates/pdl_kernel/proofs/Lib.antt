@@ -9,7 +9,6 @@ mod Kept
 mod Laying
 mod Mapping
 mod Placing
-mod Rows
 mod Scenery
 mod Shaping
 mod Starting

@@ -1,7 +1,9 @@
 -- What code leaves in all arguments at one broadcast place after the other.
-use Rattle.std.proofs.Common.{◌≡◌, ℕ, zero, suc, ◌<◌, pos, List, [], ◌∷◌, ◌++◌, length, map, replicate, get_or, Ok, refl, sym, ap, subst, ◌∙◌, arith}
+use Rattle.std.proofs.Common.{◌≡◌, ℕ, ◌<◌, pos, List, [], ◌∷◌, ◌++◌, length, map, replicate, get_or, Ok, refl, sym, ap, subst, ◌∙◌, arith}
 use Rattle.std.specs.Prelude.{All, Result}
-use Rattle.std.proofs.lemmas.List.{get_or-map, length-map, length-replicate}
+use Rattle.std.proofs.lemmas.List.{ext_get_or, get_or-map, length-map, length-replicate}
+use Rattle.std.proofs.lemmas.List.Elements.{All-from_get_or}
+use Rattle.std.proofs.lemmas.Simd.{map-map}
 use Rattle.pdl_shape.specs.Laws.{PositionLaws}
 use Rattle.pdl_shape.specs.Shape.{coordinates_of, size_of}
 use Rattle.pdl_buf.specs.declared.made.Made.{Made}
@@ -18,25 +20,9 @@ use Rattle.pdl_kernel.proofs.Collecting.{collected_more, shown_again, whole_ther
 use Rattle.pdl_kernel.proofs.Gathering.{IsBehind, behind_count}
 use Rattle.pdl_kernel.proofs.Kept.{HasForm, blank_store, form_is_kept, run_relates}
 
-kinds_stay : (bs : List ℕ) (ws : List Window) → map kind_of (map (λ w. rest_of (begun_at bs w)) ws) ≡ map kind_of (map rest_of ws)
-kinds_stay bs [] = refl
-kinds_stay bs (w ∷ ws) = ap (λ ks. kind_of (rest_of w) ∷ ks) (kinds_stay bs ws)
-
 -- windows that move stay windows of their kinds
 pub kinds_at : (bs : List ℕ) (s : Scene) (rs : List Rest) → rs ≡ rests_at bs s → map kind_of rs ≡ kinds_of s
-kinds_at bs s rs e = ap (map kind_of) e ∙ kinds_stay bs s.arguments.items
-
-map_alike : {X Y : Type 0} (f : X → Y) (d : X) (xs ys : List X) → length xs ≡ length ys → ((k : ℕ) → k < length ys → f (get_or xs k d) ≡ f (get_or ys k d)) → map f xs ≡ map f ys
-map_alike f d [] [] n each = refl
-map_alike f d [] (y ∷ ys) n each = absurd (omega (arith, n))
-map_alike f d (x ∷ xs) [] n each = absurd (omega (arith, n))
-map_alike f d (x ∷ xs) (y ∷ ys) n each =
-    ap (λ z. z ∷ map f xs) (each 0 (omega arith)) ∙ ap (λ zs. f y ∷ zs) (map_alike f d xs ys (omega (arith, n)) (λ k lt. each (suc k) (omega (arith, lt))))
-
-all_by : {X : Type 0} (P : X → Type 0) (d : X) (xs : List X) → ((k : ℕ) → k < length xs → P (get_or xs k d)) → All P xs
-all_by P d [] each i e lt = absurd (omega (arith, lt))
-all_by P d (x ∷ xs) each zero e lt = each 0 (omega arith)
-all_by P d (x ∷ xs) each (suc i) e lt = all_by P d xs (λ k below. each (suc k) (omega (arith, below))) i e (omega (arith, lt))
+kinds_at bs s rs e = ap (map kind_of) e ∙ map-map kind_of (λ (w : Window). rest_of (begun_at bs w)) s.arguments.items ∙ sym (map-map kind_of rest_of s.arguments.items)
 
 -- before any code ran
 pub none_collected : (ws : List Window) → AreCollected [] ws ws
@@ -51,13 +37,20 @@ module _ (laws : PositionLaws) (broadcast : List ℕ) (ms : List Store) (was : L
 
   -- code finds what it would have found first
   shown_all : map (λ w. array_seen (begun_at bs w)) now.arguments.items ≡ map (λ w. array_seen (begun_at bs w)) was
-  shown_all = map_alike (λ w. array_seen (begun_at bs w)) blank now.arguments.items was h.count
-      (λ k lt. shown_again laws broadcast k ms (get_or was k blank) (get_or now.arguments.items k blank) (laid k blank lt) (h.argument k lt) p count inside)
+  shown_all =
+      let f : Window → Made = λ w. array_seen (begun_at bs w) in
+      let long = length-map now.arguments.items f in
+      ext_get_or nothing (map f now.arguments.items) (map f was) (long ∙ h.count ∙ sym (length-map was f)) (λ k lt.
+      let there : k < length now.arguments.items = omega (arith, lt, long) in
+      let mine : k < length was = omega (arith, there, h.count) in
+      get_or-map f now.arguments.items k blank nothing there
+      ∙ shown_again laws broadcast k ms (get_or was k blank) (get_or now.arguments.items k blank) (laid k blank mine) (h.argument k mine) p count inside
+      ∙ sym (get_or-map f was k blank nothing mine))
 
   pub whole_all : All IsWhole (rests_at bs now)
   whole_all =
       let f : Window → Rest = λ w. rest_of (begun_at bs w) in
-      all_by IsWhole (f blank) (map f now.arguments.items) (λ k lt.
+      All-from_get_or IsWhole (map f now.arguments.items) (f blank) (λ k lt.
       let below : k < length now.arguments.items = omega (arith, lt, length-map now.arguments.items f) in
       let mine : k < length was = omega (arith, below, h.count) in
       subst IsWhole (sym (get_or-map f now.arguments.items k blank (f blank) below))

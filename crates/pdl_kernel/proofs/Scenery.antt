@@ -14,9 +14,9 @@ use Rattle.pdl_kernel.specs.declared.faults.Fault.TheVariants.{IndexOutOfRange}
 use Rattle.pdl_kernel.specs.declared.scene.Scene.{Scene}
 use Rattle.pdl_kernel.specs.Answers.{Becomes}
 use Rattle.pdl_kernel.specs.Meaning.{Store, and_then, argument, assigned, changed, coordinates_in, element, element_at, indices, nothing, or_range, start, stored, value, with_argument}
-use Rattle.pdl_kernel.specs.Places.{IsSound, IsWhole, Kind, Window, array_seen, blank, found, is_written, kind_of, put_in, reach, rest_of, sizes_of}
+use Rattle.pdl_kernel.specs.Places.{IsSound, IsWhole, Kind, Window, array_seen, blank, dot, found, is_written, kind_of, put_in, rest_of, sizes_of, strides_of}
 use Rattle.pdl_kernel.specs.Scenes.{kinds_of, rests_of, store_of}
-use Rattle.pdl_kernel.proofs.Finding.{element_found, found_is}
+use Rattle.pdl_kernel.proofs.Finding.{element_found}
 use Rattle.pdl_kernel.proofs.Windows.{assigned_found, rest_put}
 
 kinds_long : (s : Scene) → length (kinds_of s) ≡ length s.arguments.items
@@ -131,10 +131,10 @@ pub past_range : (s : Scene) (k : ℕ) (w : Window) (op : Option BinaryOp) (x : 
     → and_then (assigned (argument (store_of s) k) op x js) (with_argument (store_of s) k) ≡ Err IndexOutOfRange
 past_range s k w op x js window lt f =
     let arg : argument (store_of s) k ≡ array_seen w = argument_is s k lt ∙ sym (ap array_seen window) in
-    let c = none_found (coordinates_in (sizes_of w.axes) js) (sym (found_is w.axes js w.start) ∙ f) in
+    let c = none_found (coordinates_in (sizes_of w.axes) js) f in
     ap (λ a. and_then (assigned a op x js) (with_argument (store_of s) k)) arg
     ∙ ap (λ c. and_then (and_then (or_range c) (λ cs. and_then (changed op (element (array_seen w) cs) x) (λ y. Ok (stored (array_seen w) cs y)))) (with_argument (store_of s) k)) c
   where
-    none_found : (c : Option (List ℕ)) → option_map (λ cs. w.start + reach w.axes cs) c ≡ None → c ≡ None
+    none_found : (c : Option (List ℕ)) → option_map (λ cs. w.start + dot (strides_of w.axes) cs) c ≡ None → c ≡ None
     none_found None e = refl
     none_found (Some cs) e = cc

@@ -2,6 +2,7 @@
 use Rattle.std.proofs.Common.{◌≡◌, ℕ, zero, suc, ◌+◌, ◌*◌, ◌<◌, ℤ, pos, List, [], ◌∷◌, ◌++◌, map, length, drop, replicate, get_or, refl, sym, ap, ap₂, ◌∙◌, arith}
 use Rattle.std.specs.Prelude.{All, if◌then◌else◌, Option, Some, None, Result}
 use Rattle.std.specs.List.{range_with_len}
+use Rattle.pdl_lemmas.specs.Lists.{map-range_same}
 use Rattle.std.proofs.Math.ListN.{get_or-map}
 use Rattle.std.proofs.lemmas.List.{drop_all, length-map}
 use Rattle.std.proofs.lemmas.List.FromFn.{get_or-map-range_with_len, length-map-range_with_len}
@@ -25,7 +26,7 @@ use Rattle.pdl_kernel.specs.declared.scene.Scene.{Scene}
 use Rattle.pdl_kernel.specs.Call.{first_given, outcome, start_element, started, store_before, stores_from, with_given}
 use Rattle.pdl_kernel.specs.Collecting.{IsLaid}
 use Rattle.pdl_kernel.specs.Meaning.{Store, run}
-use Rattle.pdl_kernel.specs.Places.{array_seen, axes_of, begun_at, cleared, count_of, dot, reach, sizes_of, strides_from}
+use Rattle.pdl_kernel.specs.Places.{array_seen, axes_of, begun_at, cleared, count_of, dot, sizes_of, strides_from, strides_of}
 use Rattle.pdl_kernel.specs.Scenes.{left_in_order}
 use Rattle.pdl_kernel.specs.Setup.{elems_with, given_elems, given_strides, start_elems, strides_with, window_of}
 use Rattle.pdl_kernel.proofs.Collecting.{output_written}
@@ -33,56 +34,42 @@ use Rattle.pdl_kernel.proofs.Finding.{stretch, uncut}
 use Rattle.pdl_kernel.proofs.Laying.{axes_sizes, laid_in_order, made_output, size_parts, strides_long, written_elems, written_strides, zeros_are}
 
 -- core strides and outer strides
-reach_parts : (core ss cs bs : List ℕ) → length cs ≡ length core → dot (drop (length core) ss) bs + reach (axes_of core ss) cs ≡ dot ss (cs ++ bs)
+reach_parts : (core ss cs bs : List ℕ) → length cs ≡ length core → dot (drop (length core) ss) bs + dot (strides_of (axes_of core ss)) cs ≡ dot ss (cs ++ bs)
 reach_parts [] ss [] bs n = omega arith
 reach_parts [] ss (c ∷ cs) bs n = absurd (omega (arith, n))
 reach_parts (d ∷ core) ss [] bs n = absurd (omega (arith, n))
 reach_parts (d ∷ core) [] (c ∷ cs) bs n =
-    let rest : dot (drop (length core) []) bs + reach (axes_of core []) cs ≡ 0 = reach_parts core [] cs bs (omega (arith, n)) in
-    let none : dot (drop (length core) []) bs ≡ 0 = ap (λ xs. dot xs bs) (drop_none (length core)) in
-    omega (arith, rest, none)
-  where
-    drop_none : (k : ℕ) → drop {A = ℕ} k [] ≡ []
-    drop_none zero = refl
-    drop_none (suc k) = refl
-reach_parts (d ∷ core) (s ∷ ss) (c ∷ cs) bs n =
-    let rest : dot (drop (length core) ss) bs + reach (axes_of core ss) cs ≡ dot ss (cs ++ bs) = reach_parts core ss cs bs (omega (arith, n)) in
+    let rest : dot (drop (length core) []) bs + dot (strides_of (axes_of core [])) cs ≡ 0 = reach_parts core [] cs bs (omega (arith, n)) in
     omega (arith, rest)
-
-coordinates_long : (ds : List ℕ) (p : ℕ) → length (coordinates_of ds p) ≡ length ds
-coordinates_long [] p = refl
-coordinates_long (d ∷ ds) p = ap suc (coordinates_long ds _)
-
-map_in_range : {X : Type 0} (f g : ℕ → X) (a n : ℕ) → ((q : ℕ) → q < a + n → f q ≡ g q) → map f (range_with_len a n) ≡ map g (range_with_len a n)
-map_in_range f g a zero each = refl
-map_in_range f g a (suc n) each =
-    ap (λ y. y ∷ map f (range_with_len (a + 1) n)) (each a (omega arith)) ∙ ap (λ ys. g a ∷ ys) (map_in_range f g (a + 1) n (λ q lt. each q (omega (arith, lt))))
+reach_parts (d ∷ core) (s ∷ ss) (c ∷ cs) bs n =
+    let rest : dot (drop (length core) ss) bs + dot (strides_of (axes_of core ss)) cs ≡ dot ss (cs ++ bs) = reach_parts core ss cs bs (omega (arith, n)) in
+    omega (arith, rest)
 
 -- an argument of core sizes, at broadcast coordinates, by its strides and its elements
 abbrev shown_with : Ty → (core : List ℕ) → (rank : ℕ) → (bs strides : List ℕ) → List ℤ → Made
 shown_with ty core n bs ss es = array_seen (record { role = Input; ty = ty; axes = axes_of core ss; outer = []; elems = es; start = dot (drop n ss) bs })
 
 shown_is : (ty : Ty) (core : List ℕ) (n : ℕ) (bs ss : List ℕ) (es : List ℤ) (f : ℕ → ℤ)
-    → ((q : ℕ) → q < size_of core → get_or es (dot (drop n ss) bs + reach (axes_of core ss) (coordinates_of core q)) (pos 0) ≡ f q)
+    → ((q : ℕ) → q < size_of core → get_or es (dot (drop n ss) bs + dot (strides_of (axes_of core ss)) (coordinates_of core q)) (pos 0) ≡ f q)
     → ◌≡◌ {A = Made} (shown_with ty core n bs ss es) (record { ty = ty; dims = core; elems = map f (range_with_len 0 (size_of core)) })
 shown_is ty core n bs ss es f each =
     let axes = axes_of core ss in
-    let seen : List ℕ → ℕ → ℤ = λ ds p. get_or es (dot (drop n ss) bs + reach axes (coordinates_of ds p)) (pos 0) in
+    let seen : List ℕ → ℕ → ℤ = λ ds p. get_or es (dot (drop n ss) bs + dot (strides_of axes) (coordinates_of ds p)) (pos 0) in
     let elems : map (seen (sizes_of axes)) (range_with_len 0 (size_of (sizes_of axes))) ≡ map f (range_with_len 0 (size_of core)) =
     ap (λ (ds : List ℕ). map (seen ds) (range_with_len 0 (size_of ds))) (axes_sizes core ss)
-    ∙ map_in_range (seen core) f 0 (size_of core) (λ q lt. each q (omega (arith, lt))) in
+    ∙ map-range_same (seen core) f (size_of core) (pos 0) each in
     ap₂ (λ (ds : List ℕ) (es : List ℤ). let m : Made = record { ty = ty; dims = ds; elems = es } in m) (axes_sizes core ss) elems
 
 -- the element of an input
-input_element : WrappingLaws → (ty : Ty) (core : List ℕ) (n : ℕ) (given : Option Made) (bs : List ℕ) (p : ℕ) → n ≡ length core
-    → get_or (given_elems ty given) (dot (drop n (given_strides given)) bs + reach (axes_of core (given_strides given)) (coordinates_of core p)) (pos 0) ≡ start_element ty given (coordinates_of core p ++ bs)
-input_element wraps ty core n None bs p count = refl
-input_element wraps ty core n (Some g) bs p count =
+input_element : PositionLaws → WrappingLaws → (ty : Ty) (core : List ℕ) (n : ℕ) (given : Option Made) (bs : List ℕ) (p : ℕ) → n ≡ length core → p < size_of core
+    → get_or (given_elems ty given) (dot (drop n (given_strides given)) bs + dot (strides_of (axes_of core (given_strides given))) (coordinates_of core p)) (pos 0) ≡ start_element ty given (coordinates_of core p ++ bs)
+input_element laws wraps ty core n None bs p count lt = refl
+input_element laws wraps ty core n (Some g) bs p count lt =
     let ss = strides_from 1 g.dims in
     let cs = coordinates_of core p in
-    let at : dot (drop n ss) bs + reach (axes_of core ss) cs ≡ position_of g.dims (cut_to g.dims (cs ++ bs)) =
-    ap (λ (k : ℕ). dot (drop k ss) bs + reach (axes_of core ss) cs) count
-    ∙ reach_parts core ss cs bs (coordinates_long core p)
+    let at : dot (drop n ss) bs + dot (strides_of (axes_of core ss)) cs ≡ position_of g.dims (cut_to g.dims (cs ++ bs)) =
+    ap (λ (k : ℕ). dot (drop k ss) bs + dot (strides_of (axes_of core ss)) cs) count
+    ∙ reach_parts core ss cs bs (laws.as_many core cs (laws.coordinates_within core p lt))
     ∙ (let e = stretch 1 g.dims (cs ++ bs) in omega (arith, e)) in
     ap (λ (i : ℕ). get_or (map (wrapped ty) g.elems) i (pos 0)) at
     ∙ ap (get_or (map (wrapped ty) g.elems) (position_of g.dims (cut_to g.dims (cs ++ bs)))) (sym (wraps.same ty (pos 0) (wraps.zero ty)))
@@ -96,16 +83,16 @@ within_both (x ∷ xs) ys (c ∷ cs) bs w v = (w.0, within_both xs ys cs bs w.1 
 
 -- the element of an output
 output_element : PositionLaws → (ty : Ty) (core broadcast : List ℕ) (n : ℕ) (given : Option Made) (bs : List ℕ) (q : ℕ) → n ≡ length core → IsWithin broadcast bs → q < size_of core
-    → (let ss = strides_from 1 (core ++ broadcast) in get_or (start_elems ty (core ++ broadcast) given) (dot (drop n ss) bs + reach (axes_of core ss) (coordinates_of core q)) (pos 0)) ≡ start_element ty given (coordinates_of core q ++ bs)
+    → (let ss = strides_from 1 (core ++ broadcast) in get_or (start_elems ty (core ++ broadcast) given) (dot (drop n ss) bs + dot (strides_of (axes_of core ss)) (coordinates_of core q)) (pos 0)) ≡ start_element ty given (coordinates_of core q ++ bs)
 output_element laws ty core broadcast n given bs q count inside lt =
     let shape = core ++ broadcast in
     let ss = strides_from 1 shape in
     let cs = coordinates_of core q in
     let w : IsWithin shape (cs ++ bs) = within_both core broadcast cs bs (laws.coordinates_within core q lt) inside in
     let p = position_of shape (cs ++ bs) in
-    let at : dot (drop n ss) bs + reach (axes_of core ss) cs ≡ p =
-    ap (λ (k : ℕ). dot (drop k ss) bs + reach (axes_of core ss) cs) count
-    ∙ reach_parts core ss cs bs (coordinates_long core q)
+    let at : dot (drop n ss) bs + dot (strides_of (axes_of core ss)) cs ≡ p =
+    ap (λ (k : ℕ). dot (drop k ss) bs + dot (strides_of (axes_of core ss)) cs) count
+    ∙ reach_parts core ss cs bs (laws.as_many core cs (laws.coordinates_within core q lt))
     ∙ (let e = stretch 1 shape (cs ++ bs) in let z : dot ss (cs ++ bs) ≡ position_of shape (cut_to shape (cs ++ bs)) = omega (arith, e) in z)
     ∙ ap (position_of shape) (uncut shape (cs ++ bs) w) in
     let f : ℕ → ℤ = λ i. start_element ty given (coordinates_of shape i) in
@@ -143,11 +130,11 @@ module _ (laws : PositionLaws) (r : Resolved) (a : SigArg) (given : Option Made)
   window_shown wraps bs inside = by a.role refl
     where
       by : (x : Role) → a.role ≡ x → array_seen (begun_at bs (window_of r (a, given))) ≡ started r bs (a, given)
-      by Input e = ap (At bs) e ∙ shown_is ty core (length a.dims) bs (given_strides given) (given_elems ty given) (λ q. start_element ty given (coordinates_of core q ++ bs)) (λ q lt. input_element wraps ty core (length a.dims) given bs q rank)
+      by Input e = ap (At bs) e ∙ shown_is ty core (length a.dims) bs (given_strides given) (given_elems ty given) (λ q. start_element ty given (coordinates_of core q ++ bs)) (λ q lt. input_element laws wraps ty core (length a.dims) given bs q rank lt)
       by Output e = ap (At bs) e ∙ output_shown bs inside
       by Both e = ap (At bs) e ∙ output_shown bs inside
       by Temp e = ap (At bs) e ∙ shown_is ty core (length a.dims) bs (strides_from 1 core) (replicate (length (start_elems ty core given)) (pos 0)) (λ q. start_element ty given (coordinates_of core q ++ bs))
-          (λ q lt. zero_anywhere (length (start_elems ty core given)) (dot (drop (length a.dims) (strides_from 1 core)) bs + reach (axes_of core (strides_from 1 core)) (coordinates_of core q))
+          (λ q lt. zero_anywhere (length (start_elems ty core given)) (dot (drop (length a.dims) (strides_from 1 core)) bs + dot (strides_of (axes_of core (strides_from 1 core))) (coordinates_of core q))
           ∙ sym (ap (λ g. start_element ty g (coordinates_of core q ++ bs)) (none e)))
 
   outer_strides : (n : ℕ) (ds rest : List ℕ) → drop (length ds) (strides_from n (ds ++ rest)) ≡ strides_from (n * size_of ds) rest

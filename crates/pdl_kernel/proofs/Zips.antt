@@ -1,14 +1,8 @@
 -- Two lists whose elements go together.
-use Rattle.std.proofs.Common.{◌≡◌, ℕ, zero, suc, ◌<◌, List, [], ◌∷◌, length, get_or, refl, ap, arith}
+use Rattle.std.proofs.Common.{ℕ, zero, suc, ◌<◌, List, [], ◌∷◌, length, get_or, arith}
 use Rattle.std.specs.List.{AllZip}
 
 module _ {X Y : Type 0} (R : X → Y → Type 0) where
-  pub zip_length : (xs : List X) (ys : List Y) → AllZip R xs ys → length ys ≡ length xs
-  zip_length [] [] h = refl
-  zip_length [] (y ∷ ys) h = absurd h
-  zip_length (x ∷ xs) [] h = absurd h
-  zip_length (x ∷ xs) (y ∷ ys) h = ap suc (zip_length xs ys h.1)
-
   pub zip_get : (xs : List X) (ys : List Y) (k : ℕ) (d : X) (e : Y) → AllZip R xs ys → k < length xs → R (get_or xs k d) (get_or ys k e)
   zip_get [] ys k d e h lt = absurd (omega arith)
   zip_get (x ∷ xs) [] k d e h lt = absurd h

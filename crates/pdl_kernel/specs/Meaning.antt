@@ -1,6 +1,6 @@
 -- The meaning of kernel code (PDL::PP, Code): from a store to a store or a fault, by
 -- recursion on the code.
-use Rattle.std.specs.Prelude.{ℕ, zero, suc, ◌+◌, ℤ, pos, List, [], get_or, slice_set, replicate, Option, Some, None, Result, Ok, Err, nat_lt, if◌then◌else◌, ◌∷◌, negsuc, option_map}
+use Rattle.std.specs.Prelude.{ℕ, zero, suc, ◌+◌, ℤ, pos, List, [], get_or, slice_set, replicate, Option, Some, None, Result, Ok, Err, nat_lt, if◌then◌else◌, ◌∷◌, negsuc, option_map, option_and_then}
 use Rattle.pdl_elem.specs.declared.Ty.{Ty}
 use Rattle.pdl_elem.specs.declared.Ty.TheVariants.{Byte, Long as LongTy, Longlong as LonglongTy}
 use Rattle.pdl_elem.specs.declared.BinaryOp.{BinaryOp}
@@ -19,13 +19,17 @@ use Rattle.pdl_code.specs.Tree.{Tree, Indices, Step, Code, number, size, named, 
 use Rattle.pdl_kernel.specs.declared.faults.Fault.{Fault}
 use Rattle.pdl_kernel.specs.declared.faults.Fault.TheVariants.{DivideByZero, IndexOutOfRange}
 
+-- an index that is from 0 to a size less 1
+abbrev pub within : ℤ → (size : ℕ) → Option ℕ
+within (negsuc i) n = None
+within (pos i) n = if nat_lt i n then Some i else None
+
 -- the coordinates that indices are, where each is from 0 to its size less 1
 abbrev pub coordinates_in : (sizes : List ℕ) → (indices : List ℤ) → Option (List ℕ)
 coordinates_in [] is = Some []
 coordinates_in (d ∷ ds) [] = None
-coordinates_in (d ∷ ds) (negsuc i ∷ is) = None
-coordinates_in (d ∷ ds) (pos i ∷ is) =
-    if nat_lt i d then option_map (λ cs. i ∷ cs) (coordinates_in ds is) else None
+coordinates_in (d ∷ ds) (i ∷ is) =
+    option_and_then (λ c. option_map (λ cs. c ∷ cs) (coordinates_in ds is)) (within i d)
 
 -- the element at coordinates
 abbrev pub element : Made → List ℕ → ℤ

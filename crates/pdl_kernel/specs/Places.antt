@@ -1,6 +1,6 @@
 -- Where the numbers of arguments lie: in flat buffers, by strides. Each argument is a window on its
 -- buffer: that of an input by any strides, that of another one in order.
-use Rattle.std.specs.Prelude.{◌≡◌, ◌≤◌, ℕ, ◌+◌, ◌*◌, ◌==◌, ℤ, pos, negsuc, Bool, true, false, nat_lt, if◌then◌else◌, List, [], ◌∷◌, map, length, get_or, take, drop, replicate, slice_get, slice_set, Option, Some, None, option_map, All}
+use Rattle.std.specs.Prelude.{◌≡◌, ◌≤◌, ℕ, ◌+◌, ◌*◌, ◌==◌, ℤ, pos, Bool, true, false, if◌then◌else◌, List, [], ◌∷◌, map, length, get_or, take, drop, replicate, slice_get, slice_set, Option, Some, None, option_map, option_and_then, All}
 use Rattle.std.specs.List.{range_with_len}
 use Rattle.pdl_elem.specs.declared.Ty.{Ty}
 use Rattle.pdl_elem.specs.declared.Ty.TheVariants.{Byte}
@@ -10,6 +10,7 @@ use Rattle.pdl_buf.specs.declared.made.Made.{Made}
 use Rattle.pdl_sig.specs.declared.Role.{Role}
 use Rattle.pdl_sig.specs.declared.Role.TheVariants.{Input, Temp}
 use Rattle.pdl_kernel.specs.declared.axes.Axis.{Axis}
+use Rattle.pdl_kernel.specs.Meaning.{coordinates_in, within}
 
 -- an argument: its core dimensions, its strides along the broadcast dimensions, all its elements,
 -- and the place of the first one that is seen
@@ -29,11 +30,6 @@ abbrev pub strides_of : List Axis → List ℕ
 strides_of axes = map (λ a. a.stride) axes
 
 -- the strides times the coordinates
-abbrev pub reach : List Axis → List ℕ → ℕ
-reach [] cs = 0
-reach (a ∷ axes) [] = 0
-reach (a ∷ axes) (c ∷ cs) = a.stride * c + reach axes cs
-
 abbrev pub dot : (strides coordinates : List ℕ) → ℕ
 dot [] cs = 0
 dot (s ∷ strides) [] = 0
@@ -47,20 +43,12 @@ strides_from n (d ∷ ds) = (if d == 1 then 0 else n) ∷ strides_from (n * d) d
 -- dimensions of these sizes, with these strides; nowhere where a stride is missing
 abbrev pub axes_of : (sizes strides : List ℕ) → List Axis
 axes_of [] ss = []
-axes_of (d ∷ ds) [] = record { size = d; stride = 0 } ∷ axes_of ds []
-axes_of (d ∷ ds) (s ∷ ss) = record { size = d; stride = s } ∷ axes_of ds ss
+axes_of (d ∷ ds) ss = record { size = d; stride = get_or ss 0 0 } ∷ axes_of ds (drop 1 ss)
 
 -- the place of indices in a buffer, from q on, where each is from 0 to its size less 1
 abbrev pub found : List Axis → (indices : List ℤ) → ℕ → Option ℕ
-found [] is q = Some q
-found (a ∷ axes) [] q = None
-found (a ∷ axes) (negsuc i ∷ is) q = None
-found (a ∷ axes) (pos i ∷ is) q = if nat_lt i a.size then found axes is (q + a.stride * i) else None
-
--- an index that is from 0 to a size less 1
-abbrev pub within : ℤ → (size : ℕ) → Option ℕ
-within (negsuc i) n = None
-within (pos i) n = if nat_lt i n then Some i else None
+found axes is q =
+    option_map (λ cs. q + dot (strides_of axes) cs) (coordinates_in (sizes_of axes) is)
 
 -- the place that an index further along a dimension leads to, where it is in range
 abbrev pub moved_along : Option Axis → (index : ℤ) → ℕ → Option ℕ
@@ -68,8 +56,7 @@ moved_along None i q = None
 moved_along (Some a) i q = option_map (λ j. q + a.stride * j) (within i a.size)
 
 abbrev pub moved : List Axis → (dimension : ℕ) → (index : ℤ) → Option ℕ → Option ℕ
-moved axes k i None = None
-moved axes k i (Some q) = moved_along (slice_get axes k) i q
+moved axes k i q = option_and_then (moved_along (slice_get axes k) i) q
 
 -- whether code may write an argument of this role
 abbrev pub is_written : Role → Bool
@@ -87,7 +74,7 @@ count_of w = size_of (sizes_of w.axes)
 -- the elements that it shows, in order of position
 abbrev pub element_seen : Window → (position : ℕ) → ℤ
 element_seen w p =
-    get_or w.elems (w.start + reach w.axes (coordinates_of (sizes_of w.axes) p)) (pos 0)
+    get_or w.elems (w.start + dot (strides_of w.axes) (coordinates_of (sizes_of w.axes) p)) (pos 0)
 
 -- the argument as code sees it
 abbrev pub array_seen : Window → Made

@@ -13,7 +13,7 @@ use Rattle.pdl_kernel.specs.Setup.{IsShapeOf, outputs_in, window_of}
 use Rattle.pdl_kernel.proofs.Calling.{answers_as, collected_long, faults_as, set_up_long}
 use Rattle.pdl_kernel.proofs.Shaping.{code_over, kinds_are, shapes_are}
 use Rattle.pdl_kernel.proofs.Starting.{windows_laid}
-use Rattle.pdl_kernel.proofs.Zips.{zip_length}
+use Rattle.std.proofs.lemmas.Slice.Zip.{AllZip-long}
 use Rattle.pdl_kernel.proofs.call.call.Goals as goal
 
 pub arguments-requires-clause-shapes : goal.arguments-requires-clause-shapes
@@ -55,7 +55,7 @@ outputs-requires c =
     let shapes : AllZip (IsShapeOf r) k.signature.args r.shapes = subst (AllZip (IsShapeOf r) k.signature.args) (sym solves.shapes_are) (shapes_are r k.signature.args c.requires.shapes) in
     let windows : c.in_ok-arguments.field-0.items ≡ map (window_of r) (with_given k.signature.args given) = c.in_ok-arguments.ensures ∙ ap (λ (xs : List SigArg). map (window_of r) (with_given xs given)) args in
     let n = collected_long c.in_ok-arguments.field-0.items c.collect.new.scene.arguments.items _ c.in-Ok.ensures in
-    n ∙ ap (length {A = Window}) windows ∙ set_up_long r k.signature.args given ∙ sym (zip_length (IsShapeOf r) k.signature.args r.shapes shapes) ∙ sym (ap (length {A = List ℕ}) c.as_slice.ensures)
+    n ∙ ap (length {A = Window}) windows ∙ set_up_long r k.signature.args given ∙ sym (AllZip-long (IsShapeOf r) k.signature.args r.shapes shapes) ∙ sym (ap (length {A = List ℕ}) c.as_slice.ensures)
 
 pub returns-in_ok-outputs-in-Ok : goal.returns-in_ok-outputs-in-Ok
 returns-in_ok-outputs-in-Ok c =

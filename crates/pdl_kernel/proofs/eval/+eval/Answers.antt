@@ -1,12 +1,11 @@
-use Rattle.std.proofs.Common.{refl, ◌≡◌, ◌+◌, ◌*◌, Ok, sym, ap, subst, ◌∙◌, rules, arith, w64, get_or, pos, of_z, to_z, drop, ◌<◌, length}
+use Rattle.std.proofs.Common.{refl, List, ◌≡◌, ◌+◌, ◌*◌, Ok, sym, ap, subst, ◌∙◌, rules, arith, w64, get_or, pos, of_z, to_z, drop, ◌<◌, length}
 use mir.Val.{SFits}
 use Rattle.std.proofs.lemmas.Int.{to_z-of_z}
 use Rattle.pdl_kernel.specs.Over.{IsTreeOver}
 use Rattle.pdl_kernel.specs.Meaning.{and_then, number_of, or_range, value}
 use Rattle.pdl_kernel.specs.Scenes.{kinds_of, store_of}
 use Rattle.pdl_code.specs.Tree.{access, named}
-use Rattle.pdl_code.specs.TreeOf.{indices_of, tree_of}
-use Rattle.pdl_kernel.proofs.Rows.{access_tree}
+use Rattle.pdl_code.specs.TreeOf.{KernelEntry, indices_of, tree_of}
 use Rattle.pdl_kernel.proofs.Scenery.{access_is, each_is}
 use Rattle.pdl_kernel.proofs.Walks.{few_entries, given_next, indices_weight, looped_next, near_more, rest_over, tree_weight, walked, walked_fault, walked_more}
 use Rattle.pdl_kernel.proofs.eval.+eval.Goals as goal
@@ -82,27 +81,27 @@ place-returns-in-None-clause-value t c =
 pub value-element-requires : goal.value-element-requires
 value-element-requires t c =
     let is = indices_of c.deref.result.now in
-    let e : tree_of c.args.expr.now ≡ access c.in-Access.number is = access_tree c.args.expr.now c.in-Access.number c.in-Access.entries c.deref.result.now (c.rows_are_trees.ensures.access c.in-Access.number c.in-Access.entries) c.in-Access.is c.deref.ensures.value in
+    let e : tree_of c.args.expr.now ≡ access c.in-Access.number is = ap tree_of c.in-Access.is ∙ c.rows_are_trees.ensures.access c.in-Access.number c.in-Access.entries ∙ ap (λ (xs : List KernelEntry). access c.in-Access.number (indices_of xs)) (sym c.deref.ensures.value) in
     let w : tree_weight (tree_of c.args.expr.now) ≡ indices_weight is + 1 = ap tree_weight e in
     (search (rules, w), subst (IsTreeOver (kinds_of c.args.scene.now)) e c.requires)
 
 pub value-returns-in-Access : goal.value-returns-in-Access
 value-returns-in-Access t c =
     let is = indices_of c.deref.result.now in
-    let e : tree_of c.args.expr.now ≡ access c.in-Access.number is = access_tree c.args.expr.now c.in-Access.number c.in-Access.entries c.deref.result.now (c.rows_are_trees.ensures.access c.in-Access.number c.in-Access.entries) c.in-Access.is c.deref.ensures.value in
+    let e : tree_of c.args.expr.now ≡ access c.in-Access.number is = ap tree_of c.in-Access.is ∙ c.rows_are_trees.ensures.access c.in-Access.number c.in-Access.entries ∙ ap (λ (xs : List KernelEntry). access c.in-Access.number (indices_of xs)) (sym c.deref.ensures.value) in
     c.element.ensures ∙ sym (ap (value c.args.resolved.now.sizes c.args.loops.now (store_of c.args.scene.now)) e)
 
 pub operand-element-requires : goal.operand-element-requires
 operand-element-requires t c =
     let is = indices_of c.deref.result.now in
-    let e : tree_of c.args.expr.now ≡ access c.in-Access.number is = access_tree c.args.expr.now c.in-Access.number c.in-Access.entries c.deref.result.now (c.rows_are_trees.ensures.access c.in-Access.number c.in-Access.entries) c.in-Access.is c.deref.ensures.value in
+    let e : tree_of c.args.expr.now ≡ access c.in-Access.number is = ap tree_of c.in-Access.is ∙ c.rows_are_trees.ensures.access c.in-Access.number c.in-Access.entries ∙ ap (λ (xs : List KernelEntry). access c.in-Access.number (indices_of xs)) (sym c.deref.ensures.value) in
     let w : tree_weight (tree_of c.args.expr.now) ≡ indices_weight is + 1 = ap tree_weight e in
     (search (rules, w), subst (IsTreeOver (kinds_of c.args.scene.now)) e c.requires)
 
 pub operand-returns-in-Access : goal.operand-returns-in-Access
 operand-returns-in-Access t c =
     let is = indices_of c.deref.result.now in
-    let e : tree_of c.args.expr.now ≡ access c.in-Access.number is = access_tree c.args.expr.now c.in-Access.number c.in-Access.entries c.deref.result.now (c.rows_are_trees.ensures.access c.in-Access.number c.in-Access.entries) c.in-Access.is c.deref.ensures.value in
+    let e : tree_of c.args.expr.now ≡ access c.in-Access.number is = ap tree_of c.in-Access.is ∙ c.rows_are_trees.ensures.access c.in-Access.number c.in-Access.entries ∙ ap (λ (xs : List KernelEntry). access c.in-Access.number (indices_of xs)) (sym c.deref.ensures.value) in
     c.element.ensures ∙ sym (ap (value c.args.resolved.now.sizes c.args.loops.now (store_of c.args.scene.now)) e)
 
 pub element-place-requires : goal.element-place-requires

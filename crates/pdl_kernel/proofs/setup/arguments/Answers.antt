@@ -1,6 +1,7 @@
 use Rattle.std.proofs.Common.{◌≡◌, ◌+◌, ◌++◌, ◌∷◌, ℕ, List, length, get_or, drop, map, ap, sym, ◌∙◌, arith, subst}
 use Rattle.std.specs.Prelude.{Option, if◌then◌else◌}
-use Rattle.std.proofs.lemmas.List.{get_or-map}
+use Rattle.std.proofs.lemmas.List.{at_drop_more, get_or-map}
+use Rattle.std.proofs.lemmas.Slice.Zip.{AllZip-long}
 use Rattle.pdl_elem.specs.declared.Ty.{Ty}
 use Rattle.pdl_elem.specs.declared.Ty.TheVariants.{Sbyte}
 use Rattle.pdl_buf.specs.declared.made.Made.{Made}
@@ -9,13 +10,13 @@ use Rattle.pdl_sig.specs.Resolution.{core_sizes, is_given, type_in}
 use Rattle.pdl_kernel.specs.Call.{first_given, with_given}
 use Rattle.pdl_kernel.specs.Setup.{IsShapeOf, window_of, window_with}
 use Rattle.pdl_kernel.specs.Places.{Window}
-use Rattle.pdl_kernel.proofs.Laying.{one_more, window_shaped, with_given_at}
-use Rattle.pdl_kernel.proofs.Zips.{zip_get, zip_length}
+use Rattle.pdl_kernel.proofs.Laying.{one_more, window_shaped}
+use Rattle.pdl_kernel.proofs.Zips.{zip_get}
 use Rattle.pdl_kernel.proofs.setup.arguments.Goals as goal
 
 pub bounds-as_slice-k : goal.bounds-as_slice-k
 bounds-as_slice-k c =
-    let n : length c.as_slice.result.now ≡ length c.args.args.now = ap (length {A = List ℕ}) c.as_slice.ensures ∙ zip_length (IsShapeOf c.args.resolved.now) c.args.args.now c.args.resolved.now.shapes c.requires.shapes in
+    let n : length c.as_slice.result.now ≡ length c.args.args.now = ap (length {A = List ℕ}) c.as_slice.ensures ∙ AllZip-long (IsShapeOf c.args.resolved.now) c.args.args.now c.args.resolved.now.shapes c.requires.shapes in
     omega (arith, n)
 
 pub argument-requires : goal.argument-requires
@@ -46,7 +47,7 @@ loop-k-preserved c =
     c.in_ok-argument.ensures ∙ ap (λ (t : Ty). window_with t (core_sizes r.sizes a) shape a one) ty ∙ window_shaped r (f a) (core_sizes r.sizes a) a shape one shaped in
     let rest = with_given (drop (k + 1) c.args.args.now) c.take_given-one.new.given.items in
     let from : with_given (drop k c.args.args.now) given ≡ (a, one) ∷ rest =
-    with_given_at c.args.args.now given k a (omega arith)
+    at_drop_more (λ (args : List SigArg). with_given args given) c.args.args.now k a (omega arith)
     ∙ ap (λ (b : SigArg). (b, first_given (is_given b.role) given) ∷ with_given (drop (k + 1) c.args.args.now) (if is_given b.role then drop 1 given else given)) (sym c.index-args-k.is)
     ∙ ap (λ (g : Option Made). (a, g) ∷ with_given (drop (k + 1) c.args.args.now) (if is_given a.role then drop 1 given else given)) (sym c.take_given-one.ensures.first)
     ∙ ap (λ (gs : List Made). (a, one) ∷ with_given (drop (k + 1) c.args.args.now) gs) (sym c.take_given-one.ensures.rest) in

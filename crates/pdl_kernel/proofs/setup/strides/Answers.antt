@@ -1,9 +1,10 @@
 use Rattle.std.proofs.Common.{rules, ◌≡◌, ◌<◌, ◌≤◌, ◌*◌, ◌+◌, ◌++◌, ◌∷◌, [], ℕ, List, All, drop, length, get_or, max, ap, sym, ◌∙◌, arith, subst, append-nil}
-use Rattle.std.proofs.lemmas.List.{drop_all}
+use Rattle.pdl_lemmas.specs.Numbers.{product_within}
+use Rattle.std.proofs.lemmas.List.{at_drop_more, drop_all}
 use Rattle.std.proofs.lemmas.List.Elements.{All-push}
 use Rattle.pdl_shape.specs.Shape.{extent, extent_limit}
 use Rattle.pdl_kernel.specs.Places.{strides_from}
-use Rattle.pdl_kernel.proofs.Laying.{along_small, extent_at, one_more, stride_small, stride_within, strides_at, strides_long}
+use Rattle.pdl_kernel.proofs.Laying.{along_small, one_more, stride_small, strides_long}
 use Rattle.pdl_kernel.proofs.setup.strides.Goals as goal
 
 pub loop-size-preserved : goal.loop-size-preserved
@@ -15,12 +16,12 @@ loop-size-preserved c =
     let lt : i < length ds = omega arith in
     let rest = strides_from (n * d) (drop (i + 1) ds) in
     let e = c.in_ok-push.ensures.items in
-    let from : strides_from n (drop i ds) ≡ c.stride_along.result ∷ rest = strides_at n ds i 0 lt ∙ ap (λ x. x ∷ rest) (sym c.stride_along.ensures) in
-    let within : n * (max d 1 * extent (drop (i + 1) ds)) ≤ extent_limit = subst (λ z. n * z ≤ extent_limit) (extent_at ds i 0 lt) c.loop-size.invariant.within in
+    let from : strides_from n (drop i ds) ≡ c.stride_along.result ∷ rest = at_drop_more (strides_from n) ds i 0 lt ∙ ap (λ x. x ∷ rest) (sym c.stride_along.ensures) in
+    let within : n * (max d 1 * extent (drop (i + 1) ds)) ≤ extent_limit = subst (λ z. n * z ≤ extent_limit) (at_drop_more extent ds i 0 lt) c.loop-size.invariant.within in
     let small : n ≤ extent_limit = stride_small n (extent (drop i ds)) (c.shape_laws.ensures.sizes.extent_above (drop i ds)) c.loop-size.invariant.within in
     record {
       same = ap (λ (xs : List ℕ). xs ++ rest) e ∙ one_more c.loop-size.strides.items rest (strides_from 1 ds) c.stride_along.result (strides_from n (drop i ds)) from c.loop-size.invariant.same;
-      within = stride_within n d (extent (drop (i + 1) ds)) within;
+      within = product_within n d (extent (drop (i + 1) ds)) extent_limit within;
       small = subst (All (λ s. s ≤ extent_limit)) (sym e) (All-push (λ s. s ≤ extent_limit) c.loop-size.strides.items c.stride_along.result c.loop-size.invariant.small (subst (λ z. z ≤ extent_limit) (sym c.stride_along.ensures) (along_small d n small)));
     }
 

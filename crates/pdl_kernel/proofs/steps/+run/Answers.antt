@@ -8,14 +8,13 @@ use Rattle.pdl_kernel.specs.Meaning.{Store, branch, run, step}
 use Rattle.pdl_kernel.specs.Scenes.{kinds_of, store_of}
 use Rattle.pdl_code.specs.Tree.{Step, repeat, choose}
 use Rattle.pdl_code.specs.TreeOf.{KernelStmt, code_of, step_of, tree_of}
-use Rattle.pdl_kernel.proofs.Rows.{loop_tree}
 use Rattle.pdl_kernel.proofs.Turning.{chosen, branch_whole}
 use Rattle.pdl_kernel.proofs.Weights.{step_weight, code_weight}
 use Rattle.pdl_kernel.proofs.steps.+run.Goals as goal
 
 pub step-repeat-requires : goal.step-repeat-requires
 step-repeat-requires t c =
-    let e : step_of c.args.stmt.now ≡ repeat c.in-Loop.dimension (code_of c.deref.result.now) = loop_tree c.args.stmt.now c.in-Loop.dimension c.in-Loop.body c.deref.result.now (c.rows_are_trees.ensures.repeat c.in-Loop.dimension c.in-Loop.body) c.in-Loop.is c.deref.ensures.value in
+    let e : step_of c.args.stmt.now ≡ repeat c.in-Loop.dimension (code_of c.deref.result.now) = ap step_of c.in-Loop.is ∙ c.rows_are_trees.ensures.repeat c.in-Loop.dimension c.in-Loop.body ∙ ap (λ (xs : List KernelStmt). repeat c.in-Loop.dimension (code_of xs)) (sym c.deref.ensures.value) in
     let w : step_weight (step_of c.args.stmt.now) ≡ code_weight (code_of c.deref.result.now) + 4 = ap step_weight e in
     (search (rules, w), (subst (IsStepOver (kinds_of c.args.scene.now)) e c.requires.over, c.requires.whole))
 
@@ -40,7 +39,8 @@ step-run-requires-else-x-eq0 t c =
 pub step-returns-in-Loop-clause-store : goal.step-returns-in-Loop-clause-store
 step-returns-in-Loop-clause-store t c =
     let P : Step → Type 0 = λ s. Becomes c.repeat.result (store_of c.repeat.new.scene) (step c.args.resolved.now c.args.loops.now s (store_of c.args.scene.now)) in
-    subst P (sym (loop_tree c.args.stmt.now c.in-Loop.dimension c.in-Loop.body c.deref.result.now (c.rows_are_trees.ensures.repeat c.in-Loop.dimension c.in-Loop.body) c.in-Loop.is c.deref.ensures.value)) c.repeat.ensures.store
+    let e : step_of c.args.stmt.now ≡ repeat c.in-Loop.dimension (code_of c.deref.result.now) = ap step_of c.in-Loop.is ∙ c.rows_are_trees.ensures.repeat c.in-Loop.dimension c.in-Loop.body ∙ ap (λ (xs : List KernelStmt). repeat c.in-Loop.dimension (code_of xs)) (sym c.deref.ensures.value) in
+    subst P (sym e) c.repeat.ensures.store
 
 pub step-returns-then-x-eq0-clause-store : goal.step-returns-then-x-eq0-clause-store
 step-returns-then-x-eq0-clause-store t c =
