@@ -1,14 +1,18 @@
 -- What the words of the top call say.
-use Rattle.std.proofs.Common.{◌≡◌, ℕ, List, [], ◌++◌, Bool, Option, Some, None, refl, sym, subst}
+use Rattle.std.proofs.Common.{◌≡◌, ℕ, ◌⊎◌, inl, inr, List, [], ◌++◌, Bool, true, Option, Some, None, refl, sym, ap, subst, ◌∙◌, append_assoc, append-nil}
 use Rattle.std.specs.Io.KnownBytes.{Appends, IsAtEnd}
 use Rattle.pdl_watch.specs.Watched.{Watched}
-use Rattle.pdl_watch.specs.Slots.{slot, SlotRose}
+use Rattle.pdl_io.specs.Told.{AppendsPrefix}
+use Rattle.pdl_watch.specs.declared.notice.Notice.{Notice}
+use Rattle.pdl_watch.specs.Slots.{slot, notices_of, ToldPart, SlotRose}
 use Rattle.pdl_shell.specs.declared.status.Status.{Status}
 use Rattle.pdl_shell.specs.declared.status.Status.TheVariants.{Done, ScriptFault, Usage, SourceFault, SinkFault, WatcherFault, NoMemory}
 use Rattle.pdl_shell.specs.Outside.{Outside, CountStays}
-use Rattle.pdl_shell.specs.Answers.{CameToItsEnd, HasReason, Gives, Ending, AllQuiet, slots_after}
-use Rattle.pdl_shell.specs.Taken.{Reads}
-use Rattle.pdl_shell.specs.Headline.{NoneRose, OneFailed, OfWholeStatements}
+use Rattle.pdl_shell.specs.Answers.{CameToItsEnd, HasReason, Gives, Ending, AllQuiet, IsShort, SlotHears, slots_after}
+use Rattle.pdl_machine.specs.Watches.{is_present}
+use Rattle.pdl_machine.specs.Run.{so_far}
+use Rattle.pdl_shell.specs.Taken.{Reads, terms_for}
+use Rattle.pdl_shell.specs.Headline.{NoneRose, OneFailed, OfWholeStatements, EndsBy, IsCutOff, HeardAFront}
 
 count_of : (s t : Option Watched) (before after : Watched) → s ≡ Some before → t ≡ Some after → CountStays s t → after.misses ≡ before.misses
 count_of s t before after was is stays = pair (subst (λ (o : Option Watched). CountStays o t) was stays)
@@ -67,7 +71,74 @@ source_leaves keep old new before after was is reads = record {
 pub done_reads : (keep : Bool) (old new : Outside) (rest : List ℕ) → new.left ≡ Some rest → Reads keep Done old new → rest ≡ []
 done_reads keep old new rest is reads = subst (λ (o : Option (List ℕ)). IsAtEnd o) is reads.so_far
 
-pub done_writes : (e : Ending) (old new : Outside) (before after : List ℕ) → old.out.taken ≡ Some before → new.out.taken ≡ Some after
-    → Gives Done e old.out new.out → (e.status ≡ Done) × (after ≡ before ++ e.text) × (new.out.slots ≡ slots_after e old.out.slots)
-done_writes e old new before after was is gives =
+pub fault_reads : (keep : Bool) (old new : Outside) (rest : List ℕ) → new.left ≡ Some rest → Reads keep ScriptFault old new → (rest ≡ []) ⊎ EndsBy keep old new
+fault_reads keep old new rest is reads = how reads.so_far
+  where
+    how : IsAtEnd new.left ⊎ ((so_far (terms_for keep old.out.slots) reads.taken).ended ≡ true) → (rest ≡ []) ⊎ EndsBy keep old new
+    how (inl at_end) = inl (subst (λ (o : Option (List ℕ)). IsAtEnd o) is at_end)
+    how (inr ended) = inr (record { bytes = reads.taken; taken = reads.all; ended = ended })
+
+pub ends_write : (status : Status) (e : Ending) (old new : Outside) (before after : List ℕ) → CameToItsEnd status
+    → old.out.taken ≡ Some before → new.out.taken ≡ Some after → Gives status e old.out new.out
+    → (e.status ≡ status) × (after ≡ before ++ e.text) × (new.out.slots ≡ slots_after e old.out.slots)
+ends_write Done e old new before after ended was is gives =
     (sym gives.0, appended old.out.taken new.out.taken before after e.text was is gives.1.text, gives.1.slots)
+ends_write ScriptFault e old new before after ended was is gives =
+    (sym gives.0, appended old.out.taken new.out.taken before after e.text was is gives.1.text, gives.1.slots)
+ends_write Usage e old new before after ended was is gives =
+    (sym gives.0, appended old.out.taken new.out.taken before after e.text was is gives.1.text, gives.1.slots)
+ends_write SourceFault e old new before after ended was is gives = absurd ended
+ends_write SinkFault e old new before after ended was is gives = absurd ended
+ends_write WatcherFault e old new before after ended was is gives = absurd ended
+ends_write NoMemory e old new before after ended was is gives = absurd ended
+
+-- of a whole text nothing is behind what was written
+wholly : (before after text : List ℕ) → after ≡ before ++ text → (rest : List ℕ) × (before ++ text ≡ after ++ rest)
+wholly before after text is = ([], sym is ∙ sym (append-nil after))
+
+partly : (old new : Option (List ℕ)) (before after text : List ℕ) → old ≡ Some before → new ≡ Some after → AppendsPrefix old new text
+    → (rest : List ℕ) × (before ++ text ≡ after ++ rest)
+partly old new before after text was is wrote = (
+  wrote.1.0,
+  ap (λ ts. before ++ ts) wrote.1.1 ∙ sym (append_assoc before wrote.0 wrote.1.0)
+      ∙ ap (λ ts. ts ++ wrote.1.0) (sym (appended old new before after wrote.0 was is wrote.2)),
+)
+
+pub all_front : (status : Status) (e : Ending) (old new : Outside) (before after : List ℕ) → old.out.taken ≡ Some before
+    → new.out.taken ≡ Some after → Gives status e old.out new.out → (rest : List ℕ) × (before ++ e.text ≡ after ++ rest)
+all_front Done e old new before after was is gives =
+    wholly before after e.text (appended old.out.taken new.out.taken before after e.text was is gives.1.text)
+all_front ScriptFault e old new before after was is gives =
+    wholly before after e.text (appended old.out.taken new.out.taken before after e.text was is gives.1.text)
+all_front Usage e old new before after was is gives =
+    wholly before after e.text (appended old.out.taken new.out.taken before after e.text was is gives.1.text)
+all_front SourceFault e old new before after was is gives = partly old.out.taken new.out.taken before after e.text was is gives.text
+all_front SinkFault e old new before after was is gives = partly old.out.taken new.out.taken before after e.text was is gives.text
+all_front WatcherFault e old new before after was is (inl short) = partly old.out.taken new.out.taken before after e.text was is short.text
+all_front WatcherFault e old new before after was is (inr closes) =
+    wholly before after e.text (appended old.out.taken new.out.taken before after e.text was is closes.text)
+all_front NoMemory e old new before after was is gives = partly old.out.taken new.out.taken before after e.text was is gives.text
+
+heard_by : (ns : List Notice) (stays : Bool) (s t : Option Watched) (before after : Watched) → s ≡ Some before → t ≡ Some after
+    → SlotHears ns stays s t → HeardAFront ns before after
+heard_by ns stays s t before after was is hears = front (subst (λ (o : Option Watched). SlotHears ns stays (Some before) o) is
+    (subst (λ (o : Option Watched). SlotHears ns stays o t) was hears))
+  where
+    front : ToldPart ns before after → HeardAFront ns before after
+    front told = record { part = told.part; front = told.front; told = told.told; finished = told.finished }
+
+short_front : (e : Ending) (old new : Outside) (k : ℕ) (before after : Watched) → IsShort e old.out new.out → slot old.out.slots k ≡ Some before
+    → slot new.out.slots k ≡ Some after → HeardAFront (notices_of e.told k) before after
+short_front e old new k before after short was is =
+    heard_by (notices_of e.told k) (is_present e.present k) (slot old.out.slots k) (slot new.out.slots k) before after was is (short.slots.each k)
+
+pub cut_off_front : (status : Status) (e : Ending) (old new : Outside) (k : ℕ) (before after : Watched) → IsCutOff status
+    → Gives status e old.out new.out → slot old.out.slots k ≡ Some before → slot new.out.slots k ≡ Some after
+    → HeardAFront (notices_of e.told k) before after
+cut_off_front SourceFault e old new k before after cut gives was is = short_front e old new k before after gives was is
+cut_off_front SinkFault e old new k before after cut gives was is = short_front e old new k before after gives was is
+cut_off_front NoMemory e old new k before after cut gives was is = short_front e old new k before after gives was is
+cut_off_front Done e old new k before after cut gives was is = absurd cut
+cut_off_front ScriptFault e old new k before after cut gives was is = absurd cut
+cut_off_front Usage e old new k before after cut gives was is = absurd cut
+cut_off_front WatcherFault e old new k before after cut gives was is = absurd cut

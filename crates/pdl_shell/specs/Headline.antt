@@ -1,15 +1,16 @@
 -- What must follow from the words that the top call's contract is written in.
-use Rattle.std.specs.Prelude.{◌≡◌, ℕ, List, [], ◌++◌, Bool, false, Some}
+use Rattle.std.specs.Prelude.{◌≡◌, ℕ, ⊤, ◌⊎◌, List, [], ◌++◌, Bool, true, false, None, Some, option_map}
 use Rattle.std.specs.Io.KnownBytes.{Consumes}
 use Rattle.pdl_io.specs.Counts.{Rose}
+use Rattle.pdl_watch.specs.declared.notice.Notice.{Notice}
 use Rattle.pdl_watch.specs.Watched.{Watched}
-use Rattle.pdl_watch.specs.Slots.{slot}
+use Rattle.pdl_watch.specs.Slots.{slot, notices_of, StartsWith}
 use Rattle.pdl_machine.specs.Run.{so_far}
 use Rattle.pdl_shell.specs.Outside.{Outside}
-use Rattle.pdl_shell.specs.Answers.{CameToItsEnd, HasReason, Gives, Ending, ending_of_run, told_by, slots_after}
+use Rattle.pdl_shell.specs.Answers.{CameToItsEnd, HasReason, Gives, CanAnswer, Ending, ending_of_run, told_by, slots_after}
 use Rattle.pdl_shell.specs.Taken.{Reads, terms_for}
 use Rattle.pdl_shell.specs.declared.status.Status.{Status}
-use Rattle.pdl_shell.specs.declared.status.Status.TheVariants.{Done, SourceFault, SinkFault, WatcherFault, NoMemory}
+use Rattle.pdl_shell.specs.declared.status.Status.TheVariants.{Done, ScriptFault, SourceFault, SinkFault, WatcherFault, NoMemory}
 
 -- every count is as it was: of the source, of the sink, and of each watcher that is there still
 pub record NoneRose (old new : Outside) : Type 0 where
@@ -69,8 +70,50 @@ abbrev pub DoneReadsAll : Type 0
 DoneReadsAll = (keep : Bool) (old new : Outside) (rest : List ℕ) → new.left ≡ Some rest →
     Reads keep Done old new → rest ≡ []
 
--- and all is written, and told
-abbrev pub DoneWritesAll : Type 0
-DoneWritesAll = (e : Ending) (old new : Outside) (before after : List ℕ) →
-    old.out.taken ≡ Some before → new.out.taken ≡ Some after → Gives Done e old.out new.out →
-    (e.status ≡ Done) × (after ≡ before ++ e.text) × (new.out.slots ≡ slots_after e old.out.slots)
+-- with a fault of the script nothing is left of it, or the bytes taken end the run
+pub record EndsBy (keep : Bool) (old new : Outside) : Type 0 where
+  pub bytes : List ℕ
+  pub taken : Consumes old.left new.left bytes
+  pub ended : (so_far (terms_for keep old.out.slots) bytes).ended ≡ true
+
+abbrev pub ScriptFaultReads : Type 0
+ScriptFaultReads = (keep : Bool) (old new : Outside) (rest : List ℕ) → new.left ≡ Some rest →
+    Reads keep ScriptFault old new → (rest ≡ []) ⊎ EndsBy keep old new
+
+-- a call that came to its end has the ending's status, and all is written, and told
+abbrev pub EndsWriteAll : Type 0
+EndsWriteAll = (status : Status) (e : Ending) (old new : Outside) (before after : List ℕ) →
+    CameToItsEnd status → old.out.taken ≡ Some before → new.out.taken ≡ Some after →
+    Gives status e old.out new.out →
+    (e.status ≡ status) × (after ≡ before ++ e.text) × (new.out.slots ≡ slots_after e old.out.slots)
+
+-- whatever the status, what is written is a front of the text
+abbrev pub AllWriteAFront : Type 0
+AllWriteAFront = (status : Status) (e : Ending) (old new : Outside) (before after : List ℕ) →
+    old.out.taken ≡ Some before → new.out.taken ≡ Some after → Gives status e old.out new.out →
+    (rest : List ℕ) × (before ++ e.text ≡ after ++ rest)
+
+-- the call stopped short, and no watcher had failed
+abbrev pub IsCutOff : Status → Type 0
+IsCutOff SourceFault = ⊤
+IsCutOff SinkFault = ⊤
+IsCutOff NoMemory = ⊤
+IsCutOff _ = ⊥
+
+-- the watcher was told a front of these notices, and is finished or not as before
+pub record HeardAFront (ns : List Notice) (before after : Watched) : Type 0 where
+  pub part : List Notice
+  pub front : StartsWith ns part
+  pub told : after.told ≡ option_map (λ was. was ++ part) before.told
+  pub finished : after.finished ≡ before.finished
+
+-- then each watcher that is there still was told a front of its notices, and none is finished by it
+abbrev pub CutOffTellAFront : Type 0
+CutOffTellAFront = (status : Status) (e : Ending) (old new : Outside) (k : ℕ)
+    (before after : Watched) → IsCutOff status → Gives status e old.out new.out →
+    slot old.out.slots k ≡ Some before → slot new.out.slots k ≡ Some after →
+    HeardAFront (notices_of e.told k) before after
+
+-- out of memory is no answer to words that are no spelling
+abbrev pub UsageTakesNoMemory : Type 0
+UsageTakesNoMemory = CanAnswer None NoMemory → ⊥

@@ -1,4 +1,4 @@
-use Rattle.pdl_shell.proofs.HeadlineLemmas.{ends_quiet, memory_quiet, watcher_rises, source_leaves, done_reads, done_writes}
+use Rattle.pdl_shell.proofs.HeadlineLemmas.{ends_quiet, memory_quiet, watcher_rises, source_leaves, done_reads, fault_reads, ends_write, all_front, cut_off_front}
 use Rattle.pdl_shell.proofs.laws.headline_laws.Goals as goal
 
 pub returns-clause-quiet : goal.returns-clause-quiet
@@ -22,5 +22,17 @@ returns-clause-leaves c = source_leaves
 pub returns-clause-reads : goal.returns-clause-reads
 returns-clause-reads c = done_reads
 
+pub returns-clause-fault_reads : goal.returns-clause-fault_reads
+returns-clause-fault_reads c = fault_reads
+
 pub returns-clause-writes : goal.returns-clause-writes
-returns-clause-writes c = done_writes
+returns-clause-writes c = ends_write
+
+pub returns-clause-front : goal.returns-clause-front
+returns-clause-front c = all_front
+
+pub returns-clause-tells : goal.returns-clause-tells
+returns-clause-tells c = cut_off_front
+
+pub returns-clause-usage : goal.returns-clause-usage
+returns-clause-usage c answers = answers
