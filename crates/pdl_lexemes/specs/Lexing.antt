@@ -31,11 +31,11 @@ keywords =
 -- the words beside those of the types that are something beside the name of a call
 abbrev pub word_kinds : List (List ℕ × WordKind)
 word_kinds =
-    (codes "slice", View) ∷ (codes "xchg", View) ∷ (codes "mv", View) ∷ (codes "reorder", View)
-    ∷ (codes "diagonal", View) ∷ (codes "dummy", View) ∷ (codes "clump", View)
-    ∷ (codes "squeeze", View) ∷ (codes "flat", View) ∷ (codes "index", View)
-    ∷ (codes "where", View) ∷ (codes "range", View) ∷ (codes "Pars", Pars) ∷ (codes "Code", Code)
-    ∷ []
+    (codes "slice", View) ∷ (codes "nice", View) ∷ (codes "xchg", View) ∷ (codes "mv", View)
+    ∷ (codes "reorder", View) ∷ (codes "diagonal", View) ∷ (codes "dummy", View)
+    ∷ (codes "clump", View) ∷ (codes "squeeze", View) ∷ (codes "flat", View)
+    ∷ (codes "index", View) ∷ (codes "where", View) ∷ (codes "range", View)
+    ∷ (codes "Pars", Pars) ∷ (codes "Code", Code) ∷ []
 
 -- the signs of operators on two values
 abbrev pub operators : List (List ℕ × BinaryOp)

@@ -22,6 +22,7 @@ pub(crate) const KEYWORDS: &[(&[u8], Keyword)] = &[
 /// The words beside those of the types that are something beside the name of a call.
 pub(crate) const WORD_KINDS: &[(&[u8], WordKind)] = &[
     (b"slice", WordKind::View),
+    (b"nice", WordKind::View),
     (b"xchg", WordKind::View),
     (b"mv", WordKind::View),
     (b"reorder", WordKind::View),

@@ -16,7 +16,8 @@ use Rattle.pdl_machine.specs.Then.{and_then}
 use Rattle.pdl_machine.specs.State.{State}
 use Rattle.pdl_machine.specs.Watches.{Watches, notices}
 use Rattle.pdl_machine.specs.Step.{Stepped, Done, done, effect}
-use Rattle.pdl_machine.specs.Run.{reads, step_read, mark_step, line_of, fault_ends, counted, after, next_step}
+use Rattle.pdl_machine.specs.Reads.{reads}
+use Rattle.pdl_machine.specs.Run.{step_read, mark_step, line_of, fault_ends, counted, after, next_step}
 use Rattle.pdl_machine.specs.RunLaws.{IsOf, EachIsCounted, NoticesAreNumbered}
 
 pub each_is_counted : EachIsCounted

@@ -19,7 +19,8 @@ use Rattle.pdl_machine.specs.Tidy.{older, tidy}
 use Rattle.pdl_machine.specs.Watches.{Watches, watch_of, padded, attach, detach, is_present, AreThere}
 use Rattle.pdl_machine.specs.Step.{Stepped, Done, left, done, watching, unwatching, effect, step}
 use Rattle.pdl_machine.specs.Laws.{StepsKeepThere, StepsGiveNone}
-use Rattle.pdl_machine.specs.Run.{Terms, Progress, reads, step_read, mark_step, line_of, fault_ends, counted, after, next_step, after_mark, after_marks, start, run}
+use Rattle.pdl_machine.specs.Reads.{reads}
+use Rattle.pdl_machine.specs.Run.{Terms, Progress, step_read, mark_step, line_of, fault_ends, counted, after, next_step, after_mark, after_marks, start, run}
 use Rattle.pdl_machine.proofs.WatchLemmas.{watch_of_renamed, watch_of-padded}
 use Rattle.pdl_machine.proofs.Orderly.{ok_always}
 use Rattle.pdl_machine.proofs.Watching.{SameWatches, effect_watches}

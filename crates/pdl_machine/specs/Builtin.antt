@@ -8,7 +8,7 @@ use Rattle.pdl_reduce.specs.declared.Reduction.TheVariants.{Sumover, Prodover, M
 use Rattle.pdl_reduce.specs.declared.Whole.TheVariants.{Sum, Prod, Max, Min, All, Any}
 use Rattle.pdl_reduce.specs.declared.Pairing.TheVariants.{Inner, Outer, Matmult}
 use Rattle.pdl_machine.specs.declared.builtin.Builtin.{Builtin}
-use Rattle.pdl_machine.specs.declared.builtin.Builtin.TheVariants.{Filled, Told, Dim, Slice, Arranged, Index, Where, Range, Reduced, Whole, Paired}
+use Rattle.pdl_machine.specs.declared.builtin.Builtin.TheVariants.{Filled, Told, Dim, Slice, Nice, Arranged, Index, Where, Range, Reduced, Whole, Paired}
 use Rattle.pdl_machine.specs.declared.builtin.Inquiry.TheVariants.{Copy, Convert, Nelem, Ndims, Shape, Which}
 use Rattle.pdl_machine.specs.declared.builtin.Arrangement.TheVariants.{Xchg, Mv, Reorder, Dummy, Diagonal, Clump, Flat, Squeeze}
 
@@ -46,8 +46,8 @@ inquiries =
 -- views
 abbrev pub views : List (List ℕ × Builtin)
 views =
-    (codes "slice", Slice) ∷ (codes "xchg", Arranged Xchg) ∷ (codes "mv", Arranged Mv)
-    ∷ (codes "reorder", Arranged Reorder)
+    (codes "slice", Slice) ∷ (codes "nice", Nice) ∷ (codes "xchg", Arranged Xchg)
+    ∷ (codes "mv", Arranged Mv) ∷ (codes "reorder", Arranged Reorder)
     ∷ (codes "dummy", Arranged Dummy) ∷ (codes "diagonal", Arranged Diagonal)
     ∷ (codes "clump", Arranged Clump)
     ∷ (codes "flat", Arranged Flat) ∷ (codes "squeeze", Arranged Squeeze) ∷ (codes "index", Index)

@@ -4,7 +4,7 @@ use Rattle.pdl_buf.specs.declared.made.Made.{Made}
 use Rattle.pdl_machine.specs.declared.fault.Fault.{Fault}
 use Rattle.pdl_machine.specs.declared.fault.Fault.TheVariants.{UnknownFunction, WrongArguments}
 use Rattle.pdl_machine.specs.declared.builtin.Builtin.{Builtin}
-use Rattle.pdl_machine.specs.declared.builtin.Builtin.TheVariants.{Filled, Told, Dim, Slice, Arranged, Index, Where, Range, Reduced, Whole, Paired}
+use Rattle.pdl_machine.specs.declared.builtin.Builtin.TheVariants.{Filled, Told, Dim, Slice, Nice, Arranged, Index, Where, Range, Reduced, Whole, Paired}
 use Rattle.pdl_machine.specs.Builtin.{builtin_of}
 use Rattle.pdl_machine.specs.Then.{and_then, or_fault}
 use Rattle.pdl_machine.specs.Arrays.{Arrays}
@@ -15,6 +15,7 @@ use Rattle.pdl_machine.specs.Names.{Names, found}
 use Rattle.pdl_machine.specs.Fills.{fill_outcome}
 use Rattle.pdl_machine.specs.Inquiries.{inquiry_outcome, dim_outcome}
 use Rattle.pdl_machine.specs.Views.{slice_outcome, arrangement_outcome, index_outcome, where_outcome, range_outcome}
+use Rattle.pdl_machine.specs.NiceCalls.{nice_outcome}
 use Rattle.pdl_machine.specs.Reductions.{of_one, of_two}
 use Rattle.pdl_reduce.specs.Reductions.{reduced, whole_reduced}
 use Rattle.pdl_reduce.specs.Pairings.{paired}
@@ -24,6 +25,7 @@ outcome (Filled fill) given = fill_outcome fill given
 outcome (Told inquiry) given = inquiry_outcome inquiry given
 outcome Dim given = dim_outcome given
 outcome Slice given = slice_outcome given
+outcome Nice given = nice_outcome given
 outcome (Arranged word) given = arrangement_outcome word given
 outcome Index given = index_outcome given
 outcome Where given = where_outcome given

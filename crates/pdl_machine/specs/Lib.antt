@@ -12,6 +12,7 @@ pub mod Fills
 pub mod Cuts
 pub mod Inquiries
 pub mod Views
+pub mod NiceCalls
 pub mod Reductions
 pub mod Operators
 pub mod Calls
@@ -22,7 +23,9 @@ pub mod Laws
 pub mod Worked
 pub mod WorkedCuts
 pub mod WorkedWatches
+pub mod WorkedNice
 pub mod Parsed
+pub mod Reads
 pub mod Run
 pub mod StatementMeaning
 pub mod RunLaws

@@ -1,31 +1,19 @@
 -- A run: the steps by a script's statements in order, all that is printed, and all that watchers are
 -- told.
 use Rattle.std.specs.Prelude.{ℕ, List, [], ◌∷◌, ◌++◌, length, map, nat_lt, Bool, true, false, not, Result, Ok, Err, codes, decimal, if◌then◌else◌}
-use Rattle.pdl_lex.specs.declared.Token.{Token}
-use Rattle.pdl_lex.specs.declared.LexFault.{LexFault}
 use Rattle.pdl_lex.specs.declared.Piece.TheVariants.{Whole, TooLong}
 use Rattle.pdl_lex.specs.Limits.{script_limit}
-use Rattle.pdl_lex.specs.Tokens.{toks}
 use Rattle.pdl_lex.specs.Pieces.{Mark, statement, script_too_long, settled, script_marks}
 use Rattle.pdl_io.specs.Counts.{next_count}
 use Rattle.pdl_watch.specs.declared.notice.Notice.{Notice}
 use Rattle.pdl_watch.specs.Slots.{joined}
 use Rattle.pdl_machine.specs.declared.fault.Fault.{Fault}
-use Rattle.pdl_machine.specs.declared.fault.Fault.TheVariants.{Syntax, StatementTooLong, ScriptTooLong}
+use Rattle.pdl_machine.specs.declared.fault.Fault.TheVariants.{StatementTooLong, ScriptTooLong}
 use Rattle.pdl_machine.specs.Fault.{text_of}
 use Rattle.pdl_syntax.specs.StatementTree.{StatementTree}
-use Rattle.pdl_syntax.specs.Parsed.{parsed}
-use Rattle.pdl_machine.specs.Parsed.{as_read}
+use Rattle.pdl_machine.specs.Reads.{reads}
 use Rattle.pdl_machine.specs.State.{State, no_names}
 use Rattle.pdl_machine.specs.Step.{Done, step, newline}
-
-abbrev pub reads_tokens : List ℕ → Result (List Token) LexFault → Result StatementTree Fault
-reads_tokens text (Err e) = Err Syntax
-reads_tokens text (Ok tokens) = as_read (parsed text tokens)
-
--- the statement that a text is, or why it is none
-abbrev pub reads : (text : List ℕ) → Result StatementTree Fault
-reads text = reads_tokens text (toks text)
 
 -- What a run is given: whether it goes on after the fault of a statement, and which slots have a
 -- watcher.

@@ -54,9 +54,13 @@ arrangement_outcome word (array m ∷ given) =
     Ok (viewed (trans.Affine t))))
 arrangement_outcome word _ = Err WrongArguments
 
--- `index`: an array looked up by another one's values
+-- an array looked up by another one's values
+abbrev pub look_up : Made → Result Outcome Fault
+look_up ind = Ok (viewed (trans.Index ind.dims ind.elems))
+
+-- `index`: an array, and another one that looks it up
 abbrev pub index_outcome : List Seen → Result Outcome Fault
-index_outcome (array m ∷ array ind ∷ []) = Ok (viewed (trans.Index ind.dims ind.elems))
+index_outcome (array m ∷ array ind ∷ []) = look_up ind
 index_outcome _ = Err WrongArguments
 
 -- `where`: an array's elements at which a mask isn't 0

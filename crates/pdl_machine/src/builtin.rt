@@ -55,6 +55,8 @@ pub enum Builtin {
     Dim,
     /// `slice`: a view by a text.
     Slice,
+    /// `nice`: a view by a pattern and numbers in it, or by another array's values.
+    Nice,
     /// A view by numbers.
     Arranged(Arrangement),
     /// `index`: a view by another array's values.
@@ -88,6 +90,7 @@ const BUILTINS: &[(&[u8], Builtin)] = &[
     (b"dim", Builtin::Dim),
     // Views.
     (b"slice", Builtin::Slice),
+    (b"nice", Builtin::Nice),
     (b"xchg", Builtin::Arranged(Arrangement::Xchg)),
     (b"mv", Builtin::Arranged(Arrangement::Mv)),
     (b"reorder", Builtin::Arranged(Arrangement::Reorder)),

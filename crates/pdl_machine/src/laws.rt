@@ -2,6 +2,7 @@
 ghost use Rattle.pdl_machine.specs.Worked.{ASliceIsWrittenThrough, ASliceEndsWithin};
 ghost use Rattle.pdl_machine.specs.WorkedCuts.{ACutTakesItsViews, ACutGivesPlaces, ACutPartsAClump, ABindingCutsTheArray, ANameIsGivenUp, OtherDimensions, OtherDimensionsAreRefused};
 ghost use Rattle.pdl_machine.specs.WorkedWatches.{AViewTells, AWatchKeepsItsArray, ASlotIsGivenUp, WatchersAreRefused};
+ghost use Rattle.pdl_machine.specs.WorkedNice.{PatternsAreFilledIn, NiceSlicesAreSlices, ValuesLookUp, NiceFaultsInOrder};
 ghost use Rattle.pdl_machine.specs.Laws.{StepsAlike, NewArraysUnseen, LettingGoUnseen, SweepsByFewer, StepsLeaveReached, TidyingShowsTheSame};
 ghost use Rattle.pdl_machine.specs.Laws.{OnlyAssignmentsTell, GrowingTellsTheSame, StepsGiveNone, StepsKeepThere};
 
@@ -69,3 +70,12 @@ pub fn watching_laws()
     cut_laws();
     reshape_laws()
 }
+
+/// Calls of `nice`, as nice slices are written for them, worked by hand. The call does nothing when
+/// it runs.
+pub fn worked_nice()
+    ensures filled_in { PatternsAreFilledIn }
+    ensures slices { NiceSlicesAreSlices }
+    ensures values { ValuesLookUp }
+    ensures faults { NiceFaultsInOrder }
+{}

@@ -1,17 +1,28 @@
 //! Laws of what a text is read as, and of runs.
-ghost use Rattle.pdl_machine.specs.StatementMeaning.{ReadsItsMeaning, MeansOneThing};
+ghost use Rattle.pdl_machine.specs.Reads.{PlainTextsStay};
+ghost use Rattle.pdl_machine.specs.StatementMeaning.{ReadsItsMeaning, MeansOneThing, PlainMeansOneThing};
 ghost use Rattle.pdl_machine.specs.RunLaws.{EndedStays, PrintedStays, ToldStays, EachIsCounted, NoticesAreNumbered, NoneComes, NoneComesInARun, StayThere, AreThereInARun, FaultStays, GoesOn, FirstFaultEnds, EndedByAFault, TooLongEnds, LimitEnds, SoFarIsAFront, SoFarIsPrinted, SoFarIsTold, SoFarGrows, SoFarIsAll};
 
 use pdl_lex::settled_laws;
+use pdl_lexemes::brackets_are_counted;
+use pdl_nice::{plain_meaning, texts_stay};
 use pdl_syntax::parsing_is_the_grammar;
 
-/// What a run reads a text as is what the grammar says: the one statement that
-/// its tokens spell, or the first check that refuses them. The call does nothing when it runs.
+/// What a run reads a text as is what it means (`means`), and it means nothing else (`one`): the one
+/// statement that the grammar spells with the tokens of its plain text, or why it has no plain text,
+/// or the first check that refuses these tokens. Of a plain text it is what the grammar says
+/// (`plain`), and a text without nice slices reads as it stands (`stays`). The call does nothing
+/// when it runs.
 pub fn reads_law()
     ensures means { ReadsItsMeaning }
     ensures one { MeansOneThing }
+    ensures plain { PlainMeansOneThing }
+    ensures stays { PlainTextsStay }
 {
     parsing_is_the_grammar();
+    plain_meaning();
+    texts_stay();
+    brackets_are_counted();
 }
 
 /// The laws of runs: a fault that ends a run ends it, and nothing else does; what was

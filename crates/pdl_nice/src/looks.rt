@@ -118,16 +118,42 @@ pub fn begins_nice(before: Before, look: Look) -> bool
     }
 }
 
+// Whether a token behind such a one begins a nice part. Its bytes are looked at behind a name or `->`
+// alone.
+fn begins_part(text: &[u8], before: Before, token: Token) -> bool
+    ensures { result ≡ begins_nice before (token_look text.now token) }
+{
+    match before {
+        Before::Other => false,
+        Before::Name | Before::Arrow => begins_nice(before, token_look(text, token)),
+    }
+}
+
+// What stands before the token behind this one. The bytes of a sign of one byte aren't looked at.
+fn before_behind(text: &[u8], token: Token) -> Before
+    ensures { result ≡ before_of (token_look text.now token) }
+{
+    match token.kind {
+        TokenKind::Name => Before::Name,
+        TokenKind::Word | TokenKind::Number | TokenKind::Str => Before::Other,
+        TokenKind::Sign => {
+            if token.to.saturating_sub(token.from) < 2 {
+                return Before::Other;
+            }
+            before_of(token_look(text, token))
+        }
+    }
+}
+
 fn looks_nice(text: &[u8], tokens: &[Token]) -> bool
     ensures { result ≡ looks_nice Other (map (token_look text.now) tokens.now) }
 {
     let mut before = Before::Other;
     for token in tokens {
-        let look = token_look(text, *token);
-        if begins_nice(before, look) {
+        if begins_part(text, before, *token) {
             return true;
         }
-        before = before_of(look);
+        before = before_behind(text, *token);
     }
     false
 }

@@ -8,6 +8,7 @@ pub mod Reduced
 pub mod ArraysGiven
 pub mod Sizes
 pub mod Shaped
+pub mod Patterns
 pub mod Sliced
 pub mod Callees
 pub mod Statements

@@ -62,6 +62,11 @@ abbrev pub array_and_text : List Given → Option (Bor (List ℕ))
 array_and_text (Array v ∷ Text t ∷ []) = Some t
 array_and_text _ = None
 
+-- the text behind the array that stands first, and what stands behind both
+abbrev pub text_and_more : List Given → Option (Bor (List ℕ) × List Given)
+text_and_more (Array v ∷ Text t ∷ rest) = Some (t, rest)
+text_and_more _ = None
+
 -- the two arrays that stand alone
 abbrev pub two_arrays : List Given → Option (ℕ × ℕ)
 two_arrays (Array v ∷ Array u ∷ []) = Some (v, u)

@@ -22,6 +22,7 @@ use crate::reducing::{paired, reduced, reduced_whole};
 use crate::shapes::arrays_given;
 use crate::views::arrangement::arrangement;
 use crate::views::choices::{index, masked, range};
+use crate::views::nice::nice;
 use crate::views::slice::slice;
 use pdl_buf::{Elements, Made, Steps};
 use pdl_elem::{Name, Ty};
@@ -195,6 +196,7 @@ fn outcome<L: Ledger>(
         Builtin::Told(kind) => inquiry(scope, kind, given, steps),
         Builtin::Dim => dim(scope, given, steps),
         Builtin::Slice => slice(scope.alloc(), given),
+        Builtin::Nice => nice(scope, given, steps),
         Builtin::Arranged(word) => arrangement(scope, word, given, steps),
         Builtin::Index => index(scope, given, steps),
         Builtin::Where => masked(scope, given, steps),

@@ -3,7 +3,7 @@ ghost use Rattle.std.specs.Prelude.{◌≡◌, IfOk, IfSome, option_map};
 ghost use Rattle.pdl_world.specs.World.{World};
 ghost use Rattle.pdl_world.specs.Sound.{IsLive};
 ghost use Rattle.pdl_machine.specs.Then.{all_of};
-ghost use Rattle.pdl_session.specs.Arguments.{IsGivenLive, AreGivenLive, array_number, one_array, array_and_text, two_arrays, second_array, array_and_one, two_and_more, few_arrays};
+ghost use Rattle.pdl_session.specs.Arguments.{IsGivenLive, AreGivenLive, array_number, one_array, array_and_text, text_and_more, two_arrays, second_array, array_and_one, two_and_more, few_arrays};
 
 use crate::given::Given;
 use pdl_engine::ArrayId;
@@ -26,6 +26,18 @@ pub fn array_and_text<'a>(given: &[Given<'a>]) -> Option<&'a [u8]>
 {
     match given {
         [Given::Array(_), Given::Text(text)] => Some(*text),
+        _ => None,
+    }
+}
+
+/// The text behind the array that stands first, and what stands behind both.
+pub fn text_and_more<'a, 'b>(given: &'a [Given<'b>]) -> Option<(&'b [u8], &'a [Given<'b>])>
+    ensures shape { option_map (λ r. (r.0, r.1.now)) result ≡ text_and_more given.now }
+    ensures live { (w : World) → AreGivenLive w given.now →
+        IfSome result (λ r. AreGivenLive w r.1.now) }
+{
+    match given {
+        [Given::Array(_), Given::Text(text), rest @ ..] => Some((*text, rest)),
         _ => None,
     }
 }

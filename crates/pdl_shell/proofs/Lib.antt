@@ -7,5 +7,6 @@ pub mod Ran
 pub mod Following
 pub mod Carrying
 pub mod Parts
+pub mod Plain
 pub mod Whole
 pub mod HeadlineLemmas

@@ -2,10 +2,12 @@
 use Rattle.std.specs.Prelude.{◌≡◌, Result, Err}
 use Rattle.pdl_lex.specs.declared.LexFault.{LexFault}
 use Rattle.pdl_lex.specs.declared.LexFault.TheVariants as lexing
+use Rattle.pdl_nice.specs.declared.NiceFault.{NiceFault}
+use Rattle.pdl_nice.specs.declared.NiceFault.TheVariants as nice
 use Rattle.pdl_syntax.specs.declared.parser.ParseFault.{ParseFault}
 use Rattle.pdl_syntax.specs.declared.parser.ParseFault.TheVariants as parsing
 use Rattle.pdl_machine.specs.declared.fault.Fault.{Fault}
-use Rattle.pdl_machine.specs.declared.fault.Fault.TheVariants.{Syntax, TooDeep, NumberTooLarge, Ragged}
+use Rattle.pdl_machine.specs.declared.fault.Fault.TheVariants.{Syntax, StatementTooLong, TooDeep, NumberTooLarge, Ragged}
 use Rattle.pdl_session.specs.declared.fault.StepFault.{StepFault}
 use Rattle.pdl_session.specs.declared.fault.StepFault.TheVariants.{Script, Watcher, NoMemory}
 
@@ -14,6 +16,13 @@ abbrev pub of_lexing : LexFault → StepFault
 of_lexing (lexing.BadByte at) = Script Syntax
 of_lexing (lexing.OpenString at) = Script Syntax
 of_lexing lexing.NoMemory = NoMemory
+
+-- a text without a plain text, by why it has none
+abbrev pub of_nice : NiceFault → StepFault
+of_nice nice.TooDeep = Script TooDeep
+of_nice nice.Syntax = Script Syntax
+of_nice nice.TooLong = Script StatementTooLong
+of_nice nice.NoMemory = NoMemory
 
 abbrev pub of_parsing : ParseFault → StepFault
 of_parsing parsing.TooDeep = Script TooDeep

@@ -6,6 +6,7 @@ mod generated;
 mod laws;
 mod mark;
 mod output;
+mod parsing;
 mod reading;
 mod run;
 mod runner;

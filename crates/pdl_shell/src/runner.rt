@@ -2,7 +2,8 @@
 use crate::laws::course_laws;
 use crate::mark::Mark;
 use crate::output::{flush, write_text};
-use crate::statement::{Rooms, push_fault_line, run_mark};
+use crate::parsing::Rooms;
+use crate::statement::{push_fault_line, run_mark};
 use crate::stop::Stop;
 use pdl_buf::Steps;
 use pdl_io::{Sink, count_one};

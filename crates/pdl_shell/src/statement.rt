@@ -4,78 +4,23 @@ ghost use Rattle.pdl_lex.specs.Limits.{statement_limit};
 ghost use Rattle.pdl_watch.specs.Slots.{slots_by, present_in};
 ghost use Rattle.pdl_syntax.specs.StatementTree.{statement_of};
 ghost use Rattle.pdl_syntax.specs.WellMade.{IsWellMade};
-ghost use Rattle.pdl_machine.specs.Run.{reads, step_read, mark_step, fault_line};
+ghost use Rattle.pdl_machine.specs.Reads.{reads};
+ghost use Rattle.pdl_machine.specs.Run.{step_read, mark_step, fault_line};
 ghost use Rattle.pdl_session.specs.Watching.{AreServed};
 ghost use Rattle.pdl_shell.specs.Marks.{mark_of};
 ghost use Rattle.pdl_shell.specs.Ran.{Leaves, AreServedAfter};
-ghost use Rattle.pdl_shell.specs.Unread.{IsFault, of_lexing, of_parsing};
+ghost use Rattle.pdl_shell.specs.Unread.{IsFault};
 
 use crate::mark::Mark;
+use crate::parsing::{Rooms, read};
 use pdl_buf::Steps;
-use pdl_lex::{LexFault, Piece, Token, read_tokens};
-use pdl_lexemes::Lexeme;
-use pdl_machine::{Fault, fault_text, reads_law};
+use pdl_lex::Piece;
+use pdl_machine::{Fault, fault_text};
 use pdl_session::{Session, StepFault};
-use pdl_syntax::{ParseFault, Statement, parse_within};
+use pdl_syntax::Statement;
 use pdl_watch::Watcher;
 use std::alloc::{AllocError, Global};
 use std::sync::ledger::Ledger;
-
-// Lists whose room is kept from one statement to the next. What stands in them is of no account.
-#[derive(Drop)]
-pub(crate) struct Rooms {
-    tokens: Vec<Token>,
-    lexemes: Vec<Lexeme>,
-}
-
-impl Rooms {
-    pub(crate) fn new(alloc: Global) -> Rooms {
-        Rooms {
-            tokens: Vec::new(alloc),
-            lexemes: Vec::new(alloc),
-        }
-    }
-}
-
-// The statement that a text is, or why it is none.
-fn read(alloc: Global, text: &[u8], rooms: &mut Rooms) -> Result<Statement, StepFault>
-    requires { length text.now ≤ statement_limit }
-    ensures ok { IfOk result (λ s. reads text.now ≡ Ok (statement_of s)) }
-    ensures well_made { IfOk result (λ s. IsWellMade (statement_of s)) }
-    ensures fault { IfErr result (IsFault (reads text.now)) }
-{
-    reads_law();
-    match read_tokens(text, &mut rooms.tokens) {
-        Ok(()) => match parse_within(alloc, text, &rooms.tokens, &mut rooms.lexemes) {
-            Ok(statement) => Ok(statement),
-            Err(fault) => Err(of_parsing(fault)),
-        },
-        Err(fault) => Err(of_lexing(fault)),
-    }
-}
-
-// Why a text without tokens is no statement.
-fn of_lexing(fault: LexFault) -> StepFault
-    ensures { result ≡ of_lexing fault }
-{
-    match fault {
-        LexFault::BadByte { .. } | LexFault::OpenString { .. } => StepFault::Script(Fault::Syntax),
-        LexFault::NoMemory => StepFault::NoMemory,
-    }
-}
-
-// Why tokens are no statement's.
-fn of_parsing(fault: ParseFault) -> StepFault
-    ensures { result ≡ of_parsing fault }
-{
-    match fault {
-        ParseFault::TooDeep => StepFault::Script(Fault::TooDeep),
-        ParseFault::NumberTooLarge => StepFault::Script(Fault::NumberTooLarge),
-        ParseFault::Syntax => StepFault::Script(Fault::Syntax),
-        ParseFault::Ragged => StepFault::Script(Fault::Ragged),
-        ParseFault::NoMemory => StepFault::NoMemory,
-    }
-}
 
 // Runs the statement of a text, which has this number, and puts what it prints into `out`.
 fn run_text<W: Watcher, L: Ledger>(

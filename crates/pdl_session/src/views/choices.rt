@@ -3,7 +3,7 @@ ghost use Rattle.std.specs.Prelude.{◌≡◌, IfOk};
 ghost use Rattle.pdl_buf.specs.declared.made.Made.{Made};
 ghost use Rattle.pdl_world.specs.Sound.{IsLive};
 ghost use Rattle.pdl_machine.specs.Arrays.{array_in};
-ghost use Rattle.pdl_machine.specs.Views.{edge_of, index_outcome, where_outcome, range_by, range_outcome};
+ghost use Rattle.pdl_machine.specs.Views.{edge_of, look_up, index_outcome, where_outcome, range_by, range_outcome};
 ghost use Rattle.pdl_scope.specs.Answers.{AnswersAs};
 ghost use Rattle.pdl_session.specs.Arguments.{all_seen_of, AreGivenLive, outcome_of, IsOutcomeMade};
 ghost use Rattle.pdl_session.specs.Calls.{windows};
@@ -35,15 +35,27 @@ pub fn index<L: Ledger>(
     ensures same { OnlyReads scope.old scope.new }
 {
     match second_array(given) {
-        Some(id) => {
-            let numbers = scope.numbers(id, steps)?;
-            Ok(Outcome::View(Trans::Index {
-                dims: copy_dims(scope.dims(id)),
-                ind: Numbers::new(numbers),
-            }))
-        }
+        Some(id) => looked_up(scope, id, steps),
         None => Err(ScopeFault::Script(Fault::WrongArguments)),
     }
+}
+
+/// An array looked up by the values of this one.
+pub fn looked_up<L: Ledger>(
+    scope: &mut Scope,
+    id: ArrayId,
+    steps: &mut Steps<L>,
+) -> Result<Outcome, ScopeFault>
+    requires { IsLive scope.old.arrays.world id }
+    ensures value { AnswersAs outcome_of (look_up (array_in scope.old.arrays id)) result }
+    ensures made { IfOk result IsOutcomeMade }
+    ensures same { OnlyReads scope.old scope.new }
+{
+    let numbers = scope.numbers(id, steps)?;
+    Ok(Outcome::View(Trans::Index {
+        dims: copy_dims(scope.dims(id)),
+        ind: Numbers::new(numbers),
+    }))
 }
 
 /// `where`: an array's elements at which a mask isn't 0.

@@ -1,0 +1,5 @@
+use Rattle.pdl_session.proofs.Patterns.{IsFilled}
+use Rattle.pdl_session.proofs.views.nice.filled_in.Given as goal
+
+abbrev pub invariant-loop-byte : goal.invariant-loop-byte
+invariant-loop-byte l = IsFilled l.pattern l.numbers l.byte-index l.used l.text.items
