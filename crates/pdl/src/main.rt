@@ -3,7 +3,7 @@
 #![tactic(auto)]
 
 use pdl_io::{ReadSource, WriteSink};
-use pdl_shell::{Status, run_shell};
+use pdl_shell::{MOST_SLOTS, Status, run_shell};
 use pdl_watch::{LineWatcher, Watcher, are_open};
 use std::alloc::AllocError;
 use std::env;
@@ -26,9 +26,6 @@ fn words(rt: &HostRuntime) -> io::Result<Vec<String>> {
 
 // How many slots of watchers there are: from 0 on.
 const SLOTS: u64 = 8;
-
-// The most slots that the call takes.
-const MOST_SLOTS: usize = 1024;
 
 // Runs the script on standard input, with a watcher in each slot.
 fn watched(rt: &HostRuntime, words: &[String]) -> Result<Status, AllocError> {

@@ -45,7 +45,7 @@ end_of (Some k) missing n = from_end k n
 
 -- a span in a dimension of size n: missing ends are the first and the last place in the
 -- direction of the step, and without both a dimension of size 0 has none
-abbrev pub spanned : Option ℤ → Option ℤ → Option ℤ → ℕ → Option Line
+abbrev pub spanned : (from to step : Option ℤ) → (size : ℕ) → Option Line
 spanned from to step n =
     if is_none from && is_none to && (n == 0) then Some (kept 0 (pos 1) 0)
     else option_and_then (λ a. option_map (λ b. span_line a b step)

@@ -24,7 +24,8 @@ step_of is ds k = (if nat_lt 1 (slice_index_or ds k 1) then slice_index_or is k 
 
 -- where one dimension of a walk moves on and those before it roll over, these jumps take
 -- what the increments of an argument add up to to that of the next coordinates
-abbrev pub Jumps : List ℕ → List ℤ → List ℕ → List ℤ → Type 0
+abbrev pub Jumps : (walk : List ℕ) → (increments : List ℤ) → (dims : List ℕ) → (jumps : List ℤ)
+    → Type 0
 Jumps walk is ds jumps =
     (cs : List ℕ) → IsWithin walk cs → rolled_of walk cs < length walk →
     moved is (cut_to ds (next_of walk cs)) ≡ moved is (cut_to ds cs)

@@ -9,7 +9,7 @@ use Rattle.pdl_shape.specs.Laws.{PositionLaws, CutsWithin}
 use Rattle.pdl_shape.specs.Shape.{IsWithin, size_of, coordinates_of, position_of}
 use Rattle.pdl_shape.specs.Stretched.{stretched, stretched_position}
 use Rattle.pdl_shape.specs.Triple.{Triple, place_of}
-use Rattle.pdl_buf.specs.Window.{place_at, shown_through}
+use Rattle.pdl_numbers.specs.Shown.{place_at, shown_through}
 
 -- a triple that shows the places of the cut coordinates shows the stretched elements
 pub shown_stretched : PositionLaws → CutsWithin → (t r : Triple) (js : List ℕ) (es : List ℤ) → r.dims ≡ js → BroadcastsTo t.dims js

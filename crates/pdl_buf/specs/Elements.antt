@@ -4,7 +4,7 @@ use Rattle.pdl_elem.specs.declared.Ty.{Ty}
 use Rattle.pdl_elem.specs.Types.{InRange}
 use Rattle.pdl_buf.specs.declared.packing.Form.{Form}
 use Rattle.pdl_buf.specs.declared.packing.Form.TheVariants.{Wide, Packed}
-use Rattle.pdl_buf.specs.Numbers.{elements_in}
+use Rattle.pdl_numbers.specs.Numbers.{elements_in}
 
 abbrev pub listed : Form → List ℤ
 listed (Wide es) = es.items

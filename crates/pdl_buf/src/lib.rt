@@ -6,35 +6,25 @@
 //! counted step.
 #![tactic(auto)]
 
-mod across;
 mod buffer;
 mod lending;
 mod made;
 mod moves;
-mod numbers;
-mod packed;
 mod packing;
-mod placement;
 mod ranges;
-mod reads;
-mod routes;
+mod reading;
 mod steps;
 mod stretching;
-mod sums;
 mod window;
 
-pub use across::{strided_is_turned, strided_read_across};
 pub use buffer::{Buf, buf_bytes, buf_get, buf_of, buf_of_elements, buf_set};
 pub use lending::strided;
 pub use made::{Elements, Made};
 pub use moves::{gather, gathered, scatter, scatter_by, scatter_from};
 pub use packing::Packing;
-pub use placement::Placement;
 pub use ranges::strided_is_in_range;
-pub use reads::strided_read;
-pub use routes::Route;
+pub use reading::{strided_is_turned, strided_read, strided_read_across, strided_sum};
 pub use std::alloc::AllocError as NoMemory;
 pub use steps::{Steps, new_steps, tick};
 pub use stretching::stretched;
-pub use sums::strided_sum;
 pub use window::{Strided, strided_dims, strided_get, strided_type};

@@ -2,10 +2,10 @@
 ghost use Rattle.std.specs.Prelude.{◌≡◌, ◌<◌, ◌≤◌, ◌+◌, ◌++◌, [], length, take, drop, All, IfOk, OnOk, OnErr};
 ghost use Rattle.pdl_elem.specs.Types.{InRange};
 ghost use Rattle.pdl_buf.specs.Elements.{listed};
-ghost use Rattle.pdl_buf.specs.Numbers.{elements_in};
+ghost use Rattle.pdl_numbers.specs.Numbers.{elements_in};
 
-use crate::numbers::{Numbers, numbers_of};
 use pdl_elem::Ty;
+use pdl_numbers::{Numbers, numbers_of};
 use std::alloc::{AllocError, Global};
 use std::marker::Model;
 
@@ -93,7 +93,7 @@ pub struct Packing {
 }
 
 impl Model for Packing {
-    ghost use Rattle.pdl_buf.specs.Buffer.{TypedElements};
+    ghost use Rattle.pdl_numbers.specs.Typed.{TypedElements};
     ghost use Rattle.pdl_buf.specs.Elements.{IsAtType, listed};
 
     ghost Value = { TypedElements };

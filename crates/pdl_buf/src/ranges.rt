@@ -2,30 +2,10 @@
 ghost use Rattle.std.specs.Prelude.{All};
 ghost use Rattle.pdl_elem.specs.Types.{InRange};
 ghost use Rattle.pdl_shape.specs.Triple.{IsTriple};
-ghost use Rattle.pdl_buf.specs.Numbers.{elements_in};
 
-use crate::numbers::Numbers;
 use crate::packing::{Form, Packing};
-use crate::placement::Placement;
 use crate::window::Strided;
-use pdl_shape::shape_laws;
-
-impl Numbers {
-    /// All of them are in the type's range. It does nothing: who calls it knows that.
-    fn are_in_range(&self)
-        ensures { All (InRange (elements_in self.now).ty) (elements_in self.now).elems }
-    {
-        match self {
-            Numbers::Sbytes(packed) => packed.are_in_range(),
-            Numbers::Bytes(packed) => packed.are_in_range(),
-            Numbers::Shorts(packed) => packed.are_in_range(),
-            Numbers::Ushorts(packed) => packed.are_in_range(),
-            Numbers::Longs(packed) => packed.are_in_range(),
-            Numbers::Ulongs(packed) => packed.are_in_range(),
-            Numbers::Longlongs(packed) => packed.are_in_range(),
-        }
-    }
-}
+use pdl_numbers::{Placement, shown_laws};
 
 impl Packing {
     /// All of them are in the type's range. It does nothing: who calls it knows that.
@@ -50,7 +30,7 @@ fn keeps_triple(placement: &Placement)
 pub fn strided_is_in_range(from: &Strided<'_>)
     ensures { All (InRange from.now.ty) from.now.elems }
 {
-    shape_laws();
+    shown_laws();
     keeps_triple(&from.placement);
     let buf = from.buf;
     buf.numbers.are_in_range();

@@ -4,9 +4,9 @@ ghost use Rattle.pdl_elem.specs.Types.{InRange};
 ghost use Rattle.pdl_shape.specs.Shape.{size_of};
 
 use crate::buffer::{Buf, buf_get};
-use crate::placement::Placement;
 use pdl_elem::Ty;
-use pdl_shape::{Dims, shape_laws};
+use pdl_numbers::{Placement, shown_laws};
+use pdl_shape::Dims;
 use std::marker::Model;
 
 /// A borrowed buffer as a triple shows it: the element at coordinates is the buffer's at the
@@ -21,7 +21,8 @@ pub struct Strided<'a> {
 impl<'a> Model for Strided<'a> {
     ghost use Rattle.std.specs.Prelude.{length};
     ghost use Rattle.pdl_shape.specs.Triple.{Reaches};
-    ghost use Rattle.pdl_buf.specs.Window.{Window, shown_through};
+    ghost use Rattle.pdl_buf.specs.Window.{Window};
+    ghost use Rattle.pdl_numbers.specs.Shown.{shown_through};
 
     ghost Value = { Window };
 
@@ -56,6 +57,6 @@ pub fn strided_get(from: &Strided<'_>, position: u32) -> i64
     ensures value { result ≡ get_or from.now.elems position (pos 0) }
     ensures in_range { InRange from.now.ty result }
 {
-    shape_laws();
+    shown_laws();
     buf_get(from.buf, from.placement.place(position))
 }

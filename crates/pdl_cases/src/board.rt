@@ -11,7 +11,7 @@ ghost use Rattle.pdl_cases.specs.Kept.{AreKept, IsKept, Recounts, recounted};
 
 use pdl_buf::{Elements, Steps, new_steps};
 use pdl_elem::{Ty, wrap_all};
-use pdl_engine::{ArrayId, Engine, ViewFault};
+use pdl_engine::{ArrayId, Engine, ReshapeFault, ViewFault};
 use pdl_shape::{Dims, elements_of};
 use pdl_world::{Trans, assignment_laws, cut_laws, growth_laws, reshape_laws, sweep_laws};
 use std::alloc::Global;
@@ -134,19 +134,17 @@ impl<L: Ledger> Board<L> {
         }
     }
 
-    /// Gives an array without views other dimensions.
-    pub fn reshape(&mut self, array: &Array, dims: &Dims) -> Option<()>
+    /// Gives an array other dimensions, or says that they break a view.
+    pub fn reshape(&mut self, array: &Array, dims: &Dims) -> Option<Option<ReshapeFault>>
         requires kept { AreKept self.old.engine self.old.arrays.items }
         requires array { IsKept self.old.engine array.now }
         ensures { OnSome result (AreKept self.new.engine self.new.arrays.items) }
     {
         reshape_laws();
-        if self.engine.has_views(array.id) {
-            return None;
-        }
         match self.engine.reshape(array.id, dims, &mut self.steps) {
-            Ok(()) => Some(()),
-            Err(_) => None,
+            Ok(()) => Some(None),
+            Err(ReshapeFault::Breaks) => Some(Some(ReshapeFault::Breaks)),
+            Err(ReshapeFault::NoMemory) => None,
         }
     }
 

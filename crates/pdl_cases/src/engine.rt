@@ -3,12 +3,13 @@
 //! Each array has a letter. `root x = TYPE [SIZES]: VALUES` and `view y = x VIEW` make one; a VIEW is
 //! one of an affine view, `index [SIZES]: VALUES`, `where [SIZES]: MASK` or
 //! `range [SIZES]: VALUES sizes SIZES edge EDGE`. Then there are `ready x`, `assign x: VALUES`,
-//! `sever x`, `reshape x [SIZES]`, `hold x`, `release x`. These answer nothing, but for a view that is
-//! refused, which has its fault.
+//! `sever x`, `reshape x [SIZES]`, `hold x`, `release x`. These answer nothing, but for a view or a
+//! reshape that is refused, which has its fault.
 //!
 //! `fresh` answers the arrays that can be lent, `lend x` the array, `read x` the same after `ready`,
-//! `live` how many arrays there are, `views x` whether it has views, `parent x` its parent. With `marks` each call answers
-//! the arrays that can be lent after it, too.
+//! `live` how many arrays there are, `parent x` its parent, `reaches x y` whether `y` is `x` or above
+//! it, `breaks x [SIZES]` whether `reshape x [SIZES]` is refused. With `marks` each call answers the
+//! arrays that can be lent after it, too.
 ghost use Rattle.std.specs.Prelude.{◌≡◌, ◌<◌, IfSome, IsTrue, OnSome};
 ghost use Rattle.pdl_world.specs.Formula.{is_well_formed};
 ghost use Rattle.pdl_cases.specs.Kept.{AreKept, IsKept};
@@ -62,8 +63,9 @@ enum Question {
     Lend,
     Read,
     Live,
-    Views,
     Parent,
+    Reaches,
+    Breaks,
 }
 
 const QUESTIONS: &[(&str, Question)] = &[
@@ -71,8 +73,9 @@ const QUESTIONS: &[(&str, Question)] = &[
     ("lend", Question::Lend),
     ("read", Question::Read),
     ("live", Question::Live),
-    ("views", Question::Views),
     ("parent", Question::Parent),
+    ("reaches", Question::Reaches),
+    ("breaks", Question::Breaks),
 ];
 
 // What stands between two answers.
@@ -182,13 +185,22 @@ fn assign<L: Ledger>(board: &mut Board<L>, line: &mut Cursor<'_>) -> Option<()>
     board.assign(&array, &mut numbers)
 }
 
-fn reshape<L: Ledger>(board: &mut Board<L>, line: &mut Cursor<'_>) -> Option<()>
+// Gives an array other dimensions, and says why not.
+fn reshape<L: Ledger>(
+    board: &mut Board<L>,
+    line: &mut Cursor<'_>,
+    answer: &mut Answer,
+) -> Option<()>
     requires { AreKept board.old.engine board.old.arrays.items }
     ensures { OnSome result (AreKept board.new.engine board.new.arrays.items) }
 {
     let array = array(board, line)?;
     let dims = choice::dims(line)?;
-    board.reshape(&array, &dims)
+    if let Some(fault) = board.reshape(&array, &dims)? {
+        answer.next(BETWEEN);
+        answer.debug(&fault);
+    }
+    Some(())
 }
 
 // A call of an array alone.
@@ -219,7 +231,7 @@ fn make_change<L: Ledger>(
         Change::View => view(board, line, answer),
         Change::Root => make(board, line),
         Change::Assign => assign(board, line),
-        Change::Reshape => reshape(board, line),
+        Change::Reshape => reshape(board, line, answer),
         other => change_one(board, other, line),
     }
 }
@@ -295,6 +307,38 @@ fn say_letter(arrays: &[Array], id: ArrayId, answer: &mut Answer) {
     answer.say("?");
 }
 
+// Whether an array is another one, or a view of it, or of a view of it.
+fn say_reached<L: Ledger>(
+    board: &Board<L>,
+    below: &Array,
+    line: &mut Cursor<'_>,
+    answer: &mut Answer,
+) -> Option<()>
+    requires kept { AreKept board.now.engine board.now.arrays.items }
+    requires below { IsKept board.now.engine below.now }
+{
+    let above = array(board, line)?;
+    answer.next(BETWEEN);
+    answer.show(&board.engine.reaches(below.id, above.id));
+    Some(())
+}
+
+// Whether other dimensions of an array would break a view.
+fn say_broken<L: Ledger>(
+    board: &Board<L>,
+    array: &Array,
+    line: &mut Cursor<'_>,
+    answer: &mut Answer,
+) -> Option<()>
+    requires { IsKept board.now.engine array.now }
+{
+    let dims = choice::dims(line)?;
+    let breaks = board.engine.breaks(array.id, &dims).ok()?;
+    answer.next(BETWEEN);
+    answer.show(&breaks);
+    Some(())
+}
+
 // A call that tells something of one array.
 fn tell_one<L: Ledger>(
     board: &Board<L>,
@@ -306,11 +350,8 @@ fn tell_one<L: Ledger>(
 {
     let array = array(board, line)?;
     match question {
-        Question::Views => {
-            answer.next(BETWEEN);
-            answer.show(&board.engine.has_views(array.id));
-            Some(())
-        }
+        Question::Reaches => say_reached(board, &array, line, answer),
+        Question::Breaks => say_broken(board, &array, line, answer),
         Question::Parent => {
             say_parent(board, &array, answer);
             Some(())

@@ -10,6 +10,7 @@
 //! `status STATUS => N`: the number of a status.
 ghost use Rattle.std.specs.Prelude.{◌≤◌, length};
 ghost use Rattle.pdl_watch.specs.Slots.{AreOpen, slots_by};
+ghost use Rattle.pdl_scope.specs.Scope.{slots_limit};
 
 use crate::answer::Answer;
 use crate::cursor::Cursor;
@@ -127,7 +128,7 @@ pub fn run_over(
     answer: &mut Answer,
 ) -> Option<()>
     requires open { AreOpen (slots_by (λ b. seen b) watchers.old.items) }
-    requires few { length watchers.old.items ≤ 1024 }
+    requires few { length watchers.old.items ≤ slots_limit }
 {
     let mut sink = sink(answer.alloc, call)?;
     let status = run_shell(answer.alloc, &call.words, &mut source, &mut sink, watchers);

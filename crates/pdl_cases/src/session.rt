@@ -4,6 +4,7 @@
 ghost use Rattle.std.specs.Prelude.{◌≡◌, ◌≤◌, ◌<◌, length, true};
 ghost use Rattle.pdl_syntax.specs.StatementTree.{statement_of};
 ghost use Rattle.pdl_syntax.specs.WellMade.{IsWellMade};
+ghost use Rattle.pdl_scope.specs.Scope.{slots_limit};
 ghost use Rattle.pdl_session.specs.Watching.{AreServed};
 ghost use Rattle.pdl_watch.specs.Slots.{AreOpen, slots_by};
 
@@ -116,7 +117,7 @@ fn run_pieces<L: Ledger>(
     blank: Blank,
 )
     requires open { AreOpen (slots_by (λ b. seen b) watchers.old.items) }
-    requires few { length watchers.old.items ≤ 1024 }
+    requires few { length watchers.old.items ≤ slots_limit }
     requires name { blank.name ≡ L.name }
     requires parts { blank.parts ≡ L.parts }
     requires some { 0 < blank.parts }
@@ -140,7 +141,7 @@ pub fn run_over(
     answer: &mut Answer,
 ) -> Option<()>
     requires open { AreOpen (slots_by (λ b. seen b) watchers.old.items) }
-    requires few { length watchers.old.items ≤ 1024 }
+    requires few { length watchers.old.items ≤ slots_limit }
 {
     run_pieces::<Brand>(pieces, watchers, answer, Blank::new(1));
     Some(())

@@ -7,6 +7,7 @@
 ghost use Rattle.std.specs.Prelude.{◌≡◌, ◌≤◌, false, length, None};
 ghost use Rattle.pdl_watch.specs.RecorderState.{seen_in};
 ghost use Rattle.pdl_watch.specs.Slots.{AreOpen, slots_by};
+ghost use Rattle.pdl_scope.specs.Scope.{slots_limit};
 
 use crate::answer::Answer;
 use crate::cursor::Cursor;
@@ -14,6 +15,7 @@ use crate::script::{self, Call};
 use crate::session;
 use pdl_io::{Failed, MemSource, Sink};
 use pdl_lex::Piece;
+use pdl_scope::MOST_SLOTS;
 use pdl_watch::{LineWatcher, Notice, Recorder, Watcher, are_open};
 use std::alloc::Global;
 use std::cell::RefCell;
@@ -21,9 +23,6 @@ use std::rc::Rc;
 
 // What stands between two parts of an answer.
 const BETWEEN: &str = "; ";
-
-// The most slots of a call.
-const MOST_SLOTS: usize = 1024;
 
 // The slots of the program.
 const PROGRAM_SLOTS: u64 = 8;
@@ -207,7 +206,7 @@ fn run(
     answer: &mut Answer,
 ) -> Option<()>
     requires open { AreOpen (slots_by (λ b. seen b) watchers.old.items) }
-    requires few { length watchers.old.items ≤ 1024 }
+    requires few { length watchers.old.items ≤ slots_limit }
 {
     match subject {
         Subject::Script(call, source) => script::run_over(call, source, watchers, answer),

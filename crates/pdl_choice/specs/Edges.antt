@@ -28,7 +28,7 @@ is_window_within n size (pos v) = nat_le (v + max size 1) n
 is_window_within n size (negsuc v) = false
 
 -- whether an edge refuses a window of this size that begins at v in a dimension of size n
-abbrev pub edge_refuses : Edge → ℕ → ℕ → ℤ → Bool
+abbrev pub edge_refuses : Edge → (dim size : ℕ) → (begin : ℤ) → Bool
 edge_refuses Refuse n size v = not (is_window_within n size v)
 edge_refuses Zero n size v = false
 edge_refuses Nearest n size v = n == 0

@@ -26,7 +26,7 @@ index_dims (n ∷ rest) ind_dims ind =
 
 -- along the first dimension the index value at these coordinates, along the others the
 -- coordinates; both broadcast
-abbrev pub index_source : List ℕ → List ℕ → List ℤ → List ℕ → List ℕ
+abbrev pub index_source : (parent ind_dims : List ℕ) → (ind : List ℤ) → (at : List ℕ) → List ℕ
 index_source [] ind_dims ind at = []
 index_source (n ∷ rest) ind_dims ind at =
     unwrap_or (from_end (get_or ind (position_of ind_dims (cut_to ind_dims at)) (pos 0)) n) 0

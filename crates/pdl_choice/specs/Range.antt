@@ -26,7 +26,7 @@ window_sizes count sizes =
     else map from_zero sizes)
 
 -- the first index value at which the edge refuses its window
-abbrev pub first_refused : Edge → List ℕ → List ℕ → List ℤ → Option ℕ
+abbrev pub first_refused : Edge → (parent windows : List ℕ) → (ind : List ℤ) → Option ℕ
 first_refused edge parent windows ind =
     position
     (λ p. edge_refuses edge (get_or parent (p % length windows) 0)
@@ -53,7 +53,8 @@ window_refusal dims count sizes =
     else (if length sizes == 1 || length sizes == count then None else Some mismatch))
 
 -- the dimensions of a view of windows, or the first refusal
-abbrev pub range_dims : List ℕ → List ℕ → List ℤ → List ℤ → Edge → Result (List ℕ) Refusal
+abbrev pub range_dims : (parent ind_dims : List ℕ) → (ind sizes : List ℤ) → Edge
+    → Result (List ℕ) Refusal
 range_dims parent ind_dims ind sizes edge =
     let windows = window_sizes (corner_len ind_dims) sizes in
     option_map_or (λ refusal. Err refusal)
@@ -62,7 +63,7 @@ range_dims parent ind_dims ind sizes edge =
     (checked_dims (windowed_dims parent ind_dims windows)))
 
 -- the first index value that the edge refuses
-abbrev pub range_outside : List ℕ → List ℕ → List ℤ → List ℤ → Edge → Option ℕ
+abbrev pub range_outside : (parent ind_dims : List ℕ) → (ind sizes : List ℤ) → Edge → Option ℕ
 range_outside parent ind_dims ind sizes edge =
     first_refused edge parent (window_sizes (corner_len ind_dims) sizes) ind
 
@@ -79,7 +80,8 @@ put_first (Some c) rest = option_map (λ cs. c ∷ cs) rest
 
 -- each number of the corner plus the window's coordinate, which is 0 for a size of 0, by the edge;
 -- then the coordinates that are left
-abbrev pub window_source : Edge → List ℕ → List ℕ → List ℤ → List ℕ → Option (List ℕ)
+abbrev pub window_source : Edge → (parent windows : List ℕ) → (corner : List ℤ) → (at : List ℕ)
+    → Option (List ℕ)
 window_source edge parent [] corner at = Some at
 window_source edge [] (w ∷ windows) corner at = Some at
 window_source edge (n ∷ parent) (w ∷ windows) [] at = Some at
@@ -90,7 +92,8 @@ window_source edge (n ∷ parent) (suc w ∷ windows) (v ∷ corner) (c ∷ at) 
     put_first (edge_coordinate edge n (v +ℤ pos c)) (window_source edge parent windows corner at)
 
 -- the parent's coordinates under a window, or nothing beyond an edge that reads 0
-abbrev pub range_source : List ℕ → List ℕ → List ℤ → List ℤ → Edge → List ℕ → Option (List ℕ)
+abbrev pub range_source : (parent ind_dims : List ℕ) → (ind sizes : List ℤ) → Edge → (at : List ℕ)
+    → Option (List ℕ)
 range_source parent ind_dims ind sizes edge at =
     let outer = length (drop 1 ind_dims) in
     window_source edge parent (window_sizes (corner_len ind_dims) sizes)
@@ -101,7 +104,7 @@ abbrev pub capped : ℕ → ℕ
 capped n = min n 4294967295
 
 -- no edge refuses a window at any corner
-abbrev pub AllAllowed : Edge → List ℕ → List ℕ → List ℤ → Type 0
+abbrev pub AllAllowed : Edge → (parent windows : List ℕ) → (ind : List ℤ) → Type 0
 AllAllowed edge parent windows ind =
     (k : ℕ) → k < length ind
     → edge_refuses edge (get_or parent (k % length windows) 0)

@@ -14,7 +14,7 @@ line_at line c = line.from + line.step * c
 
 -- the place at column c of a row of an index view: the index value's coordinate along the
 -- first dimension, of size n
-abbrev pub row_place : ℕ → List ℤ → Line → Line → ℕ → ℕ
+abbrev pub row_place : (size : ℕ) → (ind : List ℤ) → (ind_line rest_line : Line) → (column : ℕ) → ℕ
 row_place n ind ind_line rest_line c =
     unwrap_or (from_end (slice_index_or ind (line_at ind_line c) (pos 0)) n) 0
     + n * line_at rest_line c
@@ -30,7 +30,7 @@ place_first n (Some c) rest = option_map (λ p. c + n * p) rest
 
 -- the place of the coordinates that lie so far past a corner; the last number is the place in the
 -- dimensions past the corner's
-abbrev pub placed : Edge → List ℕ → List ℤ → List ℕ → Option ℕ
+abbrev pub placed : Edge → (parent : List ℕ) → (corner : List ℤ) → (at : List ℕ) → Option ℕ
 placed edge parent corner [] = Some 0
 placed edge parent [] (q ∷ at) = Some q
 placed edge [] (v ∷ corner) (c ∷ at) = Some 0
@@ -38,21 +38,23 @@ placed edge (n ∷ parent) (v ∷ corner) (c ∷ at) =
     place_first n (edge_coordinate edge n (v +ℤ pos c)) (placed edge parent corner at)
 
 -- the edges place the numbers that lie so far past a corner
-abbrev pub CanPlaceEach : Edge → List ℕ → List ℤ → List ℕ → Type 0
+abbrev pub CanPlaceEach : Edge → (parent : List ℕ) → (corner : List ℤ) → (at : List ℕ) → Type 0
 CanPlaceEach edge parent corner at =
     (j : ℕ) → j < length corner
     → CanPlace edge (slice_index parent j) (slice_index_or corner j (pos 0)
     +ℤ pos (slice_index at j))
 
 -- the edges place the numbers that lie so far past each corner of so many numbers
-abbrev pub CanPlaceAll : Edge → List ℕ → List ℤ → ℕ → List ℕ → Type 0
+abbrev pub CanPlaceAll : Edge → (parent : List ℕ) → (ind : List ℤ) → (len : ℕ) → (at : List ℕ)
+    → Type 0
 CanPlaceAll edge parent ind len at =
     (q j : ℕ) → j < len → len * q + j < length ind
     → CanPlace edge (slice_index parent j) (slice_index_or ind (len * q + j) (pos 0)
     +ℤ pos (slice_index at j))
 
 -- the place of the position p of windows at so many corners, where the corners are fastest
-abbrev pub window_place : Edge → List ℕ → List ℕ → List ℤ → ℕ → ℕ → Option ℕ
+abbrev pub window_place : Edge → (parent windows : List ℕ) → (ind : List ℤ) → (corners position : ℕ)
+    → Option ℕ
 window_place edge parent windows ind corners p =
     let corner = numbers_at ind (length windows) (p % corners) in
     let at = coordinates_of (inner_dims parent windows) (p / corners) in

@@ -103,13 +103,6 @@ module _ (source : List ℕ) (s : Signature) where
   loop_err v loops inner t w body d e placed flag is x err =
       loop_is v loops t w body d e placed flag ∙ ap (λ ls. resolve_code source s (visible v ls) body >>= λ c. Ok (repeat d c)) (sym is) ∙ ap (λ r. r >>= λ c. Ok (repeat d c)) err
 
-  -- a loop over a dimension that is refused
-  pub loop_refused : (c : Scope) (t : RawStep) (w : Span) (body : RawCode) → t ≡ repeat w body
-      → (x : KernelFault) → answer (loop_wrong c.loops w (named_dim source s w)) (or_zero (named_dim source s w)) ≡ Err x → resolve_step source s c t ≡ Err x
-  loop_refused c t w body e x err =
-      ap (resolve_step source s c) e
-      ∙ ap (λ r. r >>= λ d. resolve_code source s (within c (or_zero (named_dim source s w))) body >>= λ b. Ok (repeat d b)) err
-
   choice_is : (c : Scope) (t : RawStep) (e : RawTree) (a b : RawCode) (x : Tree) → t ≡ choose e a b → resolve_tree source s c e ≡ Ok x
       → resolve_step source s c t ≡ (resolve_code source s c a >>= λ p. resolve_code source s c b >>= λ q. Ok (choose x p q))
   choice_is c t e a b x is found =
@@ -131,8 +124,3 @@ module _ (source : List ℕ) (s : Signature) where
   choice_err_second v w loops t e a b x p is found first same y second =
       choice_is (visible v loops) t e a b x is found ∙ ap (λ y. y >>= λ p. resolve_code source s (visible v loops) b >>= λ q. Ok (choose x p q)) first
       ∙ ap (λ y. y >>= λ q. Ok (choose x p q)) (ap (λ ls. resolve_code source s (visible ls loops) b) (sym same) ∙ second)
-
-  -- a condition that is refused
-  pub choice_refused : (c : Scope) (t : RawStep) (e : RawTree) (a b : RawCode) → t ≡ choose e a b → (x : KernelFault) → resolve_tree source s c e ≡ Err x → resolve_step source s c t ≡ Err x
-  choice_refused c t e a b is x err =
-      ap (resolve_step source s c) is ∙ ap (λ r. r >>= λ x. resolve_code source s c a >>= λ p. resolve_code source s c b >>= λ q. Ok (choose x p q)) err

@@ -1,5 +1,7 @@
 -- How deep kernel code is, by its tokens alone.
 use Rattle.std.specs.Prelude.{pred, ◌+◌, nat_lt, List, [], ◌∷◌, Bool, true, false, ◌||◌, if◌then◌else◌}
+use Rattle.pdl_lex.specs.Limits.{bracket_limit}
+use Rattle.pdl_lexemes.specs.Depth.{operator_limit}
 use Rattle.pdl_code.specs.declared.depth.Counts.{Counts}
 use Rattle.pdl_code.specs.declared.lexeme.Lexeme.{Lexeme}
 use Rattle.pdl_code.specs.declared.lexeme.Lexeme.TheVariants.{Open, Close, BlockOpen, BlockClose, Semicolon, Arrow, Operator, Prefix}
@@ -19,7 +21,8 @@ counted_to c _ = c
 
 -- more than 64 of `(` and `%{` open at once, or more than 256 operators
 abbrev pub is_beyond : Counts → Bool
-is_beyond c = nat_lt 64 (c.round + c.block) || nat_lt 256 c.operators
+is_beyond c =
+    nat_lt bracket_limit (c.round + c.block) || nat_lt operator_limit c.operators
 
 -- whether that is so behind some token
 abbrev pub goes_beyond : Counts → List Lexeme → Bool

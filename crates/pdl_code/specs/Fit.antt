@@ -54,7 +54,7 @@ abbrev mutual
       AreIndicesFit s n rank rest
 
 -- an access to an argument: as many indices as it has dimensions
-abbrev pub IsAccessFit : Signature → ℕ → ℕ → Indices → Type 0
+abbrev pub IsAccessFit : Signature → (locals arg : ℕ) → Indices → Type 0
 IsAccessFit s n a is = (a < length s.args) × (length (places_of is) ≡ rank_of s a) ×
     AreIndicesFit s n (rank_of s a) is × IsEachOnce (rank_of s a) is
 

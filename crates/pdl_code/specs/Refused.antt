@@ -60,7 +60,7 @@ axis_wrong w given None = UnknownDim w.from ∷ []
 axis_wrong w given (Some k) = when (get_or given k false) (UnknownDim w.from)
 
 -- at the closing bracket: some dimension, from place k on, is neither given nor looped
-abbrev pub lacks : List Bool → List ℕ → ℕ → List Bool → Bool
+abbrev pub lacks : (loops : List Bool) → (dims : List ℕ) → (k : ℕ) → (given : List Bool) → Bool
 lacks loops [] k given = false
 lacks loops (d ∷ ds) k given = not (get_or given k false || get_or loops d false)
     || lacks loops ds (k + 1) given

@@ -50,7 +50,7 @@ abbrev pub or_local : Option ℕ → Option ℕ → Meant
 or_local (Some k) d = InSlot k
 or_local None d = or_dim d
 
-abbrev pub meant : List ℕ → Signature → List Local → Span → Meant
+abbrev pub meant : (source : List ℕ) → Signature → (locals : List Local) → Span → Meant
 meant source s locals w = or_local (slot_in source locals (bytes_of source w))
     (dim_place s (bytes_of source w))
 

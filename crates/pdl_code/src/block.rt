@@ -46,16 +46,10 @@ fn declaration(
         OnOk result (record { locals = locals.new.items; loops = loops.now }
         ≡ scope_after c (keep (New ty word) op (tree_of expr.now))) }
 {
-    match tree(alloc, source, signature, locals.as_slice(), loops, expr) {
-        Ok(e) => {
-            let slot = locals.len();
-            match declare(locals, word, ty) {
-                Ok(()) => Ok(Stmt::Keep(Kept { slot, ty }, op, e)),
-                Err(fault) => Err(fault),
-            }
-        }
-        Err(fault) => Err(fault),
-    }
+    let e = tree(alloc, source, signature, locals.as_slice(), loops, expr)?;
+    let slot = locals.len();
+    declare(locals, word, ty)?;
+    Ok(Stmt::Keep(Kept { slot, ty }, op, e))
 }
 
 /// An assignment to a word.
@@ -73,13 +67,11 @@ fn word_assignment(
         (record { locals = locals.now; loops = loops.now }) (keep (Named word) op (tree_of expr.now))) }
 {
     match meaning(source, signature, locals, word) {
-        Meant::InSlot(k) => match tree(alloc, source, signature, locals, loops, expr) {
-            Ok(e) => {
-                let ty = type_at(locals, k);
-                Ok(Stmt::Keep(Kept { slot: k, ty }, op, e))
-            }
-            Err(fault) => Err(fault),
-        },
+        Meant::InSlot(k) => {
+            let e = tree(alloc, source, signature, locals, loops, expr)?;
+            let ty = type_at(locals, k);
+            Ok(Stmt::Keep(Kept { slot: k, ty }, op, e))
+        }
         Meant::Dim(_) => Err(KernelFault::WriteToInput { at: word.from }),
         Meant::Unknown => Err(KernelFault::UnknownArgument { at: word.from }),
     }
@@ -138,7 +130,7 @@ fn access_assignment(
         return Err(KernelFault::WriteToInput { at: name.from });
     }
     let dims = dims_of(signature, number);
-    match indices(
+    let found = indices(
         alloc,
         source,
         signature,
@@ -147,13 +139,9 @@ fn access_assignment(
         dims,
         given,
         called.close,
-    ) {
-        Ok(found) => match tree(alloc, source, signature, locals, loops, expr) {
-            Ok(e) => Ok(Stmt::Put(number, found, op, e)),
-            Err(fault) => Err(fault),
-        },
-        Err(fault) => Err(fault),
-    }
+    )?;
+    let e = tree(alloc, source, signature, locals, loops, expr)?;
+    Ok(Stmt::Put(number, found, op, e))
 }
 
 /// The dimension that a loop goes over.
@@ -198,28 +186,18 @@ fn stmt(
         (step_of raw.now)) }
 {
     match raw {
-        RawStmt::Loop(word, body) => match loop_dim(source, signature, loops, *word) {
-            Ok(d) => {
-                let mut inner = *loops;
-                mark(&mut inner, d);
-                match block(alloc, source, signature, locals, &inner, body) {
-                    Ok(code) => Ok(loop_stmt(d, code)),
-                    Err(fault) => Err(fault),
-                }
-            }
-            Err(fault) => Err(fault),
-        },
+        RawStmt::Loop(word, body) => {
+            let d = loop_dim(source, signature, loops, *word)?;
+            let mut inner = *loops;
+            mark(&mut inner, d);
+            let code = block(alloc, source, signature, locals, &inner, body)?;
+            Ok(loop_stmt(d, code))
+        }
         RawStmt::If(expr, whole, other) => {
-            match tree(alloc, source, signature, locals.as_slice(), loops, expr) {
-                Ok(e) => match block(alloc, source, signature, locals, loops, whole) {
-                    Ok(yes) => match block(alloc, source, signature, locals, loops, other) {
-                        Ok(no) => Ok(if_stmt(e, yes, no)),
-                        Err(fault) => Err(fault),
-                    },
-                    Err(fault) => Err(fault),
-                },
-                Err(fault) => Err(fault),
-            }
+            let e = tree(alloc, source, signature, locals.as_slice(), loops, expr)?;
+            let yes = block(alloc, source, signature, locals, loops, whole)?;
+            let no = block(alloc, source, signature, locals, loops, other)?;
+            Ok(if_stmt(e, yes, no))
         }
         RawStmt::Keep(target, op, expr) => {
             store(alloc, source, signature, locals, loops, *target, *op, expr)

@@ -3,6 +3,8 @@ ghost use Rattle.std.specs.Prelude.{◌≡◌, ◌≤◌, ◌+◌};
 ghost use Rattle.pdl_code.specs.Depth.{counted_to, is_beyond, is_too_deep};
 
 use crate::lexeme::Lexeme;
+use pdl_lex::MOST_OPEN;
+use pdl_lexemes::MOST_OPERATORS;
 
 /// How many `(` and `%{` are open, and how many operators stand behind the last `;`, `%{` or `%}`.
 #[derive(Clone, Copy)]
@@ -57,7 +59,7 @@ fn is_beyond(counts: Counts) -> bool
     requires block { counts.block ≤ 65 }
     ensures { result ≡ is_beyond counts }
 {
-    counts.round + counts.block > 64 || counts.operators > 256
+    counts.round + counts.block > MOST_OPEN || counts.operators > MOST_OPERATORS
 }
 
 /// Whether more than 64 of `(` and `%{` are open at once, or more than 256 operators stand without

@@ -1,12 +1,19 @@
 -- The state once an array was cut, or got other dimensions.
-use Rattle.std.proofs.Common.{ℕ, sym, ◌∙◌, ◌<◌, arith, ◌≡◌, ◌≢◌, true, refl, ◌+◌, ap, Result, Ok, Err, subst, false, List}
-use Rattle.std.specs.Result.{OnOk, OnErr}
+use Rattle.std.proofs.Common.{ℕ, ◌==◌, sym, ◌∙◌, ◌<◌, arith, ◌≡◌, ◌≢◌, Bool, true, refl, ◌+◌, ap, Result, Ok, Err, subst, false, List}
+use Rattle.std.specs.Result.{IfErr, OnOk, OnErr}
 use Rattle.pdl_shape.specs.Shape.{IsDims}
-use Rattle.pdl_world.specs.Cut.{sever, has_views, reshape}
-use Rattle.pdl_world.specs.CutLaws.{CutsSoundly, ReshapesSoundly}
+use Rattle.pdl_world.specs.Cut.{breaks, sever, reshape}
+use Rattle.pdl_world.specs.BreakLaws.{SoundnessDecides}
+use Rattle.pdl_world.specs.CutLaws.{CutsSoundly}
 use Rattle.pdl_world.specs.Paths.{root_of}
-use Rattle.pdl_world.specs.Sound.{IsSound}
+use Rattle.pdl_world.specs.Sound.{IsLive, IsSound}
 use Rattle.pdl_nodes.specs.Alike.{is_fresh_in}
+use Rattle.pdl_nodes.specs.declared.relaid.RelayFault.{RelayFault}
+use Rattle.pdl_nodes.specs.declared.relaid.RelayFault.TheVariants.{Breaks}
+use Rattle.pdl_nodes.specs.Families.{InOrder}
+use Rattle.pdl_nodes.specs.Known.{AreKnown}
+use Rattle.pdl_nodes.specs.Sized.{AreSized}
+use Rattle.pdl_engine.proofs.Readied.{only_ready}
 use Rattle.pdl_nodes.specs.Holds.{Counts}
 use Rattle.pdl_nodes.specs.Outcomes.{waiting_of}
 use Rattle.pdl_pull.specs.Outdated.{outdated as rows_outdated}
@@ -15,10 +22,10 @@ use Rattle.pdl_nodes.specs.RowLaws.{RowLaws}
 use Rattle.pdl_nodes.specs.Rows.{Rows, NumbersBelow, row_at, has}
 use Rattle.pdl_nodes.specs.Worlds.{world_of}
 use Rattle.pdl_engine.specs.Held.{ChangesFamily, FamilyIsSettled}
-use Rattle.pdl_engine.specs.Severed.{ChangesRows, RowsAreSettled, RowsStayFresh}
-use Rattle.pdl_engine.specs.State.{StayFresh, is_fresh, outdated, waiting, waiting_size}
+use Rattle.pdl_engine.specs.Severed.{BasesAreFresh, ChangesRows, RowsAreSettled, RowsStayFresh}
+use Rattle.pdl_engine.specs.State.{StayFresh, base, is_fresh, outdated, waiting, waiting_size}
 use Rattle.pdl_engine.specs.StateOf.{IsEngine, state_of}
-use Rattle.pdl_engine.proofs.Bounds.{waiting_is, outdated_is, size_is}
+use Rattle.pdl_engine.proofs.Bounds.{base_are, waiting_is, outdated_is, size_is}
 use Rattle.pdl_engine.proofs.Kept.{below_alike}
 use Rattle.pdl_engine.proofs.Stating.{fresh_is, holds_alike, live_has, root_are, fresh_keeps}
 
@@ -81,10 +88,30 @@ pub severed_sound : {A E : Type 0} → CutsSoundly → (old new : Rows) (v : ℕ
 severed_sound laws old new v (Ok a) s f g = subst IsSound (sym f) (laws (world_of old) v s)
 severed_sound laws old new v (Err e) s f g = subst IsSound (sym g) s
 
-pub reshaped_sound : {A E : Type 0} → ReshapesSoundly → (old new : Rows) (v : ℕ) (ds : List ℕ) (r : Result A E) → IsSound (world_of old) → has_views (world_of old) v ≡ false → IsDims ds
+pub reshaped_sound : {A E : Type 0} → SoundnessDecides → (old new : Rows) (v : ℕ) (ds : List ℕ) (r : Result A E) → IsSound (world_of old) → IsDims ds → OnOk r (breaks (world_of old) v ds ≡ false)
     → OnOk r (world_of new ≡ reshape (world_of old) v ds) → OnErr r (world_of new ≡ world_of old) → IsSound (world_of new)
-reshaped_sound laws old new v ds (Ok a) s n d f g = subst IsSound (sym f) (laws (world_of old) v ds s n d)
-reshaped_sound laws old new v ds (Err e) s n d f g = subst IsSound (sym g) s
+reshaped_sound laws old new v ds (Ok a) s d n f g = subst IsSound (sym f) ((laws (world_of old) v ds s d).stays n)
+reshaped_sound laws old new v ds (Err e) s d n f g = subst IsSound (sym g) s
 
 pub reshaped_lent : (facts : RowLaws) → (old new : Rows) (hs : Counts) (n v : ℕ) → has old v ≡ true → ChangesRows old v new → is_fresh_in new v ≡ true → is_fresh (state_of new hs n) v ≡ true
 reshaped_lent facts old new hs n v h s f = fresh_is facts new v s.order.still (s.has_is v ∙ h) ∙ f
+
+-- of the family of the new root those can be lent whose base it is
+pub reshaped_bases : (facts : RowLaws) → (old new : Rows) (hs : Counts) (n v : ℕ) → IsEngine old hs n → ChangesRows old v new → BasesAreFresh v new
+    → (u : ℕ) → IsLive (world_of old) u → root_of (world_of new) u ≡ v → is_fresh (state_of new hs n) u ≡ (base (world_of new) u == v)
+reshaped_bases facts old new hs n v i s f u l g =
+    let h : has new u ≡ true = s.has_is u ∙ live_has facts old u l in
+    fresh_is facts new u s.order.still h ∙ f u h (sym (root_are facts new u s.order.still h) ∙ g) ∙ ap (λ b. b == v) (sym (base_are facts new u s.order.still h))
+
+-- a refusal for a view that breaks
+pub broken_by : {A : Type 0} {a b : Bool} (r : Result A RelayFault) → a ≡ b → IfErr r (λ f. f ≡ Breaks → a ≡ true) → IfErr r (λ f. f ≡ Breaks → b ≡ true)
+broken_by (Ok x) e h = tt
+broken_by (Err f) e h = λ g. sym e ∙ h g
+
+pub unchanged_by : {A : Type 0} (P Q R : Type 0) (r : Result A RelayFault) → (P → Q) → IfErr r (λ f. f ≡ Breaks → P × R) → IfErr r (λ f. f ≡ Breaks → Q × R)
+unchanged_by P Q R (Ok x) e h = tt
+unchanged_by P Q R (Err f) e h = λ g. (e (h g).0, (h g).1)
+
+-- nothing was changed
+pub unchanged_rows : (facts : RowLaws) → (rs : Rows) (v : ℕ) → InOrder rs → AreKnown rs → AreSized rs → ChangesRows rs v rs
+unchanged_rows facts rs v o k z = only_ready facts rs rs v o z (facts.kept.ready_same rs o k) (λ r h n. refl)

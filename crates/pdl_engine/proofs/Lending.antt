@@ -11,8 +11,9 @@ use Rattle.pdl_shape.specs.Laws.{PositionLaws}
 use Rattle.pdl_shape.specs.Places.{element_at, read}
 use Rattle.pdl_shape.specs.Shape.{size_of, position_of}
 use Rattle.pdl_shape.specs.Triple.{Triple, place_of, Reaches}
-use Rattle.pdl_buf.specs.Buffer.{TypedElements}
-use Rattle.pdl_buf.specs.Window.{place_at, shown_through, Window}
+use Rattle.pdl_numbers.specs.Typed.{TypedElements}
+use Rattle.pdl_buf.specs.Window.{Window}
+use Rattle.pdl_numbers.specs.Shown.{place_at, shown_through}
 use Rattle.pdl_world.specs.World.{elements, dims_in, ty_in}
 use Rattle.pdl_nodes.specs.Alike.{is_fresh_in}
 use Rattle.pdl_nodes.specs.Assigned.{entry}

@@ -7,8 +7,7 @@ mod Deeper
 mod Lending
 mod Kept
 mod Readied
-mod Severs
-mod Shaping
+mod Renews
 mod Gone
 mod Alone
 mod Growing
@@ -20,5 +19,6 @@ mod Written
 mod Tight
 mod Lazy
 mod Places
-mod Foreseen
+mod Foresights
 mod Unwritten
+mod PathHolds

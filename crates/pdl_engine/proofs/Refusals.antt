@@ -3,8 +3,8 @@ use Rattle.std.proofs.Common.{◌≡◌, Option, Some, None, ℕ, List, [], true
 use Rattle.std.specs.Prelude.{Result, Ok, Err, nat_lt, IsOk}
 use Rattle.pdl_shape.specs.Refusals.{Refusal}
 use Rattle.pdl_world.specs.Refused.{NoView, refusal_at, too_deep}
-use Rattle.pdl_engine.specs.Faults.{NamesReason, Names, reason_of}
-use Rattle.pdl_engine.specs.declared.faults.ViewFault.{ViewFault}
+use Rattle.pdl_nodes.specs.Faults.{NamesReason, Names, reason_of}
+use Rattle.pdl_nodes.specs.declared.faults.ViewFault.{ViewFault}
 
 reason_none : (o : Option NoView) (there : Option NoView) → NamesReason o None → NamesReason o there
 reason_none None there h = tt

@@ -4,7 +4,7 @@ use Rattle.std.specs.Prelude.{IfOk}
 use Rattle.std.specs.Result.{OnErr, OnOk}
 use Rattle.std.proofs.lemmas.List.Sums.{count_by-le-length}
 use Rattle.pdl_elem.specs.declared.Ty.{Ty}
-use Rattle.pdl_buf.specs.Buffer.{TypedElements, count_moved}
+use Rattle.pdl_numbers.specs.Typed.{TypedElements, count_moved}
 
 -- a buffer of this type and these elements
 pub made_of : {E : Type 0} (r : Result TypedElements E) (ty uy : Ty) (es fs : List ℤ) → ty ≡ uy → es ≡ fs → IfOk r (λ b. b ≡ record { ty = ty; elems = es }) → IfOk r (λ b. b ≡ record { ty = uy; elems = fs })

@@ -1,11 +1,14 @@
 -- What one hold more or less changes, which arrays are counted as held, and where letting go writes
 -- nothing back.
-use Rattle.std.specs.Prelude.{◌≡◌, ℕ, ◌+◌, ◌-◌, ◌<◌, ◌==◌, if◌then◌else◌, Bool, true, false, List, Some, is_some}
-use Rattle.pdl_world.specs.Swept.{Has, holds}
-use Rattle.pdl_world.specs.World.{ArrayDef, World, look}
+use Rattle.std.specs.Prelude.{◌≡◌, ℕ, ◌+◌, ◌-◌, ◌<◌, ◌==◌, if◌then◌else◌, ℤ, Bool, true, false, List, Some, is_some}
+use Rattle.pdl_elem.specs.declared.Ty.{Ty}
+use Rattle.pdl_world.specs.Sound.{IsSound}
+use Rattle.pdl_world.specs.Swept.{Has, holds, sweep}
+use Rattle.pdl_world.specs.World.{World, look, root}
 use Rattle.pdl_nodes.specs.Staying.{staying}
 use Rattle.pdl_engine.specs.Held.{AreApart, count_at, one_more_at, one_less_at, held_among, holders, written_back}
-use Rattle.pdl_engine.specs.State.{State, waiting_at}
+use Rattle.pdl_engine.specs.Reading.{KeepsViews}
+use Rattle.pdl_engine.specs.State.{State, IsLazy, waiting_at}
 
 -- one hold more of v, which has holds, counts once more of v, and of no other
 abbrev pub OneMoreCounts : Type 0
@@ -41,10 +44,17 @@ abbrev pub OthersDontCount : Type 0
 OthersDontCount =
     (hs : List (ℕ × ℕ)) (u : ℕ) → holds (holders hs) u ≡ false → count_at hs u ≡ 0
 
--- where each view is left whose elements wait for one of these roots, nothing is written back
+-- where no view goes, letting go writes nothing back
 abbrev pub NothingIsWritten : Type 0
 NothingIsWritten =
+    (s : State) (held : List ℕ) → IsSound s.world → IsLazy s
+    → KeepsViews s.world (sweep s.world held)
+    → written_back s (sweep s.world held) (sweep s.world held) ≡ 0
+
+-- nor where each view is left whose elements wait for one of these roots
+abbrev pub WhatWaitsIsLeft : Type 0
+WhatWaitsIsLeft =
     (s : State) (new part : World)
-    → ((r b : ℕ) (d : ArrayDef) → Has part r d → waiting_at s.pending r ≡ Some b
-    → is_some (look new b) ≡ true)
+    → ((r b : ℕ) (ty : Ty) (ds : List ℕ) (es : List ℤ) → Has part r (root ty ds es)
+    → waiting_at s.pending r ≡ Some b → is_some (look new b) ≡ true)
     → written_back s new part ≡ 0

@@ -2,9 +2,9 @@ pub mod State
 pub mod Held
 pub mod HoldLaws
 pub mod StateOf
-pub mod Faults
 pub mod Worked
 pub mod Severed
 pub mod Loose
 pub mod Taken
-pub mod Foreseen
+pub mod Foresights
+pub mod Reading

@@ -1,5 +1,5 @@
 -- What a cut, or other dimensions, leave of the other arrays.
-use Rattle.std.specs.Prelude.{◌≡◌, ◌≢◌, ℕ, true, None}
+use Rattle.std.specs.Prelude.{◌≡◌, ◌≢◌, ◌==◌, ℕ, true, None}
 use Rattle.pdl_nodes.specs.Alike.{is_fresh_in, numbers}
 use Rattle.pdl_nodes.specs.Families.{InOrder}
 use Rattle.pdl_nodes.specs.Known.{AreKnown}
@@ -31,3 +31,9 @@ RowsAreSettled old v new =
 abbrev pub RowsStayFresh : (old new : Rows) → Type 0
 RowsStayFresh old new = (u : ℕ) → has old u ≡ true → is_fresh_in old u ≡ true →
     is_fresh_in new u ≡ true
+
+-- of the arrays whose root is v exactly those can be lent whose base is v
+abbrev pub BasesAreFresh : (v : ℕ) → Rows → Type 0
+BasesAreFresh v rs =
+    (u : ℕ) → has rs u ≡ true → (row_at rs u).root ≡ v
+    → is_fresh_in rs u ≡ ((row_at rs u).base == v)

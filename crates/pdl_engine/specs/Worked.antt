@@ -7,7 +7,7 @@
 use Rattle.std.specs.Prelude.{◌≡◌, ℕ, ◌+◌, ◌==◌, not, if◌then◌else◌, Bool, List, [], ◌∷◌, ◌++◌, length, map, reverse, filter, ℤ, pos, negsuc, Some, is_some, is_none}
 use Rattle.std.specs.List.{range_with_len}
 use Rattle.pdl_elem.specs.declared.Ty.TheVariants.{Long}
-use Rattle.pdl_buf.specs.Buffer.{count_moved}
+use Rattle.pdl_numbers.specs.Typed.{count_moved}
 use Rattle.pdl_shape.specs.Shape.{size_of}
 use Rattle.pdl_slices.specs.declared.SliceArg.TheVariants.{One, Span}
 use Rattle.pdl_affine.specs.declared.Affine.TheVariants.{Slice, Xchg, Clump}

@@ -1,28 +1,33 @@
 //! The engine and its calls.
-ghost use Rattle.std.specs.Prelude.{◌≡◌, ◌≢◌, ℕ, ◌+◌, ◌<◌, ◌≤◌, ◌^◌, if◌then◌else◌, nat_lt, true, false, length, All, IfOk, IfErr, IsTrue, OnOk, OnErr, Some, None, is_ok};
-ghost use Rattle.pdl_buf.specs.Buffer.{count_moved};
+ghost use Rattle.std.specs.Prelude.{◌≡◌, ◌≢◌, ◌↔◌, ℕ, ℤ, List, ◌+◌, ◌<◌, ◌≤◌, ◌^◌, if◌then◌else◌, nat_lt, true, false, length, All, IfOk, IfErr, IfSome, IsTrue, OnOk, OnErr, Some, None, is_ok, ◌==◌};
+ghost use Rattle.pdl_numbers.specs.Typed.{count_moved};
 ghost use Rattle.pdl_buf.specs.Made.{IsMade};
 ghost use Rattle.pdl_elem.specs.Types.{InRange};
 ghost use Rattle.pdl_shape.specs.Shape.{IsDims, size_of};
-ghost use Rattle.pdl_world.specs.Cut.{has_views, reshape, sever};
+ghost use Rattle.pdl_world.specs.Cut.{breaks, reshape, sever};
 ghost use Rattle.pdl_world.specs.Formula.{is_well_formed};
 ghost use Rattle.pdl_world.specs.Paths.{depth_limit, parent_in, path, root_of};
 ghost use Rattle.pdl_world.specs.Refused.{view_refusal};
 ghost use Rattle.pdl_world.specs.Sound.{IsLive, IsSound};
+ghost use Rattle.pdl_world.specs.Swept.{holds};
 ghost use Rattle.pdl_world.specs.World.{assign, dims_in, elements, root, ty_in, view};
 ghost use Rattle.pdl_nodes.specs.Sized.{IsLayout};
-ghost use Rattle.pdl_engine.specs.Faults.{Names};
+ghost use Rattle.pdl_engine.specs.Foresights.{Foretells, IsForeseen};
+ghost use Rattle.pdl_nodes.specs.declared.relaid.RelayFault.TheVariants.{Breaks};
+ghost use Rattle.pdl_nodes.specs.Faults.{Names};
 ghost use Rattle.pdl_engine.specs.Held.{AllHaveHolds, AreApart, ChangesFamily, FamilyIsSettled, IsReleased, count_at, holders, one_more_at, written_back};
-ghost use Rattle.pdl_engine.specs.State.{IsLazy, IsLentAs, Joins, OthersWait, PathIsFresh, SameArrays, StayFresh, TargetIsFresh, TargetWaits, is_fresh, no_arrays, ready_steps, shown_in, waiting};
+ghost use Rattle.pdl_engine.specs.Reading.{read_steps};
+ghost use Rattle.pdl_engine.specs.State.{IsLazy, IsLentAs, Joins, OthersWait, PathIsFresh, SameArrays, StayFresh, TargetIsFresh, TargetWaits, base, is_fresh, no_arrays, ready_steps, shown_in, waiting};
 
 use crate::depth::is_deeper;
-use crate::faults::ViewFault;
-use crate::foreseeing::foreseen;
-use crate::layouts::layout;
-use crate::{readying, releases, severing};
+use crate::foreseeing::{Foreseen, Foresight, foresee, foretell};
+use crate::{reaching, readying, releases, severing};
 use pdl_buf::{Elements, NoMemory, Steps, Strided, buf_of_elements, strided};
 use pdl_elem::Ty;
-use pdl_nodes::{Holds, Layout, Table, insert, root_node, row_laws, view_node};
+use pdl_nodes::{
+    Holds, Layout, RelayFault as ReshapeFault, Table, ViewFault, insert, layout, root_node,
+    row_laws, view_node,
+};
 use pdl_shape::{Dims, dims_list, shape_laws, triple_laws};
 use pdl_world::{Trans, assignment_laws, cut_laws, growth_laws, reshape_laws, sweep_laws};
 use std::alloc::{AllocError, Global};
@@ -302,54 +307,98 @@ impl Engine {
         pdl_push::assign(&mut self.table, id, 0, values, steps)
     }
 
-    /// The elements that an array would have if these values, one for each position, were assigned
-    /// to the target, which can be lent (PDL::Dataflow). As `ready` does, it makes the array one
-    /// that can be lent, after what waits in its family was written back, and takes these steps
-    /// alone. The arrays stay, and what could be lent can be lent, so the values can be assigned
-    /// afterwards; so it is where memory was wanted, which is the only refusal.
-    pub fn foresee<L: Ledger>(
-        &mut self,
-        target: ArrayId,
-        values: &[i64],
-        seen: ArrayId,
-        steps: &mut Steps<L>,
-    ) -> Result<Vec<i64>, NoMemory>
-        requires live { IsLive self.old.world target }
-        requires fresh { is_fresh self.old target ≡ true }
-        requires count { length values.now ≡ size_of (dims_in self.old.world target) }
-        requires in_range { All (InRange (ty_in self.old.world target)) values.now }
-        requires seen { IsLive self.old.world seen }
-        ensures value { IfOk result
-            (λ ns. ns.items ≡ elements (assign self.old.world target values.now) seen) }
-        ensures same { SameArrays self.old self.new }
-        ensures stay { StayFresh self.old self.new }
-        ensures itself { OnOk result (is_fresh self.new seen ≡ true) }
-        ensures settled { waiting self.new seen ≡ None }
-        ensures others { OthersWait self.old seen self.new }
-        ensures counted { steps.new ≤ steps.old + ready_steps self.old seen }
-    {
-        self.ready(seen, steps)?;
-        self.foreseen_now(target, values, seen)
-    }
-
-    /// What `foresee` answers, where nothing waits in the family of the array and it can be lent.
-    fn foreseen_now(
+    /// What an assignment of these values, one for each position, to an array that can be lent will
+    /// write. It is kept such that so many elements are foreseen by it at little cost, which turns
+    /// nothing of the answer. It takes no step, and want of memory is the only refusal.
+    pub fn foretell(
         &self,
         target: ArrayId,
         values: &[i64],
-        seen: ArrayId,
-    ) -> Result<Vec<i64>, NoMemory>
+        lookups: u64,
+    ) -> Result<Foresight, NoMemory>
         requires live { IsLive self.now.world target }
         requires fresh { is_fresh self.now target ≡ true }
         requires count { length values.now ≡ size_of (dims_in self.now.world target) }
-        requires seen { IsLive self.now.world seen }
-        requires seen_fresh { is_fresh self.now seen ≡ true }
-        requires settled { waiting self.now seen ≡ None }
-        ensures { IfOk result
-            (λ ns. ns.items ≡ elements (assign self.now.world target values.now) seen) }
+        ensures { IfOk result (Foretells self.now.world target values.now) }
     {
         row_laws();
-        foreseen(&self.table, self.alloc, target, values, seen)
+        let found = foretell(&self.table, self.alloc, target, values, lookups)?;
+        Ok(found)
+    }
+
+    /// What an array shows before an assignment that will be made and after it, and nothing where
+    /// that is to an array of another root, so that this one stays (PDL::Dataflow). Of such an
+    /// array nothing is read. Any other is made ready, as `ready` does, with these steps alone. The
+    /// arrays stay, and what could be lent can be lent, so the values can be assigned afterwards;
+    /// so it is where memory was wanted, which is the only refusal.
+    pub fn foresee<L: Ledger>(
+        &mut self,
+        foresight: &Foresight,
+        seen: ArrayId,
+        steps: &mut Steps<L>,
+    ) -> Result<Option<Foreseen>, NoMemory>
+        requires { IsLive self.old.world seen }
+        ensures value { (v : ℕ) → (vs : List ℤ) → Foretells self.old.world v vs foresight.now
+            → IfOk result (IsForeseen self.old.world v vs seen) }
+        ensures alike { IfOk result
+            (λ o. IfSome o (λ f. length f.after.items ≡ length f.before.items)) }
+        ensures same { SameArrays self.old self.new }
+        ensures stay { StayFresh self.old self.new }
+        ensures others { OthersWait self.old seen self.new }
+        ensures counted { steps.new ≤ steps.old + read_steps self.old seen }
+        ensures apart { root_of self.old.world seen ≢ foresight.now.root
+            → (self.new ≡ self.old) × (steps.new ≡ steps.old) }
+    {
+        assignment_laws();
+        if self.is_apart(foresight, seen) {
+            return Ok(None);
+        }
+        self.ready_to_lend(seen, steps)?;
+        let found = self.foreseen_now(foresight, seen)?;
+        Ok(Some(found))
+    }
+
+    /// Whether an array has another root than the one that will be assigned to.
+    fn is_apart(&self, foresight: &Foresight, seen: ArrayId) -> bool
+        requires { IsLive self.now.world seen }
+        ensures { IsTrue result ↔ (root_of self.now.world seen ≢ foresight.now.root) }
+    {
+        row_laws();
+        self.table.node(seen).root() != foresight.root()
+    }
+
+    /// Makes an array ready that can't be lent. One that can be is left as it is, with what waits in
+    /// its family.
+    fn ready_to_lend<L: Ledger>(
+        &mut self,
+        id: ArrayId,
+        steps: &mut Steps<L>,
+    ) -> Result<(), NoMemory>
+        requires { IsLive self.old.world id }
+        ensures same { SameArrays self.old self.new }
+        ensures stay { StayFresh self.old self.new }
+        ensures itself { OnOk result (is_fresh self.new id ≡ true) }
+        ensures others { OthersWait self.old id self.new }
+        ensures counted { steps.new ≤ steps.old + read_steps self.old id }
+    {
+        if self.is_fresh(id) {
+            return Ok(());
+        }
+        self.ready(id, steps)
+    }
+
+    /// What `foresee` answers, where the array can be lent.
+    fn foreseen_now(&self, foresight: &Foresight, seen: ArrayId) -> Result<Foreseen, NoMemory>
+        requires live { IsLive self.now.world seen }
+        requires fresh { is_fresh self.now seen ≡ true }
+        requires family { root_of self.now.world seen ≡ foresight.now.root }
+        ensures value { (v : ℕ) → (vs : List ℤ) → Foretells self.now.world v vs foresight.now
+            → IfOk result (λ f. IsForeseen self.now.world v vs seen (Some f)) }
+        ensures alike { IfOk result (λ f. length f.after.items ≡ length f.before.items) }
+    {
+        row_laws();
+        let found = foresee(&self.table, self.alloc, foresight, seen)?;
+        Ok(found)
     }
 
     /// The parent of a view, or nothing for a root.
@@ -361,12 +410,27 @@ impl Engine {
         self.table.node(id).parent()
     }
 
-    /// Whether an array is the parent of a view.
-    pub fn has_views(&self, id: ArrayId) -> bool
-        requires { IsLive self.now.world id }
-        ensures { result ≡ has_views self.now.world id }
+    /// Whether an array is on the path of another to its root, itself counted.
+    pub fn reaches(&self, below: ArrayId, above: ArrayId) -> bool
+        requires { IsLive self.now.world below }
+        ensures { result ≡ holds (path self.now.world below) above }
     {
-        self.table.has_views(id)
+        row_laws();
+        reaching::reaches(&self.table, below, above)
+    }
+
+    /// Whether these dimensions of an array would break a view: the formula of one that reaches it
+    /// by parents refuses its parent's.
+    pub fn breaks(&self, id: ArrayId, dims: &Dims) -> Result<bool, NoMemory>
+        requires { IsLive self.now.world id }
+        ensures { IfOk result (λ b. b ≡ breaks self.now.world id dims.now) }
+    {
+        row_laws();
+        match self.table.relaid(self.alloc, id, dims) {
+            Ok(_) => Ok(false),
+            Err(ReshapeFault::Breaks) => Ok(true),
+            Err(ReshapeFault::NoMemory) => Err(AllocError),
+        }
     }
 
     /// Holds an array once more. A new array is held once.
@@ -426,24 +490,33 @@ impl Engine {
         )
     }
 
-    /// Gives an array that has no views other dimensions: it becomes a root of its first elements,
-    /// in order, with zeros after them where there are fewer, and can be lent. What waits in the
-    /// family is written back first. Want of memory leaves the world, and what could be lent. It
+    /// Gives an array other dimensions: it becomes a root of its first elements, in order, with
+    /// zeros after them where there are fewer, and can be lent. Each view that reaches it is derived
+    /// anew by its transformation; of these those can be lent whose base the array is. `Breaks`
+    /// comes exactly where the formula of one of them refuses, and changes nothing. What waits in
+    /// the family is written back first. Want of memory leaves the world, and what could be lent. It
     /// takes at most the steps of `ready`, and one for each new element.
     pub fn reshape<L: Ledger>(
         &mut self,
         id: ArrayId,
         dims: &Dims,
         steps: &mut Steps<L>,
-    ) -> Result<(), NoMemory>
-        requires live { IsLive self.old.world id }
-        requires viewless { has_views self.old.world id ≡ false }
+    ) -> Result<(), ReshapeFault>
+        requires { IsLive self.old.world id }
         ensures ok { OnOk result (self.new.world ≡ reshape self.old.world id dims.now) }
+        ensures allowed { OnOk result (breaks self.old.world id dims.now ≡ false) }
+        ensures broken { IfErr result
+            (λ fault. fault ≡ Breaks → breaks self.old.world id dims.now ≡ true) }
+        ensures unchanged { IfErr result
+            (λ fault. fault ≡ Breaks → (self.new ≡ self.old) × (steps.new ≡ steps.old)) }
         ensures err { OnErr result (self.new.world ≡ self.old.world) }
         ensures family { ChangesFamily self.old id self.new }
-        ensures settled { FamilyIsSettled self.old id self.new }
+        ensures settled { OnOk result (FamilyIsSettled self.old id self.new) }
         ensures stay { OnErr result (StayFresh self.old self.new) }
         ensures fresh { OnOk result (is_fresh self.new id ≡ true) }
+        ensures outdated { OnOk result
+            ((u : ℕ) → IsLive self.old.world u → root_of self.new.world u ≡ id
+            → is_fresh self.new u ≡ (base self.new.world u == id)) }
         ensures counted { steps.new ≤ steps.old + (ready_steps self.old id + size_of dims.now) }
         ensures sound { IsSound self.new.world }
     {

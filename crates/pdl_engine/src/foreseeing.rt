@@ -1,24 +1,52 @@
 //! The elements that an array would have after an assignment, found before anything is changed
 //! (PDL::Dataflow).
-ghost use Rattle.std.specs.Prelude.{◌≡◌, ◌<◌, [], ◌∷◌, All, IfOk, None, false, get_or, length, true};
+ghost use Rattle.std.specs.Prelude.{◌≡◌, ◌<◌, ℕ, ℤ, List, All, IfOk, None, Some, get_or, length, true};
 ghost use Rattle.pdl_elem.specs.Types.{InRange};
-ghost use Rattle.pdl_shape.specs.Places.{element_at, put, read, write};
 ghost use Rattle.pdl_shape.specs.Shape.{size_of};
-ghost use Rattle.pdl_world.specs.Laws.{kept_values};
-ghost use Rattle.pdl_world.specs.World.{assign, elements, has_repeats, root_elements};
+ghost use Rattle.pdl_world.specs.Sound.{IsSound};
+ghost use Rattle.pdl_world.specs.World.{elements};
 ghost use Rattle.pdl_nodes.specs.Alike.{is_fresh_in};
 ghost use Rattle.pdl_nodes.specs.Families.{InOrder};
+ghost use Rattle.pdl_nodes.specs.Known.{AreKnown};
 ghost use Rattle.pdl_nodes.specs.Placed.{placed_by};
 ghost use Rattle.pdl_nodes.specs.Rows.{has, row_at};
-ghost use Rattle.pdl_nodes.specs.Worlds.{places_of, world_of};
-ghost use Rattle.pdl_engine.specs.Foreseen.{CanForesee};
+ghost use Rattle.pdl_nodes.specs.Worlds.{world_of};
+ghost use Rattle.pdl_engine.specs.Foresights.{CanForetell, Foretells, IsForeseen, Tells, elements_after};
 
-use pdl_buf::{Placement, Strided, strided, strided_dims, strided_read};
+use crate::by_place::Written;
+use pdl_buf::{Strided, strided, strided_dims, strided_read};
 use pdl_choice::Places;
 use pdl_nodes::{Table, placed, row_laws};
+use pdl_numbers::Placement;
 use pdl_shape::{Triple, elements_of, shape_laws};
-use pdl_world::assignment_laws;
+use pdl_world::{assignment_laws, growth_laws};
 use std::alloc::{AllocError, Global};
+
+/// What an assignment will write: the root of the array that is assigned to, and the values by the
+/// root's places. It is made once, and tells of any array what it shows afterwards.
+#[derive(Drop)]
+pub struct Foresight {
+    root: u64,
+    written: Written,
+}
+
+impl Foresight {
+    /// The root of the array that is assigned to.
+    pub(crate) fn root(&self) -> u64
+        ensures { result ≡ self.now.root }
+    {
+        self.root
+    }
+}
+
+/// What an array shows before an assignment and after it.
+#[derive(Drop)]
+pub struct Foreseen {
+    /// The elements that it has, in the order of its positions.
+    pub before: Vec<i64>,
+    /// The elements that it will have.
+    pub after: Vec<i64>,
+}
 
 /// The root's place of a position that a placement shows over a base, of which these are the root's
 /// places.
@@ -29,91 +57,48 @@ fn root_place(known: &Option<Places>, placement: &Placement, position: u32) -> O
     placed(known, placement.place(position))
 }
 
-/// The element at a place, and 0 where there is none.
-fn element_at(elements: &[i64], place: Option<u32>) -> i64
-    ensures { result ≡ element_at elements.now place }
-{
-    match place {
-        Some(at) if (at as usize) < elements.len() => elements[at as usize],
-        _ => 0,
-    }
-}
-
-/// Puts a value at its place. One without a place is dropped.
-fn put(elements: &mut [i64], place: Option<u32>, value: i64)
-    ensures { elements.new ≡ put place value elements.old }
-{
-    match place {
-        Some(at) => {
-            if (at as usize) < elements.len() {
-                elements[at as usize] = value;
-            }
-        }
-        None => {}
-    }
-}
-
-/// Writes a value for each position that a triple shows over a base into an image of the root's
-/// elements, in rising order.
-fn write_shown(image: &mut [i64], known: &Option<Places>, triple: &Triple, values: &[i64])
+/// What values are written at the root's places, one for each position that a triple shows over a
+/// base, in rising order. The root has so many elements, and so many are to be looked up.
+fn written_by(
+    alloc: Global,
+    known: &Option<Places>,
+    triple: &Triple,
+    values: &[i64],
+    size: u32,
+    lookups: u64,
+) -> Result<Written, AllocError>
     requires { length values.now ≡ size_of triple.now.dims }
-    ensures { image.new ≡ write (placed_by known.now triple.now) values.now image.old }
+    ensures { IfOk result (λ w. Tells size w (placed_by known.now triple.now) values.now) }
 {
     let count = elements_of(&triple.dims);
     let placement = Placement::of(triple);
+    let mut written = Written::nothing(alloc, size, lookups.saturating_add(u64::from(count)))?;
     'writing: for position in 0..count {
         let place = root_place(known, &placement, position);
-        put(image, place, values[position as usize]);
+        written.put(place, values[position as usize])?;
     }
+    Ok(written)
 }
 
-/// Reads the element of each position that a triple shows over a base from an image of the root's
-/// elements.
-fn read_shown(
+/// The elements at the positions that a triple shows over a base, after what is written, where they
+/// were these before.
+fn shown_after(
     alloc: Global,
-    image: &[i64],
+    written: &Written,
     known: &Option<Places>,
     triple: &Triple,
+    before: &[i64],
 ) -> Result<Vec<i64>, AllocError>
-    ensures { IfOk result (λ ns. ns.items ≡ read (placed_by known.now triple.now) image.now) }
+    requires { length before.now ≡ size_of triple.now.dims }
+    ensures { IfOk result (λ ns. ns.items
+        ≡ elements_after written.now (placed_by known.now triple.now) before.now) }
 {
     let count = elements_of(&triple.dims);
     let placement = Placement::of(triple);
     let mut numbers = Vec::with_capacity(alloc, count as usize)?;
     'reading: for position in 0..count {
         let place = root_place(known, &placement, position);
-        numbers.push(element_at(image, place))?;
-    }
-    Ok(numbers)
-}
-
-/// The value at a position that has a place, and 0 at any other.
-fn kept_value(place: Option<u32>, value: i64) -> i64
-    ensures { kept_values (place ∷ []) (value ∷ []) ≡ result ∷ [] }
-{
-    match place {
-        Some(_) => value,
-        None => 0,
-    }
-}
-
-/// The values at the positions that have a place, and 0 at the others.
-fn values_kept(
-    alloc: Global,
-    known: &Option<Places>,
-    triple: &Triple,
-    values: &[i64],
-) -> Result<Vec<i64>, AllocError>
-    requires { length values.now ≡ size_of triple.now.dims }
-    ensures { IfOk result
-        (λ ns. ns.items ≡ kept_values (placed_by known.now triple.now) values.now) }
-{
-    let count = elements_of(&triple.dims);
-    let placement = Placement::of(triple);
-    let mut numbers = Vec::with_capacity(alloc, count as usize)?;
-    'keeping: for position in 0..count {
-        let place = root_place(known, &placement, position);
-        numbers.push(kept_value(place, values[position as usize]))?;
+        numbers.push(written.element_after(place, before[position as usize]))?;
     }
     Ok(numbers)
 }
@@ -135,7 +120,9 @@ fn elements_now(table: &Table, alloc: Global, id: u64) -> Result<Vec<i64>, Alloc
     requires order { InOrder table.now }
     requires live { has table.now id ≡ true }
     requires fresh { is_fresh_in table.now id ≡ true }
-    ensures { IfOk result (λ ns. ns.items ≡ elements (world_of table.now) id) }
+    ensures items { IfOk result (λ ns. ns.items ≡ elements (world_of table.now) id) }
+    ensures count { let dims = (row_at table.now id).triple.dims in
+        IfOk result (λ ns. length ns.items ≡ size_of dims) }
 {
     row_laws();
     shape_laws();
@@ -144,99 +131,56 @@ fn elements_now(table: &Table, alloc: Global, id: u64) -> Result<Vec<i64>, Alloc
     all_shown(alloc, &strided(base.kept(), node.triple()))
 }
 
-/// Whether an array that can be lent may have a place twice. Of a base this is known; an array that
-/// is shown over another's elements may.
-fn may_repeat(table: &Table, id: u64) -> bool
-    requires order { InOrder table.now }
-    requires live { has table.now id ≡ true }
-    requires fresh { is_fresh_in table.now id ≡ true }
-    ensures { result ≡ false → has_repeats (places_of table.now id) ≡ false }
-{
-    row_laws();
-    let node = table.node(id);
-    if node.base() != id {
-        return true;
-    }
-    node.repeats()
-}
-
-/// The elements that an array without a place twice would have after an assignment to itself: the
-/// values, and 0 at positions without a place.
-fn foreseen_itself(
-    table: &Table,
-    alloc: Global,
-    id: u64,
-    values: &[i64],
-) -> Result<Vec<i64>, AllocError>
-    requires can { CanForesee table.now id values.now id }
-    requires once { has_repeats (places_of table.now id) ≡ false }
-    ensures { IfOk result
-        (λ ns. ns.items ≡ elements (assign (world_of table.now) id values.now) id) }
-{
-    row_laws();
-    assignment_laws();
-    let node = table.node(id);
-    let base = table.base_of(id, node);
-    values_kept(alloc, base.places(), node.triple(), values)
-}
-
-/// An image of the elements that an array's root would have after an assignment to the array.
-fn image_with(table: &Table, alloc: Global, id: u64, values: &[i64]) -> Result<Vec<i64>, AllocError>
-    requires { CanForesee table.now id values.now id }
-    ensures { let before = root_elements (world_of table.now) (row_at table.now id).root in
-        IfOk result (λ ns. ns.items ≡ write (places_of table.now id) values.now before) }
-{
-    row_laws();
-    let node = table.node(id);
-    let base = table.base_of(id, node);
-    let mut image = elements_now(table, alloc, node.root())?;
-    write_shown(&mut image, base.places(), node.triple(), values);
-    Ok(image)
-}
-
-/// The elements that an array would have after an assignment to an array of its root.
-fn foreseen_within(
+/// What an assignment of these values to an array that can be lent will write, where so many
+/// elements are to be foreseen by it.
+pub(crate) fn foretell(
     table: &Table,
     alloc: Global,
     target: u64,
     values: &[i64],
+    lookups: u64,
+) -> Result<Foresight, AllocError>
+    requires { CanForetell table.now target values.now }
+    ensures { IfOk result (Foretells (world_of table.now) target values.now) }
+{
+    row_laws();
+    let node = table.node(target);
+    let base = table.base_of(target, node);
+    let root = node.root();
+    let size = elements_of(&table.node(root).triple().dims);
+    let written = written_by(alloc, base.places(), node.triple(), values, size, lookups)?;
+    Ok(Foresight { root, written })
+}
+
+/// What an array that can be lent shows before an assignment to an array of its root and after it.
+pub(crate) fn foresee(
+    table: &Table,
+    alloc: Global,
+    foresight: &Foresight,
     seen: u64,
-) -> Result<Vec<i64>, AllocError>
-    requires can { CanForesee table.now target values.now seen }
-    requires family { (row_at table.now target).root ≡ (row_at table.now seen).root }
-    ensures { IfOk result
-        (λ ns. ns.items ≡ elements (assign (world_of table.now) target values.now) seen) }
+) -> Result<Foreseen, AllocError>
+    requires order { InOrder table.now }
+    requires known { AreKnown table.now }
+    requires sound { IsSound (world_of table.now) }
+    requires live { has table.now seen ≡ true }
+    requires fresh { is_fresh_in table.now seen ≡ true }
+    requires family { foresight.now.root ≡ (row_at table.now seen).root }
+    ensures value { (v : ℕ) → (vs : List ℤ) → Foretells (world_of table.now) v vs foresight.now
+        → IfOk result (λ f. IsForeseen (world_of table.now) v vs seen (Some f)) }
+    ensures alike { IfOk result (λ f. length f.after.items ≡ length f.before.items) }
 {
     row_laws();
     assignment_laws();
-    let image = image_with(table, alloc, target, values)?;
+    growth_laws();
+    let before = elements_now(table, alloc, seen)?;
     let node = table.node(seen);
     let base = table.base_of(seen, node);
-    read_shown(alloc, &image, base.places(), node.triple())
-}
-
-/// The elements that an array would have after an assignment. Nothing is changed, and no step is
-/// taken. An image of the root is made only where both arrays have one root and the values alone
-/// don't tell.
-pub fn foreseen(
-    table: &Table,
-    alloc: Global,
-    target: u64,
-    values: &[i64],
-    seen: u64,
-) -> Result<Vec<i64>, AllocError>
-    requires { CanForesee table.now target values.now seen }
-    ensures { IfOk result
-        (λ ns. ns.items ≡ elements (assign (world_of table.now) target values.now) seen) }
-{
-    row_laws();
-    assignment_laws();
-    let root = table.node(seen).root();
-    if table.node(target).root() != root {
-        return elements_now(table, alloc, seen);
-    }
-    if target == seen && !may_repeat(table, seen) {
-        return foreseen_itself(table, alloc, seen, values);
-    }
-    foreseen_within(table, alloc, target, values, seen)
+    let after = shown_after(
+        alloc,
+        &foresight.written,
+        base.places(),
+        node.triple(),
+        &before,
+    )?;
+    Ok(Foreseen { before, after })
 }

@@ -1,6 +1,8 @@
 //! Laws of the engine.
-ghost use Rattle.pdl_engine.specs.HoldLaws.{CountedAreHeld, HeldAreCounted, OneLessCounts, NothingIsWritten, OneMoreCounts, OthersDontCount, StayingCount};
+ghost use Rattle.pdl_engine.specs.HoldLaws.{CountedAreHeld, HeldAreCounted, OneLessCounts, NothingIsWritten, OneMoreCounts, OthersDontCount, StayingCount, WhatWaitsIsLeft};
 ghost use Rattle.pdl_engine.specs.Worked.{ScriptsAreWorked};
+
+use pdl_world::sweep_laws;
 
 /// Scripts of calls worked by hand: what can be lent and what waits after each call, and the steps
 /// that it takes, or at most takes, are as the clauses of the calls say. The call does nothing when
@@ -10,8 +12,8 @@ pub fn worked_scripts()
 {}
 
 /// What one hold more or less changes in a list of holds, what stays of one, which arrays are
-/// counted as held, and where letting go writes nothing back. It does nothing: who calls it has
-/// them.
+/// counted as held, and that letting go writes nothing back where no view goes. It does nothing:
+/// who calls it has them.
 pub fn hold_laws()
     ensures more { OneMoreCounts }
     ensures less { OneLessCounts }
@@ -20,4 +22,7 @@ pub fn hold_laws()
     ensures counted { HeldAreCounted }
     ensures others { OthersDontCount }
     ensures unwritten { NothingIsWritten }
-{}
+    ensures waiting { WhatWaitsIsLeft }
+{
+    sweep_laws()
+}

@@ -7,17 +7,17 @@
 //! arrays are kept is the node table's (`pdl_nodes`).
 #![tactic(auto)]
 
+mod by_place;
 mod depth;
 mod engine;
-mod faults;
 mod foreseeing;
 mod laws;
-mod layouts;
+mod reaching;
 mod readying;
 mod releases;
 mod severing;
 
 pub use engine::{ArrayId, Engine};
-pub use faults::ViewFault;
-pub use foreseeing::all_shown;
+pub use foreseeing::{Foreseen, Foresight, all_shown};
 pub use laws::{hold_laws, worked_scripts};
+pub use pdl_nodes::{RelayFault as ReshapeFault, ViewFault};

@@ -1,9 +1,10 @@
 //! Cutting arrays from their parents, and giving them other dimensions (PDL::Core, sever and
 //! reshape).
-ghost use Rattle.std.specs.Prelude.{◌≡◌, ◌≢◌, ℕ, ◌+◌, ◌-◌, ◌≤◌, ◌^◌, ◌++◌, pos, true, false, length, take, drop, replicate, All, IfOk, OnOk, OnErr, is_ok};
+ghost use Rattle.std.specs.Prelude.{◌≡◌, ◌≢◌, ℕ, ◌+◌, ◌-◌, ◌≤◌, ◌^◌, ◌++◌, pos, true, false, length, take, drop, replicate, All, IfOk, IfErr, OnOk, OnErr, is_ok};
 ghost use Rattle.pdl_elem.specs.Types.{InRange};
 ghost use Rattle.pdl_shape.specs.Shape.{size_of};
-ghost use Rattle.pdl_world.specs.Cut.{fitted, has_views, reshape, sever};
+ghost use Rattle.pdl_world.specs.Cut.{breaks, fitted, reshape, sever};
+ghost use Rattle.pdl_world.specs.Sound.{IsSound};
 ghost use Rattle.pdl_world.specs.World.{elements};
 ghost use Rattle.pdl_nodes.specs.Alike.{is_fresh_in};
 ghost use Rattle.pdl_nodes.specs.Families.{InOrder};
@@ -13,15 +14,17 @@ ghost use Rattle.pdl_pull.specs.Outdated.{outdated};
 ghost use Rattle.pdl_nodes.specs.Row.{parent_of};
 ghost use Rattle.pdl_nodes.specs.Rows.{NumbersBelow, has, row_at};
 ghost use Rattle.pdl_nodes.specs.Sized.{AreSized};
-ghost use Rattle.pdl_nodes.specs.Worlds.{shape, world_of};
+ghost use Rattle.pdl_nodes.specs.declared.relaid.RelayFault.TheVariants.{Breaks};
+ghost use Rattle.pdl_nodes.specs.Renewed.{AreRelaid};
+ghost use Rattle.pdl_nodes.specs.Worlds.{world_of};
 ghost use Rattle.pdl_engine.specs.Loose.{IsListed, ListsParent};
-ghost use Rattle.pdl_engine.specs.Severed.{ChangesRows, RowsAreSettled, RowsStayFresh};
+ghost use Rattle.pdl_engine.specs.Severed.{BasesAreFresh, ChangesRows, RowsAreSettled, RowsStayFresh};
 
 use pdl_buf::{
     Buf, Elements, Packing, Steps, Strided, buf_of_elements, strided, strided_dims, strided_read,
     strided_type,
 };
-use pdl_nodes::{Holds, Table, cut_row_laws, reshape_row_laws, row_laws};
+use pdl_nodes::{Holds, Relaid, RelayFault as ReshapeFault, Table, renewed_row_laws, row_laws};
 use pdl_pull::refresh;
 use pdl_push::settle;
 use pdl_shape::{Dims, copy_dims, dims_list, elements_of, shape_laws};
@@ -191,7 +194,7 @@ pub fn sever<L: Ledger>(
         → ListsParent holds.now loose.new.items (parent_of (row_at table.old id))) }
 {
     row_laws();
-    cut_row_laws();
+    renewed_row_laws();
     if table.node(id).root() == id {
         return Ok(());
     }
@@ -200,14 +203,57 @@ pub fn sever<L: Ledger>(
     let dims = copy_dims(&table.node(id).triple().dims);
     let count = elements_of(&dims);
     let kept = first_copied(table, holds, loose, alloc, id, count, steps)?;
-    table.cut(alloc, id, &dims, kept);
+    table.renew(alloc, id, &dims, kept, Relaid::new(alloc));
     Ok(())
 }
 
-/// Gives an array that has no views other dimensions: it becomes a root with its first elements, in
-/// order, and zeros after them where there are fewer. Its parent is listed. Want of memory leaves
-/// the world as it was, and what could be lent. It takes the steps that make the array fresh, and
-/// one for each of its new elements that isn't 0.
+/// Gives an array other dimensions, for which all layouts below it were made anew: it becomes a root
+/// with its first elements, in order, and zeros after them where there are fewer. Its parent is
+/// listed. Want of memory leaves the world as it was, and what could be lent. It takes the steps
+/// that make the array fresh, and one for each of its new elements that isn't 0.
+fn reshape_relaid<L: Ledger>(
+    table: &mut Table,
+    holds: &Holds,
+    loose: &mut Vec<u64>,
+    alloc: Global,
+    id: u64,
+    dims: &Dims,
+    layouts: Relaid,
+    steps: &mut Steps<L>,
+) -> Result<(), AllocError>
+    requires order { InOrder table.old }
+    requires known { AreKnown table.old }
+    requires sized { AreSized table.old }
+    requires live { has table.old id ≡ true }
+    requires small { NumbersBelow (2 ^ 64 - 1) table.old }
+    requires relaid { AreRelaid layouts table.old id dims.now }
+    ensures reshaped { ChangesRows table.old id table.new }
+    ensures settled { RowsAreSettled table.old id table.new }
+    ensures ok { OnOk result (world_of table.new ≡ reshape (world_of table.old) id dims.now) }
+    ensures err { OnErr result (world_of table.new ≡ world_of table.old) }
+    ensures stay { OnErr result (RowsStayFresh table.old table.new) }
+    ensures fresh { OnOk result (is_fresh_in table.new id ≡ true) }
+    ensures outdated { OnOk result (BasesAreFresh id table.new) }
+    ensures counted { steps.new ≤ steps.old
+        + (outdated table.old id + waiting_size table.old (waiting_of table.old id)
+        + size_of dims.now) }
+    ensures listed { IsListed loose.old.items loose.new.items (parent_of (row_at table.old id)) }
+    ensures parent { OnOk result (ListsParent holds.now loose.new.items (parent_of (row_at table.old id))) }
+{
+    row_laws();
+    renewed_row_laws();
+    // the limits of dimensions are known where they are listed
+    let _limits = dims_list(dims);
+    let count = elements_of(dims);
+    settle(table, id, steps);
+    refresh(table, alloc, id, steps)?;
+    let kept = first_copied(table, holds, loose, alloc, id, count, steps)?;
+    table.renew(alloc, id, dims, kept, layouts);
+    Ok(())
+}
+
+/// Gives an array other dimensions. `Breaks` comes exactly where the formula of a view that reaches
+/// it by parents refuses, and changes nothing: all layouts are made before the first change.
 pub fn reshape<L: Ledger>(
     table: &mut Table,
     holds: &Holds,
@@ -216,18 +262,25 @@ pub fn reshape<L: Ledger>(
     id: u64,
     dims: &Dims,
     steps: &mut Steps<L>,
-) -> Result<(), AllocError>
+) -> Result<(), ReshapeFault>
     requires order { InOrder table.old }
     requires known { AreKnown table.old }
     requires sized { AreSized table.old }
+    requires sound { IsSound (world_of table.old) }
     requires live { has table.old id ≡ true }
-    requires viewless { has_views (shape table.old) id ≡ false }
+    requires small { NumbersBelow (2 ^ 64 - 1) table.old }
     ensures reshaped { ChangesRows table.old id table.new }
-    ensures settled { RowsAreSettled table.old id table.new }
+    ensures settled { OnOk result (RowsAreSettled table.old id table.new) }
     ensures ok { OnOk result (world_of table.new ≡ reshape (world_of table.old) id dims.now) }
+    ensures allowed { OnOk result (breaks (world_of table.old) id dims.now ≡ false) }
+    ensures broken { IfErr result
+        (λ fault. fault ≡ Breaks → breaks (world_of table.old) id dims.now ≡ true) }
+    ensures unchanged { IfErr result
+        (λ fault. fault ≡ Breaks → (table.new ≡ table.old) × (steps.new ≡ steps.old)) }
     ensures err { OnErr result (world_of table.new ≡ world_of table.old) }
     ensures stay { OnErr result (RowsStayFresh table.old table.new) }
     ensures fresh { OnOk result (is_fresh_in table.new id ≡ true) }
+    ensures outdated { OnOk result (BasesAreFresh id table.new) }
     ensures counted { steps.new ≤ steps.old
         + (outdated table.old id + waiting_size table.old (waiting_of table.old id)
         + size_of dims.now) }
@@ -235,13 +288,6 @@ pub fn reshape<L: Ledger>(
     ensures parent { OnOk result (ListsParent holds.now loose.new.items (parent_of (row_at table.old id))) }
 {
     row_laws();
-    reshape_row_laws();
-    // the limits of dimensions are known where they are listed
-    let _limits = dims_list(dims);
-    let count = elements_of(dims);
-    settle(table, id, steps);
-    refresh(table, alloc, id, steps)?;
-    let kept = first_copied(table, holds, loose, alloc, id, count, steps)?;
-    table.become_root(alloc, id, dims, kept);
-    Ok(())
+    let layouts = table.relaid(alloc, id, dims)?;
+    Ok(reshape_relaid(table, holds, loose, alloc, id, dims, layouts, steps)?)
 }

@@ -48,7 +48,8 @@ started r bs a =
 
 -- what code leaves at a broadcast place: it runs over the arguments as they start
 -- there, and locals of 0
-abbrev pub outcome : List SigArg → Code → Resolved → List Made → (place : ℕ) → Result Store Fault
+abbrev pub outcome : (args : List SigArg) → Code → Resolved → (given : List Made) → (place : ℕ)
+    → Result Store Fault
 outcome args code r given p =
     let arguments = map (started r (coordinates_of r.broadcast p)) (with_given args given) in
     run r (replicate names_limit 0) code

@@ -83,7 +83,7 @@ abbrev pub element_at : Made → List ℤ → Result ℤ Fault
 element_at a is = and_then (or_range (coordinates_in a.dims is)) (λ cs. Ok (element a cs))
 
 -- after an assignment of a number to the element at indices
-abbrev pub assigned : Made → Option BinaryOp → ℤ → List ℤ → Result Made Fault
+abbrev pub assigned : Made → Option BinaryOp → (number : ℤ) → (indices : List ℤ) → Result Made Fault
 assigned a op x is =
     and_then (or_range (coordinates_in a.dims is)) (λ cs.
     and_then (changed op (element a cs) x) (λ y. Ok (stored a cs y)))
@@ -131,7 +131,7 @@ branch (pos zero) whole other = other
 branch _ whole other = whole
 
 -- a store to a local of the type
-abbrev pub kept : Ty → ℕ → Store → ℤ → Store
+abbrev pub kept : Ty → (local : ℕ) → Store → (number : ℤ) → Store
 kept ty k m x = record m { locals = slice_set m.locals k (wrapped ty x) }
 
 abbrev mutual

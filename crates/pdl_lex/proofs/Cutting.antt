@@ -1,7 +1,7 @@
 -- The pieces still to come, byte by byte.
 use Rattle.std.proofs.Common.{◌≡◌, ℕ, zero, suc, ◌+◌, ◌-◌, ◌<◌, ◌≤◌, Bool, true, false, cond, List, [], ◌∷◌, ◌++◌, length, refl, sym, ◌∙◌, ap, subst, arith, append_assoc, length-append, eqb-true, append-nil, add-zero, take, drop, take-take, take_all, drop-cons, get_or, add-one, take-append-drop, take-add, length-take-le}
 use Rattle.std.specs.Prelude.{Option, Some, None, option_to_list, if◌then◌else◌, ◌==◌}
-use Rattle.std.proofs.lemmas.List.{drop_all, take_more}
+use Rattle.std.proofs.lemmas.List.{drop_all, length-take, nil_from_length, take_more}
 use Rattle.std.specs.List.{list_all, prefix_len}
 use Rattle.std.proofs.lemmas.List.Sums.{sum_by-append, prefix_len-le-length}
 use Rattle.pdl_lemmas.specs.Tests.{by_test}
@@ -25,10 +25,6 @@ chunks-some m (b ∷ bs) =
       | false ↦ (b ∷ inner.0, inner.1, rw inner.2)
     ]
 
-empty_from_idle : (text : List ℕ) → (length text == 0) ≡ true → text ≡ []
-empty_from_idle [] idle = refl
-empty_from_idle (b ∷ bs) idle = absurd (omega (arith, eqb-true _ _ idle))
-
 -- a text past the limit is too long, whatever is put onto it
 text_piece-long : (line : ℕ) (text more : List ℕ) → length text ≡ suc statement_limit → text_piece line (text ++ more) ≡ TooLong line
 text_piece-long line text more e = grind (arith, length-append {A = ℕ})
@@ -44,12 +40,12 @@ module _ (k : Bool) (s : State) (b : ℕ) (c : List ℕ) (e : is_end s.mode b �
 
   step-between : s.over ≡ false → is_idle s ≡ true → is_between s.mode b ≡ true → settled_piece k (begun_piece s (b ∷ c)) ≡ option_to_list (cut_at s b) ++ settled_piece k (begun_piece (next s b) c)
   step-between over idle between =
-      let small : is_full s ≡ false = rw (empty_from_idle s.text idle) in
+      let small : is_full s ≡ false = rw (nil_from_length s.text (eqb-true _ _ idle)) in
       rw (e, over, idle, between, small, idle)
 
   step-first : s.over ≡ false → is_idle s ≡ true → is_between s.mode b ≡ false → settled_piece k (begun_piece s (b ∷ c)) ≡ option_to_list (cut_at s b) ++ settled_piece k (begun_piece (next s b) c)
   step-first over idle between =
-      let empty : s.text ≡ [] = empty_from_idle s.text idle in
+      let empty : s.text ≡ [] = nil_from_length s.text (eqb-true _ _ idle) in
       let small : is_full s ≡ false = rw empty in
       rw (e, over, idle, between, small, empty)
 
@@ -274,17 +270,12 @@ plain-front s bs n over idle room is =
     let within : length (take n bs) ≤ length bs = rw (length-take-le n bs (rw is (prefix_len-le-length (is_plain s.mode) bs))) (rw is (prefix_len-le-length (is_plain s.mode) bs)) in
     plain-quiet (take n bs) s over idle (omega arith) (rw is (list_all-front (is_plain s.mode) bs))
 
-length-take-at_most : (n : ℕ) (xs : List ℕ) → length (take n xs) ≤ n
-length-take-at_most zero xs = omega arith
-length-take-at_most (suc n) [] = omega arith
-length-take-at_most (suc n) (x ∷ xs) = omega (arith, length-take-at_most n xs)
-
 -- what `extend` does to a begun statement
 pub extend-quiet : (s : State) (part front text : List ℕ) (n room : ℕ) → s.over ≡ false → 0 < length s.text → front ≡ take room part → length s.text + room ≤ statement_limit → n ≡ prefix_len (is_plain s.mode) front → text ≡ s.text ++ take n front → IsQuiet s (take n part) (record s { text = text; taken = s.taken + n })
 extend-quiet s part front text n room over some is_front fits is_len is_text =
     let idle : is_idle s ≡ false = by_test (is_idle s) (λ e. absurd (omega (arith, eqb-true (length s.text) 0 e))) (λ e. e) in
     let within : n ≤ length front = rw is_len (prefix_len-le-length (is_plain s.mode) front) in
-    let at_most : length front ≤ room = rw is_front (length-take-at_most room part) in
+    let at_most : length front ≤ room = rw is_front (omega (arith, length-take room part)) in
     let size : length (take n front) ≡ n = length-take-le n front within in
     let same : take n front ≡ take n part = ap (take n) is_front ∙ take-take n room part (omega arith) in
     let quiet : IsQuiet s (take n front) (extended s (take n front)) = plain-front s front n over idle (omega arith) is_len in

@@ -2,6 +2,7 @@
 use Rattle.std.proofs.Common.{◌≡◌, ℕ, ◌+◌, ◌≤◌, Bool, true, false, cond, List, [], ◌∷◌, ◌++◌, Some, None, refl, sym, ◌∙◌, ap, subst, arith, eqb-true, true≢false}
 use Rattle.std.specs.Prelude.{◌==◌, option_and_then}
 use Rattle.std.proofs.lemmas.Bool.{ne_eqb}
+use Rattle.pdl_lemmas.specs.Options.{some_inj}
 use Rattle.pdl_lemmas.specs.Tests.{by_test}
 use Rattle.pdl_lex.specs.Bytes.{is_blank, newlines}
 use Rattle.pdl_lex.specs.declared.cutter.Mode.{Mode}
@@ -29,11 +30,8 @@ digits_stay Double b low high = rw (ne_eqb b 34 (λ e. omega (arith, e))) refl
 digits_stay Single b low high = rw (ne_eqb b 39 (λ e. omega (arith, e))) refl
 
 -- a statement is a chunk of its own
-same_mode : (now other : Mode) → Some now ≡ Some other → now ≡ other
-same_mode now other is = cc
-
 chunks-statement : (now : Mode) (text rest : List ℕ) → mode_behind now text ≡ Some Code → chunks now (text ++ 59 ∷ rest) ≡ text ∷ chunks Code rest
-chunks-statement now [] rest is = rw (same_mode now Code is) refl
+chunks-statement now [] rest is = rw (some_inj is) refl
 chunks-statement now (b ∷ bs) rest is = by_end (is_end now b) is (chunks-statement (mode_after now b) bs rest)
   where
     by_end : (t : Bool) → cond t None (mode_behind (mode_after now b) bs) ≡ Some Code

@@ -1,5 +1,6 @@
 -- What bytes settle stands at the front of what they and more bytes settle.
 use Rattle.std.proofs.Common.{◌≡◌, ℕ, ◌+◌, Bool, true, false, cond, List, [], ◌∷◌, ◌++◌, Option, Some, None, refl, sym, ◌∙◌, ap, arith, append_assoc, length-append}
+use Rattle.pdl_lemmas.specs.Options.{some_inj}
 use Rattle.pdl_lex.specs.Bytes.{newlines}
 use Rattle.pdl_lex.specs.declared.cutter.Mode.{Mode}
 use Rattle.pdl_lex.specs.declared.cutter.Mode.TheVariants.{Code}
@@ -63,9 +64,6 @@ chunks-go_on now (b ∷ bs) more =
 text-long : (line at : ℕ) (text more : List ℕ) → text_piece line text ≡ TooLong at → text_piece line (text ++ more) ≡ TooLong at
 text-long line at text more is = grind (arith, length-append {A = ℕ})
 
-some_piece : (x y : Piece) → Some x ≡ Some y → x ≡ y
-some_piece x y is = cc
-
 chunk-long : (line at : ℕ) (now : Mode) (chunk more : List ℕ) → chunk_piece line now chunk ≡ Some (TooLong at) → chunk_piece line now (chunk ++ more) ≡ Some (TooLong at)
 chunk-long line at now [] more is = cc
 chunk-long line at now (b ∷ bs) more is = by_test (is_between now b) is (chunk-long (line + newlines (b ∷ [])) at (mode_after now b) bs more)
@@ -75,7 +73,7 @@ chunk-long line at now (b ∷ bs) more is = by_test (is_between now b) is (chunk
         → chunk_piece (line + newlines (b ∷ [])) (mode_after now b) (bs ++ more) ≡ Some (TooLong at))
         → cond t (chunk_piece (line + newlines (b ∷ [])) (mode_after now b) (bs ++ more)) (Some (text_piece line (b ∷ bs ++ more))) ≡ Some (TooLong at)
     by_test true e rest = rest e
-    by_test false e rest = ap Some (text-long line at (b ∷ bs) more (some_piece _ _ e))
+    by_test false e rest = ap Some (text-long line at (b ∷ bs) more (some_inj e))
 
 -- what the last chunk settles is settled of it when it has gone on
 settled_piece-front : (e : Bool) (piece whole : Option Piece) (others : List Piece) → ((at : ℕ) → piece ≡ Some (TooLong at) → whole ≡ Some (TooLong at))

@@ -2,6 +2,7 @@
 use Rattle.std.specs.Prelude.{ℕ, suc, pred, ◌+◌, nat_lt, Bool, true, false, if◌then◌else◌, List, [], ◌∷◌, codes, bytes_eq}
 use Rattle.pdl_lex.specs.declared.TokenKind.{TokenKind}
 use Rattle.pdl_lex.specs.declared.TokenKind.TheVariants.{Name, Word, Number, Str, Sign}
+use Rattle.pdl_lex.specs.Limits.{bracket_limit}
 use Rattle.pdl_lex.specs.Written.{Written}
 
 -- how many round ones and how many square ones
@@ -36,5 +37,5 @@ behind_token now w = behind_kind now w.kind w.bytes
 unfoldable pub go_deep : Brackets → List Written → Bool
 go_deep now [] = false
 go_deep now (w ∷ ws) =
-    if nat_lt 64 ((behind_token now w).round + (behind_token now w).square) then true
+    if nat_lt bracket_limit ((behind_token now w).round + (behind_token now w).square) then true
     else go_deep (behind_token now w) ws

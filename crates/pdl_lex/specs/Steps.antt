@@ -62,7 +62,8 @@ IsQuiet s (b ∷ bs) t = (cut_at s b ≡ None) × IsQuiet (next s b) bs t
 
 -- the cutter goes from s to t over as many bytes as were used, of which the last alone
 -- completes a piece, or none does
-abbrev pub Reaches : State → List ℕ → ℕ → Option Piece → State → Type 0
+abbrev pub Reaches : (before : State) → (bytes : List ℕ) → (used : ℕ) → Option Piece
+    → (after : State) → Type 0
 Reaches s bs used None t = (used ≡ length bs) × IsQuiet s bs t
 Reaches s bs used (Some piece) t =
     (i : ℕ) × (u : State) × (i < length bs) × (used ≡ i + 1) × IsQuiet s (take i bs) u ×

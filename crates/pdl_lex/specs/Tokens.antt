@@ -83,8 +83,8 @@ after_tokens ts (Ok us) = Ok (ts ++ us)
 after_tokens ts (Err fault) = Err fault
 
 -- a token at a place, with those that come once its bytes are passed, or no token
-abbrev pub token_then : ℕ → ℕ → Option (TokenKind × ℕ) → (ℕ → Result (List Token) LexFault) →
-    Result (List Token) LexFault
+abbrev pub token_then : (at byte : ℕ) → (found : Option (TokenKind × ℕ))
+    → (others : ℕ → Result (List Token) LexFault) → Result (List Token) LexFault
 token_then at b None others = Err (fault_of at b)
 token_then at b (Some found) others =
     after_tokens (record { kind = found.0; from = at; to = at + found.1 } ∷ []) (others found.1)

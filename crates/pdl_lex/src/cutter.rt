@@ -4,13 +4,11 @@ ghost use Rattle.pdl_lex.specs.Bytes.{newlines};
 ghost use Rattle.pdl_lex.specs.Pieces.{start_state, mode_after, is_end, is_between, pieces, settled, to_come, settled_from};
 ghost use Rattle.pdl_lex.specs.Steps.{begun, ended, next, cut_at, is_full, is_idle, grown_on, is_plain, IsQuiet, Reaches};
 
+use crate::limits::STATEMENT_LIMIT;
 use crate::{Cut, Fed, NoMemory, Piece, StatementText};
 use std::alloc::{AllocError, Global};
 use std::marker::Model;
 use std::mem;
-
-/// The most bytes of a statement's text.
-const STATEMENT_LIMIT: usize = 65_536;
 
 // The bytes for which a text has room once it's begun.
 const FIRST_ROOM: usize = 64;

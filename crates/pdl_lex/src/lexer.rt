@@ -1,6 +1,7 @@
 ghost use Rattle.std.specs.Prelude.{◌≡◌, ◌+◌, ◌^◌, ◌<◌, ◌≤◌, length, drop, Some, None, Ok, Err, ◌≢◌, IfOk, IfErr, IfSome, OnOk};
 ghost use Rattle.std.specs.List.{list_all};
 ghost use Rattle.pdl_lex.specs.Bytes.{is_word_byte};
+ghost use Rattle.pdl_lex.specs.Limits.{statement_limit};
 ghost use Rattle.pdl_lex.specs.Tokens.{is_word, is_sign, gap_at, token_at, fault_of, after_tokens, toks_from, toks, Spans};
 ghost use Rattle.pdl_lex.specs.TokenReading.{other_len, name_after, string_after, begins_sign, sign_at, read_at};
 
@@ -160,7 +161,7 @@ fn fault_of(at: u32, byte: u8) -> LexFault
 
 // Takes a blank, a comment or a token at a place, and answers the place after it.
 fn take_token(found: &mut Vec<Token>, text: &[u8], at: usize) -> Result<usize, LexFault>
-    requires limit { length text.now ≤ 65536 }
+    requires limit { length text.now ≤ statement_limit }
     requires within { at < length text.now }
     ensures read { IfOk result (λ next. after_tokens found.old.items
         (toks_from at 0 (drop at text.now)) ≡ after_tokens found.new.items
@@ -195,7 +196,7 @@ fn take_token(found: &mut Vec<Token>, text: &[u8], at: usize) -> Result<usize, L
 /// It answers `BadByte` at the first byte that begins no token, or `OpenString` at the quote
 /// of a string without an end, whichever stands first.
 pub fn tokens(alloc: Global, text: &[u8]) -> Result<Vec<Token>, LexFault>
-    requires { length text.now ≤ 65536 }
+    requires { length text.now ≤ statement_limit }
     ensures exact { IfOk result (λ found. toks text.now ≡ Ok found.items) }
     ensures fault { IfErr result (λ fault. fault ≢ LexFault.NoMemory → toks text.now ≡ Err fault) }
     ensures spans { IfOk result (λ found. Spans text.now found.items) }
@@ -208,7 +209,7 @@ pub fn tokens(alloc: Global, text: &[u8]) -> Result<Vec<Token>, LexFault>
 /// The tokens of a statement's text, as `tokens` has them, in a list whose room is kept. What stood
 /// in it goes.
 pub fn read_tokens(text: &[u8], found: &mut Vec<Token>) -> Result<(), LexFault>
-    requires { length text.now ≤ 65536 }
+    requires { length text.now ≤ statement_limit }
     ensures exact { OnOk result (toks text.now ≡ Ok found.new.items) }
     ensures fault { IfErr result (λ fault. fault ≢ LexFault.NoMemory → toks text.now ≡ Err fault) }
     ensures spans { OnOk result (Spans text.now found.new.items) }

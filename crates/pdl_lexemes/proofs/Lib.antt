@@ -7,3 +7,5 @@ pub mod ListDims
 pub mod ListArrays
 pub mod Signs
 pub mod OpenBrackets
+pub mod Found
+pub mod Texts

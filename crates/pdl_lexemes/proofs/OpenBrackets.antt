@@ -1,16 +1,13 @@
 -- The lexemes of a text open and close the brackets that its tokens do.
 use Rattle.std.proofs.Common.{◌≡◌, ℕ, suc, pred, ◌+◌, Bool, true, false, List, [], ◌∷◌, refl, sym, ◌∙◌, ap, ap₂, arith, if◌then◌else◌, true≢false}
-use Rattle.std.specs.Prelude.{not, nat_lt, nat_eq, Option, Some, None, codes, bytes_eq}
-use Rattle.std.specs.List.{list_all}
+use Rattle.std.specs.Prelude.{nat_lt, nat_eq, Option, Some, None, codes, bytes_eq}
 use Rattle.pdl_lemmas.specs.Tests.{by_test}
 use Rattle.pdl_lex.specs.declared.Token.{Token}
 use Rattle.pdl_lex.specs.declared.TokenKind.{TokenKind}
 use Rattle.pdl_lex.specs.declared.TokenKind.TheVariants.{Name as IsName, Word as IsWord, Number as IsNumber, Str as IsStr, Sign as IsSign}
 use Rattle.pdl_lex.specs.Written.{written}
 use Rattle.pdl_lex.specs.Brackets.{Brackets, behind_sign, behind_kind, behind_token, no_brackets, go_deep}
-use Rattle.pdl_elem.specs.declared.BinaryOp.{BinaryOp}
 use Rattle.pdl_lexemes.specs.declared.checks.Counts.{Counts}
-use Rattle.pdl_lexemes.specs.declared.AssignOp.{AssignOp}
 use Rattle.pdl_lexemes.specs.declared.Keyword.{Keyword as Key}
 use Rattle.pdl_lexemes.specs.declared.WordKind.{WordKind}
 use Rattle.pdl_lexemes.specs.declared.Span.{Span}
@@ -21,19 +18,21 @@ use Rattle.pdl_elem.specs.Tables.{found_in}
 use Rattle.pdl_lexemes.specs.Lexing.{signs, operators, assignments, sign_of, span_of, of_kind, lexeme_of, lexemes_of}
 use Rattle.pdl_lexemes.specs.Depth.{with_operator, counted_to, is_beyond, goes_beyond, no_counts}
 use Rattle.pdl_lexemes.specs.Laws.{BracketsAreCounted}
-use Rattle.pdl_lemmas.specs.Options.{some_inj, none_some, choose}
+use Rattle.pdl_lemmas.specs.Options.{choose}
+use Rattle.pdl_lexemes.proofs.Found.{sign_passes}
 
 -- the same brackets are open
 record Same (c : Counts) (now : Brackets) : Type 0 where
   round : c.round ≡ now.round
   square : c.square ≡ now.square
 
-abbrev is_bracket : Lexeme → Bool
-is_bracket Open = true
-is_bracket Close = true
-is_bracket OpenSquare = true
-is_bracket CloseSquare = true
-is_bracket _ = false
+-- whether a lexeme is no bracket
+abbrev is_other : Lexeme → Bool
+is_other Open = false
+is_other Close = false
+is_other OpenSquare = false
+is_other CloseSquare = false
+is_other _ = true
 
 operator_same : (c : Counts) (now : Brackets) → Same c now → Same (with_operator c) now
 operator_same c now s =
@@ -42,11 +41,11 @@ operator_same c now s =
     (λ inside. rw inside s)
 
 -- a lexeme that is no bracket changes nothing
-other_same : (c : Counts) (now : Brackets) (l : Lexeme) → is_bracket l ≡ false → Same c now → Same (counted_to c l) now
-other_same c now Open e s = absurd (true≢false e)
-other_same c now Close e s = absurd (true≢false e)
-other_same c now OpenSquare e s = absurd (true≢false e)
-other_same c now CloseSquare e s = absurd (true≢false e)
+other_same : (c : Counts) (now : Brackets) (l : Lexeme) → is_other l ≡ true → Same c now → Same (counted_to c l) now
+other_same c now Open e s = absurd (true≢false (sym e))
+other_same c now Close e s = absurd (true≢false (sym e))
+other_same c now OpenSquare e s = absurd (true≢false (sym e))
+other_same c now CloseSquare e s = absurd (true≢false (sym e))
 other_same c now Arrow e s = operator_same c now s
 other_same c now (Operator op) e s = operator_same c now s
 other_same c now (Prefix op) e s = operator_same c now s
@@ -56,24 +55,6 @@ word_same : (c : Counts) (now : Brackets) (kind : WordKind) (span : Span) (o : O
     Same (counted_to c (choose (Word kind span) (λ k. Keyword k) o)) now
 word_same c now kind span None s = s
 word_same c now kind span (Some k) s = s
-
--- what a table without brackets has
-no_bracket : (table : List (List ℕ × Lexeme)) (text : List ℕ) → list_all (λ entry. not (is_bracket entry.1)) table ≡ true →
-    (l : Lexeme) → found_in table text ≡ Some l → is_bracket l ≡ false
-no_bracket [] text all l found = absurd (none_some found)
-no_bracket (entry ∷ table) text all l found =
-    by_test (is_bracket entry.1)
-    (λ bracket. let never : false ≡ true = rw bracket at all in absurd (true≢false (sym never)))
-    (λ other. by_test (bytes_eq text entry.0)
-    (λ here. let same : Some entry.1 ≡ Some l = rw here at found in ap is_bracket (sym (some_inj same)) ∙ other)
-    (λ further. no_bracket table text (rw other at all) l (rw further at found)))
-
-sign_no_bracket : (o1 : Option AssignOp) (o2 : Option BinaryOp) (o3 : Option Lexeme) → ((l : Lexeme) → o3 ≡ Some l → is_bracket l ≡ false) →
-    is_bracket (choose (choose (choose Unknown (λ op. Assign op) o1) (λ op. Operator op) o2) (λ s. s) o3) ≡ false
-sign_no_bracket o1 o2 (Some l) h = h l refl
-sign_no_bracket o1 (Some op) None h = refl
-sign_no_bracket (Some op) None None h = refl
-sign_no_bracket None None None h = refl
 
 -- the signs but the four brackets
 without_four : List (List ℕ × Lexeme) → List (List ℕ × Lexeme)
@@ -95,8 +76,7 @@ sign_same c now text s =
     (other_same c now
     (choose (choose (choose Unknown (λ op. Assign op) (found_in assignments text)) (λ op. Operator op) (found_in operators text)) (λ s. s)
     (found_in (without_four signs) text))
-    (sign_no_bracket (found_in assignments text) (found_in operators text) (found_in (without_four signs) text)
-    (no_bracket (without_four signs) text refl)) s)))))
+    (sign_passes is_other (without_four signs) text refl (λ op. refl) (λ op. refl) refl) s)))))
   where
     suc_same : {m n : ℕ} → m ≡ n → m + 1 ≡ suc n
     suc_same e = omega (arith, e)

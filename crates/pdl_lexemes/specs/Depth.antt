@@ -2,10 +2,13 @@
 -- are, how large numbers are.
 use Rattle.std.specs.Prelude.{ℕ, pred, ◌+◌, nat_lt, nat_eq, List, [], ◌∷◌, Bool, true, false, Option, Some, None, if◌then◌else◌}
 use Rattle.std.specs.List.{list_any}
+use Rattle.pdl_lex.specs.Limits.{bracket_limit}
 use Rattle.pdl_lexemes.specs.declared.checks.Counts.{Counts}
+use Rattle.pdl_lexemes.specs.declared.checks.TheConstants.{MOST_OPERATORS}
 use Rattle.pdl_lexemes.specs.declared.Lexeme.{Lexeme}
 use Rattle.pdl_lexemes.specs.declared.Lexeme.TheVariants.{Number, Open, Close, OpenSquare, CloseSquare, Arrow, Operator, Prefix}
 use Rattle.pdl_lexemes.specs.ListReading.{ReadPart, list_read}
+use Rattle.pdl_lexemes.specs.Squares.{square_limit}
 
 -- one more operator, where no square bracket is open
 abbrev pub with_operator : Counts → Counts
@@ -22,10 +25,14 @@ counted_to c (Operator op) = with_operator c
 counted_to c (Prefix op) = with_operator c
 counted_to c _ = c
 
+-- at most so many operators stand outside square brackets
+abbrev pub operator_limit : ℕ
+operator_limit = MOST_OPERATORS
+
 -- more than 64 brackets open at once, more than 16 square ones, or more than 256 operators
 abbrev pub is_beyond : Counts → Bool
-is_beyond c = if nat_lt 64 (c.round + c.square) then true
-    else (if nat_lt 16 c.square then true else nat_lt 256 c.operators)
+is_beyond c = if nat_lt bracket_limit (c.round + c.square) then true
+    else (if nat_lt square_limit c.square then true else nat_lt operator_limit c.operators)
 
 -- whether that is so behind some lexeme
 abbrev pub goes_beyond : Counts → List Lexeme → Bool

@@ -1,18 +1,23 @@
 -- What the definitions promise to the crates above. Each is the contract of a public function.
-use Rattle.std.specs.Prelude.{◌≡◌, ◌↔◌, ◌≤◌, ℕ, ℤ, List, [], ◌∷◌, length, true, ◌||◌, Option, None, Some, unwrap_or, All, is_some}
+use Rattle.std.specs.Prelude.{◌≡◌, ◌↔◌, ◌≤◌, ℕ, ℤ, List, [], ◌∷◌, length, true, ◌||◌, Option, None, Some, unwrap_or, All, is_some, Ok}
 use Rattle.pdl_elem.specs.Tables.{found_in}
-use Rattle.pdl_elem.specs.Types.{InRange}
+use Rattle.pdl_elem.specs.declared.Ty.{Ty}
+use Rattle.pdl_elem.specs.Types.{InRange, type_word}
 use Rattle.pdl_shape.specs.Shape.{size_of}
 use Rattle.pdl_lex.specs.declared.Token.{Token}
-use Rattle.pdl_lex.specs.Tokens.{is_sign}
+use Rattle.pdl_lex.specs.declared.TokenKind.TheVariants.{Word as IsWord}
+use Rattle.pdl_lex.specs.Tokens.{is_sign, kind_of, toks}
 use Rattle.pdl_lex.specs.Written.{written}
 use Rattle.pdl_lex.specs.Brackets.{no_brackets, go_deep}
 use Rattle.pdl_lexemes.specs.declared.Lexeme.{Lexeme}
-use Rattle.pdl_lexemes.specs.declared.Lexeme.TheVariants.{OpenSquare}
+use Rattle.pdl_lexemes.specs.declared.Lexeme.TheVariants.{OpenSquare, Word}
+use Rattle.pdl_lexemes.specs.declared.Span.{Span}
+use Rattle.pdl_lexemes.specs.declared.WordKind.TheVariants.{OfType}
 use Rattle.pdl_lexemes.specs.Lists.{SpellsList, a_list, type_of, HoldsRagged}
 use Rattle.pdl_lexemes.specs.ListReading.{read_part, list_read}
 use Rattle.pdl_lexemes.specs.Depth.{without_shape, ragged_in, is_too_deep}
-use Rattle.pdl_lexemes.specs.Lexing.{operators, assignments, signs, lexemes_of}
+use Rattle.pdl_lexemes.specs.Lexing.{operators, assignments, signs, word_of, lexemes_of}
+use Rattle.pdl_lexemes.specs.Texts.{HoldsText}
 use Rattle.pdl_lexemes.specs.Peeks.{after}
 
 -- a list literal is read exactly where the grammar spells it; it begins with `[`, and what
@@ -59,3 +64,14 @@ abbrev pub BracketsAreCounted : Type 0
 BracketsAreCounted =
     (text : List ℕ) (ts : List Token) → go_deep no_brackets (written text 0 ts) ≡ true →
     is_too_deep (lexemes_of text ts) ≡ true
+
+-- the names among the lexemes of a text are names, and its strings are texts that a string can hold
+abbrev pub LexemesHoldTexts : Type 0
+LexemesHoldTexts =
+    (text : List ℕ) (ts : List Token) → toks text ≡ Ok ts →
+    All (HoldsText text) (lexemes_of text ts)
+
+-- the word of a type is a word, and reads as that type
+pub record TypeWordsAreWords : Type 0 where
+  pub words : (ty : Ty) → kind_of (type_word ty) ≡ Some IsWord
+  pub types : (ty : Ty) (span : Span) → word_of (type_word ty) span ≡ Word (OfType ty) span

@@ -4,6 +4,7 @@ pub mod Lists
 pub mod Peeks
 pub mod ListReading
 pub mod Lexing
+pub mod Texts
 pub mod Levels
 pub mod Depth
 pub mod Squares

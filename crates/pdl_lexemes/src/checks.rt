@@ -4,6 +4,13 @@ ghost use Rattle.std.specs.Prelude.{◌≡◌, ◌≤◌, ◌+◌, ◌<◌, leng
 ghost use Rattle.pdl_lexemes.specs.Depth.{with_operator, counted_to, is_beyond, is_too_deep, is_large, has_large};
 
 use crate::Lexeme;
+use pdl_lex::MOST_OPEN;
+
+/// At most so many square brackets are open at once.
+pub const MOST_SQUARE: u32 = 16;
+
+/// At most so many operators stand outside square brackets.
+pub const MOST_OPERATORS: u32 = 256;
 
 /// How many brackets of each kind are open, and how many operators stand outside square ones so
 /// far.
@@ -64,13 +71,13 @@ fn is_beyond(counts: Counts) -> bool
     requires square { counts.square ≤ 65536 }
     ensures { result ≡ is_beyond counts }
 {
-    if counts.round + counts.square > 64 {
+    if counts.round + counts.square > MOST_OPEN {
         return true;
     }
-    if counts.square > 16 {
+    if counts.square > MOST_SQUARE {
         return true;
     }
-    counts.operators > 256
+    counts.operators > MOST_OPERATORS
 }
 
 /// Whether more than 64 brackets are open at once, more than 16 square ones, or more than 256

@@ -1,6 +1,8 @@
 //! What the definitions promise to the crates above.
 
-ghost use Rattle.pdl_lexemes.specs.Laws.{ListsAreRead, RaggedIsScanned, ListsAreArrays, SignsAreKnown, BracketsAreCounted};
+ghost use Rattle.pdl_lexemes.specs.Laws.{ListsAreRead, RaggedIsScanned, ListsAreArrays, SignsAreKnown, BracketsAreCounted, LexemesHoldTexts, TypeWordsAreWords};
+
+use pdl_lex::token_meaning;
 
 /// A list literal is read exactly where the grammar spells it.
 pub fn lists_are_their_grammar()
@@ -26,4 +28,17 @@ pub fn every_sign_is_known()
 /// Where more than 64 brackets are open at a token of a text, its lexemes go too deep.
 pub fn brackets_are_counted()
     ensures { BracketsAreCounted }
+{}
+
+/// The names among the lexemes of a text's tokens are names, and its strings are texts that one
+/// string can hold.
+pub fn lexemes_hold_texts()
+    ensures { LexemesHoldTexts }
+{
+    token_meaning();
+}
+
+/// The word of each type is a word, and reads as that type.
+pub fn type_words_are_words()
+    ensures { TypeWordsAreWords }
 {}

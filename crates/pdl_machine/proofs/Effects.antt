@@ -3,29 +3,31 @@ use Rattle.std.proofs.Common.{◌≡◌, ℕ, List, [], ◌∷◌, map, Bool, tr
 use Rattle.std.specs.Prelude.{if◌then◌else◌, option_map, ◌||◌, ◌&&◌, is_none}
 use Rattle.std.specs.List.{flat_map}
 use Rattle.std.specs.Cmp.Lexicographic.{pointwise}
+use Rattle.std.specs.List.{list_any}
 use Rattle.pdl_lemmas.specs.Tests.{by_test}
-use Rattle.pdl_world.specs.Cut.{has_views, reshape}
+use Rattle.pdl_world.specs.Cut.{breaks, reshape}
+use Rattle.pdl_world.specs.Paths.{path}
 use Rattle.pdl_world.specs.Swept.{holds}
 use Rattle.pdl_syntax.specs.Tree.{Tree, number, named, literal, unary, binary, call}
 use Rattle.pdl_syntax.specs.StatementTree.{StatementTree, bind, bind_list, assign, show, show_text, sever, reshape as reshapes, undef, vars, pp_def, watch, unwatch}
 use Rattle.pdl_machine.specs.declared.fault.Fault.{Fault}
-use Rattle.pdl_machine.specs.declared.fault.Fault.TheVariants.{UnknownName, StillConnected, BadWatcher}
+use Rattle.pdl_machine.specs.declared.fault.Fault.TheVariants.{UnknownName, BadWatcher, ReshapeBreaks, StillWatched}
 use Rattle.pdl_machine.specs.Then.{and_then, or_fault}
 use Rattle.pdl_machine.specs.Names.{Named, Names, number_of, without_name, bound_to, unbind}
 use Rattle.pdl_machine.specs.Arrays.{Arrays}
 use Rattle.pdl_machine.specs.State.{State, with_arrays}
 use Rattle.pdl_machine.specs.Outcome.{Given, Valued}
 use Rattle.pdl_machine.specs.Fills.{numbers_in, dims_for}
+use Rattle.pdl_machine.specs.Cuts.{cut, severed, dims_given, reshaped, is_watched}
 use Rattle.std.proofs.lemmas.List.{map-set}
-use Rattle.pdl_machine.specs.Cuts.{cut, severed, dims_given, is_connected, reshaped}
 use Rattle.pdl_machine.specs.Watches.{Watches, watch_of, attached, attach, detach, is_present, attaching, detaching}
 use Rattle.pdl_machine.specs.Kernels.{defined}
 use Rattle.pdl_machine.specs.Value.{value_of, taken}
 use Rattle.pdl_machine.specs.Tidy.{renumbered, with_numbers}
 use Rattle.pdl_machine.specs.Step.{Stepped, list_bound, several_bound, target, after_printing, name_line, kernel_named, severing, reshaping, watching, unwatching, effect}
-use Rattle.pdl_machine.proofs.Renamed.{AreAlike, StateAlike, sever_renamed, reshape_renamed, has_views_renamed}
+use Rattle.pdl_machine.proofs.Renamed.{AreAlike, StateAlike, sever_renamed, reshape_renamed, breaks_renamed, path_renamed}
 use Rattle.pdl_machine.proofs.Both.{Both, both_then, both_same}
-use Rattle.pdl_machine.proofs.WatchLemmas.{is_none-map, watch_of_renamed, attached_renamed, attach_renamed}
+use Rattle.pdl_machine.proofs.WatchLemmas.{is_none-map, watch_of_renamed, attached_renamed, attach_renamed, detach_renamed}
 use Rattle.pdl_machine.proofs.Tidying.{holds_renamed}
 use Rattle.pdl_machine.proofs.Stepping.{ValueAlike, TakenAlike, StepAlike, taken_seen, number_of_alike, bound_alike, list_alike, state_value_alike, state_taken_alike, assigning_alike, shown_alike, lines_alike, define_alike}
 
@@ -57,27 +59,32 @@ bound_to_alike g s t h x =
 severing_alike : (g : ℕ → ℕ) (s t : State) → StateAlike true g s t → (v u : ℕ) → u ≡ g v → Both (StepAlike g) (severing s v) (severing t u)
 severing_alike g s t h v u same = (record { arrays = cut_alike g s.arrays t.arrays h.arrays v u same; names = h.names; watches = h.watches }, refl)
 
--- the same arrays are connected on both sides
-connected_alike : (g : ℕ → ℕ) (a b : Arrays) → AreAlike true g a b → (ws : Watches) (v : ℕ) → is_connected (map (option_map g) ws) b.world (g v) ≡ is_connected ws a.world v
-connected_alike g a b h ws v =
-    ap (λ x. x || holds (attached (map (option_map g) ws)) (g v)) (has_views_renamed g h.apart h.world v)
-    ∙ ap (λ vs. has_views a.world v || holds vs (g v)) (attached_renamed g ws)
-    ∙ ap (λ x. has_views a.world v || x) (holds_renamed g h.apart (attached ws) v)
+-- the same arrays are watched on both sides
+watched_alike : (g : ℕ → ℕ) (a b : Arrays) → AreAlike true g a b → (ws : Watches) (v : ℕ) → is_watched (map (option_map g) ws) b.world (g v) ≡ is_watched ws a.world v
+watched_alike g a b h ws v = ap (list_any (λ u. holds (path b.world u) (g v))) (attached_renamed g ws) ∙ on_paths (attached ws)
+  where
+    on_paths : (us : List ℕ) → list_any (λ u. holds (path b.world u) (g v)) (map g us) ≡ list_any (λ u. holds (path a.world u) v) us
+    on_paths [] = refl
+    on_paths (u ∷ us) =
+        ap (λ x. x || list_any (λ k. holds (path b.world k) (g v)) (map g us)) (ap (λ ps. holds ps (g v)) (path_renamed g h.apart h.world u) ∙ holds_renamed g h.apart (path a.world u) v)
+        ∙ ap (λ x. holds (path a.world u) v || x) (on_paths us)
 
 -- other dimensions on both sides
 reshaped_alike : (g : ℕ → ℕ) (ws : Watches) (a b : Arrays) → AreAlike true g a b → (v u : ℕ) → u ≡ g v → (ds : List ℕ)
     → Both (AreAlike true g) (reshaped ws a v ds) (reshaped (map (option_map g) ws) b u ds)
 reshaped_alike g ws a b h v u same ds =
     let P : ℕ → Type 0 = λ i. Both (AreAlike true g) (reshaped ws a v ds) (reshaped (map (option_map g) ws) b i ds) in
-    let Q : Bool → Type 0 = λ x. Both (AreAlike true g) (reshaped ws a v ds) (if x then Err StillConnected else Ok (other b (g v))) in
-    subst P (sym same) (subst Q (sym (connected_alike g a b h ws v)) (by_views (is_connected ws a.world v)))
+    let Q : Bool → Type 0 = λ x. Both (AreAlike true g) (reshaped ws a v ds) (if x then Err ReshapeBreaks else if is_watched (map (option_map g) ws) b.world (g v) then Err StillWatched else Ok (other b (g v))) in
+    let R : Bool → Type 0 = λ x. Both (AreAlike true g) (reshaped ws a v ds) (if breaks a.world v ds then Err ReshapeBreaks else if x then Err StillWatched else Ok (other b (g v))) in
+    subst P (sym same) (subst Q (sym (breaks_renamed g h.apart h.world v ds)) (subst R (sym (watched_alike g a b h ws v)) (by_tests (breaks a.world v ds) (is_watched ws a.world v))))
   where
     other : Arrays → ℕ → Arrays
     other a v = record a { world = reshape a.world v ds }
 
-    by_views : (x : Bool) → Both (AreAlike true g) (if x then Err StillConnected else Ok (other a v)) (if x then Err StillConnected else Ok (other b (g v)))
-    by_views true = refl
-    by_views false = record { apart = h.apart; world = reshape_renamed g h.apart h.world v ds; next = h.next; on = h.on }
+    by_tests : (x y : Bool) → Both (AreAlike true g) (if x then Err ReshapeBreaks else if y then Err StillWatched else Ok (other a v)) (if x then Err ReshapeBreaks else if y then Err StillWatched else Ok (other b (g v)))
+    by_tests true y = refl
+    by_tests false true = refl
+    by_tests false false = record { apart = h.apart; world = reshape_renamed g h.apart h.world v ds; next = h.next; on = h.on }
 
 reshaping_alike : (g : ℕ → ℕ) (s t : State) → StateAlike true g s t → (v u : ℕ) → u ≡ g v → (x y : Arrays × List Given) → TakenAlike g x y → Both (StepAlike g) (reshaping s v x) (reshaping t u y)
 reshaping_alike g s t h v u same x y taken =
@@ -137,7 +144,7 @@ detaching_alike g ws k =
   where
     by_slot : (b : Bool) → Both (λ us xs. xs ≡ map (option_map g) us) (if b then Err BadWatcher else Ok (detach ws k)) (if b then Err BadWatcher else Ok (detach (map (option_map g) ws) k))
     by_slot true = refl
-    by_slot false = sym (map-set (option_map g) ws k None)
+    by_slot false = detach_renamed g ws k
 
 -- other watches on both sides
 watches_alike : (g : ℕ → ℕ) (s t : State) → StateAlike true g s t → (x y : Result Watches Fault) → Both (λ us xs. xs ≡ map (option_map g) us) x y

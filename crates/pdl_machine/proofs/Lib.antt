@@ -14,3 +14,4 @@ pub mod Counted
 pub mod MeaningLemmas
 pub mod RunLemmas
 pub mod SoFar
+pub mod Telling

@@ -6,8 +6,7 @@ use Rattle.pdl_lemmas.specs.Tests.{by_test}
 use Rattle.pdl_world.specs.World.{World, ArrayDef, root, view, Look}
 use Rattle.pdl_world.specs.Sound.{NumbersBelow, IsSound, IsLive, IsAllowed}
 use Rattle.pdl_world.specs.Swept.{holds, parents, kept_onto, sweep}
-use Rattle.pdl_kernel.specs.Kernels.{Kernel}
-use Rattle.pdl_machine.specs.Names.{Named, Names}
+use Rattle.pdl_machine.specs.Names.{KernelTexts, Named, Names}
 use Rattle.pdl_machine.specs.State.{State, held, IsSwept, AreLive, IsWhole}
 use Rattle.pdl_machine.specs.Watches.{Watches, attached}
 use Rattle.pdl_machine.specs.Tidy.{older, with_parent, renumber, renumbered, tidy}
@@ -245,7 +244,7 @@ restored g f ((k, d) ∷ w) hs sound h = by_keeps (λ hs' h'. restored g f w hs'
         record { some = more k d left r.some; kept = r.kept }
 
 -- arrays' names beside these kernels
-abbrev pub named : List (List ℕ × Kernel) → Named ℕ → Names
+abbrev pub named : List (List ℕ × KernelTexts) → Named ℕ → Names
 named ks bound = record { arrays = bound; kernels = ks }
 
 -- names with the new numbers, and then with the former ones

@@ -10,15 +10,15 @@ use Rattle.pdl_world.specs.declared.Trans.{Trans}
 use Rattle.pdl_shape.specs.Places.{write}
 use Rattle.pdl_world.specs.Refused.{NoView, view_refusal}
 use Rattle.pdl_world.specs.World.{World, ArrayDef, root, view, Look, look, set_elements, root_elements, assign as assign_in, assign_through, ty_in, dims_in, elements}
-use Rattle.pdl_world.specs.Cut.{replaced, rooted, reshape, fitted}
+use Rattle.pdl_world.specs.Cut.{breaks, replaced, rooted, reshape, fitted}
 use Rattle.pdl_world.specs.Sound.{NumbersBelow}
 use Rattle.pdl_lexemes.specs.declared.AssignOp.{AssignOp}
 use Rattle.pdl_syntax.specs.Tree.{Tree, Args, number, named, literal, unary, binary, call, none, value, text, of_type}
 use Rattle.pdl_syntax.specs.StatementTree.{StatementTree, bind, bind_list, assign, show, show_text, sever, reshape as reshapes, undef, vars, pp_def, watch, unwatch}
 use Rattle.pdl_machine.specs.declared.fault.Fault.{Fault}
-use Rattle.pdl_machine.specs.declared.fault.Fault.TheVariants.{UnknownName, TooManyNames, TooManyKernels, StillConnected, BadWatcher}
+use Rattle.pdl_machine.specs.declared.fault.Fault.TheVariants.{UnknownName, TooManyNames, TooManyKernels, BadWatcher, ReshapeBreaks, StillWatched}
 use Rattle.pdl_machine.specs.Then.{and_then, or_fault}
-use Rattle.pdl_machine.specs.Names.{Named, Names, found, number_of, with_name, without_name, bound_to, unbind, is_full_for, bind as bind_name, names_limit, kernels_limit}
+use Rattle.pdl_machine.specs.Names.{KernelTexts, Named, Names, found, number_of, with_name, without_name, bound_to, unbind, is_full_for, bind as bind_name, names_limit, kernels_limit}
 use Rattle.pdl_machine.specs.Arrays.{Arrays, array_in, with_new}
 use Rattle.pdl_machine.specs.State.{State, with_arrays}
 use Rattle.pdl_machine.specs.Watches.{Watches, watch_of, attached, padded, attach, detach, is_present}
@@ -26,15 +26,15 @@ use Rattle.pdl_machine.specs.Laws.{AreGrown}
 use Rattle.pdl_machine.specs.Outcome.{array, string, type_word, Given, all_seen, Outcome, made, viewed, Valued, new_root, new_view, view_placed, placed}
 use Rattle.pdl_ops.specs.Elementwise.{unary_each}
 use Rattle.pdl_machine.specs.Operators.{binary_each, values_for}
+use Rattle.pdl_machine.specs.Cuts.{cut, severed, dims_given, reshaped, is_watched}
 use Rattle.pdl_kernel.specs.Kernels.{Kernel}
-use Rattle.pdl_machine.specs.Cuts.{cut, severed, dims_given, is_connected, reshaped}
 use Rattle.pdl_machine.specs.Kernels.{kernel_outputs, defined}
 use Rattle.pdl_machine.specs.Calls.{outcome, Callee, builtin, kernel, callee_of, only_root, several, value_by, call_value}
 use Rattle.pdl_machine.specs.Value.{Taken, known, number_made, value_of, taken}
 use Rattle.pdl_world.specs.Swept.{parents}
 use Rattle.pdl_machine.specs.Step.{Stepped, bind_value, bound, roots_bound, outputs_bound, kernel_named, list_bound, several_bound, target, assigned, assigning, after_printing, severing, reshaping, watching, unwatching, effect}
 use Rattle.pdl_machine.proofs.Numbering.{in_world, AreIn, IsOrderly, bound_in, IsInOrder}
-use Rattle.pdl_machine.proofs.WatchLemmas.{attached_padded}
+use Rattle.pdl_machine.proofs.WatchLemmas.{attached_padded, attached_trimmed}
 
 pub ok_then : {A B : Type 0} (P : A → Type 0) (Q : B → Type 0) (x : Result A Fault) (f : A → Result B Fault) → IfOk x P → ((a : A) → P a → IfOk (f a) Q) → IfOk (and_then x f) Q
 ok_then P Q (Ok a) f h next = next a h
@@ -234,7 +234,7 @@ bind_fine w names x v h here = by_room (is_full_for names_limit names.arrays x)
     by_room false = with_name_in w names.arrays x v h here
 
 -- a kernel leaves the names of arrays
-define_fine : (s : State) (f : List ℕ) (k : Kernel) → IsInOrder s → IfOk (kernel_named s f k) FineStep
+define_fine : (s : State) (f : List ℕ) (k : KernelTexts) → IsInOrder s → IfOk (kernel_named s f k) FineStep
 define_fine s f k order = by_room (is_full_for kernels_limit s.names.kernels f)
   where
     by_room : (b : Bool) → IfOk (and_then (and_then (if b then Err TooManyKernels else Ok (with_name s.names.kernels f k)) (λ kernels. Ok (record s.names { kernels = kernels }))) (λ names. Ok (record s { names = names }, []))) FineStep
@@ -354,11 +354,12 @@ severed_fine a valued fine =
 
 reshaping_fine : (s : State) (v : ℕ) → IsInOrder s → (t : Arrays × List Given) → FineTaken s.arrays t → IfOk (reshaping s v t) FineStep
 reshaping_fine s v order (b, given) fine =
-    ok_always FineStep (dims_given (b, given)) (λ ds. and_then (reshaped s.watches b v ds) (λ a. Ok (with_arrays s a, []))) (λ ds. by_views ds (is_connected s.watches b.world v))
+    ok_always FineStep (dims_given (b, given)) (λ ds. and_then (reshaped s.watches b v ds) (λ a. Ok (with_arrays s a, []))) (λ ds. by_tests ds (breaks b.world v ds) (is_watched s.watches b.world v))
   where
-    by_views : (ds : List ℕ) (x : Bool) → IfOk (and_then (if x then Err StillConnected else Ok (record b { world = reshape b.world v ds })) (λ a. Ok (with_arrays s a, []))) FineStep
-    by_views ds true = tt
-    by_views ds false =
+    by_tests : (ds : List ℕ) (x y : Bool) → IfOk (and_then (if x then Err ReshapeBreaks else if y then Err StillWatched else Ok (record b { world = reshape b.world v ds })) (λ a. Ok (with_arrays s a, []))) FineStep
+    by_tests ds true y = tt
+    by_tests ds false true = tt
+    by_tests ds false false =
         let other : Arrays = record b { world = reshape b.world v ds } in
         state_fine s other order (grows_trans s.arrays b other fine.0 (rooted_fine b v ds (fitted (size_of ds) (elements b.world v)) (self s.arrays b fine.0)))
 
@@ -413,7 +414,9 @@ unwatching_fine s k order = by_slot (is_none (watch_of s.watches k))
   where
     by_slot : (b : Bool) → IfOk (and_then (if b then Err BadWatcher else Ok (detach s.watches k)) (λ ws. Ok (record s { watches = ws }, []))) FineStep
     by_slot true = tt
-    by_slot false = rewatched_fine s order (detach s.watches k) (set_in s.arrays.world s.watches k None order.watched tt)
+    by_slot false =
+        let rest : Watches = slice_set s.watches k None in
+        rewatched_fine s order (detach s.watches k) (subst (AreIn s.arrays.world) (sym (attached_trimmed rest)) (set_in s.arrays.world s.watches k None order.watched tt))
 
 -- the array of a name is there
 pub bound_to_fine : (s : State) (x : List ℕ) → IsInOrder s → IfOk (bound_to s.names x) (λ v. in_world s.arrays.world v ≡ true)

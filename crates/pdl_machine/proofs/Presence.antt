@@ -10,6 +10,7 @@ use Rattle.pdl_syntax.specs.StatementTree.{StatementTree, bind, bind_list, assig
 use Rattle.pdl_io.specs.Counts.{next_count}
 use Rattle.pdl_watch.specs.declared.notice.Notice.{Notice}
 use Rattle.pdl_watch.specs.Slots.{joined, IsBelow}
+use Rattle.pdl_watch.specs.SlotLaws.{BelowItself, BelowTwice}
 use Rattle.pdl_machine.specs.declared.fault.Fault.{Fault}
 use Rattle.pdl_machine.specs.declared.fault.Fault.TheVariants.{BadWatcher}
 use Rattle.pdl_machine.specs.Then.{and_then}
@@ -21,43 +22,31 @@ use Rattle.pdl_machine.specs.Step.{Stepped, Done, left, done, watching, unwatchi
 use Rattle.pdl_machine.specs.Laws.{StepsKeepThere, StepsGiveNone}
 use Rattle.pdl_machine.specs.Reads.{reads}
 use Rattle.pdl_machine.specs.Run.{Terms, Progress, step_read, mark_step, line_of, fault_ends, counted, after, next_step, after_mark, after_marks, start, run}
-use Rattle.pdl_machine.proofs.WatchLemmas.{watch_of_renamed, watch_of-padded}
+use Rattle.pdl_machine.proofs.WatchLemmas.{watch_of_renamed, watch_of-padded, watch_of-trimmed}
 use Rattle.pdl_machine.proofs.Orderly.{ok_always}
 use Rattle.pdl_machine.proofs.Watching.{SameWatches, effect_watches}
 
-pub below_self : (ps : List Bool) → IsBelow ps ps
-below_self [] = tt
-below_self (p ∷ ps) = (λ h. h, below_self ps)
+left_below : BelowItself → (ps : List Bool) (k : ℕ) → IsBelow (slice_set ps k false) ps
+left_below self [] k = tt
+left_below self (p ∷ ps) zero = (λ h. cc, self ps)
+left_below self (p ∷ ps) (suc k) = (λ h. h, left_below self ps k)
 
-pub below_trans : (rs qs ps : List Bool) → IsBelow rs qs → IsBelow qs ps → IsBelow rs ps
-below_trans [] [] [] h k = tt
-below_trans [] [] (p ∷ ps) h k = absurd k
-below_trans [] (q ∷ qs) ps h k = absurd h
-below_trans (r ∷ rs) [] ps h k = absurd h
-below_trans (r ∷ rs) (q ∷ qs) [] h k = absurd k
-below_trans (r ∷ rs) (q ∷ qs) (p ∷ ps) h k = (λ t. k.0 (h.0 t), below_trans rs qs ps h.1 k.1)
+left_is_below : BelowItself → (ps : List Bool) (statement : StatementTree) → IsBelow (left ps statement) ps
+left_is_below self ps (unwatch k) = left_below self ps k
+left_is_below self ps (bind x e severs) = self ps
+left_is_below self ps (bind_list xs e) = self ps
+left_is_below self ps (assign x views sign e) = self ps
+left_is_below self ps (show e is_info) = self ps
+left_is_below self ps (show_text t) = self ps
+left_is_below self ps (sever x) = self ps
+left_is_below self ps (reshape x sizes) = self ps
+left_is_below self ps (undef x) = self ps
+left_is_below self ps vars = self ps
+left_is_below self ps (pp_def f a b) = self ps
+left_is_below self ps (watch x k) = self ps
 
-left_below : (ps : List Bool) (k : ℕ) → IsBelow (slice_set ps k false) ps
-left_below [] k = tt
-left_below (p ∷ ps) zero = (λ h. cc, below_self ps)
-left_below (p ∷ ps) (suc k) = (λ h. h, left_below ps k)
-
-pub left_is_below : (ps : List Bool) (statement : StatementTree) → IsBelow (left ps statement) ps
-left_is_below ps (unwatch k) = left_below ps k
-left_is_below ps (bind x e severs) = below_self ps
-left_is_below ps (bind_list xs e) = below_self ps
-left_is_below ps (assign x views sign e) = below_self ps
-left_is_below ps (show e is_info) = below_self ps
-left_is_below ps (show_text t) = below_self ps
-left_is_below ps (sever x) = below_self ps
-left_is_below ps (reshape x sizes) = below_self ps
-left_is_below ps (undef x) = below_self ps
-left_is_below ps vars = below_self ps
-left_is_below ps (pp_def f a b) = below_self ps
-left_is_below ps (watch x k) = below_self ps
-
-pub steps_give_none : StepsGiveNone
-steps_give_none number present s tree came is = by_effect (effect present s tree) is
+pub steps_give_none : BelowItself → StepsGiveNone
+steps_give_none self number present s tree came is = by_effect (effect present s tree) is
   where
     slots_of : List Bool → Result Done Fault → List Bool
     slots_of other (Ok d) = d.present
@@ -66,7 +55,7 @@ steps_give_none number present s tree came is = by_effect (effect present s tree
     by_effect : (x : Stepped) → and_then x (λ p. Ok (done number present s tree p)) ≡ Ok came → IsBelow came.present present
     by_effect (Ok p) is =
         let e : left present tree ≡ came.present = ap (slots_of present) is in
-        subst (λ (ps : List Bool). IsBelow ps present) e (left_is_below present tree)
+        subst (λ (ps : List Bool). IsBelow ps present) e (left_is_below self present tree)
     by_effect (Err f) is = cc
 
 -- where each attached slot has a watcher, so it is under other numbers
@@ -93,18 +82,25 @@ attached_there present ws j v here there k is =
 none_attached : (o : Option ℕ) → o ≡ None → IsSome o → ⊥
 none_attached o none is = let f : is_some o ≡ false = ap is_some none in cc
 
-freed : (ws : Watches) (j : ℕ) → watch_of (detach ws j) j ≡ None
+freed : (ws : Watches) (j : ℕ) → watch_of (slice_set ws j None) j ≡ None
 freed [] j = refl
 freed (w ∷ ws) zero = refl
 freed (w ∷ ws) (suc j) = freed ws j
+
+-- a slot that is given up isn't attached, and others are as they were
+given_up : (ws : Watches) (j : ℕ) → watch_of (detach ws j) j ≡ None
+given_up ws j = watch_of-trimmed (slice_set ws j None) j ∙ freed ws j
+
+others_stay : (ws : Watches) (j k : ℕ) → k ≢ j → watch_of (detach ws j) k ≡ watch_of ws k
+others_stay ws j k other = watch_of-trimmed (slice_set ws j None) k ∙ get_or-set_other ws j k None None other
 
 -- a slot that is given up is neither attached nor present
 detached_there : (present : List Bool) (ws : Watches) (j : ℕ) → AreThere present ws → AreThere (slice_set present j false) (detach ws j)
 detached_there present ws j there k is =
     let P : Option ℕ → Type 0 = λ o. IsSome o in
     by_test (k == j)
-    (λ same. absurd (none_attached (watch_of (detach ws j) k) (ap (watch_of (detach ws j)) (eqb-true k j same) ∙ freed ws j) is))
-    (λ other. get_or-set_other present j k false false (apart other) ∙ there k (subst P (get_or-set_other ws j k None None (apart other)) is))
+    (λ same. absurd (none_attached (watch_of (detach ws j) k) (ap (watch_of (detach ws j)) (eqb-true k j same) ∙ given_up ws j) is))
+    (λ other. get_or-set_other present j k false false (apart other) ∙ there k (subst P (others_stay ws j k (apart other)) is))
   where
     apart : (k == j) ≡ false → k ≢ j
     apart other same = let t : (k == j) ≡ true = eq-eqb k j same in cc
@@ -201,33 +197,33 @@ told_stays terms p (m ∷ ms) =
     ]
 
 -- what holds of slots by each step holds over statements, whatever faults come
-mark_below : (number : ℕ) (present : List Bool) (s : State) (m : Mark) → IfOk (mark_step number present s m) (λ d. IsBelow d.present present)
-mark_below number present s (statement (Whole cut)) = by_reading (reads cut.text)
+mark_below : BelowItself → (number : ℕ) (present : List Bool) (s : State) (m : Mark) → IfOk (mark_step number present s m) (λ d. IsBelow d.present present)
+mark_below self number present s (statement (Whole cut)) = by_reading (reads cut.text)
   where
     by_step : (tree : StatementTree) (r : Result Done Fault) → step number present s tree ≡ r → IfOk r (λ d. IsBelow d.present present)
-    by_step tree (Ok d) is = steps_give_none number present s tree d is
+    by_step tree (Ok d) is = steps_give_none self number present s tree d is
     by_step tree (Err e) is = tt
 
     by_reading : (r : Result StatementTree Fault) → IfOk (step_read number present s r) (λ d. IsBelow d.present present)
     by_reading (Ok tree) = by_step tree (step number present s tree) refl
     by_reading (Err e) = tt
-mark_below number present s (statement (TooLong line)) = tt
-mark_below number present s (script_too_long line) = tt
+mark_below self number present s (statement (TooLong line)) = tt
+mark_below self number present s (script_too_long line) = tt
 
-pub none_comes : (terms : Terms) (p : Progress) (ms : List Mark) → IsBelow (after_marks terms p ms).present p.present
-none_comes terms p [] = below_self p.present
-none_comes terms p (m ∷ ms) =
+pub none_comes : BelowItself → BelowTwice → (terms : Terms) (p : Progress) (ms : List Mark) → IsBelow (after_marks terms p ms).present p.present
+none_comes self twice terms p [] = self p.present
+none_comes self twice terms p (m ∷ ms) =
     let next : IsBelow (after_marks terms (after_mark terms p m) ms).present p.present =
-    below_trans (after_marks terms (after_mark terms p m) ms).present (after_mark terms p m).present p.present (none_comes terms (after_mark terms p m) ms)
-    (by_result (next_step p m) (mark_below (next_count p.count) p.present p.state m)) in
+    twice (after_marks terms (after_mark terms p m) ms).present (after_mark terms p m).present p.present (none_comes self twice terms (after_mark terms p m) ms)
+    (by_result (next_step p m) (mark_below self (next_count p.count) p.present p.state m)) in
     elim p.ended as (λ b. IsBelow (cond b p (after_marks terms (after_mark terms p m) ms)).present p.present) [
-      | true ↦ below_self p.present
+      | true ↦ self p.present
       | false ↦ next
     ]
   where
     by_result : (r : Result Done Fault) → IfOk r (λ d. IsBelow d.present p.present) → IsBelow (after (fault_ends terms.keep m) (counted p) (line_of m) r).present p.present
     by_result (Ok d) h = h
-    by_result (Err e) h = below_self p.present
+    by_result (Err e) h = self p.present
 
 mark_there : (number : ℕ) (present : List Bool) (s : State) (m : Mark) → AreThere present s.watches → IfOk (mark_step number present s m) (λ d. AreThere d.present d.state.watches)
 mark_there number present s (statement (Whole cut)) there = by_reading (reads cut.text)
@@ -256,8 +252,8 @@ stay_there terms p (m ∷ ms) there =
     by_result (Ok d) h = h
     by_result (Err e) h = there
 
-pub none_comes_in_a_run : (terms : Terms) (script : List ℕ) → IsBelow (run terms script).present terms.present
-none_comes_in_a_run terms script = none_comes terms (start terms) (script_marks script)
+pub none_comes_in_a_run : BelowItself → BelowTwice → (terms : Terms) (script : List ℕ) → IsBelow (run terms script).present terms.present
+none_comes_in_a_run self twice terms script = none_comes self twice terms (start terms) (script_marks script)
 
 pub are_there_in_a_run : (terms : Terms) (script : List ℕ) → AreThere (run terms script).present (run terms script).state.watches
 are_there_in_a_run terms script = stay_there terms (start terms) (script_marks script) (λ k is. absurd (none_attached (watch_of [] k) refl is))

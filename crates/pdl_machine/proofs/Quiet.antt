@@ -2,9 +2,10 @@
 -- there and is watched.
 use Rattle.std.proofs.Common.{◌≡◌, ◌≢◌, ℕ, ◌+◌, ℤ, List, [], ◌∷◌, ◌++◌, length, Bool, true, false, Option, Some, None, Result, Ok, Err, refl, sym, ap, subst, ◌∙◌, eqb-true, eq-eqb, arith}
 use Rattle.std.specs.Prelude.{◌==◌, ◌||◌, if◌then◌else◌, IfOk, IsSomeAnd}
+use Rattle.std.specs.List.{list_any}
+use Rattle.std.proofs.lemmas.Bool.{or_parts}
 use Rattle.std.specs.Ordering.{int_eq}
 use Rattle.std.specs.Option.{option_map_or}
-use Rattle.std.proofs.lemmas.Cmp.{int_eq_equiv}
 use Rattle.std.proofs.lemmas.List.Elements.{All-cons}
 use Rattle.pdl_lemmas.specs.Tests.{by_test}
 use Rattle.pdl_elem.specs.declared.Ty.{Ty}
@@ -13,24 +14,27 @@ use Rattle.pdl_buf.specs.declared.made.Made.{Made}
 use Rattle.pdl_shape.specs.Shape.{size_of}
 use Rattle.pdl_world.specs.World.{World, ArrayDef, root, Look, look, elements, dims_in, ty_in}
 use Rattle.pdl_world.specs.Sound.{IsSound, IsLive}
-use Rattle.pdl_world.specs.Swept.{holds, parents}
-use Rattle.pdl_world.specs.Laws.{OlderStay, OlderElementsStay, NewIsLive}
-use Rattle.pdl_world.specs.Cut.{replaced, sever, reshape, fitted, has_views}
-use Rattle.pdl_world.specs.CutLaws.{CutsLeaveElements, CutsLeaveNumbers, ReshapesLeaveOthers, ReshapesLeaveNumbers}
+use Rattle.pdl_world.specs.Swept.{holds}
+use Rattle.pdl_world.specs.Laws.{OlderStay, OlderElementsStay, OlderPathsStay, NewIsLive}
+use Rattle.pdl_world.specs.Cut.{breaks, replaced, sever, reshape, fitted}
+use Rattle.pdl_world.specs.BreakLaws.{ReshapesLeaveOthers}
+use Rattle.pdl_world.specs.Paths.{path}
+use Rattle.pdl_world.specs.SweepLaws.{IsSeenAsBefore}
+use Rattle.pdl_world.specs.CutLaws.{CutsLeaveElements, CutsLeaveNumbers}
 use Rattle.pdl_syntax.specs.Tree.{Tree, number, named, literal, unary, binary, call}
 use Rattle.pdl_syntax.specs.StatementTree.{StatementTree, bind, bind_list, assign, show, show_text, sever as severs, reshape as reshapes, undef, vars, pp_def, watch, unwatch}
 use Rattle.pdl_watch.specs.declared.notice.Notice.{Notice}
-use Rattle.pdl_watch.specs.Changes.{changes_from, changes}
+use Rattle.pdl_watch.specs.Changes.{SameHaveNoChanges, changes}
 use Rattle.pdl_watch.specs.Slots.{IsQuiet}
 use Rattle.pdl_machine.specs.declared.fault.Fault.{Fault}
-use Rattle.pdl_machine.specs.declared.fault.Fault.TheVariants.{StillConnected}
+use Rattle.pdl_machine.specs.declared.fault.Fault.TheVariants.{ReshapeBreaks, StillWatched}
 use Rattle.pdl_machine.specs.Then.{and_then}
 use Rattle.pdl_machine.specs.Names.{bound_to, unbind, bind as bind_name, define}
 use Rattle.pdl_machine.specs.Arrays.{Arrays}
 use Rattle.pdl_machine.specs.State.{State, with_arrays, held, AreLive, IsWhole}
 use Rattle.pdl_machine.specs.Watches.{Watches, attached, attaching, detaching, notices}
 use Rattle.pdl_machine.specs.Outcome.{Given, all_seen, Valued, new_root}
-use Rattle.pdl_machine.specs.Cuts.{cut, severed, dims_given, is_connected, reshaped}
+use Rattle.pdl_machine.specs.Cuts.{cut, severed, dims_given, is_watched, reshaped}
 use Rattle.pdl_machine.specs.Kernels.{defined}
 use Rattle.pdl_machine.specs.Calls.{Callee, callee_of, several, value_by}
 use Rattle.pdl_machine.specs.Value.{value_of, taken}
@@ -41,15 +45,16 @@ use Rattle.pdl_machine.proofs.Numbering.{in_world, IsOrderly, orderly_sound, bou
 use Rattle.pdl_machine.proofs.Orderly.{ok_then, ok_always, FineValue, FineTaken, grown_self, grown_trans, self, later, value_by_fine, taken_fine, grows_self, state_value_fine, bound_to_fine, orderly_replaced, effect_in_order}
 use Rattle.pdl_machine.proofs.Watching.{SameWatches, effect_watches}
 
--- the laws of worlds that are used here
+-- the laws of worlds, and of their elements, that are used here
 pub record WorldLaws : Type 0 where
   pub older : OlderStay
   pub older_elements : OlderElementsStay
+  pub older_paths : OlderPathsStay
   pub new_live : NewIsLive
   pub cuts : CutsLeaveElements
   pub cut_numbers : CutsLeaveNumbers
   pub reshapes : ReshapesLeaveOthers
-  pub reshape_numbers : ReshapesLeaveNumbers
+  pub unchanged : SameHaveNoChanges
 
 -- two looks alike are of an array that is there in both or in neither
 live_as : (w u : World) (v : ℕ) → look u v ≡ look w v → IsLive w v → IsLive u v
@@ -124,30 +129,25 @@ cut_quiet laws more w v u sound order live = by_test (in_world w v) old new
         let same : replaced w v (root_def ty ds es) ≡ w = replaced_none w v (root_def ty ds es) none in
         root_more laws more w v u ty ds es order (subst (λ (x : World). IsLive x u) (sym same) live) ∙ ap (λ (x : World). elements x u) same
 
-second_false : (a b : Bool) → (a || b) ≡ false → b ≡ false
-second_false true b h = cc
-second_false false b h = h
+-- arrays in front leave the paths of the others
+path_more : WorldLaws → (more w : World) (v : ℕ) → IsOrderly (more ++ w) → IsLive w v → path (more ++ w) v ≡ path w v
+path_more laws [] w v order live = refl
+path_more laws ((k, d) ∷ more) w v order live =
+    laws.older_paths (more ++ w) k v d order.0 (live_as w (more ++ w) v (look_more laws.older more w v order.2 live) live) ∙ path_more laws more w v order.2 live
 
-first_false : (a b : Bool) → (a || b) ≡ false → a ≡ false
-first_false true b h = h
-first_false false b h = refl
-
-fewer_views : (more w : World) (v : ℕ) → has_views (more ++ w) v ≡ false → has_views w v ≡ false
-fewer_views [] w v none = none
-fewer_views (a ∷ more) w v none = fewer_views more w v (second_false (holds (parents a.1) v) (has_views (more ++ w) v) none)
-
--- other dimensions leave the elements of the other arrays
-reshape_quiet : WorldLaws → (more w : World) (v u : ℕ) (ds : List ℕ) → IsSound w → IsOrderly (more ++ w) → IsLive w v → IsLive w u → has_views (more ++ w) v ≡ false → u ≢ v
+-- other dimensions leave the elements of what isn't shown through the array
+reshape_quiet : WorldLaws → (more w : World) (v u : ℕ) (ds : List ℕ) → IsSound w → IsOrderly (more ++ w) → IsLive w v → IsLive w u → holds (path (more ++ w) u) v ≡ false
     → elements (reshape (more ++ w) v ds) u ≡ elements w u
-reshape_quiet laws more w v u ds sound order here live none other =
+reshape_quiet laws more w v u ds sound order here live other =
     let seen : look (more ++ w) v ≡ look w v = look_more laws.older more w v order here in
     let fit : List ℤ → List ℤ = λ es. fitted (size_of ds) es in
     let same : root_def (ty_in (more ++ w) v) ds (fit (elements (more ++ w) v)) ≡ root_def (ty_in w v) ds (fit (elements w v)) =
     all_same (ap (λ (o : Option Look). option_map_or (λ l. l.ty) o Byte) seen) (ap fit (elements_more laws.older laws.older_elements more w v order here)) in
-    let few : has_views w v ≡ false = fewer_views more w v none in
+    let apart : holds (path w u) v ≡ false = ap (λ ps. holds ps v) (sym (path_more laws more w u order live)) ∙ other in
+    let stays : IsSeenAsBefore w (reshape w v ds) u = laws.reshapes w v u ds sound apart in
     ap (λ (d : ArrayDef). elements (replaced (more ++ w) v d) u) same
-    ∙ root_more laws more w v u (ty_in w v) ds (fit (elements w v)) order ((laws.reshape_numbers w v ds sound few).live u live)
-    ∙ (laws.reshapes w v u ds sound few other).elems_are
+    ∙ root_more laws more w v u (ty_in w v) ds (fit (elements w v)) order (live_as w (reshape w v ds) u stays.look_is live)
+    ∙ stays.elems_are
   where
     all_same : {t t' : Ty} {es es' : List ℤ} → t ≡ t' → es ≡ es' → root_def t ds es ≡ root_def t' ds es'
     all_same p s = cc
@@ -238,23 +238,28 @@ severed_keeps laws s whole x (Ok v) fine =
     ok_always (Keeps s) (bind_name s.names x v.1) (λ names. Ok (record s { names = names; arrays = cut v.0 v.1 }, [])) (λ names u h.
     cut_keeps laws s whole v.0 v.1 u fine.2 fine.0.orderly h)
 
--- and after other dimensions, which what is watched is refused
+-- and after other dimensions, which are refused for what a watched array is shown through
+unwatched : (w : World) (us : List ℕ) (v u : ℕ) → list_any (λ k. holds (path w k) v) us ≡ false → holds us u ≡ true → holds (path w u) v ≡ false
+unwatched w [] v u none h = cc
+unwatched w (k ∷ us) v u none h =
+    let parts = or_parts (holds (path w k) v) (list_any (λ j. holds (path w j) v) us) none in
+    by_test (k == u)
+    (λ same. ap (λ x. holds (path w x) v) (sym (eqb-true k u same)) ∙ parts.0)
+    (λ other. let rest : holds us u ≡ true = rw other at h in unwatched w us v u parts.1 rest)
+
 reshaping_keeps : WorldLaws → (s : State) → IsWhole s → (v : ℕ) → in_world s.arrays.world v ≡ true → (t : Arrays × List Given) → FineTaken s.arrays t → IfOk (reshaping s v t) (Keeps s)
 reshaping_keeps laws s whole v here (b, given) fine =
-    ok_always (Keeps s) (dims_given (b, given)) (λ ds. and_then (reshaped s.watches b v ds) (λ a. Ok (with_arrays s a, []))) (λ ds. by_views ds (is_connected s.watches b.world v) refl)
+    ok_always (Keeps s) (dims_given (b, given)) (λ ds. and_then (reshaped s.watches b v ds) (λ a. Ok (with_arrays s a, []))) (λ ds. by_tests ds (breaks b.world v ds) (is_watched s.watches b.world v) refl)
   where
-    apart : (u : ℕ) → holds (attached s.watches) v ≡ false → holds (attached s.watches) u ≡ true → u ≢ v
-    apart u none h same = let t : holds (attached s.watches) v ≡ true = ap (holds (attached s.watches)) (sym same) ∙ h in cc
-
-    by_views : (ds : List ℕ) (x : Bool) → is_connected s.watches b.world v ≡ x
-        → IfOk (and_then (if x then Err StillConnected else Ok (record b { world = reshape b.world v ds })) (λ a. Ok (with_arrays s a, []))) (Keeps s)
-    by_views ds true is = tt
-    by_views ds false is = λ u h.
-        let views : has_views b.world v ≡ false = first_false (has_views b.world v) (holds (attached s.watches) v) is in
-        let free : holds (attached s.watches) v ≡ false = second_false (has_views b.world v) (holds (attached s.watches) v) is in
+    by_tests : (ds : List ℕ) (x y : Bool) → is_watched s.watches b.world v ≡ y
+        → IfOk (and_then (if x then Err ReshapeBreaks else if y then Err StillWatched else Ok (record b { world = reshape b.world v ds })) (λ a. Ok (with_arrays s a, []))) (Keeps s)
+    by_tests ds true y is = tt
+    by_tests ds false true is = tt
+    by_tests ds false false is = λ u h.
+        let apart : holds (path b.world u) v ≡ false = unwatched b.world (attached s.watches) v u is h in
         ap (λ (w : World). elements (reshape w v ds) u) fine.2.is
         ∙ reshape_quiet laws fine.2.more s.arrays.world v u ds whole.sound (subst IsOrderly fine.2.is fine.0.orderly) (sound_live laws s.arrays.world v whole.sound here) (watched_live s whole u h)
-        (ap (λ (w : World). has_views w v) (sym fine.2.is) ∙ views) (apart u free h)
+        (ap (λ (w : World). holds (path w u) v) (sym fine.2.is) ∙ apart)
 
 -- other watches change no array
 rewatched_keeps : (s : State) (x : Result Watches Fault) → IfOk (and_then x (λ ws. Ok (record s { watches = ws }, []))) (Keeps s)
@@ -289,28 +294,23 @@ effect_keeps laws present s whole (pp_def f a b) other =
 effect_keeps laws present s whole (watch x k) other = ok_always (Keeps s) (bound_to s.names x) (watching present s k) (λ v. rewatched_keeps s (attaching present s.watches k v))
 effect_keeps laws present s whole (unwatch k) other = rewatched_keeps s (detaching s.watches k)
 
--- nothing changed between the same elements
-no_changes : (n p : ℕ) (es : List ℤ) → changes_from n p es es ≡ []
-no_changes n p [] = refl
-no_changes n p (e ∷ es) = let same : int_eq e e ≡ true = int_eq_equiv.refl e in rw same (no_changes n (p + 1) es)
-
 abbrev NoNotices : List Notice → Type 0
 NoNotices ns = ns ≡ []
 
-quiet : (n : ℕ) (w new : World) (ws : Watches) → KeepsElements w new ws → IsQuiet (notices n w new ws)
-quiet n w new [] keeps = λ k d lt. absurd (omega arith)
-quiet n w new (None ∷ ws) keeps = All-cons NoNotices [] (notices n w new ws) refl (quiet n w new ws keeps)
-quiet n w new (Some v ∷ ws) keeps =
+quiet : SameHaveNoChanges → (n : ℕ) (w new : World) (ws : Watches) → KeepsElements w new ws → IsQuiet (notices n w new ws)
+quiet same_none n w new [] keeps = λ k d lt. absurd (omega arith)
+quiet same_none n w new (None ∷ ws) keeps = All-cons NoNotices [] (notices n w new ws) refl (quiet same_none n w new ws keeps)
+quiet same_none n w new (Some v ∷ ws) keeps =
     let self : (v == v) ≡ true = eq-eqb v v refl in
     let here : holds (v ∷ attached ws) v ≡ true = rw self refl in
-    let first : changes n (elements w v) (elements new v) ≡ [] = ap (λ (es : List ℤ). changes n (elements w v) es) (keeps v here) ∙ no_changes n 0 (elements w v) in
+    let first : changes n (elements w v) (elements new v) ≡ [] = ap (λ (es : List ℤ). changes n (elements w v) es) (keeps v here) ∙ same_none n (elements w v) in
     All-cons NoNotices (changes n (elements w v) (elements new v)) (notices n w new ws) first
-    (quiet n w new ws (λ u h. keeps u (by_test (v == u) (λ same. rw same refl) (λ other. rw other h))))
+    (quiet same_none n w new ws (λ u h. keeps u (by_test (v == u) (λ same. rw same refl) (λ other. rw other h))))
 
 pub only_assignments_tell : WorldLaws → OnlyAssignmentsTell
 only_assignments_tell laws n present s statement after whole other is =
     let P : Stepped → Type 0 = λ x. IfOk x (Keeps s) in
-    quiet n s.arrays.world after.0.arrays.world after.0.watches (subst P is (effect_keeps laws present s whole statement other))
+    quiet laws.unchanged n s.arrays.world after.0.arrays.world after.0.watches (subst P is (effect_keeps laws present s whole statement other))
 
 -- new arrays leave what is told of those that were there
 pub growing_tells_the_same : OlderStay → OlderElementsStay → GrowingTellsTheSame

@@ -1,8 +1,10 @@
 -- Two worlds that differ in the numbers of their arrays, and in arrays that only one of them has,
 -- show the same.
-use Rattle.std.proofs.Common.{◌≡◌, ◌≢◌, ℕ, ℤ, ◌+◌, ◌≤◌, suc, List, [], ◌∷◌, length, map, Bool, true, false, Option, Some, None, Result, Ok, Err, refl, sym, ap, subst, ◌∙◌, arith, eqb-true, eq-eqb}
+use Rattle.std.proofs.Common.{◌≡◌, ◌≢◌, ℕ, ℤ, ◌+◌, ◌≤◌, List, [], ◌∷◌, length, map, Bool, true, false, Option, Some, None, Result, Ok, Err, refl, sym, ap, subst, ◌∙◌, arith, eqb-true, eq-eqb}
 use Rattle.std.specs.Prelude.{◌==◌, ◌||◌, if◌then◌else◌, option_map, option_and_then}
-use Rattle.std.specs.Option.{option_map_or}
+use Rattle.std.specs.List.{list_any}
+use Rattle.std.specs.Option.{is_none, option_map_or}
+use Rattle.std.proofs.lemmas.List.{length-map}
 use Rattle.pdl_lemmas.specs.Tests.{by_test}
 use Rattle.pdl_elem.specs.declared.Ty.{Ty}
 use Rattle.pdl_elem.specs.declared.Ty.TheVariants.{Byte}
@@ -11,7 +13,7 @@ use Rattle.pdl_world.specs.declared.Trans.{Trans}
 use Rattle.pdl_shape.specs.Places.{read, write}
 use Rattle.pdl_shape.specs.Refusals.{Refusal}
 use Rattle.pdl_shape.specs.Shape.{size_of}
-use Rattle.pdl_world.specs.Cut.{replaced, rooted, sever, reshape, fitted, has_views}
+use Rattle.pdl_world.specs.Cut.{breaks, replaced, rooted, sever, reshape, fitted}
 use Rattle.pdl_world.specs.Formula.{child_dims}
 use Rattle.pdl_world.specs.Paths.{path}
 use Rattle.pdl_world.specs.Refused.{refusal_at, view_refusal}
@@ -106,8 +108,8 @@ ty_renamed g apart {all} {w} {u} r v = ap (λ o. option_map_or (λ l. l.ty) o By
     by_look None = refl
     by_look (Some l) = refl
 
--- paths to the root are as long
-path_renamed : (g : ℕ → ℕ) → IsApart g → {all : Bool} {w u : World} → Renames g all w u → (v : ℕ) → length (path u (g v)) ≡ length (path w v)
+-- paths to the root have the same arrays
+pub path_renamed : (g : ℕ → ℕ) → IsApart g → {all : Bool} {w u : World} → Renames g all w u → (v : ℕ) → path u (g v) ≡ map g (path w v)
 path_renamed g apart empty v = refl
 path_renamed g apart (more {w = w} {u = u} k (root ty ds es) left r) v =
     let e : (k == g v) ≡ false = never g k v left in rw e (path_renamed g apart r v)
@@ -119,7 +121,7 @@ path_renamed g apart (same {w = w} {u = u} i (root ty ds es) r) v =
     (λ other. let e : (g i == g v) ≡ false = same_test g apart i v ∙ other in rw (e, other) (path_renamed g apart r v))
 path_renamed g apart (same {w = w} {u = u} i (view p t) r) v =
     by_test (i == v)
-    (λ is. let e : (g i == g v) ≡ true = same_test g apart i v ∙ is in rw (e, is) (ap suc (path_renamed g apart r p)))
+    (λ is. let e : (g i == g v) ≡ true = same_test g apart i v ∙ is in rw (e, is) (ap (λ (ps : List ℕ). g i ∷ ps) (path_renamed g apart r p)))
     (λ other. let e : (g i == g v) ≡ false = same_test g apart i v ∙ other in rw (e, other) (path_renamed g apart r v))
 
 -- a view is refused alike on a path that is as long
@@ -131,7 +133,7 @@ refusal_at_alike ps qs (Ok dims) even = rw even refl
 pub view_refusal_renamed : (g : ℕ → ℕ) → IsApart g → {all : Bool} {w u : World} → Renames g all w u → (v : ℕ) (t : Trans) → view_refusal u (g v) t ≡ view_refusal w v t
 view_refusal_renamed g apart {all} {w} {u} r v t =
     ap (λ ds. refusal_at (path u (g v)) (child_dims t ds)) (dims_renamed g apart r v)
-    ∙ refusal_at_alike (path u (g v)) (path w v) (child_dims t (dims_in w v)) (path_renamed g apart r v)
+    ∙ refusal_at_alike (path u (g v)) (path w v) (child_dims t (dims_in w v)) (ap length (path_renamed g apart r v) ∙ length-map (path w v) g)
 
 -- the elements of a root are set on both sides
 set_renamed : (g : ℕ → ℕ) → IsApart g → {all : Bool} {w u : World} → Renames g all w u → (v : ℕ) (es : List ℤ) → Renames g all (set_elements w v es) (set_elements u (g v) es)
@@ -181,12 +183,20 @@ reshape_renamed g apart {all} {w} {u} r v ds =
     let Q : List ℤ → Type 0 = λ es. Renames g all (reshape w v ds) (rooted u (g v) ds (fitted (size_of ds) es)) in
     subst Q (sym (elements_renamed g apart r v)) (rooted_renamed g apart r v ds (fitted (size_of ds) (elements w v)))
 
--- where these are all arrays, the same ones have views
-pub has_views_renamed : (g : ℕ → ℕ) → IsApart g → {w u : World} → Renames g true w u → (v : ℕ) → has_views u (g v) ≡ has_views w v
-has_views_renamed g apart empty v = refl
-has_views_renamed g apart (same i (root ty ds es) r) v = has_views_renamed g apart r v
-has_views_renamed g apart (same {w = w} {u = u} i (view p t) r) v =
-    ap (λ b. (b || false) || has_views u (g v)) (same_test g apart p v) ∙ ap (λ b. ((p == v) || false) || b) (has_views_renamed g apart r v)
+-- where these are all arrays, the same ones are seen in other worlds that show the same
+lost_renamed : (g : ℕ → ℕ) {w u : World} → Renames g true w u → (old new : World) → ((v : ℕ) → look new (g v) ≡ option_map (with_root g) (look old v)) → list_any (λ a. is_none (look new a.0)) u ≡ list_any (λ a. is_none (look old a.0)) w
+lost_renamed g empty old new looks = refl
+lost_renamed g (same {w = w} {u = u} i d r) old new looks =
+    ap (λ b. b || list_any (λ a. is_none (look new a.0)) u) (ap is_none (looks i) ∙ none_mapped (look old i))
+    ∙ ap (λ b. is_none (look old i) || b) (lost_renamed g r old new looks)
+  where
+    none_mapped : (o : Option Look) → is_none (option_map (with_root g) o) ≡ is_none o
+    none_mapped None = refl
+    none_mapped (Some l) = refl
+
+-- so the same dimensions break a view
+pub breaks_renamed : (g : ℕ → ℕ) → IsApart g → {w u : World} → Renames g true w u → (v : ℕ) (ds : List ℕ) → breaks u (g v) ds ≡ breaks w v ds
+breaks_renamed g apart {w} {u} r v ds = lost_renamed g r (reshape w v ds) (reshape u (g v) ds) (look_renamed g apart (reshape_renamed g apart r v ds))
 
 -- b has the arrays of a under other numbers, and new arrays get the next numbers in both
 pub record AreAlike (all : Bool) (g : ℕ → ℕ) (a b : Arrays) : Type 0 where

@@ -14,13 +14,12 @@ use Rattle.pdl_machine.specs.declared.fault.Fault.{Fault}
 use Rattle.pdl_machine.specs.declared.fault.Fault.TheVariants.{TooManyNames, TooManyKernels}
 use Rattle.pdl_machine.specs.declared.builtin.Builtin.{Builtin}
 use Rattle.pdl_machine.specs.Then.{and_then}
-use Rattle.pdl_machine.specs.Names.{Named, Names, found, number_of, with_name, is_full_for, bind as bind_name, define, names_limit, kernels_limit}
+use Rattle.pdl_machine.specs.Names.{KernelTexts, Named, Names, found, number_of, with_name, is_full_for, bind as bind_name, define, names_limit, kernels_limit}
 use Rattle.pdl_machine.specs.Arrays.{Arrays, array_in}
 use Rattle.pdl_machine.specs.State.{State, with_arrays}
 use Rattle.pdl_machine.specs.Outcome.{array, string, type_word, Given, Seen, seen, all_seen, Outcome, made, viewed, Valued, new_root, new_view, view_placed, placed}
 use Rattle.pdl_ops.specs.Elementwise.{unary_each}
 use Rattle.pdl_machine.specs.Operators.{binary_each, values_for}
-use Rattle.pdl_kernel.specs.Kernels.{Kernel}
 use Rattle.pdl_machine.specs.Kernels.{kernel_outputs}
 use Rattle.pdl_machine.specs.Calls.{outcome, builtin_value, Callee, builtin, kernel, callee_of, only_root, several, value_by, call_value}
 use Rattle.pdl_machine.specs.Value.{Taken, known, number_made, value_of, taken}
@@ -304,12 +303,12 @@ lines_alike g a b h (n ∷ names) =
     ∙ ap (λ t. name_line b (n.0, g n.1) ++ t) (lines_alike g a b h names)
 
 -- the definition of a kernel on both sides
-pub define_alike : (g : ℕ → ℕ) (s t : State) → StateAlike true g s t → (f : List ℕ) (k : Kernel) → Both (StepAlike g) (kernel_named s f k) (kernel_named t f k)
+pub define_alike : (g : ℕ → ℕ) (s t : State) → StateAlike true g s t → (f : List ℕ) (k : KernelTexts) → Both (StepAlike g) (kernel_named s f k) (kernel_named t f k)
 define_alike g s t h f k =
     let P : Names → Type 0 = λ names. Both (StepAlike g) (kernel_named s f k) (and_then (define names f k) (λ after. Ok (record t { names = after }, []))) in
     subst P (sym h.names) (by_room (is_full_for kernels_limit s.names.kernels f))
   where
-    step_of : State → Names → Result (Named Kernel) Fault → Stepped
+    step_of : State → Names → Result (Named KernelTexts) Fault → Stepped
     step_of u names x = and_then (and_then x (λ kernels. Ok (record names { kernels = kernels }))) (λ after. Ok (record u { names = after }, []))
 
     by_room : (b : Bool) → Both (StepAlike g)

@@ -3,8 +3,7 @@ use Rattle.std.proofs.Common.{◌≡◌, ◌≢◌, ℕ, suc, List, [], ◌∷�
 use Rattle.std.specs.Prelude.{◌==◌, ◌||◌, if◌then◌else◌, option_map}
 use Rattle.pdl_lemmas.specs.Tests.{by_test}
 use Rattle.pdl_world.specs.World.{World, ArrayDef, root, view}
-use Rattle.pdl_kernel.specs.Kernels.{Kernel}
-use Rattle.pdl_machine.specs.Names.{Named, Names}
+use Rattle.pdl_machine.specs.Names.{KernelTexts, Named, Names}
 use Rattle.pdl_machine.specs.State.{State, held}
 use Rattle.pdl_machine.specs.Laws.{LettingGoUnseen, SweepsByFewer}
 use Rattle.pdl_world.specs.Swept.{holds, parents, kept_onto, sweep}
@@ -102,7 +101,7 @@ abbrev pub state_of : Names → World → ℕ → Watches → State
 state_of names w n ws = record { names = names; arrays = record { world = w; next = n }; watches = ws }
 
 -- arrays' names beside kernels
-abbrev beside : Named Kernel → Named ℕ → Names
+abbrev beside : Named KernelTexts → Named ℕ → Names
 beside ks bound = record { arrays = bound; kernels = ks }
 
 -- states that are alike are the same once they are tidied

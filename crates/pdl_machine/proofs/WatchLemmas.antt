@@ -2,7 +2,8 @@
 use Rattle.std.proofs.Common.{◌≡◌, ℕ, zero, suc, ◌+◌, ◌-◌, List, [], ◌∷◌, ◌++◌, map, length, Option, Some, None, refl, sym, ap, ◌∙◌}
 use Rattle.std.specs.Prelude.{option_map, is_none, replicate, slice_set}
 use Rattle.std.proofs.lemmas.List.{map-append, map-set, length-map}
-use Rattle.pdl_machine.specs.Watches.{Watches, watch_of, attached, padded, attach}
+use Rattle.pdl_machine.specs.Laws.{TrimmingAttachesTheSame}
+use Rattle.pdl_machine.specs.Watches.{Watches, watch_of, attached, padded, attach, entry_onto, trimmed, detach}
 
 pub is_none-map : (g : ℕ → ℕ) (o : Option ℕ) → is_none (option_map g o) ≡ is_none o
 is_none-map g None = refl
@@ -63,3 +64,39 @@ watch_of-padded ws n k = with_free ws (n - length ws) k
     with_free [] m k = none_free m k
     with_free (w ∷ us) m zero = refl
     with_free (w ∷ us) m (suc k) = with_free us m k
+
+-- entries behind the last attached slot attach nothing
+entry_attached : (w : Option ℕ) (ws : Watches) → attached (entry_onto w ws) ≡ attached (w ∷ ws)
+entry_attached None [] = refl
+entry_attached None (u ∷ us) = refl
+entry_attached (Some v) ws = refl
+
+pub attached_trimmed : TrimmingAttachesTheSame
+attached_trimmed [] = refl
+attached_trimmed (None ∷ ws) = entry_attached None (trimmed ws) ∙ attached_trimmed ws
+attached_trimmed (Some v ∷ ws) = ap (λ (vs : List ℕ). v ∷ vs) (attached_trimmed ws)
+
+entry_at : (w : Option ℕ) (ws : Watches) (k : ℕ) → watch_of (entry_onto w ws) k ≡ watch_of (w ∷ ws) k
+entry_at None [] zero = refl
+entry_at None [] (suc k) = refl
+entry_at None (u ∷ us) k = refl
+entry_at (Some v) ws k = refl
+
+pub watch_of-trimmed : (ws : Watches) (k : ℕ) → watch_of (trimmed ws) k ≡ watch_of ws k
+watch_of-trimmed [] k = refl
+watch_of-trimmed (w ∷ ws) zero = entry_at w (trimmed ws) zero
+watch_of-trimmed (w ∷ ws) (suc k) = entry_at w (trimmed ws) (suc k) ∙ watch_of-trimmed ws k
+
+entry_renamed : (g : ℕ → ℕ) (w : Option ℕ) (ws : Watches) → entry_onto (option_map g w) (map (option_map g) ws) ≡ map (option_map g) (entry_onto w ws)
+entry_renamed g None [] = refl
+entry_renamed g None (u ∷ us) = refl
+entry_renamed g (Some v) ws = refl
+
+trimmed_renamed : (g : ℕ → ℕ) (ws : Watches) → trimmed (map (option_map g) ws) ≡ map (option_map g) (trimmed ws)
+trimmed_renamed g [] = refl
+trimmed_renamed g (w ∷ ws) = ap (entry_onto (option_map g w)) (trimmed_renamed g ws) ∙ entry_renamed g w (trimmed ws)
+
+-- a slot given up under other numbers
+pub detach_renamed : (g : ℕ → ℕ) (ws : Watches) (k : ℕ) → detach (map (option_map g) ws) k ≡ map (option_map g) (detach ws k)
+detach_renamed g ws k =
+    ap trimmed (sym (map-set (option_map g) ws k None)) ∙ trimmed_renamed g (slice_set ws k None)

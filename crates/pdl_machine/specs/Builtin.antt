@@ -3,6 +3,7 @@ use Rattle.std.specs.Prelude.{ℕ, List, [], ◌∷◌, ◌++◌, codes, Option,
 use Rattle.pdl_elem.specs.Tables.{found_in}
 use Rattle.pdl_elem.specs.Types.{type_named}
 use Rattle.pdl_lemmas.specs.Options.{choose}
+use Rattle.pdl_nice.specs.Nice.{nice_word}
 use Rattle.pdl_ops.specs.declared.fills.Fill.TheVariants.{Zeroes, Ones, Sequence, Xvals, Yvals}
 use Rattle.pdl_reduce.specs.declared.Reduction.TheVariants.{Sumover, Prodover, Maximum, Minimum, MaximumInd, MinimumInd, Cumusumover, Cumuprodover}
 use Rattle.pdl_reduce.specs.declared.Whole.TheVariants.{Sum, Prod, Max, Min, All, Any}
@@ -46,7 +47,7 @@ inquiries =
 -- views
 abbrev pub views : List (List ℕ × Builtin)
 views =
-    (codes "slice", Slice) ∷ (codes "nice", Nice) ∷ (codes "xchg", Arranged Xchg)
+    (codes "slice", Slice) ∷ (nice_word, Nice) ∷ (codes "xchg", Arranged Xchg)
     ∷ (codes "mv", Arranged Mv) ∷ (codes "reorder", Arranged Reorder)
     ∷ (codes "dummy", Arranged Dummy) ∷ (codes "diagonal", Arranged Diagonal)
     ∷ (codes "clump", Arranged Clump)

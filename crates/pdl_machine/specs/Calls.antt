@@ -9,9 +9,8 @@ use Rattle.pdl_machine.specs.Builtin.{builtin_of}
 use Rattle.pdl_machine.specs.Then.{and_then, or_fault}
 use Rattle.pdl_machine.specs.Arrays.{Arrays}
 use Rattle.pdl_machine.specs.Outcome.{Given, Seen, Outcome, Valued, all_seen, new_root, placed}
-use Rattle.pdl_kernel.specs.Kernels.{Kernel}
 use Rattle.pdl_machine.specs.Kernels.{kernel_outputs}
-use Rattle.pdl_machine.specs.Names.{Names, found}
+use Rattle.pdl_machine.specs.Names.{KernelTexts, Names, found}
 use Rattle.pdl_machine.specs.Fills.{fill_outcome}
 use Rattle.pdl_machine.specs.Inquiries.{inquiry_outcome, dim_outcome}
 use Rattle.pdl_machine.specs.Views.{slice_outcome, arrangement_outcome, index_outcome, where_outcome, range_outcome}
@@ -41,10 +40,10 @@ builtin_value b a given = placed a given (outcome b (all_seen a given))
 -- What the name of a call stands for: a built-in call, or a kernel.
 pub data Callee : Type 0 where
   builtin : Builtin → Callee
-  kernel : Kernel → Callee
+  kernel : KernelTexts → Callee
 
 -- built-in calls come first
-abbrev pub callee_among : Option Builtin → Option Kernel → Option Callee
+abbrev pub callee_among : Option Builtin → Option KernelTexts → Option Callee
 callee_among (Some b) k = Some (builtin b)
 callee_among None k = option_map kernel k
 
@@ -74,5 +73,5 @@ value_by a given (builtin b) = builtin_value b a given
 value_by a given (kernel k) = and_then (kernel_outputs k 1 (all_seen a given)) (only_root a)
 
 -- the call of a name with arguments
-abbrev pub call_value : Names → List ℕ → Arrays → List Given → Valued
+abbrev pub call_value : Names → (name : List ℕ) → Arrays → List Given → Valued
 call_value names f a given = and_then (callee_of names f) (value_by a given)

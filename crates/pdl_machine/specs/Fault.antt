@@ -1,7 +1,7 @@
 -- The text of each fault.
 use Rattle.std.specs.Prelude.{ℕ, List, codes}
 use Rattle.pdl_machine.specs.declared.fault.Fault.{Fault}
-use Rattle.pdl_machine.specs.declared.fault.Fault.TheVariants.{Syntax, StatementTooLong, ScriptTooLong, NumberTooLarge, Ragged, TooDeep, UnknownName, UnknownFunction, WrongArguments, TooManyNames, TooManyKernels, BadSlice, OutOfRange, BadDimension, Mismatch, TooLarge, TooManyDims, DivideByZero, EmptyReduce, BadSignature, BadKernel, TooMuchWork, StillConnected, BadWatcher}
+use Rattle.pdl_machine.specs.declared.fault.Fault.TheVariants.{Syntax, StatementTooLong, ScriptTooLong, NumberTooLarge, Ragged, TooDeep, UnknownName, UnknownFunction, WrongArguments, TooManyNames, TooManyKernels, BadSlice, OutOfRange, BadDimension, Mismatch, TooLarge, TooManyDims, DivideByZero, EmptyReduce, BadSignature, BadKernel, TooMuchWork, BadWatcher, ReshapeBreaks, StillWatched}
 
 abbrev pub text_of : Fault → List ℕ
 text_of Syntax = codes "syntax error"
@@ -26,5 +26,6 @@ text_of EmptyReduce = codes "empty reduction"
 text_of BadSignature = codes "bad signature"
 text_of BadKernel = codes "bad kernel"
 text_of TooMuchWork = codes "too much work"
-text_of StillConnected = codes "still connected"
 text_of BadWatcher = codes "bad watcher"
+text_of ReshapeBreaks = codes "reshape breaks a view"
+text_of StillWatched = codes "still watched"

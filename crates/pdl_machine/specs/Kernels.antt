@@ -1,6 +1,6 @@
 -- Kernels: operations that a script defines by a signature and code, and what a call
 -- of one gives (PDL::PP).
-use Rattle.std.specs.Prelude.{ℕ, ◌==◌, Bool, ◌&&◌, List, length, map, Option, Some, None, is_none, if◌then◌else◌, Result, Err}
+use Rattle.std.specs.Prelude.{ℕ, ◌==◌, Bool, ◌&&◌, List, length, map, Option, Some, None, is_none, if◌then◌else◌, Result, Ok, Err}
 use Rattle.std.specs.List.{filter}
 use Rattle.pdl_buf.specs.declared.made.Made.{Made}
 use Rattle.pdl_code.specs.declared.fault.KernelFault.{KernelFault}
@@ -19,6 +19,7 @@ use Rattle.pdl_sig.specs.Resolution.{Unresolved, arg_count, core_mismatch, broad
 use Rattle.pdl_machine.specs.declared.fault.Fault.{Fault}
 use Rattle.pdl_machine.specs.declared.fault.Fault.TheVariants.{WrongArguments, BadSignature, BadKernel, Mismatch, TooManyDims, TooLarge, TooMuchWork, OutOfRange, DivideByZero}
 use Rattle.pdl_machine.specs.Builtin.{builtin_of}
+use Rattle.pdl_machine.specs.Names.{KernelTexts}
 use Rattle.pdl_machine.specs.Then.{and_then, or_fault, all_of}
 use Rattle.pdl_machine.specs.Refused.{or_named}
 use Rattle.pdl_machine.specs.Outcome.{array, string, type_word, Seen}
@@ -51,33 +52,46 @@ array_seen (type_word ty) = None
 abbrev pub outputs_count : Signature → ℕ
 outputs_count signature = length (filter (λ a. is_output a.role) signature.args)
 
--- what a kernel gives for arrays
-abbrev pub called_on : Kernel → List Made → Result (List Made) Fault
-called_on k given =
-    and_then (or_named resolve_fault (resolution k.signature (map shape_of given))) (λ resolved.
-    or_named run_fault (called k resolved given))
-
--- what the call of a kernel gives, of which so many outputs are wanted
-abbrev pub kernel_outputs : Kernel → (wanted : ℕ) → List Seen → Result (List Made) Fault
-kernel_outputs k wanted given =
-    if outputs_count k.signature == wanted
-    then and_then (or_fault WrongArguments (all_of array_seen given)) (called_on k)
-    else Err WrongArguments
-
--- whether a kernel may have this name: a word that is no built-in call and none of the
--- words that name no call
-abbrev pub can_name : List ℕ → Bool
-can_name f = is_word f && is_none (found_in keywords f) && is_none (builtin_of f)
-
 abbrev pub signature_fault : SigFault → Fault
 signature_fault fault = BadSignature
 
 abbrev pub kernel_fault : KernelFault → Fault
 kernel_fault fault = BadKernel
 
--- the kernel that a definition gives, or why it is refused
-abbrev pub defined : (name signature code : List ℕ) → Result Kernel Fault
+-- the kernel that two texts are read as, or why they are none: the signature comes first
+abbrev pub kernel_of : KernelTexts → Result Kernel Fault
+kernel_of texts =
+    and_then (or_named signature_fault (signature_in texts.signature)) (λ s.
+    or_named kernel_fault (kernel_in s texts.code))
+
+-- what a kernel gives for arrays
+abbrev pub called_on : Kernel → List Made → Result (List Made) Fault
+called_on k given =
+    and_then (or_named resolve_fault (resolution k.signature (map shape_of given))) (λ resolved.
+    or_named run_fault (called k resolved given))
+
+-- what a kernel gives for arrays where so many outputs are wanted
+abbrev pub outputs_by : (wanted : ℕ) → List Made → Kernel → Result (List Made) Fault
+outputs_by wanted given k =
+    if outputs_count k.signature == wanted then called_on k given else Err WrongArguments
+
+-- what the call of the kernel of two texts gives, of which so many outputs are wanted
+abbrev pub kernel_outputs : KernelTexts → (wanted : ℕ) → List Seen → Result (List Made) Fault
+kernel_outputs texts wanted given =
+    and_then (or_fault WrongArguments (all_of array_seen given)) (λ arrays.
+    and_then (kernel_of texts) (outputs_by wanted arrays))
+
+-- whether a kernel may have this name: a word that is no built-in call and none of the
+-- words that name no call
+abbrev pub can_name : List ℕ → Bool
+can_name f = is_word f && is_none (found_in keywords f) && is_none (builtin_of f)
+
+abbrev pub texts_of : (signature code : List ℕ) → KernelTexts
+texts_of signature code = record { signature = signature; code = code }
+
+-- the texts of a kernel that a definition gives, or why it is refused
+abbrev pub defined : (name signature code : List ℕ) → Result KernelTexts Fault
 defined f signature code =
-    if can_name f then and_then (or_named signature_fault (signature_in signature)) (λ s.
-    or_named kernel_fault (kernel_in s code))
+    if can_name f then and_then (kernel_of (texts_of signature code)) (λ k.
+    Ok (texts_of signature code))
     else Err WrongArguments

@@ -1,16 +1,22 @@
 -- What holds of every step, whatever numbers its arrays have.
-use Rattle.std.specs.Prelude.{◌≡◌, ℕ, Bool, true, List, ◌++◌, Option, option_map, Ok}
+use Rattle.std.specs.Prelude.{◌≡◌, ℕ, Bool, true, List, ◌++◌, Option, Some, option_map, is_some, All, Ok, ◌⊎◌, []}
+use Rattle.pdl_elem.specs.Tables.{found_in}
 use Rattle.pdl_buf.specs.declared.made.Made.{Made}
 use Rattle.pdl_world.specs.World.{World, ArrayDef}
 use Rattle.pdl_world.specs.Sound.{IsSound}
 use Rattle.pdl_world.specs.Swept.{holds, sweep, Has, IsReached}
+use Rattle.pdl_lexemes.specs.declared.WordKind.TheVariants.{View}
+use Rattle.pdl_lexemes.specs.Lexing.{word_kinds, kind_of_word}
+use Rattle.pdl_nice.specs.Nice.{nice_word}
 use Rattle.pdl_syntax.specs.StatementTree.{StatementTree, assign}
 use Rattle.pdl_watch.specs.Slots.{IsQuiet, IsBelow}
+use Rattle.pdl_machine.specs.declared.builtin.Builtin.TheVariants.{Nice}
+use Rattle.pdl_machine.specs.Builtin.{views, builtin_of}
 use Rattle.pdl_machine.specs.Names.{number_of}
 use Rattle.pdl_machine.specs.Arrays.{Arrays, array_in}
 use Rattle.pdl_machine.specs.State.{State, with_arrays, with_world, held, IsSwept, AreLive, IsWhole}
 use Rattle.pdl_machine.specs.Tidy.{tidy}
-use Rattle.pdl_machine.specs.Watches.{Watches, attached, AreThere, notices}
+use Rattle.pdl_machine.specs.Watches.{Watches, attached, trimmed, AreThere, notices}
 use Rattle.pdl_machine.specs.Step.{Done, effect, step}
 
 -- where nothing is left over, a step from the renumbered state is the step
@@ -61,7 +67,7 @@ TidyingShowsTheSame = (s : State) (x : List ℕ) → IsWhole s → shown_by (tid
 
 -- a statement that assigns
 abbrev pub Assigns : StatementTree → Type 0
-Assigns (assign x views sign e) = Unit {0}
+Assigns (assign x vs sign e) = Unit {0}
 Assigns _ = ⊥
 
 -- watchers are told of assignments alone: of any other statement each slot has no notices
@@ -70,6 +76,16 @@ OnlyAssignmentsTell = (number : ℕ) (present : List Bool) (s : State) (statemen
     (after : State × List ℕ) → IsWhole s → (Assigns statement → ⊥) →
     effect present s statement ≡ Ok after →
     IsQuiet (notices number s.arrays.world after.0.arrays.world after.0.watches)
+
+-- a statement has text or notices, never both
+abbrev pub EitherTextOrNotices : Type 0
+EitherTextOrNotices = (number : ℕ) (present : List Bool) (s : State) (statement : StatementTree)
+    (done : Done) → IsWhole s → step number present s statement ≡ Ok done →
+    (done.text ≡ []) ⊎ IsQuiet done.told
+
+-- entries behind the last attached slot attach nothing
+abbrev pub TrimmingAttachesTheSame : Type 0
+TrimmingAttachesTheSame = (ws : Watches) → attached (trimmed ws) ≡ attached ws
 
 -- what slots are told doesn't depend on new arrays that came before the change
 abbrev pub GrowingTellsTheSame : Type 0
@@ -87,3 +103,10 @@ StepsKeepThere = (number : ℕ) (present : List Bool) (s : State) (statement : S
 abbrev pub StepsGiveNone : Type 0
 StepsGiveNone = (number : ℕ) (present : List Bool) (s : State) (statement : StatementTree)
     (done : Done) → step number present s statement ≡ Ok done → IsBelow done.present present
+
+-- the names of views are the view words of the grammar, which may stand in a target; and the call
+-- that nice slices are written for is one of them
+pub record ViewsAreViewWords : Type 0 where
+  pub words : All (λ v. kind_of_word v.0 ≡ View) views
+  pub named : All (λ w. w.1 ≡ View → is_some (found_in views w.0) ≡ true) word_kinds
+  pub nice : builtin_of nice_word ≡ Some Nice

@@ -2,9 +2,9 @@
 -- of their first definitions.
 use Rattle.std.specs.Prelude.{ℕ, nat_eq, List, [], ◌∷◌, length, nat_lt, Bool, not, ◌&&◌, Option, Some, None, is_none, if◌then◌else◌, Result, Ok, Err}
 use Rattle.std.specs.Cmp.Lexicographic.{pointwise}
+use Rattle.pdl_machine.specs.declared.limits.TheConstants.{MOST_NAMES, MOST_KERNELS}
 use Rattle.pdl_machine.specs.declared.fault.Fault.{Fault}
 use Rattle.pdl_machine.specs.declared.fault.Fault.TheVariants.{UnknownName, TooManyNames, TooManyKernels}
-use Rattle.pdl_kernel.specs.Kernels.{Kernel}
 use Rattle.pdl_machine.specs.Then.{and_then, or_fault}
 
 -- things by their names
@@ -33,26 +33,32 @@ abbrev pub is_full_for : {A : Type 0} → (limit : ℕ) → Named A → List ℕ
 is_full_for limit names x = is_none (found names x) && not (nat_lt (length names) limit)
 
 -- with one of this name, or that there are too many
-abbrev pub entered : {A : Type 0} → (limit : ℕ) → Fault → Named A → List ℕ →
-    A → Result (Named A) Fault
+abbrev pub entered : {A : Type 0} → (limit : ℕ) → (full : Fault) → Named A → (name : List ℕ) → A
+    → Result (Named A) Fault
 entered limit fault names x a = if is_full_for limit names x then Err fault
     else Ok (with_name names x a)
 
--- The numbers of arrays, and kernels, by their names.
+-- The two texts by which a kernel was defined.
+pub record KernelTexts : Type 0 where
+  pub signature : List ℕ
+  pub code : List ℕ
+
+-- The numbers of arrays, and kernels, by their names. A kernel is known by its texts: a call reads
+-- them (`kernel_of`).
 pub record Names : Type 0 where
   pub arrays : Named ℕ
-  pub kernels : Named Kernel
+  pub kernels : Named KernelTexts
 
 abbrev pub nothing_named : Names
 nothing_named = record { arrays = []; kernels = [] }
 
 -- at most so many arrays' names are bound at once
 abbrev pub names_limit : ℕ
-names_limit = 512
+names_limit = MOST_NAMES
 
 -- at most so many kernels are there at once
 abbrev pub kernels_limit : ℕ
-kernels_limit = 256
+kernels_limit = MOST_KERNELS
 
 -- the array of a name, if it is bound
 abbrev pub number_of : Names → List ℕ → Option ℕ
@@ -73,7 +79,7 @@ unbind names x = and_then (bound_to names x) (λ v.
     Ok (record names { arrays = without_name names.arrays x }))
 
 -- the names after the definition of a kernel, or that there are too many
-abbrev pub define : Names → List ℕ → Kernel → Result Names Fault
+abbrev pub define : Names → List ℕ → KernelTexts → Result Names Fault
 define names f k =
     and_then (entered kernels_limit TooManyKernels names.kernels f k) (λ kernels.
     Ok (record names { kernels = kernels }))

@@ -1,9 +1,10 @@
 -- `nice`, the call that a nice slice such as `$x(1:3)` is written for (PDL::NiceSlice): a slice by a
 -- pattern with numbers in place of its `#`. One value of another count than one looks the array up.
-use Rattle.std.specs.Prelude.{ℕ, ℤ, ◌==◌, ◌&&◌, bytes_eq, codes, if◌then◌else◌, List, [], ◌∷◌, ◌++◌, Option, Some, None, is_none, option_map, Result, Err}
+use Rattle.std.specs.Prelude.{ℕ, ℤ, ◌==◌, ◌&&◌, bytes_eq, if◌then◌else◌, List, [], ◌∷◌, ◌++◌, Option, Some, None, is_none, option_map, Result, Err}
 use Rattle.std.specs.Fmt.{signed_decimal}
 use Rattle.pdl_buf.specs.declared.made.Made.{Made}
 use Rattle.pdl_lemmas.specs.Options.{choose}
+use Rattle.pdl_nice.specs.Nice.{mark}
 use Rattle.pdl_machine.specs.declared.fault.Fault.{Fault}
 use Rattle.pdl_machine.specs.declared.fault.Fault.TheVariants.{WrongArguments}
 use Rattle.pdl_machine.specs.Then.{and_then, or_fault}
@@ -21,7 +22,7 @@ unfoldable pub filled_in : (pattern : List ℕ) → List ℤ → Option (List �
 filled_in [] [] = Some []
 filled_in [] (n ∷ ns) = None
 filled_in (c ∷ cs) ns =
-    if c == 35 then number_before ns (filled_in cs)
+    if c == mark then number_before ns (filled_in cs)
     else option_map (λ text. c ∷ text) (filled_in cs ns)
 
 -- a slice by a pattern and its numbers
@@ -36,7 +37,7 @@ slice_in pattern given = and_then (numbers_in given) (slice_by_numbers pattern)
 -- pattern `#` alone
 abbrev pub looking_up : (pattern : List ℕ) → List Seen → Option Made
 looking_up pattern (array ind ∷ []) =
-    if bytes_eq pattern (codes "#") && is_none (only ind.elems) then Some ind else None
+    if bytes_eq pattern (mark ∷ []) && is_none (only ind.elems) then Some ind else None
 looking_up pattern _ = None
 
 -- a pattern and values: they look the array up, or are the numbers of a slice

@@ -43,7 +43,7 @@ pub data Outcome : Type 0 where
 abbrev pub Valued : Type 0
 Valued = Result (Arrays × ℕ) Fault
 
-abbrev pub new_view : Arrays → ℕ → Trans → Option NoView → Valued
+abbrev pub new_view : Arrays → (parent : ℕ) → Trans → Option NoView → Valued
 new_view a v t (Some reason) = Err (view_fault reason)
 new_view a v t None = Ok (with_new a (view v t))
 

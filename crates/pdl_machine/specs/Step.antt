@@ -11,13 +11,12 @@ use Rattle.pdl_watch.specs.declared.notice.Notice.{Notice}
 use Rattle.pdl_machine.specs.declared.fault.Fault.{Fault}
 use Rattle.pdl_machine.specs.declared.fault.Fault.TheVariants.{Syntax}
 use Rattle.pdl_machine.specs.Then.{and_then}
-use Rattle.pdl_machine.specs.Names.{bind as bind_name, unbind, bound_to, define}
+use Rattle.pdl_machine.specs.Names.{KernelTexts, bind as bind_name, unbind, bound_to, define}
 use Rattle.pdl_machine.specs.Arrays.{Arrays, array_in}
 use Rattle.pdl_machine.specs.State.{State, with_arrays}
 use Rattle.pdl_machine.specs.Watches.{attaching, detaching, notices}
 use Rattle.pdl_machine.specs.Outcome.{Given, Valued, all_seen, new_root}
 use Rattle.pdl_machine.specs.Operators.{values_for}
-use Rattle.pdl_kernel.specs.Kernels.{Kernel}
 use Rattle.pdl_machine.specs.Kernels.{defined}
 use Rattle.pdl_machine.specs.Cuts.{cut, severed, dims_given, reshaped}
 use Rattle.pdl_machine.specs.Calls.{Callee, callee_of, several, value_by}
@@ -46,13 +45,14 @@ roots_bound s (x ∷ xs) (m ∷ ms) = and_then (bound s x (new_root s.arrays m))
 roots_bound s _ _ = Ok (s, [])
 
 -- the outputs of a call bound to as many names
-abbrev pub outputs_bound : State → List (List ℕ) → Arrays × List Given → Callee → Stepped
+abbrev pub outputs_bound : State → (names : List (List ℕ)) → Arrays × List Given → Callee → Stepped
 outputs_bound s (x ∷ []) t c = bound s x (value_by t.0 t.1 c)
 outputs_bound s xs t c =
     and_then (several (length xs) (all_seen t.0 t.1) c) (roots_bound (with_arrays s t.0) xs)
 
 -- the outputs of the call of a name bound to names
-abbrev pub list_bound : State → List (List ℕ) → List ℕ → Arrays × List Given → Stepped
+abbrev pub list_bound : State → (names : List (List ℕ)) → (callee : List ℕ) → Arrays × List Given
+    → Stepped
 list_bound s xs f t = and_then (callee_of s.names f) (outputs_bound s xs t)
 
 -- the outputs of a call bound to names in order; nothing else has outputs
@@ -72,13 +72,13 @@ abbrev pub target : List ℕ → List View → Tree
 target x views = fold (λ e v. call v.0 (behind e v.1)) (named x) views
 
 -- the arrays after an assignment of u to v: all values are found before one is written
-abbrev pub assigned : AssignOp → Arrays → ℕ → ℕ → Result Arrays Fault
+abbrev pub assigned : AssignOp → Arrays → (target source : ℕ) → Result Arrays Fault
 assigned sign a v u =
     and_then (values_for sign (array_in a v) (array_in a u)) (λ values.
     Ok (record a { world = assign_in a.world v values }))
 
 -- an assignment: its target, its right side, and then what is written
-abbrev pub assigning : State → Tree → AssignOp → Tree → Stepped
+abbrev pub assigning : State → (target : Tree) → AssignOp → (source : Tree) → Stepped
 assigning s to sign e =
     and_then (value_in s to) (λ v.
     and_then (value_of s.names v.0 e) (λ u.
@@ -101,7 +101,7 @@ abbrev pub name_line : Arrays → List ℕ × ℕ → List ℕ
 name_line a n = n.0 ++ codes " " ++ info_line (array_in a n.1)
 
 -- a kernel defined by this name
-abbrev pub kernel_named : State → List ℕ → Kernel → Stepped
+abbrev pub kernel_named : State → List ℕ → KernelTexts → Stepped
 kernel_named s f k = and_then (define s.names f k) (λ names. Ok (record s { names = names }, []))
 
 -- an array cut from its parent

@@ -28,9 +28,19 @@ padded ws count = ws ++ replicate (count - length ws) None
 abbrev pub attach : Watches → (k v : ℕ) → Watches
 attach ws k v = slice_set (padded ws (k + 1)) k (Some v)
 
+-- without an entry that attaches nothing and stands last
+abbrev pub entry_onto : Option ℕ → Watches → Watches
+entry_onto None [] = []
+entry_onto w ws = w ∷ ws
+
+-- without the entries behind the last slot that is attached
+abbrev pub trimmed : Watches → Watches
+trimmed [] = []
+trimmed (w ∷ ws) = entry_onto w (trimmed ws)
+
 -- with slot k not attached
 abbrev pub detach : Watches → (k : ℕ) → Watches
-detach ws k = slice_set ws k None
+detach ws k = trimmed (slice_set ws k None)
 
 -- whether a slot has a watcher, where `present` says it of each
 abbrev pub is_present : (present : List Bool) → (k : ℕ) → Bool

@@ -7,7 +7,7 @@ use Rattle.pdl_lexemes.specs.declared.AssignOp.TheVariants.{Set}
 use Rattle.pdl_syntax.specs.Tree.{Tree, Args, number, named, literal, unary, call, none, value, text}
 use Rattle.pdl_syntax.specs.StatementTree.{StatementTree, bind, assign, sever, reshape, undef}
 use Rattle.pdl_machine.specs.declared.fault.Fault.{Fault}
-use Rattle.pdl_machine.specs.declared.fault.Fault.TheVariants.{UnknownName, WrongArguments, BadDimension, TooManyDims, TooLarge, StillConnected}
+use Rattle.pdl_machine.specs.declared.fault.Fault.TheVariants.{UnknownName, WrongArguments, BadDimension, TooManyDims, TooLarge, ReshapeBreaks}
 use Rattle.pdl_machine.specs.Then.{and_then}
 use Rattle.pdl_machine.specs.Worked.{after_all, shown_after, sequence_to, sliced}
 
@@ -140,19 +140,31 @@ pub record ANameIsGivenUp : Type 0 where
 abbrev pub reshaped_to : List ℤ → List StatementTree
 reshaped_to ns = bind (codes "x") (sequence_to 4) false ∷ reshape_to (codes "x") ns ∷ []
 
--- the first elements stay in order, and new ones are 0; a view is cut first
+-- $x = sequence(4); $y = $x->slice(..); and then these sizes of $x
+abbrev pub reshaped_below : List ℕ → List ℤ → List StatementTree
+reshaped_below view ns =
+    bind (codes "x") (sequence_to 4) false
+    ∷ bind (codes "y") (sliced (codes "x") view) false
+    ∷ reshape_to (codes "x") ns ∷ []
+
+-- the first elements stay in order, and new ones are 0; a view is cut first, and each view of the
+-- array is derived anew, so a slice -1:0 runs over the whole new dimension
 pub record OtherDimensions : Type 0 where
   pub more : shown_after (reshaped_to (pos 2 ∷ pos 3 ∷ [])) (codes "x")
       ≡ Ok (long_array (2 ∷ 3 ∷ []) (whole_numbers (0 ∷ 1 ∷ 2 ∷ 3 ∷ 0 ∷ 0 ∷ [])))
   pub fewer : shown_after (reshaped_to (pos 3 ∷ [])) (codes "x")
       ≡ Ok (long_array (3 ∷ []) (whole_numbers (0 ∷ 1 ∷ 2 ∷ [])))
   pub cut : live_after (parent_given_up ++ reshape_to (codes "y") (pos 5 ∷ []) ∷ []) ≡ Ok 1
+  pub runs_over : shown_after (reshaped_below (codes "-1:0") (pos 6 ∷ [])) (codes "y")
+      ≡ Ok (long_array (6 ∷ []) (whole_numbers (0 ∷ 0 ∷ 3 ∷ 2 ∷ 1 ∷ 0 ∷ [])))
+  pub deeper : shown_after (reshaped_below (codes "0") (pos 2 ∷ pos 2 ∷ [])) (codes "y")
+      ≡ Ok (long_array (1 ∷ 2 ∷ []) (whole_numbers (0 ∷ 2 ∷ [])))
 
--- $x = sequence(4); $y = $x->slice("0");
+-- $x = sequence(4); $y = $x->slice("3");
 abbrev pub with_a_view : List StatementTree
 with_a_view =
     bind (codes "x") (sequence_to 4) false
-    ∷ bind (codes "y") (sliced (codes "x") (codes "0")) false ∷ []
+    ∷ bind (codes "y") (sliced (codes "x") (codes "3")) false ∷ []
 
 -- what is said of other dimensions for an array with a view
 abbrev pub refused_with_a_view : StatementTree → Result ℕ Fault
@@ -170,9 +182,9 @@ pub record OtherDimensionsAreRefused : Type 0 where
   pub many : refused_with_a_view (reshape_to (codes "x") (replicate 17 (pos 1024)))
       ≡ Err TooManyDims
   pub large : refused_with_a_view (reshape_to (codes "x") (pos 1048577 ∷ [])) ≡ Err TooLarge
-  pub connected : refused_with_a_view (reshape_to (codes "x") (pos 2 ∷ [])) ≡ Err StillConnected
+  pub breaks : refused_with_a_view (reshape_to (codes "x") (pos 2 ∷ [])) ≡ Err ReshapeBreaks
   pub new_view : live_after (bind (codes "x") (sequence_to 4) false ∷ reshape (codes "x")
-      (value none (called (codes "nelem") (sliced (codes "x") (codes "0") ∷ []))) ∷ [])
-      ≡ Err StillConnected
+      (value none (called (codes "nelem") (sliced (codes "x") (codes "3") ∷ []))) ∷ [])
+      ≡ Err ReshapeBreaks
   pub gone : live_after (with_a_view ++ bind (codes "y") (number (pos 1)) false
       ∷ reshape_to (codes "x") (pos 2 ∷ []) ∷ []) ≡ Ok 2

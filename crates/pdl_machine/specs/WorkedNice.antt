@@ -1,6 +1,7 @@
 -- Calls of `nice` worked by hand.
 use Rattle.std.specs.Prelude.{◌≡◌, ℕ, pos, negsuc, List, [], ◌∷◌, false, Option, Some, None, Result, Ok, Err, codes}
 use Rattle.pdl_buf.specs.declared.made.Made.{Made}
+use Rattle.pdl_nice.specs.Nice.{nice_word}
 use Rattle.pdl_lexemes.specs.declared.AssignOp.TheVariants.{Set}
 use Rattle.pdl_syntax.specs.Tree.{Tree, number, named, call, none, value, text}
 use Rattle.pdl_syntax.specs.StatementTree.{bind, assign}
@@ -21,14 +22,14 @@ pub record PatternsAreFilledIn : Type 0 where
 abbrev pub nice_assigned : (pattern : List ℕ) → List Tree → Tree → Result (Option Made) Fault
 nice_assigned pattern es right =
     shown_after (bind (codes "x") (sequence_to 5) false
-    ∷ assign (codes "x") ((codes "nice", args_behind (text none pattern) es) ∷ []) Set right ∷ [])
+    ∷ assign (codes "x") ((nice_word, args_behind (text none pattern) es) ∷ []) Set right ∷ [])
     (codes "x")
 
 -- what `$y` shows after `$x = sequence(5)` and `$y = $x->nice(PATTERN,E1,E2..)`
 abbrev pub nice_shown : (pattern : List ℕ) → List Tree → Result (Option Made) Fault
 nice_shown pattern es =
     shown_after (bind (codes "x") (sequence_to 5) false
-    ∷ bind (codes "y") (call (codes "nice")
+    ∷ bind (codes "y") (call nice_word
     (args_behind (text (value none (named (codes "x"))) pattern) es)) false ∷ []) (codes "y")
 
 -- $x(1:3) .= 9 writes through the slice; $x(1) and $x((1)) keep the dimension, or drop it
@@ -41,7 +42,7 @@ pub record NiceSlicesAreSlices : Type 0 where
       ≡ Ok (long_array [] (whole_numbers (1 ∷ [])))
 
 -- one value of another count than one, alone: $x(pdl [3,0]) .= pdl [7,8] is an `index`, as is a
--- value without elements; one element is a slice's
+-- value without elements
 pub record ValuesLookUp : Type 0 where
   pub two : nice_assigned (codes "#") (pdl (pos 3 ∷ pos 0 ∷ []) ∷ []) (pdl (pos 7 ∷ pos 8 ∷ []))
       ≡ Ok (long_array (5 ∷ []) (whole_numbers (8 ∷ 1 ∷ 2 ∷ 7 ∷ 4 ∷ [])))
@@ -49,7 +50,7 @@ pub record ValuesLookUp : Type 0 where
   pub one : nice_shown (codes "#") (pdl (pos 3 ∷ []) ∷ [])
       ≡ Ok (long_array (1 ∷ []) (whole_numbers (3 ∷ [])))
 
--- the count of numbers comes first, then that each is one, then the slice's text, then the slice
+-- as many numbers as `#`, each of one element, come first; then the slice's text; then the slice
 pub record NiceFaultsInOrder : Type 0 where
   pub fewer : nice_shown (codes "#?") [] ≡ Err WrongArguments
   pub more : nice_shown (codes "") (number (pos 1) ∷ []) ≡ Err WrongArguments

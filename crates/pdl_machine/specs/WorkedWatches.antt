@@ -5,12 +5,12 @@ use Rattle.pdl_syntax.specs.Tree.{number, named, none, text}
 use Rattle.pdl_syntax.specs.StatementTree.{StatementTree, bind, assign, undef, watch, unwatch}
 use Rattle.pdl_watch.specs.declared.notice.Notice.{Notice}
 use Rattle.pdl_machine.specs.declared.fault.Fault.{Fault}
-use Rattle.pdl_machine.specs.declared.fault.Fault.TheVariants.{UnknownName, StillConnected, BadWatcher}
+use Rattle.pdl_machine.specs.declared.fault.Fault.TheVariants.{UnknownName, BadWatcher, ReshapeBreaks, StillWatched}
 use Rattle.pdl_machine.specs.Then.{and_then}
 use Rattle.pdl_machine.specs.Watches.{Watches}
 use Rattle.pdl_machine.specs.Step.{Done}
 use Rattle.pdl_machine.specs.Laws.{shown_by}
-use Rattle.pdl_machine.specs.Worked.{nothing_done, all_done, sequence_to}
+use Rattle.pdl_machine.specs.Worked.{nothing_done, all_done, sequence_to, sliced}
 use Rattle.pdl_machine.specs.WorkedCuts.{long_array, whole_numbers, pdl, reshape_to}
 
 -- what statements come to where these slots have watchers
@@ -75,14 +75,23 @@ pub record AWatchKeepsItsArray : Type 0 where
 -- `unwatch` takes the slot's watcher, and what it was told before stays told
 pub record ASlotIsGivenUp : Type 0 where
   pub slots : slots_after (true ∷ true ∷ []) (one_watched ++ unwatch 0 ∷ [])
-      ≡ Ok (None ∷ [], false ∷ true ∷ [])
+      ≡ Ok ([], false ∷ true ∷ [])
+  pub behind : slots_after (true ∷ true ∷ [])
+      (one_watched ++ watch (codes "x") 1 ∷ unwatch 0 ∷ [])
+      ≡ Ok (None ∷ Some 0 ∷ [], false ∷ true ∷ [])
   pub told : told_by (true ∷ [])
       (one_watched ++ assign (codes "x") [] Set (number (pos 0)) ∷ unwatch 0
       ∷ assign (codes "x") [] Set (number (pos 7)) ∷ [])
       ≡ Ok ((notice 3 1 (pos 1) (pos 0) ∷ notice 3 2 (pos 2) (pos 0) ∷ []) ∷ [])
 
+-- $x = sequence(3); $y = $x->slice("1"); watch $y, 0;
+abbrev pub view_watched : List StatementTree
+view_watched =
+    bind (codes "x") (sequence_to 3) false
+    ∷ bind (codes "y") (sliced (codes "x") (codes "1")) false ∷ watch (codes "y") 0 ∷ []
+
 -- each refusal of watchers: a slot that isn't there, has no watcher or is attached already; one that
--- isn't attached; and other dimensions for an array that is watched
+-- isn't attached; and other dimensions for an array that is watched, or through which one is shown
 pub record WatchersAreRefused : Type 0 where
   pub name : told_by (true ∷ []) (watch (codes "z") 9 ∷ []) ≡ Err UnknownName
   pub no_slot : told_by [] one_watched ≡ Err BadWatcher
@@ -93,4 +102,11 @@ pub record WatchersAreRefused : Type 0 where
   pub again : told_by (true ∷ []) (one_watched ++ unwatch 0 ∷ watch (codes "x") 0 ∷ [])
       ≡ Err BadWatcher
   pub dimensions : told_by (true ∷ []) (one_watched ++ reshape_to (codes "x") (pos 2 ∷ []) ∷ [])
-      ≡ Err StillConnected
+      ≡ Err StillWatched
+  pub below : told_by (true ∷ []) (view_watched ++ reshape_to (codes "x") (pos 3 ∷ []) ∷ [])
+      ≡ Err StillWatched
+  pub breaks_first : told_by (true ∷ [])
+      (view_watched ++ reshape_to (codes "x") (pos 1 ∷ []) ∷ []) ≡ Err ReshapeBreaks
+  pub aside : told_by (true ∷ [])
+      (view_watched ++ bind (codes "z") (sliced (codes "x") (codes "0")) false
+      ∷ reshape_to (codes "z") (pos 3 ∷ []) ∷ []) ≡ Ok ([] ∷ [])

@@ -2,7 +2,7 @@
 ghost use Rattle.std.specs.Prelude.{◌≡◌};
 ghost use Rattle.pdl_machine.specs.Fault.{text_of};
 
-/// Why a statement or a script was refused, in the order of their numbers from 1.
+/// Why a statement or a script was refused, in the order of their numbers: from 1, without 23.
 #[derive(Clone, Copy, PartialEq, Eq, Debug)]
 pub enum Fault {
     /// The text isn't a statement.
@@ -50,10 +50,12 @@ pub enum Fault {
     BadKernel,
     /// One call would do too much work.
     TooMuchWork,
-    /// The array still has views, or is watched.
-    StillConnected,
     /// A slot that has no watcher, or is attached already; or, to finish one, that isn't attached.
     BadWatcher,
+    /// The formula of a view that reaches the array refuses its new dimensions.
+    ReshapeBreaks,
+    /// The array is watched, or one that reaches it is.
+    StillWatched,
 }
 
 /// The text that names the fault in a script's output.
@@ -83,7 +85,8 @@ pub fn fault_text(fault: Fault) -> &'static str
         Fault::BadSignature => "bad signature",
         Fault::BadKernel => "bad kernel",
         Fault::TooMuchWork => "too much work",
-        Fault::StillConnected => "still connected",
         Fault::BadWatcher => "bad watcher",
+        Fault::ReshapeBreaks => "reshape breaks a view",
+        Fault::StillWatched => "still watched",
     }
 }

@@ -4,8 +4,9 @@ ghost use Rattle.pdl_machine.specs.WorkedCuts.{ACutTakesItsViews, ACutGivesPlace
 ghost use Rattle.pdl_machine.specs.WorkedWatches.{AViewTells, AWatchKeepsItsArray, ASlotIsGivenUp, WatchersAreRefused};
 ghost use Rattle.pdl_machine.specs.WorkedNice.{PatternsAreFilledIn, NiceSlicesAreSlices, ValuesLookUp, NiceFaultsInOrder};
 ghost use Rattle.pdl_machine.specs.Laws.{StepsAlike, NewArraysUnseen, LettingGoUnseen, SweepsByFewer, StepsLeaveReached, TidyingShowsTheSame};
-ghost use Rattle.pdl_machine.specs.Laws.{OnlyAssignmentsTell, GrowingTellsTheSame, StepsGiveNone, StepsKeepThere};
+ghost use Rattle.pdl_machine.specs.Laws.{ViewsAreViewWords, OnlyAssignmentsTell, GrowingTellsTheSame, StepsGiveNone, StepsKeepThere, EitherTextOrNotices, TrimmingAttachesTheSame};
 
+use pdl_watch::{change_laws, slot_laws};
 use pdl_world::{cut_laws, growth_laws, reshape_laws};
 
 /// The laws of numbers and of arrays that nothing reaches. Where nothing is left over, a step from
@@ -57,18 +58,24 @@ pub fn worked_watches()
     ensures refused { WatchersAreRefused }
 {}
 
-/// The laws of watchers. Only an assignment tells them anything
-/// (`assignments`), and new arrays that come before its change are not seen in that (`growing`). A step gives no slot a watcher (`none_comes`), and where each attached slot has
-/// one before a step, so it is after it (`there`). The call does nothing when it runs.
+/// The laws of watchers. Only an assignment tells them anything (`assignments`), so a statement has
+/// text or notices, never both (`either`); new arrays that come before its change are not seen in
+/// what it tells (`growing`). A step gives no slot a watcher (`none_comes`), and where each attached
+/// slot has one before a step, so it is after it (`there`). Entries behind the last attached slot
+/// attach nothing (`trimmed`). The call does nothing when it runs.
 pub fn watching_laws()
     ensures assignments { OnlyAssignmentsTell }
+    ensures either { EitherTextOrNotices }
     ensures growing { GrowingTellsTheSame }
     ensures none_comes { StepsGiveNone }
     ensures there { StepsKeepThere }
+    ensures trimmed { TrimmingAttachesTheSame }
 {
     growth_laws();
     cut_laws();
-    reshape_laws()
+    reshape_laws();
+    change_laws();
+    slot_laws()
 }
 
 /// Calls of `nice`, as nice slices are written for them, worked by hand. The call does nothing when
@@ -78,4 +85,11 @@ pub fn worked_nice()
     ensures slices { NiceSlicesAreSlices }
     ensures values { ValuesLookUp }
     ensures faults { NiceFaultsInOrder }
+{}
+
+/// The names of views are the view words of the grammar, which may stand in a target: none more, and
+/// none fewer. The call that nice slices are written for is one of them. The call does nothing when
+/// it runs.
+pub fn view_words()
+    ensures { ViewsAreViewWords }
 {}

@@ -9,12 +9,14 @@
 mod builtin;
 mod fault;
 mod laws;
+mod limits;
 mod reading;
 
 pub use builtin::{Arrangement, Builtin, Inquiry, builtin_named};
 pub use fault::{Fault, fault_text};
 pub use laws::{
-    numbering_laws, reaching_laws, watching_laws, worked_cuts, worked_nice, worked_scripts,
-    worked_watches,
+    numbering_laws, reaching_laws, view_words, watching_laws, worked_cuts, worked_nice,
+    worked_scripts, worked_watches,
 };
+pub use limits::{MOST_KERNELS, MOST_NAMES};
 pub use reading::{reads_law, run_laws, so_far_laws};

@@ -7,6 +7,7 @@ use pdl_lex::settled_laws;
 use pdl_lexemes::brackets_are_counted;
 use pdl_nice::{plain_meaning, texts_stay};
 use pdl_syntax::parsing_is_the_grammar;
+use pdl_watch::slot_laws;
 
 /// What a run reads a text as is what it means (`means`), and it means nothing else (`one`): the one
 /// statement that the grammar spells with the tokens of its plain text, or why it has no plain text,
@@ -47,7 +48,9 @@ pub fn run_laws()
     ensures by_fault { EndedByAFault }
     ensures too_long { TooLongEnds }
     ensures limit { LimitEnds }
-{}
+{
+    slot_laws()
+}
 
 /// How far a run has come by the first bytes of a script: whatever bytes follow, it goes on
 /// from there (`goes_on`), and what it has printed by then is the front of all that it prints

@@ -33,7 +33,7 @@ part_found (something {ws = ws} v) = of_tokens ws v
     of_tokens [] v = absurd (false_true v)
     of_tokens (w ∷ ws) v = value_found (codes "#") (w ∷ ws) v
 
-simple_empty : simple_of [] ≡ Some (read [] [])
+pub simple_empty : simple_of [] ≡ Some (read [] [])
 unfolding simple_of
 simple_empty = refl
 
@@ -187,7 +187,7 @@ arguments_within (more {ws = ws} {vs = vs} {es = es} {fs = fs} c h e k) =
     within_both es fs (length (ws ++ c ∷ vs)) (within_more es (length ws) (length (ws ++ c ∷ vs)) (omega (arith, sum)) (argument_within h))
     (within_more fs (length vs) (length (ws ++ c ∷ vs)) (omega (arith, sum)) (arguments_within k))
 
-each_none : (f : List Written → Option (List Written)) → each f [] ≡ Some []
+pub each_none : (f : List Written → Option (List Written)) → each f [] ≡ Some []
 unfolding each
 each_none f = refl
 

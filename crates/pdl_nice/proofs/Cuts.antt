@@ -147,11 +147,11 @@ value_level (w ∷ ws) e = (both (not (is_star (look w))) (is_level [] (w ∷ ws
 pub is_bar_shut : (l : Look) → l ≡ shuts → is_bar l ≡ true
 is_bar_shut l e = ap is_bar e
 
-open_is : (l : Look) → is_open l ≡ true → l ≡ opens
+pub open_is : (l : Look) → is_open l ≡ true → l ≡ opens
 open_is opens e = refl
 open_is _ e = absurd (false_true e)
 
-shut_is : (l : Look) → is_shut l ≡ true → l ≡ shuts
+pub shut_is : (l : Look) → is_shut l ≡ true → l ≡ shuts
 shut_is shuts e = refl
 shut_is _ e = absurd (false_true e)
 

@@ -19,7 +19,9 @@ use Rattle.pdl_nice.proofs.Adding.{added_behind}
 use Rattle.pdl_lemmas.specs.Options.{some_inj, map_elim}
 use Rattle.std.proofs.lemmas.Bool.{and_parts as both}
 use Rattle.pdl_nice.proofs.Options.{false_true}
-use Rattle.pdl_nice.proofs.Cuts.{cut_sound, cut_found, value_level, is_bar_shut, inner_sound, inner_found}
+use Rattle.pdl_nice.proofs.Cuts.{cut_sound, cut_found, value_level, is_bar_shut, open_is, shut_is, inner_sound, inner_found}
+use Rattle.pdl_nice.proofs.Sound.{star_is}
+use Rattle.pdl_nice.proofs.Complete.{simple_empty}
 use Rattle.pdl_nice.proofs.CutPlaces.{cuts_are_bars}
 use Rattle.pdl_nice.proofs.Ranges.{IsFront, front_is, as_many, look_there, range_none}
 
@@ -102,10 +104,6 @@ dropped_is ws looks from to us r same lt le e h =
           (ap (λ l. not (is_star l)) (sym (look_at ws looks (from + 1) same (omega (arith, last, lt, le, inside))) ∙ ap look first) ∙ start.0);
     })
 
-shut_is : (l : Look) → is_shut l ≡ true → l ≡ shuts
-shut_is shuts e = refl
-shut_is _ e = absurd (false_true e)
-
 value_of_both : (w : Written) (ws : List Written) → not (is_star (look w)) ≡ true → is_level [] (w ∷ ws) ≡ true → is_value (w ∷ ws) ≡ true
 value_of_both w ws h l = rw h l
 
@@ -158,10 +156,6 @@ not_dropped ws looks from to r same lt le e never = of_inner (inner_of (range ws
     of_inner None h = refl
     of_inner (Some us) h = absurd (never (dropped_is ws looks from to us r same lt le e h))
 
-open_is : (l : Look) → is_open l ≡ true → l ≡ opens
-open_is opens e = refl
-open_is _ e = absurd (false_true e)
-
 -- the answer, where `)` may stand at the last place
 pub told : (ws : List Written) (looks : List Look) (from to at : ℕ) (r : Option ℕ) → map look ws ≡ looks → from < to → to ≤ length looks →
     is_open (get_or looks from opens) ≡ true → r ≡ further (from + 1) (bar_len [] (drop (from + 1) looks)) → r ≡ Some at → at ≡ to - 1 →
@@ -190,10 +184,6 @@ dropped_lies ws from to h =
 abbrev pub with_star : Read → Read
 with_star x = read (42 ∷ x.pattern) x.values
 
-star_is : (l : Look) → is_star l ≡ true → l ≡ star
-star_is star e = refl
-star_is _ e = absurd (false_true e)
-
 level_behind : (w : Written) (ws : List Written) → look w ≡ star → is_level [] (w ∷ ws) ≡ true → is_level [] ws ≡ true
 unfolding is_level
 level_behind w ws s l = subst (λ x. (if is_separator x then false else choose false (λ now. is_level now ws) (push [] x)) ≡ true) s l
@@ -217,10 +207,6 @@ pub star_simple : (ws : List Written) (looks : List Look) (from to : ℕ) (o : O
     part_of (range ws (from + 1) to) ≡ o → simple_of (range ws from to) ≡ option_map with_star o
 star_simple ws looks from to o f s e =
     ap simple_of f.is ∙ starred f.w f.rest o (ap is_star f.looks_so ∙ s) (ap part_of f.rest_is ∙ e)
-
-simple_empty : simple_of [] ≡ Some (read [] [])
-unfolding simple_of
-simple_empty = refl
 
 pub simple_nothing : (ws : List Written) (from to : ℕ) → from ≡ to → simple_of (range ws from to) ≡ Some (read [] [])
 simple_nothing ws from to e = ap simple_of (range_none ws from to e) ∙ simple_empty

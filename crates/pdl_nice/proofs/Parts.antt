@@ -73,13 +73,9 @@ third_value ws looks from at x e v = rw x.cut_is (rw (colon_there x e) (rw v ref
 pub no_third : (ws : List Written) (from : ℕ) → cut [] (drop from ws) ≡ None → third_at (drop from ws) ≡ None
 no_third ws from e = rw e refl
 
--- a later place is one behind an earlier place too
+-- where something ends, if it does, is a place between these
 abbrev pub LiesBehind : (from below : ℕ) → Option ℕ → Type 0
 LiesBehind from below end = IfSome end (λ at. (from ≤ at) × (at < below))
-
-pub lies_earlier : (from at below : ℕ) (end : Option ℕ) → from ≤ at → LiesBehind (at + 1) below end → LiesBehind from below end
-lies_earlier from at below None le h = tt
-lies_earlier from at below (Some e) le h = let low = h.0 in (omega (arith, le, low), h.1)
 
 -- what stands behind a part and a colon
 pub spans : (ws : List Written) (from at below : ℕ) (b0 b1 b2 b3 : List ℕ) (o0 o1 o2 : List (ℕ × ℕ)) (x : Read) (end : Option ℕ) (whole rest : Option Front) →

@@ -14,7 +14,7 @@ use Rattle.pdl_lemmas.specs.Options.{some_inj, none_some, map_elim, choose_elim,
 use Rattle.pdl_nice.proofs.Options.{false_true, if_elim}
 use Rattle.pdl_nice.proofs.Cuts.{IsCut, cut_sound, inner_sound}
 
-star_is : (l : Look) → is_star l ≡ true → l ≡ star
+pub star_is : (l : Look) → is_star l ≡ true → l ≡ star
 star_is star e = refl
 star_is _ e = absurd (false_true e)
 

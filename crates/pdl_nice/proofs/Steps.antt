@@ -263,6 +263,3 @@ one_of ws from to first j n m rs now r lie are kept read le lt e f =
 pub value_read : (ws : List Written) (j : ℕ) (rs : List (ℕ × ℕ)) (r : ℕ × ℕ) (v : List Written) → r ≡ get_or rs j r → v ≡ range ws r.0 r.1 →
     v ≡ range ws (get_or rs j r).0 (get_or rs j r).1
 value_read ws j rs r v is e = e ∙ ap (λ q. range ws q.0 q.1) is
-
-pub cut_length : (n : ℕ) (ts : List Token) → n ≤ length ts → n ≡ length (take n ts)
-cut_length n ts le = sym (length-take-le n ts le)

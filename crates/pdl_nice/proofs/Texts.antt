@@ -10,7 +10,7 @@ use Rattle.pdl_nice.specs.Reading.{Front, each, arguments_in, call_before, reade
 use Rattle.pdl_nice.specs.Writing.{onto, text_behind, value_text, values_text, head, AllValues}
 use Rattle.pdl_lemmas.specs.Options.{none_some}
 use Rattle.pdl_nice.proofs.Sound.{arguments_sound, reader_sound}
-use Rattle.pdl_nice.proofs.Complete.{AllWithin, arguments_within, complete, within_head}
+use Rattle.pdl_nice.proofs.Complete.{AllWithin, arguments_within, complete, each_none, within_head}
 
 -- more may be read than there are tokens
 enough : (n m : ℕ) (b : Before) (ws : List Written) → length ws < n → length ws < m → reader n b ws ≡ reader m b ws
@@ -24,17 +24,13 @@ enough n m b ws h l = of_reader (reader n b ws) refl
     of_reader None e = of_other (reader m b ws) refl e
     of_reader (Some us) e = e ∙ sym (complete (reader_sound n b ws us e) m l)
 
-each_end : (f : List Written → Option (List Written)) → each f [] ≡ Some []
-unfolding each
-each_end f = refl
-
 each_step : (f : List Written → Option (List Written)) (e : List Written) (es : List (List Written)) →
     each f (e ∷ es) ≡ option_and_then (λ u. option_map (λ us. u ∷ us) (each f es)) (f e)
 unfolding each
 each_step f e es = refl
 
 all_enough : (n m : ℕ) (es : List (List Written)) → AllWithin es m → m < n → each (reader n another) es ≡ each (become another) es
-all_enough n m [] h lt = each_end (reader n another) ∙ sym (each_end (become another))
+all_enough n m [] h lt = each_none (reader n another) ∙ sym (each_none (become another))
 all_enough n m (e ∷ es) h lt =
     let both = within_head e es m h in
     let le = both.0 in
@@ -96,7 +92,7 @@ listed_is (v ∷ vs) us =
 
 values_are : (es : List (List Written)) → values_text es ≡ option_map listed_text (each (become another) es)
 unfolding listed_text
-values_are [] = sym (ap (option_map listed_text) (each_end (become another)))
+values_are [] = sym (ap (option_map listed_text) (each_none (become another)))
 values_are (e ∷ es) =
     ap (λ o. option_and_then (λ text. onto (44 ∷ text) o) (value_text e)) (values_are es)
     ∙ (of_both (become another e) (each (become another) es) ∙ sym (ap (option_map listed_text) (each_step (become another) e es)))

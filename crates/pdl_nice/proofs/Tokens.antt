@@ -1,15 +1,17 @@
 -- Tokens as they are written have the looks of the tokens.
-use Rattle.std.proofs.Common.{◌≡◌, ℕ, ◌+◌, true, ◌||◌, List, [], ◌∷◌, map, refl, ap, ap₂, if◌then◌else◌}
-use Rattle.std.specs.Prelude.{nat_lt, bytes_eq, codes}
+use Rattle.std.proofs.Common.{◌≡◌, ℕ, zero, suc, ◌+◌, ◌-◌, ◌<◌, ◌≤◌, true, false, ◌||◌, List, [], ◌∷◌, length, get_or, take, drop, map, refl, sym, ◌∙◌, ap, ap₂, if◌then◌else◌, arith}
+use Rattle.std.proofs.lemmas.List.{drop_more, drop_all, get_or-drop, length-drop}
+use Rattle.std.specs.Prelude.{◌==◌, nat_lt, bytes_eq, codes, slice_index_or}
 use Rattle.pdl_lex.specs.declared.Token.{Token}
 use Rattle.pdl_lex.specs.declared.TokenKind.{TokenKind}
 use Rattle.pdl_lex.specs.declared.TokenKind.TheVariants.{Name, Word, Number, Str, Sign}
-use Rattle.pdl_lex.specs.Written.{Written, written}
+use Rattle.pdl_lex.specs.Written.{Written, written, between}
 use Rattle.pdl_lex.specs.Brackets.{Brackets, behind_kind, behind_sign, behind_token, no_brackets, go_deep}
 use Rattle.pdl_nice.specs.declared.looks.Before.{Before}
+use Rattle.pdl_nice.specs.declared.looks.Before.TheVariants.{Other as another}
 use Rattle.pdl_nice.specs.declared.looks.Open.{Open}
 use Rattle.pdl_nice.specs.Looks.{look, look_of, sign_look, before_of, begins_nice}
-use Rattle.pdl_nice.specs.Nice.{has_nice}
+use Rattle.pdl_nice.specs.Nice.{is_open, has_nice}
 use Rattle.pdl_nice.specs.Ends.{token_look, looks_nice, none_open, open_behind, looks_deep}
 use Rattle.pdl_lemmas.specs.Tests.{by_test}
 
@@ -62,3 +64,62 @@ deep_same now (w ∷ ws) =
 
 pub deep_looks : (ws : List Written) → go_deep no_brackets ws ≡ looks_deep none_open (map look ws)
 deep_looks ws = deep_same none_open ws
+
+-- no other sign opens a round bracket
+other_sign : (bytes : List ℕ) → bytes_eq bytes (codes "(") ≡ false → is_open (sign_look bytes) ≡ false
+other_sign bytes no1 =
+    by_test (bytes_eq bytes (codes ")")) (λ is. rw (no1, is) refl)
+    (λ no2. by_test (bytes_eq bytes (codes "[")) (λ is. rw (no1, no2, is) refl)
+    (λ no3. by_test (bytes_eq bytes (codes "]")) (λ is. rw (no1, no2, no3, is) refl)
+    (λ no4. by_test (bytes_eq bytes (codes ",")) (λ is. rw (no1, no2, no3, no4, is) refl)
+    (λ no5. by_test (bytes_eq bytes (codes ":")) (λ is. rw (no1, no2, no3, no4, no5, is) refl)
+    (λ no6. by_test (bytes_eq bytes (codes "*")) (λ is. rw (no1, no2, no3, no4, no5, no6, is) refl)
+    (λ no7. by_test (bytes_eq bytes (codes "->")) (λ is. rw (no1, no2, no3, no4, no5, no6, no7, is) refl)
+    (λ no8. rw (no1, no2, no3, no4, no5, no6, no7, no8) refl)))))))
+
+-- bytes that begin with another one than `(`, or are none
+other_first : (bytes : List ℕ) (n : ℕ) → (0 < length bytes → (get_or bytes 0 0 == 40) ≡ false) → is_open (sign_look (take n bytes)) ≡ false
+other_first [] zero h = refl
+other_first [] (suc n) h = refl
+other_first (b ∷ bytes) zero h = refl
+other_first (b ∷ bytes) (suc n) h = other_sign (b ∷ take n bytes) (rw (h (omega arith)) refl)
+
+-- the same of the bytes from a place on
+pub other_byte : (text : List ℕ) (at to : ℕ) → (at < length text → (get_or text at 0 == 40) ≡ false) → is_open (sign_look (between text at to)) ≡ false
+other_byte text at to h =
+    let same : at + 0 ≡ at = omega arith in
+    let left : length (drop at text) ≡ length text - at = length-drop at text in
+    other_first (drop at text) (to - at)
+    (λ lt. ap (λ b. b == 40) (get_or-drop at text 0 0 ∙ ap (λ n. get_or text n 0) same) ∙ h (omega (arith, lt, left)))
+
+-- what stands where no token is
+abbrev pub absent : Token
+absent = record { kind = Name; from = 0; to = 0 }
+
+-- the token at a place
+abbrev pub token_at : List Token → (at : ℕ) → Token
+token_at ts at = slice_index_or ts at absent
+
+-- what stands before it
+abbrev pub behind_token_at : List ℕ → List Token → (at : ℕ) → Before
+behind_token_at text ts at = before_of (token_look text (token_at ts (at - 1)))
+
+-- the tokens behind the first one
+pub nice_from_second : (text : List ℕ) (ts : List Token) →
+    looks_nice (behind_token_at text ts 1) (map (token_look text) (drop 1 ts)) ≡ looks_nice another (map (token_look text) ts)
+nice_from_second text [] = refl
+nice_from_second text (t ∷ ts) = refl
+
+pub nice_here : (text : List ℕ) (ts : List Token) (at : ℕ) → at < length ts → begins_nice (behind_token_at text ts at) (token_look text (token_at ts at)) ≡ true
+    → looks_nice (behind_token_at text ts at) (map (token_look text) (drop at ts)) ≡ true
+nice_here text ts at lt is =
+    ap (λ us. looks_nice (behind_token_at text ts at) (map (token_look text) us)) (drop_more ts at absent lt) ∙ rw is refl
+
+pub nice_later : (text : List ℕ) (ts : List Token) (at : ℕ) → at < length ts → begins_nice (behind_token_at text ts at) (token_look text (token_at ts at)) ≡ false
+    → looks_nice (behind_token_at text ts (at + 1)) (map (token_look text) (drop (at + 1) ts)) ≡ looks_nice (behind_token_at text ts at) (map (token_look text) (drop at ts))
+nice_later text ts at lt is =
+    let back : at + 1 - 1 ≡ at = omega arith in
+    rw back (sym (ap (λ us. looks_nice (behind_token_at text ts at) (map (token_look text) us)) (drop_more ts at absent lt) ∙ rw is refl))
+
+pub nice_nowhere : (text : List ℕ) (ts : List Token) (at : ℕ) → length ts ≤ at → looks_nice (behind_token_at text ts at) (map (token_look text) (drop at ts)) ≡ false
+nice_nowhere text ts at all = ap (λ us. looks_nice (behind_token_at text ts at) (map (token_look text) us)) (drop_all at ts all)

@@ -9,7 +9,7 @@ use Rattle.pdl_lex.specs.Written.{Written, text_of, between, written, end_behind
 use Rattle.pdl_nice.specs.declared.looks.Before.TheVariants.{Other as another}
 use Rattle.pdl_nice.specs.Reading.{plain_tokens}
 use Rattle.pdl_nice.specs.Writing.{onto, text_behind, end_before}
-use Rattle.pdl_nice.specs.Plain.{NiceRefusal, too_deep, not_nice, too_long, text_or, plain_text, plain_of, refusal_of}
+use Rattle.pdl_nice.specs.Plain.{NiceRefusal, too_deep, too_long, text_or, plain_text, plain_of, refusal_of}
 use Rattle.pdl_lex.specs.Brackets.{no_brackets, go_deep}
 use Rattle.pdl_nice.specs.declared.looks.Look.{Look}
 use Rattle.pdl_nice.specs.declared.NiceFault.{NiceFault}
@@ -38,13 +38,6 @@ text_found : (o : Option (List Written)) (end old now new : List ℕ) → old �
 text_found None end old now new n e f = absurd (none_some e)
 text_found (Some us) end old now new n e f =
     (us, refl, with_end us end ∙ (ap (λ t. t ++ end) (ap (λ x. x ++ text_of us []) (sym n) ∙ some_inj e) ∙ sym f))
-
-pub no_text : (ws : List Written) (end : List ℕ) → text_behind another ws ≡ None → text_or end (plain_tokens ws) ≡ Err not_nice
-no_text ws end e = of_tokens (plain_tokens ws) e
-  where
-    of_tokens : (o : Option (List Written)) → option_map (λ us. text_of us []) o ≡ None → text_or end o ≡ Err not_nice
-    of_tokens None h = refl
-    of_tokens (Some us) h = absurd (none_some (sym h))
 
 pub long_text : (ws : List Written) (end old now new : List ℕ) → old ≡ [] → onto old (text_behind another ws) ≡ Some now → new ≡ now ++ end →
     statement_limit < length new → text_or end (plain_tokens ws) ≡ Err too_long

@@ -82,10 +82,6 @@ unfoldable pub inner_of : List Written → Option (List Written)
 inner_of [] = None
 inner_of (w ∷ ws) = if is_open (look w) then option_and_then if_last (cut [] ws) else None
 
-abbrev pub is_some : {A : Type 0} → Option A → Bool
-is_some None = false
-is_some (Some x) = true
-
 abbrev pub sign : List ℕ → List ℕ → Written
 sign gap bytes = record { gap = gap; kind = Sign; bytes = bytes }
 
@@ -99,10 +95,14 @@ abbrev pub listed : List (List Written) → List Written
 listed [] = sign [] (codes ")") ∷ []
 listed (e ∷ es) = sign [] (codes ",") ∷ (trimmed e ++ listed es)
 
+-- the name of the call that a nice part becomes
+abbrev pub nice_word : List ℕ
+nice_word = codes "nice"
+
 -- the call's name and its arguments
 abbrev pub nice_call : (gap pattern : List ℕ) → List (List Written) → List Written
 nice_call gap p es =
-    record { gap = gap; kind = Word; bytes = codes "nice" } ∷ sign [] (codes "(")
+    record { gap = gap; kind = Word; bytes = nice_word } ∷ sign [] (codes "(")
     ∷ record { gap = []; kind = Str; bytes = 34 ∷ (p ++ 34 ∷ []) } ∷ listed es
 
 -- what is written for a nice part, whose bracket has this before it
@@ -111,29 +111,34 @@ called a_name gap p es = sign gap (codes "->") ∷ nice_call [] p es
 called an_arrow gap p es = nice_call gap p es
 called another gap p es = nice_call gap p es
 
+-- `#`, which stands for an expression in a pattern
+abbrev pub mark : ℕ
+mark = 35
+
 -- a part between colons, with its pattern and its expression
 pub data Part : (pattern : List ℕ) → List (List Written) → List Written → Type 0 where
   nothing : Part [] [] []
-  something : {ws : List Written} → is_value ws ≡ true → Part (codes "#") (ws ∷ []) ws
+  something : {ws : List Written} → is_value ws ≡ true → Part (mark ∷ []) (ws ∷ []) ws
 
 -- an argument of a nice part, with its pattern and its expressions
 pub data Argument : (pattern : List ℕ) → List (List Written) → List Written → Type 0 where
   whole : Argument [] [] []
   dropped : {o : Written} {ws : List Written} (s : Written)
       → look o ≡ opens → is_value ws ≡ true → look s ≡ shuts
-      → Argument (codes "(#)") (ws ∷ []) (o ∷ (ws ++ s ∷ []))
+      → Argument (codes "(" ++ mark ∷ codes ")") (ws ∷ []) (o ∷ (ws ++ s ∷ []))
   one : {ws : List Written} → inner_of ws ≡ None → is_value ws ≡ true
-      → Argument (codes "#") (ws ∷ []) ws
+      → Argument (mark ∷ []) (ws ∷ []) ws
   new : {w : Written} → look w ≡ star → Argument (codes "*") [] (w ∷ [])
   sized : {w : Written} {ws : List Written} → look w ≡ star → is_value ws ≡ true
-      → Argument (codes "*#") (ws ∷ []) (w ∷ ws)
+      → Argument (codes "*" ++ mark ∷ []) (ws ∷ []) (w ∷ ws)
   span : {ws vs : List Written} {p q : List ℕ} {es fs : List (List Written)} (c : Written)
       → Part p es ws → look c ≡ colon → Part q fs vs
       → Argument (p ++ 58 ∷ q) (es ++ fs) (ws ++ c ∷ vs)
   stepped : {ws vs : List Written} {p q : List ℕ} {es fs : List (List Written)}
       (c d : Written) (xs : List Written)
       → Part p es ws → look c ≡ colon → Part q fs vs → look d ≡ colon → is_value xs ≡ true
-      → Argument (p ++ 58 ∷ (q ++ codes ":#")) (es ++ (fs ++ xs ∷ [])) (ws ++ c ∷ (vs ++ d ∷ xs))
+      → Argument (p ++ 58 ∷ (q ++ 58 ∷ mark ∷ [])) (es ++ (fs ++ xs ∷ []))
+      (ws ++ c ∷ (vs ++ d ∷ xs))
 
 -- the arguments of a nice part, with the pattern and the expressions
 pub data Arguments : (pattern : List ℕ) → List (List Written) → List Written → Type 0 where

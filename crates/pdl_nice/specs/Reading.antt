@@ -8,7 +8,7 @@ use Rattle.pdl_nice.specs.Looks.{look, before_of, begins_nice}
 use Rattle.pdl_nice.specs.declared.looks.Before.{Before}
 use Rattle.pdl_nice.specs.declared.looks.Before.TheVariants.{Other as another}
 use Rattle.pdl_lemmas.specs.Options.{choose}
-use Rattle.pdl_nice.specs.Nice.{is_value, is_star, Cut, cut, inner_of, called}
+use Rattle.pdl_nice.specs.Nice.{mark, is_value, is_star, Cut, cut, inner_of, called}
 
 -- a pattern, and what its expressions become
 pub record Read : Type 0 where
@@ -54,15 +54,16 @@ value_of p ws = if is_value ws then Some (read p (ws ∷ [])) else None
 
 unfoldable pub part_of : List Written → Option Read
 part_of [] = Some (read [] [])
-part_of (w ∷ ws) = value_of (codes "#") (w ∷ ws)
+part_of (w ∷ ws) = value_of (mark ∷ []) (w ∷ ws)
 
 abbrev pub starred_of : List Written → Option Read
 starred_of [] = Some (read (codes "*") [])
-starred_of (w ∷ ws) = value_of (codes "*#") (w ∷ ws)
+starred_of (w ∷ ws) = value_of (codes "*" ++ mark ∷ []) (w ∷ ws)
 
 abbrev pub unstarred_of : List Written → Option Read
 unstarred_of ws =
-    choose (value_of (codes "#") ws) (λ us. Some (read (codes "(#)") (us ∷ []))) (inner_of ws)
+    choose (value_of (mark ∷ []) ws)
+    (λ us. Some (read (codes "(" ++ mark ∷ codes ")") (us ∷ []))) (inner_of ws)
 
 -- an argument without a colon
 unfoldable pub simple_of : List Written → Option Read
@@ -73,7 +74,7 @@ simple_of (w ∷ ws) = if is_star (look w) then starred_of ws else unstarred_of 
 abbrev pub third_of : Cut → Option Front
 third_of z =
     if is_colon (look z.bar) then None
-    else option_map (front z.bar z.rest) (value_of (codes "#") z.front)
+    else option_map (front z.bar z.rest) (value_of (mark ∷ []) z.front)
 
 -- the parts behind the first colon
 abbrev pub second_of : Cut → Option Front

@@ -4,7 +4,7 @@ use Rattle.pdl_lex.specs.declared.Token.{Token}
 use Rattle.pdl_lex.specs.Written.{Written, text_of, written}
 use Rattle.pdl_nice.specs.declared.looks.Before.{Before}
 use Rattle.pdl_nice.specs.declared.looks.Before.TheVariants.{Name as a_name, Arrow as an_arrow, Other as another}
-use Rattle.pdl_nice.specs.Nice.{trimmed, is_value}
+use Rattle.pdl_nice.specs.Nice.{nice_word, trimmed, is_value}
 use Rattle.pdl_nice.specs.Reading.{become}
 use Rattle.pdl_nice.specs.Ends.{no_token}
 
@@ -42,9 +42,9 @@ values_text (e ∷ es) = option_and_then (λ text. onto (44 ∷ text) (values_te
 
 -- what stands before the pattern, behind the gap of the bracket
 abbrev pub head : Before → List ℕ
-head a_name = codes "->nice(\""
-head an_arrow = codes "nice(\""
-head another = codes "nice(\""
+head a_name = codes "->" ++ nice_word ++ codes "(\""
+head an_arrow = nice_word ++ codes "(\""
+head another = nice_word ++ codes "(\""
 
 -- each is an expression
 abbrev pub AllValues : List (List Written) → Type 0

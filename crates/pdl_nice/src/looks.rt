@@ -1,10 +1,10 @@
 //! What a token is to nice slices.
 
-ghost use Rattle.std.specs.Prelude.{◌≡◌, ◌+◌, ◌≤◌, ◌<◌, length, map, OnOk};
+ghost use Rattle.std.specs.Prelude.{◌≡◌, ℕ, ◌+◌, ◌≤◌, ◌<◌, false, length, map, OnOk};
 ghost use Rattle.pdl_lex.specs.Written.{between, written};
 ghost use Rattle.pdl_nice.specs.declared.looks.Before.TheVariants.{Other};
 ghost use Rattle.pdl_nice.specs.Looks.{sign_look, look_of, before_of, begins_nice};
-ghost use Rattle.pdl_nice.specs.Nice.{has_nice};
+ghost use Rattle.pdl_nice.specs.Nice.{is_open, has_nice};
 ghost use Rattle.pdl_nice.specs.Ends.{token_look, looks_nice, none_open, open_behind, looks_deep};
 
 use pdl_lex::{Token, TokenKind};
@@ -118,42 +118,59 @@ pub fn begins_nice(before: Before, look: Look) -> bool
     }
 }
 
-// Whether a token behind such a one begins a nice part. Its bytes are looked at behind a name or `->`
-// alone.
-fn begins_part(text: &[u8], before: Before, token: Token) -> bool
-    ensures { result ≡ begins_nice before (token_look text.now token) }
+// Whether a sign that begins at a place may be an opening round bracket. One byte is looked at.
+fn may_open(text: &[u8], at: usize) -> bool
+    ensures { result ≡ false → (to : ℕ) → is_open (sign_look (between text.now at to)) ≡ false }
 {
-    match before {
-        Before::Other => false,
-        Before::Name | Before::Arrow => begins_nice(before, token_look(text, token)),
+    if at >= text.len() {
+        return false;
+    }
+    text[at] == b'('
+}
+
+fn is_bracket(bytes: &[u8]) -> bool
+    ensures { result ≡ is_open (sign_look bytes.now) }
+{
+    match bytes {
+        b"(" => true,
+        _ => false,
     }
 }
 
-// What stands before the token behind this one. The bytes of a sign of one byte aren't looked at.
-fn before_behind(text: &[u8], token: Token) -> Before
-    ensures { result ≡ before_of (token_look text.now token) }
+// Whether a token is an opening round bracket.
+fn opens(text: &[u8], token: &Token) -> bool
+    ensures { result ≡ is_open (token_look text.now token.now) }
 {
     match token.kind {
-        TokenKind::Name => Before::Name,
-        TokenKind::Word | TokenKind::Number | TokenKind::Str => Before::Other,
         TokenKind::Sign => {
-            if token.to.saturating_sub(token.from) < 2 {
-                return Before::Other;
+            if !may_open(text, token.from as usize) {
+                return false;
             }
-            before_of(token_look(text, token))
+            is_bracket(between(text, token.from as usize, token.to as usize))
         }
+        _ => false,
     }
+}
+
+// Whether a token behind this one begins a nice part. What stands before a token is looked at where
+// that is an opening round bracket alone.
+fn begins_part(text: &[u8], before: &Token, token: &Token) -> bool
+    ensures { result ≡ begins_nice (before_of (token_look text.now before.now))
+        (token_look text.now token.now) }
+{
+    if !opens(text, token) {
+        return false;
+    }
+    begins_nice(before_of(token_look(text, *before)), Look::Opens)
 }
 
 fn looks_nice(text: &[u8], tokens: &[Token]) -> bool
     ensures { result ≡ looks_nice Other (map (token_look text.now) tokens.now) }
 {
-    let mut before = Before::Other;
-    for token in tokens {
-        if begins_part(text, before, *token) {
+    for at in 1..tokens.len() {
+        if begins_part(text, &tokens[at - 1], &tokens[at]) {
             return true;
         }
-        before = before_behind(text, *token);
     }
     false
 }

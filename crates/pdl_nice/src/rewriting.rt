@@ -12,11 +12,8 @@ use crate::NiceFault;
 use crate::brackets::closing;
 use crate::looks::{Before, Look, between, goes_deep, read_looks};
 use crate::writing::{end_before, write_tokens};
-use pdl_lex::{Token, tokens_are_spans};
+use pdl_lex::{STATEMENT_LIMIT, Token, tokens_are_spans};
 use std::alloc::{AllocError, Global};
-
-// The most bytes of a statement's text.
-const STATEMENT_LIMIT: usize = 65_536;
 
 /// Lists whose room is kept from one text to the next. What stands in them is of no account.
 #[derive(Drop)]

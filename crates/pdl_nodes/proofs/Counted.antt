@@ -6,7 +6,7 @@ use Rattle.pdl_world.specs.Swept.{holds, parents}
 use Rattle.pdl_nodes.specs.declared.origin.Origin.{Origin}
 use Rattle.pdl_nodes.specs.declared.origin.Origin.TheVariants.{Root, View}
 use Rattle.pdl_nodes.specs.Children.{Noted, noted, one_of, children, AreCounted}
-use Rattle.pdl_nodes.specs.Cut.{derive, derived_in, rooted_in}
+use Rattle.pdl_nodes.specs.Renewed.{Layouts, renewed, renewed_in, rooted_in}
 use Rattle.pdl_nodes.specs.Row.{Row, parent_from, parent_of}
 use Rattle.pdl_nodes.specs.Rows.{Rows, row_at, has, each, without, NumbersBelow, Falls}
 use Rattle.pdl_nodes.specs.Worlds.{def_from, shape}
@@ -33,11 +33,14 @@ pub counted_noted : (a b : Rows) (c d : Noted) → a ≡ b → ((v : ℕ) → no
 counted_noted a b c d e n h v = n v ∙ h v ∙ ap (λ x. children x v) e
 
 -- a view that is derived anew has its parent
-pub derived_parent : (rs : Rows) (u : ℕ) → KeepsParent (derived_in rs u)
-derived_parent rs u k r = elim (eqb_tells k u) [ inl y ↦ rw y.0 (by_origin r.origin) | inr y ↦ rw y.0 refl ] where
-  by_origin : (o : Origin) → parent_of (derive rs u r o) ≡ parent_of r
-  by_origin Root = refl
-  by_origin (View p t y) = refl
+pub renewed_parent : (ls : Layouts) (v : ℕ) (rs : Rows) (u : ℕ) → KeepsParent (renewed_in ls v rs u)
+renewed_parent ls v rs u k r = elim (eqb_tells k u) [ inl y ↦ rw y.0 (by_origin r.origin refl) | inr y ↦ rw y.0 refl ] where
+  by_origin : (o : Origin) → r.origin ≡ o → parent_of (renewed ls rs v u r o) ≡ parent_of r
+  by_origin Root e = refl
+  by_origin (View p t y) e = elim (eqb_tells (row_at rs p).root v) [
+    | inl w ↦ rw w.0 (sym (ap parent_from e))
+    | inr w ↦ rw w.0 refl
+  ]
 
 -- ---- one node more, and one less
 pub counted_joined : (t b : Rows) (id : ℕ) (r : Row) (c d : Noted) (p : Option ℕ) → b ≡ (id, r) ∷ t → p ≡ parent_of r → ((v : ℕ) → noted d v ≡ one_of p v + noted c v) → AreCounted t c → AreCounted b d

@@ -3,9 +3,8 @@ use Rattle.std.proofs.Common.{◌≡◌, ℕ, ◌+◌, ◌<◌, ◌≤◌, true,
 use Rattle.std.proofs.lemmas.Bool.Decides.{eqb_tells, leb_tells}
 use Rattle.slab.specs.Slab.{Slab}
 use Rattle.pdl_nodes.specs.Numbered.{AllAbove, Rises, first_from, value_at}
-use Rattle.pdl_nodes.specs.Cut.{from, or_newer}
 use Rattle.pdl_nodes.specs.Row.{Row}
-use Rattle.pdl_nodes.specs.Rows.{Rows, has, Falls}
+use Rattle.pdl_nodes.specs.Rows.{from, or_newer, Rows, has, Falls}
 use Rattle.pdl_nodes.specs.Table.{rows_of, IsTable}
 use Rattle.pdl_nodes.proofs.Calls.{seen}
 use Rattle.pdl_nodes.proofs.Finds.{has_below, not_newest, below_more}

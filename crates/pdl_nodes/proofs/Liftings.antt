@@ -1,7 +1,7 @@
 -- What is known when the kept elements of a marked view are taken out, while its root is written.
 use Rattle.std.proofs.Common.{◌≡◌, ℕ, ℤ, Bool, true, false, List, [], length, Option, Some, None, is_some, refl, sym, ◌∙◌, ap, subst}
 use Rattle.slab.specs.Slab.{Slab, get, ContainsKey, with_value}
-use Rattle.pdl_buf.specs.Buffer.{TypedElements}
+use Rattle.pdl_numbers.specs.Typed.{TypedElements}
 use Rattle.pdl_nodes.specs.Numbered.{value_at}
 use Rattle.pdl_nodes.specs.Row.{Row, is_buffered, parent_of, places_or}
 use Rattle.pdl_nodes.specs.Rows.{Rows, row_at, has, each}

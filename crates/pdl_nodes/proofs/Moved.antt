@@ -1,13 +1,12 @@
 -- Which views are listed as marked, where rows come to other roots.
-use Rattle.std.proofs.Common.{◌≡◌, ℕ, ℤ, true, false, List, Option, inl, inr, refl, sym, ◌∙◌, ap}
+use Rattle.std.proofs.Common.{◌≡◌, ℕ, ℤ, true, false, List, inl, inr, refl, sym, ◌∙◌, ap}
+use Rattle.std.proofs.lemmas.Bool.{both_ways, cases_eq}
 use Rattle.std.proofs.lemmas.Bool.Decides.{eqb_tells}
-use Rattle.pdl_shape.specs.Triple.{Triple}
 use Rattle.pdl_world.specs.Swept.{holds}
-use Rattle.pdl_world.specs.Windows.{over}
 use Rattle.pdl_nodes.specs.declared.marked.Marked.{Marked}
 use Rattle.pdl_nodes.specs.declared.origin.Origin.{Origin}
 use Rattle.pdl_nodes.specs.declared.origin.Origin.TheVariants.{Root, View}
-use Rattle.pdl_nodes.specs.Cut.{derive, derived_in, rooted_in, view_under}
+use Rattle.pdl_nodes.specs.Renewed.{Layouts, renewed, renewed_in, rooted_in}
 use Rattle.pdl_nodes.specs.Marked.{AreListed, listed}
 use Rattle.pdl_nodes.specs.Row.{Row}
 use Rattle.pdl_nodes.specs.Rows.{Rows, row_at, has, each}
@@ -29,19 +28,29 @@ listed_rooted id ds es t m a = listed_moved (rooted_in id ds es) t m (λ v h k w
   | inr n ↦ rw n.0 (refl, (let e : (row_at t v).mark ≡ true = rw n.0 at k in e))
 ]) a
 
--- a view that is derived anew
-under_is : (k rt b : ℕ) (r : Row) (o : Option Triple) → (view_under k rt b r o).mark ≡ true → ((view_under k rt b r o).root ≡ r.root) × (r.mark ≡ true)
-under_is k rt b r o m = elim (eqb_tells rt r.root) [
-  | inl y ↦ (y.1, (let e : r.mark ≡ true = rw y.0 at m in e))
-  | inr n ↦ (let e : false ≡ true = rw n.0 at m in absurd (cc))
+-- a view that is derived anew isn't marked
+renewed_is : (ls : Layouts) (v : ℕ) (t : Rows) (k : ℕ) (r : Row) (o : Origin) → (renewed ls t v k r o).mark ≡ true → renewed ls t v k r o ≡ r
+renewed_is ls v t k r Root m = refl
+renewed_is ls v t k r (View p u y) m = elim (eqb_tells (row_at t p).root v) [
+  | inl y ↦ (let e : false ≡ true = rw y.0 at m in absurd (cc))
+  | inr n ↦ rw n.0 refl
 ]
 
-derive_is : (t : Rows) (k : ℕ) (r : Row) (o : Origin) → (derive t k r o).mark ≡ true → ((derive t k r o).root ≡ r.root) × (r.mark ≡ true)
-derive_is t k r Root m = (refl, m)
-derive_is t k r (View p u y) m = under_is k (row_at t p).root (row_at t p).base r (over u (row_at t p).triple) m
+renewed_marked : (ls : Layouts) (v : ℕ) (rs : Rows) (u k : ℕ) (r : Row) → (renewed_in ls v rs u k r).mark ≡ true → renewed_in ls v rs u k r ≡ r
+renewed_marked ls v rs u k r m = elim (eqb_tells k u) [
+  | inl y ↦ rw y.0 (renewed_is ls v rs u r r.origin (rw y.0 at m))
+  | inr n ↦ rw n.0 refl
+]
 
-pub listed_derived : (rs : Rows) (u : ℕ) (t : Rows) (m : Marked) → AreListed t m → AreListed (each (derived_in rs u) t) m
-listed_derived rs u t m a = listed_moved (derived_in rs u) t m (λ v h k w. elim (eqb_tells v u) [
-  | inl y ↦ rw y.0 (derive_is rs u (row_at t v) (row_at t v).origin (rw y.0 at k))
-  | inr n ↦ rw n.0 (refl, (let e : (row_at t v).mark ≡ true = rw n.0 at k in e))
-]) a
+pub listed_renewed : (ls : Layouts) (w : ℕ) (rs : Rows) (u : ℕ) (t : Rows) (m : Marked) → AreListed t m → AreListed (each (renewed_in ls w rs u) t) m
+listed_renewed ls w rs u t m a = listed_moved (renewed_in ls w rs u) t m (λ v h k n.
+    let same : renewed_in ls w rs u v (row_at t v) ≡ row_at t v = renewed_marked ls w rs u v (row_at t v) k in
+    (ap (λ (r : Row). r.root) same, ap (λ (r : Row). r.mark) (sym same) ∙ k)) a
+
+-- nothing is listed of a root of whose family no view is marked
+pub listed_unlisted : (t rs : Rows) (id : ℕ) (m n : Marked) → rs ≡ t → ((u : ℕ) → has t u ≡ true → (row_at t u).root ≡ id → (u ≡ id → ⊥) → (row_at t u).mark ≡ false) → ((r : ℕ) → (r ≡ id → ⊥) → listed n r ≡ listed m r) → AreListed rs m → AreListed rs n
+listed_unlisted t rs id m n same none others a = λ v h k w l. elim (cases_eq (row_at rs v).root id) [
+  | inl e ↦ (let q : (row_at t v).mark ≡ false = none v (ap (λ x. has x v) (sym same) ∙ h) (ap (λ x. (row_at x v).root) (sym same) ∙ e) (λ y. w (e ∙ sym y)) in
+      absurd (both_ways (row_at t v).mark q (ap (λ x. (row_at x v).mark) (sym same) ∙ k)))
+  | inr o ↦ ap (λ xs. holds xs v) (others (row_at rs v).root o) ∙ a v h k w l
+]

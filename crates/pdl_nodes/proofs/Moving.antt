@@ -7,7 +7,7 @@ use Rattle.std.proofs.lemmas.Simd.{map-map}
 use Rattle.pdl_shape.specs.Shape.{size_of}
 use Rattle.pdl_shape.specs.Places.{put, write}
 use Rattle.pdl_shape.specs.Triple.{Triple}
-use Rattle.pdl_buf.specs.Window.{place_at}
+use Rattle.pdl_numbers.specs.Shown.{place_at}
 use Rattle.pdl_nodes.specs.Spots.{spots}
 
 -- as many places as values are written

@@ -17,7 +17,7 @@ use Rattle.pdl_nodes.proofs.Seens.{row_older, view_at}
 use Rattle.pdl_nodes.specs.Seen.{IsViewAt, path_from}
 use Rattle.std.proofs.lemmas.Bool.{eq-eqb, ne_eqb}
 
-path_older : (k : ℕ) (d : ArrayDef) (w : World) (v : ℕ) → (k ≡ v → ⊥) → path ((k, d) ∷ w) v ≡ path w v
+pub path_older : (k : ℕ) (d : ArrayDef) (w : World) (v : ℕ) → (k ≡ v → ⊥) → path ((k, d) ∷ w) v ≡ path w v
 path_older k (root ty ds es) w v n = rw (ne_eqb k v n) refl
 path_older k (view p t) w v n = rw (ne_eqb k v n) refl
 

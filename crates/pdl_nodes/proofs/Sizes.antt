@@ -1,17 +1,17 @@
 -- Rows that are alike keep what the types of their arrays keep.
-use Rattle.std.proofs.Common.{◌≡◌, ℕ, true, [], ◌∷◌, Some, refl, sym, ◌∙◌, ap, subst}
+use Rattle.std.proofs.Common.{◌≡◌, ℕ, true, false, [], ◌∷◌, Some, inl, inr, refl, sym, ◌∙◌, ap, subst}
 use Rattle.pdl_shape.specs.Shape.{IsDims}
 use Rattle.pdl_shape.specs.Triple.{IsTriple, Triple}
 use Rattle.pdl_nodes.specs.Alike.{IsAlike}
-use Rattle.pdl_nodes.specs.Cut.{LaidOver}
+use Rattle.pdl_nodes.specs.Joined.{LaidOver}
 use Rattle.pdl_nodes.specs.declared.origin.Origin.{Origin}
 use Rattle.pdl_nodes.specs.declared.origin.Origin.TheVariants.{Root, View}
 use Rattle.pdl_nodes.specs.Row.{Row, parent_from, parent_of}
 use Rattle.pdl_nodes.specs.Rows.{Rows, row_at, has}
-use Rattle.pdl_nodes.specs.Sized.{LaidFrom, AreSized}
+use Rattle.pdl_nodes.specs.Sized.{IsLayout, LaidFrom, AreSized}
 use Rattle.pdl_nodes.specs.Still.{StillFrom, IsStill}
-use Rattle.pdl_nodes.proofs.CutRows.{sized_at}
-use Rattle.pdl_nodes.proofs.Derives.{laid_at}
+use Rattle.pdl_nodes.proofs.Below.{sized_at}
+use Rattle.std.proofs.lemmas.Bool.Decides.{eqb_tells}
 use Rattle.pdl_nodes.proofs.Finds.{not_newest}
 use Rattle.pdl_nodes.proofs.Paths.{parent_live}
 use Rattle.pdl_nodes.proofs.Seens.{row_older, has_older}
@@ -25,6 +25,22 @@ laid_from_over rs (View p t y) f = f p refl
 above_live : (rs : Rows) (k : ℕ) (r : Row) (o : Origin) (p : ℕ) → StillFrom rs k r o → parent_from o ≡ Some p → has rs p ≡ true
 above_live rs k r Root p s e = cc
 above_live rs k r (View q t y) p s e = (let z : q ≡ p = cc in ap (has rs) (sym z) ∙ s.0)
+
+laid_at_from : (rs : Rows) (o : Origin) (p : ℕ) → parent_from o ≡ Some p → LaidFrom rs o → LaidOver o (row_at rs p).triple.dims
+laid_at_from rs Root p e l = tt
+laid_at_from rs (View q t y) p e l = (let z : q ≡ p = cc in let P : ℕ → Type 0 = λ x. IsLayout t (row_at rs x).triple.dims y in subst P z l)
+
+laid_at : (rs : Rows) → IsStill rs → AreSized rs → (u p : ℕ) → has rs u ≡ true → parent_of (row_at rs u) ≡ Some p → LaidOver (row_at rs u).origin (row_at rs p).triple.dims
+laid_at [] s z u p h e = (let q : false ≡ true = h in absurd (cc))
+laid_at ((k, r) ∷ rs) s z u p h e = elim (eqb_tells k u) [
+  | inl t ↦ (let f : parent_of r ≡ Some p = rw t.0 at e in
+      let g : has rs p ≡ true = above_live rs k r r.origin p s.1 f in
+      rw (t.0, row_older k r rs p (not_newest rs k p s.0 g)) (laid_at_from rs r.origin p f z.0.laid))
+  | inr t ↦ (let f : parent_of (row_at rs u) ≡ Some p = rw t.0 at e in
+      let l : has rs u ≡ true = rw t.0 at h in
+      let g : has rs p ≡ true = (parent_live rs u p s.2 l f).0 in
+      rw (t.0, row_older k r rs p (not_newest rs k p s.0 g)) (laid_at rs s.2 z.1 u p l f))
+]
 
 sized_points : (rs : Rows) → IsStill rs → ((v : ℕ) → has rs v ≡ true → IsWithinLimits (row_at rs v)) → ((u p : ℕ) → has rs u ≡ true → parent_of (row_at rs u) ≡ Some p → LaidOver (row_at rs u).origin (row_at rs p).triple.dims) → AreSized rs
 sized_points [] s w l = tt

@@ -1,11 +1,11 @@
 -- The rows of new views are derived of their parents.
-use Rattle.std.proofs.Common.{◌≡◌, ℕ, false, cond, eqb, List, [], Option, None, Ok, refl, sym, ◌∙◌, ap, subst}
+use Rattle.std.proofs.Common.{◌≡◌, ℕ, false, List, [], Option, None, Ok, refl, sym, ◌∙◌, ap, subst}
 use Rattle.pdl_elem.specs.declared.Ty.{Ty}
 use Rattle.pdl_affine.specs.Views as affine
 use Rattle.pdl_choice.specs.declared.answers.Choice.{Choice as Chosen}
 use Rattle.pdl_shape.specs.Places.{places_of}
 use Rattle.pdl_shape.specs.Shape.{IsDims}
-use Rattle.pdl_shape.specs.Triple.{IsTriple, Triple, whole_triple}
+use Rattle.pdl_shape.specs.Triple.{IsTriple, Triple}
 use Rattle.pdl_world.specs.declared.Trans.{Trans}
 use Rattle.pdl_world.specs.declared.Trans.TheVariants as trans
 use Rattle.pdl_world.specs.Formula.{child_dims, source}
@@ -13,17 +13,17 @@ use Rattle.pdl_world.specs.Windows.{over}
 use Rattle.pdl_nodes.specs.declared.origin.Layout.{Layout}
 use Rattle.pdl_nodes.specs.declared.origin.Layout.TheVariants.{Plan, Choice}
 use Rattle.pdl_nodes.specs.declared.origin.Origin.TheVariants.{View}
-use Rattle.pdl_nodes.specs.Cut.{view_under}
 use Rattle.pdl_nodes.specs.Row.{Row}
 use Rattle.pdl_nodes.specs.Sized.{IsChosen, IsLayout, HasDims}
-use Rattle.pdl_nodes.specs.Still.{own_places, triple_over, IsOwn, IsLaid, IsDerived}
-use Rattle.pdl_nodes.proofs.CutRows.{LawsBelow, triple_like}
+use Rattle.pdl_nodes.specs.declared.origin.Origin.{Origin}
+use Rattle.pdl_nodes.specs.Still.{base_over, own_places, triple_over, IsOwn, IsLaid, IsDerived}
+use Rattle.pdl_nodes.proofs.Below.{LawsBelow, triple_like}
 use Rattle.pdl_nodes.proofs.Laid.{ViewLaws, is_whole, laid_affine}
-use Rattle.pdl_nodes.specs.Joined.{IsNewView}
-use Rattle.std.proofs.lemmas.Bool.{eq-eqb}
+use Rattle.pdl_nodes.specs.Joined.{IsNewView, dims_or, view_row}
+use Rattle.pdl_nodes.specs.Renewed.{Fits}
 
 -- the dimensions of a layout are the view's
-allowed : (t : Trans) (parent ds : List ℕ) (y : Layout) → IsLayout t parent y → HasDims y ds → child_dims t parent ≡ Ok ds
+pub allowed : (t : Trans) (parent ds : List ℕ) (y : Layout) → IsLayout t parent y → HasDims y ds → child_dims t parent ≡ Ok ds
 allowed (trans.Affine t) parent ds (Plan p) l d = ap (λ x. affine.dims x parent) (sym l.0) ∙ ap (affine.dims p.trans) (sym l.1) ∙ d
 allowed (trans.Affine t) parent ds (Choice c) l d = absurd l
 allowed (trans.Index is ind) parent ds (Plan p) l d = absurd l
@@ -51,62 +51,47 @@ laid laws (trans.Where is ps) above ds (Choice c) i l d = chosen laws (trans.Whe
 laid laws (trans.Range is ind ss edge) above ds (Plan p) i l d = absurd l
 laid laws (trans.Range is ind ss edge) above ds (Choice c) i l d = chosen laws (trans.Range is ind ss edge) above ds c l d
 
--- the row of a view before it is shown over the base of its parent
-abbrev own_row : (k p : ℕ) (t : Trans) (y : Layout) (a : Row) (ds : List ℕ) → Row
-own_row k p t y a ds = record {
-  origin = View p t y;
-  ty = a.ty;
-  root = a.root;
-  base = k;
-  triple = whole_triple ds;
-  kept = [];
-  mark = false;
-  repeats = false;
-  places = None;
-  waiting = None;
-}
+-- the dimensions that a layout gives
+pub dims_are : (t : Trans) (parent ds : List ℕ) (y : Layout) → IsLayout t parent y → HasDims y ds → dims_or (child_dims t parent) ≡ ds
+dims_are t parent ds y l d = ap dims_or (allowed t parent ds y l d)
 
-no_mark : (a : ℕ) → cond (eqb a a) false false ≡ false
-no_mark a = rw (eq-eqb a a refl) refl
-
-no_places : (a : ℕ) (o : Option (List (Option ℕ))) → cond (eqb a a) o o ≡ o
-no_places a o = rw (eq-eqb a a refl) refl
-
--- a new view is derived of its parent
-new_view_row : LawsBelow → (k p : ℕ) (t : Trans) (y : Layout) (a : Row) (ds : List ℕ) → IsTriple a.triple → IsLayout t a.triple.dims y → HasDims y ds → IsDims ds
-    → IsNewView k p t a (view_under k a.root a.base (own_row k p t y a ds) (over t a.triple))
-new_view_row laws k p t y a ds i l d s =
+-- a view whose layout fits is derived of its parent
+pub new_view : LawsBelow → (k p : ℕ) (t : Trans) (y : Layout) (a : Row) → IsTriple a.triple → Fits t a.triple.dims y → IsNewView k p t a (view_row k p t y a)
+new_view laws k p t y a i f =
     let o : Option Triple = over t a.triple in
-    let ok : child_dims t a.triple.dims ≡ Ok ds = allowed t a.triple.dims ds y l d in
-    let q : IsTriple (triple_over ds (over t a.triple)) × ((triple_over ds (over t a.triple)).dims ≡ ds) = triple_like laws t a.triple ds (over t a.triple) i s ok refl in
+    let ok : child_dims t a.triple.dims ≡ Ok f.dims = allowed t a.triple.dims f.dims y f.layout f.has_dims in
+    let same : dims_or (child_dims t a.triple.dims) ≡ f.dims = ap dims_or ok in
+    let q : IsTriple (triple_over f.dims (over t a.triple)) × ((triple_over f.dims (over t a.triple)).dims ≡ f.dims) = triple_like laws t a.triple f.dims (over t a.triple) i f.limits ok refl in
+    let T : List ℕ → Type 0 = λ xs. IsTriple (triple_over xs (over t a.triple)) in
+    let triple : IsTriple (triple_over (dims_or (child_dims t a.triple.dims)) (over t a.triple)) = subst T (sym same) q.0 in
+    let own : (triple_over (dims_or (child_dims t a.triple.dims)) (over t a.triple)).dims ≡ f.dims = ap (λ xs. (triple_over xs (over t a.triple)).dims) same ∙ q.1 in
     let P : List ℕ → Type 0 = λ xs. IsLaid a.triple (places_of xs a.triple.dims (source t a.triple.dims)) (own_places xs y) xs (over t a.triple) in
-    let der : IsDerived k a (view_under k a.root a.base (own_row k p t y a ds) (over t a.triple)) t y = record {
-      allowed = ok ∙ ap Ok (sym q.1);
+    let derived : IsDerived k a (view_row k p t y a) t y = record {
+      allowed = ok ∙ ap Ok (sym own);
       ty_is = refl;
       root_is = refl;
       base_is = refl;
-      triple_is = ap (λ xs. triple_over xs (over t a.triple)) (sym q.1);
-      laid = subst P (sym q.1) (laid laws.views t a.triple ds y i l d);
+      triple_is = ap (λ xs. triple_over xs (over t a.triple)) (same ∙ sym own);
+      laid = subst P (sym own) (laid laws.views t a.triple f.dims y i f.layout f.has_dims);
     } in
     record {
       layout = y;
       origin = refl;
-      derived = der;
-      triple = q.0;
-      limits = subst IsDims (sym q.1) s;
-      laid = l;
-      unmarked = no_mark a.root;
+      derived = derived;
+      triple = triple;
+      limits = subst IsDims (sym own) f.limits;
+      laid = f.layout;
+      unmarked = refl;
       nothing = refl;
-      unlisted = no_places a.root None;
-      bare = rw (eq-eqb a.root a.root refl) refl;
+      unlisted = refl;
+      bare = refl;
     }
 
-pub new_node : LawsBelow → (k p : ℕ) (t : Trans) (y : Layout) (a : Row) (ds : List ℕ) (ty : Ty) (rt b : ℕ) (u : Triple) (o : Option Triple) (n : Row)
-    → ty ≡ a.ty → rt ≡ a.root → b ≡ a.base → u ≡ whole_triple ds → o ≡ over t a.triple → IsTriple a.triple → IsLayout t a.triple.dims y → HasDims y ds → IsDims ds
-    → n ≡ view_under k rt b (record { origin = View p t y; ty = ty; root = rt; base = k; triple = u; kept = []; mark = false; repeats = false; places = None; waiting = None }) o
-    → IsNewView k p t a n
-new_node laws k p t y a ds ty rt b u o n ey er eb eu eo i l d s e =
-    let row : Ty → ℕ → ℕ → Triple → Option Triple → Row = λ y' r' b' u' o'. view_under k r' b' (record { origin = View p t y; ty = y'; root = r'; base = k; triple = u'; kept = []; mark = false; repeats = false; places = None; waiting = None }) o' in
-    let same_row : n ≡ view_under k a.root a.base (own_row k p t y a ds) (over t a.triple) =
-    e ∙ ap (λ x. row x rt b u o) ey ∙ ap (λ x. row a.ty x b u o) er ∙ ap (λ x. row a.ty a.root x u o) eb ∙ ap (λ x. row a.ty a.root a.base x o) eu ∙ ap (λ x. row a.ty a.root a.base (whole_triple ds) x) eo in
-    subst (IsNewView k p t a) (sym same_row) (new_view_row laws k p t y a ds i l d s)
+-- what a new node is made of
+pub view_row_is : (k p : ℕ) (t : Trans) (y : Layout) (a : Row) (o : Origin) (ty : Ty) (rt b : ℕ) (u : Triple)
+    → o ≡ View p t y → ty ≡ a.ty → rt ≡ a.root → b ≡ base_over k a.base (over t a.triple) → u ≡ triple_over (dims_or (child_dims t a.triple.dims)) (over t a.triple)
+    → record { origin = o; ty = ty; root = rt; base = b; triple = u; kept = []; mark = false; repeats = false; places = None; waiting = None } ≡ view_row k p t y a
+view_row_is k p t y a o ty rt b u eo ey er eb eu =
+    let row : Origin → Ty → ℕ → ℕ → Triple → Row = λ o' ty' rt' b' u'. record { origin = o'; ty = ty'; root = rt'; base = b'; triple = u'; kept = []; mark = false; repeats = false; places = None; waiting = None } in
+    ap (λ x. row x ty rt b u) eo ∙ ap (λ x. row (View p t y) x rt b u) ey ∙ ap (λ x. row (View p t y) a.ty x b u) er
+    ∙ ap (λ x. row (View p t y) a.ty a.root x u) eb ∙ ap (row (View p t y) a.ty a.root (base_over k a.base (over t a.triple))) eu

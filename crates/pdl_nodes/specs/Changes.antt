@@ -5,11 +5,11 @@ use Rattle.pdl_world.specs.Swept.{holds}
 use Rattle.pdl_nodes.specs.Row.{Row}
 
 -- b keeps these elements
-abbrev pub kept_in : ℕ → List ℤ → ℕ → Row → Row
+abbrev pub kept_in : (base : ℕ) → (elems : List ℤ) → (k : ℕ) → Row → Row
 kept_in b ks k r = record r { kept = (if k == b then ks else r.kept) }
 
 -- in the family of the root rt this waits
-abbrev pub wait_in : ℕ → Option ℕ → ℕ → Row → Row
+abbrev pub wait_in : (root : ℕ) → (waiting : Option ℕ) → (k : ℕ) → Row → Row
 wait_in rt o k r = record r { waiting = (if k == rt then o else r.waiting) }
 
 -- the places that were found, or else those that were known
@@ -19,7 +19,8 @@ or_known (Some ps) known = Some ps
 
 -- b keeps these elements, is marked, and has repeats or not; its places are known, if they were
 -- found now
-abbrev pub fill_in : ℕ → List ℤ → Bool → Option (List (Option ℕ)) → ℕ → Row → Row
+abbrev pub fill_in : (base : ℕ) → (elems : List ℤ) → (repeats : Bool)
+    → (places : Option (List (Option ℕ))) → (k : ℕ) → Row → Row
 fill_in b ks f o k r = record r {
   kept = (if k == b then ks else r.kept);
   mark = (if k == b then true else r.mark);

@@ -1,5 +1,5 @@
 -- One more row.
-use Rattle.std.specs.Prelude.{◌≡◌, ℕ, ℤ, true, false, List, length, None, []}
+use Rattle.std.specs.Prelude.{◌≡◌, ℕ, ℤ, true, false, List, length, Option, None, Result, Ok, Err, []}
 use Rattle.pdl_elem.specs.declared.Ty.{Ty}
 use Rattle.pdl_shape.specs.Shape.{size_of, IsDims}
 use Rattle.pdl_world.specs.World.{ArrayDef, root, view}
@@ -7,8 +7,11 @@ use Rattle.pdl_nodes.specs.declared.origin.Origin.{Origin}
 use Rattle.pdl_nodes.specs.declared.origin.Origin.TheVariants.{Root, View}
 use Rattle.pdl_nodes.specs.Row.{Row}
 use Rattle.pdl_nodes.specs.Rows.{Rows, NumbersBelow}
-use Rattle.pdl_nodes.specs.Still.{StillFrom, IsDerived}
-use Rattle.pdl_shape.specs.Triple.{IsTriple}
+use Rattle.pdl_nodes.specs.Still.{StillFrom, IsDerived, base_over, triple_over}
+use Rattle.pdl_shape.specs.Refusals.{Refusal}
+use Rattle.pdl_shape.specs.Triple.{Triple, IsTriple}
+use Rattle.pdl_world.specs.Formula.{child_dims}
+use Rattle.pdl_world.specs.Windows.{over}
 use Rattle.pdl_world.specs.declared.Trans.{Trans}
 use Rattle.pdl_nodes.specs.declared.origin.Layout.{Layout}
 use Rattle.pdl_nodes.specs.Sized.{IsLayout}
@@ -24,7 +27,7 @@ pub record IsNew (rs : Rows) (k : ℕ) (r : Row) : Type 0 where
   pub flat : r.root ≡ k → r.repeats ≡ false
   pub count : r.root ≡ k → length r.kept ≡ size_of r.triple.dims
 
-abbrev pub joined_from : Ty → List ℕ → List ℤ → Origin → ArrayDef
+abbrev pub joined_from : Ty → (dims : List ℕ) → (elems : List ℤ) → Origin → ArrayDef
 joined_from ty ds es Root = root ty ds es
 joined_from ty ds es (View p t y) = view p t
 
@@ -44,3 +47,38 @@ pub record IsNewView (k p : ℕ) (t : Trans) (a r : Row) : Type 0 where
   pub nothing : r.waiting ≡ None
   pub unlisted : r.places ≡ None
   pub bare : r.kept ≡ []
+
+-- no dimensions where a formula refuses
+abbrev pub dims_or : Result (List ℕ) Refusal → List ℕ
+dims_or (Ok ds) = ds
+dims_or (Err e) = []
+
+-- the row of a view k of p, of which a is kept: it keeps nothing yet
+abbrev pub view_row : (k p : ℕ) → Trans → Layout → (a : Row) → Row
+view_row k p t y a = record {
+  origin = View p t y;
+  ty = a.ty;
+  root = a.root;
+  base = base_over k a.base (over t a.triple);
+  triple = triple_over (dims_or (child_dims t a.triple.dims)) (over t a.triple);
+  kept = [];
+  mark = false;
+  repeats = false;
+  places = None;
+  waiting = None;
+}
+
+-- the triple by which a view is shown over the base that this triple shows its parent over
+abbrev pub over_from : Origin → (above : Triple) → Option Triple
+over_from Root above = None
+over_from (View p t y) above = over t above
+
+-- the dimensions of a view of a parent of these
+abbrev pub dims_from : Origin → (parent : List ℕ) → List ℕ
+dims_from Root parent = []
+dims_from (View p t y) parent = dims_or (child_dims t parent)
+
+-- a view of this origin is laid over a parent of these dimensions
+abbrev pub LaidOver : Origin → (parent : List ℕ) → Type 0
+LaidOver Root parent = Unit {0}
+LaidOver (View p t y) parent = IsLayout t parent y

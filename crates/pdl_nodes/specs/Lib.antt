@@ -21,10 +21,11 @@ pub mod Outcomes
 pub mod Joined
 pub mod Released
 pub mod Risen
-pub mod Cut
-pub mod CutLaws
+pub mod Renewed
+pub mod RenewLaws
+pub mod Relaying
+pub mod Faults
 pub mod Going
-pub mod Reshaped
 pub mod Seen
 pub mod JoinLaws
 pub mod KeptLaws

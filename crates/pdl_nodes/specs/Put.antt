@@ -30,7 +30,7 @@ put_at g rs v first vs =
     write (drop first (places_at g rs v)) vs (row_at rs (goal_at g rs v)).kept
 
 -- and each row then
-abbrev pub put_in : Goal → Rows → (v first : ℕ) → List ℤ → ℕ → Row → Row
+abbrev pub put_in : Goal → Rows → (v first : ℕ) → (values : List ℤ) → (k : ℕ) → Row → Row
 put_in g rs v first vs = kept_in (goal_at g rs v) (put_at g rs v first vs)
 
 -- rows are in order, v can be lent, and values in its type's range fit it from a position on

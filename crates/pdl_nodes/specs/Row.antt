@@ -3,7 +3,7 @@ use Rattle.std.specs.Prelude.{◌≡◌, ℕ, ℤ, Bool, true, false, ◌||◌, 
 use Rattle.std.specs.Option.{ForSome}
 use Rattle.pdl_elem.specs.declared.Ty.{Ty}
 use Rattle.pdl_shape.specs.Triple.{Triple, whole_triple}
-use Rattle.pdl_buf.specs.Buffer.{TypedElements}
+use Rattle.pdl_numbers.specs.Typed.{TypedElements}
 use Rattle.pdl_nodes.specs.declared.node.Goal.{Goal}
 use Rattle.pdl_nodes.specs.declared.node.Goal.TheVariants as goal
 use Rattle.pdl_nodes.specs.declared.node.Shown.{Shown}
@@ -67,7 +67,7 @@ pub record IsNode
   pub buffered : has_buffer mark origin ≡ true → IsSome kept
 
 -- a root with these elements, which is marked
-abbrev pub root_row : ℕ → Ty → List ℕ → List ℤ → Row
+abbrev pub root_row : (k : ℕ) → Ty → (dims : List ℕ) → (elems : List ℤ) → Row
 root_row k ty ds es = record {
   origin = Root;
   ty = ty;

@@ -1,5 +1,5 @@
 -- The node table: rows by their numbers, newest first.
-use Rattle.std.specs.Prelude.{◌≡◌, ℕ, ◌<◌, ◌==◌, if◌then◌else◌, Bool, true, false, List, [], ◌∷◌, Option, Some, None}
+use Rattle.std.specs.Prelude.{◌≡◌, ℕ, ◌<◌, ◌==◌, nat_le, if◌then◌else◌, Bool, true, false, List, [], ◌∷◌, Option, Some, None}
 use Rattle.pdl_elem.specs.declared.Ty.TheVariants.{Byte}
 use Rattle.pdl_nodes.specs.Staying.{staying, passed}
 use Rattle.pdl_nodes.specs.declared.origin.Origin.TheVariants.{Root}
@@ -47,6 +47,15 @@ Falls ((k, r) ∷ rs) = NumbersBelow k rs × Falls rs
 abbrev pub newest : Rows → Option ℕ
 newest [] = None
 newest ((k, r) ∷ rs) = Some k
+
+-- the oldest number from n on
+abbrev pub or_newer : Option ℕ → ℕ → Option ℕ
+or_newer None k = Some k
+or_newer (Some older) k = Some older
+
+abbrev pub from : Rows → ℕ → Option ℕ
+from [] n = None
+from ((k, r) ∷ rs) n = if nat_le n k then or_newer (from rs n) k else from rs n
 
 -- with another row for each
 abbrev pub each : (ℕ → Row → Row) → Rows → Rows

@@ -3,7 +3,7 @@ use Rattle.std.specs.Prelude.{ℕ, ◌<◌, List, [], ◌∷◌, map}
 use Rattle.std.specs.List.{range_with_len}
 use Rattle.pdl_shape.specs.Shape.{size_of}
 use Rattle.pdl_shape.specs.Triple.{Triple}
-use Rattle.pdl_buf.specs.Window.{place_at}
+use Rattle.pdl_numbers.specs.Shown.{place_at}
 
 abbrev pub spots : Triple → List ℕ
 spots t = map (place_at t) (range_with_len 0 (size_of t.dims))

@@ -15,7 +15,7 @@ stays_from t (Some v) = if t v then Some v else None
 
 -- what is held of the older arrays once one with this parent was passed, which is held itself or
 -- isn't
-abbrev pub passed : Option ℕ → Bool → (ℕ → Bool) → ℕ → Bool
+abbrev pub passed : (parent : Option ℕ) → (keeps : Bool) → (held : ℕ → Bool) → (v : ℕ) → Bool
 passed None keeps held v = held v
 passed (Some p) keeps held v = if p == v then (if keeps then true else held v) else held v
 

@@ -4,7 +4,7 @@ use Rattle.std.specs.List.{range_with_len}
 use Rattle.pdl_shape.specs.Shape.{size_of}
 use Rattle.pdl_shape.specs.Places.{AllBelow, places_of}
 use Rattle.pdl_shape.specs.Triple.{Triple, whole_triple}
-use Rattle.pdl_buf.specs.Window.{place_at}
+use Rattle.pdl_numbers.specs.Shown.{place_at}
 use Rattle.pdl_world.specs.declared.Trans.{Trans}
 use Rattle.pdl_world.specs.Formula.{child_dims, source}
 use Rattle.pdl_world.specs.Windows.{over}
@@ -72,7 +72,7 @@ pub record IsRootRow (k : ℕ) (r : Row) : Type 0 where
   pub base_is : r.base ≡ k
   pub whole : IsWhole r.triple
 
-abbrev pub StillFrom : Rows → ℕ → Row → Origin → Type 0
+abbrev pub StillFrom : Rows → (k : ℕ) → Row → Origin → Type 0
 StillFrom rs k r Root = IsRootRow k r
 StillFrom rs k r (View p t y) = (has rs p ≡ true) × IsDerived k (row_at rs p) r t y
 

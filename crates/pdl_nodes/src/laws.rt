@@ -1,7 +1,7 @@
 //! Laws of the definitions, for the proofs of the crates above.
-ghost use Rattle.pdl_nodes.specs.CutLaws.{CuttingSevers, CuttingLeavesFamilies, CutsStaySettled, CutsStayKnown, CutsStaySized, CutsKeepNumbers, CutsMakeRoots};
+ghost use Rattle.pdl_nodes.specs.RenewLaws.{RenewingRoots, RenewingReshapes, RenewingSevers, RelaidCanRenew, RelaidStay, RenewedAreOutdated, RenewingLeavesFamilies};
+ghost use Rattle.pdl_nodes.specs.RenewLaws.{RenewedAreSettled, RenewedAreKnown, RenewedAreSized, RenewingKeepsNumbers, RenewingMakesRoots};
 ghost use Rattle.pdl_nodes.specs.RowLaws.{RowLaws};
-ghost use Rattle.pdl_nodes.specs.Reshaped.{ReshapingReshapes, ReshapingLeavesOthers, ReshapesStayKnown, ReshapesStaySized, ReshapesMakeRoots};
 
 use pdl_affine::{view_laws, window_laws};
 use pdl_shape::{shape_laws, triple_laws};
@@ -15,34 +15,23 @@ pub fn row_laws()
     shape_laws()
 }
 
-/// What a cut does to rows in order and to their world (PDL::Core, sever): it is the cut of the
-/// world, it leaves the rows of other families, nothing waits in the families of those that were of
-/// the array's, what is known of places stays true, and rows keep what their types keep. It does
-/// nothing: who calls it has them.
-pub fn cut_row_laws()
-    ensures severs { CuttingSevers }
-    ensures families { CuttingLeavesFamilies }
-    ensures settled { CutsStaySettled }
-    ensures known { CutsStayKnown }
-    ensures sized { CutsStaySized }
-    ensures numbers { CutsKeepNumbers }
-    ensures roots { CutsMakeRoots }
-{
-    shape_laws();
-    triple_laws();
-    view_laws();
-    window_laws()
-}
-
-/// What other dimensions of an array without views do to rows in order and to their world
-/// (PDL::Core, reshape): it is the reshape of the world, it leaves all other rows, what is known of
-/// places stays true, and rows keep what their types keep. It does nothing: who calls it has them.
-pub fn reshape_row_laws()
-    ensures reshapes { ReshapingReshapes }
-    ensures others { ReshapingLeavesOthers }
-    ensures known { ReshapesStayKnown }
-    ensures sized { ReshapesStaySized }
-    ensures roots { ReshapesMakeRoots }
+/// What becomes of rows in order, and of their world, where an array becomes a root, by a cut or by
+/// other dimensions (PDL::Core, sever and reshape). They mean the world in which it is this root.
+/// Of its family exactly those are fresh whose base it is; nothing waits in the families of those
+/// that were of the array's, and the rows of others stay. It does nothing: who calls it has them.
+pub fn renewed_row_laws()
+    ensures roots { RenewingRoots }
+    ensures reshapes { RenewingReshapes }
+    ensures severs { RenewingSevers }
+    ensures relaid { RelaidCanRenew }
+    ensures stay { RelaidStay }
+    ensures outdated { RenewedAreOutdated }
+    ensures families { RenewingLeavesFamilies }
+    ensures settled { RenewedAreSettled }
+    ensures known { RenewedAreKnown }
+    ensures sized { RenewedAreSized }
+    ensures numbers { RenewingKeepsNumbers }
+    ensures makes { RenewingMakesRoots }
 {
     shape_laws();
     triple_laws();

@@ -5,25 +5,31 @@
 
 mod apart;
 mod children;
-mod cuts;
 mod descending;
+mod faults;
 mod holds;
 mod laws;
+mod layouts;
 mod marked;
 mod moves;
 mod node;
 mod numbered;
 mod origin;
+mod relaid;
+mod renewing;
 mod table;
 mod upward;
 mod views;
 
 pub use apart::Apart;
+pub use faults::ViewFault;
 pub use holds::{Hold, Holds, insert};
-pub use laws::{cut_row_laws, reshape_row_laws, row_laws};
+pub use laws::{renewed_row_laws, row_laws};
+pub use layouts::layout;
 pub use moves::{entry, placed};
 pub use node::{Goal, Node, Shown};
 pub use origin::{Layout, Origin};
+pub use relaid::{Relaid, RelayFault};
 pub use table::Table;
 pub use upward::{goes_with, let_all, let_parent_up, remove_all};
 pub use views::{root_node, view_node};

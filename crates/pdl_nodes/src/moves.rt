@@ -3,8 +3,8 @@ ghost use Rattle.std.specs.Prelude.{◌≡◌, ◌<◌};
 ghost use Rattle.pdl_nodes.specs.Assigned.{entry, seen};
 ghost use Rattle.pdl_nodes.specs.Placed.{placed};
 
-use pdl_buf::{Placement, Route};
 use pdl_choice::Places;
+use pdl_numbers::{Placement, Route};
 
 /// The place at a position of a list, or nothing.
 pub fn entry(places: &[Option<u32>], position: u32) -> Option<u32>
@@ -48,7 +48,7 @@ pub(crate) struct OverBase<'a> {
 
 impl<'a> Route for OverBase<'a> {
     ghost use Rattle.std.specs.Prelude.{◌+◌, ◌-◌, ◌^◌, min};
-    ghost use Rattle.pdl_buf.specs.Window.{place_at};
+    ghost use Rattle.pdl_numbers.specs.Shown.{place_at};
     ghost use Rattle.pdl_nodes.specs.Placed.{placed};
     ghost use Rattle.pdl_shape.specs.Shape.{size_of};
 
@@ -72,7 +72,7 @@ pub(crate) struct ThroughBase<'a> {
 
 impl<'a> Route for ThroughBase<'a> {
     ghost use Rattle.std.specs.Prelude.{◌+◌, ◌-◌, ◌^◌, min};
-    ghost use Rattle.pdl_buf.specs.Window.{place_at};
+    ghost use Rattle.pdl_numbers.specs.Shown.{place_at};
     ghost use Rattle.pdl_nodes.specs.Assigned.{seen};
     ghost use Rattle.pdl_shape.specs.Shape.{size_of};
 

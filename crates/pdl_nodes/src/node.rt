@@ -10,9 +10,10 @@ ghost use Rattle.pdl_nodes.specs.Placed.{goes_by, in_order};
 
 use crate::moves::{InOrder, OverBase, ThroughBase};
 use crate::origin::Origin;
-use pdl_buf::{Buf, Placement, Route, Steps, scatter_by, scatter_from};
+use pdl_buf::{Buf, Steps, scatter_by, scatter_from};
 use pdl_choice::Places;
 use pdl_elem::Ty;
+use pdl_numbers::{Placement, Route};
 use pdl_shape::{Triple, copy_triple, elements_of};
 use std::alloc::Global;
 use std::marker::Model;

@@ -8,10 +8,10 @@ ghost use Rattle.pdl_nodes.specs.Children.{children, noted, one_of};
 ghost use Rattle.pdl_nodes.specs.Marked.{AreListed};
 ghost use Rattle.pdl_nodes.specs.Numbered.{IsAbove, IsPut, Rises, value_at};
 ghost use Rattle.pdl_nodes.specs.Table.{IsTable, rows_of};
-ghost use Rattle.pdl_nodes.specs.Rows.{NumbersBelow, row_at, has, each, without};
+ghost use Rattle.pdl_nodes.specs.Rows.{NumbersBelow, row_at, has, each, from, without};
 ghost use Rattle.pdl_nodes.specs.Row.{is_buffered, parent_of, shown_of};
 ghost use Rattle.pdl_nodes.specs.Changes.{kept_in, wait_in, fill_in, marked_in, mark_in};
-ghost use Rattle.pdl_nodes.specs.Cut.{CanCut, CanDerive, cut, derived_in, from, rooted_in};
+ghost use Rattle.pdl_nodes.specs.Renewed.{CanDerive, CanRenew, layout_at, renew, renewed_in, rooted_in};
 ghost use Rattle.pdl_nodes.specs.Families.{InOrder};
 ghost use Rattle.pdl_nodes.specs.Known.{AreKnown};
 ghost use Rattle.pdl_nodes.specs.Put.{IsWrite, put_in};
@@ -22,6 +22,7 @@ use crate::children::Children;
 use crate::marked::{Marked, unmark, unmark_one};
 use crate::node::{Goal, Lifted, Node, Shown};
 use crate::numbered::Numbered;
+use crate::relaid::Relaid;
 use pdl_affine::{view_laws, window_laws};
 use pdl_buf::{Buf, Steps};
 use pdl_choice::Places;
@@ -402,8 +403,8 @@ impl Table {
     }
 
     /// Makes a node a root of these dimensions and elements, which is marked. Its views, if it has
-    /// any, aren't derived anew: `cut` does so.
-    pub fn become_root(&mut self, alloc: Global, id: u64, dims: &Dims, kept: Buf)
+    /// any, aren't derived anew: `renew` does so.
+    fn become_root(&mut self, alloc: Global, id: u64, dims: &Dims, kept: Buf)
         requires live { has self.old id ≡ true }
         requires same_type { kept.ty ≡ (row_at self.old id).ty }
         ensures { self.new ≡ each (rooted_in id dims.now kept.elems) self.old }
@@ -415,47 +416,50 @@ impl Table {
         self.children.take(parent);
     }
 
-    /// Derives a view anew from its parent.
-    fn derive(&mut self, alloc: Global, id: u64)
+    /// Derives a view of the family of this root anew, over the new root or what was derived anew
+    /// before, by the layout that was made anew for it, or else its own. In another family there is
+    /// nothing to derive.
+    fn renew_in(&mut self, alloc: Global, root: u64, new: u64, id: u64, layouts: &mut Relaid)
         requires live { has self.old id ≡ true }
-        requires can { CanDerive self.old id }
-        ensures { self.new ≡ each (derived_in self.old id) self.old }
-    {
-        let node = self.node(id);
-        match node.parent() {
-            Some(parent) => {
-                let above = self.node(parent);
-                let root = above.root();
-                let base = above.base();
-                let over = node.over(alloc, above.triple());
-                let key = self.keys[id];
-                self.nodes[key].derive(alloc, id, root, base, over);
-            }
-            None => {}
-        }
-    }
-
-    /// Derives a view anew from its parent if it is of the family of this root. In another family
-    /// there is nothing to derive.
-    fn derive_in(&mut self, alloc: Global, root: u64, id: u64)
-        requires live { has self.old id ≡ true }
-        requires can { CanDerive self.old id }
+        requires can { CanDerive layouts.old self.old new id }
         requires others { (row_at self.old id).root ≢ root
-            → each (derived_in self.old id) self.old ≡ self.old }
-        ensures { self.new ≡ each (derived_in self.old id) self.old }
+            → each (renewed_in layouts.old new self.old id) self.old ≡ self.old }
+        ensures rows { self.new ≡ each (renewed_in layouts.old new self.old id) self.old }
+        ensures left { (u : ℕ) → u ≢ id → layout_at layouts.new u ≡ layout_at layouts.old u }
     {
         if self.node(id).root() == root {
-            self.derive(alloc, id);
+            self.renew_one(alloc, new, id, layouts);
         }
     }
 
-    /// Cuts a view from its parent: it becomes a root with these elements, and what is derived of
-    /// each newer node of its family is derived anew.
-    pub fn cut(&mut self, alloc: Global, id: u64, dims: &Dims, kept: Buf)
-        requires can { CanCut self.old id dims.now kept.elems }
+    /// Derives a view anew of its parent, if that is of the family of the new root.
+    fn renew_one(&mut self, alloc: Global, new: u64, id: u64, layouts: &mut Relaid)
+        requires live { has self.old id ≡ true }
+        requires can { CanDerive layouts.old self.old new id }
+        ensures rows { self.new ≡ each (renewed_in layouts.old new self.old id) self.old }
+        ensures left { (u : ℕ) → u ≢ id → layout_at layouts.new u ≡ layout_at layouts.old u }
+    {
+        let Some(parent) = self.node(id).parent() else {
+            return;
+        };
+        let above = self.node(parent);
+        if above.root() != new {
+            return;
+        }
+        let ty = above.ty();
+        let above = above.shown(parent);
+        let key = self.keys[id];
+        self.nodes[key].renew(alloc, id, ty, &above, layouts.take(id));
+    }
+
+    /// An array becomes a root of these dimensions and elements, and each view that reaches it is
+    /// derived anew: by the layouts that were made anew, for other dimensions, or by their own,
+    /// where none were made, for a cut.
+    pub fn renew(&mut self, alloc: Global, id: u64, dims: &Dims, kept: Buf, layouts: Relaid)
+        requires can { CanRenew layouts self.old id dims.now kept.elems }
         requires same_type { kept.ty ≡ (row_at self.old id).ty }
         requires small { NumbersBelow (2 ^ 64 - 1) self.old }
-        ensures { self.new ≡ cut self.old id dims.now kept.elems }
+        ensures { self.new ≡ renew layouts self.old id dims.now kept.elems }
     {
         shape_laws();
         triple_laws();
@@ -463,10 +467,22 @@ impl Table {
         window_laws();
         let root = self.node(id).root();
         self.become_root(alloc, id, dims, kept);
+        let mut layouts = layouts;
         let mut next = self.from(id + 1);
         while let Some(newer) = next {
-            self.derive_in(alloc, root, newer);
+            self.renew_in(alloc, root, id, newer, &mut layouts);
             next = self.from(newer + 1);
         }
+        self.unlist(id);
+    }
+
+    /// Lists no view of a root of whose family none is marked: what is listed of it would be listed
+    /// once more when it is marked again.
+    fn unlist(&mut self, id: u64)
+        requires { (u : ℕ) → has self.old u ≡ true → (row_at self.old u).root ≡ id
+            → u ≢ id → (row_at self.old u).mark ≡ false }
+        ensures { self.new ≡ self.old }
+    {
+        self.marked.keep(id, id);
     }
 }

@@ -1,7 +1,7 @@
 //! The nodes of new roots and of new views.
 ghost use Rattle.std.specs.Prelude.{◌≡◌, IfOk};
 ghost use Rattle.pdl_shape.specs.Triple.{IsTriple};
-ghost use Rattle.pdl_nodes.specs.Joined.{IsNewView};
+ghost use Rattle.pdl_nodes.specs.Joined.{IsNewView, view_row};
 ghost use Rattle.pdl_nodes.specs.Row.{root_row};
 ghost use Rattle.pdl_nodes.specs.Sized.{IsLayout};
 
@@ -46,34 +46,33 @@ pub fn view_node(
 ) -> Result<Node, AllocError>
     requires laid { IsLayout trans above.now.triple.dims layout }
     requires triple { IsTriple above.now.triple }
-    ensures { IfOk result (IsNewView id parent trans above.now) }
+    ensures row { IfOk result (λ n. n ≡ view_row id parent trans layout above.now) }
+    ensures new { IfOk result (IsNewView id parent trans above.now) }
 {
     shape_laws();
     triple_laws();
     view_laws();
     window_laws();
-    let dims = layout.dims();
-    let _limits = dims_list(dims);
-    let triple = whole_triple(alloc, dims);
+    // the limits of dimensions are known where they are listed
+    let _limits = dims_list(layout.dims());
     let trans = Apart::new(alloc, trans)?;
     let layout = Apart::new(alloc, layout)?;
-    let mut node = Node {
-        origin: Origin::View {
-            parent,
-            trans,
-            layout,
-        },
+    let origin = Origin::View {
+        parent,
+        trans,
+        layout,
+    };
+    let (base, triple) = origin.shown(alloc, id, above.base, &above.triple);
+    Ok(Node {
+        origin,
         root: above.root,
         ty: above.ty,
-        base: id,
+        base,
         triple,
         kept: None,
         mark: false,
         repeats: false,
         places: None,
         waiting: None,
-    };
-    let over = node.over(alloc, &above.triple);
-    node.derive(alloc, id, above.root, above.base, over);
-    Ok(node)
+    })
 }

@@ -12,10 +12,6 @@ use Rattle.pdl_ops.specs.Elementwise.{values_of, values_at, zero_divisor}
 use Rattle.pdl_ops.proofs.Lists.{pairwise_append}
 use Rattle.pdl_ops.proofs.Zeros.{zero_none, zero_after, zero_before}
 
--- a block of the changed elements is the block's elements, changed
-pub block_map : (f : ℤ → ℤ) (xs : List ℤ) (k n : ℕ) → map f (take n (drop k xs)) ≡ take n (drop k (map f xs))
-block_map f xs k n = sym (take-map f n (drop k xs)) ∙ ap (take n) (sym (drop-map f k xs))
-
 -- ---- one list, changed
 
 -- the first k elements are changed
@@ -25,10 +21,12 @@ pub record AreChanged (f : ℤ → ℤ) (P : ℤ → Type 0) (xs : List ℤ) (k 
 
 pub changed_more : (f : ℤ → ℤ) (P : ℤ → Type 0) (xs made block next : List ℤ) (k n : ℕ) → AreChanged f P xs k made
     → block ≡ map f (take n (drop k xs)) → All P block → next ≡ made ++ block → AreChanged f P xs (k + n) next
-changed_more f P xs made block next k n m e h same = record {
-  made_is = same ∙ ap₂ (λ (us vs : List ℤ). us ++ vs) (m.made_is ∙ sym (take-map f k xs)) (e ∙ block_map f xs k n) ∙ sym (take-add k n (map f xs)) ∙ take-map f (k + n) xs;
-  in_range = subst (All P) (sym same) (All-append P made block m.in_range h);
-}
+changed_more f P xs made block next k n m e h same =
+    let part : map f (take n (drop k xs)) ≡ take n (drop k (map f xs)) = simp (take-map, drop-map) in
+    record {
+      made_is = same ∙ ap₂ (λ (us vs : List ℤ). us ++ vs) (m.made_is ∙ sym (take-map f k xs)) (e ∙ part) ∙ sym (take-add k n (map f xs)) ∙ take-map f (k + n) xs;
+      in_range = subst (All P) (sym same) (All-append P made block m.in_range h);
+    }
 
 pub changed_all : (f : ℤ → ℤ) (P : ℤ → Type 0) (xs made : List ℤ) (k : ℕ) → length xs ≤ k → AreChanged f P xs k made → made ≡ map f xs
 changed_all f P xs made k h m = m.made_is ∙ ap (map f) (take_all k xs h)

@@ -54,7 +54,8 @@ of_alike op a b =
 abbrev pub over : (joined : List ℕ) → Made → Made
 over joined a = record { ty = a.ty; dims = joined; elems = stretched a.dims joined a.elems }
 
-abbrev pub over_joined : BinaryOp → Made → Made → Result (List ℕ) Refusal → Result Made OpRefusal
+abbrev pub over_joined : BinaryOp → (left right : Made) → (joined : Result (List ℕ) Refusal)
+    → Result Made OpRefusal
 over_joined op a b (Err refusal) = Err (no_dims refusal)
 over_joined op a b (Ok joined) = of_alike op (over joined a) (over joined b)
 

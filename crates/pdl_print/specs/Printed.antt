@@ -28,7 +28,7 @@ pieces zero n es = []
 pieces (suc count) n es = take n es ∷ pieces count n (drop n es)
 
 -- so many rows of n elements each, aligned to their widest number
-abbrev pub lines : ℕ → ℕ → ℕ → List ℤ → List ℕ
+abbrev pub lines : (indent rows columns : ℕ) → (elems : List ℤ) → List ℕ
 lines indent rows n es = flat_map (line indent (widest es)) (pieces rows n es)
 
 -- what stands between an opening and a closing bracket, each on a line of its own
@@ -37,7 +37,7 @@ bracketed indent inner = spaces indent ++ codes "[\n" ++ inner ++ spaces indent 
 
 -- an array of so many dimensions around the first two, at an indent: a plane is its
 -- rows, aligned to its widest number, and around it each dimension is a block of its members
-abbrev pub block : List ℕ → ℕ → ℕ → List ℤ → List ℕ
+abbrev pub block : (dims : List ℕ) → (around indent : ℕ) → (elems : List ℤ) → List ℕ
 block ds zero indent es = bracketed indent (lines (indent + 1) (get_or ds 1 0)
     (length es / get_or ds 1 0) es)
 block ds (suc m) indent es =

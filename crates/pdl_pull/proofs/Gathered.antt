@@ -1,13 +1,13 @@
 -- Places that are gathered, one after the other.
-use Rattle.std.proofs.Common.{◌≡◌, ℕ, suc, zero, ◌+◌, ◌<◌, ◌≤◌, Bool, true, false, cond, eqb, List, [], ◌∷◌, ◌++◌, length, map, get_or, drop, Option, Some, None, option_and_then, refl, sym, ◌∙◌, ap, arith, add-one, drop-cons}
+use Rattle.std.proofs.Common.{◌≡◌, ℕ, suc, zero, ◌+◌, ◌<◌, ◌≤◌, Bool, true, false, cond, eqb, List, [], ◌∷◌, length, get_or, drop, Option, Some, None, option_and_then, refl, sym, ◌∙◌, ap, arith, add-one, drop-cons}
 use Rattle.std.specs.List.{range_with_len}
 use Rattle.std.proofs.lemmas.Bool.{eq-eqb}
 use Rattle.std.proofs.lemmas.List.{get_or_past}
-use Rattle.std.proofs.lemmas.List.FromFn.{length-map-range_with_len, get_or-map-range_with_len, map-range_with_len_more}
+use Rattle.std.proofs.lemmas.List.FromFn.{length-map-range_with_len, get_or-map-range_with_len}
 use Rattle.std.proofs.lemmas.Simd.{map-map}
 use Rattle.pdl_shape.specs.Shape.{size_of}
 use Rattle.pdl_shape.specs.Triple.{Triple}
-use Rattle.pdl_buf.specs.Window.{place_at}
+use Rattle.pdl_numbers.specs.Shown.{place_at}
 use Rattle.pdl_nodes.specs.Assigned.{entry}
 use Rattle.pdl_nodes.specs.Families.{is_among, has_repeats}
 use Rattle.pdl_nodes.specs.Placed.{placed, placed_by}
@@ -60,7 +60,3 @@ through_is known t o r at q e h s p =
 pub through_past : (known : Option (List (Option ℕ))) (t : Triple) (o : Option ℕ) (at : ℕ) → o ≡ Some at → size_of t.dims ≤ at → None ≡ option_and_then (entry (placed_by known t)) o
 through_past known t o at e h =
     sym (get_or_past (placed_by known t) at None (omega (arith, length_placed known t))) ∙ ap (option_and_then (entry (placed_by known t))) (sym e)
-
-pub through_more : (f : ℕ → Option ℕ) (ps new : List (Option ℕ)) (i : ℕ) (q : Option ℕ) → ps ≡ map f (range_with_len 0 i) → new ≡ ps ++ q ∷ [] → q ≡ f i → new ≡ map f (range_with_len 0 (i + 1))
-through_more f ps new i q h e d =
-    e ∙ ap (λ l. l ++ q ∷ []) h ∙ ap (λ y. map f (range_with_len 0 i) ++ y ∷ []) d ∙ sym (map-range_with_len_more f 0 i i (omega arith))

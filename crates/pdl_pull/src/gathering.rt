@@ -8,9 +8,10 @@ ghost use Rattle.pdl_nodes.specs.Families.{has_repeats, is_among};
 ghost use Rattle.pdl_nodes.specs.Placed.{placed_by};
 ghost use Rattle.pdl_pull.specs.Gathered.{own_at};
 
-use pdl_buf::{NoMemory, Placement};
+use pdl_buf::NoMemory;
 use pdl_choice::Places;
 use pdl_nodes::{Layout, entry, placed};
+use pdl_numbers::Placement;
 use pdl_shape::Triple;
 use std::alloc::Global;
 

@@ -14,7 +14,7 @@ use Rattle.pdl_elem.specs.declared.Ty.TheVariants.{Longlong}
 use Rattle.pdl_elem.specs.Laws.{WrappingLaws}
 use Rattle.pdl_elem.specs.Numbers.{wrapped}
 use Rattle.pdl_elem.specs.Types.{InRange, highest, lowest}
-use Rattle.pdl_buf.specs.Reads.{LieAcross, across}
+use Rattle.pdl_numbers.specs.Reads.{LieAcross, across}
 use Rattle.pdl_reduce.specs.declared.Reduction.TheVariants.{Sumover, Prodover, Maximum, Minimum}
 use Rattle.pdl_reduce.specs.Across.{come_to}
 use Rattle.pdl_reduce.specs.Folds.{total, product, greatest, least}

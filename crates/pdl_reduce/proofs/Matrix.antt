@@ -43,7 +43,8 @@ range_more f a n ys l h =
 
 -- ---- a column of one number
 
-cut_below : (d k : ℕ) → k < d → cut d k ≡ k
+-- a coordinate within a size is used as it is
+pub cut_below : (d k : ℕ) → k < d → cut d k ≡ k
 cut_below d k h = grind (arith, nat_tests, h)
 
 -- the sum over two slices is the sum at a row, where neither block is stretched

@@ -1,6 +1,5 @@
 -- Each pairing by the blocks of its arrays.
-use Rattle.std.proofs.Common.{◌≡◌, ℕ, ◌+◌, ◌*◌, ◌/◌, ◌%◌, ◌<◌, ℤ, pos, ◌+ℤ◌, ◌*ℤ◌, List, ◌∷◌, length, drop, get_or, arith, refl, ap, ap₂, sym, ◌∙◌}
-use Rattle.std.proofs.lemmas.Bool.Decides.{nat_tests}
+use Rattle.std.proofs.Common.{◌≡◌, ℕ, ◌+◌, ◌*◌, ◌/◌, ◌%◌, ◌<◌, ℤ, pos, ◌*ℤ◌, List, ◌∷◌, length, drop, get_or, arith, refl, ap, ap₂, sym, ◌∙◌}
 use Rattle.std.proofs.Math.IntN.{*ℤ_comm, +ℤ_idl}
 use Rattle.std.proofs.Math.Nat.{div-one, mod-one}
 use Rattle.pdl_lemmas.specs.Numbers.{row_place_below}
@@ -16,6 +15,7 @@ use Rattle.pdl_reduce.specs.Blocks.{block_at, cut, products_at, sizes_of, sum_at
 use Rattle.pdl_reduce.specs.Pairings.{paired_at, sum_below}
 use Rattle.pdl_buf.specs.Made.{broadcast_element}
 use Rattle.pdl_reduce.specs.declared.Pairing.TheVariants.{Inner, Outer, Matmult}
+use Rattle.pdl_reduce.proofs.Matrix.{cut_below}
 use Rattle.pdl_reduce.proofs.Paired.{one_core, two_cores, in_block, sum_agree, split, Split, place, Place}
 
 -- the laws of positions
@@ -45,10 +45,6 @@ two_element p ty a bs q k i n c inside m size e below =
     ≡ cut (get_or a.dims 0 1) k + get_or a.dims 0 1 * cut (get_or a.dims 1 1) i + get_or a.dims 0 1 * get_or a.dims 1 1 * sp = omega arith in
     in_block p.laws p.cuts ty a.elems (drop 2 a.dims) bs q n c _ inside m.stretched m.count below
     (two_cores a.dims (coordinates_of bs q) k i ∙ regroup ∙ ap₂ (λ (x y : ℕ). x + y * sp) (sym e) size)
-
--- a coordinate within a size is used as it is
-cut_below : (x j : ℕ) → j < x → cut x j ≡ j
-cut_below x j h = grind (arith, nat_tests, h)
 
 -- ---- inner
 

@@ -12,7 +12,7 @@ use Rattle.pdl_shape.specs.Laws.{SizeLaws}
 use Rattle.pdl_shape.specs.Refusals.{Refusal, too_large}
 use Rattle.pdl_shape.specs.Shape.{IsDims, coordinates_of, extent, extent_limit, size_of}
 use Rattle.pdl_sig.specs.declared.Resolved.{Resolved}
-use Rattle.pdl_buf.specs.Buffer.{TypedElements}
+use Rattle.pdl_numbers.specs.Typed.{TypedElements}
 use Rattle.pdl_buf.specs.declared.made.Made.{Made}
 use Rattle.pdl_reduce.specs.declared.Pairing.{Pairing}
 use Rattle.pdl_reduce.specs.declared.Pairing.TheVariants.{Inner, Outer, Matmult}

@@ -18,7 +18,7 @@ pub(crate) struct Collected {
 
 impl Model for Collected {
     ghost use Rattle.std.specs.Prelude.{◌++◌, All};
-    ghost use Rattle.pdl_buf.specs.Buffer.{TypedElements};
+    ghost use Rattle.pdl_numbers.specs.Typed.{TypedElements};
     ghost use Rattle.pdl_elem.specs.Types.{InRange};
 
     ghost Value = { TypedElements };

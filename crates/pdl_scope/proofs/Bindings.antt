@@ -13,10 +13,9 @@ use Rattle.pdl_world.specs.Sound.{IsLive}
 use Rattle.pdl_engine.specs.State.{State as Engine}
 use Rattle.pdl_machine.specs.State.{AreLive, IsWhole}
 use Rattle.pdl_machine.specs.Watches.{Watches}
-use Rattle.pdl_kernel.specs.Kernels.{Kernel}
 use Rattle.pdl_machine.specs.declared.fault.Fault.{Fault}
 use Rattle.pdl_scope.specs.Scope.{names_in, state_in}
-use Rattle.pdl_machine.specs.Names.{Named, found, with_name, without_name, is_full_for, entered}
+use Rattle.pdl_machine.specs.Names.{KernelTexts, Named, found, with_name, without_name, is_full_for, entered}
 
 pub number_found : {A : Type 0} (names : Named A) (x : List ℕ) → lookup (pointwise nat_eq x) names ≡ found names x
 number_found [] x = refl
@@ -151,5 +150,5 @@ length_after (n ∷ names) x v = by_name (pointwise nat_eq x n.0) (length_after 
     by_name false rest = omega arith
 
 -- a state is whole with other kernels
-pub whole_defined : (names : Named ℕ) (kernels after : Named Kernel) (ws : Watches) (e : Engine) → IsWhole (state_in (names_in names kernels) ws e) → IsWhole (state_in (names_in names after) ws e)
+pub whole_defined : (names : Named ℕ) (kernels after : Named KernelTexts) (ws : Watches) (e : Engine) → IsWhole (state_in (names_in names kernels) ws e) → IsWhole (state_in (names_in names after) ws e)
 whole_defined names kernels after ws e whole = record { sound = whole.sound; below = whole.below; live = whole.live }

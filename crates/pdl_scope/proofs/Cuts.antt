@@ -4,7 +4,8 @@ use Rattle.std.proofs.Common.{◌≡◌, ℕ, suc, ◌+◌, ◌≤◌, Bool, tru
 use Rattle.std.specs.Prelude.{◌==◌, if◌then◌else◌, nat_eq, IfSome, OnOk, OnErr}
 use Rattle.std.specs.Cmp.Lexicographic.{pointwise}
 use Rattle.std.specs.Option.{option_to_list}
-use Rattle.pdl_world.specs.Cut.{has_views, reshape}
+use Rattle.pdl_world.specs.BreakLaws.{ReshapesLeaveNumbers}
+use Rattle.pdl_world.specs.Cut.{breaks, reshape}
 use Rattle.pdl_world.specs.CutLaws.{HasSameNumbers}
 use Rattle.pdl_world.specs.KeepingLaws.{MoreKeepAll, ParentsAreLive}
 use Rattle.pdl_world.specs.Paths.{parent_in}
@@ -14,14 +15,13 @@ use Rattle.pdl_world.specs.World.{World}
 use Rattle.pdl_engine.specs.HoldLaws.{OneMoreCounts}
 use Rattle.pdl_engine.specs.Held.{AllHaveHolds, count_at, one_more_at, holders}
 use Rattle.pdl_engine.specs.State.{State as Engine, StayFresh}
-use Rattle.pdl_kernel.specs.Kernels.{Kernel}
-use Rattle.pdl_machine.specs.Names.{Named, Names, found, with_name, without_name, is_full_for, names_limit}
+use Rattle.pdl_machine.specs.Names.{KernelTexts, Named, Names, found, with_name, without_name, is_full_for, names_limit}
 use Rattle.pdl_machine.specs.declared.fault.Fault.TheVariants.{UnknownName, TooManyNames}
 use Rattle.pdl_machine.specs.State.{State, with_arrays, AreLive}
 use Rattle.pdl_machine.specs.Step.{Stepped, bind_value}
 use Rattle.pdl_machine.specs.Watches.{Watches, attached}
 use Rattle.pdl_machine.specs.Arrays.{Arrays}
-use Rattle.pdl_machine.specs.Cuts.{reshaped}
+use Rattle.pdl_machine.specs.Cuts.{is_watched, reshaped}
 use Rattle.pdl_machine.specs.Then.{and_then, or_fault}
 use Rattle.pdl_scope.specs.Scope.{arrays_of, scope_in, state_in, names_in, times, Grows, IsHeld}
 use Rattle.pdl_scope.specs.Growth.{reads_grow}
@@ -50,12 +50,20 @@ held_after (Ok u) names ws e t new leaving h same keeps done kept holds next sou
     held_changed names ws e t leaving h (subst (HasSameNumbers e.world) (sym done) same) sound holds next (let P : World → Type 0 = λ w. KeepsAll w (held_by names ws ++ leaving) in subst P (sym done) keeps)
 held_after (Err f) names ws e t new leaving h same keeps done kept holds next sound = held_readied names ws e t leaving (record { world = kept; holds = holds; next = next }) h
 
+-- other dimensions, which keep all numbers where nothing breaks
+pub held_reshaped : {T E : Type 0} (r : Result T E) → ReshapesLeaveNumbers → (names : Names) (ws : Watches) (e t : Engine) (v : ℕ) (ds leaving : List ℕ) → IsHeld (state_in names ws e) e.holds leaving → OnOk r (breaks e.world v ds ≡ false)
+    → KeepsAll (reshape e.world v ds) (held_by names ws ++ leaving) → OnOk r (t.world ≡ reshape e.world v ds) → OnErr r (t.world ≡ e.world) → t.holds ≡ e.holds → t.next ≡ e.next → IsSound t.world → IsHeld (state_in names ws t) t.holds leaving
+held_reshaped (Ok u) same names ws e t v ds leaving h none keeps done kept holding next sound =
+    let all : HasSameNumbers e.world t.world = subst (HasSameNumbers e.world) (sym done) (same e.world v ds h.whole.sound none) in
+    held_changed names ws e t leaving h all sound holding next (let P : World → Type 0 = λ w. KeepsAll w (held_by names ws ++ leaving) in subst P (sym done) keeps)
+held_reshaped (Err f) same names ws e t v ds leaving h none keeps done kept holding next sound = held_readied names ws e t leaving (record { world = kept; holds = holding; next = next }) h
+
 -- the parent of an array is there
 pub parent_lives : ParentsAreLive → (w : World) (v p : ℕ) → IsSound w → parent_in w v ≡ Some p → IsLive w p
 parent_lives live w v p sound is = let P : Option ℕ → Type 0 = λ o. IfSome o (IsLive w) in subst P is (live w v sound)
 
 -- the same names, and the same arrays that leave
-pub held_same : (names after : Named ℕ) (kernels : Named Kernel) (ws : Watches) (e : Engine) (leaving left : List ℕ) → after ≡ names → left ≡ leaving → IsHeld (state_in (names_in names kernels) ws e) e.holds leaving → IsHeld (state_in (names_in after kernels) ws e) e.holds left
+pub held_same : (names after : Named ℕ) (kernels : Named KernelTexts) (ws : Watches) (e : Engine) (leaving left : List ℕ) → after ≡ names → left ≡ leaving → IsHeld (state_in (names_in names kernels) ws e) e.holds leaving → IsHeld (state_in (names_in after kernels) ws e) e.holds left
 held_same names after kernels ws e leaving left same kept h =
     let N : Named ℕ → Type 0 = λ ns. IsHeld (state_in (names_in ns kernels) ws e) e.holds leaving in
     let L : List ℕ → Type 0 = λ vs. IsHeld (state_in (names_in after kernels) ws e) e.holds vs in
@@ -115,7 +123,7 @@ live_without w (n ∷ names) others x live = by_name (pointwise nat_eq x n.0) (l
     by_name false rest = (live.0, rest)
 
 -- a name goes, and its array leaves
-pub held_unbound : MoreKeepAll → (names : Named ℕ) (kernels : Named Kernel) (ws : Watches) (e : Engine) (x : List ℕ) (leaving : List ℕ) → IsHeld (state_in (names_in names kernels) ws e) e.holds leaving
+pub held_unbound : MoreKeepAll → (names : Named ℕ) (kernels : Named KernelTexts) (ws : Watches) (e : Engine) (x : List ℕ) (leaving : List ℕ) → IsHeld (state_in (names_in names kernels) ws e) e.holds leaving
     → IsHeld (state_in (names_in (without_name names x) kernels) ws e) e.holds (leaving ++ option_to_list (found names x))
 held_unbound keeping names kernels ws e x leaving h = record {
   whole = record { sound = h.whole.sound; below = h.whole.below; live = live_without e.world names (attached ws) x h.whole.live };
@@ -173,8 +181,8 @@ pub bindable : (s : State) (x : List ℕ) (v : Arrays × ℕ) → is_full_for na
     → bind_value s x v ≡ Ok (record s { names = record s.names { arrays = with_name s.names.arrays x v.1 }; arrays = v.0 }, [])
 bindable s x v free = rw free refl
 
--- other dimensions of an array that isn't connected
-pub reshape_made : (s : State) (v : ℕ) (ds : List ℕ) → has_views s.arrays.world v ≡ false → holds (attached s.watches) v ≡ false
+-- other dimensions that break nothing, of an array that isn't watched
+pub reshape_made : (s : State) (v : ℕ) (ds : List ℕ) → breaks s.arrays.world v ds ≡ false → is_watched s.watches s.arrays.world v ≡ false
     → and_then {B = State × List ℕ} (reshaped s.watches s.arrays v ds) (λ a. Ok (with_arrays s a, [])) ≡ Ok (with_arrays s (record s.arrays { world = reshape s.arrays.world v ds }), [])
 reshape_made s v ds none free = rw (none, free) refl
 

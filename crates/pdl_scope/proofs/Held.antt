@@ -16,9 +16,8 @@ use Rattle.pdl_world.specs.Laws.{OlderStay}
 use Rattle.pdl_engine.specs.HoldLaws.{OneMoreCounts, OneLessCounts, StayingCount, CountedAreHeld, HeldAreCounted, OthersDontCount}
 use Rattle.pdl_engine.specs.Held.{AllHaveHolds, AreApart, count_at, one_more_at, one_less_at, held_among, holders, IsReleased}
 use Rattle.pdl_engine.specs.State.{State as Engine, Joins, SameArrays}
-use Rattle.pdl_machine.specs.Names.{Named, Names, found, with_name, is_full_for, entered, names_limit}
+use Rattle.pdl_machine.specs.Names.{KernelTexts, Named, Names, found, with_name, is_full_for, entered, names_limit}
 use Rattle.pdl_machine.specs.declared.fault.Fault.TheVariants.{TooManyNames}
-use Rattle.pdl_kernel.specs.Kernels.{Kernel}
 use Rattle.pdl_machine.specs.Laws.{SweepsByFewer}
 use Rattle.pdl_machine.specs.State.{State, kept, with_world, AreLive, IsWhole}
 use Rattle.pdl_machine.specs.Watches.{Watches, attached}
@@ -265,7 +264,7 @@ names_times (n ∷ names) x v u = by_name (pointwise nat_eq x n.0) (names_times 
     by_name false rest = omega arith
 
 -- and so among all that names and watches hold
-held_times_bound : (names : Named ℕ) (kernels : Named Kernel) (ws : Watches) (x : List ℕ) (v u : ℕ)
+held_times_bound : (names : Named ℕ) (kernels : Named KernelTexts) (ws : Watches) (x : List ℕ) (v u : ℕ)
     → times (held_by (names_in (with_name names x v) kernels) ws) u + times (option_to_list (found names x)) u ≡ times (held_by (names_in names kernels) ws) u + one_if (v == u)
 held_times_bound names kernels ws x v u =
     let n = names_times names x v u in
@@ -274,7 +273,7 @@ held_times_bound names kernels ws x v u =
     omega arith
 
 -- a name is bound to an array, which is held for it
-pub held_bound : OneMoreCounts → MoreKeepAll → (names : Named ℕ) (kernels : Named Kernel) (ws : Watches) (e t : Engine) (x : List ℕ) (v : ℕ) (leaving left : List ℕ) → AllHaveHolds e → IsHeld (state_in (names_in names kernels) ws e) e.holds leaving → IsLive e.world v
+pub held_bound : OneMoreCounts → MoreKeepAll → (names : Named ℕ) (kernels : Named KernelTexts) (ws : Watches) (e t : Engine) (x : List ℕ) (v : ℕ) (leaving left : List ℕ) → AllHaveHolds e → IsHeld (state_in (names_in names kernels) ws e) e.holds leaving → IsLive e.world v
     → length (with_name names x v) ≤ names_limit → IsHeldForName e leaving v t left → IsHeld (state_in (names_in (with_name names x v) kernels) ws t) t.holds (left ++ option_to_list (found names x))
 held_bound one_more keeping names kernels ws e t x v leaving left have h live few is = by_way is
   where
@@ -320,7 +319,7 @@ same_but_holds e t v leaving left (inl handed) = let P : Engine → Type 0 = λ 
 same_but_holds e t v leaving left (inr more) = let P : Engine → Type 0 = λ y. y ≡ record e { holds = y.holds } in subst P (sym more.0) refl
 
 -- there is room for one hold more
-pub room_for : (names : Named ℕ) (kernels : Named Kernel) (ws : Watches) (e : Engine) (leaving : List ℕ) (v : ℕ) → IsHeld (state_in (names_in names kernels) ws e) e.holds leaving → count_at e.holds v ≤ names_limit + slots_limit + length leaving
+pub room_for : (names : Named ℕ) (kernels : Named KernelTexts) (ws : Watches) (e : Engine) (leaving : List ℕ) (v : ℕ) → IsHeld (state_in (names_in names kernels) ws e) e.holds leaving → count_at e.holds v ≤ names_limit + slots_limit + length leaving
 room_for names kernels ws e leaving v h =
     let b = h.counts v in
     let m = times_more (numbers names) (attached ws) v in
@@ -404,5 +403,5 @@ held_assigned assigned names ws e t v vs leaving h world same whole = record {
 }
 
 -- and beside other kernels
-pub held_defined : (names : Named ℕ) (kernels after : Named Kernel) (ws : Watches) (e : Engine) (leaving : List ℕ) → IsHeld (state_in (names_in names kernels) ws e) e.holds leaving → IsHeld (state_in (names_in names after) ws e) e.holds leaving
+pub held_defined : (names : Named ℕ) (kernels after : Named KernelTexts) (ws : Watches) (e : Engine) (leaving : List ℕ) → IsHeld (state_in (names_in names kernels) ws e) e.holds leaving → IsHeld (state_in (names_in names after) ws e) e.holds leaving
 held_defined names kernels after ws e leaving h = record { whole = whole_defined names kernels after ws e h.whole; few = h.few; slots = h.slots; counts = h.counts; reached = h.reached }

@@ -19,19 +19,18 @@ use Rattle.pdl_kernel.specs.declared.faults.RunFault.{RunFault}
 use Rattle.pdl_machine.specs.declared.fault.Fault.{Fault}
 use Rattle.pdl_world.specs.World.{World}
 use Rattle.pdl_world.specs.Sound.{IsLive}
-use Rattle.pdl_machine.specs.declared.fault.Fault.TheVariants.{WrongArguments}
 use Rattle.pdl_machine.specs.Arrays.{array_in}
-use Rattle.pdl_machine.specs.Kernels.{array_seen, called_on, kernel_outputs, outputs_count, resolve_fault, run_fault}
+use Rattle.pdl_machine.specs.Kernels.{array_seen, called_on, outputs_by, outputs_count, resolve_fault, run_fault}
 use Rattle.pdl_sig.specs.Given.{shape_of}
 use Rattle.pdl_machine.specs.Outcome.{array}
 use Rattle.pdl_machine.specs.Refused.{or_named}
-use Rattle.pdl_machine.specs.Then.{and_more, all_of, and_then, or_fault}
+use Rattle.pdl_machine.specs.Then.{and_more, all_of, and_then}
 use Rattle.pdl_scope.specs.declared.fault.ScopeFault.{ScopeFault}
 use Rattle.pdl_scope.specs.Answers.{AnswersAs, IsFault}
 use Rattle.pdl_scope.specs.Faults.{of_resolve, of_run}
 use Rattle.pdl_scope.proofs.Faults.{named_fault, named_first}
 use Rattle.std.proofs.lemmas.Option.{IfSome_then}
-use Rattle.pdl_scope.specs.Scope.{arrays_of, arrays_seen, made_in, shape_in}
+use Rattle.pdl_scope.specs.Scope.{made_in, shape_in}
 
 pub shapes_seen : (e : Engine) (ids : List ℕ) → map shape_of (map (made_in e) ids) ≡ map (shape_in e) ids
 shapes_seen e [] = refl
@@ -128,16 +127,15 @@ given_more start now new e ids i w lt is shown next =
     ∙ ap (λ given. record start { given = given }) (sym (map_more (made_in e) ids i 0 lt))
 
 -- arrays as a call sees them
-all_arrays : (f : ℕ → Made) (ids : List ℕ) → all_of array_seen (map (λ v. array (f v)) ids) ≡ Some (map f ids)
+pub all_arrays : (f : ℕ → Made) (ids : List ℕ) → all_of array_seen (map (λ v. array (f v)) ids) ≡ Some (map f ids)
 all_arrays f [] = refl
 all_arrays f (v ∷ ids) = ap (and_more (Some (f v))) (all_arrays f ids)
 
 -- a call that has as many outputs as are wanted
-as_wanted : (k : Kernel) (wanted count : ℕ) (e : Engine) (ids : List ℕ) → count ≡ outputs_count k.signature → count ≡ wanted
-    → kernel_outputs k wanted (arrays_seen (arrays_of e) ids) ≡ called_on k (map (made_in e) ids)
-as_wanted k wanted count e ids is same =
+as_wanted : (k : Kernel) (wanted count : ℕ) (given : List Made) → count ≡ outputs_count k.signature → count ≡ wanted → outputs_by wanted given k ≡ called_on k given
+as_wanted k wanted count given is same =
     let t : (outputs_count k.signature == wanted) ≡ true = eq-eqb (outputs_count k.signature) wanted (sym is ∙ same) in
-    rw t (ap (λ o. and_then (or_fault WrongArguments o) (called_on k)) (all_arrays (made_in e) ids))
+    rw t refl
 
 same_made : (e t : Engine) → SameArrays e t → made_in t ≡ made_in e
 same_made e t s = ap (λ w. made_by w t.next) s.world ∙ ap (made_by e.world) s.next
@@ -147,10 +145,10 @@ same_made e t s = ap (λ w. made_by w t.next) s.world ∙ ap (made_by e.world) s
 
 -- the answer for arrays that were made ready is that for the arrays
 pub all_given : (k : Kernel) (wanted count : ℕ) (e t : Engine) (ids : List ℕ) (r : Result (Vec Made Global) ScopeFault) → count ≡ outputs_count k.signature → count ≡ wanted
-    → SameArrays e t → AnswersAs (λ ms. ms.items) (called_on k (map (made_in t) ids)) r → AnswersAs (λ ms. ms.items) (kernel_outputs k wanted (arrays_seen (arrays_of e) ids)) r
+    → SameArrays e t → AnswersAs (λ ms. ms.items) (called_on k (map (made_in t) ids)) r → AnswersAs (λ ms. ms.items) (outputs_by wanted (map (made_in e) ids) k) r
 all_given k wanted count e t ids r is same arrays h =
     let P : Result (List Made) Fault → Type 0 = λ x. AnswersAs (λ (ms : Vec Made Global). ms.items) x r in
-    subst P (sym (as_wanted k wanted count e ids is same ∙ ap (λ f. called_on k (map f ids)) (sym (same_made e t arrays)))) h
+    subst P (sym (as_wanted k wanted count (map (made_in e) ids) is same ∙ ap (λ f. called_on k (map f ids)) (sym (same_made e t arrays)))) h
 
 pub live_again : (e t : Engine) (ids : List ℕ) → SameArrays e t → All (IsLive e.world) ids → All (IsLive t.world) ids
 live_again e t ids s live = let P : World → Type 0 = λ w. All (IsLive w) ids in subst P (sym s.world) live

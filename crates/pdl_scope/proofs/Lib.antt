@@ -9,3 +9,4 @@ pub mod Roots
 pub mod Held
 pub mod Watched
 pub mod Cuts
+pub mod Bounds

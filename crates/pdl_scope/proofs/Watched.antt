@@ -1,9 +1,10 @@
 -- Arrays that watchers are attached to, and what watchers are to be told.
-use Rattle.std.proofs.Common.{◌≡◌, ℕ, zero, suc, ◌+◌, ◌-◌, ◌<◌, ◌≤◌, Bool, true, false, List, [], ◌∷◌, ◌++◌, length, get_or, Option, Some, None, refl, ap, subst, ◌∙◌, arith, eqb-true}
-use Rattle.std.specs.Prelude.{◌==◌, ◌||◌, if◌then◌else◌, replicate, slice_set, IfSome, IsSome}
-use Rattle.std.specs.List.{list_any}
+use Rattle.std.proofs.Common.{◌≡◌, ℕ, zero, suc, ◌+◌, ◌-◌, ◌<◌, ◌≤◌, Bool, true, false, List, [], ◌∷◌, ◌++◌, length, take, get_or, Option, Some, None, refl, sym, ap, ap₂, subst, ◌∙◌, arith, eqb-true}
+use Rattle.std.specs.Prelude.{◌==◌, if◌then◌else◌, replicate, slice_set, IfSome, IsSome, Vec}
 use Rattle.std.specs.Option.{option_to_list}
-use Rattle.std.proofs.lemmas.List.{length-append, length-replicate, length-set}
+use Rattle.std.specs.Global.{Global}
+use Rattle.std.proofs.lemmas.Bool.{true≢false}
+use Rattle.std.proofs.lemmas.List.{length-append, length-replicate, length-set, map-append, take_more}
 use Rattle.pdl_lemmas.specs.Tests.{by_test}
 use Rattle.pdl_world.specs.World.{World}
 use Rattle.pdl_world.specs.Sound.{IsLive}
@@ -12,9 +13,12 @@ use Rattle.pdl_world.specs.KeepingLaws.{MoreKeepAll}
 use Rattle.pdl_engine.specs.HoldLaws.{OneMoreCounts}
 use Rattle.pdl_engine.specs.Held.{AllHaveHolds, count_at, one_more_at, holders}
 use Rattle.pdl_engine.specs.State.{State as Engine}
+use Rattle.pdl_watch.specs.declared.notice.Notice.{Notice}
+use Rattle.pdl_watch.specs.Slots.{lists_of}
+use Rattle.pdl_machine.specs.Laws.{TrimmingAttachesTheSame}
 use Rattle.pdl_machine.specs.Names.{Names}
 use Rattle.pdl_machine.specs.State.{AreLive}
-use Rattle.pdl_machine.specs.Watches.{Watches, watch_of, attached, padded, attach, detach}
+use Rattle.pdl_machine.specs.Watches.{Watches, watch_of, attached, padded, attach, entry_onto, trimmed, detach, notices, slot_notices}
 use Rattle.pdl_scope.specs.Scope.{state_in, slots_limit, times, IsHeld}
 use Rattle.pdl_scope.proofs.Held.{held_by, numbers, times_more, both_hold, held_by_both, all_live, some_live}
 
@@ -85,8 +89,27 @@ times_attached ws k v u free =
     omega (arith, set, none, same)
 
 -- and one fewer where a slot isn't attached any more
-pub times_detached : (ws : Watches) (k u : ℕ) → k < length ws → times (attached (detach ws k)) u + times (option_to_list (watch_of ws k)) u ≡ times (attached ws) u
-times_detached ws k u lt = let set = times_set ws k u None lt in omega (arith, set)
+pub times_detached : TrimmingAttachesTheSame → (ws : Watches) (k u : ℕ) → k < length ws → times (attached (detach ws k)) u + times (option_to_list (watch_of ws k)) u ≡ times (attached ws) u
+times_detached same ws k u lt =
+    let set = times_set ws k u None lt in
+    let trim = ap (λ vs. times vs u) (same (slice_set ws k None)) in
+    omega (arith, set, trim)
+
+-- a list that is trimmed is a front of the list, so it is as short
+entry_short : (w : Option ℕ) (ws : Watches) → length (entry_onto w ws) ≤ suc (length ws)
+entry_short None [] = omega arith
+entry_short None (u ∷ us) = omega arith
+entry_short (Some v) ws = omega arith
+
+trimmed_short : (ws : Watches) → length (trimmed ws) ≤ length ws
+trimmed_short [] = omega arith
+trimmed_short (w ∷ ws) = let e = entry_short w (trimmed ws) in let r = trimmed_short ws in omega arith
+
+pub detached_short : (ws : Watches) (k : ℕ) → length (detach ws k) ≤ length ws
+detached_short ws k =
+    let t = trimmed_short (slice_set ws k None) in
+    let l : length (slice_set ws k None) ≡ length ws = length-set ws k None in
+    omega (arith, t, l)
 
 -- the lists stay short
 pub attached_long : (ws : Watches) (k v : ℕ) → k < slots_limit → length ws ≤ slots_limit → length (attach ws k v) ≤ slots_limit
@@ -136,17 +159,17 @@ held_attached one_more keeping names ws e k v leaving have h live small free =
         omega (arith, t, a, b)
 
 -- a slot isn't attached any more, and its array leaves
-pub held_detached : MoreKeepAll → (names : Names) (ws : Watches) (e : Engine) (k : ℕ) (leaving : List ℕ) → IsHeld (state_in names ws e) e.holds leaving → k < length ws
+pub held_detached : TrimmingAttachesTheSame → MoreKeepAll → (names : Names) (ws : Watches) (e : Engine) (k : ℕ) (leaving : List ℕ) → IsHeld (state_in names ws e) e.holds leaving → k < length ws
     → IsHeld (state_in names (detach ws k) e) e.holds (leaving ++ option_to_list (watch_of ws k))
-held_detached keeping names ws e k leaving h lt =
-    held_moved keeping names ws (detach ws k) e e.holds leaving (leaving ++ option_to_list (watch_of ws k)) h (let l : length (detach ws k) ≡ length ws = length-set ws k None in let few : length ws ≤ slots_limit = h.slots in omega (arith, l))
+held_detached same keeping names ws e k leaving h lt =
+    held_moved keeping names ws (detach ws k) e e.holds leaving (leaving ++ option_to_list (watch_of ws k)) h (let l = detached_short ws k in let few : length ws ≤ slots_limit = h.slots in omega arith)
     (λ u. (let b = h.counts u in let f = fewer u in let m = times_more leaving (option_to_list (watch_of ws k)) u in omega arith))
     (λ u. omega arith)
     (λ u some. live_counted e.world (held_by names ws) u h.whole.live (let f = fewer u in omega arith))
   where
     fewer : (u : ℕ) → times (held_by names (detach ws k)) u + times (option_to_list (watch_of ws k)) u ≡ times (held_by names ws) u
     fewer u =
-        let t = times_detached ws k u lt in
+        let t = times_detached same ws k u lt in
         let a = times_more (numbers names.arrays) (attached (detach ws k)) u in
         let b = times_more (numbers names.arrays) (attached ws) u in
         omega (arith, t, a, b)
@@ -164,8 +187,46 @@ live_watch w (Some v ∷ ws) zero live = live.0
 live_watch w (None ∷ ws) (suc k) live = live_watch w ws k live
 live_watch w (Some v ∷ ws) (suc k) live = live_watch w ws k live.1
 
--- whether a slot is attached to an array, told by each slot
-pub watched_is : (ws : Watches) (v : ℕ) (eq : Option ℕ → Bool) → eq None ≡ false → ((u : ℕ) → eq (Some u) ≡ (u == v)) → list_any eq ws ≡ holds (attached ws) v
-watched_is [] v eq none some = refl
-watched_is (None ∷ ws) v eq none some = ap (λ b. b || list_any eq ws) none ∙ watched_is ws v eq none some
-watched_is (Some u ∷ ws) v eq none some = ap (λ b. b || list_any eq ws) (some u) ∙ ap (λ b. (u == v) || b) (watched_is ws v eq none some)
+-- where no array is watched no slot is attached
+pub none_watched : (ws : Watches) (k : ℕ) → attached ws ≡ [] → get_or ws k None ≡ None
+none_watched [] k none = refl
+none_watched (None ∷ ws) zero none = refl
+none_watched (None ∷ ws) (suc k) none = none_watched ws k none
+none_watched (Some v ∷ ws) k none = absurd (cc)
+
+-- the entries up to the last one that attaches a slot, told by what stands behind them
+pub trimmed_none : (ws : Watches) → ((k : ℕ) → k < length ws → get_or ws k None ≡ None) → trimmed ws ≡ []
+trimmed_none [] none = refl
+trimmed_none (w ∷ ws) none =
+    ap (λ (o : Option ℕ). entry_onto o (trimmed ws)) (none 0 (omega arith))
+    ∙ ap (entry_onto None) (trimmed_none ws (λ k lt. none (suc k) (omega arith)))
+
+entry_some : (w : Option ℕ) (ws : Watches) → 0 < length ws → entry_onto w ws ≡ w ∷ ws
+entry_some None [] some = absurd (omega arith)
+entry_some None (u ∷ us) some = refl
+entry_some (Some v) ws some = refl
+
+pub trimmed_front : (ws : Watches) (count : ℕ) → count ≤ length ws → ((k : ℕ) → count ≤ k → k < length ws → get_or ws k None ≡ None)
+    → ((n : ℕ) → count ≡ suc n → IsSome (get_or ws n None)) → trimmed ws ≡ take count ws
+trimmed_front ws zero few none last = trimmed_none ws (λ k lt. none k (omega arith) lt)
+trimmed_front [] (suc n) few none last = absurd (omega arith)
+trimmed_front (None ∷ ws) (suc zero) few none last = absurd (true≢false (sym (last zero refl)))
+trimmed_front (Some v ∷ ws) (suc zero) few none last =
+    ap (λ (us : Watches). Some v ∷ us) (trimmed_none ws (λ k lt. none (suc k) (omega arith) (omega arith)))
+trimmed_front (w ∷ ws) (suc (suc n)) few none last =
+    let rest : trimmed ws ≡ take (suc n) ws = trimmed_front ws (suc n) (omega arith) (λ k from lt. none (suc k) (omega arith) (omega arith)) (λ m is. last (suc m) (ap suc is)) in
+    let some : 0 < length (trimmed ws) = front_some ws n (omega arith) rest in
+    entry_some w (trimmed ws) some ∙ ap (λ (us : Watches). w ∷ us) rest
+  where
+    front_some : (ws : Watches) (n : ℕ) → suc n ≤ length ws → trimmed ws ≡ take (suc n) ws → 0 < length (trimmed ws)
+    front_some [] n long is = absurd (omega arith)
+    front_some (w ∷ ws) n long is = let e : length (trimmed (w ∷ ws)) ≡ suc (length (take n ws)) = ap length is in omega (arith, e)
+
+-- what one slot more is told
+pub lists_more : (n : ℕ) (w new : World) (ws : Watches) (i : ℕ) (all : List (Vec Notice Global)) (told : Vec Notice Global) → i < length ws
+    → lists_of all ≡ notices n w new (take i ws) → told.items ≡ slot_notices n w new (get_or ws i None) → lists_of (all ++ told ∷ []) ≡ notices n w new (take (i + 1) ws)
+lists_more n w new ws i all told lt so_far one =
+    map-append (λ (v : Vec Notice Global). v.items) all (told ∷ [])
+    ∙ ap₂ (λ (xs ys : List (List Notice)). xs ++ ys) so_far (ap (λ (ns : List Notice). ns ∷ []) one)
+    ∙ sym (map-append (slot_notices n w new) (take i ws) (get_or ws i None ∷ []))
+    ∙ ap (notices n w new) (sym (take_more ws i None lt))

@@ -29,7 +29,7 @@ Evaluates wanted new (Ok v) = (wanted ≡ Ok (new.arrays, v)) × IsLive new.arra
 Evaluates wanted new (Err e) = IsFault wanted e
 
 -- the step's state is the new one, and its text was added at the end of what was printed
-abbrev pub Prints : Stepped → State → List ℕ → List ℕ → Type 0
+abbrev pub Prints : Stepped → State → (old_out new_out : List ℕ) → Type 0
 Prints (Ok (s, t)) new old_out new_out = (new ≡ s) × (new_out ≡ old_out ++ t)
 Prints (Err e) new old_out new_out = ⊥
 
@@ -39,7 +39,7 @@ pub record IsKept (old new : Scope) (old_out new_out : List ℕ) : Type 0 where
   pub printed : new_out ≡ old_out
 
 -- a statement did what is wanted, or its refusal kept all as it was, want of memory too
-abbrev pub Runs : {T : Type 0} → Stepped → Scope → Scope → List ℕ → List ℕ →
-    Result T ScopeFault → Type 0
+abbrev pub Runs : {T : Type 0} → (wanted : Stepped) → (old new : Scope) → (old_out new_out : List ℕ)
+    → Result T ScopeFault → Type 0
 Runs wanted old new old_out new_out (Ok x) = Prints wanted (machine new) old_out new_out
 Runs wanted old new old_out new_out (Err e) = IsFault wanted e × IsKept old new old_out new_out

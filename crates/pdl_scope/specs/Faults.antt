@@ -1,8 +1,10 @@
 -- The faults of the crates below as those of a statement: what a fault names has its name in the
 -- machine, and one that names nothing is want of memory.
 use Rattle.std.specs.Prelude.{Option, Some, None, option_map}
-use Rattle.pdl_engine.specs.declared.faults.ViewFault.{ViewFault}
-use Rattle.pdl_engine.specs.declared.faults.ViewFault.TheVariants as view
+use Rattle.pdl_nodes.specs.declared.faults.ViewFault.{ViewFault}
+use Rattle.pdl_nodes.specs.declared.faults.ViewFault.TheVariants as view
+use Rattle.pdl_nodes.specs.declared.relaid.RelayFault.{RelayFault}
+use Rattle.pdl_nodes.specs.declared.relaid.RelayFault.TheVariants as relay
 use Rattle.pdl_ops.specs.declared.OpFault.{OpFault}
 use Rattle.pdl_ops.specs.Answers as operator
 use Rattle.pdl_reduce.specs.declared.ReduceFault.{ReduceFault}
@@ -20,7 +22,7 @@ use Rattle.pdl_kernel.specs.Call.{fault_named}
 use Rattle.pdl_machine.specs.Kernels.{resolve_fault, run_fault}
 use Rattle.pdl_machine.specs.Refused.{operator_fault, reduce_fault}
 use Rattle.pdl_machine.specs.declared.fault.Fault.{Fault}
-use Rattle.pdl_machine.specs.declared.fault.Fault.TheVariants.{BadSignature, BadKernel, BadDimension, Mismatch, OutOfRange, TooManyDims, TooLarge, TooDeep, BadSlice}
+use Rattle.pdl_machine.specs.declared.fault.Fault.TheVariants.{BadSignature, BadKernel, BadDimension, Mismatch, OutOfRange, TooManyDims, TooLarge, TooDeep, BadSlice, ReshapeBreaks}
 use Rattle.pdl_scope.specs.declared.fault.ScopeFault.{ScopeFault}
 use Rattle.pdl_scope.specs.declared.fault.ScopeFault.TheVariants.{Script, NoMemory}
 
@@ -38,6 +40,11 @@ of_view view.TooManyDims = Script TooManyDims
 of_view view.TooLarge = Script TooLarge
 of_view view.TooDeep = Script TooDeep
 of_view view.NoMemory = NoMemory
+
+-- why an array doesn't get other dimensions
+abbrev pub of_reshape : RelayFault → ScopeFault
+of_reshape relay.Breaks = Script ReshapeBreaks
+of_reshape relay.NoMemory = NoMemory
 
 -- why an operator has no values
 abbrev pub of_operator : OpFault → ScopeFault

@@ -15,7 +15,7 @@ IsHeldForName old leaving id new left =
     ⊎ ((new ≡ record old { holds = one_more_at old.holds id }) × (left ≡ leaving))
 
 -- arrays are held for these names, these watches, and the list of those that leave
-abbrev pub IsHeldFor : Named ℕ → Watches → Engine → List ℕ → Type 0
+abbrev pub IsHeldFor : Named ℕ → Watches → Engine → (leaving : List ℕ) → Type 0
 IsHeldFor names watches e leaving =
     IsHeld (state_in (names_in names []) watches e) e.holds leaving
 

@@ -6,13 +6,13 @@ use Rattle.pdl_world.specs.Sound.{IsLive}
 use Rattle.pdl_world.specs.Swept.{KeepsAll}
 use Rattle.pdl_engine.specs.Held.{count_at}
 use Rattle.pdl_engine.specs.State.{State as Engine, StayFresh}
-use Rattle.pdl_kernel.specs.Kernels.{Kernel}
-use Rattle.pdl_machine.specs.Names.{Named, Names, names_limit}
+use Rattle.pdl_machine.specs.Names.{KernelTexts, Named, Names, names_limit}
 use Rattle.pdl_sig.specs.declared.ArgShape.{ArgShape}
 use Rattle.pdl_machine.specs.Arrays.{Arrays, array_in}
 use Rattle.pdl_sig.specs.Given.{shape_of}
 use Rattle.pdl_machine.specs.State.{State, held, IsWhole}
 use Rattle.pdl_machine.specs.Watches.{Watches}
+use Rattle.pdl_scope.specs.declared.limits.TheConstants.{MOST_SLOTS}
 use Rattle.pdl_machine.specs.Laws.{AreGrown}
 use Rattle.pdl_machine.specs.Outcome.{Seen, array}
 
@@ -21,7 +21,7 @@ abbrev pub arrays_of : Engine → Arrays
 arrays_of e = record { world = e.world; next = e.next }
 
 -- arrays and kernels by their names
-abbrev pub names_in : Named ℕ → Named Kernel → Names
+abbrev pub names_in : Named ℕ → Named KernelTexts → Names
 names_in arrays kernels = record { arrays = arrays; kernels = kernels }
 
 -- Which of an engine's arrays can be lent, what waits to be written back, and how often each array
@@ -105,7 +105,7 @@ times (u ∷ us) v = (if u == v then 1 else 0) + times us v
 
 -- at most so many slots are there
 abbrev pub slots_limit : ℕ
-slots_limit = 1024
+slots_limit = MOST_SLOTS
 
 -- The state is whole; at most so many names are bound, and at most so many slots are there; each
 -- array is held once for each name of it, once for each slot that is attached to it, and once for

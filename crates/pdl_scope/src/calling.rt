@@ -6,9 +6,9 @@ ghost use Rattle.pdl_engine.specs.State.{is_fresh, SameArrays, StayFresh};
 ghost use Rattle.pdl_sig.specs.Resolution.{is_output, resolution};
 ghost use Rattle.pdl_sig.specs.declared.SigArg.{SigArg};
 ghost use Rattle.pdl_world.specs.Sound.{IsLive};
-ghost use Rattle.pdl_machine.specs.Kernels.{called_on, kernel_outputs, outputs_count};
+ghost use Rattle.pdl_machine.specs.Kernels.{called_on, outputs_by, outputs_count};
 ghost use Rattle.pdl_scope.specs.Answers.{AnswersAs};
-ghost use Rattle.pdl_scope.specs.Scope.{arrays_of, arrays_seen, made_in, shape_in};
+ghost use Rattle.pdl_scope.specs.Scope.{made_in, shape_in};
 
 use crate::fault::ScopeFault;
 use crate::reading::ready;
@@ -32,8 +32,8 @@ pub(crate) fn kernel_outputs<L: Ledger>(
     steps: &mut Steps<L>,
 ) -> Result<Vec<Made>, ScopeFault>
     requires { All (IsLive engine.old.world) ids.now }
-    ensures value { let seen = arrays_seen (arrays_of engine.old) ids.now in
-        AnswersAs (λ ms. ms.items) (kernel_outputs kernel.now wanted seen) result }
+    ensures value { let arrays = map (made_in engine.old) ids.now in
+        AnswersAs (λ ms. ms.items) (outputs_by wanted arrays kernel.now) result }
     ensures made { IfOk result (λ ms. All (λ m. IsMade m.ty m.dims m.elems) ms.items) }
     ensures same { SameArrays engine.old engine.new }
     ensures stay { StayFresh engine.old engine.new }

@@ -1,7 +1,8 @@
 //! Arrays that are cut from their parents or get other dimensions, and names that are taken away.
-ghost use Rattle.std.specs.Prelude.{◌≡◌, ◌+◌, ◌<◌, ◌≤◌, ◌^◌, [], length, false, vec_capacity, Ok, OnOk, OnErr};
-ghost use Rattle.pdl_world.specs.Cut.{has_views, sever, reshape};
+ghost use Rattle.std.specs.Prelude.{◌≡◌, ◌+◌, ◌<◌, ◌≤◌, ◌^◌, [], length, true, false, vec_capacity, Ok, IfErr, OnOk, OnErr};
+ghost use Rattle.pdl_world.specs.Cut.{breaks, sever, reshape};
 ghost use Rattle.pdl_world.specs.Sound.{IsLive};
+ghost use Rattle.pdl_nodes.specs.declared.relaid.RelayFault.TheVariants.{Breaks};
 ghost use Rattle.pdl_engine.specs.State.{StayFresh};
 ghost use Rattle.pdl_machine.specs.Cuts.{cut, reshaped};
 ghost use Rattle.pdl_machine.specs.State.{with_arrays};
@@ -18,7 +19,7 @@ use crate::scope::Scope;
 use crate::watching::is_watched;
 use pdl_buf::Steps;
 use pdl_elem::Name;
-use pdl_engine::{ArrayId, Engine};
+use pdl_engine::{ArrayId, Engine, ReshapeFault};
 use pdl_machine::Fault;
 use pdl_shape::Dims;
 use pdl_world::{cut_laws, keeping_laws, reshape_laws};
@@ -66,8 +67,9 @@ impl Scope {
         Ok(())
     }
 
-    /// Gives an array other dimensions, with `StillConnected` where it has views or a watcher is
-    /// attached to it. The parent that it may have is kept until the statement ends.
+    /// Gives an array other dimensions, with `ReshapeBreaks` where the formula of a view that reaches
+    /// it refuses, and else `StillWatched` where a watcher is attached to it or to one that reaches
+    /// it. The parent that it may have is kept until the statement ends.
     pub fn reshape<L: Ledger>(
         &mut self,
         id: ArrayId,
@@ -79,8 +81,11 @@ impl Scope {
             let wanted = and_then arrays (λ a. Ok (with_arrays (machine self.old) a, [])) in
             Runs wanted self.old self.new [] [] result }
     {
-        if self.engine.has_views(id) || is_watched(&self.watches, id) {
-            return Err(ScopeFault::Script(Fault::StillConnected));
+        if is_watched(&self.engine, &self.watches, id) {
+            if self.engine.breaks(id, dims)? {
+                return Err(ScopeFault::Script(Fault::ReshapeBreaks));
+            }
+            return Err(ScopeFault::Script(Fault::StillWatched));
         }
         self.leaving.reserve(1)?;
         Ok(laid_anew(&mut self.engine, &mut self.leaving, id, dims, steps)?)
@@ -131,20 +136,22 @@ fn cut_apart<L: Ledger>(
     engine.sever(id, steps)
 }
 
-/// Gives an array without views other dimensions, and holds the parent that it may have.
+/// Gives an array other dimensions, and holds the parent that it may have.
 fn laid_anew<L: Ledger>(
     engine: &mut Engine,
     leaving: &mut Vec<ArrayId>,
     id: ArrayId,
     dims: &Dims,
     steps: &mut Steps<L>,
-) -> Result<(), AllocError>
+) -> Result<(), ReshapeFault>
     requires live { IsLive engine.old.world id }
-    requires viewless { has_views engine.old.world id ≡ false }
     requires room { length leaving.old.items < vec_capacity leaving.old }
     requires small { length leaving.old.items < 2 ^ 62 }
     requires held { IsHeldBeside engine.old leaving.old.items }
     ensures ok { OnOk result (engine.new.world ≡ reshape engine.old.world id dims.now) }
+    ensures allowed { OnOk result (breaks engine.old.world id dims.now ≡ false) }
+    ensures broken { IfErr result
+        (λ fault. fault ≡ Breaks → breaks engine.old.world id dims.now ≡ true) }
     ensures err { OnErr result (engine.new.world ≡ engine.old.world) }
     ensures next { engine.new.next ≡ engine.old.next }
     ensures stay { OnErr result (StayFresh engine.old engine.new) }

@@ -1,5 +1,5 @@
 //! Why a call of a scope gave nothing.
-use pdl_engine::ViewFault;
+use pdl_engine::{ReshapeFault, ViewFault};
 use pdl_kernel::{KernelFault, RunFault};
 use pdl_machine::Fault;
 use pdl_ops::OpFault;
@@ -54,6 +54,20 @@ impl From<ViewFault> for ScopeFault {
             ViewFault::TooLarge => ScopeFault::Script(Fault::TooLarge),
             ViewFault::TooDeep => ScopeFault::Script(Fault::TooDeep),
             ViewFault::NoMemory => ScopeFault::NoMemory,
+        }
+    }
+}
+
+impl From<ReshapeFault> for ScopeFault {
+    ghost use Rattle.std.specs.Prelude.{◌≡◌};
+    ghost use Rattle.pdl_scope.specs.Faults.{of_reshape};
+
+    ghost from_gives = { λ refused fault. fault ≡ of_reshape refused };
+
+    fn from(refused: ReshapeFault) -> ScopeFault {
+        match refused {
+            ReshapeFault::Breaks => ScopeFault::Script(Fault::ReshapeBreaks),
+            ReshapeFault::NoMemory => ScopeFault::NoMemory,
         }
     }
 }

@@ -5,6 +5,8 @@ ghost use Rattle.pdl_world.specs.Paths.{parent_in};
 ghost use Rattle.pdl_world.specs.Swept.{holds};
 ghost use Rattle.pdl_world.specs.Sound.{IsLive};
 ghost use Rattle.pdl_engine.specs.Held.{count_at};
+ghost use Rattle.pdl_engine.specs.Reading.{KeepsViews};
+ghost use Rattle.pdl_engine.specs.State.{is_fresh};
 ghost use Rattle.pdl_machine.specs.Names.{Names as AllNames, with_name, names_limit};
 ghost use Rattle.pdl_machine.specs.State.{AreLive};
 ghost use Rattle.pdl_machine.specs.Watches.{Watches};
@@ -149,12 +151,15 @@ pub(crate) fn bind_all(
 }
 
 /// Takes one hold back for each place in a list. That is unseen where names and watches hold all
-/// the others.
+/// the others. What is left can be lent as before, and no step is taken where no view goes.
 pub(crate) fn release_all<L: Ledger>(engine: &mut Engine, leaving: &[ArrayId], steps: &mut Steps<L>)
     requires { IsHeldBeside engine.old leaving.now }
-    ensures { (names : AllNames) (watches : Watches) →
+    ensures lets_go { (names : AllNames) (watches : Watches) →
         IsHeld (state_in names watches engine.old) engine.old.holds leaving.now →
         LetsGo names watches engine.old engine.new [] }
+    ensures stay { (v : ℕ) → IsLive engine.new.world v → is_fresh engine.old v ≡ true
+        → is_fresh engine.new v ≡ true }
+    ensures counted { KeepsViews engine.old.world engine.new.world → steps.new ≡ steps.old }
 {
     sweep_laws();
     keeping_laws();
@@ -162,6 +167,7 @@ pub(crate) fn release_all<L: Ledger>(engine: &mut Engine, leaving: &[ArrayId], s
     hold_laws();
     for id in leaving {
         engine.holds_law();
+        engine.lazy_law();
         engine.release(*id, steps);
     }
 }

@@ -1,35 +1,70 @@
 //! The kernels that are defined.
 ghost use Rattle.std.specs.Prelude.{◌≡◌, [], Ok, IfErr, OnOk, OnErr, option_map};
 ghost use Rattle.pdl_machine.specs.declared.fault.Fault.TheVariants.{TooManyKernels};
+ghost use Rattle.pdl_machine.specs.Kernels.{kernel_of, texts_of};
 ghost use Rattle.pdl_machine.specs.Names.{found, entered, is_full_for, kernels_limit};
 ghost use Rattle.pdl_scope.specs.Answers.{IsFault};
 
 use crate::fault::ScopeFault;
 use indexmap::IndexMap;
-use pdl_elem::Name;
+use pdl_elem::{Name, Text};
 use pdl_kernel::Kernel;
-use pdl_machine::Fault;
+use pdl_machine::{Fault, MOST_KERNELS};
 use std::alloc::Global;
 use std::marker::Model;
 
-/// At most so many kernels are there at once.
-const MOST_KERNELS: usize = 256;
+/// A kernel with the two texts by which it was defined. Contracts see the texts, which are read as
+/// that kernel.
+#[derive(Drop)]
+pub struct DefinedKernel {
+    signature: Text,
+    code: Text,
+    kernel: Kernel,
+}
+
+impl Model for DefinedKernel {
+    ghost use Rattle.std.specs.Prelude.{◌≡◌, Ok};
+    ghost use Rattle.pdl_machine.specs.Kernels.{kernel_of, texts_of};
+    ghost use Rattle.pdl_machine.specs.Names.{KernelTexts};
+
+    ghost Value = { KernelTexts };
+
+    ghost view = { λ k. texts_of k.signature k.code };
+
+    ghost invariant = { λ k. kernel_of (texts_of k.signature k.code) ≡ Ok k.kernel };
+}
+
+impl DefinedKernel {
+    /// The kernel that these two texts are read as.
+    pub fn new(signature: Text, code: Text, kernel: Kernel) -> DefinedKernel
+        requires { kernel_of (texts_of signature code) ≡ Ok kernel }
+        ensures { result ≡ texts_of signature code }
+    {
+        DefinedKernel {
+            signature,
+            code,
+            kernel,
+        }
+    }
+
+    /// The kernel that its texts are read as.
+    pub(crate) fn kernel(&self) -> &Kernel
+        ensures { kernel_of self.now ≡ Ok result.now }
+    {
+        &self.kernel
+    }
+}
 
 /// The kernels by their names, in the order of their first definitions.
 #[derive(Drop)]
 pub struct Kernels {
-    kernels: IndexMap<Name, Kernel>,
+    kernels: IndexMap<Name, DefinedKernel>,
 }
 
 impl Model for Kernels {
-    ghost use Rattle.std.specs.Coded.{codes};
-    ghost use Rattle.pdl_kernel.specs.Coding.{coded_code};
-    ghost use Rattle.pdl_kernel.specs.Kernels.{Kernel};
-    ghost use Rattle.pdl_machine.specs.Names.{Named};
+    ghost use Rattle.pdl_machine.specs.Names.{KernelTexts, Named};
 
-    ghost Value = { Named Kernel };
-
-    ghost coded = { Prim.hlevel (codes, coded_code) };
+    ghost Value = { Named KernelTexts };
 
     ghost view = { λ k. k.kernels.entries };
 }
@@ -45,7 +80,7 @@ impl Kernels {
     }
 
     /// The kernel of a name.
-    pub fn get(&self, name: &Name) -> Option<&Kernel>
+    pub fn get(&self, name: &Name) -> Option<&DefinedKernel>
         ensures { option_map (λ k. k.now) result ≡ found self.now name.now }
     {
         self.kernels.get(name)
@@ -53,7 +88,7 @@ impl Kernels {
 
     /// Defines a kernel of a name, with `TooManyKernels` where it is new and 256 are there. A known
     /// kernel is defined anew.
-    pub fn define(&mut self, name: Name, kernel: Kernel) -> Result<(), ScopeFault>
+    pub fn define(&mut self, name: Name, kernel: DefinedKernel) -> Result<(), ScopeFault>
         ensures ok { let wanted = entered kernels_limit TooManyKernels self.old name kernel in
             OnOk result (wanted ≡ Ok self.new) }
         ensures fault { let wanted = entered kernels_limit TooManyKernels self.old name kernel in

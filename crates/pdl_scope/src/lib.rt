@@ -8,6 +8,7 @@ mod cutting;
 mod fault;
 mod holding;
 mod kernels;
+mod limits;
 mod names;
 mod operating;
 mod print;
@@ -17,4 +18,6 @@ mod scope;
 mod watching;
 
 pub use fault::ScopeFault;
+pub use kernels::DefinedKernel;
+pub use limits::MOST_SLOTS;
 pub use scope::Scope;

@@ -9,12 +9,9 @@ use crate::fault::ScopeFault;
 use indexmap::IndexMap;
 use pdl_elem::Name;
 use pdl_engine::ArrayId;
-use pdl_machine::Fault;
+use pdl_machine::{Fault, MOST_NAMES};
 use std::alloc::{AllocError, Global};
 use std::marker::Model;
-
-/// At most so many names are bound at once.
-const MOST_NAMES: usize = 512;
 
 /// The bound names with their arrays, in the order of their first bindings.
 #[derive(Drop)]

@@ -1,9 +1,11 @@
 //! Operators and assignments on the arrays of a scope.
-ghost use Rattle.std.specs.Prelude.{◌≡◌, ◌&&◌, true, [], Ok, IfOk, IfSome, OnOk, is_some};
+ghost use Rattle.std.specs.Prelude.{◌≡◌, ◌+◌, ◌≤◌, ◌&&◌, true, [], Ok, IfOk, IfSome, OnOk, is_some};
+ghost use Rattle.pdl_shape.specs.Shape.{size_of};
 ghost use Rattle.pdl_buf.specs.Made.{IsMade};
 ghost use Rattle.pdl_ops.specs.Elementwise.{unary_each};
 ghost use Rattle.pdl_world.specs.Sound.{IsLive};
 ghost use Rattle.pdl_world.specs.World.{dims_in, ty_in};
+ghost use Rattle.pdl_engine.specs.Reading.{IsWarm, KeepsViews};
 ghost use Rattle.pdl_engine.specs.State.{is_fresh, SameArrays, StayFresh};
 ghost use Rattle.pdl_machine.specs.Arrays.{array_in};
 ghost use Rattle.pdl_machine.specs.Operators.{binary_each, values_for};
@@ -11,10 +13,10 @@ ghost use Rattle.pdl_machine.specs.Outcome.{new_root};
 ghost use Rattle.pdl_machine.specs.Step.{assigned};
 ghost use Rattle.pdl_machine.specs.State.{with_arrays};
 ghost use Rattle.pdl_machine.specs.Then.{and_then};
-ghost use Rattle.pdl_machine.specs.Watches.{notices};
+ghost use Rattle.pdl_machine.specs.Watches.{attached, notices};
 ghost use Rattle.pdl_watch.specs.Slots.{lists_of};
 ghost use Rattle.pdl_scope.specs.Answers.{Answers, AnswersAs, Evaluates, Runs};
-ghost use Rattle.pdl_scope.specs.Scope.{machine, Grows, arrays_of};
+ghost use Rattle.pdl_scope.specs.Scope.{engine_of, machine, Grows, arrays_of};
 
 use crate::fault::ScopeFault;
 use crate::reading::{ready, ready_two};
@@ -72,7 +74,9 @@ impl Scope {
 
     /// Assigns an array to another one by a sign, and answers by slots what watchers are to be
     /// told: a notice of this number for each position at which the array of the slot changed. All
-    /// values and all notices are found before one value is written, which takes no memory.
+    /// values and all notices are found before one value is written, which takes no memory. Where
+    /// both arrays can be lent and no slot is attached, it takes at most a step for each position;
+    /// and what was assigned to can be lent afterwards, unless its base has repeats.
     pub fn assign<L: Ledger>(
         &mut self,
         sign: AssignOp,
@@ -89,6 +93,11 @@ impl Scope {
         ensures told { let before = self.old.arrays.world in
             let wanted = notices number before self.new.arrays.world self.old.watches in
             IfOk result (λ all. lists_of all.items ≡ wanted) }
+        ensures warm { OnOk result (IsWarm (engine_of self.new) target) }
+        ensures views { KeepsViews self.new.arrays.world self.old.arrays.world }
+        ensures at_once { let e = engine_of self.old in is_fresh e target ≡ true
+            → is_fresh e value ≡ true → attached self.old.watches ≡ []
+            → steps.new ≤ steps.old + size_of (dims_in e.world target) }
     {
         assignment_laws();
         keeping_laws();
@@ -176,6 +185,8 @@ fn written<L: Ledger>(
         AnswersAs (λ vs. vs.items) (values_for sign (array_in a target) (array_in a value)) result }
     ensures made { let w = engine.new.world in
         IfOk result (λ vs. IsMade (ty_in w target) (dims_in w target) vs.items) }
+    ensures at_once { is_fresh engine.old target ≡ true → is_fresh engine.old value ≡ true
+        → steps.new ≡ steps.old }
 {
     if let Some(found) = written_at_once(alloc, engine, sign, target, value) {
         return found;

@@ -1,11 +1,13 @@
 //! What is printed of arrays and names.
-ghost use Rattle.std.specs.Prelude.{◌≡◌, ◌++◌, OnOk};
+ghost use Rattle.std.specs.Prelude.{◌≡◌, ◌+◌, ◌++◌, ◌≤◌, true, false, OnOk};
 ghost use Rattle.std.specs.List.{flat_map};
 ghost use Rattle.pdl_world.specs.Sound.{IsLive};
 ghost use Rattle.pdl_machine.specs.Arrays.{array_in};
 ghost use Rattle.pdl_print.specs.Pieces.{Begins};
 ghost use Rattle.pdl_machine.specs.Step.{printed, info_line, name_line};
-ghost use Rattle.pdl_scope.specs.Scope.{OnlyReads};
+ghost use Rattle.pdl_engine.specs.Reading.{read_steps};
+ghost use Rattle.pdl_engine.specs.State.{is_fresh};
+ghost use Rattle.pdl_scope.specs.Scope.{engine_of, OnlyReads};
 
 use crate::reading::ready;
 use crate::scope::Scope;
@@ -17,7 +19,8 @@ use std::alloc::AllocError;
 use std::sync::ledger::Ledger;
 
 impl Scope {
-    /// Prints an array, or its info line. A part of it may stand in `out` after want of memory.
+    /// Prints an array, which can be lent afterwards, or its info line, which reads no element. A part
+    /// of it may stand in `out` after want of memory.
     pub fn print<L: Ledger>(
         &mut self,
         id: ArrayId,
@@ -30,6 +33,9 @@ impl Scope {
             OnOk result (out.new.items ≡ out.old.items ++ text) }
         ensures front { Begins out.old.items out.new.items }
         ensures same { OnlyReads self.old self.new }
+        ensures counted { steps.new ≤ steps.old + read_steps (engine_of self.old) id }
+        ensures unread { info ≡ true → steps.new ≡ steps.old }
+        ensures lent { OnOk result (info ≡ false → is_fresh (engine_of self.new) id ≡ true) }
     {
         if info {
             return self.print_info(id, out);

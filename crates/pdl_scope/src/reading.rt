@@ -1,5 +1,5 @@
-//! Reading the elements of arrays.
-ghost use Rattle.std.specs.Prelude.{◌≡◌, IsTrue, ◌≤◌, ◌<◌, length, All, IfOk, true, OnOk};
+//! Reading the elements of arrays. What can be lent is read without a step.
+ghost use Rattle.std.specs.Prelude.{◌≡◌, IsTrue, ◌+◌, ◌≤◌, ◌<◌, length, All, IfOk, true, OnOk};
 ghost use Rattle.pdl_elem.specs.Types.{InRange};
 ghost use Rattle.pdl_shape.specs.Shape.{size_of};
 ghost use Rattle.pdl_buf.specs.Made.{IsMade};
@@ -9,17 +9,18 @@ ghost use Rattle.pdl_world.specs.World.{dims_in, ty_in, elements};
 ghost use Rattle.pdl_world.specs.Sound.{IsLive};
 ghost use Rattle.pdl_machine.specs.Arrays.{array_in};
 ghost use Rattle.pdl_machine.specs.Fills.{only};
+ghost use Rattle.pdl_engine.specs.Reading.{read_steps};
 ghost use Rattle.pdl_engine.specs.State.{is_fresh, SameArrays, StayFresh};
-ghost use Rattle.pdl_scope.specs.Scope.{OnlyReads};
+ghost use Rattle.pdl_scope.specs.Scope.{engine_of, OnlyReads};
 
 use crate::scope::Scope;
-use pdl_buf::{Elements, Made, Steps, Strided, strided_dims, strided_get, strided_read};
+use pdl_buf::{Elements, Made, Steps, strided_get};
 use pdl_choice::{Positions, which_places};
 use pdl_elem::Ty;
-use pdl_engine::{ArrayId, Engine};
+use pdl_engine::{ArrayId, Engine, all_shown};
 use pdl_ops::convert;
 use pdl_shape::{copy_dims, elements_of};
-use std::alloc::{AllocError, Global};
+use std::alloc::AllocError;
 use std::sync::ledger::Ledger;
 
 impl Scope {
@@ -36,6 +37,7 @@ impl Scope {
         ensures count { let dims = dims_in self.old.arrays.world id in
             IfOk result (λ ns. length ns.items ≡ size_of dims) }
         ensures same { OnlyReads self.old self.new }
+        ensures counted { steps.new ≤ steps.old + read_steps (engine_of self.old) id }
     {
         ready(&mut self.engine, id, steps)?;
         all_shown(self.alloc, &self.engine.lend(id))
@@ -50,6 +52,7 @@ impl Scope {
         requires { IsLive self.old.arrays.world id }
         ensures number { IfOk result (λ n. n ≡ only (elements self.old.arrays.world id)) }
         ensures same { OnlyReads self.old self.new }
+        ensures counted { steps.new ≤ steps.old + read_steps (engine_of self.old) id }
     {
         if elements_of(self.engine.dims(id)) != 1 {
             return Ok(None);
@@ -68,6 +71,7 @@ impl Scope {
         ensures value { IfOk result (λ m. m ≡ array_in self.old.arrays id) }
         ensures made { IfOk result (λ m. IsMade m.ty m.dims m.elems) }
         ensures same { OnlyReads self.old self.new }
+        ensures counted { steps.new ≤ steps.old + read_steps (engine_of self.old) id }
     {
         let elems = self.numbers(id, steps)?;
         Ok(Made {
@@ -88,6 +92,7 @@ impl Scope {
         ensures value { IfOk result (λ m. m ≡ converted ty (array_in self.old.arrays id)) }
         ensures made { IfOk result (λ m. IsMade m.ty m.dims m.elems) }
         ensures same { OnlyReads self.old self.new }
+        ensures counted { steps.new ≤ steps.old + read_steps (engine_of self.old) id }
     {
         ready(&mut self.engine, id, steps)?;
         convert(self.alloc, ty, &self.engine.lend(id))
@@ -108,6 +113,7 @@ impl Scope {
         ensures below { let count = size_of (dims_in self.old.arrays.world id) in
             IfOk result (λ ps. All (λ p. p < count) ps) }
         ensures same { OnlyReads self.old self.new }
+        ensures counted { steps.new ≤ steps.old + read_steps (engine_of self.old) id }
     {
         let _count = elements_of(self.dims(id));
         let numbers = self.numbers(id, steps)?;
@@ -115,7 +121,8 @@ impl Scope {
     }
 }
 
-/// Makes an array one that can be lent. Where it is one already, nothing else is looked at.
+/// Makes an array one that can be lent. Where it is one already, nothing else is looked at and no
+/// step is taken.
 pub(crate) fn ready<L: Ledger>(
     engine: &mut Engine,
     id: ArrayId,
@@ -125,6 +132,7 @@ pub(crate) fn ready<L: Ledger>(
     ensures same { SameArrays engine.old engine.new }
     ensures stay { StayFresh engine.old engine.new }
     ensures itself { OnOk result (is_fresh engine.new id ≡ true) }
+    ensures counted { steps.new ≤ steps.old + read_steps engine.old id }
 {
     if engine.is_fresh(id) {
         return Ok(());
@@ -148,16 +156,4 @@ pub(crate) fn ready_two<L: Ledger>(
 {
     ready(engine, left, steps)?;
     ready(engine, right, steps)
-}
-
-/// The elements that are shown.
-pub(crate) fn all_shown(alloc: Global, window: &Strided<'_>) -> Result<Vec<i64>, AllocError>
-    ensures items { IfOk result (λ ns. ns.items ≡ window.now.elems) }
-    ensures in_range { IfOk result (λ ns. All (InRange window.now.ty) ns.items) }
-    ensures count { IfOk result (λ ns. length ns.items ≡ size_of window.now.dims) }
-{
-    let count = elements_of(strided_dims(window)) as usize;
-    let mut numbers = vec![in alloc; 0; count]?;
-    strided_read(window, 0, &mut numbers);
-    Ok(numbers)
 }

@@ -1,30 +1,31 @@
 //! Names, kernels, arrays, and which of these watchers are attached to.
-ghost use Rattle.std.specs.Prelude.{◌≡◌, ◌<◌, [], length, All, IfOk, IfSome, IsTrue, is_some, slice_get, Some};
+ghost use Rattle.std.specs.Prelude.{◌≡◌, ℕ, ◌+◌, ◌<◌, ◌≤◌, true, [], length, All, IfOk, IfSome, IsTrue, is_some, slice_get, Some};
 ghost use Rattle.pdl_shape.specs.Shape.{IsDims};
+ghost use Rattle.pdl_numbers.specs.Typed.{count_moved};
 ghost use Rattle.pdl_buf.specs.Made.{IsMade};
 ghost use Rattle.pdl_world.specs.Formula.{is_well_formed};
 ghost use Rattle.pdl_world.specs.Refused.{view_refusal};
 ghost use Rattle.pdl_world.specs.World.{dims_in, ty_in};
 ghost use Rattle.pdl_world.specs.Sound.{IsLive};
-ghost use Rattle.pdl_engine.specs.State.{no_arrays};
+ghost use Rattle.pdl_engine.specs.Reading.{KeepsViews};
+ghost use Rattle.pdl_engine.specs.State.{no_arrays, is_fresh, IsLazy};
 ghost use Rattle.pdl_machine.specs.Calls.{outputs_of};
 ghost use Rattle.pdl_machine.specs.Names.{found, nothing_named, number_of};
 ghost use Rattle.pdl_machine.specs.State.{kept, with_world, IsWhole};
 ghost use Rattle.pdl_machine.specs.Tidy.{tidy};
 ghost use Rattle.pdl_machine.specs.Outcome.{new_root, new_view};
 ghost use Rattle.pdl_machine.specs.Step.{bind_value, roots_bound, kernel_named};
-ghost use Rattle.pdl_scope.specs.Scope.{machine, scope_in, Grows, OnlyReads, array_of, arrays_seen};
+ghost use Rattle.pdl_scope.specs.Scope.{engine_of, machine, scope_in, Grows, OnlyReads, array_of, arrays_seen};
 ghost use Rattle.pdl_scope.specs.Answers.{AnswersAs, Evaluates, Runs};
 
 use crate::calling::kernel_outputs;
 use crate::fault::ScopeFault;
 use crate::holding::{bind_all, hold_for_name, note, note_some, release_all};
-use crate::kernels::Kernels;
+use crate::kernels::{DefinedKernel, Kernels};
 use crate::names::Names;
 use pdl_buf::{Elements, Made, Steps};
 use pdl_elem::{Name, Ty};
 use pdl_engine::{ArrayId, Engine, hold_laws};
-use pdl_kernel::Kernel;
 use pdl_machine::{Fault, numbering_laws};
 use pdl_shape::Dims;
 use pdl_world::{Trans, growth_laws, keeping_laws};
@@ -49,13 +50,9 @@ pub struct Scope {
 }
 
 impl Model for Scope {
-    ghost use Rattle.std.specs.Coded.{codes};
-    ghost use Rattle.pdl_kernel.specs.Coding.{coded_code};
     ghost use Rattle.pdl_scope.specs.Scope.{names_in, scope_in, state_in, IsHeld, Scope as Seen};
 
     ghost Value = { Seen };
-
-    ghost coded = { Prim.hlevel (codes, coded_code) };
 
     ghost view = { λ s. scope_in (names_in s.names.entries s.kernels) s.watches.items s.engine };
 
@@ -83,6 +80,14 @@ impl Scope {
         ensures { IsWhole (machine self.now) }
     {
         let _alloc = self.alloc;
+    }
+
+    /// What a scope can lend is as its engine's law of lazy views says. The call does nothing when
+    /// it runs.
+    pub fn lazy_law(&self)
+        ensures { IsLazy (engine_of self.now) }
+    {
+        self.engine.lazy_law()
     }
 
     /// The allocator of all that the scope keeps.
@@ -131,7 +136,8 @@ impl Scope {
         self.engine.ty(id)
     }
 
-    /// A new array of these dimensions and elements.
+    /// A new array of these dimensions and elements, which can be lent. It takes at most a step for
+    /// each number that isn't 0.
     pub fn make<L: Ledger>(
         &mut self,
         ty: Ty,
@@ -143,6 +149,9 @@ impl Scope {
         ensures value { let wanted = new_root self.old.arrays (array_of ty dims.now elems) in
             Evaluates wanted self.new result }
         ensures grown { Grows self.old self.new }
+        ensures fresh { IfOk result (λ id. is_fresh (engine_of self.new) id ≡ true) }
+        ensures roots { KeepsViews self.new.arrays.world self.old.arrays.world }
+        ensures counted { steps.new ≤ steps.old + count_moved elems }
     {
         growth_laws();
         keeping_laws();
@@ -163,6 +172,9 @@ impl Scope {
         requires { IsMade made.ty made.dims made.elems }
         ensures value { Evaluates (new_root self.old.arrays made) self.new result }
         ensures grown { Grows self.old self.new }
+        ensures fresh { IfOk result (λ id. is_fresh (engine_of self.new) id ≡ true) }
+        ensures roots { KeepsViews self.new.arrays.world self.old.arrays.world }
+        ensures counted { steps.new ≤ steps.old + count_moved made.elems }
     {
         let elems = made.elems;
         self.make(made.ty, &made.dims, elems, steps)
@@ -177,6 +189,9 @@ impl Scope {
         requires { IsMade made.now.ty made.now.dims made.now.elems }
         ensures value { Evaluates (new_root self.old.arrays made.now) self.new result }
         ensures grown { Grows self.old self.new }
+        ensures fresh { IfOk result (λ id. is_fresh (engine_of self.new) id ≡ true) }
+        ensures roots { KeepsViews self.new.arrays.world self.old.arrays.world }
+        ensures counted { steps.new ≤ steps.old + count_moved made.now.elems }
     {
         let elems = made.elems.copied(self.alloc, made.ty)?;
         self.make(made.ty, &made.dims, elems, steps)
@@ -245,10 +260,15 @@ impl Scope {
     }
 
     /// Takes back the holds that end with a statement, so that what no name and no watcher reaches
-    /// goes. What is left when the state is tidied is the same.
+    /// goes. What is left when the state is tidied is the same, and what is left can be lent as
+    /// before. Where no view goes no step is taken.
     pub fn let_go<L: Ledger>(&mut self, steps: &mut Steps<L>)
         ensures gone { machine self.new ≡ with_world (machine self.old) (kept (machine self.old)) }
         ensures unseen { tidy (machine self.new) ≡ tidy (machine self.old) }
+        ensures stay { (v : ℕ) → IsLive self.new.arrays.world v
+            → is_fresh (engine_of self.old) v ≡ true → is_fresh (engine_of self.new) v ≡ true }
+        ensures counted { KeepsViews self.old.arrays.world self.new.arrays.world
+            → steps.new ≡ steps.old }
     {
         numbering_laws();
         release_all(&mut self.engine, &self.leaving, steps);
@@ -263,7 +283,7 @@ impl Scope {
     }
 
     /// Defines a kernel of a name, with `TooManyKernels` where it is new and 256 are there.
-    pub fn define(&mut self, name: Name, kernel: Kernel) -> Result<(), ScopeFault>
+    pub fn define(&mut self, name: Name, kernel: DefinedKernel) -> Result<(), ScopeFault>
         ensures { let wanted = kernel_named (machine self.old) name kernel in
             Runs wanted self.old self.new [] [] result }
     {
@@ -293,9 +313,9 @@ impl Scope {
         ensures same { OnlyReads self.old self.new }
     {
         match self.kernels.get(name) {
-            Some(kernel) => kernel_outputs(
+            Some(defined) => kernel_outputs(
                 self.alloc,
-                kernel,
+                defined.kernel(),
                 &mut self.engine,
                 wanted,
                 ids,

@@ -1,25 +1,27 @@
 //! Which arrays the slots of watchers are attached to, and what watchers are to be told.
-ghost use Rattle.std.specs.Prelude.{◌≡◌, ◌<◌, [], length, IfOk, IfSome, IsSome, None, Ok, OnOk, OnErr};
+ghost use Rattle.std.specs.Prelude.{◌≡◌, ◌<◌, ℕ, ℤ, List, [], length, take, IfOk, IfSome, IsSome, is_some, None, Ok, OnOk, OnErr, ◌∷◌};
 ghost use Rattle.pdl_world.specs.Sound.{IsLive};
-ghost use Rattle.pdl_world.specs.Swept.{holds};
 ghost use Rattle.pdl_world.specs.World.{assign, elements};
+ghost use Rattle.pdl_engine.specs.Foresights.{Foretells};
 ghost use Rattle.pdl_engine.specs.State.{SameArrays, StayFresh};
 ghost use Rattle.pdl_watch.specs.Changes.{changes};
 ghost use Rattle.pdl_watch.specs.Slots.{lists_of};
+ghost use Rattle.pdl_machine.specs.Cuts.{is_watched};
 ghost use Rattle.pdl_machine.specs.State.{AreLive};
-ghost use Rattle.pdl_machine.specs.Watches.{attach, attached, detach, notices, padded, slot_notices, watch_of};
+ghost use Rattle.pdl_machine.specs.Watches.{attach, attached, detach, notices, padded, slot_notices, trimmed, watch_of};
 ghost use Rattle.pdl_scope.specs.Answers.{Runs};
 ghost use Rattle.pdl_scope.specs.Assigning.{CanAssign};
 ghost use Rattle.pdl_scope.specs.Scope.{machine, slots_limit};
 
 use crate::fault::ScopeFault;
 use crate::holding::note_some;
-use crate::reading::all_shown;
 use crate::scope::Scope;
 use pdl_buf::Steps;
-use pdl_engine::{ArrayId, Engine, hold_laws};
-use pdl_watch::{Notice, changes};
-use pdl_world::{assignment_laws, keeping_laws};
+use pdl_engine::{ArrayId, Engine, Foresight, hold_laws};
+use pdl_machine::watching_laws;
+use pdl_shape::elements_of;
+use pdl_watch::{Notice, change_laws, changes};
+use pdl_world::keeping_laws;
 use std::alloc::{AllocError, Global};
 use std::sync::ledger::Ledger;
 
@@ -59,6 +61,7 @@ impl Scope {
             Runs wanted self.old self.new [] [] result }
     {
         keeping_laws();
+        watching_laws();
         self.leaving.reserve(1)?;
         let had = detach(&mut self.watches, slot);
         note_some(&mut self.leaving, had);
@@ -102,18 +105,88 @@ fn detach(watches: &mut Vec<Option<ArrayId>>, slot: usize) -> Option<ArrayId>
 {
     let had = watches[slot];
     watches[slot] = None;
+    trim(watches);
     had
 }
 
-/// Whether a slot is attached to an array.
-pub(crate) fn is_watched(watches: &[Option<ArrayId>], id: ArrayId) -> bool
-    ensures { result ≡ holds (attached watches.now) id }
+/// Whether a slot is attached by its entry in a list by slots.
+fn is_attached(watches: &[Option<ArrayId>], slot: usize) -> bool
+    requires { slot < length watches.now }
+    ensures { result ≡ is_some (watch_of watches.now slot) }
 {
-    watches.contains(&Some(id))
+    watches[slot].is_some()
+}
+
+/// How many entries a list by slots has up to the last one that attaches a slot.
+fn attached_count(watches: &[Option<ArrayId>]) -> usize
+    ensures { trimmed watches.now ≡ take result watches.now }
+{
+    let mut count = watches.len();
+    'trimming: while count > 0 {
+        if is_attached(watches, count - 1) {
+            return count;
+        }
+        count -= 1;
+    }
+    0
+}
+
+/// Drops the entries of a list by slots behind the last one that attaches a slot.
+fn trim(watches: &mut Vec<Option<ArrayId>>)
+    ensures { watches.new.items ≡ trimmed watches.old.items }
+{
+    let count = attached_count(watches);
+    watches.truncate(count);
+}
+
+/// Whether a slot is attached to an array, or to one that reaches it by parents.
+pub(crate) fn is_watched(engine: &Engine, watches: &[Option<ArrayId>], id: ArrayId) -> bool
+    requires { AreLive engine.now.world (attached watches.now) }
+    ensures { result ≡ is_watched watches.now engine.now.world id }
+{
+    for watch in watches {
+        if is_below(engine, *watch, id) {
+            return true;
+        }
+    }
+    false
+}
+
+/// Whether the array of a slot, if it is attached, reaches an array by parents.
+fn is_below(engine: &Engine, watch: Option<ArrayId>, id: ArrayId) -> bool
+    requires { IfSome watch (IsLive engine.now.world) }
+    ensures { result ≡ is_watched (watch ∷ []) engine.now.world id }
+{
+    match watch {
+        Some(seen) => engine.reaches(seen, id),
+        None => false,
+    }
+}
+
+/// How many elements the arrays of the attached slots have, each slot's counted.
+fn watched_count(engine: &Engine, watches: &[Option<ArrayId>]) -> u64
+    requires { AreLive engine.now.world (attached watches.now) }
+{
+    let mut count: u64 = 0;
+    for watch in watches {
+        count = count.saturating_add(count_of(engine, *watch));
+    }
+    count
+}
+
+/// How many elements the array of a slot has, and none where it isn't attached.
+fn count_of(engine: &Engine, watch: Option<ArrayId>) -> u64
+    requires { IfSome watch (IsLive engine.now.world) }
+{
+    match watch {
+        Some(id) => u64::from(elements_of(engine.dims(id))),
+        None => 0,
+    }
 }
 
 /// What the watcher of each slot is to be told of an assignment that will be made. Its target can
-/// be lent, and so it can afterwards. Where no slot is attached no step is taken.
+/// be lent, and so it can afterwards. What it will write is found once for all slots. Where no slot
+/// is attached nothing is looked at.
 pub(crate) fn foreseen<L: Ledger>(
     alloc: Global,
     engine: &mut Engine,
@@ -130,10 +203,36 @@ pub(crate) fn foreseen<L: Ledger>(
         IfOk result (λ all. lists_of all.items ≡ wanted) }
     ensures same { SameArrays engine.old engine.new }
     ensures stay { StayFresh engine.old engine.new }
+    ensures quiet { attached watches.now ≡ [] → steps.new ≡ steps.old }
+{
+    if watches.is_empty() {
+        return Ok(Vec::new(alloc));
+    }
+    let lookups = watched_count(engine, watches);
+    let foresight = engine.foretell(target, values, lookups)?;
+    all_foreseen(alloc, engine, number, &foresight, watches, steps)
+}
+
+/// What the watcher of each slot is to be told, where this is what will be written.
+fn all_foreseen<L: Ledger>(
+    alloc: Global,
+    engine: &mut Engine,
+    number: u64,
+    foresight: &Foresight,
+    watches: &[Option<ArrayId>],
+    steps: &mut Steps<L>,
+) -> Result<Vec<Vec<Notice>>, AllocError>
+    requires { AreLive engine.old.world (attached watches.now) }
+    ensures told { let w = engine.old.world in
+        (v : ℕ) → (vs : List ℤ) → Foretells w v vs foresight.now
+        → IfOk result (λ all. lists_of all.items ≡ notices number w (assign w v vs) watches.now) }
+    ensures same { SameArrays engine.old engine.new }
+    ensures stay { StayFresh engine.old engine.new }
+    ensures quiet { attached watches.now ≡ [] → steps.new ≡ steps.old }
 {
     let mut all = Vec::with_capacity(alloc, watches.len())?;
     for watch in watches {
-        let told = slot_foreseen(alloc, engine, number, target, values, *watch, steps)?;
+        let told = slot_foreseen(alloc, engine, number, foresight, *watch, steps)?;
         all.push(told)?;
     }
     Ok(all)
@@ -144,21 +243,20 @@ fn slot_foreseen<L: Ledger>(
     alloc: Global,
     engine: &mut Engine,
     number: u64,
-    target: ArrayId,
-    values: &[i64],
+    foresight: &Foresight,
     watch: Option<ArrayId>,
     steps: &mut Steps<L>,
 ) -> Result<Vec<Notice>, AllocError>
-    requires assigns { CanAssign engine.old target values.now }
-    requires watched { IfSome watch (IsLive engine.old.world) }
+    requires { IfSome watch (IsLive engine.old.world) }
     ensures told { let w = engine.old.world in
-        let wanted = slot_notices number w (assign w target values.now) watch in
-        IfOk result (λ ns. ns.items ≡ wanted) }
+        (v : ℕ) → (vs : List ℤ) → Foretells w v vs foresight.now
+        → IfOk result (λ ns. ns.items ≡ slot_notices number w (assign w v vs) watch) }
     ensures same { SameArrays engine.old engine.new }
     ensures stay { StayFresh engine.old engine.new }
+    ensures quiet { watch ≡ None → steps.new ≡ steps.old }
 {
     match watch {
-        Some(id) => changes_foreseen(alloc, engine, number, target, values, id, steps),
+        Some(id) => changes_foreseen(alloc, engine, number, foresight, id, steps),
         None => Ok(Vec::new(alloc)),
     }
 }
@@ -168,21 +266,21 @@ fn changes_foreseen<L: Ledger>(
     alloc: Global,
     engine: &mut Engine,
     number: u64,
-    target: ArrayId,
-    values: &[i64],
+    foresight: &Foresight,
     seen: ArrayId,
     steps: &mut Steps<L>,
 ) -> Result<Vec<Notice>, AllocError>
-    requires assigns { CanAssign engine.old target values.now }
-    requires seen { IsLive engine.old.world seen }
+    requires { IsLive engine.old.world seen }
     ensures told { let w = engine.old.world in
-        let after = elements (assign w target values.now) seen in
-        IfOk result (λ ns. ns.items ≡ changes number (elements w seen) after) }
+        (v : ℕ) → (vs : List ℤ) → Foretells w v vs foresight.now
+        → IfOk result
+        (λ ns. ns.items ≡ changes number (elements w seen) (elements (assign w v vs) seen)) }
     ensures same { SameArrays engine.old engine.new }
     ensures stay { StayFresh engine.old engine.new }
 {
-    assignment_laws();
-    let after = engine.foresee(target, values, seen, steps)?;
-    let before = all_shown(alloc, &engine.lend(seen))?;
-    changes(alloc, number, &before, &after)
+    change_laws();
+    match engine.foresee(foresight, seen, steps)? {
+        Some(foreseen) => changes(alloc, number, &foreseen.before, &foreseen.after),
+        None => Ok(Vec::new(alloc)),
+    }
 }

@@ -1,15 +1,14 @@
 -- Arguments that are arrays, for the call of a kernel.
-use Rattle.std.proofs.Common.{◌≡◌, ℕ, Bool, true, false, List, [], ◌∷◌, map, Option, Some, None, Result, Err, refl, sym, ap, subst, ◌∙◌, arith, Vec}
-use Rattle.std.specs.Prelude.{◌==◌, All, if◌then◌else◌, is_some, option_map}
+use Rattle.std.proofs.Common.{◌≡◌, ℕ, List, [], ◌∷◌, map, Option, Some, None, Result, Err, refl, sym, ap, subst, ◌∙◌, arith, Vec}
+use Rattle.std.specs.Prelude.{All, if◌then◌else◌, is_some, option_map}
 use Rattle.std.specs.Global.{Global}
 use Rattle.std.proofs.lemmas.List.Elements.{All-cons}
 use Rattle.pdl_buf.specs.declared.made.Made.{Made}
-use Rattle.pdl_kernel.specs.Kernels.{Kernel}
 use Rattle.pdl_machine.specs.declared.fault.Fault.TheVariants.{UnknownFunction, WrongArguments}
 use Rattle.pdl_machine.specs.Arrays.{Arrays, array_in}
 use Rattle.pdl_machine.specs.Calls.{outputs_of}
-use Rattle.pdl_machine.specs.Kernels.{array_seen, called_on, kernel_outputs, outputs_count}
-use Rattle.pdl_machine.specs.Names.{Names, found}
+use Rattle.pdl_machine.specs.Kernels.{array_seen, kernel_of, kernel_outputs, outputs_by}
+use Rattle.pdl_machine.specs.Names.{KernelTexts, Names, found}
 use Rattle.pdl_machine.specs.Outcome.{Seen, array}
 use Rattle.pdl_machine.specs.Then.{and_more, all_of, and_then, or_fault}
 use Rattle.pdl_world.specs.World.{World}
@@ -67,10 +66,6 @@ pub none_given : (names : Names) (f : List ℕ) (wanted : ℕ) (a : Arrays) (giv
     → outputs_of names f wanted (all_seen_of a given) ≡ Err (if is_some (found names.kernels f) then WrongArguments else UnknownFunction)
 none_given names f wanted a given none = by_kernel (found names.kernels f)
   where
-    by_kernel : (o : Option Kernel) → and_then (or_fault UnknownFunction o) (λ k. kernel_outputs k wanted (all_seen_of a given)) ≡ Err (if is_some o then WrongArguments else UnknownFunction)
+    by_kernel : (o : Option KernelTexts) → and_then (or_fault UnknownFunction o) (λ k. kernel_outputs k wanted (all_seen_of a given)) ≡ Err (if is_some o then WrongArguments else UnknownFunction)
     by_kernel None = refl
-    by_kernel (Some k) = by_count (outputs_count k.signature == wanted)
-      where
-        by_count : (same : Bool) → (if same then and_then (or_fault WrongArguments (all_of array_seen (all_seen_of a given))) (called_on k) else Err WrongArguments) ≡ Err WrongArguments
-        by_count true = ap (λ o. and_then (or_fault WrongArguments o) (called_on k)) (arrays_told a given ∙ ap (option_map (map (array_in a))) none)
-        by_count false = refl
+    by_kernel (Some k) = ap (λ o. and_then (or_fault WrongArguments o) (λ arrays. and_then (kernel_of k) (outputs_by wanted arrays))) (arrays_told a given ∙ ap (option_map (map (array_in a))) none)

@@ -2,11 +2,12 @@
 use Rattle.std.proofs.Common.{◌≡◌, ℕ, ◌+◌, ◌<◌, ◌≤◌, List, [], ◌∷◌, ◌++◌, length, get_or, drop, Option, Some, None, refl, sym, ap, subst, ◌∙◌, append_assoc}
 use Rattle.std.specs.Prelude.{option_map}
 use Rattle.std.proofs.lemmas.List.{append-nil, drop_all, drop_more}
+use Rattle.pdl_world.specs.World.{World}
 use Rattle.pdl_machine.specs.Arrays.{Arrays}
 use Rattle.pdl_machine.specs.Fills.{number_in}
 use Rattle.pdl_machine.specs.Then.{and_more, all_of}
 use Rattle.pdl_session.specs.declared.given.Given.{Given}
-use Rattle.pdl_session.specs.Arguments.{seen_of, all_seen_of}
+use Rattle.pdl_session.specs.Arguments.{seen_of, all_seen_of, IsGivenLive, AreGivenLive}
 
 -- what was found is the front of all values
 abbrev pub IsFront : {X Y : Type 0} → (X → Option Y) → List X → ℕ → List Y → Type 0
@@ -48,6 +49,13 @@ pub front_all : {X Y : Type 0} (f : X → Option Y) (xs : List X) (found : List 
 front_all {X} {Y} f xs found i h front =
     let a : all_of f (drop i xs) ≡ Some [] = ap (all_of f) (drop_all i xs h) in
     front ∙ ap (option_map (λ ms. found ++ ms)) a ∙ ap Some (append-nil found)
+
+-- an argument can be looked at where those from it on can, and so can those behind it
+pub live_next : (w u : World) (given : List Given) (i : ℕ) (d : Given) → i < length given → u ≡ w → AreGivenLive w (drop i given)
+    → IsGivenLive u (get_or given i d) × AreGivenLive w (drop (i + 1) given)
+live_next w u given i d h same live =
+    let both : AreGivenLive w (get_or given i d ∷ drop (i + 1) given) = subst (AreGivenLive w) (drop_more given i d h) live in
+    (subst (λ (x : World). IsGivenLive x (get_or given i d)) (sym same) both.0, both.1)
 
 -- the numbers of arguments, one by one
 pub numbers_seen : (a : Arrays) (given : List Given) → all_of number_in (all_seen_of a given) ≡ all_of (λ g. number_in (seen_of a g)) given

@@ -63,23 +63,24 @@ notices_short stops stops_one done ss now (Notices all) is told h =
 notices_short stops stops_one done ss now (End k) is told h = absurd told
 notices_short stops stops_one done ss now Nothing is told h = absurd told
 
-end_short : EndsAreShort → EndsMissOne → {wanted : Result Done Fault} (done : Done) (ss now : Slots) (k : ℕ) → wanted ≡ Ok done → EndsShort ss k now → StopsStep wanted ss now × OneMissed ss now
-end_short ends ends_one done ss now k is h =
-    (record { done = done; is = is; turn = inr (k, h); short = ends ss k done.told now h }, ends_one ss k now h)
+end_short : EndsAreShort → EndsMissOne → {wanted : Result Done Fault} (done : Done) (ss now : Slots) (k : ℕ) → wanted ≡ Ok done → done.present ≡ slice_set (present_in ss) k false → EndsShort ss k now
+    → StopsStep wanted ss now × OneMissed ss now
+end_short ends ends_one done ss now k is gone h =
+    (record { done = done; is = is; turn = inr (k, gone, h); short = ends ss k done.told now h }, ends_one ss k now h)
 
 heard_short : (st : StatementTree) → StopsAreShort → StopsMissOne → EndsAreShort → EndsMissOne → {wanted : Result Done Fault} (done : Done) (ss now : Slots) (news : News)
-    → wanted ≡ Ok done → IsNewsOf st done.told news → IsHeardShort ss news now → StopsStep wanted ss now × OneMissed ss now
-heard_short (assign x views sign e) stops stops_one ends ends_one done ss now news is told h = notices_short stops stops_one done ss now news is told h
-heard_short (unwatch k) stops stops_one ends ends_one done ss now news is told h =
-    end_short ends ends_one done ss now k is (subst (λ (m : News). IsHeardShort ss m now) told h)
-heard_short _ stops stops_one ends ends_one done ss now news is told h = absurd (subst (λ (m : News). IsHeardShort ss m now) told h)
+    → wanted ≡ Ok done → done.present ≡ left (present_in ss) st → IsNewsOf st done.told news → IsHeardShort ss news now → StopsStep wanted ss now × OneMissed ss now
+heard_short (assign x views sign e) stops stops_one ends ends_one done ss now news is gone told h = notices_short stops stops_one done ss now news is told h
+heard_short (unwatch k) stops stops_one ends ends_one done ss now news is gone told h =
+    end_short ends ends_one done ss now k is gone (subst (λ (m : News). IsHeardShort ss m now) told h)
+heard_short _ stops stops_one ends ends_one done ss now news is gone told h = absurd (subst (λ (m : News). IsHeardShort ss m now) told h)
 
 -- a step that stopped at a watcher's failure
 pub stops_step : {number : ℕ} {old new : State} {st : StatementTree} {o n : List ℕ} {news : News} (ss now : Slots) → StopsAreShort → StopsMissOne → EndsAreShort → EndsMissOne
     → HasAdvanced number (present_in ss) old new st o n news → IsHeardShort ss news now
     → StopsStep (step number (present_in ss) old st) ss now × OneMissed ss now
 stops_step {st = st} {news = news} ss now stops stops_one ends ends_one ran h =
-    heard_short st stops stops_one ends ends_one ran.done ss now news ran.is ran.news_of h
+    heard_short st stops stops_one ends ends_one ran.done ss now news ran.is ran.left ran.news_of h
 
 -- after a step slots are served again
 pub served_after : (number : ℕ) (old new : State) (st : StatementTree) {o n : List ℕ} (ss now : Slots) → TellingKeepsAll → EmptyingLeaves → TellingKeepsLength → EmptyingKeepsLength → TellingKeepsOpen

@@ -20,3 +20,6 @@ pub mod Present
 pub mod Advances
 pub mod Heard
 pub mod Closing
+pub mod Bounded
+pub mod Resting
+pub mod Worked

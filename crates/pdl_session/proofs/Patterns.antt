@@ -11,10 +11,6 @@ pub record IsFilled (pattern : List ℕ) (ns : List ℤ) (i used : ℕ) (text : 
   pub is : filled_in pattern ns ≡ option_map (λ more. text ++ more) (filled_in (drop i pattern) (drop used ns))
   pub within : used ≤ length ns
 
-same_front : (o : Option (List ℕ)) → o ≡ option_map (λ more. [] ++ more) o
-same_front None = refl
-same_front (Some text) = refl
-
 moved_front : (text more : List ℕ) (o : Option (List ℕ)) → option_map (λ t. text ++ t) (option_map (λ t. more ++ t) o) ≡ option_map (λ t. (text ++ more) ++ t) o
 moved_front text more None = refl
 moved_front text more (Some rest) = let e : (text ++ more) ++ rest ≡ text ++ (more ++ rest) = rw append_assoc refl in ap Some (sym e)
@@ -36,11 +32,6 @@ too_many : (ns : List ℤ) → 0 < length ns → filled_in [] ns ≡ None
 unfolding filled_in
 too_many [] h = absurd (omega arith)
 too_many (n ∷ ns) h = refl
-
--- before the first byte
-pub filled_none : (pattern : List ℕ) (ns : List ℤ) (text : List ℕ) → text ≡ [] → IsFilled pattern ns 0 0 text
-filled_none pattern ns text e =
-    subst (λ (t : List ℕ). IsFilled pattern ns 0 0 t) (sym e) (record { is = same_front (filled_in pattern ns); within = omega arith })
 
 -- a byte that stays
 pub filled_byte : (pattern : List ℕ) (ns : List ℤ) (i used : ℕ) (text new : List ℕ) → i < length pattern → get_or pattern i 0 ≢ 35

@@ -1,6 +1,7 @@
 -- What a statement does, from what its parts do.
 use Rattle.std.proofs.Common.{◌≡◌, ◌≢◌, ℕ, length, get_or, arith, List, [], ◌∷◌, Result, Ok, Err, refl, sym, ap, subst, ◌∙◌}
 use Rattle.std.specs.Prelude.{◌++◌, take, OnErr}
+use Rattle.std.specs.Result.{IsErrAnd}
 use Rattle.std.proofs.lemmas.List.{append-nil, take_at}
 use Rattle.pdl_buf.specs.declared.made.Made.{Made}
 use Rattle.pdl_lexemes.specs.declared.AssignOp.{AssignOp}
@@ -152,3 +153,9 @@ pub silent : {T : Type 0} (r : Result T ScopeFault) (wanted : Stepped) (old new 
 silent (Ok x) (Ok (s, t)) old new out h = (h.0, sym (append-nil out) ∙ ap (λ z. out ++ z) h.1)
 silent (Ok x) (Err e) old new out h = absurd h
 silent (Err f) wanted old new out h = (h.0, record { grown = h.1.grown; front = record { rest = []; is = sym (append-nil out) } })
+
+-- so where a refusal is handed on
+pub silent_err : {T : Type 0} (r : Result T ScopeFault) (f : ScopeFault) (wanted : Stepped) (old new : Scope) (out : List ℕ) → IsErrAnd r (λ e. e ≡ f)
+    → Runs {T = Unit {0}} wanted old new [] [] (Err f) → Performs wanted old new out out r
+silent_err (Ok x) f wanted old new out is h = absurd is
+silent_err {T} (Err e) f wanted old new out is h = subst (λ (g : ScopeFault). Performs {T = T} wanted old new out out (Err g)) (sym is) (silent {T = T} (Err f) wanted old new out h)

@@ -1,3 +1,4 @@
+pub mod Bounds
 pub mod Session
 pub mod Calls
 pub mod Arguments
@@ -7,3 +8,4 @@ pub mod Faults
 pub mod News
 pub mod Watching
 pub mod Advanced
+pub mod WorkedBounds

@@ -12,7 +12,7 @@ pub record IsLeft (old new : Scope) (old_out new_out : List ℕ) : Type 0 where
   pub front : Begins old_out new_out
 
 -- a statement did what is wanted, or its refusal left all as it was but for a part of its text
-abbrev pub Performs : {T : Type 0} → Stepped → Scope → Scope → List ℕ → List ℕ →
-    Result T ScopeFault → Type 0
+abbrev pub Performs : {T : Type 0} → (wanted : Stepped) → (old new : Scope)
+    → (old_out new_out : List ℕ) → Result T ScopeFault → Type 0
 Performs wanted old new old_out new_out (Ok x) = Prints wanted (machine new) old_out new_out
 Performs wanted old new old_out new_out (Err e) = IsFault wanted e × IsLeft old new old_out new_out

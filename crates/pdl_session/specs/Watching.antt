@@ -1,5 +1,5 @@
 -- What a session's calls leave, with the watchers of its slots.
-use Rattle.std.specs.Prelude.{◌≡◌, ◌⊎◌, ℕ, ◌≤◌, List, ◌++◌, length, Result, Ok, Err}
+use Rattle.std.specs.Prelude.{◌≡◌, ◌⊎◌, ℕ, ◌≤◌, false, List, ◌++◌, length, slice_set, Result, Ok, Err}
 use Rattle.pdl_watch.specs.Slots.{Slots, present_in, all_told, emptied, AreOpen, ToldShort, StopsInTurn, EndsShort, OneMissed}
 use Rattle.pdl_machine.specs.declared.fault.Fault.{Fault}
 use Rattle.pdl_machine.specs.State.{State}
@@ -35,18 +35,19 @@ pub record HasDone (wanted : Result Done Fault) (new : State) (old_out new_out :
   pub slots : new_slots ≡ emptied (all_told old_slots done.told) done.present
 
 -- The step that is wanted stopped at a watcher's failure, while one slot after another was told, or
--- the watcher of one slot was to be finished: so each slot has its watcher still, which was told a
--- front of its notices, none is newly finished, and the count of one of them rose.
+-- the watcher of the slot that it gives up was to be finished: so each slot has its watcher still,
+-- which was told a front of its notices, none is newly finished, and the count of one of them rose.
 pub record StopsStep (wanted : Result Done Fault) (old_slots new_slots : Slots) : Type 0 where
   pub done : Done
   pub is : wanted ≡ Ok done
   pub turn : StopsInTurn old_slots done.told new_slots
-      ⊎ ((k : ℕ) × EndsShort old_slots k new_slots)
+      ⊎ ((k : ℕ) × (done.present ≡ slice_set (present_in old_slots) k false)
+      × EndsShort old_slots k new_slots)
   pub short : ToldShort old_slots done.told new_slots
 
 -- why a step was refused: the fault is the one that is wanted; a watcher failed; want of memory
 -- says nothing
-abbrev pub IsRefusal : Result Done Fault → Slots → Slots → StepFault → Type 0
+abbrev pub IsRefusal : (wanted : Result Done Fault) → (slots now : Slots) → StepFault → Type 0
 IsRefusal wanted slots now (Script e) = wanted ≡ Err e
 IsRefusal wanted slots now Watcher = StopsStep wanted slots now × OneMissed slots now
 IsRefusal wanted slots now NoMemory = Unit {0}

@@ -10,6 +10,7 @@ ghost use Rattle.pdl_machine.specs.Then.{and_then};
 ghost use Rattle.pdl_machine.specs.Value.{number_made};
 ghost use Rattle.pdl_world.specs.Formula.{is_well_formed};
 ghost use Rattle.pdl_scope.specs.Answers.{AnswersAs, Evaluates};
+ghost use Rattle.pdl_session.specs.Bounds.{MakesRoot};
 ghost use Rattle.pdl_session.specs.Arguments.{arguments, AreGivenLive, all_seen_of, outcome_of, IsOutcomeMade};
 ghost use Rattle.pdl_scope.specs.Scope.{Grows, OnlyReads};
 ghost use Rattle.std.specs.Prelude.{IsTrue};
@@ -33,7 +34,8 @@ use pdl_shape::dims_of;
 use pdl_world::Trans;
 use std::sync::ledger::Ledger;
 
-/// The array of a number: no dimensions, long where it is at most 2147483647, else longlong.
+/// The array of a number: no dimensions, long where it is at most 2147483647, else longlong. It takes
+/// at most one step.
 pub fn number_array<L: Ledger>(
     scope: &mut Scope,
     number: i64,
@@ -41,6 +43,7 @@ pub fn number_array<L: Ledger>(
 ) -> Result<ArrayId, ScopeFault>
     ensures value { Evaluates (new_root scope.old.arrays (number_made number)) scope.new result }
     ensures grown { Grows scope.old scope.new }
+    ensures root { MakesRoot 1 scope.old scope.new steps.old steps.new result }
 {
     match dims_of(scope.alloc(), &[]) {
         Ok(dims) => {

@@ -7,6 +7,7 @@ ghost use Rattle.pdl_machine.specs.Arrays.{Arrays};
 ghost use Rattle.pdl_machine.specs.Outcome.{Given as Argument};
 ghost use Rattle.pdl_machine.specs.Value.{value_of, taken};
 ghost use Rattle.pdl_scope.specs.Answers.{AnswersAs, Evaluates};
+ghost use Rattle.pdl_session.specs.Bounds.{EvaluatesPlainly};
 ghost use Rattle.pdl_session.specs.Arguments.{argument, arguments, IsGivenLive, AreGivenLive};
 ghost use Rattle.pdl_scope.specs.Scope.{Grows};
 
@@ -19,7 +20,8 @@ use pdl_scope::{Scope, ScopeFault};
 use pdl_syntax::{Arg, Expr, calls_are_trees};
 use std::sync::ledger::Ledger;
 
-/// The array of an expression. New arrays may have come also where it is refused.
+/// The array of an expression. New arrays may have come also where it is refused. A name takes no
+/// step, and a number or a list at most one for each element.
 #[cycle(eval)]
 pub fn eval<L: Ledger>(
     scope: &mut Scope,
@@ -30,6 +32,8 @@ pub fn eval<L: Ledger>(
     ensures value { let wanted = value_of scope.old.names scope.old.arrays (tree_of value.now) in
         Evaluates wanted scope.new result }
     ensures grown { Grows scope.old scope.new }
+    ensures plain { let tree = tree_of value.now in
+        EvaluatesPlainly tree scope.old scope.new steps.old steps.new result }
 {
     calls_are_trees();
     match value {

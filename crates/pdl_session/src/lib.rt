@@ -13,6 +13,7 @@ mod fault;
 mod fill;
 mod given;
 mod inquiry;
+mod laws;
 mod news;
 mod outcome;
 mod reducing;
@@ -25,4 +26,5 @@ mod views;
 mod watching;
 
 pub use fault::{StepFault, WatcherFailed};
+pub use laws::worked_bounds;
 pub use session::Session;

@@ -1,54 +1,63 @@
 //! A session.
-ghost use Rattle.std.specs.Prelude.{◌≡◌, ◌+◌, ◌≤◌, length, min, IfErr, IfOk, OnOk, OnErr};
+ghost use Rattle.std.specs.Prelude.{◌≡◌, ◌+◌, ◌≤◌, if◌then◌else◌, is_ok, length, min, IfErr, IfOk, OnOk, OnErr};
 ghost use Rattle.pdl_syntax.specs.StatementTree.{statement_of};
 ghost use Rattle.pdl_syntax.specs.WellMade.{IsWellMade};
 ghost use Rattle.pdl_watch.specs.Slots.{slots_by, present_in, all_ended, EndedShort};
+ghost use Rattle.pdl_engine.specs.State.{IsLazy};
 ghost use Rattle.pdl_machine.specs.Step.{step};
+ghost use Rattle.pdl_machine.specs.Tidy.{tidy};
 ghost use Rattle.pdl_scope.specs.Answers.{IsFault};
-ghost use Rattle.pdl_scope.specs.Scope.{slots_limit};
+ghost use Rattle.pdl_scope.specs.Scope.{engine_of, machine, slots_limit};
 ghost use Rattle.pdl_session.specs.Advanced.{HasAdvanced};
 ghost use Rattle.pdl_session.specs.Faults.{IfWatcher, UnlessWatcher};
-ghost use Rattle.pdl_session.specs.Session.{no_steps};
+ghost use Rattle.pdl_session.specs.Bounds.{LeavesReadable, RunsInPlace, warm_after};
+ghost use Rattle.pdl_session.specs.Session.{no_steps, AssignsAgain, IsAtRest, PrintsAtMost};
 ghost use Rattle.pdl_session.specs.Watching.{AreServed, HasDone, HasRun, IsRefusal};
 
 use crate::fault::{StepFault, WatcherFailed};
 use crate::news::News;
-use crate::statement::run;
+use crate::statement::{bare_target, run};
 use crate::watching::{finish, hear};
 use pdl_buf::Steps;
+use pdl_engine::ArrayId;
 use pdl_machine::{numbering_laws, watching_laws};
 use pdl_scope::{Scope, ScopeFault};
 use pdl_syntax::Statement;
 use pdl_watch::{Watcher, slot_laws};
+use pdl_world::{growth_laws, sweep_laws};
 use std::alloc::Global;
 use std::marker::Model;
 use std::sync::ledger::Ledger;
 
 /// The names, arrays and attached slots of a script, between two statements. It is seen as the
 /// state of the eager machine, which is the names and the slots with the arrays that they reach,
-/// numbered anew; and as how many calls of `step` there were. No other array is kept. The watchers
-/// are the caller's.
+/// numbered anew; as its scope, in which arrays have the engine's numbers; as the array that the
+/// last statement assigned to by a bare name, if it did; and as how many calls of `step` there were.
+/// No other array is kept. The watchers are the caller's.
 #[derive(Drop)]
 pub struct Session {
     scope: Scope,
+    /// The array that the last statement assigned to by a bare name, if it did. The bounds of what
+    /// statements move speak of it.
+    warm: Option<ArrayId>,
     calls: u64,
 }
 
 impl Model for Session {
-    ghost use Rattle.std.specs.Coded.{codes};
-    ghost use Rattle.pdl_kernel.specs.Coding.{coded_code};
     ghost use Rattle.pdl_machine.specs.Tidy.{tidy};
-    ghost use Rattle.pdl_machine.specs.State.{IsSwept};
     ghost use Rattle.pdl_scope.specs.Scope.{machine};
-    ghost use Rattle.pdl_session.specs.Session.{Session as Seen};
+    ghost use Rattle.pdl_session.specs.Session.{IsAtRest, Session as Seen};
 
     ghost Value = { Seen };
 
-    ghost coded = { Prim.hlevel (codes, coded_code) };
+    ghost view = { λ s. record {
+      state = tidy (machine s.scope);
+      scope = s.scope;
+      warm = s.warm;
+      done = s.calls;
+    } };
 
-    ghost view = { λ s. record { state = tidy (machine s.scope); done = s.calls } };
-
-    ghost invariant = { λ s. IsSwept (machine s.scope) };
+    ghost invariant = { λ s. IsAtRest s.scope s.warm };
 }
 
 impl Session {
@@ -58,8 +67,20 @@ impl Session {
     {
         Session {
             scope: Scope::new(alloc),
+            warm: None,
             calls: 0,
         }
+    }
+
+    /// What a session keeps between two statements: its state is its scope's, numbered anew; no
+    /// array is left over; the array that was assigned to last can be lent, if its base has no
+    /// repeats; and views are lazy. The call does nothing when it runs.
+    pub fn at_rest(&self)
+        ensures state { self.now.state ≡ tidy (machine self.now.scope) }
+        ensures rest { IsAtRest self.now.scope self.now.warm }
+        ensures lazy { IsLazy (engine_of self.now.scope) }
+    {
+        self.scope.lazy_law()
     }
 
     /// How many arrays there are: just those that names and attached slots reach.
@@ -75,7 +96,10 @@ impl Session {
     /// slot and drops it. A refusal by a fault or by want of memory leaves the state, `out` and the
     /// watchers as they were: nobody is told before all memory is taken. After a watcher's failure
     /// the session may only be dropped. Each call is counted, a refused one too. `steps` counts
-    /// the elements that are moved.
+    /// the elements that are moved. An assignment of a number or a list to the bare name of the
+    /// array that was assigned to last moves at most the elements of both, where no slot is
+    /// attached and the array's base has no repeats; a print of a bare name moves what is outdated
+    /// or waits, and nothing where the array can be lent. A refused statement moves no more.
     pub fn step<L: Ledger>(
         &mut self,
         statement: &Statement,
@@ -109,6 +133,16 @@ impl Session {
         ensures served { let slots = slots_by (λ b. seen b) watchers.new.items in
             OnOk result (AreServed self.new.state.watches slots) }
         ensures numbered { self.new.done ≡ min (self.old.done + 1) 18446744073709551615 }
+        ensures warm { OnOk result
+            (self.new.warm ≡ warm_after self.old.scope (statement_of statement.now)) }
+        ensures warm_kept { IfErr result (λ e. UnlessWatcher e (self.new.warm ≡ self.old.warm)) }
+        ensures again { AssignsAgain self.old (statement_of statement.now) steps.old steps.new }
+        ensures shown { PrintsAtMost self.old (statement_of statement.now) steps.old steps.new }
+        ensures readable { OnOk result
+            (LeavesReadable (statement_of statement.now) self.old.scope self.new.scope) }
+        ensures in_place { let present = present_in (slots_by (λ b. seen b) watchers.old.items) in
+            OnOk result (RunsInPlace present self.old.scope (statement_of statement.now)
+            self.new.scope) }
     {
         self.step_over(statement, number, out, watchers, steps)
     }
@@ -145,6 +179,16 @@ impl Session {
         ensures served { let slots = slots_by W.seen watchers.new.items in
             OnOk result (AreServed self.new.state.watches slots) }
         ensures numbered { self.new.done ≡ min (self.old.done + 1) 18446744073709551615 }
+        ensures warm { OnOk result
+            (self.new.warm ≡ warm_after self.old.scope (statement_of statement.now)) }
+        ensures warm_kept { IfErr result (λ e. UnlessWatcher e (self.new.warm ≡ self.old.warm)) }
+        ensures again { AssignsAgain self.old (statement_of statement.now) steps.old steps.new }
+        ensures shown { PrintsAtMost self.old (statement_of statement.now) steps.old steps.new }
+        ensures readable { OnOk result
+            (LeavesReadable (statement_of statement.now) self.old.scope self.new.scope) }
+        ensures in_place { let present = present_in (slots_by W.seen watchers.old.items) in
+            OnOk result (RunsInPlace present self.old.scope (statement_of statement.now)
+            self.new.scope) }
     {
         slot_laws();
         watching_laws();
@@ -177,14 +221,28 @@ impl Session {
         ensures kept { OnErr result (self.new.state ≡ self.old.state) }
         ensures unprinted { OnErr result (out.new.items ≡ out.old.items) }
         ensures numbered { self.new.done ≡ min (self.old.done + 1) 18446744073709551615 }
+        ensures warm { OnOk result
+            (self.new.warm ≡ warm_after self.old.scope (statement_of statement.now)) }
+        ensures warm_kept { OnErr result (self.new.warm ≡ self.old.warm) }
+        ensures again { AssignsAgain self.old (statement_of statement.now) steps.old steps.new }
+        ensures shown { PrintsAtMost self.old (statement_of statement.now) steps.old steps.new }
+        ensures readable { OnOk result
+            (LeavesReadable (statement_of statement.now) self.old.scope self.new.scope) }
+        ensures in_place { let present = present_in (slots_by W.seen watchers.now.items) in
+            OnOk result (RunsInPlace present self.old.scope (statement_of statement.now)
+            self.new.scope) }
     {
         numbering_laws();
         watching_laws();
+        growth_laws();
+        sweep_laws();
         self.calls = self.calls.saturating_add(1);
         self.scope.whole();
+        let assigned = bare_target(&self.scope, statement);
         let ran = run(&mut self.scope, statement, number, watchers, out, steps);
         self.scope.whole();
         self.scope.let_go(steps);
+        self.warm = warm_then(&ran, assigned, self.warm);
         ran
     }
 
@@ -223,4 +281,16 @@ impl Session {
     {
         finish(watchers, self.scope.watches())
     }
+}
+
+/// What is warm once a statement has run: what it assigned to, or what was warm before where it was
+/// refused.
+fn warm_then(
+    ran: &Result<News, ScopeFault>,
+    assigned: Option<ArrayId>,
+    before: Option<ArrayId>,
+) -> Option<ArrayId>
+    ensures { result ≡ if is_ok ran.now then assigned else before }
+{
+    if ran.is_ok() { assigned } else { before }
 }

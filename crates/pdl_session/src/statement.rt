@@ -1,7 +1,7 @@
 //! What each statement does.
 ghost use Rattle.std.specs.Prelude.{◌≡◌, ◌≤◌, [], ◌++◌, length, map, All, Ok, OnOk, IfOk};
 ghost use Rattle.pdl_syntax.specs.TreeOf.{tree_of};
-ghost use Rattle.pdl_syntax.specs.StatementTree.{statement_of, bind_list as bind_list', sever as sever', view_of};
+ghost use Rattle.pdl_syntax.specs.StatementTree.{statement_of, assign, bind_list as bind_list', sever as sever', show as show', view_of};
 ghost use Rattle.pdl_syntax.specs.WellMade.{AreArrays, AreArgArrays, IsWellMade};
 ghost use Rattle.pdl_machine.specs.Then.{and_then};
 ghost use Rattle.pdl_machine.specs.Cuts.{severed};
@@ -14,6 +14,7 @@ ghost use Rattle.pdl_scope.specs.Answers.{Runs};
 ghost use Rattle.pdl_scope.specs.Scope.{machine, slots_limit};
 ghost use Rattle.pdl_session.specs.News.{IsNewsOf};
 ghost use Rattle.pdl_session.specs.declared.news.News.TheVariants.{Nothing};
+ghost use Rattle.pdl_session.specs.Bounds.{LeavesReadable, MovesPlainly, warm_after};
 ghost use Rattle.pdl_session.specs.Performed.{Performs};
 ghost use Rattle.pdl_session.specs.Arguments.{arguments, AreGivenLive};
 
@@ -27,11 +28,13 @@ use crate::target::target;
 use crate::watching::{unwatch, watch};
 use pdl_buf::Steps;
 use pdl_elem::Name;
+use pdl_engine::ArrayId;
 use pdl_lexemes::AssignOp;
 use pdl_machine::{Fault, watching_laws};
 use pdl_scope::{Scope, ScopeFault};
 use pdl_syntax::{Expr, Statement, Target, calls_are_trees};
 use pdl_watch::{Notice, Watcher};
+use pdl_world::growth_laws;
 use std::alloc::AllocError;
 use std::sync::ledger::Ledger;
 
@@ -139,8 +142,15 @@ fn assign_value<L: Ledger>(
     ensures told { let w = scope.old.arrays.world in
         let wanted = notices number w scope.new.arrays.world scope.new.watches in
         IfOk result (λ all. lists_of all.items ≡ wanted) }
+    ensures moves { let place = map view_of to.now.views.items in
+        let statement = assign to.now.name place sign (tree_of value.now) in
+        MovesPlainly statement scope.old scope.new steps.old steps.new }
+    ensures readable { let place = map view_of to.now.views.items in
+        let statement = assign to.now.name place sign (tree_of value.now) in
+        OnOk result (LeavesReadable statement scope.old scope.new) }
 {
     watching_laws();
+    growth_laws();
     scope.whole();
     let to = target(scope, to, steps)?;
     let from = eval(scope, value, steps)?;
@@ -157,9 +167,13 @@ fn show<L: Ledger>(
     steps: &mut Steps<L>,
 ) -> Result<(), ScopeFault>
     requires { AreArrays (tree_of value.now) }
-    ensures { let valued = value_of scope.old.names scope.old.arrays (tree_of value.now) in
+    ensures performs { let valued = value_of scope.old.names scope.old.arrays (tree_of value.now) in
         let wanted = and_then valued (λ v. Ok (after_printing (machine scope.old) info v)) in
         Performs wanted scope.old scope.new out.old.items out.new.items result }
+    ensures moves { let statement = show' (tree_of value.now) info in
+        MovesPlainly statement scope.old scope.new steps.old steps.new }
+    ensures readable { let statement = show' (tree_of value.now) info in
+        OnOk result (LeavesReadable statement scope.old scope.new) }
 {
     let id = eval(scope, value, steps)?;
     Ok(scope.print(id, info, out, steps)?)
@@ -172,6 +186,18 @@ fn print_text(text: &[u8], out: &mut Vec<u8>) -> Result<(), AllocError>
 {
     out.extend_from_slice(text)?;
     Ok(out.push(b'\n')?)
+}
+
+/// The array of the bare name that a statement assigns to, if it does.
+pub fn bare_target(scope: &Scope, statement: &Statement) -> Option<ArrayId>
+    ensures { result ≡ warm_after scope.now (statement_of statement.now) }
+{
+    match statement {
+        Statement::Assign { target, .. } if target.views.is_empty() => {
+            scope.number_of(&target.name)
+        }
+        _ => None,
+    }
 }
 
 /// Runs one statement, and answers what watchers are to hear of it; which slots have one decides
@@ -194,6 +220,10 @@ pub fn run<W: Watcher, L: Ledger>(
     ensures news { let w = scope.old.arrays.world in
         let told = notices number w scope.new.arrays.world scope.new.watches in
         IfOk result (IsNewsOf (statement_of statement.now) told) }
+    ensures moves { let statement = statement_of statement.now in
+        MovesPlainly statement scope.old scope.new steps.old steps.new }
+    ensures readable { let statement = statement_of statement.now in
+        OnOk result (LeavesReadable statement scope.old scope.new) }
 {
     let mark = out.len();
     let mut news = News::Nothing;
@@ -226,6 +256,10 @@ fn perform<W: Watcher, L: Ledger>(
     ensures news { let w = scope.old.arrays.world in
         let told = notices number w scope.new.arrays.world scope.new.watches in
         OnOk result (IsNewsOf (statement_of statement.now) told news.new) }
+    ensures moves { let statement = statement_of statement.now in
+        MovesPlainly statement scope.old scope.new steps.old steps.new }
+    ensures readable { let statement = statement_of statement.now in
+        OnOk result (LeavesReadable statement scope.old scope.new) }
 {
     match statement {
         Statement::Bind {

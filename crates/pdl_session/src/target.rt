@@ -1,5 +1,5 @@
 //! What an assignment writes to.
-ghost use Rattle.std.specs.Prelude.{◌≡◌, Ok, map, All};
+ghost use Rattle.std.specs.Prelude.{◌≡◌, [], Ok, map, All};
 ghost use Rattle.pdl_syntax.specs.Tree.{Tree, call};
 ghost use Rattle.pdl_syntax.specs.WellMade.{AreArgArrays};
 ghost use Rattle.pdl_syntax.specs.StatementTree.{view_of};
@@ -9,6 +9,7 @@ ghost use Rattle.pdl_machine.specs.Step.{behind, target as target'};
 ghost use Rattle.pdl_machine.specs.Value.{value_of};
 ghost use Rattle.pdl_scope.specs.Answers.{Evaluates};
 ghost use Rattle.pdl_scope.specs.Scope.{Grows};
+ghost use Rattle.pdl_session.specs.Bounds.{IsBare};
 
 use crate::call::call;
 use crate::eval::take;
@@ -20,7 +21,8 @@ use pdl_scope::{Scope, ScopeFault};
 use pdl_syntax::{Target, ViewCall};
 use std::sync::ledger::Ledger;
 
-/// The array of a target: its views, one after another, of the array of its name.
+/// The array of a target: its views, one after another, of the array of its name. A bare name takes
+/// no step.
 #[tactic(auto, using(crate::proofs::Facts::grows_trans))]
 pub fn target<L: Ledger>(
     scope: &mut Scope,
@@ -31,6 +33,8 @@ pub fn target<L: Ledger>(
     ensures value { let tree = target' target.now.name (map view_of target.now.views.items) in
         Evaluates (value_of scope.old.names scope.old.arrays tree) scope.new result }
     ensures grown { Grows scope.old scope.new }
+    ensures bare { target.now.views.items ≡ [] →
+        IsBare target.now.name scope.old scope.new steps.old steps.new result }
 {
     let mut id = match scope.number_of(&target.name) {
         Some(id) => id,

@@ -25,7 +25,7 @@ use Rattle.pdl_shell.specs.Answers.{HeardShort, IsShort, ending_of_run}
 use Rattle.pdl_shell.specs.Stops.{SlotsFail, Fails, HasSinkCause}
 use Rattle.pdl_shell.specs.CourseLaws.{Laws}
 use Rattle.pdl_shell.specs.Course.{IsFresh, Follows, Stands, Answers, AnswersShort, Runs, RunsShort}
-use Rattle.pdl_shell.proofs.SlotsHeard.{counts_by, one_rose, heard_by, heard_later, heard_then, below_then}
+use Rattle.pdl_shell.proofs.SlotsHeard.{counts_by, one_rose, heard_by, heard_later, heard_then}
 use Rattle.pdl_shell.proofs.Taking.{is_prefix-refl, is_prefix-trans, appends_then}
 
 -- before a fault has ended the run the next statement is run
@@ -117,7 +117,7 @@ module _ (laws : Laws) (terms : Terms) (first : Slots) (old : Runner) (slots : S
             ended = f.ended ∙ sym ended;
             count = ap next_count f.count ∙ sym count;
             slots = did.slots ∙ slots_step did.done.told did.done.present below;
-            present = below_then did.done.present run.present (present_in first) below f.present;
+            present = laws.below_twice did.done.present run.present (present_in first) below f.present;
           },
           ap (λ (u : List ℕ). run.printed ++ u) (sym did.printed),
         )

@@ -4,10 +4,10 @@ use Rattle.std.specs.Io.KnownBytes.{Appends, IsAtEnd}
 use Rattle.pdl_watch.specs.Watched.{Watched}
 use Rattle.pdl_io.specs.Told.{AppendsPrefix}
 use Rattle.pdl_watch.specs.declared.notice.Notice.{Notice}
-use Rattle.pdl_watch.specs.Slots.{slot, notices_of, ToldPart, SlotRose}
+use Rattle.pdl_watch.specs.Slots.{slot, notices_of, ToldPart, SlotRose, CountStays}
 use Rattle.pdl_shell.specs.declared.status.Status.{Status}
 use Rattle.pdl_shell.specs.declared.status.Status.TheVariants.{Done, ScriptFault, Usage, SourceFault, SinkFault, WatcherFault, NoMemory}
-use Rattle.pdl_shell.specs.Outside.{Outside, CountStays}
+use Rattle.pdl_shell.specs.Outside.{Outside}
 use Rattle.pdl_shell.specs.Answers.{CameToItsEnd, HasReason, Gives, Ending, AllQuiet, IsShort, SlotHears, slots_after}
 use Rattle.pdl_machine.specs.Watches.{is_present}
 use Rattle.pdl_machine.specs.Run.{so_far}
@@ -127,7 +127,7 @@ heard_by ns stays s t before after was is hears = front (subst (λ (o : Option W
     front : ToldPart ns before after → HeardAFront ns before after
     front told = record { part = told.part; front = told.front; told = told.told; finished = told.finished }
 
-short_front : (e : Ending) (old new : Outside) (k : ℕ) (before after : Watched) → IsShort e old.out new.out → slot old.out.slots k ≡ Some before
+pub short_front : (e : Ending) (old new : Outside) (k : ℕ) (before after : Watched) → IsShort e old.out new.out → slot old.out.slots k ≡ Some before
     → slot new.out.slots k ≡ Some after → HeardAFront (notices_of e.told k) before after
 short_front e old new k before after short was is =
     heard_by (notices_of e.told k) (is_present e.present k) (slot old.out.slots k) (slot new.out.slots k) before after was is (short.slots.each k)

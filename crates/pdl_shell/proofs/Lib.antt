@@ -10,3 +10,5 @@ pub mod Parts
 pub mod Plain
 pub mod Whole
 pub mod HeadlineLemmas
+pub mod Guards
+mod WorkedRuns

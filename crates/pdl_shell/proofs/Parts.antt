@@ -23,7 +23,7 @@ use Rattle.pdl_shell.specs.Pace.{Behind, end_of_input, past_limit, unknown, behi
 use Rattle.pdl_shell.specs.CourseLaws.{Laws}
 use Rattle.pdl_shell.specs.Course.{IsFresh, Stands, Carries, StopsShort, FailsWith, Ends, Comes}
 use Rattle.pdl_shell.specs.Taken.{StopsSoon, ComesTo, Reads, terms_for}
-use Rattle.pdl_shell.proofs.SlotsHeard.{none_told, below_same}
+use Rattle.pdl_shell.proofs.SlotsHeard.{no_notices}
 use Rattle.pdl_shell.proofs.Taking.{appends_nothing, consumes_then, consumes_kept, takes_at_most}
 use Rattle.pdl_shell.proofs.Following.{short_marks, short_stands, counts_follow}
 use Rattle.pdl_shell.proofs.Carrying.{carries_on, stops_on}
@@ -173,8 +173,8 @@ module _ (laws : Laws) (first now : Runner) (left : Option (List ℕ)) (out : Ou
       faulted = sym fresh.unfaulted;
       ended = sym fresh.running;
       count = sym fresh.uncounted;
-      slots = sym (ap (λ (ss : Slots). emptied ss (present_in out.slots)) (none_told out.slots) ∙ laws.none out.slots);
-      present = below_same (present_in out.slots);
+      slots = sym (ap (λ (ss : Slots). emptied ss (present_in out.slots)) (laws.quiet out.slots [] no_notices) ∙ laws.none out.slots);
+      present = laws.below (present_in out.slots);
     };
     text = appends_nothing out.taken;
     faults = refl;

@@ -4,9 +4,9 @@ use Rattle.std.proofs.lemmas.Bool.{true≢false}
 use Rattle.pdl_io.specs.Counts.{Rose}
 use Rattle.pdl_watch.specs.declared.notice.Notice.{Notice}
 use Rattle.pdl_watch.specs.Watched.{Watched, told_more}
-use Rattle.pdl_watch.specs.Slots.{Slots, slot, notices_of, all_told, all_ended, ended_where, emptied, IsBelow, joined, SlotRose, SlotKeepsCount, SlotToldPart, ToldShort, OneMissed}
+use Rattle.pdl_watch.specs.Slots.{Slots, slot, notices_of, all_told, all_ended, ended_where, emptied, IsBelow, IsQuiet, joined, SlotRose, CountStays, SlotToldPart, ToldShort, OneMissed}
 use Rattle.pdl_machine.specs.Watches.{is_present}
-use Rattle.pdl_shell.specs.Outside.{CountStays, CountsStay, OneRose}
+use Rattle.pdl_shell.specs.Outside.{CountsStay}
 use Rattle.pdl_shell.specs.Answers.{SlotHears, HeardShort}
 
 count_same : (s : Option Watched) → CountStays s s
@@ -66,12 +66,6 @@ counts_ended (s ∷ ss) (w ∷ ws) (suc k) = counts_ended ss ws k
 pub counts_by : (first : Slots) (xs : List (List Notice)) (ps : List Bool) → CountsStay first (emptied (all_told first xs) ps)
 counts_by first xs ps = counts_then first (all_told first xs) (emptied (all_told first xs) ps) (counts_told first xs) (counts_left (all_told first xs) ps)
 
-count_kept : (a b : Option Watched) → SlotKeepsCount a b → CountStays a b
-count_kept None None kept = tt
-count_kept None (Some y) kept = absurd kept
-count_kept (Some x) None kept = absurd kept
-count_kept (Some x) (Some y) kept = kept
-
 rose_then : (a b c : Option Watched) → CountStays a b → SlotRose b c → SlotRose a c
 rose_then None None None stays rose = absurd rose
 rose_then None None (Some z) stays rose = absurd rose
@@ -83,24 +77,19 @@ rose_then (Some x) (Some y) None stays rose = absurd rose
 rose_then (Some x) (Some y) (Some z) stays rose = subst (λ (n : ℕ). Rose n z.misses) stays rose
 
 -- one call failed, after others that didn't
-pub one_rose : (first mid now : Slots) → CountsStay first mid → OneMissed mid now → OneRose first now
+pub one_rose : (first mid now : Slots) → CountsStay first mid → OneMissed mid now → OneMissed first now
 one_rose first mid now stays missed = record {
   at = missed.at;
   rose = rose_then (slot first missed.at) (slot mid missed.at) (slot now missed.at) (stays missed.at) missed.rose;
   others = λ k other.
-      count_then (slot first k) (slot mid k) (slot now k) (stays k) (count_kept (slot mid k) (slot now k) (missed.others k other));
+      count_then (slot first k) (slot mid k) (slot now k) (stays k) (missed.others k other);
 }
 
--- told nothing, and told all that there is
-pub none_told : (ss : Slots) → all_told ss [] ≡ ss
-none_told [] = refl
-none_told (s ∷ ss) = refl
+-- no slot has notices where there are none
+pub no_notices : IsQuiet []
+no_notices = λ k d inside. absurd (omega arith)
 
-pub none_ended : (ss : Slots) → all_ended ss [] ≡ ss
-none_ended [] = refl
-none_ended (s ∷ ss) = refl
-
-behind_none : (o : Option (List Notice)) → o ≡ option_map (λ (before : List Notice). before ++ []) o
+pub behind_none : (o : Option (List Notice)) → o ≡ option_map (λ (before : List Notice). before ++ []) o
 behind_none None = refl
 behind_none (Some ns) = ap Some (sym (append-nil ns))
 
@@ -113,7 +102,7 @@ slot_none : (s : Option Watched) → s ≡ option_map (told_more []) s
 slot_none None = refl
 slot_none (Some w) = ap (λ (t : Option (List Notice)). Some (record w { told = t })) (behind_none w.told)
 
-told_at : (ss : Slots) (xs : List (List Notice)) (k : ℕ) → slot (all_told ss xs) k ≡ option_map (told_more (notices_of xs k)) (slot ss k)
+pub told_at : (ss : Slots) (xs : List (List Notice)) (k : ℕ) → slot (all_told ss xs) k ≡ option_map (told_more (notices_of xs k)) (slot ss k)
 told_at [] xs k = refl
 told_at (s ∷ ss) [] k = slot_none (slot (s ∷ ss) k)
 told_at (s ∷ ss) (x ∷ xs) zero = refl
@@ -157,20 +146,6 @@ below_at [] (p ∷ ps) below k is = absurd below
 below_at (q ∷ qs) [] below k is = absurd below
 below_at (q ∷ qs) (p ∷ ps) below zero is = below.0 is
 below_at (q ∷ qs) (p ∷ ps) below (suc k) is = below_at qs ps below.1 k is
-
-pub below_same : (ps : List Bool) → IsBelow ps ps
-below_same [] = tt
-below_same (p ∷ ps) = ((λ is. is), below_same ps)
-
-pub below_then : (rs qs ps : List Bool) → IsBelow rs qs → IsBelow qs ps → IsBelow rs ps
-below_then [] [] [] low high = tt
-below_then [] [] (p ∷ ps) low high = absurd high
-below_then [] (q ∷ qs) [] low high = absurd low
-below_then [] (q ∷ qs) (p ∷ ps) low high = absurd low
-below_then (r ∷ rs) [] [] low high = absurd low
-below_then (r ∷ rs) [] (p ∷ ps) low high = absurd low
-below_then (r ∷ rs) (q ∷ qs) [] low high = absurd high
-below_then (r ∷ rs) (q ∷ qs) (p ∷ ps) low high = ((λ is. high.0 (low.0 is)), below_then rs qs ps low.1 high.1)
 
 hears_later : (ns ms : List Notice) (stays stays' : Bool) (s n : Option Watched) → (stays' ≡ true → stays ≡ true)
     → SlotHears ns stays s n → SlotHears (ns ++ ms) stays' s n

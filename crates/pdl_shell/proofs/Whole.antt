@@ -4,7 +4,7 @@ use Rattle.std.specs.Prelude.{◌≢◌, OnOk}
 use Rattle.std.specs.Io.KnownBytes.{Appends}
 use Rattle.pdl_io.specs.Told.{Says, AppendsPrefix}
 use Rattle.pdl_watch.specs.Slots.{Slots, emptied, present_in}
-use Rattle.pdl_watch.specs.SlotLaws.{NoneIsEmptied}
+use Rattle.pdl_watch.specs.SlotLaws.{NoneIsEmptied, QuietTellsNone, NothingEnds}
 use Rattle.pdl_machine.specs.Run.{Progress}
 use Rattle.pdl_shell.specs.declared.words.Command.{Command}
 use Rattle.pdl_shell.specs.declared.words.Command.TheVariants.{Run, Generate}
@@ -16,7 +16,7 @@ use Rattle.pdl_shell.specs.Outside.{Outlets, Outside}
 use Rattle.pdl_shell.specs.Answers.{CameToItsEnd, Ending, IsWhole, IsShort, HeardShort, Gives, CanAnswer, HasReason, IsUndisturbed, ending, aside, ending_of_run, slots_after, status_of_stop, status_after}
 use Rattle.pdl_shell.specs.Taken.{Reads}
 use Rattle.pdl_shell.specs.Stops.{HasSinkCause, HasCauses, Leaves}
-use Rattle.pdl_shell.proofs.SlotsHeard.{counts_same, none_told, none_ended, heard_by}
+use Rattle.pdl_shell.proofs.SlotsHeard.{counts_same, no_notices, heard_by}
 
 -- what a status says of the run
 pub gives_after : (result : Result Bool Stop) (whole : Progress) (old new : Outlets) → Leaves result whole old new
@@ -78,38 +78,39 @@ quiet_complete WatcherFault old new reason quiet memory = quiet.watchers reason.
 quiet_complete NoMemory old new reason quiet memory = absurd (memory refl)
 
 -- a call that runs no script of the source leaves the slots as they are
-aside_same : NoneIsEmptied → (status : Status) (text : List ℕ) (slots : Slots) → slots_after (aside status text (present_in slots)) slots ≡ slots
-aside_same none status text slots =
-    none_ended _ ∙ ap (λ (ss : Slots). emptied ss (present_in slots)) (none_told slots) ∙ none slots
+aside_same : NoneIsEmptied → QuietTellsNone → NothingEnds → (status : Status) (text : List ℕ) (slots : Slots) → slots_after (aside status text (present_in slots)) slots ≡ slots
+aside_same none quiet nothing status text slots =
+    nothing _ ∙ ap (λ (ss : Slots). emptied ss (present_in slots)) (quiet slots [] no_notices) ∙ none slots
 
-pub aside_whole : NoneIsEmptied → (status : Status) (text : List ℕ) (slots : Slots) (old new : Option (List ℕ)) (flushed flushed' : Option Bool) (faults faults' : ℕ)
+pub aside_whole : NoneIsEmptied → QuietTellsNone → NothingEnds → (status : Status) (text : List ℕ) (slots : Slots) (old new : Option (List ℕ)) (flushed flushed' : Option Bool) (faults faults' : ℕ)
     → Appends old new text
     → IsWhole (aside status text (present_in slots)) (record { taken = old; flushed = flushed; faults = faults; slots = slots })
     (record { taken = new; flushed = flushed'; faults = faults'; slots = slots })
-aside_whole none status text slots old new flushed flushed' faults faults' wrote = record { text = wrote; slots = sym (aside_same none status text slots) }
+aside_whole none quiet nothing status text slots old new flushed flushed' faults faults' wrote =
+    record { text = wrote; slots = sym (aside_same none quiet nothing status text slots) }
 
-pub aside_short : NoneIsEmptied → (status : Status) (text : List ℕ) (slots : Slots) (old new : Option (List ℕ)) (flushed flushed' : Option Bool) (faults faults' : ℕ)
+pub aside_short : NoneIsEmptied → QuietTellsNone → (status : Status) (text : List ℕ) (slots : Slots) (old new : Option (List ℕ)) (flushed flushed' : Option Bool) (faults faults' : ℕ)
     → AppendsPrefix old new text
     → IsShort (aside status text (present_in slots)) (record { taken = old; flushed = flushed; faults = faults; slots = slots })
     (record { taken = new; flushed = flushed'; faults = faults'; slots = slots })
-aside_short none status text slots old new flushed flushed' faults faults' wrote =
-    let same = ap (λ (ss : Slots). emptied ss (present_in slots)) (none_told slots) ∙ none slots in
+aside_short none quiet status text slots old new flushed flushed' faults faults' wrote =
+    let same = ap (λ (ss : Slots). emptied ss (present_in slots)) (quiet slots [] no_notices) ∙ none slots in
     record {
       text = wrote;
       slots = subst (λ (ss : Slots). HeardShort slots [] (present_in slots) ss) same (heard_by slots [] (present_in slots) (ap length same));
     }
 
 -- a summary that couldn't be written
-pub aside_stops : NoneIsEmptied → (stop : Stop) (status : Status) (text : List ℕ) (slots : Slots) (old new : Option (List ℕ)) (flushed flushed' : Option Bool) (faults faults' : ℕ)
+pub aside_stops : NoneIsEmptied → QuietTellsNone → (stop : Stop) (status : Status) (text : List ℕ) (slots : Slots) (old new : Option (List ℕ)) (flushed flushed' : Option Bool) (faults faults' : ℕ)
     → HasSinkCause {T = Unit {0}} faults faults' (Err stop) → AppendsPrefix old new text
     → Gives (status_of_stop stop) (aside status text (present_in slots)) (record { taken = old; flushed = flushed; faults = faults; slots = slots })
     (record { taken = new; flushed = flushed'; faults = faults'; slots = slots })
-aside_stops none Source status text slots old new flushed flushed' faults faults' cause wrote = absurd cause
-aside_stops none Sink status text slots old new flushed flushed' faults faults' cause wrote =
-    aside_short none status text slots old new flushed flushed' faults faults' wrote
-aside_stops none Watcher status text slots old new flushed flushed' faults faults' cause wrote = absurd cause
-aside_stops none NoRoom status text slots old new flushed flushed' faults faults' cause wrote =
-    aside_short none status text slots old new flushed flushed' faults faults' wrote
+aside_stops none quiet Source status text slots old new flushed flushed' faults faults' cause wrote = absurd cause
+aside_stops none quiet Sink status text slots old new flushed flushed' faults faults' cause wrote =
+    aside_short none quiet status text slots old new flushed flushed' faults faults' wrote
+aside_stops none quiet Watcher status text slots old new flushed flushed' faults faults' cause wrote = absurd cause
+aside_stops none quiet NoRoom status text slots old new flushed flushed' faults faults' cause wrote =
+    aside_short none quiet status text slots old new flushed flushed' faults faults' wrote
 
 pub aside_reason : (stop : Stop) (left : Option (List ℕ)) (reads : ℕ) (slots : Slots) (old new : Option (List ℕ)) (flushed flushed' : Option Bool) (faults faults' : ℕ)
     → HasSinkCause {T = Unit {0}} faults faults' (Err stop)

@@ -5,12 +5,12 @@ use Rattle.pdl_io.specs.Counts.{Rose}
 use Rattle.pdl_io.specs.Told.{Says, AppendsPrefix}
 use Rattle.pdl_watch.specs.declared.notice.Notice.{Notice}
 use Rattle.pdl_watch.specs.Watched.{Watched}
-use Rattle.pdl_watch.specs.Slots.{Slots, slot, notices_of, all_told, all_ended, emptied, ToldPart, SlotRose, EndedShort}
+use Rattle.pdl_watch.specs.Slots.{Slots, slot, notices_of, all_told, all_ended, emptied, ToldPart, SlotRose, EndedShort, OneMissed}
 use Rattle.pdl_machine.specs.Watches.{Watches, is_present}
 use Rattle.pdl_machine.specs.Run.{Progress, run}
 use Rattle.pdl_shell.specs.Command.{usage_line}
 use Rattle.pdl_shell.specs.Summary.{summary}
-use Rattle.pdl_shell.specs.Outside.{Outlets, Outside, CountsStay, OneRose, NoneFailed}
+use Rattle.pdl_shell.specs.Outside.{Outlets, Outside, CountsStay, NoneFailed}
 use Rattle.pdl_shell.specs.declared.words.Command.{Command}
 use Rattle.pdl_shell.specs.declared.words.Command.TheVariants.{Run, Generate}
 use Rattle.pdl_shell.specs.declared.stop.Stop.{Stop}
@@ -101,7 +101,7 @@ pub record ClosesShort (ending : Ending) (old new : Outlets) : Type 0 where
   pub slots : EndedShort (told_by ending old.slots) ending.watches new.slots
 
 -- what was written and told, from what is seen of sink and slots before the call and after it
-abbrev pub Gives : Status → Ending → Outlets → Outlets → Type 0
+abbrev pub Gives : Status → Ending → (old new : Outlets) → Type 0
 Gives Done ending old new = (Done ≡ ending.status) × IsWhole ending old new
 Gives ScriptFault ending old new = (ScriptFault ≡ ending.status) × IsWhole ending old new
 Gives Usage ending old new = (Usage ≡ ending.status) × IsWhole ending old new
@@ -135,7 +135,7 @@ HasReason Usage old new = AllQuiet old new
 HasReason SourceFault old new = Rose old.faults new.faults × NoneFailed old.out new.out
 HasReason SinkFault old new = Rose old.out.faults new.out.faults
     × (new.faults ≡ old.faults) × CountsStay old.out.slots new.out.slots
-HasReason WatcherFault old new = OneRose old.out.slots new.out.slots
+HasReason WatcherFault old new = OneMissed old.out.slots new.out.slots
     × (new.faults ≡ old.faults) × (new.out.faults ≡ old.out.faults)
 HasReason NoMemory old new = AllQuiet old new
 

@@ -1,6 +1,6 @@
 -- What the course of a run rests on.
 use Rattle.pdl_watch.specs.Slots.{TellsTwice}
-use Rattle.pdl_watch.specs.SlotLaws.{TellingKeepsAll, EmptyingLeaves, NoneIsEmptied, EmptyingAndTelling, EmptiedTwice, TellingKeepsLength, EmptyingKeepsLength, EndingMissesOne}
+use Rattle.pdl_watch.specs.SlotLaws.{TellingKeepsAll, EmptyingLeaves, NoneIsEmptied, EmptyingAndTelling, EmptiedTwice, QuietTellsNone, BelowItself, BelowTwice, TellingKeepsLength, EmptyingKeepsLength, EndingMissesOne}
 use Rattle.pdl_machine.specs.RunLaws.{EndedStays, PrintedStays, ToldStays, NoneComes}
 
 -- the laws of slots and of runs that every step of a run is proved by
@@ -10,6 +10,9 @@ pub record Laws : Type 0 where
   pub none : NoneIsEmptied
   pub beside : EmptyingAndTelling
   pub twice : EmptiedTwice
+  pub quiet : QuietTellsNone
+  pub below : BelowItself
+  pub below_twice : BelowTwice
   pub told_long : TellingKeepsLength
   pub long : EmptyingKeepsLength
   pub ended_one : EndingMissesOne

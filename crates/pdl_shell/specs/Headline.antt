@@ -1,13 +1,14 @@
 -- What must follow from the words that the top call's contract is written in.
-use Rattle.std.specs.Prelude.{◌≡◌, ℕ, ⊤, ◌⊎◌, List, [], ◌++◌, Bool, true, false, None, Some, option_map}
+use Rattle.std.specs.Prelude.{◌≡◌, ℕ, ◌+◌, ◌-◌, ◌^◌, ◌<◌, ◌≤◌, ⊤, ◌⊎◌, List, [], ◌++◌, length, Bool, true, false, Option, None, Some, IsSome, option_map}
 use Rattle.std.specs.Io.KnownBytes.{Consumes}
 use Rattle.pdl_io.specs.Counts.{Rose}
 use Rattle.pdl_watch.specs.declared.notice.Notice.{Notice}
 use Rattle.pdl_watch.specs.Watched.{Watched}
 use Rattle.pdl_watch.specs.Slots.{slot, notices_of, StartsWith}
+use Rattle.pdl_machine.specs.Watches.{watch_of}
 use Rattle.pdl_machine.specs.Run.{so_far}
 use Rattle.pdl_shell.specs.Outside.{Outside}
-use Rattle.pdl_shell.specs.Answers.{CameToItsEnd, HasReason, Gives, CanAnswer, Ending, ending_of_run, told_by, slots_after}
+use Rattle.pdl_shell.specs.Answers.{CameToItsEnd, HasReason, Gives, CanAnswer, TakesAtMost, IsUndisturbed, Ending, ending_of_run, told_by, slots_after}
 use Rattle.pdl_shell.specs.Taken.{Reads, terms_for}
 use Rattle.pdl_shell.specs.declared.status.Status.{Status}
 use Rattle.pdl_shell.specs.declared.status.Status.TheVariants.{Done, ScriptFault, SourceFault, SinkFault, WatcherFault, NoMemory}
@@ -113,6 +114,45 @@ CutOffTellAFront = (status : Status) (e : Ending) (old new : Outside) (k : ℕ)
     (before after : Watched) → IsCutOff status → Gives status e old.out new.out →
     slot old.out.slots k ≡ Some before → slot new.out.slots k ≡ Some after →
     HeardAFront (notices_of e.told k) before after
+
+-- The watcher was told a front of these notices. It is finished or not as before, or it was told all
+-- of them, its slot is attached, and it is finished.
+pub record HeardOrEnded (ns : List Notice) (watch : Option ℕ) (before after : Watched)
+    : Type 0 where
+  pub part : List Notice
+  pub front : StartsWith ns part
+  pub told : after.told ≡ option_map (λ was. was ++ part) before.told
+  pub finished : (after.finished ≡ before.finished)
+      ⊎ ((after.finished ≡ true) × (part ≡ ns) × IsSome watch)
+
+-- so it is with each watcher that is there still where one failed
+abbrev pub WatcherFaultsTellAFront : Type 0
+WatcherFaultsTellAFront = (e : Ending) (old new : Outside) (k : ℕ) (before after : Watched) →
+    Gives WatcherFault e old.out new.out →
+    slot old.out.slots k ≡ Some before → slot new.out.slots k ≡ Some after →
+    HeardOrEnded (notices_of e.told k) (watch_of e.watches k) before after
+
+-- fewer than 4,096 bytes are taken behind those that end the run
+abbrev pub NoPartIsReadBehind : Type 0
+NoPartIsReadBehind = (keep : Bool) (status : Status) (old new : Outside) (front rest : List ℕ)
+    (reads : Reads keep status old new) → reads.taken ≡ front ++ rest →
+    (so_far (terms_for keep old.out.slots) front).ended ≡ true → length rest < 4096
+
+-- of the bytes that the source has, at most so many are taken
+abbrev pub FewAreTaken : Type 0
+FewAreTaken = (most : ℕ) (old new : Option (List ℕ)) (before after : List ℕ) →
+    old ≡ Some before → new ≡ Some after → TakesAtMost most old new →
+    length before ≤ most + length after
+
+-- every count is below the one at which it stays
+pub record CanRise (now : Outside) : Type 0 where
+  pub source : now.faults < 2 ^ 64 - 1
+  pub sink : now.out.faults < 2 ^ 64 - 1
+  pub watchers : (k : ℕ) (w : Watched) → slot now.out.slots k ≡ Some w → w.misses < 2 ^ 64 - 1
+
+-- where such counts are as they were, the call was undisturbed
+abbrev pub QuietIsUndisturbed : Type 0
+QuietIsUndisturbed = (old new : Outside) → CanRise old → NoneRose old new → IsUndisturbed old new
 
 -- out of memory is no answer to words that are no spelling
 abbrev pub UsageTakesNoMemory : Type 0

@@ -13,3 +13,4 @@ pub mod Pace
 pub mod CourseLaws
 pub mod Course
 pub mod Headline
+pub mod TwoStatements

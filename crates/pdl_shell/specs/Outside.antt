@@ -1,7 +1,6 @@
 -- What is outside of a run, as far as it is seen: the source, the sink and the slots of watchers.
-use Rattle.std.specs.Prelude.{◌≡◌, ◌≢◌, ℕ, Bool, List, Option, Some, None}
-use Rattle.pdl_watch.specs.Watched.{Watched}
-use Rattle.pdl_watch.specs.Slots.{Slots, slot, SlotRose}
+use Rattle.std.specs.Prelude.{◌≡◌, ℕ, Bool, List, Option}
+use Rattle.pdl_watch.specs.Slots.{Slots, slot, CountStays}
 
 -- Where a run gives out what it prints and what it tells: the bytes that the sink took and whether it
 -- is flushed, as far as the sink tells these, how many of its calls failed, and the slots.
@@ -29,22 +28,9 @@ abbrev pub outside : {S : Type 0} → (left : S → Option (List ℕ)) → (faul
     (source : S) → Outlets → Outside
 outside left faults source out = record { left = left source; faults = faults source; out = out }
 
--- the watcher of a slot has its count of failed calls as it was, or is gone
-abbrev pub CountStays : Option Watched → Option Watched → Type 0
-CountStays None None = Unit {0}
-CountStays None (Some now) = ⊥
-CountStays (Some old) None = Unit {0}
-CountStays (Some old) (Some now) = now.misses ≡ old.misses
-
--- so for each slot
+-- each watcher that is there still has its count of failed calls as it was
 abbrev pub CountsStay : Slots → Slots → Type 0
 CountsStay old now = (k : ℕ) → CountStays (slot old k) (slot now k)
-
--- the count of one slot's watcher rose, and those of all others stayed
-pub record OneRose (old now : Slots) : Type 0 where
-  pub at : ℕ
-  pub rose : SlotRose (slot old at) (slot now at)
-  pub others : (k : ℕ) → k ≢ at → CountStays (slot old k) (slot now k)
 
 -- no call of the sink or of a watcher failed
 abbrev pub NoneFailed : Outlets → Outlets → Type 0

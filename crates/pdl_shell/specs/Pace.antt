@@ -24,5 +24,6 @@ marks_left past_limit cutter bytes =
 marks_left unknown cutter bytes = map statement (settled_from cutter bytes)
 
 -- what a run comes to that has come this far, where these bytes are left
-abbrev pub outcome : Terms → Behind → State → Progress → (bytes : List ℕ) → Progress
+abbrev pub outcome : Terms → Behind → (cutter : State) → (run : Progress) → (bytes : List ℕ)
+    → Progress
 outcome terms follows cutter run bytes = after_marks terms run (marks_left follows cutter bytes)

@@ -1,9 +1,9 @@
 -- Why the parts of a run stop short.
 use Rattle.std.specs.Prelude.{◌≡◌, ℕ, Bool, ◌⊎◌, Result, Ok, Err}
 use Rattle.pdl_io.specs.Counts.{Rose}
-use Rattle.pdl_watch.specs.Slots.{Slots}
+use Rattle.pdl_watch.specs.Slots.{Slots, OneMissed}
 use Rattle.pdl_machine.specs.Run.{Progress}
-use Rattle.pdl_shell.specs.Outside.{Outlets, Outside, CountsStay, OneRose, NoneFailed}
+use Rattle.pdl_shell.specs.Outside.{Outlets, Outside, CountsStay, NoneFailed}
 use Rattle.pdl_shell.specs.Answers.{IsWhole, IsShort, ClosesShort, AllQuiet, HasReason, ending_of_run, status_of_stop}
 use Rattle.pdl_shell.specs.declared.stop.Stop.{Stop}
 use Rattle.pdl_shell.specs.declared.stop.Stop.TheVariants.{Source, Sink, Watcher, NoMemory}
@@ -21,14 +21,14 @@ HasSinkCause before now (Err NoMemory) = now ≡ before
 abbrev pub SlotsFail : Stop → Slots → Slots → Type 0
 SlotsFail Source old now = ⊥
 SlotsFail Sink old now = ⊥
-SlotsFail Watcher old now = OneRose old now
+SlotsFail Watcher old now = OneMissed old now
 SlotsFail NoMemory old now = CountsStay old now
 
 -- and one that works on both
 abbrev pub Fails : Stop → Outlets → Outlets → Type 0
 Fails Source old now = ⊥
 Fails Sink old now = Rose old.faults now.faults × CountsStay old.slots now.slots
-Fails Watcher old now = OneRose old.slots now.slots × (now.faults ≡ old.faults)
+Fails Watcher old now = OneMissed old.slots now.slots × (now.faults ≡ old.faults)
 Fails NoMemory old now = NoneFailed old now
 
 -- where a part that works on all stops, its status has its reason, and else all counts stayed
@@ -38,7 +38,7 @@ HasCauses old now (Err stop) = HasReason (status_of_stop stop) old now
 
 -- A run came to its end, with all written and told and those finished that are attached; or it
 -- stopped short.
-abbrev pub Leaves : Result Bool Stop → Progress → Outlets → Outlets → Type 0
+abbrev pub Leaves : Result Bool Stop → Progress → (old now : Outlets) → Type 0
 Leaves (Ok faulted) run old now = (faulted ≡ run.faulted) × IsWhole (ending_of_run run) old now
 Leaves (Err Source) run old now = IsShort (ending_of_run run) old now
 Leaves (Err Sink) run old now = IsShort (ending_of_run run) old now

@@ -20,7 +20,7 @@ StopsSoon terms taken = (so_far terms (take (length taken - 4096) taken)).ended 
 -- What a status says of how far the run has come by the bytes taken: Done, that the source is at
 -- its end; ScriptFault, that it is, or that these bytes end the run; SourceFault, that exactly
 -- what they print was written and exactly what they tell was told, and that they don't end it.
-abbrev pub ComesTo : Status → Progress → Outside → Outside → Type 0
+abbrev pub ComesTo : Status → Progress → (old new : Outside) → Type 0
 ComesTo Done run old new = IsAtEnd new.left
 ComesTo ScriptFault run old new = IsAtEnd new.left ⊎ (run.ended ≡ true)
 ComesTo Usage run old new = ⊤

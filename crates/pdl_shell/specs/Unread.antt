@@ -1,15 +1,25 @@
--- Why a text is no statement, as what a statement's refusal is.
-use Rattle.std.specs.Prelude.{◌≡◌, Result, Err}
+-- Which text a text is read for, and why it is no statement.
+use Rattle.std.specs.Prelude.{◌≡◌, ◌≤◌, ℕ, List, length, Result, Ok, Err}
 use Rattle.pdl_lex.specs.declared.LexFault.{LexFault}
 use Rattle.pdl_lex.specs.declared.LexFault.TheVariants as lexing
+use Rattle.pdl_lex.specs.declared.Token.{Token}
+use Rattle.pdl_lex.specs.Limits.{statement_limit}
+use Rattle.pdl_lex.specs.Tokens.{toks}
 use Rattle.pdl_nice.specs.declared.NiceFault.{NiceFault}
 use Rattle.pdl_nice.specs.declared.NiceFault.TheVariants as nice
 use Rattle.pdl_syntax.specs.declared.parser.ParseFault.{ParseFault}
 use Rattle.pdl_syntax.specs.declared.parser.ParseFault.TheVariants as parsing
 use Rattle.pdl_machine.specs.declared.fault.Fault.{Fault}
 use Rattle.pdl_machine.specs.declared.fault.Fault.TheVariants.{Syntax, StatementTooLong, TooDeep, NumberTooLarge, Ragged}
+use Rattle.pdl_machine.specs.Reads.{reads, reads_plain}
 use Rattle.pdl_session.specs.declared.fault.StepFault.{StepFault}
 use Rattle.pdl_session.specs.declared.fault.StepFault.TheVariants.{Script, Watcher, NoMemory}
+
+-- a text reads as this plain one, which has these tokens and is no longer than a statement
+pub record AreOfPlain (text plain : List ℕ) (tokens : List Token) : Type 0 where
+  pub same : reads text ≡ reads_plain plain
+  pub within : length plain ≤ statement_limit
+  pub are : toks plain ≡ Ok tokens
 
 -- a text without tokens is a syntax error
 abbrev pub of_lexing : LexFault → StepFault

@@ -1,8 +1,9 @@
 //! Laws of runs and of the answers to them.
 ghost use Rattle.pdl_shell.specs.CourseLaws.{Laws};
-ghost use Rattle.pdl_shell.specs.Headline.{EndsAreQuiet, NoMemoryIsQuiet, SourceFaultsRise, SinkFaultsRise, WatcherFaultsRise, SourceFaultsLeave, DoneReadsAll, ScriptFaultReads, EndsWriteAll, AllWriteAFront, CutOffTellAFront, UsageTakesNoMemory};
+ghost use Rattle.pdl_shell.specs.TwoStatements.{WorkedStatuses};
+ghost use Rattle.pdl_shell.specs.Headline.{EndsAreQuiet, NoMemoryIsQuiet, SourceFaultsRise, SinkFaultsRise, WatcherFaultsRise, SourceFaultsLeave, DoneReadsAll, ScriptFaultReads, EndsWriteAll, AllWriteAFront, CutOffTellAFront, WatcherFaultsTellAFront, NoPartIsReadBehind, FewAreTaken, QuietIsUndisturbed, UsageTakesNoMemory};
 
-use pdl_machine::run_laws;
+use pdl_machine::{run_laws, so_far_laws};
 use pdl_watch::{slot_laws, telling_laws};
 
 // The laws of slots and of runs that each step of a run is proved by. The call does nothing when
@@ -21,8 +22,11 @@ pub(crate) fn course_laws()
 /// of the source just the text is written and just the notices are told of the statements that were
 /// whole by then, none of which ended the run (`leaves`); with Done nothing is left of the script
 /// (`reads`), and with ScriptFault nothing, or the bytes taken end the run (`fault_reads`); at the end
-/// all is written and told (`writes`), and else a front of it (`front`, `tells`); words that are no
-/// spelling take no memory (`usage`). The call does nothing when it runs.
+/// all is written and told (`writes`), and else a front of it (`front`, `tells`, and where a watcher
+/// failed `tells_some`); fewer than 4,096 bytes are taken behind those that end the run (`soon`), and
+/// no more of the source than the most that a call takes (`few`); where counts can rise and don't,
+/// the call is undisturbed (`undisturbed`); words that are no spelling take no memory (`usage`). The
+/// call does nothing when it runs.
 pub fn headline_laws()
     ensures quiet { EndsAreQuiet }
     ensures memory { NoMemoryIsQuiet }
@@ -35,5 +39,21 @@ pub fn headline_laws()
     ensures writes { EndsWriteAll }
     ensures front { AllWriteAFront }
     ensures tells { CutOffTellAFront }
+    ensures tells_some { WatcherFaultsTellAFront }
+    ensures soon { NoPartIsReadBehind }
+    ensures few { FewAreTaken }
+    ensures undisturbed { QuietIsUndisturbed }
     ensures usage { UsageTakesNoMemory }
+{
+    run_laws();
+    so_far_laws()
+}
+
+/// What each status says of scripts of two statements, worked by hand: with Done both texts are
+/// written, with ScriptFault the first text and the fault's line, and neither status is the other
+/// script's answer; with Usage its line; out of memory or where the sink failed a front of the text;
+/// where the read behind the first statement failed, the first text; and where the watcher that is
+/// attached at the end couldn't be finished, it was told nothing. The call does nothing when it runs.
+pub fn worked_statuses()
+    ensures { WorkedStatuses }
 {}

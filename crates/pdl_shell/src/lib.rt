@@ -16,6 +16,7 @@ mod stop;
 mod summary;
 mod words;
 
-pub use laws::headline_laws;
+pub use laws::{headline_laws, worked_statuses};
+pub use pdl_scope::MOST_SLOTS;
 pub use run::run_shell;
 pub use status::Status;

@@ -1,12 +1,12 @@
 //! The statement that a text is: its tokens are found, and where nice slices stand among them, the
 //! tokens of its plain text.
-ghost use Rattle.std.specs.Prelude.{◌≡◌, ◌≤◌, length, Ok, IfOk, IfErr};
+ghost use Rattle.std.specs.Prelude.{◌≡◌, ◌≤◌, length, if◌then◌else◌, Ok, IfOk, IfErr, OnOk};
 ghost use Rattle.pdl_lex.specs.Limits.{statement_limit};
 ghost use Rattle.pdl_lex.specs.Tokens.{toks};
 ghost use Rattle.pdl_syntax.specs.StatementTree.{statement_of};
 ghost use Rattle.pdl_syntax.specs.WellMade.{IsWellMade};
 ghost use Rattle.pdl_machine.specs.Reads.{reads_plain, reads};
-ghost use Rattle.pdl_shell.specs.Unread.{IsFault, of_lexing, of_parsing, of_nice};
+ghost use Rattle.pdl_shell.specs.Unread.{AreOfPlain, IsFault, of_lexing, of_parsing, of_nice};
 
 use pdl_lex::{LexFault, Token, read_tokens};
 use pdl_lexemes::Lexeme;
@@ -43,78 +43,64 @@ pub(crate) fn read(alloc: Global, text: &[u8], rooms: &mut Rooms) -> Result<Stat
     ensures well_made { IfOk result (λ s. IsWellMade (statement_of s)) }
     ensures fault { IfErr result (IsFault (reads text.now)) }
 {
-    match read_tokens(text, &mut rooms.tokens) {
-        Ok(()) => parse(alloc, text, rooms),
-        Err(fault) => Err(of_lexing(fault)),
+    reads_law();
+    let is_nice = find_tokens(text, rooms)?;
+    let plain = plain_text(text, &rooms.plain, is_nice);
+    match parse_within(alloc, plain, &rooms.tokens, &mut rooms.lexemes) {
+        Ok(statement) => Ok(statement),
+        Err(fault) => Err(of_parsing(fault)),
     }
 }
 
-// The statement that a text with these tokens is, or why it is none. It is read once more where it
-// has nice slices.
-fn parse(alloc: Global, text: &[u8], rooms: &mut Rooms) -> Result<Statement, StepFault>
-    requires tokens { toks text.now ≡ Ok rooms.old.tokens.items }
-    requires small { length text.now ≤ statement_limit }
-    ensures ok { IfOk result (λ s. reads text.now ≡ Ok (statement_of s)) }
-    ensures well_made { IfOk result (λ s. IsWellMade (statement_of s)) }
+// The text itself, or where it has nice slices, the one that was written for it.
+fn plain_text<'a>(text: &'a [u8], written: &'a [u8], is_nice: bool) -> &'a [u8]
+    ensures { result.now ≡ (if is_nice then written.now else text.now) }
+{
+    if is_nice { written } else { text }
+}
+
+// Finds the tokens of the plain text of a text, and answers whether the text has nice slices: where
+// it has some the plain text is written, and else it is the text itself.
+fn find_tokens(text: &[u8], rooms: &mut Rooms) -> Result<bool, StepFault>
+    requires { length text.now ≤ statement_limit }
+    ensures found { IfOk result (λ is_nice.
+        let plain = if is_nice then rooms.new.plain.items else text.now in
+        AreOfPlain text.now plain rooms.new.tokens.items) }
     ensures fault { IfErr result (IsFault (reads text.now)) }
 {
     reads_law();
-    if has_nice(text, &rooms.tokens) {
-        read_nice(alloc, text, rooms)
-    } else {
-        parse_found(alloc, text, &rooms.tokens, &mut rooms.lexemes)
+    find(text, &mut rooms.tokens)?;
+    if !has_nice(text, &rooms.tokens) {
+        return Ok(false);
     }
+    rewrite(text, rooms)?;
+    Ok(true)
 }
 
-// The statement that the plain text of a text with these tokens is, or why it is none.
-fn read_nice(alloc: Global, text: &[u8], rooms: &mut Rooms) -> Result<Statement, StepFault>
+// Writes the plain text of a text with these tokens, and finds the tokens of that.
+fn rewrite(text: &[u8], rooms: &mut Rooms) -> Result<(), StepFault>
     requires tokens { toks text.now ≡ Ok rooms.old.tokens.items }
     requires small { length text.now ≤ statement_limit }
-    ensures ok { IfOk result (λ s. reads text.now ≡ Ok (statement_of s)) }
-    ensures well_made { IfOk result (λ s. IsWellMade (statement_of s)) }
+    ensures found { OnOk result
+        (AreOfPlain text.now rooms.new.plain.items rooms.new.tokens.items) }
     ensures fault { IfErr result (IsFault (reads text.now)) }
 {
     match write_plain(text, &rooms.tokens, &mut rooms.nice, &mut rooms.plain) {
-        Ok(()) => read_plain(alloc, &rooms.plain, &mut rooms.tokens, &mut rooms.lexemes),
+        Ok(()) => find(&rooms.plain, &mut rooms.tokens),
         Err(fault) => Err(of_nice(fault)),
     }
 }
 
-// The statement that a plain text is, or why it is none. Its tokens are put into the list.
-fn read_plain(
-    alloc: Global,
-    text: &[u8],
-    tokens: &mut Vec<Token>,
-    lexemes: &mut Vec<Lexeme>,
-) -> Result<Statement, StepFault>
+// Finds the tokens of a text, plain or not.
+fn find(text: &[u8], tokens: &mut Vec<Token>) -> Result<(), StepFault>
     requires { length text.now ≤ statement_limit }
-    ensures ok { IfOk result (λ s. reads_plain text.now ≡ Ok (statement_of s)) }
-    ensures well_made { IfOk result (λ s. IsWellMade (statement_of s)) }
-    ensures fault { IfErr result (IsFault (reads_plain text.now)) }
+    ensures found { OnOk result (toks text.now ≡ Ok tokens.new.items) }
+    ensures fault { IfErr result (IsFault (reads text.now)) }
+    ensures plain_fault { IfErr result (IsFault (reads_plain text.now)) }
 {
     match read_tokens(text, tokens) {
-        Ok(()) => parse_found(alloc, text, tokens, lexemes),
+        Ok(()) => Ok(()),
         Err(fault) => Err(of_lexing(fault)),
-    }
-}
-
-// The statement that the tokens of a plain text spell, or why they spell none.
-fn parse_found(
-    alloc: Global,
-    text: &[u8],
-    tokens: &[Token],
-    lexemes: &mut Vec<Lexeme>,
-) -> Result<Statement, StepFault>
-    requires tokens { toks text.now ≡ Ok tokens.now }
-    requires small { length text.now ≤ statement_limit }
-    ensures ok { IfOk result (λ s. reads_plain text.now ≡ Ok (statement_of s)) }
-    ensures well_made { IfOk result (λ s. IsWellMade (statement_of s)) }
-    ensures fault { IfErr result (IsFault (reads_plain text.now)) }
-{
-    reads_law();
-    match parse_within(alloc, text, tokens, lexemes) {
-        Ok(statement) => Ok(statement),
-        Err(fault) => Err(of_parsing(fault)),
     }
 }
 

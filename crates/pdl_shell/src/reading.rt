@@ -17,12 +17,10 @@ use crate::runner::Runner;
 use crate::stop::Stop;
 use pdl_buf::Steps;
 use pdl_io::{Sink, Source};
+use pdl_lex::SCRIPT_LIMIT;
 use pdl_machine::{run_laws, so_far_laws};
 use pdl_watch::Watcher;
 use std::sync::ledger::Ledger;
-
-// The most bytes of a script.
-const SCRIPT_LIMIT: usize = 16_777_216;
 
 // The most bytes that are asked for at once.
 const PART: usize = 4096;

@@ -174,8 +174,8 @@ fn usage<K: Sink>(sink: &mut K) -> Status
 /// call stops short, a prefix is written and a front is told (`model`), and where the source fails,
 /// just what the statements print and tell that were whole by then (`reads`). A fault of the source,
 /// the sink or a watcher is answered only where its count rose in this call (`reason`). After one, or
-/// where memory is wanting, the call ends at once: no watcher is called any more. It takes no memory
-/// where the words are no spelling.
+/// where memory is wanting, the call ends at once. It takes no memory where the words are no
+/// spelling.
 pub fn run_shell<S: Source, K: Sink>(
     alloc: Global,
     words: &[String],

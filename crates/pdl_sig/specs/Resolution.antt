@@ -154,14 +154,16 @@ abbrev pub given_after : Role → List ArgShape → List ArgShape
 given_after role given = if is_given role then drop 1 given else given
 
 -- the shapes of the arguments, for which these are given
-abbrev pub shapes : List ℕ → List ℕ → List SigArg → List ArgShape → List (List ℕ)
+abbrev pub shapes : (sizes broadcast : List ℕ) → (args : List SigArg) → (given : List ArgShape)
+    → List (List ℕ)
 shapes sizes broadcast [] given = []
 shapes sizes broadcast (a ∷ args) given =
     shape_of a.role given (made_for sizes broadcast a)
     ∷ shapes sizes broadcast args (given_after a.role given)
 
 -- what a call resolves to, by the named sizes and the broadcast dimensions
-abbrev pub solution : List SigArg → List ArgShape → List ℕ → List ℕ → Resolved
+abbrev pub solution : (args : List SigArg) → (given : List ArgShape) → (sizes broadcast : List ℕ)
+    → Resolved
 solution args given sizes broadcast = record {
   generic = generic_type args given;
   types = map (λ a. type_in (generic_type args given) a.ty) args;
@@ -183,8 +185,8 @@ pub data Unresolved : Type 0 where
 
 -- what a call resolves to by the named sizes and the joined dimensions, or the first refusal from a
 -- mismatch of these on
-abbrev pub resolved_by : List SigArg → List ArgShape → List ℕ → Option (List ℕ)
-    → Result Resolved Unresolved
+abbrev pub resolved_by : (args : List SigArg) → (given : List ArgShape) → (sizes : List ℕ)
+    → (broadcast : Option (List ℕ)) → Result Resolved Unresolved
 resolved_by args given sizes None = Err broadcast_mismatch
 resolved_by args given sizes (Some broadcast) =
     if list_any (is_stretched sizes broadcast) (handed args given) then Err stretched_in_out

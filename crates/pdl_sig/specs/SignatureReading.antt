@@ -123,8 +123,8 @@ before_dims d (Some x) = Some (d ∷ x.0, x.1)
 
 -- the dimensions up to the closing bracket, by what stands after the first one: a comma, or the
 -- bracket
-abbrev pub dims_by : (List ℕ → Option (List WrittenDim × List ℕ)) → WrittenDim → Option (List ℕ)
-    → Option (List ℕ) → Option (List WrittenDim × List ℕ)
+abbrev pub dims_by : (more : (List ℕ → Option (List WrittenDim × List ℕ))) → WrittenDim
+    → (comma close : Option (List ℕ)) → Option (List WrittenDim × List ℕ)
 dims_by more d (Some t) close = before_dims d (more t)
 dims_by more d None None = None
 dims_by more d None (Some t) = Some (d ∷ [], t)
@@ -152,7 +152,7 @@ unfoldable pub bracket_at : List ℕ → Option (List WrittenDim × List ℕ)
 bracket_at s = bracket_after (sign_at 40 s)
 
 -- the argument, by its type, its role, its word and its dimensions
-abbrev pub arg_of : ArgType → Role → List ℕ → Option (List WrittenDim × List ℕ)
+abbrev pub arg_of : ArgType → Role → (word : List ℕ) → (dims : Option (List WrittenDim × List ℕ))
     → Option (WrittenArg × List ℕ)
 arg_of ty r w None = None
 arg_of ty r w (Some x) = Some (record { name = w; role = r; ty = ty; dims = x.0 }, x.1)
@@ -179,13 +179,13 @@ only_arg a false = None
 only_arg a true = Some (a ∷ [])
 
 -- the arguments after a semicolon
-abbrev pub args_past : (List ℕ → Option (List WrittenArg)) → WrittenArg → List ℕ → Bool
-    → Option (List WrittenArg)
+abbrev pub args_past : (more : List ℕ → Option (List WrittenArg)) → WrittenArg → (rest : List ℕ)
+    → (ended : Bool) → Option (List WrittenArg)
 args_past more a t true = Some (a ∷ [])
 args_past more a t false = before_args a (more t)
 
-abbrev pub args_by : (List ℕ → Option (List WrittenArg)) → WrittenArg → List ℕ → Option (List ℕ)
-    → Option (List WrittenArg)
+abbrev pub args_by : (more : List ℕ → Option (List WrittenArg)) → WrittenArg → (rest : List ℕ)
+    → (semicolon : Option (List ℕ)) → Option (List WrittenArg)
 args_by more a t None = only_arg a (is_end t)
 args_by more a t (Some u) = args_past more a u (is_end u)
 

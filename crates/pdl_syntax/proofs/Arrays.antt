@@ -1,10 +1,13 @@
--- Spelled literals are arrays.
+-- Spelled literals are arrays, and spelled statements are well made.
 use Rattle.std.proofs.Common.{◌≡◌, ◌≤◌, ◌*◌, ℕ, suc, ℤ, pos, nat_le, nat_eq, List, length, All, Bool, true, false, ◌||◌, if◌then◌else◌, Option, Some, None, refl, sym, ◌∙◌, subst, arith, eqb-true}
 use Rattle.std.proofs.lemmas.Int.{ints}
-use Rattle.std.proofs.lemmas.List.Elements.{All-nil, All-push}
+use Rattle.std.specs.List.{AllByRecursion}
+use Rattle.std.proofs.lemmas.List.Elements.{All-nil, All-push, recursion_from_All}
 use Rattle.std.proofs.lemmas.Bool.{or_parts, not-false, leb-true}
 use Rattle.pdl_lexemes.specs.declared.Lexeme.{Lexeme}
+use Rattle.pdl_lexemes.specs.declared.WordKind.{WordKind}
 use Rattle.pdl_lexemes.specs.Lists.{signed}
+use Rattle.pdl_lexemes.specs.Texts.{IsName, IsQuotable, HoldsText}
 use Rattle.pdl_lexemes.specs.Laws.{FillsArray, ListsAreArrays}
 use Rattle.pdl_lemmas.specs.Options.{none_some, some_inj}
 use Rattle.pdl_syntax.specs.Tree.{Tree, Args, none, value}
@@ -12,7 +15,7 @@ use Rattle.pdl_syntax.specs.Ragged.{is_ragged, are_ragged, in_views, in_statemen
 use Rattle.pdl_syntax.proofs.Raggedness.{any_last}
 use Rattle.pdl_syntax.specs.Grammar.{literal_of, Spells, Part, an_expr, a_postfix, a_primary, an_arg, some_args, closed_args, maybe_args, same, joined, once, negated, prefixed, plain, bare, method, a_number, a_name, list, round_list, called, round, a_value, a_text, a_type, one, more as more_args, no_args, all_args, without, within}
 use Rattle.pdl_syntax.specs.StatementTree.{StatementTree, View}
-use Rattle.pdl_syntax.specs.Statements.{SpellsViews, no_views, one_view, SpellsCalled, by_word, by_method, SpellsBinding, binds_value, binds_severed, binds_names, SpellsStatement, binds, my_binds, assigns, shows_text, shows, shows_info, severs, reshapes, undefs, lists_names, defines, watches, unwatches}
+use Rattle.pdl_syntax.specs.Statements.{SpellsNames, one_name, more_names, SpellsText, plain_text, labelled, SpellsViews, no_views, one_view, SpellsCalled, by_word, by_method, SpellsBinding, binds_value, binds_severed, binds_names, SpellsStatement, binds, my_binds, assigns, shows_text, shows, shows_info, severs, reshapes, undefs, lists_names, defines, watches, unwatches}
 use Rattle.pdl_syntax.specs.WellMade.{IsCount, AreArrays, AreArgArrays, IsCall, IsWellMade}
 
 record SignedIs (n : ℕ) (z : ℤ) : Type 0 where
@@ -102,25 +105,44 @@ called_calls : {source : List ℕ} {t : Tree} {ts : List Lexeme} → SpellsCalle
 called_calls (by_word h) = tt
 called_calls (by_method h k) = tt
 
-binding_arrays : ListsAreArrays → {source : List ℕ} {s : StatementTree} {ts : List Lexeme} → SpellsBinding source s ts → in_statement s ≡ false → IsWellMade s
-binding_arrays lists (binds_value h) e = arrays lists h e
-binding_arrays lists (binds_severed h b) e = arrays lists h e
-binding_arrays lists (binds_names h c) e = (called_calls c, called_arrays lists c e)
+-- lexemes whose names are names, and whose strings can be written
+abbrev Hold : (source : List ℕ) → List Lexeme → Type 0
+Hold source ts = AllByRecursion (HoldsText source) ts
 
--- the literals of a spelled statement without ragged lists are arrays
-pub statement_arrays : ListsAreArrays → {source : List ℕ} {s : StatementTree} {ts : List Lexeme} → SpellsStatement source s ts → in_statement s ≡ false → IsWellMade s
-statement_arrays lists (binds h) e = binding_arrays lists h e
-statement_arrays lists (my_binds h) e = binding_arrays lists h e
-statement_arrays lists (assigns {views = views} {t = t} v h) e =
+names_hold : {source : List ℕ} {front names : List (List ℕ)} {ts rest : List Lexeme} → SpellsNames source front names ts rest → Hold source ts → All IsName front → All IsName names × Hold source rest
+names_hold (one_name {front = front}) all before = (All-push IsName front _ before all.0, all.1)
+names_hold (more_names {names = names} h) all before =
+    let k = names_hold h all before in
+    (All-push IsName names _ k.0 k.1.1.0, k.1.1.1)
+
+text_holds : {source : List ℕ} {label : WordKind} {text : List ℕ} {ts rest : List Lexeme} → SpellsText source label text ts rest → Hold source ts → IsQuotable text × Hold source rest
+text_holds plain_text all = all
+text_holds labelled all = all.1.1
+
+binding_made : ListsAreArrays → {source : List ℕ} {s : StatementTree} {ts : List Lexeme} → SpellsBinding source s ts → in_statement s ≡ false → Hold source ts → IsWellMade s
+binding_made lists (binds_value h) e all = (all.0, arrays lists h e)
+binding_made lists (binds_severed h b) e all = (all.0, arrays lists h e)
+binding_made lists (binds_names h c) e all = ((names_hold h all.1 (All-nil IsName)).0, called_calls c, called_arrays lists c e)
+
+statement_made : ListsAreArrays → {source : List ℕ} {s : StatementTree} {ts : List Lexeme} → SpellsStatement source s ts → in_statement s ≡ false → Hold source ts → IsWellMade s
+statement_made lists (binds h) e all = binding_made lists h e all
+statement_made lists (my_binds h) e all = binding_made lists h e all.1
+statement_made lists (assigns {views = views} {t = t} v h) e all =
     let parts = or_parts (in_views views) (is_ragged t) e in
-    (views_arrays lists v parts.0 (All-nil ViewArrays), arrays lists h parts.1)
-statement_arrays lists shows_text e = tt
-statement_arrays lists (shows h) e = arrays lists h e
-statement_arrays lists (shows_info h b) e = arrays lists h e
-statement_arrays lists (severs b) e = tt
-statement_arrays lists (reshapes h) e = (arrays lists h e).1 tt
-statement_arrays lists undefs e = tt
-statement_arrays lists lists_names e = tt
-statement_arrays lists (defines h k) e = tt
-statement_arrays lists (watches count) e = tt
-statement_arrays lists (unwatches count) e = tt
+    (all.0, views_arrays lists v parts.0 (All-nil ViewArrays), arrays lists h parts.1)
+statement_made lists shows_text e all = all.1.0
+statement_made lists (shows h) e all = arrays lists h e
+statement_made lists (shows_info h b) e all = arrays lists h e
+statement_made lists (severs b) e all = all.0
+statement_made lists (reshapes h) e all = (all.0, (arrays lists h e).1 tt)
+statement_made lists undefs e all = all.1.0
+statement_made lists lists_names e all = tt
+statement_made lists (defines h k) e all =
+    let signature = text_holds h all.1.1.1.1 in
+    (all.1.1.0, signature.0, (text_holds k signature.1.1).0)
+statement_made lists (watches count) e all = all.1.0
+statement_made lists (unwatches count) e all = tt
+
+-- what is spelled without ragged lists is well made
+pub well_made : ListsAreArrays → {source : List ℕ} {s : StatementTree} {ts : List Lexeme} → SpellsStatement source s ts → in_statement s ≡ false → All (HoldsText source) ts → IsWellMade s
+well_made lists {source = source} {ts = ts} h e all = statement_made lists h e (recursion_from_All (HoldsText source) ts all)

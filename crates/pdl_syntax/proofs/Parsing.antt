@@ -3,14 +3,15 @@ use Rattle.std.proofs.Common.{◌≡◌, ℕ, suc, ◌+◌, List, [], ◌∷◌,
 use Rattle.pdl_lemmas.specs.Tests.{by_test}
 use Rattle.pdl_lex.specs.declared.Token.{Token}
 use Rattle.pdl_lexemes.specs.declared.Lexeme.{Lexeme}
-use Rattle.pdl_lexemes.specs.Laws.{ListsAreRead, ListsAreArrays, RaggedIsScanned}
+use Rattle.pdl_lex.specs.Tokens.{toks}
+use Rattle.pdl_lexemes.specs.Laws.{ListsAreRead, ListsAreArrays, RaggedIsScanned, LexemesHoldTexts}
 use Rattle.pdl_lexemes.specs.Lexing.{lexemes_of}
 use Rattle.pdl_lexemes.specs.Lists.{HoldsRagged}
 use Rattle.pdl_lexemes.specs.Depth.{is_too_deep, has_large}
 use Rattle.pdl_syntax.specs.declared.parser.ParseFault.{ParseFault}
 use Rattle.pdl_syntax.specs.declared.parser.ParseFault.TheVariants.{TooDeep, NumberTooLarge, Syntax, Ragged, NoMemory}
 use Rattle.pdl_syntax.specs.declared.tree.Statement.{Statement}
-use Rattle.pdl_syntax.specs.Laws.{TokensAreParsed, LiteralsAreArrays}
+use Rattle.pdl_syntax.specs.Laws.{TokensAreParsed, SpelledAreWellMade}
 use Rattle.pdl_syntax.specs.Parsed.{unless_ragged, checked_lexemes, parsed, IsParsed}
 use Rattle.pdl_syntax.specs.ExpressionReading.{reader}
 use Rattle.pdl_syntax.specs.Refusals.{NoStatement, too_deep, number_too_large, not_spelled, ragged_list, Means, Answers}
@@ -124,9 +125,9 @@ module _ (law : TokensAreParsed) (text : List ℕ) (tokens : List Token) where
   answers_of (Err Ragged) e = (law text tokens (Err ragged_list)).0 e
   answers_of (Err NoMemory) e = tt
 
-  pub well_made_of : LiteralsAreArrays → (r : Result Statement ParseFault) → Answers text (lexemes_of text tokens) r → IfOk r (λ s. IsWellMade (statement_of s))
-  well_made_of arrays (Ok s) a = arrays text (lexemes_of text tokens) (statement_of s) a.spells a.not_ragged
-  well_made_of arrays (Err fault) a = tt
+  pub well_made_of : SpelledAreWellMade → LexemesHoldTexts → toks text ≡ Ok tokens → (r : Result Statement ParseFault) → Answers text (lexemes_of text tokens) r → IfOk r (λ s. IsWellMade (statement_of s))
+  well_made_of made hold lexed (Ok s) a = made text (lexemes_of text tokens) (statement_of s) a.spells (hold text tokens lexed) a.not_ragged
+  well_made_of made hold lexed (Err fault) a = tt
 
 pub lexemes_length : (source : List ℕ) (tokens : List Token) → length (lexemes_of source tokens) ≡ length tokens
 lexemes_length source [] = refl

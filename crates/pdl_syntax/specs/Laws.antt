@@ -1,9 +1,10 @@
 -- What the grammar promises to the crates above. Each is the contract of a public function.
-use Rattle.std.specs.Prelude.{◌≡◌, ◌↔◌, ℕ, List, Some, Result}
+use Rattle.std.specs.Prelude.{◌≡◌, ◌↔◌, ℕ, List, Some, Result, All}
 use Rattle.pdl_lex.specs.declared.Token.{Token}
 use Rattle.pdl_lexemes.specs.declared.Lexeme.{Lexeme}
 use Rattle.pdl_lexemes.specs.Lexing.{lexemes_of}
 use Rattle.pdl_lexemes.specs.Lists.{HoldsRagged}
+use Rattle.pdl_lexemes.specs.Texts.{HoldsText}
 use Rattle.pdl_syntax.specs.StatementTree.{StatementTree}
 use Rattle.pdl_syntax.specs.Statements.{SpellsStatement}
 use Rattle.pdl_syntax.specs.StatementReading.{read_statement}
@@ -29,9 +30,10 @@ TokensAreParsed =
     (text : List ℕ) (tokens : List Token) (answer : Result StatementTree NoStatement)
     → (parsed text tokens ≡ answer) ↔ Means text (lexemes_of text tokens) answer
 
--- the list literals of a spelled statement without ragged ones are arrays, its numbers
--- are from 0 up, and what several names are bound to is a call
-abbrev pub LiteralsAreArrays : Type 0
-LiteralsAreArrays =
+-- what lexemes spell that hold no ragged list, and of which each name is a name and each string one
+-- that can be written, is well made
+abbrev pub SpelledAreWellMade : Type 0
+SpelledAreWellMade =
     (source : List ℕ) (lexemes : List Lexeme) (s : StatementTree)
-    → SpellsStatement source s lexemes → (HoldsRagged lexemes → ⊥) → IsWellMade s
+    → SpellsStatement source s lexemes → All (HoldsText source) lexemes →
+    (HoldsRagged lexemes → ⊥) → IsWellMade s

@@ -1,7 +1,9 @@
--- The list literals of a statement are arrays: as many numbers as their dimensions
--- say, all of their type; and the value of a list binding is a call.
+-- What holds of each statement that is read. Its list literals are arrays: as many numbers as their
+-- dimensions say, all of their type; its names and its texts can be written in a script; and the
+-- value of a list binding is a call.
 use Rattle.std.specs.Prelude.{◌≤ℤ◌, ℤ, pos, All}
 use Rattle.pdl_buf.specs.Made.{IsMade}
+use Rattle.pdl_lexemes.specs.Texts.{IsName, IsQuotable}
 use Rattle.pdl_syntax.specs.Tree.{Tree, Args, number, named, literal, unary, binary, call, none, value, text, of_type}
 use Rattle.pdl_syntax.specs.StatementTree.{StatementTree, bind, bind_list, assign, show, show_text, sever, reshape, undef, vars, pp_def, watch, unwatch}
 
@@ -31,17 +33,20 @@ abbrev pub IsCall : Tree → Type 0
 IsCall (call name args) = Unit {0}
 IsCall _ = ⊥
 
--- each literal in a statement is an array, and what several names are bound to is a call
+-- Names are names, and texts are ones that a string can hold; each literal in a statement is an
+-- array, and what several names are bound to is a call.
 abbrev pub IsWellMade : StatementTree → Type 0
-IsWellMade (bind name t severs) = AreArrays t
-IsWellMade (bind_list names t) = IsCall t × AreArrays t
-IsWellMade (assign name views op t) = All (λ v. AreArgArrays v.1) views × AreArrays t
+IsWellMade (bind name t severs) = IsName name × AreArrays t
+IsWellMade (bind_list names t) = All IsName names × IsCall t × AreArrays t
+IsWellMade (assign name views op t) =
+    IsName name × All (λ v. AreArgArrays v.1) views × AreArrays t
 IsWellMade (show t info) = AreArrays t
-IsWellMade (show_text s) = Unit {0}
-IsWellMade (sever name) = Unit {0}
-IsWellMade (reshape name args) = AreArgArrays args
-IsWellMade (undef name) = Unit {0}
+IsWellMade (show_text s) = IsQuotable s
+IsWellMade (sever name) = IsName name
+IsWellMade (reshape name args) = IsName name × AreArgArrays args
+IsWellMade (undef name) = IsName name
 IsWellMade vars = Unit {0}
-IsWellMade (pp_def name signature code) = Unit {0}
-IsWellMade (watch name slot) = Unit {0}
+IsWellMade (pp_def name signature code) =
+    IsQuotable name × IsQuotable signature × IsQuotable code
+IsWellMade (watch name slot) = IsName name
 IsWellMade (unwatch slot) = Unit {0}

@@ -2,7 +2,7 @@
 
 ghost use Rattle.std.specs.Prelude.{◌≡◌, ℕ, List, Vec};
 ghost use Rattle.std.specs.Global.{Global};
-ghost use Rattle.pdl_syntax.specs.Laws.{StatementsAreRead, OneStatement, TokensAreParsed, LiteralsAreArrays};
+ghost use Rattle.pdl_syntax.specs.Laws.{StatementsAreRead, OneStatement, TokensAreParsed, SpelledAreWellMade};
 ghost use Rattle.pdl_syntax.specs.Tree.{call, none};
 ghost use Rattle.pdl_syntax.specs.TreeOf.{tree_of, args_of};
 ghost use Rattle.pdl_syntax.specs.declared.tree.Arg.{Arg};
@@ -34,10 +34,10 @@ pub fn parsing_is_the_grammar()
     ragged_is_scanned();
 }
 
-/// The list literals of a spelled statement that holds no ragged one are arrays, and its numbers
-/// are from 0 up.
-pub fn literals_are_arrays()
-    ensures { LiteralsAreArrays }
+/// A statement that lexemes spell is well made where these hold no ragged list, and each name among
+/// them is a name and each string a text that a string can hold.
+pub fn spelled_are_well_made()
+    ensures { SpelledAreWellMade }
 {
     lists_are_arrays();
     ragged_is_scanned();

@@ -15,8 +15,8 @@ mod statement;
 mod tree;
 
 pub use laws::{
-    calls_are_trees, literals_are_arrays, one_statement, parsing_is_the_grammar,
-    reading_is_the_grammar,
+    calls_are_trees, one_statement, parsing_is_the_grammar, reading_is_the_grammar,
+    spelled_are_well_made,
 };
 pub use parser::{ParseFault, parse, parse_within};
 pub use pdl_lexemes::AssignOp;

@@ -1,6 +1,7 @@
 //! The checks on a statement's tokens in their order, and its tree.
 
 ghost use Rattle.std.specs.Prelude.{◌≡◌, ◌≤◌, length, IfOk, Ok, Some};
+ghost use Rattle.pdl_lex.specs.Limits.{statement_limit};
 ghost use Rattle.pdl_lex.specs.Tokens.{toks};
 ghost use Rattle.pdl_lexemes.specs.Lexing.{lexemes_of};
 ghost use Rattle.pdl_syntax.specs.Parsed.{unless_ragged, checked_lexemes, IsParsed};
@@ -8,12 +9,12 @@ ghost use Rattle.pdl_syntax.specs.Refusals.{Answers};
 ghost use Rattle.pdl_syntax.specs.StatementTree.{statement_of};
 ghost use Rattle.pdl_syntax.specs.WellMade.{IsWellMade};
 
-use crate::laws::{literals_are_arrays, parsing_is_the_grammar};
+use crate::laws::{parsing_is_the_grammar, spelled_are_well_made};
 use crate::ragged;
 use crate::reader::Reader;
 use crate::tree::Statement;
 use pdl_lex::{Token, tokens_are_spans};
-use pdl_lexemes::{Lexeme, Lexemes, Refusal, has_large, read_lexemes};
+use pdl_lexemes::{Lexeme, Lexemes, Refusal, has_large, lexemes_hold_texts, read_lexemes};
 use std::alloc::{AllocError, Global};
 
 /// Why the tokens of a text are no statement. Where several hold, the first one is answered.
@@ -47,7 +48,7 @@ impl From<AllocError> for ParseFault {
 /// those that `tokens` answers for this text.
 pub fn parse(alloc: Global, text: &[u8], tokens: &[Token]) -> Result<Statement, ParseFault>
     requires tokens { toks text.now ≡ Ok tokens.now }
-    requires small { length text.now ≤ 65536 }
+    requires small { length text.now ≤ statement_limit }
     ensures exact { Answers text.now (lexemes_of text.now tokens.now) result }
     ensures well_made { IfOk result (λ s. IsWellMade (statement_of s)) }
 {
@@ -63,20 +64,21 @@ pub fn parse_within(
     lexemes: &mut Vec<Lexeme>,
 ) -> Result<Statement, ParseFault>
     requires tokens { toks text.now ≡ Ok tokens.now }
-    requires small { length text.now ≤ 65536 }
+    requires small { length text.now ≤ statement_limit }
     ensures exact { Answers text.now (lexemes_of text.now tokens.now) result }
     ensures well_made { IfOk result (λ s. IsWellMade (statement_of s)) }
 {
     tokens_are_spans();
     parsing_is_the_grammar();
-    literals_are_arrays();
+    spelled_are_well_made();
+    lexemes_hold_texts();
     read_lexemes(text, tokens, lexemes)?;
     read(alloc, text, lexemes.as_slice())
 }
 
 #[tactic(auto, using(crate::proofs::Parsing::unread, crate::proofs::Parsing::read_as))]
 fn read(alloc: Global, text: &[u8], lexemes: &[Lexeme]) -> Result<Statement, ParseFault>
-    requires { length lexemes.now ≤ 65536 }
+    requires { length lexemes.now ≤ statement_limit }
     ensures { IsParsed (checked_lexemes text.now lexemes.now) result }
 {
     match Lexemes::of(lexemes) {

@@ -6,6 +6,7 @@ use crate::arrays::{numbers, shape, triple, window};
 use crate::comparing::{same, same_list};
 use pdl_buf::*;
 use pdl_elem::Ty;
+use pdl_numbers::Placement;
 use pdl_shape::{Dims, dims_list};
 use std::alloc::Global;
 use std::marker::Brand;

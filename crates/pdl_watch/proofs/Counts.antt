@@ -3,21 +3,21 @@ use Rattle.std.proofs.Common.{◌≡◌, ℕ, zero, suc, ◌<◌, List, [], ◌�
 use Rattle.std.proofs.lemmas.List.{get_or-set_same, get_or-set_other}
 use Rattle.pdl_watch.specs.declared.notice.Notice.{Notice}
 use Rattle.pdl_watch.specs.Watched.{Watched, told_more}
-use Rattle.pdl_watch.specs.Slots.{Slots, changed, all_told, all_ended, ended_where, slot, SlotMissed, SlotRose, SlotKeepsCount, OneMissed, StopsInTurn, EndsShort, EndedShort}
+use Rattle.pdl_watch.specs.Slots.{Slots, changed, all_told, all_ended, ended_where, slot, SlotMissed, SlotRose, CountStays, OneMissed, StopsInTurn, EndsShort, EndedShort}
 use Rattle.pdl_watch.proofs.SlotLemmas.{slot_none, changed_long, stops_rose, stops_inside}
 
-count_stays : (s : Option Watched) → SlotKeepsCount s s
+count_stays : (s : Option Watched) → CountStays s s
 count_stays None = tt
 count_stays (Some w) = refl
 
 count_changed : {A : Type 0} → (f : A → Watched → Watched) → ((x : A) (w : Watched) → (f x w).misses ≡ w.misses)
-    → (x : A) (s : Option Watched) → SlotKeepsCount s (option_map (f x) s)
+    → (x : A) (s : Option Watched) → CountStays s (option_map (f x) s)
 count_changed f keeps x None = tt
 count_changed f keeps x (Some w) = keeps x w
 
 -- what is done to the watchers of slots leaves their counts
 counts_changed : {A : Type 0} → (f : A → Watched → Watched) → ((x : A) (w : Watched) → (f x w).misses ≡ w.misses)
-    → (ss : Slots) (xs : List A) (j : ℕ) → SlotKeepsCount (slot ss j) (slot (changed f ss xs) j)
+    → (ss : Slots) (xs : List A) (j : ℕ) → CountStays (slot ss j) (slot (changed f ss xs) j)
 counts_changed f keeps [] xs j = tt
 counts_changed f keeps (s ∷ ss) [] j = count_stays (slot (s ∷ ss) j)
 counts_changed f keeps (s ∷ ss) (x ∷ xs) zero = count_changed f keeps x s
@@ -25,11 +25,11 @@ counts_changed f keeps (s ∷ ss) (x ∷ xs) (suc j) = counts_changed f keeps ss
 
 -- the count of one slot rose
 one_missed : (ss base : Slots) (k : ℕ) (new : Option Watched) → length base ≡ length ss
-    → ((j : ℕ) → SlotKeepsCount (slot ss j) (slot base j)) → k < length ss → SlotRose (slot ss k) new → OneMissed ss (set base k new)
+    → ((j : ℕ) → CountStays (slot ss j) (slot base j)) → k < length ss → SlotRose (slot ss k) new → OneMissed ss (set base k new)
 one_missed ss base k new long keeps inside rose = record {
   at = k;
   rose = subst (λ (s : Option Watched). SlotRose (slot ss k) s) (sym here) rose;
-  others = λ j other. subst (λ (s : Option Watched). SlotKeepsCount (slot ss j) s) (sym (get_or-set_other base k j new None other)) (keeps j);
+  others = λ j other. subst (λ (s : Option Watched). CountStays (slot ss j) s) (sym (get_or-set_other base k j new None other)) (keeps j);
 } where
   here : slot (set base k new) k ≡ new
   here = get_or-set_same base k new None (subst (λ (n : ℕ). k < n) (sym long) inside)

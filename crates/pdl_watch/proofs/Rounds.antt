@@ -1,6 +1,6 @@
 -- The rounds of a loop that changes slot after slot.
 use Rattle.std.proofs.Common.{◌≡◌, ℕ, ◌+◌, ◌<◌, ◌≤◌, List, [], take, length, get_or, set, Option, None, option_map, sym, ap, subst, ◌∙◌, arith, add-one, min, inl, inr}
-use Rattle.std.specs.Prelude.{Vec}
+use Rattle.std.specs.Prelude.{IsSome, Vec}
 use Rattle.std.proofs.lemmas.List.{get_or-map, get_or_default, map-set, set-set, length-set, length-map, take_all}
 use Rattle.std.proofs.lemmas.Bool.{cases_lt}
 use Rattle.std.specs.Global.{Global}
@@ -83,10 +83,11 @@ next_stops see start items all k w new ns next stops = record {
 
 pub next_ended_short : {W : Type 0} → (see : W → Watched) (start items : List (Option W)) (watches : List (Option ℕ)) (k : ℕ)
     (w new : Option W) (b : Option ℕ) → IsNext see ended_where start items watches k w b
-    → SlotMissed (option_map see w) (option_map see new)
+    → IsSome b → SlotMissed (option_map see w) (option_map see new)
     → EndedShort (slots_by see start) watches (slots_by see (set items k new))
-next_ended_short see start items watches k w new b next missed = record {
+next_ended_short see start items watches k w new b next some missed = record {
   at = k;
+  attached = subst (λ (o : Option ℕ). IsSome o) (next.for_it ∙ get_or_default watches k b None next.there) some;
   watcher = option_map see new;
   missed = subst (λ (s : Option Watched). SlotMissed s (option_map see new)) next.seen missed;
   before = now_set see ended_where start items watches k new next.so_far;

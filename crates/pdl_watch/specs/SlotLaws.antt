@@ -1,7 +1,7 @@
 -- What holds of slots that are told, ended and emptied.
-use Rattle.std.specs.Prelude.{◌≡◌, ℕ, Bool, false, Option, None, List, length, slice_set}
+use Rattle.std.specs.Prelude.{◌≡◌, ℕ, Bool, false, Option, None, List, [], length, slice_set}
 use Rattle.pdl_watch.specs.declared.notice.Notice.{Notice}
-use Rattle.pdl_watch.specs.Slots.{Slots, all_told, notices_of, IsQuiet, present_in, emptied, IsBelow, AreOpen, ToldShort, StopsInTurn, EndedShort, EndsShort, OneMissed}
+use Rattle.pdl_watch.specs.Slots.{Slots, all_told, all_ended, notices_of, IsQuiet, present_in, emptied, IsBelow, AreOpen, ToldShort, StopsInTurn, EndedShort, EndsShort, OneMissed}
 
 -- telling that stopped at a failure stopped each slot at a front of its notices
 abbrev pub StopsAreShort : Type 0
@@ -61,6 +61,17 @@ EmptyingAndTelling = (ss : Slots) (ps : List Bool) (all : List (List Notice)) �
 abbrev pub EmptiedTwice : Type 0
 EmptiedTwice = (ss : Slots) (ps qs : List Bool) → IsBelow qs ps →
     emptied (emptied ss ps) qs ≡ emptied ss qs
+
+-- slots are below themselves, and below those that others are below
+abbrev pub BelowItself : Type 0
+BelowItself = (ps : List Bool) → IsBelow ps ps
+
+abbrev pub BelowTwice : Type 0
+BelowTwice = (rs qs ps : List Bool) → IsBelow rs qs → IsBelow qs ps → IsBelow rs ps
+
+-- where no slot is attached no watcher is finished
+abbrev pub NothingEnds : Type 0
+NothingEnds = (ss : Slots) → all_ended ss [] ≡ ss
 
 -- there are as many slots as before
 abbrev pub TellingKeepsLength : Type 0

@@ -12,7 +12,7 @@ mod recorder;
 mod telling;
 mod watcher;
 
-pub use comparing::changes;
+pub use comparing::{change_laws, changes};
 pub use laws::{slot_laws, telling_laws};
 pub use line_watcher::LineWatcher;
 pub use notice::Notice;

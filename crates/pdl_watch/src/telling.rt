@@ -1,5 +1,5 @@
 //! Slots of watchers that are told or finished one after another.
-ghost use Rattle.std.specs.Prelude.{◌≡◌, ◌↔◌, ◌<◌, ◌≤◌, length, slice_set, Some, None, [], ◌∷◌, true, false, OnOk, OnErr, IsTrue, option_map, map, is_some};
+ghost use Rattle.std.specs.Prelude.{◌≡◌, ◌↔◌, ◌<◌, ◌≤◌, length, slice_set, Some, None, [], ◌∷◌, true, false, OnOk, OnErr, IsSome, IsTrue, option_map, map, is_some};
 ghost use Rattle.pdl_watch.specs.Watched.{Watched, told_more, ended, Leaves};
 ghost use Rattle.pdl_watch.specs.Slots.{StopsAt, StopsInTurn, SlotMissed, IsOpen, AreOpen, slots_by, all_told, all_ended, ended_where, lists_of, ToldShort, EndedShort, EndsShort, slot};
 
@@ -70,6 +70,7 @@ fn finish_where<W: Watcher>(slot: &mut Option<W>, watch: Option<u64>) -> Result<
     requires { IsOpen (option_map W.seen slot.old) }
     ensures ok { OnOk result (option_map W.seen slot.new
         ≡ option_map (ended_where watch) (option_map W.seen slot.old)) }
+    ensures attached { OnErr result (IsSome watch) }
     ensures missed { OnErr result
         (SlotMissed (option_map W.seen slot.old) (option_map W.seen slot.new)) }
 {

@@ -62,7 +62,7 @@ window_low w n v x b h = elim (cases_lt v n) [
   | inr past ↦ (let e : None ≡ Some x = sym (window_past w n v b past) ∙ h in cc)
 ]
 
-window_older : (k : ℕ) (d : ArrayDef) (w : World) (v : ℕ) → (k ≡ v → ⊥) → window ((k, d) ∷ w) v ≡ window w v
+pub window_older : (k : ℕ) (d : ArrayDef) (w : World) (v : ℕ) → (k ≡ v → ⊥) → window ((k, d) ∷ w) v ≡ window w v
 window_older k (root ty ds es) w v h = rw (ne_eqb k v h) refl
 window_older k (view p t) w v h = rw (ne_eqb k v h) refl
 
@@ -139,12 +139,12 @@ by_base f k (Where ds ps) l m p above x below own d s e (Some u) c h = cc
 by_base f k (Range ds ind ss edge) l m p above x below own d s e (Some u) c h = cc
 
 -- what the newest view is shown through
-record IsNarrowed (w : World) (k p : ℕ) (t : Trans) (x : Window) : Type 0 where
-  above : Window
-  parent : window w p ≡ Some above
-  narrow : narrowed k t above ≡ Some x
+pub record IsNarrowed (w : World) (k p : ℕ) (t : Trans) (x : Window) : Type 0 where
+  pub above : Window
+  pub parent : window w p ≡ Some above
+  pub narrow : narrowed k t above ≡ Some x
 
-is_narrowed : (w : World) (k p : ℕ) (t : Trans) (x : Window) (o : Option Window) → window w p ≡ o → option_and_then (narrowed k t) o ≡ Some x → IsNarrowed w k p t x
+pub is_narrowed : (w : World) (k p : ℕ) (t : Trans) (x : Window) (o : Option Window) → window w p ≡ o → option_and_then (narrowed k t) o ≡ Some x → IsNarrowed w k p t x
 is_narrowed w k p t x (Some m) e h = record { above = m; parent = e; narrow = h }
 is_narrowed w k p t x None e h = cc
 

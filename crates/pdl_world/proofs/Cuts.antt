@@ -42,7 +42,7 @@ path_head : (k : ℕ) (d : ArrayDef) (w : World) → path ((k, d) ∷ w) k ≡ k
 path_head k (root ty ds es) w = rw (eq-eqb k k refl) refl
 path_head k (view p t) w = rw (eq-eqb k k refl) refl
 
-head_held : (k : ℕ) (up : List ℕ) → holds (k ∷ up) k ≡ true
+pub head_held : (k : ℕ) (up : List ℕ) → holds (k ∷ up) k ≡ true
 head_held k up = rw (eq-eqb k k refl) refl
 
 -- places through all positions are the places
@@ -129,7 +129,7 @@ view_below k p t w new v l n s a =
           old ∙ ap (λ ps. k ∷ ps) a.path_was ∙ ap (λ ps. ps ++ drop 1 (path w v)) (sym now) ∙ ap (λ ps. path ((k, view p t) ∷ new) k ++ drop 1 ps) (sym (path_older k (view p t) w v n)));
     }
 
-held_view : (k p : ℕ) (t : Trans) (w : World) (v : ℕ) → (k ≡ v → ⊥) → holds (path ((k, view p t) ∷ w) k) v ≡ holds (path w p) v
+pub held_view : (k p : ℕ) (t : Trans) (w : World) (v : ℕ) → (k ≡ v → ⊥) → holds (path ((k, view p t) ∷ w) k) v ≡ holds (path w p) v
 held_view k p t w v n = rw (eq-eqb k k refl, ne_eqb k v n) refl
 
 after_view : (k p : ℕ) (t : Trans) (w new : World) (v : ℕ) (l : Look) → (k ≡ v → ⊥) → IsShowable w p t → After w new v p l → After ((k, view p t) ∷ w) ((k, view p t) ∷ new) v k l

@@ -1,16 +1,16 @@
 -- Held arrays that keep all of a world.
-use Rattle.std.proofs.Common.{◌≡◌, ℕ, ℤ, suc, ◌+◌, ◌<◌, ◌≤◌, Bool, true, false, List, [], ◌∷◌, ◌++◌, length, Option, Some, None, inl, inr, refl, sym, ap, subst, ◌∙◌, arith}
+use Rattle.std.proofs.Common.{◌≡◌, ℕ, ℤ, suc, ◌<◌, ◌≤◌, Bool, true, false, List, [], ◌∷◌, ◌++◌, length, Option, Some, None, inl, inr, refl, sym, ap, subst, ◌∙◌, arith}
 use Rattle.std.specs.Prelude.{◌==◌, if◌then◌else◌, IfSome, IsSomeAnd}
 use Rattle.std.proofs.lemmas.Bool.{cases_eq, eq-eqb, ne_eqb}
 use Rattle.std.proofs.lemmas.Bool.Decides.{eqb_tells}
 use Rattle.pdl_elem.specs.declared.Ty.{Ty}
 use Rattle.pdl_shape.specs.Places.{write}
-use Rattle.pdl_world.specs.Cut.{replaced, sever, reshape, fitted}
+use Rattle.pdl_world.specs.Cut.{replaced}
 use Rattle.pdl_world.specs.KeepingLaws.{NewestKeepsAll, IsNewestKept, NewestIsKept, MoreKeepAll, AssignsKeepAll, CutsKeepAll, ReshapesKeepAll, ParentsAreLive}
 use Rattle.pdl_world.specs.Paths.{parent_in}
 use Rattle.pdl_world.specs.Sound.{NumbersBelow, IsSound, IsLive}
 use Rattle.pdl_world.specs.Swept.{holds, parents, kept_onto, sweep, KeepsAll}
-use Rattle.pdl_world.specs.World.{World, ArrayDef, root, view, Look, look, set_elements, root_elements, assign, assign_through, ty_in, dims_in, elements}
+use Rattle.pdl_world.specs.World.{World, ArrayDef, root, view, Look, look, set_elements, root_elements, assign_through, ty_in, dims_in, elements}
 use Rattle.pdl_world.proofs.Looks.{look_older, live_below}
 use Rattle.pdl_world.proofs.Sweeps.{more_held}
 

@@ -8,6 +8,10 @@ pub mod Replaces
 pub mod Dimensions
 pub mod Cuts
 pub mod Severs
+pub mod Breaks
+pub mod Below
+pub mod ViewsSeen
 pub mod Keeping
 pub mod Bases
 pub mod Repeats
+pub mod BasesStay

@@ -1,21 +1,18 @@
 -- A world with another array in place of one.
-use Rattle.std.proofs.Common.{◌≡◌, ℕ, suc, ℤ, pos, ◌+◌, ◌-◌, ◌≤◌, Bool, true, false, ◌||◌, ◌==◌, inl, inr, List, [], ◌∷◌, ◌++◌, length, replicate, All, Some, refl, sym, ◌∙◌, ap, subst, arith}
-use Rattle.std.proofs.lemmas.Bool.{cases_eq, cases_lt, eq-eqb, ne_eqb, or_parts}
+use Rattle.std.proofs.Common.{◌≡◌, ℕ, suc, ℤ, pos, ◌+◌, ◌-◌, ◌≤◌, inl, inr, List, [], ◌∷◌, ◌++◌, length, replicate, All, Some, refl, sym, ◌∙◌, ap, subst, arith}
+use Rattle.std.proofs.lemmas.Bool.{cases_lt, eq-eqb, ne_eqb}
 use Rattle.std.proofs.lemmas.Bool.Decides.{eqb_tells}
 use Rattle.std.proofs.lemmas.List.{length-take-le, length-append, length-replicate, get_or-take, get_or_append_left, get_or-append_right, get_or-replicate, get_or_past}
 use Rattle.std.proofs.lemmas.List.Elements.{All-append, All-take, All-replicate}
 use Rattle.pdl_elem.specs.declared.Ty.{Ty}
-use Rattle.pdl_shape.specs.Shape.{IsDims}
-use Rattle.pdl_buf.specs.Made.{IsMade}
-use Rattle.pdl_world.specs.declared.Trans.{Trans}
-use Rattle.pdl_world.specs.Cut.{replaced, has_views, fitted}
+use Rattle.pdl_world.specs.Cut.{replaced, fitted}
 use Rattle.pdl_world.specs.CutLaws.{IsFitted}
 use Rattle.pdl_world.specs.Paths.{path}
-use Rattle.pdl_world.specs.Sound.{NumbersBelow, IsAllowed, IsSound}
+use Rattle.pdl_world.specs.Sound.{NumbersBelow}
 use Rattle.pdl_world.specs.World.{World, ArrayDef, root, view, Look, look_of_root, look, root_elements}
 use Rattle.pdl_world.proofs.Looks.{look_older, path_older, root_below}
-use Rattle.pdl_world.proofs.Roots.{elements_older, showable}
-use Rattle.pdl_world.proofs.Stays.{Stays, stays_under, newest_stays}
+use Rattle.pdl_world.proofs.Roots.{elements_older}
+use Rattle.pdl_world.proofs.Stays.{Stays}
 
 pub below_replaced : (w : World) (n v : ℕ) (new : ArrayDef) → NumbersBelow n w → NumbersBelow n (replaced w v new)
 below_replaced [] n v new b = tt
@@ -46,42 +43,6 @@ stays_beside w k d e u b n = record {
       let low = root_below w k u l b there in
       elements_older k e w l.root low ∙ sym (elements_older k d w l.root low));
 }
-
-unlike : (a b : ℕ) (c : Bool) → a ≡ b → ((a == b) || c) ≡ false → ⊥
-unlike a b c e h = let f : true ≡ false = rw (eq-eqb a b e) at h in cc
-
-other_parent : (k p : ℕ) (t : Trans) (w : World) (v : ℕ) → has_views ((k, view p t) ∷ w) v ≡ false → p ≡ v → ⊥
-other_parent k p t w v h e = unlike p v false e (or_parts _ (has_views w v) h).0
-
--- without views on it, the others are seen as before
-pub others_stay : (w : World) (v u : ℕ) (new : ArrayDef) → IsSound w → has_views w v ≡ false → (u ≡ v → ⊥) → Stays w (replaced w v new) u
-others_stay [] v u new s h n = record { look_is = refl; path_is = refl; root_is = λ l q. refl }
-others_stay ((k, d) ∷ w) v u new s h n = elim (cases_eq k v) [
-  | inl e ↦ (let P : World → Type 0 = λ x. Stays ((k, d) ∷ w) x u in
-      subst P (sym (replaced_newest k d w v new s.0 e)) (stays_beside w k d new u s.0 (λ y. n (sym y ∙ e))))
-  | inr m ↦ (let P : World → Type 0 = λ x. Stays ((k, d) ∷ w) x u in
-      subst P (sym (replaced_older k d w v new m)) (elim (cases_eq k u) [
-        | inl e ↦ (let Q : ℕ → Type 0 = λ x. Stays ((k, d) ∷ w) ((k, d) ∷ replaced w v new) x in
-            subst Q e (newest_stays w (replaced w v new) k d (λ p t q. others_stay w v p new s.2 (or_parts _ (has_views w v) h).1
-            (let R : ArrayDef → Type 0 = λ x. has_views ((k, x) ∷ w) v ≡ false in other_parent k p t w v (subst R q h)))))
-        | inr o ↦ stays_under w (replaced w v new) k d u s.0 o (others_stay w v u new s.2 (or_parts _ (has_views w v) h).1 n)
-      ]))
-]
-
-allowed_as : (w : World) (v : ℕ) (new : ArrayDef) (k : ℕ) (d : ArrayDef) → IsSound w → has_views ((k, d) ∷ w) v ≡ false → IsAllowed w d → IsAllowed (replaced w v new) d
-allowed_as w v new k (root ty ds es) s h a = a
-allowed_as w v new k (view p t) s h a =
-    let y : Stays w (replaced w v new) p = others_stay w v p new s (or_parts _ (has_views w v) h).1 (other_parent k p t w v h) in
-    showable w (replaced w v new) p t y.look_is y.path_is a
-
--- a root in place of an array without views
-pub reshaped_sound : (w : World) (v : ℕ) (ty : Ty) (ds : List ℕ) (es : List ℤ) → IsSound w → has_views w v ≡ false → IsDims ds × IsMade ty ds es → IsSound (replaced w v (root ty ds es))
-reshaped_sound [] v ty ds es s h a = tt
-reshaped_sound ((k, d) ∷ w) v ty ds es s h a = elim (cases_eq k v) [
-  | inl e ↦ subst IsSound (sym (replaced_newest k d w v (root ty ds es) s.0 e)) (s.0, a, s.2)
-  | inr m ↦ subst IsSound (sym (replaced_older k d w v (root ty ds es) m))
-      (below_replaced w k v (root ty ds es) s.0, allowed_as w v (root ty ds es) k d s.2 h s.1, reshaped_sound w v ty ds es s.2 (or_parts _ (has_views w v) h).1 a)
-]
 
 -- the new root
 pub record IsRooted (new : World) (v : ℕ) (ty : Ty) (ds : List ℕ) (es : List ℤ) : Type 0 where

@@ -11,11 +11,11 @@ use Rattle.pdl_elem.specs.Types.{InRange}
 use Rattle.pdl_elem.specs.Laws.{WrappingLaws}
 use Rattle.pdl_shape.specs.Laws.{SizeLaws}
 use Rattle.pdl_shape.specs.Places.{element_at, read}
-use Rattle.pdl_shape.specs.Shape.{IsDims, size_of}
+use Rattle.pdl_shape.specs.Shape.{size_of}
 use Rattle.pdl_buf.specs.Made.{IsMade}
 use Rattle.pdl_world.specs.declared.Trans.{Trans}
 use Rattle.pdl_world.specs.Cut.{replaced, sever, has_views, fitted, reshape}
-use Rattle.pdl_world.specs.CutLaws.{ShowsTheSame, CutsLeaveElements, IsRootIn, CutsAreRoots, RootsAreUncut, CutsLeaveOthers, CutsLeaveFamilies, IsViewOfCut, CutsTakeTheirViews, CutsSoundly, CutsLeaveNumbers, ViewsAreFound, ReshapedIsSeen, ReshapesLeaveOthers, ReshapesSoundly, ReshapesLeaveNumbers}
+use Rattle.pdl_world.specs.CutLaws.{ShowsTheSame, CutsLeaveElements, IsRootIn, CutsAreRoots, RootsAreUncut, CutsLeaveOthers, CutsLeaveFamilies, IsViewOfCut, CutsTakeTheirViews, CutsSoundly, CutsLeaveNumbers, ViewsAreFound, ReshapedIsSeen}
 use Rattle.pdl_world.specs.Laws.{IsSeenAs}
 use Rattle.pdl_world.specs.Paths.{path, root_of}
 use Rattle.pdl_world.specs.Sound.{IsSound, IsLive}
@@ -27,7 +27,7 @@ use Rattle.pdl_world.proofs.Dimensions.{look_count, look_dims}
 use Rattle.pdl_world.proofs.Looks.{look_root, look_view, look_older, through_root, root_below}
 use Rattle.pdl_world.proofs.Newest.{read_whole, read_through}
 use Rattle.pdl_world.proofs.Proved.{new_is_live}
-use Rattle.pdl_world.proofs.Replaces.{below_replaced, length_replaced, replaced_newest, replaced_older, others_stay, reshaped_sound, IsRooted, is_rooted, all_fitted, is_fitted}
+use Rattle.pdl_world.proofs.Replaces.{below_replaced, length_replaced, replaced_newest, replaced_older, IsRooted, is_rooted, all_fitted, is_fitted}
 use Rattle.pdl_world.proofs.Roots.{elements_older, seen_in_range}
 use Rattle.pdl_world.proofs.Stays.{seen_as_before}
 
@@ -43,7 +43,7 @@ live_none : (o : Option Look) → o ≡ None → IsSomeAnd o (λ m. Unit {0}) �
 live_none None e l = l
 live_none (Some m) e l = cc
 
-dead_is : (w : World) (v : ℕ) (new : ArrayDef) → IsSound w → look w v ≡ None → replaced w v new ≡ w
+pub dead_is : (w : World) (v : ℕ) (new : ArrayDef) → IsSound w → look w v ≡ None → replaced w v new ≡ w
 dead_is [] v new s h = refl
 dead_is ((k, d) ∷ w) v new s h = elim (cases_eq k v) [
   | inl e ↦ (let none : look ((k, d) ∷ w) k ≡ None = ap (look ((k, d) ∷ w)) e ∙ h in
@@ -71,7 +71,7 @@ uncut ((k, view p t) ∷ w) v l es s h r e = elim (look_view k p t w v l h) [
   | inr y ↦ replaced_older k (view p t) w v (root l.ty l.dims es) y.0 ∙ ap (λ x. (k, view p t) ∷ x) (uncut w v l es s.2 y.1 r e)
 ]
 
-elements_seen : (w : World) (v : ℕ) (l : Look) → look w v ≡ Some l → elements w v ≡ read l.places (root_elements w l.root)
+pub elements_seen : (w : World) (v : ℕ) (l : Look) → look w v ≡ Some l → elements w v ≡ read l.places (root_elements w l.root)
 elements_seen w v l h = ap (λ o. option_map_or (λ (m : Look). read m.places (root_elements w m.root)) o []) h
 
 uncut_by : (w : World) (v : ℕ) (o : Option Look) → look w v ≡ o → IsSound w → option_map_or (λ (l : Look). l.root) o v ≡ v → sever w v ≡ w
@@ -201,10 +201,10 @@ cuts_leave_numbers = λ w v s. record {
 }
 
 -- other dimensions
-abbrev new_elements : World → ℕ → List ℕ → List ℤ
+abbrev pub new_elements : World → ℕ → List ℕ → List ℤ
 new_elements w v ds = fitted (size_of ds) (elements w v)
 
-reshaped : (w : World) (v : ℕ) (l : Look) (ds : List ℕ) → look w v ≡ Some l → reshape w v ds ≡ replaced w v (root l.ty ds (new_elements w v ds))
+pub reshaped : (w : World) (v : ℕ) (l : Look) (ds : List ℕ) → look w v ≡ Some l → reshape w v ds ≡ replaced w v (root l.ty ds (new_elements w v ds))
 reshaped w v l ds h = ap (λ o. replaced w v (root (option_map_or (λ (m : Look). m.ty) o Byte) ds (new_elements w v ds))) h
 
 root_seen_as : (new : World) (v : ℕ) (ty : Ty) (ds : List ℕ) (es : List ℤ) → length es ≡ size_of ds → IsRooted new v ty ds es → IsSeenAs new v v ty ds es
@@ -221,38 +221,10 @@ reshaped_is_seen = λ w v l ds h.
     subst P (sym (reshaped w v l ds h)) (root_seen_as (replaced w v (root l.ty ds (new_elements w v ds))) v l.ty ds (new_elements w v ds) (is_fitted (size_of ds) (elements w v)).count
     (is_rooted w v l l.ty ds (new_elements w v ds) h))
 
-pub reshapes_leave_others : ReshapesLeaveOthers
-reshapes_leave_others = λ w v u ds s h n. seen_as_before w (reshape w v ds) u (others_stay w v u (root (ty_in w v) ds (new_elements w v ds)) s h n)
-
-remade : WrappingLaws → (w : World) (v : ℕ) (l : Look) (ds : List ℕ) → IsSound w → look w v ≡ Some l → IsMade l.ty ds (new_elements w v ds)
+pub remade : WrappingLaws → (w : World) (v : ℕ) (l : Look) (ds : List ℕ) → IsSound w → look w v ≡ Some l → IsMade l.ty ds (new_elements w v ds)
 remade wraps w v l ds s h = record {
   count = (is_fitted (size_of ds) (elements w v)).count;
   in_range = all_fitted (InRange l.ty) (size_of ds) (elements w v) (wraps.zero l.ty) (elements_in wraps w v l s h);
-}
-
-reshape_cases : WrappingLaws → (w : World) (v : ℕ) (ds : List ℕ) (o : Option Look) → look w v ≡ o → IsSound w → has_views w v ≡ false → IsDims ds → IsSound (reshape w v ds)
-reshape_cases wraps w v ds None h s n d = subst IsSound (sym (dead_is w v (root (ty_in w v) ds (new_elements w v ds)) s h)) s
-reshape_cases wraps w v ds (Some l) h s n d = subst IsSound (sym (reshaped w v l ds h)) (reshaped_sound w v l.ty ds (new_elements w v ds) s n (d, remade wraps w v l ds s h))
-
-pub reshapes_soundly : WrappingLaws → ReshapesSoundly
-reshapes_soundly wraps = λ w v ds s n d. reshape_cases wraps w v ds (look w v) refl s n d
-
-reshape_live : (w : World) (v u : ℕ) (ds : List ℕ) → IsSound w → has_views w v ≡ false → IsLive w u → (o : Option Look) → look w u ≡ o → IsLive (reshape w v ds) u
-reshape_live w v u ds s n h None e = absurd (live_none (look w u) e h)
-reshape_live w v u ds s n h (Some l) e = elim (cases_eq u v) [
-  | inl same ↦ (let P : World → Type 0 = λ x. IsLive x v in
-      let Q : ℕ → Type 0 = λ x. IsLive (reshape w v ds) x in
-      let there : look w v ≡ Some l = ap (look w) (sym same) ∙ e in
-      let y : IsRooted (replaced w v (root l.ty ds (new_elements w v ds))) v l.ty ds (new_elements w v ds) = is_rooted w v l l.ty ds (new_elements w v ds) there in
-      subst Q (sym same) (subst P (sym (reshaped w v l ds there)) (same_live (replaced w v (root l.ty ds (new_elements w v ds))) v (Some (look_of_root v l.ty ds)) y.look_is tt)))
-  | inr ne ↦ same_live (reshape w v ds) u (look w u) (others_stay w v u (root (ty_in w v) ds (new_elements w v ds)) s n ne).look_is h
-]
-
-pub reshapes_leave_numbers : ReshapesLeaveNumbers
-reshapes_leave_numbers = λ w v ds s n. record {
-  count = length_replaced w v (root (ty_in w v) ds (new_elements w v ds));
-  below = λ m b. below_replaced w m v (root (ty_in w v) ds (new_elements w v ds)) b;
-  live = λ u h. reshape_live w v u ds s n h (look w u) refl;
 }
 
 -- the parent of a view

@@ -12,7 +12,7 @@ use Rattle.pdl_world.proofs.Roots.{showable}
 use Rattle.pdl_world.proofs.Stays.{Stays, stays_under, stays_without, newest_stays, seen_as_before}
 
 -- what the arrays behind one are held by, where it is kept or not
-abbrev held_behind : Bool → ArrayDef → List ℕ → List ℕ
+abbrev pub held_behind : Bool → ArrayDef → List ℕ → List ℕ
 held_behind keeps d held = if keeps then parents d ++ held else held
 
 pub more_held : (d : ArrayDef) (held : List ℕ) (k : ℕ) → holds held k ≡ true → holds (parents d ++ held) k ≡ true
@@ -23,7 +23,7 @@ more_held (view p t) held k h = elim (eqb_tells p k) [
 ]
 
 -- the parent of a view is held first
-parent_held : (d : ArrayDef) (p : ℕ) (t : Trans) (held : List ℕ) → d ≡ view p t → holds (parents d ++ held) p ≡ true
+pub parent_held : (d : ArrayDef) (p : ℕ) (t : Trans) (held : List ℕ) → d ≡ view p t → holds (parents d ++ held) p ≡ true
 parent_held d p t held e =
     let P : ArrayDef → Type 0 = λ x. holds (parents x ++ held) p ≡ true in
     let here : P (view p t) = rw (eq-eqb p p refl) refl in
@@ -85,13 +85,13 @@ held_are_kept ((j, e) ∷ w) held k d there h = by_keeps (λ hs i q. held_are_ke
     by_keeps rest false is (inl same) = absurd (both_ways (holds held j) is (ap (holds held) same.0 ∙ h))
     by_keeps rest false is (inr i) = rest held i h
 
-has_below : (w : World) (n k : ℕ) (d : ArrayDef) → NumbersBelow n w → Has w k d → k < n
+pub has_below : (w : World) (n k : ℕ) (d : ArrayDef) → NumbersBelow n w → Has w k d → k < n
 has_below [] n k d b h = absurd h
 has_below ((j, e) ∷ w) n k d b (inl same) = let low : j < n = b.0 in omega (arith, same.0)
 has_below ((j, e) ∷ w) n k d b (inr i) = has_below w n k d b.1 i
 
 -- a view's parent is older
-parent_older : (w : World) (k p : ℕ) (t : Trans) → IsSound w → Has w k (view p t) → p < k
+pub parent_older : (w : World) (k p : ℕ) (t : Trans) → IsSound w → Has w k (view p t) → p < k
 parent_older [] k p t s h = absurd h
 parent_older ((j, e) ∷ w) k p t s (inl same) =
     let P : ArrayDef → Type 0 = λ x. IsAllowed w x in
@@ -101,7 +101,7 @@ parent_older ((j, e) ∷ w) k p t s (inl same) =
 parent_older ((j, e) ∷ w) k p t s (inr i) = parent_older w k p t s.2 i
 
 -- the newest array of a sound world is reached by itself alone
-newest_held : (w : World) (held : List ℕ) (j : ℕ) (e : ArrayDef) → IsSound ((j, e) ∷ w) → (v : ℕ) → IsReached ((j, e) ∷ w) held v → j ≡ v → holds held j ≡ true
+pub newest_held : (w : World) (held : List ℕ) (j : ℕ) (e : ArrayDef) → IsSound ((j, e) ∷ w) → (v : ℕ) → IsReached ((j, e) ∷ w) held v → j ≡ v → holds held j ≡ true
 newest_held w held j e s v (held_itself v' h) same = ap (holds held) same ∙ h
 newest_held w held j e s v (parent_of k v' t there r) same =
     let older : v' < k = parent_older ((j, e) ∷ w) k v' t s there in
@@ -110,7 +110,7 @@ newest_held w held j e s v (parent_of k v' t there r) same =
     absurd (omega arith)
 
 -- and any other is reached by the older ones
-reached_behind : (w : World) (held : List ℕ) (j : ℕ) (e : ArrayDef) → IsSound ((j, e) ∷ w) → (keeps : Bool) → holds held j ≡ keeps → (v : ℕ) → IsReached ((j, e) ∷ w) held v → (j ≡ v → ⊥)
+pub reached_behind : (w : World) (held : List ℕ) (j : ℕ) (e : ArrayDef) → IsSound ((j, e) ∷ w) → (keeps : Bool) → holds held j ≡ keeps → (v : ℕ) → IsReached ((j, e) ∷ w) held v → (j ≡ v → ⊥)
     → IsReached w (held_behind keeps e held) v
 reached_behind w held j e s true is v (held_itself v' h) n = held_itself v' (more_held e held v' h)
 reached_behind w held j e s false is v (held_itself v' h) n = held_itself v' h

@@ -2,9 +2,10 @@
 -- (PDL::Core: sever, reshape).
 use Rattle.std.specs.Prelude.{ℕ, ℤ, pos, ◌==◌, if◌then◌else◌, List, [], ◌∷◌, ◌++◌, take, replicate, Bool}
 use Rattle.std.specs.List.{list_any}
+use Rattle.std.specs.Option.{is_none}
 use Rattle.pdl_shape.specs.Shape.{size_of}
 use Rattle.pdl_world.specs.Swept.{holds, parents}
-use Rattle.pdl_world.specs.World.{World, ArrayDef, root, dims_in, ty_in, elements}
+use Rattle.pdl_world.specs.World.{World, ArrayDef, root, look, dims_in, ty_in, elements}
 
 -- the world with this as the array v
 abbrev pub replaced : World → ℕ → (new : ArrayDef) → World
@@ -30,3 +31,7 @@ fitted n es = take n (es ++ replicate n (pos 0))
 -- the world in which v is a root of these dimensions that has its first elements, in order
 abbrev pub reshape : World → ℕ → (dims : List ℕ) → World
 reshape w v ds = rooted w v ds (fitted (size_of ds) (elements w v))
+
+-- whether an array that is there wouldn't be seen if v had these dimensions
+abbrev pub breaks : World → ℕ → (dims : List ℕ) → Bool
+breaks w v ds = list_any (λ a. is_none (look (reshape w v ds) a.0)) w

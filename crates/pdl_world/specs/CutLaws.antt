@@ -1,6 +1,6 @@
 -- What holds of every cut, and of every other shape.
 use Rattle.std.specs.Prelude.{◌≡◌, ◌≢◌, ℕ, ℤ, pos, ◌<◌, true, false, List, [], ◌∷◌, ◌++◌, length, drop, get_or, Some}
-use Rattle.pdl_shape.specs.Shape.{IsDims, size_of}
+use Rattle.pdl_shape.specs.Shape.{size_of}
 use Rattle.pdl_world.specs.declared.Trans.{Trans}
 use Rattle.pdl_world.specs.Cut.{sever, has_views, fitted, reshape}
 use Rattle.pdl_world.specs.Laws.{IsSeenAs}
@@ -99,20 +99,3 @@ abbrev pub ReshapedIsSeen : Type 0
 ReshapedIsSeen =
     (w : World) (v : ℕ) (l : Look) (ds : List ℕ) → look w v ≡ Some l
     → IsSeenAs (reshape w v ds) v v l.ty ds (fitted (size_of ds) (elements w v))
-
--- and if it had no views, the others are seen as before
-abbrev pub ReshapesLeaveOthers : Type 0
-ReshapesLeaveOthers =
-    (w : World) (v u : ℕ) (ds : List ℕ) → IsSound w → has_views w v ≡ false → u ≢ v
-    → IsSeenAsBefore w (reshape w v ds) u
-
--- a sound world stays sound
-abbrev pub ReshapesSoundly : Type 0
-ReshapesSoundly =
-    (w : World) (v : ℕ) (ds : List ℕ) → IsSound w → has_views w v ≡ false → IsDims ds
-    → IsSound (reshape w v ds)
-
-abbrev pub ReshapesLeaveNumbers : Type 0
-ReshapesLeaveNumbers =
-    (w : World) (v : ℕ) (ds : List ℕ) → IsSound w → has_views w v ≡ false
-    → HasSameNumbers w (reshape w v ds)

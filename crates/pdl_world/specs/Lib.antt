@@ -8,6 +8,9 @@ pub mod Cut
 pub mod Laws
 pub mod SweepLaws
 pub mod CutLaws
+pub mod BreakLaws
+pub mod WorkedReshapes
 pub mod KeepingLaws
 pub mod Windows
 pub mod WindowLaws
+pub mod BaseLaws

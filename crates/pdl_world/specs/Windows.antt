@@ -26,7 +26,7 @@ abbrev pub own_window : ℕ → Result (List ℕ) Refusal → Option Window
 own_window k (Ok ds) = Some (record { base = k; triple = whole_triple ds })
 own_window k (Err refusal) = None
 
-abbrev pub window_over : ℕ → Trans → Window → Option Triple → Option Window
+abbrev pub window_over : (k : ℕ) → Trans → (above : Window) → Option Triple → Option Window
 window_over k t above (Some triple) = Some (record { base = above.base; triple = triple })
 window_over k t above None = own_window k (child_dims t above.triple.dims)
 

@@ -6,12 +6,15 @@
 //! changes. The calls do nothing when they run: their contracts are laws of every world.
 #![tactic(auto)]
 
+ghost use Rattle.pdl_world.specs.BaseLaws.{AssignmentsLeaveBases, OlderBasesStay, ReachedKeepBases, SweepsLeaveLooks};
 ghost use Rattle.pdl_world.specs.Laws.{LooksStay, PathsStay, NumbersStay, Reads, ReadsBack, AssignsSoundly};
 ghost use Rattle.pdl_world.specs.Laws.{PlacesLieWithin, RootsAreInRange, LiveLieBelow, OlderStay, OlderElementsStay, OlderPathsStay, JoinsSoundly};
 ghost use Rattle.pdl_world.specs.Laws.{NewIsLive, NewRootIsSeen, NewRootIsWhole, NewRootHasPath, NewViewIsSeen, NewViewHasPath};
 ghost use Rattle.pdl_world.specs.CutLaws.{CutsLeaveElements, CutsAreRoots, RootsAreUncut, CutsLeaveOthers, CutsLeaveFamilies, CutsTakeTheirViews, CutsSoundly, CutsLeaveNumbers};
-ghost use Rattle.pdl_world.specs.CutLaws.{ViewsAreFound, FittedIsFitted, ReshapedIsSeen, ReshapesLeaveOthers, ReshapesSoundly, ReshapesLeaveNumbers};
+ghost use Rattle.pdl_world.specs.CutLaws.{ViewsAreFound, FittedIsFitted, ReshapedIsSeen};
+ghost use Rattle.pdl_world.specs.BreakLaws.{SoundnessDecides, FormulasBreak, RefusedBreak, LooksFollow, BelowLaws, ReshapesLeaveOthers, ReshapesLeaveNumbers, ViewsAreSeen};
 ghost use Rattle.pdl_world.specs.KeepingLaws.{NewestKeepsAll, NewestIsKept, MoreKeepAll, AssignsKeepAll, CutsKeepAll, ReshapesKeepAll, ParentsAreLive};
+ghost use Rattle.pdl_world.specs.WorkedReshapes.{WorkedReshapes};
 ghost use Rattle.pdl_world.specs.WindowLaws.{WindowsShowArrays, LiveHaveWindows, RepeatsHavePositions, PositionsRepeat};
 ghost use Rattle.pdl_world.specs.SweepLaws.{KeptWereReached, ReachedAreKept, HeldAreKept, ReachedAreSeenAsBefore, SweepsSoundly, NoNumberComes, NewGoesUnheld};
 
@@ -44,7 +47,7 @@ pub enum Trans {
     },
 }
 
-/// The laws of assignment (PDL::Dataflow). It changes no look, no path and no number. The elements
+/// The laws of assignment (PDL::Dataflow). It changes no look, no path, no number and no base. The elements
 /// of any array afterwards are read from its root, with the values put at the places of the array
 /// that was assigned where the two have one root; so an array without repeats reads back what was
 /// assigned. The world stays sound where the values are numbers of the array's type.
@@ -55,13 +58,15 @@ pub fn assignment_laws()
     ensures reads { Reads }
     ensures back { ReadsBack }
     ensures sound { AssignsSoundly }
+    ensures bases { AssignmentsLeaveBases }
 {
     shape_laws()
 }
 
 /// The laws of a world that grows. In a sound world each place is one of an element of the root,
 /// and these are numbers of its type. A new array that is allowed is live and leaves the world
-/// sound; older ones have the look, the elements and the path that they had, and lower numbers.
+/// sound; older ones have the look, the elements, the path and the base that they had, and lower
+/// numbers.
 pub fn growth_laws()
     ensures within { PlacesLieWithin }
     ensures in_range { RootsAreInRange }
@@ -71,6 +76,7 @@ pub fn growth_laws()
     ensures older_elements { OlderElementsStay }
     ensures older_paths { OlderPathsStay }
     ensures sound { JoinsSoundly }
+    ensures bases { OlderBasesStay }
 {}
 
 /// What new arrays show. A root shows its own elements, and each of its positions is its own place;
@@ -85,9 +91,10 @@ pub fn newest_laws()
 {}
 
 /// The laws of a sweep. What it keeps was there and is reached from the held arrays; in a sound
-/// world it keeps all that is reached, and this has the look, the elements and the path that it
-/// had. What is held is kept, no number comes, a sound world stays sound, and a new array goes
-/// where only older ones are held.
+/// world it keeps all that is reached, and this has the look, the elements, the path and the base
+/// that it had. What is held is kept, no number comes, a sound world stays sound, and a new array
+/// goes where only older ones are held. What is assigned before a sweep changes nothing of what is
+/// seen after it.
 pub fn sweep_laws()
     ensures kept { KeptWereReached }
     ensures reached { ReachedAreKept }
@@ -96,6 +103,8 @@ pub fn sweep_laws()
     ensures sound { SweepsSoundly }
     ensures numbers { NoNumberComes }
     ensures new { NewGoesUnheld }
+    ensures bases { ReachedKeepBases }
+    ensures assigned { SweepsLeaveLooks }
 {}
 
 /// The laws of held arrays that keep all of a world. They keep it with a newest array exactly where
@@ -130,20 +139,36 @@ pub fn cut_laws()
     wrapping_laws()
 }
 
-/// The laws of other dimensions (PDL::Core, reshape), for an array that is no
-/// view's parent. It is a root of these dimensions afterwards, with the first elements that it
-/// had, in order, and zeros where there were fewer; the others are seen as before. The same arrays
-/// are there, and a sound world stays sound.
+/// The laws of other dimensions (PDL::Core, reshape). The array is a root of these dimensions
+/// afterwards, with the first elements that it had, in order, and zeros where there were fewer. Each
+/// view of it shows its parent by its transformation as written; what isn't shown through it is seen
+/// as before. Where no view breaks, the same arrays are there; the new world is sound exactly there.
 pub fn reshape_laws()
     ensures views { ViewsAreFound }
     ensures fitted { FittedIsFitted }
     ensures seen { ReshapedIsSeen }
+    ensures derived { ViewsAreSeen }
     ensures others { ReshapesLeaveOthers }
-    ensures sound { ReshapesSoundly }
     ensures numbers { ReshapesLeaveNumbers }
+    ensures decides { SoundnessDecides }
 {
     wrapping_laws()
 }
+
+/// When other dimensions break a view. Something breaks exactly where the formula refuses a view of
+/// an array that reaches the reshaped one by parents and is seen in the new world; so the arrays
+/// below it can be found, and their new dimensions made, the oldest first.
+pub fn breaking_laws()
+    ensures formulas { FormulasBreak }
+    ensures refused { RefusedBreak }
+    ensures follow { LooksFollow }
+    ensures below { BelowLaws }
+{}
+
+/// Reshapes of arrays with views, worked by hand.
+pub fn worked_reshapes()
+    ensures { WorkedReshapes }
+{}
 
 /// How arrays of a sound world are shown over their bases (PDL::API, affine transformations). Each
 /// live array has a window: its base, which is its own base and shows its elements in order, and

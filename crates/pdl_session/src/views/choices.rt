@@ -41,7 +41,7 @@ pub fn index<L: Ledger>(
 }
 
 /// An array looked up by the values of this one.
-pub fn looked_up<L: Ledger>(
+pub(crate) fn looked_up<L: Ledger>(
     scope: &mut Scope,
     id: ArrayId,
     steps: &mut Steps<L>,

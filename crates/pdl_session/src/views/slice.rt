@@ -27,9 +27,9 @@ pub fn slice(alloc: Global, given: &[Given]) -> Result<Outcome, ScopeFault>
     }
 }
 
-/// A view by a text. Texts of statements are far shorter than 4 GiB, which is more
-/// than a slice's may have.
-pub fn sliced(alloc: Global, text: &[u8]) -> Result<Outcome, ScopeFault>
+/// A view by a text. Texts of statements, with numbers in place of each `#` too, are far shorter
+/// than 4 GiB, which is more than a slice's may have.
+pub(crate) fn sliced(alloc: Global, text: &[u8]) -> Result<Outcome, ScopeFault>
     ensures value { AnswersAs outcome_of (slice_by text.now) result }
     ensures made { IfOk result IsOutcomeMade }
 {

@@ -1,3 +1,4 @@
+use Rattle.pdl_world.proofs.BasesStay.{assignments_leave_bases}
 use Rattle.pdl_world.proofs.Newest.{paths_stay, numbers_stay}
 use Rattle.pdl_world.proofs.Proved.{looks_stay, reads, reads_back, assigns_soundly}
 use Rattle.pdl_world.proofs.assignment_laws.Goals as goal
@@ -19,3 +20,6 @@ returns-clause-back c = reads_back c.shape_laws.ensures.writes
 
 pub returns-clause-sound : goal.returns-clause-sound
 returns-clause-sound c = assigns_soundly c.shape_laws.ensures.writes
+
+pub returns-clause-bases : goal.returns-clause-bases
+returns-clause-bases c = assignments_leave_bases

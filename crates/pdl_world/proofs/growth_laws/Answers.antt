@@ -1,3 +1,4 @@
+use Rattle.pdl_world.proofs.BasesStay.{older_bases_stay}
 use Rattle.pdl_world.proofs.Newest.{live_lie_below, roots_are_in_range, older_elements_stay, older_paths_stay}
 use Rattle.pdl_world.proofs.Proved.{places_lie_within, new_is_live, older_stay, joins_soundly}
 use Rattle.pdl_world.proofs.growth_laws.Goals as goal
@@ -25,3 +26,6 @@ returns-clause-older_paths c = older_paths_stay
 
 pub returns-clause-sound : goal.returns-clause-sound
 returns-clause-sound c = joins_soundly
+
+pub returns-clause-bases : goal.returns-clause-bases
+returns-clause-bases c = older_bases_stay

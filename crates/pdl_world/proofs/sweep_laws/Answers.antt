@@ -1,3 +1,4 @@
+use Rattle.pdl_world.proofs.BasesStay.{reached_keep_bases, sweeps_leave_looks}
 use Rattle.pdl_world.proofs.Sweeps.{kept_were_reached, reached_are_kept, held_are_kept, reached_are_seen_as_before, sweeps_soundly, below_sweep, new_goes_unheld}
 use Rattle.pdl_world.proofs.sweep_laws.Goals as goal
 
@@ -21,3 +22,9 @@ returns-clause-numbers c = below_sweep
 
 pub returns-clause-new : goal.returns-clause-new
 returns-clause-new c = new_goes_unheld
+
+pub returns-clause-bases : goal.returns-clause-bases
+returns-clause-bases c = reached_keep_bases
+
+pub returns-clause-assigned : goal.returns-clause-assigned
+returns-clause-assigned c = sweeps_leave_looks

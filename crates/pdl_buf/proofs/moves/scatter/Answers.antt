@@ -1,7 +1,7 @@
 -- A write leaves as many elements.
 use Rattle.std.proofs.Common.{length, ap, ◌∙◌}
-use Rattle.pdl_buf.specs.Buffer.{TypedElements}
-use Rattle.pdl_buf.specs.Numbers.{elements_in}
+use Rattle.pdl_numbers.specs.Typed.{TypedElements}
+use Rattle.pdl_numbers.specs.Numbers.{elements_in}
 use Rattle.pdl_buf.proofs.moves.scatter.Goals as goal
 
 pub returns-clause-kept_length : goal.returns-clause-kept_length

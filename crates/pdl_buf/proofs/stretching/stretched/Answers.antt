@@ -4,7 +4,8 @@ use Rattle.pdl_elem.specs.declared.Ty.{Ty}
 use Rattle.pdl_shape.specs.Broadcast.{BroadcastsTo}
 use Rattle.pdl_shape.specs.Stretched as meant
 use Rattle.pdl_shape.specs.Triple.{Reaches, Triple}
-use Rattle.pdl_buf.specs.Window.{Window, shown_through}
+use Rattle.pdl_buf.specs.Window.{Window}
+use Rattle.pdl_numbers.specs.Shown.{shown_through}
 use Rattle.pdl_buf.proofs.Stretches.{shown_stretched}
 use Rattle.pdl_buf.proofs.stretching.stretched.Goals as goal
 

@@ -1,57 +1,57 @@
-use Rattle.std.proofs.Common.{◌≡◌, ℕ, refl, sym, subst, ap, ◌∙◌, Vec, Global, OnOk, arith}
+use Rattle.std.proofs.Common.{◌≡◌, refl, sym, subst, ap, ◌∙◌, Vec, Global, OnOk, arith}
 use Rattle.std.proofs.lemmas.List.{take_all}
+use Rattle.std.proofs.lemmas.Result.{err_from_is_err_and}
 use Rattle.pdl_code.specs.Tree.{put}
 use Rattle.pdl_code.specs.TreeOf.{KernelStmt, code_of, indices_of, step_of, tree_of}
 use Rattle.pdl_code.specs.Refused.{scope_after}
 use Rattle.pdl_code.specs.Resolving.{Agrees, resolve_code, resolve_step, resolve_tree}
-use Rattle.pdl_code.proofs.Blocks.{and_code, choice_err_first, choice_err_second, choice_ok, choice_refused, code_end, code_fault, code_none, code_turn, fronts, loop_ok, loop_err, loop_refused, pass_on, visible}
+use Rattle.pdl_code.proofs.Blocks.{and_code, choice_err_first, choice_err_second, choice_ok, code_end, code_fault, code_none, code_turn, fronts, loop_ok, loop_err, pass_on, visible}
 use Rattle.pdl_code.proofs.Rows.{if_tree, loop_tree, same_parts}
 use Rattle.pdl_code.proofs.block.+block.Goals as goal
 
-pub stmt-returns-in-Ok-block-clause-gives : goal.stmt-returns-in-Ok-block-clause-gives
-stmt-returns-in-Ok-block-clause-gives t c =
-    loop_ok c.args.source.now c.args.signature.now c.args.locals.now.items c.args.loops.now c.mark.new.flags _ c.in-Loop.word (code_of c.deref.result.now) c.in-Ok.d (code_of c.in-Ok-block.code.items) (step_of c.loop_stmt.result)
-    (loop_tree c.args.raw.now c.in-Loop.word c.in-Loop.body c.deref.result.now c.in-Loop.is c.deref.ensures.value) c.in-Ok.ensures.known c.in-Ok.ensures.unmarked c.mark.ensures c.in-Ok-block.ensures.gives c.loop_stmt.ensures
+pub stmt-returns-in_ok-code-in-Loop-clause-gives : goal.stmt-returns-in_ok-code-in-Loop-clause-gives
+stmt-returns-in_ok-code-in-Loop-clause-gives t c =
+    loop_ok c.args.source.now c.args.signature.now c.args.locals.now.items c.args.loops.now c.mark.new.flags _ c.in-Loop.word (code_of c.deref.result.now) c.in_ok-d-in-Loop.d (code_of c.in_ok-code-in-Loop.code.items) (step_of c.loop_stmt.result)
+    (loop_tree c.args.raw.now c.in-Loop.word c.in-Loop.body c.deref.result.now c.in-Loop.is c.deref.ensures.value) c.in_ok-d-in-Loop.ensures.known c.in_ok-d-in-Loop.ensures.unmarked c.mark.ensures c.in_ok-code-in-Loop.ensures.gives c.loop_stmt.ensures
 
-pub stmt-returns-in-Err-block-clause-gives : goal.stmt-returns-in-Err-block-clause-gives
-stmt-returns-in-Err-block-clause-gives t c =
-    pass_on (λ (v : Vec KernelStmt Global). code_of v.items) step_of c.in-Err-block.fault _ _
-    (loop_err c.args.source.now c.args.signature.now c.args.locals.now.items c.args.loops.now c.mark.new.flags _ c.in-Loop.word (code_of c.deref.result.now) c.in-Ok.d
-    (loop_tree c.args.raw.now c.in-Loop.word c.in-Loop.body c.deref.result.now c.in-Loop.is c.deref.ensures.value) c.in-Ok.ensures.known c.in-Ok.ensures.unmarked c.mark.ensures)
-    c.in-Err-block.ensures.gives
+pub stmt-returns-in_err-code-in-Loop-clause-gives : goal.stmt-returns-in_err-code-in-Loop-clause-gives
+stmt-returns-in_err-code-in-Loop-clause-gives t c =
+    let p = err_from_is_err_and c.from_residual-in_err-code-in-Loop.result c.from_residual-in_err-code-in-Loop.ensures.1 in
+    rw (p.1, p.2)
+    (pass_on (λ (v : Vec KernelStmt Global). code_of v.items) step_of c.in_err-code-in-Loop.field-0.0 _ _
+    (loop_err c.args.source.now c.args.signature.now c.args.locals.now.items c.args.loops.now c.mark.new.flags _ c.in-Loop.word (code_of c.deref.result.now) c.in_ok-d-in-Loop.d
+    (loop_tree c.args.raw.now c.in-Loop.word c.in-Loop.body c.deref.result.now c.in-Loop.is c.deref.ensures.value) c.in_ok-d-in-Loop.ensures.known c.in_ok-d-in-Loop.ensures.unmarked c.mark.ensures)
+    c.in_err-code-in-Loop.ensures.gives)
 
-pub stmt-returns-in-Err-clause-gives : goal.stmt-returns-in-Err-clause-gives
-stmt-returns-in-Err-clause-gives t c =
-    pass_on (λ (d : ℕ). d) step_of c.in-Err.fault _ _
-    (loop_refused c.args.source.now c.args.signature.now (visible c.args.locals.now.items c.args.loops.now) _ c.in-Loop.word (code_of c.in-Loop.body.items)
-    (loop_tree c.args.raw.now c.in-Loop.word c.in-Loop.body c.in-Loop.body.items c.in-Loop.is refl))
-    c.in-Err.ensures.gives
-
-pub stmt-returns-in-Ok-block-3-clause-gives : goal.stmt-returns-in-Ok-block-3-clause-gives
-stmt-returns-in-Ok-block-3-clause-gives t c =
-    choice_ok c.args.source.now c.args.signature.now c.args.locals.now.items c.block-in-Ok-tree.new.locals.items c.args.loops.now _ (tree_of c.in-If.expr) (code_of c.deref-in-Ok-tree.result.now) (code_of c.deref-in-Ok-block-2.result.now) (tree_of c.in-Ok-tree.e) (code_of c.in-Ok-block-2.yes.items) (code_of c.in-Ok-block-3.no.items) (step_of c.if_stmt.result)
-    (if_tree c.args.raw.now c.in-If.expr c.in-If.whole c.in-If.other c.in-If.is ∙ same_parts (tree_of c.in-If.expr) c.deref-in-Ok-tree.ensures.value c.deref-in-Ok-block-2.ensures.value)
-    (ap (λ ls. resolve_tree c.args.source.now c.args.signature.now (visible ls c.args.loops.now) (tree_of c.in-If.expr)) (sym c.as_slice.ensures.value) ∙ c.in-Ok-tree.ensures)
-    c.in-Ok-block-2.ensures.gives
-    c.in-Ok-block-2.ensures.same
-    c.in-Ok-block-3.ensures.gives
+pub stmt-returns-in_ok-no-in-If-clause-gives : goal.stmt-returns-in_ok-no-in-If-clause-gives
+stmt-returns-in_ok-no-in-If-clause-gives t c =
+    choice_ok c.args.source.now c.args.signature.now c.args.locals.now.items c.block-in-If.new.locals.items c.args.loops.now _ (tree_of c.in-If.expr) (code_of c.deref-in-If.result.now) (code_of c.deref-in-If-2.result.now) (tree_of c.in_ok-e-in-If.e) (code_of c.in_ok-yes-in-If.yes.items) (code_of c.in_ok-no-in-If.no.items) (step_of c.if_stmt.result)
+    (if_tree c.args.raw.now c.in-If.expr c.in-If.whole c.in-If.other c.in-If.is ∙ same_parts (tree_of c.in-If.expr) c.deref-in-If.ensures.value c.deref-in-If-2.ensures.value)
+    (ap (λ ls. resolve_tree c.args.source.now c.args.signature.now (visible ls c.args.loops.now) (tree_of c.in-If.expr)) (sym c.as_slice.ensures.value) ∙ c.in_ok-e-in-If.ensures)
+    c.in_ok-yes-in-If.ensures.gives
+    c.in_ok-yes-in-If.ensures.same
+    c.in_ok-no-in-If.ensures.gives
     c.if_stmt.ensures
 
-pub stmt-returns-in-Err-block-3-clause-gives : goal.stmt-returns-in-Err-block-3-clause-gives
-stmt-returns-in-Err-block-3-clause-gives t c =
-    pass_on (λ (v : Vec KernelStmt Global). code_of v.items) step_of c.in-Err-block-3.fault _ _
-    (choice_err_second c.args.source.now c.args.signature.now c.args.locals.now.items c.block-in-Ok-tree.new.locals.items c.args.loops.now _ (tree_of c.in-If.expr) (code_of c.deref-in-Ok-tree.result.now) (code_of c.deref-in-Ok-block-2.result.now) (tree_of c.in-Ok-tree.e) (code_of c.in-Ok-block-2.yes.items)
-    (if_tree c.args.raw.now c.in-If.expr c.in-If.whole c.in-If.other c.in-If.is ∙ same_parts (tree_of c.in-If.expr) c.deref-in-Ok-tree.ensures.value c.deref-in-Ok-block-2.ensures.value)
-    (ap (λ ls. resolve_tree c.args.source.now c.args.signature.now (visible ls c.args.loops.now) (tree_of c.in-If.expr)) (sym c.as_slice.ensures.value) ∙ c.in-Ok-tree.ensures) c.in-Ok-block-2.ensures.gives c.in-Ok-block-2.ensures.same)
-    c.in-Err-block-3.ensures.gives
+pub stmt-returns-in_err-no-in-If-clause-gives : goal.stmt-returns-in_err-no-in-If-clause-gives
+stmt-returns-in_err-no-in-If-clause-gives t c =
+    let p = err_from_is_err_and c.from_residual-in_err-no-in-If.result c.from_residual-in_err-no-in-If.ensures.1 in
+    rw (p.1, p.2)
+    (pass_on (λ (v : Vec KernelStmt Global). code_of v.items) step_of c.in_err-no-in-If.field-0.0 _ _
+    (choice_err_second c.args.source.now c.args.signature.now c.args.locals.now.items c.block-in-If.new.locals.items c.args.loops.now _ (tree_of c.in-If.expr) (code_of c.deref-in-If.result.now) (code_of c.deref-in-If-2.result.now) (tree_of c.in_ok-e-in-If.e) (code_of c.in_ok-yes-in-If.yes.items)
+    (if_tree c.args.raw.now c.in-If.expr c.in-If.whole c.in-If.other c.in-If.is ∙ same_parts (tree_of c.in-If.expr) c.deref-in-If.ensures.value c.deref-in-If-2.ensures.value)
+    (ap (λ ls. resolve_tree c.args.source.now c.args.signature.now (visible ls c.args.loops.now) (tree_of c.in-If.expr)) (sym c.as_slice.ensures.value) ∙ c.in_ok-e-in-If.ensures) c.in_ok-yes-in-If.ensures.gives c.in_ok-yes-in-If.ensures.same)
+    c.in_err-no-in-If.ensures.gives)
 
-pub stmt-returns-in-Err-block-2-clause-gives : goal.stmt-returns-in-Err-block-2-clause-gives
-stmt-returns-in-Err-block-2-clause-gives t c =
-    pass_on (λ (v : Vec KernelStmt Global). code_of v.items) step_of c.in-Err-block-2.fault _ _
-    (choice_err_first c.args.source.now c.args.signature.now c.args.locals.now.items c.args.loops.now _ (tree_of c.in-If.expr) (code_of c.deref-in-Ok-tree.result.now) (code_of c.in-If.other.items) (tree_of c.in-Ok-tree.e)
-    (if_tree c.args.raw.now c.in-If.expr c.in-If.whole c.in-If.other c.in-If.is ∙ same_parts (tree_of c.in-If.expr) c.deref-in-Ok-tree.ensures.value refl)
-    (ap (λ ls. resolve_tree c.args.source.now c.args.signature.now (visible ls c.args.loops.now) (tree_of c.in-If.expr)) (sym c.as_slice.ensures.value) ∙ c.in-Ok-tree.ensures))
-    c.in-Err-block-2.ensures.gives
+pub stmt-returns-in_err-yes-in-If-clause-gives : goal.stmt-returns-in_err-yes-in-If-clause-gives
+stmt-returns-in_err-yes-in-If-clause-gives t c =
+    let p = err_from_is_err_and c.from_residual-in_err-yes-in-If.result c.from_residual-in_err-yes-in-If.ensures.1 in
+    rw (p.1, p.2)
+    (pass_on (λ (v : Vec KernelStmt Global). code_of v.items) step_of c.in_err-yes-in-If.field-0.0 _ _
+    (choice_err_first c.args.source.now c.args.signature.now c.args.locals.now.items c.args.loops.now _ (tree_of c.in-If.expr) (code_of c.deref-in-If.result.now) (code_of c.in-If.other.items) (tree_of c.in_ok-e-in-If.e)
+    (if_tree c.args.raw.now c.in-If.expr c.in-If.whole c.in-If.other c.in-If.is ∙ same_parts (tree_of c.in-If.expr) c.deref-in-If.ensures.value refl)
+    (ap (λ ls. resolve_tree c.args.source.now c.args.signature.now (visible ls c.args.loops.now) (tree_of c.in-If.expr)) (sym c.as_slice.ensures.value) ∙ c.in_ok-e-in-If.ensures))
+    c.in_err-yes-in-If.ensures.gives)
 
 pub block-loop-one-preserved : goal.block-loop-one-preserved
 block-loop-one-preserved t c =
@@ -84,14 +84,6 @@ block-returns-in-Err-clause-gives t c =
 pub block-returns-clause-same : goal.block-returns-clause-same
 block-returns-clause-same t c =
     c.cut.ensures ∙ c.loop-one.invariant.fronts.same ∙ take_all c.len-count.result c.args.locals.now.items (omega arith)
-
-pub stmt-returns-in-Err-tree-clause-gives : goal.stmt-returns-in-Err-tree-clause-gives
-stmt-returns-in-Err-tree-clause-gives t c =
-    pass_on tree_of step_of c.in-Err-tree.fault _ _
-    (λ x err. choice_refused c.args.source.now c.args.signature.now (visible c.args.locals.now.items c.args.loops.now) _ (tree_of c.in-If.expr) (code_of c.in-If.whole.items) (code_of c.in-If.other.items)
-    (if_tree c.args.raw.now c.in-If.expr c.in-If.whole c.in-If.other c.in-If.is) x
-    (ap (λ ls. resolve_tree c.args.source.now c.args.signature.now (visible ls c.args.loops.now) (tree_of c.in-If.expr)) (sym c.as_slice.ensures.value) ∙ err))
-    c.in-Err-tree.ensures
 
 pub stmt-returns-in-Keep-clause-gives : goal.stmt-returns-in-Keep-clause-gives
 stmt-returns-in-Keep-clause-gives t c =

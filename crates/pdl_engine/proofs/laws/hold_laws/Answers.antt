@@ -1,4 +1,4 @@
-use Rattle.pdl_engine.proofs.Unwritten.{unwritten}
+use Rattle.pdl_engine.proofs.Unwritten.{left, unwritten}
 use Rattle.pdl_engine.proofs.HoldLaws.{counted, held, one_less, one_more, stay, uncounted}
 use Rattle.pdl_engine.proofs.laws.hold_laws.Goals as goal
 
@@ -21,4 +21,7 @@ pub returns-clause-others : goal.returns-clause-others
 returns-clause-others c = uncounted
 
 pub returns-clause-unwritten : goal.returns-clause-unwritten
-returns-clause-unwritten c = unwritten
+returns-clause-unwritten c = unwritten c.sweep_laws.ensures.kept
+
+pub returns-clause-waiting : goal.returns-clause-waiting
+returns-clause-waiting c = left

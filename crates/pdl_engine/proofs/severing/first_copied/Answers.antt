@@ -2,8 +2,9 @@ use Rattle.std.proofs.Common.{◌≡◌, sym, ◌∙◌, ap, subst, length, All}
 use Rattle.pdl_elem.specs.Types.{InRange}
 use Rattle.pdl_elem.specs.declared.Ty.{Ty}
 use Rattle.pdl_shape.specs.Triple.{Triple}
-use Rattle.pdl_buf.specs.Buffer.{TypedElements}
-use Rattle.pdl_buf.specs.Window.{Window, shown_through}
+use Rattle.pdl_numbers.specs.Typed.{TypedElements}
+use Rattle.pdl_buf.specs.Window.{Window}
+use Rattle.pdl_numbers.specs.Shown.{shown_through}
 use Rattle.pdl_world.specs.Cut.{fitted}
 use Rattle.pdl_world.specs.World.{elements}
 use Rattle.pdl_nodes.specs.Row.{Row}

@@ -1,5 +1,5 @@
 use Rattle.std.proofs.Common.{◌∙◌, ℕ, take, min, ap, arith}
-use Rattle.pdl_buf.specs.Buffer.{TypedElements}
+use Rattle.pdl_numbers.specs.Typed.{TypedElements}
 use Rattle.pdl_engine.proofs.Packs.{zeros_more}
 use Rattle.pdl_engine.proofs.severing.pack_zeros.Goals as goal
 

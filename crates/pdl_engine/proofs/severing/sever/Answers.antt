@@ -1,17 +1,17 @@
-use Rattle.std.proofs.Common.{◌≡◌, ◌+◌, ◌≤◌, sym, ◌∙◌, ap, subst, arith, ℕ, Option}
+use Rattle.std.proofs.Common.{◌≡◌, [], ◌+◌, ◌≤◌, sym, ◌∙◌, ap, subst, arith, ℕ, Option}
 use Rattle.pdl_lemmas.specs.Results.{on_err}
 use Rattle.pdl_shape.specs.Shape.{size_of}
 use Rattle.pdl_shape.specs.Triple.{Triple}
-use Rattle.pdl_buf.specs.Buffer.{TypedElements}
+use Rattle.pdl_numbers.specs.Typed.{TypedElements}
 use Rattle.pdl_world.specs.World.{elements}
-use Rattle.pdl_nodes.specs.Cut.{CanCut}
+use Rattle.pdl_nodes.specs.Renewed.{CanCut, CanRenew, Layouts, renew}
 use Rattle.pdl_nodes.specs.Outcomes.{waiting_of, waiting_size}
 use Rattle.pdl_pull.specs.Outdated.{outdated}
 use Rattle.pdl_nodes.specs.Row.{Row}
 use Rattle.pdl_nodes.specs.Worlds.{world_of}
 use Rattle.pdl_engine.specs.Loose.{ListsParent, IsListed}
 use Rattle.pdl_engine.proofs.Readied.{ready_then, IsFreshly, others_on, settled_on, only_ready, freshly, ready_steps, below_ready, ready_fresh}
-use Rattle.pdl_engine.proofs.Severs.{CutFacts, first_all, root_uncut, cut_settled, all_steps, cut_fresh, can_cut, was_cut, cut_world}
+use Rattle.pdl_engine.proofs.Renews.{RenewFacts, first_all, root_uncut, renewed_settled, all_steps, renewed_fresh, can_cut, was_renewed, cut_world}
 use Rattle.pdl_engine.proofs.severing.sever.Goals as goal
 
 pub returns-then-root-id-clause-ok : goal.returns-then-root-id-clause-ok
@@ -40,21 +40,35 @@ returns-in_err-kept-clause-counted g c =
     all_steps c.args.table.now c.settle.new.table c.refresh.new.table c.args.id c.refresh.new.steps c.first_copied.new.steps c.args.steps.now c.settle.ensures.settled c.refresh.ensures.kept
     (ready_steps c.row_laws.ensures c.args.table.now c.settle.new.table c.args.id c.settle.new.steps c.refresh.new.steps c.args.steps.now c.settle.ensures.settled c.settle.ensures.counted c.refresh.ensures.counted) (subst (λ n. c.first_copied.new.steps ≤ c.refresh.new.steps + n) (c.elements_of-count.ensures.count ∙ ap size_of (c.copy_dims-dims.ensures ∙ ap (λ (t : Triple). t.dims) (c.behind-node.view_is ∙ c.triple.ensures ∙ ap (λ (r : Row). r.triple) c.node-2.ensures))) c.first_copied.ensures.counted)
 
-pub cut-requires-clause-can : goal.cut-requires-clause-can
-cut-requires-clause-can g c =
+pub renew-requires-clause-can : goal.renew-requires-clause-can
+renew-requires-clause-can g c =
+    let laws : RenewFacts = record {
+      roots = c.renewed_row_laws.ensures.roots;
+      reshapes = c.renewed_row_laws.ensures.reshapes;
+      severs = c.renewed_row_laws.ensures.severs;
+      relaid = c.renewed_row_laws.ensures.relaid;
+      stay = c.renewed_row_laws.ensures.stay;
+      outdated = c.renewed_row_laws.ensures.outdated;
+      families = c.renewed_row_laws.ensures.families;
+      settled = c.renewed_row_laws.ensures.settled;
+      known = c.renewed_row_laws.ensures.known;
+      sized = c.renewed_row_laws.ensures.sized;
+      numbers = c.renewed_row_laws.ensures.numbers;
+      makes = c.renewed_row_laws.ensures.makes;
+    } in
     let es : c.in_ok-kept.kept.elems ≡ elements (world_of c.refresh.new.table) c.args.id =
     first_all c.row_laws.ensures c.refresh.new.table c.args.id c.elements_of-count.result c.copy_dims-dims.result c.in_ok-kept.kept.elems c.refresh.ensures.kept.order.still
     (c.refresh.ensures.kept.alike.has_is c.args.id ∙ c.settle.ensures.settled.ready.alike.has_is c.args.id ∙ c.requires.live)
     c.elements_of-count.ensures.count (c.copy_dims-dims.ensures ∙ ap (λ (t : Triple). t.dims) (c.behind-node.view_is ∙ c.triple.ensures ∙ ap (λ (r : Row). r.triple) c.node-2.ensures)) (ap (λ (k : TypedElements). k.elems) c.in_ok-kept.ensures.value) in
     let f : IsFreshly c.args.table.now c.refresh.new.table c.args.id = freshly c.row_laws.ensures c.args.table.now c.settle.new.table c.refresh.new.table c.args.id c.requires.order c.requires.sized c.requires.live c.settle.ensures.settled c.refresh.ensures.kept
     (c.row_laws.ensures.seen.path_first c.refresh.new.table c.args.id c.refresh.ensures.kept.order.still (c.refresh.ensures.kept.alike.has_is c.args.id ∙ c.settle.ensures.settled.ready.alike.has_is c.args.id ∙ c.requires.live) c.in_ok-refresh.ensures.fresh) in
-    can_cut c.row_laws.ensures c.args.table.now c.refresh.new.table c.args.id c.copy_dims-dims.result c.in_ok-kept.kept.elems f
-    (λ r. c.if-root-id.false (c.root.ensures ∙ ap (λ (x : Row). x.root) c.node.ensures ∙ r))
+    let can : CanCut c.refresh.new.table c.args.id c.copy_dims-dims.result c.in_ok-kept.kept.elems = can_cut c.row_laws.ensures c.args.table.now c.refresh.new.table c.args.id c.copy_dims-dims.result c.in_ok-kept.kept.elems f
     (c.copy_dims-dims.ensures ∙ ap (λ (t : Triple). t.dims) (c.behind-node.view_is ∙ c.triple.ensures ∙ ap (λ (r : Row). r.triple) c.node-2.ensures))
-    es
+    es in
+    subst (λ (ls : Layouts). CanRenew ls c.refresh.new.table c.args.id c.copy_dims-dims.result c.in_ok-kept.kept.elems) (sym c.new.ensures) (laws.severs c.refresh.new.table c.args.id c.copy_dims-dims.result c.in_ok-kept.kept.elems can es).0
 
-pub cut-requires-clause-small : goal.cut-requires-clause-small
-cut-requires-clause-small g c = below_ready c.args.table.now c.refresh.new.table 18446744073709551615 (ready_then c.row_laws.ensures c.args.table.now c.settle.new.table c.refresh.new.table c.settle.ensures.settled.ready c.refresh.ensures.kept) c.requires.small
+pub renew-requires-clause-small : goal.renew-requires-clause-small
+renew-requires-clause-small g c = below_ready c.args.table.now c.refresh.new.table 18446744073709551615 (ready_then c.row_laws.ensures c.args.table.now c.settle.new.table c.refresh.new.table c.settle.ensures.settled.ready c.refresh.ensures.kept) c.requires.small
 
 pub returns-clause-severed : goal.returns-clause-severed
 returns-clause-severed g c =
@@ -62,14 +76,27 @@ returns-clause-severed g c =
     first_all c.row_laws.ensures c.refresh.new.table c.args.id c.elements_of-count.result c.copy_dims-dims.result c.in_ok-kept.kept.elems c.refresh.ensures.kept.order.still
     (c.refresh.ensures.kept.alike.has_is c.args.id ∙ c.settle.ensures.settled.ready.alike.has_is c.args.id ∙ c.requires.live)
     c.elements_of-count.ensures.count (c.copy_dims-dims.ensures ∙ ap (λ (t : Triple). t.dims) (c.behind-node.view_is ∙ c.triple.ensures ∙ ap (λ (r : Row). r.triple) c.node-2.ensures)) (ap (λ (k : TypedElements). k.elems) c.in_ok-kept.ensures.value) in
-    let laws : CutFacts = record { severs = c.cut_row_laws.ensures.severs; families = c.cut_row_laws.ensures.families; settled = c.cut_row_laws.ensures.settled; known = c.cut_row_laws.ensures.known; sized = c.cut_row_laws.ensures.sized; numbers = c.cut_row_laws.ensures.numbers; roots = c.cut_row_laws.ensures.roots } in
+    let laws : RenewFacts = record {
+      roots = c.renewed_row_laws.ensures.roots;
+      reshapes = c.renewed_row_laws.ensures.reshapes;
+      severs = c.renewed_row_laws.ensures.severs;
+      relaid = c.renewed_row_laws.ensures.relaid;
+      stay = c.renewed_row_laws.ensures.stay;
+      outdated = c.renewed_row_laws.ensures.outdated;
+      families = c.renewed_row_laws.ensures.families;
+      settled = c.renewed_row_laws.ensures.settled;
+      known = c.renewed_row_laws.ensures.known;
+      sized = c.renewed_row_laws.ensures.sized;
+      numbers = c.renewed_row_laws.ensures.numbers;
+      makes = c.renewed_row_laws.ensures.makes;
+    } in
     let f : IsFreshly c.args.table.now c.refresh.new.table c.args.id = freshly c.row_laws.ensures c.args.table.now c.settle.new.table c.refresh.new.table c.args.id c.requires.order c.requires.sized c.requires.live c.settle.ensures.settled c.refresh.ensures.kept
     (c.row_laws.ensures.seen.path_first c.refresh.new.table c.args.id c.refresh.ensures.kept.order.still (c.refresh.ensures.kept.alike.has_is c.args.id ∙ c.settle.ensures.settled.ready.alike.has_is c.args.id ∙ c.requires.live) c.in_ok-refresh.ensures.fresh) in
     let can : CanCut c.refresh.new.table c.args.id c.copy_dims-dims.result c.in_ok-kept.kept.elems = can_cut c.row_laws.ensures c.args.table.now c.refresh.new.table c.args.id c.copy_dims-dims.result c.in_ok-kept.kept.elems f
-    (λ r. c.if-root-id.false (c.root.ensures ∙ ap (λ (x : Row). x.root) c.node.ensures ∙ r))
     (c.copy_dims-dims.ensures ∙ ap (λ (t : Triple). t.dims) (c.behind-node.view_is ∙ c.triple.ensures ∙ ap (λ (r : Row). r.triple) c.node-2.ensures))
     es in
-    was_cut c.row_laws.ensures laws c.args.table.now c.refresh.new.table c.cut.new.self c.args.id c.copy_dims-dims.result c.in_ok-kept.kept.elems c.requires.order c.requires.sized f can es c.cut.ensures
+    let made : c.renew.new.self ≡ renew [] c.refresh.new.table c.args.id c.copy_dims-dims.result c.in_ok-kept.kept.elems = c.renew.ensures ∙ ap (λ (ls : Layouts). renew ls c.refresh.new.table c.args.id c.copy_dims-dims.result c.in_ok-kept.kept.elems) c.new.ensures in
+    was_renewed c.row_laws.ensures laws [] c.args.table.now c.refresh.new.table c.renew.new.self c.args.id c.copy_dims-dims.result c.in_ok-kept.kept.elems c.requires.order c.requires.sized f (laws.severs c.refresh.new.table c.args.id c.copy_dims-dims.result c.in_ok-kept.kept.elems can es).0 made
 
 pub returns-clause-ok : goal.returns-clause-ok
 returns-clause-ok g c =
@@ -77,14 +104,27 @@ returns-clause-ok g c =
     first_all c.row_laws.ensures c.refresh.new.table c.args.id c.elements_of-count.result c.copy_dims-dims.result c.in_ok-kept.kept.elems c.refresh.ensures.kept.order.still
     (c.refresh.ensures.kept.alike.has_is c.args.id ∙ c.settle.ensures.settled.ready.alike.has_is c.args.id ∙ c.requires.live)
     c.elements_of-count.ensures.count (c.copy_dims-dims.ensures ∙ ap (λ (t : Triple). t.dims) (c.behind-node.view_is ∙ c.triple.ensures ∙ ap (λ (r : Row). r.triple) c.node-2.ensures)) (ap (λ (k : TypedElements). k.elems) c.in_ok-kept.ensures.value) in
-    let laws : CutFacts = record { severs = c.cut_row_laws.ensures.severs; families = c.cut_row_laws.ensures.families; settled = c.cut_row_laws.ensures.settled; known = c.cut_row_laws.ensures.known; sized = c.cut_row_laws.ensures.sized; numbers = c.cut_row_laws.ensures.numbers; roots = c.cut_row_laws.ensures.roots } in
+    let laws : RenewFacts = record {
+      roots = c.renewed_row_laws.ensures.roots;
+      reshapes = c.renewed_row_laws.ensures.reshapes;
+      severs = c.renewed_row_laws.ensures.severs;
+      relaid = c.renewed_row_laws.ensures.relaid;
+      stay = c.renewed_row_laws.ensures.stay;
+      outdated = c.renewed_row_laws.ensures.outdated;
+      families = c.renewed_row_laws.ensures.families;
+      settled = c.renewed_row_laws.ensures.settled;
+      known = c.renewed_row_laws.ensures.known;
+      sized = c.renewed_row_laws.ensures.sized;
+      numbers = c.renewed_row_laws.ensures.numbers;
+      makes = c.renewed_row_laws.ensures.makes;
+    } in
     let f : IsFreshly c.args.table.now c.refresh.new.table c.args.id = freshly c.row_laws.ensures c.args.table.now c.settle.new.table c.refresh.new.table c.args.id c.requires.order c.requires.sized c.requires.live c.settle.ensures.settled c.refresh.ensures.kept
     (c.row_laws.ensures.seen.path_first c.refresh.new.table c.args.id c.refresh.ensures.kept.order.still (c.refresh.ensures.kept.alike.has_is c.args.id ∙ c.settle.ensures.settled.ready.alike.has_is c.args.id ∙ c.requires.live) c.in_ok-refresh.ensures.fresh) in
     let can : CanCut c.refresh.new.table c.args.id c.copy_dims-dims.result c.in_ok-kept.kept.elems = can_cut c.row_laws.ensures c.args.table.now c.refresh.new.table c.args.id c.copy_dims-dims.result c.in_ok-kept.kept.elems f
-    (λ r. c.if-root-id.false (c.root.ensures ∙ ap (λ (x : Row). x.root) c.node.ensures ∙ r))
     (c.copy_dims-dims.ensures ∙ ap (λ (t : Triple). t.dims) (c.behind-node.view_is ∙ c.triple.ensures ∙ ap (λ (r : Row). r.triple) c.node-2.ensures))
     es in
-    cut_world laws c.args.table.now c.refresh.new.table c.cut.new.self c.args.id c.copy_dims-dims.result c.in_ok-kept.kept.elems f can es c.cut.ensures
+    let made : c.renew.new.self ≡ renew [] c.refresh.new.table c.args.id c.copy_dims-dims.result c.in_ok-kept.kept.elems = c.renew.ensures ∙ ap (λ (ls : Layouts). renew ls c.refresh.new.table c.args.id c.copy_dims-dims.result c.in_ok-kept.kept.elems) c.new.ensures in
+    cut_world laws c.args.table.now c.refresh.new.table c.renew.new.self c.args.id c.copy_dims-dims.result c.in_ok-kept.kept.elems f can es made
 
 pub returns-clause-counted : goal.returns-clause-counted
 returns-clause-counted g c =
@@ -101,7 +141,8 @@ pub returns-clause-fresh : goal.returns-clause-fresh
 returns-clause-fresh g c = λ n.
     let f : IsFreshly c.args.table.now c.refresh.new.table c.args.id = freshly c.row_laws.ensures c.args.table.now c.settle.new.table c.refresh.new.table c.args.id c.requires.order c.requires.sized c.requires.live c.settle.ensures.settled c.refresh.ensures.kept
     (c.row_laws.ensures.seen.path_first c.refresh.new.table c.args.id c.refresh.ensures.kept.order.still (c.refresh.ensures.kept.alike.has_is c.args.id ∙ c.settle.ensures.settled.ready.alike.has_is c.args.id ∙ c.requires.live) c.in_ok-refresh.ensures.fresh) in
-    cut_fresh c.cut_row_laws.ensures.roots c.args.table.now c.refresh.new.table c.cut.new.self c.args.id c.copy_dims-dims.result c.in_ok-kept.kept.elems f c.cut.ensures
+    let made : c.renew.new.self ≡ renew [] c.refresh.new.table c.args.id c.copy_dims-dims.result c.in_ok-kept.kept.elems = c.renew.ensures ∙ ap (λ (ls : Layouts). renew ls c.refresh.new.table c.args.id c.copy_dims-dims.result c.in_ok-kept.kept.elems) c.new.ensures in
+    renewed_fresh c.renewed_row_laws.ensures.makes [] c.args.table.now c.refresh.new.table c.renew.new.self c.args.id c.copy_dims-dims.result c.in_ok-kept.kept.elems f made
 
 pub returns-in_err-refresh-clause-settled : goal.returns-in_err-refresh-clause-settled
 returns-in_err-refresh-clause-settled g c = λ n. settled_on c.args.table.now c.settle.new.table c.refresh.new.table c.args.id c.settle.ensures.settled c.refresh.ensures.kept
@@ -115,13 +156,27 @@ returns-clause-settled g c = λ n.
     first_all c.row_laws.ensures c.refresh.new.table c.args.id c.elements_of-count.result c.copy_dims-dims.result c.in_ok-kept.kept.elems c.refresh.ensures.kept.order.still
     (c.refresh.ensures.kept.alike.has_is c.args.id ∙ c.settle.ensures.settled.ready.alike.has_is c.args.id ∙ c.requires.live)
     c.elements_of-count.ensures.count (c.copy_dims-dims.ensures ∙ ap (λ (t : Triple). t.dims) (c.behind-node.view_is ∙ c.triple.ensures ∙ ap (λ (r : Row). r.triple) c.node-2.ensures)) (ap (λ (k : TypedElements). k.elems) c.in_ok-kept.ensures.value) in
-    let laws : CutFacts = record { severs = c.cut_row_laws.ensures.severs; families = c.cut_row_laws.ensures.families; settled = c.cut_row_laws.ensures.settled; known = c.cut_row_laws.ensures.known; sized = c.cut_row_laws.ensures.sized; numbers = c.cut_row_laws.ensures.numbers; roots = c.cut_row_laws.ensures.roots } in
+    let laws : RenewFacts = record {
+      roots = c.renewed_row_laws.ensures.roots;
+      reshapes = c.renewed_row_laws.ensures.reshapes;
+      severs = c.renewed_row_laws.ensures.severs;
+      relaid = c.renewed_row_laws.ensures.relaid;
+      stay = c.renewed_row_laws.ensures.stay;
+      outdated = c.renewed_row_laws.ensures.outdated;
+      families = c.renewed_row_laws.ensures.families;
+      settled = c.renewed_row_laws.ensures.settled;
+      known = c.renewed_row_laws.ensures.known;
+      sized = c.renewed_row_laws.ensures.sized;
+      numbers = c.renewed_row_laws.ensures.numbers;
+      makes = c.renewed_row_laws.ensures.makes;
+    } in
     let f : IsFreshly c.args.table.now c.refresh.new.table c.args.id = freshly c.row_laws.ensures c.args.table.now c.settle.new.table c.refresh.new.table c.args.id c.requires.order c.requires.sized c.requires.live c.settle.ensures.settled c.refresh.ensures.kept
     (c.row_laws.ensures.seen.path_first c.refresh.new.table c.args.id c.refresh.ensures.kept.order.still (c.refresh.ensures.kept.alike.has_is c.args.id ∙ c.settle.ensures.settled.ready.alike.has_is c.args.id ∙ c.requires.live) c.in_ok-refresh.ensures.fresh) in
-    let can : CanCut c.refresh.new.table c.args.id c.copy_dims-dims.result c.in_ok-kept.kept.elems = can_cut c.row_laws.ensures c.args.table.now c.refresh.new.table c.args.id c.copy_dims-dims.result c.in_ok-kept.kept.elems f n
+    let can : CanCut c.refresh.new.table c.args.id c.copy_dims-dims.result c.in_ok-kept.kept.elems = can_cut c.row_laws.ensures c.args.table.now c.refresh.new.table c.args.id c.copy_dims-dims.result c.in_ok-kept.kept.elems f
     (c.copy_dims-dims.ensures ∙ ap (λ (t : Triple). t.dims) (c.behind-node.view_is ∙ c.triple.ensures ∙ ap (λ (r : Row). r.triple) c.node-2.ensures))
     es in
-    cut_settled laws c.args.table.now c.refresh.new.table c.cut.new.self c.args.id c.copy_dims-dims.result c.in_ok-kept.kept.elems f can c.cut.ensures
+    let made : c.renew.new.self ≡ renew [] c.refresh.new.table c.args.id c.copy_dims-dims.result c.in_ok-kept.kept.elems = c.renew.ensures ∙ ap (λ (ls : Layouts). renew ls c.refresh.new.table c.args.id c.copy_dims-dims.result c.in_ok-kept.kept.elems) c.new.ensures in
+    renewed_settled laws [] c.args.table.now c.refresh.new.table c.renew.new.self c.args.id c.copy_dims-dims.result c.in_ok-kept.kept.elems f (laws.severs c.refresh.new.table c.args.id c.copy_dims-dims.result c.in_ok-kept.kept.elems can es).0 made
 
 pub returns-in_err-refresh-clause-root : goal.returns-in_err-refresh-clause-root
 returns-in_err-refresh-clause-root g c = λ r. absurd (c.if-root-id.false (c.root.ensures ∙ ap (λ (x : Row). x.root) c.node.ensures ∙ r))
@@ -162,5 +217,5 @@ returns-clause-listed g c = subst (λ (o : Option ℕ). IsListed c.args.loose.no
 pub returns-in_err-kept-clause-listed : goal.returns-in_err-kept-clause-listed
 returns-in_err-kept-clause-listed g c = subst (λ (o : Option ℕ). IsListed c.args.loose.now.items c.first_copied.new.loose.items o) (c.refresh.ensures.kept.alike.parent_is c.args.id ∙ c.settle.ensures.settled.ready.alike.parent_is c.args.id) c.first_copied.ensures.listed
 
-pub cut-requires-clause-same_type : goal.cut-requires-clause-same_type
-cut-requires-clause-same_type g c = ap (λ (k : TypedElements). k.ty) c.in_ok-kept.ensures.value
+pub renew-requires-clause-same_type : goal.renew-requires-clause-same_type
+renew-requires-clause-same_type g c = ap (λ (k : TypedElements). k.ty) c.in_ok-kept.ensures.value

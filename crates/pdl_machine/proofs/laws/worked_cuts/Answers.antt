@@ -24,8 +24,8 @@ returns-clause-given_up c = record { view = refl; name = refl; parent_stays = re
 
 pub returns-clause-dimensions : goal.returns-clause-dimensions
 unfolding slice_of read_on
-returns-clause-dimensions c = record { more = refl; fewer = refl; cut = refl }
+returns-clause-dimensions c = record { more = refl; fewer = refl; cut = refl; runs_over = refl; deeper = refl }
 
 pub returns-clause-refused : goal.returns-clause-refused
 unfolding slice_of read_on
-returns-clause-refused c = record { name = refl; sizes_first = refl; arguments = refl; below = refl; many = refl; large = refl; connected = refl; new_view = refl; gone = refl }
+returns-clause-refused c = record { name = refl; sizes_first = refl; arguments = refl; below = refl; many = refl; large = refl; breaks = refl; new_view = refl; gone = refl }

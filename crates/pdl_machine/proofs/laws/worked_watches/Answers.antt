@@ -12,8 +12,8 @@ returns-clause-kept c = record { both = refl; kept = refl; live = refl; rebound 
 
 pub returns-clause-given_up : goal.returns-clause-given_up
 unfolding slice_of read_on
-returns-clause-given_up c = record { slots = refl; told = refl }
+returns-clause-given_up c = record { slots = refl; behind = refl; told = refl }
 
 pub returns-clause-refused : goal.returns-clause-refused
 unfolding slice_of read_on
-returns-clause-refused c = record { name = refl; no_slot = refl; empty_slot = refl; attached_slot = refl; free_slot = refl; given_up = refl; again = refl; dimensions = refl }
+returns-clause-refused c = record { name = refl; no_slot = refl; empty_slot = refl; attached_slot = refl; free_slot = refl; given_up = refl; again = refl; dimensions = refl; below = refl; breaks_first = refl; aside = refl }

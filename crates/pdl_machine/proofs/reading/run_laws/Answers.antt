@@ -19,10 +19,10 @@ pub returns-clause-numbered : goal.returns-clause-numbered
 returns-clause-numbered c = notices_are_numbered
 
 pub returns-clause-none_comes : goal.returns-clause-none_comes
-returns-clause-none_comes c = none_comes
+returns-clause-none_comes c = none_comes c.slot_laws.ensures.below c.slot_laws.ensures.below_twice
 
 pub returns-clause-none_in_a_run : goal.returns-clause-none_in_a_run
-returns-clause-none_in_a_run c = none_comes_in_a_run
+returns-clause-none_in_a_run c = none_comes_in_a_run c.slot_laws.ensures.below c.slot_laws.ensures.below_twice
 
 pub returns-clause-there : goal.returns-clause-there
 returns-clause-there c = stay_there

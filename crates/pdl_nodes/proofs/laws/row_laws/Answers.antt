@@ -1,8 +1,8 @@
 use Rattle.pdl_nodes.proofs.Alikes.{root_live, base_live, root_own, each_numbers, is_alike, each_past, ready_same, ready_trans}
 use Rattle.pdl_nodes.proofs.Alone.{nothing_goes, all_stand, kept_tells, last_beside, root_waits, alone_from, alone_tells, alone_let_go}
 use Rattle.pdl_nodes.proofs.OverBases.{over_known}
-use Rattle.pdl_nodes.proofs.CutOrder.{world_ty, world_dims}
-use Rattle.pdl_nodes.proofs.CutRows.{sized_at}
+use Rattle.pdl_nodes.proofs.RenewOrder.{world_ty, world_dims}
+use Rattle.pdl_nodes.proofs.Below.{sized_at}
 use Rattle.pdl_nodes.proofs.Falling.{none_goes, none_sum, stays_all, is_going}
 use Rattle.pdl_nodes.proofs.FamilyLemmas.{still_falls, elements_are, latest_none, latest_some, root_each, places_each, order_each, world_same, world_assigned}
 use Rattle.pdl_nodes.proofs.Finds.{each_has, each_at, has_below, below_more, not_newest, newest_gone}

@@ -1,16 +1,18 @@
-use Rattle.std.proofs.Common.{◌∙◌, ap, subst, sym}
-use Rattle.pdl_world.specs.Windows.{over}
+use Rattle.std.proofs.Common.{sym, ◌∙◌, ap, subst}
 use Rattle.pdl_world.specs.declared.Trans.{Trans}
+use Rattle.pdl_world.specs.Formula.{child_dims}
+use Rattle.pdl_world.specs.Windows.{over}
 use Rattle.pdl_nodes.specs.declared.origin.Layout.{Layout}
+use Rattle.pdl_nodes.specs.declared.origin.Origin.TheVariants.{View}
+use Rattle.pdl_nodes.specs.Joined.{IsNewView, dims_or, view_row}
 use Rattle.pdl_nodes.specs.Row.{Row}
-use Rattle.pdl_nodes.specs.Sized.{HasDims, IsLayout}
+use Rattle.pdl_nodes.specs.Still.{base_over, triple_over}
+use Rattle.pdl_nodes.proofs.Below.{LawsBelow}
+use Rattle.pdl_nodes.proofs.Viewed.{new_view, view_row_is}
 use Rattle.pdl_nodes.proofs.views.view_node.Goals as goal
-use Rattle.pdl_nodes.proofs.CutRows.{LawsBelow}
-use Rattle.pdl_nodes.proofs.Viewed.{new_node}
-use Rattle.pdl_nodes.specs.Joined.{IsNewView}
 
-pub returns : goal.returns
-returns c =
+pub returns-clause-new : goal.returns-clause-new
+returns-clause-new c =
     let laws : LawsBelow = record {
       views = record {
         positions = c.shape_laws.ensures.positions;
@@ -21,12 +23,12 @@ returns c =
       };
       wholes = c.triple_laws.ensures.wholes;
     } in
-    let laid : IsLayout c.in_ok-trans.trans c.args.above.now.triple.dims c.in_ok-layout.layout =
-    subst (λ (y : Layout). IsLayout c.in_ok-trans.trans c.args.above.now.triple.dims y) (sym c.in_ok-layout.ensures)
-    (subst (λ (t : Trans). IsLayout t c.args.above.now.triple.dims c.args.layout) (sym c.in_ok-trans.ensures) c.requires.laid) in
-    let dims : HasDims c.in_ok-layout.layout c.dims-dims.result.now = subst (λ (y : Layout). HasDims y c.dims-dims.result.now) (sym c.in_ok-layout.ensures) c.dims-dims.ensures in
-    subst (λ (t : Trans). IsNewView c.args.id c.args.parent t c.args.above.now c.derive.new.self) c.in_ok-trans.ensures
-    (new_node laws c.args.id c.args.parent c.in_ok-trans.trans c.in_ok-layout.layout c.args.above.now c.dims-dims.result.now c.above.inside.ty c.above.inside.root c.above.inside.base c.whole_triple-triple.result c.over-over.result c.derive.new.self
-    (ap (λ (r : Row). r.ty) c.above.view_is) (ap (λ (r : Row). r.root) c.above.view_is) (ap (λ (r : Row). r.base) c.above.view_is) c.whole_triple-triple.ensures.whole
-    (c.over-over.ensures ∙ ap (λ (r : Row). over c.in_ok-trans.trans r.triple) c.above.view_is)
-    c.requires.triple laid dims c.dims_list-limits.ensures.limits c.derive.ensures)
+    let made : IsNewView c.args.id c.args.parent c.args.trans c.args.above.now (view_row c.args.id c.args.parent c.args.trans c.args.layout c.args.above.now) =
+    new_view laws c.args.id c.args.parent c.args.trans c.args.layout c.args.above.now c.requires.triple (record { dims = c.dims.result.now; layout = c.requires.laid; has_dims = c.dims.ensures; limits = c.dims_list-limits.ensures.limits }) in
+    let same = view_row_is c.args.id c.args.parent c.args.trans c.args.layout c.args.above.now (View c.args.parent c.in_ok-trans.trans c.in_ok-layout.layout) c.above.inside.ty c.above.inside.root c.shown-base.result.0 c.shown-base.result.1
+    (ap (λ (t : Trans). View c.args.parent t c.in_ok-layout.layout) c.in_ok-trans.ensures ∙ ap (λ (y : Layout). View c.args.parent c.args.trans y) c.in_ok-layout.ensures)
+    (ap (λ (r : Row). r.ty) c.above.view_is)
+    (ap (λ (r : Row). r.root) c.above.view_is)
+    (c.shown-base.ensures.base ∙ ap (λ (t : Trans). base_over c.args.id c.above.inside.base (over t c.above.inside.triple)) c.in_ok-trans.ensures ∙ ap (λ (r : Row). base_over c.args.id r.base (over c.args.trans r.triple)) c.above.view_is)
+    (c.shown-base.ensures.triple ∙ ap (λ (t : Trans). triple_over (dims_or (child_dims t c.above.inside.triple.dims)) (over t c.above.inside.triple)) c.in_ok-trans.ensures ∙ ap (λ (r : Row). triple_over (dims_or (child_dims c.args.trans r.triple.dims)) (over c.args.trans r.triple)) c.above.view_is) in
+    subst (IsNewView c.args.id c.args.parent c.args.trans c.args.above.now) (sym same) made

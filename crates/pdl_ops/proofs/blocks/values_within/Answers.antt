@@ -1,23 +1,27 @@
 -- One block more of the values is made, or has the first divisor 0; at the end all are made.
 use Rattle.std.proofs.Common.{◌≡◌, ℕ, ◌+◌, ◌*◌, ◌≤◌, ℤ, List, length, length-append, length-drop, ◌++◌, take, drop, map, All, arith, ap, sym, subst, ◌∙◌, None}
-use Rattle.std.proofs.lemmas.List.{length-map, length-take-le, take-append-le}
-use Rattle.pdl_buf.specs.Buffer.{TypedElements}
+use Rattle.std.proofs.lemmas.List.{length-map, length-take-le, take-append-le, drop-map, take-map}
+use Rattle.pdl_numbers.specs.Typed.{TypedElements}
 use Rattle.pdl_elem.specs.declared.Ty.{Ty}
 use Rattle.pdl_elem.specs.Blocks.{pairwise, zero_at}
 use Rattle.pdl_elem.specs.Numbers.{wrapped}
 use Rattle.pdl_elem.specs.Operators.{value_of}
 use Rattle.pdl_elem.specs.Types.{InRange, binary_result}
 use Rattle.pdl_shape.specs.Shape.{size_of}
-use Rattle.pdl_ops.proofs.Parts.{block_map, made_all, made_more, made_never}
+use Rattle.pdl_ops.proofs.Parts.{made_all, made_more, made_never}
 use Rattle.pdl_ops.proofs.blocks.values_within.Goals as goal
 
 pub returns-in-Err-clause-value : goal.returns-in-Err-clause-value
 returns-in-Err-clause-value c =
     let f : ℤ → ℤ = wrapped c.args.ty in
-    let m : length (map f c.args.b.now.elems) ≡ length c.args.b.now.elems = simp length-map in
-    made_never c.args.op c.args.ty _ _ _ _ c.loop-done.done c.min-size.result c.in-Err.place
+    let k : ℕ = c.loop-done.done in
+    let n : ℕ = c.min-size.result in
+    let bs : List ℤ = c.args.b.now.elems in
+    let m : length (map f bs) ≡ length bs = simp length-map in
+    let part : map f (take n (drop k bs)) ≡ take n (drop k (map f bs)) = simp (take-map, drop-map) in
+    made_never c.args.op c.args.ty _ _ _ _ k n c.in-Err.place
     (omega (arith, m, ap size_of c.strided_dims.ensures.dims)) c.loop-done.invariant.made
-    (block_map f c.args.b.now.elems c.loop-done.done c.min-size.result) (sym c.in-Err.ensures.refused)
+    part (sym c.in-Err.ensures.refused)
 
 pub loop-done-preserved : goal.loop-done-preserved
 loop-done-preserved c =
@@ -43,7 +47,7 @@ loop-done-preserved c =
       ty = ap (λ (p : TypedElements). p.ty) c.in_ok-extend.ensures.ok ∙ c.loop-done.invariant.ty;
       count = omega (arith, size, ap (λ (p : TypedElements). length p.elems) c.in_ok-extend.ensures.ok, length-append c.loop-done.made.elems (take n after));
       made = made_more c.args.op c.args.ty (map f xs) (map f bs) _ _ _ us vs k n (omega (arith, l, m)) (omega (arith, m, ap size_of c.strided_dims.ensures.dims)) c.loop-done.invariant.made
-          (block_map f xs k n) (block_map f bs k n) v z (subst P (sym block) c.in_default.ensures.in_range) (ap (λ (p : TypedElements). p.elems) c.in_ok-extend.ensures.ok);
+          (simp (take-map, drop-map)) (simp (take-map, drop-map)) v z (subst P (sym block) c.in_default.ensures.in_range) (ap (λ (p : TypedElements). p.elems) c.in_ok-extend.ensures.ok);
     }
 
 pub values_block-found-requires : goal.values_block-found-requires

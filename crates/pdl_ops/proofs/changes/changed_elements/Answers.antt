@@ -1,7 +1,7 @@
 -- One block more is changed, and all are at the end.
 use Rattle.std.proofs.Common.{◌≡◌, ℕ, ◌<◌, ℤ, List, length, length-append, take, drop, map, All, arith, ap, ap₂, sym, subst, ◌∙◌}
 use Rattle.pdl_lemmas.specs.Lists.{take_written}
-use Rattle.pdl_buf.specs.Buffer.{TypedElements}
+use Rattle.pdl_numbers.specs.Typed.{TypedElements}
 use Rattle.pdl_elem.specs.declared.Ty.{Ty}
 use Rattle.pdl_elem.specs.Types.{InRange}
 use Rattle.pdl_shape.specs.Shape.{size_of}

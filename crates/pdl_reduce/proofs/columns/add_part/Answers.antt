@@ -5,7 +5,7 @@ use Rattle.std.specs.Int.{w64}
 use Rattle.pdl_reduce.specs.Reductions.{nth_list}
 use Rattle.std.proofs.lemmas.List.{length-map, get_or-map}
 use Rattle.pdl_elem.specs.Numbers.{wrapped}
-use Rattle.pdl_buf.specs.Buffer.{TypedElements}
+use Rattle.pdl_numbers.specs.Typed.{TypedElements}
 use Rattle.pdl_reduce.specs.Across.{come_to}
 use Rattle.pdl_reduce.proofs.Across.{part_is}
 use Rattle.pdl_reduce.proofs.columns.add_part.Goals as goal

@@ -3,7 +3,7 @@ use Rattle.std.proofs.Common.{◌≡◌, ◌<◌, ◌+◌, ◌*◌, ◌++◌, �
 use Rattle.std.specs.Prelude.{slice_get}
 use Rattle.std.specs.List.{range_with_len}
 use Rattle.pdl_broadcast.specs.Walk.{Walk}
-use Rattle.pdl_buf.specs.Buffer.{TypedElements}
+use Rattle.pdl_numbers.specs.Typed.{TypedElements}
 use Rattle.pdl_shape.specs.Shape.{size_of}
 use Rattle.pdl_shape.specs.Stretched.{stretched_position}
 use Rattle.pdl_shape.specs.Triple.{whole_triple}

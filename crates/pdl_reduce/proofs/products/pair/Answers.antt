@@ -6,7 +6,7 @@ use Rattle.std.proofs.lemmas.List.FromFn.{length-map-range_with_len}
 use Rattle.pdl_elem.specs.Types.{InRange}
 use Rattle.pdl_shape.specs.Shape.{size_of}
 use Rattle.pdl_sig.specs.declared.Resolved.{Resolved}
-use Rattle.pdl_buf.specs.Buffer.{TypedElements}
+use Rattle.pdl_numbers.specs.Typed.{TypedElements}
 use Rattle.pdl_buf.specs.Made.{array_of}
 use Rattle.pdl_reduce.specs.Pairings.{paired_dims, paired_element}
 use Rattle.pdl_reduce.proofs.Resolved.{three_shapes}

@@ -1,7 +1,7 @@
 -- The lists are those along dimension 0, and the result has as many numbers as its dimensions say.
 use Rattle.std.proofs.Common.{◌≡◌, ◌*◌, ℕ, ℤ, List, All, length, arith, ap, ap₂, sym, subst, ◌∙◌, drop}
 use Rattle.std.specs.List.{flat_map}
-use Rattle.pdl_buf.specs.Buffer.{TypedElements}
+use Rattle.pdl_numbers.specs.Typed.{TypedElements}
 use Rattle.pdl_elem.specs.declared.Ty.{Ty}
 use Rattle.pdl_elem.specs.Types.{InRange}
 use Rattle.pdl_shape.specs.Shape.{IsDims, size_of}

@@ -1,7 +1,7 @@
 -- One number is made.
 use Rattle.std.proofs.Common.{◌≡◌, ◌*◌, ℕ, ℤ, List, [], ◌∷◌, All, length, arith, ap, sym, subst, ◌∙◌}
 use Rattle.std.specs.List.{flat_map}
-use Rattle.pdl_buf.specs.Buffer.{TypedElements}
+use Rattle.pdl_numbers.specs.Typed.{TypedElements}
 use Rattle.pdl_elem.specs.declared.Ty.{Ty}
 use Rattle.pdl_elem.specs.Types.{InRange}
 use Rattle.pdl_shape.specs.Shape.{size_of}

@@ -1,7 +1,7 @@
 -- Lists that are folded across are reduced one by one.
 use Rattle.std.proofs.Common.{◌≡◌, refl, ap, ap₂, sym, ◌∙◌}
 use Rattle.std.specs.List.{flat_map}
-use Rattle.pdl_buf.specs.Buffer.{TypedElements}
+use Rattle.pdl_numbers.specs.Typed.{TypedElements}
 use Rattle.pdl_reduce.specs.declared.Reduction.{Reduction}
 use Rattle.pdl_reduce.specs.declared.Reduction.TheVariants.{Sumover, Prodover, Maximum, Minimum}
 use Rattle.pdl_reduce.specs.Reductions.{is_extreme, lists, reduced_row, reduced_type}

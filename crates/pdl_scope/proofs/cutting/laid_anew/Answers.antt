@@ -1,11 +1,10 @@
 use Rattle.std.proofs.Common.{◌++◌, sym, ap, subst}
 use Rattle.std.specs.Prelude.{IfSome, true, false, ◌≡◌}
-use Rattle.pdl_world.specs.Cut.{has_views, reshape}
 use Rattle.pdl_world.specs.Paths.{parent_in}
 use Rattle.pdl_world.specs.Swept.{holds}
 use Rattle.pdl_world.specs.World.{World}
 use Rattle.pdl_engine.specs.State.{State as Engine}
-use Rattle.pdl_scope.proofs.Cuts.{held_after, noted_held}
+use Rattle.pdl_scope.proofs.Cuts.{held_reshaped, noted_held}
 use Rattle.pdl_scope.proofs.Held.{held_by}
 use Rattle.pdl_scope.proofs.cutting.laid_anew.Goals as goal
 
@@ -18,8 +17,7 @@ returns-clause-held g c = λ names ws held.
     let h = c.hold_parent.ensures.held names ws held in
     let world_is = ap (λ (s : Engine). s.world) c.hold_parent.ensures.same in
     let P : World → Type 0 = λ w. IfSome (parent_in w v) (λ p. holds left p ≡ true) in
-    let V : World → Type 0 = λ w. has_views w v ≡ false in
     let parent : P e.world = subst P (sym world_is) c.hold_parent.ensures.parent in
-    held_after c.reshape.result names ws e c.reshape.new.self (reshape e.world v ds) left h (c.reshape_laws.ensures.numbers e.world v ds h.whole.sound (subst V (sym world_is) c.requires.viewless))
+    held_reshaped c.reshape.result c.reshape_laws.ensures.numbers names ws e c.reshape.new.self v ds left h c.reshape.ensures.allowed
     (c.keeping_laws.ensures.reshaped e.world v ds (held_by names ws ++ left) h.whole.sound h.reached (noted_held (held_by names ws) left (parent_in e.world v) parent))
     c.reshape.ensures.ok c.reshape.ensures.err c.reshape.ensures.family.holds c.reshape.ensures.family.next c.reshape.ensures.sound

@@ -1,6 +1,5 @@
-use Rattle.std.proofs.Common.{refl, ◌∙◌}
-use Rattle.pdl_scope.proofs.Watched.{watched_is}
+use Rattle.pdl_scope.proofs.Watched.{live_watch}
 use Rattle.pdl_scope.proofs.watching.is_watched.Goals as goal
 
-pub returns : goal.returns
-returns c = c.contains.ensures.value ∙ watched_is c.args.watches.now c.args.id _ refl (λ u. refl)
+pub is_below-requires : goal.is_below-requires
+is_below-requires c = live_watch c.args.engine.now.world c.args.watches.now c.loop-watch.watch-index c.requires

@@ -1,4 +1,5 @@
 use Rattle.std.proofs.Common.{rules, ◌≡◌, [], ◌∷◌, ◌++◌, ◌+◌, ◌<◌, ◌≤◌, List, Ok, length, refl, sym, ap, subst, ◌∙◌, arith, take}
+use Rattle.std.proofs.lemmas.List.{take_all}
 use Rattle.pdl_syntax.specs.declared.tree.Arg.{Arg}
 use Rattle.pdl_syntax.specs.Tree.{Tree, none, call}
 use Rattle.pdl_syntax.specs.TreeOf.{tree_of, args_of, argument_of}
@@ -7,9 +8,12 @@ use Rattle.pdl_machine.specs.Names.{Names}
 use Rattle.pdl_machine.specs.Outcome.{Valued}
 use Rattle.pdl_machine.specs.Calls.{call_value}
 use Rattle.pdl_machine.specs.Value.{value_of, taken}
+use Rattle.pdl_scope.specs.Growth.{grows_refl}
 use Rattle.pdl_session.specs.declared.given.Given.{Given}
 use Rattle.pdl_scope.specs.Answers.{IsFault, Evaluates}
+use Rattle.pdl_session.specs.Bounds.{EvaluatesPlainly}
 use Rattle.pdl_session.specs.Arguments.{argument, arguments, AreGivenLive}
+use Rattle.pdl_session.proofs.Bounded.{list_plain, named_plain, number_plain}
 use Rattle.pdl_session.proofs.Facts.{hands_on, handed_on, first_fault, grows_trans}
 use Rattle.pdl_session.proofs.Evals.{fault_at, arrays_at, weight, weights, weights_at, named_is, list_is, unary_tree, binary_tree, unary_is, binary_is, unary_fault, left_fault, right_fault, tree_is, with_given, call_is, arguments_snoc, live_snoc, given_still, args_more}
 use Rattle.pdl_session.proofs.eval.+eval.Goals as goal
@@ -133,6 +137,35 @@ eval-returns-in_ok-right-in-Binary-clause-grown g t c =
 pub eval-returns-in_ok-given-in-Call-clause-grown : goal.eval-returns-in_ok-given-in-Call-clause-grown
 eval-returns-in_ok-given-in-Call-clause-grown g t c = grows_trans c.args.scope.now c.take.new.scope c.call.new.scope c.take.ensures.grown c.call.ensures.grown
 
+pub eval-returns-in_err-operand-in-Unary-clause-grown : goal.eval-returns-in_err-operand-in-Unary-clause-grown
+eval-returns-in_err-operand-in-Unary-clause-grown g t c = c.eval.ensures.grown
+
+pub eval-returns-in_err-left-in-Binary-clause-grown : goal.eval-returns-in_err-left-in-Binary-clause-grown
+eval-returns-in_err-left-in-Binary-clause-grown g t c = c.eval-in-Binary.ensures.grown
+
+pub eval-returns-in_err-given-in-Call-clause-grown : goal.eval-returns-in_err-given-in-Call-clause-grown
+eval-returns-in_err-given-in-Call-clause-grown g t c = c.take.ensures.grown
+
+pub take-loop-arg-init : goal.take-loop-arg-init
+take-loop-arg-init g t c = record { so_far = λ a front before. before; grown = grows_refl c.args.scope.now; live = c.requires.live }
+
+pub take-returns-clause-value : goal.take-returns-clause-value
+take-returns-clause-value g t c = λ a front before.
+    ap (λ (xs : List Arg). taken c.args.scope.now.names a (args_of xs front)) (sym (take_all c.loop-arg.arg-index c.args.args.now c.loop-arg-test.false))
+    ∙ c.loop-arg.invariant.so_far a front before
+
+pub take-returns-clause-live : goal.take-returns-clause-live
+take-returns-clause-live g t c = c.loop-arg.invariant.live
+
+pub take-returns-clause-grown : goal.take-returns-clause-grown
+take-returns-clause-grown g t c = c.loop-arg.invariant.grown
+
+pub take-returns-in_err-one-clause-grown : goal.take-returns-in_err-one-clause-grown
+take-returns-in_err-one-clause-grown g t c = grows_trans c.args.scope.now c.loop-arg.scope c.take_one.new.scope c.loop-arg.invariant.grown c.take_one.ensures.grown
+
+pub take-returns-in_err-push-clause-grown : goal.take-returns-in_err-push-clause-grown
+take-returns-in_err-push-clause-grown g t c = grows_trans c.args.scope.now c.loop-arg.scope c.take_one.new.scope c.loop-arg.invariant.grown c.take_one.ensures.grown
+
 pub take-take_one-requires : goal.take-take_one-requires
 take-take_one-requires g t c =
     let lt : c.loop-arg.arg-index < length c.args.args.now = omega arith in
@@ -165,3 +198,51 @@ take-loop-arg-preserved g t c =
           (given_still c.loop-arg.scope.arrays.world c.take_one.new.scope.arrays.world c.take_one.ensures.grown.still c.loop-arg.given.items c.loop-arg.invariant.live)
           c.in_ok-one.ensures.live);
     }
+
+pub eval-returns-in_ok-given-in-Call-clause-plain : goal.eval-returns-in_ok-given-in-Call-clause-plain
+eval-returns-in_ok-given-in-Call-clause-plain g t c =
+    let e = tree_is c.args.value.now c.in-Call.name c.in-Call.args c.deref-in-Call.result.now (c.calls_are_trees.ensures c.in-Call.name c.in-Call.args) c.in-Call.is c.deref-in-Call.ensures.value in
+    subst (λ (x : Tree). EvaluatesPlainly x c.args.scope.now c.call.new.scope c.args.steps.now c.call.new.steps c.call.result) (sym e) tt
+
+pub eval-returns-in_err-given-in-Call-clause-plain : goal.eval-returns-in_err-given-in-Call-clause-plain
+eval-returns-in_err-given-in-Call-clause-plain g t c =
+    let e = tree_is c.args.value.now c.in-Call.name c.in-Call.args c.deref-in-Call.result.now (c.calls_are_trees.ensures c.in-Call.name c.in-Call.args) c.in-Call.is c.deref-in-Call.ensures.value in
+    subst (λ (x : Tree). EvaluatesPlainly x c.args.scope.now c.take.new.scope c.args.steps.now c.take.new.steps c.from_residual-in_err-given-in-Call.result) (sym e) tt
+
+pub eval-returns-in_ok-operand-in-Unary-clause-plain : goal.eval-returns-in_ok-operand-in-Unary-clause-plain
+eval-returns-in_ok-operand-in-Unary-clause-plain g t c =
+    let is = unary_tree c.args.value.now c.deref-in-Unary.result.now c.in-Unary.op _ c.in-Unary.is c.deref-in-Unary.ensures in
+    subst (λ (x : Tree). EvaluatesPlainly x c.args.scope.now c.unary.new.self c.args.steps.now c.unary.new.steps c.unary.result) (sym is) tt
+
+pub eval-returns-in_err-operand-in-Unary-clause-plain : goal.eval-returns-in_err-operand-in-Unary-clause-plain
+eval-returns-in_err-operand-in-Unary-clause-plain g t c =
+    let is = unary_tree c.args.value.now c.deref-in-Unary.result.now c.in-Unary.op _ c.in-Unary.is c.deref-in-Unary.ensures in
+    subst (λ (x : Tree). EvaluatesPlainly x c.args.scope.now c.eval.new.scope c.args.steps.now c.eval.new.steps c.from_residual.result) (sym is) tt
+
+pub eval-returns-in_err-left-in-Binary-clause-plain : goal.eval-returns-in_err-left-in-Binary-clause-plain
+eval-returns-in_err-left-in-Binary-clause-plain g t c =
+    let is = binary_tree c.args.value.now c.deref-in-Binary.result.now c.in-Binary.right.value c.in-Binary.op _ _ c.in-Binary.is c.deref-in-Binary.ensures refl in
+    subst (λ (x : Tree). EvaluatesPlainly x c.args.scope.now c.eval-in-Binary.new.scope c.args.steps.now c.eval-in-Binary.new.steps c.from_residual-in_err-left-in-Binary.result) (sym is) tt
+
+pub eval-returns-in_err-right-in-Binary-clause-plain : goal.eval-returns-in_err-right-in-Binary-clause-plain
+eval-returns-in_err-right-in-Binary-clause-plain g t c =
+    let is = binary_tree c.args.value.now c.deref-in-Binary.result.now c.deref-in-Binary-2.result.now c.in-Binary.op _ _ c.in-Binary.is c.deref-in-Binary.ensures c.deref-in-Binary-2.ensures in
+    subst (λ (x : Tree). EvaluatesPlainly x c.args.scope.now c.eval-in-Binary-2.new.scope c.args.steps.now c.eval-in-Binary-2.new.steps c.from_residual-in_err-right-in-Binary.result) (sym is) tt
+
+pub eval-returns-in_ok-right-in-Binary-clause-plain : goal.eval-returns-in_ok-right-in-Binary-clause-plain
+eval-returns-in_ok-right-in-Binary-clause-plain g t c =
+    let is = binary_tree c.args.value.now c.deref-in-Binary.result.now c.deref-in-Binary-2.result.now c.in-Binary.op _ _ c.in-Binary.is c.deref-in-Binary.ensures c.deref-in-Binary-2.ensures in
+    subst (λ (x : Tree). EvaluatesPlainly x c.args.scope.now c.binary.new.self c.args.steps.now c.binary.new.steps c.binary.result) (sym is) tt
+
+pub eval-returns-in-Number-clause-plain : goal.eval-returns-in-Number-clause-plain
+eval-returns-in-Number-clause-plain g t c = number_plain c.args.value.now c.in-Number.number c.args.scope.now c.number_array.new.scope _ _ c.number_array.result c.in-Number.is c.number_array.ensures.root
+
+pub eval-returns-in-Some-clause-plain : goal.eval-returns-in-Some-clause-plain
+eval-returns-in-Some-clause-plain g t c = named_plain c.args.value.now _ c.args.scope.now _ _ c.in-Named.is
+
+pub eval-returns-in-None-clause-plain : goal.eval-returns-in-None-clause-plain
+eval-returns-in-None-clause-plain g t c = named_plain c.args.value.now _ c.args.scope.now _ _ c.in-Named.is
+
+pub eval-returns-in-List-clause-plain : goal.eval-returns-in-List-clause-plain
+eval-returns-in-List-clause-plain g t c =
+    list_plain c.args.value.now c.deref.result.now _ c.args.scope.now c.make_like.new.self _ _ c.make_like.result c.in-List.is c.deref.ensures c.make_like.ensures.roots c.make_like.ensures.fresh c.make_like.ensures.counted

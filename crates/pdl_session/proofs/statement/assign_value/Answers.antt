@@ -2,6 +2,7 @@ use Rattle.std.specs.Prelude.{map}
 use Rattle.pdl_syntax.specs.TreeOf.{tree_of}
 use Rattle.pdl_syntax.specs.StatementTree.{view_of}
 use Rattle.pdl_machine.specs.Step.{target, assigned}
+use Rattle.pdl_session.proofs.Bounded.{no_views_of, target_refused, value_refused, assigned_plainly, assigned_readable}
 use Rattle.pdl_session.proofs.Facts.{ends_at, grows_trans}
 use Rattle.pdl_session.proofs.Assigning.{assigned_told}
 use Rattle.pdl_session.proofs.Statements.{runs_assigned, assigned_refused}
@@ -26,3 +27,23 @@ returns-clause-told g c =
     assigned_told c.assign.result c.args.number c.args.scope.now c.eval.new.scope c.assign.new.self (assigned c.args.sign c.eval.new.scope.arrays c.in_ok-to.to c.in_ok-from.from)
     c.watching_laws.ensures.growing c.whole.ensures c.whole-2.ensures (grows_trans c.args.scope.now c.target.new.scope c.eval.new.scope c.target.ensures.grown c.eval.ensures.grown)
     c.assign.ensures.runs c.assign.ensures.told
+
+pub returns-in_err-to-clause-moves : goal.returns-in_err-to-clause-moves
+returns-in_err-to-clause-moves g c =
+    target_refused c.args.to.now.name (map view_of c.args.to.now.views.items) c.args.sign (tree_of c.args.value.now) c.args.scope.now c.target.new.scope c.args.steps.now c.target.new.steps c.target.result
+    (λ none. c.target.ensures.bare (no_views_of c.args.to.now.views.items none))
+
+pub returns-in_err-from-clause-moves : goal.returns-in_err-from-clause-moves
+returns-in_err-from-clause-moves g c =
+    value_refused c.args.to.now.name (map view_of c.args.to.now.views.items) c.args.sign (tree_of c.args.value.now) c.args.scope.now c.target.new.scope c.eval.new.scope c.args.steps.now c.target.new.steps c.eval.new.steps c.target.result c.eval.result
+    (λ none. c.target.ensures.bare (no_views_of c.args.to.now.views.items none)) c.eval.ensures.plain
+
+pub returns-clause-moves : goal.returns-clause-moves
+returns-clause-moves g c =
+    assigned_plainly c.growth_laws.ensures.older c.args.to.now.name (map view_of c.args.to.now.views.items) c.args.sign (tree_of c.args.value.now) c.args.scope.now c.target.new.scope c.eval.new.scope c.assign.new.self c.args.steps.now c.target.new.steps c.eval.new.steps c.assign.new.steps c.in_ok-to.to c.in_ok-from.from
+    (λ none. c.in_ok-to.ensures.bare (no_views_of c.args.to.now.views.items none)) c.in_ok-to.ensures.value.1 c.in_ok-from.ensures.plain c.eval.ensures.grown c.whole-2.ensures c.assign.ensures.at_once c.assign.ensures.views
+
+pub returns-clause-readable : goal.returns-clause-readable
+returns-clause-readable g c =
+    assigned_readable c.assign.result c.args.to.now.name (map view_of c.args.to.now.views.items) c.args.sign (tree_of c.args.value.now) c.args.scope.now c.target.new.scope c.assign.new.self c.args.steps.now c.target.new.steps c.in_ok-to.to
+    (λ none. c.in_ok-to.ensures.bare (no_views_of c.args.to.now.views.items none)) c.assign.ensures.warm

@@ -1,4 +1,4 @@
-use Rattle.std.proofs.Common.{◌≡◌, ◌<◌, ◌+◌, List, Ok, get_or, length, take, sym, ap, subst, ◌∙◌, arith}
+use Rattle.std.proofs.Common.{refl, ◌≡◌, ◌<◌, ◌+◌, List, Ok, get_or, length, take, sym, ap, subst, ◌∙◌, arith}
 use Rattle.std.specs.Prelude.{map}
 use Rattle.std.proofs.lemmas.List.{length-map, get_or-map}
 use Rattle.pdl_syntax.specs.declared.tree.ViewCall.{ViewCall}
@@ -61,4 +61,18 @@ loop-view-preserved g c =
       so_far = ap (value_of names a) more ∙ here;
       grown = grows_trans c.args.scope.now c.loop-view.scope c.call_on.new.scope c.loop-view.invariant.grown c.call_on.ensures.grown;
       live = (c.in_ok-id.ensures.value a so_far (subst N (sym c.loop-view.invariant.grown.names) c.loop-view.invariant.so_far)).1;
+      begun = λ none. absurd (omega (arith, none));
     }
+
+pub returns-in-None-clause-bare : goal.returns-in-None-clause-bare
+returns-in-None-clause-bare g c = λ none. record { same = refl; unmoved = refl; is = tt }
+
+pub returns-in_err-id-clause-bare : goal.returns-in_err-id-clause-bare
+returns-in_err-id-clause-bare g c = λ none.
+    let count : length c.args.target.now.views.items ≡ 0 = ap length none in
+    absurd (omega (arith, count))
+
+pub returns-clause-bare : goal.returns-clause-bare
+returns-clause-bare g c = λ none.
+    let count : length c.args.target.now.views.items ≡ 0 = ap length none in
+    c.loop-view.invariant.begun (omega (arith, count))

@@ -5,6 +5,7 @@ use Rattle.pdl_world.specs.Sound.{IsLive}
 use Rattle.pdl_machine.specs.Step.{target}
 use Rattle.pdl_machine.specs.Value.{value_of}
 use Rattle.pdl_scope.specs.Scope.{Grows}
+use Rattle.pdl_session.specs.Bounds.{IsBare}
 use Rattle.pdl_session.proofs.target.target.Given as goal
 
 -- the views so far are made
@@ -13,4 +14,5 @@ invariant-loop-view g l = record {
   so_far : value_of l.fn.scope.names l.fn.scope.arrays (target l.target.name (map view_of (take l.view-index l.target.views.items))) ≡ Ok (l.scope.arrays, l.id);
   grown : Grows l.fn.scope l.scope;
   live : IsLive l.scope.arrays.world l.id;
+  begun : l.view-index ≡ 0 → IsBare l.target.name l.fn.scope l.scope l.fn.steps l.steps (Ok l.id);
 }

@@ -1,4 +1,5 @@
 use Rattle.pdl_shell.proofs.HeadlineLemmas.{ends_quiet, memory_quiet, watcher_rises, source_leaves, done_reads, fault_reads, ends_write, all_front, cut_off_front}
+use Rattle.pdl_shell.proofs.Guards.{few_taken, no_part_behind, quiet_undisturbed, watcher_fault_front}
 use Rattle.pdl_shell.proofs.laws.headline_laws.Goals as goal
 
 pub returns-clause-quiet : goal.returns-clause-quiet
@@ -36,3 +37,15 @@ returns-clause-tells c = cut_off_front
 
 pub returns-clause-usage : goal.returns-clause-usage
 returns-clause-usage c answers = answers
+
+pub returns-clause-tells_some : goal.returns-clause-tells_some
+returns-clause-tells_some c = watcher_fault_front
+
+pub returns-clause-soon : goal.returns-clause-soon
+returns-clause-soon c = no_part_behind c.run_laws.ensures.ended c.so_far_laws.ensures.grows
+
+pub returns-clause-few : goal.returns-clause-few
+returns-clause-few c = few_taken
+
+pub returns-clause-undisturbed : goal.returns-clause-undisturbed
+returns-clause-undisturbed c = quiet_undisturbed

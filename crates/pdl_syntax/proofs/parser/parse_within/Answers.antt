@@ -17,6 +17,6 @@ returns-clause-exact c =
 
 pub returns-clause-well_made : goal.returns-clause-well_made
 returns-clause-well_made c =
-    well_made_of c.parsing_is_the_grammar.ensures c.args.text.now c.args.tokens.now c.literals_are_arrays.ensures c.read.result
+    well_made_of c.parsing_is_the_grammar.ensures c.args.text.now c.args.tokens.now c.spelled_are_well_made.ensures c.lexemes_hold_texts.ensures c.requires.tokens c.read.result
     (answers_of c.parsing_is_the_grammar.ensures c.args.text.now c.args.tokens.now c.read.result
     (subst (λ (ls : List Lexeme). IsParsed (checked_lexemes c.args.text.now ls) c.read.result) (c.as_slice.ensures.value ∙ c.in_ok-read_lexemes.ensures) c.read.ensures))

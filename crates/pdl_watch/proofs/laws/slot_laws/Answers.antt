@@ -1,5 +1,7 @@
 use Rattle.pdl_watch.specs.Watched.{told_more}
-use Rattle.pdl_watch.proofs.SlotLemmas.{changed_long, stops_short, ends_told_short}
+use Rattle.pdl_watch.specs.Slots.{ended_where}
+use Rattle.pdl_watch.proofs.Unchanged.{below_self, below_trans}
+use Rattle.pdl_watch.proofs.SlotLemmas.{none_changed, changed_long, stops_short, ends_told_short}
 use Rattle.pdl_watch.proofs.Emptied.{quiet_none, same_told, present_told, present_left, none_emptied, ended_emptied, emptied_told, emptied_twice, emptied_long, told_open, emptied_open}
 use Rattle.pdl_watch.proofs.Counts.{stops_one, ends_one, ended_one}
 use Rattle.pdl_watch.proofs.laws.slot_laws.Goals as goal
@@ -54,3 +56,12 @@ returns-clause-ends_one c = ends_one
 
 pub returns-clause-ended_one : goal.returns-clause-ended_one
 returns-clause-ended_one c = ended_one
+
+pub returns-clause-below : goal.returns-clause-below
+returns-clause-below c = below_self
+
+pub returns-clause-below_twice : goal.returns-clause-below_twice
+returns-clause-below_twice c = below_trans
+
+pub returns-clause-nothing : goal.returns-clause-nothing
+returns-clause-nothing c = none_changed ended_where

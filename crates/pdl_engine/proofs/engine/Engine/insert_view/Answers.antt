@@ -29,7 +29,7 @@ pub insert-requires-clause-new_root : goal.insert-requires-clause-new_root
 insert-requires-clause-new_root c = no_root c.row_laws.ensures c.self.inside.table c.self.inside.next c.self.invariant.0.order.still c.self.invariant.0.below
 
 pub insert-requires-clause-unmarked : goal.insert-requires-clause-unmarked
-insert-requires-clause-unmarked c = λ n. c.in_ok-node.ensures.unmarked
+insert-requires-clause-unmarked c = λ n. c.in_ok-node.ensures.new.unmarked
 
 pub view_node-requires-clause-triple : goal.view_node-requires-clause-triple
 view_node-requires-clause-triple c = subst (λ (r : Row). IsTriple r.triple) (sym c.node-above.ensures) (c.row_laws.ensures.seen.sized_at c.self.inside.table c.self.invariant.0.sized c.args.parent (live_has c.row_laws.ensures c.self.inside.table c.args.parent (subst (λ (w : World). IsLive w c.args.parent) (sym (ap (λ (s : State). s.world) c.self.view_is)) c.requires.live))).triple
@@ -46,7 +46,7 @@ invariant_of-self c = (
 pub invariant_of-self-2 : goal.invariant_of-self-2
 invariant_of-self-2 c =
     let live : IsLive (world_of c.self.inside.table) c.args.parent = subst (λ (w : World). IsLive w c.args.parent) (sym (ap (λ (s : State). s.world) c.self.view_is)) c.requires.live in
-    let made : IsNewView c.self.inside.next c.args.parent c.args.trans (row_at c.self.inside.table c.args.parent) c.in_ok-node.node = subst (λ (a : Row). IsNewView c.self.inside.next c.args.parent c.args.trans a c.in_ok-node.node) c.node-above.ensures c.in_ok-node.ensures in
+    let made : IsNewView c.self.inside.next c.args.parent c.args.trans (row_at c.self.inside.table c.args.parent) c.in_ok-node.node = subst (λ (a : Row). IsNewView c.self.inside.next c.args.parent c.args.trans a c.in_ok-node.node) c.node-above.ensures c.in_ok-node.ensures.new in
     let grown : IsGrown c.self.inside.table c.self.inside.holds c.insert.new.holds c.self.inside.next c.in_ok-node.node = view_grown c.row_laws.ensures c.self.inside.table c.self.inside.holds c.insert.new.holds c.self.inside.next c.args.parent c.args.trans c.in_ok-node.node c.self.invariant.0 (live_has c.row_laws.ensures c.self.inside.table c.args.parent live) made
     (c.growth_laws.ensures.sound (world_of c.self.inside.table) c.self.inside.next (view c.args.parent c.args.trans) c.self.invariant.0.sound (below_world c.self.inside.table c.self.inside.next c.self.invariant.0.below)
     (record { well_formed = c.requires.well_formed; live = live; allowed = ap (λ w. view_refusal w c.args.parent c.args.trans) (ap (λ (s : State). s.world) c.self.view_is) ∙ c.requires.allowed }))
@@ -58,7 +58,7 @@ invariant_of-self-2 c =
 pub returns-clause-made : goal.returns-clause-made
 returns-clause-made c =
     let live : IsLive (world_of c.self.inside.table) c.args.parent = subst (λ (w : World). IsLive w c.args.parent) (sym (ap (λ (s : State). s.world) c.self.view_is)) c.requires.live in
-    let made : IsNewView c.self.inside.next c.args.parent c.args.trans (row_at c.self.inside.table c.args.parent) c.in_ok-node.node = subst (λ (a : Row). IsNewView c.self.inside.next c.args.parent c.args.trans a c.in_ok-node.node) c.node-above.ensures c.in_ok-node.ensures in
+    let made : IsNewView c.self.inside.next c.args.parent c.args.trans (row_at c.self.inside.table c.args.parent) c.in_ok-node.node = subst (λ (a : Row). IsNewView c.self.inside.next c.args.parent c.args.trans a c.in_ok-node.node) c.node-above.ensures c.in_ok-node.ensures.new in
     let grown : IsGrown c.self.inside.table c.self.inside.holds c.insert.new.holds c.self.inside.next c.in_ok-node.node = view_grown c.row_laws.ensures c.self.inside.table c.self.inside.holds c.insert.new.holds c.self.inside.next c.args.parent c.args.trans c.in_ok-node.node c.self.invariant.0 (live_has c.row_laws.ensures c.self.inside.table c.args.parent live) made
     (c.growth_laws.ensures.sound (world_of c.self.inside.table) c.self.inside.next (view c.args.parent c.args.trans) c.self.invariant.0.sound (below_world c.self.inside.table c.self.inside.next c.self.invariant.0.below)
     (record { well_formed = c.requires.well_formed; live = live; allowed = ap (λ w. view_refusal w c.args.parent c.args.trans) (ap (λ (s : State). s.world) c.self.view_is) ∙ c.requires.allowed }))
@@ -70,7 +70,7 @@ returns-clause-made c =
 pub returns-clause-sound : goal.returns-clause-sound
 returns-clause-sound c =
     let live : IsLive (world_of c.self.inside.table) c.args.parent = subst (λ (w : World). IsLive w c.args.parent) (sym (ap (λ (s : State). s.world) c.self.view_is)) c.requires.live in
-    let made : IsNewView c.self.inside.next c.args.parent c.args.trans (row_at c.self.inside.table c.args.parent) c.in_ok-node.node = subst (λ (a : Row). IsNewView c.self.inside.next c.args.parent c.args.trans a c.in_ok-node.node) c.node-above.ensures c.in_ok-node.ensures in
+    let made : IsNewView c.self.inside.next c.args.parent c.args.trans (row_at c.self.inside.table c.args.parent) c.in_ok-node.node = subst (λ (a : Row). IsNewView c.self.inside.next c.args.parent c.args.trans a c.in_ok-node.node) c.node-above.ensures c.in_ok-node.ensures.new in
     let grown : IsGrown c.self.inside.table c.self.inside.holds c.insert.new.holds c.self.inside.next c.in_ok-node.node = view_grown c.row_laws.ensures c.self.inside.table c.self.inside.holds c.insert.new.holds c.self.inside.next c.args.parent c.args.trans c.in_ok-node.node c.self.invariant.0 (live_has c.row_laws.ensures c.self.inside.table c.args.parent live) made
     (c.growth_laws.ensures.sound (world_of c.self.inside.table) c.self.inside.next (view c.args.parent c.args.trans) c.self.invariant.0.sound (below_world c.self.inside.table c.self.inside.next c.self.invariant.0.below)
     (record { well_formed = c.requires.well_formed; live = live; allowed = ap (λ w. view_refusal w c.args.parent c.args.trans) (ap (λ (s : State). s.world) c.self.view_is) ∙ c.requires.allowed }))
@@ -80,7 +80,7 @@ returns-clause-sound c =
 pub returns-clause-lent : goal.returns-clause-lent
 returns-clause-lent c =
     let live : has c.self.inside.table c.args.parent ≡ true = live_has c.row_laws.ensures c.self.inside.table c.args.parent (subst (λ (w : World). IsLive w c.args.parent) (sym (ap (λ (s : State). s.world) c.self.view_is)) c.requires.live) in
-    let made : IsNewView c.self.inside.next c.args.parent c.args.trans (row_at c.self.inside.table c.args.parent) c.in_ok-node.node = subst (λ (a : Row). IsNewView c.self.inside.next c.args.parent c.args.trans a c.in_ok-node.node) c.node-above.ensures c.in_ok-node.ensures in
+    let made : IsNewView c.self.inside.next c.args.parent c.args.trans (row_at c.self.inside.table c.args.parent) c.in_ok-node.node = subst (λ (a : Row). IsNewView c.self.inside.next c.args.parent c.args.trans a c.in_ok-node.node) c.node-above.ensures c.in_ok-node.ensures.new in
     let old : State = state_of c.self.inside.table c.self.inside.holds c.self.inside.next in
     let n : IsNew c.self.inside.table c.self.inside.next c.in_ok-node.node = new_view c.row_laws.ensures c.self.inside.table c.self.inside.next c.args.parent c.args.trans c.in_ok-node.node c.self.invariant.0.order.still c.self.invariant.0.below live made in
     subst (λ (s : State). IsLentAs s c.args.parent c.self.inside.next (state_of c.insert.new.table c.insert.new.holds c.in-Some.next)) c.self.view_is

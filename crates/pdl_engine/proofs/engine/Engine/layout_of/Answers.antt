@@ -4,7 +4,7 @@ use Rattle.pdl_world.specs.Formula.{child_dims}
 use Rattle.pdl_world.specs.Paths.{path}
 use Rattle.pdl_world.specs.Refused.{refusal_at}
 use Rattle.pdl_world.specs.World.{dims_in}
-use Rattle.pdl_engine.specs.Faults.{Names}
+use Rattle.pdl_nodes.specs.Faults.{Names}
 use Rattle.pdl_engine.proofs.Refusals.{deep_at, names_at}
 use Rattle.pdl_engine.proofs.engine.Engine.layout_of.Goals as goal
 

@@ -1,6 +1,6 @@
 use Rattle.std.proofs.Common.{◌≡◌, ◌∷◌, refl, sym, ◌∙◌, ap, subst, arith}
 use Rattle.pdl_lemmas.specs.Results.{on_err}
-use Rattle.pdl_buf.specs.Buffer.{TypedElements}
+use Rattle.pdl_numbers.specs.Typed.{TypedElements}
 use Rattle.pdl_world.specs.Sound.{IsSound}
 use Rattle.pdl_world.specs.World.{ArrayDef, root}
 use Rattle.pdl_nodes.specs.Holds.{Beside}

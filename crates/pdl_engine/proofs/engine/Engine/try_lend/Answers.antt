@@ -1,5 +1,5 @@
 use Rattle.std.proofs.Common.{◌≡◌, true, false, Some, refl, sym, ◌∙◌, ap, subst}
-use Rattle.pdl_buf.specs.Buffer.{TypedElements}
+use Rattle.pdl_numbers.specs.Typed.{TypedElements}
 use Rattle.pdl_world.specs.Sound.{IsLive}
 use Rattle.pdl_world.specs.World.{World}
 use Rattle.pdl_nodes.specs.Row.{Row}

@@ -1,11 +1,11 @@
 use Rattle.std.proofs.Common.{sym, ◌∙◌, ap}
-use Rattle.pdl_nodes.specs.Cut.{rooted_in}
+use Rattle.pdl_nodes.specs.Renewed.{rooted_in}
 use Rattle.pdl_nodes.specs.Row.{Row, parent_of}
 use Rattle.pdl_nodes.specs.Table.{rows_of}
 use Rattle.pdl_nodes.proofs.table.Table.become_root.Goals as goal
 use Rattle.pdl_nodes.proofs.Calls.{has_key, node_is, changed_one, table_falls}
 use Rattle.pdl_nodes.proofs.Counted.{counted_rooted, counted_same, parent_counted}
-use Rattle.pdl_nodes.proofs.Derives.{rooted_here, rooted_others}
+use Rattle.pdl_nodes.proofs.RenewLoop.{rooted_here, rooted_others}
 use Rattle.pdl_nodes.proofs.Moved.{listed_rooted}
 use Rattle.pdl_nodes.proofs.Listing.{one_listed}
 

@@ -1,14 +1,19 @@
-use Rattle.std.proofs.Common.{[], Ok, sym, ap, subst, ◌∙◌}
-use Rattle.pdl_world.specs.World.{World, assign}
+use Rattle.std.proofs.Common.{◌≡◌, ◌+◌, ◌≤◌, true, [], length, Ok, sym, ap, subst, ◌∙◌, arith}
+use Rattle.pdl_world.specs.World.{World, assign, dims_in}
 use Rattle.pdl_machine.specs.State.{State, with_arrays, AreLive}
 use Rattle.pdl_machine.specs.Step.{assigned}
 use Rattle.pdl_machine.specs.Then.{and_then}
 use Rattle.pdl_machine.specs.Watches.{Watches, attached, notices}
 use Rattle.pdl_scope.specs.Answers.{Prints}
-use Rattle.pdl_scope.specs.Scope.{machine, names_in, state_in, IsHeld, Scope as Seen}
+use Rattle.pdl_scope.specs.Scope.{engine_of, machine, names_in, state_in, IsHeld, Scope as Seen}
 use Rattle.pdl_scope.proofs.Growing.{readied, whole_assigned, values_written}
 use Rattle.pdl_scope.proofs.Held.{numbers, held_readied, held_assigned}
 use Rattle.pdl_scope.proofs.Watched.{live_back}
+use Rattle.pdl_shape.specs.Shape.{size_of}
+use Rattle.pdl_world.specs.Sound.{IsLive}
+use Rattle.pdl_engine.specs.Reading.{KeepsViews}
+use Rattle.pdl_engine.specs.State.{is_fresh}
+use Rattle.pdl_scope.proofs.Bounds.{read_views, warmed, written_views}
 use Rattle.pdl_scope.proofs.scope.Scope.assign.Goals as goal
 
 pub foreseen-requires-clause-watched : goal.foreseen-requires-clause-watched
@@ -57,3 +62,33 @@ returns-clause-told g c =
     ∙ ap (λ (u : World). notices n w u ws) (sym world)
     ∙ ap (λ (u : World). notices n u new ws) (c.written.ensures.same.world ∙ ap (λ (s : Seen). s.arrays.world) c.self.view_is)
     ∙ ap (λ (us : Watches). notices n c.args.self.now.arrays.world new us) (ap (λ (s : Seen). s.watches) c.self.view_is)
+
+pub returns-clause-views : goal.returns-clause-views
+returns-clause-views g c =
+    let e = c.self.inside.engine in
+    let late = c.foreseen.new.engine in
+    let P : Seen → Type 0 = λ s. KeepsViews c.assign.new.self.world s.arrays.world in
+    subst P c.self.view_is (λ v is.
+    read_views e c.written.new.engine c.written.ensures.same v
+    (read_views c.written.new.engine late c.foreseen.ensures.same v
+    (written_views c.assignment_laws.ensures.looks late.world c.assign.new.self.world c.args.target c.deref-3.result.now c.assign.ensures.world v is)))
+
+pub returns-clause-warm : goal.returns-clause-warm
+returns-clause-warm g c =
+    let late = c.foreseen.new.engine in
+    let P : Seen → Type 0 = λ s. IsLive s.arrays.world c.args.target in
+    let live : IsLive c.self.inside.engine.world c.args.target = subst P (sym c.self.view_is) c.requires.target in
+    let there : IsLive late.world c.args.target = subst (λ w. IsLive w c.args.target) (sym (c.foreseen.ensures.same.world ∙ c.written.ensures.same.world)) live in
+    warmed c.assignment_laws.ensures.bases late c.assign.new.self c.args.target c.deref-3.result.now there c.assign.ensures.world c.assign.ensures.target
+
+pub returns-clause-at_once : goal.returns-clause-at_once
+returns-clause-at_once g c =
+    let v = c.args.target in
+    let P : Seen → Type 0 = λ s. is_fresh (engine_of s) v ≡ true → is_fresh (engine_of s) c.args.value ≡ true → attached s.watches ≡ [] → c.assign.new.steps ≤ c.args.steps.now + size_of (dims_in s.arrays.world v) in
+    subst P c.self.view_is (λ to from none.
+    let found : c.written.new.steps ≡ c.args.steps.now = c.written.ensures.at_once to from in
+    let told : c.foreseen.new.steps ≡ c.written.new.steps = c.foreseen.ensures.quiet (ap attached c.deref-2.ensures.value ∙ none) in
+    let count : length c.deref-3.result.now ≡ size_of (dims_in c.written.new.engine.world v) = ap length c.deref-3.ensures.value ∙ c.in-Ok.ensures.made.count in
+    let sizes : size_of (dims_in c.written.new.engine.world v) ≡ size_of (dims_in c.self.inside.engine.world v) = ap (λ w. size_of (dims_in w v)) c.written.ensures.same.world in
+    let moved = c.assign.ensures.counted in
+    omega (arith, found, told, count, sizes, moved))

@@ -3,6 +3,9 @@ use Rattle.pdl_world.specs.World.{root}
 use Rattle.pdl_scope.specs.Scope.{Scope as Seen, names_in, scope_in, Grows}
 use Rattle.pdl_scope.proofs.Growing.{grown}
 use Rattle.pdl_scope.proofs.Held.{held_new}
+use Rattle.pdl_engine.specs.Reading.{KeepsViews}
+use Rattle.pdl_engine.specs.State.{State as Engine}
+use Rattle.pdl_scope.proofs.Bounds.{root_is_none, same_views}
 use Rattle.pdl_scope.proofs.scope.Scope.make.Goals as goal
 
 pub invariant_of-self-2 : goal.invariant_of-self-2
@@ -16,3 +19,14 @@ returns-clause-grown g c =
     let ws = c.self.inside.watches.items in
     let P : Seen → Type 0 = λ s. Grows s (scope_in names ws c.make.new.self) in
     subst P c.self.view_is (grown c.growth_laws.ensures.older names ws c.self.inside.engine c.make.new.self (root c.args.ty c.args.dims.now c.args.elems) c.in_ok-id.id c.self.invariant.whole c.in_ok-id.ensures.made c.make.ensures.sound)
+
+pub returns-clause-roots : goal.returns-clause-roots
+returns-clause-roots g c =
+    let e = c.self.inside.engine in
+    let P : Seen → Type 0 = λ s. KeepsViews c.make.new.self.world s.arrays.world in
+    subst P c.self.view_is (root_is_none e.world c.make.new.self.world c.in_ok-id.id c.args.ty c.args.dims.now c.args.elems c.in_ok-id.ensures.made.world)
+
+pub returns-in_err-id-clause-roots : goal.returns-in_err-id-clause-roots
+returns-in_err-id-clause-roots g c =
+    let P : Seen → Type 0 = λ s. KeepsViews c.make.new.self.world s.arrays.world in
+    subst P c.self.view_is (same_views c.make.new.self.world c.self.inside.engine.world (ap (λ (e : Engine). e.world) c.in_err-id.ensures.err))

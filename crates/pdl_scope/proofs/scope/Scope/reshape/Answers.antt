@@ -1,16 +1,24 @@
 use Rattle.std.proofs.Common.{rules, ◌≡◌, ◌<◌, ◌^◌, List, ℕ, [], length, false, Ok, refl, sym, ap, subst, ◌∙◌, arith}
 use Rattle.pdl_world.specs.Cut.{reshape}
-use Rattle.pdl_world.specs.Swept.{holds}
-use Rattle.pdl_machine.specs.Watches.{attached}
 use Rattle.pdl_machine.specs.Arrays.{Arrays}
-use Rattle.pdl_machine.specs.Cuts.{reshaped}
-use Rattle.pdl_machine.specs.State.{State, with_arrays}
+use Rattle.pdl_machine.specs.Cuts.{is_watched, reshaped}
+use Rattle.pdl_machine.specs.State.{AreLive, State, with_arrays}
 use Rattle.pdl_machine.specs.Step.{Stepped}
 use Rattle.pdl_machine.specs.Then.{and_then}
+use Rattle.pdl_machine.specs.Watches.{Watches, attached}
 use Rattle.pdl_scope.specs.Answers.{Prints}
 use Rattle.pdl_scope.specs.Scope.{arrays_of, machine, names_in, scope_in, state_in, IsHeld, Grows, Scope as Seen}
 use Rattle.pdl_scope.proofs.Cuts.{kept_so, made_so, reshape_made}
+use Rattle.pdl_scope.proofs.Held.{numbers}
+use Rattle.pdl_scope.proofs.Watched.{live_back}
 use Rattle.pdl_scope.proofs.scope.Scope.reshape.Goals as goal
+
+pub is_watched-requires : goal.is_watched-requires
+is_watched-requires g c =
+    let ws = c.self.inside.watches.items in
+    let w = c.self.inside.engine.world in
+    let W : Watches → Type 0 = λ us. AreLive w (attached us) in
+    subst W (sym c.deref.ensures.value) (live_back w (numbers c.self.inside.names.entries) (attached ws) c.self.invariant.whole.live)
 
 pub laid_anew-requires-clause-small : goal.laid_anew-requires-clause-small
 laid_anew-requires-clause-small g c =
@@ -41,8 +49,8 @@ returns g c =
     let state : Arrays → State = λ a. record { names = names_in c.self.inside.names.entries c.self.inside.kernels; arrays = a; watches = c.self.inside.watches.items } in
     let P : Seen → Type 0 = λ s. Prints (and_then (reshaped s.watches s.arrays v ds) (λ a. Ok (with_arrays (machine s) a, []))) (state (arrays_of t)) [] [] in
     let Q : Stepped → Type 0 = λ r. Prints r (state (arrays_of t)) [] [] in
-    let free : holds (attached c.self.inside.watches.items) v ≡ false = ap (λ ws. holds (attached ws) v) (sym c.deref.ensures.value) ∙ sym c.is_watched.ensures ∙ c.if-is_watched.false in
-    subst P c.self.view_is (subst Q (sym (reshape_made (state (arrays_of e)) v ds (sym c.has_views.ensures ∙ c.if-has_views.false) free))
+    let free : is_watched c.self.inside.watches.items e.world v ≡ false = ap (λ ws. is_watched ws e.world v) (sym c.deref.ensures.value) ∙ sym c.is_watched.ensures ∙ c.if-is_watched.false in
+    subst P c.self.view_is (subst Q (sym (reshape_made (state (arrays_of e)) v ds c.in_ok-laid_anew.ensures.allowed free))
     (ap state (made_so e t (reshape e.world v ds) c.in_ok-laid_anew.ensures.ok c.laid_anew.ensures.next), refl))
 
 pub returns-in_err-laid_anew : goal.returns-in_err-laid_anew

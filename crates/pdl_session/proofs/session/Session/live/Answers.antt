@@ -5,4 +5,4 @@ use Rattle.pdl_session.proofs.Tidied.{live_is}
 use Rattle.pdl_session.proofs.session.Session.live.Goals as goal
 
 pub returns : goal.returns
-returns c = c.live.ensures ∙ live_is (machine c.self.inside.scope) c.self.invariant ∙ ap (λ (s : Session). length s.state.arrays.world) c.self.view_is
+returns c = c.live.ensures ∙ live_is (machine c.self.inside.scope) c.self.invariant.swept ∙ ap (λ (s : Session). length s.state.arrays.world) c.self.view_is

@@ -1,0 +1,68 @@
+//! Reading a window in blocks, along dimension 1, and its sums.
+ghost use Rattle.std.specs.Prelude.{◌≡◌, ◌<◌, ◌≤◌, ◌+◌, ◌+ℤ◌, ℕ, IsTrue, pos, length, take, drop, fold, get_or, All, IfSome};
+ghost use Rattle.std.specs.Int.{int_wrap, w64};
+ghost use Rattle.pdl_elem.specs.Types.{InRange};
+ghost use Rattle.pdl_shape.specs.Shape.{extent_limit};
+ghost use Rattle.pdl_numbers.specs.Reads.{LieAcross, across};
+
+use crate::window::{Strided, strided_dims};
+use pdl_numbers::shown_laws;
+use pdl_shape::{dims_list, incs_list};
+
+/// Shorter columns than this are read as well one by one.
+const FEW: u32 = 16;
+
+/// Sets each element of `into` to the window's element at a position: those from `first` on, of
+/// which there are enough.
+pub fn strided_read(from: &Strided<'_>, first: u32, into: &mut [i64])
+    requires { first + length into.old ≤ length from.now.elems }
+    ensures value { into.new ≡ take (length into.old) (drop first from.now.elems) }
+    ensures in_range { All (InRange from.now.ty) into.new }
+{
+    shown_laws();
+    let buf = from.buf;
+    buf.numbers.read(&from.placement, first, into)
+}
+
+/// Sets each element of `into` to one of the window's elements along dimension 1: that at position
+/// `first`, and then those so far apart as dimension 0 is long. They are there, in one plane.
+pub fn strided_read_across(from: &Strided<'_>, first: u32, into: &mut [i64])
+    requires some { first < length from.now.elems }
+    requires small { length into.old ≤ extent_limit }
+    requires along { LieAcross from.now.dims first (length into.old) }
+    requires within { (k : ℕ) → k < length into.old →
+        across from.now.dims first k < length from.now.elems }
+    ensures value { (k : ℕ) → k < length into.old →
+        get_or into.new k (pos 0) ≡ get_or from.now.elems (across from.now.dims first k) (pos 0) }
+    ensures in_range { All (InRange from.now.ty) into.new }
+{
+    shown_laws();
+    let buf = from.buf;
+    buf.numbers.read_across(&from.placement, first, into)
+}
+
+/// Whether elements along dimension 1 lie closer together in the buffer than along dimension 0, so
+/// that it takes less time to read them across. The clause says no more than
+/// a reader needs: what is read is the same.
+pub fn strided_is_turned(from: &Strided<'_>) -> bool
+    ensures { IsTrue result → 0 < get_or from.now.dims 1 1 }
+{
+    let sizes = dims_list(strided_dims(from));
+    let incs = incs_list(&from.placement.triple().incs);
+    sizes.len() > 1
+        && incs.len() > 1
+        && sizes[1] >= FEW
+        && incs[1].unsigned_abs() < incs[0].unsigned_abs()
+}
+
+/// The sum of so many of the window's elements from a position on, wrapped at 64 bits, and nothing
+/// where they aren't neighbours in the buffer, in order: those are summed as well in blocks.
+pub fn strided_sum(from: &Strided<'_>, first: u32, count: u32) -> Option<i64>
+    requires { first + count ≤ length from.now.elems }
+    ensures { let xs = take count (drop first from.now.elems) in
+        IfSome result (λ sum. sum ≡ int_wrap w64 (fold (λ sum x. sum +ℤ x) (pos 0) xs)) }
+{
+    shown_laws();
+    let buf = from.buf;
+    buf.numbers.sum(&from.placement, first, count)
+}

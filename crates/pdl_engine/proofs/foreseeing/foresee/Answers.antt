@@ -1,0 +1,28 @@
+use Rattle.std.proofs.Common.{◌≡◌, length, sym, ◌∙◌, ap}
+use Rattle.pdl_shape.specs.Shape.{size_of}
+use Rattle.pdl_shape.specs.Triple.{Triple}
+use Rattle.pdl_nodes.specs.Placed.{placed_by}
+use Rattle.pdl_nodes.specs.Row.{Row}
+use Rattle.pdl_engine.specs.Foresights.{elements_after}
+use Rattle.pdl_engine.proofs.Foresights.{after_long, foreseen_is, places_now}
+use Rattle.pdl_engine.proofs.Places.{count_places}
+use Rattle.pdl_engine.proofs.foreseeing.foresee.Goals as goal
+
+pub base_of-base-requires-clause-live : goal.base_of-base-requires-clause-live
+base_of-base-requires-clause-live c = c.row_laws.ensures.seen.base_live c.args.table.now c.node-node.result.now.base c.args.seen c.requires.order.still c.requires.live (sym (ap (λ (r : Row). r.base) c.node-node.ensures))
+
+pub shown_after-requires : goal.shown_after-requires
+shown_after-requires c = ap length c.deref.ensures.value ∙ c.in_ok-before.ensures.count ∙ ap (λ (t : Triple). size_of t.dims) (sym (c.triple.ensures ∙ ap (λ (r : Row). r.triple) c.node-node.ensures))
+
+pub returns-clause-value : goal.returns-clause-value
+returns-clause-value c = λ v vs told. foreseen_is c.row_laws.ensures c.assignment_laws.ensures.reads c.growth_laws.ensures.within c.args.table.now c.args.seen v vs c.args.foresight.now c.in_ok-before.before.items c.in_ok-after.after.items _ c.requires.order c.requires.sound
+    c.requires.live c.requires.family c.in_ok-before.ensures.items
+    (places_now c.row_laws.ensures c.args.table.now c.args.seen c.node-node.result.now c.base_of-base.result.now c.places.result.now c.triple.result.now c.requires.order c.requires.known c.requires.live c.requires.fresh c.node-node.ensures c.base_of-base.ensures c.places.ensures c.triple.ensures)
+    (c.in_ok-after.ensures ∙ ap (elements_after c.args.foresight.now.written (placed_by c.places.result.now c.triple.result.now)) c.deref.ensures.value) told
+
+pub returns-clause-alike : goal.returns-clause-alike
+returns-clause-alike c =
+    let long : length c.deref.result.now ≡ size_of c.triple.result.now.dims = ap length c.deref.ensures.value ∙ c.in_ok-before.ensures.count ∙ ap (λ (t : Triple). size_of t.dims) (sym (c.triple.ensures ∙ ap (λ (r : Row). r.triple) c.node-node.ensures)) in
+    ap length c.in_ok-after.ensures
+    ∙ after_long c.args.foresight.now.written (placed_by c.places.result.now c.triple.result.now) c.deref.result.now (count_places c.places.result.now c.triple.result.now ∙ sym long)
+    ∙ ap length c.deref.ensures.value

@@ -1,0 +1,7 @@
+use Rattle.std.proofs.Common.{◌≡◌, ◌++◌, take}
+use Rattle.pdl_image.specs.Lines.{more_text}
+use Rattle.pdl_image.proofs.numbers.push_more.Given as goal
+
+-- the numbers before this one
+abbrev pub invariant-loop-number : goal.invariant-loop-number
+invariant-loop-number l = l.line.items ≡ l.fn.line.items ++ more_text (take l.number-index l.numbers)

@@ -1,0 +1,40 @@
+-- What appending lines leaves of a text. Callers of the writer need none of it.
+use Rattle.std.specs.Prelude.{◌≡◌, ◌<◌, ◌≤◌, ◌+◌, ◌-◌, true, false, List, [], ◌∷◌, ℕ, ℤ, ◌++◌, length, codes, decimal, Result, OnOk, OnErr, IfErr}
+use Rattle.std.specs.List.{concat}
+use Rattle.pdl_image.specs.declared.ImageFault.{ImageFault}
+use Rattle.pdl_image.specs.declared.ImageFault.TheVariants.{TooLong}
+use Rattle.pdl_image.specs.declared.TheConstants.{LONGEST_DUMP}
+use Rattle.pdl_image.specs.Lines.{Line, numbers_text, script_of}
+use Rattle.pdl_image.specs.Dump.{is_too_long}
+
+-- the text begins with these bytes
+pub record Begins (front text : List ℕ) : Type 0 where
+  pub rest : List ℕ
+  pub is : text ≡ front ++ rest
+
+-- The lines are appended where they aren't too long. Else some of them may be, and they are refused
+-- for being too long, or memory has run out.
+pub record Adds (old new : List ℕ) (lines : List Line) (result : Result (Unit {0}) ImageFault) : Type 0 where
+  pub ok : OnOk result (new ≡ old ++ script_of lines)
+  pub fits : OnOk result (is_too_long old lines ≡ false)
+  pub front : Begins old new
+  pub refused : IfErr result (λ fault. fault ≡ TooLong → is_too_long old lines ≡ true)
+
+-- The same of lines that are appended together or not at all.
+pub record Writes (old new : List ℕ) (lines : List Line) (result : Result (Unit {0}) ImageFault) : Type 0 where
+  pub ok : OnOk result (new ≡ old ++ script_of lines)
+  pub fits : OnOk result (is_too_long old lines ≡ false)
+  pub more : OnOk result (length old < length new)
+  pub room : OnOk result (length new ≤ LONGEST_DUMP)
+  pub err : OnErr result (new ≡ old)
+  pub refused : IfErr result (λ fault. fault ≡ TooLong → is_too_long old lines ≡ true)
+
+-- the text that gives numbers to the elements from a first to a last position
+abbrev pub bytes_to : (name : List ℕ) (first last : ℕ) → List ℤ → List ℕ
+bytes_to name first last ns = concat
+    (name ∷ codes "->flat->slice(\"" ∷ decimal first ∷ codes ":" ∷ decimal last
+    ∷ codes "\") .= pdl [" ∷ numbers_text ns ∷ codes "]" ∷ [])
+
+-- and from a first position on
+abbrev pub piece_bytes : (name : List ℕ) (first : ℕ) → List ℤ → List ℕ
+piece_bytes name first ns = bytes_to name first (first + length ns - 1) ns

@@ -1,0 +1,5 @@
+use Rattle.pdl_lexemes.proofs.Texts.{lexemes_hold}
+use Rattle.pdl_lexemes.proofs.laws.lexemes_hold_texts.Goals as goal
+
+pub returns : goal.returns
+returns c = lexemes_hold c.token_meaning.ensures

@@ -1,0 +1,5 @@
+use Rattle.pdl_numbers.proofs.Shown.{shown}
+use Rattle.pdl_numbers.proofs.laws.shown_laws.Goals as goal
+
+pub returns : goal.returns
+returns c = shown c.shape_laws.ensures.positions

@@ -1,0 +1,23 @@
+-- What holds of what a triple shows. It is the contract of a public function.
+use Rattle.std.specs.Prelude.{◌≡◌, ◌<◌, ◌≤◌, ◌+◌, ℕ, ℤ, pos, List, length, take, drop, get_or, All}
+use Rattle.pdl_elem.specs.declared.Ty.{Ty}
+use Rattle.pdl_elem.specs.Types.{InRange}
+use Rattle.pdl_shape.specs.Shape.{size_of}
+use Rattle.pdl_shape.specs.Triple.{Triple, IsTriple, Reaches}
+use Rattle.pdl_numbers.specs.Reads.{HasRead}
+use Rattle.pdl_numbers.specs.Shown.{place_at, shown_through}
+
+-- One number is shown for each position: that at the place of the position, which lies among the
+-- numbers where the triple reaches no further. What was read of the first positions from one on is
+-- that part of what is shown. What is shown of numbers in a range is in it.
+pub record ShownLaws : Type 0 where
+  pub count : (t : Triple) (es : List ℤ) → length (shown_through t es) ≡ size_of t.dims
+  pub element : (t : Triple) (es : List ℤ) (p : ℕ) → p < size_of t.dims →
+      get_or (shown_through t es) p (pos 0) ≡ get_or es (place_at t p) (pos 0)
+  pub below : (t : Triple) (n p : ℕ) → IsTriple t → Reaches t n → p < size_of t.dims →
+      place_at t p < n
+  pub block : (t : Triple) (es rs : List ℤ) (first count : ℕ) → length rs ≡ count →
+      first + count ≤ size_of t.dims → HasRead t es first count rs →
+      rs ≡ take count (drop first (shown_through t es))
+  pub in_range : (ty : Ty) (t : Triple) (es : List ℤ) → IsTriple t → Reaches t (length es) →
+      All (InRange ty) es → All (InRange ty) (shown_through t es)

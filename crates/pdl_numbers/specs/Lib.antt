@@ -1,0 +1,6 @@
+pub mod Typed
+pub mod Bytes
+pub mod Numbers
+pub mod Shown
+pub mod Reads
+pub mod Laws

@@ -1,0 +1,34 @@
+-- Reading what a triple shows in blocks.
+use Rattle.std.specs.Prelude.{◌≡◌, ◌<◌, ◌≤◌, ◌+◌, ◌*◌, ◌/◌, ◌%◌, ℕ, ℤ, pos, ◌<ℤ◌, ◌+ℤ◌, ◌*ℤ◌, unsigned_abs, List, get_or}
+use Rattle.pdl_shape.specs.Triple.{IsPlace, Triple}
+use Rattle.pdl_numbers.specs.Shown.{place_at}
+
+-- a place in a list of n numbers, and in a buffer of the largest size
+pub record IsInside (n : ℕ) (z : ℤ) : Type 0 where
+  pub place : IsPlace z
+  pub high : z <ℤ pos n
+
+-- the first count of these numbers are what the triple shows from a position on
+abbrev pub HasRead : Triple → (elems : List ℤ) → (first count : ℕ) → (read : List ℤ) → Type 0
+HasRead t es first count rs = (k : ℕ) → k < count →
+    get_or rs k (pos 0) ≡ get_or es (place_at t (first + k)) (pos 0)
+
+-- the position so many steps along dimension 1 after another
+abbrev pub across : (ds : List ℕ) → (first steps : ℕ) → ℕ
+across ds first steps = first + steps * get_or ds 0 1
+
+-- so many positions along dimension 1 from one on are there
+abbrev pub LieAcross : (ds : List ℕ) → (first count : ℕ) → Type 0
+LieAcross ds first count = (first / get_or ds 0 1) % get_or ds 1 1 + count ≤ get_or ds 1 1
+
+-- the first count of these numbers are what the triple shows along dimension 1 from a position on
+abbrev pub HasReadAcross : Triple → (elems : List ℤ) → (first count : ℕ) → (read : List ℤ) → Type 0
+HasReadAcross t es first count rs =
+    (k : ℕ) → k < count → get_or rs k (pos 0)
+    ≡ get_or es (place_at t (across t.dims first k)) (pos 0)
+
+-- the first count of these numbers stand from a place on, each so far after the one before
+abbrev pub HasStepped : List ℤ → (place : ℕ) → (inc : ℤ) → ℕ → List ℤ → Type 0
+HasStepped es place inc count rs =
+    (j : ℕ) → j < count → get_or rs j (pos 0)
+    ≡ get_or es (unsigned_abs (pos place +ℤ inc *ℤ pos j)) (pos 0)

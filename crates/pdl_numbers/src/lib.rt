@@ -1,0 +1,20 @@
+//! Numbers of one type, packed in its width, and which of them a triple shows at each position.
+//!
+//! A list of numbers is kept as bytes: each number as two's complement, lowest byte first. They are
+//! read and written one by one, in blocks, through places, and as a triple shows them.
+#![tactic(auto)]
+
+mod across;
+mod laws;
+mod numbers;
+mod packed;
+mod placement;
+mod ranges;
+mod reads;
+mod routes;
+mod sums;
+
+pub use laws::shown_laws;
+pub use numbers::{Numbers, numbers_of};
+pub use placement::Placement;
+pub use routes::Route;

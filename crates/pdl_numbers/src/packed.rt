@@ -1,0 +1,395 @@
+//! Lists of numbers of one type, each kept as the bytes of its type.
+ghost use Rattle.std.specs.Prelude.{◌≡◌, ◌<◌, ◌≤◌, ◌+◌, ◌^◌, ℤ, List, [], ◌++◌, pos, length, take, drop, map, get_or, slice_set, All, IfOk, OnOk, OnErr};
+ghost use Rattle.std.specs.List.{flat_map, range_with_len};
+ghost use Rattle.std.proofs.Common.{rules};
+ghost use Rattle.pdl_elem.specs.declared.Ty.{Ty};
+ghost use Rattle.pdl_elem.specs.declared.Ty.TheVariants.{Sbyte, Byte, Short, Ushort, Long, Ulong, Longlong};
+ghost use Rattle.pdl_elem.specs.Types.{InRange};
+ghost use Rattle.pdl_shape.specs.Places.{AllBelow, IsBelow, element_at, put, read, write};
+ghost use Rattle.pdl_shape.specs.Shape.{size_of};
+ghost use Rattle.pdl_shape.specs.Triple.{Reaches};
+ghost use Rattle.pdl_numbers.specs.Typed.{count_moved};
+ghost use Rattle.pdl_numbers.specs.Shown.{shown_through};
+ghost use Rattle.pdl_numbers.specs.Bytes.{ArePacked, bytes_of, number_of};
+
+use crate::placement::Placement;
+use crate::routes::Route;
+use pdl_elem::{Ty, wrap, wrapping_laws};
+use pdl_shape::shape_laws;
+use std::alloc::{AllocError, Global};
+use std::marker::{Model, PhantomData};
+
+/// A type whose numbers are kept in `N` bytes each.
+pub trait PackedType<const N: usize> {
+    ghost ty: { Ty };
+
+    /// The bytes of a number of the type: two's complement, lowest byte first.
+    fn pack(number: i64) -> [u8; N]
+        requires { InRange ty number }
+        ensures { result ≡ bytes_of ty number };
+
+    /// The number of the type that has these bytes.
+    fn unpack(bytes: &[u8; N]) -> i64
+        ensures { result ≡ number_of ty bytes.now };
+
+    ghost narrow: { N ≤ 8 };
+}
+
+#[derive(Debug)]
+pub struct AtSbyte;
+
+impl PackedType<1> for AtSbyte {
+    ghost ty = { Sbyte };
+
+    ghost narrow = { Prim.search rules };
+
+    fn pack(number: i64) -> [u8; 1] {
+        (number as i8).to_le_bytes()
+    }
+
+    fn unpack(bytes: &[u8; 1]) -> i64 {
+        wrap(Ty::Sbyte, i128::from(u8::from_le_bytes(*bytes)))
+    }
+}
+
+#[derive(Debug)]
+pub struct AtByte;
+
+impl PackedType<1> for AtByte {
+    ghost ty = { Byte };
+
+    ghost narrow = { Prim.search rules };
+
+    fn pack(number: i64) -> [u8; 1] {
+        (number as u8).to_le_bytes()
+    }
+
+    fn unpack(bytes: &[u8; 1]) -> i64 {
+        wrap(Ty::Byte, i128::from(u8::from_le_bytes(*bytes)))
+    }
+}
+
+#[derive(Debug)]
+pub struct AtShort;
+
+impl PackedType<2> for AtShort {
+    ghost ty = { Short };
+
+    ghost narrow = { Prim.search rules };
+
+    fn pack(number: i64) -> [u8; 2] {
+        (number as i16).to_le_bytes()
+    }
+
+    fn unpack(bytes: &[u8; 2]) -> i64 {
+        wrap(Ty::Short, i128::from(u16::from_le_bytes(*bytes)))
+    }
+}
+
+#[derive(Debug)]
+pub struct AtUshort;
+
+impl PackedType<2> for AtUshort {
+    ghost ty = { Ushort };
+
+    ghost narrow = { Prim.search rules };
+
+    fn pack(number: i64) -> [u8; 2] {
+        (number as u16).to_le_bytes()
+    }
+
+    fn unpack(bytes: &[u8; 2]) -> i64 {
+        wrap(Ty::Ushort, i128::from(u16::from_le_bytes(*bytes)))
+    }
+}
+
+#[derive(Debug)]
+pub struct AtLong;
+
+impl PackedType<4> for AtLong {
+    ghost ty = { Long };
+
+    ghost narrow = { Prim.search rules };
+
+    fn pack(number: i64) -> [u8; 4] {
+        (number as i32).to_le_bytes()
+    }
+
+    fn unpack(bytes: &[u8; 4]) -> i64 {
+        wrap(Ty::Long, i128::from(u32::from_le_bytes(*bytes)))
+    }
+}
+
+#[derive(Debug)]
+pub struct AtUlong;
+
+impl PackedType<4> for AtUlong {
+    ghost ty = { Ulong };
+
+    ghost narrow = { Prim.search rules };
+
+    fn pack(number: i64) -> [u8; 4] {
+        (number as u32).to_le_bytes()
+    }
+
+    fn unpack(bytes: &[u8; 4]) -> i64 {
+        wrap(Ty::Ulong, i128::from(u32::from_le_bytes(*bytes)))
+    }
+}
+
+#[derive(Debug)]
+pub struct AtLonglong;
+
+impl PackedType<8> for AtLonglong {
+    ghost ty = { Longlong };
+
+    ghost narrow = { Prim.search rules };
+
+    fn pack(number: i64) -> [u8; 8] {
+        number.to_le_bytes()
+    }
+
+    fn unpack(bytes: &[u8; 8]) -> i64 {
+        wrap(Ty::Longlong, i128::from(u64::from_le_bytes(*bytes)))
+    }
+}
+
+/// A list of numbers of the type `T`, each kept as its bytes.
+#[derive(Debug, Drop)]
+pub struct Packed<T: PackedType<N>, const N: usize> {
+    cells: Vec<[u8; N]>,
+    ty: PhantomData<T>,
+}
+
+impl<T: PackedType<N>, const N: usize> Model for Packed<T, N> {
+    ghost use Rattle.std.specs.Prelude.{ℤ, List, map};
+    ghost use Rattle.std.specs.Coded.{coded_list, coded_ℤ};
+    ghost use Rattle.pdl_numbers.specs.Bytes.{ArePacked, number_of};
+
+    ghost Value = { List ℤ };
+
+    ghost coded = { coded_list coded_ℤ };
+
+    ghost view = { λ p. map (number_of T.ty) p.cells.items };
+
+    ghost invariant = { λ p. ArePacked T.ty p.cells.items };
+}
+
+/// Sets each cell to the bytes of the number that stands for it.
+fn pack_all<T: PackedType<N>, const N: usize>(numbers: &[i64], cells: &mut [[u8; N]])
+    requires paired { length cells.old ≡ length numbers.now }
+    requires in_range { All (InRange T.ty) numbers.now }
+    ensures { cells.new ≡ map (bytes_of T.ty) numbers.now }
+{
+    for (i, number) in numbers.iter().enumerate() {
+        cells[i] = T::pack(*number);
+    }
+}
+
+/// Sets each number to the one whose bytes stand in the cell for it.
+fn unpack_all<T: PackedType<N>, const N: usize>(cells: &[[u8; N]], numbers: &mut [i64])
+    requires { length numbers.old ≡ length cells.now }
+    ensures { numbers.new ≡ map (number_of T.ty) cells.now }
+{
+    for (i, cell) in cells.iter().enumerate() {
+        numbers[i] = T::unpack(cell);
+    }
+}
+
+impl<T: PackedType<N>, const N: usize> Packed<T, N> {
+    /// The cells in which the numbers stand, in order. A loop over them looks up once where they
+    /// are.
+    pub(crate) fn cells(&self) -> &[[u8; N]]
+        ensures { map (number_of T.ty) result.now ≡ self.now }
+    {
+        self.cells.as_slice()
+    }
+
+    /// No numbers, with room for so many.
+    pub(crate) fn with_room(alloc: Global, count: usize) -> Result<Packed<T, N>, AllocError>
+        ensures { IfOk result (λ packed. packed ≡ []) }
+    {
+        Ok(Packed {
+            cells: Vec::with_capacity(alloc, count)?,
+            ty: PhantomData,
+        })
+    }
+
+    /// How many numbers there are.
+    pub(crate) fn len(&self) -> usize
+        ensures { result ≡ length self.now }
+    {
+        self.cells.len()
+    }
+
+    /// Puts these numbers, which are in the type's range, after the others.
+    pub(crate) fn extend(&mut self, numbers: &[i64]) -> Result<(), AllocError>
+        requires { All (InRange T.ty) numbers.now }
+        ensures ok { OnOk result (self.new ≡ self.old ++ numbers.now) }
+        ensures err { OnErr result (self.new ≡ self.old) }
+    {
+        let start = self.cells.len();
+        self.cells.resize(start + numbers.len(), [0; N])?;
+        pack_all::<T, N>(numbers, &mut self.cells[start..]);
+        Ok(())
+    }
+
+    /// Sets `into` to the numbers from a place on, of which there are enough.
+    pub(crate) fn read_from(&self, start: usize, into: &mut [i64])
+        requires { start + length into.old ≤ length self.now }
+        ensures { into.new ≡ take (length into.old) (drop start self.now) }
+    {
+        let _count = self.len();
+        let end = start + into.len();
+        unpack_all::<T, N>(&self.cells[start..end], into)
+    }
+
+    /// How many of the numbers aren't 0.
+    pub(crate) fn moved(&self) -> usize
+        ensures { result ≡ count_moved self.now }
+    {
+        let mut count = 0;
+        for place in 0..self.len() {
+            if self.get(place) != 0 {
+                count += 1;
+            }
+        }
+        count
+    }
+
+    /// The number at a place, which is below how many there are.
+    pub(crate) fn get(&self, place: usize) -> i64
+        requires { place < length self.now }
+        ensures value { result ≡ get_or self.now place (pos 0) }
+        ensures in_range { InRange T.ty result }
+    {
+        T::unpack(&self.cells[place])
+    }
+
+    /// Sets the number at a place, which is below how many there are, to one of the type's range.
+    pub(crate) fn set(&mut self, place: usize, number: i64)
+        requires place { place < length self.old }
+        requires in_range { InRange T.ty number }
+        ensures { self.new ≡ slice_set self.old place number }
+    {
+        self.cells[place] = T::pack(number);
+    }
+
+    /// All of them are in the type's range. It does nothing: who calls it knows that.
+    pub(crate) fn are_in_range(&self)
+        ensures { All (InRange T.ty) self.now }
+    {
+        wrapping_laws();
+        let _cells = &self.cells;
+    }
+
+    /// The number that a placement shows at a position, or 0 where there is none.
+    fn shown_at(&self, placement: &Placement, position: Option<u32>) -> i64
+        requires within { IsBelow (size_of placement.now.dims) position }
+        requires reaches { Reaches placement.now (length self.now) }
+        ensures value { result ≡ element_at (shown_through placement.now self.now) position }
+        ensures in_range { InRange T.ty result }
+    {
+        shape_laws();
+        match position {
+            Some(position) => self.get(placement.place(position) as usize),
+            None => 0,
+        }
+    }
+
+    /// Sets each of these numbers to the one that a placement shows of others of the type at the
+    /// position that stands for it, or to 0 where there is none.
+    pub(crate) fn gather(
+        &mut self,
+        from: &Packed<T, N>,
+        placement: &Placement,
+        positions: &[Option<u32>],
+    )
+        requires paired { length positions.now ≡ length self.old }
+        requires within { AllBelow (size_of placement.now.dims) positions.now }
+        requires reaches { Reaches placement.now (length from.now) }
+        ensures { self.new ≡ read positions.now (shown_through placement.now from.now) }
+    {
+        for (i, position) in positions.iter().enumerate() {
+            self.set(i, from.shown_at(placement, *position));
+        }
+    }
+
+    /// Sets the number at the place to one of the type's range, where there is such a place.
+    fn put(&mut self, place: Option<u32>, number: i64)
+        requires { InRange T.ty number }
+        ensures { self.new ≡ put place number self.old }
+    {
+        match place {
+            Some(place) if (place as usize) < self.len() => self.set(place as usize, number),
+            _ => {}
+        }
+    }
+
+    /// Sets the numbers at the places to the values, in order, which are in the type's range. A
+    /// value without a place is dropped.
+    pub(crate) fn scatter(&mut self, places: &[Option<u32>], values: &[i64])
+        requires paired { length values.now ≡ length places.now }
+        requires within { AllBelow (length self.old) places.now }
+        requires in_range { All (InRange T.ty) values.now }
+        ensures { self.new ≡ write places.now values.now self.old }
+    {
+        for (i, place) in places.iter().enumerate() {
+            self.put(*place, values[i]);
+        }
+    }
+
+    /// Sets the numbers at the places to those of others of the type, in order. A number without a
+    /// place among these is dropped.
+    pub(crate) fn scatter_from(&mut self, places: &[Option<u32>], from: &Packed<T, N>)
+        requires { length places.now ≡ length from.now }
+        ensures { self.new ≡ write places.now from.now self.old }
+    {
+        for (i, place) in places.iter().enumerate() {
+            self.put(*place, from.get(i));
+        }
+    }
+
+    /// Sets the numbers at the places that a route gives to the first positions to the values, in
+    /// order, which are in the type's range. A value without a place among these is dropped.
+    pub(crate) fn put_by<R: Route>(&mut self, route: &R, values: &[i64])
+        requires few { length values.now ≤ R.count route.now }
+        requires small { length values.now < 2 ^ 32 }
+        requires in_range { All (InRange T.ty) values.now }
+        ensures { let places = map (R.goes_to route.now) (range_with_len 0 (length values.now)) in
+            self.new ≡ write places values.now self.old }
+    {
+        for (i, value) in values.iter().enumerate() {
+            self.put(route.place(i as u32), *value);
+        }
+    }
+
+    /// The number at a place, and 0 where there is none among these.
+    fn element_at(&self, place: Option<u32>) -> i64
+        ensures value { result ≡ element_at self.now place }
+        ensures in_range { InRange T.ty result }
+    {
+        match place {
+            Some(place) if (place as usize) < self.len() => self.get(place as usize),
+            _ => 0,
+        }
+    }
+
+    /// Sets `into` to the numbers at the places, and to 0 where there is none among these.
+    pub(crate) fn read_at(&self, places: &[Option<u32>], into: &mut [i64])
+        requires { length into.old ≡ length places.now }
+        ensures value { into.new ≡ read places.now self.now }
+        ensures in_range { All (InRange T.ty) into.new }
+    {
+        for (i, place) in places.iter().enumerate() {
+            into[i] = self.element_at(*place);
+        }
+    }
+
+    /// The bytes of each number in turn.
+    pub(crate) fn bytes(&self) -> &[u8]
+        ensures { result.now ≡ flat_map (bytes_of T.ty) self.now }
+    {
+        self.cells.as_flattened()
+    }
+}

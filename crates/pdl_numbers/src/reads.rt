@@ -1,0 +1,269 @@
+//! Reading what a triple shows of packed numbers in blocks.
+ghost use Rattle.std.specs.Prelude.{◌≡◌, ◌<◌, ◌≤◌, ◌+◌, ◌%◌, ◌/◌, ◌*◌, ◌+ℤ◌, ◌*ℤ◌, ℕ, pos, length, get_or, All, unsigned_abs};
+ghost use Rattle.pdl_elem.specs.Types.{InRange};
+ghost use Rattle.pdl_shape.specs.Shape.{extent_limit, size_of};
+ghost use Rattle.pdl_shape.specs.Triple.{IsPlace, IsTriple, Reaches};
+ghost use Rattle.pdl_numbers.specs.Reads.{IsInside, HasRead, HasStepped};
+ghost use Rattle.pdl_numbers.specs.Shown.{IsInOrder, place_at};
+
+use crate::packed::{Packed, PackedType};
+use crate::placement::{Placement, place_in_order, place_of};
+use pdl_shape::{Triple, dims_list, incs_list, shape_laws};
+
+/// The place so many steps after another.
+fn place_after(place: u32, inc: i32, steps: usize) -> usize
+    requires steps { steps < extent_limit }
+    requires place { IsPlace (pos place +ℤ inc *ℤ pos steps) }
+    ensures { result ≡ unsigned_abs (pos place +ℤ inc *ℤ pos steps) }
+{
+    let moved = i64::from(inc) * steps as i64;
+    let at = i64::from(place) + moved;
+    at as usize
+}
+
+/// The numbers from a place on, each so far after the one before.
+fn read_steps<T: PackedType<N>, const N: usize>(
+    numbers: &Packed<T, N>,
+    place: u32,
+    inc: i32,
+    into: &mut [i64],
+)
+    requires small { length into.old ≤ extent_limit }
+    requires inside { (j : ℕ) → j < length into.old →
+        IsInside (length numbers.now) (pos place +ℤ inc *ℤ pos j) }
+    ensures { HasStepped numbers.now place inc (length into.old) into.new }
+{
+    let cells = numbers.cells();
+    for (j, x) in into.iter_mut().enumerate() {
+        *x = T::unpack(&cells[place_after(place, inc, j)]);
+    }
+}
+
+/// Sets each of them to one number.
+fn repeat_number(number: i64, into: &mut [i64])
+    ensures { (j : ℕ) → j < length into.old → get_or into.new j (pos 0) ≡ number }
+{
+    for x in into {
+        *x = number;
+    }
+}
+
+/// The numbers from a place on, each so far after the one before: one number again and again where
+/// that is nowhere.
+pub(crate) fn read_run<T: PackedType<N>, const N: usize>(
+    numbers: &Packed<T, N>,
+    place: u32,
+    inc: i32,
+    into: &mut [i64],
+)
+    requires small { length into.old ≤ extent_limit }
+    requires inside { (j : ℕ) → j < length into.old →
+        IsInside (length numbers.now) (pos place +ℤ inc *ℤ pos j) }
+    ensures { HasStepped numbers.now place inc (length into.old) into.new }
+{
+    if inc != 0 {
+        read_steps(numbers, place, inc, into);
+    } else if 0 < into.len() {
+        repeat_number(numbers.get(place as usize), into);
+    }
+}
+
+/// The increment along a dimension, and 0 where there is none.
+pub(crate) fn inc_along(triple: &Triple, dimension: usize) -> i32
+    ensures { result ≡ get_or triple.now.incs dimension (pos 0) }
+{
+    let incs = incs_list(&triple.incs);
+    if dimension < incs.len() {
+        incs[dimension]
+    } else {
+        0
+    }
+}
+
+/// The size of a dimension, and 1 where there is none.
+fn size_along(triple: &Triple, dimension: usize) -> u32
+    ensures size { result ≡ get_or triple.now.dims dimension 1 }
+    ensures small { size_of triple.now.dims ≤ extent_limit }
+    ensures sound { IsTriple triple.now }
+{
+    shape_laws();
+    let sizes = dims_list(&triple.dims);
+    if dimension < sizes.len() {
+        sizes[dimension]
+    } else {
+        1
+    }
+}
+
+/// How many elements lie in one row from a position on, and no more than are left.
+fn run_length(width: u32, position: u32, left: usize) -> usize
+    requires width { 0 < width }
+    requires left { 0 < left }
+    ensures some { 0 < result }
+    ensures few { result ≤ left }
+    ensures row { position % width + result ≤ width }
+{
+    left.min((width - position % width) as usize)
+}
+
+/// The window's elements from a position on that lie in its row.
+fn read_row<T: PackedType<N>, const N: usize>(
+    numbers: &Packed<T, N>,
+    triple: &Triple,
+    position: u32,
+    into: &mut [i64],
+)
+    requires row { position % get_or triple.now.dims 0 1 + length into.old
+        ≤ get_or triple.now.dims 0 1 }
+    requires within { position + length into.old ≤ size_of triple.now.dims }
+    requires some { position < size_of triple.now.dims }
+    requires small { size_of triple.now.dims ≤ extent_limit }
+    requires reaches { Reaches triple.now (length numbers.now) }
+    ensures { HasRead triple.now numbers.now position (length into.old) into.new }
+{
+    shape_laws();
+    let place = place_of(triple, position);
+    read_run(numbers, place, inc_along(triple, 0), into);
+}
+
+/// How many whole rows lie side by side from a position on, and no more elements than are left: 0
+/// where a row has begun.
+fn rows_from(width: u32, height: u32, position: u32, left: usize) -> u32
+    requires width { 0 < width }
+    requires height { 0 < height }
+    requires small { left ≤ extent_limit }
+    ensures few { result * width ≤ left }
+    ensures start { 0 < result → position % width ≡ 0 }
+    ensures plane { (position / width) % height + result ≤ height }
+{
+    if position % width == 0 {
+        let rows = (left / width as usize) as u32;
+        rows.min(height - position / width % height)
+    } else {
+        0
+    }
+}
+
+/// The window's elements in so many whole rows from a position on: one place search, and a step
+/// along dimension 1 for each row.
+fn read_rows<T: PackedType<N>, const N: usize>(
+    numbers: &Packed<T, N>,
+    triple: &Triple,
+    position: u32,
+    rows: u32,
+    into: &mut [i64],
+)
+    requires count { length into.old ≡ rows * get_or triple.now.dims 0 1 }
+    requires start { position % get_or triple.now.dims 0 1 ≡ 0 }
+    requires plane { (position / get_or triple.now.dims 0 1) % get_or triple.now.dims 1 1 + rows
+        ≤ get_or triple.now.dims 1 1 }
+    requires within { position + length into.old ≤ size_of triple.now.dims }
+    requires some { position < size_of triple.now.dims }
+    requires small { size_of triple.now.dims ≤ extent_limit }
+    requires reaches { Reaches triple.now (length numbers.now) }
+    ensures { HasRead triple.now numbers.now position (length into.old) into.new }
+{
+    shape_laws();
+    let width = size_along(triple, 0) as usize;
+    let inc = inc_along(triple, 0);
+    let step = inc_along(triple, 1);
+    let place = place_of(triple, position);
+    for row in 0..rows as usize {
+        let at = place_after(place, step, row);
+        let begin = row * width;
+        let end = begin + width;
+        read_run(numbers, at as u32, inc, &mut into[begin..end]);
+    }
+}
+
+/// The first of the window's elements from a position on, and how many: whole rows, or what is left
+/// of a row.
+fn read_part<T: PackedType<N>, const N: usize>(
+    numbers: &Packed<T, N>,
+    triple: &Triple,
+    position: u32,
+    into: &mut [i64],
+) -> usize
+    requires some { 0 < length into.old }
+    requires within { position + length into.old ≤ size_of triple.now.dims }
+    requires reaches { Reaches triple.now (length numbers.now) }
+    ensures some { 0 < result }
+    ensures few { result ≤ length into.old }
+    ensures value { HasRead triple.now numbers.now position result into.new }
+    ensures sound { IsTriple triple.now }
+{
+    shape_laws();
+    let width = size_along(triple, 0);
+    let rows = rows_from(width, size_along(triple, 1), position, into.len());
+    if rows == 0 {
+        let run = run_length(width, position, into.len());
+        read_row(numbers, triple, position, &mut into[..run]);
+        run
+    } else {
+        let run = rows as usize * width as usize;
+        read_rows(numbers, triple, position, rows, &mut into[..run]);
+        run
+    }
+}
+
+/// The window's elements from a position on, row by row.
+fn read_runs<T: PackedType<N>, const N: usize>(
+    numbers: &Packed<T, N>,
+    triple: &Triple,
+    first: u32,
+    into: &mut [i64],
+)
+    requires within { first + length into.old ≤ size_of triple.now.dims }
+    requires reaches { Reaches triple.now (length numbers.now) }
+    ensures value { HasRead triple.now numbers.now first (length into.old) into.new }
+    ensures in_range { All (InRange T.ty) into.new }
+{
+    shape_laws();
+    numbers.are_in_range();
+    let _ = size_along(triple, 0);
+    let mut done = 0;
+    while done < into.len() {
+        let position = first + done as u32;
+        done += read_part(numbers, triple, position, &mut into[done..]);
+    }
+}
+
+/// The window's elements from a position on, where they are neighbours in the buffer.
+fn read_in_order<T: PackedType<N>, const N: usize>(
+    numbers: &Packed<T, N>,
+    triple: &Triple,
+    first: u32,
+    into: &mut [i64],
+)
+    requires within { first + length into.old ≤ size_of triple.now.dims }
+    requires reaches { Reaches triple.now (length numbers.now) }
+    requires ordered { IsInOrder 1 triple.now.incs triple.now.dims }
+    ensures value { HasRead triple.now numbers.now first (length into.old) into.new }
+    ensures in_range { All (InRange T.ty) into.new }
+{
+    shape_laws();
+    numbers.are_in_range();
+    if 0 < into.len() {
+        let start = place_in_order(triple, first);
+        numbers.read_from(start as usize, into);
+    }
+}
+
+/// The elements that a placement shows of these numbers, from a position on.
+pub(crate) fn read_block<T: PackedType<N>, const N: usize>(
+    numbers: &Packed<T, N>,
+    placement: &Placement,
+    first: u32,
+    into: &mut [i64],
+)
+    requires within { first + length into.old ≤ size_of placement.now.dims }
+    requires reaches { Reaches placement.now (length numbers.now) }
+    ensures value { HasRead placement.now numbers.now first (length into.old) into.new }
+    ensures in_range { All (InRange T.ty) into.new }
+{
+    if placement.is_in_order {
+        read_in_order(numbers, placement.triple(), first, into);
+    } else {
+        read_runs(numbers, placement.triple(), first, into);
+    }
+}

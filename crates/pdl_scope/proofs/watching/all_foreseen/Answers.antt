@@ -1,0 +1,50 @@
+use Rattle.std.proofs.Common.{◌≡◌, ◌<◌, length, get_or, None, arith, sym, ap, subst, ◌∙◌}
+use Rattle.std.specs.Prelude.{IfSome}
+use Rattle.std.proofs.lemmas.List.{take_all}
+use Rattle.pdl_world.specs.Sound.{IsLive}
+use Rattle.pdl_world.specs.World.{World, assign}
+use Rattle.pdl_engine.specs.Foresights.{Foretells}
+use Rattle.pdl_watch.specs.Slots.{lists_of}
+use Rattle.pdl_machine.specs.Watches.{notices, slot_notices}
+use Rattle.pdl_scope.proofs.Watched.{lists_more, live_watch, none_watched}
+use Rattle.pdl_scope.proofs.watching.all_foreseen.Goals as goal
+
+pub slot_foreseen-requires : goal.slot_foreseen-requires
+slot_foreseen-requires g c =
+    let ws = c.args.watches.now in
+    let i = c.loop-watch.watch-index in
+    let P : World → Type 0 = λ w. IfSome (get_or ws i None) (IsLive w) in
+    subst P (sym c.loop-watch.invariant.same.world) (live_watch c.args.engine.now.world ws i c.requires)
+
+pub returns-in_err-told-clause-quiet : goal.returns-in_err-told-clause-quiet
+returns-in_err-told-clause-quiet g c = λ none. c.slot_foreseen.ensures.quiet (none_watched c.args.watches.now c.loop-watch.watch-index none) ∙ c.loop-watch.invariant.quiet none
+
+pub returns-in_err-push-clause-quiet : goal.returns-in_err-push-clause-quiet
+returns-in_err-push-clause-quiet g c = λ none. c.slot_foreseen.ensures.quiet (none_watched c.args.watches.now c.loop-watch.watch-index none) ∙ c.loop-watch.invariant.quiet none
+
+pub loop-watch-preserved : goal.loop-watch-preserved
+loop-watch-preserved g c =
+    let ws = c.args.watches.now in
+    let i = c.loop-watch.watch-index in
+    let n = c.args.number in
+    let same : c.loop-watch.engine.world ≡ c.args.engine.now.world = c.loop-watch.invariant.same.world in
+    let within : i < length ws = omega arith in
+    record {
+      told = λ v vs told.
+          ap lists_of c.in_ok-push.ensures.items
+          ∙ lists_more n c.args.engine.now.world (assign c.args.engine.now.world v vs) ws i c.loop-watch.all.items c.in_ok-told.told within (c.loop-watch.invariant.told v vs told)
+          (subst (λ (w : World). c.in_ok-told.told.items ≡ slot_notices n w (assign w v vs) (get_or ws i None)) same
+          (c.in_ok-told.ensures.told v vs (subst (λ (w : World). Foretells w v vs c.args.foresight.now) (sym same) told)));
+      same = record {
+        world = c.slot_foreseen.ensures.same.world ∙ c.loop-watch.invariant.same.world;
+        holds = c.slot_foreseen.ensures.same.holds ∙ c.loop-watch.invariant.same.holds;
+        next = c.slot_foreseen.ensures.same.next ∙ c.loop-watch.invariant.same.next;
+      };
+      stay = λ v fresh. c.slot_foreseen.ensures.stay v (c.loop-watch.invariant.stay v fresh);
+      quiet = λ none. c.slot_foreseen.ensures.quiet (none_watched ws i none) ∙ c.loop-watch.invariant.quiet none;
+    }
+
+pub returns-clause-told : goal.returns-clause-told
+returns-clause-told g c = λ v vs told.
+    c.loop-watch.invariant.told v vs told
+    ∙ ap (notices c.args.number c.args.engine.now.world (assign c.args.engine.now.world v vs)) (take_all c.loop-watch.watch-index c.args.watches.now (omega arith))

@@ -1,0 +1,330 @@
+-- What a session keeps from one statement to the next, and what it moves.
+use Rattle.std.proofs.Common.{◌≡◌, ℕ, ℤ, ◌+◌, ◌≤◌, Bool, true, false, List, [], ◌∷◌, ◌++◌, map, Option, Some, None, Result, Ok, Err, inl, inr, refl, sym, ap, subst, ◌∙◌, arith, eq-eqb, eqb-true}
+use Rattle.std.specs.Option.{option_map_or}
+use Rattle.std.specs.Prelude.{◌==◌, if◌then◌else◌, nat_eq, is_ok, IfSome, IsSomeAnd, OnErr, OnOk, length}
+use Rattle.std.specs.Cmp.Lexicographic.{pointwise}
+use Rattle.pdl_lemmas.specs.Tests.{by_test}
+use Rattle.pdl_shape.specs.Shape.{size_of}
+use Rattle.pdl_buf.specs.declared.made.Made.{Made}
+use Rattle.pdl_world.specs.BaseLaws.{IsShownAsBefore, ReachedKeepBases, SweepsLeaveLooks}
+use Rattle.pdl_world.specs.Laws.{OlderStay}
+use Rattle.pdl_world.specs.Sound.{IsLive, IsSound, NumbersBelow}
+use Rattle.pdl_world.specs.Swept.{holds, sweep, held_itself}
+use Rattle.pdl_world.specs.SweepLaws.{NewGoesUnheld, ReachedAreSeenAsBefore}
+use Rattle.pdl_world.specs.Windows.{base}
+use Rattle.pdl_world.specs.World.{World, ArrayDef, Look, look, root, dims_in, has_repeats, places_in, assign as assign_in}
+use Rattle.pdl_engine.specs.Reading.{IsWarm, KeepsViews, read_steps, view_as}
+use Rattle.pdl_engine.specs.State.{is_fresh}
+use Rattle.pdl_lexemes.specs.declared.AssignOp.{AssignOp}
+use Rattle.pdl_syntax.specs.StatementTree.{StatementTree, View, assign, bind, bind_list, pp_def, reshape, sever, show, show_text, undef, unwatch, vars, watch}
+use Rattle.pdl_syntax.specs.Tree.{Tree, number, named, literal, unary, binary, call}
+use Rattle.pdl_machine.specs.declared.fault.Fault.{Fault}
+use Rattle.pdl_machine.specs.Arrays.{Arrays, array_in, with_new}
+use Rattle.pdl_machine.specs.Laws.{AreGrown}
+use Rattle.pdl_machine.specs.Names.{Named, Names, found, number_of}
+use Rattle.pdl_machine.specs.Outcome.{Valued}
+use Rattle.pdl_machine.specs.State.{State, AreLive, IsSwept, IsWhole, held, kept, with_arrays, with_world}
+use Rattle.pdl_machine.specs.Step.{Stepped, assigned, assigning, effect, target}
+use Rattle.pdl_machine.specs.Then.{and_then}
+use Rattle.pdl_machine.specs.Operators.{values_for}
+use Rattle.pdl_machine.specs.Value.{known, number_made, value_in, value_of}
+use Rattle.pdl_machine.specs.Watches.{attached}
+use Rattle.pdl_scope.specs.declared.fault.ScopeFault.{ScopeFault}
+use Rattle.pdl_scope.specs.Answers.{Prints, Runs}
+use Rattle.pdl_scope.specs.Scope.{Scope, engine_of, machine, Grows, OnlyReads}
+use Rattle.pdl_session.specs.Bounds.{AssignsPlainly, LeavesReadable, MovesPlainly, PrintsPlainly, RunsInPlace, plain_count, warm_after}
+use Rattle.pdl_session.specs.Session.{IsAtRest, IsKeptWarm}
+use Rattle.pdl_session.proofs.Bounded.{grown_look}
+
+-- each array of a list of live ones is live
+live_held : (w : World) (vs : List ℕ) (v : ℕ) → AreLive w vs → holds vs v ≡ true → IsLive w v
+live_held w [] v live h = cc
+live_held w (u ∷ vs) v live h = by_test (u == v)
+    (λ is. subst (IsLive w) (eqb-true u v is) live.0)
+    (λ other. live_held w vs v live.1 (rw other at h))
+
+-- what is held is held among more
+held_past : (u v : ℕ) (vs : List ℕ) → holds vs v ≡ true → holds (u ∷ vs) v ≡ true
+held_past u v vs h = by_test (u == v) (λ is. rw is refl) (λ other. rw other h)
+
+-- the array of a name is held
+found_held : (names : Named ℕ) (more : List ℕ) (x : List ℕ) → IfSome (found names x) (λ v. holds (map (λ n. n.1) names ++ more) v ≡ true)
+found_held [] more x = tt
+found_held (n ∷ names) more x = by_name (pointwise nat_eq x n.0) (found names x) (found_held names more x)
+  where
+    by_name : (same : Bool) (o : Option ℕ) → IfSome o (λ v. holds (map (λ n. n.1) names ++ more) v ≡ true) → IfSome (if same then Some n.1 else o) (λ v. holds (map (λ n. n.1) (n ∷ names) ++ more) v ≡ true)
+    by_name true o rest = rw (eq-eqb n.1 n.1 refl) refl
+    by_name false None rest = tt
+    by_name false (Some v) rest = held_past n.1 v (map (λ n. n.1) names ++ more) rest
+
+pub name_held : (s : State) (x : List ℕ) (v : ℕ) → number_of s.names x ≡ Some v → holds (held s) v ≡ true
+name_held s x v is = subst (λ o. IfSome o (λ u. holds (held s) u ≡ true)) is (found_held s.names.arrays (attached s.watches) x)
+
+pub name_live : (s : State) (x : List ℕ) (v : ℕ) → IsWhole s → number_of s.names x ≡ Some v → IsLive s.arrays.world v
+name_live s x v whole is = live_held s.arrays.world (held s) v whole.live (name_held s x v is)
+
+-- new arrays that aren't held leave nothing of a sweep
+grown_sweep : NewGoesUnheld → OlderStay → (more w : World) (vs : List ℕ) → IsSound (more ++ w) → AreLive w vs → sweep (more ++ w) vs ≡ sweep w vs
+grown_sweep goes older [] w vs sound live = refl
+grown_sweep goes older ((k, d) ∷ more) w vs sound live =
+    let there : (v : ℕ) → holds vs v ≡ true → IsLive (more ++ w) v = λ v h.
+    (let l : IsLive w v = live_held w vs v live h in subst (λ o. IsSomeAnd o (λ l. Unit {0})) (sym (grown_look older more w v sound.2 l)) l) in
+    goes (more ++ w) k d vs sound.0 there ∙ grown_sweep goes older more w vs sound.2 live
+
+pub swept_grown : NewGoesUnheld → OlderStay → (old new : Arrays) (vs : List ℕ) → AreGrown old new → IsSound new.world → AreLive old.world vs → sweep new.world vs ≡ sweep old.world vs
+swept_grown goes older old new vs grown sound live =
+    ap (λ w. sweep w vs) grown.is ∙ grown_sweep goes older grown.more old.world vs (subst IsSound grown.is sound) live
+
+-- the laws that this takes from worlds
+pub record Laws : Type 0 where
+  pub goes : NewGoesUnheld
+  pub older : OlderStay
+  pub bases : ReachedKeepBases
+  pub seen : ReachedAreSeenAsBefore
+  pub assigned : SweepsLeaveLooks
+
+-- A statement has run from one scope to another, and then what nothing reaches was let go.
+pub record LetsGo (old mid new : Scope) : Type 0 where
+  pub whole : IsWhole (machine old)
+  pub swept : IsSwept (machine old)
+  pub ran : IsWhole (machine mid)
+  pub gone : machine new ≡ with_world (machine mid) (kept (machine mid))
+  pub stay : (v : ℕ) → IsLive new.arrays.world v → is_fresh (engine_of mid) v ≡ true → is_fresh (engine_of new) v ≡ true
+
+world_is : (old mid new : Scope) → LetsGo old mid new → new.arrays.world ≡ kept (machine mid)
+world_is old mid new h = ap (λ (s : State). s.arrays.world) h.gone
+
+-- where only new arrays came, the arrays of before are left
+pub grown_back : Laws → (old mid new : Scope) → LetsGo old mid new → Grows old mid → new.arrays.world ≡ old.arrays.world
+grown_back laws old mid new h grown =
+    let vs = held (machine old) in
+    world_is old mid new h
+    ∙ ap (λ (names : Names). sweep mid.arrays.world (map (λ n. n.1) names.arrays ++ attached mid.watches)) grown.names
+    ∙ ap (λ ws. sweep mid.arrays.world (map (λ n. n.1) old.names.arrays ++ attached ws)) grown.watches
+    ∙ swept_grown laws.goes laws.older old.arrays mid.arrays vs grown.arrays h.ran.sound h.whole.live
+    ∙ h.swept
+
+-- so where arrays were read
+pub reads_back : Laws → (old mid new : Scope) → LetsGo old mid new → OnlyReads old mid → new.arrays.world ≡ old.arrays.world
+reads_back laws old mid new h reads =
+    world_is old mid new h
+    ∙ ap (λ (names : Names). sweep mid.arrays.world (map (λ n. n.1) names.arrays ++ attached mid.watches)) reads.names
+    ∙ ap (λ ws. sweep mid.arrays.world (map (λ n. n.1) old.names.arrays ++ attached ws)) reads.watches
+    ∙ ap (λ (a : Arrays). sweep a.world (held (machine old))) reads.arrays
+    ∙ h.swept
+
+-- a root was made, and values were assigned
+record IsWritten (s new : State) : Type 0 where
+  d : ArrayDef
+  v : ℕ
+  values : List ℤ
+  after : Arrays
+  world : after.world ≡ assign_in ((s.arrays.next, d) ∷ s.arrays.world) v values
+  is : new ≡ with_arrays s after
+
+values_written : (s new : State) (a : Arrays) (d : ArrayDef) (v : ℕ) (o n : List ℕ) (r : Result (List ℤ) Fault) → a.world ≡ (s.arrays.next, d) ∷ s.arrays.world
+    → Prints (and_then (and_then r (λ values. Ok (record a { world = assign_in a.world v values }))) (λ b. Ok (with_arrays s b, []))) new o n → IsWritten s new
+values_written s new a d v o n (Err e) is h = absurd h
+values_written s new a d v o n (Ok values) is h = record {
+  d = d;
+  v = v;
+  values = values;
+  after = record a { world = assign_in a.world v values };
+  world = ap (λ w. assign_in w v values) is;
+  is = h.0;
+}
+
+-- of the arrays after the root, whatever it is
+root_written : (s new : State) (d : ArrayDef) (v : ℕ) (sign : AssignOp) (o n : List ℕ) → Prints (and_then (assigned sign (with_new s.arrays d).0 v s.arrays.next) (λ a. Ok (with_arrays s a, []))) new o n → IsWritten s new
+root_written s new d v sign o n h =
+    let a = (with_new s.arrays d).0 in
+    values_written s new a d v o n (values_for sign (array_in a v) (array_in a s.arrays.next)) refl h
+
+-- what is written where the right side is a number or a list
+written : (s new : State) (x : List ℕ) (sign : AssignOp) (e : Tree) (count : ℕ) (o n : List ℕ) → plain_count e ≡ Some count → Prints (assigning s (named x) sign e) new o n → IsWritten s new
+written s new x sign e count o n plain h = by_name (number_of s.names x) e plain h
+  where
+    by_name : (b : Option ℕ) (e : Tree) → plain_count e ≡ Some count
+        → Prints (and_then (known s.arrays b) (λ v. and_then (value_of s.names v.0 e) (λ u. and_then (assigned sign u.0 v.1 u.1) (λ a. Ok (with_arrays s a, []))))) new o n → IsWritten s new
+    by_name None e plain h = absurd h
+    by_name (Some v) (number k) plain h = root_written s new (root (number_made k).ty [] (k ∷ [])) v sign o n h
+    by_name (Some v) (literal ty ds es) plain h = root_written s new (root ty ds es) v sign o n h
+    by_name (Some v) (named y) plain h = absurd (cc)
+    by_name (Some v) (unary op f) plain h = absurd (cc)
+    by_name (Some v) (binary op f g) plain h = absurd (cc)
+    by_name (Some v) (call f args) plain h = absurd (cc)
+
+-- what is seen then is what was seen before, once the root is let go
+written_back : Laws → (old mid new : Scope) (u : ℕ) → LetsGo old mid new → IsWritten (machine old) (machine mid) → look new.arrays.world u ≡ look old.arrays.world u
+written_back laws old mid new u h w =
+    let vs = held (machine old) in
+    let first = (old.arrays.next, w.d) ∷ old.arrays.world in
+    ap (λ z. look z u) (world_is old mid new h)
+    ∙ ap (λ s. look (kept s) u) w.is
+    ∙ ap (λ z. look (sweep z vs) u) w.world
+    ∙ laws.assigned first w.v u w.values vs
+    ∙ ap (λ z. look z u) (laws.goes old.arrays.world old.arrays.next w.d vs h.whole.below (λ v held. live_held old.arrays.world vs v h.whole.live held) ∙ h.swept)
+
+-- an assignment leaves names, and watches
+assigned_names : (s new : State) (to : Tree) (sign : AssignOp) (e : Tree) (o n : List ℕ) → Prints (assigning s to sign e) new o n → new.names ≡ s.names
+assigned_names s new to sign e o n h = by_target (value_in s to) h
+  where
+    by_target : (t : Valued) → Prints (and_then t (λ v. and_then (value_of s.names v.0 e) (λ u. and_then (assigned sign u.0 v.1 u.1) (λ a. Ok (with_arrays s a, []))))) new o n → new.names ≡ s.names
+    by_target (Err f) h = absurd h
+    by_target (Ok v) h = by_value (value_of s.names v.0 e) h
+      where
+        by_value : (t : Valued) → Prints (and_then t (λ u. and_then (assigned sign u.0 v.1 u.1) (λ a. Ok (with_arrays s a, [])))) new o n → new.names ≡ s.names
+        by_value (Err f) h = absurd h
+        by_value (Ok u) h = by_values (assigned sign u.0 v.1 u.1) h
+          where
+            by_values : (t : Result Arrays Fault) → Prints (and_then t (λ a. Ok (with_arrays s a, []))) new o n → new.names ≡ s.names
+            by_values (Err f) h = absurd h
+            by_values (Ok a) h = ap (λ (t : State). t.names) h.0
+
+-- an array that is held stays warm
+warm_held : Laws → (old mid new : Scope) (v : ℕ) → LetsGo old mid new → holds (held (machine mid)) v ≡ true → IsWarm (engine_of mid) v → IsKeptWarm new v
+warm_held laws old mid new v h is warm =
+    let vs = held (machine mid) in
+    let w = mid.arrays.world in
+    let live : IsLive w v = live_held w vs v h.ran.live is in
+    let there : IsLive (sweep w vs) v = subst (λ o. IsSomeAnd o (λ l. Unit {0})) (sym (laws.seen w vs v h.ran.sound (held_itself v is)).look_is) live in
+    let kept : IsShownAsBefore w (sweep w vs) v = laws.bases w vs v h.ran.sound (held_itself v is) in
+    let left : IsLive new.arrays.world v = subst (λ z. IsLive z v) (sym (world_is old mid new h)) there in
+    let same : places_in new.arrays.world (base new.arrays.world v) ≡ places_in w (base w v) =
+    ap (λ z. places_in z (base z v)) (world_is old mid new h) ∙ ap (places_in (sweep w vs)) kept.base_is ∙ ap (λ o. option_map_or (λ (l : Look). l.places) o []) kept.base_look_is in
+    (left, λ none. h.stay v left (warm (ap has_repeats (sym same) ∙ none)))
+
+-- after a statement: what it assigned to is warm
+pub assigned_warm : Laws → (present : List Bool) (st : StatementTree) (old mid new : Scope) (o n : List ℕ) → LetsGo old mid new → Prints (effect present (machine old) st) (machine mid) o n → LeavesReadable st old mid
+    → IfSome (warm_after old st) (IsKeptWarm new)
+assigned_warm laws present (assign x [] sign e) old mid new o n h ran readable = by_name (number_of old.names x) refl readable
+  where
+    by_name : (b : Option ℕ) → number_of old.names x ≡ b → IfSome b (IsWarm (engine_of mid)) → IfSome b (IsKeptWarm new)
+    by_name None is warm = tt
+    by_name (Some v) is warm =
+        let bound : number_of mid.names x ≡ Some v = ap (λ names. number_of names x) (assigned_names (machine old) (machine mid) (named x) sign e o n ran) ∙ is in
+        warm_held laws old mid new v h (name_held (machine mid) x v bound) warm
+assigned_warm laws present (assign x (v ∷ vs) sign e) old mid new o n h ran readable = tt
+assigned_warm laws present (bind x e severs) old mid new o n h ran readable = tt
+assigned_warm laws present (bind_list xs e) old mid new o n h ran readable = tt
+assigned_warm laws present (show e info) old mid new o n h ran readable = tt
+assigned_warm laws present (show_text t) old mid new o n h ran readable = tt
+assigned_warm laws present (sever x) old mid new o n h ran readable = tt
+assigned_warm laws present (reshape x sizes) old mid new o n h ran readable = tt
+assigned_warm laws present (undef x) old mid new o n h ran readable = tt
+assigned_warm laws present vars old mid new o n h ran readable = tt
+assigned_warm laws present (pp_def f s c) old mid new o n h ran readable = tt
+assigned_warm laws present (watch x k) old mid new o n h ran readable = tt
+assigned_warm laws present (unwatch k) old mid new o n h ran readable = tt
+
+-- after a refused one what was warm is
+pub refused_warm : Laws → (old mid new : Scope) (warm : Option ℕ) → LetsGo old mid new → Grows old mid → IfSome warm (IsKeptWarm old) → IfSome warm (IsKeptWarm new)
+refused_warm laws old mid new None h grown before = tt
+refused_warm laws old mid new (Some v) h grown before =
+    let back : new.arrays.world ≡ old.arrays.world = grown_back laws old mid new h grown in
+    let left : IsLive new.arrays.world v = subst (λ z. IsLive z v) (sym back) before.0 in
+    (left, λ none. h.stay v left (grown.stay v (before.1 (ap (λ z. has_repeats (places_in z (base z v))) (sym back) ∙ none))))
+
+-- what a statement leaves readable can be read after the others were let go
+pub left_readable : Laws → (present : List Bool) (st : StatementTree) (old mid new : Scope) (before after : ℕ) (o n : List ℕ) → LetsGo old mid new → Prints (effect present (machine old) st) (machine mid) o n → MovesPlainly st old mid before after
+    → LeavesReadable st old mid → LeavesReadable st old new
+left_readable laws present (assign x [] sign e) old mid new before after o n h ran moves readable =
+    by_name (number_of old.names x) (assigned_warm laws present (assign x [] sign e) old mid new o n h ran readable)
+  where
+    by_name : (b : Option ℕ) → IfSome b (IsKeptWarm new) → IfSome b (IsWarm (engine_of new))
+    by_name None warm = tt
+    by_name (Some v) warm = warm.1
+left_readable laws present (show (named x) false) old mid new before after o n h ran moves readable = by_name (number_of old.names x) refl readable
+  where
+    by_name : (b : Option ℕ) → number_of old.names x ≡ b → IfSome b (λ v. is_fresh (engine_of mid) v ≡ true) → IfSome b (λ v. is_fresh (engine_of new) v ≡ true)
+    by_name None is fresh = tt
+    by_name (Some v) is fresh =
+        let back : new.arrays.world ≡ old.arrays.world = reads_back laws old mid new h moves.reads in
+        h.stay v (subst (λ z. IsLive z v) (sym back) (name_live (machine old) x v h.whole is)) fresh
+left_readable laws present (assign x (v ∷ vs) sign e) old mid new before after o n h ran moves readable = tt
+left_readable laws present (show (named x) true) old mid new before after o n h ran moves readable = tt
+left_readable laws present (show (number k) info) old mid new before after o n h ran moves readable = tt
+left_readable laws present (show (literal ty ds es) info) old mid new before after o n h ran moves readable = tt
+left_readable laws present (show (unary op e) info) old mid new before after o n h ran moves readable = tt
+left_readable laws present (show (binary op e f) info) old mid new before after o n h ran moves readable = tt
+left_readable laws present (show (call f args) info) old mid new before after o n h ran moves readable = tt
+left_readable laws present (bind x e severs) old mid new before after o n h ran moves readable = tt
+left_readable laws present (bind_list xs e) old mid new before after o n h ran moves readable = tt
+left_readable laws present (show_text t) old mid new before after o n h ran moves readable = tt
+left_readable laws present (sever x) old mid new before after o n h ran moves readable = tt
+left_readable laws present (reshape x sizes) old mid new before after o n h ran moves readable = tt
+left_readable laws present (undef x) old mid new before after o n h ran moves readable = tt
+left_readable laws present vars old mid new before after o n h ran moves readable = tt
+left_readable laws present (pp_def f s c) old mid new before after o n h ran moves readable = tt
+left_readable laws present (watch x k) old mid new before after o n h ran moves readable = tt
+left_readable laws present (unwatch k) old mid new before after o n h ran moves readable = tt
+
+-- the arrays of before are seen as before where a number or a list is assigned to a bare name
+seen_back : {T : Type 0} → Laws → (present : List Bool) (r : Result T ScopeFault) (x : List ℕ) (sign : AssignOp) (e : Tree) (count u : ℕ) (old mid new : Scope) (o n : List ℕ) → LetsGo old mid new → plain_count e ≡ Some count
+    → Runs (effect present (machine old) (assign x [] sign e)) old mid o n r → look new.arrays.world u ≡ look old.arrays.world u
+seen_back laws present (Ok t) x sign e count u old mid new o n h plain ran =
+    written_back laws old mid new u h (written (machine old) (machine mid) x sign e count o n plain ran)
+seen_back laws present (Err f) x sign e count u old mid new o n h plain ran =
+    ap (λ z. look z u) (grown_back laws old mid new h ran.1.grown)
+
+-- a number or a list is assigned again to an array that is warm
+pub again : {T : Type 0} → Laws → (present : List Bool) (r : Result T ScopeFault) (st : StatementTree) (warm : Option ℕ) (old mid new : Scope) (before now after : ℕ) (o n : List ℕ) → LetsGo old mid new
+    → IfSome warm (IsKeptWarm old) → Runs (effect present (machine old) st) old mid o n r → MovesPlainly st old mid before now → (KeepsViews mid.arrays.world new.arrays.world → after ≡ now)
+    → (x : List ℕ) (sign : AssignOp) (e : Tree) (v count : ℕ) → st ≡ assign x [] sign e → plain_count e ≡ Some count → number_of old.names x ≡ Some v → warm ≡ Some v
+    → has_repeats (places_in old.arrays.world (base old.arrays.world v)) ≡ false → attached old.watches ≡ []
+    → after ≤ before + (size_of (dims_in old.arrays.world v) + count)
+again laws present r st warm old mid new before now after o n h rest ran moves let_go x sign e v count is plain bound warm_is none unwatched =
+    let m : IfSome (plain_count e) (λ k. AssignsPlainly x k old mid before now) = subst (λ s. MovesPlainly s old mid before now) is moves in
+    let a : AssignsPlainly x count old mid before now = subst (λ b. IfSome b (λ k. AssignsPlainly x k old mid before now)) plain m in
+    let at : IsKeptWarm old v = subst (λ b. IfSome b (IsKeptWarm old)) warm_is rest in
+    let moved : now ≤ before + (size_of (dims_in old.arrays.world v) + count) = a.counted v bound (at.1 none) unwatched in
+    let runs : Runs (effect present (machine old) (assign x [] sign e)) old mid o n r = subst (λ s. Runs (effect present (machine old) s) old mid o n r) is ran in
+    let keeps : KeepsViews mid.arrays.world new.arrays.world = λ u view.
+    view_as old.arrays.world new.arrays.world u (sym (seen_back laws present r x sign e count u old mid new o n h plain runs)) (a.roots u view) in
+    let same : after ≡ now = let_go keeps in
+    omega (arith, moved, same)
+
+-- a bare name is printed
+pub shown : Laws → (st : StatementTree) (old mid new : Scope) (before now after : ℕ) → LetsGo old mid new → MovesPlainly st old mid before now → (KeepsViews mid.arrays.world new.arrays.world → after ≡ now)
+    → (x : List ℕ) (v : ℕ) → st ≡ show (named x) false → number_of old.names x ≡ Some v → after ≤ before + read_steps (engine_of old) v
+shown laws st old mid new before now after h moves let_go x v is bound =
+    let m : PrintsPlainly x old mid before now = subst (λ s. MovesPlainly s old mid before now) is moves in
+    let moved : now ≤ before + read_steps (engine_of old) v = m.counted v bound in
+    let back : new.arrays.world ≡ mid.arrays.world = reads_back laws old mid new h m.reads ∙ ap (λ (a : Arrays). a.world) (sym m.reads.arrays) in
+    let same : after ≡ now = let_go (λ u view. subst (λ z. KeepsViews mid.arrays.world z) (sym back) (λ y there. there) u view) in
+    omega (arith, moved, same)
+
+-- what ran in place
+pub in_place : {T : Type 0} (present : List Bool) (r : Result T ScopeFault) (st : StatementTree) (old mid new : Scope) (o n : List ℕ) → machine new ≡ with_world (machine mid) (kept (machine mid))
+    → Runs (effect present (machine old) st) old mid o n r → OnOk r (RunsInPlace present old st new)
+in_place present (Err f) st old mid new o n gone ran = tt
+in_place present (Ok t) st old mid new o n gone ran = by_effect (effect present (machine old) st) refl ran
+  where
+    by_effect : (x : Stepped) → effect present (machine old) st ≡ x → Prints x (machine mid) o n → RunsInPlace present old st new
+    by_effect (Err f) is prints = absurd prints
+    by_effect (Ok after) is prints = record { after = after; is = is; left = gone ∙ ap (λ s. with_world s (kept s)) prints.0 }
+
+-- what a session keeps after a statement
+pub at_rest : {T : Type 0} → Laws → (present : List Bool) (r : Result T ScopeFault) (st : StatementTree) (warm assigned now : Option ℕ) (old mid new : Scope) (o n : List ℕ) → LetsGo old mid new → IsSwept (machine new) → IfSome warm (IsKeptWarm old)
+    → assigned ≡ warm_after old st → now ≡ (if is_ok r then assigned else warm) → Runs (effect present (machine old) st) old mid o n r → OnOk r (LeavesReadable st old mid) → IsAtRest new now
+at_rest laws present (Ok t) st warm assigned now old mid new o n h swept rest at is ran readable = record {
+  swept = swept;
+  kept_warm = subst (λ b. IfSome b (IsKeptWarm new)) (sym (is ∙ at)) (assigned_warm laws present st old mid new o n h ran readable);
+}
+at_rest laws present (Err f) st warm assigned now old mid new o n h swept rest at is ran readable = record {
+  swept = swept;
+  kept_warm = subst (λ b. IfSome b (IsKeptWarm new)) (sym is) (refused_warm laws old mid new warm h ran.1.grown rest);
+}
+
+pub warm_ok : {T : Type 0} (r : Result T ScopeFault) (assigned before now wanted : Option ℕ) → now ≡ (if is_ok r then assigned else before) → assigned ≡ wanted → OnOk r (now ≡ wanted)
+warm_ok (Ok t) assigned before now wanted is at = is ∙ at
+warm_ok (Err f) assigned before now wanted is at = tt
+
+pub warm_err : {T : Type 0} (r : Result T ScopeFault) (assigned before now wanted : Option ℕ) → now ≡ (if is_ok r then assigned else before) → before ≡ wanted → OnErr r (now ≡ wanted)
+warm_err (Ok t) assigned before now wanted is at = tt
+warm_err (Err f) assigned before now wanted is at = is ∙ at
+
+pub readable_then : {T : Type 0} → Laws → (present : List Bool) (r : Result T ScopeFault) (st : StatementTree) (old mid new : Scope) (before after : ℕ) (o n : List ℕ) → LetsGo old mid new → Runs (effect present (machine old) st) old mid o n r → MovesPlainly st old mid before after
+    → OnOk r (LeavesReadable st old mid) → OnOk r (LeavesReadable st old new)
+readable_then laws present (Ok t) st old mid new before after o n h ran moves readable = left_readable laws present st old mid new before after o n h ran moves readable
+readable_then laws present (Err f) st old mid new before after o n h ran moves readable = tt

@@ -1,0 +1,49 @@
+-- A script of late writes, and what each of its statements moves at most, worked by hand.
+use Rattle.std.specs.Prelude.{◌≡◌, ℕ, ◌+◌, ◌<◌, ◌≤◌, pos, false, List, [], ◌∷◌, get_or, codes}
+use Rattle.pdl_engine.specs.State.{IsLazy}
+use Rattle.pdl_lexemes.specs.declared.AssignOp.TheVariants.{Set}
+use Rattle.pdl_syntax.specs.StatementTree.{StatementTree, assign, bind, show, vars}
+use Rattle.pdl_syntax.specs.Tree.{named, number}
+use Rattle.pdl_machine.specs.Worked.{sequence_to}
+use Rattle.pdl_machine.specs.WorkedCuts.{called, pdl, whole_numbers}
+use Rattle.pdl_scope.specs.Scope.{engine_of}
+use Rattle.pdl_session.specs.Bounds.{LeavesReadable, RunsInPlace, warm_after}
+use Rattle.pdl_session.specs.Session.{AssignsAgain, IsAtRest, PrintsAtMost, Session, no_steps}
+
+-- One session follows another by a statement that ran without watchers, as the clauses of `step`
+-- and of `at_rest` say it; the counter stood at `before`, and stands at `after`.
+pub record Follows (old : Session) (statement : StatementTree) (new : Session)
+    (before after : ℕ) : Type 0 where
+  pub in_place : RunsInPlace [] old.scope statement new.scope
+  pub warm : new.warm ≡ warm_after old.scope statement
+  pub again : AssignsAgain old statement before after
+  pub shown : PrintsAtMost old statement before after
+  pub readable : LeavesReadable statement old.scope new.scope
+  pub rest : IsAtRest new.scope new.warm
+  pub lazy : IsLazy (engine_of new.scope)
+
+-- $b .= n;
+abbrev pub to_b : ℕ → StatementTree
+to_b n = assign (codes "b") [] Set (number (pos n))
+
+-- p $x;
+abbrev pub print_x : StatementTree
+print_x = show (named (codes "x")) false
+
+-- $x = sequence(10); $b = $x->index(pdl [0,2,4]); $b .= 1; $b .= 2; p $x; p $x;
+abbrev pub late_writes : List StatementTree
+late_writes =
+    bind (codes "x") (sequence_to 10) false
+    ∷ bind
+    (codes "b")
+    (called (codes "index") (named (codes "x") ∷ pdl (whole_numbers (0 ∷ 2 ∷ 4 ∷ [])) ∷ []))
+    false
+    ∷ to_b 1 ∷ to_b 2 ∷ print_x ∷ print_x ∷ []
+
+-- the fourth statement moves at most four elements, the fifth at most three, and the sixth none
+abbrev pub LateWritesMoveLittle : Type 0
+LateWritesMoveLittle =
+    (s : ℕ → Session) (n : ℕ → ℕ) → s 0 ≡ no_steps
+    → ((i : ℕ) → i < 6
+    → Follows (s i) (get_or late_writes i vars) (s (i + 1)) (n i) (n (i + 1)))
+    → (n 4 ≤ n 3 + 4) × (n 5 ≤ n 4 + 3) × (n 6 ≤ n 5)

@@ -1,0 +1,5 @@
+use Rattle.pdl_shell.proofs.WorkedRuns.{worked_statuses}
+use Rattle.pdl_shell.proofs.laws.worked_statuses.Goals as goal
+
+pub returns : goal.returns
+returns c = worked_statuses

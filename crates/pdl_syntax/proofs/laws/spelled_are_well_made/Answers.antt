@@ -1,0 +1,7 @@
+use Rattle.pdl_syntax.proofs.Arrays.{well_made}
+use Rattle.pdl_syntax.proofs.Raggedness.{statement_clean}
+use Rattle.pdl_syntax.proofs.laws.spelled_are_well_made.Goals as goal
+
+pub returns : goal.returns
+returns c source ts s h all none =
+    well_made c.lists_are_arrays.ensures h (statement_clean c.ragged_is_scanned.ensures c.lists_are_arrays.ensures h none) all

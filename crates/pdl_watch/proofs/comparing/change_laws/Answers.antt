@@ -1,0 +1,5 @@
+use Rattle.pdl_watch.proofs.Unchanged.{no_changes}
+use Rattle.pdl_watch.proofs.comparing.change_laws.Goals as goal
+
+pub returns : goal.returns
+returns c = λ n es. no_changes n 0 es
