@@ -3,7 +3,7 @@
 #![tactic(auto)]
 
 use pdl_io::{ReadSource, WriteSink};
-use pdl_shell::{MOST_SLOTS, Status, run_shell};
+use pdl_shell::{MOST_SLOTS, Refused, Status, run_shell};
 use pdl_watch::{LineWatcher, Watcher, are_open};
 use std::alloc::AllocError;
 use std::env;
@@ -41,7 +41,15 @@ fn watched(rt: &HostRuntime, words: &[String]) -> Result<Status, AllocError> {
     }
     let mut source = ReadSource::new(rt.stdin());
     let mut sink = WriteSink::new(rt.stdout());
-    Ok(run_shell(alloc, words, &mut source, &mut sink, &mut watchers))
+    let mut refused = Refused::new();
+    Ok(run_shell(
+        alloc,
+        words,
+        &mut source,
+        &mut sink,
+        &mut watchers,
+        &mut refused,
+    ))
 }
 
 fn answer(rt: &HostRuntime) -> Status {

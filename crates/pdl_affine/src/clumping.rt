@@ -9,7 +9,7 @@ ghost use Rattle.pdl_affine.specs.Courses.{counted_incs, first_inc, others};
 
 use crate::composing::incs_of;
 use crate::counting::{counted_offset, counting};
-use pdl_shape::{Dims, Triple, dims_list, shape_laws, triple_of};
+use pdl_shape::{Dims, MOST_DIMS, Triple, dims_list, shape_laws, triple_of};
 use smallvec::SmallVec;
 use std::alloc::Global;
 
@@ -92,7 +92,7 @@ fn first_inc(incs: &[i32], sizes: &[u32]) -> i32
 }
 
 /// The increments, each counted along its size.
-fn counted_incs(alloc: Global, first: i32, rest: &[i32], dims: &Dims) -> SmallVec<i32, 16>
+fn counted_incs(alloc: Global, first: i32, rest: &[i32], dims: &Dims) -> SmallVec<i32, MOST_DIMS>
     requires { length rest.now + 1 ≡ length dims.now }
     ensures { result.items ≡ counted_incs (first ∷ rest.now) dims.now }
 {
@@ -116,7 +116,7 @@ fn joins(count: usize, over: &Triple) -> bool
 }
 
 /// The increments of a clump that joins.
-fn joined_incs(alloc: Global, count: usize, dims: &Dims, over: &Triple) -> SmallVec<i32, 16>
+fn joined_incs(alloc: Global, count: usize, dims: &Dims, over: &Triple) -> SmallVec<i32, MOST_DIMS>
     requires within { count ≤ length over.now.dims }
     requires sized { dims.now ≡ sizes (clumped count) over.now.dims }
     ensures incs { let first = first_inc (take count over.now.incs) (take count over.now.dims) in

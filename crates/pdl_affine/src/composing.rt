@@ -1,7 +1,7 @@
 //! The triple that shows a view over the base of its parent (PDL::API, affine transformations).
 ghost use Rattle.std.specs.Prelude.{◌≡◌, ◌<◌, ◌≤◌, ◌*◌, ◌^◌, ◌+◌, ◌+ℤ◌, ◌*ℤ◌, pos, ℕ, map, length, unsigned_abs, slice_index, if◌then◌else◌, ◌==◌, IfSome};
 ghost use Rattle.std.specs.List.{range_with_len};
-ghost use Rattle.pdl_shape.specs.Shape.{extent_limit};
+ghost use Rattle.pdl_shape.specs.Shape.{dims_limit, extent_limit};
 ghost use Rattle.pdl_shape.specs.Triple.{IsTriple};
 ghost use Rattle.pdl_affine.specs.Views.{sizes};
 ghost use Rattle.pdl_affine.specs.Windows.{windowed, triple_showing, Shows, LiesIn, form_place};
@@ -11,7 +11,7 @@ use crate::clumping::clump;
 use crate::counting::{counted_offset, counting};
 use crate::courses::courses_of;
 use crate::forms::{Course, Form};
-use pdl_shape::{Dims, Triple, dims_list, incs_list, shape_laws, triple_of};
+use pdl_shape::{Dims, MOST_DIMS, Triple, dims_list, incs_list, shape_laws, triple_of};
 use smallvec::SmallVec;
 use std::alloc::Global;
 
@@ -35,7 +35,7 @@ fn sum(a: i128, b: i128) -> i128
 
 /// The place of the first element, less the parent's offset.
 fn begun(incs: &[i32], courses: &[Course]) -> i128
-    requires { length incs.now ≤ 16 }
+    requires { length incs.now ≤ dims_limit }
     ensures value { result ≡ begun incs.now courses.now }
     ensures small { unsigned_abs result ≤ length incs.now * 2 ^ 63 }
 {
@@ -53,7 +53,7 @@ fn begun(incs: &[i32], courses: &[Course]) -> i128
 
 /// How far the place moves with one step along a dimension of the view.
 fn gathered(incs: &[i32], courses: &[Course], dimension: usize) -> i128
-    requires { length incs.now ≤ 16 }
+    requires { length incs.now ≤ dims_limit }
     ensures value { result ≡ gathered incs.now courses.now dimension }
     ensures small { unsigned_abs result ≤ length incs.now * 2 ^ 63 }
 {
@@ -82,7 +82,12 @@ fn step_along(course: Course, dimension: usize) -> i32
 }
 
 /// The increments of a view over its parent's.
-fn counted_incs(alloc: Global, over: &Triple, courses: &[Course], dims: &Dims) -> SmallVec<i32, 16>
+fn counted_incs(
+    alloc: Global,
+    over: &Triple,
+    courses: &[Course],
+    dims: &Dims,
+) -> SmallVec<i32, MOST_DIMS>
     requires narrow { (i : ℕ) → i < length dims.now → 1 < slice_index dims.now i →
         unsigned_abs (gathered over.now.incs courses.now i) < extent_limit }
     ensures { let moves = map (gathered over.now.incs courses.now)
@@ -101,7 +106,7 @@ fn counted_incs(alloc: Global, over: &Triple, courses: &[Course], dims: &Dims) -
 /// The increments of a triple.
 pub fn incs_of(over: &Triple) -> &[i32]
     ensures list { result.now ≡ over.now.incs }
-    ensures limit { length result.now ≤ 16 }
+    ensures limit { length result.now ≤ dims_limit }
     ensures triple { IsTriple over.now }
 {
     incs_list(&over.incs)

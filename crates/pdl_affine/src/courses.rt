@@ -1,17 +1,18 @@
 //! The parent's coordinate along each of its dimensions, for coordinates of a view.
 ghost use Rattle.std.specs.Prelude.{◌≡◌, ◌<◌, ◌≤◌, ◌+◌, ◌-◌, ◌||◌, ◌==◌, ◌^◌, not, pos, slice_index, length, take, count_by, position, unwrap_or, if◌then◌else◌, nat_lt};
+ghost use Rattle.pdl_shape.specs.Shape.{dims_limit};
 ghost use Rattle.pdl_affine.specs.Courses.{seen_form, lines_of_taken, IsSound, IsStraight, IsCourse, AreCourses, course_at, full_course, still, exchanged_to, past, shifted_to, diagonal_to, squeezed_to};
 ghost use Rattle.pdl_affine.specs.Views.{kept_dims, lists, lowest_of};
 
 use crate::forms::{Course, Form, Taken};
 use crate::resolving::lists;
 use crate::sizing::{is_kept, lowest_of};
-use pdl_shape::{Dims, dims_list, shape_laws};
+use pdl_shape::{Dims, MOST_DIMS, dims_list, shape_laws};
 use smallvec::SmallVec;
 use std::alloc::Global;
 
 /// The course of each dimension of the parent, dimension 0 first.
-pub fn courses_of(alloc: Global, form: &Form, parent: &Dims) -> SmallVec<Course, 16>
+pub fn courses_of(alloc: Global, form: &Form, parent: &Dims) -> SmallVec<Course, MOST_DIMS>
     requires sound { IsSound (seen_form form.now) parent.now }
     requires straight { IsStraight (seen_form form.now) }
     ensures { AreCourses (seen_form form.now) parent.now result.items }
@@ -26,7 +27,7 @@ pub fn courses_of(alloc: Global, form: &Form, parent: &Dims) -> SmallVec<Course,
 
 /// The course of one dimension of the parent.
 fn course(form: &Form, parent: &[u32], dimension: usize) -> Course
-    requires short { length parent.now ≤ 16 }
+    requires short { length parent.now ≤ dims_limit }
     requires inside { dimension < length parent.now }
     requires sound { IsSound (seen_form form.now) parent.now }
     requires straight { IsStraight (seen_form form.now) }

@@ -4,13 +4,13 @@ ghost use Rattle.pdl_affine.specs.Slicing.{line_sizes};
 ghost use Rattle.pdl_affine.specs.Courses.{lines_of_taken, seen_form, Stands, IsLimit, Limits};
 ghost use Rattle.pdl_affine.specs.Views.{exchanged, shifted, inserted, diagonal, squeezed, clumped, lists, lowest_of, kept_dims, sizes};
 ghost use Rattle.pdl_shape.specs.Limits.{checked_dims};
-ghost use Rattle.pdl_shape.specs.Shape.{IsDims};
+ghost use Rattle.pdl_shape.specs.Shape.{IsDims, dims_limit};
 
 use crate::PlanFault;
 use crate::forms::{Form, Taken};
 use crate::putting::put;
 use crate::resolving::{lists, size_at};
-use pdl_shape::{Dims, ShapeFault, dims_of, size};
+use pdl_shape::{Dims, MOST_DIMS, MOST_EXTENT, ShapeFault, dims_of, size};
 use std::alloc::{AllocError, Global};
 
 fn put_line(sizes: &mut Vec<u32>, taken: Taken) -> Result<(), AllocError>
@@ -155,14 +155,14 @@ fn filled(alloc: Global, place: usize, parent: &[u32]) -> Result<Vec<u32>, Alloc
 }
 
 fn insert(alloc: Global, place: usize, size: u64, parent: &[u32]) -> Result<Vec<u32>, PlanFault>
-    requires { length parent.now ≤ 16 }
+    requires { length parent.now ≤ dims_limit }
     ensures ok { IfOk result (λ ms. ms.items ≡ sizes (inserted place size) parent.now) }
     ensures err { IfErr result (IsLimit (inserted place size) parent.now) }
 {
-    if parent.len() >= 16 || place >= 16 {
+    if parent.len() >= MOST_DIMS || place >= MOST_DIMS {
         return Err(PlanFault::TooManyDims);
     }
-    if size > 1_048_576 {
+    if size > u64::from(MOST_EXTENT) {
         return Err(PlanFault::TooLarge);
     }
     let mut sizes = filled(alloc, place, parent)?;

@@ -92,7 +92,6 @@ fn work(op: BinaryOp, ty: Ty, a: &[i64], b: &[i64], into: &mut [i64])
     }
 }
 
-// The sum of the numbers.
 fn sum_of(numbers: &[i64]) -> u64 {
     let mut sum: u64 = 0;
     for number in numbers {

@@ -44,7 +44,6 @@ fn window(alloc: Global, incs: &[i32], sizes: &[u32]) -> Result<Triple, AllocErr
     }
 }
 
-// The window of a form.
 fn window_as(alloc: Global, form: Form) -> Result<Triple, AllocError>
     ensures { IfOk result (λ triple. Reaches triple 1048576) }
 {

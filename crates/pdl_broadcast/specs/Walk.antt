@@ -3,10 +3,11 @@ use Rattle.std.specs.Prelude.{ℕ, ℤ, List}
 use Rattle.pdl_shape.specs.Broadcast.{cut_to}
 use Rattle.pdl_shape.specs.Shape.{coordinates_of}
 use Rattle.pdl_shape.specs.Triple.{Triple, place_of}
+use Rattle.pdl_broadcast.specs.declared.walk.TheConstants.{ARGUMENTS}
 
 -- a new walk has room for so many arguments
 abbrev pub arguments_room : ℕ
-arguments_room = 16
+arguments_room = ARGUMENTS
 
 -- the broadcast's dimensions, the arguments' triples in the order in which they
 -- were added, and how many coordinates are behind

@@ -9,7 +9,7 @@ use Rattle.pdl_engine.specs.State.{State, Joins, SameArrays}
 use Rattle.pdl_world.specs.Laws.{OlderStay, LiveLieBelow, NewIsLive}
 use Rattle.pdl_world.specs.Sound.{IsLive, IsSound}
 use Rattle.pdl_world.specs.SweepLaws.{ReachedAreSeenAsBefore}
-use Rattle.pdl_world.specs.Swept.{holds, sweep, held_itself}
+use Rattle.pdl_world.specs.Swept.{is_listed, sweep, held_itself}
 use Rattle.pdl_world.specs.World.{World, ArrayDef, Look, look}
 use Rattle.pdl_nodes.specs.Staying.{staying}
 use Rattle.pdl_cases.specs.declared.board.Array.{Array}
@@ -69,11 +69,11 @@ less_count ((k, n) ∷ hs) v u = elim (eqb_tells k u) [
 ]
 
 -- what is held is among the held ones
-is_among : (hs : List (ℕ × ℕ)) (u : ℕ) → 0 < count_at hs u → holds (held_among hs) u ≡ true
+is_among : (hs : List (ℕ × ℕ)) (u : ℕ) → 0 < count_at hs u → is_listed (held_among hs) u ≡ true
 is_among [] u l = absurd (omega (arith, l))
 is_among ((k, n) ∷ hs) u l = elim (eqb_tells k u) [
   | inl t ↦ rw (lt-ltb 0 n (rw t.0 at l)) (rw t.0 refl)
-  | inr t ↦ (let rest : holds (held_among hs) u ≡ true = is_among hs u (rw t.0 at l) in
+  | inr t ↦ (let rest : is_listed (held_among hs) u ≡ true = is_among hs u (rw t.0 at l) in
       elim (cases_Bool (nat_lt 0 n)) [ inl p ↦ rw p (rw t.0 rest) | inr p ↦ rw p rest ])
 ]
 
@@ -102,7 +102,7 @@ pub releasing : ReachedAreSeenAsBefore → (s t : State) (v : ℕ) → IsSound t
 releasing seen s t v stays r u n sound live is some after =
     let hs = one_less_at s.holds v in
     let e : count_at hs u ≡ recounted false v u n = less_count s.holds v u ∙ ap (recounted false v u) is in
-    let among : holds (held_among hs) u ≡ true = is_among hs u (subst (λ m. 0 < m) (sym e) after) in
+    let among : is_listed (held_among hs) u ≡ true = is_among hs u (subst (λ m. 0 < m) (sym e) after) in
     let P : Option Look → Type 0 = λ o. IsSomeAnd o (λ l. Unit {0}) in
     let there : IsLive (sweep s.world (held_among hs)) u = subst P (sym (seen s.world (held_among hs) u sound (held_itself u among)).look_is) live in
     let still : IsLive t.world u = subst (λ w. IsLive w u) (sym r.world) there in

@@ -16,7 +16,7 @@ use crate::answer::Answer;
 use crate::cursor::Cursor;
 use crate::watchers::{Slots, Subject, run_as_program, run_with};
 use pdl_io::{MemSink, MemSource};
-use pdl_shell::{Status, run_shell};
+use pdl_shell::{Refused, Status, run_shell};
 use pdl_watch::Watcher;
 use std::alloc::Global;
 
@@ -131,10 +131,21 @@ pub fn run_over(
     requires few { length watchers.old.items ≤ slots_limit }
 {
     let mut sink = sink(answer.alloc, call)?;
-    let status = run_shell(answer.alloc, &call.words, &mut source, &mut sink, watchers);
+    let mut refused = Refused::new();
+    let status = run_shell(
+        answer.alloc,
+        &call.words,
+        &mut source,
+        &mut sink,
+        watchers,
+        &mut refused,
+    );
     answer.debug(&status);
     answer.say(" ");
     answer.quoted(sink.bytes());
+    if !refused.numbers().is_empty() {
+        answer.say(" refused");
+    }
     Some(())
 }
 

@@ -37,6 +37,7 @@ fn form(statement: &Statement) -> &'static str {
         Statement::Reshape { .. } => "reshape",
         Statement::Undef { .. } => "undef",
         Statement::Vars => "vars",
+        Statement::Dump => "dump",
         Statement::PpDef { .. } => "pp_def",
         Statement::Watch { .. } => "watch",
         Statement::Unwatch { .. } => "unwatch",

@@ -98,6 +98,7 @@ fn say_short(answer: &mut Answer, statement: &Statement) {
         Statement::Sever { name } => say_behind(answer, "sever ", name.bytes()),
         Statement::Undef { name } => say_behind(answer, "undef ", name.bytes()),
         Statement::Vars => answer.say("vars"),
+        Statement::Dump => answer.say("dump"),
         Statement::Unwatch { slot } => answer.tell("unwatch ", slot),
         _ => answer.say("another"),
     }

@@ -5,7 +5,7 @@ use Rattle.pdl_sig.specs.declared.Role.TheVariants.{Input}
 use Rattle.pdl_sig.specs.declared.ArgType.TheVariants.{Generic}
 use Rattle.pdl_sig.specs.declared.SigArg.{SigArg}
 use Rattle.pdl_sig.specs.declared.Signature.{Signature}
-use Rattle.pdl_sig.specs.Refusals.{names_limit}
+use Rattle.pdl_sig.specs.Refusals.{dim_names_limit}
 use Rattle.pdl_code.specs.declared.names.Variable.TheVariants.{Slot, Index}
 use Rattle.pdl_code.specs.Tree.{Tree, Indices, Step, Code, number, size, named, access, unary, binary, none, along, repeat, choose, keep, put, done, next}
 
@@ -31,9 +31,9 @@ IsLeft n marks none = (k : ℕ) → k < n → get_or marks k false ≡ true
 IsLeft n marks (along k e rest) = (k < n) × (get_or marks k false ≡ false) ×
     IsLeft n (slice_set marks k true) rest
 
--- one index for each of so many dimensions, of which a signature names at most `names_limit`
+-- one index for each of so many dimensions, of which a signature names at most `dim_names_limit`
 abbrev pub IsEachOnce : (rank : ℕ) → Indices → Type 0
-IsEachOnce n is = IsLeft n (replicate names_limit false) is
+IsEachOnce n is = IsLeft n (replicate dim_names_limit false) is
 
 abbrev mutual
   -- an expression among n visible locals

@@ -1,7 +1,7 @@
 -- What names stand for at a place of the text.
 use Rattle.std.specs.Prelude.{ℕ, suc, ◌+◌, ◌-◌, nat_eq, bytes_eq, if◌then◌else◌, Bool, true, false, List, [], ◌∷◌, take, drop, slice_set, replicate, Option, Some, None, option_map, option_and_then}
 use Rattle.pdl_sig.specs.declared.Signature.{Signature}
-use Rattle.pdl_sig.specs.Refusals.{names_limit}
+use Rattle.pdl_sig.specs.Refusals.{dim_names_limit}
 use Rattle.pdl_code.specs.declared.lexeme.Span.{Span}
 use Rattle.pdl_code.specs.declared.scope.Local.{Local}
 use Rattle.pdl_code.specs.declared.scope.Meant.{Meant}
@@ -60,7 +60,7 @@ within s d = record s { loops = slice_set s.loops d true }
 
 -- for each dimension of a signature or of an argument: none is marked
 abbrev pub no_flags : List Bool
-no_flags = replicate names_limit false
+no_flags = replicate dim_names_limit false
 
 -- nothing is declared and no loop is open
 abbrev pub top : Scope

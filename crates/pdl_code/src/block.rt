@@ -14,7 +14,7 @@ use crate::names::{Called, Kept, LocalType, RawEntry, RawExpr, RawStmt, Stmt, Ta
 use crate::resolve::{indices, is_marked, mark, tree};
 use crate::scope::{Local, Meant, argument, cut, declare, dim, dims_of, is_input, meaning};
 use pdl_elem::BinaryOp;
-use pdl_sig::{MOST_NAMES, Signature};
+use pdl_sig::{MOST_DIM_NAMES, Signature};
 use std::alloc::Global;
 
 // The declared type of a local.
@@ -33,7 +33,7 @@ fn declaration(
     source: &[u8],
     signature: &Signature,
     locals: &mut Vec<Local>,
-    loops: &[bool; MOST_NAMES],
+    loops: &[bool; MOST_DIM_NAMES],
     ty: LocalType,
     word: Span,
     op: Option<BinaryOp>,
@@ -58,7 +58,7 @@ fn word_assignment(
     source: &[u8],
     signature: &Signature,
     locals: &[Local],
-    loops: &[bool; MOST_NAMES],
+    loops: &[bool; MOST_DIM_NAMES],
     word: Span,
     op: Option<BinaryOp>,
     expr: &RawExpr,
@@ -83,7 +83,7 @@ fn store(
     source: &[u8],
     signature: &Signature,
     locals: &mut Vec<Local>,
-    loops: &[bool; MOST_NAMES],
+    loops: &[bool; MOST_DIM_NAMES],
     target: Target,
     op: Option<BinaryOp>,
     expr: &RawExpr,
@@ -112,7 +112,7 @@ fn access_assignment(
     source: &[u8],
     signature: &Signature,
     locals: &[Local],
-    loops: &[bool; MOST_NAMES],
+    loops: &[bool; MOST_DIM_NAMES],
     called: Called,
     given: &[RawEntry],
     op: Option<BinaryOp>,
@@ -148,7 +148,7 @@ fn access_assignment(
 fn loop_dim(
     source: &[u8],
     signature: &Signature,
-    loops: &[bool; MOST_NAMES],
+    loops: &[bool; MOST_DIM_NAMES],
     word: Span,
 ) -> Result<usize, KernelFault>
     ensures gives { let place = dim_place signature.now (bytes_of source.now word) in
@@ -176,7 +176,7 @@ fn stmt(
     source: &[u8],
     signature: &Signature,
     locals: &mut Vec<Local>,
-    loops: &[bool; MOST_NAMES],
+    loops: &[bool; MOST_DIM_NAMES],
     raw: &RawStmt,
 ) -> Result<Stmt, KernelFault>
     ensures gives { Agrees step_of result (resolve_step source.now signature.now
@@ -218,7 +218,7 @@ fn block(
     source: &[u8],
     signature: &Signature,
     locals: &mut Vec<Local>,
-    loops: &[bool; MOST_NAMES],
+    loops: &[bool; MOST_DIM_NAMES],
     raw: &[RawStmt],
 ) -> Result<Vec<Stmt>, KernelFault>
     ensures gives { Agrees (λ v. code_of v.items) result
@@ -259,7 +259,7 @@ pub fn resolved(
         source,
         signature,
         &mut locals,
-        &[false; MOST_NAMES],
+        &[false; MOST_DIM_NAMES],
         raw,
     )
 }

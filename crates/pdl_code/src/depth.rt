@@ -1,5 +1,7 @@
 //! How deep kernel code is, by its tokens alone.
 ghost use Rattle.std.specs.Prelude.{◌≡◌, ◌≤◌, ◌+◌};
+ghost use Rattle.pdl_lex.specs.Limits.{bracket_limit};
+ghost use Rattle.pdl_lexemes.specs.Depth.{operator_limit};
 ghost use Rattle.pdl_code.specs.Depth.{counted_to, is_beyond, is_too_deep};
 
 use crate::lexeme::Lexeme;
@@ -15,13 +17,13 @@ pub struct Counts {
 }
 
 fn counted_to(counts: Counts, lexeme: Lexeme) -> Counts
-    requires round { counts.round ≤ 64 }
-    requires block { counts.block ≤ 64 }
-    requires operators { counts.operators ≤ 256 }
+    requires round { counts.round ≤ bracket_limit }
+    requires block { counts.block ≤ bracket_limit }
+    requires operators { counts.operators ≤ operator_limit }
     ensures exact { result ≡ counted_to counts lexeme }
-    ensures round { result.round ≤ 65 }
-    ensures block { result.block ≤ 65 }
-    ensures operators { result.operators ≤ 257 }
+    ensures round { result.round ≤ bracket_limit + 1 }
+    ensures block { result.block ≤ bracket_limit + 1 }
+    ensures operators { result.operators ≤ operator_limit + 1 }
 {
     match lexeme {
         Lexeme::Open => Counts {
@@ -55,8 +57,8 @@ fn counted_to(counts: Counts, lexeme: Lexeme) -> Counts
 }
 
 fn is_beyond(counts: Counts) -> bool
-    requires round { counts.round ≤ 65 }
-    requires block { counts.block ≤ 65 }
+    requires round { counts.round ≤ bracket_limit + 1 }
+    requires block { counts.block ≤ bracket_limit + 1 }
     ensures { result ≡ is_beyond counts }
 {
     counts.round + counts.block > MOST_OPEN || counts.operators > MOST_OPERATORS

@@ -13,21 +13,21 @@ use crate::fault::KernelFault;
 use crate::lexeme::Span;
 use crate::names::{Called, Entry, Expr, RawEntry, RawExpr, Variable};
 use crate::scope::{Local, Meant, argument, axis, dim, dims_of, meaning};
-use pdl_sig::{MOST_NAMES, Signature};
+use pdl_sig::{MOST_DIM_NAMES, Signature};
 use std::alloc::Global;
 
 /// Whether a dimension is marked.
-pub fn is_marked(flags: &[bool; MOST_NAMES], k: usize) -> bool
+pub fn is_marked(flags: &[bool; MOST_DIM_NAMES], k: usize) -> bool
     ensures { result ≡ get_or flags.now k false }
 {
-    if k < MOST_NAMES { flags[k] } else { false }
+    if k < MOST_DIM_NAMES { flags[k] } else { false }
 }
 
 /// Marks a dimension.
-pub fn mark(flags: &mut [bool; MOST_NAMES], k: usize)
+pub fn mark(flags: &mut [bool; MOST_DIM_NAMES], k: usize)
     ensures { flags.new ≡ slice_set flags.old k true }
 {
-    if k < MOST_NAMES {
+    if k < MOST_DIM_NAMES {
         flags[k] = true;
     }
 }
@@ -48,7 +48,7 @@ fn named(
     source: &[u8],
     signature: &Signature,
     locals: &[Local],
-    loops: &[bool; MOST_NAMES],
+    loops: &[bool; MOST_DIM_NAMES],
     word: Span,
 ) -> Result<Expr, KernelFault>
     ensures { Agrees tree_of result (answer (primary_wrong loops.now word
@@ -73,7 +73,7 @@ fn place(
     source: &[u8],
     signature: &Signature,
     dims: &[u8],
-    given: &[bool; MOST_NAMES],
+    given: &[bool; MOST_DIM_NAMES],
     word: Span,
 ) -> Result<usize, KernelFault>
     ensures given { Agrees (λ k. k) result (answer (axis_wrong word given.now
@@ -105,7 +105,7 @@ fn dimension_of(entry: &RawEntry) -> Span
 }
 
 // Whether some dimension is neither given nor looped.
-fn lacks_one(dims: &[u8], given: &[bool; MOST_NAMES], loops: &[bool; MOST_NAMES]) -> bool
+fn lacks_one(dims: &[u8], given: &[bool; MOST_DIM_NAMES], loops: &[bool; MOST_DIM_NAMES]) -> bool
     ensures { result ≡ lacks loops.now dims.now 0 given.now }
 {
     for (k, d) in dims.iter().enumerate() {
@@ -121,7 +121,7 @@ fn with_loop(
     found: Vec<Entry>,
     k: usize,
     d: usize,
-    given: &[bool; MOST_NAMES],
+    given: &[bool; MOST_DIM_NAMES],
 ) -> Result<Vec<Entry>, KernelFault>
     ensures { Agrees (λ v. indices_of v.items) result
         (Ok (join (indices_of found.items) (one_loop given.now k d))) }
@@ -140,7 +140,7 @@ fn with_loop(
 fn with_loops(
     mut found: Vec<Entry>,
     dims: &[u8],
-    given: &[bool; MOST_NAMES],
+    given: &[bool; MOST_DIM_NAMES],
 ) -> Result<Vec<Entry>, KernelFault>
     ensures { Agrees (λ v. indices_of v.items) result
         (Ok (join (indices_of found.items) (looped dims.now 0 given.now))) }
@@ -161,7 +161,7 @@ pub fn tree(
     source: &[u8],
     signature: &Signature,
     locals: &[Local],
-    loops: &[bool; MOST_NAMES],
+    loops: &[bool; MOST_DIM_NAMES],
     raw: &RawExpr,
 ) -> Result<Expr, KernelFault>
     ensures { Agrees tree_of result (resolve_tree source.now signature.now
@@ -203,7 +203,7 @@ fn access(
     source: &[u8],
     signature: &Signature,
     locals: &[Local],
-    loops: &[bool; MOST_NAMES],
+    loops: &[bool; MOST_DIM_NAMES],
     called: Called,
     given: &[RawEntry],
 ) -> Result<Expr, KernelFault>
@@ -240,7 +240,7 @@ fn index(
     source: &[u8],
     signature: &Signature,
     locals: &[Local],
-    loops: &[bool; MOST_NAMES],
+    loops: &[bool; MOST_DIM_NAMES],
     entry: &RawEntry,
 ) -> Result<Expr, KernelFault>
     ensures { Agrees tree_of result (resolve_tree source.now signature.now
@@ -259,7 +259,7 @@ pub fn indices(
     source: &[u8],
     signature: &Signature,
     locals: &[Local],
-    loops: &[bool; MOST_NAMES],
+    loops: &[bool; MOST_DIM_NAMES],
     dims: &[u8],
     given: &[RawEntry],
     close: u32,
@@ -268,7 +268,7 @@ pub fn indices(
         (record { locals = locals.now; loops = loops.now }) dims.now no_flags close
         (indices_of given.now)) }
 {
-    let mut flags = [false; MOST_NAMES];
+    let mut flags = [false; MOST_DIM_NAMES];
     let mut found = Vec::new(alloc);
     for one in given {
         match place(source, signature, dims, &flags, dimension_of(one)) {

@@ -3,7 +3,7 @@ use Rattle.std.proofs.Common.{◌-◌, ◌∙◌, ◌≡◌, ℕ, true, false, [
 use Rattle.std.proofs.Math.Path.{fun_ext}
 use Rattle.std.proofs.lemmas.Bool.Decides.{eqb_tells, leb_tells}
 use Rattle.pdl_world.specs.Cut.{has_views}
-use Rattle.pdl_world.specs.Swept.{holds}
+use Rattle.pdl_world.specs.Swept.{is_listed}
 use Rattle.pdl_nodes.specs.Families.{InOrder}
 use Rattle.pdl_nodes.specs.Going.{going_sum}
 use Rattle.pdl_nodes.specs.Holds.{Counts, stands, Beside, is_held, count, hold_at, count_in, less_one}
@@ -45,7 +45,7 @@ kept_let_go facts rs hs id o a b t =
     facts.leaving.let_go_is rs rs rs hs hs hs o (λ v y. refl) (λ v h. facts.leaving.kept_tells rs hs v o b t h) (settled_so facts rs hs o a (waiting_stands rs hs o b)) (facts.leaving.all_stand rs hs b) b (λ v. refl)
 
 -- the only start is there
-pub start_live : (rs : Rows) (id : ℕ) → has rs id ≡ true → (v : ℕ) → holds (id ∷ []) v ≡ true → has rs v ≡ true
+pub start_live : (rs : Rows) (id : ℕ) → has rs id ≡ true → (v : ℕ) → is_listed (id ∷ []) v ≡ true → has rs v ≡ true
 start_live rs id h v l = elim (eqb_tells id v) [
   | inl y ↦ ap (has rs) (sym y.1) ∙ h
   | inr y ↦ (let z : false ≡ true = rw y.0 at l in absurd (cc))

@@ -9,7 +9,7 @@ use Rattle.std.proofs.lemmas.List.Sums.{sum_by-cons}
 use Rattle.pdl_shape.specs.Shape.{size_of}
 use Rattle.pdl_shape.specs.Triple.{whole_triple}
 use Rattle.pdl_world.specs.Paths.{root_of, path}
-use Rattle.pdl_world.specs.Swept.{holds}
+use Rattle.pdl_world.specs.Swept.{is_listed}
 use Rattle.pdl_world.specs.Windows.{window, narrowed, Window}
 use Rattle.pdl_world.specs.World.{World, root, view, dims_in}
 use Rattle.pdl_nodes.specs.Alike.{IsAlike}
@@ -56,10 +56,10 @@ cost_same b n u x m k h = elim (eqb_tells b u) [
 
 outdated_here : (facts : RowLaws) → (rs : Rows) (hs : Counts) (n u : ℕ) → IsStill rs → has rs u ≡ true → outdated_at (state_of rs hs n) u ≡ rows_outdated_at rs u
 outdated_here facts rs hs n u s h =
-    ap (λ b. cond (eqb b u && not (eqb (root_of (world_of rs) u) u)) (cond (holds (fresh_among rs rs) u) 0 (size_of (dims_in (world_of rs) u))) 0) (base_are facts rs u s h)
-    ∙ ap (λ r. cond (eqb (row_at rs u).base u && not (eqb r u)) (cond (holds (fresh_among rs rs) u) 0 (size_of (dims_in (world_of rs) u))) 0) (root_are facts rs u s h)
-    ∙ ap (λ ds. cond (eqb (row_at rs u).base u && not (eqb (row_at rs u).root u)) (cond (holds (fresh_among rs rs) u) 0 (size_of ds)) 0) (facts.seen.dims_are rs u s h)
-    ∙ cost_same (row_at rs u).base (size_of (row_at rs u).triple.dims) u (not (eqb (row_at rs u).root u)) (holds (fresh_among rs rs) u) (row_at rs u).mark (λ e. fresh_is facts rs u s h ∙ ap (λ b. (row_at rs b).mark) e)
+    ap (λ b. cond (eqb b u && not (eqb (root_of (world_of rs) u) u)) (cond (is_listed (fresh_among rs rs) u) 0 (size_of (dims_in (world_of rs) u))) 0) (base_are facts rs u s h)
+    ∙ ap (λ r. cond (eqb (row_at rs u).base u && not (eqb r u)) (cond (is_listed (fresh_among rs rs) u) 0 (size_of (dims_in (world_of rs) u))) 0) (root_are facts rs u s h)
+    ∙ ap (λ ds. cond (eqb (row_at rs u).base u && not (eqb (row_at rs u).root u)) (cond (is_listed (fresh_among rs rs) u) 0 (size_of ds)) 0) (facts.seen.dims_are rs u s h)
+    ∙ cost_same (row_at rs u).base (size_of (row_at rs u).triple.dims) u (not (eqb (row_at rs u).root u)) (is_listed (fresh_among rs rs) u) (row_at rs u).mark (λ e. fresh_is facts rs u s h ∙ ap (λ b. (row_at rs b).mark) e)
 
 -- what is outdated on a path is so in the rows
 pub outdated_is : (facts : RowLaws) → (rs : Rows) (hs : Counts) (n v : ℕ) → IsStill rs → has rs v ≡ true → outdated (state_of rs hs n) v ≡ rows_outdated rs v
@@ -131,5 +131,5 @@ no_sum (x ∷ xs) =
 
 pub none_outdated : (s : State) (v : ℕ) → PathIsFresh s v → outdated s v ≡ 0
 none_outdated s v h =
-    sum_same (outdated_at s) (λ x. 0) (path s.world v) (λ k d l. no_cost ((eqb (base s.world (get_or (path s.world v) k d)) (get_or (path s.world v) k d)) && not (eqb (root_of s.world (get_or (path s.world v) k d)) (get_or (path s.world v) k d))) (holds s.fresh (get_or (path s.world v) k d)) (size_of (dims_in s.world (get_or (path s.world v) k d))) (h k d l))
+    sum_same (outdated_at s) (λ x. 0) (path s.world v) (λ k d l. no_cost ((eqb (base s.world (get_or (path s.world v) k d)) (get_or (path s.world v) k d)) && not (eqb (root_of s.world (get_or (path s.world v) k d)) (get_or (path s.world v) k d))) (is_listed s.fresh (get_or (path s.world v) k d)) (size_of (dims_in s.world (get_or (path s.world v) k d))) (h k d l))
     ∙ no_sum (path s.world v)

@@ -1,5 +1,5 @@
 -- What an assignment will write, and what an array shows after it.
-use Rattle.std.proofs.Common.{◌≡◌, ◌≢◌, Bool, rules, ℕ, zero, suc, ◌+◌, ◌<◌, ◌≤◌, ℤ, pos, Option, None, Some, false, true, List, [], ◌∷◌, length, take, drop, get_or, refl, sym, ◌∙◌, ap, subst, arith, inl, inr, eqb-true, eq-eqb}
+use Rattle.std.proofs.Common.{◌≡◌, ◌≢◌, Bool, rules, ℕ, zero, suc, ◌+◌, ◌<◌, ℤ, pos, Option, None, Some, false, true, List, [], ◌∷◌, length, take, drop, get_or, refl, sym, ◌∙◌, ap, subst, arith, inl, inr, eqb-true, eq-eqb}
 use Rattle.std.specs.Prelude.{◌==◌, ◌↔◌, IsSomeAnd, IsTrue, not, nat_eq}
 use Rattle.std.specs.Option.{option_map_or, unwrap_or}
 use Rattle.std.proofs.lemmas.Bool.{ne_eqb, true≢false}
@@ -121,22 +121,22 @@ write_last (p ∷ ps) (x ∷ vs) es zero h g = refl
 write_last (p ∷ ps) (x ∷ vs) es (suc i) h g = write_last ps vs (put p x es) i (omega arith) (omega arith)
 
 -- where nothing is written no value tells more
-pub tells_nothing : (n : ℕ) (w : Written) → ((p : ℕ) → written_at w p ≡ None) → Tells n w [] []
-tells_nothing n w none es p small inside = ap (λ (o : Option ℤ). unwrap_or o (get_or es p (pos 0))) (sym (none p))
+pub tells_nothing : (es : List ℤ) (w : Written) → ((p : ℕ) → written_at w p ≡ None) → Tells es w [] []
+tells_nothing es w none p inside = ap (λ (o : Option ℤ). unwrap_or o (get_or es p (pos 0))) (sym (none p))
 
 -- one value more is written
-pub tells_more : (n : ℕ) (w new : Written) (ps : List (Option ℕ)) (vs : List ℤ) (i : ℕ) → i < length ps → i < length vs
-    → ((p : ℕ) → p < n → written_at new p ≡ put_at (get_or ps i None) (get_or vs i (pos 0)) p (written_at w p))
-    → Tells n w (take i ps) (take i vs) → Tells n new (take (suc i) ps) (take (suc i) vs)
-tells_more n w new ps vs i h g is tells es p small inside =
+pub tells_more : (es : List ℤ) (w new : Written) (ps : List (Option ℕ)) (vs : List ℤ) (i : ℕ) → i < length ps → i < length vs
+    → ((p : ℕ) → p < length es → written_at new p ≡ put_at (get_or ps i None) (get_or vs i (pos 0)) p (written_at w p))
+    → Tells es w (take i ps) (take i vs) → Tells es new (take (suc i) ps) (take (suc i) vs)
+tells_more es w new ps vs i h g is tells p inside =
     let o : Option ℕ = get_or ps i None in
     let x : ℤ = get_or vs i (pos 0) in
     let long : length (write (take i ps) (take i vs) es) ≡ length es = write_long (take i ps) (take i vs) es in
     ap (λ (xs : List ℤ). get_or xs p (pos 0)) (write_last ps vs es i h g)
     ∙ put_found o x (write (take i ps) (take i vs) es) p (omega (arith, long, inside))
-    ∙ ap (unwrap_or (put_at o x p None)) (tells es p small inside)
+    ∙ ap (unwrap_or (put_at o x p None)) (tells p inside)
     ∙ sym (put_over o x p (written_at w p) (get_or es p (pos 0)))
-    ∙ ap (λ (q : Option ℤ). unwrap_or q (get_or es p (pos 0))) (sym (is p (omega (arith, small, inside))))
+    ∙ ap (λ (q : Option ℤ). unwrap_or q (get_or es p (pos 0))) (sym (is p inside))
 
 -- one element more after what is written
 pub after_more : (w : Written) (ps : List (Option ℕ)) (xs : List ℤ) (i : ℕ) → i < length ps → i < length xs
@@ -151,18 +151,18 @@ after_long w [] xs e = e
 after_long w (p ∷ ps) [] e = absurd (omega arith)
 after_long w (p ∷ ps) (x ∷ xs) e = ap suc (after_long w ps xs (omega arith))
 
-after_at : (n : ℕ) (w : Written) (ps : List (Option ℕ)) (vs es : List ℤ) (q : Option ℕ) → Tells n w ps vs → length es ≤ n → ((i : ℕ) → q ≡ Some i → i < length es)
+after_at : (w : Written) (ps : List (Option ℕ)) (vs es : List ℤ) (q : Option ℕ) → Tells es w ps vs → ((i : ℕ) → q ≡ Some i → i < length es)
     → element_after w q (element_at es q) ≡ element_at (write ps vs es) q
-after_at n w ps vs es None tells small within = refl
-after_at n w ps vs es (Some i) tells small within = sym (tells es i small (within i refl))
+after_at w ps vs es None tells within = refl
+after_at w ps vs es (Some i) tells within = sym (tells i (within i refl))
 
 -- elements after what is written are those after the values
-pub after_is : (n : ℕ) (w : Written) (ps qs : List (Option ℕ)) (vs es : List ℤ) → Tells n w ps vs → length es ≤ n → ((j i : ℕ) → get_or qs j None ≡ Some i → i < length es)
+pub after_is : (w : Written) (ps qs : List (Option ℕ)) (vs es : List ℤ) → Tells es w ps vs → ((j i : ℕ) → get_or qs j None ≡ Some i → i < length es)
     → elements_after w qs (read qs es) ≡ read qs (write ps vs es)
-after_is n w ps [] vs es tells small within = refl
-after_is n w ps (q ∷ qs) vs es tells small within =
-    ap (λ (x : ℤ). x ∷ elements_after w qs (read qs es)) (after_at n w ps vs es q tells small (λ i is. within 0 i is))
-    ∙ ap (λ (xs : List ℤ). element_at (write ps vs es) q ∷ xs) (after_is n w ps qs vs es tells small (λ j i is. within (suc j) i is))
+after_is w ps [] vs es tells within = refl
+after_is w ps (q ∷ qs) vs es tells within =
+    ap (λ (x : ℤ). x ∷ elements_after w qs (read qs es)) (after_at w ps vs es q tells (λ i is. within 0 i is))
+    ∙ ap (λ (xs : List ℤ). element_at (write ps vs es) q ∷ xs) (after_is w ps qs vs es tells (λ j i is. within (suc j) i is))
 
 -- a root has no more elements than its row says
 pub root_small : (facts : RowLaws) → (rs : Rows) (v : ℕ) → InOrder rs → has rs v ≡ true
@@ -172,16 +172,23 @@ root_small facts rs v o h =
     let i : IsRoot rs r = facts.seen.root_live rs r v o.still h refl in
     ap length (roots_with facts (latest rs) rs r o.still i) ∙ facts.seen.length_latest rs r ∙ (o.family r i).count
 
+-- a root shows its elements
+pub root_shown : (facts : RowLaws) → (rs : Rows) (r : ℕ) → InOrder rs → IsRoot rs r → elements (world_of rs) r ≡ root_elements (world_of rs) r
+root_shown facts rs r o i =
+    facts.seen.elements_are rs r o.still i.0 ∙ ap (λ x. read (places_of rs r) (latest rs x)) i.1
+    ∙ facts.seen.root_shows rs r (latest rs r) o.still i (facts.seen.length_latest rs r ∙ (o.family r i).count)
+    ∙ sym (roots_with facts (latest rs) rs r o.still i)
+
 -- the values written by the target's places tell what is assigned to it
-pub foretold : (facts : RowLaws) → (rs : Rows) (v : ℕ) (vs : List ℤ) (f : Foresight) (n : ℕ) (ps : List (Option ℕ)) → InOrder rs → has rs v ≡ true
-    → f.root ≡ (row_at rs v).root → n ≡ size_of (row_at rs (row_at rs v).root).triple.dims → ps ≡ places_of rs v → Tells n f.written ps vs → Foretells (world_of rs) v vs f
-foretold facts rs v vs f n ps o h root size places tells = record {
+pub foretold : (facts : RowLaws) → (rs : Rows) (v : ℕ) (vs : List ℤ) (f : Foresight) (ps : List (Option ℕ)) → InOrder rs → has rs v ≡ true
+    → f.root ≡ (row_at rs v).root → ps ≡ places_of rs v → Tells (root_elements (world_of rs) (row_at rs v).root) f.written ps vs → Foretells (world_of rs) v vs f
+foretold facts rs v vs f ps o h root places tells = record {
   live = has_live facts rs v o.still h;
   root = root ∙ sym (root_are facts rs v o.still h);
   written =
-      let small : length (root_elements (world_of rs) f.root) ≡ n = ap (λ r. length (root_elements (world_of rs) r)) root ∙ root_small facts rs v o h ∙ sym size in
       let seen : ps ≡ places_in (world_of rs) v = places ∙ ap (λ l. option_map_or (λ (l : Look). l.places) l []) (sym (look_is facts rs v o.still h)) in
-      subst (λ (m : ℕ). Tells m f.written (places_in (world_of rs) v) vs) (sym small) (subst (λ (qs : List (Option ℕ)). Tells n f.written qs vs) seen tells);
+      subst (λ (r : ℕ). Tells (root_elements (world_of rs) r) f.written (places_in (world_of rs) v) vs) (sym root)
+      (subst (λ (qs : List (Option ℕ)). Tells (root_elements (world_of rs) (row_at rs v).root) f.written qs vs) seen tells);
 }
 
 -- and what an array of its root shows after it
@@ -199,7 +206,7 @@ foreseen_is facts reads within rs u v vs f before after qs o sound g family b q 
     ∙ ap (λ (r : ℕ). read (places_of rs u) (root_elements w r)) (sym family) in (
       b,
       a ∙ ap (λ (ps : List (Option ℕ)). elements_after f.written ps before) q ∙ ap (elements_after f.written (places_of rs u)) (b ∙ shown)
-          ∙ after_is (length es) f.written (places_in w v) (places_of rs u) vs es tells.written (omega arith)
+          ∙ after_is f.written (places_in w v) (places_of rs u) vs es tells.written
           (λ j i is. subst (λ (r : ℕ). i < length (root_elements w r)) (sym family) (within w u _ j i sound (look_is facts rs u o.still g) is))
           ∙ ap (λ (ps : List (Option ℕ)). read (places_of rs u) (write ps vs es)) seen
           ∙ ap (λ (r : ℕ). read (places_of rs u) (write (places_of rs v) vs (root_elements w r))) root

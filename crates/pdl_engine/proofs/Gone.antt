@@ -3,7 +3,7 @@ use Rattle.std.proofs.Common.{◌≡◌, ◌≢◌, ℕ, inl, inr, sym, ◌∙�
 use Rattle.std.proofs.Math.Path.{fun_ext}
 use Rattle.std.proofs.lemmas.Bool.{eq-eqb}
 use Rattle.std.proofs.lemmas.Bool.Decides.{eqb_tells}
-use Rattle.pdl_world.specs.Swept.{holds}
+use Rattle.pdl_world.specs.Swept.{is_listed}
 use Rattle.pdl_nodes.specs.Families.{InOrder}
 use Rattle.pdl_nodes.specs.Going.{goes_from, going_at, going_size, going_sum}
 use Rattle.pdl_nodes.specs.Holds.{Counts, hold_at, count, count_in, less_one, is_held, Beside}
@@ -39,16 +39,16 @@ held_has rs hs id b l = sym (b.numbers id) ∙ some_held (hold_at hs id) l where
   some_held None l = (let z : ⊥ = omega (arith, l) in absurd z)
   some_held (Some h) l = refl
 
-pub starts_live : (rs : Rows) (hs : Counts) (loose : List ℕ) (id : ℕ) → Beside rs hs → 0 < count hs id → IsTight loose rs hs → (v : ℕ) → holds (id ∷ loose) v ≡ true → has rs v ≡ true
+pub starts_live : (rs : Rows) (hs : Counts) (loose : List ℕ) (id : ℕ) → Beside rs hs → 0 < count hs id → IsTight loose rs hs → (v : ℕ) → is_listed (id ∷ loose) v ≡ true → has rs v ≡ true
 starts_live rs hs loose id b l t v h = elim (eqb_tells id v) [
   | inl y ↦ ap (has rs) (sym y.1) ∙ held_has rs hs id b l
-  | inr y ↦ t.live v (sym (ap (λ c. c || holds loose v) y.0) ∙ h)
+  | inr y ↦ t.live v (sym (ap (λ c. c || is_listed loose v) y.0) ∙ h)
 ]
 
 pub starts_tight : (rs : Rows) (hs gs : Counts) (loose : List ℕ) (id : ℕ) → ((v : ℕ) → v ≢ id → hold_at gs v ≡ hold_at hs v) → IsTight loose rs hs → AreTight (id ∷ loose) rs gs
 starts_tight rs hs gs loose id o t v h d u = elim (eqb_tells id v) [
-  | inl y ↦ (let z : true ≡ false = sym (ap (λ c. c || holds loose v) y.0) ∙ d in absurd (cc))
-  | inr y ↦ t.tight v h (sym (ap (λ c. c || holds loose v) y.0) ∙ d) (sym (ap (λ x. nat_lt 0 (count_in x)) (o v (λ z. y.1 (sym z)))) ∙ u)
+  | inl y ↦ (let z : true ≡ false = sym (ap (λ c. c || is_listed loose v) y.0) ∙ d in absurd (cc))
+  | inr y ↦ t.tight v h (sym (ap (λ c. c || is_listed loose v) y.0) ∙ d) (sym (ap (λ x. nat_lt 0 (count_in x)) (o v (λ z. y.1 (sym z)))) ∙ u)
 ]
 
 -- what goes comes from the same starts where rows mean the same

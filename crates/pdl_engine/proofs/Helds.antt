@@ -6,7 +6,7 @@ use Rattle.std.proofs.lemmas.Bool.{eq-eqb, cases_Bool}
 use Rattle.std.proofs.lemmas.Bool.Decides.{eqb_tells}
 use Rattle.pdl_world.specs.Sound.{IsSound}
 use Rattle.pdl_world.specs.SweepLaws.{SweepsSoundly}
-use Rattle.pdl_world.specs.Swept.{holds, sweep}
+use Rattle.pdl_world.specs.Swept.{is_listed, sweep}
 use Rattle.pdl_nodes.specs.Alike.{numbers}
 use Rattle.pdl_nodes.specs.Families.{Means}
 use Rattle.pdl_nodes.specs.Going.{IsLeft}
@@ -143,7 +143,7 @@ holds_less : (rs : Rows) (hs : Counts) (id : ℕ) → one_less_at (holds_in rs h
 holds_less rs hs id = ap (λ x. one_less_at x id) (holds_counted rs hs) ∙ counted_less (count hs) (count_after id hs) id (numbers rs) (after_count hs id)
 
 -- which are held then
-none_held : (f : ℕ → ℕ) (ks : List ℕ) (v : ℕ) → nat_lt 0 (f v) ≡ false → holds (held_among (counted f ks)) v ≡ false
+none_held : (f : ℕ → ℕ) (ks : List ℕ) (v : ℕ) → nat_lt 0 (f v) ≡ false → is_listed (held_among (counted f ks)) v ≡ false
 none_held f [] v n = refl
 none_held f (k ∷ ks) v n = elim (cases_Bool (nat_lt 0 (f k))) [
   | inl y ↦ rw y (elim (eqb_tells k v) [
@@ -153,7 +153,7 @@ none_held f (k ∷ ks) v n = elim (cases_Bool (nat_lt 0 (f k))) [
   | inr y ↦ rw y (none_held f ks v n)
 ]
 
-gone_unheld : (f : ℕ → ℕ) (rs : Rows) (v : ℕ) → has rs v ≡ false → holds (held_among (counted f (numbers rs))) v ≡ false
+gone_unheld : (f : ℕ → ℕ) (rs : Rows) (v : ℕ) → has rs v ≡ false → is_listed (held_among (counted f (numbers rs))) v ≡ false
 gone_unheld f [] v h = refl
 gone_unheld f ((k, r) ∷ rs) v h = elim (eqb_tells k v) [
   | inl t ↦ (let z : true ≡ false = rw t.0 at h in absurd (cc))
@@ -163,7 +163,7 @@ gone_unheld f ((k, r) ∷ rs) v h = elim (eqb_tells k v) [
   ]
 ]
 
-live_held : (f : ℕ → ℕ) (rs : Rows) (v : ℕ) → has rs v ≡ true → nat_lt 0 (f v) ≡ true → holds (held_among (counted f (numbers rs))) v ≡ true
+live_held : (f : ℕ → ℕ) (rs : Rows) (v : ℕ) → has rs v ≡ true → nat_lt 0 (f v) ≡ true → is_listed (held_among (counted f (numbers rs))) v ≡ true
 live_held f [] v h n = (let z : false ≡ true = h in absurd (cc))
 live_held f ((k, r) ∷ rs) v h n = elim (eqb_tells k v) [
   | inl t ↦ (let y : nat_lt 0 (f k) ≡ true = ap (λ x. nat_lt 0 (f x)) t.1 ∙ n in rw (y, t.0) refl)
@@ -191,9 +191,9 @@ gone_after rs hs id v b h = elim (eqb_tells v id) [
   | inr t ↦ rw (t.0, none_after (hold_at hs v) (b.numbers v ∙ h)) refl
 ]
 
-pub held_is : (rs : Rows) (hs : Counts) (id : ℕ) → Beside rs hs → (v : ℕ) → holds (held_among (one_less_at (holds_in rs hs) id)) v ≡ after_release id hs v
+pub held_is : (rs : Rows) (hs : Counts) (id : ℕ) → Beside rs hs → (v : ℕ) → is_listed (held_among (one_less_at (holds_in rs hs) id)) v ≡ after_release id hs v
 held_is rs hs id b v =
-    ap (λ x. holds (held_among x) v) (holds_less rs hs id)
+    ap (λ x. is_listed (held_among x) v) (holds_less rs hs id)
     ∙ elim (cases_Bool (has rs v)) [
       | inl h ↦ elim (cases_Bool (nat_lt 0 (count_after id hs v))) [
         | inl y ↦ live_held (count_after id hs) rs v h y ∙ sym y

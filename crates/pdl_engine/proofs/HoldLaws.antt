@@ -2,7 +2,7 @@
 use Rattle.std.proofs.Common.{◌≡◌, ℕ, List, [], ◌∷◌, inl, inr, refl, sym, ◌∙◌, true, false, arith, cond, ap, nat_lt, lt-ltb, ◌<◌}
 use Rattle.std.proofs.lemmas.Bool.{ne_eqb, eq-eqb, cases_Bool}
 use Rattle.std.proofs.lemmas.Bool.Decides.{eqb_tells, nat_tests}
-use Rattle.pdl_world.specs.Swept.{holds}
+use Rattle.pdl_world.specs.Swept.{is_listed}
 use Rattle.pdl_nodes.specs.Holds.{Counts}
 use Rattle.pdl_nodes.specs.RowLaws.{RowLaws}
 use Rattle.pdl_nodes.specs.Rows.{has, Rows, NumbersBelow}
@@ -63,12 +63,12 @@ pub counted : CountedAreHeld
 counted [] u l = absurd (omega (arith, l))
 counted ((k, n) ∷ hs) u l = elim (eqb_tells k u) [
   | inl t ↦ rw (lt-ltb 0 n (rw t.0 at l)) (rw t.0 refl)
-  | inr t ↦ (let rest : holds (held_among hs) u ≡ true = counted hs u (rw t.0 at l) in
+  | inr t ↦ (let rest : is_listed (held_among hs) u ≡ true = counted hs u (rw t.0 at l) in
       elim (cases_Bool (nat_lt 0 n)) [ inl p ↦ rw p (rw t.0 rest) | inr p ↦ rw p rest ])
 ]
 
 -- what is held has holds
-has_holds : (hs : List (ℕ × ℕ)) (u : ℕ) → holds (held_among hs) u ≡ true → holds (holders hs) u ≡ true
+has_holds : (hs : List (ℕ × ℕ)) (u : ℕ) → is_listed (held_among hs) u ≡ true → is_listed (holders hs) u ≡ true
 has_holds [] u h = h
 has_holds ((k, n) ∷ hs) u h = elim (eqb_tells k u) [
   | inl t ↦ rw t.0 refl
@@ -83,7 +83,7 @@ held [] u a h = (let z : false ≡ true = h in absurd (cc))
 held ((k, n) ∷ hs) u a h = elim (eqb_tells k u) [
   | inl t ↦ rw t.0 (elim (cases_Bool (nat_lt 0 n)) [
     | inl p ↦ (let some : nat_lt 0 n ≡ true = p in grind (arith, nat_tests))
-    | inr p ↦ (let z : false ≡ true = sym a.0 ∙ ap (holds (holders hs)) t.1 ∙ has_holds hs u (rw p at h) in absurd (cc))
+    | inr p ↦ (let z : false ≡ true = sym a.0 ∙ ap (is_listed (holders hs)) t.1 ∙ has_holds hs u (rw p at h) in absurd (cc))
   ])
   | inr t ↦ rw t.0 (elim (cases_Bool (nat_lt 0 n)) [
     | inl p ↦ held hs u a.1 (rw (p, t.0) at h)
@@ -99,7 +99,7 @@ uncounted ((k, n) ∷ hs) u h = elim (eqb_tells k u) [
 ]
 
 -- the rows have holds
-holders_are : (rs : Rows) (hs : Counts) (v : ℕ) → holds (holders (holds_in rs hs)) v ≡ has rs v
+holders_are : (rs : Rows) (hs : Counts) (v : ℕ) → is_listed (holders (holds_in rs hs)) v ≡ has rs v
 holders_are [] hs v = refl
 holders_are ((k, r) ∷ rs) hs v = elim (eqb_tells k v) [
   | inl t ↦ rw t.0 refl
@@ -110,7 +110,7 @@ pub have_holds : (facts : RowLaws) → (rs : Rows) (hs : Counts) (n : ℕ) → I
 have_holds facts rs hs n s v = holders_are rs hs v ∙ sym (look_has facts rs s v)
 
 -- each once, since the rows' numbers fall
-none_below : (facts : RowLaws) → (rs : Rows) (hs : Counts) (k : ℕ) → NumbersBelow k rs → holds (holders (holds_in rs hs)) k ≡ false
+none_below : (facts : RowLaws) → (rs : Rows) (hs : Counts) (k : ℕ) → NumbersBelow k rs → is_listed (holders (holds_in rs hs)) k ≡ false
 none_below facts rs hs k b = elim (cases_Bool (has rs k)) [
   | inl t ↦ (let below : k < k = facts.numbers.has_below rs k k b t in absurd (omega (arith, below)))
   | inr t ↦ holders_are rs hs k ∙ t

@@ -3,7 +3,7 @@ use Rattle.std.proofs.Common.{◌≡◌, ℕ, ◌<◌, List, [], ◌∷◌, sym,
 use Rattle.std.proofs.lemmas.Bool.{ne_eqb}
 use Rattle.pdl_world.specs.Paths.{path}
 use Rattle.pdl_world.specs.Sound.{IsSound}
-use Rattle.pdl_world.specs.Swept.{holds}
+use Rattle.pdl_world.specs.Swept.{is_listed}
 use Rattle.pdl_world.specs.World.{World}
 use Rattle.pdl_nodes.specs.Alike.{numbers, IsAlike, KeepsMarks, is_fresh_in}
 use Rattle.pdl_push.specs.Targets.{MarksTarget}
@@ -57,7 +57,7 @@ stay_ready facts old new hs n s t a m = fresh_keeps facts old new s t (λ v h. a
 -- a fresh path of rows is a fresh path of the state
 pub path_state : (facts : RowLaws) → (rs : Rows) (hs : Counts) (n v : ℕ) → IsStill rs → has rs v ≡ true → RowsPathIsFresh rs v → PathIsFresh (state_of rs hs n) v
 path_state facts rs hs n v s h f =
-    let P : List ℕ → Type 0 = λ xs. All (λ u. holds (fresh_among rs rs) u ≡ true) xs in
+    let P : List ℕ → Type 0 = λ xs. All (λ u. is_listed (fresh_among rs rs) u ≡ true) xs in
     subst P (sym (path_with (latest rs) (shape rs) v)) (λ i d l. fresh_is facts rs (get_or (path (shape rs) v) i d) s (path_live rs s v h i d l) ∙ f i d l)
 
 -- arrays of other families can be lent as before

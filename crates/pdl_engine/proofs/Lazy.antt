@@ -3,7 +3,7 @@ use Rattle.std.proofs.Common.{◌≡◌, ℕ, true, sym, ◌∙◌, ap, Some, re
 use Rattle.std.proofs.lemmas.Bool.{eq-eqb}
 use Rattle.pdl_shape.specs.Triple.{Triple}
 use Rattle.pdl_world.specs.Paths.{root_of}
-use Rattle.pdl_world.specs.Swept.{holds}
+use Rattle.pdl_world.specs.Swept.{is_listed}
 use Rattle.pdl_world.specs.Windows.{over}
 use Rattle.pdl_world.specs.declared.Trans.{Trans}
 use Rattle.pdl_nodes.specs.Alike.{IsAlike}
@@ -23,10 +23,10 @@ use Rattle.pdl_engine.specs.StateOf.{fresh_among, state_of}
 use Rattle.pdl_engine.proofs.Bounds.{base_are, places_are, none_outdated, waiting_is, target_is}
 use Rattle.pdl_engine.proofs.Stating.{fresh_is, live_has, has_live, root_are}
 
-base_fresh : (facts : RowLaws) → (rs : Rows) (v : ℕ) → IsStill rs → has rs v ≡ true → holds (fresh_among rs rs) v ≡ holds (fresh_among rs rs) (base (world_of rs) v)
+base_fresh : (facts : RowLaws) → (rs : Rows) (v : ℕ) → IsStill rs → has rs v ≡ true → is_listed (fresh_among rs rs) v ≡ is_listed (fresh_among rs rs) (base (world_of rs) v)
 base_fresh facts rs v s h =
     let q : IsSeen rs v = facts.seen.is_seen rs s v h in
-    fresh_is facts rs v s h ∙ ap (λ b. (row_at rs b).mark) (sym q.base_base) ∙ sym (fresh_is facts rs (row_at rs v).base s q.base_has) ∙ ap (holds (fresh_among rs rs)) (sym (base_are facts rs v s h))
+    fresh_is facts rs v s h ∙ ap (λ b. (row_at rs b).mark) (sym q.base_base) ∙ sym (fresh_is facts rs (row_at rs v).base s q.base_has) ∙ ap (is_listed (fresh_among rs rs)) (sym (base_are facts rs v s h))
 
 are_waiting : (facts : RowLaws) → (rs : Rows) (hs : Counts) (n v b : ℕ) → InOrder rs → has rs v ≡ true → (row_at rs (row_at rs v).root).waiting ≡ Some b → AreWaiting (state_of rs hs n) v b
 are_waiting facts rs hs n v b o h e =
@@ -51,7 +51,7 @@ is_lazy facts rs hs n o = record {
   waits = λ v b l e. are_waiting facts rs hs n v b o (live_has facts rs v l) (sym (waiting_is facts rs hs n v o.still (live_has facts rs v l)) ∙ e);
   lasts = λ v l e. (let h : has rs v ≡ true = live_has facts rs v l in
       let i : IsRoot rs (row_at rs v).root = facts.seen.root_live rs (row_at rs v).root v o.still h refl in
-      ap (holds (fresh_among rs rs)) (root_are facts rs v o.still h) ∙ fresh_is facts rs (row_at rs v).root o.still i.0 ∙ ap (λ b. (row_at rs b).mark) (facts.seen.is_seen rs o.still v h).root_base
+      ap (is_listed (fresh_among rs rs)) (root_are facts rs v o.still h) ∙ fresh_is facts rs (row_at rs v).root o.still i.0 ∙ ap (λ b. (row_at rs b).mark) (facts.seen.is_seen rs o.still v h).root_base
       ∙ (o.family (row_at rs v).root i).lasts (sym (waiting_is facts rs hs n v o.still h) ∙ e));
   spent = λ v h. none_outdated (state_of rs hs n) v h;
 }

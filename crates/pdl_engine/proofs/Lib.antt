@@ -20,5 +20,12 @@ mod Tight
 mod Lazy
 mod Places
 mod Foresights
+mod Images
 mod Unwritten
 mod PathHolds
+mod Looks
+mod RootsSeen
+mod Resting
+mod WorkedCalls
+mod Apart
+mod Once

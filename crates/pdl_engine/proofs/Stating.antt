@@ -8,7 +8,7 @@ use Rattle.pdl_world.specs.Cut.{has_views}
 use Rattle.pdl_elem.specs.declared.Ty.{Ty}
 use Rattle.pdl_world.specs.Paths.{path, parent_in, root_of}
 use Rattle.pdl_world.specs.Sound.{IsLive}
-use Rattle.pdl_world.specs.Swept.{holds}
+use Rattle.pdl_world.specs.Swept.{is_listed}
 use Rattle.pdl_world.specs.World.{World, root, view, ArrayDef, look, Look}
 use Rattle.pdl_nodes.specs.Alike.{is_fresh_in, numbers}
 use Rattle.pdl_nodes.specs.Holds.{Counts, count}
@@ -95,25 +95,25 @@ length_world rs = from (latest rs) rs where
   from f [] = refl
   from f ((k, r) ∷ rs) = one f k (def_of r) (shape rs) ∙ ap (λ n. suc n) (from f rs)
 
-fresh_none : (all rs : Rows) (v : ℕ) → has rs v ≡ false → holds (fresh_among all rs) v ≡ false
+fresh_none : (all rs : Rows) (v : ℕ) → has rs v ≡ false → is_listed (fresh_among all rs) v ≡ false
 fresh_none all [] v h = refl
 fresh_none all ((k, r) ∷ rs) v h = elim (eqb_tells k v) [
   | inl t ↦ (let x : true ≡ false = rw t.0 at h in absurd (cc))
-  | inr t ↦ (let i : holds (fresh_among all rs) v ≡ false = fresh_none all rs v (rw t.0 at h) in
+  | inr t ↦ (let i : is_listed (fresh_among all rs) v ≡ false = fresh_none all rs v (rw t.0 at h) in
       elim (cases_Bool (row_at all r.base).mark) [
         | inl m ↦ rw (m, t.0) i
         | inr m ↦ rw m i
       ])
 ]
 
-fresh_tail : (facts : RowLaws) → (all rs : Rows) (v : ℕ) → Falls rs → has rs v ≡ true → holds (fresh_among all rs) v ≡ (row_at all (row_at rs v).base).mark
+fresh_tail : (facts : RowLaws) → (all rs : Rows) (v : ℕ) → Falls rs → has rs v ≡ true → is_listed (fresh_among all rs) v ≡ (row_at all (row_at rs v).base).mark
 fresh_tail facts all [] v f h = let x : false ≡ true = h in absurd (cc)
 fresh_tail facts all ((k, r) ∷ rs) v f h = elim (eqb_tells k v) [
   | inl t ↦ elim (cases_Bool (row_at all r.base).mark) [
     | inl m ↦ rw (m, t.0, m) refl
     | inr m ↦ rw (m, t.0, m) (fresh_none all rs v (ap (has rs) (sym t.1) ∙ facts.numbers.newest_gone k rs f.0))
   ]
-  | inr t ↦ (let i : holds (fresh_among all rs) v ≡ (row_at all (row_at rs v).base).mark = fresh_tail facts all rs v f.1 (rw t.0 at h) in
+  | inr t ↦ (let i : is_listed (fresh_among all rs) v ≡ (row_at all (row_at rs v).base).mark = fresh_tail facts all rs v f.1 (rw t.0 at h) in
       elim (cases_Bool (row_at all r.base).mark) [
         | inl m ↦ rw (m, t.0) i
         | inr m ↦ rw (m, t.0) i
@@ -121,18 +121,18 @@ fresh_tail facts all ((k, r) ∷ rs) v f h = elim (eqb_tells k v) [
 ]
 
 -- what can be lent is what has a marked base
-pub fresh_is : (facts : RowLaws) → (rs : Rows) (v : ℕ) → IsStill rs → has rs v ≡ true → holds (fresh_among rs rs) v ≡ is_fresh_in rs v
+pub fresh_is : (facts : RowLaws) → (rs : Rows) (v : ℕ) → IsStill rs → has rs v ≡ true → is_listed (fresh_among rs rs) v ≡ is_fresh_in rs v
 fresh_is facts rs v s h = fresh_tail facts rs rs v (facts.seen.falls rs s) h
 
 -- only live arrays can be lent
-pub fresh_live : (rs : Rows) (v : ℕ) → holds (fresh_among rs rs) v ≡ true → has rs v ≡ true
+pub fresh_live : (rs : Rows) (v : ℕ) → is_listed (fresh_among rs rs) v ≡ true → has rs v ≡ true
 fresh_live rs v f = elim (cases_Bool (has rs v)) [
   | inl t ↦ t
   | inr t ↦ (let x : true ≡ false = sym f ∙ fresh_none rs rs v t in absurd (cc))
 ]
 
 pub fresh_keeps : (facts : RowLaws) → (old new : Rows) → IsStill old → IsStill new → ((v : ℕ) → has old v ≡ true → has new v ≡ true) → ((v : ℕ) → has old v ≡ true → is_fresh_in old v ≡ true → is_fresh_in new v ≡ true)
-    → (v : ℕ) → holds (fresh_among old old) v ≡ true → holds (fresh_among new new) v ≡ true
+    → (v : ℕ) → is_listed (fresh_among old old) v ≡ true → is_listed (fresh_among new new) v ≡ true
 fresh_keeps facts old new s t h g v f =
     let l : has old v ≡ true = fresh_live old v f in
     fresh_is facts new v t (h v l) ∙ g v l (sym (fresh_is facts old v s l) ∙ f)

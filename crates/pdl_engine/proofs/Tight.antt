@@ -1,5 +1,5 @@
 -- Each array is held or has views, but those that are listed.
-use Rattle.std.proofs.Common.{◌≡◌, true, false, [], ℕ, List, sym, subst, ◌∙◌, ap, nat_lt, ◌≢◌, ◌||◌, ◌∷◌, Some, inl, inr, refl, ◌+◌, Option, None, arith, ℤ, eqb, Result, Ok, Err}
+use Rattle.std.proofs.Common.{◌≡◌, true, false, [], ℕ, List, sym, subst, ◌∙◌, ap, nat_lt, ◌≢◌, ◌||◌, ◌∷◌, Some, inl, inr, refl, ◌+◌, Option, None, arith, ℤ, eqb, cond, ◌≤◌, Result, Ok, Err}
 use Rattle.std.specs.Result.{OnOk, OnErr}
 use Rattle.std.proofs.Math.Bool.{or-true}
 use Rattle.std.proofs.lemmas.Bool.{ne_eqb, cases_Bool}
@@ -7,9 +7,10 @@ use Rattle.std.proofs.lemmas.Bool.Decides.{eqb_tells, leb_tells}
 use Rattle.pdl_elem.specs.declared.Ty.{Ty}
 use Rattle.pdl_shape.specs.Shape.{size_of}
 use Rattle.pdl_world.specs.Cut.{has_views, replaced, fitted, reshape, sever}
-use Rattle.pdl_world.specs.Swept.{holds, parents}
+use Rattle.pdl_world.specs.Swept.{is_listed, parents}
 use Rattle.pdl_world.specs.World.{ArrayDef, root, World, elements, ty_in, dims_in}
 use Rattle.pdl_nodes.specs.Alike.{IsAlike}
+use Rattle.pdl_nodes.specs.Children.{children, one_of}
 use Rattle.pdl_nodes.specs.Holds.{Counts, hold_at, count_in, is_held, held_once, one_more}
 use Rattle.pdl_nodes.specs.Risen.{AreTight}
 use Rattle.pdl_nodes.specs.Row.{Row, parent_from, parent_of}
@@ -48,7 +49,7 @@ tight_grown listed rs hs gs k r e o t = record {
   tight = λ v h d u. elim (eqb_tells k v) [
     | inl y ↦ (let z : true ≡ false = sym (ap (λ x. nat_lt 0 (count_in x)) (ap (hold_at gs) (sym y.1) ∙ e)) ∙ u in absurd (cc))
     | inr y ↦ (let g : has rs v ≡ true = rw y.0 at h in
-        ap (λ b. holds (parents (def_of r)) v || b) (t.tight v g d (held_as hs gs v (o v (λ z. y.1 (sym z))) u)) ∙ or-true (holds (parents (def_of r)) v))
+        ap (λ b. is_listed (parents (def_of r)) v || b) (t.tight v g d (held_as hs gs v (o v (λ z. y.1 (sym z))) u)) ∙ or-true (is_listed (parents (def_of r)) v))
   ];
 }
 
@@ -102,18 +103,69 @@ views_rooted f ((k, r) ∷ rs) id v ty ds es b d = elim (eqb_tells k id) [
   there n Root e = rw n e
   there n (View p t l) e = rw n (ap (λ b. (eqb p v || false) || b) e)
 
+-- how many views an array has in a world
+abbrev views_in : World → ℕ → ℕ
+views_in [] v = 0
+views_in ((k, d) ∷ w) v = cond (is_listed (parents d) v) 1 0 + views_in w v
+
+one_view : (ty : Ty) (ds : List ℕ) (v : ℕ) (o : Origin) → one_of (parent_from o) v ≡ cond (is_listed (parents (def_from ty ds o)) v) 1 0
+one_view ty ds v Root = refl
+one_view ty ds v (View p t l) = elim (cases_Bool (eqb p v)) [ inl y ↦ rw y refl | inr y ↦ rw y refl ]
+
+children_in : (rs : Rows) (v : ℕ) → children rs v ≡ views_in (shape rs) v
+children_in [] v = refl
+children_in ((k, r) ∷ rs) v = ap (λ n. n + children rs v) (one_view r.ty r.triple.dims v r.origin) ∙ ap (λ n. cond (is_listed (parents (def_of r)) v) 1 0 + n) (children_in rs v)
+
+-- tables of one shape have as many
+pub children_alike : (old new : Rows) (v : ℕ) → shape new ≡ shape old → children new v ≡ children old v
+children_alike old new v e = children_in new v ∙ ap (λ w. views_in w v) e ∙ sym (children_in old v)
+
+viewed : (rs : Rows) (v : ℕ) → 1 ≤ children rs v → has_views (shape rs) v ≡ true
+viewed [] v h = absurd (omega (arith, h))
+viewed ((k, r) ∷ rs) v h = elim (cases_Bool (is_listed (parents (def_of r)) v)) [
+  | inl y ↦ ap (λ b. b || has_views (shape rs) v) y
+  | inr y ↦ (let none : one_of (parent_of r) v ≡ 0 = one_view r.ty r.triple.dims v r.origin ∙ ap (λ b. cond b 1 0) y in
+      ap (λ b. b || has_views (shape rs) v) y ∙ viewed rs v (omega (arith, h, none)))
+]
+
+-- an array with another view has one still where an array becomes a root
+still_viewed : (f : ℕ → List ℤ) (rs : Rows) (id v : ℕ) (ty : Ty) (ds : List ℕ) (es : List ℤ) → Falls rs → 2 ≤ children rs v → has_views (replaced (with_elements f (shape rs)) id (root ty ds es)) v ≡ true
+still_viewed f [] id v ty ds es b h = absurd (omega (arith, h))
+still_viewed f ((k, r) ∷ rs) id v ty ds es b h = elim (eqb_tells k id) [
+  | inl y ↦ (let most : one_of (parent_of r) v ≤ 1 = one_most (parent_of r) v in
+      let past : has_views (replaced (with_elements f (shape rs)) k (root ty ds es)) v ≡ true = views_past f rs k v (root ty ds es) b.0 ∙ viewed rs v (omega (arith, h, most)) in
+      here y.0 r.origin (subst (λ x. has_views (replaced (with_elements f (shape rs)) x (root ty ds es)) v ≡ true) y.1 past))
+  | inr y ↦ there y.0 r.origin (λ n. still_viewed f rs id v ty ds es b.1 n) h
+] where
+  one_most : (o : Option ℕ) (v : ℕ) → one_of o v ≤ 1
+  one_most None v = omega arith
+  one_most (Some p) v = elim (cases_Bool (eqb p v)) [ inl y ↦ rw y (omega arith) | inr y ↦ rw y (omega arith) ]
+
+  here : eqb k id ≡ true → (o : Origin) → has_views (replaced (with_elements f (shape rs)) id (root ty ds es)) v ≡ true
+      → has_views (replaced (with_elements f ((k, def_from r.ty r.triple.dims o) ∷ shape rs)) id (root ty ds es)) v ≡ true
+  here y Root e = rw y e
+  here y (View p t l) e = rw y e
+
+  there : eqb k id ≡ false → (o : Origin) → (2 ≤ children rs v → has_views (replaced (with_elements f (shape rs)) id (root ty ds es)) v ≡ true) → 2 ≤ one_of (parent_from o) v + children rs v
+      → has_views (replaced (with_elements f ((k, def_from r.ty r.triple.dims o) ∷ shape rs)) id (root ty ds es)) v ≡ true
+  there n Root e h = rw n (e (omega (arith, h)))
+  there n (View p t l) e h = elim (cases_Bool (eqb p v)) [
+    | inl y ↦ rw (n, y) refl
+    | inr y ↦ (let more : 2 ≤ cond false 1 0 + children rs v = rw y at h in rw (n, y) (e (omega (arith, more))))
+  ]
+
 -- the views of rows that mean a world
 views_of : (rs : Rows) (w : World) (v : ℕ) → world_of rs ≡ w → has_views (shape rs) v ≡ has_views w v
 views_of rs w v e = sym (views_with (latest rs) (shape rs) v) ∙ ap (λ x. has_views x v) e
 
-listed_live : (facts : RowLaws) → (old new : Rows) (id : ℕ) (xs ys : List ℕ) (hs : Counts) → IsStill old → has old id ≡ true → ChangesRows old id new → IsListed xs ys (parent_of (row_at old id)) → IsTight xs old hs → (v : ℕ) → holds ys v ≡ true → has new v ≡ true
-listed_live facts old new id xs ys hs s h c l t v y = c.has_is v ∙ elim (cases_Bool (holds xs v)) [
+listed_live : (facts : RowLaws) → (old new : Rows) (id : ℕ) (xs ys : List ℕ) (hs : Counts) → IsStill old → has old id ≡ true → ChangesRows old id new → IsListed xs ys (parent_of (row_at old id)) → IsTight xs old hs → (v : ℕ) → is_listed ys v ≡ true → has new v ≡ true
+listed_live facts old new id xs ys hs s h c l t v y = c.has_is v ∙ elim (cases_Bool (is_listed xs v)) [
   | inl z ↦ t.live v z
   | inr z ↦ (facts.seen.parent_live old id v s h (l.only v y z)).0
 ]
 
-unlisted : (xs ys : List ℕ) (o : Option ℕ) (v : ℕ) → IsListed xs ys o → holds ys v ≡ false → holds xs v ≡ false
-unlisted xs ys o v l n = elim (cases_Bool (holds xs v)) [ inl y ↦ (let z : true ≡ false = sym (l.stays v y) ∙ n in absurd (cc)) | inr y ↦ y ]
+unlisted : (xs ys : List ℕ) (o : Option ℕ) (v : ℕ) → IsListed xs ys o → is_listed ys v ≡ false → is_listed xs v ≡ false
+unlisted xs ys o v l n = elim (cases_Bool (is_listed xs v)) [ inl y ↦ (let z : true ≡ false = sym (l.stays v y) ∙ n in absurd (cc)) | inr y ↦ y ]
 
 -- the world is the same
 tight_same : (facts : RowLaws) → (old new : Rows) (id : ℕ) (xs ys : List ℕ) (hs : Counts) → IsStill old → has old id ≡ true → ChangesRows old id new → IsListed xs ys (parent_of (row_at old id)) → world_of new ≡ world_of old → IsTight xs old hs → IsTight ys new hs
@@ -122,23 +174,26 @@ tight_same facts old new id xs ys hs s h c l e t = record {
   tight = λ v y d u. views_of new (world_of old) v e ∙ sym (views_of old (world_of old) v refl) ∙ t.tight v (sym (c.has_is v) ∙ y) (unlisted xs ys (parent_of (row_at old id)) v l d) u;
 }
 
--- one array is a root, whose parent is listed
-tight_rooted : (facts : RowLaws) → (old new : Rows) (id : ℕ) (xs ys : List ℕ) (hs : Counts) (ty : Ty) (ds : List ℕ) (es : List ℤ) → IsStill old → has old id ≡ true → ChangesRows old id new → IsListed xs ys (parent_of (row_at old id)) → ListsParent hs ys (parent_of (row_at old id))
+-- one array is a root, whose parent is listed, or is held, or has another view
+tight_rooted : (facts : RowLaws) → (old new : Rows) (id : ℕ) (xs ys : List ℕ) (hs : Counts) (ty : Ty) (ds : List ℕ) (es : List ℤ) → IsStill old → has old id ≡ true → ChangesRows old id new → IsListed xs ys (parent_of (row_at old id)) → ListsParent old hs ys (parent_of (row_at old id))
     → world_of new ≡ replaced (world_of old) id (root ty ds es) → IsTight xs old hs → IsTight ys new hs
 tight_rooted facts old new id xs ys hs ty ds es s h c l p e t = record {
   live = listed_live facts old new id xs ys hs s h c l t;
   tight = λ v y d u. views_of new (replaced (world_of old) id (root ty ds es)) v e
-      ∙ views_rooted (latest old) old id v ty ds es (facts.seen.falls old s) (λ q. (let z : true ≡ false = sym (p v q u) ∙ d in absurd (cc)))
-      ∙ t.tight v (sym (c.has_is v) ∙ y) (unlisted xs ys (parent_of (row_at old id)) v l d) u;
+      ∙ elim (leb_tells 2 (children old v)) [
+        | inl m ↦ still_viewed (latest old) old id v ty ds es (facts.seen.falls old s) m.1
+        | inr m ↦ views_rooted (latest old) old id v ty ds es (facts.seen.falls old s) (λ q. (let few : children old v ≤ 1 = omega (arith, m.1) in let z : true ≡ false = sym (p v q u few) ∙ d in absurd (cc)))
+            ∙ t.tight v (sym (c.has_is v) ∙ y) (unlisted xs ys (parent_of (row_at old id)) v l d) u
+      ];
 }
 
 pub tight_reshaped : (facts : RowLaws) → {A E : Type 0} (old new : Rows) (id : ℕ) (xs ys : List ℕ) (hs : Counts) (ds : List ℕ) (r : Result A E) → IsStill old → has old id ≡ true → ChangesRows old id new → IsListed xs ys (parent_of (row_at old id))
-    → OnOk r (ListsParent hs ys (parent_of (row_at old id))) → OnOk r (world_of new ≡ reshape (world_of old) id ds) → OnErr r (world_of new ≡ world_of old) → IsTight xs old hs → IsTight ys new hs
+    → OnOk r (ListsParent old hs ys (parent_of (row_at old id))) → OnOk r (world_of new ≡ reshape (world_of old) id ds) → OnErr r (world_of new ≡ world_of old) → IsTight xs old hs → IsTight ys new hs
 tight_reshaped facts old new id xs ys hs ds (Ok a) s h c l p e f t = tight_rooted facts old new id xs ys hs (ty_in (world_of old) id) ds (fitted (size_of ds) (elements (world_of old) id)) s h c l p e t
 tight_reshaped facts old new id xs ys hs ds (Err a) s h c l p e f t = tight_same facts old new id xs ys hs s h c l f t
 
 pub tight_severed : (facts : RowLaws) → {A E : Type 0} (old new : Rows) (id : ℕ) (xs ys : List ℕ) (hs : Counts) (r : Result A E) → IsStill old → has old id ≡ true → ChangesRows old id new → IsListed xs ys (parent_of (row_at old id))
-    → ((row_at old id).root ≡ id → new ≡ old) → OnOk r ((row_at old id).root ≢ id → ListsParent hs ys (parent_of (row_at old id))) → OnOk r (world_of new ≡ sever (world_of old) id) → OnErr r (world_of new ≡ world_of old) → IsTight xs old hs → IsTight ys new hs
+    → ((row_at old id).root ≡ id → new ≡ old) → OnOk r ((row_at old id).root ≢ id → ListsParent old hs ys (parent_of (row_at old id))) → OnOk r (world_of new ≡ sever (world_of old) id) → OnErr r (world_of new ≡ world_of old) → IsTight xs old hs → IsTight ys new hs
 tight_severed facts old new id xs ys hs (Err a) s h c l n p e f t = tight_same facts old new id xs ys hs s h c l f t
 tight_severed facts old new id xs ys hs (Ok a) s h c l n p e f t = elim (eqb_tells (row_at old id).root id) [
   | inl y ↦ tight_same facts old new id xs ys hs s h c l (ap world_of (n y.1)) t

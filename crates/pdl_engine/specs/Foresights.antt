@@ -1,5 +1,5 @@
 -- What an assignment will write, and what an array shows before it and after it.
-use Rattle.std.specs.Prelude.{◌≡◌, ℕ, ◌<◌, ◌≤◌, ◌==◌, if◌then◌else◌, ℤ, pos, true, List, [], ◌∷◌, length, get_or, Option, Some, None}
+use Rattle.std.specs.Prelude.{◌≡◌, ℕ, ◌<◌, ◌==◌, if◌then◌else◌, ℤ, pos, true, List, [], ◌∷◌, length, get_or, slice_get, Option, Some, None}
 use Rattle.std.specs.Option.{unwrap_or}
 use Rattle.std.specs.Ordering.{nat_cmp}
 use Rattle.std.specs.BTreeMap.{get}
@@ -15,15 +15,17 @@ use Rattle.pdl_nodes.specs.Rows.{Rows, row_at, has}
 use Rattle.pdl_engine.specs.declared.foreseeing.Foreseen.{Foreseen}
 use Rattle.pdl_engine.specs.declared.foreseeing.Foresight.{Foresight}
 use Rattle.pdl_engine.specs.declared.by_place.Written.{Written}
-use Rattle.pdl_engine.specs.declared.by_place.Written.TheVariants.{Each, Few}
+use Rattle.pdl_engine.specs.declared.by_place.Written.TheVariants.{Image, Each, Few}
 
--- the value that is written at a place, if one is
+-- what an assignment leaves at a place: the element there, or the value that is written, if one is
 abbrev pub written_at : Written → (p : ℕ) → Option ℤ
+written_at (Image xs) p = slice_get xs.items p
 written_at (Each xs) p = get_or xs.items p None
 written_at (Few m) p = get nat_cmp m p
 
 -- a value can be written at the place
 abbrev pub HasRoom : Written → (p : ℕ) → Type 0
+HasRoom (Image xs) p = p < length xs.items
 HasRoom (Each xs) p = p < length xs.items
 HasRoom (Few m) p = Unit {0}
 
@@ -43,18 +45,24 @@ elements_after w [] xs = []
 elements_after w (p ∷ ps) [] = []
 elements_after w (p ∷ ps) (x ∷ xs) = element_after w p x ∷ elements_after w ps xs
 
--- what the values leave at each place of at most n elements is what is written there, or else the
--- element that was there
-abbrev pub Tells : (n : ℕ) → Written → (places : List (Option ℕ)) → (values : List ℤ) → Type 0
-Tells n w ps vs =
-    (es : List ℤ) (p : ℕ) → length es ≤ n → p < length es
+-- what the values leave at each place of these elements is what w says, or else the element that was
+-- there
+abbrev pub Tells : (es : List ℤ) → Written → (places : List (Option ℕ)) → (values : List ℤ)
+    → Type 0
+Tells es w ps vs =
+    (p : ℕ) → p < length es
     → get_or (write ps vs es) p (pos 0) ≡ unwrap_or (written_at w p) (get_or es p (pos 0))
+
+-- nothing is written yet over these elements, and at each of their places a value can be
+pub record IsUnwritten (es : List ℤ) (w : Written) : Type 0 where
+  pub room : (p : ℕ) → p < length es → HasRoom w p
+  pub tells : Tells es w [] []
 
 -- f tells what an assignment of these values to v will write
 pub record Foretells (w : World) (v : ℕ) (vs : List ℤ) (f : Foresight) : Type 0 where
   pub live : IsLive w v
   pub root : f.root ≡ root_of w v
-  pub written : Tells (length (root_elements w f.root)) f.written (places_in w v) vs
+  pub written : Tells (root_elements w f.root) f.written (places_in w v) vs
 
 -- what u shows before an assignment of these values to v and after it; nothing where it stays
 abbrev pub IsForeseen : World → (v : ℕ) → (vs : List ℤ) → (u : ℕ) → Option Foreseen → Type 0

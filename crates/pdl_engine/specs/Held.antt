@@ -2,7 +2,7 @@
 use Rattle.std.specs.Prelude.{◌≡◌, ◌≢◌, ℕ, ◌+◌, ◌-◌, ◌==◌, nat_lt, if◌then◌else◌, true, false, List, [], ◌∷◌, map, Option, Some, None, is_some}
 use Rattle.pdl_world.specs.Paths.{root_of}
 use Rattle.pdl_world.specs.Sound.{IsLive}
-use Rattle.pdl_world.specs.Swept.{holds, sweep}
+use Rattle.pdl_world.specs.Swept.{is_listed, sweep}
 use Rattle.pdl_world.specs.World.{World, look, root, view}
 use Rattle.pdl_nodes.specs.Staying.{staying, stays_from}
 use Rattle.pdl_engine.specs.State.{State, OthersWait, is_fresh, waiting, waiting_at, waiting_size}
@@ -34,11 +34,11 @@ holders hs = map (λ h. h.0) hs
 -- no number stands twice
 abbrev pub AreApart : List ℕ → Type 0
 AreApart [] = Unit {0}
-AreApart (k ∷ ks) = (holds ks k ≡ false) × AreApart ks
+AreApart (k ∷ ks) = (is_listed ks k ≡ false) × AreApart ks
 
 -- each array has holds, be it none, and nothing else has
 abbrev pub AllHaveHolds : State → Type 0
-AllHaveHolds s = (v : ℕ) → holds (holders s.holds) v ≡ is_some (look s.world v)
+AllHaveHolds s = (v : ℕ) → is_listed (holders s.holds) v ≡ is_some (look s.world v)
 
 -- the holds of the arrays of this world
 abbrev pub holds_left : World → List (ℕ × ℕ) → List (ℕ × ℕ)

@@ -3,7 +3,7 @@
 use Rattle.std.specs.Prelude.{◌≡◌, ℕ, ◌+◌, ◌-◌, ◌<◌, ◌==◌, if◌then◌else◌, ℤ, Bool, true, false, List, Some, is_some}
 use Rattle.pdl_elem.specs.declared.Ty.{Ty}
 use Rattle.pdl_world.specs.Sound.{IsSound}
-use Rattle.pdl_world.specs.Swept.{Has, holds, sweep}
+use Rattle.pdl_world.specs.Swept.{Has, is_listed, sweep}
 use Rattle.pdl_world.specs.World.{World, look, root}
 use Rattle.pdl_nodes.specs.Staying.{staying}
 use Rattle.pdl_engine.specs.Held.{AreApart, count_at, one_more_at, one_less_at, held_among, holders, written_back}
@@ -13,7 +13,7 @@ use Rattle.pdl_engine.specs.State.{State, IsLazy, waiting_at}
 -- one hold more of v, which has holds, counts once more of v, and of no other
 abbrev pub OneMoreCounts : Type 0
 OneMoreCounts =
-    (hs : List (ℕ × ℕ)) (v u : ℕ) → holds (holders hs) v ≡ true
+    (hs : List (ℕ × ℕ)) (v u : ℕ) → is_listed (holders hs) v ≡ true
     → count_at (one_more_at hs v) u ≡ count_at hs u + (if v == u then 1 else 0)
 
 -- one hold less of v counts once less of v, and of no other
@@ -31,18 +31,18 @@ StayingCount =
 -- what is counted is held
 abbrev pub CountedAreHeld : Type 0
 CountedAreHeld =
-    (hs : List (ℕ × ℕ)) (u : ℕ) → 0 < count_at hs u → holds (held_among hs) u ≡ true
+    (hs : List (ℕ × ℕ)) (u : ℕ) → 0 < count_at hs u → is_listed (held_among hs) u ≡ true
 
 -- what is held is counted, where no number stands twice
 abbrev pub HeldAreCounted : Type 0
 HeldAreCounted =
-    (hs : List (ℕ × ℕ)) (u : ℕ) → AreApart (holders hs) → holds (held_among hs) u ≡ true
+    (hs : List (ℕ × ℕ)) (u : ℕ) → AreApart (holders hs) → is_listed (held_among hs) u ≡ true
     → 0 < count_at hs u
 
 -- what has no holds isn't counted
 abbrev pub OthersDontCount : Type 0
 OthersDontCount =
-    (hs : List (ℕ × ℕ)) (u : ℕ) → holds (holders hs) u ≡ false → count_at hs u ≡ 0
+    (hs : List (ℕ × ℕ)) (u : ℕ) → is_listed (holders hs) u ≡ false → count_at hs u ≡ 0
 
 -- where no view goes, letting go writes nothing back
 abbrev pub NothingIsWritten : Type 0

@@ -8,3 +8,6 @@ pub mod Loose
 pub mod Taken
 pub mod Foresights
 pub mod Reading
+pub mod Looks
+pub mod Resting
+pub mod Apart

@@ -4,7 +4,7 @@ use Rattle.pdl_buf.specs.Window.{Window}
 use Rattle.pdl_shape.specs.Shape.{size_of}
 use Rattle.pdl_world.specs.Paths.{path, root_of}
 use Rattle.pdl_world.specs.Sound.{IsLive}
-use Rattle.pdl_world.specs.Swept.{holds}
+use Rattle.pdl_world.specs.Swept.{is_listed}
 use Rattle.pdl_world.specs.World.{World, ArrayDef, dims_in, ty_in, elements, has_repeats, places_in}
 pub use Rattle.pdl_world.specs.Windows.{base}
 use Rattle.pdl_nodes.specs.Owed.{owed, size_if}
@@ -25,7 +25,7 @@ no_arrays = record { world = []; fresh = []; pending = []; holds = []; next = 0 
 
 -- the array can be lent
 abbrev pub is_fresh : State → ℕ → Bool
-is_fresh s v = holds s.fresh v
+is_fresh s v = is_listed s.fresh v
 
 -- each array that can be lent can be lent still
 abbrev pub StayFresh : (old new : State) → Type 0
@@ -77,7 +77,7 @@ waiting s v = waiting_at s.pending (root_of s.world v)
 abbrev pub waiting_size : State → Option ℕ → ℕ
 waiting_size s o = size_if (dims_in s.world) o
 
--- the most steps that it takes to make v such that it can be lent
+-- the most steps that it takes to make v so that it can be lent
 abbrev pub ready_steps : State → ℕ → ℕ
 ready_steps s v = outdated s v + waiting_size s (waiting s v)
 

@@ -4,7 +4,7 @@
 -- most. Each script is also a line of crates/pdl_cases/data/engine.txt, which is run, and shows
 -- that the engine can lend these arrays and no others: first the "Twelve tables of marks", in their
 -- order. The arrays are numbered as they are made, from 0.
-use Rattle.std.specs.Prelude.{◌≡◌, ℕ, ◌+◌, ◌==◌, not, if◌then◌else◌, Bool, List, [], ◌∷◌, ◌++◌, length, map, reverse, filter, ℤ, pos, negsuc, Some, is_some, is_none}
+use Rattle.std.specs.Prelude.{◌≡◌, ℕ, ◌+◌, ◌≤◌, ◌==◌, true, not, if◌then◌else◌, Bool, List, [], ◌∷◌, ◌++◌, length, map, reverse, filter, ℤ, pos, negsuc, Some, is_some, is_none}
 use Rattle.std.specs.List.{range_with_len}
 use Rattle.pdl_elem.specs.declared.Ty.TheVariants.{Long}
 use Rattle.pdl_numbers.specs.Typed.{count_moved}
@@ -18,7 +18,8 @@ use Rattle.pdl_world.specs.World as world
 use Rattle.pdl_world.specs.World.{World, ArrayDef, dims_in, elements, look}
 use Rattle.pdl_world.specs.Cut as cut
 use Rattle.pdl_world.specs.Paths.{path, root_of}
-use Rattle.pdl_world.specs.Swept.{holds, sweep}
+use Rattle.pdl_world.specs.Sound.{IsLive}
+use Rattle.pdl_world.specs.Swept.{is_listed, sweep}
 use Rattle.pdl_engine.specs.Held.{one_less_at, held_among, holds_left, written_back}
 use Rattle.pdl_engine.specs.State.{State, no_arrays, is_fresh, base, target, waiting, ready_steps, kept_back}
 use Rattle.pdl_engine.specs.StateOf.{pending_onto}
@@ -50,11 +51,18 @@ with_array s d = record s {
 abbrev pub with_settled : State → ℕ → State
 with_settled s v = record s { pending = filter (λ p. not (p.0 == root_of s.world v)) s.pending }
 
+-- v is a root in this world: wherever the arrays of its family are then, nothing waits
+abbrev pub with_root : State → ℕ → World → State
+with_root s v w = record (with_settled s v) {
+  world = w;
+  pending = filter (λ p. not (p.0 == v)) (with_settled s v).pending;
+}
+
 -- the arrays of a smaller world, held as said
 abbrev pub with_left : State → World → List (ℕ × ℕ) → State
-with_left s w holds = record s {
+with_left s w holding = record s {
   world = w;
-  holds = holds_left w holds;
+  holds = holds_left w holding;
   pending = filter (λ p. is_some (look w p.1)) s.pending;
 }
 
@@ -68,8 +76,8 @@ state_after s (assign v vs) = record s {
   pending = pending_onto (root_of s.world v) (kept_back s.world v) (with_settled s v).pending;
 }
 state_after s (sever v) = if root_of s.world v == v then s
-    else record (with_settled s v) { world = cut.sever s.world v }
-state_after s (reshape v ds) = record (with_settled s v) { world = cut.reshape s.world v ds }
+    else with_root s v (cut.sever s.world v)
+state_after s (reshape v ds) = with_root s v (cut.reshape s.world v ds)
 state_after s (release v) =
     with_left s (sweep s.world (held_among (one_less_at s.holds v))) (one_less_at s.holds v)
 
@@ -90,7 +98,7 @@ steps_of s (release v) =
 abbrev pub others : State → ℕ → List ℕ
 others s v = filter (λ u. not (root_of s.world u == root_of s.world v)) s.fresh
 
--- the arrays that a call leaves or makes such that they can be lent
+-- the arrays that a call leaves or makes so that they can be lent
 abbrev pub stay_fresh : State → Call → List ℕ
 stay_fresh s (make ds es) = s.fresh
 stay_fresh s (view p t) = s.fresh
@@ -105,11 +113,27 @@ stay_fresh s (release v) = s.fresh
 abbrev pub is_lent : (stay : List ℕ) → State → ℕ → Bool
 is_lent stay s v =
     let b = base s.world v in
-    if b == root_of s.world v then is_none (waiting s v) else holds stay b
+    if b == root_of s.world v then is_none (waiting s v) else is_listed stay b
 
 -- the arrays that can be lent in a state that a call left, oldest first
 abbrev pub lent_in : (stay : List ℕ) → State → List ℕ
 lent_in stay s = filter (is_lent stay s) (map (λ a. a.0) (reverse s.world))
+
+-- the state is as this one, but that more arrays may be lent than those that are lent in it, and it
+-- took no more steps
+pub record IsAs (left : State) (stay : List ℕ) (most : ℕ) (new : State) (steps : ℕ) : Type 0 where
+  pub world_is : new.world ≡ left.world
+  pub holds_are : new.holds ≡ left.holds
+  pub next_is : new.next ≡ left.next
+  pub waits : (v : ℕ) → IsLive new.world v → waiting new v ≡ waiting left v
+  pub lent :
+      (v : ℕ) → IsLive new.world v → is_lent stay left v ≡ true → is_fresh new v ≡ true
+  pub counted : steps ≤ most
+
+-- the call left the state as the scripts have it, by so many steps in all
+abbrev pub IsWorked : (old : State) → Call → (new : State) → (before steps : ℕ) → Type 0
+IsWorked old c new before steps =
+    IsAs (state_after old c) (stay_fresh old c) (before + steps_of old c) new steps
 
 -- the elements of an array that can be lent
 abbrev pub shown : State → ℕ → List ℤ

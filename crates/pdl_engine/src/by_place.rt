@@ -1,27 +1,28 @@
-//! What is written at places: the value that is written there last.
+//! What an assignment leaves at places: the value that is written there last.
 ghost use Rattle.std.specs.Prelude.{◌≡◌, ℕ, ◌<◌, None, Some, IfOk, OnOk, get_or, slice_set};
 ghost use Rattle.pdl_engine.specs.Foresights.{HasRoom, element_after, put_at, written_at};
 
 use std::alloc::{AllocError, Global};
 use std::collections::BTreeMap;
 
-/// The values that are written at places below a limit: an entry for each place, or a map of those
-/// at which a value is written.
+/// What an assignment leaves at places below a limit: an image, with the element of each place; or
+/// the values that are written, as an entry for each place or as a map of those at which one is
+/// written.
 #[derive(Drop)]
 pub(crate) enum Written {
+    Image(Vec<i64>),
     Each(Vec<Option<i64>>),
     Few(BTreeMap<u32, i64>),
 }
 
 impl Written {
     /// Nothing, with room for places below a size. So many times a value will be written or looked
-    /// up: where more than four places come to one of these, a map takes less than an entry for
-    /// each place.
+    /// up.
     pub(crate) fn nothing(alloc: Global, size: u32, uses: u64) -> Result<Written, AllocError>
         ensures nothing { IfOk result (λ w. (p : ℕ) → written_at w p ≡ None) }
         ensures room { IfOk result (λ w. (p : ℕ) → p < size → HasRoom w p) }
     {
-        if u64::from(size) / 4 > uses {
+        if is_little(size, uses) {
             return Ok(Written::Few(BTreeMap::new(alloc)));
         }
         let each = vec![in alloc; None; size as usize]?;
@@ -47,8 +48,12 @@ impl Written {
         ensures room { (p : ℕ) → HasRoom self.old p → HasRoom self.new p }
     {
         match self {
+            Written::Image(image) => {
+                set_at(image, at, value);
+                Ok(())
+            }
             Written::Each(each) => {
-                set_each(each, at, value);
+                set_at(each, at, Some(value));
                 Ok(())
             }
             Written::Few(few) => {
@@ -58,11 +63,12 @@ impl Written {
         }
     }
 
-    /// The value that is written at a place, if one is.
+    /// What is left at a place, where that is known.
     fn at(&self, place: u32) -> Option<i64>
         ensures { result ≡ written_at self.now place }
     {
         match self {
+            Written::Image(image) => image.get(place as usize).copied(),
             Written::Each(each) => each_at(each, place),
             Written::Few(few) => few.get(&place).copied(),
         }
@@ -79,12 +85,18 @@ impl Written {
     }
 }
 
+/// Whether more than four of so many places come to one that is written or looked up. Then a map
+/// takes less than an entry for each place.
+pub(crate) fn is_little(size: u32, uses: u64) -> bool {
+    u64::from(size) / 4 > uses
+}
+
 /// Sets the entry of a place, if there is one.
-fn set_each(each: &mut [Option<i64>], at: u32, value: i64)
-    ensures { each.new ≡ slice_set each.old at (Some value) }
+fn set_at<T: Copy>(each: &mut [T], at: u32, entry: T)
+    ensures { each.new ≡ slice_set each.old at entry }
 {
     if (at as usize) < each.len() {
-        each[at as usize] = Some(value);
+        each[at as usize] = entry;
     }
 }
 

@@ -1,5 +1,5 @@
 //! The engine and its calls.
-ghost use Rattle.std.specs.Prelude.{◌≡◌, ◌≢◌, ◌↔◌, ℕ, ℤ, List, ◌+◌, ◌<◌, ◌≤◌, ◌^◌, if◌then◌else◌, nat_lt, true, false, length, All, IfOk, IfErr, IfSome, IsTrue, OnOk, OnErr, Some, None, is_ok, ◌==◌};
+ghost use Rattle.std.specs.Prelude.{◌≡◌, ◌≢◌, ◌↔◌, ℕ, ℤ, List, ◌+◌, ◌<◌, ◌≤◌, ◌^◌, if◌then◌else◌, nat_lt, true, false, length, All, IfOk, IfErr, IfSome, IsTrue, OnOk, OnErr, Some, None, is_ok, option_map, ◌==◌};
 ghost use Rattle.pdl_numbers.specs.Typed.{count_moved};
 ghost use Rattle.pdl_buf.specs.Made.{IsMade};
 ghost use Rattle.pdl_elem.specs.Types.{InRange};
@@ -9,27 +9,34 @@ ghost use Rattle.pdl_world.specs.Formula.{is_well_formed};
 ghost use Rattle.pdl_world.specs.Paths.{depth_limit, parent_in, path, root_of};
 ghost use Rattle.pdl_world.specs.Refused.{view_refusal};
 ghost use Rattle.pdl_world.specs.Sound.{IsLive, IsSound};
-ghost use Rattle.pdl_world.specs.Swept.{holds};
-ghost use Rattle.pdl_world.specs.World.{assign, dims_in, elements, root, ty_in, view};
+ghost use Rattle.pdl_world.specs.Swept.{is_listed};
+ghost use Rattle.pdl_world.specs.Parts.{assign_part};
+ghost use Rattle.pdl_world.specs.World.{assign, dims_in, elements, has_repeats, places_in, root, ty_in, view};
 ghost use Rattle.pdl_nodes.specs.Sized.{IsLayout};
 ghost use Rattle.pdl_engine.specs.Foresights.{Foretells, IsForeseen};
 ghost use Rattle.pdl_nodes.specs.declared.relaid.RelayFault.TheVariants.{Breaks};
 ghost use Rattle.pdl_nodes.specs.Faults.{Names};
 ghost use Rattle.pdl_engine.specs.Held.{AllHaveHolds, AreApart, ChangesFamily, FamilyIsSettled, IsReleased, count_at, holders, one_more_at, written_back};
+ghost use Rattle.pdl_engine.specs.Looks.{first_from, numbers_in, past, trans_in};
 ghost use Rattle.pdl_engine.specs.Reading.{read_steps};
+ghost use Rattle.pdl_engine.specs.Resting.{IsResting};
 ghost use Rattle.pdl_engine.specs.State.{IsLazy, IsLentAs, Joins, OthersWait, PathIsFresh, SameArrays, StayFresh, TargetIsFresh, TargetWaits, base, is_fresh, no_arrays, ready_steps, shown_in, waiting};
 
 use crate::depth::is_deeper;
 use crate::foreseeing::{Foreseen, Foresight, foresee, foretell};
+use crate::spread::lies_apart;
 use crate::{reaching, readying, releases, severing};
 use pdl_buf::{Elements, NoMemory, Steps, Strided, buf_of_elements, strided};
 use pdl_elem::Ty;
 use pdl_nodes::{
-    Holds, Layout, RelayFault as ReshapeFault, Table, ViewFault, insert, layout, root_node,
+    Holds, Layout, Origin, RelayFault as ReshapeFault, Table, ViewFault, insert, layout, root_node,
     row_laws, view_node,
 };
 use pdl_shape::{Dims, dims_list, shape_laws, triple_laws};
-use pdl_world::{Trans, assignment_laws, cut_laws, growth_laws, reshape_laws, sweep_laws};
+use pdl_world::{
+    MOST_VIEWS, Trans, assignment_laws, cut_laws, growth_laws, part_laws, repeat_laws,
+    reshape_laws, sweep_laws,
+};
 use std::alloc::{AllocError, Global};
 use std::marker::Model;
 use std::sync::ledger::Ledger;
@@ -111,7 +118,7 @@ impl Engine {
         ensures { result ≡ nat_lt depth_limit (length (path self.now.world id)) }
     {
         row_laws();
-        is_deeper(&self.table, id, 64)
+        is_deeper(&self.table, id, MOST_VIEWS)
     }
 
     /// Whether an array can be lent.
@@ -163,6 +170,15 @@ impl Engine {
     pub fn holds_law(&self)
         ensures each { AllHaveHolds self.now }
         ensures once { AreApart (holders self.now.holds) }
+    {
+        row_laws();
+        // the invariant is known where a field is read
+        let _next = self.next;
+    }
+
+    /// A law: what is so between any two calls. It does nothing.
+    pub fn resting_law(&self)
+        ensures { IsResting self.now }
     {
         row_laws();
         // the invariant is known where a field is read
@@ -268,8 +284,8 @@ impl Engine {
         Ok(id)
     }
 
-    /// Makes an array and each array on its path to the root such that they can be lent. What waits
-    /// in the family is written back first. Want of memory may leave some of them so.
+    /// Makes an array and each array on its path to the root so that they can be lent. What waits
+    /// in the family is written back first. Out of memory, it may leave some of them so.
     pub fn ready<L: Ledger>(&mut self, id: ArrayId, steps: &mut Steps<L>) -> Result<(), NoMemory>
         requires { IsLive self.old.world id }
         ensures same { SameArrays self.old self.new }
@@ -302,14 +318,81 @@ impl Engine {
         ensures waits { TargetWaits self.old id self.new }
         ensures counted { steps.new ≡ steps.old + length values.now }
     {
+        part_laws();
+        self.assign_part(id, 0, values, steps)
+    }
+
+    /// Puts values at the array's positions from one on, in rising order. Else it is as `assign`: the
+    /// array is one that can be lent, arrays of other families can be lent afterwards as before, and
+    /// it takes a step for each value, and no memory. Parts one after another are the whole
+    /// assignment. The array itself can be lent afterwards unless its base has repeats.
+    pub fn assign_part<L: Ledger>(
+        &mut self,
+        id: ArrayId,
+        first: u32,
+        values: &[i64],
+        steps: &mut Steps<L>,
+    )
+        requires live { IsLive self.old.world id }
+        requires fresh { is_fresh self.old id ≡ true }
+        requires within { first + length values.now ≤ size_of (dims_in self.old.world id) }
+        requires in_range { All (InRange (ty_in self.old.world id)) values.now }
+        ensures world { self.new.world ≡ assign_part self.old.world id first values.now }
+        ensures holds { self.new.holds ≡ self.old.holds }
+        ensures next { self.new.next ≡ self.old.next }
+        ensures others { (u : ℕ) → (root_of self.old.world u ≡ root_of self.old.world id → ⊥)
+            → is_fresh self.old u ≡ true → is_fresh self.new u ≡ true }
+        ensures sound { IsSound self.new.world }
+        ensures target { TargetIsFresh self.old id self.new }
+        ensures waits { TargetWaits self.old id self.new }
+        ensures counted { steps.new ≡ steps.old + length values.now }
+    {
         row_laws();
-        assignment_laws();
-        pdl_push::assign(&mut self.table, id, 0, values, steps)
+        part_laws();
+        pdl_push::assign(&mut self.table, id, first, values, steps)
+    }
+
+    /// The root of an array, by which two arrays are of one family.
+    pub fn root(&self, id: ArrayId) -> ArrayId
+        requires { IsLive self.now.world id }
+        ensures { result ≡ root_of self.now.world id }
+    {
+        row_laws();
+        self.table.node(id).root()
+    }
+
+    /// Whether the base of an array that can be lent has repeats. Where it has none the array can
+    /// be lent again once values were assigned to it.
+    pub fn base_repeats(&self, id: ArrayId) -> bool
+        requires live { IsLive self.now.world id }
+        requires fresh { is_fresh self.now id ≡ true }
+        ensures { let w = self.now.world in result ≡ has_repeats (places_in w (base w id)) }
+    {
+        row_laws();
+        let node = self.table.node(id);
+        let base = self.table.base_of(id, node);
+        base.repeats()
+    }
+
+    /// Whether it is plain that an array that can be lent has no repeats: its base has none, and no
+    /// two of its coordinates show one position of the base, since its increments lie apart.
+    pub fn shows_once(&self, id: ArrayId) -> bool
+        requires live { IsLive self.now.world id }
+        requires fresh { is_fresh self.now id ≡ true }
+        ensures { result ≡ true → has_repeats (places_in self.now.world id) ≡ false }
+    {
+        row_laws();
+        shape_laws();
+        repeat_laws();
+        if self.base_repeats(id) {
+            return false;
+        }
+        lies_apart(self.table.node(id).triple())
     }
 
     /// What an assignment of these values, one for each position, to an array that can be lent will
     /// write. It is kept such that so many elements are foreseen by it at little cost, which turns
-    /// nothing of the answer. It takes no step, and want of memory is the only refusal.
+    /// nothing of the answer. It takes no step, and `NoMemory` is the only refusal.
     pub fn foretell(
         &self,
         target: ArrayId,
@@ -410,10 +493,32 @@ impl Engine {
         self.table.node(id).parent()
     }
 
+    /// The transformation of a view, or nothing for a root.
+    pub fn trans(&self, id: ArrayId) -> Option<&Trans>
+        requires { IsLive self.now.world id }
+        ensures trans { option_map (λ t. t.now) result ≡ trans_in self.now.world id }
+        ensures well_formed { IfSome result (λ t. IsTrue (is_well_formed t.now)) }
+    {
+        row_laws();
+        match self.table.node(id).origin() {
+            Origin::View { trans, .. } => Some(trans.get()),
+            Origin::Root => None,
+        }
+    }
+
+    /// The oldest array that is newer than this one, or the oldest of all.
+    pub fn next_live(&self, after: Option<ArrayId>) -> Option<ArrayId>
+        requires { IfSome after (IsLive self.now.world) }
+        ensures { result ≡ first_from (numbers_in self.now.world) (past after) }
+    {
+        row_laws();
+        self.table.from(past(after))
+    }
+
     /// Whether an array is on the path of another to its root, itself counted.
     pub fn reaches(&self, below: ArrayId, above: ArrayId) -> bool
         requires { IsLive self.now.world below }
-        ensures { result ≡ holds (path self.now.world below) above }
+        ensures { result ≡ is_listed (path self.now.world below) above }
     {
         row_laws();
         reaching::reaches(&self.table, below, above)
@@ -461,8 +566,8 @@ impl Engine {
 
     /// Cuts an array from its parent: it becomes a root with its elements, which can be lent, and
     /// its own views stay with it. What waits in the family is written back first. On a root it
-    /// does nothing, and wants no memory. Want of memory leaves the world, and what could be lent.
-    /// It takes at most the steps of `ready`, and one for each element.
+    /// does nothing, and takes no memory. Out of memory, it leaves the world, and what could be
+    /// lent. It takes at most the steps of `ready`, and one for each element.
     pub fn sever<L: Ledger>(&mut self, id: ArrayId, steps: &mut Steps<L>) -> Result<(), NoMemory>
         requires { IsLive self.old.world id }
         ensures root { root_of self.old.world id ≡ id → self.new ≡ self.old }
@@ -491,11 +596,11 @@ impl Engine {
     }
 
     /// Gives an array other dimensions: it becomes a root of its first elements, in order, with
-    /// zeros after them where there are fewer, and can be lent. Each view that reaches it is derived
-    /// anew by its transformation; of these those can be lent whose base the array is. `Breaks`
-    /// comes exactly where the formula of one of them refuses, and changes nothing. What waits in
-    /// the family is written back first. Want of memory leaves the world, and what could be lent. It
-    /// takes at most the steps of `ready`, and one for each new element.
+    /// zeros after them where there are fewer, and can be lent. Each view that reaches it is
+    /// derived anew by its transformation; of these those can be lent whose base the array is.
+    /// `Breaks` comes exactly where the formula of one of them refuses, and changes nothing. What
+    /// waits in the family is written back first. Out of memory, it leaves the world, and what
+    /// could be lent. It takes at most the steps of `ready`, and one for each new element.
     pub fn reshape<L: Ledger>(
         &mut self,
         id: ArrayId,
@@ -533,5 +638,16 @@ impl Engine {
             dims,
             steps,
         )
+    }
+}
+
+/// The number behind this one, and 0 behind none.
+fn past(after: Option<ArrayId>) -> u64
+    requires { past after < 2 ^ 64 }
+    ensures { result ≡ past after }
+{
+    match after {
+        Some(id) => id + 1,
+        None => 0,
     }
 }

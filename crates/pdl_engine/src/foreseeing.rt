@@ -1,19 +1,19 @@
 //! The elements that an array would have after an assignment, found before anything is changed
 //! (PDL::Dataflow).
-ghost use Rattle.std.specs.Prelude.{◌≡◌, ◌<◌, ℕ, ℤ, List, All, IfOk, None, Some, get_or, length, true};
+ghost use Rattle.std.specs.Prelude.{◌≡◌, ◌<◌, ℕ, ℤ, List, All, IfOk, IsTrue, None, Some, get_or, length, true};
 ghost use Rattle.pdl_elem.specs.Types.{InRange};
 ghost use Rattle.pdl_shape.specs.Shape.{size_of};
 ghost use Rattle.pdl_world.specs.Sound.{IsSound};
-ghost use Rattle.pdl_world.specs.World.{elements};
+ghost use Rattle.pdl_world.specs.World.{elements, root_elements};
 ghost use Rattle.pdl_nodes.specs.Alike.{is_fresh_in};
 ghost use Rattle.pdl_nodes.specs.Families.{InOrder};
 ghost use Rattle.pdl_nodes.specs.Known.{AreKnown};
-ghost use Rattle.pdl_nodes.specs.Placed.{placed_by};
+ghost use Rattle.pdl_nodes.specs.Placed.{in_order, placed_by};
 ghost use Rattle.pdl_nodes.specs.Rows.{has, row_at};
 ghost use Rattle.pdl_nodes.specs.Worlds.{world_of};
-ghost use Rattle.pdl_engine.specs.Foresights.{CanForetell, Foretells, IsForeseen, Tells, elements_after};
+ghost use Rattle.pdl_engine.specs.Foresights.{CanForetell, Foretells, IsForeseen, IsUnwritten, Tells, elements_after};
 
-use crate::by_place::Written;
+use crate::by_place::{Written, is_little};
 use pdl_buf::{Strided, strided, strided_dims, strided_read};
 use pdl_choice::Places;
 use pdl_nodes::{Table, placed, row_laws};
@@ -57,29 +57,6 @@ fn root_place(known: &Option<Places>, placement: &Placement, position: u32) -> O
     placed(known, placement.place(position))
 }
 
-/// What values are written at the root's places, one for each position that a triple shows over a
-/// base, in rising order. The root has so many elements, and so many are to be looked up.
-fn written_by(
-    alloc: Global,
-    known: &Option<Places>,
-    triple: &Triple,
-    values: &[i64],
-    size: u32,
-    lookups: u64,
-) -> Result<Written, AllocError>
-    requires { length values.now ≡ size_of triple.now.dims }
-    ensures { IfOk result (λ w. Tells size w (placed_by known.now triple.now) values.now) }
-{
-    let count = elements_of(&triple.dims);
-    let placement = Placement::of(triple);
-    let mut written = Written::nothing(alloc, size, lookups.saturating_add(u64::from(count)))?;
-    'writing: for position in 0..count {
-        let place = root_place(known, &placement, position);
-        written.put(place, values[position as usize])?;
-    }
-    Ok(written)
-}
-
 /// The elements at the positions that a triple shows over a base, after what is written, where they
 /// were these before.
 fn shown_after(
@@ -101,6 +78,30 @@ fn shown_after(
         numbers.push(written.element_after(place, before[position as usize]))?;
     }
     Ok(numbers)
+}
+
+/// What an array shows after what is written, where it showed these elements before. An image is
+/// what its root shows.
+fn elements_left(
+    alloc: Global,
+    written: &Written,
+    known: &Option<Places>,
+    triple: &Triple,
+    before: &[i64],
+    is_root: bool,
+) -> Result<Vec<i64>, AllocError>
+    requires count { length before.now ≡ size_of triple.now.dims }
+    requires whole { IsTrue is_root →
+        placed_by known.now triple.now ≡ in_order (length before.now) }
+    ensures { IfOk result (λ ns. ns.items
+        ≡ elements_after written.now (placed_by known.now triple.now) before.now) }
+{
+    match written {
+        Written::Image(image) if is_root && image.len() == before.len() => {
+            Vec::from_slice(alloc, image)
+        }
+        _ => shown_after(alloc, written, known, triple, before),
+    }
 }
 
 /// The elements that a window shows.
@@ -131,6 +132,57 @@ fn elements_now(table: &Table, alloc: Global, id: u64) -> Result<Vec<i64>, Alloc
     all_shown(alloc, &strided(base.kept(), node.triple()))
 }
 
+/// What is known of the elements of an array's root before values are assigned to the array: an
+/// image of them, if the array is shown over them and much is written or looked up, and else
+/// nothing. So many elements are to be looked up beside the array's own.
+fn unwritten(table: &Table, alloc: Global, id: u64, lookups: u64) -> Result<Written, AllocError>
+    requires order { InOrder table.now }
+    requires live { has table.now id ≡ true }
+    requires fresh { is_fresh_in table.now id ≡ true }
+    ensures { let root = (row_at table.now id).root in
+        IfOk result (IsUnwritten (root_elements (world_of table.now) root)) }
+{
+    row_laws();
+    let node = table.node(id);
+    let root = node.root();
+    let size = elements_of(&table.node(root).triple().dims);
+    let uses = lookups.saturating_add(u64::from(elements_of(&node.triple().dims)));
+    if node.base() != root || is_little(size, uses) {
+        let nothing = Written::nothing(alloc, size, uses)?;
+        return Ok(nothing);
+    }
+    let image = elements_now(table, alloc, root)?;
+    Ok(Written::Image(image))
+}
+
+/// What values leave of the elements of an array's root, one for each position that a triple shows
+/// over a base, in rising order, where so many elements are to be looked up.
+fn written_by(
+    table: &Table,
+    alloc: Global,
+    id: u64,
+    known: &Option<Places>,
+    triple: &Triple,
+    values: &[i64],
+    lookups: u64,
+) -> Result<Written, AllocError>
+    requires order { InOrder table.now }
+    requires live { has table.now id ≡ true }
+    requires fresh { is_fresh_in table.now id ≡ true }
+    requires count { length values.now ≡ size_of triple.now.dims }
+    ensures { let es = root_elements (world_of table.now) (row_at table.now id).root in
+        IfOk result (λ w. Tells es w (placed_by known.now triple.now) values.now) }
+{
+    let count = elements_of(&triple.dims);
+    let placement = Placement::of(triple);
+    let mut written = unwritten(table, alloc, id, lookups)?;
+    'writing: for position in 0..count {
+        let place = root_place(known, &placement, position);
+        written.put(place, values[position as usize])?;
+    }
+    Ok(written)
+}
+
 /// What an assignment of these values to an array that can be lent will write, where so many
 /// elements are to be foreseen by it.
 pub(crate) fn foretell(
@@ -147,8 +199,19 @@ pub(crate) fn foretell(
     let node = table.node(target);
     let base = table.base_of(target, node);
     let root = node.root();
-    let size = elements_of(&table.node(root).triple().dims);
-    let written = written_by(alloc, base.places(), node.triple(), values, size, lookups)?;
+    if root == target {
+        let written = Written::Image(Vec::from_slice(alloc, values)?);
+        return Ok(Foresight { root, written });
+    }
+    let written = written_by(
+        table,
+        alloc,
+        target,
+        base.places(),
+        node.triple(),
+        values,
+        lookups,
+    )?;
     Ok(Foresight { root, written })
 }
 
@@ -175,12 +238,13 @@ pub(crate) fn foresee(
     let before = elements_now(table, alloc, seen)?;
     let node = table.node(seen);
     let base = table.base_of(seen, node);
-    let after = shown_after(
+    let after = elements_left(
         alloc,
         &foresight.written,
         base.places(),
         node.triple(),
         &before,
+        node.root() == seen,
     )?;
     Ok(Foreseen { before, after })
 }

@@ -16,6 +16,8 @@ mod reaching;
 mod readying;
 mod releases;
 mod severing;
+mod spread;
+pub mod worked;
 
 pub use engine::{ArrayId, Engine};
 pub use foreseeing::{Foreseen, Foresight, all_shown};

@@ -1,7 +1,7 @@
 //! Which arrays are on the path of another.
 ghost use Rattle.std.specs.Prelude.{◌≡◌, true};
 ghost use Rattle.pdl_world.specs.Paths.{path};
-ghost use Rattle.pdl_world.specs.Swept.{holds};
+ghost use Rattle.pdl_world.specs.Swept.{is_listed};
 ghost use Rattle.pdl_nodes.specs.Rows.{has};
 ghost use Rattle.pdl_nodes.specs.Still.{IsStill};
 ghost use Rattle.pdl_nodes.specs.Worlds.{shape};
@@ -12,7 +12,7 @@ use pdl_nodes::{Table, row_laws};
 pub fn reaches(table: &Table, below: u64, above: u64) -> bool
     requires still { IsStill table.now }
     requires live { has table.now below ≡ true }
-    ensures { result ≡ holds (path (shape table.now) below) above }
+    ensures { result ≡ is_listed (path (shape table.now) below) above }
 {
     row_laws();
     if below == above {

@@ -15,7 +15,7 @@ use std::alloc::{AllocError, Global};
 use std::sync::ledger::Ledger;
 
 /// Makes an array and each array on its path to the root fresh, after what waits in the family was
-/// written back. Want of memory leaves what was fresh.
+/// written back. Out of memory, it leaves what was fresh.
 pub fn ready<L: Ledger>(
     table: &mut Table,
     alloc: Global,

@@ -2,7 +2,7 @@
 //! no held array reaches is removed (PDL::Dataflow). It goes over what goes alone: from the array
 //! that was released, and from those that a cut may have left loose, up.
 ghost use Rattle.std.specs.Prelude.{◌≡◌, ℕ, ◌+◌, ◌<◌, true, ◌∷◌, []};
-ghost use Rattle.pdl_world.specs.Swept.{holds as is_listed};
+ghost use Rattle.pdl_world.specs.Swept.{is_listed};
 ghost use Rattle.pdl_nodes.specs.Families.{InOrder};
 ghost use Rattle.pdl_nodes.specs.Going.{going_sum};
 ghost use Rattle.pdl_nodes.specs.Holds.{is_held, count, Beside};

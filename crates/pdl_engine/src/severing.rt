@@ -102,8 +102,8 @@ fn first_shown(alloc: Global, window: &Strided<'_>, count: u32) -> Result<Elemen
     Ok(Elements::packed(packing))
 }
 
-/// Lists the parent of an array, if it has one that isn't held: it may be loose once the array is
-/// cut from it.
+/// Lists the parent of an array, if it has one that isn't held and has no other view: it may be
+/// loose once the array is cut from it.
 fn list_parent(
     table: &Table,
     holds: &Holds,
@@ -113,16 +113,18 @@ fn list_parent(
     requires live { has table.now id ≡ true }
     ensures listed { IsListed loose.old.items loose.new.items (parent_of (row_at table.now id)) }
     ensures parent { OnOk result
-        (ListsParent holds.now loose.new.items (parent_of (row_at table.now id))) }
+        (ListsParent table.now holds.now loose.new.items (parent_of (row_at table.now id))) }
 {
     match table.node(id).parent() {
         Some(parent) => {
             if holds.is_held(parent) {
-                Ok(())
-            } else {
-                loose.push(parent)?;
-                Ok(())
+                return Ok(());
             }
+            if table.children(parent) > 1 {
+                return Ok(());
+            }
+            loose.push(parent)?;
+            Ok(())
         }
         None => Ok(()),
     }
@@ -148,7 +150,8 @@ fn first_copied<L: Ledger>(
     }) }
     ensures counted { steps.new ≤ steps.old + count }
     ensures listed { IsListed loose.old.items loose.new.items (parent_of (row_at table.now id)) }
-    ensures parent { OnOk result (ListsParent holds.now loose.new.items (parent_of (row_at table.now id))) }
+    ensures parent { OnOk result
+        (ListsParent table.now holds.now loose.new.items (parent_of (row_at table.now id))) }
 {
     row_laws();
     shape_laws();
@@ -160,7 +163,7 @@ fn first_copied<L: Ledger>(
 }
 
 /// Cuts an array from its parent, which is listed: it becomes a root with its elements, and its own
-/// views stay with it. On a root it does nothing. Want of memory leaves the world as it was, and
+/// views stay with it. On a root it does nothing. Out of memory, it leaves the world as it was, and
 /// what could be lent. It takes the steps that make the array fresh, and one for each of its
 /// elements that isn't 0.
 pub fn sever<L: Ledger>(
@@ -191,7 +194,7 @@ pub fn sever<L: Ledger>(
         + size_of (row_at table.old id).triple.dims) }
     ensures listed { IsListed loose.old.items loose.new.items (parent_of (row_at table.old id)) }
     ensures parent { OnOk result ((row_at table.old id).root ≢ id
-        → ListsParent holds.now loose.new.items (parent_of (row_at table.old id))) }
+        → ListsParent table.old holds.now loose.new.items (parent_of (row_at table.old id))) }
 {
     row_laws();
     renewed_row_laws();
@@ -207,10 +210,10 @@ pub fn sever<L: Ledger>(
     Ok(())
 }
 
-/// Gives an array other dimensions, for which all layouts below it were made anew: it becomes a root
-/// with its first elements, in order, and zeros after them where there are fewer. Its parent is
-/// listed. Want of memory leaves the world as it was, and what could be lent. It takes the steps
-/// that make the array fresh, and one for each of its new elements that isn't 0.
+/// Gives an array other dimensions, for which all layouts below it were made anew: it becomes a
+/// root with its first elements, in order, and zeros after them where there are fewer. Its parent
+/// is listed. Out of memory, it leaves the world as it was, and what could be lent. It takes the
+/// steps that make the array fresh, and one for each of its new elements that isn't 0.
 fn reshape_relaid<L: Ledger>(
     table: &mut Table,
     holds: &Holds,
@@ -238,7 +241,8 @@ fn reshape_relaid<L: Ledger>(
         + (outdated table.old id + waiting_size table.old (waiting_of table.old id)
         + size_of dims.now) }
     ensures listed { IsListed loose.old.items loose.new.items (parent_of (row_at table.old id)) }
-    ensures parent { OnOk result (ListsParent holds.now loose.new.items (parent_of (row_at table.old id))) }
+    ensures parent { OnOk result
+        (ListsParent table.old holds.now loose.new.items (parent_of (row_at table.old id))) }
 {
     row_laws();
     renewed_row_laws();
@@ -285,7 +289,8 @@ pub fn reshape<L: Ledger>(
         + (outdated table.old id + waiting_size table.old (waiting_of table.old id)
         + size_of dims.now) }
     ensures listed { IsListed loose.old.items loose.new.items (parent_of (row_at table.old id)) }
-    ensures parent { OnOk result (ListsParent holds.now loose.new.items (parent_of (row_at table.old id))) }
+    ensures parent { OnOk result
+        (ListsParent table.old holds.now loose.new.items (parent_of (row_at table.old id))) }
 {
     row_laws();
     let layouts = table.relaid(alloc, id, dims)?;

@@ -1,6 +1,7 @@
 -- What holds of dumps.
 use Rattle.std.specs.Prelude.{◌≡◌, ◌<◌, ℕ, ◌||◌, IsTrue, List, [], ◌++◌, Contains}
 use Rattle.pdl_choice.specs.Where.{rises, which}
+use Rattle.pdl_image.specs.declared.TheConstants.{LONGEST_DUMP, PIECE}
 use Rattle.pdl_image.specs.Lines.{Line, script_of}
 use Rattle.pdl_image.specs.Stems.{stem, stem_of, least_free, taken}
 use Rattle.pdl_image.specs.Dump.{dump, is_too_long, mask_of}
@@ -24,6 +25,11 @@ LinesJoin = (text : List ℕ) (lines others : List Line) →
 abbrev pub MasksChoose : Type 0
 MasksChoose = (n : ℕ) (places : List ℕ) → IsTrue (rises 0 n places) →
     which (mask_of n places) ≡ places
+
+-- how many elements stand in one statement at most, and how many bytes a dump has at most
+pub record LimitsAre : Type 0 where
+  pub piece : PIECE ≡ 1000
+  pub longest : LONGEST_DUMP ≡ 8388608
 
 -- without kernels, arrays and names there is no line
 abbrev pub EmptyIsEmpty : Type 0

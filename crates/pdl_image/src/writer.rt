@@ -122,7 +122,7 @@ impl ImageWriter {
     }
 
     /// Writes the definition of a kernel, by its name and its two texts.
-    pub fn kernel(&mut self, name: &Text, signature: &Text, code: &Text) -> Result<(), ImageFault>
+    pub fn kernel(&mut self, name: &Name, signature: &Text, code: &Text) -> Result<(), ImageFault>
         ensures ok { let lines = kernel_line name.now signature.now code.now ∷ [] in
             OnOk result (self.new ≡ with_lines self.old lines) }
         ensures fits { let lines = kernel_line name.now signature.now code.now ∷ [] in

@@ -13,7 +13,7 @@ use Rattle.pdl_shape.specs.Laws.{PositionLaws}
 use Rattle.pdl_shape.specs.Shape.{IsWithin, coordinates_of, position_of, size_of}
 use Rattle.pdl_buf.specs.Made.{IsMade}
 use Rattle.pdl_buf.specs.declared.made.Made.{Made}
-use Rattle.pdl_sig.specs.Refusals.{names_limit}
+use Rattle.pdl_sig.specs.Refusals.{dim_names_limit}
 use Rattle.pdl_sig.specs.Resolution.{core_sizes, is_given, is_output, size_in, type_in}
 use Rattle.pdl_sig.specs.declared.Resolved.{Resolved}
 use Rattle.pdl_sig.specs.declared.Role.{Role}
@@ -76,8 +76,8 @@ pub left_shaped : WrappingLaws → (args : List SigArg) (code : Code) (r : Resol
 left_shaped laws args code r given p m is k d lt =
     let bs = coordinates_of r.broadcast p in
     let from : Store = record { arguments = map (started r bs) (with_given args given); locals = replicate (code_locals 0 code) (pos 0) } in
-    let form = run_relates HasForm form_is_kept r code (replicate names_limit 0) from m is in
-    let ranged = run_relates StaysRanged (range_is_kept laws) r code (replicate names_limit 0) from m is (all_ranged laws r bs args given) in
+    let form = run_relates HasForm form_is_kept r code (replicate dim_names_limit 0) from m is in
+    let ranged = run_relates StaysRanged (range_is_kept laws) r code (replicate dim_names_limit 0) from m is (all_ranged laws r bs args given) in
     let s = all_shaped laws r bs args given k d lt in
     let same : blank (argument m k) ≡ blank (argument from k) = argument_kept from m k form in
     record {

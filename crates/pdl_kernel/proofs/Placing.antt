@@ -8,7 +8,7 @@ use Rattle.pdl_shape.specs.Laws.{PositionLaws}
 use Rattle.pdl_shape.specs.Shape.{coordinates_of, size_of}
 use Rattle.pdl_buf.specs.declared.made.Made.{Made}
 use Rattle.pdl_sig.specs.declared.Resolved.{Resolved}
-use Rattle.pdl_sig.specs.Refusals.{names_limit}
+use Rattle.pdl_sig.specs.Refusals.{dim_names_limit}
 use Rattle.pdl_code.specs.Tree.{Code}
 use Rattle.pdl_kernel.specs.declared.faults.Fault.{Fault}
 use Rattle.pdl_kernel.specs.declared.scene.Scene.{Scene}
@@ -74,18 +74,18 @@ module _ (laws : PositionLaws) (broadcast : List ℕ) (ms : List Store) (was : L
       }
 
 -- as many locals as before
-pub locals_kept : (r : Resolved) (code : Code) (bs : List ℕ) (s after : Scene) → run r (replicate names_limit 0) code (starting bs s) ≡ Ok (store_of after) → length after.locals.items ≡ length s.locals.items
+pub locals_kept : (r : Resolved) (code : Code) (bs : List ℕ) (s after : Scene) → run r (replicate dim_names_limit 0) code (starting bs s) ≡ Ok (store_of after) → length after.locals.items ≡ length s.locals.items
 locals_kept r code bs s after ran =
-    let form : blank_store (store_of after) ≡ blank_store (starting bs s) = run_relates HasForm form_is_kept r code (replicate names_limit 0) (starting bs s) (store_of after) ran in
+    let form : blank_store (store_of after) ≡ blank_store (starting bs s) = run_relates HasForm form_is_kept r code (replicate dim_names_limit 0) (starting bs s) (store_of after) ran in
     let n = length s.locals.items in
     sym (length-replicate (length after.locals.items) (pos 0)) ∙ ap (λ (m : Store). length m.locals) form ∙ length-replicate (length (replicate n (pos 0))) (pos 0) ∙ length-replicate n (pos 0)
 
 -- what code leaves at a place, after the places before it
 pub place_left : PositionLaws → (r : Resolved) (code : Code) (was now : Scene) (place : ℕ) (at : List ℕ) → All (IsLaid r.broadcast) was.arguments.items → (h : IsBehind (left_in_order r code was) place was.arguments.items now.arguments.items)
     → length now.locals.items ≡ length was.locals.items → place < size_of r.broadcast → at ≡ coordinates_of r.broadcast place
-    → run r (replicate names_limit 0) code (starting at now) ≡ left_in_order r code was place
+    → run r (replicate dim_names_limit 0) code (starting at now) ≡ left_in_order r code was place
 place_left laws r code was now place at laid h locals lt is =
-    let R : List Made → ℕ → Result Store Fault = λ xs k. run r (replicate names_limit 0) code (record { arguments = xs; locals = replicate k (pos 0) }) in
-    ap (λ bs. run r (replicate names_limit 0) code (starting bs now)) is
+    let R : List Made → ℕ → Result Store Fault = λ xs k. run r (replicate dim_names_limit 0) code (record { arguments = xs; locals = replicate k (pos 0) }) in
+    ap (λ bs. run r (replicate dim_names_limit 0) code (starting bs now)) is
     ∙ ap (λ xs. R xs (length now.locals.items)) (shown_all laws r.broadcast h.stores was.arguments.items now laid h.collected place (behind_count _ place _ _ h) lt)
     ∙ ap (R (map (λ w. array_seen (begun_at (coordinates_of r.broadcast place) w)) was.arguments.items)) locals

@@ -13,7 +13,7 @@ use Rattle.pdl_shape.specs.Broadcast.{cut_to}
 use Rattle.pdl_shape.specs.Laws.{PositionLaws}
 use Rattle.pdl_shape.specs.Shape.{IsWithin, coordinates_of, position_of, size_of}
 use Rattle.pdl_buf.specs.declared.made.Made.{Made}
-use Rattle.pdl_sig.specs.Refusals.{names_limit}
+use Rattle.pdl_sig.specs.Refusals.{dim_names_limit}
 use Rattle.pdl_sig.specs.Resolution.{core_sizes, is_given, made, made_for, size_in, type_in}
 use Rattle.pdl_sig.specs.declared.Resolved.{Resolved}
 use Rattle.pdl_sig.specs.declared.Role.{Role}
@@ -187,7 +187,7 @@ pub outcome_is : PositionLaws → WrappingLaws → (args : List SigArg) (code : 
     → s.arguments.items ≡ map (window_of r) (with_given args given) → length s.locals.items ≡ code_locals 0 code → left_in_order r code s p ≡ outcome args code r given p
 outcome_is laws wraps args code r given s p lt are count =
     let bs = coordinates_of r.broadcast p in
-    let R : List Made → ℕ → Result Store Fault = λ ms k. run r (replicate names_limit 0) code (record { arguments = ms; locals = replicate k (pos 0) }) in
+    let R : List Made → ℕ → Result Store Fault = λ ms k. run r (replicate dim_names_limit 0) code (record { arguments = ms; locals = replicate k (pos 0) }) in
     ap (λ ws. R (map (λ w. array_seen (begun_at bs w)) ws) (length s.locals.items)) are
     ∙ ap (R (map (λ w. array_seen (begun_at bs w)) (map (window_of r) (with_given args given)))) count
     ∙ ap (λ ms. R ms (code_locals 0 code)) (windows_shown laws wraps r bs (laws.coordinates_within r.broadcast p lt) args given)

@@ -6,7 +6,7 @@ use Rattle.std.proofs.lemmas.List.{at_drop_all, at_drop_more, get_or_past, lengt
 use Rattle.std.proofs.lemmas.List.Sums.{sum_by-set}
 use Rattle.std.proofs.lemmas.Bool.{cases_lt}
 use mathlib.Core.Logic.{inl, inr}
-use Rattle.pdl_sig.specs.Refusals.{names_limit}
+use Rattle.pdl_sig.specs.Refusals.{dim_names_limit}
 use Rattle.pdl_code.specs.Fit.{IsEachOnce, IsLeft, places_of}
 use Rattle.pdl_code.specs.declared.names.Variable.{Variable}
 use Rattle.pdl_code.specs.declared.tree.Entry.{Given, Looped}
@@ -120,9 +120,9 @@ none_partial (a ∷ axes) (suc n) q = none_partial axes n q
 walk_is : (sizes loops : List ℕ) (m : Store) (axes : List Axis) (is : Indices) (q : ℕ) → IsEachOnce (length axes) is
     → walk sizes loops m axes is (Some q) ≡ and_then (indices sizes loops m is start) (λ js. Ok (found axes js q))
 walk_is sizes loops m axes is q each =
-    let few = marks_enough (length axes) (replicate names_limit false) is each in
-    ap (walk sizes loops m axes is) (sym (none_partial axes names_limit q))
-    ∙ walk_more sizes loops m axes is (replicate names_limit false) start q few (omega (arith, few, length-replicate names_limit false, length-replicate names_limit (pos 0))) each
+    let few = marks_enough (length axes) (replicate dim_names_limit false) is each in
+    ap (walk sizes loops m axes is) (sym (none_partial axes dim_names_limit q))
+    ∙ walk_more sizes loops m axes is (replicate dim_names_limit false) start q few (omega (arith, few, length-replicate dim_names_limit false, length-replicate dim_names_limit (pos 0))) each
 
 -- what was found, and what was not
 pub found_out : (axes : List Axis) (q : ℕ) (r : Result (List ℤ) Fault) (x : Option ℕ) → and_then r (λ js. Ok (found axes js q)) ≡ Ok x
@@ -209,4 +209,4 @@ left_few n marks (along k e rest) h =
     omega (arith, more, set, here)
 
 pub few_entries : (n : ℕ) (es : List KernelEntry) → IsEachOnce n (indices_of es) → length es ≤ 8
-few_entries n es h = let m : length (places_of (indices_of es)) ≤ 8 = left_few n (replicate names_limit false) (indices_of es) h in subst (λ k. k ≤ 8) (entries_counted es) m
+few_entries n es h = let m : length (places_of (indices_of es)) ≤ 8 = left_few n (replicate dim_names_limit false) (indices_of es) h in subst (λ k. k ≤ 8) (entries_counted es) m

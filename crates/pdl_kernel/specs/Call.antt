@@ -7,7 +7,7 @@ use Rattle.pdl_buf.specs.declared.made.Made.{Made}
 use Rattle.pdl_buf.specs.Made.{broadcast_element}
 use Rattle.pdl_sig.specs.declared.Resolved.{Resolved}
 use Rattle.pdl_sig.specs.declared.SigArg.{SigArg}
-use Rattle.pdl_sig.specs.Refusals.{names_limit}
+use Rattle.pdl_sig.specs.Refusals.{dim_names_limit}
 use Rattle.pdl_sig.specs.Resolution.{is_given, is_output, core_sizes, type_in}
 use Rattle.pdl_code.specs.Fit.{code_locals}
 use Rattle.pdl_kernel.specs.Kernels.{Kernel}
@@ -52,7 +52,7 @@ abbrev pub outcome : (args : List SigArg) → Code → Resolved → (given : Lis
     → Result Store Fault
 outcome args code r given p =
     let arguments = map (started r (coordinates_of r.broadcast p)) (with_given args given) in
-    run r (replicate names_limit 0) code
+    run r (replicate dim_names_limit 0) code
     (record { arguments = arguments; locals = replicate (code_locals 0 code) (pos 0) })
 
 -- a fault of code, with the broadcast place that has it

@@ -9,7 +9,7 @@ use Rattle.pdl_shape.specs.Shape.{position_of}
 use Rattle.pdl_elem.specs.Operators.{unary_value, binary_value}
 use Rattle.pdl_buf.specs.declared.made.Made.{Made}
 use Rattle.pdl_sig.specs.declared.Resolved.{Resolved}
-use Rattle.pdl_sig.specs.Refusals.{names_limit}
+use Rattle.pdl_sig.specs.Refusals.{dim_names_limit}
 use Rattle.pdl_sig.specs.Resolution.{size_in}
 use Rattle.pdl_code.specs.declared.names.LocalType.{LocalType}
 use Rattle.pdl_code.specs.declared.names.LocalType.TheVariants.{Long, Longlong, Generic}
@@ -94,7 +94,7 @@ with_argument m k a = Ok (record m { arguments = slice_set m.arguments k a })
 
 -- no index yet: an argument has no more dimensions than there are names
 abbrev pub start : List ℤ
-start = replicate names_limit (pos 0)
+start = replicate dim_names_limit (pos 0)
 
 -- the number of a word: a local, or the index of a loop
 abbrev pub number_of : (loops : List ℕ) → Store → Variable → ℤ

@@ -2,7 +2,7 @@
 use Rattle.std.specs.Prelude.{ℕ, pos, List, length, map, replicate, Result}
 use Rattle.pdl_shape.specs.Shape.{coordinates_of}
 use Rattle.pdl_sig.specs.declared.Resolved.{Resolved}
-use Rattle.pdl_sig.specs.Refusals.{names_limit}
+use Rattle.pdl_sig.specs.Refusals.{dim_names_limit}
 use Rattle.pdl_code.specs.Tree.{Code}
 use Rattle.pdl_kernel.specs.declared.faults.Fault.{Fault}
 use Rattle.pdl_kernel.specs.declared.scene.Scene.{Scene}
@@ -31,4 +31,4 @@ rests_at bs s = map (λ w. rest_of (begun_at bs w)) s.arguments.items
 -- what code leaves at a broadcast place
 abbrev pub left_in_order : Resolved → Code → Scene → (place : ℕ) → Result Store Fault
 left_in_order r code s p =
-    run r (replicate names_limit 0) code (starting (coordinates_of r.broadcast p) s)
+    run r (replicate dim_names_limit 0) code (starting (coordinates_of r.broadcast p) s)

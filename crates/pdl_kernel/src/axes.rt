@@ -1,6 +1,6 @@
 //! Places in flat buffers.
 ghost use Rattle.std.specs.Prelude.{◌≡◌, ◌≤◌, ◌<◌, ◌+◌, ℕ, get_or, slice_set, length, pos, All, IfNone, IfSome};
-ghost use Rattle.pdl_shape.specs.Shape.{extent_limit};
+ghost use Rattle.pdl_shape.specs.Shape.{dims_limit, extent_limit};
 ghost use Rattle.pdl_kernel.specs.Places.{IsSmall, dot, moved};
 
 /// A core dimension of an argument: its size, and how far one step along it goes in the buffer.
@@ -46,7 +46,7 @@ pub fn moved(axes: &[Axis], place: Option<usize>, dimension: usize, index: i64) 
 
 /// The strides times the coordinates.
 pub fn offset(strides: &[u32], coordinates: &[u32]) -> usize
-    requires few { length strides.now ≤ 16 }
+    requires few { length strides.now ≤ dims_limit }
     requires small { All (λ s. s ≤ extent_limit) strides.now }
     ensures value { result ≡ dot strides.now coordinates.now }
     ensures bound { result ≤ 1152921504606846976 }

@@ -16,11 +16,11 @@ use crate::scene::{Scene, argument_at, local, loop_index, size_in};
 use pdl_code::{Entry, Expr, Variable, rows_are_trees};
 use pdl_elem::{Ty, unary};
 use pdl_shape::shape_laws;
-use pdl_sig::{MOST_NAMES, Resolved};
+use pdl_sig::{MOST_DIM_NAMES, Resolved};
 
 /// The number of a word: a local, or the index of a loop.
 #[inline(always)]
-fn named(scene: &Scene, loops: &[u32; MOST_NAMES], word: Variable) -> i64
+fn named(scene: &Scene, loops: &[u32; MOST_DIM_NAMES], word: Variable) -> i64
     ensures { result ≡ number_of loops.now (store_of scene.now) word }
 {
     match word {
@@ -34,7 +34,7 @@ fn named(scene: &Scene, loops: &[u32; MOST_NAMES], word: Variable) -> i64
 pub fn value(
     resolved: &Resolved,
     scene: &Scene,
-    loops: &[u32; MOST_NAMES],
+    loops: &[u32; MOST_DIM_NAMES],
     expr: &Expr,
 ) -> Result<i64, Fault>
     requires { IsTreeOver (kinds_of scene.now) (tree_of expr.now) }
@@ -66,7 +66,7 @@ pub fn value(
 pub fn operand(
     resolved: &Resolved,
     scene: &Scene,
-    loops: &[u32; MOST_NAMES],
+    loops: &[u32; MOST_DIM_NAMES],
     expr: &Expr,
 ) -> Result<i64, Fault>
     requires { IsTreeOver (kinds_of scene.now) (tree_of expr.now) }
@@ -87,7 +87,7 @@ pub fn operand(
 pub fn outermost(
     resolved: &Resolved,
     scene: &Scene,
-    loops: &[u32; MOST_NAMES],
+    loops: &[u32; MOST_DIM_NAMES],
     expr: &Expr,
 ) -> Result<i64, Fault>
     requires { IsTreeOver (kinds_of scene.now) (tree_of expr.now) }
@@ -111,7 +111,7 @@ pub fn outermost(
 fn element(
     resolved: &Resolved,
     scene: &Scene,
-    loops: &[u32; MOST_NAMES],
+    loops: &[u32; MOST_DIM_NAMES],
     number: usize,
     entries: &[Entry],
 ) -> Result<i64, Fault>
@@ -135,7 +135,7 @@ fn element(
 pub fn place(
     resolved: &Resolved,
     scene: &Scene,
-    loops: &[u32; MOST_NAMES],
+    loops: &[u32; MOST_DIM_NAMES],
     argument: &Argument,
     entries: &[Entry],
 ) -> Result<usize, Fault>

@@ -11,7 +11,7 @@ use crate::axes::{element_in, set_in};
 use crate::faults::Fault;
 use crate::operations::wrap_to;
 use pdl_elem::{BinaryOp, Ty};
-use pdl_sig::{MOST_NAMES, Resolved};
+use pdl_sig::{MOST_DIM_NAMES, Resolved};
 
 /// The arguments, in the order of the signature, and the locals.
 #[derive(Drop)]
@@ -60,10 +60,10 @@ pub fn size_in(resolved: &Resolved, dimension: usize) -> u32
 
 /// The index of the loop over a dimension.
 #[inline(always)]
-pub fn loop_index(loops: &[u32; MOST_NAMES], dimension: usize) -> u32
+pub fn loop_index(loops: &[u32; MOST_DIM_NAMES], dimension: usize) -> u32
     ensures { result ≡ get_or loops.now dimension 0 }
 {
-    if dimension < MOST_NAMES {
+    if dimension < MOST_DIM_NAMES {
         loops[dimension]
     } else {
         0
@@ -72,10 +72,10 @@ pub fn loop_index(loops: &[u32; MOST_NAMES], dimension: usize) -> u32
 
 /// Sets the index of the loop over a dimension.
 #[inline(always)]
-pub fn set_index(loops: &mut [u32; MOST_NAMES], dimension: usize, index: u32)
+pub fn set_index(loops: &mut [u32; MOST_DIM_NAMES], dimension: usize, index: u32)
     ensures { loops.new ≡ slice_set loops.old dimension index }
 {
-    if dimension < MOST_NAMES {
+    if dimension < MOST_DIM_NAMES {
         loops[dimension] = index;
     }
 }

@@ -2,7 +2,7 @@
 ghost use Rattle.std.specs.Prelude.{◌≡◌, ◌==◌, ◌≤◌, get_or, length, map, drop, pos, replicate, if◌then◌else◌, All, IfOk};
 ghost use Rattle.std.specs.List.{AllZip, range_with_len};
 ghost use Rattle.pdl_buf.specs.Made.{broadcast_element};
-ghost use Rattle.pdl_shape.specs.Shape.{coordinates_of, extent_limit, size_of};
+ghost use Rattle.pdl_shape.specs.Shape.{coordinates_of, dims_limit, extent_limit, size_of};
 ghost use Rattle.pdl_sig.specs.Resolution.{core_sizes, is_given, size_in, type_in};
 ghost use Rattle.pdl_kernel.specs.Call.{first_given, with_given};
 ghost use Rattle.pdl_kernel.specs.Places.{IsSmall, axes_of, strides_from};
@@ -31,7 +31,7 @@ fn stride_along(size: u32, stride: u32) -> u32
 fn strides(alloc: Global, dims: &Dims) -> Result<Vec<u32>, AllocError>
     ensures value { IfOk result (λ strides. strides.items ≡ strides_from 1 dims.now) }
     ensures small { IfOk result (λ strides. All (λ s. s ≤ extent_limit) strides.items) }
-    ensures few { IfOk result (λ strides. length strides.items ≤ 16) }
+    ensures few { IfOk result (λ strides. length strides.items ≤ dims_limit) }
 {
     shape_laws();
     let sizes = dims_list(dims);
@@ -102,7 +102,7 @@ fn take_given(role: Role, given: &mut Vec<Given>) -> Option<Given>
 fn taken(alloc: Global, ty: Ty, given: Option<Given>) -> Result<(Vec<u32>, Vec<i64>), AllocError>
     ensures strides { IfOk result (λ taken. taken.0.items ≡ given_strides given) }
     ensures small { IfOk result (λ taken. All (λ s. s ≤ extent_limit) taken.0.items) }
-    ensures few { IfOk result (λ taken. length taken.0.items ≤ 16) }
+    ensures few { IfOk result (λ taken. length taken.0.items ≤ dims_limit) }
     ensures elems { IfOk result (λ taken. taken.1.items ≡ given_elems ty given) }
 {
     match given {
@@ -121,7 +121,7 @@ fn taken(alloc: Global, ty: Ty, given: Option<Given>) -> Result<(Vec<u32>, Vec<i
 
 /// The element that an array of these strides gives at coordinates, wrapped to a type.
 fn given_element(ty: Ty, given: &Given, strides: &[u32], coordinates: &[u32]) -> i64
-    requires few { length strides.now ≤ 16 }
+    requires few { length strides.now ≤ dims_limit }
     requires small { All (λ s. s ≤ extent_limit) strides.now }
     requires strides { strides.now ≡ strides_from 1 given.now.dims }
     ensures { result ≡ broadcast_element ty given.now coordinates.now }
@@ -178,7 +178,7 @@ fn laid(
 ) -> Result<(Vec<u32>, Vec<i64>), AllocError>
     ensures strides { IfOk result (λ laid. laid.0.items ≡ strides_with role shape.now given) }
     ensures small { IfOk result (λ laid. All (λ s. s ≤ extent_limit) laid.0.items) }
-    ensures few { IfOk result (λ laid. length laid.0.items ≤ 16) }
+    ensures few { IfOk result (λ laid. length laid.0.items ≤ dims_limit) }
     ensures elems { IfOk result (λ laid. laid.1.items ≡ elems_with role ty shape.now given) }
 {
     match role {

@@ -16,7 +16,7 @@ use crate::scene::{Scene, argument_at, assign_in, keep_local, local, set_index, 
 use pdl_code::{Entry, Kept, LocalType, Stmt, rows_are_trees};
 use pdl_elem::{BinaryOp, Ty};
 use pdl_shape::shape_laws;
-use pdl_sig::{MOST_NAMES, Resolved};
+use pdl_sig::{MOST_DIM_NAMES, Resolved};
 
 /// The type of a local.
 fn local_type(generic: Ty, ty: LocalType) -> Ty
@@ -34,7 +34,7 @@ fn local_type(generic: Ty, ty: LocalType) -> Ty
 fn step(
     resolved: &Resolved,
     scene: &mut Scene,
-    loops: &[u32; MOST_NAMES],
+    loops: &[u32; MOST_DIM_NAMES],
     stmt: &Stmt,
 ) -> Result<(), Fault>
     requires over { IsStepOver (kinds_of scene.old) (step_of stmt.now) }
@@ -73,7 +73,7 @@ fn step(
 fn step_in_line(
     resolved: &Resolved,
     scene: &mut Scene,
-    loops: &[u32; MOST_NAMES],
+    loops: &[u32; MOST_DIM_NAMES],
     stmt: &Stmt,
 ) -> Result<(), Fault>
     requires over { IsStepOver (kinds_of scene.old) (step_of stmt.now) }
@@ -124,7 +124,7 @@ fn keep(
 fn put(
     resolved: &Resolved,
     scene: &mut Scene,
-    loops: &[u32; MOST_NAMES],
+    loops: &[u32; MOST_DIM_NAMES],
     number: usize,
     entries: &[Entry],
     op: Option<BinaryOp>,
@@ -151,7 +151,7 @@ fn put(
 fn repeat(
     resolved: &Resolved,
     scene: &mut Scene,
-    loops: &[u32; MOST_NAMES],
+    loops: &[u32; MOST_DIM_NAMES],
     dimension: usize,
     body: &[Stmt],
 ) -> Result<(), Fault>
@@ -179,7 +179,7 @@ fn repeat(
 fn turn(
     resolved: &Resolved,
     scene: &mut Scene,
-    loops: &[u32; MOST_NAMES],
+    loops: &[u32; MOST_DIM_NAMES],
     code: &[Stmt],
 ) -> Result<(), Fault>
     requires over { IsCodeOver (kinds_of scene.old) (code_of code.now) }
@@ -202,7 +202,7 @@ fn turn(
 pub fn run(
     resolved: &Resolved,
     scene: &mut Scene,
-    loops: &[u32; MOST_NAMES],
+    loops: &[u32; MOST_DIM_NAMES],
     code: &[Stmt],
 ) -> Result<(), Fault>
     requires over { IsCodeOver (kinds_of scene.old) (code_of code.now) }

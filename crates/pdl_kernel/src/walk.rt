@@ -1,7 +1,7 @@
 //! The code at each broadcast place, in broadcast order.
 ghost use Rattle.std.specs.Prelude.{◌≡◌, length, map, pos, replicate, All, OnOk, Some};
 ghost use Rattle.pdl_shape.specs.Shape.{size_of};
-ghost use Rattle.pdl_sig.specs.Refusals.{names_limit};
+ghost use Rattle.pdl_sig.specs.Refusals.{dim_names_limit};
 ghost use Rattle.pdl_code.specs.TreeOf.{code_of};
 ghost use Rattle.pdl_kernel.specs.Answers.{Becomes};
 ghost use Rattle.pdl_kernel.specs.Call.{fault_at, fault_named, stores_from};
@@ -18,7 +18,7 @@ use crate::steps::run;
 use pdl_broadcast::BroadcastWalk;
 use pdl_code::Stmt;
 use pdl_shape::{elements_of, shape_laws};
-use pdl_sig::{MOST_NAMES, Resolved};
+use pdl_sig::{MOST_DIM_NAMES, Resolved};
 use std::alloc::Global;
 
 /// The windows at other broadcast coordinates.
@@ -56,12 +56,12 @@ fn at_place(
 ) -> Result<(), Fault>
     requires over { IsCodeOver (kinds_of scene.old) (code_of code.now) }
     requires whole { All IsWhole (rests_at coordinates.now scene.old) }
-    ensures store { Becomes result (store_of scene.new) (run resolved.now (replicate names_limit 0)
+    ensures store { Becomes result (store_of scene.new) (run resolved.now (replicate dim_names_limit 0)
         (code_of code.now) (starting coordinates.now scene.old)) }
     ensures rests { OnOk result (rests_of scene.new ≡ rests_at coordinates.now scene.old) }
 {
     start_at(scene, coordinates);
-    run(resolved, scene, &[0; MOST_NAMES], code)
+    run(resolved, scene, &[0; MOST_DIM_NAMES], code)
 }
 
 /// A fault of code, with the broadcast place that has it.

@@ -1,6 +1,7 @@
 //! The checks on the lexemes that look at no grammar.
 
 ghost use Rattle.std.specs.Prelude.{◌≡◌, ◌≤◌, ◌+◌, ◌<◌, length};
+ghost use Rattle.pdl_lex.specs.Limits.{statement_limit};
 ghost use Rattle.pdl_lexemes.specs.Depth.{with_operator, counted_to, is_beyond, is_too_deep, is_large, has_large};
 
 use crate::Lexeme;
@@ -22,7 +23,7 @@ pub struct Counts {
 }
 
 fn with_operator(counts: Counts) -> Counts
-    requires { counts.operators < 65536 }
+    requires { counts.operators < statement_limit }
     ensures { result ≡ with_operator counts }
 {
     if counts.square == 0 {
@@ -36,9 +37,9 @@ fn with_operator(counts: Counts) -> Counts
 }
 
 fn counted_to(counts: Counts, lexeme: Lexeme) -> Counts
-    requires round { counts.round < 65536 }
-    requires square { counts.square < 65536 }
-    requires operators { counts.operators < 65536 }
+    requires round { counts.round < statement_limit }
+    requires square { counts.square < statement_limit }
+    requires operators { counts.operators < statement_limit }
     ensures exact { result ≡ counted_to counts lexeme }
     ensures round { result.round ≤ counts.round + 1 }
     ensures square { result.square ≤ counts.square + 1 }
@@ -67,8 +68,8 @@ fn counted_to(counts: Counts, lexeme: Lexeme) -> Counts
 }
 
 fn is_beyond(counts: Counts) -> bool
-    requires round { counts.round ≤ 65536 }
-    requires square { counts.square ≤ 65536 }
+    requires round { counts.round ≤ statement_limit }
+    requires square { counts.square ≤ statement_limit }
     ensures { result ≡ is_beyond counts }
 {
     if counts.round + counts.square > MOST_OPEN {
@@ -83,7 +84,7 @@ fn is_beyond(counts: Counts) -> bool
 /// Whether more than 64 brackets are open at once, more than 16 square ones, or more than 256
 /// operators stand outside square brackets.
 pub fn is_too_deep(tokens: &[Lexeme]) -> bool
-    requires small { length tokens.now ≤ 65536 }
+    requires small { length tokens.now ≤ statement_limit }
     ensures { result ≡ is_too_deep tokens.now }
 {
     let mut counts = Counts {

@@ -1,6 +1,7 @@
 //! The lexemes of a statement that are still to be read.
 
 ghost use Rattle.std.specs.Prelude.{◌≡◌, ◌≤◌, length, nat_eq, is_ok, IfErr, None, Some, if◌then◌else◌};
+ghost use Rattle.pdl_lex.specs.Limits.{statement_limit};
 ghost use Rattle.pdl_lexemes.specs.Depth.{is_too_deep};
 ghost use Rattle.pdl_lexemes.specs.Squares.{AreFew, joined};
 
@@ -31,7 +32,7 @@ impl<'a> Lexemes<'a> {
     /// 16 square ones, or more than 256 operators stand outside square brackets.
     #[tactic(auto, using(crate::proofs::Squares::all_few))]
     pub fn of(list: &'a [Lexeme]) -> Option<Lexemes<'a>>
-        requires small { length list.now ≤ 65536 }
+        requires small { length list.now ≤ statement_limit }
         ensures { result ≡ (if is_too_deep list.now then None else Some list.now) }
     {
         if checks::is_too_deep(list) {
@@ -63,7 +64,7 @@ impl<'a> Lexemes<'a> {
     pub fn len(&self) -> usize
         ensures count { result ≡ length self.now }
         ensures few { AreFew self.now }
-        ensures within { result ≤ 65536 }
+        ensures within { result ≤ statement_limit }
     {
         self.list.len()
     }

@@ -50,6 +50,7 @@ pub enum Keyword {
     Print,
     Undef,
     Vars,
+    Dump,
     PpDef,
     Watch,
     Unwatch,

@@ -10,6 +10,7 @@ pub(crate) const KEYWORDS: &[(&[u8], Keyword)] = &[
     (b"print", Keyword::Print),
     (b"undef", Keyword::Undef),
     (b"vars", Keyword::Vars),
+    (b"dump", Keyword::Dump),
     (b"pp_def", Keyword::PpDef),
     (b"watch", Keyword::Watch),
     (b"unwatch", Keyword::Unwatch),

@@ -18,10 +18,11 @@ use Rattle.pdl_machine.specs.Watches.{Watches, notices}
 use Rattle.pdl_machine.specs.Step.{Stepped, Done, done, effect}
 use Rattle.pdl_machine.specs.Reads.{reads}
 use Rattle.pdl_machine.specs.Run.{step_read, mark_step, line_of, fault_ends, counted, after, next_step}
+use Rattle.pdl_machine.proofs.RunLemmas.{by_refusal}
 use Rattle.pdl_machine.specs.RunLaws.{IsOf, EachIsCounted, NoticesAreNumbered}
 
 pub each_is_counted : EachIsCounted
-each_is_counted terms p m = by_result (next_step p m)
+each_is_counted terms p m = by_refusal (λ q. q.count ≡ next_count p.count) terms p m refl (by_result (next_step p m))
   where
     by_result : (r : Result Done Fault) → (after (fault_ends terms.keep m) (counted p) (line_of m) r).count ≡ next_count p.count
     by_result (Ok d) = refl

@@ -7,9 +7,9 @@ use Rattle.std.specs.List.{list_any}
 use Rattle.pdl_lemmas.specs.Tests.{by_test}
 use Rattle.pdl_world.specs.Cut.{breaks, reshape}
 use Rattle.pdl_world.specs.Paths.{path}
-use Rattle.pdl_world.specs.Swept.{holds}
+use Rattle.pdl_world.specs.Swept.{is_listed}
 use Rattle.pdl_syntax.specs.Tree.{Tree, number, named, literal, unary, binary, call}
-use Rattle.pdl_syntax.specs.StatementTree.{StatementTree, bind, bind_list, assign, show, show_text, sever, reshape as reshapes, undef, vars, pp_def, watch, unwatch}
+use Rattle.pdl_syntax.specs.StatementTree.{StatementTree, bind, bind_list, assign, show, show_text, sever, reshape as reshapes, undef, vars, dump, pp_def, watch, unwatch}
 use Rattle.pdl_machine.specs.declared.fault.Fault.{Fault}
 use Rattle.pdl_machine.specs.declared.fault.Fault.TheVariants.{UnknownName, BadWatcher, ReshapeBreaks, StillWatched}
 use Rattle.pdl_machine.specs.Then.{and_then, or_fault}
@@ -61,13 +61,13 @@ severing_alike g s t h v u same = (record { arrays = cut_alike g s.arrays t.arra
 
 -- the same arrays are watched on both sides
 watched_alike : (g : ℕ → ℕ) (a b : Arrays) → AreAlike true g a b → (ws : Watches) (v : ℕ) → is_watched (map (option_map g) ws) b.world (g v) ≡ is_watched ws a.world v
-watched_alike g a b h ws v = ap (list_any (λ u. holds (path b.world u) (g v))) (attached_renamed g ws) ∙ on_paths (attached ws)
+watched_alike g a b h ws v = ap (list_any (λ u. is_listed (path b.world u) (g v))) (attached_renamed g ws) ∙ on_paths (attached ws)
   where
-    on_paths : (us : List ℕ) → list_any (λ u. holds (path b.world u) (g v)) (map g us) ≡ list_any (λ u. holds (path a.world u) v) us
+    on_paths : (us : List ℕ) → list_any (λ u. is_listed (path b.world u) (g v)) (map g us) ≡ list_any (λ u. is_listed (path a.world u) v) us
     on_paths [] = refl
     on_paths (u ∷ us) =
-        ap (λ x. x || list_any (λ k. holds (path b.world k) (g v)) (map g us)) (ap (λ ps. holds ps (g v)) (path_renamed g h.apart h.world u) ∙ holds_renamed g h.apart (path a.world u) v)
-        ∙ ap (λ x. holds (path a.world u) v || x) (on_paths us)
+        ap (λ x. x || list_any (λ k. is_listed (path b.world k) (g v)) (map g us)) (ap (λ ps. is_listed ps (g v)) (path_renamed g h.apart h.world u) ∙ holds_renamed g h.apart (path a.world u) v)
+        ∙ ap (λ x. is_listed (path a.world u) v || x) (on_paths us)
 
 -- other dimensions on both sides
 reshaped_alike : (g : ℕ → ℕ) (ws : Watches) (a b : Arrays) → AreAlike true g a b → (v u : ℕ) → u ≡ g v → (ds : List ℕ)
@@ -185,6 +185,7 @@ effect_alike present g s t h (reshapes x sizes) =
     (state_taken_alike g s t h sizes) (reshaping_alike g s t h v u same))
 effect_alike present g s t h (undef x) = unbind_alike g s t h x
 effect_alike present g s t h vars = (h, lines_alike g s.arrays t.arrays h.arrays s.names.arrays ∙ ap (λ names. flat_map (name_line t.arrays) names.arrays) (sym h.names))
+effect_alike present g s t h dump = refl
 effect_alike present g s t h (pp_def f a b) = both_same (StepAlike g) (defined f a b) (kernel_named s f) (kernel_named t f) (define_alike g s t h f)
 effect_alike present g s t h (watch x k) =
     both_then (NumberAlike g) (StepAlike g) (bound_to s.names x) (bound_to t.names x) (watching present s k) (watching present t k) (bound_to_alike g s t h x) (watching_alike present g s t h k)

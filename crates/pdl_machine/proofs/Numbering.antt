@@ -5,7 +5,7 @@ use Rattle.std.proofs.lemmas.Bool.{cases_lt}
 use Rattle.pdl_lemmas.specs.Tests.{by_test}
 use Rattle.pdl_world.specs.World.{World, ArrayDef, root, view, Look}
 use Rattle.pdl_world.specs.Sound.{NumbersBelow, IsSound, IsLive, IsAllowed}
-use Rattle.pdl_world.specs.Swept.{holds, parents, kept_onto, sweep}
+use Rattle.pdl_world.specs.Swept.{is_listed, parents, kept_onto, sweep}
 use Rattle.pdl_machine.specs.Names.{KernelTexts, Named, Names}
 use Rattle.pdl_machine.specs.State.{State, held, IsSwept, AreLive, IsWhole}
 use Rattle.pdl_machine.specs.Watches.{Watches, attached}
@@ -117,7 +117,7 @@ former_older ((k, d) ∷ u) f v there =
 
 pub NumbersBelow-sweep : (m : ℕ) (w : World) (hs : List ℕ) → NumbersBelow m w → NumbersBelow m (sweep w hs)
 NumbersBelow-sweep m [] hs below = tt
-NumbersBelow-sweep m ((k, d) ∷ w) hs below = by_keeps (λ h. NumbersBelow-sweep m w h below.1) (holds hs k)
+NumbersBelow-sweep m ((k, d) ∷ w) hs below = by_keeps (λ h. NumbersBelow-sweep m w h below.1) (is_listed hs k)
   where
     by_keeps : ((h : List ℕ) → NumbersBelow m (sweep w h)) → (keeps : Bool) → NumbersBelow m (kept_onto keeps (k, d) (sweep w (if keeps then parents d ++ hs else hs)))
     by_keeps rest true = (below.0, rest (parents d ++ hs))
@@ -125,7 +125,7 @@ NumbersBelow-sweep m ((k, d) ∷ w) hs below = by_keeps (λ h. NumbersBelow-swee
 
 InOrder-sweep : (w : World) (hs : List ℕ) → IsOrderly w → InOrder (sweep w hs)
 InOrder-sweep [] hs sound = tt
-InOrder-sweep ((k, d) ∷ w) hs sound = by_keeps (λ h. InOrder-sweep w h sound.2) (holds hs k)
+InOrder-sweep ((k, d) ∷ w) hs sound = by_keeps (λ h. InOrder-sweep w h sound.2) (is_listed hs k)
   where
     by_keeps : ((h : List ℕ) → InOrder (sweep w h)) → (keeps : Bool) → InOrder (kept_onto keeps (k, d) (sweep w (if keeps then parents d ++ hs else hs)))
     by_keeps rest true = (NumbersBelow-sweep k w (parents d ++ hs) sound.0, rest (parents d ++ hs))
@@ -139,19 +139,19 @@ live_inside ((k, d) ∷ w) v live = by_test (k == v)
     (λ other. rw other (live_inside w v (let P : Option Look → Type 0 = λ x. IsSomeAnd x (λ l. Unit {0}) in subst P (look-other k v d w other) live)))
 
 -- what is held and in the world is kept
-held_kept : (w : World) (hs : List ℕ) (v : ℕ) → in_world w v ≡ true → holds hs v ≡ true → in_world (sweep w hs) v ≡ true
+held_kept : (w : World) (hs : List ℕ) (v : ℕ) → in_world w v ≡ true → is_listed hs v ≡ true → in_world (sweep w hs) v ≡ true
 held_kept [] hs v inside held_v = inside
-held_kept ((k, d) ∷ w) hs v inside held_v = by_keeps (λ h i t. held_kept w h v i t) (holds hs k) refl
+held_kept ((k, d) ∷ w) hs v inside held_v = by_keeps (λ h i t. held_kept w h v i t) (is_listed hs k) refl
   where
-    more_held : (d : ArrayDef) → holds (parents d ++ hs) v ≡ true
+    more_held : (d : ArrayDef) → is_listed (parents d ++ hs) v ≡ true
     more_held (root ty ds es) = held_v
     more_held (view p t) = by_test (p == v) (λ same. rw same refl) (λ other. rw other held_v)
 
-    by_keeps : ((h : List ℕ) → in_world w v ≡ true → holds h v ≡ true → in_world (sweep w h) v ≡ true) → (keeps : Bool) → holds hs k ≡ keeps
+    by_keeps : ((h : List ℕ) → in_world w v ≡ true → is_listed h v ≡ true → in_world (sweep w h) v ≡ true) → (keeps : Bool) → is_listed hs k ≡ keeps
         → in_world (kept_onto keeps (k, d) (sweep w (if keeps then parents d ++ hs else hs))) v ≡ true
     by_keeps rest true e = by_test (k == v) (λ same. rw same refl) (λ other. rw other (let i : in_world w v ≡ true = rw other at inside in rest (parents d ++ hs) i (more_held d)))
     by_keeps rest false e = by_test (k == v)
-        (λ same. let e' : k ≡ v = eqb-true k v same in let t : holds hs k ≡ true = ap (holds hs) e' ∙ held_v in cc)
+        (λ same. let e' : k ≡ v = eqb-true k v same in let t : is_listed hs k ≡ true = ap (is_listed hs) e' ∙ held_v in cc)
         (λ other. let i : in_world w v ≡ true = rw other at inside in rest hs i held_v)
 
 -- a sound world is orderly
@@ -171,7 +171,7 @@ live_in w (v ∷ vs) live = (live_inside w v live.0, live_in w vs live.1)
 parent_kept : (w : World) (hs : List ℕ) (p : ℕ) → in_world w p ≡ true → in_world (sweep w (p ∷ hs)) p ≡ true
 parent_kept w hs p inside =
     let self : (p == p) ≡ true = eq-eqb p p refl in
-    let held_p : holds (p ∷ hs) p ≡ true = rw self refl in
+    let held_p : is_listed (p ∷ hs) p ≡ true = rw self refl in
     held_kept w (p ∷ hs) p inside held_p
 
 -- g has the former numbers of these arrays, and from there on only higher ones than those of w
@@ -191,7 +191,7 @@ restored_parent g f u v inside there = inside (older u v) (older_within u v ther
 
 restored : (g f : ℕ → ℕ) (w : World) (hs : List ℕ) → IsOrderly w → Restores g f w (sweep w hs) → IsRestored g w (sweep w hs)
 restored g f [] hs sound h = record { some = empty; kept = refl }
-restored g f ((k, d) ∷ w) hs sound h = by_keeps (λ hs' h'. restored g f w hs' sound.2 h') (holds hs k) h
+restored g f ((k, d) ∷ w) hs sound h = by_keeps (λ hs' h'. restored g f w hs' sound.2 h') (is_listed hs k) h
   where
     on_top : (u : World) → (g (length u) ≡ k) → with_parent g (with_parent (older u) d) ≡ d → IsRestored g w u → IsRestored g ((k, d) ∷ w) ((k, d) ∷ u)
     on_top u at def rest =
@@ -249,11 +249,11 @@ named ks bound = record { arrays = bound; kernels = ks }
 
 -- names with the new numbers, and then with the former ones
 names_restored : (g f : ℕ → ℕ) (w : World) (hs : List ℕ) (names : Named ℕ) → ((i : ℕ) → i < length (sweep w hs) → g i ≡ former (sweep w hs) f i)
-    → AreIn w (map (λ n. n.1) names) → ((v : ℕ) → holds (map (λ n. n.1) names) v ≡ true → holds hs v ≡ true) → names ≡ renumbered g (renumbered (older (sweep w hs)) names)
+    → AreIn w (map (λ n. n.1) names) → ((v : ℕ) → is_listed (map (λ n. n.1) names) v ≡ true → is_listed hs v ≡ true) → names ≡ renumbered g (renumbered (older (sweep w hs)) names)
 names_restored g f w hs [] inside live all_held = refl
 names_restored g f w hs (n ∷ names) inside live all_held =
     let self : (n.1 == n.1) ≡ true = eq-eqb n.1 n.1 refl in
-    let t : holds (n.1 ∷ map (λ n. n.1) names) n.1 ≡ true = rw self refl in
+    let t : is_listed (n.1 ∷ map (λ n. n.1) names) n.1 ≡ true = rw self refl in
     let there : in_world (sweep w hs) n.1 ≡ true = held_kept w hs n.1 live.0 (all_held n.1 t) in
     let rest : names ≡ renumbered g (renumbered (older (sweep w hs)) names) = names_restored g f w hs names inside live.1 (λ v h. all_held v (by_test (n.1 == v) (λ same. rw same refl) (λ other. rw other h))) in
     ap (λ v. (n.0, v) ∷ names) (sym (restored_parent g f (sweep w hs) n.1 inside there)) ∙ ap (λ r. (n.0, g (older (sweep w hs) n.1)) ∷ r) rest
@@ -287,22 +287,22 @@ in_order s whole =
       watched = back_in s.arrays.world (bound_in s.names) (attached s.watches) all;
     }
 
-pub holds_front : (vs us : List ℕ) (k : ℕ) → holds vs k ≡ true → holds (vs ++ us) k ≡ true
+pub holds_front : (vs us : List ℕ) (k : ℕ) → is_listed vs k ≡ true → is_listed (vs ++ us) k ≡ true
 holds_front [] us k h = cc
-holds_front (v ∷ vs) us k h = by_test (v == k) (λ same. rw same refl) (λ other. let t : holds vs k ≡ true = rw other at h in rw other (holds_front vs us k t))
+holds_front (v ∷ vs) us k h = by_test (v == k) (λ same. rw same refl) (λ other. let t : is_listed vs k ≡ true = rw other at h in rw other (holds_front vs us k t))
 
-pub holds_back : (vs us : List ℕ) (k : ℕ) → holds us k ≡ true → holds (vs ++ us) k ≡ true
+pub holds_back : (vs us : List ℕ) (k : ℕ) → is_listed us k ≡ true → is_listed (vs ++ us) k ≡ true
 holds_back [] us k h = h
 holds_back (v ∷ vs) us k h = by_test (v == k) (λ same. rw same refl) (λ other. rw other (holds_back vs us k h))
 
 -- watches with the new numbers, and then with the former ones
 watches_restored : (g f : ℕ → ℕ) (w : World) (hs : List ℕ) (ws : Watches) → ((i : ℕ) → i < length (sweep w hs) → g i ≡ former (sweep w hs) f i)
-    → AreIn w (attached ws) → ((v : ℕ) → holds (attached ws) v ≡ true → holds hs v ≡ true) → ws ≡ map (option_map g) (map (option_map (older (sweep w hs))) ws)
+    → AreIn w (attached ws) → ((v : ℕ) → is_listed (attached ws) v ≡ true → is_listed hs v ≡ true) → ws ≡ map (option_map g) (map (option_map (older (sweep w hs))) ws)
 watches_restored g f w hs [] inside there all_held = refl
 watches_restored g f w hs (None ∷ ws) inside there all_held = ap (λ (us : Watches). None ∷ us) (watches_restored g f w hs ws inside there all_held)
 watches_restored g f w hs (Some v ∷ ws) inside there all_held =
     let self : (v == v) ≡ true = eq-eqb v v refl in
-    let t : holds (v ∷ attached ws) v ≡ true = rw self refl in
+    let t : is_listed (v ∷ attached ws) v ≡ true = rw self refl in
     let kept : in_world (sweep w hs) v ≡ true = held_kept w hs v there.0 (all_held v t) in
     let rest : ws ≡ map (option_map g) (map (option_map (older (sweep w hs))) ws) = watches_restored g f w hs ws inside there.1 (λ u h. all_held u (by_test (v == u) (λ same. rw same refl) (λ other. rw other h))) in
     ap (λ (u : ℕ). Some u ∷ ws) (sym (restored_parent g f (sweep w hs) v inside kept)) ∙ ap (λ (us : Watches). Some (g (older (sweep w hs) v)) ∷ us) rest

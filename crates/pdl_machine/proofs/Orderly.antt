@@ -14,7 +14,7 @@ use Rattle.pdl_world.specs.Cut.{breaks, replaced, rooted, reshape, fitted}
 use Rattle.pdl_world.specs.Sound.{NumbersBelow}
 use Rattle.pdl_lexemes.specs.declared.AssignOp.{AssignOp}
 use Rattle.pdl_syntax.specs.Tree.{Tree, Args, number, named, literal, unary, binary, call, none, value, text, of_type}
-use Rattle.pdl_syntax.specs.StatementTree.{StatementTree, bind, bind_list, assign, show, show_text, sever, reshape as reshapes, undef, vars, pp_def, watch, unwatch}
+use Rattle.pdl_syntax.specs.StatementTree.{StatementTree, bind, bind_list, assign, show, show_text, sever, reshape as reshapes, undef, vars, dump, pp_def, watch, unwatch}
 use Rattle.pdl_machine.specs.declared.fault.Fault.{Fault}
 use Rattle.pdl_machine.specs.declared.fault.Fault.TheVariants.{UnknownName, TooManyNames, TooManyKernels, BadWatcher, ReshapeBreaks, StillWatched}
 use Rattle.pdl_machine.specs.Then.{and_then, or_fault}
@@ -444,6 +444,7 @@ effect_in_order present s order (reshapes x sizes) =
     ok_then (FineTaken s.arrays) FineStep (taken s.names s.arrays sizes) (reshaping s v) (taken_fine s.names sizes s.arrays (grows_self s order) order.inside) (reshaping_fine s v order))
 effect_in_order present s order (undef x) = unbind_fine s x order
 effect_in_order present s order vars = order
+effect_in_order present s order dump = tt
 effect_in_order present s order (pp_def f a b) = ok_always FineStep (defined f a b) (kernel_named s f) (λ k. define_fine s f k order)
 effect_in_order present s order (watch x k) =
     ok_then (λ v. in_world s.arrays.world v ≡ true) FineStep (bound_to s.names x) (watching present s k) (bound_to_fine s x order) (λ v here. watching_fine present s k v order here)

@@ -6,7 +6,7 @@ use Rattle.pdl_lemmas.specs.Tests.{by_test}
 use Rattle.pdl_lex.specs.Pieces.{Mark, statement, script_too_long, script_marks}
 use Rattle.pdl_lex.specs.declared.Piece.TheVariants.{Whole, TooLong}
 use Rattle.pdl_world.specs.Swept.{sweep}
-use Rattle.pdl_syntax.specs.StatementTree.{StatementTree, bind, bind_list, assign, show, show_text, sever, reshape, undef, vars, pp_def, watch, unwatch}
+use Rattle.pdl_syntax.specs.StatementTree.{StatementTree, bind, bind_list, assign, show, show_text, sever, reshape, undef, vars, dump, pp_def, watch, unwatch}
 use Rattle.pdl_io.specs.Counts.{next_count}
 use Rattle.pdl_watch.specs.declared.notice.Notice.{Notice}
 use Rattle.pdl_watch.specs.Slots.{joined, IsBelow}
@@ -22,6 +22,7 @@ use Rattle.pdl_machine.specs.Step.{Stepped, Done, left, done, watching, unwatchi
 use Rattle.pdl_machine.specs.Laws.{StepsKeepThere, StepsGiveNone}
 use Rattle.pdl_machine.specs.Reads.{reads}
 use Rattle.pdl_machine.specs.Run.{Terms, Progress, step_read, mark_step, line_of, fault_ends, counted, after, next_step, after_mark, after_marks, start, run}
+use Rattle.pdl_machine.proofs.RunLemmas.{by_refusal}
 use Rattle.pdl_machine.proofs.WatchLemmas.{watch_of_renamed, watch_of-padded, watch_of-trimmed}
 use Rattle.pdl_machine.proofs.Orderly.{ok_always}
 use Rattle.pdl_machine.proofs.Watching.{SameWatches, effect_watches}
@@ -42,6 +43,7 @@ left_is_below self ps (sever x) = self ps
 left_is_below self ps (reshape x sizes) = self ps
 left_is_below self ps (undef x) = self ps
 left_is_below self ps vars = self ps
+left_is_below self ps dump = self ps
 left_is_below self ps (pp_def f a b) = self ps
 left_is_below self ps (watch x k) = self ps
 
@@ -144,6 +146,7 @@ effect_there present s (sever x) there = same_there present s there (effect pres
 effect_there present s (reshape x sizes) there = same_there present s there (effect present s (reshape x sizes)) (effect_watches present s (reshape x sizes) tt)
 effect_there present s (undef x) there = same_there present s there (effect present s (undef x)) (effect_watches present s (undef x) tt)
 effect_there present s vars there = there
+effect_there present s dump there = tt
 effect_there present s (pp_def f a b) there = same_there present s there (effect present s (pp_def f a b)) (effect_watches present s (pp_def f a b) tt)
 
 pub steps_keep_there : StepsKeepThere
@@ -180,19 +183,23 @@ after-told : (ends : Bool) (p : Progress) (line : ℕ) (r : Result Done Fault) �
 after-told ends p line (Ok d) = refl
 after-told ends p line (Err e) = sym (joined_none p.told)
 
+mark_told : (terms : Terms) (p : Progress) (m : Mark) → (more : List (List Notice)) × ((after_mark terms p m).told ≡ joined p.told more)
+mark_told terms p m =
+    by_refusal (λ q. (more : List (List Notice)) × (q.told ≡ joined p.told more)) terms p m
+    ([], sym (joined_none p.told))
+    (told_by (next_step p m), after-told (fault_ends terms.keep m) (counted p) (line_of m) (next_step p m))
+
 -- what was told stays at the front
 pub told_stays : (terms : Terms) (p : Progress) (ms : List Mark) → (more : List (List Notice)) × ((after_marks terms p ms).told ≡ joined p.told more)
 told_stays terms p [] = ([], sym (joined_none p.told))
 told_stays terms p (m ∷ ms) =
     let more = told_stays terms (after_mark terms p m) ms in
-    let told : List (List Notice) = told_by (next_step p m) in
+    let first = mark_told terms p m in
     elim p.ended as (λ b. (more : List (List Notice)) × ((cond b p (after_marks terms (after_mark terms p m) ms)).told ≡ joined p.told more)) [
       | true ↦ ([], sym (joined_none p.told))
       | false ↦ (
-        joined told more.0,
-        more.1
-            ∙ ap (λ (all : List (List Notice)). joined all more.0) (after-told (fault_ends terms.keep m) (counted p) (line_of m) (next_step p m))
-            ∙ joined_twice p.told told more.0,
+        joined first.0 more.0,
+        more.1 ∙ ap (λ (all : List (List Notice)). joined all more.0) first.1 ∙ joined_twice p.told first.0 more.0,
       )
     ]
 
@@ -215,7 +222,7 @@ none_comes self twice terms p [] = self p.present
 none_comes self twice terms p (m ∷ ms) =
     let next : IsBelow (after_marks terms (after_mark terms p m) ms).present p.present =
     twice (after_marks terms (after_mark terms p m) ms).present (after_mark terms p m).present p.present (none_comes self twice terms (after_mark terms p m) ms)
-    (by_result (next_step p m) (mark_below self (next_count p.count) p.present p.state m)) in
+    (by_refusal (λ q. IsBelow q.present p.present) terms p m (self p.present) (by_result (next_step p m) (mark_below self (next_count p.count) p.present p.state m))) in
     elim p.ended as (λ b. IsBelow (cond b p (after_marks terms (after_mark terms p m) ms)).present p.present) [
       | true ↦ self p.present
       | false ↦ next
@@ -241,7 +248,8 @@ mark_there number present s (script_too_long line) there = tt
 pub stay_there : (terms : Terms) (p : Progress) (ms : List Mark) → AreThere p.present p.state.watches → AreThere (after_marks terms p ms).present (after_marks terms p ms).state.watches
 stay_there terms p [] there = there
 stay_there terms p (m ∷ ms) there =
-    let next = stay_there terms (after_mark terms p m) ms (by_result (next_step p m) (mark_there (next_count p.count) p.present p.state m there)) in
+    let first = by_refusal (λ q. AreThere q.present q.state.watches) terms p m there (by_result (next_step p m) (mark_there (next_count p.count) p.present p.state m there)) in
+    let next = stay_there terms (after_mark terms p m) ms first in
     elim p.ended as (λ b. AreThere (cond b p (after_marks terms (after_mark terms p m) ms)).present (cond b p (after_marks terms (after_mark terms p m) ms)).state.watches) [
       | true ↦ there
       | false ↦ next

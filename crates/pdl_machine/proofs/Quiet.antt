@@ -14,7 +14,7 @@ use Rattle.pdl_buf.specs.declared.made.Made.{Made}
 use Rattle.pdl_shape.specs.Shape.{size_of}
 use Rattle.pdl_world.specs.World.{World, ArrayDef, root, Look, look, elements, dims_in, ty_in}
 use Rattle.pdl_world.specs.Sound.{IsSound, IsLive}
-use Rattle.pdl_world.specs.Swept.{holds}
+use Rattle.pdl_world.specs.Swept.{is_listed}
 use Rattle.pdl_world.specs.Laws.{OlderStay, OlderElementsStay, OlderPathsStay, NewIsLive}
 use Rattle.pdl_world.specs.Cut.{breaks, replaced, sever, reshape, fitted}
 use Rattle.pdl_world.specs.BreakLaws.{ReshapesLeaveOthers}
@@ -22,7 +22,7 @@ use Rattle.pdl_world.specs.Paths.{path}
 use Rattle.pdl_world.specs.SweepLaws.{IsSeenAsBefore}
 use Rattle.pdl_world.specs.CutLaws.{CutsLeaveElements, CutsLeaveNumbers}
 use Rattle.pdl_syntax.specs.Tree.{Tree, number, named, literal, unary, binary, call}
-use Rattle.pdl_syntax.specs.StatementTree.{StatementTree, bind, bind_list, assign, show, show_text, sever as severs, reshape as reshapes, undef, vars, pp_def, watch, unwatch}
+use Rattle.pdl_syntax.specs.StatementTree.{StatementTree, bind, bind_list, assign, show, show_text, sever as severs, reshape as reshapes, undef, vars, dump, pp_def, watch, unwatch}
 use Rattle.pdl_watch.specs.declared.notice.Notice.{Notice}
 use Rattle.pdl_watch.specs.Changes.{SameHaveNoChanges, changes}
 use Rattle.pdl_watch.specs.Slots.{IsQuiet}
@@ -136,14 +136,14 @@ path_more laws ((k, d) ∷ more) w v order live =
     laws.older_paths (more ++ w) k v d order.0 (live_as w (more ++ w) v (look_more laws.older more w v order.2 live) live) ∙ path_more laws more w v order.2 live
 
 -- other dimensions leave the elements of what isn't shown through the array
-reshape_quiet : WorldLaws → (more w : World) (v u : ℕ) (ds : List ℕ) → IsSound w → IsOrderly (more ++ w) → IsLive w v → IsLive w u → holds (path (more ++ w) u) v ≡ false
+reshape_quiet : WorldLaws → (more w : World) (v u : ℕ) (ds : List ℕ) → IsSound w → IsOrderly (more ++ w) → IsLive w v → IsLive w u → is_listed (path (more ++ w) u) v ≡ false
     → elements (reshape (more ++ w) v ds) u ≡ elements w u
 reshape_quiet laws more w v u ds sound order here live other =
     let seen : look (more ++ w) v ≡ look w v = look_more laws.older more w v order here in
     let fit : List ℤ → List ℤ = λ es. fitted (size_of ds) es in
     let same : root_def (ty_in (more ++ w) v) ds (fit (elements (more ++ w) v)) ≡ root_def (ty_in w v) ds (fit (elements w v)) =
     all_same (ap (λ (o : Option Look). option_map_or (λ l. l.ty) o Byte) seen) (ap fit (elements_more laws.older laws.older_elements more w v order here)) in
-    let apart : holds (path w u) v ≡ false = ap (λ ps. holds ps v) (sym (path_more laws more w u order live)) ∙ other in
+    let apart : is_listed (path w u) v ≡ false = ap (λ ps. is_listed ps v) (sym (path_more laws more w u order live)) ∙ other in
     let stays : IsSeenAsBefore w (reshape w v ds) u = laws.reshapes w v u ds sound apart in
     ap (λ (d : ArrayDef). elements (replaced (more ++ w) v d) u) same
     ∙ root_more laws more w v u (ty_in w v) ds (fit (elements w v)) order (live_as w (reshape w v ds) u stays.look_is live)
@@ -154,17 +154,17 @@ reshape_quiet laws more w v u ds sound order here live other =
 
 -- what is watched has the elements that it had
 abbrev KeepsElements : World → World → Watches → Type 0
-KeepsElements w new ws = (u : ℕ) → holds (attached ws) u ≡ true → elements new u ≡ elements w u
+KeepsElements w new ws = (u : ℕ) → is_listed (attached ws) u ≡ true → elements new u ≡ elements w u
 
 abbrev Keeps : State → State × List ℕ → Type 0
 Keeps s after = KeepsElements s.arrays.world after.0.arrays.world after.0.watches
 
-held_live : (w : World) (vs : List ℕ) (u : ℕ) → AreLive w vs → holds vs u ≡ true → IsLive w u
+held_live : (w : World) (vs : List ℕ) (u : ℕ) → AreLive w vs → is_listed vs u ≡ true → IsLive w u
 held_live w [] u live h = cc
 held_live w (v ∷ vs) u live h =
-    by_test (v == u) (λ same. subst (IsLive w) (eqb-true v u same) live.0) (λ other. let rest : holds vs u ≡ true = rw other at h in held_live w vs u live.1 rest)
+    by_test (v == u) (λ same. subst (IsLive w) (eqb-true v u same) live.0) (λ other. let rest : is_listed vs u ≡ true = rw other at h in held_live w vs u live.1 rest)
 
-watched_live : (s : State) → IsWhole s → (u : ℕ) → holds (attached s.watches) u ≡ true → IsLive s.arrays.world u
+watched_live : (s : State) → IsWhole s → (u : ℕ) → is_listed (attached s.watches) u ≡ true → IsLive s.arrays.world u
 watched_live s whole u h = held_live s.arrays.world (held s) u whole.live (holds_back (bound_in s.names) (attached s.watches) u h)
 
 -- only new arrays came
@@ -222,12 +222,12 @@ several_grown s order xs (binary op e f) = tt
 grown_keeps : WorldLaws → (s : State) → IsWhole s → (x : Stepped) → IfOk x (λ after. IsInOrder after.0) → IfOk x (SameWatches s) → IfOk x (GrownStep s) → IfOk x (Keeps s)
 grown_keeps laws s whole (Err e) order same grown = tt
 grown_keeps laws s whole (Ok after) order same grown = λ u h.
-    let P : Watches → Type 0 = λ ws. holds (attached ws) u ≡ true in
+    let P : Watches → Type 0 = λ ws. is_listed (attached ws) u ≡ true in
     ap (λ (w : World). elements w u) grown.is
     ∙ elements_more laws.older laws.older_elements grown.more s.arrays.world u (subst IsOrderly grown.is order.orderly) (watched_live s whole u (subst P same h))
 
 -- so it does after a cut
-cut_keeps : WorldLaws → (s : State) → IsWhole s → (a : Arrays) (v u : ℕ) → AreGrown s.arrays a → IsOrderly a.world → holds (attached s.watches) u ≡ true → elements (cut a v).world u ≡ elements s.arrays.world u
+cut_keeps : WorldLaws → (s : State) → IsWhole s → (a : Arrays) (v u : ℕ) → AreGrown s.arrays a → IsOrderly a.world → is_listed (attached s.watches) u ≡ true → elements (cut a v).world u ≡ elements s.arrays.world u
 cut_keeps laws s whole a v u grown order h =
     ap (λ (w : World). elements (sever w v) u) grown.is
     ∙ cut_quiet laws grown.more s.arrays.world v u whole.sound (subst IsOrderly grown.is order) (watched_live s whole u h)
@@ -239,13 +239,13 @@ severed_keeps laws s whole x (Ok v) fine =
     cut_keeps laws s whole v.0 v.1 u fine.2 fine.0.orderly h)
 
 -- and after other dimensions, which are refused for what a watched array is shown through
-unwatched : (w : World) (us : List ℕ) (v u : ℕ) → list_any (λ k. holds (path w k) v) us ≡ false → holds us u ≡ true → holds (path w u) v ≡ false
+unwatched : (w : World) (us : List ℕ) (v u : ℕ) → list_any (λ k. is_listed (path w k) v) us ≡ false → is_listed us u ≡ true → is_listed (path w u) v ≡ false
 unwatched w [] v u none h = cc
 unwatched w (k ∷ us) v u none h =
-    let parts = or_parts (holds (path w k) v) (list_any (λ j. holds (path w j) v) us) none in
+    let parts = or_parts (is_listed (path w k) v) (list_any (λ j. is_listed (path w j) v) us) none in
     by_test (k == u)
-    (λ same. ap (λ x. holds (path w x) v) (sym (eqb-true k u same)) ∙ parts.0)
-    (λ other. let rest : holds us u ≡ true = rw other at h in unwatched w us v u parts.1 rest)
+    (λ same. ap (λ x. is_listed (path w x) v) (sym (eqb-true k u same)) ∙ parts.0)
+    (λ other. let rest : is_listed us u ≡ true = rw other at h in unwatched w us v u parts.1 rest)
 
 reshaping_keeps : WorldLaws → (s : State) → IsWhole s → (v : ℕ) → in_world s.arrays.world v ≡ true → (t : Arrays × List Given) → FineTaken s.arrays t → IfOk (reshaping s v t) (Keeps s)
 reshaping_keeps laws s whole v here (b, given) fine =
@@ -256,10 +256,10 @@ reshaping_keeps laws s whole v here (b, given) fine =
     by_tests ds true y is = tt
     by_tests ds false true is = tt
     by_tests ds false false is = λ u h.
-        let apart : holds (path b.world u) v ≡ false = unwatched b.world (attached s.watches) v u is h in
+        let apart : is_listed (path b.world u) v ≡ false = unwatched b.world (attached s.watches) v u is h in
         ap (λ (w : World). elements (reshape w v ds) u) fine.2.is
         ∙ reshape_quiet laws fine.2.more s.arrays.world v u ds whole.sound (subst IsOrderly fine.2.is fine.0.orderly) (sound_live laws s.arrays.world v whole.sound here) (watched_live s whole u h)
-        (ap (λ (w : World). holds (path w u) v) (sym fine.2.is) ∙ apart)
+        (ap (λ (w : World). is_listed (path w u) v) (sym fine.2.is) ∙ apart)
 
 -- other watches change no array
 rewatched_keeps : (s : State) (x : Result Watches Fault) → IfOk (and_then x (λ ws. Ok (record s { watches = ws }, []))) (Keeps s)
@@ -289,6 +289,7 @@ effect_keeps laws present s whole (reshapes x sizes) other =
 effect_keeps laws present s whole (undef x) other =
     ok_always (Keeps s) (unbind s.names x) (λ names. Ok (record s { names = names }, [])) (λ names u h. refl)
 effect_keeps laws present s whole vars other = λ u h. refl
+effect_keeps laws present s whole dump other = tt
 effect_keeps laws present s whole (pp_def f a b) other =
     ok_always (Keeps s) (defined f a b) (kernel_named s f) (λ k. ok_always (Keeps s) (define s.names f k) (λ names. Ok (record s { names = names }, [])) (λ names u h. refl))
 effect_keeps laws present s whole (watch x k) other = ok_always (Keeps s) (bound_to s.names x) (watching present s k) (λ v. rewatched_keeps s (attaching present s.watches k v))
@@ -302,7 +303,7 @@ quiet same_none n w new [] keeps = λ k d lt. absurd (omega arith)
 quiet same_none n w new (None ∷ ws) keeps = All-cons NoNotices [] (notices n w new ws) refl (quiet same_none n w new ws keeps)
 quiet same_none n w new (Some v ∷ ws) keeps =
     let self : (v == v) ≡ true = eq-eqb v v refl in
-    let here : holds (v ∷ attached ws) v ≡ true = rw self refl in
+    let here : is_listed (v ∷ attached ws) v ≡ true = rw self refl in
     let first : changes n (elements w v) (elements new v) ≡ [] = ap (λ (es : List ℤ). changes n (elements w v) es) (keeps v here) ∙ same_none n (elements w v) in
     All-cons NoNotices (changes n (elements w v) (elements new v)) (notices n w new ws) first
     (quiet same_none n w new ws (λ u h. keeps u (by_test (v == u) (λ same. rw same refl) (λ other. rw other h))))

@@ -5,7 +5,7 @@ use Rattle.pdl_lemmas.specs.Tests.{by_test}
 use Rattle.pdl_world.specs.declared.Trans.{Trans}
 use Rattle.pdl_world.specs.World.{World, ArrayDef, root, view, elements}
 use Rattle.pdl_world.specs.Sound.{NumbersBelow, IsSound}
-use Rattle.pdl_world.specs.Swept.{holds, parents, kept_onto, sweep, Has, IsReached, held_itself, parent_of}
+use Rattle.pdl_world.specs.Swept.{is_listed, parents, kept_onto, sweep, Has, IsReached, held_itself, parent_of}
 use Rattle.pdl_machine.specs.declared.fault.Fault.{Fault}
 use Rattle.pdl_machine.specs.Names.{number_of}
 use Rattle.pdl_machine.specs.Arrays.{Arrays, array_in}
@@ -87,7 +87,7 @@ absent ((k, d) ∷ w) n v below there =
     (λ is. by_test (v == n) (λ is_n. let a : k ≡ v = eqb-true k v is in let b : v ≡ n = eqb-true v n is_n in absurd (omega arith)) (λ other. other))
     (λ other. let t : in_world w v ≡ true = rw other at there in absent w n v below.1 t)
 
-unheld : (w : World) (hs : List ℕ) (k : ℕ) → NumbersBelow k w → AreLive w hs → holds hs k ≡ false
+unheld : (w : World) (hs : List ℕ) (k : ℕ) → NumbersBelow k w → AreLive w hs → is_listed hs k ≡ false
 unheld w [] k below live = refl
 unheld w (v ∷ hs) k below live = let other : (v == k) ≡ false = absent w k v below (live_inside w v live.0) in rw other (unheld w hs k below live.1)
 
@@ -108,23 +108,23 @@ new_arrays_are_unseen s a grown sound live =
     ap (λ w. numbered s (sweep w (held s))) grown.is ∙ ap (numbered s) (sweep_more grown.more s.arrays.world (held s) (subst S grown.is sound) live)
 
 -- what is reached from the parents of a newest array that is held is reached with it
-below_newest : (u : World) (hs : List ℕ) (j : ℕ) (e : ArrayDef) → holds hs j ≡ true → (k : ℕ) → IsReached u (parents e ++ hs) k → IsReached ((j, e) ∷ u) hs k
+below_newest : (u : World) (hs : List ℕ) (j : ℕ) (e : ArrayDef) → is_listed hs j ≡ true → (k : ℕ) → IsReached u (parents e ++ hs) k → IsReached ((j, e) ∷ u) hs k
 below_newest u hs j e held_j k (held_itself k' h) = by_parents e h
   where
-    by_parents : (e : ArrayDef) → holds (parents e ++ hs) k' ≡ true → IsReached ((j, e) ∷ u) hs k'
+    by_parents : (e : ArrayDef) → is_listed (parents e ++ hs) k' ≡ true → IsReached ((j, e) ∷ u) hs k'
     by_parents (root ty ds es) h = held_itself k' h
     by_parents (view p t) h = by_test (p == k')
         (λ same. let P : ℕ → Type 0 = λ x. IsReached ((j, view p t) ∷ u) hs x in
         subst P (eqb-true p k' same) (parent_of j p t (inl (refl, refl)) (held_itself j held_j)))
-        (λ other. held_itself k' (let h' : holds hs k' ≡ true = rw other at h in h'))
+        (λ other. held_itself k' (let h' : is_listed hs k' ≡ true = rw other at h in h'))
 below_newest u hs j e held_j k (parent_of v p t there r) = parent_of v p t (inr there) (below_newest u hs j e held_j v r)
 
 -- each array that is kept is reached
 swept_reached : (w : World) (hs : List ℕ) (k : ℕ) (d : ArrayDef) → Has (sweep w hs) k d → IsReached (sweep w hs) hs k
 swept_reached [] hs k d there = absurd there
-swept_reached ((j, e) ∷ w) hs k d there = by_keeps (λ h. swept_reached w h k d) (holds hs j) refl there
+swept_reached ((j, e) ∷ w) hs k d there = by_keeps (λ h. swept_reached w h k d) (is_listed hs j) refl there
   where
-    by_keeps : ((h : List ℕ) → Has (sweep w h) k d → IsReached (sweep w h) h k) → (keeps : Bool) → holds hs j ≡ keeps
+    by_keeps : ((h : List ℕ) → Has (sweep w h) k d → IsReached (sweep w h) h k) → (keeps : Bool) → is_listed hs j ≡ keeps
         → Has (kept_onto keeps (j, e) (sweep w (if keeps then parents e ++ hs else hs))) k d
         → IsReached (kept_onto keeps (j, e) (sweep w (if keeps then parents e ++ hs else hs))) hs k
     by_keeps rest false is there = rest hs there
@@ -153,7 +153,7 @@ view_there g ((j, e) ∷ w) k p t (inr there) = let h = view_there g w k p t the
 -- what is reached under other numbers is reached
 reached_back : (g : ℕ → ℕ) → IsApart g → (w : World) (hs : List ℕ) (k : ℕ) → IsReached (renamed g w) (map g hs) k → (i : ℕ) → k ≡ g i → IsReached w hs i
 reached_back g apart w hs k (held_itself k' h) i same =
-    held_itself i (sym (holds_renamed g apart hs i) ∙ ap (holds (map g hs)) (sym same) ∙ h)
+    held_itself i (sym (holds_renamed g apart hs i) ∙ ap (is_listed (map g hs)) (sym same) ∙ h)
 reached_back g apart w hs k (parent_of v p t there r) i same =
     let h = view_there g w v p t there in
     let P : ℕ → Type 0 = λ n. IsReached w hs n in

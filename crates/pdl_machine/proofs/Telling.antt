@@ -3,7 +3,7 @@ use Rattle.std.proofs.Common.{◌≡◌, ℕ, Bool, List, [], Result, Ok, Err, r
 use Rattle.std.specs.Prelude.{◌⊎◌, IfOk}
 use Rattle.pdl_lexemes.specs.declared.AssignOp.{AssignOp}
 use Rattle.pdl_syntax.specs.Tree.{Tree}
-use Rattle.pdl_syntax.specs.StatementTree.{StatementTree, bind, bind_list, assign, show, show_text, sever, reshape, undef, vars, pp_def, watch, unwatch}
+use Rattle.pdl_syntax.specs.StatementTree.{StatementTree, bind, bind_list, assign, show, show_text, sever, reshape, undef, vars, dump, pp_def, watch, unwatch}
 use Rattle.pdl_watch.specs.Slots.{IsQuiet}
 use Rattle.pdl_machine.specs.declared.fault.Fault.{Fault}
 use Rattle.pdl_machine.specs.Then.{and_then}
@@ -38,6 +38,7 @@ by_kind laws n present s (sever x) after whole is = inr (only_assignments_tell l
 by_kind laws n present s (reshape x sizes) after whole is = inr (only_assignments_tell laws n present s (reshape x sizes) after whole (λ a. a) is)
 by_kind laws n present s (undef x) after whole is = inr (only_assignments_tell laws n present s (undef x) after whole (λ a. a) is)
 by_kind laws n present s vars after whole is = inr (only_assignments_tell laws n present s vars after whole (λ a. a) is)
+by_kind laws n present s dump after whole is = inr (only_assignments_tell laws n present s dump after whole (λ a. a) is)
 by_kind laws n present s (pp_def f a b) after whole is = inr (only_assignments_tell laws n present s (pp_def f a b) after whole (λ a. a) is)
 by_kind laws n present s (watch x k) after whole is = inr (only_assignments_tell laws n present s (watch x k) after whole (λ a. a) is)
 by_kind laws n present s (unwatch k) after whole is = inr (only_assignments_tell laws n present s (unwatch k) after whole (λ a. a) is)

@@ -6,7 +6,7 @@ use Rattle.pdl_world.specs.World.{World, ArrayDef, root, view}
 use Rattle.pdl_machine.specs.Names.{KernelTexts, Named, Names}
 use Rattle.pdl_machine.specs.State.{State, held}
 use Rattle.pdl_machine.specs.Laws.{LettingGoUnseen, SweepsByFewer}
-use Rattle.pdl_world.specs.Swept.{holds, parents, kept_onto, sweep}
+use Rattle.pdl_world.specs.Swept.{is_listed, parents, kept_onto, sweep}
 use Rattle.pdl_machine.specs.Tidy.{older, with_parent, renumber, renumbered, with_numbers, tidy}
 use Rattle.std.proofs.lemmas.List.{map-append}
 use Rattle.pdl_machine.specs.Watches.{Watches, attached}
@@ -18,11 +18,11 @@ abbrev pub renamed : (ℕ → ℕ) → World → World
 renamed g [] = []
 renamed g ((i, d) ∷ w) = (g i, with_parent g d) ∷ renamed g w
 
-pub holds_renamed : (g : ℕ → ℕ) → IsApart g → (hs : List ℕ) (i : ℕ) → holds (map g hs) (g i) ≡ holds hs i
+pub holds_renamed : (g : ℕ → ℕ) → IsApart g → (hs : List ℕ) (i : ℕ) → is_listed (map g hs) (g i) ≡ is_listed hs i
 holds_renamed g apart [] i = refl
-holds_renamed g apart (h ∷ hs) i = ap (λ b. b || holds (map g hs) (g i)) (same_test g apart h i) ∙ ap (λ b. (h == i) || b) (holds_renamed g apart hs i)
+holds_renamed g apart (h ∷ hs) i = ap (λ b. b || is_listed (map g hs) (g i)) (same_test g apart h i) ∙ ap (λ b. (h == i) || b) (holds_renamed g apart hs i)
 
-holds_never : (g : ℕ → ℕ) (hs : List ℕ) (k : ℕ) → ((i : ℕ) → g i ≢ k) → holds (map g hs) k ≡ false
+holds_never : (g : ℕ → ℕ) (hs : List ℕ) (k : ℕ) → ((i : ℕ) → g i ≢ k) → is_listed (map g hs) k ≡ false
 holds_never g [] k left = refl
 holds_never g (h ∷ hs) k left =
     let other : (g h == k) ≡ false = by_test (g h == k) (λ same. absurd (left h (eqb-true (g h) k same))) (λ o. o) in
@@ -40,7 +40,7 @@ sweep_renamed g apart (more {w = w} {u = u} k d left r) hs =
     subst P (sym (holds_never g hs k left)) (sweep_renamed g apart r hs)
 sweep_renamed g apart (same {w = w} {u = u} i d r) hs =
     let P : Bool → Type 0 = λ keeps. kept_onto keeps (g i, with_parent g d) (sweep u (if keeps then parents (with_parent g d) ++ map g hs else map g hs)) ≡ renamed g (sweep ((i, d) ∷ w) hs) in
-    subst P (sym (holds_renamed g apart hs i)) (by_keeps (sweep_renamed g apart r) (holds hs i))
+    subst P (sym (holds_renamed g apart hs i)) (by_keeps (sweep_renamed g apart r) (is_listed hs i))
   where
     by_keeps : ((hs : List ℕ) → sweep u (map g hs) ≡ renamed g (sweep w hs)) → (keeps : Bool)
         → kept_onto keeps (g i, with_parent g d) (sweep u (if keeps then parents (with_parent g d) ++ map g hs else map g hs)) ≡ renamed g (kept_onto keeps (i, d) (sweep w (if keeps then parents d ++ hs else hs)))
@@ -125,20 +125,20 @@ tidy_alike g s t h =
 -- a sweep by fewer after a sweep by more is the sweep by fewer
 pub sweep_again : SweepsByFewer
 sweep_again [] many few h = refl
-sweep_again ((k, d) ∷ w) many few h = by_keeps (λ m f i. sweep_again w m f i) (holds many k) (holds few k) refl refl
+sweep_again ((k, d) ∷ w) many few h = by_keeps (λ m f i. sweep_again w m f i) (is_listed many k) (is_listed few k) refl refl
   where
-    wider : (d : ArrayDef) (v : ℕ) → holds few v ≡ true → holds (parents d ++ many) v ≡ true
+    wider : (d : ArrayDef) (v : ℕ) → is_listed few v ≡ true → is_listed (parents d ++ many) v ≡ true
     wider (root ty ds es) v t = h v t
     wider (view p u) v t = by_test (p == v) (λ same. rw same refl) (λ other. rw other (h v t))
 
-    both : (d : ArrayDef) (v : ℕ) → holds (parents d ++ few) v ≡ true → holds (parents d ++ many) v ≡ true
+    both : (d : ArrayDef) (v : ℕ) → is_listed (parents d ++ few) v ≡ true → is_listed (parents d ++ many) v ≡ true
     both (root ty ds es) v t = h v t
     both (view p u) v t = by_test (p == v) (λ same. rw same refl) (λ other. rw other (h v (rw other at t)))
 
-    clash : holds many k ≡ false → holds many k ≡ true → ⊥
+    clash : is_listed many k ≡ false → is_listed many k ≡ true → ⊥
     clash f t = cc
 
-    by_keeps : ((m f : List ℕ) → ((v : ℕ) → holds f v ≡ true → holds m v ≡ true) → sweep (sweep w m) f ≡ sweep w f) → (m f : Bool) → holds many k ≡ m → holds few k ≡ f
+    by_keeps : ((m f : List ℕ) → ((v : ℕ) → is_listed f v ≡ true → is_listed m v ≡ true) → sweep (sweep w m) f ≡ sweep w f) → (m f : Bool) → is_listed many k ≡ m → is_listed few k ≡ f
         → sweep (kept_onto m (k, d) (sweep w (if m then parents d ++ many else many))) few ≡ kept_onto f (k, d) (sweep w (if f then parents d ++ few else few))
     by_keeps rest true true a b = rw b (ap (λ x. (k, d) ∷ x) (rest (parents d ++ many) (parents d ++ few) (both d)))
     by_keeps rest true false a b = rw b (rest (parents d ++ many) few (wider d))

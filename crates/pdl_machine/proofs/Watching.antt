@@ -4,7 +4,7 @@ use Rattle.std.specs.Prelude.{IfOk}
 use Rattle.pdl_buf.specs.declared.made.Made.{Made}
 use Rattle.pdl_lexemes.specs.declared.AssignOp.{AssignOp}
 use Rattle.pdl_syntax.specs.Tree.{Tree, number, named, literal, unary, binary, call}
-use Rattle.pdl_syntax.specs.StatementTree.{StatementTree, bind, bind_list, assign, show, show_text, sever, reshape as reshapes, undef, vars, pp_def, watch, unwatch}
+use Rattle.pdl_syntax.specs.StatementTree.{StatementTree, bind, bind_list, assign, show, show_text, sever, reshape as reshapes, undef, vars, dump, pp_def, watch, unwatch}
 use Rattle.pdl_machine.specs.Then.{and_then}
 use Rattle.pdl_machine.specs.Names.{bound_to, unbind, bind as bind_name, define}
 use Rattle.pdl_machine.specs.Arrays.{Arrays}
@@ -86,6 +86,7 @@ effect_watches present s (reshapes x sizes) plain =
     ok_always (SameWatches s) (taken s.names s.arrays sizes) (reshaping s v) (reshaping_watches s v))
 effect_watches present s (undef x) plain = ok_always (SameWatches s) (unbind s.names x) (λ names. Ok (record s { names = names }, [])) (λ names. refl)
 effect_watches present s vars plain = refl
+effect_watches present s dump plain = tt
 effect_watches present s (pp_def f a b) plain =
     ok_always (SameWatches s) (defined f a b) (kernel_named s f) (λ k. ok_always (SameWatches s) (define s.names f k) (λ names. Ok (record s { names = names }, [])) (λ names. refl))
 effect_watches present s (watch x k) plain = absurd plain

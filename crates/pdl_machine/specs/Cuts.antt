@@ -5,7 +5,7 @@ use Rattle.std.specs.List.{list_any}
 use Rattle.pdl_world.specs.World.{World}
 use Rattle.pdl_world.specs.Cut.{breaks, sever, reshape}
 use Rattle.pdl_world.specs.Paths.{path}
-use Rattle.pdl_world.specs.Swept.{holds}
+use Rattle.pdl_world.specs.Swept.{is_listed}
 use Rattle.pdl_machine.specs.declared.fault.Fault.{Fault}
 use Rattle.pdl_machine.specs.declared.fault.Fault.TheVariants.{ReshapeBreaks, StillWatched}
 use Rattle.pdl_machine.specs.Then.{and_then}
@@ -28,7 +28,7 @@ dims_given t = and_then (numbers_in (all_seen t.0 t.1)) dims_for
 
 -- whether a watcher is attached to this array, or to one that reaches it by parents
 abbrev pub is_watched : Watches → World → ℕ → Bool
-is_watched watches w v = list_any (λ u. holds (path w u) v) (attached watches)
+is_watched watches w v = list_any (λ u. is_listed (path w u) v) (attached watches)
 
 -- the arrays after this one got other dimensions, which is refused where these break a view, and
 -- else where it is watched

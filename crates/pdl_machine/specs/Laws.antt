@@ -4,7 +4,7 @@ use Rattle.pdl_elem.specs.Tables.{found_in}
 use Rattle.pdl_buf.specs.declared.made.Made.{Made}
 use Rattle.pdl_world.specs.World.{World, ArrayDef}
 use Rattle.pdl_world.specs.Sound.{IsSound}
-use Rattle.pdl_world.specs.Swept.{holds, sweep, Has, IsReached}
+use Rattle.pdl_world.specs.Swept.{is_listed, sweep, Has, IsReached}
 use Rattle.pdl_lexemes.specs.declared.WordKind.TheVariants.{View}
 use Rattle.pdl_lexemes.specs.Lexing.{word_kinds, kind_of_word}
 use Rattle.pdl_nice.specs.Nice.{nice_word}
@@ -37,13 +37,13 @@ NewArraysUnseen = (s : State) (a : Arrays) → AreGrown s.arrays a → IsSound a
 -- a sweep by fewer after a sweep by more is the sweep by fewer
 abbrev pub SweepsByFewer : Type 0
 SweepsByFewer = (w : World) (many few : List ℕ) →
-    ((v : ℕ) → holds few v ≡ true → holds many v ≡ true) →
+    ((v : ℕ) → is_listed few v ≡ true → is_listed many v ≡ true) →
     sweep (sweep w many) few ≡ sweep w few
 
 -- letting arrays go is unseen, where all that the state holds by itself is held still
 abbrev pub LettingGoUnseen : Type 0
 LettingGoUnseen = (s : State) (many : List ℕ) →
-    ((v : ℕ) → holds (held s) v ≡ true → holds many v ≡ true) →
+    ((v : ℕ) → is_listed (held s) v ≡ true → is_listed many v ≡ true) →
     tidy (with_world s (sweep s.arrays.world many)) ≡ tidy s
 
 -- each array of the state is reached

@@ -1,6 +1,7 @@
 -- A run: the steps by a script's statements in order, all that is printed, and all that watchers are
 -- told.
-use Rattle.std.specs.Prelude.{ℕ, List, [], ◌∷◌, ◌++◌, length, map, nat_lt, Bool, true, false, not, Result, Ok, Err, codes, decimal, if◌then◌else◌}
+use Rattle.std.specs.Prelude.{ℕ, ◌+◌, ◌==◌, List, [], ◌∷◌, ◌++◌, length, map, nat_lt, nat_le, Bool, true, false, not, ◌||◌, Result, Ok, Err, codes, decimal, if◌then◌else◌}
+use Rattle.std.specs.List.{list_any}
 use Rattle.pdl_lex.specs.declared.Piece.TheVariants.{Whole, TooLong}
 use Rattle.pdl_lex.specs.Limits.{script_limit}
 use Rattle.pdl_lex.specs.Pieces.{Mark, statement, script_too_long, settled, script_marks}
@@ -9,33 +10,44 @@ use Rattle.pdl_watch.specs.declared.notice.Notice.{Notice}
 use Rattle.pdl_watch.specs.Slots.{joined}
 use Rattle.pdl_machine.specs.declared.fault.Fault.{Fault}
 use Rattle.pdl_machine.specs.declared.fault.Fault.TheVariants.{StatementTooLong, ScriptTooLong}
+use Rattle.pdl_machine.specs.declared.limits.TheConstants.{MOST_REFUSED}
 use Rattle.pdl_machine.specs.Fault.{text_of}
 use Rattle.pdl_syntax.specs.StatementTree.{StatementTree}
 use Rattle.pdl_machine.specs.Reads.{reads}
 use Rattle.pdl_machine.specs.State.{State, no_names}
 use Rattle.pdl_machine.specs.Step.{Done, step, newline}
 
--- What a run is given: whether it goes on after the fault of a statement, and which slots have a
--- watcher.
+-- What a run is given: whether it goes on after a statement that isn't run, which slots have a
+-- watcher, and the numbers of the statements for which there is no memory.
 pub record Terms : Type 0 where
   pub keep : Bool
   pub present : List Bool
+  pub refused : List ℕ
 
--- How far a run has come: the state, all that was printed, whether a fault came, and whether one has
--- ended it; how many statements there were, a count that stays at 2^64 - 1; all notices of each slot;
--- and which slots have a watcher still.
+-- How far a run has come: the state, all that was printed, whether a fault came, the numbers of the
+-- statements that memory refused, and whether one that wasn't run has ended it; how many statements
+-- there were, a count that stays at 2^64 - 1; all notices of each slot; and which slots have a watcher
+-- still.
 pub record Progress : Type 0 where
   pub state : State
   pub printed : List ℕ
   pub faulted : Bool
+  pub refused : List ℕ
   pub ended : Bool
   pub count : ℕ
   pub told : List (List Notice)
   pub present : List Bool
 
--- the line that names a fault, with the line of the statement's first byte
+-- the line that says why the statement wasn't run that begins on this line of the script
+abbrev pub report : (line : ℕ) → (reason : List ℕ) → List ℕ
+report line reason = codes "pdl: line " ++ decimal line ++ codes ": " ++ reason ++ newline
+
+-- by its fault, or for lack of memory
 abbrev pub fault_line : (line : ℕ) → Fault → List ℕ
-fault_line line e = codes "pdl: line " ++ decimal line ++ codes ": " ++ text_of e ++ newline
+fault_line line e = report line (text_of e)
+
+abbrev pub memory_line : (line : ℕ) → List ℕ
+memory_line line = report line (codes "out of memory")
 
 abbrev pub step_read : (number : ℕ) → (present : List Bool) → State → Result StatementTree Fault →
     Result Done Fault
@@ -84,10 +96,36 @@ after ends p line (Err e) =
 abbrev pub next_step : Progress → Mark → Result Done Fault
 next_step p m = mark_step (next_count p.count) p.present p.state m
 
-abbrev pub after_mark : Terms → Progress → Mark → Progress
-after_mark terms p m = after (fault_ends terms.keep m) (counted p) (line_of m) (next_step p m)
+abbrev pub is_among : (numbers : List ℕ) → (number : ℕ) → Bool
+is_among numbers number = list_any (λ n. n == number) numbers
 
--- the progress after these statements, or after the fault that ends the run
+-- whether there is no memory for the statement of this number
+abbrev pub is_refused : Terms → (number : ℕ) → Bool
+is_refused terms number = is_among terms.refused number
+
+-- how many statements memory may refuse in a run: the last of them ends it
+abbrev pub refused_limit : ℕ
+refused_limit = MOST_REFUSED
+
+-- the progress after a statement of this line that memory refused, which leaves the state as it was
+abbrev pub after_refusal : (ends : Bool) → Progress → (line : ℕ) → Progress
+after_refusal ends p line = record p {
+  printed = p.printed ++ memory_line line;
+  refused = p.refused ++ p.count ∷ [];
+  ended = ends || nat_le refused_limit (length p.refused + 1);
+}
+
+-- the progress after the next statement
+abbrev pub after_mark : Terms → Progress → Mark → Progress
+after_mark terms p m = if is_refused terms (next_count p.count)
+    then after_refusal (fault_ends terms.keep m) (counted p) (line_of m)
+    else after (fault_ends terms.keep m) (counted p) (line_of m) (next_step p m)
+
+-- whether a statement wasn't run, by a fault or for lack of memory
+abbrev pub went_wrong : Progress → Bool
+went_wrong p = p.faulted || nat_lt 0 (length p.refused)
+
+-- the progress after these statements, or after the one that ends the run
 abbrev pub after_marks : Terms → Progress → List Mark → Progress
 after_marks terms p [] = p
 after_marks terms p (m ∷ ms) =
@@ -99,6 +137,7 @@ start terms = record {
   state = no_names;
   printed = [];
   faulted = false;
+  refused = [];
   ended = false;
   count = 0;
   told = [];

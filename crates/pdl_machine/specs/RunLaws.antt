@@ -1,5 +1,5 @@
 -- What holds of every run.
-use Rattle.std.specs.Prelude.{◌≡◌, ℕ, ◌<◌, List, ◌++◌, length, true, false, Ok}
+use Rattle.std.specs.Prelude.{◌≡◌, ℕ, ◌+◌, ◌<◌, ◌≤◌, ◌||◌, nat_le, List, [], ◌∷◌, ◌++◌, length, true, false, Ok}
 use Rattle.std.specs.List.{All}
 use Rattle.pdl_lex.specs.Limits.{script_limit}
 use Rattle.pdl_lex.specs.Pieces.{Mark, pieces, settled}
@@ -8,9 +8,9 @@ use Rattle.pdl_watch.specs.declared.notice.Notice.{Notice}
 use Rattle.pdl_watch.specs.Slots.{joined, IsBelow}
 use Rattle.pdl_machine.specs.Watches.{AreThere}
 use Rattle.pdl_machine.specs.Step.{Done}
-use Rattle.pdl_machine.specs.Run.{Terms, Progress, next_step, after_mark, after_marks, start, run, so_far}
+use Rattle.pdl_machine.specs.Run.{Terms, Progress, next_step, is_refused, memory_line, refused_limit, line_of, fault_ends, after_mark, after_marks, went_wrong, start, run, so_far}
 
--- a run that a fault has ended prints and changes nothing more
+-- a run that a fault or a refusal has ended prints and changes nothing more
 abbrev pub EndedStays : Type 0
 EndedStays = (terms : Terms) (p : Progress) (ms : List Mark) → p.ended ≡ true →
     after_marks terms p ms ≡ p
@@ -69,15 +69,56 @@ abbrev pub GoesOn : Type 0
 GoesOn = (terms : Terms) (p : Progress) (ms more : List Mark) →
     after_marks terms p (ms ++ more) ≡ after_marks terms (after_marks terms p ms) more
 
--- without going on, a run is ended exactly where a fault came
+-- without going on, a run is ended exactly where a statement wasn't run
 abbrev pub FirstFaultEnds : Type 0
 FirstFaultEnds = (terms : Terms) (script : List ℕ) → terms.keep ≡ false →
-    (run terms script).ended ≡ (run terms script).faulted
+    (run terms script).ended ≡ went_wrong (run terms script)
 
--- where a run is ended, a fault came
+-- where a run is ended, a statement wasn't run
 abbrev pub EndedByAFault : Type 0
 EndedByAFault = (terms : Terms) (ms : List Mark) → (after_marks terms (start terms) ms).ended ≡ true →
-    (after_marks terms (start terms) ms).faulted ≡ true
+    went_wrong (after_marks terms (start terms) ms) ≡ true
+
+-- the statements that memory refused stay written down, in the order in which they came
+abbrev pub RefusedStay : Type 0
+RefusedStay = (terms : Terms) (p : Progress) (ms : List Mark) →
+    (more : List ℕ) × ((after_marks terms p ms).refused ≡ p.refused ++ more)
+
+-- each of them is one for which the run was given no memory, and one to which it came
+abbrev pub RefusedAreGiven : Type 0
+RefusedAreGiven = (terms : Terms) (script : List ℕ) → All
+    (λ number. (is_refused terms number ≡ true) × (number ≤ (run terms script).count))
+    (run terms script).refused
+
+-- there are at most 64 of them
+abbrev pub RefusedAreFew : Type 0
+RefusedAreFew = (terms : Terms) (script : List ℕ) →
+    length (run terms script).refused ≤ refused_limit
+
+-- and none, where there is memory for each statement
+abbrev pub NoneIsRefused : Type 0
+NoneIsRefused = (terms : Terms) (script : List ℕ) → terms.refused ≡ [] →
+    (run terms script).refused ≡ []
+
+-- A statement that memory refuses prints its line alone, and changes nothing that a next one sees. It
+-- ends the run unless that goes on after faults, or where it is the last one that may be refused.
+pub record IsRefusedAlone (terms : Terms) (p : Progress) (m : Mark) : Type 0 where
+  pub state : (after_mark terms p m).state ≡ p.state
+  pub text : (after_mark terms p m).printed ≡ p.printed ++ memory_line (line_of m)
+  pub told : (after_mark terms p m).told ≡ p.told
+  pub present : (after_mark terms p m).present ≡ p.present
+  pub refused : (after_mark terms p m).refused ≡ p.refused ++ next_count p.count ∷ []
+  pub faulted : (after_mark terms p m).faulted ≡ p.faulted
+  pub ended : (after_mark terms p m).ended
+      ≡ (fault_ends terms.keep m || nat_le refused_limit (length p.refused + 1))
+
+-- at most so many statements of a run are refused
+abbrev pub LimitIs : Type 0
+LimitIs = refused_limit ≡ 64
+
+abbrev pub RefusalsLeaveAll : Type 0
+RefusalsLeaveAll = (terms : Terms) (p : Progress) (m : Mark) →
+    is_refused terms (next_count p.count) ≡ true → IsRefusedAlone terms p m
 
 -- a script that is too long ends its run, however it goes on after faults
 abbrev pub TooLongEnds : Type 0

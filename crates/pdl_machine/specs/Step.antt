@@ -6,7 +6,7 @@ use Rattle.pdl_world.specs.World.{assign as assign_in}
 use Rattle.pdl_print.specs.Printed.{array_text, info}
 use Rattle.pdl_lexemes.specs.declared.AssignOp.{AssignOp}
 use Rattle.pdl_syntax.specs.Tree.{Tree, Args, named, call, none, value, text, of_type}
-use Rattle.pdl_syntax.specs.StatementTree.{StatementTree, View, bind, bind_list, assign, show, show_text, sever, reshape, undef, vars, pp_def, watch, unwatch}
+use Rattle.pdl_syntax.specs.StatementTree.{StatementTree, View, bind, bind_list, assign, show, show_text, sever, reshape, undef, vars, dump, pp_def, watch, unwatch}
 use Rattle.pdl_watch.specs.declared.notice.Notice.{Notice}
 use Rattle.pdl_machine.specs.declared.fault.Fault.{Fault}
 use Rattle.pdl_machine.specs.declared.fault.Fault.TheVariants.{Syntax}
@@ -140,6 +140,7 @@ effect present s (reshape x sizes) =
 effect present s (undef x) =
     and_then (unbind s.names x) (λ names. Ok (record s { names = names }, []))
 effect present s vars = Ok (s, flat_map (name_line s.arrays) s.names.arrays)
+effect present s dump = Err Syntax
 effect present s (pp_def f signature code) = and_then (defined f signature code) (kernel_named s f)
 effect present s (watch x slot) = and_then (bound_to s.names x) (watching present s slot)
 effect present s (unwatch slot) = unwatching s slot

@@ -18,5 +18,5 @@ pub use laws::{
     numbering_laws, reaching_laws, view_words, watching_laws, worked_cuts, worked_nice,
     worked_scripts, worked_watches,
 };
-pub use limits::{MOST_KERNELS, MOST_NAMES};
+pub use limits::{MOST_KERNELS, MOST_NAMES, MOST_REFUSED};
 pub use reading::{reads_law, run_laws, so_far_laws};

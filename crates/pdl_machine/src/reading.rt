@@ -1,7 +1,7 @@
 //! Laws of what a text is read as, and of runs.
 ghost use Rattle.pdl_machine.specs.Reads.{PlainTextsStay};
 ghost use Rattle.pdl_machine.specs.StatementMeaning.{ReadsItsMeaning, MeansOneThing, PlainMeansOneThing};
-ghost use Rattle.pdl_machine.specs.RunLaws.{EndedStays, PrintedStays, ToldStays, EachIsCounted, NoticesAreNumbered, NoneComes, NoneComesInARun, StayThere, AreThereInARun, FaultStays, GoesOn, FirstFaultEnds, EndedByAFault, TooLongEnds, LimitEnds, SoFarIsAFront, SoFarIsPrinted, SoFarIsTold, SoFarGrows, SoFarIsAll};
+ghost use Rattle.pdl_machine.specs.RunLaws.{EndedStays, PrintedStays, ToldStays, EachIsCounted, NoticesAreNumbered, NoneComes, NoneComesInARun, StayThere, AreThereInARun, FaultStays, GoesOn, FirstFaultEnds, EndedByAFault, RefusedStay, RefusedAreGiven, RefusedAreFew, NoneIsRefused, RefusalsLeaveAll, LimitIs, TooLongEnds, LimitEnds, SoFarIsAFront, SoFarIsPrinted, SoFarIsTold, SoFarGrows, SoFarIsAll};
 
 use pdl_lex::settled_laws;
 use pdl_lexemes::brackets_are_counted;
@@ -26,12 +26,15 @@ pub fn reads_law()
     brackets_are_counted();
 }
 
-/// The laws of runs: a fault that ends a run ends it, and nothing else does; what was
+/// The laws of runs: a fault or a refusal that ends a run ends it, and nothing else does; what was
 /// printed stays, a fault that came is remembered, and only the bytes up to the one past the limit
 /// of a script count. What watchers were told stays too (`told`). Each statement is counted
 /// (`counted`), and its notices have that number (`numbered`). No slot gets a watcher
 /// (`none_comes`, `none_in_a_run`), and each that is attached has one (`there`, `there_in_a_run`).
-/// The call does nothing when it runs.
+/// A statement that memory refuses prints its line alone (`alone`). Those that it refused stay written
+/// down (`refused`): each is one that the run was given no memory for, and came to
+/// (`refused_in_a_run`), at most 64 (`few`, `most`), and none where there is memory (`none_refused`). The
+/// call does nothing when it runs.
 pub fn run_laws()
     ensures ended { EndedStays }
     ensures printed { PrintedStays }
@@ -46,6 +49,12 @@ pub fn run_laws()
     ensures goes_on { GoesOn }
     ensures first_fault { FirstFaultEnds }
     ensures by_fault { EndedByAFault }
+    ensures refused { RefusedStay }
+    ensures refused_in_a_run { RefusedAreGiven }
+    ensures few { RefusedAreFew }
+    ensures none_refused { NoneIsRefused }
+    ensures alone { RefusalsLeaveAll }
+    ensures most { LimitIs }
     ensures too_long { TooLongEnds }
     ensures limit { LimitEnds }
 {

@@ -7,6 +7,7 @@ use Rattle.pdl_nice.specs.declared.looks.Look.TheVariants.{Opens as opens, Shuts
 use Rattle.pdl_nice.specs.declared.looks.Side.{Side}
 use Rattle.pdl_nice.specs.declared.looks.Side.TheVariants.{Round as round, Square as square}
 use Rattle.pdl_lex.specs.declared.Token.{Token}
+use Rattle.pdl_lex.specs.Limits.{bracket_limit}
 use Rattle.pdl_lex.specs.Written.{Written, between}
 use Rattle.pdl_nice.specs.declared.looks.Open.{Open}
 use Rattle.pdl_nice.specs.declared.looks.Before.{Before}
@@ -91,7 +92,7 @@ open_behind now _ = now
 abbrev pub looks_deep : Open → List Look → Bool
 looks_deep now [] = false
 looks_deep now (l ∷ ls) =
-    if nat_lt 64 ((open_behind now l).round + (open_behind now l).square) then true
+    if nat_lt bracket_limit ((open_behind now l).round + (open_behind now l).square) then true
     else looks_deep (open_behind now l) ls
 
 -- whether a nice part stands among tokens with these looks

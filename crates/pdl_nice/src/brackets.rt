@@ -1,6 +1,7 @@
 //! Finds where brackets are closed, and where arguments and parts end.
 
 ghost use Rattle.std.specs.Prelude.{◌≡◌, ◌+◌, ◌≤◌, ◌<◌, ◌∷◌, [], length, drop, IfSome, OnOk};
+ghost use Rattle.pdl_lex.specs.Limits.{statement_limit};
 ghost use Rattle.pdl_nice.specs.Nice.{is_bar};
 ghost use Rattle.pdl_nice.specs.Ends.{close_len, behind, opened, closed, AreEnds, bar_len, further};
 
@@ -10,7 +11,7 @@ use std::alloc::AllocError;
 /// For each token that opens a bracket, the place behind the one that closes it, and 0 for each
 /// other token and where none closes it. It looks at each token twice at most.
 pub fn closing(looks: &[Look], into: &mut Vec<u32>) -> Result<(), AllocError>
-    requires few { length looks.now ≤ 65536 }
+    requires few { length looks.now ≤ statement_limit }
     ensures ok { OnOk result ((length into.new.items ≡ length looks.now)
         × AreEnds looks.now into.new.items 0) }
 {
@@ -37,7 +38,7 @@ fn opened(look: Look) -> Option<Side>
 // The place behind the bracket that closes the one that was opened just before a place, where the
 // ends from there on are known.
 fn end_behind(looks: &[Look], ends: &[u32], from: usize, side: Side) -> u32
-    requires few { length looks.now ≤ 65536 }
+    requires few { length looks.now ≤ statement_limit }
     requires within { from ≤ length looks.now }
     requires as_many { length ends.now ≡ length looks.now }
     requires known { AreEnds looks.now ends.now from }

@@ -1,13 +1,14 @@
 //! What a token is to nice slices.
 
 ghost use Rattle.std.specs.Prelude.{◌≡◌, ℕ, ◌+◌, ◌≤◌, ◌<◌, false, length, map, OnOk};
+ghost use Rattle.pdl_lex.specs.Limits.{statement_limit};
 ghost use Rattle.pdl_lex.specs.Written.{between, written};
 ghost use Rattle.pdl_nice.specs.declared.looks.Before.TheVariants.{Other};
 ghost use Rattle.pdl_nice.specs.Looks.{sign_look, look_of, before_of, begins_nice};
 ghost use Rattle.pdl_nice.specs.Nice.{is_open, has_nice};
 ghost use Rattle.pdl_nice.specs.Ends.{token_look, looks_nice, none_open, open_behind, looks_deep};
 
-use pdl_lex::{Token, TokenKind};
+use pdl_lex::{MOST_OPEN, Token, TokenKind};
 use std::alloc::AllocError;
 
 /// A token: a bracket, a sign that a pattern has, a token behind which a bracket begins a nice part,
@@ -184,8 +185,8 @@ pub fn has_nice(text: &[u8], tokens: &[Token]) -> bool
 }
 
 fn open_behind(counts: Open, look: Look) -> Open
-    requires round { counts.round < 65536 }
-    requires square { counts.square < 65536 }
+    requires round { counts.round < statement_limit }
+    requires square { counts.square < statement_limit }
     ensures exact { result ≡ open_behind counts look }
     ensures round { result.round ≤ counts.round + 1 }
     ensures square { result.square ≤ counts.square + 1 }
@@ -213,7 +214,7 @@ fn open_behind(counts: Open, look: Look) -> Open
 
 /// Whether more than 64 brackets are open at some token.
 pub fn goes_deep(looks: &[Look]) -> bool
-    requires few { length looks.now ≤ 65536 }
+    requires few { length looks.now ≤ statement_limit }
     ensures { result ≡ looks_deep none_open looks.now }
 {
     let mut counts = Open {
@@ -222,7 +223,7 @@ pub fn goes_deep(looks: &[Look]) -> bool
     };
     for look in looks {
         counts = open_behind(counts, *look);
-        if counts.round + counts.square > 64 {
+        if counts.round + counts.square > MOST_OPEN {
             return true;
         }
     }

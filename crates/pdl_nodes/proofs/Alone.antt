@@ -22,7 +22,7 @@ use Rattle.pdl_nodes.proofs.Gone.{let_go_is}
 use Rattle.pdl_nodes.proofs.Leavings.{has_staying, still_parents}
 use Rattle.pdl_nodes.proofs.Lefts.{left_all, left_less, no_one, one_is, told}
 use Rattle.pdl_nodes.proofs.Letting.{fewer_then, letting_last, letting_none, loose_listed, marked_none}
-use Rattle.pdl_nodes.proofs.Numbers.{at_other, at_same}
+use Rattle.pdl_nodes.proofs.Lookups.{at_other, at_same}
 use Rattle.pdl_nodes.proofs.Paths.{parent_live}
 use Rattle.pdl_nodes.proofs.Reaches.{none_of, staying_live}
 use Rattle.pdl_nodes.proofs.Removing.{staying_all}

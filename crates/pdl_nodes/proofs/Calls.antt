@@ -5,12 +5,12 @@ use Rattle.std.specs.Option.{IsSome}
 use Rattle.slab.specs.Slab.{Slab, get, ContainsKey, with_value}
 use Rattle.slab.specs.Slab.{Updates as Changes}
 use Rattle.slab.proofs.SlabLemmas.{Updates-with_value}
-use Rattle.pdl_nodes.specs.Numbered.{IsAbove, IsPut, Rises, value_at}
+use Rattle.pdl_registry.specs.Numbered.{IsAbove, IsPut, Rises, value_at}
 use Rattle.pdl_nodes.specs.Row.{Row}
 use Rattle.pdl_nodes.specs.Rows.{Rows, row_at, has, each, other, without, NumbersBelow, Falls}
 use Rattle.pdl_nodes.specs.Table.{node_at, node_or, rows_of, IsTable}
 use Rattle.pdl_nodes.proofs.Finds.{has_below, each_has, each_at, falls_each, row_stays, has_stays, has_gone, falls_stays}
-use Rattle.pdl_nodes.proofs.Numbers.{is_above}
+use Rattle.pdl_nodes.proofs.Lookups.{is_above}
 use Rattle.pdl_nodes.proofs.Slots.{Shows, shows, shown}
 use Rattle.std.proofs.lemmas.Bool.{eq-eqb, ne_eqb}
 

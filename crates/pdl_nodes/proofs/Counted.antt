@@ -2,7 +2,7 @@
 use Rattle.std.proofs.Common.{◌≡◌, ℕ, ℤ, ◌+◌, ◌<◌, ◌||◌, true, false, List, [], ◌∷◌, Option, Some, nat_lt, inl, inr, refl, sym, ◌∙◌, ap, subst, arith}
 use Rattle.std.proofs.lemmas.Bool.Decides.{eqb_tells, leb_tells}
 use Rattle.pdl_world.specs.Cut.{has_views}
-use Rattle.pdl_world.specs.Swept.{holds, parents}
+use Rattle.pdl_world.specs.Swept.{is_listed, parents}
 use Rattle.pdl_nodes.specs.declared.origin.Origin.{Origin}
 use Rattle.pdl_nodes.specs.declared.origin.Origin.TheVariants.{Root, View}
 use Rattle.pdl_nodes.specs.Children.{Noted, noted, one_of, children, AreCounted}
@@ -103,7 +103,7 @@ added c d p v a e =
     omega (arith, one, a v)
 
 -- ---- whether there is a view
-first_view : (r : Row) (o : Origin) (v n : ℕ) → (holds (parents (def_from r.ty r.triple.dims o)) v || nat_lt 0 n) ≡ nat_lt 0 (one_of (parent_from o) v + n)
+first_view : (r : Row) (o : Origin) (v n : ℕ) → (is_listed (parents (def_from r.ty r.triple.dims o)) v || nat_lt 0 n) ≡ nat_lt 0 (one_of (parent_from o) v + n)
 first_view r Root v n = ap (nat_lt 0) (let z : n ≡ 0 + n = omega arith in z)
 first_view r (View p t y) v n = elim (eqb_tells p v) [
   | inl e ↦ rw e.0 (elim (leb_tells 1 (1 + n)) [ inl l ↦ sym l.0 | inr l ↦ absurd (omega (arith, l.1)) ])
@@ -112,4 +112,4 @@ first_view r (View p t y) v n = elim (eqb_tells p v) [
 
 pub views_counted : (rs : Rows) (v : ℕ) → has_views (shape rs) v ≡ nat_lt 0 (children rs v)
 views_counted [] v = refl
-views_counted ((k, r) ∷ rs) v = ap (λ b. holds (parents (def_from r.ty r.triple.dims r.origin)) v || b) (views_counted rs v) ∙ first_view r r.origin v (children rs v)
+views_counted ((k, r) ∷ rs) v = ap (λ b. is_listed (parents (def_from r.ty r.triple.dims r.origin)) v || b) (views_counted rs v) ∙ first_view r r.origin v (children rs v)

@@ -2,7 +2,7 @@
 -- that waits goes.
 use Rattle.std.proofs.Common.{◌≡◌, ℕ, suc, zero, ◌+◌, ◌<◌, ◌≤◌, Bool, true, false, List, [], ◌∷◌, Option, Some, None, inl, inr, refl, sym, ◌∙◌, ap, arith}
 use Rattle.std.proofs.lemmas.Bool.{cases_Bool}
-use Rattle.pdl_world.specs.Swept.{holds}
+use Rattle.pdl_world.specs.Swept.{is_listed}
 use Rattle.pdl_nodes.specs.Families.{IsWaiting, InOrder}
 use Rattle.pdl_nodes.specs.Going.{going_at, going_size, going_sum, goes_from, IsGoing}
 use Rattle.pdl_nodes.specs.Holds.{Counts, stands}
@@ -47,13 +47,13 @@ below_newest ((k, r) ∷ rs) f = (omega arith, below_more rs k (k + 1) (omega ar
 
 -- what is so of the starts, and of the parent of each of which it is so, is so of all that go
 pub climb : (rs : Rows) (hs : Counts) (starts : List ℕ) (P : ℕ → Type 0) → IsStill rs → ComesFrom starts rs hs
-    → ((v : ℕ) → holds starts v ≡ true → has rs v ≡ true → stands hs v ≡ false → P v)
+    → ((v : ℕ) → is_listed starts v ≡ true → has rs v ≡ true → stands hs v ≡ false → P v)
     → ((c p : ℕ) → has rs c ≡ true → stands hs c ≡ false → parent_of (row_at rs c) ≡ Some p → stands hs p ≡ false → P c → P p)
     → (v : ℕ) → has rs v ≡ true → stands hs v ≡ false → P v
 climb rs hs starts P s f b u v h g = walk (size_of (newest rs)) v h g (omega arith) where
   walk : (d v : ℕ) → has rs v ≡ true → stands hs v ≡ false → size_of (newest rs) ≤ v + d → P v
   walk zero v h g l = (let m : v < size_of (newest rs) = has_below rs (size_of (newest rs)) v (below_newest rs (still_falls rs s)) h in absurd (omega (arith, l, m)))
-  walk (suc d) v h g l = elim (cases_Bool (holds starts v)) [
+  walk (suc d) v h g l = elim (cases_Bool (is_listed starts v)) [
     | inl t ↦ b v t h g
     | inr t ↦ (let i : IsParentOfGone rs hs v = f v h g t in
         let o : (has rs v ≡ true) × (v < i.child) = parent_live rs i.child v s i.live i.parent in
@@ -68,7 +68,7 @@ none_sum w t ((k, x) ∷ part) f =
     omega (arith, a, b)
 
 -- nothing goes any more
-pub none_goes : (t0 table : Rows) (hs : Counts) (starts : List ℕ) → InOrder t0 → IsReady t0 table → ComesFrom starts t0 hs → ((u : ℕ) → holds starts u ≡ true → going_at table (stands hs) (row_at t0 u).root ≡ None)
+pub none_goes : (t0 table : Rows) (hs : Counts) (starts : List ℕ) → InOrder t0 → IsReady t0 table → ComesFrom starts t0 hs → ((u : ℕ) → is_listed starts u ≡ true → going_at table (stands hs) (row_at t0 u).root ≡ None)
     → (r : ℕ) → has table r ≡ true → going_at table (stands hs) r ≡ None
 none_goes t0 table hs starts o k f d r h = by (going_at table (stands hs) r) refl where
   by : (x : Option ℕ) → going_at table (stands hs) r ≡ x → going_at table (stands hs) r ≡ None

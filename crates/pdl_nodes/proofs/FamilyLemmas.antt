@@ -9,7 +9,7 @@ use Rattle.pdl_shape.specs.Places.{places_of as parent_places}
 use Rattle.pdl_shape.specs.Triple.{Triple}
 use Rattle.pdl_world.specs.declared.Trans.{Trans}
 use Rattle.pdl_world.specs.Formula.{child_dims, source}
-use Rattle.pdl_nodes.specs.Parts.{assign_part}
+use Rattle.pdl_world.specs.Parts.{assign_part}
 use Rattle.pdl_world.specs.World.{World, view, root_elements, elements}
 use Rattle.pdl_world.specs.Windows.{over}
 use Rattle.pdl_nodes.specs.declared.origin.Layout.{Layout}

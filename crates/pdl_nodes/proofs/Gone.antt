@@ -2,7 +2,7 @@
 use Rattle.std.proofs.Common.{◌≡◌, ℕ, ◌+◌, ◌<◌, ◌≤◌, ◌||◌, Bool, true, false, eqb, cond, nat_lt, List, [], ◌∷◌, length, get_or, drop, Option, Some, None, is_some, inl, inr, refl, sym, ◌∙◌, ap, arith}
 use Rattle.std.proofs.lemmas.Bool.{cases_Bool, or_right, eq-eqb}
 use Rattle.pdl_world.specs.Cut.{has_views}
-use Rattle.pdl_world.specs.Swept.{holds}
+use Rattle.pdl_world.specs.Swept.{is_listed}
 use Rattle.pdl_world.specs.World.{World, root, view}
 use Rattle.pdl_nodes.specs.declared.holds.Hold.{Hold}
 use Rattle.pdl_nodes.specs.declared.origin.Origin.{Origin}
@@ -33,17 +33,17 @@ swap_or true true c = refl
 swap_or true false c = refl
 swap_or false b c = refl
 
-pub under_next : (xs : List ℕ) (n d id v : ℕ) → n < length xs → holds (id ∷ drop n xs) v ≡ (eqb (get_or xs n d) v || holds (id ∷ drop (n + 1) xs) v)
-under_next xs n d id v l = ap (λ b. eqb id v || b) (holds_next xs n d v l) ∙ swap_or (eqb id v) (eqb (get_or xs n d) v) (holds (drop (n + 1) xs) v)
+pub under_next : (xs : List ℕ) (n d id v : ℕ) → n < length xs → is_listed (id ∷ drop n xs) v ≡ (eqb (get_or xs n d) v || is_listed (id ∷ drop (n + 1) xs) v)
+under_next xs n d id v l = ap (λ b. eqb id v || b) (holds_next xs n d v l) ∙ swap_or (eqb id v) (eqb (get_or xs n d) v) (is_listed (drop (n + 1) xs) v)
 
-pub under_end : (xs : List ℕ) (n id v : ℕ) → length xs ≤ n → holds (id ∷ drop n xs) v ≡ (eqb id v || holds [] v)
+pub under_end : (xs : List ℕ) (n id v : ℕ) → length xs ≤ n → is_listed (id ∷ drop n xs) v ≡ (eqb id v || is_listed [] v)
 under_end xs n id v l = ap (λ b. eqb id v || b) (holds_end xs n v l)
 
-pub under_first : (id : ℕ) (xs : List ℕ) → holds (id ∷ xs) id ≡ true
+pub under_first : (id : ℕ) (xs : List ℕ) → is_listed (id ∷ xs) id ≡ true
 under_first id xs = rw (eq-eqb id id refl) refl
 
-pub under_listed : (xs : List ℕ) (n d id : ℕ) → n < length xs → holds (id ∷ xs) (get_or xs n d) ≡ true
-under_listed xs n d id l = or_right (eqb id (get_or xs n d)) (holds xs (get_or xs n d)) (list_any_at (λ x. eqb x (get_or xs n d)) xs n d l (eq-eqb (get_or xs n d) (get_or xs n d) refl))
+pub under_listed : (xs : List ℕ) (n d id : ℕ) → n < length xs → is_listed (id ∷ xs) (get_or xs n d) ≡ true
+under_listed xs n d id l = or_right (eqb id (get_or xs n d)) (is_listed xs (get_or xs n d)) (list_any_at (λ x. eqb x (get_or xs n d)) xs n d l (eq-eqb (get_or xs n d) (get_or xs n d) refl))
 
 -- ---- rows that mean the same
 abbrev left_in : World → (ℕ → Bool) → ℕ → ℕ

@@ -4,7 +4,7 @@ use Rattle.std.specs.List.{filter}
 use Rattle.std.proofs.Math.Path.{fun_ext}
 use Rattle.std.proofs.lemmas.Bool.{cases_Bool}
 use Rattle.std.proofs.lemmas.Bool.Decides.{eqb_tells}
-use Rattle.pdl_world.specs.Swept.{holds, sweep}
+use Rattle.pdl_world.specs.Swept.{is_listed, sweep}
 use Rattle.pdl_nodes.specs.declared.origin.Origin.{Origin}
 use Rattle.pdl_nodes.specs.declared.origin.Origin.TheVariants.{Root, View}
 use Rattle.pdl_nodes.specs.Alike.{numbers}
@@ -37,11 +37,11 @@ still_parents [] s = tt
 still_parents ((k, r) ∷ rs) s = (parent_from_is rs k r r.origin s.1, still_parents rs s.2)
 
 -- a sweep of the world keeps what is reached
-pub sweep_stays : (rs : Rows) (held : List ℕ) → IsStill rs → sweep (world_of rs) held ≡ staying (reached rs (holds held)) (world_of rs)
+pub sweep_stays : (rs : Rows) (held : List ℕ) → IsStill rs → sweep (world_of rs) held ≡ staying (reached rs (is_listed held)) (world_of rs)
 sweep_stays rs held s =
     sweep_with (latest rs) (shape rs) held
     ∙ ap (with_elements (latest rs)) (sweep_is rs held s)
-    ∙ with_stays (reached rs (holds held)) (latest rs) (shape rs)
+    ∙ with_stays (reached rs (is_listed held)) (latest rs) (shape rs)
 
 -- the table once what goes was written back, and before it goes: the notes h tell what the test t tells
 pub record IsLeaving (old mid new : Rows) (t h : ℕ → Bool) : Type 0 where
@@ -68,10 +68,10 @@ is_gone old mid new t h l =
           sym (live v a.live) ∙ l.waits r v i (live r i.0 ∙ g) w);
     }
 
-pub left_means : (old mid new : Rows) (t h : ℕ → Bool) (held : List ℕ) (u : ℕ → Bool) → IsStill old → IsLeaving old mid new t h → t ≡ reached old u → ((v : ℕ) → holds held v ≡ u v) → Means new (sweep (world_of old) held)
+pub left_means : (old mid new : Rows) (t h : ℕ → Bool) (held : List ℕ) (u : ℕ → Bool) → IsStill old → IsLeaving old mid new t h → t ≡ reached old u → ((v : ℕ) → is_listed held v ≡ u v) → Means new (sweep (world_of old) held)
 left_means old mid new t h held u s l e f =
     let g : IsGone old mid new t = is_gone old mid new t h l in
-    let all : holds held ≡ u = fun_ext f in (
+    let all : is_listed held ≡ u = fun_ext f in (
       subst InOrder (sym g.stays_so) (order_stays t mid g.closed g.waits l.kept.order),
       ap world_of g.stays_so ∙ world_stays t mid g.closed g.waits l.kept.order ∙ ap (staying t) l.kept.world
           ∙ ap (λ x. staying x (world_of old)) (e ∙ ap (reached old) (sym all))

@@ -3,7 +3,7 @@ use Rattle.std.proofs.Common.{◌≡◌, ◌≢◌, ℕ, ◌+◌, ◌<◌, ◌�
 use Rattle.std.proofs.lemmas.Bool.{cases_Bool, or_right, ltb-true, both_ways}
 use Rattle.std.proofs.lemmas.Bool.Decides.{leb_tells}
 use Rattle.std.proofs.lemmas.List.{drop_all, drop_more}
-use Rattle.pdl_world.specs.Swept.{holds}
+use Rattle.pdl_world.specs.Swept.{is_listed}
 use Rattle.pdl_nodes.specs.Children.{children, left}
 use Rattle.pdl_nodes.specs.Holds.{Counts, Beside, is_held, going, stands}
 use Rattle.pdl_nodes.specs.Risen.{AreMarked, AreTight, IsFewer, IsLoose, IsRisen}
@@ -18,18 +18,18 @@ use Rattle.std.proofs.lemmas.Bool.{ne_eqb}
 
 -- ---- lists that a loop goes over
 -- what is in the rest is the next, or in what is left then
-pub holds_next : (xs : List ℕ) (n d v : ℕ) → n < length xs → holds (drop n xs) v ≡ (eqb (get_or xs n d) v || holds (drop (n + 1) xs) v)
-holds_next xs n d v l = ap (λ ys. holds ys v) (drop_more xs n d l)
+pub holds_next : (xs : List ℕ) (n d v : ℕ) → n < length xs → is_listed (drop n xs) v ≡ (eqb (get_or xs n d) v || is_listed (drop (n + 1) xs) v)
+holds_next xs n d v l = ap (λ ys. is_listed ys v) (drop_more xs n d l)
 
-pub holds_end : (xs : List ℕ) (n v : ℕ) → length xs ≤ n → holds (drop n xs) v ≡ false
-holds_end xs n v l = ap (λ ys. holds ys v) (drop_all n xs l)
+pub holds_end : (xs : List ℕ) (n v : ℕ) → length xs ≤ n → is_listed (drop n xs) v ≡ false
+holds_end xs n v l = ap (λ ys. is_listed ys v) (drop_all n xs l)
 
 -- ---- the loop
 -- all that is loose is still to come
 pub record IsLetting (rs : Rows) (h0 hs : Counts) (rest : List ℕ) (id : ℕ) : Type 0 where
   pub marked : AreMarked rs hs
   pub fewer : IsFewer h0 hs
-  pub loose : (v : ℕ) → IsLoose rs hs v → (eqb id v || holds rest v) ≡ true
+  pub loose : (v : ℕ) → IsLoose rs hs v → (eqb id v || is_listed rest v) ≡ true
 
 pub marked_none : (rs : Rows) (hs : Counts) → Beside rs hs → AreMarked rs hs
 marked_none rs hs b = record {
@@ -39,8 +39,8 @@ marked_none rs hs b = record {
       let c : going hs v ≡ 0 = b.clear v in omega (arith, a, c));
 }
 
-pub loose_listed : (rs : Rows) (hs : Counts) (starts : List ℕ) (v : ℕ) → Beside rs hs → AreTight starts rs hs → IsLoose rs hs v → holds starts v ≡ true
-loose_listed rs hs starts v b t l = elim (cases_Bool (holds starts v)) [
+pub loose_listed : (rs : Rows) (hs : Counts) (starts : List ℕ) (v : ℕ) → Beside rs hs → AreTight starts rs hs → IsLoose rs hs v → is_listed starts v ≡ true
+loose_listed rs hs starts v b t l = elim (cases_Bool (is_listed starts v)) [
   | inl y ↦ y
   | inr n ↦ (let a : left rs (stands hs) v ≡ children rs v = left_all rs (stands hs) v (λ k g. b.numbers k ∙ g) in
       let c : left rs (stands hs) v ≡ 0 = l.viewless in
@@ -66,14 +66,14 @@ fewer_then a b c x y = record {
 }
 
 -- one more was passed
-pub letting_more : (rs : Rows) (h0 hs later : Counts) (rest less : List ℕ) (id at : ℕ) → IsLetting rs h0 hs rest id → ((v : ℕ) → holds rest v ≡ (eqb at v || holds less v)) → AreMarked rs later → IsFewer hs later
+pub letting_more : (rs : Rows) (h0 hs later : Counts) (rest less : List ℕ) (id at : ℕ) → IsLetting rs h0 hs rest id → ((v : ℕ) → is_listed rest v ≡ (eqb at v || is_listed less v)) → AreMarked rs later → IsFewer hs later
     → ((v : ℕ) → IsLoose rs later v → IsLoose rs hs v × (v ≢ at)) → IsLetting rs h0 later less id
 letting_more rs h0 hs later rest less id at i e m f l = record {
   marked = m;
   fewer = fewer_then h0 hs later i.fewer f;
   loose = λ v y. (let x : IsLoose rs hs v × (v ≢ at) = l v y in
       let d : eqb at v ≡ false = ne_eqb at v (λ z. x.1 (sym z)) in
-      ap (λ b. eqb id v || b) (sym (e v ∙ ap (λ b. b || holds less v) d)) ∙ i.loose v x.0);
+      ap (λ b. eqb id v || b) (sym (e v ∙ ap (λ b. b || is_listed less v) d)) ∙ i.loose v x.0);
 }
 
 -- the last was passed: nothing is loose
@@ -82,15 +82,15 @@ record IsSpent (rs : Rows) (h0 hs : Counts) : Type 0 where
   fewer : IsFewer h0 hs
   none : (v : ℕ) → IsLoose rs hs v → ⊥
 
-spent_last : (rs : Rows) (h0 hs later : Counts) (rest : List ℕ) (id : ℕ) → IsLetting rs h0 hs rest id → ((v : ℕ) → holds rest v ≡ false) → AreMarked rs later → IsFewer hs later
+spent_last : (rs : Rows) (h0 hs later : Counts) (rest : List ℕ) (id : ℕ) → IsLetting rs h0 hs rest id → ((v : ℕ) → is_listed rest v ≡ false) → AreMarked rs later → IsFewer hs later
     → ((v : ℕ) → IsLoose rs later v → IsLoose rs hs v × (v ≢ id)) → IsSpent rs h0 later
 spent_last rs h0 hs later rest id i e m f l = record {
   marked = m;
   fewer = fewer_then h0 hs later i.fewer f;
   none = λ v y. (let x : IsLoose rs hs v × (v ≢ id) = l v y in
       let d : eqb id v ≡ false = ne_eqb id v (λ z. x.1 (sym z)) in
-      let z : (eqb id v || holds rest v) ≡ true = i.loose v x.0 in
-      let w : false ≡ true = sym (ap (λ b. b || holds rest v) d ∙ e v) ∙ z in absurd (cc));
+      let z : (eqb id v || is_listed rest v) ≡ true = i.loose v x.0 in
+      let w : false ≡ true = sym (ap (λ b. b || is_listed rest v) d ∙ e v) ∙ z in absurd (cc));
 }
 
 spent_tells : (rs : Rows) (h0 hs : Counts) → IsStill rs → Beside rs h0 → IsSpent rs h0 hs → (v : ℕ) → has rs v ≡ true → stands hs v ≡ reached rs (is_held h0) v
@@ -107,7 +107,7 @@ spent_tells rs h0 hs still b s = told rs (stands hs) (is_held h0) (still_falls r
       let w : false ≡ (is_held h0 v || nat_lt 0 (left rs (stands hs) v)) = rw (a, c) refl in w)
 ])
 
-pub letting_last : (rs : Rows) (h0 hs later : Counts) (loose rest : List ℕ) (id : ℕ) → IsStill rs → Beside rs h0 → AreTight (id ∷ loose) rs h0 → IsLetting rs h0 hs rest id → ((v : ℕ) → holds rest v ≡ false) → AreMarked rs later → IsFewer hs later
+pub letting_last : (rs : Rows) (h0 hs later : Counts) (loose rest : List ℕ) (id : ℕ) → IsStill rs → Beside rs h0 → AreTight (id ∷ loose) rs h0 → IsLetting rs h0 hs rest id → ((v : ℕ) → is_listed rest v ≡ false) → AreMarked rs later → IsFewer hs later
     → ((v : ℕ) → IsLoose rs later v → IsLoose rs hs v × (v ≢ id)) → IsRisen (id ∷ loose) rs h0 later
 letting_last rs h0 hs later loose rest id still b t i e m f l =
     let s : IsSpent rs h0 later = spent_last rs h0 hs later rest id i e m f l in

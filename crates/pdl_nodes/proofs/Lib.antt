@@ -1,4 +1,4 @@
-mod Numbers
+mod Lookups
 mod Finds
 mod Slots
 mod Calls

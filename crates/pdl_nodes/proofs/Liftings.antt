@@ -2,7 +2,7 @@
 use Rattle.std.proofs.Common.{◌≡◌, ℕ, ℤ, Bool, true, false, List, [], length, Option, Some, None, is_some, refl, sym, ◌∙◌, ap, subst}
 use Rattle.slab.specs.Slab.{Slab, get, ContainsKey, with_value}
 use Rattle.pdl_numbers.specs.Typed.{TypedElements}
-use Rattle.pdl_nodes.specs.Numbered.{value_at}
+use Rattle.pdl_registry.specs.Numbered.{value_at}
 use Rattle.pdl_nodes.specs.Row.{Row, is_buffered, parent_of, places_or}
 use Rattle.pdl_nodes.specs.Rows.{Rows, row_at, has, each}
 use Rattle.pdl_nodes.specs.declared.marked.Marked.{Marked}

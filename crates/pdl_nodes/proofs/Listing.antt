@@ -9,8 +9,8 @@ use Rattle.std.specs.Option.{IsSome}
 use Rattle.slab.specs.Slab.{Slab, get, with_value}
 use Rattle.slab.specs.Slab.{Updates as Changes}
 use Rattle.slab.proofs.SlabLemmas.{Updates-with_value}
-use Rattle.pdl_world.specs.Swept.{holds}
-use Rattle.pdl_nodes.specs.Numbered.{value_at}
+use Rattle.pdl_world.specs.Swept.{is_listed}
+use Rattle.pdl_registry.specs.Numbered.{value_at}
 use Rattle.pdl_nodes.specs.declared.marked.Marked.{Marked}
 use Rattle.pdl_nodes.specs.Row.{Row}
 use Rattle.pdl_nodes.specs.Rows.{Rows, row_at, has, each, NumbersBelow, Falls, other, without}
@@ -42,13 +42,13 @@ pub record IsCalm (f : ℕ → Row → Row) : Type 0 where
 
 -- the same change, where a row that is newly marked is listed
 listed_more : (f : ℕ → Row → Row) (t : Rows) (n : Marked) → ((v : ℕ) (r : Row) → (f v r).root ≡ r.root)
-    → ((v : ℕ) → has t v ≡ true → (f v (row_at t v)).mark ≡ true → ((row_at t v).root ≡ v → ⊥) → has t (row_at t v).root ≡ true → holds (listed n (row_at t v).root) v ≡ true)
+    → ((v : ℕ) → has t v ≡ true → (f v (row_at t v)).mark ≡ true → ((row_at t v).root ≡ v → ⊥) → has t (row_at t v).root ≡ true → is_listed (listed n (row_at t v).root) v ≡ true)
     → AreListed (each f t) n
 listed_more f t n roots a v h k w l =
     let live : has t v ≡ true = sym (each_has f t v) ∙ h in
     let e : row_at (each f t) v ≡ f v (row_at t v) = each_at f t v live in
     let g : (row_at (each f t) v).root ≡ (row_at t v).root = ap (λ (r : Row). r.root) e ∙ roots v (row_at t v) in
-    ap (λ r. holds (listed n r) v) g
+    ap (λ r. is_listed (listed n r) v) g
     ∙ a v live (sym (ap (λ (r : Row). r.mark) e) ∙ k) (λ x. w (g ∙ x)) (sym (each_has f t (row_at t v).root) ∙ ap (has (each f t)) (sym g) ∙ l)
 
 pub listed_each : (f : ℕ → Row → Row) (t : Rows) (m : Marked) → IsCalm f → AreListed t m → AreListed (each f t) m
@@ -75,21 +75,21 @@ listed_root t m id g a = listed_more (marked_in id) t m (λ v r. refl) (λ v h k
 ])
 
 -- a view that is filled was listed first
-pub listed_filled : (t : Rows) (m n : Marked) (b : ℕ) (ks : List ℤ) (f : Bool) (o : Option (List (Option ℕ))) → holds (listed n (row_at t b).root) b ≡ true
-    → ((r v : ℕ) → holds (listed m r) v ≡ true → holds (listed n r) v ≡ true) → AreListed t m → AreListed (each (fill_in b ks f o) t) n
+pub listed_filled : (t : Rows) (m n : Marked) (b : ℕ) (ks : List ℤ) (f : Bool) (o : Option (List (Option ℕ))) → is_listed (listed n (row_at t b).root) b ≡ true
+    → ((r v : ℕ) → is_listed (listed m r) v ≡ true → is_listed (listed n r) v ≡ true) → AreListed t m → AreListed (each (fill_in b ks f o) t) n
 listed_filled t m n b ks f o here stay a = listed_more (fill_in b ks f o) t n (λ v r. refl) (λ v h k w l. elim (eqb_tells v b) [
-  | inl y ↦ ap (λ x. holds (listed n (row_at t x).root) x) y.1 ∙ here
+  | inl y ↦ ap (λ x. is_listed (listed n (row_at t x).root) x) y.1 ∙ here
   | inr x ↦ (let e : (row_at t v).mark ≡ true = rw x.0 at k in stay (row_at t v).root v (a v h e w l))
 ])
 
-pub listed_stays : (t : Rows) (m n : Marked) → ((r v : ℕ) → holds (listed m r) v ≡ true → holds (listed n r) v ≡ true) → AreListed t m → AreListed t n
+pub listed_stays : (t : Rows) (m n : Marked) → ((r v : ℕ) → is_listed (listed m r) v ≡ true → is_listed (listed n r) v ≡ true) → AreListed t m → AreListed t n
 listed_stays t m n stay a = λ v h k w l. stay (row_at t v).root v (a v h k w l)
 
 -- ---- taking marks away
 -- of one number that no row has, or that is the base
 pub absent_one : (rt b : ℕ) (t : Rows) (id : ℕ) → Falls t → has t id ≡ false → t ≡ each (unmark_in (id ∷ []) rt b) t
 absent_one rt b t id s h = sym (each_live (unmark_in (id ∷ []) rt b) (λ k r. r) t s (λ k l. other_row (eqb k b) k (row_at t k) (λ y. (let z : false ≡ true = sym h ∙ ap (has t) y ∙ l in absurd (cc)))) ∙ each_id t) where
-  other_row : (n : Bool) (k : ℕ) (r : Row) → (id ≡ k → ⊥) → record r { mark = cond (not n && (holds (id ∷ []) k && eqb r.root rt)) false r.mark } ≡ r
+  other_row : (n : Bool) (k : ℕ) (r : Row) → (id ≡ k → ⊥) → record r { mark = cond (not n && (is_listed (id ∷ []) k && eqb r.root rt)) false r.mark } ≡ r
   other_row true k r n = refl
   other_row false k r n = rw (ne_eqb id k n) refl
 
@@ -104,7 +104,7 @@ base_one rt b id ((k, r) ∷ t) e = ap₂ (λ x y. (k, x) ∷ y) (row k r) (base
 
 pub one_others : (rt b id v : ℕ) (r : Row) → (v ≡ id → ⊥) → unmark_in (id ∷ []) rt b v r ≡ r
 one_others rt b id v r n = row (eqb v b) where
-  row : (m : Bool) → record r { mark = cond (not m && (holds (id ∷ []) v && eqb r.root rt)) false r.mark } ≡ r
+  row : (m : Bool) → record r { mark = cond (not m && (is_listed (id ∷ []) v && eqb r.root rt)) false r.mark } ≡ r
   row true = refl
   row false = rw (ne_eqb id v (λ e. n (sym e))) refl
 
@@ -126,7 +126,7 @@ twice true false false false m = refl
 unmark_more : (rt b x : ℕ) (vs : List ℕ) (t : Rows) → each (unmark_in vs rt b) (each (unmark_in (x ∷ []) rt b) t) ≡ each (unmark_in (x ∷ vs) rt b) t
 unmark_more rt b x vs [] = refl
 unmark_more rt b x vs ((k, r) ∷ t) =
-    let head : unmark_in vs rt b k (unmark_in (x ∷ []) rt b k r) ≡ unmark_in (x ∷ vs) rt b k r = ap (λ m. record r { mark = m }) (twice (not (eqb k b)) (eqb x k) (holds vs k) (eqb r.root rt) r.mark) in
+    let head : unmark_in vs rt b k (unmark_in (x ∷ []) rt b k r) ≡ unmark_in (x ∷ vs) rt b k r = ap (λ m. record r { mark = m }) (twice (not (eqb k b)) (eqb x k) (is_listed vs k) (eqb r.root rt) r.mark) in
     let tail : each (unmark_in vs rt b) (each (unmark_in (x ∷ []) rt b) t) ≡ each (unmark_in (x ∷ vs) rt b) t = unmark_more rt b x vs t in
     cc
 
@@ -157,13 +157,13 @@ alone false false false false m p = refl
 
 -- a marked row of the family that isn't the root is listed
 unlisted : (t : Rows) (m : Marked) (rt k : ℕ) (o : Bool) → AreListed t m → has t rt ≡ true → has t k ≡ true → (row_at t k).mark ≡ o
-    → eqb rt k ≡ false → holds (listed m rt) k ≡ false → eqb (row_at t k).root rt ≡ true → o ≡ false
+    → eqb rt k ≡ false → is_listed (listed m rt) k ≡ false → eqb (row_at t k).root rt ≡ true → o ≡ false
 unlisted t m rt k false a i l e x h g = refl
 unlisted t m rt k true a i l e x h g =
     let r : (row_at t k).root ≡ rt = eqb-true (row_at t k).root rt g in
     let n : (row_at t k).root ≡ k → ⊥ = λ y. (let z : false ≡ true = sym x ∙ eq-eqb rt k (sym r ∙ y) in absurd (cc)) in
-    let y : holds (listed m (row_at t k).root) k ≡ true = a k l e n (ap (has t) r ∙ i) in
-    let z : false ≡ true = sym h ∙ ap (λ v. holds (listed m v) k) (sym r) ∙ y in
+    let y : is_listed (listed m (row_at t k).root) k ≡ true = a k l e n (ap (has t) r ∙ i) in
+    let z : false ≡ true = sym h ∙ ap (λ v. is_listed (listed m v) k) (sym r) ∙ y in
     absurd (cc)
 
 -- the base keeps its mark
@@ -177,7 +177,7 @@ marked_alone t m rt b s a i =
     ap (each (marked_in b)) (each_each (unmark_in (rt ∷ []) rt b) (unmark_in (listed m rt) rt b) t)
     ∙ each_each (marked_in b) (λ k r. unmark_in (rt ∷ []) rt b k (unmark_in (listed m rt) rt b k r)) t
     ∙ each_live (λ k r. marked_in b k (unmark_in (rt ∷ []) rt b k (unmark_in (listed m rt) rt b k r))) (mark_in rt b) t s (λ k l.
-    ap (λ x. record (row_at t k) { mark = x }) (alone (eqb k b) (eqb rt k) (holds (listed m rt) k) (eqb (row_at t k).root rt) (row_at t k).mark (λ x h g. unlisted t m rt k (row_at t k).mark a i l refl x h g)))
+    ap (λ x. record (row_at t k) { mark = x }) (alone (eqb k b) (eqb rt k) (is_listed (listed m rt) k) (eqb (row_at t k).root rt) (row_at t k).mark (λ x h g. unlisted t m rt k (row_at t k).mark a i l refl x h g)))
 
 -- the table once what is listed, and the root, have lost their marks
 pub record IsUnmarked (t : Rows) (m : Marked) (keys : List (ℕ × ℕ)) (nodes : Slab Row) (rt b : ℕ) : Type 0 where
@@ -208,16 +208,16 @@ marked_rows t m keys nodes rt b key r q u s a i h g c =
 
 -- the list after a base was marked alone
 pub listed_alone : (t : Rows) (m n : Marked) (rt b : ℕ) → AreListed t m → (row_at t b).root ≡ rt → has t b ≡ true → ((b ≡ rt → ⊥) → (row_at t b).mark ≡ true)
-    → (holds (listed m rt) b ≡ true → holds (listed n rt) b ≡ true) → ((r : ℕ) → (r ≡ rt → ⊥) → listed n r ≡ listed m r) → AreListed (each (mark_in rt b) t) n
+    → (is_listed (listed m rt) b ≡ true → is_listed (listed n rt) b ≡ true) → ((r : ℕ) → (r ≡ rt → ⊥) → listed n r ≡ listed m r) → AreListed (each (mark_in rt b) t) n
 listed_alone t m n rt b a g live mark kept others = listed_more (mark_in rt b) t n (λ v r. refl) (λ v h k w l. elim (eqb_tells v b) [
   | inl y ↦ (let gv : (row_at t v).root ≡ rt = ap (λ x. (row_at t x).root) y.1 ∙ g in
       let nb : b ≡ rt → ⊥ = λ e. w (gv ∙ sym e ∙ sym y.1) in
       let mv : (row_at t v).mark ≡ true = ap (λ x. (row_at t x).mark) y.1 ∙ mark nb in
-      let old : holds (listed m rt) b ≡ true = ap (λ x. holds (listed m rt) x) (sym y.1) ∙ ap (λ r. holds (listed m r) v) (sym gv) ∙ a v h mv w l in
-      ap (λ r. holds (listed n r) v) gv ∙ ap (λ x. holds (listed n rt) x) y.1 ∙ kept old)
+      let old : is_listed (listed m rt) b ≡ true = ap (λ x. is_listed (listed m rt) x) (sym y.1) ∙ ap (λ r. is_listed (listed m r) v) (sym gv) ∙ a v h mv w l in
+      ap (λ r. is_listed (listed n r) v) gv ∙ ap (λ x. is_listed (listed n rt) x) y.1 ∙ kept old)
   | inr y ↦ elim (eqb_tells (row_at t v).root rt) [
     | inl x ↦ (let z : false ≡ true = rw (y.0, x.0) at k in absurd (cc))
-    | inr x ↦ (let mv : (row_at t v).mark ≡ true = rw (y.0, x.0) at k in ap (λ vs. holds vs v) (others (row_at t v).root x.1) ∙ a v h mv w l)
+    | inr x ↦ (let mv : (row_at t v).mark ≡ true = rw (y.0, x.0) at k in ap (λ vs. is_listed vs v) (others (row_at t v).root x.1) ∙ a v h mv w l)
   ]
 ])
 
@@ -232,10 +232,10 @@ listed_joined t m id r b none unmarked a v h k w l = elim (eqb_tells id v) [
       let g : id ≡ (row_at t v).root → ⊥ = λ e. none v hv (sym e) in
       let kv : (row_at t v).mark ≡ true = ap (λ (x : Row). x.mark) (sym s) ∙ k in
       let lv : has ((id, r) ∷ t) (row_at t v).root ≡ true = ap (λ (x : Row). has ((id, r) ∷ t) x.root) (sym s) ∙ l in
-      ap (λ (x : Row). holds (listed m x.root) v) s ∙ a v hv kv (λ e. w (ap (λ (x : Row). x.root) s ∙ e)) (rw (ne_eqb id (row_at t v).root g) at lv))
+      ap (λ (x : Row). is_listed (listed m x.root) v) s ∙ a v hv kv (λ e. w (ap (λ (x : Row). x.root) s ∙ e)) (rw (ne_eqb id (row_at t v).root g) at lv))
 ]
 
-pub listed_gone : (t : Rows) (m n : Marked) (id : ℕ) → ((r v : ℕ) → (r ≡ id → ⊥) → (v ≡ id → ⊥) → holds (listed m r) v ≡ true → holds (listed n r) v ≡ true) → AreListed t m
+pub listed_gone : (t : Rows) (m n : Marked) (id : ℕ) → ((r v : ℕ) → (r ≡ id → ⊥) → (v ≡ id → ⊥) → is_listed (listed m r) v ≡ true → is_listed (listed n r) v ≡ true) → AreListed t m
     → AreListed (without id t) n
 listed_gone t m n id others a v h k w l =
     let it : other id id ≡ false = rw (eq-eqb id id refl) refl in
@@ -246,11 +246,11 @@ listed_gone t m n id others a v h k w l =
     let nr : (row_at t v).root ≡ id → ⊥ = λ e. left (row_at (without id t) v).root l (g ∙ e) in
     let hv : has t v ≡ true = sym (has_stays (other id) t v (not_it v (left v h))) ∙ h in
     let lv : has t (row_at t v).root ≡ true = sym (has_stays (other id) t (row_at t v).root (not_it (row_at t v).root nr)) ∙ ap (has (without id t)) (sym g) ∙ l in
-    ap (λ r. holds (listed n r) v) g ∙ others (row_at t v).root v nr (left v h) (a v hv (ap (λ (x : Row). x.mark) (sym s) ∙ k) (λ e. w (g ∙ e)) lv)
+    ap (λ r. is_listed (listed n r) v) g ∙ others (row_at t v).root v nr (left v h) (a v hv (ap (λ (x : Row). x.mark) (sym s) ∙ k) (λ e. w (g ∙ e)) lv)
 
 -- one was taken out, and the last is in its place
-pub pulled : (xs ys : List ℕ) (i x y id v : ℕ) → i < length xs → x ≡ get_or xs i x → y ≡ get_or xs i y → y ≡ id → ys ≡ swap_remove xs i x → v ≢ id → holds xs v ≡ true → holds ys v ≡ true
+pub pulled : (xs ys : List ℕ) (i x y id v : ℕ) → i < length xs → x ≡ get_or xs i x → y ≡ get_or xs i y → y ≡ id → ys ≡ swap_remove xs i x → v ≢ id → is_listed xs v ≡ true → is_listed ys v ≡ true
 pulled xs ys i x y id v l a b e f n h =
     let z : x ≡ id = a ∙ get_or_default xs i x y l ∙ sym b ∙ e in
-    let w : holds xs v ≡ (eqb x v || holds (swap_remove xs i x) v) = list_any-IsPermutation (λ k. eqb k v) xs (x ∷ swap_remove xs i x) (IsPermutation-swap_remove xs i x l a) in
-    ap (λ zs. holds zs v) f ∙ ap (λ b. b || holds (swap_remove xs i x) v) (sym (ne_eqb x v (λ k. n (sym k ∙ z)))) ∙ sym w ∙ h
+    let w : is_listed xs v ≡ (eqb x v || is_listed (swap_remove xs i x) v) = list_any-IsPermutation (λ k. eqb k v) xs (x ∷ swap_remove xs i x) (IsPermutation-swap_remove xs i x l a) in
+    ap (λ zs. is_listed zs v) f ∙ ap (λ b. b || is_listed (swap_remove xs i x) v) (sym (ne_eqb x v (λ k. n (sym k ∙ z)))) ∙ sym w ∙ h

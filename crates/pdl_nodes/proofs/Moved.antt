@@ -2,7 +2,7 @@
 use Rattle.std.proofs.Common.{◌≡◌, ℕ, ℤ, true, false, List, inl, inr, refl, sym, ◌∙◌, ap}
 use Rattle.std.proofs.lemmas.Bool.{both_ways, cases_eq}
 use Rattle.std.proofs.lemmas.Bool.Decides.{eqb_tells}
-use Rattle.pdl_world.specs.Swept.{holds}
+use Rattle.pdl_world.specs.Swept.{is_listed}
 use Rattle.pdl_nodes.specs.declared.marked.Marked.{Marked}
 use Rattle.pdl_nodes.specs.declared.origin.Origin.{Origin}
 use Rattle.pdl_nodes.specs.declared.origin.Origin.TheVariants.{Root, View}
@@ -19,7 +19,7 @@ listed_moved f t m p a = λ v h k w l.
     let e : row_at (each f t) v ≡ f v (row_at t v) = each_at f t v live in
     let q : ((f v (row_at t v)).root ≡ (row_at t v).root) × ((row_at t v).mark ≡ true) = p v live (sym (ap (λ (r : Row). r.mark) e) ∙ k) (λ x. w (ap (λ (r : Row). r.root) e ∙ x)) in
     let g : (row_at (each f t) v).root ≡ (row_at t v).root = ap (λ (r : Row). r.root) e ∙ q.0 in
-    ap (λ r. holds (listed m r) v) g ∙ a v live q.1 (λ x. w (g ∙ x)) (sym (each_has f t (row_at t v).root) ∙ ap (has (each f t)) (sym g) ∙ l)
+    ap (λ r. is_listed (listed m r) v) g ∙ a v live q.1 (λ x. w (g ∙ x)) (sym (each_has f t (row_at t v).root) ∙ ap (has (each f t)) (sym g) ∙ l)
 
 -- a new root
 pub listed_rooted : (id : ℕ) (ds : List ℕ) (es : List ℤ) (t : Rows) (m : Marked) → AreListed t m → AreListed (each (rooted_in id ds es) t) m
@@ -52,5 +52,5 @@ pub listed_unlisted : (t rs : Rows) (id : ℕ) (m n : Marked) → rs ≡ t → (
 listed_unlisted t rs id m n same none others a = λ v h k w l. elim (cases_eq (row_at rs v).root id) [
   | inl e ↦ (let q : (row_at t v).mark ≡ false = none v (ap (λ x. has x v) (sym same) ∙ h) (ap (λ x. (row_at x v).root) (sym same) ∙ e) (λ y. w (e ∙ sym y)) in
       absurd (both_ways (row_at t v).mark q (ap (λ x. (row_at x v).mark) (sym same) ∙ k)))
-  | inr o ↦ ap (λ xs. holds xs v) (others (row_at rs v).root o) ∙ a v h k w l
+  | inr o ↦ ap (λ xs. is_listed xs v) (others (row_at rs v).root o) ∙ a v h k w l
 ]

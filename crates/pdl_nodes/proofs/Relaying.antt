@@ -12,7 +12,7 @@ use Rattle.pdl_world.specs.Formula.{child_dims, is_well_formed}
 use Rattle.pdl_world.specs.Paths.{path}
 use Rattle.pdl_world.specs.Refused.{NoView, refusal_at}
 use Rattle.pdl_world.specs.Sound.{IsAllowed, IsLive, IsSound}
-use Rattle.pdl_world.specs.Swept.{holds, Has}
+use Rattle.pdl_world.specs.Swept.{is_listed, Has}
 use Rattle.pdl_world.specs.World.{World, ArrayDef, root, view, Look, dims_in}
 use Rattle.pdl_nodes.specs.declared.faults.ViewFault.{ViewFault}
 use Rattle.pdl_nodes.specs.declared.faults.ViewFault.TheVariants as f
@@ -24,17 +24,19 @@ use Rattle.pdl_nodes.specs.Faults.{Names, NamesReason, of_view, reason_of}
 use Rattle.pdl_nodes.specs.Relaying.{AreNewDims, IsRelaying}
 use Rattle.pdl_nodes.specs.Renewed.{Layouts, AreRelaid, Fits, laid_by, layout_at}
 use Rattle.pdl_nodes.specs.RenewLaws.{RelaidStay}
-use Rattle.pdl_nodes.specs.Row.{Row, parent_from}
+use Rattle.pdl_nodes.specs.Row.{Row, parent_from, parent_of}
 use Rattle.pdl_nodes.specs.Rows.{Rows, row_at, has, from, NumbersBelow}
+use Rattle.pdl_nodes.specs.Seen.{IsViewAt, path_from}
 use Rattle.pdl_nodes.specs.Sized.{HasDims}
-use Rattle.pdl_nodes.specs.Still.{IsStill}
+use Rattle.pdl_nodes.specs.Still.{IsStill, StillFrom}
 use Rattle.pdl_nodes.specs.Worlds.{def_from, def_of, latest, shape, with_elements, world_of}
 use Rattle.pdl_nodes.proofs.FamilyLemmas.{still_falls}
 use Rattle.pdl_nodes.proofs.Finds.{not_newest}
 use Rattle.pdl_nodes.proofs.Firsts.{IsFirst, is_first}
-use Rattle.pdl_nodes.proofs.Paths.{parent_live}
+use Rattle.pdl_nodes.proofs.Paths.{parent_live, path_is, path_older}
+use Rattle.pdl_nodes.proofs.Relays.{path_with}
 use Rattle.pdl_nodes.proofs.RenewLoop.{room_by, room_of}
-use Rattle.pdl_nodes.proofs.Seens.{has_older, is_seen, row_older}
+use Rattle.pdl_nodes.proofs.Seens.{has_older, is_seen, row_older, view_at}
 use Rattle.pdl_nodes.proofs.WorldLemmas.{look_with}
 use Rattle.pdl_nodes.proofs.Viewed.{allowed}
 
@@ -116,11 +118,11 @@ relaying_more laws ls new rs v ds k p t y x es s r h n o b f here others =
     }
 
 -- an array whose parent isn't v and has no layout isn't below v, and needs none
-parent_not : BelowLaws → (ls : Layouts) (rs : Rows) (v : ℕ) (ds : List ℕ) (bound p : ℕ) (o : Origin) → IsSound (world_of rs) → IsStill rs → IsRelaying ls rs v ds bound → has rs p ≡ true → p < bound → AreNewDims ls v ds p None → (row_at rs p).origin ≡ o → holds (path (world_of rs) p) v ≡ true → ⊥
+parent_not : BelowLaws → (ls : Layouts) (rs : Rows) (v : ℕ) (ds : List ℕ) (bound p : ℕ) (o : Origin) → IsSound (world_of rs) → IsStill rs → IsRelaying ls rs v ds bound → has rs p ≡ true → p < bound → AreNewDims ls v ds p None → (row_at rs p).origin ≡ o → is_listed (path (world_of rs) p) v ≡ true → ⊥
 parent_not laws ls rs v ds bound p Root s i r h l n o b =
     let z : false ≡ true = sym (laws.not_root (world_of rs) v p (row_at rs p).ty (row_at rs p).triple.dims (latest rs p) s (has_root (latest rs) rs p h o) n.0) ∙ b in cc
 parent_not laws ls rs v ds bound p (View q t y) s i r h l n o b =
-    let up : holds (path (world_of rs) q) v ≡ true = sym (laws.not_on (world_of rs) v p q t s (has_view (latest rs) rs p q t y h o) n.0) ∙ b in
+    let up : is_listed (path (world_of rs) q) v ≡ true = sym (laws.not_on (world_of rs) v p q t s (has_view (latest rs) rs p q t y h o) n.0) ∙ b in
     let some : IsSomeAnd (layout_at ls p) (Fits t (dims_in (reshape (world_of rs) v ds) q)) = r.done p q t y h l o up in
     subst (λ x. IsSomeAnd x (Fits t (dims_in (reshape (world_of rs) v ds) q))) n.1 some
 
@@ -141,6 +143,44 @@ pub relaying_aside : BelowLaws → (ls : Layouts) (rs : Rows) (v : ℕ) (ds : Li
 relaying_aside laws ls rs v ds k p t y s i r o n = relaying_past laws ls rs v ds k s i r (λ q u x e. (let both : View p t y ≡ View q u x = sym o ∙ e in
     let z : p ≡ q = cc in
     subst (λ j. AreNewDims ls v ds j None) z n))
+
+-- an array on a path is there, and of the same family
+on_path : (rs : Rows) (u v : ℕ) → IsStill rs → has rs u ≡ true → is_listed (path (shape rs) u) v ≡ true → (has rs v ≡ true) × ((row_at rs u).root ≡ (row_at rs v).root)
+on_path [] u v s h b = (let z : false ≡ true = h in absurd (cc))
+on_path ((k, r) ∷ rs) u v s h b = elim (eqb_tells k u) [
+  | inl e ↦ (let first : path (shape ((k, r) ∷ rs)) u ≡ u ∷ path_from ((k, r) ∷ rs) (parent_of (row_at ((k, r) ∷ rs) u)) = path_is ((k, r) ∷ rs) s u h in
+      let row : row_at ((k, r) ∷ rs) u ≡ r = rw e.0 refl in
+      newest r.origin e.1 row (first ∙ ap (λ (x : Row). u ∷ path_from ((k, r) ∷ rs) (parent_of x)) row) s.1 (λ p g i. on_path rs p v s.2 g i))
+  | inr e ↦ (let older : has rs u ≡ true = rw e.0 at h in
+      let rest : (has rs v ≡ true) × ((row_at rs u).root ≡ (row_at rs v).root) = on_path rs u v s.2 older (ap (λ ps. is_listed ps v) (sym (path_older k (def_of r) (shape rs) u e.1)) ∙ b) in
+      let n : k ≡ v → ⊥ = not_newest rs k v s.0 rest.0 in
+      (has_older k r rs v n ∙ rest.0, ap (λ (x : Row). x.root) (row_older k r rs u e.1) ∙ rest.1 ∙ ap (λ (x : Row). x.root) (sym (row_older k r rs v n))))
+] where
+  newest : (o : Origin) → k ≡ u → row_at ((k, r) ∷ rs) u ≡ r → path (shape ((k, r) ∷ rs)) u ≡ u ∷ path_from ((k, r) ∷ rs) (parent_from o) → StillFrom rs k r o
+      → ((p : ℕ) → has rs p ≡ true → is_listed (path (shape rs) p) v ≡ true → (has rs v ≡ true) × ((row_at rs p).root ≡ (row_at rs v).root)) → (has ((k, r) ∷ rs) v ≡ true) × ((row_at ((k, r) ∷ rs) u).root ≡ (row_at ((k, r) ∷ rs) v).root)
+  newest o e row first f older = elim (eqb_tells u v) [
+    | inl q ↦ (ap (has ((k, r) ∷ rs)) (sym q.1) ∙ h, ap (λ x. (row_at ((k, r) ∷ rs) x).root) q.1)
+    | inr q ↦ above o row (rw q.0 at (ap (λ ps. is_listed ps v) (sym first) ∙ b)) f older (λ y. q.1 (sym e ∙ y))
+  ] where
+    above : (o : Origin) → row_at ((k, r) ∷ rs) u ≡ r → is_listed (path_from ((k, r) ∷ rs) (parent_from o)) v ≡ true → StillFrom rs k r o
+        → ((p : ℕ) → has rs p ≡ true → is_listed (path (shape rs) p) v ≡ true → (has rs v ≡ true) × ((row_at rs p).root ≡ (row_at rs v).root)) → (k ≡ v → ⊥) → (has ((k, r) ∷ rs) v ≡ true) × ((row_at ((k, r) ∷ rs) u).root ≡ (row_at ((k, r) ∷ rs) v).root)
+    above Root row i f older n = (let z : false ≡ true = i in absurd (cc))
+    above (View p t y) row i f older n =
+        let rest : (has rs v ≡ true) × ((row_at rs p).root ≡ (row_at rs v).root) = older p f.0 (ap (λ ps. is_listed ps v) (sym (path_older k (def_of r) (shape rs) p (not_newest rs k p s.0 f.0))) ∙ i) in
+        (has_older k r rs v n ∙ rest.0, ap (λ (x : Row). x.root) row ∙ f.1.root_is ∙ rest.1 ∙ ap (λ (x : Row). x.root) (sym (row_older k r rs v n)))
+
+-- an array of another family isn't below v, and needs none
+pub relaying_apart : (ls : Layouts) (rs : Rows) (v : ℕ) (ds : List ℕ) (k : ℕ) → IsStill rs → IsRelaying ls rs v ds k → ((row_at rs k).root ≡ (row_at rs v).root → ⊥) → IsRelaying ls rs v ds (k + 1)
+relaying_apart ls rs v ds k i r n = record {
+  done = λ u q t y g l e c. elim (cases_lt u k) [
+    | inl low ↦ r.done u q t y g low e c
+    | inr a ↦ (let same : u ≡ k = omega (arith, l) in
+        let at : IsViewAt rs u q t y = view_at rs i u q t y g e in
+        let up : (has rs v ≡ true) × ((row_at rs q).root ≡ (row_at rs v).root) = on_path rs q v i at.live (ap (λ ps. is_listed ps v) (sym (path_with (latest rs) (shape rs) q)) ∙ c) in
+        absurd (n (ap (λ z. (row_at rs z).root) (sym same) ∙ at.derived.root_is ∙ up.1)))
+  ];
+  only = r.only;
+}
 
 -- where a formula refuses, something breaks
 pub relaying_breaks : BelowLaws → (rs : Rows) (v : ℕ) (ds : List ℕ) (k p : ℕ) (t : Trans) (y : Layout) (es : List ℕ) (e : Refusal) → IsSound (world_of rs) → has rs k ≡ true → (k ≡ v → ⊥) → (row_at rs k).origin ≡ View p t y → IsBelow (world_of rs) v ds p es → child_dims t es ≡ Err e → breaks (world_of rs) v ds ≡ true
@@ -226,7 +266,7 @@ on_ends ls rs v ds next o e =
 pub relaid_stay : RelaidStay
 relaid_stay = λ ls old new v ds a w r k p t y h o b.
     let P : World → Type 0 = λ x. Fits t (dims_in (reshape x v ds) p) (laid_by ls k y) in
-    subst P (sym w) (r k p t y (sym (a.has_is k) ∙ h) (sym (a.origin_is k) ∙ o) (ap (λ x. holds (path x p) v) (sym w) ∙ b))
+    subst P (sym w) (r k p t y (sym (a.has_is k) ∙ h) (sym (a.origin_is k) ∙ o) (ap (λ x. is_listed (path x p) v) (sym w) ∙ b))
 
 -- layouts that fit break nothing
 record IsViewRow (rs : Rows) (u p : ℕ) (t : Trans) : Type 0 where

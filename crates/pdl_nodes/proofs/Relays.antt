@@ -11,7 +11,7 @@ use Rattle.pdl_world.specs.declared.Trans.{Trans}
 use Rattle.pdl_world.specs.declared.Trans.TheVariants as trans
 use Rattle.pdl_world.specs.Formula.{child_dims}
 use Rattle.pdl_world.specs.Paths.{path}
-use Rattle.pdl_world.specs.Swept.{holds}
+use Rattle.pdl_world.specs.Swept.{is_listed}
 use Rattle.pdl_world.specs.World.{World, ArrayDef, root, view, Look, look, look_of_root, through, dims_in, elements, ty_in}
 use Rattle.pdl_nodes.specs.declared.origin.Layout.{Layout}
 use Rattle.pdl_nodes.specs.declared.origin.Layout.TheVariants.{Plan, Choice}
@@ -145,40 +145,40 @@ path_root k ty ds es w = rw (eq-eqb k k refl) refl
 path_view : (k p : ℕ) (t : Trans) (w : World) → path ((k, view p t) ∷ w) k ≡ k ∷ path w p
 path_view k p t w = rw (eq-eqb k k refl) refl
 
-head_held : (k : ℕ) (up : List ℕ) → holds (k ∷ up) k ≡ true
+head_held : (k : ℕ) (up : List ℕ) → is_listed (k ∷ up) k ≡ true
 head_held k up = rw (eq-eqb k k refl) refl
 
-held_itself : (k : ℕ) (d : ArrayDef) (w : World) → holds (path ((k, d) ∷ w) k) k ≡ true
-held_itself k (root ty ds es) w = ap (λ ps. holds ps k) (path_root k ty ds es w) ∙ head_held k []
-held_itself k (view p t) w = ap (λ ps. holds ps k) (path_view k p t w) ∙ head_held k (path w p)
+held_itself : (k : ℕ) (d : ArrayDef) (w : World) → is_listed (path ((k, d) ∷ w) k) k ≡ true
+held_itself k (root ty ds es) w = ap (λ ps. is_listed ps k) (path_root k ty ds es w) ∙ head_held k []
+held_itself k (view p t) w = ap (λ ps. is_listed ps k) (path_view k p t w) ∙ head_held k (path w p)
 
-held_view : (k p : ℕ) (t : Trans) (w : World) (v : ℕ) → (k ≡ v → ⊥) → holds (path ((k, view p t) ∷ w) k) v ≡ holds (path w p) v
+held_view : (k p : ℕ) (t : Trans) (w : World) (v : ℕ) → (k ≡ v → ⊥) → is_listed (path ((k, view p t) ∷ w) k) v ≡ is_listed (path w p) v
 held_view k p t w v n = rw (eq-eqb k k refl, ne_eqb k v n) refl
 
 -- an array whose root is v then reached v by parents
 head_holds : (ls : Layouts) (rs : Rows) (v : ℕ) (ds : List ℕ) (es : List ℤ) (rt k : ℕ) (r : Row) (o : Origin) → r.origin ≡ o → StillFrom rs k r o → AllAfter ls rs v ds es rt
-    → ((p : ℕ) → has rs p ≡ true → (row_at (renew ls rs v ds es) p).root ≡ v → holds (path (shape rs) p) v ≡ true) → (head ls rs v ds es k r o).root ≡ v → holds (path ((k, def_of r) ∷ shape rs) k) v ≡ true
+    → ((p : ℕ) → has rs p ≡ true → (row_at (renew ls rs v ds es) p).root ≡ v → is_listed (path (shape rs) p) v ≡ true) → (head ls rs v ds es k r o).root ≡ v → is_listed (path ((k, def_of r) ∷ shape rs) k) v ≡ true
 head_holds ls rs v ds es rt k r o e s f g h = elim (cases_eq k v) [
-  | inl y ↦ (let P : ℕ → Type 0 = λ x. holds (path ((k, def_of r) ∷ shape rs) k) x ≡ true in subst P y (held_itself k (def_of r) (shape rs)))
+  | inl y ↦ (let P : ℕ → Type 0 = λ x. is_listed (path ((k, def_of r) ∷ shape rs) k) x ≡ true in subst P y (held_itself k (def_of r) (shape rs)))
   | inr y ↦ by_origin o e s y (rw (ne_eqb k v y) at h)
 ] where
-  by_origin : (o : Origin) → r.origin ≡ o → StillFrom rs k r o → (k ≡ v → ⊥) → (renewed ls (renew ls rs v ds es) v k r o).root ≡ v → holds (path ((k, def_of r) ∷ shape rs) k) v ≡ true
+  by_origin : (o : Origin) → r.origin ≡ o → StillFrom rs k r o → (k ≡ v → ⊥) → (renewed ls (renew ls rs v ds es) v k r o).root ≡ v → is_listed (path ((k, def_of r) ∷ shape rs) k) v ≡ true
   by_origin Root e s n h = absurd (n (sym s.root_is ∙ h))
   by_origin (View p t y) e s n h = elim (eqb_tells (row_at (renew ls rs v ds es) p).root v) [
     | inl w ↦ (let d : def_of r ≡ view p t = ap (def_from r.ty r.triple.dims) e in
-        ap (λ x. holds (path ((k, x) ∷ shape rs) k) v) d ∙ held_view k p t (shape rs) v n ∙ g p s.0 w.1)
+        ap (λ x. is_listed (path ((k, x) ∷ shape rs) k) v) d ∙ held_view k p t (shape rs) v n ∙ g p s.0 w.1)
     | inr w ↦ (let same : r.root ≡ v = rw w.0 at h in
         absurd ((is_untouched v rt p (row_at rs p) (row_at (renew ls rs v ds es) p) (f p s.0) w.1).apart (sym s.1.root_is ∙ same)))
   ]
 
-root_holds : (ls : Layouts) (rs : Rows) (v : ℕ) (ds : List ℕ) (es : List ℤ) (rt : ℕ) → IsRootable rs v ds es rt → (u : ℕ) → has rs u ≡ true → (row_at (renew ls rs v ds es) u).root ≡ v → holds (path (shape rs) u) v ≡ true
+root_holds : (ls : Layouts) (rs : Rows) (v : ℕ) (ds : List ℕ) (es : List ℤ) (rt : ℕ) → IsRootable rs v ds es rt → (u : ℕ) → has rs u ≡ true → (row_at (renew ls rs v ds es) u).root ≡ v → is_listed (path (shape rs) u) v ≡ true
 root_holds ls [] v ds es rt c u h e = (let z : false ≡ true = h in absurd (cc))
 root_holds ls ((k, r) ∷ rs) v ds es rt c u h e =
     let below : IsRootable rs v ds es rt = rootable_tail k r rs v ds es rt c in
     elim (cases_eq k u) [
-      | inl t ↦ (let P : ℕ → Type 0 = λ x. holds (path (shape ((k, r) ∷ rs)) x) v ≡ true in
+      | inl t ↦ (let P : ℕ → Type 0 = λ x. is_listed (path (shape ((k, r) ∷ rs)) x) v ≡ true in
           subst P t (head_holds ls rs v ds es rt k r r.origin refl c.still.1 (after ls rs v ds es rt below.still below.root_is) (root_holds ls rs v ds es rt below) (rw (eq-eqb k u t) at e)))
-      | inr t ↦ ap (λ ps. holds ps v) (path_older k (def_of r) (shape rs) u t) ∙ root_holds ls rs v ds es rt below u (sym (has_older k r rs u t) ∙ h) (rw (ne_eqb k u t) at e)
+      | inr t ↦ ap (λ ps. is_listed ps v) (path_older k (def_of r) (shape rs) u t) ∙ root_holds ls rs v ds es rt below u (sym (has_older k r rs u t) ∙ h) (rw (ne_eqb k u t) at e)
     ]
 
 -- the elements of v change no look
@@ -194,7 +194,7 @@ look_bare ((k, view p t) ∷ w) v ty ds fs u = elim (eqb_tells k v) [
 ]
 
 abbrev RelaidOver : Layouts → Rows → ℕ → ArrayDef → Type 0
-RelaidOver ls rs v new = (k p : ℕ) (t : Trans) (y : Layout) → has rs k ≡ true → (row_at rs k).origin ≡ View p t y → holds (path (shape rs) p) v ≡ true → Fits t (dims_in (replaced (shape rs) v new) p) (laid_by ls k y)
+RelaidOver ls rs v new = (k p : ℕ) (t : Trans) (y : Layout) → has rs k ≡ true → (row_at rs k).origin ≡ View p t y → is_listed (path (shape rs) p) v ≡ true → Fits t (dims_in (replaced (shape rs) v new) p) (laid_by ls k y)
 
 dims_older : (k : ℕ) (d e : ArrayDef) (w u : World) (v p : ℕ) → (k ≡ p → ⊥) → dims_in ((k, d) ∷ w) p ≡ dims_in w p
 dims_older k d e w u v p n = ap (λ o. option_map_or (λ (l : Look). l.dims) o []) (look_older k d w p n)
@@ -205,7 +205,7 @@ relaid_tail ls k r rs v new s f = λ j p t y h e b.
     let m : k ≡ p → ⊥ = not_newest rs k p s.0 ((parent_live rs j p s.2 h (ap parent_from e)).0) in
     let P : List ℕ → Type 0 = λ xs. Fits t xs (laid_by ls j y) in
     subst P (dims_older k (cond (eqb k v) new (def_of r)) new (replaced (shape rs) v new) [] v p m)
-    (f j p t y (has_older k r rs j n ∙ h) (ap (λ (x : Row). x.origin) (row_older k r rs j n) ∙ e) (ap (λ ps. holds ps v) (path_older k (def_of r) (shape rs) p m) ∙ b))
+    (f j p t y (has_older k r rs j n ∙ h) (ap (λ (x : Row). x.origin) (row_older k r rs j n) ∙ e) (ap (λ ps. is_listed ps v) (path_older k (def_of r) (shape rs) p m) ∙ b))
 
 relaid_head : LawsBelow → (ls : Layouts) (rs : Rows) (v : ℕ) (ds : List ℕ) (es : List ℤ) (rt : ℕ) (ty : Ty) (fs : List ℤ) (k : ℕ) (r : Row) (o : Origin) → r.origin ≡ o → IsStill ((k, r) ∷ rs) → StillFrom rs k r o → IsRootable rs v ds es rt
     → ((u : ℕ) → has rs u ≡ true → u ≡ v → (row_at rs u).ty ≡ ty) → AreLaid ls rs v ds es → RelaidOver ls ((k, r) ∷ rs) v (root ty ds fs) → LaidAnew ls (renew ls rs v ds es) v k o
@@ -217,7 +217,7 @@ relaid_head laws ls rs v ds es rt ty fs k r (View p t y) e st s c g l f = λ w.
     let dims : dims_in (replaced (shape rs) v (root ty ds fs)) p ≡ (row_at (renew ls rs v ds es) p).triple.dims = ap (λ q. option_map_or (λ (x : Look). x.dims) q []) looks in
     let P : List ℕ → Type 0 = λ xs. Fits t xs (laid_by ls k y) in
     subst P (dims_older k (cond (eqb k v) (root ty ds fs) (def_of r)) (root ty ds fs) (replaced (shape rs) v (root ty ds fs)) [] v p m ∙ dims)
-    (f k p t y (rw (eq-eqb k k refl) refl) (rw (eq-eqb k k refl) e) (ap (λ ps. holds ps v) (path_older k (def_of r) (shape rs) p m) ∙ root_holds ls rs v ds es rt c p s.0 w))
+    (f k p t y (rw (eq-eqb k k refl) refl) (rw (eq-eqb k k refl) e) (ap (λ ps. is_listed ps v) (path_older k (def_of r) (shape rs) p m) ∙ root_holds ls rs v ds es rt c p s.0 w))
 
 relaid_are_laid : LawsBelow → (ls : Layouts) (rs : Rows) (v : ℕ) (ds : List ℕ) (es : List ℤ) (rt : ℕ) (ty : Ty) (fs : List ℤ) → IsRootable rs v ds es rt → ((u : ℕ) → has rs u ≡ true → u ≡ v → (row_at rs u).ty ≡ ty) → RelaidOver ls rs v (root ty ds fs) → AreLaid ls rs v ds es
 relaid_are_laid laws ls [] v ds es rt ty fs c g f = tt
@@ -229,7 +229,7 @@ relaid_are_laid laws ls ((k, r) ∷ rs) v ds es rt ty fs c g f =
     (relaid_head laws ls rs v ds es rt ty fs k r r.origin refl c.still c.still.1 below types tail f, tail)
 
 -- the same of the world that the rows mean, whose roots have elements
-path_with : (f : ℕ → List ℤ) (w : World) (v : ℕ) → path (with_elements f w) v ≡ path w v
+pub path_with : (f : ℕ → List ℤ) (w : World) (v : ℕ) → path (with_elements f w) v ≡ path w v
 path_with f [] v = refl
 path_with f ((k, root ty n es) ∷ w) v = ap (λ o. cond (eqb k v) (k ∷ []) o) (path_with f w v)
 path_with f ((k, view p t) ∷ w) v = ap (λ o. cond (eqb k v) (k ∷ o) (path (with_elements f w) v)) (path_with f w p) ∙ ap (λ o. cond (eqb k v) (k ∷ path w p) o) (path_with f w v)
@@ -243,7 +243,7 @@ over_shape : (ls : Layouts) (rs : Rows) (v : ℕ) (ds : List ℕ) → AreRelaid 
 over_shape ls rs v ds f = λ k p t y h e b.
     let P : List ℕ → Type 0 = λ xs. Fits t xs (laid_by ls k y) in
     subst P (ap (λ o. option_map_or (λ (l : Look). l.dims) o []) (look_replaced (latest rs) (shape rs) v (ty_in (world_of rs) v) ds (fitted (size_of ds) (elements (world_of rs) v)) p))
-    (f k p t y h e (ap (λ ps. holds ps v) (path_with (latest rs) (shape rs) p) ∙ b))
+    (f k p t y h e (ap (λ ps. is_listed ps v) (path_with (latest rs) (shape rs) p) ∙ b))
 
 pub can_renew : LawsBelow → RelaidCanRenew
 can_renew laws = λ ls rs v ds es c. record {

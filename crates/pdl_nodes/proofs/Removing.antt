@@ -2,7 +2,7 @@
 use Rattle.std.proofs.Common.{◌≡◌, ◌≢◌, ℕ, ◌+◌, ◌-◌, ◌<◌, ◌≤◌, ◌&&◌, ◌||◌, not, Bool, true, false, eqb, cond, List, [], ◌∷◌, Option, Some, None, is_some, inl, inr, refl, sym, ◌∙◌, ap, subst, arith}
 use Rattle.std.proofs.lemmas.Bool.{cases_Bool, both_ways}
 use Rattle.std.proofs.lemmas.Bool.Decides.{eqb_tells}
-use Rattle.pdl_world.specs.Swept.{holds}
+use Rattle.pdl_world.specs.Swept.{is_listed}
 use Rattle.pdl_nodes.specs.Children.{children, left, one_of}
 use Rattle.pdl_nodes.specs.Holds.{Counts, hold_at, count, count_in, going, going_in, stands}
 use Rattle.pdl_nodes.specs.Risen.{AreNoted, ComesFrom, IsFallen, IsNoted, ParentsAreOlder}
@@ -245,7 +245,7 @@ pub record IsRemoving (rs : Rows) (h0 : Counts) (table : Rows) (hs : Counts) (re
   pub keeps : (v : ℕ) → has rs v ≡ true → stands h0 v ≡ true → has table v ≡ true
   pub standing : (v : ℕ) → stands hs v ≡ stands h0 v
   pub counts : (v : ℕ) → count hs v ≡ count h0 v
-  pub done : (u : ℕ) → holds loose u ≡ true → holds rest u ≡ false → stands h0 u ≡ false → has table u ≡ false
+  pub done : (u : ℕ) → is_listed loose u ≡ true → is_listed rest u ≡ false → stands h0 u ≡ false → has table u ≡ false
   pub climbs :
       (c p : ℕ) → has rs c ≡ true → has table c ≡ false → parent_of (row_at rs c) ≡ Some p → stands h0 p ≡ false
       → has table p ≡ false
@@ -257,7 +257,7 @@ removing_none rs hs loose n = record {
   keeps = λ v h s. h;
   standing = λ v. refl;
   counts = λ v. refl;
-  done = λ u h d. absurd (both_ways (holds loose u) d h);
+  done = λ u h d. absurd (both_ways (is_listed loose u) d h);
   climbs = λ c p h g. absurd (both_ways (has rs c) g h);
   noted = n;
 }
@@ -269,7 +269,7 @@ pub removing_older : (rs : Rows) (h0 : Counts) (table : Rows) (hs : Counts) (res
 removing_older rs h0 table hs rest loose s i = λ v p h e.
     (parent_live rs v p s (has_less rs table v i.rows h) (ap parent_of (sym (row_less rs table v i.rows h)) ∙ e)).1
 
-pub removing_more : (rs : Rows) (h0 : Counts) (table new : Rows) (hs gs : Counts) (rest less loose : List ℕ) (at : ℕ) → IsRemoving rs h0 table hs rest loose → ((v : ℕ) → holds rest v ≡ (eqb at v || holds less v)) → IsFallen at table hs new gs
+pub removing_more : (rs : Rows) (h0 : Counts) (table new : Rows) (hs gs : Counts) (rest less loose : List ℕ) (at : ℕ) → IsRemoving rs h0 table hs rest loose → ((v : ℕ) → is_listed rest v ≡ (eqb at v || is_listed less v)) → IsFallen at table hs new gs
     → IsRemoving rs h0 new gs less loose
 removing_more rs h0 table new hs gs rest less loose at i e x =
     let gone : (v : ℕ) → has table v ≡ false → has new v ≡ false = λ v h. gone_less table new v x.rows h in
@@ -280,7 +280,7 @@ removing_more rs h0 table new hs gs rest less loose at i e x =
       counts = λ v. x.counts v ∙ i.counts v;
       done = λ u h d s. elim (eqb_tells at u) [
         | inl y ↦ sym (ap (has new) y.1) ∙ x.first (i.standing at ∙ ap (stands h0) y.1 ∙ s)
-        | inr y ↦ gone u (i.done u h (e u ∙ ap (λ b. b || holds less u) y.0 ∙ d) s)
+        | inr y ↦ gone u (i.done u h (e u ∙ ap (λ b. b || is_listed less u) y.0 ∙ d) s)
       ];
       climbs = λ c p h n w s. elim (cases_Bool (has table c)) [
         | inl y ↦ x.climbs c p y n (ap parent_of (row_less rs table c i.rows y) ∙ w) (i.standing p ∙ s)

@@ -10,7 +10,7 @@ use Rattle.pdl_nodes.specs.Row.{root_row, Row, parent_from, parent_of, shown_of}
 use Rattle.pdl_nodes.specs.Rows.{Rows, row_at, has, each, from, NumbersBelow, Falls}
 use Rattle.pdl_elem.specs.declared.Ty.{Ty}
 use Rattle.pdl_nodes.specs.declared.node.Shown.{Shown}
-use Rattle.pdl_nodes.specs.Joined.{LaidOver, view_row}
+use Rattle.pdl_nodes.specs.Joined.{LaidOver, shown_row, view_row}
 use Rattle.pdl_nodes.specs.Sized.{IsLayout}
 use Rattle.pdl_nodes.specs.Still.{StillFrom, IsStill}
 use Rattle.pdl_world.specs.declared.Trans.{Trans}
@@ -22,7 +22,7 @@ use Rattle.pdl_nodes.proofs.Marks.{each_live, each_each, each_id}
 use Rattle.pdl_nodes.proofs.RenewOrder.{leaves_families}
 use Rattle.pdl_nodes.proofs.RenewRows.{renew_row}
 use Rattle.pdl_nodes.proofs.Seens.{is_seen, row_older, has_older}
-use Rattle.pdl_nodes.specs.Renewed.{AreLaid, CanDerive, CanRenew, Fits, Layouts, LaidAnew, laid_by, layout_at, renew, renewed, renewed_in, rooted_in, shown_row, with_layout}
+use Rattle.pdl_nodes.specs.Renewed.{AreLaid, CanDerive, CanRenew, Fits, Layouts, LaidAnew, laid_by, layout_at, renew, renewed, renewed_in, rooted_in, with_layout}
 
 -- the changes of one row
 pub rooted_here : (id : ℕ) (ds : List ℕ) (es : List ℤ) (r : Row) → root_row id r.ty ds es ≡ rooted_in id ds es id r

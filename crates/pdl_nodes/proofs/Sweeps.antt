@@ -4,7 +4,7 @@ use Rattle.std.proofs.Math.Path.{fun_ext}
 use Rattle.std.proofs.lemmas.Bool.Decides.{eqb_tells}
 use Rattle.pdl_elem.specs.declared.Ty.{Ty}
 use Rattle.pdl_world.specs.World.{World, ArrayDef, root, view}
-use Rattle.pdl_world.specs.Swept.{holds, parents, kept_onto, sweep}
+use Rattle.pdl_world.specs.Swept.{is_listed, parents, kept_onto, sweep}
 use Rattle.pdl_nodes.specs.Staying.{staying, passed, KeepsParents}
 use Rattle.pdl_nodes.specs.declared.origin.Origin.{Origin}
 use Rattle.pdl_nodes.specs.declared.origin.Origin.TheVariants.{Root, View}
@@ -105,24 +105,24 @@ reached_closed ((k, r) ∷ rs) held s =
     (reached_closed rs (passed (parent_of r) (held k) held) s.2))
 
 -- the parents of what was passed are held too
-passed_holds : (held : List ℕ) (v : ℕ) (ty : Ty) (ds : List ℕ) (o : Origin) (b : Bool) → holds (cond b (parents (def_from ty ds o) ++ held) held) v ≡ passed (parent_from o) b (holds held) v
+passed_holds : (held : List ℕ) (v : ℕ) (ty : Ty) (ds : List ℕ) (o : Origin) (b : Bool) → is_listed (cond b (parents (def_from ty ds o) ++ held) held) v ≡ passed (parent_from o) b (is_listed held) v
 passed_holds held v ty ds Root true = refl
 passed_holds held v ty ds Root false = refl
 passed_holds held v ty ds (View p t y) false = elim (eqb_tells p v) [ inl e ↦ rw e.0 refl | inr e ↦ rw e.0 refl ]
 passed_holds held v ty ds (View p t y) true = elim (eqb_tells p v) [ inl e ↦ rw e.0 refl | inr e ↦ rw e.0 refl ]
 
 -- one pass over the world finds what is reached
-pub sweep_is : (rs : Rows) (held : List ℕ) → IsStill rs → sweep (shape rs) held ≡ staying (reached rs (holds held)) (shape rs)
+pub sweep_is : (rs : Rows) (held : List ℕ) → IsStill rs → sweep (shape rs) held ≡ staying (reached rs (is_listed held)) (shape rs)
 sweep_is [] held s = refl
 sweep_is ((k, r) ∷ rs) held s =
-    let on : List ℕ = cond (holds held k) (parents (def_of r) ++ held) held in
-    let t : ℕ → Bool = reached rs (holds on) in
-    let u : ℕ → Bool = reached ((k, r) ∷ rs) (holds held) in
-    let same_test : holds on ≡ passed (parent_of r) (holds held k) (holds held) = fun_ext (λ v. passed_holds held v r.ty r.triple.dims r.origin (holds held k)) in
-    let agree : staying t rs ≡ staying u rs = staying_live t u rs (λ v h. ap (λ g. reached rs g v) same_test ∙ sym (reached_older k r rs (holds held) v (not_newest rs k v s.0 h))) in
+    let on : List ℕ = cond (is_listed held k) (parents (def_of r) ++ held) held in
+    let t : ℕ → Bool = reached rs (is_listed on) in
+    let u : ℕ → Bool = reached ((k, r) ∷ rs) (is_listed held) in
+    let same_test : is_listed on ≡ passed (parent_of r) (is_listed held k) (is_listed held) = fun_ext (λ v. passed_holds held v r.ty r.triple.dims r.origin (is_listed held k)) in
+    let agree : staying t rs ≡ staying u rs = staying_live t u rs (λ v h. ap (λ g. reached rs g v) same_test ∙ sym (reached_older k r rs (is_listed held) v (not_newest rs k v s.0 h))) in
     let tail : sweep (shape rs) on ≡ staying u (shape rs) = sweep_is rs on s.2 ∙ sym (shape_stays t rs) ∙ ap shape agree ∙ shape_stays u rs in
-    ap (kept_onto (holds held k) (k, def_of r)) tail
-    ∙ ap (λ b. cond b ((k, def_of r) ∷ staying u (shape rs)) (staying u (shape rs))) (sym (let e : reached ((k, r) ∷ rs) (holds held) k ≡ holds held k = rw (eq-eqb k k refl) refl in e))
+    ap (kept_onto (is_listed held k) (k, def_of r)) tail
+    ∙ ap (λ b. cond b ((k, def_of r) ∷ staying u (shape rs)) (staying u (shape rs))) (sym (let e : reached ((k, r) ∷ rs) (is_listed held) k ≡ is_listed held k = rw (eq-eqb k k refl) refl in e))
 
 kept_both : (f : ℕ → List ℤ) (b : Bool) (k : ℕ) (d e : ArrayDef) (x y : World) → x ≡ with_elements f y → ((z : World) → (k, d) ∷ with_elements f z ≡ with_elements f ((k, e) ∷ z)) → kept_onto b (k, d) x ≡ with_elements f (kept_onto b (k, e) y)
 kept_both f true k d e x y h c = ap (λ z. (k, d) ∷ z) h ∙ c y
@@ -131,5 +131,5 @@ kept_both f false k d e x y h c = h
 -- a sweep doesn't look at elements
 pub sweep_with : (f : ℕ → List ℤ) (w : World) (held : List ℕ) → sweep (with_elements f w) held ≡ with_elements f (sweep w held)
 sweep_with f [] held = refl
-sweep_with f ((k, root ty ds es) ∷ w) held = kept_both f (holds held k) k (root ty ds (f k)) (root ty ds es) _ _ (sweep_with f w (cond (holds held k) held held)) (λ z. refl)
-sweep_with f ((k, view p t) ∷ w) held = kept_both f (holds held k) k (view p t) (view p t) _ _ (sweep_with f w (cond (holds held k) (p ∷ held) held)) (λ z. refl)
+sweep_with f ((k, root ty ds es) ∷ w) held = kept_both f (is_listed held k) k (root ty ds (f k)) (root ty ds es) _ _ (sweep_with f w (cond (is_listed held k) held held)) (λ z. refl)
+sweep_with f ((k, view p t) ∷ w) held = kept_both f (is_listed held k) k (view p t) (view p t) _ _ (sweep_with f w (cond (is_listed held k) (p ∷ held) held)) (λ z. refl)

@@ -7,7 +7,7 @@ use Rattle.pdl_shape.specs.Places.{write}
 use Rattle.pdl_nodes.specs.Assigned.{entry, seen_at}
 use Rattle.pdl_nodes.specs.Changes.{kept_in}
 use Rattle.pdl_nodes.specs.Marked.{AreListed}
-use Rattle.pdl_nodes.specs.Numbered.{value_at}
+use Rattle.pdl_registry.specs.Numbered.{value_at}
 use Rattle.pdl_nodes.specs.Placed.{goes_by, placed}
 use Rattle.pdl_nodes.specs.Put.{IsWrite, goal_at, places_at, put_at}
 use Rattle.pdl_nodes.specs.Row.{Row, goal_of, is_buffered, shown_of}

@@ -1,7 +1,7 @@
 -- What the calls do to each row. The choice stands in the field, so that all else of a row is seen
 -- to stay.
 use Rattle.std.specs.Prelude.{ℕ, ℤ, ◌==◌, ◌&&◌, not, if◌then◌else◌, Bool, true, false, List, [], Option, Some, None}
-use Rattle.pdl_world.specs.Swept.{holds}
+use Rattle.pdl_world.specs.Swept.{is_listed}
 use Rattle.pdl_nodes.specs.Row.{Row}
 
 -- b keeps these elements
@@ -48,4 +48,4 @@ mark_in rt b k r =
 -- of the family of rt none of these but b is marked
 abbrev pub unmark_in : List ℕ → (rt b : ℕ) → ℕ → Row → Row
 unmark_in vs rt b k r =
-    record r { mark = (if not (k == b) && (holds vs k && (r.root == rt)) then false else r.mark) }
+    record r { mark = (if not (k == b) && (is_listed vs k && (r.root == rt)) then false else r.mark) }

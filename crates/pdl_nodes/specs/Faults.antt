@@ -41,7 +41,7 @@ abbrev pub NamesReason : Option NoView → Option NoView → Type 0
 NamesReason None there = Unit {0}
 NamesReason (Some reason) there = there ≡ Some reason
 
--- the fault names why there is no view; want of memory names nothing
+-- the fault names why there is no view; `NoMemory` names nothing
 abbrev pub Names : ViewFault → Option NoView → Type 0
 Names fault there = NamesReason (reason_of fault) there
 

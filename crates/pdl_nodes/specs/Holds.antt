@@ -1,7 +1,7 @@
 -- How often each number is held.
 use Rattle.std.specs.Prelude.{◌≡◌, ℕ, ◌+◌, ◌-◌, ◌==◌, ◌&&◌, nat_lt, Bool, false, List, Option, Some, None, is_some}
 use Rattle.pdl_nodes.specs.declared.holds.Hold.{Hold}
-use Rattle.pdl_nodes.specs.Numbered.{value_at}
+use Rattle.pdl_registry.specs.Numbered.{value_at}
 use Rattle.pdl_nodes.specs.Rows.{Rows, has}
 
 abbrev pub Counts : Type 0

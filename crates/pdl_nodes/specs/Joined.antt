@@ -5,7 +5,8 @@ use Rattle.pdl_shape.specs.Shape.{size_of, IsDims}
 use Rattle.pdl_world.specs.World.{ArrayDef, root, view}
 use Rattle.pdl_nodes.specs.declared.origin.Origin.{Origin}
 use Rattle.pdl_nodes.specs.declared.origin.Origin.TheVariants.{Root, View}
-use Rattle.pdl_nodes.specs.Row.{Row}
+use Rattle.pdl_nodes.specs.Row.{Row, shown_of}
+use Rattle.pdl_nodes.specs.declared.node.Shown.{Shown}
 use Rattle.pdl_nodes.specs.Rows.{Rows, NumbersBelow}
 use Rattle.pdl_nodes.specs.Still.{StillFrom, IsDerived, base_over, triple_over}
 use Rattle.pdl_shape.specs.Refusals.{Refusal}
@@ -53,21 +54,6 @@ abbrev pub dims_or : Result (List ℕ) Refusal → List ℕ
 dims_or (Ok ds) = ds
 dims_or (Err e) = []
 
--- the row of a view k of p, of which a is kept: it keeps nothing yet
-abbrev pub view_row : (k p : ℕ) → Trans → Layout → (a : Row) → Row
-view_row k p t y a = record {
-  origin = View p t y;
-  ty = a.ty;
-  root = a.root;
-  base = base_over k a.base (over t a.triple);
-  triple = triple_over (dims_or (child_dims t a.triple.dims)) (over t a.triple);
-  kept = [];
-  mark = false;
-  repeats = false;
-  places = None;
-  waiting = None;
-}
-
 -- the triple by which a view is shown over the base that this triple shows its parent over
 abbrev pub over_from : Origin → (above : Triple) → Option Triple
 over_from Root above = None
@@ -77,6 +63,25 @@ over_from (View p t y) above = over t above
 abbrev pub dims_from : Origin → (parent : List ℕ) → List ℕ
 dims_from Root parent = []
 dims_from (View p t y) parent = dims_or (child_dims t parent)
+
+-- the row of a view k of this origin and type whose parent stands so: it keeps nothing yet
+abbrev pub shown_row : (k : ℕ) → Origin → Ty → (above : Shown) → Row
+shown_row k o ty a = record {
+  origin = o;
+  ty = ty;
+  root = a.root;
+  base = base_over k a.base (over_from o a.triple);
+  triple = triple_over (dims_from o a.triple.dims) (over_from o a.triple);
+  kept = [];
+  mark = false;
+  repeats = false;
+  places = None;
+  waiting = None;
+}
+
+-- the row of a view k of p, of which a is kept
+abbrev pub view_row : (k p : ℕ) → Trans → Layout → (a : Row) → Row
+view_row k p t y a = shown_row k (View p t y) a.ty (shown_of p a)
 
 -- a view of this origin is laid over a parent of these dimensions
 abbrev pub LaidOver : Origin → (parent : List ℕ) → Type 0

@@ -11,13 +11,13 @@ use Rattle.pdl_nodes.specs.Rows.{Rows, has, reached, row_at, without}
 use Rattle.pdl_nodes.specs.Staying.{staying, stays_from}
 use Rattle.pdl_nodes.specs.Still.{IsStill}
 use Rattle.pdl_nodes.specs.Worlds.{world_of}
-use Rattle.pdl_world.specs.Swept.{holds, sweep}
+use Rattle.pdl_world.specs.Swept.{is_listed, sweep}
 
 pub record LeavingLaws : Type 0 where
   -- the sweep of the world leaves of it what the held arrays reach
   pub sweep_stays :
       (rs : Rows) (held : List ℕ) → IsStill rs
-      → sweep (world_of rs) held ≡ staying (reached rs (holds held)) (world_of rs)
+      → sweep (world_of rs) held ≡ staying (reached rs (is_listed held)) (world_of rs)
   -- what waits stays where its view does
   pub stays_all :
       (t : ℕ → Bool) (o : Option ℕ) → ((v : ℕ) → o ≡ Some v → t v ≡ true) → o ≡ stays_from t o
@@ -32,7 +32,7 @@ pub record LeavingLaws : Type 0 where
   pub none_goes :
       (t0 table : Rows) (hs : Counts) (starts : List ℕ) → InOrder t0 → IsReady t0 table
       → ComesFrom starts t0 hs
-      → ((u : ℕ) → holds starts u ≡ true → going_at table (stands hs) (row_at t0 u).root ≡ None)
+      → ((u : ℕ) → is_listed starts u ≡ true → going_at table (stands hs) (row_at t0 u).root ≡ None)
       → (r : ℕ) → has table r ≡ true → going_at table (stands hs) r ≡ None
   -- what goes of the families of roots that stay is what waits there and doesn't stay
   pub is_going :
@@ -75,15 +75,15 @@ pub record LeavingLaws : Type 0 where
       → GoesAlone rs gs id → GoingIsSettled rs mid gs → new ≡ without id mid
       → IsLetGo rs (count gs) new gs
   -- of starts, those of a list and one that comes after them, the last is one
-  pub under_first : (id : ℕ) (xs : List ℕ) → holds (id ∷ xs) id ≡ true
+  pub under_first : (id : ℕ) (xs : List ℕ) → is_listed (id ∷ xs) id ≡ true
   -- each of the list is one
   pub under_listed :
-      (xs : List ℕ) (n d id : ℕ) → n < length xs → holds (id ∷ xs) (get_or xs n d) ≡ true
+      (xs : List ℕ) (n d id : ℕ) → n < length xs → is_listed (id ∷ xs) (get_or xs n d) ≡ true
   -- from a place of the list on those are left that stand there and after it
   pub under_next :
       (xs : List ℕ) (n d id v : ℕ) → n < length xs
-      → holds (id ∷ drop n xs) v ≡ (((get_or xs n d) == v) || holds (id ∷ drop (n + 1) xs) v)
+      → is_listed (id ∷ drop n xs) v ≡ (((get_or xs n d) == v) || is_listed (id ∷ drop (n + 1) xs) v)
   -- and after the list the last alone
   pub under_end :
       (xs : List ℕ) (n id v : ℕ) → length xs ≤ n
-      → holds (id ∷ drop n xs) v ≡ ((id == v) || holds [] v)
+      → is_listed (id ∷ drop n xs) v ≡ ((id == v) || is_listed [] v)

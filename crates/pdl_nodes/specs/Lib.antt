@@ -1,7 +1,6 @@
 pub mod Row
 pub mod Staying
 pub mod Rows
-pub mod Numbered
 pub mod Children
 pub mod Table
 pub mod Holds
@@ -34,6 +33,5 @@ pub mod NumberLaws
 pub mod SeenLaws
 pub mod RowLaws
 pub mod Quiet
-pub mod Parts
 pub mod Put
 pub mod QuietLaws

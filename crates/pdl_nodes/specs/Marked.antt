@@ -3,7 +3,7 @@ use Rattle.std.specs.Prelude.{◌≡◌, ℕ, true, List, [], Option, Some, None
 use Rattle.std.specs.Global.{Global}
 use Rattle.std.specs.Ordering.{nat_cmp}
 use Rattle.std.specs.BTreeMap.{BTreeMap, get}
-use Rattle.pdl_world.specs.Swept.{holds}
+use Rattle.pdl_world.specs.Swept.{is_listed}
 use Rattle.pdl_nodes.specs.declared.marked.Marked.{Marked}
 use Rattle.pdl_nodes.specs.Rows.{Rows, row_at, has}
 
@@ -22,4 +22,4 @@ listed m r = listed_in m.by_root r
 abbrev pub AreListed : Rows → Marked → Type 0
 AreListed rs m =
     (v : ℕ) → has rs v ≡ true → (row_at rs v).mark ≡ true → ((row_at rs v).root ≡ v → ⊥)
-    → has rs (row_at rs v).root ≡ true → holds (listed m (row_at rs v).root) v ≡ true
+    → has rs (row_at rs v).root ≡ true → is_listed (listed m (row_at rs v).root) v ≡ true

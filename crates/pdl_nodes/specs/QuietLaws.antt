@@ -2,7 +2,7 @@
 -- writing back and filling are such changes.
 use Rattle.std.specs.Prelude.{drop, ◌≡◌, ℕ, ℤ, List, true}
 use Rattle.pdl_shape.specs.Places.{write}
-use Rattle.pdl_nodes.specs.Parts.{assign_part}
+use Rattle.pdl_world.specs.Parts.{assign_part}
 use Rattle.pdl_nodes.specs.Alike.{IsAlike}
 use Rattle.pdl_nodes.specs.Families.{InFamily, InOrder}
 use Rattle.pdl_nodes.specs.Quiet.{IsQuiet, IsWithin}

@@ -5,7 +5,7 @@ use Rattle.pdl_world.specs.BreakLaws.{IsBelow}
 use Rattle.pdl_world.specs.Cut.{reshape}
 use Rattle.pdl_world.specs.declared.Trans.{Trans}
 use Rattle.pdl_world.specs.Paths.{path}
-use Rattle.pdl_world.specs.Swept.{holds}
+use Rattle.pdl_world.specs.Swept.{is_listed}
 use Rattle.pdl_world.specs.World.{dims_in}
 use Rattle.pdl_nodes.specs.declared.origin.Layout.{Layout}
 use Rattle.pdl_nodes.specs.declared.origin.Origin.TheVariants.{View}
@@ -18,7 +18,7 @@ use Rattle.pdl_nodes.specs.Worlds.{world_of}
 pub record IsRelaying (ls : Layouts) (rs : Rows) (v : ℕ) (ds : List ℕ) (bound : ℕ) : Type 0 where
   pub done :
       (k p : ℕ) (t : Trans) (y : Layout) → has rs k ≡ true → k < bound
-      → (row_at rs k).origin ≡ View p t y → holds (path (world_of rs) p) v ≡ true
+      → (row_at rs k).origin ≡ View p t y → is_listed (path (world_of rs) p) v ≡ true
       → IsSomeAnd (layout_at ls k) (Fits t (dims_in (reshape (world_of rs) v ds) p))
   pub only :
       (k : ℕ) (x : Layout) → layout_at ls k ≡ Some x

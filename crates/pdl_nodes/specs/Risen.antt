@@ -1,7 +1,7 @@
 -- What goes from arrays up, and what is left then.
 use Rattle.std.specs.Prelude.{◌≡◌, ℕ, ◌+◌, ◌<◌, ◌≤◌, nat_lt, true, false, List, [], ◌∷◌, Option, Some}
 use Rattle.pdl_world.specs.Cut.{has_views}
-use Rattle.pdl_world.specs.Swept.{holds, sweep}
+use Rattle.pdl_world.specs.Swept.{is_listed, sweep}
 use Rattle.pdl_nodes.specs.Children.{children, left}
 use Rattle.pdl_nodes.specs.Going.{IsLeft}
 use Rattle.pdl_nodes.specs.Holds.{Counts, Beside, hold_at, is_held, stands, count, going, with_going}
@@ -15,7 +15,7 @@ use Rattle.pdl_nodes.specs.Worlds.{shape, world_of}
 -- all but those that are listed are held, or have views: none of them can go
 abbrev pub AreTight : (listed : List ℕ) → Rows → Counts → Type 0
 AreTight listed rs hs =
-    (v : ℕ) → has rs v ≡ true → holds listed v ≡ false → is_held hs v ≡ false
+    (v : ℕ) → has rs v ≡ true → is_listed listed v ≡ false → is_held hs v ≡ false
     → has_views (shape rs) v ≡ true
 
 -- of the parent, if there is one, this is done to how many views are noted
@@ -76,7 +76,7 @@ pub record IsParentOfGone (rs : Rows) (hs : Counts) (v : ℕ) : Type 0 where
 -- each that goes, but these, has a view that goes
 abbrev pub ComesFrom : (starts : List ℕ) → Rows → Counts → Type 0
 ComesFrom starts rs hs =
-    (v : ℕ) → has rs v ≡ true → stands hs v ≡ false → holds starts v ≡ false
+    (v : ℕ) → has rs v ≡ true → stands hs v ≡ false → is_listed starts v ≡ false
     → IsParentOfGone rs hs v
 
 -- those that no held array reaches don't stand now, and the others are held as before; each that
@@ -110,7 +110,7 @@ pub record IsFallen (id : ℕ) (old : Rows) (hs : Counts) (new : Rows) (gs : Cou
 -- as before, and none of it can go
 pub record IsLetGo (old : Rows) (counts : ℕ → ℕ) (new : Rows) (gs : Counts) : Type 0 where
   pub swept :
-      (held : List ℕ) → ((v : ℕ) → holds held v ≡ nat_lt 0 (counts v))
+      (held : List ℕ) → ((v : ℕ) → is_listed held v ≡ nat_lt 0 (counts v))
       → Means new (sweep (world_of old) held)
   pub left : IsLeft old new
   pub beside : Beside new gs

@@ -1,7 +1,7 @@
 -- A table as a list of numbers, in rising order, with their keys of a slab.
 use Rattle.std.specs.Prelude.{◌≡◌, ℕ, List, [], ◌∷◌, Option, Some, None}
 use Rattle.slab.specs.Slab.{Slab, get, ContainsKey}
-use Rattle.pdl_nodes.specs.Numbered.{Rises, value_at}
+use Rattle.pdl_registry.specs.Numbered.{Rises, value_at}
 use Rattle.pdl_nodes.specs.Row.{Row}
 use Rattle.pdl_nodes.specs.Rows.{Rows, no_row}
 

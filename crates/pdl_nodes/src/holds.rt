@@ -1,12 +1,12 @@
 //! How often each number is held.
 ghost use Rattle.std.specs.Prelude.{◌≡◌, ◌≢◌, ℕ, ◌+◌, ◌-◌, ◌<◌, ◌^◌, ◌==◌, if◌then◌else◌, [], ◌∷◌, true, false, Some, None, OnOk, OnErr};
 ghost use Rattle.pdl_nodes.specs.Rows.{NumbersBelow, has, row_at};
-ghost use Rattle.pdl_nodes.specs.Numbered.{IsAbove};
+ghost use Rattle.pdl_registry.specs.Numbered.{IsAbove};
 ghost use Rattle.pdl_nodes.specs.Holds.{hold_at, is_held, stands, count, going, with_going, goes_in, less_one, one_more, held_once, Beside};
 
 use crate::node::Node;
-use crate::numbered::Numbered;
 use crate::table::Table;
+use pdl_registry::Numbered;
 use std::alloc::{AllocError, Global};
 use std::marker::Model;
 
@@ -177,7 +177,7 @@ impl Holds {
 }
 
 /// Keeps one more node, held once, under a number that is above all others and that no node has as
-/// its root. A view isn't marked. Want of memory leaves the rows, and the holds of all numbers.
+/// its root. A view isn't marked. Out of memory, it leaves the rows, and the holds of all numbers.
 pub fn insert(table: &mut Table, holds: &mut Holds, id: u64, node: Node) -> Result<(), AllocError>
     requires below { NumbersBelow id table.old }
     requires new_root { (v : ℕ) → has table.old v ≡ true → (row_at table.old v).root ≢ id }

@@ -5,7 +5,6 @@
 
 mod apart;
 mod children;
-mod descending;
 mod faults;
 mod holds;
 mod laws;
@@ -13,7 +12,6 @@ mod layouts;
 mod marked;
 mod moves;
 mod node;
-mod numbered;
 mod origin;
 mod relaid;
 mod renewing;

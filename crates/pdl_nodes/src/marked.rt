@@ -1,13 +1,13 @@
 //! The views of each root that may be marked.
 ghost use Rattle.std.specs.Prelude.{◌≡◌, ◌≢◌, ℕ, true, ◌∷◌, [], OnOk};
-ghost use Rattle.pdl_world.specs.Swept.{holds};
+ghost use Rattle.pdl_world.specs.Swept.{is_listed};
 ghost use Rattle.pdl_nodes.specs.Changes.{unmark_in};
 ghost use Rattle.pdl_nodes.specs.Marked.{listed, listed_in};
 ghost use Rattle.pdl_nodes.specs.Rows.{each};
 ghost use Rattle.pdl_nodes.specs.Table.{rows_of, IsTable};
 
 use crate::node::Node;
-use crate::numbered::Numbered;
+use pdl_registry::Numbered;
 use slab::Slab;
 use std::alloc::{AllocError, Global};
 use std::collections::BTreeMap;
@@ -41,9 +41,9 @@ impl Marked {
 
     /// Lists a view of a root.
     pub fn insert(&mut self, alloc: Global, root: u64, id: u64) -> Result<(), AllocError>
-        ensures listed { OnOk result (holds (listed self.new root) id ≡ true) }
-        ensures stay { (r v : ℕ) → holds (listed self.old r) v ≡ true
-            → holds (listed self.new r) v ≡ true }
+        ensures listed { OnOk result (is_listed (listed self.new root) id ≡ true) }
+        ensures stay { (r v : ℕ) → is_listed (listed self.old r) v ≡ true
+            → is_listed (listed self.new r) v ≡ true }
     {
         let place = list(&mut self.by_root, alloc, root, id)?;
         self.places.insert(id, place)?;
@@ -52,8 +52,8 @@ impl Marked {
 
     /// Of a root's views this one alone stays listed, if it is.
     pub fn keep(&mut self, root: u64, id: u64)
-        ensures kept { holds (listed self.old root) id ≡ true
-            → holds (listed self.new root) id ≡ true }
+        ensures kept { is_listed (listed self.old root) id ≡ true
+            → is_listed (listed self.new root) id ≡ true }
         ensures others { (r : ℕ) → r ≢ root → listed self.new r ≡ listed self.old r }
     {
         match self.by_root.get_mut(&root) {
@@ -68,8 +68,8 @@ impl Marked {
 
     /// Forgets a number of the family of a root, be it the root or a view. It goes over no list.
     pub fn forget(&mut self, root: u64, id: u64)
-        ensures stay { (r v : ℕ) → r ≢ id → v ≢ id → holds (listed self.old r) v ≡ true
-            → holds (listed self.new r) v ≡ true }
+        ensures stay { (r v : ℕ) → r ≢ id → v ≢ id → is_listed (listed self.old r) v ≡ true
+            → is_listed (listed self.new r) v ≡ true }
     {
         let place = self.places.remove(&id);
         if root == id {
@@ -90,9 +90,9 @@ fn list(
     root: u64,
     id: u64,
 ) -> Result<usize, AllocError>
-    ensures listed { OnOk result (holds (listed_in by_root.new root) id ≡ true) }
-    ensures stay { (r v : ℕ) → holds (listed_in by_root.old r) v ≡ true
-        → holds (listed_in by_root.new r) v ≡ true }
+    ensures listed { OnOk result (is_listed (listed_in by_root.new root) id ≡ true) }
+    ensures stay { (r v : ℕ) → is_listed (listed_in by_root.old r) v ≡ true
+        → is_listed (listed_in by_root.new r) v ≡ true }
 {
     match by_root.get_mut(&root) {
         Some(views) => {
@@ -130,7 +130,7 @@ fn note_place(places: &mut BTreeMap<u64, usize>, id: u64, at: usize) {
 
 /// Takes a view out of a list, if it stands at this place: the last moves there.
 fn take_out(views: &mut Vec<u64>, places: &mut BTreeMap<u64, usize>, id: u64, place: Option<usize>)
-    ensures { (v : ℕ) → v ≢ id → holds views.old.items v ≡ true → holds views.new.items v ≡ true }
+    ensures { (v : ℕ) → v ≢ id → is_listed views.old.items v ≡ true → is_listed views.new.items v ≡ true }
 {
     let Some(at) = place else {
         return;
@@ -149,7 +149,7 @@ fn take_out(views: &mut Vec<u64>, places: &mut BTreeMap<u64, usize>, id: u64, pl
 
 /// Leaves this number alone in a list, if it is there.
 fn keep_one(views: &mut Vec<u64>, id: u64)
-    ensures { holds views.old.items id ≡ true → holds views.new.items id ≡ true }
+    ensures { is_listed views.old.items id ≡ true → is_listed views.new.items id ≡ true }
 {
     views.retain(|view| *view == id);
 }

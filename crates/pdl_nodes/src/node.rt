@@ -5,8 +5,10 @@ ghost use Rattle.pdl_elem.specs.Types.{InRange};
 ghost use Rattle.pdl_shape.specs.Places.{write};
 ghost use Rattle.pdl_shape.specs.Shape.{size_of};
 ghost use Rattle.pdl_nodes.specs.Row.{goal_of, parent_of, is_buffered, shown_of};
+ghost use Rattle.pdl_nodes.specs.Assigned.{seen};
 ghost use Rattle.pdl_nodes.specs.Changes.{or_known};
-ghost use Rattle.pdl_nodes.specs.Placed.{goes_by, in_order};
+ghost use Rattle.pdl_nodes.specs.Placed.{goes_by, in_order, placed_by};
+ghost use Rattle.pdl_nodes.specs.Spots.{spots};
 
 use crate::moves::{InOrder, OverBase, ThroughBase};
 use crate::origin::Origin;
@@ -284,42 +286,70 @@ impl Node {
         } }
         ensures counted { steps.new ≡ steps.old + length values.now }
     {
-        let _count = elements_of(&triple.dims);
-        let placement = Placement::of(triple);
         match goal {
-            Goal::Root => self.put_by(
-                &OverBase {
-                    placement,
-                    known,
-                    first,
-                },
-                values,
-                steps,
-            ),
+            Goal::Root => self.put_over(known, triple, first, values, steps),
             Goal::Base => match known {
-                None => self.put_by(
-                    &OverBase {
-                        placement,
-                        known,
-                        first,
-                    },
-                    values,
-                    steps,
-                ),
+                None => self.put_over(known, triple, first, values, steps),
                 Some(places) => {
                     let places = places.as_slice();
-                    self.put_by(
-                        &ThroughBase {
-                            placement,
-                            places,
-                            first,
-                        },
-                        values,
-                        steps,
-                    )
+                    self.put_through(places, triple, first, values, steps)
                 }
             },
         }
+    }
+
+    /// Puts values for the positions from one on at the root's places that a triple shows over a
+    /// base, of which these are known. It takes a step for each value.
+    fn put_over<L: Ledger>(
+        &mut self,
+        known: &Option<Places>,
+        triple: &Triple,
+        first: u32,
+        values: &[i64],
+        steps: &mut Steps<L>,
+    )
+        requires buffered { is_buffered self.old ≡ true }
+        requires within { first + length values.now ≤ size_of triple.now.dims }
+        requires in_range { All (InRange self.old.ty) values.now }
+        ensures value { self.new ≡ record self.old
+            { kept = write (drop first (placed_by known.now triple.now)) values.now self.old.kept } }
+        ensures counted { steps.new ≡ steps.old + length values.now }
+    {
+        let _count = elements_of(&triple.dims);
+        let placement = Placement::of(triple);
+        let route = OverBase {
+            placement,
+            known,
+            first,
+        };
+        self.put_by(&route, values, steps)
+    }
+
+    /// Puts values for the positions from one on at the places of a base that a triple shows and
+    /// that have one of these places in the root. It takes a step for each value.
+    fn put_through<L: Ledger>(
+        &mut self,
+        places: &[Option<u32>],
+        triple: &Triple,
+        first: u32,
+        values: &[i64],
+        steps: &mut Steps<L>,
+    )
+        requires buffered { is_buffered self.old ≡ true }
+        requires within { first + length values.now ≤ size_of triple.now.dims }
+        requires in_range { All (InRange self.old.ty) values.now }
+        ensures value { let at = map (seen places.now) (spots triple.now) in self.new
+            ≡ record self.old { kept = write (drop first at) values.now self.old.kept } }
+        ensures counted { steps.new ≡ steps.old + length values.now }
+    {
+        let _count = elements_of(&triple.dims);
+        let placement = Placement::of(triple);
+        let route = ThroughBase {
+            placement,
+            places,
+            first,
+        };
+        self.put_by(&route, values, steps)
     }
 
     /// Puts values for the positions from one on into what is kept of an array that is its own

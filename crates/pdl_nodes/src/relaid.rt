@@ -5,7 +5,7 @@ ghost use Rattle.pdl_world.specs.Sound.{IsSound};
 ghost use Rattle.pdl_nodes.specs.declared.relaid.RelayFault.TheVariants.{Breaks};
 ghost use Rattle.pdl_nodes.specs.Relaying.{AreNewDims, IsRelaying};
 ghost use Rattle.pdl_nodes.specs.Renewed.{AreRelaid, layout_at};
-ghost use Rattle.pdl_nodes.specs.Rows.{NumbersBelow, has};
+ghost use Rattle.pdl_nodes.specs.Rows.{NumbersBelow, has, row_at};
 ghost use Rattle.pdl_nodes.specs.Still.{IsStill};
 ghost use Rattle.pdl_nodes.specs.Worlds.{world_of};
 
@@ -139,13 +139,42 @@ impl Table {
             (λ f. f ≡ Breaks → breaks (world_of self.now) id dims.now ≡ true) }
     {
         breaking_laws();
+        let root = self.node(id).root();
         let mut layouts = Relaid::new(alloc);
         let mut next = self.from(id + 1);
         while let Some(newer) = next {
-            self.relay(alloc, id, dims, &mut layouts, newer)?;
+            self.relay_in(alloc, root, id, dims, &mut layouts, newer)?;
             next = self.from(newer + 1);
         }
         Ok(layouts)
+    }
+
+    /// Makes the layout of an array of the family of this root anew, if it is below the array of other
+    /// dimensions. In another family there is nothing to make.
+    fn relay_in(
+        &self,
+        alloc: Global,
+        root: u64,
+        id: u64,
+        dims: &Dims,
+        layouts: &mut Relaid,
+        newer: u64,
+    ) -> Result<(), RelayFault>
+        requires still { IsStill self.now }
+        requires sound { IsSound (world_of self.now) }
+        requires top { has self.now id ≡ true }
+        requires family { root ≡ (row_at self.now id).root }
+        requires live { has self.now newer ≡ true }
+        requires newer { id < newer }
+        requires before { IsRelaying layouts.old self.now id dims.now newer }
+        ensures after { OnOk result (IsRelaying layouts.new self.now id dims.now (newer + 1)) }
+        ensures breaks { IfErr result
+            (λ f. f ≡ Breaks → breaks (world_of self.now) id dims.now ≡ true) }
+    {
+        if self.node(newer).root() != root {
+            return Ok(());
+        }
+        self.relay(alloc, id, dims, layouts, newer)
     }
 
     /// Makes the layout of a view anew whose parent is the array of other dimensions, or below it.

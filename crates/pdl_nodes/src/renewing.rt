@@ -1,7 +1,7 @@
 //! What becomes of one node where an array of its family becomes a root.
 ghost use Rattle.std.specs.Prelude.{◌≡◌, is_some, true};
-ghost use Rattle.pdl_nodes.specs.Joined.{LaidOver};
-ghost use Rattle.pdl_nodes.specs.Renewed.{shown_row, with_layout};
+ghost use Rattle.pdl_nodes.specs.Joined.{LaidOver, shown_row};
+ghost use Rattle.pdl_nodes.specs.Renewed.{with_layout};
 ghost use Rattle.pdl_nodes.specs.Row.{parent_of, root_row};
 
 use crate::apart::Apart;

@@ -6,7 +6,7 @@ ghost use Rattle.pdl_shape.specs.Shape.{size_of};
 ghost use Rattle.pdl_world.specs.Cut.{has_views};
 ghost use Rattle.pdl_nodes.specs.Children.{children, noted, one_of};
 ghost use Rattle.pdl_nodes.specs.Marked.{AreListed};
-ghost use Rattle.pdl_nodes.specs.Numbered.{IsAbove, IsPut, Rises, value_at};
+ghost use Rattle.pdl_registry.specs.Numbered.{IsAbove, IsPut, Rises, value_at};
 ghost use Rattle.pdl_nodes.specs.Table.{IsTable, rows_of};
 ghost use Rattle.pdl_nodes.specs.Rows.{NumbersBelow, row_at, has, each, from, without};
 ghost use Rattle.pdl_nodes.specs.Row.{is_buffered, parent_of, shown_of};
@@ -21,11 +21,11 @@ ghost use Rattle.pdl_nodes.specs.declared.node.Goal.TheVariants.{Root};
 use crate::children::Children;
 use crate::marked::{Marked, unmark, unmark_one};
 use crate::node::{Goal, Lifted, Node, Shown};
-use crate::numbered::Numbered;
 use crate::relaid::Relaid;
 use pdl_affine::{view_laws, window_laws};
 use pdl_buf::{Buf, Steps};
 use pdl_choice::Places;
+use pdl_registry::Numbered;
 use pdl_shape::{Dims, shape_laws, triple_laws};
 use slab::Slab;
 use std::alloc::{AllocError, Global};
@@ -180,7 +180,7 @@ impl Table {
     }
 
     /// Keeps one more node, under a number that is above all others and that no node has as its
-    /// root. A view isn't marked. Want of memory changes nothing.
+    /// root. A view isn't marked. Out of memory, it changes nothing.
     pub fn insert(&mut self, id: u64, node: Node) -> Result<(), AllocError>
         requires below { NumbersBelow id self.old }
         requires new_root { (v : ℕ) → has self.old v ≡ true → (row_at self.old v).root ≢ id }
@@ -290,7 +290,7 @@ impl Table {
     }
 
     /// Keeps these elements in a node, which is marked then, and notes whether two of its positions
-    /// have one place. Places that were found now are known from now on. Want of memory changes
+    /// have one place. Places that were found now are known from now on. Out of memory, it changes
     /// nothing.
     pub fn fill(
         &mut self,

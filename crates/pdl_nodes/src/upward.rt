@@ -7,7 +7,7 @@ ghost use Rattle.pdl_nodes.specs.Risen.{AreMarked, AreNoted, GoesAlone, IsFallen
 ghost use Rattle.pdl_nodes.specs.Row.{parent_of};
 ghost use Rattle.pdl_nodes.specs.Rows.{Falls, has, row_at};
 ghost use Rattle.pdl_nodes.specs.Still.{IsStill};
-ghost use Rattle.pdl_world.specs.Swept.{holds as is_listed};
+ghost use Rattle.pdl_world.specs.Swept.{is_listed};
 ghost use Rattle.pdl_nodes.specs.Staying.{staying};
 
 use crate::holds::Holds;

@@ -4,3 +4,4 @@ pub mod Parts
 pub mod Results
 pub mod Fitting
 pub mod Coordinates
+pub mod Cuts

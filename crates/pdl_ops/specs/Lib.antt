@@ -3,3 +3,4 @@ pub mod Changes
 pub mod Elementwise
 pub mod Fills
 pub mod Values
+pub mod Parts

@@ -9,12 +9,14 @@ mod blocks;
 mod changes;
 mod filling;
 mod fills;
+mod in_parts;
 mod operands;
 mod values;
 
 pub use arrays::{convert, elementwise, unary_each};
 pub use filling::fill;
 pub use fills::Fill;
+pub use in_parts::{first_divisor, stretches, value_laws, values_part};
 use std::alloc::AllocError;
 pub use values::values_for;
 

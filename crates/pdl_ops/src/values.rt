@@ -17,7 +17,7 @@ use pdl_shape::{dims_list, elements_of, join_dims, shape_laws};
 use std::alloc::Global;
 
 /// Whether sizes fit a target's: each is 1 or the target's, whose missing ones count as 1.
-fn fits(sizes: &[u32], target: &[u32]) -> bool
+pub(crate) fn fits(sizes: &[u32], target: &[u32]) -> bool
     ensures { result ≡ fits sizes.now target.now }
 {
     match (sizes.split_first(), target.split_first()) {

@@ -4,7 +4,7 @@ use Rattle.std.specs.Prelude.{Result, Ok, Err, OnOk, OnErr}
 use Rattle.std.proofs.lemmas.Bool.{eq-eqb, ne_eqb, or_parts}
 use Rattle.std.proofs.lemmas.Bool.Decides.{eqb_tells}
 use Rattle.pdl_world.specs.Paths.{path}
-use Rattle.pdl_world.specs.Swept.{holds}
+use Rattle.pdl_world.specs.Swept.{is_listed}
 use Rattle.pdl_nodes.specs.Changes.{fill_in}
 use Rattle.pdl_nodes.specs.Families.{InOrder}
 use Rattle.pdl_nodes.specs.Known.{AreKnown}
@@ -41,14 +41,14 @@ filled_only (Err x) rs new rt b ks f o i y n = only_by rs new b i.own i.unmarked
 -- an array was filled after others
 only_more : (old mid new : Rows) (v : ℕ) (vs : List ℕ) → FillsOnly vs old mid → FillsOnly (v ∷ []) mid new → FillsOnly (v ∷ vs) old new
 only_more old mid new v vs a b = record {
-  others = λ u h. b.others u (ap (λ x. x || false) (or_parts (eqb v u) (holds vs u) h).0) ∙ a.others u (or_parts (eqb v u) (holds vs u) h).1;
+  others = λ u h. b.others u (ap (λ x. x || false) (or_parts (eqb v u) (is_listed vs u) h).0) ∙ a.others u (or_parts (eqb v u) (is_listed vs u) h).1;
   marked = λ u m. b.marked u (ap (λ (r : Row). r.mark) (a.marked u m) ∙ m) ∙ a.marked u m;
   shown = λ u n. b.shown u (λ e. n (sym (ap (λ (r : Row). r.base) (a.shown u n)) ∙ e)) ∙ a.shown u n;
 }
 
 -- more arrays may change than do
 only_wider : (old new : Rows) (v : ℕ) (vs : List ℕ) → FillsOnly vs old new → FillsOnly (v ∷ vs) old new
-only_wider old new v vs a = record { others = λ u h. a.others u (or_parts (eqb v u) (holds vs u) h).1; marked = a.marked; shown = a.shown }
+only_wider old new v vs a = record { others = λ u h. a.others u (or_parts (eqb v u) (is_listed vs u) h).1; marked = a.marked; shown = a.shown }
 
 -- an array was filled after its path, or the path alone was
 pub only_path : (facts : RowLaws) → (old mid new : Rows) (v p : ℕ) → IsStill old → has old v ≡ true → parent_of (row_at old v) ≡ Some p → FillsOnly (path (shape old) p) old mid → FillsOnly (v ∷ []) mid new → FillsOnly (path (shape old) v) old new

@@ -1,6 +1,6 @@
 -- What is outdated, what it needs to be filled, and what filling leaves.
 use Rattle.std.specs.Prelude.{◌≡◌, ◌≢◌, ℕ, List, true, false, Some, None, Option, is_some}
-use Rattle.pdl_world.specs.Swept.{holds}
+use Rattle.pdl_world.specs.Swept.{is_listed}
 use Rattle.pdl_nodes.specs.Alike.{IsAlike, KeepsMarks, is_fresh_in}
 use Rattle.pdl_nodes.specs.Changes.{or_known}
 use Rattle.pdl_nodes.specs.Families.{InOrder}
@@ -45,6 +45,6 @@ pub record IsFilled (old : Rows) (v : ℕ) (new : Rows) : Type 0 where
 
 -- all rows stay but those of bases among these arrays that weren't marked
 pub record FillsOnly (vs : List ℕ) (old new : Rows) : Type 0 where
-  pub others : (u : ℕ) → holds vs u ≡ false → row_at new u ≡ row_at old u
+  pub others : (u : ℕ) → is_listed vs u ≡ false → row_at new u ≡ row_at old u
   pub marked : (u : ℕ) → (row_at old u).mark ≡ true → row_at new u ≡ row_at old u
   pub shown : (u : ℕ) → (row_at old u).base ≢ u → row_at new u ≡ row_at old u

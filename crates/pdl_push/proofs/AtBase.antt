@@ -7,7 +7,7 @@ use Rattle.pdl_shape.specs.Places.{AllBelow, read, write, element_at}
 use Rattle.pdl_shape.specs.Shape.{size_of}
 use Rattle.pdl_nodes.specs.Assigned.{entry, seen}
 use Rattle.pdl_nodes.specs.Families.{has_repeats, IsMarked, IsWaiting, InFamily, InOrder}
-use Rattle.pdl_nodes.specs.Parts.{assign_part}
+use Rattle.pdl_world.specs.Parts.{assign_part}
 use Rattle.pdl_nodes.specs.Put.{put_at}
 use Rattle.pdl_nodes.specs.Quiet.{IsQuiet, IsWithin}
 use Rattle.pdl_nodes.specs.RowLaws.{RowLaws}

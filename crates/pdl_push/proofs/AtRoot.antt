@@ -9,7 +9,7 @@ use Rattle.pdl_nodes.specs.Alike.{KeepsMarks}
 use Rattle.pdl_nodes.specs.Families.{has_repeats, IsMarked, IsWaiting, InFamily, InOrder}
 use Rattle.pdl_nodes.specs.Known.{AreKnown}
 use Rattle.pdl_nodes.specs.Outcomes.{IsReady}
-use Rattle.pdl_nodes.specs.Parts.{assign_part}
+use Rattle.pdl_world.specs.Parts.{assign_part}
 use Rattle.pdl_nodes.specs.Quiet.{IsQuiet, IsWithin}
 use Rattle.pdl_nodes.specs.RowLaws.{RowLaws}
 use Rattle.pdl_nodes.specs.Rows.{Rows, row_at, has, each}

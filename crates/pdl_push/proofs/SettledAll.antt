@@ -2,7 +2,7 @@
 use Rattle.std.proofs.Common.{◌≡◌, ℕ, ◌+◌, ◌||◌, Bool, true, false, eqb, cond, List, [], ◌∷◌, Option, Some, None, inl, inr, refl, sym, ◌∙◌, ap, subst, arith}
 use Rattle.std.proofs.lemmas.Bool.{cases_Bool, cases_eq}
 use Rattle.std.proofs.lemmas.Bool.Decides.{eqb_tells}
-use Rattle.pdl_world.specs.Swept.{holds}
+use Rattle.pdl_world.specs.Swept.{is_listed}
 use Rattle.pdl_nodes.specs.Alike.{numbers}
 use Rattle.pdl_nodes.specs.Families.{InOrder}
 use Rattle.pdl_nodes.specs.Going.{going_at, going_size, going_sum, LeavesWaiting}
@@ -29,7 +29,7 @@ pub record IsSettling (t : ℕ → Bool) (t0 table : Rows) (rest : List ℕ) (lo
   pub kept : IsReady t0 table
   pub sized : AreSized t0 → AreSized table
   pub left : (r : ℕ) → IsRoot t0 r → t r ≡ true → stays_from t (row_at table r).waiting ≡ stays_from t (row_at t0 r).waiting
-  pub done : (u : ℕ) → holds loose u ≡ true → holds rest u ≡ false → going_at table t (row_at t0 u).root ≡ None
+  pub done : (u : ℕ) → is_listed loose u ≡ true → is_listed rest u ≡ false → going_at table t (row_at t0 u).root ≡ None
   pub counted : s + going_sum table t table ≡ s0 + going_sum t0 t t0
 
 -- at first all starts are left
@@ -92,7 +92,7 @@ left_more t t0 table new r q k y i h e = elim (cases_eq q r) [
 ]
 
 -- one start less
-pub settling_more : (facts : RowLaws) → (t : ℕ → Bool) (t0 table new : Rows) (rest less loose : List ℕ) (s0 s m at : ℕ) → IsSettling t t0 table rest loose s0 s → ((v : ℕ) → holds rest v ≡ (eqb at v || holds less v)) → has t0 at ≡ true
+pub settling_more : (facts : RowLaws) → (t : ℕ → Bool) (t0 table new : Rows) (rest less loose : List ℕ) (s0 s m at : ℕ) → IsSettling t t0 table rest loose s0 s → ((v : ℕ) → is_listed rest v ≡ (eqb at v || is_listed less v)) → has t0 at ≡ true
     → IsSettledAt t table new (row_at table at).root → m ≡ s + going_size table t (row_at table at).root → IsSettling t t0 new less loose s0 m
 settling_more facts t t0 table new rest less loose s0 s m at c e h y n = record {
   kept = facts.kept.ready_trans t0 table new c.kept y.kept;
@@ -100,7 +100,7 @@ settling_more facts t t0 table new rest less loose s0 s m at c e h y n = record 
   left = λ r i w. left_more t t0 table new (row_at table at).root r c.kept y i w (c.left r i w);
   done = λ u l d. elim (eqb_tells at u) [
     | inl q ↦ ap (going_at new t) (ap (λ x. (row_at t0 x).root) (sym q.1) ∙ sym (c.kept.alike.root_is at)) ∙ y.here
-    | inr q ↦ settled_more t table new (row_at table at).root (row_at t0 u).root y (c.done u l (e u ∙ ap (λ b. b || holds less u) q.0 ∙ d))
+    | inr q ↦ settled_more t table new (row_at table at).root (row_at t0 u).root y (c.done u l (e u ∙ ap (λ b. b || is_listed less u) q.0 ∙ d))
   ];
   counted = (let a : going_sum table t table ≡ going_size table t (row_at table at).root + going_sum new t new = sum_left facts t table new (row_at table at).root c.kept.order y (facts.seen.root_live table (row_at table at).root at c.kept.order.still (c.kept.alike.has_is at ∙ h) refl).0 in
       let b : s + going_sum table t table ≡ s0 + going_sum t0 t t0 = c.counted in omega (arith, a, b, n));
@@ -129,7 +129,7 @@ settled_all facts t0 table hs starts s0 s o f c =
     }
 
 -- the last one: then none is left
-pub settled_last : (facts : RowLaws) → (t0 table new : Rows) (hs : Counts) (rest starts : List ℕ) (s0 s m at : ℕ) → InOrder t0 → ComesFrom starts t0 hs → IsSettling (stands hs) t0 table rest starts s0 s → ((v : ℕ) → holds rest v ≡ (eqb at v || false)) → has t0 at ≡ true
+pub settled_last : (facts : RowLaws) → (t0 table new : Rows) (hs : Counts) (rest starts : List ℕ) (s0 s m at : ℕ) → InOrder t0 → ComesFrom starts t0 hs → IsSettling (stands hs) t0 table rest starts s0 s → ((v : ℕ) → is_listed rest v ≡ (eqb at v || false)) → has t0 at ≡ true
     → IsSettledAt (stands hs) table new (row_at table at).root → m ≡ s + going_size table (stands hs) (row_at table at).root → IsSettledAll (stands hs) t0 new s0 m
 settled_last facts t0 table new hs rest starts s0 s m at o f c e h y n =
     settled_all facts t0 new hs starts s0 m o f (settling_more facts (stands hs) t0 table new rest [] starts s0 s m at c e h y n)

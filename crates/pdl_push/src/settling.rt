@@ -2,7 +2,7 @@
 //! and before the base goes (PDL::Dataflow).
 ghost use Rattle.std.specs.Prelude.{◌≡◌, ◌+◌, true, Some, None, ℕ, ◌<◌, ◌∷◌};
 ghost use Rattle.pdl_shape.specs.Shape.{size_of};
-ghost use Rattle.pdl_world.specs.Swept.{holds as is_listed};
+ghost use Rattle.pdl_world.specs.Swept.{is_listed};
 ghost use Rattle.pdl_nodes.specs.Families.{InOrder};
 ghost use Rattle.pdl_nodes.specs.Going.{going_at, going_size, going_sum, LeavesWaiting};
 ghost use Rattle.pdl_nodes.specs.Holds.{stands};

@@ -12,6 +12,7 @@ use Rattle.pdl_lexemes.specs.declared.WordKind.TheVariants.{View}
 use Rattle.pdl_lexemes.specs.Lexing.{word_of}
 use Rattle.pdl_lexemes.specs.Lists.{type_of}
 use Rattle.pdl_lexemes.specs.Texts.{IsName, IsQuotable, lacks}
+use Rattle.pdl_shape.specs.Shape.{extent_limit}
 use Rattle.pdl_slices.specs.Written.{slice_text}
 use Rattle.pdl_syntax.specs.Tree.{Tree, Args, number, named, literal, unary, binary, call, none, value, text, of_type}
 use Rattle.pdl_syntax.specs.StatementTree.{StatementTree, bind, assign, pp_def, undef}
@@ -67,7 +68,7 @@ Fits n = nat_abs n ≤ 9223372036854775807
 
 abbrev pub AllSmall : List ℕ → Type 0
 AllSmall [] = Unit {0}
-AllSmall (d ∷ ds) = (d ≤ 1048576) × AllSmall ds
+AllSmall (d ∷ ds) = (d ≤ extent_limit) × AllSmall ds
 
 abbrev pub AllFit : List ℤ → Type 0
 AllFit [] = Unit {0}
@@ -87,8 +88,8 @@ IsCall (ranged index sizes edge) = IsName index × AllFit sizes × (edge ≤ 3)
 abbrev pub IsLine : Line → Type 0
 IsLine (kernel_line name signature code) = IsQuotable name × IsQuotable signature × IsQuotable code
 IsLine (root_line x ty ds) = IsName x × AllSmall ds
-IsLine (piece_line x first last n ns) = IsName x × (first ≤ 1048576) × (last ≤ 1048576) × AllFit (n ∷ ns)
-IsLine (least_line x p) = IsName x × (p ≤ 1048576)
+IsLine (piece_line x first last n ns) = IsName x × (first ≤ extent_limit) × (last ≤ extent_limit) × AllFit (n ∷ ns)
+IsLine (least_line x p) = IsName x × (p ≤ extent_limit)
 IsLine (view_line x y c) = IsName x × IsName y × IsCall c
 IsLine (same_line x y) = IsName x × IsName y
 IsLine (undef_line x) = IsName x

@@ -10,7 +10,7 @@ use Rattle.pdl_world.specs.CutLaws.{HasSameNumbers}
 use Rattle.pdl_world.specs.KeepingLaws.{MoreKeepAll, ParentsAreLive}
 use Rattle.pdl_world.specs.Paths.{parent_in}
 use Rattle.pdl_world.specs.Sound.{NumbersBelow, IsSound, IsLive}
-use Rattle.pdl_world.specs.Swept.{holds, KeepsAll}
+use Rattle.pdl_world.specs.Swept.{is_listed, KeepsAll}
 use Rattle.pdl_world.specs.World.{World}
 use Rattle.pdl_engine.specs.HoldLaws.{OneMoreCounts}
 use Rattle.pdl_engine.specs.Held.{AllHaveHolds, count_at, one_more_at, holders}
@@ -31,7 +31,7 @@ use Rattle.pdl_scope.proofs.Held.{numbers, held_by, times_more, held_times, both
 -- after a change that keeps all
 pub held_changed : (names : Names) (ws : Watches) (e t : Engine) (leaving : List ℕ) → IsHeld (state_in names ws e) e.holds leaving → HasSameNumbers e.world t.world → IsSound t.world → t.holds ≡ e.holds → t.next ≡ e.next
     → KeepsAll t.world (held_by names ws ++ leaving) → IsHeld (state_in names ws t) t.holds leaving
-held_changed names ws e t leaving h same sound holds next keeps = record {
+held_changed names ws e t leaving h same sound holding next keeps = record {
   whole = record {
     sound = sound;
     below = subst (λ n. NumbersBelow n t.world) (sym next) (same.below e.next h.whole.below);
@@ -39,16 +39,16 @@ held_changed names ws e t leaving h same sound holds next keeps = record {
   };
   few = h.few;
   slots = h.slots;
-  counts = λ v. (ap (λ hs. count_at hs v) holds ∙ h.counts v);
+  counts = λ v. (ap (λ hs. count_at hs v) holding ∙ h.counts v);
   reached = keeps;
 }
 
 -- so also where the change is refused
 pub held_after : {T E : Type 0} (r : Result T E) (names : Names) (ws : Watches) (e t : Engine) (new : World) (leaving : List ℕ) → IsHeld (state_in names ws e) e.holds leaving → HasSameNumbers e.world new → KeepsAll new (held_by names ws ++ leaving)
     → OnOk r (t.world ≡ new) → OnErr r (t.world ≡ e.world) → t.holds ≡ e.holds → t.next ≡ e.next → IsSound t.world → IsHeld (state_in names ws t) t.holds leaving
-held_after (Ok u) names ws e t new leaving h same keeps done kept holds next sound =
-    held_changed names ws e t leaving h (subst (HasSameNumbers e.world) (sym done) same) sound holds next (let P : World → Type 0 = λ w. KeepsAll w (held_by names ws ++ leaving) in subst P (sym done) keeps)
-held_after (Err f) names ws e t new leaving h same keeps done kept holds next sound = held_readied names ws e t leaving (record { world = kept; holds = holds; next = next }) h
+held_after (Ok u) names ws e t new leaving h same keeps done kept holding next sound =
+    held_changed names ws e t leaving h (subst (HasSameNumbers e.world) (sym done) same) sound holding next (let P : World → Type 0 = λ w. KeepsAll w (held_by names ws ++ leaving) in subst P (sym done) keeps)
+held_after (Err f) names ws e t new leaving h same keeps done kept holding next sound = held_readied names ws e t leaving (record { world = kept; holds = holding; next = next }) h
 
 -- other dimensions, which keep all numbers where nothing breaks
 pub held_reshaped : {T E : Type 0} (r : Result T E) → ReshapesLeaveNumbers → (names : Names) (ws : Watches) (e t : Engine) (v : ℕ) (ds leaving : List ℕ) → IsHeld (state_in names ws e) e.holds leaving → OnOk r (breaks e.world v ds ≡ false)
@@ -70,12 +70,12 @@ held_same names after kernels ws e leaving left same kept h =
     subst L (sym kept) (subst N (sym same) h)
 
 -- what leaves is held beside names
-pub noted_held : (names leaving : List ℕ) (o : Option ℕ) → IfSome o (λ p. holds leaving p ≡ true) → IfSome o (λ p. holds (names ++ leaving) p ≡ true)
+pub noted_held : (names leaving : List ℕ) (o : Option ℕ) → IfSome o (λ p. is_listed leaving p ≡ true) → IfSome o (λ p. is_listed (names ++ leaving) p ≡ true)
 noted_held names leaving None h = tt
 noted_held names leaving (Some p) h = both_hold names leaving p (let t = held_times leaving p h in omega arith)
 
 -- the array that is noted stands in the list
-pub noted_last : (leaving : List ℕ) (v : ℕ) → holds (leaving ++ v ∷ []) v ≡ true
+pub noted_last : (leaving : List ℕ) (v : ℕ) → is_listed (leaving ++ v ∷ []) v ≡ true
 noted_last leaving v =
     let self : (v == v) ≡ true = eq-eqb v v refl in
     let one : times (v ∷ []) v ≡ 1 = rw self refl in
@@ -93,7 +93,7 @@ held_noted one_more keeping names ws e v leaving have h live = record {
       (λ u t. both_hold (held_by names ws) (leaving ++ v ∷ []) u (let some = held_by_both (held_by names ws) leaving u t in let m = times_more leaving (v ∷ []) u in omega arith)) h.reached;
 }
   where
-    known : holds (holders e.holds) v ≡ true
+    known : is_listed (holders e.holds) v ≡ true
     known = have v ∙ some_live e.world v live
 
 -- a name's array is given up where the name goes

@@ -10,7 +10,7 @@ use Rattle.pdl_lemmas.specs.Tests.{by_test}
 use Rattle.pdl_world.specs.World.{World, ArrayDef, Look, root, view, look, assign}
 use Rattle.pdl_world.specs.Sound.{NumbersBelow, IsSound, IsLive}
 use Rattle.pdl_world.specs.KeepingLaws.{NewestKeepsAll, MoreKeepAll, AssignsKeepAll}
-use Rattle.pdl_world.specs.Swept.{holds, parents, sweep, held_itself, KeepsAll}
+use Rattle.pdl_world.specs.Swept.{is_listed, parents, sweep, held_itself, KeepsAll}
 use Rattle.pdl_world.specs.SweepLaws.{ReachedAreSeenAsBefore, NoNumberComes}
 use Rattle.pdl_world.specs.Laws.{OlderStay}
 use Rattle.pdl_engine.specs.HoldLaws.{OneMoreCounts, OneLessCounts, StayingCount, CountedAreHeld, HeldAreCounted, OthersDontCount}
@@ -59,24 +59,24 @@ times_few (x ∷ xs) v = by_test (x == v)
     (λ other. rw other (let rest = times_few xs v in omega arith))
 
 -- what stands in a list is held by it
-times_held : (vs : List ℕ) (v : ℕ) → 0 < times vs v → holds vs v ≡ true
+times_held : (vs : List ℕ) (v : ℕ) → 0 < times vs v → is_listed vs v ≡ true
 times_held [] v some = absurd (omega arith)
 times_held (u ∷ vs) v some = by_test (u == v) (λ is. rw is refl) (λ other. let s : 0 < times vs v = (let t = rw other at some in omega arith) in rw other (times_held vs v s))
 
 -- what is in a list is there at least once
-pub held_times : (vs : List ℕ) (v : ℕ) → holds vs v ≡ true → 0 < times vs v
+pub held_times : (vs : List ℕ) (v : ℕ) → is_listed vs v ≡ true → 0 < times vs v
 held_times [] v h = cc
 held_times (u ∷ vs) v h = by_test (u == v) (λ is. rw is (omega arith)) (λ other. rw other (let rest : 0 < times vs v = held_times vs v (rw other at h) in omega arith))
 
 -- two lists together hold what stands in one of them
-pub both_hold : (vs us : List ℕ) (v : ℕ) → 0 < times vs v + times us v → holds (vs ++ us) v ≡ true
+pub both_hold : (vs us : List ℕ) (v : ℕ) → 0 < times vs v + times us v → is_listed (vs ++ us) v ≡ true
 both_hold vs us v some = times_held (vs ++ us) v (let m = times_more vs us v in omega arith)
 
-pub held_by_both : (vs us : List ℕ) (v : ℕ) → holds (vs ++ us) v ≡ true → 0 < times vs v + times us v
+pub held_by_both : (vs us : List ℕ) (v : ℕ) → is_listed (vs ++ us) v ≡ true → 0 < times vs v + times us v
 held_by_both vs us v h = let t = held_times (vs ++ us) v h in let m = times_more vs us v in omega arith
 
 -- what keeps all, and more, keeps all
-more_held : (d : ArrayDef) (many : List ℕ) (v : ℕ) → holds many v ≡ true → holds (parents d ++ many) v ≡ true
+more_held : (d : ArrayDef) (many : List ℕ) (v : ℕ) → is_listed many v ≡ true → is_listed (parents d ++ many) v ≡ true
 more_held (root ty ds es) many v t = t
 more_held (view p u) many v t = by_test (p == v) (λ same. rw same refl) (λ other. rw other t)
 
@@ -119,8 +119,8 @@ all_live w (v ∷ vs) h =
     (h v (rw self (omega arith)), all_live w vs (λ u some. h u (by_test (v == u) (λ is. rw is (omega arith)) (λ other. rw other (omega arith)))))
 
 -- what is counted has holds
-counted_known : OthersDontCount → (hs : List (ℕ × ℕ)) (v : ℕ) → 0 < count_at hs v → holds (holders hs) v ≡ true
-counted_known others hs v some = by_test (holds (holders hs) v) (λ t. t) (λ f. absurd (let none = others hs v f in omega arith))
+counted_known : OthersDontCount → (hs : List (ℕ × ℕ)) (v : ℕ) → 0 < count_at hs v → is_listed (holders hs) v ≡ true
+counted_known others hs v some = by_test (is_listed (holders hs) v) (λ t. t) (λ f. absurd (let none = others hs v f in omega arith))
 
 -- a new array is noted
 pub held_new : OlderStay → OthersDontCount → NewestKeepsAll → MoreKeepAll → (names : Names) (ws : Watches) (e t : Engine) (d : ArrayDef) (id : ℕ) (leaving left : List ℕ) → AllHaveHolds e → IsHeld (state_in names ws e) e.holds leaving → Joins e id d t → IsSound t.world → left ≡ leaving ++ id ∷ []
@@ -140,13 +140,13 @@ held_new older others newest more names ws e t d id leaving left have h j sound 
     after : List ℕ
     after = leaving ++ id ∷ []
 
-    first_held : holds (held_by names ws ++ after) id ≡ true
+    first_held : is_listed (held_by names ws ++ after) id ≡ true
     first_held =
         let self : (id == id) ≡ true = eq-eqb id id refl in
         let one : times (id ∷ []) id ≡ 1 = rw self refl in
         both_hold (held_by names ws) after id (let m = times_more leaving (id ∷ []) id in omega arith)
 
-    still_held : (v : ℕ) → holds (held_by names ws ++ leaving) v ≡ true → holds (parents d ++ (held_by names ws ++ after)) v ≡ true
+    still_held : (v : ℕ) → is_listed (held_by names ws ++ leaving) v ≡ true → is_listed (parents d ++ (held_by names ws ++ after)) v ≡ true
     still_held v t =
         let some = held_by_both (held_by names ws) leaving v t in
         more_held d (held_by names ws ++ after) v (both_hold (held_by names ws) after v (let m = times_more leaving (id ∷ []) v in omega arith))
@@ -224,7 +224,7 @@ let_go_one laws names ws e t v vs have apart h r sound = record {
     counted : (u : ℕ) → count_at less u ≡ times (held_by names ws) u + times vs u
     counted u = let c = laws.less e.holds v u in let b = h.counts u in omega arith
 
-    left_held : (u : ℕ) → holds many u ≡ true → holds (held_by names ws ++ vs) u ≡ true
+    left_held : (u : ℕ) → is_listed many u ≡ true → is_listed (held_by names ws ++ vs) u ≡ true
     left_held u is =
         let A : List ℕ → Type 0 = AreApart in
         let some = laws.counted less u (subst A (sym (holders_less e.holds v)) apart) is in
@@ -250,7 +250,7 @@ let_go_one laws names ws e t v vs have apart h r sound = record {
               | inr none ↦ omega arith
             ]))
 
-    covers : (u : ℕ) → holds (held_by names ws) u ≡ true → holds many u ≡ true
+    covers : (u : ℕ) → is_listed (held_by names ws) u ≡ true → is_listed many u ≡ true
     covers u is = laws.held less u (let n = held_times (held_by names ws) u is in let c = counted u in omega arith)
 
 -- a name's array before is given up where the name gets another
@@ -310,7 +310,7 @@ held_bound one_more keeping names kernels ws e t x v leaving left have h live fe
         subst E (sym handed.0) (held_now e.holds (λ u. omega arith) (λ u. (let l = last u in omega arith)))
     by_way (inr more) =
         let E : Engine → Type 0 = λ y. IsHeld (state_in (names_in (with_name names x v) kernels) ws y) y.holds (left ++ gives_up) in
-        let known : holds (holders e.holds) v ≡ true = have v ∙ some_live e.world v live in
+        let known : is_listed (holders e.holds) v ≡ true = have v ∙ some_live e.world v live in
         subst E (sym more.0) (held_now (one_more_at e.holds v) (λ u. (let c = one_more e.holds v u known in omega arith)) (λ u. (let c = one_more e.holds v u known in let l = ap (λ us. times us u) more.1 in omega arith)))
 
 -- an array that is held for a name is all that differs

@@ -10,3 +10,4 @@ pub mod Held
 pub mod Watched
 pub mod Cuts
 pub mod Bounds
+pub mod Costs

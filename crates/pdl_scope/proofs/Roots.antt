@@ -205,7 +205,7 @@ value_is s mid x m id next =
 pub bound_so : (s mid new : State) (x : List ℕ) (m : Made) (id : ℕ) → IsNext s mid x m id → Prints (bind_value mid x (mid.arrays, id)) new [] [] → new ≡ with_bound mid x id
 bound_so s mid new x m id next h = let P : Stepped → Type 0 = λ r. Prints r new [] [] in (subst P (binds s mid x m id next) h).0
 
--- what can't be refused has no fault but want of memory, which keeps all as it was but for new arrays
+-- what can't be refused has no fault but `NoMemory`, which keeps all as it was but for new arrays
 pub never_refused : {A T : Type 0} (a : A) (wanted : Stepped) (old new : Scope) (r : Result T ScopeFault) (f : ScopeFault) → IsErrAnd r (λ e. e ≡ f) → IsFault (Ok a) f → Grows old new → Runs wanted old new [] [] r
 never_refused a wanted old new (Ok x) f is h g = absurd is
 never_refused {A = A} a wanted old new (Err e) f is h g = (by_fault e f is h, record { grown = g; printed = refl })

@@ -8,7 +8,7 @@ use Rattle.std.proofs.lemmas.List.{length-append, length-replicate, length-set, 
 use Rattle.pdl_lemmas.specs.Tests.{by_test}
 use Rattle.pdl_world.specs.World.{World}
 use Rattle.pdl_world.specs.Sound.{IsLive}
-use Rattle.pdl_world.specs.Swept.{holds}
+use Rattle.pdl_world.specs.Swept.{is_listed}
 use Rattle.pdl_world.specs.KeepingLaws.{MoreKeepAll}
 use Rattle.pdl_engine.specs.HoldLaws.{OneMoreCounts}
 use Rattle.pdl_engine.specs.Held.{AllHaveHolds, count_at, one_more_at, holders}
@@ -148,7 +148,7 @@ held_attached one_more keeping names ws e k v leaving have h live small free =
     (λ is. (let P : ℕ → Type 0 = IsLive e.world in subst P (eqb-true v u is) live))
     (λ other. live_counted e.world (held_by names ws) u h.whole.live (let m = rw other at (more u) in omega arith)))
   where
-    known : holds (holders e.holds) v ≡ true
+    known : is_listed (holders e.holds) v ≡ true
     known = have v ∙ some_live e.world v live
 
     more : (u : ℕ) → times (held_by names (attach ws k v)) u ≡ times (held_by names ws) u + one_if (v == u)

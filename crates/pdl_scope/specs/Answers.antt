@@ -1,4 +1,4 @@
--- What code answers where the machine wants a value: that value or its fault, or want of memory.
+-- What code answers where the machine wants a value: that value or its fault, or `NoMemory`.
 use Rattle.std.specs.Prelude.{◌≡◌, ℕ, List, ◌++◌, Result, Ok, Err}
 use Rattle.pdl_world.specs.Sound.{IsLive}
 use Rattle.pdl_machine.specs.declared.fault.Fault.{Fault}
@@ -9,7 +9,7 @@ use Rattle.pdl_scope.specs.declared.fault.ScopeFault.{ScopeFault}
 use Rattle.pdl_scope.specs.declared.fault.ScopeFault.TheVariants.{Script, NoMemory}
 use Rattle.pdl_scope.specs.Scope.{Scope, machine, Grows}
 
--- a fault of the script is the one that is wanted; want of memory says nothing
+-- a fault of the script is the one that is wanted; `NoMemory` says nothing
 abbrev pub IsFault : {U : Type 0} → Result U Fault → ScopeFault → Type 0
 IsFault wanted (Script e) = wanted ≡ Err e
 IsFault wanted NoMemory = Unit {0}
@@ -38,7 +38,7 @@ pub record IsKept (old new : Scope) (old_out new_out : List ℕ) : Type 0 where
   pub grown : Grows old new
   pub printed : new_out ≡ old_out
 
--- a statement did what is wanted, or its refusal kept all as it was, want of memory too
+-- a statement did what is wanted, or its refusal kept all as it was, out of memory too
 abbrev pub Runs : {T : Type 0} → (wanted : Stepped) → (old new : Scope) → (old_out new_out : List ℕ)
     → Result T ScopeFault → Type 0
 Runs wanted old new old_out new_out (Ok x) = Prints wanted (machine new) old_out new_out

@@ -1,5 +1,5 @@
 -- The faults of the crates below as those of a statement: what a fault names has its name in the
--- machine, and one that names nothing is want of memory.
+-- machine, and one that names nothing is `NoMemory`.
 use Rattle.std.specs.Prelude.{Option, Some, None, option_map}
 use Rattle.pdl_nodes.specs.declared.faults.ViewFault.{ViewFault}
 use Rattle.pdl_nodes.specs.declared.faults.ViewFault.TheVariants as view
@@ -26,7 +26,7 @@ use Rattle.pdl_machine.specs.declared.fault.Fault.TheVariants.{BadSignature, Bad
 use Rattle.pdl_scope.specs.declared.fault.ScopeFault.{ScopeFault}
 use Rattle.pdl_scope.specs.declared.fault.ScopeFault.TheVariants.{Script, NoMemory}
 
--- the fault of the script, or want of memory where there is none
+-- the fault of the script, or `NoMemory` where there is none
 abbrev pub scope_fault : Option Fault → ScopeFault
 scope_fault None = NoMemory
 scope_fault (Some fault) = Script fault

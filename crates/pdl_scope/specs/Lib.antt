@@ -5,3 +5,4 @@ pub mod Holding
 pub mod Room
 pub mod Growth
 pub mod Assigning
+pub mod Costs

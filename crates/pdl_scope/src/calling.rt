@@ -1,7 +1,8 @@
 //! Calls of kernels (PDL::PP).
-ghost use Rattle.std.specs.Prelude.{◌≡◌, ◌≤◌, true, [], length, map, All, IfOk, OnOk, Ok};
+ghost use Rattle.std.specs.Prelude.{◌≡◌, ◌+◌, ◌≤◌, true, [], length, map, sum_by, All, IfOk, OnOk, Ok};
 ghost use Rattle.std.specs.List.{filter};
 ghost use Rattle.pdl_buf.specs.Made.{IsMade};
+ghost use Rattle.pdl_engine.specs.Reading.{read_steps};
 ghost use Rattle.pdl_engine.specs.State.{is_fresh, SameArrays, StayFresh};
 ghost use Rattle.pdl_sig.specs.Resolution.{is_output, resolution};
 ghost use Rattle.pdl_sig.specs.declared.SigArg.{SigArg};
@@ -22,7 +23,7 @@ use std::alloc::{AllocError, Global};
 use std::sync::ledger::Ledger;
 
 /// What the call of a kernel gives for arrays, of which so many outputs are wanted. They are made
-/// ready to be lent.
+/// ready to be lent, one after another, in at most the steps that it takes to read each of them.
 pub(crate) fn kernel_outputs<L: Ledger>(
     alloc: Global,
     kernel: &Kernel,
@@ -37,6 +38,7 @@ pub(crate) fn kernel_outputs<L: Ledger>(
     ensures made { IfOk result (λ ms. All (λ m. IsMade m.ty m.dims m.elems) ms.items) }
     ensures same { SameArrays engine.old engine.new }
     ensures stay { StayFresh engine.old engine.new }
+    ensures counted { steps.new ≤ steps.old + sum_by (read_steps engine.old) ids.now }
 {
     if outputs_count(kernel_signature(kernel)) != wanted {
         return Err(ScopeFault::Script(Fault::WrongArguments));
@@ -74,6 +76,7 @@ fn ready_all<L: Ledger>(
     ensures same { SameArrays engine.old engine.new }
     ensures stay { StayFresh engine.old engine.new }
     ensures fresh { OnOk result (All (λ v. is_fresh engine.new v ≡ true) ids.now) }
+    ensures counted { steps.new ≤ steps.old + sum_by (read_steps engine.old) ids.now }
 {
     for id in ids {
         ready(engine, *id, steps)?;

@@ -2,7 +2,7 @@
 ghost use Rattle.std.specs.Prelude.{◌≡◌, ℕ, ◌+◌, ◌<◌, ◌≤◌, ◌^◌, [], ◌∷◌, ◌++◌, length, map, true, false, vec_capacity, All, IfSome, IsTrue};
 ghost use Rattle.std.specs.Option.{option_to_list};
 ghost use Rattle.pdl_world.specs.Paths.{parent_in};
-ghost use Rattle.pdl_world.specs.Swept.{holds};
+ghost use Rattle.pdl_world.specs.Swept.{is_listed};
 ghost use Rattle.pdl_world.specs.Sound.{IsLive};
 ghost use Rattle.pdl_engine.specs.Held.{count_at};
 ghost use Rattle.pdl_engine.specs.Reading.{KeepsViews};
@@ -81,7 +81,7 @@ pub(crate) fn hold_parent(engine: &mut Engine, leaving: &mut Vec<ArrayId>, id: A
     requires held { IsHeldBeside engine.old leaving.old.items }
     ensures same { SameButHolds engine.old engine.new }
     ensures parent { let parent = parent_in engine.old.world id in
-        IfSome parent (λ p. holds leaving.new.items p ≡ true) }
+        IfSome parent (λ p. is_listed leaving.new.items p ≡ true) }
     ensures held { StaysHeld engine.old leaving.old.items engine.new leaving.new.items }
     ensures count { length leaving.new.items ≤ length leaving.old.items + 1 }
     ensures room { vec_capacity leaving.old ≤ vec_capacity leaving.new }

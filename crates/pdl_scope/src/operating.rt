@@ -1,11 +1,12 @@
 //! Operators and assignments on the arrays of a scope.
 ghost use Rattle.std.specs.Prelude.{◌≡◌, ◌+◌, ◌≤◌, ◌&&◌, true, [], Ok, IfOk, IfSome, OnOk, is_some};
 ghost use Rattle.pdl_shape.specs.Shape.{size_of};
+ghost use Rattle.pdl_numbers.specs.Typed.{count_moved};
 ghost use Rattle.pdl_buf.specs.Made.{IsMade};
 ghost use Rattle.pdl_ops.specs.Elementwise.{unary_each};
 ghost use Rattle.pdl_world.specs.Sound.{IsLive};
 ghost use Rattle.pdl_world.specs.World.{dims_in, ty_in};
-ghost use Rattle.pdl_engine.specs.Reading.{IsWarm, KeepsViews};
+ghost use Rattle.pdl_engine.specs.Reading.{IsWarm, KeepsViews, read_steps};
 ghost use Rattle.pdl_engine.specs.State.{is_fresh, SameArrays, StayFresh};
 ghost use Rattle.pdl_machine.specs.Arrays.{array_in};
 ghost use Rattle.pdl_machine.specs.Operators.{binary_each, values_for};
@@ -16,6 +17,7 @@ ghost use Rattle.pdl_machine.specs.Then.{and_then};
 ghost use Rattle.pdl_machine.specs.Watches.{attached, notices};
 ghost use Rattle.pdl_watch.specs.Slots.{lists_of};
 ghost use Rattle.pdl_scope.specs.Answers.{Answers, AnswersAs, Evaluates, Runs};
+ghost use Rattle.pdl_scope.specs.Costs.{make_steps};
 ghost use Rattle.pdl_scope.specs.Scope.{engine_of, machine, Grows, arrays_of};
 
 use crate::fault::ScopeFault;
@@ -33,7 +35,8 @@ use std::alloc::Global;
 use std::sync::ledger::Ledger;
 
 impl Scope {
-    /// The new array of an operator of one operand.
+    /// The new array of an operator of one operand. It takes at most the steps that it takes to read
+    /// the operand, and one for each new element that isn't 0.
     pub fn unary<L: Ledger>(
         &mut self,
         op: UnaryOp,
@@ -44,13 +47,17 @@ impl Scope {
         ensures value { let wanted = unary_each op (array_in self.old.arrays id) in
             Evaluates (new_root self.old.arrays wanted) self.new result }
         ensures grown { Grows self.old self.new }
+        ensures counted { let made = unary_each op (array_in self.old.arrays id) in
+            let read = read_steps (engine_of self.old) id in
+            steps.new ≤ steps.old + (read + count_moved made.elems) }
     {
         ready(&mut self.engine, id, steps)?;
         let made = unary_each(self.alloc, op, &self.engine.lend(id))?;
         self.adopt(made, steps)
     }
 
-    /// The new array of an operator of two operands.
+    /// The new array of an operator of two operands. It takes at most the steps that it takes to read
+    /// both, and one for each new element that isn't 0.
     pub fn binary<L: Ledger>(
         &mut self,
         op: BinaryOp,
@@ -64,6 +71,11 @@ impl Scope {
             let wanted = binary_each op (array_in a left) (array_in a right) in
             Evaluates (and_then wanted (new_root a)) self.new result }
         ensures grown { Grows self.old self.new }
+        ensures counted { let a = self.old.arrays in
+            let e = engine_of self.old in
+            let wanted = binary_each op (array_in a left) (array_in a right) in
+            let read = read_steps e left + read_steps e right in
+            steps.new ≤ steps.old + (read + make_steps wanted) }
     {
         ready_two(&mut self.engine, left, right, steps)?;
         match operated(self.alloc, &self.engine, op, left, right) {

@@ -19,8 +19,8 @@ use std::alloc::AllocError;
 use std::sync::ledger::Ledger;
 
 impl Scope {
-    /// Prints an array, which can be lent afterwards, or its info line, which reads no element. A part
-    /// of it may stand in `out` after want of memory.
+    /// Prints an array, which can be lent afterwards, or its info line, which reads no element. A
+    /// part of it may stand in `out` when out of memory.
     pub fn print<L: Ledger>(
         &mut self,
         id: ArrayId,
@@ -56,7 +56,7 @@ impl Scope {
     }
 
     /// Prints a line with each name and the info of its array. A part of them may stand in `out`
-    /// after want of memory.
+    /// when out of memory.
     pub fn print_names(&self, out: &mut Vec<u8>) -> Result<(), AllocError>
         ensures text { let text = flat_map (name_line self.now.arrays) self.now.names.arrays in
             OnOk result (out.new.items ≡ out.old.items ++ text) }

@@ -11,6 +11,7 @@ ghost use Rattle.pdl_machine.specs.Arrays.{array_in};
 ghost use Rattle.pdl_machine.specs.Fills.{only};
 ghost use Rattle.pdl_engine.specs.Reading.{read_steps};
 ghost use Rattle.pdl_engine.specs.State.{is_fresh, SameArrays, StayFresh};
+ghost use Rattle.pdl_scope.specs.Costs.{ReadsNoDearer};
 ghost use Rattle.pdl_scope.specs.Scope.{engine_of, OnlyReads};
 
 use crate::scope::Scope;
@@ -122,7 +123,7 @@ impl Scope {
 }
 
 /// Makes an array one that can be lent. Where it is one already, nothing else is looked at and no
-/// step is taken.
+/// step is taken. No array takes more steps to read afterwards than before.
 pub(crate) fn ready<L: Ledger>(
     engine: &mut Engine,
     id: ArrayId,
@@ -132,6 +133,7 @@ pub(crate) fn ready<L: Ledger>(
     ensures same { SameArrays engine.old engine.new }
     ensures stay { StayFresh engine.old engine.new }
     ensures itself { OnOk result (is_fresh engine.new id ≡ true) }
+    ensures costs { ReadsNoDearer engine.old engine.new }
     ensures counted { steps.new ≤ steps.old + read_steps engine.old id }
 {
     if engine.is_fresh(id) {
@@ -153,6 +155,8 @@ pub(crate) fn ready_two<L: Ledger>(
     ensures stay { StayFresh engine.old engine.new }
     ensures left_fresh { OnOk result (is_fresh engine.new left ≡ true) }
     ensures right_fresh { OnOk result (is_fresh engine.new right ≡ true) }
+    ensures counted { let e = engine.old in
+        steps.new ≤ steps.old + (read_steps e left + read_steps e right) }
 {
     ready(engine, left, steps)?;
     ready(engine, right, steps)

@@ -1,5 +1,6 @@
-//! Reductions of an array, and products of two.
-ghost use Rattle.std.specs.Prelude.{◌≡◌, IfOk, Result};
+//! Reductions of an array, and products of two. They take the steps that it takes to read what they
+//! are of, and no more.
+ghost use Rattle.std.specs.Prelude.{◌≡◌, ◌+◌, ◌≤◌, IfOk, Result};
 ghost use Rattle.pdl_buf.specs.Made.{IsMade};
 ghost use Rattle.pdl_buf.specs.declared.made.Made.{Made};
 ghost use Rattle.pdl_reduce.specs.Answers as reduce;
@@ -7,10 +8,11 @@ ghost use Rattle.pdl_reduce.specs.Refusals.{ReduceRefusal};
 ghost use Rattle.pdl_reduce.specs.Reductions.{reduced, whole_reduced};
 ghost use Rattle.pdl_reduce.specs.Pairings.{paired};
 ghost use Rattle.pdl_world.specs.Sound.{IsLive};
+ghost use Rattle.pdl_engine.specs.Reading.{read_steps};
 ghost use Rattle.pdl_machine.specs.Arrays.{array_in};
 ghost use Rattle.pdl_machine.specs.Refused.{reduce_fault, or_named};
 ghost use Rattle.pdl_scope.specs.Answers.{Answers};
-ghost use Rattle.pdl_scope.specs.Scope.{OnlyReads};
+ghost use Rattle.pdl_scope.specs.Scope.{engine_of, OnlyReads};
 
 use crate::fault::ScopeFault;
 use crate::reading::{ready, ready_two};
@@ -33,6 +35,7 @@ impl Scope {
             Answers (or_named reduce_fault wanted) result }
         ensures made { IfOk result (λ m. IsMade m.ty m.dims m.elems) }
         ensures same { OnlyReads self.old self.new }
+        ensures counted { steps.new ≤ steps.old + read_steps (engine_of self.old) id }
     {
         ready(&mut self.engine, id, steps)?;
         named(reduce(self.alloc, kind, &self.engine.lend(id)))
@@ -50,6 +53,7 @@ impl Scope {
             Answers (or_named reduce_fault wanted) result }
         ensures made { IfOk result (λ m. IsMade m.ty m.dims m.elems) }
         ensures same { OnlyReads self.old self.new }
+        ensures counted { steps.new ≤ steps.old + read_steps (engine_of self.old) id }
     {
         ready(&mut self.engine, id, steps)?;
         named(reduce_whole(self.alloc, kind, &self.engine.lend(id)))
@@ -70,6 +74,8 @@ impl Scope {
             Answers (or_named reduce_fault wanted) result }
         ensures made { IfOk result (λ m. IsMade m.ty m.dims m.elems) }
         ensures same { OnlyReads self.old self.new }
+        ensures counted { let e = engine_of self.old in
+            steps.new ≤ steps.old + (read_steps e left + read_steps e right) }
     {
         ready_two(&mut self.engine, left, right, steps)?;
         let engine = &self.engine;

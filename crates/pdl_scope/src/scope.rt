@@ -1,5 +1,5 @@
 //! Names, kernels, arrays, and which of these watchers are attached to.
-ghost use Rattle.std.specs.Prelude.{◌≡◌, ℕ, ◌+◌, ◌<◌, ◌≤◌, true, [], length, All, IfOk, IfSome, IsTrue, is_some, slice_get, Some};
+ghost use Rattle.std.specs.Prelude.{◌≡◌, ℕ, ◌+◌, ◌<◌, ◌≤◌, true, [], length, sum_by, All, IfOk, IfSome, IsTrue, is_some, slice_get, Some};
 ghost use Rattle.pdl_shape.specs.Shape.{IsDims};
 ghost use Rattle.pdl_numbers.specs.Typed.{count_moved};
 ghost use Rattle.pdl_buf.specs.Made.{IsMade};
@@ -7,7 +7,7 @@ ghost use Rattle.pdl_world.specs.Formula.{is_well_formed};
 ghost use Rattle.pdl_world.specs.Refused.{view_refusal};
 ghost use Rattle.pdl_world.specs.World.{dims_in, ty_in};
 ghost use Rattle.pdl_world.specs.Sound.{IsLive};
-ghost use Rattle.pdl_engine.specs.Reading.{KeepsViews};
+ghost use Rattle.pdl_engine.specs.Reading.{KeepsViews, read_steps};
 ghost use Rattle.pdl_engine.specs.State.{no_arrays, is_fresh, IsLazy};
 ghost use Rattle.pdl_machine.specs.Calls.{outputs_of};
 ghost use Rattle.pdl_machine.specs.Names.{found, nothing_named, number_of};
@@ -297,7 +297,8 @@ impl Scope {
         self.kernels.get(name).is_some()
     }
 
-    /// What the call of a kernel's name gives for arrays, of which so many outputs are wanted.
+    /// What the call of a kernel's name gives for arrays, of which so many outputs are wanted. It
+    /// takes at most the steps that it takes to read each of the arrays.
     pub fn kernel_outputs<L: Ledger>(
         &mut self,
         name: &Name,
@@ -311,6 +312,8 @@ impl Scope {
             AnswersAs (λ ms. ms.items) outputs result }
         ensures made { IfOk result (λ ms. All (λ m. IsMade m.ty m.dims m.elems) ms.items) }
         ensures same { OnlyReads self.old self.new }
+        ensures counted { let e = engine_of self.old in
+            steps.new ≤ steps.old + sum_by (read_steps e) ids.now }
     {
         match self.kernels.get(name) {
             Some(defined) => kernel_outputs(

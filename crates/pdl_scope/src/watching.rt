@@ -70,7 +70,7 @@ impl Scope {
 }
 
 /// Attaches a slot to an array in a list by slots, which gets an entry for each slot up to this
-/// one. Want of memory leaves the list.
+/// one. Out of memory, it leaves the list.
 fn attach(watches: &mut Vec<Option<ArrayId>>, slot: usize, id: ArrayId) -> Result<(), AllocError>
     requires { slot < slots_limit }
     ensures ok { OnOk result (watches.new.items ≡ attach watches.old.items slot id) }
@@ -81,7 +81,8 @@ fn attach(watches: &mut Vec<Option<ArrayId>>, slot: usize, id: ArrayId) -> Resul
     Ok(())
 }
 
-/// Lengthens a list by slots to so many entries, if it has fewer. Want of memory leaves the list.
+/// Lengthens a list by slots to so many entries, if it has fewer. Out of memory, it leaves the
+/// list.
 fn pad(watches: &mut Vec<Option<ArrayId>>, count: usize) -> Result<(), AllocError>
     ensures ok { OnOk result (watches.new.items ≡ padded watches.old.items count) }
     ensures err { OnErr result (watches.new.items ≡ watches.old.items) }

@@ -9,14 +9,14 @@ use Rattle.pdl_buf.specs.declared.made.Made.{Made}
 use Rattle.pdl_world.specs.BaseLaws.{IsShownAsBefore, ReachedKeepBases, SweepsLeaveLooks}
 use Rattle.pdl_world.specs.Laws.{OlderStay}
 use Rattle.pdl_world.specs.Sound.{IsLive, IsSound, NumbersBelow}
-use Rattle.pdl_world.specs.Swept.{holds, sweep, held_itself}
+use Rattle.pdl_world.specs.Swept.{is_listed, sweep, held_itself}
 use Rattle.pdl_world.specs.SweepLaws.{NewGoesUnheld, ReachedAreSeenAsBefore}
 use Rattle.pdl_world.specs.Windows.{base}
 use Rattle.pdl_world.specs.World.{World, ArrayDef, Look, look, root, dims_in, has_repeats, places_in, assign as assign_in}
 use Rattle.pdl_engine.specs.Reading.{IsWarm, KeepsViews, read_steps, view_as}
 use Rattle.pdl_engine.specs.State.{is_fresh}
 use Rattle.pdl_lexemes.specs.declared.AssignOp.{AssignOp}
-use Rattle.pdl_syntax.specs.StatementTree.{StatementTree, View, assign, bind, bind_list, pp_def, reshape, sever, show, show_text, undef, unwatch, vars, watch}
+use Rattle.pdl_syntax.specs.StatementTree.{StatementTree, View, assign, bind, bind_list, pp_def, reshape, sever, show, show_text, undef, unwatch, vars, dump, watch}
 use Rattle.pdl_syntax.specs.Tree.{Tree, number, named, literal, unary, binary, call}
 use Rattle.pdl_machine.specs.declared.fault.Fault.{Fault}
 use Rattle.pdl_machine.specs.Arrays.{Arrays, array_in, with_new}
@@ -37,28 +37,28 @@ use Rattle.pdl_session.specs.Session.{IsAtRest, IsKeptWarm}
 use Rattle.pdl_session.proofs.Bounded.{grown_look}
 
 -- each array of a list of live ones is live
-live_held : (w : World) (vs : List ℕ) (v : ℕ) → AreLive w vs → holds vs v ≡ true → IsLive w v
+live_held : (w : World) (vs : List ℕ) (v : ℕ) → AreLive w vs → is_listed vs v ≡ true → IsLive w v
 live_held w [] v live h = cc
 live_held w (u ∷ vs) v live h = by_test (u == v)
     (λ is. subst (IsLive w) (eqb-true u v is) live.0)
     (λ other. live_held w vs v live.1 (rw other at h))
 
 -- what is held is held among more
-held_past : (u v : ℕ) (vs : List ℕ) → holds vs v ≡ true → holds (u ∷ vs) v ≡ true
+held_past : (u v : ℕ) (vs : List ℕ) → is_listed vs v ≡ true → is_listed (u ∷ vs) v ≡ true
 held_past u v vs h = by_test (u == v) (λ is. rw is refl) (λ other. rw other h)
 
 -- the array of a name is held
-found_held : (names : Named ℕ) (more : List ℕ) (x : List ℕ) → IfSome (found names x) (λ v. holds (map (λ n. n.1) names ++ more) v ≡ true)
+found_held : (names : Named ℕ) (more : List ℕ) (x : List ℕ) → IfSome (found names x) (λ v. is_listed (map (λ n. n.1) names ++ more) v ≡ true)
 found_held [] more x = tt
 found_held (n ∷ names) more x = by_name (pointwise nat_eq x n.0) (found names x) (found_held names more x)
   where
-    by_name : (same : Bool) (o : Option ℕ) → IfSome o (λ v. holds (map (λ n. n.1) names ++ more) v ≡ true) → IfSome (if same then Some n.1 else o) (λ v. holds (map (λ n. n.1) (n ∷ names) ++ more) v ≡ true)
+    by_name : (same : Bool) (o : Option ℕ) → IfSome o (λ v. is_listed (map (λ n. n.1) names ++ more) v ≡ true) → IfSome (if same then Some n.1 else o) (λ v. is_listed (map (λ n. n.1) (n ∷ names) ++ more) v ≡ true)
     by_name true o rest = rw (eq-eqb n.1 n.1 refl) refl
     by_name false None rest = tt
     by_name false (Some v) rest = held_past n.1 v (map (λ n. n.1) names ++ more) rest
 
-pub name_held : (s : State) (x : List ℕ) (v : ℕ) → number_of s.names x ≡ Some v → holds (held s) v ≡ true
-name_held s x v is = subst (λ o. IfSome o (λ u. holds (held s) u ≡ true)) is (found_held s.names.arrays (attached s.watches) x)
+pub name_held : (s : State) (x : List ℕ) (v : ℕ) → number_of s.names x ≡ Some v → is_listed (held s) v ≡ true
+name_held s x v is = subst (λ o. IfSome o (λ u. is_listed (held s) u ≡ true)) is (found_held s.names.arrays (attached s.watches) x)
 
 pub name_live : (s : State) (x : List ℕ) (v : ℕ) → IsWhole s → number_of s.names x ≡ Some v → IsLive s.arrays.world v
 name_live s x v whole is = live_held s.arrays.world (held s) v whole.live (name_held s x v is)
@@ -67,7 +67,7 @@ name_live s x v whole is = live_held s.arrays.world (held s) v whole.live (name_
 grown_sweep : NewGoesUnheld → OlderStay → (more w : World) (vs : List ℕ) → IsSound (more ++ w) → AreLive w vs → sweep (more ++ w) vs ≡ sweep w vs
 grown_sweep goes older [] w vs sound live = refl
 grown_sweep goes older ((k, d) ∷ more) w vs sound live =
-    let there : (v : ℕ) → holds vs v ≡ true → IsLive (more ++ w) v = λ v h.
+    let there : (v : ℕ) → is_listed vs v ≡ true → IsLive (more ++ w) v = λ v h.
     (let l : IsLive w v = live_held w vs v live h in subst (λ o. IsSomeAnd o (λ l. Unit {0})) (sym (grown_look older more w v sound.2 l)) l) in
     goes (more ++ w) k d vs sound.0 there ∙ grown_sweep goes older more w vs sound.2 live
 
@@ -182,7 +182,7 @@ assigned_names s new to sign e o n h = by_target (value_in s to) h
             by_values (Ok a) h = ap (λ (t : State). t.names) h.0
 
 -- an array that is held stays warm
-warm_held : Laws → (old mid new : Scope) (v : ℕ) → LetsGo old mid new → holds (held (machine mid)) v ≡ true → IsWarm (engine_of mid) v → IsKeptWarm new v
+warm_held : Laws → (old mid new : Scope) (v : ℕ) → LetsGo old mid new → is_listed (held (machine mid)) v ≡ true → IsWarm (engine_of mid) v → IsKeptWarm new v
 warm_held laws old mid new v h is warm =
     let vs = held (machine mid) in
     let w = mid.arrays.world in
@@ -213,6 +213,7 @@ assigned_warm laws present (sever x) old mid new o n h ran readable = tt
 assigned_warm laws present (reshape x sizes) old mid new o n h ran readable = tt
 assigned_warm laws present (undef x) old mid new o n h ran readable = tt
 assigned_warm laws present vars old mid new o n h ran readable = tt
+assigned_warm laws present dump old mid new o n h ran readable = tt
 assigned_warm laws present (pp_def f s c) old mid new o n h ran readable = tt
 assigned_warm laws present (watch x k) old mid new o n h ran readable = tt
 assigned_warm laws present (unwatch k) old mid new o n h ran readable = tt
@@ -255,6 +256,7 @@ left_readable laws present (sever x) old mid new before after o n h ran moves re
 left_readable laws present (reshape x sizes) old mid new before after o n h ran moves readable = tt
 left_readable laws present (undef x) old mid new before after o n h ran moves readable = tt
 left_readable laws present vars old mid new before after o n h ran moves readable = tt
+left_readable laws present dump old mid new before after o n h ran moves readable = tt
 left_readable laws present (pp_def f s c) old mid new before after o n h ran moves readable = tt
 left_readable laws present (watch x k) old mid new before after o n h ran moves readable = tt
 left_readable laws present (unwatch k) old mid new before after o n h ran moves readable = tt

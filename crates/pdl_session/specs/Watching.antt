@@ -45,8 +45,8 @@ pub record StopsStep (wanted : Result Done Fault) (old_slots new_slots : Slots) 
       × EndsShort old_slots k new_slots)
   pub short : ToldShort old_slots done.told new_slots
 
--- why a step was refused: the fault is the one that is wanted; a watcher failed; want of memory
--- says nothing
+-- why a step was refused: the fault is the one that is wanted; a watcher failed; `NoMemory` says
+-- nothing
 abbrev pub IsRefusal : (wanted : Result Done Fault) → (slots now : Slots) → StepFault → Type 0
 IsRefusal wanted slots now (Script e) = wanted ≡ Err e
 IsRefusal wanted slots now Watcher = StopsStep wanted slots now × OneMissed slots now

@@ -1,5 +1,6 @@
 //! New arrays of one array.
 ghost use Rattle.std.specs.Prelude.{◌≡◌, ◌≤◌, length, map, pos, All, IfOk, Ok};
+ghost use Rattle.pdl_shape.specs.Shape.{extent_limit};
 ghost use Rattle.pdl_buf.specs.Made.{IsMade};
 ghost use Rattle.pdl_world.specs.Sound.{IsLive};
 ghost use Rattle.pdl_machine.specs.Arrays.{array_in};
@@ -114,7 +115,7 @@ fn size_at(scope: &Scope, id: ArrayId, number: i64) -> Result<Outcome, ScopeFaul
 
 /// A long number as an array without dimensions.
 fn long_number(alloc: Global, number: u32) -> Result<Made, AllocError>
-    requires { number ≤ 1048576 }
+    requires { number ≤ extent_limit }
     ensures value { IfOk result (λ m. m ≡ long_number number) }
     ensures made { IfOk result (λ m. IsMade m.ty m.dims m.elems) }
 {
@@ -132,8 +133,8 @@ fn long_number(alloc: Global, number: u32) -> Result<Made, AllocError>
 
 /// Long numbers as an array of one dimension.
 fn long_numbers(alloc: Global, numbers: &[u32]) -> Result<Made, AllocError>
-    requires few { length numbers.now ≤ 1048576 }
-    requires small { All (λ n. n ≤ 1048576) numbers.now }
+    requires few { length numbers.now ≤ extent_limit }
+    requires small { All (λ n. n ≤ extent_limit) numbers.now }
     ensures value { IfOk result (λ m. m ≡ long_numbers numbers.now) }
     ensures made { IfOk result (λ m. IsMade m.ty m.dims m.elems) }
 {

@@ -93,11 +93,11 @@ impl Session {
     /// Runs the statement of this number, adds the text that it prints to `out`, and tells the
     /// watchers of slots what changed of the arrays that these are attached to, slot after slot.
     /// `watch` attaches the watcher of a slot that has one; `unwatch` finishes the watcher of its
-    /// slot and drops it. A refusal by a fault or by want of memory leaves the state, `out` and the
-    /// watchers as they were: nobody is told before all memory is taken. After a watcher's failure
-    /// the session may only be dropped. Each call is counted, a refused one too. `steps` counts
-    /// the elements that are moved. An assignment of a number or a list to the bare name of the
-    /// array that was assigned to last moves at most the elements of both, where no slot is
+    /// slot and drops it. A refusal by a fault or by being out of memory leaves the state, `out`
+    /// and the watchers as they were: nobody is told before all memory is taken. After a watcher's
+    /// failure the session may only be dropped. Each call is counted, a refused one too. `steps`
+    /// counts the elements that are moved. An assignment of a number or a list to the bare name of
+    /// the array that was assigned to last moves at most the elements of both, where no slot is
     /// attached and the array's base has no repeats; a print of a bare name moves what is outdated
     /// or waits, and nothing where the array can be lent. A refused statement moves no more.
     pub fn step<L: Ledger>(

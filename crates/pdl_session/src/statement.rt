@@ -158,7 +158,7 @@ fn assign_value<L: Ledger>(
     scope.assign(sign, to, from, number, steps)
 }
 
-/// Prints a value, or its info. A part of the text may stand in `out` after want of memory.
+/// Prints a value, or its info. A part of the text may stand in `out` when out of memory.
 fn show<L: Ledger>(
     scope: &mut Scope,
     value: &Expr,
@@ -179,7 +179,7 @@ fn show<L: Ledger>(
     Ok(scope.print(id, info, out, steps)?)
 }
 
-/// Prints a text and a newline. A part of them may stand in `out` after want of memory.
+/// Prints a text and a newline. A part of them may stand in `out` when out of memory.
 fn print_text(text: &[u8], out: &mut Vec<u8>) -> Result<(), AllocError>
     ensures text { OnOk result (out.new.items ≡ out.old.items ++ (text.now ++ newline)) }
     ensures front { Begins out.old.items out.new.items }
@@ -202,7 +202,7 @@ pub fn bare_target(scope: &Scope, statement: &Statement) -> Option<ArrayId>
 
 /// Runs one statement, and answers what watchers are to hear of it; which slots have one decides
 /// what can be attached. Where it is refused, names and `out` are as they were, be it by a fault or
-/// by want of memory; new arrays may have come.
+/// by being out of memory; new arrays may have come.
 #[tactic(auto, using(crate::proofs::Statements::cut_front))]
 pub fn run<W: Watcher, L: Ledger>(
     scope: &mut Scope,
@@ -284,6 +284,8 @@ fn perform<W: Watcher, L: Ledger>(
         Statement::Reshape { name, sizes } => reshape(scope, name, sizes, steps),
         Statement::Undef { name } => scope.undef(name),
         Statement::Vars => Ok(scope.print_names(out)?),
+        // (no dump is built yet)
+        Statement::Dump => Err(ScopeFault::Script(Fault::Syntax)),
         Statement::PpDef {
             name,
             signature,

@@ -12,11 +12,11 @@ use Rattle.pdl_machine.specs.RunLaws.{EndedStays, SoFarGrows}
 use Rattle.pdl_machine.specs.Run.{Progress, Terms, so_far}
 use Rattle.pdl_machine.specs.Watches.{Watches, watch_of}
 use Rattle.pdl_shell.specs.declared.status.Status.{Status}
-use Rattle.pdl_shell.specs.declared.status.Status.TheVariants.{WatcherFault}
+use Rattle.pdl_shell.specs.declared.status.Status.TheVariants.{Done, ScriptFault, Usage, SourceFault, SinkFault, WatcherFault, NoMemory}
 use Rattle.pdl_shell.specs.Outside.{Outside}
-use Rattle.pdl_shell.specs.Answers.{Ending, Gives, IsUndisturbed, TakesAtMost, told_by}
+use Rattle.pdl_shell.specs.Answers.{Ending, Gives, IsWhole, IsShort, IsUndisturbed, TakesAtMost, told_by}
 use Rattle.pdl_shell.specs.Taken.{Reads, terms_for}
-use Rattle.pdl_shell.specs.Headline.{CanRise, HeardAFront, HeardOrEnded, NoneRose}
+use Rattle.pdl_shell.specs.Headline.{CanRise, MayHaveEnded, HeardAFront, HeardOrEnded, NoneRose}
 use Rattle.pdl_shell.proofs.HeadlineLemmas.{short_front}
 use Rattle.pdl_shell.proofs.SlotsHeard.{told_at}
 
@@ -38,17 +38,17 @@ front_of all before rest n is few =
         let e : length (b ∷ (before ++ rest)) - n ≡ suc (length (before ++ rest) - n) = omega (arith, long) in
         ap (λ (k : ℕ). take k (b ∷ (before ++ rest))) e ∙ ap (λ (xs : List ℕ). b ∷ xs) (by_length before rest n few)
 
-pub no_part_behind : EndedStays → SoFarGrows → (keep : Bool) (status : Status) (old new : Outside) (before rest : List ℕ) (reads : Reads keep status old new) → reads.taken ≡ before ++ rest
-    → (so_far (terms_for keep old.out.slots) before).ended ≡ true → length rest < 4096
-no_part_behind stays grows keep status old new before rest reads is ended = elim (cases_lt (length rest) 4096) [
+pub no_part_behind : EndedStays → SoFarGrows → (keep : Bool) (refused : List ℕ) (status : Status) (old new : Outside) (before rest : List ℕ) (reads : Reads keep refused status old new)
+    → reads.taken ≡ before ++ rest → (so_far (terms_for keep old.out.slots refused) before).ended ≡ true → length rest < 4096
+no_part_behind stays grows keep refused status old new before rest reads is ended = elim (cases_lt (length rest) 4096) [
   | inl few ↦ few
-  | inr many ↦ (let terms : Terms = terms_for keep old.out.slots in
+  | inr many ↦ (let terms : Terms = terms_for keep old.out.slots refused in
       let more = front_of reads.taken before rest 4096 is many in
       let e : (so_far terms (before ++ more.0)).ended ≡ true = ends_still stays grows terms before more.0 ended in
       absurd (true≢false (sym e ∙ ap (λ (xs : List ℕ). (so_far terms xs).ended) (sym more.1) ∙ reads.soon)))
 ]
 
-some_is : {A : Type 0} (a b : A) → Some a ≡ Some b → a ≡ b
+pub some_is : {A : Type 0} (a b : A) → Some a ≡ Some b → a ≡ b
 some_is a b is = cc
 
 drop_long : (n : ℕ) (xs : List ℕ) → length xs ≤ n + length (drop n xs)
@@ -90,14 +90,14 @@ left_there (r ∷ rs) (false ∷ ps) zero t is = absurd (cc)
 left_there (r ∷ rs) (p ∷ ps) (suc k) t is = left_there rs ps k t is
 
 -- what the ending tells a watcher that is there still
-told_still : (e : Ending) (ss : Slots) (k : ℕ) (before t : Watched) → slot ss k ≡ Some before → slot (told_by e ss) k ≡ Some t → t ≡ told_more (notices_of e.told k) before
+pub told_still : (e : Ending) (ss : Slots) (k : ℕ) (before t : Watched) → slot ss k ≡ Some before → slot (told_by e ss) k ≡ Some t → t ≡ told_more (notices_of e.told k) before
 told_still e ss k before t was is =
     some_is _ _ (sym (left_there (all_told ss e.told) e.present k t is) ∙ told_at ss e.told k ∙ ap (option_map (told_more (notices_of e.told k))) was)
 
 -- a watcher after the first ones were finished: finished where its slot is attached
 pub record EndedOrNot (watch : Option ℕ) (before after : Watched) : Type 0 where
-  told : after.told ≡ before.told
-  finished : (after.finished ≡ before.finished) ⊎ ((after.finished ≡ true) × IsSome watch)
+  pub told : after.told ≡ before.told
+  pub finished : (after.finished ≡ before.finished) ⊎ ((after.finished ≡ true) × IsSome watch)
 
 ended_by : (o : Option ℕ) (b a : Watched) → Some a ≡ option_map (ended_where o) (Some b) → EndedOrNot o b a
 ended_by None b a is = let e : a ≡ b = some_is a b is in record { told = ap (λ (w : Watched). w.told) e; finished = inl (ap (λ (w : Watched). w.finished) e) }
@@ -113,24 +113,24 @@ front_attached (suc n) [] k some = some
 front_attached (suc n) (w ∷ ws) zero some = some
 front_attached (suc n) (w ∷ ws) (suc k) some = front_attached n ws k some
 
-ended_at : (ss : Slots) (ws : Watches) (k : ℕ) (a : Watched) → slot (all_ended ss ws) k ≡ Some a → (b : Watched) × (slot ss k ≡ Some b) × EndedOrNot (watch_of ws k) b a
+pub ended_at : (ss : Slots) (ws : Watches) (k : ℕ) (a : Watched) → slot (all_ended ss ws) k ≡ Some a → (b : Watched) × (slot ss k ≡ Some b) × EndedOrNot (watch_of ws k) b a
 ended_at [] ws k a is = absurd (cc)
 ended_at (s ∷ ss) [] k a is = (a, is, record { told = refl; finished = inl refl })
 ended_at (None ∷ ss) (w ∷ ws) zero a is = absurd (cc)
 ended_at (Some b ∷ ss) (w ∷ ws) zero a is = (b, refl, ended_by w b a (sym is))
 ended_at (s ∷ ss) (w ∷ ws) (suc k) a is = ended_at ss ws k a is
 
-set_at : (ss : Slots) (k : ℕ) (o : Option Watched) (a : Watched) → slot (slice_set ss k o) k ≡ Some a → o ≡ Some a
+pub set_at : (ss : Slots) (k : ℕ) (o : Option Watched) (a : Watched) → slot (slice_set ss k o) k ≡ Some a → o ≡ Some a
 set_at [] k o a is = absurd (cc)
 set_at (s ∷ ss) zero o a is = is
 set_at (s ∷ ss) (suc k) o a is = set_at ss k o a is
 
-missed_of : (s : Option Watched) (a : Watched) → SlotMissed s (Some a) → (b : Watched) × (s ≡ Some b) × Missed b a
+pub missed_of : (s : Option Watched) (a : Watched) → SlotMissed s (Some a) → (b : Watched) × (s ≡ Some b) × Missed b a
 missed_of None a missed = absurd missed
 missed_of (Some b) a missed = (b, refl, missed)
 
 -- the watcher of a slot where finishing stopped
-closes_at : (base : Slots) (ws : Watches) (now : Slots) (k : ℕ) (a : Watched) → EndedShort base ws now → slot now k ≡ Some a → (b : Watched) × (slot base k ≡ Some b) × EndedOrNot (watch_of ws k) b a
+pub closes_at : (base : Slots) (ws : Watches) (now : Slots) (k : ℕ) (a : Watched) → EndedShort base ws now → slot now k ≡ Some a → (b : Watched) × (slot base k ≡ Some b) × EndedOrNot (watch_of ws k) b a
 closes_at base ws now k a short is = by_test (k == short.at)
     (λ same. (let e : k ≡ short.at = eqb-true k short.at same in
     let there : slot (slice_set before short.at short.watcher) short.at ≡ Some a = ap (λ (j : ℕ). slot (slice_set before short.at short.watcher) j) (sym e) ∙ ap (λ (ss : Slots). slot ss k) (sym short.before) ∙ is in
@@ -164,10 +164,29 @@ heard_whole ns watch before b after told ends = record {
 heard_front : (ns : List Notice) (watch : Option ℕ) (before after : Watched) → HeardAFront ns before after → HeardOrEnded ns watch before after
 heard_front ns watch before after heard = record { part = heard.part; front = heard.front; told = heard.told; finished = inl heard.finished }
 
-pub watcher_fault_front : (e : Ending) (old new : Outside) (k : ℕ) (before after : Watched) → Gives WatcherFault e old.out new.out → slot old.out.slots k ≡ Some before
+-- where the call stopped short or came to its end
+short_heard : (e : Ending) (old new : Outside) (k : ℕ) (before after : Watched) → IsShort e old.out new.out → slot old.out.slots k ≡ Some before
     → slot new.out.slots k ≡ Some after → HeardOrEnded (notices_of e.told k) (watch_of e.watches k) before after
-watcher_fault_front e old new k before after (inl short) was is =
+short_heard e old new k before after short was is =
     heard_front (notices_of e.told k) (watch_of e.watches k) before after (short_front e old new k before after short was is)
-watcher_fault_front e old new k before after (inr closes) was is =
+
+whole_heard : (e : Ending) (old new : Outside) (k : ℕ) (before after : Watched) → IsWhole e old.out new.out → slot old.out.slots k ≡ Some before
+    → slot new.out.slots k ≡ Some after → HeardOrEnded (notices_of e.told k) (watch_of e.watches k) before after
+whole_heard e old new k before after whole was is =
+    let there : slot (all_ended (told_by e old.out.slots) e.watches) k ≡ Some after = ap (λ (ss : Slots). slot ss k) (sym whole.slots) ∙ is in
+    let found = ended_at (told_by e old.out.slots) e.watches k after there in
+    heard_whole (notices_of e.told k) (watch_of e.watches k) before found.0 after (told_still e old.out.slots k before found.0 was found.1) found.2
+
+pub others_front : (status : Status) (e : Ending) (old new : Outside) (k : ℕ) (before after : Watched) → MayHaveEnded status → Gives status e old.out new.out
+    → slot old.out.slots k ≡ Some before → slot new.out.slots k ≡ Some after → HeardOrEnded (notices_of e.told k) (watch_of e.watches k) before after
+others_front WatcherFault e old new k before after may (inl short) was is = short_heard e old new k before after short was is
+others_front WatcherFault e old new k before after may (inr closes) was is =
     let found = closes_at (told_by e old.out.slots) e.watches new.out.slots k after closes.slots is in
     heard_whole (notices_of e.told k) (watch_of e.watches k) before found.0 after (told_still e old.out.slots k before found.0 was found.1) found.2
+others_front NoMemory e old new k before after may (inl ends) was is = whole_heard e old new k before after ends.whole was is
+others_front NoMemory e old new k before after may (inr short) was is = short_heard e old new k before after short was is
+others_front Done e old new k before after may gives was is = absurd may
+others_front ScriptFault e old new k before after may gives was is = absurd may
+others_front Usage e old new k before after may gives was is = absurd may
+others_front SourceFault e old new k before after may gives was is = absurd may
+others_front SinkFault e old new k before after may gives was is = absurd may

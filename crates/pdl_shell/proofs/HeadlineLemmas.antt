@@ -1,20 +1,23 @@
 -- What the words of the top call say.
-use Rattle.std.proofs.Common.{◌≡◌, ℕ, ◌⊎◌, inl, inr, List, [], ◌++◌, Bool, true, Option, Some, None, refl, sym, ap, subst, ◌∙◌, append_assoc, append-nil}
+use Rattle.std.proofs.Common.{◌≡◌, ℕ, ◌⊎◌, inl, inr, List, [], ◌∷◌, ◌++◌, Bool, true, Option, Some, None, refl, sym, ap, subst, ◌∙◌, append_assoc, append-nil}
 use Rattle.std.specs.Io.KnownBytes.{Appends, IsAtEnd}
 use Rattle.pdl_watch.specs.Watched.{Watched}
-use Rattle.pdl_io.specs.Told.{AppendsPrefix}
+use Rattle.pdl_io.specs.Told.{Says, AppendsPrefix}
 use Rattle.pdl_watch.specs.declared.notice.Notice.{Notice}
-use Rattle.pdl_watch.specs.Slots.{slot, notices_of, ToldPart, SlotRose, CountStays}
+use Rattle.pdl_watch.specs.Slots.{slots_by, slot, notices_of, ToldPart, SlotRose, CountStays}
 use Rattle.pdl_shell.specs.declared.status.Status.{Status}
 use Rattle.pdl_shell.specs.declared.status.Status.TheVariants.{Done, ScriptFault, Usage, SourceFault, SinkFault, WatcherFault, NoMemory}
-use Rattle.pdl_shell.specs.Outside.{Outside}
-use Rattle.pdl_shell.specs.Answers.{CameToItsEnd, HasReason, Gives, Ending, AllQuiet, IsShort, SlotHears, slots_after}
+use Rattle.pdl_shell.specs.declared.words.Command.{Command}
+use Rattle.pdl_shell.specs.declared.words.Command.TheVariants.{Run, Generate}
+use Rattle.pdl_shell.specs.Outside.{Outlets, Outside}
+use Rattle.pdl_shell.specs.Answers.{CameToItsEnd, HasReason, CanAnswer, Gives, Ending, AllQuiet, IsWhole, IsShort, SlotHears, ending_on, slots_after, status_at_end}
 use Rattle.pdl_machine.specs.Watches.{is_present}
-use Rattle.pdl_machine.specs.Run.{so_far}
+use Rattle.pdl_machine.specs.Run.{Terms, run, so_far}
+use Rattle.pdl_shell.specs.Summary.{unwatched}
 use Rattle.pdl_shell.specs.Taken.{Reads, terms_for}
-use Rattle.pdl_shell.specs.Headline.{NoneRose, OneFailed, OfWholeStatements, EndsBy, IsCutOff, HeardAFront}
+use Rattle.pdl_shell.specs.Headline.{NoneRose, OneFailed, OfWholeStatements, EndsBy, IsAllOf, IsCutOff, HeardAFront}
 
-count_of : (s t : Option Watched) (before after : Watched) → s ≡ Some before → t ≡ Some after → CountStays s t → after.misses ≡ before.misses
+pub count_of : (s t : Option Watched) (before after : Watched) → s ≡ Some before → t ≡ Some after → CountStays s t → after.misses ≡ before.misses
 count_of s t before after was is stays = pair (subst (λ (o : Option Watched). CountStays o t) was stays)
   where
     pair : CountStays (Some before) t → after.misses ≡ before.misses
@@ -51,42 +54,45 @@ pub watcher_rises : (old new : Outside) → HasReason WatcherFault old new → O
 watcher_rises old new reason =
     one_failed old new reason.0.at (slot old.out.slots reason.0.at) (slot new.out.slots reason.0.at) refl refl reason.0.rose reason.1 reason.2
 
-appended : (old new : Option (List ℕ)) (before after text : List ℕ) → old ≡ Some before → new ≡ Some after → Appends old new text → after ≡ before ++ text
+pub appended : (old new : Option (List ℕ)) (before after text : List ℕ) → old ≡ Some before → new ≡ Some after → Appends old new text → after ≡ before ++ text
 appended old new before after text was is wrote =
     known (subst (λ (o : Option (List ℕ)). Appends o new text) was wrote)
   where
     known : Appends (Some before) new text → after ≡ before ++ text
     known wrote' = subst (λ (o : Option (List ℕ)). Appends (Some before) o text) is wrote'
 
-pub source_leaves : (keep : Bool) (old new : Outside) (before after : List ℕ) → old.out.taken ≡ Some before → new.out.taken ≡ Some after
-    → Reads keep SourceFault old new → OfWholeStatements keep old new before after
-source_leaves keep old new before after was is reads = record {
+pub source_leaves : (keep : Bool) (refused : List ℕ) (old new : Outside) (before after : List ℕ) → old.out.taken ≡ Some before → new.out.taken ≡ Some after
+    → Reads keep refused SourceFault old new → OfWholeStatements keep refused old new before after
+source_leaves keep refused old new before after was is reads = record {
   bytes = reads.taken;
   taken = reads.all;
   text = appended old.out.taken new.out.taken before after _ was is reads.so_far.0;
   told = reads.so_far.1;
   unended = reads.so_far.2;
+  met = reads.so_far.3;
 }
 
-pub done_reads : (keep : Bool) (old new : Outside) (rest : List ℕ) → new.left ≡ Some rest → Reads keep Done old new → rest ≡ []
-done_reads keep old new rest is reads = subst (λ (o : Option (List ℕ)). IsAtEnd o) is reads.so_far
+pub done_reads : (keep : Bool) (refused : List ℕ) (old new : Outside) (rest : List ℕ) → new.left ≡ Some rest → Reads keep refused Done old new → rest ≡ []
+done_reads keep refused old new rest is reads = subst (λ (o : Option (List ℕ)). IsAtEnd o) is reads.so_far
 
-pub fault_reads : (keep : Bool) (old new : Outside) (rest : List ℕ) → new.left ≡ Some rest → Reads keep ScriptFault old new → (rest ≡ []) ⊎ EndsBy keep old new
-fault_reads keep old new rest is reads = how reads.so_far
+pub fault_reads : (keep : Bool) (refused : List ℕ) (old new : Outside) (rest : List ℕ) → new.left ≡ Some rest → Reads keep refused ScriptFault old new
+    → (rest ≡ []) ⊎ EndsBy keep refused old new
+fault_reads keep refused old new rest is reads = how reads.so_far
   where
-    how : IsAtEnd new.left ⊎ ((so_far (terms_for keep old.out.slots) reads.taken).ended ≡ true) → (rest ≡ []) ⊎ EndsBy keep old new
+    how : IsAtEnd new.left ⊎ ((so_far (terms_for keep old.out.slots refused) reads.taken).ended ≡ true) → (rest ≡ []) ⊎ EndsBy keep refused old new
     how (inl at_end) = inl (subst (λ (o : Option (List ℕ)). IsAtEnd o) is at_end)
     how (inr ended) = inr (record { bytes = reads.taken; taken = reads.all; ended = ended })
 
+wrote_all : (e : Ending) (old new : Outside) (before after : List ℕ) → old.out.taken ≡ Some before → new.out.taken ≡ Some after → IsWhole e old.out new.out
+    → IsAllOf e old new before after
+wrote_all e old new before after was is whole =
+    record { text = appended old.out.taken new.out.taken before after e.text was is whole.text; met = whole.met; slots = whole.slots }
+
 pub ends_write : (status : Status) (e : Ending) (old new : Outside) (before after : List ℕ) → CameToItsEnd status
-    → old.out.taken ≡ Some before → new.out.taken ≡ Some after → Gives status e old.out new.out
-    → (e.status ≡ status) × (after ≡ before ++ e.text) × (new.out.slots ≡ slots_after e old.out.slots)
-ends_write Done e old new before after ended was is gives =
-    (sym gives.0, appended old.out.taken new.out.taken before after e.text was is gives.1.text, gives.1.slots)
-ends_write ScriptFault e old new before after ended was is gives =
-    (sym gives.0, appended old.out.taken new.out.taken before after e.text was is gives.1.text, gives.1.slots)
-ends_write Usage e old new before after ended was is gives =
-    (sym gives.0, appended old.out.taken new.out.taken before after e.text was is gives.1.text, gives.1.slots)
+    → old.out.taken ≡ Some before → new.out.taken ≡ Some after → Gives status e old.out new.out → (e.status ≡ status) × IsAllOf e old new before after
+ends_write Done e old new before after ended was is gives = (sym gives.0, wrote_all e old new before after was is gives.1)
+ends_write ScriptFault e old new before after ended was is gives = (sym gives.0, wrote_all e old new before after was is gives.1)
+ends_write Usage e old new before after ended was is gives = (sym gives.0, wrote_all e old new before after was is gives.1)
 ends_write SourceFault e old new before after ended was is gives = absurd ended
 ends_write SinkFault e old new before after ended was is gives = absurd ended
 ends_write WatcherFault e old new before after ended was is gives = absurd ended
@@ -117,7 +123,15 @@ all_front SinkFault e old new before after was is gives = partly old.out.taken n
 all_front WatcherFault e old new before after was is (inl short) = partly old.out.taken new.out.taken before after e.text was is short.text
 all_front WatcherFault e old new before after was is (inr closes) =
     wholly before after e.text (appended old.out.taken new.out.taken before after e.text was is closes.text)
-all_front NoMemory e old new before after was is gives = partly old.out.taken new.out.taken before after e.text was is gives.text
+all_front NoMemory e old new before after was is (inl ends) =
+    wholly before after e.text (appended old.out.taken new.out.taken before after e.text was is ends.whole.text)
+all_front NoMemory e old new before after was is (inr short) = partly old.out.taken new.out.taken before after e.text was is short.text
+
+pub memory_writes : (e : Ending) (old new : Outside) (before after : List ℕ) → old.out.taken ≡ Some before → new.out.taken ≡ Some after
+    → Gives NoMemory e old.out new.out
+    → ((e.status ≡ NoMemory) × IsAllOf e old new before after × Says new.out.flushed true) ⊎ ((rest : List ℕ) × (before ++ e.text ≡ after ++ rest))
+memory_writes e old new before after was is (inl ends) = inl (sym ends.status, wrote_all e old new before after was is ends.whole, ends.flushed)
+memory_writes e old new before after was is (inr short) = inr (partly old.out.taken new.out.taken before after e.text was is short.text)
 
 heard_by : (ns : List Notice) (stays : Bool) (s t : Option Watched) (before after : Watched) → s ≡ Some before → t ≡ Some after
     → SlotHears ns stays s t → HeardAFront ns before after
@@ -137,8 +151,45 @@ pub cut_off_front : (status : Status) (e : Ending) (old new : Outside) (k : ℕ)
     → HeardAFront (notices_of e.told k) before after
 cut_off_front SourceFault e old new k before after cut gives was is = short_front e old new k before after gives was is
 cut_off_front SinkFault e old new k before after cut gives was is = short_front e old new k before after gives was is
-cut_off_front NoMemory e old new k before after cut gives was is = short_front e old new k before after gives was is
+cut_off_front NoMemory e old new k before after cut gives was is = absurd cut
 cut_off_front Done e old new k before after cut gives was is = absurd cut
 cut_off_front ScriptFault e old new k before after cut gives was is = absurd cut
 cut_off_front Usage e old new k before after cut gives was is = absurd cut
 cut_off_front WatcherFault e old new k before after cut gives was is = absurd cut
+
+-- a run that came to its end as if there were memory for each statement refused none
+none_refused : (status : Status) (faulted : Bool) (refused : List ℕ) → CameToItsEnd status → status ≡ status_at_end faulted refused → refused ≡ []
+none_refused status faulted [] ended is = refl
+none_refused status faulted (n ∷ ns) ended is = absurd (subst (λ (s : Status). CameToItsEnd s) is ended)
+
+-- so its text is that of the run with memory for each
+pub whole_printed : (status : Status) (terms : Terms) (script : List ℕ) (old new : Outlets) (before after : List ℕ) → CameToItsEnd status
+    → (status ≡ (ending_on terms script).status) × IsWhole (ending_on terms script) old new → old.taken ≡ Some before → new.taken ≡ Some after
+    → after ≡ before ++ (run (record terms { refused = [] }) script).printed
+whole_printed status terms script old new before after ended (is, whole) was now =
+    let none : terms.refused ≡ [] = sym whole.met ∙ none_refused status (run terms script).faulted (run terms script).refused ended is in
+    appended old.taken new.taken before after (run terms script).printed was now whole.text
+    ∙ ap (λ (ns : List ℕ). before ++ (run (record terms { refused = ns }) script).printed) none
+
+-- and that of a run that nobody watches
+pub unwatched_printed : {W : Type 0} (see : W → Watched) (watchers : List (Option W)) → watchers ≡ [] → (status : Status) (keep : Bool) (refused script : List ℕ)
+    (old new : Outlets) (before after : List ℕ) → CameToItsEnd status
+    → (status ≡ (ending_on (terms_for keep (slots_by see watchers) refused) script).status) × IsWhole (ending_on (terms_for keep (slots_by see watchers) refused) script) old new
+    → old.taken ≡ Some before → new.taken ≡ Some after → after ≡ before ++ (run (unwatched keep) script).printed
+unwatched_printed {W} see watchers none status keep refused script old new before after ended whole was now =
+    whole_printed status (terms_for keep (slots_by see watchers) refused) script old new before after ended whole was now
+    ∙ ap (λ (ws : List (Option W)). before ++ (run (terms_for keep (slots_by see ws) []) script).printed) none
+
+pub usage_alone : (command : Command) → CanAnswer (Some command) Usage → ⊥
+usage_alone (Run keep) answers = answers
+usage_alone (Generate keep rounds) answers = answers
+
+pub generating_alone : (keep : Bool) (rounds : ℕ) (status : Status) → CanAnswer (Some (Generate keep rounds)) status
+    → (status ≡ Done) ⊎ ((status ≡ SinkFault) ⊎ (status ≡ NoMemory))
+generating_alone keep rounds Done answers = inl refl
+generating_alone keep rounds SinkFault answers = inr (inl refl)
+generating_alone keep rounds NoMemory answers = inr (inr refl)
+generating_alone keep rounds ScriptFault answers = absurd answers
+generating_alone keep rounds Usage answers = absurd answers
+generating_alone keep rounds SourceFault answers = absurd answers
+generating_alone keep rounds WatcherFault answers = absurd answers

@@ -4,6 +4,7 @@ pub mod StatementCount
 pub mod SlotsHeard
 pub mod Taking
 pub mod Ran
+pub mod Refusing
 pub mod Following
 pub mod Carrying
 pub mod Parts
@@ -11,4 +12,5 @@ pub mod Plain
 pub mod Whole
 pub mod HeadlineLemmas
 pub mod Guards
+pub mod HeadlineSlotsLemmas
 mod WorkedRuns

@@ -1,6 +1,8 @@
 -- A run that takes its script in parts: what the bytes taken say of the run of the whole script.
 use Rattle.std.proofs.Common.{◌≡◌, ℕ, ◌+◌, ◌-◌, ◌<◌, ◌≤◌, ◌⊎◌, inl, inr, min, List, [], ◌++◌, map, length, take, drop, Bool, true, false, Option, Some, None, Result, Ok, Err, refl, sym, ◌∙◌, ap, subst, arith, append-nil, length-append, take-append-drop}
-use Rattle.std.specs.Prelude.{nat_lt, IfErr, cond}
+use Rattle.std.specs.Prelude.{◌||◌, ◌∷◌, nat_lt, IfErr, cond}
+use Rattle.std.specs.List.{All}
+use Rattle.std.proofs.lemmas.List.Elements.{All-nil}
 use Rattle.std.specs.Result.{IsErrAnd}
 use Rattle.std.proofs.lemmas.Bool.{ltb-true, ltb-false, lt-ltb, le-ltb, both_ways, false_from_ne_true}
 use Rattle.std.proofs.lemmas.List.{take_all, take-append-le, take-take, length-take, length-take-le}
@@ -10,19 +12,21 @@ use Rattle.pdl_lemmas.specs.Tests.{by_lt}
 use Rattle.pdl_lex.specs.Limits.{script_limit}
 use Rattle.pdl_lex.specs.Pieces.{statement, settled, settled_from, script_marks}
 use Rattle.pdl_watch.specs.Slots.{Slots, emptied, present_in}
-use Rattle.pdl_machine.specs.Run.{Terms, Progress, start, run, so_far, after_marks, settled_marks}
+use Rattle.pdl_machine.specs.Run.{Terms, Progress, refused_limit, start, run, so_far, after_marks, settled_marks, went_wrong}
 use Rattle.pdl_machine.specs.RunLaws.{EndedStays, EndedByAFault, TooLongEnds, SoFarGrows}
 use Rattle.pdl_shell.specs.declared.runner.Runner.{Runner}
 use Rattle.pdl_shell.specs.declared.stop.Stop.{Stop}
 use Rattle.pdl_shell.specs.declared.stop.Stop.TheVariants.{Source, Sink, Watcher, NoMemory as NoRoom}
-use Rattle.pdl_shell.specs.declared.status.Status.TheVariants.{SourceFault}
+use Rattle.pdl_shell.specs.declared.status.Status.{Status}
+use Rattle.pdl_shell.specs.declared.status.Status.TheVariants.{Done, ScriptFault, SourceFault, NoMemory}
 use Rattle.pdl_shell.specs.Outside.{Outlets, Outside, NoneFailed}
-use Rattle.pdl_shell.specs.Answers.{IsShort, HasReason, TakesAtMost, ending_of_run, status_after, status_of_stop}
+use Rattle.pdl_shell.specs.Answers.{IsShort, HasReason, TakesAtMost, ending_of_run, status_at_end, status_after, status_of_stop}
 use Rattle.pdl_shell.specs.Stops.{Fails, HasCauses, Leaves}
 use Rattle.pdl_shell.specs.Pace.{Behind, end_of_input, past_limit, unknown, behind, marks_left, outcome}
 use Rattle.pdl_shell.specs.CourseLaws.{Laws}
-use Rattle.pdl_shell.specs.Course.{IsFresh, Stands, Carries, StopsShort, FailsWith, Ends, Comes}
+use Rattle.pdl_shell.specs.Course.{IsFresh, Foretells, IsLater, Stands, Carries, StopsShort, FailsWith, Ends, Comes}
 use Rattle.pdl_shell.specs.Taken.{StopsSoon, ComesTo, Reads, terms_for}
+use Rattle.pdl_shell.proofs.Refusing.{foretold}
 use Rattle.pdl_shell.proofs.SlotsHeard.{no_notices}
 use Rattle.pdl_shell.proofs.Taking.{appends_nothing, consumes_then, consumes_kept, takes_at_most}
 use Rattle.pdl_shell.proofs.Following.{short_marks, short_stands, counts_follow}
@@ -160,10 +164,54 @@ pub causes_stopped : (result : Result Bool Stop) (stop : Stop) → IsErrAnd resu
 causes_stopped (Ok x) stop is old new reason = absurd is
 causes_stopped (Err e) stop is old new reason = subst (λ (s : Stop). HasReason (status_of_stop s) old new) (sym is) reason
 
+module _ (first now : Runner) (left : Option (List ℕ)) (out : Outlets) (count : ℕ) (left_now : Option (List ℕ)) (out_now : Outlets)
+    (came : Comes first left out count now left_now out_now) where
+  -- no byte came
+  pub comes_kept : (left_then : Option (List ℕ)) → Consumes left_now left_then [] → Comes first left out count now left_then out_now
+  comes_kept left_then none = record {
+    bytes = came.bytes;
+    counted = came.counted;
+    all = subst (λ (u : List ℕ). Consumes left left_then u) (append-nil came.bytes) (consumes_then left left_now left_then came.bytes [] came.all none);
+    within = came.within;
+    carried = came.carried;
+    none_left = came.none_left;
+    soon = came.soon;
+  }
+
+  pub at_most : TakesAtMost (script_limit + 1) left left_now
+  at_most = takes_at_most (script_limit + 1) left left_now came.bytes came.all (rw came.counted came.within)
+
+  pub at_most_failed : (left_then : Option (List ℕ)) → Keeps left_now left_then → TakesAtMost (script_limit + 1) left left_then
+  at_most_failed left_then kept =
+      takes_at_most (script_limit + 1) left left_then came.bytes (consumes_kept left left_now left_then came.bytes came.all kept) (rw came.counted came.within)
+
+-- more bytes are taken
+module _ (first now : Runner) (left : Option (List ℕ)) (out : Outlets) (count : ℕ) (left_now : Option (List ℕ)) (out_now : Outlets)
+    (came : Comes first left out count now left_now out_now) (left_then : Option (List ℕ)) (part handed : List ℕ) (size : ℕ)
+    (step : Took count now left_now left_then part handed size) where
+  abbrev both : List ℕ
+  both = came.bytes ++ part
+
+  all_taken : Consumes left left_then both
+  all_taken = consumes_then left left_now left_then came.bytes part came.all step.more
+
+  both_length : length both ≡ count + size
+  both_length = length-append came.bytes part ∙ ap (λ n. n + length part) came.counted ∙ ap (λ n. count + n) step.sized
+
+  both_handed : take script_limit both ≡ take script_limit came.bytes ++ handed
+  both_handed =
+      take_of_two script_limit came.bytes part
+      ∙ ap (λ n. take script_limit came.bytes ++ take (script_limit - n) part) came.counted
+      ∙ ap (λ u. take script_limit came.bytes ++ u) (sym step.is)
+
+  pub at_most_short : TakesAtMost (script_limit + 1) left left_then
+  at_most_short = takes_at_most (script_limit + 1) left left_then both all_taken (rw both_length step.within)
+
 module _ (laws : Laws) (first now : Runner) (left : Option (List ℕ)) (out : Outlets) (count : ℕ) (left_now : Option (List ℕ)) (out_now : Outlets)
-    (fresh : IsFresh first) (came : Comes first left out count now left_now out_now) where
+    (fresh : IsFresh first) (came : Comes first left out count now left_now out_now) (refused : List ℕ)
+    (fore : Foretells (terms_for first.keep_going out.slots refused) now) where
   abbrev terms : Terms
-  terms = terms_for first.keep_going out.slots
+  terms = terms_for first.keep_going out.slots refused
 
   at_start : Stands terms out first out (start terms)
   at_start = record {
@@ -173,6 +221,9 @@ module _ (laws : Laws) (first now : Runner) (left : Option (List ℕ)) (out : Ou
       faulted = sym fresh.unfaulted;
       ended = sym fresh.running;
       count = sym fresh.uncounted;
+      refused = sym fresh.unrefused;
+      room = λ _. subst (λ (ns : List ℕ). length ns < refused_limit) (sym fresh.unrefused) (omega arith);
+      counted = subst (λ (ns : List ℕ). All (λ n. n ≤ first.count) ns) (sym fresh.unrefused) (All-nil (λ n. n ≤ first.count));
       slots = sym (ap (λ (ss : Slots). emptied ss (present_in out.slots)) (laws.quiet out.slots [] no_notices) ∙ laws.none out.slots);
       present = laws.below (present_in out.slots);
     };
@@ -182,14 +233,14 @@ module _ (laws : Laws) (first now : Runner) (left : Option (List ℕ)) (out : Ou
 
   -- how far the run has come
   abbrev here : Progress
-  here = (came.carried.on terms out (start terms) at_start).0
+  here = (came.carried.on terms out (start terms) fore at_start).0
 
   stood : Stands terms out now out_now here
-  stood = (came.carried.on terms out (start terms) at_start).1
+  stood = (came.carried.on terms out (start terms) fore at_start).1
 
   over_limit : (follows : Behind) (more : List ℕ)
       → outcome terms follows first.cutter (start terms) (take script_limit came.bytes ++ more) ≡ outcome terms follows now.cutter here more
-  over_limit = (came.carried.on terms out (start terms) at_start).2
+  over_limit = (came.carried.on terms out (start terms) fore at_start).2
 
   pub none_failed : NoneFailed out out_now
   none_failed = (stood.faults, counts_follow laws terms out.slots now out_now.slots here stood.follows)
@@ -261,25 +312,25 @@ module _ (laws : Laws) (first now : Runner) (left : Option (List ℕ)) (out : Ou
 
   -- the run came to its end, or stopped short there
   pub leaves_parts : EndedStays → (is_cut : Bool) → IsTaken is_cut count now left_now → (result : Result Bool Stop) (final : Outlets)
-      → Ends is_cut now out_now result final → (script : List ℕ) → left ≡ Some script → Leaves result (run terms script) out final
+      → Ends is_cut now out_now result refused final → (script : List ℕ) → left ≡ Some script → Leaves result terms (run terms script) out final
   leaves_parts stays is_cut over result final ends script is =
-      subst (λ (p : Progress). Leaves result p out final) (sym (run_last stays is_cut over script is)) (ends.leaves terms out here stood)
+      subst (λ (p : Progress). Leaves result terms p out final) (sym (run_last stays is_cut over script is)) (ends.leaves terms out here refl stood)
 
-  pub fails_parts : (is_cut : Bool) (result : Result Bool Stop) (final : Outlets) → Ends is_cut now out_now result final → FailsWith result out final
-  fails_parts is_cut result final ends = ends.fails terms out here stood
+  pub fails_parts : (is_cut : Bool) (result : Result Bool Stop) (final : Outlets) → Ends is_cut now out_now result refused final → FailsWith result out final
+  fails_parts is_cut result final ends = ends.fails terms out here refl stood
 
-  -- a run that a fault has ended faulted
-  ended_faulted : EndedByAFault → count ≤ script_limit → now.ended ≡ true → here.faulted ≡ true
-  ended_faulted by_fault near ended =
+  -- where a run is ended, a statement of it wasn't run
+  ended_wrong : EndedByAFault → count ≤ script_limit → now.ended ≡ true → went_wrong here ≡ true
+  ended_wrong by_fault near ended =
       let same : so_far terms came.bytes ≡ here = so_far_is near in
-      sym (ap (λ p. p.faulted) same) ∙ by_fault terms (settled_marks came.bytes) (ap (λ p. p.ended) same ∙ stood.follows.ended ∙ ended)
+      sym (ap (λ p. went_wrong p) same) ∙ by_fault terms (settled_marks came.bytes) (ap (λ p. p.ended) same ∙ stood.follows.ended ∙ ended)
 
-  past_faulted : EndedByAFault → TooLongEnds → script_limit < count → (outcome terms past_limit now.cutter here []).faulted ≡ true
-  past_faulted by_fault too_long over =
+  past_wrong : EndedByAFault → TooLongEnds → script_limit < count → went_wrong (outcome terms past_limit now.cutter here []) ≡ true
+  past_wrong by_fault too_long over =
       let script : List ℕ = came.bytes ++ [] in
       let counted : length came.bytes ≡ count = came.counted in
       let far : script_limit < length script = grind (arith, length-append {A = ℕ}, counted, over) in
-      sym (ap (λ p. p.faulted) (past over [])) ∙ by_fault terms (script_marks script) (too_long terms script far)
+      sym (ap (λ p. went_wrong p) (past over [])) ∙ by_fault terms (script_marks script) (too_long terms script far)
 
   past_ended : TooLongEnds → script_limit < count → (so_far terms came.bytes).ended ≡ true
   past_ended too_long over =
@@ -293,172 +344,155 @@ module _ (laws : Laws) (first now : Runner) (left : Option (List ℕ)) (out : Ou
   comes_faulted too_long false (near, inr ended) = inr (ap (λ p. p.ended) (so_far_is near) ∙ stood.follows.ended ∙ ended)
 
   comes_done : EndedStays → EndedByAFault → TooLongEnds → (is_cut : Bool) → IsTaken is_cut count now left_now
-      → false ≡ (outcome terms (behind is_cut) now.cutter here []).faulted → IsAtEnd left_now
-  comes_done stays by_fault too_long true over done = absurd (both_ways _ (sym done) (past_faulted by_fault too_long over))
+      → went_wrong (outcome terms (behind is_cut) now.cutter here []) ≡ false → IsAtEnd left_now
+  comes_done stays by_fault too_long true over done = absurd (both_ways _ done (past_wrong by_fault too_long over))
   comes_done stays by_fault too_long false (near, inl end) done = end
   comes_done stays by_fault too_long false (near, inr ended) done =
       let last : outcome terms end_of_input now.cutter here [] ≡ here =
       stays terms here (marks_left end_of_input now.cutter []) (stood.follows.ended ∙ ended) in
-      absurd (both_ways here.faulted (sym (done ∙ ap (λ p. p.faulted) last)) (ended_faulted by_fault near ended))
+      absurd (both_ways (went_wrong here) (sym (ap (λ p. went_wrong p) last) ∙ done) (ended_wrong by_fault near ended))
+
+  -- by the status of a run that came to its end
+  comes_at_end : EndedStays → EndedByAFault → TooLongEnds → (is_cut : Bool) → IsTaken is_cut count now left_now
+      → (faulted : Bool) (numbers : List ℕ) (faults faults_now : ℕ) (final : Outlets) (last : Progress)
+      → last ≡ outcome terms (behind is_cut) now.cutter here [] → faulted ≡ last.faulted → last.refused ≡ numbers
+      → ComesTo (status_at_end faulted numbers) terms (so_far terms came.bytes) (record { left = left; faults = faults; out = out })
+      (record { left = left_now; faults = faults_now; out = final })
+  comes_at_end stays by_fault too_long is_cut over true [] faults faults_now final last is faulted none = comes_faulted too_long is_cut over
+  comes_at_end stays by_fault too_long is_cut over false [] faults faults_now final last is faulted none =
+      comes_done stays by_fault too_long is_cut over
+      (ap (λ (p : Progress). went_wrong p) (sym is)
+      ∙ ap (λ (b : Bool). b || nat_lt 0 (length last.refused)) (sym faulted)
+      ∙ ap (λ (ns : List ℕ). nat_lt 0 (length ns)) none)
+  comes_at_end stays by_fault too_long is_cut over faulted (n ∷ ns) faults faults_now final last is same met = tt
 
   comes_to : EndedStays → EndedByAFault → TooLongEnds → (is_cut : Bool) → IsTaken is_cut count now left_now
       → (result : Result Bool Stop) (faults faults_now : ℕ) (final : Outlets) → FailsWith result out final
-      → Leaves result (outcome terms (behind is_cut) now.cutter here []) out final
-      → ComesTo (status_after result) (so_far terms came.bytes) (record { left = left; faults = faults; out = out })
+      → Leaves result terms (outcome terms (behind is_cut) now.cutter here []) out final
+      → ComesTo (status_after result refused) terms (so_far terms came.bytes) (record { left = left; faults = faults; out = out })
       (record { left = left_now; faults = faults_now; out = final })
-  comes_to stays by_fault too_long is_cut over (Ok true) faults faults_now final fails leaves = comes_faulted too_long is_cut over
-  comes_to stays by_fault too_long is_cut over (Ok false) faults faults_now final fails leaves = comes_done stays by_fault too_long is_cut over leaves.0
+  comes_to stays by_fault too_long is_cut over (Ok faulted) faults faults_now final fails leaves =
+      comes_at_end stays by_fault too_long is_cut over faulted refused faults faults_now final (outcome terms (behind is_cut) now.cutter here []) refl leaves.0 leaves.1.met
   comes_to stays by_fault too_long is_cut over (Err Source) faults faults_now final fails leaves = absurd fails
   comes_to stays by_fault too_long is_cut over (Err Sink) faults faults_now final fails leaves = tt
   comes_to stays by_fault too_long is_cut over (Err Watcher) faults faults_now final fails leaves = tt
   comes_to stays by_fault too_long is_cut over (Err NoRoom) faults faults_now final fails leaves = tt
 
   pub reads_parts : EndedStays → EndedByAFault → TooLongEnds → (is_cut : Bool) → IsTaken is_cut count now left_now
-      → (result : Result Bool Stop) (faults faults_now : ℕ) (final : Outlets) → Ends is_cut now out_now result final
-      → Reads first.keep_going (status_after result) (record { left = left; faults = faults; out = out })
+      → (result : Result Bool Stop) (faults faults_now : ℕ) (final : Outlets) → Ends is_cut now out_now result refused final
+      → Reads first.keep_going refused (status_after result refused) (record { left = left; faults = faults; out = out })
       (record { left = left_now; faults = faults_now; out = final })
   reads_parts stays by_fault too_long is_cut over result faults faults_now final ends = record {
     taken = came.bytes;
     all = came.all;
-    soon = came.soon;
-    so_far = comes_to stays by_fault too_long is_cut over result faults faults_now final (ends.fails terms out here stood) (ends.leaves terms out here stood);
+    soon = came.soon refused fore;
+    so_far = comes_to stays by_fault too_long is_cut over result faults faults_now final (ends.fails terms out here refl stood) (ends.leaves terms out here refl stood);
   }
-
-  -- no byte came
-  pub comes_kept : (left_then : Option (List ℕ)) → Consumes left_now left_then [] → Comes first left out count now left_then out_now
-  comes_kept left_then none = record {
-    bytes = came.bytes;
-    counted = came.counted;
-    all = subst (λ (u : List ℕ). Consumes left left_then u) (append-nil came.bytes) (consumes_then left left_now left_then came.bytes [] came.all none);
-    within = came.within;
-    carried = came.carried;
-    none_left = came.none_left;
-    soon = came.soon;
-  }
-
-  pub at_most : TakesAtMost (script_limit + 1) left left_now
-  at_most = takes_at_most (script_limit + 1) left left_now came.bytes came.all (rw came.counted came.within)
 
   -- the source fails
-  pub reads_failed : count ≤ script_limit → now.ended ≡ false → (left_then : Option (List ℕ)) (faults faults_then : ℕ) → Keeps left_now left_then
-      → Reads first.keep_going SourceFault (record { left = left; faults = faults; out = out })
+  pub reads_failed : now.refused ≡ refused → count ≤ script_limit → now.ended ≡ false → (left_then : Option (List ℕ)) (faults faults_then : ℕ) → Keeps left_now left_then
+      → Reads first.keep_going refused SourceFault (record { left = left; faults = faults; out = out })
       (record { left = left_then; faults = faults_then; out = out_now })
-  reads_failed near running left_then faults faults_then kept =
+  reads_failed met near running left_then faults faults_then kept =
       let same : so_far terms came.bytes ≡ here = so_far_is near in
       record {
         taken = came.bytes;
         all = consumes_kept left left_now left_then came.bytes came.all kept;
-        soon = came.soon;
-        so_far = subst (λ (p : Progress). ComesTo SourceFault p (record { left = left; faults = faults; out = out })
-            (record { left = left_then; faults = faults_then; out = out_now })) (sym same) (stood.text, stood.follows.slots, stood.follows.ended ∙ running);
+        soon = came.soon refused fore;
+        so_far = subst (λ (p : Progress). ComesTo SourceFault terms p (record { left = left; faults = faults; out = out })
+            (record { left = left_then; faults = faults_then; out = out_now })) (sym same) (stood.text, stood.follows.slots, stood.follows.ended ∙ running, stood.follows.refused ∙ met);
       }
 
-  pub at_most_failed : (left_then : Option (List ℕ)) → Keeps left_now left_then → TakesAtMost (script_limit + 1) left left_then
-  at_most_failed left_then kept =
-      takes_at_most (script_limit + 1) left left_then came.bytes (consumes_kept left left_now left_then came.bytes came.all kept) (rw came.counted came.within)
-
-  pub short_failed : (script : List ℕ) → left ≡ Some script → IsShort (ending_of_run (run terms script)) out out_now
+  pub short_failed : (script : List ℕ) → left ≡ Some script → IsShort (ending_of_run terms (run terms script)) out out_now
   short_failed script is =
       let s = rest_of left left_now came.bytes script came.all is in
       let follows : Behind = behind (nat_lt script_limit (length (came.bytes ++ s.0))) in
       let rest : List ℕ = take (script_limit - length came.bytes) s.0 in
       let comes : run terms script ≡ outcome terms follows now.cutter here rest = ap (run terms) s.1 ∙ goes_on s.0 in
-      subst (λ (p : Progress). IsShort (ending_of_run p) out out_now) (sym comes)
+      subst (λ (p : Progress). IsShort (ending_of_run terms p) out out_now) (sym comes)
       (short_marks laws terms out out_now here (marks_left follows now.cutter rest) (short_stands laws terms out now out_now here stood))
 
   -- more bytes are taken
   module _ (grows : SoFarGrows) (stays : EndedStays) (left_then : Option (List ℕ)) (part handed : List ℕ) (size : ℕ)
       (step : Took count now left_now left_then part handed size) where
-    abbrev both : List ℕ
-    both = came.bytes ++ part
-
-    all_taken : Consumes left left_then both
-    all_taken = consumes_then left left_now left_then came.bytes part came.all step.more
-
-    both_length : length both ≡ count + size
-    both_length = length-append came.bytes part ∙ ap (λ n. n + length part) came.counted ∙ ap (λ n. count + n) step.sized
-
-    soon_taken : StopsSoon terms both
+    pub soon_taken : StopsSoon terms (came.bytes ++ part)
     soon_taken =
         let fits : length part ≤ 4096 = rw step.sized step.short in
         soon_after grows stays terms came.bytes part (ap (λ p. p.ended) (so_far_is step.near) ∙ stood.follows.ended ∙ step.running) fits
 
-    both_handed : take script_limit both ≡ take script_limit came.bytes ++ handed
-    both_handed =
-        take_of_two script_limit came.bytes part
-        ∙ ap (λ n. take script_limit came.bytes ++ take (script_limit - n) part) came.counted
-        ∙ ap (λ u. take script_limit came.bytes ++ u) (sym step.is)
-
-    pub at_most_short : TakesAtMost (script_limit + 1) left left_then
-    at_most_short = takes_at_most (script_limit + 1) left left_then both all_taken (rw both_length step.within)
-
-    -- they are run over
-    pub comes_on : (new : Runner) (out_then : Outlets) → Carries handed now out_now [] new out_then → settled_from new.cutter [] ≡ []
-        → Comes first left out (count + size) new left_then out_then
-    comes_on new out_then carried none_left =
-        let joined : Carries (take script_limit came.bytes ++ handed) first out [] new out_then =
-        carries_on first now new (take script_limit came.bytes) handed out out_now out_then came.carried carried in
-        record {
-          bytes = both;
-          counted = both_length;
-          all = all_taken;
-          within = step.within;
-          carried = subst (λ (u : List ℕ). Carries u first out [] new out_then) (sym both_handed) joined;
-          none_left = none_left;
-          soon = soon_taken;
-        }
-
     -- the run stops short over them
-    pub short_parts : (stop : Stop) (final : Outlets) → StopsShort handed now out_now stop final
-        → (script : List ℕ) → left ≡ Some script → IsShort (ending_of_run (run terms script)) out final
-    short_parts stop final stopped script is_left =
-        let s = rest_of left left_then both script all_taken is_left in
+    pub short_parts : (stop : Stop) (new : Runner) (final : Outlets) → Foretells terms new → StopsShort handed now out_now stop new final
+        → (script : List ℕ) → left ≡ Some script → IsShort (ending_of_run terms (run terms script)) out final
+    short_parts stop new final known stopped script is_left =
+        let s = rest_of left left_then (came.bytes ++ part) script
+        (all_taken first now left out count left_now out_now came left_then part handed size step) is_left in
         let follows : Behind = behind (nat_lt script_limit (length script)) in
-        let behind_both : List ℕ = take (script_limit - length both) s.0 in
+        let behind_both : List ℕ = take (script_limit - length (came.bytes ++ part)) s.0 in
         let bytes_are : take script_limit script ≡ (take script_limit came.bytes ++ handed) ++ behind_both =
-        ap (take script_limit) s.1 ∙ take_of_two script_limit both s.0 ∙ ap (λ u. u ++ behind_both) both_handed in
+        ap (take script_limit) s.1 ∙ take_of_two script_limit (came.bytes ++ part) s.0
+        ∙ ap (λ u. u ++ behind_both) (both_handed first now left out count left_now out_now came left_then part handed size step) in
         let comes : run terms script ≡ outcome terms follows first.cutter (start terms) ((take script_limit came.bytes ++ handed) ++ behind_both) =
         run_is first fresh terms script ∙ ap (outcome terms follows first.cutter (start terms)) bytes_are in
-        let joined : StopsShort (take script_limit came.bytes ++ handed) first out stop final =
-        stops_on first now (take script_limit came.bytes) handed out out_now stop final came.carried stopped in
-        subst (λ (p : Progress). IsShort (ending_of_run p) out final) (sym comes) (joined.short terms out (start terms) at_start follows behind_both)
+        let joined : StopsShort (take script_limit came.bytes ++ handed) first out stop new final =
+        stops_on first now (take script_limit came.bytes) handed out out_now stop new final came.carried stopped in
+        subst (λ (p : Progress). IsShort (ending_of_run terms p) out final) (sym comes) (joined.short terms out (start terms) known at_start follows behind_both)
 
-    pub fails_parts_short : (stop : Stop) (final : Outlets) → StopsShort handed now out_now stop final → Fails stop out final
-    fails_parts_short stop final stopped = stopped.fails terms out here stood
+    pub fails_parts_short : (stop : Stop) (new : Runner) (final : Outlets) → Foretells terms new → StopsShort handed now out_now stop new final → Fails stop out final
+    fails_parts_short stop new final known stopped = stopped.fails terms out here known stood
 
     pub reads_short : (stop : Stop) (faults faults_then : ℕ) (final : Outlets) → Fails stop out final
-        → Reads first.keep_going (status_of_stop stop) (record { left = left; faults = faults; out = out })
+        → Reads first.keep_going refused (status_of_stop stop) (record { left = left; faults = faults; out = out })
         (record { left = left_then; faults = faults_then; out = final })
     reads_short stop faults faults_then final fails = record {
-      taken = both;
-      all = all_taken;
+      taken = came.bytes ++ part;
+      all = all_taken first now left out count left_now out_now came left_then part handed size step;
       soon = soon_taken;
       so_far = for_stop stop fails;
     }
       where
         for_stop : (stop : Stop) → Fails stop out final
-            → ComesTo (status_of_stop stop) (so_far terms both) (record { left = left; faults = faults; out = out })
+            → ComesTo (status_of_stop stop) terms (so_far terms (came.bytes ++ part)) (record { left = left; faults = faults; out = out })
             (record { left = left_then; faults = faults_then; out = final })
         for_stop Source fails = absurd fails
         for_stop Sink fails = tt
         for_stop Watcher fails = tt
         for_stop NoRoom fails = tt
 
+-- more bytes are run over
+pub comes_on : (laws : Laws) (first now : Runner) (left : Option (List ℕ)) (out : Outlets) (count : ℕ) (left_now : Option (List ℕ)) (out_now : Outlets)
+    (fresh : IsFresh first) (came : Comes first left out count now left_now out_now)
+    (grows : SoFarGrows) (stays : EndedStays) (left_then : Option (List ℕ)) (part handed : List ℕ) (size : ℕ)
+    (step : Took count now left_now left_then part handed size) (new : Runner) (out_then : Outlets)
+    → Carries handed now out_now [] new out_then → settled_from new.cutter [] ≡ [] → Comes first left out (count + size) new left_then out_then
+comes_on laws first now left out count left_now out_now fresh came grows stays left_then part handed size step new out_then carried none_left =
+    let joined : Carries (take script_limit came.bytes ++ handed) first out [] new out_then =
+    carries_on first now new (take script_limit came.bytes) handed out out_now out_then came.carried carried in
+    record {
+      bytes = came.bytes ++ part;
+      counted = both_length first now left out count left_now out_now came left_then part handed size step;
+      all = all_taken first now left out count left_now out_now came left_then part handed size step;
+      within = step.within;
+      carried = subst (λ (u : List ℕ). Carries u first out [] new out_then) (sym (both_handed first now left out count left_now out_now came left_then part handed size step)) joined;
+      none_left = none_left;
+      soon = λ refused fore. soon_taken laws first now left out count left_now out_now fresh came refused
+          (foretold (terms_for first.keep_going out.slots refused) now new carried.later fore) grows stays left_then part handed size step;
+    }
+
 -- a part stopped short before the end
-pub leaves_stopped : (result : Result Bool Stop) (stop : Stop) → IsErrAnd result (λ e. e ≡ stop) → (p : Progress) (out final : Outlets)
-    → IsShort (ending_of_run p) out final → Leaves result p out final
-leaves_stopped (Ok faulted) stop is p out final short = absurd is
-leaves_stopped (Err Source) stop is p out final short = short
-leaves_stopped (Err Sink) stop is p out final short = short
-leaves_stopped (Err Watcher) stop is p out final short = inl short
-leaves_stopped (Err NoRoom) stop is p out final short = short
+pub leaves_stopped : (result : Result Bool Stop) (stop : Stop) → IsErrAnd result (λ e. e ≡ stop) → (given : Terms) (p : Progress) (out final : Outlets)
+    → IsShort (ending_of_run given p) out final → Leaves result given p out final
+leaves_stopped (Ok faulted) stop is given p out final short = absurd is
+leaves_stopped (Err Source) stop is given p out final short = short
+leaves_stopped (Err Sink) stop is given p out final short = short
+leaves_stopped (Err Watcher) stop is given p out final short = inl short
+leaves_stopped (Err NoRoom) stop is given p out final short = short
 
-pub reads_result : {T : Type 0} (result : Result T Stop) (stop : Stop) → IsErrAnd result (λ e. e ≡ stop) → (keep : Bool) (old new : Outside)
-    → Reads keep (status_of_stop stop) old new → IfErr result (λ s. Reads keep (status_of_stop s) old new)
-reads_result (Ok x) stop is keep old new reads = absurd is
-reads_result (Err e) stop is keep old new reads = subst (λ (s : Stop). Reads keep (status_of_stop s) old new) (sym is) reads
+pub reads_result : {T : Type 0} (result : Result T Stop) (stop : Stop) → IsErrAnd result (λ e. e ≡ stop) → (keep : Bool) (refused : List ℕ) (old new : Outside)
+    → Reads keep refused (status_of_stop stop) old new → IfErr result (λ s. Reads keep refused (status_of_stop s) old new)
+reads_result (Ok x) stop is keep refused old new reads = absurd is
+reads_result (Err e) stop is keep refused old new reads = subst (λ (s : Stop). Reads keep refused (status_of_stop s) old new) (sym is) reads
 
-pub reads_stopped : (result : Result Bool Stop) (stop : Stop) → IsErrAnd result (λ e. e ≡ stop) → (keep : Bool) (old new : Outside)
-    → Reads keep (status_of_stop stop) old new → Reads keep (status_after result) old new
-reads_stopped (Ok x) stop is keep old new reads = absurd is
-reads_stopped (Err e) stop is keep old new reads = subst (λ (s : Stop). Reads keep (status_of_stop s) old new) (sym is) reads
+pub reads_stopped : (result : Result Bool Stop) (stop : Stop) → IsErrAnd result (λ e. e ≡ stop) → (keep : Bool) (refused : List ℕ) (old new : Outside)
+    → Reads keep refused (status_of_stop stop) old new → Reads keep refused (status_after result refused) old new
+reads_stopped (Ok x) stop is keep refused old new reads = absurd is
+reads_stopped (Err e) stop is keep refused old new reads = subst (λ (s : Stop). Reads keep refused (status_of_stop s) old new) (sym is) reads

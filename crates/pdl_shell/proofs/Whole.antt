@@ -1,11 +1,11 @@
 -- What an answer says of a run.
-use Rattle.std.proofs.Common.{◌≡◌, ℕ, List, [], Bool, true, false, Option, Some, Result, Ok, Err, length, refl, sym, ◌∙◌, ap, subst}
+use Rattle.std.proofs.Common.{◌≡◌, ℕ, List, [], ◌∷◌, Bool, true, false, inl, inr, Option, Some, Result, Ok, Err, length, refl, sym, ◌∙◌, ap, subst}
 use Rattle.std.specs.Prelude.{◌≢◌, OnOk}
 use Rattle.std.specs.Io.KnownBytes.{Appends}
 use Rattle.pdl_io.specs.Told.{Says, AppendsPrefix}
 use Rattle.pdl_watch.specs.Slots.{Slots, emptied, present_in}
 use Rattle.pdl_watch.specs.SlotLaws.{NoneIsEmptied, QuietTellsNone, NothingEnds}
-use Rattle.pdl_machine.specs.Run.{Progress}
+use Rattle.pdl_machine.specs.Run.{Terms, Progress, run}
 use Rattle.pdl_shell.specs.declared.words.Command.{Command}
 use Rattle.pdl_shell.specs.declared.words.Command.TheVariants.{Run, Generate}
 use Rattle.pdl_shell.specs.declared.stop.Stop.{Stop}
@@ -13,59 +13,89 @@ use Rattle.pdl_shell.specs.declared.stop.Stop.TheVariants.{Source, Sink, Watcher
 use Rattle.pdl_shell.specs.declared.status.Status.{Status}
 use Rattle.pdl_shell.specs.declared.status.Status.TheVariants.{Done, ScriptFault, Usage, SourceFault, SinkFault, WatcherFault, NoMemory}
 use Rattle.pdl_shell.specs.Outside.{Outlets, Outside}
-use Rattle.pdl_shell.specs.Answers.{CameToItsEnd, Ending, IsWhole, IsShort, HeardShort, Gives, CanAnswer, HasReason, IsUndisturbed, ending, aside, ending_of_run, slots_after, status_of_stop, status_after}
-use Rattle.pdl_shell.specs.Taken.{Reads}
+use Rattle.pdl_shell.specs.Answers.{CameToItsEnd, Ending, IsWhole, IsShort, HeardShort, Gives, CanAnswer, HasReason, IsUndisturbed, ending, aside, ending_of_run, slots_after, status_at_end, status_of_stop, status_after}
+use Rattle.pdl_shell.specs.Taken.{Reads, terms_for}
 use Rattle.pdl_shell.specs.Stops.{HasSinkCause, HasCauses, Leaves}
 use Rattle.pdl_shell.proofs.SlotsHeard.{counts_same, no_notices, heard_by}
 
--- what a status says of the run
-pub gives_after : (result : Result Bool Stop) (whole : Progress) (old new : Outlets) → Leaves result whole old new
-    → Gives (status_after result) (ending_of_run whole) old new
-gives_after (Ok true) whole old new left = (rw (← left.0) refl, left.1)
-gives_after (Ok false) whole old new left = (rw (← left.0) refl, left.1)
-gives_after (Err Source) whole old new left = left
-gives_after (Err Sink) whole old new left = left
-gives_after (Err Watcher) whole old new left = left
-gives_after (Err NoRoom) whole old new left = left
+-- what a status says of a run that came to its end
+gives_at_end : (faulted : Bool) (refused : List ℕ) (e : Ending) (old new : Outlets) → status_at_end faulted refused ≡ e.status → IsWhole e old new
+    → Says new.flushed true → Gives (status_at_end faulted refused) e old new
+gives_at_end true [] e old new is whole flushed = (is, whole)
+gives_at_end false [] e old new is whole flushed = (is, whole)
+gives_at_end faulted (n ∷ ns) e old new is whole flushed = inl (record { status = is; whole = whole; flushed = flushed })
+
+-- and of any run
+pub gives_after : (result : Result Bool Stop) (terms : Terms) (whole : Progress) (old new : Outlets) → Leaves result terms whole old new
+    → OnOk result (Says new.flushed true) → Gives (status_after result terms.refused) (ending_of_run terms whole) old new
+gives_after (Ok faulted) terms whole old new left flushed =
+    gives_at_end faulted terms.refused (ending_of_run terms whole) old new
+    (ap (λ (b : Bool). status_at_end b terms.refused) left.0 ∙ ap (λ (ns : List ℕ). status_at_end whole.faulted ns) (sym left.1.met)) left.1 flushed
+gives_after (Err Source) terms whole old new left flushed = left
+gives_after (Err Sink) terms whole old new left flushed = left
+gives_after (Err Watcher) terms whole old new left flushed = left
+gives_after (Err NoRoom) terms whole old new left flushed = inr left
 
 -- and of the counts
-pub reason_after : (result : Result Bool Stop) (old new : Outside) → HasCauses old new result → HasReason (status_after result) old new
-reason_after (Ok true) old new causes = causes
-reason_after (Ok false) old new causes = causes
-reason_after (Err stop) old new causes = causes
+reason_at_end : (faulted : Bool) (refused : List ℕ) (old new : Outside) → HasReason Done old new → HasReason (status_at_end faulted refused) old new
+reason_at_end true [] old new quiet = quiet
+reason_at_end false [] old new quiet = quiet
+reason_at_end faulted (n ∷ ns) old new quiet = quiet
+
+pub reason_after : (result : Result Bool Stop) (refused : List ℕ) (old new : Outside) → HasCauses old new result → HasReason (status_after result refused) old new
+reason_after (Ok faulted) refused old new causes = reason_at_end faulted refused old new causes
+reason_after (Err stop) refused old new causes = causes
 
 -- and of how the run can be answered, and of the sink
-pub answers_after : (result : Result Bool Stop) (keep : Bool) → CanAnswer (Some (Run keep)) (status_after result)
-answers_after (Ok true) keep = tt
-answers_after (Ok false) keep = tt
-answers_after (Err Source) keep = tt
-answers_after (Err Sink) keep = tt
-answers_after (Err Watcher) keep = tt
-answers_after (Err NoRoom) keep = tt
+answers_at_end : (faulted : Bool) (refused : List ℕ) (keep : Bool) → CanAnswer (Some (Run keep)) (status_at_end faulted refused)
+answers_at_end true [] keep = tt
+answers_at_end false [] keep = tt
+answers_at_end faulted (n ∷ ns) keep = tt
 
-pub flushed_after : (result : Result Bool Stop) (told : Option Bool) → OnOk result (Says told true) → CameToItsEnd (status_after result) → Says told true
-flushed_after (Ok x) told flushed ended = flushed
-flushed_after (Err Source) told flushed ended = absurd ended
-flushed_after (Err Sink) told flushed ended = absurd ended
-flushed_after (Err Watcher) told flushed ended = absurd ended
-flushed_after (Err NoRoom) told flushed ended = absurd ended
+pub answers_after : (result : Result Bool Stop) (refused : List ℕ) (keep : Bool) → CanAnswer (Some (Run keep)) (status_after result refused)
+answers_after (Ok faulted) refused keep = answers_at_end faulted refused keep
+answers_after (Err Source) refused keep = tt
+answers_after (Err Sink) refused keep = tt
+answers_after (Err Watcher) refused keep = tt
+answers_after (Err NoRoom) refused keep = tt
+
+pub flushed_after : (result : Result Bool Stop) (refused : List ℕ) (told : Option Bool) → OnOk result (Says told true) → CameToItsEnd (status_after result refused) → Says told true
+flushed_after (Ok x) refused told flushed ended = flushed
+flushed_after (Err Source) refused told flushed ended = absurd ended
+flushed_after (Err Sink) refused told flushed ended = absurd ended
+flushed_after (Err Watcher) refused told flushed ended = absurd ended
+flushed_after (Err NoRoom) refused told flushed ended = absurd ended
+
+-- what is said of the run that goes on or doesn't, with these refused statements, is said of the same
+pub leaves_by : (k keep : Bool) → k ≡ keep → (ns refused : List ℕ) → ns ≡ refused → (result : Result Bool Stop) (slots : Slots) (script : List ℕ) (old new : Outlets)
+    → Leaves result (terms_for k slots ns) (run (terms_for k slots ns) script) old new
+    → Leaves result (terms_for keep slots refused) (run (terms_for keep slots refused) script) old new
+leaves_by k keep same ns refused known result slots script old new left =
+    subst (λ (all : List ℕ). Leaves result (terms_for keep slots all) (run (terms_for keep slots all) script) old new) known
+    (subst (λ (b : Bool). Leaves result (terms_for b slots ns) (run (terms_for b slots ns) script) old new) same left)
+
+pub reads_parts_by : (k keep : Bool) → k ≡ keep → (ns refused : List ℕ) → ns ≡ refused → (result : Result Bool Stop) (old new : Outside)
+    → Reads k ns (status_after result ns) old new → Reads keep refused (status_after result refused) old new
+reads_parts_by k keep same ns refused known result old new reads =
+    subst (λ (all : List ℕ). Reads keep all (status_after result all) old new) known
+    (subst (λ (b : Bool). Reads b ns (status_after result ns) old new) same reads)
 
 -- what is said of one status, or of one command, is said of the same
 pub gives_by : (wanted status : Status) → status ≡ wanted → (e : Ending) (old new : Outlets) → Gives wanted e old new → Gives status e old new
 gives_by wanted status is e old new gives = subst (λ (s : Status). Gives s e old new) (sym is) gives
 
-pub reads_by : (wanted status : Status) → status ≡ wanted → (keep : Bool) (old new : Outside) → Reads keep wanted old new → Reads keep status old new
-reads_by wanted status is keep old new reads = subst (λ (s : Status). Reads keep s old new) (sym is) reads
+pub reads_by : (wanted status : Status) → status ≡ wanted → (keep : Bool) (refused : List ℕ) (old new : Outside) → Reads keep refused wanted old new → Reads keep refused status old new
+reads_by wanted status is keep refused old new reads = subst (λ (s : Status). Reads keep refused s old new) (sym is) reads
 
 pub reason_by : (wanted status : Status) → status ≡ wanted → (old new : Outside) → HasReason wanted old new → HasReason status old new
 reason_by wanted status is old new reason = subst (λ (s : Status). HasReason s old new) (sym is) reason
 
-pub reads_keep : (a b : Bool) → a ≡ b → (status : Status) (old new : Outside) → Reads a status old new → Reads b status old new
-reads_keep a b same status old new reads = subst (λ (k : Bool). Reads k status old new) same reads
+pub reads_keep : (a b : Bool) → a ≡ b → (refused : List ℕ) (status : Status) (old new : Outside) → Reads a refused status old new → Reads b refused status old new
+reads_keep a b same refused status old new reads = subst (λ (k : Bool). Reads k refused status old new) same reads
 
-pub gives_command : (a b : Option Command) → a ≡ b → (status : Status) (script : List ℕ) (slots : Slots) (old new : Outlets)
-    → Gives status (ending a (present_in slots) script) old new → Gives status (ending b (present_in slots) script) old new
-gives_command a b same status script slots old new gives = subst (λ (o : Option Command). Gives status (ending o (present_in slots) script) old new) same gives
+pub gives_command : (a b : Option Command) → a ≡ b → (status : Status) (refused script : List ℕ) (slots : Slots) (old new : Outlets)
+    → Gives status (ending a (present_in slots) refused script) old new → Gives status (ending b (present_in slots) refused script) old new
+gives_command a b same status refused script slots old new gives = subst (λ (o : Option Command). Gives status (ending o (present_in slots) refused script) old new) same gives
 
 -- a call came to its end where no count rose
 pub quiet_complete : (status : Status) (old new : Outside) → HasReason status old new → IsUndisturbed old new → status ≢ NoMemory → CameToItsEnd status
@@ -87,7 +117,7 @@ pub aside_whole : NoneIsEmptied → QuietTellsNone → NothingEnds → (status :
     → IsWhole (aside status text (present_in slots)) (record { taken = old; flushed = flushed; faults = faults; slots = slots })
     (record { taken = new; flushed = flushed'; faults = faults'; slots = slots })
 aside_whole none quiet nothing status text slots old new flushed flushed' faults faults' wrote =
-    record { text = wrote; slots = sym (aside_same none quiet nothing status text slots) }
+    record { text = wrote; met = refl; slots = sym (aside_same none quiet nothing status text slots) }
 
 pub aside_short : NoneIsEmptied → QuietTellsNone → (status : Status) (text : List ℕ) (slots : Slots) (old new : Option (List ℕ)) (flushed flushed' : Option Bool) (faults faults' : ℕ)
     → AppendsPrefix old new text
@@ -110,7 +140,7 @@ aside_stops none quiet Sink status text slots old new flushed flushed' faults fa
     aside_short none quiet status text slots old new flushed flushed' faults faults' wrote
 aside_stops none quiet Watcher status text slots old new flushed flushed' faults faults' cause wrote = absurd cause
 aside_stops none quiet NoRoom status text slots old new flushed flushed' faults faults' cause wrote =
-    aside_short none quiet status text slots old new flushed flushed' faults faults' wrote
+    inr (aside_short none quiet status text slots old new flushed flushed' faults faults' wrote)
 
 pub aside_reason : (stop : Stop) (left : Option (List ℕ)) (reads : ℕ) (slots : Slots) (old new : Option (List ℕ)) (flushed flushed' : Option Bool) (faults faults' : ℕ)
     → HasSinkCause {T = Unit {0}} faults faults' (Err stop)

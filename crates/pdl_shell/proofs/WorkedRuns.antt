@@ -19,14 +19,14 @@ use Rattle.pdl_watch.specs.Watched.{Watched}
 use Rattle.pdl_watch.specs.Slots.{Slots, notices_of}
 use Rattle.pdl_machine.specs.Run.{so_far}
 use Rattle.pdl_shell.specs.declared.status.Status.{Status}
-use Rattle.pdl_shell.specs.declared.status.Status.TheVariants.{Done, ScriptFault, Usage, SinkFault, NoMemory}
+use Rattle.pdl_shell.specs.declared.status.Status.TheVariants.{Done, ScriptFault, Usage, SinkFault, WatcherFault, NoMemory}
 use Rattle.pdl_shell.specs.Outside.{Outside}
 use Rattle.pdl_shell.specs.Answers.{Ending, Gives, ending}
 use Rattle.pdl_shell.specs.Taken.{terms_for}
 use Rattle.pdl_shell.specs.Headline.{HeardOrEnded, OfWholeStatements}
-use Rattle.pdl_shell.specs.TwoStatements.{two_numbers, a_fault, a_watch, comes_to, Writes, WritesAFront, WorkedStatuses}
+use Rattle.pdl_shell.specs.TwoStatements.{two_numbers, a_fault, a_watch, comes_to, without_first, Writes, WritesAFront, WorkedStatuses}
 use Rattle.pdl_shell.proofs.HeadlineLemmas.{all_front, ends_write, source_leaves}
-use Rattle.pdl_shell.proofs.Guards.{watcher_fault_front}
+use Rattle.pdl_shell.proofs.Guards.{others_front}
 use Rattle.pdl_shell.proofs.SlotsHeard.{behind_none}
 
 two_text : (comes_to [] two_numbers).text ≡ codes "7\n8\n"
@@ -45,7 +45,19 @@ fault_status : (comes_to [] a_fault).status ≡ ScriptFault
 unfolding digits behind_token go_deep longest token_at toks_from toks item_at items_at inside_at list_reader chain_at arg_at more_at closed_at maybe_at primary_at methods_at postfix_at unary_at level_at grown_at reader parsed names_at expression_to_end_at valued_at called_at bind_list_at views_at assignment_at statement_of_name_at binding_at show_at statement_at look has_nice plain_text nice_reader
 fault_status = refl
 
-first_text : (slots : Slots) → (so_far (terms_for false slots) (codes "p 7;")).printed ≡ codes "7\n"
+refused_text : (without_first two_numbers).text ≡ codes "pdl: line 1: out of memory\n8\n"
+unfolding digits behind_token go_deep longest token_at toks_from toks item_at items_at inside_at list_reader chain_at arg_at more_at closed_at maybe_at primary_at methods_at postfix_at unary_at level_at grown_at reader parsed names_at expression_to_end_at valued_at called_at bind_list_at views_at assignment_at statement_of_name_at binding_at show_at statement_at look has_nice plain_text nice_reader
+refused_text = refl
+
+refused_status : (without_first two_numbers).status ≡ NoMemory
+unfolding digits behind_token go_deep longest token_at toks_from toks item_at items_at inside_at list_reader chain_at arg_at more_at closed_at maybe_at primary_at methods_at postfix_at unary_at level_at grown_at reader parsed names_at expression_to_end_at valued_at called_at bind_list_at views_at assignment_at statement_of_name_at binding_at show_at statement_at look has_nice plain_text nice_reader
+refused_status = refl
+
+refused_met : (without_first two_numbers).met ≡ 1 ∷ []
+unfolding digits behind_token go_deep longest token_at toks_from toks item_at items_at inside_at list_reader chain_at arg_at more_at closed_at maybe_at primary_at methods_at postfix_at unary_at level_at grown_at reader parsed names_at expression_to_end_at valued_at called_at bind_list_at views_at assignment_at statement_of_name_at binding_at show_at statement_at look has_nice plain_text nice_reader
+refused_met = refl
+
+first_text : (slots : Slots) → (so_far (terms_for false slots []) (codes "p 7;")).printed ≡ codes "7\n"
 unfolding digits behind_token go_deep longest token_at toks_from toks item_at items_at inside_at list_reader chain_at arg_at more_at closed_at maybe_at primary_at methods_at postfix_at unary_at level_at grown_at reader parsed names_at expression_to_end_at valued_at called_at bind_list_at views_at assignment_at statement_of_name_at binding_at show_at statement_at look has_nice plain_text nice_reader
 first_text slots = refl
 
@@ -85,16 +97,21 @@ told_nothing ns watch before after none heard =
 
 pub worked_statuses : WorkedStatuses
 worked_statuses = record {
-  done = writes Done (comes_to [] two_numbers) (codes "7\n8\n") (λ old new after was now gives. (ends_write Done (comes_to [] two_numbers) old new [] after tt was now gives).1) two_text;
+  done = writes Done (comes_to [] two_numbers) (codes "7\n8\n") (λ old new after was now gives. (ends_write Done (comes_to [] two_numbers) old new [] after tt was now gives).1.text) two_text;
   no_fault = λ old new gives. (let e : ScriptFault ≡ Done = gives.0 ∙ two_status in absurd (cc));
-  faulted = writes ScriptFault (comes_to [] a_fault) (codes "7\npdl: line 1: unknown name\n") (λ old new after was now gives. (ends_write ScriptFault (comes_to [] a_fault) old new [] after tt was now gives).1) fault_text;
+  faulted = writes ScriptFault (comes_to [] a_fault) (codes "7\npdl: line 1: unknown name\n") (λ old new after was now gives. (ends_write ScriptFault (comes_to [] a_fault) old new [] after tt was now gives).1.text) fault_text;
   not_done = λ old new gives. (let e : Done ≡ ScriptFault = gives.0 ∙ fault_status in absurd (cc));
-  usage = λ old new after was now gives. (ends_write Usage (ending None [] two_numbers) old new [] after tt was now gives).1;
+  usage = λ old new after was now gives. (ends_write Usage (ending None [] [] two_numbers) old new [] after tt was now gives).1.text;
   sink = fronts SinkFault (comes_to [] two_numbers) (codes "7\n8\n") two_text;
   memory = fronts NoMemory (comes_to [] two_numbers) (codes "7\n8\n") two_text;
-  source = λ old new after had left was now reads. (let whole : OfWholeStatements false old new [] after = source_leaves false old new [] after was now reads in
+  refused = fronts NoMemory (without_first two_numbers) (codes "pdl: line 1: out of memory\n8\n") refused_text;
+  refused_text = refused_text;
+  refused_status = refused_status;
+  met = refused_met;
+  refused_done = λ old new gives. (let e : Done ≡ NoMemory = gives.0 ∙ refused_status in absurd (cc));
+  source = λ old new after had left was now reads. (let whole : OfWholeStatements false [] old new [] after = source_leaves false [] old new [] after was now reads in
       let bytes : whole.bytes ≡ codes "p 7;" = taken_is old.left new.left whole.bytes (codes "p 8;") 4 two_numbers had left whole.taken refl in
-      whole.text ∙ ap (λ (bs : List ℕ). (so_far (terms_for false old.out.slots) bs).printed) bytes ∙ first_text old.out.slots);
+      whole.text ∙ ap (λ (bs : List ℕ). (so_far (terms_for false old.out.slots []) bs).printed) bytes ∙ first_text old.out.slots);
   attached = watch_attached;
-  watcher = λ old new before after was is gives. told_nothing (notices_of (comes_to (true ∷ []) a_watch).told 0) _ before after watch_told (watcher_fault_front (comes_to (true ∷ []) a_watch) old new 0 before after gives was is);
+  watcher = λ old new before after was is gives. told_nothing (notices_of (comes_to (true ∷ []) a_watch).told 0) _ before after watch_told (others_front WatcherFault (comes_to (true ∷ []) a_watch) old new 0 before after tt gives was is);
 }

@@ -2,6 +2,7 @@
 use Rattle.std.specs.Prelude.{◌≡◌, ℕ, ◌+◌, ◌-◌, ◌^◌, ◌<◌, ◌≤◌, ⊤, ◌⊎◌, List, [], ◌++◌, length, Bool, true, false, Option, None, Some, IsSome, option_map}
 use Rattle.std.specs.Io.KnownBytes.{Consumes}
 use Rattle.pdl_io.specs.Counts.{Rose}
+use Rattle.pdl_io.specs.Told.{Says}
 use Rattle.pdl_watch.specs.declared.notice.Notice.{Notice}
 use Rattle.pdl_watch.specs.Watched.{Watched}
 use Rattle.pdl_watch.specs.Slots.{slot, notices_of, StartsWith}
@@ -10,8 +11,10 @@ use Rattle.pdl_machine.specs.Run.{so_far}
 use Rattle.pdl_shell.specs.Outside.{Outside}
 use Rattle.pdl_shell.specs.Answers.{CameToItsEnd, HasReason, Gives, CanAnswer, TakesAtMost, IsUndisturbed, Ending, ending_of_run, told_by, slots_after}
 use Rattle.pdl_shell.specs.Taken.{Reads, terms_for}
+use Rattle.pdl_shell.specs.declared.words.Command.{Command}
+use Rattle.pdl_shell.specs.declared.words.Command.TheVariants.{Generate}
 use Rattle.pdl_shell.specs.declared.status.Status.{Status}
-use Rattle.pdl_shell.specs.declared.status.Status.TheVariants.{Done, ScriptFault, SourceFault, SinkFault, WatcherFault, NoMemory}
+use Rattle.pdl_shell.specs.declared.status.Status.TheVariants.{Done, ScriptFault, Usage, SourceFault, SinkFault, WatcherFault, NoMemory}
 
 -- every count is as it was: of the source, of the sink, and of each watcher that is there still
 pub record NoneRose (old new : Outside) : Type 0 where
@@ -52,41 +55,58 @@ abbrev pub WatcherFaultsRise : Type 0
 WatcherFaultsRise = (old new : Outside) → HasReason WatcherFault old new → OneFailed old new
 
 -- After a fault of the source the sink took just the text, and the watchers were told just the
--- notices, of the statements that the bytes taken make whole, and none of these ended the run.
-pub record OfWholeStatements (keep : Bool) (old new : Outside) (before after : List ℕ) : Type 0 where
+-- notices, of the statements that the bytes taken make whole. None of these ended the run, and the
+-- refused statements are the ones of them that memory refused.
+pub record OfWholeStatements (keep : Bool) (refused : List ℕ) (old new : Outside)
+    (before after : List ℕ) : Type 0 where
   pub bytes : List ℕ
   pub taken : Consumes old.left new.left bytes
-  pub text : after ≡ before ++ (so_far (terms_for keep old.out.slots) bytes).printed
-  pub told : new.out.slots
-      ≡ told_by (ending_of_run (so_far (terms_for keep old.out.slots) bytes)) old.out.slots
-  pub unended : (so_far (terms_for keep old.out.slots) bytes).ended ≡ false
+  pub text : after ≡ before ++ (so_far (terms_for keep old.out.slots refused) bytes).printed
+  pub told : let terms = terms_for keep old.out.slots refused in
+      new.out.slots ≡ told_by (ending_of_run terms (so_far terms bytes)) old.out.slots
+  pub unended : (so_far (terms_for keep old.out.slots refused) bytes).ended ≡ false
+  pub met : (so_far (terms_for keep old.out.slots refused) bytes).refused ≡ refused
 
 abbrev pub SourceFaultsLeave : Type 0
-SourceFaultsLeave = (keep : Bool) (old new : Outside) (before after : List ℕ) →
-    old.out.taken ≡ Some before → new.out.taken ≡ Some after → Reads keep SourceFault old new →
-    OfWholeStatements keep old new before after
+SourceFaultsLeave = (keep : Bool) (refused : List ℕ) (old new : Outside) (before after : List ℕ) →
+    old.out.taken ≡ Some before → new.out.taken ≡ Some after →
+    Reads keep refused SourceFault old new → OfWholeStatements keep refused old new before after
 
 -- with Done nothing is left of the script
 abbrev pub DoneReadsAll : Type 0
-DoneReadsAll = (keep : Bool) (old new : Outside) (rest : List ℕ) → new.left ≡ Some rest →
-    Reads keep Done old new → rest ≡ []
+DoneReadsAll = (keep : Bool) (refused : List ℕ) (old new : Outside) (rest : List ℕ) →
+    new.left ≡ Some rest → Reads keep refused Done old new → rest ≡ []
 
 -- with a fault of the script nothing is left of it, or the bytes taken end the run
-pub record EndsBy (keep : Bool) (old new : Outside) : Type 0 where
+pub record EndsBy (keep : Bool) (refused : List ℕ) (old new : Outside) : Type 0 where
   pub bytes : List ℕ
   pub taken : Consumes old.left new.left bytes
-  pub ended : (so_far (terms_for keep old.out.slots) bytes).ended ≡ true
+  pub ended : (so_far (terms_for keep old.out.slots refused) bytes).ended ≡ true
 
 abbrev pub ScriptFaultReads : Type 0
-ScriptFaultReads = (keep : Bool) (old new : Outside) (rest : List ℕ) → new.left ≡ Some rest →
-    Reads keep ScriptFault old new → (rest ≡ []) ⊎ EndsBy keep old new
+ScriptFaultReads = (keep : Bool) (refused : List ℕ) (old new : Outside) (rest : List ℕ) →
+    new.left ≡ Some rest → Reads keep refused ScriptFault old new →
+    (rest ≡ []) ⊎ EndsBy keep refused old new
+
+-- All is written and told, and the refused statements are all ones to which the run came.
+pub record IsAllOf (e : Ending) (old new : Outside) (before after : List ℕ) : Type 0 where
+  pub text : after ≡ before ++ e.text
+  pub met : e.met ≡ e.refused
+  pub slots : new.out.slots ≡ slots_after e old.out.slots
 
 -- a call that came to its end has the ending's status, and all is written, and told
 abbrev pub EndsWriteAll : Type 0
 EndsWriteAll = (status : Status) (e : Ending) (old new : Outside) (before after : List ℕ) →
     CameToItsEnd status → old.out.taken ≡ Some before → new.out.taken ≡ Some after →
-    Gives status e old.out new.out →
-    (e.status ≡ status) × (after ≡ before ++ e.text) × (new.out.slots ≡ slots_after e old.out.slots)
+    Gives status e old.out new.out → (e.status ≡ status) × IsAllOf e old new before after
+
+-- a call that was out of memory came to its end too, flushed, where that is the ending's status, or
+-- else it wrote a front of the text
+abbrev pub NoMemoryWritesAllOrAFront : Type 0
+NoMemoryWritesAllOrAFront = (e : Ending) (old new : Outside) (before after : List ℕ) →
+    old.out.taken ≡ Some before → new.out.taken ≡ Some after → Gives NoMemory e old.out new.out →
+    ((e.status ≡ NoMemory) × IsAllOf e old new before after × Says new.out.flushed true)
+    ⊎ ((rest : List ℕ) × (before ++ e.text ≡ after ++ rest))
 
 -- whatever the status, what is written is a front of the text
 abbrev pub AllWriteAFront : Type 0
@@ -94,11 +114,10 @@ AllWriteAFront = (status : Status) (e : Ending) (old new : Outside) (before afte
     old.out.taken ≡ Some before → new.out.taken ≡ Some after → Gives status e old.out new.out →
     (rest : List ℕ) × (before ++ e.text ≡ after ++ rest)
 
--- the call stopped short, and no watcher had failed
+-- the source or the sink failed
 abbrev pub IsCutOff : Status → Type 0
 IsCutOff SourceFault = ⊤
 IsCutOff SinkFault = ⊤
-IsCutOff NoMemory = ⊤
 IsCutOff _ = ⊥
 
 -- the watcher was told a front of these notices, and is finished or not as before
@@ -115,8 +134,8 @@ CutOffTellAFront = (status : Status) (e : Ending) (old new : Outside) (k : ℕ)
     slot old.out.slots k ≡ Some before → slot new.out.slots k ≡ Some after →
     HeardAFront (notices_of e.told k) before after
 
--- The watcher was told a front of these notices. It is finished or not as before, or it was told all
--- of them, its slot is attached, and it is finished.
+-- The watcher was told a front of these notices. It is finished or not as before, or it was told
+-- all of them, its slot is attached, and it is finished.
 pub record HeardOrEnded (ns : List Notice) (watch : Option ℕ) (before after : Watched)
     : Type 0 where
   pub part : List Notice
@@ -125,18 +144,25 @@ pub record HeardOrEnded (ns : List Notice) (watch : Option ℕ) (before after : 
   pub finished : (after.finished ≡ before.finished)
       ⊎ ((after.finished ≡ true) × (part ≡ ns) × IsSome watch)
 
--- so it is with each watcher that is there still where one failed
-abbrev pub WatcherFaultsTellAFront : Type 0
-WatcherFaultsTellAFront = (e : Ending) (old new : Outside) (k : ℕ) (before after : Watched) →
-    Gives WatcherFault e old.out new.out →
+-- a watcher failed, or the call was out of memory
+abbrev pub MayHaveEnded : Status → Type 0
+MayHaveEnded WatcherFault = ⊤
+MayHaveEnded NoMemory = ⊤
+MayHaveEnded _ = ⊥
+
+-- so it is then with each watcher that is there still
+abbrev pub OthersTellAFront : Type 0
+OthersTellAFront = (status : Status) (e : Ending) (old new : Outside) (k : ℕ)
+    (before after : Watched) → MayHaveEnded status → Gives status e old.out new.out →
     slot old.out.slots k ≡ Some before → slot new.out.slots k ≡ Some after →
     HeardOrEnded (notices_of e.told k) (watch_of e.watches k) before after
 
 -- fewer than 4,096 bytes are taken behind those that end the run
 abbrev pub NoPartIsReadBehind : Type 0
-NoPartIsReadBehind = (keep : Bool) (status : Status) (old new : Outside) (front rest : List ℕ)
-    (reads : Reads keep status old new) → reads.taken ≡ front ++ rest →
-    (so_far (terms_for keep old.out.slots) front).ended ≡ true → length rest < 4096
+NoPartIsReadBehind = (keep : Bool) (refused : List ℕ) (status : Status) (old new : Outside)
+    (front rest : List ℕ) (reads : Reads keep refused status old new) →
+    reads.taken ≡ front ++ rest →
+    (so_far (terms_for keep old.out.slots refused) front).ended ≡ true → length rest < 4096
 
 -- of the bytes that the source has, at most so many are taken
 abbrev pub FewAreTaken : Type 0
@@ -157,3 +183,13 @@ QuietIsUndisturbed = (old new : Outside) → CanRise old → NoneRose old new �
 -- out of memory is no answer to words that are no spelling
 abbrev pub UsageTakesNoMemory : Type 0
 UsageTakesNoMemory = CanAnswer None NoMemory → ⊥
+
+-- nor is Usage one to words that are
+abbrev pub UsageIsForNoSpelling : Type 0
+UsageIsForNoSpelling = (command : Command) → CanAnswer (Some command) Usage → ⊥
+
+-- the source and the watchers, which aren't touched then, fail in no answer to `--generate N`
+abbrev pub GeneratingFailsAlone : Type 0
+GeneratingFailsAlone = (keep : Bool) (rounds : ℕ) (status : Status) →
+    CanAnswer (Some (Generate keep rounds)) status →
+    (status ≡ Done) ⊎ ((status ≡ SinkFault) ⊎ (status ≡ NoMemory))

@@ -13,4 +13,5 @@ pub mod Pace
 pub mod CourseLaws
 pub mod Course
 pub mod Headline
+pub mod HeadlineSlots
 pub mod TwoStatements

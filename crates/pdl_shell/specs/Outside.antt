@@ -2,8 +2,8 @@
 use Rattle.std.specs.Prelude.{◌≡◌, ℕ, Bool, List, Option}
 use Rattle.pdl_watch.specs.Slots.{Slots, slot, CountStays}
 
--- Where a run gives out what it prints and what it tells: the bytes that the sink took and whether it
--- is flushed, as far as the sink tells these, how many of its calls failed, and the slots.
+-- Where a run gives out what it prints and what it tells: the bytes that the sink took and whether
+-- it is flushed, as far as the sink tells these, how many of its calls failed, and the slots.
 pub record Outlets : Type 0 where
   pub taken : Option (List ℕ)
   pub flushed : Option Bool

@@ -2,7 +2,7 @@
 use Rattle.std.specs.Prelude.{◌≡◌, ℕ, Bool, ◌⊎◌, Result, Ok, Err}
 use Rattle.pdl_io.specs.Counts.{Rose}
 use Rattle.pdl_watch.specs.Slots.{Slots, OneMissed}
-use Rattle.pdl_machine.specs.Run.{Progress}
+use Rattle.pdl_machine.specs.Run.{Terms, Progress}
 use Rattle.pdl_shell.specs.Outside.{Outlets, Outside, CountsStay, NoneFailed}
 use Rattle.pdl_shell.specs.Answers.{IsWhole, IsShort, ClosesShort, AllQuiet, HasReason, ending_of_run, status_of_stop}
 use Rattle.pdl_shell.specs.declared.stop.Stop.{Stop}
@@ -36,12 +36,13 @@ abbrev pub HasCauses : {T : Type 0} → Outside → Outside → Result T Stop �
 HasCauses old now (Ok x) = AllQuiet old now
 HasCauses old now (Err stop) = HasReason (status_of_stop stop) old now
 
--- A run came to its end, with all written and told and those finished that are attached; or it
--- stopped short.
-abbrev pub Leaves : Result Bool Stop → Progress → (old now : Outlets) → Type 0
-Leaves (Ok faulted) run old now = (faulted ≡ run.faulted) × IsWhole (ending_of_run run) old now
-Leaves (Err Source) run old now = IsShort (ending_of_run run) old now
-Leaves (Err Sink) run old now = IsShort (ending_of_run run) old now
-Leaves (Err Watcher) run old now =
-    IsShort (ending_of_run run) old now ⊎ ClosesShort (ending_of_run run) old now
-Leaves (Err NoMemory) run old now = IsShort (ending_of_run run) old now
+-- A run on these terms came to its end, with all written and told and those finished that are
+-- attached; or it stopped short.
+abbrev pub Leaves : Result Bool Stop → Terms → Progress → (old now : Outlets) → Type 0
+Leaves (Ok faulted) terms run old now =
+    (faulted ≡ run.faulted) × IsWhole (ending_of_run terms run) old now
+Leaves (Err Source) terms run old now = IsShort (ending_of_run terms run) old now
+Leaves (Err Sink) terms run old now = IsShort (ending_of_run terms run) old now
+Leaves (Err Watcher) terms run old now =
+    IsShort (ending_of_run terms run) old now ⊎ ClosesShort (ending_of_run terms run) old now
+Leaves (Err NoMemory) terms run old now = IsShort (ending_of_run terms run) old now

@@ -11,9 +11,9 @@ summary_line statements printed =
     codes "statements " ++ decimal statements ++ codes " bytes " ++ decimal (length printed)
     ++ codes " sum " ++ decimal (sum printed) ++ newline
 
--- a run that goes on after faults or doesn't, and has no watchers
+-- a run that goes on after faults or doesn't, has no watchers, and has memory for each statement
 abbrev pub unwatched : (keep_going : Bool) → Terms
-unwatched keep = record { keep = keep; present = [] }
+unwatched keep = record { keep = keep; present = []; refused = [] }
 
 -- the line for the generated script of so many rounds
 abbrev pub summary : (keep_going : Bool) → (rounds : ℕ) → List ℕ

@@ -23,7 +23,11 @@ a_watch = codes "$x = 7;watch $x, 0;"
 
 -- what a run of the script comes to that ends at a fault
 abbrev pub comes_to : (present : List Bool) → (script : List ℕ) → Ending
-comes_to present script = ending (Some (Run false)) present script
+comes_to present script = ending (Some (Run false)) present [] script
+
+-- what a run comes to that goes on where memory refuses the first statement
+abbrev pub without_first : (script : List ℕ) → Ending
+without_first script = ending (Some (Run true)) [] (1 ∷ []) script
 
 -- with this status the sink, which had taken nothing, took this text
 abbrev pub Writes : Status → Ending → (text : List ℕ) → Type 0
@@ -45,13 +49,19 @@ pub record WorkedStatuses : Type 0 where
   pub no_fault : IsNoAnswer ScriptFault (comes_to [] two_numbers)
   pub faulted : Writes ScriptFault (comes_to [] a_fault) (codes "7\npdl: line 1: unknown name\n")
   pub not_done : IsNoAnswer Done (comes_to [] a_fault)
-  pub usage : Writes Usage (ending None [] two_numbers) usage_line
+  pub usage : Writes Usage (ending None [] [] two_numbers) usage_line
   pub sink : WritesAFront SinkFault (comes_to [] two_numbers) (codes "7\n8\n")
   pub memory : WritesAFront NoMemory (comes_to [] two_numbers) (codes "7\n8\n")
+  pub refused : WritesAFront NoMemory (without_first two_numbers)
+      (codes "pdl: line 1: out of memory\n8\n")
+  pub refused_text : (without_first two_numbers).text ≡ codes "pdl: line 1: out of memory\n8\n"
+  pub refused_status : (without_first two_numbers).status ≡ NoMemory
+  pub met : (without_first two_numbers).met ≡ 1 ∷ []
+  pub refused_done : IsNoAnswer Done (without_first two_numbers)
   -- the read behind the first statement failed
   pub source : (old new : Outside) (after : List ℕ) → old.left ≡ Some two_numbers →
       new.left ≡ Some (codes "p 8;") → old.out.taken ≡ Some [] → new.out.taken ≡ Some after →
-      Reads false SourceFault old new → after ≡ codes "7\n"
+      Reads false [] SourceFault old new → after ≡ codes "7\n"
   -- the watcher of slot 0, which is attached at the end, couldn't be finished: it was told nothing
   pub attached : (comes_to (true ∷ []) a_watch).watches ≡ Some 0 ∷ []
   pub watcher : (old new : Outside) (before after : Watched) →

@@ -41,7 +41,8 @@ of_parsing parsing.Syntax = Script Syntax
 of_parsing parsing.Ragged = Script Ragged
 of_parsing parsing.NoMemory = NoMemory
 
--- a fault of the script is the one that is wanted, want of memory says nothing, and no watcher is asked
+-- a fault of the script is the one that is wanted, `NoMemory` says nothing, and no watcher is
+-- asked
 abbrev pub IsFault : {U : Type 0} → Result U Fault → StepFault → Type 0
 IsFault wanted (Script e) = wanted ≡ Err e
 IsFault wanted Watcher = ⊥

@@ -4,10 +4,12 @@
 
 mod generated;
 mod laws;
+mod line;
 mod mark;
 mod output;
 mod parsing;
 mod reading;
+mod refused;
 mod run;
 mod runner;
 mod statement;
@@ -18,5 +20,6 @@ mod words;
 
 pub use laws::{headline_laws, worked_statuses};
 pub use pdl_scope::MOST_SLOTS;
+pub use refused::Refused;
 pub use run::run_shell;
 pub use status::Status;

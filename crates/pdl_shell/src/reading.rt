@@ -1,13 +1,12 @@
 //! Reads a script in parts, and runs each statement as soon as it is whole.
-ghost use Rattle.std.specs.Prelude.{◌≡◌, ℕ, ◌+◌, nat_lt, false, List, Some, IfOk, OnOk, OnErr, IfErr};
+ghost use Rattle.std.specs.Prelude.{◌≡◌, ℕ, ◌+◌, ◌<◌, ◌^◌, nat_lt, false, List, Some, IfOk, OnOk, OnErr, IfErr};
 ghost use Rattle.std.specs.Io.KnownBytes.{IsAtEnd};
 ghost use Rattle.pdl_io.specs.Told.{KeepsTelling};
 ghost use Rattle.pdl_lex.specs.Limits.{script_limit};
 ghost use Rattle.pdl_watch.specs.Slots.{slots_by};
-ghost use Rattle.pdl_machine.specs.Run.{run};
 ghost use Rattle.pdl_session.specs.Watching.{AreServed};
 ghost use Rattle.pdl_shell.specs.Outside.{outlets, outside};
-ghost use Rattle.pdl_shell.specs.Answers.{IsShort, TakesAtMost, ending_of_run, status_of_stop};
+ghost use Rattle.pdl_shell.specs.Answers.{IsShort, TakesAtMost, ending_on, status_of_stop};
 ghost use Rattle.pdl_shell.specs.Course.{IsFresh, Comes};
 ghost use Rattle.pdl_shell.specs.Stops.{HasCauses};
 ghost use Rattle.pdl_shell.specs.Taken.{Reads, terms_for};
@@ -26,7 +25,7 @@ use std::sync::ledger::Ledger;
 const PART: usize = 4096;
 
 // Takes the source's bytes in parts, and runs each statement when its last byte is
-// there: to the end of the source, or until a fault ends the run, or up to and with the byte past
+// there: to the end of the source, or until the run is ended, or up to and with the byte past
 // the limit of a script. Answers whether that one came.
 pub(crate) fn read_parts<S: Source, K: Sink, W: Watcher, L: Ledger>(
     runner: &mut Runner,
@@ -48,17 +47,19 @@ pub(crate) fn read_parts<S: Source, K: Sink, W: Watcher, L: Ledger>(
         IsAtEnd (S.left source.new)) }
     ensures stops { (script : List ℕ) → S.left source.old ≡ Some script →
         let slots = slots_by W.seen watchers.old.items in
-        let whole = run (terms_for runner.old.keep_going slots) script in
-        OnErr result (IsShort (ending_of_run whole)
+        let whole = ending_on (terms_for runner.old.keep_going slots runner.new.refused) script in
+        OnErr result (IsShort whole
         (outlets K.taken K.is_flushed K.faults sink.old slots)
         (outlets K.taken K.is_flushed K.faults sink.new (slots_by W.seen watchers.new.items))) }
-    ensures reads { IfErr result (λ stop. Reads runner.old.keep_going (status_of_stop stop)
+    ensures reads { IfErr result (λ stop. Reads runner.old.keep_going runner.new.refused
+        (status_of_stop stop)
         (outside S.left S.faults source.old
         (outlets K.taken K.is_flushed K.faults sink.old (slots_by W.seen watchers.old.items)))
         (outside S.left S.faults source.new
         (outlets K.taken K.is_flushed K.faults sink.new (slots_by W.seen watchers.new.items)))) }
     ensures at_most { TakesAtMost (script_limit + 1) (S.left source.old) (S.left source.new) }
     ensures works { OnOk result (runner.new.cutter.failed ≡ false) }
+    ensures counted { OnOk result (runner.new.count < 2 ^ 63) }
     ensures served { OnOk result (AreServed runner.new.session.state.watches
         (slots_by W.seen watchers.new.items)) }
     ensures tells { KeepsTelling (K.is_flushed sink.old) (K.is_flushed sink.new) }

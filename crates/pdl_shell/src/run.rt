@@ -1,5 +1,5 @@
 //! The call that runs a script.
-ghost use Rattle.std.specs.Prelude.{◌≡◌, ◌≢◌, ℕ, ◌+◌, ◌<◌, ◌≤◌, List, length, map, Bool, true, false, Option, Some, None, OnOk, OnErr};
+ghost use Rattle.std.specs.Prelude.{◌≡◌, ◌≢◌, ℕ, ◌+◌, ◌<◌, ◌≤◌, List, [], length, map, Bool, true, false, Option, Some, None, OnOk, OnErr};
 ghost use Rattle.std.specs.Io.KnownBytes.{Appends};
 ghost use Rattle.std.specs.String.{string_bytes};
 ghost use Rattle.pdl_io.specs.Counts.{HasCause};
@@ -10,18 +10,20 @@ ghost use Rattle.pdl_machine.specs.Run.{run};
 ghost use Rattle.pdl_scope.specs.Scope.{slots_limit};
 ghost use Rattle.pdl_shell.specs.Command.{command_of, reads_source, usage_line};
 ghost use Rattle.pdl_shell.specs.Outside.{outlets, outside};
+ghost use Rattle.pdl_shell.specs.Course.{IsFresh};
 ghost use Rattle.pdl_shell.specs.Stops.{HasCauses, Leaves};
-ghost use Rattle.pdl_shell.specs.Answers.{CameToItsEnd, ending, ending_of_run, Gives, CanAnswer, HasReason, TakesAtMost, IsUndisturbed, status_after};
+ghost use Rattle.pdl_shell.specs.Answers.{CameToItsEnd, ending, ending_on, Gives, CanAnswer, HasReason, TakesAtMost, IsUndisturbed, status_after};
 ghost use Rattle.pdl_shell.specs.Taken.{Reads, terms_for};
 
 use crate::laws::course_laws;
 use crate::reading::read_parts;
+use crate::refused::Refused;
 use crate::runner::Runner;
 use crate::status::Status;
 use crate::stop::{Stop, status_after};
 use crate::summary::summarize;
 use crate::words::{Command, read_words};
-use pdl_buf::new_steps;
+use pdl_buf::{Steps, new_steps};
 use pdl_io::{Failed, Sink, Source, write_all};
 use pdl_machine::run_laws;
 use pdl_watch::{Watcher, slot_laws};
@@ -32,27 +34,27 @@ use std::sync::ledger::{Blank, Ledger};
 // What is written where the words are no spelling of the command.
 const USAGE_LINE: &[u8] = b"usage: pdl [--keep-going] [--generate N]\n";
 
-// Runs the script that the source gives: each statement as soon as it is whole, and
+// Runs the script that the source gives by a new runner: each statement as soon as it is whole, and
 // at the end what is left.
-fn run_parts<S: Source, K: Sink, W: Watcher, L: Ledger>(
-    alloc: Global,
-    keep_going: bool,
+fn drive<S: Source, K: Sink, W: Watcher, L: Ledger>(
+    runner: &mut Runner,
     source: &mut S,
     sink: &mut K,
     watchers: &mut Vec<Option<W>>,
-    blank: Blank,
+    steps: &mut Steps<L>,
 ) -> Result<bool, Stop>
-    requires name { blank.name ≡ L.name }
-    requires parts { blank.parts ≡ L.parts }
-    requires some { 0 < blank.parts }
+    requires fresh { IsFresh runner.old }
+    requires ready { (runner.old.cutter.failed ≡ false) × (runner.old.cutter.taken ≡ 0) }
     requires unfinished { AreOpen (slots_by W.seen watchers.old.items) }
     requires few { length watchers.old.items ≤ slots_limit }
     ensures leaves { (script : List ℕ) → S.left source.old ≡ Some script →
         let slots = slots_by W.seen watchers.old.items in
-        Leaves result (run (terms_for keep_going slots) script)
+        let terms = terms_for runner.old.keep_going slots runner.new.refused in
+        Leaves result terms (run terms script)
         (outlets K.taken K.is_flushed K.faults sink.old slots)
         (outlets K.taken K.is_flushed K.faults sink.new (slots_by W.seen watchers.new.items)) }
-    ensures reads { Reads keep_going (status_after result)
+    ensures reads { Reads runner.old.keep_going runner.new.refused
+        (status_after result runner.new.refused)
         (outside S.left S.faults source.old
         (outlets K.taken K.is_flushed K.faults sink.old (slots_by W.seen watchers.old.items)))
         (outside S.left S.faults source.new
@@ -69,29 +71,73 @@ fn run_parts<S: Source, K: Sink, W: Watcher, L: Ledger>(
 {
     course_laws();
     run_laws();
-    let mut runner = Runner::new(alloc, keep_going);
-    let mut steps = new_steps::<L>(blank);
-    let is_cut = read_parts(&mut runner, source, sink, watchers, &mut steps)?;
-    runner.finish(is_cut, sink, watchers, &mut steps)
+    let is_cut = read_parts(runner, source, sink, watchers, steps)?;
+    runner.finish(is_cut, sink, watchers, steps)
 }
 
-// Runs the script that the source gives, and answers the status.
+// Runs the script that the source gives, and leaves in `refused` the statements that memory
+// refused.
+fn run_parts<S: Source, K: Sink, W: Watcher, L: Ledger>(
+    alloc: Global,
+    keep_going: bool,
+    source: &mut S,
+    sink: &mut K,
+    watchers: &mut Vec<Option<W>>,
+    refused: &mut Refused,
+    blank: Blank,
+) -> Result<bool, Stop>
+    requires name { blank.name ≡ L.name }
+    requires parts { blank.parts ≡ L.parts }
+    requires some { 0 < blank.parts }
+    requires unfinished { AreOpen (slots_by W.seen watchers.old.items) }
+    requires few { length watchers.old.items ≤ slots_limit }
+    ensures leaves { (script : List ℕ) → S.left source.old ≡ Some script →
+        let slots = slots_by W.seen watchers.old.items in
+        let terms = terms_for keep_going slots refused.new in
+        Leaves result terms (run terms script)
+        (outlets K.taken K.is_flushed K.faults sink.old slots)
+        (outlets K.taken K.is_flushed K.faults sink.new (slots_by W.seen watchers.new.items)) }
+    ensures reads { Reads keep_going refused.new (status_after result refused.new)
+        (outside S.left S.faults source.old
+        (outlets K.taken K.is_flushed K.faults sink.old (slots_by W.seen watchers.old.items)))
+        (outside S.left S.faults source.new
+        (outlets K.taken K.is_flushed K.faults sink.new (slots_by W.seen watchers.new.items))) }
+    ensures at_most { TakesAtMost (script_limit + 1) (S.left source.old) (S.left source.new) }
+    ensures causes { HasCauses
+        (outside S.left S.faults source.old
+        (outlets K.taken K.is_flushed K.faults sink.old (slots_by W.seen watchers.old.items)))
+        (outside S.left S.faults source.new
+        (outlets K.taken K.is_flushed K.faults sink.new (slots_by W.seen watchers.new.items)))
+        result }
+    ensures flushed { OnOk result (Says (K.is_flushed sink.new) true) }
+    ensures tells { KeepsTelling (K.is_flushed sink.old) (K.is_flushed sink.new) }
+{
+    let mut runner = Runner::new(alloc, keep_going);
+    let mut steps = new_steps::<L>(blank);
+    let ran = drive(&mut runner, source, sink, watchers, &mut steps);
+    refused.take_over(runner.refused());
+    ran
+}
+
+// Runs the script that the source gives, answers the status, and leaves in `refused` the statements
+// that memory refused.
 pub(crate) fn run_script<S: Source, K: Sink, W: Watcher>(
     alloc: Global,
     keep_going: bool,
     source: &mut S,
     sink: &mut K,
     watchers: &mut Vec<Option<W>>,
+    refused: &mut Refused,
 ) -> Status
     requires unfinished { AreOpen (slots_by W.seen watchers.old.items) }
     requires few { length watchers.old.items ≤ slots_limit }
     ensures model { (script : List ℕ) → S.left source.old ≡ Some script →
         let slots = slots_by W.seen watchers.old.items in
-        Gives result (ending_of_run (run (terms_for keep_going slots) script))
+        Gives result (ending_on (terms_for keep_going slots refused.new) script)
         (outlets K.taken K.is_flushed K.faults sink.old slots)
         (outlets K.taken K.is_flushed K.faults sink.new (slots_by W.seen watchers.new.items)) }
     ensures answers { CanAnswer (Some (Command.Run keep_going)) result }
-    ensures reads { Reads keep_going result
+    ensures reads { Reads keep_going refused.new result
         (outside S.left S.faults source.old
         (outlets K.taken K.is_flushed K.faults sink.old (slots_by W.seen watchers.old.items)))
         (outside S.left S.faults source.new
@@ -105,8 +151,11 @@ pub(crate) fn run_script<S: Source, K: Sink, W: Watcher>(
     ensures flushed { CameToItsEnd result → Says (K.is_flushed sink.new) true }
     ensures tells { KeepsTelling (K.is_flushed sink.old) (K.is_flushed sink.new) }
 {
-    let ran = run_parts::<S, K, W, Brand>(alloc, keep_going, source, sink, watchers, Blank::new(1));
-    status_after(ran)
+    let blank = Blank::new(1);
+    let ran = run_parts::<S, K, W, Brand>(
+        alloc, keep_going, source, sink, watchers, refused, blank,
+    );
+    status_after(ran, refused)
 }
 
 // Writes the usage line, and flushes it.
@@ -124,7 +173,7 @@ fn write_usage<K: Sink>(sink: &mut K) -> Result<(), Failed>
 // Answers words that are no spelling of the command.
 fn usage<K: Sink>(sink: &mut K) -> Status
     ensures model { (script : List ℕ) (slots : Slots) →
-        Gives result (ending None (present_in slots) script)
+        Gives result (ending None (present_in slots) [] script)
         (outlets K.taken K.is_flushed K.faults sink.old slots)
         (outlets K.taken K.is_flushed K.faults sink.new slots) }
     ensures answers { CanAnswer None result }
@@ -149,8 +198,8 @@ fn usage<K: Sink>(sink: &mut K) -> Status
     }
 }
 
-/// Runs the script that the source gives, or the generated one, and writes what
-/// it prints to the sink.
+/// Runs the script that the source gives, or the generated one, and writes what it prints to the
+/// sink.
 ///
 /// `words` are the words of the command line without the program's name: none, `--keep-going`,
 /// `--generate N` or `--generate=N`, or both, in either order. N is one to four decimal digits, at
@@ -159,37 +208,47 @@ fn usage<K: Sink>(sink: &mut K) -> Status
 /// it prints is counted, and one line is written: how many statements it has, how many bytes they
 /// print, and what these sum to. In both cases the source isn't touched (`unread`).
 ///
-/// Else the script is read in parts of at most 4,096 bytes, and its statements are run in
-/// order, each as soon as its last byte is there. After each of them its text is written, or the
-/// line of its fault. The first fault ends the run, unless it is to keep going, and no more is
-/// read then; that the script is too long always ends it. At the end the sink is flushed.
+/// Else the script is read in parts of at most 4,096 bytes, and its statements are run in order,
+/// each as soon as its last byte is there. After each of them its text is written, or the line of
+/// its fault. The first fault ends the run, unless it is to keep going, and no more is read then;
+/// that the script is too long always ends it. At the end the sink is flushed.
+///
+/// A statement that memory refuses has its line written, which says out of memory, and its number
+/// added to `refused`; nothing else changes. The run goes on then as after a fault, but the 64th
+/// refused statement ends it. The status is NoMemory then. At the call `refused` is empty.
 ///
 /// The statements `watch` and `unwatch` attach the watchers of these slots to arrays, and let them
-/// go. After each statement those that are attached are told what it changed. Once the sink is flushed
-/// those that are attached then are finished, slot by slot; they stay in their slots. With
-/// `--generate`, and where the words are no spelling, no watcher is touched (`unwatched`). No watcher
-/// may be finished before, and there are at most 1,024 slots.
+/// go. After each statement those that are attached are told what it changed. Once the sink is
+/// flushed those that are attached then are finished, slot by slot; they stay in their slots. With
+/// `--generate`, and where the words are no spelling, no watcher is touched (`unwatched`). No
+/// watcher may be finished before, and there are at most 1,024 slots.
 ///
-/// What is written and told and the status are those of the ending that the words ask for; where the
-/// call stops short, a prefix is written and a front is told (`model`), and where the source fails,
-/// just what the statements print and tell that were whole by then (`reads`). A fault of the source,
-/// the sink or a watcher is answered only where its count rose in this call (`reason`). After one, or
-/// where memory is wanting, the call ends at once. It takes no memory where the words are no
-/// spelling.
+/// What is written and told and the status are those of the ending that the words ask for, with the
+/// statements in `refused` refused, to all of which the run came; where the call stops short, a
+/// prefix is written and a front is told (`model`), and where the source fails, just what the
+/// statements print and tell that were whole by then, with just those in `refused` that the run met
+/// (`reads`). A fault of the source, the sink or a watcher is answered only where its count rose in
+/// this call (`reason`). It takes no memory where the words are no spelling.
+///
+/// No clause says that the call ends at once after such a fault, nor that it is only outside of a
+/// statement that it stops short for lack of memory.
 pub fn run_shell<S: Source, K: Sink>(
     alloc: Global,
     words: &[String],
     source: &mut S,
     sink: &mut K,
     watchers: &mut Vec<Option<Box<dyn Watcher>>>,
+    refused: &mut Refused,
 ) -> Status
+    requires none { refused.old ≡ [] }
     requires unfinished { AreOpen (slots_by (λ b. seen b) watchers.old.items) }
     requires few { length watchers.old.items ≤ slots_limit }
     ensures model { (script : List ℕ) →
         (reads_source (command_of (map string_bytes words.now)) ≡ true →
         S.left source.old ≡ Some script) →
         let slots = slots_by (λ b. seen b) watchers.old.items in
-        Gives result (ending (command_of (map string_bytes words.now)) (present_in slots) script)
+        Gives result (ending (command_of (map string_bytes words.now)) (present_in slots) refused.new
+        script)
         (outlets K.taken K.is_flushed K.faults sink.old slots)
         (outlets K.taken K.is_flushed K.faults sink.new
         (slots_by (λ b. seen b) watchers.new.items)) }
@@ -198,8 +257,11 @@ pub fn run_shell<S: Source, K: Sink>(
         source.new ≡ source.old }
     ensures unwatched { reads_source (command_of (map string_bytes words.now)) ≡ false →
         watchers.new ≡ watchers.old }
+    ensures unrefused { reads_source (command_of (map string_bytes words.now)) ≡ false →
+        refused.new ≡ [] }
     ensures reads { (keep : Bool) →
-        command_of (map string_bytes words.now) ≡ Some (Command.Run keep) → Reads keep result
+        command_of (map string_bytes words.now) ≡ Some (Command.Run keep) →
+        Reads keep refused.new result
         (outside S.left S.faults source.old (outlets K.taken K.is_flushed K.faults sink.old
         (slots_by (λ b. seen b) watchers.old.items)))
         (outside S.left S.faults source.new (outlets K.taken K.is_flushed K.faults sink.new
@@ -221,7 +283,7 @@ pub fn run_shell<S: Source, K: Sink>(
 {
     match read_words(words) {
         Some(Command::Run { keep_going }) => {
-            run_script(alloc, keep_going, source, sink, watchers)
+            run_script(alloc, keep_going, source, sink, watchers, refused)
         }
         Some(Command::Generate { keep_going, rounds }) => {
             summarize(alloc, keep_going, rounds, sink)

@@ -1,17 +1,23 @@
 //! Carries a run on over bytes of the script.
 use crate::laws::course_laws;
+use crate::line::{Line, report};
 use crate::mark::Mark;
 use crate::output::{flush, write_text};
 use crate::parsing::Rooms;
-use crate::statement::{push_fault_line, run_mark};
+use crate::refused::Refused;
+use crate::statement::run_mark;
 use crate::stop::Stop;
 use pdl_buf::Steps;
 use pdl_io::{Sink, count_one};
 use pdl_lex::StatementCutter;
+use pdl_machine::{Fault, fault_text};
 use pdl_session::{Session, StepFault};
 use pdl_watch::Watcher;
 use std::alloc::Global;
 use std::sync::ledger::Ledger;
+
+// Why a statement wasn't run that memory refused.
+const OUT_OF_MEMORY: &str = "out of memory";
 
 // A run on its way.
 #[derive(Drop)]
@@ -20,26 +26,30 @@ pub(crate) struct Runner {
     cutter: StatementCutter,
     session: Session,
     rooms: Rooms,
-    // What the statement printed that was run last, or the line of its fault.
+    // What the statement printed that was run last.
     text: Vec<u8>,
     keep_going: bool,
     faulted: bool,
-    // Whether a fault has ended the run.
+    // The statements that memory refused.
+    refused: Refused,
+    // Whether a statement that wasn't run has ended the run.
     ended: bool,
     // How many statements there were, a count that stays at 2^64 - 1.
     count: u64,
 }
 
 impl Runner {
-    ghost use Rattle.std.specs.Prelude.{◌≡◌, ℕ, ◌+◌, ◌<◌, ◌≤◌, ◌^◌, [], true, false, length, drop, map, option_to_list, OnOk, OnErr, IfOk, IfErr};
+    ghost use Rattle.std.specs.Prelude.{◌≡◌, ℕ, ◌+◌, ◌<◌, ◌≤◌, ◌^◌, ◌||◌, [], ◌∷◌, ◌++◌, true, false, length, nat_lt, nat_le, drop, map, option_to_list, if◌then◌else◌, OnOk, OnErr, IfOk, IfErr};
+    ghost use Rattle.pdl_io.specs.Counts.{next_count};
     ghost use Rattle.pdl_io.specs.Told.{Says, KeepsTelling};
     ghost use Rattle.pdl_lex.specs.Pieces.{settled_from};
     ghost use Rattle.pdl_watch.specs.Slots.{slots_by};
+    ghost use Rattle.pdl_machine.specs.Run.{fault_line, memory_line, line_of, fault_ends, refused_limit};
     ghost use Rattle.pdl_session.specs.Watching.{AreServed};
     ghost use Rattle.pdl_shell.specs.Outside.{outlets};
     ghost use Rattle.pdl_shell.specs.Marks.{mark_of};
     ghost use Rattle.pdl_shell.specs.Pace.{behind, marks_left};
-    ghost use Rattle.pdl_shell.specs.Course.{IsFresh, Answers, AnswersShort, Runs, RunsShort, Carries, StopsShort, Finishes, FinishesShort, Ends};
+    ghost use Rattle.pdl_shell.specs.Course.{IsFresh, shown, Answers, AnswersShort, Runs, RunsShort, Carries, StopsShort, Finishes, FinishesShort, Ends};
 
     // A run before its first statement.
     pub(crate) fn new(alloc: Global, keep_going: bool) -> Runner
@@ -55,35 +65,75 @@ impl Runner {
             text: Vec::new(alloc),
             keep_going,
             faulted: false,
+            refused: Refused::new(),
             ended: false,
             count: 0,
         }
     }
 
-    // Whether a fault has ended the run.
+    // The statements that memory refused.
+    pub(crate) fn refused(&self) -> &Refused
+        ensures { result.now ≡ self.now.refused }
+    {
+        &self.refused
+    }
+
+    // Notes the fault of a statement, and makes its line.
+    fn fault(&mut self, mark: &Mark, fault: Fault) -> Line
+        ensures line { result ≡ fault_line (line_of (mark_of mark.now)) fault }
+        ensures rest { self.new ≡ record self.old {
+          faulted = true;
+          ended = fault_ends self.old.keep_going (mark_of mark.now);
+        } }
+    {
+        self.faulted = true;
+        self.ended = mark.fault_ends(self.keep_going);
+        report(mark.line(), fault_text(fault))
+    }
+
+    // Notes that memory refused the statement that was counted last, and makes its line.
+    fn refuse(&mut self, mark: &Mark) -> Line
+        ensures line { result ≡ memory_line (line_of (mark_of mark.now)) }
+        ensures rest { let refused = if nat_lt (length self.old.refused) refused_limit
+            then self.old.refused ++ self.old.count ∷ [] else self.old.refused in
+            self.new ≡ record self.old {
+              refused = refused;
+              ended = fault_ends self.old.keep_going (mark_of mark.now)
+                  || nat_le refused_limit (length refused);
+            } }
+    {
+        self.refused.add(self.count);
+        self.ended = mark.fault_ends(self.keep_going) || self.refused.is_full();
+        report(mark.line(), OUT_OF_MEMORY)
+    }
+
+    // Whether a statement that wasn't run has ended the run.
     pub(crate) fn is_ended(&self) -> bool
         ensures { result ≡ self.now.ended }
     {
         self.ended
     }
 
-    // Runs a statement, and leaves in `text` what it prints, or the line of its fault.
+    // Runs a statement, and leaves in `text` what it prints. Where it wasn't run, by its fault or
+    // for lack of memory, the line that says so is answered.
     fn answer<W: Watcher, L: Ledger>(
         &mut self,
         mark: &Mark,
         watchers: &mut Vec<Option<W>>,
         steps: &mut Steps<L>,
-    ) -> Result<(), Stop>
+    ) -> Result<Option<Line>, Stop>
         requires running { self.old.ended ≡ false }
+        requires counted { self.old.count < 2 ^ 63 }
         requires served { AreServed self.old.session.state.watches
             (slots_by W.seen watchers.old.items) }
         ensures cutter { self.new.cutter ≡ self.old.cutter }
-        ensures ran { OnOk result (Answers (mark_of mark.now)
+        ensures count { self.new.count ≡ self.old.count + 1 }
+        ensures ran { IfOk result (λ line. Answers (mark_of mark.now)
             self.old (slots_by W.seen watchers.old.items)
-            self.new (slots_by W.seen watchers.new.items)) }
+            self.new (slots_by W.seen watchers.new.items) (shown line self.new.text.items)) }
         ensures short { IfErr result (λ stop. AnswersShort (mark_of mark.now)
             self.old (slots_by W.seen watchers.old.items)
-            stop (slots_by W.seen watchers.new.items)) }
+            stop self.new (slots_by W.seen watchers.new.items)) }
         ensures served { OnOk result (AreServed self.new.session.state.watches
             (slots_by W.seen watchers.new.items)) }
     {
@@ -100,19 +150,14 @@ impl Runner {
             steps,
         );
         match ran {
-            Ok(()) => Ok(()),
-            Err(StepFault::Script(fault)) => {
-                push_fault_line(self.alloc, &mut self.text, mark.line(), fault)?;
-                self.faulted = true;
-                self.ended = mark.fault_ends(self.keep_going);
-                Ok(())
-            }
+            Ok(()) => Ok(None),
+            Err(StepFault::Script(fault)) => Ok(Some(self.fault(mark, fault))),
+            Err(StepFault::NoMemory) => Ok(Some(self.refuse(mark))),
             Err(StepFault::Watcher) => Err(Stop::Watcher),
-            Err(StepFault::NoMemory) => Err(Stop::NoMemory),
         }
     }
 
-    // Runs a statement, and writes what it prints, or the line of its fault.
+    // Runs a statement, and writes what it prints, or the line that says why it wasn't run.
     fn run<K: Sink, W: Watcher, L: Ledger>(
         &mut self,
         mark: &Mark,
@@ -121,24 +166,29 @@ impl Runner {
         steps: &mut Steps<L>,
     ) -> Result<(), Stop>
         requires running { self.old.ended ≡ false }
+        requires counted { self.old.count < 2 ^ 63 }
         requires served { AreServed self.old.session.state.watches
             (slots_by W.seen watchers.old.items) }
         ensures cutter { self.new.cutter ≡ self.old.cutter }
+        ensures count { self.new.count ≡ self.old.count + 1 }
         ensures ran { OnOk result (Runs (mark_of mark.now) self.old
             (outlets K.taken K.is_flushed K.faults sink.old (slots_by W.seen watchers.old.items))
             self.new
             (outlets K.taken K.is_flushed K.faults sink.new (slots_by W.seen watchers.new.items))) }
         ensures short { IfErr result (λ stop. RunsShort (mark_of mark.now) self.old
             (outlets K.taken K.is_flushed K.faults sink.old (slots_by W.seen watchers.old.items))
-            stop
+            stop self.new
             (outlets K.taken K.is_flushed K.faults sink.new (slots_by W.seen watchers.new.items))) }
         ensures served { OnOk result (AreServed self.new.session.state.watches
             (slots_by W.seen watchers.new.items)) }
         ensures tells { KeepsTelling (K.is_flushed sink.old) (K.is_flushed sink.new) }
     {
         course_laws();
-        self.answer(mark, watchers, steps)?;
-        write_text(sink, &self.text)
+        let reported = self.answer(mark, watchers, steps)?;
+        match reported {
+            None => write_text(sink, &self.text),
+            Some(line) => write_text(sink, line.bytes()),
+        }
     }
 
     // Keeps the room of a statement's text that was run for one that comes.
@@ -162,6 +212,7 @@ impl Runner {
         requires running { self.old.ended ≡ false }
         requires room { self.old.cutter.taken + length bytes.now < 2 ^ 63 }
         requires some { 0 < length bytes.now }
+        requires counted { self.old.count ≤ self.old.cutter.taken }
         requires served { AreServed self.old.session.state.watches
             (slots_by W.seen watchers.old.items) }
         ensures used { IfOk result (λ used. (0 < used) × (used ≤ length bytes.now)) }
@@ -171,11 +222,12 @@ impl Runner {
             (outlets K.taken K.is_flushed K.faults sink.new (slots_by W.seen watchers.new.items))) }
         ensures stops { IfErr result (λ stop. StopsShort bytes.now self.old
             (outlets K.taken K.is_flushed K.faults sink.old (slots_by W.seen watchers.old.items))
-            stop
+            stop self.new
             (outlets K.taken K.is_flushed K.faults sink.new (slots_by W.seen watchers.new.items))) }
         ensures works { OnOk result (self.new.cutter.failed ≡ false) }
         ensures none_left { OnOk result (settled_from self.new.cutter [] ≡ []) }
         ensures count { IfOk result (λ used. self.new.cutter.taken ≡ self.old.cutter.taken + used) }
+        ensures counted { OnOk result (self.new.count ≤ self.new.cutter.taken) }
         ensures served { OnOk result (AreServed self.new.session.state.watches
             (slots_by W.seen watchers.new.items)) }
         ensures tells { KeepsTelling (K.is_flushed sink.old) (K.is_flushed sink.new) }
@@ -205,6 +257,7 @@ impl Runner {
     ) -> Result<(), Stop>
         requires works { self.old.cutter.failed ≡ false }
         requires none_left { settled_from self.old.cutter [] ≡ [] }
+        requires counted { self.old.count ≤ self.old.cutter.taken }
         requires room { self.old.cutter.taken + length bytes.now < 2 ^ 63 }
         requires served { AreServed self.old.session.state.watches
             (slots_by W.seen watchers.old.items) }
@@ -214,12 +267,13 @@ impl Runner {
             (outlets K.taken K.is_flushed K.faults sink.new (slots_by W.seen watchers.new.items))) }
         ensures stops { IfErr result (λ stop. StopsShort bytes.now self.old
             (outlets K.taken K.is_flushed K.faults sink.old (slots_by W.seen watchers.old.items))
-            stop
+            stop self.new
             (outlets K.taken K.is_flushed K.faults sink.new (slots_by W.seen watchers.new.items))) }
         ensures works { OnOk result (self.new.cutter.failed ≡ false) }
         ensures none_left { OnOk result (settled_from self.new.cutter [] ≡ []) }
         ensures count { OnOk result
             (self.new.cutter.taken ≤ self.old.cutter.taken + length bytes.now) }
+        ensures counted { OnOk result (self.new.count ≤ self.new.cutter.taken) }
         ensures served { OnOk result (AreServed self.new.session.state.watches
             (slots_by W.seen watchers.new.items)) }
         ensures tells { KeepsTelling (K.is_flushed sink.old) (K.is_flushed sink.new) }
@@ -260,6 +314,7 @@ impl Runner {
         steps: &mut Steps<L>,
     ) -> Result<(), Stop>
         requires works { self.old.cutter.failed ≡ false }
+        requires counted { self.old.count < 2 ^ 63 }
         requires served { AreServed self.old.session.state.watches
             (slots_by W.seen watchers.old.items) }
         ensures finishes { OnOk result (Finishes is_cut self.old
@@ -268,7 +323,7 @@ impl Runner {
             (outlets K.taken K.is_flushed K.faults sink.new (slots_by W.seen watchers.new.items))) }
         ensures stops { IfErr result (λ stop. FinishesShort is_cut self.old
             (outlets K.taken K.is_flushed K.faults sink.old (slots_by W.seen watchers.old.items))
-            stop
+            stop self.new
             (outlets K.taken K.is_flushed K.faults sink.new (slots_by W.seen watchers.new.items))) }
         ensures served { OnOk result (AreServed self.new.session.state.watches
             (slots_by W.seen watchers.new.items)) }
@@ -284,8 +339,8 @@ impl Runner {
         }
     }
 
-    // Ends the run: runs what is left, flushes the sink, finishes the watchers that are attached, and
-    // answers whether a statement faulted.
+    // Ends the run: runs what is left, flushes the sink, finishes the watchers that are attached,
+    // and answers whether a statement faulted.
     pub(crate) fn finish<K: Sink, W: Watcher, L: Ledger>(
         &mut self,
         is_cut: bool,
@@ -294,11 +349,12 @@ impl Runner {
         steps: &mut Steps<L>,
     ) -> Result<bool, Stop>
         requires works { self.old.cutter.failed ≡ false }
+        requires counted { self.old.count < 2 ^ 63 }
         requires served { AreServed self.old.session.state.watches
             (slots_by W.seen watchers.old.items) }
         ensures ends { Ends is_cut self.old
             (outlets K.taken K.is_flushed K.faults sink.old (slots_by W.seen watchers.old.items))
-            result
+            result self.new.refused
             (outlets K.taken K.is_flushed K.faults sink.new (slots_by W.seen watchers.new.items)) }
         ensures flushed { OnOk result (Says (K.is_flushed sink.new) true) }
         ensures tells { KeepsTelling (K.is_flushed sink.old) (K.is_flushed sink.new) }

@@ -1,11 +1,11 @@
 //! One statement of a script: what it does to the session and prints, or why it wasn't run.
-ghost use Rattle.std.specs.Prelude.{◌≡◌, ◌≤◌, ◌++◌, [], length, Ok, IfOk, IfErr, OnOk, OnErr};
+ghost use Rattle.std.specs.Prelude.{◌≡◌, ◌≤◌, [], length, Ok};
 ghost use Rattle.pdl_lex.specs.Limits.{statement_limit};
 ghost use Rattle.pdl_watch.specs.Slots.{slots_by, present_in};
 ghost use Rattle.pdl_syntax.specs.StatementTree.{statement_of};
 ghost use Rattle.pdl_syntax.specs.WellMade.{IsWellMade};
 ghost use Rattle.pdl_machine.specs.Reads.{reads};
-ghost use Rattle.pdl_machine.specs.Run.{step_read, mark_step, fault_line};
+ghost use Rattle.pdl_machine.specs.Run.{step_read, mark_step};
 ghost use Rattle.pdl_session.specs.Watching.{AreServed};
 ghost use Rattle.pdl_shell.specs.Marks.{mark_of};
 ghost use Rattle.pdl_shell.specs.Ran.{Leaves, AreServedAfter};
@@ -15,11 +15,11 @@ use crate::mark::Mark;
 use crate::parsing::{Rooms, read};
 use pdl_buf::Steps;
 use pdl_lex::Piece;
-use pdl_machine::{Fault, fault_text};
+use pdl_machine::Fault;
 use pdl_session::{Session, StepFault};
 use pdl_syntax::Statement;
 use pdl_watch::Watcher;
-use std::alloc::{AllocError, Global};
+use std::alloc::Global;
 use std::sync::ledger::Ledger;
 
 // Runs the statement of a text, which has this number, and puts what it prints into `out`.
@@ -70,8 +70,8 @@ fn run_statement<W: Watcher, L: Ledger>(
     session.step_over(statement, number, out, watchers, steps)
 }
 
-// Runs a statement of the script, which has this number, and leaves in `out` what it prints: nothing
-// where it wasn't run.
+// Runs a statement of the script, which has this number, and leaves in `out` what it prints:
+// nothing where it wasn't run.
 pub(crate) fn run_mark<W: Watcher, L: Ledger>(
     alloc: Global,
     session: &mut Session,
@@ -105,18 +105,4 @@ pub(crate) fn run_mark<W: Watcher, L: Ledger>(
         Mark::Statement(Piece::TooLong { .. }) => Err(StepFault::Script(Fault::StatementTooLong)),
         Mark::ScriptTooLong(_) => Err(StepFault::Script(Fault::ScriptTooLong)),
     }
-}
-
-// Appends the line that names a fault.
-pub(crate) fn push_fault_line(
-    alloc: Global,
-    out: &mut Vec<u8>,
-    line: u64,
-    fault: Fault,
-) -> Result<(), AllocError>
-    ensures { OnOk result (out.new.items ≡ out.old.items ++ fault_line line fault) }
-{
-    let text = fault_text(fault);
-    let shown = format!(in alloc; "pdl: line {line}: {text}\n")?;
-    out.extend_from_slice(shown.as_bytes())
 }

@@ -16,7 +16,7 @@ pub enum Status {
     SinkFault,
     /// A watcher failed.
     WatcherFault,
-    /// Memory was wanting.
+    /// Memory refused a statement, or the call was out of memory and stopped short.
     NoMemory,
 }
 

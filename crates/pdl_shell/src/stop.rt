@@ -1,8 +1,9 @@
 //! Why a run stops short.
 ghost use Rattle.std.specs.Prelude.{◌≡◌};
 ghost use Rattle.pdl_shell.specs.declared.stop.Stop.TheVariants.{Watcher, NoMemory};
-ghost use Rattle.pdl_shell.specs.Answers.{status_after};
+ghost use Rattle.pdl_shell.specs.Answers.{status_at_end, status_after};
 
+use crate::refused::Refused;
 use crate::status::Status;
 use pdl_session::WatcherFailed;
 use std::alloc::AllocError;
@@ -32,13 +33,24 @@ impl From<WatcherFailed> for Stop {
     }
 }
 
-// The status of a run that came to its end, faulted or not, or stopped short.
-pub(crate) fn status_after(ran: Result<bool, Stop>) -> Status
-    ensures { result ≡ status_after ran }
+// The status of a run that came to its end.
+fn status_at_end(faulted: bool, refused: &Refused) -> Status
+    ensures { result ≡ status_at_end faulted refused.now }
+{
+    match refused.numbers() {
+        [] if faulted => Status::ScriptFault,
+        [] => Status::Done,
+        _ => Status::NoMemory,
+    }
+}
+
+// The status of a run that came to its end, faulted or not, or stopped short, where memory refused
+// these statements.
+pub(crate) fn status_after(ran: Result<bool, Stop>, refused: &Refused) -> Status
+    ensures { result ≡ status_after ran refused.now }
 {
     match ran {
-        Ok(false) => Status::Done,
-        Ok(true) => Status::ScriptFault,
+        Ok(faulted) => status_at_end(faulted, refused),
         Err(Stop::Source) => Status::SourceFault,
         Err(Stop::Sink) => Status::SinkFault,
         Err(Stop::Watcher) => Status::WatcherFault,

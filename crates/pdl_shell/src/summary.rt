@@ -1,5 +1,5 @@
 //! The run of the generated script, of which one line is written.
-ghost use Rattle.std.specs.Prelude.{◌≡◌, ℕ, ◌==◌, Option, ◌+◌, ◌≤◌, List, length, false, true, Some, IfOk, OnOk, OnErr, if◌then◌else◌};
+ghost use Rattle.std.specs.Prelude.{◌≡◌, ℕ, ◌==◌, Option, ◌+◌, ◌≤◌, List, [], length, false, true, Some, IfOk, OnOk, OnErr, if◌then◌else◌};
 ghost use Rattle.std.specs.Io.KnownBytes.{Appends};
 ghost use Rattle.std.specs.String.{string_bytes};
 ghost use Rattle.pdl_io.specs.Told.{Says, KeepsTelling, AppendsPrefix};
@@ -15,6 +15,7 @@ ghost use Rattle.pdl_shell.specs.Answers.{CameToItsEnd, ending, Gives, CanAnswer
 
 use crate::generated::generated_script;
 use crate::output::{flush, write_text};
+use crate::refused::Refused;
 use crate::run::run_script;
 use crate::status::Status;
 use crate::stop::{Stop, status_after};
@@ -39,7 +40,7 @@ fn statement_count(rounds: u16) -> u64
 }
 
 // Runs the generated script of so many rounds, and counts what it prints. A text
-// that is too long to be counted is answered as want of memory. Nobody watches.
+// that is too long to be counted is answered as `NoMemory`. Nobody watches.
 fn count_printed(alloc: Global, keep_going: bool, rounds: u16) -> Result<CountSink, AllocError>
     ensures { let ran = run (unwatched keep_going) (generated_script rounds) in
         IfOk result (λ counted. counted.bytes ≡ ran.printed) }
@@ -48,7 +49,15 @@ fn count_printed(alloc: Global, keep_going: bool, rounds: u16) -> Result<CountSi
     let mut source = MemSource::new(script, MOST, Vec::new(alloc));
     let mut printed = CountSink::new();
     let mut nobody: Vec<Option<Recorder>> = Vec::new(alloc);
-    match run_script(alloc, keep_going, &mut source, &mut printed, &mut nobody) {
+    let mut refused = Refused::new();
+    match run_script(
+        alloc,
+        keep_going,
+        &mut source,
+        &mut printed,
+        &mut nobody,
+        &mut refused,
+    ) {
         Status::Done => Ok(printed),
         Status::ScriptFault => Ok(printed),
         _ => Err(AllocError),
@@ -95,7 +104,7 @@ pub(crate) fn summarize<K: Sink>(
     sink: &mut K,
 ) -> Status
     ensures model { (script : List ℕ) (slots : Slots) →
-        let wanted = ending (Some (Generate keep_going rounds)) (present_in slots) script in
+        let wanted = ending (Some (Generate keep_going rounds)) (present_in slots) [] script in
         Gives result wanted (outlets K.taken K.is_flushed K.faults sink.old slots)
         (outlets K.taken K.is_flushed K.faults sink.new slots) }
     ensures answers { CanAnswer (Some (Generate keep_going rounds)) result }
@@ -116,6 +125,6 @@ pub(crate) fn summarize<K: Sink>(
     slot_laws();
     match write_summary(alloc, keep_going, rounds, sink) {
         Ok(()) => Status::Done,
-        Err(stop) => status_after(Err(stop)),
+        Err(stop) => status_after(Err(stop), &Refused::new()),
     }
 }

@@ -22,7 +22,6 @@ const GENERATE: &[u8] = b"--generate";
 // What stands before a number of rounds in the same word.
 const GENERATE_EQUALS: &[u8] = b"--generate=";
 
-// The most rounds.
 const MOST_ROUNDS: u16 = 2000;
 
 fn is_keep_going(word: &[u8]) -> bool

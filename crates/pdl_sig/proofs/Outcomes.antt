@@ -8,7 +8,7 @@ use Rattle.pdl_sig.specs.declared.SigArg.{SigArg}
 use Rattle.pdl_sig.specs.declared.Signature.{Signature}
 use Rattle.pdl_sig.specs.declared.ArgShape.{ArgShape}
 use Rattle.pdl_sig.specs.declared.Resolved.{Resolved}
-use Rattle.pdl_sig.specs.Resolution.{arg_count, core_mismatch, inputs, handed, cores, is_unfit, joined_with, named_sizes, is_stretched, has_too_many, is_too_large, solution, resolved_by, resolved_in, resolution}
+use Rattle.pdl_sig.specs.Resolution.{work_limit, arg_count, core_mismatch, inputs, handed, cores, is_unfit, joined_with, named_sizes, is_stretched, has_too_many, is_too_large, solution, resolved_by, resolved_in, resolution}
 
 -- a size within the limit
 pub record Counted (n : ℕ) (ds : List ℕ) : Type 0 where
@@ -28,13 +28,13 @@ pub record Passed (args : List SigArg) (given : List ArgShape) (sizes broadcast 
   pub many : list_any (has_too_many sizes broadcast) args ≡ false
   pub counts : Some count ≡ checked_size broadcast
   pub large : list_any (is_too_large sizes broadcast) args ≡ false
-  pub work : nat_lt 16777216 (count * extent sizes) ≡ false
+  pub work : nat_lt work_limit (count * extent sizes) ≡ false
 
 pub solved : (args : List SigArg) (given : List ArgShape) (sizes broadcast : List ℕ) (count : ℕ) (r : Resolved) → Passed args given sizes broadcast count
     → r ≡ solution args given sizes broadcast → Ok r ≡ resolved_by args given sizes (Some broadcast)
 solved args given sizes broadcast count r p e =
     let c = counted count broadcast p.counts in
-    let w : nat_lt 16777216 (size_of broadcast * extent sizes) ≡ false = ap (λ n. nat_lt 16777216 (n * extent sizes)) (sym c.count) ∙ p.work in
+    let w : nat_lt work_limit (size_of broadcast * extent sizes) ≡ false = ap (λ n. nat_lt work_limit (n * extent sizes)) (sym c.count) ∙ p.work in
     let l : (nat_lt 1048576 (extent broadcast) || list_any (is_too_large sizes broadcast) args) ≡ false = ap₂ (λ x y. x || y) c.small p.large in
     rw (p.stretched, p.many, l, w) (ap Ok e)
 

@@ -8,6 +8,7 @@ use Rattle.pdl_elem.specs.declared.Ty.{Ty}
 use Rattle.pdl_elem.specs.declared.Ty.TheVariants.{Long}
 use Rattle.pdl_elem.specs.Tables.{found_in}
 use Rattle.pdl_elem.specs.Types.{type_named}
+use Rattle.pdl_shape.specs.Shape.{extent_limit}
 use Rattle.pdl_lex.specs.Bytes.{is_blank, is_word_byte}
 use Rattle.pdl_lex.specs.Tokens.{is_word}
 use Rattle.pdl_sig.specs.declared.Reserved.{Reserved}
@@ -60,7 +61,7 @@ pub record Number (n : ℕ) (s t : List ℕ) : Type 0 where
 
 -- the largest number that a dimension is fixed to
 abbrev pub size_limit : ℕ
-size_limit = 1048576
+size_limit = extent_limit
 
 -- the type of a type word; `int` is long
 abbrev pub type_of : List ℕ → Option Ty

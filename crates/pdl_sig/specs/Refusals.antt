@@ -8,7 +8,7 @@ use Rattle.pdl_sig.specs.declared.SigFault.{SigFault}
 use Rattle.pdl_sig.specs.declared.SigFault.TheVariants.{BadText, TooManyNames, TwiceNamed, NoOutput, OpenSize, NoMemory}
 use Rattle.pdl_sig.specs.declared.written.WrittenDim.{WrittenDim}
 use Rattle.pdl_sig.specs.declared.written.WrittenArg.{WrittenArg}
-use Rattle.pdl_sig.specs.declared.refusing.TheConstants.{MOST_ARGS, MOST_NAMES}
+use Rattle.pdl_sig.specs.declared.refusing.TheConstants.{MOST_ARGS, MOST_DIM_NAMES}
 use Rattle.pdl_sig.specs.Grammar.{Args, is_arg_word, is_dim_word, size_limit}
 use Rattle.pdl_sig.specs.Resolution.{is_given, is_output}
 use Rattle.pdl_lex.specs.Tokens.{is_word}
@@ -75,8 +75,8 @@ signature_of args = record {
 abbrev pub args_limit : ℕ
 args_limit = MOST_ARGS
 
-abbrev pub names_limit : ℕ
-names_limit = MOST_NAMES
+abbrev pub dim_names_limit : ℕ
+dim_names_limit = MOST_DIM_NAMES
 
 -- whether something stands twice in a list
 abbrev pub has_twice : {X : Type 0} → (X → X → Bool) → List X → Bool
@@ -114,7 +114,7 @@ has_open args n (fixed ∷ rest) =
 -- the first refusal that holds of a signature, in which a dimension was fixed again or not
 abbrev pub refusal : Signature → Bool → Option SigFault
 refusal signature fixed_again =
-    if nat_lt args_limit (length signature.args) || nat_lt names_limit (length signature.names)
+    if nat_lt args_limit (length signature.args) || nat_lt dim_names_limit (length signature.names)
     then Some TooManyNames
     else (if is_twice_named signature.args || fixed_again then Some TwiceNamed
     else (if not (list_any (λ a. is_output a.role) signature.args) then Some NoOutput

@@ -13,6 +13,7 @@ use Rattle.pdl_sig.specs.declared.Role.{Role}
 use Rattle.pdl_sig.specs.declared.Role.TheVariants.{Input, Output, Both, Temp}
 use Rattle.pdl_sig.specs.declared.ArgType.{ArgType}
 use Rattle.pdl_sig.specs.declared.ArgType.TheVariants.{Generic, Fixed, AtLeast}
+use Rattle.pdl_sig.specs.declared.shapes.TheConstants.{MOST_WORK}
 use Rattle.pdl_sig.specs.declared.SigArg.{SigArg}
 use Rattle.pdl_sig.specs.declared.Signature.{Signature}
 use Rattle.pdl_sig.specs.declared.ArgShape.{ArgShape}
@@ -22,7 +23,7 @@ use Rattle.pdl_sig.specs.declared.ResolveFault.TheVariants.{ArgCount, CoreMismat
 
 -- a call does at most so much work
 abbrev pub work_limit : ℕ
-work_limit = 16777216
+work_limit = MOST_WORK
 
 -- whether the caller hands in an argument of this role
 abbrev pub is_given : Role → Bool

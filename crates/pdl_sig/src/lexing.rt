@@ -11,9 +11,7 @@ ghost use Rattle.pdl_sig.specs.SignatureReading.{is_end, sign_at, word_at, numbe
 use crate::{Reserved, Role};
 use pdl_elem::{Ty, found_in, type_named};
 use pdl_lex::bytes::{digits_len, is_blank, is_letter, word_len};
-
-/// The largest number that a dimension is fixed to.
-const MOST_SIZE: u32 = 1_048_576;
+use pdl_shape::MOST_EXTENT;
 
 /// The words that are reserved in kernel code.
 const RESERVED: &[(&[u8], Reserved)] = &[
@@ -93,7 +91,7 @@ fn value(digits: &[u8]) -> u32
 {
     let mut value = 0;
     for digit in digits {
-        value = (10 * value + u32::from(*digit - b'0')).min(MOST_SIZE + 1);
+        value = (10 * value + u32::from(*digit - b'0')).min(MOST_EXTENT + 1);
     }
     value
 }
@@ -109,7 +107,7 @@ pub fn number(text: &[u8]) -> Option<(u32, &[u8])>
         return None;
     }
     let value = value(digits);
-    if value > MOST_SIZE {
+    if value > MOST_EXTENT {
         return None;
     }
     Some((value, rest))

@@ -19,7 +19,7 @@ pub use inputs::is_output;
 pub use lexing::reserved_word;
 use pdl_elem::{Items, Name, Ty};
 use pdl_shape::Dims;
-pub use refusing::{MOST_ARGS, MOST_NAMES};
+pub use refusing::{MOST_ARGS, MOST_DIM_NAMES};
 pub use resolving::resolve;
 pub use signing::read_signature;
 use std::alloc::AllocError;

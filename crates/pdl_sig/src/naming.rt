@@ -1,8 +1,8 @@
 //! From the arguments as they are written to the signature, with its names and numbers.
 ghost use Rattle.std.specs.Prelude.{◌≡◌, ◌<◌, ◌≤◌, [], length, map, None, false, IfOk, IfSome, IsTrue};
-ghost use Rattle.pdl_sig.specs.Refusals.{has_name, names_after, names_limit, all_names, number_of, numbered, size_for, fixed_among, fixed_in, signature_of};
+ghost use Rattle.pdl_sig.specs.Refusals.{has_name, names_after, dim_names_limit, all_names, number_of, numbered, size_for, fixed_among, fixed_in, signature_of};
 
-use crate::refusing::MOST_NAMES;
+use crate::refusing::MOST_DIM_NAMES;
 use crate::written::{WrittenArg, WrittenDim};
 use crate::{SigArg, Signature};
 use pdl_elem::{Items, Name};
@@ -20,11 +20,11 @@ fn add_names(names: &mut Vec<Name>, dims: &[WrittenDim]) -> Result<bool, AllocEr
     ensures few { IfOk result (λ room. IsTrue room →
         names.new.items ≡ names_after names.old.items dims.now) }
     ensures many { IfOk result (λ room. room ≡ false →
-        names_limit < length (names_after names.old.items dims.now)) }
+        dim_names_limit < length (names_after names.old.items dims.now)) }
 {
     for dim in dims {
         if !has_name(names.as_slice(), &dim.name) {
-            if names.len() >= MOST_NAMES {
+            if names.len() >= MOST_DIM_NAMES {
                 return Ok(false);
             }
             names.push(dim.name.clone()?)?;
@@ -39,7 +39,7 @@ pub fn all_names(alloc: Global, args: &[WrittenArg]) -> Result<Option<Vec<Name>>
     ensures few { IfOk result (λ found. IfSome found (λ names.
         names.items ≡ all_names [] args.now)) }
     ensures many { IfOk result (λ found. found ≡ None →
-        names_limit < length (all_names [] args.now)) }
+        dim_names_limit < length (all_names [] args.now)) }
 {
     let mut names = Vec::new(alloc);
     for arg in args {
@@ -63,7 +63,7 @@ fn number_of(names: &[Name], word: &Name) -> usize
 }
 
 fn numbers(alloc: Global, names: &[Name], dims: &[WrittenDim]) -> Result<Vec<u8>, AllocError>
-    requires { length names.now ≤ names_limit }
+    requires { length names.now ≤ dim_names_limit }
     ensures { IfOk result (λ found. found.items ≡ map (λ d. number_of names.now d.name) dims.now) }
 {
     let mut found = Vec::new(alloc);
@@ -74,7 +74,7 @@ fn numbers(alloc: Global, names: &[Name], dims: &[WrittenDim]) -> Result<Vec<u8>
 }
 
 fn numbered(alloc: Global, names: &[Name], arg: &WrittenArg) -> Result<SigArg, AllocError>
-    requires { length names.now ≤ names_limit }
+    requires { length names.now ≤ dim_names_limit }
     ensures { IfOk result (λ found. found ≡ numbered names.now arg.now) }
 {
     Ok(SigArg {
@@ -90,7 +90,7 @@ fn all_numbered(
     names: &[Name],
     args: &[WrittenArg],
 ) -> Result<Vec<SigArg>, AllocError>
-    requires { length names.now ≤ names_limit }
+    requires { length names.now ≤ dim_names_limit }
     ensures { IfOk result (λ found. found.items ≡ map (numbered names.now) args.now) }
 {
     let mut found = Vec::new(alloc);
@@ -152,7 +152,7 @@ pub fn signature_of(
     names: Vec<Name>,
 ) -> Result<Signature, AllocError>
     requires names { names.items ≡ all_names [] args.now }
-    requires few { length names.items ≤ names_limit }
+    requires few { length names.items ≤ dim_names_limit }
     ensures { IfOk result (λ signature. signature ≡ signature_of args.now) }
 {
     Ok(Signature {

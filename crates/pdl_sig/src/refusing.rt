@@ -1,7 +1,7 @@
 //! The refusals of signatures.
 ghost use Rattle.std.specs.Prelude.{◌≡◌, ◌||◌, nat_eq, nat_lt};
 ghost use Rattle.std.specs.List.{list_any};
-ghost use Rattle.pdl_sig.specs.Refusals.{args_limit, names_limit, has_twice, has_one_name, is_twice_named, are_different, fixed_in, is_fixed_again, is_sized, has_open, refusal};
+ghost use Rattle.pdl_sig.specs.Refusals.{args_limit, dim_names_limit, has_twice, has_one_name, is_twice_named, are_different, fixed_in, is_fixed_again, is_sized, has_open, refusal};
 ghost use Rattle.pdl_sig.specs.Resolution.{is_output};
 
 use crate::inputs::{is_given, is_output};
@@ -13,7 +13,7 @@ use crate::{SigArg, SigFault, Signature};
 pub const MOST_ARGS: usize = 16;
 
 /// The most names of dimensions in a signature.
-pub const MOST_NAMES: usize = 8;
+pub const MOST_DIM_NAMES: usize = 8;
 
 fn has_arg(args: &[SigArg], arg: &SigArg) -> bool
     ensures { result ≡ list_any (has_one_name arg.now) args.now }
@@ -110,9 +110,9 @@ fn has_output(args: &[SigArg]) -> bool
 
 /// Whether there are more arguments or names than a signature may have.
 pub fn are_too_many(args: usize, names: usize) -> bool
-    ensures { result ≡ (nat_lt args_limit args || nat_lt names_limit names) }
+    ensures { result ≡ (nat_lt args_limit args || nat_lt dim_names_limit names) }
 {
-    args > MOST_ARGS || names > MOST_NAMES
+    args > MOST_ARGS || names > MOST_DIM_NAMES
 }
 
 /// The first refusal of the signature of arguments as they are written.

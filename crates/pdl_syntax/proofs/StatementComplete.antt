@@ -6,7 +6,7 @@ use Rattle.pdl_lexemes.specs.declared.Span.{Span}
 use Rattle.pdl_lexemes.specs.declared.WordKind.{WordKind}
 use Rattle.pdl_lexemes.specs.declared.WordKind.TheVariants.{View as IsView, Pars, Code}
 use Rattle.pdl_lexemes.specs.declared.Keyword.{Keyword as AnyKeyword}
-use Rattle.pdl_lexemes.specs.declared.Keyword.TheVariants.{My, Print, Undef, Vars, PpDef, Watch, Unwatch, Info, Sever, Reshape}
+use Rattle.pdl_lexemes.specs.declared.Keyword.TheVariants.{My, Print, Undef, Vars, Dump, PpDef, Watch, Unwatch, Info, Sever, Reshape}
 use Rattle.pdl_lexemes.specs.declared.Lexeme.{Lexeme}
 use Rattle.pdl_lexemes.specs.declared.Lexeme.TheVariants.{Name, Keyword, Word, Number, Quoted, Open, Close, Comma, Equals, Arrow, Assign}
 use Rattle.pdl_lexemes.specs.Bytes.{bytes_at}
@@ -17,8 +17,8 @@ use Rattle.pdl_lexemes.specs.Peeks.{Read, after, after_keyword, after_reshape, a
 use Rattle.pdl_syntax.specs.Tree.{Tree, Args, call, none, value}
 use Rattle.pdl_syntax.specs.Grammar.{Spells, an_expr, a_postfix, called}
 use Rattle.pdl_syntax.specs.ExpressionReading.{Kind, maybe_at, closed_at, primary_at, methods_at, postfix_at, grown_at, reader}
-use Rattle.pdl_syntax.specs.StatementTree.{StatementTree, View, bind, bind_list, assign, show, show_text, sever, reshape, vars, pp_def, watch, unwatch}
-use Rattle.pdl_syntax.specs.Statements.{SpellsBrackets, no_brackets, brackets, SpellsNames, one_name, more_names, SpellsViews, no_views, one_view, SpellsText, plain_text, labelled, SpellsCalled, by_word, by_method, SpellsBinding, binds_value, binds_severed, binds_names, SpellsStatement, binds, my_binds, assigns, shows_text, shows, shows_info, severs, reshapes, undefs, lists_names, defines, watches, unwatches}
+use Rattle.pdl_syntax.specs.StatementTree.{StatementTree, View, bind, bind_list, assign, show, show_text, sever, reshape, vars, dump, pp_def, watch, unwatch}
+use Rattle.pdl_syntax.specs.Statements.{SpellsBrackets, no_brackets, brackets, SpellsNames, one_name, more_names, SpellsViews, no_views, one_view, SpellsText, plain_text, labelled, SpellsCalled, by_word, by_method, SpellsBinding, binds_value, binds_severed, binds_names, SpellsStatement, binds, my_binds, assigns, shows_text, shows, shows_info, severs, reshapes, undefs, lists_names, dumps, defines, watches, unwatches}
 use Rattle.pdl_syntax.specs.StatementReading.{at_end, texts_at, code_at, define_at, undef_at, watch_at, names_at, all_names_at, expression_to_end_at, behind_at, valued_at, called_step, called_at, bind_at, bind_list_at, views_at, assignment_at, statement_of_name_at, binding_at, show_at, statement_at, read_statement}
 use Rattle.pdl_syntax.proofs.Turns.{methods_stop, methods_turn}
 use Rattle.pdl_syntax.proofs.Complete.{Ends, ends_nothing, Methods, complete, finished, read_whole, read_postfix, begins, shorter}
@@ -286,8 +286,9 @@ module _ (lists : ListsAreRead) (source : List ℕ) (n : ℕ) where
       × (statement_at source f (Keyword PpDef ∷ ts) ≡ define_at source ts)
       × (statement_at source f (Keyword Watch ∷ ts) ≡ watch_at source ts)
       × (statement_at source f (Keyword Unwatch ∷ ts) ≡ option_map unwatch (slot_at ts))
+      × (statement_at source f (Keyword Dump ∷ ts) ≡ at_end dump ts)
   unfolding statement_at
-  keyword_reads ts = (refl, refl, refl, refl, refl)
+  keyword_reads ts = (refl, refl, refl, refl, refl, refl)
 
   -- a spelled statement is read
   pub statement_complete : {s : StatementTree} {ts : List Lexeme} → SpellsStatement source s ts → length ts ≤ n → statement_at source f ts ≡ Some s
@@ -307,6 +308,7 @@ module _ (lists : ListsAreRead) (source : List ℕ) (n : ℕ) where
   statement_complete (reshapes {w = w} {args = args} {ts = ts} h) le = named_reshape w args ts (complete lists source h n (omega arith))
   statement_complete (undefs {w = w}) le = (keyword_reads (Name w ∷ [])).0
   statement_complete lists_names le = (keyword_reads []).1
+  statement_complete dumps le = (keyword_reads []).5
   statement_complete (defines {w = w} {signature = signature} {code = code} {ts = ts} {us = us} h k) le =
       (keyword_reads (Open ∷ Quoted w ∷ Comma ∷ ts)).2 ∙ define_complete source w signature code ts us h k
   statement_complete (watches {w = w} {n = m} {z = z} e) le = (keyword_reads (Name w ∷ Comma ∷ Number m ∷ [])).3 ∙ watch_complete source w m z e

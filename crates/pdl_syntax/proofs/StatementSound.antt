@@ -4,7 +4,7 @@ use Rattle.pdl_lexemes.specs.declared.AssignOp.{AssignOp}
 use Rattle.pdl_lexemes.specs.declared.Span.{Span}
 use Rattle.pdl_lexemes.specs.declared.WordKind.TheVariants.{View as IsView, Pars, Code}
 use Rattle.pdl_lexemes.specs.declared.Keyword.{Keyword as AnyKeyword}
-use Rattle.pdl_lexemes.specs.declared.Keyword.TheVariants.{My, Print, Undef, Vars, PpDef, Watch, Unwatch, Info, Sever, Reshape}
+use Rattle.pdl_lexemes.specs.declared.Keyword.TheVariants.{My, Print, Undef, Vars, Dump, PpDef, Watch, Unwatch, Info, Sever, Reshape}
 use Rattle.pdl_lexemes.specs.declared.Lexeme.{Lexeme}
 use Rattle.pdl_lexemes.specs.declared.Lexeme.TheVariants.{Name, Keyword, Word, Number, Quoted, Open, Close, Comma, Equals, Arrow, FatArrow, Assign}
 use Rattle.pdl_lexemes.specs.Bytes.{bytes_at}
@@ -15,8 +15,8 @@ use Rattle.pdl_lexemes.specs.Peeks.{Read, after, after_keyword, after_reshape, a
 use Rattle.pdl_syntax.specs.Tree.{Tree, none, value}
 use Rattle.pdl_syntax.specs.Grammar.{Spells, an_expr, a_postfix, a_primary, closed_args, maybe_args, bare, method, a_number, a_name, list, round_list, called, round}
 use Rattle.pdl_syntax.specs.ExpressionReading.{Kind, expression, maybe_at, closed_at, primary_at, methods_at, postfix_at, level_at, grown_at, reader}
-use Rattle.pdl_syntax.specs.StatementTree.{StatementTree, View, bind, bind_list, assign, show, show_text, sever, reshape, undef, vars, watch, unwatch}
-use Rattle.pdl_syntax.specs.Statements.{SpellsBrackets, no_brackets, brackets, SpellsNames, one_name, more_names, SpellsViews, no_views, one_view, SpellsText, plain_text, labelled, SpellsCalled, by_word, by_method, SpellsBinding, binds_value, binds_severed, binds_names, SpellsStatement, binds, my_binds, assigns, shows_text, shows, shows_info, severs, reshapes, undefs, lists_names, defines, watches, unwatches}
+use Rattle.pdl_syntax.specs.StatementTree.{StatementTree, View, bind, bind_list, assign, show, show_text, sever, reshape, undef, vars, dump, watch, unwatch}
+use Rattle.pdl_syntax.specs.Statements.{SpellsBrackets, no_brackets, brackets, SpellsNames, one_name, more_names, SpellsViews, no_views, one_view, SpellsText, plain_text, labelled, SpellsCalled, by_word, by_method, SpellsBinding, binds_value, binds_severed, binds_names, SpellsStatement, binds, my_binds, assigns, shows_text, shows, shows_info, severs, reshapes, undefs, lists_names, dumps, defines, watches, unwatches}
 use Rattle.pdl_syntax.specs.StatementReading.{at_end, texts_at, code_at, signature_at, define_at, undef_at, watch_at, names_at, all_names_at, expression_to_end_at, behind_at, valued_at, called_step, called_at, bind_at, bind_names, bind_list_at, views_at, assign_value, assignment_at, reshape_at, sever_at, statement_of_name_at, bind_name, binding_at, value_at, show_at, statement_at}
 use Rattle.pdl_syntax.proofs.Peeks.{after_is, quoted_is}
 use Rattle.pdl_syntax.proofs.Sound.{closed_sound, maybe_sound, primary_sound, methods_sound, postfix_sound, level_sound, reader_sound_expr}
@@ -382,6 +382,11 @@ module _ (lists : ListsAreRead) (source : List ℕ) (n : ℕ) where
       let end = end_is vars ts e in
       subst (Stated source (Keyword Vars ∷ ts)) end.same (subst (λ vs. Stated source (Keyword Vars ∷ vs) vars) (sym end.empty) lists_names)
 
+  dump_sound : (ts : List Lexeme) (s : StatementTree) → at_end dump ts ≡ Some s → Stated source (Keyword Dump ∷ ts) s
+  dump_sound ts s e =
+      let end = end_is dump ts e in
+      subst (Stated source (Keyword Dump ∷ ts)) end.same (subst (λ vs. Stated source (Keyword Dump ∷ vs) dump) (sym end.empty) dumps)
+
   -- a statement that is read is spelled
   pub statement_sound : (ts : List Lexeme) (s : StatementTree) → length ts ≤ n → statement_at source f ts ≡ Some s → SpellsStatement source s ts
   unfolding statement_at
@@ -390,6 +395,7 @@ module _ (lists : ListsAreRead) (source : List ℕ) (n : ℕ) where
   statement_sound (Keyword Print ∷ ts) s le e = show_sound ts s e
   statement_sound (Keyword Undef ∷ ts) s le e = undef_sound source ts s e
   statement_sound (Keyword Vars ∷ ts) s le e = vars_sound ts s e
+  statement_sound (Keyword Dump ∷ ts) s le e = dump_sound ts s e
   statement_sound (Keyword PpDef ∷ ts) s le e = define_sound source ts s e
   statement_sound (Keyword Watch ∷ ts) s le e = watch_sound source ts s e
   statement_sound (Keyword Unwatch ∷ ts) s le e = unwatch_sound source ts s e

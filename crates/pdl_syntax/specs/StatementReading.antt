@@ -4,14 +4,14 @@ use Rattle.pdl_lemmas.specs.Options.{choose}
 use Rattle.pdl_lexemes.specs.declared.Span.{Span}
 use Rattle.pdl_lexemes.specs.declared.WordKind.TheVariants.{Pars, Code}
 use Rattle.pdl_lexemes.specs.declared.Keyword.{Keyword as AnyKeyword}
-use Rattle.pdl_lexemes.specs.declared.Keyword.TheVariants.{My, Print, Undef, Vars, PpDef, Watch, Unwatch, Info, Sever}
+use Rattle.pdl_lexemes.specs.declared.Keyword.TheVariants.{My, Print, Undef, Vars, Dump, PpDef, Watch, Unwatch, Info, Sever}
 use Rattle.pdl_lexemes.specs.declared.Lexeme.{Lexeme}
 use Rattle.pdl_lexemes.specs.declared.Lexeme.TheVariants.{Name, Keyword, Open, Close, Equals, Comma}
 use Rattle.pdl_lexemes.specs.Bytes.{bytes_at}
 use Rattle.pdl_lexemes.specs.Peeks.{Read, after, after_keyword, after_reshape, after_names, after_label, prefix_at, quoted_at, name_at, view_at, assign_at, slot_at, is_brackets, begins_word}
 use Rattle.pdl_syntax.specs.Tree.{Tree, none}
 use Rattle.pdl_syntax.specs.ExpressionReading.{Kind, expression, maybe_at, closed_at, primary_at, methods_at, postfix_at, grown_at, reader}
-use Rattle.pdl_syntax.specs.StatementTree.{StatementTree, View, bind, bind_list, assign, show, show_text, sever, reshape, undef, vars, pp_def, watch, unwatch}
+use Rattle.pdl_syntax.specs.StatementTree.{StatementTree, View, bind, bind_list, assign, show, show_text, sever, reshape, undef, vars, dump, pp_def, watch, unwatch}
 
 -- what there is where nothing follows
 abbrev pub at_end : {A : Type 0} → A → List Lexeme → Option A
@@ -157,6 +157,7 @@ module _ (source : List ℕ) (f : Kind → List Lexeme → Read Tree) where
   statement_at (Keyword Print ∷ ts) = show_at ts
   statement_at (Keyword Undef ∷ ts) = undef_at source ts
   statement_at (Keyword Vars ∷ ts) = at_end vars ts
+  statement_at (Keyword Dump ∷ ts) = at_end dump ts
   statement_at (Keyword PpDef ∷ ts) = define_at source ts
   statement_at (Keyword Watch ∷ ts) = watch_at source ts
   statement_at (Keyword Unwatch ∷ ts) = option_map unwatch (slot_at ts)

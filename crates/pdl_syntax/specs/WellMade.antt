@@ -5,7 +5,7 @@ use Rattle.std.specs.Prelude.{◌≤ℤ◌, ℤ, pos, All}
 use Rattle.pdl_buf.specs.Made.{IsMade}
 use Rattle.pdl_lexemes.specs.Texts.{IsName, IsQuotable}
 use Rattle.pdl_syntax.specs.Tree.{Tree, Args, number, named, literal, unary, binary, call, none, value, text, of_type}
-use Rattle.pdl_syntax.specs.StatementTree.{StatementTree, bind, bind_list, assign, show, show_text, sever, reshape, undef, vars, pp_def, watch, unwatch}
+use Rattle.pdl_syntax.specs.StatementTree.{StatementTree, bind, bind_list, assign, show, show_text, sever, reshape, undef, vars, dump, pp_def, watch, unwatch}
 
 -- a number from 0 to 9223372036854775807
 pub record IsCount (z : ℤ) : Type 0 where
@@ -46,6 +46,7 @@ IsWellMade (sever name) = IsName name
 IsWellMade (reshape name args) = IsName name × AreArgArrays args
 IsWellMade (undef name) = IsName name
 IsWellMade vars = Unit {0}
+IsWellMade dump = Unit {0}
 IsWellMade (pp_def name signature code) =
     IsQuotable name × IsQuotable signature × IsQuotable code
 IsWellMade (watch name slot) = IsName name

@@ -80,6 +80,7 @@ pub fn in_statement(statement: &Statement) -> bool
         | Statement::Sever { .. }
         | Statement::Undef { .. }
         | Statement::Vars
+        | Statement::Dump
         | Statement::PpDef { .. }
         | Statement::Watch { .. }
         | Statement::Unwatch { .. } => false,

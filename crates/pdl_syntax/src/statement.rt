@@ -5,7 +5,7 @@ ghost use Rattle.pdl_lexemes.specs.Peeks.{slot_at};
 ghost use Rattle.pdl_lexemes.specs.ReadAnswers.{Gives};
 ghost use Rattle.pdl_syntax.specs.Readers.{reads, text_at, with_tree};
 ghost use Rattle.pdl_syntax.specs.StatementReading.{expression_to_end_at, behind_at, valued_at, called_at, bind_at, bind_list_at, binding_at, assignment_at, reshape_at, sever_at, statement_of_name_at, value_at, show_at, undef_at, watch_at, define_at, signature_at, code_at, texts_at, statement_at, at_end};
-ghost use Rattle.pdl_syntax.specs.StatementTree.{statement_of, vars, unwatch};
+ghost use Rattle.pdl_syntax.specs.StatementTree.{statement_of, dump, vars, unwatch};
 ghost use Rattle.pdl_syntax.specs.TreeOf.{tree_of};
 
 use crate::reader::Reader;
@@ -36,6 +36,7 @@ impl<'s> Reader<'s> {
             Keyword::Print => self.show(tokens),
             Keyword::Undef => self.undef(tokens),
             Keyword::Vars => vars(tokens),
+            Keyword::Dump => dump(tokens),
             Keyword::PpDef => self.define(tokens),
             Keyword::Watch => self.watch(tokens),
             Keyword::Unwatch => unwatch(tokens),
@@ -298,6 +299,13 @@ fn vars(tokens: &Lexemes<'_>) -> Result<Statement, Refusal>
 {
     tokens.end()?;
     Ok(Statement::Vars)
+}
+
+fn dump(tokens: &Lexemes<'_>) -> Result<Statement, Refusal>
+    ensures read { Gives statement_of result (at_end dump tokens.now) }
+{
+    tokens.end()?;
+    Ok(Statement::Dump)
 }
 
 fn unwatch(tokens: &Lexemes<'_>) -> Result<Statement, Refusal>

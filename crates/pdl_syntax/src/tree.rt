@@ -89,6 +89,8 @@ pub enum Statement {
     },
     /// `vars`
     Vars,
+    /// `dump`
+    Dump,
     /// `pp_def("name", Pars => "signature", Code => "code")`
     PpDef {
         name: Text,

@@ -1,4 +1,4 @@
-//! Arrays of given sizes and numbers, for the tests of the crates of arrays. Where memory is wanting
+//! Arrays of given sizes and numbers, for the tests of the crates of arrays. Out of memory
 //! the test ends here, so that it needs no `?`.
 ghost use Rattle.std.specs.Prelude.{◌≡◌, ◌<◌, length, All, IfOk};
 ghost use Rattle.pdl_elem.specs.Types.{InRange};

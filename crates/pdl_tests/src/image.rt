@@ -33,10 +33,9 @@ fn fewest_underscores(rt: HostRuntime) {
 }
 
 fn put_kernel(rt: &impl Abort, alloc: Global, writer: &mut ImageWriter) {
-    let (called, code) = (text(rt, alloc, b"f"), text(rt, alloc, b"$b() = 1;"));
-    let signature = text(rt, alloc, b"[o]b()");
+    let (signature, code) = (text(rt, alloc, b"[o]b()"), text(rt, alloc, b"$b() = 1;"));
     writer
-        .kernel(&called, &signature, &code)
+        .kernel(&name(rt, alloc, b"f"), &signature, &code)
         .expect(rt, "kernel");
 }
 

@@ -1,7 +1,18 @@
 -- What holds of slots that are told, ended and emptied.
-use Rattle.std.specs.Prelude.{◌≡◌, ℕ, Bool, false, Option, None, List, [], length, slice_set}
+use Rattle.std.specs.Prelude.{◌≡◌, ℕ, Bool, false, Option, None, option_map, List, [], ◌++◌, length, slice_set}
+use Rattle.pdl_watch.specs.Watched.{told_more}
 use Rattle.pdl_watch.specs.declared.notice.Notice.{Notice}
-use Rattle.pdl_watch.specs.Slots.{Slots, all_told, all_ended, notices_of, IsQuiet, present_in, emptied, IsBelow, AreOpen, ToldShort, StopsInTurn, EndedShort, EndsShort, OneMissed}
+use Rattle.pdl_watch.specs.Slots.{Slots, slot, all_told, all_ended, joined, notices_of, IsQuiet, present_in, emptied, IsBelow, AreOpen, ToldShort, StopsInTurn, EndedShort, EndsShort, OneMissed}
+
+-- the watcher of each slot is told the notices of that slot
+abbrev pub EachIsToldItsOwn : Type 0
+EachIsToldItsOwn = (ss : Slots) (all : List (List Notice)) (k : ℕ) →
+    slot (all_told ss all) k ≡ option_map (told_more (notices_of all k)) (slot ss k)
+
+-- the notices of a slot, and then more of that slot
+abbrev pub EachIsJoined : Type 0
+EachIsJoined = (xs ys : List (List Notice)) (k : ℕ) →
+    notices_of (joined xs ys) k ≡ notices_of xs k ++ notices_of ys k
 
 -- telling that stopped at a failure stopped each slot at a front of its notices
 abbrev pub StopsAreShort : Type 0

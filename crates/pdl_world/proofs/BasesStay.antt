@@ -8,10 +8,10 @@ use Rattle.pdl_shape.specs.Triple.{Triple, whole_triple}
 use Rattle.pdl_world.specs.declared.Trans.{Trans}
 use Rattle.pdl_world.specs.Formula.{child_dims}
 use Rattle.pdl_world.specs.BaseLaws.{IsShownAsBefore, AssignmentsLeaveBases, OlderBasesStay, ReachedKeepBases, SweepsLeaveLooks}
-use Rattle.pdl_world.specs.Sound.{NumbersBelow, IsLive, IsSound}
-use Rattle.pdl_world.specs.Swept.{holds, parents, kept_onto, sweep, IsReached, held_itself}
+use Rattle.pdl_world.specs.Sound.{NumbersBelow, IsSound}
+use Rattle.pdl_world.specs.Swept.{is_listed, parents, kept_onto, sweep, IsReached, held_itself}
 use Rattle.pdl_world.specs.Windows.{Window, base, narrowed, over, own_window, window, window_over}
-use Rattle.pdl_world.specs.World.{World, ArrayDef, root, view, Look, look, look_of_root, through, set_elements, assign_through}
+use Rattle.pdl_world.specs.World.{World, ArrayDef, root, view, Look, look, through, set_elements, assign_through}
 use Rattle.pdl_world.proofs.Bases.{IsNarrowed, is_narrowed, window_older}
 use Rattle.pdl_world.proofs.Looks.{live_below, look_older, look_set}
 use Rattle.pdl_world.proofs.Sweeps.{held_behind, newest_held, parent_held, reached_are_seen_as_before, reached_behind}
@@ -138,9 +138,9 @@ newest_same w u j (view p t) b looks h =
 
 same : (w : World) (held : List ℕ) (v : ℕ) → IsSound w → IsReached w held v → Same w (sweep w held) v
 same [] held v s r = record { window_is = refl; look_is = refl }
-same ((j, e) ∷ w) held v s r = by_keeps (λ hs u q. same w hs u s.2 q) (holds held j) refl
+same ((j, e) ∷ w) held v s r = by_keeps (λ hs u q. same w hs u s.2 q) (is_listed held j) refl
   where
-    by_keeps : ((hs : List ℕ) (u : ℕ) → IsReached w hs u → Same w (sweep w hs) u) → (keeps : Bool) → holds held j ≡ keeps
+    by_keeps : ((hs : List ℕ) (u : ℕ) → IsReached w hs u → Same w (sweep w hs) u) → (keeps : Bool) → is_listed held j ≡ keeps
         → Same ((j, e) ∷ w) (kept_onto keeps (j, e) (sweep w (held_behind keeps e held))) v
     by_keeps rest true is = elim (cases_eq j v) [
       | inl eq ↦ (let reached : (p : ℕ) (t : Trans) → e ≡ view p t → IsReached w (parents e ++ held) p = λ p t q. held_itself p (parent_held e p t held q) in
@@ -151,7 +151,7 @@ same ((j, e) ∷ w) held v s r = by_keeps (λ hs u q. same w hs u s.2 q) (holds 
       | inr n ↦ same_under w (sweep w (parents e ++ held)) j e v s.0 n (rest (parents e ++ held) v (reached_behind w held j e s true is v r n))
     ]
     by_keeps rest false is = elim (cases_eq j v) [
-      | inl eq ↦ absurd (both_ways (holds held j) is (newest_held w held j e s v r eq))
+      | inl eq ↦ absurd (both_ways (is_listed held j) is (newest_held w held j e s v r eq))
       | inr n ↦ same_without w (sweep w held) j e v s.0 n (rest held v (reached_behind w held j e s false is v r n))
     ]
 
@@ -163,13 +163,13 @@ reached_keep_bases w held v s r =
 -- elements are no matter of a sweep
 sweep_set : (w : World) (r : ℕ) (new : List ℤ) (held : List ℕ) → sweep (set_elements w r new) held ≡ set_elements (sweep w held) r new
 sweep_set [] r new held = refl
-sweep_set ((k, root ty ds es) ∷ w) r new held = by_keeps (λ hs. sweep_set w r new hs) (holds held k)
+sweep_set ((k, root ty ds es) ∷ w) r new held = by_keeps (λ hs. sweep_set w r new hs) (is_listed held k)
   where
     by_keeps : ((hs : List ℕ) → sweep (set_elements w r new) hs ≡ set_elements (sweep w hs) r new) → (keeps : Bool)
         → kept_onto keeps (k, root ty ds (if k == r then new else es)) (sweep (set_elements w r new) (held_behind keeps (root ty ds es) held)) ≡ set_elements (kept_onto keeps (k, root ty ds es) (sweep w (held_behind keeps (root ty ds es) held))) r new
     by_keeps rest true = ap (λ x. (k, root ty ds (if k == r then new else es)) ∷ x) (rest held)
     by_keeps rest false = rest held
-sweep_set ((k, view p t) ∷ w) r new held = by_keeps (λ hs. sweep_set w r new hs) (holds held k)
+sweep_set ((k, view p t) ∷ w) r new held = by_keeps (λ hs. sweep_set w r new hs) (is_listed held k)
   where
     by_keeps : ((hs : List ℕ) → sweep (set_elements w r new) hs ≡ set_elements (sweep w hs) r new) → (keeps : Bool)
         → kept_onto keeps (k, view p t) (sweep (set_elements w r new) (held_behind keeps (view p t) held)) ≡ set_elements (kept_onto keeps (k, view p t) (sweep w (held_behind keeps (view p t) held))) r new

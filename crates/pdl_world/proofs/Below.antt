@@ -9,7 +9,7 @@ use Rattle.pdl_world.specs.declared.Trans.{Trans}
 use Rattle.pdl_world.specs.Formula.{child_dims, source}
 use Rattle.pdl_world.specs.Paths.{path}
 use Rattle.pdl_world.specs.Sound.{IsAllowed, IsLive, IsSound}
-use Rattle.pdl_world.specs.Swept.{holds, Has}
+use Rattle.pdl_world.specs.Swept.{is_listed, Has}
 use Rattle.pdl_world.specs.World.{World, ArrayDef, root, view, Look, look, look_of_root, through, seen_through, through_places, ty_in}
 use Rattle.pdl_world.proofs.Looks.{live_below, look_older, path_older}
 use Rattle.pdl_world.proofs.Replaces.{is_rooted, replaced_older}
@@ -62,15 +62,15 @@ path_at_root ((j, d) ∷ w) k ty ds es s (inr y) =
     let low : k < j = has_below w j k (root ty ds es) s.0 y in
     path_older j d w k (λ q. absurd (omega (arith, low, q))) ∙ path_at_root w k ty ds es s.2 y
 
-next_held : (k v : ℕ) (up : List ℕ) → (k ≡ v → ⊥) → holds (k ∷ up) v ≡ holds up v
+next_held : (k v : ℕ) (up : List ℕ) → (k ≡ v → ⊥) → is_listed (k ∷ up) v ≡ is_listed up v
 next_held k v up n = rw (ne_eqb k v n) refl
 
 -- v itself is on its path
-held_at : (w : World) (v : ℕ) (d : ArrayDef) → IsSound w → Has w v d → holds (path w v) v ≡ true
-held_at w v (root ty ds es) s h = ap (λ ps. holds ps v) (path_at_root w v ty ds es s h) ∙ head_held v []
-held_at w v (view p t) s h = ap (λ ps. holds ps v) (path_at w v p t s h) ∙ head_held v (path w p)
+held_at : (w : World) (v : ℕ) (d : ArrayDef) → IsSound w → Has w v d → is_listed (path w v) v ≡ true
+held_at w v (root ty ds es) s h = ap (λ ps. is_listed ps v) (path_at_root w v ty ds es s h) ∙ head_held v []
+held_at w v (view p t) s h = ap (λ ps. is_listed ps v) (path_at w v p t s h) ∙ head_held v (path w p)
 
-begins_by : (w : World) (v : ℕ) (ds : List ℕ) (o : Option Look) → look w v ≡ o → IsSomeAnd o (λ l. Unit {0}) → holds (path w v) v ≡ true → IsBelow w v ds v ds
+begins_by : (w : World) (v : ℕ) (ds : List ℕ) (o : Option Look) → look w v ≡ o → IsSomeAnd o (λ l. Unit {0}) → is_listed (path w v) v ≡ true → IsBelow w v ds v ds
 begins_by w v ds None e l h = absurd l
 begins_by w v ds (Some m) e l h = record {
   reaches = h;
@@ -89,32 +89,32 @@ goes_on : (w : World) (v : ℕ) (ds : List ℕ) (k p : ℕ) (t : Trans) (es fs :
 goes_on w v ds k p t es fs s h n b e =
     let made : child_dims t b.seen.dims ≡ Ok fs = ap (child_dims t) b.dims_are ∙ e in
     record {
-      reaches = ap (λ ps. holds ps v) (path_at w k p t s h) ∙ next_held k v (path w p) n ∙ b.reaches;
+      reaches = ap (λ ps. is_listed ps v) (path_at w k p t s h) ∙ next_held k v (path w p) n ∙ b.reaches;
       seen = beneath t b.seen fs;
       look_is = looks_follow w v (root (ty_in w v) ds (new_elements w v ds)) k p t s h n ∙ ap (option_and_then (through t)) b.look_is ∙ ap (seen_through t b.seen) made;
       dims_are = refl;
     }
 
 -- a path holds no newer number
-held_low : (w : World) (v u : ℕ) → IsSound w → holds (path w u) v ≡ true → v ≤ u
+held_low : (w : World) (v u : ℕ) → IsSound w → is_listed (path w u) v ≡ true → v ≤ u
 held_low [] v u s h = cc
 held_low ((k, root ty ds es) ∷ w) v u s h = elim (cases_eq k u) [
   | inl t ↦ elim (eqb_tells k v) [
     | inl y ↦ omega (arith, t, y.1)
-    | inr y ↦ (let e : holds (k ∷ []) v ≡ true = ap (λ ps. holds ps v) (sym (path_root k ty ds es w) ∙ ap (path ((k, root ty ds es) ∷ w)) t) ∙ h in
+    | inr y ↦ (let e : is_listed (k ∷ []) v ≡ true = ap (λ ps. is_listed ps v) (sym (path_root k ty ds es w) ∙ ap (path ((k, root ty ds es) ∷ w)) t) ∙ h in
         let z : false ≡ true = rw y.0 at e in cc)
   ]
-  | inr n ↦ held_low w v u s.2 (ap (λ ps. holds ps v) (sym (path_older k (root ty ds es) w u n)) ∙ h)
+  | inr n ↦ held_low w v u s.2 (ap (λ ps. is_listed ps v) (sym (path_older k (root ty ds es) w u n)) ∙ h)
 ]
 held_low ((k, view p t) ∷ w) v u s h = elim (cases_eq k u) [
   | inl e ↦ elim (cases_eq k v) [
     | inl y ↦ omega (arith, e, y)
-    | inr y ↦ (let own : holds (path ((k, view p t) ∷ w) k) v ≡ true = ap (λ x. holds (path ((k, view p t) ∷ w) x) v) e ∙ h in
+    | inr y ↦ (let own : is_listed (path ((k, view p t) ∷ w) k) v ≡ true = ap (λ x. is_listed (path ((k, view p t) ∷ w) x) v) e ∙ h in
         let up : v ≤ p = held_low w v p s.2 (sym (held_view k p t w v y) ∙ own) in
         let low : p < k = live_below w k p s.0 s.1.live in
         omega (arith, e, up, low))
   ]
-  | inr n ↦ held_low w v u s.2 (ap (λ ps. holds ps v) (sym (path_older k (view p t) w u n)) ∙ h)
+  | inr n ↦ held_low w v u s.2 (ap (λ ps. is_listed ps v) (sym (path_older k (view p t) w u n)) ∙ h)
 ]
 
 pub below_laws : BelowLaws
@@ -122,7 +122,7 @@ below_laws = record {
   begins = begins;
   goes_on = goes_on;
   breaks = λ w v ds k p t es e s h n b r. refused_break w v ds k p t b.seen e s h b.look_is n (ap (child_dims t) b.dims_are ∙ r);
-  not_on = λ w v k p t s h n. ap (λ ps. holds ps v) (path_at w k p t s h) ∙ next_held k v (path w p) n;
-  not_root = λ w v k ty es fs s h n. ap (λ ps. holds ps v) (path_at_root w k ty es fs s h) ∙ next_held k v [] n;
+  not_on = λ w v k p t s h n. ap (λ ps. is_listed ps v) (path_at w k p t s h) ∙ next_held k v (path w p) n;
+  not_root = λ w v k ty es fs s h n. ap (λ ps. is_listed ps v) (path_at_root w k ty es fs s h) ∙ next_held k v [] n;
   not_older = λ w v u s h. held_low w v u s h;
 }

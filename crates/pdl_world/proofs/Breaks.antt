@@ -15,7 +15,7 @@ use Rattle.pdl_world.specs.Formula.{child_dims}
 use Rattle.pdl_world.specs.Paths.{path}
 use Rattle.pdl_world.specs.Refused.{refusal_at}
 use Rattle.pdl_world.specs.Sound.{NumbersBelow, IsAllowed, IsShowable, IsSound, IsLive}
-use Rattle.pdl_world.specs.Swept.{holds, Has}
+use Rattle.pdl_world.specs.Swept.{is_listed, Has}
 use Rattle.pdl_world.specs.World.{World, ArrayDef, root, view, Look, look, through, seen_through, dims_in, ty_in}
 use Rattle.pdl_world.proofs.Cuts.{head_held, held_view, ok_dims}
 use Rattle.pdl_world.proofs.Looks.{live_below, look_older, path_older}
@@ -88,24 +88,24 @@ path_root k ty ds es w = rw (eq-eqb k k refl) refl
 pub path_view : (k p : ℕ) (t : Trans) (w : World) → path ((k, view p t) ∷ w) k ≡ k ∷ path w p
 path_view k p t w = rw (eq-eqb k k refl) refl
 
-held_itself : (k : ℕ) (d : ArrayDef) (w : World) → holds (path ((k, d) ∷ w) k) k ≡ true
-held_itself k (root ty ds es) w = ap (λ ps. holds ps k) (path_root k ty ds es w) ∙ head_held k []
-held_itself k (view p t) w = ap (λ ps. holds ps k) (path_view k p t w) ∙ head_held k (path w p)
+held_itself : (k : ℕ) (d : ArrayDef) (w : World) → is_listed (path ((k, d) ∷ w) k) k ≡ true
+held_itself k (root ty ds es) w = ap (λ ps. is_listed ps k) (path_root k ty ds es w) ∙ head_held k []
+held_itself k (view p t) w = ap (λ ps. is_listed ps k) (path_view k p t w) ∙ head_held k (path w p)
 
 -- what isn't shown through v is seen as before, whatever v becomes
-pub others_stay : (w : World) (v u : ℕ) (new : ArrayDef) → IsSound w → holds (path w u) v ≡ false → Stays w (replaced w v new) u
+pub others_stay : (w : World) (v u : ℕ) (new : ArrayDef) → IsSound w → is_listed (path w u) v ≡ false → Stays w (replaced w v new) u
 others_stay [] v u new s h = record { look_is = refl; path_is = refl; root_is = λ l q. refl }
 others_stay ((k, d) ∷ w) v u new s h = elim (cases_eq k v) [
   | inl e ↦ (let P : World → Type 0 = λ x. Stays ((k, d) ∷ w) x u in
-      let n : k ≡ u → ⊥ = λ y. both_ways (holds (path ((k, d) ∷ w) k) k) (ap (λ x. holds (path ((k, d) ∷ w) x) k) y ∙ ap (λ x. holds (path ((k, d) ∷ w) u) x) e ∙ h) (held_itself k d w) in
+      let n : k ≡ u → ⊥ = λ y. both_ways (is_listed (path ((k, d) ∷ w) k) k) (ap (λ x. is_listed (path ((k, d) ∷ w) x) k) y ∙ ap (λ x. is_listed (path ((k, d) ∷ w) u) x) e ∙ h) (held_itself k d w) in
       subst P (sym (replaced_newest k d w v new s.0 e)) (stays_beside w k d new u s.0 n))
   | inr m ↦ (let P : World → Type 0 = λ x. Stays ((k, d) ∷ w) x u in
       subst P (sym (replaced_older k d w v new m)) (elim (cases_eq k u) [
         | inl e ↦ (let Q : ℕ → Type 0 = λ x. Stays ((k, d) ∷ w) ((k, d) ∷ replaced w v new) x in
-            let R : ArrayDef → Type 0 = λ x. holds (path ((k, x) ∷ w) k) v ≡ false in
-            let here : R d = ap (λ x. holds (path ((k, d) ∷ w) x) v) e ∙ h in
+            let R : ArrayDef → Type 0 = λ x. is_listed (path ((k, x) ∷ w) k) v ≡ false in
+            let here : R d = ap (λ x. is_listed (path ((k, d) ∷ w) x) v) e ∙ h in
             subst Q e (newest_stays w (replaced w v new) k d (λ p t q. others_stay w v p new s.2 (sym (held_view k p t w v m) ∙ subst R q here))))
-        | inr o ↦ stays_under w (replaced w v new) k d u s.0 o (others_stay w v u new s.2 (ap (λ ps. holds ps v) (sym (path_older k d w u o)) ∙ h))
+        | inr o ↦ stays_under w (replaced w v new) k d u s.0 o (others_stay w v u new s.2 (ap (λ ps. is_listed ps v) (sym (path_older k d w u o)) ∙ h))
       ]))
 ]
 
@@ -213,7 +213,7 @@ pub record Breaks (w new : World) (v u : ℕ) : Type 0 where
   pub seen : Look
   pub refusal : Refusal
   pub there : Has w u (view parent trans)
-  pub below : holds (path w parent) v ≡ true
+  pub below : is_listed (path w parent) v ≡ true
   pub look_is : look new parent ≡ Some seen
   pub refused : child_dims trans seen.dims ≡ Err refusal
 
@@ -229,7 +229,7 @@ breaks_older k d w new v u s b y =
       seen = y.seen;
       refusal = y.refusal;
       there = inr y.there;
-      below = ap (λ ps. holds ps v) (path_older k d w y.parent n) ∙ y.below;
+      below = ap (λ ps. is_listed ps v) (path_older k d w y.parent n) ∙ y.below;
       look_is = look_older k d new y.parent n ∙ y.look_is;
       refused = y.refused;
     }
@@ -239,8 +239,8 @@ refused_is t m (Ok ds) e h = cc
 refused_is t m (Err x) e h = (x, e)
 
 -- the newest view itself breaks
-held_by : (w new : World) (p v : ℕ) (t : Trans) (m : Look) (e : Refusal) → IsShowable w p t → look new p ≡ Some m → child_dims t m.dims ≡ Err e → (holds (path w p) v ≡ false → Stays w new p) → holds (path w p) v ≡ true
-held_by w new p v t m e s l r f = elim (cases_Bool (holds (path w p) v)) [
+held_by : (w new : World) (p v : ℕ) (t : Trans) (m : Look) (e : Refusal) → IsShowable w p t → look new p ≡ Some m → child_dims t m.dims ≡ Err e → (is_listed (path w p) v ≡ false → Stays w new p) → is_listed (path w p) v ≡ true
+held_by w new p v t m e s l r f = elim (cases_Bool (is_listed (path w p) v)) [
   | inl y ↦ y
   | inr n ↦ (let same : look w p ≡ Some m = sym (f n).look_is ∙ l in
       let dims : dims_in w p ≡ m.dims = ap (λ x. option_map_or (λ (q : Look). q.dims) x []) same in
@@ -248,7 +248,7 @@ held_by w new p v t m e s l r f = elim (cases_Bool (holds (path w p) v)) [
       let z : Err e ≡ Ok ok.0 = sym r ∙ ap (child_dims t) (sym dims) ∙ ok.1 in cc)
 ]
 
-view_breaks : (w new : World) (k p : ℕ) (t : Trans) (v : ℕ) (o : Option Look) → IsShowable w p t → look new p ≡ o → IsThere o → is_none (option_and_then (through t) o) ≡ true → (holds (path w p) v ≡ false → Stays w new p) → (k ≡ p → ⊥)
+view_breaks : (w new : World) (k p : ℕ) (t : Trans) (v : ℕ) (o : Option Look) → IsShowable w p t → look new p ≡ o → IsThere o → is_none (option_and_then (through t) o) ≡ true → (is_listed (path w p) v ≡ false → Stays w new p) → (k ≡ p → ⊥)
     → Breaks ((k, view p t) ∷ w) ((k, view p t) ∷ new) v k
 view_breaks w new k p t v None s l y h f n = absurd y
 view_breaks w new k p t v (Some m) s l y h f n =
@@ -259,12 +259,12 @@ view_breaks w new k p t v (Some m) s l y h f n =
       seen = m;
       refusal = r.0;
       there = inl (refl, refl);
-      below = ap (λ ps. holds ps v) (path_older k (view p t) w p n) ∙ held_by w new p v t m r.0 s l r.1 f;
+      below = ap (λ ps. is_listed ps v) (path_older k (view p t) w p n) ∙ held_by w new p v t m r.0 s l r.1 f;
       look_is = look_older k (view p t) new p n ∙ l;
       refused = r.1;
     }
 
-newest_breaks : (w new : World) (k : ℕ) (d : ArrayDef) (v : ℕ) → NumbersBelow k w → IsAllowed w d → lost new w ≡ false → is_none (look ((k, d) ∷ new) k) ≡ true → ((p : ℕ) → holds (path w p) v ≡ false → Stays w new p) → Breaks ((k, d) ∷ w) ((k, d) ∷ new) v k
+newest_breaks : (w new : World) (k : ℕ) (d : ArrayDef) (v : ℕ) → NumbersBelow k w → IsAllowed w d → lost new w ≡ false → is_none (look ((k, d) ∷ new) k) ≡ true → ((p : ℕ) → is_listed (path w p) v ≡ false → Stays w new p) → Breaks ((k, d) ∷ w) ((k, d) ∷ new) v k
 newest_breaks w new k (root ty ds es) v b a h l f = (let z : false ≡ true = rw (eq-eqb k k refl) at l in cc)
 newest_breaks w new k (view p t) v b a h l f =
     let q = live_has w p a.live in

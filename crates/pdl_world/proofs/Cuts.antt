@@ -17,7 +17,7 @@ use Rattle.pdl_world.specs.CutLaws.{IsViewOfCut, seen_over}
 use Rattle.pdl_world.specs.Paths.{path}
 use Rattle.pdl_world.specs.Refused.{refusal_at}
 use Rattle.pdl_world.specs.Sound.{NumbersBelow, IsAllowed, IsShowable, IsSound}
-use Rattle.pdl_world.specs.Swept.{holds}
+use Rattle.pdl_world.specs.Swept.{is_listed}
 use Rattle.pdl_world.specs.World.{World, ArrayDef, root, view, Look, look_of_root, look, through, seen_through, through_places, entry, dims_in}
 use Rattle.pdl_world.proofs.Dimensions.{look_count}
 use Rattle.pdl_world.proofs.Looks.{look_older, path_older}
@@ -26,7 +26,7 @@ use Rattle.pdl_world.proofs.Roots.{showable}
 use Rattle.pdl_world.proofs.Stays.{Stays, stays_under, newest_stays}
 
 -- no number from n on is on a path
-path_low : (w : World) (n v u : ℕ) → NumbersBelow n w → n ≤ v → holds (path w u) v ≡ false
+path_low : (w : World) (n v u : ℕ) → NumbersBelow n w → n ≤ v → is_listed (path w u) v ≡ false
 path_low [] n v u b h = refl
 path_low ((k, root ty ds es) ∷ w) n v u b h = elim (eqb_tells k u) [
   | inl t ↦ rw (t.0, ne_eqb k v (omega arith)) refl
@@ -42,7 +42,7 @@ path_head : (k : ℕ) (d : ArrayDef) (w : World) → path ((k, d) ∷ w) k ≡ k
 path_head k (root ty ds es) w = rw (eq-eqb k k refl) refl
 path_head k (view p t) w = rw (eq-eqb k k refl) refl
 
-pub head_held : (k : ℕ) (up : List ℕ) → holds (k ∷ up) k ≡ true
+pub head_held : (k : ℕ) (up : List ℕ) → is_listed (k ∷ up) k ≡ true
 head_held k up = rw (eq-eqb k k refl) refl
 
 -- places through all positions are the places
@@ -70,7 +70,7 @@ through_through (i ∷ is) ps qs =
 
 -- an array is as it was, and not shown through v; or it is, and is a view of the new root
 abbrev pub After : (w new : World) (v u : ℕ) → Look → Type 0
-After w new v u l = (Stays w new u × (holds (path w u) v ≡ false)) ⊎ ((holds (path w u) v ≡ true) × IsViewOfCut w new v u l)
+After w new v u l = (Stays w new u × (is_listed (path w u) v ≡ false)) ⊎ ((is_listed (path w u) v ≡ true) × IsViewOfCut w new v u l)
 
 -- the newest array is the one that was cut
 cut_itself : (k : ℕ) (d : ArrayDef) (w : World) (l : Look) (es : List ℤ) → look ((k, d) ∷ w) k ≡ Some l → IsViewOfCut ((k, d) ∷ w) ((k, root l.ty l.dims es) ∷ w) k k l
@@ -87,15 +87,15 @@ cut_itself k d w l es h = record {
 after_newest : (k : ℕ) (d : ArrayDef) (w : World) (u : ℕ) (l : Look) (es : List ℤ) → NumbersBelow k w → look ((k, d) ∷ w) k ≡ Some l → After ((k, d) ∷ w) ((k, root l.ty l.dims es) ∷ w) k u l
 after_newest k d w u l es b h = elim (cases_eq k u) [
   | inl e ↦ (let P : ℕ → Type 0 = λ x. After ((k, d) ∷ w) ((k, root l.ty l.dims es) ∷ w) k x l in
-      subst P e (inr (ap (λ ps. holds ps k) (path_head k d w) ∙ head_held k (drop 1 (path ((k, d) ∷ w) k)), cut_itself k d w l es h)))
-  | inr n ↦ inl (stays_beside w k d (root l.ty l.dims es) u b n, ap (λ ps. holds ps k) (path_older k d w u n) ∙ path_low w k k u b (omega arith))
+      subst P e (inr (ap (λ ps. is_listed ps k) (path_head k d w) ∙ head_held k (drop 1 (path ((k, d) ∷ w) k)), cut_itself k d w l es h)))
+  | inr n ↦ inl (stays_beside w k d (root l.ty l.dims es) u b n, ap (λ ps. is_listed ps k) (path_older k d w u n) ∙ path_low w k k u b (omega arith))
 ]
 
 -- an older array than the newest, which isn't the one that was cut
 after_older : (k : ℕ) (d : ArrayDef) (w new : World) (v u : ℕ) (l : Look) → NumbersBelow k w → (k ≡ v → ⊥) → (k ≡ u → ⊥) → After w new v u l → After ((k, d) ∷ w) ((k, d) ∷ new) v u l
-after_older k d w new v u l b m n (inl a) = inl (stays_under w new k d u b n a.0, ap (λ ps. holds ps v) (path_older k d w u n) ∙ a.1)
+after_older k d w new v u l b m n (inl a) = inl (stays_under w new k d u b n a.0, ap (λ ps. is_listed ps v) (path_older k d w u n) ∙ a.1)
 after_older k d w new v u l b m n (inr a) = inr (
-  ap (λ ps. holds ps v) (path_older k d w u n) ∙ a.0,
+  ap (λ ps. is_listed ps v) (path_older k d w u n) ∙ a.0,
   record {
     seen = a.1.seen;
     look_is = look_older k d new u n ∙ a.1.look_is;
@@ -129,7 +129,7 @@ view_below k p t w new v l n s a =
           old ∙ ap (λ ps. k ∷ ps) a.path_was ∙ ap (λ ps. ps ++ drop 1 (path w v)) (sym now) ∙ ap (λ ps. path ((k, view p t) ∷ new) k ++ drop 1 ps) (sym (path_older k (view p t) w v n)));
     }
 
-pub held_view : (k p : ℕ) (t : Trans) (w : World) (v : ℕ) → (k ≡ v → ⊥) → holds (path ((k, view p t) ∷ w) k) v ≡ holds (path w p) v
+pub held_view : (k p : ℕ) (t : Trans) (w : World) (v : ℕ) → (k ≡ v → ⊥) → is_listed (path ((k, view p t) ∷ w) k) v ≡ is_listed (path w p) v
 held_view k p t w v n = rw (eq-eqb k k refl, ne_eqb k v n) refl
 
 after_view : (k p : ℕ) (t : Trans) (w new : World) (v : ℕ) (l : Look) → (k ≡ v → ⊥) → IsShowable w p t → After w new v p l → After ((k, view p t) ∷ w) ((k, view p t) ∷ new) v k l

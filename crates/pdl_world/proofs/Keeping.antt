@@ -9,7 +9,7 @@ use Rattle.pdl_world.specs.Cut.{replaced}
 use Rattle.pdl_world.specs.KeepingLaws.{NewestKeepsAll, IsNewestKept, NewestIsKept, MoreKeepAll, AssignsKeepAll, CutsKeepAll, ReshapesKeepAll, ParentsAreLive}
 use Rattle.pdl_world.specs.Paths.{parent_in}
 use Rattle.pdl_world.specs.Sound.{NumbersBelow, IsSound, IsLive}
-use Rattle.pdl_world.specs.Swept.{holds, parents, kept_onto, sweep, KeepsAll}
+use Rattle.pdl_world.specs.Swept.{is_listed, parents, kept_onto, sweep, KeepsAll}
 use Rattle.pdl_world.specs.World.{World, ArrayDef, root, view, Look, look, set_elements, root_elements, assign_through, ty_in, dims_in, elements}
 use Rattle.pdl_world.proofs.Looks.{look_older, live_below}
 use Rattle.pdl_world.proofs.Sweeps.{more_held}
@@ -17,26 +17,26 @@ use Rattle.pdl_world.proofs.Sweeps.{more_held}
 -- a sweep adds nothing
 swept_few : (w : World) (held : List ℕ) → length (sweep w held) ≤ length w
 swept_few [] held = omega arith
-swept_few ((k, d) ∷ w) held = by_kept (λ m. swept_few w m) (holds held k)
+swept_few ((k, d) ∷ w) held = by_kept (λ m. swept_few w m) (is_listed held k)
   where
     by_kept : ((m : List ℕ) → length (sweep w m) ≤ length w) → (kept : Bool) → length (kept_onto kept (k, d) (sweep w (if kept then parents d ++ held else held))) ≤ suc (length w)
     by_kept rest true = let r = rest (parents d ++ held) in omega arith
     by_kept rest false = let r = rest held in omega arith
 
 pub newest_keeps_all : NewestKeepsAll
-newest_keeps_all w k d held first rest = by_kept (holds held k) first
+newest_keeps_all w k d held first rest = by_kept (is_listed held k) first
   where
     by_kept : (kept : Bool) → kept ≡ true → kept_onto kept (k, d) (sweep w (if kept then parents d ++ held else held)) ≡ (k, d) ∷ w
     by_kept true is = ap (λ u. (k, d) ∷ u) rest
     by_kept false is = absurd (cc)
 
 pub newest_is_kept : NewestIsKept
-newest_is_kept w k d held keeps = by_kept (holds held k) refl keeps
+newest_is_kept w k d held keeps = by_kept (is_listed held k) refl keeps
   where
     rest_is : (a b : ℕ × ArrayDef) (u t : World) → a ∷ u ≡ b ∷ t → u ≡ t
     rest_is a b u t e = cc
 
-    by_kept : (kept : Bool) → holds held k ≡ kept → kept_onto kept (k, d) (sweep w (if kept then parents d ++ held else held)) ≡ (k, d) ∷ w → IsNewestKept w k d held
+    by_kept : (kept : Bool) → is_listed held k ≡ kept → kept_onto kept (k, d) (sweep w (if kept then parents d ++ held else held)) ≡ (k, d) ∷ w → IsNewestKept w k d held
     by_kept true is e = record { newest = is; others = rest_is (k, d) (k, d) (sweep w (parents d ++ held)) w e }
     by_kept false is e =
         let more : length (sweep w held) ≡ suc (length w) = ap length e in
@@ -44,7 +44,7 @@ newest_is_kept w k d held keeps = by_kept (holds held k) refl keeps
         absurd (omega arith)
 
 -- beside the same parent too
-both_more : (d : ArrayDef) (few many : List ℕ) → ((v : ℕ) → holds few v ≡ true → holds many v ≡ true) → (v : ℕ) → holds (parents d ++ few) v ≡ true → holds (parents d ++ many) v ≡ true
+both_more : (d : ArrayDef) (few many : List ℕ) → ((v : ℕ) → is_listed few v ≡ true → is_listed many v ≡ true) → (v : ℕ) → is_listed (parents d ++ few) v ≡ true → is_listed (parents d ++ many) v ≡ true
 both_more (root ty ds es) few many more v t = more v t
 both_more (view p u) few many more v t = elim (eqb_tells p v) [
   | inl same ↦ rw same.0 refl
@@ -87,25 +87,25 @@ parent_older k (view p t) w v other = rw (ne_eqb k v other) refl
 
 -- of these the parent of the newest array holds
 abbrev IsParentHeld : World → ℕ → List ℕ → Type 0
-IsParentHeld w v held = IfSome (parent_in w v) (λ p. holds held p ≡ true)
+IsParentHeld w v held = IfSome (parent_in w v) (λ p. is_listed held p ≡ true)
 
 -- what is held by the newest array's parent and by few is held, where its parent is
-newest_parent : (w : World) (k : ℕ) (d : ArrayDef) (few many : List ℕ) → ((v : ℕ) → holds few v ≡ true → holds many v ≡ true) → IsParentHeld ((k, d) ∷ w) k many → (v : ℕ) → holds (parents d ++ few) v ≡ true → holds many v ≡ true
+newest_parent : (w : World) (k : ℕ) (d : ArrayDef) (few many : List ℕ) → ((v : ℕ) → is_listed few v ≡ true → is_listed many v ≡ true) → IsParentHeld ((k, d) ∷ w) k many → (v : ℕ) → is_listed (parents d ++ few) v ≡ true → is_listed many v ≡ true
 newest_parent w k (root ty ds es) few many more above v t = more v t
 newest_parent w k (view p u) few many more above v t =
-    let P : Bool → Type 0 = λ b. IfSome (if b then Some p else parent_in w k) (λ q. holds many q ≡ true) in
-    let held : holds many p ≡ true = subst P (eq-eqb k k refl) above in
+    let P : Bool → Type 0 = λ b. IfSome (if b then Some p else parent_in w k) (λ q. is_listed many q ≡ true) in
+    let held : is_listed many p ≡ true = subst P (eq-eqb k k refl) above in
     elim (eqb_tells p v) [
-      | inl same ↦ sym (ap (holds many) same.1) ∙ held
+      | inl same ↦ sym (ap (is_listed many) same.1) ∙ held
       | inr other ↦ more v (rw other.0 at t)
     ]
 
-parent_held_more : (d : ArrayDef) (held : List ℕ) (o : Option ℕ) → IfSome o (λ p. holds held p ≡ true) → IfSome o (λ p. holds (parents d ++ held) p ≡ true)
+parent_held_more : (d : ArrayDef) (held : List ℕ) (o : Option ℕ) → IfSome o (λ p. is_listed held p ≡ true) → IfSome o (λ p. is_listed (parents d ++ held) p ≡ true)
 parent_held_more d held None h = tt
 parent_held_more d held (Some p) h = more_held d held p h
 
 -- an array becomes a root: what was kept is kept by those that hold its parent too
-replaced_keeps : (w : World) (v : ℕ) (ty : Ty) (ds : List ℕ) (es : List ℤ) (few many : List ℕ) → IsSound w → ((u : ℕ) → holds few u ≡ true → holds many u ≡ true) → IsParentHeld w v many → KeepsAll w few
+replaced_keeps : (w : World) (v : ℕ) (ty : Ty) (ds : List ℕ) (es : List ℤ) (few many : List ℕ) → IsSound w → ((u : ℕ) → is_listed few u ≡ true → is_listed many u ≡ true) → IsParentHeld w v many → KeepsAll w few
     → KeepsAll (replaced w v (root ty ds es)) many
 replaced_keeps [] v ty ds es few many sound more above keeps = refl
 replaced_keeps ((k, d) ∷ w) v ty ds es few many sound more above keeps =
@@ -113,12 +113,12 @@ replaced_keeps ((k, d) ∷ w) v ty ds es few many sound more above keeps =
     elim (cases_eq k v) [
       | inl same ↦ (let P : ℕ → Type 0 = λ u. KeepsAll (replaced ((k, d) ∷ w) u (root ty ds es)) many in
           let here : IsParentHeld ((k, d) ∷ w) k many = subst (λ u. IsParentHeld ((k, d) ∷ w) u many) (sym same) above in
-          let none : IsParentHeld w k many = subst (λ o. IfSome o (λ p. holds many p ≡ true)) (sym (no_parent w k k sound.0 (omega arith))) tt in
+          let none : IsParentHeld w k many = subst (λ o. IfSome o (λ p. is_listed many p ≡ true)) (sym (no_parent w k k sound.0 (omega arith))) tt in
           subst P same (rw (eq-eqb k k refl) (newest_keeps_all (replaced w k (root ty ds es)) k (root ty ds es) many (more k first.newest)
           (replaced_keeps w k ty ds es (parents d ++ few) many sound.2 (newest_parent w k d few many more here) none first.others))))
       | inr other ↦ rw (ne_eqb k v other) (newest_keeps_all (replaced w v (root ty ds es)) k d many (more k first.newest)
           (replaced_keeps w v ty ds es (parents d ++ few) (parents d ++ many) sound.2 (both_more d few many more)
-          (parent_held_more d many (parent_in w v) (subst (λ o. IfSome o (λ p. holds many p ≡ true)) (parent_older k d w v other) above)) first.others))
+          (parent_held_more d many (parent_in w v) (subst (λ o. IfSome o (λ p. is_listed many p ≡ true)) (parent_older k d w v other) above)) first.others))
     ]
 
 pub cuts_keep_all : CutsKeepAll

@@ -1,6 +1,7 @@
 pub mod Looks
 pub mod Roots
 pub mod Proved
+pub mod Parts
 pub mod Newest
 pub mod Stays
 pub mod Sweeps

@@ -36,7 +36,7 @@ assigned : (w : World) (v : ℕ) (l : Look) (vs : List ℤ) → look w v ≡ Som
 assigned w v l vs h = ap (λ o. assign_through w o vs) h
 
 -- the elements after a write are numbers of the type where the values and the elements are
-written_in_range : WriteLaws → (P : ℤ → Type 0) (ps : List (Option ℕ)) (vs es : List ℤ) → All P vs → All P es → All P (write ps vs es)
+pub written_in_range : WriteLaws → (P : ℤ → Type 0) (ps : List (Option ℕ)) (vs es : List ℤ) → All P vs → All P es → All P (write ps vs es)
 written_in_range laws P ps vs es a b = All-weaker (λ z. Contains vs z ⊎ Contains es z) P (λ z h. elim h [ inl c ↦ All-contains P vs z a c | inr c ↦ All-contains P es z b c ]) (write ps vs es) (laws.given ps vs es)
 
 sound_through : WriteLaws → (w : World) (v : ℕ) (vs : List ℤ) (o : Option Look) → look w v ≡ o → IsSound w → All (InRange (option_map_or (λ l. l.ty) o Byte)) vs → IsSound (assign_through w o vs)

@@ -20,7 +20,7 @@ use Rattle.pdl_world.specs.Laws.{IsSeenAs}
 use Rattle.pdl_world.specs.Paths.{path, root_of}
 use Rattle.pdl_world.specs.Sound.{IsSound, IsLive}
 use Rattle.pdl_world.specs.SweepLaws.{IsSeenAsBefore}
-use Rattle.pdl_world.specs.Swept.{holds, parents, Has}
+use Rattle.pdl_world.specs.Swept.{is_listed, parents, Has}
 use Rattle.pdl_world.specs.World.{World, ArrayDef, root, view, Look, look_of_root, look, ty_in, dims_in, elements, root_elements}
 use Rattle.pdl_world.proofs.Cuts.{After, after, cut_sound}
 use Rattle.pdl_world.proofs.Dimensions.{look_count, look_dims}
@@ -119,11 +119,11 @@ cuts_are_roots = λ w v l s h.
 as_before : (w : World) (u : ℕ) → IsSeenAsBefore w w u
 as_before w u = record { look_is = refl; elems_are = refl; path_is = refl }
 
-others_by : (w : World) (v u : ℕ) (l : Look) → After w (cut_of w v l) v u l → holds (path w u) v ≡ false → IsSeenAsBefore w (cut_of w v l) u
+others_by : (w : World) (v u : ℕ) (l : Look) → After w (cut_of w v l) v u l → is_listed (path w u) v ≡ false → IsSeenAsBefore w (cut_of w v l) u
 others_by w v u l (inl a) h = seen_as_before w (cut_of w v l) u a.0
-others_by w v u l (inr a) h = absurd (both_ways (holds (path w u) v) h a.0)
+others_by w v u l (inr a) h = absurd (both_ways (is_listed (path w u) v) h a.0)
 
-others_cases : (w : World) (v u : ℕ) (o : Option Look) → look w v ≡ o → IsSound w → holds (path w u) v ≡ false → IsSeenAsBefore w (sever w v) u
+others_cases : (w : World) (v u : ℕ) (o : Option Look) → look w v ≡ o → IsSound w → is_listed (path w u) v ≡ false → IsSeenAsBefore w (sever w v) u
 others_cases w v u None e s h = (let P : World → Type 0 = λ x. IsSeenAsBefore w x u in
     subst P (sym (dead_is w v (root (ty_in w v) (dims_in w v) (elements w v)) s e)) (as_before w u))
 others_cases w v u (Some l) e s h = (let P : World → Type 0 = λ x. IsSeenAsBefore w x u in
@@ -145,8 +145,8 @@ families_cases w v u (Some l) e s h = (let P : World → Type 0 = λ x. IsSeenAs
 pub cuts_leave_families : CutsLeaveFamilies
 cuts_leave_families = λ w v u s h. families_cases w v u (look w v) refl s h
 
-views_by : (w : World) (v u : ℕ) (l : Look) → After w (cut_of w v l) v u l → holds (path w u) v ≡ true → IsViewOfCut w (cut_of w v l) v u l
-views_by w v u l (inl a) h = absurd (both_ways (holds (path w u) v) a.1 h)
+views_by : (w : World) (v u : ℕ) (l : Look) → After w (cut_of w v l) v u l → is_listed (path w u) v ≡ true → IsViewOfCut w (cut_of w v l) v u l
+views_by w v u l (inl a) h = absurd (both_ways (is_listed (path w u) v) a.1 h)
 views_by w v u l (inr a) h = a.1
 
 pub cuts_take_their_views : CutsTakeTheirViews
@@ -228,16 +228,16 @@ remade wraps w v l ds s h = record {
 }
 
 -- the parent of a view
-is_parent : (d : ArrayDef) (v : ℕ) (t : Trans) → d ≡ view v t → holds (parents d) v ≡ true
-is_parent d v t e = (let P : ArrayDef → Type 0 = λ x. holds (parents x) v ≡ true in
+is_parent : (d : ArrayDef) (v : ℕ) (t : Trans) → d ≡ view v t → is_listed (parents d) v ≡ true
+is_parent d v t e = (let P : ArrayDef → Type 0 = λ x. is_listed (parents x) v ≡ true in
     let here : P (view v t) = rw (eq-eqb v v refl) refl in subst P (sym e) here)
 
 views_found : (w : World) (v u : ℕ) (t : Trans) → Has w u (view v t) → has_views w v ≡ true
 views_found [] v u t h = absurd h
-views_found ((k, d) ∷ w) v u t (inl y) = or_left (holds (parents d) v) (has_views w v) (is_parent d v t y.1)
-views_found ((k, d) ∷ w) v u t (inr y) = or_right (holds (parents d) v) (has_views w v) (views_found w v u t y)
+views_found ((k, d) ∷ w) v u t (inl y) = or_left (is_listed (parents d) v) (has_views w v) (is_parent d v t y.1)
+views_found ((k, d) ∷ w) v u t (inr y) = or_right (is_listed (parents d) v) (has_views w v) (views_found w v u t y)
 
-parent_is : (d : ArrayDef) (v : ℕ) → holds (parents d) v ≡ true → (t : Trans) × (d ≡ view v t)
+parent_is : (d : ArrayDef) (v : ℕ) → is_listed (parents d) v ≡ true → (t : Trans) × (d ≡ view v t)
 parent_is (root ty ds es) v h = cc
 parent_is (view p t) v h = elim (eqb_tells p v) [
   | inl y ↦ (t, ap (λ x. view x t) y.1)
@@ -246,7 +246,7 @@ parent_is (view p t) v h = elim (eqb_tells p v) [
 
 views_there : (w : World) (v : ℕ) → has_views w v ≡ true → (u : ℕ) × (t : Trans) × Has w u (view v t)
 views_there [] v h = cc
-views_there ((k, d) ∷ w) v h = elim (or_cases (holds (parents d) v) (has_views w v) h) [
+views_there ((k, d) ∷ w) v h = elim (or_cases (is_listed (parents d) v) (has_views w v) h) [
   | inl y ↦ (let q = parent_is d v y in (k, q.0, inl (refl, q.1)))
   | inr y ↦ (let q = views_there w v y in (q.0, q.1, inr q.2))
 ]

@@ -4,7 +4,7 @@ use Rattle.std.proofs.lemmas.Bool.{cases_eq, eq-eqb, both_ways}
 use Rattle.std.proofs.lemmas.Bool.Decides.{eqb_tells}
 use Rattle.pdl_world.specs.declared.Trans.{Trans}
 use Rattle.pdl_world.specs.Sound.{NumbersBelow, IsAllowed, IsSound, IsLive}
-use Rattle.pdl_world.specs.Swept.{holds, parents, kept_onto, sweep, Has, IsReached, held_itself, parent_of}
+use Rattle.pdl_world.specs.Swept.{is_listed, parents, kept_onto, sweep, Has, IsReached, held_itself, parent_of}
 use Rattle.pdl_world.specs.SweepLaws.{KeptWereReached, ReachedAreSeenAsBefore, NewGoesUnheld}
 use Rattle.pdl_world.specs.World.{World, ArrayDef, root, view}
 use Rattle.pdl_world.proofs.Looks.{live_below, below_more}
@@ -15,7 +15,7 @@ use Rattle.pdl_world.proofs.Stays.{Stays, stays_under, stays_without, newest_sta
 abbrev pub held_behind : Bool → ArrayDef → List ℕ → List ℕ
 held_behind keeps d held = if keeps then parents d ++ held else held
 
-pub more_held : (d : ArrayDef) (held : List ℕ) (k : ℕ) → holds held k ≡ true → holds (parents d ++ held) k ≡ true
+pub more_held : (d : ArrayDef) (held : List ℕ) (k : ℕ) → is_listed held k ≡ true → is_listed (parents d ++ held) k ≡ true
 more_held (root ty ds es) held k h = h
 more_held (view p t) held k h = elim (eqb_tells p k) [
   | inl e ↦ rw e.0 refl
@@ -23,16 +23,16 @@ more_held (view p t) held k h = elim (eqb_tells p k) [
 ]
 
 -- the parent of a view is held first
-pub parent_held : (d : ArrayDef) (p : ℕ) (t : Trans) (held : List ℕ) → d ≡ view p t → holds (parents d ++ held) p ≡ true
+pub parent_held : (d : ArrayDef) (p : ℕ) (t : Trans) (held : List ℕ) → d ≡ view p t → is_listed (parents d ++ held) p ≡ true
 parent_held d p t held e =
-    let P : ArrayDef → Type 0 = λ x. holds (parents x ++ held) p ≡ true in
+    let P : ArrayDef → Type 0 = λ x. is_listed (parents x ++ held) p ≡ true in
     let here : P (view p t) = rw (eq-eqb p p refl) refl in
     subst P (sym e) here
 
 -- what is kept was there
 has_kept : (w : World) (held : List ℕ) (k : ℕ) (d : ArrayDef) → Has (sweep w held) k d → Has w k d
 has_kept [] held k d h = absurd h
-has_kept ((j, e) ∷ w) held k d h = by_keeps (λ hs i. has_kept w hs k d i) (holds held j) h
+has_kept ((j, e) ∷ w) held k d h = by_keeps (λ hs i. has_kept w hs k d i) (is_listed held j) h
   where
     by_keeps : ((hs : List ℕ) → Has (sweep w hs) k d → Has w k d) → (keeps : Bool) → Has (kept_onto keeps (j, e) (sweep w (held_behind keeps e held))) k d → Has ((j, e) ∷ w) k d
     by_keeps rest true (inl is) = inl is
@@ -44,10 +44,10 @@ reached_more u w held f k (held_itself k' h) = held_itself k' h
 reached_more u w held f k (parent_of v p t there r) = parent_of v p t (f v (view p t) there) (reached_more u w held f v r)
 
 -- what is reached from the parents of a newest array that is held is reached with it
-below_newest : (u : World) (held : List ℕ) (j : ℕ) (e : ArrayDef) → holds held j ≡ true → (k : ℕ) → IsReached u (parents e ++ held) k → IsReached ((j, e) ∷ u) held k
+below_newest : (u : World) (held : List ℕ) (j : ℕ) (e : ArrayDef) → is_listed held j ≡ true → (k : ℕ) → IsReached u (parents e ++ held) k → IsReached ((j, e) ∷ u) held k
 below_newest u held j e is k (held_itself k' h) = by_parents e h
   where
-    by_parents : (e : ArrayDef) → holds (parents e ++ held) k' ≡ true → IsReached ((j, e) ∷ u) held k'
+    by_parents : (e : ArrayDef) → is_listed (parents e ++ held) k' ≡ true → IsReached ((j, e) ∷ u) held k'
     by_parents (root ty ds es) h = held_itself k' h
     by_parents (view p t) h = elim (eqb_tells p k') [
       | inl same ↦ (let P : ℕ → Type 0 = λ x. IsReached ((j, view p t) ∷ u) held x in
@@ -59,9 +59,9 @@ below_newest u held j e is k (parent_of v p t there r) = parent_of v p t (inr th
 -- each array that is kept is reached by what is kept
 still_reached : (w : World) (held : List ℕ) (k : ℕ) (d : ArrayDef) → Has (sweep w held) k d → IsReached (sweep w held) held k
 still_reached [] held k d h = absurd h
-still_reached ((j, e) ∷ w) held k d h = by_keeps (λ hs i. still_reached w hs k d i) (holds held j) refl h
+still_reached ((j, e) ∷ w) held k d h = by_keeps (λ hs i. still_reached w hs k d i) (is_listed held j) refl h
   where
-    by_keeps : ((hs : List ℕ) → Has (sweep w hs) k d → IsReached (sweep w hs) hs k) → (keeps : Bool) → holds held j ≡ keeps
+    by_keeps : ((hs : List ℕ) → Has (sweep w hs) k d → IsReached (sweep w hs) hs k) → (keeps : Bool) → is_listed held j ≡ keeps
         → Has (kept_onto keeps (j, e) (sweep w (held_behind keeps e held))) k d → IsReached (kept_onto keeps (j, e) (sweep w (held_behind keeps e held))) held k
     by_keeps rest false is i = rest held i
     by_keeps rest true is (inl same) =
@@ -74,15 +74,15 @@ kept_were_reached = λ w held k d h.
     record { there = has_kept w held k d h; reached = reached_more (sweep w held) w held (λ v x i. has_kept w held v x i) k still; still = still }
 
 -- what is held is kept
-pub held_are_kept : (w : World) (held : List ℕ) (k : ℕ) (d : ArrayDef) → Has w k d → holds held k ≡ true → Has (sweep w held) k d
+pub held_are_kept : (w : World) (held : List ℕ) (k : ℕ) (d : ArrayDef) → Has w k d → is_listed held k ≡ true → Has (sweep w held) k d
 held_are_kept [] held k d there h = absurd there
-held_are_kept ((j, e) ∷ w) held k d there h = by_keeps (λ hs i q. held_are_kept w hs k d i q) (holds held j) refl there
+held_are_kept ((j, e) ∷ w) held k d there h = by_keeps (λ hs i q. held_are_kept w hs k d i q) (is_listed held j) refl there
   where
-    by_keeps : ((hs : List ℕ) → Has w k d → holds hs k ≡ true → Has (sweep w hs) k d) → (keeps : Bool) → holds held j ≡ keeps → Has ((j, e) ∷ w) k d
+    by_keeps : ((hs : List ℕ) → Has w k d → is_listed hs k ≡ true → Has (sweep w hs) k d) → (keeps : Bool) → is_listed held j ≡ keeps → Has ((j, e) ∷ w) k d
         → Has (kept_onto keeps (j, e) (sweep w (held_behind keeps e held))) k d
     by_keeps rest true is (inl same) = inl same
     by_keeps rest true is (inr i) = inr (rest (parents e ++ held) i (more_held e held k h))
-    by_keeps rest false is (inl same) = absurd (both_ways (holds held j) is (ap (holds held) same.0 ∙ h))
+    by_keeps rest false is (inl same) = absurd (both_ways (is_listed held j) is (ap (is_listed held) same.0 ∙ h))
     by_keeps rest false is (inr i) = rest held i h
 
 pub has_below : (w : World) (n k : ℕ) (d : ArrayDef) → NumbersBelow n w → Has w k d → k < n
@@ -101,8 +101,8 @@ parent_older ((j, e) ∷ w) k p t s (inl same) =
 parent_older ((j, e) ∷ w) k p t s (inr i) = parent_older w k p t s.2 i
 
 -- the newest array of a sound world is reached by itself alone
-pub newest_held : (w : World) (held : List ℕ) (j : ℕ) (e : ArrayDef) → IsSound ((j, e) ∷ w) → (v : ℕ) → IsReached ((j, e) ∷ w) held v → j ≡ v → holds held j ≡ true
-newest_held w held j e s v (held_itself v' h) same = ap (holds held) same ∙ h
+pub newest_held : (w : World) (held : List ℕ) (j : ℕ) (e : ArrayDef) → IsSound ((j, e) ∷ w) → (v : ℕ) → IsReached ((j, e) ∷ w) held v → j ≡ v → is_listed held j ≡ true
+newest_held w held j e s v (held_itself v' h) same = ap (is_listed held) same ∙ h
 newest_held w held j e s v (parent_of k v' t there r) same =
     let older : v' < k = parent_older ((j, e) ∷ w) k v' t s there in
     let below : NumbersBelow (j + 1) ((j, e) ∷ w) = (omega arith, below_more w j (j + 1) (omega arith) s.0) in
@@ -110,34 +110,34 @@ newest_held w held j e s v (parent_of k v' t there r) same =
     absurd (omega arith)
 
 -- and any other is reached by the older ones
-pub reached_behind : (w : World) (held : List ℕ) (j : ℕ) (e : ArrayDef) → IsSound ((j, e) ∷ w) → (keeps : Bool) → holds held j ≡ keeps → (v : ℕ) → IsReached ((j, e) ∷ w) held v → (j ≡ v → ⊥)
+pub reached_behind : (w : World) (held : List ℕ) (j : ℕ) (e : ArrayDef) → IsSound ((j, e) ∷ w) → (keeps : Bool) → is_listed held j ≡ keeps → (v : ℕ) → IsReached ((j, e) ∷ w) held v → (j ≡ v → ⊥)
     → IsReached w (held_behind keeps e held) v
 reached_behind w held j e s true is v (held_itself v' h) n = held_itself v' (more_held e held v' h)
 reached_behind w held j e s false is v (held_itself v' h) n = held_itself v' h
 reached_behind w held j e s true is v (parent_of k v' t (inl same) r) n = held_itself v' (parent_held e v' t held same.1)
-reached_behind w held j e s false is v (parent_of k v' t (inl same) r) n = absurd (both_ways (holds held j) is (newest_held w held j e s k r same.0))
+reached_behind w held j e s false is v (parent_of k v' t (inl same) r) n = absurd (both_ways (is_listed held j) is (newest_held w held j e s k r same.0))
 reached_behind w held j e s keeps is v (parent_of k v' t (inr i) r) n =
     let low : k < j = has_below w j k (view v' t) s.0 i in
     parent_of k v' t i (reached_behind w held j e s keeps is k r (omega arith))
 
 pub reached_are_kept : (w : World) (held : List ℕ) (k : ℕ) (d : ArrayDef) → IsSound w → Has w k d → IsReached w held k → Has (sweep w held) k d
 reached_are_kept [] held k d s there r = absurd there
-reached_are_kept ((j, e) ∷ w) held k d s there r = by_keeps (λ hs i q. reached_are_kept w hs k d s.2 i q) (holds held j) refl there
+reached_are_kept ((j, e) ∷ w) held k d s there r = by_keeps (λ hs i q. reached_are_kept w hs k d s.2 i q) (is_listed held j) refl there
   where
-    by_keeps : ((hs : List ℕ) → Has w k d → IsReached w hs k → Has (sweep w hs) k d) → (keeps : Bool) → holds held j ≡ keeps → Has ((j, e) ∷ w) k d
+    by_keeps : ((hs : List ℕ) → Has w k d → IsReached w hs k → Has (sweep w hs) k d) → (keeps : Bool) → is_listed held j ≡ keeps → Has ((j, e) ∷ w) k d
         → Has (kept_onto keeps (j, e) (sweep w (held_behind keeps e held))) k d
     by_keeps rest true is (inl same) = inl same
     by_keeps rest true is (inr i) =
         let low : k < j = has_below w j k d s.0 i in
         inr (rest (parents e ++ held) i (reached_behind w held j e s true is k r (omega arith)))
-    by_keeps rest false is (inl same) = absurd (both_ways (holds held j) is (newest_held w held j e s k r same.0))
+    by_keeps rest false is (inl same) = absurd (both_ways (is_listed held j) is (newest_held w held j e s k r same.0))
     by_keeps rest false is (inr i) =
         let low : k < j = has_below w j k d s.0 i in
         rest held i (reached_behind w held j e s false is k r (omega arith))
 
 pub below_sweep : (w : World) (n : ℕ) (held : List ℕ) → NumbersBelow n w → NumbersBelow n (sweep w held)
 below_sweep [] n held b = tt
-below_sweep ((j, e) ∷ w) n held b = by_keeps (λ hs. below_sweep w n hs b.1) (holds held j)
+below_sweep ((j, e) ∷ w) n held b = by_keeps (λ hs. below_sweep w n hs b.1) (is_listed held j)
   where
     by_keeps : ((hs : List ℕ) → NumbersBelow n (sweep w hs)) → (keeps : Bool) → NumbersBelow n (kept_onto keeps (j, e) (sweep w (held_behind keeps e held)))
     by_keeps rest true = (b.0, rest (parents e ++ held))
@@ -145,9 +145,9 @@ below_sweep ((j, e) ∷ w) n held b = by_keeps (λ hs. below_sweep w n hs b.1) (
 
 stays : (w : World) (held : List ℕ) (v : ℕ) → IsSound w → IsReached w held v → Stays w (sweep w held) v
 stays [] held v s r = record { look_is = refl; path_is = refl; root_is = λ l h. refl }
-stays ((j, e) ∷ w) held v s r = by_keeps (λ hs u q. stays w hs u s.2 q) (holds held j) refl
+stays ((j, e) ∷ w) held v s r = by_keeps (λ hs u q. stays w hs u s.2 q) (is_listed held j) refl
   where
-    by_keeps : ((hs : List ℕ) (u : ℕ) → IsReached w hs u → Stays w (sweep w hs) u) → (keeps : Bool) → holds held j ≡ keeps
+    by_keeps : ((hs : List ℕ) (u : ℕ) → IsReached w hs u → Stays w (sweep w hs) u) → (keeps : Bool) → is_listed held j ≡ keeps
         → Stays ((j, e) ∷ w) (kept_onto keeps (j, e) (sweep w (held_behind keeps e held))) v
     by_keeps rest true is = elim (cases_eq j v) [
       | inl same ↦ (let P : ℕ → Type 0 = λ x. Stays ((j, e) ∷ w) ((j, e) ∷ sweep w (parents e ++ held)) x in
@@ -155,7 +155,7 @@ stays ((j, e) ∷ w) held v s r = by_keeps (λ hs u q. stays w hs u s.2 q) (hold
       | inr n ↦ stays_under w (sweep w (parents e ++ held)) j e v s.0 n (rest (parents e ++ held) v (reached_behind w held j e s true is v r n))
     ]
     by_keeps rest false is = elim (cases_eq j v) [
-      | inl same ↦ absurd (both_ways (holds held j) is (newest_held w held j e s v r same))
+      | inl same ↦ absurd (both_ways (is_listed held j) is (newest_held w held j e s v r same))
       | inr n ↦ stays_without w (sweep w held) j e v s.0 n (rest held v (reached_behind w held j e s false is v r n))
     ]
 
@@ -164,7 +164,7 @@ reached_are_seen_as_before = λ w held v s r. seen_as_before w (sweep w held) v 
 
 pub sweeps_soundly : (w : World) (held : List ℕ) → IsSound w → IsSound (sweep w held)
 sweeps_soundly [] held s = tt
-sweeps_soundly ((j, e) ∷ w) held s = by_keeps (λ hs. sweeps_soundly w hs s.2) (holds held j)
+sweeps_soundly ((j, e) ∷ w) held s = by_keeps (λ hs. sweeps_soundly w hs s.2) (is_listed held j)
   where
     allowed : (e : ArrayDef) → IsAllowed w e → IsAllowed (sweep w (parents e ++ held)) e
     allowed (root ty ds es) a = a
@@ -177,9 +177,9 @@ sweeps_soundly ((j, e) ∷ w) held s = by_keeps (λ hs. sweeps_soundly w hs s.2)
     by_keeps rest false = rest held
 
 pub new_goes_unheld : NewGoesUnheld
-new_goes_unheld = λ w k d held b live. by_keeps w k d held b live (holds held k) refl
+new_goes_unheld = λ w k d held b live. by_keeps w k d held b live (is_listed held k) refl
   where
-    by_keeps : (w : World) (k : ℕ) (d : ArrayDef) (held : List ℕ) → NumbersBelow k w → ((v : ℕ) → holds held v ≡ true → IsLive w v) → (keeps : Bool) → holds held k ≡ keeps
+    by_keeps : (w : World) (k : ℕ) (d : ArrayDef) (held : List ℕ) → NumbersBelow k w → ((v : ℕ) → is_listed held v ≡ true → IsLive w v) → (keeps : Bool) → is_listed held k ≡ keeps
         → kept_onto keeps (k, d) (sweep w (held_behind keeps d held)) ≡ sweep w held
     by_keeps w k d held b live true is = let low : k < k = live_below w k k b (live k is) in absurd (omega arith)
     by_keeps w k d held b live false is = refl

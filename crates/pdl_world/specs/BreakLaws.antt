@@ -12,7 +12,7 @@ use Rattle.pdl_world.specs.Laws.{IsSeenAs}
 use Rattle.pdl_world.specs.Paths.{path, root_of}
 use Rattle.pdl_world.specs.Sound.{IsLive, IsSound}
 use Rattle.pdl_world.specs.SweepLaws.{IsSeenAsBefore}
-use Rattle.pdl_world.specs.Swept.{holds, Has}
+use Rattle.pdl_world.specs.Swept.{is_listed, Has}
 use Rattle.pdl_world.specs.World.{World, root, view, Look, look, through, dims_in, ty_in, elements}
 
 -- the new world is sound exactly where nothing breaks
@@ -31,7 +31,7 @@ pub record IsBroken (w : World) (v : ℕ) (ds : List ℕ) (u : ℕ) : Type 0 whe
   pub seen : Look
   pub refusal : Refusal
   pub there : Has w u (view parent trans)
-  pub below : holds (path w parent) v ≡ true
+  pub below : is_listed (path w parent) v ≡ true
   pub look_is : look (reshape w v ds) parent ≡ Some seen
   pub refused : child_dims trans seen.dims ≡ Err refusal
 
@@ -51,7 +51,7 @@ RefusedBreak =
 -- an array that isn't shown through the one that was reshaped is seen as before
 abbrev pub ReshapesLeaveOthers : Type 0
 ReshapesLeaveOthers =
-    (w : World) (v u : ℕ) (ds : List ℕ) → IsSound w → holds (path w u) v ≡ false
+    (w : World) (v u : ℕ) (ds : List ℕ) → IsSound w → is_listed (path w u) v ≡ false
     → IsSeenAsBefore w (reshape w v ds) u
 
 -- the same arrays are there
@@ -82,7 +82,7 @@ LooksFollow =
 
 -- the array is v or reaches it by parents, and has these dimensions in the new world
 pub record IsBelow (w : World) (v : ℕ) (ds : List ℕ) (k : ℕ) (dims : List ℕ) : Type 0 where
-  pub reaches : holds (path w k) v ≡ true
+  pub reaches : is_listed (path w k) v ≡ true
   pub seen : Look
   pub look_is : look (reshape w v ds) k ≡ Some seen
   pub dims_are : seen.dims ≡ dims
@@ -102,8 +102,8 @@ pub record BelowLaws : Type 0 where
       → breaks w v ds ≡ true
   pub not_on :
       (w : World) (v k p : ℕ) (t : Trans) → IsSound w → Has w k (view p t) → k ≢ v
-      → holds (path w k) v ≡ holds (path w p) v
+      → is_listed (path w k) v ≡ is_listed (path w p) v
   pub not_root :
       (w : World) (v k : ℕ) (ty : Ty) (es : List ℕ) (fs : List ℤ) → IsSound w
-      → Has w k (root ty es fs) → k ≢ v → holds (path w k) v ≡ false
-  pub not_older : (w : World) (v u : ℕ) → IsSound w → holds (path w u) v ≡ true → v ≤ u
+      → Has w k (root ty es fs) → k ≢ v → is_listed (path w k) v ≡ false
+  pub not_older : (w : World) (v u : ℕ) → IsSound w → is_listed (path w u) v ≡ true → v ≤ u

@@ -4,7 +4,7 @@ use Rattle.std.specs.Prelude.{ℕ, ℤ, pos, ◌==◌, if◌then◌else◌, List
 use Rattle.std.specs.List.{list_any}
 use Rattle.std.specs.Option.{is_none}
 use Rattle.pdl_shape.specs.Shape.{size_of}
-use Rattle.pdl_world.specs.Swept.{holds, parents}
+use Rattle.pdl_world.specs.Swept.{is_listed, parents}
 use Rattle.pdl_world.specs.World.{World, ArrayDef, root, look, dims_in, ty_in, elements}
 
 -- the world with this as the array v
@@ -22,7 +22,7 @@ sever w v = rooted w v (dims_in w v) (elements w v)
 
 -- whether v is the parent of a view
 abbrev pub has_views : World → ℕ → Bool
-has_views w v = list_any (λ a. holds (parents a.1) v) w
+has_views w v = list_any (λ a. is_listed (parents a.1) v) w
 
 -- the first n elements, with zeros after them where there are fewer
 abbrev pub fitted : (n : ℕ) → List ℤ → List ℤ

@@ -7,7 +7,7 @@ use Rattle.pdl_world.specs.Laws.{IsSeenAs}
 use Rattle.pdl_world.specs.Paths.{path, root_of}
 use Rattle.pdl_world.specs.Sound.{NumbersBelow, IsSound, IsLive}
 use Rattle.pdl_world.specs.SweepLaws.{IsSeenAsBefore}
-use Rattle.pdl_world.specs.Swept.{holds, Has}
+use Rattle.pdl_world.specs.Swept.{is_listed, Has}
 use Rattle.pdl_world.specs.World.{World, view, Look, look_of_root, look, through_places, dims_in, ty_in, elements}
 
 -- the array has the type, the dimensions and the elements that it had
@@ -37,7 +37,7 @@ RootsAreUncut = (w : World) (v : ℕ) → IsSound w → root_of w v ≡ v → se
 -- an array that isn't shown through the one that was cut is seen as before
 abbrev pub CutsLeaveOthers : Type 0
 CutsLeaveOthers =
-    (w : World) (v u : ℕ) → IsSound w → holds (path w u) v ≡ false
+    (w : World) (v u : ℕ) → IsSound w → is_listed (path w u) v ≡ false
     → IsSeenAsBefore w (sever w v) u
 
 -- so is each array of another family
@@ -62,7 +62,7 @@ pub record IsViewOfCut (old new : World) (v u : ℕ) (l : Look) : Type 0 where
 -- an array that is shown through the one that was cut stays with it
 abbrev pub CutsTakeTheirViews : Type 0
 CutsTakeTheirViews =
-    (w : World) (v u : ℕ) (l : Look) → IsSound w → look w v ≡ Some l → holds (path w u) v ≡ true
+    (w : World) (v u : ℕ) (l : Look) → IsSound w → look w v ≡ Some l → is_listed (path w u) v ≡ true
     → IsViewOfCut w (sever w v) v u l
 
 -- a sound world stays sound

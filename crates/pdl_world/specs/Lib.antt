@@ -6,6 +6,8 @@ pub mod Sound
 pub mod Swept
 pub mod Cut
 pub mod Laws
+pub mod Parts
+pub mod PartLaws
 pub mod SweepLaws
 pub mod CutLaws
 pub mod BreakLaws

@@ -1,11 +1,12 @@
 -- The way from an array to its root (PDL::Dataflow).
 use Rattle.std.specs.Prelude.{ℕ, ◌==◌, if◌then◌else◌, List, [], ◌∷◌, Option, Some, None}
 use Rattle.std.specs.Option.{option_map_or}
+use Rattle.pdl_world.specs.declared.TheConstants.{MOST_VIEWS}
 use Rattle.pdl_world.specs.World.{World, root, view, look}
 
 -- an array has at most so many views on its path to the root, itself counted
 abbrev pub depth_limit : ℕ
-depth_limit = 64
+depth_limit = MOST_VIEWS
 
 -- the array, its parent, the parent's parent and so on to the root; none for a
 -- number that no array has

@@ -2,7 +2,7 @@
 use Rattle.std.specs.Prelude.{◌≡◌, ℕ, true, List, ◌∷◌}
 use Rattle.pdl_world.specs.Paths.{path}
 use Rattle.pdl_world.specs.Sound.{NumbersBelow, IsLive, IsSound}
-use Rattle.pdl_world.specs.Swept.{holds, sweep, Has, IsReached}
+use Rattle.pdl_world.specs.Swept.{is_listed, sweep, Has, IsReached}
 use Rattle.pdl_world.specs.World.{World, ArrayDef, look, elements}
 
 -- the array was there, and held ones reach it, also within what is kept
@@ -26,7 +26,7 @@ ReachedAreKept =
 -- an array that is held itself is kept, in every world
 abbrev pub HeldAreKept : Type 0
 HeldAreKept =
-    (w : World) (held : List ℕ) (k : ℕ) (d : ArrayDef) → Has w k d → holds held k ≡ true
+    (w : World) (held : List ℕ) (k : ℕ) (d : ArrayDef) → Has w k d → is_listed held k ≡ true
     → Has (sweep w held) k d
 
 -- the array is seen in the new world as it was in the old one
@@ -54,4 +54,4 @@ NoNumberComes =
 abbrev pub NewGoesUnheld : Type 0
 NewGoesUnheld =
     (w : World) (k : ℕ) (d : ArrayDef) (held : List ℕ) → NumbersBelow k w
-    → ((v : ℕ) → holds held v ≡ true → IsLive w v) → sweep ((k, d) ∷ w) held ≡ sweep w held
+    → ((v : ℕ) → is_listed held v ≡ true → IsLive w v) → sweep ((k, d) ∷ w) held ≡ sweep w held

@@ -4,9 +4,9 @@ use Rattle.std.specs.List.{list_any}
 use Rattle.pdl_world.specs.declared.Trans.{Trans}
 use Rattle.pdl_world.specs.World.{World, ArrayDef, root, view}
 
--- the number is among the held ones
-abbrev pub holds : (held : List ℕ) → ℕ → Bool
-holds held k = list_any (λ v. v == k) held
+-- the number stands in the list
+abbrev pub is_listed : (numbers : List ℕ) → ℕ → Bool
+is_listed ns k = list_any (λ v. v == k) ns
 
 -- the parent of a view
 abbrev pub parents : ArrayDef → List ℕ
@@ -20,7 +20,7 @@ kept_onto keeps a w = if keeps then a ∷ w else w
 abbrev pub sweep : World → (held : List ℕ) → World
 sweep [] held = []
 sweep ((k, d) ∷ w) held =
-    let keeps = holds held k in
+    let keeps = is_listed held k in
     kept_onto keeps (k, d) (sweep w (if keeps then parents d ++ held else held))
 
 -- a sweep by these keeps all arrays
@@ -34,5 +34,5 @@ Has ((j, e) ∷ w) k d = ((j ≡ k) × (e ≡ d)) ⊎ Has w k d
 
 -- an array is reached where it is held, or is the parent of a view that is reached
 pub data IsReached (w : World) (held : List ℕ) : ℕ → Type 0 where
-  held_itself : (k : ℕ) → holds held k ≡ true → IsReached w held k
+  held_itself : (k : ℕ) → is_listed held k ≡ true → IsReached w held k
   parent_of : (k p : ℕ) (t : Trans) → Has w k (view p t) → IsReached w held k → IsReached w held p

@@ -15,6 +15,7 @@ ghost use Rattle.pdl_world.specs.CutLaws.{ViewsAreFound, FittedIsFitted, Reshape
 ghost use Rattle.pdl_world.specs.BreakLaws.{SoundnessDecides, FormulasBreak, RefusedBreak, LooksFollow, BelowLaws, ReshapesLeaveOthers, ReshapesLeaveNumbers, ViewsAreSeen};
 ghost use Rattle.pdl_world.specs.KeepingLaws.{NewestKeepsAll, NewestIsKept, MoreKeepAll, AssignsKeepAll, CutsKeepAll, ReshapesKeepAll, ParentsAreLive};
 ghost use Rattle.pdl_world.specs.WorkedReshapes.{WorkedReshapes};
+ghost use Rattle.pdl_world.specs.PartLaws.{NothingStays, PartsAssignSoundly, PartsJoin, PartsLeaveLater, PartsLeaveLooks, PartsLeaveOthers, PartsLeaveRest, PartsRead, WholesAreParts};
 ghost use Rattle.pdl_world.specs.WindowLaws.{WindowsShowArrays, LiveHaveWindows, RepeatsHavePositions, PositionsRepeat};
 ghost use Rattle.pdl_world.specs.SweepLaws.{KeptWereReached, ReachedAreKept, HeldAreKept, ReachedAreSeenAsBefore, SweepsSoundly, NoNumberComes, NewGoesUnheld};
 
@@ -22,6 +23,9 @@ use pdl_affine::{Affine, Numbers, view_laws, window_laws};
 use pdl_choice::{Edge, Positions};
 use pdl_elem::wrapping_laws;
 use pdl_shape::{Dims, shape_laws, triple_laws};
+
+/// The most views on a path from an array to its root, itself counted.
+pub const MOST_VIEWS: u32 = 64;
 
 /// How a view shows its parent.
 #[derive(Debug, Drop)]
@@ -59,6 +63,26 @@ pub fn assignment_laws()
     ensures back { ReadsBack }
     ensures sound { AssignsSoundly }
     ensures bases { AssignmentsLeaveBases }
+{
+    shape_laws()
+}
+
+/// The laws of assignments in parts: of values for the positions of an array from one on. A whole
+/// assignment is a part from the first position on, two parts one after another are one, and no
+/// values change nothing. A part changes no look, and the elements of any array afterwards are read
+/// as after a whole assignment. Arrays of other roots keep their elements; an array keeps those at
+/// later positions where it reads there no place that was written, and so does the array itself if
+/// it is without repeats. The world stays sound where the values are numbers of the array's type.
+pub fn part_laws()
+    ensures wholes { WholesAreParts }
+    ensures join { PartsJoin }
+    ensures nothing { NothingStays }
+    ensures looks { PartsLeaveLooks }
+    ensures reads { PartsRead }
+    ensures others { PartsLeaveOthers }
+    ensures later { PartsLeaveLater }
+    ensures rest { PartsLeaveRest }
+    ensures sound { PartsAssignSoundly }
 {
     shape_laws()
 }

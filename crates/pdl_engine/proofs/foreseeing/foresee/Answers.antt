@@ -1,18 +1,30 @@
-use Rattle.std.proofs.Common.{◌≡◌, length, sym, ◌∙◌, ap}
+use Rattle.std.proofs.Common.{◌≡◌, length, sym, ◌∙◌, ap, eqb-true}
 use Rattle.pdl_shape.specs.Shape.{size_of}
 use Rattle.pdl_shape.specs.Triple.{Triple}
-use Rattle.pdl_nodes.specs.Placed.{placed_by}
+use Rattle.pdl_nodes.specs.Placed.{in_order, placed_by}
 use Rattle.pdl_nodes.specs.Row.{Row}
+use Rattle.pdl_nodes.specs.Rows.{row_at}
+use Rattle.pdl_nodes.specs.Worlds.{IsRoot}
 use Rattle.pdl_engine.specs.Foresights.{elements_after}
 use Rattle.pdl_engine.proofs.Foresights.{after_long, foreseen_is, places_now}
+use Rattle.pdl_engine.proofs.Images.{root_places}
 use Rattle.pdl_engine.proofs.Places.{count_places}
 use Rattle.pdl_engine.proofs.foreseeing.foresee.Goals as goal
 
 pub base_of-base-requires-clause-live : goal.base_of-base-requires-clause-live
 base_of-base-requires-clause-live c = c.row_laws.ensures.seen.base_live c.args.table.now c.node-node.result.now.base c.args.seen c.requires.order.still c.requires.live (sym (ap (λ (r : Row). r.base) c.node-node.ensures))
 
-pub shown_after-requires : goal.shown_after-requires
-shown_after-requires c = ap length c.deref.ensures.value ∙ c.in_ok-before.ensures.count ∙ ap (λ (t : Triple). size_of t.dims) (sym (c.triple.ensures ∙ ap (λ (r : Row). r.triple) c.node-node.ensures))
+pub elements_left-requires-clause-whole : goal.elements_left-requires-clause-whole
+elements_left-requires-clause-whole c = λ t.
+    let rs = c.args.table.now in
+    let root : c.root.result ≡ (row_at rs c.args.seen).root = c.root.ensures ∙ ap (λ (r : Row). r.root) c.node-node.ensures in
+    let is : IsRoot rs c.args.seen = (c.requires.live, sym root ∙ eqb-true c.root.result c.args.seen t) in
+    places_now c.row_laws.ensures rs c.args.seen c.node-node.result.now c.base_of-base.result.now c.places.result.now c.triple.result.now c.requires.order c.requires.known c.requires.live c.requires.fresh c.node-node.ensures c.base_of-base.ensures c.places.ensures c.triple.ensures
+    ∙ root_places c.row_laws.ensures rs c.args.seen c.requires.order.still is
+    ∙ ap in_order (sym (ap length c.deref.ensures.value ∙ c.in_ok-before.ensures.count))
+
+pub elements_left-requires-clause-count : goal.elements_left-requires-clause-count
+elements_left-requires-clause-count c = ap length c.deref.ensures.value ∙ c.in_ok-before.ensures.count ∙ ap (λ (t : Triple). size_of t.dims) (sym (c.triple.ensures ∙ ap (λ (r : Row). r.triple) c.node-node.ensures))
 
 pub returns-clause-value : goal.returns-clause-value
 returns-clause-value c = λ v vs told. foreseen_is c.row_laws.ensures c.assignment_laws.ensures.reads c.growth_laws.ensures.within c.args.table.now c.args.seen v vs c.args.foresight.now c.in_ok-before.before.items c.in_ok-after.after.items _ c.requires.order c.requires.sound

@@ -1,4 +1,4 @@
-use Rattle.std.proofs.Common.{◌≡◌, ◌+◌, ◌≤◌, ◌∙◌, ap, subst, arith, ℕ, Option}
+use Rattle.std.proofs.Common.{◌≡◌, ◌+◌, ◌≤◌, ◌∙◌, ap, sym, subst, arith, ℕ, Option}
 use Rattle.pdl_engine.specs.Loose.{IsListed}
 use Rattle.pdl_lemmas.specs.Results.{on_err}
 use Rattle.pdl_shape.specs.Shape.{size_of}
@@ -11,6 +11,7 @@ use Rattle.pdl_nodes.specs.Renewed.{CanRenew}
 use Rattle.pdl_nodes.specs.Worlds.{world_of}
 use Rattle.pdl_engine.proofs.Readied.{ready_then, IsFreshly, others_on, settled_on, only_ready, freshly, ready_steps, ready_fresh, below_ready}
 use Rattle.pdl_engine.proofs.Renews.{RenewFacts, can_reshape, was_renewed, reshaped_world, renewed_bases, renewed_fresh, renewed_settled, reshape_steps}
+use Rattle.pdl_engine.proofs.Tight.{children_alike}
 use Rattle.pdl_engine.proofs.severing.reshape_relaid.Goals as goal
 
 pub returns-in_err-refresh-clause-reshaped : goal.returns-in_err-refresh-clause-reshaped
@@ -182,7 +183,8 @@ pub renew-requires-clause-same_type : goal.renew-requires-clause-same_type
 renew-requires-clause-same_type g c = ap (λ (k : TypedElements). k.ty) c.in_ok-kept.ensures.value
 
 pub returns-clause-parent : goal.returns-clause-parent
-returns-clause-parent g c = λ p e. c.in_ok-kept.ensures.parent p (c.refresh.ensures.kept.alike.parent_is c.args.id ∙ c.settle.ensures.settled.ready.alike.parent_is c.args.id ∙ e)
+returns-clause-parent g c = λ p e u m. c.in_ok-kept.ensures.parent p (c.refresh.ensures.kept.alike.parent_is c.args.id ∙ c.settle.ensures.settled.ready.alike.parent_is c.args.id ∙ e) u
+    (subst (λ k. k ≤ 1) (sym (children_alike c.args.table.now c.refresh.new.table p (c.refresh.ensures.kept.alike.shape_is ∙ c.settle.ensures.settled.ready.alike.shape_is))) m)
 
 pub refresh-requires-clause-live : goal.refresh-requires-clause-live
 refresh-requires-clause-live g c = c.settle.ensures.settled.ready.alike.has_is c.args.id ∙ c.requires.live

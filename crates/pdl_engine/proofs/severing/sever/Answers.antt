@@ -1,4 +1,4 @@
-use Rattle.std.proofs.Common.{◌≡◌, [], ◌+◌, ◌≤◌, sym, ◌∙◌, ap, subst, arith, ℕ, Option}
+use Rattle.std.proofs.Common.{◌≡◌, [], ◌+◌, ◌≤◌, sym, ◌∙◌, ap, subst, arith, ℕ, Option, true, false, refl}
 use Rattle.pdl_lemmas.specs.Results.{on_err}
 use Rattle.pdl_shape.specs.Shape.{size_of}
 use Rattle.pdl_shape.specs.Triple.{Triple}
@@ -9,9 +9,10 @@ use Rattle.pdl_nodes.specs.Outcomes.{waiting_of, waiting_size}
 use Rattle.pdl_pull.specs.Outdated.{outdated}
 use Rattle.pdl_nodes.specs.Row.{Row}
 use Rattle.pdl_nodes.specs.Worlds.{world_of}
-use Rattle.pdl_engine.specs.Loose.{ListsParent, IsListed}
+use Rattle.pdl_engine.specs.Loose.{IsListed}
 use Rattle.pdl_engine.proofs.Readied.{ready_then, IsFreshly, others_on, settled_on, only_ready, freshly, ready_steps, below_ready, ready_fresh}
 use Rattle.pdl_engine.proofs.Renews.{RenewFacts, first_all, root_uncut, renewed_settled, all_steps, renewed_fresh, can_cut, was_renewed, cut_world}
+use Rattle.pdl_engine.proofs.Tight.{children_alike}
 use Rattle.pdl_engine.proofs.severing.sever.Goals as goal
 
 pub returns-then-root-id-clause-ok : goal.returns-then-root-id-clause-ok
@@ -200,7 +201,8 @@ pub returns-then-root-id-clause-settled : goal.returns-then-root-id-clause-settl
 returns-then-root-id-clause-settled g c = λ n. absurd (n (ap (λ (r : Row). r.root) (sym c.node.ensures) ∙ sym c.root.ensures ∙ c.if-root-id.true))
 
 pub returns-clause-parent : goal.returns-clause-parent
-returns-clause-parent g c = λ n. subst (λ (o : Option ℕ). ListsParent c.args.holds.now c.first_copied.new.loose.items o) (c.refresh.ensures.kept.alike.parent_is c.args.id ∙ c.settle.ensures.settled.ready.alike.parent_is c.args.id) c.in_ok-kept.ensures.parent
+returns-clause-parent g c = λ n p e u m. c.in_ok-kept.ensures.parent p (c.refresh.ensures.kept.alike.parent_is c.args.id ∙ c.settle.ensures.settled.ready.alike.parent_is c.args.id ∙ e) u
+    (subst (λ k. k ≤ 1) (sym (children_alike c.args.table.now c.refresh.new.table p (c.refresh.ensures.kept.alike.shape_is ∙ c.settle.ensures.settled.ready.alike.shape_is))) m)
 
 pub refresh-requires-clause-live : goal.refresh-requires-clause-live
 refresh-requires-clause-live g c = c.settle.ensures.settled.ready.alike.has_is c.args.id ∙ c.requires.live
@@ -219,3 +221,36 @@ returns-in_err-kept-clause-listed g c = subst (λ (o : Option ℕ). IsListed c.a
 
 pub renew-requires-clause-same_type : goal.renew-requires-clause-same_type
 renew-requires-clause-same_type g c = ap (λ (k : TypedElements). k.ty) c.in_ok-kept.ensures.value
+
+-- of a root nothing is changed
+pub returns-then-root-id-clause-severed : goal.returns-then-root-id-clause-severed
+returns-then-root-id-clause-severed g c = record {
+  order = c.requires.order;
+  known = c.requires.known;
+  sized = c.requires.sized;
+  numbers_are = refl;
+  has_is = λ u. refl;
+  fresh = λ u h n f. f;
+  waits = λ u h n. refl;
+}
+
+pub returns-then-root-id-clause-listed : goal.returns-then-root-id-clause-listed
+returns-then-root-id-clause-listed g c = record { stays = λ v h. h; only = λ v y n. (let z : true ≡ false = sym y ∙ n in absurd (cc)) }
+
+pub returns-in_err-refresh-clause-listed : goal.returns-in_err-refresh-clause-listed
+returns-in_err-refresh-clause-listed g c = record { stays = λ v h. h; only = λ v y n. (let z : true ≡ false = sym y ∙ n in absurd (cc)) }
+
+pub returns-then-root-id-clause-parent : goal.returns-then-root-id-clause-parent
+returns-then-root-id-clause-parent g c = λ n. absurd (n (ap (λ (r : Row). r.root) (sym c.node.ensures) ∙ sym c.root.ensures ∙ c.if-root-id.true))
+
+pub returns-in_err-refresh-clause-done : goal.returns-in_err-refresh-clause-done
+returns-in_err-refresh-clause-done g c = λ r. absurd (c.if-root-id.false (c.root.ensures ∙ ap (λ (x : Row). x.root) c.node.ensures ∙ r))
+
+pub returns-in_err-kept-clause-done : goal.returns-in_err-kept-clause-done
+returns-in_err-kept-clause-done g c = λ r. absurd (c.if-root-id.false (c.root.ensures ∙ ap (λ (x : Row). x.root) c.node.ensures ∙ r))
+
+pub returns-in_err-refresh-clause-err : goal.returns-in_err-refresh-clause-err
+returns-in_err-refresh-clause-err g c = on_err c.from_residual.result (c.refresh.ensures.kept.world ∙ c.settle.ensures.settled.ready.world)
+
+pub returns-in_err-kept-clause-err : goal.returns-in_err-kept-clause-err
+returns-in_err-kept-clause-err g c = on_err c.from_residual-in_err-kept.result (c.refresh.ensures.kept.world ∙ c.settle.ensures.settled.ready.world)

@@ -1,3 +1,4 @@
+use Rattle.std.proofs.Common.{refl}
 use Rattle.pdl_image.proofs.Adding.{lines_join}
 use Rattle.pdl_image.proofs.Masks.{masks_choose}
 use Rattle.pdl_image.proofs.StemLemmas.{stems_are_free, fewer_are_taken}
@@ -14,3 +15,6 @@ returns-clause-join c = lines_join
 
 pub returns-clause-masks : goal.returns-clause-masks
 returns-clause-masks c = masks_choose
+
+pub returns-clause-limits : goal.returns-clause-limits
+returns-clause-limits c = record { piece = refl; longest = refl }

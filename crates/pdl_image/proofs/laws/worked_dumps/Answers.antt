@@ -14,3 +14,11 @@ returns-clause-least c = refl
 pub returns-clause-viewed : goal.returns-clause-viewed
 unfolding digits
 returns-clause-viewed c = refl
+
+pub returns-clause-arranged : goal.returns-clause-arranged
+unfolding digits
+returns-clause-arranged c = refl
+
+pub returns-clause-edged : goal.returns-clause-edged
+unfolding digits
+returns-clause-edged c = refl

@@ -1,6 +1,7 @@
+use Rattle.std.proofs.Common.{refl}
 use Rattle.pdl_machine.proofs.Presence.{told_stays, none_comes, none_comes_in_a_run, stay_there, are_there_in_a_run}
 use Rattle.pdl_machine.proofs.Counted.{each_is_counted, notices_are_numbered}
-use Rattle.pdl_machine.proofs.RunLemmas.{ended_stays, printed_stays, fault_stays, goes_on, first_fault, ended_by_fault, too_long_ends, limit_ends}
+use Rattle.pdl_machine.proofs.RunLemmas.{ended_stays, printed_stays, fault_stays, goes_on, first_fault, ended_by_fault, refused_stay, refused_in_a_run, few_in_a_run, none_in_a_run, refusals_leave_all, too_long_ends, limit_ends}
 use Rattle.pdl_machine.proofs.reading.run_laws.Goals as goal
 
 pub returns-clause-ended : goal.returns-clause-ended
@@ -47,3 +48,21 @@ returns-clause-too_long c = too_long_ends
 
 pub returns-clause-limit : goal.returns-clause-limit
 returns-clause-limit c = limit_ends
+
+pub returns-clause-refused : goal.returns-clause-refused
+returns-clause-refused c = refused_stay
+
+pub returns-clause-refused_in_a_run : goal.returns-clause-refused_in_a_run
+returns-clause-refused_in_a_run c = refused_in_a_run
+
+pub returns-clause-few : goal.returns-clause-few
+returns-clause-few c = few_in_a_run
+
+pub returns-clause-none_refused : goal.returns-clause-none_refused
+returns-clause-none_refused c = none_in_a_run
+
+pub returns-clause-most : goal.returns-clause-most
+returns-clause-most c = refl
+
+pub returns-clause-alone : goal.returns-clause-alone
+returns-clause-alone c = refusals_leave_all

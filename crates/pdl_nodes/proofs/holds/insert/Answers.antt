@@ -3,7 +3,7 @@ use Rattle.pdl_nodes.specs.Holds.{hold_at}
 use Rattle.pdl_nodes.specs.Rows.{without}
 use Rattle.pdl_nodes.proofs.holds.insert.Goals as goal
 use Rattle.pdl_nodes.proofs.Finds.{has_below}
-use Rattle.pdl_nodes.proofs.Numbers.{is_above}
+use Rattle.pdl_nodes.proofs.Lookups.{is_above}
 use Rattle.pdl_nodes.proofs.Reaches.{no_hold, beside_same}
 use Rattle.pdl_nodes.proofs.Rests.{without_newest}
 

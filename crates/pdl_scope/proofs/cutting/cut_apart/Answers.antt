@@ -2,7 +2,7 @@ use Rattle.std.proofs.Common.{◌++◌, sym, ap, subst}
 use Rattle.std.specs.Prelude.{IfSome, true, ◌≡◌}
 use Rattle.pdl_world.specs.Cut.{sever}
 use Rattle.pdl_world.specs.Paths.{parent_in}
-use Rattle.pdl_world.specs.Swept.{holds}
+use Rattle.pdl_world.specs.Swept.{is_listed}
 use Rattle.pdl_world.specs.World.{World}
 use Rattle.pdl_engine.specs.State.{State as Engine}
 use Rattle.pdl_scope.proofs.Cuts.{held_after, noted_held}
@@ -15,7 +15,7 @@ returns-clause-held g c = λ names ws held.
     let left = c.hold_parent.new.leaving.items in
     let v = c.args.id in
     let h = c.hold_parent.ensures.held names ws held in
-    let P : World → Type 0 = λ w. IfSome (parent_in w v) (λ p. holds left p ≡ true) in
+    let P : World → Type 0 = λ w. IfSome (parent_in w v) (λ p. is_listed left p ≡ true) in
     let parent : P e.world = subst P (sym (ap (λ (s : Engine). s.world) c.hold_parent.ensures.same)) c.hold_parent.ensures.parent in
     held_after c.sever.result names ws e c.sever.new.self (sever e.world v) left h (c.cut_laws.ensures.numbers e.world v h.whole.sound)
     (c.keeping_laws.ensures.cut e.world v (held_by names ws ++ left) h.whole.sound h.reached (noted_held (held_by names ws) left (parent_in e.world v) parent))

@@ -1,7 +1,7 @@
 use Rattle.std.proofs.Common.{◌++◌, sym, ap, subst}
 use Rattle.std.specs.Prelude.{IfSome, true, false, ◌≡◌}
 use Rattle.pdl_world.specs.Paths.{parent_in}
-use Rattle.pdl_world.specs.Swept.{holds}
+use Rattle.pdl_world.specs.Swept.{is_listed}
 use Rattle.pdl_world.specs.World.{World}
 use Rattle.pdl_engine.specs.State.{State as Engine}
 use Rattle.pdl_scope.proofs.Cuts.{held_reshaped, noted_held}
@@ -16,7 +16,7 @@ returns-clause-held g c = λ names ws held.
     let ds = c.args.dims.now in
     let h = c.hold_parent.ensures.held names ws held in
     let world_is = ap (λ (s : Engine). s.world) c.hold_parent.ensures.same in
-    let P : World → Type 0 = λ w. IfSome (parent_in w v) (λ p. holds left p ≡ true) in
+    let P : World → Type 0 = λ w. IfSome (parent_in w v) (λ p. is_listed left p ≡ true) in
     let parent : P e.world = subst P (sym world_is) c.hold_parent.ensures.parent in
     held_reshaped c.reshape.result c.reshape_laws.ensures.numbers names ws e c.reshape.new.self v ds left h c.reshape.ensures.allowed
     (c.keeping_laws.ensures.reshaped e.world v ds (held_by names ws ++ left) h.whole.sound h.reached (noted_held (held_by names ws) left (parent_in e.world v) parent))

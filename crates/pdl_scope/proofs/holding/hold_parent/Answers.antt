@@ -1,6 +1,6 @@
 use Rattle.std.proofs.Common.{◌≡◌, ℕ, List, [], ◌∷◌, ◌++◌, Option, inr, true, refl, sym, subst, ◌∙◌, arith}
 use Rattle.std.specs.Prelude.{IfSome}
-use Rattle.pdl_world.specs.Swept.{holds}
+use Rattle.pdl_world.specs.Swept.{is_listed}
 use Rattle.pdl_engine.specs.State.{State as Engine}
 use Rattle.pdl_scope.specs.Scope.{state_in, IsHeld}
 use Rattle.pdl_scope.proofs.Cuts.{held_noted, noted_last, parent_lives}
@@ -26,8 +26,8 @@ pub returns-in-Some-clause-parent : goal.returns-in-Some-clause-parent
 returns-in-Some-clause-parent c =
     let p = c.in-Some.parent in
     let left = c.note.new.list.items in
-    let P : Option ℕ → Type 0 = λ o. IfSome o (λ u. holds left u ≡ true) in
-    let L : List ℕ → Type 0 = λ vs. holds vs p ≡ true in
+    let P : Option ℕ → Type 0 = λ o. IfSome o (λ u. is_listed left u ≡ true) in
+    let L : List ℕ → Type 0 = λ vs. is_listed vs p ≡ true in
     subst P (sym (sym c.parent.ensures ∙ c.in-Some.is)) (subst L (sym c.note.ensures.items) (noted_last c.args.leaving.now.items p))
 
 pub returns-in-Some-clause-held : goal.returns-in-Some-clause-held

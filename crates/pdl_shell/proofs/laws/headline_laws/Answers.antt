@@ -1,5 +1,6 @@
-use Rattle.pdl_shell.proofs.HeadlineLemmas.{ends_quiet, memory_quiet, watcher_rises, source_leaves, done_reads, fault_reads, ends_write, all_front, cut_off_front}
-use Rattle.pdl_shell.proofs.Guards.{few_taken, no_part_behind, quiet_undisturbed, watcher_fault_front}
+use Rattle.pdl_shell.proofs.HeadlineLemmas.{ends_quiet, memory_quiet, watcher_rises, source_leaves, done_reads, fault_reads, ends_write, memory_writes, all_front, cut_off_front, usage_alone, generating_alone}
+use Rattle.pdl_shell.proofs.Guards.{few_taken, no_part_behind, quiet_undisturbed, others_front}
+use Rattle.pdl_shell.proofs.HeadlineSlotsLemmas.{slots_stay, watchers_stay, none_appears, counts_kept, one_alone, finishing_last}
 use Rattle.pdl_shell.proofs.laws.headline_laws.Goals as goal
 
 pub returns-clause-quiet : goal.returns-clause-quiet
@@ -38,8 +39,14 @@ returns-clause-tells c = cut_off_front
 pub returns-clause-usage : goal.returns-clause-usage
 returns-clause-usage c answers = answers
 
+pub returns-clause-spelled : goal.returns-clause-spelled
+returns-clause-spelled c = usage_alone
+
+pub returns-clause-generates : goal.returns-clause-generates
+returns-clause-generates c = generating_alone
+
 pub returns-clause-tells_some : goal.returns-clause-tells_some
-returns-clause-tells_some c = watcher_fault_front
+returns-clause-tells_some c = others_front
 
 pub returns-clause-soon : goal.returns-clause-soon
 returns-clause-soon c = no_part_behind c.run_laws.ensures.ended c.so_far_laws.ensures.grows
@@ -49,3 +56,24 @@ returns-clause-few c = few_taken
 
 pub returns-clause-undisturbed : goal.returns-clause-undisturbed
 returns-clause-undisturbed c = quiet_undisturbed
+
+pub returns-clause-writes_some : goal.returns-clause-writes_some
+returns-clause-writes_some c = memory_writes
+
+pub returns-clause-slots : goal.returns-clause-slots
+returns-clause-slots c = slots_stay c.slot_laws.ensures.told_long c.slot_laws.ensures.long
+
+pub returns-clause-stays : goal.returns-clause-stays
+returns-clause-stays c = watchers_stay
+
+pub returns-clause-appears : goal.returns-clause-appears
+returns-clause-appears c = none_appears
+
+pub returns-clause-counts : goal.returns-clause-counts
+returns-clause-counts c = counts_kept
+
+pub returns-clause-alone : goal.returns-clause-alone
+returns-clause-alone c = one_alone
+
+pub returns-clause-last : goal.returns-clause-last
+returns-clause-last c = finishing_last

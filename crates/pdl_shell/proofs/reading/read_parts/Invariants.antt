@@ -14,6 +14,7 @@ invariant-reading g l = record {
       l.taken l.runner (g.S.Source.left l.source)
       (outlets g.K.Sink.taken g.K.Sink.is_flushed g.K.Sink.faults l.sink (slots_by g.W.Watcher.seen l.watchers.items));
   works : l.runner.cutter.failed ≡ false;
+  counted : l.runner.count ≤ l.runner.cutter.taken;
   fed : l.runner.cutter.taken ≤ l.taken;
   served : AreServed l.runner.session.state.watches (slots_by g.W.Watcher.seen l.watchers.items);
   tells : KeepsTelling (g.K.Sink.is_flushed l.initial.sink) (g.K.Sink.is_flushed l.sink);

@@ -17,7 +17,7 @@ none_is keep is = cc
 pub returns-in-Some-Run-clause-reads : goal.returns-in-Some-Run-clause-reads
 returns-in-Some-Run-clause-reads g c keep is =
     let asked : Some (Run c.in-Some-Run.keep_going) ≡ command_of (map string_bytes c.args.words.now) = rw c.in-Some-Run.field-0-is at c.in-Some-Run.ensures in
-    reads_keep _ _ (run_same c.in-Some-Run.keep_going keep (asked ∙ is)) _ _ _ c.run_script.ensures.reads
+    reads_keep _ _ (run_same c.in-Some-Run.keep_going keep (asked ∙ is)) _ _ _ _ c.run_script.ensures.reads
 
 pub returns-in-Some-Run-clause-complete : goal.returns-in-Some-Run-clause-complete
 returns-in-Some-Run-clause-complete g c quiet memory = quiet_complete c.run_script.result _ _ c.run_script.ensures.reason quiet memory
@@ -33,7 +33,7 @@ returns-in-None-clause-reads g c keep is = absurd (none_is keep (c.in-None.ensur
 pub returns-in-Some-Generate-clause-model : goal.returns-in-Some-Generate-clause-model
 returns-in-Some-Generate-clause-model g c script given =
     let asked : Some (Generate c.in-Some-Generate.keep_going c.in-Some-Generate.rounds) ≡ command_of (map string_bytes c.args.words.now) = rw c.in-Some-Generate.field-0-is at c.in-Some-Generate.ensures in
-    gives_command _ _ asked _ script _ _ _ (c.summarize.ensures.model script _)
+    gives_command _ _ asked _ _ script _ _ _ (c.summarize.ensures.model script _)
 
 pub returns-in-Some-Generate-clause-reason : goal.returns-in-Some-Generate-clause-reason
 returns-in-Some-Generate-clause-reason g c = c.summarize.ensures.reason _ _ _
@@ -43,7 +43,7 @@ returns-in-Some-Generate-clause-complete g c quiet memory = quiet_complete c.sum
 
 pub returns-in-None-clause-model : goal.returns-in-None-clause-model
 returns-in-None-clause-model g c script given =
-    gives_command _ _ c.in-None.ensures _ script _ _ _ (c.usage.ensures.model script _)
+    gives_command _ _ c.in-None.ensures _ _ script _ _ _ (c.usage.ensures.model script _)
 
 pub returns-in-None-clause-reason : goal.returns-in-None-clause-reason
 returns-in-None-clause-reason g c = c.usage.ensures.reason _ _ _

@@ -22,8 +22,8 @@ value-value-requires c =
     let front = c.split_at.ensures.front ∙ ap (λ n. take n u) c.digits_len.ensures.passed in
     ap (list_all is_ascii_digit) front ∙ all_front is_ascii_digit u
 
-pub returns-then-value-gt-MOST_SIZE : goal.returns-then-value-gt-MOST_SIZE
-returns-then-value-gt-MOST_SIZE c =
+pub returns-then-value-gt-MOST_EXTENT : goal.returns-then-value-gt-MOST_EXTENT
+returns-then-value-gt-MOST_EXTENT c =
     let u = c.past_blanks-text.result.now in
     large_number c.args.text.now u c.split_at.result.0.now c.split_at.result.1.now c.value-value.result
     (record {

@@ -2,7 +2,7 @@ use Rattle.std.proofs.Common.{◌≡◌, true, sym, ◌∙◌, ap, subst}
 use Rattle.std.specs.Prelude.{Some}
 use Rattle.pdl_world.specs.Paths.{root_of}
 use Rattle.pdl_world.specs.Sound.{IsLive}
-use Rattle.pdl_world.specs.Swept.{holds}
+use Rattle.pdl_world.specs.Swept.{is_listed}
 use Rattle.pdl_world.specs.World.{World}
 use Rattle.pdl_nodes.specs.Rows.{has}
 use Rattle.pdl_engine.specs.Foresights.{Foretells, IsForeseen}
@@ -25,7 +25,7 @@ foresee-requires-clause-live c = live_has c.row_laws.ensures c.self.inside.table
 pub foresee-requires-clause-fresh : goal.foresee-requires-clause-fresh
 foresee-requires-clause-fresh c =
     let u : has c.self.inside.table c.args.seen ≡ true = live_has c.row_laws.ensures c.self.inside.table c.args.seen (subst (λ (w : World). IsLive w c.args.seen) (sym (ap (λ (s : State). s.world) c.self.view_is)) c.requires.live) in
-    sym (fresh_is c.row_laws.ensures c.self.inside.table c.args.seen c.self.invariant.0.order.still u) ∙ ap (λ (s : State). holds s.fresh c.args.seen) c.self.view_is ∙ c.requires.fresh
+    sym (fresh_is c.row_laws.ensures c.self.inside.table c.args.seen c.self.invariant.0.order.still u) ∙ ap (λ (s : State). is_listed s.fresh c.args.seen) c.self.view_is ∙ c.requires.fresh
 
 pub foresee-requires-clause-family : goal.foresee-requires-clause-family
 foresee-requires-clause-family c =

@@ -1,7 +1,7 @@
 use Rattle.std.proofs.Common.{◌≡◌, true, sym, ◌∙◌, ap, subst}
 use Rattle.pdl_shape.specs.Shape.{size_of}
 use Rattle.pdl_world.specs.Sound.{IsLive}
-use Rattle.pdl_world.specs.Swept.{holds}
+use Rattle.pdl_world.specs.Swept.{is_listed}
 use Rattle.pdl_world.specs.World.{World, dims_in}
 use Rattle.pdl_nodes.specs.Rows.{has}
 use Rattle.pdl_engine.specs.Foresights.{Foretells}
@@ -16,7 +16,7 @@ foretell-requires c =
       order = c.self.invariant.0.order;
       known = c.self.invariant.0.known;
       target = t;
-      fresh = sym (fresh_is c.row_laws.ensures c.self.inside.table c.args.target c.self.invariant.0.order.still t) ∙ ap (λ (s : State). holds s.fresh c.args.target) c.self.view_is ∙ c.requires.fresh;
+      fresh = sym (fresh_is c.row_laws.ensures c.self.inside.table c.args.target c.self.invariant.0.order.still t) ∙ ap (λ (s : State). is_listed s.fresh c.args.target) c.self.view_is ∙ c.requires.fresh;
       count = c.requires.count ∙ ap size_of (ap (λ (s : State). dims_in s.world c.args.target) (sym c.self.view_is) ∙ c.row_laws.ensures.seen.dims_are c.self.inside.table c.args.target c.self.invariant.0.order.still t);
     }
 

@@ -1,7 +1,7 @@
 use Rattle.std.proofs.Common.{◌≡◌, true, refl, sym, ◌∙◌, ap, subst, arith}
 use Rattle.std.proofs.lemmas.Result.{on_ok_weaker}
 use Rattle.pdl_world.specs.Sound.{IsLive}
-use Rattle.pdl_world.specs.Swept.{holds}
+use Rattle.pdl_world.specs.Swept.{is_listed}
 use Rattle.pdl_world.specs.World.{World}
 use Rattle.pdl_nodes.specs.Outcomes.{waiting_of}
 use Rattle.pdl_pull.specs.Outdated.{outdated as rows_outdated}
@@ -29,7 +29,7 @@ pub returns-clause-same : goal.returns-clause-same
 returns-clause-same g c = record { world = c.ready.ensures.ready.world ∙ (ap (λ (s : State). s.world) c.self.view_is); holds = holds_alike c.self.inside.table c.ready.new.table c.self.inside.holds c.ready.ensures.ready.alike.numbers_are ∙ ap (λ (s : State). s.holds) c.self.view_is; next = ap (λ (s : State). s.next) c.self.view_is }
 
 pub returns-clause-stay : goal.returns-clause-stay
-returns-clause-stay g c = λ v f. stay_ready c.row_laws.ensures c.self.inside.table c.ready.new.table c.self.inside.holds c.self.inside.next c.self.invariant.0.order.still c.ready.ensures.ready.order.still c.ready.ensures.ready.alike c.ready.ensures.ready.marks v (ap (λ (s : State). holds s.fresh v) c.self.view_is ∙ f)
+returns-clause-stay g c = λ v f. stay_ready c.row_laws.ensures c.self.inside.table c.ready.new.table c.self.inside.holds c.self.inside.next c.self.invariant.0.order.still c.ready.ensures.ready.order.still c.ready.ensures.ready.alike c.ready.ensures.ready.marks v (ap (λ (s : State). is_listed s.fresh v) c.self.view_is ∙ f)
 
 pub returns-clause-fresh : goal.returns-clause-fresh
 returns-clause-fresh g c = on_ok_weaker c.ready.result (path_state c.row_laws.ensures c.ready.new.table c.self.inside.holds c.self.inside.next c.args.id c.ready.ensures.ready.order.still (c.ready.ensures.ready.alike.has_is c.args.id ∙ (live_has c.row_laws.ensures c.self.inside.table c.args.id (subst (λ (w : World). IsLive w c.args.id) (sym (ap (λ (s : State). s.world) c.self.view_is)) c.requires)))) c.ready.ensures.fresh

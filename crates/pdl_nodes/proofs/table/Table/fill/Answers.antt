@@ -1,6 +1,6 @@
 use Rattle.std.proofs.Common.{refl, ◌≡◌, sym, ◌∙◌, ap, subst}
 use Rattle.slab.specs.Slab.{with_value}
-use Rattle.pdl_world.specs.Swept.{holds}
+use Rattle.pdl_world.specs.Swept.{is_listed}
 use Rattle.pdl_nodes.specs.Row.{Row}
 use Rattle.pdl_nodes.specs.Rows.{Rows, row_at, each}
 use Rattle.pdl_nodes.specs.Changes.{fill_in}
@@ -32,7 +32,7 @@ invariant_of-self-2 c =
       (
         table_one c.self.inside.keys c.self.inside.nodes c.args.id c.index-key.result.now c.fill.new.self c.self.invariant.0.0 c.index-key.ensures,
         subst (λ (t : Rows). AreListed t c.insert.new.self) (sym e) (listed_filled c.args.self.now c.self.inside.marked c.insert.new.self c.args.id c.args.kept.elems c.args.repeats c.args.places
-            (ap (λ r. holds (listed c.insert.new.self r) c.args.id) (sym root) ∙ c.in_ok-insert.ensures.listed) c.insert.ensures.stay (subst (λ (t : Rows). AreListed t c.self.inside.marked) c.self.view_is c.self.invariant.0.1)),
+            (ap (λ r. is_listed (listed c.insert.new.self r) c.args.id) (sym root) ∙ c.in_ok-insert.ensures.listed) c.insert.ensures.stay (subst (λ (t : Rows). AreListed t c.self.inside.marked) c.self.view_is c.self.invariant.0.1)),
       ),
       counted_each (fill_in c.args.id c.args.kept.elems c.args.repeats c.args.places) c.args.self.now (rows_of c.self.inside.nodes c.self.inside.keys) _ c.self.inside.children c.self.view_is e (λ k r. refl) c.self.invariant.1,
     )

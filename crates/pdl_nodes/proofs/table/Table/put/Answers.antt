@@ -4,7 +4,7 @@ use Rattle.pdl_elem.specs.declared.Ty.{Ty}
 use Rattle.pdl_shape.specs.Places.{write}
 use Rattle.pdl_shape.specs.Shape.{size_of}
 use Rattle.pdl_nodes.specs.Changes.{kept_in}
-use Rattle.pdl_nodes.specs.Numbered.{value_at}
+use Rattle.pdl_registry.specs.Numbered.{value_at}
 use Rattle.pdl_nodes.specs.Placed.{goes_by}
 use Rattle.pdl_nodes.specs.Put.{put_at}
 use Rattle.pdl_nodes.specs.Row.{Row, goal_of, is_buffered}

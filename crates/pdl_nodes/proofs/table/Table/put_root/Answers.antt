@@ -4,7 +4,7 @@ use Rattle.pdl_elem.specs.Types.{InRange}
 use Rattle.pdl_shape.specs.Places.{write}
 use Rattle.pdl_shape.specs.Shape.{size_of}
 use Rattle.pdl_nodes.specs.Changes.{kept_in, mark_in}
-use Rattle.pdl_nodes.specs.Numbered.{value_at}
+use Rattle.pdl_registry.specs.Numbered.{value_at}
 use Rattle.pdl_nodes.specs.Placed.{in_order}
 use Rattle.pdl_nodes.specs.Put.{IsWrite, put_in}
 use Rattle.pdl_nodes.specs.Row.{Row, is_buffered, shown_of}

@@ -1,5 +1,6 @@
-use Rattle.std.proofs.Common.{◌<◌, sym, subst, arith}
+use Rattle.std.proofs.Common.{◌<◌, ◌∙◌, ap, sym, subst, arith}
 use Rattle.pdl_nodes.specs.Renewed.{Layouts}
+use Rattle.pdl_nodes.specs.Row.{Row}
 use Rattle.pdl_nodes.proofs.Finds.{has_below}
 use Rattle.pdl_nodes.proofs.Relaying.{IsNext, IsOn, next_on, on_begins, on_ends, on_goes, on_smaller, relaid_allows}
 use Rattle.pdl_nodes.proofs.table.Table.relaid.Goals as goal
@@ -10,14 +11,14 @@ overflow_add-id c = let low : c.args.id < 18446744073709551615 = has_below c.arg
 pub loop-next-init : goal.loop-next-init
 loop-next-init c = subst (λ (ls : Layouts). IsOn ls c.args.self.now c.args.id c.args.dims.now c.from-next.result) (sym c.new-layouts.ensures) (on_begins c.breaking_laws.ensures.below c.args.self.now c.args.id c.args.dims.now c.from-next.result c.requires.sound c.requires.still c.from-next.ensures)
 
-pub relay-requires-clause-live : goal.relay-requires-clause-live
-relay-requires-clause-live c = (next_on c.loop-next.layouts c.args.self.now c.args.id c.args.dims.now c.loop-next.next c.in-Some.newer c.loop-next.invariant c.in-Some.is).live
+pub relay_in-requires-clause-live : goal.relay_in-requires-clause-live
+relay_in-requires-clause-live c = (next_on c.loop-next.layouts c.args.self.now c.args.id c.args.dims.now c.loop-next.next c.in-Some.newer c.loop-next.invariant c.in-Some.is).live
 
-pub relay-requires-clause-newer : goal.relay-requires-clause-newer
-relay-requires-clause-newer c = (next_on c.loop-next.layouts c.args.self.now c.args.id c.args.dims.now c.loop-next.next c.in-Some.newer c.loop-next.invariant c.in-Some.is).newer
+pub relay_in-requires-clause-newer : goal.relay_in-requires-clause-newer
+relay_in-requires-clause-newer c = (next_on c.loop-next.layouts c.args.self.now c.args.id c.args.dims.now c.loop-next.next c.in-Some.newer c.loop-next.invariant c.in-Some.is).newer
 
-pub relay-requires-clause-before : goal.relay-requires-clause-before
-relay-requires-clause-before c = (next_on c.loop-next.layouts c.args.self.now c.args.id c.args.dims.now c.loop-next.next c.in-Some.newer c.loop-next.invariant c.in-Some.is).relaying
+pub relay_in-requires-clause-before : goal.relay_in-requires-clause-before
+relay_in-requires-clause-before c = (next_on c.loop-next.layouts c.args.self.now c.args.id c.args.dims.now c.loop-next.next c.in-Some.newer c.loop-next.invariant c.in-Some.is).relaying
 
 pub overflow_add-newer : goal.overflow_add-newer
 overflow_add-newer c =
@@ -33,10 +34,13 @@ loop-next-smaller c =
 pub loop-next-preserved : goal.loop-next-preserved
 loop-next-preserved c =
     let n : IsNext c.loop-next.layouts c.args.self.now c.args.id c.args.dims.now c.in-Some.newer = next_on c.loop-next.layouts c.args.self.now c.args.id c.args.dims.now c.loop-next.next c.in-Some.newer c.loop-next.invariant c.in-Some.is in
-    on_goes c.relay.new.layouts c.args.self.now c.args.id c.args.dims.now c.in-Some.newer c.from-next-in-Some.result c.requires.still n.newer c.in_ok-relay.ensures.after c.from-next-in-Some.ensures
+    on_goes c.relay_in.new.layouts c.args.self.now c.args.id c.args.dims.now c.in-Some.newer c.from-next-in-Some.result c.requires.still n.newer c.in_ok-relay_in.ensures.after c.from-next-in-Some.ensures
 
 pub returns-clause-laid : goal.returns-clause-laid
 returns-clause-laid c = on_ends c.loop-next.layouts c.args.self.now c.args.id c.args.dims.now c.loop-next.next c.loop-next.invariant c.in_default.is
 
 pub returns-clause-allowed : goal.returns-clause-allowed
 returns-clause-allowed c = relaid_allows c.breaking_laws.ensures.formulas c.loop-next.layouts c.args.self.now c.args.id c.args.dims.now c.requires.sound c.requires.still (on_ends c.loop-next.layouts c.args.self.now c.args.id c.args.dims.now c.loop-next.next c.loop-next.invariant c.in_default.is)
+
+pub relay_in-requires-clause-family : goal.relay_in-requires-clause-family
+relay_in-requires-clause-family c = c.root-root.ensures ∙ ap (λ (r : Row). r.root) c.node.ensures

@@ -1,5 +1,6 @@
 use Rattle.std.proofs.Common.{◌≡◌, Some, None, is_some, refl, sym, ◌∙◌, ap}
-use Rattle.pdl_nodes.specs.Renewed.{layout_at, renewed_in, shown_row, with_layout}
+use Rattle.pdl_nodes.specs.Joined.{shown_row}
+use Rattle.pdl_nodes.specs.Renewed.{layout_at, renewed_in, with_layout}
 use Rattle.pdl_nodes.specs.Row.{Row, parent_of, shown_of}
 use Rattle.pdl_nodes.specs.Rows.{row_at}
 use Rattle.pdl_nodes.specs.Table.{rows_of}

@@ -1,11 +1,12 @@
-use Rattle.std.proofs.Common.{◌≡◌, Result, sym, ap, subst, ◌∙◌}
+use Rattle.std.proofs.Common.{◌≡◌, ◌+◌, ◌≤◌, Result, sym, ap, subst, ◌∙◌}
 use Rattle.pdl_buf.specs.declared.made.Made.{Made}
 use Rattle.pdl_buf.specs.Made.{array_of}
 use Rattle.pdl_reduce.specs.Refusals.{ReduceRefusal}
 use Rattle.pdl_reduce.specs.Pairings.{paired}
 use Rattle.pdl_machine.specs.Refused.{reduce_fault, or_named}
 use Rattle.pdl_scope.specs.Answers.{Answers}
-use Rattle.pdl_scope.specs.Scope.{arrays_of, Scope as Seen}
+use Rattle.pdl_engine.specs.Reading.{read_steps}
+use Rattle.pdl_scope.specs.Scope.{arrays_of, engine_of, Scope as Seen}
 use Rattle.pdl_scope.proofs.Growing.{readied_arrays}
 use Rattle.pdl_scope.proofs.Reduced.{two_lent}
 use Rattle.pdl_scope.proofs.scope.Scope.paired.Goals as goal
@@ -20,3 +21,13 @@ returns-clause-value g c =
     let same : arrays_of e ≡ a = readied_arrays c.self.inside.engine e c.ready_two.ensures.same ∙ ap (λ (s : Seen). s.arrays) c.self.view_is in
     let P : Result Made ReduceRefusal → Type 0 = λ x. Answers (or_named reduce_fault x) c.named.result in
     subst P (sym (two_lent f a c.args.left c.args.right e w u same c.lend.ensures c.lend-2.ensures)) (c.named.ensures.value (f (array_of w) (array_of u)) c.pair-3.ensures.value)
+
+pub returns-clause-counted : goal.returns-clause-counted
+returns-clause-counted g c =
+    let P : Seen → Type 0 = λ s. c.ready_two.new.steps ≤ c.args.steps.now + (read_steps (engine_of s) c.args.left + read_steps (engine_of s) c.args.right) in
+    subst P c.self.view_is c.ready_two.ensures.counted
+
+pub returns-in_err-ready_two-clause-counted : goal.returns-in_err-ready_two-clause-counted
+returns-in_err-ready_two-clause-counted g c =
+    let P : Seen → Type 0 = λ s. c.ready_two.new.steps ≤ c.args.steps.now + (read_steps (engine_of s) c.args.left + read_steps (engine_of s) c.args.right) in
+    subst P c.self.view_is c.ready_two.ensures.counted

@@ -10,7 +10,8 @@ use Rattle.pdl_shell.proofs.runner.Runner.round.Goals as goal
 
 pub returns-in_err-fed-clause-stops : goal.returns-in_err-fed-clause-stops
 returns-in_err-fed-clause-stops g c =
-    stops_result c.from_residual.result NoMemory c.from_residual.ensures.1 _ _ _ _ (stops_before c.course_laws.ensures c.args.self.now c.args.bytes.now _)
+    stops_result c.from_residual.result NoMemory c.from_residual.ensures.1 _ _ _ _ _
+    (stops_before c.course_laws.ensures c.args.self.now c.args.bytes.now _ (record c.args.self.now { cutter = c.feed.new.self }) refl)
 
 pub returns-in_err-run-in-Some-clause-stops : goal.returns-in_err-run-in-Some-clause-stops
 returns-in_err-run-in-Some-clause-stops g c =
@@ -19,8 +20,8 @@ returns-in_err-run-in-Some-clause-stops g c =
     let mid : Runner = record c.args.self.now { cutter = c.feed.new.self } in
     let fed : Feeds c.args.self.now.cutter c.feed.new.self (Some c.in-Some.piece) bytes rest =
     feeds _ _ _ _ bytes c.in_ok-fed.fed.used c.in-Some.is c.in_ok-fed.ensures.stream c.in_ok-fed.ensures.settled c.in_ok-fed.ensures.lines in
-    stops_result c.from_residual-in_err-run-in-Some.result c.in_err-run-in-Some.field-0.0 c.from_residual-in_err-run-in-Some.ensures.1 _ _ _ _
-    (stops_in_piece c.course_laws.ensures c.args.self.now mid c.in-Some.piece bytes rest _ _ _ fed c.requires.running refl
+    stops_result c.from_residual-in_err-run-in-Some.result c.in_err-run-in-Some.field-0.0 c.from_residual-in_err-run-in-Some.ensures.1 _ _ _ _ _
+    (stops_in_piece c.course_laws.ensures c.args.self.now mid c.in-Some.piece bytes rest _ _ _ _ fed c.requires.running refl
     (rw c.in-Some.piece-is at c.in_err-run-in-Some.ensures.short))
 
 pub returns-in-None-clause-carries : goal.returns-in-None-clause-carries

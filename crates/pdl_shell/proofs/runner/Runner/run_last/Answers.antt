@@ -19,5 +19,5 @@ returns-in-Some-clause-finishes g c =
 pub returns-in-Some-clause-stops : goal.returns-in-Some-clause-stops
 returns-in-Some-clause-stops g c =
     let last : mark_of c.in-Some.mark ∷ [] ≡ marks_left (behind c.args.is_cut) c.args.self.now.cutter [] = c.in-Some.ensures.mark in
-    err_then c.run.result (λ stop ran. finishes_short c.args.is_cut c.args.self.now c.last.new.self (mark_of c.in-Some.mark) _ stop _
+    err_then c.run.result (λ stop ran. finishes_short c.args.is_cut c.args.self.now c.last.new.self (mark_of c.in-Some.mark) _ stop _ _
     c.if-self.false last c.in-Some.ensures.rest ran) c.run.ensures.short

@@ -11,14 +11,15 @@ taking-preserved g c = record {
   works = c.in_ok-used.ensures.works;
   none_left = c.in_ok-used.ensures.none_left;
   count = grind (arith, common_steps);
+  counted = c.in_ok-used.ensures.counted;
   served = c.in_ok-used.ensures.served;
   tells = λ told. c.in_ok-used.ensures.tells (c.taking.invariant.tells told);
 }
 
 pub returns-in_err-used-clause-stops : goal.returns-in_err-used-clause-stops
 returns-in_err-used-clause-stops g c =
-    stops_result c.from_residual.result c.in_err-used.field-0.0 c.from_residual.ensures.1 _ _ _ _
-    (stops_then _ _ _ _ _ _ _ _ c.taking.invariant.carried (rw take_rest at c.in_err-used.ensures.stops))
+    stops_result c.from_residual.result c.in_err-used.field-0.0 c.from_residual.ensures.1 _ _ _ _ _
+    (stops_then _ _ _ _ _ _ _ _ _ c.taking.invariant.carried (rw take_rest at c.in_err-used.ensures.stops))
 
 pub returns-else-not-self-clause-carries : goal.returns-else-not-self-clause-carries
 returns-else-not-self-clause-carries g c =

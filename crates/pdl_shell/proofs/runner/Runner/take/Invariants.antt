@@ -16,6 +16,7 @@ invariant-taking g l = record {
       (outlets g.K.Sink.taken g.K.Sink.is_flushed g.K.Sink.faults l.sink (slots_by g.W.Watcher.seen l.watchers.items));
   works : l.self.cutter.failed ≡ false;
   none_left : settled_from l.self.cutter [] ≡ [];
+  counted : l.self.count ≤ l.self.cutter.taken;
   count : l.self.cutter.taken ≡ l.initial.self.cutter.taken + l.used;
   served : AreServed l.self.session.state.watches (slots_by g.W.Watcher.seen l.watchers.items);
   tells : KeepsTelling (g.K.Sink.is_flushed l.initial.sink) (g.K.Sink.is_flushed l.sink);

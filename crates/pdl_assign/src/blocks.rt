@@ -1,0 +1,185 @@
+//! An assignment, block by block.
+ghost use Rattle.std.specs.Prelude.{◌≡◌, ◌+◌, ◌≤◌, ◌<◌, ◌^◌, length, true, is_ok, Ok, All, OnOk, OnErr, IfErr};
+ghost use Rattle.pdl_elem.specs.Types.{InRange};
+ghost use Rattle.pdl_shape.specs.Broadcast.{BroadcastsTo};
+ghost use Rattle.pdl_shape.specs.Shape.{size_of};
+ghost use Rattle.pdl_ops.specs.Answers.{IsRefused, refusal_named};
+ghost use Rattle.pdl_ops.specs.Values.{fits};
+ghost use Rattle.pdl_world.specs.Sound.{IsLive, IsSound};
+ghost use Rattle.pdl_world.specs.World.{dims_in, elements, ty_in};
+ghost use Rattle.pdl_engine.specs.State.{is_fresh};
+ghost use Rattle.pdl_assign.specs.Blocks.{AreWritten, CanBlock, IsAssigned, block_in, values_in, written_in};
+
+use pdl_buf::{Steps, stretched, strided_dims};
+use pdl_engine::{ArrayId, Engine};
+use pdl_lexemes::AssignOp;
+use pdl_ops::{OpFault, first_divisor, stretches, value_laws, values_part};
+use pdl_shape::{Dims, copy_dims, elements_of};
+use pdl_world::{assignment_laws, part_laws};
+use std::sync::ledger::Ledger;
+
+/// So many values are found and written at once.
+pub const BLOCK: usize = 512;
+
+/// Why an assignment writes nothing, if it is refused: its right side doesn't fit, or a divisor is
+/// 0. All of the right side is looked at, and nothing is changed.
+fn refusal(
+    engine: &Engine,
+    sign: AssignOp,
+    target: ArrayId,
+    source: ArrayId,
+    dims: &Dims,
+) -> Result<(), OpFault>
+    requires target { IsLive engine.now.world target }
+    requires source { IsLive engine.now.world source }
+    requires source_fresh { is_fresh engine.now source ≡ true }
+    requires dims { dims.now ≡ dims_in engine.now.world target }
+    requires can { CanBlock sign engine.now.world target source }
+    ensures fits { OnOk result (fits (dims_in engine.now.world source) dims.now ≡ true) }
+    ensures stretches { OnOk result (BroadcastsTo (dims_in engine.now.world source) dims.now) }
+    ensures never { OnOk result (is_ok (written_in sign engine.now.world target source) ≡ true) }
+    ensures refused { let wanted = values_in sign engine.now target source in
+        IfErr result (λ fault. IsRefused wanted (refusal_named fault)) }
+{
+    let from = engine.lend(source);
+    if !stretches(strided_dims(&from), dims) {
+        return Err(OpFault::Mismatch);
+    }
+    match first_divisor(sign, engine.ty(target), &stretched(&from, dims)) {
+        Some(place) => Err(OpFault::DivideByZero { place }),
+        None => Ok(()),
+    }
+}
+
+/// Finds the values of a block of an assignment, of which the room is as long.
+fn find_block(
+    engine: &Engine,
+    sign: AssignOp,
+    target: ArrayId,
+    source: ArrayId,
+    dims: &Dims,
+    first: u32,
+    values: &mut [i64],
+    left: &mut [i64],
+    right: &mut [i64],
+)
+    requires target { IsLive engine.now.world target }
+    requires source { IsLive engine.now.world source }
+    requires target_fresh { is_fresh engine.now target ≡ true }
+    requires source_fresh { is_fresh engine.now source ≡ true }
+    requires dims { dims.now ≡ dims_in engine.now.world target }
+    requires stretches { BroadcastsTo (dims_in engine.now.world source) dims.now }
+    requires left { length left.old ≡ length values.old }
+    requires right { length right.old ≡ length values.old }
+    requires within { first + length values.old ≤ size_of dims.now }
+    requires never { is_ok (block_in sign engine.now.world target source first (length values.old))
+        ≡ true }
+    ensures value { block_in sign engine.now.world target source first (length values.old)
+        ≡ Ok values.new }
+    ensures in_range { All (InRange (ty_in engine.now.world target)) values.new }
+    ensures count { length values.new ≡ length values.old }
+    ensures left_stays { length left.new ≡ length left.old }
+    ensures right_stays { length right.new ≡ length right.old }
+{
+    let into = engine.lend(target);
+    let from = engine.lend(source);
+    let new = stretched(&from, dims);
+    let _old_count = strided_dims(&into);
+    let _new_count = strided_dims(&new);
+    values_part(sign, &into, &new, first, values, left, right);
+}
+
+/// How many elements an array has that can be lent.
+fn count_of(engine: &Engine, id: ArrayId) -> usize
+    requires live { IsLive engine.now.world id }
+    requires fresh { is_fresh engine.now id ≡ true }
+    ensures elements { result ≡ length (elements engine.now.world id) }
+    ensures dims { result ≡ size_of (dims_in engine.now.world id) }
+    ensures small { result < 2 ^ 32 }
+{
+    let window = engine.lend(id);
+    elements_of(strided_dims(&window)) as usize
+}
+
+/// Finds and writes the values of an assignment that nothing refuses, block by block. It takes a
+/// step for each.
+fn write_blocks<L: Ledger>(
+    engine: &mut Engine,
+    sign: AssignOp,
+    target: ArrayId,
+    source: ArrayId,
+    dims: &Dims,
+    steps: &mut Steps<L>,
+)
+    requires sound { IsSound engine.old.world }
+    requires target { IsLive engine.old.world target }
+    requires source { IsLive engine.old.world source }
+    requires target_fresh { is_fresh engine.old target ≡ true }
+    requires source_fresh { is_fresh engine.old source ≡ true }
+    requires dims { dims.now ≡ dims_in engine.old.world target }
+    requires stretches { BroadcastsTo (dims_in engine.old.world source) dims.now }
+    requires can { CanBlock sign engine.old.world target source }
+    requires never { is_ok (written_in sign engine.old.world target source) ≡ true }
+    ensures written { AreWritten sign engine.old target source engine.new }
+    ensures counted { steps.new ≡ steps.old + size_of (dims_in engine.old.world target) }
+{
+    part_laws();
+    assignment_laws();
+    value_laws();
+    let count = count_of(engine, target);
+    let mut values = [0; BLOCK];
+    let mut left = [0; BLOCK];
+    let mut right = [0; BLOCK];
+    let mut done = 0;
+    while done < count {
+        let size = (count - done).min(BLOCK);
+        let first = done as u32;
+        find_block(
+            engine,
+            sign,
+            target,
+            source,
+            dims,
+            first,
+            &mut values[..size],
+            &mut left[..size],
+            &mut right[..size],
+        );
+        engine.assign_part(target, first, &values[..size], steps);
+        done += size;
+    }
+}
+
+/// Assigns an array to another one by a sign, block by block, where this is the same as all at
+/// once. Both can be lent. All of the right side is looked at before the first write, so a refusal
+/// leaves all as it was; and it takes no memory. The target can be lent afterwards.
+pub fn assign_blocks<L: Ledger>(
+    engine: &mut Engine,
+    sign: AssignOp,
+    target: ArrayId,
+    source: ArrayId,
+    steps: &mut Steps<L>,
+) -> Result<(), OpFault>
+    requires sound { IsSound engine.old.world }
+    requires target { IsLive engine.old.world target }
+    requires source { IsLive engine.old.world source }
+    requires target_fresh { is_fresh engine.old target ≡ true }
+    requires source_fresh { is_fresh engine.old source ≡ true }
+    requires can { CanBlock sign engine.old.world target source }
+    ensures assigned { OnOk result (IsAssigned sign engine.old target source engine.new) }
+    ensures counted { OnOk result
+        (steps.new ≡ steps.old + size_of (dims_in engine.old.world target)) }
+    ensures refused { let wanted = values_in sign engine.old target source in
+        IfErr result (λ fault. IsRefused wanted (refusal_named fault)) }
+    ensures same { OnErr result (engine.new ≡ engine.old) }
+    ensures uncounted { OnErr result (steps.new ≡ steps.old) }
+{
+    let dims = copy_dims(engine.dims(target));
+    match refusal(engine, sign, target, source, &dims) {
+        Ok(()) => {
+            write_blocks(engine, sign, target, source, &dims, steps);
+            Ok(())
+        }
+        Err(fault) => Err(fault),
+    }
+}

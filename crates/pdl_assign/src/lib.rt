@@ -1,0 +1,12 @@
+//! Assignments block by block (PDL::Ops, PDL::Broadcasting): a block of values is found and
+//! written, and then the next one, where this is the same as to find all values first. So no list
+//! of them is kept.
+#![tactic(auto)]
+
+mod blocks;
+mod choosing;
+mod laws;
+
+pub use blocks::{BLOCK, assign_blocks};
+pub use choosing::can_block;
+pub use laws::worked_blocks;

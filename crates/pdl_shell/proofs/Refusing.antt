@@ -1,0 +1,79 @@
+-- The statements that memory refused, as a runner comes further.
+use Rattle.std.proofs.Common.{◌≡◌, ℕ, ◌+◌, ◌^◌, ◌<◌, ◌≤◌, List, [], ◌∷◌, ◌++◌, length, Bool, true, false, cond, refl, sym, ◌∙◌, ap, subst, arith, eq-eqb}
+use Rattle.std.specs.Prelude.{◌||◌, ◌==◌, nat_lt}
+use Rattle.std.specs.List.{All, list_any}
+use Rattle.std.proofs.Math.Nat.{le_refl, le_trans}
+use Rattle.std.proofs.lemmas.Bool.{lt-ltb, ne_eqb}
+use Rattle.std.proofs.lemmas.List.Folds.{list_any-append, list_any_none}
+use Rattle.pdl_machine.specs.Run.{Terms, is_among, is_refused, refused_limit}
+use Rattle.pdl_shell.specs.declared.runner.Runner.{Runner}
+use Rattle.pdl_shell.specs.Course.{Foretells, IsLater}
+
+or_true : (b : Bool) → (b || true) ≡ true
+or_true true = refl
+or_true false = refl
+
+or_false : (b : Bool) → (b || false) ≡ b
+or_false true = refl
+or_false false = refl
+
+-- a number above all of the list isn't among them
+pub unrefused : (ns : List ℕ) (before number : ℕ) → All (λ n. n ≤ before) ns → before < number → is_among ns number ≡ false
+unrefused ns before number all more = list_any_none (λ n. n == number) ns (λ k d lt. apart _ (all k d lt))
+  where
+    apart : (n : ℕ) → n ≤ before → (n == number) ≡ false
+    apart n le = ne_eqb n number (λ is. omega (arith, is, le, more))
+
+pub last_among : (ns : List ℕ) (number : ℕ) → is_among (ns ++ number ∷ []) number ≡ true
+last_among ns number =
+    list_any-append (λ n. n == number) ns (number ∷ [])
+    ∙ ap (λ b. list_any (λ n. n == number) ns || (b || false)) (eq-eqb number number refl)
+    ∙ or_true (list_any (λ n. n == number) ns)
+
+-- a number that is added changes nothing of those below it
+below_last : (ns : List ℕ) (last number : ℕ) → number < last → is_among (ns ++ last ∷ []) number ≡ is_among ns number
+below_last ns last number less =
+    list_any-append (λ n. n == number) ns (last ∷ [])
+    ∙ ap (λ b. list_any (λ n. n == number) ns || (b || false)) (ne_eqb last number (λ is. omega (arith, is, less)))
+    ∙ or_false (list_any (λ n. n == number) ns)
+
+-- a number that is added where there is room
+pub added : (ns : List ℕ) (last : ℕ) → length ns < refused_limit → cond (nat_lt (length ns) refused_limit) (ns ++ last ∷ []) ns ≡ ns ++ last ∷ []
+added ns last room = ap (λ b. cond b (ns ++ last ∷ []) ns) (lt-ltb (length ns) refused_limit room)
+
+added_stays : (ns : List ℕ) (last number : ℕ) → number < last → is_among (cond (nat_lt (length ns) refused_limit) (ns ++ last ∷ []) ns) number ≡ is_among ns number
+added_stays ns last number less =
+    elim (nat_lt (length ns) refused_limit) as (λ b. is_among (cond b (ns ++ last ∷ []) ns) number ≡ is_among ns number) [
+      | true ↦ below_last ns last number less
+      | false ↦ refl
+    ]
+
+pub later_by : (old new : Runner) → old.count ≤ new.count → new.refused ≡ old.refused → IsLater old new
+later_by old new counts same = record { counts = counts; stays = λ n le. ap (λ ns. is_among ns n) same }
+
+pub later_refused : (old new : Runner) → old.count < new.count → new.refused ≡ cond (nat_lt (length old.refused) refused_limit) (old.refused ++ new.count ∷ []) old.refused
+    → IsLater old new
+later_refused old new more is = record {
+  counts = omega (arith, more);
+  stays = λ n le. ap (λ ns. is_among ns n) is ∙ added_stays old.refused new.count n (omega (arith, more, le));
+}
+
+pub later_refl : (runner : Runner) → IsLater runner runner
+later_refl runner = record { counts = le_refl runner.count; stays = λ n le. refl }
+
+pub later_then : (a b c : Runner) → IsLater a b → IsLater b c → IsLater a c
+later_then a b c one two = record {
+  counts = le_trans one.counts two.counts;
+  stays = λ n le. two.stays n (le_trans le one.counts) ∙ one.stays n le;
+}
+
+-- a runner with another cutter
+pub later_same : (old new : Runner) → new ≡ record old { cutter = new.cutter } → IsLater old new
+later_same old new same = subst (λ (r : Runner). IsLater old r) (sym same) (record { counts = le_refl old.count; stays = λ n le. refl })
+
+-- terms that have the refusals of a later runner have those of an earlier one
+pub foretold : (terms : Terms) (old new : Runner) → IsLater old new → Foretells terms new → Foretells terms old
+foretold terms old new later fore = λ n le. fore n (le_trans le later.counts) ∙ later.stays n le
+
+pub foretells_all : (terms : Terms) (runner : Runner) → terms.refused ≡ runner.refused → Foretells terms runner
+foretells_all terms runner is = λ n le. ap (λ ns. is_among ns n) is
