@@ -19,6 +19,9 @@ static volatile int64_t kept;
 
 static void add(void) { for (int i = 0; i < COUNT; i++) z[i] = (int32_t)(x[i] + y[i]); }
 static void add_one(void) { for (int i = 0; i < COUNT; i++) x[i] = (int32_t)(x[i] + 1); }
+static void times_three(void) { for (int i = 0; i < COUNT; i++) x[i] = (int32_t)(x[i] * 3); }
+static void assign(void) { for (int i = 0; i < COUNT; i++) x[i] = (int32_t)y[i]; }
+static void add_stride(void) { for (int i = 0; i < COUNT; i += 2) x[i] = (int32_t)(x[i] + 1); }
 static void compound(void) { for (int i = 0; i < COUNT; i++) z[i] = (int32_t)((int32_t)(x[i] * 3) - y[i]) >> 1; }
 static void greater(void) { for (int i = 0; i < COUNT; i++) z[i] = x[i] > y[i]; }
 static void every_second(void) { for (int i = 0; i < COUNT / 2; i++) z[i] = x[2 * i]; }
@@ -65,7 +68,8 @@ static int run(const char *program) {
 int main(int argc, char **argv) {
     if (argc == 3 && !strcmp(argv[1], "run")) return run(argv[2]);
     struct { const char *name; void (*run)(void); int count; } loops[] = {
-        {"add", add, COUNT}, {"add_one", add_one, COUNT}, {"compound", compound, COUNT},
+        {"add", add, COUNT}, {"add_one", add_one, COUNT}, {"times_three", times_three, COUNT},
+        {"assign", assign, COUNT}, {"add_stride", add_stride, COUNT / 2}, {"compound", compound, COUNT},
         {"greater", greater, COUNT}, {"every_second", every_second, COUNT / 2},
         {"sum", sum, COUNT}, {"sumover", sum, COUNT}, {"sumover_rows", rows, COUNT}, {"sumover_turned", columns, COUNT},
         {"maximum_ind", maximum_ind, COUNT}, {"cumusumover", cumusumover, COUNT},

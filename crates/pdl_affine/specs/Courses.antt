@@ -36,12 +36,12 @@ seen_form (forms.Diagonal listed) = diagonal listed.items
 seen_form forms.Squeezed = squeezed
 seen_form (forms.Clumped count) = clumped count
 
--- what the numbers of a transformation resolve to; want of memory may come at any
+-- what the numbers of a transformation resolve to; `NoMemory` may come at any
 abbrev pub Resolves : Result Form Refusal → Result forms.the_data PlanFault → Type 0
 Resolves wanted (Ok form) = wanted ≡ Ok (seen_form form)
 Resolves wanted (Err fault) = Refuses wanted (refusal_of fault)
 
--- dimensions within the limits, or the refusal; want of memory may come at any
+-- dimensions within the limits, or the refusal; `NoMemory` may come at any
 abbrev pub Limits : Result (List ℕ) Refusal → Result (List ℕ) PlanFault → Type 0
 Limits wanted (Ok ms) = wanted ≡ Ok ms
 Limits wanted (Err fault) = Refuses wanted (refusal_of fault)
@@ -91,7 +91,7 @@ Stands (forms.Diagonal listed) n = Unit {0}
 Stands forms.Squeezed n = Unit {0}
 Stands (forms.Clumped count) n = count ≤ n
 
--- the limit that refuses the sizes of a form; want of memory may come at any
+-- the limit that refuses the sizes of a form; `NoMemory` may come at any
 abbrev pub IsLimit : Form → List ℕ → PlanFault → Type 0
 IsLimit form ds fault = Refuses (checked_dims (sizes form ds)) (refusal_of fault)
 

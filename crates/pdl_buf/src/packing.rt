@@ -124,8 +124,8 @@ impl Packing {
         })
     }
 
-    /// Puts these numbers, which are in the type's range, after the others. Where memory is wanting
-    /// it puts none.
+    /// Puts these numbers, which are in the type's range, after the others. Out of memory it
+    /// puts none.
     pub fn extend(&mut self, numbers: &[i64]) -> Result<(), AllocError>
         requires { All (InRange self.old.ty) numbers.now }
         ensures ok { let elems = self.old.elems ++ numbers.now in

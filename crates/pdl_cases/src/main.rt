@@ -13,6 +13,7 @@ mod escapes;
 mod kernel_code;
 mod nice;
 mod numbers;
+mod rebuilt;
 mod script;
 mod session;
 mod slices;
@@ -30,6 +31,7 @@ use std::{fs, io};
 #[derive(Clone, Copy)]
 enum Call {
     Script,
+    Rebuilt,
     Session,
     Status,
     Cut,
@@ -55,6 +57,7 @@ enum Call {
 
 const CALLS: &[(&str, Call)] = &[
     ("script", Call::Script),
+    ("rebuilt", Call::Rebuilt),
     ("session", Call::Session),
     ("status", Call::Status),
     ("cut", Call::Cut),
@@ -82,6 +85,7 @@ const CALLS: &[(&str, Call)] = &[
 fn make_call(line: &mut Cursor<'_>, answer: &mut Answer) -> Option<()> {
     match line.named(CALLS)? {
         Call::Script => script::script_answer(line, answer),
+        Call::Rebuilt => rebuilt::rebuilt_answer(line, answer),
         Call::Session => session::session_answer(line, answer),
         Call::Status => script::status_answer(line, answer),
         Call::Cut => tokens::cut(line, answer),

@@ -8,7 +8,7 @@ use pdl_elem::Items;
 use pdl_shape::{Dims, ShapeFault, dims_of, size};
 use std::alloc::{AllocError, Global};
 
-/// Want of memory.
+/// Out of memory.
 pub use std::alloc::AllocError as NoMemory;
 
 /// The position in the parent for each position of a view, in order; `None` beyond an edge that
@@ -40,7 +40,7 @@ pub enum ChoiceFault {
     TooManyDims,
     /// The view's sizes that aren't 0 would have a product above 1,048,576.
     TooLarge,
-    /// Want of memory.
+    /// Out of memory.
     NoMemory,
 }
 

@@ -162,8 +162,8 @@ before_code c o = option_map (λ y. (join_code c y.0, y.1)) o
 
 -- the further operators of level `suc l`, at most k of them, where `inner` reads
 -- what stands between them
-unfoldable pub chain_at : (List Lexeme → Read RawTree) → ℕ → ℕ → RawTree →
-    List Lexeme → Read RawTree
+unfoldable pub chain_at : (inner : List Lexeme → Read RawTree) → (l most : ℕ) →
+    (first : RawTree) → List Lexeme → Read RawTree
 chain_at inner l zero t ts = Some (t, ts)
 chain_at inner l (suc k) t ts =
     either (Some (t, ts))

@@ -31,7 +31,7 @@ code_in signature text =
     if is_too_deep (lexed text).lexemes then Err TooDeep
     else meant_by signature text (spelled_by (lexed text))
 
--- a fault is the one that is wanted; want of memory may come at any text
+-- a fault is the one that is wanted; `NoMemory` may come at any text
 abbrev pub IsFault : Result Code KernelFault → KernelFault → Type 0
 IsFault wanted NoMemory = Unit {0}
 IsFault wanted fault = wanted ≡ Err fault

@@ -4,8 +4,8 @@ use std::alloc::AllocError;
 
 /// Why a text gives no code. The first two are looked for first, in this order; of the others,
 /// which are about names, the one that stands first in the text is answered, with the place of the
-/// first byte of the name, the word or the closing bracket that is refused. Only want of memory may
-/// be answered at any text.
+/// first byte of the name, the word or the closing bracket that is refused. Only `NoMemory` may be
+/// answered at any text.
 #[derive(Clone, Copy, PartialEq, Eq, Debug)]
 pub enum KernelFault {
     /// Before the first byte that begins no token, more than 64 of `(` and `%{` are open at once,

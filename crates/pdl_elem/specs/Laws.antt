@@ -1,10 +1,13 @@
--- What holds of all numbers that are wrapped.
+-- What holds of all numbers that are wrapped, and of what operators give.
 use Rattle.std.specs.Prelude.{◌≡◌, ℤ, pos}
 use Rattle.std.specs.Int.{int_wrap, w64}
 use Rattle.pdl_elem.specs.declared.Ty.{Ty}
 use Rattle.pdl_elem.specs.declared.Ty.TheVariants.{Longlong}
-use Rattle.pdl_elem.specs.Types.{InRange}
+use Rattle.pdl_elem.specs.declared.BinaryOp.{BinaryOp}
+use Rattle.pdl_elem.specs.declared.UnaryOp.{UnaryOp}
+use Rattle.pdl_elem.specs.Types.{InRange, unary_result, binary_result}
 use Rattle.pdl_elem.specs.Numbers.{wrapped}
+use Rattle.pdl_elem.specs.Operators.{unary_value, value_of}
 
 -- A wrapped number is in the type's range, and one that is in the range already stays as it
 -- is. To wrap at 64 bits first changes nothing, so what is computed in machine words may be
@@ -16,3 +19,8 @@ pub record WrappingLaws : Type 0 where
   pub late : (t : Ty) (n : ℤ) → wrapped t (int_wrap w64 n) ≡ wrapped t n
   pub zero : (t : Ty) → InRange t (pos 0)
   pub widest : (t : Ty) (n : ℤ) → InRange t n → InRange Longlong n
+
+-- What an operator gives is a number of the type of its result.
+pub record OperatorLaws : Type 0 where
+  pub unary : (op : UnaryOp) (t : Ty) (a : ℤ) → InRange (unary_result op t) (unary_value op t a)
+  pub binary : (op : BinaryOp) (t : Ty) (a b : ℤ) → InRange (binary_result op t t) (value_of op t a b)

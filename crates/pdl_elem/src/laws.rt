@@ -1,7 +1,12 @@
 //! Laws of the definitions, for the proofs of the crates above.
-ghost use Rattle.pdl_elem.specs.Laws.{WrappingLaws};
+ghost use Rattle.pdl_elem.specs.Laws.{OperatorLaws, WrappingLaws};
 
 /// The laws of wrapping. It does nothing: who calls it has them.
 pub fn wrapping_laws()
     ensures { WrappingLaws }
+{}
+
+/// The laws of the operators' results. It does nothing: who calls it has them.
+pub fn operator_laws()
+    ensures { OperatorLaws }
 {}

@@ -14,7 +14,7 @@ mod words;
 
 pub use blocks::{binary_all, unary_all, wrap_all};
 pub use items::Items;
-pub use laws::wrapping_laws;
+pub use laws::{operator_laws, wrapping_laws};
 pub use naming::{type_name, type_named, type_word};
 pub use operators::{binary, binary_type, promote, unary, unary_type, wrap};
 pub use strings::{Name, Text};

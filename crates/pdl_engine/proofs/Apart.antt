@@ -4,7 +4,7 @@ use Rattle.std.specs.Prelude.{unsigned_abs}
 use Rattle.std.proofs.lemmas.Int.{ints}
 use Rattle.std.proofs.Math.Nat.{mul-le-mul_left}
 use Rattle.pdl_shape.specs.Triple.{Triple, moved}
-use Rattle.pdl_engine.specs.Apart.{AreApart, LiesApart}
+use Rattle.pdl_engine.specs.Apart.{KeepApart, LiesApart}
 
 -- a number has one remainder below m, and one quotient
 same_parts : (m a b c u : ℕ) → a < m → b < m → a + m * c ≡ b + m * u → (a ≡ b) × (c ≡ u)
@@ -37,7 +37,7 @@ back : (a b k c u : ℕ) (x y : ℤ) → pos a +ℤ ((negsuc k *ℤ pos c) +ℤ 
 back a b k c u x y e = beside a b (suc k * c) (suc k * u) (negsuc k *ℤ pos c) (negsuc k *ℤ pos u) x y (negated k c) (negated k u) e
 
 -- one dimension more, along which one step goes further than n
-apart_on : (n m d : ℕ) (z : ℤ) (is : List ℤ) (ds : List ℕ) → unsigned_abs z ≡ m → n < m → AreApart (n + m * (d - 1)) is ds → AreApart n (z ∷ is) (d ∷ ds)
+apart_on : (n m d : ℕ) (z : ℤ) (is : List ℤ) (ds : List ℕ) → unsigned_abs z ≡ m → n < m → KeepApart (n + m * (d - 1)) is ds → KeepApart n (z ∷ is) (d ∷ ds)
 apart_on n m d z is ds s h f a b [] us la lb w x e = absurd w
 apart_on n m d z is ds s h f a b (c ∷ cs) [] la lb w x e = absurd x
 apart_on n m d (pos k) is ds s h f a b (c ∷ cs) (u ∷ us) la lb w x e =
@@ -57,7 +57,7 @@ apart_on n m d (negsuc k) is ds s h f a b (c ∷ cs) (u ∷ us) la lb w x e =
 flat : (a c : ℕ) (z x : ℤ) → c ≡ 0 → pos a +ℤ ((z *ℤ pos c) +ℤ x) ≡ pos a +ℤ x
 flat a c z x h = (let e : z *ℤ pos c ≡ pos 0 = ap (λ i. z *ℤ pos i) h ∙ grind (arith, ints) in grind (arith, ints, e))
 
-apart_past : (n d : ℕ) (z : ℤ) (is : List ℤ) (ds : List ℕ) → d ≤ 1 → AreApart n is ds → AreApart n (z ∷ is) (d ∷ ds)
+apart_past : (n d : ℕ) (z : ℤ) (is : List ℤ) (ds : List ℕ) → d ≤ 1 → KeepApart n is ds → KeepApart n (z ∷ is) (d ∷ ds)
 apart_past n d z is ds h f a b [] us la lb w x e = absurd w
 apart_past n d z is ds h f a b (c ∷ cs) [] la lb w x e = absurd x
 apart_past n d z is ds h f a b (c ∷ cs) (u ∷ us) la lb w x e =
@@ -69,27 +69,27 @@ apart_past n d z is ds h f a b (c ∷ cs) (u ∷ us) la lb w x e =
 plain : (a b : ℕ) → pos a +ℤ pos 0 ≡ pos b +ℤ pos 0 → a ≡ b
 plain a b e = omega (arith, ints, e)
 
-none_apart : (n : ℕ) → AreApart n [] []
+none_apart : (n : ℕ) → KeepApart n [] []
 none_apart n a b [] [] la lb w x e = (plain a b e, refl)
 none_apart n a b [] (u ∷ us) la lb w x e = absurd x
 none_apart n a b (c ∷ cs) us la lb w x e = absurd w
 
 -- ---- by the first size and increment of lists
-pub past_first : (n d : ℕ) (z : ℤ) (is js : List ℤ) (ds es : List ℕ) → js ≡ z ∷ is → es ≡ d ∷ ds → d ≤ 1 → AreApart n is ds → AreApart n js es
-past_first n d z is js ds es p q h f = subst (λ us. AreApart n us es) (sym p) (subst (λ us. AreApart n (z ∷ is) us) (sym q) (apart_past n d z is ds h f))
+pub past_first : (n d : ℕ) (z : ℤ) (is js : List ℤ) (ds es : List ℕ) → js ≡ z ∷ is → es ≡ d ∷ ds → d ≤ 1 → KeepApart n is ds → KeepApart n js es
+past_first n d z is js ds es p q h f = subst (λ us. KeepApart n us es) (sym p) (subst (λ us. KeepApart n (z ∷ is) us) (sym q) (apart_past n d z is ds h f))
 
-pub on_first : (n reach d : ℕ) (z : ℤ) (is js : List ℤ) (ds es : List ℕ) → js ≡ z ∷ is → es ≡ d ∷ ds → n < unsigned_abs z → reach ≡ n + unsigned_abs z * (d - 1) → AreApart reach is ds → AreApart n js es
+pub on_first : (n reach d : ℕ) (z : ℤ) (is js : List ℤ) (ds es : List ℕ) → js ≡ z ∷ is → es ≡ d ∷ ds → n < unsigned_abs z → reach ≡ n + unsigned_abs z * (d - 1) → KeepApart reach is ds → KeepApart n js es
 on_first n reach d z is js ds es p q h r f =
-    subst (λ us. AreApart n us es) (sym p) (subst (λ us. AreApart n (z ∷ is) us) (sym q) (apart_on n (unsigned_abs z) d z is ds refl h (subst (λ k. AreApart k is ds) r f)))
+    subst (λ us. KeepApart n us es) (sym p) (subst (λ us. KeepApart n (z ∷ is) us) (sym q) (apart_on n (unsigned_abs z) d z is ds refl h (subst (λ k. KeepApart k is ds) r f)))
 
-pub no_first : (n : ℕ) (js : List ℤ) (es : List ℕ) → js ≡ [] → es ≡ [] → AreApart n js es
-no_first n js es p q = subst (λ us. AreApart n us es) (sym p) (subst (λ us. AreApart n [] us) (sym q) (none_apart n))
+pub no_first : (n : ℕ) (js : List ℤ) (es : List ℕ) → js ≡ [] → es ≡ [] → KeepApart n js es
+no_first n js es p q = subst (λ us. KeepApart n us es) (sym p) (subst (λ us. KeepApart n [] us) (sym q) (none_apart n))
 
 -- ---- a triple
 without : (n : ℕ) (x y : ℤ) → pos n +ℤ x ≡ pos n +ℤ y → pos 0 +ℤ x ≡ pos 0 +ℤ y
 without n x y e = grind (arith, ints, e)
 
-pub triple_apart : (t : Triple) (is : List ℤ) (ds : List ℕ) → is ≡ t.incs → ds ≡ t.dims → AreApart 0 is ds → LiesApart t
+pub triple_apart : (t : Triple) (is : List ℤ) (ds : List ℕ) → is ≡ t.incs → ds ≡ t.dims → KeepApart 0 is ds → LiesApart t
 triple_apart t is ds p q f cs us w x e =
-    let g : AreApart 0 t.incs t.dims = subst (λ js. AreApart 0 js t.dims) p (subst (λ es. AreApart 0 is es) q f) in
+    let g : KeepApart 0 t.incs t.dims = subst (λ js. KeepApart 0 js t.dims) p (subst (λ es. KeepApart 0 is es) q f) in
     (g 0 0 cs us (omega arith) (omega arith) w x (without t.offset (moved t.incs cs) (moved t.incs us) e)).1

@@ -25,7 +25,7 @@ use Rattle.pdl_nodes.specs.RowLaws.{RowLaws}
 use Rattle.pdl_nodes.specs.Rows.{Rows, row_at, has, Falls}
 use Rattle.pdl_nodes.specs.Seen.{IsSeen}
 use Rattle.pdl_nodes.specs.Still.{IsStill}
-use Rattle.pdl_nodes.specs.Worlds.{with_elements, shape, latest, world_of, places_in, places_of}
+use Rattle.pdl_nodes.specs.Worlds.{with_elements, shape, latest, world_of, places_in, places_seen}
 use Rattle.pdl_engine.specs.State.{base, outdated_at, outdated, waiting_at, waiting, waiting_size, target, TargetIsFresh, State, PathIsFresh}
 use Rattle.pdl_engine.specs.StateOf.{fresh_among, state_of, pending_in, pending_onto}
 use Rattle.pdl_engine.proofs.Stating.{root_are, fresh_is, path_live, path_with, live_has}
@@ -38,7 +38,7 @@ window_with f ((k, view p t) ∷ w) v = ap (λ o. cond (eqb k v) (option_and_the
 pub base_are : (facts : RowLaws) → (rs : Rows) (v : ℕ) → IsStill rs → has rs v ≡ true → base (world_of rs) v ≡ (row_at rs v).base
 base_are facts rs v s h = ap (λ o. option_map_or (λ (x : Window). x.base) o v) (window_with (latest rs) (shape rs) v ∙ (facts.seen.is_seen rs s v h).windows)
 
-pub places_are : (facts : RowLaws) → (rs : Rows) (v : ℕ) → places_in (world_of rs) v ≡ places_of rs v
+pub places_are : (facts : RowLaws) → (rs : Rows) (v : ℕ) → places_in (world_of rs) v ≡ places_seen rs v
 places_are facts rs v = ap (λ o. option_map_or (λ l. l.places) o []) (facts.seen.look_with (latest rs) (shape rs) v)
 
 sum_same : (f g : ℕ → ℕ) (xs : List ℕ) → All (λ x. f x ≡ g x) xs → sum_by f xs ≡ sum_by g xs
@@ -104,7 +104,7 @@ pub target_is : (facts : RowLaws) → (rs : Rows) (v : ℕ) → IsStill rs → h
 target_is facts rs v s h =
     ap (λ b. cond (has_repeats (places_in (world_of rs) b)) (root_of (world_of rs) v) b) (base_are facts rs v s h)
     ∙ ap (λ ps. cond (has_repeats ps) (root_of (world_of rs) v) (row_at rs v).base) (places_are facts rs (row_at rs v).base)
-    ∙ ap (λ r. cond (has_repeats (places_of rs (row_at rs v).base)) r (row_at rs v).base) (root_are facts rs v s h)
+    ∙ ap (λ r. cond (has_repeats (places_seen rs (row_at rs v).base)) r (row_at rs v).base) (root_are facts rs v s h)
 
 -- what is shown by the target can be lent
 pub target_fresh : (facts : RowLaws) → (old new : Rows) (hs gs : Counts) (n m v : ℕ) → IsStill old → IsStill new → has old v ≡ true → IsAlike old new → MarksTarget old v new → TargetIsFresh (state_of old hs n) v (state_of new gs m)

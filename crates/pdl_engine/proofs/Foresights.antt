@@ -22,7 +22,7 @@ use Rattle.pdl_nodes.specs.Row.{Row}
 use Rattle.pdl_nodes.specs.RowLaws.{RowLaws}
 use Rattle.pdl_nodes.specs.Rows.{Rows, NumbersBelow, has, row_at}
 use Rattle.pdl_nodes.specs.Still.{IsStill, StillFrom}
-use Rattle.pdl_nodes.specs.Worlds.{IsRoot, def_from, def_of, latest, places_of, shape, with_elements, world_of}
+use Rattle.pdl_nodes.specs.Worlds.{IsRoot, def_from, def_of, latest, places_seen, shape, with_elements, world_of}
 use Rattle.pdl_nodes.specs.declared.origin.Origin.{Origin}
 use Rattle.pdl_nodes.specs.declared.origin.Origin.TheVariants.{Root, View}
 use Rattle.pdl_engine.specs.declared.foreseeing.Foresight.{Foresight}
@@ -52,7 +52,7 @@ roots_with facts f ((k, r) ∷ rs) v s i = elim (eqb_tells k v) [
 
 -- an array of the target's root shows what the values leave of the root's elements
 pub shown_within : (facts : RowLaws) → Reads → (rs : Rows) (v u : ℕ) (vs : List ℤ) → IsStill rs → has rs v ≡ true → has rs u ≡ true → (row_at rs v).root ≡ (row_at rs u).root
-    → elements (assign (world_of rs) v vs) u ≡ read (places_of rs u) (write (places_of rs v) vs (root_elements (world_of rs) (row_at rs v).root))
+    → elements (assign (world_of rs) v vs) u ≡ read (places_seen rs u) (write (places_seen rs v) vs (root_elements (world_of rs) (row_at rs v).root))
 shown_within facts reads rs v u vs s h g e =
     reads (world_of rs) v u _ _ vs (look_is facts rs v s h) (look_is facts rs u s g)
     ∙ rw (eq-eqb (row_at rs u).root (row_at rs v).root (sym e)) refl
@@ -84,7 +84,7 @@ roots_differ x y m n a b = (to, from)
 
 -- the places that a fresh array has, as what its row and its base's say
 pub places_now : (facts : RowLaws) → (rs : Rows) (v : ℕ) (n b : Row) (k : Option (List (Option ℕ))) (t : Triple) → InOrder rs → AreKnown rs → has rs v ≡ true → is_fresh_in rs v ≡ true
-    → n ≡ row_at rs v → b ≡ row_at rs n.base → k ≡ b.places → t ≡ n.triple → placed_by k t ≡ places_of rs v
+    → n ≡ row_at rs v → b ≡ row_at rs n.base → k ≡ b.places → t ≡ n.triple → placed_by k t ≡ places_seen rs v
 places_now facts rs v n b k t o a h f en eb ek et =
     ap (λ x. placed_by x t) (ek ∙ ap (λ (r : Row). r.places) (eb ∙ ap (λ (r : Row). row_at rs r.base) en))
     ∙ ap (placed_by (row_at rs (row_at rs v).base).places) (et ∙ ap (λ (r : Row). r.triple) en)
@@ -175,13 +175,13 @@ root_small facts rs v o h =
 -- a root shows its elements
 pub root_shown : (facts : RowLaws) → (rs : Rows) (r : ℕ) → InOrder rs → IsRoot rs r → elements (world_of rs) r ≡ root_elements (world_of rs) r
 root_shown facts rs r o i =
-    facts.seen.elements_are rs r o.still i.0 ∙ ap (λ x. read (places_of rs r) (latest rs x)) i.1
+    facts.seen.elements_are rs r o.still i.0 ∙ ap (λ x. read (places_seen rs r) (latest rs x)) i.1
     ∙ facts.seen.root_shows rs r (latest rs r) o.still i (facts.seen.length_latest rs r ∙ (o.family r i).count)
     ∙ sym (roots_with facts (latest rs) rs r o.still i)
 
 -- the values written by the target's places tell what is assigned to it
 pub foretold : (facts : RowLaws) → (rs : Rows) (v : ℕ) (vs : List ℤ) (f : Foresight) (ps : List (Option ℕ)) → InOrder rs → has rs v ≡ true
-    → f.root ≡ (row_at rs v).root → ps ≡ places_of rs v → Tells (root_elements (world_of rs) (row_at rs v).root) f.written ps vs → Foretells (world_of rs) v vs f
+    → f.root ≡ (row_at rs v).root → ps ≡ places_seen rs v → Tells (root_elements (world_of rs) (row_at rs v).root) f.written ps vs → Foretells (world_of rs) v vs f
 foretold facts rs v vs f ps o h root places tells = record {
   live = has_live facts rs v o.still h;
   root = root ∙ sym (root_are facts rs v o.still h);
@@ -193,22 +193,22 @@ foretold facts rs v vs f ps o h root places tells = record {
 
 -- and what an array of its root shows after it
 pub foreseen_is : (facts : RowLaws) → Reads → PlacesLieWithin → (rs : Rows) (u v : ℕ) (vs : List ℤ) (f : Foresight) (before after : List ℤ) (qs : List (Option ℕ)) → InOrder rs → IsSound (world_of rs)
-    → has rs u ≡ true → f.root ≡ (row_at rs u).root → before ≡ elements (world_of rs) u → qs ≡ places_of rs u → after ≡ elements_after f.written qs before → Foretells (world_of rs) v vs f
+    → has rs u ≡ true → f.root ≡ (row_at rs u).root → before ≡ elements (world_of rs) u → qs ≡ places_seen rs u → after ≡ elements_after f.written qs before → Foretells (world_of rs) v vs f
     → (before ≡ elements (world_of rs) u) × (after ≡ elements (assign (world_of rs) v vs) u)
 foreseen_is facts reads within rs u v vs f before after qs o sound g family b q a tells =
     let w : World = world_of rs in
     let h : has rs v ≡ true = live_has facts rs v tells.live in
     let es : List ℤ = root_elements w f.root in
     let root : f.root ≡ (row_at rs v).root = tells.root ∙ root_are facts rs v o.still h in
-    let seen : places_in w v ≡ places_of rs v = ap (λ l. option_map_or (λ (l : Look). l.places) l []) (look_is facts rs v o.still h) in
-    let shown : elements w u ≡ read (places_of rs u) es =
+    let seen : places_in w v ≡ places_seen rs v = ap (λ l. option_map_or (λ (l : Look). l.places) l []) (look_is facts rs v o.still h) in
+    let shown : elements w u ≡ read (places_seen rs u) es =
     ap (λ l. option_map_or (λ (l : Look). read l.places (root_elements w l.root)) l []) (look_is facts rs u o.still g)
-    ∙ ap (λ (r : ℕ). read (places_of rs u) (root_elements w r)) (sym family) in (
+    ∙ ap (λ (r : ℕ). read (places_seen rs u) (root_elements w r)) (sym family) in (
       b,
-      a ∙ ap (λ (ps : List (Option ℕ)). elements_after f.written ps before) q ∙ ap (elements_after f.written (places_of rs u)) (b ∙ shown)
-          ∙ after_is f.written (places_in w v) (places_of rs u) vs es tells.written
+      a ∙ ap (λ (ps : List (Option ℕ)). elements_after f.written ps before) q ∙ ap (elements_after f.written (places_seen rs u)) (b ∙ shown)
+          ∙ after_is f.written (places_in w v) (places_seen rs u) vs es tells.written
           (λ j i is. subst (λ (r : ℕ). i < length (root_elements w r)) (sym family) (within w u _ j i sound (look_is facts rs u o.still g) is))
-          ∙ ap (λ (ps : List (Option ℕ)). read (places_of rs u) (write ps vs es)) seen
-          ∙ ap (λ (r : ℕ). read (places_of rs u) (write (places_of rs v) vs (root_elements w r))) root
+          ∙ ap (λ (ps : List (Option ℕ)). read (places_seen rs u) (write ps vs es)) seen
+          ∙ ap (λ (r : ℕ). read (places_seen rs u) (write (places_seen rs v) vs (root_elements w r))) root
           ∙ sym (shown_within facts reads rs v u vs o.still h g (sym root ∙ family)),
     )

@@ -17,7 +17,7 @@ use Rattle.pdl_nodes.specs.Row.{Row}
 use Rattle.pdl_nodes.specs.RowLaws.{RowLaws}
 use Rattle.pdl_nodes.specs.Rows.{Rows, NumbersBelow, row_at}
 use Rattle.pdl_nodes.specs.Still.{IsStill, StillFrom}
-use Rattle.pdl_nodes.specs.Worlds.{IsRoot, def_from, def_of, places_of, shape}
+use Rattle.pdl_nodes.specs.Worlds.{IsRoot, def_from, def_of, places_seen, shape}
 use Rattle.pdl_nodes.specs.declared.origin.Origin.{Origin}
 use Rattle.pdl_nodes.specs.declared.origin.Origin.TheVariants.{Root, View}
 use Rattle.pdl_engine.specs.declared.by_place.Written.TheVariants.{Image}
@@ -107,5 +107,5 @@ root_look facts ((k, r) ∷ rs) v s i = elim (eqb_tells k v) [
 ]
 
 -- the places of a root are all of them, in order
-pub root_places : (facts : RowLaws) → (rs : Rows) (v : ℕ) → IsStill rs → IsRoot rs v → places_of rs v ≡ in_order (size_of (row_at rs v).triple.dims)
+pub root_places : (facts : RowLaws) → (rs : Rows) (v : ℕ) → IsStill rs → IsRoot rs v → places_seen rs v ≡ in_order (size_of (row_at rs v).triple.dims)
 root_places facts rs v s i = ap (λ (o : Option Look). option_map_or (λ (l : Look). l.places) o []) (root_look facts rs v s i)

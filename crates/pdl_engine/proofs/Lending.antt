@@ -22,7 +22,7 @@ use Rattle.pdl_nodes.specs.RowLaws.{RowLaws}
 use Rattle.pdl_nodes.specs.Rows.{Rows, row_at, has}
 use Rattle.pdl_nodes.specs.Seen.{IsSeen}
 use Rattle.pdl_nodes.specs.Spots.{spots, Below}
-use Rattle.pdl_nodes.specs.Worlds.{places_of, latest, world_of}
+use Rattle.pdl_nodes.specs.Worlds.{places_seen, latest, world_of}
 
 -- a whole number whose size lies below n lies below n
 small_abs : (z : ℤ) (n : ℕ) → unsigned_abs z < n → z <ℤ pos n
@@ -55,14 +55,14 @@ fresh_base facts rs v o h f =
     let s : IsSeen rs v = facts.seen.is_seen rs o.still v h in
     record { seen = s; marked = (o.family (row_at rs v).root (s.root_has, s.root_root)).marked (row_at rs v).base f s.base_root }
 
-kept_is : (rs : Rows) (v : ℕ) (y : IsFreshBase rs v) → (row_at rs (row_at rs v).base).kept ≡ read (places_of rs (row_at rs v).base) (latest rs (row_at rs v).root)
-kept_is rs v y = y.marked.shows ∙ ap (λ x. read (places_of rs (row_at rs v).base) (latest rs x)) y.seen.base_root
+kept_is : (rs : Rows) (v : ℕ) (y : IsFreshBase rs v) → (row_at rs (row_at rs v).base).kept ≡ read (places_seen rs (row_at rs v).base) (latest rs (row_at rs v).root)
+kept_is rs v y = y.marked.shows ∙ ap (λ x. read (places_seen rs (row_at rs v).base) (latest rs x)) y.seen.base_root
 
 -- a fresh base keeps as many elements as it has positions, and the array reaches no further
 base_count : (facts : RowLaws) → (rs : Rows) (v : ℕ) → InOrder rs → has rs v ≡ true → is_fresh_in rs v ≡ true → length (row_at rs (row_at rs v).base).kept ≡ size_of (row_at rs (row_at rs v).base).triple.dims
 base_count facts rs v o h f =
     let y : IsFreshBase rs v = fresh_base facts rs v o h f in
-    ap length (kept_is rs v y) ∙ length-map (places_of rs (row_at rs v).base) (element_at (latest rs (row_at rs v).root)) ∙ (facts.seen.is_seen rs o.still (row_at rs v).base y.seen.base_has).count
+    ap length (kept_is rs v y) ∙ length-map (places_seen rs (row_at rs v).base) (element_at (latest rs (row_at rs v).root)) ∙ (facts.seen.is_seen rs o.still (row_at rs v).base y.seen.base_has).count
 
 base_reaches : (facts : RowLaws) → PositionLaws → (rs : Rows) (v : ℕ) → InOrder rs → has rs v ≡ true → is_fresh_in rs v ≡ true → Reaches (row_at rs v).triple (length (row_at rs (row_at rs v).base).kept)
 base_reaches facts laws rs v o h f =
@@ -80,8 +80,8 @@ pub lent_elements : (facts : RowLaws) → (rs : Rows) (v : ℕ) → InOrder rs �
 lent_elements facts rs v o h f =
     let y : IsFreshBase rs v = fresh_base facts rs v o h f in
     ap (shown_through (row_at rs v).triple) (kept_is rs v y)
-    ∙ sym (map-map (λ i. get_or (read (places_of rs (row_at rs v).base) (latest rs (row_at rs v).root)) i (pos 0)) (place_at (row_at rs v).triple) (range_with_len 0 (size_of (row_at rs v).triple.dims)))
-    ∙ sym (read_over (places_of rs (row_at rs v).base) (spots (row_at rs v).triple) (latest rs (row_at rs v).root))
+    ∙ sym (map-map (λ i. get_or (read (places_seen rs (row_at rs v).base) (latest rs (row_at rs v).root)) i (pos 0)) (place_at (row_at rs v).triple) (range_with_len 0 (size_of (row_at rs v).triple.dims)))
+    ∙ sym (read_over (places_seen rs (row_at rs v).base) (spots (row_at rs v).triple) (latest rs (row_at rs v).root))
     ∙ ap (λ ps. read ps (latest rs (row_at rs v).root)) (sym y.seen.over)
     ∙ sym (facts.seen.elements_are rs v o.still h)
 

@@ -26,6 +26,8 @@ mod PathHolds
 mod Looks
 mod RootsSeen
 mod Resting
+mod Pending
 mod WorkedCalls
+mod Runs
 mod Apart
 mod Once

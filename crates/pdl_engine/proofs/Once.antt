@@ -14,12 +14,12 @@ use Rattle.pdl_nodes.specs.Families.{InOrder}
 use Rattle.pdl_nodes.specs.RowLaws.{RowLaws}
 use Rattle.pdl_nodes.specs.Rows.{Rows, has, row_at}
 use Rattle.pdl_nodes.specs.Spots.{spots}
-use Rattle.pdl_nodes.specs.Worlds.{places_of}
+use Rattle.pdl_nodes.specs.Worlds.{places_seen}
 use Rattle.pdl_engine.specs.Apart.{LiesApart}
 
 -- a marked base knows whether it has repeats
 pub flag_is : (facts : RowLaws) → (rs : Rows) (v : ℕ) → InOrder rs → has rs v ≡ true → (row_at rs (row_at rs v).base).mark ≡ true
-    → (row_at rs (row_at rs v).base).repeats ≡ has_repeats (places_of rs (row_at rs v).base)
+    → (row_at rs (row_at rs v).base).repeats ≡ has_repeats (places_seen rs (row_at rs v).base)
 flag_is facts rs v o h m =
     ((o.family (row_at rs v).root (facts.seen.root_live rs (row_at rs v).root v o.still h refl)).marked (row_at rs v).base m (facts.seen.is_seen rs o.still v h).base_root).flag
 
@@ -78,6 +78,6 @@ once_through laws found twice qs t ok apart once = elim (cases_Bool (has_repeats
 ]
 
 pub once_over : (facts : RowLaws) → PositionLaws → RepeatsHavePositions → PositionsRepeat → (rs : Rows) (v : ℕ) → InOrder rs → has rs v ≡ true → IsTriple (row_at rs v).triple → LiesApart (row_at rs v).triple
-    → has_repeats (places_of rs (row_at rs v).base) ≡ false → has_repeats (places_of rs v) ≡ false
+    → has_repeats (places_seen rs (row_at rs v).base) ≡ false → has_repeats (places_seen rs v) ≡ false
 once_over facts laws found twice rs v o h ok apart once =
-    ap has_repeats (facts.seen.is_seen rs o.still v h).over ∙ once_through laws found twice (places_of rs (row_at rs v).base) (row_at rs v).triple ok apart once
+    ap has_repeats (facts.seen.is_seen rs o.still v h).over ∙ once_through laws found twice (places_seen rs (row_at rs v).base) (row_at rs v).triple ok apart once

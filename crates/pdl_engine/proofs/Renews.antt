@@ -22,7 +22,7 @@ use Rattle.pdl_nodes.specs.Rows.{Rows, row_at, has, NumbersBelow}
 use Rattle.pdl_nodes.specs.Seen.{IsSeen}
 use Rattle.pdl_nodes.specs.Sized.{AreSized}
 use Rattle.pdl_nodes.specs.Still.{IsStill, StillFrom}
-use Rattle.pdl_nodes.specs.Worlds.{places_of, latest, world_of, def_from, shape, with_elements, def_of, IsRoot}
+use Rattle.pdl_nodes.specs.Worlds.{places_seen, latest, world_of, def_from, shape, with_elements, def_of, IsRoot}
 use Rattle.pdl_nodes.specs.declared.origin.Origin.{Origin}
 use Rattle.pdl_nodes.specs.declared.origin.Origin.TheVariants.{Root, View}
 use Rattle.pdl_engine.specs.Severed.{BasesAreFresh, ChangesRows, RowsAreSettled}
@@ -30,7 +30,7 @@ use Rattle.pdl_engine.proofs.Fits.{fitted_all, length_fitted}
 use Rattle.pdl_engine.proofs.Readied.{IsFreshly, only_ready}
 
 elements_count : (facts : RowLaws) → (rs : Rows) (v : ℕ) → IsStill rs → has rs v ≡ true → length (elements (world_of rs) v) ≡ size_of (row_at rs v).triple.dims
-elements_count facts rs v s h = ap length (facts.seen.elements_are rs v s h) ∙ length-map (places_of rs v) (element_at (latest rs (row_at rs v).root)) ∙ (facts.seen.is_seen rs s v h).count
+elements_count facts rs v s h = ap length (facts.seen.elements_are rs v s h) ∙ length-map (places_seen rs v) (element_at (latest rs (row_at rs v).root)) ∙ (facts.seen.is_seen rs s v h).count
 
 -- the first elements of an array, as many as it has, are all
 pub first_all : (facts : RowLaws) → (rs : Rows) (v n : ℕ) (ds : List ℕ) (es : List ℤ) → IsStill rs → has rs v ≡ true → n ≡ size_of ds → ds ≡ (row_at rs v).triple.dims → es ≡ fitted n (elements (world_of rs) v) → es ≡ elements (world_of rs) v
@@ -67,7 +67,7 @@ root_replaced facts f ((k, r) ∷ rs) v s i = elim (eqb_tells k v) [
 pub root_uncut : (facts : RowLaws) → (rs : Rows) (v : ℕ) → InOrder rs → has rs v ≡ true → (row_at rs v).root ≡ v → world_of rs ≡ sever (world_of rs) v
 root_uncut facts rs v o h r =
     let i : IsRoot rs v = (h, r) in
-    let same_elems : elements (world_of rs) v ≡ latest rs v = facts.seen.elements_are rs v o.still h ∙ ap (λ x. read (places_of rs v) (latest rs x)) r ∙ facts.seen.root_shows rs v (latest rs v) o.still i (facts.seen.length_latest rs v ∙ (o.family v i).count) in
+    let same_elems : elements (world_of rs) v ≡ latest rs v = facts.seen.elements_are rs v o.still h ∙ ap (λ x. read (places_seen rs v) (latest rs x)) r ∙ facts.seen.root_shows rs v (latest rs v) o.still i (facts.seen.length_latest rs v ∙ (o.family v i).count) in
     sym (root_replaced facts (latest rs) rs v o.still i)
     ∙ ap (λ x. replaced (world_of rs) v (root x (row_at rs v).triple.dims (latest rs v))) (sym (facts.seen.ty_are rs v o.still h))
     ∙ ap (λ x. replaced (world_of rs) v (root (ty_in (world_of rs) v) x (latest rs v))) (sym (facts.seen.dims_are rs v o.still h))

@@ -29,7 +29,7 @@ pub seen_live : (o : Option Look) → IsSomeAnd o (λ l. Unit {0}) → (l : Look
 seen_live None l = absurd l
 seen_live (Some x) l = (x, refl)
 
-abbrev root_from : Option Look → ℕ
+abbrev pub root_from : Option Look → ℕ
 root_from o = option_map_or (λ (l : Look). l.root) o 0
 
 seen_root : (t : Trans) (l m : Look) (r : Result (List ℕ) Refusal) → seen_through t l r ≡ Some m → m.root ≡ l.root
@@ -37,25 +37,25 @@ seen_root t l m (Ok ds) e = sym (ap root_from e)
 seen_root t l m (Err x) e = let z : false ≡ true = ap is_some e in absurd (cc)
 
 -- a view is seen through its parent, and has its root
-through_some : (t : Trans) (o : Option Look) (m : Look) → option_and_then (through t) o ≡ Some m → (l : Look) × (o ≡ Some l) × (m.root ≡ l.root)
+pub through_some : (t : Trans) (o : Option Look) (m : Look) → option_and_then (through t) o ≡ Some m → (l : Look) × (o ≡ Some l) × (m.root ≡ l.root)
 through_some t None m e = let z : false ≡ true = ap is_some e in absurd (cc)
 through_some t (Some l) m e = (l, refl, seen_root t l m (child_dims t l.dims) e)
 
-look_past : (k : ℕ) (d : ArrayDef) (w : World) (v : ℕ) → (k ≡ v → ⊥) → look ((k, d) ∷ w) v ≡ look w v
+pub look_past : (k : ℕ) (d : ArrayDef) (w : World) (v : ℕ) → (k ≡ v → ⊥) → look ((k, d) ∷ w) v ≡ look w v
 look_past k (root ty ds es) w v h = rw (ne_eqb k v h) refl
 look_past k (view p t) w v h = rw (ne_eqb k v h) refl
 
-root_past : (k : ℕ) (d : ArrayDef) (w : World) (v : ℕ) → (k ≡ v → ⊥) → root_of ((k, d) ∷ w) v ≡ root_of w v
+pub root_past : (k : ℕ) (d : ArrayDef) (w : World) (v : ℕ) → (k ≡ v → ⊥) → root_of ((k, d) ∷ w) v ≡ root_of w v
 root_past k d w v h = ap (λ o. option_map_or (λ (l : Look). l.root) o v) (look_past k d w v h)
 
-root_here : (k : ℕ) (ty : Ty) (ds : List ℕ) (es : List ℤ) (w : World) → look ((k, root ty ds es) ∷ w) k ≡ Some (look_of_root k ty ds)
+pub root_here : (k : ℕ) (ty : Ty) (ds : List ℕ) (es : List ℤ) (w : World) → look ((k, root ty ds es) ∷ w) k ≡ Some (look_of_root k ty ds)
 root_here k ty ds es w = rw (eq-eqb k k refl) refl
 
-view_here : (k p : ℕ) (t : Trans) (w : World) → look ((k, view p t) ∷ w) k ≡ option_and_then (through t) (look w p)
+pub view_here : (k p : ℕ) (t : Trans) (w : World) → look ((k, view p t) ∷ w) k ≡ option_and_then (through t) (look w p)
 view_here k p t w = rw (eq-eqb k k refl) refl
 
 -- the root of an array is older than a newer array
-root_below : (w : World) (n u : ℕ) (l : Look) → NumbersBelow n w → look w u ≡ Some l → l.root < n
+pub root_below : (w : World) (n u : ℕ) (l : Look) → NumbersBelow n w → look w u ≡ Some l → l.root < n
 root_below [] n u l b e = let z : false ≡ true = ap is_some e in absurd (cc)
 root_below ((k, root ty ds es) ∷ w) n u l b e = elim (eqb_tells k u) [
   | inl t ↦ (let here : l.root ≡ k = sym (ap root_from (sym (root_here k ty ds es w) ∙ ap (look ((k, root ty ds es) ∷ w)) t.1 ∙ e)) in let low : k < n = b.0 in omega (arith, here, low))

@@ -16,7 +16,7 @@ use Rattle.pdl_nodes.specs.Row.{parent_from, parent_of}
 use Rattle.pdl_nodes.specs.RowLaws.{RowLaws}
 use Rattle.pdl_nodes.specs.Rows.{Rows, has, row_at, NumbersBelow, Falls}
 use Rattle.pdl_nodes.specs.Still.{IsStill, StillFrom}
-use Rattle.pdl_nodes.specs.Worlds.{with_elements, def_of, shape, latest, world_of, places_of, def_from}
+use Rattle.pdl_nodes.specs.Worlds.{with_elements, def_of, shape, latest, world_of, places_seen, def_from}
 use Rattle.pdl_nodes.specs.declared.origin.Origin.{Origin}
 use Rattle.pdl_nodes.specs.declared.origin.Origin.TheVariants.{Root, View}
 use Rattle.pdl_engine.specs.StateOf.{fresh_among, holds_in}
@@ -70,7 +70,7 @@ live_has facts rs v l = elim (cases_Bool (has rs v)) [
       absurd (let x : IsSomeAnd None (λ (l : Look). Unit {0}) = subst P (facts.seen.look_with (latest rs) (shape rs) v ∙ no_look rs v t) l in x))
 ]
 
-pub look_is : (facts : RowLaws) → (rs : Rows) (v : ℕ) → IsStill rs → has rs v ≡ true → look (world_of rs) v ≡ Some (record { root = (row_at rs v).root; ty = (row_at rs v).ty; dims = (row_at rs v).triple.dims; places = places_of rs v })
+pub look_is : (facts : RowLaws) → (rs : Rows) (v : ℕ) → IsStill rs → has rs v ≡ true → look (world_of rs) v ≡ Some (record { root = (row_at rs v).root; ty = (row_at rs v).ty; dims = (row_at rs v).triple.dims; places = places_seen rs v })
 look_is facts rs v s h = facts.seen.look_with (latest rs) (shape rs) v ∙ (facts.seen.is_seen rs s v h).looks
 
 pub has_live : (facts : RowLaws) → (rs : Rows) (v : ℕ) → IsStill rs → has rs v ≡ true → IsLive (world_of rs) v

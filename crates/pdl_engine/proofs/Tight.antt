@@ -1,8 +1,8 @@
 -- Each array is held or has views, but those that are listed.
-use Rattle.std.proofs.Common.{◌≡◌, true, false, [], ℕ, List, sym, subst, ◌∙◌, ap, nat_lt, ◌≢◌, ◌||◌, ◌∷◌, Some, inl, inr, refl, ◌+◌, Option, None, arith, ℤ, eqb, cond, ◌≤◌, Result, Ok, Err}
+use Rattle.std.proofs.Common.{◌≡◌, true, false, [], ℕ, List, sym, subst, ◌∙◌, ap, nat_lt, ◌≢◌, ◌||◌, ◌∷◌, Some, inl, inr, refl, ◌+◌, Option, None, arith, ℤ, eqb, cond, ◌≤◌, ◌++◌, ◌⊎◌, Bool, Result, Ok, Err}
 use Rattle.std.specs.Result.{OnOk, OnErr}
 use Rattle.std.proofs.Math.Bool.{or-true}
-use Rattle.std.proofs.lemmas.Bool.{ne_eqb, cases_Bool}
+use Rattle.std.proofs.lemmas.Bool.{eq-eqb, le-ltb, ne_eqb, cases_Bool}
 use Rattle.std.proofs.lemmas.Bool.Decides.{eqb_tells, leb_tells}
 use Rattle.pdl_elem.specs.declared.Ty.{Ty}
 use Rattle.pdl_shape.specs.Shape.{size_of}
@@ -16,12 +16,12 @@ use Rattle.pdl_nodes.specs.Risen.{AreTight}
 use Rattle.pdl_nodes.specs.Row.{Row, parent_from, parent_of}
 use Rattle.pdl_nodes.specs.RowLaws.{RowLaws}
 use Rattle.pdl_nodes.specs.Rows.{Rows, has, NumbersBelow, row_at, Falls}
-use Rattle.pdl_nodes.specs.Still.{IsStill}
+use Rattle.pdl_nodes.specs.Still.{IsStill, StillFrom}
 use Rattle.pdl_nodes.specs.Worlds.{def_of, def_from, shape, with_elements, latest, world_of}
 use Rattle.pdl_nodes.specs.declared.holds.Hold.{Hold}
 use Rattle.pdl_nodes.specs.declared.origin.Origin.{Origin}
 use Rattle.pdl_nodes.specs.declared.origin.Origin.TheVariants.{Root, View}
-use Rattle.pdl_engine.specs.Loose.{IsTight, IsListed, ListsParent}
+use Rattle.pdl_engine.specs.Loose.{IsTight, listed_with}
 use Rattle.pdl_engine.specs.Severed.{ChangesRows}
 use Rattle.pdl_engine.proofs.Stating.{views_with}
 
@@ -158,44 +158,100 @@ still_viewed f ((k, r) ∷ rs) id v ty ds es b h = elim (eqb_tells k id) [
 views_of : (rs : Rows) (w : World) (v : ℕ) → world_of rs ≡ w → has_views (shape rs) v ≡ has_views w v
 views_of rs w v e = sym (views_with (latest rs) (shape rs) v) ∙ ap (λ x. has_views x v) e
 
-listed_live : (facts : RowLaws) → (old new : Rows) (id : ℕ) (xs ys : List ℕ) (hs : Counts) → IsStill old → has old id ≡ true → ChangesRows old id new → IsListed xs ys (parent_of (row_at old id)) → IsTight xs old hs → (v : ℕ) → is_listed ys v ≡ true → has new v ≡ true
-listed_live facts old new id xs ys hs s h c l t v y = c.has_is v ∙ elim (cases_Bool (is_listed xs v)) [
-  | inl z ↦ t.live v z
-  | inr z ↦ (facts.seen.parent_live old id v s h (l.only v y z)).0
+-- what is listed once a parent was listed with the others
+behind : (xs : List ℕ) (p v : ℕ) → is_listed (xs ++ p ∷ []) v ≡ cond (is_listed xs v) true (eqb p v)
+behind [] p v = elim (eqb_tells p v) [ inl e ↦ rw e.0 refl | inr e ↦ rw e.0 refl ]
+behind (x ∷ xs) p v = elim (eqb_tells x v) [ inl e ↦ rw e.0 refl | inr e ↦ rw e.0 (behind xs p v) ]
+
+listed_more : (rs : Rows) (hs : Counts) (xs : List ℕ) (o : Option ℕ) (v : ℕ) → is_listed (listed_with rs hs xs o) v ≡ true → (is_listed xs v ≡ true) ⊎ (o ≡ Some v)
+listed_more rs hs xs None v y = inl y
+listed_more rs hs xs (Some p) v y = elim (cases_Bool (is_held hs p || nat_lt 1 (children rs p))) [
+  | inl z ↦ inl (rw z at y)
+  | inr z ↦ (let at : is_listed (xs ++ p ∷ []) v ≡ true = rw z at y in
+      elim (cases_Bool (is_listed xs v)) [
+        | inl l ↦ inl l
+        | inr l ↦ inr (ap Some (is_here (sym (behind xs p v ∙ ap (λ b. cond b true (eqb p v)) l) ∙ at)))
+      ])
+] where
+  is_here : eqb p v ≡ true → p ≡ v
+  is_here e = elim (eqb_tells p v) [ inl t ↦ t.1 | inr t ↦ (let z : true ≡ false = sym e ∙ t.0 in absurd (cc)) ]
+
+listed_still : (rs : Rows) (hs : Counts) (xs : List ℕ) (o : Option ℕ) (v : ℕ) → is_listed (listed_with rs hs xs o) v ≡ false → is_listed xs v ≡ false
+listed_still rs hs xs None v n = n
+listed_still rs hs xs (Some p) v n = elim (cases_Bool (is_listed xs v)) [
+  | inr l ↦ l
+  | inl l ↦ elim (cases_Bool (is_held hs p || nat_lt 1 (children rs p))) [
+    | inl z ↦ rw z at n
+    | inr z ↦ (let at : is_listed (xs ++ p ∷ []) v ≡ false = rw z at n in
+        let is : is_listed (xs ++ p ∷ []) v ≡ true = behind xs p v ∙ ap (λ b. cond b true (eqb p v)) l in
+        let z : true ≡ false = sym is ∙ at in absurd (cc))
+  ]
 ]
 
-unlisted : (xs ys : List ℕ) (o : Option ℕ) (v : ℕ) → IsListed xs ys o → is_listed ys v ≡ false → is_listed xs v ≡ false
-unlisted xs ys o v l n = elim (cases_Bool (is_listed xs v)) [ inl y ↦ (let z : true ≡ false = sym (l.stays v y) ∙ n in absurd (cc)) | inr y ↦ y ]
+-- a parent that isn't held and has no other view is
+parent_listed : (rs : Rows) (hs : Counts) (xs : List ℕ) (o : Option ℕ) (p : ℕ) → o ≡ Some p → is_held hs p ≡ false → children rs p ≤ 1 → is_listed (listed_with rs hs xs o) p ≡ true
+parent_listed rs hs xs o p e u few =
+    let alone : (is_held hs p || nat_lt 1 (children rs p)) ≡ false = ap (λ b. b || nat_lt 1 (children rs p)) u ∙ le-ltb 1 (children rs p) few in
+    ap (λ x. is_listed (listed_with rs hs xs x) p) e ∙ rw alone (behind xs p p ∙ ap (λ b. cond (is_listed xs p) true b) (eq-eqb p p refl) ∙ either (is_listed xs p))
+  where
+    either : (b : Bool) → cond b true true ≡ true
+    either true = refl
+    either false = refl
+
+-- tables of one shape list the same
+pub listed_alike : (old new : Rows) (hs : Counts) (xs : List ℕ) (o : Option ℕ) → shape new ≡ shape old → listed_with new hs xs o ≡ listed_with old hs xs o
+listed_alike old new hs xs None e = refl
+listed_alike old new hs xs (Some p) e = ap (λ n. cond (is_held hs p || nat_lt 1 n) xs (xs ++ p ∷ [])) (children_alike old new p e)
+
+-- a root has no parent, so none is listed
+no_parent : (facts : RowLaws) → (rs : Rows) (v : ℕ) → IsStill rs → has rs v ≡ true → (row_at rs v).root ≡ v → parent_of (row_at rs v) ≡ None
+no_parent facts [] v s h e = let z : false ≡ true = h in absurd (cc)
+no_parent facts ((k, r) ∷ rs) v s h e = elim (eqb_tells k v) [
+  | inl t ↦ rw t.0 (from r.origin s.1 (rw t.0 at e ∙ sym t.1))
+  | inr t ↦ rw t.0 (no_parent facts rs v s.2 (rw t.0 at h) (rw t.0 at e))
+] where
+  from : (o : Origin) → StillFrom rs k r o → r.root ≡ k → parent_from o ≡ None
+  from Root i e = refl
+  from (View p t y) i e = absurd (facts.numbers.not_newest rs k (row_at rs p).root s.0 (facts.seen.is_seen rs s.2 p i.0).root_has (sym e ∙ i.1.root_is))
+
+pub none_listed : (facts : RowLaws) → (rs : Rows) (hs : Counts) (xs : List ℕ) (v : ℕ) → IsStill rs → has rs v ≡ true → (row_at rs v).root ≡ v → xs ≡ listed_with rs hs xs (parent_of (row_at rs v))
+none_listed facts rs hs xs v s h e = ap (listed_with rs hs xs) (sym (no_parent facts rs v s h e))
 
 -- the world is the same
-tight_same : (facts : RowLaws) → (old new : Rows) (id : ℕ) (xs ys : List ℕ) (hs : Counts) → IsStill old → has old id ≡ true → ChangesRows old id new → IsListed xs ys (parent_of (row_at old id)) → world_of new ≡ world_of old → IsTight xs old hs → IsTight ys new hs
-tight_same facts old new id xs ys hs s h c l e t = record {
-  live = listed_live facts old new id xs ys hs s h c l t;
-  tight = λ v y d u. views_of new (world_of old) v e ∙ sym (views_of old (world_of old) v refl) ∙ t.tight v (sym (c.has_is v) ∙ y) (unlisted xs ys (parent_of (row_at old id)) v l d) u;
+tight_same : (old new : Rows) (id : ℕ) (xs : List ℕ) (hs : Counts) → ChangesRows old id new → world_of new ≡ world_of old → IsTight xs old hs → IsTight xs new hs
+tight_same old new id xs hs c e t = record {
+  live = λ v y. c.has_is v ∙ t.live v y;
+  tight = λ v y d u. views_of new (world_of old) v e ∙ sym (views_of old (world_of old) v refl) ∙ t.tight v (sym (c.has_is v) ∙ y) d u;
 }
 
 -- one array is a root, whose parent is listed, or is held, or has another view
-tight_rooted : (facts : RowLaws) → (old new : Rows) (id : ℕ) (xs ys : List ℕ) (hs : Counts) (ty : Ty) (ds : List ℕ) (es : List ℤ) → IsStill old → has old id ≡ true → ChangesRows old id new → IsListed xs ys (parent_of (row_at old id)) → ListsParent old hs ys (parent_of (row_at old id))
-    → world_of new ≡ replaced (world_of old) id (root ty ds es) → IsTight xs old hs → IsTight ys new hs
-tight_rooted facts old new id xs ys hs ty ds es s h c l p e t = record {
-  live = listed_live facts old new id xs ys hs s h c l t;
-  tight = λ v y d u. views_of new (replaced (world_of old) id (root ty ds es)) v e
-      ∙ elim (leb_tells 2 (children old v)) [
-        | inl m ↦ still_viewed (latest old) old id v ty ds es (facts.seen.falls old s) m.1
-        | inr m ↦ views_rooted (latest old) old id v ty ds es (facts.seen.falls old s) (λ q. (let few : children old v ≤ 1 = omega (arith, m.1) in let z : true ≡ false = sym (p v q u few) ∙ d in absurd (cc)))
-            ∙ t.tight v (sym (c.has_is v) ∙ y) (unlisted xs ys (parent_of (row_at old id)) v l d) u
+tight_rooted : (facts : RowLaws) → (old new : Rows) (id : ℕ) (xs : List ℕ) (hs : Counts) (ty : Ty) (ds : List ℕ) (es : List ℤ) → IsStill old → has old id ≡ true → ChangesRows old id new
+    → world_of new ≡ replaced (world_of old) id (root ty ds es) → IsTight xs old hs → IsTight (listed_with old hs xs (parent_of (row_at old id))) new hs
+tight_rooted facts old new id xs hs ty ds es s h c e t =
+    let o : Option ℕ = parent_of (row_at old id) in
+    record {
+      live = λ v y. c.has_is v ∙ elim (listed_more old hs xs o v y) [
+        | inl z ↦ t.live v z
+        | inr z ↦ (facts.seen.parent_live old id v s h z).0
       ];
-}
+      tight = λ v y d u. views_of new (replaced (world_of old) id (root ty ds es)) v e
+          ∙ elim (leb_tells 2 (children old v)) [
+            | inl m ↦ still_viewed (latest old) old id v ty ds es (facts.seen.falls old s) m.1
+            | inr m ↦ views_rooted (latest old) old id v ty ds es (facts.seen.falls old s)
+                (λ q. (let few : children old v ≤ 1 = omega (arith, m.1) in let z : true ≡ false = sym (parent_listed old hs xs o v q u few) ∙ d in absurd (cc)))
+                ∙ t.tight v (sym (c.has_is v) ∙ y) (listed_still old hs xs o v d) u
+          ];
+    }
 
-pub tight_reshaped : (facts : RowLaws) → {A E : Type 0} (old new : Rows) (id : ℕ) (xs ys : List ℕ) (hs : Counts) (ds : List ℕ) (r : Result A E) → IsStill old → has old id ≡ true → ChangesRows old id new → IsListed xs ys (parent_of (row_at old id))
-    → OnOk r (ListsParent old hs ys (parent_of (row_at old id))) → OnOk r (world_of new ≡ reshape (world_of old) id ds) → OnErr r (world_of new ≡ world_of old) → IsTight xs old hs → IsTight ys new hs
-tight_reshaped facts old new id xs ys hs ds (Ok a) s h c l p e f t = tight_rooted facts old new id xs ys hs (ty_in (world_of old) id) ds (fitted (size_of ds) (elements (world_of old) id)) s h c l p e t
-tight_reshaped facts old new id xs ys hs ds (Err a) s h c l p e f t = tight_same facts old new id xs ys hs s h c l f t
+pub tight_reshaped : (facts : RowLaws) → {A E : Type 0} (old new : Rows) (id : ℕ) (xs ys : List ℕ) (hs : Counts) (ds : List ℕ) (r : Result A E) → IsStill old → has old id ≡ true → ChangesRows old id new
+    → OnOk r (ys ≡ listed_with old hs xs (parent_of (row_at old id))) → OnErr r (ys ≡ xs) → OnOk r (world_of new ≡ reshape (world_of old) id ds) → OnErr r (world_of new ≡ world_of old) → IsTight xs old hs → IsTight ys new hs
+tight_reshaped facts old new id xs ys hs ds (Ok a) s h c l u e f t = subst (λ (zs : List ℕ). IsTight zs new hs) (sym l) (tight_rooted facts old new id xs hs (ty_in (world_of old) id) ds (fitted (size_of ds) (elements (world_of old) id)) s h c e t)
+tight_reshaped facts old new id xs ys hs ds (Err a) s h c l u e f t = subst (λ (zs : List ℕ). IsTight zs new hs) (sym u) (tight_same old new id xs hs c f t)
 
-pub tight_severed : (facts : RowLaws) → {A E : Type 0} (old new : Rows) (id : ℕ) (xs ys : List ℕ) (hs : Counts) (r : Result A E) → IsStill old → has old id ≡ true → ChangesRows old id new → IsListed xs ys (parent_of (row_at old id))
-    → ((row_at old id).root ≡ id → new ≡ old) → OnOk r ((row_at old id).root ≢ id → ListsParent old hs ys (parent_of (row_at old id))) → OnOk r (world_of new ≡ sever (world_of old) id) → OnErr r (world_of new ≡ world_of old) → IsTight xs old hs → IsTight ys new hs
-tight_severed facts old new id xs ys hs (Err a) s h c l n p e f t = tight_same facts old new id xs ys hs s h c l f t
-tight_severed facts old new id xs ys hs (Ok a) s h c l n p e f t = elim (eqb_tells (row_at old id).root id) [
-  | inl y ↦ tight_same facts old new id xs ys hs s h c l (ap world_of (n y.1)) t
-  | inr y ↦ tight_rooted facts old new id xs ys hs (ty_in (world_of old) id) (dims_in (world_of old) id) (elements (world_of old) id) s h c l (p y.1) e t
-]
+pub tight_severed : (facts : RowLaws) → {A E : Type 0} (old new : Rows) (id : ℕ) (xs ys : List ℕ) (hs : Counts) (r : Result A E) → IsStill old → has old id ≡ true → ChangesRows old id new
+    → ((row_at old id).root ≡ id → new ≡ old) → OnOk r (ys ≡ listed_with old hs xs (parent_of (row_at old id))) → OnErr r (ys ≡ xs) → OnOk r (world_of new ≡ sever (world_of old) id) → OnErr r (world_of new ≡ world_of old) → IsTight xs old hs → IsTight ys new hs
+tight_severed facts old new id xs ys hs (Err a) s h c n l u e f t = subst (λ (zs : List ℕ). IsTight zs new hs) (sym u) (tight_same old new id xs hs c f t)
+tight_severed facts old new id xs ys hs (Ok a) s h c n l u e f t = subst (λ (zs : List ℕ). IsTight zs new hs) (sym l) (elim (eqb_tells (row_at old id).root id) [
+  | inl y ↦ subst (λ (zs : List ℕ). IsTight zs new hs) (none_listed facts old hs xs id s h y.1) (tight_same old new id xs hs c (ap world_of (n y.1)) t)
+  | inr y ↦ tight_rooted facts old new id xs hs (ty_in (world_of old) id) (dims_in (world_of old) id) (elements (world_of old) id) s h c e t
+])

@@ -36,7 +36,7 @@ past k (root ty ds es) w v h = rw (ne_eqb k v h) refl
 past k (view p t) w v h = rw (ne_eqb k v h) refl
 
 -- a root of a sound world sees itself
-root_seen : (w : World) (r : ℕ) (d : ArrayDef) (ty : Ty) (ds : List ℕ) (es : List ℤ) → IsSound w → Has w r d → d ≡ root ty ds es → look w r ≡ Some (look_of_root r ty ds)
+pub root_seen : (w : World) (r : ℕ) (d : ArrayDef) (ty : Ty) (ds : List ℕ) (es : List ℤ) → IsSound w → Has w r d → d ≡ root ty ds es → look w r ≡ Some (look_of_root r ty ds)
 root_seen [] r d ty ds es s h is = absurd h
 root_seen ((k, e) ∷ w) r d ty ds es s (inl same) is =
     let here : look ((k, root ty ds es) ∷ w) k ≡ Some (look_of_root k ty ds) = rw (eq-eqb k k refl) refl in

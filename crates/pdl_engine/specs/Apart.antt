@@ -5,8 +5,8 @@ use Rattle.pdl_shape.specs.Triple.{Triple, moved, place_of}
 
 -- two coordinates and two numbers up to n lead equally far by these increments only where they are
 -- the same
-abbrev pub AreApart : (n : ℕ) → (incs : List ℤ) → (dims : List ℕ) → Type 0
-AreApart n is ds =
+abbrev pub KeepApart : (n : ℕ) → (incs : List ℤ) → (dims : List ℕ) → Type 0
+KeepApart n is ds =
     (a b : ℕ) (cs us : List ℕ) → a ≤ n → b ≤ n → IsWithin ds cs → IsWithin ds us
     → pos a +ℤ moved is cs ≡ pos b +ℤ moved is us
     → (a ≡ b) × (cs ≡ us)

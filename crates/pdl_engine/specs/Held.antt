@@ -4,6 +4,7 @@ use Rattle.pdl_world.specs.Paths.{root_of}
 use Rattle.pdl_world.specs.Sound.{IsLive}
 use Rattle.pdl_world.specs.Swept.{is_listed, sweep}
 use Rattle.pdl_world.specs.World.{World, look, root, view}
+use Rattle.pdl_nodes.specs.Going.{goes_from}
 use Rattle.pdl_nodes.specs.Staying.{staying, stays_from}
 use Rattle.pdl_engine.specs.State.{State, OthersWait, is_fresh, waiting, waiting_at, waiting_size}
 
@@ -61,8 +62,7 @@ FamilyIsSettled old v new =
 
 -- what waits, if that view isn't in the world
 abbrev pub gone_from : World → Option ℕ → Option ℕ
-gone_from w None = None
-gone_from w (Some v) = if is_some (look w v) then None else Some v
+gone_from w o = goes_from (λ v. is_some (look w v)) o
 
 -- what waits, if that view is in the world
 abbrev pub left_from : World → Option ℕ → Option ℕ

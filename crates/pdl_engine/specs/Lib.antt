@@ -3,6 +3,7 @@ pub mod Held
 pub mod HoldLaws
 pub mod StateOf
 pub mod Worked
+pub mod Runs
 pub mod Severed
 pub mod Loose
 pub mod Taken

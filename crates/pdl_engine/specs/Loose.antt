@@ -1,5 +1,5 @@
 -- Which arrays may be loose: those that a cut left, which are listed until the next release.
-use Rattle.std.specs.Prelude.{◌≡◌, ◌≤◌, ℕ, true, false, List, Option, Some}
+use Rattle.std.specs.Prelude.{◌≡◌, ◌||◌, ◌++◌, ℕ, nat_lt, if◌then◌else◌, true, List, [], ◌∷◌, Option, Some, None}
 use Rattle.pdl_world.specs.Swept.{is_listed}
 use Rattle.pdl_nodes.specs.Children.{children}
 use Rattle.pdl_nodes.specs.Holds.{Counts, is_held}
@@ -11,12 +11,9 @@ pub record IsTight (listed : List ℕ) (rs : Rows) (hs : Counts) : Type 0 where
   pub live : (v : ℕ) → is_listed listed v ≡ true → has rs v ≡ true
   pub tight : AreTight listed rs hs
 
--- what was listed is, and at most the parent more
-pub record IsListed (old new : List ℕ) (parent : Option ℕ) : Type 0 where
-  pub stays : (v : ℕ) → is_listed old v ≡ true → is_listed new v ≡ true
-  pub only : (v : ℕ) → is_listed new v ≡ true → is_listed old v ≡ false → parent ≡ Some v
-
--- the parent is listed, if there is one that isn't held and has no other view
-abbrev pub ListsParent : Rows → Counts → (listed : List ℕ) → (parent : Option ℕ) → Type 0
-ListsParent rs hs listed parent =
-    (p : ℕ) → parent ≡ Some p → is_held hs p ≡ false → children rs p ≤ 1 → is_listed listed p ≡ true
+-- the arrays that are listed once one was cut from this parent: the parent with them, where it isn't
+-- held and has no other view
+abbrev pub listed_with : Rows → Counts → (listed : List ℕ) → (parent : Option ℕ) → List ℕ
+listed_with rs hs listed None = listed
+listed_with rs hs listed (Some p) =
+    if is_held hs p || nat_lt 1 (children rs p) then listed else listed ++ p ∷ []

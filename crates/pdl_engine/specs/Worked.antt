@@ -4,7 +4,7 @@
 -- most. Each script is also a line of crates/pdl_cases/data/engine.txt, which is run, and shows
 -- that the engine can lend these arrays and no others: first the "Twelve tables of marks", in their
 -- order. The arrays are numbered as they are made, from 0.
-use Rattle.std.specs.Prelude.{◌≡◌, ℕ, ◌+◌, ◌≤◌, ◌==◌, true, not, if◌then◌else◌, Bool, List, [], ◌∷◌, ◌++◌, length, map, reverse, filter, ℤ, pos, negsuc, Some, is_some, is_none}
+use Rattle.std.specs.Prelude.{◌≡◌, ◌≢◌, ◌⊎◌, ℕ, ◌+◌, ◌<◌, ◌≤◌, ◌==◌, true, false, not, if◌then◌else◌, Bool, List, [], ◌∷◌, ◌++◌, length, map, filter, ℤ, pos, negsuc, Some, None, is_some, is_none}
 use Rattle.std.specs.List.{range_with_len}
 use Rattle.pdl_elem.specs.declared.Ty.TheVariants.{Long}
 use Rattle.pdl_numbers.specs.Typed.{count_moved}
@@ -20,7 +20,8 @@ use Rattle.pdl_world.specs.Cut as cut
 use Rattle.pdl_world.specs.Paths.{path, root_of}
 use Rattle.pdl_world.specs.Sound.{IsLive}
 use Rattle.pdl_world.specs.Swept.{is_listed, sweep}
-use Rattle.pdl_engine.specs.Held.{one_less_at, held_among, holds_left, written_back}
+use Rattle.pdl_engine.specs.Held.{AreApart, count_at, one_less_at, held_among, holds_left, written_back}
+use Rattle.pdl_engine.specs.Looks.{numbers_in}
 use Rattle.pdl_engine.specs.State.{State, no_arrays, is_fresh, base, target, waiting, ready_steps, kept_back}
 use Rattle.pdl_engine.specs.StateOf.{pending_onto}
 
@@ -39,6 +40,10 @@ pub data Line : Type 0 where
   after : Call → (lent : List ℕ) (waits : List (ℕ × ℕ)) (steps : ℕ) → Line
   shows : (id : ℕ) (elems : List ℤ) → Line
 
+-- what waits, but in the family of r
+abbrev pub but_of : ℕ → List (ℕ × ℕ) → List (ℕ × ℕ)
+but_of r ps = filter (λ p. not (p.0 == r)) ps
+
 -- one array more, held once
 abbrev pub with_array : State → ArrayDef → State
 with_array s d = record s {
@@ -49,13 +54,13 @@ with_array s d = record s {
 
 -- nothing waits in the family of v
 abbrev pub with_settled : State → ℕ → State
-with_settled s v = record s { pending = filter (λ p. not (p.0 == root_of s.world v)) s.pending }
+with_settled s v = record s { pending = but_of (root_of s.world v) s.pending }
 
 -- v is a root in this world: wherever the arrays of its family are then, nothing waits
 abbrev pub with_root : State → ℕ → World → State
 with_root s v w = record (with_settled s v) {
   world = w;
-  pending = filter (λ p. not (p.0 == v)) (with_settled s v).pending;
+  pending = but_of v (with_settled s v).pending;
 }
 
 -- the arrays of a smaller world, held as said
@@ -68,7 +73,9 @@ with_left s w holding = record s {
 
 -- the state after a call, but for what can be lent
 abbrev pub state_after : State → Call → State
-state_after s (make ds es) = with_array s (world.root Long ds es)
+state_after s (make ds es) = record (with_array s (world.root Long ds es)) {
+  pending = but_of s.next s.pending;
+}
 state_after s (view p t) = with_array s (world.view p t)
 state_after s (ready v) = with_settled s v
 state_after s (assign v vs) = record s {
@@ -117,23 +124,61 @@ is_lent stay s v =
 
 -- the arrays that can be lent in a state that a call left, oldest first
 abbrev pub lent_in : (stay : List ℕ) → State → List ℕ
-lent_in stay s = filter (is_lent stay s) (map (λ a. a.0) (reverse s.world))
+lent_in stay s = filter (is_lent stay s) (numbers_in s.world)
 
--- the state is as this one, but that more arrays may be lent than those that are lent in it, and it
--- took no more steps
-pub record IsAs (left : State) (stay : List ℕ) (most : ℕ) (new : State) (steps : ℕ) : Type 0 where
-  pub world_is : new.world ≡ left.world
-  pub holds_are : new.holds ≡ left.holds
-  pub next_is : new.next ≡ left.next
-  pub waits : (v : ℕ) → IsLive new.world v → waiting new v ≡ waiting left v
-  pub lent :
-      (v : ℕ) → IsLive new.world v → is_lent stay left v ≡ true → is_fresh new v ≡ true
-  pub counted : steps ≤ most
+-- the state after a call
+abbrev pub state_then : State → Call → State
+state_then s c =
+    let left = state_after s c in record left { fresh = lent_in (stay_fresh s c) left }
 
--- the call left the state as the scripts have it, by so many steps in all
-abbrev pub IsWorked : (old : State) → Call → (new : State) → (before steps : ℕ) → Type 0
-IsWorked old c new before steps =
-    IsAs (state_after old c) (stay_fresh old c) (before + steps_of old c) new steps
+-- what a call asks of the array that it names
+abbrev pub Asks : State → Call → Type 0
+Asks s (make ds es) = Unit {0}
+Asks s (view p t) = IsLive s.world p
+Asks s (ready v) = IsLive s.world v
+Asks s (assign v vs) = IsLive s.world v
+Asks s (sever v) = IsLive s.world v
+Asks s (reshape v ds) = IsLive s.world v
+Asks s (release v) = 0 < count_at s.holds v
+
+-- an engine is as the scripts have it: the same arrays are there and held, the same waits in each
+-- family, and those can be lent that the scripts lend
+pub record IsAs (script engine : State) : Type 0 where
+  pub world_is : engine.world ≡ script.world
+  pub holds_are : engine.holds ≡ script.holds
+  pub next_is : engine.next ≡ script.next
+  pub once : AreApart (map (λ p. p.0) script.pending)
+  pub waits : (v : ℕ) → IsLive engine.world v → waiting engine v ≡ waiting script v
+  pub lent : (v : ℕ) → is_fresh script v ≡ true → is_fresh engine v ≡ true
+
+-- v keeps elements of its own, and nothing waits in its family: then more may be lent of it
+abbrev pub IsSpare : State → ℕ → Type 0
+IsSpare s v = (base s.world v ≢ root_of s.world v) × (waiting s v ≡ None)
+
+-- but for an array with other dimensions and its views, of which no more can be
+abbrev pub MayBeLent : State → Call → ℕ → Type 0
+MayBeLent s (reshape v ds) u =
+    let left = state_after s (reshape v ds) in IsSpare left u × (root_of left.world u ≢ v)
+MayBeLent s c u = IsSpare (state_after s c) u
+
+-- the steps of a call are said exactly; of making ready, of a cut and of other dimensions only how
+-- many they may be, but that a cut of a root takes none
+abbrev pub is_exact : State → Call → Bool
+is_exact s (ready v) = false
+is_exact s (sever v) = root_of s.world v == v
+is_exact s (reshape v ds) = false
+is_exact s c = true
+
+-- the call left the engine as the scripts have it, with so many steps in all: others can be lent
+-- only where that may be, and it took no other number of steps where that is said
+pub record IsWorked (old : State) (c : Call) (new : State) (before steps : ℕ) : Type 0 where
+  pub asked : Asks old c
+  pub left : IsAs (state_then old c) new
+  pub only :
+      (v : ℕ) → IsLive new.world v → is_fresh new v ≡ true
+      → (is_fresh (state_then old c) v ≡ true) ⊎ MayBeLent old c v
+  pub counted : steps ≤ before + steps_of old c
+  pub exact : is_exact old c ≡ true → steps ≡ before + steps_of old c
 
 -- the elements of an array that can be lent
 abbrev pub shown : State → ℕ → List ℤ
@@ -143,8 +188,7 @@ shown s v = if is_fresh s v then elements s.world v else []
 abbrev pub worked_from : State → List Line → List Line
 worked_from s [] = []
 worked_from s (after c lent waits steps ∷ rest) =
-    let left = state_after s c in
-    let next = record left { fresh = lent_in (stay_fresh s c) left } in
+    let next = state_then s c in
     after c next.fresh next.pending (steps_of s c) ∷ worked_from next rest
 worked_from s (shows v es ∷ rest) = shows v (shown s v) ∷ worked_from s rest
 

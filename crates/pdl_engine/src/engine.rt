@@ -41,7 +41,7 @@ use std::alloc::{AllocError, Global};
 use std::marker::Model;
 use std::sync::ledger::Ledger;
 
-/// The number of an array, below 2^63. Numbers are never used again in one engine.
+/// The number of an array, below 2^64 - 1. Numbers are never used again in one engine.
 pub type ArrayId = u64;
 
 /// Arrays, each a root or a view of an older one. Each is held or has views, but for those that a
@@ -391,8 +391,8 @@ impl Engine {
     }
 
     /// What an assignment of these values, one for each position, to an array that can be lent will
-    /// write. It is kept such that so many elements are foreseen by it at little cost, which turns
-    /// nothing of the answer. It takes no step, and `NoMemory` is the only refusal.
+    /// write. It is kept so that as many elements as `lookups` says are foreseen by it at little cost;
+    /// the answer is the same. It takes no step, and `NoMemory` is the only refusal.
     pub fn foretell(
         &self,
         target: ArrayId,
@@ -413,7 +413,7 @@ impl Engine {
     /// that is to an array of another root, so that this one stays (PDL::Dataflow). Of such an
     /// array nothing is read. Any other is made ready, as `ready` does, with these steps alone. The
     /// arrays stay, and what could be lent can be lent, so the values can be assigned afterwards;
-    /// so it is where memory was wanted, which is the only refusal.
+    /// so it is out of memory, which is the only refusal.
     pub fn foresee<L: Ledger>(
         &mut self,
         foresight: &Foresight,

@@ -21,5 +21,5 @@ pub mod worked;
 
 pub use engine::{ArrayId, Engine};
 pub use foreseeing::{Foreseen, Foresight, all_shown};
-pub use laws::{hold_laws, worked_scripts};
+pub use laws::{followed_scripts, hold_laws, worked_scripts};
 pub use pdl_nodes::{RelayFault as ReshapeFault, ViewFault};

@@ -17,7 +17,7 @@ ghost use Rattle.pdl_nodes.specs.Sized.{AreSized};
 ghost use Rattle.pdl_nodes.specs.declared.relaid.RelayFault.TheVariants.{Breaks};
 ghost use Rattle.pdl_nodes.specs.Renewed.{AreRelaid};
 ghost use Rattle.pdl_nodes.specs.Worlds.{world_of};
-ghost use Rattle.pdl_engine.specs.Loose.{IsListed, ListsParent};
+ghost use Rattle.pdl_engine.specs.Loose.{listed_with};
 ghost use Rattle.pdl_engine.specs.Severed.{BasesAreFresh, ChangesRows, RowsAreSettled, RowsStayFresh};
 
 use pdl_buf::{
@@ -111,9 +111,9 @@ fn list_parent(
     id: u64,
 ) -> Result<(), AllocError>
     requires live { has table.now id ≡ true }
-    ensures listed { IsListed loose.old.items loose.new.items (parent_of (row_at table.now id)) }
-    ensures parent { OnOk result
-        (ListsParent table.now holds.now loose.new.items (parent_of (row_at table.now id))) }
+    ensures listed { let parent = parent_of (row_at table.now id) in
+        OnOk result (loose.new.items ≡ listed_with table.now holds.now loose.old.items parent) }
+    ensures unlisted { OnErr result (loose.new.items ≡ loose.old.items) }
 {
     match table.node(id).parent() {
         Some(parent) => {
@@ -131,8 +131,33 @@ fn list_parent(
 }
 
 /// A buffer of the first elements of a fresh array, with zeros after them where there are fewer
-/// than `count`. It takes a step for each that isn't 0. The parent is listed before.
+/// than `count`. It takes a step for each that isn't 0.
 fn first_copied<L: Ledger>(
+    table: &Table,
+    alloc: Global,
+    id: u64,
+    count: u32,
+    steps: &mut Steps<L>,
+) -> Result<Buf, AllocError>
+    requires order { InOrder table.now }
+    requires live { has table.now id ≡ true }
+    requires fresh { is_fresh_in table.now id ≡ true }
+    ensures value { IfOk result (λ b. b ≡ record {
+      ty = (row_at table.now id).ty;
+      elems = fitted count (elements (world_of table.now) id);
+    }) }
+    ensures counted { steps.new ≤ steps.old + count }
+{
+    row_laws();
+    shape_laws();
+    let node = table.node(id);
+    let base = table.node(node.base());
+    let elements = first_shown(alloc, &strided(base.kept(), node.triple()), count)?;
+    buf_of_elements(alloc, node.ty(), elements, steps)
+}
+
+/// The same buffer. The parent is listed behind it, so that it is only where the array will be cut.
+fn copied_and_listed<L: Ledger>(
     table: &Table,
     holds: &Holds,
     loose: &mut Vec<u64>,
@@ -149,17 +174,13 @@ fn first_copied<L: Ledger>(
       elems = fitted count (elements (world_of table.now) id);
     }) }
     ensures counted { steps.new ≤ steps.old + count }
-    ensures listed { IsListed loose.old.items loose.new.items (parent_of (row_at table.now id)) }
-    ensures parent { OnOk result
-        (ListsParent table.now holds.now loose.new.items (parent_of (row_at table.now id))) }
+    ensures listed { let parent = parent_of (row_at table.now id) in
+        OnOk result (loose.new.items ≡ listed_with table.now holds.now loose.old.items parent) }
+    ensures unlisted { OnErr result (loose.new.items ≡ loose.old.items) }
 {
-    row_laws();
-    shape_laws();
+    let kept = first_copied(table, alloc, id, count, steps)?;
     list_parent(table, holds, loose, id)?;
-    let node = table.node(id);
-    let base = table.node(node.base());
-    let elements = first_shown(alloc, &strided(base.kept(), node.triple()), count)?;
-    buf_of_elements(alloc, node.ty(), elements, steps)
+    Ok(kept)
 }
 
 /// Cuts an array from its parent, which is listed: it becomes a root with its elements, and its own
@@ -192,9 +213,9 @@ pub fn sever<L: Ledger>(
     ensures counted { steps.new ≤ steps.old
         + (outdated table.old id + waiting_size table.old (waiting_of table.old id)
         + size_of (row_at table.old id).triple.dims) }
-    ensures listed { IsListed loose.old.items loose.new.items (parent_of (row_at table.old id)) }
-    ensures parent { OnOk result ((row_at table.old id).root ≢ id
-        → ListsParent table.old holds.now loose.new.items (parent_of (row_at table.old id))) }
+    ensures listed { let parent = parent_of (row_at table.old id) in
+        OnOk result (loose.new.items ≡ listed_with table.old holds.now loose.old.items parent) }
+    ensures unlisted { OnErr result (loose.new.items ≡ loose.old.items) }
 {
     row_laws();
     renewed_row_laws();
@@ -205,7 +226,7 @@ pub fn sever<L: Ledger>(
     refresh(table, alloc, id, steps)?;
     let dims = copy_dims(&table.node(id).triple().dims);
     let count = elements_of(&dims);
-    let kept = first_copied(table, holds, loose, alloc, id, count, steps)?;
+    let kept = copied_and_listed(table, holds, loose, alloc, id, count, steps)?;
     table.renew(alloc, id, &dims, kept, Relaid::new(alloc));
     Ok(())
 }
@@ -240,9 +261,9 @@ fn reshape_relaid<L: Ledger>(
     ensures counted { steps.new ≤ steps.old
         + (outdated table.old id + waiting_size table.old (waiting_of table.old id)
         + size_of dims.now) }
-    ensures listed { IsListed loose.old.items loose.new.items (parent_of (row_at table.old id)) }
-    ensures parent { OnOk result
-        (ListsParent table.old holds.now loose.new.items (parent_of (row_at table.old id))) }
+    ensures listed { let parent = parent_of (row_at table.old id) in
+        OnOk result (loose.new.items ≡ listed_with table.old holds.now loose.old.items parent) }
+    ensures unlisted { OnErr result (loose.new.items ≡ loose.old.items) }
 {
     row_laws();
     renewed_row_laws();
@@ -251,7 +272,7 @@ fn reshape_relaid<L: Ledger>(
     let count = elements_of(dims);
     settle(table, id, steps);
     refresh(table, alloc, id, steps)?;
-    let kept = first_copied(table, holds, loose, alloc, id, count, steps)?;
+    let kept = copied_and_listed(table, holds, loose, alloc, id, count, steps)?;
     table.renew(alloc, id, dims, kept, layouts);
     Ok(())
 }
@@ -288,9 +309,9 @@ pub fn reshape<L: Ledger>(
     ensures counted { steps.new ≤ steps.old
         + (outdated table.old id + waiting_size table.old (waiting_of table.old id)
         + size_of dims.now) }
-    ensures listed { IsListed loose.old.items loose.new.items (parent_of (row_at table.old id)) }
-    ensures parent { OnOk result
-        (ListsParent table.old holds.now loose.new.items (parent_of (row_at table.old id))) }
+    ensures listed { let parent = parent_of (row_at table.old id) in
+        OnOk result (loose.new.items ≡ listed_with table.old holds.now loose.old.items parent) }
+    ensures unlisted { OnErr result (loose.new.items ≡ loose.old.items) }
 {
     row_laws();
     let layouts = table.relaid(alloc, id, dims)?;

@@ -1,7 +1,7 @@
 //! Triples whose increments lie apart, so that they show each place once.
 ghost use Rattle.std.specs.Prelude.{◌≡◌, true, length};
 ghost use Rattle.pdl_shape.specs.Triple.{IsTriple};
-ghost use Rattle.pdl_engine.specs.Apart.{AreApart, LiesApart};
+ghost use Rattle.pdl_engine.specs.Apart.{KeepApart, LiesApart};
 
 use pdl_shape::{Triple, dims_list, incs_list};
 
@@ -9,7 +9,7 @@ use pdl_shape::{Triple, dims_list, incs_list};
 /// which this is the sum.
 fn are_apart(sizes: &[u32], incs: &[i32], reach: u64) -> bool
     requires { length incs.now ≡ length sizes.now }
-    ensures { result ≡ true → AreApart reach incs.now sizes.now }
+    ensures { result ≡ true → KeepApart reach incs.now sizes.now }
 {
     match (sizes.split_first(), incs.split_first()) {
         (Some((size, sizes)), Some((inc, incs))) => {

@@ -20,7 +20,7 @@ use pdl_buf::{Elements, NoMemory, Steps};
 use pdl_elem::Ty;
 use pdl_nodes::{RelayFault as ReshapeFault, ViewFault};
 use pdl_shape::Dims;
-use pdl_world::{Trans, assignment_laws, base_laws, sweep_laws};
+use pdl_world::{Trans, assignment_laws, base_laws, growth_laws, sweep_laws};
 use std::sync::ledger::Ledger;
 
 /// A new root of numbers of the type long.
@@ -34,6 +34,8 @@ pub fn make<L: Ledger>(
     ensures { OnOk result
         (IsWorked engine.old (make dims.now elems) engine.new steps.old steps.new) }
 {
+    growth_laws();
+    engine.resting_law();
     let id = engine.make(Ty::Long, dims, elems, steps)?;
     engine.resting_law();
     Ok(id)
@@ -45,6 +47,8 @@ pub fn view(engine: &mut Engine, parent: ArrayId, trans: Trans) -> Result<ArrayI
     requires well_formed { IsTrue (is_well_formed trans) }
     ensures { OnOk result (IsWorked engine.old (view parent trans) engine.new 0 0) }
 {
+    growth_laws();
+    engine.resting_law();
     let id = engine.view(parent, trans)?;
     engine.resting_law();
     Ok(id)
@@ -59,6 +63,8 @@ pub fn ready<L: Ledger>(
     requires { IsLive engine.old.world id }
     ensures { OnOk result (IsWorked engine.old (ready id) engine.new steps.old steps.new) }
 {
+    growth_laws();
+    engine.resting_law();
     engine.ready(id, steps)?;
     engine.resting_law();
     Ok(())
@@ -72,6 +78,7 @@ pub fn assign<L: Ledger>(engine: &mut Engine, id: ArrayId, values: &[i64], steps
     requires in_range { All (InRange (ty_in engine.old.world id)) values.now }
     ensures { IsWorked engine.old (assign id values.now) engine.new steps.old steps.new }
 {
+    growth_laws();
     assignment_laws();
     base_laws();
     engine.resting_law();
@@ -88,6 +95,7 @@ pub fn sever<L: Ledger>(
     requires { IsLive engine.old.world id }
     ensures { OnOk result (IsWorked engine.old (sever id) engine.new steps.old steps.new) }
 {
+    growth_laws();
     engine.resting_law();
     engine.sever(id, steps)?;
     engine.resting_law();
@@ -104,6 +112,7 @@ pub fn reshape<L: Ledger>(
     requires { IsLive engine.old.world id }
     ensures { OnOk result (IsWorked engine.old (reshape id dims.now) engine.new steps.old steps.new) }
 {
+    growth_laws();
     engine.resting_law();
     engine.reshape(id, dims, steps)?;
     engine.resting_law();
@@ -115,6 +124,7 @@ pub fn release<L: Ledger>(engine: &mut Engine, id: ArrayId, steps: &mut Steps<L>
     requires { 0 < count_at engine.old.holds id }
     ensures { IsWorked engine.old (release id) engine.new steps.old steps.new }
 {
+    growth_laws();
     sweep_laws();
     engine.resting_law();
     engine.release(id, steps);

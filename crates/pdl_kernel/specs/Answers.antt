@@ -6,7 +6,7 @@ use Rattle.pdl_kernel.specs.declared.faults.Fault.{Fault}
 use Rattle.pdl_kernel.specs.declared.faults.RunFault.{RunFault}
 use Rattle.pdl_kernel.specs.Call.{PlacedFault, fault_named}
 
--- the answer is what is wanted; want of memory says nothing
+-- the answer is what is wanted; `NoMemory` says nothing
 abbrev pub Answers : (wanted : Result (List Made) PlacedFault) →
     Result (Vec Made Global) RunFault → Type 0
 Answers wanted (Ok outputs) = wanted ≡ Ok outputs.items

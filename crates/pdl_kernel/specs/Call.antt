@@ -63,7 +63,7 @@ pub record PlacedFault : Type 0 where
 abbrev pub fault_at : (place : ℕ) → Fault → PlacedFault
 fault_at p fault = record { place = p; fault = fault }
 
--- the fault of code that a call's fault names; want of memory names none
+-- the fault of code that a call's fault names; `NoMemory` names none
 abbrev pub fault_named : RunFault → Option PlacedFault
 fault_named (DivideByZero p) = Some (fault_at p Divides)
 fault_named (IndexOutOfRange p) = Some (fault_at p OutOfRange)

@@ -44,7 +44,7 @@ pub record AreCollected (stores : List Store) (was now : List Window) : Type 0 w
       IsCollected k stores (get_or was k blank) (get_or now k blank)
 
 -- the arguments have what was left where all stores are there, and else the answer is the fault;
--- out of memory says nothing
+-- `NoMemory` says nothing
 abbrev pub Collected : Result (Unit {0}) RunFault → (was now : List Window) →
     Result (List Store) PlacedFault → Type 0
 Collected (Ok u) was now (Ok stores) = AreCollected stores was now

@@ -30,14 +30,14 @@ start_elems ty shape given =
 
 -- the strides and the elements of an argument: an input is where it is given, and each other one is
 -- an array of its shape
-abbrev pub strides_with : Role → (shape : List ℕ) → Option Made → List ℕ
+abbrev pub strides_with : Role → (shape : List ℕ) → (given : Option Made) → List ℕ
 strides_with r shape given = if is_written r then strides_from 1 shape else given_strides given
 
-abbrev pub elems_with : Role → Ty → (shape : List ℕ) → Option Made → List ℤ
+abbrev pub elems_with : Role → Ty → (shape : List ℕ) → (given : Option Made) → List ℤ
 elems_with r ty shape given = if is_written r then start_elems ty shape given else given_elems ty given
 
 -- an argument of a type, of core sizes and of a shape
-abbrev pub window_with : Ty → (core shape : List ℕ) → SigArg → Option Made → Window
+abbrev pub window_with : Ty → (core shape : List ℕ) → SigArg → (given : Option Made) → Window
 window_with ty core shape a given = record {
   role = a.role;
   ty = ty;

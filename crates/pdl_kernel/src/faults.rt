@@ -11,7 +11,7 @@ pub enum Fault {
 }
 
 /// Why a call has no outputs. The place is the first one in broadcast order that has a fault; only
-/// want of memory may be answered at any call.
+/// `NoMemory` may be answered at any call.
 #[derive(Clone, Copy, PartialEq, Eq, Debug)]
 pub enum RunFault {
     /// `/` or `%` by 0.

@@ -63,7 +63,7 @@ impl<'k> KernelRun<'k> {
     }
 
     /// Gives the next of the inputs and `[io]` arguments, which are taken in the order of the
-    /// signature. A refusal, for want of memory alone, leaves the run as it was.
+    /// signature. Out of memory, its one refusal, it leaves the run as it was.
     pub fn give(&mut self, elems: &Strided<'_>) -> Result<(), AllocError>
         requires { IsNext self.old elems.now }
         ensures ok { OnOk result (self.new ≡ with_next self.old elems.now) }

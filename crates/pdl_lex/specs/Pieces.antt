@@ -99,7 +99,7 @@ script_marks bytes =
 -- what a cutter knows: where the next byte stands, the text of the begun statement
 -- (none where it is empty), whether that statement is too long and is being passed, the line on
 -- which it began, the line of the next byte, how many bytes were taken, and
--- whether memory was wanting
+-- whether it is out of memory
 pub record State : Type 0 where
   pub mode : Mode
   pub text : List ℕ

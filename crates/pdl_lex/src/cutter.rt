@@ -151,7 +151,7 @@ impl StatementCutter {
     /// statement with too long a text is answered at the byte past the limit, and the rest of it
     /// is taken without an answer.
     ///
-    /// Once memory was wanting, it answers `NoMemory` from then on and takes no byte more, and only
+    /// Once out of memory, it answers `NoMemory` from then on and takes no byte more, and only
     /// `feed` and `line` may be called. `line` then counts the newlines up to and with the byte for
     /// which there was no memory.
     pub fn feed(&mut self, piece: &[u8]) -> Result<Fed, NoMemory>
@@ -224,7 +224,7 @@ impl StatementCutter {
     }
 
     /// The line on which the next byte stands: 1 plus the number of newlines taken, whether
-    /// memory was wanting or not.
+    /// it is out of memory or not.
     pub fn line(&self) -> u64
         ensures { result ≡ self.now.line }
     {

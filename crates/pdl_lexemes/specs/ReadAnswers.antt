@@ -3,7 +3,7 @@ use Rattle.std.specs.Prelude.{◌≡◌, Option, Some, None, Result, Ok, Err}
 use Rattle.pdl_lexemes.specs.declared.refusal.Refusal.{Refusal}
 use Rattle.pdl_lexemes.specs.declared.refusal.Refusal.TheVariants.{Refused, NoMemory}
 
--- a value is what is read, and a refusal says that nothing is; want of memory says nothing
+-- a value is what is read, and a refusal says that nothing is; `NoMemory` says nothing
 abbrev pub Gives : {A B : Type 0} → (A → B) → Result A Refusal → Option B → Type 0
 Gives f (Ok x) o = o ≡ Some (f x)
 Gives f (Err Refused) o = o ≡ None

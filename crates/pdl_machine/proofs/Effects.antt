@@ -22,6 +22,7 @@ use Rattle.pdl_machine.specs.Cuts.{cut, severed, dims_given, reshaped, is_watche
 use Rattle.std.proofs.lemmas.List.{map-set}
 use Rattle.pdl_machine.specs.Watches.{Watches, watch_of, attached, attach, detach, is_present, attaching, detaching}
 use Rattle.pdl_machine.specs.Kernels.{defined}
+use Rattle.pdl_machine.specs.Dumps.{dumped}
 use Rattle.pdl_machine.specs.Value.{value_of, taken}
 use Rattle.pdl_machine.specs.Tidy.{renumbered, with_numbers}
 use Rattle.pdl_machine.specs.Step.{Stepped, list_bound, several_bound, target, after_printing, name_line, kernel_named, severing, reshaping, watching, unwatching, effect}
@@ -29,6 +30,7 @@ use Rattle.pdl_machine.proofs.Renamed.{AreAlike, StateAlike, sever_renamed, resh
 use Rattle.pdl_machine.proofs.Both.{Both, both_then, both_same}
 use Rattle.pdl_machine.proofs.WatchLemmas.{is_none-map, watch_of_renamed, attached_renamed, attach_renamed, detach_renamed}
 use Rattle.pdl_machine.proofs.Tidying.{holds_renamed}
+use Rattle.pdl_machine.proofs.DumpLemmas.{dumped_alike}
 use Rattle.pdl_machine.proofs.Stepping.{ValueAlike, TakenAlike, StepAlike, taken_seen, number_of_alike, bound_alike, list_alike, state_value_alike, state_taken_alike, assigning_alike, shown_alike, lines_alike, define_alike}
 
 -- a cut on both sides
@@ -185,7 +187,9 @@ effect_alike present g s t h (reshapes x sizes) =
     (state_taken_alike g s t h sizes) (reshaping_alike g s t h v u same))
 effect_alike present g s t h (undef x) = unbind_alike g s t h x
 effect_alike present g s t h vars = (h, lines_alike g s.arrays t.arrays h.arrays s.names.arrays ∙ ap (λ names. flat_map (name_line t.arrays) names.arrays) (sym h.names))
-effect_alike present g s t h dump = refl
+effect_alike present g s t h dump =
+    let P : Result (List ℕ) Fault → Type 0 = λ r. Both (StepAlike g) (effect present s dump) (and_then r (λ text. Ok (t, text))) in
+    subst P (sym (dumped_alike g s t h)) (both_same (StepAlike g) (dumped s) (λ text. Ok (s, text)) (λ text. Ok (t, text)) (λ text. (h, refl)))
 effect_alike present g s t h (pp_def f a b) = both_same (StepAlike g) (defined f a b) (kernel_named s f) (kernel_named t f) (define_alike g s t h f)
 effect_alike present g s t h (watch x k) =
     both_then (NumberAlike g) (StepAlike g) (bound_to s.names x) (bound_to t.names x) (watching present s k) (watching present t k) (bound_to_alike g s t h x) (watching_alike present g s t h k)

@@ -2,6 +2,7 @@ pub mod WatchLemmas
 pub mod Renamed
 pub mod Both
 pub mod Stepping
+pub mod DumpLemmas
 pub mod Effects
 pub mod Tidying
 pub mod Numbering
@@ -13,5 +14,11 @@ pub mod Presence
 pub mod Counted
 pub mod MeaningLemmas
 pub mod RunLemmas
+pub mod Rising
 pub mod SoFar
 pub mod Telling
+pub mod SpelledNames
+pub mod SpelledViews
+pub mod SpelledValues
+pub mod Spelled
+pub mod TidiedDumps

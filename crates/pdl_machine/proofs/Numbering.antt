@@ -344,7 +344,7 @@ tidied_alike s order =
     }
 
 -- a world under other numbers has all of its arrays
-all_renamed : (g : ℕ → ℕ) (w : World) → Renames g true w (renamed g w)
+pub all_renamed : (g : ℕ → ℕ) (w : World) → Renames g true w (renamed g w)
 all_renamed g [] = empty
 all_renamed g ((i, d) ∷ w) = same i d (all_renamed g w)
 

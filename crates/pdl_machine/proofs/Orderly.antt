@@ -29,6 +29,7 @@ use Rattle.pdl_machine.specs.Operators.{binary_each, values_for}
 use Rattle.pdl_machine.specs.Cuts.{cut, severed, dims_given, reshaped, is_watched}
 use Rattle.pdl_kernel.specs.Kernels.{Kernel}
 use Rattle.pdl_machine.specs.Kernels.{kernel_outputs, defined}
+use Rattle.pdl_machine.specs.Dumps.{dumped}
 use Rattle.pdl_machine.specs.Calls.{outcome, Callee, builtin, kernel, callee_of, only_root, several, value_by, call_value}
 use Rattle.pdl_machine.specs.Value.{Taken, known, number_made, value_of, taken}
 use Rattle.pdl_world.specs.Swept.{parents}
@@ -280,7 +281,7 @@ below_set n [] r new below = tt
 below_set n ((k, root ty ds es) ∷ w) r new below = (below.0, below_set n w r new below.1)
 below_set n ((k, view p t) ∷ w) r new below = (below.0, below_set n w r new below.1)
 
-in_world-set : (w : World) (r v : ℕ) (es : List ℤ) → in_world (set_elements w r es) v ≡ in_world w v
+pub in_world-set : (w : World) (r v : ℕ) (es : List ℤ) → in_world (set_elements w r es) v ≡ in_world w v
 in_world-set [] r v new = refl
 in_world-set ((k, root ty ds es) ∷ w) r v new = ap (λ b. if k == v then true else b) (in_world-set w r v new)
 in_world-set ((k, view p t) ∷ w) r v new = ap (λ b. if k == v then true else b) (in_world-set w r v new)
@@ -321,7 +322,7 @@ below_replaced : (n : ℕ) (w : World) (v : ℕ) (new : ArrayDef) → NumbersBel
 below_replaced n [] v new below = tt
 below_replaced n ((k, d) ∷ w) v new below = (below.0, below_replaced n w v new below.1)
 
-in_world-replaced : (w : World) (r v : ℕ) (new : ArrayDef) → in_world (replaced w r new) v ≡ in_world w v
+pub in_world-replaced : (w : World) (r v : ℕ) (new : ArrayDef) → in_world (replaced w r new) v ≡ in_world w v
 in_world-replaced [] r v new = refl
 in_world-replaced ((k, d) ∷ w) r v new = ap (λ b. if k == v then true else b) (in_world-replaced w r v new)
 
@@ -444,7 +445,7 @@ effect_in_order present s order (reshapes x sizes) =
     ok_then (FineTaken s.arrays) FineStep (taken s.names s.arrays sizes) (reshaping s v) (taken_fine s.names sizes s.arrays (grows_self s order) order.inside) (reshaping_fine s v order))
 effect_in_order present s order (undef x) = unbind_fine s x order
 effect_in_order present s order vars = order
-effect_in_order present s order dump = tt
+effect_in_order present s order dump = ok_always FineStep (dumped s) (λ text. Ok (s, text)) (λ text. order)
 effect_in_order present s order (pp_def f a b) = ok_always FineStep (defined f a b) (kernel_named s f) (λ k. define_fine s f k order)
 effect_in_order present s order (watch x k) =
     ok_then (λ v. in_world s.arrays.world v ≡ true) FineStep (bound_to s.names x) (watching present s k) (bound_to_fine s x order) (λ v here. watching_fine present s k v order here)

@@ -146,7 +146,7 @@ effect_there present s (sever x) there = same_there present s there (effect pres
 effect_there present s (reshape x sizes) there = same_there present s there (effect present s (reshape x sizes)) (effect_watches present s (reshape x sizes) tt)
 effect_there present s (undef x) there = same_there present s there (effect present s (undef x)) (effect_watches present s (undef x) tt)
 effect_there present s vars there = there
-effect_there present s dump there = tt
+effect_there present s dump there = same_there present s there (effect present s dump) (effect_watches present s dump tt)
 effect_there present s (pp_def f a b) there = same_there present s there (effect present s (pp_def f a b)) (effect_watches present s (pp_def f a b) tt)
 
 pub steps_keep_there : StepsKeepThere

@@ -36,6 +36,7 @@ use Rattle.pdl_machine.specs.Watches.{Watches, attached, attaching, detaching, n
 use Rattle.pdl_machine.specs.Outcome.{Given, all_seen, Valued, new_root}
 use Rattle.pdl_machine.specs.Cuts.{cut, severed, dims_given, is_watched, reshaped}
 use Rattle.pdl_machine.specs.Kernels.{defined}
+use Rattle.pdl_machine.specs.Dumps.{dumped}
 use Rattle.pdl_machine.specs.Calls.{Callee, callee_of, several, value_by}
 use Rattle.pdl_machine.specs.Value.{value_of, taken}
 use Rattle.pdl_machine.specs.Step.{Stepped, bind_value, bound, roots_bound, outputs_bound, kernel_named, list_bound, several_bound, after_printing, severing, reshaping, watching, effect}
@@ -289,7 +290,7 @@ effect_keeps laws present s whole (reshapes x sizes) other =
 effect_keeps laws present s whole (undef x) other =
     ok_always (Keeps s) (unbind s.names x) (λ names. Ok (record s { names = names }, [])) (λ names u h. refl)
 effect_keeps laws present s whole vars other = λ u h. refl
-effect_keeps laws present s whole dump other = tt
+effect_keeps laws present s whole dump other = ok_always (Keeps s) (dumped s) (λ text. Ok (s, text)) (λ text u h. refl)
 effect_keeps laws present s whole (pp_def f a b) other =
     ok_always (Keeps s) (defined f a b) (kernel_named s f) (λ k. ok_always (Keeps s) (define s.names f k) (λ names. Ok (record s { names = names }, [])) (λ names u h. refl))
 effect_keeps laws present s whole (watch x k) other = ok_always (Keeps s) (bound_to s.names x) (watching present s k) (λ v. rewatched_keeps s (attaching present s.watches k v))

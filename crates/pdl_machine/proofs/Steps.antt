@@ -80,7 +80,7 @@ tidying_shows_the_same s x whole =
     by_number g h (Some v) = ap Some (array_alike g (tidy s).arrays s.arrays h.arrays v)
 
 -- a number above a world isn't in it
-absent : (w : World) (n v : ℕ) → NumbersBelow n w → in_world w v ≡ true → (v == n) ≡ false
+pub absent : (w : World) (n v : ℕ) → NumbersBelow n w → in_world w v ≡ true → (v == n) ≡ false
 absent [] n v below there = cc
 absent ((k, d) ∷ w) n v below there =
     by_test (k == v)
@@ -91,7 +91,7 @@ unheld : (w : World) (hs : List ℕ) (k : ℕ) → NumbersBelow k w → AreLive 
 unheld w [] k below live = refl
 unheld w (v ∷ hs) k below live = let other : (v == k) ≡ false = absent w k v below (live_inside w v live.0) in rw other (unheld w hs k below live.1)
 
-below_rest : (more w : World) (k : ℕ) → NumbersBelow k (more ++ w) → NumbersBelow k w
+pub below_rest : (more w : World) (k : ℕ) → NumbersBelow k (more ++ w) → NumbersBelow k w
 below_rest [] w k b = b
 below_rest (a ∷ more) w k b = below_rest more w k b.1
 

@@ -47,11 +47,11 @@ sweep_renamed g apart (same {w = w} {u = u} i d r) hs =
     by_keeps rest true = ap (λ x. (g i, with_parent g d) ∷ sweep u x) (parents_renamed g d hs) ∙ ap (λ x. (g i, with_parent g d) ∷ x) (rest (parents d ++ hs))
     by_keeps rest false = rest hs
 
-length-renamed : (g : ℕ → ℕ) (w : World) → length (renamed g w) ≡ length w
+pub length-renamed : (g : ℕ → ℕ) (w : World) → length (renamed g w) ≡ length w
 length-renamed g [] = refl
 length-renamed g ((i, d) ∷ w) = ap suc (length-renamed g w)
 
-older_renamed : (g : ℕ → ℕ) → IsApart g → (w : World) (v : ℕ) → older (renamed g w) (g v) ≡ older w v
+pub older_renamed : (g : ℕ → ℕ) → IsApart g → (w : World) (v : ℕ) → older (renamed g w) (g v) ≡ older w v
 older_renamed g apart [] v = refl
 older_renamed g apart ((i, d) ∷ w) v =
     ap (λ b. if b then length (renamed g w) else older (renamed g w) (g v)) (same_test g apart i v)
@@ -66,14 +66,14 @@ abbrev entry : ℕ → ArrayDef → World → World
 entry n d w = (n, d) ∷ w
 
 -- numbered anew both are the same
-renumber_renamed : (g : ℕ → ℕ) → IsApart g → (w : World) → renumber (renamed g w) ≡ renumber w
+pub renumber_renamed : (g : ℕ → ℕ) → IsApart g → (w : World) → renumber (renamed g w) ≡ renumber w
 renumber_renamed g apart [] = refl
 renumber_renamed g apart ((i, d) ∷ w) = three (length-renamed g w) (parent_renamed g apart w d) (renumber_renamed g apart w)
   where
     three : {n m : ℕ} {x y : ArrayDef} {u v : World} → n ≡ m → x ≡ y → u ≡ v → entry n x u ≡ entry m y v
     three p q s = cc
 
-names_renamed : (g : ℕ → ℕ) → IsApart g → (w : World) (names : Named ℕ) → renumbered (older (renamed g w)) (renumbered g names) ≡ renumbered (older w) names
+pub names_renamed : (g : ℕ → ℕ) → IsApart g → (w : World) (names : Named ℕ) → renumbered (older (renamed g w)) (renumbered g names) ≡ renumbered (older w) names
 names_renamed g apart w [] = refl
 names_renamed g apart w (n ∷ names) =
     ap (λ v. (n.0, v) ∷ renumbered (older (renamed g w)) (renumbered g names)) (older_renamed g apart w n.1) ∙ ap (λ rest. (n.0, older w n.1) ∷ rest) (names_renamed g apart w names)

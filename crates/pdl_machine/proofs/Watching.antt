@@ -12,6 +12,7 @@ use Rattle.pdl_machine.specs.State.{State, with_arrays}
 use Rattle.pdl_machine.specs.Outcome.{Given, all_seen, Valued, new_root}
 use Rattle.pdl_machine.specs.Cuts.{severed, dims_given, reshaped}
 use Rattle.pdl_machine.specs.Kernels.{defined}
+use Rattle.pdl_machine.specs.Dumps.{dumped}
 use Rattle.pdl_machine.specs.Calls.{Callee, callee_of, several, value_by}
 use Rattle.pdl_machine.specs.Value.{value_of, taken}
 use Rattle.pdl_machine.specs.Step.{Stepped, bind_value, bound, roots_bound, outputs_bound, kernel_named, list_bound, several_bound, target, assigned, assigning, after_printing, severing, reshaping, effect}
@@ -86,7 +87,7 @@ effect_watches present s (reshapes x sizes) plain =
     ok_always (SameWatches s) (taken s.names s.arrays sizes) (reshaping s v) (reshaping_watches s v))
 effect_watches present s (undef x) plain = ok_always (SameWatches s) (unbind s.names x) (λ names. Ok (record s { names = names }, [])) (λ names. refl)
 effect_watches present s vars plain = refl
-effect_watches present s dump plain = tt
+effect_watches present s dump plain = ok_always (SameWatches s) (dumped s) (λ text. Ok (s, text)) (λ text. refl)
 effect_watches present s (pp_def f a b) plain =
     ok_always (SameWatches s) (defined f a b) (kernel_named s f) (λ k. ok_always (SameWatches s) (define s.names f k) (λ names. Ok (record s { names = names }, [])) (λ names. refl))
 effect_watches present s (watch x k) plain = absurd plain

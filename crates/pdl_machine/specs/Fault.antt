@@ -1,7 +1,7 @@
 -- The text of each fault.
 use Rattle.std.specs.Prelude.{ℕ, List, codes}
 use Rattle.pdl_machine.specs.declared.fault.Fault.{Fault}
-use Rattle.pdl_machine.specs.declared.fault.Fault.TheVariants.{Syntax, StatementTooLong, ScriptTooLong, NumberTooLarge, Ragged, TooDeep, UnknownName, UnknownFunction, WrongArguments, TooManyNames, TooManyKernels, BadSlice, OutOfRange, BadDimension, Mismatch, TooLarge, TooManyDims, DivideByZero, EmptyReduce, BadSignature, BadKernel, TooMuchWork, BadWatcher, ReshapeBreaks, StillWatched}
+use Rattle.pdl_machine.specs.declared.fault.Fault.TheVariants.{Syntax, StatementTooLong, ScriptTooLong, NumberTooLarge, Ragged, TooDeep, UnknownName, UnknownFunction, WrongArguments, TooManyNames, TooManyKernels, BadSlice, OutOfRange, BadDimension, Mismatch, TooLarge, TooManyDims, DivideByZero, EmptyReduce, BadSignature, BadKernel, TooMuchWork, BadWatcher, ReshapeBreaks, StillWatched, DumpTooLong}
 
 abbrev pub text_of : Fault → List ℕ
 text_of Syntax = codes "syntax error"
@@ -29,3 +29,4 @@ text_of TooMuchWork = codes "too much work"
 text_of BadWatcher = codes "bad watcher"
 text_of ReshapeBreaks = codes "reshape breaks a view"
 text_of StillWatched = codes "still watched"
+text_of DumpTooLong = codes "dump too long"

@@ -18,12 +18,16 @@ pub mod Operators
 pub mod Calls
 pub mod Value
 pub mod Tidy
+pub mod Dumps
 pub mod Step
 pub mod Laws
 pub mod Worked
 pub mod WorkedCuts
 pub mod WorkedWatches
 pub mod WorkedNice
+pub mod DumpLaws
+pub mod Dumpable
+pub mod DumpableLaws
 pub mod Parsed
 pub mod Reads
 pub mod Run

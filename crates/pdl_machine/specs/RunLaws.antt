@@ -1,6 +1,7 @@
 -- What holds of every run.
 use Rattle.std.specs.Prelude.{◌≡◌, ℕ, ◌+◌, ◌<◌, ◌≤◌, ◌||◌, nat_le, List, [], ◌∷◌, ◌++◌, length, true, false, Ok}
 use Rattle.std.specs.List.{All}
+use Rattle.std.specs.List.Sorted.{IsStrictlyIncreasing}
 use Rattle.pdl_lex.specs.Limits.{script_limit}
 use Rattle.pdl_lex.specs.Pieces.{Mark, pieces, settled}
 use Rattle.pdl_io.specs.Counts.{next_count}
@@ -89,6 +90,11 @@ abbrev pub RefusedAreGiven : Type 0
 RefusedAreGiven = (terms : Terms) (script : List ℕ) → All
     (λ number. (is_refused terms number ≡ true) × (number ≤ (run terms script).count))
     (run terms script).refused
+
+-- their numbers rise
+abbrev pub RefusedRise : Type 0
+RefusedRise = (terms : Terms) (script : List ℕ) →
+    IsStrictlyIncreasing (run terms script).refused
 
 -- there are at most 64 of them
 abbrev pub RefusedAreFew : Type 0

@@ -22,6 +22,7 @@ use Rattle.pdl_machine.specs.Cuts.{cut, severed, dims_given, reshaped}
 use Rattle.pdl_machine.specs.Calls.{Callee, callee_of, several, value_by}
 use Rattle.pdl_machine.specs.Value.{value_of, value_in, taken}
 use Rattle.pdl_machine.specs.Tidy.{tidy}
+use Rattle.pdl_machine.specs.Dumps.{dumped}
 
 -- a state and what was printed, or a fault
 abbrev pub Stepped : Type 0
@@ -140,7 +141,7 @@ effect present s (reshape x sizes) =
 effect present s (undef x) =
     and_then (unbind s.names x) (λ names. Ok (record s { names = names }, []))
 effect present s vars = Ok (s, flat_map (name_line s.arrays) s.names.arrays)
-effect present s dump = Err Syntax
+effect present s dump = and_then (dumped s) (λ text. Ok (s, text))
 effect present s (pp_def f signature code) = and_then (defined f signature code) (kernel_named s f)
 effect present s (watch x slot) = and_then (bound_to s.names x) (watching present s slot)
 effect present s (unwatch slot) = unwatching s slot

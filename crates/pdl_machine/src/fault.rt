@@ -24,7 +24,7 @@ pub enum Fault {
     UnknownFunction,
     /// The arguments don't fit the call.
     WrongArguments,
-    /// More than 512 names would be bound.
+    /// More than 512 names would be bound, by the statement or where a dump runs.
     TooManyNames,
     /// There would be more than 256 kernels.
     TooManyKernels,
@@ -54,8 +54,10 @@ pub enum Fault {
     BadWatcher,
     /// The formula of a view that reaches the array refuses its new dimensions.
     ReshapeBreaks,
-    /// The array is watched, or one that reaches it is.
+    /// The array is watched, or one that reaches it is; or, for a dump, some array is.
     StillWatched,
+    /// A dump would have more than 8,388,608 bytes, or a statement of more than 65,536.
+    DumpTooLong,
 }
 
 /// The text that names the fault in a script's output.
@@ -88,5 +90,6 @@ pub fn fault_text(fault: Fault) -> &'static str
         Fault::BadWatcher => "bad watcher",
         Fault::ReshapeBreaks => "reshape breaks a view",
         Fault::StillWatched => "still watched",
+        Fault::DumpTooLong => "dump too long",
     }
 }

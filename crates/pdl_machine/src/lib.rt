@@ -7,12 +7,16 @@
 #![tactic(auto)]
 
 mod builtin;
+mod dumpable;
+mod dumping;
 mod fault;
 mod laws;
 mod limits;
 mod reading;
 
 pub use builtin::{Arrangement, Builtin, Inquiry, builtin_named};
+pub use dumpable::dumpable_laws;
+pub use dumping::{dump_law, worked_dumps};
 pub use fault::{Fault, fault_text};
 pub use laws::{
     numbering_laws, reaching_laws, view_words, watching_laws, worked_cuts, worked_nice,

@@ -1,7 +1,7 @@
 //! Laws of what a text is read as, and of runs.
 ghost use Rattle.pdl_machine.specs.Reads.{PlainTextsStay};
 ghost use Rattle.pdl_machine.specs.StatementMeaning.{ReadsItsMeaning, MeansOneThing, PlainMeansOneThing};
-ghost use Rattle.pdl_machine.specs.RunLaws.{EndedStays, PrintedStays, ToldStays, EachIsCounted, NoticesAreNumbered, NoneComes, NoneComesInARun, StayThere, AreThereInARun, FaultStays, GoesOn, FirstFaultEnds, EndedByAFault, RefusedStay, RefusedAreGiven, RefusedAreFew, NoneIsRefused, RefusalsLeaveAll, LimitIs, TooLongEnds, LimitEnds, SoFarIsAFront, SoFarIsPrinted, SoFarIsTold, SoFarGrows, SoFarIsAll};
+ghost use Rattle.pdl_machine.specs.RunLaws.{EndedStays, PrintedStays, ToldStays, EachIsCounted, NoticesAreNumbered, NoneComes, NoneComesInARun, StayThere, AreThereInARun, FaultStays, GoesOn, FirstFaultEnds, EndedByAFault, RefusedStay, RefusedAreGiven, RefusedRise, RefusedAreFew, NoneIsRefused, RefusalsLeaveAll, LimitIs, TooLongEnds, LimitEnds, SoFarIsAFront, SoFarIsPrinted, SoFarIsTold, SoFarGrows, SoFarIsAll};
 
 use pdl_lex::settled_laws;
 use pdl_lexemes::brackets_are_counted;
@@ -33,8 +33,8 @@ pub fn reads_law()
 /// (`none_comes`, `none_in_a_run`), and each that is attached has one (`there`, `there_in_a_run`).
 /// A statement that memory refuses prints its line alone (`alone`). Those that it refused stay written
 /// down (`refused`): each is one that the run was given no memory for, and came to
-/// (`refused_in_a_run`), at most 64 (`few`, `most`), and none where there is memory (`none_refused`). The
-/// call does nothing when it runs.
+/// (`refused_in_a_run`), at most 64 (`few`, `most`), in rising order (`rising`), and none where there is
+/// memory (`none_refused`). The call does nothing when it runs.
 pub fn run_laws()
     ensures ended { EndedStays }
     ensures printed { PrintedStays }
@@ -51,6 +51,7 @@ pub fn run_laws()
     ensures by_fault { EndedByAFault }
     ensures refused { RefusedStay }
     ensures refused_in_a_run { RefusedAreGiven }
+    ensures rising { RefusedRise }
     ensures few { RefusedAreFew }
     ensures none_refused { NoneIsRefused }
     ensures alone { RefusalsLeaveAll }

@@ -38,14 +38,14 @@ pub record AddsRead (ws : List Written) (from to : ℕ) (before after : List ℕ
   pub is : o ≡ Some what
   pub adds : Adds ws from to before after old new what
 
-abbrev pub AddsIf : Bool → List Written → (from to : ℕ) → (before after : List ℕ) →
+abbrev pub AddsIf : (found : Bool) → List Written → (from to : ℕ) → (before after : List ℕ) →
     (old new : List (ℕ × ℕ)) → Option Read → Type 0
 AddsIf true ws from to before after old new o = AddsRead ws from to before after old new o
 AddsIf false ws from to before after old new o = o ≡ None
 
 -- what is read from one place to another, of any tokens with these looks
-abbrev pub AddsOf : (List Written → Option Read) → Bool → List Look → (from to : ℕ) →
-    (before after : List ℕ) → (old new : List (ℕ × ℕ)) → Type 0
+abbrev pub AddsOf : (reading : List Written → Option Read) → (found : Bool) → List Look →
+    (from to : ℕ) → (before after : List ℕ) → (old new : List (ℕ × ℕ)) → Type 0
 AddsOf reading found looks from to before after old new =
     (ws : List Written) → map look ws ≡ looks → is_level [] (range ws from to) ≡ true →
     AddsIf found ws from to before after old new (reading (range ws from to))
@@ -57,14 +57,14 @@ pub record AddsFront (ws : List Written) (from at : ℕ) (before after : List �
   pub is : o ≡ Some (front (get_or ws at no_token) (drop (at + 1) ws) what)
   pub adds : Adds ws from at before after old new what
 
-abbrev pub AddsUpTo : Option ℕ → List Written → (from : ℕ) → (before after : List ℕ) →
+abbrev pub AddsUpTo : (end : Option ℕ) → List Written → (from : ℕ) → (before after : List ℕ) →
     (old new : List (ℕ × ℕ)) → Option Front → Type 0
 AddsUpTo (Some at) ws from before after old new o = AddsFront ws from at before after old new o
 AddsUpTo None ws from before after old new o = o ≡ None
 
 -- what is read from a place on, of any tokens with these looks
-abbrev pub AddsBehind : (List Written → Option Front) → Option ℕ → List Look → (from : ℕ) →
-    (before after : List ℕ) → (old new : List (ℕ × ℕ)) → Type 0
+abbrev pub AddsBehind : (reading : List Written → Option Front) → (end : Option ℕ) → List Look →
+    (from : ℕ) → (before after : List ℕ) → (old new : List (ℕ × ℕ)) → Type 0
 AddsBehind reading end looks from before after old new =
     (ws : List Written) → map look ws ≡ looks →
     AddsUpTo end ws from before after old new (reading (drop from ws))

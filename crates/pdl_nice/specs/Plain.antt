@@ -51,7 +51,7 @@ plain_text ws end = if go_deep no_brackets ws then Err too_deep else text_or end
 abbrev pub plain_of : List ℕ → List Token → Result (List ℕ) NiceRefusal
 plain_of text ts = plain_text (written text 0 ts) (end_behind text 0 ts)
 
--- the refusal that a fault names; want of memory is none
+-- the refusal that a fault names; `NoMemory` names none
 abbrev pub refusal_of : NiceFault → Option NiceRefusal
 refusal_of TooDeep = Some too_deep
 refusal_of Syntax = Some not_nice

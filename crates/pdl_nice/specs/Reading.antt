@@ -112,8 +112,8 @@ unfoldable pub each : (List Written → Option (List Written)) → List (List Wr
 each f [] = Some []
 each f (e ∷ es) = option_and_then (λ u. option_map (λ us. u ∷ us) (each f es)) (f e)
 
-abbrev pub call_before : Before → (gap pattern : List ℕ) → List (List Written) → List Written →
-    List Written
+abbrev pub call_before : Before → (gap pattern : List ℕ) → (parts : List (List Written)) →
+    (rest : List Written) → List Written
 call_before b gap p vs us = called b gap p vs ++ us
 
 -- what tokens become, where fewer than n tokens are left

@@ -59,6 +59,7 @@ pub record WritesPart (ws : List Written) (b : Before) (at end : ℕ) (old new :
   pub rest : text_behind b (drop at ws) ≡ onto part (text_behind another (drop end ws))
 
 -- that, or it becomes nothing
-abbrev pub WritesNice : Option ℕ → List Written → Before → (at : ℕ) → (old new : List ℕ) → Type 0
+abbrev pub WritesNice : (end : Option ℕ) → List Written → Before → (at : ℕ) → (old new : List ℕ) →
+    Type 0
 WritesNice (Some end) ws b at old new = WritesPart ws b at end old new
 WritesNice None ws b at old new = text_behind b (drop at ws) ≡ None

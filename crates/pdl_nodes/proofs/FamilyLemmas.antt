@@ -17,7 +17,7 @@ use Rattle.pdl_nodes.specs.declared.origin.Origin.{Origin}
 use Rattle.pdl_nodes.specs.declared.origin.Origin.TheVariants.{Root, View}
 use Rattle.pdl_nodes.specs.Row.{Row}
 use Rattle.pdl_nodes.specs.Rows.{Rows, row_at, has, each, NumbersBelow, Falls}
-use Rattle.pdl_nodes.specs.Worlds.{shape, def_from, def_of, places_in, places_of, latest, latest_from, world_of, with_elements, IsRoot}
+use Rattle.pdl_nodes.specs.Worlds.{shape, def_from, def_of, places_in, places_seen, latest, latest_from, world_of, with_elements, IsRoot}
 use Rattle.pdl_nodes.specs.Still.{own_places, base_over, triple_over, IsWhole, IsLaid, IsDerived, StillFrom, IsStill}
 use Rattle.pdl_nodes.specs.Families.{has_repeats, IsMarked, IsWaiting, InFamily, InOrder}
 use Rattle.pdl_nodes.proofs.Finds.{not_newest, each_has, each_at, below_each}
@@ -27,7 +27,7 @@ use Rattle.pdl_nodes.proofs.WorldLemmas.{assign_with, elements_with}
 use Rattle.pdl_nodes.specs.Seen.{IsSeen}
 use Rattle.std.proofs.lemmas.Bool.{eq-eqb, ne_eqb}
 use Rattle.pdl_nodes.specs.Quiet.{IsQuiet}
-use Rattle.pdl_nodes.specs.Quiet.{IsWithin}
+use Rattle.pdl_nodes.specs.Quiet.{LeavesOthers}
 
 -- all that a derivation says of two rows stays with what they say of themselves
 derived_same : (k : ℕ) (a b r q : Row) (t : Trans) (y : Layout) → b.ty ≡ a.ty → b.root ≡ a.root → b.base ≡ a.base → b.triple ≡ a.triple → q.ty ≡ r.ty → q.root ≡ r.root → q.base ≡ r.base → q.triple ≡ r.triple → IsDerived k a r t y → IsDerived k b q t y
@@ -59,7 +59,7 @@ still_each f ((k, r) ∷ rs) q s = (below_each f k rs s.0, (let P : Origin → T
 pub shape_each : (f : ℕ → Row → Row) (rs : Rows) → IsQuiet f → shape (each f rs) ≡ shape rs
 shape_each f rs q = each_shape f rs (λ k r. def_same (f k r) r (q.origin k r) (q.ty k r) (q.triple k r))
 
-pub places_each : (f : ℕ → Row → Row) (rs : Rows) (v : ℕ) → IsQuiet f → places_of (each f rs) v ≡ places_of rs v
+pub places_each : (f : ℕ → Row → Row) (rs : Rows) (v : ℕ) → IsQuiet f → places_seen (each f rs) v ≡ places_seen rs v
 places_each f rs v q = ap (λ w. places_in w v) (shape_each f rs q)
 
 root_cases : (f : ℕ → Row → Row) (rs : Rows) (v : ℕ) (b : Bool) → has rs v ≡ b → IsQuiet f → (row_at (each f rs) v).root ≡ (row_at rs v).root
@@ -72,21 +72,21 @@ root_each f rs v q = root_cases f rs v (has rs v) refl q
 is_root_each : (f : ℕ → Row → Row) (rs : Rows) (r : ℕ) → IsQuiet f → IsRoot (each f rs) r → IsRoot rs r
 is_root_each f rs r q i = (sym (each_has f rs r) ∙ i.0, sym (root_each f rs r q) ∙ i.1)
 
-other_cases : (rt : ℕ) (f : ℕ → Row → Row) (rs : Rows) (v : ℕ) (b : Bool) → has rs v ≡ b → IsWithin rt f rs → ((row_at rs v).root ≡ rt → ⊥) → row_at (each f rs) v ≡ row_at rs v
+other_cases : (rt : ℕ) (f : ℕ → Row → Row) (rs : Rows) (v : ℕ) (b : Bool) → has rs v ≡ b → LeavesOthers rt f rs → ((row_at rs v).root ≡ rt → ⊥) → row_at (each f rs) v ≡ row_at rs v
 other_cases rt f rs v true h w n = each_at f rs v h ∙ w.outside v n
 other_cases rt f rs v false h w n = past_at (each f rs) v (each_has f rs v ∙ h) ∙ sym (past_at rs v h)
 
-pub other_row : (rt : ℕ) (f : ℕ → Row → Row) (rs : Rows) (v : ℕ) → IsWithin rt f rs → ((row_at rs v).root ≡ rt → ⊥) → row_at (each f rs) v ≡ row_at rs v
+pub other_row : (rt : ℕ) (f : ℕ → Row → Row) (rs : Rows) (v : ℕ) → LeavesOthers rt f rs → ((row_at rs v).root ≡ rt → ⊥) → row_at (each f rs) v ≡ row_at rs v
 other_row rt f rs v w n = other_cases rt f rs v (has rs v) refl w n
 
 -- the elements of a root of which row and waiting row are known
 pub latest_none : (rs : Rows) (r : ℕ) → (row_at rs r).waiting ≡ None → latest rs r ≡ (row_at rs r).kept
 latest_none rs r e = ap (λ o. latest_from rs r o) e
 
-pub latest_some : (rs : Rows) (r v : ℕ) → (row_at rs r).waiting ≡ Some v → latest rs r ≡ write (places_of rs v) (row_at rs v).kept (row_at rs r).kept
+pub latest_some : (rs : Rows) (r v : ℕ) → (row_at rs r).waiting ≡ Some v → latest rs r ≡ write (places_seen rs v) (row_at rs v).kept (row_at rs r).kept
 latest_some rs r v e = ap (λ o. latest_from rs r o) e
 
-other_latest : (rt : ℕ) (f : ℕ → Row → Row) (rs : Rows) (r : ℕ) (o : Option ℕ) → (row_at rs r).waiting ≡ o → IsQuiet f → IsWithin rt f rs → IsRoot rs r → InFamily rs r → (r ≡ rt → ⊥) → latest (each f rs) r ≡ latest rs r
+other_latest : (rt : ℕ) (f : ℕ → Row → Row) (rs : Rows) (r : ℕ) (o : Option ℕ) → (row_at rs r).waiting ≡ o → IsQuiet f → LeavesOthers rt f rs → IsRoot rs r → InFamily rs r → (r ≡ rt → ⊥) → latest (each f rs) r ≡ latest rs r
 other_latest rt f rs r None e q w i m n =
     let s : row_at (each f rs) r ≡ row_at rs r = other_row rt f rs r w (λ h. n (sym i.1 ∙ h)) in
     latest_none (each f rs) r (ap (λ x. x.waiting) s ∙ e) ∙ ap (λ x. x.kept) s ∙ sym (latest_none rs r e)
@@ -95,11 +95,11 @@ other_latest rt f rs r (Some v) e q w i m n =
     let u : row_at (each f rs) v ≡ row_at rs v = other_row rt f rs v w (λ h. n (sym (m.waits v e).of_root ∙ h)) in
     latest_some (each f rs) r v (ap (λ x. x.waiting) s ∙ e) ∙ rw (s, u, places_each f rs v q) (sym (latest_some rs r v e))
 
-latest_other : (rt : ℕ) (f : ℕ → Row → Row) (rs : Rows) (r : ℕ) → IsQuiet f → IsWithin rt f rs → IsRoot rs r → InFamily rs r → (r ≡ rt → ⊥) → latest (each f rs) r ≡ latest rs r
+latest_other : (rt : ℕ) (f : ℕ → Row → Row) (rs : Rows) (r : ℕ) → IsQuiet f → LeavesOthers rt f rs → IsRoot rs r → InFamily rs r → (r ≡ rt → ⊥) → latest (each f rs) r ≡ latest rs r
 latest_other rt f rs r q w i m n = other_latest rt f rs r (row_at rs r).waiting refl q w i m n
 
 -- another family stays in order
-family_other : (rt : ℕ) (f : ℕ → Row → Row) (rs : Rows) (r : ℕ) → IsQuiet f → IsWithin rt f rs → IsRoot rs r → InFamily rs r → (r ≡ rt → ⊥) → InFamily (each f rs) r
+family_other : (rt : ℕ) (f : ℕ → Row → Row) (rs : Rows) (r : ℕ) → IsQuiet f → LeavesOthers rt f rs → IsRoot rs r → InFamily rs r → (r ≡ rt → ⊥) → InFamily (each f rs) r
 family_other rt f rs r q w i m n =
     let s : row_at (each f rs) r ≡ row_at rs r = other_row rt f rs r w (λ h. n (sym i.1 ∙ h)) in
     let row : (b : ℕ) → (row_at (each f rs) b).root ≡ r → row_at (each f rs) b ≡ row_at rs b = λ b h. other_row rt f rs b w (λ g. n (sym h ∙ root_each f rs b q ∙ g)) in
@@ -128,7 +128,7 @@ family_other rt f rs r q w i m n =
     }
 
 -- all is in order where the changed family is
-pub order_each : (rt : ℕ) (f : ℕ → Row → Row) (rs : Rows) → IsQuiet f → IsWithin rt f rs → InOrder rs → InFamily (each f rs) rt → InOrder (each f rs)
+pub order_each : (rt : ℕ) (f : ℕ → Row → Row) (rs : Rows) → IsQuiet f → LeavesOthers rt f rs → InOrder rs → InFamily (each f rs) rt → InOrder (each f rs)
 order_each rt f rs q w o m = record {
   still = still_each f rs q o.still;
   family = λ r i. elim (cases_eq r rt) [
@@ -167,13 +167,13 @@ root_elements_with f ((k, r) ∷ rs) v s i = elim (eqb_tells k v) [
 ]
 
 -- the elements of an array
-pub elements_are : (rs : Rows) (v : ℕ) → IsStill rs → has rs v ≡ true → elements (world_of rs) v ≡ read (places_of rs v) (latest rs (row_at rs v).root)
+pub elements_are : (rs : Rows) (v : ℕ) → IsStill rs → has rs v ≡ true → elements (world_of rs) v ≡ read (places_seen rs v) (latest rs (row_at rs v).root)
 elements_are rs v s h =
     let e : IsSeen rs v = is_seen rs s v h in
     elements_with (latest rs) (shape rs) v _ e.looks (root_elements_with (latest rs) rs (row_at rs v).root s (e.root_has, e.root_root))
 
 -- the world after a change of one family
-pub world_same : (rt : ℕ) (f : ℕ → Row → Row) (rs : Rows) → IsQuiet f → IsWithin rt f rs → InOrder rs → latest (each f rs) rt ≡ latest rs rt → world_of (each f rs) ≡ world_of rs
+pub world_same : (rt : ℕ) (f : ℕ → Row → Row) (rs : Rows) → IsQuiet f → LeavesOthers rt f rs → InOrder rs → latest (each f rs) rt ≡ latest rs rt → world_of (each f rs) ≡ world_of rs
 world_same rt f rs q w o h =
     ap (λ x. with_elements (latest (each f rs)) x) (shape_each f rs q)
     ∙ with_roots (latest (each f rs)) (latest rs) rs o.still (λ k i. elim (cases_eq k rt) [
@@ -181,12 +181,12 @@ world_same rt f rs q w o h =
       | inr n ↦ latest_other rt f rs k q w i (o.family k i) n
     ])
 
-pub world_assigned : (rt : ℕ) (f : ℕ → Row → Row) (rs : Rows) (v first : ℕ) (vs : List ℤ) → IsQuiet f → IsWithin rt f rs → InOrder rs → has rs v ≡ true → (row_at rs v).root ≡ rt → latest (each f rs) rt ≡ write (drop first (places_of rs v)) vs (latest rs rt) → world_of (each f rs) ≡ assign_part (world_of rs) v first vs
+pub world_assigned : (rt : ℕ) (f : ℕ → Row → Row) (rs : Rows) (v first : ℕ) (vs : List ℤ) → IsQuiet f → LeavesOthers rt f rs → InOrder rs → has rs v ≡ true → (row_at rs v).root ≡ rt → latest (each f rs) rt ≡ write (drop first (places_seen rs v)) vs (latest rs rt) → world_of (each f rs) ≡ assign_part (world_of rs) v first vs
 world_assigned rt f rs v first vs q w o l e h =
     let s : IsSeen rs v = is_seen rs o.still v l in
     ap (λ x. with_elements (latest (each f rs)) x) (shape_each f rs q)
-    ∙ with_roots (latest (each f rs)) (λ k. cond (eqb k (row_at rs v).root) (write (drop first (places_of rs v)) vs (latest rs (row_at rs v).root)) (latest rs k)) rs o.still (λ k i. elim (eqb_tells k (row_at rs v).root) [
-      | inl t ↦ rw t.0 (ap (latest (each f rs)) (t.1 ∙ e) ∙ h ∙ ap (λ x. write (drop first (places_of rs v)) vs (latest rs x)) (sym e))
+    ∙ with_roots (latest (each f rs)) (λ k. cond (eqb k (row_at rs v).root) (write (drop first (places_seen rs v)) vs (latest rs (row_at rs v).root)) (latest rs k)) rs o.still (λ k i. elim (eqb_tells k (row_at rs v).root) [
+      | inl t ↦ rw t.0 (ap (latest (each f rs)) (t.1 ∙ e) ∙ h ∙ ap (λ x. write (drop first (places_seen rs v)) vs (latest rs x)) (sym e))
       | inr t ↦ rw t.0 (latest_other rt f rs k q w i (o.family k i) (λ g. t.1 (g ∙ sym e)))
     ])
     ∙ sym (assign_with (latest rs) (shape rs) v _ first vs s.looks (root_elements_with (latest rs) rs (row_at rs v).root o.still (s.root_has, s.root_root)))

@@ -9,7 +9,7 @@ use Rattle.pdl_nodes.specs.declared.origin.Origin.{Origin}
 use Rattle.pdl_nodes.specs.declared.origin.Origin.TheVariants.{Root, View}
 use Rattle.pdl_nodes.specs.Row.{Row, root_row}
 use Rattle.pdl_nodes.specs.Rows.{Rows, row_at, has, NumbersBelow}
-use Rattle.pdl_nodes.specs.Worlds.{shape, def_from, places_of, latest, world_of, with_elements, IsRoot}
+use Rattle.pdl_nodes.specs.Worlds.{shape, def_from, places_seen, latest, world_of, with_elements, IsRoot}
 use Rattle.pdl_nodes.specs.Still.{IsStill}
 use Rattle.pdl_nodes.specs.Families.{is_among, has_repeats, IsMarked, InFamily, InOrder}
 use Rattle.pdl_nodes.specs.Joined.{IsNew, joined_def, joined_from}
@@ -69,11 +69,11 @@ family_new rs k r i o e =
     let lt : latest ((k, r) ∷ rs) k ≡ r.kept = latest_none ((k, r) ∷ rs) k (ap (λ x. x.waiting) row ∙ i.nothing) ∙ ap (λ x. x.kept) row in
     let len : length r.kept ≡ (size_of (row_at ((k, r) ∷ rs) k).triple.dims) = i.count e ∙ sym (ap (λ x. size_of x.triple.dims) row) in
     let sn : IsSeen ((k, r) ∷ rs) k = is_seen ((k, r) ∷ rs) st k ri.0 in
-    let pl : places_of ((k, r) ∷ rs) k ≡ map Some (range_with_len 0 (size_of (row_at ((k, r) ∷ rs) k).triple.dims)) = ap (places_of ((k, r) ∷ rs)) (sym ri.1) ∙ sn.root_places ∙ ap (λ x. map Some (range_with_len 0 (size_of (row_at ((k, r) ∷ rs) x).triple.dims))) ri.1 in
-    let fl : (row_at ((k, r) ∷ rs) k).repeats ≡ has_repeats (places_of ((k, r) ∷ rs) k) = ap (λ x. x.repeats) row ∙ i.flat e ∙ sym (ap has_repeats pl ∙ whole_once 0 (size_of (row_at ((k, r) ∷ rs) k).triple.dims)) in
+    let pl : places_seen ((k, r) ∷ rs) k ≡ map Some (range_with_len 0 (size_of (row_at ((k, r) ∷ rs) k).triple.dims)) = ap (places_seen ((k, r) ∷ rs)) (sym ri.1) ∙ sn.root_places ∙ ap (λ x. map Some (range_with_len 0 (size_of (row_at ((k, r) ∷ rs) x).triple.dims))) ri.1 in
+    let fl : (row_at ((k, r) ∷ rs) k).repeats ≡ has_repeats (places_seen ((k, r) ∷ rs) k) = ap (λ x. x.repeats) row ∙ i.flat e ∙ sym (ap has_repeats pl ∙ whole_once 0 (size_of (row_at ((k, r) ∷ rs) k).triple.dims)) in
     let me : IsMarked ((k, r) ∷ rs) k = record {
       own = ap (λ x. x.base) row ∙ i.own e;
-      shows = ap (λ x. x.kept) row ∙ sym (ap (λ x. read (places_of ((k, r) ∷ rs) k) (latest ((k, r) ∷ rs) x)) ri.1 ∙ ap (read (places_of ((k, r) ∷ rs) k)) lt ∙ root_shows ((k, r) ∷ rs) k r.kept st ri len);
+      shows = ap (λ x. x.kept) row ∙ sym (ap (λ x. read (places_seen ((k, r) ∷ rs) k) (latest ((k, r) ∷ rs) x)) ri.1 ∙ ap (read (places_seen ((k, r) ∷ rs) k)) lt ∙ root_shows ((k, r) ∷ rs) k r.kept st ri len);
       flag = fl;
     } in
     record {

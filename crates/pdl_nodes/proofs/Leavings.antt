@@ -18,7 +18,7 @@ use Rattle.pdl_nodes.specs.Rows.{Rows, row_at, has, reached, HasParent, HasParen
 use Rattle.pdl_nodes.specs.Sized.{IsLayout, LaidFrom, AreSized}
 use Rattle.pdl_nodes.specs.Staying.{staying, stays_from, KeepsParents}
 use Rattle.pdl_nodes.specs.Still.{StillFrom, IsStill}
-use Rattle.pdl_nodes.specs.Worlds.{IsRoot, shape, def_from, places_of, latest, world_of, with_elements}
+use Rattle.pdl_nodes.specs.Worlds.{IsRoot, shape, def_from, places_seen, latest, world_of, with_elements}
 use Rattle.pdl_nodes.proofs.Alikes.{root_live}
 use Rattle.pdl_nodes.proofs.Finds.{row_stays, has_stays}
 use Rattle.pdl_nodes.proofs.Reaches.{staying_live}
@@ -83,7 +83,7 @@ known_stays : (t : ℕ → Bool) (rs : Rows) → KeepsParents t (shape rs) → A
 known_stays t rs c a = λ v h.
     let y : t v ≡ true = stays t rs v h in
     let row : row_at (staying t rs) v ≡ row_at rs v = row_stays t rs v y in
-    let ps : places_of (staying t rs) v ≡ places_of rs v = places_stay t rs v c y in
+    let ps : places_seen (staying t rs) v ≡ places_seen rs v = places_stay t rs v c y in
     let k : IsKnown rs v = a v (sym (has_stays t rs v y) ∙ h) in
     record {
       places = λ xs e. k.places xs (ap (λ x. x.places) (sym row) ∙ e) ∙ sym ps;

@@ -12,7 +12,7 @@ use Rattle.pdl_nodes.specs.Table.{rows_of, IsTable}
 use Rattle.pdl_nodes.specs.Families.{InOrder, IsMarked, IsWaiting}
 use Rattle.pdl_nodes.specs.Known.{AreKnown, IsKnown}
 use Rattle.pdl_nodes.specs.Seen.{IsSeen}
-use Rattle.pdl_nodes.specs.Worlds.{IsRoot, latest, places_of}
+use Rattle.pdl_nodes.specs.Worlds.{IsRoot, latest, places_seen}
 use Rattle.pdl_shape.specs.Places.{element_at}
 use Rattle.pdl_shape.specs.Shape.{size_of}
 use Rattle.std.proofs.lemmas.List.{length-map}
@@ -35,7 +35,7 @@ pub record IsLiftable (rs : Rows) (rt b : ℕ) : Type 0 where
   pub count :
       (ps : List (Option ℕ)) → (row_at rs b).places ≡ Some ps
       → length ps ≡ size_of (row_at rs b).triple.dims
-  pub places : (ps : List (Option ℕ)) → (row_at rs b).places ≡ Some ps → ps ≡ places_of rs b
+  pub places : (ps : List (Option ℕ)) → (row_at rs b).places ≡ Some ps → ps ≡ places_seen rs b
   pub same_type : (row_at rs b).ty ≡ (row_at rs rt).ty
   pub root_live : has rs rt ≡ true
   pub root_buffered : is_buffered (row_at rs rt) ≡ true
@@ -55,7 +55,7 @@ liftable rs rt b o k i e =
       view = view_parent rs o.still b w.live own;
       found = x.found w.marked own;
       mark = w.marked;
-      size = ap (λ (xs : List ℤ). length xs) a.shows ∙ length-map (places_of rs b) (element_at (latest rs (row_at rs b).root)) ∙ s.count;
+      size = ap (λ (xs : List ℤ). length xs) a.shows ∙ length-map (places_seen rs b) (element_at (latest rs (row_at rs b).root)) ∙ s.count;
       count = λ ps e. ap (λ (xs : List (Option ℕ)). length xs) (x.places ps e) ∙ s.count;
       places = x.places;
       same_type = sym s.root_ty ∙ ap (λ v. (row_at rs v).ty) w.of_root;

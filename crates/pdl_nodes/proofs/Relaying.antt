@@ -5,7 +5,7 @@ use Rattle.std.specs.Option.{option_map_or, unwrap_or}
 use Rattle.std.proofs.lemmas.Bool.{cases_Bool, cases_eq, cases_lt, eq-eqb}
 use Rattle.std.proofs.lemmas.Bool.Decides.{eqb_tells}
 use Rattle.pdl_shape.specs.Refusals.{Refusal}
-use Rattle.pdl_world.specs.BreakLaws.{BelowLaws, FormulasBreak, IsBelow, IsBroken}
+use Rattle.pdl_world.specs.BreakLaws.{BelowLaws, FormulasBreak, IsDerivedBelow, IsBroken}
 use Rattle.pdl_world.specs.Cut.{breaks, reshape}
 use Rattle.pdl_world.specs.declared.Trans.{Trans}
 use Rattle.pdl_world.specs.Formula.{child_dims, is_well_formed}
@@ -77,20 +77,20 @@ relaying_next ls rs v ds bound k r first = record {
 }
 
 -- the new dimensions of an array below v
-pub new_dims_below : BelowLaws → (ls : Layouts) (rs : Rows) (v : ℕ) (ds : List ℕ) (bound p : ℕ) (es : List ℕ) → IsSound (world_of rs) → IsLive (world_of rs) v → IsRelaying ls rs v ds bound → AreNewDims ls v ds p (Some es) → IsBelow (world_of rs) v ds p es
+pub new_dims_below : BelowLaws → (ls : Layouts) (rs : Rows) (v : ℕ) (ds : List ℕ) (bound p : ℕ) (es : List ℕ) → IsSound (world_of rs) → IsLive (world_of rs) v → IsRelaying ls rs v ds bound → AreNewDims ls v ds p (Some es) → IsDerivedBelow (world_of rs) v ds p es
 new_dims_below laws ls rs v ds bound p es s l r (inl a) =
-    let P : ℕ → Type 0 = λ x. IsBelow (world_of rs) v ds x es in
-    let Q : List ℕ → Type 0 = λ xs. IsBelow (world_of rs) v ds v xs in
+    let P : ℕ → Type 0 = λ x. IsDerivedBelow (world_of rs) v ds x es in
+    let Q : List ℕ → Type 0 = λ xs. IsDerivedBelow (world_of rs) v ds v xs in
     subst P (sym a.0) (subst Q (sym a.1) (laws.begins (world_of rs) v ds s l))
 new_dims_below laws ls rs v ds bound p es s l r (inr a) = by_layout (layout_at ls p) refl a
   where
-    by_layout : (o : Option Layout) → layout_at ls p ≡ o → IsSomeAnd o (λ y. HasDims y es) → IsBelow (world_of rs) v ds p es
+    by_layout : (o : Option Layout) → layout_at ls p ≡ o → IsSomeAnd o (λ y. HasDims y es) → IsDerivedBelow (world_of rs) v ds p es
     by_layout None e h = absurd h
     by_layout (Some x) e h = (r.only p x e).1 es h
 
 -- one more layout, over the new dimensions of the parent
 pub relaying_more : BelowLaws → (ls new : Layouts) (rs : Rows) (v : ℕ) (ds : List ℕ) (k p : ℕ) (t : Trans) (y x : Layout) (es : List ℕ) → IsSound (world_of rs) → IsRelaying ls rs v ds k
-    → has rs k ≡ true → (k ≡ v → ⊥) → (row_at rs k).origin ≡ View p t y → IsBelow (world_of rs) v ds p es → Fits t es x → layout_at new k ≡ Some x → ((u : ℕ) → (u ≡ k → ⊥) → layout_at new u ≡ layout_at ls u)
+    → has rs k ≡ true → (k ≡ v → ⊥) → (row_at rs k).origin ≡ View p t y → IsDerivedBelow (world_of rs) v ds p es → Fits t es x → layout_at new k ≡ Some x → ((u : ℕ) → (u ≡ k → ⊥) → layout_at new u ≡ layout_at ls u)
     → IsRelaying new rs v ds (k + 1)
 relaying_more laws ls new rs v ds k p t y x es s r h n o b f here others =
     let dims : dims_in (reshape (world_of rs) v ds) p ≡ es = ap (λ q. option_map_or (λ (l : Look). l.dims) q []) b.look_is ∙ b.dims_are in
@@ -110,7 +110,7 @@ relaying_more laws ls new rs v ds k p t y x es s r h n o b f here others =
         | inl same ↦ (let both : Some x ≡ Some z = sym here ∙ ap (layout_at new) (sym same) ∙ e in
             let xz : x ≡ z = cc in (
               λ q. n (sym same ∙ q),
-              λ fs d. subst (λ i. IsBelow (world_of rs) v ds i fs) (sym same)
+              λ fs d. subst (λ i. IsDerivedBelow (world_of rs) v ds i fs) (sym same)
                   (laws.goes_on (world_of rs) v ds k p t es fs s (has_view (latest rs) rs k p t y h o) n b (allowed t es fs x f.layout (subst (λ i. HasDims i fs) (sym xz) d))),
             ))
         | inr ne ↦ r.only u z (sym (others u ne) ∙ e)
@@ -183,7 +183,7 @@ relaying_apart ls rs v ds k i r n = record {
 }
 
 -- where a formula refuses, something breaks
-pub relaying_breaks : BelowLaws → (rs : Rows) (v : ℕ) (ds : List ℕ) (k p : ℕ) (t : Trans) (y : Layout) (es : List ℕ) (e : Refusal) → IsSound (world_of rs) → has rs k ≡ true → (k ≡ v → ⊥) → (row_at rs k).origin ≡ View p t y → IsBelow (world_of rs) v ds p es → child_dims t es ≡ Err e → breaks (world_of rs) v ds ≡ true
+pub relaying_breaks : BelowLaws → (rs : Rows) (v : ℕ) (ds : List ℕ) (k p : ℕ) (t : Trans) (y : Layout) (es : List ℕ) (e : Refusal) → IsSound (world_of rs) → has rs k ≡ true → (k ≡ v → ⊥) → (row_at rs k).origin ≡ View p t y → IsDerivedBelow (world_of rs) v ds p es → child_dims t es ≡ Err e → breaks (world_of rs) v ds ≡ true
 relaying_breaks laws rs v ds k p t y es e s h n o b r = laws.breaks (world_of rs) v ds k p t es e s (has_view (latest rs) rs k p t y h o) n b r
 
 -- what a fault of a layout names
@@ -201,7 +201,7 @@ view_refused f.TooLarge d b h = named_by (reason_of f.TooLarge) d refl h
 view_refused f.TooDeep d b h = named_by (reason_of f.TooDeep) d refl h
 view_refused f.NoMemory d b h = cc
 
-pub fault_breaks : BelowLaws → (rs : Rows) (v : ℕ) (ds : List ℕ) (k p : ℕ) (t : Trans) (y : Layout) (es : List ℕ) (f : ViewFault) → IsSound (world_of rs) → has rs k ≡ true → (k ≡ v → ⊥) → (row_at rs k).origin ≡ View p t y → IsBelow (world_of rs) v ds p es → Names f (refusal_at [] (child_dims t es)) → of_view f ≡ relay.Breaks → breaks (world_of rs) v ds ≡ true
+pub fault_breaks : BelowLaws → (rs : Rows) (v : ℕ) (ds : List ℕ) (k p : ℕ) (t : Trans) (y : Layout) (es : List ℕ) (f : ViewFault) → IsSound (world_of rs) → has rs k ≡ true → (k ≡ v → ⊥) → (row_at rs k).origin ≡ View p t y → IsDerivedBelow (world_of rs) v ds p es → Names f (refusal_at [] (child_dims t es)) → of_view f ≡ relay.Breaks → breaks (world_of rs) v ds ≡ true
 fault_breaks laws rs v ds k p t y es f s h n o b names is = (let q = view_refused f (child_dims t es) is names in relaying_breaks laws rs v ds k p t y es q.0 s h n o b q.1)
 
 -- a view's transformation is well formed

@@ -19,7 +19,7 @@ use Rattle.pdl_nodes.specs.Row.{Row, root_row}
 use Rattle.pdl_nodes.specs.Rows.{Rows, row_at, has, NumbersBelow}
 use Rattle.pdl_nodes.specs.Seen.{IsSeen}
 use Rattle.pdl_nodes.specs.Still.{StillFrom, IsStill}
-use Rattle.pdl_nodes.specs.Worlds.{shape, places_of, latest, world_of, with_elements, IsRoot}
+use Rattle.pdl_nodes.specs.Worlds.{shape, places_seen, latest, world_of, with_elements, IsRoot}
 use Rattle.pdl_nodes.proofs.Below.{LawsBelow}
 use Rattle.pdl_nodes.proofs.Elements.{root_shows}
 use Rattle.pdl_nodes.proofs.FamilyLemmas.{latest_none, with_roots}
@@ -57,12 +57,12 @@ family_new laws ls rs v ds es rt c h =
     let lt : latest (renew ls rs v ds es) v ≡ es = latest_none (renew ls rs v ds es) v (ap (λ x. x.waiting) row) ∙ ap (λ x. x.kept) row in
     let len : length es ≡ size_of (row_at (renew ls rs v ds es) v).triple.dims = c.count ∙ sym (ap (λ x. size_of x.triple.dims) row) in
     let sn : IsSeen (renew ls rs v ds es) v = is_seen (renew ls rs v ds es) st v hv in
-    let pl : places_of (renew ls rs v ds es) v ≡ map Some (range_with_len 0 (size_of (row_at (renew ls rs v ds es) v).triple.dims)) =
-    ap (places_of (renew ls rs v ds es)) (sym ri.1) ∙ sn.root_places ∙ ap (λ k. map Some (range_with_len 0 (size_of (row_at (renew ls rs v ds es) k).triple.dims))) ri.1 in
-    let fl : (row_at (renew ls rs v ds es) v).repeats ≡ has_repeats (places_of (renew ls rs v ds es) v) = ap (λ x. x.repeats) row ∙ sym (ap has_repeats pl ∙ whole_once 0 (size_of (row_at (renew ls rs v ds es) v).triple.dims)) in
+    let pl : places_seen (renew ls rs v ds es) v ≡ map Some (range_with_len 0 (size_of (row_at (renew ls rs v ds es) v).triple.dims)) =
+    ap (places_seen (renew ls rs v ds es)) (sym ri.1) ∙ sn.root_places ∙ ap (λ k. map Some (range_with_len 0 (size_of (row_at (renew ls rs v ds es) k).triple.dims))) ri.1 in
+    let fl : (row_at (renew ls rs v ds es) v).repeats ≡ has_repeats (places_seen (renew ls rs v ds es) v) = ap (λ x. x.repeats) row ∙ sym (ap has_repeats pl ∙ whole_once 0 (size_of (row_at (renew ls rs v ds es) v).triple.dims)) in
     let me : IsMarked (renew ls rs v ds es) v = record {
       own = ap (λ x. x.base) row;
-      shows = ap (λ x. x.kept) row ∙ sym (ap (λ k. read (places_of (renew ls rs v ds es) v) (latest (renew ls rs v ds es) k)) ri.1 ∙ ap (read (places_of (renew ls rs v ds es) v)) lt ∙ root_shows (renew ls rs v ds es) v es st ri len);
+      shows = ap (λ x. x.kept) row ∙ sym (ap (λ k. read (places_seen (renew ls rs v ds es) v) (latest (renew ls rs v ds es) k)) ri.1 ∙ ap (read (places_seen (renew ls rs v ds es) v)) lt ∙ root_shows (renew ls rs v ds es) v es st ri len);
       flag = fl;
     } in
     record {

@@ -3,14 +3,14 @@ use Rattle.std.proofs.Common.{◌≡◌, ℕ, true, length, Option, Some, None, 
 use Rattle.pdl_shape.specs.Shape.{size_of}
 use Rattle.pdl_shape.specs.Places.{read}
 use Rattle.pdl_nodes.specs.Rows.{Rows, row_at, has}
-use Rattle.pdl_nodes.specs.Worlds.{places_of, latest}
+use Rattle.pdl_nodes.specs.Worlds.{places_seen, latest}
 use Rattle.pdl_nodes.specs.Families.{has_repeats, IsMarked, IsWaiting, InFamily}
 use Rattle.pdl_nodes.proofs.FamilyLemmas.{latest_none, latest_some}
 
 -- the array v is the same in both tables
 pub record IsSame (old new : Rows) (v : ℕ) : Type 0 where
   pub row : row_at new v ≡ row_at old v
-  pub places : places_of new v ≡ places_of old v
+  pub places : places_seen new v ≡ places_seen old v
 
 -- so are the root r, each marked array of its family in the new table, and what waits there
 pub record IsSameFamily (old new : Rows) (r : ℕ) : Type 0 where
@@ -36,7 +36,7 @@ family_same old new r s m =
           let y : IsMarked old b = m.marked b (ap (λ z. z.mark) (sym a.row) ∙ mk) g2 in
           record {
             own = ap (λ z. z.base) a.row ∙ y.own;
-            shows = ap (λ z. z.kept) a.row ∙ y.shows ∙ ap (λ z. read (places_of old b) (latest old z)) g2 ∙ ap (read (places_of old b)) (sym lt) ∙ ap (λ z. read (places_of old b) (latest new z)) (sym g) ∙ ap (λ p. read p (latest new (row_at new b).root)) (sym a.places);
+            shows = ap (λ z. z.kept) a.row ∙ y.shows ∙ ap (λ z. read (places_seen old b) (latest old z)) g2 ∙ ap (read (places_seen old b)) (sym lt) ∙ ap (λ z. read (places_seen old b) (latest new z)) (sym g) ∙ ap (λ p. read p (latest new (row_at new b).root)) (sym a.places);
             flag = ap (λ z. z.repeats) a.row ∙ y.flag ∙ ap has_repeats (sym a.places);
           });
       waits = λ w e. (let e2 : (row_at old r).waiting ≡ Some w = ap (λ z. z.waiting) (sym s.root.row) ∙ e in

@@ -17,7 +17,7 @@ use Rattle.pdl_nodes.specs.declared.origin.Origin.{Origin}
 use Rattle.pdl_nodes.specs.declared.origin.Origin.TheVariants.{Root, View}
 use Rattle.pdl_nodes.specs.Row.{Row}
 use Rattle.pdl_nodes.specs.Rows.{Rows, row_at, has, NumbersBelow}
-use Rattle.pdl_nodes.specs.Worlds.{shape, def_of, places_of}
+use Rattle.pdl_nodes.specs.Worlds.{shape, def_of, places_seen}
 use Rattle.pdl_nodes.specs.Assigned.{entry}
 use Rattle.pdl_nodes.specs.Spots.{spots, Below}
 use Rattle.pdl_nodes.specs.Still.{own_places, base_over, triple_over, IsWhole, IsThroughBase, IsLaid, StillFrom, IsStill}
@@ -40,7 +40,7 @@ row_older k r rs v h = rw (ne_eqb k v h) refl
 pub has_older : (k : ℕ) (r : Row) (rs : Rows) (v : ℕ) → (k ≡ v → ⊥) → has ((k, r) ∷ rs) v ≡ has rs v
 has_older k r rs v h = rw (ne_eqb k v h) refl
 
-pub places_older : (k : ℕ) (r : Row) (rs : Rows) (v : ℕ) → (k ≡ v → ⊥) → places_of ((k, r) ∷ rs) v ≡ places_of rs v
+pub places_older : (k : ℕ) (r : Row) (rs : Rows) (v : ℕ) → (k ≡ v → ⊥) → places_seen ((k, r) ∷ rs) v ≡ places_seen rs v
 places_older k r rs v h = rw (look_older k (def_of r) (shape rs) v h) refl
 
 -- the facts over rows and places that are given
@@ -64,7 +64,7 @@ record IsSeenAs (v : ℕ) (lk : Option Look) (wn : Option Window) (rv rb rt : Ro
   root_places : pt ≡ map Some (range_with_len 0 (size_of rt.triple.dims))
 
 abbrev SeenAt : Rows → ℕ → Type 0
-SeenAt rs v = IsSeenAs v (look (shape rs) v) (window (shape rs) v) (row_at rs v) (row_at rs (row_at rs v).base) (row_at rs (row_at rs v).root) (places_of rs v) (places_of rs (row_at rs v).base) (places_of rs (row_at rs v).root) (has rs (row_at rs v).base) (has rs (row_at rs v).root)
+SeenAt rs v = IsSeenAs v (look (shape rs) v) (window (shape rs) v) (row_at rs v) (row_at rs (row_at rs v).base) (row_at rs (row_at rs v).root) (places_seen rs v) (places_seen rs (row_at rs v).base) (places_seen rs (row_at rs v).root) (has rs (row_at rs v).base) (has rs (row_at rs v).root)
 
 older : (k : ℕ) (r : Row) (rs : Rows) (v : ℕ) → NumbersBelow k rs → has rs v ≡ true → SeenAt rs v → SeenAt ((k, r) ∷ rs) v
 older k r rs v b h s =
@@ -105,7 +105,7 @@ newest_root k ds r rs w = rw (eq-eqb k k refl, eq-eqb k k refl) (record {
 newest_own : (k p : ℕ) (t : Trans) (y : Layout) (ds : List ℕ) (r : Row) (rs : Rows) → NumbersBelow k rs → SeenAt rs p → child_dims t (row_at rs p).triple.dims ≡ Ok ds → over t (row_at rs p).triple ≡ None → IsWhole (whole_triple ds) → SeenAt ((k, told r (View p t y) (row_at rs p).ty (row_at rs p).root k (whole_triple ds)) ∷ rs) k
 newest_own k p t y ds r rs b a d o w =
     let nr : k ≡ (row_at rs p).root → ⊥ = not_newest rs k (row_at rs p).root b a.root_has in
-    let l : Look = record { root = (row_at rs p).root; ty = (row_at rs p).ty; dims = (row_at rs p).triple.dims; places = places_of rs p } in
+    let l : Look = record { root = (row_at rs p).root; ty = (row_at rs p).ty; dims = (row_at rs p).triple.dims; places = places_seen rs p } in
     let ps : List (Option ℕ) = parent_places ds l.dims (source t l.dims) in
     let count : length (through_places ps l.places) ≡ size_of ds = length-map ps (option_and_then (entry l.places)) ∙ length-map-range_with_len _ 0 (size_of ds) in
     rw (eq-eqb k k refl, eq-eqb k k refl, a.looks, a.windows, o, d, look_older k (view p t) (shape rs) (row_at rs p).root nr, ne_eqb k (row_at rs p).root nr) (record {
@@ -114,7 +114,7 @@ newest_own k p t y ds r rs b a d o w =
       count = count;
       over = whole_over (through_places ps l.places) (size_of ds) count ∙ ap (map (entry (through_places ps l.places))) (sym w.in_order);
       fits = subst (λ (xs : List ℕ). Below (size_of ds) xs) (sym w.in_order) (below_range (size_of ds) 0 (size_of ds) (omega arith));
-      within = compose_in (size_of (row_at rs (row_at rs p).root).triple.dims) ps (places_of rs p) a.within;
+      within = compose_in (size_of (row_at rs (row_at rs p).root).triple.dims) ps (places_seen rs p) a.within;
       base_has = refl;
       base_low = omega arith;
       base_base = refl;
@@ -133,14 +133,14 @@ newest_over k p t y u r rs h b a d o w =
     let low : (row_at rs p).base < k + 1 = (let x : (row_at rs p).base < p + 1 = a.base_low in let z : p < k = has_below rs k p b h in omega arith) in
     let nr : k ≡ (row_at rs p).root → ⊥ = not_newest rs k (row_at rs p).root b a.root_has in
     let nb : k ≡ (row_at rs p).base → ⊥ = not_newest rs k (row_at rs p).base b a.base_has in
-    let l : Look = record { root = (row_at rs p).root; ty = (row_at rs p).ty; dims = (row_at rs p).triple.dims; places = places_of rs p } in
+    let l : Look = record { root = (row_at rs p).root; ty = (row_at rs p).ty; dims = (row_at rs p).triple.dims; places = places_seen rs p } in
     rw (eq-eqb k k refl, a.looks, a.windows, o, d, look_older k (view p t) (shape rs) (row_at rs p).base nb, look_older k (view p t) (shape rs) (row_at rs p).root nr, ne_eqb k (row_at rs p).base nb, ne_eqb k (row_at rs p).root nr) (record {
       looks = refl;
       windows = refl;
       count = length-map (parent_places u.dims l.dims (source t l.dims)) (option_and_then (entry l.places)) ∙ length-map-range_with_len _ 0 (size_of u.dims);
-      over = ap (λ (xs : List (Option ℕ)). map (option_and_then (entry (places_of rs p))) xs) w.places ∙ through_over (places_of rs (row_at rs p).base) (places_of rs p) (row_at rs p).triple w.at a.over w.below ∙ ap (map (entry (places_of rs (row_at rs p).base))) (sym w.shows);
+      over = ap (λ (xs : List (Option ℕ)). map (option_and_then (entry (places_seen rs p))) xs) w.places ∙ through_over (places_seen rs (row_at rs p).base) (places_seen rs p) (row_at rs p).triple w.at a.over w.below ∙ ap (map (entry (places_seen rs (row_at rs p).base))) (sym w.shows);
       fits = subst (λ (xs : List ℕ). Below (size_of (row_at rs (row_at rs p).base).triple.dims) xs) (sym w.shows) (below_map (size_of (row_at rs (row_at rs p).base).triple.dims) (row_at rs p).triple w.at a.fits w.below);
-      within = compose_in (size_of (row_at rs (row_at rs p).root).triple.dims) (parent_places u.dims l.dims (source t l.dims)) (places_of rs p) a.within;
+      within = compose_in (size_of (row_at rs (row_at rs p).root).triple.dims) (parent_places u.dims l.dims (source t l.dims)) (places_seen rs p) a.within;
       base_has = a.base_has;
       base_low = low;
       base_base = a.base_base;

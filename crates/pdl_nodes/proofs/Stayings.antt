@@ -8,7 +8,7 @@ use Rattle.pdl_nodes.specs.declared.origin.Origin.{Origin}
 use Rattle.pdl_nodes.specs.declared.origin.Origin.TheVariants.{Root, View}
 use Rattle.pdl_nodes.specs.Row.{Row, parent_from}
 use Rattle.pdl_nodes.specs.Rows.{Rows, has}
-use Rattle.pdl_nodes.specs.Worlds.{shape, def_from, def_of, places_of, with_elements}
+use Rattle.pdl_nodes.specs.Worlds.{shape, def_from, def_of, places_seen, with_elements}
 use Rattle.pdl_nodes.specs.Still.{StillFrom, IsStill}
 use Rattle.pdl_nodes.proofs.Finds.{other_than, row_stays, has_stays, below_stays}
 use Rattle.std.proofs.lemmas.Bool.{ne_eqb}
@@ -60,7 +60,7 @@ look_stays t ((k, view p u) ∷ w) v c h = elim (cases_Bool (t k)) [
   | inr m ↦ rw (m, ne_eqb k v (other_than t k v m h)) (look_stays t w v c.1 h)
 ]
 
-pub places_stay : (t : ℕ → Bool) (rs : Rows) (v : ℕ) → KeepsParents t (shape rs) → t v ≡ true → places_of (staying t rs) v ≡ places_of rs v
+pub places_stay : (t : ℕ → Bool) (rs : Rows) (v : ℕ) → KeepsParents t (shape rs) → t v ≡ true → places_seen (staying t rs) v ≡ places_seen rs v
 places_stay t rs v c h = rw (shape_stays t rs, look_stays t (shape rs) v c h) refl
 
 still_from : (t : ℕ → Bool) (rs : Rows) (k : ℕ) (r : Row) (o : Origin) → ((p : ℕ) → parent_from o ≡ Some p → t p ≡ true) → StillFrom rs k r o → StillFrom (staying t rs) k r o

@@ -15,7 +15,7 @@ use Rattle.pdl_nodes.specs.Rows.{Rows, row_at, has, each, Falls}
 use Rattle.pdl_nodes.specs.Seen.{IsSeen}
 use Rattle.pdl_nodes.specs.Spots.{spots}
 use Rattle.pdl_nodes.specs.Table.{rows_of, IsTable}
-use Rattle.pdl_nodes.specs.Worlds.{places_of}
+use Rattle.pdl_nodes.specs.Worlds.{places_seen}
 use Rattle.pdl_nodes.specs.declared.marked.Marked.{Marked}
 use Rattle.pdl_nodes.specs.declared.node.Goal.{Goal}
 use Rattle.pdl_nodes.specs.declared.node.Goal.TheVariants.{Root, Base}
@@ -62,7 +62,7 @@ aimed Base rs v first vs w =
       live = s.base_has;
       buffered = mark_buffered (row_at rs (row_at rs v).base) w.fresh;
       ty_is = sym s.base_ty;
-      places = seen_same (placed (row_at rs (row_at rs v).base).places) (entry (places_of rs (row_at rs v).base)) (spots (row_at rs v).triple) (over_known rs v w.order w.known w.live w.fresh ∙ s.over);
+      places = seen_same (placed (row_at rs (row_at rs v).base).places) (entry (places_seen rs (row_at rs v).base)) (spots (row_at rs v).triple) (over_known rs v w.order w.known w.live w.fresh ∙ s.over);
     }
 
 -- what is so of the array that values go into, where it is found by what is shown of v

@@ -41,11 +41,11 @@ abbrev pub marked_in : ℕ → ℕ → Row → Row
 marked_in b k r = record r { mark = (if k == b then true else r.mark) }
 
 -- b is marked, and of the other bases of the family of rt none
-abbrev pub mark_in : (rt b : ℕ) → ℕ → Row → Row
+abbrev pub mark_in : (rt b k : ℕ) → Row → Row
 mark_in rt b k r =
     record r { mark = (if k == b then true else (if r.root == rt then false else r.mark)) }
 
 -- of the family of rt none of these but b is marked
-abbrev pub unmark_in : List ℕ → (rt b : ℕ) → ℕ → Row → Row
+abbrev pub unmark_in : (these : List ℕ) → (rt b k : ℕ) → Row → Row
 unmark_in vs rt b k r =
     record r { mark = (if not (k == b) && (is_listed vs k && (r.root == rt)) then false else r.mark) }

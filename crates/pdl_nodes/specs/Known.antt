@@ -2,13 +2,13 @@
 use Rattle.std.specs.Prelude.{◌≡◌, ℕ, true, List, [], Option, Some, is_some}
 use Rattle.pdl_nodes.specs.Rows.{Rows, row_at, has}
 use Rattle.pdl_nodes.specs.Families.{has_repeats}
-use Rattle.pdl_nodes.specs.Worlds.{places_of}
+use Rattle.pdl_nodes.specs.Worlds.{places_seen}
 
 -- what is known of v: places that are known are its own, and whether they have repeats was decided
 -- with them; those of a marked view are known, and those of a root aren't listed; a view that is
 -- shown over another's elements keeps none
 pub record IsKnown (rs : Rows) (v : ℕ) : Type 0 where
-  pub places : (ps : List (Option ℕ)) → (row_at rs v).places ≡ Some ps → ps ≡ places_of rs v
+  pub places : (ps : List (Option ℕ)) → (row_at rs v).places ≡ Some ps → ps ≡ places_seen rs v
   pub repeats :
       (ps : List (Option ℕ)) → (row_at rs v).places ≡ Some ps
       → (row_at rs v).repeats ≡ has_repeats ps

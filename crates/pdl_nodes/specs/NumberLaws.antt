@@ -3,7 +3,7 @@ use Rattle.std.specs.Prelude.{◌≡◌, ◌≢◌, ◌<◌, ◌≤◌, ◌∷�
 use Rattle.pdl_nodes.specs.Alike.{numbers}
 use Rattle.pdl_nodes.specs.Row.{Row}
 use Rattle.pdl_nodes.specs.Rows.{Falls, NumbersBelow, Rows, each, has, row_at}
-use Rattle.pdl_nodes.specs.Worlds.{places_of}
+use Rattle.pdl_nodes.specs.Worlds.{places_seen}
 
 pub record NumberLaws : Type 0 where
   -- a change of each row keeps the numbers
@@ -41,6 +41,6 @@ pub record NumberLaws : Type 0 where
       (k : ℕ) (r : Row) (rs : Rows) (v : ℕ) → k ≢ v → row_at ((k, r) ∷ rs) v ≡ row_at rs v
   -- and the places that it had
   pub places_older :
-      (k : ℕ) (r : Row) (rs : Rows) (v : ℕ) → k ≢ v → places_of ((k, r) ∷ rs) v ≡ places_of rs v
+      (k : ℕ) (r : Row) (rs : Rows) (v : ℕ) → k ≢ v → places_seen ((k, r) ∷ rs) v ≡ places_seen rs v
   -- a number whose row is marked is there
   pub marked_live : (rs : Rows) (v : ℕ) → (row_at rs v).mark ≡ true → has rs v ≡ true

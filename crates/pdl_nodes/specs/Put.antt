@@ -11,7 +11,7 @@ use Rattle.pdl_nodes.specs.Known.{AreKnown}
 use Rattle.pdl_nodes.specs.Row.{Row, goal_of, shown_of}
 use Rattle.pdl_nodes.specs.Rows.{Rows, row_at, has}
 use Rattle.pdl_nodes.specs.Spots.{spots}
-use Rattle.pdl_nodes.specs.Worlds.{places_of}
+use Rattle.pdl_nodes.specs.Worlds.{places_seen}
 use Rattle.pdl_nodes.specs.declared.node.Goal.{Goal}
 use Rattle.pdl_nodes.specs.declared.node.Goal.TheVariants.{Root, Base}
 
@@ -21,11 +21,11 @@ goal_at g rs v = goal_of g (shown_of v (row_at rs v))
 
 -- the places of v there: its own in the root, or the base's positions that have one
 abbrev pub places_at : Goal → Rows → (v : ℕ) → List (Option ℕ)
-places_at Root rs v = places_of rs v
-places_at Base rs v = map (seen (places_of rs (row_at rs v).base)) (spots (row_at rs v).triple)
+places_at Root rs v = places_seen rs v
+places_at Base rs v = map (seen (places_seen rs (row_at rs v).base)) (spots (row_at rs v).triple)
 
 -- what is kept there once values were put at the positions of v from one on
-abbrev pub put_at : Goal → Rows → (v first : ℕ) → List ℤ → List ℤ
+abbrev pub put_at : Goal → Rows → (v first : ℕ) → (values : List ℤ) → List ℤ
 put_at g rs v first vs =
     write (drop first (places_at g rs v)) vs (row_at rs (goal_at g rs v)).kept
 

@@ -12,5 +12,5 @@ pub record IsQuiet (f : ℕ → Row → Row) : Type 0 where
   pub triple : (k : ℕ) (r : Row) → (f k r).triple ≡ r.triple
 
 -- and all rows outside the family of rt
-pub record IsWithin (rt : ℕ) (f : ℕ → Row → Row) (rs : Rows) : Type 0 where
+pub record LeavesOthers (rt : ℕ) (f : ℕ → Row → Row) (rs : Rows) : Type 0 where
   pub outside : (k : ℕ) → ((row_at rs k).root ≡ rt → ⊥) → f k (row_at rs k) ≡ row_at rs k

@@ -5,10 +5,10 @@ use Rattle.pdl_shape.specs.Places.{write}
 use Rattle.pdl_world.specs.Parts.{assign_part}
 use Rattle.pdl_nodes.specs.Alike.{IsAlike}
 use Rattle.pdl_nodes.specs.Families.{InFamily, InOrder}
-use Rattle.pdl_nodes.specs.Quiet.{IsQuiet, IsWithin}
+use Rattle.pdl_nodes.specs.Quiet.{IsQuiet, LeavesOthers}
 use Rattle.pdl_nodes.specs.Row.{Row}
 use Rattle.pdl_nodes.specs.Rows.{Rows, each, has, row_at}
-use Rattle.pdl_nodes.specs.Worlds.{latest, places_of, world_of}
+use Rattle.pdl_nodes.specs.Worlds.{latest, places_seen, world_of}
 
 pub record QuietLaws : Type 0 where
   -- rows are alike after a change that leaves what is derived
@@ -20,18 +20,18 @@ pub record QuietLaws : Type 0 where
   -- and the root's places that it had
   pub places_each :
       (f : ℕ → Row → Row) (rs : Rows) (v : ℕ) → IsQuiet f
-      → places_of (each f rs) v ≡ places_of rs v
+      → places_seen (each f rs) v ≡ places_seen rs v
   -- rows in order stay so where the change is within a family that is in order afterwards
   pub order_each :
-      (rt : ℕ) (f : ℕ → Row → Row) (rs : Rows) → IsQuiet f → IsWithin rt f rs → InOrder rs
+      (rt : ℕ) (f : ℕ → Row → Row) (rs : Rows) → IsQuiet f → LeavesOthers rt f rs → InOrder rs
       → InFamily (each f rs) rt → InOrder (each f rs)
   -- and mean the same world where the elements of the family's root stay
   pub world_same :
-      (rt : ℕ) (f : ℕ → Row → Row) (rs : Rows) → IsQuiet f → IsWithin rt f rs → InOrder rs
+      (rt : ℕ) (f : ℕ → Row → Row) (rs : Rows) → IsQuiet f → LeavesOthers rt f rs → InOrder rs
       → latest (each f rs) rt ≡ latest rs rt → world_of (each f rs) ≡ world_of rs
   -- or the world in which values are assigned to an array of it, where its root has these then
   pub world_assigned :
       (rt : ℕ) (f : ℕ → Row → Row) (rs : Rows) (v : ℕ) (first : ℕ) (vs : List ℤ) → IsQuiet f
-      → IsWithin rt f rs → InOrder rs → has rs v ≡ true → (row_at rs v).root ≡ rt
-      → latest (each f rs) rt ≡ write (drop first (places_of rs v)) vs (latest rs rt)
+      → LeavesOthers rt f rs → InOrder rs → has rs v ≡ true → (row_at rs v).root ≡ rt
+      → latest (each f rs) rt ≡ write (drop first (places_seen rs v)) vs (latest rs rt)
       → world_of (each f rs) ≡ assign_part (world_of rs) v first vs

@@ -1,7 +1,7 @@
 -- How the layouts of all views below an array are made anew, for other dimensions of it, the oldest
 -- view first.
 use Rattle.std.specs.Prelude.{◌≡◌, ◌⊎◌, ℕ, ◌<◌, true, List, Option, Some, None, IsSomeAnd}
-use Rattle.pdl_world.specs.BreakLaws.{IsBelow}
+use Rattle.pdl_world.specs.BreakLaws.{IsDerivedBelow}
 use Rattle.pdl_world.specs.Cut.{reshape}
 use Rattle.pdl_world.specs.declared.Trans.{Trans}
 use Rattle.pdl_world.specs.Paths.{path}
@@ -22,11 +22,12 @@ pub record IsRelaying (ls : Layouts) (rs : Rows) (v : ℕ) (ds : List ℕ) (boun
       → IsSomeAnd (layout_at ls k) (Fits t (dims_in (reshape (world_of rs) v ds) p))
   pub only :
       (k : ℕ) (x : Layout) → layout_at ls k ≡ Some x
-      → (k ≡ v → ⊥) × ((fs : List ℕ) → HasDims x fs → IsBelow (world_of rs) v ds k fs)
+      → (k ≡ v → ⊥) × ((fs : List ℕ) → HasDims x fs → IsDerivedBelow (world_of rs) v ds k fs)
 
 -- these are the new dimensions of p: those of v where it is v, and else those of its new layout, if
 -- it has one
-abbrev pub AreNewDims : Layouts → (v : ℕ) → List ℕ → (p : ℕ) → Option (List ℕ) → Type 0
+abbrev pub AreNewDims : Layouts → (v : ℕ) → (dims : List ℕ) → (p : ℕ) → (new : Option (List ℕ)) →
+    Type 0
 AreNewDims ls v ds p None = (p ≡ v → ⊥) × (layout_at ls p ≡ None)
 AreNewDims ls v ds p (Some es) =
     ((p ≡ v) × (es ≡ ds)) ⊎ IsSomeAnd (layout_at ls p) (λ y. HasDims y es)

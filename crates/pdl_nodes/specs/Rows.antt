@@ -1,6 +1,7 @@
 -- The node table: rows by their numbers, newest first.
-use Rattle.std.specs.Prelude.{◌≡◌, ℕ, ◌<◌, ◌==◌, nat_le, if◌then◌else◌, Bool, true, false, List, [], ◌∷◌, Option, Some, None}
+use Rattle.std.specs.Prelude.{◌≡◌, ℕ, ◌==◌, nat_le, if◌then◌else◌, Bool, true, false, List, [], ◌∷◌, Option, Some, None}
 use Rattle.pdl_elem.specs.declared.Ty.TheVariants.{Byte}
+pub use Rattle.pdl_world.specs.Sound.{NumbersBelow}
 use Rattle.pdl_nodes.specs.Staying.{staying, passed}
 use Rattle.pdl_nodes.specs.declared.origin.Origin.TheVariants.{Root}
 use Rattle.pdl_nodes.specs.Row.{Row, parent_of}
@@ -32,11 +33,6 @@ row_at ((k, r) ∷ rs) v = if k == v then r else row_at rs v
 abbrev pub has : Rows → ℕ → Bool
 has [] v = false
 has ((k, r) ∷ rs) v = if k == v then true else has rs v
-
--- each number is below n
-abbrev pub NumbersBelow : ℕ → Rows → Type 0
-NumbersBelow n [] = Unit {0}
-NumbersBelow n ((k, r) ∷ rs) = (k < n) × NumbersBelow n rs
 
 -- each number is above those after it
 abbrev pub Falls : Rows → Type 0

@@ -5,7 +5,7 @@ use Rattle.pdl_nodes.specs.Assigned.{entry}
 use Rattle.pdl_nodes.specs.Rows.{Rows, has, row_at}
 use Rattle.pdl_nodes.specs.Spots.{Below, spots}
 use Rattle.pdl_nodes.specs.Still.{IsDerived, IsWhole}
-use Rattle.pdl_nodes.specs.Worlds.{places_of, shape}
+use Rattle.pdl_nodes.specs.Worlds.{places_seen, shape}
 use Rattle.pdl_nodes.specs.declared.origin.Layout.{Layout}
 use Rattle.pdl_shape.specs.Places.{AllBelow}
 use Rattle.pdl_shape.specs.Shape.{size_of}
@@ -29,21 +29,21 @@ pub record IsSeen (rs : Rows) (v : ℕ) : Type 0 where
         root = (row_at rs v).root;
         ty = (row_at rs v).ty;
         dims = (row_at rs v).triple.dims;
-        places = places_of rs v;
+        places = places_seen rs v;
       })
   -- it is shown over the row's base by the row's triple
   pub windows :
       window (shape rs) v
       ≡ Some (record { base = (row_at rs v).base; triple = (row_at rs v).triple })
   -- it has a place for each element
-  pub count : length (places_of rs v) ≡ size_of (row_at rs v).triple.dims
+  pub count : length (places_seen rs v) ≡ size_of (row_at rs v).triple.dims
   -- these are the places of its base at the spots of its triple
   pub over :
-      places_of rs v ≡ map (entry (places_of rs (row_at rs v).base)) (spots (row_at rs v).triple)
+      places_seen rs v ≡ map (entry (places_seen rs (row_at rs v).base)) (spots (row_at rs v).triple)
   -- the spots lie in the base
   pub fits : Below (size_of (row_at rs (row_at rs v).base).triple.dims) (spots (row_at rs v).triple)
   -- and the places in the root
-  pub within : AllBelow (size_of (row_at rs (row_at rs v).root).triple.dims) (places_of rs v)
+  pub within : AllBelow (size_of (row_at rs (row_at rs v).root).triple.dims) (places_seen rs v)
   -- the base is there, and no newer than the array
   pub base_has : has rs (row_at rs v).base ≡ true
   pub base_low : (row_at rs v).base < v + 1
@@ -59,7 +59,7 @@ pub record IsSeen (rs : Rows) (v : ℕ) : Type 0 where
   pub root_ty : (row_at rs (row_at rs v).root).ty ≡ (row_at rs v).ty
   -- its places are all that it has, in order
   pub root_places :
-      places_of rs (row_at rs v).root
+      places_seen rs (row_at rs v).root
       ≡ map Some (range_with_len 0 (size_of (row_at rs (row_at rs v).root).triple.dims))
 
 -- v is a view of p by this transformation and layout: p is there and older, and the row of v is

@@ -12,7 +12,7 @@ use Rattle.pdl_nodes.specs.Seen.{IsSeen, IsViewAt, path_from}
 use Rattle.pdl_nodes.specs.Sized.{AreSized, IsWithinLimits}
 use Rattle.pdl_nodes.specs.Spots.{Below}
 use Rattle.pdl_nodes.specs.Still.{IsStill}
-use Rattle.pdl_nodes.specs.Worlds.{IsRoot, latest, places_of, shape, with_elements, world_of}
+use Rattle.pdl_nodes.specs.Worlds.{IsRoot, latest, places_seen, shape, with_elements, world_of}
 use Rattle.pdl_nodes.specs.declared.origin.Layout.{Layout}
 use Rattle.pdl_nodes.specs.declared.origin.Origin.TheVariants.{View}
 use Rattle.pdl_shape.specs.Places.{read, write}
@@ -64,11 +64,11 @@ pub record SeenLaws : Type 0 where
   -- its base
   pub over_known :
       (rs : Rows) (v : ℕ) → InOrder rs → AreKnown rs → has rs v ≡ true → is_fresh_in rs v ≡ true
-      → placed_by (row_at rs (row_at rs v).base).places (row_at rs v).triple ≡ places_of rs v
+      → placed_by (row_at rs (row_at rs v).base).places (row_at rs v).triple ≡ places_seen rs v
   -- the elements of an array are read at its places, from the latest of its root
   pub elements_are :
       (rs : Rows) (v : ℕ) → IsStill rs → has rs v ≡ true
-      → elements (world_of rs) v ≡ read (places_of rs v) (latest rs (row_at rs v).root)
+      → elements (world_of rs) v ≡ read (places_seen rs v) (latest rs (row_at rs v).root)
   -- its type is that of the row, and so are its dimensions
   pub ty_are :
       (rs : Rows) (v : ℕ) → IsStill rs → has rs v ≡ true
@@ -79,14 +79,14 @@ pub record SeenLaws : Type 0 where
   -- at the places of a root all of a list is read that is as long
   pub root_shows :
       (rs : Rows) (r : ℕ) (es : List ℤ) → IsStill rs → IsRoot rs r
-      → length es ≡ size_of (row_at rs r).triple.dims → read (places_of rs r) es ≡ es
+      → length es ≡ size_of (row_at rs r).triple.dims → read (places_seen rs r) es ≡ es
   -- the latest elements of a root are those that it keeps, where nothing waits
   pub latest_none :
       (rs : Rows) (r : ℕ) → (row_at rs r).waiting ≡ None → latest rs r ≡ (row_at rs r).kept
   -- and else these with what waits written into them
   pub latest_some :
       (rs : Rows) (r v : ℕ) → (row_at rs r).waiting ≡ Some v
-      → latest rs r ≡ write (places_of rs v) (row_at rs v).kept (row_at rs r).kept
+      → latest rs r ≡ write (places_seen rs v) (row_at rs v).kept (row_at rs r).kept
   -- they are as many as it keeps
   pub length_latest : (rs : Rows) (r : ℕ) → length (latest rs r) ≡ length (row_at rs r).kept
   -- a write leaves as many elements as there were

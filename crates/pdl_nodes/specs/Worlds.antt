@@ -28,12 +28,12 @@ with_elements f [] = []
 with_elements f ((k, root ty ds es) ∷ w) = (k, root ty ds (f k)) ∷ with_elements f w
 with_elements f ((k, view p t) ∷ w) = (k, view p t) ∷ with_elements f w
 
-abbrev pub places_of : Rows → ℕ → List (Option ℕ)
-places_of rs v = places_in (shape rs) v
+abbrev pub places_seen : Rows → ℕ → List (Option ℕ)
+places_seen rs v = places_in (shape rs) v
 
 abbrev pub latest_from : Rows → ℕ → Option ℕ → List ℤ
 latest_from rs r None = (row_at rs r).kept
-latest_from rs r (Some v) = write (places_of rs v) (row_at rs v).kept (row_at rs r).kept
+latest_from rs r (Some v) = write (places_seen rs v) (row_at rs v).kept (row_at rs r).kept
 
 -- the elements of the root r: what is kept of it, with the values that wait assigned
 abbrev pub latest : Rows → ℕ → List ℤ

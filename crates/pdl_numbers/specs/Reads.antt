@@ -28,7 +28,7 @@ HasReadAcross t es first count rs =
     ≡ get_or es (place_at t (across t.dims first k)) (pos 0)
 
 -- the first count of these numbers stand from a place on, each so far after the one before
-abbrev pub HasStepped : List ℤ → (place : ℕ) → (inc : ℤ) → ℕ → List ℤ → Type 0
+abbrev pub HasStepped : (elems : List ℤ) → (place : ℕ) → (inc : ℤ) → (count : ℕ) → List ℤ → Type 0
 HasStepped es place inc count rs =
     (j : ℕ) → j < count → get_or rs j (pos 0)
     ≡ get_or es (unsigned_abs (pos place +ℤ inc *ℤ pos j)) (pos 0)

@@ -83,7 +83,7 @@ values_cut (With op) t r old new vs n c h =
     ∙ with_cut op t ty (map f old) (map f new) vs n c (zero_at op (map f new)) refl h
 
 -- there are as many values as positions
-length_pairs : (f : ℤ → ℤ → ℤ) (xs ys : List ℤ) → length xs ≡ length ys → length (pairwise f xs ys) ≡ length ys
+pub length_pairs : (f : ℤ → ℤ → ℤ) (xs ys : List ℤ) → length xs ≡ length ys → length (pairwise f xs ys) ≡ length ys
 length_pairs f [] [] e = refl
 length_pairs f [] (y ∷ ys) e = absurd (omega arith)
 length_pairs f (x ∷ xs) [] e = refl

@@ -5,3 +5,4 @@ pub mod Results
 pub mod Fitting
 pub mod Coordinates
 pub mod Cuts
+pub mod Forms

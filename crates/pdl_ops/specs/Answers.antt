@@ -5,7 +5,7 @@ use Rattle.pdl_ops.specs.declared.OpFault.{OpFault}
 use Rattle.pdl_ops.specs.declared.OpFault.TheVariants.{Mismatch, TooLarge, DivideByZero, NoMemory}
 use Rattle.pdl_ops.specs.Elementwise.{OpRefusal, no_dims, zero_divisor}
 
--- the refusal that a fault names, but for want of memory
+-- the refusal that a fault names; `NoMemory` names none
 abbrev pub refusal_named : OpFault → Option OpRefusal
 refusal_named Mismatch = Some (no_dims mismatch)
 refusal_named TooLarge = Some (no_dims too_large)

@@ -32,7 +32,8 @@ abbrev pub operands_from : Ty → (first count : ℕ) → List ℤ → List ℤ
 operands_from ty first count es = map (wrapped ty) (take count (drop first es))
 
 -- an operator on two lists of operands of a type, where no divisor is 0
-abbrev pub values_at : BinaryOp → Ty → (left right : List ℤ) → Option ℕ → Result (List ℤ) OpRefusal
+abbrev pub values_at : BinaryOp → Ty → (left right : List ℤ) → (first_zero : Option ℕ)
+    → Result (List ℤ) OpRefusal
 values_at op ty xs ys (Some place) = Err (zero_divisor place)
 values_at op ty xs ys None = Ok (pairwise (value_of op ty) xs ys)
 

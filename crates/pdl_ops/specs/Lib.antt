@@ -4,3 +4,4 @@ pub mod Elementwise
 pub mod Fills
 pub mod Values
 pub mod Parts
+pub mod Laws

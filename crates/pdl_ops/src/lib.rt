@@ -10,6 +10,7 @@ mod changes;
 mod filling;
 mod fills;
 mod in_parts;
+mod laws;
 mod operands;
 mod values;
 
@@ -17,6 +18,7 @@ pub use arrays::{convert, elementwise, unary_each};
 pub use filling::fill;
 pub use fills::Fill;
 pub use in_parts::{first_divisor, stretches, value_laws, values_part};
+pub use laws::array_laws;
 use std::alloc::AllocError;
 pub use values::values_for;
 

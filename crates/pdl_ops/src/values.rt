@@ -1,8 +1,10 @@
 //! What an assignment writes (PDL::Ops, PDL::Broadcasting).
-ghost use Rattle.std.specs.Prelude.{◌≡◌, ◌≢◌, length, All, Err, IfOk};
+ghost use Rattle.std.specs.Prelude.{◌≡◌, ◌≢◌, length, map, All, Err, IfOk};
 ghost use Rattle.pdl_buf.specs.Made.{IsMade, array_of};
-ghost use Rattle.pdl_elem.specs.Types.{InRange};
+ghost use Rattle.pdl_elem.specs.Numbers.{wrapped};
+ghost use Rattle.pdl_elem.specs.Types.{InRange, binary_result};
 ghost use Rattle.pdl_ops.specs.Answers.{Answers};
+ghost use Rattle.pdl_ops.specs.Elementwise.{values_of};
 ghost use Rattle.pdl_ops.specs.Values.{fits, values_for, new_values};
 ghost use Rattle.pdl_ops.specs.declared.OpFault.TheVariants.{TooLarge};
 
@@ -11,10 +13,10 @@ use crate::blocks::values;
 use crate::changes::{Change, changed_elements};
 use crate::operands::rewrap;
 use pdl_buf::{Packing, Strided, stretched, strided_dims, strided_type};
-use pdl_elem::{binary_type, promote};
+use pdl_elem::{BinaryOp, Ty, binary_type, promote};
 use pdl_lexemes::AssignOp;
 use pdl_shape::{dims_list, elements_of, join_dims, shape_laws};
-use std::alloc::Global;
+use std::alloc::{AllocError, Global};
 
 /// Whether sizes fit a target's: each is 1 or the target's, whose missing ones count as 1.
 pub(crate) fn fits(sizes: &[u32], target: &[u32]) -> bool
@@ -26,6 +28,37 @@ pub(crate) fn fits(sizes: &[u32], target: &[u32]) -> bool
         (Some((size, sizes)), Some((wanted, target))) => (*size == 1 || *size == *wanted)
             && fits(sizes, target),
     }
+}
+
+/// The new elements, wrapped to the type.
+fn converted(alloc: Global, ty: Ty, new: &Strided<'_>) -> Result<Vec<i64>, AllocError>
+    ensures value { IfOk result (λ made. made.items ≡ map (wrapped ty) new.now.elems) }
+    ensures in_range { IfOk result (λ made. All (InRange ty) made.items) }
+{
+    let count = elements_of(strided_dims(new)) as usize;
+    let room = Packing::list(alloc, ty, count)?;
+    changed_elements(alloc, Change::Convert(ty), new, room)?.into_list(alloc)
+}
+
+/// The operator's values on the elements that stand there and as many new ones, at the type of
+/// higher rank.
+fn operated(
+    alloc: Global,
+    op: BinaryOp,
+    both: Ty,
+    old: &Strided<'_>,
+    new: &Strided<'_>,
+) -> Result<Vec<i64>, OpFault>
+    requires { length old.now.elems ≡ length new.now.elems }
+    ensures value { let xs = map (wrapped both) old.now.elems in
+        let ys = map (wrapped both) new.now.elems in
+        Answers (λ made. made.items) (values_of op both xs ys) result }
+    ensures count { IfOk result (λ made. length made.items ≡ length old.now.elems) }
+    ensures in_range { IfOk result (λ made. All (InRange (binary_result op both both)) made.items) }
+{
+    let count = elements_of(strided_dims(new)) as usize;
+    let room = Packing::list(alloc, binary_type(op, both, both), count)?;
+    Ok(values(alloc, op, both, old, new, room)?.into_list(alloc)?)
 }
 
 /// The values that a sign gives for the elements that stand there and as many new ones.
@@ -43,19 +76,12 @@ fn new_values(
     ensures never_large { result ≢ Err TooLarge }
 {
     let ty = strided_type(old);
-    let count = elements_of(strided_dims(new)) as usize;
     match sign {
-        AssignOp::Set => {
-            let room = Packing::list(alloc, ty, count)?;
-            let made = changed_elements(alloc, Change::Convert(ty), new, room)?;
-            Ok(made.into_list(alloc)?)
-        }
+        AssignOp::Set => Ok(converted(alloc, ty, new)?),
         AssignOp::With(op) => {
             let both = promote(ty, strided_type(new));
-            let made_type = binary_type(op, both, both);
-            let room = Packing::list(alloc, made_type, count)?;
-            let mut made = values(alloc, op, both, old, new, room)?.into_list(alloc)?;
-            rewrap(made_type, ty, &mut made);
+            let mut made = operated(alloc, op, both, old, new)?;
+            rewrap(binary_type(op, both, both), ty, &mut made);
             Ok(made)
         }
     }

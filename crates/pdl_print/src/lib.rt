@@ -32,7 +32,7 @@ pub fn info_text(ty: Ty, dims: &Dims, into: &mut Vec<u8>) -> Result<(), NoMemory
     settled(done, into, mark)
 }
 
-/// Takes back what stands past the mark where memory was wanting.
+/// Out of memory, it takes back what stands past the mark.
 fn settled(done: Result<(), NoMemory>, into: &mut Vec<u8>, mark: usize) -> Result<(), NoMemory>
     ensures result { result ≡ done }
     ensures ok { OnOk done (into.new.items ≡ into.old.items) }

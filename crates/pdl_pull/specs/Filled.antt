@@ -7,7 +7,7 @@ use Rattle.pdl_nodes.specs.Families.{InOrder}
 use Rattle.pdl_nodes.specs.Known.{AreKnown}
 use Rattle.pdl_nodes.specs.Row.{parent_of}
 use Rattle.pdl_nodes.specs.Rows.{Rows, row_at, has}
-use Rattle.pdl_nodes.specs.Worlds.{places_of, IsRoot, world_of}
+use Rattle.pdl_nodes.specs.Worlds.{places_seen, IsRoot, world_of}
 
 -- b is a base that isn't marked, in the family of the root rt, where nothing waits
 pub record IsOutdated (rs : Rows) (rt b : ℕ) : Type 0 where
@@ -27,7 +27,7 @@ ParentIsFresh rs v = (p : ℕ) → parent_of (row_at rs v) ≡ Some p → is_fre
 pub record IsFound (rs : Rows) (b : ℕ) (found : Option (List (Option ℕ))) : Type 0 where
   pub some : is_some (or_known found (row_at rs b).places) ≡ true
   pub is :
-      (ps : List (Option ℕ)) → or_known found (row_at rs b).places ≡ Some ps → ps ≡ places_of rs b
+      (ps : List (Option ℕ)) → or_known found (row_at rs b).places ≡ Some ps → ps ≡ places_seen rs b
 
 -- the world and each array's definition are the same, no mark is lost, and the same waits
 pub record IsKept (old new : Rows) : Type 0 where

@@ -4,7 +4,7 @@ ghost use Rattle.pdl_shape.specs.Shape.{size_of};
 ghost use Rattle.pdl_nodes.specs.Families.{InOrder};
 ghost use Rattle.pdl_nodes.specs.Known.{AreKnown};
 ghost use Rattle.pdl_nodes.specs.Rows.{has, row_at};
-ghost use Rattle.pdl_nodes.specs.Worlds.{places_of};
+ghost use Rattle.pdl_nodes.specs.Worlds.{places_seen};
 ghost use Rattle.pdl_pull.specs.Filled.{IsOutdated, IsFilled, ParentIsFresh, FillsOnly};
 
 use crate::gathering::{has_twice, places_through};
@@ -23,7 +23,7 @@ fn find_places(table: &Table, alloc: Global, id: u64) -> Result<Vec<Option<u32>>
     requires own { (row_at table.now id).base ≡ id }
     requires view { (row_at table.now id).root ≢ id }
     requires parent { ParentIsFresh table.now id }
-    ensures { IfOk result (λ v. v.items ≡ places_of table.now id) }
+    ensures { IfOk result (λ v. v.items ≡ places_seen table.now id) }
 {
     row_laws();
     let node = table.node(id);

@@ -13,7 +13,7 @@ use Rattle.pdl_nodes.specs.Rows.{Rows, row_at, has, each}
 use Rattle.pdl_nodes.specs.Seen.{IsSeen}
 use Rattle.pdl_nodes.specs.declared.node.Goal.TheVariants.{Root, Base}
 use Rattle.pdl_nodes.specs.declared.node.Shown.{Shown}
-use Rattle.pdl_nodes.specs.Worlds.{places_of, latest, world_of, IsRoot}
+use Rattle.pdl_nodes.specs.Worlds.{places_seen, latest, world_of, IsRoot}
 use Rattle.pdl_push.specs.Late.{settle, await}
 use Rattle.pdl_push.specs.Targets.{MarksTarget, target, IsAssigned, WaitsTarget}
 use Rattle.pdl_push.proofs.AtBase.{IsThrough, await_quiet, awaited, world_awaited}
@@ -37,10 +37,10 @@ target_marks facts rs new f rt b v e t n m u h =
     ∙ ap (λ x. cond (eqb (row_at rs u).root (row_at rs v).root) (eqb u x) (row_at rs u).mark) (sym t)
 
 -- values that are written into the root where nothing waits are assigned
-pub assigned_root : (facts : RowLaws) → (rs new : Rows) (rt v first : ℕ) (vs : List ℤ) → InOrder rs → AreKnown rs → has rs v ≡ true → (row_at rs v).root ≡ rt → target rs v ≡ rt → new ≡ each (settle rt (write (drop first (places_of rs v)) vs (latest rs rt)) rt false) rs → IsAssigned rs v first vs new
+pub assigned_root : (facts : RowLaws) → (rs new : Rows) (rt v first : ℕ) (vs : List ℤ) → InOrder rs → AreKnown rs → has rs v ≡ true → (row_at rs v).root ≡ rt → target rs v ≡ rt → new ≡ each (settle rt (write (drop first (places_seen rs v)) vs (latest rs rt)) rt false) rs → IsAssigned rs v first vs new
 assigned_root facts rs new rt v first vs o a h e t n =
     let i : IsRoot rs rt = facts.seen.root_live rs rt v o.still h e in
-    let es : List ℤ = write (drop first (places_of rs v)) vs (latest rs rt) in
+    let es : List ℤ = write (drop first (places_seen rs v)) vs (latest rs rt) in
     record {
       order = subst (λ (x : Rows). InOrder x) (sym n) (rooted facts rs rt v first vs o i);
       known = subst (λ (x : Rows). AreKnown x) (sym n) (known_each facts (settle rt es rt false) rs (settle_quiet rt es rt false) (λ k r. refl) (λ k r. refl)
@@ -73,9 +73,9 @@ pub at_root : (facts : RowLaws) → (rs new : Rows) (v first : ℕ) (vs : List �
 at_root facts rs new v first vs w t e =
     let i : IsRoot rs (row_at rs v).root = facts.seen.root_live rs (row_at rs v).root v w.order.still w.live refl in
     let nothing = nothing_target facts rs v first vs w t in
-    let settled : new ≡ each (settle (row_at rs v).root (write (drop first (places_of rs v)) vs (latest rs (row_at rs v).root)) (row_at rs v).root false) rs =
+    let settled : new ≡ each (settle (row_at rs v).root (write (drop first (places_seen rs v)) vs (latest rs (row_at rs v).root)) (row_at rs v).root false) rs =
     e ∙ rooted_all facts rs (row_at rs v).root _ w.order.still i nothing
-    ∙ ap (λ es. each (settle (row_at rs v).root (write (drop first (places_of rs v)) vs es) (row_at rs v).root false) rs) (sym (facts.seen.latest_none rs (row_at rs v).root nothing)) in
+    ∙ ap (λ es. each (settle (row_at rs v).root (write (drop first (places_seen rs v)) vs es) (row_at rs v).root false) rs) (sym (facts.seen.latest_none rs (row_at rs v).root nothing)) in
     (assigned_root facts rs new (row_at rs v).root v first vs w.order w.known w.live refl t settled, waits_root facts rs new (row_at rs v).root v _ refl t settled)
 
 -- values were put into the base, where they wait

@@ -10,11 +10,11 @@ use Rattle.pdl_nodes.specs.Families.{has_repeats, IsMarked, IsWaiting, InFamily,
 use Rattle.pdl_nodes.specs.Known.{AreKnown}
 use Rattle.pdl_nodes.specs.Outcomes.{IsReady}
 use Rattle.pdl_world.specs.Parts.{assign_part}
-use Rattle.pdl_nodes.specs.Quiet.{IsQuiet, IsWithin}
+use Rattle.pdl_nodes.specs.Quiet.{IsQuiet, LeavesOthers}
 use Rattle.pdl_nodes.specs.RowLaws.{RowLaws}
 use Rattle.pdl_nodes.specs.Rows.{Rows, row_at, has, each}
 use Rattle.pdl_nodes.specs.Seen.{IsSeen}
-use Rattle.pdl_nodes.specs.Worlds.{places_of, latest, world_of, IsRoot}
+use Rattle.pdl_nodes.specs.Worlds.{places_seen, latest, world_of, IsRoot}
 use Rattle.pdl_push.specs.Late.{settle}
 use Rattle.pdl_push.specs.Settled.{IsSettled}
 use Rattle.pdl_push.proofs.Known.{known_each, kept_by}
@@ -23,7 +23,7 @@ use Rattle.pdl_push.proofs.RowsAfter.{only_mark}
 pub settle_quiet : (rt : ℕ) (es : List ℤ) (b : ℕ) (both : Bool) → IsQuiet (settle rt es b both)
 settle_quiet rt es b both = record { origin = λ k r. refl; ty = λ k r. refl; root = λ k r. refl; base = λ k r. refl; triple = λ k r. refl }
 
-settle_within : (rs : Rows) (rt : ℕ) (es : List ℤ) (b : ℕ) (both : Bool) → (row_at rs rt).root ≡ rt → IsWithin rt (settle rt es b both) rs
+settle_within : (rs : Rows) (rt : ℕ) (es : List ℤ) (b : ℕ) (both : Bool) → (row_at rs rt).root ≡ rt → LeavesOthers rt (settle rt es b both) rs
 settle_within rs rt es b both h = record {
   outside = λ k n. rw (ne_eqb (row_at rs k).root rt n, ne_eqb k rt (λ e. n (ap (λ x. (row_at rs x).root) e ∙ h))) refl;
 }
@@ -41,8 +41,8 @@ only_tells x b k rt h n = elim (eqb_tells k b) [
 -- b keeps what it shows of these elements of its root
 record Keeps (rs : Rows) (rt b : ℕ) (es : List ℤ) : Type 0 where
   pub own : (row_at rs b).base ≡ b
-  pub shows : (row_at rs b).kept ≡ read (places_of rs b) es
-  pub flag : (row_at rs b).repeats ≡ has_repeats (places_of rs b)
+  pub shows : (row_at rs b).kept ≡ read (places_seen rs b) es
+  pub flag : (row_at rs b).repeats ≡ has_repeats (places_seen rs b)
 
 -- what is marked then keeps what it shows
 settled_marked : (facts : RowLaws) → (rs : Rows) (rt : ℕ) (es : List ℤ) (b : ℕ) (both : Bool) → InOrder rs → IsRoot rs rt → length es ≡ size_of (row_at rs rt).triple.dims → ((b ≡ rt → ⊥) → Keeps rs rt b es) → latest (each (settle rt es b both) rs) rt ≡ es → (x : ℕ) → has rs x ≡ true → (row_at rs x).root ≡ rt → cond (eqb x b) true (cond both (eqb x rt) false) ≡ true → IsMarked (each (settle rt es b both) rs) x
@@ -54,8 +54,8 @@ settled_marked facts rs rt es b both o i l k e x lx g h =
     elim (eqb_tells x rt) [
       | inl t ↦ record {
         own = ap (λ r. r.base) row ∙ ap (λ y. (row_at rs y).base) (t.1 ∙ sym i.1) ∙ seen.root_base ∙ i.1 ∙ sym t.1;
-        shows = ap (λ r. r.kept) row ∙ rw (t.0, row, now, facts.quiet.places_each (settle rt es b both) rs x q) (sym (ap (λ y. read (places_of rs y) es) t.1 ∙ facts.seen.root_shows rs rt es o.still i l));
-        flag = ap (λ r. r.repeats) row ∙ rw (facts.quiet.places_each (settle rt es b both) rs x q) (ap (λ y. (row_at rs y).repeats) t.1 ∙ (o.family rt i).flat ∙ ap (λ y. has_repeats (places_of rs y)) (sym t.1));
+        shows = ap (λ r. r.kept) row ∙ rw (t.0, row, now, facts.quiet.places_each (settle rt es b both) rs x q) (sym (ap (λ y. read (places_seen rs y) es) t.1 ∙ facts.seen.root_shows rs rt es o.still i l));
+        flag = ap (λ r. r.repeats) row ∙ rw (facts.quiet.places_each (settle rt es b both) rs x q) (ap (λ y. (row_at rs y).repeats) t.1 ∙ (o.family rt i).flat ∙ ap (λ y. has_repeats (places_seen rs y)) (sym t.1));
       }
       | inr t ↦ (let xb : x ≡ b = only_tells both b x rt h t.1 in
           let a : Keeps rs rt x es = (let P : ℕ → Type 0 = λ y. Keeps rs rt y es in subst P (sym xb) (k (λ c. t.1 (xb ∙ c)))) in
@@ -98,20 +98,20 @@ written_back facts rs rt v o i h =
     let w : IsWaiting rs rt v = (o.family rt i).waits v h in
     let a : IsMarked rs v = (o.family rt i).marked v w.marked w.of_root in
     settled facts rs rt (latest rs rt) v true o i (facts.seen.length_latest rs rt ∙ (o.family rt i).count)
-    (λ n. record { own = a.own; shows = a.shows ∙ ap (λ r. read (places_of rs v) (latest rs r)) w.of_root; flag = a.flag })
+    (λ n. record { own = a.own; shows = a.shows ∙ ap (λ r. read (places_seen rs v) (latest rs r)) w.of_root; flag = a.flag })
     (rw (ne_eqb rt v (λ e. w.not_root (sym e)), eq-eqb rt rt refl) refl)
 
 world_back : (facts : RowLaws) → (rs : Rows) (rt v : ℕ) → InOrder rs → IsRoot rs rt → world_of (each (settle rt (latest rs rt) v true) rs) ≡ world_of rs
 world_back facts rs rt v o i = facts.quiet.world_same rt (settle rt (latest rs rt) v true) rs (settle_quiet rt (latest rs rt) v true) (settle_within rs rt (latest rs rt) v true i.1) o (settled_latest facts rs rt (latest rs rt) v true i)
 
 -- values were written at the places of an array, and the root alone is marked: they are assigned to it
-pub rooted : (facts : RowLaws) → (rs : Rows) (rt v first : ℕ) (vs : List ℤ) → InOrder rs → IsRoot rs rt → InOrder (each (settle rt (write (drop first (places_of rs v)) vs (latest rs rt)) rt false) rs)
+pub rooted : (facts : RowLaws) → (rs : Rows) (rt v first : ℕ) (vs : List ℤ) → InOrder rs → IsRoot rs rt → InOrder (each (settle rt (write (drop first (places_seen rs v)) vs (latest rs rt)) rt false) rs)
 rooted facts rs rt v first vs o i =
-    settled facts rs rt (write (drop first (places_of rs v)) vs (latest rs rt)) rt false o i (facts.seen.length_write (drop first (places_of rs v)) vs (latest rs rt) ∙ facts.seen.length_latest rs rt ∙ (o.family rt i).count) (λ n. absurd (n refl)) (rw (eq-eqb rt rt refl) refl)
+    settled facts rs rt (write (drop first (places_seen rs v)) vs (latest rs rt)) rt false o i (facts.seen.length_write (drop first (places_seen rs v)) vs (latest rs rt) ∙ facts.seen.length_latest rs rt ∙ (o.family rt i).count) (λ n. absurd (n refl)) (rw (eq-eqb rt rt refl) refl)
 
-pub world_rooted : (facts : RowLaws) → (rs : Rows) (rt v first : ℕ) (vs : List ℤ) → InOrder rs → IsRoot rs rt → has rs v ≡ true → (row_at rs v).root ≡ rt → world_of (each (settle rt (write (drop first (places_of rs v)) vs (latest rs rt)) rt false) rs) ≡ assign_part (world_of rs) v first vs
+pub world_rooted : (facts : RowLaws) → (rs : Rows) (rt v first : ℕ) (vs : List ℤ) → InOrder rs → IsRoot rs rt → has rs v ≡ true → (row_at rs v).root ≡ rt → world_of (each (settle rt (write (drop first (places_seen rs v)) vs (latest rs rt)) rt false) rs) ≡ assign_part (world_of rs) v first vs
 world_rooted facts rs rt v first vs o i l e =
-    let es : List ℤ = write (drop first (places_of rs v)) vs (latest rs rt) in
+    let es : List ℤ = write (drop first (places_seen rs v)) vs (latest rs rt) in
     facts.quiet.world_assigned rt (settle rt es rt false) rs v first vs (settle_quiet rt es rt false) (settle_within rs rt es rt false i.1) o l e (settled_latest facts rs rt es rt false i)
 
 -- where the base that waited was marked alone, no mark is lost by writing it back, and the root's alone is new

@@ -6,7 +6,7 @@ use Rattle.pdl_nodes.specs.Put.{IsWrite}
 use Rattle.pdl_nodes.specs.Row.{Row}
 use Rattle.pdl_nodes.specs.RowLaws.{RowLaws}
 use Rattle.pdl_nodes.specs.Rows.{Rows, row_at, has, each}
-use Rattle.pdl_nodes.specs.Worlds.{places_of, IsRoot}
+use Rattle.pdl_nodes.specs.Worlds.{places_seen, IsRoot}
 use Rattle.pdl_push.specs.Late.{settle, await}
 use Rattle.pdl_push.specs.Targets.{target, WaitsTarget}
 
@@ -17,14 +17,14 @@ either_root true rt b e = refl
 either_root false rt b e = e
 
 pub target_root : (rs : Rows) (rt b v : ℕ) → (row_at rs v).root ≡ rt → (row_at rs v).base ≡ b → b ≡ rt → target rs v ≡ rt
-target_root rs rt b v e g h = either_root (has_repeats (places_of rs (row_at rs v).base)) (row_at rs v).root (row_at rs v).base (g ∙ h ∙ sym e) ∙ e
+target_root rs rt b v e g h = either_root (has_repeats (places_seen rs (row_at rs v).base)) (row_at rs v).root (row_at rs v).base (g ∙ h ∙ sym e) ∙ e
 
 -- and where the base has repeats, and else the base is
-pub target_repeats : (rs : Rows) (rt b v : ℕ) (x : Bool) → (row_at rs v).root ≡ rt → (row_at rs v).base ≡ b → has_repeats (places_of rs b) ≡ x → target rs v ≡ cond x rt b
-target_repeats rs rt b v x e g h = ap (λ y. cond (has_repeats (places_of rs y)) (row_at rs v).root y) g ∙ ap (λ y. cond y (row_at rs v).root b) h ∙ ap (λ y. cond x y b) e
+pub target_repeats : (rs : Rows) (rt b v : ℕ) (x : Bool) → (row_at rs v).root ≡ rt → (row_at rs v).base ≡ b → has_repeats (places_seen rs b) ≡ x → target rs v ≡ cond x rt b
+target_repeats rs rt b v x e g h = ap (λ y. cond (has_repeats (places_seen rs y)) (row_at rs v).root y) g ∙ ap (λ y. cond y (row_at rs v).root b) h ∙ ap (λ y. cond x y b) e
 
 -- a marked base of the family knows whether it has repeats
-pub flag_is : (facts : RowLaws) → (rs : Rows) (rt b v : ℕ) → InOrder rs → has rs v ≡ true → (row_at rs v).root ≡ rt → (row_at rs v).base ≡ b → (row_at rs b).mark ≡ true → (row_at rs b).repeats ≡ has_repeats (places_of rs b)
+pub flag_is : (facts : RowLaws) → (rs : Rows) (rt b v : ℕ) → InOrder rs → has rs v ≡ true → (row_at rs v).root ≡ rt → (row_at rs v).base ≡ b → (row_at rs b).mark ≡ true → (row_at rs b).repeats ≡ has_repeats (places_seen rs b)
 flag_is facts rs rt b v o h e g m = ((o.family rt (facts.seen.root_live rs rt v o.still h e)).marked b m (ap (λ x. (row_at rs x).root) (sym g) ∙ (facts.seen.is_seen rs o.still v h).base_root ∙ e)).flag
 
 -- ---- what waits before
@@ -42,22 +42,22 @@ nothing_root facts rs rt b v o h e g m d =
     none_waits rs rt b (row_at rs rt).waiting refl (o.family rt i) m (ap (λ x. (row_at rs x).root) (sym g) ∙ (facts.seen.is_seen rs o.still v h).base_root ∙ e) (λ u w y. w.not_root (sym y ∙ d))
 
 -- nor where a base with repeats is
-pub nothing_repeats : (facts : RowLaws) → (rs : Rows) (rt b v : ℕ) → InOrder rs → has rs v ≡ true → (row_at rs v).root ≡ rt → (row_at rs v).base ≡ b → (row_at rs b).mark ≡ true → has_repeats (places_of rs b) ≡ true → (row_at rs rt).waiting ≡ None
+pub nothing_repeats : (facts : RowLaws) → (rs : Rows) (rt b v : ℕ) → InOrder rs → has rs v ≡ true → (row_at rs v).root ≡ rt → (row_at rs v).base ≡ b → (row_at rs b).mark ≡ true → has_repeats (places_seen rs b) ≡ true → (row_at rs rt).waiting ≡ None
 nothing_repeats facts rs rt b v o h e g m d =
     let i : IsRoot rs rt = facts.seen.root_live rs rt v o.still h e in
     none_waits rs rt b (row_at rs rt).waiting refl (o.family rt i) m (ap (λ x. (row_at rs x).root) (sym g) ∙ (facts.seen.is_seen rs o.still v h).base_root ∙ e)
-    (λ u w y. (let c : true ≡ false = sym d ∙ ap (λ x. has_repeats (places_of rs x)) y ∙ w.once in cc))
+    (λ u w y. (let c : true ≡ false = sym d ∙ ap (λ x. has_repeats (places_seen rs x)) y ∙ w.once in cc))
 
 -- so nothing waits where the root is the target
 pub nothing_target : (facts : RowLaws) → (rs : Rows) (v first : ℕ) (vs : List ℤ) → IsWrite rs v first vs → target rs v ≡ (row_at rs v).root → (row_at rs (row_at rs v).root).waiting ≡ None
-nothing_target facts rs v first vs w t = elim (cases_Bool (has_repeats (places_of rs (row_at rs v).base))) [
+nothing_target facts rs v first vs w t = elim (cases_Bool (has_repeats (places_seen rs (row_at rs v).base))) [
   | inl y ↦ nothing_repeats facts rs (row_at rs v).root (row_at rs v).base v w.order w.live refl refl w.fresh y
   | inr n ↦ nothing_root facts rs (row_at rs v).root (row_at rs v).base v w.order w.live refl refl w.fresh (sym (target_repeats rs (row_at rs v).root (row_at rs v).base v false refl refl n) ∙ t)
 ]
 
 -- and a base that is the target has no repeats
-pub once_target : (rs : Rows) (v : ℕ) → target rs v ≡ (row_at rs v).base → ((row_at rs v).base ≡ (row_at rs v).root → ⊥) → has_repeats (places_of rs (row_at rs v).base) ≡ false
-once_target rs v t d = elim (cases_Bool (has_repeats (places_of rs (row_at rs v).base))) [
+pub once_target : (rs : Rows) (v : ℕ) → target rs v ≡ (row_at rs v).base → ((row_at rs v).base ≡ (row_at rs v).root → ⊥) → has_repeats (places_seen rs (row_at rs v).base) ≡ false
+once_target rs v t d = elim (cases_Bool (has_repeats (places_seen rs (row_at rs v).base))) [
   | inl y ↦ absurd (d (sym t ∙ target_repeats rs (row_at rs v).root (row_at rs v).base v true refl refl y))
   | inr n ↦ n
 ]

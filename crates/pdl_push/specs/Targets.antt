@@ -5,7 +5,7 @@ use Rattle.pdl_nodes.specs.Families.{InOrder, has_repeats}
 use Rattle.pdl_nodes.specs.Known.{AreKnown}
 use Rattle.pdl_world.specs.Parts.{assign_part}
 use Rattle.pdl_nodes.specs.Rows.{Rows, row_at, has}
-use Rattle.pdl_nodes.specs.Worlds.{world_of, places_of}
+use Rattle.pdl_nodes.specs.Worlds.{world_of, places_seen}
 
 -- the base, or the root where the base has repeats
 abbrev pub target_of : (repeats : Bool) → (root base : ℕ) → ℕ
@@ -16,7 +16,7 @@ target_of repeats root base = if repeats then root else base
 abbrev pub target : (rs : Rows) (v : ℕ) → ℕ
 target rs v =
     let b = (row_at rs v).base in
-    target_of (has_repeats (places_of rs b)) (row_at rs v).root b
+    target_of (has_repeats (places_seen rs b)) (row_at rs v).root b
 
 -- of the family of v the target alone is marked, and others are marked as before
 abbrev pub MarksTarget : (old : Rows) (v : ℕ) (new : Rows) → Type 0

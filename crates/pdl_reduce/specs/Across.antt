@@ -5,5 +5,5 @@ use Rattle.pdl_elem.specs.Numbers.{wrapped}
 use Rattle.pdl_reduce.specs.Reductions.{nth_list}
 
 -- what the nth list of so many numbers comes to from a start on, wrapped to a type
-abbrev pub come_to : Ty → (ℤ → ℤ → ℤ) → (start : ℤ) → (size : ℕ) → List ℤ → (n : ℕ) → ℤ
+abbrev pub come_to : Ty → (step : ℤ → ℤ → ℤ) → (start : ℤ) → (size : ℕ) → List ℤ → (n : ℕ) → ℤ
 come_to ty f start size es n = wrapped ty (fold f start (nth_list size es n))

@@ -5,7 +5,7 @@ use Rattle.pdl_reduce.specs.declared.ReduceFault.{ReduceFault}
 use Rattle.pdl_reduce.specs.declared.ReduceFault.TheVariants.{Mismatch, TooManyDims, TooLarge, TooMuchWork, EmptyReduce, NoMemory}
 use Rattle.pdl_reduce.specs.Refusals.{ReduceRefusal, mismatch, too_many_dims, too_large, too_much_work, empty_reduce}
 
--- the refusal that a fault names, but for want of memory
+-- the refusal that a fault names; `NoMemory` names none
 abbrev pub refusal_named : ReduceFault → Option ReduceRefusal
 refusal_named Mismatch = Some mismatch
 refusal_named TooManyDims = Some too_many_dims

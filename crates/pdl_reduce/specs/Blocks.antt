@@ -28,7 +28,7 @@ abbrev pub sum_at : Sizes → (left right : List ℤ) → (depth i j : ℕ) → 
 sum_at s left right depth i j = sum_below depth (λ k. left_at s left i k *ℤ right_at s right k j)
 
 -- the number at a place of the product, row by row, wrapped to a type
-abbrev pub product_at : Ty → Sizes → (left right : List ℤ) → ℕ → ℤ
+abbrev pub product_at : Ty → Sizes → (left right : List ℤ) → (place : ℕ) → ℤ
 product_at ty s left right p = wrapped ty (sum_at s left right s.depth (p / s.width) (p % s.width))
 
 -- the blocks have as many numbers as the sizes say, and each depth is one of theirs
@@ -54,7 +54,7 @@ block_at ty count es sizes joined q = nth_block ty count es (stretched_position 
 
 -- the number at a place of the products of two arrays' blocks, one product after the other
 abbrev pub products_at : Ty → Sizes → (left right : List ℤ)
-    → (left_sizes right_sizes joined : List ℕ) → ℕ → ℤ
+    → (left_sizes right_sizes joined : List ℕ) → (place : ℕ) → ℤ
 products_at ty s left right ls rs joined p =
     let count = s.height * s.width in
     let q = p / count in

@@ -42,7 +42,7 @@ abbrev pub paired_dims : Resolved → List ℕ
 paired_dims r = slice_index_or r.shapes 2 []
 
 -- the element of the result at a position, at the generic type
-abbrev pub paired_element : Pairing → Resolved → (a b : Made) → ℕ → ℤ
+abbrev pub paired_element : Pairing → Resolved → (a b : Made) → (position : ℕ) → ℤ
 paired_element kind r a b p =
     let left = broadcast_element r.generic a in
     let right = broadcast_element r.generic b in

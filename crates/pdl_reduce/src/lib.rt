@@ -69,7 +69,7 @@ pub enum Pairing {
     Matmult,
 }
 
-/// Why there is no result, in the order in which a call answers these; only want of memory may be
+/// Why there is no result, in the order in which a call answers these; only `NoMemory` may be
 /// answered at any call.
 #[derive(Clone, Copy, PartialEq, Eq, Debug)]
 pub enum ReduceFault {

@@ -3,6 +3,7 @@ use Rattle.std.specs.Prelude.{◌≡◌, ◌≢◌, ℕ, ◌<◌, nat_le, if◌t
 use Rattle.std.specs.Ordering.{nat_cmp}
 use Rattle.std.specs.Map.{lookup}
 use Rattle.std.specs.BTreeMap.{is_at}
+use Rattle.pdl_registry.specs.declared.limits.TheConstants.{MOST_NEWEST}
 
 -- the value of v
 abbrev pub value_at : {V : Type 0} → List (ℕ × V) → ℕ → Option V
@@ -35,7 +36,7 @@ pub record IsPut {V : Type 0} (old new : List (ℕ × V)) (v : ℕ) (o : Option 
 
 -- how many of the newest numbers stand before the others, at most
 abbrev pub most_newest : ℕ
-most_newest = 8
+most_newest = MOST_NEWEST
 
 -- v stands at place i
 pub record IsPlace {V : Type 0} (es : List (ℕ × V)) (v i : ℕ) : Type 0 where

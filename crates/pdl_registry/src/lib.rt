@@ -3,6 +3,7 @@
 #![tactic(auto)]
 
 mod descending;
+mod limits;
 mod numbered;
 
 pub use numbered::Numbered;

@@ -5,13 +5,11 @@ ghost use Rattle.std.specs.Option.{ForSome, option_copied};
 ghost use Rattle.pdl_registry.specs.Numbered.{IsAbove, IsPlace, IsPut, Rises, first_from, most_newest, value_at};
 
 use crate::descending::Descending;
+use crate::limits::MOST_NEWEST;
 use std::alloc::{AllocError, Global};
 use std::collections::BTreeMap;
 use std::marker::Model;
 use std::ops::Index;
-
-/// How many numbers stand before the map at most.
-const MOST_NEWEST: usize = 8;
 
 /// Values by numbers. The newest stand in a short list before the map, and go into the map, oldest
 /// first, as newer ones come. So a number that goes soon was never in the map, where each insertion

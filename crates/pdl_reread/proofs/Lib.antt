@@ -3,3 +3,7 @@ pub mod Standing
 pub mod Items
 pub mod Spelled
 pub mod Cut
+pub mod Plain
+pub mod Fitting
+pub mod DumpLines
+pub mod Rereading

@@ -1,3 +1,4 @@
 pub mod Parts
 pub mod Trees
 pub mod Scripts
+pub mod Rereading

@@ -46,12 +46,12 @@ lexemes_at at (w ∷ ws) =
     lexeme_at w.kind (behind at w.gap) w.bytes ∷ lexemes_at (behind at w.gap + length w.bytes) ws
 
 -- what stands at a token's place, where its lexeme has a place
-abbrev pub StandsAt : (source : List ℕ) → ℕ → TokenKind → List ℕ → Type 0
+abbrev pub StandsAt : (source : List ℕ) → (at : ℕ) → TokenKind → (bytes : List ℕ) → Type 0
 StandsAt source at IsStr bytes = (quote : ℕ) (inside : List ℕ) → bytes ≡ quoted quote inside →
     bytes_at source (inside_at at bytes) ≡ inside
 StandsAt source at kind bytes = bytes_at source (span_at at bytes) ≡ bytes
 
-abbrev pub Stand : (source : List ℕ) → ℕ → List Written → Type 0
+abbrev pub Stand : (source : List ℕ) → (at : ℕ) → List Written → Type 0
 Stand source at [] = Unit {0}
 Stand source at (w ∷ ws) = StandsAt source (behind at w.gap) w.kind w.bytes
     × Stand source (behind at w.gap + length w.bytes) ws

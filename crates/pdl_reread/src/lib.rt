@@ -1,6 +1,7 @@
 //! What a dump reads as.
 #![tactic(auto)]
 
+ghost use Rattle.pdl_reread.specs.Rereading.{DumpsAreReread};
 ghost use Rattle.pdl_reread.specs.Scripts.{LinesAreStatements};
 ghost use Rattle.pdl_reread.specs.Trees.{LinesAreRead};
 
@@ -23,4 +24,21 @@ pub fn lines_are_statements()
     pdl_lex::written_laws();
     pdl_lex::joining_laws();
     pdl_lexemes::type_words_are_words();
+}
+
+/// The dump of a state that a dump can make again, where it isn't refused: its text is cut into its
+/// lines, each on its line of the script, whatever stands behind it, and each of them is read as its
+/// statement, and never as a fault. The call does nothing when it runs.
+pub fn dumps_are_reread()
+    ensures { DumpsAreReread }
+{
+    pdl_elem::wrapping_laws();
+    pdl_shape::shape_laws();
+    pdl_slices::written_slices();
+    pdl_lex::written_laws();
+    pdl_lexemes::type_words_are_words();
+    pdl_machine::reads_law();
+    pdl_machine::dumpable_laws();
+    lines_are_read();
+    lines_are_statements();
 }

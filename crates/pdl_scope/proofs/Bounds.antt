@@ -85,7 +85,7 @@ pub record Laws : Type 0 where
   pub reached : ReachedAreSeenAsBefore
   pub unwritten : NothingIsWritten
 
-released_seen : Laws → (e t : Engine) (u v : ℕ) → IsSound e.world → IsReleased e u t → IsLive t.world v → look t.world v ≡ look e.world v
+pub released_seen : Laws → (e t : Engine) (u v : ℕ) → IsSound e.world → IsReleased e u t → IsLive t.world v → look t.world v ≡ look e.world v
 released_seen laws e t u v sound r live =
     let held = held_among (one_less_at e.holds u) in
     let there : IsLive (sweep e.world held) v = subst (λ w. IsLive w v) r.world live in

@@ -13,13 +13,13 @@ use Rattle.pdl_engine.specs.State.{State as Engine, OthersWait, SameArrays, Stay
 use Rattle.pdl_scope.specs.Costs.{ReadsNoDearer}
 
 -- nothing is owed by what can be lent
-nothing_if : (before now : Bool) (m n : ℕ) → (before ≡ true → now ≡ true) → m ≤ n → (if now then 0 else m) ≤ (if before then 0 else n)
+pub nothing_if : (before now : Bool) (m n : ℕ) → (before ≡ true → now ≡ true) → m ≤ n → (if now then 0 else m) ≤ (if before then 0 else n)
 nothing_if false true m n stay le = omega arith
 nothing_if false false m n stay le = le
 nothing_if true true m n stay le = omega arith
 nothing_if true false m n stay le = (let none = stay refl in absurd (cc))
 
-owed_less : (view before now : Bool) (size : ℕ) → (before ≡ true → now ≡ true) → (if view then (if now then 0 else size) else 0) ≤ (if view then (if before then 0 else size) else 0)
+pub owed_less : (view before now : Bool) (size : ℕ) → (before ≡ true → now ≡ true) → (if view then (if now then 0 else size) else 0) ≤ (if view then (if before then 0 else size) else 0)
 owed_less true before now size stay = nothing_if before now size size stay (omega arith)
 owed_less false before now size stay = omega arith
 

@@ -1,6 +1,8 @@
 -- How many elements an array has.
 use Rattle.std.proofs.Common.{◌≡◌, ℕ, ℤ, List, [], ◌∷◌, length, Bool, true, false, Option, Some, None, Result, Ok, Err, refl, sym, ap, ◌∙◌}
-use Rattle.std.specs.Prelude.{◌==◌, IfSome, IsSomeAnd, option_and_then, if◌then◌else◌}
+use Rattle.std.proofs.Common.{arith}
+use Rattle.std.proofs.lemmas.Bool.{ne_eqb}
+use Rattle.std.specs.Prelude.{is_some, ◌==◌, IfSome, IsSomeAnd, option_and_then, if◌then◌else◌}
 use Rattle.std.specs.Option.{option_map_or}
 use Rattle.std.proofs.lemmas.List.{length-map}
 use Rattle.std.proofs.lemmas.List.FromFn.{length-map-range_with_len}
@@ -46,11 +48,11 @@ count_elements w v live = by_look (look w v) (counted w v) live
     by_look None count live = absurd live
     by_look (Some l) count live = length-map l.places (element_at (root_elements w l.root)) ∙ count
 
--- an array of more or fewer elements than one is no number
-pub no_number : (w : World) (v : ℕ) (ds : List ℕ) (n : ℕ) → IsLive w v → ds ≡ dims_in w v → n ≡ size_of ds → (n ≡ 1 → ⊥) → None ≡ only (elements w v)
-no_number w v ds n live e count many = by_count (elements w v) (count_elements w v live)
+-- an array is a number where it has one element
+pub single : (w : World) (v : ℕ) (ds : List ℕ) (n : ℕ) → IsLive w v → ds ≡ dims_in w v → n ≡ size_of ds → (n == 1) ≡ is_some (only (elements w v))
+single w v ds n live e count = by_count (elements w v) (count_elements w v live)
   where
-    by_count : (xs : List ℤ) → length xs ≡ size_of (dims_in w v) → None ≡ only xs
-    by_count [] h = refl
-    by_count (x ∷ []) h = absurd (many (count ∙ ap size_of e ∙ sym h))
-    by_count (x ∷ y ∷ xs) h = refl
+    by_count : (xs : List ℤ) → length xs ≡ size_of (dims_in w v) → (n == 1) ≡ is_some (only xs)
+    by_count [] h = (let none : n ≡ 0 = count ∙ ap size_of e ∙ sym h in ap (λ k. k == 1) none)
+    by_count (x ∷ []) h = (let one : n ≡ 1 = count ∙ ap size_of e ∙ sym h in ap (λ k. k == 1) one)
+    by_count (x ∷ y ∷ xs) h = (let many : n ≡ length (x ∷ y ∷ xs) = count ∙ ap size_of e ∙ sym h in ne_eqb n 1 (λ same. absurd (omega (arith, many, same))))

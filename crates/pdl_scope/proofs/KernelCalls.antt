@@ -2,6 +2,7 @@
 use Rattle.std.proofs.Common.{◌≡◌, ℕ, zero, suc, ◌+◌, ◌<◌, ◌≤◌, true, List, [], ◌∷◌, length, map, take, get_or, Some, eq-eqb, Result, Ok, Err, refl, sym, ap, subst, ◌∙◌, arith}
 use Rattle.std.specs.Prelude.{◌==◌, All, IfSome, slice_get, Vec}
 use Rattle.std.specs.Global.{Global}
+use Rattle.std.specs.Result.{IsErrAnd}
 use Rattle.std.proofs.lemmas.List.{length-map, length-take-le, map_more, take_all}
 use Rattle.std.proofs.lemmas.List.Elements.{All-more}
 use Rattle.pdl_buf.specs.Window.{Window}
@@ -25,10 +26,12 @@ use Rattle.pdl_sig.specs.Given.{shape_of}
 use Rattle.pdl_machine.specs.Outcome.{array}
 use Rattle.pdl_machine.specs.Refused.{or_named}
 use Rattle.pdl_machine.specs.Then.{and_more, all_of, and_then}
+use Rattle.pdl_scope.specs.Costs.{can_run}
 use Rattle.pdl_scope.specs.declared.fault.ScopeFault.{ScopeFault}
+use Rattle.pdl_scope.specs.declared.fault.ScopeFault.TheVariants.{Script, NoMemory}
 use Rattle.pdl_scope.specs.Answers.{AnswersAs, IsFault}
 use Rattle.pdl_scope.specs.Faults.{of_resolve, of_run}
-use Rattle.pdl_scope.proofs.Faults.{named_fault, named_first}
+use Rattle.pdl_scope.proofs.Faults.{named_fault}
 use Rattle.std.proofs.lemmas.Option.{IfSome_then}
 use Rattle.pdl_scope.specs.Scope.{made_in, shape_in}
 
@@ -46,14 +49,44 @@ call_is k e ids signature shapes same seen =
     ap (λ ss. call_by k (map (made_in e) ids) (resolution k.signature ss)) (shapes_seen e ids ∙ sym seen)
     ∙ ap (λ s. call_by k (map (made_in e) ids) (resolution s shapes)) (sym same)
 
--- the arguments don't resolve
-pub call_refused : (k : Kernel) (e : Engine) (ids : List ℕ) (signature : Signature) (shapes : List ArgShape) (f : ResolveFault) (fault : ScopeFault) → signature ≡ k.signature → shapes ≡ map (shape_in e) ids
-    → Resolves (resolution signature shapes) (Err f) → fault ≡ of_resolve f → IsFault (called_on k (map (made_in e) ids)) fault
-call_refused k e ids signature shapes f fault same seen h is =
-    let P : ScopeFault → Type 0 = λ x. IsFault (called_on k (map (made_in e) ids)) x in
-    let Q : Result (List Made) Fault → Type 0 = λ x. IsFault x (of_resolve f) in
-    let refused = named_first resolve_fault (resolution signature shapes) (λ resolved. or_named run_fault (called k resolved (map (made_in e) ids))) (reason_named f) (IfSome_then (reason_named f) h (λ x is. sym is)) in
-    subst P (sym is) (subst Q (sym (call_is k e ids signature shapes same seen)) refused)
+-- the shapes don't resolve
+pub shapes_refused : (k : Kernel) (e : Engine) (ids : List ℕ) (signature : Signature) (shapes : List ArgShape) (f : ResolveFault) (fault : ScopeFault) → signature ≡ k.signature → shapes ≡ map (shape_in e) ids
+    → Resolves (resolution signature shapes) (Err f) → fault ≡ of_resolve f → IsFault (or_named resolve_fault (resolution k.signature (map (shape_in e) ids))) fault
+shapes_refused k e ids signature shapes f fault same seen h is =
+    let P : ScopeFault → Type 0 = λ x. IsFault (or_named resolve_fault (resolution k.signature (map (shape_in e) ids))) x in
+    let refused : IsFault (or_named resolve_fault (resolution signature shapes)) (of_resolve f) = named_fault resolve_fault (resolution signature shapes) (reason_named f) (IfSome_then (reason_named f) h (λ x is. sym is)) in
+    let Q : Signature → Type 0 = λ s. IsFault (or_named resolve_fault (resolution s (map (shape_in e) ids))) (of_resolve f) in
+    let R : List ArgShape → Type 0 = λ ss. IsFault (or_named resolve_fault (resolution signature ss)) (of_resolve f) in
+    subst P (sym is) (subst Q same (subst R seen refused))
+
+-- they resolve to what they are said to
+named_ok : (r : Result Resolved Unresolved) (resolved : Resolved) → or_named resolve_fault r ≡ Ok resolved → r ≡ Ok resolved
+named_ok (Ok x) resolved h = (let same : x ≡ resolved = cc in ap Ok same)
+named_ok (Err e) resolved h = absurd (cc)
+
+pub resolves_to : (k : Kernel) (shapes : List ArgShape) (resolved : Resolved) → or_named resolve_fault (resolution k.signature shapes) ≡ Ok resolved → resolution k.signature shapes ≡ Ok resolved
+resolves_to k shapes resolved h = named_ok (resolution k.signature shapes) resolved h
+
+-- a call that has as many outputs as are wanted
+as_wanted : (k : Kernel) (wanted count : ℕ) (given : List Made) → count ≡ outputs_count k.signature → count ≡ wanted → outputs_by wanted given k ≡ called_on k given
+as_wanted k wanted count given is same =
+    let t : (outputs_count k.signature == wanted) ≡ true = eq-eqb (outputs_count k.signature) wanted (sym is ∙ same) in
+    rw t refl
+
+-- a call whose shapes don't resolve is refused so
+pub call_refused : (k : Kernel) (e : Engine) (ids : List ℕ) (wanted count : ℕ) (fault : ScopeFault) → count ≡ outputs_count k.signature → count ≡ wanted
+    → IsFault (or_named resolve_fault (resolution k.signature (map (shape_in e) ids))) fault → IsFault (outputs_by wanted (map (made_in e) ids) k) fault
+call_refused k e ids wanted count NoMemory is same h = tt
+call_refused k e ids wanted count (Script f) is same h =
+    as_wanted k wanted count (map (made_in e) ids) is same
+    ∙ ap (λ ss. and_then (or_named resolve_fault (resolution k.signature ss)) (λ resolved. or_named run_fault (called k resolved (map (made_in e) ids)))) (shapes_seen e ids)
+    ∙ ap (λ x. and_then x (λ resolved. or_named run_fault (called k resolved (map (made_in e) ids)))) h
+
+-- where a kernel can run, it has the outputs that are wanted, and the shapes resolve
+pub can_run_so : (k : Kernel) (wanted count : ℕ) (shapes : List ArgShape) (resolved : Resolved) → count ≡ outputs_count k.signature → count ≡ wanted → resolution k.signature shapes ≡ Ok resolved → can_run k wanted shapes ≡ true
+can_run_so k wanted count shapes resolved is same resolves =
+    let t : (outputs_count k.signature == wanted) ≡ true = eq-eqb (outputs_count k.signature) wanted (sym is ∙ same) in
+    rw (t, resolves) refl
 
 -- what is known of a call whose arguments were all given
 pub record IsGiven (k : Kernel) (e : Engine) (ids : List ℕ) (resolved : Resolved) (r : Run) : Type 0 where
@@ -131,12 +164,6 @@ pub all_arrays : (f : ℕ → Made) (ids : List ℕ) → all_of array_seen (map 
 all_arrays f [] = refl
 all_arrays f (v ∷ ids) = ap (and_more (Some (f v))) (all_arrays f ids)
 
--- a call that has as many outputs as are wanted
-as_wanted : (k : Kernel) (wanted count : ℕ) (given : List Made) → count ≡ outputs_count k.signature → count ≡ wanted → outputs_by wanted given k ≡ called_on k given
-as_wanted k wanted count given is same =
-    let t : (outputs_count k.signature == wanted) ≡ true = eq-eqb (outputs_count k.signature) wanted (sym is ∙ same) in
-    rw t refl
-
 same_made : (e t : Engine) → SameArrays e t → made_in t ≡ made_in e
 same_made e t s = ap (λ w. made_by w t.next) s.world ∙ ap (made_by e.world) s.next
   where
@@ -152,3 +179,11 @@ all_given k wanted count e t ids r is same arrays h =
 
 pub live_again : (e t : Engine) (ids : List ℕ) → SameArrays e t → All (IsLive e.world) ids → All (IsLive t.world) ids
 live_again e t ids s live = let P : World → Type 0 = λ w. All (IsLive w) ids in subst P (sym s.world) live
+
+pub shapes_again : (k : Kernel) (e t : Engine) (ids : List ℕ) (resolved : Resolved) → SameArrays e t → resolution k.signature (map (shape_in e) ids) ≡ Ok resolved → resolution k.signature (map (shape_in t) ids) ≡ Ok resolved
+shapes_again k e t ids resolved s h = ap (λ f. resolution k.signature (map (λ v. shape_of (f v)) ids)) (same_made e t s) ∙ h
+
+-- a fault is handed on
+pub handed : {T U : Type 0} (seen : T → U) (wanted : Result U Fault) (f : ScopeFault) (r : Result T ScopeFault) → IsErrAnd r (λ e. e ≡ f) → IsFault wanted f → AnswersAs seen wanted r
+handed seen wanted f (Ok x) is h = absurd is
+handed seen wanted f (Err e) is h = subst (IsFault wanted) (sym is) h

@@ -37,7 +37,7 @@ none_attached : (n : ℕ) → attached (replicate n None) ≡ []
 none_attached zero = refl
 none_attached (suc n) = none_attached n
 
-attached_front : (ws more : Watches) → attached (ws ++ more) ≡ attached ws ++ attached more
+pub attached_front : (ws more : Watches) → attached (ws ++ more) ≡ attached ws ++ attached more
 attached_front [] more = refl
 attached_front (None ∷ ws) more = attached_front ws more
 attached_front (Some v ∷ ws) more = ap (λ vs. v ∷ vs) (attached_front ws more)

@@ -28,6 +28,11 @@ abbrev pub Evaluates : Valued → Scope → Result ℕ ScopeFault → Type 0
 Evaluates wanted new (Ok v) = (wanted ≡ Ok (new.arrays, v)) × IsLive new.arrays.world v
 Evaluates wanted new (Err e) = IsFault wanted e
 
+-- where a fault of the script refuses it
+abbrev pub IfScript : {T : Type 0} → Result T ScopeFault → Type 0 → Type 0
+IfScript (Err (Script e)) P = P
+IfScript _ P = Unit {0}
+
 -- the step's state is the new one, and its text was added at the end of what was printed
 abbrev pub Prints : Stepped → State → (old_out new_out : List ℕ) → Type 0
 Prints (Ok (s, t)) new old_out new_out = (new ≡ s) × (new_out ≡ old_out ++ t)

@@ -1,11 +1,25 @@
 -- What reading and making arrays costs.
-use Rattle.std.specs.Prelude.{ℕ, ◌≤◌, Result, Ok, Err}
+use Rattle.std.specs.Prelude.{◌≡◌, ℕ, ◌+◌, ◌≤◌, ◌==◌, ◌&&◌, Bool, false, List, [], ◌∷◌, Option, Some, None, Result, Ok, Err, is_ok}
 use Rattle.pdl_numbers.specs.Typed.{count_moved}
+use Rattle.pdl_shape.specs.Shape.{size_of}
 use Rattle.pdl_buf.specs.declared.made.Made.{Made}
+use Rattle.pdl_sig.specs.Resolution.{resolution}
+use Rattle.pdl_sig.specs.declared.ArgShape.{ArgShape}
+use Rattle.pdl_kernel.specs.Kernels.{Kernel}
+use Rattle.pdl_world.specs.Refused.{view_refusal}
 use Rattle.pdl_world.specs.Sound.{IsLive}
+use Rattle.pdl_world.specs.World.{World, dims_in}
+use Rattle.pdl_world.specs.declared.Trans.{Trans}
 use Rattle.pdl_engine.specs.Reading.{read_steps}
-use Rattle.pdl_engine.specs.State.{State as Engine}
+use Rattle.pdl_engine.specs.State.{State as Engine, IsLazy, ready_steps}
+use Rattle.pdl_machine.specs.Kernels.{kernel_of, outputs_count}
+use Rattle.pdl_machine.specs.Names.{KernelTexts, Names, found}
+use Rattle.pdl_machine.specs.Outcome.{new_root, new_view}
+use Rattle.pdl_machine.specs.State.{IsWhole}
 use Rattle.pdl_machine.specs.declared.fault.Fault.{Fault}
+use Rattle.pdl_scope.specs.Scope.{Scope, engine_of, machine, Grows}
+use Rattle.pdl_scope.specs.declared.fault.ScopeFault.{ScopeFault}
+use Rattle.pdl_scope.specs.declared.fault.ScopeFault.TheVariants.{NoMemory}
 
 -- no array takes more steps to read than before
 abbrev pub ReadsNoDearer : (old new : Engine) → Type 0
@@ -16,3 +30,89 @@ ReadsNoDearer old new = (v : ℕ) → IsLive old.world v → read_steps new v �
 abbrev pub make_steps : Result Made Fault → ℕ
 make_steps (Ok m) = count_moved m.elems
 make_steps (Err e) = 0
+
+-- no array takes more steps to be made ready than before, nor to read
+pub record CostsNoMore (old new : Engine) : Type 0 where
+  pub readies : (v : ℕ) → IsLive old.world v → ready_steps new v ≤ ready_steps old v
+  pub reads : ReadsNoDearer old new
+
+-- Nothing was moved: no step was taken, the same arrays can be lent, and the same waits.
+pub record MovesNothing (old new : Engine) (before after : ℕ) : Type 0 where
+  pub unmoved : after ≡ before
+  pub fresh : new.fresh ≡ old.fresh
+  pub pending : new.pending ≡ old.pending
+
+-- how many elements the arrays of a world have together
+abbrev pub total_size : World → ℕ
+total_size [] = 0
+total_size ((k, d) ∷ w) = size_of (dims_in ((k, d) ∷ w) k) + total_size w
+
+-- It takes at most a step for each element of the arrays that came, and so many besides. Where
+-- memory ran out it says nothing.
+abbrev pub MovesWithin : {T : Type 0} → (most : ℕ) → (old new : Scope) → (before after : ℕ)
+    → Result T ScopeFault → Type 0
+MovesWithin most old new before after (Err NoMemory) = Unit {0}
+MovesWithin most old new before after _ =
+    after + total_size old.arrays.world ≤ before + total_size new.arrays.world + most
+
+-- whether a kernel can run on arrays of these shapes: it has so many outputs, and they resolve
+abbrev pub can_run : Kernel → (wanted : ℕ) → List ArgShape → Bool
+can_run k wanted shapes =
+    (outputs_count k.signature == wanted) && is_ok (resolution k.signature shapes)
+
+abbrev pub can_run_read : Result Kernel Fault → (wanted : ℕ) → List ArgShape → Bool
+can_run_read (Ok k) wanted shapes = can_run k wanted shapes
+can_run_read (Err e) wanted shapes = false
+
+abbrev pub can_run_found : Option KernelTexts → (wanted : ℕ) → List ArgShape → Bool
+can_run_found (Some texts) wanted shapes = can_run_read (kernel_of texts) wanted shapes
+can_run_found None wanted shapes = false
+
+-- whether the kernel of a name can
+abbrev pub can_call : Names → (name : List ℕ) → (wanted : ℕ) → List ArgShape → Bool
+can_call names f wanted shapes = can_run_found (found names.kernels f) wanted shapes
+
+-- What is so of a scope between any two calls: it is whole, and its views are lazy.
+pub record IsInOrder (s : Scope) : Type 0 where
+  pub whole : IsWhole (machine s)
+  pub lazy : IsLazy (engine_of s)
+
+-- arrays that came, or were read, make none dearer that was there
+abbrev pub GrowingMakesNoneDearer : Type 0
+GrowingMakesNoneDearer =
+    (old new : Scope) → IsInOrder old → IsInOrder new → Grows old new
+    → CostsNoMore (engine_of old) (engine_of new)
+
+-- a new root is ready
+abbrev pub NewRootsAreReady : Type 0
+NewRootsAreReady =
+    (old new : Scope) (m : Made) (v : ℕ) → IsInOrder new
+    → new_root old.arrays m ≡ Ok (new.arrays, v) → ready_steps (engine_of new) v ≡ 0
+
+-- to make a new view ready takes what its parent takes, and at most a step for each element
+abbrev pub NewViewsCostTheirSize : Type 0
+NewViewsCostTheirSize =
+    (old new : Scope) (p v : ℕ) (t : Trans) → IsInOrder new → IsLive old.arrays.world p
+    → new_view old.arrays p t (view_refusal old.arrays.world p t) ≡ Ok (new.arrays, v)
+    → ready_steps (engine_of new) v
+    ≤ ready_steps (engine_of new) p + size_of (dims_in new.arrays.world v)
+
+-- the elements of a new root that aren't 0 are among those that came
+abbrev pub NewRootsMoveTheirSize : Type 0
+NewRootsMoveTheirSize =
+    (old new : Scope) (m : Made) (v : ℕ) → IsInOrder new
+    → new_root old.arrays m ≡ Ok (new.arrays, v)
+    → count_moved m.elems + total_size old.arrays.world ≤ total_size new.arrays.world
+
+-- those of a new view are, and no element goes
+abbrev pub NewViewsAddTheirSize : Type 0
+NewViewsAddTheirSize =
+    (old new : Scope) (p v : ℕ) (t : Trans)
+    → new_view old.arrays p t (view_refusal old.arrays.world p t) ≡ Ok (new.arrays, v)
+    → total_size new.arrays.world
+    ≡ size_of (dims_in new.arrays.world v) + total_size old.arrays.world
+
+abbrev pub GrowingLosesNothing : Type 0
+GrowingLosesNothing =
+    (old new : Scope) → Grows old new
+    → total_size old.arrays.world ≤ total_size new.arrays.world

@@ -1,4 +1,5 @@
 pub mod Scope
+pub mod Dumping
 pub mod Answers
 pub mod Faults
 pub mod Holding

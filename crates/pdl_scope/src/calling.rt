@@ -1,5 +1,5 @@
 //! Calls of kernels (PDL::PP).
-ghost use Rattle.std.specs.Prelude.{◌≡◌, ◌+◌, ◌≤◌, true, [], length, map, sum_by, All, IfOk, OnOk, Ok};
+ghost use Rattle.std.specs.Prelude.{◌≡◌, ◌+◌, ◌≤◌, true, false, [], length, map, sum_by, All, IfOk, OnOk, Ok};
 ghost use Rattle.std.specs.List.{filter};
 ghost use Rattle.pdl_buf.specs.Made.{IsMade};
 ghost use Rattle.pdl_engine.specs.Reading.{read_steps};
@@ -7,8 +7,10 @@ ghost use Rattle.pdl_engine.specs.State.{is_fresh, SameArrays, StayFresh};
 ghost use Rattle.pdl_sig.specs.Resolution.{is_output, resolution};
 ghost use Rattle.pdl_sig.specs.declared.SigArg.{SigArg};
 ghost use Rattle.pdl_world.specs.Sound.{IsLive};
-ghost use Rattle.pdl_machine.specs.Kernels.{called_on, outputs_by, outputs_count};
-ghost use Rattle.pdl_scope.specs.Answers.{AnswersAs};
+ghost use Rattle.pdl_machine.specs.Kernels.{called_on, outputs_by, outputs_count, resolve_fault};
+ghost use Rattle.pdl_machine.specs.Refused.{or_named};
+ghost use Rattle.pdl_scope.specs.Answers.{Answers, AnswersAs};
+ghost use Rattle.pdl_scope.specs.Costs.{can_run};
 ghost use Rattle.pdl_scope.specs.Scope.{made_in, shape_in};
 
 use crate::fault::ScopeFault;
@@ -18,12 +20,13 @@ use pdl_engine::{ArrayId, Engine};
 use pdl_kernel::{Kernel, KernelRun, kernel_signature};
 use pdl_machine::Fault;
 use pdl_shape::copy_dims;
-use pdl_sig::{ArgShape, SigArg, Signature, is_output, resolve};
+use pdl_sig::{ArgShape, Resolved, SigArg, Signature, is_output, resolve};
 use std::alloc::{AllocError, Global};
 use std::sync::ledger::Ledger;
 
-/// What the call of a kernel gives for arrays, of which so many outputs are wanted. They are made
-/// ready to be lent, one after another, in at most the steps that it takes to read each of them.
+/// What the call of a kernel gives for arrays, of which so many outputs are wanted. Where it can run
+/// on them they are made ready to be lent, one after another, in at most the steps that it takes to
+/// read each of them.
 pub(crate) fn kernel_outputs<L: Ledger>(
     alloc: Global,
     kernel: &Kernel,
@@ -39,12 +42,15 @@ pub(crate) fn kernel_outputs<L: Ledger>(
     ensures same { SameArrays engine.old engine.new }
     ensures stay { StayFresh engine.old engine.new }
     ensures counted { steps.new ≤ steps.old + sum_by (read_steps engine.old) ids.now }
+    ensures unmoved { can_run kernel.now wanted (map (shape_in engine.old) ids.now) ≡ false
+        → (engine.new ≡ engine.old) × (steps.new ≡ steps.old) }
 {
     if outputs_count(kernel_signature(kernel)) != wanted {
         return Err(ScopeFault::Script(Fault::WrongArguments));
     }
+    let resolved = resolved_on(alloc, kernel, engine, ids)?;
     ready_all(engine, ids, steps)?;
-    called_on(alloc, kernel, engine, ids)
+    called_on(alloc, kernel, resolved, engine, ids)
 }
 
 /// How many outputs a call has.
@@ -84,24 +90,40 @@ fn ready_all<L: Ledger>(
     Ok(())
 }
 
-/// What a kernel gives for arrays that can be lent.
+/// What the shapes of arrays resolve to in a kernel's signature.
+fn resolved_on(
+    alloc: Global,
+    kernel: &Kernel,
+    engine: &Engine,
+    ids: &[ArrayId],
+) -> Result<Resolved, ScopeFault>
+    requires { All (IsLive engine.now.world) ids.now }
+    ensures { let shapes = map (shape_in engine.now) ids.now in
+        Answers (or_named resolve_fault (resolution kernel.now.signature shapes)) result }
+{
+    let shapes = shapes_of(alloc, engine, ids)?;
+    match resolve(alloc, kernel_signature(kernel), &shapes) {
+        Ok(resolved) => Ok(resolved),
+        Err(fault) => Err(ScopeFault::from(fault)),
+    }
+}
+
+/// What a kernel gives for arrays that can be lent, and whose shapes resolve so.
 fn called_on(
     alloc: Global,
     kernel: &Kernel,
+    resolved: Resolved,
     engine: &Engine,
     ids: &[ArrayId],
 ) -> Result<Vec<Made>, ScopeFault>
     requires live { All (IsLive engine.now.world) ids.now }
     requires fresh { All (λ v. is_fresh engine.now v ≡ true) ids.now }
+    requires resolved { let shapes = map (shape_in engine.now) ids.now in
+        resolution kernel.now.signature shapes ≡ Ok resolved }
     ensures value { let arrays = map (made_in engine.now) ids.now in
         AnswersAs (λ ms. ms.items) (called_on kernel.now arrays) result }
     ensures made { IfOk result (λ ms. All (λ m. IsMade m.ty m.dims m.elems) ms.items) }
 {
-    let shapes = shapes_of(alloc, engine, ids)?;
-    let resolved = match resolve(alloc, kernel_signature(kernel), &shapes) {
-        Ok(resolved) => resolved,
-        Err(fault) => return Err(ScopeFault::from(fault)),
-    };
     let mut run = KernelRun::begin(alloc, kernel, resolved)?;
     give_all(&mut run, engine, ids)?;
     match run.finish() {

@@ -1,17 +1,21 @@
 //! Arrays that are cut from their parents or get other dimensions, and names that are taken away.
 ghost use Rattle.std.specs.Prelude.{◌≡◌, ◌+◌, ◌<◌, ◌≤◌, ◌^◌, [], length, true, false, vec_capacity, Ok, IfErr, OnOk, OnErr};
+ghost use Rattle.pdl_shape.specs.Shape.{size_of};
 ghost use Rattle.pdl_world.specs.Cut.{breaks, sever, reshape};
+ghost use Rattle.pdl_world.specs.Paths.{root_of};
 ghost use Rattle.pdl_world.specs.Sound.{IsLive};
+ghost use Rattle.pdl_world.specs.World.{dims_in};
 ghost use Rattle.pdl_nodes.specs.declared.relaid.RelayFault.TheVariants.{Breaks};
-ghost use Rattle.pdl_engine.specs.State.{StayFresh};
+ghost use Rattle.pdl_engine.specs.State.{StayFresh, ready_steps};
 ghost use Rattle.pdl_machine.specs.Cuts.{cut, reshaped};
 ghost use Rattle.pdl_machine.specs.State.{with_arrays};
 ghost use Rattle.pdl_machine.specs.Names.{unbind, Names};
 ghost use Rattle.pdl_machine.specs.Step.{bind_value, severing};
 ghost use Rattle.pdl_machine.specs.Then.{and_then};
-ghost use Rattle.pdl_scope.specs.Answers.{Runs};
+ghost use Rattle.pdl_scope.specs.Answers.{IfScript, Runs};
+ghost use Rattle.pdl_scope.specs.Costs.{MovesNothing};
 ghost use Rattle.pdl_scope.specs.Holding.{IsHeldBeside, StaysHeld};
-ghost use Rattle.pdl_scope.specs.Scope.{machine};
+ghost use Rattle.pdl_scope.specs.Scope.{engine_of, machine};
 
 use crate::fault::ScopeFault;
 use crate::holding::{bind_one, hold_parent, note};
@@ -27,17 +31,23 @@ use std::alloc::AllocError;
 use std::sync::ledger::Ledger;
 
 impl Scope {
-    /// Cuts an array from its parent. The parent is kept until the statement ends.
+    /// Cuts an array from its parent. The parent is kept until the statement ends. It takes at most
+    /// the steps that make the array ready, and one for each of its elements; on a root none.
     pub fn sever<L: Ledger>(&mut self, id: ArrayId, steps: &mut Steps<L>) -> Result<(), ScopeFault>
         requires { IsLive self.old.arrays.world id }
-        ensures { Runs (severing (machine self.old) id) self.old self.new [] [] result }
+        ensures runs { Runs (severing (machine self.old) id) self.old self.new [] [] result }
+        ensures counted { let e = engine_of self.old in
+            steps.new ≤ steps.old + (ready_steps e id + size_of (dims_in e.world id)) }
+        ensures spent { let e = engine_of self.old in root_of e.world id ≡ id
+            → MovesNothing e (engine_of self.new) steps.old steps.new }
     {
         self.leaving.reserve(1)?;
         Ok(cut_apart(&mut self.engine, &mut self.leaving, id, steps)?)
     }
 
     /// Cuts an array from its parent and binds a name to it, with `TooManyNames` where the name is
-    /// new and 512 are bound. All room is taken before the cut.
+    /// new and 512 are bound. All room is taken before the cut, which takes the steps that it takes
+    /// alone.
     pub fn bind_severed<L: Ledger>(
         &mut self,
         name: &Name,
@@ -45,9 +55,15 @@ impl Scope {
         steps: &mut Steps<L>,
     ) -> Result<(), ScopeFault>
         requires { IsLive self.old.arrays.world id }
-        ensures { let arrays = cut self.old.arrays id in
+        ensures runs { let arrays = cut self.old.arrays id in
             let wanted = bind_value (machine self.old) name.now (arrays, id) in
             Runs wanted self.old self.new [] [] result }
+        ensures counted { let e = engine_of self.old in
+            steps.new ≤ steps.old + (ready_steps e id + size_of (dims_in e.world id)) }
+        ensures spent { let e = engine_of self.old in root_of e.world id ≡ id
+            → MovesNothing e (engine_of self.new) steps.old steps.new }
+        ensures refused { IfScript result
+            ((self.new ≡ self.old) × (steps.new ≡ steps.old)) }
     {
         if self.names.is_full_for(name) {
             return Err(ScopeFault::Script(Fault::TooManyNames));
@@ -69,7 +85,8 @@ impl Scope {
 
     /// Gives an array other dimensions, with `ReshapeBreaks` where the formula of a view that reaches
     /// it refuses, and else `StillWatched` where a watcher is attached to it or to one that reaches
-    /// it. The parent that it may have is kept until the statement ends.
+    /// it: then nothing is moved. The parent that it may have is kept until the statement ends. It
+    /// takes at most the steps that make the array ready, and one for each new element.
     pub fn reshape<L: Ledger>(
         &mut self,
         id: ArrayId,
@@ -77,9 +94,13 @@ impl Scope {
         steps: &mut Steps<L>,
     ) -> Result<(), ScopeFault>
         requires { IsLive self.old.arrays.world id }
-        ensures { let arrays = reshaped self.old.watches self.old.arrays id dims.now in
+        ensures runs { let arrays = reshaped self.old.watches self.old.arrays id dims.now in
             let wanted = and_then arrays (λ a. Ok (with_arrays (machine self.old) a, [])) in
             Runs wanted self.old self.new [] [] result }
+        ensures counted { let e = engine_of self.old in
+            steps.new ≤ steps.old + (ready_steps e id + size_of dims.now) }
+        ensures unchanged { IfScript result
+            (MovesNothing (engine_of self.old) (engine_of self.new) steps.old steps.new) }
     {
         if is_watched(&self.engine, &self.watches, id) {
             if self.engine.breaks(id, dims)? {
@@ -126,6 +147,10 @@ fn cut_apart<L: Ledger>(
     ensures err { OnErr result (engine.new.world ≡ engine.old.world) }
     ensures next { engine.new.next ≡ engine.old.next }
     ensures stay { OnErr result (StayFresh engine.old engine.new) }
+    ensures counted { let e = engine.old in
+        steps.new ≤ steps.old + (ready_steps e id + size_of (dims_in e.world id)) }
+    ensures spent { root_of engine.old.world id ≡ id
+        → MovesNothing engine.old engine.new steps.old steps.new }
     ensures held { StaysHeld engine.old leaving.old.items engine.new leaving.new.items }
     ensures count { length leaving.new.items ≤ length leaving.old.items + 1 }
     ensures room { vec_capacity leaving.old ≤ vec_capacity leaving.new }
@@ -155,6 +180,9 @@ fn laid_anew<L: Ledger>(
     ensures err { OnErr result (engine.new.world ≡ engine.old.world) }
     ensures next { engine.new.next ≡ engine.old.next }
     ensures stay { OnErr result (StayFresh engine.old engine.new) }
+    ensures counted { steps.new ≤ steps.old + (ready_steps engine.old id + size_of dims.now) }
+    ensures unchanged { IfErr result
+        (λ fault. fault ≡ Breaks → MovesNothing engine.old engine.new steps.old steps.new) }
     ensures held { StaysHeld engine.old leaving.old.items engine.new leaving.new.items }
 {
     reshape_laws();

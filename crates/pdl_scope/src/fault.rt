@@ -1,5 +1,6 @@
 //! Why a call of a scope gave nothing.
 use pdl_engine::{ReshapeFault, ViewFault};
+use pdl_image::ImageFault;
 use pdl_kernel::{KernelFault, RunFault};
 use pdl_machine::Fault;
 use pdl_ops::OpFault;
@@ -68,6 +69,20 @@ impl From<ReshapeFault> for ScopeFault {
         match refused {
             ReshapeFault::Breaks => ScopeFault::Script(Fault::ReshapeBreaks),
             ReshapeFault::NoMemory => ScopeFault::NoMemory,
+        }
+    }
+}
+
+impl From<ImageFault> for ScopeFault {
+    ghost use Rattle.std.specs.Prelude.{◌≡◌};
+    ghost use Rattle.pdl_scope.specs.Dumping.{of_image};
+
+    ghost from_gives = { λ refused fault. fault ≡ of_image refused };
+
+    fn from(refused: ImageFault) -> ScopeFault {
+        match refused {
+            ImageFault::TooLong => ScopeFault::Script(Fault::DumpTooLong),
+            ImageFault::NoMemory => ScopeFault::NoMemory,
         }
     }
 }

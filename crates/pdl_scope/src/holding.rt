@@ -4,7 +4,7 @@ ghost use Rattle.std.specs.Option.{option_to_list};
 ghost use Rattle.pdl_world.specs.Paths.{parent_in};
 ghost use Rattle.pdl_world.specs.Swept.{is_listed};
 ghost use Rattle.pdl_world.specs.Sound.{IsLive};
-ghost use Rattle.pdl_engine.specs.Held.{count_at};
+ghost use Rattle.pdl_engine.specs.Held.{count_at, written_back};
 ghost use Rattle.pdl_engine.specs.Reading.{KeepsViews};
 ghost use Rattle.pdl_engine.specs.State.{is_fresh};
 ghost use Rattle.pdl_machine.specs.Names.{Names as AllNames, with_name, names_limit};
@@ -151,7 +151,8 @@ pub(crate) fn bind_all(
 }
 
 /// Takes one hold back for each place in a list. That is unseen where names and watches hold all
-/// the others. What is left can be lent as before, and no step is taken where no view goes.
+/// the others. What is left can be lent as before. It takes at most a step for each element that
+/// waits in a view that goes.
 pub(crate) fn release_all<L: Ledger>(engine: &mut Engine, leaving: &[ArrayId], steps: &mut Steps<L>)
     requires { IsHeldBeside engine.old leaving.now }
     ensures lets_go { (names : AllNames) (watches : Watches) →
@@ -160,11 +161,13 @@ pub(crate) fn release_all<L: Ledger>(engine: &mut Engine, leaving: &[ArrayId], s
     ensures stay { (v : ℕ) → IsLive engine.new.world v → is_fresh engine.old v ≡ true
         → is_fresh engine.new v ≡ true }
     ensures counted { KeepsViews engine.old.world engine.new.world → steps.new ≡ steps.old }
+    ensures written { steps.new ≤ steps.old + written_back engine.old engine.new.world engine.old.world }
 {
     sweep_laws();
     keeping_laws();
     numbering_laws();
     hold_laws();
+    engine.lazy_law();
     for id in leaving {
         engine.holds_law();
         engine.lazy_law();

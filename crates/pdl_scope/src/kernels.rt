@@ -1,13 +1,15 @@
 //! The kernels that are defined.
-ghost use Rattle.std.specs.Prelude.{◌≡◌, [], Ok, IfErr, OnOk, OnErr, option_map};
+ghost use Rattle.std.specs.Prelude.{◌≡◌, ◌<◌, [], length, slice_get, Some, Ok, IfErr, OnOk, OnErr, option_map};
 ghost use Rattle.pdl_machine.specs.declared.fault.Fault.TheVariants.{TooManyKernels};
 ghost use Rattle.pdl_machine.specs.Kernels.{kernel_of, texts_of};
 ghost use Rattle.pdl_machine.specs.Names.{found, entered, is_full_for, kernels_limit};
 ghost use Rattle.pdl_scope.specs.Answers.{IsFault};
+ghost use Rattle.pdl_scope.specs.Dumping.{HasRoom, WritesLines, kernel_lines};
 
 use crate::fault::ScopeFault;
 use indexmap::IndexMap;
 use pdl_elem::{Name, Text};
+use pdl_image::{ImageWriter, dump_laws};
 use pdl_kernel::Kernel;
 use pdl_machine::{Fault, MOST_KERNELS};
 use std::alloc::Global;
@@ -101,6 +103,30 @@ impl Kernels {
         match self.kernels.insert(name, kernel) {
             Ok(_) => Ok(()),
             Err(_) => Err(ScopeFault::NoMemory),
+        }
+    }
+
+    /// Writes the definitions of all kernels.
+    pub fn write(&self, image: &mut ImageWriter) -> Result<(), ScopeFault>
+        requires { HasRoom image.old }
+        ensures { WritesLines image.old image.new 0 (kernel_lines self.now) result }
+    {
+        dump_laws();
+        for index in 0..self.kernels.len() {
+            let (name, defined) = self.entry(index);
+            image.kernel(name, &defined.signature, &defined.code)?;
+        }
+        Ok(())
+    }
+
+    /// The name at a place in the order of the first definitions, with its kernel.
+    fn entry(&self, index: usize) -> (&Name, &DefinedKernel)
+        requires { index < length self.now }
+        ensures { slice_get self.now index ≡ Some (result.0.now, result.1.now) }
+    {
+        match self.kernels.get_index(index) {
+            Some(entry) => entry,
+            None => unreachable!(),
         }
     }
 

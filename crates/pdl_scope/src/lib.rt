@@ -3,11 +3,14 @@
 //! is the machine's definition. It knows arrays by their numbers alone, and watchers by their slots.
 #![tactic(auto)]
 
+mod assigning;
 mod calling;
 mod cutting;
+mod dumping;
 mod fault;
 mod holding;
 mod kernels;
+mod laws;
 mod limits;
 mod names;
 mod operating;
@@ -19,5 +22,6 @@ mod watching;
 
 pub use fault::ScopeFault;
 pub use kernels::DefinedKernel;
+pub use laws::cost_laws;
 pub use limits::MOST_SLOTS;
 pub use scope::Scope;

@@ -1,5 +1,5 @@
 //! Reading the elements of arrays. What can be lent is read without a step.
-ghost use Rattle.std.specs.Prelude.{◌≡◌, IsTrue, ◌+◌, ◌≤◌, ◌<◌, length, All, IfOk, true, OnOk};
+ghost use Rattle.std.specs.Prelude.{◌≡◌, IsTrue, ◌+◌, ◌≤◌, ◌<◌, length, All, IfOk, None, is_some, true, OnOk};
 ghost use Rattle.pdl_elem.specs.Types.{InRange};
 ghost use Rattle.pdl_shape.specs.Shape.{size_of};
 ghost use Rattle.pdl_buf.specs.Made.{IsMade};
@@ -44,6 +44,14 @@ impl Scope {
         all_shown(self.alloc, &self.engine.lend(id))
     }
 
+    /// Whether an array has exactly one element. Nothing is read.
+    pub fn is_single(&self, id: ArrayId) -> bool
+        requires { IsLive self.now.arrays.world id }
+        ensures { result ≡ is_some (only (elements self.now.arrays.world id)) }
+    {
+        elements_of(self.engine.dims(id)) == 1
+    }
+
     /// The number of an array of exactly one element. Nothing is read of any other.
     pub fn only_number<L: Ledger>(
         &mut self,
@@ -54,8 +62,10 @@ impl Scope {
         ensures number { IfOk result (λ n. n ≡ only (elements self.old.arrays.world id)) }
         ensures same { OnlyReads self.old self.new }
         ensures counted { steps.new ≤ steps.old + read_steps (engine_of self.old) id }
+        ensures unread { IfOk result (λ n. n ≡ None
+            → (self.new ≡ self.old) × (steps.new ≡ steps.old)) }
     {
-        if elements_of(self.engine.dims(id)) != 1 {
+        if !self.is_single(id) {
             return Ok(None);
         }
         ready(&mut self.engine, id, steps)?;

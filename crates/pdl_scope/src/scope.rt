@@ -1,5 +1,5 @@
 //! Names, kernels, arrays, and which of these watchers are attached to.
-ghost use Rattle.std.specs.Prelude.{◌≡◌, ℕ, ◌+◌, ◌<◌, ◌≤◌, true, [], length, sum_by, All, IfOk, IfSome, IsTrue, is_some, slice_get, Some};
+ghost use Rattle.std.specs.Prelude.{◌≡◌, ℕ, ◌+◌, ◌<◌, ◌≤◌, true, false, [], length, map, sum_by, All, IfOk, IfSome, IsTrue, is_some, slice_get, Some};
 ghost use Rattle.pdl_shape.specs.Shape.{IsDims};
 ghost use Rattle.pdl_numbers.specs.Typed.{count_moved};
 ghost use Rattle.pdl_buf.specs.Made.{IsMade};
@@ -7,6 +7,7 @@ ghost use Rattle.pdl_world.specs.Formula.{is_well_formed};
 ghost use Rattle.pdl_world.specs.Refused.{view_refusal};
 ghost use Rattle.pdl_world.specs.World.{dims_in, ty_in};
 ghost use Rattle.pdl_world.specs.Sound.{IsLive};
+ghost use Rattle.pdl_engine.specs.Held.{written_back};
 ghost use Rattle.pdl_engine.specs.Reading.{KeepsViews, read_steps};
 ghost use Rattle.pdl_engine.specs.State.{no_arrays, is_fresh, IsLazy};
 ghost use Rattle.pdl_machine.specs.Calls.{outputs_of};
@@ -15,8 +16,9 @@ ghost use Rattle.pdl_machine.specs.State.{kept, with_world, IsWhole};
 ghost use Rattle.pdl_machine.specs.Tidy.{tidy};
 ghost use Rattle.pdl_machine.specs.Outcome.{new_root, new_view};
 ghost use Rattle.pdl_machine.specs.Step.{bind_value, roots_bound, kernel_named};
-ghost use Rattle.pdl_scope.specs.Scope.{engine_of, machine, scope_in, Grows, OnlyReads, array_of, arrays_seen};
-ghost use Rattle.pdl_scope.specs.Answers.{AnswersAs, Evaluates, Runs};
+ghost use Rattle.pdl_scope.specs.Scope.{engine_of, machine, scope_in, Grows, OnlyReads, array_of, arrays_seen, shape_in};
+ghost use Rattle.pdl_scope.specs.Answers.{AnswersAs, Evaluates, IfScript, Runs};
+ghost use Rattle.pdl_scope.specs.Costs.{can_call, IsInOrder, MovesWithin};
 
 use crate::calling::kernel_outputs;
 use crate::fault::ScopeFault;
@@ -40,7 +42,7 @@ use std::sync::ledger::Ledger;
 pub struct Scope {
     pub(crate) alloc: Global,
     pub(crate) names: Names,
-    kernels: Kernels,
+    pub(crate) kernels: Kernels,
     pub(crate) engine: Engine,
     /// By slots the array that the slot's watcher is attached to, which is held once more for it.
     pub(crate) watches: Vec<Option<ArrayId>>,
@@ -80,6 +82,14 @@ impl Scope {
         ensures { IsWhole (machine self.now) }
     {
         let _alloc = self.alloc;
+    }
+
+    /// Each scope is whole, and its views are lazy. The call does nothing when it runs.
+    pub fn in_order(&self)
+        ensures { IsInOrder self.now }
+    {
+        self.whole();
+        self.lazy_law();
     }
 
     /// What a scope can lend is as its engine's law of lazy views says. The call does nothing when
@@ -218,8 +228,9 @@ impl Scope {
     /// Binds a name to an array, with `TooManyNames` where it is new and 512 are bound.
     pub fn bind(&mut self, name: &Name, id: ArrayId) -> Result<(), ScopeFault>
         requires { IsLive self.old.arrays.world id }
-        ensures { let wanted = bind_value (machine self.old) name.now (self.old.arrays, id) in
+        ensures runs { let wanted = bind_value (machine self.old) name.now (self.old.arrays, id) in
             Runs wanted self.old self.new [] [] result }
+        ensures arrays { self.new.arrays ≡ self.old.arrays }
     {
         keeping_laws();
         hold_laws();
@@ -231,7 +242,8 @@ impl Scope {
         Ok(())
     }
 
-    /// Binds names to new arrays in order. Where there isn't room for all of them none is bound.
+    /// Binds names to new arrays in order. Where there isn't room for all of them none is bound, and
+    /// nothing is made. It takes at most a step for each element of the new arrays.
     pub fn bind_roots<L: Ledger>(
         &mut self,
         bound: &[Name],
@@ -239,8 +251,11 @@ impl Scope {
         steps: &mut Steps<L>,
     ) -> Result<(), ScopeFault>
         requires { All (λ m. IsMade m.ty m.dims m.elems) outputs.now }
-        ensures { let wanted = roots_bound (machine self.old) bound.now outputs.now in
+        ensures runs { let wanted = roots_bound (machine self.old) bound.now outputs.now in
             Runs wanted self.old self.new [] [] result }
+        ensures within { MovesWithin 0 self.old self.new steps.old steps.new result }
+        ensures refused { IfScript result
+            ((self.new ≡ self.old) × (steps.new ≡ steps.old)) }
     {
         let count = bound.len().min(outputs.len());
         if !self.names.has_room(&bound[..count]) {
@@ -261,7 +276,8 @@ impl Scope {
 
     /// Takes back the holds that end with a statement, so that what no name and no watcher reaches
     /// goes. What is left when the state is tidied is the same, and what is left can be lent as
-    /// before. Where no view goes no step is taken.
+    /// before. It takes at most a step for each element that waits in a view that goes: so none where
+    /// each view that waits is left.
     pub fn let_go<L: Ledger>(&mut self, steps: &mut Steps<L>)
         ensures gone { machine self.new ≡ with_world (machine self.old) (kept (machine self.old)) }
         ensures unseen { tidy (machine self.new) ≡ tidy (machine self.old) }
@@ -269,6 +285,8 @@ impl Scope {
             → is_fresh (engine_of self.old) v ≡ true → is_fresh (engine_of self.new) v ≡ true }
         ensures counted { KeepsViews self.old.arrays.world self.new.arrays.world
             → steps.new ≡ steps.old }
+        ensures written { let e = engine_of self.old in
+            steps.new ≤ steps.old + written_back e self.new.arrays.world e.world }
     {
         numbering_laws();
         release_all(&mut self.engine, &self.leaving, steps);
@@ -298,7 +316,8 @@ impl Scope {
     }
 
     /// What the call of a kernel's name gives for arrays, of which so many outputs are wanted. It
-    /// takes at most the steps that it takes to read each of the arrays.
+    /// takes at most the steps that it takes to read each of the arrays, and none where the kernel
+    /// can't run on them.
     pub fn kernel_outputs<L: Ledger>(
         &mut self,
         name: &Name,
@@ -314,6 +333,9 @@ impl Scope {
         ensures same { OnlyReads self.old self.new }
         ensures counted { let e = engine_of self.old in
             steps.new ≤ steps.old + sum_by (read_steps e) ids.now }
+        ensures unmoved { let shapes = map (shape_in (engine_of self.old)) ids.now in
+            can_call self.old.names name.now wanted shapes ≡ false
+            → (self.new ≡ self.old) × (steps.new ≡ steps.old) }
     {
         match self.kernels.get(name) {
             Some(defined) => kernel_outputs(

@@ -1,8 +1,11 @@
 //! Which arrays the slots of watchers are attached to, and what watchers are to be told.
-ghost use Rattle.std.specs.Prelude.{◌≡◌, ◌<◌, ℕ, ℤ, List, [], length, take, IfOk, IfSome, IsSome, is_some, None, Ok, OnOk, OnErr, ◌∷◌};
+ghost use Rattle.std.specs.Option.{option_map_or};
+ghost use Rattle.std.specs.Prelude.{◌≡◌, ◌≢◌, ◌+◌, ◌<◌, ◌≤◌, ℕ, ℤ, List, sum_by, [], length, take, IfOk, IfSome, IsSome, is_some, None, Ok, OnOk, OnErr, ◌∷◌};
 ghost use Rattle.pdl_world.specs.Sound.{IsLive};
 ghost use Rattle.pdl_world.specs.World.{assign, elements};
+ghost use Rattle.pdl_world.specs.Paths.{root_of};
 ghost use Rattle.pdl_engine.specs.Foresights.{Foretells};
+ghost use Rattle.pdl_engine.specs.Reading.{read_steps};
 ghost use Rattle.pdl_engine.specs.State.{SameArrays, StayFresh};
 ghost use Rattle.pdl_watch.specs.Changes.{changes};
 ghost use Rattle.pdl_watch.specs.Slots.{lists_of};
@@ -205,6 +208,8 @@ pub(crate) fn foreseen<L: Ledger>(
     ensures same { SameArrays engine.old engine.new }
     ensures stay { StayFresh engine.old engine.new }
     ensures quiet { attached watches.now ≡ [] → steps.new ≡ steps.old }
+    ensures counted { let most = sum_by (read_steps engine.old) (attached watches.now) in
+        steps.new ≤ steps.old + most }
 {
     if watches.is_empty() {
         return Ok(Vec::new(alloc));
@@ -230,9 +235,13 @@ fn all_foreseen<L: Ledger>(
     ensures same { SameArrays engine.old engine.new }
     ensures stay { StayFresh engine.old engine.new }
     ensures quiet { attached watches.now ≡ [] → steps.new ≡ steps.old }
+    ensures counted { let most = sum_by (read_steps engine.old) (attached watches.now) in
+        steps.new ≤ steps.old + most }
 {
     let mut all = Vec::with_capacity(alloc, watches.len())?;
+    engine.resting_law();
     for watch in watches {
+        engine.resting_law();
         let told = slot_foreseen(alloc, engine, number, foresight, *watch, steps)?;
         all.push(told)?;
     }
@@ -255,6 +264,8 @@ fn slot_foreseen<L: Ledger>(
     ensures same { SameArrays engine.old engine.new }
     ensures stay { StayFresh engine.old engine.new }
     ensures quiet { watch ≡ None → steps.new ≡ steps.old }
+    ensures counted { let most = option_map_or (read_steps engine.old) watch 0 in
+        steps.new ≤ steps.old + most }
 {
     match watch {
         Some(id) => changes_foreseen(alloc, engine, number, foresight, id, steps),
@@ -278,6 +289,9 @@ fn changes_foreseen<L: Ledger>(
         (λ ns. ns.items ≡ changes number (elements w seen) (elements (assign w v vs) seen)) }
     ensures same { SameArrays engine.old engine.new }
     ensures stay { StayFresh engine.old engine.new }
+    ensures counted { steps.new ≤ steps.old + read_steps engine.old seen }
+    ensures apart { root_of engine.old.world seen ≢ foresight.now.root
+        → (engine.new ≡ engine.old) × (steps.new ≡ steps.old) }
 {
     change_laws();
     match engine.foresee(foresight, seen, steps)? {

@@ -14,10 +14,12 @@ pub mod Callees
 pub mod Statements
 pub mod Definitions
 pub mod Tidied
+pub mod Spelled
 pub mod Cutting
 pub mod Assigning
 pub mod Present
 pub mod Advances
+pub mod Dumped
 pub mod Heard
 pub mod Closing
 pub mod Bounded

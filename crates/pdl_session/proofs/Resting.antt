@@ -16,16 +16,18 @@ use Rattle.pdl_world.specs.World.{World, ArrayDef, Look, look, root, dims_in, ha
 use Rattle.pdl_engine.specs.Reading.{IsWarm, KeepsViews, read_steps, view_as}
 use Rattle.pdl_engine.specs.State.{is_fresh}
 use Rattle.pdl_lexemes.specs.declared.AssignOp.{AssignOp}
-use Rattle.pdl_syntax.specs.StatementTree.{StatementTree, View, assign, bind, bind_list, pp_def, reshape, sever, show, show_text, undef, unwatch, vars, dump, watch}
+use Rattle.pdl_syntax.specs.StatementTree.{StatementTree, View, assign, bind, bind_list, pp_def, reshape, sever, show, show_text, undef, unwatch, vars, watch, dump}
 use Rattle.pdl_syntax.specs.Tree.{Tree, number, named, literal, unary, binary, call}
 use Rattle.pdl_machine.specs.declared.fault.Fault.{Fault}
 use Rattle.pdl_machine.specs.Arrays.{Arrays, array_in, with_new}
+use Rattle.pdl_machine.specs.Dumpable.{IsSpelled}
 use Rattle.pdl_machine.specs.Laws.{AreGrown}
 use Rattle.pdl_machine.specs.Names.{Named, Names, found, number_of}
 use Rattle.pdl_machine.specs.Outcome.{Valued}
 use Rattle.pdl_machine.specs.State.{State, AreLive, IsSwept, IsWhole, held, kept, with_arrays, with_world}
 use Rattle.pdl_machine.specs.Step.{Stepped, assigned, assigning, effect, target}
 use Rattle.pdl_machine.specs.Then.{and_then}
+use Rattle.pdl_machine.specs.Tidy.{tidy}
 use Rattle.pdl_machine.specs.Operators.{values_for}
 use Rattle.pdl_machine.specs.Value.{known, number_made, value_in, value_of}
 use Rattle.pdl_machine.specs.Watches.{attached}
@@ -33,7 +35,7 @@ use Rattle.pdl_scope.specs.declared.fault.ScopeFault.{ScopeFault}
 use Rattle.pdl_scope.specs.Answers.{Prints, Runs}
 use Rattle.pdl_scope.specs.Scope.{Scope, engine_of, machine, Grows, OnlyReads}
 use Rattle.pdl_session.specs.Bounds.{AssignsPlainly, LeavesReadable, MovesPlainly, PrintsPlainly, RunsInPlace, plain_count, warm_after}
-use Rattle.pdl_session.specs.Session.{IsAtRest, IsKeptWarm}
+use Rattle.pdl_session.specs.Session.{IsAsBefore, IsAtRest, IsKeptWarm}
 use Rattle.pdl_session.proofs.Bounded.{grown_look}
 
 -- each array of a list of live ones is live
@@ -226,6 +228,19 @@ refused_warm laws old mid new (Some v) h grown before =
     let left : IsLive new.arrays.world v = subst (λ z. IsLive z v) (sym back) before.0 in
     (left, λ none. h.stay v left (grown.stay v (before.1 (ap (λ z. has_repeats (places_in z (base z v))) (sym back) ∙ none))))
 
+-- and the scope is as before
+pub as_before : {T : Type 0} → Laws → (r : Result T ScopeFault) (wanted : Stepped) (old mid new : Scope) (o n : List ℕ) → LetsGo old mid new → Runs wanted old mid o n r → OnErr r (IsAsBefore old new)
+as_before laws (Ok t) wanted old mid new o n h ran = tt
+as_before laws (Err f) wanted old mid new o n h ran =
+    let grown : Grows old mid = ran.1.grown in
+    let back : new.arrays.world ≡ old.arrays.world = grown_back laws old mid new h grown in
+    record {
+      names = ap (λ (s : State). s.names) h.gone ∙ grown.names;
+      world = back;
+      watches = ap (λ (s : State). s.watches) h.gone ∙ grown.watches;
+      lent = λ v live fresh. h.stay v (subst (λ z. IsLive z v) (sym back) live) (grown.stay v fresh);
+    }
+
 -- what a statement leaves readable can be read after the others were let go
 pub left_readable : Laws → (present : List Bool) (st : StatementTree) (old mid new : Scope) (before after : ℕ) (o n : List ℕ) → LetsGo old mid new → Prints (effect present (machine old) st) (machine mid) o n → MovesPlainly st old mid before after
     → LeavesReadable st old mid → LeavesReadable st old new
@@ -307,14 +322,16 @@ in_place present (Ok t) st old mid new o n gone ran = by_effect (effect present 
     by_effect (Ok after) is prints = record { after = after; is = is; left = gone ∙ ap (λ s. with_world s (kept s)) prints.0 }
 
 -- what a session keeps after a statement
-pub at_rest : {T : Type 0} → Laws → (present : List Bool) (r : Result T ScopeFault) (st : StatementTree) (warm assigned now : Option ℕ) (old mid new : Scope) (o n : List ℕ) → LetsGo old mid new → IsSwept (machine new) → IfSome warm (IsKeptWarm old)
+pub at_rest : {T : Type 0} → Laws → (present : List Bool) (r : Result T ScopeFault) (st : StatementTree) (warm assigned now : Option ℕ) (old mid new : Scope) (o n : List ℕ) → LetsGo old mid new → IsSwept (machine new) → IsSpelled (tidy (machine new)) → IfSome warm (IsKeptWarm old)
     → assigned ≡ warm_after old st → now ≡ (if is_ok r then assigned else warm) → Runs (effect present (machine old) st) old mid o n r → OnOk r (LeavesReadable st old mid) → IsAtRest new now
-at_rest laws present (Ok t) st warm assigned now old mid new o n h swept rest at is ran readable = record {
+at_rest laws present (Ok t) st warm assigned now old mid new o n h swept spelled rest at is ran readable = record {
   swept = swept;
+  spelled = spelled;
   kept_warm = subst (λ b. IfSome b (IsKeptWarm new)) (sym (is ∙ at)) (assigned_warm laws present st old mid new o n h ran readable);
 }
-at_rest laws present (Err f) st warm assigned now old mid new o n h swept rest at is ran readable = record {
+at_rest laws present (Err f) st warm assigned now old mid new o n h swept spelled rest at is ran readable = record {
   swept = swept;
+  spelled = spelled;
   kept_warm = subst (λ b. IfSome b (IsKeptWarm new)) (sym is) (refused_warm laws old mid new warm h ran.1.grown rest);
 }
 

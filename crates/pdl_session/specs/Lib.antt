@@ -8,4 +8,5 @@ pub mod Faults
 pub mod News
 pub mod Watching
 pub mod Advanced
+pub mod Dumping
 pub mod WorkedBounds

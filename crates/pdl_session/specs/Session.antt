@@ -1,16 +1,18 @@
 -- What a session is seen as.
-use Rattle.std.specs.Prelude.{◌≡◌, ℕ, ◌+◌, ◌≤◌, false, List, [], Option, Some, None, IfSome}
+use Rattle.std.specs.Prelude.{◌≡◌, ℕ, ◌+◌, ◌≤◌, true, false, List, [], Option, Some, None, IfSome}
 use Rattle.pdl_shape.specs.Shape.{size_of}
 use Rattle.pdl_world.specs.Sound.{IsLive}
 use Rattle.pdl_world.specs.Windows.{base}
 use Rattle.pdl_world.specs.World.{dims_in, has_repeats, places_in}
 use Rattle.pdl_engine.specs.Reading.{IsWarm, read_steps}
-use Rattle.pdl_engine.specs.State.{no_arrays}
+use Rattle.pdl_engine.specs.State.{is_fresh, no_arrays}
 use Rattle.pdl_lexemes.specs.declared.AssignOp.{AssignOp}
 use Rattle.pdl_syntax.specs.StatementTree.{StatementTree, assign, show}
 use Rattle.pdl_syntax.specs.Tree.{Tree, named}
 use Rattle.pdl_machine.specs.Names.{nothing_named, number_of}
+use Rattle.pdl_machine.specs.Dumpable.{IsSpelled}
 use Rattle.pdl_machine.specs.State.{State, no_names, IsSwept}
+use Rattle.pdl_machine.specs.Tidy.{tidy}
 use Rattle.pdl_machine.specs.Watches.{attached}
 use Rattle.pdl_scope.specs.Scope.{Scope, engine_of, machine, scope_in}
 use Rattle.pdl_session.specs.Bounds.{plain_count}
@@ -37,11 +39,21 @@ no_steps = record {
 abbrev pub IsKeptWarm : Scope → ℕ → Type 0
 IsKeptWarm s v = IsLive s.arrays.world v × IsWarm (engine_of s) v
 
--- Between two statements: no array is left over, and the array that was assigned to last is there
--- and can be lent, if its base has no repeats.
+-- Between two statements: no array is left over, a script can spell the state, and the array that
+-- was assigned to last is there and can be lent, if its base has no repeats.
 pub record IsAtRest (s : Scope) (warm : Option ℕ) : Type 0 where
   pub swept : IsSwept (machine s)
+  pub spelled : IsSpelled (tidy (machine s))
   pub kept_warm : IfSome warm (IsKeptWarm s)
+
+-- A statement that was refused left names, arrays and slots as they were, by the scope's own
+-- numbers; and each array that could be lent can be lent still.
+pub record IsAsBefore (old new : Scope) : Type 0 where
+  pub names : new.names ≡ old.names
+  pub world : new.arrays.world ≡ old.arrays.world
+  pub watches : new.watches ≡ old.watches
+  pub lent : (v : ℕ) → IsLive old.arrays.world v → is_fresh (engine_of old) v ≡ true
+      → is_fresh (engine_of new) v ≡ true
 
 -- A number or a list is assigned once more to the bare name of the array that was assigned to
 -- last. Where its base has no repeats and no slot is attached, at most as many elements are moved

@@ -8,6 +8,7 @@
 mod call;
 mod defining;
 mod dims;
+mod dumping;
 mod eval;
 mod fault;
 mod fill;

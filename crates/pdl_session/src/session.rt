@@ -4,14 +4,16 @@ ghost use Rattle.pdl_syntax.specs.StatementTree.{statement_of};
 ghost use Rattle.pdl_syntax.specs.WellMade.{IsWellMade};
 ghost use Rattle.pdl_watch.specs.Slots.{slots_by, present_in, all_ended, EndedShort};
 ghost use Rattle.pdl_engine.specs.State.{IsLazy};
+ghost use Rattle.pdl_machine.specs.Dumpable.{IsDumpable};
 ghost use Rattle.pdl_machine.specs.Step.{step};
 ghost use Rattle.pdl_machine.specs.Tidy.{tidy};
 ghost use Rattle.pdl_scope.specs.Answers.{IsFault};
 ghost use Rattle.pdl_scope.specs.Scope.{engine_of, machine, slots_limit};
 ghost use Rattle.pdl_session.specs.Advanced.{HasAdvanced};
+ghost use Rattle.pdl_session.specs.Dumping.{DumpMakesAgain, PrintsDump};
 ghost use Rattle.pdl_session.specs.Faults.{IfWatcher, UnlessWatcher};
 ghost use Rattle.pdl_session.specs.Bounds.{LeavesReadable, RunsInPlace, warm_after};
-ghost use Rattle.pdl_session.specs.Session.{no_steps, AssignsAgain, IsAtRest, PrintsAtMost};
+ghost use Rattle.pdl_session.specs.Session.{no_steps, AssignsAgain, IsAsBefore, IsAtRest, PrintsAtMost};
 ghost use Rattle.pdl_session.specs.Watching.{AreServed, HasDone, HasRun, IsRefusal};
 
 use crate::fault::{StepFault, WatcherFailed};
@@ -20,7 +22,9 @@ use crate::statement::{bare_target, run};
 use crate::watching::{finish, hear};
 use pdl_buf::Steps;
 use pdl_engine::ArrayId;
-use pdl_machine::{numbering_laws, watching_laws};
+use pdl_machine::{dump_law, dumpable_laws, numbering_laws, watching_laws};
+use pdl_rebuild::dumps_rebuild;
+use pdl_reread::dumps_are_reread;
 use pdl_scope::{Scope, ScopeFault};
 use pdl_syntax::Statement;
 use pdl_watch::{Watcher, slot_laws};
@@ -65,6 +69,7 @@ impl Session {
     pub fn new(alloc: Global) -> Session
         ensures { result ≡ no_steps }
     {
+        dumpable_laws();
         Session {
             scope: Scope::new(alloc),
             warm: None,
@@ -73,14 +78,28 @@ impl Session {
     }
 
     /// What a session keeps between two statements: its state is its scope's, numbered anew; no
-    /// array is left over; the array that was assigned to last can be lent, if its base has no
-    /// repeats; and views are lazy. The call does nothing when it runs.
+    /// array is left over; a script can spell the state; the array that was assigned to last can be
+    /// lent, if its base has no repeats; and views are lazy. The call does nothing when it runs.
     pub fn at_rest(&self)
         ensures state { self.now.state ≡ tidy (machine self.now.scope) }
         ensures rest { IsAtRest self.now.scope self.now.warm }
         ensures lazy { IsLazy (engine_of self.now.scope) }
     {
         self.scope.lazy_law()
+    }
+
+    /// The state of every session is one that its dump makes again. Where the dump isn't refused, its
+    /// text reads as statements, none of them as a fault, also where more of a script stands behind
+    /// it; and from the state that has only the session's slots these lead to this very state
+    /// (`again`). The call does nothing when it runs.
+    pub fn dumpable(&self)
+        ensures state { IsDumpable self.now.state }
+        ensures again { DumpMakesAgain self.now.state }
+    {
+        dumpable_laws();
+        dumps_are_reread();
+        dumps_rebuild();
+        self.scope.whole()
     }
 
     /// How many arrays there are: just those that names and attached slots reach.
@@ -94,12 +113,14 @@ impl Session {
     /// watchers of slots what changed of the arrays that these are attached to, slot after slot.
     /// `watch` attaches the watcher of a slot that has one; `unwatch` finishes the watcher of its
     /// slot and drops it. A refusal by a fault or by being out of memory leaves the state, `out`
-    /// and the watchers as they were: nobody is told before all memory is taken. After a watcher's
-    /// failure the session may only be dropped. Each call is counted, a refused one too. `steps`
+    /// and the watchers as they were: nobody is told before all memory is taken; and each array
+    /// that could be lent can be lent still. After a watcher's failure the session may only be
+    /// dropped. Each call is counted, a refused one too. `steps`
     /// counts the elements that are moved. An assignment of a number or a list to the bare name of
     /// the array that was assigned to last moves at most the elements of both, where no slot is
     /// attached and the array's base has no repeats; a print of a bare name moves what is outdated
-    /// or waits, and nothing where the array can be lent. A refused statement moves no more.
+    /// or waits, and nothing where the array can be lent. A refused statement moves no more. By
+    /// `dump` the dump of the state is printed, which makes the state again (`dumps`).
     pub fn step<L: Ledger>(
         &mut self,
         statement: &Statement,
@@ -136,6 +157,8 @@ impl Session {
         ensures warm { OnOk result
             (self.new.warm ≡ warm_after self.old.scope (statement_of statement.now)) }
         ensures warm_kept { IfErr result (λ e. UnlessWatcher e (self.new.warm ≡ self.old.warm)) }
+        ensures scope_kept { IfErr result (λ e. UnlessWatcher e
+            (IsAsBefore self.old.scope self.new.scope)) }
         ensures again { AssignsAgain self.old (statement_of statement.now) steps.old steps.new }
         ensures shown { PrintsAtMost self.old (statement_of statement.now) steps.old steps.new }
         ensures readable { OnOk result
@@ -143,6 +166,8 @@ impl Session {
         ensures in_place { let present = present_in (slots_by (λ b. seen b) watchers.old.items) in
             OnOk result (RunsInPlace present self.old.scope (statement_of statement.now)
             self.new.scope) }
+        ensures dumps { OnOk result (PrintsDump self.old.state (statement_of statement.now)
+            out.old.items out.new.items) }
     {
         self.step_over(statement, number, out, watchers, steps)
     }
@@ -182,6 +207,8 @@ impl Session {
         ensures warm { OnOk result
             (self.new.warm ≡ warm_after self.old.scope (statement_of statement.now)) }
         ensures warm_kept { IfErr result (λ e. UnlessWatcher e (self.new.warm ≡ self.old.warm)) }
+        ensures scope_kept { IfErr result (λ e. UnlessWatcher e
+            (IsAsBefore self.old.scope self.new.scope)) }
         ensures again { AssignsAgain self.old (statement_of statement.now) steps.old steps.new }
         ensures shown { PrintsAtMost self.old (statement_of statement.now) steps.old steps.new }
         ensures readable { OnOk result
@@ -189,9 +216,14 @@ impl Session {
         ensures in_place { let present = present_in (slots_by W.seen watchers.old.items) in
             OnOk result (RunsInPlace present self.old.scope (statement_of statement.now)
             self.new.scope) }
+        ensures dumps { OnOk result (PrintsDump self.old.state (statement_of statement.now)
+            out.old.items out.new.items) }
     {
+        dump_law();
         slot_laws();
         watching_laws();
+        self.at_rest();
+        self.dumpable();
         match self.advance(statement, number, watchers, out, steps) {
             Ok(news) => match hear(watchers, &news) {
                 Ok(()) => Ok(()),
@@ -224,6 +256,7 @@ impl Session {
         ensures warm { OnOk result
             (self.new.warm ≡ warm_after self.old.scope (statement_of statement.now)) }
         ensures warm_kept { OnErr result (self.new.warm ≡ self.old.warm) }
+        ensures scope_kept { OnErr result (IsAsBefore self.old.scope self.new.scope) }
         ensures again { AssignsAgain self.old (statement_of statement.now) steps.old steps.new }
         ensures shown { PrintsAtMost self.old (statement_of statement.now) steps.old steps.new }
         ensures readable { OnOk result
@@ -233,6 +266,7 @@ impl Session {
             self.new.scope) }
     {
         numbering_laws();
+        dumpable_laws();
         watching_laws();
         growth_laws();
         sweep_laws();

@@ -20,6 +20,7 @@ ghost use Rattle.pdl_session.specs.Arguments.{arguments, AreGivenLive};
 
 use crate::call::{call, several};
 use crate::defining::define_kernel;
+use crate::dumping::dump;
 use crate::eval::{eval, take};
 use crate::given::Given;
 use crate::news::News;
@@ -284,8 +285,7 @@ fn perform<W: Watcher, L: Ledger>(
         Statement::Reshape { name, sizes } => reshape(scope, name, sizes, steps),
         Statement::Undef { name } => scope.undef(name),
         Statement::Vars => Ok(scope.print_names(out)?),
-        // (no dump is built yet)
-        Statement::Dump => Err(ScopeFault::Script(Fault::Syntax)),
+        Statement::Dump => dump(scope, out, steps),
         Statement::PpDef {
             name,
             signature,

@@ -1,4 +1,4 @@
--- Why there is no such array, apart from want of memory.
+-- Why there is no such array, apart from being out of memory.
 use Rattle.std.specs.Prelude.{◌≡◌, Option, Some, None, Result, Ok, Err}
 use Rattle.pdl_shape.specs.declared.sizes.ShapeFault.{ShapeFault}
 use Rattle.pdl_shape.specs.declared.sizes.ShapeFault.TheVariants.{Mismatch, TooManyDims, TooLarge}

@@ -9,7 +9,7 @@ use Rattle.pdl_lex.specs.Pieces.{State, Mark, statement, script_too_long, to_com
 use Rattle.pdl_lex.specs.declared.Piece.{Piece}
 use Rattle.std.specs.Io.KnownBytes.{Keeps}
 use Rattle.pdl_io.specs.Told.{Says}
-use Rattle.pdl_watch.specs.Slots.{Slots, all_told, all_ended, emptied, EndedShort}
+use Rattle.pdl_watch.specs.Slots.{Slots, all_told, all_ended, emptied, EndedShort, StartsWith}
 use Rattle.pdl_machine.specs.Watches.{Watches}
 use Rattle.pdl_machine.specs.State.{State as MachineState}
 use Rattle.pdl_machine.specs.Run.{Terms, Progress, after_mark, after_marks}
@@ -128,6 +128,13 @@ carries_piece old mid new piece bytes rest out now fed running same ran = record
   );
 }
 
+-- a run that has met these refused statements meets them first, whatever more statements it goes on over
+pub met_then : Laws → (terms : Terms) (p : Progress) (ms : List Mark) (noted : List ℕ) (whole : Progress) → whole ≡ after_marks terms p ms → p.refused ≡ noted
+    → StartsWith whole.refused noted
+met_then laws terms p ms noted whole is met =
+    let more = laws.refused terms p ms in
+    (more.0, ap (λ (q : Progress). q.refused) is ∙ more.1 ∙ ap (λ (ns : List ℕ). ns ++ more.0) met)
+
 -- the run stops short in a statement that is completed
 pub stops_in_piece : Laws → (old mid : Runner) (piece : Piece) (bytes rest : List ℕ) (out : Outlets) (stop : Stop) (new : Runner) (now : Outlets)
     → Feeds old.cutter mid.cutter (Some piece) bytes rest → old.ended ≡ false → mid ≡ record old { cutter = mid.cutter }
@@ -135,6 +142,11 @@ pub stops_in_piece : Laws → (old mid : Runner) (piece : Piece) (bytes rest : L
     → StopsShort bytes old out stop new now
 stops_in_piece laws old mid piece bytes rest out stop new now fed running same ran = record {
   later = later_then old mid new (later_same old mid same) ran.later;
+  met = λ terms first run fore s follows more.
+      let after : Progress = after_mark terms run (statement piece) in
+      let fed_is = fed_piece terms follows old.cutter mid.cutter run piece bytes rest more fed (s.follows.ended ∙ running) in
+      met_then laws terms after (marks_left follows mid.cutter (rest ++ more)) new.refused (outcome terms follows old.cutter run (bytes ++ more)) fed_is
+      (ran.met terms first run fore (stands_same terms first old mid out run same s));
   short = λ terms first run fore s follows more.
       let after : Progress = after_mark terms run (statement piece) in
       subst (λ (p : Progress). IsShort (ending_of_run terms p) first now)
@@ -148,6 +160,9 @@ stops_in_piece laws old mid piece bytes rest out stop new now fed running same r
 pub stops_before : Laws → (old : Runner) (bytes : List ℕ) (out : Outlets) (new : Runner) → new ≡ record old { cutter = new.cutter } → StopsShort bytes old out NoMemory new out
 stops_before laws old bytes out new same = record {
   later = later_same old new same;
+  met = λ terms first run fore s follows more.
+      met_then laws terms run (marks_left follows old.cutter (bytes ++ more)) new.refused (outcome terms follows old.cutter run (bytes ++ more)) refl
+      (s.follows.refused ∙ sym (ap (λ (r : Runner). r.refused) same));
   short = λ terms first run fore s follows more.
       short_marks laws terms first out run (marks_left follows old.cutter (bytes ++ more)) (short_stands laws terms first old out run s);
   fails = λ terms first run fore s. (s.faults, counts_follow laws terms first.slots old out.slots run s.follows);
@@ -168,6 +183,11 @@ pub stops_on : (a b : Runner) (xs ys : List ℕ) (oa ob : Outlets) (stop : Stop)
     → Carries xs a oa [] b ob → StopsShort ys b ob stop c oc → StopsShort (xs ++ ys) a oa stop c oc
 stops_on a b xs ys oa ob stop c oc one two = record {
   later = later_then a b c one.later two.later;
+  met = λ terms first run fore s follows more.
+      let p = one.on terms first run (foretold terms b c two.later fore) s in
+      let comes : outcome terms follows a.cutter run ((xs ++ ys) ++ more) ≡ outcome terms follows b.cutter p.0 (ys ++ more) =
+      ap (outcome terms follows a.cutter run) (append_assoc xs ys more) ∙ p.2 follows (ys ++ more) in
+      subst (λ (o : Progress). StartsWith o.refused c.refused) (sym comes) (two.met terms first p.0 fore p.1 follows more);
   short = λ terms first run fore s follows more.
       let p = one.on terms first run (foretold terms b c two.later fore) s in
       let comes : outcome terms follows a.cutter run ((xs ++ ys) ++ more) ≡ outcome terms follows b.cutter p.0 (ys ++ more) =
@@ -180,6 +200,9 @@ pub stops_then : (a b : Runner) (bytes mid : List ℕ) (oa ob : Outlets) (stop :
     → Carries bytes a oa mid b ob → StopsShort mid b ob stop c oc → StopsShort bytes a oa stop c oc
 stops_then a b bytes mid oa ob stop c oc one two = record {
   later = later_then a b c one.later two.later;
+  met = λ terms first run fore s follows more.
+      let p = one.on terms first run (foretold terms b c two.later fore) s in
+      subst (λ (o : Progress). StartsWith o.refused c.refused) (sym (p.2 follows more)) (two.met terms first p.0 fore p.1 follows more);
   short = λ terms first run fore s follows more.
       let p = one.on terms first run (foretold terms b c two.later fore) s in
       subst (λ (o : Progress). IsShort (ending_of_run terms o) first oc) (sym (p.2 follows more)) (two.short terms first p.0 fore p.1 follows more);
@@ -269,6 +292,9 @@ pub finishes_short : (is_cut : Bool) (old mid : Runner) (m : Mark) (out : Outlet
     → FinishesShort is_cut old out stop new now
 finishes_short is_cut old mid m out stop new now running last same ran = record {
   later = later_then old mid new (later_same old mid same) ran.later;
+  met = λ terms first run fore s.
+      ap (λ (p : Progress). p.refused) (last_mark terms is_cut old.cutter m run (s.follows.ended ∙ running) last)
+      ∙ ran.met terms first run fore (stands_same terms first old mid out run same s);
   short = λ terms first run fore s.
       subst (λ (p : Progress). IsShort (ending_of_run terms p) first now) (sym (last_mark terms is_cut old.cutter m run (s.follows.ended ∙ running) last))
       (ran.short terms first run fore (stands_same terms first old mid out run same s));
@@ -292,6 +318,7 @@ pub ends_short : (is_cut : Bool) (old : Runner) (out : Outlets) (stop : Stop) (n
     → Ends is_cut old out (Err stop) new.refused now
 ends_short is_cut old out stop new now short = record {
   stays = short.later.stays;
+  met = λ terms first run is s. short.met terms first run (foretells_all terms new is) s;
   leaves = λ terms first run is s.
       leaves_short stop terms (outcome terms (behind is_cut) old.cutter run []) first now (short.short terms first run (foretells_all terms new is) s);
   fails = λ terms first run is s. short.fails terms first run (foretells_all terms new is) s;
@@ -303,6 +330,7 @@ pub ends_unflushed : Laws → (is_cut : Bool) (old new : Runner) (out mid : Outl
     → Ends is_cut old out (Err stop) new.refused now
 ends_unflushed laws is_cut old new out mid stop now done kept same cause = record {
   stays = done.later.stays;
+  met = λ terms first run is s. (done.stands terms first run (foretells_all terms new is) s).follows.refused;
   leaves = λ terms first run is s.
       let last : Progress = outcome terms (behind is_cut) old.cutter run [] in
       let stood = done.stands terms first run (foretells_all terms new is) s in
@@ -318,16 +346,18 @@ ends_unflushed laws is_cut old new out mid stop now done kept same cause = recor
 
 -- all was written, told and flushed, and the watchers that are attached are finished
 pub ends_whole : Laws → (is_cut : Bool) (old new : Runner) (out mid now : Outlets) → Finishes is_cut old out new mid
-    → Keeps mid.taken now.taken → now.faults ≡ mid.faults → now.slots ≡ all_ended mid.slots new.session.state.watches
+    → Keeps mid.taken now.taken → Says now.flushed true → now.faults ≡ mid.faults → now.slots ≡ all_ended mid.slots new.session.state.watches
     → Ends is_cut old out (Ok new.faulted) new.refused now
-ends_whole laws is_cut old new out mid now done kept quiet closed = record {
+ends_whole laws is_cut old new out mid now done kept flushed quiet closed = record {
   stays = done.later.stays;
+  met = λ terms first run is s. (done.stands terms first run (foretells_all terms new is) s).follows.refused;
   leaves = λ terms first run is s.
       let last : Progress = outcome terms (behind is_cut) old.cutter run [] in
       let stood = done.stands terms first run (foretells_all terms new is) s in (
         sym stood.follows.faulted,
         record {
           text = appends_kept first.taken mid.taken now.taken last.printed stood.text kept;
+          flushed = flushed;
           met = stood.follows.refused ∙ sym is;
           slots = closed ∙ ap (λ (ss : Slots). all_ended ss new.session.state.watches) stood.follows.slots
               ∙ ap (λ (ws : Watches). all_ended (emptied (all_told first.slots last.told) last.present) ws) (sym (ap (λ (s : MachineState). s.watches) stood.follows.state));
@@ -349,6 +379,7 @@ pub ends_unclosed : Laws → (is_cut : Bool) (old new : Runner) (out mid now : O
     → Ends is_cut old out (Err Watcher) new.refused now
 ends_unclosed laws is_cut old new out mid now done kept flushed quiet short = record {
   stays = done.later.stays;
+  met = λ terms first run is s. (done.stands terms first run (foretells_all terms new is) s).follows.refused;
   leaves = λ terms first run is s.
       let last : Progress = outcome terms (behind is_cut) old.cutter run [] in
       let stood = done.stands terms first run (foretells_all terms new is) s in

@@ -49,7 +49,7 @@ pub heard_marks : Laws → (terms : Terms) (first now : Slots) (p : Progress) (m
 heard_marks laws terms first now p ms heard =
     let more = laws.told terms p ms in
     subst (λ (told : List (List Notice)). HeardShort first told (after_marks terms p ms).present now) (sym more.1)
-    (heard_later first p.told more.0 p.present (after_marks terms p ms).present now (laws.none_comes terms p ms) heard)
+    (heard_later laws.joins first p.told more.0 p.present (after_marks terms p ms).present now (laws.none_comes terms p ms) heard)
 
 pub short_marks : Laws → (terms : Terms) (first now : Outlets) (p : Progress) (ms : List Mark) → IsShort (ending_of_run terms p) first now
     → IsShort (ending_of_run terms (after_marks terms p ms)) first now
@@ -68,7 +68,7 @@ module _ (laws : Laws) (terms : Terms) (first : Slots) (old : Runner) (slots : S
   pub heard_follows : HeardShort first run.told run.present slots
   heard_follows =
       subst (λ (ss : Slots). HeardShort first run.told run.present ss) (sym f.slots)
-      (heard_by first run.told run.present (slots_long laws first run.told run.present))
+      (heard_by laws.each first run.told run.present (slots_long laws first run.told run.present))
 
   pub counts_follow : CountsStay first slots
   counts_follow = subst (λ (ss : Slots). CountsStay first ss) (sym f.slots) (counts_by first run.told run.present)
@@ -210,8 +210,15 @@ module _ (laws : Laws) (terms : Terms) (first : Slots) (old : Runner) (slots : S
   heard_stopped running m now goes stopped =
       let d = stopped.done in
       subst (λ (p : Progress). HeardShort first p.told p.present now) (sym (stepped_after m (Ok d) goes stopped.is))
-      (heard_then first run.told d.told run.present d.present now (below_step running m d goes stopped.is) (slots_long laws first run.told run.present)
+      (heard_then laws.each laws.joins first run.told d.told run.present d.present now (below_step running m d goes stopped.is) (slots_long laws first run.told run.present)
       (subst (λ (ss : Slots). ToldShort ss d.told now) f.slots stopped.short))
+
+  -- the statement was run, as far as memory is concerned
+  met_stopped : (m : Mark) (now : Slots) (new : Runner) → new.refused ≡ old.refused → is_refused terms (next_count run.count) ≡ false
+      → StopsStep (mark_step (next_count old.count) (present_in slots) old.session.state m) slots now
+      → (after_mark terms run m).refused ≡ new.refused
+  met_stopped m now new same goes stopped =
+      ap (λ (p : Progress). p.refused) (stepped_after m (Ok stopped.done) goes stopped.is) ∙ f.refused ∙ sym same
 
 -- a statement of this number was run
 pub answers_done : Laws → (old new : Runner) (slots now : Slots) (m : Mark) (number : ℕ) → old.count < 2 ^ 63 → old.ended ≡ false
@@ -272,6 +279,7 @@ answers_stopped laws old new slots now m number small running is_number count sa
     let counts : new.count ≡ next_count old.count = count ∙ is_number in
     record {
       later = later_by old new (omega (arith, counts, small)) same;
+      met = λ terms first run fore f. met_stopped laws terms first old slots run f m now new same (spared laws terms first old slots run f new fore small counts same) stops;
       heard = λ terms first run fore f. heard_stopped laws terms first old slots run f running m now (spared laws terms first old slots run f new fore small counts same) stops;
       fails = λ terms first run fore f. one_rose first slots now (counts_follow laws terms first old slots run f) one;
     }
@@ -314,6 +322,7 @@ pub runs_unanswered : Laws → (old new : Runner) (out now : Outlets) (m : Mark)
     → now.taken ≡ out.taken → now.faults ≡ out.faults → RunsShort m old out stop new now
 runs_unanswered laws old new out now m stop running answers untaken quiet = record {
   later = answers.later;
+  met = λ terms first run fore s. answers.met terms first.slots run fore s.follows;
   short = λ terms first run fore s.
       let one : after_marks terms run (m ∷ []) ≡ after_mark terms run m = after_one terms run m (s.follows.ended ∙ running) in
       let more = laws.printed terms run (m ∷ []) in
@@ -341,6 +350,7 @@ pub runs_unwritten : Laws → (old new : Runner) (out now : Outlets) (m : Mark) 
     → AppendsPrefix out.taken now.taken text → HasSinkCause {T = Unit {0}} out.faults now.faults (Err stop) → RunsShort m old out stop new now
 runs_unwritten laws old new out now m text stop answers wrote cause = record {
   later = answers.later;
+  met = λ terms first run fore s. (answers.follows terms first.slots run fore s.follows).refused;
   short = λ terms first run fore s.
       let f : Follows terms first.slots new now.slots (after_mark terms run m) = answers.follows terms first.slots run fore s.follows in
       let printed : (after_mark terms run m).printed ≡ run.printed ++ text = answers.printed terms first.slots run fore s.follows in

@@ -8,6 +8,7 @@ use Rattle.pdl_io.specs.Counts.{Rose}
 use Rattle.pdl_watch.specs.declared.notice.Notice.{Notice}
 use Rattle.pdl_watch.specs.Watched.{Watched, Missed, told_more, ended}
 use Rattle.pdl_watch.specs.Slots.{Slots, all_told, all_ended, ended_where, emptied, slot, notices_of, EndedShort, SlotMissed, SlotRose}
+use Rattle.pdl_watch.specs.SlotLaws.{EachIsToldItsOwn}
 use Rattle.pdl_machine.specs.RunLaws.{EndedStays, SoFarGrows}
 use Rattle.pdl_machine.specs.Run.{Progress, Terms, so_far}
 use Rattle.pdl_machine.specs.Watches.{Watches, watch_of}
@@ -18,7 +19,6 @@ use Rattle.pdl_shell.specs.Answers.{Ending, Gives, IsWhole, IsShort, IsUndisturb
 use Rattle.pdl_shell.specs.Taken.{Reads, terms_for}
 use Rattle.pdl_shell.specs.Headline.{CanRise, MayHaveEnded, HeardAFront, HeardOrEnded, NoneRose}
 use Rattle.pdl_shell.proofs.HeadlineLemmas.{short_front}
-use Rattle.pdl_shell.proofs.SlotsHeard.{told_at}
 
 -- a run that bytes have ended stays ended by more bytes
 ends_still : EndedStays → SoFarGrows → (terms : Terms) (bytes more : List ℕ) → (so_far terms bytes).ended ≡ true → (so_far terms (bytes ++ more)).ended ≡ true
@@ -90,9 +90,9 @@ left_there (r ∷ rs) (false ∷ ps) zero t is = absurd (cc)
 left_there (r ∷ rs) (p ∷ ps) (suc k) t is = left_there rs ps k t is
 
 -- what the ending tells a watcher that is there still
-pub told_still : (e : Ending) (ss : Slots) (k : ℕ) (before t : Watched) → slot ss k ≡ Some before → slot (told_by e ss) k ≡ Some t → t ≡ told_more (notices_of e.told k) before
-told_still e ss k before t was is =
-    some_is _ _ (sym (left_there (all_told ss e.told) e.present k t is) ∙ told_at ss e.told k ∙ ap (option_map (told_more (notices_of e.told k))) was)
+pub told_still : EachIsToldItsOwn → (e : Ending) (ss : Slots) (k : ℕ) (before t : Watched) → slot ss k ≡ Some before → slot (told_by e ss) k ≡ Some t → t ≡ told_more (notices_of e.told k) before
+told_still each e ss k before t was is =
+    some_is _ _ (sym (left_there (all_told ss e.told) e.present k t is) ∙ each ss e.told k ∙ ap (option_map (told_more (notices_of e.told k))) was)
 
 -- a watcher after the first ones were finished: finished where its slot is attached
 pub record EndedOrNot (watch : Option ℕ) (before after : Watched) : Type 0 where
@@ -170,23 +170,23 @@ short_heard : (e : Ending) (old new : Outside) (k : ℕ) (before after : Watched
 short_heard e old new k before after short was is =
     heard_front (notices_of e.told k) (watch_of e.watches k) before after (short_front e old new k before after short was is)
 
-whole_heard : (e : Ending) (old new : Outside) (k : ℕ) (before after : Watched) → IsWhole e old.out new.out → slot old.out.slots k ≡ Some before
+whole_heard : EachIsToldItsOwn → (e : Ending) (old new : Outside) (k : ℕ) (before after : Watched) → IsWhole e old.out new.out → slot old.out.slots k ≡ Some before
     → slot new.out.slots k ≡ Some after → HeardOrEnded (notices_of e.told k) (watch_of e.watches k) before after
-whole_heard e old new k before after whole was is =
+whole_heard each e old new k before after whole was is =
     let there : slot (all_ended (told_by e old.out.slots) e.watches) k ≡ Some after = ap (λ (ss : Slots). slot ss k) (sym whole.slots) ∙ is in
     let found = ended_at (told_by e old.out.slots) e.watches k after there in
-    heard_whole (notices_of e.told k) (watch_of e.watches k) before found.0 after (told_still e old.out.slots k before found.0 was found.1) found.2
+    heard_whole (notices_of e.told k) (watch_of e.watches k) before found.0 after (told_still each e old.out.slots k before found.0 was found.1) found.2
 
-pub others_front : (status : Status) (e : Ending) (old new : Outside) (k : ℕ) (before after : Watched) → MayHaveEnded status → Gives status e old.out new.out
+pub others_front : EachIsToldItsOwn → (status : Status) (e : Ending) (old new : Outside) (k : ℕ) (before after : Watched) → MayHaveEnded status → Gives status e old.out new.out
     → slot old.out.slots k ≡ Some before → slot new.out.slots k ≡ Some after → HeardOrEnded (notices_of e.told k) (watch_of e.watches k) before after
-others_front WatcherFault e old new k before after may (inl short) was is = short_heard e old new k before after short was is
-others_front WatcherFault e old new k before after may (inr closes) was is =
+others_front each WatcherFault e old new k before after may (inl short) was is = short_heard e old new k before after short was is
+others_front each WatcherFault e old new k before after may (inr closes) was is =
     let found = closes_at (told_by e old.out.slots) e.watches new.out.slots k after closes.slots is in
-    heard_whole (notices_of e.told k) (watch_of e.watches k) before found.0 after (told_still e old.out.slots k before found.0 was found.1) found.2
-others_front NoMemory e old new k before after may (inl ends) was is = whole_heard e old new k before after ends.whole was is
-others_front NoMemory e old new k before after may (inr short) was is = short_heard e old new k before after short was is
-others_front Done e old new k before after may gives was is = absurd may
-others_front ScriptFault e old new k before after may gives was is = absurd may
-others_front Usage e old new k before after may gives was is = absurd may
-others_front SourceFault e old new k before after may gives was is = absurd may
-others_front SinkFault e old new k before after may gives was is = absurd may
+    heard_whole (notices_of e.told k) (watch_of e.watches k) before found.0 after (told_still each e old.out.slots k before found.0 was found.1) found.2
+others_front each NoMemory e old new k before after may (inl ends) was is = whole_heard each e old new k before after ends.1 was is
+others_front each NoMemory e old new k before after may (inr short) was is = short_heard e old new k before after short was is
+others_front each Done e old new k before after may gives was is = absurd may
+others_front each ScriptFault e old new k before after may gives was is = absurd may
+others_front each Usage e old new k before after may gives was is = absurd may
+others_front each SourceFault e old new k before after may gives was is = absurd may
+others_front each SinkFault e old new k before after may gives was is = absurd may

@@ -1,8 +1,11 @@
 -- What the words of the top call say.
 use Rattle.std.proofs.Common.{◌≡◌, ℕ, ◌⊎◌, inl, inr, List, [], ◌∷◌, ◌++◌, Bool, true, Option, Some, None, refl, sym, ap, subst, ◌∙◌, append_assoc, append-nil}
+use Rattle.std.specs.Prelude.{◌≤◌, length}
+use Rattle.std.specs.List.{All}
+use Rattle.std.specs.List.Sorted.{IsStrictlyIncreasing}
 use Rattle.std.specs.Io.KnownBytes.{Appends, IsAtEnd}
 use Rattle.pdl_watch.specs.Watched.{Watched}
-use Rattle.pdl_io.specs.Told.{Says, AppendsPrefix}
+use Rattle.pdl_io.specs.Told.{AppendsPrefix}
 use Rattle.pdl_watch.specs.declared.notice.Notice.{Notice}
 use Rattle.pdl_watch.specs.Slots.{slots_by, slot, notices_of, ToldPart, SlotRose, CountStays}
 use Rattle.pdl_shell.specs.declared.status.Status.{Status}
@@ -13,9 +16,10 @@ use Rattle.pdl_shell.specs.Outside.{Outlets, Outside}
 use Rattle.pdl_shell.specs.Answers.{CameToItsEnd, HasReason, CanAnswer, Gives, Ending, AllQuiet, IsWhole, IsShort, SlotHears, ending_on, slots_after, status_at_end}
 use Rattle.pdl_machine.specs.Watches.{is_present}
 use Rattle.pdl_machine.specs.Run.{Terms, run, so_far}
+use Rattle.pdl_machine.specs.RunLaws.{RefusedAreGiven, RefusedRise, RefusedAreFew}
 use Rattle.pdl_shell.specs.Summary.{unwatched}
 use Rattle.pdl_shell.specs.Taken.{Reads, terms_for}
-use Rattle.pdl_shell.specs.Headline.{NoneRose, OneFailed, OfWholeStatements, EndsBy, IsAllOf, IsCutOff, HeardAFront}
+use Rattle.pdl_shell.specs.Headline.{NoneRose, OneFailed, OfWholeStatements, RefusedAreRead, EndsBy, IsAllOf, IsCutOff, HeardAFront}
 
 pub count_of : (s t : Option Watched) (before after : Watched) → s ≡ Some before → t ≡ Some after → CountStays s t → after.misses ≡ before.misses
 count_of s t before after was is stays = pair (subst (λ (o : Option Watched). CountStays o t) was stays)
@@ -72,6 +76,21 @@ source_leaves keep refused old new before after was is reads = record {
   met = reads.so_far.3;
 }
 
+pub rising_read : RefusedRise → (keep : Bool) (refused : List ℕ) (status : Status) (old new : Outside) → Reads keep refused status old new → IsStrictlyIncreasing refused
+rising_read rising keep refused status old new reads = subst IsStrictlyIncreasing reads.met (rising (terms_for keep old.out.slots refused) reads.taken)
+
+-- whatever the status, the refused statements are ones of the bytes taken
+pub refused_read : RefusedAreGiven → RefusedRise → RefusedAreFew → RefusedAreRead
+refused_read given rising few keep refused status old new reads =
+    let terms : Terms = terms_for keep old.out.slots refused in
+    record {
+      bytes = reads.taken;
+      taken = reads.all;
+      came = subst (λ (ns : List ℕ). All (λ n. n ≤ (run terms reads.taken).count) ns) reads.met (λ k d lt. (given terms reads.taken k d lt).1);
+      rise = rising_read rising keep refused status old new reads;
+      few = subst (λ (ns : List ℕ). length ns ≤ 64) reads.met (few terms reads.taken);
+    }
+
 pub done_reads : (keep : Bool) (refused : List ℕ) (old new : Outside) (rest : List ℕ) → new.left ≡ Some rest → Reads keep refused Done old new → rest ≡ []
 done_reads keep refused old new rest is reads = subst (λ (o : Option (List ℕ)). IsAtEnd o) is reads.so_far
 
@@ -86,7 +105,7 @@ fault_reads keep refused old new rest is reads = how reads.so_far
 wrote_all : (e : Ending) (old new : Outside) (before after : List ℕ) → old.out.taken ≡ Some before → new.out.taken ≡ Some after → IsWhole e old.out new.out
     → IsAllOf e old new before after
 wrote_all e old new before after was is whole =
-    record { text = appended old.out.taken new.out.taken before after e.text was is whole.text; met = whole.met; slots = whole.slots }
+    record { text = appended old.out.taken new.out.taken before after e.text was is whole.text; flushed = whole.flushed; met = whole.met; slots = whole.slots }
 
 pub ends_write : (status : Status) (e : Ending) (old new : Outside) (before after : List ℕ) → CameToItsEnd status
     → old.out.taken ≡ Some before → new.out.taken ≡ Some after → Gives status e old.out new.out → (e.status ≡ status) × IsAllOf e old new before after
@@ -124,13 +143,13 @@ all_front WatcherFault e old new before after was is (inl short) = partly old.ou
 all_front WatcherFault e old new before after was is (inr closes) =
     wholly before after e.text (appended old.out.taken new.out.taken before after e.text was is closes.text)
 all_front NoMemory e old new before after was is (inl ends) =
-    wholly before after e.text (appended old.out.taken new.out.taken before after e.text was is ends.whole.text)
+    wholly before after e.text (appended old.out.taken new.out.taken before after e.text was is ends.1.text)
 all_front NoMemory e old new before after was is (inr short) = partly old.out.taken new.out.taken before after e.text was is short.text
 
 pub memory_writes : (e : Ending) (old new : Outside) (before after : List ℕ) → old.out.taken ≡ Some before → new.out.taken ≡ Some after
     → Gives NoMemory e old.out new.out
-    → ((e.status ≡ NoMemory) × IsAllOf e old new before after × Says new.out.flushed true) ⊎ ((rest : List ℕ) × (before ++ e.text ≡ after ++ rest))
-memory_writes e old new before after was is (inl ends) = inl (sym ends.status, wrote_all e old new before after was is ends.whole, ends.flushed)
+    → ((e.status ≡ NoMemory) × IsAllOf e old new before after) ⊎ ((rest : List ℕ) × (before ++ e.text ≡ after ++ rest))
+memory_writes e old new before after was is (inl ends) = inl (sym ends.0, wrote_all e old new before after was is ends.1)
 memory_writes e old new before after was is (inr short) = inr (partly old.out.taken new.out.taken before after e.text was is short.text)
 
 heard_by : (ns : List Notice) (stays : Bool) (s t : Option Watched) (before after : Watched) → s ≡ Some before → t ≡ Some after

@@ -7,12 +7,12 @@ use Rattle.pdl_lemmas.specs.Tests.{by_test}
 use Rattle.pdl_watch.specs.declared.notice.Notice.{Notice}
 use Rattle.pdl_watch.specs.Watched.{Watched, told_more, ended}
 use Rattle.pdl_watch.specs.Slots.{Slots, all_told, all_ended, ended_where, changed, emptied, slot, notices_of, EndedShort, SlotMissed, SlotRose}
-use Rattle.pdl_watch.specs.SlotLaws.{TellingKeepsLength, EmptyingKeepsLength}
+use Rattle.pdl_watch.specs.SlotLaws.{EachIsToldItsOwn, TellingKeepsLength, EmptyingKeepsLength}
 use Rattle.pdl_machine.specs.Watches.{Watches, watch_of, is_present}
 use Rattle.pdl_shell.specs.declared.status.Status.{Status}
 use Rattle.pdl_shell.specs.declared.status.Status.TheVariants.{Done, ScriptFault, Usage, SourceFault, SinkFault, WatcherFault, NoMemory}
 use Rattle.pdl_shell.specs.Outside.{Outlets, Outside, CountsStay}
-use Rattle.pdl_shell.specs.Answers.{Ending, Gives, HasReason, IsWhole, IsShort, ClosesShort, EndsRefused, SlotHears, told_by}
+use Rattle.pdl_shell.specs.Answers.{Ending, Gives, HasReason, IsWhole, IsShort, ClosesShort, SlotHears, told_by}
 use Rattle.pdl_shell.specs.Headline.{MayHaveEnded}
 use Rattle.pdl_shell.specs.HeadlineSlots.{CountIsKept, IsFinished, FinishesInTurn}
 use Rattle.pdl_shell.proofs.HeadlineLemmas.{count_of, short_front}
@@ -27,7 +27,7 @@ ways SourceFault e old new gives = inr (inl gives)
 ways SinkFault e old new gives = inr (inl gives)
 ways WatcherFault e old new (inl short) = inr (inl short)
 ways WatcherFault e old new (inr closes) = inr (inr closes)
-ways NoMemory e old new (inl ends) = inl ends.whole
+ways NoMemory e old new (inl ends) = inl ends.1
 ways NoMemory e old new (inr short) = inr (inl short)
 
 ended_long : (ss : Slots) (ws : Watches) → length (all_ended ss ws) ≡ length ss
@@ -204,13 +204,13 @@ finished_before base ws now short k a is finished open_before = by_test (k == sh
     attached_before b is_b (inl same) = absurd (true≢false (sym finished ∙ same ∙ open_before b is_b))
     attached_before b is_b (inr done) = first_attached short.at ws k done.1
 
-closed_last : (e : Ending) (old new : Outside) (k : ℕ) → ClosesShort e old.out new.out → IsFinished old new k → FinishesInTurn e old new k
-closed_last e old new k closes call = record {
+closed_last : EachIsToldItsOwn → (e : Ending) (old new : Outside) (k : ℕ) → ClosesShort e old.out new.out → IsFinished old new k → FinishesInTurn e old new k
+closed_last each e old new k closes call = record {
   given = record {
     text = closes.text;
     flushed = closes.flushed;
     told = λ j before after was is. (let found = closes_at base e.watches new.out.slots j after closes.slots is in
-        found.2.told ∙ ap (λ (w : Watched). w.told) (told_still e old.out.slots j before found.0 was found.1));
+        found.2.told ∙ ap (λ (w : Watched). w.told) (told_still each e old.out.slots j before found.0 was found.1));
   };
   earlier = λ j after first some is. earlier_finished base e.watches new.out.slots closes.slots j after (omega (arith, first, inside)) some is;
 }
@@ -220,15 +220,15 @@ closed_last e old new k closes call = record {
 
     inside : k < closes.slots.at
     inside = finished_before base e.watches new.out.slots closes.slots k call.after call.is call.finished
-        (λ b is. ap (λ (w : Watched). w.finished) (told_still e old.out.slots k call.before b call.was is) ∙ call.open_before)
+        (λ b is. ap (λ (w : Watched). w.finished) (told_still each e old.out.slots k call.before b call.was is) ∙ call.open_before)
 
-ended_last : (e : Ending) (old new : Outside) (k : ℕ) → EndsRefused e old.out new.out → FinishesInTurn e old new k
-ended_last e old new k ends = record {
+ended_last : EachIsToldItsOwn → (e : Ending) (old new : Outside) (k : ℕ) → IsWhole e old.out new.out → FinishesInTurn e old new k
+ended_last each e old new k whole = record {
   given = record {
-    text = ends.whole.text;
-    flushed = ends.flushed;
+    text = whole.text;
+    flushed = whole.flushed;
     told = λ j before after was is. (let found = ended_at base e.watches j after (there j after is) in
-        found.2.told ∙ ap (λ (w : Watched). w.told) (told_still e old.out.slots j before found.0 was found.1));
+        found.2.told ∙ ap (λ (w : Watched). w.told) (told_still each e old.out.slots j before found.0 was found.1));
   };
   earlier = λ j after first some is. each_ended base e.watches j after some (there j after is);
 }
@@ -237,21 +237,21 @@ ended_last e old new k ends = record {
     base = told_by e old.out.slots
 
     there : (j : ℕ) (after : Watched) → slot new.out.slots j ≡ Some after → slot (all_ended base e.watches) j ≡ Some after
-    there j after is = ap (λ (ss : Slots). slot ss j) (sym ends.whole.slots) ∙ is
+    there j after is = ap (λ (ss : Slots). slot ss j) (sym whole.slots) ∙ is
 
 -- where the call stopped short none is finished
 none_last : (e : Ending) (old new : Outside) (k : ℕ) → IsShort e old.out new.out → IsFinished old new k → FinishesInTurn e old new k
 none_last e old new k short call =
     absurd (true≢false (sym call.finished ∙ (short_front e old new k call.before call.after short call.was call.is).finished ∙ call.open_before))
 
-pub finishing_last : (status : Status) (e : Ending) (old new : Outside) (k : ℕ) → MayHaveEnded status → Gives status e old.out new.out → IsFinished old new k
+pub finishing_last : EachIsToldItsOwn → (status : Status) (e : Ending) (old new : Outside) (k : ℕ) → MayHaveEnded status → Gives status e old.out new.out → IsFinished old new k
     → FinishesInTurn e old new k
-finishing_last WatcherFault e old new k may (inl short) call = none_last e old new k short call
-finishing_last WatcherFault e old new k may (inr closes) call = closed_last e old new k closes call
-finishing_last NoMemory e old new k may (inl ends) call = ended_last e old new k ends
-finishing_last NoMemory e old new k may (inr short) call = none_last e old new k short call
-finishing_last Done e old new k may gives call = absurd may
-finishing_last ScriptFault e old new k may gives call = absurd may
-finishing_last Usage e old new k may gives call = absurd may
-finishing_last SourceFault e old new k may gives call = absurd may
-finishing_last SinkFault e old new k may gives call = absurd may
+finishing_last each WatcherFault e old new k may (inl short) call = none_last e old new k short call
+finishing_last each WatcherFault e old new k may (inr closes) call = closed_last each e old new k closes call
+finishing_last each NoMemory e old new k may (inl ends) call = ended_last each e old new k ends.1
+finishing_last each NoMemory e old new k may (inr short) call = none_last e old new k short call
+finishing_last each Done e old new k may gives call = absurd may
+finishing_last each ScriptFault e old new k may gives call = absurd may
+finishing_last each Usage e old new k may gives call = absurd may
+finishing_last each SourceFault e old new k may gives call = absurd may
+finishing_last each SinkFault e old new k may gives call = absurd may

@@ -11,7 +11,7 @@ use Rattle.std.specs.Io.KnownBytes.{Consumes, Keeps, IsAtEnd}
 use Rattle.pdl_lemmas.specs.Tests.{by_lt}
 use Rattle.pdl_lex.specs.Limits.{script_limit}
 use Rattle.pdl_lex.specs.Pieces.{statement, settled, settled_from, script_marks}
-use Rattle.pdl_watch.specs.Slots.{Slots, emptied, present_in}
+use Rattle.pdl_watch.specs.Slots.{Slots, emptied, present_in, StartsWith}
 use Rattle.pdl_machine.specs.Run.{Terms, Progress, refused_limit, start, run, so_far, after_marks, settled_marks, went_wrong}
 use Rattle.pdl_machine.specs.RunLaws.{EndedStays, EndedByAFault, TooLongEnds, SoFarGrows}
 use Rattle.pdl_shell.specs.declared.runner.Runner.{Runner}
@@ -26,11 +26,11 @@ use Rattle.pdl_shell.specs.Pace.{Behind, end_of_input, past_limit, unknown, behi
 use Rattle.pdl_shell.specs.CourseLaws.{Laws}
 use Rattle.pdl_shell.specs.Course.{IsFresh, Foretells, IsLater, Stands, Carries, StopsShort, FailsWith, Ends, Comes}
 use Rattle.pdl_shell.specs.Taken.{StopsSoon, ComesTo, Reads, terms_for}
-use Rattle.pdl_shell.proofs.Refusing.{foretold}
+use Rattle.pdl_shell.proofs.Refusing.{all_met, foretold}
 use Rattle.pdl_shell.proofs.SlotsHeard.{no_notices}
 use Rattle.pdl_shell.proofs.Taking.{appends_nothing, consumes_then, consumes_kept, takes_at_most}
 use Rattle.pdl_shell.proofs.Following.{short_marks, short_stands, counts_follow}
-use Rattle.pdl_shell.proofs.Carrying.{carries_on, stops_on}
+use Rattle.pdl_shell.proofs.Carrying.{carries_on, met_then, stops_on}
 
 -- the first bytes of what two parts give together
 take_of_two : (n : ℕ) (xs ys : List ℕ) → take n (xs ++ ys) ≡ take n xs ++ take (n - length xs) ys
@@ -310,6 +310,16 @@ module _ (laws : Laws) (first now : Runner) (left : Option (List ℕ)) (out : Ou
       let s = rest_of left left_now came.bytes script came.all is in
       ap (run terms) s.1 ∙ at_fault stays ended s.0
 
+  -- what the run of the bytes taken comes to, if they are all of the script
+  run_taken : EndedStays → (is_cut : Bool) → IsTaken is_cut count now left_now → run terms came.bytes ≡ outcome terms (behind is_cut) now.cutter here []
+  run_taken stays true over = ap (run terms) (sym (append-nil came.bytes)) ∙ past over []
+  run_taken stays false (near, inl end) = ap (run terms) (sym (append-nil came.bytes)) ∙ at_end near [] refl
+  run_taken stays false (near, inr ended) = ap (run terms) (sym (append-nil came.bytes)) ∙ at_fault stays ended []
+
+  -- it meets each of the refused statements
+  met_taken : (p : Progress) → run terms came.bytes ≡ p → StartsWith p.refused refused → (run terms came.bytes).refused ≡ refused
+  met_taken p is starts = all_met laws.given laws.rising terms came.bytes (subst (λ (q : Progress). StartsWith q.refused refused) (sym is) starts)
+
   -- the run came to its end, or stopped short there
   pub leaves_parts : EndedStays → (is_cut : Bool) → IsTaken is_cut count now left_now → (result : Result Bool Stop) (final : Outlets)
       → Ends is_cut now out_now result refused final → (script : List ℕ) → left ≡ Some script → Leaves result terms (run terms script) out final
@@ -386,6 +396,7 @@ module _ (laws : Laws) (first now : Runner) (left : Option (List ℕ)) (out : Ou
     taken = came.bytes;
     all = came.all;
     soon = came.soon refused fore;
+    met = ap (λ (p : Progress). p.refused) (run_taken stays is_cut over) ∙ ends.met terms out here refl stood;
     so_far = comes_to stays by_fault too_long is_cut over result faults faults_now final (ends.fails terms out here refl stood) (ends.leaves terms out here refl stood);
   }
 
@@ -395,10 +406,14 @@ module _ (laws : Laws) (first now : Runner) (left : Option (List ℕ)) (out : Ou
       (record { left = left_then; faults = faults_then; out = out_now })
   reads_failed met near running left_then faults faults_then kept =
       let same : so_far terms came.bytes ≡ here = so_far_is near in
+      let follows : Behind = behind (nat_lt script_limit (length (came.bytes ++ []))) in
       record {
         taken = came.bytes;
         all = consumes_kept left left_now left_then came.bytes came.all kept;
         soon = came.soon refused fore;
+        met = met_taken (outcome terms follows now.cutter here (take (script_limit - length came.bytes) [])) (ap (run terms) (sym (append-nil came.bytes)) ∙ goes_on [])
+            (met_then laws terms here (marks_left follows now.cutter (take (script_limit - length came.bytes) [])) refused
+            (outcome terms follows now.cutter here (take (script_limit - length came.bytes) [])) refl (stood.follows.refused ∙ met));
         so_far = subst (λ (p : Progress). ComesTo SourceFault terms p (record { left = left; faults = faults; out = out })
             (record { left = left_then; faults = faults_then; out = out_now })) (sym same) (stood.text, stood.follows.slots, stood.follows.ended ∙ running, stood.follows.refused ∙ met);
       }
@@ -420,34 +435,58 @@ module _ (laws : Laws) (first now : Runner) (left : Option (List ℕ)) (out : Ou
         let fits : length part ≤ 4096 = rw step.sized step.short in
         soon_after grows stays terms came.bytes part (ap (λ p. p.ended) (so_far_is step.near) ∙ stood.follows.ended ∙ step.running) fits
 
+    -- the run of a script that begins with all of these bytes
+    over_both : (rest : List ℕ) → run terms ((came.bytes ++ part) ++ rest)
+        ≡ outcome terms (behind (nat_lt script_limit (length ((came.bytes ++ part) ++ rest)))) first.cutter (start terms)
+        ((take script_limit came.bytes ++ handed) ++ take (script_limit - length (came.bytes ++ part)) rest)
+    over_both rest =
+        let script : List ℕ = (came.bytes ++ part) ++ rest in
+        let behind_both : List ℕ = take (script_limit - length (came.bytes ++ part)) rest in
+        let bytes_are : take script_limit script ≡ (take script_limit came.bytes ++ handed) ++ behind_both =
+        take_of_two script_limit (came.bytes ++ part) rest
+        ∙ ap (λ u. u ++ behind_both) (both_handed first now left out count left_now out_now came left_then part handed size step) in
+        run_is first fresh terms script ∙ ap (outcome terms (behind (nat_lt script_limit (length script))) first.cutter (start terms)) bytes_are
+
+    joined : (stop : Stop) (new : Runner) (final : Outlets) → StopsShort handed now out_now stop new final
+        → StopsShort (take script_limit came.bytes ++ handed) first out stop new final
+    joined stop new final stopped = stops_on first now (take script_limit came.bytes) handed out out_now stop new final came.carried stopped
+
     -- the run stops short over them
     pub short_parts : (stop : Stop) (new : Runner) (final : Outlets) → Foretells terms new → StopsShort handed now out_now stop new final
         → (script : List ℕ) → left ≡ Some script → IsShort (ending_of_run terms (run terms script)) out final
     short_parts stop new final known stopped script is_left =
         let s = rest_of left left_then (came.bytes ++ part) script
         (all_taken first now left out count left_now out_now came left_then part handed size step) is_left in
-        let follows : Behind = behind (nat_lt script_limit (length script)) in
-        let behind_both : List ℕ = take (script_limit - length (came.bytes ++ part)) s.0 in
-        let bytes_are : take script_limit script ≡ (take script_limit came.bytes ++ handed) ++ behind_both =
-        ap (take script_limit) s.1 ∙ take_of_two script_limit (came.bytes ++ part) s.0
-        ∙ ap (λ u. u ++ behind_both) (both_handed first now left out count left_now out_now came left_then part handed size step) in
-        let comes : run terms script ≡ outcome terms follows first.cutter (start terms) ((take script_limit came.bytes ++ handed) ++ behind_both) =
-        run_is first fresh terms script ∙ ap (outcome terms follows first.cutter (start terms)) bytes_are in
-        let joined : StopsShort (take script_limit came.bytes ++ handed) first out stop new final =
-        stops_on first now (take script_limit came.bytes) handed out out_now stop new final came.carried stopped in
-        subst (λ (p : Progress). IsShort (ending_of_run terms p) out final) (sym comes) (joined.short terms out (start terms) known at_start follows behind_both)
+        subst (λ (p : Progress). IsShort (ending_of_run terms p) out final) (sym (ap (run terms) s.1 ∙ over_both s.0))
+        ((joined stop new final stopped).short terms out (start terms) known at_start (behind (nat_lt script_limit (length ((came.bytes ++ part) ++ s.0))))
+        (take (script_limit - length (came.bytes ++ part)) s.0))
+
+    -- the run of these bytes meets each of the refused statements
+    met_short : (stop : Stop) (new : Runner) (final : Outlets) → Foretells terms new → new.refused ≡ refused → StopsShort handed now out_now stop new final
+        → (run terms (came.bytes ++ part)).refused ≡ refused
+    met_short stop new final known same stopped =
+        let follows : Behind = behind (nat_lt script_limit (length ((came.bytes ++ part) ++ []))) in
+        let more : List ℕ = take (script_limit - length (came.bytes ++ part)) [] in
+        let comes : run terms (came.bytes ++ part) ≡ outcome terms follows first.cutter (start terms) ((take script_limit came.bytes ++ handed) ++ more) =
+        ap (run terms) (sym (append-nil (came.bytes ++ part))) ∙ over_both [] in
+        all_met laws.given laws.rising terms (came.bytes ++ part)
+        (subst (λ (p : Progress). StartsWith p.refused refused) (sym comes)
+        (subst (λ (ns : List ℕ). StartsWith (outcome terms follows first.cutter (start terms) ((take script_limit came.bytes ++ handed) ++ more)).refused ns) same
+        ((joined stop new final stopped).met terms out (start terms) known at_start follows more)))
 
     pub fails_parts_short : (stop : Stop) (new : Runner) (final : Outlets) → Foretells terms new → StopsShort handed now out_now stop new final → Fails stop out final
     fails_parts_short stop new final known stopped = stopped.fails terms out here known stood
 
-    pub reads_short : (stop : Stop) (faults faults_then : ℕ) (final : Outlets) → Fails stop out final
+    pub reads_short : (stop : Stop) (new : Runner) (faults faults_then : ℕ) (final : Outlets) → Foretells terms new → new.refused ≡ refused
+        → StopsShort handed now out_now stop new final
         → Reads first.keep_going refused (status_of_stop stop) (record { left = left; faults = faults; out = out })
         (record { left = left_then; faults = faults_then; out = final })
-    reads_short stop faults faults_then final fails = record {
+    reads_short stop new faults faults_then final known same stopped = record {
       taken = came.bytes ++ part;
       all = all_taken first now left out count left_now out_now came left_then part handed size step;
       soon = soon_taken;
-      so_far = for_stop stop fails;
+      met = met_short stop new final known same stopped;
+      so_far = for_stop stop (fails_parts_short stop new final known stopped);
     }
       where
         for_stop : (stop : Stop) → Fails stop out final

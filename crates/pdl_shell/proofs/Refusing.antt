@@ -1,11 +1,16 @@
 -- The statements that memory refused, as a runner comes further.
-use Rattle.std.proofs.Common.{◌≡◌, ℕ, ◌+◌, ◌^◌, ◌<◌, ◌≤◌, List, [], ◌∷◌, ◌++◌, length, Bool, true, false, cond, refl, sym, ◌∙◌, ap, subst, arith, eq-eqb}
+use Rattle.std.proofs.Common.{◌≡◌, ℕ, ◌+◌, ◌^◌, ◌<◌, ◌≤◌, List, [], ◌∷◌, ◌++◌, length, get_or, Bool, true, false, cond, refl, sym, ◌∙◌, ap, subst, arith, append-nil, eq-eqb}
 use Rattle.std.specs.Prelude.{◌||◌, ◌==◌, nat_lt}
-use Rattle.std.specs.List.{All, list_any}
+use Rattle.std.specs.List.{All, AllPairs, list_any}
 use Rattle.std.proofs.Math.Nat.{le_refl, le_trans}
-use Rattle.std.proofs.lemmas.Bool.{lt-ltb, ne_eqb}
+use Rattle.std.proofs.lemmas.Bool.{lt-ltb, ne_eqb, true≢false}
+use Rattle.std.proofs.lemmas.List.{get_or_append_left, length-append}
+use Rattle.std.proofs.lemmas.List.Kept.{AllPairs-from_increasing}
+use Rattle.std.proofs.Math.Seq.{get_or-append_seam}
 use Rattle.std.proofs.lemmas.List.Folds.{list_any-append, list_any_none}
-use Rattle.pdl_machine.specs.Run.{Terms, is_among, is_refused, refused_limit}
+use Rattle.pdl_watch.specs.Slots.{StartsWith}
+use Rattle.pdl_machine.specs.Run.{Terms, is_among, is_refused, refused_limit, run}
+use Rattle.pdl_machine.specs.RunLaws.{RefusedAreGiven, RefusedRise}
 use Rattle.pdl_shell.specs.declared.runner.Runner.{Runner}
 use Rattle.pdl_shell.specs.Course.{Foretells, IsLater}
 
@@ -77,3 +82,32 @@ foretold terms old new later fore = λ n le. fore n (le_trans le later.counts) �
 
 pub foretells_all : (terms : Terms) (runner : Runner) → terms.refused ≡ runner.refused → Foretells terms runner
 foretells_all terms runner is = λ n le. ap (λ ns. is_among ns n) is
+
+-- of numbers that rise none is among those before it
+none_more : (ns more : List ℕ) → AllPairs (λ x y. x < y) (ns ++ more) → All (λ n. is_among ns n ≡ true) (ns ++ more) → more ≡ []
+none_more ns [] rise among = refl
+none_more ns (m ∷ more) rise among = absurd (true≢false (sym is_in ∙ is_out))
+  where
+    long : length (ns ++ m ∷ more) ≡ length ns + length (m ∷ more)
+    long = length-append ns (m ∷ more)
+
+    at : (d : ℕ) → get_or (ns ++ m ∷ more) (length ns) d ≡ m
+    at d = get_or-append_seam ns m more d
+
+    is_in : is_among ns m ≡ true
+    is_in = subst (λ n. is_among ns n ≡ true) (at 0) (among (length ns) 0 (omega (arith, long)))
+
+    is_out : is_among ns m ≡ false
+    is_out = list_any_none (λ n. n == m) ns (λ k d lt. (let below = rise k (length ns) d lt (omega (arith, long)) in
+        ne_eqb (get_or ns k d) m (λ is. omega (arith, below, get_or_append_left ns (m ∷ more) d k lt, at d, is))))
+
+-- a run that meets first all the statements that its terms refuse meets no more of them
+pub all_met : RefusedAreGiven → RefusedRise → (terms : Terms) (script : List ℕ) → StartsWith (run terms script).refused terms.refused
+    → (run terms script).refused ≡ terms.refused
+all_met given rising terms script starts =
+    let whole : (run terms script).refused ≡ terms.refused ++ starts.0 = starts.1 in
+    let none : starts.0 ≡ [] =
+    none_more terms.refused starts.0
+    (subst (AllPairs (λ x y. x < y)) whole (AllPairs-from_increasing (run terms script).refused (rising terms script)))
+    (subst (All (λ n. is_among terms.refused n ≡ true)) whole (λ k d lt. (given terms script k d lt).0)) in
+    whole ∙ ap (λ (ns : List ℕ). terms.refused ++ ns) none ∙ append-nil terms.refused

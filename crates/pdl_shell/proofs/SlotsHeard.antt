@@ -5,6 +5,7 @@ use Rattle.pdl_io.specs.Counts.{Rose}
 use Rattle.pdl_watch.specs.declared.notice.Notice.{Notice}
 use Rattle.pdl_watch.specs.Watched.{Watched, told_more}
 use Rattle.pdl_watch.specs.Slots.{Slots, slot, notices_of, all_told, all_ended, ended_where, emptied, IsBelow, IsQuiet, joined, SlotRose, CountStays, SlotToldPart, ToldShort, OneMissed}
+use Rattle.pdl_watch.specs.SlotLaws.{EachIsToldItsOwn, EachIsJoined}
 use Rattle.pdl_machine.specs.Watches.{is_present}
 use Rattle.pdl_shell.specs.Outside.{CountsStay}
 use Rattle.pdl_shell.specs.Answers.{SlotHears, HeardShort}
@@ -89,24 +90,10 @@ one_rose first mid now stays missed = record {
 pub no_notices : IsQuiet []
 no_notices = λ k d inside. absurd (omega arith)
 
-pub behind_none : (o : Option (List Notice)) → o ≡ option_map (λ (before : List Notice). before ++ []) o
-behind_none None = refl
-behind_none (Some ns) = ap Some (sym (append-nil ns))
-
 behind_twice : (o : Option (List Notice)) (ns ms : List Notice)
     → option_map (λ (before : List Notice). before ++ ms) (option_map (λ before. before ++ ns) o) ≡ option_map (λ before. before ++ (ns ++ ms)) o
 behind_twice None ns ms = refl
 behind_twice (Some xs) ns ms = ap Some (append_assoc xs ns ms)
-
-slot_none : (s : Option Watched) → s ≡ option_map (told_more []) s
-slot_none None = refl
-slot_none (Some w) = ap (λ (t : Option (List Notice)). Some (record w { told = t })) (behind_none w.told)
-
-pub told_at : (ss : Slots) (xs : List (List Notice)) (k : ℕ) → slot (all_told ss xs) k ≡ option_map (told_more (notices_of xs k)) (slot ss k)
-told_at [] xs k = refl
-told_at (s ∷ ss) [] k = slot_none (slot (s ∷ ss) k)
-told_at (s ∷ ss) (x ∷ xs) zero = refl
-told_at (s ∷ ss) (x ∷ xs) (suc k) = told_at ss xs k
 
 heard_all : (ns : List Notice) (stays : Bool) (s : Option Watched) → SlotHears ns stays s (option_map (told_more ns) s)
 heard_all ns stays None = tt
@@ -125,20 +112,14 @@ left_heard s (r ∷ rs) (p ∷ ps) zero ns heard = heard_left ns p s r heard
 left_heard s (r ∷ rs) (p ∷ ps) (suc k) ns heard = left_heard s rs ps k ns heard
 
 -- all were told all of their notices
-pub heard_by : (first : Slots) (xs : List (List Notice)) (ps : List Bool) → length (emptied (all_told first xs) ps) ≡ length first
+pub heard_by : EachIsToldItsOwn → (first : Slots) (xs : List (List Notice)) (ps : List Bool) → length (emptied (all_told first xs) ps) ≡ length first
     → HeardShort first xs ps (emptied (all_told first xs) ps)
-heard_by first xs ps long = record {
+heard_by told first xs ps long = record {
   long = long;
   each = λ k. left_heard (slot first k) (all_told first xs) ps k (notices_of xs k)
-      (subst (λ (s : Option Watched). SlotHears (notices_of xs k) (is_present ps k) (slot first k) s) (sym (told_at first xs k))
+      (subst (λ (s : Option Watched). SlotHears (notices_of xs k) (is_present ps k) (slot first k) s) (sym (told first xs k))
       (heard_all (notices_of xs k) (is_present ps k) (slot first k)));
 }
-
-joined_at : (xs ys : List (List Notice)) (k : ℕ) → notices_of (joined xs ys) k ≡ notices_of xs k ++ notices_of ys k
-joined_at [] ys k = refl
-joined_at (x ∷ xs) [] k = sym (append-nil (notices_of (x ∷ xs) k))
-joined_at (x ∷ xs) (y ∷ ys) zero = refl
-joined_at (x ∷ xs) (y ∷ ys) (suc k) = joined_at xs ys k
 
 below_at : (qs ps : List Bool) → IsBelow qs ps → (k : ℕ) → is_present qs k ≡ true → is_present ps k ≡ true
 below_at [] [] below k is = is
@@ -161,11 +142,11 @@ hears_later ns ms stays stays' (Some w) (Some n) below heard = record {
 }
 
 -- what was heard by a stop is the front of what more statements tell
-pub heard_later : (first : Slots) (xs more : List (List Notice)) (ps qs : List Bool) (now : Slots) → IsBelow qs ps
+pub heard_later : EachIsJoined → (first : Slots) (xs more : List (List Notice)) (ps qs : List Bool) (now : Slots) → IsBelow qs ps
     → HeardShort first xs ps now → HeardShort first (joined xs more) qs now
-heard_later first xs more ps qs now below heard = record {
+heard_later joins first xs more ps qs now below heard = record {
   long = heard.long;
-  each = λ k. subst (λ (ns : List Notice). SlotHears ns (is_present qs k) (slot first k) (slot now k)) (sym (joined_at xs more k))
+  each = λ k. subst (λ (ns : List Notice). SlotHears ns (is_present qs k) (slot first k) (slot now k)) (sym (joins xs more k))
       (hears_later (notices_of xs k) (notices_of more k) (is_present ps k) (is_present qs k) (slot first k) (slot now k) (below_at qs ps below k) (heard.each k));
 }
 
@@ -203,12 +184,12 @@ hears_below ns stays stays' (Some w) None below heard = λ e. heard (below e)
 hears_below ns stays stays' (Some w) (Some n) below heard = heard
 
 -- a statement's telling stopped, after all that was told before it
-pub heard_then : (first : Slots) (xs ys : List (List Notice)) (ps qs : List Bool) (now : Slots) → IsBelow qs ps
+pub heard_then : EachIsToldItsOwn → EachIsJoined → (first : Slots) (xs ys : List (List Notice)) (ps qs : List Bool) (now : Slots) → IsBelow qs ps
     → length (emptied (all_told first xs) ps) ≡ length first → ToldShort (emptied (all_told first xs) ps) ys now
     → HeardShort first (joined xs ys) qs now
-heard_then first xs ys ps qs now below long short = record {
+heard_then told joins first xs ys ps qs now below long short = record {
   long = short.long ∙ long;
-  each = λ k. subst (λ (ns : List Notice). SlotHears ns (is_present qs k) (slot first k) (slot now k)) (sym (joined_at xs ys k))
+  each = λ k. subst (λ (ns : List Notice). SlotHears ns (is_present qs k) (slot first k) (slot now k)) (sym (joins xs ys k))
       (hears_below (notices_of xs k ++ notices_of ys k) (is_present ps k) (is_present qs k) (slot first k) (slot now k) (below_at qs ps below k)
-      (left_then (slot first k) (all_told first xs) ps k (notices_of xs k) (notices_of ys k) (slot now k) (told_at first xs k) (short.each k)));
+      (left_then (slot first k) (all_told first xs) ps k (notices_of xs k) (notices_of ys k) (slot now k) (told first xs k) (short.each k)));
 }

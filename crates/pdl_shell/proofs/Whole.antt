@@ -4,7 +4,7 @@ use Rattle.std.specs.Prelude.{◌≢◌, OnOk}
 use Rattle.std.specs.Io.KnownBytes.{Appends}
 use Rattle.pdl_io.specs.Told.{Says, AppendsPrefix}
 use Rattle.pdl_watch.specs.Slots.{Slots, emptied, present_in}
-use Rattle.pdl_watch.specs.SlotLaws.{NoneIsEmptied, QuietTellsNone, NothingEnds}
+use Rattle.pdl_watch.specs.SlotLaws.{EachIsToldItsOwn, NoneIsEmptied, QuietTellsNone, NothingEnds}
 use Rattle.pdl_machine.specs.Run.{Terms, Progress, run}
 use Rattle.pdl_shell.specs.declared.words.Command.{Command}
 use Rattle.pdl_shell.specs.declared.words.Command.TheVariants.{Run, Generate}
@@ -20,21 +20,21 @@ use Rattle.pdl_shell.proofs.SlotsHeard.{counts_same, no_notices, heard_by}
 
 -- what a status says of a run that came to its end
 gives_at_end : (faulted : Bool) (refused : List ℕ) (e : Ending) (old new : Outlets) → status_at_end faulted refused ≡ e.status → IsWhole e old new
-    → Says new.flushed true → Gives (status_at_end faulted refused) e old new
-gives_at_end true [] e old new is whole flushed = (is, whole)
-gives_at_end false [] e old new is whole flushed = (is, whole)
-gives_at_end faulted (n ∷ ns) e old new is whole flushed = inl (record { status = is; whole = whole; flushed = flushed })
+    → Gives (status_at_end faulted refused) e old new
+gives_at_end true [] e old new is whole = (is, whole)
+gives_at_end false [] e old new is whole = (is, whole)
+gives_at_end faulted (n ∷ ns) e old new is whole = inl (is, whole)
 
 -- and of any run
 pub gives_after : (result : Result Bool Stop) (terms : Terms) (whole : Progress) (old new : Outlets) → Leaves result terms whole old new
-    → OnOk result (Says new.flushed true) → Gives (status_after result terms.refused) (ending_of_run terms whole) old new
-gives_after (Ok faulted) terms whole old new left flushed =
+    → Gives (status_after result terms.refused) (ending_of_run terms whole) old new
+gives_after (Ok faulted) terms whole old new left =
     gives_at_end faulted terms.refused (ending_of_run terms whole) old new
-    (ap (λ (b : Bool). status_at_end b terms.refused) left.0 ∙ ap (λ (ns : List ℕ). status_at_end whole.faulted ns) (sym left.1.met)) left.1 flushed
-gives_after (Err Source) terms whole old new left flushed = left
-gives_after (Err Sink) terms whole old new left flushed = left
-gives_after (Err Watcher) terms whole old new left flushed = left
-gives_after (Err NoRoom) terms whole old new left flushed = inr left
+    (ap (λ (b : Bool). status_at_end b terms.refused) left.0 ∙ ap (λ (ns : List ℕ). status_at_end whole.faulted ns) (sym left.1.met)) left.1
+gives_after (Err Source) terms whole old new left = left
+gives_after (Err Sink) terms whole old new left = left
+gives_after (Err Watcher) terms whole old new left = left
+gives_after (Err NoRoom) terms whole old new left = inr left
 
 -- and of the counts
 reason_at_end : (faulted : Bool) (refused : List ℕ) (old new : Outside) → HasReason Done old new → HasReason (status_at_end faulted refused) old new
@@ -113,34 +113,34 @@ aside_same none quiet nothing status text slots =
     nothing _ ∙ ap (λ (ss : Slots). emptied ss (present_in slots)) (quiet slots [] no_notices) ∙ none slots
 
 pub aside_whole : NoneIsEmptied → QuietTellsNone → NothingEnds → (status : Status) (text : List ℕ) (slots : Slots) (old new : Option (List ℕ)) (flushed flushed' : Option Bool) (faults faults' : ℕ)
-    → Appends old new text
+    → Appends old new text → Says flushed' true
     → IsWhole (aside status text (present_in slots)) (record { taken = old; flushed = flushed; faults = faults; slots = slots })
     (record { taken = new; flushed = flushed'; faults = faults'; slots = slots })
-aside_whole none quiet nothing status text slots old new flushed flushed' faults faults' wrote =
-    record { text = wrote; met = refl; slots = sym (aside_same none quiet nothing status text slots) }
+aside_whole none quiet nothing status text slots old new flushed flushed' faults faults' wrote says =
+    record { text = wrote; flushed = says; met = refl; slots = sym (aside_same none quiet nothing status text slots) }
 
-pub aside_short : NoneIsEmptied → QuietTellsNone → (status : Status) (text : List ℕ) (slots : Slots) (old new : Option (List ℕ)) (flushed flushed' : Option Bool) (faults faults' : ℕ)
+pub aside_short : EachIsToldItsOwn → NoneIsEmptied → QuietTellsNone → (status : Status) (text : List ℕ) (slots : Slots) (old new : Option (List ℕ)) (flushed flushed' : Option Bool) (faults faults' : ℕ)
     → AppendsPrefix old new text
     → IsShort (aside status text (present_in slots)) (record { taken = old; flushed = flushed; faults = faults; slots = slots })
     (record { taken = new; flushed = flushed'; faults = faults'; slots = slots })
-aside_short none quiet status text slots old new flushed flushed' faults faults' wrote =
+aside_short each none quiet status text slots old new flushed flushed' faults faults' wrote =
     let same = ap (λ (ss : Slots). emptied ss (present_in slots)) (quiet slots [] no_notices) ∙ none slots in
     record {
       text = wrote;
-      slots = subst (λ (ss : Slots). HeardShort slots [] (present_in slots) ss) same (heard_by slots [] (present_in slots) (ap length same));
+      slots = subst (λ (ss : Slots). HeardShort slots [] (present_in slots) ss) same (heard_by each slots [] (present_in slots) (ap length same));
     }
 
 -- a summary that couldn't be written
-pub aside_stops : NoneIsEmptied → QuietTellsNone → (stop : Stop) (status : Status) (text : List ℕ) (slots : Slots) (old new : Option (List ℕ)) (flushed flushed' : Option Bool) (faults faults' : ℕ)
+pub aside_stops : EachIsToldItsOwn → NoneIsEmptied → QuietTellsNone → (stop : Stop) (status : Status) (text : List ℕ) (slots : Slots) (old new : Option (List ℕ)) (flushed flushed' : Option Bool) (faults faults' : ℕ)
     → HasSinkCause {T = Unit {0}} faults faults' (Err stop) → AppendsPrefix old new text
     → Gives (status_of_stop stop) (aside status text (present_in slots)) (record { taken = old; flushed = flushed; faults = faults; slots = slots })
     (record { taken = new; flushed = flushed'; faults = faults'; slots = slots })
-aside_stops none quiet Source status text slots old new flushed flushed' faults faults' cause wrote = absurd cause
-aside_stops none quiet Sink status text slots old new flushed flushed' faults faults' cause wrote =
-    aside_short none quiet status text slots old new flushed flushed' faults faults' wrote
-aside_stops none quiet Watcher status text slots old new flushed flushed' faults faults' cause wrote = absurd cause
-aside_stops none quiet NoRoom status text slots old new flushed flushed' faults faults' cause wrote =
-    inr (aside_short none quiet status text slots old new flushed flushed' faults faults' wrote)
+aside_stops each none quiet Source status text slots old new flushed flushed' faults faults' cause wrote = absurd cause
+aside_stops each none quiet Sink status text slots old new flushed flushed' faults faults' cause wrote =
+    aside_short each none quiet status text slots old new flushed flushed' faults faults' wrote
+aside_stops each none quiet Watcher status text slots old new flushed flushed' faults faults' cause wrote = absurd cause
+aside_stops each none quiet NoRoom status text slots old new flushed flushed' faults faults' cause wrote =
+    inr (aside_short each none quiet status text slots old new flushed flushed' faults faults' wrote)
 
 pub aside_reason : (stop : Stop) (left : Option (List ℕ)) (reads : ℕ) (slots : Slots) (old new : Option (List ℕ)) (flushed flushed' : Option Bool) (faults faults' : ℕ)
     → HasSinkCause {T = Unit {0}} faults faults' (Err stop)

@@ -1,5 +1,5 @@
 -- What the runs of two statements come to, by computation.
-use Rattle.std.proofs.Common.{◌≡◌, ℕ, ◌+◌, List, [], ◌∷◌, ◌++◌, take, length, true, false, Option, None, Some, option_map, refl, sym, ap, subst, ◌∙◌, arith, length-append}
+use Rattle.std.proofs.Common.{◌≡◌, ℕ, ◌+◌, List, [], ◌∷◌, ◌++◌, take, length, true, false, Option, None, Some, option_map, refl, sym, ap, subst, ◌∙◌, arith, append-nil, length-append}
 use Rattle.std.specs.Prelude.{codes}
 use Rattle.std.specs.Fmt.{digits}
 use Rattle.std.specs.Io.KnownBytes.{Consumes}
@@ -17,6 +17,7 @@ use Rattle.pdl_nice.specs.Reading.{reader as nice_reader}
 use Rattle.pdl_watch.specs.declared.notice.Notice.{Notice}
 use Rattle.pdl_watch.specs.Watched.{Watched}
 use Rattle.pdl_watch.specs.Slots.{Slots, notices_of}
+use Rattle.pdl_watch.specs.SlotLaws.{EachIsToldItsOwn}
 use Rattle.pdl_machine.specs.Run.{so_far}
 use Rattle.pdl_shell.specs.declared.status.Status.{Status}
 use Rattle.pdl_shell.specs.declared.status.Status.TheVariants.{Done, ScriptFault, Usage, SinkFault, WatcherFault, NoMemory}
@@ -27,7 +28,6 @@ use Rattle.pdl_shell.specs.Headline.{HeardOrEnded, OfWholeStatements}
 use Rattle.pdl_shell.specs.TwoStatements.{two_numbers, a_fault, a_watch, comes_to, without_first, Writes, WritesAFront, WorkedStatuses}
 use Rattle.pdl_shell.proofs.HeadlineLemmas.{all_front, ends_write, source_leaves}
 use Rattle.pdl_shell.proofs.Guards.{others_front}
-use Rattle.pdl_shell.proofs.SlotsHeard.{behind_none}
 
 two_text : (comes_to [] two_numbers).text ≡ codes "7\n8\n"
 unfolding digits behind_token go_deep longest token_at toks_from toks item_at items_at inside_at list_reader chain_at arg_at more_at closed_at maybe_at primary_at methods_at postfix_at unary_at level_at grown_at reader parsed names_at expression_to_end_at valued_at called_at bind_list_at views_at assignment_at statement_of_name_at binding_at show_at statement_at look has_nice plain_text nice_reader
@@ -90,13 +90,17 @@ no_part : (part rest : List Notice) → [] ≡ part ++ rest → part ≡ []
 no_part [] rest is = refl
 no_part (n ∷ part) rest is = absurd (cc)
 
+behind_none : (o : Option (List Notice)) → o ≡ option_map (λ (before : List Notice). before ++ []) o
+behind_none None = refl
+behind_none (Some ns) = ap Some (sym (append-nil ns))
+
 told_nothing : (ns : List Notice) (watch : Option ℕ) (before after : Watched) → ns ≡ [] → HeardOrEnded ns watch before after → after.told ≡ before.told
 told_nothing ns watch before after none heard =
     let part : heard.part ≡ [] = no_part heard.part heard.front.0 (sym none ∙ heard.front.1) in
     heard.told ∙ ap (λ (ms : List Notice). option_map (λ (was : List Notice). was ++ ms) before.told) part ∙ sym (behind_none before.told)
 
-pub worked_statuses : WorkedStatuses
-worked_statuses = record {
+pub worked_statuses : EachIsToldItsOwn → WorkedStatuses
+worked_statuses each = record {
   done = writes Done (comes_to [] two_numbers) (codes "7\n8\n") (λ old new after was now gives. (ends_write Done (comes_to [] two_numbers) old new [] after tt was now gives).1.text) two_text;
   no_fault = λ old new gives. (let e : ScriptFault ≡ Done = gives.0 ∙ two_status in absurd (cc));
   faulted = writes ScriptFault (comes_to [] a_fault) (codes "7\npdl: line 1: unknown name\n") (λ old new after was now gives. (ends_write ScriptFault (comes_to [] a_fault) old new [] after tt was now gives).1.text) fault_text;
@@ -113,5 +117,5 @@ worked_statuses = record {
       let bytes : whole.bytes ≡ codes "p 7;" = taken_is old.left new.left whole.bytes (codes "p 8;") 4 two_numbers had left whole.taken refl in
       whole.text ∙ ap (λ (bs : List ℕ). (so_far (terms_for false old.out.slots []) bs).printed) bytes ∙ first_text old.out.slots);
   attached = watch_attached;
-  watcher = λ old new before after was is gives. told_nothing (notices_of (comes_to (true ∷ []) a_watch).told 0) _ before after watch_told (others_front WatcherFault (comes_to (true ∷ []) a_watch) old new 0 before after tt gives was is);
+  watcher = λ old new before after was is gives. told_nothing (notices_of (comes_to (true ∷ []) a_watch).told 0) _ before after watch_told (others_front each WatcherFault (comes_to (true ∷ []) a_watch) old new 0 before after tt gives was is);
 }

@@ -95,7 +95,7 @@ slots_after ending slots = all_ended (told_by ending slots) ending.watches
 
 -- A slot at a stop: its watcher was told a front of these notices and isn't newly finished, or is
 -- gone, which only a watcher is that the script gives up.
-abbrev pub SlotHears : List Notice → (stays : Bool) → Option Watched → Option Watched → Type 0
+abbrev pub SlotHears : List Notice → (stays : Bool) → (old now : Option Watched) → Type 0
 SlotHears ns stays None None = Unit {0}
 SlotHears ns stays None (Some now) = ⊥
 SlotHears ns stays (Some old) None = ¬ (stays ≡ true)
@@ -108,10 +108,11 @@ pub record HeardShort (old : Slots) (told : List (List Notice)) (present : List 
   pub each : (k : ℕ) →
       SlotHears (notices_of told k) (is_present present k) (slot old k) (slot now k)
 
--- the call came to its end: the sink took the whole text, each refused statement is one to which
--- the run came, and each slot is as the ending has it
+-- the call came to its end: the sink took the whole text and is flushed, each refused statement is
+-- one to which the run came, and each slot is as the ending has it
 pub record IsWhole (ending : Ending) (old new : Outlets) : Type 0 where
   pub text : Appends old.taken new.taken ending.text
+  pub flushed : Says new.flushed true
   pub met : ending.met ≡ ending.refused
   pub slots : new.slots ≡ slots_after ending old.slots
 
@@ -128,13 +129,8 @@ pub record ClosesShort (ending : Ending) (old new : Outlets) : Type 0 where
   pub flushed : Says new.flushed true
   pub slots : EndedShort (told_by ending old.slots) ending.watches new.slots
 
--- the call came to its end, and memory refused statements of it; the sink is flushed
-pub record EndsRefused (ending : Ending) (old new : Outlets) : Type 0 where
-  pub status : NoMemory ≡ ending.status
-  pub whole : IsWhole ending old new
-  pub flushed : Says new.flushed true
-
--- what was written and told, from what is seen of sink and slots before the call and after it
+-- What was written and told, from what is seen of sink and slots before the call and after it. Out
+-- of memory the call came to its end, which that is the status of, or it stopped short.
 abbrev pub Gives : Status → Ending → (old new : Outlets) → Type 0
 Gives Done ending old new = (Done ≡ ending.status) × IsWhole ending old new
 Gives ScriptFault ending old new = (ScriptFault ≡ ending.status) × IsWhole ending old new
@@ -142,7 +138,8 @@ Gives Usage ending old new = (Usage ≡ ending.status) × IsWhole ending old new
 Gives SourceFault ending old new = IsShort ending old new
 Gives SinkFault ending old new = IsShort ending old new
 Gives WatcherFault ending old new = IsShort ending old new ⊎ ClosesShort ending old new
-Gives NoMemory ending old new = EndsRefused ending old new ⊎ IsShort ending old new
+Gives NoMemory ending old new =
+    ((NoMemory ≡ ending.status) × IsWhole ending old new) ⊎ IsShort ending old new
 
 -- the statuses that words which ask for this can be answered by
 abbrev pub CanAnswer : Option Command → Status → Type 0

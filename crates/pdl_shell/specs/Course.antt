@@ -6,7 +6,7 @@ use Rattle.std.specs.Io.KnownBytes.{Appends, Consumes}
 use Rattle.pdl_lex.specs.Bytes.{newlines}
 use Rattle.pdl_lex.specs.Limits.{script_limit}
 use Rattle.pdl_lex.specs.Pieces.{Mark, statement, script_too_long, pieces, settled, settled_from}
-use Rattle.pdl_watch.specs.Slots.{Slots, all_told, present_in, emptied, IsBelow}
+use Rattle.pdl_watch.specs.Slots.{Slots, all_told, present_in, emptied, IsBelow, StartsWith}
 use Rattle.pdl_machine.specs.State.{no_names}
 use Rattle.pdl_machine.specs.Run.{Terms, Progress, is_among, is_refused, refused_limit, after_mark}
 use Rattle.pdl_shell.specs.declared.runner.Runner.{Runner}
@@ -82,10 +82,12 @@ pub record Answers (mark : Mark) (old : Runner) (slots : Slots) (new : Runner) (
       Follows terms first old slots run →
       (after_mark terms run mark).printed ≡ run.printed ++ text
 
--- or stopped short of that
+-- or stopped short of that; also then the run has met the statements that are noted as refused
 pub record AnswersShort (mark : Mark) (old : Runner) (slots : Slots) (stop : Stop) (new : Runner)
     (now : Slots) : Type 0 where
   pub later : IsLater old new
+  pub met : (terms : Terms) (first : Slots) (run : Progress) → Foretells terms new →
+      Follows terms first old slots run → (after_mark terms run mark).refused ≡ new.refused
   pub heard : (terms : Terms) (first : Slots) (run : Progress) → Foretells terms new →
       Follows terms first old slots run →
       let after = after_mark terms run mark in HeardShort first after.told after.present now
@@ -103,6 +105,8 @@ pub record Runs (mark : Mark) (old : Runner) (out : Outlets) (new : Runner) (now
 pub record RunsShort (mark : Mark) (old : Runner) (out : Outlets) (stop : Stop) (new : Runner)
     (now : Outlets) : Type 0 where
   pub later : IsLater old new
+  pub met : (terms : Terms) (first : Outlets) (run : Progress) → Foretells terms new →
+      Stands terms first old out run → (after_mark terms run mark).refused ≡ new.refused
   pub short : (terms : Terms) (first : Outlets) (run : Progress) → Foretells terms new →
       Stands terms first old out run →
       IsShort (ending_of_run terms (after_mark terms run mark)) first now
@@ -120,10 +124,14 @@ pub record Carries (bytes : List ℕ) (old : Runner) (out : Outlets)
       × ((follows : Behind) (more : List ℕ) → outcome terms follows old.cutter run (bytes ++ more)
       ≡ outcome terms follows new.cutter run_now (rest ++ more))
 
--- The run stopped short over these bytes, whatever ran before and whatever follows.
+-- The run stopped short over these bytes, whatever ran before and whatever follows; the statements
+-- that are noted as refused are the first ones that the run of all of them meets.
 pub record StopsShort (bytes : List ℕ) (old : Runner) (out : Outlets) (stop : Stop) (new : Runner)
     (now : Outlets) : Type 0 where
   pub later : IsLater old new
+  pub met : (terms : Terms) (first : Outlets) (run : Progress) → Foretells terms new →
+      Stands terms first old out run → (follows : Behind) (more : List ℕ) →
+      StartsWith (outcome terms follows old.cutter run (bytes ++ more)).refused new.refused
   pub short : (terms : Terms) (first : Outlets) (run : Progress) → Foretells terms new →
       Stands terms first old out run → (follows : Behind) (more : List ℕ) →
       IsShort (ending_of_run terms (outcome terms follows old.cutter run (bytes ++ more))) first now
@@ -142,6 +150,9 @@ pub record Finishes (is_cut : Bool) (old : Runner) (out : Outlets) (new : Runner
 pub record FinishesShort (is_cut : Bool) (old : Runner) (out : Outlets) (stop : Stop) (new : Runner)
     (now : Outlets) : Type 0 where
   pub later : IsLater old new
+  pub met : (terms : Terms) (first : Outlets) (run : Progress) → Foretells terms new →
+      Stands terms first old out run →
+      (outcome terms (behind is_cut) old.cutter run []).refused ≡ new.refused
   pub short : (terms : Terms) (first : Outlets) (run : Progress) → Foretells terms new →
       Stands terms first old out run →
       IsShort (ending_of_run terms (outcome terms (behind is_cut) old.cutter run [])) first now
@@ -159,6 +170,9 @@ pub record Ends (is_cut : Bool) (old : Runner) (out : Outlets) (result : Result 
     (refused : List ℕ) (now : Outlets) : Type 0 where
   pub stays : (number : ℕ) → number ≤ old.count →
       is_among refused number ≡ is_among old.refused number
+  pub met : (terms : Terms) (first : Outlets) (run : Progress) → terms.refused ≡ refused →
+      Stands terms first old out run →
+      (outcome terms (behind is_cut) old.cutter run []).refused ≡ refused
   pub leaves : (terms : Terms) (first : Outlets) (run : Progress) → terms.refused ≡ refused →
       Stands terms first old out run →
       Leaves result terms (outcome terms (behind is_cut) old.cutter run []) first now

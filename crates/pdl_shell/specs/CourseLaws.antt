@@ -1,7 +1,7 @@
 -- What the course of a run rests on.
 use Rattle.pdl_watch.specs.Slots.{TellsTwice}
-use Rattle.pdl_watch.specs.SlotLaws.{TellingKeepsAll, EmptyingLeaves, NoneIsEmptied, EmptyingAndTelling, EmptiedTwice, QuietTellsNone, BelowItself, BelowTwice, TellingKeepsLength, EmptyingKeepsLength, EndingMissesOne}
-use Rattle.pdl_machine.specs.RunLaws.{EndedStays, PrintedStays, ToldStays, NoneComes}
+use Rattle.pdl_watch.specs.SlotLaws.{EachIsToldItsOwn, EachIsJoined, TellingKeepsAll, EmptyingLeaves, NoneIsEmptied, EmptyingAndTelling, EmptiedTwice, QuietTellsNone, BelowItself, BelowTwice, TellingKeepsLength, EmptyingKeepsLength, EndingMissesOne}
+use Rattle.pdl_machine.specs.RunLaws.{EndedStays, PrintedStays, ToldStays, NoneComes, RefusedStay, RefusedAreGiven, RefusedRise}
 
 -- the laws of slots and of runs that every step of a run is proved by
 pub record Laws : Type 0 where
@@ -17,7 +17,12 @@ pub record Laws : Type 0 where
   pub long : EmptyingKeepsLength
   pub ended_one : EndingMissesOne
   pub told_twice : TellsTwice
+  pub each : EachIsToldItsOwn
+  pub joins : EachIsJoined
   pub ended : EndedStays
   pub printed : PrintedStays
   pub told : ToldStays
   pub none_comes : NoneComes
+  pub refused : RefusedStay
+  pub given : RefusedAreGiven
+  pub rising : RefusedRise

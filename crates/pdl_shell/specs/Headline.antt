@@ -1,5 +1,7 @@
 -- What must follow from the words that the top call's contract is written in.
 use Rattle.std.specs.Prelude.{◌≡◌, ℕ, ◌+◌, ◌-◌, ◌^◌, ◌<◌, ◌≤◌, ⊤, ◌⊎◌, List, [], ◌++◌, length, Bool, true, false, Option, None, Some, IsSome, option_map}
+use Rattle.std.specs.List.{All}
+use Rattle.std.specs.List.Sorted.{IsStrictlyIncreasing}
 use Rattle.std.specs.Io.KnownBytes.{Consumes}
 use Rattle.pdl_io.specs.Counts.{Rose}
 use Rattle.pdl_io.specs.Told.{Says}
@@ -7,7 +9,7 @@ use Rattle.pdl_watch.specs.declared.notice.Notice.{Notice}
 use Rattle.pdl_watch.specs.Watched.{Watched}
 use Rattle.pdl_watch.specs.Slots.{slot, notices_of, StartsWith}
 use Rattle.pdl_machine.specs.Watches.{watch_of}
-use Rattle.pdl_machine.specs.Run.{so_far}
+use Rattle.pdl_machine.specs.Run.{run, so_far}
 use Rattle.pdl_shell.specs.Outside.{Outside}
 use Rattle.pdl_shell.specs.Answers.{CameToItsEnd, HasReason, Gives, CanAnswer, TakesAtMost, IsUndisturbed, Ending, ending_of_run, told_by, slots_after}
 use Rattle.pdl_shell.specs.Taken.{Reads, terms_for}
@@ -72,6 +74,20 @@ SourceFaultsLeave = (keep : Bool) (refused : List ℕ) (old new : Outside) (befo
     old.out.taken ≡ Some before → new.out.taken ≡ Some after →
     Reads keep refused SourceFault old new → OfWholeStatements keep refused old new before after
 
+-- Whatever the status, the refused statements are ones of the bytes taken, in the order in which
+-- they came: their numbers rise, and are at most 64.
+pub record AreOfBytes (keep : Bool) (refused : List ℕ) (old new : Outside) : Type 0 where
+  pub bytes : List ℕ
+  pub taken : Consumes old.left new.left bytes
+  pub came : let bytes_run = run (terms_for keep old.out.slots refused) bytes in
+      All (λ number. number ≤ bytes_run.count) refused
+  pub rise : IsStrictlyIncreasing refused
+  pub few : length refused ≤ 64
+
+abbrev pub RefusedAreRead : Type 0
+RefusedAreRead = (keep : Bool) (refused : List ℕ) (status : Status) (old new : Outside) →
+    Reads keep refused status old new → AreOfBytes keep refused old new
+
 -- with Done nothing is left of the script
 abbrev pub DoneReadsAll : Type 0
 DoneReadsAll = (keep : Bool) (refused : List ℕ) (old new : Outside) (rest : List ℕ) →
@@ -88,9 +104,10 @@ ScriptFaultReads = (keep : Bool) (refused : List ℕ) (old new : Outside) (rest 
     new.left ≡ Some rest → Reads keep refused ScriptFault old new →
     (rest ≡ []) ⊎ EndsBy keep refused old new
 
--- All is written and told, and the refused statements are all ones to which the run came.
+-- All is written, flushed and told, and the refused statements are all ones to which the run came.
 pub record IsAllOf (e : Ending) (old new : Outside) (before after : List ℕ) : Type 0 where
   pub text : after ≡ before ++ e.text
+  pub flushed : Says new.out.flushed true
   pub met : e.met ≡ e.refused
   pub slots : new.out.slots ≡ slots_after e old.out.slots
 
@@ -100,12 +117,12 @@ EndsWriteAll = (status : Status) (e : Ending) (old new : Outside) (before after 
     CameToItsEnd status → old.out.taken ≡ Some before → new.out.taken ≡ Some after →
     Gives status e old.out new.out → (e.status ≡ status) × IsAllOf e old new before after
 
--- a call that was out of memory came to its end too, flushed, where that is the ending's status, or
--- else it wrote a front of the text
+-- a call that was out of memory came to its end too, where that is the ending's status, or else it
+-- wrote a front of the text
 abbrev pub NoMemoryWritesAllOrAFront : Type 0
 NoMemoryWritesAllOrAFront = (e : Ending) (old new : Outside) (before after : List ℕ) →
     old.out.taken ≡ Some before → new.out.taken ≡ Some after → Gives NoMemory e old.out new.out →
-    ((e.status ≡ NoMemory) × IsAllOf e old new before after × Says new.out.flushed true)
+    ((e.status ≡ NoMemory) × IsAllOf e old new before after)
     ⊎ ((rest : List ℕ) × (before ++ e.text ≡ after ++ rest))
 
 -- whatever the status, what is written is a front of the text

@@ -2,7 +2,7 @@
 use Rattle.std.specs.Prelude.{◌≡◌, ℕ, ◌-◌, ⊤, ◌⊎◌, List, length, take, Bool, true, false}
 use Rattle.std.specs.Io.KnownBytes.{Appends, Consumes, IsAtEnd}
 use Rattle.pdl_watch.specs.Slots.{Slots, present_in}
-use Rattle.pdl_machine.specs.Run.{Terms, Progress, so_far}
+use Rattle.pdl_machine.specs.Run.{Terms, Progress, run, so_far}
 use Rattle.pdl_shell.specs.Outside.{Outside}
 use Rattle.pdl_shell.specs.Answers.{ending_of_run, told_by}
 use Rattle.pdl_shell.specs.declared.status.Status.{Status}
@@ -33,11 +33,13 @@ ComesTo SinkFault terms run old new = ⊤
 ComesTo WatcherFault terms run old new = ⊤
 ComesTo NoMemory terms run old new = ⊤
 
--- from what the source had left, these bytes were taken, where memory refused these statements
+-- From what the source had left, these bytes were taken, where memory refused these statements:
+-- whatever the status, all of them are ones to which a run of these bytes comes.
 pub record Reads (keep : Bool) (refused : List ℕ) (status : Status) (old new : Outside)
     : Type 0 where
   pub taken : List ℕ
   pub all : Consumes old.left new.left taken
   pub soon : StopsSoon (terms_for keep old.out.slots refused) taken
+  pub met : (run (terms_for keep old.out.slots refused) taken).refused ≡ refused
   pub so_far : let terms = terms_for keep old.out.slots refused in
       ComesTo status terms (so_far terms taken) old new

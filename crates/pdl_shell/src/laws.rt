@@ -1,7 +1,7 @@
 //! Laws of runs and of the answers to them.
 ghost use Rattle.pdl_shell.specs.CourseLaws.{Laws};
 ghost use Rattle.pdl_shell.specs.TwoStatements.{WorkedStatuses};
-ghost use Rattle.pdl_shell.specs.Headline.{EndsAreQuiet, NoMemoryIsQuiet, SourceFaultsRise, SinkFaultsRise, WatcherFaultsRise, SourceFaultsLeave, DoneReadsAll, ScriptFaultReads, EndsWriteAll, NoMemoryWritesAllOrAFront, AllWriteAFront, CutOffTellAFront, OthersTellAFront, NoPartIsReadBehind, FewAreTaken, QuietIsUndisturbed, UsageTakesNoMemory, UsageIsForNoSpelling, GeneratingFailsAlone};
+ghost use Rattle.pdl_shell.specs.Headline.{EndsAreQuiet, NoMemoryIsQuiet, SourceFaultsRise, SinkFaultsRise, WatcherFaultsRise, SourceFaultsLeave, RefusedAreRead, DoneReadsAll, ScriptFaultReads, EndsWriteAll, NoMemoryWritesAllOrAFront, AllWriteAFront, CutOffTellAFront, OthersTellAFront, NoPartIsReadBehind, FewAreTaken, QuietIsUndisturbed, UsageTakesNoMemory, UsageIsForNoSpelling, GeneratingFailsAlone};
 ghost use Rattle.pdl_shell.specs.HeadlineSlots.{SlotsStay, WatchersStay, NoneAppears, CountsAreKept, OneFailsAlone, FinishingComesLast};
 
 use pdl_machine::{run_laws, so_far_laws};
@@ -21,8 +21,9 @@ pub(crate) fn course_laws()
 /// the sink and the watchers is as it was (`quiet`), and out of memory too (`memory`); a fault of
 /// one of them comes only where its count rose (`source`, `sink`, `watcher`); after a fault of the
 /// source just the text is written and just the notices are told of the statements that were whole
-/// by then, none of which ended the run, and the refused ones are among these (`leaves`); with Done
-/// nothing is left of the script (`reads`), and with ScriptFault nothing, or the bytes taken end
+/// by then, none of which ended the run, and the refused ones are among these (`leaves`); whatever
+/// the status, the refused statements are ones of the bytes taken, in rising order (`met`); with
+/// Done nothing is left of the script (`reads`), and with ScriptFault nothing, or the bytes taken end
 /// the run (`fault_reads`); at the end all is written and told (`writes`, and out of memory
 /// `writes_some`), and else a front of it (`front`, `tells`, and where a watcher failed or out of
 /// memory `tells_some`); fewer than 4,096 bytes are taken behind those that end the run (`soon`),
@@ -43,6 +44,7 @@ pub fn headline_laws()
     ensures sink { SinkFaultsRise }
     ensures watcher { WatcherFaultsRise }
     ensures leaves { SourceFaultsLeave }
+    ensures met { RefusedAreRead }
     ensures reads { DoneReadsAll }
     ensures fault_reads { ScriptFaultReads }
     ensures writes { EndsWriteAll }
@@ -65,7 +67,8 @@ pub fn headline_laws()
 {
     run_laws();
     so_far_laws();
-    slot_laws()
+    slot_laws();
+    telling_laws();
 }
 
 /// What each status says of scripts of two statements, worked by hand: with Done both texts are
@@ -78,4 +81,6 @@ pub fn headline_laws()
 /// runs.
 pub fn worked_statuses()
     ensures { WorkedStatuses }
-{}
+{
+    telling_laws();
+}

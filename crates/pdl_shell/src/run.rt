@@ -1,5 +1,6 @@
 //! The call that runs a script.
 ghost use Rattle.std.specs.Prelude.{◌≡◌, ◌≢◌, ℕ, ◌+◌, ◌<◌, ◌≤◌, List, [], length, map, Bool, true, false, Option, Some, None, OnOk, OnErr};
+ghost use Rattle.std.specs.List.Sorted.{IsStrictlyIncreasing};
 ghost use Rattle.std.specs.Io.KnownBytes.{Appends};
 ghost use Rattle.std.specs.String.{string_bytes};
 ghost use Rattle.pdl_io.specs.Counts.{HasCause};
@@ -26,7 +27,7 @@ use crate::words::{Command, read_words};
 use pdl_buf::{Steps, new_steps};
 use pdl_io::{Failed, Sink, Source, write_all};
 use pdl_machine::run_laws;
-use pdl_watch::{Watcher, slot_laws};
+use pdl_watch::{Watcher, slot_laws, telling_laws};
 use std::alloc::Global;
 use std::marker::Brand;
 use std::sync::ledger::{Blank, Ledger};
@@ -142,6 +143,7 @@ pub(crate) fn run_script<S: Source, K: Sink, W: Watcher>(
         (outlets K.taken K.is_flushed K.faults sink.old (slots_by W.seen watchers.old.items)))
         (outside S.left S.faults source.new
         (outlets K.taken K.is_flushed K.faults sink.new (slots_by W.seen watchers.new.items))) }
+    ensures rising { IsStrictlyIncreasing refused.new }
     ensures at_most { TakesAtMost (script_limit + 1) (S.left source.old) (S.left source.new) }
     ensures reason { HasReason result
         (outside S.left S.faults source.old
@@ -151,6 +153,7 @@ pub(crate) fn run_script<S: Source, K: Sink, W: Watcher>(
     ensures flushed { CameToItsEnd result → Says (K.is_flushed sink.new) true }
     ensures tells { KeepsTelling (K.is_flushed sink.old) (K.is_flushed sink.new) }
 {
+    run_laws();
     let blank = Blank::new(1);
     let ran = run_parts::<S, K, W, Brand>(
         alloc, keep_going, source, sink, watchers, refused, blank,
@@ -192,6 +195,7 @@ fn usage<K: Sink>(sink: &mut K) -> Status
     ensures tells { KeepsTelling (K.is_flushed sink.old) (K.is_flushed sink.new) }
 {
     slot_laws();
+    telling_laws();
     match write_usage(sink) {
         Ok(()) => Status::Usage,
         Err(_) => Status::SinkFault,
@@ -226,8 +230,9 @@ fn usage<K: Sink>(sink: &mut K) -> Status
 /// What is written and told and the status are those of the ending that the words ask for, with the
 /// statements in `refused` refused, to all of which the run came; where the call stops short, a
 /// prefix is written and a front is told (`model`), and where the source fails, just what the
-/// statements print and tell that were whole by then, with just those in `refused` that the run met
-/// (`reads`). A fault of the source, the sink or a watcher is answered only where its count rose in
+/// statements print and tell that were whole by then, with just those in `refused` that the run met;
+/// whatever the status, the statements in `refused` are ones of the bytes taken (`reads`), and their
+/// numbers rise (`rising`). A fault of the source, the sink or a watcher is answered only where its count rose in
 /// this call (`reason`). It takes no memory where the words are no spelling.
 ///
 /// No clause says that the call ends at once after such a fault, nor that it is only outside of a
@@ -266,6 +271,7 @@ pub fn run_shell<S: Source, K: Sink>(
         (slots_by (λ b. seen b) watchers.old.items)))
         (outside S.left S.faults source.new (outlets K.taken K.is_flushed K.faults sink.new
         (slots_by (λ b. seen b) watchers.new.items))) }
+    ensures rising { IsStrictlyIncreasing refused.new }
     ensures at_most { TakesAtMost (script_limit + 1) (S.left source.old) (S.left source.new) }
     ensures reason { HasReason result
         (outside S.left S.faults source.old (outlets K.taken K.is_flushed K.faults sink.old

@@ -21,7 +21,7 @@ use crate::status::Status;
 use crate::stop::{Stop, status_after};
 use pdl_io::{CountSink, MemSource, Sink};
 use pdl_lex::joining_laws;
-use pdl_watch::{Recorder, slot_laws};
+use pdl_watch::{Recorder, slot_laws, telling_laws};
 use std::alloc::{AllocError, Global};
 
 // The most bytes of the generated script that a read gives: as many as are asked for.
@@ -123,6 +123,7 @@ pub(crate) fn summarize<K: Sink>(
     ensures tells { KeepsTelling (K.is_flushed sink.old) (K.is_flushed sink.new) }
 {
     slot_laws();
+    telling_laws();
     match write_summary(alloc, keep_going, rounds, sink) {
         Ok(()) => Status::Done,
         Err(stop) => status_after(Err(stop), &Refused::new()),

@@ -45,7 +45,7 @@ never_bad false false true d e = cc
 never_bad false false false true e = cc
 never_bad false false false false e = cc
 
--- a refusal is none of want of memory
+-- no refusal of what is written is `NoMemory`
 never_memory : (a b c d : Bool) → (if a then Some TooManyNames else (if b then Some TwiceNamed else (if c then Some NoOutput else (if d then Some OpenSize else None)))) ≡ Some NoMemory → ⊥
 never_memory true b c d e = cc
 never_memory false true c d e = cc

@@ -138,7 +138,7 @@ pub record IsRefused (text : List ℕ) (fault : SigFault) : Type 0 where
   pub spelled : Args args text
   pub first : refusal_of args ≡ Some fault
 
--- why a fault comes; want of memory may come at any text
+-- why a fault comes; `NoMemory` may come at any text
 abbrev pub IsFaultOf : List ℕ → SigFault → Type 0
 IsFaultOf text BadText = (args : List WrittenArg) → ¬ Args args text
 IsFaultOf text NoMemory = Unit {0}

@@ -173,7 +173,7 @@ solution args given sizes broadcast = record {
   shapes = shapes sizes broadcast args given;
 }
 
--- why the arguments of a call don't resolve, in the order of the checks; want of memory is none of
+-- why the arguments of a call don't resolve, in the order of the checks; `NoMemory` is none of
 -- the reasons
 pub data Unresolved : Type 0 where
   arg_count : Unresolved
@@ -224,7 +224,7 @@ reason_named TooLarge = Some too_large
 reason_named TooMuchWork = Some too_much_work
 reason_named NoMemory = None
 
--- the answer is this one; want of memory says nothing
+-- the answer is this one; `NoMemory` says nothing
 abbrev pub Answers : Result Resolved Unresolved → Result Resolved ResolveFault → Type 0
 Answers wanted (Ok resolved) = Ok resolved ≡ wanted
 Answers wanted (Err fault) = IfSome (reason_named fault) (λ reason. Err reason ≡ wanted)

@@ -85,7 +85,7 @@ pub struct Signature {
 }
 
 /// Why a text gives no signature. Where several hold, the first one of this list is answered; only
-/// want of memory may be answered at any text.
+/// `NoMemory` may be answered at any text.
 #[derive(Clone, Copy, PartialEq, Eq, Debug)]
 pub enum SigFault {
     /// The text isn't of the form of a signature, or has a word or a number that isn't allowed
@@ -139,7 +139,7 @@ pub struct Resolved {
 }
 
 /// Why the arguments of a call don't resolve. Where several hold, the first one of this list is
-/// answered; only want of memory may be answered at any call.
+/// answered; only `NoMemory` may be answered at any call.
 #[derive(Clone, Copy, PartialEq, Eq, Debug)]
 pub enum ResolveFault {
     /// The number of given arguments isn't that of the inputs and `[io]` arguments.

@@ -35,7 +35,7 @@ pub enum SliceArg {
 }
 
 /// Why a text gives no arguments. Where several hold, the first one of this list is answered;
-/// only want of memory may be answered at any text.
+/// only `NoMemory` may be answered at any text.
 #[derive(Clone, Copy, Debug, PartialEq, Eq)]
 pub enum SliceFault {
     /// The text isn't a slice text. The longest prefix that some slice text

@@ -52,7 +52,8 @@ pub data Kind : Type 0 where
 
 -- the further operators of level `suc l`, at most k of them, where `inner` reads
 -- what stands between them
-unfoldable pub chain_at : (List Lexeme → Read Tree) → ℕ → ℕ → Tree → List Lexeme → Read Tree
+unfoldable pub chain_at : (inner : List Lexeme → Read Tree) → (l most : ℕ) → (first : Tree) →
+    List Lexeme → Read Tree
 chain_at inner l zero t ts = Some (t, ts)
 chain_at inner l (suc k) t ts =
     choose (Some (t, ts))
@@ -141,7 +142,7 @@ module _ (source : List ℕ) (f : Kind → List Lexeme → Read Tree) where
       (grown_at l t ts)
 
 -- an expression in which at most n parts are open at once
-unfoldable pub reader : List ℕ → ℕ → Kind → List Lexeme → Read Tree
+unfoldable pub reader : (source : List ℕ) → (most : ℕ) → Kind → List Lexeme → Read Tree
 reader source zero kind ts = None
 reader source (suc n) expression ts = level_at source (reader source n) 7 ts
 reader source (suc n) operand ts = unary_at source (reader source n) ts

@@ -27,7 +27,7 @@ checked_lexemes source lexemes =
 unfoldable pub parsed : List ℕ → List Token → Result StatementTree NoStatement
 parsed text tokens = checked_lexemes text (lexemes_of text tokens)
 
--- the answer is this one; want of memory says nothing
+-- the answer is this one; `NoMemory` says nothing
 abbrev pub IsParsed : Result StatementTree NoStatement → Result Statement ParseFault → Type 0
 IsParsed wanted (Ok s) = wanted ≡ Ok (statement_of s)
 IsParsed wanted (Err fault) = IfSome (refusal_of fault) (λ refusal. wanted ≡ Err refusal)

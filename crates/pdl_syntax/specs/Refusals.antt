@@ -37,7 +37,7 @@ pub record IsRagged (source : List ℕ) (lexemes : List Lexeme) : Type 0 where
   pub spells : SpellsStatement source statement lexemes
   pub ragged : HoldsRagged lexemes
 
--- why lexemes are no statement, in the order of the checks; want of memory is none of the reasons
+-- why lexemes are no statement, in the order of the checks; `NoMemory` is none of the reasons
 pub data NoStatement : Type 0 where
   too_deep : NoStatement
   number_too_large : NoStatement
@@ -60,7 +60,7 @@ Means source lexemes (Err number_too_large) = Large lexemes
 Means source lexemes (Err not_spelled) = Unspelled source lexemes
 Means source lexemes (Err ragged_list) = IsRagged source lexemes
 
--- the answer is what they mean; want of memory says nothing
+-- the answer is what they mean; `NoMemory` says nothing
 abbrev pub Answers : List ℕ → List Lexeme → Result Statement ParseFault → Type 0
 Answers source lexemes (Ok s) = Means source lexemes (Ok (statement_of s))
 Answers source lexemes (Err fault) =

@@ -17,7 +17,7 @@ use Rattle.pdl_world.proofs.Breaks.{live_has, look_itself, path_root, path_view,
 use Rattle.pdl_world.proofs.Cuts.{head_held, held_view}
 use Rattle.pdl_world.proofs.Severs.{new_elements}
 use Rattle.pdl_world.proofs.Sweeps.{has_below, parent_older}
-use Rattle.pdl_world.specs.BreakLaws.{BelowLaws, IsBelow}
+use Rattle.pdl_world.specs.BreakLaws.{BelowLaws, IsDerivedBelow}
 
 pub looks_follow : (w : World) (v : ℕ) (new : ArrayDef) (k p : ℕ) (t : Trans) → IsSound w → Has w k (view p t) → (k ≡ v → ⊥) → look (replaced w v new) k ≡ option_and_then (through t) (look (replaced w v new) p)
 looks_follow [] v new k p t s h n = absurd h
@@ -70,7 +70,7 @@ held_at : (w : World) (v : ℕ) (d : ArrayDef) → IsSound w → Has w v d → i
 held_at w v (root ty ds es) s h = ap (λ ps. is_listed ps v) (path_at_root w v ty ds es s h) ∙ head_held v []
 held_at w v (view p t) s h = ap (λ ps. is_listed ps v) (path_at w v p t s h) ∙ head_held v (path w p)
 
-begins_by : (w : World) (v : ℕ) (ds : List ℕ) (o : Option Look) → look w v ≡ o → IsSomeAnd o (λ l. Unit {0}) → is_listed (path w v) v ≡ true → IsBelow w v ds v ds
+begins_by : (w : World) (v : ℕ) (ds : List ℕ) (o : Option Look) → look w v ≡ o → IsSomeAnd o (λ l. Unit {0}) → is_listed (path w v) v ≡ true → IsDerivedBelow w v ds v ds
 begins_by w v ds None e l h = absurd l
 begins_by w v ds (Some m) e l h = record {
   reaches = h;
@@ -79,13 +79,13 @@ begins_by w v ds (Some m) e l h = record {
   dims_are = refl;
 }
 
-begins : (w : World) (v : ℕ) (ds : List ℕ) → IsSound w → IsLive w v → IsBelow w v ds v ds
+begins : (w : World) (v : ℕ) (ds : List ℕ) → IsSound w → IsLive w v → IsDerivedBelow w v ds v ds
 begins w v ds s l = (let q = live_has w v l in begins_by w v ds (look w v) refl l (held_at w v q.0 s q.1))
 
 abbrev beneath : Trans → Look → List ℕ → Look
 beneath t m fs = record { root = m.root; ty = m.ty; dims = fs; places = through_places (places_of fs m.dims (source t m.dims)) m.places }
 
-goes_on : (w : World) (v : ℕ) (ds : List ℕ) (k p : ℕ) (t : Trans) (es fs : List ℕ) → IsSound w → Has w k (view p t) → (k ≡ v → ⊥) → IsBelow w v ds p es → child_dims t es ≡ Ok fs → IsBelow w v ds k fs
+goes_on : (w : World) (v : ℕ) (ds : List ℕ) (k p : ℕ) (t : Trans) (es fs : List ℕ) → IsSound w → Has w k (view p t) → (k ≡ v → ⊥) → IsDerivedBelow w v ds p es → child_dims t es ≡ Ok fs → IsDerivedBelow w v ds k fs
 goes_on w v ds k p t es fs s h n b e =
     let made : child_dims t b.seen.dims ≡ Ok fs = ap (child_dims t) b.dims_are ∙ e in
     record {

@@ -81,7 +81,7 @@ LooksFollow =
     → look (reshape w v ds) k ≡ option_and_then (through t) (look (reshape w v ds) p)
 
 -- the array is v or reaches it by parents, and has these dimensions in the new world
-pub record IsBelow (w : World) (v : ℕ) (ds : List ℕ) (k : ℕ) (dims : List ℕ) : Type 0 where
+pub record IsDerivedBelow (w : World) (v : ℕ) (ds : List ℕ) (k : ℕ) (dims : List ℕ) : Type 0 where
   pub reaches : is_listed (path w k) v ≡ true
   pub seen : Look
   pub look_is : look (reshape w v ds) k ≡ Some seen
@@ -91,14 +91,14 @@ pub record IsBelow (w : World) (v : ℕ) (ds : List ℕ) (k : ℕ) (dims : List 
 -- them is older
 pub record BelowLaws : Type 0 where
   pub begins :
-      (w : World) (v : ℕ) (ds : List ℕ) → IsSound w → IsLive w v → IsBelow w v ds v ds
+      (w : World) (v : ℕ) (ds : List ℕ) → IsSound w → IsLive w v → IsDerivedBelow w v ds v ds
   pub goes_on :
       (w : World) (v : ℕ) (ds : List ℕ) (k p : ℕ) (t : Trans) (es fs : List ℕ) → IsSound w
-      → Has w k (view p t) → k ≢ v → IsBelow w v ds p es → child_dims t es ≡ Ok fs
-      → IsBelow w v ds k fs
+      → Has w k (view p t) → k ≢ v → IsDerivedBelow w v ds p es → child_dims t es ≡ Ok fs
+      → IsDerivedBelow w v ds k fs
   pub breaks :
       (w : World) (v : ℕ) (ds : List ℕ) (k p : ℕ) (t : Trans) (es : List ℕ) (e : Refusal)
-      → IsSound w → Has w k (view p t) → k ≢ v → IsBelow w v ds p es → child_dims t es ≡ Err e
+      → IsSound w → Has w k (view p t) → k ≢ v → IsDerivedBelow w v ds p es → child_dims t es ≡ Err e
       → breaks w v ds ≡ true
   pub not_on :
       (w : World) (v k p : ℕ) (t : Trans) → IsSound w → Has w k (view p t) → k ≢ v

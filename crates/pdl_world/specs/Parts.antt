@@ -3,7 +3,7 @@ use Rattle.std.specs.Prelude.{◌≡◌, ℕ, ◌<◌, ℤ, List, drop, get_or, 
 use Rattle.pdl_shape.specs.Places.{write}
 use Rattle.pdl_world.specs.World.{World, Look, look, root_elements, set_elements}
 
-abbrev pub assign_part_through : World → Option Look → (first : ℕ) → List ℤ → World
+abbrev pub assign_part_through : World → Option Look → (first : ℕ) → (values : List ℤ) → World
 assign_part_through w None first vs = w
 assign_part_through w (Some l) first vs =
     set_elements w l.root (write (drop first l.places) vs (root_elements w l.root))

@@ -1,5 +1,5 @@
 -- Which worlds are sound.
-use Rattle.std.specs.Prelude.{◌≡◌, ◌<◌, ℕ, [], ◌∷◌, None, IsTrue, IsSomeAnd}
+use Rattle.std.specs.Prelude.{◌≡◌, ◌<◌, ℕ, List, [], ◌∷◌, None, IsTrue, IsSomeAnd}
 use Rattle.pdl_shape.specs.Shape.{IsDims}
 use Rattle.pdl_buf.specs.Made.{IsMade}
 use Rattle.pdl_world.specs.declared.Trans.{Trans}
@@ -7,10 +7,10 @@ use Rattle.pdl_world.specs.Formula.{is_well_formed}
 use Rattle.pdl_world.specs.Refused.{view_refusal}
 use Rattle.pdl_world.specs.World.{World, ArrayDef, root, view, look}
 
--- each number in the world is below this one
-abbrev pub NumbersBelow : ℕ → World → Type 0
+-- each of these numbers, as those of a world's arrays, is below n
+abbrev pub NumbersBelow : {A : Type 0} → (n : ℕ) → List (ℕ × A) → Type 0
 NumbersBelow n [] = Unit {0}
-NumbersBelow n ((k, d) ∷ w) = (k < n) × NumbersBelow n w
+NumbersBelow n ((k, a) ∷ rest) = (k < n) × NumbersBelow n rest
 
 -- the array is in the world
 abbrev pub IsLive : World → ℕ → Type 0

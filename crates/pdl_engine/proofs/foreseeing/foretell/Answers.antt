@@ -5,7 +5,7 @@ use Rattle.pdl_world.specs.World.{root_elements}
 use Rattle.pdl_nodes.specs.Placed.{in_order, placed_by}
 use Rattle.pdl_nodes.specs.Row.{Row}
 use Rattle.pdl_nodes.specs.Rows.{row_at}
-use Rattle.pdl_nodes.specs.Worlds.{IsRoot, places_of, world_of}
+use Rattle.pdl_nodes.specs.Worlds.{IsRoot, places_seen, world_of}
 use Rattle.pdl_engine.specs.declared.by_place.Written.TheVariants.{Image}
 use Rattle.pdl_engine.proofs.Foresights.{foretold, places_now, root_small}
 use Rattle.pdl_engine.proofs.Images.{image_tells, root_places}
@@ -24,9 +24,9 @@ returns-then-root-target c =
     let root : c.root-root.result ≡ (row_at rs v).root = c.root-root.ensures ∙ ap (λ (r : Row). r.root) c.node-node.ensures in
     let is : IsRoot rs v = (c.requires.target, sym root ∙ c.if-root-target.true) in
     let n : ℕ = size_of (row_at rs (row_at rs v).root).triple.dims in
-    foretold c.row_laws.ensures rs v c.args.values.now (record { root = c.root-root.result; written = Image c.in_ok-from_slice.field-0 }) (places_of rs v) c.requires.order c.requires.target
+    foretold c.row_laws.ensures rs v c.args.values.now (record { root = c.root-root.result; written = Image c.in_ok-from_slice.field-0 }) (places_seen rs v) c.requires.order c.requires.target
     root refl
-    (image_tells n c.in_ok-from_slice.field-0 (places_of rs v) c.args.values.now (root_elements (world_of rs) (row_at rs v).root)
+    (image_tells n c.in_ok-from_slice.field-0 (places_seen rs v) c.args.values.now (root_elements (world_of rs) (row_at rs v).root)
     (root_places c.row_laws.ensures rs v c.requires.order.still is ∙ ap (λ (r : ℕ). in_order (size_of (row_at rs r).triple.dims)) (sym is.1))
     c.in_ok-from_slice.ensures.items
     (c.requires.count ∙ ap (λ (r : ℕ). size_of (row_at rs r).triple.dims) (sym is.1))

@@ -1,5 +1,5 @@
 use Rattle.std.proofs.Common.{◌≡◌, ◌+◌, ◌≤◌, ◌∙◌, ap, sym, subst, arith, ℕ, Option}
-use Rattle.pdl_engine.specs.Loose.{IsListed}
+use Rattle.pdl_engine.specs.Loose.{listed_with}
 use Rattle.pdl_lemmas.specs.Results.{on_err}
 use Rattle.pdl_shape.specs.Shape.{size_of}
 use Rattle.pdl_numbers.specs.Typed.{TypedElements}
@@ -11,7 +11,7 @@ use Rattle.pdl_nodes.specs.Renewed.{CanRenew}
 use Rattle.pdl_nodes.specs.Worlds.{world_of}
 use Rattle.pdl_engine.proofs.Readied.{ready_then, IsFreshly, others_on, settled_on, only_ready, freshly, ready_steps, ready_fresh, below_ready}
 use Rattle.pdl_engine.proofs.Renews.{RenewFacts, can_reshape, was_renewed, reshaped_world, renewed_bases, renewed_fresh, renewed_settled, reshape_steps}
-use Rattle.pdl_engine.proofs.Tight.{children_alike}
+use Rattle.pdl_engine.proofs.Tight.{listed_alike}
 use Rattle.pdl_engine.proofs.severing.reshape_relaid.Goals as goal
 
 pub returns-in_err-refresh-clause-reshaped : goal.returns-in_err-refresh-clause-reshaped
@@ -27,8 +27,8 @@ returns-in_err-refresh-clause-counted g c =
     ready_steps c.row_laws.ensures c.args.table.now c.settle.new.table c.args.id c.settle.new.steps c.refresh.new.steps c.args.steps.now c.settle.ensures.settled c.settle.ensures.counted c.refresh.ensures.counted in
     omega (arith, l)
 
-pub first_copied-requires-clause-fresh : goal.first_copied-requires-clause-fresh
-first_copied-requires-clause-fresh g c = c.row_laws.ensures.seen.path_first c.refresh.new.table c.args.id c.refresh.ensures.kept.order.still (c.refresh.ensures.kept.alike.has_is c.args.id ∙ c.settle.ensures.settled.ready.alike.has_is c.args.id ∙ c.requires.live) c.in_ok-refresh.ensures.fresh
+pub copied_and_listed-requires-clause-fresh : goal.copied_and_listed-requires-clause-fresh
+copied_and_listed-requires-clause-fresh g c = c.row_laws.ensures.seen.path_first c.refresh.new.table c.args.id c.refresh.ensures.kept.order.still (c.refresh.ensures.kept.alike.has_is c.args.id ∙ c.settle.ensures.settled.ready.alike.has_is c.args.id ∙ c.requires.live) c.in_ok-refresh.ensures.fresh
 
 pub returns-in_err-kept-clause-reshaped : goal.returns-in_err-kept-clause-reshaped
 returns-in_err-kept-clause-reshaped g c = only_ready c.row_laws.ensures c.args.table.now c.refresh.new.table c.args.id c.requires.order c.requires.sized (ready_then c.row_laws.ensures c.args.table.now c.settle.new.table c.refresh.new.table c.settle.ensures.settled.ready c.refresh.ensures.kept)
@@ -40,8 +40,8 @@ returns-in_err-kept-clause-stay g c = on_err c.from_residual-in_err-kept.result 
 pub returns-in_err-kept-clause-counted : goal.returns-in_err-kept-clause-counted
 returns-in_err-kept-clause-counted g c =
     let k : c.elements_of-count.result ≡ size_of c.args.dims.now = c.elements_of-count.ensures.count in
-    subst (λ n. c.first_copied.new.steps ≤ c.args.steps.now + (outdated c.args.table.now c.args.id + waiting_size c.args.table.now (waiting_of c.args.table.now c.args.id) + n)) k
-    (reshape_steps c.args.table.now c.args.id c.refresh.new.steps c.first_copied.new.steps c.args.steps.now c.elements_of-count.result (ready_steps c.row_laws.ensures c.args.table.now c.settle.new.table c.args.id c.settle.new.steps c.refresh.new.steps c.args.steps.now c.settle.ensures.settled c.settle.ensures.counted c.refresh.ensures.counted) c.first_copied.ensures.counted)
+    subst (λ n. c.copied_and_listed.new.steps ≤ c.args.steps.now + (outdated c.args.table.now c.args.id + waiting_size c.args.table.now (waiting_of c.args.table.now c.args.id) + n)) k
+    (reshape_steps c.args.table.now c.args.id c.refresh.new.steps c.copied_and_listed.new.steps c.args.steps.now c.elements_of-count.result (ready_steps c.row_laws.ensures c.args.table.now c.settle.new.table c.args.id c.settle.new.steps c.refresh.new.steps c.args.steps.now c.settle.ensures.settled c.settle.ensures.counted c.refresh.ensures.counted) c.copied_and_listed.ensures.counted)
 
 pub returns-clause-reshaped : goal.returns-clause-reshaped
 returns-clause-reshaped g c =
@@ -98,8 +98,8 @@ returns-clause-fresh g c =
 pub returns-clause-counted : goal.returns-clause-counted
 returns-clause-counted g c =
     let k : c.elements_of-count.result ≡ size_of c.args.dims.now = c.elements_of-count.ensures.count in
-    subst (λ n. c.first_copied.new.steps ≤ c.args.steps.now + (outdated c.args.table.now c.args.id + waiting_size c.args.table.now (waiting_of c.args.table.now c.args.id) + n)) k
-    (reshape_steps c.args.table.now c.args.id c.refresh.new.steps c.first_copied.new.steps c.args.steps.now c.elements_of-count.result (ready_steps c.row_laws.ensures c.args.table.now c.settle.new.table c.args.id c.settle.new.steps c.refresh.new.steps c.args.steps.now c.settle.ensures.settled c.settle.ensures.counted c.refresh.ensures.counted) c.first_copied.ensures.counted)
+    subst (λ n. c.copied_and_listed.new.steps ≤ c.args.steps.now + (outdated c.args.table.now c.args.id + waiting_size c.args.table.now (waiting_of c.args.table.now c.args.id) + n)) k
+    (reshape_steps c.args.table.now c.args.id c.refresh.new.steps c.copied_and_listed.new.steps c.args.steps.now c.elements_of-count.result (ready_steps c.row_laws.ensures c.args.table.now c.settle.new.table c.args.id c.settle.new.steps c.refresh.new.steps c.args.steps.now c.settle.ensures.settled c.settle.ensures.counted c.refresh.ensures.counted) c.copied_and_listed.ensures.counted)
 
 pub returns-in_err-refresh-clause-settled : goal.returns-in_err-refresh-clause-settled
 returns-in_err-refresh-clause-settled g c = settled_on c.args.table.now c.settle.new.table c.refresh.new.table c.args.id c.settle.ensures.settled c.refresh.ensures.kept
@@ -182,21 +182,15 @@ renew-requires-clause-small g c = below_ready c.args.table.now c.refresh.new.tab
 pub renew-requires-clause-same_type : goal.renew-requires-clause-same_type
 renew-requires-clause-same_type g c = ap (λ (k : TypedElements). k.ty) c.in_ok-kept.ensures.value
 
-pub returns-clause-parent : goal.returns-clause-parent
-returns-clause-parent g c = λ p e u m. c.in_ok-kept.ensures.parent p (c.refresh.ensures.kept.alike.parent_is c.args.id ∙ c.settle.ensures.settled.ready.alike.parent_is c.args.id ∙ e) u
-    (subst (λ k. k ≤ 1) (sym (children_alike c.args.table.now c.refresh.new.table p (c.refresh.ensures.kept.alike.shape_is ∙ c.settle.ensures.settled.ready.alike.shape_is))) m)
-
 pub refresh-requires-clause-live : goal.refresh-requires-clause-live
 refresh-requires-clause-live g c = c.settle.ensures.settled.ready.alike.has_is c.args.id ∙ c.requires.live
 
-pub first_copied-requires-clause-live : goal.first_copied-requires-clause-live
-first_copied-requires-clause-live g c = c.refresh.ensures.kept.alike.has_is c.args.id ∙ c.settle.ensures.settled.ready.alike.has_is c.args.id ∙ c.requires.live
+pub copied_and_listed-requires-clause-live : goal.copied_and_listed-requires-clause-live
+copied_and_listed-requires-clause-live g c = c.refresh.ensures.kept.alike.has_is c.args.id ∙ c.settle.ensures.settled.ready.alike.has_is c.args.id ∙ c.requires.live
 
-pub first_copied-requires-clause-order : goal.first_copied-requires-clause-order
-first_copied-requires-clause-order g c = c.refresh.ensures.kept.order
+pub copied_and_listed-requires-clause-order : goal.copied_and_listed-requires-clause-order
+copied_and_listed-requires-clause-order g c = c.refresh.ensures.kept.order
 
 pub returns-clause-listed : goal.returns-clause-listed
-returns-clause-listed g c = subst (λ (o : Option ℕ). IsListed c.args.loose.now.items c.first_copied.new.loose.items o) (c.refresh.ensures.kept.alike.parent_is c.args.id ∙ c.settle.ensures.settled.ready.alike.parent_is c.args.id) c.first_copied.ensures.listed
-
-pub returns-in_err-kept-clause-listed : goal.returns-in_err-kept-clause-listed
-returns-in_err-kept-clause-listed g c = subst (λ (o : Option ℕ). IsListed c.args.loose.now.items c.first_copied.new.loose.items o) (c.refresh.ensures.kept.alike.parent_is c.args.id ∙ c.settle.ensures.settled.ready.alike.parent_is c.args.id) c.first_copied.ensures.listed
+returns-clause-listed g c = c.in_ok-kept.ensures.listed ∙ listed_alike c.args.table.now c.refresh.new.table c.args.holds.now c.args.loose.now.items _ (c.refresh.ensures.kept.alike.shape_is ∙ c.settle.ensures.settled.ready.alike.shape_is)
+    ∙ ap (listed_with c.args.table.now c.args.holds.now c.args.loose.now.items) (c.refresh.ensures.kept.alike.parent_is c.args.id ∙ c.settle.ensures.settled.ready.alike.parent_is c.args.id)

@@ -9,10 +9,10 @@ use Rattle.pdl_nodes.specs.Outcomes.{waiting_of, waiting_size}
 use Rattle.pdl_pull.specs.Outdated.{outdated}
 use Rattle.pdl_nodes.specs.Row.{Row}
 use Rattle.pdl_nodes.specs.Worlds.{world_of}
-use Rattle.pdl_engine.specs.Loose.{IsListed}
+use Rattle.pdl_engine.specs.Loose.{listed_with}
 use Rattle.pdl_engine.proofs.Readied.{ready_then, IsFreshly, others_on, settled_on, only_ready, freshly, ready_steps, below_ready, ready_fresh}
 use Rattle.pdl_engine.proofs.Renews.{RenewFacts, first_all, root_uncut, renewed_settled, all_steps, renewed_fresh, can_cut, was_renewed, cut_world}
-use Rattle.pdl_engine.proofs.Tight.{children_alike}
+use Rattle.pdl_engine.proofs.Tight.{listed_alike, none_listed}
 use Rattle.pdl_engine.proofs.severing.sever.Goals as goal
 
 pub returns-then-root-id-clause-ok : goal.returns-then-root-id-clause-ok
@@ -28,8 +28,8 @@ returns-in_err-refresh-clause-counted g c =
     ready_steps c.row_laws.ensures c.args.table.now c.settle.new.table c.args.id c.settle.new.steps c.refresh.new.steps c.args.steps.now c.settle.ensures.settled c.settle.ensures.counted c.refresh.ensures.counted in
     omega (arith, l)
 
-pub first_copied-requires-clause-fresh : goal.first_copied-requires-clause-fresh
-first_copied-requires-clause-fresh g c =
+pub copied_and_listed-requires-clause-fresh : goal.copied_and_listed-requires-clause-fresh
+copied_and_listed-requires-clause-fresh g c =
     c.row_laws.ensures.seen.path_first c.refresh.new.table c.args.id c.refresh.ensures.kept.order.still (c.refresh.ensures.kept.alike.has_is c.args.id ∙ c.settle.ensures.settled.ready.alike.has_is c.args.id ∙ c.requires.live) c.in_ok-refresh.ensures.fresh
 
 pub returns-in_err-kept-clause-severed : goal.returns-in_err-kept-clause-severed
@@ -38,8 +38,8 @@ returns-in_err-kept-clause-severed g c = only_ready c.row_laws.ensures c.args.ta
 
 pub returns-in_err-kept-clause-counted : goal.returns-in_err-kept-clause-counted
 returns-in_err-kept-clause-counted g c =
-    all_steps c.args.table.now c.settle.new.table c.refresh.new.table c.args.id c.refresh.new.steps c.first_copied.new.steps c.args.steps.now c.settle.ensures.settled c.refresh.ensures.kept
-    (ready_steps c.row_laws.ensures c.args.table.now c.settle.new.table c.args.id c.settle.new.steps c.refresh.new.steps c.args.steps.now c.settle.ensures.settled c.settle.ensures.counted c.refresh.ensures.counted) (subst (λ n. c.first_copied.new.steps ≤ c.refresh.new.steps + n) (c.elements_of-count.ensures.count ∙ ap size_of (c.copy_dims-dims.ensures ∙ ap (λ (t : Triple). t.dims) (c.behind-node.view_is ∙ c.triple.ensures ∙ ap (λ (r : Row). r.triple) c.node-2.ensures))) c.first_copied.ensures.counted)
+    all_steps c.args.table.now c.settle.new.table c.refresh.new.table c.args.id c.refresh.new.steps c.copied_and_listed.new.steps c.args.steps.now c.settle.ensures.settled c.refresh.ensures.kept
+    (ready_steps c.row_laws.ensures c.args.table.now c.settle.new.table c.args.id c.settle.new.steps c.refresh.new.steps c.args.steps.now c.settle.ensures.settled c.settle.ensures.counted c.refresh.ensures.counted) (subst (λ n. c.copied_and_listed.new.steps ≤ c.refresh.new.steps + n) (c.elements_of-count.ensures.count ∙ ap size_of (c.copy_dims-dims.ensures ∙ ap (λ (t : Triple). t.dims) (c.behind-node.view_is ∙ c.triple.ensures ∙ ap (λ (r : Row). r.triple) c.node-2.ensures))) c.copied_and_listed.ensures.counted)
 
 pub renew-requires-clause-can : goal.renew-requires-clause-can
 renew-requires-clause-can g c =
@@ -129,8 +129,8 @@ returns-clause-ok g c =
 
 pub returns-clause-counted : goal.returns-clause-counted
 returns-clause-counted g c =
-    all_steps c.args.table.now c.settle.new.table c.refresh.new.table c.args.id c.refresh.new.steps c.first_copied.new.steps c.args.steps.now c.settle.ensures.settled c.refresh.ensures.kept
-    (ready_steps c.row_laws.ensures c.args.table.now c.settle.new.table c.args.id c.settle.new.steps c.refresh.new.steps c.args.steps.now c.settle.ensures.settled c.settle.ensures.counted c.refresh.ensures.counted) (subst (λ n. c.first_copied.new.steps ≤ c.refresh.new.steps + n) (c.elements_of-count.ensures.count ∙ ap size_of (c.copy_dims-dims.ensures ∙ ap (λ (t : Triple). t.dims) (c.behind-node.view_is ∙ c.triple.ensures ∙ ap (λ (r : Row). r.triple) c.node-2.ensures))) c.first_copied.ensures.counted)
+    all_steps c.args.table.now c.settle.new.table c.refresh.new.table c.args.id c.refresh.new.steps c.copied_and_listed.new.steps c.args.steps.now c.settle.ensures.settled c.refresh.ensures.kept
+    (ready_steps c.row_laws.ensures c.args.table.now c.settle.new.table c.args.id c.settle.new.steps c.refresh.new.steps c.args.steps.now c.settle.ensures.settled c.settle.ensures.counted c.refresh.ensures.counted) (subst (λ n. c.copied_and_listed.new.steps ≤ c.refresh.new.steps + n) (c.elements_of-count.ensures.count ∙ ap size_of (c.copy_dims-dims.ensures ∙ ap (λ (t : Triple). t.dims) (c.behind-node.view_is ∙ c.triple.ensures ∙ ap (λ (r : Row). r.triple) c.node-2.ensures))) c.copied_and_listed.ensures.counted)
 
 pub returns-in_err-refresh-clause-stay : goal.returns-in_err-refresh-clause-stay
 returns-in_err-refresh-clause-stay g c = on_err c.from_residual.result (ready_fresh c.args.table.now c.refresh.new.table (ready_then c.row_laws.ensures c.args.table.now c.settle.new.table c.refresh.new.table c.settle.ensures.settled.ready c.refresh.ensures.kept))
@@ -200,24 +200,14 @@ returns-clause-spent g c = λ r. absurd (c.if-root-id.false (c.root.ensures ∙ 
 pub returns-then-root-id-clause-settled : goal.returns-then-root-id-clause-settled
 returns-then-root-id-clause-settled g c = λ n. absurd (n (ap (λ (r : Row). r.root) (sym c.node.ensures) ∙ sym c.root.ensures ∙ c.if-root-id.true))
 
-pub returns-clause-parent : goal.returns-clause-parent
-returns-clause-parent g c = λ n p e u m. c.in_ok-kept.ensures.parent p (c.refresh.ensures.kept.alike.parent_is c.args.id ∙ c.settle.ensures.settled.ready.alike.parent_is c.args.id ∙ e) u
-    (subst (λ k. k ≤ 1) (sym (children_alike c.args.table.now c.refresh.new.table p (c.refresh.ensures.kept.alike.shape_is ∙ c.settle.ensures.settled.ready.alike.shape_is))) m)
-
 pub refresh-requires-clause-live : goal.refresh-requires-clause-live
 refresh-requires-clause-live g c = c.settle.ensures.settled.ready.alike.has_is c.args.id ∙ c.requires.live
 
-pub first_copied-requires-clause-live : goal.first_copied-requires-clause-live
-first_copied-requires-clause-live g c = c.refresh.ensures.kept.alike.has_is c.args.id ∙ c.settle.ensures.settled.ready.alike.has_is c.args.id ∙ c.requires.live
+pub copied_and_listed-requires-clause-live : goal.copied_and_listed-requires-clause-live
+copied_and_listed-requires-clause-live g c = c.refresh.ensures.kept.alike.has_is c.args.id ∙ c.settle.ensures.settled.ready.alike.has_is c.args.id ∙ c.requires.live
 
-pub first_copied-requires-clause-order : goal.first_copied-requires-clause-order
-first_copied-requires-clause-order g c = c.refresh.ensures.kept.order
-
-pub returns-clause-listed : goal.returns-clause-listed
-returns-clause-listed g c = subst (λ (o : Option ℕ). IsListed c.args.loose.now.items c.first_copied.new.loose.items o) (c.refresh.ensures.kept.alike.parent_is c.args.id ∙ c.settle.ensures.settled.ready.alike.parent_is c.args.id) c.first_copied.ensures.listed
-
-pub returns-in_err-kept-clause-listed : goal.returns-in_err-kept-clause-listed
-returns-in_err-kept-clause-listed g c = subst (λ (o : Option ℕ). IsListed c.args.loose.now.items c.first_copied.new.loose.items o) (c.refresh.ensures.kept.alike.parent_is c.args.id ∙ c.settle.ensures.settled.ready.alike.parent_is c.args.id) c.first_copied.ensures.listed
+pub copied_and_listed-requires-clause-order : goal.copied_and_listed-requires-clause-order
+copied_and_listed-requires-clause-order g c = c.refresh.ensures.kept.order
 
 pub renew-requires-clause-same_type : goal.renew-requires-clause-same_type
 renew-requires-clause-same_type g c = ap (λ (k : TypedElements). k.ty) c.in_ok-kept.ensures.value
@@ -234,15 +224,6 @@ returns-then-root-id-clause-severed g c = record {
   waits = λ u h n. refl;
 }
 
-pub returns-then-root-id-clause-listed : goal.returns-then-root-id-clause-listed
-returns-then-root-id-clause-listed g c = record { stays = λ v h. h; only = λ v y n. (let z : true ≡ false = sym y ∙ n in absurd (cc)) }
-
-pub returns-in_err-refresh-clause-listed : goal.returns-in_err-refresh-clause-listed
-returns-in_err-refresh-clause-listed g c = record { stays = λ v h. h; only = λ v y n. (let z : true ≡ false = sym y ∙ n in absurd (cc)) }
-
-pub returns-then-root-id-clause-parent : goal.returns-then-root-id-clause-parent
-returns-then-root-id-clause-parent g c = λ n. absurd (n (ap (λ (r : Row). r.root) (sym c.node.ensures) ∙ sym c.root.ensures ∙ c.if-root-id.true))
-
 pub returns-in_err-refresh-clause-done : goal.returns-in_err-refresh-clause-done
 returns-in_err-refresh-clause-done g c = λ r. absurd (c.if-root-id.false (c.root.ensures ∙ ap (λ (x : Row). x.root) c.node.ensures ∙ r))
 
@@ -254,3 +235,10 @@ returns-in_err-refresh-clause-err g c = on_err c.from_residual.result (c.refresh
 
 pub returns-in_err-kept-clause-err : goal.returns-in_err-kept-clause-err
 returns-in_err-kept-clause-err g c = on_err c.from_residual-in_err-kept.result (c.refresh.ensures.kept.world ∙ c.settle.ensures.settled.ready.world)
+
+pub returns-clause-listed : goal.returns-clause-listed
+returns-clause-listed g c = c.in_ok-kept.ensures.listed ∙ listed_alike c.args.table.now c.refresh.new.table c.args.holds.now c.args.loose.now.items _ (c.refresh.ensures.kept.alike.shape_is ∙ c.settle.ensures.settled.ready.alike.shape_is)
+    ∙ ap (listed_with c.args.table.now c.args.holds.now c.args.loose.now.items) (c.refresh.ensures.kept.alike.parent_is c.args.id ∙ c.settle.ensures.settled.ready.alike.parent_is c.args.id)
+
+pub returns-then-root-id-clause-listed : goal.returns-then-root-id-clause-listed
+returns-then-root-id-clause-listed g c = none_listed c.row_laws.ensures c.args.table.now c.args.holds.now c.args.loose.now.items c.args.id c.requires.order.still c.requires.live (ap (λ (r : Row). r.root) (sym c.node.ensures) ∙ sym c.root.ensures ∙ c.if-root-id.true)

@@ -7,7 +7,7 @@ use Rattle.pdl_numbers.specs.Typed.{TypedElements}
 use Rattle.pdl_nodes.specs.Families.{has_repeats}
 use Rattle.pdl_nodes.specs.Row.{Row}
 use Rattle.pdl_nodes.specs.Rows.{row_at}
-use Rattle.pdl_nodes.specs.Worlds.{places_of}
+use Rattle.pdl_nodes.specs.Worlds.{places_seen}
 use Rattle.pdl_pull.proofs.Fills.{is_filled}
 use Rattle.pdl_pull.proofs.Untouched.{filled_only}
 use Rattle.pdl_pull.proofs.filling.fill_first.Goals as goal
@@ -15,7 +15,7 @@ use Rattle.pdl_pull.proofs.filling.fill_first.Goals as goal
 pub has_twice-requires : goal.has_twice-requires
 has_twice-requires g c =
     let n : size_of (row_at c.args.table.now (row_at c.args.table.now c.args.id).root).triple.dims ≡ c.elements_of-count.result = sym (c.elements_of-count.ensures.count ∙ ap (λ (t : Triple). size_of t.dims) (c.behind-root.view_is ∙ c.triple.ensures ∙ ap (λ (r : Row). r.triple) c.node-root.ensures) ∙ ap (λ x. size_of (row_at c.args.table.now x).triple.dims) (c.root.ensures ∙ ap (λ (r : Row). r.root) c.node-node.ensures)) in
-    subst (λ (ps : List (Option ℕ)). AllBelow c.elements_of-count.result ps) (sym (c.deref.ensures.value ∙ c.in_ok-places.ensures)) (subst (λ (x : ℕ). AllBelow x (places_of c.args.table.now c.args.id)) n (c.row_laws.ensures.seen.is_seen c.args.table.now c.requires.outdated.order.still c.args.id c.requires.outdated.live).within)
+    subst (λ (ps : List (Option ℕ)). AllBelow c.elements_of-count.result ps) (sym (c.deref.ensures.value ∙ c.in_ok-places.ensures)) (subst (λ (x : ℕ). AllBelow x (places_seen c.args.table.now c.args.id)) n (c.row_laws.ensures.seen.is_seen c.args.table.now c.requires.outdated.order.still c.args.id c.requires.outdated.live).within)
 
 pub returns-clause-counted : goal.returns-clause-counted
 returns-clause-counted g c =
@@ -24,11 +24,11 @@ returns-clause-counted g c =
 
 pub returns-clause-ok : goal.returns-clause-ok
 returns-clause-ok g c =
-    let p : c.deref-2.result.now ≡ places_of c.args.table.now c.args.id = c.deref-2.ensures.value ∙ c.in_ok-places.ensures in
-    let q : c.new.result ≡ places_of c.args.table.now c.args.id = c.new.ensures ∙ c.in_ok-places.ensures in
+    let p : c.deref-2.result.now ≡ places_seen c.args.table.now c.args.id = c.deref-2.ensures.value ∙ c.in_ok-places.ensures in
+    let q : c.new.result ≡ places_seen c.args.table.now c.args.id = c.new.ensures ∙ c.in_ok-places.ensures in
     let k : c.kept.result.now.elems ≡ (row_at c.args.table.now (row_at c.args.table.now c.args.id).root).kept = (ap (λ (k : TypedElements). k.elems) c.kept.ensures ∙ ap (λ (r : Row). r.kept) c.node-root.ensures ∙ ap (λ x. (row_at c.args.table.now x).kept) (c.root.ensures ∙ ap (λ (r : Row). r.root) c.node-node.ensures)) in
     on_ok_weaker c.fill.result (λ e. is_filled c.row_laws.ensures c.args.table.now c.fill.new.self (row_at c.args.table.now c.args.id).root c.args.id c.in_ok-kept.kept.elems c.in_ok-repeats.repeats (Some c.new.result) c.requires.outdated c.requires.known
-    (ap (λ (x : TypedElements). x.elems) c.in_ok-kept.ensures.ok ∙ ap (λ (ps : List (Option ℕ)). read ps c.kept.result.now.elems) p ∙ ap (read (places_of c.args.table.now c.args.id)) k)
+    (ap (λ (x : TypedElements). x.elems) c.in_ok-kept.ensures.ok ∙ ap (λ (ps : List (Option ℕ)). read ps c.kept.result.now.elems) p ∙ ap (read (places_seen c.args.table.now c.args.id)) k)
     (c.in_ok-repeats.ensures ∙ ap has_repeats (c.deref.ensures.value ∙ c.in_ok-places.ensures))
     (record { some = refl; is = λ ps e. some_is c.new.result ps e ∙ q })
     e) c.fill.ensures.ok where

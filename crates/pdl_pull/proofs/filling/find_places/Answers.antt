@@ -5,7 +5,7 @@ use Rattle.pdl_shape.specs.Triple.{Triple}
 use Rattle.pdl_nodes.specs.Placed.{placed_by}
 use Rattle.pdl_nodes.specs.Row.{Row, parent_from}
 use Rattle.pdl_nodes.specs.Rows.{row_at}
-use Rattle.pdl_nodes.specs.Worlds.{places_of}
+use Rattle.pdl_nodes.specs.Worlds.{places_seen}
 use Rattle.pdl_nodes.specs.declared.origin.Layout.{Layout}
 use Rattle.pdl_nodes.specs.declared.origin.Origin.TheVariants.{View}
 use Rattle.pdl_pull.proofs.Found.{found_places, over_known}
@@ -24,7 +24,7 @@ pub returns : goal.returns
 returns c =
     let b : (row_at c.args.table.now c.in-View.parent).base ≡ c.base.result = sym (c.base.ensures ∙ ap (λ (r : Row). r.base) c.node-above.ensures) in
     let m : (row_at c.args.table.now c.base.result).mark ≡ true = ap (λ x. (row_at c.args.table.now x).mark) (sym b) ∙ c.requires.parent c.in-View.parent (ap parent_from (sym (c.origin.ensures ∙ ap (λ (r : Row). r.origin) c.node-node.ensures) ∙ c.in-View.is)) in
-    let k : placed_by c.places.result.now c.triple-in-View-2.result.now ≡ places_of c.args.table.now c.in-View.parent =
+    let k : placed_by c.places.result.now c.triple-in-View-2.result.now ≡ places_seen c.args.table.now c.in-View.parent =
     ap (λ (u : Triple). placed_by c.places.result.now u) (c.triple-in-View-2.ensures ∙ ap (λ (r : Row). r.triple) c.node-above.ensures)
     ∙ ap (λ (o : Option (List (Option ℕ))). placed_by o (row_at c.args.table.now c.in-View.parent).triple) (c.places.ensures ∙ ap (λ (r : Row). r.places) c.node-base.ensures)
     ∙ over_known c.row_laws.ensures c.args.table.now c.base.result c.in-View.parent c.requires.order c.requires.known (c.row_laws.ensures.seen.view_at c.args.table.now c.requires.order.still c.args.id c.in-View.parent c.in-View.trans c.in-View.layout c.requires.live (sym (c.origin.ensures ∙ ap (λ (r : Row). r.origin) c.node-node.ensures) ∙ c.in-View.is)).live b m in

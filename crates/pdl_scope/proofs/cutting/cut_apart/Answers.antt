@@ -1,10 +1,12 @@
-use Rattle.std.proofs.Common.{◌++◌, sym, ap, subst}
+use Rattle.std.proofs.Common.{◌+◌, ◌≤◌, ◌++◌, sym, ap, subst}
 use Rattle.std.specs.Prelude.{IfSome, true, ◌≡◌}
 use Rattle.pdl_world.specs.Cut.{sever}
-use Rattle.pdl_world.specs.Paths.{parent_in}
+use Rattle.pdl_world.specs.Paths.{parent_in, root_of}
 use Rattle.pdl_world.specs.Swept.{is_listed}
-use Rattle.pdl_world.specs.World.{World}
-use Rattle.pdl_engine.specs.State.{State as Engine}
+use Rattle.pdl_shape.specs.Shape.{size_of}
+use Rattle.pdl_world.specs.World.{World, dims_in}
+use Rattle.pdl_engine.specs.State.{State as Engine, ready_steps}
+use Rattle.pdl_scope.proofs.Unmoved.{unchanged_held}
 use Rattle.pdl_scope.proofs.Cuts.{held_after, noted_held}
 use Rattle.pdl_scope.proofs.Held.{held_by}
 use Rattle.pdl_scope.proofs.cutting.cut_apart.Goals as goal
@@ -20,3 +22,17 @@ returns-clause-held g c = λ names ws held.
     held_after c.sever.result names ws e c.sever.new.self (sever e.world v) left h (c.cut_laws.ensures.numbers e.world v h.whole.sound)
     (c.keeping_laws.ensures.cut e.world v (held_by names ws ++ left) h.whole.sound h.reached (noted_held (held_by names ws) left (parent_in e.world v) parent))
     c.sever.ensures.ok c.sever.ensures.err c.sever.ensures.family.holds c.sever.ensures.family.next c.sever.ensures.sound
+
+pub returns-clause-counted : goal.returns-clause-counted
+returns-clause-counted g c =
+    let v = c.args.id in
+    let P : Engine → Type 0 = λ t. c.sever.new.steps ≤ c.args.steps.now + (ready_steps t v + size_of (dims_in t.world v)) in
+    subst P c.hold_parent.ensures.same c.sever.ensures.counted
+
+pub returns-clause-spent : goal.returns-clause-spent
+returns-clause-spent g c = λ own.
+    let e = c.args.engine.now in
+    let t = c.hold_parent.new.engine in
+    let R : Engine → Type 0 = λ x. root_of x.world c.args.id ≡ c.args.id in
+    let there : R t = subst R (sym c.hold_parent.ensures.same) own in
+    unchanged_held e t c.sever.new.self c.args.steps.now c.sever.new.steps c.hold_parent.ensures.same (c.sever.ensures.root there) (c.sever.ensures.spent there)

@@ -1,9 +1,11 @@
-use Rattle.std.proofs.Common.{◌++◌, sym, ap, subst}
+use Rattle.std.proofs.Common.{◌+◌, ◌≤◌, ◌++◌, sym, ap, subst}
 use Rattle.std.specs.Prelude.{IfSome, true, false, ◌≡◌}
 use Rattle.pdl_world.specs.Paths.{parent_in}
 use Rattle.pdl_world.specs.Swept.{is_listed}
 use Rattle.pdl_world.specs.World.{World}
-use Rattle.pdl_engine.specs.State.{State as Engine}
+use Rattle.pdl_shape.specs.Shape.{size_of}
+use Rattle.pdl_engine.specs.State.{State as Engine, ready_steps}
+use Rattle.pdl_scope.proofs.Unmoved.{unbroken}
 use Rattle.pdl_scope.proofs.Cuts.{held_reshaped, noted_held}
 use Rattle.pdl_scope.proofs.Held.{held_by}
 use Rattle.pdl_scope.proofs.cutting.laid_anew.Goals as goal
@@ -21,3 +23,12 @@ returns-clause-held g c = λ names ws held.
     held_reshaped c.reshape.result c.reshape_laws.ensures.numbers names ws e c.reshape.new.self v ds left h c.reshape.ensures.allowed
     (c.keeping_laws.ensures.reshaped e.world v ds (held_by names ws ++ left) h.whole.sound h.reached (noted_held (held_by names ws) left (parent_in e.world v) parent))
     c.reshape.ensures.ok c.reshape.ensures.err c.reshape.ensures.family.holds c.reshape.ensures.family.next c.reshape.ensures.sound
+
+pub returns-clause-counted : goal.returns-clause-counted
+returns-clause-counted g c =
+    let P : Engine → Type 0 = λ t. c.reshape.new.steps ≤ c.args.steps.now + (ready_steps t c.args.id + size_of c.args.dims.now) in
+    subst P c.hold_parent.ensures.same c.reshape.ensures.counted
+
+pub returns-clause-unchanged : goal.returns-clause-unchanged
+returns-clause-unchanged g c =
+    unbroken c.reshape.result c.args.engine.now c.hold_parent.new.engine c.reshape.new.self c.args.steps.now c.reshape.new.steps c.hold_parent.ensures.same c.reshape.ensures.unchanged

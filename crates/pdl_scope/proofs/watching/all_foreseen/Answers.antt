@@ -1,4 +1,4 @@
-use Rattle.std.proofs.Common.{◌≡◌, ◌<◌, length, get_or, None, arith, sym, ap, subst, ◌∙◌}
+use Rattle.std.proofs.Common.{◌≡◌, ◌+◌, ◌<◌, length, get_or, None, arith, sym, ap, subst, ◌∙◌}
 use Rattle.std.specs.Prelude.{IfSome}
 use Rattle.std.proofs.lemmas.List.{take_all}
 use Rattle.pdl_world.specs.Sound.{IsLive}
@@ -6,6 +6,7 @@ use Rattle.pdl_world.specs.World.{World, assign}
 use Rattle.pdl_engine.specs.Foresights.{Foretells}
 use Rattle.pdl_watch.specs.Slots.{lists_of}
 use Rattle.pdl_machine.specs.Watches.{notices, slot_notices}
+use Rattle.pdl_scope.proofs.Foreseen.{foreseen_first, foreseen_more}
 use Rattle.pdl_scope.proofs.Watched.{lists_more, live_watch, none_watched}
 use Rattle.pdl_scope.proofs.watching.all_foreseen.Goals as goal
 
@@ -42,9 +43,29 @@ loop-watch-preserved g c =
       };
       stay = λ v fresh. c.slot_foreseen.ensures.stay v (c.loop-watch.invariant.stay v fresh);
       quiet = λ none. c.slot_foreseen.ensures.quiet (none_watched ws i none) ∙ c.loop-watch.invariant.quiet none;
+      counted = foreseen_more c.args.engine.now c.loop-watch.engine ws i c.args.steps.now c.loop-watch.steps c.slot_foreseen.new.steps within (live_watch c.args.engine.now.world ws i c.requires) c.resting_law.ensures c.resting_law-in-loop-watch.ensures c.loop-watch.invariant.same c.loop-watch.invariant.stay c.loop-watch.invariant.counted c.slot_foreseen.ensures.counted;
     }
 
 pub returns-clause-told : goal.returns-clause-told
 returns-clause-told g c = λ v vs told.
     c.loop-watch.invariant.told v vs told
     ∙ ap (notices c.args.number c.args.engine.now.world (assign c.args.engine.now.world v vs)) (take_all c.loop-watch.watch-index c.args.watches.now (omega arith))
+
+pub returns-clause-counted : goal.returns-clause-counted
+returns-clause-counted g c = foreseen_first c.args.engine.now c.args.watches.now c.loop-watch.watch-index c.args.steps.now c.loop-watch.steps c.loop-watch.invariant.counted
+
+pub returns-in_err-told-clause-counted : goal.returns-in_err-told-clause-counted
+returns-in_err-told-clause-counted g c =
+    let ws = c.args.watches.now in
+    let i = c.loop-watch.watch-index in
+    let within : i < length ws = omega arith in
+    foreseen_first c.args.engine.now ws (i + 1) c.args.steps.now c.slot_foreseen.new.steps
+    (foreseen_more c.args.engine.now c.loop-watch.engine ws i c.args.steps.now c.loop-watch.steps c.slot_foreseen.new.steps within (live_watch c.args.engine.now.world ws i c.requires) c.resting_law.ensures c.resting_law-in-loop-watch.ensures c.loop-watch.invariant.same c.loop-watch.invariant.stay c.loop-watch.invariant.counted c.slot_foreseen.ensures.counted)
+
+pub returns-in_err-push-clause-counted : goal.returns-in_err-push-clause-counted
+returns-in_err-push-clause-counted g c =
+    let ws = c.args.watches.now in
+    let i = c.loop-watch.watch-index in
+    let within : i < length ws = omega arith in
+    foreseen_first c.args.engine.now ws (i + 1) c.args.steps.now c.slot_foreseen.new.steps
+    (foreseen_more c.args.engine.now c.loop-watch.engine ws i c.args.steps.now c.loop-watch.steps c.slot_foreseen.new.steps within (live_watch c.args.engine.now.world ws i c.requires) c.resting_law.ensures c.resting_law-in-loop-watch.ensures c.loop-watch.invariant.same c.loop-watch.invariant.stay c.loop-watch.invariant.counted c.slot_foreseen.ensures.counted)

@@ -1,6 +1,8 @@
-use Rattle.std.proofs.Common.{◌≡◌, ℕ, ℤ, List, [], take}
+use Rattle.std.proofs.Common.{◌≡◌, ◌+◌, ◌≤◌, ℕ, ℤ, List, [], take}
 use Rattle.pdl_world.specs.World.{assign}
 use Rattle.pdl_engine.specs.Foresights.{Foretells}
+use Rattle.std.specs.Prelude.{sum_by}
+use Rattle.pdl_engine.specs.Reading.{read_steps}
 use Rattle.pdl_engine.specs.State.{SameArrays, StayFresh}
 use Rattle.pdl_watch.specs.Slots.{lists_of}
 use Rattle.pdl_machine.specs.Watches.{attached, notices}
@@ -14,4 +16,5 @@ invariant-loop-watch g l = record {
   same : SameArrays l.fn.engine l.engine;
   stay : StayFresh l.fn.engine l.engine;
   quiet : attached l.watches ≡ [] → l.steps ≡ l.fn.steps;
+  counted : l.steps ≤ l.fn.steps + sum_by (read_steps l.fn.engine) (attached (take l.watch-index l.watches));
 }

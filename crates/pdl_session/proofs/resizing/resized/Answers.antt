@@ -23,4 +23,4 @@ pub returns : goal.returns
 returns g c =
     let s = c.args.scope.now in
     let numbers : numbers_in (all_seen_of s.arrays c.args.sizes.now) ≡ Ok c.deref.result.now = c.in_ok-numbers.ensures.value ∙ ap Ok (sym c.deref.ensures.value) in
-    runs_resized c.reshape.result s c.numbers_in.new.scope c.reshape.new.self c.args.id c.args.sizes.now c.deref.result.now c.in_ok-dims.dims numbers c.in_ok-dims.ensures c.numbers_in.ensures.same c.reshape.ensures
+    runs_resized c.reshape.result s c.numbers_in.new.scope c.reshape.new.self c.args.id c.args.sizes.now c.deref.result.now c.in_ok-dims.dims numbers c.in_ok-dims.ensures c.numbers_in.ensures.same c.reshape.ensures.runs

@@ -23,7 +23,7 @@ returns-then-bound-ne1 g c =
     let s = c.args.scope.now in
     let xs = c.args.bound.now in
     runs_several c.bind_roots.result s c.several.new.scope c.bind_roots.new.self xs c.args.function.now c.args.given.now (length xs) c.in_ok-outputs.outputs.items c.if-bound-ne1.true refl
-    c.in_ok-outputs.ensures.value c.several.ensures.same (subst (λ (ms : List Made). Runs (roots_bound (machine c.several.new.scope) xs ms) c.several.new.scope c.bind_roots.new.self [] [] c.bind_roots.result) c.deref.ensures.value c.bind_roots.ensures)
+    c.in_ok-outputs.ensures.value c.several.ensures.same (subst (λ (ms : List Made). Runs (roots_bound (machine c.several.new.scope) xs ms) c.several.new.scope c.bind_roots.new.self [] [] c.bind_roots.result) c.deref.ensures.value c.bind_roots.ensures.runs)
 
 pub returns-in_err-id : goal.returns-in_err-id
 returns-in_err-id g c =
@@ -36,4 +36,4 @@ returns-in_err-id g c =
 pub returns : goal.returns
 returns g c =
     runs_output c.bind.result c.args.scope.now c.call.new.scope c.bind.new.self c.args.bound.now c.index-bound-0.result c.args.function.now (arguments c.args.given.now) c.in_ok-id.id
-    c.if-bound-ne1.false c.index-bound-0.is c.in_ok-id.ensures.value.0 c.in_ok-id.ensures.grown c.bind.ensures
+    c.if-bound-ne1.false c.index-bound-0.is c.in_ok-id.ensures.value.0 c.in_ok-id.ensures.grown c.bind.ensures.runs

@@ -16,6 +16,10 @@ pub returns-in-Show-clause-performs : goal.returns-in-Show-clause-performs
 returns-in-Show-clause-performs g c =
     subst (λ (s : Statement). Performs (effect (present_in (slots_by g.W.Watcher.seen c.args.watchers.now.items)) (machine c.args.scope.now) (statement_of s)) c.args.scope.now c.show.new.scope c.args.out.now.items c.show.new.out.items c.show.result) (sym c.in-Show.is) c.show.ensures.performs
 
+pub returns-in-Dump-clause-performs : goal.returns-in-Dump-clause-performs
+returns-in-Dump-clause-performs g c =
+    subst (λ (s : Statement). Performs (effect (present_in (slots_by g.W.Watcher.seen c.args.watchers.now.items)) (machine c.args.scope.now) (statement_of s)) c.args.scope.now c.dump.new.scope c.args.out.now.items c.dump.new.out.items c.dump.result) (sym c.in-Dump.is) c.dump.ensures
+
 pub returns-in-PpDef-clause-performs : goal.returns-in-PpDef-clause-performs
 returns-in-PpDef-clause-performs g c =
     let s = c.args.scope.now in

@@ -17,8 +17,13 @@ returns c =
       long = slots.long;
       ended_one = slots.ended_one;
       told_twice = c.telling_laws.ensures.twice;
+      each = c.telling_laws.ensures.each;
+      joins = c.telling_laws.ensures.joined;
       ended = runs.ended;
       printed = runs.printed;
       told = runs.told;
       none_comes = runs.none_comes;
+      refused = runs.refused;
+      given = runs.refused_in_a_run;
+      rising = runs.rising;
     }

@@ -1,4 +1,4 @@
-use Rattle.pdl_shell.proofs.HeadlineLemmas.{ends_quiet, memory_quiet, watcher_rises, source_leaves, done_reads, fault_reads, ends_write, memory_writes, all_front, cut_off_front, usage_alone, generating_alone}
+use Rattle.pdl_shell.proofs.HeadlineLemmas.{ends_quiet, memory_quiet, watcher_rises, source_leaves, refused_read, done_reads, fault_reads, ends_write, memory_writes, all_front, cut_off_front, usage_alone, generating_alone}
 use Rattle.pdl_shell.proofs.Guards.{few_taken, no_part_behind, quiet_undisturbed, others_front}
 use Rattle.pdl_shell.proofs.HeadlineSlotsLemmas.{slots_stay, watchers_stay, none_appears, counts_kept, one_alone, finishing_last}
 use Rattle.pdl_shell.proofs.laws.headline_laws.Goals as goal
@@ -20,6 +20,9 @@ returns-clause-watcher c = watcher_rises
 
 pub returns-clause-leaves : goal.returns-clause-leaves
 returns-clause-leaves c = source_leaves
+
+pub returns-clause-met : goal.returns-clause-met
+returns-clause-met c = refused_read c.run_laws.ensures.refused_in_a_run c.run_laws.ensures.rising c.run_laws.ensures.few
 
 pub returns-clause-reads : goal.returns-clause-reads
 returns-clause-reads c = done_reads
@@ -46,7 +49,7 @@ pub returns-clause-generates : goal.returns-clause-generates
 returns-clause-generates c = generating_alone
 
 pub returns-clause-tells_some : goal.returns-clause-tells_some
-returns-clause-tells_some c = others_front
+returns-clause-tells_some c = others_front c.telling_laws.ensures.each
 
 pub returns-clause-soon : goal.returns-clause-soon
 returns-clause-soon c = no_part_behind c.run_laws.ensures.ended c.so_far_laws.ensures.grows
@@ -76,4 +79,4 @@ pub returns-clause-alone : goal.returns-clause-alone
 returns-clause-alone c = one_alone
 
 pub returns-clause-last : goal.returns-clause-last
-returns-clause-last c = finishing_last
+returns-clause-last c = finishing_last c.telling_laws.ensures.each

@@ -2,4 +2,4 @@ use Rattle.pdl_shell.proofs.WorkedRuns.{worked_statuses}
 use Rattle.pdl_shell.proofs.laws.worked_statuses.Goals as goal
 
 pub returns : goal.returns
-returns c = worked_statuses
+returns c = worked_statuses c.telling_laws.ensures.each

@@ -69,10 +69,8 @@ returns-in_err-take-clause-reads g c =
     c.in-Ok.ensures.bound.0 c.in-Ok.ensures.bound.1 c.min-most.ensures c.read.auto.into c.min-within.ensures c.in-Ok.ensures.bytes.0 in
     reads_result c.from_residual.result c.in_err-take.field-0.0 c.from_residual.ensures.1 _ _ _ _ (
     reads_short c.course_laws.ensures _ _ _ _ _ _ _ c.requires.fresh c.reading.invariant.comes c.take.new.self.refused
-    c.in_err-take.ensures.stops.later.stays c.so_far_laws.ensures.grows c.run_laws.ensures.ended _ _ _ c.in-Ok.count step c.in_err-take.field-0.0 _ _ _
-    (fails_parts_short c.course_laws.ensures _ _ _ _ _ _ _ c.requires.fresh c.reading.invariant.comes c.take.new.self.refused
-    c.in_err-take.ensures.stops.later.stays c.so_far_laws.ensures.grows c.run_laws.ensures.ended
-    _ _ _ c.in-Ok.count step c.in_err-take.field-0.0 c.take.new.self _ (λ n le. refl) c.in_err-take.ensures.stops))
+    c.in_err-take.ensures.stops.later.stays c.so_far_laws.ensures.grows c.run_laws.ensures.ended _ _ _ c.in-Ok.count step c.in_err-take.field-0.0 c.take.new.self _ _ _
+    (λ n le. refl) refl c.in_err-take.ensures.stops)
 
 pub returns-in_err-take-clause-causes : goal.returns-in_err-take-clause-causes
 returns-in_err-take-clause-causes g c =

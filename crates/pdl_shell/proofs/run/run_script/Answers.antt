@@ -8,6 +8,7 @@ use Rattle.pdl_shell.specs.Outside.{outlets, outside}
 use Rattle.pdl_shell.specs.Answers.{CameToItsEnd, Gives, CanAnswer, HasReason, ending_on}
 use Rattle.pdl_shell.specs.Taken.{terms_for}
 use Rattle.pdl_shell.proofs.Whole.{gives_after, reads_by, reason_after, answers_after, flushed_after}
+use Rattle.pdl_shell.proofs.HeadlineLemmas.{rising_read}
 use Rattle.pdl_shell.proofs.run.run_script.Goals as goal
 
 pub returns-clause-model : goal.returns-clause-model
@@ -17,7 +18,7 @@ returns-clause-model g c script is =
     let old = outlets g.K.Sink.taken g.K.Sink.is_flushed g.K.Sink.faults c.args.sink.now slots in
     let new = outlets g.K.Sink.taken g.K.Sink.is_flushed g.K.Sink.faults c.run_parts-ran.new.sink (slots_by g.W.Watcher.seen c.run_parts-ran.new.watchers.items) in
     subst (λ (status : Status). Gives status (ending_on terms script) old new) (sym c.status_after.ensures)
-    (gives_after c.run_parts-ran.result terms (run terms script) old new (c.run_parts-ran.ensures.leaves script is) c.run_parts-ran.ensures.flushed)
+    (gives_after c.run_parts-ran.result terms (run terms script) old new (c.run_parts-ran.ensures.leaves script is))
 
 pub returns-clause-answers : goal.returns-clause-answers
 returns-clause-answers g c =
@@ -27,6 +28,9 @@ returns-clause-answers g c =
 pub returns-clause-reads : goal.returns-clause-reads
 returns-clause-reads g c =
     reads_by _ _ c.status_after.ensures _ _ _ _ c.run_parts-ran.ensures.reads
+
+pub returns-clause-rising : goal.returns-clause-rising
+returns-clause-rising g c = rising_read c.run_laws.ensures.rising _ _ _ _ _ c.run_parts-ran.ensures.reads
 
 pub returns-clause-reason : goal.returns-clause-reason
 returns-clause-reason g c =

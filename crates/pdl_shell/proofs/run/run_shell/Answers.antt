@@ -1,4 +1,5 @@
-use Rattle.std.proofs.Common.{◌≡◌, ℕ, Bool, Some, None, map, ◌∙◌}
+use Rattle.std.proofs.Common.{◌≡◌, ℕ, List, [], length, Bool, Some, None, map, ap, arith, ◌∙◌}
+use Rattle.std.specs.List.Sorted.{IsStrictlyIncreasing}
 use Rattle.std.specs.String.{string_bytes}
 use Rattle.pdl_shell.specs.declared.words.Command.TheVariants.{Run, Generate}
 use Rattle.pdl_shell.specs.Command.{command_of}
@@ -13,6 +14,15 @@ generate_is k keep rounds is = cc
 
 none_is : (keep : Bool) → None ≡ Some (Run keep) → ⊥
 none_is keep is = cc
+
+none_rise : (ns : List ℕ) → ns ≡ [] → IsStrictlyIncreasing ns
+none_rise ns none k lt = absurd (omega (arith, ap length none, lt))
+
+pub returns-in-Some-Generate-clause-rising : goal.returns-in-Some-Generate-clause-rising
+returns-in-Some-Generate-clause-rising g c = none_rise _ c.requires.none
+
+pub returns-in-None-clause-rising : goal.returns-in-None-clause-rising
+returns-in-None-clause-rising g c = none_rise _ c.requires.none
 
 pub returns-in-Some-Run-clause-reads : goal.returns-in-Some-Run-clause-reads
 returns-in-Some-Run-clause-reads g c keep is =

@@ -7,7 +7,7 @@ use Rattle.pdl_shell.proofs.Whole.{gives_by, reason_by, aside_whole, aside_stops
 use Rattle.pdl_shell.proofs.summary.summarize.Goals as goal
 
 pub returns-in-Ok-clause-model : goal.returns-in-Ok-clause-model
-returns-in-Ok-clause-model g c script slots = (refl, aside_whole c.slot_laws.ensures.none c.slot_laws.ensures.quiet c.slot_laws.ensures.nothing _ _ slots _ _ _ _ _ _ c.in-Ok.ensures.whole)
+returns-in-Ok-clause-model g c script slots = (refl, aside_whole c.slot_laws.ensures.none c.slot_laws.ensures.quiet c.slot_laws.ensures.nothing _ _ slots _ _ _ _ _ _ c.in-Ok.ensures.whole c.in-Ok.ensures.flushed)
 
 pub returns-in-Ok-clause-reason : goal.returns-in-Ok-clause-reason
 returns-in-Ok-clause-reason g c left faults slots = (refl, (c.in-Ok.ensures.cause, counts_same slots))
@@ -15,7 +15,7 @@ returns-in-Ok-clause-reason g c left faults slots = (refl, (c.in-Ok.ensures.caus
 pub returns-in-Err-clause-model : goal.returns-in-Err-clause-model
 returns-in-Err-clause-model g c script slots =
     gives_by _ _ c.status_after.ensures _ _ _
-    (aside_stops c.slot_laws.ensures.none c.slot_laws.ensures.quiet c.in-Err.stop _ _ slots (g.K.Sink.taken c.args.sink.now) (g.K.Sink.taken c.write_summary.new.sink)
+    (aside_stops c.telling_laws.ensures.each c.slot_laws.ensures.none c.slot_laws.ensures.quiet c.in-Err.stop _ _ slots (g.K.Sink.taken c.args.sink.now) (g.K.Sink.taken c.write_summary.new.sink)
     (g.K.Sink.is_flushed c.args.sink.now) (g.K.Sink.is_flushed c.write_summary.new.sink) (g.K.Sink.faults c.args.sink.now) (g.K.Sink.faults c.write_summary.new.sink)
     c.in-Err.ensures.cause c.in-Err.ensures.prefix)
 

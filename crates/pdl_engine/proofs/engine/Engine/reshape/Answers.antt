@@ -26,7 +26,7 @@ invariant_of-self g c = (
       (reshaped_sound c.reshape_laws.ensures.decides c.self.inside.table c.reshape.new.table c.args.id c.args.dims.now c.reshape.result c.self.invariant.0.sound c.dims_list-limits.ensures.limits c.reshape.ensures.allowed c.reshape.ensures.ok c.reshape.ensures.err),
   tight_reshaped c.row_laws.ensures c.self.inside.table c.reshape.new.table c.args.id c.self.inside.loose.items c.reshape.new.loose.items c.self.inside.holds c.args.dims.now c.reshape.result c.self.invariant.0.order.still
       (live_has c.row_laws.ensures c.self.inside.table c.args.id (subst (λ (s : State). IsLive s.world c.args.id) (sym c.self.view_is) c.requires))
-      c.reshape.ensures.reshaped c.reshape.ensures.listed c.reshape.ensures.parent c.reshape.ensures.ok c.reshape.ensures.err c.self.invariant.1,
+      c.reshape.ensures.reshaped c.reshape.ensures.listed c.reshape.ensures.unlisted c.reshape.ensures.ok c.reshape.ensures.err c.self.invariant.1,
 )
 
 pub returns-clause-ok : goal.returns-clause-ok

@@ -29,7 +29,7 @@ invariant_of-self g c = (
       (severed_sound c.cut_laws.ensures.sound c.self.inside.table c.sever.new.table c.args.id c.sever.result c.self.invariant.0.sound c.sever.ensures.ok c.sever.ensures.err),
   tight_severed c.row_laws.ensures c.self.inside.table c.sever.new.table c.args.id c.self.inside.loose.items c.sever.new.loose.items c.self.inside.holds c.sever.result c.self.invariant.0.order.still
       (live_has c.row_laws.ensures c.self.inside.table c.args.id (subst (λ (s : State). IsLive s.world c.args.id) (sym c.self.view_is) c.requires))
-      c.sever.ensures.severed c.sever.ensures.listed c.sever.ensures.root c.sever.ensures.parent c.sever.ensures.ok c.sever.ensures.err c.self.invariant.1,
+      c.sever.ensures.severed c.sever.ensures.root c.sever.ensures.listed c.sever.ensures.unlisted c.sever.ensures.ok c.sever.ensures.err c.self.invariant.1,
 )
 
 pub returns-clause-ok : goal.returns-clause-ok

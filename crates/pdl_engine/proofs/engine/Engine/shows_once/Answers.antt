@@ -4,7 +4,7 @@ use Rattle.pdl_world.specs.Sound.{IsLive}
 use Rattle.pdl_world.specs.World.{World, has_repeats, places_in}
 use Rattle.pdl_nodes.specs.Row.{Row}
 use Rattle.pdl_nodes.specs.Rows.{has, row_at}
-use Rattle.pdl_nodes.specs.Worlds.{places_of, world_of}
+use Rattle.pdl_nodes.specs.Worlds.{places_seen, world_of}
 use Rattle.pdl_engine.specs.Apart.{LiesApart}
 use Rattle.pdl_engine.specs.State.{State, base}
 use Rattle.pdl_engine.proofs.Bounds.{base_are, places_are}
@@ -22,7 +22,7 @@ returns c = λ e.
     let facts = c.row_laws.ensures in
     let h : has rs v ≡ true = live_has facts rs v (subst (λ (w : World). IsLive w v) (sym (ap (λ (s : State). s.world) c.self.view_is)) c.requires.live) in
     let shown : c.triple.result.now ≡ (row_at rs v).triple = c.triple.ensures ∙ ap (λ (r : Row). r.triple) c.node.ensures in
-    let once : has_repeats (places_of rs (row_at rs v).base) ≡ false =
+    let once : has_repeats (places_seen rs (row_at rs v).base) ≡ false =
     ap has_repeats (sym (places_are facts rs (row_at rs v).base))
     ∙ ap (λ x. has_repeats (places_in (world_of rs) x)) (sym (base_are facts rs v c.self.invariant.0.order.still h))
     ∙ ap (λ (s : State). has_repeats (places_in s.world (base s.world v))) c.self.view_is ∙ sym c.base_repeats.ensures ∙ c.if-base_repeats.false in

@@ -5,7 +5,7 @@ use Rattle.pdl_nodes.specs.Row.{Row, parent_of, is_buffered, places_or}
 use Rattle.pdl_nodes.specs.Rows.{row_at, each}
 use Rattle.pdl_nodes.specs.Changes.{kept_in}
 use Rattle.pdl_nodes.specs.Table.{rows_of}
-use Rattle.pdl_nodes.specs.Worlds.{places_of}
+use Rattle.pdl_nodes.specs.Worlds.{places_seen}
 use Rattle.pdl_nodes.proofs.FamilyLemmas.{latest_some}
 use Rattle.pdl_nodes.proofs.table.Table.put_back.Goals as goal
 use Rattle.pdl_nodes.proofs.Calls.{has_key, node_is}
@@ -61,7 +61,7 @@ returns-clause-put g c =
     (ap (λ x. write x c.lift-kept.result.kept.elems c.index_mut-2.result.now.kept) places
     ∙ ap (λ x. write (places_or (row_at c.args.self.now c.args.id).places) x c.index_mut-2.result.now.kept) kept
     ∙ ap (λ x. write (places_or (row_at c.args.self.now c.args.id).places) (row_at c.args.self.now c.args.id).kept x) root
-    ∙ ap (λ (ps : List (Option ℕ)). write ps (row_at c.args.self.now c.args.id).kept (row_at c.args.self.now c.args.root).kept) (known_or (row_at c.args.self.now c.args.id).places (places_of c.args.self.now c.args.id) (liftable c.args.self.now c.args.root c.args.id c.requires.order c.requires.known c.requires.root c.requires.waits).found (liftable c.args.self.now c.args.root c.args.id c.requires.order c.requires.known c.requires.root c.requires.waits).places)
+    ∙ ap (λ (ps : List (Option ℕ)). write ps (row_at c.args.self.now c.args.id).kept (row_at c.args.self.now c.args.root).kept) (known_or (row_at c.args.self.now c.args.id).places (places_seen c.args.self.now c.args.id) (liftable c.args.self.now c.args.root c.args.id c.requires.order c.requires.known c.requires.root c.requires.waits).found (liftable c.args.self.now c.args.root c.args.id c.requires.order c.requires.known c.requires.root c.requires.waits).places)
     ∙ sym (latest_some c.args.self.now c.args.root c.args.id c.requires.waits))
 
 pub returns-clause-counted : goal.returns-clause-counted

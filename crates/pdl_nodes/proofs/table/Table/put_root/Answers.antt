@@ -10,7 +10,7 @@ use Rattle.pdl_nodes.specs.Put.{IsWrite, put_in}
 use Rattle.pdl_nodes.specs.Row.{Row, is_buffered, shown_of}
 use Rattle.pdl_nodes.specs.Rows.{Rows, each, has, row_at}
 use Rattle.pdl_nodes.specs.Table.{IsTable, rows_of}
-use Rattle.pdl_nodes.specs.Worlds.{places_of}
+use Rattle.pdl_nodes.specs.Worlds.{places_seen}
 use Rattle.pdl_nodes.specs.declared.node.Goal.TheVariants.{Root}
 use Rattle.pdl_nodes.proofs.table.Table.put_root.Goals as goal
 use Rattle.pdl_nodes.proofs.Calls.{has_key, node_is, changed_one}
@@ -37,7 +37,7 @@ put_rows t keys nodes id key first r q vs e i h g n =
 in_itself : (t : Rows) (id first : ℕ) (vs : List ℤ) → IsWrite t id first vs → (row_at t id).root ≡ id → each (root_in t id first vs) t ≡ each (put_in Root t id first vs) t
 in_itself t id first vs w own =
     ap (λ (ps : List (Option ℕ)). each (kept_in id (write (drop first ps) vs (row_at t id).kept)) t) (sym (root_in_order t id w.order.still (w.live, own)))
-    ∙ ap (λ x. each (kept_in x (write (drop first (places_of t id)) vs (row_at t x).kept)) t) (sym own)
+    ∙ ap (λ x. each (kept_in x (write (drop first (places_seen t id)) vs (row_at t x).kept)) t) (sym own)
 
 pub index-key-requires : goal.index-key-requires
 index-key-requires g c = has_key c.args.self.now c.self.inside.keys c.self.inside.nodes c.args.id c.self.view_is c.self.invariant.0.0 c.requires.live

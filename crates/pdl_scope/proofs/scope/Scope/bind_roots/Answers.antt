@@ -8,6 +8,9 @@ use Rattle.pdl_scope.specs.Growth.{grows_refl, grows_trans}
 use Rattle.pdl_scope.specs.Room.{with_names, new_among}
 use Rattle.pdl_scope.specs.Answers.{Prints}
 use Rattle.pdl_scope.specs.Scope.{arrays_of, machine, names_in, Grows, Scope as Seen}
+use Rattle.pdl_buf.specs.Made.{IsMade}
+use Rattle.pdl_buf.specs.declared.made.Made.{Made}
+use Rattle.pdl_scope.proofs.Newest.{root_within}
 use Rattle.pdl_scope.proofs.Cuts.{held_same}
 use Rattle.pdl_scope.proofs.Growing.{live_too}
 use Rattle.pdl_scope.proofs.Held.{held_defined}
@@ -38,6 +41,7 @@ loop-i-init g c =
       grown = grows_refl s;
       live = subst L none tt;
       many = ap length (sym none);
+      within = omega arith;
     }
 
 pub loop-i-preserved : goal.loop-i-preserved
@@ -50,6 +54,7 @@ loop-i-preserved g c =
     let x = c.index-bound-i.result in
     let m = c.index-outputs-i.result in
     let id = c.in_ok-id.id in
+    let made : IsMade m.ty m.dims m.elems = subst (λ (y : Made). IsMade y.ty y.dims y.elems) (sym c.index-outputs-i.is) (c.requires i m (omega arith)) in
     let last : Named ℕ = more ++ (x, id) ∷ [] in
     let items : last ≡ c.push.new.self.items = sym (c.in_ok-push.ensures.items ∙ ap (λ (n : List ℕ). more ++ (n, id) ∷ []) c.in_ok-name.ensures.cases) in
     let rest : List (List ℕ) = drop (i + 1) (take c.min-count.result xs) in
@@ -66,11 +71,12 @@ loop-i-preserved g c =
       room = subst M items (room_left now (named_too (machine mid) more) (named_too (machine mid) last) x rest id next.named is room);
       grown = grows_trans c.args.self.now s mid c.loop-i.invariant.grown c.make_like.ensures.grown;
       live = subst L items (live_too s mid more x id c.make_like.ensures.grown c.loop-i.invariant.live c.in_ok-id.ensures.value.1);
+      within = root_within s mid m c.args.self.now c.args.steps.now c.loop-i.steps c.make_like.new.steps id c.loop-i.invariant.within made c.in_ok-id.ensures.value.0 c.make_like.ensures.counted;
       many = ap length (sym items) ∙ one_longer more (x, id) ∙ ap (λ n. n + 1) c.loop-i.invariant.many;
     }
 
-pub returns-then-not-has_room : goal.returns-then-not-has_room
-returns-then-not-has_room g c =
+pub returns-then-not-has_room-clause-runs : goal.returns-then-not-has_room-clause-runs
+returns-then-not-has_room-clause-runs g c =
     let s = c.args.self.now in
     let xs = c.args.bound.now in
     let bound = take c.min-count.result xs in
@@ -82,14 +88,14 @@ returns-then-not-has_room g c =
       record { grown = grows_refl s; printed = refl },
     )
 
-pub returns-in_err-id : goal.returns-in_err-id
-returns-in_err-id g c =
+pub returns-in_err-id-clause-runs : goal.returns-in_err-id-clause-runs
+returns-in_err-id-clause-runs g c =
     let s = c.args.self.now in
     never_refused _ (roots_bound (machine s) c.args.bound.now c.args.outputs.now) s c.make_like.new.self c.from_residual-in_err-id.result c.in_err-id.field-0.0 c.from_residual-in_err-id.ensures.1 c.in_err-id.ensures.value
     (grows_trans s c.loop-i.self c.make_like.new.self c.loop-i.invariant.grown c.make_like.ensures.grown)
 
-pub returns-in_err-push : goal.returns-in_err-push
-returns-in_err-push g c =
+pub returns-in_err-push-clause-runs : goal.returns-in_err-push-clause-runs
+returns-in_err-push-clause-runs g c =
     let grown : Grows c.args.self.now c.make_like.new.self = grows_trans c.args.self.now c.loop-i.self c.make_like.new.self c.loop-i.invariant.grown c.make_like.ensures.grown in
     search rules
 
@@ -100,8 +106,8 @@ bind_all-requires-clause-small g c =
     let items : length c.reserve-2.new.self.items ≡ length c.self-2.inside.leaving.items = ap length c.reserve-2.ensures.items in
     omega (arith, leaving, made, items)
 
-pub returns : goal.returns
-returns g c =
+pub returns-clause-runs : goal.returns-clause-runs
+returns-clause-runs g c =
     let xs = c.args.bound.now in
     let ms = c.args.outputs.now in
     let more = c.loop-i.made.items in

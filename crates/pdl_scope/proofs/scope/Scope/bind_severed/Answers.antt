@@ -1,7 +1,11 @@
-use Rattle.std.proofs.Common.{rules, ◌≡◌, ◌<◌, ◌≤◌, ◌^◌, List, ℕ, [], length, Err, refl, sym, ap, subst, ◌∙◌, arith}
+use Rattle.std.proofs.Common.{rules, ◌≡◌, ◌+◌, ◌<◌, ◌≤◌, ◌^◌, List, ℕ, [], length, Err, refl, sym, ap, subst, ◌∙◌, arith}
 use Rattle.pdl_world.specs.Cut.{sever}
 use Rattle.pdl_world.specs.Sound.{IsLive}
-use Rattle.pdl_world.specs.World.{World}
+use Rattle.pdl_world.specs.World.{World, dims_in}
+use Rattle.pdl_shape.specs.Shape.{size_of}
+use Rattle.pdl_world.specs.Paths.{root_of}
+use Rattle.pdl_engine.specs.State.{ready_steps}
+use Rattle.pdl_scope.specs.Costs.{MovesNothing}
 use Rattle.pdl_machine.specs.Arrays.{Arrays}
 use Rattle.pdl_machine.specs.Cuts.{cut}
 use Rattle.pdl_machine.specs.Names.{Named, with_name, names_limit}
@@ -10,9 +14,10 @@ use Rattle.pdl_machine.specs.State.{State}
 use Rattle.pdl_machine.specs.Step.{Stepped, bind_value}
 use Rattle.pdl_scope.specs.Answers.{Prints}
 use Rattle.pdl_scope.specs.Growth.{grows_refl}
-use Rattle.pdl_scope.specs.Scope.{arrays_of, machine, names_in, scope_in, state_in, Grows, Scope as Seen}
+use Rattle.pdl_scope.specs.Scope.{arrays_of, engine_of, machine, names_in, scope_in, state_in, Grows, Scope as Seen}
 use Rattle.pdl_scope.proofs.Cuts.{kept_so, held_same, made_so, unbindable, bindable, fits_bound}
 use Rattle.pdl_scope.proofs.Held.{held_defined}
+use Rattle.pdl_scope.proofs.Unmoved.{nothing_then_holds}
 use Rattle.pdl_scope.proofs.scope.Scope.bind_severed.Goals as goal
 
 pub cut_apart-requires-clause-small : goal.cut_apart-requires-clause-small
@@ -77,8 +82,8 @@ invariant_of-self-2 g c =
     let apart = held_defined names ks [] ws c.cut_apart.new.engine c.cut_apart.new.leaving.items (c.cut_apart.ensures.held (names_in names ks) ws held) in
     held_defined c.bind_one.new.names.entries [] ks ws c.bind_one.new.engine c.bind_one.new.leaving.items (c.bind_one.ensures.held ws apart)
 
-pub returns-then-is_full_for : goal.returns-then-is_full_for
-returns-then-is_full_for g c =
+pub returns-then-is_full_for-clause-runs : goal.returns-then-is_full_for-clause-runs
+returns-then-is_full_for-clause-runs g c =
     let x = c.args.name.now in
     let v = c.args.id in
     let P : Seen → Type 0 = λ s. bind_value (machine s) x (cut s.arrays v, v) ≡ Err TooManyNames in
@@ -88,8 +93,8 @@ returns-then-is_full_for g c =
       record { grown = grows_refl c.args.self.now; printed = refl },
     )
 
-pub returns : goal.returns
-returns g c =
+pub returns-clause-runs : goal.returns-clause-runs
+returns-clause-runs g c =
     let ks = c.self.inside.kernels in
     let ws = c.self.inside.watches.items in
     let names = c.self.inside.names.entries in
@@ -107,8 +112,8 @@ returns g c =
     let Q : Stepped → Type 0 = λ r. Prints r (named after end) [] [] in
     subst P c.self.view_is (subst Q (sym (bindable (named names (arrays_of e)) x (cut (arrays_of e) v, v) (sym c.is_full_for.ensures ∙ c.if-is_full_for.false))) (is, refl))
 
-pub returns-in_err-cut_apart : goal.returns-in_err-cut_apart
-returns-in_err-cut_apart g c =
+pub returns-in_err-cut_apart-clause-runs : goal.returns-in_err-cut_apart-clause-runs
+returns-in_err-cut_apart-clause-runs g c =
     let ks = c.self.inside.kernels in
     let ws = c.self.inside.watches.items in
     let names = names_in c.self.inside.names.entries ks in
@@ -117,3 +122,25 @@ returns-in_err-cut_apart g c =
     let N : Named ℕ → Type 0 = λ ns. Grows (scope_in names ws c.self.inside.engine) (scope_in (names_in ns ks) ws t) in
     let grown = subst P c.self.view_is (subst N (sym c.reserve.ensures.names) (kept_so names ws c.self.inside.engine t c.in_err-cut_apart.ensures.err c.cut_apart.ensures.next c.in_err-cut_apart.ensures.stay)) in
     search rules
+
+pub returns-clause-counted : goal.returns-clause-counted
+returns-clause-counted g c =
+    let v = c.args.id in
+    let P : Seen → Type 0 = λ s. c.cut_apart.new.steps ≤ c.args.steps.now + (ready_steps (engine_of s) v + size_of (dims_in s.arrays.world v)) in
+    subst P c.self.view_is c.cut_apart.ensures.counted
+
+pub returns-in_err-cut_apart-clause-counted : goal.returns-in_err-cut_apart-clause-counted
+returns-in_err-cut_apart-clause-counted g c =
+    let v = c.args.id in
+    let P : Seen → Type 0 = λ s. c.cut_apart.new.steps ≤ c.args.steps.now + (ready_steps (engine_of s) v + size_of (dims_in s.arrays.world v)) in
+    subst P c.self.view_is c.cut_apart.ensures.counted
+
+pub returns-clause-spent : goal.returns-clause-spent
+returns-clause-spent g c =
+    let P : Seen → Type 0 = λ s. root_of s.arrays.world c.args.id ≡ c.args.id → MovesNothing (engine_of s) c.bind_one.new.engine c.args.steps.now c.cut_apart.new.steps in
+    subst P c.self.view_is (λ own. nothing_then_holds c.self.inside.engine c.cut_apart.new.engine c.bind_one.new.engine c.args.steps.now c.cut_apart.new.steps (c.cut_apart.ensures.spent own) c.bind_one.ensures.same)
+
+pub returns-in_err-cut_apart-clause-spent : goal.returns-in_err-cut_apart-clause-spent
+returns-in_err-cut_apart-clause-spent g c =
+    let P : Seen → Type 0 = λ s. root_of s.arrays.world c.args.id ≡ c.args.id → MovesNothing (engine_of s) c.cut_apart.new.engine c.args.steps.now c.cut_apart.new.steps in
+    subst P c.self.view_is c.cut_apart.ensures.spent

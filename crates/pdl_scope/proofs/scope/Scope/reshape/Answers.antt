@@ -1,5 +1,8 @@
-use Rattle.std.proofs.Common.{rules, ◌≡◌, ◌<◌, ◌^◌, List, ℕ, [], length, false, Ok, refl, sym, ap, subst, ◌∙◌, arith}
+use Rattle.std.proofs.Common.{rules, ◌≡◌, ◌+◌, ◌≤◌, ◌<◌, ◌^◌, List, ℕ, [], length, false, Ok, refl, sym, ap, subst, ◌∙◌, arith}
 use Rattle.pdl_world.specs.Cut.{reshape}
+use Rattle.pdl_shape.specs.Shape.{size_of}
+use Rattle.pdl_engine.specs.State.{ready_steps}
+use Rattle.pdl_scope.specs.Costs.{MovesNothing}
 use Rattle.pdl_machine.specs.Arrays.{Arrays}
 use Rattle.pdl_machine.specs.Cuts.{is_watched, reshaped}
 use Rattle.pdl_machine.specs.State.{AreLive, State, with_arrays}
@@ -7,9 +10,10 @@ use Rattle.pdl_machine.specs.Step.{Stepped}
 use Rattle.pdl_machine.specs.Then.{and_then}
 use Rattle.pdl_machine.specs.Watches.{Watches, attached}
 use Rattle.pdl_scope.specs.Answers.{Prints}
-use Rattle.pdl_scope.specs.Scope.{arrays_of, machine, names_in, scope_in, state_in, IsHeld, Grows, Scope as Seen}
+use Rattle.pdl_scope.specs.Scope.{arrays_of, engine_of, machine, names_in, scope_in, state_in, IsHeld, Grows, Scope as Seen}
 use Rattle.pdl_scope.proofs.Cuts.{kept_so, made_so, reshape_made}
 use Rattle.pdl_scope.proofs.Held.{numbers}
+use Rattle.pdl_scope.proofs.Unmoved.{relaid}
 use Rattle.pdl_scope.proofs.Watched.{live_back}
 use Rattle.pdl_scope.proofs.scope.Scope.reshape.Goals as goal
 
@@ -40,8 +44,8 @@ invariant_of-self-2 g c =
     let P : List ℕ → Type 0 = λ vs. IsHeld (state_in names ws c.self.inside.engine) c.self.inside.engine.holds vs in
     c.laid_anew.ensures.held names ws (subst P (sym c.in_ok-reserve.ensures.items) c.self.invariant)
 
-pub returns : goal.returns
-returns g c =
+pub returns-clause-runs : goal.returns-clause-runs
+returns-clause-runs g c =
     let v = c.args.id in
     let ds = c.args.dims.now in
     let e = c.self.inside.engine in
@@ -53,8 +57,8 @@ returns g c =
     subst P c.self.view_is (subst Q (sym (reshape_made (state (arrays_of e)) v ds c.in_ok-laid_anew.ensures.allowed free))
     (ap state (made_so e t (reshape e.world v ds) c.in_ok-laid_anew.ensures.ok c.laid_anew.ensures.next), refl))
 
-pub returns-in_err-laid_anew : goal.returns-in_err-laid_anew
-returns-in_err-laid_anew g c =
+pub returns-in_err-laid_anew-clause-runs : goal.returns-in_err-laid_anew-clause-runs
+returns-in_err-laid_anew-clause-runs g c =
     let names = names_in c.self.inside.names.entries c.self.inside.kernels in
     let ws = c.self.inside.watches.items in
     let P : Seen → Type 0 = λ s. Grows s (scope_in names ws c.laid_anew.new.engine) in
@@ -67,3 +71,18 @@ invariant_of-self-in_err-laid_anew g c =
     let ws = c.self.inside.watches.items in
     let P : List ℕ → Type 0 = λ vs. IsHeld (state_in names ws c.self.inside.engine) c.self.inside.engine.holds vs in
     c.laid_anew.ensures.held names ws (subst P (sym c.in_ok-reserve.ensures.items) c.self.invariant)
+
+pub returns-clause-counted : goal.returns-clause-counted
+returns-clause-counted g c =
+    let P : Seen → Type 0 = λ s. c.laid_anew.new.steps ≤ c.args.steps.now + (ready_steps (engine_of s) c.args.id + size_of c.args.dims.now) in
+    subst P c.self.view_is c.laid_anew.ensures.counted
+
+pub returns-in_err-laid_anew-clause-counted : goal.returns-in_err-laid_anew-clause-counted
+returns-in_err-laid_anew-clause-counted g c =
+    let P : Seen → Type 0 = λ s. c.laid_anew.new.steps ≤ c.args.steps.now + (ready_steps (engine_of s) c.args.id + size_of c.args.dims.now) in
+    subst P c.self.view_is c.laid_anew.ensures.counted
+
+pub returns-in_err-laid_anew-clause-unchanged : goal.returns-in_err-laid_anew-clause-unchanged
+returns-in_err-laid_anew-clause-unchanged g c =
+    let P : Seen → Type 0 = λ s. MovesNothing (engine_of s) c.laid_anew.new.engine c.args.steps.now c.laid_anew.new.steps in
+    relaid (P c.args.self.now) c.from_residual-in_err-laid_anew.result c.in_err-laid_anew.field-0.0 c.from_residual-in_err-laid_anew.ensures.1 (λ is. subst P c.self.view_is (c.in_err-laid_anew.ensures.unchanged is))

@@ -1,10 +1,15 @@
-use Rattle.std.proofs.Common.{rules, ◌≡◌, ◌<◌, ◌^◌, List, ℕ, [], length, refl, sym, ap, subst, arith}
+use Rattle.std.proofs.Common.{rules, ◌≡◌, ◌+◌, ◌≤◌, ◌<◌, ◌^◌, List, ℕ, [], length, refl, sym, ap, subst, arith}
 use Rattle.pdl_world.specs.Cut.{sever}
+use Rattle.pdl_shape.specs.Shape.{size_of}
+use Rattle.pdl_world.specs.Paths.{root_of}
+use Rattle.pdl_world.specs.World.{dims_in}
+use Rattle.pdl_engine.specs.State.{ready_steps}
+use Rattle.pdl_scope.specs.Costs.{MovesNothing}
 use Rattle.pdl_machine.specs.Arrays.{Arrays}
 use Rattle.pdl_machine.specs.State.{State}
 use Rattle.pdl_machine.specs.Step.{severing}
 use Rattle.pdl_scope.specs.Answers.{Prints}
-use Rattle.pdl_scope.specs.Scope.{arrays_of, machine, names_in, scope_in, state_in, IsHeld, Grows, Scope as Seen}
+use Rattle.pdl_scope.specs.Scope.{arrays_of, engine_of, machine, names_in, scope_in, state_in, IsHeld, Grows, Scope as Seen}
 use Rattle.pdl_scope.proofs.Cuts.{kept_so, made_so}
 use Rattle.pdl_scope.proofs.scope.Scope.sever.Goals as goal
 
@@ -28,8 +33,8 @@ invariant_of-self-2 g c =
     let P : List ℕ → Type 0 = λ vs. IsHeld (state_in names ws c.self.inside.engine) c.self.inside.engine.holds vs in
     c.cut_apart.ensures.held names ws (subst P (sym c.in_ok-reserve.ensures.items) c.self.invariant)
 
-pub returns : goal.returns
-returns g c =
+pub returns-clause-runs : goal.returns-clause-runs
+returns-clause-runs g c =
     let v = c.args.id in
     let e = c.self.inside.engine in
     let t = c.cut_apart.new.engine in
@@ -37,8 +42,8 @@ returns g c =
     let P : Seen → Type 0 = λ s. Prints (severing (machine s) v) (state (arrays_of t)) [] [] in
     subst P c.self.view_is (ap state (made_so e t (sever e.world v) c.in_ok-cut_apart.ensures.ok c.cut_apart.ensures.next), refl)
 
-pub returns-in_err-cut_apart : goal.returns-in_err-cut_apart
-returns-in_err-cut_apart g c =
+pub returns-in_err-cut_apart-clause-runs : goal.returns-in_err-cut_apart-clause-runs
+returns-in_err-cut_apart-clause-runs g c =
     let names = names_in c.self.inside.names.entries c.self.inside.kernels in
     let ws = c.self.inside.watches.items in
     let P : Seen → Type 0 = λ s. Grows s (scope_in names ws c.cut_apart.new.engine) in
@@ -51,3 +56,25 @@ invariant_of-self-in_err-cut_apart g c =
     let ws = c.self.inside.watches.items in
     let P : List ℕ → Type 0 = λ vs. IsHeld (state_in names ws c.self.inside.engine) c.self.inside.engine.holds vs in
     c.cut_apart.ensures.held names ws (subst P (sym c.in_ok-reserve.ensures.items) c.self.invariant)
+
+pub returns-clause-counted : goal.returns-clause-counted
+returns-clause-counted g c =
+    let v = c.args.id in
+    let P : Seen → Type 0 = λ s. c.cut_apart.new.steps ≤ c.args.steps.now + (ready_steps (engine_of s) v + size_of (dims_in s.arrays.world v)) in
+    subst P c.self.view_is c.cut_apart.ensures.counted
+
+pub returns-in_err-cut_apart-clause-counted : goal.returns-in_err-cut_apart-clause-counted
+returns-in_err-cut_apart-clause-counted g c =
+    let v = c.args.id in
+    let P : Seen → Type 0 = λ s. c.cut_apart.new.steps ≤ c.args.steps.now + (ready_steps (engine_of s) v + size_of (dims_in s.arrays.world v)) in
+    subst P c.self.view_is c.cut_apart.ensures.counted
+
+pub returns-clause-spent : goal.returns-clause-spent
+returns-clause-spent g c =
+    let P : Seen → Type 0 = λ s. root_of s.arrays.world c.args.id ≡ c.args.id → MovesNothing (engine_of s) c.cut_apart.new.engine c.args.steps.now c.cut_apart.new.steps in
+    subst P c.self.view_is c.cut_apart.ensures.spent
+
+pub returns-in_err-cut_apart-clause-spent : goal.returns-in_err-cut_apart-clause-spent
+returns-in_err-cut_apart-clause-spent g c =
+    let P : Seen → Type 0 = λ s. root_of s.arrays.world c.args.id ≡ c.args.id → MovesNothing (engine_of s) c.cut_apart.new.engine c.args.steps.now c.cut_apart.new.steps in
+    subst P c.self.view_is c.cut_apart.ensures.spent

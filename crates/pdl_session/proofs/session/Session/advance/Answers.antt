@@ -1,14 +1,15 @@
 use Rattle.std.proofs.Common.{ap, subst, ◌∙◌}
-use Rattle.std.specs.Prelude.{OnOk}
+use Rattle.std.specs.Prelude.{OnErr, OnOk}
 use Rattle.pdl_syntax.specs.StatementTree.{statement_of}
 use Rattle.pdl_watch.specs.Slots.{slots_by, present_in}
 use Rattle.pdl_machine.specs.Step.{effect}
 use Rattle.pdl_scope.specs.Scope.{machine}
 use Rattle.pdl_session.specs.Bounds.{LeavesReadable, RunsInPlace, warm_after}
-use Rattle.pdl_session.specs.Session.{AssignsAgain, PrintsAtMost, Session}
+use Rattle.pdl_session.specs.Session.{AssignsAgain, IsAsBefore, PrintsAtMost, Session}
 use Rattle.pdl_session.proofs.Advances.{advanced, advance_refused}
 use Rattle.pdl_session.proofs.Resting as resting
-use Rattle.pdl_session.proofs.Resting.{in_place, readable_then, warm_err, warm_ok}
+use Rattle.pdl_session.proofs.Resting.{as_before, in_place, readable_then, warm_err, warm_ok}
+use Rattle.pdl_session.proofs.Spelled.{left_spelled}
 use Rattle.pdl_session.proofs.Statements.{kept_seen}
 use Rattle.pdl_session.proofs.Tidied.{tidied_after}
 use Rattle.pdl_session.proofs.session.Session.advance.Goals as goal
@@ -31,7 +32,10 @@ returns-clause-kept g c =
 pub invariant_of-self : goal.invariant_of-self
 invariant_of-self g c =
     resting.at_rest (record { goes = c.sweep_laws.ensures.new; older = c.growth_laws.ensures.older; bases = c.sweep_laws.ensures.bases; seen = c.sweep_laws.ensures.seen; assigned = c.sweep_laws.ensures.assigned }) (present_in (slots_by g.W.Watcher.seen c.args.watchers.now.items)) c.run-ran.result (statement_of c.args.statement.now) c.self.inside.warm c.bare_target-assigned.result c.warm_then-self-inside.result c.self.inside.scope c.run-ran.new.scope c.let_go.new.self c.args.out.now.items c.run-ran.new.out.items
-    (record { whole = c.whole.ensures; swept = c.self.invariant.swept; ran = c.whole-2.ensures; gone = c.let_go.ensures.gone; stay = c.let_go.ensures.stay }) (tidied_after (machine c.run-ran.new.scope) (machine c.let_go.new.self) c.numbering_laws.ensures.again c.let_go.ensures.gone) c.self.invariant.kept_warm
+    (record { whole = c.whole.ensures; swept = c.self.invariant.swept; ran = c.whole-2.ensures; gone = c.let_go.ensures.gone; stay = c.let_go.ensures.stay }) (tidied_after (machine c.run-ran.new.scope) (machine c.let_go.new.self) c.numbering_laws.ensures.again c.let_go.ensures.gone)
+    (left_spelled (record { unseen = c.numbering_laws.ensures.unseen; keeps = c.dumpable_laws.ensures.keeps; numbers = c.dumpable_laws.ensures.numbers }) (present_in (slots_by g.W.Watcher.seen c.args.watchers.now.items)) c.run-ran.result (statement_of c.args.statement.now) c.self.inside.scope c.run-ran.new.scope (machine c.let_go.new.self) c.args.out.now.items c.run-ran.new.out.items
+    c.whole.ensures c.self.invariant.swept c.self.invariant.spelled c.requires.made c.whole-2.ensures c.let_go.ensures.unseen c.run-ran.ensures.runs)
+    c.self.invariant.kept_warm
     c.bare_target-assigned.ensures c.warm_then-self-inside.ensures c.run-ran.ensures.runs c.run-ran.ensures.readable
 
 pub returns-clause-warm : goal.returns-clause-warm
@@ -41,6 +45,14 @@ returns-clause-warm g c =
 
 pub returns-clause-warm_kept : goal.returns-clause-warm_kept
 returns-clause-warm_kept g c = warm_err c.run-ran.result c.bare_target-assigned.result c.self.inside.warm c.warm_then-self-inside.result c.args.self.now.warm c.warm_then-self-inside.ensures (ap (λ (s : Session). s.warm) c.self.view_is)
+
+pub returns-clause-scope_kept : goal.returns-clause-scope_kept
+returns-clause-scope_kept g c =
+    let P : Session → Type 0 = λ s. OnErr c.run-ran.result (IsAsBefore s.scope c.let_go.new.self) in
+    subst P c.self.view_is
+    (as_before (record { goes = c.sweep_laws.ensures.new; older = c.growth_laws.ensures.older; bases = c.sweep_laws.ensures.bases; seen = c.sweep_laws.ensures.seen; assigned = c.sweep_laws.ensures.assigned })
+    c.run-ran.result (effect (present_in (slots_by g.W.Watcher.seen c.args.watchers.now.items)) (machine c.self.inside.scope) (statement_of c.args.statement.now)) c.self.inside.scope c.run-ran.new.scope c.let_go.new.self c.args.out.now.items c.run-ran.new.out.items
+    (record { whole = c.whole.ensures; swept = c.self.invariant.swept; ran = c.whole-2.ensures; gone = c.let_go.ensures.gone; stay = c.let_go.ensures.stay }) c.run-ran.ensures.runs)
 
 pub returns-clause-again : goal.returns-clause-again
 returns-clause-again g c =

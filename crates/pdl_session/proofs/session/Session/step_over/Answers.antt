@@ -1,5 +1,7 @@
 use Rattle.pdl_syntax.specs.StatementTree.{statement_of}
 use Rattle.pdl_watch.specs.Slots.{slots_by}
+use Rattle.pdl_scope.specs.Scope.{machine}
+use Rattle.pdl_session.proofs.Dumped.{prints_dump}
 use Rattle.pdl_session.proofs.Heard.{has_done, has_run, stops_step, served_after}
 use Rattle.pdl_session.proofs.session.Session.step_over.Goals as goal
 
@@ -25,3 +27,7 @@ returns-in-Ok-clause-fault g c =
 
 pub returns-in-Ok-clause-ran : goal.returns-in-Ok-clause-ran
 returns-in-Ok-clause-ran g c = has_run (slots_by g.W.Watcher.seen c.args.watchers.now.items) c.in-Ok.ensures.ok
+
+pub returns-in-Ok-hear-clause-dumps : goal.returns-in-Ok-hear-clause-dumps
+returns-in-Ok-hear-clause-dumps g c =
+    prints_dump c.dump_law.ensures (machine c.args.self.now.scope) c.args.self.now.state (statement_of c.args.statement.now) c.at_rest.ensures.state c.dumpable.ensures.again c.in-Ok.ensures.ok

@@ -23,4 +23,4 @@ returns-in_err-close_over-clause-ends g c =
 pub returns-clause-ends : goal.returns-clause-ends
 returns-clause-ends g c =
     ends_whole c.course_laws.ensures c.args.is_cut c.args.self.now c.run_last.new.self _ _ _ c.in_ok-run_last.ensures.finishes
-    c.in_ok-flush.ensures.same c.in_ok-flush.ensures.cause c.in_ok-close_over.ensures.ok
+    c.in_ok-flush.ensures.same c.in_ok-flush.ensures.flushed c.in_ok-flush.ensures.cause c.in_ok-close_over.ensures.ok

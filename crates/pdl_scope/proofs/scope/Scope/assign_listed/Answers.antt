@@ -11,10 +11,9 @@ use Rattle.pdl_scope.proofs.Held.{numbers, held_readied, held_assigned}
 use Rattle.pdl_scope.proofs.Watched.{live_back}
 use Rattle.pdl_shape.specs.Shape.{size_of}
 use Rattle.pdl_world.specs.Sound.{IsLive}
-use Rattle.pdl_engine.specs.Reading.{KeepsViews}
-use Rattle.pdl_engine.specs.State.{is_fresh}
+use Rattle.pdl_engine.specs.Reading.{KeepsViews, read_steps}
 use Rattle.pdl_scope.proofs.Bounds.{read_views, warmed, written_views}
-use Rattle.pdl_scope.proofs.scope.Scope.assign.Goals as goal
+use Rattle.pdl_scope.proofs.scope.Scope.assign_listed.Goals as goal
 
 pub foreseen-requires-clause-watched : goal.foreseen-requires-clause-watched
 foreseen-requires-clause-watched g c =
@@ -81,14 +80,32 @@ returns-clause-warm g c =
     let there : IsLive late.world c.args.target = subst (λ w. IsLive w c.args.target) (sym (c.foreseen.ensures.same.world ∙ c.written.ensures.same.world)) live in
     warmed c.assignment_laws.ensures.bases late c.assign.new.self c.args.target c.deref-3.result.now there c.assign.ensures.world c.assign.ensures.target
 
-pub returns-clause-at_once : goal.returns-clause-at_once
-returns-clause-at_once g c =
+pub returns-clause-counted : goal.returns-clause-counted
+returns-clause-counted g c =
     let v = c.args.target in
-    let P : Seen → Type 0 = λ s. is_fresh (engine_of s) v ≡ true → is_fresh (engine_of s) c.args.value ≡ true → attached s.watches ≡ [] → c.assign.new.steps ≤ c.args.steps.now + size_of (dims_in s.arrays.world v) in
-    subst P c.self.view_is (λ to from none.
-    let found : c.written.new.steps ≡ c.args.steps.now = c.written.ensures.at_once to from in
+    let u = c.args.value in
+    let P : Seen → Type 0 = λ s. attached s.watches ≡ [] → c.assign.new.steps ≤ c.args.steps.now + (read_steps (engine_of s) v + read_steps (engine_of s) u) + size_of (dims_in s.arrays.world v) in
+    subst P c.self.view_is (λ none.
+    let found = c.written.ensures.counted in
     let told : c.foreseen.new.steps ≡ c.written.new.steps = c.foreseen.ensures.quiet (ap attached c.deref-2.ensures.value ∙ none) in
     let count : length c.deref-3.result.now ≡ size_of (dims_in c.written.new.engine.world v) = ap length c.deref-3.ensures.value ∙ c.in-Ok.ensures.made.count in
     let sizes : size_of (dims_in c.written.new.engine.world v) ≡ size_of (dims_in c.self.inside.engine.world v) = ap (λ w. size_of (dims_in w v)) c.written.ensures.same.world in
     let moved = c.assign.ensures.counted in
     omega (arith, found, told, count, sizes, moved))
+
+pub returns-in-Err-clause-counted : goal.returns-in-Err-clause-counted
+returns-in-Err-clause-counted g c =
+    let v = c.args.target in
+    let u = c.args.value in
+    let P : Seen → Type 0 = λ s. attached s.watches ≡ [] → c.written.new.steps ≤ c.args.steps.now + (read_steps (engine_of s) v + read_steps (engine_of s) u) + size_of (dims_in s.arrays.world v) in
+    subst P c.self.view_is (λ none. let found = c.written.ensures.counted in omega (arith, found))
+
+pub returns-in_err-all-clause-counted : goal.returns-in_err-all-clause-counted
+returns-in_err-all-clause-counted g c =
+    let v = c.args.target in
+    let u = c.args.value in
+    let P : Seen → Type 0 = λ s. attached s.watches ≡ [] → c.foreseen.new.steps ≤ c.args.steps.now + (read_steps (engine_of s) v + read_steps (engine_of s) u) + size_of (dims_in s.arrays.world v) in
+    subst P c.self.view_is (λ none.
+    let found = c.written.ensures.counted in
+    let told : c.foreseen.new.steps ≡ c.written.new.steps = c.foreseen.ensures.quiet (ap attached c.deref-2.ensures.value ∙ none) in
+    omega (arith, found, told))

@@ -2,7 +2,7 @@ use Rattle.std.proofs.Common.{◌≡◌, Bool, true, false, cond, Some, None, su
 use Rattle.pdl_buf.specs.Window.{Window}
 use Rattle.pdl_buf.specs.Made.{IsMade}
 use Rattle.pdl_engine.specs.State.{is_fresh, shown_in}
-use Rattle.pdl_scope.proofs.operating.written_at_once.Goals as goal
+use Rattle.pdl_scope.proofs.assigning.written_at_once.Goals as goal
 
 -- what is lent is what is shown
 lent_is : (b : Bool) (w x : Window) → Some w ≡ cond b (Some x) None → w ≡ x

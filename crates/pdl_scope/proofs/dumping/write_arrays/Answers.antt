@@ -1,0 +1,34 @@
+use Rattle.std.proofs.Common.{refl, sym, ◌∙◌}
+use Rattle.pdl_scope.proofs.DumpArrays.{all_written, next_refused, next_written, none_yet}
+use Rattle.pdl_scope.proofs.dumping.write_arrays.Goals as goal
+
+pub loop-at-init : goal.loop-at-init
+loop-at-init g c = record {
+  same = record { world = refl; holds = refl; next = refl };
+  stay = λ v is. is;
+  lines = none_yet c.args.image.now c.args.engine.now.world c.requires.room;
+}
+
+pub returns-in_err-write_array-clause-lines : goal.returns-in_err-write_array-clause-lines
+returns-in_err-write_array-clause-lines g c =
+    next_refused c.dump_laws.ensures.join c.growth_laws.ensures.below c.args.engine.now.world c.loop-at.engine.world c.args.ids.now c.loop-at.at
+    c.args.image.now c.loop-at.image c.write_array.new.image c.in_err-write_array.field-0.0 c.from_residual.result
+    c.requires.sound c.requires.ids c.loop-at.invariant.same.world c.loop-at-test.true c.loop-at.invariant.lines c.in_err-write_array.ensures.lines c.from_residual.ensures.1
+
+pub loop-at-preserved : goal.loop-at-preserved
+loop-at-preserved g c = record {
+  same = record {
+    world = c.write_array.ensures.same.world ∙ c.loop-at.invariant.same.world;
+    holds = c.write_array.ensures.same.holds ∙ c.loop-at.invariant.same.holds;
+    next = c.write_array.ensures.same.next ∙ c.loop-at.invariant.same.next;
+  };
+  stay = λ v is. c.write_array.ensures.stay v (c.loop-at.invariant.stay v is);
+  lines = next_written c.dump_laws.ensures.join c.growth_laws.ensures.below c.args.engine.now.world c.loop-at.engine.world c.args.ids.now c.loop-at.at
+      c.args.image.now c.loop-at.image c.write_array.new.image c.in_ok-write_array.field-0
+      c.requires.sound c.requires.ids c.loop-at.invariant.same.world c.loop-at-test.true c.loop-at.invariant.lines c.in_ok-write_array.ensures.lines;
+}
+
+pub returns-clause-lines : goal.returns-clause-lines
+returns-clause-lines g c =
+    all_written c.args.engine.now.world c.args.ids.now c.loop-at.at c.args.image.now c.loop-at.image tt
+    c.requires.ids c.loop-at-test.false c.loop-at.auto.at-end c.loop-at.invariant.lines

@@ -1,0 +1,19 @@
+use Rattle.std.proofs.Common.{◌+◌, ℕ, Vec, Global, ap, ap₂, subst, ◌∙◌}
+use Rattle.std.specs.Prelude.{nat_lt, is_some}
+use Rattle.std.specs.List.{list_any}
+use Rattle.pdl_machine.specs.Dumps.{dumped}
+use Rattle.pdl_machine.specs.Names.{names_limit}
+use Rattle.pdl_machine.specs.State.{State}
+use Rattle.pdl_scope.specs.Answers.{AnswersAs}
+use Rattle.pdl_scope.specs.Scope.{machine, names_in, state_in}
+use Rattle.pdl_scope.proofs.DumpLemmas.{dumped_as}
+use Rattle.pdl_scope.proofs.scope.Scope.dump.Goals as goal
+
+pub returns-clause-text : goal.returns-clause-text
+returns-clause-text g c =
+    let names = names_in c.self.inside.names.entries c.self.inside.kernels in
+    let s : State = state_in names c.self.inside.watches.items c.self.inside.engine in
+    subst (λ (t : State). AnswersAs {T = Vec ℕ Global} (λ text. text.items) (dumped t) c.dump_text.result) (ap machine c.self.view_is)
+    (dumped_as {T = Vec ℕ Global} (λ text. text.items) s c.is_any_attached.result c.are_too_many.result c.dump_text.result
+    (c.is_any_attached.ensures ∙ ap (list_any is_some) c.deref.ensures.value) c.if-is_any_attached.false
+    (c.are_too_many.ensures ∙ ap₂ (λ (a n : ℕ). nat_lt names_limit (a + n + 1)) c.live.ensures c.len.ensures) c.if-are_too_many.false c.dump_text.ensures.text)

@@ -1,0 +1,225 @@
+//! Assignments to the arrays of a scope.
+ghost use Rattle.std.specs.Prelude.{◌≡◌, ◌+◌, ◌≤◌, ◌&&◌, true, [], Ok, IfOk, IfSome, OnOk, is_some};
+ghost use Rattle.pdl_shape.specs.Shape.{size_of};
+ghost use Rattle.pdl_buf.specs.Made.{IsMade};
+ghost use Rattle.pdl_world.specs.Sound.{IsLive};
+ghost use Rattle.pdl_world.specs.World.{dims_in, ty_in};
+ghost use Rattle.pdl_engine.specs.Reading.{IsWarm, KeepsViews, read_steps};
+ghost use Rattle.pdl_engine.specs.State.{is_fresh, SameArrays, StayFresh};
+ghost use Rattle.pdl_machine.specs.Arrays.{array_in};
+ghost use Rattle.pdl_machine.specs.Operators.{values_for};
+ghost use Rattle.pdl_machine.specs.Step.{assigned};
+ghost use Rattle.pdl_machine.specs.State.{with_arrays};
+ghost use Rattle.pdl_machine.specs.Then.{and_then};
+ghost use Rattle.pdl_machine.specs.Watches.{attached, notices};
+ghost use Rattle.pdl_watch.specs.Slots.{lists_of};
+ghost use Rattle.pdl_scope.specs.Answers.{AnswersAs, Runs};
+ghost use Rattle.pdl_scope.specs.Assigning.{Assigns, GoesInBlocks};
+ghost use Rattle.pdl_scope.specs.Scope.{engine_of, machine, arrays_of, OnlyReads};
+
+use crate::fault::ScopeFault;
+use crate::reading::ready_two;
+use crate::scope::Scope;
+use crate::watching::foreseen;
+use pdl_assign::{BLOCK, assign_blocks, can_block};
+use pdl_buf::Steps;
+use pdl_engine::{ArrayId, Engine};
+use pdl_lexemes::AssignOp;
+use pdl_ops::values_for;
+use pdl_shape::elements_of;
+use pdl_watch::Notice;
+use pdl_world::{assignment_laws, keeping_laws};
+use std::alloc::{AllocError, Global};
+use std::sync::ledger::Ledger;
+
+impl Scope {
+    /// Assigns an array to another one by a sign, and answers by slots what watchers are to be
+    /// told: a notice of this number for each position at which the array of the slot changed. What
+    /// is written are the values by the elements at the start, whether they are found all at once
+    /// or block by block, and writing them takes no memory. Where no slot is attached, it takes at
+    /// most a step for each position beside those that it takes to read both arrays; and what was
+    /// assigned to can be lent afterwards, unless its base has repeats.
+    pub fn assign<L: Ledger>(
+        &mut self,
+        sign: AssignOp,
+        target: ArrayId,
+        value: ArrayId,
+        number: u64,
+        steps: &mut Steps<L>,
+    ) -> Result<Vec<Vec<Notice>>, ScopeFault>
+        requires target { IsLive self.old.arrays.world target }
+        requires value { IsLive self.old.arrays.world value }
+        ensures runs { let values = assigned sign self.old.arrays target value in
+            let wanted = and_then values (λ a. Ok (with_arrays (machine self.old) a, [])) in
+            Runs wanted self.old self.new [] [] result }
+        ensures told { let before = self.old.arrays.world in
+            let wanted = notices number before self.new.arrays.world self.old.watches in
+            IfOk result (λ all. lists_of all.items ≡ wanted) }
+        ensures warm { OnOk result (IsWarm (engine_of self.new) target) }
+        ensures views { KeepsViews self.new.arrays.world self.old.arrays.world }
+        ensures at_once { let e = engine_of self.old in is_fresh e target ≡ true
+            → is_fresh e value ≡ true → attached self.old.watches ≡ []
+            → steps.new ≤ steps.old + size_of (dims_in e.world target) }
+        ensures counted { let e = engine_of self.old in attached self.old.watches ≡ []
+            → steps.new ≤ steps.old + (read_steps e target + read_steps e value)
+            + size_of (dims_in e.world target) }
+    {
+        if self.goes_in_blocks(sign, target, value, steps)? {
+            return match self.assign_in_blocks(sign, target, value, steps) {
+                Ok(()) => Ok(Vec::new(self.alloc)),
+                Err(fault) => Err(fault),
+            };
+        }
+        self.assign_listed(sign, target, value, number, steps)
+    }
+
+    /// Whether an assignment is made block by block, without a list of its values: there are more
+    /// of them than one block has, no slot is attached, whose notices want the list, and it is
+    /// plain that no block reads what one before it wrote. To find out, both arrays are made ones
+    /// that can be lent, which the assignment wants in any case.
+    fn goes_in_blocks<L: Ledger>(
+        &mut self,
+        sign: AssignOp,
+        target: ArrayId,
+        value: ArrayId,
+        steps: &mut Steps<L>,
+    ) -> Result<bool, AllocError>
+        requires target { IsLive self.old.arrays.world target }
+        requires value { IsLive self.old.arrays.world value }
+        ensures same { OnlyReads self.old self.new }
+        ensures blocks { IfOk result (λ b. b ≡ true → GoesInBlocks sign self.new target value) }
+        ensures counted { let e = engine_of self.old in
+            steps.new ≤ steps.old + (read_steps e target + read_steps e value) }
+        ensures spent { let e = engine_of self.old in let f = engine_of self.new in
+            OnOk result (steps.new + (read_steps f target + read_steps f value)
+            ≤ steps.old + (read_steps e target + read_steps e value)) }
+    {
+        let count = elements_of(self.engine.dims(target)) as usize;
+        if count <= BLOCK || !self.watches.is_empty() {
+            return Ok(false);
+        }
+        ready_two(&mut self.engine, target, value, steps)?;
+        Ok(can_block(&self.engine, sign, target, value))
+    }
+
+    /// What `assign` does, block by block. All of the right side is looked at before the first
+    /// write, and no memory is wanted.
+    fn assign_in_blocks<L: Ledger>(
+        &mut self,
+        sign: AssignOp,
+        target: ArrayId,
+        value: ArrayId,
+        steps: &mut Steps<L>,
+    ) -> Result<(), ScopeFault>
+        requires target { IsLive self.old.arrays.world target }
+        requires value { IsLive self.old.arrays.world value }
+        requires blocks { GoesInBlocks sign self.old target value }
+        ensures runs { Assigns sign target value self.old self.new result }
+        ensures warm { OnOk result (IsWarm (engine_of self.new) target) }
+        ensures views { KeepsViews self.new.arrays.world self.old.arrays.world }
+        ensures counted { steps.new ≤ steps.old + size_of (dims_in self.old.arrays.world target) }
+    {
+        assignment_laws();
+        keeping_laws();
+        match assign_blocks(&mut self.engine, sign, target, value, steps) {
+            Ok(()) => Ok(()),
+            Err(fault) => Err(ScopeFault::from(fault)),
+        }
+    }
+
+    /// What `assign` does, with a list of all values. They and all notices are found before one
+    /// value is written.
+    fn assign_listed<L: Ledger>(
+        &mut self,
+        sign: AssignOp,
+        target: ArrayId,
+        value: ArrayId,
+        number: u64,
+        steps: &mut Steps<L>,
+    ) -> Result<Vec<Vec<Notice>>, ScopeFault>
+        requires target { IsLive self.old.arrays.world target }
+        requires value { IsLive self.old.arrays.world value }
+        ensures runs { Assigns sign target value self.old self.new result }
+        ensures told { let before = self.old.arrays.world in
+            let wanted = notices number before self.new.arrays.world self.old.watches in
+            IfOk result (λ all. lists_of all.items ≡ wanted) }
+        ensures warm { OnOk result (IsWarm (engine_of self.new) target) }
+        ensures views { KeepsViews self.new.arrays.world self.old.arrays.world }
+        ensures counted { let e = engine_of self.old in attached self.old.watches ≡ []
+            → steps.new ≤ steps.old + (read_steps e target + read_steps e value)
+            + size_of (dims_in e.world target) }
+    {
+        assignment_laws();
+        keeping_laws();
+        let values = match written(self.alloc, &mut self.engine, sign, target, value, steps) {
+            Ok(values) => values,
+            Err(fault) => return Err(fault),
+        };
+        let all = foreseen(
+            self.alloc,
+            &mut self.engine,
+            number,
+            target,
+            &values,
+            &self.watches,
+            steps,
+        )?;
+        self.engine.assign(target, &values, steps);
+        Ok(all)
+    }
+}
+
+/// The values that an assignment writes, if both arrays can be lent already: then each of them is
+/// looked up once.
+fn written_at_once(
+    alloc: Global,
+    engine: &Engine,
+    sign: AssignOp,
+    target: ArrayId,
+    value: ArrayId,
+) -> Option<Result<Vec<i64>, ScopeFault>>
+    requires target { IsLive engine.now.world target }
+    requires value { IsLive engine.now.world value }
+    ensures fresh { is_some result ≡ (is_fresh engine.now target && is_fresh engine.now value) }
+    ensures value { let a = arrays_of engine.now in
+        let wanted = values_for sign (array_in a target) (array_in a value) in
+        IfSome result (λ r. AnswersAs (λ vs. vs.items) wanted r) }
+    ensures made { let w = engine.now.world in
+        IfSome result (λ r. IfOk r (λ vs. IsMade (ty_in w target) (dims_in w target) vs.items)) }
+{
+    let into = engine.try_lend(target)?;
+    let from = engine.try_lend(value)?;
+    match values_for(alloc, sign, &into, &from) {
+        Ok(values) => Some(Ok(values)),
+        Err(fault) => Some(Err(ScopeFault::from(fault))),
+    }
+}
+
+/// The values that an assignment writes, after which its target can be lent.
+fn written<L: Ledger>(
+    alloc: Global,
+    engine: &mut Engine,
+    sign: AssignOp,
+    target: ArrayId,
+    value: ArrayId,
+    steps: &mut Steps<L>,
+) -> Result<Vec<i64>, ScopeFault>
+    requires target { IsLive engine.old.world target }
+    requires value { IsLive engine.old.world value }
+    ensures same { SameArrays engine.old engine.new }
+    ensures stay { StayFresh engine.old engine.new }
+    ensures fresh { OnOk result (is_fresh engine.new target ≡ true) }
+    ensures value { let a = arrays_of engine.new in
+        AnswersAs (λ vs. vs.items) (values_for sign (array_in a target) (array_in a value)) result }
+    ensures made { let w = engine.new.world in
+        IfOk result (λ vs. IsMade (ty_in w target) (dims_in w target) vs.items) }
+    ensures counted { let e = engine.old in
+        steps.new ≤ steps.old + (read_steps e target + read_steps e value) }
+{
+    if let Some(found) = written_at_once(alloc, engine, sign, target, value) {
+        return found;
+    }
+    ready_two(engine, target, value, steps)?;
+    let values = values_for(alloc, sign, &engine.lend(target), &engine.lend(value))?;
+    Ok(values)
+}
