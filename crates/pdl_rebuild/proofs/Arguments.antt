@@ -1,30 +1,29 @@
 -- Numbers as arguments of a call.
-use Rattle.std.proofs.Common.{◌≡◌, ℕ, zero, suc, ◌+◌, ◌<◌, ◌≤◌, Bool, true, false, List, [], ◌∷◌, ◌++◌, length, refl, sym, ◌∙◌, ap, ap₂, subst, arith, map, ℤ, pos, negsuc, append_assoc}
+use Rattle.std.proofs.Common.{◌≡◌, ℕ, suc, ◌+◌, ◌<◌, ◌≤◌, List, [], ◌∷◌, ◌++◌, refl, sym, ◌∙◌, ap, ap₂, arith, map, ℤ, pos, negsuc, append_assoc}
 use Rattle.std.proofs.lemmas.Bool.{ltb-false}
 use Rattle.std.proofs.lemmas.Int.{ints}
 use Rattle.std.proofs.lemmas.List.{append-nil}
-use Rattle.std.specs.Prelude.{Option, Some, None, Result, Ok, Err, option_map, codes, IsSomeAnd, nat_lt, if◌then◌else◌, ◌||◌}
+use Rattle.std.specs.Prelude.{Some, Ok, nat_lt}
 use Rattle.pdl_lemmas.specs.Tests.{by_test}
 use Rattle.pdl_elem.specs.declared.Ty.{Ty}
-use Rattle.pdl_elem.specs.declared.Ty.TheVariants.{Long, Longlong}
+use Rattle.pdl_elem.specs.declared.Ty.TheVariants.{Long}
 use Rattle.pdl_elem.specs.declared.UnaryOp.TheVariants.{Neg}
 use Rattle.pdl_elem.specs.Laws.{WrappingLaws}
 use Rattle.pdl_elem.specs.Types.{InRange}
 use Rattle.pdl_lexemes.specs.Lists.{type_of}
-use Rattle.pdl_buf.specs.declared.made.Made.{Made}
 use Rattle.pdl_ops.specs.Elementwise.{unary_each}
-use Rattle.pdl_syntax.specs.Tree.{Tree, Args, number, call, none, value}
+use Rattle.pdl_syntax.specs.Tree.{Args, number, value}
 use Rattle.pdl_reread.specs.Trees.{number_tree, with_numbers, with_sizes, AllFit}
 use Rattle.pdl_world.specs.Laws.{NewRootIsSeen, NewRootIsWhole}
 use Rattle.pdl_world.specs.Sound.{IsLive}
 use Rattle.pdl_world.specs.World.{ArrayDef, root, elements, look_of_root}
-use Rattle.pdl_machine.specs.Arrays.{Arrays, with_new, array_in}
+use Rattle.pdl_machine.specs.Arrays.{Arrays, with_new}
 use Rattle.pdl_machine.specs.Fills.{number_in, only}
 use Rattle.pdl_machine.specs.Names.{Names}
 use Rattle.pdl_machine.specs.Outcome.{array, Given, all_seen, new_root}
 use Rattle.pdl_machine.specs.Then.{and_then, and_more, all_of}
-use Rattle.pdl_machine.specs.Value.{value_of, taken, number_made}
-use Rattle.pdl_rebuild.proofs.Passing.{with_all, with_all_append, AreFine, all_fine, new_fine, live_by, OlderLaws, all_stay, root_shown}
+use Rattle.pdl_machine.specs.Value.{value_of, taken}
+use Rattle.pdl_rebuild.proofs.Passing.{with_all, with_all_append, AreFine, all_fine, live_by, OlderLaws, all_stay, root_shown}
 
 -- the array of a number
 abbrev pub number_def : Ty → ℤ → ArrayDef

@@ -1,20 +1,17 @@
 -- What a binding of a new name does.
-use Rattle.std.proofs.Common.{◌≡◌, ℕ, suc, ◌+◌, ◌<◌, ◌≤◌, Bool, true, false, List, [], ◌∷◌, ◌++◌, length, refl, sym, ◌∙◌, ap, ap₂, arith}
+use Rattle.std.proofs.Common.{◌≡◌, ℕ, ◌+◌, ◌<◌, ◌≤◌, false, List, [], ◌∷◌, ◌++◌, length, refl, sym, ◌∙◌, ap}
 use Rattle.std.proofs.lemmas.Bool.{lt-ltb}
-use Rattle.std.specs.Prelude.{Option, Some, None, Result, Ok, Err, nat_eq, nat_lt, is_none, not, ◌&&◌, if◌then◌else◌}
+use Rattle.std.specs.Prelude.{None, Ok, nat_eq}
 use Rattle.std.specs.Cmp.Lexicographic.{pointwise}
 use Rattle.pdl_lemmas.specs.Options.{none_some}
 use Rattle.pdl_lemmas.specs.Tests.{by_test}
-use Rattle.pdl_syntax.specs.StatementTree.{StatementTree, bind}
+use Rattle.pdl_syntax.specs.StatementTree.{bind}
 use Rattle.pdl_syntax.specs.Tree.{Tree}
 use Rattle.pdl_world.specs.KeepingLaws.{MoreKeepAll}
 use Rattle.pdl_world.specs.World.{ArrayDef, World}
 use Rattle.pdl_machine.specs.declared.fault.Fault.{Fault}
 use Rattle.pdl_machine.specs.declared.fault.Fault.TheVariants.{TooManyNames}
-use Rattle.pdl_machine.specs.Arrays.{Arrays}
-use Rattle.pdl_machine.specs.Names.{KernelTexts, Named, Names, found, with_name, entered, names_limit, bind as bind_name}
-use Rattle.pdl_machine.specs.Outcome.{Valued}
-use Rattle.pdl_machine.specs.State.{State}
+use Rattle.pdl_machine.specs.Names.{KernelTexts, Named, found, with_name, entered, names_limit}
 use Rattle.pdl_machine.specs.Step.{bind_value, bound}
 use Rattle.pdl_machine.specs.Then.{and_then}
 use Rattle.pdl_machine.specs.Value.{value_of}

@@ -1,6 +1,6 @@
 -- Calls of view words.
-use Rattle.std.proofs.Common.{◌≡◌, ℕ, suc, ◌+◌, List, [], ◌∷◌, ◌++◌, refl, sym, ◌∙◌, ap, ap₂}
-use Rattle.std.specs.Prelude.{Option, Some, None, Result, Ok, Err, codes}
+use Rattle.std.proofs.Common.{◌≡◌, ℕ, List, [], ◌∷◌, ◌++◌, refl, ◌∙◌, ap}
+use Rattle.std.specs.Prelude.{Some, None, Ok, codes}
 use Rattle.pdl_slices.specs.declared.SliceArg.{SliceArg}
 use Rattle.pdl_slices.specs.Meaning.{slice_of}
 use Rattle.pdl_affine.specs.declared.Affine.TheVariants as affine
@@ -11,8 +11,7 @@ use Rattle.pdl_world.specs.Refused.{view_refusal}
 use Rattle.pdl_world.specs.World.{view}
 use Rattle.pdl_machine.specs.declared.builtin.Builtin.{Builtin}
 use Rattle.pdl_machine.specs.declared.builtin.Builtin.TheVariants.{Slice}
-use Rattle.pdl_machine.specs.declared.fault.Fault.{Fault}
-use Rattle.pdl_machine.specs.declared.fault.Fault.TheVariants.{UnknownFunction, UnknownName}
+use Rattle.pdl_machine.specs.declared.fault.Fault.TheVariants.{UnknownFunction}
 use Rattle.pdl_machine.specs.Arrays.{Arrays, with_new}
 use Rattle.pdl_machine.specs.Builtin.{builtin_of}
 use Rattle.pdl_machine.specs.Calls.{outcome, callee_among, value_by, call_value}

@@ -1,11 +1,11 @@
 -- The lines of a root: zeros, and then its elements piece by piece.
-use Rattle.std.proofs.Common.{◌≡◌, ℕ, zero, suc, ◌+◌, ◌-◌, ◌*◌, ◌/◌, ◌<◌, ◌≤◌, Bool, true, false, List, [], ◌∷◌, ◌++◌, length, refl, sym, ◌∙◌, ap, ap₂, subst, arith, map, take, drop, replicate, ℤ, pos, negsuc, length-append, append_assoc, take-append-drop, length-drop, eqb-true}
+use Rattle.std.proofs.Common.{◌≡◌, ℕ, zero, suc, ◌+◌, ◌*◌, ◌<◌, ◌≤◌, true, false, List, [], ◌∷◌, ◌++◌, length, refl, sym, ◌∙◌, ap, ap₂, subst, arith, map, take, drop, replicate, ℤ, pos, negsuc, length-append, append_assoc, take-append-drop, length-drop, eqb-true}
 use Rattle.std.proofs.lemmas.Int.{ints}
 use Rattle.std.proofs.lemmas.List.{append-nil, map-append, length-take, drop-drop, take_all, drop_all}
 use Rattle.std.proofs.lemmas.List.Elements.{All-head, All-tail, All-cons, All-nil, All-take, All-drop}
 use Rattle.std.proofs.Math.Seq.{take-add}
 use Rattle.std.specs.List.{flat_map, range_with_len, list_any}
-use Rattle.std.specs.Prelude.{Option, Some, None, All, ◌==◌, if◌then◌else◌, ◌||◌}
+use Rattle.std.specs.Prelude.{Some, None, All}
 use Rattle.pdl_lemmas.specs.Tests.{by_test}
 use Rattle.pdl_elem.specs.declared.Ty.{Ty}
 use Rattle.pdl_elem.specs.declared.Ty.TheVariants.{Sbyte, Byte, Short, Ushort, Long, Ulong, Longlong}
@@ -14,9 +14,8 @@ use Rattle.pdl_elem.specs.Types.{InRange}
 use Rattle.pdl_buf.specs.Made.{IsMade}
 use Rattle.pdl_shape.specs.Shape.{IsDims, size_of}
 use Rattle.pdl_choice.specs.Where.{is_set}
-use Rattle.pdl_syntax.specs.StatementTree.{StatementTree}
 use Rattle.pdl_world.specs.KeepingLaws.{NewestKeepsAll, NewestIsKept, MoreKeepAll}
-use Rattle.pdl_world.specs.Swept.{is_listed, parents, KeepsAll}
+use Rattle.pdl_world.specs.Swept.{parents}
 use Rattle.pdl_world.specs.World.{World, ArrayDef, root}
 use Rattle.pdl_image.specs.declared.TheConstants.{PIECE}
 use Rattle.pdl_image.specs.Dump.{is_least, as_listed, given_lines, least_lines, filling_lines, piece_lines, piece_count, root_lines}

@@ -1,30 +1,28 @@
 -- The statements of a dump, one after another.
-use Rattle.std.proofs.Common.{◌≡◌, ℕ, zero, suc, ◌+◌, ◌<◌, ◌≤◌, ◌^◌, Bool, true, false, List, [], ◌∷◌, ◌++◌, length, refl, sym, ◌∙◌, ap, ap₂, subst, arith, map, length-append, append_assoc, append-nil}
-use Rattle.std.proofs.lemmas.Bool.{ltb-false}
+use Rattle.std.proofs.Common.{◌≡◌, ℕ, suc, ◌+◌, ◌≤◌, true, false, List, [], ◌∷◌, ◌++◌, length, refl, sym, ◌∙◌, ap, subst, arith, map, length-append, append_assoc, append-nil}
 use Rattle.std.proofs.lemmas.List.{map-append}
 use Rattle.std.proofs.lemmas.List.FromFn.{map-range_with_len_more}
 use Rattle.std.specs.Cmp.Lexicographic.{pointwise}
-use Rattle.std.specs.List.{range_with_len, list_any}
-use Rattle.std.specs.Prelude.{Option, Some, None, Result, Ok, Err, nat_eq, nat_lt, if◌then◌else◌, is_some}
+use Rattle.std.specs.List.{range_with_len}
+use Rattle.std.specs.Prelude.{None, Ok, nat_eq}
 use Rattle.pdl_lemmas.specs.Options.{none_some}
 use Rattle.pdl_lemmas.specs.Tests.{by_test}
 use Rattle.pdl_world.specs.KeepingLaws.{MoreKeepAll}
 use Rattle.pdl_world.specs.World.{World}
-use Rattle.pdl_image.specs.Dump.{Definition, definition_line, name_line, undef_lines}
+use Rattle.pdl_image.specs.Dump.{definition_line, name_line, undef_lines}
 use Rattle.pdl_image.specs.Lines.{Line, kernel_line, same_line, undef_line}
 use Rattle.pdl_image.specs.Stems.{name_at}
 use Rattle.pdl_reread.specs.Trees.{line_tree}
 use Rattle.pdl_machine.specs.Dumps.{definition}
 use Rattle.pdl_machine.specs.Kernels.{defined}
-use Rattle.pdl_machine.specs.Names.{KernelTexts, Named, found, names_limit, kernels_limit}
-use Rattle.pdl_machine.specs.State.{State}
+use Rattle.pdl_machine.specs.Names.{KernelTexts, Named, found, kernels_limit}
 use Rattle.pdl_machine.specs.Watches.{Watches}
 use Rattle.pdl_rebuild.specs.Named.{NamesAreBound, NamesEnd, KernelsAreDefined}
 use Rattle.pdl_rebuild.specs.Rebuilt.{state_of, one_name, arrays_of, AreBelow, InOrder, IsResting}
 use Rattle.pdl_rebuild.specs.Steps.{Leads, AllLead}
 use Rattle.pdl_rebuild.proofs.Leading.{none_lead, first_leads, then_lead, one_leads}
-use Rattle.pdl_rebuild.proofs.Stems.{stems, stems_long, stem_found, apart_new}
-use Rattle.pdl_rebuild.proofs.Texts.{AllApart, found_front, found_back, one_new, same_text}
+use Rattle.pdl_rebuild.proofs.Stems.{stems, stems_long, stem_found}
+use Rattle.pdl_rebuild.proofs.Texts.{found_front, found_back, one_new, same_text}
 use Rattle.pdl_rebuild.proofs.Tidying.{below_arrays, includes_front, includes_behind}
 
 -- no name stands twice

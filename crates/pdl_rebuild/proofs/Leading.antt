@@ -1,20 +1,18 @@
 -- Steps that are quiet, one after another.
-use Rattle.std.proofs.Common.{◌≡◌, ℕ, suc, ◌+◌, Bool, true, false, List, [], ◌∷◌, ◌++◌, length, refl, sym, ◌∙◌, ap, ap₂, subst, arith, map}
-use Rattle.std.specs.Prelude.{Option, Some, None, Result, Ok, Err, is_some}
+use Rattle.std.proofs.Common.{◌≡◌, ℕ, suc, ◌+◌, Bool, true, false, List, [], ◌∷◌, ◌++◌, length, refl, sym, ◌∙◌, ap, arith, map}
+use Rattle.std.specs.Prelude.{Some, None, Result, Ok, Err, is_some}
 use Rattle.std.specs.List.{list_any}
 use Rattle.pdl_syntax.specs.StatementTree.{StatementTree}
 use Rattle.pdl_watch.specs.declared.notice.Notice.{Notice}
 use Rattle.pdl_watch.specs.Slots.{joined}
 use Rattle.pdl_world.specs.World.{World}
 use Rattle.pdl_machine.specs.declared.fault.Fault.{Fault}
-use Rattle.pdl_machine.specs.Names.{KernelTexts, Named}
 use Rattle.pdl_machine.specs.State.{State}
 use Rattle.pdl_machine.specs.Step.{Done, effect, left, done, step}
 use Rattle.pdl_machine.specs.Then.{and_then}
 use Rattle.pdl_machine.specs.Tidy.{tidy}
-use Rattle.pdl_machine.specs.Watches.{Watches, slot_notices, notices}
+use Rattle.pdl_machine.specs.Watches.{Watches, notices}
 use Rattle.pdl_machine.specs.Worked.{done_behind, all_done}
-use Rattle.pdl_rebuild.specs.Rebuilt.{state_with, state_of}
 use Rattle.pdl_rebuild.specs.Steps.{quietly, Leads, AllLead}
 
 -- no notices of each slot

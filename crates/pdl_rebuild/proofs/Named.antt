@@ -1,20 +1,18 @@
 -- The lines of names and of kernels.
-use Rattle.std.proofs.Common.{◌≡◌, ℕ, suc, ◌+◌, ◌<◌, ◌≤◌, Bool, true, false, List, [], ◌∷◌, ◌++◌, length, refl, sym, ◌∙◌, ap, ap₂, arith}
-use Rattle.std.specs.Prelude.{Option, Some, None, Result, Ok, Err}
+use Rattle.std.proofs.Common.{◌≡◌, ℕ, suc, Bool, false, List, [], ◌∷◌, ◌++◌, length, refl, ◌∙◌, ap, ap₂, arith}
+use Rattle.std.specs.Prelude.{Some, None, Ok}
 use Rattle.pdl_syntax.specs.StatementTree.{bind, pp_def, undef}
 use Rattle.pdl_syntax.specs.Tree.{named}
 use Rattle.pdl_world.specs.KeepingLaws.{MoreKeepAll}
-use Rattle.pdl_world.specs.World.{World, ArrayDef}
-use Rattle.pdl_machine.specs.declared.fault.Fault.{Fault}
+use Rattle.pdl_world.specs.World.{World}
 use Rattle.pdl_machine.specs.declared.fault.Fault.TheVariants.{UnknownName, TooManyKernels}
-use Rattle.pdl_machine.specs.Names.{KernelTexts, Named, Names, found, without_name, kernels_limit}
-use Rattle.pdl_machine.specs.State.{State}
+use Rattle.pdl_machine.specs.Names.{KernelTexts, Named, found, kernels_limit}
 use Rattle.pdl_machine.specs.Step.{effect, kernel_named}
 use Rattle.pdl_machine.specs.Then.{and_then, or_fault}
 use Rattle.pdl_machine.specs.Value.{known}
 use Rattle.pdl_machine.specs.Watches.{Watches}
 use Rattle.pdl_rebuild.specs.Named.{NamesAreBound, NamesEnd, LastButOneGoes, KernelsAreDefined}
-use Rattle.pdl_rebuild.specs.Rebuilt.{state_with, state_of, one_name, ParentBelow, IsResting, arrays_of}
+use Rattle.pdl_rebuild.specs.Rebuilt.{state_of, one_name, arrays_of}
 use Rattle.pdl_rebuild.proofs.Binding.{value_bound, new_entered}
 use Rattle.pdl_rebuild.proofs.Leading.{leads_by}
 use Rattle.pdl_rebuild.proofs.Texts.{found_back, found_below, same_text, without_it}

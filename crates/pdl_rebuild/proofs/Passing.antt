@@ -1,6 +1,6 @@
 -- Arrays that pass: new ones that nothing reaches after the statement.
-use Rattle.std.proofs.Common.{◌≡◌, ℕ, suc, ◌+◌, ◌<◌, ◌≤◌, List, [], ◌∷◌, ◌++◌, length, refl, sym, ◌∙◌, ap, ap₂, subst, arith, append_assoc, ℤ}
-use Rattle.std.specs.Prelude.{IsSomeAnd, None, Some, nat_lt, if◌then◌else◌}
+use Rattle.std.proofs.Common.{◌≡◌, ℕ, suc, ◌+◌, ◌≤◌, List, [], ◌∷◌, ◌++◌, length, refl, sym, ◌∙◌, ap, ap₂, subst, arith, append_assoc, ℤ}
+use Rattle.std.specs.Prelude.{IsSomeAnd, Some}
 use Rattle.std.specs.Option.{option_map_or}
 use Rattle.pdl_elem.specs.declared.Ty.{Ty}
 use Rattle.pdl_elem.specs.declared.Ty.TheVariants.{Byte}
@@ -11,10 +11,10 @@ use Rattle.pdl_world.specs.Laws.{OlderStay, OlderElementsStay, OlderPathsStay, N
 use Rattle.pdl_world.specs.Paths.{path}
 use Rattle.pdl_world.specs.Refused.{refusal_at, view_refusal}
 use Rattle.pdl_world.specs.Sound.{NumbersBelow, IsLive}
-use Rattle.pdl_world.specs.World.{World, ArrayDef, root, Look, look, elements, dims_in}
+use Rattle.pdl_world.specs.World.{World, ArrayDef, root, Look, look, elements}
 use Rattle.pdl_machine.specs.Arrays.{Arrays, with_new, array_in}
 use Rattle.pdl_rebuild.specs.Rebuilt.{InOrder}
-use Rattle.pdl_rebuild.proofs.Tidying.{AllWithin, within_more}
+use Rattle.pdl_rebuild.proofs.Tidying.{AllWithin}
 
 -- with these new arrays, one after another
 abbrev pub with_all : Arrays → List ArrayDef → Arrays

@@ -1,7 +1,7 @@
 -- The line of a piece, and that of the least longlong.
-use Rattle.std.proofs.Common.{◌≡◌, ℕ, zero, suc, ◌+◌, ◌-◌, ◌*◌, ◌<◌, ◌≤◌, Bool, true, false, List, [], ◌∷◌, ◌++◌, length, refl, sym, ◌∙◌, ap, ap₂, subst, arith, map, ℤ, pos, negsuc, length-append, append_assoc}
+use Rattle.std.proofs.Common.{◌≡◌, ℕ, suc, ◌+◌, ◌-◌, ◌*◌, ◌<◌, ◌≤◌, true, List, [], ◌∷◌, ◌++◌, length, refl, ◌∙◌, ap, ap₂, arith, map, ℤ, pos, negsuc, length-append}
 use Rattle.std.proofs.lemmas.List.Elements.{All-head, All-tail}
-use Rattle.std.specs.Prelude.{Option, Some, None, Result, Ok, Err, All, codes, decimal, ◌==◌, ◌||◌, ◌&&◌, if◌then◌else◌}
+use Rattle.std.specs.Prelude.{Some, None, Ok, All, codes, decimal, ◌==◌, ◌&&◌}
 use Rattle.std.specs.List.{range_with_len}
 use Rattle.std.specs.Option.{option_map_or}
 use Rattle.pdl_elem.specs.declared.BinaryOp.TheVariants.{Shl}
@@ -23,26 +23,23 @@ use Rattle.pdl_lexemes.specs.declared.AssignOp.TheVariants.{Set}
 use Rattle.pdl_lexemes.specs.Lists.{type_of}
 use Rattle.pdl_ops.specs.Parts.{StretchedToItself}
 use Rattle.pdl_ops.specs.Values.{fits}
-use Rattle.pdl_syntax.specs.Tree.{Tree, named, literal, number, binary, call, none, value, text}
+use Rattle.pdl_syntax.specs.Tree.{Tree, named, number, binary, call, none, value, text}
 use Rattle.pdl_syntax.specs.StatementTree.{assign}
 use Rattle.pdl_reread.specs.Trees.{range_text, list_tree}
 use Rattle.pdl_world.specs.declared.Trans.{Trans}
 use Rattle.pdl_world.specs.declared.Trans.TheVariants.{Affine}
 use Rattle.pdl_world.specs.Formula.{child_dims}
 use Rattle.pdl_world.specs.KeepingLaws.{NewestKeepsAll, NewestIsKept}
-use Rattle.pdl_world.specs.Laws.{NewRootHasPath, NewViewHasPath, IsSeenAs}
-use Rattle.pdl_world.specs.Paths.{path}
+use Rattle.pdl_world.specs.Laws.{NewRootHasPath, NewViewHasPath}
 use Rattle.pdl_world.specs.Refused.{refusal_at, view_refusal}
-use Rattle.pdl_world.specs.Sound.{IsLive}
 use Rattle.pdl_world.specs.Swept.{KeepsAll}
 use Rattle.pdl_world.specs.World.{World, ArrayDef, root, view, Look, look_of_root, look, through, root_elements, set_elements, assign_through, elements, assign as assign_in}
 use Rattle.pdl_machine.specs.declared.builtin.Builtin.TheVariants.{Arranged}
 use Rattle.pdl_machine.specs.declared.builtin.Arrangement.TheVariants.{Flat}
-use Rattle.pdl_machine.specs.declared.fault.Fault.{Fault}
 use Rattle.pdl_machine.specs.Arrays.{Arrays, with_new, array_in}
 use Rattle.pdl_machine.specs.Names.{KernelTexts, Named, Names, found}
 use Rattle.pdl_machine.specs.Operators.{values_for}
-use Rattle.pdl_machine.specs.State.{State, with_arrays}
+use Rattle.pdl_machine.specs.State.{with_arrays}
 use Rattle.pdl_machine.specs.Step.{assigned, assigning, target}
 use Rattle.pdl_machine.specs.Then.{and_then}
 use Rattle.pdl_machine.specs.Value.{value_of}

@@ -1,16 +1,16 @@
 -- Which places a piece of a root has, and what a write leaves there.
-use Rattle.std.proofs.Common.{◌≡◌, ℕ, zero, suc, ◌+◌, ◌-◌, ◌*◌, ◌%◌, ◌<◌, ◌≤◌, Bool, true, false, List, [], ◌∷◌, ◌++◌, length, refl, sym, ◌∙◌, ap, ap₂, subst, arith, map, take, drop, get_or, ℤ, pos, negsuc, max, length-append, append_assoc}
+use Rattle.std.proofs.Common.{◌≡◌, ℕ, zero, suc, ◌+◌, ◌-◌, ◌*◌, ◌%◌, ◌<◌, ◌≤◌, List, [], ◌∷◌, ◌++◌, length, refl, sym, ◌∙◌, ap, ap₂, subst, arith, map, get_or, ℤ, pos, negsuc, max, length-append, append_assoc}
 use Rattle.std.proofs.lemmas.Bool.{le-leb, le-ltb, lt-ltb}
 use Rattle.std.proofs.lemmas.List.{append-nil}
 use Rattle.std.proofs.lemmas.List.FromFn.{get_or-map-range_with_len}
 use Rattle.std.proofs.Math.Seq.{take-length, drop-length}
-use Rattle.std.specs.Prelude.{Option, Some, None, Result, Ok, Err, option_map, option_and_then, slice_set}
+use Rattle.std.specs.Prelude.{Option, Some, None, Ok, option_map, option_and_then, slice_set}
 use Rattle.std.specs.List.{range_with_len}
 use Rattle.pdl_elem.specs.declared.Ty.{Ty}
 use Rattle.pdl_shape.specs.Laws.{PositionLaws, SizeLaws}
 use Rattle.pdl_shape.specs.Limits.{checked_dims}
 use Rattle.pdl_shape.specs.Places.{places_of, place_in, write}
-use Rattle.pdl_shape.specs.Shape.{IsDims, extent, size_of, position_of, coordinates_of}
+use Rattle.pdl_shape.specs.Shape.{IsDims, size_of, position_of, coordinates_of}
 use Rattle.pdl_affine.specs.declared.Affine.TheVariants as affine
 use Rattle.pdl_slices.specs.declared.SliceArg.TheVariants.{One, Span}
 use Rattle.pdl_world.specs.declared.Trans.{Trans}

@@ -1,29 +1,27 @@
 -- The line of a root.
-use Rattle.std.proofs.Common.{◌≡◌, ℕ, zero, suc, ◌+◌, ◌<◌, ◌≤◌, List, [], ◌∷◌, ◌++◌, length, refl, sym, ◌∙◌, ap, ap₂, arith, map, replicate, ℤ, pos}
+use Rattle.std.proofs.Common.{◌≡◌, ℕ, zero, suc, ◌+◌, List, [], ◌∷◌, length, refl, ◌∙◌, ap, ap₂, arith, map, replicate, pos}
 use Rattle.std.proofs.lemmas.Bool.{le-ltb}
 use Rattle.std.specs.List.{range_with_len}
-use Rattle.std.specs.Prelude.{Option, Some, None, Result, Ok, Err, codes}
+use Rattle.std.specs.Prelude.{Some, Ok, codes}
 use Rattle.pdl_elem.specs.declared.Ty.{Ty}
 use Rattle.pdl_elem.specs.Laws.{WrappingLaws}
 use Rattle.pdl_elem.specs.Numbers.{wrapped}
 use Rattle.pdl_buf.specs.declared.made.Made.{Made}
 use Rattle.pdl_ops.specs.Fills.{filled}
 use Rattle.pdl_ops.specs.declared.fills.Fill.TheVariants.{Zeroes}
-use Rattle.pdl_shape.specs.Limits.{checked_dims}
 use Rattle.pdl_shape.specs.Shape.{IsDims, extent, size_of}
-use Rattle.pdl_syntax.specs.Tree.{Tree, Args, call, none, of_type}
-use Rattle.pdl_reread.specs.Trees.{with_sizes, with_numbers}
+use Rattle.pdl_syntax.specs.Tree.{call, none, of_type}
+use Rattle.pdl_reread.specs.Trees.{with_sizes}
 use Rattle.pdl_world.specs.KeepingLaws.{MoreKeepAll}
-use Rattle.pdl_world.specs.World.{ArrayDef, root, World}
-use Rattle.pdl_machine.specs.declared.fault.Fault.{Fault}
+use Rattle.pdl_world.specs.World.{ArrayDef, root}
 use Rattle.pdl_machine.specs.declared.fault.Fault.TheVariants.{WrongArguments}
 use Rattle.pdl_machine.specs.Arrays.{Arrays}
 use Rattle.pdl_machine.specs.Calls.{call_value}
-use Rattle.pdl_machine.specs.Fills.{number_in, size, dims_for}
+use Rattle.pdl_machine.specs.Fills.{size, dims_for}
 use Rattle.pdl_machine.specs.Names.{Names}
-use Rattle.pdl_machine.specs.Outcome.{type_word, made, new_root, placed, all_seen}
+use Rattle.pdl_machine.specs.Outcome.{type_word, made, new_root, placed}
 use Rattle.pdl_machine.specs.Then.{and_then, or_fault, and_more, all_of}
-use Rattle.pdl_machine.specs.Value.{value_of, taken}
+use Rattle.pdl_machine.specs.Value.{value_of}
 use Rattle.pdl_rebuild.specs.Made.{RootsAreMade}
 use Rattle.pdl_rebuild.proofs.Arguments.{NumberLaws, all_defs, numbers_from, numbers_taken, numbers_seen, sizes_negate, sizes_are_numbers}
 use Rattle.pdl_rebuild.proofs.Binding.{new_bound}

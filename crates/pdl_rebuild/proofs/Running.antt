@@ -1,42 +1,34 @@
 -- The run of a dump's text.
-use Rattle.std.proofs.Common.{◌≡◌, ℕ, zero, suc, ◌+◌, ◌-◌, ◌<◌, ◌≤◌, ◌^◌, min, Bool, true, false, List, [], ◌∷◌, ◌++◌, length, refl, sym, ◌∙◌, ap, ap₂, subst, arith, map, length-append}
+use Rattle.std.proofs.Common.{◌≡◌, ℕ, suc, ◌+◌, ◌<◌, ◌≤◌, ◌^◌, Bool, true, false, List, [], ◌∷◌, ◌++◌, length, refl, ◌∙◌, ap, ap₂, arith, map, length-append}
 use Rattle.std.proofs.lemmas.Bool.{le-ltb}
 use Rattle.std.proofs.lemmas.List.{map-append}
-use Rattle.std.specs.Prelude.{Option, Some, None, Result, Ok, Err, codes, nat_lt, if◌then◌else◌}
-use Rattle.std.specs.List.{flat_map}
+use Rattle.std.specs.Prelude.{Result, Ok, Err, codes}
 use Rattle.pdl_io.specs.Counts.{next_count}
 use Rattle.pdl_lex.specs.Bytes.{newlines}
 use Rattle.pdl_lex.specs.declared.Piece.TheVariants.{Whole}
 use Rattle.pdl_lex.specs.Joining.{pieces_from}
 use Rattle.pdl_lex.specs.Limits.{script_limit}
-use Rattle.pdl_lex.specs.Pieces.{Mark, statement, pieces, script_marks}
+use Rattle.pdl_lex.specs.Pieces.{Mark, statement, script_marks}
 use Rattle.pdl_image.specs.Lines.{Line, line_text, whole_line, script_of}
 use Rattle.pdl_reread.specs.Rereading.{AreReread, IsReread, DumpsAreReread}
 use Rattle.pdl_reread.specs.Scripts.{statements, line_behind}
 use Rattle.pdl_reread.specs.Trees.{line_tree}
-use Rattle.pdl_watch.specs.declared.notice.Notice.{Notice}
 use Rattle.pdl_machine.specs.declared.fault.Fault.{Fault}
 use Rattle.pdl_machine.specs.Arrays.{no_arrays}
-use Rattle.pdl_machine.specs.Dumpable.{IsDumpable}
-use Rattle.pdl_machine.specs.Dumps.{dump_lines, dumped}
+use Rattle.pdl_machine.specs.Dumps.{dump_lines}
 use Rattle.pdl_machine.specs.Names.{nothing_named}
-use Rattle.pdl_machine.specs.Run.{Terms, Progress, step_read, fault_ends, counted, after, next_step, after_marks, start, run}
+use Rattle.pdl_machine.specs.Run.{Terms, Progress, step_read, fault_ends, counted, after, next_step, after_marks, start}
 use Rattle.pdl_machine.specs.RunLaws.{GoesOn}
-use Rattle.pdl_machine.specs.State.{State}
 use Rattle.pdl_machine.specs.Step.{Done, step}
 use Rattle.pdl_machine.specs.Then.{and_then}
-use Rattle.pdl_machine.specs.Watches.{Watches}
 use Rattle.pdl_machine.specs.Worked.{done_behind, all_done}
 use Rattle.pdl_rebuild.specs.Rebuilding.{emptied, DumpsRebuild}
-use Rattle.pdl_rebuild.specs.Running.{with_memory, come_to, DumpsGoOn}
+use Rattle.pdl_rebuild.specs.Running.{with_memory, come_to, DumpsGoOn, RunsBeginSo}
 use Rattle.pdl_rebuild.specs.Steps.{quietly}
 
 -- a run that has come so far
 abbrev doing : Terms → Done → ℕ → Progress
 doing terms d count = record (start terms) { state = d.state; printed = d.text; count = count; told = d.told; present = d.present }
-
-abbrev none_told : Watches → List (List Notice)
-none_told ws = map (λ w. []) ws
 
 -- what statements come to, if they have no fault
 abbrev or_done : Done → Result Done Fault → Done
@@ -88,23 +80,23 @@ lines_short (l ∷ lines) =
     omega (arith, lines_short lines, length-append (whole_line l) (script_of lines), length-append (line_text l) (codes ";\n"))
 
 pub dumps_go_on : DumpsRebuild → DumpsAreReread → GoesOn → DumpsGoOn
-dumps_go_on rebuild reread goes_on keep present s text rest can is idle short =
+dumps_go_on rebuild reread goes_on keep present s text rest can is short =
     let terms : Terms = with_memory keep present in
     let lines : List Line = dump_lines s in
     let again : IsReread text lines = reread s text can is in
     let few : length lines ≤ script_limit = omega (arith, short, length-append text rest, ap length again.is, lines_short lines) in
-    let done_all : after_marks terms (doing terms (quietly present (emptied s)) 0) (map statement (statements 1 lines)) ≡ doing terms (quietly present s) (0 + length lines) =
+    let done_all : after_marks terms (come_to terms (emptied s) 0) (map statement (statements 1 lines)) ≡ come_to terms s (0 + length lines) =
     marks_done keep present lines 1 0 (quietly present (emptied s)) (quietly present s) again.read (omega (arith, few)) (rebuild s text can is 1 present) in
-    let first : doing terms (quietly present (emptied s)) 0 ≡ start terms =
-    ap (λ ws. doing terms (quietly present (record { names = nothing_named; arrays = no_arrays; watches = ws })) 0) idle in
-    let last : doing terms (quietly present s) (0 + length lines) ≡ come_to terms s (length lines) =
-    ap₂ (λ ns n. record (start terms) { state = s; count = n; told = ns }) (ap none_told idle) (zero_plus (length lines)) in
     let marks_are : script_marks (text ++ rest) ≡ map statement (statements 1 lines) ++ map statement (pieces_from (line_behind 1 lines) rest) =
     rw (le-ltb script_limit (length (text ++ rest)) short) (ap (map statement) (again.before rest) ∙ map-append statement (statements 1 lines) (pieces_from (line_behind 1 lines) rest)) in
-    ap (after_marks terms (start terms)) marks_are
-    ∙ goes_on terms (start terms) (map statement (statements 1 lines)) (map statement (pieces_from (line_behind 1 lines) rest))
+    ap (after_marks terms (come_to terms (emptied s) 0)) marks_are
+    ∙ goes_on terms (come_to terms (emptied s) 0) (map statement (statements 1 lines)) (map statement (pieces_from (line_behind 1 lines) rest))
     ∙ ap (λ p. after_marks terms p (map statement (pieces_from (line_behind 1 lines) rest)))
-    (ap (λ p. after_marks terms p (map statement (statements 1 lines))) (sym first) ∙ done_all ∙ last)
+    (done_all ∙ ap (come_to terms s) (zero_plus (length lines)))
   where
     zero_plus : (n : ℕ) → 0 + n ≡ n
     zero_plus n = omega arith
+
+pub runs_begin_so : RunsBeginSo
+runs_begin_so terms s none =
+    ap (λ ws. come_to terms (record { names = nothing_named; arrays = no_arrays; watches = ws }) 0) none

@@ -1,34 +1,31 @@
 -- The arrays of a dump so far, each by its own name.
-use Rattle.std.proofs.Common.{◌≡◌, ℕ, zero, suc, ◌+◌, ◌<◌, ◌≤◌, ◌^◌, Bool, true, false, List, [], ◌∷◌, ◌++◌, length, refl, sym, ◌∙◌, ap, ap₂, subst, arith, map, length-append, append_assoc, eqb-true, ℤ, pos}
+use Rattle.std.proofs.Common.{◌≡◌, ℕ, zero, suc, ◌+◌, ◌<◌, ◌≤◌, ◌^◌, true, false, List, [], ◌∷◌, ◌++◌, length, refl, sym, ◌∙◌, subst, arith, map, length-append, append_assoc, eqb-true, ℤ, pos}
 use Rattle.std.proofs.lemmas.Bool.{eq-eqb}
 use Rattle.std.proofs.lemmas.Int.{ints}
 use Rattle.std.proofs.lemmas.List.{map-append}
 use Rattle.std.proofs.lemmas.List.Elements.{All-cons, All-nil}
 use Rattle.std.proofs.lemmas.List.FromFn.{length-map-range_with_len}
 use Rattle.std.specs.List.{range_with_len, list_any}
-use Rattle.std.specs.Prelude.{Option, Some, None, All, ◌==◌, if◌then◌else◌, is_some, codes, decimal}
+use Rattle.std.specs.Prelude.{Some, None, All, ◌==◌, if◌then◌else◌, is_some, codes, decimal}
 use Rattle.pdl_lemmas.specs.Tests.{by_test}
 use Rattle.pdl_elem.specs.declared.Ty.{Ty}
 use Rattle.pdl_elem.specs.declared.Ty.TheVariants.{Byte, Longlong}
 use Rattle.pdl_elem.specs.Types.{InRange}
-use Rattle.pdl_affine.specs.declared.Affine.{Affine}
 use Rattle.pdl_buf.specs.Made.{IsMade}
-use Rattle.pdl_choice.specs.declared.edges.Edge.{Edge}
 use Rattle.pdl_shape.specs.Shape.{IsDims, size_of}
 use Rattle.pdl_world.specs.declared.Trans.{Trans}
 use Rattle.pdl_world.specs.declared.Trans.TheVariants as trans
 use Rattle.pdl_world.specs.Sound.{IsShowable}
 use Rattle.pdl_world.specs.World.{World, ArrayDef, root, view}
-use Rattle.pdl_image.specs.Dump.{affine_call, edge_number, mask_of, root_lines, view_lines, array_lines, world_lines}
+use Rattle.pdl_image.specs.Dump.{affine_call, edge_number, mask_of, root_lines, array_lines, world_lines}
 use Rattle.pdl_image.specs.Lines.{Call, Line, chosen, ranged, view_line, undef_line}
 use Rattle.pdl_image.specs.Stems.{name_at, index_name, is_in}
 use Rattle.pdl_reread.specs.Trees.{line_tree}
 use Rattle.pdl_machine.specs.Names.{KernelTexts, Named, found, names_limit}
 use Rattle.pdl_machine.specs.State.{State}
 use Rattle.pdl_machine.specs.Watches.{Watches}
-use Rattle.pdl_rebuild.specs.Made.{with_root}
 use Rattle.pdl_rebuild.specs.Named.{LastButOneGoes}
-use Rattle.pdl_rebuild.specs.Rebuilt.{state_of, one_name, arrays_of, InOrder, ParentBelow, IsResting}
+use Rattle.pdl_rebuild.specs.Rebuilt.{state_of, one_name, InOrder, ParentBelow, IsResting}
 use Rattle.pdl_rebuild.specs.Shown.{IsReadAgain, AffineViewsAreMade, IsChosenBy, by_index, by_mask, by_corners, ChosenViewsAreMade}
 use Rattle.pdl_rebuild.specs.Steps.{Leads, AllLead}
 use Rattle.pdl_rebuild.proofs.Filling.{FillLaws, resting_more, root_rebuilt}

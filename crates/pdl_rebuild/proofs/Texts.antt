@@ -1,14 +1,14 @@
 -- Names that are found or new, and the names of a dump's own.
-use Rattle.std.proofs.Common.{◌≡◌, ℕ, zero, suc, ◌+◌, ◌<◌, ◌≤◌, ◌^◌, Bool, true, false, List, [], ◌∷◌, ◌++◌, length, get_or, refl, sym, ◌∙◌, ap, ap₂, subst, arith, map, length-append}
+use Rattle.std.proofs.Common.{◌≡◌, ℕ, zero, suc, ◌+◌, ◌<◌, ◌^◌, true, false, List, [], ◌∷◌, ◌++◌, get_or, refl, sym, ◌∙◌, ap, subst, arith, map}
 use Rattle.std.proofs.lemmas.Fmt.{decimal_injective, decimal-digits_of}
-use Rattle.std.proofs.lemmas.Int.Digits.{first_digits_of, all_below_base_digits_of}
+use Rattle.std.proofs.lemmas.Int.Digits.{all_below_base_digits_of}
 use Rattle.std.proofs.lemmas.List.{append_cancel_left}
 use Rattle.std.proofs.lemmas.List.Elements.{All-contains_itself, All-head, All-tail}
 use Rattle.std.proofs.lemmas.Slice.Eq.{bytes_eq-Decides}
 use Rattle.std.specs.Cmp.Lexicographic.{pointwise}
 use Rattle.std.specs.Fmt.{digits}
 use Rattle.std.specs.Int.Digits.{digits_of, AllBelowBase}
-use Rattle.std.specs.Prelude.{Option, Some, None, nat_eq, if◌then◌else◌, decimal, All, Contains}
+use Rattle.std.specs.Prelude.{Some, None, nat_eq, decimal, All, Contains}
 use Rattle.pdl_lemmas.specs.Options.{none_some}
 use Rattle.pdl_lemmas.specs.Tests.{by_test}
 use Rattle.pdl_image.specs.Stems.{stem_of, name_at, index_name}

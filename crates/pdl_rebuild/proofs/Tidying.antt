@@ -1,16 +1,15 @@
 -- What a tidy leaves.
-use Rattle.std.proofs.Common.{◌≡◌, ℕ, zero, suc, ◌+◌, ◌<◌, ◌≤◌, Bool, true, false, List, [], ◌∷◌, ◌++◌, length, refl, sym, ◌∙◌, ap, ap₂, subst, arith, map, eqb-true}
+use Rattle.std.proofs.Common.{◌≡◌, ℕ, suc, ◌<◌, ◌≤◌, Bool, true, false, List, [], ◌∷◌, ◌++◌, length, refl, sym, ◌∙◌, ap, ap₂, subst, arith, map, eqb-true}
 use Rattle.std.proofs.lemmas.Bool.{eq-eqb}
 use Rattle.std.proofs.lemmas.List.{append-nil}
 use Rattle.std.proofs.lemmas.List.Folds.{list_any-append}
-use Rattle.std.specs.Prelude.{◌==◌, ◌||◌, if◌then◌else◌, Option, Some, None, option_map, is_some}
+use Rattle.std.specs.Prelude.{◌==◌, ◌||◌, Some, None, option_map, is_some}
 use Rattle.std.specs.List.{list_any}
 use Rattle.pdl_lemmas.specs.Tests.{by_test}
 use Rattle.pdl_world.specs.KeepingLaws.{MoreKeepAll}
-use Rattle.pdl_world.specs.Swept.{is_listed, parents, kept_onto, sweep, KeepsAll}
+use Rattle.pdl_world.specs.Swept.{is_listed, parents, sweep, KeepsAll}
 use Rattle.pdl_world.specs.World.{ArrayDef, root, view, World}
 use Rattle.pdl_machine.specs.Names.{KernelTexts, Named}
-use Rattle.pdl_machine.specs.State.{State, held, kept}
 use Rattle.pdl_machine.specs.Tidy.{older, with_parent, renumber, renumbered, numbered, tidy}
 use Rattle.pdl_machine.specs.Watches.{Watches, attached}
 use Rattle.pdl_rebuild.specs.Rebuilt.{state_with, state_of, ParentBelow, InOrder, AreBelow, arrays_of, one_name}

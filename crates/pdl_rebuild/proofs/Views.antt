@@ -1,11 +1,9 @@
 -- The lines of views.
-use Rattle.std.proofs.Common.{◌≡◌, ℕ, zero, suc, ◌+◌, ◌*◌, ◌<◌, ◌≤◌, Bool, true, false, List, [], ◌∷◌, ◌++◌, length, refl, sym, ◌∙◌, ap, ap₂, subst, arith, ℤ, pos, map}
+use Rattle.std.proofs.Common.{◌≡◌, ℕ, suc, ◌+◌, ◌*◌, ◌<◌, true, false, List, [], ◌∷◌, ◌++◌, length, refl, sym, ◌∙◌, ap, ap₂, subst, arith, ℤ, pos}
 use Rattle.std.proofs.lemmas.List.FromFn.{length-map-range_with_len}
-use Rattle.std.specs.Prelude.{Option, Some, None, Result, Ok, Err, codes, option_and_then, IsSomeAnd, if◌then◌else◌}
+use Rattle.std.specs.Prelude.{Some, None, Ok, codes, IsSomeAnd, if◌then◌else◌}
 use Rattle.pdl_elem.specs.declared.Ty.TheVariants.{Byte, Longlong}
-use Rattle.pdl_buf.specs.declared.made.Made.{Made}
 use Rattle.pdl_shape.specs.Shape.{size_of}
-use Rattle.pdl_slices.specs.declared.SliceArg.{SliceArg}
 use Rattle.pdl_slices.specs.Written.{slice_text, WrittenTextsAreRead}
 use Rattle.pdl_affine.specs.declared.Affine.{Affine}
 use Rattle.pdl_affine.specs.declared.Affine.TheVariants as affine
@@ -14,7 +12,7 @@ use Rattle.pdl_choice.specs.declared.edges.Edge.TheVariants.{Refuse, Zero, Neare
 use Rattle.pdl_choice.specs.Where.{which}
 use Rattle.pdl_lexemes.specs.Lists.{type_of}
 use Rattle.pdl_syntax.specs.StatementTree.{bind}
-use Rattle.pdl_syntax.specs.Tree.{Tree, Args, named, number, call, none, value}
+use Rattle.pdl_syntax.specs.Tree.{Args, named, number, call, none, value}
 use Rattle.pdl_world.specs.declared.Trans.{Trans}
 use Rattle.pdl_world.specs.declared.Trans.TheVariants as trans
 use Rattle.pdl_world.specs.KeepingLaws.{MoreKeepAll}
@@ -30,24 +28,22 @@ use Rattle.pdl_reread.specs.Trees.{with_numbers, list_tree, call_tree}
 use Rattle.pdl_machine.specs.declared.builtin.Arrangement.{Arrangement}
 use Rattle.pdl_machine.specs.declared.builtin.Arrangement.TheVariants as word
 use Rattle.pdl_machine.specs.declared.builtin.Builtin.TheVariants.{Arranged, Index, Where, Range}
-use Rattle.pdl_machine.specs.declared.fault.Fault.{Fault}
 use Rattle.pdl_machine.specs.declared.fault.Fault.TheVariants.{WrongArguments}
 use Rattle.pdl_machine.specs.Arrays.{Arrays, with_new, array_in}
 use Rattle.pdl_machine.specs.Builtin.{builtin_of}
 use Rattle.pdl_machine.specs.Names.{KernelTexts, Named, Names, found, names_limit}
-use Rattle.pdl_machine.specs.Fills.{only}
 use Rattle.pdl_machine.specs.Outcome.{array, viewed}
 use Rattle.pdl_machine.specs.Then.{and_then, or_fault}
 use Rattle.pdl_machine.specs.Value.{value_of, known, taken}
 use Rattle.pdl_machine.specs.Views.{arranged, look_up, edge_of, range_by}
 use Rattle.pdl_machine.specs.Watches.{Watches}
 use Rattle.pdl_rebuild.specs.Rebuilt.{state_of, one_name, IsResting, InOrder}
-use Rattle.pdl_rebuild.specs.Shown.{IsReadAgain, AffineViewsAreMade, IsChosenBy, by_index, by_mask, by_corners, ChosenViewsAreMade}
+use Rattle.pdl_rebuild.specs.Shown.{IsReadAgain, AffineViewsAreMade, by_index, by_mask, by_corners, ChosenViewsAreMade}
 use Rattle.pdl_rebuild.specs.Steps.{Leads}
 use Rattle.pdl_rebuild.proofs.Arguments.{NumberLaws, all_defs, numbers_from, numbers_taken, numbers_seen, AllCanNegate, fitting_negate}
 use Rattle.pdl_rebuild.proofs.Binding.{new_bound}
 use Rattle.pdl_rebuild.proofs.Calls.{viewed_call, name_taken, value_taken, slice_valued}
-use Rattle.pdl_rebuild.proofs.Passing.{with_all, with_all_is, numbered_from, numbered_within, numbers_more, order_below, AreFine, new_fine, all_fine, live_by, Stays, all_stay, array_stays, refusal_stays, root_shown}
+use Rattle.pdl_rebuild.proofs.Passing.{with_all, with_all_is, numbered_from, numbered_within, numbers_more, order_below, AreFine, new_fine, live_by, Stays, all_stay, array_stays, refusal_stays, root_shown}
 
 pub record ViewLaws : Type 0 where
   pub numbers : NumberLaws

@@ -1,9 +1,9 @@
 -- The dump of a state leads to that state.
-use Rattle.std.proofs.Common.{◌≡◌, ℕ, zero, suc, ◌+◌, ◌<◌, ◌≤◌, Bool, true, false, List, [], ◌∷◌, ◌++◌, length, refl, sym, ◌∙◌, ap, ap₂, subst, arith, map, append-nil}
+use Rattle.std.proofs.Common.{◌≡◌, ℕ, ◌+◌, ◌≤◌, false, List, [], ◌∷◌, ◌++◌, length, refl, sym, ◌∙◌, ap, ap₂, subst, arith, map, append-nil}
 use Rattle.std.proofs.lemmas.Bool.{ltb-false}
 use Rattle.std.proofs.lemmas.List.{map-append}
 use Rattle.std.specs.List.{list_any}
-use Rattle.std.specs.Prelude.{Option, Some, None, Result, Ok, Err, nat_lt, if◌then◌else◌, is_some}
+use Rattle.std.specs.Prelude.{Ok, Err, nat_lt, is_some}
 use Rattle.pdl_lemmas.specs.Tests.{by_test}
 use Rattle.pdl_affine.specs.declared.Affine.{Affine}
 use Rattle.pdl_affine.specs.declared.Affine.TheVariants as affine
@@ -23,9 +23,9 @@ use Rattle.pdl_lexemes.specs.Texts.{IsName}
 use Rattle.pdl_machine.specs.declared.fault.Fault.{Fault}
 use Rattle.pdl_machine.specs.Dumpable.{AreEach, IsDefined, IsWritable, IsViewWritable, ViewsAreWritable, IsDumpable}
 use Rattle.pdl_machine.specs.Dumps.{definition, dump_lines, dumped, names_wanted}
-use Rattle.pdl_machine.specs.Names.{KernelTexts, Named, found, names_limit}
-use Rattle.pdl_machine.specs.State.{State, held, AreLive}
-use Rattle.pdl_machine.specs.Tidy.{older, with_parent, renumber, renumbered}
+use Rattle.pdl_machine.specs.Names.{KernelTexts, Named, names_limit}
+use Rattle.pdl_machine.specs.State.{State, AreLive}
+use Rattle.pdl_machine.specs.Tidy.{renumber}
 use Rattle.pdl_machine.specs.Watches.{Watches, attached}
 use Rattle.pdl_rebuild.specs.Named.{NamesAreBound, NamesEnd, KernelsAreDefined}
 use Rattle.pdl_rebuild.specs.Rebuilt.{state_of, arrays_of, AreBelow, InOrder, ParentBelow, IsResting}

@@ -1,11 +1,11 @@
 -- What each form of line in a dump does to a state.
-use Rattle.std.specs.Prelude.{◌≡◌, ℕ, ◌+◌, ◌<◌, suc, ℤ, pos, negsuc, List, [], ◌∷◌, ◌++◌, length, replicate, All, Some, None, Ok}
+use Rattle.std.specs.Prelude.{◌≡◌, ℕ, ◌+◌, ◌<◌, ℤ, pos, negsuc, List, ◌∷◌, ◌++◌, length, replicate, All, Some, None}
 use Rattle.pdl_elem.specs.declared.Ty.{Ty}
 use Rattle.pdl_elem.specs.declared.Ty.TheVariants.{Longlong}
 use Rattle.pdl_elem.specs.Types.{InRange}
 use Rattle.pdl_shape.specs.Shape.{IsDims, size_of}
 use Rattle.pdl_world.specs.World.{World, root}
-use Rattle.pdl_image.specs.Lines.{root_line, piece_line, least_line, same_line, undef_line}
+use Rattle.pdl_image.specs.Lines.{root_line, piece_line, least_line}
 use Rattle.pdl_reread.specs.Trees.{line_tree}
 use Rattle.pdl_machine.specs.Names.{KernelTexts, Named, found, names_limit}
 use Rattle.pdl_machine.specs.Watches.{Watches}

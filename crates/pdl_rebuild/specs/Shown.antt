@@ -1,9 +1,8 @@
 -- What the lines of views in a dump do to a state.
-use Rattle.std.specs.Prelude.{◌≡◌, ℕ, ◌<◌, suc, ℤ, List, [], ◌∷◌, ◌++◌, length, Some, None, codes}
+use Rattle.std.specs.Prelude.{◌≡◌, ℕ, ◌<◌, suc, ℤ, List, ◌∷◌, ◌++◌, length, Some, None, codes}
 use Rattle.pdl_elem.specs.declared.Ty.TheVariants.{Byte, Longlong}
 use Rattle.pdl_shape.specs.Shape.{size_of}
 use Rattle.pdl_affine.specs.declared.Affine.{Affine}
-use Rattle.pdl_affine.specs.declared.Affine.TheVariants as affine
 use Rattle.pdl_choice.specs.declared.edges.Edge.{Edge}
 use Rattle.pdl_world.specs.declared.Trans.{Trans}
 use Rattle.pdl_world.specs.declared.Trans.TheVariants as trans
@@ -15,7 +14,6 @@ use Rattle.pdl_reread.specs.Trees.{line_tree, AllFit}
 use Rattle.pdl_machine.specs.Dumpable.{AreRead}
 use Rattle.pdl_machine.specs.Names.{KernelTexts, Named, found, names_limit}
 use Rattle.pdl_machine.specs.Watches.{Watches}
-use Rattle.pdl_rebuild.specs.Made.{with_root}
 use Rattle.pdl_rebuild.specs.Rebuilt.{state_of, one_name, IsResting}
 use Rattle.pdl_rebuild.specs.Steps.{Leads}
 

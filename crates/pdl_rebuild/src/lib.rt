@@ -4,7 +4,7 @@
 ghost use Rattle.pdl_rebuild.specs.Made.{LeastAreGiven, PiecesAreGiven, RootsAreMade};
 ghost use Rattle.pdl_rebuild.specs.Named.{KernelsAreDefined, LastButOneGoes, NamesAreBound, NamesEnd};
 ghost use Rattle.pdl_rebuild.specs.Rebuilding.{DumpsRebuild};
-ghost use Rattle.pdl_rebuild.specs.Running.{DumpsGoOn};
+ghost use Rattle.pdl_rebuild.specs.Running.{DumpsGoOn, RunsBeginSo};
 ghost use Rattle.pdl_rebuild.specs.Shown.{AffineViewsAreMade, ChosenViewsAreMade};
 
 use pdl_elem::wrapping_laws;
@@ -86,12 +86,14 @@ pub fn dumps_rebuild()
     dumps_are_reread();
 }
 
-/// The run of a dump with a rest behind it: it goes on with the statements of the rest from the
-/// state that was dumped, where both together are no script that is too long and memory suffices. So
-/// it prints and tells just what the rest does there, with lines and statements counted on from
-/// those of the dump. The call does nothing when it runs.
+/// The run of a dump with a rest behind it, which begins with the slots of the dumped state alone:
+/// it goes on with the statements of the rest from that state, where both together are no script
+/// that is too long and memory suffices (`on`). So it prints and tells just what the rest does
+/// there, with lines and statements counted on from those of the dump. Where no slot has an entry,
+/// it is the run of a script (`start`). The call does nothing when it runs.
 pub fn dumps_go_on()
-    ensures { DumpsGoOn }
+    ensures on { DumpsGoOn }
+    ensures start { RunsBeginSo }
 {
     dumps_rebuild();
     dumps_are_reread();

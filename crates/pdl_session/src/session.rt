@@ -88,10 +88,10 @@ impl Session {
         self.scope.lazy_law()
     }
 
-    /// The state of every session is one that its dump makes again. Where the dump isn't refused, its
-    /// text reads as statements, none of them as a fault, also where more of a script stands behind
-    /// it; and from the state that has only the session's slots these lead to this very state
-    /// (`again`). The call does nothing when it runs.
+    /// The state of every session is one that its dump makes again. Where the dump isn't refused,
+    /// its text reads as statements, none of them as a fault, also where more of a script stands
+    /// behind it; and from the state that has only the session's slots these lead to this very
+    /// state (`again`). The call does nothing when it runs.
     pub fn dumpable(&self)
         ensures state { IsDumpable self.now.state }
         ensures again { DumpMakesAgain self.now.state }

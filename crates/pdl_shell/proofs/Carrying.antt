@@ -21,9 +21,9 @@ use Rattle.pdl_shell.specs.Answers.{HeardShort, IsShort, ending_of_run}
 use Rattle.pdl_shell.specs.Stops.{HasSinkCause, Leaves}
 use Rattle.pdl_shell.specs.Pace.{Behind, end_of_input, past_limit, unknown, behind, marks_left, outcome}
 use Rattle.pdl_shell.specs.CourseLaws.{Laws}
-use Rattle.pdl_shell.specs.Course.{Foretells, IsLater, Stands, Runs, RunsShort, Carries, StopsShort, Finishes, FinishesShort, Ends}
+use Rattle.pdl_shell.specs.Course.{Stands, Runs, RunsShort, Carries, StopsShort, Finishes, FinishesShort, Ends}
 use Rattle.pdl_shell.proofs.SlotsHeard.{counts_then, counts_ended, one_rose}
-use Rattle.pdl_shell.proofs.Refusing.{later_by, later_refl, later_then, later_same, foretold, foretells_all}
+use Rattle.pdl_shell.proofs.Refusing.{later_refl, later_then, later_same, foretold, foretells_all}
 use Rattle.pdl_shell.proofs.Taking.{appends_kept, is_prefix-refl}
 use Rattle.pdl_shell.proofs.Following.{after_marks-cons, short_marks, short_stands, counts_follow, heard_follows, sink_fails}
 

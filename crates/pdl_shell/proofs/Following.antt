@@ -27,7 +27,7 @@ use Rattle.pdl_shell.specs.Outside.{Outlets, CountsStay}
 use Rattle.pdl_shell.specs.Answers.{HeardShort, IsShort, ending_of_run}
 use Rattle.pdl_shell.specs.Stops.{SlotsFail, Fails, HasSinkCause}
 use Rattle.pdl_shell.specs.CourseLaws.{Laws}
-use Rattle.pdl_shell.specs.Course.{IsFresh, Foretells, IsLater, Follows, Stands, Answers, AnswersShort, Runs, RunsShort}
+use Rattle.pdl_shell.specs.Course.{IsFresh, Foretells, Follows, Stands, Answers, AnswersShort, Runs, RunsShort}
 use Rattle.pdl_shell.proofs.SlotsHeard.{counts_by, one_rose, heard_by, heard_later, heard_then}
 use Rattle.pdl_shell.proofs.Refusing.{unrefused, last_among, added, later_by, later_refused}
 use Rattle.pdl_shell.proofs.Taking.{is_prefix-refl, is_prefix-trans, appends_then}

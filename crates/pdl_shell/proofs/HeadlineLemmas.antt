@@ -13,7 +13,7 @@ use Rattle.pdl_shell.specs.declared.status.Status.TheVariants.{Done, ScriptFault
 use Rattle.pdl_shell.specs.declared.words.Command.{Command}
 use Rattle.pdl_shell.specs.declared.words.Command.TheVariants.{Run, Generate}
 use Rattle.pdl_shell.specs.Outside.{Outlets, Outside}
-use Rattle.pdl_shell.specs.Answers.{CameToItsEnd, HasReason, CanAnswer, Gives, Ending, AllQuiet, IsWhole, IsShort, SlotHears, ending_on, slots_after, status_at_end}
+use Rattle.pdl_shell.specs.Answers.{CameToItsEnd, HasReason, CanAnswer, Gives, Ending, AllQuiet, IsWhole, IsShort, SlotHears, ending_on, status_at_end}
 use Rattle.pdl_machine.specs.Watches.{is_present}
 use Rattle.pdl_machine.specs.Run.{Terms, run, so_far}
 use Rattle.pdl_machine.specs.RunLaws.{RefusedAreGiven, RefusedRise, RefusedAreFew}

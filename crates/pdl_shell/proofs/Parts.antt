@@ -17,14 +17,13 @@ use Rattle.pdl_machine.specs.RunLaws.{EndedStays, EndedByAFault, TooLongEnds, So
 use Rattle.pdl_shell.specs.declared.runner.Runner.{Runner}
 use Rattle.pdl_shell.specs.declared.stop.Stop.{Stop}
 use Rattle.pdl_shell.specs.declared.stop.Stop.TheVariants.{Source, Sink, Watcher, NoMemory as NoRoom}
-use Rattle.pdl_shell.specs.declared.status.Status.{Status}
-use Rattle.pdl_shell.specs.declared.status.Status.TheVariants.{Done, ScriptFault, SourceFault, NoMemory}
+use Rattle.pdl_shell.specs.declared.status.Status.TheVariants.{SourceFault}
 use Rattle.pdl_shell.specs.Outside.{Outlets, Outside, NoneFailed}
 use Rattle.pdl_shell.specs.Answers.{IsShort, HasReason, TakesAtMost, ending_of_run, status_at_end, status_after, status_of_stop}
 use Rattle.pdl_shell.specs.Stops.{Fails, HasCauses, Leaves}
 use Rattle.pdl_shell.specs.Pace.{Behind, end_of_input, past_limit, unknown, behind, marks_left, outcome}
 use Rattle.pdl_shell.specs.CourseLaws.{Laws}
-use Rattle.pdl_shell.specs.Course.{IsFresh, Foretells, IsLater, Stands, Carries, StopsShort, FailsWith, Ends, Comes}
+use Rattle.pdl_shell.specs.Course.{IsFresh, Foretells, Stands, Carries, StopsShort, FailsWith, Ends, Comes}
 use Rattle.pdl_shell.specs.Taken.{StopsSoon, ComesTo, Reads, terms_for}
 use Rattle.pdl_shell.proofs.Refusing.{all_met, foretold}
 use Rattle.pdl_shell.proofs.SlotsHeard.{no_notices}

@@ -1,5 +1,5 @@
 -- The statements that memory refused, as a runner comes further.
-use Rattle.std.proofs.Common.{◌≡◌, ℕ, ◌+◌, ◌^◌, ◌<◌, ◌≤◌, List, [], ◌∷◌, ◌++◌, length, get_or, Bool, true, false, cond, refl, sym, ◌∙◌, ap, subst, arith, append-nil, eq-eqb}
+use Rattle.std.proofs.Common.{◌≡◌, ℕ, ◌+◌, ◌<◌, ◌≤◌, List, [], ◌∷◌, ◌++◌, length, get_or, Bool, true, false, cond, refl, sym, ◌∙◌, ap, subst, arith, append-nil, eq-eqb}
 use Rattle.std.specs.Prelude.{◌||◌, ◌==◌, nat_lt}
 use Rattle.std.specs.List.{All, AllPairs, list_any}
 use Rattle.std.proofs.Math.Nat.{le_refl, le_trans}
@@ -9,7 +9,7 @@ use Rattle.std.proofs.lemmas.List.Kept.{AllPairs-from_increasing}
 use Rattle.std.proofs.Math.Seq.{get_or-append_seam}
 use Rattle.std.proofs.lemmas.List.Folds.{list_any-append, list_any_none}
 use Rattle.pdl_watch.specs.Slots.{StartsWith}
-use Rattle.pdl_machine.specs.Run.{Terms, is_among, is_refused, refused_limit, run}
+use Rattle.pdl_machine.specs.Run.{Terms, is_among, refused_limit, run}
 use Rattle.pdl_machine.specs.RunLaws.{RefusedAreGiven, RefusedRise}
 use Rattle.pdl_shell.specs.declared.runner.Runner.{Runner}
 use Rattle.pdl_shell.specs.Course.{Foretells, IsLater}

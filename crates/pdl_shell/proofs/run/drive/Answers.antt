@@ -1,10 +1,5 @@
-use Rattle.std.proofs.Common.{refl, ap}
-use Rattle.pdl_watch.specs.Slots.{slots_by}
-use Rattle.pdl_machine.specs.Run.{is_among, run}
-use Rattle.pdl_shell.specs.Outside.{outlets, outside}
-use Rattle.pdl_shell.specs.Taken.{terms_for}
 use Rattle.pdl_shell.proofs.Following.{served_first}
-use Rattle.pdl_shell.proofs.Parts.{is_taken, at_most, leaves_parts, fails_parts, reads_parts, leaves_stopped, reads_stopped, causes_stopped, causes_of}
+use Rattle.pdl_shell.proofs.Parts.{is_taken, leaves_parts, fails_parts, reads_parts, leaves_stopped, reads_stopped, causes_stopped, causes_of}
 use Rattle.pdl_shell.proofs.run.drive.Goals as goal
 
 pub read_parts-requires-clause-served : goal.read_parts-requires-clause-served

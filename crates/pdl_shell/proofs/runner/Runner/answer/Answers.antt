@@ -1,4 +1,4 @@
-use Rattle.std.proofs.Common.{◌≡◌, List, ℕ, refl, sym, subst}
+use Rattle.std.proofs.Common.{◌≡◌, refl, sym, subst}
 use Rattle.pdl_session.specs.declared.fault.StepFault.TheVariants as refusing
 use Rattle.pdl_watch.specs.Slots.{slots_by}
 use Rattle.pdl_shell.specs.declared.runner.Runner.{Runner}
