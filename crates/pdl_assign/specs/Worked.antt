@@ -1,5 +1,6 @@
--- Assignments worked by hand where blocks of one value aren't the whole assignment: so each part of the
--- condition is needed.
+-- Assignments worked by hand where blocks of one value aren't the whole assignment: where the sign
+-- reads the target and this has repeats, and where the right side is another array of its root. The
+-- rest of the condition isn't worked.
 use Rattle.std.specs.Prelude.{◌≡◌, ℕ, ◌+◌, ◌+ℤ◌, ℤ, pos, List, [], ◌∷◌, length, map, take, drop}
 use Rattle.pdl_elem.specs.declared.Ty.TheVariants.{Long}
 use Rattle.pdl_world.specs.declared.Trans.{Trans}

@@ -1,4 +1,4 @@
 pub mod Adding
 pub mod Filling
 pub mod StemLemmas
-pub mod Masks
+pub mod Masking

@@ -1,10 +1,11 @@
 -- What appending lines leaves of a text. Callers of the writer need none of it.
-use Rattle.std.specs.Prelude.{◌≡◌, ◌<◌, ◌≤◌, ◌+◌, ◌-◌, true, false, List, [], ◌∷◌, ℕ, ℤ, ◌++◌, length, codes, decimal, Result, OnOk, OnErr, IfErr}
-use Rattle.std.specs.List.{concat}
+use Rattle.std.specs.Prelude.{◌≡◌, ◌<◌, ◌≤◌, ◌+◌, ◌-◌, true, false, if◌then◌else◌, List, [], ◌∷◌, ℕ, ℤ, pos, ◌++◌, length, map, codes, decimal, Result, OnOk, OnErr, IfErr}
+use Rattle.std.specs.List.{concat, range_with_len}
 use Rattle.pdl_image.specs.declared.ImageFault.{ImageFault}
 use Rattle.pdl_image.specs.declared.ImageFault.TheVariants.{TooLong}
 use Rattle.pdl_image.specs.declared.TheConstants.{LONGEST_DUMP}
 use Rattle.pdl_image.specs.Lines.{Line, numbers_text, script_of}
+use Rattle.pdl_image.specs.Stems.{is_in}
 use Rattle.pdl_image.specs.Dump.{is_too_long}
 
 -- the text begins with these bytes
@@ -38,3 +39,8 @@ bytes_to name first last ns = concat
 -- and from a first position on
 abbrev pub piece_bytes : (name : List ℕ) (first : ℕ) → List ℤ → List ℕ
 piece_bytes name first ns = bytes_to name first (first + length ns - 1) ns
+
+-- so many numbers of a mask from a first position on: 1 at the listed places
+abbrev pub mask_part : (first count : ℕ) → (places : List ℕ) → List ℤ
+mask_part first count places =
+    map (λ p. if is_in places p then pos 1 else pos 0) (range_with_len first count)

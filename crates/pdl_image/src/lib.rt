@@ -8,6 +8,7 @@ ghost use Rattle.std.specs.Prelude.{◌≡◌};
 
 mod laws;
 mod lines;
+mod masks;
 mod numbers;
 mod pieces;
 mod stems;

@@ -92,7 +92,7 @@ fn add_leasts(
 }
 
 /// Appends the lines that fill the elements from a position on.
-fn add_piece(
+pub fn add_piece(
     text: &mut Vec<u8>,
     name: &[u8],
     first: usize,
@@ -108,7 +108,7 @@ fn add_piece(
 }
 
 /// Appends the line that makes an array of zeros.
-fn add_zeros(text: &mut Vec<u8>, name: &[u8], ty: Ty, dims: &Dims) -> Result<(), ImageFault>
+pub fn add_zeros(text: &mut Vec<u8>, name: &[u8], ty: Ty, dims: &Dims) -> Result<(), ImageFault>
     requires { length text.old.items ≤ LONGEST_DUMP }
     ensures { Adds text.old.items text.new.items (root_line name.now ty dims.now ∷ []) result }
 {
@@ -117,7 +117,7 @@ fn add_zeros(text: &mut Vec<u8>, name: &[u8], ty: Ty, dims: &Dims) -> Result<(),
 }
 
 /// How many pieces so many elements have.
-fn piece_count(count: usize) -> usize
+pub fn piece_count(count: usize) -> usize
     requires { count < 2 ^ 31 }
     ensures { result ≡ piece_count count }
 {
@@ -125,7 +125,7 @@ fn piece_count(count: usize) -> usize
 }
 
 /// How many elements the piece from a position on has.
-fn piece_len(count: usize, first: usize) -> usize
+pub fn piece_len(count: usize, first: usize) -> usize
     ensures { result ≡ min PIECE (count - first) }
 {
     if first < count && count - first < PIECE {

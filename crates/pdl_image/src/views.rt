@@ -1,12 +1,15 @@
 //! The lines of views.
-ghost use Rattle.std.specs.Prelude.{◌≡◌, ◌≤◌, ◌<◌, ◌^◌, ◌++◌, ◌∷◌, [], length, codes, pos, slice_set, IfOk, IsTrue, OnOk};
+ghost use Rattle.std.specs.Prelude.{◌≡◌, ◌≤◌, ◌<◌, ◌^◌, ◌++◌, ◌∷◌, [], length, codes, IfOk, IsTrue, OnOk};
+ghost use Rattle.pdl_choice.specs.Where.{rises};
+ghost use Rattle.pdl_shape.specs.Shape.{size_of};
 ghost use Rattle.pdl_world.specs.declared.Trans.TheVariants as trans;
 ghost use Rattle.pdl_world.specs.Formula.{is_well_formed};
 ghost use Rattle.pdl_image.specs.Adding.{Adds};
-ghost use Rattle.pdl_image.specs.Dump.{affine_call, edge_number, mask_of, undef_lines, view_lines};
+ghost use Rattle.pdl_image.specs.Dump.{affine_call, edge_number, undef_lines, view_lines};
 ghost use Rattle.pdl_image.specs.Lines.{Line, call_text, chosen, line_text, numbered, ranged, sliced, undef_line, view_line};
 
 use crate::lines::{add_line, undef_text};
+use crate::masks::add_mask;
 use crate::numbers::{push_count, push_numbers, push_slice};
 use crate::pieces::add_numbers;
 use crate::stems::name_at;
@@ -154,29 +157,6 @@ fn range_text(
     Ok(line)
 }
 
-/// Sets a position of a mask to 1, if there is such a position.
-fn mark(mask: &mut Vec<i64>, place: usize)
-    ensures inside { place < length mask.old.items →
-        mask.new.items ≡ slice_set mask.old.items place (pos 1) }
-    ensures past { length mask.old.items ≤ place → mask.new.items ≡ mask.old.items }
-{
-    if place < mask.len() {
-        mask[place] = 1;
-    }
-}
-
-/// The mask of so many elements that is 1 at the listed positions.
-fn mask_of(alloc: Global, count: u32, places: &[u32]) -> Result<Vec<i64>, AllocError>
-    ensures mask { IfOk result (λ mask. mask.items ≡ mask_of count places.now) }
-    ensures len { IfOk result (λ mask. length mask.items ≡ count) }
-{
-    let mut mask = vec![in alloc; 0; count as usize]?;
-    for place in places {
-        mark(&mut mask, *place as usize);
-    }
-    Ok(mask)
-}
-
 /// Appends the line that ends a name.
 pub fn add_undef(text: &mut Vec<u8>, name: &[u8]) -> Result<(), ImageFault>
     requires { length text.old.items ≤ LONGEST_DUMP }
@@ -224,12 +204,12 @@ fn add_where(
     dims: &Dims,
     places: &[u32],
 ) -> Result<(), ImageFault>
-    requires { length text.old.items ≤ LONGEST_DUMP }
+    requires room { length text.old.items ≤ LONGEST_DUMP }
+    requires rises { IsTrue (rises 0 (size_of dims.now) places.now) }
     ensures { Adds text.old.items text.new.items
         (view_lines name.now parent.now index.now (trans.Where dims.now places.now)) result }
 {
-    let mask = mask_of(*text.allocator(), elements_of(dims), places)?;
-    add_numbers(text, index, Ty::Byte, dims, &mask)?;
+    add_mask(text, index, dims, places)?;
     let line = chosen_text(*text.allocator(), name, parent, b"where", index)?;
     add_call(text, line, index)
 }

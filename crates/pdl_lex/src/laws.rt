@@ -1,4 +1,5 @@
 //! Laws of the statements of a script, and of the tokens of a statement.
+ghost use Rattle.pdl_lex.specs.Limits.{LimitsAre};
 ghost use Rattle.pdl_lex.specs.Settled.{BeginThePieces, StaySettled};
 ghost use Rattle.pdl_lex.specs.Joining.{StatementsJoin, BlanksJoin, PartsJoin, DigitsStay};
 ghost use Rattle.pdl_lex.specs.Tokens.{TextsHaveOneMeaning, TokensAreSpans};
@@ -46,4 +47,10 @@ pub fn written_laws()
     ensures all { TextsAreWritten }
     ensures longest { ApartAreLongest }
     ensures strings { QuotedAreStrings }
+{}
+
+/// A statement's text has at most 65,536 bytes, a script has at most 16,777,216, and at most 64
+/// brackets are open at once. The call does nothing when it runs.
+pub fn limits_law()
+    ensures { LimitsAre }
 {}

@@ -9,7 +9,9 @@ mod limits;
 mod parts;
 
 pub use cutter::{Mode, StatementCutter};
-pub use laws::{joining_laws, settled_laws, token_meaning, tokens_are_spans, written_laws};
+pub use laws::{
+    joining_laws, limits_law, settled_laws, token_meaning, tokens_are_spans, written_laws,
+};
 pub use lexer::{is_word, read_tokens, tokens};
 pub use limits::{MOST_OPEN, SCRIPT_LIMIT, STATEMENT_LIMIT};
 pub use parts::cut_parts;

@@ -15,7 +15,8 @@ use Rattle.pdl_lexemes.specs.declared.Span.{Span}
 use Rattle.pdl_lexemes.specs.declared.WordKind.TheVariants.{OfType}
 use Rattle.pdl_lexemes.specs.Lists.{SpellsList, a_list, type_of, HoldsRagged}
 use Rattle.pdl_lexemes.specs.ListReading.{read_part, list_read}
-use Rattle.pdl_lexemes.specs.Depth.{without_shape, ragged_in, is_too_deep}
+use Rattle.pdl_lexemes.specs.Depth.{operator_limit, without_shape, ragged_in, is_too_deep}
+use Rattle.pdl_lexemes.specs.Squares.{square_limit}
 use Rattle.pdl_lexemes.specs.Lexing.{operators, assignments, signs, word_of, lexemes_of}
 use Rattle.pdl_lexemes.specs.Texts.{HoldsText}
 use Rattle.pdl_lexemes.specs.Peeks.{after}
@@ -75,3 +76,8 @@ LexemesHoldTexts =
 pub record TypeWordsAreWords : Type 0 where
   pub words : (ty : Ty) → kind_of (type_word ty) ≡ Some IsWord
   pub types : (ty : Ty) (span : Span) → word_of (type_word ty) span ≡ Word (OfType ty) span
+
+-- how many square brackets are open at once at most, and how many operators stand outside them
+pub record LimitsAre : Type 0 where
+  pub squares : square_limit ≡ 16
+  pub operators : operator_limit ≡ 256

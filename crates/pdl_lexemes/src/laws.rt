@@ -1,6 +1,6 @@
 //! What the definitions promise to the crates above.
 
-ghost use Rattle.pdl_lexemes.specs.Laws.{ListsAreRead, RaggedIsScanned, ListsAreArrays, SignsAreKnown, BracketsAreCounted, LexemesHoldTexts, TypeWordsAreWords};
+ghost use Rattle.pdl_lexemes.specs.Laws.{ListsAreRead, RaggedIsScanned, ListsAreArrays, SignsAreKnown, BracketsAreCounted, LexemesHoldTexts, TypeWordsAreWords, LimitsAre};
 
 use pdl_lex::token_meaning;
 
@@ -41,4 +41,9 @@ pub fn lexemes_hold_texts()
 /// The word of each type is a word, and reads as that type.
 pub fn type_words_are_words()
     ensures { TypeWordsAreWords }
+{}
+
+/// At most 16 square brackets are open at once, and at most 256 operators stand outside them.
+pub fn limits_law()
+    ensures { LimitsAre }
 {}

@@ -18,7 +18,7 @@ mod tables;
 
 pub use checks::{MOST_OPERATORS, has_large};
 pub use laws::{
-    brackets_are_counted, every_sign_is_known, lexemes_hold_texts, lists_are_arrays,
+    brackets_are_counted, every_sign_is_known, lexemes_hold_texts, limits_law, lists_are_arrays,
     lists_are_their_grammar, ragged_is_scanned, type_words_are_words,
 };
 pub use left::Lexemes;

@@ -12,12 +12,17 @@ use Rattle.pdl_syntax.specs.StatementTree.{StatementTree, assign}
 use Rattle.pdl_watch.specs.Slots.{IsQuiet, IsBelow}
 use Rattle.pdl_machine.specs.declared.builtin.Builtin.TheVariants.{Nice}
 use Rattle.pdl_machine.specs.Builtin.{views, builtin_of}
-use Rattle.pdl_machine.specs.Names.{number_of}
+use Rattle.pdl_machine.specs.Names.{names_limit, kernels_limit, number_of}
 use Rattle.pdl_machine.specs.Arrays.{Arrays, array_in}
 use Rattle.pdl_machine.specs.State.{State, with_arrays, with_world, held, IsSwept, AreLive, IsWhole}
 use Rattle.pdl_machine.specs.Tidy.{tidy}
 use Rattle.pdl_machine.specs.Watches.{Watches, attached, trimmed, AreThere, notices}
 use Rattle.pdl_machine.specs.Step.{Done, effect, step}
+
+-- how many names are bound at once at most, and how many kernels are there
+pub record LimitsAre : Type 0 where
+  pub names : names_limit ≡ 512
+  pub kernels : kernels_limit ≡ 256
 
 -- where nothing is left over, a step from the renumbered state is the step
 abbrev pub StepsAlike : Type 0

@@ -4,7 +4,7 @@ ghost use Rattle.pdl_machine.specs.WorkedCuts.{ACutTakesItsViews, ACutGivesPlace
 ghost use Rattle.pdl_machine.specs.WorkedWatches.{AViewTells, AWatchKeepsItsArray, ASlotIsGivenUp, WatchersAreRefused};
 ghost use Rattle.pdl_machine.specs.WorkedNice.{PatternsAreFilledIn, NiceSlicesAreSlices, ValuesLookUp, NiceFaultsInOrder};
 ghost use Rattle.pdl_machine.specs.Laws.{StepsAlike, NewArraysUnseen, LettingGoUnseen, SweepsByFewer, StepsLeaveReached, TidyingShowsTheSame};
-ghost use Rattle.pdl_machine.specs.Laws.{ViewsAreViewWords, OnlyAssignmentsTell, GrowingTellsTheSame, StepsGiveNone, StepsKeepThere, EitherTextOrNotices, TrimmingAttachesTheSame};
+ghost use Rattle.pdl_machine.specs.Laws.{LimitsAre, ViewsAreViewWords, OnlyAssignmentsTell, GrowingTellsTheSame, StepsGiveNone, StepsKeepThere, EitherTextOrNotices, TrimmingAttachesTheSame};
 
 use pdl_watch::{change_laws, slot_laws};
 use pdl_world::{cut_laws, growth_laws, reshape_laws};
@@ -92,4 +92,10 @@ pub fn worked_nice()
 /// it runs.
 pub fn view_words()
     ensures { ViewsAreViewWords }
+{}
+
+/// At most 512 names of arrays are bound at once, and at most 256 kernels are there. The call does
+/// nothing when it runs.
+pub fn limits_law()
+    ensures { LimitsAre }
 {}

@@ -4,7 +4,7 @@ use Rattle.std.proofs.lemmas.Bool.Decides.{eqb_tells, leb_tells}
 use Rattle.slab.specs.Slab.{Slab}
 use Rattle.pdl_registry.specs.Numbered.{AllAbove, Rises, first_from, value_at}
 use Rattle.pdl_nodes.specs.Row.{Row}
-use Rattle.pdl_nodes.specs.Rows.{from, or_newer, Rows, has, Falls}
+use Rattle.pdl_nodes.specs.Rows.{from, or_newer, NumbersBelow, Rows, has, Falls}
 use Rattle.pdl_nodes.specs.Table.{rows_of, IsTable}
 use Rattle.pdl_nodes.proofs.Calls.{seen}
 use Rattle.pdl_nodes.proofs.Finds.{has_below, not_newest, below_more}
@@ -55,6 +55,10 @@ is_first ((k, r) ∷ rs) n f = elim (leb_tells n k) [
   | inr t ↦ (let l : k < n = omega (arith, t.1) in
       rw (t.0, from_low rs k n l (λ v h. has_below rs k v f.0 h)) (first_older k n r rs l f))
 ]
+
+-- there is none from a bound of all numbers on
+pub none_past : (rs : Rows) (n : ℕ) → NumbersBelow n rs → IsFirst rs n None
+none_past rs n b = λ v h l. (let low : v < n = has_below rs n v b h in omega (arith, l, low))
 
 -- two that say the same are the same
 first_same : (rs : Rows) (n : ℕ) (o p : Option ℕ) → IsFirst rs n o → IsFirst rs n p → o ≡ p

@@ -33,6 +33,7 @@ mod Firsts
 mod RenewRows
 mod RenewOrder
 mod Relays
+mod Viewless
 mod RenewLoop
 mod Relaying
 mod Leavings

@@ -1,12 +1,12 @@
 -- How the layouts of all views below an array are made anew.
-use Rattle.std.proofs.Common.{◌≡◌, ℕ, ℤ, ◌+◌, ◌<◌, ◌≤◌, true, false, List, [], ◌∷◌, Option, Some, None, IsSomeAnd, inl, inr, Result, Ok, Err, refl, sym, ◌∙◌, ap, subst, arith}
+use Rattle.std.proofs.Common.{◌≡◌, ℕ, ℤ, ◌+◌, ◌<◌, ◌≤◌, true, false, cond, List, [], ◌∷◌, Option, Some, None, IsSomeAnd, inl, inr, Result, Ok, Err, refl, sym, ◌∙◌, ap, subst, arith}
 use Rattle.std.specs.Prelude.{IsTrue, is_some}
 use Rattle.std.specs.Option.{option_map_or, unwrap_or}
 use Rattle.std.proofs.lemmas.Bool.{cases_Bool, cases_eq, cases_lt, eq-eqb}
 use Rattle.std.proofs.lemmas.Bool.Decides.{eqb_tells}
 use Rattle.pdl_shape.specs.Refusals.{Refusal}
 use Rattle.pdl_world.specs.BreakLaws.{BelowLaws, FormulasBreak, IsDerivedBelow, IsBroken}
-use Rattle.pdl_world.specs.Cut.{breaks, reshape}
+use Rattle.pdl_world.specs.Cut.{breaks, has_views, reshape}
 use Rattle.pdl_world.specs.declared.Trans.{Trans}
 use Rattle.pdl_world.specs.Formula.{child_dims, is_well_formed}
 use Rattle.pdl_world.specs.Paths.{path}
@@ -20,6 +20,7 @@ use Rattle.pdl_nodes.specs.declared.origin.Layout.{Layout}
 use Rattle.pdl_nodes.specs.declared.origin.Origin.{Origin}
 use Rattle.pdl_nodes.specs.declared.origin.Origin.TheVariants.{Root, View}
 use Rattle.pdl_nodes.specs.declared.relaid.RelayFault.TheVariants as relay
+use Rattle.pdl_nodes.specs.Children.{children}
 use Rattle.pdl_nodes.specs.Faults.{Names, NamesReason, of_view, reason_of}
 use Rattle.pdl_nodes.specs.Relaying.{AreNewDims, IsRelaying}
 use Rattle.pdl_nodes.specs.Renewed.{Layouts, AreRelaid, Fits, laid_by, layout_at}
@@ -31,14 +32,15 @@ use Rattle.pdl_nodes.specs.Sized.{HasDims}
 use Rattle.pdl_nodes.specs.Still.{IsStill, StillFrom}
 use Rattle.pdl_nodes.specs.Worlds.{def_from, def_of, latest, shape, with_elements, world_of}
 use Rattle.pdl_nodes.proofs.FamilyLemmas.{still_falls}
-use Rattle.pdl_nodes.proofs.Finds.{not_newest}
-use Rattle.pdl_nodes.proofs.Firsts.{IsFirst, is_first}
+use Rattle.pdl_nodes.proofs.Finds.{has_below, not_newest}
+use Rattle.pdl_nodes.proofs.Firsts.{IsFirst, is_first, none_past}
 use Rattle.pdl_nodes.proofs.Paths.{parent_live, path_is, path_older}
 use Rattle.pdl_nodes.proofs.Relays.{path_with}
 use Rattle.pdl_nodes.proofs.RenewLoop.{room_by, room_of}
 use Rattle.pdl_nodes.proofs.Seens.{has_older, is_seen, row_older, view_at}
 use Rattle.pdl_nodes.proofs.WorldLemmas.{look_with}
 use Rattle.pdl_nodes.proofs.Viewed.{allowed}
+use Rattle.pdl_nodes.proofs.Viewless.{no_views, none_reaches}
 
 -- the record of a row in the world
 has_view : (f : ℕ → List ℤ) (rs : Rows) (k p : ℕ) (t : Trans) (y : Layout) → has rs k ≡ true → (row_at rs k).origin ≡ View p t y → Has (with_elements f (shape rs)) k (view p t)
@@ -235,8 +237,26 @@ pub record IsOn (ls : Layouts) (rs : Rows) (v : ℕ) (ds : List ℕ) (next : Opt
 first_is : (rs : Rows) (n : ℕ) (o : Option ℕ) → IsStill rs → o ≡ from rs n → IsFirst rs n o
 first_is rs n o s e = subst (IsFirst rs n) (sym e) (is_first rs n (still_falls rs s))
 
-pub on_begins : BelowLaws → (rs : Rows) (v : ℕ) (ds : List ℕ) (next : Option ℕ) → IsSound (world_of rs) → IsStill rs → next ≡ from rs (v + 1) → IsOn [] rs v ds next
-on_begins laws rs v ds next s i e = record { bound = v + 1; above = omega arith; first = first_is rs (v + 1) next i e; relaying = relaying_begins laws rs v ds s i }
+on_newer : BelowLaws → (rs : Rows) (v : ℕ) (ds : List ℕ) (next : Option ℕ) → IsSound (world_of rs) → IsStill rs → next ≡ from rs (v + 1) → IsOn [] rs v ds next
+on_newer laws rs v ds next s i e = record { bound = v + 1; above = omega arith; first = first_is rs (v + 1) next i e; relaying = relaying_begins laws rs v ds s i }
+
+-- without views there is none to be laid anew
+on_none : (rs : Rows) (v : ℕ) (ds : List ℕ) → IsStill rs → has rs v ≡ true → NumbersBelow 18446744073709551615 rs → children rs v ≡ 0 → IsOn [] rs v ds None
+on_none rs v ds i h b c = record {
+  bound = 18446744073709551615;
+  above = has_below rs 18446744073709551615 v b h;
+  first = none_past rs 18446744073709551615 b;
+  relaying = record {
+    done = λ k p t y g l e j. absurd (none_reaches rs v k p i c g (ap parent_from e) (parent_live rs k p i g (ap parent_from e)).0 (ap (λ ps. is_listed ps v) (sym (path_with (latest rs) (shape rs) p)) ∙ j));
+    only = λ k x e. cc;
+  };
+}
+
+pub on_begins : BelowLaws → (rs : Rows) (v : ℕ) (ds : List ℕ) (next : Option ℕ) → IsSound (world_of rs) → IsStill rs → has rs v ≡ true → NumbersBelow 18446744073709551615 rs → next ≡ cond (has_views (shape rs) v) (from rs (v + 1)) None → IsOn [] rs v ds next
+on_begins laws rs v ds next s i h b e = elim (cases_Bool (has_views (shape rs) v)) [
+  | inl y ↦ on_newer laws rs v ds next s i (e ∙ ap (λ x. cond x (from rs (v + 1)) None) y)
+  | inr n ↦ subst (λ o. IsOn [] rs v ds o) (sym (e ∙ ap (λ x. cond x (from rs (v + 1)) None) n)) (on_none rs v ds i h b (no_views rs v n))
+]
 
 -- the next array
 pub record IsNext (ls : Layouts) (rs : Rows) (v : ℕ) (ds : List ℕ) (k : ℕ) : Type 0 where

@@ -1,11 +1,13 @@
 -- The loop of a renewal, which renews each newer row over the rows as they are.
 use Rattle.std.proofs.Common.{◌≡◌, ℕ, ℤ, ◌+◌, ◌-◌, ◌<◌, ◌≤◌, true, false, eqb, cond, List, [], ◌∷◌, Option, Some, None, inl, inr, refl, sym, ◌∙◌, ap, subst, arith}
 use Rattle.std.specs.Option.{option_map_or, unwrap_or}
-use Rattle.std.proofs.lemmas.Bool.{cases_eq, cases_lt, eq-eqb, ne_eqb}
+use Rattle.std.proofs.lemmas.Bool.{cases_Bool, cases_eq, cases_lt, eq-eqb, ne_eqb}
 use Rattle.std.proofs.lemmas.Bool.Decides.{eqb_tells}
+use Rattle.pdl_world.specs.Cut.{has_views}
 use Rattle.pdl_nodes.specs.declared.origin.Layout.{Layout}
 use Rattle.pdl_nodes.specs.declared.origin.Origin.{Origin}
 use Rattle.pdl_nodes.specs.declared.origin.Origin.TheVariants.{Root, View}
+use Rattle.pdl_nodes.specs.Children.{children}
 use Rattle.pdl_nodes.specs.Row.{root_row, Row, parent_from, parent_of, shown_of}
 use Rattle.pdl_nodes.specs.Rows.{Rows, row_at, has, each, from, NumbersBelow, Falls}
 use Rattle.pdl_elem.specs.declared.Ty.{Ty}
@@ -16,12 +18,14 @@ use Rattle.pdl_nodes.specs.Still.{StillFrom, IsStill}
 use Rattle.pdl_world.specs.declared.Trans.{Trans}
 use Rattle.pdl_nodes.proofs.FamilyLemmas.{still_falls}
 use Rattle.pdl_nodes.proofs.Finds.{not_newest, has_below, each_has, each_at, falls_each}
-use Rattle.pdl_nodes.proofs.Firsts.{IsFirst, is_first}
+use Rattle.pdl_nodes.proofs.Firsts.{IsFirst, is_first, none_past}
 use Rattle.pdl_nodes.proofs.Paths.{parent_live}
 use Rattle.pdl_nodes.proofs.Marks.{each_live, each_each, each_id}
 use Rattle.pdl_nodes.proofs.RenewOrder.{leaves_families}
 use Rattle.pdl_nodes.proofs.RenewRows.{renew_row}
 use Rattle.pdl_nodes.proofs.Seens.{is_seen, row_older, has_older}
+use Rattle.pdl_nodes.specs.Worlds.{shape}
+use Rattle.pdl_nodes.proofs.Viewless.{fewer, no_views, not_view, root_alone}
 use Rattle.pdl_nodes.specs.Renewed.{AreLaid, CanDerive, CanRenew, Fits, Layouts, LaidAnew, laid_by, layout_at, renew, renewed, renewed_in, rooted_in, with_layout}
 
 -- the changes of one row
@@ -237,18 +241,54 @@ next_is f t0 t n o s e b =
     let P : Option ℕ → Type 0 = λ x. IsFirst t0 n x in
     subst P (sym (b ∙ ap (λ x. from x n) e)) (first_each f t0 n (from (each f t0) n) (is_first (each f t0) n falls))
 
-pub renewing_none : (ls : Layouts) (t0 : Rows) (v : ℕ) (ds : List ℕ) (es : List ℤ) (t : Rows) (next : Option ℕ) → IsStill t0 → has t0 v ≡ true → t ≡ each (rooted_in v ds es) t0 → next ≡ from t (v + 1) → IsRenewing ls t0 v ds es t next
-renewing_none ls t0 v ds es t next s h e b = record {
+-- without views no row changes but that of the new root
+renew_viewless : (ls : Layouts) (rs : Rows) → IsStill rs → (v : ℕ) (ds : List ℕ) (es : List ℤ) → children rs v ≡ 0 → (u : ℕ) → has rs u ≡ true → (u ≡ v → ⊥) → row_at (renew ls rs v ds es) u ≡ row_at rs u
+renew_viewless ls [] s v ds es c u h n = (let z : false ≡ true = h in absurd (cc))
+renew_viewless ls ((k, r) ∷ rs) s v ds es c u h n =
+    let rest : children rs v ≡ 0 = fewer (parent_of r) v (children rs v) c in
+    elim (eqb_tells k u) [
+      | inl t ↦ (let ne : k ≡ v → ⊥ = λ e. n (sym t.1 ∙ e) in
+          rw (t.0, ne_eqb k v ne) (renewed_none ls v (renew ls rs v ds es) k r r.origin (λ p e g. (let w : HasAbove rs k p = above_from rs k r r.origin p s.0 s.1 e in
+          let m : p ≡ v → ⊥ = λ q. not_view (parent_of r) v (children rs v) c (e ∙ ap Some q) in
+          m (root_alone rs v p s.2 rest w.live (sym (ap (λ (x : Row). x.root) (renew_viewless ls rs s.2 v ds es rest p w.live m)) ∙ g))))))
+      | inr t ↦ rw t.0 (renew_viewless ls rs s.2 v ds es rest u (rw t.0 at h) n)
+    ]
+
+-- the new root is there, and no view is derived anew yet
+rooted_row : (ls : Layouts) (t0 : Rows) (v : ℕ) (ds : List ℕ) (es : List ℤ) (t : Rows) (u : ℕ) → t ≡ each (rooted_in v ds es) t0 → has t0 v ≡ true → has t0 u ≡ true
+    → ((u ≡ v → ⊥) → row_at (renew ls t0 v ds es) u ≡ row_at t0 u) → row_at t u ≡ row_at (renew ls t0 v ds es) u
+rooted_row ls t0 v ds es t u e h g same = ap (λ x. row_at x u) e ∙ each_at (rooted_in v ds es) t0 u g ∙ elim (eqb_tells u v) [
+  | inl y ↦ rw y.0 (let P : ℕ → Type 0 = λ x. root_row v (row_at t0 x).ty ds es ≡ row_at (renew ls t0 v ds es) x in subst P (sym y.1) (sym (renew_row ls t0 v ds es h)))
+  | inr y ↦ rw y.0 (sym (same y.1))
+]
+
+renewing_newer : (ls : Layouts) (t0 : Rows) (v : ℕ) (ds : List ℕ) (es : List ℤ) (t : Rows) (next : Option ℕ) → IsStill t0 → has t0 v ≡ true → t ≡ each (rooted_in v ds es) t0 → next ≡ from t0 (v + 1) → IsRenewing ls t0 v ds es t next
+renewing_newer ls t0 v ds es t next s h e b = record {
   bound = v + 1;
   above = omega arith;
-  first = next_is (rooted_in v ds es) t0 t (v + 1) next s e b;
+  first = subst (λ (x : Option ℕ). IsFirst t0 (v + 1) x) (sym b) (is_first t0 (v + 1) (still_falls t0 s));
   rows = same_each t0 t (rooted_in v ds es) s e;
-  done = λ u g l. ap (λ x. row_at x u) e ∙ each_at (rooted_in v ds es) t0 u g ∙ elim (eqb_tells u v) [
-    | inl y ↦ rw y.0 (let P : ℕ → Type 0 = λ x. root_row v (row_at t0 x).ty ds es ≡ row_at (renew ls t0 v ds es) x in subst P (sym y.1) (sym (renew_row ls t0 v ds es h)))
-    | inr y ↦ rw y.0 (sym (renew_low ls t0 s v ds es u g (omega (arith, y.1))))
-  ];
+  done = λ u g l. rooted_row ls t0 v ds es t u e h g (λ n. renew_low ls t0 s v ds es u g (omega (arith, n)));
   rest = λ u g l. ap (λ x. row_at x u) e ∙ each_at (rooted_in v ds es) t0 u g ∙ rw (ne_eqb u v (λ y. (let z : ⊥ = omega arith in z))) refl;
 }
+
+-- without views there is none to be derived anew
+renewing_alone : (ls : Layouts) (t0 : Rows) (v : ℕ) (ds : List ℕ) (es : List ℤ) (t : Rows) → IsStill t0 → has t0 v ≡ true → NumbersBelow 18446744073709551615 t0 → children t0 v ≡ 0 → t ≡ each (rooted_in v ds es) t0 → IsRenewing ls t0 v ds es t None
+renewing_alone ls t0 v ds es t s h b c e = record {
+  bound = 18446744073709551615;
+  above = has_below t0 18446744073709551615 v b h;
+  first = none_past t0 18446744073709551615 b;
+  rows = same_each t0 t (rooted_in v ds es) s e;
+  done = λ u g l. rooted_row ls t0 v ds es t u e h g (renew_viewless ls t0 s v ds es c u g);
+  rest = λ u g l. absurd (none_past t0 18446744073709551615 b u g l);
+}
+
+pub renewing_none : (ls : Layouts) (t0 : Rows) (v : ℕ) (ds : List ℕ) (es : List ℤ) (t : Rows) (next : Option ℕ) → IsStill t0 → has t0 v ≡ true → NumbersBelow 18446744073709551615 t0 → t ≡ each (rooted_in v ds es) t0
+    → next ≡ cond (has_views (shape t0) v) (from t0 (v + 1)) None → IsRenewing ls t0 v ds es t next
+renewing_none ls t0 v ds es t next s h b e f = elim (cases_Bool (has_views (shape t0) v)) [
+  | inl y ↦ renewing_newer ls t0 v ds es t next s h e (f ∙ ap (λ x. cond x (from t0 (v + 1)) None) y)
+  | inr n ↦ subst (λ (x : Option ℕ). IsRenewing ls t0 v ds es t x) (sym (f ∙ ap (λ x. cond x (from t0 (v + 1)) None) n)) (renewing_alone ls t0 v ds es t s h b (no_views t0 v n) e)
+]
 
 -- the next number is live and newer, and the rows before it are done
 record IsAt (ls : Layouts) (t0 : Rows) (v : ℕ) (ds : List ℕ) (es : List ℤ) (t : Rows) (id : ℕ) : Type 0 where

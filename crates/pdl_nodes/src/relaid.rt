@@ -141,7 +141,7 @@ impl Table {
         breaking_laws();
         let root = self.node(id).root();
         let mut layouts = Relaid::new(alloc);
-        let mut next = self.from(id + 1);
+        let mut next = self.first_below(id);
         while let Some(newer) = next {
             self.relay_in(alloc, root, id, dims, &mut layouts, newer)?;
             next = self.from(newer + 1);

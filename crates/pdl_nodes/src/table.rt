@@ -402,6 +402,18 @@ impl Table {
         self.keys.from(id)
     }
 
+    /// The first array that is newer than this one, if this one has views: what reaches it by parents
+    /// is found from there on. Without views nothing does.
+    pub(crate) fn first_below(&self, id: u64) -> Option<u64>
+        requires small { id < 2 ^ 64 - 1 }
+        ensures { result ≡ if has_views (shape self.now) id then from self.now (id + 1) else None }
+    {
+        if !self.has_views(id) {
+            return None;
+        }
+        self.from(id + 1)
+    }
+
     /// Makes a node a root of these dimensions and elements, which is marked. Its views, if it has
     /// any, aren't derived anew: `renew` does so.
     fn become_root(&mut self, alloc: Global, id: u64, dims: &Dims, kept: Buf)
@@ -466,9 +478,9 @@ impl Table {
         view_laws();
         window_laws();
         let root = self.node(id).root();
+        let mut next = self.first_below(id);
         self.become_root(alloc, id, dims, kept);
         let mut layouts = layouts;
-        let mut next = self.from(id + 1);
         while let Some(newer) = next {
             self.renew_in(alloc, root, id, newer, &mut layouts);
             next = self.from(newer + 1);

@@ -1,10 +1,11 @@
 -- The printed text of arrays.
-use Rattle.std.specs.Prelude.{ℕ, zero, suc, ◌+◌, ◌-◌, ◌/◌, max, ℤ, pos, nat_lt, ◌==◌, if◌then◌else◌, List, [], ◌∷◌, ◌++◌, length, map, fold, flat_map, take, drop, replicate, get_or, codes, decimal}
+use Rattle.std.specs.Prelude.{◌≡◌, ℕ, zero, suc, ◌+◌, ◌-◌, ◌/◌, max, ℤ, pos, nat_lt, ◌==◌, if◌then◌else◌, List, [], ◌∷◌, ◌++◌, length, map, fold, flat_map, take, drop, replicate, get_or, codes, decimal}
 use Rattle.std.specs.List.{join_with_byte}
 use Rattle.std.specs.Fmt.{signed_decimal}
 use Rattle.pdl_elem.specs.declared.Ty.{Ty}
 use Rattle.pdl_elem.specs.Types.{name_of}
 use Rattle.pdl_shape.specs.Shape.{size_of}
+use Rattle.pdl_print.specs.declared.pieces.TheConstants.{MOST_PRINTED}
 
 abbrev pub spaces : ℕ → List ℕ
 spaces n = replicate n 32
@@ -54,11 +55,19 @@ elements_text (d ∷ e ∷ ds) es = codes "\n" ++ block (d ∷ e ∷ ds) (length
 abbrev pub decimals_joined : ℕ → List ℕ → List ℕ
 decimals_joined byte ds = join_with_byte byte (map decimal ds)
 
+-- an array of more elements isn't printed
+abbrev pub printed_limit : ℕ
+printed_limit = MOST_PRINTED
+
+-- so many elements are printed at most
+abbrev pub LimitIs : Type 0
+LimitIs = printed_limit ≡ 10000
+
 -- an array's text, with its last newline
 abbrev pub array_text : List ℕ → List ℤ → List ℕ
 array_text ds es =
     if size_of ds == 0 then codes "Empty[" ++ decimals_joined 120 ds ++ codes "]\n"
-    else if nat_lt 10000 (size_of ds) then codes "TOO LONG TO PRINT\n" else elements_text ds es
+    else if nat_lt printed_limit (size_of ds) then codes "TOO LONG TO PRINT\n" else elements_text ds es
 
 -- what `info` tells of an array
 abbrev pub info : Ty → List ℕ → List ℕ

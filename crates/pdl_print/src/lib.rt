@@ -2,13 +2,14 @@
 #![tactic(auto)]
 
 ghost use Rattle.std.specs.Prelude.{◌≡◌, ◌++◌, take, OnOk, OnErr};
-ghost use Rattle.pdl_print.specs.Printed.{array_text, info};
+ghost use Rattle.pdl_print.specs.Printed.{array_text, info, LimitIs};
 
 mod pieces;
 
 use pdl_buf::{NoMemory, Strided};
 use pdl_elem::Ty;
 use pdl_shape::Dims;
+pub use pieces::MOST_PRINTED;
 
 /// Appends an array's text, which ends with a newline. After `NoMemory` the bytes are as before.
 pub fn write_array(elems: &Strided<'_>, into: &mut Vec<u8>) -> Result<(), NoMemory>
@@ -46,3 +47,8 @@ fn settled(done: Result<(), NoMemory>, into: &mut Vec<u8>, mark: usize) -> Resul
         }
     }
 }
+
+/// An array of more than 10,000 elements isn't printed. The call does nothing when it runs.
+pub fn limits_law()
+    ensures { LimitIs }
+{}

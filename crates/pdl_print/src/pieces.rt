@@ -11,7 +11,7 @@ use pdl_shape::{Dims, dims_list, elements_of};
 use std::alloc::{AllocError, Global};
 
 /// Above so many elements an array isn't printed.
-const MOST_PRINTED: u32 = 10_000;
+pub const MOST_PRINTED: u32 = 10_000;
 
 /// Appends so many spaces.
 fn push_spaces(into: &mut Vec<u8>, count: usize) -> Result<(), AllocError>

@@ -1,8 +1,8 @@
 -- What reading costs once other arrays were made ready, and what an operator costs.
-use Rattle.std.proofs.Common.{◌≡◌, ℕ, ◌+◌, ◌≤◌, ◌<◌, Bool, true, false, List, take, get_or, length, Option, None, inl, inr, refl, sym, ap, subst, ◌∙◌, arith}
+use Rattle.std.proofs.Common.{◌≡◌, ℕ, ◌+◌, ◌≤◌, ◌<◌, Bool, true, false, List, [], ◌∷◌, take, get_or, length, Option, None, inl, inr, refl, sym, ap, subst, ◌∙◌, arith}
 use Rattle.std.specs.Prelude.{◌==◌, ◌&&◌, not, if◌then◌else◌, sum_by}
 use Rattle.std.proofs.lemmas.Bool.Decides.{eqb_tells}
-use Rattle.std.proofs.lemmas.List.Sums.{sum_by-le-sum_by, sum_by-take-le, sum_by_more}
+use Rattle.std.proofs.lemmas.List.Sums.{sum_by-cons, sum_by-le-sum_by, sum_by-take-le, sum_by_more}
 use Rattle.pdl_shape.specs.Shape.{size_of}
 use Rattle.pdl_nodes.specs.Owed.{owed, size_if}
 use Rattle.pdl_world.specs.Paths.{path, root_of}
@@ -10,6 +10,7 @@ use Rattle.pdl_world.specs.Sound.{IsLive}
 use Rattle.pdl_world.specs.World.{World, dims_in}
 use Rattle.pdl_engine.specs.Reading.{read_steps}
 use Rattle.pdl_engine.specs.State.{State as Engine, OthersWait, SameArrays, StayFresh, base, is_fresh, outdated, outdated_at, ready_steps, waiting, waiting_at, waiting_size}
+use Rattle.pdl_machine.specs.State.{AreLive}
 use Rattle.pdl_scope.specs.Costs.{ReadsNoDearer}
 
 -- nothing is owed by what can be lent
@@ -87,3 +88,11 @@ read_and_made before now after read moved made reads makes is = omega (arith, re
 -- where nothing is made
 pub read_alone : (before after read made : ℕ) → after ≤ before + read → after ≤ before + (read + made)
 read_alone before after read made reads = omega (arith, reads)
+
+-- nor do arrays together
+pub all_no_dearer : (e t : Engine) (vs : List ℕ) → ReadsNoDearer e t → AreLive e.world vs → sum_by (read_steps t) vs ≤ sum_by (read_steps e) vs
+all_no_dearer e t [] costs live = omega arith
+all_no_dearer e t (v ∷ vs) costs live =
+    let here = costs v live.0 in
+    let rest = all_no_dearer e t vs costs live.1 in
+    omega (arith, here, rest, sum_by-cons (read_steps t) v vs, sum_by-cons (read_steps e) v vs)

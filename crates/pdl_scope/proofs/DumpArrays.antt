@@ -24,14 +24,20 @@ use Rattle.pdl_scope.proofs.Numbers.{Laws, LooksLike, in_range, length-numbers, 
 
 -- ---- the array at a place
 
+-- the number that stands at a place is that of the array there
+pub number_at : (w : World) (ids : List ℕ) (i v : ℕ) → ids ≡ numbers_in w → slice_get ids i ≡ Some v → (array_at w i).0 ≡ v
+number_at w ids i v is at =
+    let same : slice_get (numbers_in w) i ≡ Some v = subst (λ (ks : List ℕ). slice_get ks i ≡ Some v) is at in
+    let low : i < length w = subst (λ (m : ℕ). i < m) (length-numbers w) (in_range (numbers_in w) i v same) in
+    ap (number_or 0) (sym (number_is w i low) ∙ same)
+
 -- an array whose number stands at a place is there, and looks as it was made
 pub found_at : Laws → (w : World) (ids : List ℕ) (i v : ℕ) → IsSound w → ids ≡ numbers_in w → slice_get ids i ≡ Some v
     → IsLive w v × LooksLike w v (array_at w i).1
 found_at laws w ids i v sound is at =
     let same : slice_get (numbers_in w) i ≡ Some v = subst (λ (ks : List ℕ). slice_get ks i ≡ Some v) is at in
     let low : i < length w = subst (λ (m : ℕ). i < m) (length-numbers w) (in_range (numbers_in w) i v same) in
-    let e : (array_at w i).0 ≡ v = ap (number_or 0) (sym (number_is w i low) ∙ same) in
-    subst (λ (u : ℕ). IsLive w u × LooksLike w u (array_at w i).1) e (looks_at laws w i sound low)
+    subst (λ (u : ℕ). IsLive w u × LooksLike w u (array_at w i).1) (number_at w ids i v is at) (looks_at laws w i sound low)
 
 pub live_at : Laws → (w : World) (ids : List ℕ) (i v : ℕ) → IsSound w → ids ≡ numbers_in w → slice_get ids i ≡ Some v → IsLive w v
 live_at laws w ids i v sound is at = (found_at laws w ids i v sound is at).0

@@ -8,6 +8,8 @@ pub mod Printing
 pub mod DumpLemmas
 pub mod DumpArrays
 pub mod Numbers
+pub mod Places
+pub mod DumpCosts
 pub mod Roots
 pub mod Held
 pub mod Watched

@@ -1,10 +1,10 @@
 -- What new arrays take to be made ready.
-use Rattle.std.proofs.Common.{◌≡◌, ℕ, ℤ, ◌+◌, ◌≤◌, ◌<◌, Bool, true, false, List, [], ◌∷◌, ◌++◌, length, Option, Some, None, Result, Ok, Err, inl, inr, refl, sym, ap, subst, ◌∙◌, arith, int_eq}
+use Rattle.std.proofs.Common.{◌≡◌, ℕ, ℤ, ◌+◌, ◌≤◌, ◌<◌, Bool, true, false, List, [], ◌∷◌, ◌++◌, length, take, get_or, Option, Some, None, Result, Ok, Err, inl, inr, refl, sym, ap, subst, ◌∙◌, arith, int_eq}
 use Rattle.std.specs.Prelude.{◌==◌, ◌&&◌, not, if◌then◌else◌, pos, IsSomeAnd, option_and_then, sum_by}
 use Rattle.std.specs.Option.{option_map_or}
 use Rattle.std.proofs.lemmas.Bool.{eq-eqb, ne_eqb}
 use Rattle.std.proofs.lemmas.Bool.Decides.{eqb_tells}
-use Rattle.std.proofs.lemmas.List.Sums.{count_by-le-length, sum_by-cons}
+use Rattle.std.proofs.lemmas.List.Sums.{count_by-le-length, sum_by-cons, sum_by-take-le, sum_by_more}
 use Rattle.pdl_elem.specs.declared.Ty.{Ty}
 use Rattle.pdl_shape.specs.Shape.{size_of}
 use Rattle.pdl_numbers.specs.Typed.{count_moved}
@@ -168,3 +168,17 @@ root_within mid new m old before now after v so_far made is counted =
     let few : count_moved m.elems ≤ size_of m.dims = moved_within m made in
     let all : total_size new.arrays.world ≡ size_of m.dims + total_size mid.arrays.world = root_adds mid.arrays new.arrays m v is in
     omega (arith, so_far, few, all, counted)
+
+abbrev moved : Made → ℕ
+moved m = count_moved m.elems
+
+-- one array more is made of its elements
+pub made_more : (ms : List Made) (i before now after : ℕ) (m : Made) → i < length ms → m ≡ get_or ms i m → now ≤ before + sum_by moved (take i ms) → after ≤ now + moved m → after ≤ before + sum_by moved (take (i + 1) ms)
+made_more ms i before now after m lt is so_far next =
+    let sum : sum_by moved (take (i + 1) ms) ≡ sum_by moved (take i ms) + moved (get_or ms i m) = sum_by_more moved ms i m lt in
+    let here : moved m ≡ moved (get_or ms i m) = ap moved is in
+    omega (arith, so_far, next, sum, here)
+
+-- the first arrays take no more steps than all
+pub made_first : (ms : List Made) (i before after : ℕ) → after ≤ before + sum_by moved (take i ms) → after ≤ before + sum_by moved ms
+made_first ms i before after so_far = (let part : sum_by moved (take i ms) ≤ sum_by moved ms = sum_by-take-le moved ms i in omega (arith, so_far, part))

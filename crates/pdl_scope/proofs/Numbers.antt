@@ -26,7 +26,7 @@ abbrev AllAbove : ℕ → List ℕ → Type 0
 AllAbove k [] = Unit {0}
 AllAbove k (j ∷ js) = (k < j) × AllAbove k js
 
-abbrev Rises : List ℕ → Type 0
+abbrev pub Rises : List ℕ → Type 0
 Rises [] = Unit {0}
 Rises (k ∷ ks) = AllAbove k ks × Rises ks
 
@@ -50,12 +50,12 @@ numbers_under : (n : ℕ) (w : World) → NumbersBelow n w → AllUnder n (numbe
 numbers_under n [] below = tt
 numbers_under n ((k, d) ∷ w) below = under_last n k (numbers_in w) below.0 (numbers_under n w below.1)
 
-numbers_rise : (w : World) → IsSound w → Rises (numbers_in w)
+pub numbers_rise : (w : World) → IsSound w → Rises (numbers_in w)
 numbers_rise [] sound = tt
 numbers_rise ((k, d) ∷ w) sound = rises_last k (numbers_in w) (numbers_under k w sound.0) (numbers_rise w sound.2)
 
 -- the number at a place is above those before it
-above_at : (k : ℕ) (ks : List ℕ) (n v : ℕ) → AllAbove k ks → slice_get ks n ≡ Some v → k < v
+pub above_at : (k : ℕ) (ks : List ℕ) (n v : ℕ) → AllAbove k ks → slice_get ks n ≡ Some v → k < v
 above_at k [] n v above at = cc
 above_at k (j ∷ js) zero v above at = let e : j ≡ v = cc in omega (arith, e, above.0)
 above_at k (j ∷ js) (suc n) v above at = above_at k js n v above.1 at
@@ -124,7 +124,7 @@ number_before [] k i low = absurd (omega (arith, low))
 number_before (j ∷ js) k zero low = refl
 number_before (j ∷ js) k (suc i) low = number_before js k i (omega (arith, low))
 
-under_length : (n i : ℕ) → i < suc n → (n == i) ≡ false → i < n
+pub under_length : (n i : ℕ) → i < suc n → (n == i) ≡ false → i < n
 under_length n i low other =
     by_test (nat_lt i n) (λ is. ltb-true i n is)
     (λ not. let le : n ≤ i = ltb-false i n not in absurd (eqb-false n i other (omega (arith, le, low))))

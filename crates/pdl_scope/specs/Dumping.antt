@@ -1,7 +1,10 @@
 -- What a dump reads of a scope, part by part, and what it leaves of the image that it writes.
-use Rattle.std.specs.Prelude.{◌≡◌, ℕ, ◌+◌, ◌==◌, nat_lt, if◌then◌else◌, true, false, List, [], ◌∷◌, ◌++◌, length, map, Result, Ok, Err}
+use Rattle.std.specs.Prelude.{◌≡◌, ℕ, ◌+◌, ◌==◌, ◌||◌, nat_lt, is_some, if◌then◌else◌, Bool, true, false, List, [], ◌∷◌, ◌++◌, length, map, Result, Ok, Err}
+use Rattle.std.specs.List.{list_any}
 use Rattle.pdl_elem.specs.declared.Ty.TheVariants.{Byte}
-use Rattle.pdl_world.specs.World.{World, ArrayDef, root}
+use Rattle.pdl_world.specs.World.{World, ArrayDef, root, view}
+use Rattle.pdl_engine.specs.Reading.{read_steps}
+use Rattle.pdl_engine.specs.State.{State as Engine}
 use Rattle.pdl_image.specs.declared.ImageFault.{ImageFault}
 use Rattle.pdl_image.specs.declared.ImageFault.TheVariants as image
 use Rattle.pdl_image.specs.Image.{Image}
@@ -9,8 +12,9 @@ use Rattle.pdl_image.specs.Lines.{Line, same_line, script_of}
 use Rattle.pdl_image.specs.Stems.{name_at}
 use Rattle.pdl_image.specs.Dump.{array_lines, definition_line, is_too_long}
 use Rattle.pdl_machine.specs.declared.fault.Fault.TheVariants.{DumpTooLong}
-use Rattle.pdl_machine.specs.Dumps.{definition}
-use Rattle.pdl_machine.specs.Names.{KernelTexts, Named}
+use Rattle.pdl_machine.specs.Dumps.{definition, names_wanted}
+use Rattle.pdl_machine.specs.Names.{KernelTexts, Named, names_limit}
+use Rattle.pdl_machine.specs.State.{State}
 use Rattle.pdl_machine.specs.Tidy.{older, with_parent}
 use Rattle.pdl_scope.specs.declared.fault.ScopeFault.{ScopeFault}
 use Rattle.pdl_scope.specs.declared.fault.ScopeFault.TheVariants.{Script, NoMemory}
@@ -66,3 +70,12 @@ oldest i (a ∷ w) = if nat_lt (length w) i then a ∷ w else oldest i w
 -- the lines of the array that has i older ones, as the i-th
 abbrev pub lines_at : (stem : List ℕ) → World → (i : ℕ) → List Line
 lines_at stem w i = let a = array_at w i in array_lines stem i (with_parent (older w) a.1)
+
+-- the most steps that the lines of an array take: those of a root, to read it; a view isn't read
+abbrev pub dump_steps : Engine → ℕ × ArrayDef → ℕ
+dump_steps e (k, root ty ds es) = read_steps e k
+dump_steps e (k, view p t) = 0
+
+-- whether a dump is refused before anything is read: a slot is attached, or it binds too many names
+abbrev pub is_refused_unread : State → Bool
+is_refused_unread s = list_any is_some s.watches || nat_lt names_limit (names_wanted s)

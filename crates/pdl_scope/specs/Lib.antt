@@ -7,3 +7,4 @@ pub mod Room
 pub mod Growth
 pub mod Assigning
 pub mod Costs
+pub mod Limits

@@ -1,5 +1,5 @@
 //! Assignments to the arrays of a scope.
-ghost use Rattle.std.specs.Prelude.{◌≡◌, ◌+◌, ◌≤◌, ◌&&◌, true, [], Ok, IfOk, IfSome, OnOk, is_some};
+ghost use Rattle.std.specs.Prelude.{◌≡◌, ◌+◌, ◌≤◌, ◌&&◌, true, [], Ok, IfOk, IfSome, OnOk, is_some, sum_by};
 ghost use Rattle.pdl_shape.specs.Shape.{size_of};
 ghost use Rattle.pdl_buf.specs.Made.{IsMade};
 ghost use Rattle.pdl_world.specs.Sound.{IsLive};
@@ -15,6 +15,7 @@ ghost use Rattle.pdl_machine.specs.Watches.{attached, notices};
 ghost use Rattle.pdl_watch.specs.Slots.{lists_of};
 ghost use Rattle.pdl_scope.specs.Answers.{AnswersAs, Runs};
 ghost use Rattle.pdl_scope.specs.Assigning.{Assigns, GoesInBlocks};
+ghost use Rattle.pdl_scope.specs.Costs.{ReadsNoDearer};
 ghost use Rattle.pdl_scope.specs.Scope.{engine_of, machine, arrays_of, OnlyReads};
 
 use crate::fault::ScopeFault;
@@ -36,9 +37,9 @@ impl Scope {
     /// Assigns an array to another one by a sign, and answers by slots what watchers are to be
     /// told: a notice of this number for each position at which the array of the slot changed. What
     /// is written are the values by the elements at the start, whether they are found all at once
-    /// or block by block, and writing them takes no memory. Where no slot is attached, it takes at
-    /// most a step for each position beside those that it takes to read both arrays; and what was
-    /// assigned to can be lent afterwards, unless its base has repeats.
+    /// or block by block, and writing them takes no memory. It takes at most a step for each
+    /// position, beside those that it takes to read both arrays and each array that a slot is
+    /// attached to; and what was assigned to can be lent afterwards, unless its base has repeats.
     pub fn assign<L: Ledger>(
         &mut self,
         sign: AssignOp,
@@ -60,8 +61,9 @@ impl Scope {
         ensures at_once { let e = engine_of self.old in is_fresh e target ≡ true
             → is_fresh e value ≡ true → attached self.old.watches ≡ []
             → steps.new ≤ steps.old + size_of (dims_in e.world target) }
-        ensures counted { let e = engine_of self.old in attached self.old.watches ≡ []
-            → steps.new ≤ steps.old + (read_steps e target + read_steps e value)
+        ensures counted { let e = engine_of self.old in
+            let watched = sum_by (read_steps e) (attached self.old.watches) in
+            steps.new ≤ steps.old + (read_steps e target + read_steps e value) + watched
             + size_of (dims_in e.world target) }
     {
         if self.goes_in_blocks(sign, target, value, steps)? {
@@ -93,6 +95,9 @@ impl Scope {
         ensures spent { let e = engine_of self.old in let f = engine_of self.new in
             OnOk result (steps.new + (read_steps f target + read_steps f value)
             ≤ steps.old + (read_steps e target + read_steps e value)) }
+        ensures costs { let e = engine_of self.old in let f = engine_of self.new in
+            let most = sum_by (read_steps e) (attached self.old.watches) in
+            sum_by (read_steps f) (attached self.new.watches) ≤ most }
     {
         let count = elements_of(self.engine.dims(target)) as usize;
         if count <= BLOCK || !self.watches.is_empty() {
@@ -145,8 +150,9 @@ impl Scope {
             IfOk result (λ all. lists_of all.items ≡ wanted) }
         ensures warm { OnOk result (IsWarm (engine_of self.new) target) }
         ensures views { KeepsViews self.new.arrays.world self.old.arrays.world }
-        ensures counted { let e = engine_of self.old in attached self.old.watches ≡ []
-            → steps.new ≤ steps.old + (read_steps e target + read_steps e value)
+        ensures counted { let e = engine_of self.old in
+            let watched = sum_by (read_steps e) (attached self.old.watches) in
+            steps.new ≤ steps.old + (read_steps e target + read_steps e value) + watched
             + size_of (dims_in e.world target) }
     {
         assignment_laws();
@@ -208,6 +214,7 @@ fn written<L: Ledger>(
     requires value { IsLive engine.old.world value }
     ensures same { SameArrays engine.old engine.new }
     ensures stay { StayFresh engine.old engine.new }
+    ensures costs { ReadsNoDearer engine.old engine.new }
     ensures fresh { OnOk result (is_fresh engine.new target ≡ true) }
     ensures value { let a = arrays_of engine.new in
         AnswersAs (λ vs. vs.items) (values_for sign (array_in a target) (array_in a value)) result }

@@ -1,19 +1,22 @@
 //! The dump of a scope: a script that makes its kernels, its arrays and its names again.
-ghost use Rattle.std.specs.Prelude.{◌≡◌, ◌+◌, ◌<◌, ◌≤◌, nat_lt, is_some, length, map, IfOk, IsSome, Some};
+ghost use Rattle.std.specs.Prelude.{◌≡◌, ◌+◌, ◌<◌, ◌≤◌, nat_lt, is_some, length, map, sum_by, true, IfOk, IsSome, Some};
 ghost use Rattle.std.specs.List.{list_any};
+ghost use Rattle.std.specs.List.Sorted.{IsStrictlyIncreasing};
 ghost use Rattle.pdl_world.specs.Sound.{IsLive, IsSound};
 ghost use Rattle.pdl_world.specs.World.{dims_in, elements, ty_in};
 ghost use Rattle.pdl_world.specs.declared.Trans.{Trans};
 ghost use Rattle.pdl_image.specs.Dump.{root_lines, view_lines, world_lines};
 ghost use Rattle.pdl_image.specs.Stems.{index_name, name_at, stem_of};
 ghost use Rattle.pdl_engine.specs.Looks.{numbers_in, trans_in};
+ghost use Rattle.pdl_engine.specs.Reading.{read_steps};
 ghost use Rattle.pdl_engine.specs.State.{SameArrays, StayFresh};
 ghost use Rattle.pdl_machine.specs.Dumps.{dumped, lines_of, text_within};
 ghost use Rattle.pdl_machine.specs.Names.{names_limit};
 ghost use Rattle.pdl_machine.specs.Tidy.{renumber};
 ghost use Rattle.pdl_scope.specs.Answers.{AnswersAs};
-ghost use Rattle.pdl_scope.specs.Dumping.{HasRoom, WritesLines, lines_at, name_lines, place_from};
-ghost use Rattle.pdl_scope.specs.Scope.{machine, OnlyReads};
+ghost use Rattle.pdl_scope.specs.Costs.{ReadsNoDearer};
+ghost use Rattle.pdl_scope.specs.Dumping.{HasRoom, WritesLines, array_at, dump_steps, is_refused_unread, lines_at, name_lines, place_from};
+ghost use Rattle.pdl_scope.specs.Scope.{engine_of, machine, OnlyReads};
 
 use crate::fault::ScopeFault;
 use crate::kernels::Kernels;
@@ -32,10 +35,15 @@ use std::sync::ledger::Ledger;
 impl Scope {
     /// The text of the dump, for which the elements of roots are read. It is refused while a slot
     /// is attached, then where its statements would bind too many names, and then where it is too
-    /// long.
+    /// long; only the last of these is found out by reading. It takes at most the steps that it
+    /// takes to read each root.
     pub fn dump<L: Ledger>(&mut self, steps: &mut Steps<L>) -> Result<Vec<u8>, ScopeFault>
         ensures text { AnswersAs (λ text. text.items) (dumped (machine self.old)) result }
         ensures same { OnlyReads self.old self.new }
+        ensures counted { let e = engine_of self.old in
+            steps.new ≤ steps.old + sum_by (dump_steps e) e.world }
+        ensures unmoved { is_refused_unread (machine self.old) ≡ true
+            → (self.new ≡ self.old) × (steps.new ≡ steps.old) }
     {
         if is_any_attached(&self.watches) {
             return Err(ScopeFault::Script(Fault::StillWatched));
@@ -81,6 +89,8 @@ fn dump_text<L: Ledger>(
         AnswersAs (λ text. text.items) (text_within lines) result }
     ensures same { SameArrays engine.old engine.new }
     ensures stay { StayFresh engine.old engine.new }
+    ensures counted { let e = engine.old in
+        steps.new ≤ steps.old + sum_by (dump_steps e) e.world }
 {
     dump_laws();
     growth_laws();
@@ -121,16 +131,16 @@ fn all_numbers(alloc: Global, engine: &Engine) -> Result<Vec<ArrayId>, AllocErro
     Ok(ids)
 }
 
-/// The place of an array's number, and 0 where it isn't there.
+/// The place of an array's number among numbers that rise, and 0 where it isn't there. It is found
+/// by halves.
 fn place_of(ids: &[ArrayId], id: ArrayId) -> u64
+    requires { IsStrictlyIncreasing ids.now }
     ensures { result ≡ place_from ids.now id 0 }
 {
-    for (at, other) in ids.iter().enumerate() {
-        if *other == id {
-            return at as u64;
-        }
+    match ids.binary_search(&id) {
+        Ok(at) => at as u64,
+        Err(_) => 0,
     }
-    0
 }
 
 /// Writes all arrays, whose numbers these are.
@@ -147,9 +157,12 @@ fn write_arrays<L: Ledger>(
         WritesLines image.old image.new (length w) (world_lines image.old.stem (renumber w)) result }
     ensures same { SameArrays engine.old engine.new }
     ensures stay { StayFresh engine.old engine.new }
+    ensures counted { let e = engine.old in
+        steps.new ≤ steps.old + sum_by (dump_steps e) e.world }
 {
     dump_laws();
     growth_laws();
+    newest_laws();
     for at in 0..ids.len() {
         write_array(engine, ids, at, image, steps)?;
     }
@@ -171,6 +184,9 @@ fn write_array<L: Ledger>(
         WritesLines image.old image.new 1 lines result }
     ensures same { SameArrays engine.old engine.new }
     ensures stay { StayFresh engine.old engine.new }
+    ensures costs { ReadsNoDearer engine.old engine.new }
+    ensures counted { let e = engine.old in
+        steps.new ≤ steps.old + dump_steps e (array_at e.world at) }
 {
     growth_laws();
     newest_laws();
@@ -218,6 +234,8 @@ fn write_root<L: Ledger>(
         WritesLines image.old image.new 1 lines result }
     ensures same { SameArrays engine.old engine.new }
     ensures stay { StayFresh engine.old engine.new }
+    ensures costs { ReadsNoDearer engine.old engine.new }
+    ensures counted { steps.new ≤ steps.old + read_steps engine.old id }
 {
     ready(engine, id, steps)?;
     image.root(at as u64, &engine.lend(id))?;
@@ -226,7 +244,8 @@ fn write_root<L: Ledger>(
 
 /// Writes all names, with the places of their arrays' numbers.
 fn write_names(names: &Names, ids: &[ArrayId], image: &mut ImageWriter) -> Result<(), ScopeFault>
-    requires { HasRoom image.old }
+    requires room { HasRoom image.old }
+    requires ids { IsStrictlyIncreasing ids.now }
     ensures { let lines = name_lines image.old.stem ids.now names.now.entries in
         WritesLines image.old image.new 0 lines result }
 {

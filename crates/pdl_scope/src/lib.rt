@@ -23,5 +23,5 @@ mod watching;
 pub use fault::ScopeFault;
 pub use kernels::DefinedKernel;
 pub use laws::cost_laws;
-pub use limits::MOST_SLOTS;
+pub use limits::{MOST_SLOTS, limits_law};
 pub use scope::Scope;

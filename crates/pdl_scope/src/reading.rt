@@ -163,6 +163,7 @@ pub(crate) fn ready_two<L: Ledger>(
     requires right { IsLive engine.old.world right }
     ensures same { SameArrays engine.old engine.new }
     ensures stay { StayFresh engine.old engine.new }
+    ensures costs { ReadsNoDearer engine.old engine.new }
     ensures left_fresh { OnOk result (is_fresh engine.new left ≡ true) }
     ensures right_fresh { OnOk result (is_fresh engine.new right ≡ true) }
     ensures counted { let e = engine.old in

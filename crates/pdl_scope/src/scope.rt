@@ -243,7 +243,8 @@ impl Scope {
     }
 
     /// Binds names to new arrays in order. Where there isn't room for all of them none is bound, and
-    /// nothing is made. It takes at most a step for each element of the new arrays.
+    /// nothing is made. It takes at most a step for each element of the new arrays; and at most one
+    /// for each number of the outputs that isn't 0, whatever it answers.
     pub fn bind_roots<L: Ledger>(
         &mut self,
         bound: &[Name],
@@ -254,6 +255,8 @@ impl Scope {
         ensures runs { let wanted = roots_bound (machine self.old) bound.now outputs.now in
             Runs wanted self.old self.new [] [] result }
         ensures within { MovesWithin 0 self.old self.new steps.old steps.new result }
+        ensures counted { let most = sum_by (λ m. count_moved m.elems) outputs.now in
+            steps.new ≤ steps.old + most }
         ensures refused { IfScript result
             ((self.new ≡ self.old) × (steps.new ≡ steps.old)) }
     {

@@ -42,7 +42,7 @@ fault_stays : (names : Names) (w : Arrays) (rest : List Arg) (front : Args) (f :
 fault_stays names w [] front f before = before
 fault_stays names w (a ∷ rest) front f before = fault_stays names w rest (argument_of a front) f (err_behind names w a front f before)
 
-args_of_append : (xs ys : List Arg) (front : Args) → args_of (xs ++ ys) front ≡ args_of ys (args_of xs front)
+pub args_of_append : (xs ys : List Arg) (front : Args) → args_of (xs ++ ys) front ≡ args_of ys (args_of xs front)
 args_of_append [] ys front = refl
 args_of_append (x ∷ xs) ys front = args_of_append xs ys (argument_of x front)
 

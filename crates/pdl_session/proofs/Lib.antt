@@ -25,3 +25,5 @@ pub mod Closing
 pub mod Bounded
 pub mod Resting
 pub mod Worked
+pub mod Moved
+pub mod Expressions

@@ -6,7 +6,7 @@ use Rattle.pdl_slices.specs.declared.SliceArg.{SliceArg}
 use Rattle.pdl_slices.specs.declared.SliceArg.TheVariants.{Whole, One, Dropped, Dummy, Span}
 use Rattle.pdl_slices.specs.declared.SliceFault.{SliceFault}
 use Rattle.pdl_slices.specs.declared.SliceFault.TheVariants.{BadText, TooManyArgs, NumberTooLarge, ZeroStep, NoMemory}
-use Rattle.pdl_slices.specs.Refusals.{refusal, has_large_number, has_zero_step, is_zero, IsFaultOf, Means}
+use Rattle.pdl_slices.specs.Refusals.{args_limit, refusal, has_large_number, has_zero_step, is_zero, IsFaultOf, Means}
 use Rattle.pdl_slices.specs.Meaning.{slice_of}
 use Rattle.pdl_affine.specs.Slicing.{is_step}
 use Rattle.pdl_affine.specs.Views.{steps_on}
@@ -44,7 +44,7 @@ none_zero (a ∷ args) h = by_front (λ r. none_zero args r) (has_zero_step a) r
 
 -- no refusal, so no step 0
 pub steps_read : (args : List SliceArg) → refusal args ≡ None → list_all steps_on args ≡ true
-steps_read args h = by_length (nat_lt 32 (length args)) (list_any has_large_number args) (list_any has_zero_step args) refl h
+steps_read args h = by_length (nat_lt args_limit (length args)) (list_any has_large_number args) (list_any has_zero_step args) refl h
   where
     by_length : (many large zero : Bool) → list_any has_zero_step args ≡ zero
         → (if many then Some TooManyArgs else (if large then Some NumberTooLarge else (if zero then Some ZeroStep else None))) ≡ None

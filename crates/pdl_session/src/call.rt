@@ -1,5 +1,5 @@
 //! The built-in calls: what each gives, and how that joins the arrays.
-ghost use Rattle.std.specs.Prelude.{◌≡◌, [], ◌∷◌, All, IfOk, if◌then◌else◌};
+ghost use Rattle.std.specs.Prelude.{◌≡◌, ◌≤◌, ◌+◌, [], ◌∷◌, All, IfOk, if◌then◌else◌};
 ghost use Rattle.pdl_elem.specs.Types.{InRange};
 ghost use Rattle.pdl_lexemes.specs.Lists.{type_of};
 ghost use Rattle.pdl_buf.specs.Made.{IsMade};
@@ -11,6 +11,7 @@ ghost use Rattle.pdl_machine.specs.Value.{number_made};
 ghost use Rattle.pdl_world.specs.Formula.{is_well_formed};
 ghost use Rattle.pdl_scope.specs.Answers.{AnswersAs, Evaluates};
 ghost use Rattle.pdl_session.specs.Bounds.{MakesRoot};
+ghost use Rattle.pdl_session.specs.Costs.{read_all, read_by, ready_all, EvaluatesWithin};
 ghost use Rattle.pdl_session.specs.Arguments.{arguments, AreGivenLive, all_seen_of, outcome_of, IsOutcomeMade};
 ghost use Rattle.pdl_scope.specs.Scope.{Grows, OnlyReads};
 ghost use Rattle.std.specs.Prelude.{IsTrue};
@@ -29,7 +30,7 @@ use pdl_buf::{Elements, Made, Steps};
 use pdl_elem::{Name, Ty};
 use pdl_engine::ArrayId;
 use pdl_machine::{Builtin, Fault, builtin_named};
-use pdl_scope::{Scope, ScopeFault};
+use pdl_scope::{Scope, ScopeFault, cost_laws};
 use pdl_shape::dims_of;
 use pdl_world::Trans;
 use std::sync::ledger::Ledger;
@@ -44,17 +45,22 @@ pub fn number_array<L: Ledger>(
     ensures value { Evaluates (new_root scope.old.arrays (number_made number)) scope.new result }
     ensures grown { Grows scope.old scope.new }
     ensures root { MakesRoot 1 scope.old scope.new steps.old steps.new result }
+    ensures within { EvaluatesWithin 0 scope.old scope.new steps.old steps.new result }
 {
+    cost_laws();
     match dims_of(scope.alloc(), &[]) {
         Ok(dims) => {
             let elems = Elements::new(vec![in scope.alloc(); number; 1]?);
-            scope.make(number_type(number), &dims, elems, steps)
+            let made = scope.make(number_type(number), &dims, elems, steps);
+            scope.in_order();
+            made
         }
         Err(_) => unreachable!(),
     }
 }
 
-/// The call of a name with its arguments.
+/// The call of a name with its arguments. What it takes to make these ready pays for reading them,
+/// and for the array that comes.
 pub fn call<L: Ledger>(
     scope: &mut Scope,
     name: &Name,
@@ -66,6 +72,8 @@ pub fn call<L: Ledger>(
         let wanted = call_value scope.old.names name.now scope.old.arrays seen in
         Evaluates wanted scope.new result }
     ensures grown { Grows scope.old scope.new }
+    ensures within { let most = ready_all scope.old given.now in
+        EvaluatesWithin most scope.old scope.new steps.old steps.new result }
 {
     match builtin_named(name.bytes()) {
         Some(builtin) => builtin_call(scope, builtin, given, steps),
@@ -90,6 +98,7 @@ pub fn several<L: Ledger>(
         AnswersAs (λ ms. ms.items) outputs result }
     ensures made { IfOk result (λ ms. All (λ m. IsMade m.ty m.dims m.elems) ms.items) }
     ensures same { OnlyReads scope.old scope.new }
+    ensures counted { steps.new ≤ steps.old + read_all scope.old given.now }
 {
     match builtin_named(name.bytes()) {
         Some(_) => Err(ScopeFault::Script(Fault::WrongArguments)),
@@ -111,6 +120,7 @@ fn kernel_outputs<L: Ledger>(
         AnswersAs (λ ms. ms.items) outputs result }
     ensures made { IfOk result (λ ms. All (λ m. IsMade m.ty m.dims m.elems) ms.items) }
     ensures same { OnlyReads scope.old scope.new }
+    ensures counted { steps.new ≤ steps.old + read_all scope.old given.now }
 {
     match arrays_given(scope.alloc(), given)? {
         Some(ids) => scope.kernel_outputs(name, wanted, &ids, steps),
@@ -138,9 +148,15 @@ fn only_root<L: Ledger>(
     requires { All (λ m. IsMade m.ty m.dims m.elems) outputs.now }
     ensures value { Evaluates (only_root scope.old.arrays outputs.now) scope.new result }
     ensures grown { Grows scope.old scope.new }
+    ensures within { EvaluatesWithin 0 scope.old scope.new steps.old steps.new result }
 {
+    cost_laws();
     match outputs {
-        [made] => scope.make_like(made, steps),
+        [made] => {
+            let made = scope.make_like(made, steps);
+            scope.in_order();
+            made
+        }
         _ => Err(ScopeFault::Script(Fault::WrongArguments)),
     }
 }
@@ -156,10 +172,22 @@ pub fn builtin_call<L: Ledger>(
     ensures value { let wanted = builtin_value builtin scope.old.arrays (arguments given.now) in
         Evaluates wanted scope.new result }
     ensures grown { Grows scope.old scope.new }
+    ensures within { let most = ready_all scope.old given.now in
+        EvaluatesWithin most scope.old scope.new steps.old steps.new result }
 {
+    cost_laws();
+    scope.in_order();
     match outcome(scope, builtin, given, steps) {
-        Ok(Outcome::New(made)) => scope.adopt(made, steps),
-        Ok(Outcome::View(trans)) => view_first(scope, given, trans),
+        Ok(Outcome::New(made)) => {
+            let made = scope.adopt(made, steps);
+            scope.in_order();
+            made
+        }
+        Ok(Outcome::View(trans)) => {
+            let made = view_first(scope, given, trans);
+            scope.in_order();
+            made
+        }
         Err(fault) => Err(fault),
     }
 }
@@ -193,6 +221,7 @@ fn outcome<L: Ledger>(
         AnswersAs outcome_of wanted result }
     ensures made { IfOk result IsOutcomeMade }
     ensures same { OnlyReads scope.old scope.new }
+    ensures counted { steps.new ≤ steps.old + read_by scope.old builtin given.now }
 {
     match builtin {
         Builtin::Filled(fill) => filled(scope, fill, given, steps),

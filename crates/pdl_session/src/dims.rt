@@ -1,9 +1,10 @@
 //! Numbers that are arguments, and the dimensions that they are.
-ghost use Rattle.std.specs.Prelude.{◌≡◌, IfOk};
+ghost use Rattle.std.specs.Prelude.{◌≡◌, ◌≤◌, ◌+◌, IfOk};
 ghost use Rattle.pdl_machine.specs.Fills.{number_in, numbers_in, dims_for};
 ghost use Rattle.pdl_machine.specs.Then.{all_of, or_fault};
 ghost use Rattle.pdl_machine.specs.declared.fault.Fault.TheVariants.{BadDimension};
 ghost use Rattle.pdl_scope.specs.Answers.{Answers, AnswersAs};
+ghost use Rattle.pdl_session.specs.Costs.{read_all, read_one};
 ghost use Rattle.pdl_session.specs.Arguments.{seen_of, all_seen_of, IsGivenLive, AreGivenLive};
 ghost use Rattle.pdl_session.specs.Sizes.{clamped_size};
 ghost use Rattle.pdl_scope.specs.Scope.{OnlyReads};
@@ -11,7 +12,7 @@ ghost use Rattle.pdl_scope.specs.Scope.{OnlyReads};
 use crate::given::Given;
 use pdl_buf::Steps;
 use pdl_machine::Fault;
-use pdl_scope::{Scope, ScopeFault};
+use pdl_scope::{Scope, ScopeFault, cost_laws};
 use pdl_shape::{Dims, ShapeFault, dims_of, shape_laws};
 use std::alloc::{AllocError, Global};
 use std::sync::ledger::Ledger;
@@ -25,6 +26,7 @@ pub fn number_in<L: Ledger>(
     requires { IsGivenLive scope.old.arrays.world given.now }
     ensures number { IfOk result (λ n. n ≡ number_in (seen_of scope.old.arrays given.now)) }
     ensures same { OnlyReads scope.old scope.new }
+    ensures counted { steps.new ≤ steps.old + read_one scope.old given.now }
 {
     match given {
         Given::Array(id) => scope.only_number(*id, steps),
@@ -43,9 +45,13 @@ pub fn numbers_in<L: Ledger>(
     ensures value { let wanted = numbers_in (all_seen_of scope.old.arrays given.now) in
         AnswersAs (λ ns. ns.items) wanted result }
     ensures same { OnlyReads scope.old scope.new }
+    ensures counted { steps.new ≤ steps.old + read_all scope.old given.now }
 {
+    cost_laws();
+    scope.in_order();
     let mut found = Vec::new(scope.alloc());
     for one in given {
+        scope.in_order();
         match number_in(scope, one, steps)? {
             Some(number) => found.push(number)?,
             None => return Err(ScopeFault::Script(Fault::WrongArguments)),

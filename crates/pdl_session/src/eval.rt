@@ -1,5 +1,5 @@
 //! The value of an expression: from left to right, arguments before their call.
-ghost use Rattle.std.specs.Prelude.{◌≡◌, List, [], ◌∷◌, ◌++◌, Ok, IfOk};
+ghost use Rattle.std.specs.Prelude.{◌≡◌, List, [], ◌∷◌, ◌++◌, ◌+◌, Ok, IfOk, Vec};
 ghost use Rattle.pdl_syntax.specs.Tree.{Args, none};
 ghost use Rattle.pdl_syntax.specs.WellMade.{AreArrays, AreArgArrays};
 ghost use Rattle.pdl_syntax.specs.TreeOf.{tree_of, args_of, argument_of};
@@ -8,20 +8,26 @@ ghost use Rattle.pdl_machine.specs.Outcome.{Given as Argument};
 ghost use Rattle.pdl_machine.specs.Value.{value_of, taken};
 ghost use Rattle.pdl_scope.specs.Answers.{AnswersAs, Evaluates};
 ghost use Rattle.pdl_session.specs.Bounds.{EvaluatesPlainly};
+ghost use Rattle.pdl_session.specs.Costs.{argued_steps, given_steps, named_steps, ready_all, EvaluatesWithin, PaysWithin};
 ghost use Rattle.pdl_session.specs.Arguments.{argument, arguments, IsGivenLive, AreGivenLive};
-ghost use Rattle.pdl_scope.specs.Scope.{Grows};
+ghost use Rattle.pdl_scope.specs.Scope.{engine_of, Grows};
+ghost use Rattle.pdl_session.specs.declared.given.Given.{Given};
+ghost use Rattle.pdl_engine.specs.State.{ready_steps};
+ghost use Rattle.std.specs.Global.{Global};
 
 use crate::call::{call, number_array};
 use crate::given::Given;
 use pdl_buf::Steps;
 use pdl_engine::ArrayId;
 use pdl_machine::Fault;
-use pdl_scope::{Scope, ScopeFault};
+use pdl_scope::{Scope, ScopeFault, cost_laws};
 use pdl_syntax::{Arg, Expr, calls_are_trees};
 use std::sync::ledger::Ledger;
 
 /// The array of an expression. New arrays may have come also where it is refused. A name takes no
-/// step, and a number or a list at most one for each element.
+/// step, and a number or a list at most one for each element; any expression at most one for each
+/// element of the arrays that come, and what it takes to make the arrays of its names ready, which
+/// pays also for making its own ready.
 #[cycle(eval)]
 pub fn eval<L: Ledger>(
     scope: &mut Scope,
@@ -34,23 +40,37 @@ pub fn eval<L: Ledger>(
     ensures grown { Grows scope.old scope.new }
     ensures plain { let tree = tree_of value.now in
         EvaluatesPlainly tree scope.old scope.new steps.old steps.new result }
+    ensures within { let most = named_steps scope.old (tree_of value.now) in
+        EvaluatesWithin most scope.old scope.new steps.old steps.new result }
 {
     calls_are_trees();
+    cost_laws();
+    scope.in_order();
     match value {
         Expr::Number(number) => number_array(scope, *number, steps),
         Expr::Named(name) => match scope.number_of(name) {
             Some(id) => Ok(id),
             None => Err(ScopeFault::Script(Fault::UnknownName)),
         },
-        Expr::List(made) => scope.make_like(made, steps),
+        Expr::List(made) => {
+            let made = scope.make_like(made, steps);
+            scope.in_order();
+            made
+        }
         Expr::Unary(op, operand) => {
             let operand = eval(scope, operand, steps)?;
-            scope.unary(*op, operand, steps)
+            let made = scope.unary(*op, operand, steps);
+            scope.in_order();
+            made
         }
         Expr::Binary(op, left, right) => {
             let left = eval(scope, left, steps)?;
+            scope.in_order();
             let right = eval(scope, right, steps)?;
-            scope.binary(*op, left, right, steps)
+            scope.in_order();
+            let made = scope.binary(*op, left, right, steps);
+            scope.in_order();
+            made
         }
         Expr::Call(name, args) => {
             let none = Vec::new(scope.alloc());
@@ -77,9 +97,17 @@ pub fn take<'a, L: Ledger>(
         AnswersAs (λ all. (scope.new.arrays, arguments all.items)) wanted result }
     ensures live { IfOk result (λ all. AreGivenLive scope.new.arrays.world all.items) }
     ensures grown { Grows scope.old scope.new }
+    ensures within { let s = scope.old in
+        let most = argued_steps s (args_of args.now none) + ready_all s given.entry.items in
+        let owed = λ (all : Vec Given Global). ready_all scope.new all.items in
+        PaysWithin owed most s scope.new steps.old steps.new result }
 {
+    cost_laws();
+    scope.in_order();
     for arg in args {
+        scope.in_order();
         let one = take_one(scope, arg, steps)?;
+        scope.in_order();
         given.push(one)?;
     }
     Ok(given)
@@ -99,6 +127,9 @@ fn take_one<'a, L: Ledger>(
         AnswersAs (λ one. (scope.new.arrays, given ++ argument one ∷ [])) wanted result }
     ensures live { IfOk result (IsGivenLive scope.new.arrays.world) }
     ensures grown { Grows scope.old scope.new }
+    ensures within { let most = argued_steps scope.old (argument_of arg.now none) in
+        let owed = given_steps (ready_steps (engine_of scope.new)) in
+        PaysWithin owed most scope.old scope.new steps.old steps.new result }
 {
     match arg {
         Arg::Value(value) => Ok(Given::Array(eval(scope, value, steps)?)),

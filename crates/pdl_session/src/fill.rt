@@ -1,11 +1,12 @@
 //! New arrays by their sizes.
-ghost use Rattle.std.specs.Prelude.{◌≡◌, IfOk};
+ghost use Rattle.std.specs.Prelude.{◌≡◌, ◌≤◌, ◌+◌, IfOk};
 ghost use Rattle.pdl_machine.specs.Arrays.{Arrays};
 ghost use Rattle.pdl_machine.specs.Fills.{fill_outcome, type_given, after_type};
 ghost use Rattle.pdl_world.specs.World.{World};
 ghost use Rattle.pdl_scope.specs.Answers.{AnswersAs};
+ghost use Rattle.pdl_session.specs.Costs.{read_all};
 ghost use Rattle.pdl_session.specs.Arguments.{all_seen_of, AreGivenLive, outcome_of, IsOutcomeMade};
-ghost use Rattle.pdl_scope.specs.Scope.{OnlyReads};
+ghost use Rattle.pdl_scope.specs.Scope.{OnlyReads, Scope as Seen};
 
 use crate::dims::{dims_for, numbers_in};
 use crate::given::Given;
@@ -28,6 +29,7 @@ pub fn filled<L: Ledger>(
         AnswersAs outcome_of wanted result }
     ensures made { IfOk result IsOutcomeMade }
     ensures same { OnlyReads scope.old scope.new }
+    ensures counted { steps.new ≤ steps.old + read_all scope.old given.now }
 {
     let (ty, sizes) = typed(given);
     let sizes = match numbers_in(scope, sizes, steps) {
@@ -50,6 +52,7 @@ fn typed<'a, 'b>(given: &'a [Given<'b>]) -> (Ty, &'a [Given<'b>])
     ensures rest { (a : Arrays) →
         all_seen_of a result.1.now ≡ after_type (all_seen_of a given.now) }
     ensures live { (w : World) → AreGivenLive w given.now → AreGivenLive w result.1.now }
+    ensures costs { (s : Seen) → read_all s result.1.now ≤ read_all s given.now }
 {
     match given.split_first() {
         Some((Given::OfType(ty), rest)) => (*ty, rest),

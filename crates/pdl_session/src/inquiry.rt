@@ -1,5 +1,5 @@
 //! New arrays of one array.
-ghost use Rattle.std.specs.Prelude.{◌≡◌, ◌≤◌, length, map, pos, All, IfOk, Ok};
+ghost use Rattle.std.specs.Prelude.{◌≡◌, ◌+◌, ◌≤◌, length, map, pos, All, IfOk, Ok, drop, if◌then◌else◌};
 ghost use Rattle.pdl_shape.specs.Shape.{extent_limit};
 ghost use Rattle.pdl_buf.specs.Made.{IsMade};
 ghost use Rattle.pdl_world.specs.Sound.{IsLive};
@@ -8,8 +8,11 @@ ghost use Rattle.pdl_machine.specs.Inquiries.{long_number, long_numbers, told, i
 ghost use Rattle.pdl_machine.specs.Outcome.{made};
 ghost use Rattle.pdl_machine.specs.Then.{and_then};
 ghost use Rattle.pdl_scope.specs.Answers.{AnswersAs};
+ghost use Rattle.pdl_engine.specs.Reading.{read_steps};
+ghost use Rattle.pdl_machine.specs.declared.builtin.Builtin.TheVariants.{Told};
+ghost use Rattle.pdl_session.specs.Costs.{read_all, read_by, reads_elements};
 ghost use Rattle.pdl_session.specs.Arguments.{all_seen_of, AreGivenLive, outcome_of, IsOutcomeMade};
-ghost use Rattle.pdl_scope.specs.Scope.{OnlyReads};
+ghost use Rattle.pdl_scope.specs.Scope.{engine_of, OnlyReads};
 
 use crate::dims::number_in;
 use crate::given::Given;
@@ -36,6 +39,7 @@ pub fn inquiry<L: Ledger>(
         AnswersAs outcome_of (inquiry_outcome inquiry seen) result }
     ensures made { IfOk result IsOutcomeMade }
     ensures same { OnlyReads scope.old scope.new }
+    ensures counted { steps.new ≤ steps.old + read_by scope.old (Told inquiry) given.now }
 {
     match one_array(given) {
         Some(id) => match told(scope, inquiry, id, steps) {
@@ -57,6 +61,8 @@ fn told<L: Ledger>(
     ensures value { IfOk result (λ m. m ≡ told inquiry (array_in scope.old.arrays id)) }
     ensures made { IfOk result (λ m. IsMade m.ty m.dims m.elems) }
     ensures same { OnlyReads scope.old scope.new }
+    ensures counted { let e = engine_of scope.old in
+        steps.new ≤ steps.old + (if reads_elements inquiry then read_steps e id else 0) }
 {
     shape_laws();
     let count = elements_of(scope.dims(id));
@@ -84,6 +90,7 @@ pub fn dim<L: Ledger>(
         AnswersAs outcome_of (dim_outcome seen) result }
     ensures made { IfOk result IsOutcomeMade }
     ensures same { OnlyReads scope.old scope.new }
+    ensures counted { steps.new ≤ steps.old + read_all scope.old (drop 1 given.now) }
 {
     match array_and_one(given) {
         Some((id, place)) => match number_in(scope, &place, steps)? {

@@ -1,5 +1,5 @@
 //! Reductions of one array, and products of two.
-ghost use Rattle.std.specs.Prelude.{◌≡◌, IfOk, Ok, Result};
+ghost use Rattle.std.specs.Prelude.{◌≡◌, ◌≤◌, ◌+◌, IfOk, Ok, Result};
 ghost use Rattle.pdl_buf.specs.Made.{IsMade};
 ghost use Rattle.pdl_buf.specs.declared.made.Made.{Made};
 ghost use Rattle.pdl_reduce.specs.Reductions.{reduced, whole_reduced};
@@ -9,6 +9,7 @@ ghost use Rattle.pdl_machine.specs.Outcome.{made};
 ghost use Rattle.pdl_machine.specs.Reductions.{of_one, of_two};
 ghost use Rattle.pdl_machine.specs.Then.{and_then};
 ghost use Rattle.pdl_scope.specs.Answers.{Answers, AnswersAs};
+ghost use Rattle.pdl_session.specs.Costs.{read_all};
 ghost use Rattle.pdl_session.specs.Arguments.{all_seen_of, AreGivenLive, outcome_of, IsOutcomeMade};
 ghost use Rattle.pdl_scope.specs.Scope.{OnlyReads};
 
@@ -33,6 +34,7 @@ pub fn reduced<L: Ledger>(
         AnswersAs outcome_of (of_one (reduced kind) seen) result }
     ensures made { IfOk result IsOutcomeMade }
     ensures same { OnlyReads scope.old scope.new }
+    ensures counted { steps.new ≤ steps.old + read_all scope.old given.now }
 {
     match one_array(given) {
         Some(id) => new_array(scope.reduced(kind, id, steps)),
@@ -52,6 +54,7 @@ pub fn reduced_whole<L: Ledger>(
         AnswersAs outcome_of (of_one (whole_reduced kind) seen) result }
     ensures made { IfOk result IsOutcomeMade }
     ensures same { OnlyReads scope.old scope.new }
+    ensures counted { steps.new ≤ steps.old + read_all scope.old given.now }
 {
     match one_array(given) {
         Some(id) => new_array(scope.reduced_whole(kind, id, steps)),
@@ -71,6 +74,7 @@ pub fn paired<L: Ledger>(
         AnswersAs outcome_of (of_two (paired kind) seen) result }
     ensures made { IfOk result IsOutcomeMade }
     ensures same { OnlyReads scope.old scope.new }
+    ensures counted { steps.new ≤ steps.old + read_all scope.old given.now }
 {
     match two_arrays(given) {
         Some((left, right)) => new_array(scope.paired(kind, left, right, steps)),

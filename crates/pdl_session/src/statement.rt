@@ -11,6 +11,8 @@ ghost use Rattle.pdl_machine.specs.Watches.{notices};
 ghost use Rattle.pdl_print.specs.Pieces.{Begins};
 ghost use Rattle.pdl_watch.specs.Slots.{lists_of, present_in, slots_by};
 ghost use Rattle.pdl_scope.specs.Answers.{Runs};
+ghost use Rattle.pdl_scope.specs.Costs.{MovesWithin};
+ghost use Rattle.pdl_session.specs.Costs.{named_steps};
 ghost use Rattle.pdl_scope.specs.Scope.{machine, slots_limit};
 ghost use Rattle.pdl_session.specs.News.{IsNewsOf};
 ghost use Rattle.pdl_session.specs.declared.news.News.TheVariants.{Nothing};
@@ -47,8 +49,10 @@ fn bind_value<L: Ledger>(
     steps: &mut Steps<L>,
 ) -> Result<(), ScopeFault>
     requires { AreArrays (tree_of value.now) }
-    ensures { let valued = value_of scope.old.names scope.old.arrays (tree_of value.now) in
+    ensures runs { let valued = value_of scope.old.names scope.old.arrays (tree_of value.now) in
         Runs (bound (machine scope.old) name.now valued) scope.old scope.new [] [] result }
+    ensures within { let most = named_steps scope.old (tree_of value.now) in
+        MovesWithin most scope.old scope.new steps.old steps.new result }
 {
     let id = eval(scope, value, steps)?;
     scope.bind(name, id)
@@ -168,6 +172,8 @@ fn show<L: Ledger>(
     steps: &mut Steps<L>,
 ) -> Result<(), ScopeFault>
     requires { AreArrays (tree_of value.now) }
+    ensures within { let most = named_steps scope.old (tree_of value.now) in
+        MovesWithin most scope.old scope.new steps.old steps.new result }
     ensures performs { let valued = value_of scope.old.names scope.old.arrays (tree_of value.now) in
         let wanted = and_then valued (λ v. Ok (after_printing (machine scope.old) info v)) in
         Performs wanted scope.old scope.new out.old.items out.new.items result }

@@ -2,9 +2,14 @@
 use Rattle.std.specs.Prelude.{◌≡◌, ◌⊎◌, ℕ, ℤ, pos, ◌/◌, ◌<◌, ◌≤◌, List, ◌∷◌, length, get_or, drop, All, Option, Some, None, IfSome}
 use Rattle.std.specs.List.{Contains}
 use Rattle.pdl_shape.specs.Broadcast.{BroadcastsTo, cut_to, join}
-use Rattle.pdl_shape.specs.Shape.{IsDims, extent, size_of, IsWithin, position_of, coordinates_of}
+use Rattle.pdl_shape.specs.Shape.{IsDims, dims_limit, extent_limit, extent, size_of, IsWithin, position_of, coordinates_of}
 use Rattle.pdl_shape.specs.Triple.{IsTriple, place_of, whole_triple}
 use Rattle.pdl_shape.specs.Places.{AllBelow, places_of, write}
+
+-- how many dimensions an array has at most, and how large its extent is
+pub record LimitsAre : Type 0 where
+  pub count : dims_limit ≡ 16
+  pub largest : extent_limit ≡ 1048576
 
 -- Coordinates and positions are inverse to each other, and both stay within the sizes.
 -- What is left of a position past the first dimension is a position of the rest.

@@ -5,4 +5,5 @@ pub mod Meaning
 pub mod SignatureReading
 pub mod Refusals
 pub mod Resolution
+pub mod Limits
 pub mod Solutions

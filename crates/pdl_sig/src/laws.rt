@@ -2,6 +2,7 @@
 //! empty body.
 ghost use Rattle.std.specs.Prelude.{◌≡◌, ℕ, List, Ok, codes};
 ghost use Rattle.pdl_sig.specs.Known.{inner, outer_product, matmult};
+ghost use Rattle.pdl_sig.specs.Limits.{LimitsAre};
 ghost use Rattle.pdl_sig.specs.Meaning.{TextsHaveOneMeaning};
 ghost use Rattle.pdl_sig.specs.Refusals.{Signs, IsWellFormed};
 ghost use Rattle.pdl_sig.specs.Resolution.{resolution};
@@ -39,4 +40,10 @@ pub fn pairings_are_signed()
     ensures inner { Signs inner (codes "a(n); b(n); [o]c()") }
     ensures outer { Signs outer_product (codes "a(n); b(m); [o]c(n,m)") }
     ensures matmult { Signs matmult (codes "a(t,h); b(w,t); [o]c(w,h)") }
+{}
+
+/// A signature has at most 16 arguments and 8 names of dimensions, and a call does work of at most
+/// 16,777,216.
+pub fn limits_law()
+    ensures { LimitsAre }
 {}

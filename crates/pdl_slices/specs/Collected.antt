@@ -1,18 +1,18 @@
 -- What the reader holds of the arguments so far. It keeps the list only as long as
 -- no argument is too large and they aren't too many, since the list isn't answered otherwise.
-use Rattle.std.specs.Prelude.{◌≡◌, ◌≤◌, min, Bool, true, false, List, length, Option, Some, None}
+use Rattle.std.specs.Prelude.{◌≡◌, ◌≤◌, suc, min, Bool, true, false, List, length, Option, Some, None}
 use Rattle.std.specs.List.{list_any}
 use Rattle.pdl_slices.specs.declared.SliceArg.{SliceArg}
 use Rattle.pdl_slices.specs.declared.reader.Reader.{Reader}
-use Rattle.pdl_slices.specs.Refusals.{has_large_number, has_zero_step}
+use Rattle.pdl_slices.specs.Refusals.{args_limit, has_large_number, has_zero_step}
 use Rattle.pdl_slices.specs.SliceReading.{Stage}
 
 -- the reader has taken these arguments
 pub record Collects (done : List SliceArg) (r : Reader) : Type 0 where
-  pub counted : r.count ≡ min (length done) 33
+  pub counted : r.count ≡ min (length done) (suc args_limit)
   pub too_large : r.too_large ≡ list_any has_large_number done
   pub zero_step : r.too_large ≡ false → r.zero_step ≡ list_any has_zero_step done
-  pub kept : r.too_large ≡ false → r.count ≤ 32 → r.args ≡ done
+  pub kept : r.too_large ≡ false → r.count ≤ args_limit → r.args ≡ done
 
 -- the reader is at this stage
 pub record Holds (s : Stage) (r : Reader) : Type 0 where

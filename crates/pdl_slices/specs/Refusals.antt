@@ -5,6 +5,7 @@ use Rattle.pdl_slices.specs.declared.SliceArg.{SliceArg}
 use Rattle.pdl_slices.specs.declared.SliceArg.TheVariants.{Whole, One, Dropped, Dummy, Span}
 use Rattle.pdl_slices.specs.declared.SliceFault.{SliceFault}
 use Rattle.pdl_slices.specs.declared.SliceFault.TheVariants.{BadText, TooManyArgs, NumberTooLarge, ZeroStep, NoMemory}
+use Rattle.pdl_slices.specs.declared.reader.TheConstants.{MOST_ARGS}
 use Rattle.pdl_slices.specs.Grammar.{Spells, CanBegin}
 
 -- a size above 2147483647
@@ -37,10 +38,17 @@ has_zero_step (Dropped n) = false
 has_zero_step (Dummy n) = false
 has_zero_step (Span from to step) = is_zero step
 
+-- at most so many arguments
+abbrev pub args_limit : ℕ
+args_limit = MOST_ARGS
+
+abbrev pub LimitIs : Type 0
+LimitIs = args_limit ≡ 32
+
 -- the first refusal that holds of the arguments that a text spells
 abbrev pub refusal : List SliceArg → Option SliceFault
 refusal args =
-    if nat_lt 32 (length args) then Some TooManyArgs
+    if nat_lt args_limit (length args) then Some TooManyArgs
     else (if list_any has_large_number args then Some NumberTooLarge
     else (if list_any has_zero_step args then Some ZeroStep
     else None))

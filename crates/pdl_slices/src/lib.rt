@@ -2,7 +2,7 @@
 #![tactic(auto)]
 
 ghost use Rattle.std.specs.Prelude.{◌≡◌, ◌≢◌, ◌<◌, ◌^◌, ◌++◌, ◌∷◌, [], length, IfOk, IfErr, OnOk, OnErr, MatchResult};
-ghost use Rattle.pdl_slices.specs.Refusals.{IsRead, IsFaultOf};
+ghost use Rattle.pdl_slices.specs.Refusals.{IsRead, IsFaultOf, LimitIs};
 ghost use Rattle.pdl_slices.specs.Meaning.{TextsHaveOneMeaning};
 ghost use Rattle.pdl_slices.specs.Written.{WrittenTextsAreRead};
 ghost use Rattle.pdl_slices.specs.declared.SliceFault.{SliceFault};
@@ -10,6 +10,7 @@ ghost use Rattle.pdl_slices.specs.declared.SliceFault.{SliceFault};
 mod reader;
 mod reading;
 
+pub use reader::MOST_ARGS;
 use reader::Reader;
 use std::alloc::{AllocError, Global};
 use std::marker::Model;
@@ -137,3 +138,8 @@ pub fn written_slices()
 {
     slice_meaning();
 }
+
+/// A text has at most 32 arguments.
+pub fn limits_law()
+    ensures { LimitIs }
+{}

@@ -14,7 +14,7 @@ use crate::{SliceArg, SliceArgs, SliceFault};
 use std::alloc::{AllocError, Global};
 
 /// The most arguments that a text may have.
-const MOST: u32 = 32;
+pub const MOST_ARGS: u32 = 32;
 
 /// An argument begins.
 const FIRST_PLACE: Place = Place {
@@ -99,7 +99,7 @@ impl Reader {
         ensures { OnOk result ((done : List SliceArg) (a : SliceArg) → arg ≡ fitted a →
             Collects done self.old → Collects (done ++ a ∷ []) self.new) }
     {
-        if self.count <= MOST {
+        if self.count <= MOST_ARGS {
             self.count += 1;
         }
         match arg {
@@ -108,7 +108,7 @@ impl Reader {
                 if has_zero_step(&arg) {
                     self.zero_step = true;
                 }
-                if self.count <= MOST {
+                if self.count <= MOST_ARGS {
                     self.args.push(arg)?;
                 }
             }
@@ -120,7 +120,7 @@ impl Reader {
     pub fn verdict(self) -> Result<SliceArgs, SliceFault>
         ensures { (done : List SliceArg) → Collects done self → result ≡ verdict_on done }
     {
-        if self.count > MOST {
+        if self.count > MOST_ARGS {
             Err(SliceFault::TooManyArgs)
         } else if self.too_large {
             Err(SliceFault::NumberTooLarge)

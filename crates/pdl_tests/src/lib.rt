@@ -15,6 +15,8 @@ mod comparing;
 #[cfg(test)]
 mod elem;
 #[cfg(test)]
+mod flow;
+#[cfg(test)]
 mod image;
 #[cfg(test)]
 mod io;

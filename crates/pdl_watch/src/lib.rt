@@ -13,7 +13,8 @@ mod telling;
 mod watcher;
 
 pub use comparing::{change_laws, changes};
-pub use laws::{slot_laws, telling_laws};
+pub use laws::{limits_law, slot_laws, telling_laws};
+pub use line::LINE_ROOM;
 pub use line_watcher::LineWatcher;
 pub use notice::Notice;
 pub use recorder::Recorder;

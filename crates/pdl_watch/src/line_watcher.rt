@@ -3,9 +3,9 @@ ghost use Rattle.std.specs.Prelude.{◌≡◌, ◌≤◌, [], ◌∷◌, false, 
 ghost use Rattle.std.specs.Io.KnownBytes.{Appends, Keeps};
 ghost use Rattle.pdl_io.specs.Counts.{HasCause, next_count};
 ghost use Rattle.pdl_io.specs.Told.{AppendsPrefix, Says};
-ghost use Rattle.pdl_watch.specs.NoticeLine.{notice_line};
+ghost use Rattle.pdl_watch.specs.NoticeLine.{line_room, notice_line};
 
-use crate::line::{ROOM, make_line};
+use crate::line::{LINE_ROOM, make_line};
 use crate::notice::Notice;
 use crate::watcher::Watcher;
 use pdl_io::{Failed, Sink, count_one, write_all};
@@ -20,7 +20,7 @@ pub struct LineWatcher<K> {
     told: u64,
     newest: Option<Notice>,
     finished: bool,
-    ghost room: { 256 ≤ vec_capacity line },
+    ghost room: { line_room ≤ vec_capacity line },
 }
 
 impl<K: Sink + Drop> LineWatcher<K> {
@@ -34,7 +34,7 @@ impl<K: Sink + Drop> LineWatcher<K> {
         ensures untold { IfOk result (λ w. told_count w ≡ 0) }
         ensures nothing { IfOk result (λ w. newest_of w ≡ None) }
     {
-        let line = Vec::with_capacity(alloc, ROOM)?;
+        let line = Vec::with_capacity(alloc, LINE_ROOM)?;
         Ok(LineWatcher {
             slot,
             sink,

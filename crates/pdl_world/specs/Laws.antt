@@ -6,9 +6,13 @@ use Rattle.pdl_shape.specs.Places.{places_of, read, write}
 use Rattle.pdl_shape.specs.Shape.{size_of}
 use Rattle.pdl_world.specs.declared.Trans.{Trans}
 use Rattle.pdl_world.specs.Formula.{child_dims, source}
-use Rattle.pdl_world.specs.Paths.{path, root_of}
+use Rattle.pdl_world.specs.Paths.{depth_limit, path, root_of}
 use Rattle.pdl_world.specs.World.{World, ArrayDef, root, view, Look, look_of_root, look, has_repeats, elements, root_elements, assign, dims_in, ty_in}
 use Rattle.pdl_world.specs.Sound.{NumbersBelow, IsAllowed, IsSound, IsLive}
+
+-- at most so many views are on a path
+abbrev pub LimitIs : Type 0
+LimitIs = depth_limit ≡ 64
 
 -- an assignment changes nothing of what is seen through any array
 abbrev pub LooksStay : Type 0

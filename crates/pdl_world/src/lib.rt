@@ -7,7 +7,7 @@
 #![tactic(auto)]
 
 ghost use Rattle.pdl_world.specs.BaseLaws.{AssignmentsLeaveBases, OlderBasesStay, ReachedKeepBases, SweepsLeaveLooks};
-ghost use Rattle.pdl_world.specs.Laws.{LooksStay, PathsStay, NumbersStay, Reads, ReadsBack, AssignsSoundly};
+ghost use Rattle.pdl_world.specs.Laws.{LimitIs, LooksStay, PathsStay, NumbersStay, Reads, ReadsBack, AssignsSoundly};
 ghost use Rattle.pdl_world.specs.Laws.{PlacesLieWithin, RootsAreInRange, LiveLieBelow, OlderStay, OlderElementsStay, OlderPathsStay, JoinsSoundly};
 ghost use Rattle.pdl_world.specs.Laws.{NewIsLive, NewRootIsSeen, NewRootIsWhole, NewRootHasPath, NewViewIsSeen, NewViewHasPath};
 ghost use Rattle.pdl_world.specs.CutLaws.{CutsLeaveElements, CutsAreRoots, RootsAreUncut, CutsLeaveOthers, CutsLeaveFamilies, CutsTakeTheirViews, CutsSoundly, CutsLeaveNumbers};
@@ -50,6 +50,12 @@ pub enum Trans {
         edge: Edge,
     },
 }
+
+/// At most 64 views are on a path from an array to its root, itself counted. The call does nothing
+/// when it runs.
+pub fn limits_law()
+    ensures { LimitIs }
+{}
 
 /// The laws of assignment (PDL::Dataflow). It changes no look, no path, no number and no base. The elements
 /// of any array afterwards are read from its root, with the values put at the places of the array

@@ -1,10 +1,11 @@
 //! Views by numbers: exchanged, moved, reordered, new, joined and squeezed
 //! dimensions (PDL::Slices).
-ghost use Rattle.std.specs.Prelude.{◌≡◌, IfOk, IfSome, IsTrue};
+ghost use Rattle.std.specs.Prelude.{◌≡◌, ◌≤◌, ◌+◌, IfOk, IfSome, IsTrue, drop};
 ghost use Rattle.pdl_affine.specs.Views.{is_well_formed};
 ghost use Rattle.pdl_machine.specs.Views.{arranged, arrangement_outcome};
 ghost use Rattle.pdl_machine.specs.declared.builtin.Arrangement.TheVariants.{Dummy};
 ghost use Rattle.pdl_scope.specs.Answers.{AnswersAs};
+ghost use Rattle.pdl_session.specs.Costs.{read_all};
 ghost use Rattle.pdl_session.specs.Arguments.{all_seen_of, AreGivenLive, outcome_of, IsOutcomeMade};
 ghost use Rattle.pdl_scope.specs.Scope.{OnlyReads};
 
@@ -30,6 +31,7 @@ pub fn arrangement<L: Ledger>(
         AnswersAs outcome_of (arrangement_outcome word seen) result }
     ensures made { IfOk result IsOutcomeMade }
     ensures same { OnlyReads scope.old scope.new }
+    ensures counted { steps.new ≤ steps.old + read_all scope.old (drop 1 given.now) }
 {
     match given.split_first() {
         Some((Given::Array(_), rest)) => match numbers_in(scope, rest, steps) {

@@ -1,13 +1,15 @@
 //! Views by chosen places: `index`, `where`, `range` (PDL::Slices, PDL::Primitive).
-ghost use Rattle.std.specs.Prelude.{◌≡◌, IfOk};
+ghost use Rattle.std.specs.Prelude.{◌≡◌, ◌≤◌, ◌+◌, IfOk, drop};
 ghost use Rattle.pdl_buf.specs.declared.made.Made.{Made};
 ghost use Rattle.pdl_world.specs.Sound.{IsLive};
 ghost use Rattle.pdl_machine.specs.Arrays.{array_in};
 ghost use Rattle.pdl_machine.specs.Views.{edge_of, look_up, index_outcome, where_outcome, range_by, range_outcome};
 ghost use Rattle.pdl_scope.specs.Answers.{AnswersAs};
+ghost use Rattle.pdl_engine.specs.Reading.{read_steps};
+ghost use Rattle.pdl_session.specs.Costs.{read_all};
 ghost use Rattle.pdl_session.specs.Arguments.{all_seen_of, AreGivenLive, outcome_of, IsOutcomeMade};
 ghost use Rattle.pdl_session.specs.Calls.{windows};
-ghost use Rattle.pdl_scope.specs.Scope.{OnlyReads};
+ghost use Rattle.pdl_scope.specs.Scope.{engine_of, OnlyReads};
 
 use crate::given::Given;
 use crate::outcome::Outcome;
@@ -17,7 +19,7 @@ use pdl_buf::Steps;
 use pdl_choice::Edge;
 use pdl_engine::ArrayId;
 use pdl_machine::Fault;
-use pdl_scope::{Scope, ScopeFault};
+use pdl_scope::{Scope, ScopeFault, cost_laws};
 use pdl_shape::copy_dims;
 use pdl_world::Trans;
 use std::sync::ledger::Ledger;
@@ -33,6 +35,7 @@ pub fn index<L: Ledger>(
         AnswersAs outcome_of (index_outcome seen) result }
     ensures made { IfOk result IsOutcomeMade }
     ensures same { OnlyReads scope.old scope.new }
+    ensures counted { steps.new ≤ steps.old + read_all scope.old (drop 1 given.now) }
 {
     match second_array(given) {
         Some(id) => looked_up(scope, id, steps),
@@ -50,6 +53,7 @@ pub(crate) fn looked_up<L: Ledger>(
     ensures value { AnswersAs outcome_of (look_up (array_in scope.old.arrays id)) result }
     ensures made { IfOk result IsOutcomeMade }
     ensures same { OnlyReads scope.old scope.new }
+    ensures counted { steps.new ≤ steps.old + read_steps (engine_of scope.old) id }
 {
     let numbers = scope.numbers(id, steps)?;
     Ok(Outcome::View(Trans::Index {
@@ -69,6 +73,7 @@ pub fn masked<L: Ledger>(
         AnswersAs outcome_of (where_outcome seen) result }
     ensures made { IfOk result IsOutcomeMade }
     ensures same { OnlyReads scope.old scope.new }
+    ensures counted { steps.new ≤ steps.old + read_all scope.old (drop 1 given.now) }
 {
     match second_array(given) {
         Some(id) => {
@@ -93,6 +98,7 @@ pub fn range<L: Ledger>(
         AnswersAs outcome_of (range_outcome seen) result }
     ensures made { IfOk result IsOutcomeMade }
     ensures same { OnlyReads scope.old scope.new }
+    ensures counted { steps.new ≤ steps.old + read_all scope.old (drop 1 given.now) }
 {
     match two_and_more(given) {
         Some((ind, rest)) => windows_at(scope, ind, rest, steps),
@@ -114,11 +120,16 @@ fn windows_at<L: Ledger>(
         AnswersAs outcome_of (range_by corners (all_seen_of scope.old.arrays rest.now)) result }
     ensures made { IfOk result IsOutcomeMade }
     ensures same { OnlyReads scope.old scope.new }
+    ensures counted { let e = engine_of scope.old in
+        steps.new ≤ steps.old + (read_steps e ind + read_all scope.old rest.now) }
 {
+    cost_laws();
+    scope.in_order();
     let (sizes, edge) = match window_parts(scope, rest, steps) {
         Ok(parts) => parts,
         Err(fault) => return Err(fault),
     };
+    scope.in_order();
     let numbers = scope.numbers(ind, steps)?;
     Ok(Outcome::View(Trans::Range {
         dims: copy_dims(scope.dims(ind)),
@@ -140,13 +151,19 @@ fn window_parts<L: Ledger>(
         let wanted = range_by corners (all_seen_of scope.old.arrays rest.now) in
         AnswersAs (λ parts. windows corners parts.0.items parts.1) wanted result }
     ensures same { OnlyReads scope.old scope.new }
+    ensures counted { steps.new ≤ steps.old + read_all scope.old rest.now }
 {
+    cost_laws();
+    scope.in_order();
     match few_arrays(rest) {
         Some((None, _)) => Ok((vec![in scope.alloc(); 0; 1]?, Edge::Refuse)),
         Some((Some(sizes), None)) => Ok((scope.numbers(sizes, steps)?, Edge::Refuse)),
         Some((Some(sizes), Some(edge))) => match scope.only_number(edge, steps)? {
             Some(number) => match edge_of(number) {
-                Some(edge) => Ok((scope.numbers(sizes, steps)?, edge)),
+                Some(edge) => {
+                    scope.in_order();
+                    Ok((scope.numbers(sizes, steps)?, edge))
+                }
                 None => Err(ScopeFault::Script(Fault::WrongArguments)),
             },
             None => Err(ScopeFault::Script(Fault::WrongArguments)),

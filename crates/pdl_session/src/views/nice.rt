@@ -1,12 +1,13 @@
 //! `nice`: what nice slices, as `$x(1:3)`, are written for (PDL::NiceSlice).
-ghost use Rattle.std.specs.Prelude.{◌≡◌, ◌++◌, bytes_eq, codes, IfOk, IfSome, OnOk, option_map};
+ghost use Rattle.std.specs.Prelude.{◌≡◌, ◌≤◌, ◌+◌, ◌++◌, bytes_eq, codes, IfOk, IfSome, OnOk, option_map, drop, Some};
 ghost use Rattle.std.specs.Fmt.{signed_decimal};
 ghost use Rattle.pdl_world.specs.Sound.{IsLive};
 ghost use Rattle.pdl_machine.specs.Arrays.{array_in};
 ghost use Rattle.pdl_machine.specs.NiceCalls.{filled_in, slice_by_numbers, slice_in, looking_up, nice_by, nice_outcome};
 ghost use Rattle.pdl_scope.specs.Answers.{AnswersAs};
 ghost use Rattle.pdl_scope.specs.Scope.{OnlyReads};
-ghost use Rattle.pdl_session.specs.Arguments.{all_seen_of, AreGivenLive, outcome_of, IsOutcomeMade};
+ghost use Rattle.pdl_session.specs.Costs.{read_all};
+ghost use Rattle.pdl_session.specs.Arguments.{all_seen_of, one_array, AreGivenLive, outcome_of, IsOutcomeMade};
 
 use crate::dims::numbers_in;
 use crate::given::Given;
@@ -33,6 +34,7 @@ pub fn nice<L: Ledger>(
         AnswersAs outcome_of (nice_outcome seen) result }
     ensures made { IfOk result IsOutcomeMade }
     ensures same { OnlyReads scope.old scope.new }
+    ensures counted { steps.new ≤ steps.old + read_all scope.old (drop 1 given.now) }
 {
     match text_and_more(given) {
         Some((pattern, rest)) => nice_by(scope, pattern, rest, steps),
@@ -53,8 +55,9 @@ fn nice_by<L: Ledger>(
         AnswersAs outcome_of (nice_by pattern.now seen) result }
     ensures made { IfOk result IsOutcomeMade }
     ensures same { OnlyReads scope.old scope.new }
+    ensures counted { steps.new ≤ steps.old + read_all scope.old rest.now }
 {
-    match looking_up(scope, pattern, rest, steps)? {
+    match looking_up(scope, pattern, rest) {
         Some(id) => looked_up(scope, id, steps),
         None => slice_in(scope, pattern, rest, steps),
     }
@@ -62,27 +65,19 @@ fn nice_by<L: Ledger>(
 
 /// The array that looks the first one up: the only value, of another count than one, for the
 /// pattern `#` alone.
-fn looking_up<L: Ledger>(
-    scope: &mut Scope,
-    pattern: &[u8],
-    rest: &[Given],
-    steps: &mut Steps<L>,
-) -> Result<Option<ArrayId>, AllocError>
-    requires { AreGivenLive scope.old.arrays.world rest.now }
-    ensures value { let seen = all_seen_of scope.old.arrays rest.now in
-        IfOk result (λ o. option_map (array_in scope.old.arrays) o ≡ looking_up pattern.now seen) }
-    ensures live { IfOk result (λ o. IfSome o (IsLive scope.old.arrays.world)) }
-    ensures same { OnlyReads scope.old scope.new }
+fn looking_up(scope: &Scope, pattern: &[u8], rest: &[Given]) -> Option<ArrayId>
+    requires { AreGivenLive scope.now.arrays.world rest.now }
+    ensures value { let seen = all_seen_of scope.now.arrays rest.now in
+        option_map (array_in scope.now.arrays) result ≡ looking_up pattern.now seen }
+    ensures found { IfSome result (λ v. one_array rest.now ≡ Some v) }
+    ensures live { IfSome result (IsLive scope.now.arrays.world) }
 {
     if !is_mark(pattern) {
-        return Ok(None);
+        return None;
     }
     match one_array(rest) {
-        Some(id) => match scope.only_number(id, steps)? {
-            Some(_) => Ok(None),
-            None => Ok(Some(id)),
-        },
-        None => Ok(None),
+        Some(id) => { if scope.is_single(id) { None } else { Some(id) } }
+        None => None,
     }
 }
 
@@ -105,6 +100,7 @@ fn slice_in<L: Ledger>(
         AnswersAs outcome_of (slice_in pattern.now seen) result }
     ensures made { IfOk result IsOutcomeMade }
     ensures same { OnlyReads scope.old scope.new }
+    ensures counted { steps.new ≤ steps.old + read_all scope.old rest.now }
 {
     match numbers_in(scope, rest, steps) {
         Ok(numbers) => slice_by_numbers(scope.alloc(), pattern, &numbers),

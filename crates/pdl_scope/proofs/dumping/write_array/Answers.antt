@@ -1,7 +1,10 @@
-use Rattle.std.proofs.Common.{get_or, sym, ◌∙◌}
+use Rattle.std.proofs.Common.{get_or, sym, ◌∙◌, subst, arith}
+use Rattle.std.specs.List.Sorted.{IsStrictlyIncreasing}
 use Rattle.std.proofs.lemmas.Option.{slice_get-get_or}
 use Rattle.pdl_scope.proofs.DumpArrays.{has_trans, live_at, wrote_root, wrote_view}
+use Rattle.pdl_scope.proofs.DumpCosts.{root_read}
 use Rattle.pdl_scope.proofs.Numbers.{Laws, laws_of}
+use Rattle.pdl_scope.proofs.Places.{numbers_increase}
 use Rattle.pdl_scope.proofs.dumping.write_array.Goals as goal
 
 pub parent-requires : goal.parent-requires
@@ -42,3 +45,17 @@ returns-in-None-clause-lines g c =
     let laws : Laws = laws_of grown.below grown.older grown.older_elements grown.live c.newest_laws.ensures.root_seen in
     wrote_root laws c.args.engine.now.world c.args.ids.now c.args.at (get_or c.args.ids.now c.args.at 0) c.args.image.now c.write_root.new.image c.write_root.result
     c.requires.sound c.requires.ids (slice_get-get_or c.args.ids.now c.args.at 0 c.requires.here) (sym c.in-None.is ∙ c.parent.ensures) c.write_root.ensures.lines
+
+pub place_of-requires : goal.place_of-requires
+place_of-requires g c = subst IsStrictlyIncreasing (sym c.requires.ids) (numbers_increase c.args.engine.now.world c.requires.sound)
+
+pub returns-in-Some-clause-costs : goal.returns-in-Some-clause-costs
+returns-in-Some-clause-costs g c = λ v live. omega arith
+
+pub returns-in-None-clause-counted : goal.returns-in-None-clause-counted
+returns-in-None-clause-counted g c =
+    let grown = c.growth_laws.ensures in
+    let laws : Laws = laws_of grown.below grown.older grown.older_elements grown.live c.newest_laws.ensures.root_seen in
+    let read = root_read laws c.args.engine.now c.args.ids.now c.args.at (get_or c.args.ids.now c.args.at 0) c.requires.sound c.requires.ids (slice_get-get_or c.args.ids.now c.args.at 0 c.requires.here) (sym c.in-None.is ∙ c.parent.ensures) in
+    let counted = c.write_root.ensures.counted in
+    omega (arith, read, counted)

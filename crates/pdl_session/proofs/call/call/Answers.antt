@@ -1,4 +1,4 @@
-use Rattle.std.proofs.Common.{◌≡◌, None, sym, ap, subst, ◌∙◌}
+use Rattle.std.proofs.Common.{◌≡◌, None, sym, ap, subst, ◌∙◌, arith}
 use Rattle.pdl_machine.specs.Builtin.{builtin_of}
 use Rattle.pdl_machine.specs.Calls.{only_root, outputs_of, call_value}
 use Rattle.pdl_machine.specs.Outcome.{Valued}
@@ -8,6 +8,10 @@ use Rattle.pdl_scope.specs.Answers.{IsFault, Evaluates}
 use Rattle.pdl_session.specs.Arguments.{arguments, all_seen_of}
 use Rattle.pdl_session.proofs.Callees.{kernel_called}
 use Rattle.pdl_session.proofs.Facts.{hands_on, first_fault}
+use Rattle.pdl_engine.specs.State.{ready_steps}
+use Rattle.pdl_scope.specs.Scope.{engine_of}
+use Rattle.pdl_session.specs.Costs.{ready_all}
+use Rattle.pdl_session.proofs.Expressions.{after_reading, read_all_le, reading_refused}
 use Rattle.pdl_session.proofs.call.call.Goals as goal
 
 pub returns-in_err-outputs-in-None-clause-value : goal.returns-in_err-outputs-in-None-clause-value
@@ -31,3 +35,21 @@ returns-in_ok-outputs-in-None-clause-value g c =
     kernel_called names f a c.args.given.now none ∙ ap (λ o. and_then o (only_root a)) c.in_ok-outputs-in-None.ensures.value ∙ ap (only_root a) (sym c.deref.ensures.value)
     ∙ ap (λ (a : Arrays). only_root a ms) (sym c.kernel_outputs.ensures.same.arrays) in
     subst (λ (v : Valued). Evaluates v c.only_root.new.scope c.only_root.result) (sym is) c.only_root.ensures.value
+
+pub returns-in_err-outputs-in-None-clause-within : goal.returns-in_err-outputs-in-None-clause-within
+returns-in_err-outputs-in-None-clause-within g c =
+    let s = c.args.scope.now in
+    let new = c.kernel_outputs.new.scope in
+    let most = ready_all s c.args.given.now in
+    let less = read_all_le s c.args.given.now in
+    reading_refused (ready_steps (engine_of new)) s new most c.args.steps.now c.kernel_outputs.new.steps c.from_residual.result c.in_err-outputs-in-None.field-0.0 c.from_residual.ensures.1
+    (omega (arith, less, c.kernel_outputs.ensures.counted)) c.kernel_outputs.ensures.same.arrays
+
+pub returns-in_ok-outputs-in-None-clause-within : goal.returns-in_ok-outputs-in-None-clause-within
+returns-in_ok-outputs-in-None-clause-within g c =
+    let s = c.args.scope.now in
+    let mid = c.kernel_outputs.new.scope in
+    let most = ready_all s c.args.given.now in
+    let less = read_all_le s c.args.given.now in
+    after_reading s mid c.only_root.new.scope most c.args.steps.now c.kernel_outputs.new.steps c.only_root.new.steps c.only_root.result
+    (omega (arith, less, c.kernel_outputs.ensures.counted)) c.kernel_outputs.ensures.same.arrays c.only_root.ensures.within

@@ -1,4 +1,4 @@
-use Rattle.std.proofs.Common.{rules, ◌≡◌, ℤ, FitsSigned, w64, [], ◌∷◌, ◌++◌, Some, None, get_or, sym, ap, subst, ◌∙◌}
+use Rattle.std.proofs.Common.{rules, ◌≡◌, ◌+◌, refl, arith, ℤ, FitsSigned, w64, [], ◌∷◌, ◌++◌, Some, None, get_or, sym, ap, subst, ◌∙◌}
 use Rattle.std.proofs.lemmas.Int.{to_z-of_z}
 use Rattle.pdl_machine.specs.declared.fault.Fault.TheVariants.{WrongArguments}
 use Rattle.pdl_machine.specs.Then.{or_fault}
@@ -9,6 +9,7 @@ use Rattle.pdl_session.specs.declared.given.Given.TheVariants.{Array}
 use Rattle.pdl_session.specs.Arguments.{seen_of}
 use Rattle.pdl_session.proofs.Gathered.{front_none, front_more, front_stops, front_all, live_next, numbers_seen}
 use Rattle.pdl_session.proofs.Facts.{reads_trans}
+use Rattle.pdl_session.proofs.Moved.{read_first, read_next, reads_cost}
 use Rattle.pdl_session.proofs.dims.numbers_in.Goals as goal
 
 pub returns-in-None-clause-value : goal.returns-in-None-clause-value
@@ -30,6 +31,7 @@ loop-one-init g c = record {
   found = front_none (λ x. number_in (seen_of c.args.scope.now.arrays x)) c.args.given.now c.new-found.result.items c.new-found.ensures.items;
   live = c.requires;
   same = reads_refl c.args.scope.now;
+  counted = omega arith;
 }
 
 pub number_in-requires : goal.number_in-requires
@@ -50,6 +52,8 @@ loop-one-preserved g c =
       live = (live_next c.args.scope.now.arrays.world c.loop-one.scope.arrays.world given i (Array 0) c.loop-one-test.true
           (ap (λ (a : Arrays). a.world) c.loop-one.invariant.same.arrays) c.loop-one.invariant.live).1;
       same = reads_trans c.args.scope.now c.loop-one.scope c.number_in.new.scope c.loop-one.invariant.same c.in_ok-number.ensures.same;
+      counted = read_next c.args.scope.now c.loop-one.scope c.args.given.now c.loop-one.one-index c.args.steps.now c.loop-one.steps c.number_in.new.steps (Array 0) (get_or c.args.given.now c.loop-one.one-index (Array 0)) c.loop-one-test.true refl c.requires
+          (reads_cost c.cost_laws.ensures.older c.args.scope.now c.loop-one.scope c.in_order.ensures c.in_order-in-loop-one.ensures c.loop-one.invariant.same) c.loop-one.invariant.counted c.number_in.ensures.counted;
     }
 
 pub returns-in_err-number-clause-same : goal.returns-in_err-number-clause-same
@@ -63,3 +67,18 @@ returns-in-None-clause-same g c = reads_trans c.args.scope.now c.loop-one.scope 
 
 pub returns-clause-same : goal.returns-clause-same
 returns-clause-same g c = c.loop-one.invariant.same
+
+pub returns-in_err-number-clause-counted : goal.returns-in_err-number-clause-counted
+returns-in_err-number-clause-counted g c = read_first c.args.scope.now c.args.given.now (c.loop-one.one-index + 1) c.args.steps.now c.number_in.new.steps (read_next c.args.scope.now c.loop-one.scope c.args.given.now c.loop-one.one-index c.args.steps.now c.loop-one.steps c.number_in.new.steps (Array 0) (get_or c.args.given.now c.loop-one.one-index (Array 0)) c.loop-one-test.true refl c.requires
+    (reads_cost c.cost_laws.ensures.older c.args.scope.now c.loop-one.scope c.in_order.ensures c.in_order-in-loop-one.ensures c.loop-one.invariant.same) c.loop-one.invariant.counted c.number_in.ensures.counted)
+
+pub returns-in_err-push-in-Some-clause-counted : goal.returns-in_err-push-in-Some-clause-counted
+returns-in_err-push-in-Some-clause-counted g c = read_first c.args.scope.now c.args.given.now (c.loop-one.one-index + 1) c.args.steps.now c.number_in.new.steps (read_next c.args.scope.now c.loop-one.scope c.args.given.now c.loop-one.one-index c.args.steps.now c.loop-one.steps c.number_in.new.steps (Array 0) (get_or c.args.given.now c.loop-one.one-index (Array 0)) c.loop-one-test.true refl c.requires
+    (reads_cost c.cost_laws.ensures.older c.args.scope.now c.loop-one.scope c.in_order.ensures c.in_order-in-loop-one.ensures c.loop-one.invariant.same) c.loop-one.invariant.counted c.number_in.ensures.counted)
+
+pub returns-in-None-clause-counted : goal.returns-in-None-clause-counted
+returns-in-None-clause-counted g c = read_first c.args.scope.now c.args.given.now (c.loop-one.one-index + 1) c.args.steps.now c.number_in.new.steps (read_next c.args.scope.now c.loop-one.scope c.args.given.now c.loop-one.one-index c.args.steps.now c.loop-one.steps c.number_in.new.steps (Array 0) (get_or c.args.given.now c.loop-one.one-index (Array 0)) c.loop-one-test.true refl c.requires
+    (reads_cost c.cost_laws.ensures.older c.args.scope.now c.loop-one.scope c.in_order.ensures c.in_order-in-loop-one.ensures c.loop-one.invariant.same) c.loop-one.invariant.counted c.number_in.ensures.counted)
+
+pub returns-clause-counted : goal.returns-clause-counted
+returns-clause-counted g c = read_first c.args.scope.now c.args.given.now c.loop-one.one-index c.args.steps.now c.loop-one.steps c.loop-one.invariant.counted

@@ -14,6 +14,16 @@ use Rattle.pdl_scope.specs.Answers.{IsFault, Evaluates}
 use Rattle.pdl_session.specs.Bounds.{EvaluatesPlainly}
 use Rattle.pdl_session.specs.Arguments.{argument, arguments, AreGivenLive}
 use Rattle.pdl_session.proofs.Bounded.{list_plain, named_plain, number_plain}
+use Rattle.std.proofs.Common.{ℕ, Err, Vec, Global}
+use Rattle.pdl_ops.specs.Elementwise.{unary_each}
+use Rattle.pdl_engine.specs.State.{ready_steps}
+use Rattle.pdl_machine.specs.Arrays.{array_in}
+use Rattle.pdl_machine.specs.Operators.{binary_each}
+use Rattle.pdl_machine.specs.declared.fault.Fault.TheVariants.{UnknownName}
+use Rattle.pdl_scope.specs.Costs.{total_size}
+use Rattle.pdl_scope.specs.Scope.{engine_of}
+use Rattle.pdl_session.specs.Costs.{EvaluatesWithin, PaysWithin, argued_steps, named_steps, ready_all}
+use Rattle.pdl_session.proofs.Expressions.{binary_within, err_again, list_within, named_within, names_less, names_live, number_within, paid_more, paid_on, pays_fault, pays_nothing, argued_part, args_less, right_refused, taken_more, taken_refused, unary_within, unnamed_within}
 use Rattle.pdl_session.proofs.Facts.{hands_on, handed_on, first_fault, grows_trans}
 use Rattle.pdl_session.proofs.Evals.{fault_at, arrays_at, weight, weights, weights_at, named_is, list_is, unary_tree, binary_tree, unary_is, binary_is, unary_fault, left_fault, right_fault, tree_is, with_given, call_is, arguments_snoc, live_snoc, given_still, args_more}
 use Rattle.pdl_session.proofs.eval.+eval.Goals as goal
@@ -57,7 +67,7 @@ eval-returns-in-Some-clause-value g t c =
 pub eval-returns-in-List-clause-value : goal.eval-returns-in-List-clause-value
 eval-returns-in-List-clause-value g t c =
     let e = list_is c.args.scope.now.names c.args.scope.now.arrays c.args.value.now c.deref.result.now _ c.in-List.is c.deref.ensures in
-    subst (λ (x : Valued). Evaluates x c.make_like.new.self c.make_like.result) (sym e) c.make_like.ensures.value
+    subst (λ (x : Valued). Evaluates x c.make_like-made.new.self c.make_like-made.result) (sym e) c.make_like-made.ensures.value
 
 pub eval-eval-requires : goal.eval-eval-requires
 eval-eval-requires g t c =
@@ -70,10 +80,10 @@ eval-returns-in_ok-operand-in-Unary-clause-value g t c =
     let x = c.deref-in-Unary.result.now in
     let is = unary_tree c.args.value.now x c.in-Unary.op _ c.in-Unary.is c.deref-in-Unary.ensures in
     let e = unary_is c.args.scope.now.names c.args.scope.now.arrays c.eval.new.scope.arrays c.in-Unary.op (tree_of c.args.value.now) (tree_of x) c.in_ok-operand-in-Unary.operand is c.in_ok-operand-in-Unary.ensures.value.0 in
-    subst (λ (v : Valued). Evaluates v c.unary.new.self c.unary.result) (sym e) c.unary.ensures.value
+    subst (λ (v : Valued). Evaluates v c.unary-made.new.self c.unary-made.result) (sym e) c.unary-made.ensures.value
 
 pub eval-returns-in_ok-operand-in-Unary-clause-grown : goal.eval-returns-in_ok-operand-in-Unary-clause-grown
-eval-returns-in_ok-operand-in-Unary-clause-grown g t c = grows_trans c.args.scope.now c.eval.new.scope c.unary.new.self c.eval.ensures.grown c.unary.ensures.grown
+eval-returns-in_ok-operand-in-Unary-clause-grown g t c = grows_trans c.args.scope.now c.eval.new.scope c.unary-made.new.self c.eval.ensures.grown c.unary-made.ensures.grown
 
 pub eval-returns-in_err-operand-in-Unary-clause-value : goal.eval-returns-in_err-operand-in-Unary-clause-value
 eval-returns-in_err-operand-in-Unary-clause-value g t c =
@@ -127,12 +137,12 @@ eval-returns-in_ok-right-in-Binary-clause-value g t c =
     let is = binary_tree c.args.value.now x y c.in-Binary.op _ _ c.in-Binary.is c.deref-in-Binary.ensures c.deref-in-Binary-2.ensures in
     let e = binary_is c.args.scope.now.names mid.names c.args.scope.now.arrays mid.arrays late.arrays c.in-Binary.op (tree_of c.args.value.now) (tree_of x) (tree_of y) c.in_ok-left-in-Binary.left c.in_ok-right-in-Binary.right is
     c.in_ok-left-in-Binary.ensures.value.0 c.eval-in-Binary.ensures.grown.names c.in_ok-right-in-Binary.ensures.value.0 in
-    subst (λ (v : Valued). Evaluates v c.binary.new.self c.binary.result) (sym e) c.binary.ensures.value
+    subst (λ (v : Valued). Evaluates v c.binary-made.new.self c.binary-made.result) (sym e) c.binary-made.ensures.value
 
 pub eval-returns-in_ok-right-in-Binary-clause-grown : goal.eval-returns-in_ok-right-in-Binary-clause-grown
 eval-returns-in_ok-right-in-Binary-clause-grown g t c =
     let late = grows_trans c.args.scope.now c.eval-in-Binary.new.scope c.eval-in-Binary-2.new.scope c.eval-in-Binary.ensures.grown c.eval-in-Binary-2.ensures.grown in
-    grows_trans c.args.scope.now c.eval-in-Binary-2.new.scope c.binary.new.self late c.binary.ensures.grown
+    grows_trans c.args.scope.now c.eval-in-Binary-2.new.scope c.binary-made.new.self late c.binary-made.ensures.grown
 
 pub eval-returns-in_ok-given-in-Call-clause-grown : goal.eval-returns-in_ok-given-in-Call-clause-grown
 eval-returns-in_ok-given-in-Call-clause-grown g t c = grows_trans c.args.scope.now c.take.new.scope c.call.new.scope c.take.ensures.grown c.call.ensures.grown
@@ -147,7 +157,7 @@ pub eval-returns-in_err-given-in-Call-clause-grown : goal.eval-returns-in_err-gi
 eval-returns-in_err-given-in-Call-clause-grown g t c = c.take.ensures.grown
 
 pub take-loop-arg-init : goal.take-loop-arg-init
-take-loop-arg-init g t c = record { so_far = λ a front before. before; grown = grows_refl c.args.scope.now; live = c.requires.live }
+take-loop-arg-init g t c = record { so_far = λ a front before. before; grown = grows_refl c.args.scope.now; live = c.requires.live; within = omega arith }
 
 pub take-returns-clause-value : goal.take-returns-clause-value
 take-returns-clause-value g t c = λ a front before.
@@ -197,6 +207,10 @@ take-loop-arg-preserved g t c =
       live = rw items (live_snoc c.take_one.new.scope.arrays.world c.loop-arg.given.items c.in_ok-one.one
           (given_still c.loop-arg.scope.arrays.world c.take_one.new.scope.arrays.world c.take_one.ensures.grown.still c.loop-arg.given.items c.loop-arg.invariant.live)
           c.in_ok-one.ensures.live);
+      within = rw items (taken_more c.args.scope.now c.loop-arg.scope c.take_one.new.scope c.args.args.now c.loop-arg.given.items c.arg-item.result c.in_ok-one.one c.loop-arg.arg-index (ready_all c.args.scope.now c.args.given.items) c.args.steps.now c.loop-arg.steps c.take_one.new.steps lt c.arg-item.is
+          (c.cost_laws.ensures.older c.loop-arg.scope c.take_one.new.scope c.in_order-in-loop-arg.ensures c.in_order-in-loop-arg-2.ensures c.take_one.ensures.grown) c.loop-arg.invariant.live
+          (args_less c.args.scope.now c.loop-arg.scope c.loop-arg.invariant.grown.names (names_live c.args.scope.now c.in_order.ensures.whole) (c.cost_laws.ensures.older c.args.scope.now c.loop-arg.scope c.in_order.ensures c.in_order-in-loop-arg.ensures c.loop-arg.invariant.grown) (argument_of c.arg-item.result none))
+          c.loop-arg.invariant.within c.in_ok-one.ensures.within);
     }
 
 pub eval-returns-in_ok-given-in-Call-clause-plain : goal.eval-returns-in_ok-given-in-Call-clause-plain
@@ -212,7 +226,7 @@ eval-returns-in_err-given-in-Call-clause-plain g t c =
 pub eval-returns-in_ok-operand-in-Unary-clause-plain : goal.eval-returns-in_ok-operand-in-Unary-clause-plain
 eval-returns-in_ok-operand-in-Unary-clause-plain g t c =
     let is = unary_tree c.args.value.now c.deref-in-Unary.result.now c.in-Unary.op _ c.in-Unary.is c.deref-in-Unary.ensures in
-    subst (λ (x : Tree). EvaluatesPlainly x c.args.scope.now c.unary.new.self c.args.steps.now c.unary.new.steps c.unary.result) (sym is) tt
+    subst (λ (x : Tree). EvaluatesPlainly x c.args.scope.now c.unary-made.new.self c.args.steps.now c.unary-made.new.steps c.unary-made.result) (sym is) tt
 
 pub eval-returns-in_err-operand-in-Unary-clause-plain : goal.eval-returns-in_err-operand-in-Unary-clause-plain
 eval-returns-in_err-operand-in-Unary-clause-plain g t c =
@@ -232,7 +246,7 @@ eval-returns-in_err-right-in-Binary-clause-plain g t c =
 pub eval-returns-in_ok-right-in-Binary-clause-plain : goal.eval-returns-in_ok-right-in-Binary-clause-plain
 eval-returns-in_ok-right-in-Binary-clause-plain g t c =
     let is = binary_tree c.args.value.now c.deref-in-Binary.result.now c.deref-in-Binary-2.result.now c.in-Binary.op _ _ c.in-Binary.is c.deref-in-Binary.ensures c.deref-in-Binary-2.ensures in
-    subst (λ (x : Tree). EvaluatesPlainly x c.args.scope.now c.binary.new.self c.args.steps.now c.binary.new.steps c.binary.result) (sym is) tt
+    subst (λ (x : Tree). EvaluatesPlainly x c.args.scope.now c.binary-made.new.self c.args.steps.now c.binary-made.new.steps c.binary-made.result) (sym is) tt
 
 pub eval-returns-in-Number-clause-plain : goal.eval-returns-in-Number-clause-plain
 eval-returns-in-Number-clause-plain g t c = number_plain c.args.value.now c.in-Number.number c.args.scope.now c.number_array.new.scope _ _ c.number_array.result c.in-Number.is c.number_array.ensures.root
@@ -245,4 +259,130 @@ eval-returns-in-None-clause-plain g t c = named_plain c.args.value.now _ c.args.
 
 pub eval-returns-in-List-clause-plain : goal.eval-returns-in-List-clause-plain
 eval-returns-in-List-clause-plain g t c =
-    list_plain c.args.value.now c.deref.result.now _ c.args.scope.now c.make_like.new.self _ _ c.make_like.result c.in-List.is c.deref.ensures c.make_like.ensures.roots c.make_like.ensures.fresh c.make_like.ensures.counted
+    list_plain c.args.value.now c.deref.result.now _ c.args.scope.now c.make_like-made.new.self _ _ c.make_like-made.result c.in-List.is c.deref.ensures c.make_like-made.ensures.roots c.make_like-made.ensures.fresh c.make_like-made.ensures.counted
+
+pub eval-returns-in-Number-clause-within : goal.eval-returns-in-Number-clause-within
+eval-returns-in-Number-clause-within g t c = number_within c.args.value.now c.in-Number.number c.args.scope.now c.number_array.new.scope _ _ c.number_array.result c.in-Number.is c.number_array.ensures.within
+
+pub eval-returns-in-Some-clause-within : goal.eval-returns-in-Some-clause-within
+eval-returns-in-Some-clause-within g t c = named_within c.args.value.now _ c.args.scope.now c.in-Some.id c.args.steps.now c.in-Named.is (sym c.number_of.ensures.number ∙ c.in-Some.is)
+
+pub eval-returns-in-None-clause-within : goal.eval-returns-in-None-clause-within
+eval-returns-in-None-clause-within g t c = unnamed_within _ c.args.scope.now c.args.steps.now UnknownName
+
+pub eval-returns-in-List-clause-within : goal.eval-returns-in-List-clause-within
+eval-returns-in-List-clause-within g t c =
+    list_within c.cost_laws.ensures.roots c.cost_laws.ensures.made c.args.value.now c.deref.result.now _ c.args.scope.now c.make_like-made.new.self _ _ c.make_like-made.result c.in-List.is c.in_order-in-List.ensures c.make_like-made.ensures.value
+    c.make_like-made.ensures.counted
+
+pub eval-returns-in_ok-operand-in-Unary-clause-within : goal.eval-returns-in_ok-operand-in-Unary-clause-within
+eval-returns-in_ok-operand-in-Unary-clause-within g t c =
+    let s = c.args.scope.now in
+    let x = c.deref-in-Unary.result.now in
+    let mid = c.eval.new.scope in
+    let is = unary_tree c.args.value.now x c.in-Unary.op _ c.in-Unary.is c.deref-in-Unary.ensures in
+    let made = unary_each c.in-Unary.op (array_in mid.arrays c.in_ok-operand-in-Unary.operand) in
+    subst (λ (y : Tree). EvaluatesWithin (named_steps s y) s c.unary-made.new.self c.args.steps.now c.unary-made.new.steps c.unary-made.result) (sym is)
+    (unary_within c.cost_laws.ensures.roots c.cost_laws.ensures.made s mid c.unary-made.new.self made (named_steps s (tree_of x)) c.args.steps.now c.eval.new.steps c.unary-made.new.steps c.in_ok-operand-in-Unary.operand c.unary-made.result
+    c.in_order-in-Unary.ensures c.in_ok-operand-in-Unary.ensures.within c.unary-made.ensures.value c.unary-made.ensures.counted)
+
+pub eval-returns-in_err-operand-in-Unary-clause-within : goal.eval-returns-in_err-operand-in-Unary-clause-within
+eval-returns-in_err-operand-in-Unary-clause-within g t c =
+    let s = c.args.scope.now in
+    let x = c.deref-in-Unary.result.now in
+    let is = unary_tree c.args.value.now x c.in-Unary.op _ c.in-Unary.is c.deref-in-Unary.ensures in
+    let f = c.in_err-operand-in-Unary.field-0.0 in
+    subst (λ (y : Tree). EvaluatesWithin (named_steps s y) s c.eval.new.scope c.args.steps.now c.eval.new.steps c.from_residual.result) (sym is)
+    (pays_fault (ready_steps (engine_of c.eval.new.scope)) (ready_steps (engine_of c.eval.new.scope)) (named_steps s (tree_of x)) s c.eval.new.scope c.args.steps.now c.eval.new.steps f c.from_residual.result c.from_residual.ensures.1 c.in_err-operand-in-Unary.ensures.within)
+
+pub eval-returns-in_ok-right-in-Binary-clause-within : goal.eval-returns-in_ok-right-in-Binary-clause-within
+eval-returns-in_ok-right-in-Binary-clause-within g t c =
+    let s = c.args.scope.now in
+    let x = c.deref-in-Binary.result.now in
+    let y = c.deref-in-Binary-2.result.now in
+    let mid = c.eval-in-Binary.new.scope in
+    let late = c.eval-in-Binary-2.new.scope in
+    let is = binary_tree c.args.value.now x y c.in-Binary.op _ _ c.in-Binary.is c.deref-in-Binary.ensures c.deref-in-Binary-2.ensures in
+    let v = c.in_ok-left-in-Binary.left in
+    let u = c.in_ok-right-in-Binary.right in
+    let wanted = binary_each c.in-Binary.op (array_in late.arrays v) (array_in late.arrays u) in
+    let first = c.cost_laws.ensures.older s mid c.in_order.ensures c.in_order-in-Binary.ensures c.eval-in-Binary.ensures.grown in
+    let next = c.cost_laws.ensures.older mid late c.in_order-in-Binary.ensures c.in_order-in-Binary-2.ensures c.eval-in-Binary-2.ensures.grown in
+    let fewer = names_less s mid c.eval-in-Binary.ensures.grown.names (names_live s c.in_order.ensures.whole) first (tree_of y) in
+    subst (λ (z : Tree). EvaluatesWithin (named_steps s z) s c.binary-made.new.self c.args.steps.now c.binary-made.new.steps c.binary-made.result) (sym is)
+    (binary_within c.cost_laws.ensures.roots c.cost_laws.ensures.made c.cost_laws.ensures.grown s mid late c.binary-made.new.self wanted (named_steps s (tree_of x)) (named_steps mid (tree_of y)) (named_steps s (tree_of y)) c.args.steps.now c.eval-in-Binary.new.steps c.eval-in-Binary-2.new.steps c.binary-made.new.steps v u c.binary-made.result
+    c.in_order-in-Binary-3.ensures c.binary-made.ensures.grown c.in_ok-left-in-Binary.ensures.value.1 next c.in_ok-left-in-Binary.ensures.within fewer c.in_ok-right-in-Binary.ensures.within c.binary-made.ensures.value c.binary-made.ensures.counted)
+
+pub eval-returns-in_err-left-in-Binary-clause-within : goal.eval-returns-in_err-left-in-Binary-clause-within
+eval-returns-in_err-left-in-Binary-clause-within g t c =
+    let s = c.args.scope.now in
+    let x = c.deref-in-Binary.result.now in
+    let y = c.in-Binary.right.value in
+    let is = binary_tree c.args.value.now x y c.in-Binary.op _ _ c.in-Binary.is c.deref-in-Binary.ensures refl in
+    let f = c.in_err-left-in-Binary.field-0.0 in
+    let new = c.eval-in-Binary.new.scope in
+    let owed = ready_steps (engine_of new) in
+    subst (λ (z : Tree). EvaluatesWithin (named_steps s z) s new c.args.steps.now c.eval-in-Binary.new.steps c.from_residual-in_err-left-in-Binary.result) (sym is)
+    (paid_more owed (named_steps s (tree_of x)) (named_steps s (tree_of x) + named_steps s (tree_of y)) s new c.args.steps.now c.eval-in-Binary.new.steps c.from_residual-in_err-left-in-Binary.result (omega arith)
+    (pays_fault owed owed (named_steps s (tree_of x)) s new c.args.steps.now c.eval-in-Binary.new.steps f c.from_residual-in_err-left-in-Binary.result c.from_residual-in_err-left-in-Binary.ensures.1 c.in_err-left-in-Binary.ensures.within))
+
+pub eval-returns-in_err-right-in-Binary-clause-within : goal.eval-returns-in_err-right-in-Binary-clause-within
+eval-returns-in_err-right-in-Binary-clause-within g t c =
+    let s = c.args.scope.now in
+    let x = c.deref-in-Binary.result.now in
+    let y = c.deref-in-Binary-2.result.now in
+    let mid = c.eval-in-Binary.new.scope in
+    let late = c.eval-in-Binary-2.new.scope in
+    let is = binary_tree c.args.value.now x y c.in-Binary.op _ _ c.in-Binary.is c.deref-in-Binary.ensures c.deref-in-Binary-2.ensures in
+    let f = c.in_err-right-in-Binary.field-0.0 in
+    let first = c.cost_laws.ensures.older s mid c.in_order.ensures c.in_order-in-Binary.ensures c.eval-in-Binary.ensures.grown in
+    let fewer = names_less s mid c.eval-in-Binary.ensures.grown.names (names_live s c.in_order.ensures.whole) first (tree_of y) in
+    subst (λ (z : Tree). EvaluatesWithin (named_steps s z) s late c.args.steps.now c.eval-in-Binary-2.new.steps c.from_residual-in_err-right-in-Binary.result) (sym is)
+    (right_refused s mid late (named_steps s (tree_of x)) (named_steps mid (tree_of y)) (named_steps s (tree_of y)) c.args.steps.now c.eval-in-Binary.new.steps c.eval-in-Binary-2.new.steps c.in_ok-left-in-Binary.left f c.from_residual-in_err-right-in-Binary.result c.from_residual-in_err-right-in-Binary.ensures.1
+    c.in_ok-left-in-Binary.ensures.within fewer c.in_err-right-in-Binary.ensures.within)
+
+pub eval-returns-in_ok-given-in-Call-clause-within : goal.eval-returns-in_ok-given-in-Call-clause-within
+eval-returns-in_ok-given-in-Call-clause-within g t c =
+    let s = c.args.scope.now in
+    let mid = c.take.new.scope in
+    let xs = c.deref-in-Call.result.now in
+    let e : tree_of c.args.value.now ≡ call c.in-Call.name (args_of xs none) = tree_is c.args.value.now c.in-Call.name c.in-Call.args xs (c.calls_are_trees.ensures c.in-Call.name c.in-Call.args) c.in-Call.is c.deref-in-Call.ensures.value in
+    let G : List Given → Type 0 = λ gs. c.take.new.steps + ready_all mid c.in_ok-given-in-Call.given.items + total_size s.arrays.world ≤ c.args.steps.now + total_size mid.arrays.world + (argued_steps s (args_of xs none) + ready_all s gs) in
+    let taken : G [] = subst G c.new-none.ensures.items c.in_ok-given-in-Call.ensures.within in
+    let H : List Given → Type 0 = λ gs. EvaluatesWithin (ready_all mid gs) mid c.call.new.scope c.take.new.steps c.call.new.steps c.call.result in
+    let called = subst H c.deref-in-Call-2.ensures.value c.call.ensures.within in
+    subst (λ (z : Tree). EvaluatesWithin (named_steps s z) s c.call.new.scope c.args.steps.now c.call.new.steps c.call.result) (sym e)
+    (paid_on (ready_steps (engine_of c.call.new.scope)) (ready_all mid c.in_ok-given-in-Call.given.items) (argued_steps s (args_of xs none)) s mid c.call.new.scope c.args.steps.now c.take.new.steps c.call.new.steps c.call.result (omega (arith, taken)) called)
+
+pub eval-returns-in_err-given-in-Call-clause-within : goal.eval-returns-in_err-given-in-Call-clause-within
+eval-returns-in_err-given-in-Call-clause-within g t c =
+    let s = c.args.scope.now in
+    let xs = c.deref-in-Call.result.now in
+    let new = c.take.new.scope in
+    let f = c.in_err-given-in-Call.field-0.0 in
+    let e : tree_of c.args.value.now ≡ call c.in-Call.name (args_of xs none) = tree_is c.args.value.now c.in-Call.name c.in-Call.args xs (c.calls_are_trees.ensures c.in-Call.name c.in-Call.args) c.in-Call.is c.deref-in-Call.ensures.value in
+    let owed : ℕ → ℕ = ready_steps (engine_of new) in
+    let G : List Given → Type 0 = λ gs. PaysWithin owed (argued_steps s (args_of xs none) + ready_all s gs) s new c.args.steps.now c.take.new.steps (Err f) in
+    let due : Vec Given Global → ℕ = λ all. ready_all new all.items in
+    let taken : G c.new-none.result.items = err_again due owed (argued_steps s (args_of xs none) + ready_all s c.new-none.result.items) s new c.args.steps.now c.take.new.steps f c.in_err-given-in-Call.ensures.within in
+    subst (λ (z : Tree). EvaluatesWithin (named_steps s z) s new c.args.steps.now c.take.new.steps c.from_residual-in_err-given-in-Call.result) (sym e)
+    (paid_more owed (argued_steps s (args_of xs none) + 0) (argued_steps s (args_of xs none)) s new c.args.steps.now c.take.new.steps c.from_residual-in_err-given-in-Call.result (omega arith)
+    (pays_fault owed owed (argued_steps s (args_of xs none) + 0) s new c.args.steps.now c.take.new.steps f c.from_residual-in_err-given-in-Call.result c.from_residual-in_err-given-in-Call.ensures.1 (subst G c.new-none.ensures.items taken)))
+
+pub take-returns-clause-within : goal.take-returns-clause-within
+take-returns-clause-within g t c =
+    let part = argued_part c.args.scope.now c.args.args.now c.loop-arg.arg-index in
+    omega (arith, c.loop-arg.invariant.within, part)
+
+pub take-returns-in_err-one-clause-within : goal.take-returns-in_err-one-clause-within
+take-returns-in_err-one-clause-within g t c =
+    let s = c.args.scope.now in
+    let mid = c.loop-arg.scope in
+    let late = c.take_one.new.scope in
+    let first = c.cost_laws.ensures.older s mid c.in_order.ensures c.in_order-in-loop-arg.ensures c.loop-arg.invariant.grown in
+    let fewer = args_less s mid c.loop-arg.invariant.grown.names (names_live s c.in_order.ensures.whole) first (argument_of c.arg-item.result none) in
+    taken_refused _ s mid late c.args.args.now c.loop-arg.given.items c.arg-item.result c.loop-arg.arg-index (ready_all s c.args.given.items) c.args.steps.now c.loop-arg.steps c.take_one.new.steps c.in_err-one.field-0.0 c.from_residual.result (omega arith) c.arg-item.is fewer
+    c.loop-arg.invariant.within c.from_residual.ensures.1 c.in_err-one.ensures.within
+
+pub take-returns-in_err-push-clause-within : goal.take-returns-in_err-push-clause-within
+take-returns-in_err-push-clause-within g t c = pays_nothing _ _ c.args.scope.now c.take_one.new.scope c.args.steps.now c.take_one.new.steps c.from_residual-in_err-push.result c.from_residual-in_err-push.ensures.1

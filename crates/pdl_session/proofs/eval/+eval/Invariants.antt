@@ -1,4 +1,6 @@
-use Rattle.std.proofs.Common.{◌≡◌, ◌+◌, Ok}
+use Rattle.std.proofs.Common.{◌≡◌, ◌+◌, ◌≤◌, Ok}
+use Rattle.pdl_scope.specs.Costs.{total_size}
+use Rattle.pdl_session.specs.Costs.{argued_steps, ready_all}
 use Rattle.std.specs.Prelude.{take}
 use Rattle.pdl_syntax.specs.Tree.{Args, none}
 use Rattle.pdl_syntax.specs.TreeOf.{tree_of, args_of, argument_of}
@@ -16,6 +18,8 @@ invariant-take-loop-arg g l = record {
       → taken l.fn.scope.names a (args_of (take l.arg-index l.args) front) ≡ Ok (l.scope.arrays, arguments l.given.items);
   grown : Grows l.fn.scope l.scope;
   live : AreGivenLive l.scope.arrays.world l.given.items;
+  within : l.steps + ready_all l.scope l.given.items + total_size l.fn.scope.arrays.world
+      ≤ l.fn.steps + total_size l.scope.arrays.world + (argued_steps l.fn.scope (args_of (take l.arg-index l.args) none) + ready_all l.fn.scope l.fn.given.items);
 }
 
 abbrev pub decreases-eval : goal.decreases-eval

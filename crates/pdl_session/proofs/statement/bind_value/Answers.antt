@@ -1,9 +1,19 @@
 use Rattle.pdl_syntax.specs.TreeOf.{tree_of}
 use Rattle.pdl_machine.specs.Value.{value_of}
+use Rattle.pdl_session.specs.Costs.{named_steps}
+use Rattle.pdl_session.proofs.Expressions.{bound_within, refused_within}
 use Rattle.pdl_session.proofs.Statements.{runs_bound}
 use Rattle.pdl_session.proofs.statement.bind_value.Goals as goal
 
-pub returns : goal.returns
-returns g c =
+pub returns-clause-runs : goal.returns-clause-runs
+returns-clause-runs g c =
     runs_bound c.bind.result c.args.scope.now c.eval.new.scope c.bind.new.self c.args.name.now (value_of c.args.scope.now.names c.args.scope.now.arrays (tree_of c.args.value.now)) c.in_ok-id.id
     c.in_ok-id.ensures.value.0 c.in_ok-id.ensures.grown c.bind.ensures.runs
+
+pub returns-clause-within : goal.returns-clause-within
+returns-clause-within g c =
+    bound_within c.bind.result c.args.scope.now c.eval.new.scope c.bind.new.self (named_steps c.args.scope.now (tree_of c.args.value.now)) c.args.steps.now c.eval.new.steps c.in_ok-id.id c.in_ok-id.ensures.within c.bind.ensures.arrays
+
+pub returns-in_err-id-clause-within : goal.returns-in_err-id-clause-within
+returns-in_err-id-clause-within g c =
+    refused_within c.from_residual.result c.in_err-id.field-0.0 c.args.scope.now c.eval.new.scope (named_steps c.args.scope.now (tree_of c.args.value.now)) c.args.steps.now c.eval.new.steps c.from_residual.ensures.1 c.in_err-id.ensures.within

@@ -52,7 +52,7 @@ returns-in-Bind-default-default-false-clause-performs g c =
     let wanted : Bool → Stepped = λ b. effect (present_in (slots_by g.W.Watcher.seen c.args.watchers.now.items)) (machine s) (bind c.in-Bind-default-default-false.name (tree_of c.in-Bind-default-default-false.value) b) in
     let P : Statement → Type 0 = λ t. Performs (effect (present_in (slots_by g.W.Watcher.seen c.args.watchers.now.items)) (machine s) (statement_of t)) s c.bind_value.new.scope out out c.bind_value.result in
     let Q : Bool → Type 0 = λ b. Performs (wanted b) s c.bind_value.new.scope out out c.bind_value.result in
-    subst P (sym c.in-Bind-default-default-false.is) (subst Q (sym c.in-Bind-default-default-false.sever-test ∙ c.in-Bind-default-default-false.sever-is) (silent c.bind_value.result (wanted false) s c.bind_value.new.scope out c.bind_value.ensures))
+    subst P (sym c.in-Bind-default-default-false.is) (subst Q (sym c.in-Bind-default-default-false.sever-test ∙ c.in-Bind-default-default-false.sever-is) (silent c.bind_value.result (wanted false) s c.bind_value.new.scope out c.bind_value.ensures.runs))
 
 pub returns-in-Sever-clause-performs : goal.returns-in-Sever-clause-performs
 returns-in-Sever-clause-performs g c =

@@ -5,11 +5,11 @@ use Rattle.pdl_nodes.proofs.Finds.{has_below}
 use Rattle.pdl_nodes.proofs.Relaying.{IsNext, IsOn, next_on, on_begins, on_ends, on_goes, on_smaller, relaid_allows}
 use Rattle.pdl_nodes.proofs.table.Table.relaid.Goals as goal
 
-pub overflow_add-id : goal.overflow_add-id
-overflow_add-id c = let low : c.args.id < 18446744073709551615 = has_below c.args.self.now 18446744073709551615 c.args.id c.requires.small c.requires.live in omega arith
+pub first_below-next-requires : goal.first_below-next-requires
+first_below-next-requires c = record { small = has_below c.args.self.now 18446744073709551615 c.args.id c.requires.small c.requires.live }
 
 pub loop-next-init : goal.loop-next-init
-loop-next-init c = subst (λ (ls : Layouts). IsOn ls c.args.self.now c.args.id c.args.dims.now c.from-next.result) (sym c.new-layouts.ensures) (on_begins c.breaking_laws.ensures.below c.args.self.now c.args.id c.args.dims.now c.from-next.result c.requires.sound c.requires.still c.from-next.ensures)
+loop-next-init c = subst (λ (ls : Layouts). IsOn ls c.args.self.now c.args.id c.args.dims.now c.first_below-next.result) (sym c.new-layouts.ensures) (on_begins c.breaking_laws.ensures.below c.args.self.now c.args.id c.args.dims.now c.first_below-next.result c.requires.sound c.requires.still c.requires.live c.requires.small c.first_below-next.ensures)
 
 pub relay_in-requires-clause-live : goal.relay_in-requires-clause-live
 relay_in-requires-clause-live c = (next_on c.loop-next.layouts c.args.self.now c.args.id c.args.dims.now c.loop-next.next c.in-Some.newer c.loop-next.invariant c.in-Some.is).live
@@ -29,12 +29,12 @@ overflow_add-newer c =
 pub loop-next-smaller : goal.loop-next-smaller
 loop-next-smaller c =
     let n : IsNext c.loop-next.layouts c.args.self.now c.args.id c.args.dims.now c.in-Some.newer = next_on c.loop-next.layouts c.args.self.now c.args.id c.args.dims.now c.loop-next.next c.in-Some.newer c.loop-next.invariant c.in-Some.is in
-    on_smaller c.args.self.now c.in-Some.newer c.loop-next.next c.from-next-in-Some.result c.requires.still c.requires.small n.live c.in-Some.is c.from-next-in-Some.ensures
+    on_smaller c.args.self.now c.in-Some.newer c.loop-next.next c.from-next.result c.requires.still c.requires.small n.live c.in-Some.is c.from-next.ensures
 
 pub loop-next-preserved : goal.loop-next-preserved
 loop-next-preserved c =
     let n : IsNext c.loop-next.layouts c.args.self.now c.args.id c.args.dims.now c.in-Some.newer = next_on c.loop-next.layouts c.args.self.now c.args.id c.args.dims.now c.loop-next.next c.in-Some.newer c.loop-next.invariant c.in-Some.is in
-    on_goes c.relay_in.new.layouts c.args.self.now c.args.id c.args.dims.now c.in-Some.newer c.from-next-in-Some.result c.requires.still n.newer c.in_ok-relay_in.ensures.after c.from-next-in-Some.ensures
+    on_goes c.relay_in.new.layouts c.args.self.now c.args.id c.args.dims.now c.in-Some.newer c.from-next.result c.requires.still n.newer c.in_ok-relay_in.ensures.after c.from-next.ensures
 
 pub returns-clause-laid : goal.returns-clause-laid
 returns-clause-laid c = on_ends c.loop-next.layouts c.args.self.now c.args.id c.args.dims.now c.loop-next.next c.loop-next.invariant c.in_default.is

@@ -1,4 +1,4 @@
-use Rattle.std.proofs.Common.{◌≡◌, sym, ◌∙◌, ap}
+use Rattle.std.proofs.Common.{sym, ◌∙◌, ap}
 use Rattle.pdl_nodes.specs.Row.{Row}
 use Rattle.pdl_nodes.proofs.Relaying.{relaying_apart}
 use Rattle.pdl_nodes.proofs.table.Table.relay_in.Goals as goal

@@ -7,14 +7,14 @@ use Rattle.pdl_nodes.proofs.RenewLoop.{can_left, each_left, later_up, left_begin
 use Rattle.pdl_nodes.proofs.RenewOrder.{none_marked}
 use Rattle.pdl_nodes.proofs.table.Table.renew.Goals as goal
 
-pub overflow_add-id : goal.overflow_add-id
-overflow_add-id c = let low : c.args.id < 18446744073709551615 = has_below c.args.self.now 18446744073709551615 c.args.id c.requires.small c.requires.can.live in omega arith
+pub first_below-next-requires : goal.first_below-next-requires
+first_below-next-requires c = record { small = has_below c.args.self.now 18446744073709551615 c.args.id c.requires.small c.requires.can.live }
 
 pub node-requires : goal.node-requires
 node-requires c = record { live = c.requires.can.live }
 
 pub loop-next-init : goal.loop-next-init
-loop-next-init c = (renewing_none c.args.layouts c.args.self.now c.args.id c.args.dims.now c.args.kept.elems c.become_root.new.self c.from-next.result c.requires.can.order.still c.requires.can.live c.become_root.ensures c.from-next.ensures, left_begins c.args.layouts c.from-next.result)
+loop-next-init c = (renewing_none c.args.layouts c.args.self.now c.args.id c.args.dims.now c.args.kept.elems c.become_root.new.self c.first_below-next.result c.requires.can.order.still c.requires.can.live c.requires.small c.become_root.ensures c.first_below-next.ensures, left_begins c.args.layouts c.first_below-next.result)
 
 pub renew_in-requires-clause-live : goal.renew_in-requires-clause-live
 renew_in-requires-clause-live c = renewing_live c.args.layouts c.args.self.now c.args.id c.args.dims.now c.args.kept.elems c.loop-next.self c.loop-next.next c.in-Some.newer c.loop-next.invariant.0 c.in-Some.is
@@ -39,9 +39,9 @@ pub loop-next-preserved : goal.loop-next-preserved
 loop-next-preserved c =
     let rows : c.renew_in.new.self ≡ each (renewed_in c.args.layouts c.args.id c.loop-next.self c.in-Some.newer) c.loop-next.self =
     c.renew_in.ensures.rows ∙ each_left c.args.layouts c.loop-next.layouts c.args.id c.loop-next.self c.loop-next.self c.in-Some.newer (renewing_falls c.args.layouts c.args.self.now c.args.id c.args.dims.now c.args.kept.elems c.loop-next.self c.loop-next.next c.requires.can.order.still c.loop-next.invariant.0) (left_here c.args.layouts c.loop-next.layouts c.loop-next.next c.in-Some.newer c.loop-next.invariant.1 c.in-Some.is) in (
-      renewing_more c.args.layouts c.args.self.now c.args.id c.args.dims.now c.args.kept.elems c.loop-next.self c.renew_in.new.self c.loop-next.next c.from-next-in-Some.result c.in-Some.newer c.requires.can.order.still c.loop-next.invariant.0 c.in-Some.is rows c.from-next-in-Some.ensures,
-      left_goes c.args.layouts c.loop-next.layouts c.renew_in.new.layouts c.loop-next.next c.from-next-in-Some.result c.in-Some.newer c.loop-next.invariant.1 c.in-Some.is
-          (later_up c.args.layouts c.args.self.now c.args.id c.args.dims.now c.args.kept.elems c.loop-next.self c.renew_in.new.self c.loop-next.next c.from-next-in-Some.result c.in-Some.newer c.requires.can.order.still c.loop-next.invariant.0 c.in-Some.is rows c.from-next-in-Some.ensures)
+      renewing_more c.args.layouts c.args.self.now c.args.id c.args.dims.now c.args.kept.elems c.loop-next.self c.renew_in.new.self c.loop-next.next c.from-next.result c.in-Some.newer c.requires.can.order.still c.loop-next.invariant.0 c.in-Some.is rows c.from-next.ensures,
+      left_goes c.args.layouts c.loop-next.layouts c.renew_in.new.layouts c.loop-next.next c.from-next.result c.in-Some.newer c.loop-next.invariant.1 c.in-Some.is
+          (later_up c.args.layouts c.args.self.now c.args.id c.args.dims.now c.args.kept.elems c.loop-next.self c.renew_in.new.self c.loop-next.next c.from-next.result c.in-Some.newer c.requires.can.order.still c.loop-next.invariant.0 c.in-Some.is rows c.from-next.ensures)
           c.renew_in.ensures.left,
     )
 
@@ -49,7 +49,7 @@ pub loop-next-smaller : goal.loop-next-smaller
 loop-next-smaller c =
     let rows : c.renew_in.new.self ≡ each (renewed_in c.args.layouts c.args.id c.loop-next.self c.in-Some.newer) c.loop-next.self =
     c.renew_in.ensures.rows ∙ each_left c.args.layouts c.loop-next.layouts c.args.id c.loop-next.self c.loop-next.self c.in-Some.newer (renewing_falls c.args.layouts c.args.self.now c.args.id c.args.dims.now c.args.kept.elems c.loop-next.self c.loop-next.next c.requires.can.order.still c.loop-next.invariant.0) (left_here c.args.layouts c.loop-next.layouts c.loop-next.next c.in-Some.newer c.loop-next.invariant.1 c.in-Some.is) in
-    renewing_smaller c.args.layouts c.args.self.now c.args.id c.args.dims.now c.args.kept.elems c.loop-next.self c.renew_in.new.self c.loop-next.next c.from-next-in-Some.result c.in-Some.newer c.requires.can.order.still c.requires.small c.loop-next.invariant.0 c.in-Some.is rows c.from-next-in-Some.ensures
+    renewing_smaller c.args.layouts c.args.self.now c.args.id c.args.dims.now c.args.kept.elems c.loop-next.self c.renew_in.new.self c.loop-next.next c.from-next.result c.in-Some.newer c.requires.can.order.still c.requires.small c.loop-next.invariant.0 c.in-Some.is rows c.from-next.ensures
 
 pub unlist-requires : goal.unlist-requires
 unlist-requires c =

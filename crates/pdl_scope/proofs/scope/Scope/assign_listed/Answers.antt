@@ -1,4 +1,5 @@
 use Rattle.std.proofs.Common.{◌≡◌, ◌+◌, ◌≤◌, true, [], length, Ok, sym, ap, subst, ◌∙◌, arith}
+use Rattle.std.specs.Prelude.{sum_by}
 use Rattle.pdl_world.specs.World.{World, assign, dims_in}
 use Rattle.pdl_machine.specs.State.{State, with_arrays, AreLive}
 use Rattle.pdl_machine.specs.Step.{assigned}
@@ -12,6 +13,7 @@ use Rattle.pdl_scope.proofs.Watched.{live_back}
 use Rattle.pdl_shape.specs.Shape.{size_of}
 use Rattle.pdl_world.specs.Sound.{IsLive}
 use Rattle.pdl_engine.specs.Reading.{KeepsViews, read_steps}
+use Rattle.pdl_scope.proofs.Costs.{all_no_dearer}
 use Rattle.pdl_scope.proofs.Bounds.{read_views, warmed, written_views}
 use Rattle.pdl_scope.proofs.scope.Scope.assign_listed.Goals as goal
 
@@ -84,28 +86,34 @@ pub returns-clause-counted : goal.returns-clause-counted
 returns-clause-counted g c =
     let v = c.args.target in
     let u = c.args.value in
-    let P : Seen → Type 0 = λ s. attached s.watches ≡ [] → c.assign.new.steps ≤ c.args.steps.now + (read_steps (engine_of s) v + read_steps (engine_of s) u) + size_of (dims_in s.arrays.world v) in
-    subst P c.self.view_is (λ none.
+    let e = c.self.inside.engine in
+    let ws = c.self.inside.watches.items in
+    let P : Seen → Type 0 = λ s. c.assign.new.steps ≤ c.args.steps.now + (read_steps (engine_of s) v + read_steps (engine_of s) u) + sum_by (read_steps (engine_of s)) (attached s.watches) + size_of (dims_in s.arrays.world v) in
     let found = c.written.ensures.counted in
-    let told : c.foreseen.new.steps ≡ c.written.new.steps = c.foreseen.ensures.quiet (ap attached c.deref-2.ensures.value ∙ none) in
+    let told : c.foreseen.new.steps ≤ c.written.new.steps + sum_by (read_steps c.written.new.engine) (attached ws) =
+    subst (λ (us : Watches). c.foreseen.new.steps ≤ c.written.new.steps + sum_by (read_steps c.written.new.engine) (attached us)) c.deref-2.ensures.value c.foreseen.ensures.counted in
+    let less = all_no_dearer e c.written.new.engine (attached ws) c.written.ensures.costs (live_back e.world (numbers c.self.inside.names.entries) (attached ws) c.self.invariant.whole.live) in
     let count : length c.deref-3.result.now ≡ size_of (dims_in c.written.new.engine.world v) = ap length c.deref-3.ensures.value ∙ c.in-Ok.ensures.made.count in
-    let sizes : size_of (dims_in c.written.new.engine.world v) ≡ size_of (dims_in c.self.inside.engine.world v) = ap (λ w. size_of (dims_in w v)) c.written.ensures.same.world in
+    let sizes : size_of (dims_in c.written.new.engine.world v) ≡ size_of (dims_in e.world v) = ap (λ w. size_of (dims_in w v)) c.written.ensures.same.world in
     let moved = c.assign.ensures.counted in
-    omega (arith, found, told, count, sizes, moved))
+    subst P c.self.view_is (omega (arith, found, told, less, count, sizes, moved))
 
 pub returns-in-Err-clause-counted : goal.returns-in-Err-clause-counted
 returns-in-Err-clause-counted g c =
     let v = c.args.target in
     let u = c.args.value in
-    let P : Seen → Type 0 = λ s. attached s.watches ≡ [] → c.written.new.steps ≤ c.args.steps.now + (read_steps (engine_of s) v + read_steps (engine_of s) u) + size_of (dims_in s.arrays.world v) in
-    subst P c.self.view_is (λ none. let found = c.written.ensures.counted in omega (arith, found))
+    let P : Seen → Type 0 = λ s. c.written.new.steps ≤ c.args.steps.now + (read_steps (engine_of s) v + read_steps (engine_of s) u) + sum_by (read_steps (engine_of s)) (attached s.watches) + size_of (dims_in s.arrays.world v) in
+    subst P c.self.view_is (let found = c.written.ensures.counted in omega (arith, found))
 
 pub returns-in_err-all-clause-counted : goal.returns-in_err-all-clause-counted
 returns-in_err-all-clause-counted g c =
     let v = c.args.target in
     let u = c.args.value in
-    let P : Seen → Type 0 = λ s. attached s.watches ≡ [] → c.foreseen.new.steps ≤ c.args.steps.now + (read_steps (engine_of s) v + read_steps (engine_of s) u) + size_of (dims_in s.arrays.world v) in
-    subst P c.self.view_is (λ none.
+    let e = c.self.inside.engine in
+    let ws = c.self.inside.watches.items in
+    let P : Seen → Type 0 = λ s. c.foreseen.new.steps ≤ c.args.steps.now + (read_steps (engine_of s) v + read_steps (engine_of s) u) + sum_by (read_steps (engine_of s)) (attached s.watches) + size_of (dims_in s.arrays.world v) in
     let found = c.written.ensures.counted in
-    let told : c.foreseen.new.steps ≡ c.written.new.steps = c.foreseen.ensures.quiet (ap attached c.deref-2.ensures.value ∙ none) in
-    omega (arith, found, told))
+    let told : c.foreseen.new.steps ≤ c.written.new.steps + sum_by (read_steps c.written.new.engine) (attached ws) =
+    subst (λ (us : Watches). c.foreseen.new.steps ≤ c.written.new.steps + sum_by (read_steps c.written.new.engine) (attached us)) c.deref-2.ensures.value c.foreseen.ensures.counted in
+    let less = all_no_dearer e c.written.new.engine (attached ws) c.written.ensures.costs (live_back e.world (numbers c.self.inside.names.entries) (attached ws) c.self.invariant.whole.live) in
+    subst P c.self.view_is (omega (arith, found, told, less))

@@ -10,7 +10,7 @@ use Rattle.pdl_scope.specs.Answers.{Prints}
 use Rattle.pdl_scope.specs.Scope.{arrays_of, machine, names_in, Grows, Scope as Seen}
 use Rattle.pdl_buf.specs.Made.{IsMade}
 use Rattle.pdl_buf.specs.declared.made.Made.{Made}
-use Rattle.pdl_scope.proofs.Newest.{root_within}
+use Rattle.pdl_scope.proofs.Newest.{made_first, made_more, root_within}
 use Rattle.pdl_scope.proofs.Cuts.{held_same}
 use Rattle.pdl_scope.proofs.Growing.{live_too}
 use Rattle.pdl_scope.proofs.Held.{held_defined}
@@ -42,6 +42,7 @@ loop-i-init g c =
       live = subst L none tt;
       many = ap length (sym none);
       within = omega arith;
+      counted = omega arith;
     }
 
 pub loop-i-preserved : goal.loop-i-preserved
@@ -72,6 +73,7 @@ loop-i-preserved g c =
       grown = grows_trans c.args.self.now s mid c.loop-i.invariant.grown c.make_like.ensures.grown;
       live = subst L items (live_too s mid more x id c.make_like.ensures.grown c.loop-i.invariant.live c.in_ok-id.ensures.value.1);
       within = root_within s mid m c.args.self.now c.args.steps.now c.loop-i.steps c.make_like.new.steps id c.loop-i.invariant.within made c.in_ok-id.ensures.value.0 c.make_like.ensures.counted;
+      counted = made_more c.args.outputs.now i c.args.steps.now c.loop-i.steps c.make_like.new.steps m (omega arith) c.index-outputs-i.is c.loop-i.invariant.counted c.make_like.ensures.counted;
       many = ap length (sym items) ∙ one_longer more (x, id) ∙ ap (λ n. n + 1) c.loop-i.invariant.many;
     }
 
@@ -130,3 +132,27 @@ invariant_of-self-2 g c =
     let leaving = c.reserve-2.new.self.items in
     let held = held_same c.self-2.inside.names.entries names ks ws e c.self-2.inside.leaving.items leaving c.reserve.ensures.names c.reserve-2.ensures.items c.self-2.invariant in
     held_defined c.bind_all.new.names.entries [] ks ws c.bind_all.new.engine c.bind_all.new.leaving.items (c.bind_all.ensures.held ws (held_defined names ks [] ws e leaving held))
+
+pub returns-in_err-id-clause-counted : goal.returns-in_err-id-clause-counted
+returns-in_err-id-clause-counted g c =
+    let ms = c.args.outputs.now in
+    let i = c.loop-i.i in
+    made_first ms (i + 1) c.args.steps.now c.make_like.new.steps (made_more ms i c.args.steps.now c.loop-i.steps c.make_like.new.steps c.index-outputs-i.result (omega arith) c.index-outputs-i.is c.loop-i.invariant.counted c.make_like.ensures.counted)
+
+pub returns-in_err-push-clause-counted : goal.returns-in_err-push-clause-counted
+returns-in_err-push-clause-counted g c =
+    let ms = c.args.outputs.now in
+    let i = c.loop-i.i in
+    made_first ms (i + 1) c.args.steps.now c.make_like.new.steps (made_more ms i c.args.steps.now c.loop-i.steps c.make_like.new.steps c.index-outputs-i.result (omega arith) c.index-outputs-i.is c.loop-i.invariant.counted c.make_like.ensures.counted)
+
+pub returns-in_err-name-clause-counted : goal.returns-in_err-name-clause-counted
+returns-in_err-name-clause-counted g c = made_first c.args.outputs.now c.loop-i.i c.args.steps.now c.loop-i.steps c.loop-i.invariant.counted
+
+pub returns-in_err-reserve-clause-counted : goal.returns-in_err-reserve-clause-counted
+returns-in_err-reserve-clause-counted g c = made_first c.args.outputs.now c.loop-i.i c.args.steps.now c.loop-i.steps c.loop-i.invariant.counted
+
+pub returns-in_err-reserve-2-clause-counted : goal.returns-in_err-reserve-2-clause-counted
+returns-in_err-reserve-2-clause-counted g c = made_first c.args.outputs.now c.loop-i.i c.args.steps.now c.loop-i.steps c.loop-i.invariant.counted
+
+pub returns-clause-counted : goal.returns-clause-counted
+returns-clause-counted g c = made_first c.args.outputs.now c.loop-i.i c.args.steps.now c.loop-i.steps c.loop-i.invariant.counted

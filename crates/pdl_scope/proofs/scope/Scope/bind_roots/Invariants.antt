@@ -1,4 +1,7 @@
 use Rattle.std.proofs.Common.{◌≡◌, ◌+◌, ◌≤◌, length, map, take, drop}
+use Rattle.std.specs.Prelude.{sum_by}
+use Rattle.pdl_numbers.specs.Typed.{count_moved}
+use Rattle.pdl_buf.specs.declared.made.Made.{Made}
 use Rattle.pdl_machine.specs.Names.{names_limit}
 use Rattle.pdl_machine.specs.State.{AreLive}
 use Rattle.pdl_machine.specs.Step.{roots_bound}
@@ -18,4 +21,5 @@ invariant-loop-i g l = record {
   live : AreLive l.self.arrays.world (map (λ n. n.1) l.made.items);
   many : length l.made.items ≡ l.i;
   within : l.steps + total_size l.fn.self.arrays.world ≤ l.fn.steps + total_size l.self.arrays.world;
+  counted : l.steps ≤ l.fn.steps + sum_by (λ (m : Made). count_moved m.elems) (take l.i l.outputs);
 }

@@ -1,0 +1,12 @@
+//! Formulas over arrays, and their evaluation: whole arrays by operators that don't divide, numbers
+//! and conversions (PDL::Ops, PDL::Core, PDL::Dataflow).
+#![tactic(auto)]
+
+mod evaluation;
+mod formula;
+mod kept;
+mod laws;
+
+pub use evaluation::evaluate;
+pub use formula::{Formula, Input};
+pub use laws::meaning_laws;
