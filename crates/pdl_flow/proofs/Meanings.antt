@@ -1,5 +1,5 @@
 -- What a formula goes by, by induction on its tree.
-use Rattle.std.proofs.Common.{◌≡◌, ℕ, suc, List, [], ◌∷◌, ◌++◌, All, Result, Ok, Err, Option, Some, None, arith, refl, ap, ap₂, sym, subst, ◌∙◌}
+use Rattle.std.proofs.Common.{◌≡◌, ℕ, suc, List, [], ◌∷◌, ◌++◌, All, Result, Ok, Err, arith, refl, ap, ap₂, sym, subst, ◌∙◌}
 use Rattle.std.specs.Prelude.{false, IfErr}
 use Rattle.std.proofs.lemmas.List.{get_or_append_left, length-append}
 use Rattle.std.proofs.lemmas.List.Elements.{All-cons, All-nil}
@@ -11,7 +11,7 @@ use Rattle.pdl_elem.specs.Types.{InRange, unary_result}
 use Rattle.pdl_buf.specs.declared.made.Made.{Made}
 use Rattle.pdl_ops.specs.declared.OpFault.{OpFault}
 use Rattle.pdl_ops.specs.declared.OpFault.TheVariants.{Mismatch, TooLarge, DivideByZero, NoMemory}
-use Rattle.pdl_ops.specs.Answers.{Answers, IsRefused}
+use Rattle.pdl_ops.specs.Answers.{Answers}
 use Rattle.pdl_ops.specs.Elementwise.{OpRefusal, converted, elementwise, unary_each}
 use Rattle.pdl_ops.specs.Laws.{ArrayLaws, FormLaws, IsArray, IsUndivided, form, form_of}
 use Rattle.pdl_flow.specs.Answers.{NamesNoDivisor}
@@ -132,36 +132,6 @@ pub arrays : ArrayLaws → (g : ℕ → Made) (f : FormulaTree) (m : Made) → I
 arrays laws g f m is all e = subst IfArray e (if_array laws g f is all)
 
 -- ---- answers
-
--- an operand that is refused
-pub operand_refused : (f : Made → Result Made OpRefusal) (r : Result Made OpRefusal) (o : Option OpRefusal) → IsRefused r o → IsRefused (and_then r f) o
-operand_refused f r None h = tt
-operand_refused f r (Some refusal) h = ap (λ (s : Result Made OpRefusal). and_then s f) h
-
--- of an operator of two operands: its left one is refused, its right one is, or neither
-pub left_refused : (v : ℕ → Made) (t f e : FormulaTree) (op : BinaryOp) (o : Option OpRefusal) → t ≡ binary op f e → IsRefused (meaning v f) o → IsRefused (meaning v t) o
-left_refused v t f e op o is h =
-    subst (λ (x : FormulaTree). IsRefused (meaning v x) o) (sym is) (operand_refused (λ a. and_then (meaning v e) (λ b. elementwise op a b)) (meaning v f) o h)
-
-pub right_refused : (v : ℕ → Made) (t f e : FormulaTree) (op : BinaryOp) (a : Made) (o : Option OpRefusal) → t ≡ binary op f e → meaning v f ≡ Ok a
-    → IsRefused (meaning v e) o → IsRefused (meaning v t) o
-right_refused v t f e op a o is left h =
-    subst (λ (x : FormulaTree). IsRefused (meaning v x) o) (sym is)
-    (subst (λ (r : Result Made OpRefusal). IsRefused (joined op r (meaning v e)) o) (sym left) (operand_refused (λ b. elementwise op a b) (meaning v e) o h))
-
-pub joined_answers : (v : ℕ → Made) (t f e : FormulaTree) (op : BinaryOp) (a b : Made) (result : Result Made OpFault) → t ≡ binary op f e → meaning v f ≡ Ok a → meaning v e ≡ Ok b
-    → Answers (λ made. made) (elementwise op a b) result → Answers (λ made. made) (meaning v t) result
-joined_answers v t f e op a b result is left right h =
-    subst (λ (x : FormulaTree). Answers (λ made. made) (meaning v x) result) (sym is)
-    (subst (λ (r : Result Made OpRefusal). Answers (λ made. made) (joined op r (meaning v e)) result) (sym left)
-    (subst (λ (r : Result Made OpRefusal). Answers (λ made. made) (joined op (Ok a) r) result) (sym right) h))
-
--- the operands as they are known
-pub same_operands : (op : BinaryOp) (a b c d : Made) (result : Result Made OpFault) → a ≡ c → b ≡ d
-    → Answers (λ made. made) (elementwise op a b) result → Answers (λ made. made) (elementwise op c d) result
-same_operands op a b c d result e f h =
-    subst (λ (x : Made). Answers (λ made. made) (elementwise op x d) result) e
-    (subst (λ (y : Made). Answers (λ made. made) (elementwise op a y) result) f h)
 
 -- a fault that answers what isn't refused for a divisor 0 names none
 pub names_no_divisor : (r : Result Made OpRefusal) (result : Result Made OpFault) → IsUndivided r → Answers (λ made. made) r result → IfErr result NamesNoDivisor

@@ -19,4 +19,5 @@ steps_in value (array k) = 0
 steps_in value (unary op f) = steps_in value f + moved_of (meaning value f)
 steps_in value (convert ty f) = steps_in value f + moved_of (meaning value f)
 steps_in value (binary op f g) =
-    (steps_in value f + moved_of (meaning value f)) + (steps_in value g + moved_of (meaning value g))
+    (steps_in value f + moved_of (meaning value f))
+    + (steps_in value g + moved_of (meaning value g))

@@ -1,25 +1,34 @@
 //! The evaluation of a formula: each operator over whole arrays, the operands before it.
-ghost use Rattle.std.specs.Prelude.{◌≡◌, ◌≤◌, ◌+◌, [], ◌∷◌, ◌++◌, All, IfOk, IfErr, OnOk, IsSomeAnd};
+ghost use Rattle.std.specs.Prelude.{◌≡◌, ◌≤◌, ◌+◌, [], ◌∷◌, ◌++◌, All, Ok, IfOk, IfErr, OnOk, IsSomeAnd};
 ghost use Rattle.pdl_elem.specs.Types.{InRange};
-ghost use Rattle.pdl_numbers.specs.Typed.{count_moved};
+ghost use Rattle.pdl_buf.specs.Made.{array_of};
+ghost use Rattle.pdl_buf.specs.declared.made.Made.{Made};
 ghost use Rattle.pdl_ops.specs.Answers.{Answers};
-ghost use Rattle.pdl_ops.specs.Elementwise.{converted, elementwise, unary_each};
 ghost use Rattle.pdl_ops.specs.Laws.{IsArray};
 ghost use Rattle.pdl_flow.specs.Formula.{IsFormula, arrays_in, tree_of};
 ghost use Rattle.pdl_flow.specs.Inputs.{AreInputs, input_of, value_in};
 ghost use Rattle.pdl_flow.specs.Meaning.{meaning};
+ghost use Rattle.pdl_flow.specs.Parts.{IsChanged, IsEvaluated, IsJoined, IsJoinedAnew, changed};
 ghost use Rattle.pdl_flow.specs.Steps.{steps_in};
 ghost use Rattle.pdl_flow.specs.Answers.{NamesNoDivisor};
 
 use crate::formula::{Formula, Input};
 use crate::kept::Kept;
 use crate::laws::meaning_laws;
-use pdl_buf::{Elements, Made, Steps, tick};
+use pdl_buf::{Elements, Made, Steps, Strided, tick};
 use pdl_elem::{BinaryOp, Ty, UnaryOp};
 use pdl_ops::{OpFault, convert, elementwise, unary_each};
 use pdl_shape::{copy_dims, dims_within};
-use std::alloc::{AllocError, Global};
+use std::alloc::Global;
 use std::sync::ledger::Ledger;
+
+/// What is done to each element of an operand.
+#[derive(Drop)]
+enum Change {
+    Operator(UnaryOp),
+    /// Wrapping to a type.
+    Convert(Ty),
+}
 
 /// The array that a formula is, of the values of the arrays that it reads: each has an input. No
 /// operator of it divides. `Mismatch` or `TooLarge` where an operator is refused so, the left
@@ -58,29 +67,23 @@ fn value_of<L: Ledger>(
 ) -> Result<Made, OpFault>
     requires formula { IsFormula (tree_of formula.now) }
     requires inputs { AreInputs inputs.now (tree_of formula.now) }
-    ensures value { let wanted = meaning (value_in inputs.now) (tree_of formula.now) in
-        Answers (λ made. made) wanted result }
-    ensures made { IfOk result IsArray }
-    ensures counted { OnOk result (steps.new
-        ≡ steps.old + steps_in (value_in inputs.now) (tree_of formula.now)) }
-    ensures at_most { steps.new
-        ≤ steps.old + steps_in (value_in inputs.now) (tree_of formula.now) }
+    ensures { IsEvaluated (value_in inputs.now) (tree_of formula.now) steps.old steps.new result }
 {
     match formula {
-        Formula::Number(ty, value) => Ok(number(alloc, *ty, *value)?),
-        Formula::Array(array) => Ok(copy_of(alloc, *array, inputs)?),
+        Formula::Number(ty, value) => number(alloc, *ty, *value),
+        Formula::Array(array) => copy_of(alloc, *array, inputs),
         Formula::Unary(op, operand) => {
-            let operand = value_of(alloc, operand, inputs, steps)?;
-            Ok(operated(alloc, *op, operand, steps)?)
+            let operand = value_of(alloc, operand, inputs, steps);
+            changed(alloc, Change::Operator(*op), operand, steps)
         }
         Formula::Convert(ty, operand) => {
-            let operand = value_of(alloc, operand, inputs, steps)?;
-            Ok(retyped(alloc, *ty, operand, steps)?)
+            let operand = value_of(alloc, operand, inputs, steps);
+            changed(alloc, Change::Convert(*ty), operand, steps)
         }
         Formula::Binary(op, left, right) => {
             both_have_inputs(left, right, inputs);
             let left = value_of(alloc, left, inputs, steps)?;
-            let right = value_of(alloc, right, inputs, steps)?;
+            let right = value_of(alloc, right, inputs, steps);
             joined(alloc, *op, left, right, steps)
         }
     }
@@ -94,80 +97,90 @@ fn both_have_inputs(left: &Formula, right: &Formula, inputs: &[Input])
     ensures right { AreInputs inputs.now (tree_of right.now) }
 {}
 
-/// An operator of one operand at each element.
-fn operated<L: Ledger>(
+/// An operand changed at each element, or its fault.
+fn changed<L: Ledger>(
     alloc: Global,
-    op: UnaryOp,
-    operand: Made,
+    change: Change,
+    operand: Result<Made, OpFault>,
     steps: &mut Steps<L>,
-) -> Result<Made, AllocError>
-    requires { IsArray operand }
-    ensures value { IfOk result (λ made. made ≡ unary_each op operand) }
-    ensures made { IfOk result IsArray }
-    ensures counted { OnOk result (steps.new ≡ steps.old + count_moved operand.elems) }
-    ensures at_most { steps.new ≤ steps.old + count_moved operand.elems }
+) -> Result<Made, OpFault>
+    requires { IfOk operand IsArray }
+    ensures { IsChanged change operand steps.old steps.new result }
 {
     let operand = Kept::new(alloc, operand, steps)?;
-    unary_each(alloc, op, &operand.whole())
+    changed_window(alloc, change, &operand.whole(alloc))
 }
 
-/// Each element wrapped to a type.
-fn retyped<L: Ledger>(
-    alloc: Global,
-    ty: Ty,
-    operand: Made,
-    steps: &mut Steps<L>,
-) -> Result<Made, AllocError>
-    requires { IsArray operand }
-    ensures value { IfOk result (λ made. made ≡ converted ty operand) }
+/// A window changed at each element.
+fn changed_window(alloc: Global, change: Change, operand: &Strided<'_>) -> Result<Made, OpFault>
+    ensures value { let wanted = Ok (changed change (array_of operand.now)) in
+        Answers (λ made. made) wanted result }
     ensures made { IfOk result IsArray }
-    ensures counted { OnOk result (steps.new ≡ steps.old + count_moved operand.elems) }
-    ensures at_most { steps.new ≤ steps.old + count_moved operand.elems }
 {
-    let operand = Kept::new(alloc, operand, steps)?;
-    convert(alloc, ty, &operand.whole())
+    match change {
+        Change::Operator(op) => Ok(unary_each(alloc, op, operand)?),
+        Change::Convert(ty) => Ok(convert(alloc, ty, operand)?),
+    }
 }
 
-/// An operator of two operands at each position of the joined dimensions.
+/// An operator of two operands at each position of the joined dimensions, or the right operand's
+/// fault.
 fn joined<L: Ledger>(
     alloc: Global,
     op: BinaryOp,
     left: Made,
-    right: Made,
+    right: Result<Made, OpFault>,
     steps: &mut Steps<L>,
 ) -> Result<Made, OpFault>
     requires left { IsArray left }
-    requires right { IsArray right }
-    ensures value { Answers (λ made. made) (elementwise op left right) result }
-    ensures made { IfOk result IsArray }
-    ensures counted { OnOk result (steps.new
-        ≡ steps.old + (count_moved left.elems + count_moved right.elems)) }
-    ensures at_most { steps.new
-        ≤ steps.old + (count_moved left.elems + count_moved right.elems) }
+    requires right { IfOk right IsArray }
+    ensures { IsJoinedAnew op left right steps.old steps.new result }
 {
-    let left = Kept::new(alloc, left, steps)?;
-    let right = Kept::new(alloc, right, steps)?;
-    elementwise(alloc, op, &left.whole(), &right.whole())
+    // both are let go at one place, whether they are there or not
+    let left = Kept::new(alloc, Ok(left), steps);
+    let right = Kept::new(alloc, right, steps);
+    joined_kept(alloc, op, &left, &right)
+}
+
+/// The same of operands that are kept, or the right one's fault, or the left one's.
+fn joined_kept(
+    alloc: Global,
+    op: BinaryOp,
+    left: &Result<Kept, OpFault>,
+    right: &Result<Kept, OpFault>,
+) -> Result<Made, OpFault>
+    ensures { IsJoined op right.now left.now result }
+{
+    match right {
+        Err(fault) => Err(*fault),
+        Ok(right) => match left {
+            Err(fault) => Err(*fault),
+            Ok(left) => elementwise(alloc, op, &left.whole(alloc), &right.whole(alloc)),
+        },
+    }
 }
 
 /// A number as an array without dimensions.
-fn number(alloc: Global, ty: Ty, value: i64) -> Result<Made, AllocError>
+fn number(alloc: Global, ty: Ty, value: i64) -> Result<Made, OpFault>
     requires { InRange ty value }
-    ensures value { IfOk result
-        (λ made. made ≡ record { ty = ty; dims = []; elems = value ∷ [] }) }
+    ensures value { let wanted : Made = record { ty = ty; dims = []; elems = value ∷ [] } in
+        Answers (λ made. made) (Ok wanted) result }
     ensures made { IfOk result IsArray }
 {
-    Ok(Made {
-        ty,
-        dims: dims_within(alloc, &[]),
-        elems: Elements::new(vec![in alloc; value]?),
-    })
+    match vec![in alloc; value] {
+        Ok(items) => Ok(Made {
+            ty,
+            dims: dims_within(alloc, &[]),
+            elems: Elements::new(items),
+        }),
+        Err(_) => Err(OpFault::NoMemory),
+    }
 }
 
 /// The value of an array by its input, anew.
-fn copy_of(alloc: Global, array: u64, inputs: &[Input]) -> Result<Made, AllocError>
+fn copy_of(alloc: Global, array: u64, inputs: &[Input]) -> Result<Made, OpFault>
     requires { IsSomeAnd (input_of inputs.now array) IsArray }
-    ensures value { IfOk result (λ made. made ≡ value_in inputs.now array) }
+    ensures value { Answers (λ made. made) (Ok (value_in inputs.now array)) result }
     ensures made { IfOk result IsArray }
 {
     for input in inputs {

@@ -4,7 +4,7 @@ use pdl_buf::Made;
 use pdl_elem::{BinaryOp, Ty, UnaryOp};
 
 /// A formula over arrays, which are known by their numbers.
-#[derive(Debug, Drop)]
+#[derive(Drop)]
 pub enum Formula {
     /// A number of a type.
     Number(Ty, i64),
@@ -17,7 +17,7 @@ pub enum Formula {
 }
 
 /// The value of the array of this number.
-#[derive(Debug, Drop)]
+#[derive(Drop)]
 pub struct Input {
     pub array: u64,
     pub value: Made,

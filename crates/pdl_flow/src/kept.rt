@@ -1,12 +1,13 @@
 //! An array in a buffer of its own, which is lent as a window.
-ghost use Rattle.std.specs.Prelude.{◌≡◌, ◌+◌, IfOk, OnErr, OnOk};
-ghost use Rattle.pdl_numbers.specs.Typed.{count_moved};
+ghost use Rattle.std.specs.Prelude.{◌≡◌, IfOk};
 ghost use Rattle.pdl_buf.specs.Made.{array_of};
 ghost use Rattle.pdl_ops.specs.Laws.{IsArray};
+ghost use Rattle.pdl_flow.specs.Parts.{IsKept};
 
 use pdl_buf::{Buf, Made, Steps, Strided, buf_of_elements, strided};
-use pdl_shape::{Triple, whole_triple};
-use std::alloc::{AllocError, Global};
+use pdl_ops::OpFault;
+use pdl_shape::{Dims, whole_triple};
+use std::alloc::Global;
 use std::marker::Model;
 use std::sync::ledger::Ledger;
 
@@ -14,47 +15,43 @@ use std::sync::ledger::Ledger;
 #[derive(Drop)]
 pub struct Kept {
     buf: Buf,
-    triple: Triple,
+    dims: Dims,
 }
 
 impl Model for Kept {
     ghost use Rattle.std.specs.Prelude.{◌≡◌, length};
     ghost use Rattle.pdl_shape.specs.Shape.{size_of};
-    ghost use Rattle.pdl_shape.specs.Triple.{Reaches, whole_triple};
     ghost use Rattle.pdl_buf.specs.declared.made.Made.{Made};
 
     ghost Value = { Made };
 
-    ghost view = { λ k. record { ty = k.buf.ty; dims = k.triple.dims; elems = k.buf.elems } };
+    ghost view = { λ k. record { ty = k.buf.ty; dims = k.dims; elems = k.buf.elems } };
 
-    ghost invariant = { λ k. k.triple ≡ whole_triple k.triple.dims
-        × length k.buf.elems ≡ size_of k.triple.dims
-        × Reaches k.triple (size_of k.triple.dims) };
+    ghost invariant = { λ k. length k.buf.elems ≡ size_of k.dims };
 }
 
 impl Kept {
-    /// An array in a buffer. Each of its elements that isn't 0 is a step.
+    /// What was made, in a buffer, or the fault that there was instead. Each element that isn't 0
+    /// is a step.
     pub fn new<L: Ledger>(
         alloc: Global,
-        made: Made,
+        made: Result<Made, OpFault>,
         steps: &mut Steps<L>,
-    ) -> Result<Kept, AllocError>
-        requires { IsArray made }
-        ensures value { IfOk result (λ kept. kept ≡ made) }
-        ensures counted { OnOk result (steps.new ≡ steps.old + count_moved made.elems) }
-        ensures err { OnErr result (steps.new ≡ steps.old) }
+    ) -> Result<Kept, OpFault>
+        requires { IfOk made IsArray }
+        ensures { IsKept made result steps.old steps.new }
     {
-        let triple = whole_triple(alloc, &made.dims);
+        let made = made?;
         Ok(Kept {
             buf: buf_of_elements(alloc, made.ty, made.elems, steps)?,
-            triple,
+            dims: made.dims,
         })
     }
 
     /// The whole array as a window.
-    pub fn whole(&self) -> Strided<'_>
+    pub fn whole(&self, alloc: Global) -> Strided<'_>
         ensures { array_of result ≡ self.now }
     {
-        strided(&self.buf, &self.triple)
+        strided(&self.buf, &whole_triple(alloc, &self.dims))
     }
 }

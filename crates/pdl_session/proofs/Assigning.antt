@@ -15,7 +15,8 @@ use Rattle.pdl_scope.specs.declared.fault.ScopeFault.{ScopeFault}
 use Rattle.pdl_scope.specs.Answers.{Prints, Runs}
 use Rattle.pdl_scope.specs.Scope.{Scope, machine, Grows}
 
-live_behind : (w : World) (us vs : List ℕ) → AreLive w (us ++ vs) → AreLive w vs
+-- the arrays of slots are there
+pub live_behind : (w : World) (us vs : List ℕ) → AreLive w (us ++ vs) → AreLive w vs
 live_behind w [] vs live = live
 live_behind w (u ∷ us) vs live = live_behind w us vs live.1
 

@@ -27,3 +27,4 @@ pub mod Resting
 pub mod Worked
 pub mod Moved
 pub mod Expressions
+pub mod Moves

@@ -11,3 +11,5 @@ pub mod Watching
 pub mod Advanced
 pub mod Dumping
 pub mod WorkedBounds
+pub mod Moves
+pub mod Statements

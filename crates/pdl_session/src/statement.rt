@@ -1,8 +1,10 @@
 //! What each statement does.
-ghost use Rattle.std.specs.Prelude.{◌≡◌, ◌≤◌, [], ◌++◌, length, map, All, Ok, OnOk, IfOk};
+ghost use Rattle.std.specs.Option.{option_map_or};
+ghost use Rattle.std.specs.Prelude.{◌≡◌, ◌≤◌, ◌+◌, [], ◌++◌, length, map, All, Ok, OnOk, IfOk};
 ghost use Rattle.pdl_syntax.specs.TreeOf.{tree_of};
 ghost use Rattle.pdl_syntax.specs.StatementTree.{statement_of, assign, bind_list as bind_list', sever as sever', show as show', view_of};
 ghost use Rattle.pdl_syntax.specs.WellMade.{AreArrays, AreArgArrays, IsWellMade};
+ghost use Rattle.pdl_machine.specs.Names.{number_of};
 ghost use Rattle.pdl_machine.specs.Then.{and_then};
 ghost use Rattle.pdl_machine.specs.Cuts.{severed};
 ghost use Rattle.pdl_machine.specs.Value.{value_of};
@@ -12,12 +14,14 @@ ghost use Rattle.pdl_print.specs.Pieces.{Begins};
 ghost use Rattle.pdl_watch.specs.Slots.{lists_of, present_in, slots_by};
 ghost use Rattle.pdl_scope.specs.Answers.{Runs};
 ghost use Rattle.pdl_scope.specs.Costs.{MovesWithin};
-ghost use Rattle.pdl_session.specs.Costs.{named_steps};
-ghost use Rattle.pdl_scope.specs.Scope.{machine, slots_limit};
+ghost use Rattle.pdl_session.specs.Costs.{named_steps, ready_all};
+ghost use Rattle.pdl_session.specs.Moves.{MovesUpTo, assign_steps, came, cut_steps, value_after, value_size};
+ghost use Rattle.pdl_scope.specs.Scope.{engine_of, machine, slots_limit};
 ghost use Rattle.pdl_session.specs.News.{IsNewsOf};
 ghost use Rattle.pdl_session.specs.declared.news.News.TheVariants.{Nothing};
 ghost use Rattle.pdl_session.specs.Bounds.{LeavesReadable, MovesPlainly, warm_after};
 ghost use Rattle.pdl_session.specs.Performed.{Performs};
+ghost use Rattle.pdl_session.specs.Statements.{MovesByForm};
 ghost use Rattle.pdl_session.specs.Arguments.{arguments, AreGivenLive};
 
 use crate::call::{call, several};
@@ -34,7 +38,7 @@ use pdl_elem::Name;
 use pdl_engine::ArrayId;
 use pdl_lexemes::AssignOp;
 use pdl_machine::{Fault, watching_laws};
-use pdl_scope::{Scope, ScopeFault};
+use pdl_scope::{Scope, ScopeFault, cost_laws};
 use pdl_syntax::{Expr, Statement, Target, calls_are_trees};
 use pdl_watch::{Notice, Watcher};
 use pdl_world::growth_laws;
@@ -58,7 +62,8 @@ fn bind_value<L: Ledger>(
     scope.bind(name, id)
 }
 
-/// Binds a name to a value that is cut from its parent.
+/// Binds a name to a value that is cut from its parent. The cut takes at most a step for each of its
+/// elements, beside what the value takes.
 fn bind_severed<L: Ledger>(
     scope: &mut Scope,
     name: &Name,
@@ -66,18 +71,27 @@ fn bind_severed<L: Ledger>(
     steps: &mut Steps<L>,
 ) -> Result<(), ScopeFault>
     requires { AreArrays (tree_of value.now) }
-    ensures { let valued = value_of scope.old.names scope.old.arrays (tree_of value.now) in
+    ensures runs { let valued = value_of scope.old.names scope.old.arrays (tree_of value.now) in
         let wanted = bound (machine scope.old) name.now (severed valued) in
         Runs wanted scope.old scope.new [] [] result }
+    ensures within { let tree = tree_of value.now in
+        let valued = value_of scope.old.names scope.old.arrays tree in
+        let most = named_steps scope.old tree + value_size valued in
+        let late = came valued scope.new.arrays.world in
+        MovesUpTo most scope.old late steps.old steps.new result }
 {
     let id = eval(scope, value, steps)?;
     scope.bind_severed(name, id, steps)
 }
 
-/// Cuts the array of a name from its parent.
+/// Cuts the array of a name from its parent, which takes at most what makes it ready, and a step for
+/// each of its elements.
 fn sever<L: Ledger>(scope: &mut Scope, name: &Name, steps: &mut Steps<L>) -> Result<(), ScopeFault>
-    ensures { let wanted = effect [] (machine scope.old) (sever' name.now) in
+    ensures runs { let wanted = effect [] (machine scope.old) (sever' name.now) in
         Runs wanted scope.old scope.new [] [] result }
+    ensures counted { let id = number_of scope.old.names name.now in
+        let most = option_map_or (cut_steps (engine_of scope.old)) id 0 in
+        steps.new ≤ steps.old + most }
 {
     match scope.number_of(name) {
         Some(id) => scope.sever(id, steps),
@@ -85,7 +99,8 @@ fn sever<L: Ledger>(scope: &mut Scope, name: &Name, steps: &mut Steps<L>) -> Res
     }
 }
 
-/// Binds the outputs of the call of a name, whose arguments were evaluated, to a list of names.
+/// Binds the outputs of the call of a name, whose arguments were evaluated, to a list of names. Each
+/// argument is read once at most.
 fn bind_outputs<L: Ledger>(
     scope: &mut Scope,
     bound: &[Name],
@@ -94,9 +109,11 @@ fn bind_outputs<L: Ledger>(
     steps: &mut Steps<L>,
 ) -> Result<(), ScopeFault>
     requires { AreGivenLive scope.old.arrays.world given.now }
-    ensures { let args = arguments given.now in
+    ensures runs { let args = arguments given.now in
         let wanted = list_bound (machine scope.old) bound.now function.now (scope.old.arrays, args) in
         Runs wanted scope.old scope.new [] [] result }
+    ensures within { let most = ready_all scope.old given.now in
+        MovesWithin most scope.old scope.new steps.old steps.new result }
 {
     if bound.len() != 1 {
         let outputs = several(scope, function, bound.len(), given, steps)?;
@@ -114,9 +131,11 @@ fn bind_list<L: Ledger>(
     steps: &mut Steps<L>,
 ) -> Result<(), ScopeFault>
     requires { AreArrays (tree_of value.now) }
-    ensures { let form = bind_list' bound.now (tree_of value.now) in
+    ensures runs { let form = bind_list' bound.now (tree_of value.now) in
         let wanted = effect [] (machine scope.old) form in
         Runs wanted scope.old scope.new [] [] result }
+    ensures within { let most = named_steps scope.old (tree_of value.now) in
+        MovesWithin most scope.old scope.new steps.old steps.new result }
 {
     calls_are_trees();
     match value {
@@ -130,7 +149,8 @@ fn bind_list<L: Ledger>(
 }
 
 /// Assigns by a sign: the target's array comes first, then the value's. The answer is what watchers
-/// are to be told, by slots.
+/// are to be told, by slots. Beside what both expressions take, it takes at most what it takes to
+/// read each array that a slot is attached to, and a step for each element of the target.
 fn assign_value<L: Ledger>(
     scope: &mut Scope,
     to: &Target,
@@ -144,6 +164,11 @@ fn assign_value<L: Ledger>(
     ensures runs { let place = target to.now.name (map view_of to.now.views.items) in
         let wanted = assigning (machine scope.old) place sign (tree_of value.now) in
         Runs wanted scope.old scope.new [] [] result }
+    ensures within { let place = target to.now.name (map view_of to.now.views.items) in
+        let most = assign_steps scope.old place (tree_of value.now) in
+        let valued = value_after scope.old place (tree_of value.now) in
+        let late = came valued scope.new.arrays.world in
+        MovesUpTo most scope.old late steps.old steps.new result }
     ensures told { let w = scope.old.arrays.world in
         let wanted = notices number w scope.new.arrays.world scope.new.watches in
         IfOk result (λ all. lists_of all.items ≡ wanted) }
@@ -156,10 +181,12 @@ fn assign_value<L: Ledger>(
 {
     watching_laws();
     growth_laws();
-    scope.whole();
+    cost_laws();
+    scope.in_order();
     let to = target(scope, to, steps)?;
+    scope.in_order();
     let from = eval(scope, value, steps)?;
-    scope.whole();
+    scope.in_order();
     scope.assign(sign, to, from, number, steps)
 }
 
@@ -244,7 +271,7 @@ pub fn run<W: Watcher, L: Ledger>(
 }
 
 /// Does what a statement says, and puts what watchers are to hear in place of nothing. A part of
-/// its text may stand in `out` where it is refused.
+/// its text may stand in `out` where it is refused. It moves what the statement's form says at most.
 fn perform<W: Watcher, L: Ledger>(
     scope: &mut Scope,
     statement: &Statement,
@@ -263,6 +290,8 @@ fn perform<W: Watcher, L: Ledger>(
     ensures news { let w = scope.old.arrays.world in
         let told = notices number w scope.new.arrays.world scope.new.watches in
         OnOk result (IsNewsOf (statement_of statement.now) told news.new) }
+    ensures bounded { let tree = statement_of statement.now in
+        MovesByForm tree scope.old scope.new steps.old steps.new result }
     ensures moves { let statement = statement_of statement.now in
         MovesPlainly statement scope.old scope.new steps.old steps.new }
     ensures readable { let statement = statement_of statement.now in

@@ -1,5 +1,5 @@
 //! What an assignment writes to.
-ghost use Rattle.std.specs.Prelude.{◌≡◌, [], Ok, map, All};
+ghost use Rattle.std.specs.Prelude.{◌≡◌, ◌+◌, [], Ok, map, All};
 ghost use Rattle.pdl_syntax.specs.Tree.{Tree, call};
 ghost use Rattle.pdl_syntax.specs.WellMade.{AreArgArrays};
 ghost use Rattle.pdl_syntax.specs.StatementTree.{view_of};
@@ -8,8 +8,10 @@ ghost use Rattle.pdl_machine.specs.Arrays.{Arrays};
 ghost use Rattle.pdl_machine.specs.Step.{behind, target as target'};
 ghost use Rattle.pdl_machine.specs.Value.{value_of};
 ghost use Rattle.pdl_scope.specs.Answers.{Evaluates};
-ghost use Rattle.pdl_scope.specs.Scope.{Grows};
+ghost use Rattle.pdl_engine.specs.State.{ready_steps};
+ghost use Rattle.pdl_scope.specs.Scope.{engine_of, Grows};
 ghost use Rattle.pdl_session.specs.Bounds.{IsBare};
+ghost use Rattle.pdl_session.specs.Costs.{argued_steps, named_steps, EvaluatesWithin};
 
 use crate::call::call;
 use crate::eval::take;
@@ -17,12 +19,12 @@ use crate::given::Given;
 use pdl_buf::Steps;
 use pdl_engine::ArrayId;
 use pdl_machine::Fault;
-use pdl_scope::{Scope, ScopeFault};
+use pdl_scope::{Scope, ScopeFault, cost_laws};
 use pdl_syntax::{Target, ViewCall};
 use std::sync::ledger::Ledger;
 
 /// The array of a target: its views, one after another, of the array of its name. A bare name takes
-/// no step.
+/// no step, and any target no more than its expression.
 #[tactic(auto, using(crate::proofs::Facts::grows_trans))]
 pub fn target<L: Ledger>(
     scope: &mut Scope,
@@ -33,20 +35,27 @@ pub fn target<L: Ledger>(
     ensures value { let tree = target' target.now.name (map view_of target.now.views.items) in
         Evaluates (value_of scope.old.names scope.old.arrays tree) scope.new result }
     ensures grown { Grows scope.old scope.new }
+    ensures within { let tree = target' target.now.name (map view_of target.now.views.items) in
+        let most = named_steps scope.old tree in
+        EvaluatesWithin most scope.old scope.new steps.old steps.new result }
     ensures bare { target.now.views.items ≡ [] →
         IsBare target.now.name scope.old scope.new steps.old steps.new result }
 {
+    cost_laws();
+    scope.in_order();
     let mut id = match scope.number_of(&target.name) {
         Some(id) => id,
         None => return Err(ScopeFault::Script(Fault::UnknownName)),
     };
     for view in &target.views {
+        scope.in_order();
         id = call_on(scope, id, view, steps)?;
     }
     Ok(id)
 }
 
-/// The call of a view word on the array that a tree gave, which is its first argument.
+/// The call of a view word on the array that a tree gave, which is its first argument. To make that
+/// array ready, and what the others take, pays for it.
 #[tactic(auto, using(crate::proofs::Facts::grows_trans))]
 fn call_on<L: Ledger>(
     scope: &mut Scope,
@@ -61,6 +70,9 @@ fn call_on<L: Ledger>(
         let called = call view.now.method (behind of (view_of view.now).1) in
         Evaluates (value_of scope.old.names a called) scope.new result }
     ensures grown { Grows scope.old scope.new }
+    ensures within { let s = scope.old in
+        let most = argued_steps s (view_of view.now).1 + ready_steps (engine_of s) id in
+        EvaluatesWithin most scope.old scope.new steps.old steps.new result }
 {
     let first = Vec::from_array(scope.alloc(), [Given::Array(id)])?;
     let given = take(scope, first, &view.args, steps)?;

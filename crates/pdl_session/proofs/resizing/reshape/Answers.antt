@@ -1,23 +1,62 @@
-use Rattle.std.proofs.Common.{sym, ap, ◌∙◌}
+use Rattle.std.proofs.Common.{◌≡◌, ℕ, ◌+◌, ◌≤◌, List, [], Err, Vec, Global, arith, sym, ap, subst, ◌∙◌}
 use Rattle.pdl_syntax.specs.Tree.{none}
 use Rattle.pdl_syntax.specs.TreeOf.{args_of}
 use Rattle.pdl_session.specs.Arguments.{arguments}
-use Rattle.pdl_scope.specs.Scope.{machine}
+use Rattle.pdl_engine.specs.State.{ready_steps}
+use Rattle.pdl_machine.specs.Cuts.{dims_given}
+use Rattle.pdl_scope.specs.Costs.{total_size}
+use Rattle.pdl_scope.specs.Scope.{engine_of, machine}
+use Rattle.pdl_session.specs.declared.given.Given.{Given}
+use Rattle.pdl_session.specs.Costs.{PaysWithin, argued_steps, read_all, ready_all}
+use Rattle.pdl_session.specs.Moves.{wanted_size}
+use Rattle.pdl_session.proofs.Moves.{reshaped_within, sizes_refused, sizes_unknown}
 use Rattle.pdl_session.proofs.Cutting.{runs_reshaped, reshape_refused}
 use Rattle.pdl_session.proofs.Evals.{with_given}
 use Rattle.pdl_session.proofs.Facts.{ends_at}
 use Rattle.pdl_session.proofs.resizing.reshape.Goals as goal
 
-pub returns-in_ok-given-in-Some : goal.returns-in_ok-given-in-Some
-returns-in_ok-given-in-Some g c =
+pub returns-in_ok-given-in-Some-clause-runs : goal.returns-in_ok-given-in-Some-clause-runs
+returns-in_ok-given-in-Some-clause-runs g c =
     let a = c.args.scope.now.arrays in
     runs_reshaped c.resized.result c.args.scope.now c.take.new.scope c.resized.new.scope c.args.name.now (args_of c.args.sizes.now none) (arguments c.in_ok-given-in-Some.given.items) (arguments c.deref.result.now) c.in-Some.id
-    (sym c.number_of.ensures.number ∙ c.in-Some.is) (c.in_ok-given-in-Some.ensures.value a none (ap (λ gs. with_given a (arguments gs)) (sym c.new-none.ensures.items))) (ap arguments c.deref.ensures.value) c.take.ensures.grown c.resized.ensures
+    (sym c.number_of.ensures.number ∙ c.in-Some.is) (c.in_ok-given-in-Some.ensures.value a none (ap (λ gs. with_given a (arguments gs)) (sym c.new-none.ensures.items))) (ap arguments c.deref.ensures.value) c.take.ensures.grown c.resized.ensures.runs
 
-pub returns-in_err-given-in-Some : goal.returns-in_err-given-in-Some
-returns-in_err-given-in-Some g c =
+pub returns-in_err-given-in-Some-clause-runs : goal.returns-in_err-given-in-Some-clause-runs
+returns-in_err-given-in-Some-clause-runs g c =
     let s = c.args.scope.now in
     let f = c.in_err-given-in-Some.field-0.0 in
     ends_at _ _ _ _ f c.from_residual.result c.from_residual.ensures.1
     (reshape_refused (machine s) c.args.name.now (args_of c.args.sizes.now none) c.in-Some.id f (sym c.number_of.ensures.number ∙ c.in-Some.is)
     (c.in_err-given-in-Some.ensures.value s.arrays none (ap (λ gs. with_given s.arrays (arguments gs)) (sym c.new-none.ensures.items)))) c.take.ensures.grown
+
+pub returns-in-None-clause-within : goal.returns-in-None-clause-within
+returns-in-None-clause-within g c = sizes_unknown c.args.scope.now c.args.name.now (args_of c.args.sizes.now none) (argued_steps c.args.scope.now (args_of c.args.sizes.now none)) c.args.steps.now (sym c.number_of.ensures.number ∙ c.in-None.is)
+
+pub returns-in_ok-given-in-Some-clause-within : goal.returns-in_ok-given-in-Some-clause-within
+returns-in_ok-given-in-Some-clause-within g c =
+    let s = c.args.scope.now in
+    let mid = c.take.new.scope in
+    let args = args_of c.args.sizes.now none in
+    let id = c.in-Some.id in
+    let gs = c.in_ok-given-in-Some.given.items in
+    let G : List Given → Type 0 = λ hs. c.take.new.steps + ready_all mid gs + total_size s.arrays.world ≤ c.args.steps.now + total_size mid.arrays.world + (argued_steps s args + ready_all s hs) in
+    let taken : G [] = subst G c.new-none.ensures.items c.in_ok-given-in-Some.ensures.within in
+    let H : List Given → Type 0 = λ hs. c.resized.new.steps ≤ c.take.new.steps + (read_all mid hs + (ready_steps (engine_of mid) id + wanted_size (dims_given (mid.arrays, arguments hs)))) in
+    let counted : H gs = subst H c.deref.ensures.value c.resized.ensures.counted in
+    let costs = c.cost_laws.ensures.older s mid c.in_order.ensures c.in_order-in-Some.ensures c.take.ensures.grown in
+    reshaped_within c.resized.result s mid c.resized.new.scope c.args.name.now args gs (argued_steps s args) c.args.steps.now c.take.new.steps c.resized.new.steps id
+    (sym c.number_of.ensures.number ∙ c.in-Some.is) (c.in_ok-given-in-Some.ensures.value s.arrays none (ap (λ hs. with_given s.arrays (arguments hs)) (sym c.new-none.ensures.items))) costs c.in-Some.ensures.live (omega (arith, taken)) counted
+
+pub returns-in_err-given-in-Some-clause-within : goal.returns-in_err-given-in-Some-clause-within
+returns-in_err-given-in-Some-clause-within g c =
+    let s = c.args.scope.now in
+    let new = c.take.new.scope in
+    let args = args_of c.args.sizes.now none in
+    let f = c.in_err-given-in-Some.field-0.0 in
+    let due : Vec Given Global → ℕ = λ all. ready_all new all.items in
+    let none_given : ready_all s c.new-none.result.items ≡ 0 = ap (ready_all s) c.new-none.ensures.items in
+    let most = argued_steps s args + ready_all s c.new-none.result.items in
+    let enough : most ≡ argued_steps s args = omega (arith, none_given) in
+    sizes_refused c.from_residual.result f s new c.args.name.now args due (argued_steps s args) c.args.steps.now c.take.new.steps c.in-Some.id (sym c.number_of.ensures.number ∙ c.in-Some.is) c.from_residual.ensures.1
+    (c.in_err-given-in-Some.ensures.value s.arrays none (ap (λ hs. with_given s.arrays (arguments hs)) (sym c.new-none.ensures.items)))
+    (subst (λ n. PaysWithin due n s new c.args.steps.now c.take.new.steps (Err f)) enough c.in_err-given-in-Some.ensures.within)

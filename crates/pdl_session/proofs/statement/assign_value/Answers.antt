@@ -5,6 +5,8 @@ use Rattle.pdl_machine.specs.Step.{target, assigned}
 use Rattle.pdl_session.proofs.Bounded.{no_views_of, target_refused, value_refused, assigned_plainly, assigned_readable}
 use Rattle.pdl_session.proofs.Facts.{ends_at, grows_trans}
 use Rattle.pdl_session.proofs.Assigning.{assigned_told}
+use Rattle.pdl_session.proofs.Expressions.{names_less, names_live}
+use Rattle.pdl_session.proofs.Moves.{assigned_within, target_left, value_left}
 use Rattle.pdl_session.proofs.Statements.{runs_assigned, assigned_refused}
 use Rattle.pdl_session.proofs.statement.assign_value.Goals as goal
 
@@ -25,7 +27,7 @@ returns-in_err-from-clause-runs g c =
 pub returns-clause-told : goal.returns-clause-told
 returns-clause-told g c =
     assigned_told c.assign.result c.args.number c.args.scope.now c.eval.new.scope c.assign.new.self (assigned c.args.sign c.eval.new.scope.arrays c.in_ok-to.to c.in_ok-from.from)
-    c.watching_laws.ensures.growing c.whole.ensures c.whole-2.ensures (grows_trans c.args.scope.now c.target.new.scope c.eval.new.scope c.target.ensures.grown c.eval.ensures.grown)
+    c.watching_laws.ensures.growing c.in_order.ensures.whole c.in_order-3.ensures.whole (grows_trans c.args.scope.now c.target.new.scope c.eval.new.scope c.target.ensures.grown c.eval.ensures.grown)
     c.assign.ensures.runs c.assign.ensures.told
 
 pub returns-in_err-to-clause-moves : goal.returns-in_err-to-clause-moves
@@ -41,9 +43,38 @@ returns-in_err-from-clause-moves g c =
 pub returns-clause-moves : goal.returns-clause-moves
 returns-clause-moves g c =
     assigned_plainly c.growth_laws.ensures.older c.args.to.now.name (map view_of c.args.to.now.views.items) c.args.sign (tree_of c.args.value.now) c.args.scope.now c.target.new.scope c.eval.new.scope c.assign.new.self c.args.steps.now c.target.new.steps c.eval.new.steps c.assign.new.steps c.in_ok-to.to c.in_ok-from.from
-    (λ none. c.in_ok-to.ensures.bare (no_views_of c.args.to.now.views.items none)) c.in_ok-to.ensures.value.1 c.in_ok-from.ensures.plain c.eval.ensures.grown c.whole-2.ensures c.assign.ensures.at_once c.assign.ensures.views
+    (λ none. c.in_ok-to.ensures.bare (no_views_of c.args.to.now.views.items none)) c.in_ok-to.ensures.value.1 c.in_ok-from.ensures.plain c.eval.ensures.grown c.in_order-3.ensures.whole c.assign.ensures.at_once c.assign.ensures.views
 
 pub returns-clause-readable : goal.returns-clause-readable
 returns-clause-readable g c =
     assigned_readable c.assign.result c.args.to.now.name (map view_of c.args.to.now.views.items) c.args.sign (tree_of c.args.value.now) c.args.scope.now c.target.new.scope c.assign.new.self c.args.steps.now c.target.new.steps c.in_ok-to.to
     (λ none. c.in_ok-to.ensures.bare (no_views_of c.args.to.now.views.items none)) c.assign.ensures.warm
+
+pub returns-in_err-to-clause-within : goal.returns-in_err-to-clause-within
+returns-in_err-to-clause-within g c =
+    target_left c.from_residual.result c.in_err-to.field-0.0 c.args.scope.now c.target.new.scope (target c.args.to.now.name (map view_of c.args.to.now.views.items)) (tree_of c.args.value.now) c.args.steps.now c.target.new.steps
+    c.from_residual.ensures.1 c.in_err-to.ensures.value c.in_err-to.ensures.within
+
+pub returns-in_err-from-clause-within : goal.returns-in_err-from-clause-within
+returns-in_err-from-clause-within g c =
+    let s = c.args.scope.now in
+    let mid = c.target.new.scope in
+    let tree = tree_of c.args.value.now in
+    let costs = c.cost_laws.ensures.older s mid c.in_order.ensures c.in_order-2.ensures c.target.ensures.grown in
+    value_left c.from_residual-in_err-from.result c.in_err-from.field-0.0 s mid c.eval.new.scope (target c.args.to.now.name (map view_of c.args.to.now.views.items)) tree c.args.steps.now c.target.new.steps c.eval.new.steps c.in_ok-to.to
+    c.from_residual-in_err-from.ensures.1 c.in_ok-to.ensures.value.0 c.target.ensures.grown.names c.in_err-from.ensures.value c.in_ok-to.ensures.within (names_less s mid c.target.ensures.grown.names (names_live s c.in_order.ensures.whole) costs tree)
+    c.in_err-from.ensures.within
+
+pub returns-clause-within : goal.returns-clause-within
+returns-clause-within g c =
+    let s = c.args.scope.now in
+    let mid = c.target.new.scope in
+    let late = c.eval.new.scope in
+    let tree = tree_of c.args.value.now in
+    let all = grows_trans s mid late c.target.ensures.grown c.eval.ensures.grown in
+    let first = c.cost_laws.ensures.older s mid c.in_order.ensures c.in_order-2.ensures c.target.ensures.grown in
+    let next = c.cost_laws.ensures.older mid late c.in_order-2.ensures c.in_order-3.ensures c.eval.ensures.grown in
+    let both = c.cost_laws.ensures.older s late c.in_order.ensures c.in_order-3.ensures all in
+    assigned_within c.assign.result c.growth_laws.ensures.older s mid late c.assign.new.self (target c.args.to.now.name (map view_of c.args.to.now.views.items)) tree c.args.steps.now c.target.new.steps c.eval.new.steps c.assign.new.steps c.in_ok-to.to c.in_ok-from.from
+    c.in_order.ensures.whole c.in_order-3.ensures.whole c.in_ok-to.ensures.value.0 c.in_ok-to.ensures.value.1 c.in_ok-from.ensures.value.0 c.target.ensures.grown c.eval.ensures.grown all next both
+    c.in_ok-to.ensures.within (names_less s mid c.target.ensures.grown.names (names_live s c.in_order.ensures.whole) first tree) c.in_ok-from.ensures.within c.assign.ensures.counted

@@ -1,16 +1,21 @@
-use Rattle.std.proofs.Common.{List, [], length, refl, subst}
+use Rattle.std.proofs.Common.{◌≡◌, List, [], arith, length, ap, refl, subst}
 use Rattle.pdl_buf.specs.declared.made.Made.{Made}
 use Rattle.pdl_machine.specs.Step.{roots_bound}
 use Rattle.pdl_scope.specs.Scope.{machine}
 use Rattle.pdl_scope.specs.Growth.{reads_grow}
 use Rattle.pdl_scope.specs.Answers.{Runs}
+use Rattle.pdl_scope.specs.Costs.{total_size}
+use Rattle.pdl_machine.specs.Arrays.{Arrays}
 use Rattle.pdl_session.specs.Arguments.{arguments}
+use Rattle.pdl_session.specs.Costs.{ready_all}
+use Rattle.pdl_session.proofs.Expressions.{bound_within, read_all_le, refused_within}
 use Rattle.pdl_session.proofs.Facts.{ends_at}
+use Rattle.pdl_session.proofs.Moves.{moved_on, stays_within}
 use Rattle.pdl_session.proofs.Statements.{runs_output, output_refused, runs_several, several_refused}
 use Rattle.pdl_session.proofs.statement.bind_outputs.Goals as goal
 
-pub returns-in_err-outputs : goal.returns-in_err-outputs
-returns-in_err-outputs g c =
+pub returns-in_err-outputs-clause-runs : goal.returns-in_err-outputs-clause-runs
+returns-in_err-outputs-clause-runs g c =
     let s = c.args.scope.now in
     let xs = c.args.bound.now in
     let f = c.in_err-outputs.field-0.0 in
@@ -18,22 +23,46 @@ returns-in_err-outputs g c =
     (several_refused (machine s) xs c.args.function.now c.args.given.now (length xs) f c.if-bound-ne1.true refl c.in_err-outputs.ensures.value)
     (reads_grow s c.several.new.scope c.several.ensures.same)
 
-pub returns-then-bound-ne1 : goal.returns-then-bound-ne1
-returns-then-bound-ne1 g c =
+pub returns-then-bound-ne1-clause-runs : goal.returns-then-bound-ne1-clause-runs
+returns-then-bound-ne1-clause-runs g c =
     let s = c.args.scope.now in
     let xs = c.args.bound.now in
     runs_several c.bind_roots.result s c.several.new.scope c.bind_roots.new.self xs c.args.function.now c.args.given.now (length xs) c.in_ok-outputs.outputs.items c.if-bound-ne1.true refl
     c.in_ok-outputs.ensures.value c.several.ensures.same (subst (λ (ms : List Made). Runs (roots_bound (machine c.several.new.scope) xs ms) c.several.new.scope c.bind_roots.new.self [] [] c.bind_roots.result) c.deref.ensures.value c.bind_roots.ensures.runs)
 
-pub returns-in_err-id : goal.returns-in_err-id
-returns-in_err-id g c =
+pub returns-in_err-id-clause-runs : goal.returns-in_err-id-clause-runs
+returns-in_err-id-clause-runs g c =
     let s = c.args.scope.now in
     let given = arguments c.args.given.now in
     let f = c.in_err-id.field-0.0 in
     ends_at _ _ _ _ f c.from_residual-in_err-id.result c.from_residual-in_err-id.ensures.1
     (output_refused (machine s) c.args.bound.now c.args.function.now given f c.if-bound-ne1.false c.in_err-id.ensures.value) c.call.ensures.grown
 
-pub returns : goal.returns
-returns g c =
+pub returns-clause-runs : goal.returns-clause-runs
+returns-clause-runs g c =
     runs_output c.bind.result c.args.scope.now c.call.new.scope c.bind.new.self c.args.bound.now c.index-bound-0.result c.args.function.now (arguments c.args.given.now) c.in_ok-id.id
     c.if-bound-ne1.false c.index-bound-0.is c.in_ok-id.ensures.value.0 c.in_ok-id.ensures.grown c.bind.ensures.runs
+
+pub returns-in_err-outputs-clause-within : goal.returns-in_err-outputs-clause-within
+returns-in_err-outputs-clause-within g c =
+    let s = c.args.scope.now in
+    let less = read_all_le s c.args.given.now in
+    stays_within c.from_residual.result (ready_all s c.args.given.now) s c.several.new.scope c.args.steps.now c.several.new.steps (omega (arith, less, c.several.ensures.counted)) c.several.ensures.same.arrays
+
+pub returns-then-bound-ne1-clause-within : goal.returns-then-bound-ne1-clause-within
+returns-then-bound-ne1-clause-within g c =
+    let s = c.args.scope.now in
+    let mid = c.several.new.scope in
+    let less = read_all_le s c.args.given.now in
+    let all : total_size mid.arrays.world ≡ total_size s.arrays.world = ap (λ (a : Arrays). total_size a.world) c.several.ensures.same.arrays in
+    moved_on c.bind_roots.result 0 (ready_all s c.args.given.now) s mid c.bind_roots.new.self c.args.steps.now c.several.new.steps c.bind_roots.new.steps (omega (arith, less, c.several.ensures.counted, all)) c.bind_roots.ensures.within
+
+pub returns-in_err-id-clause-within : goal.returns-in_err-id-clause-within
+returns-in_err-id-clause-within g c =
+    let s = c.args.scope.now in
+    refused_within c.from_residual-in_err-id.result c.in_err-id.field-0.0 s c.call.new.scope (ready_all s c.args.given.now) c.args.steps.now c.call.new.steps c.from_residual-in_err-id.ensures.1 c.in_err-id.ensures.within
+
+pub returns-clause-within : goal.returns-clause-within
+returns-clause-within g c =
+    let s = c.args.scope.now in
+    bound_within c.bind.result s c.call.new.scope c.bind.new.self (ready_all s c.args.given.now) c.args.steps.now c.call.new.steps c.in_ok-id.id c.in_ok-id.ensures.within c.bind.ensures.arrays

@@ -1,14 +1,18 @@
-use Rattle.std.proofs.Common.{ℕ, ◌∙◌, List, [], Bool, true, false, Result, Ok, Err, map, sym, subst}
+use Rattle.std.proofs.Common.{ℕ, ◌∙◌, List, [], Vec, Global, Bool, true, false, Result, Ok, Err, map, sym, subst}
 use Rattle.pdl_syntax.specs.declared.tree.Statement.{Statement}
 use Rattle.pdl_syntax.specs.declared.tree.Arg.{Arg}
 use Rattle.pdl_syntax.specs.StatementTree.{assign, bind, bind_list, pp_def, reshape, sever, statement_of, undef, view_of, watch}
 use Rattle.pdl_syntax.specs.Tree.{none}
 use Rattle.pdl_syntax.specs.TreeOf.{args_of, tree_of}
+use Rattle.pdl_watch.specs.declared.notice.Notice.{Notice}
 use Rattle.pdl_watch.specs.Slots.{present_in, slots_by}
 use Rattle.pdl_machine.specs.Step.{Stepped, assigning, effect, target}
 use Rattle.pdl_scope.specs.Answers.{Prints}
 use Rattle.pdl_scope.specs.Scope.{machine}
+use Rattle.pdl_session.specs.Moves.{assign_steps, came, value_after}
 use Rattle.pdl_session.specs.Performed.{Performs}
+use Rattle.pdl_session.specs.Statements.{MovesByForm}
+use Rattle.pdl_session.proofs.Moves.{up_to_fault}
 use Rattle.pdl_session.proofs.Statements.{silent, silent_err}
 use Rattle.pdl_session.proofs.statement.perform.Goals as goal
 
@@ -18,7 +22,7 @@ returns-in-Show-clause-performs g c =
 
 pub returns-in-Dump-clause-performs : goal.returns-in-Dump-clause-performs
 returns-in-Dump-clause-performs g c =
-    subst (λ (s : Statement). Performs (effect (present_in (slots_by g.W.Watcher.seen c.args.watchers.now.items)) (machine c.args.scope.now) (statement_of s)) c.args.scope.now c.dump.new.scope c.args.out.now.items c.dump.new.out.items c.dump.result) (sym c.in-Dump.is) c.dump.ensures
+    subst (λ (s : Statement). Performs (effect (present_in (slots_by g.W.Watcher.seen c.args.watchers.now.items)) (machine c.args.scope.now) (statement_of s)) c.args.scope.now c.dump.new.scope c.args.out.now.items c.dump.new.out.items c.dump.result) (sym c.in-Dump.is) c.dump.ensures.performs
 
 pub returns-in-PpDef-clause-performs : goal.returns-in-PpDef-clause-performs
 returns-in-PpDef-clause-performs g c =
@@ -34,7 +38,7 @@ returns-in-BindList-clause-performs g c =
     let wanted : List (List ℕ) → Stepped = λ xs. effect (present_in (slots_by g.W.Watcher.seen c.args.watchers.now.items)) (machine s) (bind_list xs (tree_of c.in-BindList.value)) in
     let P : Statement → Type 0 = λ z. Performs (effect (present_in (slots_by g.W.Watcher.seen c.args.watchers.now.items)) (machine s) (statement_of z)) s t out out c.bind_list.result in
     let Q : List (List ℕ) → Type 0 = λ xs. Performs (wanted xs) s t out out c.bind_list.result in
-    subst P (sym c.in-BindList.is) (subst Q c.deref.ensures.value (silent c.bind_list.result (wanted c.deref.result.now) s t out c.bind_list.ensures))
+    subst P (sym c.in-BindList.is) (subst Q c.deref.ensures.value (silent c.bind_list.result (wanted c.deref.result.now) s t out c.bind_list.ensures.runs))
 
 pub returns-in-Bind-default-default-true-clause-performs : goal.returns-in-Bind-default-default-true-clause-performs
 returns-in-Bind-default-default-true-clause-performs g c =
@@ -43,7 +47,7 @@ returns-in-Bind-default-default-true-clause-performs g c =
     let wanted : Bool → Stepped = λ b. effect (present_in (slots_by g.W.Watcher.seen c.args.watchers.now.items)) (machine s) (bind c.in-Bind-default-default-true.name (tree_of c.in-Bind-default-default-true.value) b) in
     let P : Statement → Type 0 = λ t. Performs (effect (present_in (slots_by g.W.Watcher.seen c.args.watchers.now.items)) (machine s) (statement_of t)) s c.bind_severed.new.scope out out c.bind_severed.result in
     let Q : Bool → Type 0 = λ b. Performs (wanted b) s c.bind_severed.new.scope out out c.bind_severed.result in
-    subst P (sym c.in-Bind-default-default-true.is) (subst Q (sym c.in-Bind-default-default-true.sever-test ∙ c.in-Bind-default-default-true.sever-is) (silent c.bind_severed.result (wanted true) s c.bind_severed.new.scope out c.bind_severed.ensures))
+    subst P (sym c.in-Bind-default-default-true.is) (subst Q (sym c.in-Bind-default-default-true.sever-test ∙ c.in-Bind-default-default-true.sever-is) (silent c.bind_severed.result (wanted true) s c.bind_severed.new.scope out c.bind_severed.ensures.runs))
 
 pub returns-in-Bind-default-default-false-clause-performs : goal.returns-in-Bind-default-default-false-clause-performs
 returns-in-Bind-default-default-false-clause-performs g c =
@@ -59,7 +63,7 @@ returns-in-Sever-clause-performs g c =
     let s = c.args.scope.now in
     let out = c.args.out.now.items in
     let P : Statement → Type 0 = λ t. Performs (effect (present_in (slots_by g.W.Watcher.seen c.args.watchers.now.items)) (machine s) (statement_of t)) s c.sever.new.scope out out c.sever.result in
-    subst P (sym c.in-Sever.is) (silent c.sever.result (effect (present_in (slots_by g.W.Watcher.seen c.args.watchers.now.items)) (machine s) (sever c.in-Sever.name)) s c.sever.new.scope out c.sever.ensures)
+    subst P (sym c.in-Sever.is) (silent c.sever.result (effect (present_in (slots_by g.W.Watcher.seen c.args.watchers.now.items)) (machine s) (sever c.in-Sever.name)) s c.sever.new.scope out c.sever.ensures.runs)
 
 pub returns-in-Undef-clause-performs : goal.returns-in-Undef-clause-performs
 returns-in-Undef-clause-performs g c =
@@ -82,7 +86,7 @@ returns-in-Reshape-clause-performs g c =
     let wanted : List Arg → Stepped = λ xs. effect (present_in (slots_by g.W.Watcher.seen c.args.watchers.now.items)) (machine s) (reshape c.in-Reshape.name (args_of xs none)) in
     let P : Statement → Type 0 = λ t. Performs (effect (present_in (slots_by g.W.Watcher.seen c.args.watchers.now.items)) (machine s) (statement_of t)) s c.reshape.new.scope out out c.reshape.result in
     let Q : List Arg → Type 0 = λ xs. Performs (wanted xs) s c.reshape.new.scope out out c.reshape.result in
-    subst P (sym c.in-Reshape.is) (subst Q c.deref-in-Reshape.ensures.value (silent c.reshape.result (wanted c.deref-in-Reshape.result.now) s c.reshape.new.scope out c.reshape.ensures))
+    subst P (sym c.in-Reshape.is) (subst Q c.deref-in-Reshape.ensures.value (silent c.reshape.result (wanted c.deref-in-Reshape.result.now) s c.reshape.new.scope out c.reshape.ensures.runs))
 
 pub returns-in_ok-all-in-Assign-clause-performs : goal.returns-in_ok-all-in-Assign-clause-performs
 returns-in_ok-all-in-Assign-clause-performs g c =
@@ -101,3 +105,55 @@ returns-in_err-all-in-Assign-clause-performs g c =
     let wanted = assigning (machine s) (target t.name (map view_of t.views.items)) c.in-Assign.op (tree_of c.in-Assign.value) in
     let P : Statement → Type 0 = λ z. Performs (effect (present_in (slots_by g.W.Watcher.seen c.args.watchers.now.items)) (machine s) (statement_of z)) s c.assign_value.new.scope out out c.from_residual.result in
     subst P (sym c.in-Assign.is) (silent_err c.from_residual.result c.in_err-all-in-Assign.field-0.0 wanted s c.assign_value.new.scope out c.from_residual.ensures.1 c.in_err-all-in-Assign.ensures.runs)
+
+pub returns-in-Show-clause-bounded : goal.returns-in-Show-clause-bounded
+returns-in-Show-clause-bounded g c =
+    subst (λ (z : Statement). MovesByForm (statement_of z) c.args.scope.now c.show.new.scope c.args.steps.now c.show.new.steps c.show.result) (sym c.in-Show.is) c.show.ensures.within
+
+pub returns-in-Dump-clause-bounded : goal.returns-in-Dump-clause-bounded
+returns-in-Dump-clause-bounded g c =
+    subst (λ (z : Statement). MovesByForm (statement_of z) c.args.scope.now c.dump.new.scope c.args.steps.now c.dump.new.steps c.dump.result) (sym c.in-Dump.is) c.dump.ensures.counted
+
+pub returns-in-BindList-clause-bounded : goal.returns-in-BindList-clause-bounded
+returns-in-BindList-clause-bounded g c =
+    subst (λ (z : Statement). MovesByForm (statement_of z) c.args.scope.now c.bind_list.new.scope c.args.steps.now c.bind_list.new.steps c.bind_list.result) (sym c.in-BindList.is) c.bind_list.ensures.within
+
+pub returns-in-Sever-clause-bounded : goal.returns-in-Sever-clause-bounded
+returns-in-Sever-clause-bounded g c =
+    subst (λ (z : Statement). MovesByForm (statement_of z) c.args.scope.now c.sever.new.scope c.args.steps.now c.sever.new.steps c.sever.result) (sym c.in-Sever.is) c.sever.ensures.counted
+
+pub returns-in-Bind-default-default-true-clause-bounded : goal.returns-in-Bind-default-default-true-clause-bounded
+returns-in-Bind-default-default-true-clause-bounded g c =
+    let s = c.args.scope.now in
+    let P : Statement → Type 0 = λ z. MovesByForm (statement_of z) s c.bind_severed.new.scope c.args.steps.now c.bind_severed.new.steps c.bind_severed.result in
+    let Q : Bool → Type 0 = λ b. MovesByForm (bind c.in-Bind-default-default-true.name (tree_of c.in-Bind-default-default-true.value) b) s c.bind_severed.new.scope c.args.steps.now c.bind_severed.new.steps c.bind_severed.result in
+    subst P (sym c.in-Bind-default-default-true.is) (subst Q (sym c.in-Bind-default-default-true.sever-test ∙ c.in-Bind-default-default-true.sever-is) c.bind_severed.ensures.within)
+
+pub returns-in-Bind-default-default-false-clause-bounded : goal.returns-in-Bind-default-default-false-clause-bounded
+returns-in-Bind-default-default-false-clause-bounded g c =
+    let s = c.args.scope.now in
+    let P : Statement → Type 0 = λ z. MovesByForm (statement_of z) s c.bind_value.new.scope c.args.steps.now c.bind_value.new.steps c.bind_value.result in
+    let Q : Bool → Type 0 = λ b. MovesByForm (bind c.in-Bind-default-default-false.name (tree_of c.in-Bind-default-default-false.value) b) s c.bind_value.new.scope c.args.steps.now c.bind_value.new.steps c.bind_value.result in
+    subst P (sym c.in-Bind-default-default-false.is) (subst Q (sym c.in-Bind-default-default-false.sever-test ∙ c.in-Bind-default-default-false.sever-is) c.bind_value.ensures.within)
+
+pub returns-in-Reshape-clause-bounded : goal.returns-in-Reshape-clause-bounded
+returns-in-Reshape-clause-bounded g c =
+    let s = c.args.scope.now in
+    let P : Statement → Type 0 = λ z. MovesByForm (statement_of z) s c.reshape.new.scope c.args.steps.now c.reshape.new.steps c.reshape.result in
+    let Q : List Arg → Type 0 = λ xs. MovesByForm (reshape c.in-Reshape.name (args_of xs none)) s c.reshape.new.scope c.args.steps.now c.reshape.new.steps c.reshape.result in
+    subst P (sym c.in-Reshape.is) (subst Q c.deref-in-Reshape.ensures.value c.reshape.ensures.within)
+
+pub returns-in_ok-all-in-Assign-clause-bounded : goal.returns-in_ok-all-in-Assign-clause-bounded
+returns-in_ok-all-in-Assign-clause-bounded g c =
+    subst (λ (z : Statement). MovesByForm {T = Unit {0}} (statement_of z) c.args.scope.now c.assign_value.new.scope c.args.steps.now c.assign_value.new.steps (Ok tt)) (sym c.in-Assign.is) c.in_ok-all-in-Assign.ensures.within
+
+pub returns-in_err-all-in-Assign-clause-bounded : goal.returns-in_err-all-in-Assign-clause-bounded
+returns-in_err-all-in-Assign-clause-bounded g c =
+    let s = c.args.scope.now in
+    let t = c.in-Assign.target in
+    let place = target t.name (map view_of t.views.items) in
+    let tree = tree_of c.in-Assign.value in
+    let new = c.assign_value.new.scope in
+    let f = c.in_err-all-in-Assign.field-0.0 in
+    subst (λ (z : Statement). MovesByForm (statement_of z) s new c.args.steps.now c.assign_value.new.steps c.from_residual.result) (sym c.in-Assign.is)
+    (up_to_fault (Vec (Vec Notice Global) Global) c.from_residual.result f (assign_steps s place tree) s (came (value_after s place tree) new.arrays.world) c.args.steps.now c.assign_value.new.steps c.from_residual.ensures.1 c.in_err-all-in-Assign.ensures.within)

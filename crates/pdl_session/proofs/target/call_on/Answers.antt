@@ -1,4 +1,4 @@
-use Rattle.std.proofs.Common.{◌≡◌, List, Ok, sym, ap, subst, ◌∙◌}
+use Rattle.std.proofs.Common.{◌≡◌, ℕ, ◌+◌, ◌≤◌, List, [], ◌∷◌, Ok, Err, Vec, Global, arith, sym, ap, subst, ◌∙◌}
 use Rattle.pdl_syntax.specs.declared.tree.Arg.{Arg}
 use Rattle.pdl_syntax.specs.Tree.{Args, call, none, value}
 use Rattle.pdl_syntax.specs.TreeOf.{args_of}
@@ -7,7 +7,14 @@ use Rattle.pdl_machine.specs.Calls.{call_value}
 use Rattle.pdl_machine.specs.Step.{behind}
 use Rattle.pdl_machine.specs.Value.{value_of, taken}
 use Rattle.pdl_scope.specs.Answers.{IsFault, Evaluates}
+use Rattle.pdl_engine.specs.State.{ready_steps}
+use Rattle.pdl_scope.specs.Costs.{total_size}
+use Rattle.pdl_scope.specs.Scope.{engine_of}
+use Rattle.pdl_session.specs.declared.given.Given.{Given}
+use Rattle.pdl_session.specs.declared.given.Given.TheVariants.{Array}
 use Rattle.pdl_session.specs.Arguments.{arguments}
+use Rattle.pdl_session.specs.Costs.{EvaluatesWithin, PaysWithin, argued_steps, ready_all}
+use Rattle.pdl_session.proofs.Expressions.{err_again, paid_more, paid_on, pays_fault, pays_nothing}
 use Rattle.pdl_session.proofs.Evals.{call_is}
 use Rattle.pdl_session.proofs.Facts.{hands_on, first_fault}
 use Rattle.pdl_session.proofs.Targets.{behind_args, first_taken}
@@ -35,3 +42,36 @@ returns-clause-value g c = λ a of h.
     let v : value_of names a (call c.args.view.now.method (behind of (args_of xs none))) ≡ call_value c.take.new.scope.names c.args.view.now.method c.take.new.scope.arrays (arguments c.deref-2.result.now) =
     call_is names c.take.new.scope.names a c.take.new.scope.arrays c.args.view.now.method (behind of (args_of xs none)) given (arguments c.deref-2.result.now) all (ap arguments c.deref-2.ensures.value) c.take.ensures.grown.names in
     subst (λ (x : Valued). Evaluates x c.call.new.scope c.call.result) (sym v) c.call.ensures.value
+
+pub returns-in_err-first-clause-within : goal.returns-in_err-first-clause-within
+returns-in_err-first-clause-within g c = pays_nothing _ _ c.args.scope.now c.args.scope.now c.args.steps.now c.args.steps.now c.from_residual.result c.from_residual.ensures.1
+
+pub returns-in_err-given-clause-within : goal.returns-in_err-given-clause-within
+returns-in_err-given-clause-within g c =
+    let s = c.args.scope.now in
+    let v = c.args.id in
+    let xs = c.args.view.now.args.items in
+    let new = c.take.new.scope in
+    let f = c.in_err-given.field-0.0 in
+    let owed : ℕ → ℕ = ready_steps (engine_of new) in
+    let due : Vec Given Global → ℕ = λ all. ready_all new all.items in
+    let most : List Arg → List Given → ℕ = λ ys gs. argued_steps s (args_of ys none) + ready_all s gs in
+    let P : List Arg → List Given → Type 0 = λ ys gs. PaysWithin owed (most ys gs) s new c.args.steps.now c.take.new.steps (Err f) in
+    let taken : P c.deref.result.now c.in_ok-first.first.items = err_again due owed (most c.deref.result.now c.in_ok-first.first.items) s new c.args.steps.now c.take.new.steps f c.in_err-given.ensures.within in
+    let alone : P xs (Array v ∷ []) = subst (λ ys. P ys (Array v ∷ [])) c.deref.ensures.value (subst (P c.deref.result.now) c.in_ok-first.ensures.items taken) in
+    paid_more owed (most xs (Array v ∷ [])) (argued_steps s (args_of xs none) + ready_steps (engine_of s) v) s new c.args.steps.now c.take.new.steps c.from_residual-in_err-given.result (omega arith)
+    (pays_fault owed owed (most xs (Array v ∷ [])) s new c.args.steps.now c.take.new.steps f c.from_residual-in_err-given.result c.from_residual-in_err-given.ensures.1 alone)
+
+pub returns-clause-within : goal.returns-clause-within
+returns-clause-within g c =
+    let s = c.args.scope.now in
+    let v = c.args.id in
+    let xs = c.args.view.now.args.items in
+    let mid = c.take.new.scope in
+    let new = c.call.new.scope in
+    let gs = c.in_ok-given.given.items in
+    let G : List Arg → List Given → Type 0 = λ ys hs. c.take.new.steps + ready_all mid gs + total_size s.arrays.world ≤ c.args.steps.now + total_size mid.arrays.world + (argued_steps s (args_of ys none) + ready_all s hs) in
+    let taken : G xs (Array v ∷ []) = subst (λ ys. G ys (Array v ∷ [])) c.deref.ensures.value (subst (G c.deref.result.now) c.in_ok-first.ensures.items c.in_ok-given.ensures.within) in
+    let H : List Given → Type 0 = λ hs. EvaluatesWithin (ready_all mid hs) mid new c.take.new.steps c.call.new.steps c.call.result in
+    let called : H gs = subst H c.deref-2.ensures.value c.call.ensures.within in
+    paid_on (ready_steps (engine_of new)) (ready_all mid gs) (argued_steps s (args_of xs none) + ready_steps (engine_of s) v) s mid new c.args.steps.now c.take.new.steps c.call.new.steps c.call.result (omega (arith, taken)) called

@@ -11,6 +11,9 @@ use Rattle.pdl_machine.specs.Value.{known, value_of}
 use Rattle.pdl_scope.specs.declared.fault.ScopeFault.TheVariants.{Script}
 use Rattle.pdl_scope.specs.Answers.{IsFault}
 use Rattle.pdl_session.proofs.Facts.{hands_on, grows_trans}
+use Rattle.pdl_scope.specs.Growth.{grows_refl}
+use Rattle.pdl_session.proofs.Expressions.{args_less, names_live, unnamed_within}
+use Rattle.pdl_session.proofs.Moves.{named_ready, view_refused, viewed_more, views_part}
 use Rattle.pdl_session.proofs.Targets.{called, target_more, fault_at}
 use Rattle.pdl_session.proofs.target.target.Goals as goal
 
@@ -52,6 +55,8 @@ loop-view-preserved g c =
     let vs = c.args.target.now.views.items in
     let i = c.loop-view.view-index in
     let so_far = target x (map view_of (take i vs)) in
+    let costs = c.cost_laws.ensures.older c.args.scope.now c.loop-view.scope c.in_order.ensures c.in_order-in-loop-view.ensures c.loop-view.invariant.grown in
+    let fewer = args_less c.args.scope.now c.loop-view.scope c.loop-view.invariant.grown.names (names_live c.args.scope.now c.in_order.ensures.whole) costs (view_of c.view-item.result).1 in
     let at : c.view-item.result ≡ get_or c.args.target.now.views.items c.loop-view.view-index c.view-item.result = subst (λ (l : List ViewCall). c.view-item.result ≡ get_or l c.loop-view.view-index c.view-item.result) c.deref-view-items.ensures.value c.view-item.is in
     let N : Names → Type 0 = λ n. value_of n a so_far ≡ Ok (c.loop-view.scope.arrays, c.loop-view.id) in
     let here : value_of names a (called so_far (view_of c.view-item.result)) ≡ Ok (c.call_on.new.scope.arrays, c.in_ok-id.id) =
@@ -61,6 +66,7 @@ loop-view-preserved g c =
       so_far = ap (value_of names a) more ∙ here;
       grown = grows_trans c.args.scope.now c.loop-view.scope c.call_on.new.scope c.loop-view.invariant.grown c.call_on.ensures.grown;
       live = (c.in_ok-id.ensures.value a so_far (subst N (sym c.loop-view.invariant.grown.names) c.loop-view.invariant.so_far)).1;
+      within = viewed_more c.args.scope.now c.loop-view.scope c.call_on.new.scope x vs i c.view-item.result c.args.steps.now c.loop-view.steps c.call_on.new.steps c.loop-view.id c.in_ok-id.id (omega arith) at fewer c.loop-view.invariant.within c.in_ok-id.ensures.within;
       begun = λ none. absurd (omega (arith, none));
     }
 
@@ -76,3 +82,35 @@ pub returns-clause-bare : goal.returns-clause-bare
 returns-clause-bare g c = λ none.
     let count : length c.args.target.now.views.items ≡ 0 = ap length none in
     c.loop-view.invariant.begun (omega (arith, count))
+
+pub loop-view-init : goal.loop-view-init
+loop-view-init g c =
+    let s = c.args.scope.now in
+    let known_as = sym c.number_of.ensures.number ∙ c.in-Some.is in
+    record {
+      so_far = ap (known s.arrays) known_as;
+      grown = grows_refl s;
+      live = c.in-Some.ensures.live;
+      within = named_ready s c.args.target.now.name c.in-Some.id c.args.steps.now known_as;
+      begun = λ none. record { same = refl; unmoved = refl; is = known_as };
+    }
+
+pub returns-in-None-clause-within : goal.returns-in-None-clause-within
+returns-in-None-clause-within g c = unnamed_within _ c.args.scope.now c.args.steps.now UnknownName
+
+pub returns-in_err-id-clause-within : goal.returns-in_err-id-clause-within
+returns-in_err-id-clause-within g c =
+    let s = c.args.scope.now in
+    let mid = c.loop-view.scope in
+    let vs = c.args.target.now.views.items in
+    let v = c.view-item.result in
+    let at : v ≡ get_or vs c.loop-view.view-index v = subst (λ (l : List ViewCall). v ≡ get_or l c.loop-view.view-index v) c.deref-view-items.ensures.value c.view-item.is in
+    let costs = c.cost_laws.ensures.older s mid c.in_order.ensures c.in_order-in-loop-view.ensures c.loop-view.invariant.grown in
+    let fewer = args_less s mid c.loop-view.invariant.grown.names (names_live s c.in_order.ensures.whole) costs (view_of v).1 in
+    view_refused s mid c.call_on.new.scope c.args.target.now.name vs c.loop-view.view-index v c.args.steps.now c.loop-view.steps c.call_on.new.steps c.loop-view.id c.in_err-id.field-0.0 c.from_residual.result (omega arith) at fewer
+    c.loop-view.invariant.within c.from_residual.ensures.1 c.in_err-id.ensures.within
+
+pub returns-clause-within : goal.returns-clause-within
+returns-clause-within g c =
+    let part = views_part c.args.scope.now c.args.target.now.name c.args.target.now.views.items c.loop-view.view-index in
+    omega (arith, c.loop-view.invariant.within, part)

@@ -1,0 +1,72 @@
+-- What statements move at most.
+use Rattle.std.specs.Option.{option_map_or}
+use Rattle.std.specs.Prelude.{ℕ, ◌+◌, ◌≤◌, List, Result, Ok, Err, sum_by}
+use Rattle.pdl_shape.specs.Shape.{size_of}
+use Rattle.pdl_world.specs.World.{World, dims_in}
+use Rattle.pdl_engine.specs.Reading.{read_steps}
+use Rattle.pdl_engine.specs.State.{State as Engine, ready_steps}
+use Rattle.pdl_machine.specs.declared.fault.Fault.{Fault}
+use Rattle.pdl_machine.specs.Arrays.{Arrays}
+use Rattle.pdl_syntax.specs.Tree.{Args, Tree}
+use Rattle.pdl_machine.specs.Cuts.{dims_given}
+use Rattle.pdl_machine.specs.Names.{bound_to, number_of}
+use Rattle.pdl_machine.specs.Outcome.{Given, Valued}
+use Rattle.pdl_machine.specs.Then.{and_then}
+use Rattle.pdl_machine.specs.Value.{taken, value_of}
+use Rattle.pdl_machine.specs.Watches.{attached}
+use Rattle.pdl_scope.specs.Costs.{total_size}
+use Rattle.pdl_scope.specs.Scope.{Scope, engine_of}
+use Rattle.pdl_scope.specs.declared.fault.ScopeFault.{ScopeFault}
+use Rattle.pdl_scope.specs.declared.fault.ScopeFault.TheVariants.{NoMemory}
+use Rattle.pdl_session.specs.Costs.{named_steps}
+
+-- the most steps that it takes to cut an array from its parent
+abbrev pub cut_steps : Engine → ℕ → ℕ
+cut_steps e v = ready_steps e v + size_of (dims_in e.world v)
+
+-- how many elements the array of a value has; none where it is refused
+abbrev pub value_size : Valued → ℕ
+value_size (Ok v) = size_of (dims_in v.0.world v.1)
+value_size (Err e) = 0
+
+-- and how many an array of these dimensions has
+abbrev pub wanted_size : Result (List ℕ) Fault → ℕ
+wanted_size (Ok ds) = size_of ds
+wanted_size (Err e) = 0
+
+-- the arrays once a value came, before anything is done with it; where the value is refused those
+-- that were left
+abbrev pub came : {T : Type 0} → Result (Arrays × T) Fault → (left : World) → World
+came (Ok x) left = x.0.world
+came (Err e) left = left
+
+-- It takes at most a step for each element of the arrays that came up to this world, and so many
+-- besides. Where memory ran out it says nothing.
+abbrev pub MovesUpTo : {T : Type 0} → (most : ℕ) → (old : Scope) → (late : World)
+    → (before after : ℕ) → Result T ScopeFault → Type 0
+MovesUpTo most old late before after (Err NoMemory) = Unit {0}
+MovesUpTo most old late before after _ =
+    after + total_size old.arrays.world ≤ before + total_size late + most
+
+-- the arguments that give the sizes of a name's array, or that the name is unknown
+abbrev pub sizes_taken : Scope → (name : List ℕ) → Args → Result (Arrays × List Given) Fault
+sizes_taken s x args = and_then (bound_to s.names x) (λ v. taken s.names s.arrays args)
+
+-- the most steps that it takes to lay a name's array anew
+abbrev pub reshape_steps : Scope → (name : List ℕ) → Result (Arrays × List Given) Fault → ℕ
+reshape_steps s x given =
+    option_map_or (ready_steps (engine_of s)) (number_of s.names x) 0
+    + wanted_size (and_then given dims_given)
+
+-- the most steps that an assignment takes beside the elements that come: what its expressions take,
+-- to read each array that a slot is attached to, and a step for each element of the target
+abbrev pub assign_steps : Scope → (place value : Tree) → ℕ
+assign_steps s place e =
+    (named_steps s place + named_steps s e)
+    + (sum_by (read_steps (engine_of s)) (attached s.watches)
+    + value_size (value_of s.names s.arrays place))
+
+-- the value of an assignment, which comes after its target
+abbrev pub value_after : Scope → (place value : Tree) → Valued
+value_after s place e =
+    and_then (value_of s.names s.arrays place) (λ v. value_of s.names v.0 e)
