@@ -1,5 +1,5 @@
 //! The engine and its calls.
-ghost use Rattle.std.specs.Prelude.{◌≡◌, ◌≢◌, ◌↔◌, ℕ, ℤ, List, ◌+◌, ◌<◌, ◌≤◌, ◌^◌, if◌then◌else◌, nat_lt, true, false, length, All, IfOk, IfErr, IfSome, IsTrue, OnOk, OnErr, Some, None, is_ok, option_map, ◌==◌};
+ghost use Rattle.std.specs.Prelude.{◌≡◌, ◌≢◌, ◌↔◌, ℕ, ℤ, List, ◌+◌, ◌<◌, ◌≤◌, ◌^◌, if◌then◌else◌, nat_lt, true, false, length, All, IfOk, IfErr, IfSome, IsTrue, OnOk, OnErr, Ok, Some, None, is_ok, is_some, option_map, ◌==◌};
 ghost use Rattle.pdl_numbers.specs.Typed.{count_moved};
 ghost use Rattle.pdl_buf.specs.Made.{IsMade};
 ghost use Rattle.pdl_elem.specs.Types.{InRange};
@@ -11,7 +11,7 @@ ghost use Rattle.pdl_world.specs.Refused.{view_refusal};
 ghost use Rattle.pdl_world.specs.Sound.{IsLive, IsSound};
 ghost use Rattle.pdl_world.specs.Swept.{is_listed};
 ghost use Rattle.pdl_world.specs.Parts.{assign_part};
-ghost use Rattle.pdl_world.specs.World.{assign, dims_in, elements, has_repeats, places_in, root, ty_in, view};
+ghost use Rattle.pdl_world.specs.World.{assign, dims_in, elements, has_repeats, look, places_in, root, ty_in, view};
 ghost use Rattle.pdl_nodes.specs.Sized.{IsLayout};
 ghost use Rattle.pdl_engine.specs.Foresights.{Foretells, IsForeseen};
 ghost use Rattle.pdl_nodes.specs.declared.relaid.RelayFault.TheVariants.{Breaks};
@@ -102,6 +102,14 @@ impl Engine {
     {
         row_laws();
         self.table.node(id).ty()
+    }
+
+    /// Whether there is an array of this number.
+    pub fn is_live(&self, id: ArrayId) -> bool
+        ensures { result ≡ is_some (look self.now.world id) }
+    {
+        row_laws();
+        self.holds.has(id)
     }
 
     /// How many arrays there are.
@@ -431,6 +439,9 @@ impl Engine {
         ensures counted { steps.new ≤ steps.old + read_steps self.old seen }
         ensures apart { root_of self.old.world seen ≢ foresight.now.root
             → (self.new ≡ self.old) × (steps.new ≡ steps.old) }
+        ensures nothing { root_of self.old.world seen ≢ foresight.now.root → result ≡ Ok None }
+        ensures both { root_of self.old.world seen ≡ foresight.now.root
+            → IfOk result (λ o. is_some o ≡ true) }
     {
         assignment_laws();
         if self.is_apart(foresight, seen) {

@@ -17,7 +17,7 @@ use Rattle.std.proofs.lemmas.Bool.{eq-eqb, ne_eqb}
 abbrev KeepsParent : (ℕ → Row → Row) → Type 0
 KeepsParent f = (k : ℕ) (r : Row) → parent_of (f k r) ≡ parent_of r
 
-children_each : (f : ℕ → Row → Row) (rs : Rows) (v : ℕ) → KeepsParent f → children (each f rs) v ≡ children rs v
+pub children_each : (f : ℕ → Row → Row) (rs : Rows) (v : ℕ) → KeepsParent f → children (each f rs) v ≡ children rs v
 children_each f [] v p = refl
 children_each f ((k, r) ∷ rs) v p =
     ap (λ o. one_of o v + children (each f rs) v) (p k r) ∙ ap (λ n. one_of (parent_of r) v + n) (children_each f rs v p)
@@ -73,7 +73,7 @@ none_rooted [] id v ds es b = refl
 none_rooted ((k, r) ∷ rs) id v ds es b =
     rw (ne_eqb k id (λ (e : k ≡ id). let z : ⊥ = omega (arith, b.0) in z)) (ap (λ n. one_of (parent_of r) v + n) (none_rooted rs id v ds es b.1))
 
-children_rooted : (rs : Rows) (id v : ℕ) (ds : List ℕ) (es : List ℤ) → Falls rs → has rs id ≡ true → children rs v ≡ one_of (parent_of (row_at rs id)) v + children (each (rooted_in id ds es) rs) v
+pub children_rooted : (rs : Rows) (id v : ℕ) (ds : List ℕ) (es : List ℤ) → Falls rs → has rs id ≡ true → children rs v ≡ one_of (parent_of (row_at rs id)) v + children (each (rooted_in id ds es) rs) v
 children_rooted [] id v ds es f h = (let z : false ≡ true = h in absurd (cc))
 children_rooted ((k, r) ∷ rs) id v ds es f h = elim (eqb_tells k id) [
   | inl y ↦ (let b : NumbersBelow id rs = (let P : ℕ → Type 0 = λ x. NumbersBelow x rs in subst P y.1 f.0) in

@@ -1,10 +1,10 @@
 -- The oldest number from one on, in a list of keys and in rows.
-use Rattle.std.proofs.Common.{◌≡◌, ℕ, ◌+◌, ◌<◌, ◌≤◌, true, false, List, [], ◌∷◌, Option, Some, None, inl, inr, refl, sym, ◌∙◌, ap, arith}
+use Rattle.std.proofs.Common.{◌≡◌, ℕ, ◌+◌, ◌<◌, ◌≤◌, true, false, cond, leb, List, [], ◌∷◌, Option, Some, None, inl, inr, refl, sym, ◌∙◌, ap, arith}
 use Rattle.std.proofs.lemmas.Bool.Decides.{eqb_tells, leb_tells}
 use Rattle.slab.specs.Slab.{Slab}
 use Rattle.pdl_registry.specs.Numbered.{AllAbove, Rises, first_from, value_at}
 use Rattle.pdl_nodes.specs.Row.{Row}
-use Rattle.pdl_nodes.specs.Rows.{from, or_newer, NumbersBelow, Rows, has, Falls}
+use Rattle.pdl_nodes.specs.Rows.{each, from, or_newer, NumbersBelow, Rows, has, Falls}
 use Rattle.pdl_nodes.specs.Table.{rows_of, IsTable}
 use Rattle.pdl_nodes.proofs.Calls.{seen}
 use Rattle.pdl_nodes.proofs.Finds.{has_below, not_newest, below_more}
@@ -59,6 +59,16 @@ is_first ((k, r) ∷ rs) n f = elim (leb_tells n k) [
 -- there is none from a bound of all numbers on
 pub none_past : (rs : Rows) (n : ℕ) → NumbersBelow n rs → IsFirst rs n None
 none_past rs n b = λ v h l. (let low : v < n = has_below rs n v b h in omega (arith, l, low))
+
+-- what is not below the bound of a number isn't below another bound of it
+pub from_on : (rs : Rows) (o : Option ℕ) (n m : ℕ) → IsFirst rs n o → IsFirst rs m o → (v : ℕ) → has rs v ≡ true → n ≤ v → m ≤ v
+from_on rs None n m f g v h l = absurd (f v h l)
+from_on rs (Some k) n m f g v h l = (let up : k ≤ v = f.2 v h l in let low : m ≤ k = g.0 in omega (arith, up, low))
+
+-- changed rows have the same numbers
+pub from_each : (f : ℕ → Row → Row) (rs : Rows) (n : ℕ) → from (each f rs) n ≡ from rs n
+from_each f [] n = refl
+from_each f ((k, r) ∷ rs) n = ap (λ o. cond (leb n k) (or_newer o k) o) (from_each f rs n)
 
 -- two that say the same are the same
 first_same : (rs : Rows) (n : ℕ) (o p : Option ℕ) → IsFirst rs n o → IsFirst rs n p → o ≡ p

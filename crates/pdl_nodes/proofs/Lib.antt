@@ -33,7 +33,7 @@ mod Firsts
 mod RenewRows
 mod RenewOrder
 mod Relays
-mod Viewless
+mod Unmet
 mod RenewLoop
 mod Relaying
 mod Leavings

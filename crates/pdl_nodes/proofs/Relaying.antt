@@ -1,12 +1,12 @@
 -- How the layouts of all views below an array are made anew.
-use Rattle.std.proofs.Common.{◌≡◌, ℕ, ℤ, ◌+◌, ◌<◌, ◌≤◌, true, false, cond, List, [], ◌∷◌, Option, Some, None, IsSomeAnd, inl, inr, Result, Ok, Err, refl, sym, ◌∙◌, ap, subst, arith}
+use Rattle.std.proofs.Common.{◌≡◌, ℕ, ℤ, ◌+◌, ◌-◌, ◌<◌, ◌≤◌, Bool, true, false, cond, eqb, List, [], ◌∷◌, Option, Some, None, IsSomeAnd, inl, inr, Result, Ok, Err, refl, sym, ◌∙◌, ap, subst, arith}
 use Rattle.std.specs.Prelude.{IsTrue, is_some}
 use Rattle.std.specs.Option.{option_map_or, unwrap_or}
-use Rattle.std.proofs.lemmas.Bool.{cases_Bool, cases_eq, cases_lt, eq-eqb}
+use Rattle.std.proofs.lemmas.Bool.{both_ways, cases_Bool, cases_eq, cases_lt, eq-eqb}
 use Rattle.std.proofs.lemmas.Bool.Decides.{eqb_tells}
 use Rattle.pdl_shape.specs.Refusals.{Refusal}
 use Rattle.pdl_world.specs.BreakLaws.{BelowLaws, FormulasBreak, IsDerivedBelow, IsBroken}
-use Rattle.pdl_world.specs.Cut.{breaks, has_views, reshape}
+use Rattle.pdl_world.specs.Cut.{breaks, reshape}
 use Rattle.pdl_world.specs.declared.Trans.{Trans}
 use Rattle.pdl_world.specs.Formula.{child_dims, is_well_formed}
 use Rattle.pdl_world.specs.Paths.{path}
@@ -36,11 +36,11 @@ use Rattle.pdl_nodes.proofs.Finds.{has_below, not_newest}
 use Rattle.pdl_nodes.proofs.Firsts.{IsFirst, is_first, none_past}
 use Rattle.pdl_nodes.proofs.Paths.{parent_live, path_is, path_older}
 use Rattle.pdl_nodes.proofs.Relays.{path_with}
-use Rattle.pdl_nodes.proofs.RenewLoop.{room_by, room_of}
+use Rattle.pdl_nodes.proofs.RenewLoop.{room_next, room_of}
 use Rattle.pdl_nodes.proofs.Seens.{has_older, is_seen, row_older, view_at}
 use Rattle.pdl_nodes.proofs.WorldLemmas.{look_with}
+use Rattle.pdl_nodes.proofs.Unmet.{IsBelow, IsPast, IsUnmet, first_known, is_past, none_below, of_parent, past_is, unmet, unmet_here, unmet_next}
 use Rattle.pdl_nodes.proofs.Viewed.{allowed}
-use Rattle.pdl_nodes.proofs.Viewless.{no_views, none_reaches}
 
 -- the record of a row in the world
 has_view : (f : ℕ → List ℤ) (rs : Rows) (k p : ℕ) (t : Trans) (y : Layout) → has rs k ≡ true → (row_at rs k).origin ≡ View p t y → Has (with_elements f (shape rs)) k (view p t)
@@ -237,26 +237,83 @@ pub record IsOn (ls : Layouts) (rs : Rows) (v : ℕ) (ds : List ℕ) (next : Opt
 first_is : (rs : Rows) (n : ℕ) (o : Option ℕ) → IsStill rs → o ≡ from rs n → IsFirst rs n o
 first_is rs n o s e = subst (IsFirst rs n) (sym e) (is_first rs n (still_falls rs s))
 
-on_newer : BelowLaws → (rs : Rows) (v : ℕ) (ds : List ℕ) (next : Option ℕ) → IsSound (world_of rs) → IsStill rs → next ≡ from rs (v + 1) → IsOn [] rs v ds next
-on_newer laws rs v ds next s i e = record { bound = v + 1; above = omega arith; first = first_is rs (v + 1) next i e; relaying = relaying_begins laws rs v ds s i }
+-- ---- what is below v
+abbrev pub reaches : Rows → (v : ℕ) → ℕ → Bool
+reaches rs v p = is_listed (path (world_of rs) p) v
 
--- without views there is none to be laid anew
-on_none : (rs : Rows) (v : ℕ) (ds : List ℕ) → IsStill rs → has rs v ≡ true → NumbersBelow 18446744073709551615 rs → children rs v ≡ 0 → IsOn [] rs v ds None
-on_none rs v ds i h b c = record {
+reaches_below : BelowLaws → (rs : Rows) (v : ℕ) → IsSound (world_of rs) → IsStill rs → has rs v ≡ true → IsBelow rs v (reaches rs v)
+reaches_below laws rs v s i h = record {
+  top = (laws.begins (world_of rs) v [] s (is_there rs v i h)).reaches;
+  older = λ p g l. elim (cases_Bool (reaches rs v p)) [
+    | inl y ↦ (let low : v ≤ p = laws.not_older (world_of rs) v p s y in absurd (omega (arith, low, l)))
+    | inr n ↦ n
+  ];
+  follows = λ u g n. by u g n (row_at rs u).origin refl;
+} where
+  by : (u : ℕ) → has rs u ≡ true → (u ≡ v → ⊥) → (o : Origin) → (row_at rs u).origin ≡ o → reaches rs v u ≡ of_parent (reaches rs v) (parent_from o)
+  by u g n Root e = laws.not_root (world_of rs) v u (row_at rs u).ty (row_at rs u).triple.dims (latest rs u) s (has_root (latest rs) rs u g e) n
+  by u g n (View p t y) e = laws.not_on (world_of rs) v u p t s (has_view (latest rs) rs u p t y g e) n
+
+-- what is no view isn't below
+pub root_not_below : BelowLaws → (rs : Rows) (v k : ℕ) → IsSound (world_of rs) → has rs k ≡ true → (k ≡ v → ⊥) → ((p : ℕ) (t : Trans) (y : Layout) → (row_at rs k).origin ≡ View p t y → ⊥) → reaches rs v k ≡ false
+root_not_below laws rs v k s h n f = by (row_at rs k).origin refl where
+  by : (o : Origin) → (row_at rs k).origin ≡ o → reaches rs v k ≡ false
+  by Root e = laws.not_root (world_of rs) v k (row_at rs k).ty (row_at rs k).triple.dims (latest rs k) s (has_root (latest rs) rs k h e) n
+  by (View p t y) e = absurd (f p t y e)
+
+-- a view is below where its parent is
+pub view_below : BelowLaws → (rs : Rows) (v : ℕ) (ds : List ℕ) (k p : ℕ) (t : Trans) (y : Layout) (es : List ℕ) → IsSound (world_of rs) → has rs k ≡ true → (k ≡ v → ⊥) → (row_at rs k).origin ≡ View p t y → IsDerivedBelow (world_of rs) v ds p es → reaches rs v k ≡ true
+view_below laws rs v ds k p t y es s h n o b = laws.not_on (world_of rs) v k p t s (has_view (latest rs) rs k p t y h o) n ∙ b.reaches
+
+-- and isn't where its parent isn't v and has no layout
+pub view_not_below : BelowLaws → (ls : Layouts) (rs : Rows) (v : ℕ) (ds : List ℕ) (k p : ℕ) (t : Trans) (y : Layout) → IsSound (world_of rs) → IsStill rs → has rs k ≡ true → (k ≡ v → ⊥) → IsRelaying ls rs v ds k
+    → (row_at rs k).origin ≡ View p t y → AreNewDims ls v ds p None → reaches rs v k ≡ false
+view_not_below laws ls rs v ds k p t y s i h n r o d =
+    let up : (has rs p ≡ true) × (p < k) = parent_live rs k p i h (ap parent_from o) in
+    laws.not_on (world_of rs) v k p t s (has_view (latest rs) rs k p t y h o) n ∙ elim (cases_Bool (reaches rs v p)) [
+      | inl q ↦ absurd (parent_not laws ls rs v ds k p (row_at rs p).origin s i r up.0 up.1 d refl q)
+      | inr q ↦ q
+    ]
+
+-- nor an array of another family
+pub apart_not_below : (rs : Rows) (v k : ℕ) → IsStill rs → has rs k ≡ true → ((row_at rs k).root ≡ (row_at rs v).root → ⊥) → reaches rs v k ≡ false
+apart_not_below rs v k i h n = elim (cases_Bool (reaches rs v k)) [
+  | inl y ↦ absurd (n (on_path rs k v i h (ap (λ ps. is_listed ps v) (sym (path_with (latest rs) (shape rs) k)) ∙ y)).1)
+  | inr y ↦ y
+]
+
+-- where none is known from the bound on, all are laid anew
+on_ended : BelowLaws → (ls : Layouts) (rs : Rows) (v : ℕ) (ds : List ℕ) (b : ℕ) → IsSound (world_of rs) → IsStill rs → has rs v ≡ true → NumbersBelow 18446744073709551615 rs → v < b → IsRelaying ls rs v ds b → unmet rs (reaches rs v) b ≡ 0 → IsOn ls rs v ds None
+on_ended laws ls rs v ds b s i h below l r z = record {
   bound = 18446744073709551615;
-  above = has_below rs 18446744073709551615 v b h;
-  first = none_past rs 18446744073709551615 b;
+  above = has_below rs 18446744073709551615 v below h;
+  first = none_past rs 18446744073709551615 below;
   relaying = record {
-    done = λ k p t y g l e j. absurd (none_reaches rs v k p i c g (ap parent_from e) (parent_live rs k p i g (ap parent_from e)).0 (ap (λ ps. is_listed ps v) (sym (path_with (latest rs) (shape rs) p)) ∙ j));
-    only = λ k x e. cc;
+    done = λ k p t y g low e c. elim (cases_lt k b) [
+      | inl a ↦ r.done k p t y g a e c
+      | inr a ↦ (let not : reaches rs v k ≡ false = none_below rs (reaches rs v) v b i l (reaches_below laws rs v s i h) z k g a in
+          let on : reaches rs v k ≡ reaches rs v p = laws.not_on (world_of rs) v k p t s (has_view (latest rs) rs k p t y g e) (λ q. absurd (omega (arith, q, l, a))) in
+          absurd (both_ways (reaches rs v k) not (on ∙ c)))
+    ];
+    only = r.only;
   };
 }
 
-pub on_begins : BelowLaws → (rs : Rows) (v : ℕ) (ds : List ℕ) (next : Option ℕ) → IsSound (world_of rs) → IsStill rs → has rs v ≡ true → NumbersBelow 18446744073709551615 rs → next ≡ cond (has_views (shape rs) v) (from rs (v + 1)) None → IsOn [] rs v ds next
-on_begins laws rs v ds next s i h b e = elim (cases_Bool (has_views (shape rs) v)) [
-  | inl y ↦ on_newer laws rs v ds next s i (e ∙ ap (λ x. cond x (from rs (v + 1)) None) y)
-  | inr n ↦ subst (λ o. IsOn [] rs v ds o) (sym (e ∙ ap (λ x. cond x (from rs (v + 1)) None) n)) (on_none rs v ds i h b (no_views rs v n))
-]
+on_next : BelowLaws → (ls : Layouts) (rs : Rows) (v : ℕ) (ds : List ℕ) (b n : ℕ) (next : Option ℕ) → IsSound (world_of rs) → IsStill rs → has rs v ≡ true → NumbersBelow 18446744073709551615 rs → v < b → IsRelaying ls rs v ds b
+    → n ≡ unmet rs (reaches rs v) b → next ≡ cond (eqb n 0) None (from rs b) → IsOn ls rs v ds next
+on_next laws ls rs v ds b n next s i h below l r e f = subst (λ (o : Option ℕ). IsOn ls rs v ds o) (sym f) (elim (eqb_tells n 0) [
+  | inl y ↦ rw y.0 (on_ended laws ls rs v ds b s i h below l r (sym e ∙ y.1))
+  | inr y ↦ rw y.0 (record { bound = b; above = l; first = first_is rs b (from rs b) i refl; relaying = r })
+])
+
+-- the walk: what is laid anew, and the count
+abbrev pub IsWalk : Layouts → Rows → (v : ℕ) → List ℕ → (next : Option ℕ) → (n : ℕ) → Type 0
+IsWalk ls rs v ds next n = IsOn ls rs v ds next × IsUnmet rs (reaches rs v) next n
+
+pub on_begins : BelowLaws → (rs : Rows) (v : ℕ) (ds : List ℕ) (n : ℕ) (next : Option ℕ) → IsSound (world_of rs) → IsStill rs → has rs v ≡ true → NumbersBelow 18446744073709551615 rs → n ≡ children rs v → next ≡ cond (eqb n 0) None (from rs (v + 1)) → IsWalk [] rs v ds next n
+on_begins laws rs v ds n next s i h below m e =
+    let count : n ≡ unmet rs (reaches rs v) (v + 1) = m ∙ sym (first_known rs (reaches rs v) v i h (reaches_below laws rs v s i h)) in
+    (on_next laws [] rs v ds (v + 1) n next s i h below (omega arith) (relaying_begins laws rs v ds s i) count e, unmet_next rs (reaches rs v) (v + 1) n next i count e)
 
 -- the next array
 pub record IsNext (ls : Layouts) (rs : Rows) (v : ℕ) (ds : List ℕ) (k : ℕ) : Type 0 where
@@ -269,13 +326,20 @@ next_on ls rs v ds next k o e =
     let f : IsFirst rs o.bound (Some k) = subst (IsFirst rs o.bound) e o.first in
     record { live = f.1; newer = omega (arith, o.above, f.0); relaying = relaying_next ls rs v ds o.bound k o.relaying f.2 }
 
-pub on_goes : (ls : Layouts) (rs : Rows) (v : ℕ) (ds : List ℕ) (k : ℕ) (later : Option ℕ) → IsStill rs → v < k → IsRelaying ls rs v ds (k + 1) → later ≡ from rs (k + 1) → IsOn ls rs v ds later
-on_goes ls rs v ds k later i n r e = record { bound = k + 1; above = omega arith; first = first_is rs (k + 1) later i e; relaying = r }
+-- the count, past the next array
+pub on_past : BelowLaws → (rs : Rows) (v : ℕ) (next : Option ℕ) (k n : ℕ) → IsSound (world_of rs) → IsStill rs → has rs v ≡ true → has rs k ≡ true → v < k → IsUnmet rs (reaches rs v) next n → next ≡ Some k → IsPast rs (reaches rs v) k n
+on_past laws rs v next k n s i h g l c e = is_past rs (reaches rs v) v k n i g (λ q. absurd (omega (arith, q, l))) (reaches_below laws rs v s i h) (unmet_here rs (reaches rs v) next n k c e)
 
-pub on_smaller : (rs : Rows) (k : ℕ) (next later : Option ℕ) → IsStill rs → NumbersBelow 18446744073709551615 rs → has rs k ≡ true → next ≡ Some k → later ≡ from rs (k + 1) → room_of later < room_of next
-on_smaller rs k next later i b h e f =
+pub on_goes : BelowLaws → (ls : Layouts) (rs : Rows) (v : ℕ) (ds : List ℕ) (k n m : ℕ) (b : Bool) (later : Option ℕ) → IsSound (world_of rs) → IsStill rs → has rs v ≡ true → NumbersBelow 18446744073709551615 rs → v < k → IsRelaying ls rs v ds (k + 1)
+    → IsPast rs (reaches rs v) k n → b ≡ reaches rs v k → m ≡ cond b (n + children rs k - 1) n → later ≡ cond (eqb m 0) None (from rs (k + 1)) → IsWalk ls rs v ds later m
+on_goes laws ls rs v ds k n m b later s i h below l r c e f g =
+    let count : m ≡ unmet rs (reaches rs v) (k + 1) = past_is rs (reaches rs v) k n m b c e f in
+    (on_next laws ls rs v ds (k + 1) m later s i h below (omega (arith, l)) r count g, unmet_next rs (reaches rs v) (k + 1) m later i count g)
+
+pub on_smaller : (rs : Rows) (k n : ℕ) (next later : Option ℕ) → IsStill rs → NumbersBelow 18446744073709551615 rs → has rs k ≡ true → next ≡ Some k → later ≡ cond (eqb n 0) None (from rs (k + 1)) → room_of later < room_of next
+on_smaller rs k n next later i b h e f =
     let P : Option ℕ → Type 0 = λ x. room_of later < room_of x in
-    subst P (sym e) (room_by rs k later b h (first_is rs (k + 1) later i f))
+    subst P (sym e) (room_next rs k n (from rs (k + 1)) later b h (first_is rs (k + 1) (from rs (k + 1)) i refl) f)
 
 pub on_ends : (ls : Layouts) (rs : Rows) (v : ℕ) (ds : List ℕ) (next : Option ℕ) → IsOn ls rs v ds next → next ≡ None → AreRelaid ls rs v ds
 on_ends ls rs v ds next o e =

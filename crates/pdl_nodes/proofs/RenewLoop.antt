@@ -1,32 +1,32 @@
 -- The loop of a renewal, which renews each newer row over the rows as they are.
-use Rattle.std.proofs.Common.{◌≡◌, ℕ, ℤ, ◌+◌, ◌-◌, ◌<◌, ◌≤◌, true, false, eqb, cond, List, [], ◌∷◌, Option, Some, None, inl, inr, refl, sym, ◌∙◌, ap, subst, arith}
+use Rattle.std.proofs.Common.{◌≡◌, ℕ, ℤ, ◌+◌, ◌-◌, ◌<◌, ◌≤◌, Bool, true, false, eqb, cond, List, [], ◌∷◌, Option, Some, None, inl, inr, refl, sym, ◌∙◌, ap, subst, arith}
 use Rattle.std.specs.Option.{option_map_or, unwrap_or}
-use Rattle.std.proofs.lemmas.Bool.{cases_Bool, cases_eq, cases_lt, eq-eqb, ne_eqb}
+use Rattle.std.proofs.lemmas.Bool.{both_ways, cases_eq, cases_lt, eq-eqb, ne_eqb}
 use Rattle.std.proofs.lemmas.Bool.Decides.{eqb_tells}
-use Rattle.pdl_world.specs.Cut.{has_views}
 use Rattle.pdl_nodes.specs.declared.origin.Layout.{Layout}
 use Rattle.pdl_nodes.specs.declared.origin.Origin.{Origin}
 use Rattle.pdl_nodes.specs.declared.origin.Origin.TheVariants.{Root, View}
-use Rattle.pdl_nodes.specs.Children.{children}
+use Rattle.pdl_nodes.specs.Children.{children, one_of}
 use Rattle.pdl_nodes.specs.Row.{root_row, Row, parent_from, parent_of, shown_of}
 use Rattle.pdl_nodes.specs.Rows.{Rows, row_at, has, each, from, NumbersBelow, Falls}
 use Rattle.pdl_elem.specs.declared.Ty.{Ty}
 use Rattle.pdl_nodes.specs.declared.node.Shown.{Shown}
 use Rattle.pdl_nodes.specs.Joined.{LaidOver, shown_row, view_row}
+use Rattle.pdl_nodes.specs.Seen.{IsViewAt}
 use Rattle.pdl_nodes.specs.Sized.{IsLayout}
 use Rattle.pdl_nodes.specs.Still.{StillFrom, IsStill}
 use Rattle.pdl_world.specs.declared.Trans.{Trans}
+use Rattle.pdl_nodes.proofs.Counted.{children_each, children_rooted, renewed_parent}
 use Rattle.pdl_nodes.proofs.FamilyLemmas.{still_falls}
 use Rattle.pdl_nodes.proofs.Finds.{not_newest, has_below, each_has, each_at, falls_each}
-use Rattle.pdl_nodes.proofs.Firsts.{IsFirst, is_first, none_past}
+use Rattle.pdl_nodes.proofs.Firsts.{IsFirst, from_each, from_on, is_first, none_past}
+use Rattle.pdl_nodes.proofs.Lefts.{no_one}
 use Rattle.pdl_nodes.proofs.Paths.{parent_live}
 use Rattle.pdl_nodes.proofs.Marks.{each_live, each_each, each_id}
-use Rattle.pdl_nodes.proofs.RenewOrder.{leaves_families}
-use Rattle.pdl_nodes.proofs.RenewRows.{renew_row}
-use Rattle.pdl_nodes.proofs.Seens.{is_seen, row_older, has_older}
-use Rattle.pdl_nodes.specs.Worlds.{shape}
-use Rattle.pdl_nodes.proofs.Viewless.{fewer, no_views, not_view, root_alone}
-use Rattle.pdl_nodes.specs.Renewed.{AreLaid, CanDerive, CanRenew, Fits, Layouts, LaidAnew, laid_by, layout_at, renew, renewed, renewed_in, rooted_in, with_layout}
+use Rattle.pdl_nodes.proofs.RenewRows.{AllAfter, after, is_untouched, moved_root, renew_row}
+use Rattle.pdl_nodes.proofs.Seens.{is_seen, row_older, has_older, view_at}
+use Rattle.pdl_nodes.proofs.Unmet.{HasRoom, IsBelow, IsPast, IsUnmet, first_known, is_past, none_below, of_parent, past_is, past_room, unmet, unmet_here, unmet_next}
+use Rattle.pdl_nodes.specs.Renewed.{AreLaid, CanDerive, CanRenew, Fits, Layouts, LaidAnew, is_of, laid_by, layout_at, renew, renewed, renewed_in, rooted_in, with_layout}
 
 -- the changes of one row
 pub rooted_here : (id : ℕ) (ds : List ℕ) (es : List ℤ) (r : Row) → root_row id r.ty ds es ≡ rooted_in id ds es id r
@@ -209,7 +209,7 @@ renewed_left : (ls left : Layouts) (v : ℕ) (rs : Rows) (k : ℕ) (r : Row) (o 
 renewed_left ls left v rs k r Root e = refl
 renewed_left ls left v rs k r (View p t y) e = ap (λ x. cond (eqb (row_at rs p).root v) (view_row k p t (unwrap_or x y) (row_at rs p)) r) e
 
-pub each_left : (ls left : Layouts) (v : ℕ) (rs t : Rows) (id : ℕ) → Falls t → layout_at left id ≡ layout_at ls id → each (renewed_in left v rs id) t ≡ each (renewed_in ls v rs id) t
+each_left : (ls left : Layouts) (v : ℕ) (rs t : Rows) (id : ℕ) → Falls t → layout_at left id ≡ layout_at ls id → each (renewed_in left v rs id) t ≡ each (renewed_in ls v rs id) t
 each_left ls left v rs t id f e = each_live (renewed_in left v rs id) (renewed_in ls v rs id) t f (λ u h. elim (eqb_tells u id) [
   | inl y ↦ rw y.0 (renewed_left ls left v rs id (row_at t u) (row_at t u).origin e)
   | inr y ↦ rw y.0 refl
@@ -241,19 +241,6 @@ next_is f t0 t n o s e b =
     let P : Option ℕ → Type 0 = λ x. IsFirst t0 n x in
     subst P (sym (b ∙ ap (λ x. from x n) e)) (first_each f t0 n (from (each f t0) n) (is_first (each f t0) n falls))
 
--- without views no row changes but that of the new root
-renew_viewless : (ls : Layouts) (rs : Rows) → IsStill rs → (v : ℕ) (ds : List ℕ) (es : List ℤ) → children rs v ≡ 0 → (u : ℕ) → has rs u ≡ true → (u ≡ v → ⊥) → row_at (renew ls rs v ds es) u ≡ row_at rs u
-renew_viewless ls [] s v ds es c u h n = (let z : false ≡ true = h in absurd (cc))
-renew_viewless ls ((k, r) ∷ rs) s v ds es c u h n =
-    let rest : children rs v ≡ 0 = fewer (parent_of r) v (children rs v) c in
-    elim (eqb_tells k u) [
-      | inl t ↦ (let ne : k ≡ v → ⊥ = λ e. n (sym t.1 ∙ e) in
-          rw (t.0, ne_eqb k v ne) (renewed_none ls v (renew ls rs v ds es) k r r.origin (λ p e g. (let w : HasAbove rs k p = above_from rs k r r.origin p s.0 s.1 e in
-          let m : p ≡ v → ⊥ = λ q. not_view (parent_of r) v (children rs v) c (e ∙ ap Some q) in
-          m (root_alone rs v p s.2 rest w.live (sym (ap (λ (x : Row). x.root) (renew_viewless ls rs s.2 v ds es rest p w.live m)) ∙ g))))))
-      | inr t ↦ rw t.0 (renew_viewless ls rs s.2 v ds es rest u (rw t.0 at h) n)
-    ]
-
 -- the new root is there, and no view is derived anew yet
 rooted_row : (ls : Layouts) (t0 : Rows) (v : ℕ) (ds : List ℕ) (es : List ℤ) (t : Rows) (u : ℕ) → t ≡ each (rooted_in v ds es) t0 → has t0 v ≡ true → has t0 u ≡ true
     → ((u ≡ v → ⊥) → row_at (renew ls t0 v ds es) u ≡ row_at t0 u) → row_at t u ≡ row_at (renew ls t0 v ds es) u
@@ -272,23 +259,115 @@ renewing_newer ls t0 v ds es t next s h e b = record {
   rest = λ u g l. ap (λ x. row_at x u) e ∙ each_at (rooted_in v ds es) t0 u g ∙ rw (ne_eqb u v (λ y. (let z : ⊥ = omega arith in z))) refl;
 }
 
--- without views there is none to be derived anew
-renewing_alone : (ls : Layouts) (t0 : Rows) (v : ℕ) (ds : List ℕ) (es : List ℤ) (t : Rows) → IsStill t0 → has t0 v ≡ true → NumbersBelow 18446744073709551615 t0 → children t0 v ≡ 0 → t ≡ each (rooted_in v ds es) t0 → IsRenewing ls t0 v ds es t None
-renewing_alone ls t0 v ds es t s h b c e = record {
-  bound = 18446744073709551615;
-  above = has_below t0 18446744073709551615 v b h;
-  first = none_past t0 18446744073709551615 b;
-  rows = same_each t0 t (rooted_in v ds es) s e;
-  done = λ u g l. rooted_row ls t0 v ds es t u e h g (renew_viewless ls t0 s v ds es c u g);
-  rest = λ u g l. absurd (none_past t0 18446744073709551615 b u g l);
+-- ---- what is below the new root
+-- the new root is its root then
+abbrev pub is_new : Layouts → Rows → ℕ → List ℕ → List ℤ → ℕ → Bool
+is_new ls t0 v ds es p = eqb (row_at (renew ls t0 v ds es) p).root v
+
+-- a root is no newer than its family
+root_low : (rs : Rows) → IsStill rs → (u : ℕ) → has rs u ≡ true → (row_at rs u).root ≤ u
+root_low [] s u h = (let z : false ≡ true = h in absurd (cc))
+root_low ((k, r) ∷ rs) s u h = elim (eqb_tells k u) [
+  | inl y ↦ rw y.0 (let low : r.root ≤ k = by (λ p h. root_low rs s.2 p h) r.origin s.1 in omega (arith, low, y.1))
+  | inr y ↦ rw y.0 (root_low rs s.2 u (rw y.0 at h))
+] where
+  by : ((p : ℕ) → has rs p ≡ true → (row_at rs p).root ≤ p) → (o : Origin) → StillFrom rs k r o → r.root ≤ k
+  by f Root i = (let e : r.root ≡ k = i.root_is in omega (arith, e))
+  by f (View p t y) i =
+      let a : (row_at rs p).root ≤ p = f p i.0 in
+      let b : p < k = has_below rs k p s.0 i.0 in
+      let e : r.root ≡ (row_at rs p).root = i.1.root_is in
+      omega (arith, a, b, e)
+
+-- what is no view is its own root
+own_root : (rs : Rows) → IsStill rs → (u : ℕ) → has rs u ≡ true → (row_at rs u).origin ≡ Root → (row_at rs u).root ≡ u
+own_root [] s u h e = (let z : false ≡ true = h in absurd (cc))
+own_root ((k, r) ∷ rs) s u h e = elim (eqb_tells k u) [
+  | inl y ↦ rw y.0 (by r.origin (rw y.0 at e) s.1 ∙ y.1)
+  | inr y ↦ rw y.0 (own_root rs s.2 u (rw y.0 at h) (rw y.0 at e))
+] where
+  by : (o : Origin) → o ≡ Root → StillFrom rs k r o → r.root ≡ k
+  by Root e i = i.root_is
+  by (View p t y) e i = cc
+
+-- what becomes of each row
+moved : (ls : Layouts) (t0 : Rows) (v : ℕ) (ds : List ℕ) (es : List ℤ) → CanRenew ls t0 v ds es → AllAfter ls t0 v ds es (row_at t0 v).root
+moved ls t0 v ds es c = after ls t0 v ds es (row_at t0 v).root c.order.still (λ u h e. ap (λ x. (row_at t0 x).root) e)
+
+new_follows : (ls : Layouts) (t0 : Rows) (v : ℕ) (ds : List ℕ) (es : List ℤ) → CanRenew ls t0 v ds es → (u : ℕ) → has t0 u ≡ true → (u ≡ v → ⊥) → is_new ls t0 v ds es u ≡ of_parent (is_new ls t0 v ds es) (parent_of (row_at t0 u))
+new_follows ls t0 v ds es c u h n = by (row_at t0 u).origin refl where
+  step : row_at (renew ls t0 v ds es) u ≡ renewed ls (renew ls t0 v ds es) v u (row_at t0 u) (row_at t0 u).origin
+  step = renew_step ls t0 c.order.still v ds es u h n
+
+  by : (o : Origin) → (row_at t0 u).origin ≡ o → is_new ls t0 v ds es u ≡ of_parent (is_new ls t0 v ds es) (parent_from o)
+  by Root e =
+      let row : row_at (renew ls t0 v ds es) u ≡ row_at t0 u = step ∙ ap (renewed ls (renew ls t0 v ds es) v u (row_at t0 u)) e in
+      ne_eqb (row_at (renew ls t0 v ds es) u).root v (λ q. n (sym (own_root t0 c.order.still u h e) ∙ ap (λ (x : Row). x.root) (sym row) ∙ q))
+  by (View p t y) e =
+      let at : IsViewAt t0 u p t y = view_at t0 c.order.still u p t y h e in
+      let row : row_at (renew ls t0 v ds es) u ≡ renewed ls (renew ls t0 v ds es) v u (row_at t0 u) (View p t y) = step ∙ ap (renewed ls (renew ls t0 v ds es) v u (row_at t0 u)) e in
+      elim (eqb_tells (row_at (renew ls t0 v ds es) p).root v) [
+        | inl w ↦ (let same : row_at (renew ls t0 v ds es) u ≡ view_row u p t (laid_by ls u y) (row_at (renew ls t0 v ds es) p) = row ∙ (rw w.0 refl) in
+            ap (λ (x : Row). eqb x.root v) same)
+        | inr w ↦ (let same : row_at (renew ls t0 v ds es) u ≡ row_at t0 u = row ∙ (rw w.0 refl) in
+            let apart : (row_at t0 p).root ≡ v → ⊥ = (is_untouched v (row_at t0 v).root p (row_at t0 p) (row_at (renew ls t0 v ds es) p) (moved ls t0 v ds es c p at.live) w.1).apart in
+            ne_eqb (row_at (renew ls t0 v ds es) u).root v (λ q. apart (sym at.derived.root_is ∙ ap (λ (x : Row). x.root) (sym same) ∙ q)) ∙ sym w.0)
+      ]
+
+new_below : (ls : Layouts) (t0 : Rows) (v : ℕ) (ds : List ℕ) (es : List ℤ) → CanRenew ls t0 v ds es → IsBelow t0 v (is_new ls t0 v ds es)
+new_below ls t0 v ds es c = record {
+  top = eq-eqb (row_at (renew ls t0 v ds es) v).root v (ap (λ (x : Row). x.root) (renew_row ls t0 v ds es c.live));
+  older = λ p h l. ne_eqb (row_at (renew ls t0 v ds es) p).root v (λ e. (let low : (row_at t0 p).root ≤ p = root_low t0 c.order.still p h in
+      let row : (row_at (renew ls t0 v ds es) p).root ≡ (row_at t0 p).root = ap (λ (x : Row). x.root) (renew_low ls t0 c.order.still v ds es p h l) in
+      absurd (omega (arith, low, row, e, l))));
+  follows = new_follows ls t0 v ds es c;
 }
 
-pub renewing_none : (ls : Layouts) (t0 : Rows) (v : ℕ) (ds : List ℕ) (es : List ℤ) (t : Rows) (next : Option ℕ) → IsStill t0 → has t0 v ≡ true → NumbersBelow 18446744073709551615 t0 → t ≡ each (rooted_in v ds es) t0
-    → next ≡ cond (has_views (shape t0) v) (from t0 (v + 1)) None → IsRenewing ls t0 v ds es t next
-renewing_none ls t0 v ds es t next s h b e f = elim (cases_Bool (has_views (shape t0) v)) [
-  | inl y ↦ renewing_newer ls t0 v ds es t next s h e (f ∙ ap (λ x. cond x (from t0 (v + 1)) None) y)
-  | inr n ↦ subst (λ (x : Option ℕ). IsRenewing ls t0 v ds es t x) (sym (f ∙ ap (λ x. cond x (from t0 (v + 1)) None) n)) (renewing_alone ls t0 v ds es t s h b (no_views t0 v n) e)
-]
+-- where no array from the bound on is below, none is left to be derived anew
+renewing_ends : (ls : Layouts) (t0 : Rows) (v : ℕ) (ds : List ℕ) (es : List ℤ) (t : Rows) (o : Option ℕ) (b : ℕ) → CanRenew ls t0 v ds es → NumbersBelow 18446744073709551615 t0 → IsFirst t0 b o → IsRenewing ls t0 v ds es t o
+    → ((u : ℕ) → has t0 u ≡ true → b ≤ u → is_new ls t0 v ds es u ≡ false) → IsRenewing ls t0 v ds es t None
+renewing_ends ls t0 v ds es t o b k below f c none = record {
+  bound = 18446744073709551615;
+  above = has_below t0 18446744073709551615 v below k.live;
+  first = none_past t0 18446744073709551615 below;
+  rows = c.rows;
+  done = λ u g l. elim (cases_lt u c.bound) [
+    | inl y ↦ c.done u g y
+    | inr y ↦ c.rest u g y ∙ sym (is_untouched v (row_at t0 v).root u (row_at t0 u) (row_at (renew ls t0 v ds es) u) (moved ls t0 v ds es k u g)
+        (λ e. both_ways (is_new ls t0 v ds es u) (none u g (from_on t0 o c.bound b c.first f u g y)) (eq-eqb (row_at (renew ls t0 v ds es) u).root v e))).row
+  ];
+  rest = λ u g l. absurd (none_past t0 18446744073709551615 below u g l);
+}
+
+renewing_next : (ls : Layouts) (t0 : Rows) (v : ℕ) (ds : List ℕ) (es : List ℤ) (t : Rows) (b n : ℕ) (next : Option ℕ) → CanRenew ls t0 v ds es → NumbersBelow 18446744073709551615 t0 → v < b → IsRenewing ls t0 v ds es t (from t0 b)
+    → n ≡ unmet t0 (is_new ls t0 v ds es) b → next ≡ cond (eqb n 0) None (from t0 b) → IsRenewing ls t0 v ds es t next
+renewing_next ls t0 v ds es t b n next k below l c e f = subst (λ (x : Option ℕ). IsRenewing ls t0 v ds es t x) (sym f) (elim (eqb_tells n 0) [
+  | inl y ↦ rw y.0 (renewing_ends ls t0 v ds es t (from t0 b) b k below (is_first t0 b (still_falls t0 k.order.still)) c
+      (none_below t0 (is_new ls t0 v ds es) v b k.order.still l (new_below ls t0 v ds es k) (sym e ∙ y.1)))
+  | inr y ↦ rw y.0 c
+])
+
+pub renewing_begins : (ls : Layouts) (t0 : Rows) (v : ℕ) (ds : List ℕ) (es : List ℤ) (t : Rows) (n : ℕ) (next : Option ℕ) → CanRenew ls t0 v ds es → NumbersBelow 18446744073709551615 t0 → t ≡ each (rooted_in v ds es) t0
+    → n ≡ children t0 v → next ≡ cond (eqb n 0) None (from t0 (v + 1)) → IsRenewing ls t0 v ds es t next × IsUnmet t0 (is_new ls t0 v ds es) next n
+renewing_begins ls t0 v ds es t n next k below e m f =
+    let s : IsStill t0 = k.order.still in
+    let count : n ≡ unmet t0 (is_new ls t0 v ds es) (v + 1) = m ∙ sym (first_known t0 (is_new ls t0 v ds es) v s k.live (new_below ls t0 v ds es k)) in (
+      renewing_next ls t0 v ds es t (v + 1) n next k below (omega arith) (renewing_newer ls t0 v ds es t (from t0 (v + 1)) s k.live e refl) count f,
+      unmet_next t0 (is_new ls t0 v ds es) (v + 1) n next s count f,
+    )
+
+-- the arrays from the new root on have as many views as before
+abbrev pub AreCountedFrom : Rows → (v : ℕ) → Rows → Type 0
+AreCountedFrom t0 v t = (u : ℕ) → v ≤ u → children t u ≡ children t0 u
+
+pub counted_begins : (t0 : Rows) (v : ℕ) (ds : List ℕ) (es : List ℤ) (t : Rows) → IsStill t0 → has t0 v ≡ true → t ≡ each (rooted_in v ds es) t0 → AreCountedFrom t0 v t
+counted_begins t0 v ds es t s h e u l =
+    let sum : children t0 u ≡ one_of (parent_of (row_at t0 v)) u + children (each (rooted_in v ds es) t0) u = children_rooted t0 v u ds es (still_falls t0 s) h in
+    let none : one_of (parent_of (row_at t0 v)) u ≡ 0 = no_one (parent_of (row_at t0 v)) u (λ q. (let low : u < v = (parent_live t0 v u s h q).1 in absurd (omega (arith, low, l)))) in
+    ap (λ x. children x u) e ∙ omega (arith, sum, none)
+
+pub counted_goes : (ls : Layouts) (t0 : Rows) (v : ℕ) (t new : Rows) (id : ℕ) → AreCountedFrom t0 v t → new ≡ each (renewed_in ls v t id) t → AreCountedFrom t0 v new
+counted_goes ls t0 v t new id c e u l = ap (λ x. children x u) e ∙ children_each (renewed_in ls v t id) t u (renewed_parent ls v t id) ∙ c u l
 
 -- the next number is live and newer, and the rows before it are done
 record IsAt (ls : Layouts) (t0 : Rows) (v : ℕ) (ds : List ℕ) (es : List ℤ) (t : Rows) (id : ℕ) : Type 0 where
@@ -317,7 +396,7 @@ is_at ls t0 v ds es t next id c e =
 pub renewing_live : (ls : Layouts) (t0 : Rows) (v : ℕ) (ds : List ℕ) (es : List ℤ) (t : Rows) (next : Option ℕ) (id : ℕ) → IsRenewing ls t0 v ds es t next → next ≡ Some id → has t id ≡ true
 renewing_live ls t0 v ds es t next id c e = let a : IsAt ls t0 v ds es t id = is_at ls t0 v ds es t next id c e in a.has_is id ∙ a.live
 
-pub renewing_more : (ls : Layouts) (t0 : Rows) (v : ℕ) (ds : List ℕ) (es : List ℤ) (t new : Rows) (next later : Option ℕ) (id : ℕ) → IsStill t0 → IsRenewing ls t0 v ds es t next → next ≡ Some id → new ≡ each (renewed_in ls v t id) t → later ≡ from new (id + 1)
+renewing_more : (ls : Layouts) (t0 : Rows) (v : ℕ) (ds : List ℕ) (es : List ℤ) (t new : Rows) (next later : Option ℕ) (id : ℕ) → IsStill t0 → IsRenewing ls t0 v ds es t next → next ≡ Some id → new ≡ each (renewed_in ls v t id) t → later ≡ from new (id + 1)
     → IsRenewing ls t0 v ds es new later
 renewing_more ls t0 v ds es t new next later id s c e n b =
     let a : IsAt ls t0 v ds es t id = is_at ls t0 v ds es t next id c e in
@@ -350,17 +429,30 @@ renewing_done ls t0 v ds es t next s c e =
 room_less : (m n : ℕ) → m < 18446744073709551615 → n + 1 ≤ m → 18446744073709551615 - m < 18446744073709551615 - n
 room_less m n a b = omega arith
 
-pub room_by : (t0 : Rows) (id : ℕ) (o : Option ℕ) → NumbersBelow 18446744073709551615 t0 → has t0 id ≡ true → IsFirst t0 (id + 1) o → room_of o < room_of (Some id)
+room_by : (t0 : Rows) (id : ℕ) (o : Option ℕ) → NumbersBelow 18446744073709551615 t0 → has t0 id ≡ true → IsFirst t0 (id + 1) o → room_of o < room_of (Some id)
 room_by t0 id None b h f = (let x : id < 18446744073709551615 = has_below t0 18446744073709551615 id b h in omega arith)
 room_by t0 id (Some m) b h f = room_less m id (has_below t0 18446744073709551615 m b f.1) f.0
 
-pub renewing_smaller : (ls : Layouts) (t0 : Rows) (v : ℕ) (ds : List ℕ) (es : List ℤ) (t new : Rows) (next later : Option ℕ) (id : ℕ) → IsStill t0 → NumbersBelow 18446744073709551615 t0 → IsRenewing ls t0 v ds es t next → next ≡ Some id
-    → new ≡ each (renewed_in ls v t id) t → later ≡ from new (id + 1) → room_of later < room_of next
-renewing_smaller ls t0 v ds es t new next later id s b c e n f =
+-- what a walk goes on with is from there on
+going_on : (n : ℕ) (o later : Option ℕ) → later ≡ cond (eqb n 0) None o → (m : ℕ) → later ≡ Some m → o ≡ Some m
+going_on n o later e m f = elim (eqb_tells n 0) [
+  | inl y ↦ (let z : None ≡ Some m = sym (ap (λ x. cond x None o) y.0) ∙ sym e ∙ f in absurd (cc))
+  | inr y ↦ sym (ap (λ x. cond x None o) y.0) ∙ sym e ∙ f
+]
+
+pub room_next : (t0 : Rows) (id n : ℕ) (o later : Option ℕ) → NumbersBelow 18446744073709551615 t0 → has t0 id ≡ true → IsFirst t0 (id + 1) o → later ≡ cond (eqb n 0) None o → room_of later < room_of (Some id)
+room_next t0 id n o later b h f e = subst (λ (x : Option ℕ). room_of x < room_of (Some id)) (sym e) (elim (eqb_tells n 0) [
+  | inl y ↦ rw y.0 (let x : id < 18446744073709551615 = has_below t0 18446744073709551615 id b h in omega arith)
+  | inr y ↦ rw y.0 (room_by t0 id o b h f)
+])
+
+pub renewing_smaller : (ls : Layouts) (t0 : Rows) (v : ℕ) (ds : List ℕ) (es : List ℤ) (t new : Rows) (n : ℕ) (next later : Option ℕ) (id : ℕ) → IsStill t0 → NumbersBelow 18446744073709551615 t0 → IsRenewing ls t0 v ds es t next → next ≡ Some id
+    → new ≡ each (renewed_in ls v t id) t → later ≡ cond (eqb n 0) None (from new (id + 1)) → room_of later < room_of next
+renewing_smaller ls t0 v ds es t new n next later id s b c e g f =
     let a : IsAt ls t0 v ds es t id = is_at ls t0 v ds es t next id c e in
-    let all : new ≡ each (λ k r. renewed_in ls v t id k (row_at t k)) t0 = n ∙ ap (each (renewed_in ls v t id)) c.rows ∙ each_each (renewed_in ls v t id) (λ k r. row_at t k) t0 in
+    let all : new ≡ each (λ k r. renewed_in ls v t id k (row_at t k)) t0 = g ∙ ap (each (renewed_in ls v t id)) c.rows ∙ each_each (renewed_in ls v t id) (λ k r. row_at t k) t0 in
     let P : Option ℕ → Type 0 = λ x. room_of later < room_of x in
-    subst P (sym e) (room_by t0 id later b a.live (next_is (λ k r. renewed_in ls v t id k (row_at t k)) t0 new (id + 1) later s all f))
+    subst P (sym e) (room_next t0 id n (from new (id + 1)) later b a.live (next_is (λ k r. renewed_in ls v t id k (row_at t k)) t0 new (id + 1) (from new (id + 1)) s all refl) f)
 
 pub renewing_low : (ls : Layouts) (t0 : Rows) (v : ℕ) (ds : List ℕ) (es : List ℤ) (t : Rows) (next : Option ℕ) (id : ℕ) → NumbersBelow 18446744073709551615 t0 → IsRenewing ls t0 v ds es t next → next ≡ Some id → id < 18446744073709551615
 renewing_low ls t0 v ds es t next id b c e = has_below t0 18446744073709551615 id b (is_at ls t0 v ds es t next id c e).live
@@ -378,22 +470,59 @@ renewing_can ls t0 v ds es t next id s l c e = λ p u y o.
     let P : Row → Type 0 = λ x. IsLayout u x.triple.dims (laid_by ls id y) in
     (a.has_is p ∙ w.live, λ g. subst P (sym row) (laid_at ls t0 s v ds es l id p u y a.live o0 (ap (λ (x : Row). x.root) (sym row) ∙ g)).layout)
 
--- one that was of another family stays
-pub renewing_same : (ls : Layouts) (t0 : Rows) (v : ℕ) (ds : List ℕ) (es : List ℤ) (t : Rows) (next : Option ℕ) (id : ℕ) → CanRenew ls t0 v ds es → IsRenewing ls t0 v ds es t next → next ≡ Some id
-    → ((row_at t id).root ≡ (row_at t0 v).root → ⊥) → each (renewed_in ls v t id) t ≡ t
-renewing_same ls t0 v ds es t next id k c e n =
-    let s : IsStill t0 = k.order.still in
-    let a : IsAt ls t0 v ds es t id = is_at ls t0 v ds es t next id c e in
+-- the next array is below exactly where its parent is of the new root
+renewing_below : (ls : Layouts) (t0 : Rows) (v : ℕ) (ds : List ℕ) (es : List ℤ) (t : Rows) (next : Option ℕ) (id : ℕ) → CanRenew ls t0 v ds es → IsRenewing ls t0 v ds es t next → next ≡ Some id
+    → is_of t v (parent_of (row_at t id)) ≡ is_new ls t0 v ds es id
+renewing_below ls t0 v ds es t next id k c e =
     let ne : id ≡ v → ⊥ = λ y. (let x : v < id = a.newer in let z : ⊥ = omega arith in z) in
-    let falls : Falls t = renewing_falls ls t0 v ds es t next s c in
-    let last : renewed ls t v id (row_at t0 id) (row_at t0 id).origin ≡ row_at (renew ls t0 v ds es) id =
-    renewed_same ls v t (renew ls t0 v ds es) id (row_at t0 id) (row_at t0 id).origin (λ p q. (let w : HasAbove t0 id p = has_above t0 s id p a.live q in a.done p w.live w.older)) ∙ sym (renew_step ls t0 s v ds es id a.live ne) in
-    let same : renewed ls t v id (row_at t id) (row_at t id).origin ≡ row_at t id =
-    ap (λ (z : Row). renewed ls t v id z z.origin) a.here ∙ last ∙ leaves_families ls t0 v ds es k id a.live (λ y. n (ap (λ (r : Row). r.root) a.here ∙ y)) ∙ sym a.here in
-    each_live (renewed_in ls v t id) (λ k r. r) t falls (λ u h. elim (eqb_tells u id) [
-      | inl y ↦ rw y.0 (let P : ℕ → Type 0 = λ x. renewed ls t v id (row_at t x) (row_at t x).origin ≡ row_at t x in subst P (sym y.1) same)
-      | inr y ↦ rw y.0 refl
-    ]) ∙ each_id t
+    ap (λ (r : Row). is_of t v (parent_of r)) a.here ∙ by (parent_of (row_at t0 id)) refl ∙ sym (new_follows ls t0 v ds es k id a.live ne)
+  where
+    a : IsAt ls t0 v ds es t id
+    a = is_at ls t0 v ds es t next id c e
+
+    by : (o : Option ℕ) → parent_of (row_at t0 id) ≡ o → is_of t v o ≡ of_parent (is_new ls t0 v ds es) o
+    by None q = refl
+    by (Some p) q = (let w : HasAbove t0 id p = has_above t0 k.order.still id p a.live q in ap (λ (r : Row). eqb r.root v) (a.done p w.live w.older))
+
+-- one that was of another family isn't
+pub renewing_apart : (ls : Layouts) (t0 : Rows) (v : ℕ) (ds : List ℕ) (es : List ℤ) (t : Rows) (next : Option ℕ) (id : ℕ) → CanRenew ls t0 v ds es → IsRenewing ls t0 v ds es t next → next ≡ Some id
+    → ((row_at t id).root ≡ (row_at t0 v).root → ⊥) → is_of t v (parent_of (row_at t id)) ≡ false
+renewing_apart ls t0 v ds es t next id k c e n =
+    let a : IsAt ls t0 v ds es t id = is_at ls t0 v ds es t next id c e in
+    renewing_below ls t0 v ds es t next id k c e
+    ∙ ne_eqb (row_at (renew ls t0 v ds es) id).root v (λ q. n (ap (λ (r : Row). r.root) a.here ∙ moved_root v (row_at t0 v).root id (row_at t0 id) (row_at (renew ls t0 v ds es) id) (moved ls t0 v ds es k id a.live) q))
+
+pub apart_same : (ls : Layouts) (v : ℕ) (rs : Rows) (id : ℕ) → Falls rs → is_of rs v (parent_of (row_at rs id)) ≡ false → each (renewed_in ls v rs id) rs ≡ rs
+apart_same ls v rs id f n = sym (none_renewed ls v rs id f (λ p e g. both_ways (is_of rs v (parent_of (row_at rs id))) n (ap (is_of rs v) e ∙ eq-eqb (row_at rs p).root v g)))
+
+-- the count, past the next array
+renewing_past : (ls : Layouts) (t0 : Rows) (v : ℕ) (ds : List ℕ) (es : List ℤ) (t : Rows) (next : Option ℕ) (id n : ℕ) → CanRenew ls t0 v ds es → IsRenewing ls t0 v ds es t next → next ≡ Some id → IsUnmet t0 (is_new ls t0 v ds es) next n
+    → IsPast t0 (is_new ls t0 v ds es) id n
+renewing_past ls t0 v ds es t next id n k c e i =
+    let a : IsAt ls t0 v ds es t id = is_at ls t0 v ds es t next id c e in
+    is_past t0 (is_new ls t0 v ds es) v id n k.order.still a.live (λ y. (let x : v < id = a.newer in let z : ⊥ = omega arith in z)) (new_below ls t0 v ds es k) (unmet_here t0 (is_new ls t0 v ds es) next n id i e)
+
+-- one that is below was known, and the count has room
+pub renewing_room : (ls : Layouts) (t0 : Rows) (v : ℕ) (ds : List ℕ) (es : List ℤ) (t new : Rows) (next : Option ℕ) (id n : ℕ) (b : Bool) → CanRenew ls t0 v ds es → NumbersBelow 18446744073709551615 t0 → IsRenewing ls t0 v ds es t next → next ≡ Some id
+    → IsUnmet t0 (is_new ls t0 v ds es) next n → AreCountedFrom t0 v new → b ≡ is_of t v (parent_of (row_at t id)) → b ≡ true → HasRoom n (children new id)
+renewing_room ls t0 v ds es t new next id n b k below c e i counts f y =
+    let a : IsAt ls t0 v ds es t id = is_at ls t0 v ds es t next id c e in
+    past_room t0 (is_new ls t0 v ds es) id n (children new id) k.order.still below (renewing_past ls t0 v ds es t next id n k c e i) (counts id (omega (arith, a.newer))) (sym (renewing_below ls t0 v ds es t next id k c e) ∙ sym f ∙ y)
+
+pub renewing_goes : (ls : Layouts) (t0 : Rows) (v : ℕ) (ds : List ℕ) (es : List ℤ) (t new : Rows) (next later : Option ℕ) (id n m : ℕ) (b : Bool) → CanRenew ls t0 v ds es → NumbersBelow 18446744073709551615 t0 → IsRenewing ls t0 v ds es t next → next ≡ Some id
+    → IsUnmet t0 (is_new ls t0 v ds es) next n → new ≡ each (renewed_in ls v t id) t → AreCountedFrom t0 v new → b ≡ is_of t v (parent_of (row_at t id)) → m ≡ cond b (n + children new id - 1) n → later ≡ cond (eqb m 0) None (from new (id + 1))
+    → IsRenewing ls t0 v ds es new later × IsUnmet t0 (is_new ls t0 v ds es) later m
+renewing_goes ls t0 v ds es t new next later id n m b k below c e i g counts f w l =
+    let a : IsAt ls t0 v ds es t id = is_at ls t0 v ds es t next id c e in
+    let s : IsStill t0 = k.order.still in
+    let goes : IsRenewing ls t0 v ds es new (from new (id + 1)) = renewing_more ls t0 v ds es t new next (from new (id + 1)) id s c e g refl in
+    let same : from new (id + 1) ≡ from t0 (id + 1) = ap (λ (x : Rows). from x (id + 1)) goes.rows ∙ from_each (λ j r. row_at new j) t0 (id + 1) in
+    let views : m ≡ cond b (n + children t0 id - 1) n = w ∙ ap (λ x. cond b (n + x - 1) n) (counts id (omega (arith, a.newer))) in
+    let count : m ≡ unmet t0 (is_new ls t0 v ds es) (id + 1) = past_is t0 (is_new ls t0 v ds es) id n m b (renewing_past ls t0 v ds es t next id n k c e i) (f ∙ renewing_below ls t0 v ds es t next id k c e) views in
+    let on : later ≡ cond (eqb m 0) None (from t0 (id + 1)) = l ∙ ap (λ o. cond (eqb m 0) None o) same in (
+      renewing_next ls t0 v ds es new (id + 1) m later k below (omega (arith, a.newer)) (subst (λ (x : Option ℕ). IsRenewing ls t0 v ds es new x) same goes) count on,
+      unmet_next t0 (is_new ls t0 v ds es) (id + 1) m later s count on,
+    )
 
 pub can_left : (ls left : Layouts) (t : Rows) (v id : ℕ) → layout_at left id ≡ layout_at ls id → CanDerive ls t v id → CanDerive left t v id
 can_left ls left t v id e c = λ p u y o. ((c p u y o).0, λ g. subst (λ x. IsLayout u (row_at t p).triple.dims (unwrap_or x y)) (sym e) ((c p u y o).1 g))
@@ -418,9 +547,14 @@ left_goes ls left new (Some n) (Some m) id a e f g = λ u h. (let z : n ≡ id =
     let up : id + 1 ≤ m = f m refl in
     g u (λ q. absurd (omega (arith, q, up, h))) ∙ a u (omega (arith, z, up, h)))
 
-pub later_up : (ls : Layouts) (t0 : Rows) (v : ℕ) (ds : List ℕ) (es : List ℤ) (t new : Rows) (next later : Option ℕ) (id : ℕ) → IsStill t0 → IsRenewing ls t0 v ds es t next → next ≡ Some id → new ≡ each (renewed_in ls v t id) t → later ≡ from new (id + 1)
+pub later_up : (ls : Layouts) (t0 : Rows) (v : ℕ) (ds : List ℕ) (es : List ℤ) (t new : Rows) (next later : Option ℕ) (id n : ℕ) → IsStill t0 → IsRenewing ls t0 v ds es t next → next ≡ Some id → new ≡ each (renewed_in ls v t id) t → later ≡ cond (eqb n 0) None (from new (id + 1))
     → (m : ℕ) → later ≡ Some m → id + 1 ≤ m
-later_up ls t0 v ds es t new next later id s c e n b m q =
-    let all : new ≡ each (λ k r. renewed_in ls v t id k (row_at t k)) t0 = n ∙ ap (each (renewed_in ls v t id)) c.rows ∙ each_each (renewed_in ls v t id) (λ k r. row_at t k) t0 in
-    let f : IsFirst t0 (id + 1) later = next_is (λ k r. renewed_in ls v t id k (row_at t k)) t0 new (id + 1) later s all b in
-    (subst (λ (x : Option ℕ). IsFirst t0 (id + 1) x) q f).0
+later_up ls t0 v ds es t new next later id n s c e g b m q =
+    let all : new ≡ each (λ k r. renewed_in ls v t id k (row_at t k)) t0 = g ∙ ap (each (renewed_in ls v t id)) c.rows ∙ each_each (renewed_in ls v t id) (λ k r. row_at t k) t0 in
+    let f : IsFirst t0 (id + 1) (from new (id + 1)) = next_is (λ k r. renewed_in ls v t id k (row_at t k)) t0 new (id + 1) (from new (id + 1)) s all refl in
+    (subst (λ (x : Option ℕ). IsFirst t0 (id + 1) x) (going_on n (from new (id + 1)) later b m q) f).0
+
+-- a view that is derived by what is left of the layouts
+pub rows_left : (ls : Layouts) (t0 : Rows) (v : ℕ) (ds : List ℕ) (es : List ℤ) (left : Layouts) (t new : Rows) (next : Option ℕ) (id : ℕ) → IsStill t0 → IsRenewing ls t0 v ds es t next → AreLeft ls left next → next ≡ Some id
+    → new ≡ each (renewed_in left v t id) t → new ≡ each (renewed_in ls v t id) t
+rows_left ls t0 v ds es left t new next id s c l e g = g ∙ each_left ls left v t t id (renewing_falls ls t0 v ds es t next s c) (left_here ls left next id l e)

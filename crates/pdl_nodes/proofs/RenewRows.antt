@@ -55,7 +55,7 @@ pub record IsMoved (v rt u : ℕ) (old new : Row) : Type 0 where
 abbrev pub After : (v rt u : ℕ) → (old new : Row) → Type 0
 After v rt u old new = IsUntouched v old new ⊎ IsMoved v rt u old new
 
-moved_root : (v rt u : ℕ) (old new : Row) → After v rt u old new → new.root ≡ v → old.root ≡ rt
+pub moved_root : (v rt u : ℕ) (old new : Row) → After v rt u old new → new.root ≡ v → old.root ≡ rt
 moved_root v rt u old new (inl a) e = absurd (a.apart (ap (λ (x : Row). x.root) (sym a.row) ∙ e))
 moved_root v rt u old new (inr a) e = a.was
 

@@ -1,6 +1,6 @@
 -- An array that becomes a root, by a cut or by other dimensions: each view that reaches it is
 -- derived anew, and keeps nothing yet.
-use Rattle.std.specs.Prelude.{◌≡◌, ℕ, ℤ, ◌==◌, if◌then◌else◌, true, List, [], ◌∷◌, length, Option, None}
+use Rattle.std.specs.Prelude.{◌≡◌, ℕ, ℤ, ◌==◌, if◌then◌else◌, Bool, true, false, List, [], ◌∷◌, length, Option, Some, None}
 use Rattle.std.specs.Option.{unwrap_or}
 use Rattle.std.specs.Ordering.{nat_cmp}
 use Rattle.std.specs.Map.{lookup}
@@ -50,6 +50,11 @@ renew ls [] v ds es = []
 renew ls ((k, r) ∷ rs) v ds es =
     let rest = renew ls rs v ds es in
     (k, if k == v then root_row k r.ty ds es else renewed ls rest v k r r.origin) ∷ rest
+
+-- whether there is a parent, and its root is v: a view with this parent is derived anew
+abbrev pub is_of : Rows → (v : ℕ) → (parent : Option ℕ) → Bool
+is_of rs v None = false
+is_of rs v (Some p) = (row_at rs p).root == v
 
 -- the row of u is renewed, over the rows as they are
 abbrev pub renewed_in : (anew : Layouts) → (v : ℕ) → (now : Rows) → (u k : ℕ) → Row → Row

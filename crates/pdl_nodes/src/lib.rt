@@ -18,6 +18,7 @@ mod renewing;
 mod table;
 mod upward;
 mod views;
+mod walk;
 
 pub use apart::Apart;
 pub use faults::ViewFault;

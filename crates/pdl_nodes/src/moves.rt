@@ -38,26 +38,27 @@ fn seen(places: &[Option<u32>], spot: u32) -> Option<u32>
     }
 }
 
-/// The root's places that a placement shows over a base, from a position on.
+/// The root's places that a placement shows over a base, of which these are the root's places,
+/// from a position on.
 #[derive(Drop)]
 pub(crate) struct OverBase<'a> {
     pub(crate) placement: Placement,
-    pub(crate) known: &'a Option<Places>,
+    pub(crate) places: &'a [Option<u32>],
     pub(crate) first: u32,
 }
 
 impl<'a> Route for OverBase<'a> {
     ghost use Rattle.std.specs.Prelude.{◌+◌, ◌-◌, ◌^◌, min};
     ghost use Rattle.pdl_numbers.specs.Shown.{place_at};
-    ghost use Rattle.pdl_nodes.specs.Placed.{placed};
+    ghost use Rattle.pdl_nodes.specs.Assigned.{entry};
     ghost use Rattle.pdl_shape.specs.Shape.{size_of};
 
     ghost count = { λ r. min (size_of r.placement.dims) (2 ^ 32) - r.first };
 
-    ghost goes_to = { λ r p. placed r.known.now (place_at r.placement (r.first + p)) };
+    ghost goes_to = { λ r p. entry r.places.now (place_at r.placement (r.first + p)) };
 
     fn place(&self, position: u32) -> Option<u32> {
-        placed(self.known, self.placement.place(self.first + position))
+        entry(self.places, self.placement.place(self.first + position))
     }
 }
 
@@ -82,24 +83,5 @@ impl<'a> Route for ThroughBase<'a> {
 
     fn place(&self, position: u32) -> Option<u32> {
         seen(self.places, self.placement.place(self.first + position))
-    }
-}
-
-/// So many places, each position's its own.
-#[derive(Drop)]
-pub(crate) struct InOrder {
-    pub(crate) first: u32,
-    pub(crate) count: u32,
-}
-
-impl Route for InOrder {
-    ghost use Rattle.std.specs.Prelude.{◌+◌, ◌-◌, Some};
-
-    ghost count = { λ r. r.count - r.first };
-
-    ghost goes_to = { λ r p. Some (r.first + p) };
-
-    fn place(&self, position: u32) -> Option<u32> {
-        Some(self.first + position)
     }
 }

@@ -3,16 +3,17 @@ ghost use Rattle.std.specs.Prelude.{◌≡◌, ℕ, ◌+◌, ◌<◌, ◌≤◌,
 ghost use Rattle.std.specs.List.{range_with_len};
 ghost use Rattle.pdl_elem.specs.Types.{InRange};
 ghost use Rattle.pdl_shape.specs.Places.{write};
-ghost use Rattle.pdl_shape.specs.Shape.{size_of};
+ghost use Rattle.pdl_shape.specs.Shape.{extent_limit, size_of};
+ghost use Rattle.pdl_numbers.specs.Writes.{onward, placed_from};
 ghost use Rattle.pdl_nodes.specs.Row.{goal_of, parent_of, is_buffered, shown_of};
 ghost use Rattle.pdl_nodes.specs.Assigned.{seen};
 ghost use Rattle.pdl_nodes.specs.Changes.{or_known};
 ghost use Rattle.pdl_nodes.specs.Placed.{goes_by, in_order, placed_by};
 ghost use Rattle.pdl_nodes.specs.Spots.{spots};
 
-use crate::moves::{InOrder, OverBase, ThroughBase};
+use crate::moves::{OverBase, ThroughBase};
 use crate::origin::Origin;
-use pdl_buf::{Buf, Steps, scatter_by, scatter_from};
+use pdl_buf::{Buf, Steps, scatter_along, scatter_by, scatter_from, scatter_onward};
 use pdl_choice::Places;
 use pdl_elem::Ty;
 use pdl_numbers::{Placement, Route};
@@ -266,6 +267,43 @@ impl Node {
         }
     }
 
+    /// Puts values at the places that a placement shows from a position on into what is kept, in
+    /// order. It takes a step for each value.
+    fn put_along<L: Ledger>(
+        &mut self,
+        placement: &Placement,
+        first: u32,
+        values: &[i64],
+        steps: &mut Steps<L>,
+    )
+        requires buffered { is_buffered self.old ≡ true }
+        requires within { first + length values.now ≤ size_of placement.now.dims }
+        requires in_range { All (InRange self.old.ty) values.now }
+        ensures value { let places = placed_from placement.now first (length values.now) in
+            self.new ≡ record self.old { kept = write places values.now self.old.kept } }
+        ensures counted { steps.new ≡ steps.old + length values.now }
+    {
+        match &mut self.kept {
+            Some(kept) => scatter_along(kept, placement, first, values, steps),
+            None => unreachable!(),
+        }
+    }
+
+    /// Puts values from a position on into what is kept, in order. It takes a step for each value.
+    fn put_from<L: Ledger>(&mut self, first: u32, values: &[i64], steps: &mut Steps<L>)
+        requires buffered { is_buffered self.old ≡ true }
+        requires within { first + length values.now ≤ extent_limit }
+        requires in_range { All (InRange self.old.ty) values.now }
+        ensures value { let places = onward first (length values.now) in
+            self.new ≡ record self.old { kept = write places values.now self.old.kept } }
+        ensures counted { steps.new ≡ steps.old + length values.now }
+    {
+        match &mut self.kept {
+            Some(kept) => scatter_onward(kept, first, values, steps),
+            None => unreachable!(),
+        }
+    }
+
     /// Puts values for the positions from one on that a triple shows over a base, of which these
     /// places are known, into what is kept of the goal. It takes a step for each value.
     pub(crate) fn put<L: Ledger>(
@@ -317,12 +355,18 @@ impl Node {
     {
         let _count = elements_of(&triple.dims);
         let placement = Placement::of(triple);
-        let route = OverBase {
-            placement,
-            known,
-            first,
-        };
-        self.put_by(&route, values, steps)
+        match known {
+            None => self.put_along(&placement, first, values, steps),
+            Some(places) => {
+                let places = places.as_slice();
+                let route = OverBase {
+                    placement,
+                    places,
+                    first,
+                };
+                self.put_by(&route, values, steps)
+            }
+        }
     }
 
     /// Puts values for the positions from one on at the places of a base that a triple shows and
@@ -368,8 +412,8 @@ impl Node {
             { kept = write (drop first places) values.now self.old.kept } }
         ensures counted { steps.new ≡ steps.old + length values.now }
     {
-        let count = elements_of(&self.triple.dims);
-        self.put_by(&InOrder { first, count }, values, steps)
+        let _count = elements_of(&self.triple.dims);
+        self.put_from(first, values, steps)
     }
 
     /// Takes the places out that are known.

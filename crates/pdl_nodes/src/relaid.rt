@@ -1,7 +1,9 @@
 //! Layouts that are made anew, for an array that gets other dimensions.
 ghost use Rattle.std.specs.Prelude.{◌≡◌, ◌≢◌, ℕ, ◌+◌, ◌-◌, ◌<◌, ◌^◌, option_map, true, false, [], Some, IfOk, IfErr, OnOk};
 ghost use Rattle.pdl_world.specs.Cut.{breaks};
+ghost use Rattle.pdl_world.specs.Paths.{path};
 ghost use Rattle.pdl_world.specs.Sound.{IsSound};
+ghost use Rattle.pdl_world.specs.Swept.{is_listed};
 ghost use Rattle.pdl_nodes.specs.declared.relaid.RelayFault.TheVariants.{Breaks};
 ghost use Rattle.pdl_nodes.specs.Relaying.{AreNewDims, IsRelaying};
 ghost use Rattle.pdl_nodes.specs.Renewed.{AreRelaid, layout_at};
@@ -141,16 +143,18 @@ impl Table {
         breaking_laws();
         let root = self.node(id).root();
         let mut layouts = Relaid::new(alloc);
-        let mut next = self.first_below(id);
+        let mut unmet = self.children(id);
+        let mut next = self.next_below(unmet, id);
         while let Some(newer) = next {
-            self.relay_in(alloc, root, id, dims, &mut layouts, newer)?;
-            next = self.from(newer + 1);
+            let is_below = self.relay_in(alloc, root, id, dims, &mut layouts, newer)?;
+            unmet = self.unmet_past(unmet, newer, is_below);
+            next = self.next_below(unmet, newer);
         }
         Ok(layouts)
     }
 
     /// Makes the layout of an array of the family of this root anew, if it is below the array of other
-    /// dimensions. In another family there is nothing to make.
+    /// dimensions, and answers whether it is. In another family there is nothing to make.
     fn relay_in(
         &self,
         alloc: Global,
@@ -159,7 +163,7 @@ impl Table {
         dims: &Dims,
         layouts: &mut Relaid,
         newer: u64,
-    ) -> Result<(), RelayFault>
+    ) -> Result<bool, RelayFault>
         requires still { IsStill self.now }
         requires sound { IsSound (world_of self.now) }
         requires top { has self.now id ≡ true }
@@ -168,17 +172,18 @@ impl Table {
         requires newer { id < newer }
         requires before { IsRelaying layouts.old self.now id dims.now newer }
         ensures after { OnOk result (IsRelaying layouts.new self.now id dims.now (newer + 1)) }
+        ensures below { IfOk result (λ b. b ≡ is_listed (path (world_of self.now) newer) id) }
         ensures breaks { IfErr result
             (λ f. f ≡ Breaks → breaks (world_of self.now) id dims.now ≡ true) }
     {
         if self.node(newer).root() != root {
-            return Ok(());
+            return Ok(false);
         }
         self.relay(alloc, id, dims, layouts, newer)
     }
 
-    /// Makes the layout of a view anew whose parent is the array of other dimensions, or below it.
-    /// Those of all older views were made before.
+    /// Makes the layout of a view anew whose parent is the array of other dimensions, or below it,
+    /// and answers whether it is. Those of all older views were made before.
     fn relay(
         &self,
         alloc: Global,
@@ -186,7 +191,7 @@ impl Table {
         dims: &Dims,
         layouts: &mut Relaid,
         newer: u64,
-    ) -> Result<(), RelayFault>
+    ) -> Result<bool, RelayFault>
         requires still { IsStill self.now }
         requires sound { IsSound (world_of self.now) }
         requires top { has self.now id ≡ true }
@@ -194,20 +199,21 @@ impl Table {
         requires newer { id < newer }
         requires before { IsRelaying layouts.old self.now id dims.now newer }
         ensures after { OnOk result (IsRelaying layouts.new self.now id dims.now (newer + 1)) }
+        ensures below { IfOk result (λ b. b ≡ is_listed (path (world_of self.now) newer) id) }
         ensures breaks { IfErr result
             (λ f. f ≡ Breaks → breaks (world_of self.now) id dims.now ≡ true) }
     {
         breaking_laws();
         let Origin::View { parent, trans, .. } = self.node(newer).origin() else {
-            return Ok(());
+            return Ok(false);
         };
         let Some(above) = new_dims(layouts, id, dims, *parent) else {
-            return Ok(());
+            return Ok(false);
         };
         let made = layout(alloc, trans.get(), above)?;
         // the limits of dimensions are known where they are listed
         let _limits = dims_list(made.dims());
         layouts.insert(alloc, newer, made)?;
-        Ok(())
+        Ok(true)
     }
 }

@@ -11,7 +11,7 @@ ghost use Rattle.pdl_nodes.specs.Table.{IsTable, rows_of};
 ghost use Rattle.pdl_nodes.specs.Rows.{NumbersBelow, row_at, has, each, from, without};
 ghost use Rattle.pdl_nodes.specs.Row.{is_buffered, parent_of, shown_of};
 ghost use Rattle.pdl_nodes.specs.Changes.{kept_in, wait_in, fill_in, marked_in, mark_in};
-ghost use Rattle.pdl_nodes.specs.Renewed.{CanDerive, CanRenew, layout_at, renew, renewed_in, rooted_in};
+ghost use Rattle.pdl_nodes.specs.Renewed.{CanDerive, CanRenew, is_of, layout_at, renew, renewed_in, rooted_in};
 ghost use Rattle.pdl_nodes.specs.Families.{InOrder};
 ghost use Rattle.pdl_nodes.specs.Known.{AreKnown};
 ghost use Rattle.pdl_nodes.specs.Put.{IsWrite, put_in};
@@ -402,18 +402,6 @@ impl Table {
         self.keys.from(id)
     }
 
-    /// The first array that is newer than this one, if this one has views: what reaches it by parents
-    /// is found from there on. Without views nothing does.
-    pub(crate) fn first_below(&self, id: u64) -> Option<u64>
-        requires small { id < 2 ^ 64 - 1 }
-        ensures { result ≡ if has_views (shape self.now) id then from self.now (id + 1) else None }
-    {
-        if !self.has_views(id) {
-            return None;
-        }
-        self.from(id + 1)
-    }
-
     /// Makes a node a root of these dimensions and elements, which is marked. Its views, if it has
     /// any, aren't derived anew: `renew` does so.
     fn become_root(&mut self, alloc: Global, id: u64, dims: &Dims, kept: Buf)
@@ -429,39 +417,53 @@ impl Table {
     }
 
     /// Derives a view of the family of this root anew, over the new root or what was derived anew
-    /// before, by the layout that was made anew for it, or else its own. In another family there is
-    /// nothing to derive.
-    fn renew_in(&mut self, alloc: Global, root: u64, new: u64, id: u64, layouts: &mut Relaid)
+    /// before, by the layout that was made anew for it, or else its own, and answers whether it did.
+    /// In another family there is nothing to derive.
+    fn renew_in(
+        &mut self,
+        alloc: Global,
+        root: u64,
+        new: u64,
+        id: u64,
+        layouts: &mut Relaid,
+    ) -> bool
         requires live { has self.old id ≡ true }
         requires can { CanDerive layouts.old self.old new id }
         requires others { (row_at self.old id).root ≢ root
             → each (renewed_in layouts.old new self.old id) self.old ≡ self.old }
+        requires apart { (row_at self.old id).root ≢ root
+            → is_of self.old new (parent_of (row_at self.old id)) ≡ false }
         ensures rows { self.new ≡ each (renewed_in layouts.old new self.old id) self.old }
         ensures left { (u : ℕ) → u ≢ id → layout_at layouts.new u ≡ layout_at layouts.old u }
+        ensures below { result ≡ is_of self.old new (parent_of (row_at self.old id)) }
     {
-        if self.node(id).root() == root {
-            self.renew_one(alloc, new, id, layouts);
+        if self.node(id).root() != root {
+            return false;
         }
+        self.renew_one(alloc, new, id, layouts)
     }
 
-    /// Derives a view anew of its parent, if that is of the family of the new root.
-    fn renew_one(&mut self, alloc: Global, new: u64, id: u64, layouts: &mut Relaid)
+    /// Derives a view anew of its parent, if that is of the family of the new root, and answers
+    /// whether it is.
+    fn renew_one(&mut self, alloc: Global, new: u64, id: u64, layouts: &mut Relaid) -> bool
         requires live { has self.old id ≡ true }
         requires can { CanDerive layouts.old self.old new id }
         ensures rows { self.new ≡ each (renewed_in layouts.old new self.old id) self.old }
         ensures left { (u : ℕ) → u ≢ id → layout_at layouts.new u ≡ layout_at layouts.old u }
+        ensures below { result ≡ is_of self.old new (parent_of (row_at self.old id)) }
     {
         let Some(parent) = self.node(id).parent() else {
-            return;
+            return false;
         };
         let above = self.node(parent);
         if above.root() != new {
-            return;
+            return false;
         }
         let ty = above.ty();
         let above = above.shown(parent);
         let key = self.keys[id];
         self.nodes[key].renew(alloc, id, ty, &above, layouts.take(id));
+        true
     }
 
     /// An array becomes a root of these dimensions and elements, and each view that reaches it is
@@ -478,12 +480,14 @@ impl Table {
         view_laws();
         window_laws();
         let root = self.node(id).root();
-        let mut next = self.first_below(id);
+        let mut unmet = self.children(id);
+        let mut next = self.next_below(unmet, id);
         self.become_root(alloc, id, dims, kept);
         let mut layouts = layouts;
         while let Some(newer) = next {
-            self.renew_in(alloc, root, id, newer, &mut layouts);
-            next = self.from(newer + 1);
+            let is_below = self.renew_in(alloc, root, id, newer, &mut layouts);
+            unmet = self.unmet_past(unmet, newer, is_below);
+            next = self.next_below(unmet, newer);
         }
         self.unlist(id);
     }

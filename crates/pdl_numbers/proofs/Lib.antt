@@ -6,3 +6,4 @@ pub mod Runs
 pub mod Moved
 pub mod Summing
 pub mod Shown
+pub mod Writing

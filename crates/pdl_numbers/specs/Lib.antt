@@ -3,4 +3,5 @@ pub mod Bytes
 pub mod Numbers
 pub mod Shown
 pub mod Reads
+pub mod Writes
 pub mod Laws

@@ -13,6 +13,7 @@ mod ranges;
 mod reads;
 mod routes;
 mod sums;
+mod writes;
 
 pub use laws::shown_laws;
 pub use numbers::{Numbers, numbers_of};

@@ -10,12 +10,14 @@ ghost use Rattle.pdl_numbers.specs.Bytes.{bytes_of};
 ghost use Rattle.pdl_numbers.specs.Numbers.{elements_in};
 ghost use Rattle.pdl_numbers.specs.Reads.{HasRead, HasReadAcross, LieAcross, across};
 ghost use Rattle.pdl_numbers.specs.Shown.{shown_through};
+ghost use Rattle.pdl_numbers.specs.Writes.{onward, placed_from};
 
 use crate::across::read_across;
 use crate::packed::{AtByte, AtLong, AtLonglong, AtSbyte, AtShort, AtUlong, AtUshort, Packed};
 use crate::placement::Placement;
 use crate::reads::read_block;
 use crate::routes::Route;
+use crate::writes::{write_block, write_onward};
 use pdl_elem::Ty;
 use std::alloc::{AllocError, Global};
 
@@ -303,6 +305,46 @@ impl Numbers {
             Numbers::Longs(packed) => packed.put_by(route, values),
             Numbers::Ulongs(packed) => packed.put_by(route, values),
             Numbers::Longlongs(packed) => packed.put_by(route, values),
+        }
+    }
+
+    /// Sets the numbers at the places that a placement shows from a position on to the values, in
+    /// order, which are in the type's range. A value whose place lies past the end is dropped.
+    pub fn put_along(&mut self, placement: &Placement, first: u32, values: &[i64])
+        requires within { first + length values.now ≤ size_of placement.now.dims }
+        requires in_range { All (InRange (elements_in self.old).ty) values.now }
+        ensures { let old = elements_in self.old in
+            let places = placed_from placement.now first (length values.now) in
+            elements_in self.new ≡ record old { elems = write places values.now old.elems } }
+    {
+        match self {
+            Numbers::Sbytes(packed) => write_block(packed, placement, first, values),
+            Numbers::Bytes(packed) => write_block(packed, placement, first, values),
+            Numbers::Shorts(packed) => write_block(packed, placement, first, values),
+            Numbers::Ushorts(packed) => write_block(packed, placement, first, values),
+            Numbers::Longs(packed) => write_block(packed, placement, first, values),
+            Numbers::Ulongs(packed) => write_block(packed, placement, first, values),
+            Numbers::Longlongs(packed) => write_block(packed, placement, first, values),
+        }
+    }
+
+    /// Sets the numbers from a place on to the values, in order, which are in the type's range. A
+    /// value whose place lies past the end is dropped.
+    pub fn put_from(&mut self, first: u32, values: &[i64])
+        requires within { first + length values.now ≤ extent_limit }
+        requires in_range { All (InRange (elements_in self.old).ty) values.now }
+        ensures { let old = elements_in self.old in
+            let places = onward first (length values.now) in
+            elements_in self.new ≡ record old { elems = write places values.now old.elems } }
+    {
+        match self {
+            Numbers::Sbytes(packed) => write_onward(packed, first, values),
+            Numbers::Bytes(packed) => write_onward(packed, first, values),
+            Numbers::Shorts(packed) => write_onward(packed, first, values),
+            Numbers::Ushorts(packed) => write_onward(packed, first, values),
+            Numbers::Longs(packed) => write_onward(packed, first, values),
+            Numbers::Ulongs(packed) => write_onward(packed, first, values),
+            Numbers::Longlongs(packed) => write_onward(packed, first, values),
         }
     }
 

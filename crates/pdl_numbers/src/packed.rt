@@ -244,6 +244,19 @@ impl<T: PackedType<N>, const N: usize> Packed<T, N> {
         unpack_all::<T, N>(&self.cells[start..end], into)
     }
 
+    /// Sets the numbers from a place on, of which there are enough, to these, which are in the
+    /// type's range.
+    pub(crate) fn write_from(&mut self, start: usize, numbers: &[i64])
+        requires within { start + length numbers.now ≤ length self.old }
+        requires in_range { All (InRange T.ty) numbers.now }
+        ensures { let old = self.old in
+            self.new ≡ take start old ++ numbers.now ++ drop (start + length numbers.now) old }
+    {
+        let _count = self.len();
+        let end = start + numbers.len();
+        pack_all::<T, N>(numbers, &mut self.cells[start..end]);
+    }
+
     /// How many of the numbers aren't 0.
     pub(crate) fn moved(&self) -> usize
         ensures { result ≡ count_moved self.now }
@@ -316,7 +329,7 @@ impl<T: PackedType<N>, const N: usize> Packed<T, N> {
     }
 
     /// Sets the number at the place to one of the type's range, where there is such a place.
-    fn put(&mut self, place: Option<u32>, number: i64)
+    pub(crate) fn put(&mut self, place: Option<u32>, number: i64)
         requires { InRange T.ty number }
         ensures { self.new ≡ put place number self.old }
     {

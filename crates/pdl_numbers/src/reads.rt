@@ -11,7 +11,7 @@ use crate::placement::{Placement, place_in_order, place_of};
 use pdl_shape::{Triple, dims_list, incs_list, shape_laws};
 
 /// The place so many steps after another.
-fn place_after(place: u32, inc: i32, steps: usize) -> usize
+pub(crate) fn place_after(place: u32, inc: i32, steps: usize) -> usize
     requires steps { steps < extent_limit }
     requires place { IsPlace (pos place +ℤ inc *ℤ pos steps) }
     ensures { result ≡ unsigned_abs (pos place +ℤ inc *ℤ pos steps) }
@@ -81,7 +81,7 @@ pub(crate) fn inc_along(triple: &Triple, dimension: usize) -> i32
 }
 
 /// The size of a dimension, and 1 where there is none.
-fn size_along(triple: &Triple, dimension: usize) -> u32
+pub(crate) fn size_along(triple: &Triple, dimension: usize) -> u32
     ensures size { result ≡ get_or triple.now.dims dimension 1 }
     ensures small { size_of triple.now.dims ≤ extent_limit }
     ensures sound { IsTriple triple.now }
@@ -96,7 +96,7 @@ fn size_along(triple: &Triple, dimension: usize) -> u32
 }
 
 /// How many elements lie in one row from a position on, and no more than are left.
-fn run_length(width: u32, position: u32, left: usize) -> usize
+pub(crate) fn run_length(width: u32, position: u32, left: usize) -> usize
     requires width { 0 < width }
     requires left { 0 < left }
     ensures some { 0 < result }
